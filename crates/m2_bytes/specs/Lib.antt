@@ -1,0 +1,3 @@
+pub mod Blob
+pub mod Fields
+pub mod Hexadecimal
