@@ -1,0 +1,88 @@
+//! What no clause says: that calls succeed with ample memory, and the adapters over real files.
+
+use crate::{
+    CallList, Failed, Input, InputList, MemSink, MemSource, ReadFault, Sink, StdSink, StdSource,
+    read_whole, write_whole,
+};
+use m2_bytes::{Blob, Items};
+use std::alloc::Global;
+use std::fs;
+use std::test::Fail;
+
+fn calls(alloc: Global, numbers: &[u64]) -> Result<CallList, Fail> {
+    Ok(Items::from_vec(numbers.to_vec(alloc)?))
+}
+
+fn inputs(alloc: Global, named: &[(&str, &str)]) -> Result<InputList, Fail> {
+    let mut list = Items::empty(alloc);
+    for (name, bytes) in named {
+        let input = Input {
+            name: Blob::of(alloc, name.as_bytes())?,
+            bytes: Blob::of(alloc, bytes.as_bytes())?,
+        };
+        if list.push(input).is_err() {
+            return Err(Fail::from("no memory"));
+        }
+    }
+    Ok(list)
+}
+
+#[test]
+fn the_first_input_of_a_name_is_read_to_its_end_or_the_limit(rt: HostRuntime) -> Result<(), Fail> {
+    let alloc = rt.alloc();
+    let list = inputs(alloc, &[("a", "other"), ("b", "first"), ("b", "second")])?;
+    let mut source = MemSource::new(list, calls(alloc, &[])?);
+    let whole = read_whole(alloc, &mut source, "b", 100)?;
+    assert_eq!(rt; whole.as_slice(), b"first".as_slice());
+    let front = read_whole(alloc, &mut source, "a", 2)?;
+    assert_eq!(rt; front.as_slice(), b"ot".as_slice());
+    Ok(())
+}
+
+#[test]
+fn a_listed_call_and_an_unknown_name_fail(rt: HostRuntime) -> Result<(), Fail> {
+    let alloc = rt.alloc();
+    let list = inputs(alloc, &[("a", "text")])?;
+    let mut source = MemSource::new(list, calls(alloc, &[2])?);
+    let read = read_whole(alloc, &mut source, "a", 100);
+    assert_eq!(rt; read.err(), Some(ReadFault::Failed));
+    let unknown = read_whole(alloc, &mut source, "b", 100);
+    assert_eq!(rt; unknown.err(), Some(ReadFault::Failed));
+    Ok(())
+}
+
+#[test]
+fn a_sink_in_memory_keeps_what_it_took(rt: HostRuntime) -> Result<(), Fail> {
+    let alloc = rt.alloc();
+    let mut sink = MemSink::new(alloc, calls(alloc, &[2])?);
+    assert_eq!(rt; write_whole(&mut sink, b"kept"), Ok(()));
+    assert_eq!(rt; write_whole(&mut sink, b"lost"), Err(Failed));
+    assert_eq!(rt; sink.flush(), Ok(()));
+    assert_eq!(rt; sink.bytes(), b"kept".as_slice());
+    Ok(())
+}
+
+#[test]
+fn a_file_is_read_as_it_was_written(rt: HostRuntime) -> Result<(), Fail> {
+    let alloc = rt.alloc();
+    let path = "m2_edge_adapters.tmp";
+    let mut sink = StdSink::new(fs::create(&rt, path)?);
+    assert_eq!(rt; write_whole(&mut sink, b"one line\n"), Ok(()));
+    assert_eq!(rt; sink.flush(), Ok(()));
+    let mut source = StdSource::new(&rt);
+    let whole = read_whole(alloc, &mut source, path, 100)?;
+    assert_eq!(rt; whole.as_slice(), b"one line\n".as_slice());
+    fs::remove_file(&rt, path)?;
+    let missing = read_whole(alloc, &mut source, path, 100);
+    assert_eq!(rt; missing.err(), Some(ReadFault::Failed));
+    assert_eq!(rt; source.faults(), 1);
+    Ok(())
+}
+
+#[test]
+fn standard_output_takes_a_line(rt: HostRuntime) {
+    let mut sink = StdSink::new(rt.stdout());
+    assert_eq!(rt; write_whole(&mut sink, b"a line\n"), Ok(()));
+    assert_eq!(rt; sink.flush(), Ok(()));
+    assert_eq!(rt; sink.faults(), 0);
+}
