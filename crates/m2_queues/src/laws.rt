@@ -1,0 +1,31 @@
+//! What holds of a queue over every list of calls. These functions do nothing: each stands for the
+//! law that its contract names.
+
+ghost use Rattle.m2_queues.specs.Laws.{EachPriorityKeepsItsOrder, GreatestPriorityWaitsFirst, KeptAreTheNumbered, EachNumberIsAPlace, NumberedMessagesStay};
+
+/// For each priority, what was posted since the last discard is, in this order, what was dropped
+/// before the numbers were last set back, what was numbered since, and what waits.
+pub fn each_priority_keeps_its_order()
+    ensures { EachPriorityKeepsItsOrder }
+{}
+
+/// The message that gets the next number has the greatest priority of those that wait.
+pub fn greatest_priority_waits_first()
+    ensures { GreatestPriorityWaitsFirst }
+{}
+
+/// What is kept is what was numbered since the numbers were last set back, without the first `base`
+/// of it.
+pub fn kept_messages_are_the_numbered()
+    ensures { KeptAreTheNumbered }
+{}
+
+/// The message with number i is the i-th that was numbered since the numbers were last set back.
+pub fn each_number_is_a_place()
+    ensures { EachNumberIsAPlace }
+{}
+
+/// A message keeps its number until the numbers are set back.
+pub fn numbered_messages_stay()
+    ensures { NumberedMessagesStay }
+{}
