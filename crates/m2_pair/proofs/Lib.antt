@@ -1,0 +1,9 @@
+pub mod Reached
+pub mod Posted
+pub mod Bare
+pub mod Splits
+pub mod Numbers
+pub mod Lines
+pub mod Appended
+pub mod Forms
+pub mod Limits
