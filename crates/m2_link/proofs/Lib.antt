@@ -1,0 +1,4 @@
+pub mod Whole
+pub mod Senders
+pub mod Frames
+pub mod Moves

@@ -1,0 +1,4 @@
+pub mod Frame
+pub mod Sender
+pub mod Direction
+pub mod Steps
