@@ -1,0 +1,10 @@
+pub mod Checksums
+pub mod Cutting
+pub mod Judge
+pub mod Lengths
+pub mod Memory
+pub mod Parsed
+pub mod Preambles
+pub mod Room
+pub mod Spelled
+pub mod Written

@@ -1,0 +1,9 @@
+pub mod Decoder
+pub mod Frame
+pub mod Grammar
+pub mod Judging
+pub mod Position
+pub mod Preamble
+pub mod Reading
+pub mod Stream
+pub mod Text

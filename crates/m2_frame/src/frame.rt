@@ -1,0 +1,71 @@
+//! A frame as a value.
+
+ghost use Rattle.std.specs.Prelude.{◌≡◌, ◌↔◌, IsTrue};
+ghost use Rattle.m2_frame.specs.Frame.{parts, count_of, segment_limit, Fits};
+
+use m2_bytes::Blob;
+
+/// The tag of a MESSAGE, the one frame that may have several segments.
+pub const MESSAGE: u8 = 17;
+
+/// The greatest tag, that of COMPRESSION_DONE.
+pub const LAST_TAG: u8 = 22;
+
+/// The most bytes in a segment of a MESSAGE. It lies above Ceph's greatest write by default.
+pub const MESSAGE_LIMIT: usize = 134_217_728;
+
+/// The most bytes in the segment of any other frame.
+pub const CONTROL_LIMIT: usize = 1_048_576;
+
+/// A frame: its tag and the bytes of its segments.
+///
+/// It has as many segments as the place of the last blob that isn't empty, and one where all are
+/// empty.
+#[derive(Debug, Drop)]
+pub struct Frame {
+    pub tag: u8,
+    pub first: Blob,
+    pub second: Blob,
+    pub third: Blob,
+    pub fourth: Blob,
+}
+
+/// The most bytes that a segment of a frame with this tag may have.
+pub fn limit_of(tag: u8) -> usize
+    ensures { result ≡ segment_limit tag }
+{
+    if tag == MESSAGE {
+        MESSAGE_LIMIT
+    } else {
+        CONTROL_LIMIT
+    }
+}
+
+impl Frame {
+    /// How many segments the frame has, 1 to 4.
+    pub fn count(&self) -> u8
+        ensures { result ≡ count_of (parts self.now) }
+    {
+        if !self.fourth.is_empty() {
+            4
+        } else if !self.third.is_empty() {
+            3
+        } else if !self.second.is_empty() {
+            2
+        } else {
+            1
+        }
+    }
+}
+
+/// Whether the frame can be written: its tag is 1 to 22, only a MESSAGE has more than one segment,
+/// and no segment is above the bound for its tag.
+pub fn fits(f: &Frame) -> bool
+    ensures { IsTrue result ↔ Fits (parts f.now) }
+{
+    let most = limit_of(f.tag);
+    (1 <= f.tag && f.tag <= LAST_TAG)
+        && (f.tag == MESSAGE || f.count() == 1)
+        && (f.first.len() <= most && f.second.len() <= most)
+        && (f.third.len() <= most && f.fourth.len() <= most)
+}

@@ -1,0 +1,31 @@
+//! Frames of msgr2.1 in crc mode: their text, and a decoder for streams that come in any pieces.
+//!
+//! What it is: [`Frame`], a tag with up to four segments of bytes; [`Preamble`], the 32 bytes that a
+//! frame begins with; [`encode`], which appends a frame's text; [`Decoder`], which is fed the pieces
+//! of a stream and answers its frames in order, or the first fault. What it isn't: the meaning of
+//! segments, sessions, or input and output.
+#![tactic(auto)]
+
+mod decoder;
+mod encoding;
+mod epilogue;
+mod fault;
+mod frame;
+mod got;
+mod judging;
+mod laws;
+mod preamble;
+mod stage;
+
+pub use decoder::Decoder;
+pub use encoding::encode;
+pub use fault::FrameFault;
+pub use frame::{Frame, fits};
+pub use got::Got;
+pub use laws::{
+    a_written_frame_is_read, judged_by_the_tables, no_text_begins_another, one_reading,
+};
+pub use preamble::Preamble;
+
+#[cfg(test)]
+mod tests;
