@@ -1,0 +1,48 @@
+-- A frame carries one message at most.
+use Rattle.std.proofs.Common.{◌≡◌, ℕ, ◌≤◌, length, List, sym, ap, ◌∙◌, arith}
+use Rattle.m2_message.specs.declared.header.Header.{Header}
+use Rattle.m2_message.specs.Message.{Content}
+use Rattle.m2_frame.specs.Frame.{Parts, message_tag, Fits, count_by_lengths}
+use Rattle.m2_message_frame.specs.HeaderText.{header_text, FieldsFit}
+use Rattle.m2_message_frame.specs.MessageFrame.{parts_of, Carries}
+use Rattle.m2_message_frame.proofs.Headers.{header_text-once, length-header_text}
+
+content_is : (header : Header) (front middle tail : List ℕ) (m : Content)
+    → header ≡ m.header → front ≡ m.front → middle ≡ m.middle → tail ≡ m.tail
+    → record { header = header; front = front; middle = middle; tail = tail } ≡ m
+content_is header front middle tail m e1 e2 e3 e4 = rw (e1, e2, e3, e4)
+
+pub Carries-once : (f : Parts) (m n : Content) → Carries f m → Carries f n → m ≡ n
+Carries-once f m n a b =
+    let same : parts_of m ≡ parts_of n = sym a.parts ∙ b.parts in
+    content_is m.header m.front m.middle m.tail n
+    (header_text-once m.header n.header a.fields b.fields (ap (λ (p : Parts). p.first) same))
+    (ap (λ (p : Parts). p.second) same)
+    (ap (λ (p : Parts). p.third) same)
+    (ap (λ (p : Parts). p.fourth) same)
+
+-- a frame whose first segment is the text of a header carries the message with its other segments
+pub Carries-made : (f : Parts) (h : Header) → f.tag ≡ message_tag → FieldsFit h → f.first ≡ header_text h
+    → Carries f (record { header = h; front = f.second; middle = f.third; tail = f.fourth })
+Carries-made f h tag fields text = record { fields = fields; parts = rw (← tag, ← text) }
+
+-- the header of a frame that carries a message
+pub Carries-len : (f : Parts) (m : Content) → Carries f m → length f.first ≡ 41
+Carries-len f m a = ap (λ (p : Parts). length p.first) a.parts ∙ length-header_text m.header
+
+count-le : (second third fourth : ℕ) → count_by_lengths second third fourth ≤ 4
+count-le second third fourth = grind arith
+
+-- a MESSAGE frame can be written where its segments keep their bound
+pub MESSAGE-fits : (first second third fourth : List ℕ)
+    → length first ≤ 134217728 → length second ≤ 134217728 → length third ≤ 134217728 → length fourth ≤ 134217728
+    → Fits (record { tag = 17; first = first; second = second; third = third; fourth = fourth })
+MESSAGE-fits first second third fourth a b c d = record {
+  tag_from = omega arith;
+  tag_to = omega arith;
+  count = count-le (length second) (length third) (length fourth);
+  first = a;
+  second = b;
+  third = c;
+  fourth = d;
+}
