@@ -1,0 +1,5 @@
+pub mod Lines
+pub mod Listing
+pub mod Passing
+pub mod Reading
+pub mod SoFar

@@ -1,0 +1,54 @@
+//! One piece of the file.
+
+ghost use Rattle.std.specs.Prelude.{◌≡◌, ◌+◌, ◌<◌, ◌≤◌, ◌^◌, length};
+ghost use Rattle.m2_listing.specs.Listing.{Fetches};
+ghost use Rattle.m2_listing.specs.Reading.{IsPieceCause};
+
+use m2_bytes::NoMemory;
+use m2_edge::{Failed, Source};
+use m2_frame::Decoder;
+
+/// How many bytes a read asks for.
+const PIECE: usize = 65_536;
+
+/// What a read gave.
+#[derive(Clone, Copy, Debug, PartialEq, Eq)]
+pub enum Piece {
+    /// So many bytes came, and were fed.
+    Came(usize),
+    /// The file is at its end.
+    End,
+    /// The file goes on beyond what may come; what may come was fed.
+    TooLong,
+    ReadFault,
+    NoMemory,
+}
+
+/// Reads the next piece of at most `most` bytes, and one more where the piece is large enough, and
+/// feeds it.
+pub fn fetch<S: Source>(src: &mut S, decoder: &mut Decoder, most: usize) -> Piece
+    requires { most < 2 ^ 40 }
+    ensures causes { S.faults src.old ≤ S.faults src.new }
+    ensures caused { IsPieceCause result (S.faults src.old) (S.faults src.new) }
+    ensures inputs { S.input src.new ≡ S.input src.old }
+    ensures fetches { Fetches result most decoder.old decoder.new (S.rest src.old) (S.rest src.new) }
+{
+    let mut buffer = [0u8; PIECE];
+    let room = (most + 1).min(PIECE);
+    let n = match src.read(&mut buffer[..room]) {
+        Ok(n) => n,
+        Err(Failed) => return Piece::ReadFault,
+    };
+    if n == 0 {
+        return Piece::End;
+    }
+    let (came, _) = buffer.split_at(n.min(most));
+    if decoder.feed(came) == Err(NoMemory) {
+        return Piece::NoMemory;
+    }
+    if n > most {
+        Piece::TooLong
+    } else {
+        Piece::Came(n)
+    }
+}
