@@ -1,0 +1,5 @@
+pub mod Cuts
+pub mod Tops
+pub mod Plain
+pub mod Fronts
+pub mod Listings

@@ -1,0 +1,9 @@
+use Rattle.std.proofs.lemmas.Result.{err_from_is_err_and}
+use Rattle.m2_cli.proofs.Tops.{stands_whole}
+use Rattle.m2_cli.proofs.answer.answer_file.Goals as goal
+
+pub returns-in_err-answer-clause-answers : goal.returns-in_err-answer-clause-answers
+returns-in_err-answer-clause-answers g c =
+    let p = err_from_is_err_and c.from_residual-in_err-answer.result c.from_residual-in_err-answer.ensures.1 in
+    rw p.1 (stands_whole c.in_ok-bytes.bytes.bytes (g.S.Source.input c.args.src.now c.args.file.now) (g.S.Source.rest c.args.src.now)
+    (g.S.Source.rest c.read_whole.new.src) c.in_ok-bytes.ensures.reads)

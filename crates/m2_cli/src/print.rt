@@ -1,0 +1,86 @@
+//! Writing the report, and the status's line.
+
+ghost use Rattle.std.specs.Prelude.{◌≡◌, ◌≤◌, []};
+ghost use Rattle.m2_edge.specs.Faults.{HasCause};
+ghost use Rattle.m2_edge.specs.Whole.{WritesWhole};
+ghost use Rattle.m2_cli.specs.Print.{IsSaid, IsTold, Prints, unsaid};
+ghost use Rattle.m2_cli.specs.Status.{line_of, fixed_line_of};
+ghost use Rattle.m2_cli.specs.Top.{Says};
+
+use crate::answer::Answer;
+use crate::status::{Status, fixed_line, line};
+use m2_bytes::NoMemory;
+use m2_edge::{Failed, Sink, write_whole};
+use std::alloc::Global;
+
+/// Writes the report and then says the status. After a fault nothing more is written there.
+pub(crate) fn print<O: Sink, E: Sink>(answer: &Answer, out: &mut O, err: &mut E) -> Status
+    requires { answer.now.line.bytes ≡ line_of answer.now.status }
+    ensures out_never_falls { O.faults out.old ≤ O.faults out.new }
+    ensures err_never_falls { E.faults err.old ≤ E.faults err.new }
+    ensures prints { Prints result answer.now.status answer.now.report.bytes (O.taken out.old) (O.taken out.new)
+        (O.faults out.old) (O.faults out.new) (E.faults err.old) (E.faults err.new) }
+    ensures says { Says result (E.taken err.old) (E.taken err.new) }
+{
+    match write_text(out, answer.report.as_slice()) {
+        Ok(()) => say(err, answer.status, answer.line.as_slice()),
+        Err(_) => say_fixed(err, Status::WriteFault),
+    }
+}
+
+/// Says a status that carries no number, and takes no memory for it.
+pub(crate) fn say_fixed<E: Sink>(err: &mut E, status: Status) -> Status
+    requires { fixed_line_of status ≡ line_of status }
+    ensures never_falls { E.faults err.old ≤ E.faults err.new }
+    ensures said { IsSaid status result (E.faults err.old) (E.faults err.new) }
+    ensures says { Says result (E.taken err.old) (E.taken err.new) }
+{
+    say(err, status, fixed_line(&status))
+}
+
+/// Says a status by the line that is made for it; where there is no memory for that, NoMemory.
+pub(crate) fn say_made<E: Sink>(alloc: Global, err: &mut E, status: Status) -> Status
+    ensures never_falls { E.faults err.old ≤ E.faults err.new }
+    ensures told { IsTold status result (E.faults err.old) (E.faults err.new) }
+    ensures says { Says result (E.taken err.old) (E.taken err.new) }
+{
+    match line(alloc, &status) {
+        Ok(text) => say(err, status, text.as_slice()),
+        Err(NoMemory) => say_fixed(err, Status::NoMemory),
+    }
+}
+
+/// Says a status by its line. Where that fails the status is WriteFault, or NoMemory as before.
+fn say<E: Sink>(err: &mut E, status: Status, line: &[u8]) -> Status
+    requires { line.now ≡ line_of status }
+    ensures never_falls { E.faults err.old ≤ E.faults err.new }
+    ensures said { IsSaid status result (E.faults err.old) (E.faults err.new) }
+    ensures says { Says result (E.taken err.old) (E.taken err.new) }
+{
+    match write_text(err, line) {
+        Ok(()) => status,
+        Err(_) => unsaid(status),
+    }
+}
+
+fn unsaid(status: Status) -> Status
+    ensures { result ≡ unsaid status }
+{
+    match status {
+        Status::NoMemory => Status::NoMemory,
+        _ => Status::WriteFault,
+    }
+}
+
+/// Writes a text and passes it on. Where it is empty the sink isn't called.
+fn write_text<K: Sink>(sink: &mut K, text: &[u8]) -> Result<(), Failed>
+    ensures causes { HasCause result (K.faults sink.old) (K.faults sink.new) }
+    ensures writes { WritesWhole result text.now (K.taken sink.old) (K.taken sink.new) }
+    ensures nothing { text.now ≡ [] → K.taken sink.new ≡ K.taken sink.old }
+{
+    if text.is_empty() {
+        return Ok(());
+    }
+    write_whole(sink, text)?;
+    sink.flush()
+}
