@@ -1,0 +1,60 @@
+"""Times `msgr2 sim`: the rate at growing numbers of posts, the peak of memory, and a reference in the same run."""
+import os, sys, tempfile, time
+
+SIZES = [2500, 5000, 10000, 20000]
+FAULTS = 64
+RUNS = 7
+
+
+def scenario(posts):
+    lines = ["node a osd 127.0.0.1:7001/1", "node b osd 127.0.0.1:7002/2", "link a b lossless_peer lossless_peer"]
+    every = posts // FAULTS
+    for i in range(posts):
+        pair = "a b" if i % 2 == 0 else "b a"
+        lines.append(f"post {pair} 1 127 {i:064x} - -")
+        if i % every == every // 2:
+            lines += ["turn a", "fault a b", "turn b"]
+    lines += ["settle 16", ""]
+    return "\n".join(lines)
+
+
+def run(words, want):
+    """Seconds and megabytes at peak of one run."""
+    start = time.perf_counter()
+    child = os.fork()
+    if child == 0:
+        null = os.open(os.devnull, os.O_WRONLY)
+        os.dup2(null, 1)
+        os.execvp(words[0], words)
+    _, status, usage = os.wait4(child, 0)
+    took = time.perf_counter() - start
+    if os.waitstatus_to_exitcode(status) != want:
+        sys.exit(f"{words}: status {os.waitstatus_to_exitcode(status)}")
+    return took, usage.ru_maxrss / 1024
+
+
+def best(words, want=0):
+    runs = [run(words, want) for _ in range(RUNS)]
+    return min(t for t, _ in runs), max(m for _, m in runs)
+
+
+def main():
+    program = os.path.abspath(sys.argv[1])
+    here = os.path.dirname(os.path.abspath(__file__))
+    rates = {}
+    with tempfile.TemporaryDirectory() as folder:
+        print("posts  seconds  posts/s  MB at peak")
+        for posts in SIZES:
+            name = os.path.join(folder, f"{posts}.scenario")
+            with open(name, "w") as file:
+                file.write(scenario(posts))
+            seconds, megabytes = best([program, "sim", name])
+            rates[posts] = posts / seconds
+            print(f"{posts:5d}  {seconds:7.4f}  {rates[posts]:7.0f}  {megabytes:10.1f}")
+        reference, _ = best([sys.executable, os.path.join(here, "split_words.py"), name])
+    print(f"rate at {SIZES[-1]} over rate at {SIZES[0]}: {rates[SIZES[-1]] / rates[SIZES[0]]:.2f} (wanted: 0.8 or more)")
+    print(f"time at {SIZES[-1]} over splitting alone in Python: {seconds / reference:.2f} (wanted: 2 or less)")
+    print(f"megabytes at {SIZES[-1]}: {megabytes:.1f} (wanted: less than 200)")
+
+
+main()
