@@ -1,0 +1,4 @@
+pub mod Exact
+pub mod Shape
+pub mod Addresses
+pub mod Order
