@@ -1,0 +1,10 @@
+pub mod Raised
+pub mod Lists
+pub mod Sizes
+pub mod Payloads
+pub mod Numbering
+pub mod Ends
+pub mod Whole
+pub mod Wrote
+pub mod Written
+pub mod Writable

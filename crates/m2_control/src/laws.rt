@@ -1,0 +1,18 @@
+//! What is written is read again. Each function has an empty body: its contract is the law.
+
+ghost use Rattle.m2_control.specs.Laws as laws;
+
+/// The text that [`Control::write`](crate::Control::write) appends for a payload whose fields
+/// keep their bounds is one of its texts, and [`Control::read`](crate::Control::read) gives the
+/// payload back.
+#[tactic(auto, using(crate::proofs::Written::written_is_read))]
+pub fn written_payload_is_read()
+    ensures { laws.WrittenIsRead }
+{}
+
+/// [`read_banner`](crate::read_banner) answers the banner that
+/// [`write_banner`](crate::write_banner) has written, and its 26 bytes, whatever follows them.
+#[tactic(auto, using(crate::proofs::Written::banner_is_read))]
+pub fn written_banner_is_read()
+    ensures { laws.BannerIsRead }
+{}
