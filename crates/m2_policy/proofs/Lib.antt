@@ -1,0 +1,2 @@
+pub mod FeatureBits
+pub mod OneWinner

@@ -1,0 +1,4 @@
+pub mod Policy
+pub mod Race
+pub mod Features
+pub mod Path
