@@ -1,0 +1,8 @@
+use Rattle.m2_handshake.proofs.Course.{stay, stay_asked}
+use Rattle.m2_handshake.proofs.laws.moves_stay.Goals as goal
+
+pub returns-clause-moves : goal.returns-clause-moves
+returns-clause-moves c = stay
+
+pub returns-clause-asks : goal.returns-clause-asks
+returns-clause-asks c = stay_asked

@@ -1,0 +1,10 @@
+pub mod Asking
+pub mod Asks
+pub mod Half
+pub mod Ident
+pub mod Laws
+pub mod Moves
+pub mod Reading
+pub mod Standing
+pub mod Steps
+pub mod Texts

@@ -1,0 +1,34 @@
+//! The handshake of msgr2.1 in crc mode: what the two ends of a socket exchange before a session.
+//!
+//! What it is: [`Half`], one end from its banner to the ask, as a machine on bytes: it is fed pieces of
+//! its socket, appends what it writes, and says when both sides have signed; an acceptor's half is then
+//! asked ([`Ask`]) and replies. [`check_ident`] is what an acceptor looks at in an ident before its
+//! session judges it. What it isn't: sockets, sessions, or any authentication: the method is none.
+//!
+//! The table of the handshake stands in docs/PROTOCOL.md and in `specs/Steps.antt`, row by row; the
+//! stages around it in `specs/Moves.antt`. `laws` says that what a half has written and where it stands
+//! depend on its bytes alone, however they were cut.
+#![tactic(auto)]
+
+mod advance;
+mod answer;
+mod ask;
+mod fault;
+mod half;
+mod ident;
+mod laws;
+mod reaction;
+mod stage;
+mod taking;
+mod texts;
+
+pub use answer::HalfStep;
+pub use ask::{Ask, AskStep};
+pub use fault::HalfFault;
+pub use half::Half;
+pub use ident::{IdentCheck, check_ident};
+pub use laws::{a_fault_stays, half_is_by_its_bytes, moves_stay, one_course, one_move};
+pub use stage::{Awaited, Side, Stage};
+
+#[cfg(test)]
+mod tests;
