@@ -1,0 +1,200 @@
+-- A valid scenario stays valid with one node, link or line more.
+use Rattle.std.proofs.Common.{◌≡◌, ◌==◌, ◌<◌, ◌≤◌, ℕ, zero, suc, Bool, true, false, ◌&&◌, ◌||◌, List, [], ◌∷◌, ◌++◌, length, get_or, refl, sym, ap, cond, ◌∙◌, arith, length-append, count_by, sum_by}
+use Rattle.std.specs.List.{list_any}
+use Rattle.std.specs.Str.{bytes_eq}
+use Rattle.std.proofs.lemmas.List.Sums.{sum_by-append}
+use Rattle.std.proofs.lemmas.List.Folds.{list_any-append}
+use Rattle.std.proofs.lemmas.List.Elements.{All-push, All-weaker}
+use Rattle.std.proofs.lemmas.List.Quantifiers.{all_pairs_push}
+use Rattle.std.proofs.lemmas.Slice.Eq.{bytes_eq-Decides}
+use Rattle.m2_scenario.specs.declared.node.Node.{Node}
+use Rattle.m2_scenario.specs.declared.link.Link.{Link}
+use Rattle.m2_scenario.specs.Draft.{Told, joins, are_joined, is_named, is_post, is_cut, is_fault, rounds_of, post, dial, down, cut, turn, flow, fault, settle}
+use Rattle.m2_scenario.specs.NodeLine.{is_at}
+use Rattle.m2_scenario.specs.RunLines.{without_start}
+use Rattle.m2_scenario.specs.Plan.{HasRoom}
+use Rattle.m2_scenario.specs.Valid.{IsSound, IsLine, IsLink, JoinOthers, HasCenters, AreApart}
+
+posts_kept : (lines : List Told) (l : Told) → count_by is_post lines ≤ 20000 → HasRoom lines l → count_by is_post (lines ++ l ∷ []) ≤ 20000
+posts_kept lines (post a b m) h room = omega (arith, sum_by-append (λ x. cond (is_post x) 1 0) lines (post a b m ∷ []), h, room)
+posts_kept lines (dial a b) h room = omega (arith, sum_by-append (λ x. cond (is_post x) 1 0) lines (dial a b ∷ []), h, room)
+posts_kept lines (down a b) h room = omega (arith, sum_by-append (λ x. cond (is_post x) 1 0) lines (down a b ∷ []), h, room)
+posts_kept lines (cut a b n) h room = omega (arith, sum_by-append (λ x. cond (is_post x) 1 0) lines (cut a b n ∷ []), h, room)
+posts_kept lines (turn a) h room = omega (arith, sum_by-append (λ x. cond (is_post x) 1 0) lines (turn a ∷ []), h)
+posts_kept lines (flow a b socket n) h room = omega (arith, sum_by-append (λ x. cond (is_post x) 1 0) lines (flow a b socket n ∷ []), h)
+posts_kept lines (fault a b socket) h room = omega (arith, sum_by-append (λ x. cond (is_post x) 1 0) lines (fault a b socket ∷ []), h, room)
+posts_kept lines (settle n) h room = omega (arith, sum_by-append (λ x. cond (is_post x) 1 0) lines (settle n ∷ []), h, room)
+
+cuts_kept : (lines : List Told) (l : Told) → count_by is_cut lines ≤ 64 → HasRoom lines l → count_by is_cut (lines ++ l ∷ []) ≤ 64
+cuts_kept lines (post a b m) h room = omega (arith, sum_by-append (λ x. cond (is_cut x) 1 0) lines (post a b m ∷ []), h, room)
+cuts_kept lines (dial a b) h room = omega (arith, sum_by-append (λ x. cond (is_cut x) 1 0) lines (dial a b ∷ []), h, room)
+cuts_kept lines (down a b) h room = omega (arith, sum_by-append (λ x. cond (is_cut x) 1 0) lines (down a b ∷ []), h, room)
+cuts_kept lines (cut a b n) h room = omega (arith, sum_by-append (λ x. cond (is_cut x) 1 0) lines (cut a b n ∷ []), h, room)
+cuts_kept lines (turn a) h room = omega (arith, sum_by-append (λ x. cond (is_cut x) 1 0) lines (turn a ∷ []), h)
+cuts_kept lines (flow a b socket n) h room = omega (arith, sum_by-append (λ x. cond (is_cut x) 1 0) lines (flow a b socket n ∷ []), h)
+cuts_kept lines (fault a b socket) h room = omega (arith, sum_by-append (λ x. cond (is_cut x) 1 0) lines (fault a b socket ∷ []), h, room)
+cuts_kept lines (settle n) h room = omega (arith, sum_by-append (λ x. cond (is_cut x) 1 0) lines (settle n ∷ []), h, room)
+
+faults_kept : (lines : List Told) (l : Told) → count_by is_fault lines ≤ 64 → HasRoom lines l → count_by is_fault (lines ++ l ∷ []) ≤ 64
+faults_kept lines (post a b m) h room = omega (arith, sum_by-append (λ x. cond (is_fault x) 1 0) lines (post a b m ∷ []), h, room)
+faults_kept lines (dial a b) h room = omega (arith, sum_by-append (λ x. cond (is_fault x) 1 0) lines (dial a b ∷ []), h, room)
+faults_kept lines (down a b) h room = omega (arith, sum_by-append (λ x. cond (is_fault x) 1 0) lines (down a b ∷ []), h, room)
+faults_kept lines (cut a b n) h room = omega (arith, sum_by-append (λ x. cond (is_fault x) 1 0) lines (cut a b n ∷ []), h, room)
+faults_kept lines (turn a) h room = omega (arith, sum_by-append (λ x. cond (is_fault x) 1 0) lines (turn a ∷ []), h)
+faults_kept lines (flow a b socket n) h room = omega (arith, sum_by-append (λ x. cond (is_fault x) 1 0) lines (flow a b socket n ∷ []), h)
+faults_kept lines (fault a b socket) h room = omega (arith, sum_by-append (λ x. cond (is_fault x) 1 0) lines (fault a b socket ∷ []), h, room)
+faults_kept lines (settle n) h room = omega (arith, sum_by-append (λ x. cond (is_fault x) 1 0) lines (settle n ∷ []), h, room)
+
+rounds_kept : (lines : List Told) (l : Told) → sum_by rounds_of lines ≤ 20000 → HasRoom lines l → sum_by rounds_of (lines ++ l ∷ []) ≤ 20000
+rounds_kept lines (post a b m) h room = omega (arith, sum_by-append rounds_of lines (post a b m ∷ []), h, room)
+rounds_kept lines (dial a b) h room = omega (arith, sum_by-append rounds_of lines (dial a b ∷ []), h, room)
+rounds_kept lines (down a b) h room = omega (arith, sum_by-append rounds_of lines (down a b ∷ []), h, room)
+rounds_kept lines (cut a b n) h room = omega (arith, sum_by-append rounds_of lines (cut a b n ∷ []), h, room)
+rounds_kept lines (turn a) h room = omega (arith, sum_by-append rounds_of lines (turn a ∷ []), h)
+rounds_kept lines (flow a b socket n) h room = omega (arith, sum_by-append rounds_of lines (flow a b socket n ∷ []), h)
+rounds_kept lines (fault a b socket) h room = omega (arith, sum_by-append rounds_of lines (fault a b socket ∷ []), h, room)
+rounds_kept lines (settle n) h room = omega (arith, sum_by-append rounds_of lines (settle n ∷ []), h, room)
+
+pub line_kept : (nodes : List Node) (links : List Link) (lines : List Told) (l : Told) → IsSound nodes links lines → IsLine (length nodes) links l → HasRoom lines l → IsSound nodes links (lines ++ l ∷ [])
+line_kept nodes links lines l s fits room = record {
+  few_nodes = s.few_nodes;
+  few_links = s.few_links;
+  centers = s.centers;
+  apart = s.apart;
+  joined = s.joined;
+  joined_once = s.joined_once;
+  in_place = All-push (IsLine (length nodes) links) lines l s.in_place fits;
+  posts = posts_kept lines l s.posts room;
+  cuts = cuts_kept lines l s.cuts room;
+  faults = faults_kept lines l s.faults room;
+  rounds = rounds_kept lines l s.rounds room;
+}
+
+or_first : (a b : Bool) → (a || b) ≡ false → a ≡ false
+or_first true b e = e
+or_first false b e = refl
+
+or_second : (a b : Bool) → (a || b) ≡ false → b ≡ false
+or_second true b e = absurd (cc)
+or_second false b e = e
+
+-- where none passes, the one at a place doesn't
+none_at : {X : Type 0} (p : X → Bool) (xs : List X) → list_any p xs ≡ false → (k : ℕ) (d : X) → k < length xs → p (get_or xs k d) ≡ false
+none_at p [] e k d h = absurd (omega arith)
+none_at p (x ∷ xs) e zero d h = or_first (p x) (list_any p xs) e
+none_at p (x ∷ xs) e (suc k) d h = none_at p xs (or_second (p x) (list_any p xs) e) k d (omega arith)
+
+still_joined : (links : List Link) (l : Link) (a b : ℕ) → are_joined links a b ≡ true → are_joined (links ++ l ∷ []) a b ≡ true
+still_joined links l a b e = rw (list_any-append (joins a b) links (l ∷ []), e) refl
+
+more_links : (n : ℕ) (links : List Link) (l : Link) (t : Told) → IsLine n links t → IsLine n (links ++ l ∷ []) t
+more_links n links l (post a b m) h = (still_joined links l a b h.0, h.1)
+more_links n links l (dial a b) h = still_joined links l a b h
+more_links n links l (down a b) h = still_joined links l a b h
+more_links n links l (cut a b k) h = (still_joined links l a b h.0, h.1)
+more_links n links l (turn a) h = h
+more_links n links l (flow a b socket k) h = still_joined links l a b h
+more_links n links l (fault a b socket) h = still_joined links l a b h
+more_links n links l (settle k) h = h
+
+pub link_kept : (nodes : List Node) (links : List Link) (lines : List Told) (l : Link) → IsSound nodes links lines → length links < 120 → IsLink (length nodes) l → are_joined links l.a l.b ≡ false → IsSound nodes (links ++ l ∷ []) lines
+link_kept nodes links lines l s room fits first = record {
+  few_nodes = s.few_nodes;
+  few_links = omega (arith, length-append links (l ∷ []), room);
+  centers = s.centers;
+  apart = s.apart;
+  joined = All-push (IsLink (length nodes)) links l s.joined fits;
+  joined_once = all_pairs_push JoinOthers links l s.joined_once (none_at (joins l.a l.b) links first);
+  in_place = All-weaker (IsLine (length nodes) links) (IsLine (length nodes) (links ++ l ∷ [])) (more_links (length nodes) links l) lines s.in_place;
+  posts = s.posts;
+  cuts = s.cuts;
+  faults = s.faults;
+  rounds = s.rounds;
+}
+
+link_among_more : (m n : ℕ) → m ≤ n → (l : Link) → IsLink m l → IsLink n l
+link_among_more m n h l fits = record { a = omega (arith, h, fits.a); b = omega (arith, h, fits.b); different = fits.different; allowed = fits.allowed }
+
+line_among_more : (m n : ℕ) → m ≤ n → (links : List Link) (t : Told) → IsLine m links t → IsLine n links t
+line_among_more m n h links (post a b message) fits = fits
+line_among_more m n h links (dial a b) fits = fits
+line_among_more m n h links (down a b) fits = fits
+line_among_more m n h links (cut a b k) fits = fits
+line_among_more m n h links (turn a) fits = omega (arith, h, fits)
+line_among_more m n h links (flow a b socket k) fits = fits
+line_among_more m n h links (fault a b socket) fits = fits
+line_among_more m n h links (settle k) fits = fits
+
+same_number : (a b : ℕ) → a ≡ b → (a == b) ≡ true
+same_number a b e = grind (arith, e)
+
+both : (a b : Bool) → a ≡ true → b ≡ true → (a && b) ≡ true
+both a b p q = rw (p, q) refl
+
+apart_from : (at : Node) (n : Node) → is_named at.name n ≡ false → is_at at.at n ≡ false → AreApart n at
+apart_from new n name socket = record {
+  names = λ e. let same : bytes_eq n.name new.name ≡ true = (bytes_eq-Decides n.name new.name).1 e in cc;
+  sockets = λ e. let same : is_at new.at n ≡ true = both (n.at.ip == new.at.ip) (n.at.port == new.at.port) (same_number n.at.ip new.at.ip e.0) (same_number n.at.port new.at.port e.1) in cc;
+}
+
+pub node_kept : (nodes : List Node) (links : List Link) (lines : List Told) (n : Node) → IsSound nodes links lines → length nodes < 16 → HasCenters n
+    → list_any (is_named n.name) nodes ≡ false → list_any (is_at n.at) nodes ≡ false → IsSound (nodes ++ n ∷ []) links lines
+node_kept nodes links lines n s room centers names sockets =
+    let more : length nodes ≤ length (nodes ++ n ∷ []) = omega (arith, length-append nodes (n ∷ [])) in
+    record {
+      few_nodes = omega (arith, length-append nodes (n ∷ []), room);
+      few_links = s.few_links;
+      centers = All-push HasCenters nodes n s.centers centers;
+      apart = all_pairs_push AreApart nodes n s.apart (λ k d h. apart_from n (get_or nodes k d) (none_at (is_named n.name) nodes names k d h) (none_at (is_at n.at) nodes sockets k d h));
+      joined = All-weaker (IsLink (length nodes)) (IsLink (length (nodes ++ n ∷ []))) (link_among_more (length nodes) (length (nodes ++ n ∷ [])) more) links s.joined;
+      joined_once = s.joined_once;
+      in_place = All-weaker (IsLine (length nodes) links) (IsLine (length (nodes ++ n ∷ [])) links) (line_among_more (length nodes) (length (nodes ++ n ∷ [])) more links) lines s.in_place;
+      posts = s.posts;
+      cuts = s.cuts;
+      faults = s.faults;
+      rounds = s.rounds;
+    }
+
+-- a node that isn't started is as it was in all else
+record Alike (m n : Node) : Type 0 where
+  name : m.name ≡ n.name
+  at : m.at ≡ n.at
+  centers : m.centers ≡ n.centers
+
+length_without : (nodes : List Node) (a : ℕ) → length (without_start nodes a) ≡ length nodes
+length_without [] a = refl
+length_without (n ∷ ns) zero = refl
+length_without (n ∷ ns) (suc a) = ap suc (length_without ns a)
+
+alike : (nodes : List Node) (a k : ℕ) (d : Node) → Alike (get_or (without_start nodes a) k d) (get_or nodes k d)
+alike [] a k d = record { name = refl; at = refl; centers = refl }
+alike (n ∷ ns) zero zero d = record { name = refl; at = refl; centers = refl }
+alike (n ∷ ns) zero (suc k) d = record { name = refl; at = refl; centers = refl }
+alike (n ∷ ns) (suc a) zero d = record { name = refl; at = refl; centers = refl }
+alike (n ∷ ns) (suc a) (suc k) d = alike ns a k d
+
+has_centers : (m n : Node) → Alike m n → HasCenters n → HasCenters m
+has_centers m n e h = record { one = omega (arith, e.centers, h.one); most = omega (arith, e.centers, h.most) }
+
+are_apart : (m n p q : Node) → Alike m p → Alike n q → AreApart p q → AreApart m n
+are_apart m n p q e f h = record {
+  names = λ s. h.names (sym e.name ∙ s ∙ f.name);
+  sockets = λ s. h.sockets (sym (ap (λ a. a.ip) e.at) ∙ s.0 ∙ ap (λ a. a.ip) f.at, sym (ap (λ a. a.port) e.at) ∙ s.1 ∙ ap (λ a. a.port) f.at);
+}
+
+pub start_kept : (nodes : List Node) (links : List Link) (lines : List Told) (a : ℕ) → IsSound nodes links lines → IsSound (without_start nodes a) links lines
+start_kept nodes links lines a s =
+    let same : length (without_start nodes a) ≡ length nodes = length_without nodes a in
+    record {
+      few_nodes = omega (arith, same, s.few_nodes);
+      few_links = s.few_links;
+      centers = λ k d h. has_centers (get_or (without_start nodes a) k d) (get_or nodes k d) (alike nodes a k d) (s.centers k d (omega (arith, same, h)));
+      apart = λ i j d h k. are_apart (get_or (without_start nodes a) i d) (get_or (without_start nodes a) j d) (get_or nodes i d) (get_or nodes j d) (alike nodes a i d) (alike nodes a j d) (s.apart i j d h (omega (arith, same, k)));
+      joined = rw same s.joined;
+      joined_once = s.joined_once;
+      in_place = rw same s.in_place;
+      posts = s.posts;
+      cuts = s.cuts;
+      faults = s.faults;
+      rounds = s.rounds;
+    }

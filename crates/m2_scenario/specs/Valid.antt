@@ -1,0 +1,58 @@
+-- When a scenario is valid.
+use Rattle.std.specs.Prelude.{◌≡◌, ◌≢◌, ℕ, ◌<◌, ◌≤◌, true, false, List, length, map, count_by, sum_by, All, AllPairs}
+use Rattle.m2_policy.specs.Policy.{allows}
+use Rattle.m2_scenario.specs.declared.node.Node.{Node}
+use Rattle.m2_scenario.specs.declared.link.Link.{Link}
+use Rattle.m2_scenario.specs.declared.scenario.Scenario.{Scenario}
+use Rattle.m2_scenario.specs.Draft.{Told, told_of, joins, are_joined, is_post, is_cut, is_fault, rounds_of, post, dial, down, cut, turn, flow, fault, settle}
+use Rattle.m2_scenario.specs.PlanLines.{are_short}
+
+-- two nodes have different names, and don't stand at one ip and port
+pub record AreApart (m n : Node) : Type 0 where
+  pub names : m.name ≢ n.name
+  pub sockets : ¬ ((m.at.ip ≡ n.at.ip) × (m.at.port ≡ n.at.port))
+
+-- a node has 1 to 4 centers
+pub record HasCenters (n : Node) : Type 0 where
+  pub one : 1 ≤ n.centers
+  pub most : n.centers ≤ 4
+
+-- a link joins two different nodes of so many by an allowed pair of policies
+pub record IsLink (nodes : ℕ) (l : Link) : Type 0 where
+  pub a : l.a < nodes
+  pub b : l.b < nodes
+  pub different : l.a ≢ l.b
+  pub allowed : allows l.of_a l.of_b ≡ true
+
+-- two links don't join the same nodes
+abbrev pub JoinOthers : Link → Link → Type 0
+JoinOthers l m = joins m.a m.b l ≡ false
+
+-- each line but a turn and a settle has a link of its two nodes, a post's parts have at most 65,536
+-- bytes each, and a cut is at no more than 1,048,576 bytes
+abbrev pub IsLine : ℕ → List Link → Told → Type 0
+IsLine nodes links (post a b message) = (are_joined links a b ≡ true) × (are_short message ≡ true)
+IsLine nodes links (dial a b) = are_joined links a b ≡ true
+IsLine nodes links (down a b) = are_joined links a b ≡ true
+IsLine nodes links (cut a b bytes) = (are_joined links a b ≡ true) × (bytes ≤ 1048576)
+IsLine nodes links (turn a) = a < nodes
+IsLine nodes links (flow a b socket most) = are_joined links a b ≡ true
+IsLine nodes links (fault a b socket) = are_joined links a b ≡ true
+IsLine nodes links (settle rounds) = Unit {0}
+
+-- nodes, links and lines that make a valid scenario
+pub record IsSound (nodes : List Node) (links : List Link) (lines : List Told) : Type 0 where
+  pub few_nodes : length nodes ≤ 16
+  pub few_links : length links ≤ 120
+  pub centers : All HasCenters nodes
+  pub apart : AllPairs AreApart nodes
+  pub joined : All (IsLink (length nodes)) links
+  pub joined_once : AllPairs JoinOthers links
+  pub in_place : All (IsLine (length nodes) links) lines
+  pub posts : count_by is_post lines ≤ 20000
+  pub cuts : count_by is_cut lines ≤ 64
+  pub faults : count_by is_fault lines ≤ 64
+  pub rounds : sum_by rounds_of lines ≤ 20000
+
+abbrev pub IsValid : Scenario → Type 0
+IsValid s = IsSound s.nodes s.links (map told_of s.lines)
