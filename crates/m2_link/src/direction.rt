@@ -136,11 +136,11 @@ impl Direction {
         self.log.as_slice()
     }
 
-    /// How many messages the sender counts acknowledged.
-    pub(crate) fn acknowledged(&self) -> u64
+    /// The sender's queue.
+    pub(crate) fn queue(&self) -> &OutQueues
         requires { IsDirection self.now }
-        ensures { result ≤ (direction_of self.now).accepted }
+        ensures { result.now.base ≤ (direction_of self.now).accepted }
     {
-        self.out.base()
+        &self.out
     }
 }

@@ -10,6 +10,7 @@ use crate::turn::turn;
 use m2_bytes::NoMemory;
 use m2_message::Message;
 use m2_pair::{Side, Step, StepList};
+use m2_queues::OutQueues;
 use std::alloc::Global;
 use std::marker::Model;
 
@@ -19,7 +20,7 @@ use std::marker::Model;
 /// Makers: [`new`](Link::new), [`run`](Link::run). Steps: [`post`](Link::post),
 /// [`turn`](Link::turn), [`fault`](Link::fault), [`flow`](Link::flow), [`settle`](Link::settle).
 /// Readers: [`left`](Link::left), [`dispatched`](Link::dispatched),
-/// [`acknowledged`](Link::acknowledged). After an Err of `post` or `turn` nothing has changed, but
+/// [`queue`](Link::queue). After an Err of `post` or `turn` nothing has changed, but
 /// for reserved room and copies that the next turn takes.
 #[derive(Drop)]
 pub struct Link {
@@ -149,13 +150,14 @@ impl Link {
         self.first.left() + self.second.left()
     }
 
-    /// How many messages the side counts acknowledged: never more than the other has accepted.
-    pub fn acknowledged(&self, from: Side) -> u64
-        ensures { result ≤ (written_by from self.now).accepted }
+    /// The queue of what the side posts. What it counts acknowledged, which is its base, the other
+    /// has accepted.
+    pub fn queue(&self, from: Side) -> &OutQueues
+        ensures acknowledged { result.now.base ≤ (written_by from self.now).accepted }
     {
         match from {
-            Side::First => self.first.acknowledged(),
-            Side::Second => self.second.acknowledged(),
+            Side::First => self.first.queue(),
+            Side::Second => self.second.queue(),
         }
     }
 

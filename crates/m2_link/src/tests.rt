@@ -54,11 +54,11 @@ fn a_fault_between_two_posts_loses_and_doubles_nothing(rt: HostRuntime) -> Resul
     link.turn(Side::First)?;
     link.fault();
     assert_eq!(rt; link.left(), 1);
-    assert_eq!(rt; link.acknowledged(Side::First), 1);
+    assert_eq!(rt; link.queue(Side::First).base(), 1);
     // The message flows in the second round, and its acknowledgement in the third.
     link.settle(3)?;
     assert_eq!(rt; link.left(), 0);
-    assert_eq!(rt; link.acknowledged(Side::First), 2);
+    assert_eq!(rt; link.queue(Side::First).base(), 2);
     assert!(rt; fronts_are(link.dispatched(Side::Second), b"a", b"b"));
     assert!(rt; link.dispatched(Side::First).is_empty());
     Ok(())
