@@ -2,5 +2,11 @@ pub mod Asks
 pub mod Banners
 pub mod Course
 pub mod Faults
+pub mod Fitting
+pub mod Memory
 pub mod Path
+pub mod Payloads
 pub mod Reaching
+pub mod Settling
+pub mod Staying
+pub mod Turns

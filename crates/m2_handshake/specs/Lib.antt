@@ -1,5 +1,6 @@
 pub mod Asking
 pub mod Asks
+pub mod Course
 pub mod Half
 pub mod Ident
 pub mod Laws

@@ -34,7 +34,7 @@ pub enum HalfFault {
     /// What stands next is no frame.
     #[error("{0}")]
     Frame(FrameFault),
-    /// The payload of a frame can't be read.
+    /// The payload of a frame can't be read. In an answer of a half it is never want of memory.
     #[error("{0}")]
     Control(ControlFault),
 }

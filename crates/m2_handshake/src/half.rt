@@ -36,7 +36,8 @@ const FEATURES: Banner = Banner {
 /// Makers: [`client`](Half::client), [`server`](Half::server). Feed it the pieces of the socket in
 /// order with [`feed`](Half::feed), and ask [`next`](Half::next) until it answers
 /// [`HalfStep::NotYet`]; what it appends goes to the socket. Its answers are those of the bytes that
-/// were fed, however they were cut. An authed client is [`finish`](Half::finish)ed.
+/// were fed, however they were cut. An authed client is [`finish`](Half::finish)ed. An authed server is
+/// [`ask`](Half::ask)ed, and each ask is given its [`reply`](Half::reply) unless its session is accepted.
 #[derive(Debug, Drop)]
 pub struct Half {
     alloc: Global,

@@ -6,8 +6,9 @@
 //! session judges it. What it isn't: sockets, sessions, or any authentication: the method is none.
 //!
 //! The table of the handshake stands in docs/PROTOCOL.md and in `specs/Steps.antt`, row by row; the
-//! stages around it in `specs/Moves.antt`. `laws` says that what a half has written and where it stands
-//! depend on its bytes alone, however they were cut.
+//! stages around it in `specs/Moves.antt`. `laws` says that what a half has written, which asks it has
+//! answered and where it rests depend on its bytes and the replies that it was given, however the bytes
+//! were cut; its course is defined in `specs/Course.antt`.
 #![tactic(auto)]
 
 mod advance;
@@ -27,7 +28,10 @@ pub use ask::{Ask, AskStep};
 pub use fault::HalfFault;
 pub use half::Half;
 pub use ident::{IdentCheck, check_ident};
-pub use laws::{a_fault_stays, half_is_by_its_bytes, moves_stay, one_course, one_move};
+pub use laws::{
+    a_fault_stays, asks_come_before_replies, half_is_by_bytes_and_replies, memory_is_no_fault,
+    moves_stay, one_course, one_move,
+};
 pub use stage::{Awaited, Side, Stage};
 
 #[cfg(test)]
