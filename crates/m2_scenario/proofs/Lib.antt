@@ -6,3 +6,8 @@ pub mod Lines
 pub mod Counted
 pub mod Flags
 pub mod Joined
+pub mod Appended
+pub mod Names
+pub mod Nodes
+pub mod ReportLines
+pub mod Ranked

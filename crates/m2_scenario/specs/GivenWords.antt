@@ -4,4 +4,10 @@ use Rattle.m2_scenario.specs.declared.node_line.Given.{Given as Memory}
 use Rattle.m2_scenario.specs.NodeLine.{Given}
 
 abbrev pub given_of : Memory → Given
-given_of g = record { centers = option_copied g.centers; fast = option_copied g.fast; throttle = option_copied g.throttle; supports = option_copied g.supports; requires_ = option_copied g.requires_ }
+given_of g = record {
+  centers = option_copied g.centers;
+  fast = option_copied g.fast;
+  throttle = option_copied g.throttle;
+  supports = option_copied g.supports;
+  requires_ = option_copied g.requires_;
+}

@@ -1,4 +1,4 @@
--- The kinds of badness by their numbers, as docs/SCENARIOS-LANGUAGE.md has them.
+-- The kinds of badness by their numbers, as docs/SCENARIOS.md has them.
 use Rattle.std.specs.Prelude.{ℕ}
 use Rattle.m2_scenario.specs.declared.kind.Kind.{Kind}
 use Rattle.m2_scenario.specs.declared.kind.Kind.TheVariants as kind

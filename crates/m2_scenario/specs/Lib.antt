@@ -6,6 +6,7 @@ pub mod Draft
 pub mod Plan
 pub mod Valid
 pub mod NodeLine
+pub mod NodeTable
 pub mod Link
 pub mod LinkLine
 pub mod PlanLines
@@ -17,3 +18,4 @@ pub mod GivenWords
 pub mod Key
 pub mod Reading
 pub mod Kind
+pub mod Report

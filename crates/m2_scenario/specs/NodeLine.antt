@@ -69,9 +69,19 @@ node_with name entity at g = do
   centers ← number_or 1 1 4 g.centers
   fast ← kinds_or_none g.fast
   throttle ← number_or 0 0 4294967295 g.throttle
-  supports ← number_or 0 0 18446744073709551615 g.supports
+  supports ← number_or 18446744073709551615 0 18446744073709551615 g.supports
   required ← number_or 0 0 18446744073709551615 g.requires_
-  Ok (record { name = name; entity = entity; at = at; centers = centers; fast = fast; throttle = throttle; supports = supports; requires_ = required; started = true })
+  Ok (record {
+    name = name;
+    entity = entity;
+    at = at;
+    centers = centers;
+    fast = fast;
+    throttle = throttle;
+    supports = supports;
+    requires_ = required;
+    started = true;
+  })
 
 unfoldable pub node_of : List Word → Result Node Kind
 node_of ws = do

@@ -1,5 +1,5 @@
 -- A scenario's text: lines ended by a line feed, of which the last may lack it.
-use Rattle.std.specs.Prelude.{◌≡◌, ℕ, ◌+◌, ◌-◌, ◌==◌, slice_index, nat_le, nat_lt, Bool, false, ◌&&◌, if◌then◌else◌, List, [], ◌∷◌, length, take, map, Result, Ok, Err, unwrap_or}
+use Rattle.std.specs.Prelude.{◌≡◌, ℕ, ◌+◌, ◌-◌, ◌==◌, slice_index, nat_le, nat_lt, Bool, false, ◌&&◌, ◌||◌, if◌then◌else◌, List, [], ◌∷◌, length, take, map, Result, Ok, Err, unwrap_or}
 use Rattle.std.specs.List.{list_all}
 use Rattle.m2_scenario.specs.declared.kind.Kind.{Kind}
 use Rattle.m2_scenario.specs.declared.kind.Kind.TheVariants as kind
@@ -54,15 +54,21 @@ abbrev pub is_comment : Word → Bool
 is_comment [] = false
 is_comment (b ∷ bs) = b == 35
 
--- a line that begins with # may hold any bytes
-unfoldable pub clean_line : Bool → Draft → Word → Result Draft Kind
-clean_line run d line =
-    if is_comment line then Ok d else (do
-      _ ← check kind.Unknown (list_all is_printable line)
-      words_line run d (words_of line))
+abbrev pub words_unless_comment : Word → List Word
+words_unless_comment line = if is_comment line then [] else words_of line
 
-abbrev pub line_step : Bool → Draft → Word → Result Draft Kind
-line_step run d line = clean_line run d (without_return line)
+-- the words of a line without its carriage return; a line that begins with # has none
+abbrev pub line_words : Word → List Word
+line_words line = words_unless_comment (without_return line)
+
+-- a line that begins with # may hold any bytes
+abbrev pub is_clean : Word → Bool
+is_clean line = is_comment line || list_all is_printable line
+
+unfoldable pub line_step : Bool → Draft → Word → Result Draft Kind
+line_step run d line = do
+  _ ← check kind.Unknown (is_clean (without_return line))
+  words_line run d (line_words line)
 
 -- the first bad line, by its number from 1, with its kind
 pub record At : Type 0 where

@@ -12,14 +12,15 @@ ghost use Rattle.m2_scenario.specs.Kept.{draft_of, IsKept, AreJoined};
 use crate::kind::{Kind, check};
 use crate::line::{Line, Plan};
 use crate::link::{Link, LinkTable};
-use crate::node::{Node, place_among};
+use crate::node::Node;
+use crate::node_table::NodeTable;
 use m2_bytes::NoMemory;
 use std::alloc::Global;
 
 // Nodes, links and lines so far, and the limit if a line has set it.
 #[derive(Debug, Drop)]
 pub(crate) struct Draft {
-    pub(crate) nodes: Vec<Node>,
+    pub(crate) nodes: NodeTable,
     pub(crate) links: LinkTable,
     pub(crate) plan: Plan,
     pub(crate) limit: Option<u64>,
@@ -27,13 +28,13 @@ pub(crate) struct Draft {
 
 impl Draft {
     pub(crate) fn empty(alloc: Global) -> Draft
-        ensures nodes { result.nodes.items ≡ [] }
+        ensures nodes { result.nodes ≡ [] }
         ensures links { result.links ≡ [] }
         ensures lines { result.plan ≡ [] }
         ensures limit { result.limit ≡ None }
     {
         Draft {
-            nodes: Vec::new(alloc),
+            nodes: NodeTable::empty(alloc),
             links: LinkTable::empty(alloc),
             plan: Plan::empty(alloc),
             limit: None,
@@ -44,10 +45,10 @@ impl Draft {
 // The place of the node of this name.
 pub(crate) fn place(draft: &Draft, name: &[u8]) -> Result<u32, Kind>
     requires { IsKept draft.now }
-    ensures value { result ≡ place_of draft.now.nodes.items name.now }
-    ensures below { IfOk result (λ a. a < length draft.now.nodes.items) }
+    ensures value { result ≡ place_of draft.now.nodes name.now }
+    ensures below { IfOk result (λ a. a < length draft.now.nodes) }
 {
-    match place_among(draft.nodes.as_slice(), name) {
+    match draft.nodes.place(name) {
         Some(at) => Ok(at as u32),
         None => Err(Kind::NoNode),
     }
@@ -70,7 +71,7 @@ pub(crate) fn pair(draft: &Draft, first: &[u8], second: &[u8]) -> Result<(u32, u
 #[tactic(auto, using(crate::proofs::Sound::line_kept))]
 pub(crate) fn push_line(draft: &mut Draft, line: Line) -> Result<(), NoMemory>
     requires kept { IsKept draft.old }
-    requires fits { IsLine (length draft.old.nodes.items) draft.old.links (told_of line) }
+    requires fits { IsLine (length draft.old.nodes) draft.old.links (told_of line) }
     requires room { HasRoom draft.old.plan (told_of line) }
     ensures taken { OnOk result (draft_of draft.new ≡ with_line (draft_of draft.old) (told_of line)) }
     ensures kept { OnOk result (IsKept draft.new) }
@@ -80,17 +81,16 @@ pub(crate) fn push_line(draft: &mut Draft, line: Line) -> Result<(), NoMemory>
 
 // Puts a node last that stands apart from those above.
 #[tactic(auto, using(crate::proofs::Sound::node_kept))]
-pub(crate) fn push_node(draft: &mut Draft, node: Node) -> Result<(), NoMemory>
+pub(crate) fn push_node(alloc: Global, draft: &mut Draft, node: Node) -> Result<(), NoMemory>
     requires kept { IsKept draft.old }
-    requires room { length draft.old.nodes.items < 16 }
+    requires room { length draft.old.nodes < 16 }
     requires centers { HasCenters node }
-    requires names { list_any (is_named node.name) draft.old.nodes.items ≡ false }
-    requires sockets { list_any (is_at node.at) draft.old.nodes.items ≡ false }
+    requires names { list_any (is_named node.name) draft.old.nodes ≡ false }
+    requires sockets { list_any (is_at node.at) draft.old.nodes ≡ false }
     ensures taken { OnOk result (draft_of draft.new ≡ with_node (draft_of draft.old) node) }
     ensures kept { OnOk result (IsKept draft.new) }
 {
-    draft.nodes.push(node)?;
-    Ok(())
+    draft.nodes.push(alloc, node)
 }
 
 // Puts a link last of two nodes that aren't joined yet.
@@ -98,7 +98,7 @@ pub(crate) fn push_node(draft: &mut Draft, node: Node) -> Result<(), NoMemory>
 pub(crate) fn push_link(draft: &mut Draft, link: Link) -> Result<(), NoMemory>
     requires kept { IsKept draft.old }
     requires room { length draft.old.links < 120 }
-    requires fits { IsLink (length draft.old.nodes.items) link }
+    requires fits { IsLink (length draft.old.nodes) link }
     requires first { are_joined draft.old.links link.a link.b ≡ false }
     ensures taken { OnOk result (draft_of draft.new ≡ with_link (draft_of draft.old) link) }
     ensures kept { OnOk result (IsKept draft.new) }
@@ -109,9 +109,9 @@ pub(crate) fn push_link(draft: &mut Draft, link: Link) -> Result<(), NoMemory>
 // Has a node not started.
 pub(crate) fn stop(draft: &mut Draft, a: u32)
     requires kept { IsKept draft.old }
-    requires there { a < length draft.old.nodes.items }
-    ensures taken { draft_of draft.new ≡ record (draft_of draft.old) { nodes = without_start draft.old.nodes.items a } }
+    requires there { a < length draft.old.nodes }
+    ensures taken { draft_of draft.new ≡ record (draft_of draft.old) { nodes = without_start draft.old.nodes a } }
     ensures kept { IsKept draft.new }
 {
-    draft.nodes[a as usize].started = false;
+    draft.nodes.stop(a as usize);
 }

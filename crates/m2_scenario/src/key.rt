@@ -3,9 +3,9 @@
 ghost use Rattle.std.specs.Prelude.{◌≡◌};
 ghost use Rattle.m2_scenario.specs.Key.{key_of, belongs};
 
-// What a line is about.
+/// What a line is about, by its first word.
 #[derive(Clone, Copy, Debug, PartialEq, Eq)]
-pub(crate) enum Key {
+pub enum Key {
     Node,
     Link,
     Post,
@@ -21,8 +21,9 @@ pub(crate) enum Key {
 }
 
 impl Key {
+    /// What a line with this first word is about; none exactly where no line begins with it.
     #[tactic(auto, unfolding(crate::specs::Key::key_of))]
-    pub(crate) fn of(word: &[u8]) -> Option<Key>
+    pub fn of(word: &[u8]) -> Option<Key>
         ensures { result ≡ key_of word.now }
     {
         if word == b"node".as_slice() {

@@ -1,8 +1,5 @@
 //! Nodes.
 
-ghost use Rattle.std.specs.Prelude.{◌≡◌, position};
-ghost use Rattle.m2_scenario.specs.Draft.{is_named};
-
 use m2_addr::Addr;
 use m2_bytes::Items;
 use m2_policy::FastSet;
@@ -26,18 +23,10 @@ pub struct Node {
     pub fast: FastSet,
     /// How many bytes of messages it may hold, or 0 for any number.
     pub throttle: u64,
-    /// The feature bits that it supports.
+    /// The feature bits that it supports; all of them where its line says nothing.
     pub supports: u64,
-    /// The feature bits that it requires of its peers.
+    /// The feature bits that it requires of its peers; none where its line says nothing.
     pub requires_: u64,
     /// Whether `run` starts it.
     pub started: bool,
-}
-
-// The place of the node of this name, from 0. It is a scan, but a short one however long the text
-// is: there are at most 16 nodes with names of at most 16 bytes.
-pub(crate) fn place_among(nodes: &[Node], name: &[u8]) -> Option<usize>
-    ensures { result ≡ position (is_named name.now) nodes.now }
-{
-    nodes.iter().position(|n| n.name.as_slice() == name)
 }

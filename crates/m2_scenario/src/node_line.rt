@@ -141,7 +141,7 @@ fn node_with(
     let centers = number_or(1, 1, 4, given.centers)? as u32;
     let fast = kinds_or_none(given.fast)?;
     let throttle = number_or(0, 0, 4294967295, given.throttle)?;
-    let supports = number_or(0, 0, u64::MAX, given.supports)?;
+    let supports = number_or(u64::MAX, 0, u64::MAX, given.supports)?;
     let requires_ = number_or(0, 0, u64::MAX, given.requires_)?;
     let Ok(name) = Vec::from_slice(alloc, name) else {
         return Err(Fault::NoMemory);
@@ -175,20 +175,6 @@ fn node_of(alloc: Global, mut words: Words<'_>) -> Result<Node, Fault>
     node_with(alloc, name, entity, at, given)
 }
 
-fn has_name(nodes: &[Node], name: &[u8]) -> bool
-    ensures { result ≡ list_any (is_named name.now) nodes.now }
-{
-    nodes.iter().any(|n| n.name.as_slice() == name)
-}
-
-fn has_address(nodes: &[Node], at: Addr) -> bool
-    ensures { result ≡ list_any (is_at at) nodes.now }
-{
-    nodes
-        .iter()
-        .any(|n| n.at.ip == at.ip && n.at.port == at.port)
-}
-
 #[tactic(auto, unfolding(crate::specs::NodeLine::node_line))]
 pub(crate) fn node_line(alloc: Global, draft: &mut Draft, words: Words<'_>) -> Result<(), Fault>
     requires { IsKept draft.old }
@@ -196,12 +182,9 @@ pub(crate) fn node_line(alloc: Global, draft: &mut Draft, words: Words<'_>) -> R
     ensures kept { OnOk result (IsKept draft.new) }
 {
     let node = node_of(alloc, words)?;
-    check(
-        Kind::Taken,
-        !has_name(draft.nodes.as_slice(), node.name.as_slice()),
-    )?;
-    check(Kind::Taken, !has_address(draft.nodes.as_slice(), node.at))?;
-    check(Kind::Limit, draft.nodes.len() < 16)?;
-    push_node(draft, node)?;
+    check(Kind::Taken, !draft.nodes.has_name(node.name.as_slice()))?;
+    check(Kind::Taken, !draft.nodes.has_socket(node.at))?;
+    check(Kind::Limit, draft.nodes.as_slice().len() < 16)?;
+    push_node(alloc, draft, node)?;
     Ok(())
 }

@@ -22,7 +22,7 @@ fn planned_pair(draft: &Draft, first: &[u8], second: &[u8]) -> Result<(u32, u32)
     ensures joined { IfOk result (AreJoined draft.now) }
 {
     let (a, b) = pair(draft, first, second)?;
-    check(Kind::Link, draft.nodes[a as usize].started)?;
+    check(Kind::Link, draft.nodes.as_slice()[a as usize].started)?;
     Ok((a, b))
 }
 

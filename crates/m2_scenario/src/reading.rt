@@ -3,7 +3,7 @@
 ghost use Rattle.std.specs.Prelude.{◌≡◌, ◌≤◌, length, take, IfOk, OnOk};
 ghost use Rattle.std.specs.List.{list_all};
 ghost use Rattle.m2_scenario.specs.Draft.{Takes, no_lines};
-ghost use Rattle.m2_scenario.specs.Reading.{by_key, words_line, is_printable, without_return, clean_line, line_step, lines_from, Reads, DraftRead, LineRead};
+ghost use Rattle.m2_scenario.specs.Reading.{by_key, words_line, is_printable, without_return, is_comment, is_clean, line_words, line_step, lines_from, Reads, DraftRead, LineRead};
 ghost use Rattle.m2_scenario.specs.Text.{pieces};
 ghost use Rattle.m2_scenario.specs.Valid.{IsValid};
 ghost use Rattle.m2_scenario.specs.Kept.{draft_of, IsKept};
@@ -18,10 +18,9 @@ use crate::run_lines::{limit_line, off_line};
 use crate::scenario::Scenario;
 use crate::sim_lines::{cut_line, fault_line, flow_line, settle_line, turn_line};
 use crate::text::{Words, cut};
-use m2_bytes::Items;
 use std::alloc::Global;
 
-/// A file has at most so many bytes.
+/// A scenario's text has at most so many bytes; [`read`] refuses the line in which the next stands.
 pub const MOST_BYTES: usize = 4194304;
 
 fn by_key(alloc: Global, draft: &mut Draft, key: Key, words: Words<'_>) -> Result<(), Fault>
@@ -82,26 +81,42 @@ fn without_return(line: &[u8]) -> &[u8]
     line
 }
 
+fn is_comment(line: &[u8]) -> bool
+    ensures { result ≡ is_comment line.now }
+{
+    matches!(line, [b'#', ..])
+}
+
+// What follows a `#` may be any bytes.
+fn is_clean(line: &[u8]) -> bool
+    ensures { result ≡ is_clean line.now }
+{
+    is_comment(line) || is_printable(line)
+}
+
+/// The words of a line of a scenario's text, without the line feed: those between its spaces, a
+/// carriage return at its end left out. A line that begins with `#` has none.
+///
+/// With [`cut`] at line feeds, a caller can look at a text's lines before, or without, [`read`]ing
+/// it.
+pub fn words_in(line: &[u8]) -> Words<'_>
+    ensures { result ≡ line_words line.now }
+{
+    let line = without_return(line);
+    if is_comment(line) {
+        return Words::of(b"");
+    }
+    Words::of(line)
+}
+
+#[tactic(auto, unfolding(crate::specs::Reading::line_step))]
 fn line_step(alloc: Global, run: bool, draft: &mut Draft, line: &[u8]) -> Result<(), Fault>
     requires { IsKept draft.old }
     ensures taken { Takes result (line_step run (draft_of draft.old) line.now) (draft_of draft.new) }
     ensures kept { OnOk result (IsKept draft.new) }
 {
-    clean_line(alloc, run, draft, without_return(line))
-}
-
-// A line that begins with `#` is passed over, whatever bytes it has.
-#[tactic(auto, unfolding(crate::specs::Reading::clean_line))]
-fn clean_line(alloc: Global, run: bool, draft: &mut Draft, line: &[u8]) -> Result<(), Fault>
-    requires { IsKept draft.old }
-    ensures taken { Takes result (clean_line run (draft_of draft.old) line.now) (draft_of draft.new) }
-    ensures kept { OnOk result (IsKept draft.new) }
-{
-    if let [b'#', ..] = line {
-        return Ok(());
-    }
-    check(Kind::Unknown, is_printable(line))?;
-    words_line(alloc, run, draft, Words::of(line))
+    check(Kind::Unknown, is_clean(without_return(line)))?;
+    words_line(alloc, run, draft, words_in(line))
 }
 
 // A line of the text, by its number.
@@ -123,8 +138,8 @@ fn numbered_line(
     }
 }
 
-// The first so many bytes.
-fn front(bytes: &[u8], most: usize) -> &[u8]
+/// The first `most` bytes of a text, or all where there are fewer.
+pub fn front(bytes: &[u8], most: usize) -> &[u8]
     ensures bytes { result.now ≡ take most bytes.now }
     ensures within { length result.now ≤ most }
 {
@@ -148,7 +163,7 @@ pub fn read(alloc: Global, bytes: &[u8], run: bool) -> Result<Scenario, BadScena
         bytes.len() > MOST_BYTES,
     )?;
     Ok(Scenario {
-        nodes: Items::from_vec(draft.nodes),
+        nodes: draft.nodes.into_list(),
         links: draft.links.into_list(),
         lines: draft.plan.into_list(),
         limit: draft.limit.unwrap_or(10000),

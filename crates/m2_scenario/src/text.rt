@@ -13,8 +13,9 @@ fn mark_in(bytes: &[u8], mark: u8) -> Option<usize>
     bytes.iter().position(|b| *b == mark)
 }
 
-// What stands before the first separator and what after it; none where there is none.
-pub(crate) fn cut(bytes: &[u8], mark: u8) -> Option<(&[u8], &[u8])>
+/// What stands before the first separator and what stands after it; none exactly where there is no
+/// separator.
+pub fn cut(bytes: &[u8], mark: u8) -> Option<(&[u8], &[u8])>
     ensures parts { MatchOption result (cut_at mark bytes.now ≡ None) (λ p. cut_at mark bytes.now ≡ Some (p.0.now, p.1.now)) }
     ensures pieces { MatchOption result (pieces mark bytes.now ≡ bytes.now ∷ []) (λ p. pieces mark bytes.now ≡ p.0.now ∷ pieces mark p.1.now) }
     ensures shorter { IfSome result (λ p. length p.1.now < length bytes.now) }
@@ -29,9 +30,12 @@ pub(crate) fn cut(bytes: &[u8], mark: u8) -> Option<(&[u8], &[u8])>
     }
 }
 
-// The words of a line that are left. Contracts see the list of them.
+/// The words of a line that are left, lent from the line. Contracts see the list of them.
+///
+/// [`words_in`](crate::words_in) makes it; [`next`](Words::next) and [`take`](Words::take) take the
+/// first word out, and [`len`](Words::len) counts.
 #[derive(Debug, Drop)]
-pub(crate) struct Words<'a> {
+pub struct Words<'a> {
     rest: &'a [u8],
 }
 
@@ -51,8 +55,8 @@ impl<'a> Words<'a> {
         Words { rest: line }
     }
 
-    // The first word, which is taken; none exactly where none is left.
-    pub(crate) fn next(&mut self) -> Option<&'a [u8]>
+    /// Takes the first word out; none exactly where none is left.
+    pub fn next(&mut self) -> Option<&'a [u8]>
         ensures { MatchOption result ((self.old ≡ []) × (self.new ≡ [])) (λ w. self.old ≡ w.now ∷ self.new) }
     {
         let (word, rest) = first_word(self.rest)?;
@@ -60,8 +64,8 @@ impl<'a> Words<'a> {
         Some(word)
     }
 
-    // The first word, where there is one.
-    pub(crate) fn take(&mut self) -> &'a [u8]
+    /// Takes the first word out, where there is one.
+    pub fn take(&mut self) -> &'a [u8]
         requires { 0 < length self.old }
         ensures { self.old ≡ result.now ∷ self.new }
     {
@@ -71,8 +75,8 @@ impl<'a> Words<'a> {
         }
     }
 
-    // How many words are left.
-    pub(crate) fn len(&self) -> usize
+    /// How many words are left. It goes over the line.
+    pub fn len(&self) -> usize
         ensures { result ≡ length self.now }
     {
         let bytes = self.rest.len();
