@@ -1,68 +1,74 @@
 -- What `sim` prints keeps the order of the posts, since the model does.
-use Rattle.std.proofs.Common.{◌≡◌, ℕ, Bool, true, false, cond, List, Option, Result, Ok, Err, refl}
+use Rattle.std.proofs.Common.{◌≡◌, ◌∙◌, ℕ, zero, suc, Bool, true, false, cond, List, [], ◌++◌, length, take, Option, None, Some, Result, Ok, Err, refl, sym, ap, subst, map, append-nil, inl, inr}
 use Rattle.std.specs.Prelude.{◌==◌}
 use Rattle.std.proofs.lemmas.Bool.{eqb-true}
-use Rattle.m2_pair.specs.declared.step.Step.{Step}
-use Rattle.m2_pair.specs.Fault.{FirstBad}
-use Rattle.m2_pair.specs.Model.{after_steps, fresh, left}
-use Rattle.m2_pair.specs.Posts.{DispatchesFronts, IsAllDispatched}
-use Rattle.m2_pair.specs.Steps.{Scenario}
-use Rattle.m2_pair.specs.Scenario.{scenario_in}
+use Rattle.m2_edge.specs.Sink.{Takes, TakesFront}
+use Rattle.m2_edge.specs.Whole.{IsReadUpTo}
+use Rattle.m2_scenario.specs.declared.link.Link.{Link}
+use Rattle.m2_scenario.specs.declared.node.Node.{Node}
+use Rattle.m2_scenario.specs.Draft.{Draft, Told}
+use Rattle.m2_scenario.specs.Valid.{IsSound}
+use Rattle.m2_sim.specs.Model.{fast_of, left}
+use Rattle.m2_sim.specs.Posts.{HearsFronts, HearsAll, HearsPeers}
+use Rattle.m2_sim.specs.Lines.{net_after}
 use Rattle.m2_cli.specs.declared.status.Status.{Status}
-use Rattle.m2_cli.specs.declared.status.Status.TheVariants.{Done, Usage, BadScenario, ReadFault, WriteFault, Left, NoMemory, BadFrames}
-use Rattle.m2_cli.specs.Verdict.{status_by_count, status_of, report_for, report_in, link_of}
-use Rattle.m2_cli.specs.Order.{PrintsFronts, KeepsOrder, all_lines}
-use Rattle.m2_cli.specs.Top.{Runs}
+use Rattle.m2_cli.specs.declared.status.Status.TheVariants.{Done, Left, WriteFault}
+use Rattle.m2_cli.specs.Answer.{IsSoundIn}
+use Rattle.m2_cli.specs.Order.{KeepsOrder}
+use Rattle.m2_cli.specs.Print.{Prints}
+use Rattle.m2_cli.specs.Top.{read_limit}
+use Rattle.m2_cli.specs.Verdict.{BadAt, scenario_in, net_for, status_of, status_in, report_for, report_in}
+use Rattle.m2_cli.proofs.Tops.{became}
 
--- the two laws of the model
-abbrev FrontLaw : Type 0
-FrontLaw = (steps : List Step) → DispatchesFronts steps (after_steps steps fresh)
+-- the laws of the model
+abbrev pub FrontLaw : Type 0
+FrontLaw = (nodes : List Node) (links : List Link) (lines : List Told) → IsSound nodes links lines → HearsFronts (map fast_of nodes) lines (net_after nodes links lines).heard
 
-abbrev AllLaw : Type 0
-AllLaw = (steps : List Step) → left (after_steps steps fresh) ≡ 0 → IsAllDispatched steps (after_steps steps fresh)
+abbrev pub AllLaw : Type 0
+AllLaw = (nodes : List Node) (links : List Link) (lines : List Told) → IsSound nodes links lines → left (net_after nodes links lines) ≡ 0
+    → HearsAll (map fast_of nodes) lines (net_after nodes links lines).heard
 
--- what a scenario is, where the status says that it was run
-pub record IsRun (r : Result Scenario FirstBad) (text : List ℕ) : Type 0 where
-  pub scenario : Scenario
-  pub is : r ≡ Ok scenario
-  pub prints : PrintsFronts scenario text
+abbrev pub PeerLaw : Type 0
+PeerLaw = (nodes : List Node) (links : List Link) (lines : List Told) → IsSound nodes links lines
+    → HearsPeers (length nodes) links (net_after nodes links lines).heard
 
-prints : FrontLaw → (s : Scenario) → PrintsFronts s (report_for (Ok s))
-prints law s = record { to_first = _; to_second = _; lines = refl; first = (law s.steps).to_first; second = (law s.steps).to_second }
-
-left_is_run : FrontLaw → (r : Result Scenario FirstBad) (count : ℕ) → status_of r ≡ Left count → IsRun r (report_for r)
-left_is_run law (Ok s) count e = record { scenario = s; is = refl; prints = prints law s }
-left_is_run law (Err bad) count e = absurd cc
-
-zero_left : (n : ℕ) → status_by_count n ≡ Done → n ≡ 0
-zero_left n e = nothing (n == 0) refl e
+-- what was read keeps the order, where its report was written whole
+read_order : FrontLaw → AllLaw → PeerLaw → (read : Result Draft BadAt) (bytes : List ℕ) (file after old new : Option (List ℕ)) → scenario_in bytes ≡ read
+    → IsSoundIn bytes → IsReadUpTo read_limit bytes file after → Takes (report_for read) old new → KeepsOrder (status_of read) file after old new
+read_order fronts all peers (Ok d) bytes file after old new e sound r h = by_count (left (net_for d) == 0) refl
   where
-    nothing : (b : Bool) → (n == 0) ≡ b → cond b Done (Left n) ≡ Done → n ≡ 0
-    nothing true test e = eqb-true n 0 test
-    nothing false test e = absurd cc
+    by_count : (b : Bool) → (left (net_for d) == 0) ≡ b → KeepsOrder (cond b Done (Left (left (net_for d)))) file after old new
+    by_count true none =
+        (bytes, r, (d, e, (report_for (Ok d), record { heard = (net_for d).heard; lines = refl; peers = peers d.nodes d.links d.lines (sound d e); all = all d.nodes d.links d.lines (sound d e) (eqb-true _ 0 none) }, h)))
+    by_count false some =
+        (bytes, r, (d, e, (report_for (Ok d), record { heard = (net_for d).heard; lines = refl; peers = peers d.nodes d.links d.lines (sound d e); fronts = fronts d.nodes d.links d.lines (sound d e) }, h)))
+read_order fronts all peers (Err bad) bytes file after old new e sound r h = tt
 
-pub record IsWhole (r : Result Scenario FirstBad) (text : List ℕ) : Type 0 where
-  pub scenario : Scenario
-  pub is : r ≡ Ok scenario
-  pub prints : text ≡ all_lines scenario
+take_nothing : (n : ℕ) → take {A = ℕ} n [] ≡ []
+take_nothing zero = refl
+take_nothing (suc n) = refl
 
-done_is_whole : AllLaw → (r : Result Scenario FirstBad) → status_of r ≡ Done → IsWhole r (report_for r)
-done_is_whole law (Ok s) e =
-    let all = law s.steps (zero_left (left (link_of s)) e) in
-    record { scenario = s; is = refl; prints = rw (all.0, all.1) refl }
-done_is_whole law (Err bad) e = absurd cc
+-- of nothing no more than nothing is taken
+nothing_taken : (old new : Option (List ℕ)) → TakesFront [] old new → new ≡ old
+nothing_taken None new h = h.1
+nothing_taken (Some t) new h = h.1 ∙ ap (λ l. Some (t ++ l)) (take_nothing h.0) ∙ ap Some (append-nil t)
 
-pub keeps_order : FrontLaw → AllLaw → (status : Status) (s t : ℕ) (file before after old new : Option (List ℕ))
-    → Runs status s t file before after old new → KeepsOrder status file after old new
-keeps_order fronts all Done s t file before after old new runs =
-    let whole = done_is_whole all (scenario_in runs.0) runs.2 in
-    (runs.0, runs.1, (whole.scenario, whole.is, rw whole.prints at runs.3))
-keeps_order fronts all (Left count) s t file before after old new runs =
-    let run = left_is_run fronts (scenario_in runs.0) count runs.2 in
-    (runs.0, runs.1, (run.scenario, run.is, (report_in runs.0, run.prints, runs.3)))
-keeps_order fronts all Usage s t file before after old new runs = tt
-keeps_order fronts all (BadScenario line kind) s t file before after old new runs = tt
-keeps_order fronts all ReadFault s t file before after old new runs = tt
-keeps_order fronts all WriteFault s t file before after old new runs = tt
-keeps_order fronts all NoMemory s t file before after old new runs = tt
-keeps_order fronts all (BadFrames place fault) s t file before after old new runs = tt
+-- what was read keeps the order, where a front of its report was written
+read_front : FrontLaw → PeerLaw → (read : Result Draft BadAt) (bytes : List ℕ) (file after old new : Option (List ℕ)) → scenario_in bytes ≡ read
+    → IsSoundIn bytes → IsReadUpTo read_limit bytes file after → TakesFront (report_for read) old new → KeepsOrder WriteFault file after old new
+read_front fronts peers (Ok d) bytes file after old new e sound r h =
+    inr (bytes, r, (d, e, (report_for (Ok d), record { heard = (net_for d).heard; lines = refl; peers = peers d.nodes d.links d.lines (sound d e); fronts = fronts d.nodes d.links d.lines (sound d e) }, h)))
+read_front fronts peers (Err bad) bytes file after old new e sound r h = inl (nothing_taken old new h)
+
+-- the same, however printing went
+pub order_printed : FrontLaw → AllLaw → PeerLaw → (result stat : Status) (bytes report : List ℕ) (file after old new : Option (List ℕ)) (o p e f : ℕ)
+    → Prints result stat report old new o p e f → stat ≡ status_in bytes → report ≡ report_in bytes → IsReadUpTo read_limit bytes file after
+    → IsSoundIn bytes → KeepsOrder result file after old new
+order_printed fronts all peers result stat bytes report file after old new o p e f (inl (same, h, n)) st rep r sound =
+    let P : Status → Type 0 = λ x. KeepsOrder x file after old new in
+    let Q : List ℕ → Type 0 = λ x. Takes x old new in
+    subst P (sym (same ∙ st)) (read_order fronts all peers (scenario_in bytes) bytes file after old new refl sound r (subst Q rep h))
+order_printed fronts all peers result stat bytes report file after old new o p e f (inr (h, front, risen)) st rep r sound =
+    let P : Status → Type 0 = λ x. KeepsOrder x file after old new in
+    let Q : List ℕ → Type 0 = λ x. TakesFront x old new in
+    subst P (sym (became result stat bytes st h)) (read_front fronts peers (scenario_in bytes) bytes file after old new refl sound r (subst Q rep front))

@@ -9,11 +9,9 @@ use Rattle.m2_cli.specs.declared.status.Status.TheVariants as status
 use Rattle.m2_cli.specs.Status.{line_of}
 use Rattle.m2_cli.specs.Print.{unsaid, IsSaid, Prints}
 use Rattle.m2_cli.specs.Top.{Says, Runs, IsCause, read_limit}
-use Rattle.m2_cli.specs.Verdict.{status_in, report_in, status_of, report_for, status_by_count, link_of}
-use Rattle.m2_pair.specs.Fault.{FirstBad}
-use Rattle.m2_pair.specs.Model.{left}
-use Rattle.m2_pair.specs.Steps.{Scenario}
-use Rattle.m2_pair.specs.Scenario.{scenario_in}
+use Rattle.m2_cli.specs.Verdict.{status_in, report_in, status_of, report_for, status_by_count, BadAt, scenario_in, net_for}
+use Rattle.m2_scenario.specs.Draft.{Draft}
+use Rattle.m2_sim.specs.Model.{left}
 
 -- what was taken whole was taken by its front
 pub front_whole : (text : List ℕ) (old new : Option (List ℕ)) → Takes text old new → TakesFront text old new
@@ -63,11 +61,11 @@ left_runs : (b : Bool) (n : ℕ) (bytes : List ℕ) (s t : ℕ) (file before aft
 left_runs true n bytes s t file before after old new r h e = (bytes, r, e, h)
 left_runs false n bytes s t file before after old new r h e = (bytes, r, e, h)
 
-read_runs : (read : Result Scenario FirstBad) (bytes : List ℕ) (s t : ℕ) (file before after old new : Option (List ℕ)) → scenario_in bytes ≡ read
+read_runs : (read : Result Draft BadAt) (bytes : List ℕ) (s t : ℕ) (file before after old new : Option (List ℕ)) → scenario_in bytes ≡ read
     → IsReadUpTo read_limit bytes file after → Takes (report_in bytes) old new → (report_in bytes ≡ [] → new ≡ old)
     → Runs (status_of read) s t file before after old new
-read_runs (Ok sc) bytes s t file before after old new e r h n =
-    left_runs (left (link_of sc) == 0) (left (link_of sc)) bytes s t file before after old new r h (ap status_of e)
+read_runs (Ok d) bytes s t file before after old new e r h n =
+    left_runs (left (net_for d) == 0) (left (net_for d)) bytes s t file before after old new r h (ap status_of e)
 read_runs (Err bad) bytes s t file before after old new e r h n = (bytes, r, ap status_of e, n (ap report_for e))
 
 -- what runs when all was written
@@ -87,12 +85,12 @@ left_unsaid : (b : Bool) (n : ℕ) → unsaid (cond b status.Done (status.Left n
 left_unsaid true n = refl
 left_unsaid false n = refl
 
-read_unsaid : (read : Result Scenario FirstBad) → unsaid (status_of read) ≡ status.WriteFault
-read_unsaid (Ok sc) = left_unsaid (left (link_of sc) == 0) (left (link_of sc))
+read_unsaid : (read : Result Draft BadAt) → unsaid (status_of read) ≡ status.WriteFault
+read_unsaid (Ok d) = left_unsaid (left (net_for d) == 0) (left (net_for d))
 read_unsaid (Err bad) = refl
 
 -- what a run's status becomes where a write failed
-became : (result s : Status) (bytes : List ℕ) → s ≡ status_in bytes → (result ≡ status.WriteFault) ⊎ (result ≡ unsaid s) → result ≡ status.WriteFault
+pub became : (result s : Status) (bytes : List ℕ) → s ≡ status_in bytes → (result ≡ status.WriteFault) ⊎ (result ≡ unsaid s) → result ≡ status.WriteFault
 became result s bytes e (inl h) = h
 became result s bytes e (inr h) = h ∙ ap unsaid e ∙ read_unsaid (scenario_in bytes)
 
@@ -112,8 +110,8 @@ left_caused : (b : Bool) (n s t o p e f : ℕ) → IsCause (cond b status.Done (
 left_caused true n s t o p e f = tt
 left_caused false n s t o p e f = tt
 
-read_caused : (read : Result Scenario FirstBad) (s t o p e f : ℕ) → IsCause (status_of read) s t o p e f
-read_caused (Ok sc) s t o p e f = left_caused (left (link_of sc) == 0) (left (link_of sc)) s t o p e f
+read_caused : (read : Result Draft BadAt) (s t o p e f : ℕ) → IsCause (status_of read) s t o p e f
+read_caused (Ok d) s t o p e f = left_caused (left (net_for d) == 0) (left (net_for d)) s t o p e f
 read_caused (Err bad) s t o p e f = tt
 
 -- its cause

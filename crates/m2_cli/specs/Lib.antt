@@ -2,6 +2,7 @@ pub mod Answer
 pub mod Print
 pub mod Status
 pub mod Top
+pub mod Outside
 pub mod Verdict
 pub mod Words
 pub mod Order

@@ -1,33 +1,47 @@
 -- What a scenario file comes to: a status and a report. Both are functions of the file's bytes, by the value
--- model of an established pair, which knows no message numbers, acknowledgements or resending.
-use Rattle.std.specs.Prelude.{ℕ, ◌==◌, List, [], if◌then◌else◌, Result, Ok, Err}
+-- model of links, which knows no message numbers, acknowledgements or resending.
+use Rattle.std.specs.Prelude.{ℕ, ◌==◌, false, List, [], if◌then◌else◌, Option, Some, None, Result, Ok, Err}
 use Rattle.m2_cli.specs.declared.status.Status.{Status}
 use Rattle.m2_cli.specs.declared.status.Status.TheVariants.{Done, BadScenario, Left}
-use Rattle.m2_pair.specs.declared.side.Side.TheVariants.{First, Second}
-use Rattle.m2_pair.specs.Fault.{FirstBad, number_of_kind}
-use Rattle.m2_pair.specs.Model.{Link, after_steps, fresh, dispatched_of, read_by, left}
-use Rattle.m2_pair.specs.Report.{report_of}
-use Rattle.m2_pair.specs.Steps.{Scenario}
-use Rattle.m2_pair.specs.Scenario.{scenario_in}
+use Rattle.m2_cli.specs.Outside.{first_outside}
+use Rattle.m2_scenario.specs.Draft.{Draft}
+use Rattle.m2_scenario.specs.Kind.{number_of_kind}
+use Rattle.m2_scenario.specs.Reading.{At, text_read}
+use Rattle.m2_scenario.specs.Report.{report_of}
+use Rattle.m2_sim.specs.Model.{Net, left}
+use Rattle.m2_sim.specs.Lines.{net_after}
 
--- the link that a scenario's steps lead to
-abbrev pub link_of : Scenario → Link
-link_of s = after_steps s.steps fresh
+-- the first bad line, by its number from 1 and the number of its kind
+pub record BadAt : Type 0 where
+  pub line : ℕ
+  pub kind : ℕ
+
+-- a line that `sim` can't run is bad where no line is bad by the language; its kind is the number behind those of
+-- the language
+abbrev pub judged : Option ℕ → Result Draft At → Result Draft BadAt
+judged outside (Err at) = Err (record { line = at.line; kind = number_of_kind at.kind })
+judged None (Ok d) = Ok d
+judged (Some line) (Ok d) = Err (record { line = line; kind = 13 })
+
+-- the scenario that a file's bytes make, by the language of `sim`
+abbrev pub scenario_in : List ℕ → Result Draft BadAt
+scenario_in bytes = judged (first_outside bytes) (text_read false bytes)
+
+-- what its lines lead to
+abbrev pub net_for : Draft → Net
+net_for d = net_after d.nodes d.links d.lines
 
 -- whether a number of posts is left
 abbrev pub status_by_count : ℕ → Status
 status_by_count count = if count == 0 then Done else Left count
 
-abbrev pub status_of : Result Scenario FirstBad → Status
-status_of (Ok s) = status_by_count (left (link_of s))
-status_of (Err bad) = BadScenario bad.line (number_of_kind bad.kind)
+abbrev pub status_of : Result Draft BadAt → Status
+status_of (Ok d) = status_by_count (left (net_for d))
+status_of (Err bad) = BadScenario bad.line bad.kind
 
--- a line for each dispatch: the first node's, and then the second's
-abbrev pub report_of_link : Scenario → Link → List ℕ
-report_of_link s l = report_of s.names.first s.names.second (dispatched_of (read_by First l)) (dispatched_of (read_by Second l))
-
-abbrev pub report_for : Result Scenario FirstBad → List ℕ
-report_for (Ok s) = report_of_link s (link_of s)
+-- a line for each dispatch, node by node, as they came and not sorted
+abbrev pub report_for : Result Draft BadAt → List ℕ
+report_for (Ok d) = report_of false d.nodes (net_for d).heard
 report_for (Err bad) = []
 
 -- How a run of a file's bytes ends: with what is left, or with the first bad line.

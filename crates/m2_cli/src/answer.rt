@@ -1,18 +1,22 @@
 //! What is to be printed, made before anything is written.
 
-ghost use Rattle.std.specs.Prelude.{◌≡◌, IfOk, All};
-ghost use Rattle.m2_cli.specs.Verdict.{status_in, report_in, status_by_count, report_of_link, link_of};
-ghost use Rattle.m2_cli.specs.Answer.{IsAnswer, AnswersFile};
+ghost use Rattle.std.specs.Prelude.{◌≡◌, IfOk, OnOk, false, map, []};
+ghost use Rattle.m2_cli.specs.declared.status.Status.TheVariants as statuses;
+ghost use Rattle.m2_cli.specs.Verdict.{status_in, report_in, status_by_count};
+ghost use Rattle.m2_cli.specs.Answer.{IsAnswer, IsSoundIn, AnswersFile};
 ghost use Rattle.m2_edge.specs.Whole.{HasReadCause};
-ghost use Rattle.m2_link.specs.Steps.{IsPlain};
-ghost use Rattle.m2_pair.specs.Model.{left};
-ghost use Rattle.m2_pair.specs.Steps.{scenario_of};
+ghost use Rattle.m2_scenario.specs.Draft.{told_of};
+ghost use Rattle.m2_scenario.specs.Report.{report_of};
+ghost use Rattle.m2_scenario.specs.Valid.{IsValid};
+ghost use Rattle.m2_sim.specs.Model.{left};
+ghost use Rattle.m2_sim.specs.Lines.{net_after};
 
+use crate::outside::{NOT_RUN, first_outside};
 use crate::status::{Status, line};
-use m2_bytes::{Blob, NoMemory};
+use m2_bytes::{Blob, Items, NoMemory};
 use m2_edge::{ReadFault, Source, read_whole};
-use m2_link::Link;
-use m2_pair::{FILE_LIMIT, Pair, ReadError, Side, read, report, scenario_is_what_the_steps_do};
+use m2_scenario::{BadScenario, MOST_BYTES, Scenario, read, report};
+use m2_sim::{Outcome, run};
 use std::alloc::Global;
 
 /// How a scenario ends, its report, and the line that standard error is to get.
@@ -33,50 +37,59 @@ pub(crate) fn answer_file<S: Source>(
     ensures inputs { S.input src.new ≡ S.input src.old }
     ensures answers { AnswersFile result (S.input src.old file.now) (S.rest src.old) (S.rest src.new) }
 {
-    let bytes = read_whole(alloc, src, file, FILE_LIMIT + 1)?;
+    let bytes = read_whole(alloc, src, file, MOST_BYTES + 1)?;
     let answer = answer_bytes(alloc, bytes.as_slice())?;
     Ok(answer)
 }
 
 /// Runs the scenario that the bytes spell.
 fn answer_bytes(alloc: Global, bytes: &[u8]) -> Result<Answer, NoMemory>
-    ensures { IfOk result (λ a. IsAnswer a (status_in bytes.now) (report_in bytes.now)) }
+    ensures answer { IfOk result (λ a. IsAnswer a (status_in bytes.now) (report_in bytes.now)) }
+    ensures sound { OnOk result (IsSoundIn bytes.now) }
 {
-    match read(alloc, bytes) {
-        Ok(pair) => answer_pair(alloc, pair),
-        Err(ReadError::BadLine { line, kind }) => {
-            let kind = kind.number();
-            with_line(
-                alloc,
-                Status::BadScenario { line, kind },
-                Blob::empty(alloc),
-            )
-        }
-        Err(ReadError::NoMemory) => Err(NoMemory),
+    match read(alloc, bytes, false) {
+        Ok(scenario) => match first_outside(bytes) {
+            Some(line) => refuse(alloc, line, NOT_RUN),
+            None => answer_scenario(alloc, scenario),
+        },
+        Err(BadScenario::BadLine { line, kind }) => refuse(alloc, line, kind.number()),
+        Err(BadScenario::NoMemory) => Err(NoMemory),
     }
 }
 
-/// Runs a scenario over a link of its own.
-fn answer_pair(alloc: Global, pair: Pair) -> Result<Answer, NoMemory>
-    requires { All IsPlain pair.steps }
-    ensures { IfOk result (λ a. let s = scenario_of pair in
-        IsAnswer a (status_by_count (left (link_of s))) (report_of_link s (link_of s))) }
+/// The answer to a bad line.
+fn refuse(alloc: Global, line: u32, kind: u8) -> Result<Answer, NoMemory>
+    ensures { IfOk result (λ a. IsAnswer a (statuses.BadScenario line kind) []) }
 {
-    let Pair {
-        first,
-        second,
-        steps,
-    } = pair;
-    scenario_is_what_the_steps_do();
-    let link = Link::run(alloc, steps)?;
-    let text = report(
+    with_line(
         alloc,
-        first.as_slice(),
-        second.as_slice(),
-        link.dispatched(Side::First),
-        link.dispatched(Side::Second),
-    )?;
-    with_line(alloc, status_by_count(link.left()), text)
+        Status::BadScenario { line, kind },
+        Blob::empty(alloc),
+    )
+}
+
+/// Runs a scenario over links of its own.
+fn answer_scenario(alloc: Global, scenario: Scenario) -> Result<Answer, NoMemory>
+    requires { IsValid scenario }
+    ensures { IfOk result (λ a. let n = net_after scenario.nodes scenario.links (map told_of scenario.lines) in
+        IsAnswer a (status_by_count (left n)) (report_of false scenario.nodes n.heard)) }
+{
+    let Scenario {
+        nodes,
+        links,
+        lines,
+        limit,
+    } = scenario;
+    let Outcome { logs, left } = run(alloc, &nodes, &links, lines)?;
+    let scenario = Scenario {
+        nodes,
+        links,
+        lines: Items::empty(alloc),
+        limit,
+    };
+    let mut text = Blob::empty(alloc);
+    report(alloc, &scenario, &logs, false, &mut text)?;
+    with_line(alloc, status_by_count(left), text)
 }
 
 fn status_by_count(count: u64) -> Status

@@ -114,8 +114,71 @@ fn an_empty_file_is_done_and_a_bad_line_is_named(rt: HostRuntime) -> Result<(), 
     let empty = run_over(alloc, &["sim", "f"], &[], &[], &[])?;
     expect(&rt, empty, Status::Done, b"", b"");
     let bad = run_over(alloc, &["sim", "f"], &["turn z"], &[], &[])?;
-    let status = Status::BadScenario { line: 1, kind: 13 };
-    expect(&rt, bad, status, b"", b"bad scenario: line 1 kind 13\n");
+    let status = Status::BadScenario { line: 1, kind: 5 };
+    expect(&rt, bad, status, b"", b"bad scenario: line 1 kind 5\n");
+    Ok(())
+}
+
+#[test]
+fn a_fast_message_overtakes_only_in_one_turn(rt: HostRuntime) -> Result<(), Fail> {
+    let alloc = rt.alloc();
+    let nodes =
+        "node a osd 127.0.0.1:7001/1\nnode b osd 127.0.0.1:7002/2 fast 1\nlink a b lossless_peer lossless_peer\n";
+    let low = "post a b 1 64 61 - -\n";
+    let high = "post a b 1 255 62 - -\n";
+    let high_first = b"b from a 255 fast 1 62 - -\nb from a 64 fast 1 61 - -\n";
+    let low_first = b"b from a 64 fast 1 61 - -\nb from a 255 fast 1 62 - -\n";
+    let together = run_over(
+        alloc,
+        &["sim", "f"],
+        &[nodes, low, high, "settle 16\n"],
+        &[],
+        &[],
+    )?;
+    expect(&rt, together, Status::Done, high_first, b"");
+    let broken = "turn a\nfault a b\n";
+    let resent = run_over(
+        alloc,
+        &["sim", "f"],
+        &[nodes, low, broken, high, "settle 16\n"],
+        &[],
+        &[],
+    )?;
+    expect(&rt, resent, Status::Done, low_first, b"");
+    Ok(())
+}
+
+#[test]
+fn what_sim_cannot_run_is_refused_where_nothing_else_is_bad(rt: HostRuntime) -> Result<(), Fail> {
+    let alloc = rt.alloc();
+    let status = Status::BadScenario { line: 4, kind: 13 };
+    let said = b"bad scenario: line 4 kind 13\n";
+    for line in [
+        "dial a b\n",
+        "down a b\n",
+        "cut a b 600\n",
+        "flow a b\n",
+        "fault a b 1\n",
+        "node c osd 127.0.0.1:7003/3 fast 1 throttle 9\n",
+        "node c osd 127.0.0.1:7003/3 supports 1\n",
+        "node c osd 127.0.0.1:7003/3 centers 2 requires 1\n",
+    ] {
+        let seen = run_over(alloc, &["sim", "f"], &[PAIR, line], &[], &[])?;
+        expect(&rt, seen, status, b"", said);
+    }
+    let client = "node c client 127.0.0.1:7003/3\nlink c a lossless_client stateful_server\n";
+    let seen = run_over(alloc, &["sim", "f"], &[PAIR, client], &[], &[])?;
+    let status = Status::BadScenario { line: 5, kind: 13 };
+    expect(&rt, seen, status, b"", b"bad scenario: line 5 kind 13\n");
+    let other = run_over(
+        alloc,
+        &["sim", "f"],
+        &[PAIR, "dial a b\nsettle 0\n"],
+        &[],
+        &[],
+    )?;
+    let status = Status::BadScenario { line: 5, kind: 3 };
+    expect(&rt, other, status, b"", b"bad scenario: line 5 kind 3\n");
     Ok(())
 }
 
@@ -126,6 +189,12 @@ fn a_failed_read_and_a_failed_write_are_answered(rt: HostRuntime) -> Result<(), 
     expect(&rt, read, Status::ReadFault, b"", b"read fault\n");
     let steps = "post a b 7 127 616263 - -\nsettle 12\n";
     let write = run_over(alloc, &["sim", "f"], &[PAIR, steps], &[], &[1])?;
+    expect(&rt, write, Status::WriteFault, b"", b"write fault\n");
+    let bytes = Blob::of(alloc, &WAIT)?;
+    let read = run_on(alloc, &["frames", "f"], bytes, &[2], &[])?;
+    expect(&rt, read, Status::ReadFault, b"", b"read fault\n");
+    let bytes = Blob::of(alloc, &WAIT)?;
+    let write = run_on(alloc, &["frames", "f"], bytes, &[], &[1])?;
     expect(&rt, write, Status::WriteFault, b"", b"write fault\n");
     Ok(())
 }

@@ -12,7 +12,7 @@ use crate::print::{print, say_fixed};
 use crate::status::Status;
 use crate::words::{Command, command_of};
 use m2_edge::{ReadFault, Sink, Source};
-use m2_pair::{dispatched_is_a_front_of_the_posts, nothing_left_is_all_dispatched};
+use m2_sim::{each_key_keeps_its_order, nothing_left_is_all_heard, only_peers_are_heard};
 use std::alloc::Global;
 
 /// Runs the command that the words name, prints its report on `out`, says on `err` how it ended, and
@@ -37,14 +37,13 @@ pub fn msgr2<S: Source, O: Sink, E: Sink>(
         (λ file. Runs result (S.faults src.old) (S.faults src.new) (S.input src.old file) (S.rest src.old) (S.rest src.new)
         (O.taken out.old) (O.taken out.new))
         (λ file. ListsFrames result (S.input src.old file) (O.taken out.old) (O.taken out.new)) }
-    // The headline of `sim`: in each direction the messages that are printed are a front of those that the
-    // file posts, in order, each once; with Done they are all of them.
+    // The headline of `sim`: of each two nodes, and of each priority and dispatch path, the messages that are
+    // printed as dispatched at the one from the other are a front of those that the file posts, in order, each
+    // once; with Done they are all of them. With WriteFault a front of such lines was printed.
     ensures order { MatchForm (form_in (map string_bytes args.now)) (Unit {0})
         (λ file. KeepsOrder result (S.input src.old file) (S.rest src.new) (O.taken out.old) (O.taken out.new))
         (λ _. Unit {0}) }
 {
-    dispatched_is_a_front_of_the_posts();
-    nothing_left_is_all_dispatched();
     match command_of(args) {
         None => say_fixed(err, Status::Usage),
         Some(Command::Sim(file)) => sim(alloc, file, src, out, err),
@@ -66,7 +65,11 @@ fn sim<S: Source, O: Sink, E: Sink>(
     ensures says { Says result (E.taken err.old) (E.taken err.new) }
     ensures runs { Runs result (S.faults src.old) (S.faults src.new) (S.input src.old file.now) (S.rest src.old) (S.rest src.new)
         (O.taken out.old) (O.taken out.new) }
+    ensures order { KeepsOrder result (S.input src.old file.now) (S.rest src.new) (O.taken out.old) (O.taken out.new) }
 {
+    each_key_keeps_its_order();
+    nothing_left_is_all_heard();
+    only_peers_are_heard();
     match answer_file(alloc, src, file) {
         Ok(answer) => print(&answer, out, err),
         Err(ReadFault::Failed) => say_fixed(err, Status::ReadFault),

@@ -1,4 +1,4 @@
-pub mod Whole
 pub mod Senders
 pub mod Frames
+pub mod Places
 pub mod Moves

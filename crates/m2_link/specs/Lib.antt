@@ -1,4 +1,6 @@
+pub mod Model
+pub mod Steps
+pub mod Taken
 pub mod Frame
 pub mod Sender
 pub mod Direction
-pub mod Steps

@@ -1,26 +1,23 @@
 -- What holds between a sender's queue and what its reader has accepted, over a policy that keeps what
 -- it sent: nothing is counted acknowledged that wasn't accepted, and what is under way is what is kept
 -- between the last accepted message and the cursor.
-use Rattle.std.specs.Prelude.{◌≡◌, ℕ, ◌+◌, ◌-◌, ◌≤◌, true, List, [], ◌∷◌, ◌++◌, length, drop, map}
+use Rattle.std.specs.Prelude.{◌≡◌, ℕ, ◌+◌, ◌-◌, ◌≤◌, true, List, ◌++◌, length, drop, map}
 use Rattle.m2_message.specs.Message.{Content, content_of}
-use Rattle.m2_message.specs.declared.message.Message.{Message}
-use Rattle.m2_queues.specs.OutQueues.{Queue, priority_of}
+use Rattle.m2_queues.specs.OutQueues.{Queue}
+
+-- what has its place and is still to be sent
+abbrev pub due : Queue → List Content
+due q = map content_of (drop q.cursor q.kept)
 
 -- what is still to be sent
 abbrev pub unsent : Queue → List Content
-unsent q = map content_of (drop q.cursor q.kept) ++ map content_of q.waiting
-
--- every message has the default priority
-abbrev pub AreOrdinary : List Message → Type 0
-AreOrdinary [] = Unit {0}
-AreOrdinary (m ∷ ms) = (priority_of m ≡ 127) × AreOrdinary ms
+unsent q = due q ++ map content_of q.waiting
 
 -- `under_way` is what was sent, or copied to be sent, and not accepted
 pub record Sends (q : Queue) (accepted : ℕ) (under_way : List Content) : Type 0 where
   pub keeps : q.keeps ≡ true
-  pub ordinary : AreOrdinary q.waiting
   pub acknowledged : q.base ≤ accepted
   pub place : q.base + q.cursor ≡ accepted + length under_way
   pub within : q.cursor ≤ length q.kept
   pub written : q.base + q.cursor ≤ q.written
-  pub contents : map content_of (drop (accepted - q.base) q.kept) ≡ under_way ++ map content_of (drop q.cursor q.kept)
+  pub contents : map content_of (drop (accepted - q.base) q.kept) ≡ under_way ++ due q

@@ -1,21 +1,18 @@
--- Which steps the link takes, and what a call that ran out of memory in the middle leaves.
-use Rattle.std.specs.Prelude.{◌≡◌, ℕ, ◌<◌, ◌⊎◌}
-use Rattle.m2_pair.specs.Model.{Link, after_flow, after_turn, after_rounds}
-use Rattle.m2_pair.specs.declared.side.Side.TheVariants.{First}
-use Rattle.m2_pair.specs.declared.step.Step.{Step}
-use Rattle.m2_pair.specs.declared.step.Step.TheVariants.{Post, Turn, Fault, Settle}
+-- What a turn that ran out of memory leaves: messages that waited may have got their places.
+use Rattle.std.specs.Prelude.{◌≡◌, ℕ, ◌++◌, take, drop}
+use Rattle.m2_link.specs.Model.{Direction, Link}
+use Rattle.m2_link.specs.declared.side.Side.{Side}
+use Rattle.m2_link.specs.declared.side.Side.TheVariants.{First, Second}
 
--- a post has the default priority, so that the order of the posts is the order of sending
-abbrev pub IsPlain : Step → Type 0
-IsPlain (Post from message) = message.header.priority ≡ 127
-IsPlain (Turn node) = Unit {0}
-IsPlain Fault = Unit {0}
-IsPlain (Settle rounds) = Unit {0}
+-- the first so many of those that wait get their places
+abbrev pub places : ℕ → Direction → Direction
+places n d = record d { placed = d.placed ++ take n d.waiting; waiting = drop n d.waiting }
 
--- Everything flowed, and then the turn of the first node, or of the second, failed.
-abbrev pub StopsInRound : Link → Link → Type 0
-StopsInRound old new = (new ≡ after_flow old) ⊎ (new ≡ after_turn First (after_flow old))
+-- some of those that wait, or none, have got their places, and nothing else has changed
+abbrev pub HavePlaces : Direction → Direction → Type 0
+HavePlaces old new = (n : ℕ) × (new ≡ places n old)
 
--- some whole rounds, fewer than were asked for, and then one that stopped
-abbrev pub StopsInRounds : ℕ → Link → Link → Type 0
-StopsInRounds rounds old new = (n : ℕ) × (n < rounds) × StopsInRound (after_rounds n old) new
+-- the same of the direction that a side writes; the other stays
+abbrev pub GivesPlaces : Side → Link → Link → Type 0
+GivesPlaces First old new = HavePlaces old.first new.first × (new.second ≡ old.second)
+GivesPlaces Second old new = (new.first ≡ old.first) × HavePlaces old.second new.second

@@ -1,4 +1,4 @@
-//! One direction of a link: the sender's queue, the wire, and the reader's numbers and log.
+//! One direction of a link: the sender's queue, the wire, and the reader's numbers.
 
 use crate::frame::Frame;
 use m2_message::Message;
@@ -7,12 +7,12 @@ use std::alloc::Global;
 use std::collections::VecDeque;
 
 /// So many messages may be posted in one direction, so that every number fits.
-const MOST_POSTS: u64 = 9_223_372_036_854_775_807;
+const MOST_POSTS: u64 = 72_057_594_037_927_935;
 
-/// What one side sends to the other, from the post to the dispatch.
+/// What one side sends to the other, from the post to where it is accepted.
 ///
-/// The sender's part is `out`, `ready` and `posts`, the reader's `numbers`, `log` and `told`; the
-/// wire lies between them.
+/// The sender's part is `out`, `ready` and `posts`, the reader's `numbers` and `told`; the wire
+/// lies between them.
 #[derive(Drop)]
 pub(crate) struct Direction {
     /// The messages that aren't acknowledged.
@@ -28,16 +28,14 @@ pub(crate) struct Direction {
     pub(crate) flowed: usize,
     /// The number of the last message that the reader has accepted.
     pub(crate) numbers: InNumbers,
-    /// What the reader has dispatched.
-    pub(crate) log: Vec<Message>,
     /// The number that the reader has acknowledged last.
     pub(crate) told: u64,
 }
 
 impl Direction {
-    ghost use Rattle.std.specs.Prelude.{◌≡◌, ◌+◌, ◌<◌, ◌≤◌, ◌^◌, [], length, map, OnOk, MatchResult};
+    ghost use Rattle.std.specs.Prelude.{◌≡◌, ◌-◌, ◌<◌, ◌≤◌, ◌^◌, [], map, drop, OnOk, MatchResult};
     ghost use Rattle.m2_message.specs.Message.{content_of};
-    ghost use Rattle.m2_pair.specs.Model.{silent, posts, flows, breaks, dispatched_of, left_of};
+    ghost use Rattle.m2_link.specs.Model.{silent, posts, flows, breaks, left_of};
     ghost use Rattle.m2_link.specs.Direction.{direction_of, IsDirection, Stays};
     ghost use Rattle.m2_link.specs.Sender.{unsent};
 
@@ -53,15 +51,13 @@ impl Direction {
             wire: VecDeque::new(alloc),
             flowed: 0,
             numbers: InNumbers { last: 0 },
-            log: Vec::new(alloc),
             told: 0,
         }
     }
 
     /// Err hands the message back for want of memory, or of numbers.
     pub(crate) fn post(&mut self, message: Message) -> Result<(), Message>
-        requires ordinary { message.header.priority ≡ 127 }
-        requires holds { IsDirection self.old }
+        requires { IsDirection self.old }
         ensures ok { OnOk result (direction_of self.new ≡ posts (content_of message) (direction_of self.old)) }
         ensures err { MatchResult result (λ _. Unit {0}) (λ back. (back ≡ message) × (direction_of self.new ≡ direction_of self.old)) }
         ensures holds { IsDirection self.new }
@@ -119,27 +115,22 @@ impl Direction {
         }
     }
 
-    /// How many posts weren't dispatched.
+    /// How many posts weren't accepted.
     pub(crate) fn left(&self) -> u64
         requires { IsDirection self.now }
         ensures count { result ≡ left_of (direction_of self.now) }
-        ensures bound { result < 2 ^ 63 }
+        ensures few { result < 2 ^ 56 }
     {
         self.posts - self.numbers.last
-    }
-
-    /// What the reader dispatched, in order.
-    pub(crate) fn dispatched(&self) -> &[Message]
-        requires { IsDirection self.now }
-        ensures { map content_of result.now ≡ dispatched_of (direction_of self.now) }
-    {
-        self.log.as_slice()
     }
 
     /// The sender's queue.
     pub(crate) fn queue(&self) -> &OutQueues
         requires { IsDirection self.now }
-        ensures { result.now.base ≤ (direction_of self.now).accepted }
+        ensures waiting { map content_of result.now.waiting ≡ (direction_of self.now).waiting }
+        ensures placed { map content_of (drop ((direction_of self.now).accepted - result.now.base) result.now.kept)
+            ≡ (direction_of self.now).placed }
+        ensures acknowledged { result.now.base ≤ (direction_of self.now).accepted }
     {
         &self.out
     }

@@ -1,21 +1,27 @@
-//! The two ends of an established pair of lossless peers, and the wires between them.
+//! The two ends of an established lossless link, and the wires between them.
 //!
-//! What it is: [`Link`], which a scenario's steps are run on. Each end has a queue that keeps what
-//! it sent until it is acknowledged, the number of the last message that it accepted, and the log of
-//! what it dispatched; frames are values, with message numbers and acknowledgements. After a fault
-//! each end is handed the number of the other's last accepted message, and sends again what comes
-//! after it. Contracts see none of this: for them a link is the value model of `m2_pair`, lists and
-//! counts. What it isn't: bytes on a socket, the scenario's text, or the report.
+//! What it is: [`Link`], on which posts, turns, flows and faults are run. Each end has a queue that
+//! gives messages their numbers, the greatest priority first, and keeps what it sent until it is
+//! acknowledged; and the number of the last message that it accepted. Frames are values, with
+//! message numbers and acknowledgements. After a fault each end is handed the number of the other's
+//! last accepted message, and sends again what comes after it. What a node takes in its turn is
+//! handed out as [`Taken`]. Contracts see none of this: for them a link is a value model
+//! (`specs/Model.antt`), lists and counts. What it isn't: bytes on a socket, a scenario's text, or
+//! the dispatch of what was taken.
 #![tactic(auto)]
 
 mod direction;
 mod frame;
 mod link;
 mod reading;
+mod side;
+mod taken;
 mod turn;
 mod writing;
 
 pub use link::Link;
+pub use side::Side;
+pub use taken::Taken;
 
 #[cfg(test)]
 mod tests;

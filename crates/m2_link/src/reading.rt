@@ -1,27 +1,28 @@
 //! The reader's part of a turn.
 
-ghost use Rattle.std.specs.Prelude.{◌≡◌, ℕ, ◌+◌, ◌<◌, ◌≤◌, [], ◌∷◌, ◌++◌, vec_len, vec_capacity, OnOk};
+ghost use Rattle.std.specs.Prelude.{◌≡◌, ◌+◌, ◌<◌, ◌≤◌, [], ◌∷◌, ◌++◌, vec_len, vec_capacity};
 
 use crate::direction::Direction;
 use crate::frame::Frame;
-use m2_bytes::NoMemory;
+use crate::taken::Taken;
 use m2_message::Message;
 use m2_queues::{InNumbers, Judge};
 
-/// Takes a message that came in: the next one is accepted and dispatched, and one that was accepted
+/// Takes a message that came in: the next one is accepted and handed on, and one that was accepted
 /// before is dropped.
-fn accept(numbers: &mut InNumbers, log: &mut Vec<Message>, number: u64, message: Message)
+fn accept(numbers: &mut InNumbers, taken: &mut Vec<Taken>, number: u64, message: Message)
     requires gapless { number ≤ numbers.old.last + 1 }
-    requires room { vec_len log.old < vec_capacity log.old }
+    requires room { vec_len taken.old < vec_capacity taken.old }
     ensures next { number ≡ numbers.old.last + 1 →
-        (numbers.new.last ≡ number) × (log.new.items ≡ log.old.items ++ message ∷ []) × (vec_len log.new ≡ vec_len log.old + 1) }
-    ensures again { number ≤ numbers.old.last → (numbers.new ≡ numbers.old) × (log.new ≡ log.old) }
-    ensures capacity { vec_capacity log.new ≡ vec_capacity log.old }
+        (numbers.new.last ≡ number) × (taken.new.items ≡ taken.old.items ++ record { number = number; message = message } ∷ [])
+        × (vec_len taken.new ≡ vec_len taken.old + 1) }
+    ensures again { number ≤ numbers.old.last → (numbers.new ≡ numbers.old) × (taken.new ≡ taken.old) }
+    ensures capacity { vec_capacity taken.new ≡ vec_capacity taken.old }
 {
     match numbers.judge(number) {
         Judge::New => {
             numbers.last = number;
-            log.push_reserved(message);
+            taken.push_reserved(Taken { number, message });
         }
         Judge::Old => {}
         Judge::Gap => unreachable!(),
@@ -29,29 +30,25 @@ fn accept(numbers: &mut InNumbers, log: &mut Vec<Message>, number: u64, message:
 }
 
 impl Direction {
-    ghost use Rattle.std.specs.Prelude.{◌≡◌, ℕ, ◌+◌, ◌<◌, ◌≤◌, vec_len, vec_capacity, OnOk};
-    ghost use Rattle.m2_link.specs.Direction.{direction_of, IsDirection, Stays};
+    ghost use Rattle.std.specs.Prelude.{◌≡◌, ℕ, ◌+◌, ◌<◌, ◌≤◌, ◌++◌, map, vec_len, vec_capacity};
+    ghost use Rattle.m2_link.specs.Model.{accepts, arriving};
+    ghost use Rattle.m2_link.specs.Taken.{content_taken, number_taken, arriving_numbers};
+    ghost use Rattle.m2_link.specs.Direction.{direction_of, IsDirection};
     ghost use Rattle.m2_link.specs.Frame.{AcknowledgeAtMost};
 
-    /// Makes room for the dispatch of all that has flowed.
-    pub(crate) fn make_room(&mut self) -> Result<(), NoMemory>
-        requires { IsDirection self.old }
-        ensures stays { Stays self.old self.new }
-        ensures room { OnOk result (vec_len self.new.log + self.new.flowed ≤ vec_capacity self.new.log) }
-    {
-        self.log.reserve(self.flowed)?;
-        Ok(())
-    }
-
     /// Reads the frame that flowed first: its message is taken, and the number that it acknowledges
-    /// is the result.
-    pub(crate) fn read_one(&mut self) -> u64
+    /// is the result. What comes of reading all that has flowed stays the same.
+    pub(crate) fn read_one(&mut self, taken: &mut Vec<Taken>) -> u64
         requires holds { IsDirection self.old }
         requires flowed { 0 < self.old.flowed }
-        requires room { vec_len self.old.log + self.old.flowed ≤ vec_capacity self.old.log }
+        requires room { vec_len taken.old + self.old.flowed ≤ vec_capacity taken.old }
         ensures holds { IsDirection self.new }
-        ensures view { direction_of self.new ≡ record (direction_of self.old) { accepted = self.new.numbers.last } }
-        ensures room { vec_len self.new.log + self.new.flowed ≤ vec_capacity self.new.log }
+        ensures view { accepts (direction_of self.new) ≡ accepts (direction_of self.old) }
+        ensures taken { map content_taken taken.new.items ++ arriving (direction_of self.new)
+            ≡ map content_taken taken.old.items ++ arriving (direction_of self.old) }
+        ensures numbers { map number_taken taken.new.items ++ arriving_numbers (direction_of self.new)
+            ≡ map number_taken taken.old.items ++ arriving_numbers (direction_of self.old) }
+        ensures room { vec_len taken.new + self.new.flowed ≤ vec_capacity taken.new }
         ensures acks { (n : ℕ) → AcknowledgeAtMost n self.old.wire.items → (result ≤ n) × AcknowledgeAtMost n self.new.wire.items }
         ensures fewer { self.new.flowed + 1 ≡ self.old.flowed }
         ensures grows { self.old.numbers.last ≤ self.new.numbers.last }
@@ -66,7 +63,7 @@ impl Direction {
                 ack,
                 message,
             } => {
-                accept(&mut self.numbers, &mut self.log, number, message);
+                accept(&mut self.numbers, taken, number, message);
                 ack
             }
             Frame::Ack { number } => number,

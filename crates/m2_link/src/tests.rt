@@ -1,92 +1,100 @@
 //! A pair of nodes, step by step.
 
-ghost use Rattle.std.specs.Prelude.{◌≡◌, IfOk, All};
-ghost use Rattle.m2_link.specs.Steps.{IsPlain};
-
 use super::*;
-use m2_bytes::{Blob, Items};
+use m2_bytes::{Blob, NoMemory};
 use m2_message::{Header, Message};
-use m2_pair::{Side, Step, StepList};
-use std::alloc::{AllocError, Global};
+use std::alloc::Global;
 use std::test::Fail;
 
-const HEADER: Header = Header {
-    seq: 0,
-    tid: 0,
-    kind: 1,
-    priority: 127,
-    version: 0,
-    pre_padding: 0,
-    data_off: 0,
-    ack_seq: 0,
-    flags: 0,
-    compat: 0,
-    reserved: 0,
-};
-
-fn message(alloc: Global, text: &[u8]) -> Result<Message, AllocError>
-    ensures { IfOk result (λ m. m.header.priority ≡ 127) }
-{
+fn message(alloc: Global, priority: u16, letter: u8) -> Result<Message, NoMemory> {
+    let header = Header {
+        seq: 0,
+        tid: 0,
+        kind: 1,
+        priority,
+        version: 0,
+        pre_padding: 0,
+        data_off: 0,
+        ack_seq: 0,
+        flags: 0,
+        compat: 0,
+        reserved: 0,
+    };
     Ok(Message {
-        header: HEADER,
-        front: Blob::from_vec(Vec::from_slice(alloc, text)?),
+        header,
+        front: Blob::of(alloc, &[letter])?,
         middle: Blob::empty(alloc),
         tail: Blob::empty(alloc),
     })
 }
 
-fn fronts_are(messages: &[Message], first: &[u8], second: &[u8]) -> bool {
-    messages.len() == 2
-        && messages[0].front.as_slice() == first
-        && messages[1].front.as_slice() == second
-}
-
-#[test]
-fn a_fault_between_two_posts_loses_and_doubles_nothing(rt: HostRuntime) -> Result<(), Fail> {
-    let mut link = Link::new(rt.alloc());
-    assert!(rt; link.post(Side::First, message(rt.alloc(), b"a")?).is_ok());
-    link.turn(Side::First)?;
-    link.flow();
-    link.turn(Side::Second)?;
-    assert_eq!(rt; link.left(), 0);
-    link.fault();
-    assert!(rt; link.post(Side::First, message(rt.alloc(), b"b")?).is_ok());
-    link.turn(Side::First)?;
-    link.fault();
-    assert_eq!(rt; link.left(), 1);
-    assert_eq!(rt; link.queue(Side::First).base(), 1);
-    // The message flows in the second round, and its acknowledgement in the third.
-    link.settle(3)?;
-    assert_eq!(rt; link.left(), 0);
-    assert_eq!(rt; link.queue(Side::First).base(), 2);
-    assert!(rt; fronts_are(link.dispatched(Side::Second), b"a", b"b"));
-    assert!(rt; link.dispatched(Side::First).is_empty());
+/// Posts a message for each priority and letter.
+fn posts(link: &mut Link, alloc: Global, from: Side, what: &[(u16, u8)]) -> Result<(), NoMemory> {
+    for (priority, letter) in what {
+        let message = message(alloc, *priority, *letter)?;
+        link.post(from, message).map_err(|_| NoMemory)?;
+    }
     Ok(())
 }
 
-fn steps(alloc: Global) -> Result<StepList, Fail>
-    ensures { IfOk result (λ list. All IsPlain list) }
-{
-    let list = vec![in alloc;
-        Step::Post {
-            from: Side::Second,
-            message: message(alloc, b"a")?
-        },
-        Step::Turn { node: Side::Second },
-        Step::Fault,
-        Step::Post {
-            from: Side::Second,
-            message: message(alloc, b"b")?
-        },
-        Step::Settle { rounds: 2 },
-    ]?;
-    Ok(Items::from_vec(list))
+/// One side takes a turn, what it wrote flows, and the other takes a turn: what they took.
+fn carries(link: &mut Link, alloc: Global, from: Side, to: Side) -> Result<Vec<Taken>, NoMemory> {
+    let mut taken = Vec::new(alloc);
+    link.turn(from, &mut taken)?;
+    link.flow();
+    link.turn(to, &mut taken)?;
+    Ok(taken)
+}
+
+/// The letters that were taken, and the number of the last.
+fn told(alloc: Global, taken: &[Taken]) -> Result<(Vec<u8>, u64), NoMemory> {
+    let mut letters = Vec::new(alloc);
+    let mut last = 0;
+    for item in taken {
+        letters.extend_from_slice(item.message.front.as_slice())?;
+        last = item.number;
+    }
+    Ok((letters, last))
 }
 
 #[test]
-fn steps_are_run_in_order(rt: HostRuntime) -> Result<(), Fail> {
-    let link = Link::run(rt.alloc(), steps(rt.alloc())?)?;
-    assert_eq!(rt; link.left(), 0);
-    assert!(rt; fronts_are(link.dispatched(Side::First), b"a", b"b"));
+fn a_greater_priority_goes_first(rt: HostRuntime) -> Result<(), Fail> {
+    let mut link = Link::new(rt.alloc());
+    let what = [(63, b'a'), (127, b'b'), (196, b'c'), (127, b'd')];
+    posts(&mut link, rt.alloc(), Side::First, &what)?;
+    let taken = carries(&mut link, rt.alloc(), Side::First, Side::Second)?;
+    let (letters, last) = told(rt.alloc(), &taken)?;
+    assert_eq!(rt; letters.as_slice(), b"cbda".as_slice());
+    assert_eq!(rt; (last, link.left()), (4, 0));
+    Ok(())
+}
+
+#[test]
+fn a_fault_resends_what_was_not_read_in_its_old_place(rt: HostRuntime) -> Result<(), Fail> {
+    let mut link = Link::new(rt.alloc());
+    posts(&mut link, rt.alloc(), Side::First, &[(127, b'a')])?;
+    let mut taken = carries(&mut link, rt.alloc(), Side::First, Side::Second)?;
+    posts(&mut link, rt.alloc(), Side::First, &[(127, b'b')])?;
+    link.turn(Side::First, &mut taken)?;
+    link.fault();
+    posts(&mut link, rt.alloc(), Side::First, &[(196, b'c')])?;
+    assert_eq!(rt; (taken.len(), link.left()), (1, 2));
+    let resent = carries(&mut link, rt.alloc(), Side::First, Side::Second)?;
+    let (letters, last) = told(rt.alloc(), &resent)?;
+    assert_eq!(rt; letters.as_slice(), b"bc".as_slice());
+    assert_eq!(rt; last, 3);
+    Ok(())
+}
+
+#[test]
+fn what_was_read_is_acknowledged_with_the_readers_next_frame(rt: HostRuntime) -> Result<(), Fail> {
+    let mut link = Link::new(rt.alloc());
+    posts(&mut link, rt.alloc(), Side::Second, &[(127, b'a')])?;
+    let mut taken = carries(&mut link, rt.alloc(), Side::Second, Side::First)?;
+    let before = link.queue(Side::Second).base();
+    link.flow();
+    link.turn(Side::Second, &mut taken)?;
+    assert_eq!(rt; (before, link.queue(Side::Second).base()), (0, 1));
+    assert_eq!(rt; taken.len(), 1);
     Ok(())
 }

@@ -7,16 +7,17 @@ use m2_bytes::NoMemory;
 impl Direction {
     ghost use Rattle.std.specs.Prelude.{◌≡◌, ℕ, ◌+◌, ◌<◌, ◌≤◌, [], length, OnOk, IfOk, MatchBool};
     ghost use Rattle.std.specs.VecDeque.{deque_len, deque_capacity};
-    ghost use Rattle.m2_pair.specs.Model.{writes};
-    ghost use Rattle.m2_link.specs.Direction.{direction_of, IsDirection, Stays};
+    ghost use Rattle.m2_link.specs.Model.{writes};
+    ghost use Rattle.m2_link.specs.Direction.{direction_of, IsDirection, Prepares};
     ghost use Rattle.m2_link.specs.Frame.{AcknowledgeAtMost};
     ghost use Rattle.m2_link.specs.Sender.{unsent};
 
     /// Copies the message at the cursor into a frame, which gets its acknowledgement when it is
-    /// written. False where nothing is left to copy.
+    /// written. At the end of what has a place, the first that waits gets its place before. False
+    /// where nothing is left to copy.
     fn copy_one(&mut self) -> Result<bool, NoMemory>
         requires { IsDirection self.old }
-        ensures stays { Stays self.old self.new }
+        ensures prepares { Prepares self.old self.new }
         ensures fewer { IfOk result (λ more. MatchBool more
             (length (unsent self.new.out) + 1 ≡ length (unsent self.old.out)) (unsent self.new.out ≡ [])) }
     {
@@ -36,11 +37,11 @@ impl Direction {
         Ok(true)
     }
 
-    /// Makes the copies of all that is to be sent, and room on the wire for them and for one frame
-    /// more.
+    /// Gives all that waits its place, and makes the copies of all that is to be sent, and room on the
+    /// wire for them and for one frame more.
     pub(crate) fn prepare(&mut self) -> Result<(), NoMemory>
         requires { IsDirection self.old }
-        ensures stays { Stays self.old self.new }
+        ensures prepares { Prepares self.old self.new }
         ensures copied { OnOk result (unsent self.new.out ≡ []) }
         ensures room { OnOk result (deque_len self.new.wire + deque_len self.new.ready < deque_capacity self.new.wire) }
     {

@@ -1,6 +1,5 @@
 use Rattle.std.proofs.Common.{◌≡◌, ◌∙◌, sym, ap, map, Some, string_bytes}
 use Rattle.m2_cli.specs.Words.{form_in, form_of, sim_of}
-use Rattle.m2_cli.proofs.Fronts.{keeps_order}
 use Rattle.m2_cli.proofs.top.msgr2.Goals as goal
 
 pub returns-in-Some-Sim-clause-order : goal.returns-in-Some-Sim-clause-order
@@ -8,4 +7,4 @@ returns-in-Some-Sim-clause-order g c =
     let form : form_in (map string_bytes c.args.args.now) ≡ Some (sim_of c.in-Some-Sim.file.now) =
     sym c.in-Some-Sim.ensures ∙ ap (λ command. Some (form_of command)) c.in-Some-Sim.field-0-is
     in
-    rw form (keeps_order c.dispatched_is_a_front_of_the_posts.ensures c.nothing_left_is_all_dispatched.ensures _ _ _ _ _ _ _ _ c.sim.ensures.runs)
+    rw form c.sim.ensures.order

@@ -1,5 +1,8 @@
--- What was read was accepted, and the sender of the other direction was handed its acknowledgements.
-use Rattle.std.proofs.Common.{◌≡◌, ◌+◌, ◌≤◌, vec_len, vec_capacity}
+-- What comes of reading all that has flowed stays the same, and the sender of the other direction was
+-- handed its acknowledgements.
+use Rattle.std.proofs.Common.{◌≡◌, ◌+◌, ◌≤◌, ◌++◌, map, vec_len, vec_capacity}
+use Rattle.m2_link.specs.Model.{accepts, arriving}
+use Rattle.m2_link.specs.Taken.{content_taken, number_taken, arriving_numbers}
 use Rattle.m2_link.specs.Direction.{direction_of, ArePaired}
 use Rattle.m2_link.specs.Sender.{unsent}
 use Rattle.m2_link.proofs.turn.read.Given as goal
@@ -7,8 +10,11 @@ use Rattle.m2_link.proofs.turn.read.Given as goal
 abbrev pub invariant-loop-inward : goal.invariant-loop-inward
 invariant-loop-inward l = record {
   paired : ArePaired l.inward l.outward;
-  room : vec_len l.inward.log + l.inward.flowed ≤ vec_capacity l.inward.log;
-  view : direction_of l.inward ≡ record (direction_of l.initial.inward) { accepted = l.inward.numbers.last };
+  room : vec_len l.taken + l.inward.flowed ≤ vec_capacity l.taken;
+  view : accepts (direction_of l.inward) ≡ accepts (direction_of l.initial.inward);
+  taken : map content_taken l.taken.items ++ arriving (direction_of l.inward) ≡ map content_taken l.initial.taken.items ++ arriving (direction_of l.initial.inward);
+  numbers : map number_taken l.taken.items ++ arriving_numbers (direction_of l.inward)
+      ≡ map number_taken l.initial.taken.items ++ arriving_numbers (direction_of l.initial.inward);
   stays : direction_of l.outward ≡ direction_of l.initial.outward;
   unsent : unsent l.outward.out ≡ unsent l.initial.outward.out;
   only : l.outward ≡ record l.initial.outward { out = l.outward.out };

@@ -1,6 +1,6 @@
 use Rattle.std.proofs.Common.{ap, ◌∙◌}
 use Rattle.m2_link.specs.Direction.{direction_of}
-use Rattle.m2_pair.specs.Model.{Direction}
+use Rattle.m2_link.specs.Model.{Direction}
 use Rattle.m2_link.proofs.direction.Direction.write_ready.Goals as goal
 
 pub loop-preserved : goal.loop-preserved

@@ -1,0 +1,8 @@
+//! Which of two nodes.
+
+/// One of the two nodes of a link.
+#[derive(Clone, Copy, Debug, PartialEq, Eq)]
+pub enum Side {
+    First,
+    Second,
+}

@@ -1,9 +1,0 @@
-pub mod Reached
-pub mod Posted
-pub mod Bare
-pub mod Splits
-pub mod Numbers
-pub mod Lines
-pub mod Appended
-pub mod Forms
-pub mod Limits

@@ -1,9 +1,0 @@
-pub mod Model
-pub mod Posts
-pub mod Report
-pub mod Words
-pub mod Nodes
-pub mod Steps
-pub mod Scenario
-pub mod Fault
-pub mod Forms

@@ -1,0 +1,47 @@
+-- What a node's dispatcher was called with and is to be called with.
+use Rattle.std.specs.Prelude.{ℕ, List, [], ◌++◌, map, filter}
+use Rattle.m2_dispatch.specs.declared.logged.Logged.{Logged}
+use Rattle.m2_dispatch.specs.Heard.{Heard, message, reset, heard_of}
+use Rattle.m2_dispatch.specs.ByRank.{by_rank}
+use Rattle.m2_link.specs.Taken.{content_taken}
+use Rattle.m2_link.specs.declared.taken.Taken as link
+use Rattle.m2_sim.specs.Model.{Taken, from_peer, is_fast, is_queued, hears}
+
+pub record Dispatcher : Type 0 where
+  -- the kinds that it is called with at once
+  pub fast : List ℕ
+  pub heard : List Heard
+  -- what waits for the end of the turn
+  pub queued : List Heard
+
+abbrev pub idle : List ℕ → Dispatcher
+idle fast = record { fast = fast; heard = []; queued = [] }
+
+-- a message that was taken from the link of a peer, and all of them
+abbrev pub from : ℕ → link.Taken → Taken
+from peer t = from_peer peer (content_taken t)
+
+abbrev pub all_from : ℕ → List link.Taken → List Taken
+all_from peer ts = map (from_peer peer) (map content_taken ts)
+
+-- the fast messages of what was taken, and the others, each in order
+abbrev pub heard_fast : List ℕ → List Taken → List Heard
+heard_fast fast ts = map (hears fast) (filter (is_fast fast) ts)
+
+abbrev pub heard_queued : List ℕ → List Taken → List Heard
+heard_queued fast ts = map (hears fast) (filter (is_queued fast) ts)
+
+-- It hears what was taken: the fast messages at once, and the others wait.
+abbrev pub hears_taken : List Taken → Dispatcher → Dispatcher
+hears_taken ts d = record d { heard = d.heard ++ heard_fast d.fast ts; queued = d.queued ++ heard_queued d.fast ts }
+
+abbrev pub priority_heard : Heard → ℕ
+priority_heard (message peer key m) = key.priority
+priority_heard (reset peer) = 0
+
+-- What waits is heard, the greatest priority first.
+abbrev pub runs_queue : Dispatcher → Dispatcher
+runs_queue d = record d { heard = d.heard ++ by_rank priority_heard d.queued; queued = [] }
+
+abbrev pub priority_logged : Logged → ℕ
+priority_logged l = priority_heard (heard_of l)

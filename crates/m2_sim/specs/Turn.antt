@@ -1,0 +1,28 @@
+-- A node's turn at its ends, one after another.
+use Rattle.std.specs.Prelude.{ℕ, ◌<◌, List, [], ◌∷◌, ◌++◌, map, slice_set}
+use Rattle.m2_link.specs.Model as link
+use Rattle.m2_sim.specs.Model.{Joint, Taken, from_peer, peer_of}
+use Rattle.m2_sim.specs.Joint.{turned_by}
+use Rattle.m2_sim.specs.Topology.{joint_at}
+use Rattle.m2_sim.specs.declared.topology.End.{End}
+
+abbrev pub IsPlace : ℕ → End → Type 0
+IsPlace links e = e.place < links
+
+-- what is taken at an end
+abbrev pub taken_by : End → Joint → List Taken
+taken_by e j = map (from_peer (peer_of e.side j)) (link.arrivals e.side j.link)
+
+-- the links after turns at some ends, and what was taken there, in order
+pub record Visited : Type 0 where
+  pub joints : List Joint
+  pub taken : List Taken
+
+abbrev pub behind : List Taken → Visited → Visited
+behind ts v = record { joints = v.joints; taken = ts ++ v.taken }
+
+abbrev pub visited : List End → List Joint → Visited
+visited [] js = record { joints = js; taken = [] }
+visited (e ∷ es) js =
+    behind (taken_by e (joint_at js e.place))
+    (visited es (slice_set js e.place (turned_by e.side (joint_at js e.place))))

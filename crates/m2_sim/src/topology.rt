@@ -1,0 +1,118 @@
+//! Which nodes are joined by which links.
+
+ghost use Rattle.std.specs.Prelude.{◌≡◌, ◌≢◌, ℕ, ◌<◌, ◌≤◌, IfOk, OnOk, Some};
+ghost use Rattle.std.specs.Prelude.{List, [], ◌++◌, length, map, slice_get, All, AllPairs, Vec};
+ghost use Rattle.std.specs.Global.{Global};
+ghost use Rattle.m2_scenario.specs.Link.{cell};
+ghost use Rattle.m2_scenario.specs.Valid.{IsLink, JoinOthers};
+ghost use Rattle.m2_sim.specs.Model.{Joint, side_of, joint_of};
+ghost use Rattle.m2_sim.specs.Topology.{between, end_at, ends_from, ends_at, with_link, IsTopology};
+ghost use Rattle.m2_sim.specs.declared.topology.End.{End};
+
+use m2_bytes::NoMemory;
+use m2_link::Side;
+use m2_scenario::Link;
+use std::alloc::Global;
+
+/// A node's end of a link: the link's place among the links, from 0, and which of the link's two
+/// nodes it is.
+#[derive(Clone, Copy, Debug)]
+pub(crate) struct End {
+    pub(crate) place: usize,
+    pub(crate) side: Side,
+}
+
+/// Of each node the ends that it has, in the order of the links, and of each two that are joined
+/// the end of the first: a row and a column for each of 16 nodes.
+#[derive(Debug, Drop)]
+pub(crate) struct Topology {
+    pub(crate) ends: Vec<Vec<End>>,
+    pub(crate) towards: [Option<End>; 256],
+}
+
+impl Topology {
+    /// The topology of so many nodes and these links. Err comes for want of memory.
+    pub(crate) fn of(alloc: Global, nodes: usize, links: &[Link]) -> Result<Topology, NoMemory>
+        requires few { nodes ≤ 16 }
+        requires joined { All (IsLink nodes) links.now }
+        requires once { AllPairs JoinOthers links.now }
+        ensures { IfOk result (λ t. IsTopology t nodes (map joint_of links.now)) }
+    {
+        let mut topology = Topology::unlinked(alloc, nodes)?;
+        for place in 0..links.len() {
+            let link = links[place];
+            topology.add(place, link.a, link.b)?;
+        }
+        Ok(topology)
+    }
+
+    // So many nodes without a link.
+    fn unlinked(alloc: Global, nodes: usize) -> Result<Topology, NoMemory>
+        requires { nodes ≤ 16 }
+        ensures { IfOk result (λ t. IsTopology t nodes []) }
+    {
+        let mut ends = Vec::with_capacity(alloc, nodes)?;
+        for _ in 0..nodes {
+            ends.push(Vec::new(alloc))?;
+        }
+        Ok(Topology {
+            ends,
+            towards: [None; 256],
+        })
+    }
+
+    // The link of two nodes, at this place.
+    fn add(&mut self, place: usize, a: u32, b: u32) -> Result<(), NoMemory>
+        requires a { a < length self.old.ends.items }
+        requires b { b < length self.old.ends.items }
+        requires few { length self.old.ends.items ≤ 16 }
+        requires different { a ≢ b }
+        requires cells { length self.old.towards ≡ 256 }
+        ensures len { OnOk result (length self.new.ends.items ≡ length self.old.ends.items) }
+        ensures ends { OnOk result ((x : ℕ) (d : Vec End Global) → x < length self.old.ends.items →
+            ends_at self.new x d ≡ ends_at self.old x d ++ end_at place (side_of x (between a b))) }
+        ensures towards { OnOk result (self.new.towards ≡ with_link place a b self.old.towards) }
+    {
+        let first = End {
+            place,
+            side: Side::First,
+        };
+        let second = End {
+            place,
+            side: Side::Second,
+        };
+        self.ends[a as usize].push(first)?;
+        self.ends[b as usize].push(second)?;
+        self.towards[cell(a, b)] = Some(first);
+        self.towards[cell(b, a)] = Some(second);
+        Ok(())
+    }
+
+    /// The ends of the node at this place.
+    pub(crate) fn of_node(&self, x: u32) -> &[End]
+        requires { x < length self.now.ends.items }
+        ensures { (n : ℕ) (js : List Joint) → IsTopology self.now n js → x < n → result.now ≡ ends_from 0 x js }
+    {
+        self.ends[x as usize].as_slice()
+    }
+
+    /// The end of the node at x at its link to the one at y; none where no link joins them.
+    pub(crate) fn between(&self, x: u32, y: u32) -> Option<End>
+        requires x { x < 16 }
+        requires y { y < 16 }
+        requires cells { length self.now.towards ≡ 256 }
+        ensures { slice_get self.now.towards (cell x y) ≡ Some result }
+    {
+        self.towards[cell(x, y)]
+    }
+}
+
+// The cell of a row and a column.
+fn cell(a: u32, b: u32) -> usize
+    requires first { a < 16 }
+    requires second { b < 16 }
+    ensures value { result ≡ cell a b }
+    ensures within { result < 256 }
+{
+    (a * 16 + b) as usize
+}
