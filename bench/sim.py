@@ -1,9 +1,13 @@
-"""Times `msgr2 sim`: the rate at growing numbers of posts, the peak of memory, and a reference in the same run."""
+"""Times `msgr2 sim`: the rate at growing numbers of posts, the peak of memory, and a reference in the same run; then
+the rate at growing numbers of nodes, with the same posts and turns."""
 import os, sys, tempfile, time
 
 SIZES = [2500, 5000, 10000, 20000]
 FAULTS = 64
 RUNS = 7
+NODES = [2, 4, 8, 16]
+POSTS = 16000
+TURNS = 16000
 
 
 def scenario(posts):
@@ -15,6 +19,24 @@ def scenario(posts):
         if i % every == every // 2:
             lines += ["turn a", "fault a b", "turn b"]
     lines += ["settle 16", ""]
+    return "\n".join(lines)
+
+
+def mesh(nodes):
+    """POSTS posts and TURNS turns of so many nodes, each linked with each, in rounds spread among the posts."""
+    lines = [f"node n{i} osd 127.0.0.1:{7000 + i}/{i} fast 1" for i in range(nodes)]
+    lines += [f"link n{i} n{j} lossless_peer lossless_peer" for i in range(nodes) for j in range(i + 1, nodes)]
+    pairs = [(i, j) for i in range(nodes) for j in range(nodes) if i != j]
+    rounds = TURNS // nodes
+    every = POSTS // (rounds - 2)
+    for i in range(POSTS):
+        a, b = pairs[i % len(pairs)]
+        priority = (64, 127, 196, 255)[i % 4]
+        lines.append(f"post n{a} n{b} {1 + i // 4 % 2} {priority} {i:064x} - -")
+        if i % every == every - 1 and rounds > 2:
+            lines.append("settle 1")
+            rounds -= 1
+    lines += [f"settle {rounds}", ""]
     return "\n".join(lines)
 
 
@@ -51,10 +73,21 @@ def main():
             seconds, megabytes = best([program, "sim", name])
             rates[posts] = posts / seconds
             print(f"{posts:5d}  {seconds:7.4f}  {rates[posts]:7.0f}  {megabytes:10.1f}")
+        print("nodes  seconds  posts/s  links visited")
+        times = {}
+        for nodes in NODES:
+            other = os.path.join(folder, f"mesh{nodes}.scenario")
+            with open(other, "w") as file:
+                file.write(mesh(nodes))
+            times[nodes], _ = best([program, "sim", other])
+            print(f"{nodes:5d}  {times[nodes]:7.4f}  {POSTS / times[nodes]:7.0f}  {TURNS * (nodes - 1):13d}")
         reference, _ = best([sys.executable, os.path.join(here, "split_words.py"), name])
     print(f"rate at {SIZES[-1]} over rate at {SIZES[0]}: {rates[SIZES[-1]] / rates[SIZES[0]]:.2f} (wanted: 0.8 or more)")
     print(f"time at {SIZES[-1]} over splitting alone in Python: {seconds / reference:.2f} (wanted: 2 or less)")
     print(f"megabytes at {SIZES[-1]}: {megabytes:.1f} (wanted: less than 200)")
+    for nodes in NODES[1:]:
+        more = (times[nodes] - times[2]) / (TURNS * (nodes - 2))
+        print(f"time at {nodes} nodes over 2: {times[nodes] / times[2]:.2f} (wanted: {nodes - 1} or less); {more * 1e9:.0f} ns a link visited more")
 
 
 main()
