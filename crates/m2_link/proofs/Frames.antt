@@ -1,5 +1,5 @@
 -- Frames at the two ends of a wire.
-use Rattle.std.proofs.Common.{◌≡◌, ℕ, suc, ◌+◌, ◌≤◌, List, [], ◌∷◌, ◌++◌, length, refl, ap, arith, add-zero}
+use Rattle.std.proofs.Common.{◌≡◌, ℕ, zero, suc, take, ◌+◌, ◌≤◌, List, [], ◌∷◌, ◌++◌, length, refl, ap, arith, add-zero}
 use Rattle.m2_message.specs.Message.{content_of}
 use Rattle.m2_link.specs.Frame.{carried, ack_of, AreNumberedPast, AcknowledgeAtMost}
 use Rattle.m2_link.specs.declared.frame.Frame.{Frame}
@@ -9,6 +9,12 @@ pub carried-append : (fs gs : List Frame) → carried (fs ++ gs) ≡ carried fs 
 carried-append [] gs = refl
 carried-append (Message number ack m ∷ fs) gs = ap (λ l. content_of m ∷ l) (carried-append fs gs)
 carried-append (Ack number ∷ fs) gs = carried-append fs gs
+
+pub carried-take : (n : ℕ) (fs : List Frame) → length (carried (take n fs)) ≤ length (carried fs)
+carried-take zero fs = omega arith
+carried-take (suc n) [] = omega arith
+carried-take (suc n) (Message number ack m ∷ fs) = omega (arith, carried-take n fs)
+carried-take (suc n) (Ack number ∷ fs) = carried-take n fs
 
 pub numbered-append : (last : ℕ) (fs gs : List Frame) → AreNumberedPast last fs → AreNumberedPast (last + length (carried fs)) gs → AreNumberedPast last (fs ++ gs)
 numbered-append last [] gs h k = rw add-zero at k

@@ -16,9 +16,9 @@ use Rattle.m2_link.specs.declared.frame.Frame.TheVariants as frame
 use Rattle.m2_link.specs.declared.taken.Taken.{Taken}
 use Rattle.m2_link.specs.Frame.{carried, AreNumberedPast}
 use Rattle.m2_link.specs.Sender.{due, unsent, Sends}
-use Rattle.m2_link.specs.Direction.{under_way, direction_of, IsDirection, Prepares}
+use Rattle.m2_link.specs.Direction.{under_way, direction_of, IsDirection, ArePaired, Prepares}
 use Rattle.m2_link.proofs.Senders.{waiting-post, length-behind, sends-post, sends-next, next-places, unsent-next, next-is_at_cursor, sends-sent, due-sent, waiting-sent, sends-accept}
-use Rattle.m2_link.proofs.Frames.{carried-append, numbered-append}
+use Rattle.m2_link.proofs.Frames.{carried-append, carried-take, numbered-append}
 use Rattle.m2_link.proofs.Places.{places-none, places-more, places-left}
 
 same_direction : (a a' : ℕ) (p p' : List Content) (f f' w w' : ℕ) (q q' : List Content) → a ≡ a' → p ≡ p' → f ≡ f' → w ≡ w' → q ≡ q'
@@ -237,3 +237,13 @@ module _ (d : Direction) (h : IsDirection d) (j : ℕ) (flows : d.flowed ≡ suc
         counted = omega (arith, h.counted, is, ap length placed-read);
         few = h.few;
       }
+
+-- the counts of a direction keep their order
+ordered : (d : Direction) → model.IsOrdered (direction_of d)
+ordered d = record {
+  flowed = omega (arith, carried-take d.flowed d.wire.items);
+  written = omega (arith, length-append (under_way d) (due d.out), length-append (carried d.wire.items) (carried d.ready.items));
+}
+
+pub reachable : (d e : Direction) → ArePaired d e → model.IsReachable (record { first = direction_of d; second = direction_of e })
+reachable d e p = record { first = ordered d; second = ordered e }

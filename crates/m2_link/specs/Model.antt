@@ -1,7 +1,7 @@
 -- The value model of an established link: lists of messages and counts. It knows no message numbers,
 -- acknowledgements, cursor or resending; the ends that are run have all of these. The rules are this
 -- project's own (docs/SCENARIOS.md).
-use Rattle.std.specs.Prelude.{ℕ, ◌+◌, ◌-◌, nat_lt, if◌then◌else◌, List, [], ◌∷◌, ◌++◌, length, take, drop}
+use Rattle.std.specs.Prelude.{ℕ, ◌+◌, ◌-◌, ◌≤◌, nat_lt, if◌then◌else◌, List, [], ◌∷◌, ◌++◌, length, take, drop}
 use Rattle.m2_message.specs.Message.{Content}
 use Rattle.m2_link.specs.declared.side.Side.{Side}
 use Rattle.m2_link.specs.declared.side.Side.TheVariants.{First, Second}
@@ -100,6 +100,17 @@ after_flow l = record { first = flows l.first; second = flows l.second }
 -- the socket between the two breaks, and a new one takes its place
 abbrev pub after_fault : Link → Link
 after_fault l = record { first = breaks l.first; second = breaks l.second }
+
+-- the counts of a direction keep their order: no more has flowed than was written, and no more was written than
+-- has a place
+pub record IsOrdered (d : Direction) : Type 0 where
+  pub flowed : d.flowed ≤ d.written
+  pub written : d.written ≤ length d.placed
+
+-- a state that steps can lead to
+pub record IsReachable (l : Link) : Type 0 where
+  pub first : IsOrdered l.first
+  pub second : IsOrdered l.second
 
 -- how many posts of a direction, and of both, weren't accepted
 abbrev pub left_of : Direction → ℕ

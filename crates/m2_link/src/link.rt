@@ -2,7 +2,7 @@
 
 ghost use Rattle.std.specs.Prelude.{◌≡◌, ◌+◌, ◌-◌, ◌<◌, ◌≤◌, ◌^◌, ◌++◌, map, drop, OnOk, OnErr, MatchResult};
 ghost use Rattle.m2_message.specs.Message.{content_of};
-ghost use Rattle.m2_link.specs.Model.{fresh, after_post, after_turn, after_flow, after_fault, arrivals, read_by, written_by, left};
+ghost use Rattle.m2_link.specs.Model.{fresh, after_post, after_turn, after_flow, after_fault, arrivals, read_by, written_by, left, IsReachable};
 ghost use Rattle.m2_link.specs.Steps.{GivesPlaces};
 ghost use Rattle.m2_link.specs.Taken.{content_taken, number_taken, arriving_numbers};
 
@@ -100,6 +100,7 @@ impl Link {
     /// How many posts weren't accepted, of both directions together.
     pub fn left(&self) -> u64
         ensures count { result ≡ left self.now }
+        ensures reachable { IsReachable self.now }
         ensures few { result < 2 ^ 57 }
     {
         self.first.left() + self.second.left()
