@@ -1,3 +1,4 @@
 pub mod Blob
 pub mod Fields
 pub mod Hexadecimal
+pub mod Items

@@ -14,6 +14,7 @@ mod hexadecimal;
 mod items;
 mod memory;
 mod reader;
+mod told;
 
 pub use blob::Blob;
 pub use decimal::{put_decimal, read_decimal};
@@ -22,6 +23,4 @@ pub use hexadecimal::{HexFault, hex_is_read_again, put_hex, read_hex};
 pub use items::Items;
 pub use memory::{NoMemory, Short};
 pub use reader::Reader;
-
-#[cfg(test)]
-mod tests;
+pub use told::Told;

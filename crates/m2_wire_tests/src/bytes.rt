@@ -1,6 +1,9 @@
 //! Values from outside: digits as words, and fields as bytes.
 
-use super::*;
+use m2_bytes::{
+    Blob, HexFault, Items, Reader, Short, put_decimal, put_hex, put_u8, put_u16, put_u32, put_u64,
+    read_decimal, read_hex,
+};
 use std::test::Fail;
 
 #[test]
@@ -70,7 +73,12 @@ fn lists_keep_their_order(rt: HostRuntime) {
     assert_eq!(rt; list.get(1), Some(&5));
     assert_eq!(rt; list.pop(), Some(5));
     assert_eq!(rt; list.len(), 1);
-    let back = Items::from_vec(list.into_vec());
-    assert!(rt; !back.is_empty());
+    let mut back = Items::from_vec(list.into_vec());
+    assert!(rt; back.reserve(2).is_ok());
+    back.push_reserved(6);
+    assert_eq!(rt; back.as_slice(), [4, 6].as_slice());
+    let none: Items<u32> = Items::empty(rt.alloc());
+    assert!(rt; none.is_empty());
+    none.destroy_empty();
     assert_eq!(rt; Blob::from_vec(Vec::new(rt.alloc())).len(), 0);
 }
