@@ -40,18 +40,18 @@ owed-fed s piece h = ap (λ n. cond s.granted None n) (size_of-settled s.rest pi
 bad_isnt_start : (f : FrameFault) → bad f ≡ start → ⊥
 bad_isnt_start f e = cc
 
-Remembers-fed : (stage : Stage) (s : Position) (piece : List ℕ) → Remembers stage s → Remembers stage (fed s piece)
-Remembers-fed Fresh s piece h = tt
-Remembers-fed (Sized p) s piece h = begins_fed s.rest piece p h
-Remembers-fed (Sealed p) s piece h = (sealed_fed s.rest piece p h.0, owed-fed s piece (omega (arith, h.0.there)) ∙ h.1)
-Remembers-fed (Faulty f) s piece h =
+Remembers-fed : (stage : Stage) (s : Position) (piece : List ℕ) (room : ℕ) → Remembers stage s → Remembers stage (record (fed s piece) { room = room })
+Remembers-fed Fresh s piece room h = tt
+Remembers-fed (Sized p) s piece room h = begins_fed s.rest piece p h
+Remembers-fed (Sealed p) s piece room h = (sealed_fed s.rest piece p h.0, owed-fed s piece (omega (arith, h.0.there)) ∙ h.1)
+Remembers-fed (Faulty f) s piece room h =
     elim (judge-settled s.rest piece) [
       | inl e ↦ absurd (bad_isnt_start f (sym h.1 ∙ e))
       | inr w ↦ (owed-fed s piece w.0 ∙ h.0, w.1 ∙ h.1)
     ]
 
-pub Holds-fed : (stage : Stage) (s : Position) (piece : List ℕ) → Holds stage s → s.place + length (s.rest ++ piece) < 2 ^ 64 → Holds stage (fed s piece)
-Holds-fed stage s piece h counted = record { remembered = Remembers-fed stage s piece h.remembered; counted = counted }
+pub Holds-fed : (stage : Stage) (s : Position) (piece : List ℕ) (room : ℕ) → Holds stage s → s.place + length (s.rest ++ piece) < 2 ^ 64 → Holds stage (record (fed s piece) { room = room })
+Holds-fed stage s piece room h counted = record { remembered = Remembers-fed stage s piece room h.remembered; counted = counted }
 
 cond_none : (b : Bool) (n : Option ℕ) → n ≡ None → cond b None n ≡ None
 cond_none true n e = refl

@@ -1,6 +1,6 @@
 //! A decoder of frames from a stream that comes in any pieces.
 
-ghost use Rattle.std.specs.Prelude.{◌≡◌, ◌+◌, ◌≤◌, [], true, false, length, take, drop, IsSome, MatchResult, Ok, None};
+ghost use Rattle.std.specs.Prelude.{◌≡◌, ◌+◌, ◌^◌, ◌<◌, ◌≤◌, [], true, false, length, take, drop, IsSome, IsOk, OnOk, OnErr, Ok, None};
 ghost use Rattle.m2_frame.specs.Reading.{owed_by};
 
 use crate::epilogue::Late;
@@ -16,7 +16,8 @@ use std::alloc::Global;
 use std::marker::Model;
 
 /// Reads frames from a stream that comes in any pieces. Contracts see how many bytes were answered as
-/// frames, the bytes since, and whether the size that the frame at their front asked for is granted.
+/// frames, the bytes since, whether the size that the frame at their front asked for is granted, and
+/// the room: how many more bytes fit before memory is taken.
 ///
 /// Feed it the pieces in order with [`feed`](Decoder::feed), and ask with [`next`](Decoder::next)
 /// until it answers [`Got::NotYet`]. Its answers are those of the stream, however it was cut: the
@@ -41,20 +42,20 @@ impl Model for Decoder {
 
     ghost use Rattle.m2_frame.specs.Decoder.{Holds};
 
-    ghost view = { λ d. record { place = d.place; rest = d.buffer.items; granted = d.granted } };
+    ghost view = { λ d. record { place = d.place; rest = d.buffer.items; granted = d.granted; room = d.buffer.spare } };
 
-    ghost invariant = { λ d. Holds d.stage (record { place = d.place; rest = d.buffer.items; granted = d.granted }) };
+    ghost invariant = { λ d. Holds d.stage (record { place = d.place; rest = d.buffer.items; granted = d.granted; room = d.buffer.spare }) };
 }
 
 impl Decoder {
     ghost use Rattle.m2_frame.specs.Position.{Position};
-    ghost use Rattle.m2_frame.specs.Decoder.{Answers, fed, owed, passed};
+    ghost use Rattle.m2_frame.specs.Decoder.{Answers, IsSameButRoom, fed, owed, passed};
     ghost use Rattle.m2_frame.specs.Reading.{bad, judge, front_of, text_len};
     ghost use Rattle.m2_frame.specs.Judging.{BeginsWith, IsSealed, first_part, later_part};
 
     /// A decoder at the start of a stream. Takes no memory.
     pub fn new(alloc: Global) -> Decoder
-        ensures { result ≡ record { place = 0; rest = []; granted = false } }
+        ensures { result ≡ record { place = 0; rest = []; granted = false; room = 0 } }
     {
         Decoder {
             buffer: BytesMut::new(alloc),
@@ -64,13 +65,27 @@ impl Decoder {
         }
     }
 
+    /// Makes room for `more` bytes, so that feeding them can't fail for want of memory.
+    pub fn reserve(&mut self, more: usize) -> Result<(), NoMemory>
+        ensures same { IsSameButRoom self.old self.new }
+        ensures room { OnOk result (more ≤ self.new.room) }
+        ensures grows { self.old.room ≤ self.new.room }
+    {
+        self.buffer.reserve(more)?;
+        Ok(())
+    }
+
     /// Takes the next piece of the stream. A stream that would pass 2^64 bytes is answered as want of
     /// memory.
     pub fn feed(&mut self, piece: &[u8]) -> Result<(), NoMemory>
-        ensures { MatchResult result (λ _. self.new ≡ fed self.old piece.now) (λ _. self.new ≡ self.old) }
+        ensures ok { OnOk result (IsSameButRoom (fed self.old piece.now) self.new) }
+        ensures err { OnErr result (IsSameButRoom self.old self.new) }
+        ensures room { self.old.room ≤ self.new.room + length piece.now }
+        ensures succeeds { length piece.now ≤ self.old.room
+            → self.old.place + length self.old.rest + length piece.now < 2 ^ 64 → IsOk result }
     {
-        let room = u64::MAX - self.place - self.buffer.len() as u64;
-        if piece.len() as u64 > room {
+        let left = u64::MAX - self.place - self.buffer.len() as u64;
+        if piece.len() as u64 > left {
             return Err(NoMemory);
         }
         self.buffer.extend_from_slice(piece)?;

@@ -8,8 +8,8 @@ pub invariant_of-self-2 : goal.invariant_of-self-2
 invariant_of-self-2 c =
     let d = c.self.inside in
     let piece = c.args.piece.now in
-    let s : Position = record { place = d.place; rest = d.buffer.items; granted = d.granted } in
+    let s : Position = record { place = d.place; rest = d.buffer.items; granted = d.granted; room = d.buffer.spare } in
     let held : d.place + length d.buffer.items < 2 ^ 64 = c.self.invariant.counted in
     let counted : d.place + length (d.buffer.items ++ piece) < 2 ^ 64 =
-    omega (arith, length-append d.buffer.items piece, held, c.len.ensures.value, c.if-piece-room.false) in
-    rw c.in_ok-extend_from_slice.ensures.ok (Holds-fed d.stage s piece c.self.invariant counted)
+    omega (arith, length-append d.buffer.items piece, held, c.len.ensures.value, c.if-piece-left.false) in
+    rw c.in_ok-extend_from_slice.ensures.ok (Holds-fed d.stage s piece c.extend_from_slice.new.self.spare c.self.invariant counted)
