@@ -1,7 +1,7 @@
 -- One more piece of the file listed, and the ends of a listing.
 use Rattle.std.proofs.Common.{◌≡◌, ℕ, ◌+◌, ◌-◌, ◌≤◌, List, [], ◌++◌, length, take, drop, Option, Some, None, refl, sym, ap, ◌∙◌, subst, arith, length-drop, length-take, take-add, false}
 use Rattle.std.proofs.lemmas.List.{length-append, take_all, drop-drop, nil_from_length}
-use Rattle.m2_frame.specs.Decoder.{fed}
+use Rattle.m2_frame.specs.Decoder.{IsSameButRoom, fed}
 use Rattle.m2_frame.specs.Position.{Position}
 use Rattle.m2_frame.specs.Reading.{Item, start, judge}
 use Rattle.m2_frame.specs.Stream.{Splits}
@@ -71,7 +71,7 @@ judge-nothing = refl
 
 -- ---- a piece
 
-at_fed : (bytes more : List ℕ) (old new : Position) (before mid : Option (List ℕ)) → HasFed → Listed bytes old.rest old.place before mid → new ≡ fed old more → Listed (bytes ++ more) new.rest new.place before mid
+at_fed : (bytes more : List ℕ) (old new : Position) (before mid : Option (List ℕ)) → HasFed → Listed bytes old.rest old.place before mid → IsSameButRoom (fed old more) new → Listed (bytes ++ more) new.rest new.place before mid
 at_fed bytes more old new before mid feeds l e =
     subst (λ (s : Position). Listed (bytes ++ more) s.rest s.place before mid) (sym e) (Listed-fed feeds bytes old.rest more old.place before mid l)
 
@@ -143,7 +143,7 @@ Lists-end listing.WriteFault bytes input left room s before after sofar e d = ab
 Lists-end listing.NoMemory bytes input left room s before after sofar e d = absurd d
 
 -- nothing is read yet
-pub SoFar-begins : (input left : Option (List ℕ)) (s : Position) (taken : Option (List ℕ)) → s ≡ record { place = 0; rest = []; granted = false } → left ≡ input → SoFar [] input left 1073741824 s taken taken
+pub SoFar-begins : (input left : Option (List ℕ)) (s : Position) (taken : Option (List ℕ)) → s ≡ record { place = 0; rest = []; granted = false; room = 0 } → left ≡ input → SoFar [] input left 1073741824 s taken taken
 SoFar-begins input left s taken e begun =
     let rest : s.rest ≡ [] = ap (λ (t : Position). t.rest) e in
     let place : s.place ≡ 0 = ap (λ (t : Position). t.place) e in

@@ -6,7 +6,7 @@ use Rattle.m2_edge.specs.Faults.{HasRisen}
 use Rattle.m2_frame.specs.Position.{Position}
 use Rattle.m2_frame.specs.Reading.{Item, start, bad, judge}
 use Rattle.m2_frame.specs.Stream.{Splits}
-use Rattle.m2_frame.specs.Decoder.{fed}
+use Rattle.m2_frame.specs.Decoder.{IsSameButRoom, fed}
 use Rattle.m2_listing.specs.Lines.{lines_of}
 use Rattle.m2_listing.specs.declared.listing.Listing.{Listing}
 use Rattle.m2_listing.specs.declared.listing.Listing.TheVariants as listing
@@ -113,8 +113,8 @@ GoesBeyond bytes (Some rest) = (length bytes < length rest) × (bytes ≡ take (
 -- A piece of at most `most` bytes came and was fed; or nothing is left; or more than `most` are left, of which the
 -- first were fed.
 abbrev pub Fetches : Piece → ℕ → Position → Position → Option (List ℕ) → Option (List ℕ) → Type 0
-Fetches (piece.Came n) most old new left left' = (bytes : List ℕ) × (length bytes ≡ n) × (0 < n) × (n ≤ most) × (new ≡ fed old bytes) × Follows bytes left left'
+Fetches (piece.Came n) most old new left left' = (bytes : List ℕ) × (length bytes ≡ n) × (0 < n) × (n ≤ most) × IsSameButRoom (fed old bytes) new × Follows bytes left left'
 Fetches piece.End most old new left left' = (new ≡ old) × IsEnd left
-Fetches piece.TooLong most old new left left' = (bytes : List ℕ) × (length bytes ≡ most) × (new ≡ fed old bytes) × GoesBeyond bytes left
+Fetches piece.TooLong most old new left left' = (bytes : List ℕ) × (length bytes ≡ most) × IsSameButRoom (fed old bytes) new × GoesBeyond bytes left
 Fetches piece.ReadFault most old new left left' = new ≡ old
-Fetches piece.NoMemory most old new left left' = new ≡ old
+Fetches piece.NoMemory most old new left left' = IsSameButRoom old new
