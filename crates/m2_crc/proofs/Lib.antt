@@ -1,1 +1,2 @@
 pub mod WholeBytes
+pub mod EightBytes

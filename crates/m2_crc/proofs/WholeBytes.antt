@@ -7,7 +7,7 @@ use Rattle.std.proofs.lemmas.Nat.{xor_block, xor_lt, xor_shr, xor_comm, shr_spli
 use Rattle.std.proofs.lemmas.Bool.{eqb-true, cases_lt, and_parts}
 use Rattle.std.proofs.Math.Nat.{pow-suc, mul_assoc, mod-lt}
 use Rattle.m2_crc.specs.Crc.{polynomial, shifted, shifted_by, after_byte}
-use Rattle.m2_crc.specs.declared.table.TheConstants.{TABLE}
+use Rattle.m2_crc.specs.declared.table.TheConstants.{SHIFTED_8}
 
 doubled : (n hi : ℕ) → hi * 2 ^ suc n ≡ (hi * 2 ^ n) * 2
 doubled n hi = ap (λ (x : ℕ). hi * x) (pow-suc 2 n) ∙ sym (mul_assoc hi (2 ^ n) 2)
@@ -45,11 +45,11 @@ put_in n hi lo p splits h =
     ap (λ (x : ℕ). shifted_by n (bit_xor x p)) bare ∙ ap (shifted_by n) (xor_parts n 0 lo p h) ∙ splits (p / 2 ^ n) low small in
     one ∙ xor_assoc hi (p / 2 ^ n) (shifted_by n low) ∙ ap (bit_xor hi) (sym two)
 
-odd : (state : ℕ) → state % 2 ≡ 1 → shifted state ≡ bit_xor (state / 2) polynomial
+pub odd : (state : ℕ) → state % 2 ≡ 1 → shifted state ≡ bit_xor (state / 2) polynomial
 unfolding shifted
 odd state h = rw h refl
 
-even : (state : ℕ) → state % 2 ≡ 0 → shifted state ≡ state / 2
+pub even : (state : ℕ) → state % 2 ≡ 0 → shifted state ≡ state / 2
 unfolding shifted
 even state h = rw h refl
 
@@ -71,6 +71,19 @@ shifted_by-splits (suc n) hi lo h =
           ap (shifted_by n) whole ∙ put_in n hi (lo / 2) polynomial (shifted_by-splits n) (below_half n lo h) ∙ ap (λ (x : ℕ). bit_xor hi (shifted_by n x)) (sym (odd lo e))
     ]
 
+nothing : (n : ℕ) → shifted_by n 0 ≡ 0
+unfolding shifted_by
+nothing zero = refl
+nothing (suc n) = ap (shifted_by n) (even 0 refl) ∙ nothing n
+
+-- what lies above n bits stays where nothing lies below them
+pub moved_down : (n hi : ℕ) → shifted_by n (hi * 2 ^ n) ≡ hi
+unfolding Splits
+moved_down n hi =
+    let some : 0 < 2 ^ n = pow_pos n in
+    let bare : hi * 2 ^ n ≡ hi * 2 ^ n + 0 = omega arith in
+    ap (shifted_by n) bare ∙ shifted_by-splits n hi 0 some ∙ ap (bit_xor hi) (nothing n) ∙ xor_zero_r hi
+
 pub after_byte-split : (state byte : ℕ) → byte < 256 → after_byte state byte ≡ bit_xor (shifted_by 8 (bit_and (bit_xor state byte) 255)) (state / 256)
 unfolding Splits after_byte
 after_byte-split state byte h =
@@ -87,7 +100,7 @@ table_rule : List ℕ → ℕ → Bool
 table_rule [] i = true
 table_rule (x ∷ xs) i = eqb x (shifted_by 8 i) && table_rule xs (suc i)
 
-table_holds : table_rule TABLE 0 ≡ true
+table_holds : table_rule SHIFTED_8 0 ≡ true
 unfolding table_rule shifted shifted_by
 table_holds = refl
 
@@ -97,5 +110,5 @@ table_at [] i k h lt = absurd (omega arith)
 table_at (x ∷ xs) i zero h lt = eqb-true x (shifted_by 8 i) (and_parts (eqb x (shifted_by 8 i)) (table_rule xs (suc i)) h).0 ∙ ap (shifted_by 8) (omega arith)
 table_at (x ∷ xs) i (suc k) h lt = table_at xs (suc i) k (and_parts (eqb x (shifted_by 8 i)) (table_rule xs (suc i)) h).1 (omega arith) ∙ ap (shifted_by 8) (omega arith)
 
-pub table_word : (low : ℕ) → low < 256 → get_or TABLE low 0 ≡ shifted_by 8 low
-table_word low h = table_at TABLE 0 low table_holds h ∙ ap (shifted_by 8) (omega arith)
+pub table_word : (low : ℕ) → low < 256 → get_or SHIFTED_8 low 0 ≡ shifted_by 8 low
+table_word low h = table_at SHIFTED_8 0 low table_holds h ∙ ap (shifted_by 8) (omega arith)
