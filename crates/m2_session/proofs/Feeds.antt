@@ -1,5 +1,7 @@
 -- A session has at most one feed.
-use Rattle.std.proofs.Common.{◌≡◌, ℕ, ◌+◌, Bool, true, false, ◌&&◌, ◌||◌, not, if◌then◌else◌, [], ◌∷◌, refl}
+use Rattle.std.proofs.Common.{◌≡◌, ℕ, ◌+◌, Bool, true, false, ◌&&◌, ◌||◌, not, if◌then◌else◌, ◌==◌, [], ◌∷◌, refl, ap, ◌∙◌}
+use Rattle.std.specs.List.{list_any}
+use Rattle.std.proofs.lemmas.Bool.{eqb-true}
 use Rattle.std.specs.Prelude.{IsTrue}
 use Rattle.m2_session.specs.declared.session.Phase.{Phase}
 use Rattle.m2_session.specs.declared.session.Phase.TheVariants.{Absent, Connecting, IdentSent, ReconnectSent, Ready, Standby, Wait}
@@ -7,7 +9,7 @@ use Rattle.m2_session.specs.declared.session.Session.{Session}
 use Rattle.m2_session.specs.declared.event.Event.{Event}
 use Rattle.m2_session.specs.declared.event.Event.TheVariants.{Dialled, AskedIdent, AskedReconnect, GotServerIdent, GotReconnectOk, GotReset, GotRetry, GotRetryGlobal, GotWait, TookIdent, TookReconnect, Pending, Faulted, MarkedDown}
 use Rattle.m2_session.specs.declared.event.Effects.{Effects}
-use Rattle.m2_session.specs.Phases.{is, is_among, with_feed}
+use Rattle.m2_session.specs.Phases.{is, is_among, phase_number, with_feed}
 use Rattle.m2_session.specs.Steps.{step_of, is_lawful, closes}
 use Rattle.m2_session.specs.Laws.{AtMostOneFeed, has_feed, brings_feed, count_of}
 
@@ -21,32 +23,15 @@ with_no_feed Ready h = cc
 with_no_feed Standby h = refl
 with_no_feed Wait h = refl
 
-asked : (p : Phase) → IsTrue (is_among p (Connecting ∷ [])) → is_among p with_feed ≡ true
-asked Absent h = cc
-asked Connecting h = refl
-asked IdentSent h = cc
-asked ReconnectSent h = cc
-asked Ready h = cc
-asked Standby h = cc
-asked Wait h = cc
+one_of_one : (b : Bool) → IsTrue (b || false) → b ≡ true
+one_of_one true h = refl
+one_of_one false h = cc
 
-ident_sent : (p : Phase) → IsTrue (is_among p (IdentSent ∷ [])) → is_among p with_feed ≡ true
-ident_sent Absent h = cc
-ident_sent Connecting h = cc
-ident_sent IdentSent h = refl
-ident_sent ReconnectSent h = cc
-ident_sent Ready h = cc
-ident_sent Standby h = cc
-ident_sent Wait h = cc
-
-reconnect_sent : (p : Phase) → IsTrue (is_among p (ReconnectSent ∷ [])) → is_among p with_feed ≡ true
-reconnect_sent Absent h = cc
-reconnect_sent Connecting h = cc
-reconnect_sent IdentSent h = cc
-reconnect_sent ReconnectSent h = refl
-reconnect_sent Ready h = cc
-reconnect_sent Standby h = cc
-reconnect_sent Wait h = cc
+-- lawful in one phase alone, which has a feed
+in_one : (p q : Phase) → is_among q with_feed ≡ true → IsTrue (is_among p (q ∷ [])) → is_among p with_feed ≡ true
+in_one p q feed h =
+    let same : phase_number p ≡ phase_number q = eqb-true (phase_number p) (phase_number q) (one_of_one (is p q) h) in
+    ap (λ (n : ℕ). list_any (λ (x : Phase). n == phase_number x) with_feed) same ∙ feed
 
 pending : (b : Bool) → count_of (is_among (if b then Standby else Wait) with_feed) ≡ 0
 pending true = refl
@@ -63,14 +48,14 @@ fault false false false s = refl
 counted : (s : Session) (e : Event) → IsTrue (is_lawful s e) →
     count_of (has_feed (step_of s e).session) ≡ (if (step_of s e).effects.close then 0 else count_of (has_feed s)) + count_of (brings_feed e)
 counted s Dialled h = rw (with_no_feed s.phase h) refl
-counted s (AskedIdent cookie) h = rw (asked s.phase h) refl
-counted s AskedReconnect h = rw (asked s.phase h) refl
-counted s (GotServerIdent cookie global) h = rw (ident_sent s.phase h) refl
-counted s GotReconnectOk h = rw (reconnect_sent s.phase h) refl
-counted s (GotReset true) h = rw (reconnect_sent s.phase h) refl
-counted s (GotReset false) h = rw (reconnect_sent s.phase h) refl
-counted s (GotRetry number) h = rw (reconnect_sent s.phase h) refl
-counted s (GotRetryGlobal number) h = rw (reconnect_sent s.phase h) refl
+counted s (AskedIdent cookie) h = rw (in_one s.phase Connecting refl h) refl
+counted s AskedReconnect h = rw (in_one s.phase Connecting refl h) refl
+counted s (GotServerIdent cookie global) h = rw (in_one s.phase IdentSent refl h) refl
+counted s GotReconnectOk h = rw (in_one s.phase ReconnectSent refl h) refl
+counted s (GotReset true) h = rw (in_one s.phase ReconnectSent refl h) refl
+counted s (GotReset false) h = rw (in_one s.phase ReconnectSent refl h) refl
+counted s (GotRetry number) h = rw (in_one s.phase ReconnectSent refl h) refl
+counted s (GotRetryGlobal number) h = rw (in_one s.phase ReconnectSent refl h) refl
 counted s GotWait h = refl
 counted s (TookIdent full client server global) h = refl
 counted s (TookReconnect global connect) h = refl
