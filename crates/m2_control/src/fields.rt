@@ -19,12 +19,14 @@ use std::alloc::Global;
 /// A list of numbers. Contracts see the numbers.
 pub type NumList = Items<u32>;
 
-/// The greatest number that is read: of messages, connects and global numbers.
-const MOST: u64 = 1 << 40;
+/// The greatest number that is read: of messages, connects and global numbers; 2^40.
+pub const GREATEST_NUMBER: u64 = 1 << 40;
 
-const MOST_NUMBERS: u32 = 64;
+/// How many numbers a list has at most.
+pub const MOST_LISTED: u32 = 64;
 
-const MOST_BYTES: u32 = 4096;
+/// How many bytes a byte string has at most.
+pub const MOST_BYTES: u32 = 4096;
 
 /// A number of at most 2^40, else the field has a bad value.
 #[tactic(auto, unfolding(crate::specs::Fields::bounded_at))]
@@ -32,7 +34,7 @@ pub fn bounded(r: &mut Reader<'_>, field: u8) -> Result<u64, ControlFault>
     ensures { GivesRest (λ n. n) result r.new (bounded_at field r.old) }
 {
     let number = r.u64()?;
-    if number > MOST {
+    if number > GREATEST_NUMBER {
         return Err(ControlFault::BadValue { field });
     }
     Ok(number)
@@ -85,7 +87,7 @@ pub fn numbers(alloc: Global, r: &mut Reader<'_>, field: u8) -> Result<NumList, 
     ensures { GivesRest (λ ns. ns) result r.new (list_at field r.old) }
 {
     let count = r.u32()?;
-    if count > MOST_NUMBERS {
+    if count > MOST_LISTED {
         return Err(ControlFault::BadValue { field });
     }
     Ok(Items::from_vec(read_numbers(alloc, count, r)?))

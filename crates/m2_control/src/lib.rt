@@ -44,7 +44,7 @@ pub use banner::{Banner, BannerStep, read_banner, write_banner};
 pub use client_ident::ClientIdent;
 pub use control::Control;
 pub use fault::ControlFault;
-pub use fields::NumList;
+pub use fields::{GREATEST_NUMBER, MOST_BYTES, MOST_LISTED, NumList};
 pub use hello::Hello;
 pub use ident_missing_features::IdentMissingFeatures;
 pub use keepalive::Keepalive;

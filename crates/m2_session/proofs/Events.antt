@@ -1,12 +1,12 @@
 -- The laws of single events.
-use Rattle.std.proofs.Common.{◌≡◌, Bool, true, false, ◌&&◌, not, ◌⊎◌, if◌then◌else◌, inl, inr, refl}
+use Rattle.std.proofs.Common.{◌≡◌, ℕ, ◌+◌, ◌≤◌, max, Bool, true, false, ◌&&◌, not, ◌⊎◌, if◌then◌else◌, inl, inr, refl, arith}
 use Rattle.m2_session.specs.declared.session.Phase.TheVariants.{Standby, Wait}
 use Rattle.m2_session.specs.declared.session.Session.{Session}
 use Rattle.m2_session.specs.declared.event.Event.TheVariants.{Dialled, AskedIdent, AskedReconnect, GotServerIdent, GotReconnectOk, GotReset, GotRetry, GotRetryGlobal, GotWait, TookIdent, TookReconnect, Pending, Faulted, MarkedDown}
 use Rattle.m2_session.specs.declared.event.Effects.{Effects}
 use Rattle.m2_session.specs.Phases.{is, is_among, with_feed}
 use Rattle.m2_session.specs.Steps.{closes}
-use Rattle.m2_session.specs.Laws.{PendingLeavesNothingPending, LostOnlySo, loss_of, thrown_away, nothing_lost, MarkDownForgets}
+use Rattle.m2_session.specs.Laws.{PendingLeavesNothingPending, LostOnlySo, loss_of, thrown_away, nothing_lost, MarkDownForgets, ConnectRisesByOne}
 
 standby_or_wait : (b : Bool) → ((if b then Standby else Wait) ≡ Standby) ⊎ ((if b then Standby else Wait) ≡ Wait)
 standby_or_wait true = inl refl
@@ -51,3 +51,34 @@ lost_only_so s MarkedDown = refl
 
 pub forgets : MarkDownForgets
 forgets = record { phase = λ s. refl; client = λ s. refl; server = λ s. refl; closed = λ s. refl }
+
+-- ---- the connect number
+
+dialled_rises : (lost : Bool) (n : ℕ) → (if lost then n + 1 else n) ≤ max n 0 + 1
+dialled_rises true n = omega arith
+dialled_rises false n = omega arith
+
+fault_keeps_connect : (lossy server idle : Bool) (s w x y z : Session) → w.connect ≡ s.connect → x.connect ≡ s.connect → y.connect ≡ s.connect → z.connect ≡ s.connect →
+    let outcome : Session × Effects = if lossy then (w, record closes { discard = true }) else if server then (x, closes) else if idle then (y, closes) else (z, closes) in
+    outcome.0.connect ≤ max s.connect 0 + 1
+fault_keeps_connect true server idle s w x y z a b c d = omega arith
+fault_keeps_connect false true idle s w x y z a b c d = omega arith
+fault_keeps_connect false false true s w x y z a b c d = omega arith
+fault_keeps_connect false false false s w x y z a b c d = omega arith
+
+pub rises_by_one : ConnectRisesByOne
+rises_by_one s Dialled = dialled_rises s.lost_ready s.connect
+rises_by_one s (AskedIdent cookie) = omega arith
+rises_by_one s AskedReconnect = omega arith
+rises_by_one s (GotServerIdent cookie global) = omega arith
+rises_by_one s GotReconnectOk = omega arith
+rises_by_one s (GotReset true) = omega arith
+rises_by_one s (GotReset false) = omega arith
+rises_by_one s (GotRetry number) = omega arith
+rises_by_one s (GotRetryGlobal number) = omega arith
+rises_by_one s GotWait = omega arith
+rises_by_one s (TookIdent full client server global) = omega arith
+rises_by_one s (TookReconnect global connect) = omega arith
+rises_by_one s Pending = omega arith
+rises_by_one s (Faulted waits) = fault_keeps_connect s.policy.lossy s.policy.server (s.policy.standby && not waits) s _ _ _ _ refl refl refl refl
+rises_by_one s MarkedDown = omega arith

@@ -1,11 +1,11 @@
 -- What a reader expects of the tables, in the subject's own words.
-use Rattle.std.specs.Prelude.{◌≡◌, ◌≢◌, ℕ, ◌≤◌, Bool, true, false, ◌||◌, if◌then◌else◌, ◌⊎◌, IsTrue, Option, Some, None, IfSome}
+use Rattle.std.specs.Prelude.{◌≡◌, ◌≢◌, ℕ, ◌+◌, ◌≤◌, max, Bool, true, false, ◌||◌, if◌then◌else◌, ◌⊎◌, IsTrue, Option, Some, None, IfSome}
 use Rattle.m2_session.specs.declared.session.Phase.TheVariants.{Absent, Ready, Standby, Wait}
 use Rattle.m2_session.specs.declared.session.Session.{Session}
 use Rattle.m2_session.specs.declared.answer.Answer.{Answer}
 use Rattle.m2_session.specs.declared.answer.Answer.TheVariants.{Accept, AcceptOver, AcceptReset, AcceptAgain, AcceptReplace, AcceptRace, ResetPending, Resume}
 use Rattle.m2_session.specs.declared.event.Event.{Event}
-use Rattle.m2_session.specs.declared.event.Event.TheVariants.{GotServerIdent, GotReset, TookIdent, TookReconnect, Pending, Faulted, MarkedDown}
+use Rattle.m2_session.specs.declared.event.Event.TheVariants.{Dialled, GotServerIdent, GotReset, GotRetry, TookIdent, TookReconnect, Pending, Faulted, MarkedDown}
 use Rattle.m2_session.specs.declared.event.Effects.{Effects}
 use Rattle.m2_session.specs.Table.{IsReadInOrder}
 use Rattle.m2_session.specs.Phases.{is, is_among, with_feed}
@@ -81,11 +81,49 @@ abbrev pub is_resumption : Event → Bool
 is_resumption (TookReconnect global connect) = true
 is_resumption _ = false
 
--- No answer lowers it, and no event but a resumption can, which is told only of a reconnect that was judged.
+-- No answer lowers it. Of the events a resumption alone can: it sets the number of the reconnect, which is no lower
+-- where that reconnect was judged.
 pub record PeerGlobalNeverFalls : Type 0 where
   pub ident : (s : Session) (client server global : ℕ) → s.peer_global ≤ (after_ident s client server global).peer_global
   pub reconnect : (s : Session) (ask : Reconnect) (written : ℕ) → s.peer_global ≤ (after_reconnect s ask written).peer_global
   pub event : (s : Session) (e : Event) → is_resumption e ≡ false → s.peer_global ≤ (step_of s e).session.peer_global
+
+-- ---- the feed
+
+abbrev pub has_feed : Session → Bool
+has_feed s = is_among s.phase with_feed
+
+-- The event brings a feed: a socket was opened, or one on which the peer asked was taken.
+abbrev pub brings_feed : Event → Bool
+brings_feed Dialled = true
+brings_feed (TookIdent full client server global) = true
+brings_feed (TookReconnect global connect) = true
+brings_feed _ = false
+
+abbrev pub count_of : Bool → ℕ
+count_of b = if b then 1 else 0
+
+-- A feed that there was is left only by closing it, and one that there wasn't is only brought. So the feeds, counted,
+-- are after each step just what its phase says: none or one.
+pub record AtMostOneFeed : Type 0 where
+  pub left : (s : Session) (e : Event) → IsTrue (is_lawful s e) → has_feed s ≡ true →
+      has_feed (step_of s e).session ≡ false → (step_of s e).effects.close ≡ true
+  pub entered : (s : Session) (e : Event) → IsTrue (is_lawful s e) → has_feed s ≡ false →
+      has_feed (step_of s e).session ≡ true → brings_feed e ≡ true
+  pub counted : (s : Session) (e : Event) → IsTrue (is_lawful s e) →
+      count_of (has_feed (step_of s e).session) ≡ (if (step_of s e).effects.close then 0 else count_of (has_feed s)) + count_of (brings_feed e)
+
+-- ---- the connect number
+
+-- the connect number that the event has read from the peer, 0 where it has none
+abbrev pub connect_read : Event → ℕ
+connect_read (GotRetry number) = number
+connect_read (TookReconnect global connect) = connect
+connect_read _ = 0
+
+-- It is at most one above the greater of what was kept and what was read.
+abbrev pub ConnectRisesByOne : Type 0
+ConnectRisesByOne = (s : Session) (e : Event) → (step_of s e).session.connect ≤ max s.connect (connect_read e) + 1
 
 -- ---- resumption
 

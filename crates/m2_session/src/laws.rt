@@ -20,10 +20,26 @@ pub fn answers_are_lawful()
     ensures { laws.AnswersAreLawful }
 {}
 
-/// No answer and no event lowers the global number that is known of the peer.
+/// No answer lowers the global number that is known of the peer, and no event but
+/// [`TookReconnect`](crate::Event::TookReconnect) does: that one sets the number of the reconnect,
+/// which is no lower where the reconnect was judged.
 #[tactic(auto, using(crate::proofs::Answers::never_falls))]
 pub fn peer_global_never_falls()
     ensures { laws.PeerGlobalNeverFalls }
+{}
+
+/// A step leaves a phase that has a feed only with `close`, and enters one only by
+/// [`Dialled`](crate::Event::Dialled) or by an answer that takes the socket: there is at most one
+/// feed.
+#[tactic(auto, using(crate::proofs::Feeds::one_feed))]
+pub fn at_most_one_feed()
+    ensures { laws.AtMostOneFeed }
+{}
+
+/// After a step the connect number is at most one above the one that was kept or read.
+#[tactic(auto, using(crate::proofs::Events::rises_by_one))]
+pub fn connect_rises_by_one()
+    ensures { laws.ConnectRisesByOne }
 {}
 
 /// A reconnect is never resumed with another cookie.

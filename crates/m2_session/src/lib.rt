@@ -24,9 +24,9 @@ pub use answer::Answer;
 pub use event::{Effects, Event};
 pub use judgement::{judge_ident, judge_reconnect};
 pub use laws::{
-    answers_are_lawful, mark_down_forgets, messages_are_lost_only_so, peer_global_never_falls,
-    pending_leaves_nothing_pending, resumed_only_with_its_cookies, rows_are_read_in_order,
-    taken_is_ready,
+    answers_are_lawful, at_most_one_feed, connect_rises_by_one, mark_down_forgets,
+    messages_are_lost_only_so, peer_global_never_falls, pending_leaves_nothing_pending,
+    resumed_only_with_its_cookies, rows_are_read_in_order, taken_is_ready,
 };
 pub use session::{Phase, Session};
 pub use steps::{is_lawful, step};
