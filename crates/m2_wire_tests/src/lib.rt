@@ -7,4 +7,6 @@
 #[cfg(test)]
 mod bytes;
 #[cfg(test)]
+mod crc;
+#[cfg(test)]
 mod tag;
