@@ -24,13 +24,13 @@ impl Model for Calls {
 
     ghost Value = { CallCounts };
 
-    ghost view = { λ c. record { fails = c.fails; made = c.made; faults = c.faults } };
+    ghost view = { λ c. record { fails = c.fails.items; made = c.made; faults = c.faults } };
 }
 
 impl Calls {
     /// No call so far. Those whose number stands in the list will fail.
     pub fn new(fails: CallList) -> Calls
-        ensures { result ≡ record { fails = fails; made = 0; faults = 0 } }
+        ensures { result ≡ record { fails = fails.items; made = 0; faults = 0 } }
     {
         Calls {
             fails,

@@ -1,23 +1,24 @@
 //! A sink that is kept in memory and tells all that it took.
 
 ghost use Rattle.std.specs.Prelude.{◌≡◌, []};
-ghost use Rattle.m2_edge.specs.Memory.{TakesWhole, Flushes};
+ghost use Rattle.m2_edge.specs.Memory.{FlushesKept, WritesAll};
 
 use crate::calls::{CallList, Calls};
 use crate::failed::Failed;
 use crate::sink::Sink;
-use m2_bytes::Blob;
+use m2_bytes::{Blob, Told};
 use std::alloc::Global;
 use std::marker::Model;
 
-/// A sink in memory. Contracts see what it took, and the calls.
+/// A sink in memory. Contracts see what it took and what of that was flushed, and the calls.
 ///
 /// Calls of `write` and `flush` are counted together from 1, and those whose number is listed fail.
 /// So does a `write` that finds no memory. Each such call is counted as a fault. Every other `write`
 /// takes its whole piece.
-#[derive(Debug, Drop)]
+#[derive(Drop)]
 pub struct MemSink {
     taken: Blob,
+    flushed: Told,
     calls: Calls,
 }
 
@@ -26,16 +27,17 @@ impl Model for MemSink {
 
     ghost Value = { Kept };
 
-    ghost view = { λ s. record { taken = s.taken.bytes; calls = s.calls } };
+    ghost view = { λ s. record { taken = s.taken.bytes; flushed = s.flushed.bytes; calls = s.calls } };
 }
 
 impl MemSink {
     /// Nothing taken; the calls whose number is listed will fail. Takes no memory.
     pub fn new(alloc: Global, fails: CallList) -> MemSink
-        ensures { result ≡ record { taken = []; calls = record { fails = fails; made = 0; faults = 0 } } }
+        ensures { result ≡ record { taken = []; flushed = []; calls = record { fails = fails.items; made = 0; faults = 0 } } }
     {
         MemSink {
             taken: Blob::empty(alloc),
+            flushed: Told::nothing(),
             calls: Calls::new(fails),
         }
     }
@@ -49,14 +51,10 @@ impl MemSink {
 }
 
 impl Sink for MemSink {
-    ghost faults = { λ s. s.calls.faults };
-
-    ghost use Rattle.std.specs.Prelude.{Some};
-
-    ghost taken = { λ s. Some s.taken };
+    ghost seen = { λ s. record { faults = s.calls.faults; taken = s.taken; flushed = s.flushed } };
 
     fn write(&mut self, bytes: &[u8]) -> Result<usize, Failed>
-        ensures exact { TakesWhole result bytes.now self.old self.new }
+        ensures exact { WritesAll result bytes.now self.old self.new }
     {
         self.calls.call()?;
         match self.taken.push_all(bytes) {
@@ -66,8 +64,10 @@ impl Sink for MemSink {
     }
 
     fn flush(&mut self) -> Result<(), Failed>
-        ensures exact { Flushes result self.old self.new }
+        ensures exact { FlushesKept result self.old self.new }
     {
-        self.calls.call()
+        self.calls.call()?;
+        self.flushed = Told::and(&Told::nothing(), self.taken.as_slice());
+        Ok(())
     }
 }

@@ -1,8 +1,9 @@
 //! A whole input read, and a whole text written.
 
-ghost use Rattle.std.specs.Prelude.{◌≡◌, ◌+◌, ◌<◌, ◌≤◌, length, IfOk};
+ghost use Rattle.std.specs.Prelude.{◌≡◌, ◌<◌, ◌≤◌, length, IfOk, OnErr, OnOk};
 ghost use Rattle.m2_edge.specs.Faults.{HasCause};
-ghost use Rattle.m2_edge.specs.Whole.{HasReadCause, ReadsWhole, WritesWhole, Extends};
+ghost use Rattle.m2_edge.specs.Source.{GivesItsInput};
+ghost use Rattle.m2_edge.specs.Whole.{ExtendsBy, HasReadCause, ReadsInput, WritesText};
 
 use crate::failed::Failed;
 use crate::sink::Sink;
@@ -46,7 +47,8 @@ impl From<NoMemory> for ReadFault {
 /// How many bytes a read asks for.
 const PIECE: usize = 8192;
 
-/// The input of that name, to its end or to `most` bytes, whichever comes first.
+/// The input of that name, to its end or to `most` bytes, whichever comes first: all that the reads
+/// gave.
 ///
 /// After a fault the source may stand anywhere in that input, or where it stood before.
 pub fn read_whole<S: Source>(
@@ -55,10 +57,10 @@ pub fn read_whole<S: Source>(
     name: &str,
     most: usize,
 ) -> Result<Blob, ReadFault>
-    ensures causes { HasReadCause result (S.faults src.old) (S.faults src.new) }
-    ensures inputs { S.input src.new ≡ S.input src.old }
+    ensures causes { HasReadCause result (S.seen src.old).faults (S.seen src.new).faults }
+    ensures inputs { (S.seen src.new).inputs ≡ (S.seen src.old).inputs }
     ensures most { IfOk result (λ b. length b.bytes ≤ most) }
-    ensures reads { ReadsWhole result most (S.input src.old name.now) (S.rest src.old) (S.rest src.new) }
+    ensures reads { ReadsInput result most name.now (S.seen src.old) (S.seen src.new) }
 {
     let mut bytes = Blob::empty(alloc);
     src.begin(name)?;
@@ -72,12 +74,15 @@ pub fn read_whole<S: Source>(
 
 /// Reads once and adds what came, at most to `most` bytes in all. How many came.
 fn read_piece<S: Source>(src: &mut S, bytes: &mut Blob, most: usize) -> Result<usize, ReadFault>
-    requires { length bytes.old.bytes < most }
-    ensures causes { HasReadCause result (S.faults src.old) (S.faults src.new) }
-    ensures inputs { S.input src.new ≡ S.input src.old }
-    ensures length { IfOk result (λ n. length bytes.new.bytes ≡ length bytes.old.bytes + n) }
+    requires most { length bytes.old.bytes < most }
+    requires given { bytes.old.bytes ≡ (S.seen src.old).given }
+    requires known { GivesItsInput (S.seen src.old) }
+    ensures causes { HasReadCause result (S.seen src.old).faults (S.seen src.new).faults }
+    ensures inputs { (S.seen src.new).inputs ≡ (S.seen src.old).inputs }
+    ensures begun { (S.seen src.new).begun ≡ (S.seen src.old).begun }
     ensures most { IfOk result (λ _. length bytes.new.bytes ≤ most) }
-    ensures extends { Extends result bytes.old.bytes bytes.new.bytes (S.rest src.old) (S.rest src.new) }
+    ensures extends { IfOk result (λ n. ExtendsBy n bytes.old.bytes bytes.new.bytes (S.seen src.new)) }
+    ensures known { GivesItsInput (S.seen src.new) }
 {
     let mut buffer = [0u8; PIECE];
     let room = (most - bytes.len()).min(PIECE);
@@ -86,10 +91,11 @@ fn read_piece<S: Source>(src: &mut S, bytes: &mut Blob, most: usize) -> Result<u
     Ok(n)
 }
 
-/// Writes all of these bytes. After a fault some front of them was taken.
+/// Writes all of these bytes. After a fault some of the first of them were taken. Nothing is flushed.
 pub fn write_whole<O: Sink>(out: &mut O, bytes: &[u8]) -> Result<(), Failed>
-    ensures causes { HasCause result (O.faults out.old) (O.faults out.new) }
-    ensures writes { WritesWhole result bytes.now (O.taken out.old) (O.taken out.new) }
+    ensures causes { HasCause result (O.seen out.old).faults (O.seen out.new).faults }
+    ensures writes { WritesText result bytes.now (O.seen out.old) (O.seen out.new) }
+    ensures flushed { (O.seen out.new).flushed ≡ (O.seen out.old).flushed }
 {
     let mut rest = bytes;
     while !rest.is_empty() {

@@ -1,12 +1,16 @@
 -- One more piece of the file listed, and the ends of a listing.
-use Rattle.std.proofs.Common.{◌≡◌, ℕ, ◌+◌, ◌-◌, ◌≤◌, List, [], ◌++◌, length, take, drop, Option, Some, None, refl, sym, ap, ◌∙◌, subst, arith, length-drop, length-take, take-add, false}
-use Rattle.std.proofs.lemmas.List.{length-append, take_all, drop-drop, nil_from_length}
+use Rattle.std.proofs.Common.{◌≡◌, ℕ, ◌+◌, ◌-◌, ◌<◌, ◌≤◌, List, [], ◌++◌, length, take, drop, Option, Some, None, refl, sym, ap, ◌∙◌, subst, arith, length-drop, append_assoc, IsTrue, IfSome}
+use Rattle.std.proofs.lemmas.List.{append-nil, length-append, nil_from_length, take-append-drop}
+use Rattle.std.proofs.Math.Seq.{take-append_seam, take-length}
+use Rattle.m2_edge.specs.Sink.{SeenSink}
+use Rattle.m2_edge.specs.Source.{SeenSource, IsPrefixOf, IsGivenFrom, IsAtStartOf}
+use Rattle.m2_edge.specs.Whole.{StandsIn}
 use Rattle.m2_frame.specs.Decoder.{IsSameButRoom, fed}
 use Rattle.m2_frame.specs.Position.{Position}
 use Rattle.m2_frame.specs.Reading.{Item, start, judge}
 use Rattle.m2_frame.specs.Stream.{Splits}
-use Rattle.m2_listing.specs.Listing.{limit, IsAll, IsCutAtLimit, IsFrontOf, Listed, Broken, Lists, Follows, IsEnd, GoesBeyond, Fetches}
-use Rattle.m2_listing.specs.SoFar.{IsReadTo, SoFar, EndsHere, FedTo}
+use Rattle.m2_listing.specs.Listing.{limit, IsAll, IsCutAtLimit, Listed, Broken, Lists, ListsPrefix, GivesMore, Fetches}
+use Rattle.m2_listing.specs.SoFar.{SoFar, EndsHere, FedTo}
 use Rattle.m2_listing.specs.declared.listing.Listing.{Listing}
 use Rattle.m2_listing.specs.declared.listing.Listing.TheVariants as listing
 use Rattle.m2_listing.specs.declared.reading.Piece.TheVariants as piece
@@ -16,7 +20,7 @@ use Rattle.m2_listing.proofs.Steps.{Broken-here, Takes-nothing}
 abbrev pub HasFed : Type 0
 HasFed = (items : List Item) (stream rest more : List ℕ) → Splits stream items rest → Splits (stream ++ more) items (rest ++ more)
 
-Listed-fed : HasFed → (bytes rest more : List ℕ) (place : ℕ) (before after : Option (List ℕ)) → Listed bytes rest place before after → Listed (bytes ++ more) (rest ++ more) place before after
+Listed-fed : HasFed → (bytes rest more : List ℕ) (place : ℕ) (before after : SeenSink) → Listed bytes rest place before after → Listed (bytes ++ more) (rest ++ more) place before after
 Listed-fed feeds bytes rest more place before after l = record {
   items = l.items;
   splits = feeds l.items bytes rest more l.splits;
@@ -26,44 +30,23 @@ Listed-fed feeds bytes rest more place before after l = record {
 
 -- ---- what was read
 
-read_more : (bytes more : List ℕ) (input left left' : Option (List ℕ)) → IsReadTo bytes input left → Follows more left left' → IsReadTo (bytes ++ more) input left'
-read_more bytes more None left left' r f = tt
-read_more bytes more (Some b) left left' r f =
-    let g = subst (λ l. Follows more l left') r.3 f in
-    let inside : r.0 + g.0 ≤ length b = omega (arith, r.1, g.1, length-drop r.0 b) in
-    let e1 : bytes ++ more ≡ take r.0 b ++ more = ap (λ x. x ++ more) r.2 in
-    let e2 : take r.0 b ++ more ≡ take r.0 b ++ take g.0 (drop r.0 b) = ap (λ x. take r.0 b ++ x) g.2 in
-    (r.0 + g.0, inside, e1 ∙ e2 ∙ sym (take-add r.0 g.0 b), g.3 ∙ ap Some (drop-drop g.0 r.0 b))
+pub all_prefix : (bytes : List ℕ) → IsPrefixOf bytes bytes
+all_prefix bytes = (length bytes, sym (take-length bytes))
 
-read_front : (bytes : List ℕ) (input left : Option (List ℕ)) → IsReadTo bytes input left → IsFrontOf bytes input
-read_front bytes None left r = tt
-read_front bytes (Some b) left r = (r.0, r.2)
+joined_prefix : (bytes more given : List ℕ) → given ≡ bytes ++ more → IsPrefixOf bytes given
+joined_prefix bytes more given e = (length bytes, sym (ap (take (length bytes)) e ∙ take-append_seam bytes more))
 
-cut_front : (bytes : List ℕ) (input : Option (List ℕ)) → IsCutAtLimit bytes input → IsFrontOf bytes input
-cut_front bytes None c = tt
-cut_front bytes (Some b) c = (limit, c.1)
+-- what came beyond the bytes that may come
+gave_beyond : (given given' x got : List ℕ) → x ≡ take (length x) got → given' ≡ given ++ got → given' ≡ (given ++ x) ++ drop (length x) got
+gave_beyond given given' x got first e =
+    let parts : got ≡ x ++ drop (length x) got = sym (take-append-drop (length x) got) ∙ ap (λ t. t ++ drop (length x) got) (sym first) in
+    e ∙ ap (λ t. given ++ t) parts ∙ sym (append_assoc given x (drop (length x) got))
 
-read_all : (bytes : List ℕ) (input left : Option (List ℕ)) → IsReadTo bytes input left → IsEnd left → IsAll bytes input
-read_all bytes None left r e = tt
-read_all bytes (Some b) left r e =
-    let none : drop r.0 b ≡ [] = subst IsEnd r.3 e in
-    let len : length (drop r.0 b) ≡ 0 = ap length none in
-    r.2 ∙ take_all r.0 b (omega (arith, len, length-drop r.0 b))
-
-read_beyond : (bytes more : List ℕ) (input left : Option (List ℕ)) (room : ℕ) → IsReadTo bytes input left → GoesBeyond more left → length bytes + room ≡ limit → length more ≡ room → IsCutAtLimit (bytes ++ more) input
-read_beyond bytes more None left room r g counted len = tt
-read_beyond bytes more (Some b) left room r g counted len =
-    let h = subst (λ l. GoesBeyond more l) r.3 g in
-    let m = length more in
-    let had : length bytes ≡ length (take r.0 b) = ap length r.2 in
-    let place : r.0 + m ≡ limit = omega (arith, had, length-take r.0 b, r.1, counted, len) in
-    let e1 : bytes ++ more ≡ take r.0 b ++ more = ap (λ x. x ++ more) r.2 in
-    let e2 : take r.0 b ++ more ≡ take r.0 b ++ take m (drop r.0 b) = ap (λ x. take r.0 b ++ x) h.1 in
-    (omega (arith, place, h.0, length-drop r.0 b), e1 ∙ e2 ∙ sym (take-add r.0 m b) ∙ ap (λ n. take n b) place)
-
-pub begins_read : (input left : Option (List ℕ)) → left ≡ input → IsReadTo [] input left
-begins_read None left e = tt
-begins_read (Some b) left e = (0, omega arith, refl, e)
+cut_at_limit : (bytes more : List ℕ) (src : SeenSource) → src.given ≡ bytes ++ more → length bytes ≡ limit → 0 < length more → IsCutAtLimit bytes src
+cut_at_limit bytes more src e len some = record {
+  beyond = omega (arith, ap length e, length-append bytes more, len, some);
+  given = sym (ap (λ n. take n src.given) (sym len) ∙ ap (take (length bytes)) e ∙ take-append_seam bytes more);
+}
 
 pub judge-nothing : judge [] ≡ start
 unfolding judge
@@ -71,85 +54,101 @@ judge-nothing = refl
 
 -- ---- a piece
 
-at_fed : (bytes more : List ℕ) (old new : Position) (before mid : Option (List ℕ)) → HasFed → Listed bytes old.rest old.place before mid → IsSameButRoom (fed old more) new → Listed (bytes ++ more) new.rest new.place before mid
+at_fed : (bytes more : List ℕ) (old new : Position) (before mid : SeenSink) → HasFed → Listed bytes old.rest old.place before mid → IsSameButRoom (fed old more) new → Listed (bytes ++ more) new.rest new.place before mid
 at_fed bytes more old new before mid feeds l e =
     subst (λ (s : Position). Listed (bytes ++ more) s.rest s.place before mid) (sym e) (Listed-fed feeds bytes old.rest more old.place before mid l)
 
 -- all frames that are there are listed
-abbrev pub IsPassed : Option Listing → Position → Position → Option (List ℕ) → Option (List ℕ) → Type 0
-IsPassed end s new mid after = (bytes : List ℕ) (before : Option (List ℕ)) → Listed bytes s.rest s.place before mid → FedTo end bytes new before after
+abbrev pub IsPassed : Option Listing → Position → Position → SeenSink → SeenSink → Type 0
+IsPassed end s new mid after = (bytes : List ℕ) (before : SeenSink) → Listed bytes s.rest s.place before mid → FedTo end bytes new before after
 
-pub SoFar-came : HasFed → (bytes : List ℕ) (input left left' : Option (List ℕ)) (room n : ℕ) (old s new : Position) (before mid after : Option (List ℕ))
-    → SoFar bytes input left room old before mid → Fetches (piece.Came n) room old s left left' → IsPassed None s new mid after
-    → (x : List ℕ) × SoFar x input left' (room - n) new before after
-SoFar-came feeds bytes input left left' room n old s new before mid after sofar f passes =
-    let got = passes (bytes ++ f.0) before (at_fed bytes f.0 old s before mid feeds sofar.listed f.4) in (
-      bytes ++ f.0,
-      record {
-        counted = omega (arith, sofar.counted, length-append bytes f.0, f.1, f.3);
-        open_end = got.0;
-        listed = got.1;
-        read = read_more bytes f.0 input left left' sofar.read f.5;
-      },
-    )
+pub SoFar-came : HasFed → (src src' : SeenSource) (room n : ℕ) (old s new : Position) (before mid after : SeenSink)
+    → SoFar src room old before mid → Fetches (piece.Came n) room old s src src' → IsPassed None s new mid after
+    → SoFar src' (room - n) new before after
+SoFar-came feeds src src' room n old s new before mid after sofar f passes =
+    let got = passes (src.given ++ f.0) before (at_fed src.given f.0 old s before mid feeds sofar.listed f.4) in
+    record {
+      counted = omega (arith, sofar.counted, ap length f.5, length-append src.given f.0, f.1, f.3);
+      open_end = got.0;
+      listed = subst (λ bytes. Listed bytes new.rest new.place before after) (sym f.5) got.1;
+    }
 
-Lists-stopped : (end : Listing) (bytes : List ℕ) (input : Option (List ℕ)) (new : Position) (before after : Option (List ℕ)) → FedTo (Some end) bytes new before after → IsFrontOf bytes input → length bytes ≤ limit → Lists end input before after
-Lists-stopped (listing.Bad place f) bytes input new before after d front le =
-    (bytes, new.rest, front, le, d.1, subst (λ p. Listed bytes new.rest p before after) (sym d.0) d.2)
-Lists-stopped listing.WriteFault bytes input new before after d front le = (bytes, front, d)
-Lists-stopped listing.NoMemory bytes input new before after d front le = (bytes, front, d)
-Lists-stopped listing.Whole bytes input new before after d front le = absurd d
-Lists-stopped (listing.Cut place) bytes input new before after d front le = absurd d
-Lists-stopped (listing.TooLong place) bytes input new before after d front le = absurd d
-Lists-stopped listing.ReadFault bytes input new before after d front le = absurd d
+Lists-stopped : (end : Listing) (bytes : List ℕ) (src : SeenSource) (new : Position) (before after : SeenSink) → FedTo (Some end) bytes new before after
+    → IsPrefixOf bytes src.given → length bytes ≤ limit → Lists end src before after
+Lists-stopped (listing.Bad place f) bytes src new before after d prefix le =
+    (bytes, new.rest, prefix, le, d.1, subst (λ p. Listed bytes new.rest p before after) (sym d.0) d.2)
+Lists-stopped listing.WriteFault bytes src new before after d prefix le = (bytes, prefix, d)
+Lists-stopped listing.NoMemory bytes src new before after d prefix le = (bytes, prefix, d)
+Lists-stopped listing.Whole bytes src new before after d prefix le = absurd d
+Lists-stopped (listing.Cut place) bytes src new before after d prefix le = absurd d
+Lists-stopped (listing.TooLong place) bytes src new before after d prefix le = absurd d
+Lists-stopped listing.ReadFault bytes src new before after d prefix le = absurd d
 
-pub Lists-came : HasFed → (end : Listing) (bytes : List ℕ) (input left left' : Option (List ℕ)) (room n : ℕ) (old s new : Position) (before mid after : Option (List ℕ))
-    → SoFar bytes input left room old before mid → Fetches (piece.Came n) room old s left left' → IsPassed (Some end) s new mid after → Lists end input before after
-Lists-came feeds end bytes input left left' room n old s new before mid after sofar f passes =
-    let got = passes (bytes ++ f.0) before (at_fed bytes f.0 old s before mid feeds sofar.listed f.4) in
-    Lists-stopped end (bytes ++ f.0) input new before after got (read_front (bytes ++ f.0) input left' (read_more bytes f.0 input left left' sofar.read f.5))
-    (omega (arith, sofar.counted, length-append bytes f.0, f.1, f.3))
+pub Lists-came : HasFed → (end : Listing) (src src' : SeenSource) (room n : ℕ) (old s new : Position) (before mid after : SeenSink)
+    → SoFar src room old before mid → Fetches (piece.Came n) room old s src src' → IsPassed (Some end) s new mid after → Lists end src' before after
+Lists-came feeds end src src' room n old s new before mid after sofar f passes =
+    let got = passes (src.given ++ f.0) before (at_fed src.given f.0 old s before mid feeds sofar.listed f.4) in
+    Lists-stopped end (src.given ++ f.0) src' new before after got
+    (joined_prefix (src.given ++ f.0) [] src'.given (f.5 ∙ sym (append-nil (src.given ++ f.0))))
+    (omega (arith, sofar.counted, length-append src.given f.0, f.1, f.3))
 
-pub Lists-beyond : HasFed → (bytes : List ℕ) (input left left' : Option (List ℕ)) (room place : ℕ) (old s new : Position) (before mid after : Option (List ℕ))
-    → SoFar bytes input left room old before mid → Fetches piece.TooLong room old s left left' → IsPassed None s new mid after → place ≡ new.place → Lists (listing.TooLong place) input before after
-Lists-beyond feeds bytes input left left' room place old s new before mid after sofar f passes e =
-    let got = passes (bytes ++ f.0) before (at_fed bytes f.0 old s before mid feeds sofar.listed f.2) in
-    (bytes ++ f.0, new.rest, read_beyond bytes f.0 input left room sofar.read f.3 sofar.counted f.1, got.0, subst (λ p. Listed (bytes ++ f.0) new.rest p before after) (sym e) got.1)
+pub Lists-beyond : HasFed → (src src' : SeenSource) (room place : ℕ) (old s new : Position) (before mid after : SeenSink)
+    → SoFar src room old before mid → Fetches piece.TooLong room old s src src' → IsPassed None s new mid after → place ≡ new.place
+    → Lists (listing.TooLong place) src' before after
+Lists-beyond feeds src src' room place old s new before mid after sofar f passes e =
+    let got = passes (src.given ++ f.0) before (at_fed src.given f.0 old s before mid feeds sofar.listed f.2) in
+    let more = drop (length f.0) f.3.0 in
+    let cut = cut_at_limit (src.given ++ f.0) more src' (gave_beyond src.given src'.given f.0 f.3.0 f.3.2 f.3.3)
+        (omega (arith, sofar.counted, length-append src.given f.0, f.1)) (omega (arith, length-drop (length f.0) f.3.0, f.3.1)) in
+    (src.given ++ f.0, new.rest, cut, got.0, subst (λ p. Listed (src.given ++ f.0) new.rest p before after) (sym e) got.1)
 
-pub Lists-beyond_stopped : HasFed → (end : Listing) (bytes : List ℕ) (input left left' : Option (List ℕ)) (room : ℕ) (old s new : Position) (before mid after : Option (List ℕ))
-    → SoFar bytes input left room old before mid → Fetches piece.TooLong room old s left left' → IsPassed (Some end) s new mid after → Lists end input before after
-Lists-beyond_stopped feeds end bytes input left left' room old s new before mid after sofar f passes =
-    let got = passes (bytes ++ f.0) before (at_fed bytes f.0 old s before mid feeds sofar.listed f.2) in
-    Lists-stopped end (bytes ++ f.0) input new before after got
-    (cut_front (bytes ++ f.0) input (read_beyond bytes f.0 input left room sofar.read f.3 sofar.counted f.1))
-    (omega (arith, sofar.counted, length-append bytes f.0, f.1))
+pub Lists-beyond_stopped : HasFed → (end : Listing) (src src' : SeenSource) (room : ℕ) (old s new : Position) (before mid after : SeenSink)
+    → SoFar src room old before mid → Fetches piece.TooLong room old s src src' → IsPassed (Some end) s new mid after → Lists end src' before after
+Lists-beyond_stopped feeds end src src' room old s new before mid after sofar f passes =
+    let got = passes (src.given ++ f.0) before (at_fed src.given f.0 old s before mid feeds sofar.listed f.2) in
+    Lists-stopped end (src.given ++ f.0) src' new before after got
+    (joined_prefix (src.given ++ f.0) (drop (length f.0) f.3.0) src'.given (gave_beyond src.given src'.given f.0 f.3.0 f.3.2 f.3.3))
+    (omega (arith, sofar.counted, length-append src.given f.0, f.1))
 
-pub Lists-broken : (bytes : List ℕ) (input left : Option (List ℕ)) (room : ℕ) (s : Position) (before after : Option (List ℕ)) → SoFar bytes input left room s before after
-    → (x : List ℕ) × IsFrontOf x input × Broken x before after
-Lists-broken bytes input left room s before after sofar = (bytes, read_front bytes input left sofar.read, Broken-here bytes s.rest s.place before after sofar.listed)
+pub Lists-broken : (src src' : SeenSource) (more : List ℕ) (room : ℕ) (s : Position) (before after : SeenSink) → SoFar src room s before after
+    → src'.given ≡ src.given ++ more → ListsPrefix src' before after
+Lists-broken src src' more room s before after sofar e =
+    (src.given, joined_prefix src.given more src'.given e, Broken-here src.given s.rest s.place before after sofar.listed)
 
-pub Lists-end : (end : Listing) (bytes : List ℕ) (input left : Option (List ℕ)) (room : ℕ) (s : Position) (before after : Option (List ℕ))
-    → SoFar bytes input left room s before after → IsEnd left → EndsHere end s room → Lists end input before after
-Lists-end listing.Whole bytes input left room s before after sofar e d =
+pub Lists-end : (end : Listing) (src src' : SeenSource) (room : ℕ) (s : Position) (before after : SeenSink)
+    → SoFar src room s before after → EndsHere end s room → IsAll src.given src' → Lists end src' before after
+Lists-end listing.Whole src src' room s before after sofar d all =
     let none : s.rest ≡ [] = nil_from_length s.rest (omega (arith, d, sofar.counted, sofar.listed.counted)) in
-    (bytes, s.place, read_all bytes input left sofar.read e, omega (arith, sofar.counted), subst (λ r. Listed bytes r s.place before after) none sofar.listed)
-Lists-end (listing.Cut place) bytes input left room s before after sofar e d =
+    (src.given, s.place, all, omega (arith, sofar.counted), subst (λ r. Listed src.given r s.place before after) none sofar.listed)
+Lists-end (listing.Cut place) src src' room s before after sofar d all =
     let some : s.rest ≡ [] → ⊥ = λ (n : s.rest ≡ []). d.1 (omega (arith, ap length n, sofar.counted, sofar.listed.counted)) in
-    (bytes, s.rest, read_all bytes input left sofar.read e, omega (arith, sofar.counted), sofar.open_end, some, subst (λ p. Listed bytes s.rest p before after) (sym d.0) sofar.listed)
-Lists-end (listing.Bad place f) bytes input left room s before after sofar e d = absurd d
-Lists-end (listing.TooLong place) bytes input left room s before after sofar e d = absurd d
-Lists-end listing.ReadFault bytes input left room s before after sofar e d = absurd d
-Lists-end listing.WriteFault bytes input left room s before after sofar e d = absurd d
-Lists-end listing.NoMemory bytes input left room s before after sofar e d = absurd d
+    (src.given, s.rest, all, omega (arith, sofar.counted), sofar.open_end, some, subst (λ p. Listed src.given s.rest p before after) (sym d.0) sofar.listed)
+Lists-end (listing.Bad place f) src src' room s before after sofar d all = absurd d
+Lists-end (listing.TooLong place) src src' room s before after sofar d all = absurd d
+Lists-end listing.ReadFault src src' room s before after sofar d all = absurd d
+Lists-end listing.WriteFault src src' room s before after sofar d all = absurd d
+Lists-end listing.NoMemory src src' room s before after sofar d all = absurd d
 
 -- nothing is read yet
-pub SoFar-begins : (input left : Option (List ℕ)) (s : Position) (taken : Option (List ℕ)) → s ≡ record { place = 0; rest = []; granted = false; room = 0 } → left ≡ input → SoFar [] input left 1073741824 s taken taken
-SoFar-begins input left s taken e begun =
+pub SoFar-begins : (src : SeenSource) (s : Position) (out : SeenSink) → s ≡ record { place = 0; rest = []; granted = false; room = 0 } → src.given ≡ []
+    → SoFar src 1073741824 s out out
+SoFar-begins src s out e begun =
     let rest : s.rest ≡ [] = ap (λ (t : Position). t.rest) e in
     let place : s.place ≡ 0 = ap (λ (t : Position). t.place) e in
     record {
-      counted = omega arith;
+      counted = omega (arith, ap length begun);
       open_end = ap judge rest ∙ judge-nothing;
-      listed = record { items = []; splits = sym rest; counted = omega (arith, place, ap length rest); written = Takes-nothing taken };
-      read = begins_read input left begun;
+      listed = record { items = []; splits = begun ∙ sym rest; counted = omega (arith, place, ap length rest, ap length begun); written = Takes-nothing out };
     }
+
+-- a source that has begun stands in its input
+pub stands_at_start : (name : List ℕ) (old new : SeenSource) → IsAtStartOf (old.inputs name) new → StandsIn name old new
+stands_at_start name old new start = record { begun = start.begun; gives = by_input new.begun }
+  where
+    by_input : (begun : Option (List ℕ)) → IfSome begun (λ input. IsGivenFrom input new)
+    by_input None = tt
+    by_input (Some input) = record { prefix = (0, start.given); whole = λ ended. absurd (subst IsTrue start.ended ended) }
+
+-- nothing was read of the file, and nothing was written
+pub Lists-nothing : (src : SeenSource) (out : SeenSink) → ListsPrefix src out out
+Lists-nothing src out = ([], (0, refl), record { items = []; rest = []; splits = refl; written = (0, Takes-nothing out) })

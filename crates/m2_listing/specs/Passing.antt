@@ -1,8 +1,8 @@
 -- What each step of a listing leaves, and why it may fail.
-use Rattle.std.specs.Prelude.{◌≡◌, ℕ, ◌+◌, ◌*◌, ◌<◌, List, length, Option, Result, Ok, if◌then◌else◌}
+use Rattle.std.specs.Prelude.{◌≡◌, ℕ, ◌+◌, ◌*◌, ◌<◌, List, length, Result, Ok, if◌then◌else◌}
 use Rattle.m2_bytes.specs.declared.memory.NoMemory.{NoMemory}
 use Rattle.m2_edge.specs.Faults.{HasRisen}
-use Rattle.m2_edge.specs.Sink.{Takes, TakesFront}
+use Rattle.m2_edge.specs.Sink.{SeenSink, TakesBytes, TakesPrefix}
 use Rattle.m2_frame.specs.Position.{Position}
 use Rattle.m2_listing.specs.declared.passing.Passed.{Passed}
 use Rattle.m2_listing.specs.declared.passing.Passed.TheVariants as passed
@@ -26,9 +26,9 @@ abbrev pub StepsDown : Step → Position → Position → Type 0
 StepsDown step.More old new = work_left new < work_left old
 StepsDown _ old new = Unit {0}
 
--- a line is taken whole, or a front of it; one that could not be made is not taken
-abbrev pub PutsOut : Step → Result (Unit {0}) NoMemory → List ℕ → Option (List ℕ) → Option (List ℕ) → Type 0
-PutsOut step.More made line old new = (made ≡ Ok tt) × Takes line old new
-PutsOut step.WriteFault made line old new = (made ≡ Ok tt) × TakesFront line old new
+-- a line is taken whole, or a prefix of it; one that could not be made is not taken
+abbrev pub PutsOut : Step → Result (Unit {0}) NoMemory → List ℕ → SeenSink → SeenSink → Type 0
+PutsOut step.More made line old new = (made ≡ Ok tt) × TakesBytes line old new
+PutsOut step.WriteFault made line old new = (made ≡ Ok tt) × TakesPrefix line old new
 PutsOut step.NoMemory made line old new = new ≡ old
 PutsOut _ made line old new = ⊥

@@ -1,28 +1,24 @@
 -- A listing in the middle of its file: what was read, listed and written so far.
-use Rattle.std.specs.Prelude.{◌≡◌, ◌≢◌, ℕ, ◌+◌, ◌≤◌, List, length, take, drop, Option, Some, None, Result, Ok, Err}
+use Rattle.std.specs.Prelude.{◌≡◌, ◌≢◌, ℕ, ◌+◌, List, length, Option, Some, None, Result, Ok, Err}
 use Rattle.m2_edge.specs.Faults.{HasRisen}
+use Rattle.m2_edge.specs.Sink.{SeenSink}
+use Rattle.m2_edge.specs.Source.{SeenSource}
 use Rattle.m2_frame.specs.Position.{Position}
 use Rattle.m2_frame.specs.Reading.{start, bad, judge}
 use Rattle.m2_listing.specs.Listing.{limit, Listed, Broken, Lists, IsFaultCause}
 use Rattle.m2_listing.specs.declared.listing.Listing.{Listing}
 use Rattle.m2_listing.specs.declared.listing.Listing.TheVariants as listing
 
--- these bytes are the input up to a place, from which on it is left
-abbrev pub IsReadTo : List ℕ → Option (List ℕ) → Option (List ℕ) → Type 0
-IsReadTo bytes None left = Unit {0}
-IsReadTo bytes (Some input) left = (k : ℕ) × (k ≤ length input) × (bytes ≡ take k input) × (left ≡ Some (drop k input))
-
--- `room` more bytes may come, the rest is a start, and the lines of all before it were written
-pub record SoFar (bytes : List ℕ) (input left : Option (List ℕ)) (room : ℕ) (s : Position) (before after : Option (List ℕ)) : Type 0 where
-  pub counted : length bytes + room ≡ limit
+-- `room` more bytes may come, the rest is a start, and the lines of all that the reads gave before it were written
+pub record SoFar (src : SeenSource) (room : ℕ) (s : Position) (before after : SeenSink) : Type 0 where
+  pub counted : length src.given + room ≡ limit
   pub open_end : judge s.rest ≡ start
-  pub listed : Listed bytes s.rest s.place before after
-  pub read : IsReadTo bytes input left
+  pub listed : Listed src.given s.rest s.place before after
 
 -- a piece was listed, and so much room is left; or the listing ended
-abbrev pub GoesOn : Result ℕ Listing → Option (List ℕ) → Option (List ℕ) → Position → Option (List ℕ) → Option (List ℕ) → Type 0
-GoesOn (Ok room) input left s before after = (bytes : List ℕ) × SoFar bytes input left room s before after
-GoesOn (Err end) input left s before after = Lists end input before after
+abbrev pub GoesOn : Result ℕ Listing → SeenSource → Position → SeenSink → SeenSink → Type 0
+GoesOn (Ok room) src s before after = SoFar src room s before after
+GoesOn (Err end) src s before after = Lists end src before after
 
 abbrev pub IsEndCause : Result ℕ Listing → ℕ → ℕ → ℕ → ℕ → Type 0
 IsEndCause (Ok _) src src' out out' = Unit {0}
@@ -40,7 +36,7 @@ IsFedCause (Some listing.ReadFault) old new = ⊥
 IsFedCause _ old new = Unit {0}
 
 -- what was fed is listed, and a start is left; or the listing ends
-abbrev pub FedTo : Option Listing → List ℕ → Position → Option (List ℕ) → Option (List ℕ) → Type 0
+abbrev pub FedTo : Option Listing → List ℕ → Position → SeenSink → SeenSink → Type 0
 FedTo None bytes s before after = (judge s.rest ≡ start) × Listed bytes s.rest s.place before after
 FedTo (Some (listing.Bad place f)) bytes s before after = (place ≡ s.place) × (judge s.rest ≡ bad f) × Listed bytes s.rest s.place before after
 FedTo (Some listing.WriteFault) bytes s before after = Broken bytes before after

@@ -1,6 +1,9 @@
 //! The frames of a file, listed.
 
-ghost use Rattle.std.specs.Prelude.{◌≡◌, ℕ, ◌<◌, ◌≤◌, List, Option, IfOk};
+ghost use Rattle.std.specs.Prelude.{◌≡◌, ℕ, ◌<◌, ◌≤◌, ◌⊎◌, List, IfOk};
+ghost use Rattle.m2_edge.specs.Sink.{SeenSink};
+ghost use Rattle.m2_edge.specs.Source.{GivesItsInput, IsWhereItWas};
+ghost use Rattle.m2_edge.specs.Whole.{StandsIn};
 ghost use Rattle.m2_listing.specs.Listing.{Listed, Lists, IsFaultCause};
 ghost use Rattle.m2_listing.specs.SoFar.{SoFar, GoesOn, IsEndCause, EndsHere, IsFedCause, FedTo};
 
@@ -47,10 +50,10 @@ fn at_end(decoder: &Decoder, room: usize) -> Listing
 
 /// Lists what was fed last; none where a start is left.
 fn list_fed<O: Sink>(decoder: &mut Decoder, line: &mut Blob, out: &mut O) -> Option<Listing>
-    ensures causes { O.faults out.old ≤ O.faults out.new }
-    ensures caused { IsFedCause result (O.faults out.old) (O.faults out.new) }
-    ensures passes { (bytes : List ℕ) (before : Option (List ℕ)) →
-        Listed bytes decoder.old.rest decoder.old.place before (O.taken out.old) → FedTo result bytes decoder.new before (O.taken out.new) }
+    ensures causes { (O.seen out.old).faults ≤ (O.seen out.new).faults }
+    ensures caused { IsFedCause result (O.seen out.old).faults (O.seen out.new).faults }
+    ensures passes { (bytes : List ℕ) (before : SeenSink) →
+        Listed bytes decoder.old.rest decoder.old.place before (O.seen out.old) → FedTo result bytes decoder.new before (O.seen out.new) }
 {
     match pass_frames(decoder, line, out) {
         Passed::Open => None,
@@ -69,14 +72,17 @@ fn list_piece<S: Source, O: Sink>(
     out: &mut O,
     room: usize,
 ) -> Result<usize, Listing>
-    requires { room ≤ 1073741824 }
-    ensures read_causes { S.faults src.old ≤ S.faults src.new }
-    ensures write_causes { O.faults out.old ≤ O.faults out.new }
-    ensures caused { IsEndCause result (S.faults src.old) (S.faults src.new) (O.faults out.old) (O.faults out.new) }
-    ensures inputs { S.input src.new ≡ S.input src.old }
+    requires room { room ≤ 1073741824 }
+    requires known { GivesItsInput (S.seen src.old) }
+    ensures read_causes { (S.seen src.old).faults ≤ (S.seen src.new).faults }
+    ensures write_causes { (O.seen out.old).faults ≤ (O.seen out.new).faults }
+    ensures caused { IsEndCause result (S.seen src.old).faults (S.seen src.new).faults (O.seen out.old).faults (O.seen out.new).faults }
+    ensures inputs { (S.seen src.new).inputs ≡ (S.seen src.old).inputs }
     ensures smaller { IfOk result (λ left. left < room) }
-    ensures goes { (bytes : List ℕ) (input before : Option (List ℕ)) →
-        SoFar bytes input (S.rest src.old) room decoder.old before (O.taken out.old) → GoesOn result input (S.rest src.new) decoder.new before (O.taken out.new) }
+    ensures begun { (S.seen src.new).begun ≡ (S.seen src.old).begun }
+    ensures known { GivesItsInput (S.seen src.new) }
+    ensures goes { (before : SeenSink) → SoFar (S.seen src.old) room decoder.old before (O.seen out.old)
+        → GoesOn result (S.seen src.new) decoder.new before (O.seen out.new) }
 {
     one_reading();
     match fetch(src, decoder, room) {
@@ -103,11 +109,12 @@ pub fn list_frames<S: Source, O: Sink>(
     src: &mut S,
     out: &mut O,
 ) -> Listing
-    ensures read_causes { S.faults src.old ≤ S.faults src.new }
-    ensures write_causes { O.faults out.old ≤ O.faults out.new }
-    ensures caused { IsFaultCause result (S.faults src.old) (S.faults src.new) (O.faults out.old) (O.faults out.new) }
-    ensures inputs { S.input src.new ≡ S.input src.old }
-    ensures lists { Lists result (S.input src.old name.now) (O.taken out.old) (O.taken out.new) }
+    ensures read_causes { (S.seen src.old).faults ≤ (S.seen src.new).faults }
+    ensures write_causes { (O.seen out.old).faults ≤ (O.seen out.new).faults }
+    ensures caused { IsFaultCause result (S.seen src.old).faults (S.seen src.new).faults (O.seen out.old).faults (O.seen out.new).faults }
+    ensures inputs { (S.seen src.new).inputs ≡ (S.seen src.old).inputs }
+    ensures stands { IsWhereItWas (S.seen src.old) (S.seen src.new) ⊎ StandsIn name.now (S.seen src.old) (S.seen src.new) }
+    ensures lists { Lists result (S.seen src.new) (O.seen out.old) (O.seen out.new) }
 {
     match src.begin(name) {
         Ok(()) => {}

@@ -1,6 +1,7 @@
 //! The frames that a decoder has, listed.
 
-ghost use Rattle.std.specs.Prelude.{ℕ, ◌≤◌, List, Option};
+ghost use Rattle.std.specs.Prelude.{ℕ, ◌≤◌, List};
+ghost use Rattle.m2_edge.specs.Sink.{SeenSink};
 ghost use Rattle.m2_listing.specs.Listing.{Listed, StepsTo, PassesTo};
 ghost use Rattle.m2_listing.specs.Passing.{IsStepCause, IsPassCause, StepsDown, PutsOut};
 
@@ -33,9 +34,9 @@ pub enum Passed {
 
 /// Writes a line, where it could be made.
 fn put_out<O: Sink>(out: &mut O, line: &Blob, made: Result<(), NoMemory>) -> Step
-    ensures causes { O.faults out.old ≤ O.faults out.new }
-    ensures caused { IsStepCause result (O.faults out.old) (O.faults out.new) }
-    ensures written { PutsOut result made line.now.bytes (O.taken out.old) (O.taken out.new) }
+    ensures causes { (O.seen out.old).faults ≤ (O.seen out.new).faults }
+    ensures caused { IsStepCause result (O.seen out.old).faults (O.seen out.new).faults }
+    ensures written { PutsOut result made line.now.bytes (O.seen out.old) (O.seen out.new) }
 {
     match made {
         Err(NoMemory) => Step::NoMemory,
@@ -48,11 +49,11 @@ fn put_out<O: Sink>(out: &mut O, line: &Blob, made: Result<(), NoMemory>) -> Ste
 
 /// Takes up one answer of the decoder: a size is granted, a frame gets its line.
 fn pass_one<O: Sink>(decoder: &mut Decoder, line: &mut Blob, out: &mut O) -> Step
-    ensures causes { O.faults out.old ≤ O.faults out.new }
-    ensures caused { IsStepCause result (O.faults out.old) (O.faults out.new) }
+    ensures causes { (O.seen out.old).faults ≤ (O.seen out.new).faults }
+    ensures caused { IsStepCause result (O.seen out.old).faults (O.seen out.new).faults }
     ensures down { StepsDown result decoder.old decoder.new }
-    ensures passes { (bytes : List ℕ) (before : Option (List ℕ)) →
-        Listed bytes decoder.old.rest decoder.old.place before (O.taken out.old) → StepsTo result bytes decoder.new before (O.taken out.new) }
+    ensures passes { (bytes : List ℕ) (before : SeenSink) →
+        Listed bytes decoder.old.rest decoder.old.place before (O.seen out.old) → StepsTo result bytes decoder.new before (O.seen out.new) }
 {
     one_reading();
     no_text_begins_another();
@@ -77,10 +78,10 @@ fn pass_one<O: Sink>(decoder: &mut Decoder, line: &mut Blob, out: &mut O) -> Ste
 
 /// Lists all frames that are there.
 pub fn pass_frames<O: Sink>(decoder: &mut Decoder, line: &mut Blob, out: &mut O) -> Passed
-    ensures causes { O.faults out.old ≤ O.faults out.new }
-    ensures caused { IsPassCause result (O.faults out.old) (O.faults out.new) }
-    ensures passes { (bytes : List ℕ) (before : Option (List ℕ)) →
-        Listed bytes decoder.old.rest decoder.old.place before (O.taken out.old) → PassesTo result bytes decoder.new before (O.taken out.new) }
+    ensures causes { (O.seen out.old).faults ≤ (O.seen out.new).faults }
+    ensures caused { IsPassCause result (O.seen out.old).faults (O.seen out.new).faults }
+    ensures passes { (bytes : List ℕ) (before : SeenSink) →
+        Listed bytes decoder.old.rest decoder.old.place before (O.seen out.old) → PassesTo result bytes decoder.new before (O.seen out.new) }
 {
     'frames: loop {
         match pass_one(decoder, line, out) {

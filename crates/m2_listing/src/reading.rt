@@ -1,6 +1,7 @@
 //! One piece of the file.
 
 ghost use Rattle.std.specs.Prelude.{◌≡◌, ◌+◌, ◌<◌, ◌≤◌, ◌^◌, length};
+ghost use Rattle.m2_edge.specs.Source.{GivesItsInput};
 ghost use Rattle.m2_listing.specs.Listing.{Fetches};
 ghost use Rattle.m2_listing.specs.Reading.{IsPieceCause};
 
@@ -27,11 +28,14 @@ pub enum Piece {
 /// Reads the next piece of at most `most` bytes, and one more where the piece is large enough, and
 /// feeds it.
 pub fn fetch<S: Source>(src: &mut S, decoder: &mut Decoder, most: usize) -> Piece
-    requires { most < 2 ^ 40 }
-    ensures causes { S.faults src.old ≤ S.faults src.new }
-    ensures caused { IsPieceCause result (S.faults src.old) (S.faults src.new) }
-    ensures inputs { S.input src.new ≡ S.input src.old }
-    ensures fetches { Fetches result most decoder.old decoder.new (S.rest src.old) (S.rest src.new) }
+    requires most { most < 2 ^ 40 }
+    requires known { GivesItsInput (S.seen src.old) }
+    ensures causes { (S.seen src.old).faults ≤ (S.seen src.new).faults }
+    ensures caused { IsPieceCause result (S.seen src.old).faults (S.seen src.new).faults }
+    ensures inputs { (S.seen src.new).inputs ≡ (S.seen src.old).inputs }
+    ensures begun { (S.seen src.new).begun ≡ (S.seen src.old).begun }
+    ensures known { GivesItsInput (S.seen src.new) }
+    ensures fetches { Fetches result most decoder.old decoder.new (S.seen src.old) (S.seen src.new) }
 {
     let mut buffer = [0u8; PIECE];
     let room = (most + 1).min(PIECE);

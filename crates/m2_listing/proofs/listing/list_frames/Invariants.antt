@@ -1,14 +1,16 @@
-use Rattle.std.proofs.Common.{◌≡◌, ℕ, ◌≤◌, List}
+use Rattle.std.proofs.Common.{◌≡◌, ℕ, ◌≤◌}
+use Rattle.m2_edge.specs.Whole.{StandsIn}
 use Rattle.m2_listing.specs.SoFar.{SoFar}
 use Rattle.m2_listing.proofs.listing.list_frames.Given as goal
 
 abbrev pub invariant-pieces : goal.invariant-pieces
 invariant-pieces g l = record {
   room : l.room ≤ 1073741824;
-  read_rises : g.S.Source.faults l.fn.src ≤ g.S.Source.faults l.src;
-  write_rises : g.O.Sink.faults l.fn.out ≤ g.O.Sink.faults l.out;
-  inputs : g.S.Source.input l.src ≡ g.S.Source.input l.fn.src;
-  so_far : (bytes : List ℕ) × SoFar bytes (g.S.Source.input l.fn.src l.fn.name) (g.S.Source.rest l.src) l.room l.decoder (g.O.Sink.taken l.fn.out) (g.O.Sink.taken l.out);
+  read_rises : (g.S.Source.seen l.fn.src).faults ≤ (g.S.Source.seen l.src).faults;
+  write_rises : (g.O.Sink.seen l.fn.out).faults ≤ (g.O.Sink.seen l.out).faults;
+  inputs : (g.S.Source.seen l.src).inputs ≡ (g.S.Source.seen l.fn.src).inputs;
+  stands : StandsIn l.fn.name (g.S.Source.seen l.fn.src) (g.S.Source.seen l.src);
+  so_far : SoFar (g.S.Source.seen l.src) l.room l.decoder (g.O.Sink.seen l.fn.out) (g.O.Sink.seen l.out);
 }
 
 abbrev pub decreases-pieces : goal.decreases-pieces

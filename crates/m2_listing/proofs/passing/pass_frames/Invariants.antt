@@ -1,13 +1,14 @@
-use Rattle.std.proofs.Common.{ℕ, ◌≤◌, List, Option}
+use Rattle.std.proofs.Common.{ℕ, ◌≤◌, List}
+use Rattle.m2_edge.specs.Sink.{SeenSink}
 use Rattle.m2_listing.specs.Listing.{Listed}
 use Rattle.m2_listing.specs.Passing.{work_left}
 use Rattle.m2_listing.proofs.passing.pass_frames.Given as goal
 
 abbrev pub invariant-frames : goal.invariant-frames
 invariant-frames g l = record {
-  rises : g.O.Sink.faults l.initial.out ≤ g.O.Sink.faults l.out;
-  listed : (bytes : List ℕ) (before : Option (List ℕ)) → Listed bytes l.initial.decoder.rest l.initial.decoder.place before (g.O.Sink.taken l.initial.out)
-      → Listed bytes l.decoder.rest l.decoder.place before (g.O.Sink.taken l.out);
+  rises : (g.O.Sink.seen l.initial.out).faults ≤ (g.O.Sink.seen l.out).faults;
+  listed : (bytes : List ℕ) (before : SeenSink) → Listed bytes l.initial.decoder.rest l.initial.decoder.place before (g.O.Sink.seen l.initial.out)
+      → Listed bytes l.decoder.rest l.decoder.place before (g.O.Sink.seen l.out);
 }
 
 abbrev pub decreases-frames : goal.decreases-frames
