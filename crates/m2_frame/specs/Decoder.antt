@@ -1,17 +1,14 @@
 -- What a decoder answers: a function of what it was fed and of what was granted.
-use Rattle.std.specs.Prelude.{◌≡◌, ℕ, ◌+◌, ◌<◌, ◌^◌, false, List, ◌++◌, length, drop, if◌then◌else◌, Option, Some, None}
+use Rattle.std.specs.Prelude.{◌≡◌, ℕ, ◌+◌, false, List, ◌++◌, drop, Option, Some, None}
 use Rattle.m2_frame.specs.declared.got.Got.{Got}
 use Rattle.m2_frame.specs.declared.got.Got.TheVariants as got
-use Rattle.m2_frame.specs.declared.stage.Stage.{Stage}
-use Rattle.m2_frame.specs.declared.stage.Stage.TheVariants.{Fresh, Sized, Sealed, Faulty}
 use Rattle.m2_frame.specs.Frame.{Parts, parts}
-use Rattle.m2_frame.specs.Judging.{BeginsWith, IsSealed}
 use Rattle.m2_frame.specs.Position.{Position}
-use Rattle.m2_frame.specs.Reading.{Item, whole, dropped, start, bad, text, judge, size_of}
+use Rattle.m2_frame.specs.Reading.{Item, whole, dropped, start, bad, text, judge, owed_at}
 
 -- the size that was asked for and isn't granted
 abbrev pub owed : Position → Option ℕ
-owed s = if s.granted then None else size_of s.rest
+owed s = owed_at s.rest s.granted
 
 -- a text of n bytes is passed
 abbrev pub passed : Position → ℕ → Position
@@ -27,13 +24,17 @@ pub record IsAtFront (s : Position) (f : Parts) : Type 0 where
   pub len : ℕ
   pub there : judge s.rest ≡ text (whole f) len
 
+-- what is left is the start of a frame, or nothing, and nothing is owed
+abbrev pub IsAtStart : Position → Type 0
+IsAtStart s = (owed s ≡ None) × (judge s.rest ≡ start)
+
 -- the answers: a size for as long as one is owed; else the item, the start or the fault that the rest is. Memory
 -- is taken for a frame alone.
 abbrev pub Answers : Position → Got → Position → Type 0
 Answers old (got.Frame f) new = (owed old ≡ None) × Passes old (whole (parts f)) new
 Answers old (got.Aborted tag) new = (owed old ≡ None) × Passes old (dropped tag) new
 Answers old (got.Size n) new = (owed old ≡ Some n) × (new ≡ old)
-Answers old got.NotYet new = (owed old ≡ None) × (judge old.rest ≡ start) × (new ≡ old)
+Answers old got.NotYet new = IsAtStart old × (new ≡ old)
 Answers old (got.Fault f) new = (owed old ≡ None) × (judge old.rest ≡ bad f) × (new ≡ old)
 Answers old got.NoMemory new = (f : Parts) × IsAtFront old f × (new ≡ old)
 
@@ -44,16 +45,3 @@ fed s piece = record s { rest = s.rest ++ piece }
 -- all but the room is the same
 abbrev pub IsSameButRoom : Position → Position → Type 0
 IsSameButRoom old new = new ≡ record old { room = new.room }
-
--- ---- what a decoder remembers of the rest, so that no part is judged twice
-
-abbrev pub Remembers : Stage → Position → Type 0
-Remembers Fresh s = Unit {0}
-Remembers (Sized p) s = BeginsWith s.rest p
-Remembers (Sealed p) s = IsSealed s.rest p × (owed s ≡ None)
-Remembers (Faulty f) s = (owed s ≡ None) × (judge s.rest ≡ bad f)
-
--- a decoder's own fact: what it remembers is so, and every place in what it was fed has a number
-pub record Holds (stage : Stage) (s : Position) : Type 0 where
-  pub remembered : Remembers stage s
-  pub counted : s.place + length s.rest < 2 ^ 64

@@ -1,9 +1,11 @@
 pub mod Decoder
 pub mod Frame
 pub mod Grammar
+pub mod Holds
 pub mod Judging
 pub mod Position
 pub mod Preamble
 pub mod Reading
 pub mod Stream
 pub mod Text
+pub mod View

@@ -106,9 +106,13 @@ judge rest = if nat_lt (length rest) 32 then start else judge_body (read_preambl
 
 -- ---- what a preamble asks for
 
--- how many bytes a MESSAGE has in its front, middle and data
+-- how many bytes of front, middle and data a preamble names
+abbrev pub asked_by : Preamble → ℕ
+asked_by p = p.second + p.third + p.fourth
+
+-- how many a MESSAGE asks for
 abbrev pub size_in : Preamble → Option ℕ
-size_in p = if p.tag == message_tag then Some (p.second + p.third + p.fourth) else None
+size_in p = if p.tag == message_tag then Some (asked_by p) else None
 
 -- the same, where it isn't granted
 abbrev pub owed_by : Preamble → Bool → Option ℕ
@@ -121,3 +125,7 @@ size_asked (Err f) = None
 -- what a whole preamble at the front asks for
 unfoldable pub size_of : List ℕ → Option ℕ
 size_of rest = if nat_lt (length rest) 32 then None else size_asked (read_preamble (take 32 rest))
+
+-- the same, where it isn't granted
+abbrev pub owed_at : List ℕ → Bool → Option ℕ
+owed_at rest granted = if granted then None else size_of rest

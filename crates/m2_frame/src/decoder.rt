@@ -1,15 +1,12 @@
 //! A decoder of frames from a stream that comes in any pieces.
 
-ghost use Rattle.std.specs.Prelude.{◌≡◌, ◌+◌, ◌^◌, ◌<◌, ◌≤◌, [], true, false, length, take, drop, IsSome, IsOk, OnOk, OnErr, Ok, None};
-ghost use Rattle.m2_frame.specs.Reading.{owed_by};
+ghost use Rattle.std.specs.Prelude.{◌≡◌, ◌+◌, ◌^◌, ◌<◌, ◌≤◌, ◌↔◌, [], true, false, length, IsTrue, IsSome, IsNone, IfSome, IsOk, OnOk, OnErr, None};
 
-use crate::epilogue::Late;
-use crate::fault::FrameFault;
-use crate::frame::MESSAGE;
+use crate::finding::Finding;
 use crate::got::Got;
-use crate::judging::{Opening, end_of, len_of_text, opening_of, whole_frame};
-use crate::preamble::{PREAMBLE_BYTES, Preamble, read_front};
-use crate::stage::Stage;
+use crate::judging::{find_on, len_of_text, size_asked, view_of};
+use crate::preamble::Preamble;
+use crate::view::FrameView;
 use bytes::BytesMut;
 use m2_bytes::NoMemory;
 use std::alloc::Global;
@@ -24,14 +21,14 @@ use std::marker::Model;
 /// frames in order, then `NotYet` where the rest is a start, or the first fault, from then on. After
 /// the preamble of each MESSAGE it answers [`Got::Size`] until [`grant`](Decoder::grant).
 ///
-/// A byte is copied when it is fed and once more into its frame, and a checksum is computed once for
-/// a segment, but for want of memory.
+/// A byte is copied when it is fed, and once more into its frame. A text is judged as its bytes come, and
+/// each of its parts once.
 #[derive(Debug, Drop)]
 pub struct Decoder {
     buffer: BytesMut,
     place: u64,
     granted: bool,
-    stage: Stage,
+    finding: Finding,
 }
 
 impl Model for Decoder {
@@ -40,18 +37,21 @@ impl Model for Decoder {
 
     ghost Value = { Position };
 
-    ghost use Rattle.m2_frame.specs.Decoder.{Holds};
+    ghost use Rattle.m2_frame.specs.Holds.{Holds};
 
     ghost view = { λ d. record { place = d.place; rest = d.buffer.items; granted = d.granted; room = d.buffer.spare } };
 
-    ghost invariant = { λ d. Holds d.stage (record { place = d.place; rest = d.buffer.items; granted = d.granted; room = d.buffer.spare }) };
+    ghost invariant = { λ d. Holds d.finding (record { place = d.place; rest = d.buffer.items; granted = d.granted; room = d.buffer.spare }) };
 }
 
 impl Decoder {
     ghost use Rattle.m2_frame.specs.Position.{Position};
-    ghost use Rattle.m2_frame.specs.Decoder.{Answers, IsSameButRoom, fed, owed, passed};
-    ghost use Rattle.m2_frame.specs.Reading.{bad, judge, front_of, text_len};
-    ghost use Rattle.m2_frame.specs.Judging.{BeginsWith, IsSealed, first_part, later_part};
+    ghost use Rattle.m2_frame.specs.declared.epilogue.Late.TheVariants.{Complete};
+    ghost use Rattle.m2_frame.specs.Decoder.{Answers, IsAtFront, IsAtStart, IsSameButRoom, Passes, fed, owed, passed};
+    ghost use Rattle.m2_frame.specs.Frame.{Parts};
+    ghost use Rattle.m2_frame.specs.Judging.{IsWholeText};
+    ghost use Rattle.m2_frame.specs.Reading.{whole};
+    ghost use Rattle.m2_frame.specs.View.{parts_seen};
 
     /// A decoder at the start of a stream. Takes no memory.
     pub fn new(alloc: Global) -> Decoder
@@ -61,7 +61,7 @@ impl Decoder {
             buffer: BytesMut::new(alloc),
             place: 0,
             granted: false,
-            stage: Stage::Fresh,
+            finding: Finding::Nothing,
         }
     }
 
@@ -89,6 +89,7 @@ impl Decoder {
             return Err(NoMemory);
         }
         self.buffer.extend_from_slice(piece)?;
+        self.finding = find_on(self.finding, self.granted, self.buffer.as_slice());
         Ok(())
     }
 
@@ -96,11 +97,15 @@ impl Decoder {
     pub fn next(&mut self) -> Got
         ensures { Answers self.old result self.new }
     {
-        match self.stage {
-            Stage::Fresh => self.next_preamble(),
-            Stage::Sized(p) => self.next_first(p),
-            Stage::Sealed(p) => self.next_later(p),
-            Stage::Faulty(f) => Got::Fault(f),
+        match self.finding {
+            Finding::Nothing | Finding::Sized(_) | Finding::Sealed(_) => Got::NotYet,
+            Finding::Asking(p) => Got::Size(size_asked(&p)),
+            Finding::Whole(p) => self.next_frame(p),
+            Finding::Aborted(p) => {
+                self.pass_text(len_of_text(&p));
+                Got::Aborted { tag: p.tag }
+            }
+            Finding::Faulty(f) => Got::Fault(f),
         }
     }
 
@@ -110,9 +115,43 @@ impl Decoder {
         ensures { self.new ≡ record self.old { granted = true } }
     {
         self.granted = true;
+        self.finding = find_on(self.finding, true, self.buffer.as_slice());
     }
 
-    /// How many bytes of the stream are whole frames that were answered.
+    /// Whether [`next`](Decoder::next) would answer `NotYet`. It judges nothing.
+    pub fn rests(&self) -> bool
+        ensures { IsTrue result ↔ IsAtStart self.now }
+    {
+        matches!(
+            self.finding,
+            Finding::Nothing | Finding::Sized(_) | Finding::Sealed(_)
+        )
+    }
+
+    /// The frame that [`next`](Decoder::next) would answer, in place; none where it would answer no
+    /// frame. It takes no memory and judges nothing.
+    pub fn look(&self) -> Option<FrameView<'_>>
+        ensures some { IfSome result (λ f. IsAtFront self.now (parts_seen f)) }
+        ensures none { IsNone result → (f : Parts) → ¬ IsAtFront self.now f }
+    {
+        match self.finding {
+            Finding::Whole(p) => Some(view_of(&p, self.buffer.as_slice())),
+            _ => None,
+        }
+    }
+
+    /// Passes the frame at the front, of which nothing is copied. It takes no memory.
+    pub fn pass(&mut self)
+        requires { (f : Parts) × IsAtFront self.old f }
+        ensures { (f : Parts) → IsAtFront self.old f → Passes self.old (whole f) self.new }
+    {
+        match self.finding {
+            Finding::Whole(p) => self.pass_text(len_of_text(&p)),
+            _ => unreachable!(),
+        }
+    }
+
+    /// How many bytes of the stream are whole frames that were answered or passed.
     pub fn place(&self) -> u64
         ensures { result ≡ self.now.place }
     {
@@ -120,102 +159,28 @@ impl Decoder {
     }
 
     /// Passes a text of `n` bytes.
-    fn pass(&mut self, n: usize)
+    fn pass_text(&mut self, n: usize)
         requires { n ≤ length self.old.rest }
         ensures { self.new ≡ passed self.old n }
     {
         self.buffer.advance(n);
         self.place += n as u64;
         self.granted = false;
-        self.stage = Stage::Fresh;
-    }
-
-    /// The next answer where nothing is judged.
-    fn next_preamble(&mut self) -> Got
-        ensures { Answers self.old result self.new }
-    {
-        let rest = self.buffer.as_slice();
-        if rest.len() < PREAMBLE_BYTES {
-            return Got::NotYet;
-        }
-        let (preamble, _) = rest.split_at(PREAMBLE_BYTES);
-        match read_front(preamble) {
-            Ok(p) => {
-                self.stage = Stage::Sized(p);
-                self.next_first(p)
-            }
-            Err(f) => self.fail(f),
-        }
-    }
-
-    /// The next answer where the rest begins with this preamble.
-    fn next_first(&mut self, p: Preamble) -> Got
-        requires { BeginsWith self.old.rest p }
-        ensures { Answers self.old result self.new }
-    {
-        if let Some(size) = owed_of(&p, self.granted) {
-            return Got::Size(size);
-        }
-        match opening_of(&p, self.buffer.as_slice()) {
-            Opening::Short => Got::NotYet,
-            Opening::Wrong => self.fail(FrameFault::BadSegmentCrc { segment: 0 }),
-            Opening::Right => {
-                self.stage = Stage::Sealed(p);
-                self.next_later(p)
-            }
-        }
-    }
-
-    /// The next answer where the first segment is there and right, and nothing is owed.
-    fn next_later(&mut self, p: Preamble) -> Got
-        requires sealed { IsSealed self.old.rest p }
-        requires settled { owed self.old ≡ None }
-        ensures { Answers self.old result self.new }
-    {
-        match end_of(&p, self.buffer.as_slice()) {
-            None => Got::NotYet,
-            Some(Err(f)) => self.fail(f),
-            Some(Ok(Late::Aborted)) => {
-                self.pass(len_of_text(&p));
-                Got::Aborted { tag: p.tag }
-            }
-            Some(Ok(Late::Complete)) => self.next_frame(p),
-        }
+        self.finding = find_on(Finding::Nothing, false, self.buffer.as_slice());
     }
 
     /// The next answer where the front is the text of a frame, and nothing is owed.
     fn next_frame(&mut self, p: Preamble) -> Got
         requires settled { owed self.old ≡ None }
-        requires there { text_len p ≤ length self.old.rest }
-        requires front { judge self.old.rest ≡ front_of p (first_part p self.old.rest) (later_part p self.old.rest) (Ok Late.Complete) }
+        requires front { IsWholeText p Complete self.old.rest }
         ensures { Answers self.old result self.new }
     {
-        match whole_frame(*self.buffer.allocator(), &p, self.buffer.as_slice()) {
+        match view_of(&p, self.buffer.as_slice()).copy(*self.buffer.allocator()) {
             Ok(frame) => {
-                self.pass(len_of_text(&p));
+                self.pass_text(len_of_text(&p));
                 Got::Frame(frame)
             }
             Err(NoMemory) => Got::NoMemory,
         }
     }
-
-    /// Answers a fault, and keeps it.
-    fn fail(&mut self, fault: FrameFault) -> Got
-        requires settled { owed self.old ≡ None }
-        requires front { judge self.old.rest ≡ bad fault }
-        ensures { Answers self.old result self.new }
-    {
-        self.stage = Stage::Faulty(fault);
-        Got::Fault(fault)
-    }
-}
-
-/// The size that a preamble asks for and that isn't granted.
-fn owed_of(p: &Preamble, granted: bool) -> Option<u64>
-    ensures { result ≡ owed_by p.now granted }
-{
-    if p.tag != MESSAGE || granted {
-        return None;
-    }
-    Some(p.second as u64 + p.third as u64 + p.fourth as u64)
 }

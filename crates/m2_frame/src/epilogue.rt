@@ -1,15 +1,13 @@
 //! What follows the first segment: the other segments, and the epilogue that judges them.
 
-ghost use Rattle.std.specs.Prelude.{◌≡◌, ◌+◌, ◌%◌, ◌^◌, ◌<◌, ◌≤◌, length, IfOk};
-ghost use Rattle.m2_frame.specs.Frame.{parts};
+ghost use Rattle.std.specs.Prelude.{◌≡◌, ◌+◌, ◌%◌, ◌^◌, ◌<◌, ◌≤◌, length};
 ghost use Rattle.m2_frame.specs.Reading.{first_len, later_len, first_is_right, is_wrong, second_in, third_in, fourth_in, epilogue_in, judge_late, judge_epilogue, judge_rest, frame_in};
+ghost use Rattle.m2_frame.specs.View.{parts_seen};
 
 use crate::encoding::{CRC_BYTES, EPILOGUE_BYTES, crc_of_segment};
 use crate::fault::FrameFault;
-use crate::frame::Frame;
 use crate::preamble::{Preamble, u32_at};
-use m2_bytes::{Blob, NoMemory};
-use std::alloc::Global;
+use crate::view::FrameView;
 
 /// What the late status says of a frame.
 #[derive(Clone, Copy, Debug, PartialEq, Eq)]
@@ -119,7 +117,7 @@ pub fn judged_rest(p: &Preamble, later: &[u8]) -> Result<Late, FrameFault>
 }
 
 /// The second, third and fourth segment; where one segment is counted they are empty.
-fn segments_of<'a>(p: &Preamble, later: &'a [u8]) -> (&'a [u8], &'a [u8], &'a [u8])
+fn later_segments<'a>(p: &Preamble, later: &'a [u8]) -> (&'a [u8], &'a [u8], &'a [u8])
     requires { length later.now ≡ later_len p.now }
     ensures second { result.0.now ≡ second_in p.now later.now }
     ensures third { result.1.now ≡ third_in p.now later.now }
@@ -133,19 +131,19 @@ fn segments_of<'a>(p: &Preamble, later: &'a [u8]) -> (&'a [u8], &'a [u8], &'a [u
     }
 }
 
-/// The frame, each segment copied into memory of its own.
-pub fn frame_of(alloc: Global, p: &Preamble, first: &[u8], later: &[u8]) -> Result<Frame, NoMemory>
+/// The frame of a text, in place; where one segment is counted the others are empty.
+pub fn segments_of<'a>(p: &Preamble, first: &'a [u8], later: &'a [u8]) -> FrameView<'a>
     requires first { length first.now ≡ first_len p.now }
     requires later { length later.now ≡ later_len p.now }
-    ensures { IfOk result (λ f. parts f ≡ frame_in p.now first.now later.now) }
+    ensures { parts_seen result ≡ frame_in p.now first.now later.now }
 {
-    let (second, third, fourth) = segments_of(p, later);
     let (first, _) = first.split_at(p.first as usize);
-    Ok(Frame {
+    let (second, third, fourth) = later_segments(p, later);
+    FrameView {
         tag: p.tag,
-        first: Blob::of(alloc, first)?,
-        second: Blob::of(alloc, second)?,
-        third: Blob::of(alloc, third)?,
-        fourth: Blob::of(alloc, fourth)?,
-    })
+        first,
+        second,
+        third,
+        fourth,
+    }
 }

@@ -10,12 +10,13 @@ mod decoder;
 mod encoding;
 mod epilogue;
 mod fault;
+mod finding;
 mod frame;
 mod got;
 mod judging;
 mod laws;
 mod preamble;
-mod stage;
+mod view;
 
 pub use decoder::Decoder;
 pub use encoding::encode;
@@ -26,6 +27,7 @@ pub use laws::{
     a_written_frame_is_read, judged_by_the_tables, no_text_begins_another, one_reading,
 };
 pub use preamble::Preamble;
+pub use view::FrameView;
 
 #[cfg(test)]
 mod tests;
