@@ -1,0 +1,136 @@
+"""Runs the program on each example and on each stored run of its own, and compares standard output, standard
+error and the exit status with what is expected.
+
+What is expected stands beside the file, as NAME.stdout, NAME.stderr and NAME.status: a missing one says that nothing
+is written there, and that the status is 0. A file of examples/bad names in its first line the complaint that it gets.
+A file without any of these fails. The stored runs are those of crates/msgr2/runs; NAME.args has their words, one a
+line, in which {} stands for the file.
+
+The kit builds the program once, without a proof (rt ci proves it), and runs it on all in one go. Among them are copies
+of an example with a wrong expectation, and one with none: the comparison must object to each.
+"""
+import os, re, shutil, subprocess, sys, tempfile
+
+TOP = os.path.dirname(os.path.dirname(os.path.abspath(__file__)))
+PROGRAM = os.path.join(TOP, "crates", "msgr2")
+PARTS = ("stdout", "stderr", "status")
+SIDE = re.compile(r"\.(stdout|stderr|status|args)$")
+COMPLAINT = re.compile(r"# (bad scenario: line [0-9]+ kind [0-9]+):")
+BAD_SCENARIO = 2
+FOLDERS = {  # the words that the program gets for a file of the folder; of a stored run they stand beside it
+    "examples": ["sim", "{}"],
+    "examples/bad": ["sim", "{}"],
+    "examples/frames": ["frames", "{}"],
+    "crates/msgr2/runs": None,
+}
+# Copies of this example get a wrong expectation each: the part, and what is wrong about it.
+SAMPLE, SAMPLE_WORDS = "examples/frames/bad_crc.frames", ["frames", "{}"]
+WRONG = {"stdout": "MESSAGE 41 0 0 2\n", "stderr": "bad frames: place 91 fault 9\n", "status": "9\n"}
+
+
+def text_of(name):
+    with open(name, "rb") as file:
+        return file.read()
+
+
+def expected_of(file):
+    """What is expected of a file, by part, or None where nothing says it."""
+    beside = {part: text_of(f"{file}.{part}") for part in PARTS if os.path.exists(f"{file}.{part}")}
+    if beside:
+        return {
+            "stdout": beside.get("stdout", b""),
+            "stderr": beside.get("stderr", b""),
+            "status": int(beside.get("status", b"0")),
+        }
+    first = text_of(file).partition(b"\n")[0].decode("utf-8", "replace")
+    named = COMPLAINT.match(first)
+    return named and {"stdout": b"", "stderr": f"{named[1]}\n".encode(), "status": BAD_SCENARIO}
+
+
+def objections(file, got):
+    """What is wrong about a run of the program on this file."""
+    expected = expected_of(file)
+    if expected is None:
+        return ["nothing says what is expected of it"]
+    return [f"{part}: {got[part]!r}, and expected {expected[part]!r}" for part in PARTS if got[part] != expected[part]]
+
+
+def cases_of(folder, words):
+    """The files of a folder that are run, each with its words; and what stands beside no file."""
+    names = sorted(name for name in os.listdir(os.path.join(TOP, folder)) if os.path.isfile(os.path.join(TOP, folder, name)))
+    cases, stray = {}, []
+    for name in names:
+        if SIDE.search(name):
+            if SIDE.sub("", name) not in names:
+                stray.append(f"{folder}/{name}")
+            continue
+        file = os.path.join(TOP, folder, name)
+        own = text_of(f"{file}.args").decode().split("\n")[:-1] if os.path.exists(f"{file}.args") else []
+        cases[f"{folder}/{name}"] = own if words is None else words
+    return cases, stray
+
+
+def wrong_ones(room):
+    """Copies of an example whose expectation is wrong in one part each, and one that has none."""
+    files = {}
+    for part in [*PARTS, "nothing"]:
+        file = os.path.join(room, f"wrong_{part}")
+        shutil.copy(os.path.join(TOP, SAMPLE), file)
+        for it in PARTS if part != "nothing" else ():
+            shutil.copy(os.path.join(TOP, f"{SAMPLE}.{it}"), f"{file}.{it}")
+        if part in WRONG:
+            with open(f"{file}.{part}", "w", encoding="utf-8") as out:
+                out.write(WRONG[part])
+        files[part] = file
+    return files
+
+
+def run_all(files):
+    """Runs the program on each file with its words, and returns what each run gave."""
+    with tempfile.TemporaryDirectory() as room:
+        for at, (file, words) in enumerate(files):
+            shutil.copy(file, f"{room}/case_{at:04}")
+            with open(f"{room}/case_{at:04}.args", "w", encoding="utf-8") as out:
+                out.write("".join(f"{word}\n" for word in words))
+        ran = subprocess.run(["rt", "try", "--cases", room], cwd=PROGRAM, capture_output=True)
+    pieces = re.split(rb"^== case_([0-9]{4})\n", ran.stdout, flags=re.M)
+    written = dict(zip(pieces[1::2], pieces[2::2]))
+    got, at = {}, 0
+    for end in re.finditer(rb"^case=case_([0-9]{4}) run=ended status=([0-9]+) .*\n", ran.stderr, re.M):
+        got[int(end[1])] = {"stdout": written.get(end[1], b""), "stderr": ran.stderr[at : end.start()], "status": int(end[2])}
+        at = end.end()
+    if len(got) != len(files):
+        sys.stderr.buffer.write(ran.stdout + ran.stderr)
+        sys.exit(f"the program was run on {len(got)} of {len(files)} files")
+    return [got[at] for at in range(len(files))]
+
+
+def main():
+    good = True
+    runs, counts = [], {}
+    for folder, words in FOLDERS.items():
+        cases, stray = cases_of(folder, words)
+        counts[folder] = len(cases)
+        runs += [(os.path.join(TOP, name), its) for name, its in cases.items()]
+        for name in stray:
+            good = False
+            print(f"{name}: stands beside no file")
+    with tempfile.TemporaryDirectory() as room:
+        wrong = wrong_ones(room)
+        got = run_all(runs + [(file, SAMPLE_WORDS) for file in wrong.values()])
+        for (file, _), it in zip(runs, got):
+            for said in objections(file, it):
+                good = False
+                print(f"{os.path.relpath(file, TOP)}: {said}")
+        for (part, file), it in zip(wrong.items(), got[len(runs) :]):
+            said = objections(file, it)
+            if len(said) != 1 or not said[0].startswith(part):
+                good = False
+                print(f"the comparison doesn't object to a wrong expectation ({part}): {said}")
+    for folder, count in counts.items():
+        print(f"{folder}: {count} files run")
+    print("all as expected, and each wrong expectation was objected to" if good else "not all as expected")
+    sys.exit(0 if good else 1)
+
+
+main()
