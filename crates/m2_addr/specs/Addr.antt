@@ -3,11 +3,12 @@
 --
 -- An address is u8 marker 1, u8 version, u8 compat 1, u32 length of the rest, and in the rest u32 kind,
 -- u32 nonce, u32 length of the socket address, and the socket address; further bytes are ignored.
-use Rattle.std.specs.Prelude.{◌≡◌, ◌≢◌, ℕ, ◌<◌, ◌≤◌, ◌^◌, Bool, not, ◌&&◌, ◌==◌, nat_le, if◌then◌else◌, List, [], ◌∷◌, ◌++◌, length, slice_index, Result, Ok}
+use Rattle.std.specs.Prelude.{◌≡◌, ◌≢◌, ℕ, ◌<◌, ◌≤◌, ◌^◌, Bool, not, ◌&&◌, ◌==◌, nat_le, if◌then◌else◌, List, [], ◌∷◌, ◌++◌, length, slice_index, Option, Some, None, Result, Ok}
 use Rattle.std.specs.Int.{w8, w16, w32, to_le_bytes, to_be_bytes, from_be_bytes}
 use Rattle.m2_addr.specs.declared.addr.Addr.{Addr}
 use Rattle.m2_addr.specs.declared.addr.AnyAddr.{AnyAddr}
 use Rattle.m2_addr.specs.declared.addr.AnyAddr.TheVariants.{V4, Other}
+use Rattle.m2_addr.specs.declared.reading.TheConstants.{LEAST_LENGTH, MOST_LENGTH}
 use Rattle.m2_addr.specs.declared.fault.AddrFault.{AddrFault}
 use Rattle.m2_addr.specs.declared.fault.AddrFault.TheVariants.{Short, BadMarker, BadLength, NotIpv4}
 use Rattle.m2_addr.specs.Reading.{◌>>=◌, number, front, checked, marked, ◌⊳◌, made}
@@ -38,8 +39,8 @@ pub record IsShape (s : Shape) (text : List ℕ) : Type 0 where
   pub whole : text ≡ text_of s
   pub more : List ℕ
   pub rest : s.rest ≡ rest_of s more
-  pub least : 12 ≤ length s.rest
-  pub most : length s.rest ≤ 4096
+  pub least : LEAST_LENGTH ≤ length s.rest
+  pub most : length s.rest ≤ MOST_LENGTH
   pub version : s.version ≢ 0
   pub version_fits : s.version < 2 ^ 8
   pub kind : s.kind < 2 ^ 32
@@ -63,6 +64,11 @@ ipv4_of s = record {
 abbrev pub bare : AnyAddr → AnyAddr
 bare (V4 a) = V4 a
 bare (Other b) = Other (record { bytes = b.bytes; room = 0 })
+
+-- the IPv4 address that an address is, where it is one
+abbrev pub ipv4_in : AnyAddr → Option Addr
+ipv4_in (V4 a) = Some a
+ipv4_in (Other b) = None
 
 -- an IPv4 address, or the whole text of any other
 abbrev pub seen : Shape → AnyAddr
@@ -107,7 +113,7 @@ IsWellFormed (Other b) = IsSound (Other b)
 -- version, and the length of the rest
 unfoldable pub head_at : List ℕ → Result ((ℕ × ℕ) × List ℕ) AddrFault
 head_at = marked 1 Short BadMarker (checked (λ v. not (v == 0)) BadMarker (number w8 Short)
-    ⊳ marked 1 Short BadMarker (checked (λ n. nat_le 12 n && nat_le n 4096) BadLength (number w32 Short)))
+    ⊳ marked 1 Short BadMarker (checked (λ n. nat_le LEAST_LENGTH n && nat_le n MOST_LENGTH) BadLength (number w32 Short)))
 
 -- the socket address with its length
 unfoldable pub socket_at : List ℕ → Result (List ℕ × List ℕ) AddrFault

@@ -15,7 +15,8 @@ pub enum AddrFault {
     /// A marker isn't the expected one, the version is 0, or the compat isn't 1.
     #[error("an address has a wrong marker, version or compat")]
     BadMarker,
-    /// The length of an address doesn't fit what it holds, or is above 4,096.
+    /// The length of an address doesn't fit what it holds, or is above
+    /// [`MOST_LENGTH`](crate::MOST_LENGTH).
     #[error("an address has a wrong length")]
     BadLength,
     /// A well-formed address is no IPv4 address.
@@ -24,7 +25,7 @@ pub enum AddrFault {
     /// A vector has no IPv4 address of kind msgr2.
     #[error("no address is an msgr2 address")]
     NoMsgr2,
-    /// A vector has more than 64 addresses.
+    /// A vector has more than [`MOST_ADDRESSES`](crate::MOST_ADDRESSES).
     #[error("more than 64 addresses")]
     TooMany,
     /// Memory ran out.

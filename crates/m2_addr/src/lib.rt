@@ -2,8 +2,8 @@
 //!
 //! What it is: [`Addr`], an IPv4 address with its kind and nonce, and the order of addresses;
 //! [`AnyAddr`], an address as it is read, also of another family; [`AddrVec`], the addresses of
-//! one entity, with its main address. [`read_addr`], [`read_v4`] and [`AddrVec::read`] read
-//! from a [`Reader`](m2_bytes::Reader), [`write_addr`] and [`AddrVec::write`] append to a
+//! one entity, with its main address. [`read_addr`], [`read_v4`], [`AddrVec::read`] and
+//! [`read_main`] read from a [`Reader`](m2_bytes::Reader), [`write_addr`] and [`AddrVec::write`] append to a
 //! [`Blob`](m2_bytes::Blob). What it isn't: sockets or names. [`AddrFault`] names each refusal.
 //!
 //! The format is that of `entity_addr_t` and `entity_addrvec_t` in Ceph's msgr2 documentation;
@@ -18,9 +18,6 @@ mod writing;
 
 pub use addr::{Addr, AnyAddr, addresses_are_ordered};
 pub use fault::AddrFault;
-pub use reading::{read_addr, read_v4};
-pub use vector::AddrVec;
+pub use reading::{LEAST_LENGTH, MOST_LENGTH, read_addr, read_v4};
+pub use vector::{AddrVec, MOST_ADDRESSES, read_main};
 pub use writing::write_addr;
-
-#[cfg(test)]
-mod tests;

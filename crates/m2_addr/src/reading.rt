@@ -6,15 +6,22 @@ ghost use Rattle.m2_addr.specs.declared.addr.Addr.{Addr};
 ghost use Rattle.m2_addr.specs.declared.addr.AnyAddr.{AnyAddr};
 ghost use Rattle.m2_addr.specs.declared.addr.AnyAddr.TheVariants.{V4, Other};
 ghost use Rattle.m2_addr.specs.declared.fault.AddrFault.TheVariants.{NotIpv4};
-ghost use Rattle.m2_addr.specs.Addr.{IsAddress, IsShape, TakesShape, TakesAddress, IsSound, bare, head_text, text_of, head_at, body_of, shape_at, address_at, ipv4_at, is_ipv4, ipv4_of};
+ghost use Rattle.m2_addr.specs.Addr.{IsAddress, IsShape, TakesShape, TakesAddress, IsSound, bare, head_text, text_of, head_at, body_of, shape_at, address_at, ipv4_at, ipv4_in, is_ipv4, ipv4_of};
 ghost use Rattle.m2_addr.specs.Grammar.{IsBytes};
 ghost use Rattle.m2_addr.specs.Outcome.{Gives, GivesFront, GivesRest};
+ghost use Rattle.m2_addr.specs.Reading.{made};
 ghost use Rattle.m2_addr.specs.Shape.{shape};
 
 use crate::addr::{Addr, AnyAddr};
 use crate::fault::AddrFault;
 use m2_bytes::{Blob, NoMemory, Reader, put_u8, put_u32};
 use std::alloc::Global;
+
+/// How many bytes follow the length of an address at least.
+pub const LEAST_LENGTH: u32 = 12;
+
+/// How many bytes follow the length of an address at most.
+pub const MOST_LENGTH: u32 = 4096;
 
 const MARKER: u8 = 1;
 
@@ -36,7 +43,7 @@ struct Parts<'a> {
 fn read_head(r: &mut Reader<'_>) -> Result<(u8, u32), AddrFault>
     ensures exact { GivesFront (λ h. h) result r.new (head_at r.old) }
     ensures text { IfOk result (λ h. r.old ≡ head_text h ++ r.new) }
-    ensures fits { IfOk result (λ h. (h.0 ≢ 0) × (h.0 < 256) × (12 ≤ h.1) × (h.1 ≤ 4096)) }
+    ensures fits { IfOk result (λ h. (h.0 ≢ 0) × (h.0 < 256) × (LEAST_LENGTH ≤ h.1) × (h.1 ≤ MOST_LENGTH)) }
 {
     if r.u8()? != MARKER {
         return Err(AddrFault::BadMarker);
@@ -49,7 +56,7 @@ fn read_head(r: &mut Reader<'_>) -> Result<(u8, u32), AddrFault>
         return Err(AddrFault::BadMarker);
     }
     let length = r.u32()?;
-    if length < 12 || length > 4096 {
+    if length < LEAST_LENGTH || length > MOST_LENGTH {
         return Err(AddrFault::BadLength);
     }
     Ok((version, length))
@@ -78,7 +85,7 @@ fn read_body(rest: &[u8]) -> Result<(u32, u32, &[u8]), AddrFault>
 fn read_parts<'a>(r: &mut Reader<'a>) -> Result<Parts<'a>, AddrFault>
     ensures exact { GivesFront shape result r.new (shape_at r.old) }
     ensures found { IfOk result (λ p. TakesShape (shape p) r.old r.new) }
-    ensures most { IfOk result (λ p. length p.rest.now ≤ 4096) }
+    ensures most { IfOk result (λ p. length p.rest.now ≤ MOST_LENGTH) }
 {
     let (version, length) = read_head(r)?;
     let rest = r.take(length as usize)?;
@@ -117,7 +124,7 @@ impl Parts<'_> {
 
     /// The bytes of the address, from the marker to the end.
     fn copy(&self, alloc: Global) -> Result<Blob, NoMemory>
-        requires { length self.now.rest.now ≤ 4096 }
+        requires { length self.now.rest.now ≤ MOST_LENGTH }
         ensures { IfOk result (λ b. b.bytes ≡ text_of (shape self.now)) }
     {
         let mut text = Blob::empty(alloc);
@@ -154,6 +161,19 @@ fn ipv4(r: &mut Reader<'_>) -> Result<Addr, AddrFault>
         return Err(AddrFault::NotIpv4);
     }
     Ok(parts.ipv4())
+}
+
+/// The address at the front where it is an IPv4 address, none where it is any other. Takes no
+/// memory.
+pub(crate) fn skim(r: &mut Reader<'_>) -> Result<Option<Addr>, AddrFault>
+    ensures { GivesFront (λ a. a) result r.new (made ipv4_in address_at r.old) }
+{
+    let parts = read_parts(r)?;
+    if parts.is_ipv4() {
+        Ok(Some(parts.ipv4()))
+    } else {
+        Ok(None)
+    }
 }
 
 /// Reads the address at the front: an IPv4 address, or the bytes of any other. After a refusal

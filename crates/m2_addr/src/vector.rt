@@ -7,22 +7,25 @@ ghost use Rattle.m2_addr.specs.declared.addr.AnyAddr.{AnyAddr};
 ghost use Rattle.m2_addr.specs.declared.addr.AnyAddr.TheVariants.{V4};
 ghost use Rattle.m2_addr.specs.Addr.{IsSound, bare, any_text};
 ghost use Rattle.std.specs.List.{flat_map};
+ghost use Rattle.m2_addr.specs.declared.reading.TheConstants.{MOST_LENGTH};
 ghost use Rattle.m2_addr.specs.Grammar.{IsBytes};
 ghost use Rattle.m2_addr.specs.Outcome.{Fails, GivesFront, GivesRest};
-ghost use Rattle.m2_addr.specs.Vector.{IsVector, TakesVector, IsKept, bares, addresses_at, count_at, vector_at, vector_text, main_of};
+ghost use Rattle.m2_addr.specs.Vector.{IsVector, TakesVector, IsKept, bares, option_main, main_with, mains_at, main_at, addresses_at, count_at, vector_at, vector_text, main_of};
 
 use crate::addr::{Addr, AnyAddr};
 use crate::fault::AddrFault;
-use crate::reading::read_addr;
+use crate::reading::{read_addr, skim};
 use m2_bytes::{Blob, NoMemory, Reader, put_u8, put_u32};
 use std::alloc::Global;
 use std::marker::Model;
 
 const MARKER: u8 = 2;
 
-const MOST: u32 = 64;
+/// How many addresses a vector has at most.
+pub const MOST_ADDRESSES: u32 = 64;
 
-/// The addresses of one entity, as `entity_addrvec_t` has them: at most 64. Contracts see the
+/// The addresses of one entity, as `entity_addrvec_t` has them: at most [`MOST_ADDRESSES`].
+/// Contracts see the
 /// list of them.
 ///
 /// Makers: [`one`](AddrVec::one), [`read`](AddrVec::read). Readers:
@@ -47,13 +50,13 @@ impl Model for AddrVec {
 /// How many addresses follow, at most 64.
 fn read_count(r: &mut Reader<'_>) -> Result<u32, AddrFault>
     ensures exact { GivesFront (λ n. n) result r.new (count_at r.old) }
-    ensures most { IfOk result (λ n. n ≤ 64) }
+    ensures most { IfOk result (λ n. n ≤ MOST_ADDRESSES) }
 {
     if r.u8()? != MARKER {
         return Err(AddrFault::BadMarker);
     }
     let count = r.u32()?;
-    if count > MOST {
+    if count > MOST_ADDRESSES {
         return Err(AddrFault::TooMany);
     }
     Ok(count)
@@ -87,11 +90,45 @@ fn main_among(addresses: &[AnyAddr]) -> Result<Addr, AddrFault>
     Err(AddrFault::NoMsgr2)
 }
 
+/// The main address that was found, or else this one where it is such.
+fn main_with(found: Option<Addr>, next: Option<Addr>) -> Option<Addr>
+    ensures { result ≡ main_with found next }
+{
+    match (found, next) {
+        (None, Some(a)) if a.kind == Addr::MSGR2 => Some(a),
+        _ => found,
+    }
+}
+
+/// The main address of so many addresses, none where there is none. Takes no memory.
+fn skim_addresses(count: u32, r: &mut Reader<'_>) -> Result<Option<Addr>, AddrFault>
+    ensures { GivesFront option_main result r.new (mains_at count r.old) }
+{
+    let mut main = None;
+    'addresses: for _ in 0..count {
+        let address = skim(r)?;
+        main = main_with(main, address);
+    }
+    Ok(main)
+}
+
+/// Reads the vector at the front, and gives its main address alone: what [`AddrVec::read`] and
+/// [`AddrVec::main`] say of it, without taking memory.
+pub fn read_main(r: &mut Reader<'_>) -> Result<Addr, AddrFault>
+    ensures { GivesFront (λ a. a) result r.new (main_at r.old) }
+{
+    let count = read_count(r)?;
+    match skim_addresses(count, r)? {
+        Some(main) => Ok(main),
+        None => Err(AddrFault::NoMsgr2),
+    }
+}
+
 /// The length of the texts of these addresses, in bytes.
 fn size_of(addresses: &[AnyAddr]) -> usize
     requires { IsKept addresses.now }
     ensures exact { result ≡ length (flat_map any_text addresses.now) }
-    ensures most { result ≤ 64 * 4103 }
+    ensures most { result ≤ MOST_ADDRESSES * (7 + MOST_LENGTH) }
 {
     let mut size = 0;
     'addresses: for address in addresses {
@@ -174,7 +211,7 @@ impl AddrVec {
     /// The length of the text that is written, in bytes.
     pub fn size(&self) -> usize
         ensures exact { result ≡ length (vector_text self.now) }
-        ensures most { result ≤ 5 + 64 * 4103 }
+        ensures most { result ≤ 5 + MOST_ADDRESSES * (7 + MOST_LENGTH) }
         ensures kept { IsKept self.now }
     {
         5 + size_of(self.as_slice())

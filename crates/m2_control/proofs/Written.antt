@@ -71,9 +71,9 @@ regrouped a b c d e f = simp append_assoc
 
 spelled : (c : Control) → HasRanges c → IsInBounds c → Spells c (text_of c)
 spelled (control.Hello p) fit bound = (_, _, (refl, fit.0), any_spelled p.seen fit.1 bound, refl)
-spelled (control.AuthRequest p) fit bound = (_, _, (refl, fit.0), (_, _, list_spelled p.modes fit.1 bound.0, string_spelled p.payload.bytes bound.1, refl), refl)
+spelled (control.AuthRequest p) fit bound = (_, _, (refl, fit.0), (_, _, list_spelled p.modes.items fit.1 bound.0, string_spelled p.payload.bytes bound.1, refl), refl)
 spelled (control.AuthBadMethod p) fit bound =
-    (_, _, (refl, fit.0), (_, _, signed32_spelled p.outcome fit.1, (_, _, list_spelled p.methods fit.2 bound.0, list_spelled p.modes fit.3 bound.1, refl), refl), refl)
+    (_, _, (refl, fit.0), (_, _, signed32_spelled p.outcome fit.1, (_, _, list_spelled p.methods.items fit.2 bound.0, list_spelled p.modes.items fit.3 bound.1, refl), refl), refl)
 spelled (control.AuthDone p) fit bound = (_, _, (refl, fit.0), (_, _, (refl, fit.1), string_spelled p.payload.bytes bound, refl), refl)
 spelled (control.AuthSignature p) fit bound = (refl, bound)
 spelled (control.ClientIdent p) fit bound =

@@ -4,8 +4,8 @@ use Rattle.m2_addr.specs.Reading.{◌>>=◌, made}
 use Rattle.m2_addr.specs.Addr.{IsWellFormed}
 use Rattle.m2_control.specs.declared.control.Control.{Control}
 use Rattle.m2_control.specs.declared.control.Control.TheVariants as control
-use Rattle.m2_control.specs.declared.tag.Tag.{Tag}
-use Rattle.m2_control.specs.declared.tag.Tag.TheVariants as tag
+use Rattle.m2_tag.specs.declared.tag.Tag.{Tag}
+use Rattle.m2_tag.specs.declared.tag.Tag.TheVariants as tag
 use Rattle.m2_control.specs.declared.fault.ControlFault.{ControlFault}
 use Rattle.m2_control.specs.declared.fault.ControlFault.TheVariants.{Extra, NotNegotiated}
 use Rattle.m2_control.specs.Hello.{bare_hello, IsHello, hello_at, hello_text}
@@ -136,8 +136,8 @@ text_of (control.Ack p) = ack_text p
 -- what can be written: lists and byte strings keep their bounds, a signature has 32 bytes, an address is well-formed
 abbrev pub IsWritable : Control → Type 0
 IsWritable (control.Hello p) = IsWellFormed p.seen
-IsWritable (control.AuthRequest p) = (length p.modes ≤ 64) × (length p.payload.bytes ≤ 4096)
-IsWritable (control.AuthBadMethod p) = (length p.methods ≤ 64) × (length p.modes ≤ 64)
+IsWritable (control.AuthRequest p) = (length p.modes.items ≤ 64) × (length p.payload.bytes ≤ 4096)
+IsWritable (control.AuthBadMethod p) = (length p.methods.items ≤ 64) × (length p.modes.items ≤ 64)
 IsWritable (control.AuthDone p) = length p.payload.bytes ≤ 4096
 IsWritable (control.AuthSignature p) = length p.signature.bytes ≡ 32
 IsWritable _ = Unit {0}

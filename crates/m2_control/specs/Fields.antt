@@ -13,6 +13,7 @@ use Rattle.m2_addr.specs.Grammar.{◌▹◌, IsNumber, IsText, IsString}
 use Rattle.m2_addr.specs.Addr.{IsAddress}
 use Rattle.m2_addr.specs.Vector.{IsVector, vector_at, main_of}
 use Rattle.m2_bytes.specs.Blob.{Contents}
+use Rattle.m2_bytes.specs.Items.{Holding}
 use Rattle.m2_control.specs.declared.fault.ControlFault.{ControlFault}
 use Rattle.m2_control.specs.declared.fault.ControlFault.TheVariants.{Short, BadValue, Address}
 
@@ -105,6 +106,10 @@ list_text ns = to_le_bytes w32 (length ns) ++ flat_map (to_le_bytes w32) ns
 
 abbrev pub string_text : List ℕ → List ℕ
 string_text bytes = to_le_bytes w32 (length bytes) ++ bytes
+
+-- numbers without where they lie in memory
+abbrev pub listed : List ℕ → Holding ℕ
+listed ns = record { items = ns; room = 0 }
 
 -- bytes without where they lie in memory
 abbrev pub blob : List ℕ → Contents

@@ -44,8 +44,8 @@ server_tail p = record { gid = p.gid; global = p.global; supported = p.supported
 -- what each payload of the program keeps by its types; of a vector it is what every vector keeps
 abbrev pub HasRanges : Control → Type 0
 HasRanges (control.Hello p) = (p.entity < 2 ^ 8) × HasAnyRanges p.seen
-HasRanges (control.AuthRequest p) = (p.method < 2 ^ 32) × AreWords p.modes
-HasRanges (control.AuthBadMethod p) = (p.method < 2 ^ 32) × FitsSigned w32 p.outcome × AreWords p.methods × AreWords p.modes
+HasRanges (control.AuthRequest p) = (p.method < 2 ^ 32) × AreWords p.modes.items
+HasRanges (control.AuthBadMethod p) = (p.method < 2 ^ 32) × FitsSigned w32 p.outcome × AreWords p.methods.items × AreWords p.modes.items
 HasRanges (control.AuthDone p) = (p.global_id < 2 ^ 64) × (p.mode < 2 ^ 32)
 HasRanges (control.AuthSignature p) = Unit {0}
 HasRanges (control.ClientIdent p) = IsKept p.addrs × HasAddrRanges p.target × HasTailRanges (client_tail p)

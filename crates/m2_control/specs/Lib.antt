@@ -1,7 +1,6 @@
 pub mod Outcome
 pub mod Fields
 pub mod Ident
-pub mod Tags
 pub mod Hello
 pub mod AuthRequest
 pub mod AuthBadMethod

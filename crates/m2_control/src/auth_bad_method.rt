@@ -40,8 +40,8 @@ impl AuthBadMethod {
     }
 
     pub(crate) fn write(&self, out: &mut Blob) -> Result<(), NoMemory>
-        requires methods { length self.now.methods ≤ 64 }
-        requires modes { length self.now.modes ≤ 64 }
+        requires methods { length self.now.methods.items ≤ 64 }
+        requires modes { length self.now.modes.items ≤ 64 }
         ensures { Appends result out.old out.new (auth_bad_method_text self.now) }
     {
         let methods = self.methods.as_slice();

@@ -36,7 +36,7 @@ impl AuthRequest {
     }
 
     pub(crate) fn write(&self, out: &mut Blob) -> Result<(), NoMemory>
-        requires modes { length self.now.modes ≤ 64 }
+        requires modes { length self.now.modes.items ≤ 64 }
         requires payload { length self.now.payload.bytes ≤ 4096 }
         ensures { Appends result out.old out.new (auth_request_text self.now) }
     {

@@ -3,10 +3,11 @@
 ghost use Rattle.std.specs.Prelude.{◌≡◌, ◌≢◌, ◌≤◌, ℕ, List, IfOk, Ok};
 ghost use Rattle.m2_bytes.specs.Blob.{Appends};
 ghost use Rattle.m2_addr.specs.Grammar.{IsBytes};
-ghost use Rattle.m2_control.specs.declared.tag.Tag.{Tag};
+ghost use Rattle.m2_tag.specs.declared.tag.Tag.{Tag};
+ghost use Rattle.m2_tag.specs.declared.tag.TheConstants.{FIRST_TAG, LAST_TAG};
 ghost use Rattle.m2_control.specs.declared.control.Control.{Control};
 ghost use Rattle.m2_control.specs.Outcome.{Gives, GivesRest};
-ghost use Rattle.m2_control.specs.Tags.{tag_number};
+ghost use Rattle.m2_tag.specs.Tags.{tag_number};
 ghost use Rattle.m2_control.specs.Control.{Spells, IsWritable, bare, tag_of, text_of, fields_at, payload_of};
 
 use crate::ack::Ack;
@@ -26,7 +27,7 @@ use crate::session_reconnect_ok::SessionReconnectOk;
 use crate::session_reset::SessionReset;
 use crate::session_retry::SessionRetry;
 use crate::session_retry_global::SessionRetryGlobal;
-use crate::tag::Tag;
+use m2_tag::Tag;
 use crate::wait::Wait;
 use m2_bytes::{Blob, NoMemory, Reader};
 use std::alloc::Global;
@@ -108,8 +109,8 @@ fn read_tagged(alloc: Global, tag: Tag, payload: &[u8]) -> Result<Control, Contr
 impl Control {
     /// Reads the payload of a control frame with this tag, which isn't that of a message.
     pub fn read(alloc: Global, tag: u8, payload: &[u8]) -> Result<Control, ControlFault>
-        requires known { (1 ≤ tag) × (tag ≤ 22) }
-        requires control { tag ≢ 17 }
+        requires known { (FIRST_TAG ≤ tag) × (tag ≤ LAST_TAG) }
+        requires control { tag ≢ tag_number Tag.Message }
         // What is read is spelled so, and has this tag.
         ensures found { IfOk result (λ c. Spells (bare c) payload.now × (tag_number (tag_of (bare c)) ≡ tag)) }
         // What is spelled so is read, unless memory runs out.

@@ -84,7 +84,7 @@ fn read_numbers(alloc: Global, count: u32, r: &mut Reader<'_>) -> Result<Vec<u32
 /// At most 64 numbers behind their count, else the field has a bad value.
 #[tactic(auto, unfolding(crate::specs::Fields::list_at))]
 pub fn numbers(alloc: Global, r: &mut Reader<'_>, field: u8) -> Result<NumList, ControlFault>
-    ensures { GivesRest (λ ns. ns) result r.new (list_at field r.old) }
+    ensures { GivesRest (λ ns. ns.items) result r.new (list_at field r.old) }
 {
     let count = r.u32()?;
     if count > MOST_LISTED {

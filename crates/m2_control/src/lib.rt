@@ -2,8 +2,7 @@
 //!
 //! What it is: [`Banner`], read step by step by [`read_banner`] and appended by [`write_banner`];
 //! [`Control`], one variant a payload, read by [`Control::read`] under the tag of its frame and
-//! appended by [`Control::write`]; [`Tag`], the tags and their numbers. [`ControlFault`] names
-//! each refusal. [`written_payload_is_read`] and [`written_banner_is_read`] are laws. What it
+//! appended by [`Control::write`]. [`ControlFault`] names each refusal. [`written_payload_is_read`] and [`written_banner_is_read`] are laws. What it
 //! isn't: frames, or what a side does with a payload.
 //!
 //! The formats are those of Ceph's msgr2 documentation; what is refused, and in which order, is
@@ -32,7 +31,6 @@ mod session_reconnect_ok;
 mod session_reset;
 mod session_retry;
 mod session_retry_global;
-mod tag;
 mod wait;
 
 pub use ack::Ack;
@@ -56,7 +54,6 @@ pub use session_reconnect_ok::SessionReconnectOk;
 pub use session_reset::SessionReset;
 pub use session_retry::SessionRetry;
 pub use session_retry_global::SessionRetryGlobal;
-pub use tag::Tag;
 pub use wait::Wait;
 
 #[cfg(test)]

@@ -1,4 +1,4 @@
-use super::*;
+use m2_addr::*;
 use m2_bytes::{Blob, Reader};
 use std::cmp::Ordering;
 use std::test::*;
