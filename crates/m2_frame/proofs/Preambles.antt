@@ -3,9 +3,11 @@
 use Rattle.std.proofs.Common.{◌≡◌, ℕ, ◌<◌, ◌≤◌, ◌%◌, Bool, true, false, cond, ltb, eqb, List, length, take, Result, Ok, Err, refl, sym, ap, ◌∙◌, subst, arith, inl, inr}
 use Rattle.std.specs.Prelude.{◌==◌, ◌||◌, ◌&&◌, nat_lt, slice_index}
 use Rattle.std.proofs.lemmas.Bool.{cases_lt, cases_eq, lt-ltb, le-ltb, ltb-false, eqb-true, eqb-false, eq-eqb, ne_eqb, cond-true, cond-false, or_from, or_parts, and_cases, and_left, and_right}
+use Rattle.m2_tag.specs.declared.tag.TheConstants.{FIRST_TAG, LAST_TAG}
 use Rattle.m2_crc.specs.Crc.{crc_of}
 use Rattle.m2_frame.specs.declared.fault.FrameFault.{FrameFault}
 use Rattle.m2_frame.specs.declared.fault.FrameFault.TheVariants.{BadPreambleCrc, BadCount, LastEmpty, Compressed, BadTag, BadSegments, TooLong}
+use Rattle.m2_frame.specs.declared.frame.TheConstants.{MOST_SEGMENTS}
 use Rattle.m2_frame.specs.declared.preamble.Preamble.{Preamble}
 use Rattle.m2_frame.specs.Frame.{Parts, count_by_lengths, most_segments, segment_limit, Fits}
 use Rattle.m2_frame.specs.Preamble.{number_at, counted_length, preamble_in, last_length, is_too_long, judge_fields, read_preamble, preamble_of}
@@ -126,8 +128,8 @@ count-counted p k =
 -- no refusal holds
 pub record IsAllowed (p : Preamble) : Type 0 where
   pub counted : IsCounted p
-  pub tag_from : 1 ≤ p.tag
-  pub tag_to : p.tag ≤ 22
+  pub tag_from : FIRST_TAG ≤ p.tag
+  pub tag_to : p.tag ≤ LAST_TAG
   pub segments : p.count ≤ most_segments p.tag
   pub first : p.first ≤ segment_limit p.tag
   pub second : p.second ≤ segment_limit p.tag
@@ -153,7 +155,7 @@ abbrev if_few : Preamble → Result Preamble FrameFault
 if_few p = cond (nat_lt (most_segments p.tag) p.count) (Err BadSegments) (if_short p)
 
 abbrev if_known : Preamble → Result Preamble FrameFault
-if_known p = cond ((p.tag == 0) || nat_lt 22 p.tag) (Err BadTag) (if_few p)
+if_known p = cond (nat_lt p.tag FIRST_TAG || nat_lt LAST_TAG p.tag) (Err BadTag) (if_few p)
 
 abbrev if_plain : ℕ → Preamble → Result Preamble FrameFault
 if_plain flags p = cond (flags % 2 == 1) (Err Compressed) (if_known p)
@@ -180,12 +182,12 @@ isnt_too_long p a =
 judge_fields-allowed : (flags : ℕ) (p : Preamble) → flags % 2 ≡ 0 → IsAllowed p → judge_fields flags p ≡ Ok p
 judge_fields-allowed flags p plain a =
     let k = a.counted in
-    cond-false ((p.count == 0) || nat_lt 4 p.count) (Err BadCount) (if_last flags p)
-    (or_from (eqb p.count 0) (ltb 4 p.count) (ne_eqb p.count 0 (λ e. omega (arith, e, k.from))) (le-ltb 4 p.count k.to))
+    cond-false ((p.count == 0) || nat_lt MOST_SEGMENTS p.count) (Err BadCount) (if_last flags p)
+    (or_from (eqb p.count 0) (ltb MOST_SEGMENTS p.count) (ne_eqb p.count 0 (λ e. omega (arith, e, k.from))) (le-ltb MOST_SEGMENTS p.count k.to))
     ∙ cond-false (nat_lt 1 p.count && (last_length p == 0)) (Err LastEmpty) (if_plain flags p) (last_is_some p k)
     ∙ cond-false (flags % 2 == 1) (Err Compressed) (if_known p) (ne_eqb (flags % 2) 1 (λ e. omega (arith, e, plain)))
-    ∙ cond-false ((p.tag == 0) || nat_lt 22 p.tag) (Err BadTag) (if_few p)
-    (or_from (eqb p.tag 0) (ltb 22 p.tag) (ne_eqb p.tag 0 (λ e. omega (arith, e, a.tag_from))) (le-ltb 22 p.tag a.tag_to))
+    ∙ cond-false (nat_lt p.tag FIRST_TAG || nat_lt LAST_TAG p.tag) (Err BadTag) (if_few p)
+    (or_from (ltb p.tag FIRST_TAG) (ltb LAST_TAG p.tag) (le-ltb p.tag FIRST_TAG a.tag_from) (le-ltb LAST_TAG p.tag a.tag_to))
     ∙ cond-false (nat_lt (most_segments p.tag) p.count) (Err BadSegments) (if_short p) (le-ltb (most_segments p.tag) p.count a.segments)
     ∙ cond-false (is_too_long p) (Err TooLong) (Ok p) (isnt_too_long p a)
 
@@ -218,23 +220,22 @@ last_from p e some =
 fields_allowed : (flags : ℕ) (p q : Preamble) → IsQuiet p → judge_fields flags p ≡ Ok q → (p ≡ q) × (flags % 2 ≡ 0) × IsAllowed p
 fields_allowed flags p q quiet e =
     let most = segment_limit p.tag in
-    let count = not_refused ((p.count == 0) || nat_lt 4 p.count) BadCount (if_last flags p) q e in
+    let count = not_refused ((p.count == 0) || nat_lt MOST_SEGMENTS p.count) BadCount (if_last flags p) q e in
     let last = not_refused (nat_lt 1 p.count && (last_length p == 0)) LastEmpty (if_plain flags p) q count.1 in
     let plain = not_refused (flags % 2 == 1) Compressed (if_known p) q last.1 in
-    let tag = not_refused ((p.tag == 0) || nat_lt 22 p.tag) BadTag (if_few p) q plain.1 in
+    let tag = not_refused (nat_lt p.tag FIRST_TAG || nat_lt LAST_TAG p.tag) BadTag (if_few p) q plain.1 in
     let few = not_refused (nat_lt (most_segments p.tag) p.count) BadSegments (if_short p) q tag.1 in
     let short = not_refused (is_too_long p) TooLong (Ok p) q few.1 in
-    let counts = or_parts (eqb p.count 0) (ltb 4 p.count) count.0 in
-    let tags = or_parts (eqb p.tag 0) (ltb 22 p.tag) tag.0 in
+    let counts = or_parts (eqb p.count 0) (ltb MOST_SEGMENTS p.count) count.0 in
+    let tags = or_parts (ltb p.tag FIRST_TAG) (ltb LAST_TAG p.tag) tag.0 in
     let upto_fourth = or_parts (ltb most p.first || ltb most p.second || ltb most p.third) (ltb most p.fourth) short.0 in
     let upto_third = or_parts (ltb most p.first || ltb most p.second) (ltb most p.third) upto_fourth.0 in
     let upto_second = or_parts (ltb most p.first) (ltb most p.second) upto_third.0 in
     let some_count : p.count ≡ 0 → ⊥ = eqb-false p.count 0 counts.0 in
-    let some_tag : p.tag ≡ 0 → ⊥ = eqb-false p.tag 0 tags.0 in
     let isnt_one : flags % 2 ≡ 1 → ⊥ = eqb-false (flags % 2) 1 plain.0 in
     let counted : IsCounted p = record {
       from = omega (arith, some_count);
-      to = ltb-false 4 p.count counts.1;
+      to = ltb-false MOST_SEGMENTS p.count counts.1;
       last = last_from p last.0;
       second = quiet.second;
       third = quiet.third;
@@ -242,8 +243,8 @@ fields_allowed flags p q quiet e =
     } in
     let allowed : IsAllowed p = record {
       counted = counted;
-      tag_from = omega (arith, some_tag);
-      tag_to = ltb-false 22 p.tag tags.1;
+      tag_from = ltb-false p.tag FIRST_TAG tags.0;
+      tag_to = ltb-false LAST_TAG p.tag tags.1;
       segments = ltb-false (most_segments p.tag) p.count few.0;
       first = ltb-false most p.first upto_second.0;
       second = ltb-false most p.second upto_second.1;

@@ -9,9 +9,11 @@ use Rattle.std.proofs.lemmas.List.Elements.{All-from_recursion, All-cons, All-ap
 use Rattle.std.proofs.lemmas.Nat.{from_le_bytes-to_le_bytes_4}
 use Rattle.m2_crc.specs.Crc.{crc_of}
 use Rattle.m2_frame.specs.declared.preamble.Preamble.{Preamble}
-use Rattle.m2_frame.specs.Frame.{Parts, count_of, segment_limit, Fits}
+use Rattle.m2_frame.specs.declared.encoding.TheConstants.{COMPLETE}
+use Rattle.m2_frame.specs.declared.frame.TheConstants.{CONTROL_LIMIT, MESSAGE_LIMIT}
+use Rattle.m2_frame.specs.Frame.{Parts, count_of, message_tag, segment_limit, Fits}
 use Rattle.m2_frame.specs.Preamble.{number_at, preamble_of, alignment, descriptor, preamble_body, preamble_text}
-use Rattle.m2_frame.specs.Text.{segment_crc, crc_field, first_text, epilogue_field, complete, epilogue, later_text, text_of}
+use Rattle.m2_frame.specs.Text.{segment_crc, crc_field, first_text, epilogue_field, epilogue, later_text, text_of}
 use Rattle.m2_frame.specs.Grammar.{IsPreambleText, IsChecksumText, IsFirstText, IsEpilogueText, IsLaterText, IsFrameText, AreBytes}
 use Rattle.m2_frame.proofs.Checksums.{crc_of-below, segment_crc-below}
 use Rattle.m2_frame.proofs.Preambles.{IsAllowed, allowed-fits}
@@ -48,10 +50,10 @@ body_bytes p t n =
     (descriptor_bytes p.fourth (alignment p 3)))
     (All-from_recursion IsByte z (omega arith, (omega arith, tt)))))
 
-limit_is_small : (tag : ℕ) → segment_limit tag ≤ 134217728
-limit_is_small tag = cond_both (tag == 17) 134217728 1048576 (λ (n : ℕ). n ≤ 134217728) (λ _. omega arith) (λ _. omega arith)
+limit_is_small : (tag : ℕ) → segment_limit tag ≤ MESSAGE_LIMIT
+limit_is_small tag = cond_both (tag == message_tag) MESSAGE_LIMIT CONTROL_LIMIT (λ (n : ℕ). n ≤ MESSAGE_LIMIT) (λ _. omega arith) (λ _. omega arith)
 
-read_back : (n most : ℕ) → n ≤ most → most ≤ 134217728 → from_le_bytes w32 (to_le_bytes w32 n) ≡ n
+read_back : (n most : ℕ) → n ≤ most → most ≤ MESSAGE_LIMIT → from_le_bytes w32 (to_le_bytes w32 n) ≡ n
 read_back n most h small = from_le_bytes-to_le_bytes_4 n (omega (arith, h, small))
 
 preamble_written : (p : Preamble) → IsAllowed p → IsPreambleText p (preamble_text p)
@@ -107,14 +109,14 @@ epilogue_written f bytes =
     let c_long : length c ≡ 4 = field_long 3 n f.fourth in
     let ab_long : length (a ++ b) ≡ 8 = omega (arith, length-append a b, a_long, b_long) in
     let abc_long : length (a ++ b ++ c) ≡ 12 = omega (arith, length-append (a ++ b) c, ab_long, c_long) in
-    let shifted : epilogue f ≡ complete ∷ (a ++ (b ++ c)) = ap (λ (x : List ℕ). complete ∷ x) (append_assoc a b c) in
-    let ended : epilogue f ≡ complete ∷ ((a ++ b) ++ (c ++ [])) = ap (λ (x : List ℕ). complete ∷ ((a ++ b) ++ x)) (sym (append-nil c)) in
+    let shifted : epilogue f ≡ COMPLETE ∷ (a ++ (b ++ c)) = ap (λ (x : List ℕ). COMPLETE ∷ x) (append_assoc a b c) in
+    let ended : epilogue f ≡ COMPLETE ∷ ((a ++ b) ++ (c ++ [])) = ap (λ (x : List ℕ). COMPLETE ∷ ((a ++ b) ++ x)) (sym (append-nil c)) in
     record {
       long = omega (arith, abc_long);
       late = refl;
-      second = λ h. ap (number_at 1) shifted ∙ number_within (complete ∷ []) a (b ++ c) 1 refl a_long ∙ field_crc 1 n f.second bytes.second h;
-      third = λ h. ap (number_at 5) shifted ∙ number_within (complete ∷ a) b c 5 (omega (arith, a_long)) b_long ∙ field_crc 2 n f.third bytes.third h;
-      fourth = λ h. ap (number_at 9) ended ∙ number_within (complete ∷ (a ++ b)) c [] 9 (omega (arith, ab_long)) c_long ∙ field_crc 3 n f.fourth bytes.fourth h;
+      second = λ h. ap (number_at 1) shifted ∙ number_within (COMPLETE ∷ []) a (b ++ c) 1 refl a_long ∙ field_crc 1 n f.second bytes.second h;
+      third = λ h. ap (number_at 5) shifted ∙ number_within (COMPLETE ∷ a) b c 5 (omega (arith, a_long)) b_long ∙ field_crc 2 n f.third bytes.third h;
+      fourth = λ h. ap (number_at 9) ended ∙ number_within (COMPLETE ∷ (a ++ b)) c [] 9 (omega (arith, ab_long)) c_long ∙ field_crc 3 n f.fourth bytes.fourth h;
     }
 
 later_written : (f : Parts) → AreBytes f → IsLaterText 0xE f (later_text f)

@@ -6,7 +6,9 @@
 use Rattle.std.specs.Prelude.{◌≡◌, ℕ, ◌<◌, ◌%◌, List, [], ◌∷◌, ◌++◌, length, take, slice_index}
 use Rattle.std.specs.List.{All}
 use Rattle.m2_crc.specs.Crc.{crc_of}
+use Rattle.m2_frame.specs.declared.encoding.TheConstants.{ABORTED, COMPLETE, CRC_BYTES, EPILOGUE_BYTES}
 use Rattle.m2_frame.specs.declared.preamble.Preamble.{Preamble}
+use Rattle.m2_frame.specs.declared.preamble.TheConstants.{COVERED_BYTES, PREAMBLE_BYTES}
 use Rattle.m2_frame.specs.Frame.{Parts, count_of, Fits}
 use Rattle.m2_frame.specs.Preamble.{number_at, preamble_of}
 use Rattle.m2_frame.specs.Reading.{Item, whole, dropped}
@@ -15,7 +17,7 @@ use Rattle.m2_frame.specs.Text.{segment_crc}
 -- the preamble, by its places: tag, count, the lengths of the counted segments, flags, and the checksum of
 -- all before it
 pub record IsPreambleText (p : Preamble) (text : List ℕ) : Type 0 where
-  pub long : length text ≡ 32
+  pub long : length text ≡ PREAMBLE_BYTES
   pub tag : slice_index text 0 ≡ p.tag
   pub count : slice_index text 1 ≡ p.count
   pub first : number_at 2 text ≡ p.first
@@ -23,11 +25,11 @@ pub record IsPreambleText (p : Preamble) (text : List ℕ) : Type 0 where
   pub third : 2 < p.count → number_at 14 text ≡ p.third
   pub fourth : 3 < p.count → number_at 20 text ≡ p.fourth
   pub uncompressed : slice_index text 26 % 2 ≡ 0
-  pub crc : number_at 28 text ≡ crc_of 0 (take 28 text)
+  pub crc : number_at COVERED_BYTES text ≡ crc_of 0 (take COVERED_BYTES text)
 
 -- the checksum of a segment
 pub record IsChecksumText (segment : List ℕ) (text : List ℕ) : Type 0 where
-  pub long : length text ≡ 4
+  pub long : length text ≡ CRC_BYTES
   pub crc : number_at 0 text ≡ segment_crc segment
 
 -- the first segment, and its checksum where it isn't empty
@@ -37,7 +39,7 @@ IsFirstText (b ∷ bs) text = (crc : List ℕ) × (text ≡ (b ∷ bs) ++ crc) �
 
 -- the epilogue, by its places: the late status, and the checksums of the other counted segments
 pub record IsEpilogueText (low : ℕ) (f : Parts) (text : List ℕ) : Type 0 where
-  pub long : length text ≡ 13
+  pub long : length text ≡ EPILOGUE_BYTES
   pub late : slice_index text 0 % 16 ≡ low
   pub second : 1 < count_of f → number_at 1 text ≡ segment_crc f.second
   pub third : 2 < count_of f → number_at 5 text ≡ segment_crc f.third
@@ -61,11 +63,11 @@ pub record IsText (low : ℕ) (f : Parts) (text : List ℕ) : Type 0 where
 
 -- the text of a frame
 abbrev pub IsFrameText : Parts → List ℕ → Type 0
-IsFrameText f text = IsText 0xE f text
+IsFrameText f text = IsText COMPLETE f text
 
 -- the text of a frame of several segments with this tag that its sender gave up
 abbrev pub IsAbortText : ℕ → List ℕ → Type 0
-IsAbortText tag text = (f : Parts) × (f.tag ≡ tag) × (1 < count_of f) × IsText 0x1 f text
+IsAbortText tag text = (f : Parts) × (f.tag ≡ tag) × (1 < count_of f) × IsText ABORTED f text
 
 abbrev pub IsItemText : Item → List ℕ → Type 0
 IsItemText (whole f) text = IsFrameText f text

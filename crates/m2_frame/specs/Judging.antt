@@ -9,25 +9,26 @@ use Rattle.m2_frame.specs.declared.finding.Finding.TheVariants as found
 use Rattle.m2_frame.specs.declared.judging.Opening.{Opening}
 use Rattle.m2_frame.specs.declared.judging.Opening.TheVariants.{Short, Wrong, Right}
 use Rattle.m2_frame.specs.declared.preamble.Preamble.{Preamble}
+use Rattle.m2_frame.specs.declared.preamble.TheConstants.{PREAMBLE_BYTES}
 use Rattle.m2_frame.specs.Preamble.{read_preamble}
 use Rattle.m2_frame.specs.Reading.{start, bad, first_len, later_len, text_len, first_is_right, front_of, judge, asked_by, owed_at}
 
 -- the first segment with its checksum, and what follows it in the text
 abbrev pub first_part : Preamble → List ℕ → List ℕ
-first_part p rest = take (first_len p) (drop 32 rest)
+first_part p rest = take (first_len p) (drop PREAMBLE_BYTES rest)
 
 abbrev pub later_part : Preamble → List ℕ → List ℕ
-later_part p rest = take (later_len p) (drop (first_len p) (drop 32 rest))
+later_part p rest = take (later_len p) (drop (first_len p) (drop PREAMBLE_BYTES rest))
 
 -- the rest begins with this preamble
 pub record BeginsWith (rest : List ℕ) (p : Preamble) : Type 0 where
-  pub there : 32 ≤ length rest
-  pub read : read_preamble (take 32 rest) ≡ Ok p
+  pub there : PREAMBLE_BYTES ≤ length rest
+  pub read : read_preamble (take PREAMBLE_BYTES rest) ≡ Ok p
 
 -- the rest begins with this preamble and a right first segment
 pub record IsSealed (rest : List ℕ) (p : Preamble) : Type 0 where
-  pub there : 32 + first_len p ≤ length rest
-  pub read : read_preamble (take 32 rest) ≡ Ok p
+  pub there : PREAMBLE_BYTES + first_len p ≤ length rest
+  pub read : read_preamble (take PREAMBLE_BYTES rest) ≡ Ok p
   pub right : first_is_right p (first_part p rest) ≡ true
 
 -- what the first segment says of the rest

@@ -6,7 +6,10 @@ use Rattle.std.specs.Int.{w16, w32, to_le_bytes, from_le_bytes}
 use Rattle.m2_crc.specs.Crc.{crc_of}
 use Rattle.m2_frame.specs.declared.fault.FrameFault.{FrameFault}
 use Rattle.m2_frame.specs.declared.fault.FrameFault.TheVariants.{BadPreambleCrc, BadCount, LastEmpty, Compressed, BadTag, BadSegments, TooLong}
+use Rattle.m2_tag.specs.declared.tag.TheConstants.{FIRST_TAG, LAST_TAG}
+use Rattle.m2_frame.specs.declared.frame.TheConstants.{MOST_SEGMENTS}
 use Rattle.m2_frame.specs.declared.preamble.Preamble.{Preamble}
+use Rattle.m2_frame.specs.declared.preamble.TheConstants.{COVERED_BYTES, DATA_ALIGNMENT, DATA_SEGMENT, PREAMBLE_BYTES, SEGMENT_ALIGNMENT}
 use Rattle.m2_frame.specs.Frame.{Parts, count_of, most_segments, segment_limit}
 
 -- four bytes as a number, the lowest first
@@ -41,10 +44,10 @@ is_too_long p =
 -- the refusals that speak of what the bytes say, in their order; `flags` is the byte of that name
 abbrev pub judge_fields : ℕ → Preamble → Result Preamble FrameFault
 judge_fields flags p =
-    if p.count == 0 || nat_lt 4 p.count then Err BadCount
+    if p.count == 0 || nat_lt MOST_SEGMENTS p.count then Err BadCount
     else if nat_lt 1 p.count && (last_length p == 0) then Err LastEmpty
     else if flags % 2 == 1 then Err Compressed
-    else if p.tag == 0 || nat_lt 22 p.tag then Err BadTag
+    else if nat_lt p.tag FIRST_TAG || nat_lt LAST_TAG p.tag then Err BadTag
     else if nat_lt (most_segments p.tag) p.count then Err BadSegments
     else if is_too_long p then Err TooLong
     else Ok p
@@ -52,11 +55,11 @@ judge_fields flags p =
 -- the preamble that the bytes are, or the first refusal
 unfoldable pub read_preamble : List ℕ → Result Preamble FrameFault
 read_preamble text =
-    if crc_of 0 (take 28 text) == number_at 28 text then judge_fields (slice_index text 26) (preamble_in text) else Err BadPreambleCrc
+    if crc_of 0 (take COVERED_BYTES text) == number_at COVERED_BYTES text then judge_fields (slice_index text 26) (preamble_in text) else Err BadPreambleCrc
 
 -- the bytes are this preamble: their checksum is right and no refusal holds
 abbrev pub IsPreamble : List ℕ → Preamble → Type 0
-IsPreamble text p = (length text ≡ 32) × (read_preamble text ≡ Ok p)
+IsPreamble text p = (length text ≡ PREAMBLE_BYTES) × (read_preamble text ≡ Ok p)
 
 -- ---- as it is written
 
@@ -66,7 +69,7 @@ preamble_of f = record { tag = f.tag; count = count_of f; first = length f.first
 
 -- the alignment of a counted segment: pages for the data of a MESSAGE, else 8
 abbrev pub alignment : Preamble → ℕ → ℕ
-alignment p segment = if nat_lt segment p.count then (if nat_lt segment 3 then 8 else 4096) else 0
+alignment p segment = if nat_lt segment p.count then (if nat_lt segment DATA_SEGMENT then SEGMENT_ALIGNMENT else DATA_ALIGNMENT) else 0
 
 abbrev pub descriptor : ℕ → ℕ → List ℕ
 descriptor len aligned = to_le_bytes w32 len ++ to_le_bytes w16 aligned

@@ -6,7 +6,9 @@ use Rattle.m2_frame.specs.declared.fault.FrameFault.{FrameFault}
 use Rattle.m2_frame.specs.declared.fault.FrameFault.TheVariants.{BadSegmentCrc, BadLate}
 use Rattle.m2_frame.specs.declared.epilogue.Late.{Late}
 use Rattle.m2_frame.specs.declared.epilogue.Late.TheVariants.{Complete, Aborted}
+use Rattle.m2_frame.specs.declared.encoding.TheConstants.{ABORTED, COMPLETE, CRC_BYTES, EPILOGUE_BYTES}
 use Rattle.m2_frame.specs.declared.preamble.Preamble.{Preamble}
+use Rattle.m2_frame.specs.declared.preamble.TheConstants.{PREAMBLE_BYTES}
 use Rattle.m2_frame.specs.Frame.{Parts, message_tag}
 use Rattle.m2_frame.specs.Preamble.{number_at, read_preamble}
 use Rattle.m2_frame.specs.Text.{segment_crc}
@@ -25,13 +27,13 @@ pub data Front : Type 0 where
 -- ---- the parts of a text: the preamble, the first segment with its checksum, and what follows
 
 abbrev pub first_len : Preamble → ℕ
-first_len p = if p.first == 0 then 0 else p.first + 4
+first_len p = if p.first == 0 then 0 else p.first + CRC_BYTES
 
 abbrev pub later_len : Preamble → ℕ
-later_len p = if nat_lt 1 p.count then p.second + p.third + p.fourth + 13 else 0
+later_len p = if nat_lt 1 p.count then p.second + p.third + p.fourth + EPILOGUE_BYTES else 0
 
 abbrev pub text_len : Preamble → ℕ
-text_len p = 32 + first_len p + later_len p
+text_len p = PREAMBLE_BYTES + first_len p + later_len p
 
 -- an empty first segment has no checksum
 abbrev pub first_is_right : Preamble → List ℕ → Bool
@@ -55,7 +57,7 @@ is_wrong place count epilogue segment = nat_lt place count && not (number_at (4 
 
 -- the low four bits of the late status
 abbrev pub judge_late : ℕ → Result Late FrameFault
-judge_late low = if low == 0xE then Ok Complete else if low == 0x1 then Ok Aborted else Err BadLate
+judge_late low = if low == COMPLETE then Ok Complete else if low == ABORTED then Ok Aborted else Err BadLate
 
 -- the checksums in the order of their segments, and then the late status
 unfoldable pub judge_epilogue : Preamble → List ℕ → Result Late FrameFault
@@ -102,7 +104,7 @@ judge_body (Ok p) body = judge_first p body
 judge_body (Err f) body = bad f
 
 unfoldable pub judge : List ℕ → Front
-judge rest = if nat_lt (length rest) 32 then start else judge_body (read_preamble (take 32 rest)) (drop 32 rest)
+judge rest = if nat_lt (length rest) PREAMBLE_BYTES then start else judge_body (read_preamble (take PREAMBLE_BYTES rest)) (drop PREAMBLE_BYTES rest)
 
 -- ---- what a preamble asks for
 
@@ -124,7 +126,7 @@ size_asked (Err f) = None
 
 -- what a whole preamble at the front asks for
 unfoldable pub size_of : List ℕ → Option ℕ
-size_of rest = if nat_lt (length rest) 32 then None else size_asked (read_preamble (take 32 rest))
+size_of rest = if nat_lt (length rest) PREAMBLE_BYTES then None else size_asked (read_preamble (take PREAMBLE_BYTES rest))
 
 -- the same, where it isn't granted
 abbrev pub owed_at : List ℕ → Bool → Option ℕ

@@ -5,13 +5,16 @@ ghost use Rattle.m2_bytes.specs.Blob.{Appends};
 ghost use Rattle.m2_frame.specs.Frame.{parts, count_of, Fits};
 ghost use Rattle.m2_frame.specs.Text.{text_of, first_text, later_text, epilogue, epilogue_field, segment_crc, crc_field};
 
-use crate::frame::Frame;
+use crate::frame::{Frame, MESSAGE_LIMIT};
 use crate::preamble::{PREAMBLE_BYTES, Preamble};
 use m2_bytes::{Blob, NoMemory, put_u8, put_u32};
 use m2_crc::crc32c;
 
-/// The late status that says complete.
-pub const COMPLETE: u8 = 0x0E;
+/// The low four bits of a late status that says complete. They are the whole of it as it is written.
+pub const COMPLETE: u8 = 0xE;
+
+/// The low four bits of a late status that says aborted.
+pub const ABORTED: u8 = 0x1;
 
 /// What a segment's checksum begins at.
 const SEGMENT_SEED: u32 = 0xFFFF_FFFF;
@@ -32,7 +35,7 @@ pub fn crc_of_segment(segment: &[u8]) -> u32
 
 /// How many bytes the first segment has with its checksum.
 fn first_len(segment: &[u8]) -> usize
-    requires { length segment.now ≤ 134217728 }
+    requires { length segment.now ≤ MESSAGE_LIMIT }
     ensures { result ≡ length (first_text segment.now) }
 {
     match segment {
@@ -80,7 +83,7 @@ fn put_place(place: u8, count: u8, segment: &[u8], out: &mut Blob) -> Result<(),
 
 /// Appends the epilogue.
 fn put_epilogue(f: &Frame, out: &mut Blob) -> Result<(), NoMemory>
-    requires { 13 ≤ out.old.room }
+    requires { EPILOGUE_BYTES ≤ out.old.room }
     ensures { Appends result out.old out.new (epilogue (parts f.now)) }
 {
     let count = f.count();

@@ -4,7 +4,7 @@ ghost use Rattle.std.specs.Prelude.{◌≡◌, ◌+◌, ◌%◌, ◌^◌, ◌<�
 ghost use Rattle.m2_frame.specs.Reading.{first_len, later_len, first_is_right, is_wrong, second_in, third_in, fourth_in, epilogue_in, judge_late, judge_epilogue, judge_rest, frame_in};
 ghost use Rattle.m2_frame.specs.View.{parts_seen};
 
-use crate::encoding::{CRC_BYTES, EPILOGUE_BYTES, crc_of_segment};
+use crate::encoding::{ABORTED, COMPLETE, CRC_BYTES, EPILOGUE_BYTES, crc_of_segment};
 use crate::fault::FrameFault;
 use crate::preamble::{Preamble, u32_at};
 use crate::view::FrameView;
@@ -54,7 +54,7 @@ pub fn is_first_right(p: &Preamble, first: &[u8]) -> bool
 fn differs(place: usize, count: u8, epilogue: &[u8], segment: &[u8]) -> bool
     requires place_from { 1 ≤ place }
     requires place_to { place ≤ 3 }
-    requires whole { length epilogue.now ≡ 13 }
+    requires whole { length epilogue.now ≡ EPILOGUE_BYTES }
     ensures { result ≡ is_wrong place count epilogue.now segment.now }
 {
     place < count as usize && u32_at(epilogue, 4 * place - 3) != crc_of_segment(segment)
@@ -65,8 +65,8 @@ fn late_of(status: u8) -> Result<Late, FrameFault>
     ensures { result ≡ judge_late (status % 16) }
 {
     match status % 16 {
-        0xE => Ok(Late::Complete),
-        0x1 => Ok(Late::Aborted),
+        COMPLETE => Ok(Late::Complete),
+        ABORTED => Ok(Late::Aborted),
         _ => Err(FrameFault::BadLate),
     }
 }
@@ -88,7 +88,7 @@ fn parts_of<'a>(p: &Preamble, later: &'a [u8]) -> (&'a [u8], &'a [u8], &'a [u8],
 /// What the epilogue says of segments of which several are counted.
 #[tactic(auto, unfolding(crate::specs::Reading::judge_epilogue))]
 fn judged_epilogue(p: &Preamble, later: &[u8]) -> Result<Late, FrameFault>
-    requires { length later.now ≡ p.now.second + p.now.third + p.now.fourth + 13 }
+    requires { length later.now ≡ p.now.second + p.now.third + p.now.fourth + EPILOGUE_BYTES }
     ensures { result ≡ judge_epilogue p.now later.now }
 {
     let (second, third, fourth, epilogue) = parts_of(p, later);

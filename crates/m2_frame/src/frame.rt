@@ -1,15 +1,13 @@
 //! A frame as a value.
 
-ghost use Rattle.std.specs.Prelude.{◌≡◌, ◌↔◌, IsTrue};
-ghost use Rattle.m2_frame.specs.Frame.{parts, count_of, segment_limit, Fits};
+ghost use Rattle.std.specs.Prelude.{◌≡◌, ◌==◌, ◌↔◌, IsTrue};
+ghost use Rattle.m2_frame.specs.Frame.{parts, count_of, message_tag, segment_limit, Fits};
 
 use m2_bytes::Blob;
+use m2_tag::{FIRST_TAG, LAST_TAG, Tag};
 
-/// The tag of a MESSAGE, the one frame that may have several segments.
-pub const MESSAGE: u8 = 17;
-
-/// The greatest tag, that of COMPRESSION_DONE.
-pub const LAST_TAG: u8 = 22;
+/// The most segments in a frame.
+pub const MOST_SEGMENTS: u8 = 4;
 
 /// The most bytes in a segment of a MESSAGE. It lies above Ceph's greatest write by default.
 pub const MESSAGE_LIMIT: usize = 134_217_728;
@@ -30,11 +28,18 @@ pub struct Frame {
     pub fourth: Blob,
 }
 
+/// Whether a frame with this tag is a MESSAGE, the one frame that may have several segments.
+pub(crate) fn is_message(tag: u8) -> bool
+    ensures { result ≡ (tag == message_tag) }
+{
+    tag == Tag::Message.number()
+}
+
 /// The most bytes that a segment of a frame with this tag may have.
-pub fn limit_of(tag: u8) -> usize
+pub(crate) fn limit_of(tag: u8) -> usize
     ensures { result ≡ segment_limit tag }
 {
-    if tag == MESSAGE {
+    if is_message(tag) {
         MESSAGE_LIMIT
     } else {
         CONTROL_LIMIT
@@ -58,14 +63,14 @@ impl Frame {
     }
 }
 
-/// Whether the frame can be written: its tag is 1 to 22, only a MESSAGE has more than one segment,
+/// Whether the frame can be written: its tag is known, only a MESSAGE has more than one segment,
 /// and no segment is above the bound for its tag.
 pub fn fits(f: &Frame) -> bool
     ensures { IsTrue result ↔ Fits (parts f.now) }
 {
     let most = limit_of(f.tag);
-    (1 <= f.tag && f.tag <= LAST_TAG)
-        && (f.tag == MESSAGE || f.count() == 1)
+    (FIRST_TAG <= f.tag && f.tag <= LAST_TAG)
+        && (is_message(f.tag) || f.count() == 1)
         && (f.first.len() <= most && f.second.len() <= most)
         && (f.third.len() <= most && f.fourth.len() <= most)
 }

@@ -8,7 +8,7 @@ ghost use Rattle.m2_frame.specs.View.{parts_seen};
 use crate::epilogue::{Late, is_first_right, judged_rest, len_of_first, len_of_later, segments_of};
 use crate::fault::FrameFault;
 use crate::finding::Finding;
-use crate::frame::MESSAGE;
+use crate::frame::is_message;
 use crate::preamble::{PREAMBLE_BYTES, Preamble, read_front};
 use crate::view::FrameView;
 
@@ -85,7 +85,7 @@ pub fn size_asked(p: &Preamble) -> u64
 fn asks(p: &Preamble, granted: bool) -> bool
     ensures { owed_by p.now granted ≡ (if result then Some (asked_by p.now) else None) }
 {
-    p.tag == MESSAGE && !granted
+    is_message(p.tag) && !granted
 }
 
 /// What is found at the front, where nothing is judged.

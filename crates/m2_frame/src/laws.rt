@@ -2,6 +2,7 @@
 
 ghost use Rattle.std.specs.Prelude.{◌≡◌, ◌≤◌, ◌↔◌, ℕ, List, [], ◌∷◌, ◌++◌, length, take, drop};
 ghost use Rattle.m2_frame.specs.declared.fault.FrameFault.{FrameFault};
+ghost use Rattle.m2_frame.specs.declared.preamble.TheConstants.{PREAMBLE_BYTES};
 ghost use Rattle.m2_frame.specs.Frame.{Parts, Fits};
 ghost use Rattle.m2_frame.specs.Grammar.{IsFrameText, IsItemText, IsStreamText, AreBytes};
 ghost use Rattle.m2_frame.specs.Reading.{Item, whole, text, bad, judge};
@@ -28,7 +29,7 @@ pub fn a_written_frame_is_read()
 /// bytes that were judged. What is bad stays so.
 pub fn no_text_begins_another()
     ensures stays { (rest more : List ℕ) (item : Item) (n : ℕ) → judge rest ≡ text item n → judge (rest ++ more) ≡ text item n }
-    ensures some { (rest : List ℕ) (item : Item) (n : ℕ) → judge rest ≡ text item n → 32 ≤ n }
+    ensures some { (rest : List ℕ) (item : Item) (n : ℕ) → judge rest ≡ text item n → PREAMBLE_BYTES ≤ n }
     ensures within { (rest : List ℕ) (item : Item) (n : ℕ) → judge rest ≡ text item n → n ≤ length rest }
     ensures fault { (rest more : List ℕ) (f : FrameFault) → judge rest ≡ bad f → judge (rest ++ more) ≡ bad f }
 {}

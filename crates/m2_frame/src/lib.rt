@@ -19,14 +19,14 @@ mod preamble;
 mod view;
 
 pub use decoder::Decoder;
-pub use encoding::encode;
+pub use encoding::{CRC_BYTES, EPILOGUE_BYTES, encode};
 pub use fault::FrameFault;
-pub use frame::{Frame, fits};
+pub use frame::{CONTROL_LIMIT, Frame, MESSAGE_LIMIT, MOST_SEGMENTS, fits};
 pub use got::Got;
 pub use laws::{
     a_written_frame_is_read, judged_by_the_tables, no_text_begins_another, one_reading,
 };
-pub use preamble::Preamble;
+pub use preamble::{PREAMBLE_BYTES, Preamble};
 pub use view::FrameView;
 
 #[cfg(test)]

@@ -4,12 +4,25 @@ ghost use Rattle.std.specs.Prelude.{◌≡◌, ◌+◌, ◌≤◌, length};
 ghost use Rattle.m2_frame.specs.Preamble.{number_at, preamble_in, last_length, is_too_long, judge_fields, read_preamble, alignment, descriptor, preamble_body};
 
 use crate::fault::FrameFault;
-use crate::frame::{Frame, LAST_TAG, MESSAGE, limit_of};
+use crate::frame::{Frame, MOST_SEGMENTS, is_message, limit_of};
 use byteorder::{ByteOrder, LittleEndian};
 use m2_crc::crc32c;
+use m2_tag::{FIRST_TAG, LAST_TAG};
 
 /// How many bytes a preamble has.
 pub const PREAMBLE_BYTES: usize = 32;
+
+/// How many of them its checksum covers: all but its own four.
+const COVERED_BYTES: usize = 28;
+
+/// Which segment of a MESSAGE is its data, counted from 0.
+const DATA_SEGMENT: u8 = 3;
+
+/// Where the data of a MESSAGE is to lie in memory: at a page.
+const DATA_ALIGNMENT: u16 = 4096;
+
+/// Where any other segment is to lie.
+const SEGMENT_ALIGNMENT: u16 = 8;
 
 /// What a frame's first 32 bytes say: its tag, how many segments it has, and their lengths in bytes.
 /// The length of a segment past the count is 0.
@@ -44,20 +57,20 @@ impl Preamble {
 
     /// The preamble that the bytes are, or the first cause why they are none: one of the causes up
     /// to [`FrameFault::TooLong`].
-    pub fn read(bytes: &[u8; 32]) -> Result<Preamble, FrameFault>
+    pub fn read(bytes: &[u8; PREAMBLE_BYTES]) -> Result<Preamble, FrameFault>
         ensures { result ≡ read_preamble bytes.now }
     {
         read_front(bytes)
     }
 
     /// Its 32 bytes, as they are written.
-    pub fn write(&self) -> [u8; 32]
+    pub fn write(&self) -> [u8; PREAMBLE_BYTES]
         ensures { result ≡ preamble_text self.now }
     {
         let body = body_of(self);
-        let mut text = [0u8; 32];
-        text[..28].copy_from_slice(&body);
-        text[28..].copy_from_slice(&crc32c(0, &body).to_le_bytes());
+        let mut text = [0u8; PREAMBLE_BYTES];
+        text[..COVERED_BYTES].copy_from_slice(&body);
+        text[COVERED_BYTES..].copy_from_slice(&crc32c(0, &body).to_le_bytes());
         text
     }
 }
@@ -72,7 +85,7 @@ pub fn u32_at(text: &[u8], at: usize) -> u32
 
 /// What the bytes say.
 fn fields_of(text: &[u8]) -> Preamble
-    requires { length text.now ≡ 32 }
+    requires { length text.now ≡ PREAMBLE_BYTES }
     ensures { result ≡ preamble_in text.now }
 {
     let count = text[1];
@@ -110,7 +123,7 @@ fn passes_limit(p: &Preamble) -> bool
 fn judged(flags: u8, p: Preamble) -> Result<Preamble, FrameFault>
     ensures { result ≡ judge_fields flags p }
 {
-    if p.count == 0 || p.count > 4 {
+    if p.count == 0 || p.count > MOST_SEGMENTS {
         return Err(FrameFault::BadCount);
     }
     if p.count > 1 && last_of(&p) == 0 {
@@ -119,10 +132,10 @@ fn judged(flags: u8, p: Preamble) -> Result<Preamble, FrameFault>
     if flags % 2 == 1 {
         return Err(FrameFault::Compressed);
     }
-    if p.tag == 0 || p.tag > LAST_TAG {
+    if p.tag < FIRST_TAG || p.tag > LAST_TAG {
         return Err(FrameFault::BadTag);
     }
-    if p.tag != MESSAGE && p.count > 1 {
+    if !is_message(p.tag) && p.count > 1 {
         return Err(FrameFault::BadSegments);
     }
     if passes_limit(&p) {
@@ -134,10 +147,10 @@ fn judged(flags: u8, p: Preamble) -> Result<Preamble, FrameFault>
 /// The preamble that these 32 bytes are.
 #[tactic(auto, unfolding(crate::specs::Preamble::read_preamble))]
 pub fn read_front(text: &[u8]) -> Result<Preamble, FrameFault>
-    requires { length text.now ≡ 32 }
+    requires { length text.now ≡ PREAMBLE_BYTES }
     ensures { result ≡ read_preamble text.now }
 {
-    if crc32c(0, &text[..28]) != u32_at(text, 28) {
+    if crc32c(0, &text[..COVERED_BYTES]) != u32_at(text, COVERED_BYTES) {
         return Err(FrameFault::BadPreambleCrc);
     }
     judged(text[26], fields_of(text))
@@ -150,10 +163,10 @@ fn alignment_of(p: &Preamble, segment: u8) -> u16
 {
     if segment >= p.count {
         0
-    } else if segment < 3 {
-        8
+    } else if segment < DATA_SEGMENT {
+        SEGMENT_ALIGNMENT
     } else {
-        4096
+        DATA_ALIGNMENT
     }
 }
 
@@ -167,7 +180,7 @@ fn descriptor_of(len: u32, aligned: u16) -> [u8; 6]
 }
 
 /// All but the checksum.
-fn body_of(p: &Preamble) -> [u8; 28]
+fn body_of(p: &Preamble) -> [u8; COVERED_BYTES]
     ensures { result ≡ preamble_body p.now }
 {
     let a = descriptor_of(p.first, alignment_of(p, 0));
