@@ -7,6 +7,7 @@ use Rattle.m2_addr.specs.declared.addr.Addr.{Addr}
 use Rattle.m2_addr.specs.declared.addr.AnyAddr.{AnyAddr}
 use Rattle.m2_addr.specs.declared.addr.AnyAddr.TheVariants.{V4, Other}
 use Rattle.m2_addr.specs.Vector.{IsKept}
+use Rattle.m2_control.specs.declared.fields.TheConstants.{GREATEST_NUMBER}
 use Rattle.m2_control.specs.declared.banner.Banner.{Banner}
 use Rattle.m2_control.specs.declared.banner.BannerStep.{BannerStep}
 use Rattle.m2_control.specs.declared.banner.BannerStep.TheVariants.{Got}
@@ -66,13 +67,13 @@ HasRanges (control.Ack p) = p.seen < 2 ^ 64
 -- A vector has a main address, global, connect and seen are at most 2 ^ 40, the cookies of a reconnect aren't 0, and
 -- a session that isn't lossy has a cookie. Of every other payload it is what can be written.
 abbrev pub IsInBounds : Control → Type 0
-IsInBounds (control.ClientIdent p) = (has_main p.addrs ≡ true) × (p.global ≤ 2 ^ 40) × (keeps_cookie (client_tail p) ≡ true)
-IsInBounds (control.ServerIdent p) = (has_main p.addrs ≡ true) × (p.global ≤ 2 ^ 40) × (keeps_cookie (server_tail p) ≡ true)
-IsInBounds (control.SessionReconnect p) = (has_main p.addrs ≡ true) × (p.client ≢ 0) × (p.server ≢ 0) × (p.global ≤ 2 ^ 40) × (p.connect ≤ 2 ^ 40) × (p.seen ≤ 2 ^ 40)
-IsInBounds (control.SessionRetry p) = p.connect ≤ 2 ^ 40
-IsInBounds (control.SessionRetryGlobal p) = p.global ≤ 2 ^ 40
-IsInBounds (control.SessionReconnectOk p) = p.seen ≤ 2 ^ 40
-IsInBounds (control.Ack p) = p.seen ≤ 2 ^ 40
+IsInBounds (control.ClientIdent p) = (has_main p.addrs ≡ true) × (p.global ≤ GREATEST_NUMBER) × (keeps_cookie (client_tail p) ≡ true)
+IsInBounds (control.ServerIdent p) = (has_main p.addrs ≡ true) × (p.global ≤ GREATEST_NUMBER) × (keeps_cookie (server_tail p) ≡ true)
+IsInBounds (control.SessionReconnect p) = (has_main p.addrs ≡ true) × (p.client ≢ 0) × (p.server ≢ 0) × (p.global ≤ GREATEST_NUMBER) × (p.connect ≤ GREATEST_NUMBER) × (p.seen ≤ GREATEST_NUMBER)
+IsInBounds (control.SessionRetry p) = p.connect ≤ GREATEST_NUMBER
+IsInBounds (control.SessionRetryGlobal p) = p.global ≤ GREATEST_NUMBER
+IsInBounds (control.SessionReconnectOk p) = p.seen ≤ GREATEST_NUMBER
+IsInBounds (control.Ack p) = p.seen ≤ GREATEST_NUMBER
 IsInBounds other = IsWritable other
 
 -- ---- the laws

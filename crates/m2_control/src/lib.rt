@@ -25,12 +25,14 @@ mod ident_missing_features;
 mod keepalive;
 mod keepalive_ack;
 mod laws;
+mod server_facts;
 mod server_ident;
 mod session_reconnect;
 mod session_reconnect_ok;
 mod session_reset;
 mod session_retry;
 mod session_retry_global;
+mod stamp;
 mod wait;
 
 pub use ack::Ack;
@@ -48,6 +50,7 @@ pub use ident_missing_features::IdentMissingFeatures;
 pub use keepalive::Keepalive;
 pub use keepalive_ack::KeepaliveAck;
 pub use laws::{written_banner_is_read, written_payload_is_read};
+pub use server_facts::ServerFacts;
 pub use server_ident::ServerIdent;
 pub use session_reconnect::SessionReconnect;
 pub use session_reconnect_ok::SessionReconnectOk;
@@ -55,6 +58,3 @@ pub use session_reset::SessionReset;
 pub use session_retry::SessionRetry;
 pub use session_retry_global::SessionRetryGlobal;
 pub use wait::Wait;
-
-#[cfg(test)]
-mod tests;
