@@ -10,3 +10,4 @@ pub mod Written
 pub mod Writable
 pub mod Memory
 pub mod FactLemmas
+pub mod BannerGraph

@@ -1,6 +1,6 @@
 -- Which payloads are read again as they are written, and the banner. Each value keeps the ranges of its fields'
 -- types; the bounds beside them are this project's profile.
-use Rattle.std.specs.Prelude.{◌≡◌, ◌≢◌, ℕ, ◌<◌, ◌≤◌, ◌^◌, true, List, ◌++◌, Ok, FitsSigned}
+use Rattle.std.specs.Prelude.{◌≡◌, ◌≢◌, ℕ, ◌<◌, ◌≤◌, ◌^◌, ◌↔◌, true, List, ◌++◌, Ok, FitsSigned}
 use Rattle.std.specs.List.{AllByRecursion}
 use Rattle.std.specs.Int.{w32, w64}
 use Rattle.m2_addr.specs.declared.addr.Addr.{Addr}
@@ -16,7 +16,7 @@ use Rattle.m2_control.specs.declared.server_ident.ServerIdent.{ServerIdent}
 use Rattle.m2_control.specs.declared.ident.Tail.{Tail}
 use Rattle.m2_control.specs.declared.control.Control.{Control}
 use Rattle.m2_control.specs.declared.control.Control.TheVariants as control
-use Rattle.m2_control.specs.Banner.{IsStep, banner_text}
+use Rattle.m2_control.specs.Banner.{IsStep, banner_in, banner_text}
 use Rattle.m2_control.specs.Fields.{has_main}
 use Rattle.m2_control.specs.Ident.{keeps_cookie}
 use Rattle.m2_control.specs.Control.{Spells, IsWritable, bare, tag_of, text_of, payload_of}
@@ -85,6 +85,10 @@ pub record IsReadAgain (c : Control) : Type 0 where
 
 abbrev pub WrittenIsRead : Type 0
 WrittenIsRead = (c : Control) → HasRanges c → IsInBounds c → IsReadAgain c
+
+-- Each step is that of the bytes exactly where the function gives it.
+abbrev pub BannerIsAFunction : Type 0
+BannerIsAFunction = (step : BannerStep) (bytes : List ℕ) → IsStep step bytes ↔ (step ≡ banner_in bytes)
 
 -- The banner that is written is the only step that its text is, whatever follows it.
 abbrev pub BannerIsRead : Type 0
