@@ -89,7 +89,7 @@ mains_in read = read >>= λ x. Ok (main_of x.0, x.1)
 abbrev pub main_then : Result Addr AddrFault → List ℕ → Result (Addr × List ℕ) AddrFault
 main_then m rest = m >>= λ a. Ok (a, rest)
 
-abbrev main_in : Result (List AnyAddr × List ℕ) AddrFault → Result (Addr × List ℕ) AddrFault
+abbrev pub main_in : Result (List AnyAddr × List ℕ) AddrFault → Result (Addr × List ℕ) AddrFault
 main_in read = read >>= λ x. main_then (main_of x.0) x.1
 
 picked : (read : Result (List AnyAddr × List ℕ) AddrFault) (m : Result Addr AddrFault) (rest : List ℕ) → mains_in read ≡ Ok (m, rest) → main_in read ≡ main_then m rest

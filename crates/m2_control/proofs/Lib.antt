@@ -8,3 +8,6 @@ pub mod Whole
 pub mod Wrote
 pub mod Written
 pub mod Writable
+pub mod Memory
+pub mod FactLemmas
+pub mod BannerGraph

@@ -18,15 +18,6 @@ raised_fails NoMsgr2 read h = ap raise h
 raised_fails TooMany read h = ap raise h
 raised_fails NoMemory read h = tt
 
-pub raised_is : {A : Type 0} (e : AddrFault) (read : Result A AddrFault) → read ≡ Err e → Fails (raised_as e) (raise read)
-raised_is Short read h = ap raise h
-raised_is BadMarker read h = ap raise h
-raised_is BadLength read h = ap raise h
-raised_is NotIpv4 read h = ap raise h
-raised_is NoMsgr2 read h = ap raise h
-raised_is TooMany read h = ap raise h
-raised_is NoMemory read h = tt
-
 main_same : (addrs : List AnyAddr) → main_of (bares addrs) ≡ main_of addrs
 main_same [] = refl
 main_same (V4 a ∷ addrs) = rw (main_same addrs) refl

@@ -1,11 +1,12 @@
 -- Control payloads: one relation between a payload and its texts, behind one name, and how a payload is read.
-use Rattle.std.specs.Prelude.{◌≡◌, ℕ, ◌≤◌, ◌==◌, if◌then◌else◌, List, length, Result, Ok, Err}
+use Rattle.std.specs.Prelude.{◌≡◌, ℕ, ◌≤◌, ◌==◌, Bool, true, false, if◌then◌else◌, List, length, Result, Ok, Err}
 use Rattle.m2_addr.specs.Reading.{◌>>=◌, made}
 use Rattle.m2_addr.specs.Addr.{IsWellFormed}
 use Rattle.m2_control.specs.declared.control.Control.{Control}
 use Rattle.m2_control.specs.declared.control.Control.TheVariants as control
 use Rattle.m2_tag.specs.declared.tag.Tag.{Tag}
 use Rattle.m2_tag.specs.declared.tag.Tag.TheVariants as tag
+use Rattle.m2_control.specs.declared.fields.TheConstants.{MOST_LISTED, MOST_BYTES}
 use Rattle.m2_control.specs.declared.fault.ControlFault.{ControlFault}
 use Rattle.m2_control.specs.declared.fault.ControlFault.TheVariants.{Extra, NotNegotiated}
 use Rattle.m2_control.specs.Hello.{bare_hello, IsHello, hello_at, hello_text}
@@ -106,6 +107,18 @@ fields_at tag.KeepaliveAck = made control.KeepaliveAck keepalive_ack_at
 fields_at tag.Ack = made control.Ack ack_at
 fields_at _ = λ bytes. Err NotNegotiated
 
+-- the payloads in which a list, a byte string, a vector or an address of any kind stands; the others take no memory
+abbrev pub takes_memory : Tag → Bool
+takes_memory tag.Hello = true
+takes_memory tag.AuthRequest = true
+takes_memory tag.AuthBadMethod = true
+takes_memory tag.AuthDone = true
+takes_memory tag.AuthSignature = true
+takes_memory tag.ClientIdent = true
+takes_memory tag.ServerIdent = true
+takes_memory tag.SessionReconnect = true
+takes_memory _ = false
+
 -- the whole payload
 abbrev pub whole : Result (Control × List ℕ) ControlFault → Result Control ControlFault
 whole read = read >>= λ x. if length x.1 == 0 then Ok x.0 else Err Extra
@@ -136,8 +149,8 @@ text_of (control.Ack p) = ack_text p
 -- what can be written: lists and byte strings keep their bounds, a signature has 32 bytes, an address is well-formed
 abbrev pub IsWritable : Control → Type 0
 IsWritable (control.Hello p) = IsWellFormed p.seen
-IsWritable (control.AuthRequest p) = (length p.modes.items ≤ 64) × (length p.payload.bytes ≤ 4096)
-IsWritable (control.AuthBadMethod p) = (length p.methods.items ≤ 64) × (length p.modes.items ≤ 64)
-IsWritable (control.AuthDone p) = length p.payload.bytes ≤ 4096
+IsWritable (control.AuthRequest p) = (length p.modes.items ≤ MOST_LISTED) × (length p.payload.bytes ≤ MOST_BYTES)
+IsWritable (control.AuthBadMethod p) = (length p.methods.items ≤ MOST_LISTED) × (length p.modes.items ≤ MOST_LISTED)
+IsWritable (control.AuthDone p) = length p.payload.bytes ≤ MOST_BYTES
 IsWritable (control.AuthSignature p) = length p.signature.bytes ≡ 32
 IsWritable _ = Unit {0}

@@ -14,6 +14,7 @@ use Rattle.m2_addr.specs.Addr.{IsAddress}
 use Rattle.m2_addr.specs.Vector.{IsVector, vector_at, main_of}
 use Rattle.m2_bytes.specs.Blob.{Contents}
 use Rattle.m2_bytes.specs.Items.{Holding}
+use Rattle.m2_control.specs.declared.fields.TheConstants.{GREATEST_NUMBER, MOST_LISTED, MOST_BYTES}
 use Rattle.m2_control.specs.declared.fault.ControlFault.{ControlFault}
 use Rattle.m2_control.specs.declared.fault.ControlFault.TheVariants.{Short, BadValue, Address}
 
@@ -23,9 +24,9 @@ use Rattle.m2_control.specs.declared.fault.ControlFault.TheVariants.{Short, BadV
 abbrev pub IsSigned : Width → ℤ → List ℕ → Type 0
 IsSigned w z text = (n : ℕ) × IsNumber w n text × (z ≡ cast_signed w n)
 
--- a global, connect or message number: at most 2 ^ 40
+-- a global, connect or message number: at most GREATEST_NUMBER
 abbrev pub IsBounded : ℕ → List ℕ → Type 0
-IsBounded n text = IsNumber w64 n text × (n ≤ 2 ^ 40)
+IsBounded n text = IsNumber w64 n text × (n ≤ GREATEST_NUMBER)
 
 -- a cookie that stands for a session
 abbrev pub IsCookie : ℕ → List ℕ → Type 0
@@ -38,17 +39,17 @@ flag_byte b = if b then 1 else 0
 abbrev pub IsFlag : Bool → List ℕ → Type 0
 IsFlag b = IsText (flag_byte b ∷ [])
 
--- numbers of four bytes behind a count of at most 64
+-- numbers of four bytes behind a count of at most MOST_LISTED
 abbrev pub AreNumbers : List ℕ → List ℕ → Type 0
 AreNumbers [] text = text ≡ []
 AreNumbers (n ∷ ns) text = (IsNumber w32 n ▹ AreNumbers ns) text
 
 abbrev pub IsList : List ℕ → List ℕ → Type 0
-IsList ns text = (length ns ≤ 64) × (IsNumber w32 (length ns) ▹ AreNumbers ns) text
+IsList ns text = (length ns ≤ MOST_LISTED) × (IsNumber w32 (length ns) ▹ AreNumbers ns) text
 
--- at most 4096 bytes behind their count
+-- at most MOST_BYTES bytes behind their count
 abbrev pub IsShortString : List ℕ → List ℕ → Type 0
-IsShortString bytes text = (length bytes ≤ 4096) × IsString bytes text
+IsShortString bytes text = (length bytes ≤ MOST_BYTES) × IsString bytes text
 
 -- 32 bytes without a count
 abbrev pub IsSignature : List ℕ → List ℕ → Type 0
@@ -70,7 +71,7 @@ abbrev pub signed : Width → List ℕ → Result (ℤ × List ℕ) ControlFault
 signed w = made (cast_signed w) (number w Short)
 
 unfoldable pub bounded_at : ℕ → List ℕ → Result (ℕ × List ℕ) ControlFault
-bounded_at field = checked (λ n. nat_le n (2 ^ 40)) (BadValue field) (number w64 Short)
+bounded_at field = checked (λ n. nat_le n GREATEST_NUMBER) (BadValue field) (number w64 Short)
 
 unfoldable pub cookie_at : ℕ → List ℕ → Result (ℕ × List ℕ) ControlFault
 cookie_at field = checked (λ n. not (n == 0)) (BadValue field) (number w64 Short)
@@ -83,10 +84,10 @@ numbers_at zero bytes = Ok ([], bytes)
 numbers_at (suc n) bytes = made (λ x. x.0 ∷ x.1) (number w32 Short ⊳ numbers_at n) bytes
 
 unfoldable pub list_at : ℕ → List ℕ → Result (List ℕ × List ℕ) ControlFault
-list_at field bytes = checked (λ n. nat_le n 64) (BadValue field) (number w32 Short) bytes >>= λ n. numbers_at n.0 n.1
+list_at field bytes = checked (λ n. nat_le n MOST_LISTED) (BadValue field) (number w32 Short) bytes >>= λ n. numbers_at n.0 n.1
 
 unfoldable pub string_at : ℕ → List ℕ → Result (List ℕ × List ℕ) ControlFault
-string_at field bytes = checked (λ n. nat_le n 4096) (BadValue field) (number w32 Short) bytes >>= λ n. front n.0 Short n.1
+string_at field bytes = checked (λ n. nat_le n MOST_BYTES) (BadValue field) (number w32 Short) bytes >>= λ n. front n.0 Short n.1
 
 -- a field of an address, its faults raised
 abbrev pub raise : {A : Type 0} → Result A AddrFault → Result A ControlFault

@@ -1,12 +1,13 @@
 -- Which payloads are read again as they are written, and the banner. Each value keeps the ranges of its fields'
 -- types; the bounds beside them are this project's profile.
-use Rattle.std.specs.Prelude.{◌≡◌, ◌≢◌, ℕ, ◌<◌, ◌≤◌, ◌^◌, true, List, ◌++◌, Ok, FitsSigned}
+use Rattle.std.specs.Prelude.{◌≡◌, ◌≢◌, ℕ, ◌<◌, ◌≤◌, ◌^◌, ◌↔◌, true, List, ◌++◌, Ok, FitsSigned}
 use Rattle.std.specs.List.{AllByRecursion}
 use Rattle.std.specs.Int.{w32, w64}
 use Rattle.m2_addr.specs.declared.addr.Addr.{Addr}
 use Rattle.m2_addr.specs.declared.addr.AnyAddr.{AnyAddr}
 use Rattle.m2_addr.specs.declared.addr.AnyAddr.TheVariants.{V4, Other}
 use Rattle.m2_addr.specs.Vector.{IsKept}
+use Rattle.m2_control.specs.declared.fields.TheConstants.{GREATEST_NUMBER}
 use Rattle.m2_control.specs.declared.banner.Banner.{Banner}
 use Rattle.m2_control.specs.declared.banner.BannerStep.{BannerStep}
 use Rattle.m2_control.specs.declared.banner.BannerStep.TheVariants.{Got}
@@ -15,7 +16,7 @@ use Rattle.m2_control.specs.declared.server_ident.ServerIdent.{ServerIdent}
 use Rattle.m2_control.specs.declared.ident.Tail.{Tail}
 use Rattle.m2_control.specs.declared.control.Control.{Control}
 use Rattle.m2_control.specs.declared.control.Control.TheVariants as control
-use Rattle.m2_control.specs.Banner.{IsStep, banner_text}
+use Rattle.m2_control.specs.Banner.{IsStep, banner_in, banner_text}
 use Rattle.m2_control.specs.Fields.{has_main}
 use Rattle.m2_control.specs.Ident.{keeps_cookie}
 use Rattle.m2_control.specs.Control.{Spells, IsWritable, bare, tag_of, text_of, payload_of}
@@ -66,13 +67,13 @@ HasRanges (control.Ack p) = p.seen < 2 ^ 64
 -- A vector has a main address, global, connect and seen are at most 2 ^ 40, the cookies of a reconnect aren't 0, and
 -- a session that isn't lossy has a cookie. Of every other payload it is what can be written.
 abbrev pub IsInBounds : Control → Type 0
-IsInBounds (control.ClientIdent p) = (has_main p.addrs ≡ true) × (p.global ≤ 2 ^ 40) × (keeps_cookie (client_tail p) ≡ true)
-IsInBounds (control.ServerIdent p) = (has_main p.addrs ≡ true) × (p.global ≤ 2 ^ 40) × (keeps_cookie (server_tail p) ≡ true)
-IsInBounds (control.SessionReconnect p) = (has_main p.addrs ≡ true) × (p.client ≢ 0) × (p.server ≢ 0) × (p.global ≤ 2 ^ 40) × (p.connect ≤ 2 ^ 40) × (p.seen ≤ 2 ^ 40)
-IsInBounds (control.SessionRetry p) = p.connect ≤ 2 ^ 40
-IsInBounds (control.SessionRetryGlobal p) = p.global ≤ 2 ^ 40
-IsInBounds (control.SessionReconnectOk p) = p.seen ≤ 2 ^ 40
-IsInBounds (control.Ack p) = p.seen ≤ 2 ^ 40
+IsInBounds (control.ClientIdent p) = (has_main p.addrs ≡ true) × (p.global ≤ GREATEST_NUMBER) × (keeps_cookie (client_tail p) ≡ true)
+IsInBounds (control.ServerIdent p) = (has_main p.addrs ≡ true) × (p.global ≤ GREATEST_NUMBER) × (keeps_cookie (server_tail p) ≡ true)
+IsInBounds (control.SessionReconnect p) = (has_main p.addrs ≡ true) × (p.client ≢ 0) × (p.server ≢ 0) × (p.global ≤ GREATEST_NUMBER) × (p.connect ≤ GREATEST_NUMBER) × (p.seen ≤ GREATEST_NUMBER)
+IsInBounds (control.SessionRetry p) = p.connect ≤ GREATEST_NUMBER
+IsInBounds (control.SessionRetryGlobal p) = p.global ≤ GREATEST_NUMBER
+IsInBounds (control.SessionReconnectOk p) = p.seen ≤ GREATEST_NUMBER
+IsInBounds (control.Ack p) = p.seen ≤ GREATEST_NUMBER
 IsInBounds other = IsWritable other
 
 -- ---- the laws
@@ -84,6 +85,10 @@ pub record IsReadAgain (c : Control) : Type 0 where
 
 abbrev pub WrittenIsRead : Type 0
 WrittenIsRead = (c : Control) → HasRanges c → IsInBounds c → IsReadAgain c
+
+-- Each step is that of the bytes exactly where the function gives it.
+abbrev pub BannerIsAFunction : Type 0
+BannerIsAFunction = (step : BannerStep) (bytes : List ℕ) → IsStep step bytes ↔ (step ≡ banner_in bytes)
 
 -- The banner that is written is the only step that its text is, whatever follows it.
 abbrev pub BannerIsRead : Type 0

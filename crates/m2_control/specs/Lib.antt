@@ -1,6 +1,7 @@
 pub mod Outcome
 pub mod Fields
 pub mod Ident
+pub mod Stamp
 pub mod Hello
 pub mod AuthRequest
 pub mod AuthBadMethod
@@ -8,6 +9,7 @@ pub mod AuthDone
 pub mod AuthSignature
 pub mod ClientIdent
 pub mod ServerIdent
+pub mod ServerFacts
 pub mod IdentMissingFeatures
 pub mod SessionReconnect
 pub mod SessionReset

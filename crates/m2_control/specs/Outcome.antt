@@ -19,6 +19,11 @@ abbrev pub GivesRest : {X Y : Type 0} → (X → Y) → Result X ControlFault �
 GivesRest view (Ok x) rest read = read ≡ Ok (view x, rest)
 GivesRest view (Err e) rest read = Fails e read
 
+-- the same of a function that takes no memory: its fault is always the first one
+abbrev pub GivesFront : {X Y : Type 0} → (X → Y) → Result X ControlFault → List ℕ → Result (Y × List ℕ) ControlFault → Type 0
+GivesFront view (Ok x) rest read = read ≡ Ok (view x, rest)
+GivesFront view (Err e) rest read = read ≡ Err e
+
 -- a fault of an address as a fault of the payload
 abbrev pub raised_as : AddrFault → ControlFault
 raised_as address.NoMemory = NoMemory

@@ -2,7 +2,7 @@
 
 ghost use Rattle.std.specs.Prelude.{◌≡◌, ◌≤◌, length};
 ghost use Rattle.m2_bytes.specs.Blob.{Appends};
-ghost use Rattle.m2_control.specs.Outcome.{GivesRest};
+ghost use Rattle.m2_control.specs.Outcome.{GivesFront};
 ghost use Rattle.m2_control.specs.Ack.{bare_ack, ack_at, ack_text};
 
 use crate::fault::ControlFault;
@@ -18,7 +18,7 @@ pub struct Ack {
 
 impl Ack {
     pub(crate) fn read(r: &mut Reader<'_>) -> Result<Ack, ControlFault>
-        ensures { GivesRest bare_ack result r.new (ack_at r.old) }
+        ensures { GivesFront bare_ack result r.new (ack_at r.old) }
     {
         let seen = bounded(r, 1)?;
         Ok(Ack { seen })

@@ -2,6 +2,7 @@
 
 ghost use Rattle.std.specs.Prelude.{◌≡◌, ◌≤◌, length};
 ghost use Rattle.m2_bytes.specs.Blob.{Appends};
+ghost use Rattle.m2_control.specs.declared.fields.TheConstants.{MOST_LISTED};
 ghost use Rattle.m2_control.specs.Outcome.{GivesRest};
 ghost use Rattle.m2_control.specs.AuthBadMethod.{bare_auth_bad_method, auth_bad_method_at, auth_bad_method_text};
 
@@ -40,8 +41,8 @@ impl AuthBadMethod {
     }
 
     pub(crate) fn write(&self, out: &mut Blob) -> Result<(), NoMemory>
-        requires methods { length self.now.methods.items ≤ 64 }
-        requires modes { length self.now.modes.items ≤ 64 }
+        requires methods { length self.now.methods.items ≤ MOST_LISTED }
+        requires modes { length self.now.modes.items ≤ MOST_LISTED }
         ensures { Appends result out.old out.new (auth_bad_method_text self.now) }
     {
         let methods = self.methods.as_slice();

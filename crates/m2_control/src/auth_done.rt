@@ -2,6 +2,7 @@
 
 ghost use Rattle.std.specs.Prelude.{◌≡◌, ◌≤◌, length};
 ghost use Rattle.m2_bytes.specs.Blob.{Appends};
+ghost use Rattle.m2_control.specs.declared.fields.TheConstants.{MOST_BYTES};
 ghost use Rattle.m2_control.specs.Outcome.{GivesRest};
 ghost use Rattle.m2_control.specs.AuthDone.{bare_auth_done, auth_done_at, auth_done_text};
 
@@ -36,7 +37,7 @@ impl AuthDone {
     }
 
     pub(crate) fn write(&self, out: &mut Blob) -> Result<(), NoMemory>
-        requires { length self.now.payload.bytes ≤ 4096 }
+        requires { length self.now.payload.bytes ≤ MOST_BYTES }
         ensures { Appends result out.old out.new (auth_done_text self.now) }
     {
         out.reserve(16 + self.payload.len())?;

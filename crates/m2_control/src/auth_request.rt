@@ -2,6 +2,7 @@
 
 ghost use Rattle.std.specs.Prelude.{◌≡◌, ◌≤◌, length};
 ghost use Rattle.m2_bytes.specs.Blob.{Appends};
+ghost use Rattle.m2_control.specs.declared.fields.TheConstants.{MOST_LISTED, MOST_BYTES};
 ghost use Rattle.m2_control.specs.Outcome.{GivesRest};
 ghost use Rattle.m2_control.specs.AuthRequest.{bare_auth_request, auth_request_at, auth_request_text};
 
@@ -36,8 +37,8 @@ impl AuthRequest {
     }
 
     pub(crate) fn write(&self, out: &mut Blob) -> Result<(), NoMemory>
-        requires modes { length self.now.modes.items ≤ 64 }
-        requires payload { length self.now.payload.bytes ≤ 4096 }
+        requires modes { length self.now.modes.items ≤ MOST_LISTED }
+        requires payload { length self.now.payload.bytes ≤ MOST_BYTES }
         ensures { Appends result out.old out.new (auth_request_text self.now) }
     {
         let modes = self.modes.as_slice();

@@ -2,17 +2,18 @@
 
 ghost use Rattle.std.specs.Prelude.{◌≡◌};
 ghost use Rattle.m2_bytes.specs.Blob.{Appends};
-ghost use Rattle.m2_control.specs.Banner.{IsStep, Agrees, Differs, banner_text};
+ghost use Rattle.m2_control.specs.Banner.{IsStep, Agrees, Differs, banner_in, banner_text};
 ghost use Rattle.std.specs.Prelude.{MatchBool};
 
 use m2_bytes::{Blob, NoMemory, Reader, put_u16, put_u64};
 
 /// `ceph v2` and a line feed.
 const MAGIC: [u8; 8] = *b"ceph v2\n";
-/// The length of the two words of features, in bytes.
-const LEAST: u16 = 16;
+/// The length of a banner's payload at least, in bytes: its two words of features.
+pub const LEAST_BANNER: u16 = 16;
 
-const MOST: u16 = 4096;
+/// The length of a banner's payload at most, in bytes.
+pub const MOST_BANNER: u16 = 4096;
 
 /// The features of one side: bit 0 is msgr2.1, bit 1 compression.
 #[derive(Clone, Copy, Debug, PartialEq, Eq)]
@@ -26,10 +27,10 @@ pub struct Banner {
 pub enum BannerStep {
     /// A whole banner, and how many bytes it has.
     Got { banner: Banner, used: u32 },
-    /// The front of a banner.
+    /// A prefix of a banner.
     NotYet,
-    /// No front of any banner: one of the first 8 bytes is wrong, or the length is below 16 or
-    /// above 4096 (this project's profile).
+    /// No prefix of any banner: one of the first 8 bytes is wrong, or the length is below
+    /// [`LEAST_BANNER`] or above [`MOST_BANNER`] (this project's profile).
     BadBanner,
 }
 
@@ -45,8 +46,8 @@ fn is_ceph(bytes: &[u8]) -> bool
     true
 }
 
-/// Reads the banner at the front. Bytes of its payload past the two words are ignored.
-pub fn read_banner(bytes: &[u8]) -> BannerStep
+/// What the bytes are of a banner.
+fn banner_step(bytes: &[u8]) -> BannerStep
     ensures { IsStep result bytes.now }
 {
     if !is_ceph(bytes) {
@@ -57,7 +58,7 @@ pub fn read_banner(bytes: &[u8]) -> BannerStep
     }
     let (head, payload) = bytes.split_at(10);
     let length = u16::from_le_bytes([head[8], head[9]]);
-    if length < LEAST || length > MOST {
+    if length < LEAST_BANNER || length > MOST_BANNER {
         return BannerStep::BadBanner;
     }
     if payload.len() < length as usize {
@@ -76,13 +77,21 @@ pub fn read_banner(bytes: &[u8]) -> BannerStep
     }
 }
 
+/// Reads the banner at the front. Bytes of its payload past the two words are ignored.
+pub fn read_banner(bytes: &[u8]) -> BannerStep
+    ensures step { IsStep result bytes.now }
+    ensures value { result ≡ banner_in bytes.now }
+{
+    banner_step(bytes)
+}
+
 /// Appends the banner, 26 bytes.
 pub fn write_banner(b: &Banner, out: &mut Blob) -> Result<(), NoMemory>
     ensures { Appends result out.old out.new (banner_text b.now) }
 {
     out.reserve(26)?;
     out.push_all(&MAGIC)?;
-    put_u16(out, LEAST)?;
+    put_u16(out, LEAST_BANNER)?;
     put_u64(out, b.supported)?;
     put_u64(out, b.required)?;
     Ok(())

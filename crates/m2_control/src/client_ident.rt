@@ -34,6 +34,7 @@ pub struct ClientIdent {
 }
 
 impl ClientIdent {
+    #[tactic(auto, using(crate::proofs::Ends::fails))]
     pub(crate) fn read(alloc: Global, r: &mut Reader<'_>) -> Result<ClientIdent, ControlFault>
         ensures { GivesRest bare_client_ident result r.new (client_ident_at r.old) }
     {

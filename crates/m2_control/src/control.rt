@@ -1,14 +1,14 @@
 //! Every control payload, and how one is read and written.
 
-ghost use Rattle.std.specs.Prelude.{◌≡◌, ◌≢◌, ◌≤◌, ℕ, List, IfOk, Ok};
+ghost use Rattle.std.specs.Prelude.{◌≡◌, ◌≢◌, ◌≤◌, ℕ, List, false, IfOk, Ok, Err};
 ghost use Rattle.m2_bytes.specs.Blob.{Appends};
 ghost use Rattle.m2_addr.specs.Grammar.{IsBytes};
 ghost use Rattle.m2_tag.specs.declared.tag.Tag.{Tag};
 ghost use Rattle.m2_tag.specs.declared.tag.TheConstants.{FIRST_TAG, LAST_TAG};
 ghost use Rattle.m2_control.specs.declared.control.Control.{Control};
-ghost use Rattle.m2_control.specs.Outcome.{Gives, GivesRest};
+ghost use Rattle.m2_control.specs.Outcome.{Gives, GivesFront, GivesRest};
 ghost use Rattle.m2_tag.specs.Tags.{tag_number};
-ghost use Rattle.m2_control.specs.Control.{Spells, IsWritable, bare, tag_of, text_of, fields_at, payload_of};
+ghost use Rattle.m2_control.specs.Control.{Spells, IsWritable, bare, tag_of, text_of, fields_at, payload_of, takes_memory};
 
 use crate::ack::Ack;
 use crate::auth_bad_method::AuthBadMethod;
@@ -54,22 +54,16 @@ pub enum Control {
     Ack(Ack),
 }
 
-/// The fields of a payload at the front of what is left.
-fn read_fields(alloc: Global, tag: Tag, r: &mut Reader<'_>) -> Result<Control, ControlFault>
-    ensures { GivesRest bare result r.new (fields_at tag r.old) }
+/// The fields, at the front of what is left, of a payload that takes no memory.
+fn read_plain_fields(tag: Tag, r: &mut Reader<'_>) -> Result<Control, ControlFault>
+    requires { takes_memory tag ≡ false }
+    ensures exact { GivesFront (λ c. c) result r.new (fields_at tag r.old) }
+    ensures bare { IfOk result (λ c. bare c ≡ c) }
 {
     match tag {
-        Tag::Hello => Ok(Control::Hello(Hello::read(alloc, r)?)),
-        Tag::AuthRequest => Ok(Control::AuthRequest(AuthRequest::read(alloc, r)?)),
-        Tag::AuthBadMethod => Ok(Control::AuthBadMethod(AuthBadMethod::read(alloc, r)?)),
-        Tag::AuthDone => Ok(Control::AuthDone(AuthDone::read(alloc, r)?)),
-        Tag::AuthSignature => Ok(Control::AuthSignature(AuthSignature::read(alloc, r)?)),
-        Tag::ClientIdent => Ok(Control::ClientIdent(ClientIdent::read(alloc, r)?)),
-        Tag::ServerIdent => Ok(Control::ServerIdent(ServerIdent::read(alloc, r)?)),
         Tag::IdentMissingFeatures => Ok(Control::IdentMissingFeatures(IdentMissingFeatures::read(
             r,
         )?)),
-        Tag::SessionReconnect => Ok(Control::SessionReconnect(SessionReconnect::read(alloc, r)?)),
         Tag::SessionReset => Ok(Control::SessionReset(SessionReset::read(r)?)),
         Tag::SessionRetry => Ok(Control::SessionRetry(SessionRetry::read(r)?)),
         Tag::SessionRetryGlobal => Ok(Control::SessionRetryGlobal(SessionRetryGlobal::read(r)?)),
@@ -82,10 +76,30 @@ fn read_fields(alloc: Global, tag: Tag, r: &mut Reader<'_>) -> Result<Control, C
     }
 }
 
+/// The fields of a payload at the front of what is left.
+#[tactic(auto, using(crate::proofs::Ends::plain_given, crate::proofs::Ends::plain_never, crate::proofs::Memory::fields_never))]
+fn read_fields(alloc: Global, tag: Tag, r: &mut Reader<'_>) -> Result<Control, ControlFault>
+    ensures exact { GivesRest bare result r.new (fields_at tag r.old) }
+    ensures memory { takes_memory tag ≡ false → result ≢ Err ControlFault.NoMemory }
+{
+    match tag {
+        Tag::Hello => Ok(Control::Hello(Hello::read(alloc, r)?)),
+        Tag::AuthRequest => Ok(Control::AuthRequest(AuthRequest::read(alloc, r)?)),
+        Tag::AuthBadMethod => Ok(Control::AuthBadMethod(AuthBadMethod::read(alloc, r)?)),
+        Tag::AuthDone => Ok(Control::AuthDone(AuthDone::read(alloc, r)?)),
+        Tag::AuthSignature => Ok(Control::AuthSignature(AuthSignature::read(alloc, r)?)),
+        Tag::ClientIdent => Ok(Control::ClientIdent(ClientIdent::read(alloc, r)?)),
+        Tag::ServerIdent => Ok(Control::ServerIdent(ServerIdent::read(alloc, r)?)),
+        Tag::SessionReconnect => Ok(Control::SessionReconnect(SessionReconnect::read(alloc, r)?)),
+        plain => read_plain_fields(plain, r),
+    }
+}
+
 /// The payload of a tag, which ends with its last field.
 #[tactic(auto, using(crate::proofs::Ends::whole_fails))]
 fn read_whole(alloc: Global, tag: Tag, payload: &[u8]) -> Result<Control, ControlFault>
     ensures exact { Gives bare result (payload_of tag payload.now) }
+    ensures memory { takes_memory tag ≡ false → result ≢ Err ControlFault.NoMemory }
     ensures bytes { IsBytes payload.now }
 {
     let mut r = Reader::new(payload);
@@ -102,6 +116,7 @@ fn read_tagged(alloc: Global, tag: Tag, payload: &[u8]) -> Result<Control, Contr
     ensures found { IfOk result (λ c. Spells (bare c) payload.now × (tag_of (bare c) ≡ tag)) }
     ensures only { (c : Control) → Spells c payload.now → tag_of c ≡ tag → Gives bare result (Ok (bare c)) }
     ensures exact { Gives bare result (payload_of tag payload.now) }
+    ensures memory { takes_memory tag ≡ false → result ≢ Err ControlFault.NoMemory }
 {
     read_whole(alloc, tag, payload)
 }
@@ -119,11 +134,27 @@ impl Control {
         ensures writable { IfOk result IsWritable }
         // Which fault it is: the first in the payload.
         ensures exact { (t : Tag) → tag_number t ≡ tag → Gives bare result (payload_of t payload.now) }
+        // A payload without lists, byte strings and addresses never wants memory.
+        ensures memory { (t : Tag) → tag_number t ≡ tag → takes_memory t ≡ false → result ≢ Err ControlFault.NoMemory }
     {
         match Tag::of(tag) {
             Some(known) => read_tagged(alloc, known, payload),
             None => Err(ControlFault::NotNegotiated),
         }
+    }
+
+    /// Reads the payload of a frame whose payload has no list, byte string or address. It says what
+    /// [`Control::read`] says of it, and takes no memory.
+    pub fn read_plain(tag: Tag, payload: &[u8]) -> Result<Control, ControlFault>
+        requires { takes_memory tag ≡ false }
+        ensures { result ≡ payload_of tag payload.now }
+    {
+        let mut r = Reader::new(payload);
+        let control = read_plain_fields(tag, &mut r)?;
+        if r.left() > 0 {
+            return Err(ControlFault::Extra);
+        }
+        Ok(control)
     }
 
     /// The number of its tag.

@@ -1,7 +1,7 @@
 //! The fields that CLIENT_IDENT and SERVER_IDENT share.
 
 ghost use Rattle.std.specs.Prelude.{◌≡◌, ◌≤◌};
-ghost use Rattle.m2_control.specs.Outcome.{GivesRest};
+ghost use Rattle.m2_control.specs.Outcome.{GivesFront};
 ghost use Rattle.m2_control.specs.Ident.{tail_at};
 
 use crate::fault::ControlFault;
@@ -24,7 +24,7 @@ impl Tail {
     #[tactic(auto, unfolding(crate::specs::Ident::tail_at))]
     pub fn read(r: &mut Reader<'_>, first: u8) -> Result<Tail, ControlFault>
         requires { first ≤ 3 }
-        ensures { GivesRest (λ t. t) result r.new (tail_at first r.old) }
+        ensures { GivesFront (λ t. t) result r.new (tail_at first r.old) }
     {
         let gid = r.u64()?.cast_signed();
         let global = bounded(r, first + 1)?;

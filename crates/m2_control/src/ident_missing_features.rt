@@ -2,7 +2,7 @@
 
 ghost use Rattle.std.specs.Prelude.{◌≡◌, ◌≤◌, length};
 ghost use Rattle.m2_bytes.specs.Blob.{Appends};
-ghost use Rattle.m2_control.specs.Outcome.{GivesRest};
+ghost use Rattle.m2_control.specs.Outcome.{GivesFront};
 ghost use Rattle.m2_control.specs.IdentMissingFeatures.{bare_ident_missing_features, ident_missing_features_at, ident_missing_features_text};
 
 use crate::fault::ControlFault;
@@ -17,7 +17,7 @@ pub struct IdentMissingFeatures {
 
 impl IdentMissingFeatures {
     pub(crate) fn read(r: &mut Reader<'_>) -> Result<IdentMissingFeatures, ControlFault>
-        ensures { GivesRest bare_ident_missing_features result r.new (ident_missing_features_at r.old) }
+        ensures { GivesFront bare_ident_missing_features result r.new (ident_missing_features_at r.old) }
     {
         let bits = r.u64()?;
         Ok(IdentMissingFeatures { bits })

@@ -2,11 +2,12 @@
 
 ghost use Rattle.std.specs.Prelude.{◌≡◌, ◌≤◌, length};
 ghost use Rattle.m2_bytes.specs.Blob.{Appends};
-ghost use Rattle.m2_control.specs.Outcome.{GivesRest};
+ghost use Rattle.m2_control.specs.Outcome.{GivesFront};
 ghost use Rattle.m2_control.specs.Keepalive.{bare_keepalive, keepalive_at, keepalive_text};
 
 use crate::fault::ControlFault;
-use m2_bytes::{Blob, NoMemory, Reader, put_u32};
+use crate::stamp::{put_stamp, read_stamp};
+use m2_bytes::{Blob, NoMemory, Reader};
 
 /// Asks whether the other side is there.
 #[derive(Clone, Copy, Debug, PartialEq, Eq)]
@@ -19,19 +20,15 @@ pub struct Keepalive {
 
 impl Keepalive {
     pub(crate) fn read(r: &mut Reader<'_>) -> Result<Keepalive, ControlFault>
-        ensures { GivesRest bare_keepalive result r.new (keepalive_at r.old) }
+        ensures { GivesFront bare_keepalive result r.new (keepalive_at r.old) }
     {
-        let seconds = r.u32()?;
-        let nanos = r.u32()?;
+        let (seconds, nanos) = read_stamp(r)?;
         Ok(Keepalive { seconds, nanos })
     }
 
     pub(crate) fn write(&self, out: &mut Blob) -> Result<(), NoMemory>
         ensures { Appends result out.old out.new (keepalive_text self.now) }
     {
-        out.reserve(8)?;
-        put_u32(out, self.seconds)?;
-        put_u32(out, self.nanos)?;
-        Ok(())
+        put_stamp(out, self.seconds, self.nanos)
     }
 }

@@ -10,6 +10,12 @@ pub fn written_payload_is_read()
     ensures { laws.WrittenIsRead }
 {}
 
+/// What bytes are of a banner is a function of them: the relation that says so is its graph.
+#[tactic(auto, using(crate::proofs::BannerGraph::is_a_function))]
+pub fn banner_is_a_function()
+    ensures { laws.BannerIsAFunction }
+{}
+
 /// [`read_banner`](crate::read_banner) answers the banner that
 /// [`write_banner`](crate::write_banner) has written, and its 26 bytes, whatever follows them.
 #[tactic(auto, using(crate::proofs::Written::banner_is_read))]

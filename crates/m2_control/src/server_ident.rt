@@ -32,6 +32,7 @@ pub struct ServerIdent {
 }
 
 impl ServerIdent {
+    #[tactic(auto, using(crate::proofs::Ends::fails))]
     pub(crate) fn read(alloc: Global, r: &mut Reader<'_>) -> Result<ServerIdent, ControlFault>
         ensures { GivesRest bare_server_ident result r.new (server_ident_at r.old) }
     {

@@ -29,6 +29,7 @@ pub struct SessionReconnect {
 }
 
 impl SessionReconnect {
+    #[tactic(auto, using(crate::proofs::Ends::fails))]
     pub(crate) fn read(alloc: Global, r: &mut Reader<'_>) -> Result<SessionReconnect, ControlFault>
         ensures { GivesRest bare_session_reconnect result r.new (session_reconnect_at r.old) }
     {

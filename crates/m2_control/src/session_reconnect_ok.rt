@@ -2,7 +2,7 @@
 
 ghost use Rattle.std.specs.Prelude.{◌≡◌, ◌≤◌, length};
 ghost use Rattle.m2_bytes.specs.Blob.{Appends};
-ghost use Rattle.m2_control.specs.Outcome.{GivesRest};
+ghost use Rattle.m2_control.specs.Outcome.{GivesFront};
 ghost use Rattle.m2_control.specs.SessionReconnectOk.{bare_session_reconnect_ok, session_reconnect_ok_at, session_reconnect_ok_text};
 
 use crate::fault::ControlFault;
@@ -18,7 +18,7 @@ pub struct SessionReconnectOk {
 
 impl SessionReconnectOk {
     pub(crate) fn read(r: &mut Reader<'_>) -> Result<SessionReconnectOk, ControlFault>
-        ensures { GivesRest bare_session_reconnect_ok result r.new (session_reconnect_ok_at r.old) }
+        ensures { GivesFront bare_session_reconnect_ok result r.new (session_reconnect_ok_at r.old) }
     {
         let seen = bounded(r, 1)?;
         Ok(SessionReconnectOk { seen })

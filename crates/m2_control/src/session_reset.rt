@@ -2,7 +2,7 @@
 
 ghost use Rattle.std.specs.Prelude.{◌≡◌, ◌≤◌, length};
 ghost use Rattle.m2_bytes.specs.Blob.{Appends};
-ghost use Rattle.m2_control.specs.Outcome.{GivesRest};
+ghost use Rattle.m2_control.specs.Outcome.{GivesFront};
 ghost use Rattle.m2_control.specs.SessionReset.{bare_session_reset, session_reset_at, session_reset_text};
 
 use crate::fault::ControlFault;
@@ -18,7 +18,7 @@ pub struct SessionReset {
 
 impl SessionReset {
     pub(crate) fn read(r: &mut Reader<'_>) -> Result<SessionReset, ControlFault>
-        ensures { GivesRest bare_session_reset result r.new (session_reset_at r.old) }
+        ensures { GivesFront bare_session_reset result r.new (session_reset_at r.old) }
     {
         let full = flag(r, 1)?;
         Ok(SessionReset { full })

@@ -2,7 +2,7 @@
 
 ghost use Rattle.std.specs.Prelude.{◌≡◌, ◌≤◌, length};
 ghost use Rattle.m2_bytes.specs.Blob.{Appends};
-ghost use Rattle.m2_control.specs.Outcome.{GivesRest};
+ghost use Rattle.m2_control.specs.Outcome.{GivesFront};
 ghost use Rattle.m2_control.specs.SessionRetry.{bare_session_retry, session_retry_at, session_retry_text};
 
 use crate::fault::ControlFault;
@@ -18,7 +18,7 @@ pub struct SessionRetry {
 
 impl SessionRetry {
     pub(crate) fn read(r: &mut Reader<'_>) -> Result<SessionRetry, ControlFault>
-        ensures { GivesRest bare_session_retry result r.new (session_retry_at r.old) }
+        ensures { GivesFront bare_session_retry result r.new (session_retry_at r.old) }
     {
         let connect = bounded(r, 1)?;
         Ok(SessionRetry { connect })

@@ -2,7 +2,7 @@
 
 ghost use Rattle.std.specs.Prelude.{◌≡◌, ◌≤◌, length};
 ghost use Rattle.m2_bytes.specs.Blob.{Appends};
-ghost use Rattle.m2_control.specs.Outcome.{GivesRest};
+ghost use Rattle.m2_control.specs.Outcome.{GivesFront};
 ghost use Rattle.m2_control.specs.SessionRetryGlobal.{bare_session_retry_global, session_retry_global_at, session_retry_global_text};
 
 use crate::fault::ControlFault;
@@ -18,7 +18,7 @@ pub struct SessionRetryGlobal {
 
 impl SessionRetryGlobal {
     pub(crate) fn read(r: &mut Reader<'_>) -> Result<SessionRetryGlobal, ControlFault>
-        ensures { GivesRest bare_session_retry_global result r.new (session_retry_global_at r.old) }
+        ensures { GivesFront bare_session_retry_global result r.new (session_retry_global_at r.old) }
     {
         let global = bounded(r, 1)?;
         Ok(SessionRetryGlobal { global })

@@ -1,6 +1,6 @@
 ghost use Rattle.std.specs.Prelude.{◌≤◌, ◌≢◌};
 
-use super::*;
+use m2_control::*;
 use m2_addr::AddrFault;
 use m2_bytes::Blob;
 use std::test::*;
