@@ -1,5 +1,5 @@
 use Rattle.std.proofs.Common.{◌∙◌, ap, cond, true}
-use Rattle.m2_scenario.specs.NodeLine.{is_at}
+use Rattle.m2_scenario.specs.Draft.{is_at}
 use Rattle.m2_scenario.proofs.Nodes.{look_ups_pushed, look_ups_reordered}
 use Rattle.m2_scenario.proofs.node_table.NodeTable.push.Goals as goal
 

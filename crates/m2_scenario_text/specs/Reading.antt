@@ -1,0 +1,97 @@
+-- A scenario's text: lines ended by a line feed, of which the last may lack it.
+use Rattle.std.specs.Prelude.{◌≡◌, ℕ, ◌+◌, ◌-◌, ◌==◌, slice_index, nat_le, nat_lt, Bool, false, ◌&&◌, ◌||◌, if◌then◌else◌, List, [], ◌∷◌, length, take, map, Result, Ok, Err, unwrap_or}
+use Rattle.std.specs.List.{list_all}
+use Rattle.m2_scenario.specs.declared.kind.Kind.{Kind}
+use Rattle.m2_scenario.specs.declared.kind.Kind.TheVariants as kind
+use Rattle.m2_scenario.specs.declared.key.Key.{Key}
+use Rattle.m2_scenario.specs.declared.key.Key.TheVariants as key
+use Rattle.m2_scenario.specs.declared.kind.BadScenario.{BadScenario}
+use Rattle.m2_scenario.specs.declared.kind.BadScenario.TheVariants as bad
+use Rattle.m2_scenario.specs.declared.scenario.Scenario.{Scenario}
+use Rattle.m2_scenario.specs.declared.draft.Draft.{Draft as Memory}
+use Rattle.m2_scenario.specs.Kept.{draft_of}
+use Rattle.m2_scenario.specs.Steps.{◌>>=◌, check, or_kind}
+use Rattle.m2_scenario.specs.Text.{Word, words_of, pieces}
+use Rattle.m2_scenario.specs.Key.{key_of, belongs}
+use Rattle.m2_scenario.specs.Draft.{Draft, no_lines, told_of}
+use Rattle.m2_scenario.specs.NodeLine.{node_line}
+use Rattle.m2_scenario.specs.LinkLine.{link_line}
+use Rattle.m2_scenario.specs.PlanLines.{post_line, dial_line, down_line}
+use Rattle.m2_scenario.specs.SimLines.{cut_line, turn_line, flow_line, fault_line, settle_line}
+use Rattle.m2_scenario.specs.RunLines.{off_line, limit_line}
+
+-- one case a line form
+abbrev pub by_key : Draft → Key → List Word → Result Draft Kind
+by_key d key.Node ws = node_line d ws
+by_key d key.Link ws = link_line d ws
+by_key d key.Post ws = post_line d ws
+by_key d key.Dial ws = dial_line d ws
+by_key d key.Down ws = down_line d ws
+by_key d key.Cut ws = cut_line d ws
+by_key d key.Turn ws = turn_line d ws
+by_key d key.Flow ws = flow_line d ws
+by_key d key.Fault ws = fault_line d ws
+by_key d key.Settle ws = settle_line d ws
+by_key d key.Off ws = off_line d ws
+by_key d key.Limit ws = limit_line d ws
+
+-- a line of no words is passed over
+unfoldable pub words_line : Bool → Draft → List Word → Result Draft Kind
+words_line run d [] = Ok d
+words_line run d (first ∷ ws) = do
+  k ← or_kind kind.Unknown (key_of first)
+  _ ← check kind.Mode (belongs run k)
+  by_key d k ws
+
+unfoldable pub line_step : Bool → Draft → Word → Result Draft Kind
+line_step run d line = do
+  _ ← check kind.Unknown (is_clean (without_return line))
+  words_line run d (line_words line)
+
+-- the first bad line, by its number from 1, with its kind
+pub record At : Type 0 where
+  pub line : ℕ
+  pub kind : Kind
+
+abbrev pub at : {A B : Type 0} → ℕ → Result A Kind → (A → Result B At) → Result B At
+at n (Ok a) next = next a
+at n (Err k) next = Err (record { line = n; kind = k })
+
+-- The lines from the nth on. Where the file goes past its limit, the line in which the byte past it
+-- stands is bad, whatever else is wrong with it.
+abbrev pub lines_from : Bool → Bool → ℕ → Draft → List Word → Result Draft At
+lines_from run past n d [] = Ok d
+lines_from run past n d (l ∷ []) = if past then Err (record { line = n; kind = kind.Limit }) else at n (line_step run d l) (λ e. Ok e)
+lines_from run past n d (l ∷ m ∷ ls) = at n (line_step run d l) (λ e. lines_from run past (n + 1) e (m ∷ ls))
+
+-- a file has at most so many bytes
+abbrev pub most_bytes : ℕ
+most_bytes = 4194304
+
+unfoldable pub text_read : Bool → Word → Result Draft At
+text_read run text = lines_from run (nat_lt most_bytes (length text)) 1 no_lines (pieces 10 (take most_bytes text))
+
+-- the scenario is the draft that the lines make; a `limit` that is missing is ten seconds
+pub record IsMade (s : Scenario) (d : Draft) : Type 0 where
+  pub nodes : s.nodes ≡ d.nodes
+  pub links : s.links ≡ d.links
+  pub lines : map told_of s.lines ≡ d.lines
+  pub limit : s.limit ≡ unwrap_or d.limit 10000
+
+-- Ok: the text makes the scenario. BadLine: its first bad line is this one.
+abbrev pub Reads : Bool → Word → Result Scenario BadScenario → Type 0
+Reads run text (Ok s) = (d : Draft) × (text_read run text ≡ Ok d) × IsMade s d
+Reads run text (Err (bad.BadLine line k)) = text_read run text ≡ Err (record { line = line; kind = k })
+Reads run text (Err bad.NoMemory) = Unit {0}
+
+-- the draft in memory that all lines make
+abbrev pub DraftRead : Result Memory BadScenario → Result Draft At → Type 0
+DraftRead (Ok d) asked = asked ≡ Ok (draft_of d)
+DraftRead (Err (bad.BadLine line k)) asked = asked ≡ Err (record { line = line; kind = k })
+DraftRead (Err bad.NoMemory) asked = Unit {0}
+
+-- a line of the text, by its number
+abbrev pub LineRead : Result (Unit {0}) BadScenario → Result Draft Kind → ℕ → Draft → Type 0
+LineRead (Ok _) step n new = step ≡ Ok new
+LineRead (Err (bad.BadLine line k)) step n new = (step ≡ Err k) × (line ≡ n)
+LineRead (Err bad.NoMemory) step n new = Unit {0}
