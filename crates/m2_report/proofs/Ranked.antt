@@ -9,8 +9,8 @@ use Rattle.m2_dispatch.specs.ByRank.{put_before, by_rank}
 use Rattle.m2_dispatch.proofs.ByRank.{map-by_rank}
 use Rattle.m2_dispatch.specs.Heard.{Heard, heard_of, heard_by}
 use Rattle.m2_dispatch.specs.declared.logged.Logged.{Logged}
-use Rattle.m2_scenario.specs.Text.{Word}
-use Rattle.m2_scenario.specs.Report.{rank_of, told_by, IsPeerAmong, IsOfNodes}
+use Rattle.m2_words.specs.Text.{Word}
+use Rattle.m2_report.specs.Report.{rank_of, told_by, IsPeerAmong, IsOfNodes}
 
 -- ---- a fact of each item stays one in the order of ranks
 

@@ -5,15 +5,16 @@ use Rattle.std.specs.List.{flat_map, range_with_len, zip}
 use Rattle.std.specs.Fmt.{decimal}
 use denote.Ref.{Bor}
 use Rattle.m2_bytes.specs.Hexadecimal.{hex_text}
+use Rattle.m2_bytes.specs.Items.{Holding}
 use Rattle.m2_message.specs.Message.{Content}
 use Rattle.m2_policy.specs.declared.path.Key.{Key}
 use Rattle.m2_policy.specs.declared.path.Path.{Path}
 use Rattle.m2_policy.specs.declared.path.Path.TheVariants.{Fast, Queued}
 use Rattle.m2_dispatch.specs.ByRank.{by_rank}
-use Rattle.m2_dispatch.specs.Heard.{Heard, message, reset, heard_of, peer_of}
+use Rattle.m2_dispatch.specs.Heard.{Heard, message, reset, heard_of, heard_by, peer_of}
 use Rattle.m2_dispatch.specs.declared.logged.Logged.{Logged}
 use Rattle.m2_scenario.specs.declared.node.Node.{Node}
-use Rattle.m2_scenario.specs.Text.{Word, word}
+use Rattle.m2_words.specs.Text.{Word, word}
 
 -- ---- lines
 
@@ -87,10 +88,18 @@ IsPeerAmong nodes h = peer_of h < nodes
 abbrev pub IsOfNodes : ℕ → Logged → Type 0
 IsOfNodes nodes l = IsPeerAmong nodes (heard_of l)
 
+-- a log whose peers are among so many nodes
+abbrev pub IsLogOf : ℕ → Holding Logged → Type 0
+IsLogOf nodes log = All (IsOfNodes nodes) log.items
+
 -- the log of each node, whose peers are nodes
-pub record AreLogsOf (nodes : List Node) (logs : List (List Logged)) : Type 0 where
+pub record AreLogsOf (nodes : List Node) (logs : List (Holding Logged)) : Type 0 where
   pub each : length logs ≡ length nodes
-  pub peers : All (All (IsOfNodes (length nodes))) logs
+  pub peers : All (IsLogOf (length nodes)) logs
+
+-- what the log of a node tells
+abbrev pub heard_in : Holding Logged → List Heard
+heard_in log = heard_by log.items
 
 -- what calls that are lent tell
 abbrev pub told_by : List (Bor Logged) → List Heard

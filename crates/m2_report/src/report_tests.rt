@@ -2,7 +2,7 @@
 
 ghost use Rattle.std.specs.Prelude.{◌≡◌, ◌+◌, All, length, IfOk, OnOk};
 ghost use Rattle.m2_dispatch.specs.Heard.{peer_of, heard_of};
-ghost use Rattle.m2_scenario.specs.Report.{IsOfNodes, AreLogsOf};
+ghost use Rattle.m2_report.specs.Report.{IsOfNodes, AreLogsOf};
 
 use super::*;
 use m2_bytes::{Blob, Items};

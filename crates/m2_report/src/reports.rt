@@ -6,17 +6,16 @@ ghost use Rattle.m2_bytes.specs.Hexadecimal.{hex_text};
 ghost use Rattle.m2_message.specs.Message.{content_of};
 ghost use Rattle.m2_dispatch.specs.ByRank.{by_rank};
 ghost use Rattle.m2_dispatch.specs.Heard.{heard_of, heard_by};
-ghost use Rattle.m2_scenario.specs.Text.{word};
+ghost use Rattle.m2_words.specs.Text.{word};
 ghost use Rattle.m2_scenario.specs.Valid.{IsValid};
-ghost use Rattle.m2_scenario.specs.Report.{path_word, dispatch_line, reset_line, line_of, is_message_from, is_reset_by, path_rank, rank_of, sorted_of};
-ghost use Rattle.m2_scenario.specs.Report.{name_of, node_lines, report_of, told_by, IsPeerAmong, IsOfNodes, AreLogsOf};
+ghost use Rattle.m2_report.specs.Report.{path_word, dispatch_line, reset_line, line_of, is_message_from, is_reset_by, path_rank, rank_of, sorted_of};
+ghost use Rattle.m2_report.specs.Report.{name_of, node_lines, report_of, told_by, heard_in, IsPeerAmong, IsOfNodes, AreLogsOf};
 
-use crate::node::Node;
-use crate::scenario::Scenario;
 use m2_bytes::{Blob, Items, NoMemory, put_decimal, put_hex};
 use m2_dispatch::{Logged, LoggedList, sort_by_rank};
 use m2_message::Message;
 use m2_policy::{Key, Path};
+use m2_scenario::{Node, Scenario};
 use std::alloc::Global;
 
 /// For each node of a scenario, in its order, what its dispatchers were called with.
@@ -37,8 +36,8 @@ pub fn report(
     out: &mut Blob,
 ) -> Result<(), NoMemory>
     requires valid { IsValid s.now }
-    requires logs { AreLogsOf s.now.nodes logs.now }
-    ensures ok { OnOk result (out.new.bytes ≡ out.old.bytes ++ report_of sorted s.now.nodes (map heard_by logs.now)) }
+    requires logs { AreLogsOf s.now.nodes.items logs.now.items }
+    ensures ok { OnOk result (out.new.bytes ≡ out.old.bytes ++ report_of sorted s.now.nodes.items (map heard_in logs.now.items)) }
     ensures err { OnErr result (out.new.bytes ≡ out.old.bytes) }
 {
     let mut text = Blob::empty(alloc);
@@ -61,7 +60,7 @@ fn put_nodes(
     sorted: bool,
 ) -> Result<(), NoMemory>
     requires { AreLogsOf nodes.now logs.now }
-    ensures { OnOk result (text.new.bytes ≡ text.old.bytes ++ report_of sorted nodes.now (map heard_by logs.now)) }
+    ensures { OnOk result (text.new.bytes ≡ text.old.bytes ++ report_of sorted nodes.now (map heard_in logs.now)) }
 {
     for (node, log) in nodes.iter().zip(logs) {
         put_node(

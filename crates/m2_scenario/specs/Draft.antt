@@ -67,9 +67,9 @@ without_start a d = record d { nodes = without a d.nodes }
 
 -- the scenario is the draft; a limit that was never set is ten seconds
 pub record IsMade (s : Scenario) (d : Draft) : Type 0 where
-  pub nodes : s.nodes ≡ d.nodes
-  pub links : s.links ≡ d.links
-  pub lines : map draft_line s.lines ≡ d.lines
+  pub nodes : s.nodes.items ≡ d.nodes
+  pub links : s.links.items ≡ d.links
+  pub lines : map draft_line s.lines.items ≡ d.lines
   pub limit : s.limit ≡ unwrap_or d.limit 10000
 
 -- ---- what is looked up

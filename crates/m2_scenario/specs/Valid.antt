@@ -62,4 +62,4 @@ pub record IsSound (nodes : List Node) (links : List Link) (lines : List DraftLi
   pub rounds : sum_by rounds_of lines ≤ 20000
 
 abbrev pub IsValid : Scenario → Type 0
-IsValid s = IsSound s.nodes s.links (map draft_line s.lines)
+IsValid s = IsSound s.nodes.items s.links.items (map draft_line s.lines.items)

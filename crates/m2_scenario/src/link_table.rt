@@ -24,9 +24,9 @@ impl Model for LinkTable {
 
     ghost Value = { List Link };
 
-    ghost view = { λ t. t.links };
+    ghost view = { λ t. t.links.items };
 
-    ghost invariant = { λ t. IsLookUp t.links t.joined };
+    ghost invariant = { λ t. IsLookUp t.links.items t.joined };
 }
 
 impl LinkTable {
@@ -69,7 +69,7 @@ impl LinkTable {
     }
 
     pub(crate) fn into_list(self) -> LinkList
-        ensures { result ≡ self }
+        ensures { result.items ≡ self }
     {
         self.links
     }

@@ -92,7 +92,7 @@ impl NodeTable {
     }
 
     pub(crate) fn into_list(self) -> NodeList
-        ensures { result ≡ self }
+        ensures { result.items ≡ self }
     {
         Items::from_vec(self.nodes)
     }

@@ -74,9 +74,9 @@ impl Model for Plan {
 
     ghost Value = { List DraftLine };
 
-    ghost view = { λ p. map draft_line p.lines };
+    ghost view = { λ p. map draft_line p.lines.items };
 
-    ghost invariant = { λ p. IsCounted (map draft_line p.lines) p.posts p.cuts p.faults p.rounds p.planned };
+    ghost invariant = { λ p. IsCounted (map draft_line p.lines.items) p.posts p.cuts p.faults p.rounds p.planned };
 }
 
 impl Plan {
@@ -146,7 +146,7 @@ impl Plan {
     }
 
     pub(crate) fn into_list(self) -> LineList
-        ensures { map draft_line result ≡ self }
+        ensures { map draft_line result.items ≡ self }
     {
         self.lines
     }

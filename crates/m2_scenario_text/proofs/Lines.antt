@@ -1,12 +1,11 @@
 -- Lines one after another.
 use Rattle.std.proofs.Common.{◌≡◌, ◌==◌, ◌+◌, ◌<◌, ℕ, Bool, true, false, if◌then◌else◌, List, [], ◌∷◌, length, Result, Ok, Err, IsErrAnd, refl, sym, ◌∙◌, ap, arith}
-use Rattle.m2_scenario.specs.declared.kind.Kind.TheVariants as kind
-use Rattle.m2_scenario.specs.declared.kind.BadScenario.{BadScenario}
-use Rattle.m2_scenario.specs.declared.kind.BadScenario.TheVariants as bad
-use Rattle.m2_scenario.specs.declared.draft.Draft.{Draft as Memory}
-use Rattle.m2_scenario.specs.Text.{Word, pieces, glued}
+use Rattle.m2_words.specs.declared.kind.Kind.TheVariants as kind
+use Rattle.m2_scenario_text.specs.declared.bad_scenario.BadScenario.{BadScenario}
+use Rattle.m2_scenario_text.specs.declared.bad_scenario.BadScenario.TheVariants as bad
+use Rattle.m2_words.specs.Text.{Word, pieces, glued}
 use Rattle.m2_scenario.specs.Draft.{Draft}
-use Rattle.m2_scenario.specs.Reading.{line_step, lines_from, at, At, LineRead, DraftRead}
+use Rattle.m2_scenario_text.specs.Reading.{line_step, lines_from, at, At, LineRead, DraftRead}
 
 some_glued : (b : ℕ) (ps : List Word) → 0 < length (glued b ps)
 some_glued b [] = omega arith
@@ -59,12 +58,12 @@ pub past_line : (run past : Bool) (n : ℕ) (d : Draft) (rest : Word) → past �
 past_line run past n d rest e p = ap (lines_from run past n d) p ∙ ap (λ t. if t then Err (record { line = n; kind = kind.Limit }) else at n (line_step run d rest) (λ e. Ok e)) e
 
 -- the same answer for an equal reading
-pub same_answer : (r : Result Memory BadScenario) (asked other : Result Draft At) → asked ≡ other → DraftRead r other → DraftRead r asked
+pub same_answer : (r : Result Draft BadScenario) (asked other : Result Draft At) → asked ≡ other → DraftRead r other → DraftRead r asked
 same_answer (Ok d) asked other e h = e ∙ h
 same_answer (Err (bad.BadLine m k)) asked other e h = e ∙ h
 same_answer (Err bad.NoMemory) asked other e h = tt
 
 -- the error that a `?` hands on
-pub handed_on : (r : Result Memory BadScenario) (b : BadScenario) (asked : Result Draft At) → IsErrAnd r (λ e. e ≡ b) → DraftRead (Err b) asked → DraftRead r asked
+pub handed_on : (r : Result Draft BadScenario) (b : BadScenario) (asked : Result Draft At) → IsErrAnd r (λ e. e ≡ b) → DraftRead (Err b) asked → DraftRead r asked
 handed_on (Ok d) b asked h read = absurd h
 handed_on (Err e) b asked h read = rw h read

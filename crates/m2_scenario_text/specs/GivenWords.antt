@@ -1,7 +1,7 @@
 -- The options that were given, as lists of bytes.
 use Rattle.std.specs.Option.{option_copied}
-use Rattle.m2_scenario.specs.declared.node_line.Given.{Given as Memory}
-use Rattle.m2_scenario.specs.NodeLine.{Given}
+use Rattle.m2_scenario_text.specs.declared.node_line.Given.{Given as Memory}
+use Rattle.m2_scenario_text.specs.NodeLine.{Given}
 
 abbrev pub given_of : Memory → Given
 given_of g = record {

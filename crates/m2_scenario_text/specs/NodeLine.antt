@@ -3,14 +3,15 @@ use Rattle.std.specs.Prelude.{ℕ, ◌==◌, nat_le, nat_lt, Bool, true, ◌&&�
 use Rattle.std.specs.List.{list_any}
 use Rattle.std.specs.Str.{bytes_eq}
 use Rattle.m2_addr.specs.declared.addr.Addr.{Addr}
-use Rattle.m2_scenario.specs.declared.kind.Kind.{Kind}
-use Rattle.m2_scenario.specs.declared.kind.Kind.TheVariants as kind
+use Rattle.m2_words.specs.declared.kind.Kind.{Kind}
+use Rattle.m2_words.specs.declared.kind.Kind.TheVariants as kind
 use Rattle.m2_scenario.specs.declared.node.Node.{Node}
-use Rattle.m2_scenario.specs.Steps.{◌>>=◌, check}
-use Rattle.m2_scenario.specs.Text.{Word, word}
-use Rattle.m2_scenario.specs.Word.{number_of, is_name, entity_of, kinds_of}
-use Rattle.m2_scenario.specs.Address.{address_of}
-use Rattle.m2_scenario.specs.Draft.{Draft, with_node, is_named}
+use Rattle.m2_words.specs.Steps.{◌>>=◌, check}
+use Rattle.m2_words.specs.Text.{Word, word}
+use Rattle.m2_words.specs.Word.{number_of, is_name}
+use Rattle.m2_words.specs.Address.{address_of}
+use Rattle.m2_scenario.specs.Draft.{Draft, with_node, is_named, is_at}
+use Rattle.m2_scenario_text.specs.Vocabulary.{entity_of, kinds_of}
 
 -- the options that were given, each with its word
 pub record Given : Type 0 where
@@ -91,9 +92,6 @@ node_of ws = do
   at ← address_of (word ws 2)
   entity ← entity_of (word ws 1)
   node_with (word ws 0) entity at given
-
-abbrev pub is_at : Addr → Node → Bool
-is_at at n = (n.at.ip == at.ip) && (n.at.port == at.port)
 
 unfoldable pub node_line : Draft → List Word → Result Draft Kind
 node_line d ws = do

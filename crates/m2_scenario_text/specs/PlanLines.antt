@@ -1,13 +1,15 @@
 -- The steps of a node's plan: `post A B KIND PRIORITY FRONT MIDDLE DATA`, `dial A B` and `down A B`.
 use Rattle.std.specs.Prelude.{ℕ, ◌==◌, nat_le, nat_lt, Bool, true, ◌&&◌, List, length, drop, count_by, Option, Some, None, Result, Ok}
 use Rattle.m2_message.specs.Message.{Content}
-use Rattle.m2_scenario.specs.declared.kind.Kind.{Kind}
-use Rattle.m2_scenario.specs.declared.kind.Kind.TheVariants as kind
+use Rattle.m2_words.specs.declared.kind.Kind.{Kind}
+use Rattle.m2_words.specs.declared.kind.Kind.TheVariants as kind
 use Rattle.m2_scenario.specs.declared.node.Node.{Node}
-use Rattle.m2_scenario.specs.Steps.{◌>>=◌, check}
-use Rattle.m2_scenario.specs.Text.{Word, word}
-use Rattle.m2_scenario.specs.Word.{number_of, bytes_of}
-use Rattle.m2_scenario.specs.Draft.{Draft, with_line, pair_of, is_post, post, dial, down}
+use Rattle.m2_words.specs.Steps.{◌>>=◌, check}
+use Rattle.m2_words.specs.Text.{Word, word}
+use Rattle.m2_words.specs.Word.{number_of, bytes_of}
+use Rattle.m2_scenario.specs.Draft.{Draft, with_line, is_post, post, dial, down}
+use Rattle.m2_scenario.specs.Valid.{are_short}
+use Rattle.m2_scenario_text.specs.Pair.{pair_of}
 use Rattle.std.specs.Prelude.{slice_get}
 
 -- whether the node at a place is started
@@ -42,12 +44,6 @@ content_with k priority front middle tail = record {
   middle = middle;
   tail = tail;
 }
-
-abbrev pub is_short : List ℕ → Bool
-is_short bytes = nat_le (length bytes) 65536
-
-abbrev pub are_short : Content → Bool
-are_short c = is_short c.front && is_short c.middle && is_short c.tail
 
 -- KIND PRIORITY FRONT MIDDLE DATA
 unfoldable pub message_of : List Word → Result Content Kind

@@ -1,47 +1,45 @@
 -- A scenario's text: lines ended by a line feed, of which the last may lack it.
-use Rattle.std.specs.Prelude.{◌≡◌, ℕ, ◌+◌, ◌-◌, ◌==◌, slice_index, nat_le, nat_lt, Bool, false, ◌&&◌, ◌||◌, if◌then◌else◌, List, [], ◌∷◌, length, take, map, Result, Ok, Err, unwrap_or}
-use Rattle.std.specs.List.{list_all}
-use Rattle.m2_scenario.specs.declared.kind.Kind.{Kind}
-use Rattle.m2_scenario.specs.declared.kind.Kind.TheVariants as kind
-use Rattle.m2_scenario.specs.declared.key.Key.{Key}
-use Rattle.m2_scenario.specs.declared.key.Key.TheVariants as key
-use Rattle.m2_scenario.specs.declared.kind.BadScenario.{BadScenario}
-use Rattle.m2_scenario.specs.declared.kind.BadScenario.TheVariants as bad
+use Rattle.std.specs.Prelude.{◌≡◌, ℕ, ◌+◌, nat_lt, Bool, if◌then◌else◌, List, [], ◌∷◌, length, take, Result, Ok, Err}
+use Rattle.m2_words.specs.declared.kind.Kind.{Kind}
+use Rattle.m2_words.specs.declared.kind.Kind.TheVariants as kind
+use Rattle.m2_scenario_text.specs.declared.first_word.FirstWord.{FirstWord}
+use Rattle.m2_scenario_text.specs.declared.first_word.FirstWord.TheVariants as first
+use Rattle.m2_scenario_text.specs.declared.bad_scenario.BadScenario.{BadScenario}
+use Rattle.m2_scenario_text.specs.declared.bad_scenario.BadScenario.TheVariants as bad
 use Rattle.m2_scenario.specs.declared.scenario.Scenario.{Scenario}
-use Rattle.m2_scenario.specs.declared.draft.Draft.{Draft as Memory}
-use Rattle.m2_scenario.specs.Kept.{draft_of}
-use Rattle.m2_scenario.specs.Steps.{◌>>=◌, check, or_kind}
-use Rattle.m2_scenario.specs.Text.{Word, words_of, pieces}
-use Rattle.m2_scenario.specs.Key.{key_of, belongs}
-use Rattle.m2_scenario.specs.Draft.{Draft, no_lines, told_of}
-use Rattle.m2_scenario.specs.NodeLine.{node_line}
-use Rattle.m2_scenario.specs.LinkLine.{link_line}
-use Rattle.m2_scenario.specs.PlanLines.{post_line, dial_line, down_line}
-use Rattle.m2_scenario.specs.SimLines.{cut_line, turn_line, flow_line, fault_line, settle_line}
-use Rattle.m2_scenario.specs.RunLines.{off_line, limit_line}
+use Rattle.m2_words.specs.Steps.{◌>>=◌, check, or_kind}
+use Rattle.m2_words.specs.Text.{Word, pieces}
+use Rattle.m2_words.specs.Line.{is_clean, without_return, line_words}
+use Rattle.m2_scenario_text.specs.FirstWord.{first_word_of, belongs}
+use Rattle.m2_scenario.specs.Draft.{Draft, no_lines, IsMade}
+use Rattle.m2_scenario_text.specs.NodeLine.{node_line}
+use Rattle.m2_scenario_text.specs.LinkLine.{link_line}
+use Rattle.m2_scenario_text.specs.PlanLines.{post_line, dial_line, down_line}
+use Rattle.m2_scenario_text.specs.SimLines.{cut_line, turn_line, flow_line, fault_line, settle_line}
+use Rattle.m2_scenario_text.specs.RunLines.{off_line, limit_line}
 
 -- one case a line form
-abbrev pub by_key : Draft → Key → List Word → Result Draft Kind
-by_key d key.Node ws = node_line d ws
-by_key d key.Link ws = link_line d ws
-by_key d key.Post ws = post_line d ws
-by_key d key.Dial ws = dial_line d ws
-by_key d key.Down ws = down_line d ws
-by_key d key.Cut ws = cut_line d ws
-by_key d key.Turn ws = turn_line d ws
-by_key d key.Flow ws = flow_line d ws
-by_key d key.Fault ws = fault_line d ws
-by_key d key.Settle ws = settle_line d ws
-by_key d key.Off ws = off_line d ws
-by_key d key.Limit ws = limit_line d ws
+abbrev pub by_first_word : Draft → FirstWord → List Word → Result Draft Kind
+by_first_word d first.Node ws = node_line d ws
+by_first_word d first.Link ws = link_line d ws
+by_first_word d first.Post ws = post_line d ws
+by_first_word d first.Dial ws = dial_line d ws
+by_first_word d first.Down ws = down_line d ws
+by_first_word d first.Cut ws = cut_line d ws
+by_first_word d first.Turn ws = turn_line d ws
+by_first_word d first.Flow ws = flow_line d ws
+by_first_word d first.Fault ws = fault_line d ws
+by_first_word d first.Settle ws = settle_line d ws
+by_first_word d first.Off ws = off_line d ws
+by_first_word d first.Limit ws = limit_line d ws
 
 -- a line of no words is passed over
 unfoldable pub words_line : Bool → Draft → List Word → Result Draft Kind
 words_line run d [] = Ok d
-words_line run d (first ∷ ws) = do
-  k ← or_kind kind.Unknown (key_of first)
+words_line run d (w ∷ ws) = do
+  k ← or_kind kind.Unknown (first_word_of w)
   _ ← check kind.Mode (belongs run k)
-  by_key d k ws
+  by_first_word d k ws
 
 unfoldable pub line_step : Bool → Draft → Word → Result Draft Kind
 line_step run d line = do
@@ -71,13 +69,6 @@ most_bytes = 4194304
 unfoldable pub text_read : Bool → Word → Result Draft At
 text_read run text = lines_from run (nat_lt most_bytes (length text)) 1 no_lines (pieces 10 (take most_bytes text))
 
--- the scenario is the draft that the lines make; a `limit` that is missing is ten seconds
-pub record IsMade (s : Scenario) (d : Draft) : Type 0 where
-  pub nodes : s.nodes ≡ d.nodes
-  pub links : s.links ≡ d.links
-  pub lines : map told_of s.lines ≡ d.lines
-  pub limit : s.limit ≡ unwrap_or d.limit 10000
-
 -- Ok: the text makes the scenario. BadLine: its first bad line is this one.
 abbrev pub Reads : Bool → Word → Result Scenario BadScenario → Type 0
 Reads run text (Ok s) = (d : Draft) × (text_read run text ≡ Ok d) × IsMade s d
@@ -85,8 +76,8 @@ Reads run text (Err (bad.BadLine line k)) = text_read run text ≡ Err (record {
 Reads run text (Err bad.NoMemory) = Unit {0}
 
 -- the draft in memory that all lines make
-abbrev pub DraftRead : Result Memory BadScenario → Result Draft At → Type 0
-DraftRead (Ok d) asked = asked ≡ Ok (draft_of d)
+abbrev pub DraftRead : Result Draft BadScenario → Result Draft At → Type 0
+DraftRead (Ok d) asked = asked ≡ Ok d
 DraftRead (Err (bad.BadLine line k)) asked = asked ≡ Err (record { line = line; kind = k })
 DraftRead (Err bad.NoMemory) asked = Unit {0}
 

@@ -1,12 +1,13 @@
 -- `cut A B BYTES`, and the lines of `sim` alone: `turn A`, `flow A B` or `flow A B SOCKET BYTES`,
 -- `fault A B` or `fault A B SOCKET`, and `settle N`.
 use Rattle.std.specs.Prelude.{ℕ, ◌+◌, ◌==◌, nat_le, nat_lt, ◌||◌, List, [], ◌∷◌, length, drop, count_by, sum_by, Result, Ok}
-use Rattle.m2_scenario.specs.declared.kind.Kind.{Kind}
-use Rattle.m2_scenario.specs.declared.kind.Kind.TheVariants as kind
-use Rattle.m2_scenario.specs.Steps.{◌>>=◌, check}
-use Rattle.m2_scenario.specs.Text.{Word, word}
-use Rattle.m2_scenario.specs.Word.{number_of}
-use Rattle.m2_scenario.specs.Draft.{Draft, with_line, place_of, pair_of, is_cut, is_fault, rounds_of, cut, turn, flow, fault, settle}
+use Rattle.m2_words.specs.declared.kind.Kind.{Kind}
+use Rattle.m2_words.specs.declared.kind.Kind.TheVariants as kind
+use Rattle.m2_words.specs.Steps.{◌>>=◌, check}
+use Rattle.m2_words.specs.Text.{Word, word}
+use Rattle.m2_words.specs.Word.{number_of}
+use Rattle.m2_scenario_text.specs.Pair.{place_of, pair_of}
+use Rattle.m2_scenario.specs.Draft.{Draft, with_line, is_cut, is_fault, rounds_of, cut, turn, flow, fault, settle}
 
 unfoldable pub cut_line : Draft → List Word → Result Draft Kind
 cut_line d ws = do

@@ -1,22 +1,18 @@
 //! `link A B POLICY POLICY`.
 
 ghost use Rattle.std.specs.Prelude.{◌≡◌, OnOk};
-ghost use Rattle.m2_scenario.specs.Draft.{Takes};
-ghost use Rattle.m2_scenario.specs.LinkLine.{link_line};
-ghost use Rattle.m2_scenario.specs.Kept.{draft_of, IsKept};
+ghost use Rattle.m2_scenario_text.specs.Taking.{Takes};
+ghost use Rattle.m2_scenario_text.specs.LinkLine.{link_line};
 
-use crate::draft::{Draft, place, push_link};
-use crate::kind::{Fault, Kind, check};
-use crate::link::Link;
-use crate::text::Words;
-use crate::word::policy;
+use crate::pair::place;
+use crate::vocabulary::policy;
 use m2_policy::is_allowed;
+use m2_scenario::{Draft, Link};
+use m2_words::{Kind, LineFault, Words, check};
 
 #[tactic(auto, unfolding(crate::specs::LinkLine::link_line))]
-pub(crate) fn link_line(draft: &mut Draft, mut words: Words<'_>) -> Result<(), Fault>
-    requires { IsKept draft.old }
-    ensures taken { Takes result (link_line (draft_of draft.old) words.entry) (draft_of draft.new) }
-    ensures kept { OnOk result (IsKept draft.new) }
+pub(crate) fn link_line(draft: &mut Draft, mut words: Words<'_>) -> Result<(), LineFault>
+    ensures { Takes result (link_line draft.old words.entry) draft.new }
 {
     check(Kind::Words, words.len() == 4)?;
     let first = words.take();
@@ -27,8 +23,8 @@ pub(crate) fn link_line(draft: &mut Draft, mut words: Words<'_>) -> Result<(), F
     let a = place(draft, first)?;
     let b = place(draft, second)?;
     check(Kind::Link, a != b)?;
-    check(Kind::Link, !draft.links.joins(a, b))?;
-    check(Kind::Limit, draft.links.len() < 120)?;
-    push_link(draft, Link { a, b, of_a, of_b })?;
+    check(Kind::Link, !draft.joins(a, b))?;
+    check(Kind::Limit, draft.links().len() < 120)?;
+    draft.push_link(Link { a, b, of_a, of_b })?;
     Ok(())
 }

@@ -1,23 +1,20 @@
 //! `node NAME ENTITY IP:PORT/NONCE` and options.
 
-ghost use Rattle.std.specs.Prelude.{◌≡◌, ◌≤◌, [], Ok, Err, IfOk, OnOk, MatchResult, length};
+ghost use Rattle.std.specs.Prelude.{◌≡◌, ◌≤◌, [], true, Ok, Err, IfOk, MatchResult, length};
 ghost use Rattle.std.specs.List.{list_any};
 ghost use Rattle.std.specs.Option.{option_copied};
-ghost use Rattle.m2_scenario.specs.Draft.{NodeRead, Takes, is_named};
-ghost use Rattle.m2_scenario.specs.NodeLine.{none_given, options_from, with_option, once, number_or, kinds_or_none, node_with, node_of, node_line, is_at};
-ghost use Rattle.m2_scenario.specs.GivenWords.{given_of};
+ghost use Rattle.m2_words.specs.Word.{is_name};
+ghost use Rattle.m2_scenario.specs.Draft.{is_named, is_at};
+ghost use Rattle.m2_scenario_text.specs.Taking.{NodeRead, Takes};
+ghost use Rattle.m2_scenario_text.specs.NodeLine.{none_given, options_from, with_option, once, number_or, kinds_or_none, node_with, node_of, node_line};
+ghost use Rattle.m2_scenario_text.specs.GivenWords.{given_of};
 ghost use Rattle.m2_scenario.specs.Valid.{HasCenters};
-ghost use Rattle.m2_scenario.specs.Kept.{draft_of, IsKept};
 
-use crate::address::address;
-use crate::draft::{Draft, push_node};
-use crate::kind::{Fault, Kind, check};
-use crate::node::Node;
-use crate::text::Words;
-use crate::word::{entity, is_name, kinds, number};
+use crate::vocabulary::{entity, kinds};
 use m2_addr::Addr;
-use m2_bytes::{Items, NoMemory};
 use m2_policy::FastSet;
+use m2_scenario::{Draft, Name, Node};
+use m2_words::{Kind, LineFault, Words, check, is_name, read_address, read_number};
 use std::alloc::Global;
 
 // The options that were given, each with its word.
@@ -113,7 +110,7 @@ fn number_or(default: u64, least: u64, most: u64, word: Option<&[u8]>) -> Result
 {
     match word {
         None => Ok(default),
-        Some(word) => number(Kind::Number, least, most, word),
+        Some(word) => read_number(Kind::Number, least, most, word),
     }
 }
 
@@ -134,7 +131,8 @@ fn node_with(
     entity: u8,
     at: Addr,
     given: Given<'_>,
-) -> Result<Node, Fault>
+) -> Result<Node, LineFault>
+    requires { is_name name.now ≡ true }
     ensures value { NodeRead result (node_with name.now entity at (given_of given.entry)) }
     ensures centers { IfOk result HasCenters }
 {
@@ -143,11 +141,8 @@ fn node_with(
     let throttle = number_or(0, 0, 4294967295, given.throttle)?;
     let supports = number_or(u64::MAX, 0, u64::MAX, given.supports)?;
     let requires_ = number_or(0, 0, u64::MAX, given.requires_)?;
-    let Ok(name) = Vec::from_slice(alloc, name) else {
-        return Err(Fault::NoMemory);
-    };
     Ok(Node {
-        name: Items::from_vec(name),
+        name: Name::of(alloc, name)?,
         entity,
         at,
         centers,
@@ -160,7 +155,7 @@ fn node_with(
 }
 
 #[tactic(auto, unfolding(crate::specs::NodeLine::node_of))]
-fn node_of(alloc: Global, mut words: Words<'_>) -> Result<Node, Fault>
+fn node_of(alloc: Global, mut words: Words<'_>) -> Result<Node, LineFault>
     ensures value { NodeRead result (node_of words.entry) }
     ensures centers { IfOk result HasCenters }
 {
@@ -170,21 +165,19 @@ fn node_of(alloc: Global, mut words: Words<'_>) -> Result<Node, Fault>
     let address_word = words.take();
     let given = options(Given::none(), words)?;
     check(Kind::Name, is_name(name))?;
-    let at = address(address_word)?;
+    let at = read_address(address_word)?;
     let entity = entity(entity_word)?;
     node_with(alloc, name, entity, at, given)
 }
 
 #[tactic(auto, unfolding(crate::specs::NodeLine::node_line))]
-pub(crate) fn node_line(alloc: Global, draft: &mut Draft, words: Words<'_>) -> Result<(), Fault>
-    requires { IsKept draft.old }
-    ensures taken { Takes result (node_line (draft_of draft.old) words.entry) (draft_of draft.new) }
-    ensures kept { OnOk result (IsKept draft.new) }
+pub(crate) fn node_line(alloc: Global, draft: &mut Draft, words: Words<'_>) -> Result<(), LineFault>
+    ensures { Takes result (node_line draft.old words.entry) draft.new }
 {
     let node = node_of(alloc, words)?;
-    check(Kind::Taken, !draft.nodes.has_name(node.name.as_slice()))?;
-    check(Kind::Taken, !draft.nodes.has_socket(node.at))?;
-    check(Kind::Limit, draft.nodes.as_slice().len() < 16)?;
-    push_node(alloc, draft, node)?;
+    check(Kind::Taken, !draft.has_name(node.name.as_slice()))?;
+    check(Kind::Taken, !draft.has_socket(node.at))?;
+    check(Kind::Limit, draft.nodes().len() < 16)?;
+    draft.push_node(alloc, node)?;
     Ok(())
 }

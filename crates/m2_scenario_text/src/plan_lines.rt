@@ -2,41 +2,39 @@
 
 ghost use Rattle.std.specs.Prelude.{◌≡◌, IfOk, OnOk, length};
 ghost use Rattle.m2_message.specs.Message.{content_of};
-ghost use Rattle.m2_scenario.specs.Draft.{MessageRead, Takes};
-ghost use Rattle.m2_scenario.specs.PlanLines.{planned_pair, message_of, are_short, post_line, dial_line, down_line};
-ghost use Rattle.m2_scenario.specs.Kept.{draft_of, IsKept, AreJoined};
+ghost use Rattle.m2_scenario_text.specs.Taking.{MessageRead, Takes};
+ghost use Rattle.m2_scenario_text.specs.PlanLines.{planned_pair, message_of, post_line, dial_line, down_line};
+ghost use Rattle.m2_scenario.specs.Valid.{are_short};
+ghost use Rattle.m2_scenario_text.specs.Pair.{AreJoined};
 
-use crate::draft::{Draft, pair, push_line};
-use crate::kind::{Fault, Kind, check};
-use crate::line::Line;
-use crate::text::Words;
-use crate::word::{bytes, number};
+use crate::pair::pair;
 use m2_message::{Header, Message};
+use m2_scenario::{Draft, Line};
+use m2_words::{Kind, LineFault, Words, check, read_bytes, read_number};
 use std::alloc::Global;
 
 // Two joined nodes of which the first is started.
 #[tactic(auto, unfolding(crate::specs::PlanLines::planned_pair))]
 fn planned_pair(draft: &Draft, first: &[u8], second: &[u8]) -> Result<(u32, u32), Kind>
-    requires { IsKept draft.now }
-    ensures value { result ≡ planned_pair (draft_of draft.now) first.now second.now }
+    ensures value { result ≡ planned_pair draft.now first.now second.now }
     ensures joined { IfOk result (AreJoined draft.now) }
 {
     let (a, b) = pair(draft, first, second)?;
-    check(Kind::Link, draft.nodes.as_slice()[a as usize].started)?;
+    check(Kind::Link, draft.nodes()[a as usize].started)?;
     Ok((a, b))
 }
 
 // The message of a post's last five words.
 #[tactic(auto, unfolding(crate::specs::PlanLines::message_of))]
-fn message_of(alloc: Global, mut words: Words<'_>) -> Result<Message, Fault>
+fn message_of(alloc: Global, mut words: Words<'_>) -> Result<Message, LineFault>
     requires { length words ≡ 5 }
     ensures { MessageRead result (message_of words.entry) }
 {
-    let kind = number(Kind::Number, 0, 65535, words.take())? as u16;
-    let priority = number(Kind::Number, 64, 255, words.take())? as u16;
-    let front = bytes(alloc, words.take())?;
-    let middle = bytes(alloc, words.take())?;
-    let tail = bytes(alloc, words.take())?;
+    let kind = read_number(Kind::Number, 0, 65535, words.take())? as u16;
+    let priority = read_number(Kind::Number, 64, 255, words.take())? as u16;
+    let front = read_bytes(alloc, words.take())?;
+    let middle = read_bytes(alloc, words.take())?;
+    let tail = read_bytes(alloc, words.take())?;
     let header = Header {
         seq: 0,
         tid: 0,
@@ -66,10 +64,8 @@ fn are_short(message: &Message) -> bool
 }
 
 #[tactic(auto, unfolding(crate::specs::PlanLines::post_line))]
-pub(crate) fn post_line(alloc: Global, draft: &mut Draft, mut words: Words<'_>) -> Result<(), Fault>
-    requires { IsKept draft.old }
-    ensures taken { Takes result (post_line (draft_of draft.old) words.entry) (draft_of draft.new) }
-    ensures kept { OnOk result (IsKept draft.new) }
+pub(crate) fn post_line(alloc: Global, draft: &mut Draft, mut words: Words<'_>) -> Result<(), LineFault>
+    ensures { Takes result (post_line draft.old words.entry) draft.new }
 {
     check(Kind::Words, words.len() == 7)?;
     let first = words.take();
@@ -77,35 +73,31 @@ pub(crate) fn post_line(alloc: Global, draft: &mut Draft, mut words: Words<'_>) 
     let message = message_of(alloc, words)?;
     let (a, b) = planned_pair(draft, first, second)?;
     check(Kind::Limit, are_short(&message))?;
-    check(Kind::Limit, draft.plan.posts() < 20000)?;
-    push_line(draft, Line::Post { a, b, message })?;
+    check(Kind::Limit, draft.posts() < 20000)?;
+    draft.push_line(Line::Post { a, b, message })?;
     Ok(())
 }
 
 #[tactic(auto, unfolding(crate::specs::PlanLines::dial_line))]
-pub(crate) fn dial_line(draft: &mut Draft, mut words: Words<'_>) -> Result<(), Fault>
-    requires { IsKept draft.old }
-    ensures taken { Takes result (dial_line (draft_of draft.old) words.entry) (draft_of draft.new) }
-    ensures kept { OnOk result (IsKept draft.new) }
+pub(crate) fn dial_line(draft: &mut Draft, mut words: Words<'_>) -> Result<(), LineFault>
+    ensures { Takes result (dial_line draft.old words.entry) draft.new }
 {
     check(Kind::Words, words.len() == 2)?;
     let first = words.take();
     let second = words.take();
     let (a, b) = planned_pair(draft, first, second)?;
-    push_line(draft, Line::Dial { a, b })?;
+    draft.push_line(Line::Dial { a, b })?;
     Ok(())
 }
 
 #[tactic(auto, unfolding(crate::specs::PlanLines::down_line))]
-pub(crate) fn down_line(draft: &mut Draft, mut words: Words<'_>) -> Result<(), Fault>
-    requires { IsKept draft.old }
-    ensures taken { Takes result (down_line (draft_of draft.old) words.entry) (draft_of draft.new) }
-    ensures kept { OnOk result (IsKept draft.new) }
+pub(crate) fn down_line(draft: &mut Draft, mut words: Words<'_>) -> Result<(), LineFault>
+    ensures { Takes result (down_line draft.old words.entry) draft.new }
 {
     check(Kind::Words, words.len() == 2)?;
     let first = words.take();
     let second = words.take();
     let (a, b) = planned_pair(draft, first, second)?;
-    push_line(draft, Line::Down { a, b })?;
+    draft.push_line(Line::Down { a, b })?;
     Ok(())
 }

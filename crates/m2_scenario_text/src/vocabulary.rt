@@ -4,7 +4,7 @@ ghost use Rattle.std.specs.Prelude.{◌≡◌, [], MatchResult};
 ghost use Rattle.m2_scenario_text.specs.Vocabulary.{entity_of, policy_of, kinds_of, kind_added};
 
 use m2_policy::{FastSet, Policy};
-use m2_words::{Kind, cut, number};
+use m2_words::{Kind, cut, read_number};
 
 // The number of an entity's type.
 #[tactic(auto, unfolding(crate::specs::Vocabulary::entity_of))]
@@ -64,7 +64,7 @@ pub(crate) fn kinds(word: &[u8]) -> Result<FastSet, Kind>
 fn add_kind(kinds: &mut FastSet, word: &[u8]) -> Result<(), Kind>
     ensures { MatchResult result (λ _. kind_added kinds.old word.now ≡ Ok kinds.new) (λ k. kind_added kinds.old word.now ≡ Err k) }
 {
-    let kind = number(Kind::Number, 0, 65535, word)?;
+    let kind = read_number(Kind::Number, 0, 65535, word)?;
     if kinds.len() >= FastSet::MOST {
         return Err(Kind::Number);
     }

@@ -1,8 +1,8 @@
 -- with the messages and the resets that are left they are all
 use Rattle.std.proofs.Common.{◌≡◌, ◌++◌, drop, filter}
 use Rattle.m2_dispatch.specs.Heard.{heard_by}
-use Rattle.m2_scenario.specs.Report.{is_message_from, is_reset_by, told_by}
-use Rattle.m2_scenario.proofs.reports.gather.Given as goal
+use Rattle.m2_report.specs.Report.{is_message_from, is_reset_by, told_by}
+use Rattle.m2_report.proofs.reports.gather.Given as goal
 
 abbrev pub invariant-loop-call : goal.invariant-loop-call
 invariant-loop-call l = record {

@@ -2,8 +2,8 @@
 use Rattle.std.proofs.Common.{◌≡◌, ◌++◌, map, drop}
 use Rattle.std.specs.List.{flat_map}
 use Rattle.m2_dispatch.specs.Heard.{heard_by}
-use Rattle.m2_scenario.specs.Report.{line_of, name_of}
-use Rattle.m2_scenario.proofs.reports.put_calls.Given as goal
+use Rattle.m2_report.specs.Report.{line_of, name_of}
+use Rattle.m2_report.proofs.reports.put_calls.Given as goal
 
 abbrev pub invariant-loop-call : goal.invariant-loop-call
 invariant-loop-call l =

@@ -1,7 +1,7 @@
 use Rattle.std.proofs.Common.{codes, decimal}
-use Rattle.m2_scenario.specs.Report.{path_word}
-use Rattle.m2_scenario.proofs.Appended.{and_then, and_part}
-use Rattle.m2_scenario.proofs.reports.put_dispatch.Goals as goal
+use Rattle.m2_report.specs.Report.{path_word}
+use Rattle.m2_report.proofs.Appended.{and_then, and_part}
+use Rattle.m2_report.proofs.reports.put_dispatch.Goals as goal
 
 pub returns : goal.returns
 returns c =

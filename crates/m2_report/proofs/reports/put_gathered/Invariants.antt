@@ -1,8 +1,8 @@
 -- with the lines of what is left it is the whole text
 use Rattle.std.proofs.Common.{◌≡◌, ◌++◌, map, drop}
 use Rattle.std.specs.List.{flat_map}
-use Rattle.m2_scenario.specs.Report.{line_of, name_of, told_by}
-use Rattle.m2_scenario.proofs.reports.put_gathered.Given as goal
+use Rattle.m2_report.specs.Report.{line_of, name_of, told_by}
+use Rattle.m2_report.proofs.reports.put_gathered.Given as goal
 
 abbrev pub invariant-loop-call : goal.invariant-loop-call
 invariant-loop-call l =

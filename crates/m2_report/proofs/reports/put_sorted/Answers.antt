@@ -1,9 +1,9 @@
 use Rattle.std.proofs.Common.{length, map}
 use Rattle.m2_dispatch.specs.Heard.{heard_by}
-use Rattle.m2_scenario.specs.Report.{line_of, name_of, sorted_of}
-use Rattle.m2_scenario.proofs.Appended.{one_done}
-use Rattle.m2_scenario.proofs.Ranked.{peers_more}
-use Rattle.m2_scenario.proofs.reports.put_sorted.Goals as goal
+use Rattle.m2_report.specs.Report.{line_of, name_of, sorted_of}
+use Rattle.m2_report.proofs.Appended.{one_done}
+use Rattle.m2_report.proofs.Ranked.{peers_more}
+use Rattle.m2_report.proofs.reports.put_sorted.Goals as goal
 
 pub loop-peer-preserved : goal.loop-peer-preserved
 loop-peer-preserved c =

@@ -2,8 +2,8 @@
 use Rattle.std.proofs.Common.{◌≡◌, ◌++◌, ◌-◌, length, map}
 use Rattle.std.specs.List.{flat_map, range_with_len}
 use Rattle.m2_dispatch.specs.Heard.{heard_by}
-use Rattle.m2_scenario.specs.Report.{line_of, name_of, sorted_of}
-use Rattle.m2_scenario.proofs.reports.put_sorted.Given as goal
+use Rattle.m2_report.specs.Report.{line_of, name_of, sorted_of}
+use Rattle.m2_report.proofs.reports.put_sorted.Given as goal
 
 abbrev pub invariant-loop-peer : goal.invariant-loop-peer
 invariant-loop-peer l =

@@ -1,8 +1,8 @@
 use Rattle.std.proofs.Common.{◌≡◌}
-use Rattle.m2_scenario.specs.NodeLine.{options_from}
-use Rattle.m2_scenario.specs.GivenWords.{given_of}
-use Rattle.m2_scenario.proofs.Options.{options_step}
-use Rattle.m2_scenario.proofs.node_line.+options.Goals as goal
+use Rattle.m2_scenario_text.specs.NodeLine.{options_from}
+use Rattle.m2_scenario_text.specs.GivenWords.{given_of}
+use Rattle.m2_scenario_text.proofs.Options.{options_step}
+use Rattle.m2_scenario_text.proofs.node_line.+options.Goals as goal
 
 pub returns : goal.returns
 returns t c =

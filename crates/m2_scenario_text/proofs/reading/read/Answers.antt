@@ -1,9 +1,7 @@
 -- The scenario is the draft that all lines make.
-use Rattle.m2_scenario.specs.Kept.{draft_of}
-use Rattle.m2_scenario.specs.Reading.{text_read}
-use Rattle.m2_scenario.proofs.reading.read.Goals as goal
+use Rattle.m2_scenario_text.specs.Reading.{text_read}
+use Rattle.m2_scenario_text.proofs.reading.read.Goals as goal
 
 pub returns-clause-reads : goal.returns-clause-reads
 unfolding text_read
-returns-clause-reads c =
-    (draft_of c.in_ok-draft.draft, rw c.front.ensures.bytes at c.in_ok-draft.ensures.made, record { nodes = c.into_list.ensures; links = c.into_list-2.ensures; lines = c.into_list-3.ensures; limit = c.unwrap_or.ensures })
+returns-clause-reads c = (c.in_ok-draft.draft, rw c.prefix.ensures.bytes at c.in_ok-draft.ensures, c.into_scenario.ensures.made)

@@ -1,11 +1,11 @@
 //! The first words of lines.
 
 ghost use Rattle.std.specs.Prelude.{◌≡◌};
-ghost use Rattle.m2_scenario.specs.Key.{key_of, belongs};
+ghost use Rattle.m2_scenario_text.specs.FirstWord.{first_word_of, belongs};
 
 /// What a line is about, by its first word.
 #[derive(Clone, Copy, Debug, PartialEq, Eq)]
-pub enum Key {
+pub enum FirstWord {
     Node,
     Link,
     Post,
@@ -20,36 +20,36 @@ pub enum Key {
     Limit,
 }
 
-impl Key {
+impl FirstWord {
     /// What a line with this first word is about; none exactly where no line begins with it.
-    #[tactic(auto, unfolding(crate::specs::Key::key_of))]
-    pub fn of(word: &[u8]) -> Option<Key>
-        ensures { result ≡ key_of word.now }
+    #[tactic(auto, unfolding(crate::specs::FirstWord::first_word_of))]
+    pub fn of(word: &[u8]) -> Option<FirstWord>
+        ensures { result ≡ first_word_of word.now }
     {
         if word == b"node".as_slice() {
-            Some(Key::Node)
+            Some(FirstWord::Node)
         } else if word == b"link".as_slice() {
-            Some(Key::Link)
+            Some(FirstWord::Link)
         } else if word == b"post".as_slice() {
-            Some(Key::Post)
+            Some(FirstWord::Post)
         } else if word == b"dial".as_slice() {
-            Some(Key::Dial)
+            Some(FirstWord::Dial)
         } else if word == b"down".as_slice() {
-            Some(Key::Down)
+            Some(FirstWord::Down)
         } else if word == b"cut".as_slice() {
-            Some(Key::Cut)
+            Some(FirstWord::Cut)
         } else if word == b"turn".as_slice() {
-            Some(Key::Turn)
+            Some(FirstWord::Turn)
         } else if word == b"flow".as_slice() {
-            Some(Key::Flow)
+            Some(FirstWord::Flow)
         } else if word == b"fault".as_slice() {
-            Some(Key::Fault)
+            Some(FirstWord::Fault)
         } else if word == b"settle".as_slice() {
-            Some(Key::Settle)
+            Some(FirstWord::Settle)
         } else if word == b"off".as_slice() {
-            Some(Key::Off)
+            Some(FirstWord::Off)
         } else if word == b"limit".as_slice() {
-            Some(Key::Limit)
+            Some(FirstWord::Limit)
         } else {
             None
         }
@@ -60,8 +60,8 @@ impl Key {
         ensures { result ≡ belongs run self }
     {
         match self {
-            Key::Turn | Key::Flow | Key::Fault | Key::Settle => !run,
-            Key::Off | Key::Limit => run,
+            FirstWord::Turn | FirstWord::Flow | FirstWord::Fault | FirstWord::Settle => !run,
+            FirstWord::Off | FirstWord::Limit => run,
             _ => true,
         }
     }

@@ -1,8 +1,8 @@
 -- the kinds so far and those of the rest are those of the word
 use Rattle.std.proofs.Common.{◌≡◌, length}
-use Rattle.m2_scenario.specs.Text.{pieces}
-use Rattle.m2_scenario.specs.Word.{kinds_from}
-use Rattle.m2_scenario.proofs.word.kinds.Given as goal
+use Rattle.m2_words.specs.Text.{pieces}
+use Rattle.m2_scenario_text.specs.Vocabulary.{kinds_from}
+use Rattle.m2_scenario_text.proofs.vocabulary.kinds.Given as goal
 
 abbrev pub invariant-kinds : goal.invariant-kinds
 invariant-kinds l = kinds_from l.kinds (pieces 44 l.rest) ≡ kinds_from l.initial.kinds (pieces 44 l.fn.word)
