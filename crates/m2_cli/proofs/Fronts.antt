@@ -6,7 +6,7 @@ use Rattle.m2_edge.specs.Sink.{Takes, TakesFront}
 use Rattle.m2_edge.specs.Whole.{IsReadUpTo}
 use Rattle.m2_scenario.specs.declared.link.Link.{Link}
 use Rattle.m2_scenario.specs.declared.node.Node.{Node}
-use Rattle.m2_scenario.specs.Draft.{Draft, Told}
+use Rattle.m2_scenario.specs.Draft.{Draft, DraftLine}
 use Rattle.m2_scenario.specs.Valid.{IsSound}
 use Rattle.m2_sim.specs.Model.{fast_of, left}
 use Rattle.m2_sim.specs.Posts.{HearsFronts, HearsAll, HearsPeers}
@@ -22,14 +22,14 @@ use Rattle.m2_cli.proofs.Tops.{became}
 
 -- the laws of the model
 abbrev pub FrontLaw : Type 0
-FrontLaw = (nodes : List Node) (links : List Link) (lines : List Told) → IsSound nodes links lines → HearsFronts (map fast_of nodes) lines (net_after nodes links lines).heard
+FrontLaw = (nodes : List Node) (links : List Link) (lines : List DraftLine) → IsSound nodes links lines → HearsFronts (map fast_of nodes) lines (net_after nodes links lines).heard
 
 abbrev pub AllLaw : Type 0
-AllLaw = (nodes : List Node) (links : List Link) (lines : List Told) → IsSound nodes links lines → left (net_after nodes links lines) ≡ 0
+AllLaw = (nodes : List Node) (links : List Link) (lines : List DraftLine) → IsSound nodes links lines → left (net_after nodes links lines) ≡ 0
     → HearsAll (map fast_of nodes) lines (net_after nodes links lines).heard
 
 abbrev pub PeerLaw : Type 0
-PeerLaw = (nodes : List Node) (links : List Link) (lines : List Told) → IsSound nodes links lines
+PeerLaw = (nodes : List Node) (links : List Link) (lines : List DraftLine) → IsSound nodes links lines
     → HearsPeers (length nodes) links (net_after nodes links lines).heard
 
 -- what was read keeps the order, where its report was written whole

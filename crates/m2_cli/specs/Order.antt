@@ -7,7 +7,7 @@ use Rattle.m2_dispatch.specs.Heard.{Heard}
 use Rattle.m2_edge.specs.Sink.{Takes, TakesFront}
 use Rattle.m2_edge.specs.Whole.{IsReadUpTo}
 use Rattle.m2_scenario.specs.Draft.{Draft}
-use Rattle.m2_scenario.specs.Report.{report_of}
+use Rattle.m2_report.specs.Report.{report_of}
 use Rattle.m2_sim.specs.Model.{fast_of}
 use Rattle.m2_sim.specs.Posts.{HearsFronts, HearsAll, HearsPeers}
 use Rattle.m2_cli.specs.declared.status.Status.{Status}

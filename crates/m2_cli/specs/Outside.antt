@@ -5,11 +5,12 @@ use Rattle.std.specs.Prelude.{ℕ, ◌+◌, ◌==◌, Bool, true, false, not, �
 use Rattle.std.specs.Prelude.{List, [], ◌∷◌, length, take, drop, codes, Option, Some, None}
 use Rattle.std.specs.List.{list_any}
 use Rattle.std.specs.Str.{bytes_eq}
-use Rattle.m2_scenario.specs.declared.key.Key.{Key}
-use Rattle.m2_scenario.specs.declared.key.Key.TheVariants as key
-use Rattle.m2_scenario.specs.Key.{key_of}
-use Rattle.m2_scenario.specs.Reading.{line_words, most_bytes}
-use Rattle.m2_scenario.specs.Text.{Word, word, pieces}
+use Rattle.m2_scenario_text.specs.declared.first_word.FirstWord.{FirstWord}
+use Rattle.m2_scenario_text.specs.declared.first_word.FirstWord.TheVariants as first
+use Rattle.m2_scenario_text.specs.FirstWord.{first_word_of}
+use Rattle.m2_words.specs.Line.{line_words}
+use Rattle.m2_scenario_text.specs.Reading.{most_bytes}
+use Rattle.m2_words.specs.Text.{Word, word, pieces}
 
 abbrev pub is_later_option : Word → Bool
 is_later_option w = bytes_eq w (codes "throttle") || bytes_eq w (codes "supports") || bytes_eq w (codes "requires")
@@ -19,19 +20,19 @@ is_peer w = bytes_eq w (codes "lossless_peer")
 
 -- by what the first word of a line says that it is about, and the words behind it: a node's options stand behind
 -- its name, entity and address, a link's policies and a fault's socket behind its two nodes
-abbrev pub is_outside_of : Option Key → List Word → Bool
-is_outside_of (Some key.Node) ws = list_any is_later_option (drop 3 ws)
-is_outside_of (Some key.Link) ws = not (is_peer (word ws 2) && is_peer (word ws 3))
-is_outside_of (Some key.Dial) ws = true
-is_outside_of (Some key.Down) ws = true
-is_outside_of (Some key.Cut) ws = true
-is_outside_of (Some key.Flow) ws = true
-is_outside_of (Some key.Fault) ws = length ws == 3
+abbrev pub is_outside_of : Option FirstWord → List Word → Bool
+is_outside_of (Some first.Node) ws = list_any is_later_option (drop 3 ws)
+is_outside_of (Some first.Link) ws = not (is_peer (word ws 2) && is_peer (word ws 3))
+is_outside_of (Some first.Dial) ws = true
+is_outside_of (Some first.Down) ws = true
+is_outside_of (Some first.Cut) ws = true
+is_outside_of (Some first.Flow) ws = true
+is_outside_of (Some first.Fault) ws = length ws == 3
 is_outside_of _ ws = false
 
 abbrev pub is_outside : List Word → Bool
 is_outside [] = false
-is_outside (first ∷ ws) = is_outside_of (key_of first) ws
+is_outside (w ∷ ws) = is_outside_of (first_word_of w) ws
 
 -- the number of the first such line, where these are the lines from the nth on
 abbrev pub outside_from : ℕ → List Word → Option ℕ

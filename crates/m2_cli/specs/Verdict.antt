@@ -5,9 +5,9 @@ use Rattle.m2_cli.specs.declared.status.Status.{Status}
 use Rattle.m2_cli.specs.declared.status.Status.TheVariants.{Done, BadScenario, Left}
 use Rattle.m2_cli.specs.Outside.{first_outside}
 use Rattle.m2_scenario.specs.Draft.{Draft}
-use Rattle.m2_scenario.specs.Kind.{number_of_kind}
-use Rattle.m2_scenario.specs.Reading.{At, text_read}
-use Rattle.m2_scenario.specs.Report.{report_of}
+use Rattle.m2_words.specs.Kind.{number_of_kind}
+use Rattle.m2_scenario_text.specs.Reading.{At, text_read}
+use Rattle.m2_report.specs.Report.{report_of}
 use Rattle.m2_sim.specs.Model.{Net, left}
 use Rattle.m2_sim.specs.Lines.{net_after}
 

@@ -5,8 +5,8 @@ ghost use Rattle.m2_cli.specs.declared.status.Status.TheVariants as statuses;
 ghost use Rattle.m2_cli.specs.Verdict.{status_in, report_in, status_by_count};
 ghost use Rattle.m2_cli.specs.Answer.{IsAnswer, IsSoundIn, AnswersFile};
 ghost use Rattle.m2_edge.specs.Whole.{HasReadCause};
-ghost use Rattle.m2_scenario.specs.Draft.{told_of};
-ghost use Rattle.m2_scenario.specs.Report.{report_of};
+ghost use Rattle.m2_scenario.specs.Draft.{draft_line};
+ghost use Rattle.m2_report.specs.Report.{report_of};
 ghost use Rattle.m2_scenario.specs.Valid.{IsValid};
 ghost use Rattle.m2_sim.specs.Model.{left};
 ghost use Rattle.m2_sim.specs.Lines.{net_after};
@@ -15,7 +15,9 @@ use crate::outside::{NOT_RUN, first_outside};
 use crate::status::{Status, line};
 use m2_bytes::{Blob, Items, NoMemory};
 use m2_edge::{ReadFault, Source, read_whole};
-use m2_scenario::{BadScenario, MOST_BYTES, Scenario, read, report};
+use m2_report::report;
+use m2_scenario::Scenario;
+use m2_scenario_text::{BadScenario, MOST_BYTES, read};
 use m2_sim::{Outcome, run};
 use std::alloc::Global;
 
@@ -71,8 +73,8 @@ fn refuse(alloc: Global, line: u32, kind: u8) -> Result<Answer, NoMemory>
 /// Runs a scenario over links of its own.
 fn answer_scenario(alloc: Global, scenario: Scenario) -> Result<Answer, NoMemory>
     requires { IsValid scenario }
-    ensures { IfOk result (λ a. let n = net_after scenario.nodes scenario.links (map told_of scenario.lines) in
-        IsAnswer a (status_by_count (left n)) (report_of false scenario.nodes n.heard)) }
+    ensures { IfOk result (λ a. let n = net_after scenario.nodes.items scenario.links.items (map draft_line scenario.lines.items) in
+        IsAnswer a (status_by_count (left n)) (report_of false scenario.nodes.items n.heard)) }
 {
     let Scenario {
         nodes,

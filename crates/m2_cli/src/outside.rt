@@ -3,9 +3,10 @@
 ghost use Rattle.std.specs.Prelude.{◌≡◌, ◌==◌, ◌&&◌, drop};
 ghost use Rattle.std.specs.List.{list_any};
 ghost use Rattle.m2_cli.specs.Outside.{is_later_option, is_peer, is_outside, first_outside};
-ghost use Rattle.m2_scenario.specs.Text.{word};
+ghost use Rattle.m2_words.specs.Text.{word};
 
-use m2_scenario::{Key, MOST_BYTES, Words, cut, front, words_in};
+use m2_scenario_text::{FirstWord, MOST_BYTES};
+use m2_words::{Words, cut, prefix, words_in};
 
 /// The number of the kind of these lines, behind those of the language.
 pub(crate) const NOT_RUN: u8 = 13;
@@ -66,14 +67,14 @@ fn is_outside(mut words: Words<'_>) -> bool
     let Some(first) = words.next() else {
         return false;
     };
-    match Key::of(first) {
-        Some(Key::Node) => {
+    match FirstWord::of(first) {
+        Some(FirstWord::Node) => {
             skip(&mut words, 3);
             has_later_option(words)
         }
-        Some(Key::Link) => !joins_peers(words),
-        Some(Key::Dial | Key::Down | Key::Cut | Key::Flow) => true,
-        Some(Key::Fault) => words.len() == 3,
+        Some(FirstWord::Link) => !joins_peers(words),
+        Some(FirstWord::Dial | FirstWord::Down | FirstWord::Cut | FirstWord::Flow) => true,
+        Some(FirstWord::Fault) => words.len() == 3,
         _ => false,
     }
 }
@@ -82,7 +83,7 @@ fn is_outside(mut words: Words<'_>) -> bool
 pub(crate) fn first_outside(bytes: &[u8]) -> Option<u32>
     ensures { result ≡ first_outside bytes.now }
 {
-    let mut rest = front(bytes, MOST_BYTES);
+    let mut rest = prefix(bytes, MOST_BYTES);
     let mut line = 1;
     while let Some((text, more)) = cut(rest, b'\n') {
         if is_outside(words_in(text)) {

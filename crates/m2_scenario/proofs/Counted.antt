@@ -6,16 +6,15 @@ use Rattle.std.proofs.lemmas.List.Sums.{sum_by-append}
 use Rattle.std.proofs.lemmas.List.Folds.{list_any-append}
 use Rattle.std.proofs.lemmas.List.{map-append, length-set}
 use Rattle.m2_scenario.specs.declared.node.Node.{Node}
-use Rattle.m2_scenario.specs.declared.line.Counts.{Counts}
+use Rattle.m2_scenario.specs.declared.plan.Counts.{Counts}
 use Rattle.m2_scenario.specs.declared.line.Line.{Line}
-use Rattle.m2_scenario.specs.Draft.{Told, told_of, is_post, is_cut, is_fault, rounds_of, is_step_of, post, dial, down, cut, turn, flow, fault, settle}
-use Rattle.m2_scenario.specs.Plan.{IsCounted, HasRoom, step_of}
+use Rattle.m2_scenario.specs.Draft.{DraftLine, draft_line, is_post, is_cut, is_fault, rounds_of, is_step_of, without, post, dial, down, cut, turn, flow, fault, settle}
+use Rattle.m2_scenario.specs.Plan.{IsCounted, IsAmong, step_of}
 use Rattle.m2_scenario.specs.LineCounts.{IsCountOf}
-use Rattle.m2_scenario.specs.RunLines.{without_start}
 use Rattle.m2_scenario.proofs.Flags.{flag_at}
 
 -- a step is one of its node alone
-step_is : (l : Told) (a b : ℕ) → step_of l ≡ Some a → is_step_of b l ≡ (a == b)
+step_is : (l : DraftLine) (a b : ℕ) → step_of l ≡ Some a → is_step_of b l ≡ (a == b)
 step_is (post from to m) a b e = let same : from ≡ a = cc in rw same refl
 step_is (dial from to) a b e = let same : from ≡ a = cc in rw same refl
 step_is (down from to) a b e = let same : from ≡ a = cc in rw same refl
@@ -26,20 +25,20 @@ step_is (fault from to s) a b e = absurd (cc)
 step_is (settle n) a b e = absurd (cc)
 
 -- the node of a step is one of sixteen
-pub step_below : (lines : List Told) (l : Told) (a : ℕ) → HasRoom lines l → step_of l ≡ Some a → a < 16
-step_below lines (post from to m) a room e = let same : from ≡ a = cc in omega (arith, same, room.0)
-step_below lines (dial from to) a room e = let same : from ≡ a = cc in omega (arith, same, room)
-step_below lines (down from to) a room e = let same : from ≡ a = cc in omega (arith, same, room)
-step_below lines (cut from to n) a room e = absurd (cc)
-step_below lines (turn from) a room e = absurd (cc)
-step_below lines (flow from to s n) a room e = absurd (cc)
-step_below lines (fault from to s) a room e = absurd (cc)
-step_below lines (settle n) a room e = absurd (cc)
+pub step_below : (l : DraftLine) (a : ℕ) → IsAmong 16 l → step_of l ≡ Some a → a < 16
+step_below (post from to m) a room e = let same : from ≡ a = cc in omega (arith, same, room)
+step_below (dial from to) a room e = let same : from ≡ a = cc in omega (arith, same, room)
+step_below (down from to) a room e = let same : from ≡ a = cc in omega (arith, same, room)
+step_below (cut from to n) a room e = absurd (cc)
+step_below (turn from) a room e = absurd (cc)
+step_below (flow from to s n) a room e = absurd (cc)
+step_below (fault from to s) a room e = absurd (cc)
+step_below (settle n) a room e = absurd (cc)
 
-step_or : (l : Told) (a b : ℕ) (lines : List Told) → step_of l ≡ Some a → list_any (is_step_of b) (lines ++ l ∷ []) ≡ (list_any (is_step_of b) lines || ((a == b) || false))
+step_or : (l : DraftLine) (a b : ℕ) (lines : List DraftLine) → step_of l ≡ Some a → list_any (is_step_of b) (lines ++ l ∷ []) ≡ (list_any (is_step_of b) lines || ((a == b) || false))
 step_or l a b lines e = list_any-append (is_step_of b) lines (l ∷ []) ∙ ap (λ t. list_any (is_step_of b) lines || (t || false)) (step_is l a b e)
 
-counted : (lines : List Told) (l : Told) (posts cuts faults rounds : ℕ) (planned : List Bool) (c : Counts) (a : ℕ)
+counted : (lines : List DraftLine) (l : DraftLine) (posts cuts faults rounds : ℕ) (planned : List Bool) (c : Counts) (a : ℕ)
     → IsCounted lines posts cuts faults rounds planned → IsCountOf c l → c.step_of ≡ Some a → a < 16
     → IsCounted (lines ++ l ∷ []) (posts + c.posts) (cuts + c.cuts) (faults + c.faults) (rounds + c.rounds) (slice_set planned a true)
 counted lines l posts cuts faults rounds planned c a h k step small = record {
@@ -53,13 +52,13 @@ counted lines l posts cuts faults rounds planned c a h k step small = record {
 
 -- the same of the lines in memory
 pub counted_line : (old : List Line) (new : List Line) (line : Line) (posts cuts faults rounds : ℕ) (planned : List Bool) (c : Counts) (a : ℕ)
-    → new ≡ old ++ line ∷ [] → IsCounted (map told_of old) posts cuts faults rounds planned → IsCountOf c (told_of line) → HasRoom (map told_of old) (told_of line) → c.step_of ≡ Some a
-    → IsCounted (map told_of new) (posts + c.posts) (cuts + c.cuts) (faults + c.faults) (rounds + c.rounds) (slice_set planned a true)
+    → new ≡ old ++ line ∷ [] → IsCounted (map draft_line old) posts cuts faults rounds planned → IsCountOf c (draft_line line) → IsAmong 16 (draft_line line) → c.step_of ≡ Some a
+    → IsCounted (map draft_line new) (posts + c.posts) (cuts + c.cuts) (faults + c.faults) (rounds + c.rounds) (slice_set planned a true)
 counted_line old new line posts cuts faults rounds planned c a e h k room step =
-    rw (e, map-append told_of old (line ∷ [])) (counted (map told_of old) (told_of line) posts cuts faults rounds planned c a h k step (step_below (map told_of old) (told_of line) a room (sym k.step ∙ step)))
+    rw (e, map-append draft_line old (line ∷ [])) (counted (map draft_line old) (draft_line line) posts cuts faults rounds planned c a h k step (step_below (draft_line line) a room (sym k.step ∙ step)))
 
 -- a write that stops a node
-pub stopped : (nodes : List Node) (a : ℕ) (n : Node) → a < length nodes → n ≡ get_or nodes a n → slice_set nodes a (record n { started = false }) ≡ without_start nodes a
+pub stopped : (nodes : List Node) (a : ℕ) (n : Node) → a < length nodes → n ≡ get_or nodes a n → slice_set nodes a (record n { started = false }) ≡ without a nodes
 stopped [] a n h e = absurd (omega arith)
 stopped (m ∷ ms) zero n h e = rw e refl
 stopped (m ∷ ms) (suc a) n h e = ap (λ ns. m ∷ ns) (stopped ms a n (omega arith) e)

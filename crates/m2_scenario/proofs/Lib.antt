@@ -1,13 +1,5 @@
-pub mod Cuts
-pub mod Decimals
-pub mod Sound
-pub mod Options
-pub mod Lines
 pub mod Counted
 pub mod Flags
 pub mod Joined
-pub mod Appended
-pub mod Names
 pub mod Nodes
-pub mod ReportLines
-pub mod Ranked
+pub mod Sound

@@ -11,11 +11,9 @@ use Rattle.std.proofs.lemmas.Iterator.Adapters.{position_from-zero}
 use Rattle.std.proofs.lemmas.List.Folds.{list_any-append}
 use Rattle.m2_addr.specs.declared.addr.Addr.{Addr}
 use Rattle.m2_scenario.specs.declared.node.Node.{Node}
-use Rattle.m2_scenario.specs.Text.{Word}
-use Rattle.m2_scenario.specs.Draft.{is_named}
-use Rattle.m2_scenario.specs.NodeLine.{is_at}
+use Rattle.m2_words.specs.Text.{Word}
+use Rattle.m2_scenario.specs.Draft.{is_named, is_at, without}
 use Rattle.m2_scenario.specs.NodeTable.{AreLookUps}
-use Rattle.m2_scenario.specs.RunLines.{without_start}
 use Rattle.m2_scenario.proofs.Counted.{stopped}
 
 -- there is a first one where there is one
@@ -95,15 +93,15 @@ pub look_ups_reordered : {A : Type 0} (nodes : List Node) (places : List (Vec �
 look_ups_reordered nodes places had taken h e = record { names = h.names; sockets = λ at. e at ∙ h.sockets at }
 
 -- a node that isn't started has its place and its socket
-from_without : (name : Word) (i : ℕ) (nodes : List Node) (a : ℕ) → position_from (is_named name) i (without_start nodes a) ≡ position_from (is_named name) i nodes
+from_without : (name : Word) (i : ℕ) (nodes : List Node) (a : ℕ) → position_from (is_named name) i (without a nodes) ≡ position_from (is_named name) i nodes
 from_without name i [] a = refl
 from_without name i (n ∷ ns) zero = refl
 from_without name i (n ∷ ns) (suc a) = ap (cond (is_named name n) (Some i)) (from_without name (i + 1) ns a)
 
-place_without : (name : Word) (nodes : List Node) (a : ℕ) → position (is_named name) (without_start nodes a) ≡ position (is_named name) nodes
-place_without name nodes a = position_from-zero (is_named name) (without_start nodes a) ∙ from_without name 0 nodes a ∙ sym (position_from-zero (is_named name) nodes)
+place_without : (name : Word) (nodes : List Node) (a : ℕ) → position (is_named name) (without a nodes) ≡ position (is_named name) nodes
+place_without name nodes a = position_from-zero (is_named name) (without a nodes) ∙ from_without name 0 nodes a ∙ sym (position_from-zero (is_named name) nodes)
 
-socket_without : (at : Addr) (nodes : List Node) (a : ℕ) → list_any (is_at at) (without_start nodes a) ≡ list_any (is_at at) nodes
+socket_without : (at : Addr) (nodes : List Node) (a : ℕ) → list_any (is_at at) (without a nodes) ≡ list_any (is_at at) nodes
 socket_without at [] a = refl
 socket_without at (n ∷ ns) zero = refl
 socket_without at (n ∷ ns) (suc a) = ap (λ b. is_at at n || b) (socket_without at ns a)

@@ -1,61 +1,60 @@
 -- A valid scenario stays valid with one node, link or line more.
-use Rattle.std.proofs.Common.{◌≡◌, ◌==◌, ◌<◌, ◌≤◌, ℕ, zero, suc, Bool, true, false, ◌&&◌, ◌||◌, List, [], ◌∷◌, ◌++◌, length, get_or, refl, sym, ap, cond, ◌∙◌, arith, length-append, count_by, sum_by}
-use Rattle.std.specs.List.{list_any}
+use Rattle.std.proofs.Common.{◌≡◌, ◌==◌, ◌<◌, ◌≤◌, ℕ, zero, suc, Bool, true, false, ◌&&◌, ◌||◌, List, [], ◌∷◌, ◌++◌, length, get_or, refl, sym, ap, cond, eqb, subst, Result, Ok, Err, MatchResult, ◌∙◌, arith, length-append, count_by, sum_by}
+use Rattle.std.specs.List.{list_any, AllByRecursion}
 use Rattle.std.specs.Str.{bytes_eq}
 use Rattle.std.proofs.lemmas.List.Sums.{sum_by-append}
 use Rattle.std.proofs.lemmas.List.Folds.{list_any-append}
-use Rattle.std.proofs.lemmas.List.Elements.{All-push, All-weaker}
+use Rattle.std.proofs.lemmas.List.Elements.{All-push, All-weaker, recursion_from_All}
 use Rattle.std.proofs.lemmas.List.Quantifiers.{all_pairs_push}
+use Rattle.std.proofs.lemmas.Bool.{eqb-true, and_parts}
 use Rattle.std.proofs.lemmas.Slice.Eq.{bytes_eq-Decides}
 use Rattle.m2_scenario.specs.declared.node.Node.{Node}
 use Rattle.m2_scenario.specs.declared.link.Link.{Link}
-use Rattle.m2_scenario.specs.Draft.{Told, joins, are_joined, is_named, is_post, is_cut, is_fault, rounds_of, post, dial, down, cut, turn, flow, fault, settle}
-use Rattle.m2_scenario.specs.NodeLine.{is_at}
-use Rattle.m2_scenario.specs.RunLines.{without_start}
-use Rattle.m2_scenario.specs.Plan.{HasRoom}
+use Rattle.m2_scenario.specs.Draft.{DraftLine, joins, are_joined, is_named, is_at, without, is_post, is_cut, is_fault, rounds_of, post, dial, down, cut, turn, flow, fault, settle}
+use Rattle.m2_scenario.specs.Plan.{HasRoom, IsAmong}
 use Rattle.m2_scenario.specs.Valid.{IsSound, IsLine, IsLink, JoinOthers, HasCenters, AreApart}
 
-posts_kept : (lines : List Told) (l : Told) → count_by is_post lines ≤ 20000 → HasRoom lines l → count_by is_post (lines ++ l ∷ []) ≤ 20000
+posts_kept : (lines : List DraftLine) (l : DraftLine) → count_by is_post lines ≤ 20000 → HasRoom lines l → count_by is_post (lines ++ l ∷ []) ≤ 20000
 posts_kept lines (post a b m) h room = omega (arith, sum_by-append (λ x. cond (is_post x) 1 0) lines (post a b m ∷ []), h, room)
-posts_kept lines (dial a b) h room = omega (arith, sum_by-append (λ x. cond (is_post x) 1 0) lines (dial a b ∷ []), h, room)
-posts_kept lines (down a b) h room = omega (arith, sum_by-append (λ x. cond (is_post x) 1 0) lines (down a b ∷ []), h, room)
+posts_kept lines (dial a b) h room = omega (arith, sum_by-append (λ x. cond (is_post x) 1 0) lines (dial a b ∷ []), h)
+posts_kept lines (down a b) h room = omega (arith, sum_by-append (λ x. cond (is_post x) 1 0) lines (down a b ∷ []), h)
 posts_kept lines (cut a b n) h room = omega (arith, sum_by-append (λ x. cond (is_post x) 1 0) lines (cut a b n ∷ []), h, room)
 posts_kept lines (turn a) h room = omega (arith, sum_by-append (λ x. cond (is_post x) 1 0) lines (turn a ∷ []), h)
 posts_kept lines (flow a b socket n) h room = omega (arith, sum_by-append (λ x. cond (is_post x) 1 0) lines (flow a b socket n ∷ []), h)
 posts_kept lines (fault a b socket) h room = omega (arith, sum_by-append (λ x. cond (is_post x) 1 0) lines (fault a b socket ∷ []), h, room)
 posts_kept lines (settle n) h room = omega (arith, sum_by-append (λ x. cond (is_post x) 1 0) lines (settle n ∷ []), h, room)
 
-cuts_kept : (lines : List Told) (l : Told) → count_by is_cut lines ≤ 64 → HasRoom lines l → count_by is_cut (lines ++ l ∷ []) ≤ 64
+cuts_kept : (lines : List DraftLine) (l : DraftLine) → count_by is_cut lines ≤ 64 → HasRoom lines l → count_by is_cut (lines ++ l ∷ []) ≤ 64
 cuts_kept lines (post a b m) h room = omega (arith, sum_by-append (λ x. cond (is_cut x) 1 0) lines (post a b m ∷ []), h, room)
-cuts_kept lines (dial a b) h room = omega (arith, sum_by-append (λ x. cond (is_cut x) 1 0) lines (dial a b ∷ []), h, room)
-cuts_kept lines (down a b) h room = omega (arith, sum_by-append (λ x. cond (is_cut x) 1 0) lines (down a b ∷ []), h, room)
+cuts_kept lines (dial a b) h room = omega (arith, sum_by-append (λ x. cond (is_cut x) 1 0) lines (dial a b ∷ []), h)
+cuts_kept lines (down a b) h room = omega (arith, sum_by-append (λ x. cond (is_cut x) 1 0) lines (down a b ∷ []), h)
 cuts_kept lines (cut a b n) h room = omega (arith, sum_by-append (λ x. cond (is_cut x) 1 0) lines (cut a b n ∷ []), h, room)
 cuts_kept lines (turn a) h room = omega (arith, sum_by-append (λ x. cond (is_cut x) 1 0) lines (turn a ∷ []), h)
 cuts_kept lines (flow a b socket n) h room = omega (arith, sum_by-append (λ x. cond (is_cut x) 1 0) lines (flow a b socket n ∷ []), h)
 cuts_kept lines (fault a b socket) h room = omega (arith, sum_by-append (λ x. cond (is_cut x) 1 0) lines (fault a b socket ∷ []), h, room)
 cuts_kept lines (settle n) h room = omega (arith, sum_by-append (λ x. cond (is_cut x) 1 0) lines (settle n ∷ []), h, room)
 
-faults_kept : (lines : List Told) (l : Told) → count_by is_fault lines ≤ 64 → HasRoom lines l → count_by is_fault (lines ++ l ∷ []) ≤ 64
+faults_kept : (lines : List DraftLine) (l : DraftLine) → count_by is_fault lines ≤ 64 → HasRoom lines l → count_by is_fault (lines ++ l ∷ []) ≤ 64
 faults_kept lines (post a b m) h room = omega (arith, sum_by-append (λ x. cond (is_fault x) 1 0) lines (post a b m ∷ []), h, room)
-faults_kept lines (dial a b) h room = omega (arith, sum_by-append (λ x. cond (is_fault x) 1 0) lines (dial a b ∷ []), h, room)
-faults_kept lines (down a b) h room = omega (arith, sum_by-append (λ x. cond (is_fault x) 1 0) lines (down a b ∷ []), h, room)
+faults_kept lines (dial a b) h room = omega (arith, sum_by-append (λ x. cond (is_fault x) 1 0) lines (dial a b ∷ []), h)
+faults_kept lines (down a b) h room = omega (arith, sum_by-append (λ x. cond (is_fault x) 1 0) lines (down a b ∷ []), h)
 faults_kept lines (cut a b n) h room = omega (arith, sum_by-append (λ x. cond (is_fault x) 1 0) lines (cut a b n ∷ []), h, room)
 faults_kept lines (turn a) h room = omega (arith, sum_by-append (λ x. cond (is_fault x) 1 0) lines (turn a ∷ []), h)
 faults_kept lines (flow a b socket n) h room = omega (arith, sum_by-append (λ x. cond (is_fault x) 1 0) lines (flow a b socket n ∷ []), h)
 faults_kept lines (fault a b socket) h room = omega (arith, sum_by-append (λ x. cond (is_fault x) 1 0) lines (fault a b socket ∷ []), h, room)
 faults_kept lines (settle n) h room = omega (arith, sum_by-append (λ x. cond (is_fault x) 1 0) lines (settle n ∷ []), h, room)
 
-rounds_kept : (lines : List Told) (l : Told) → sum_by rounds_of lines ≤ 20000 → HasRoom lines l → sum_by rounds_of (lines ++ l ∷ []) ≤ 20000
+rounds_kept : (lines : List DraftLine) (l : DraftLine) → sum_by rounds_of lines ≤ 20000 → HasRoom lines l → sum_by rounds_of (lines ++ l ∷ []) ≤ 20000
 rounds_kept lines (post a b m) h room = omega (arith, sum_by-append rounds_of lines (post a b m ∷ []), h, room)
-rounds_kept lines (dial a b) h room = omega (arith, sum_by-append rounds_of lines (dial a b ∷ []), h, room)
-rounds_kept lines (down a b) h room = omega (arith, sum_by-append rounds_of lines (down a b ∷ []), h, room)
+rounds_kept lines (dial a b) h room = omega (arith, sum_by-append rounds_of lines (dial a b ∷ []), h)
+rounds_kept lines (down a b) h room = omega (arith, sum_by-append rounds_of lines (down a b ∷ []), h)
 rounds_kept lines (cut a b n) h room = omega (arith, sum_by-append rounds_of lines (cut a b n ∷ []), h, room)
 rounds_kept lines (turn a) h room = omega (arith, sum_by-append rounds_of lines (turn a ∷ []), h)
 rounds_kept lines (flow a b socket n) h room = omega (arith, sum_by-append rounds_of lines (flow a b socket n ∷ []), h)
 rounds_kept lines (fault a b socket) h room = omega (arith, sum_by-append rounds_of lines (fault a b socket ∷ []), h, room)
 rounds_kept lines (settle n) h room = omega (arith, sum_by-append rounds_of lines (settle n ∷ []), h, room)
 
-pub line_kept : (nodes : List Node) (links : List Link) (lines : List Told) (l : Told) → IsSound nodes links lines → IsLine (length nodes) links l → HasRoom lines l → IsSound nodes links (lines ++ l ∷ [])
+pub line_kept : (nodes : List Node) (links : List Link) (lines : List DraftLine) (l : DraftLine) → IsSound nodes links lines → IsLine (length nodes) links l → HasRoom lines l → IsSound nodes links (lines ++ l ∷ [])
 line_kept nodes links lines l s fits room = record {
   few_nodes = s.few_nodes;
   few_links = s.few_links;
@@ -87,7 +86,7 @@ none_at p (x ∷ xs) e (suc k) d h = none_at p xs (or_second (p x) (list_any p x
 still_joined : (links : List Link) (l : Link) (a b : ℕ) → are_joined links a b ≡ true → are_joined (links ++ l ∷ []) a b ≡ true
 still_joined links l a b e = rw (list_any-append (joins a b) links (l ∷ []), e) refl
 
-more_links : (n : ℕ) (links : List Link) (l : Link) (t : Told) → IsLine n links t → IsLine n (links ++ l ∷ []) t
+more_links : (n : ℕ) (links : List Link) (l : Link) (t : DraftLine) → IsLine n links t → IsLine n (links ++ l ∷ []) t
 more_links n links l (post a b m) h = (still_joined links l a b h.0, h.1)
 more_links n links l (dial a b) h = still_joined links l a b h
 more_links n links l (down a b) h = still_joined links l a b h
@@ -97,7 +96,7 @@ more_links n links l (flow a b socket k) h = still_joined links l a b h
 more_links n links l (fault a b socket) h = still_joined links l a b h
 more_links n links l (settle k) h = h
 
-pub link_kept : (nodes : List Node) (links : List Link) (lines : List Told) (l : Link) → IsSound nodes links lines → length links < 120 → IsLink (length nodes) l → are_joined links l.a l.b ≡ false → IsSound nodes (links ++ l ∷ []) lines
+pub link_kept : (nodes : List Node) (links : List Link) (lines : List DraftLine) (l : Link) → IsSound nodes links lines → length links < 120 → IsLink (length nodes) l → are_joined links l.a l.b ≡ false → IsSound nodes (links ++ l ∷ []) lines
 link_kept nodes links lines l s room fits first = record {
   few_nodes = s.few_nodes;
   few_links = omega (arith, length-append links (l ∷ []), room);
@@ -115,7 +114,7 @@ link_kept nodes links lines l s room fits first = record {
 link_among_more : (m n : ℕ) → m ≤ n → (l : Link) → IsLink m l → IsLink n l
 link_among_more m n h l fits = record { a = omega (arith, h, fits.a); b = omega (arith, h, fits.b); different = fits.different; allowed = fits.allowed }
 
-line_among_more : (m n : ℕ) → m ≤ n → (links : List Link) (t : Told) → IsLine m links t → IsLine n links t
+line_among_more : (m n : ℕ) → m ≤ n → (links : List Link) (t : DraftLine) → IsLine m links t → IsLine n links t
 line_among_more m n h links (post a b message) fits = fits
 line_among_more m n h links (dial a b) fits = fits
 line_among_more m n h links (down a b) fits = fits
@@ -137,7 +136,7 @@ apart_from new n name socket = record {
   sockets = λ e. let same : is_at new.at n ≡ true = both (n.at.ip == new.at.ip) (n.at.port == new.at.port) (same_number n.at.ip new.at.ip e.0) (same_number n.at.port new.at.port e.1) in cc;
 }
 
-pub node_kept : (nodes : List Node) (links : List Link) (lines : List Told) (n : Node) → IsSound nodes links lines → length nodes < 16 → HasCenters n
+pub node_kept : (nodes : List Node) (links : List Link) (lines : List DraftLine) (n : Node) → IsSound nodes links lines → length nodes < 16 → HasCenters n
     → list_any (is_named n.name) nodes ≡ false → list_any (is_at n.at) nodes ≡ false → IsSound (nodes ++ n ∷ []) links lines
 node_kept nodes links lines n s room centers names sockets =
     let more : length nodes ≤ length (nodes ++ n ∷ []) = omega (arith, length-append nodes (n ∷ [])) in
@@ -161,12 +160,12 @@ record Alike (m n : Node) : Type 0 where
   at : m.at ≡ n.at
   centers : m.centers ≡ n.centers
 
-length_without : (nodes : List Node) (a : ℕ) → length (without_start nodes a) ≡ length nodes
+length_without : (nodes : List Node) (a : ℕ) → length (without a nodes) ≡ length nodes
 length_without [] a = refl
 length_without (n ∷ ns) zero = refl
 length_without (n ∷ ns) (suc a) = ap suc (length_without ns a)
 
-alike : (nodes : List Node) (a k : ℕ) (d : Node) → Alike (get_or (without_start nodes a) k d) (get_or nodes k d)
+alike : (nodes : List Node) (a k : ℕ) (d : Node) → Alike (get_or (without a nodes) k d) (get_or nodes k d)
 alike [] a k d = record { name = refl; at = refl; centers = refl }
 alike (n ∷ ns) zero zero d = record { name = refl; at = refl; centers = refl }
 alike (n ∷ ns) zero (suc k) d = record { name = refl; at = refl; centers = refl }
@@ -182,14 +181,14 @@ are_apart m n p q e f h = record {
   sockets = λ s. h.sockets (sym (ap (λ a. a.ip) e.at) ∙ s.0 ∙ ap (λ a. a.ip) f.at, sym (ap (λ a. a.port) e.at) ∙ s.1 ∙ ap (λ a. a.port) f.at);
 }
 
-pub start_kept : (nodes : List Node) (links : List Link) (lines : List Told) (a : ℕ) → IsSound nodes links lines → IsSound (without_start nodes a) links lines
+pub start_kept : (nodes : List Node) (links : List Link) (lines : List DraftLine) (a : ℕ) → IsSound nodes links lines → IsSound (without a nodes) links lines
 start_kept nodes links lines a s =
-    let same : length (without_start nodes a) ≡ length nodes = length_without nodes a in
+    let same : length (without a nodes) ≡ length nodes = length_without nodes a in
     record {
       few_nodes = omega (arith, same, s.few_nodes);
       few_links = s.few_links;
-      centers = λ k d h. has_centers (get_or (without_start nodes a) k d) (get_or nodes k d) (alike nodes a k d) (s.centers k d (omega (arith, same, h)));
-      apart = λ i j d h k. are_apart (get_or (without_start nodes a) i d) (get_or (without_start nodes a) j d) (get_or nodes i d) (get_or nodes j d) (alike nodes a i d) (alike nodes a j d) (s.apart i j d h (omega (arith, same, k)));
+      centers = λ k d h. has_centers (get_or (without a nodes) k d) (get_or nodes k d) (alike nodes a k d) (s.centers k d (omega (arith, same, h)));
+      apart = λ i j d h k. are_apart (get_or (without a nodes) i d) (get_or (without a nodes) j d) (get_or nodes i d) (get_or nodes j d) (alike nodes a i d) (alike nodes a j d) (s.apart i j d h (omega (arith, same, k)));
       joined = rw same s.joined;
       joined_once = s.joined_once;
       in_place = rw same s.in_place;
@@ -198,3 +197,48 @@ start_kept nodes links lines a s =
       faults = s.faults;
       rounds = s.rounds;
     }
+
+-- whoever is joined to another is a node
+joined_within : (n : ℕ) (links : List Link) (a b : ℕ) → AllByRecursion (IsLink n) links → are_joined links a b ≡ true → a < n
+joined_within n [] a b all h = absurd (cc)
+joined_within n (l ∷ ls) a b all h = go (eqb l.a a && eqb l.b b) (eqb l.a b && eqb l.b a) refl refl h (joined_within n ls a b all.1)
+  where
+    go : (t u : Bool) → (eqb l.a a && eqb l.b b) ≡ t → (eqb l.a b && eqb l.b a) ≡ u → ((t || u) || are_joined ls a b) ≡ true → (are_joined ls a b ≡ true → a < n) → a < n
+    go true u e f h more = let same : l.a ≡ a = eqb-true l.a a (and_parts (eqb l.a a) (eqb l.b b) e).0 in omega (arith, all.0.a, same)
+    go false true e f h more = let same : l.b ≡ a = eqb-true l.b a (and_parts (eqb l.a b) (eqb l.b a) f).1 in omega (arith, all.0.b, same)
+    go false false e f h more = more h
+
+small : (nodes : List Node) (links : List Link) (lines : List DraftLine) (a b : ℕ) → IsSound nodes links lines → are_joined links a b ≡ true → a < 16
+small nodes links lines a b s h = omega (arith, s.few_nodes, joined_within (length nodes) links a b (recursion_from_All (IsLink (length nodes)) links s.joined) h)
+
+-- the node of a step is one of 16
+pub step_among : (nodes : List Node) (links : List Link) (lines : List DraftLine) (l : DraftLine) → IsSound nodes links lines → IsLine (length nodes) links l → IsAmong 16 l
+step_among nodes links lines (post a b m) s fits = small nodes links lines a b s fits.0
+step_among nodes links lines (dial a b) s fits = small nodes links lines a b s fits
+step_among nodes links lines (down a b) s fits = small nodes links lines a b s fits
+step_among nodes links lines (cut a b n) s fits = tt
+step_among nodes links lines (turn a) s fits = tt
+step_among nodes links lines (flow a b socket n) s fits = tt
+step_among nodes links lines (fault a b socket) s fits = tt
+step_among nodes links lines (settle n) s fits = tt
+
+-- nothing yet is valid
+pub nothing_sound : (nodes : List Node) (links : List Link) (lines : List DraftLine) → nodes ≡ [] → links ≡ [] → lines ≡ [] → IsSound nodes links lines
+nothing_sound nodes links lines e f g = rw (e, f, g) (record {
+  few_nodes = omega arith;
+  few_links = omega arith;
+  centers = λ k d h. absurd (omega (arith, h));
+  apart = λ i j d h k. absurd (omega (arith, k));
+  joined = λ k d h. absurd (omega (arith, h));
+  joined_once = λ i j d h k. absurd (omega (arith, k));
+  in_place = λ k d h. absurd (omega (arith, h));
+  posts = omega arith;
+  cuts = omega arith;
+  faults = omega arith;
+  rounds = omega arith;
+})
+
+-- what holds of what was there, and of what a push makes of it, holds however the push ends
+pub either_way : {X A B : Type 0} (P : X → Type 0) (old more new : X) (r : Result A B) → MatchResult r (λ _. new ≡ more) (λ _. new ≡ old) → P old → P more → P new
+either_way P old more new (Ok a) e was is = subst P (sym e) is
+either_way P old more new (Err b) e was is = subst P (sym e) was

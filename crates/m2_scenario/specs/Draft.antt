@@ -1,49 +1,44 @@
--- The scenario that the lines so far have made, as a reader sees it: a post is its header and the
--- bytes of its parts, wherever they lie in memory.
-use Rattle.std.specs.Prelude.{◌≡◌, ℕ, ◌==◌, Bool, true, false, ◌&&◌, ◌||◌, List, [], ◌∷◌, ◌++◌, position, Option, None, Result, Ok, Err}
+-- The scenario so far, as a reader sees it: a post is its header and the bytes of its parts, wherever
+-- they lie in memory.
+use Rattle.std.specs.Prelude.{◌≡◌, ℕ, ◌==◌, Bool, true, false, ◌&&◌, ◌||◌, List, [], ◌∷◌, ◌++◌, zero, suc, map, Option, Some, None, unwrap_or}
 use Rattle.std.specs.List.{list_any}
 use Rattle.std.specs.Str.{bytes_eq}
-use Rattle.m2_bytes.specs.declared.blob.Blob.{Blob}
-use Rattle.m2_message.specs.declared.message.Message.{Message}
+use Rattle.m2_addr.specs.declared.addr.Addr.{Addr}
 use Rattle.m2_message.specs.Message.{Content, content_of}
-use Rattle.m2_scenario.specs.declared.kind.Kind.{Kind}
-use Rattle.m2_scenario.specs.declared.kind.Kind.TheVariants as kind
-use Rattle.m2_scenario.specs.declared.kind.Fault.{Fault}
-use Rattle.m2_scenario.specs.declared.kind.Fault.TheVariants as flaw
+use Rattle.m2_words.specs.Text.{Word}
 use Rattle.m2_scenario.specs.declared.node.Node.{Node}
 use Rattle.m2_scenario.specs.declared.link.Link.{Link}
 use Rattle.m2_scenario.specs.declared.line.Line.{Line}
 use Rattle.m2_scenario.specs.declared.line.Line.TheVariants as line
-use Rattle.m2_scenario.specs.Steps.{◌>>=◌, check, or_kind}
-use Rattle.m2_scenario.specs.Text.{Word}
+use Rattle.m2_scenario.specs.declared.scenario.Scenario.{Scenario}
 
--- a line that stands in the plan of a scenario
-pub data Told : Type 0 where
-  post : ℕ → ℕ → Content → Told
-  dial : ℕ → ℕ → Told
-  down : ℕ → ℕ → Told
-  cut : ℕ → ℕ → ℕ → Told
-  turn : ℕ → Told
-  flow : ℕ → ℕ → ℕ → ℕ → Told
-  fault : ℕ → ℕ → ℕ → Told
-  settle : ℕ → Told
+-- a line of a scenario that is no node and no link
+pub data DraftLine : Type 0 where
+  post : ℕ → ℕ → Content → DraftLine
+  dial : ℕ → ℕ → DraftLine
+  down : ℕ → ℕ → DraftLine
+  cut : ℕ → ℕ → ℕ → DraftLine
+  turn : ℕ → DraftLine
+  flow : ℕ → ℕ → ℕ → ℕ → DraftLine
+  fault : ℕ → ℕ → ℕ → DraftLine
+  settle : ℕ → DraftLine
 
-abbrev pub told_of : Line → Told
-told_of (line.Post a b message) = post a b (content_of message)
-told_of (line.Dial a b) = dial a b
-told_of (line.Down a b) = down a b
-told_of (line.Cut a b bytes) = cut a b bytes
-told_of (line.Turn a) = turn a
-told_of (line.Flow a b socket most) = flow a b socket most
-told_of (line.Fault a b socket) = fault a b socket
-told_of (line.Settle rounds) = settle rounds
+abbrev pub draft_line : Line → DraftLine
+draft_line (line.Post a b message) = post a b (content_of message)
+draft_line (line.Dial a b) = dial a b
+draft_line (line.Down a b) = down a b
+draft_line (line.Cut a b bytes) = cut a b bytes
+draft_line (line.Turn a) = turn a
+draft_line (line.Flow a b socket most) = flow a b socket most
+draft_line (line.Fault a b socket) = fault a b socket
+draft_line (line.Settle rounds) = settle rounds
 
 -- the nodes, links and lines so far, each in the order of the text, and the limit in milliseconds of
--- real time if a line has set it
+-- real time if one was set
 pub record Draft : Type 0 where
   pub nodes : List Node
   pub links : List Link
-  pub lines : List Told
+  pub lines : List DraftLine
   pub limit : Option ℕ
 
 abbrev pub no_lines : Draft
@@ -55,15 +50,37 @@ with_node d n = record d { nodes = d.nodes ++ n ∷ [] }
 abbrev pub with_link : Draft → Link → Draft
 with_link d l = record d { links = d.links ++ l ∷ [] }
 
-abbrev pub with_line : Draft → Told → Draft
+abbrev pub with_line : Draft → DraftLine → Draft
 with_line d l = record d { lines = d.lines ++ l ∷ [] }
 
--- the place of the node of this name, from 0
+abbrev pub with_limit : ℕ → Draft → Draft
+with_limit milliseconds d = record d { limit = Some milliseconds }
+
+-- the nodes, with the one at this place not started
+abbrev pub without : ℕ → List Node → List Node
+without a [] = []
+without zero (n ∷ ns) = record n { started = false } ∷ ns
+without (suc a) (n ∷ ns) = n ∷ without a ns
+
+abbrev pub without_start : ℕ → Draft → Draft
+without_start a d = record d { nodes = without a d.nodes }
+
+-- the scenario is the draft; a limit that was never set is ten seconds
+pub record IsMade (s : Scenario) (d : Draft) : Type 0 where
+  pub nodes : s.nodes.items ≡ d.nodes
+  pub links : s.links.items ≡ d.links
+  pub lines : map draft_line s.lines.items ≡ d.lines
+  pub limit : s.limit ≡ unwrap_or d.limit 10000
+
+-- ---- what is looked up
+
+-- the node has this name
 abbrev pub is_named : Word → Node → Bool
 is_named name n = bytes_eq n.name name
 
-abbrev pub place_of : List Node → Word → Result ℕ Kind
-place_of nodes name = or_kind kind.NoNode (position (is_named name) nodes)
+-- the node stands at this ip and port
+abbrev pub is_at : Addr → Node → Bool
+is_at at n = (n.at.ip == at.ip) && (n.at.port == at.port)
 
 -- the link joins these two, named either way round
 abbrev pub joins : ℕ → ℕ → Link → Bool
@@ -72,58 +89,27 @@ joins a b l = ((l.a == a) && (l.b == b)) || ((l.a == b) && (l.b == a))
 abbrev pub are_joined : List Link → ℕ → ℕ → Bool
 are_joined links a b = list_any (joins a b) links
 
--- two nodes above with a link between them
-unfoldable pub pair_of : Draft → Word → Word → Result (ℕ × ℕ) Kind
-pair_of d first second = do
-  a ← place_of d.nodes first
-  b ← place_of d.nodes second
-  _ ← check kind.Link (are_joined d.links a b)
-  Ok (a, b)
+-- ---- what is counted
 
-abbrev pub is_post : Told → Bool
+abbrev pub is_post : DraftLine → Bool
 is_post (post _ _ _) = true
 is_post _ = false
 
-abbrev pub is_cut : Told → Bool
+abbrev pub is_cut : DraftLine → Bool
 is_cut (cut _ _ _) = true
 is_cut _ = false
 
-abbrev pub is_fault : Told → Bool
+abbrev pub is_fault : DraftLine → Bool
 is_fault (fault _ _ _) = true
 is_fault _ = false
 
-abbrev pub rounds_of : Told → ℕ
+abbrev pub rounds_of : DraftLine → ℕ
 rounds_of (settle rounds) = rounds
 rounds_of _ = 0
 
 -- a step of the plan of the node at place a: a post, a dial or a down
-abbrev pub is_step_of : ℕ → Told → Bool
+abbrev pub is_step_of : ℕ → DraftLine → Bool
 is_step_of a (post from _ _) = from == a
 is_step_of a (dial from _) = from == a
 is_step_of a (down from _) = from == a
 is_step_of a _ = false
-
--- A line's step in memory, beside the step as it is defined. Ok: the draft is the one that the line
--- makes. Bad: the line is bad in this way. Memory may run out at any line.
-abbrev pub Takes : Result (Unit {0}) Fault → Result Draft Kind → Draft → Type 0
-Takes (Ok _) step new = step ≡ Ok new
-Takes (Err (flaw.Bad k)) step new = step ≡ Err k
-Takes (Err flaw.NoMemory) step new = Unit {0}
-
--- the bytes that a word spells, in memory
-abbrev pub BytesRead : Result Blob Fault → Result (List ℕ) Kind → Type 0
-BytesRead (Ok b) asked = asked ≡ Ok b.bytes
-BytesRead (Err (flaw.Bad k)) asked = asked ≡ Err k
-BytesRead (Err flaw.NoMemory) asked = Unit {0}
-
--- a message in memory
-abbrev pub MessageRead : Result Message Fault → Result Content Kind → Type 0
-MessageRead (Ok m) asked = asked ≡ Ok (content_of m)
-MessageRead (Err (flaw.Bad k)) asked = asked ≡ Err k
-MessageRead (Err flaw.NoMemory) asked = Unit {0}
-
--- a node in memory
-abbrev pub NodeRead : Result Node Fault → Result Node Kind → Type 0
-NodeRead (Ok n) asked = asked ≡ Ok n
-NodeRead (Err (flaw.Bad k)) asked = asked ≡ Err k
-NodeRead (Err flaw.NoMemory) asked = Unit {0}

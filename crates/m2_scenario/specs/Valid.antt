@@ -1,11 +1,11 @@
 -- When a scenario is valid.
-use Rattle.std.specs.Prelude.{◌≡◌, ◌≢◌, ℕ, ◌<◌, ◌≤◌, true, false, List, length, map, count_by, sum_by, All, AllPairs}
+use Rattle.std.specs.Prelude.{◌≡◌, ◌≢◌, ℕ, ◌<◌, ◌≤◌, nat_le, Bool, ◌&&◌, true, false, List, length, map, count_by, sum_by, All, AllPairs}
 use Rattle.m2_policy.specs.Policy.{allows}
 use Rattle.m2_scenario.specs.declared.node.Node.{Node}
 use Rattle.m2_scenario.specs.declared.link.Link.{Link}
 use Rattle.m2_scenario.specs.declared.scenario.Scenario.{Scenario}
-use Rattle.m2_scenario.specs.Draft.{Told, told_of, joins, are_joined, is_post, is_cut, is_fault, rounds_of, post, dial, down, cut, turn, flow, fault, settle}
-use Rattle.m2_scenario.specs.PlanLines.{are_short}
+use Rattle.m2_scenario.specs.Draft.{DraftLine, draft_line, joins, are_joined, is_post, is_cut, is_fault, rounds_of, post, dial, down, cut, turn, flow, fault, settle}
+use Rattle.m2_message.specs.Message.{Content}
 
 -- two nodes have different names, and don't stand at one ip and port
 pub record AreApart (m n : Node) : Type 0 where
@@ -28,9 +28,16 @@ pub record IsLink (nodes : ℕ) (l : Link) : Type 0 where
 abbrev pub JoinOthers : Link → Link → Type 0
 JoinOthers l m = joins m.a m.b l ≡ false
 
+-- the three parts of a post are short enough
+abbrev pub is_short : List ℕ → Bool
+is_short bytes = nat_le (length bytes) 65536
+
+abbrev pub are_short : Content → Bool
+are_short c = is_short c.front && is_short c.middle && is_short c.tail
+
 -- each line but a turn and a settle has a link of its two nodes, a post's parts have at most 65,536
 -- bytes each, and a cut is at no more than 1,048,576 bytes
-abbrev pub IsLine : ℕ → List Link → Told → Type 0
+abbrev pub IsLine : ℕ → List Link → DraftLine → Type 0
 IsLine nodes links (post a b message) = (are_joined links a b ≡ true) × (are_short message ≡ true)
 IsLine nodes links (dial a b) = are_joined links a b ≡ true
 IsLine nodes links (down a b) = are_joined links a b ≡ true
@@ -41,7 +48,7 @@ IsLine nodes links (fault a b socket) = are_joined links a b ≡ true
 IsLine nodes links (settle rounds) = Unit {0}
 
 -- nodes, links and lines that make a valid scenario
-pub record IsSound (nodes : List Node) (links : List Link) (lines : List Told) : Type 0 where
+pub record IsSound (nodes : List Node) (links : List Link) (lines : List DraftLine) : Type 0 where
   pub few_nodes : length nodes ≤ 16
   pub few_links : length links ≤ 120
   pub centers : All HasCenters nodes
@@ -55,4 +62,4 @@ pub record IsSound (nodes : List Node) (links : List Link) (lines : List Told) :
   pub rounds : sum_by rounds_of lines ≤ 20000
 
 abbrev pub IsValid : Scenario → Type 0
-IsValid s = IsSound s.nodes s.links (map told_of s.lines)
+IsValid s = IsSound s.nodes.items s.links.items (map draft_line s.lines.items)

@@ -1,37 +1,55 @@
-//! The scenario that the lines so far have made.
+//! The scenario so far.
 
-ghost use Rattle.std.specs.Prelude.{◌≡◌, ◌<◌, ◌≤◌, [], true, false, Ok, Err, None, IfOk, OnOk, MatchResult, All, length, map};
-ghost use Rattle.m2_scenario.specs.Draft.{place_of, pair_of, told_of, is_named, are_joined, with_node, with_link, with_line};
+ghost use Rattle.std.specs.Prelude.{◌≡◌, ◌<◌, ◌≤◌, [], true, false, Some, IfSome, MatchResult, length, position, map, count_by, sum_by};
 ghost use Rattle.std.specs.List.{list_any};
-ghost use Rattle.m2_scenario.specs.NodeLine.{is_at};
-ghost use Rattle.m2_scenario.specs.RunLines.{without_start};
+ghost use Rattle.m2_scenario.specs.Draft.{draft_line, is_named, is_at, are_joined, is_post, is_cut, is_fault, rounds_of, is_step_of};
+ghost use Rattle.m2_scenario.specs.Draft.{no_lines, with_node, with_link, with_line, without_start, with_limit, IsMade};
 ghost use Rattle.m2_scenario.specs.Plan.{HasRoom};
-ghost use Rattle.m2_scenario.specs.Valid.{IsLine, IsLink, HasCenters};
-ghost use Rattle.m2_scenario.specs.Kept.{draft_of, IsKept, AreJoined};
+ghost use Rattle.m2_scenario.specs.Valid.{IsLine, IsLink, HasCenters, IsValid};
 
-use crate::kind::{Kind, check};
-use crate::line::{Line, Plan};
-use crate::link::{Link, LinkTable};
+use crate::line::Line;
+use crate::link::Link;
+use crate::link_table::LinkTable;
 use crate::node::Node;
 use crate::node_table::NodeTable;
+use crate::plan::Plan;
+use crate::scenario::Scenario;
+use m2_addr::Addr;
 use m2_bytes::NoMemory;
 use std::alloc::Global;
+use std::marker::Model;
 
-// Nodes, links and lines so far, and the limit if a line has set it.
+/// Nodes, links and lines so far, and the limit in milliseconds if one was set. What it has is valid
+/// at any time, and a push whose Err tells want of memory leaves it as it was.
+///
+/// [`empty`](Draft::empty) begins one. [`push_node`](Draft::push_node),
+/// [`push_link`](Draft::push_link), [`push_line`](Draft::push_line), [`stop`](Draft::stop) and
+/// [`set_limit`](Draft::set_limit) add to it. The other calls look things up, in time that doesn't
+/// grow with what it has. [`into_scenario`](Draft::into_scenario) ends it.
 #[derive(Debug, Drop)]
-pub(crate) struct Draft {
-    pub(crate) nodes: NodeTable,
-    pub(crate) links: LinkTable,
-    pub(crate) plan: Plan,
-    pub(crate) limit: Option<u64>,
+pub struct Draft {
+    nodes: NodeTable,
+    links: LinkTable,
+    plan: Plan,
+    limit: Option<u64>,
+}
+
+impl Model for Draft {
+    ghost use Rattle.m2_scenario.specs.Draft as model;
+    ghost use Rattle.m2_scenario.specs.Valid.{IsSound};
+
+    ghost Value = { model.Draft };
+
+    ghost view = { λ d. record { nodes = d.nodes; links = d.links; lines = d.plan; limit = d.limit } };
+
+    ghost invariant = { λ d. IsSound d.nodes d.links d.plan };
 }
 
 impl Draft {
-    pub(crate) fn empty(alloc: Global) -> Draft
-        ensures nodes { result.nodes ≡ [] }
-        ensures links { result.links ≡ [] }
-        ensures lines { result.plan ≡ [] }
-        ensures limit { result.limit ≡ None }
+    /// Nothing so far. Takes no memory.
+    #[tactic(auto, using(crate::proofs::Sound::nothing_sound))]
+    pub fn empty(alloc: Global) -> Draft
+        ensures { result ≡ no_lines }
     {
         Draft {
             nodes: NodeTable::empty(alloc),
@@ -40,78 +58,154 @@ impl Draft {
             limit: None,
         }
     }
-}
 
-// The place of the node of this name.
-pub(crate) fn place(draft: &Draft, name: &[u8]) -> Result<u32, Kind>
-    requires { IsKept draft.now }
-    ensures value { result ≡ place_of draft.now.nodes name.now }
-    ensures below { IfOk result (λ a. a < length draft.now.nodes) }
-{
-    match draft.nodes.place(name) {
-        Some(at) => Ok(at as u32),
-        None => Err(Kind::NoNode),
+    /// The nodes, in order.
+    pub fn nodes(&self) -> &[Node]
+        ensures { result.now ≡ self.now.nodes }
+    {
+        self.nodes.as_slice()
     }
-}
 
-// The places of two nodes with a link between them.
-#[tactic(auto, unfolding(crate::specs::Draft::pair_of))]
-pub(crate) fn pair(draft: &Draft, first: &[u8], second: &[u8]) -> Result<(u32, u32), Kind>
-    requires { IsKept draft.now }
-    ensures value { result ≡ pair_of (draft_of draft.now) first.now second.now }
-    ensures joined { IfOk result (AreJoined draft.now) }
-{
-    let a = place(draft, first)?;
-    let b = place(draft, second)?;
-    check(Kind::Link, draft.links.joins(a, b))?;
-    Ok((a, b))
-}
+    /// The links, in order.
+    pub fn links(&self) -> &[Link]
+        ensures { result.now ≡ self.now.links }
+    {
+        self.links.as_slice()
+    }
 
-// Puts a line last that the limits and the links permit.
-#[tactic(auto, using(crate::proofs::Sound::line_kept))]
-pub(crate) fn push_line(draft: &mut Draft, line: Line) -> Result<(), NoMemory>
-    requires kept { IsKept draft.old }
-    requires fits { IsLine (length draft.old.nodes) draft.old.links (told_of line) }
-    requires room { HasRoom draft.old.plan (told_of line) }
-    ensures taken { OnOk result (draft_of draft.new ≡ with_line (draft_of draft.old) (told_of line)) }
-    ensures kept { OnOk result (IsKept draft.new) }
-{
-    draft.plan.push(line)
-}
+    /// The limit in milliseconds, if one was set.
+    pub fn limit(&self) -> Option<u64>
+        ensures { result ≡ self.now.limit }
+    {
+        self.limit
+    }
 
-// Puts a node last that stands apart from those above.
-#[tactic(auto, using(crate::proofs::Sound::node_kept))]
-pub(crate) fn push_node(alloc: Global, draft: &mut Draft, node: Node) -> Result<(), NoMemory>
-    requires kept { IsKept draft.old }
-    requires room { length draft.old.nodes < 16 }
-    requires centers { HasCenters node }
-    requires names { list_any (is_named node.name) draft.old.nodes ≡ false }
-    requires sockets { list_any (is_at node.at) draft.old.nodes ≡ false }
-    ensures taken { OnOk result (draft_of draft.new ≡ with_node (draft_of draft.old) node) }
-    ensures kept { OnOk result (IsKept draft.new) }
-{
-    draft.nodes.push(alloc, node)
-}
+    /// The place of the node of this name, from 0; none exactly where no node has it.
+    pub fn place(&self, name: &[u8]) -> Option<u32>
+        ensures value { result ≡ position (is_named name.now) self.now.nodes }
+        ensures below { IfSome result (λ a. a < length self.now.nodes) }
+    {
+        match self.nodes.place(name) {
+            Some(at) => Some(at as u32),
+            None => None,
+        }
+    }
 
-// Puts a link last of two nodes that aren't joined yet.
-#[tactic(auto, using(crate::proofs::Sound::link_kept))]
-pub(crate) fn push_link(draft: &mut Draft, link: Link) -> Result<(), NoMemory>
-    requires kept { IsKept draft.old }
-    requires room { length draft.old.links < 120 }
-    requires fits { IsLink (length draft.old.nodes) link }
-    requires first { are_joined draft.old.links link.a link.b ≡ false }
-    ensures taken { OnOk result (draft_of draft.new ≡ with_link (draft_of draft.old) link) }
-    ensures kept { OnOk result (IsKept draft.new) }
-{
-    draft.links.push(link)
-}
+    /// Whether a node has this name.
+    pub fn has_name(&self, name: &[u8]) -> bool
+        ensures { result ≡ list_any (is_named name.now) self.now.nodes }
+    {
+        self.nodes.has_name(name)
+    }
 
-// Has a node not started.
-pub(crate) fn stop(draft: &mut Draft, a: u32)
-    requires kept { IsKept draft.old }
-    requires there { a < length draft.old.nodes }
-    ensures taken { draft_of draft.new ≡ record (draft_of draft.old) { nodes = without_start draft.old.nodes a } }
-    ensures kept { IsKept draft.new }
-{
-    draft.nodes.stop(a as usize);
+    /// Whether a node stands at this ip and port.
+    pub fn has_socket(&self, at: Addr) -> bool
+        ensures { result ≡ list_any (is_at at) self.now.nodes }
+    {
+        self.nodes.has_socket(at)
+    }
+
+    /// Whether a link joins the nodes at these places.
+    pub fn joins(&self, a: u32, b: u32) -> bool
+        requires first { a < length self.now.nodes }
+        requires second { b < length self.now.nodes }
+        ensures { result ≡ are_joined self.now.links a b }
+    {
+        self.links.joins(a, b)
+    }
+
+    /// Whether the node at this place has a step: a post, a dial or a down.
+    pub fn has_step_of(&self, a: u32) -> bool
+        requires { a < length self.now.nodes }
+        ensures { result ≡ list_any (is_step_of a) self.now.lines }
+    {
+        self.plan.has_step_of(a)
+    }
+
+    /// How many posts there are.
+    pub fn posts(&self) -> u32
+        ensures { result ≡ count_by is_post self.now.lines }
+    {
+        self.plan.posts()
+    }
+
+    /// How many cuts there are.
+    pub fn cuts(&self) -> u32
+        ensures { result ≡ count_by is_cut self.now.lines }
+    {
+        self.plan.cuts()
+    }
+
+    /// How many faults there are.
+    pub fn faults(&self) -> u32
+        ensures { result ≡ count_by is_fault self.now.lines }
+    {
+        self.plan.faults()
+    }
+
+    /// How many rounds all settles have together.
+    pub fn rounds(&self) -> u32
+        ensures { result ≡ sum_by rounds_of self.now.lines }
+    {
+        self.plan.rounds()
+    }
+
+    /// Puts a node last that stands apart from those above.
+    pub fn push_node(&mut self, alloc: Global, node: Node) -> Result<(), NoMemory>
+        requires room { length self.old.nodes < 16 }
+        requires centers { HasCenters node }
+        requires names { list_any (is_named node.name) self.old.nodes ≡ false }
+        requires sockets { list_any (is_at node.at) self.old.nodes ≡ false }
+        ensures { MatchResult result (λ _. self.new ≡ with_node self.old node) (λ _. self.new ≡ self.old) }
+    {
+        self.nodes.push(alloc, node)
+    }
+
+    /// Puts a link last of two nodes that aren't joined yet.
+    pub fn push_link(&mut self, link: Link) -> Result<(), NoMemory>
+        requires room { length self.old.links < 120 }
+        requires fits { IsLink (length self.old.nodes) link }
+        requires first { are_joined self.old.links link.a link.b ≡ false }
+        ensures { MatchResult result (λ _. self.new ≡ with_link self.old link) (λ _. self.new ≡ self.old) }
+    {
+        self.links.push(link)
+    }
+
+    /// Puts a line last that the limits and the links permit.
+    #[tactic(auto, using(crate::proofs::Sound::line_kept, crate::proofs::Sound::step_among))]
+    pub fn push_line(&mut self, line: Line) -> Result<(), NoMemory>
+        requires fits { IsLine (length self.old.nodes) self.old.links (draft_line line) }
+        requires room { HasRoom self.old.lines (draft_line line) }
+        ensures { MatchResult result (λ _. self.new ≡ with_line self.old (draft_line line)) (λ _. self.new ≡ self.old) }
+    {
+        self.plan.push(line)
+    }
+
+    /// Has a node not started.
+    pub fn stop(&mut self, a: u32)
+        requires { a < length self.old.nodes }
+        ensures { self.new ≡ without_start a self.old }
+    {
+        self.nodes.stop(a as usize);
+    }
+
+    /// Sets the limit, in milliseconds.
+    pub fn set_limit(&mut self, milliseconds: u64)
+        ensures { self.new ≡ with_limit milliseconds self.old }
+    {
+        self.limit = Some(milliseconds);
+    }
+
+    /// The scenario. Where no limit was set it has ten seconds.
+    pub fn into_scenario(self) -> Scenario
+        ensures made { IsMade result self }
+        ensures valid { IsValid result }
+    {
+        Scenario {
+            nodes: self.nodes.into_list(),
+            links: self.links.into_list(),
+            lines: self.plan.into_list(),
+            limit: self.limit.unwrap_or(10000),
+        }
+    }
 }

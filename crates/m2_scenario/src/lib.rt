@@ -1,45 +1,24 @@
-//! The scenario language: what an operator or a generator writes for `sim` and for `run`, and the
-//! report that they print.
+//! Scenarios: what an operator or a generator says that is to happen.
 //!
-//! What it is: [`Scenario`], nodes, links and lines; [`read`], the scenario of a text or its first
-//! bad line with the [`Kind`] of badness (docs/SCENARIOS.md has every form of line); [`report`], the
-//! lines that tell what each node's dispatchers were called with. What it isn't: a run of a
-//! scenario. Each scenario that `read` gives is valid, a named fact that later calls require.
-//!
-//! For callers that look at a text themselves: [`front`] gives what the limit leaves of it, [`cut`]
-//! its lines, [`words_in`] the words of one, and [`Key`] what the line is about.
+//! What it is: [`Scenario`], its [`Node`]s, [`Link`]s and [`Line`]s, and [`Draft`], the scenario so
+//! far, whose pushes keep it valid (`specs/Valid.antt` says when it is). What it isn't: a
+//! scenario's text (`m2_scenario_text` reads it, by the same pushes), its run (`m2_sim`) or its
+//! report (`m2_report`).
 #![tactic(auto)]
 
-mod address;
 mod draft;
-mod key;
-mod kind;
 mod line;
 mod link;
-mod link_line;
+mod link_table;
+mod name;
 mod node;
-mod node_line;
 mod node_table;
-mod plan_lines;
-mod reading;
-mod reports;
-mod run_lines;
+mod plan;
 mod scenario;
-mod sim_lines;
-mod text;
-mod word;
 
-pub use key::Key;
-pub use kind::{BadScenario, Kind};
+pub use draft::Draft;
 pub use line::{Line, LineList};
 pub use link::{Link, LinkList};
-pub use node::{Name, Node, NodeList};
-pub use reading::{MOST_BYTES, front, read, words_in};
-pub use reports::{LogsList, report};
+pub use name::Name;
+pub use node::{Node, NodeList};
 pub use scenario::Scenario;
-pub use text::{Words, cut};
-
-#[cfg(test)]
-mod report_tests;
-#[cfg(test)]
-mod tests;

@@ -1,11 +1,9 @@
 //! Nodes.
 
+use crate::name::Name;
 use m2_addr::Addr;
 use m2_bytes::Items;
 use m2_policy::FastSet;
-
-/// A node's name as bytes: 1 to 16 of `a` to `z`, `0` to `9` and `_`.
-pub type Name = Items<u8>;
 
 /// The nodes of a scenario in the order of their lines.
 pub type NodeList = Items<Node>;

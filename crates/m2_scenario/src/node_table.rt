@@ -2,9 +2,7 @@
 
 ghost use Rattle.std.specs.Prelude.{◌≡◌, ◌<◌, ◌++◌, ◌∷◌, [], false, length, position, MatchResult};
 ghost use Rattle.std.specs.List.{list_any};
-ghost use Rattle.m2_scenario.specs.Draft.{is_named};
-ghost use Rattle.m2_scenario.specs.NodeLine.{is_at};
-ghost use Rattle.m2_scenario.specs.RunLines.{without_start};
+ghost use Rattle.m2_scenario.specs.Draft.{is_named, is_at, without};
 
 use crate::node::{Node, NodeList};
 use m2_addr::Addr;
@@ -88,13 +86,13 @@ impl NodeTable {
     // Has the node at a place not started.
     pub(crate) fn stop(&mut self, a: usize)
         requires { a < length self.old }
-        ensures { self.new ≡ without_start self.old a }
+        ensures { self.new ≡ without a self.old }
     {
         self.nodes[a].started = false;
     }
 
     pub(crate) fn into_list(self) -> NodeList
-        ensures { result ≡ self }
+        ensures { result.items ≡ self }
     {
         Items::from_vec(self.nodes)
     }

@@ -17,7 +17,7 @@ use Rattle.m2_link.specs.declared.side.Side.{Side}
 use Rattle.m2_link.specs.declared.side.Side.TheVariants.{First, Second}
 use Rattle.m2_scenario.specs.declared.node.Node.{Node}
 use Rattle.m2_scenario.specs.declared.link.Link.{Link}
-use Rattle.m2_scenario.specs.Draft.{Told, post, dial, down, cut, turn, flow, fault, settle, is_post}
+use Rattle.m2_scenario.specs.Draft.{DraftLine, post, dial, down, cut, turn, flow, fault, settle, is_post}
 use Rattle.m2_scenario.specs.Valid.{IsSound, IsLine}
 use Rattle.m2_sim.specs.Model.{Net, Joint, Taken, fresh, joint_of, nothing_heard, fast_of, side_of, side_towards, where_side, posted, broken, flowing, turned, taken, taken_at, is_fast, is_queued, rank_of, hears, dispatches, dispatched, at, grown_at, after_flow, after_turn, after_turns, after_round, after_rounds, after_line, after_lines, left_on, left, from_peer}
 use Rattle.m2_sim.proofs.Joints.{Once, Only, meets}
@@ -141,7 +141,7 @@ total-rounds links (suc more) n said h =
     total-rounds links more (after_round n) said (after_some_turns links 0 (length n.fast) (after_flow n) said (omega arith) flowed)
     ∙ total-turns links 0 (length n.fast) (after_flow n) said (omega arith) flowed ∙ total-flow n
 
-total-line : (links : List Link) (n : Net) (l : Told) (said : ℕ → ℕ → Key → List Content) → IsLine (length n.fast) links l → Holds links n said → total (after_line l n) ≡ total n + cond (is_post l) 1 0
+total-line : (links : List Link) (n : Net) (l : DraftLine) (said : ℕ → ℕ → Key → List Content) → IsLine (length n.fast) links l → Holds links n said → total (after_line l n) ≡ total n + cond (is_post l) 1 0
 total-line links n (post a b m) said fits h = omega (arith, left_there a b m n.joints (h.joined.once a b) (h.joined.met a b ∙ fits.0))
 total-line links n (dial a b) said fits h = omega arith
 total-line links n (down a b) said fits h = omega arith
@@ -152,7 +152,7 @@ total-line links n (fault a b zero) said fits h = omega (arith, same_left (broke
 total-line links n (fault a b (suc socket)) said fits h = omega arith
 total-line links n (settle rounds) said fits h = omega (arith, total-rounds links rounds n said h)
 
-total-lines : (links : List Link) (fast : List (List ℕ)) (ls : List Told) (n : Net) (said : ℕ → ℕ → Key → List Content) → n.fast ≡ fast → AllByRecursion (IsLine (length fast) links) ls → Holds links n said
+total-lines : (links : List Link) (fast : List (List ℕ)) (ls : List DraftLine) (n : Net) (said : ℕ → ℕ → Key → List Content) → n.fast ≡ fast → AllByRecursion (IsLine (length fast) links) ls → Holds links n said
     → total (after_lines ls n) ≡ total n + count_by is_post ls
 total-lines links fast [] n said same all h = omega arith
 total-lines links fast (l ∷ ls) n said same all h =
@@ -171,7 +171,7 @@ total-start nodes links = omega (arith, none nodes, rest links)
     rest [] = refl
     rest (l ∷ ls) = sum_by-cons left_on (joint_of l) (map joint_of ls) ∙ omega (arith, rest ls)
 
-pub counted : (nodes : List Node) (links : List Link) (lines : List Told) → IsSound nodes links lines →
+pub counted : (nodes : List Node) (links : List Link) (lines : List DraftLine) → IsSound nodes links lines →
     let n = after_lines lines (fresh nodes links) in sum_by length n.heard + left n ≡ count_by is_post lines
 counted nodes links lines sound =
     let fits : AllByRecursion (IsLine (length (map fast_of nodes)) links) lines =

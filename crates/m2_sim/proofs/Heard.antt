@@ -13,7 +13,7 @@ use Rattle.m2_link.specs.declared.side.Side.{Side}
 use Rattle.m2_link.specs.declared.side.Side.TheVariants.{First, Second}
 use Rattle.m2_scenario.specs.declared.node.Node.{Node}
 use Rattle.m2_scenario.specs.declared.link.Link.{Link}
-use Rattle.m2_scenario.specs.Draft.{Told, are_joined}
+use Rattle.m2_scenario.specs.Draft.{DraftLine, are_joined}
 use Rattle.m2_scenario.specs.Valid.{IsSound, IsLink}
 use Rattle.m2_sim.specs.Model.{Joint, fresh, after_lines, at, left_on, left, side_towards, fast_of}
 use Rattle.m2_sim.specs.Posts.{IsFrontOf, HearsFronts, HearsAll, IsMessage, IsPeer, HearsPeers}
@@ -28,11 +28,11 @@ front_of front rest whole h = record {
   is = sym (take-append_seam front rest) ∙ ap (take (length front)) h;
 }
 
-hears_fronts_of : (nodes : List Node) (links : List Link) (lines : List Told) → IsSound nodes links lines →
+hears_fronts_of : (nodes : List Node) (links : List Link) (lines : List DraftLine) → IsSound nodes links lines →
     let n = after_lines lines (fresh nodes links) in HearsFronts n.fast lines n.heard
 hears_fronts_of nodes links lines sound x y key = front_of _ _ _ ((in_the_end nodes links lines sound).each x y key)
 
-pub hears_fronts : (nodes : List Node) (links : List Link) (lines : List Told) → IsSound nodes links lines →
+pub hears_fronts : (nodes : List Node) (links : List Link) (lines : List DraftLine) → IsSound nodes links lines →
     HearsFronts (map fast_of nodes) lines (after_lines lines (fresh nodes links)).heard
 hears_fronts nodes links lines sound =
     subst (λ fast. HearsFronts fast lines (after_lines lines (fresh nodes links)).heard) (fast-lines lines (fresh nodes links)) (hears_fronts_of nodes links lines sound)
@@ -53,13 +53,13 @@ nothing_there x y (j ∷ js) h = go (side_towards x y j) refl (nothing_there x y
     go (Some First) e more = rw e (nothing_unheard j.link.first (omega (arith, none)))
     go (Some Second) e more = rw e (nothing_unheard j.link.second (omega (arith, none)))
 
-hears_all_of : (nodes : List Node) (links : List Link) (lines : List Told) → IsSound nodes links lines →
+hears_all_of : (nodes : List Node) (links : List Link) (lines : List DraftLine) → IsSound nodes links lines →
     let n = after_lines lines (fresh nodes links) in left n ≡ 0 → HearsAll n.fast lines n.heard
 hears_all_of nodes links lines sound none x y key =
     let n = after_lines lines (fresh nodes links) in
     sym (append-nil _) ∙ ap (λ l. of_key x key (at y n.heard) ++ filter (has_key (at y n.fast) key) l) (sym (nothing_there x y n.joints none)) ∙ (in_the_end nodes links lines sound).each x y key
 
-pub hears_all : (nodes : List Node) (links : List Link) (lines : List Told) → IsSound nodes links lines →
+pub hears_all : (nodes : List Node) (links : List Link) (lines : List DraftLine) → IsSound nodes links lines →
     let n = after_lines lines (fresh nodes links) in left n ≡ 0 → HearsAll (map fast_of nodes) lines n.heard
 hears_all nodes links lines sound none =
     subst (λ fast. HearsAll fast lines (after_lines lines (fresh nodes links)).heard) (fast-lines lines (fresh nodes links)) (hears_all_of nodes links lines sound none)
@@ -82,7 +82,7 @@ linked_message : (links : List Link) (y : ℕ) (h : Heard) → IsLinked links y 
 linked_message links y (message peer key m) linked = tt
 linked_message links y (reset peer) linked = linked
 
-pub hears_peers : (nodes : List Node) (links : List Link) (lines : List Told) → IsSound nodes links lines →
+pub hears_peers : (nodes : List Node) (links : List Link) (lines : List DraftLine) → IsSound nodes links lines →
     let n = after_lines lines (fresh nodes links) in HearsPeers (length nodes) links n.heard
 hears_peers nodes links lines sound =
     let end = in_the_end nodes links lines sound in

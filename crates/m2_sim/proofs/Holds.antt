@@ -12,7 +12,7 @@ use Rattle.m2_dispatch.proofs.ByRank.{Falls}
 use Rattle.m2_link.specs.Model.{Direction, posts, writes, accepts, arriving, behind}
 use Rattle.m2_scenario.specs.declared.node.Node.{Node}
 use Rattle.m2_scenario.specs.declared.link.Link.{Link}
-use Rattle.m2_scenario.specs.Draft.{Told, post, dial, down, cut, turn, flow, fault, settle, are_joined}
+use Rattle.m2_scenario.specs.Draft.{DraftLine, post, dial, down, cut, turn, flow, fault, settle, are_joined}
 use Rattle.m2_scenario.specs.Valid.{IsSound, IsLine}
 use Rattle.m2_sim.specs.Model.{Net, Joint, fresh, posted, after_post, after_fault, after_flow, flowing, broken, turned, taken, dispatched, at, grown_at, after_turn, after_turns, after_round, after_rounds, after_line, after_lines, key_of, nothing_heard, fast_of}
 use Rattle.m2_sim.specs.Posts.{posts_of}
@@ -175,7 +175,7 @@ fast-rounds (suc more) n = fast-rounds more (after_round n) ∙ fast-turns 0 (le
 -- ---- a post
 
 -- what is said with one line more
-abbrev pub with_line : List (List ℕ) → Told → (ℕ → ℕ → Key → List Content) → ℕ → ℕ → Key → List Content
+abbrev pub with_line : List (List ℕ) → DraftLine → (ℕ → ℕ → Key → List Content) → ℕ → ℕ → Key → List Content
 with_line fast l said x y key = said x y key ++ posts_of x y (at y fast) key (l ∷ [])
 
 -- behind what x has posted to y
@@ -236,7 +236,7 @@ after_a_post links n a b m said there h = record {
 said_so : (links : List Link) (n : Net) (said again : ℕ → ℕ → Key → List Content) → ((x y : ℕ) (key : Key) → said x y key ≡ again x y key) → Holds links n said → Holds links n again
 said_so links n said again same h = record { places = h.places; joined = h.joined; falls = h.falls; linked = h.linked; each = λ x y key. h.each x y key ∙ same x y key }
 
-pub after_a_line : (links : List Link) (n : Net) (l : Told) (said : ℕ → ℕ → Key → List Content) → IsLine (length n.fast) links l → Holds links n said → Holds links (after_line l n) (with_line n.fast l said)
+pub after_a_line : (links : List Link) (n : Net) (l : DraftLine) (said : ℕ → ℕ → Key → List Content) → IsLine (length n.fast) links l → Holds links n said → Holds links (after_line l n) (with_line n.fast l said)
 after_a_line links n (post a b m) said fits h = after_a_post links n a b m said fits.0 h
 after_a_line links n (dial a b) said fits h = said_so links n said _ (λ x y key. sym (append-nil _)) h
 after_a_line links n (down a b) said fits h = said_so links n said _ (λ x y key. sym (append-nil _)) h
@@ -247,7 +247,7 @@ after_a_line links n (fault a b zero) said fits h = said_so links (after_fault a
 after_a_line links n (fault a b (suc socket)) said fits h = said_so links n said _ (λ x y key. sym (append-nil _)) h
 after_a_line links n (settle rounds) said fits h = said_so links (after_rounds rounds n) said _ (λ x y key. sym (append-nil _)) (after_some_rounds links rounds n said h)
 
-pub fast-line : (l : Told) (n : Net) → (after_line l n).fast ≡ n.fast
+pub fast-line : (l : DraftLine) (n : Net) → (after_line l n).fast ≡ n.fast
 fast-line (post a b m) n = refl
 fast-line (dial a b) n = refl
 fast-line (down a b) n = refl
@@ -258,11 +258,11 @@ fast-line (fault a b zero) n = refl
 fast-line (fault a b (suc socket)) n = refl
 fast-line (settle rounds) n = fast-rounds rounds n
 
-pub fast-lines : (ls : List Told) (n : Net) → (after_lines ls n).fast ≡ n.fast
+pub fast-lines : (ls : List DraftLine) (n : Net) → (after_lines ls n).fast ≡ n.fast
 fast-lines [] n = refl
 fast-lines (l ∷ ls) n = fast-lines ls (after_line l n) ∙ fast-line l n
 
-posts-cons : (x y : ℕ) (fast : List ℕ) (key : Key) (l : Told) (ls : List Told) → posts_of x y fast key (l ∷ []) ++ posts_of x y fast key ls ≡ posts_of x y fast key (l ∷ ls)
+posts-cons : (x y : ℕ) (fast : List ℕ) (key : Key) (l : DraftLine) (ls : List DraftLine) → posts_of x y fast key (l ∷ []) ++ posts_of x y fast key ls ≡ posts_of x y fast key (l ∷ ls)
 posts-cons x y fast key (post a b m) ls =
     elim ((eqb a x && eqb b y) && is_key (key_of fast m) key) as (λ c. cond c (m ∷ []) [] ++ posts_of x y fast key ls ≡ cond c (m ∷ posts_of x y fast key ls) (posts_of x y fast key ls)) [ true ↦ refl | false ↦ refl ]
 posts-cons x y fast key (dial a b) ls = refl
@@ -274,7 +274,7 @@ posts-cons x y fast key (fault a b socket) ls = refl
 posts-cons x y fast key (settle rounds) ls = refl
 
 -- after lines, of a net that has said so much
-after_all_lines : (links : List Link) (fast : List (List ℕ)) (ls : List Told) (n : Net) (said : ℕ → ℕ → Key → List Content) → n.fast ≡ fast → AllByRecursion (IsLine (length fast) links) ls → Holds links n said
+after_all_lines : (links : List Link) (fast : List (List ℕ)) (ls : List DraftLine) (n : Net) (said : ℕ → ℕ → Key → List Content) → n.fast ≡ fast → AllByRecursion (IsLine (length fast) links) ls → Holds links n said
     → Holds links (after_lines ls n) (λ x y key. said x y key ++ posts_of x y (at y fast) key ls)
 after_all_lines links fast [] n said same all h = said_so links n said _ (λ x y key. sym (append-nil _)) h
 after_all_lines links fast (l ∷ ls) n said same all h =
@@ -288,7 +288,7 @@ after_all_lines links fast (l ∷ ls) n said same all h =
 pub nothing_said : ℕ → ℕ → Key → List Content
 nothing_said x y key = []
 
-pub at_start : (nodes : List Node) (links : List Link) (lines : List Told) → IsSound nodes links lines → Holds links (fresh nodes links) nothing_said
+pub at_start : (nodes : List Node) (links : List Link) (lines : List DraftLine) → IsSound nodes links lines → Holds links (fresh nodes links) nothing_said
 unfolding nothing_said
 at_start nodes links lines sound = record {
   places = length-map nodes nothing_heard ∙ sym (length-map nodes fast_of);
@@ -299,7 +299,7 @@ at_start nodes links lines sound = record {
 }
 
 -- after all the lines of a scenario
-pub in_the_end : (nodes : List Node) (links : List Link) (lines : List Told) → IsSound nodes links lines
+pub in_the_end : (nodes : List Node) (links : List Link) (lines : List DraftLine) → IsSound nodes links lines
     → Holds links (after_lines lines (fresh nodes links)) (λ x y key. posts_of x y (at y (after_lines lines (fresh nodes links)).fast) key lines)
 unfolding nothing_said
 in_the_end nodes links lines sound =

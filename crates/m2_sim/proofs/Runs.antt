@@ -3,12 +3,13 @@ use Rattle.std.proofs.Common.{◌≡◌, ℕ, Bool, true, false, ◌==◌, ◌&&
 use Rattle.std.specs.Option.{is_some}
 use Rattle.std.proofs.lemmas.List.{length-map, get_or-map}
 use Rattle.std.proofs.lemmas.List.Elements.{All-weaker}
+use Rattle.m2_bytes.specs.Items.{Holding}
 use Rattle.m2_dispatch.specs.declared.logged.Logged.{Logged}
-use Rattle.m2_dispatch.specs.Heard.{Heard, heard_of, heard_by, peer_of}
+use Rattle.m2_dispatch.specs.Heard.{Heard, heard_of, peer_of}
 use Rattle.m2_scenario.specs.declared.node.Node.{Node}
 use Rattle.m2_scenario.specs.declared.link.Link.{Link}
-use Rattle.m2_scenario.specs.Draft.{Told, post, dial, down, cut, turn, flow, fault, settle, are_joined}
-use Rattle.m2_scenario.specs.Report.{IsPeerAmong, AreLogsOf}
+use Rattle.m2_scenario.specs.Draft.{DraftLine, post, dial, down, cut, turn, flow, fault, settle, are_joined}
+use Rattle.m2_report.specs.Report.{IsPeerAmong, AreLogsOf, heard_in}
 use Rattle.m2_scenario.specs.Valid.{IsLine, IsSound}
 use Rattle.m2_sim.specs.Model as model
 use Rattle.m2_sim.specs.Model.{Joint, joint_of, fast_of, fresh, side_towards, at, after_lines}
@@ -40,7 +41,7 @@ linked_is a b (j ∷ js) = ap (λ t. is_some (side_towards a b j) || t) (linked_
 linked_from : (a b : ℕ) (links : List Link) (js : List Joint) → map bare js ≡ map joint_of links → are_joined links a b ≡ true → are_linked a b js ≡ true
 linked_from a b links js e h = sym (linked_is a b js) ∙ ap (are_linked a b) e ∙ sym (joined_is a b links) ∙ h
 
-pub can_run : (nodes : ℕ) (links : List Link) (js : List Joint) (l : Told) → map bare js ≡ map joint_of links → IsLine nodes links l → CanRun nodes js l
+pub can_run : (nodes : ℕ) (links : List Link) (js : List Joint) (l : DraftLine) → map bare js ≡ map joint_of links → IsLine nodes links l → CanRun nodes js l
 can_run nodes links js (post a b m) e h = linked_from a b links js e h.0
 can_run nodes links js (dial a b) e h = tt
 can_run nodes links js (down a b) e h = tt
@@ -63,18 +64,18 @@ fresh_links n nodes links e = ap (λ (s : model.Net). map bare s.joints) e ∙ m
 unmapped : {X Y : Type 0} (P : Y → Type 0) (f : X → Y) (xs : List X) → All P (map f xs) → All (λ x. P (f x)) xs
 unmapped P f xs h k d low = subst P (get_or-map f xs k d (f d) low) (h k (f d) (let e = length-map xs f in omega (arith, low, e)))
 
-pub logs_of_nodes : (nodes : List Node) (links : List Link) (lines : List Told) (logs : List (List Logged)) → IsSound nodes links lines
-    → map heard_by logs ≡ (after_lines lines (fresh nodes links)).heard → AreLogsOf nodes logs
+pub logs_of_nodes : (nodes : List Node) (links : List Link) (lines : List DraftLine) (logs : List (Holding Logged)) → IsSound nodes links lines
+    → map heard_in logs ≡ (after_lines lines (fresh nodes links)).heard → AreLogsOf nodes logs
 logs_of_nodes nodes links lines logs sound heard =
     let p = hears_peers nodes links lines sound in
     let n = length nodes in
     record {
-      each = sym (length-map logs heard_by) ∙ ap length heard ∙ p.places;
+      each = sym (length-map logs heard_in) ∙ ap length heard ∙ p.places;
       peers = λ y d low.
-          let here : at y (after_lines lines (fresh nodes links)).heard ≡ heard_by (get_or logs y d) =
-          ap (at y) (sym heard) ∙ at_is y (map heard_by logs) ∙ get_or-map heard_by logs y d [] low in
-          let few : All (IsPeerAmong n) (heard_by (get_or logs y d)) =
-          All-weaker (λ h. IsPeer n links y (peer_of h)) (IsPeerAmong n) (λ h k. k.within) (heard_by (get_or logs y d))
+          let here : at y (after_lines lines (fresh nodes links)).heard ≡ heard_in (get_or logs y d) =
+          ap (at y) (sym heard) ∙ at_is y (map heard_in logs) ∙ get_or-map heard_in logs y d [] low in
+          let few : All (IsPeerAmong n) (heard_in (get_or logs y d)) =
+          All-weaker (λ h. IsPeer n links y (peer_of h)) (IsPeerAmong n) (λ h k. k.within) (heard_in (get_or logs y d))
           (subst (λ (l : List Heard). All (λ h. IsPeer n links y (peer_of h)) l) here (p.peers y)) in
-          unmapped (IsPeerAmong n) heard_of (get_or logs y d) few;
+          unmapped (IsPeerAmong n) heard_of (get_or logs y d).items few;
     }

@@ -2,16 +2,16 @@
 use Rattle.std.specs.Prelude.{◌≡◌, ℕ, ◌<◌, true, List}
 use Rattle.m2_scenario.specs.declared.node.Node.{Node}
 use Rattle.m2_scenario.specs.declared.link.Link.{Link}
-use Rattle.m2_scenario.specs.Draft.{Told, post, dial, down, cut, turn, flow, fault, settle}
+use Rattle.m2_scenario.specs.Draft.{DraftLine, post, dial, down, cut, turn, flow, fault, settle}
 use Rattle.m2_sim.specs.Model.{Joint, Net, fresh, after_lines}
 use Rattle.m2_sim.specs.Topology.{are_linked}
 
 -- the net after all lines, where nothing was posted before them
-abbrev pub net_after : List Node → List Link → List Told → Net
+abbrev pub net_after : List Node → List Link → List DraftLine → Net
 net_after nodes links lines = after_lines lines (fresh nodes links)
 
 -- a post and a fault have a link of their nodes, and a turn is one of so many nodes
-abbrev pub CanRun : ℕ → List Joint → Told → Type 0
+abbrev pub CanRun : ℕ → List Joint → DraftLine → Type 0
 CanRun nodes js (post a b message) = are_linked a b js ≡ true
 CanRun nodes js (dial a b) = Unit {0}
 CanRun nodes js (down a b) = Unit {0}

@@ -15,7 +15,7 @@ use Rattle.m2_link.specs.declared.side.Side.{Side}
 use Rattle.m2_link.specs.declared.side.Side.TheVariants.{First, Second}
 use Rattle.m2_scenario.specs.declared.node.Node.{Node}
 use Rattle.m2_scenario.specs.declared.link.Link.{Link}
-use Rattle.m2_scenario.specs.Draft.{Told, post, dial, down, cut, turn, flow, fault, settle}
+use Rattle.m2_scenario.specs.Draft.{DraftLine, post, dial, down, cut, turn, flow, fault, settle}
 use Rattle.m2_dispatch.specs.ByRank.{by_rank}
 
 -- the link of two nodes, by their places among the nodes from 0: `a` is its first node
@@ -169,7 +169,7 @@ after_rounds (suc more) n = after_rounds more (after_round n)
 -- What a line does. A dial, a down, a cut and a flow, and a fault of one socket, are of no concern to links of
 -- values, which have no sockets: they do nothing here, and the top call refuses them. Socket 0 of a fault is the
 -- newest one.
-abbrev pub after_line : Told → Net → Net
+abbrev pub after_line : DraftLine → Net → Net
 after_line (post a b m) n = after_post a b m n
 after_line (dial a b) n = n
 after_line (down a b) n = n
@@ -181,7 +181,7 @@ after_line (fault a b (suc socket)) n = n
 after_line (settle rounds) n = after_rounds rounds n
 
 -- the lines, one after another
-abbrev pub after_lines : List Told → Net → Net
+abbrev pub after_lines : List DraftLine → Net → Net
 after_lines [] n = n
 after_lines (l ∷ ls) n = after_lines ls (after_line l n)
 

@@ -4,11 +4,11 @@ use Rattle.m2_message.specs.Message.{Content}
 use Rattle.m2_policy.specs.declared.path.Key.{Key}
 use Rattle.m2_dispatch.specs.Heard.{Heard, message, reset, peer_of, is_key, of_key}
 use Rattle.m2_scenario.specs.declared.link.Link.{Link}
-use Rattle.m2_scenario.specs.Draft.{Told, post, are_joined}
+use Rattle.m2_scenario.specs.Draft.{DraftLine, post, are_joined}
 use Rattle.m2_sim.specs.Model.{key_of, at}
 
 -- the messages that x posts to y, in order, with this key at y, which dispatches the kinds of `fast` at once
-abbrev pub posts_of : ℕ → ℕ → List ℕ → Key → List Told → List Content
+abbrev pub posts_of : ℕ → ℕ → List ℕ → Key → List DraftLine → List Content
 posts_of x y fast key [] = []
 posts_of x y fast key (post a b m ∷ ls) =
     if ((a == x) && (b == y)) && is_key (key_of fast m) key then m ∷ posts_of x y fast key ls else posts_of x y fast key ls
@@ -21,11 +21,11 @@ pub record IsFrontOf (front whole : List Content) : Type 0 where
 
 -- Of each two nodes x and y and each key: what y heard from x is a front of what x posted to y, in order,
 -- each once.
-abbrev pub HearsFronts : List (List ℕ) → List Told → List (List Heard) → Type 0
+abbrev pub HearsFronts : List (List ℕ) → List DraftLine → List (List Heard) → Type 0
 HearsFronts fast lines heard = (x y : ℕ) (key : Key) → IsFrontOf (of_key x key (at y heard)) (posts_of x y (at y fast) key lines)
 
 -- Of each two nodes x and y and each key: y heard all that x posted to y, in order, each once.
-abbrev pub HearsAll : List (List ℕ) → List Told → List (List Heard) → Type 0
+abbrev pub HearsAll : List (List ℕ) → List DraftLine → List (List Heard) → Type 0
 HearsAll fast lines heard = (x y : ℕ) (key : Key) → of_key x key (at y heard) ≡ posts_of x y (at y fast) key lines
 
 -- a node of so many that a link joins with the node at y

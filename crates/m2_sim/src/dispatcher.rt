@@ -88,7 +88,7 @@ impl Dispatcher {
 
     /// What it was called with.
     pub(crate) fn into_log(self) -> LoggedList
-        ensures { map heard_of result ≡ self.heard }
+        ensures { map heard_of result.items ≡ self.heard }
     {
         Items::from_vec(self.log)
     }

@@ -3,7 +3,8 @@
 use super::*;
 use m2_dispatch::{Logged, LoggedList};
 use m2_policy::Path;
-use m2_scenario::{Scenario, read};
+use m2_scenario::Scenario;
+use m2_scenario_text::read;
 use std::alloc::Global;
 use std::test::Fail;
 

@@ -1,5 +1,5 @@
 use Rattle.std.proofs.Common.{◌≡◌, ◌+◌, ◌≤◌, length}
-use Rattle.m2_scenario.specs.Text.{pieces}
+use Rattle.m2_words.specs.Text.{pieces}
 use Rattle.m2_cli.specs.Outside.{first_outside, outside_from}
 use Rattle.m2_cli.proofs.outside.first_outside.Given as goal
 

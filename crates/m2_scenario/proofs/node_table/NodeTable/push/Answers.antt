@@ -1,5 +1,5 @@
 use Rattle.std.proofs.Common.{◌∙◌, ap, cond, true}
-use Rattle.m2_scenario.specs.NodeLine.{is_at}
+use Rattle.m2_scenario.specs.Draft.{is_at}
 use Rattle.m2_scenario.proofs.Nodes.{look_ups_pushed, look_ups_reordered}
 use Rattle.m2_scenario.proofs.node_table.NodeTable.push.Goals as goal
 
@@ -15,7 +15,7 @@ invariant_of-self-2 c =
     rw (c.in_ok-push.ensures.items, c.in_ok-reserve.ensures.items)
     (look_ups_pushed t.nodes.items c.args.node c.in_ok-name.name.items c.len.result t.places.entries c.insert.new.self.entries t.sockets.keys c.insert-2.new.self.keys c.self.invariant
     (rw (← c.self.view_is) at c.requires)
-    (c.in_ok-name.ensures.items ∙ c.as_slice.ensures)
+    (c.in_ok-name.ensures.items ∙ c.as_slice.ensures.bytes)
     (c.len.ensures ∙ c.in_ok-reserve.ensures.len ∙ t.nodes.ok.0)
     c.in_ok-insert.ensures.updates.1
     c.in_ok-insert.ensures.updates.3

@@ -1,0 +1,4 @@
+pub mod Appended
+pub mod Names
+pub mod ReportLines
+pub mod Ranked

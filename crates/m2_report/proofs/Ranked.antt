@@ -1,0 +1,79 @@
+-- What was heard of a peer, put in the order of its lines.
+use Rattle.std.proofs.Common.{◌≡◌, ℕ, zero, suc, ◌+◌, ◌-◌, ◌<◌, Bool, true, false, cond, ltb, List, [], ◌∷◌, ◌++◌, length, filter, get_or, All, refl, sym, ap, ◌∙◌, subst, arith, append_assoc}
+use Rattle.std.proofs.lemmas.List.{get_or-map, length-map}
+use Rattle.std.proofs.lemmas.List.Elements.{All-filter, All-map}
+use Rattle.std.proofs.lemmas.Grind.{flat_map-append}
+use Rattle.std.specs.List.{AllByRecursion, flat_map, range_with_len}
+use denote.Ref.{Bor}
+use Rattle.m2_dispatch.specs.ByRank.{put_before, by_rank}
+use Rattle.m2_dispatch.proofs.ByRank.{map-by_rank}
+use Rattle.m2_dispatch.specs.Heard.{Heard, heard_of, heard_by}
+use Rattle.m2_dispatch.specs.declared.logged.Logged.{Logged}
+use Rattle.m2_words.specs.Text.{Word}
+use Rattle.m2_report.specs.Report.{rank_of, told_by, IsPeerAmong, IsOfNodes}
+
+-- ---- a fact of each item stays one in the order of ranks
+
+to_each : {X : Type 0} (P : X → Type 0) (xs : List X) → All P xs → AllByRecursion P xs
+to_each P [] all = tt
+to_each P (x ∷ xs) all = (all 0 x (omega arith), to_each P xs (λ k d below. all (suc k) d (omega (arith, below))))
+
+from_each : {X : Type 0} (P : X → Type 0) (xs : List X) → AllByRecursion P xs → All P xs
+from_each P [] all k d below = absurd (omega (arith, below))
+from_each P (x ∷ xs) all zero d below = all.0
+from_each P (x ∷ xs) all (suc k) d below = from_each P xs all.1 k d (omega (arith, below))
+
+each_put : {X : Type 0} (P : X → Type 0) (rank : X → ℕ) (x : X) (xs : List X) → P x → AllByRecursion P xs → AllByRecursion P (put_before rank x xs)
+each_put P rank x [] h all = (h, tt)
+each_put P rank x (y ∷ ys) h all =
+    elim (ltb (rank x) (rank y)) as (λ b. AllByRecursion P (cond b (y ∷ put_before rank x ys) (x ∷ y ∷ ys))) [ true ↦ (all.0, each_put P rank x ys h all.1) | false ↦ (h, all) ]
+
+each_by_rank : {X : Type 0} (P : X → Type 0) (rank : X → ℕ) (xs : List X) → AllByRecursion P xs → AllByRecursion P (by_rank rank xs)
+each_by_rank P rank [] all = tt
+each_by_rank P rank (x ∷ xs) all = each_put P rank x (by_rank rank xs) all.0 (each_by_rank P rank xs all.1)
+
+pub all_by_rank : {X : Type 0} (P : X → Type 0) (rank : X → ℕ) (xs : List X) → All P xs → All P (by_rank rank xs)
+all_by_rank P rank xs all = from_each P (by_rank rank xs) (each_by_rank P rank xs (to_each P xs all))
+
+-- ---- calls that were gathered
+
+-- the rank of a call that is lent
+abbrev pub rank_of_lent : Bor Logged → ℕ
+rank_of_lent c = rank_of (heard_of c.now)
+
+-- what they tell, sorted
+pub sorted_calls : (calls sorted : List (Bor Logged)) → sorted ≡ by_rank rank_of_lent calls → told_by sorted ≡ by_rank rank_of (told_by calls)
+sorted_calls calls sorted e = ap told_by e ∙ map-by_rank (λ (c : Bor Logged). heard_of c.now) rank_of calls
+
+-- what a node heard came from nodes, whatever is picked of it
+pub picked_among : (nodes : ℕ) (log : List Logged) (pick : Heard → Bool) → All (IsOfNodes nodes) log → All (IsPeerAmong nodes) (filter pick (heard_by log))
+picked_among nodes log pick all = All-filter pick (IsPeerAmong nodes) (heard_by log) (All-map (IsPeerAmong nodes) heard_of log all)
+
+-- and in whatever order
+pub sorted_among : (nodes : ℕ) (log : List Logged) (pick : Heard → Bool) → All (IsOfNodes nodes) log → All (IsPeerAmong nodes) (by_rank rank_of (filter pick (heard_by log)))
+sorted_among nodes log pick all = all_by_rank (IsPeerAmong nodes) rank_of _ (picked_among nodes log pick all)
+
+-- so the peer of each is one
+pub gathered_there : (nodes : ℕ) (calls : List (Bor Logged)) (k : ℕ) (c : Bor Logged) → k < length calls → c ≡ get_or calls k c → All (IsPeerAmong nodes) (told_by calls) → IsOfNodes nodes c.now
+gathered_there nodes calls k c h e all =
+    let heard = λ (b : Bor Logged). heard_of b.now in
+    let there : IsPeerAmong nodes (get_or (told_by calls) k (heard c)) = all k (heard c) (omega (arith, length-map calls heard, h)) in
+    let at : get_or (told_by calls) k (heard c) ≡ heard c = get_or-map heard calls k c (heard c) h ∙ ap heard (sym e) in
+    subst (IsPeerAmong nodes) at there
+
+-- the lines of a peer: of its messages, and then of its resets
+pub peer_lines : (line : Heard → Word) (old mid new : Word) (messages resets : List Heard) → mid ≡ old ++ flat_map line messages → new ≡ mid ++ flat_map line resets → new ≡ old ++ flat_map line (messages ++ resets)
+peer_lines line old mid new messages resets e f =
+    f ∙ ap (λ t. t ++ flat_map line resets) e ∙ append_assoc old _ _ ∙ ap (λ t. old ++ t) (sym (flat_map-append line messages resets))
+
+-- ---- the peers one after another
+
+-- the first of the numbers that are left
+pub range_more : (k n : ℕ) → k < n → range_with_len k (n - k) ≡ k ∷ range_with_len (k + 1) (n - (k + 1))
+range_more k n h =
+    let e : n - k ≡ suc (n - (k + 1)) = omega (arith, h) in
+    rw e refl
+
+pub peers_more : (line : Heard → Word) (sorted : ℕ → List Heard) (k n : ℕ) → k < n
+    → flat_map line (flat_map sorted (range_with_len k (n - k))) ≡ flat_map line (sorted k) ++ flat_map line (flat_map sorted (range_with_len (k + 1) (n - (k + 1))))
+peers_more line sorted k n h = ap (λ r. flat_map line (flat_map sorted r)) (range_more k n h) ∙ flat_map-append line (sorted k) _

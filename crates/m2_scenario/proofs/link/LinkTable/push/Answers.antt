@@ -1,8 +1,0 @@
-use Rattle.m2_scenario.proofs.Joined.{look_up_pushed}
-use Rattle.m2_scenario.proofs.link.LinkTable.push.Goals as goal
-
-pub invariant_of-self-2 : goal.invariant_of-self-2
-invariant_of-self-2 c =
-    let t = c.self.inside in
-    look_up_pushed t.links c.push.new.self c.args.link t.joined c.cell.result c.cell-2.result
-    c.in-Ok.ensures c.cell.ensures.value c.cell-2.ensures.value c.self.invariant c.requires.first c.requires.second

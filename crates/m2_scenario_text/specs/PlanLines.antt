@@ -1,0 +1,77 @@
+-- The steps of a node's plan: `post A B KIND PRIORITY FRONT MIDDLE DATA`, `dial A B` and `down A B`.
+use Rattle.std.specs.Prelude.{ℕ, ◌==◌, nat_le, nat_lt, Bool, true, ◌&&◌, List, length, drop, count_by, Option, Some, None, Result, Ok}
+use Rattle.m2_message.specs.Message.{Content}
+use Rattle.m2_words.specs.declared.kind.Kind.{Kind}
+use Rattle.m2_words.specs.declared.kind.Kind.TheVariants as kind
+use Rattle.m2_scenario.specs.declared.node.Node.{Node}
+use Rattle.m2_words.specs.Steps.{◌>>=◌, check}
+use Rattle.m2_words.specs.Text.{Word, word}
+use Rattle.m2_words.specs.Word.{number_of, bytes_of}
+use Rattle.m2_scenario.specs.Draft.{Draft, with_line, is_post, post, dial, down}
+use Rattle.m2_scenario.specs.Valid.{are_short}
+use Rattle.m2_scenario_text.specs.Pair.{pair_of}
+use Rattle.std.specs.Prelude.{slice_get}
+
+-- whether the node at a place is started
+abbrev pub started : Option Node → Bool
+started None = true
+started (Some n) = n.started
+
+-- two joined nodes of which the first is started
+unfoldable pub planned_pair : Draft → Word → Word → Result (ℕ × ℕ) Kind
+planned_pair d first second = do
+  pair ← pair_of d first second
+  _ ← check kind.Link (started (slice_get d.nodes pair.0))
+  Ok pair
+
+-- a post's message: version 1, compat 1, and 0 in the fields that a line doesn't name
+abbrev pub content_with : ℕ → ℕ → List ℕ → List ℕ → List ℕ → Content
+content_with k priority front middle tail = record {
+  header = record {
+    seq = 0;
+    tid = 0;
+    kind = k;
+    priority = priority;
+    version = 1;
+    pre_padding = 0;
+    data_off = 0;
+    ack_seq = 0;
+    flags = 0;
+    compat = 1;
+    reserved = 0;
+  };
+  front = front;
+  middle = middle;
+  tail = tail;
+}
+
+-- KIND PRIORITY FRONT MIDDLE DATA
+unfoldable pub message_of : List Word → Result Content Kind
+message_of ws = do
+  k ← number_of kind.Number 0 65535 (word ws 0)
+  priority ← number_of kind.Number 64 255 (word ws 1)
+  front ← bytes_of (word ws 2)
+  middle ← bytes_of (word ws 3)
+  tail ← bytes_of (word ws 4)
+  Ok (content_with k priority front middle tail)
+
+unfoldable pub post_line : Draft → List Word → Result Draft Kind
+post_line d ws = do
+  _ ← check kind.Words (length ws == 7)
+  message ← message_of (drop 2 ws)
+  pair ← planned_pair d (word ws 0) (word ws 1)
+  _ ← check kind.Limit (are_short message)
+  _ ← check kind.Limit (nat_lt (count_by is_post d.lines) 20000)
+  Ok (with_line d (post pair.0 pair.1 message))
+
+unfoldable pub dial_line : Draft → List Word → Result Draft Kind
+dial_line d ws = do
+  _ ← check kind.Words (length ws == 2)
+  pair ← planned_pair d (word ws 0) (word ws 1)
+  Ok (with_line d (dial pair.0 pair.1))
+
+unfoldable pub down_line : Draft → List Word → Result Draft Kind
+down_line d ws = do
+  _ ← check kind.Words (length ws == 2)
+  pair ← planned_pair d (word ws 0) (word ws 1)
+  Ok (with_line d (down pair.0 pair.1))

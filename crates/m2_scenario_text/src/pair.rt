@@ -1,0 +1,30 @@
+//! Nodes that a line names.
+
+ghost use Rattle.std.specs.Prelude.{◌≡◌, ◌<◌, IfOk, length};
+ghost use Rattle.m2_scenario_text.specs.Pair.{place_of, pair_of, AreJoined};
+
+use m2_scenario::Draft;
+use m2_words::{Kind, check};
+
+/// The place of the node of this name.
+pub(crate) fn place(draft: &Draft, name: &[u8]) -> Result<u32, Kind>
+    ensures value { result ≡ place_of draft.now.nodes name.now }
+    ensures below { IfOk result (λ a. a < length draft.now.nodes) }
+{
+    match draft.place(name) {
+        Some(a) => Ok(a),
+        None => Err(Kind::NoNode),
+    }
+}
+
+/// The places of two nodes with a link between them.
+#[tactic(auto, unfolding(crate::specs::Pair::pair_of))]
+pub(crate) fn pair(draft: &Draft, first: &[u8], second: &[u8]) -> Result<(u32, u32), Kind>
+    ensures value { result ≡ pair_of draft.now first.now second.now }
+    ensures joined { IfOk result (AreJoined draft.now) }
+{
+    let a = place(draft, first)?;
+    let b = place(draft, second)?;
+    check(Kind::Link, draft.joins(a, b))?;
+    Ok((a, b))
+}

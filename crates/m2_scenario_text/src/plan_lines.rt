@@ -1,0 +1,103 @@
+//! The steps of a node's plan: `post`, `dial` and `down`.
+
+ghost use Rattle.std.specs.Prelude.{◌≡◌, IfOk, OnOk, length};
+ghost use Rattle.m2_message.specs.Message.{content_of};
+ghost use Rattle.m2_scenario_text.specs.Taking.{MessageRead, Takes};
+ghost use Rattle.m2_scenario_text.specs.PlanLines.{planned_pair, message_of, post_line, dial_line, down_line};
+ghost use Rattle.m2_scenario.specs.Valid.{are_short};
+ghost use Rattle.m2_scenario_text.specs.Pair.{AreJoined};
+
+use crate::pair::pair;
+use m2_message::{Header, Message};
+use m2_scenario::{Draft, Line};
+use m2_words::{Kind, LineFault, Words, check, read_bytes, read_number};
+use std::alloc::Global;
+
+// Two joined nodes of which the first is started.
+#[tactic(auto, unfolding(crate::specs::PlanLines::planned_pair))]
+fn planned_pair(draft: &Draft, first: &[u8], second: &[u8]) -> Result<(u32, u32), Kind>
+    ensures value { result ≡ planned_pair draft.now first.now second.now }
+    ensures joined { IfOk result (AreJoined draft.now) }
+{
+    let (a, b) = pair(draft, first, second)?;
+    check(Kind::Link, draft.nodes()[a as usize].started)?;
+    Ok((a, b))
+}
+
+// The message of a post's last five words.
+#[tactic(auto, unfolding(crate::specs::PlanLines::message_of))]
+fn message_of(alloc: Global, mut words: Words<'_>) -> Result<Message, LineFault>
+    requires { length words ≡ 5 }
+    ensures { MessageRead result (message_of words.entry) }
+{
+    let kind = read_number(Kind::Number, 0, 65535, words.take())? as u16;
+    let priority = read_number(Kind::Number, 64, 255, words.take())? as u16;
+    let front = read_bytes(alloc, words.take())?;
+    let middle = read_bytes(alloc, words.take())?;
+    let tail = read_bytes(alloc, words.take())?;
+    let header = Header {
+        seq: 0,
+        tid: 0,
+        kind,
+        priority,
+        version: 1,
+        pre_padding: 0,
+        data_off: 0,
+        ack_seq: 0,
+        flags: 0,
+        compat: 1,
+        reserved: 0,
+    };
+    Ok(Message {
+        header,
+        front,
+        middle,
+        tail,
+    })
+}
+
+// Whether each part has at most 65,536 bytes.
+fn are_short(message: &Message) -> bool
+    ensures { result ≡ are_short (content_of message.now) }
+{
+    message.front.len() <= 65536 && message.middle.len() <= 65536 && message.tail.len() <= 65536
+}
+
+#[tactic(auto, unfolding(crate::specs::PlanLines::post_line))]
+pub(crate) fn post_line(alloc: Global, draft: &mut Draft, mut words: Words<'_>) -> Result<(), LineFault>
+    ensures { Takes result (post_line draft.old words.entry) draft.new }
+{
+    check(Kind::Words, words.len() == 7)?;
+    let first = words.take();
+    let second = words.take();
+    let message = message_of(alloc, words)?;
+    let (a, b) = planned_pair(draft, first, second)?;
+    check(Kind::Limit, are_short(&message))?;
+    check(Kind::Limit, draft.posts() < 20000)?;
+    draft.push_line(Line::Post { a, b, message })?;
+    Ok(())
+}
+
+#[tactic(auto, unfolding(crate::specs::PlanLines::dial_line))]
+pub(crate) fn dial_line(draft: &mut Draft, mut words: Words<'_>) -> Result<(), LineFault>
+    ensures { Takes result (dial_line draft.old words.entry) draft.new }
+{
+    check(Kind::Words, words.len() == 2)?;
+    let first = words.take();
+    let second = words.take();
+    let (a, b) = planned_pair(draft, first, second)?;
+    draft.push_line(Line::Dial { a, b })?;
+    Ok(())
+}
+
+#[tactic(auto, unfolding(crate::specs::PlanLines::down_line))]
+pub(crate) fn down_line(draft: &mut Draft, mut words: Words<'_>) -> Result<(), LineFault>
+    ensures { Takes result (down_line draft.old words.entry) draft.new }
+{
+    check(Kind::Words, words.len() == 2)?;
+    let first = words.take();
+    let second = words.take();
+    let (a, b) = planned_pair(draft, first, second)?;
+    draft.push_line(Line::Down { a, b })?;
+    Ok(())
+}

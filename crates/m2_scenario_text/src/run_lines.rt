@@ -1,0 +1,31 @@
+//! The lines of `run` alone: `off` and `limit`.
+
+ghost use Rattle.std.specs.Prelude.{◌≡◌, OnOk};
+ghost use Rattle.m2_scenario_text.specs.Taking.{Takes};
+ghost use Rattle.m2_scenario_text.specs.RunLines.{off_line, limit_line};
+
+use crate::pair::place;
+use m2_scenario::Draft;
+use m2_words::{Kind, LineFault, Words, check, read_number};
+
+#[tactic(auto, unfolding(crate::specs::RunLines::off_line))]
+pub(crate) fn off_line(draft: &mut Draft, mut words: Words<'_>) -> Result<(), LineFault>
+    ensures { Takes result (off_line draft.old words.entry) draft.new }
+{
+    check(Kind::Words, words.len() == 1)?;
+    let a = place(draft, words.take())?;
+    check(Kind::Link, !draft.has_step_of(a))?;
+    draft.stop(a);
+    Ok(())
+}
+
+#[tactic(auto, unfolding(crate::specs::RunLines::limit_line))]
+pub(crate) fn limit_line(draft: &mut Draft, mut words: Words<'_>) -> Result<(), LineFault>
+    ensures { Takes result (limit_line draft.old words.entry) draft.new }
+{
+    check(Kind::Words, words.len() == 1)?;
+    check(Kind::Words, draft.limit().is_none())?;
+    let milliseconds = read_number(Kind::Number, 1, 60000, words.take())?;
+    draft.set_limit(milliseconds);
+    Ok(())
+}

@@ -1,0 +1,104 @@
+//! `cut`, and the lines of `sim` alone: `turn`, `flow`, `fault` and `settle`.
+
+ghost use Rattle.std.specs.Prelude.{◌≡◌, ◌⊎◌, OnOk, length};
+ghost use Rattle.m2_scenario_text.specs.Taking.{Takes};
+ghost use Rattle.m2_scenario_text.specs.SimLines.{flow_of, fault_of, cut_line, turn_line, flow_line, fault_line, settle_line};
+
+use crate::pair::{pair, place};
+use m2_scenario::{Draft, Line};
+use m2_words::{Kind, LineFault, Words, check, read_number};
+
+// The socket and the bytes of a flow: all of all sockets where no word is left.
+#[tactic(auto, unfolding(crate::specs::SimLines::flow_of))]
+fn flow_of(mut words: Words<'_>) -> Result<(u32, u64), Kind>
+    requires { (length words ≡ 0) ⊎ (length words ≡ 2) }
+    ensures { result ≡ flow_of words.entry }
+{
+    if words.len() == 0 {
+        return Ok((0, u64::MAX));
+    }
+    let socket = read_number(Kind::Number, 1, 4294967295, words.take())? as u32;
+    let most = read_number(Kind::Number, 0, u64::MAX, words.take())?;
+    Ok((socket, most))
+}
+
+// The socket of a fault: the newest where no word is left.
+#[tactic(auto, unfolding(crate::specs::SimLines::fault_of))]
+fn fault_of(mut words: Words<'_>) -> Result<u32, Kind>
+    ensures { result ≡ fault_of words.entry }
+{
+    match words.next() {
+        None => Ok(0),
+        Some(word) => Ok(read_number(Kind::Number, 1, 4294967295, word)? as u32),
+    }
+}
+
+#[tactic(auto, unfolding(crate::specs::SimLines::cut_line))]
+pub(crate) fn cut_line(draft: &mut Draft, mut words: Words<'_>) -> Result<(), LineFault>
+    ensures { Takes result (cut_line draft.old words.entry) draft.new }
+{
+    check(Kind::Words, words.len() == 3)?;
+    let first = words.take();
+    let second = words.take();
+    let bytes = read_number(Kind::Number, 0, u64::MAX, words.take())?;
+    let (a, b) = pair(draft, first, second)?;
+    check(Kind::Limit, bytes <= 1048576)?;
+    check(Kind::Limit, draft.cuts() < 64)?;
+    draft.push_line(Line::Cut { a, b, bytes })?;
+    Ok(())
+}
+
+#[tactic(auto, unfolding(crate::specs::SimLines::turn_line))]
+pub(crate) fn turn_line(draft: &mut Draft, mut words: Words<'_>) -> Result<(), LineFault>
+    ensures { Takes result (turn_line draft.old words.entry) draft.new }
+{
+    check(Kind::Words, words.len() == 1)?;
+    let a = place(draft, words.take())?;
+    draft.push_line(Line::Turn { a })?;
+    Ok(())
+}
+
+// Of two words all sockets flow, and all of their bytes.
+#[tactic(auto, unfolding(crate::specs::SimLines::flow_line))]
+pub(crate) fn flow_line(draft: &mut Draft, mut words: Words<'_>) -> Result<(), LineFault>
+    ensures { Takes result (flow_line draft.old words.entry) draft.new }
+{
+    let count = words.len();
+    check(Kind::Words, count == 2 || count == 4)?;
+    let first = words.take();
+    let second = words.take();
+    let (socket, most) = flow_of(words)?;
+    let (a, b) = pair(draft, first, second)?;
+    draft.push_line(Line::Flow { a, b, socket, most })?;
+    Ok(())
+}
+
+// Of two words the newest socket fails.
+#[tactic(auto, unfolding(crate::specs::SimLines::fault_line))]
+pub(crate) fn fault_line(draft: &mut Draft, mut words: Words<'_>) -> Result<(), LineFault>
+    ensures { Takes result (fault_line draft.old words.entry) draft.new }
+{
+    let count = words.len();
+    check(Kind::Words, count == 2 || count == 3)?;
+    let first = words.take();
+    let second = words.take();
+    let socket = fault_of(words)?;
+    let (a, b) = pair(draft, first, second)?;
+    check(Kind::Limit, draft.faults() < 64)?;
+    draft.push_line(Line::Fault { a, b, socket })?;
+    Ok(())
+}
+
+#[tactic(auto, unfolding(crate::specs::SimLines::settle_line))]
+pub(crate) fn settle_line(draft: &mut Draft, mut words: Words<'_>) -> Result<(), LineFault>
+    ensures { Takes result (settle_line draft.old words.entry) draft.new }
+{
+    check(Kind::Words, words.len() == 1)?;
+    let rounds = read_number(Kind::Number, 1, 10000, words.take())? as u32;
+    check(
+        Kind::Limit,
+        draft.rounds() as u64 + rounds as u64 <= 20000,
+    )?;
+    draft.push_line(Line::Settle { rounds })?;
+    Ok(())
+}
