@@ -58,15 +58,15 @@ shelf_at inputs calls index place ended =
 pub shelf_after : (inputs : List Input) (calls calls' : CallCounts) (index place n : ℕ) (ended ended' : Bool) (into : List ℕ) (old : Shelf)
     → shelf_at inputs calls index place ended ≡ old → take n into ≡ take n old.rest
     → shelf_at inputs calls' index (place + n) ended'
-        ≡ record { inputs = old.inputs; calls = calls'; given = old.given ++ take n into; rest = drop n old.rest; ended = ended' }
+    ≡ record { inputs = old.inputs; calls = calls'; given = old.given ++ take n into; rest = drop n old.rest; ended = ended' }
 shelf_after inputs calls calls' index place n ended ended' into old e =
     let o = slice_get inputs index in
     let P : Shelf → Type 0 = λ s. take n into ≡ take n s.rest → shelf_at inputs calls' index (place + n) ended'
-        ≡ record { inputs = s.inputs; calls = calls'; given = s.given ++ take n into; rest = drop n s.rest; ended = ended' } in
+    ≡ record { inputs = s.inputs; calls = calls'; given = s.given ++ take n into; rest = drop n s.rest; ended = ended' } in
     subst P e (λ first.
-        let g : given_of inputs index (place + n) ≡ given_of inputs index place ++ take n into = given_from o place n ∙ ap (λ t. given_of inputs index place ++ t) (sym first) in
-        ap (λ (t : List ℕ). record { inputs = inputs; calls = calls'; given = t; rest = rest_of inputs index (place + n); ended = ended' }) g
-        ∙ ap (λ (t : List ℕ). record { inputs = inputs; calls = calls'; given = given_of inputs index place ++ take n into; rest = t; ended = ended' }) (rest_from o place n))
+    let g : given_of inputs index (place + n) ≡ given_of inputs index place ++ take n into = given_from o place n ∙ ap (λ t. given_of inputs index place ++ t) (sym first) in
+    ap (λ (t : List ℕ). record { inputs = inputs; calls = calls'; given = t; rest = rest_of inputs index (place + n); ended = ended' }) g
+    ∙ ap (λ (t : List ℕ). record { inputs = inputs; calls = calls'; given = given_of inputs index place ++ take n into; rest = t; ended = ended' }) (rest_from o place n))
 
 -- a read that found the end left nothing
 nothing_left : (rest : List ℕ) (n m : ℕ) (a b : Bool) → n ≡ min (length rest) m → (n == 0) ≡ a → (m == 0) ≡ b → IsTrue (a && not b) → drop n rest ≡ []

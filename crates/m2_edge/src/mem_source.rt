@@ -33,8 +33,13 @@ impl Model for MemSource {
 
     ghost Value = { Shelf };
 
-    ghost view = { λ s. record { inputs = s.inputs.items; calls = s.calls; given = given_of s.inputs.items s.begun s.place;
-        rest = rest_of s.inputs.items s.begun s.place; ended = s.ended } };
+    ghost view = { λ s. record {
+      inputs = s.inputs.items;
+      calls = s.calls;
+      given = given_of s.inputs.items s.begun s.place;
+      rest = rest_of s.inputs.items s.begun s.place;
+      ended = s.ended;
+    } };
 }
 
 impl MemSource {
@@ -99,8 +104,13 @@ fn copy_first(rest: &[u8], into: &mut [u8]) -> usize
 impl Source for MemSource {
     ghost use Rattle.std.specs.Prelude.{Some, ◌++◌};
 
-    ghost seen = { λ s. record { faults = s.calls.faults; given = s.given; ended = s.ended; begun = Some (s.given ++ s.rest);
-        inputs = input_of s.inputs } };
+    ghost seen = { λ s. record {
+      faults = s.calls.faults;
+      given = s.given;
+      ended = s.ended;
+      begun = Some (s.given ++ s.rest);
+      inputs = input_of s.inputs;
+    } };
 
     fn begin(&mut self, name: &str) -> Result<(), Failed>
         ensures exact { BeginsNamed result name.now self.old self.new }

@@ -1,5 +1,5 @@
 -- One more piece of the file listed, and the ends of a listing.
-use Rattle.std.proofs.Common.{◌≡◌, ℕ, ◌+◌, ◌-◌, ◌<◌, ◌≤◌, List, [], ◌++◌, length, take, drop, Option, Some, None, refl, sym, ap, ◌∙◌, subst, arith, length-drop, append_assoc, IsTrue, IfSome}
+use Rattle.std.proofs.Common.{◌≡◌, ℕ, ◌-◌, ◌<◌, ◌≤◌, List, [], ◌++◌, length, take, drop, Option, Some, None, refl, sym, ap, ◌∙◌, subst, arith, length-drop, append_assoc, false, true, IfSome}
 use Rattle.std.proofs.lemmas.List.{append-nil, length-append, nil_from_length, take-append-drop}
 use Rattle.std.proofs.Math.Seq.{take-append_seam, take-length}
 use Rattle.m2_edge.specs.Sink.{SeenSink}
@@ -9,7 +9,7 @@ use Rattle.m2_frame.specs.Decoder.{IsSameButRoom, fed}
 use Rattle.m2_frame.specs.Position.{Position}
 use Rattle.m2_frame.specs.Reading.{Item, start, judge}
 use Rattle.m2_frame.specs.Stream.{Splits}
-use Rattle.m2_listing.specs.Listing.{limit, IsAll, IsCutAtLimit, Listed, Broken, Lists, ListsPrefix, GivesMore, Fetches}
+use Rattle.m2_listing.specs.Listing.{limit, IsAll, IsCutAtLimit, Listed, Lists, ListsPrefix, Fetches}
 use Rattle.m2_listing.specs.SoFar.{SoFar, EndsHere, FedTo}
 use Rattle.m2_listing.specs.declared.listing.Listing.{Listing}
 use Rattle.m2_listing.specs.declared.listing.Listing.TheVariants as listing
@@ -99,7 +99,7 @@ Lists-beyond feeds src src' room place old s new before mid after sofar f passes
     let got = passes (src.given ++ f.0) before (at_fed src.given f.0 old s before mid feeds sofar.listed f.2) in
     let more = drop (length f.0) f.3.0 in
     let cut = cut_at_limit (src.given ++ f.0) more src' (gave_beyond src.given src'.given f.0 f.3.0 f.3.2 f.3.3)
-        (omega (arith, sofar.counted, length-append src.given f.0, f.1)) (omega (arith, length-drop (length f.0) f.3.0, f.3.1)) in
+    (omega (arith, sofar.counted, length-append src.given f.0, f.1)) (omega (arith, length-drop (length f.0) f.3.0, f.3.1)) in
     (src.given ++ f.0, new.rest, cut, got.0, subst (λ p. Listed (src.given ++ f.0) new.rest p before after) (sym e) got.1)
 
 pub Lists-beyond_stopped : HasFed → (end : Listing) (src src' : SeenSource) (room : ℕ) (old s new : Position) (before mid after : SeenSink)
@@ -143,11 +143,11 @@ SoFar-begins src s out e begun =
 
 -- a source that has begun stands in its input
 pub stands_at_start : (name : List ℕ) (old new : SeenSource) → IsAtStartOf (old.inputs name) new → StandsIn name old new
-stands_at_start name old new start = record { begun = start.begun; gives = by_input new.begun }
+stands_at_start name old new fresh = record { begun = fresh.begun; gives = by_input new.begun }
   where
     by_input : (begun : Option (List ℕ)) → IfSome begun (λ input. IsGivenFrom input new)
     by_input None = tt
-    by_input (Some input) = record { prefix = (0, start.given); whole = λ ended. absurd (subst IsTrue start.ended ended) }
+    by_input (Some input) = record { prefix = (0, fresh.given); whole = λ ended. let never : false ≡ true = sym fresh.ended ∙ ended in absurd cc }
 
 -- nothing was read of the file, and nothing was written
 pub Lists-nothing : (src : SeenSource) (out : SeenSink) → ListsPrefix src out out
