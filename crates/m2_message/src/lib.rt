@@ -5,7 +5,9 @@
 #![tactic(auto)]
 
 mod header;
+mod laws;
 mod message;
 
 pub use header::Header;
-pub use message::Message;
+pub use laws::being_the_same_is_an_equivalence;
+pub use message::{MOST_PART, Message};

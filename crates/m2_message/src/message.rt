@@ -6,6 +6,9 @@ ghost use Rattle.m2_message.specs.Message.{content_of, IsSendable, size_of};
 use crate::header::Header;
 use m2_bytes::{Blob, NoMemory};
 
+/// The most bytes that a part of a message has: 128 MiB, what a segment of its frame holds.
+pub const MOST_PART: usize = 134_217_728;
+
 /// A message: its header, and its front, middle and data as bytes (Ceph calls the third part
 /// data).
 #[derive(Debug, Drop)]
@@ -17,7 +20,7 @@ pub struct Message {
 }
 
 impl Message {
-    /// How many bytes the three parts have. Each has at most 128 MiB.
+    /// How many bytes the three parts have. Each has at most [`MOST_PART`].
     pub fn size(&self) -> u64
         requires { IsSendable self.now }
         ensures { result ≡ size_of self.now }

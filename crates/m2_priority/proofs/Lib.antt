@@ -1,0 +1,4 @@
+pub mod ByRank
+pub mod Joining
+pub mod Permuted
+pub mod InOrder

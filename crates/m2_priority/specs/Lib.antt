@@ -1,0 +1,4 @@
+pub mod ByRank
+pub mod PriorityQueue
+pub mod PriorityQueueFields
+pub mod Laws
