@@ -1,3 +1,2 @@
-pub mod Permuted
-pub mod InOrder
 pub mod Histories
+pub mod Unsent

@@ -1,5 +1,5 @@
 pub mod OutQueues
 pub mod OutQueuesFields
+pub mod Due
 pub mod InNumbers
-pub mod Waiting
 pub mod Laws

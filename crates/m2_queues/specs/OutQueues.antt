@@ -1,8 +1,10 @@
 -- What the outgoing queue of a session is, and what each call leaves of it: one numbered list of which
--- a front is acknowledged and gone, a place in it, and the messages that wait for a number. The rules
--- are ProtocolV2's for out_seq and the sent list of a policy that isn't lossy.
-use Rattle.std.specs.Prelude.{◌≡◌, ℕ, ◌+◌, ◌-◌, ◌<◌, ◌≤◌, ◌^◌, Bool, false, ◌||◌, List, [], ◌∷◌, ◌++◌, length, take, drop, max, nat_lt, slice_get, Option, Some, None, if◌then◌else◌}
-use Rattle.m2_message.specs.declared.message.Message.{Message}
+-- a prefix is acknowledged and gone, a place in it, and the messages that wait for a number. It is said of
+-- what the messages say; where their bytes lie in memory, and how much room there is, is no part of it. The
+-- rules are ProtocolV2's for out_seq and the sent list of a policy that isn't lossy.
+use Rattle.std.specs.Prelude.{◌≡◌, ℕ, ◌+◌, ◌-◌, ◌<◌, ◌≤◌, ◌^◌, Bool, false, ◌||◌, List, [], ◌++◌, length, take, drop, max, nat_lt, slice_get, Option, Some, None, if◌then◌else◌}
+use Rattle.m2_message.specs.Message.{Content, priority_of}
+use Rattle.m2_priority.specs.ByRank.{put_behind}
 
 pub record Queue : Type 0 where
   -- whether a sent message is kept until it is acknowledged; a lossy policy doesn't keep
@@ -13,29 +15,22 @@ pub record Queue : Type 0 where
   pub written : ℕ
   -- how many of the kept messages are sent
   pub cursor : ℕ
-  -- how many posts succeed whatever memory there is
-  pub spare : ℕ
   -- the messages that have a number and aren't acknowledged: base + 1, base + 2, and so on
-  pub kept : List Message
+  pub kept : List Content
   -- those that have none yet, in the order in which they get one
-  pub waiting : List Message
+  pub waiting : List Content
 
-abbrev pub priority_of : Message → ℕ
-priority_of m = m.header.priority
-
--- a message goes behind all that wait with its priority or a greater one
-abbrev pub with_waiting : Message → List Message → List Message
-with_waiting m [] = m ∷ []
-with_waiting m (w ∷ ws) = if nat_lt (priority_of w) (priority_of m) then m ∷ w ∷ ws else w ∷ with_waiting m ws
+-- the queue, and how many posts succeed whatever memory there is
+pub record Outgoing : Type 0 where
+  pub queue : Queue
+  pub spare : ℕ
 
 abbrev pub new_queue : Bool → Queue
-new_queue keeps = record { keeps = keeps; base = 0; written = 0; cursor = 0; spare = 0; kept = []; waiting = [] }
+new_queue keeps = record { keeps = keeps; base = 0; written = 0; cursor = 0; kept = []; waiting = [] }
 
-abbrev pub after_reserve : Queue → ℕ → Queue
-after_reserve q n = record q { spare = max q.spare n }
-
-abbrev pub after_post : Queue → Message → Queue
-after_post q m = record q { spare = q.spare - 1; waiting = with_waiting m q.waiting }
+-- a message goes behind all that wait with its priority or a greater one
+abbrev pub after_post : Queue → Content → Queue
+after_post q m = record q { waiting = put_behind priority_of m q.waiting }
 
 -- the number at the cursor
 abbrev pub cursor_number : Queue → ℕ
@@ -46,7 +41,7 @@ abbrev pub next_number : Queue → Option ℕ
 next_number q = if nat_lt q.cursor (length q.kept) || nat_lt 0 (length q.waiting) then Some (cursor_number q) else None
 
 -- the message that gets a number by `next`: the first that waits, where the cursor is at the end
-abbrev pub newly_numbered : Queue → List Message
+abbrev pub newly_numbered : Queue → List Content
 newly_numbered q = if nat_lt q.cursor (length q.kept) then [] else take 1 q.waiting
 
 abbrev pub after_next : Queue → Queue
@@ -72,8 +67,20 @@ abbrev pub after_renumber : Queue → Queue
 after_renumber q = record q { base = 0; written = 0; cursor = 0 }
 
 -- the kept message with the number
-abbrev pub message_at : Queue → ℕ → Option Message
+abbrev pub message_at : Queue → ℕ → Option Content
 message_at q number = if nat_lt q.base number then slice_get q.kept (number - q.base - 1) else None
+
+-- whether a message is kept or waits
+abbrev pub waits : Queue → Bool
+waits q = nat_lt 0 (length q.kept + length q.waiting)
+
+-- what has a number and is still to be sent
+abbrev pub due : Queue → List Content
+due q = drop q.cursor q.kept
+
+-- what is still to be sent, in the order in which it will be where nothing more is posted
+abbrev pub unsent : Queue → List Content
+unsent q = due q ++ q.waiting
 
 -- the greatest number given since the numbers were last set back
 abbrev pub last_number : Queue → ℕ

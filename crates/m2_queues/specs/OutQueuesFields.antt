@@ -1,8 +1,15 @@
 -- The queue that contracts see, from the fields of the code.
-use Rattle.std.specs.Prelude.{◌+◌, ◌≤◌, length}
+use Rattle.std.specs.Prelude.{◌≡◌, ◌+◌, ◌≤◌, length, map}
+use Rattle.std.specs.List.{AllByRecursion}
 use Rattle.std.specs.VecDeque.{deque_len, deque_capacity}
+use Rattle.m2_message.specs.Message.{Content, content_of}
+use Rattle.m2_message.specs.declared.message.Message.{Message}
+use Rattle.m2_priority.specs.PriorityQueue.{Ranked}
 use Rattle.m2_queues.specs.declared.out_queues.OutQueues.TheInside.{Inside}
-use Rattle.m2_queues.specs.OutQueues.{Queue, IsNumbered}
+use Rattle.m2_queues.specs.OutQueues.{Queue, Outgoing, IsNumbered}
+
+abbrev pub content_ranked : Ranked Message → Content
+content_ranked r = content_of r.item
 
 abbrev pub queue_of : Inside → Queue
 queue_of f = record {
@@ -10,12 +17,19 @@ queue_of f = record {
   base = f.base;
   written = f.written;
   cursor = f.cursor;
-  spare = f.waiting.room;
-  kept = f.kept.items;
-  waiting = f.waiting.messages;
+  kept = map content_of f.kept.items;
+  waiting = map content_ranked f.waiting.items;
 }
+
+abbrev pub outgoing_of : Inside → Outgoing
+outgoing_of f = record { queue = queue_of f; spare = f.waiting.room }
+
+-- a message waits with its priority for a rank
+abbrev pub IsRanked : Ranked Message → Type 0
+IsRanked r = r.rank ≡ r.item.header.priority
 
 -- the numbers are in order, and what waits or may be posted has room among the kept
 pub record IsQueue (f : Inside) : Type 0 where
   pub numbers : IsNumbered (queue_of f)
-  pub room : deque_len f.kept + length f.waiting.messages + f.waiting.room ≤ deque_capacity f.kept
+  pub room : deque_len f.kept + length f.waiting.items + f.waiting.room ≤ deque_capacity f.kept
+  pub ranked : AllByRecursion IsRanked f.waiting.items

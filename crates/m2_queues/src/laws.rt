@@ -1,7 +1,7 @@
 //! What holds of a queue over every list of calls. These functions do nothing: each stands for the
 //! law that its contract names.
 
-ghost use Rattle.m2_queues.specs.Laws.{EachPriorityKeepsItsOrder, GreatestPriorityWaitsFirst, KeptAreTheNumbered, EachNumberIsAPlace, NumberedMessagesStay};
+ghost use Rattle.m2_queues.specs.Laws.{EachPriorityKeepsItsOrder, GreatestPriorityWaitsFirst, KeptAreTheNumbered, EachNumberIsAPlace, NumberedMessagesStay, RenumberFromZeroKeepsTheNumbers, NextLeavesTheUnsent, NextIsTheFirstUnsent, NothingNextIsNothingUnsent, SentTakesTheFirstUnsent, AckedLeavesTheUnsent, AcknowledgementsCommute};
 
 /// For each priority, what was posted since the last discard is, in this order, what was dropped
 /// before the numbers were last set back, what was numbered since, and what waits.
@@ -28,4 +28,25 @@ pub fn each_number_is_a_place()
 /// A message keeps its number until the numbers are set back.
 pub fn numbered_messages_stay()
     ensures { NumberedMessagesStay }
+{}
+
+/// Where nothing was acknowledged, numbers that are set back stay what they were: only what was sent
+/// is to be sent again.
+pub fn renumber_from_zero_keeps_the_numbers()
+    ensures { RenumberFromZeroKeepsTheNumbers }
+{}
+
+/// What is still to be sent stays when its first message gets a number, loses that message when it was
+/// sent, and stays when what was sent is acknowledged.
+pub fn the_unsent_go_one_by_one()
+    ensures next { NextLeavesTheUnsent }
+    ensures first { NextIsTheFirstUnsent }
+    ensures none { NothingNextIsNothingUnsent }
+    ensures sent { SentTakesTheFirstUnsent }
+    ensures acked { AckedLeavesTheUnsent }
+{}
+
+/// Of two acknowledgements the greater one counts.
+pub fn acknowledgements_commute()
+    ensures { AcknowledgementsCommute }
 {}

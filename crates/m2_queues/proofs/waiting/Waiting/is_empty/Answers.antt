@@ -1,9 +1,0 @@
-use Rattle.std.proofs.Common.{◌≡◌, ap, ◌∙◌, length, heap_len, arith, eqb}
-use Rattle.m2_queues.specs.Waiting.{messages_of}
-use Rattle.m2_queues.proofs.InOrder.{length-messages_of}
-use Rattle.m2_queues.proofs.waiting.Waiting.is_empty.Goals as goal
-
-pub returns : goal.returns
-returns c =
-    let long : heap_len c.self.inside.heap ≡ length (messages_of c.self.inside.heap.data.items) = rw length-messages_of (omega (arith, c.self.inside.heap.data.ok)) in
-    rw (← c.self.view_is) (c.is_empty.ensures ∙ ap (λ n. eqb n 0) long)
