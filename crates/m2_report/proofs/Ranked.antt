@@ -5,8 +5,8 @@ use Rattle.std.proofs.lemmas.List.Elements.{All-filter, All-map}
 use Rattle.std.proofs.lemmas.Grind.{flat_map-append}
 use Rattle.std.specs.List.{AllByRecursion, flat_map, range_with_len}
 use denote.Ref.{Bor}
-use Rattle.m2_dispatch.specs.ByRank.{put_before, by_rank}
-use Rattle.m2_dispatch.proofs.ByRank.{map-by_rank}
+use Rattle.m2_priority.specs.ByRank.{put_before, by_rank}
+use Rattle.m2_priority.proofs.ByRank.{map-by_rank}
 use Rattle.m2_dispatch.specs.Heard.{Heard, heard_of, heard_by}
 use Rattle.m2_dispatch.specs.declared.logged.Logged.{Logged}
 use Rattle.m2_words.specs.Text.{Word}

@@ -10,7 +10,7 @@ use Rattle.m2_message.specs.Message.{Content}
 use Rattle.m2_policy.specs.declared.path.Key.{Key}
 use Rattle.m2_policy.specs.declared.path.Path.{Path}
 use Rattle.m2_policy.specs.declared.path.Path.TheVariants.{Fast, Queued}
-use Rattle.m2_dispatch.specs.ByRank.{by_rank}
+use Rattle.m2_priority.specs.ByRank.{by_rank}
 use Rattle.m2_dispatch.specs.Heard.{Heard, message, reset, heard_of, heard_by, peer_of}
 use Rattle.m2_dispatch.specs.declared.logged.Logged.{Logged}
 use Rattle.m2_scenario.specs.declared.node.Node.{Node}

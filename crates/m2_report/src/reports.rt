@@ -4,7 +4,7 @@ ghost use Rattle.std.specs.Prelude.{◌≡◌, ◌<◌, ◌++◌, true, All, len
 ghost use Rattle.std.specs.List.{flat_map};
 ghost use Rattle.m2_bytes.specs.Hexadecimal.{hex_text};
 ghost use Rattle.m2_message.specs.Message.{content_of};
-ghost use Rattle.m2_dispatch.specs.ByRank.{by_rank};
+ghost use Rattle.m2_priority.specs.ByRank.{by_rank};
 ghost use Rattle.m2_dispatch.specs.Heard.{heard_of, heard_by};
 ghost use Rattle.m2_words.specs.Text.{word};
 ghost use Rattle.m2_scenario.specs.Valid.{IsValid};
@@ -12,9 +12,10 @@ ghost use Rattle.m2_report.specs.Report.{path_word, dispatch_line, reset_line, l
 ghost use Rattle.m2_report.specs.Report.{name_of, node_lines, report_of, told_by, heard_in, IsPeerAmong, IsOfNodes, AreLogsOf};
 
 use m2_bytes::{Blob, Items, NoMemory, put_decimal, put_hex};
-use m2_dispatch::{Logged, LoggedList, sort_by_rank};
+use m2_dispatch::{Logged, LoggedList};
 use m2_message::Message;
 use m2_policy::{Key, Path};
+use m2_priority::sort_by_rank;
 use m2_scenario::{Node, Scenario};
 use std::alloc::Global;
 

@@ -9,8 +9,8 @@ use Rattle.std.proofs.lemmas.List.Sums.{sum_by-cons}
 use Rattle.m2_message.specs.Message.{Content}
 use Rattle.m2_policy.specs.declared.path.Key.{Key}
 use Rattle.m2_dispatch.specs.Heard.{Heard}
-use Rattle.m2_dispatch.specs.ByRank.{by_rank}
-use Rattle.m2_dispatch.proofs.ByRank.{length-by_rank}
+use Rattle.m2_priority.specs.ByRank.{by_rank}
+use Rattle.m2_priority.proofs.ByRank.{length-by_rank}
 use Rattle.m2_link.specs.Model as link
 use Rattle.m2_link.specs.Model.{Direction, behind}
 use Rattle.m2_link.specs.declared.side.Side.{Side}

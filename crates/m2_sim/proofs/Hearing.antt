@@ -2,12 +2,12 @@
 use Rattle.std.proofs.Common.{◌≡◌, ℕ, List, [], ◌++◌, map, refl}
 use Rattle.std.specs.Prelude.{reverse}
 use Rattle.std.proofs.lemmas.List.{map-append}
-use Rattle.m2_dispatch.proofs.ByRank.{map-by_rank}
+use Rattle.m2_priority.proofs.ByRank.{map-by_rank}
 use Rattle.m2_link.specs.declared.taken.Taken as link
 use Rattle.m2_link.specs.Taken.{content_taken}
 use Rattle.m2_dispatch.specs.declared.logged.Logged.{Logged}
 use Rattle.m2_dispatch.specs.Heard.{heard_of}
-use Rattle.m2_dispatch.specs.ByRank.{by_rank}
+use Rattle.m2_priority.specs.ByRank.{by_rank}
 use Rattle.m2_sim.specs.Model.{Taken, from_peer}
 use Rattle.m2_sim.specs.Dispatcher.{Dispatcher, priority_heard, priority_logged}
 

@@ -8,7 +8,7 @@ use Rattle.std.proofs.lemmas.Bool.Decides.{nat_tests}
 use Rattle.m2_message.specs.Message.{Content}
 use Rattle.m2_policy.specs.declared.path.Key.{Key}
 use Rattle.m2_dispatch.specs.Heard.{is_key, of_key}
-use Rattle.m2_dispatch.proofs.ByRank.{Falls}
+use Rattle.m2_priority.proofs.ByRank.{Falls}
 use Rattle.m2_link.specs.Model.{Direction, posts, writes, accepts, arriving, behind}
 use Rattle.m2_scenario.specs.declared.node.Node.{Node}
 use Rattle.m2_scenario.specs.declared.link.Link.{Link}

@@ -10,8 +10,8 @@ use Rattle.m2_policy.specs.declared.path.Key.{Key}
 use Rattle.m2_policy.specs.declared.path.Path.{Path}
 use Rattle.m2_policy.specs.declared.path.Path.TheVariants.{Fast, Queued}
 use Rattle.m2_dispatch.specs.Heard.{Heard, message, reset, is_path, is_key, of_key}
-use Rattle.m2_dispatch.specs.ByRank.{by_rank}
-use Rattle.m2_dispatch.proofs.ByRank.{Falls, has_rank, rank-by_rank}
+use Rattle.m2_priority.specs.ByRank.{by_rank}
+use Rattle.m2_priority.proofs.ByRank.{Falls, has_rank, rank-by_rank}
 use Rattle.m2_link.specs.Model.{behind}
 use Rattle.m2_sim.specs.Model.{Taken, is_fast_path, is_fast, is_queued, rank_of, key_of, hears, dispatches}
 

@@ -8,8 +8,8 @@ use Rattle.std.proofs.lemmas.Bool.Decides.{nat_tests}
 use Rattle.m2_message.specs.Message.{Content}
 use Rattle.m2_policy.specs.declared.path.Key.{Key}
 use Rattle.m2_dispatch.specs.Heard as heard
-use Rattle.m2_dispatch.specs.ByRank.{by_rank}
-use Rattle.m2_dispatch.proofs.ByRank.{all-by_rank}
+use Rattle.m2_priority.specs.ByRank.{by_rank}
+use Rattle.m2_priority.proofs.ByRank.{all-by_rank}
 use Rattle.m2_scenario.specs.declared.link.Link.{Link}
 use Rattle.m2_scenario.specs.Draft.{are_joined}
 use Rattle.m2_link.specs.Model.{arriving, arrivals, written_by}

@@ -6,7 +6,7 @@ use Rattle.std.proofs.lemmas.List.Elements.{All-nil, All-cons, All-append, All-s
 use Rattle.m2_link.specs.Model as link
 use Rattle.m2_link.specs.declared.side.Side.{Side}
 use Rattle.m2_dispatch.specs.Heard.{Heard}
-use Rattle.m2_dispatch.specs.ByRank.{by_rank}
+use Rattle.m2_priority.specs.ByRank.{by_rank}
 use Rattle.m2_sim.specs.Model as model
 use Rattle.m2_sim.specs.Model.{Joint, Taken, side_of, where_side, turned, taken, taken_at, is_fast, is_queued, rank_of, hears, dispatches, at, grown_at, after_turn, after_turns, after_round, after_rounds}
 use Rattle.m2_sim.specs.Joint.{turned_by}
@@ -16,7 +16,7 @@ use Rattle.m2_sim.specs.Net.{net_of, fast_kinds, heard_by_it, IsIdle, IsNet, Kee
 use Rattle.m2_sim.specs.Turn.{IsPlace, Visited, visited, taken_by, behind}
 use Rattle.m2_sim.specs.declared.topology.End.{End}
 use Rattle.m2_sim.specs.declared.net.Net.{Net}
-use Rattle.m2_dispatch.proofs.ByRank.{map-by_rank}
+use Rattle.m2_priority.proofs.ByRank.{map-by_rank}
 use Rattle.m2_sim.proofs.Nets.{bare_turned}
 
 -- ---- a node's ends are all its links

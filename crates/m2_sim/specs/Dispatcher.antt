@@ -2,7 +2,7 @@
 use Rattle.std.specs.Prelude.{ℕ, List, [], ◌++◌, map, filter}
 use Rattle.m2_dispatch.specs.declared.logged.Logged.{Logged}
 use Rattle.m2_dispatch.specs.Heard.{Heard, message, reset, heard_of}
-use Rattle.m2_dispatch.specs.ByRank.{by_rank}
+use Rattle.m2_priority.specs.ByRank.{by_rank}
 use Rattle.m2_link.specs.Taken.{content_taken}
 use Rattle.m2_link.specs.declared.taken.Taken as link
 use Rattle.m2_sim.specs.Model.{Taken, from_peer, is_fast, is_queued, hears}

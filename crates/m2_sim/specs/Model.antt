@@ -16,7 +16,7 @@ use Rattle.m2_link.specs.declared.side.Side.TheVariants.{First, Second}
 use Rattle.m2_scenario.specs.declared.node.Node.{Node}
 use Rattle.m2_scenario.specs.declared.link.Link.{Link}
 use Rattle.m2_scenario.specs.Draft.{DraftLine, post, dial, down, cut, turn, flow, fault, settle}
-use Rattle.m2_dispatch.specs.ByRank.{by_rank}
+use Rattle.m2_priority.specs.ByRank.{by_rank}
 
 -- the link of two nodes, by their places among the nodes from 0: `a` is its first node
 pub record Joint : Type 0 where

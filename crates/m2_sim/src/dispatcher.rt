@@ -2,13 +2,14 @@
 
 ghost use Rattle.std.specs.Prelude.{◌≡◌, [], ◌∷◌, ◌++◌, map, OnOk, IfOk};
 ghost use Rattle.m2_dispatch.specs.Heard.{heard_of};
-ghost use Rattle.m2_dispatch.specs.ByRank.{by_rank};
+ghost use Rattle.m2_priority.specs.ByRank.{by_rank};
 ghost use Rattle.m2_sim.specs.Dispatcher.{idle, from, all_from, hears_taken, runs_queue, priority_logged};
 
 use m2_bytes::{Items, NoMemory};
-use m2_dispatch::{Logged, LoggedList, sort_by_rank};
+use m2_dispatch::{Logged, LoggedList};
 use m2_link::Taken;
 use m2_policy::{FastSet, Key, Path};
+use m2_priority::sort_by_rank;
 use std::alloc::Global;
 use std::marker::Model;
 
