@@ -3,7 +3,7 @@
 use Rattle.std.specs.Prelude.{◌≡◌, ℕ}
 use Rattle.m2_message.specs.Message.{Content}
 use Rattle.m2_frame.specs.Frame.{Parts, message_tag}
-use Rattle.m2_message_frame.specs.HeaderText.{header_text, FieldsFit}
+use Rattle.m2_message_frame.specs.HeaderText.{header_text, header_in, FieldsFit}
 
 -- the message with the two numbers that the runtime writes
 abbrev pub numbered : ℕ → ℕ → Content → Content
@@ -11,6 +11,10 @@ numbered seq ack_seq m = record m { header = record m.header { seq = seq; ack_se
 
 abbrev pub parts_of : Content → Parts
 parts_of m = record { tag = message_tag; first = header_text m.header; second = m.front; third = m.middle; fourth = m.tail }
+
+-- the message that a frame says
+abbrev pub message_in : Parts → Content
+message_in f = record { header = header_in f.first; front = f.second; middle = f.third; tail = f.fourth }
 
 -- the frame is this message's
 pub record Carries (f : Parts) (m : Content) : Type 0 where

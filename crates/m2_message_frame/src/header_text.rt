@@ -9,7 +9,7 @@ use m2_message::Header;
 use std::alloc::Global;
 
 /// How many bytes a header has.
-const HEADER_BYTES: usize = 41;
+pub const HEADER_BYTES: usize = 41;
 
 /// The header's text.
 pub fn write_header(alloc: Global, h: &Header) -> Result<Blob, NoMemory>

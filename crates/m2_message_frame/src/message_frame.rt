@@ -3,18 +3,16 @@
 ghost use Rattle.std.specs.Prelude.{◌≡◌, ◌≢◌, ◌↔◌, length, IsErr, IfOk, IsOkAnd};
 ghost use Rattle.m2_message.specs.Message.{Content, content_of, IsSendable};
 ghost use Rattle.m2_frame.specs.Frame.{parts, message_tag, Fits};
-ghost use Rattle.m2_message_frame.specs.HeaderText.{header_bytes, FieldsFit};
-ghost use Rattle.m2_message_frame.specs.MessageFrame.{numbered, Carries};
+ghost use Rattle.m2_message_frame.specs.HeaderText.{FieldsFit};
+ghost use Rattle.m2_message_frame.specs.MessageFrame.{numbered, message_in, Carries};
 
 use crate::fault::MessageFault;
-use crate::header_text::{read_header, write_header};
+use crate::header_text::{HEADER_BYTES, read_header, write_header};
 use m2_bytes::NoMemory;
 use m2_frame::Frame;
 use m2_message::{Header, Message};
+use m2_tag::Tag;
 use std::alloc::Global;
-
-/// The tag of a MESSAGE.
-const MESSAGE: u8 = 17;
 
 /// The header with these two numbers in place of its own.
 fn with_numbers(header: Header, seq: u64, ack_seq: u64) -> Header
@@ -39,7 +37,7 @@ pub fn to_frame(alloc: Global, message: &Message, seq: u64, ack_seq: u64) -> Res
 {
     let header = with_numbers(message.header, seq, ack_seq);
     Ok(Frame {
-        tag: MESSAGE,
+        tag: Tag::Message.number(),
         first: write_header(alloc, &header)?,
         second: message.front.copy()?,
         third: message.middle.copy()?,
@@ -57,7 +55,8 @@ pub fn from_frame(f: Frame) -> Result<Message, MessageFault>
 
     ensures moved { IfOk result
         (λ m. (m.front ≡ f.second) × (m.middle ≡ f.third) × (m.tail ≡ f.fourth)) }
-    ensures bad_header { IsErr result ↔ (length f.first.bytes ≢ header_bytes) }
+    ensures computed { IfOk result (λ m. content_of m ≡ message_in (parts f)) }
+    ensures bad_header { IsErr result ↔ (length f.first.bytes ≢ HEADER_BYTES) }
 {
     Ok(Message {
         header: read_header(f.first.as_slice())?,

@@ -2,7 +2,7 @@ use Rattle.std.proofs.Common.{◌≡◌, length, sym, ap, ◌∙◌}
 use Rattle.m2_frame.specs.Frame.{parts}
 use Rattle.m2_message_frame.specs.HeaderText.{header_text}
 use Rattle.m2_message_frame.proofs.Headers.{length-header_text}
-use Rattle.m2_message_frame.proofs.Carried.{Carries-once, Carries-made, Carries-len}
+use Rattle.m2_message_frame.proofs.Carried.{Carries-once, Carries-made, Carries-len, message_in-carried}
 use Rattle.m2_message_frame.proofs.message_frame.from_frame.Goals as goal
 
 pub returns-in_err-read_header-clause-only : goal.returns-in_err-read_header-clause-only
@@ -19,3 +19,9 @@ pub returns-clause-bad_header : goal.returns-clause-bad_header
 returns-clause-bad_header c =
     let whole : length c.args.f.first.bytes ≡ 41 = ap length (sym c.as_slice.ensures ∙ c.in_ok-read_header.ensures.1) ∙ length-header_text c.in_ok-read_header.field-0 in
     (λ e. cc, λ differs. absurd (differs whole))
+
+pub returns-clause-computed : goal.returns-clause-computed
+returns-clause-computed c =
+    let header = c.in_ok-read_header.field-0 in
+    let text : c.args.f.first.bytes ≡ header_text header = sym c.as_slice.ensures ∙ c.in_ok-read_header.ensures.1 in
+    message_in-carried (parts c.args.f) _ (Carries-made (parts c.args.f) header c.requires c.in_ok-read_header.ensures.0 text)
