@@ -30,11 +30,11 @@ abbrev Addresses : ℕ → List AnyAddr → List ℕ → Type 0
 Addresses n addrs text = AreAddresses addrs text × (length addrs ≡ n)
 
 there : (n : ℕ) (addrs : List AnyAddr) (text : List ℕ) → (x : AnyAddr × List AnyAddr) × (IsAddress x.0 ▹ Addresses n x.1) text × (addrs ≡ x.0 ∷ x.1) → Addresses (suc n) addrs text
-there n addrs text (x, (front, back, p, q, e), is) = rw is ((front, back, p, q.0, e), ap suc q.1)
+there n addrs text (x, (prefix, back, p, q, e), is) = rw is ((prefix, back, p, q.0, e), ap suc q.1)
 
 back : (n : ℕ) (addrs : List AnyAddr) (text : List ℕ) → Addresses (suc n) addrs text → (x : AnyAddr × List AnyAddr) × (IsAddress x.0 ▹ Addresses n x.1) text × (addrs ≡ x.0 ∷ x.1)
 back n [] text (are, len) = absurd cc
-back n (a ∷ addrs) text ((front, rest, p, q, e), len) = ((a, addrs), (front, rest, p, (q, cc), e), refl)
+back n (a ∷ addrs) text ((prefix, rest, p, q, e), len) = ((a, addrs), (prefix, rest, p, (q, cc), e), refl)
 
 none : (addrs : List AnyAddr) (text rest : List ℕ) → Addresses 0 addrs text → (let r : Result (List AnyAddr × List ℕ) AddrFault = Ok ([], text ++ rest) in r) ≡ Ok (addrs, rest)
 none [] text rest (are, len) = ap (λ (t : List ℕ). let r : Result (List AnyAddr × List ℕ) AddrFault = Ok ([], t ++ rest) in r) are
@@ -63,7 +63,7 @@ tests_most : (n : ℕ) → n ≤ 64 → leb n 64 ≡ true
 tests_most n h = grind (arith, nat_tests)
 
 vector_there : (addrs : List AnyAddr) (text : List ℕ) → (n : ℕ) × (Count n ▹ Addresses n addrs) text → IsVector addrs text
-vector_there addrs text (n, (front, rest, (z, p, e1), q, e2)) =
+vector_there addrs text (n, (prefix, rest, (z, p, e1), q, e2)) =
     (rw q.1 (at_most n p.1), (z ++ rest, (z, rest, rw q.1 p.0, q.0, refl), e2 ∙ ap (λ (t : List ℕ). t ++ rest) e1))
 
 vector_back : (addrs : List AnyAddr) (text : List ℕ) → IsVector addrs text → (n : ℕ) × (Count n ▹ Addresses n addrs) text
@@ -81,47 +81,47 @@ vector_found bytes (Err e) new fits given = tt
 -- ---- reading one after the other, as a loop does
 
 -- what was read before, and what is still read
-abbrev pub with_front : List AnyAddr → Result (List AnyAddr × List ℕ) AddrFault → Result (List AnyAddr × List ℕ) AddrFault
-with_front front read = read >>= λ x. Ok (front ++ x.0, x.1)
+abbrev pub with_prefix : List AnyAddr → Result (List AnyAddr × List ℕ) AddrFault → Result (List AnyAddr × List ℕ) AddrFault
+with_prefix prefix read = read >>= λ x. Ok (prefix ++ x.0, x.1)
 
 abbrev put_before : AnyAddr → Result (List AnyAddr × List ℕ) AddrFault → Result (List AnyAddr × List ℕ) AddrFault
 put_before a read = made (λ x. x.0 ∷ x.1) ((λ bytes. Ok (a, bytes)) ⊳ (λ bytes. read)) []
 
-regroup : (front : List AnyAddr) (a : AnyAddr) (read : Result (List AnyAddr × List ℕ) AddrFault) → with_front front (put_before a read) ≡ with_front (front ++ a ∷ []) read
-regroup front a (Ok x) = ap (λ (ns : List AnyAddr). let r : Result (List AnyAddr × List ℕ) AddrFault = Ok (ns, x.1) in r) (simp append_assoc)
-regroup front a (Err f) = refl
+regroup : (prefix : List AnyAddr) (a : AnyAddr) (read : Result (List AnyAddr × List ℕ) AddrFault) → with_prefix prefix (put_before a read) ≡ with_prefix (prefix ++ a ∷ []) read
+regroup prefix a (Ok x) = ap (λ (ns : List AnyAddr). let r : Result (List AnyAddr × List ℕ) AddrFault = Ok (ns, x.1) in r) (simp append_assoc)
+regroup prefix a (Err f) = refl
 
-pub goes_on : (front : List AnyAddr) (count i : ℕ) (bytes : List ℕ) (a : AnyAddr) (after : List ℕ) (total : Result (List AnyAddr × List ℕ) AddrFault) → i < count → address_at bytes ≡ Ok (a, after)
-    → with_front front (addresses_at (count - i) bytes) ≡ total → with_front (front ++ a ∷ []) (addresses_at (count - (i + 1)) after) ≡ total
+pub goes_on : (prefix : List AnyAddr) (count i : ℕ) (bytes : List ℕ) (a : AnyAddr) (after : List ℕ) (total : Result (List AnyAddr × List ℕ) AddrFault) → i < count → address_at bytes ≡ Ok (a, after)
+    → with_prefix prefix (addresses_at (count - i) bytes) ≡ total → with_prefix (prefix ++ a ∷ []) (addresses_at (count - (i + 1)) after) ≡ total
 unfolding addresses_at
-goes_on front count i bytes a after total lt h so_far =
+goes_on prefix count i bytes a after total lt h so_far =
     let k : count - i ≡ suc (count - (i + 1)) = omega arith in
-    let one : with_front front (addresses_at (count - i) bytes) ≡ with_front (front ++ a ∷ []) (addresses_at (count - (i + 1)) after) = rw (k, h) (regroup front a (addresses_at (count - (i + 1)) after)) in
+    let one : with_prefix prefix (addresses_at (count - i) bytes) ≡ with_prefix (prefix ++ a ∷ []) (addresses_at (count - (i + 1)) after) = rw (k, h) (regroup prefix a (addresses_at (count - (i + 1)) after)) in
     sym one ∙ so_far
 
-fault_ends : (f : AddrFault) (front : List AnyAddr) (count i : ℕ) (bytes : List ℕ) (total : Result (List AnyAddr × List ℕ) AddrFault) → i < count → address_at bytes ≡ Err f
-    → with_front front (addresses_at (count - i) bytes) ≡ total → total ≡ Err f
+fault_ends : (f : AddrFault) (prefix : List AnyAddr) (count i : ℕ) (bytes : List ℕ) (total : Result (List AnyAddr × List ℕ) AddrFault) → i < count → address_at bytes ≡ Err f
+    → with_prefix prefix (addresses_at (count - i) bytes) ≡ total → total ≡ Err f
 unfolding addresses_at
-fault_ends f front count i bytes total lt h so_far =
+fault_ends f prefix count i bytes total lt h so_far =
     let k : count - i ≡ suc (count - (i + 1)) = omega arith in
-    let one : with_front front (addresses_at (count - i) bytes) ≡ Err f = rw (k, h) refl in
+    let one : with_prefix prefix (addresses_at (count - i) bytes) ≡ Err f = rw (k, h) refl in
     sym so_far ∙ one
 
-pub ends : (f : AddrFault) (front : List AnyAddr) (count i : ℕ) (bytes : List ℕ) (total : Result (List AnyAddr × List ℕ) AddrFault) → i < count → Fails f (address_at bytes)
-    → with_front front (addresses_at (count - i) bytes) ≡ total → Fails f total
-ends Short front count i bytes total lt h so_far = fault_ends Short front count i bytes total lt h so_far
-ends BadMarker front count i bytes total lt h so_far = fault_ends BadMarker front count i bytes total lt h so_far
-ends BadLength front count i bytes total lt h so_far = fault_ends BadLength front count i bytes total lt h so_far
-ends NotIpv4 front count i bytes total lt h so_far = fault_ends NotIpv4 front count i bytes total lt h so_far
-ends NoMsgr2 front count i bytes total lt h so_far = fault_ends NoMsgr2 front count i bytes total lt h so_far
-ends TooMany front count i bytes total lt h so_far = fault_ends TooMany front count i bytes total lt h so_far
-ends NoMemory front count i bytes total lt h so_far = tt
+pub ends : (f : AddrFault) (prefix : List AnyAddr) (count i : ℕ) (bytes : List ℕ) (total : Result (List AnyAddr × List ℕ) AddrFault) → i < count → Fails f (address_at bytes)
+    → with_prefix prefix (addresses_at (count - i) bytes) ≡ total → Fails f total
+ends Short prefix count i bytes total lt h so_far = fault_ends Short prefix count i bytes total lt h so_far
+ends BadMarker prefix count i bytes total lt h so_far = fault_ends BadMarker prefix count i bytes total lt h so_far
+ends BadLength prefix count i bytes total lt h so_far = fault_ends BadLength prefix count i bytes total lt h so_far
+ends NotIpv4 prefix count i bytes total lt h so_far = fault_ends NotIpv4 prefix count i bytes total lt h so_far
+ends NoMsgr2 prefix count i bytes total lt h so_far = fault_ends NoMsgr2 prefix count i bytes total lt h so_far
+ends TooMany prefix count i bytes total lt h so_far = fault_ends TooMany prefix count i bytes total lt h so_far
+ends NoMemory prefix count i bytes total lt h so_far = tt
 
-pub is_done : (front : List AnyAddr) (count i : ℕ) (bytes : List ℕ) (total : Result (List AnyAddr × List ℕ) AddrFault) → count ≤ i → with_front front (addresses_at (count - i) bytes) ≡ total → total ≡ Ok (front, bytes)
+pub is_done : (prefix : List AnyAddr) (count i : ℕ) (bytes : List ℕ) (total : Result (List AnyAddr × List ℕ) AddrFault) → count ≤ i → with_prefix prefix (addresses_at (count - i) bytes) ≡ total → total ≡ Ok (prefix, bytes)
 unfolding addresses_at
-is_done front count i bytes total le so_far =
+is_done prefix count i bytes total le so_far =
     let k : count - i ≡ 0 = omega arith in
-    let one : with_front front (addresses_at (count - i) bytes) ≡ Ok (front, bytes) = rw k (ap (λ (ns : List AnyAddr). let r : Result (List AnyAddr × List ℕ) AddrFault = Ok (ns, bytes) in r) (append-nil front)) in
+    let one : with_prefix prefix (addresses_at (count - i) bytes) ≡ Ok (prefix, bytes) = rw k (ap (λ (ns : List AnyAddr). let r : Result (List AnyAddr × List ℕ) AddrFault = Ok (ns, bytes) in r) (append-nil prefix)) in
     sym so_far ∙ one
 
 pub all_push : {A : Type 0} (P : A → Type 0) (xs : List A) (y : A) → AllByRecursion P xs → P y → AllByRecursion P (xs ++ y ∷ [])
@@ -178,7 +178,7 @@ one_kept a items sound is = rw is (record { few = omega arith; sound = (sound, t
 
 addresses_bare : (addrs : List AnyAddr) (text : List ℕ) → AreAddresses addrs text → bares addrs ≡ addrs
 addresses_bare [] text are = refl
-addresses_bare (a ∷ addrs) text (front, back, p, q, e) = ap (λ (x : AnyAddr). x ∷ bares addrs) (address_bare a front p) ∙ ap (λ (xs : List AnyAddr). a ∷ xs) (addresses_bare addrs back q)
+addresses_bare (a ∷ addrs) text (prefix, back, p, q, e) = ap (λ (x : AnyAddr). x ∷ bares addrs) (address_bare a prefix p) ∙ ap (λ (xs : List AnyAddr). a ∷ xs) (addresses_bare addrs back q)
 
 pub vector_bare : (addrs : List AnyAddr) (text : List ℕ) → IsVector addrs text → bares addrs ≡ addrs
-vector_bare addrs text (few, (back, (front, rest, p, q, e2), e1)) = addresses_bare addrs rest q
+vector_bare addrs text (few, (back, (prefix, rest, p, q, e2), e1)) = addresses_bare addrs rest q

@@ -5,7 +5,7 @@ use Rattle.std.specs.Int.{Width, w8, w16, w32, w64, byte_len, from_le_bytes, to_
 use Rattle.std.proofs.lemmas.Bool.{cases_lt, ltb-false, le-ltb, eqb-true, eq-eqb}
 use Rattle.std.proofs.lemmas.List.{take_at, drop_at, take-append-drop, length-append, length-take, get_or-drop, get_or-take, get_or_past}
 use Rattle.std.proofs.lemmas.Nat.{le_bytes_2, le_bytes_4, le_bytes_8, from_le_bytes-to_le_bytes_2, from_le_bytes-to_le_bytes_4, from_le_bytes-to_le_bytes_8}
-use Rattle.m2_addr.specs.Reading.{◌>>=◌, number, front, checked, marked, ◌⊳◌, made}
+use Rattle.m2_addr.specs.Reading.{◌>>=◌, number, prefix, checked, marked, ◌⊳◌, made}
 use Rattle.m2_addr.specs.Grammar.{IsBytes, ◌▹◌, IsByte, IsNumber, IsText, Marked}
 
 pub IsBytes-drop : (n : ℕ) (bytes : List ℕ) → IsBytes bytes → IsBytes (drop n bytes)
@@ -86,9 +86,9 @@ number_takes w wide short bytes n rest fits e =
     let long : byte_len w ≤ length bytes = ltb-false _ _ g.0 in
     let n-is : from_le_bytes w (take (byte_len w) bytes) ≡ n = ap (λ (p : ℕ × List ℕ). p.0) g.1 in
     let rest-is : drop (byte_len w) bytes ≡ rest = ap (λ (p : ℕ × List ℕ). p.1) g.1 in
-    let fits-front = IsBytes-take (byte_len w) bytes fits in
-    let front-is : to_le_bytes w n ≡ take (byte_len w) bytes = rw (← n-is) (wide.back (take (byte_len w) bytes) (omega (arith, length-take (byte_len w) bytes)) fits-front) in
-    record { text = to_le_bytes w n; parts = rw (front-is, ← rest-is) (sym (take-append-drop (byte_len w) bytes)); spelled = (refl, rw (← n-is) (wide.below (take (byte_len w) bytes) fits-front)); rest_fits = rw (← rest-is) (IsBytes-drop (byte_len w) bytes fits) }
+    let fits-prefix = IsBytes-take (byte_len w) bytes fits in
+    let prefix-is : to_le_bytes w n ≡ take (byte_len w) bytes = rw (← n-is) (wide.back (take (byte_len w) bytes) (omega (arith, length-take (byte_len w) bytes)) fits-prefix) in
+    record { text = to_le_bytes w n; parts = rw (prefix-is, ← rest-is) (sym (take-append-drop (byte_len w) bytes)); spelled = (refl, rw (← n-is) (wide.below (take (byte_len w) bytes) fits-prefix)); rest_fits = rw (← rest-is) (IsBytes-drop (byte_len w) bytes fits) }
 
 number_again : {F : Type 0} (w : Width) (wide : IsWide w) (short : F) (n : ℕ) (text rest : List ℕ) → IsNumber w n text → number w short (text ++ rest) ≡ Ok (n, rest)
 number_again w wide short n text rest spelled =
@@ -115,8 +115,8 @@ byte_takes short (b ∷ bytes) n rest fits e =
 pub byte_exact : {F : Type 0} (short : F) → IsExact (number w8 short) IsByte
 byte_exact {F = F} short = record { takes = byte_takes short; again = λ n text rest spelled. ap (λ (t : List ℕ). let r : Result (ℕ × List ℕ) F = number w8 short (t ++ rest) in r) spelled.0 ∙ byte_front short n rest }
 
-front_takes : {F : Type 0} (n : ℕ) (short : F) (bytes x rest : List ℕ) → IsBytes bytes → front n short bytes ≡ Ok (x, rest) → Took (λ y text. IsText y text × (length y ≡ n)) bytes x rest
-front_takes n short bytes x rest fits e =
+prefix_takes : {F : Type 0} (n : ℕ) (short : F) (bytes x rest : List ℕ) → IsBytes bytes → prefix n short bytes ≡ Ok (x, rest) → Took (λ y text. IsText y text × (length y ≡ n)) bytes x rest
+prefix_takes n short bytes x rest fits e =
     let g = guard_ok (ltb (length bytes) n) short (take n bytes, drop n bytes) (x, rest) e in
     let long : n ≤ length bytes = ltb-false _ _ g.0 in
     let x-is : take n bytes ≡ x = ap (λ (p : List ℕ × List ℕ). p.0) g.1 in
@@ -124,13 +124,13 @@ front_takes n short bytes x rest fits e =
     let len : length (take n bytes) ≡ n = omega (arith, length-take n bytes) in
     record { text = x; parts = rw (← x-is, ← rest-is) (sym (take-append-drop n bytes)); spelled = (refl, rw (← x-is) len); rest_fits = rw (← rest-is) (IsBytes-drop n bytes fits) }
 
-front_again : {F : Type 0} (n : ℕ) (short : F) (x text rest : List ℕ) → IsText x text × (length x ≡ n) → front n short (text ++ rest) ≡ Ok (x, rest)
-front_again n short x text rest spelled =
+prefix_again : {F : Type 0} (n : ℕ) (short : F) (x text rest : List ℕ) → IsText x text × (length x ≡ n) → prefix n short (text ++ rest) ≡ Ok (x, rest)
+prefix_again n short x text rest spelled =
     let long : ltb (length (x ++ rest)) n ≡ false = le-ltb _ _ (omega (arith, length-append x rest, spelled.1)) in
     rw (spelled.0, long, take_at x rest n spelled.1, drop_at x rest n spelled.1) refl
 
-pub front_exact : {F : Type 0} (n : ℕ) (short : F) → IsExact (front n short) (λ x text. IsText x text × (length x ≡ n))
-front_exact n short = record { takes = front_takes n short; again = front_again n short }
+pub prefix_exact : {F : Type 0} (n : ℕ) (short : F) → IsExact (prefix n short) (λ x text. IsText x text × (length x ≡ n))
+prefix_exact n short = record { takes = prefix_takes n short; again = prefix_again n short }
 
 -- ---- ways to put readers together
 
@@ -208,9 +208,9 @@ seq_exact {A = A} {B = B} {r = r} {S = S} {k = k} {T = T} first second = record 
       let parts : bytes ≡ (p.text ++ q.text) ++ b.0.1 = regroup bytes p.text a.0.1 q.text b.0.1 p.parts q.parts in
       let made : Took (λ (y : A × B). S y.0 ▹ T y.1) bytes (a.0.0, b.0.0) b.0.1 = record { text = p.text ++ q.text; parts = parts; spelled = (p.text, q.text, p.spelled, q.spelled, refl); rest_fits = q.rest_fits } in
       subst (λ (y : (A × B) × List ℕ). Took (λ (z : A × B). S z.0 ▹ T z.1) bytes y.0 y.1) (ok_is ((a.0.0, b.0.0), b.0.1) (x, rest) b.2) made;
-  again = λ x text rest (front, back, p, q, e).
-      let regrouped : text ++ rest ≡ front ++ (back ++ rest) = ap (λ (t : List ℕ). t ++ rest) e ∙ append_assoc front back rest in
-      let one : r (text ++ rest) ≡ Ok (x.0, back ++ rest) = ap r regrouped ∙ first.again x.0 front (back ++ rest) p in
+  again = λ x text rest (prefix, back, p, q, e).
+      let regrouped : text ++ rest ≡ prefix ++ (back ++ rest) = ap (λ (t : List ℕ). t ++ rest) e ∙ append_assoc prefix back rest in
+      let one : r (text ++ rest) ≡ Ok (x.0, back ++ rest) = ap r regrouped ∙ first.again x.0 prefix (back ++ rest) p in
       rw (one, second.again x.1 back rest q) refl;
 }
 

@@ -6,7 +6,8 @@ use Rattle.std.specs.declared.cmp.Ordering.{Ordering}
 use Rattle.std.specs.declared.cmp.Ordering.TheVariants.{Less, Equal, Greater}
 use Rattle.std.proofs.lemmas.Cmp.{nat_cmp_total, on_total, then_total, ranked}
 use Rattle.m2_addr.specs.declared.addr.Addr.{Addr}
-use Rattle.m2_addr.specs.Order.{address_cmp, IsOrdered}
+use Rattle.m2_addr.specs.Order.{address_cmp}
+use Rattle.m2_addr.specs.Laws.{AreOrdered}
 
 address_total : IsTotalOrder address_cmp
 address_total =
@@ -42,5 +43,5 @@ same_address a b h =
     let parts : address a.kind a.nonce a.ip a.port ≡ address b.kind b.nonce b.ip b.port = rw kind (rw nonce (rw ip (rw port refl))) in
     parts
 
-pub addresses_ordered : IsOrdered
+pub addresses_ordered : AreOrdered
 addresses_ordered = record { total = address_total; same = same_address }

@@ -10,11 +10,11 @@ use Rattle.m2_addr.specs.declared.addr.AnyAddr.TheVariants.{V4, Other}
 use Rattle.m2_addr.specs.declared.fault.AddrFault.{AddrFault}
 use Rattle.m2_addr.specs.declared.fault.AddrFault.TheVariants.{Short, BadMarker, BadLength, NotIpv4, NoMsgr2, TooMany, NoMemory}
 use Rattle.m2_bytes.specs.Blob.{Contents}
-use Rattle.m2_addr.specs.Reading.{◌>>=◌, front}
+use Rattle.m2_addr.specs.Reading.{◌>>=◌, prefix}
 use Rattle.m2_addr.specs.Grammar.{IsBytes, ◌▹◌, IsByte, IsNumber, IsText, Marked}
 use Rattle.m2_addr.specs.Addr.{Shape, IsShape, TakesShape, TakesAddress, IsSound, IsWellFormed, bare, any_text, head_text, text_of, is_ipv4, ipv4_of, seen, IsAddress, head_at, socket_at, body_at, body_of, shape_at, address_at, ipv4_at}
 use Rattle.m2_addr.specs.Outcome.{Fails, GivesFront}
-use Rattle.m2_addr.proofs.Exact.{bind_ok, ok_is, Took, IsExact, wide32, number_exact, byte_exact, front_exact, bind_exact, checked_exact, marked_exact, seq_exact, image_exact, same_exact}
+use Rattle.m2_addr.proofs.Exact.{bind_ok, ok_is, Took, IsExact, wide32, number_exact, byte_exact, prefix_exact, bind_exact, checked_exact, marked_exact, seq_exact, image_exact, same_exact}
 
 -- ---- tests
 
@@ -38,7 +38,7 @@ Socket s text = (n : ℕ) × ((λ t. IsNumber w32 n t × (not (eqb n 1) ≡ true
 
 socket_exact : IsExact socket_at Socket
 unfolding socket_at
-socket_exact = bind_exact {k = λ n. front n BadLength} (checked_exact (λ n. not (eqb n 1)) BadLength (number_exact w32 wide32 Short)) (λ n. front_exact n BadLength)
+socket_exact = bind_exact {k = λ n. prefix n BadLength} (checked_exact (λ n. not (eqb n 1)) BadLength (number_exact w32 wide32 Short)) (λ n. prefix_exact n BadLength)
 
 abbrev Body : ℕ × (ℕ × List ℕ) → List ℕ → Type 0
 Body b = IsNumber w32 b.0 ▹ (IsNumber w32 b.1.0 ▹ Socket b.1.1)
@@ -83,9 +83,9 @@ text_body : (kind nonce : ℕ) (socket : List ℕ) → kind < 2 ^ 32 → nonce <
 text_body kind nonce socket k n some small =
     (to_le_bytes w32 kind, to_le_bytes w32 nonce ++ (to_le_bytes w32 (length socket) ++ socket), (refl, k), (to_le_bytes w32 nonce, to_le_bytes w32 (length socket) ++ socket, (refl, n), (length socket, (to_le_bytes w32 (length socket), socket, ((refl, small), one_fails (length socket) some), (refl, refl), refl)), refl), refl)
 
--- the front of bytes is bytes
-fits_front : (bytes x rest text : List ℕ) → bytes ≡ text ++ rest → text ≡ x → IsBytes bytes → IsBytes x
-fits_front bytes x rest text parts is fits i =
+-- the prefix of bytes is bytes
+fits_prefix : (bytes x rest text : List ℕ) → bytes ≡ text ++ rest → text ≡ x → IsBytes bytes → IsBytes x
+fits_prefix bytes x rest text parts is fits i =
     elim (cases_lt i (length x)) [
       | inl lt ↦ let h : get_or (x ++ rest) i 0 ≡ get_or x i 0 = get_or_append_left x rest 0 i lt in rw (← h, ← is, ← parts) (fits i)
       | inr le ↦ rw (get_or_past x i 0 le) (omega arith)
@@ -94,21 +94,21 @@ fits_front bytes x rest text parts is fits i =
 joined : (bytes head left text r rest : List ℕ) (version n : ℕ) → bytes ≡ head ++ left → head ≡ 1 ∷ version ∷ 1 ∷ to_le_bytes w32 n → left ≡ text ++ rest → text ≡ r → length r ≡ n
     → bytes ≡ (1 ∷ version ∷ 1 ∷ to_le_bytes w32 (length r) ++ r) ++ rest
 joined bytes head left text r rest version n e1 e2 e3 e4 len =
-    let front : List ℕ = 1 ∷ version ∷ 1 ∷ to_le_bytes w32 n in
-    let one : bytes ≡ (front ++ r) ++ rest = e1 ∙ ap (λ (t : List ℕ). t ++ left) e2 ∙ ap (λ (t : List ℕ). front ++ t) (e3 ∙ ap (λ (t : List ℕ). t ++ rest) e4) ∙ sym (append_assoc front r rest) in
+    let prefix : List ℕ = 1 ∷ version ∷ 1 ∷ to_le_bytes w32 n in
+    let one : bytes ≡ (prefix ++ r) ++ rest = e1 ∙ ap (λ (t : List ℕ). t ++ left) e2 ∙ ap (λ (t : List ℕ). prefix ++ t) (e3 ∙ ap (λ (t : List ℕ). t ++ rest) e4) ∙ sym (append_assoc prefix r rest) in
     one ∙ ap (λ (m : ℕ). (1 ∷ version ∷ 1 ∷ to_le_bytes w32 m ++ r) ++ rest) (sym len)
 
 shape_takes : (bytes : List ℕ) (s : Shape) (rest : List ℕ) → IsBytes bytes → shape_at bytes ≡ Ok (s, rest) → Took IsShape bytes s rest
 unfolding shape_at body_of
 shape_takes bytes s rest fits e =
-    let a = bind_ok (head_at bytes) (λ head. front head.0.1 Short head.1 >>= λ r. body_of r.0 >>= λ body. Ok (record { version = head.0.0; rest = r.0; kind = body.0; nonce = body.1.0; socket = body.1.1 }, r.1)) (s, rest) e in
+    let a = bind_ok (head_at bytes) (λ head. prefix head.0.1 Short head.1 >>= λ r. body_of r.0 >>= λ body. Ok (record { version = head.0.0; rest = r.0; kind = body.0; nonce = body.1.0; socket = body.1.1 }, r.1)) (s, rest) e in
     let h = a.0.0 in
-    let b = bind_ok (front h.1 Short a.0.1) (λ r. body_of r.0 >>= λ body. Ok (record { version = h.0; rest = r.0; kind = body.0; nonce = body.1.0; socket = body.1.1 }, r.1)) (s, rest) a.2 in
+    let b = bind_ok (prefix h.1 Short a.0.1) (λ r. body_of r.0 >>= λ body. Ok (record { version = h.0; rest = r.0; kind = body.0; nonce = body.1.0; socket = body.1.1 }, r.1)) (s, rest) a.2 in
     let c = bind_ok (body_of b.0.0) (λ body. Ok (record { version = h.0; rest = b.0.0; kind = body.0; nonce = body.1.0; socket = body.1.1 }, b.0.1)) (s, rest) b.2 in
     let d = bind_ok (body_at b.0.0) (λ body. Ok body.0) c.0 c.1 in
     let p = head_exact.takes bytes h a.0.1 fits a.1 in
-    let q = (front_exact h.1 Short).takes a.0.1 b.0.0 b.0.1 p.rest_fits b.1 in
-    let rest_fits : IsBytes b.0.0 = λ i. fits_front a.0.1 b.0.0 b.0.1 q.text q.parts q.spelled.0 p.rest_fits i in
+    let q = (prefix_exact h.1 Short).takes a.0.1 b.0.0 b.0.1 p.rest_fits b.1 in
+    let rest_fits : IsBytes b.0.0 = λ i. fits_prefix a.0.1 b.0.0 b.0.1 q.text q.parts q.spelled.0 p.rest_fits i in
     let r = body_exact.takes b.0.0 d.0.0 d.0.1 rest_fits d.1 in
     let body-is : d.0.0 ≡ c.0 = ok_is {F = AddrFault} d.0.0 c.0 d.2 in
     let spelled : Body c.0 r.text = subst (λ (x : ℕ × (ℕ × List ℕ)). Body x r.text) body-is r.spelled in
@@ -127,7 +127,7 @@ shape_again s text rest is =
     let head : List ℕ = 1 ∷ s.version ∷ 1 ∷ to_le_bytes w32 (length s.rest) in
     let regrouped : text ++ rest ≡ head ++ (s.rest ++ rest) = ap (λ (t : List ℕ). t ++ rest) is.whole ∙ append_assoc head s.rest rest in
     let one : head_at (text ++ rest) ≡ Ok ((s.version, length s.rest), s.rest ++ rest) = ap head_at regrouped ∙ head_exact.again (s.version, length s.rest) head (s.rest ++ rest) (text_head s.version (length s.rest) is.version is.version_fits is.least is.most) in
-    let two : front (length s.rest) Short (s.rest ++ rest) ≡ Ok (s.rest, rest) = (front_exact (length s.rest) Short).again s.rest s.rest rest (refl, refl) in
+    let two : prefix (length s.rest) Short (s.rest ++ rest) ≡ Ok (s.rest, rest) = (prefix_exact (length s.rest) Short).again s.rest s.rest rest (refl, refl) in
     let long : length s.socket < 2 ^ 32 = omega (arith, is.most, ap length is.rest, length-append (to_le_bytes w32 s.kind) (to_le_bytes w32 s.nonce ++ (to_le_bytes w32 (length s.socket) ++ (s.socket ++ is.more))), length-append (to_le_bytes w32 s.nonce) (to_le_bytes w32 (length s.socket) ++ (s.socket ++ is.more)), length-append (to_le_bytes w32 (length s.socket)) (s.socket ++ is.more), length-append s.socket is.more) in
     let body : List ℕ = to_le_bytes w32 s.kind ++ (to_le_bytes w32 s.nonce ++ (to_le_bytes w32 (length s.socket) ++ s.socket)) in
     let split : s.rest ≡ body ++ is.more = is.rest ∙ sym (simp append_assoc) in

@@ -11,7 +11,7 @@ use Rattle.m2_addr.specs.declared.addr.AnyAddr.TheVariants.{V4, Other}
 use Rattle.m2_addr.specs.declared.reading.TheConstants.{LEAST_LENGTH, MOST_LENGTH}
 use Rattle.m2_addr.specs.declared.fault.AddrFault.{AddrFault}
 use Rattle.m2_addr.specs.declared.fault.AddrFault.TheVariants.{Short, BadMarker, BadLength, NotIpv4}
-use Rattle.m2_addr.specs.Reading.{◌>>=◌, number, front, checked, marked, ◌⊳◌, made}
+use Rattle.m2_addr.specs.Reading.{◌>>=◌, number, prefix, checked, marked, ◌⊳◌, made}
 
 -- ---- the text
 
@@ -117,7 +117,7 @@ head_at = marked 1 Short BadMarker (checked (λ v. not (v == 0)) BadMarker (numb
 
 -- the socket address with its length
 unfoldable pub socket_at : List ℕ → Result (List ℕ × List ℕ) AddrFault
-socket_at bytes = checked (λ n. not (n == 1)) BadLength (number w32 Short) bytes >>= λ n. front n.0 BadLength n.1
+socket_at bytes = checked (λ n. not (n == 1)) BadLength (number w32 Short) bytes >>= λ n. prefix n.0 BadLength n.1
 
 -- kind, nonce and socket address of a rest, and what is ignored
 abbrev pub body_at : List ℕ → Result ((ℕ × (ℕ × List ℕ)) × List ℕ) AddrFault
@@ -127,7 +127,7 @@ unfoldable pub body_of : List ℕ → Result (ℕ × (ℕ × List ℕ)) AddrFaul
 body_of bytes = body_at bytes >>= λ body. Ok body.0
 
 unfoldable pub shape_at : List ℕ → Result (Shape × List ℕ) AddrFault
-shape_at bytes = head_at bytes >>= λ head. front head.0.1 Short head.1 >>= λ rest. body_of rest.0 >>= λ body.
+shape_at bytes = head_at bytes >>= λ head. prefix head.0.1 Short head.1 >>= λ rest. body_of rest.0 >>= λ body.
     Ok (record { version = head.0.0; rest = rest.0; kind = body.0; nonce = body.1.0; socket = body.1.1 }, rest.1)
 
 abbrev pub address_at : List ℕ → Result (AnyAddr × List ℕ) AddrFault

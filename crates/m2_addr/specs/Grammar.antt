@@ -10,7 +10,7 @@ IsBytes bytes = (i : ℕ) → slice_index bytes i < 256
 -- a text of the one and then a text of the other
 infixr 20 ◌▹◌
 abbrev pub ◌▹◌ : (List ℕ → Type 0) → (List ℕ → Type 0) → List ℕ → Type 0
-(P ▹ Q) text = (front : List ℕ) × (back : List ℕ) × P front × Q back × (text ≡ front ++ back)
+(P ▹ Q) text = (prefix : List ℕ) × (back : List ℕ) × P prefix × Q back × (text ≡ prefix ++ back)
 
 -- no text
 abbrev pub Nothing : List ℕ → Type 0

@@ -5,3 +5,4 @@ pub mod Addr
 pub mod Shape
 pub mod Vector
 pub mod Order
+pub mod Laws

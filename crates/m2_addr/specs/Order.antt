@@ -1,9 +1,7 @@
 -- The order of addresses: by kind, then nonce, then ip, then port, as numbers. This project's profile.
-use Rattle.std.specs.Prelude.{◌≡◌, Bool}
-use Rattle.std.specs.Cmp.{IsTotalOrder}
+use Rattle.std.specs.Prelude.{Bool}
 use Rattle.std.specs.Ordering.{nat_cmp, ordering_then, is_lt}
 use Rattle.std.specs.declared.cmp.Ordering.{Ordering}
-use Rattle.std.specs.declared.cmp.Ordering.TheVariants.{Equal}
 use Rattle.m2_addr.specs.declared.addr.Addr.{Addr}
 
 abbrev pub address_cmp : Addr → Addr → Ordering
@@ -15,8 +13,3 @@ address_cmp a b =
 
 abbrev pub is_below : Addr → Addr → Bool
 is_below a b = is_lt (address_cmp a b)
-
--- Any two addresses can be compared, and none is neither below nor above another.
-pub record IsOrdered : Type 0 where
-  pub total : IsTotalOrder address_cmp
-  pub same : (a b : Addr) → address_cmp a b ≡ Equal → a ≡ b

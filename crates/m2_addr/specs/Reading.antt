@@ -13,8 +13,8 @@ abbrev pub number : {F : Type 0} → Width → F → List ℕ → Result (ℕ ×
 number w short bytes = if nat_lt (length bytes) (byte_len w) then Err short else Ok (from_le_bytes w (take (byte_len w) bytes), drop (byte_len w) bytes)
 
 -- n bytes; short where there are fewer
-abbrev pub front : {F : Type 0} → ℕ → F → List ℕ → Result (List ℕ × List ℕ) F
-front n short bytes = if nat_lt (length bytes) n then Err short else Ok (take n bytes, drop n bytes)
+abbrev pub prefix : {F : Type 0} → ℕ → F → List ℕ → Result (List ℕ × List ℕ) F
+prefix n short bytes = if nat_lt (length bytes) n then Err short else Ok (take n bytes, drop n bytes)
 
 -- a value that passes the test; the fault where it doesn't
 abbrev pub checked : {A F : Type 0} → (A → Bool) → F → (List ℕ → Result (A × List ℕ) F) → List ℕ → Result (A × List ℕ) F

@@ -1,7 +1,7 @@
 //! The address of an entity, and the order of addresses.
 
 ghost use Rattle.std.specs.Prelude.{◌≡◌};
-ghost use Rattle.m2_addr.specs.Order.{IsOrdered, address_cmp, is_below};
+ghost use Rattle.m2_addr.specs.Order.{address_cmp, is_below};
 
 use m2_bytes::Blob;
 use std::cmp::Ordering;
@@ -49,9 +49,3 @@ impl Addr {
         self < other
     }
 }
-
-/// The order of addresses is total: of two different ones exactly one is below the other.
-#[tactic(auto, using(crate::proofs::Order::addresses_ordered))]
-pub fn addresses_are_ordered()
-    ensures { IsOrdered }
-{}

@@ -12,12 +12,14 @@
 
 mod addr;
 mod fault;
+mod laws;
 mod reading;
 mod vector;
 mod writing;
 
-pub use addr::{Addr, AnyAddr, addresses_are_ordered};
+pub use addr::{Addr, AnyAddr};
 pub use fault::AddrFault;
+pub use laws::addresses_are_ordered;
 pub use reading::{LEAST_LENGTH, MOST_LENGTH, read_addr, read_v4};
 pub use vector::{AddrVec, MOST_ADDRESSES, read_main};
 pub use writing::write_addr;

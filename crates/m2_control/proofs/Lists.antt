@@ -25,37 +25,37 @@ too_few (suc n) bytes lt =
     ]
 
 -- what was read before, and what is still read
-abbrev pub with_front : List ℕ → Result (List ℕ × List ℕ) ControlFault → Result (List ℕ × List ℕ) ControlFault
-with_front before read = read >>= λ x. Ok (before ++ x.0, x.1)
+abbrev pub with_prefix : List ℕ → Result (List ℕ × List ℕ) ControlFault → Result (List ℕ × List ℕ) ControlFault
+with_prefix before read = read >>= λ x. Ok (before ++ x.0, x.1)
 
 abbrev put_before : ℕ → Result (List ℕ × List ℕ) ControlFault → Result (List ℕ × List ℕ) ControlFault
 put_before n read = made (λ x. x.0 ∷ x.1) ((λ bytes. Ok (n, bytes)) ⊳ (λ bytes. read)) []
 
-regroup : (before : List ℕ) (n : ℕ) (read : Result (List ℕ × List ℕ) ControlFault) → with_front before (put_before n read) ≡ with_front (before ++ n ∷ []) read
+regroup : (before : List ℕ) (n : ℕ) (read : Result (List ℕ × List ℕ) ControlFault) → with_prefix before (put_before n read) ≡ with_prefix (before ++ n ∷ []) read
 regroup before n (Ok x) = ap (λ (ns : List ℕ). let r : Result (List ℕ × List ℕ) ControlFault = Ok (ns, x.1) in r) (simp append_assoc)
 regroup before n (Err f) = refl
 
 pub goes_on : (before : List ℕ) (count i : ℕ) (bytes : List ℕ) (n : ℕ) (after : List ℕ) (total : Result (List ℕ × List ℕ) ControlFault) → i < count → number w32 Short bytes ≡ Ok (n, after)
-    → with_front before (numbers_at (count - i) bytes) ≡ total → with_front (before ++ n ∷ []) (numbers_at (count - (i + 1)) after) ≡ total
+    → with_prefix before (numbers_at (count - i) bytes) ≡ total → with_prefix (before ++ n ∷ []) (numbers_at (count - (i + 1)) after) ≡ total
 unfolding numbers_at
 goes_on before count i bytes n after total lt h so_far =
     let k : count - i ≡ suc (count - (i + 1)) = omega arith in
-    let one : with_front before (numbers_at (count - i) bytes) ≡ with_front (before ++ n ∷ []) (numbers_at (count - (i + 1)) after) = rw (k, h) (regroup before n (numbers_at (count - (i + 1)) after)) in
+    let one : with_prefix before (numbers_at (count - i) bytes) ≡ with_prefix (before ++ n ∷ []) (numbers_at (count - (i + 1)) after) = rw (k, h) (regroup before n (numbers_at (count - (i + 1)) after)) in
     sym one ∙ so_far
 
 pub ends : (before : List ℕ) (count i : ℕ) (bytes : List ℕ) (total : Result (List ℕ × List ℕ) ControlFault) → i < count → number w32 Short bytes ≡ Err Short
-    → with_front before (numbers_at (count - i) bytes) ≡ total → total ≡ Err Short
+    → with_prefix before (numbers_at (count - i) bytes) ≡ total → total ≡ Err Short
 unfolding numbers_at
 ends before count i bytes total lt h so_far =
     let k : count - i ≡ suc (count - (i + 1)) = omega arith in
-    let one : with_front before (numbers_at (count - i) bytes) ≡ Err Short = rw (k, h) refl in
+    let one : with_prefix before (numbers_at (count - i) bytes) ≡ Err Short = rw (k, h) refl in
     sym so_far ∙ one
 
-pub is_done : (before : List ℕ) (count i : ℕ) (bytes : List ℕ) (total : Result (List ℕ × List ℕ) ControlFault) → count ≤ i → with_front before (numbers_at (count - i) bytes) ≡ total → total ≡ Ok (before, bytes)
+pub is_done : (before : List ℕ) (count i : ℕ) (bytes : List ℕ) (total : Result (List ℕ × List ℕ) ControlFault) → count ≤ i → with_prefix before (numbers_at (count - i) bytes) ≡ total → total ≡ Ok (before, bytes)
 unfolding numbers_at
 is_done before count i bytes total le so_far =
     let k : count - i ≡ 0 = omega arith in
-    let one : with_front before (numbers_at (count - i) bytes) ≡ Ok (before, bytes) = rw k (ap (λ (ns : List ℕ). let r : Result (List ℕ × List ℕ) ControlFault = Ok (ns, bytes) in r) (append-nil before)) in
+    let one : with_prefix before (numbers_at (count - i) bytes) ≡ Ok (before, bytes) = rw k (ap (λ (ns : List ℕ). let r : Result (List ℕ × List ℕ) ControlFault = Ok (ns, bytes) in r) (append-nil before)) in
     sym so_far ∙ one
 
 pub words_length : (ns : List ℕ) → length (flat_map (to_le_bytes w32) ns) ≡ 4 * length ns

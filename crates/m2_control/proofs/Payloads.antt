@@ -9,9 +9,9 @@ use Rattle.m2_addr.specs.declared.addr.AnyAddr.{AnyAddr}
 use Rattle.m2_control.specs.declared.ident.Tail.{Tail}
 use Rattle.m2_addr.specs.declared.fault.AddrFault.{AddrFault}
 use Rattle.m2_addr.specs.declared.fault.AddrFault.TheVariants.{NoMsgr2}
-use Rattle.m2_addr.specs.Reading.{front, made}
+use Rattle.m2_addr.specs.Reading.{prefix, made}
 use Rattle.m2_addr.specs.Grammar.{IsBytes, ◌▹◌, IsByte, IsNumber, IsText}
-use Rattle.m2_addr.proofs.Exact.{bind_ok, test_ok, ok_is, Took, IsExact, IsWide, wide32, wide64, number_exact, byte_exact, front_exact, bind_exact, checked_exact, seq_exact, image_exact, made_exact, same_exact}
+use Rattle.m2_addr.proofs.Exact.{bind_ok, test_ok, ok_is, Took, IsExact, IsWide, wide32, wide64, number_exact, byte_exact, prefix_exact, bind_exact, checked_exact, seq_exact, image_exact, made_exact, same_exact}
 use Rattle.m2_addr.proofs.Shape.{address_exact, ipv4_exact, address_bare}
 use Rattle.m2_addr.proofs.Addresses.{vector_exact, vector_bare}
 use Rattle.m2_control.specs.declared.fault.ControlFault.{ControlFault}
@@ -82,11 +82,11 @@ abbrev Numbers : ℕ → List ℕ → List ℕ → Type 0
 Numbers n ns text = AreNumbers ns text × (length ns ≡ n)
 
 numbers_there : (n : ℕ) (ns text : List ℕ) → (x : ℕ × List ℕ) × (IsNumber w32 x.0 ▹ Numbers n x.1) text × (ns ≡ x.0 ∷ x.1) → Numbers (suc n) ns text
-numbers_there n ns text (x, (front, back, p, q, e), is) = rw is ((front, back, p, q.0, e), ap suc q.1)
+numbers_there n ns text (x, (prefix, back, p, q, e), is) = rw is ((prefix, back, p, q.0, e), ap suc q.1)
 
 numbers_back : (n : ℕ) (ns text : List ℕ) → Numbers (suc n) ns text → (x : ℕ × List ℕ) × (IsNumber w32 x.0 ▹ Numbers n x.1) text × (ns ≡ x.0 ∷ x.1)
 numbers_back n [] text (are, len) = absurd cc
-numbers_back n (m ∷ ns) text ((front, rest, p, q, e), len) = ((m, ns), (front, rest, p, (q, cc), e), refl)
+numbers_back n (m ∷ ns) text ((prefix, rest, p, q, e), len) = ((m, ns), (prefix, rest, p, (q, cc), e), refl)
 
 none : (ns text rest : List ℕ) → Numbers 0 ns text → (let r : Result (List ℕ × List ℕ) ControlFault = Ok ([], text ++ rest) in r) ≡ Ok (ns, rest)
 none [] text rest (are, len) = ap (λ (t : List ℕ). let r : Result (List ℕ × List ℕ) ControlFault = Ok ([], t ++ rest) in r) are
@@ -106,24 +106,24 @@ abbrev Counted : ℕ → ℕ → List ℕ → Type 0
 Counted most n text = IsNumber w32 n text × (leb n most ≡ true)
 
 list_there : (ns text : List ℕ) → (n : ℕ) × (Counted 64 n ▹ Numbers n ns) text → IsList ns text
-list_there ns text (n, (front, back, p, q, e)) = (rw q.1 (within n 64 p.1), (front, back, rw q.1 p.0, q.0, e))
+list_there ns text (n, (prefix, back, p, q, e)) = (rw q.1 (within n 64 p.1), (prefix, back, rw q.1 p.0, q.0, e))
 
 list_back : (ns text : List ℕ) → IsList ns text → (n : ℕ) × (Counted 64 n ▹ Numbers n ns) text
-list_back ns text (few, (front, back, p, q, e)) = (length ns, (front, back, (p, tests_within (length ns) 64 few), (q, refl), e))
+list_back ns text (few, (prefix, back, p, q, e)) = (length ns, (prefix, back, (p, tests_within (length ns) 64 few), (q, refl), e))
 
 list_exact : (field : ℕ) → IsExact (list_at field) IsList
 unfolding list_at
 list_exact field = same_exact IsList (bind_exact {k = numbers_at} (checked_exact (λ n. leb n 64) (BadValue field) (number_exact w32 wide32 Short)) numbers_exact) list_there list_back
 
 string_there : (bytes text : List ℕ) → (n : ℕ) × (Counted 4096 n ▹ (λ t. IsText bytes t × (length bytes ≡ n))) text → IsShortString bytes text
-string_there bytes text (n, (front, back, p, q, e)) = (rw q.1 (within n 4096 p.1), (front, back, rw q.1 p.0, q.0, e))
+string_there bytes text (n, (prefix, back, p, q, e)) = (rw q.1 (within n 4096 p.1), (prefix, back, rw q.1 p.0, q.0, e))
 
 string_back : (bytes text : List ℕ) → IsShortString bytes text → (n : ℕ) × (Counted 4096 n ▹ (λ t. IsText bytes t × (length bytes ≡ n))) text
-string_back bytes text (few, (front, back, p, q, e)) = (length bytes, (front, back, (p, tests_within (length bytes) 4096 few), (q, refl), e))
+string_back bytes text (few, (prefix, back, p, q, e)) = (length bytes, (prefix, back, (p, tests_within (length bytes) 4096 few), (q, refl), e))
 
 string_exact : (field : ℕ) → IsExact (string_at field) IsShortString
 unfolding string_at
-string_exact field = same_exact IsShortString (bind_exact {k = λ n. front n Short} (checked_exact (λ n. leb n 4096) (BadValue field) (number_exact w32 wide32 Short)) (λ n. front_exact n Short)) string_there string_back
+string_exact field = same_exact IsShortString (bind_exact {k = λ n. prefix n Short} (checked_exact (λ n. leb n 4096) (BadValue field) (number_exact w32 wide32 Short)) (λ n. prefix_exact n Short)) string_there string_back
 
 raise_ok : {A : Type 0} (r : Result A AddrFault) (x : A) → raise r ≡ Ok x → r ≡ Ok x
 raise_ok (Ok y) x e = let same : y ≡ x = ok_is {F = ControlFault} y x e in ap (λ (z : _). Ok z) same
@@ -175,7 +175,7 @@ auth_done_reads : Reads auth_done_at IsAuthDone bare_auth_done
 auth_done_reads = payload_reads make_auth_done auth_done_parts (λ a text s. refl) (seq_exact (number_exact w64 wide64 Short) (seq_exact (number_exact w32 wide32 Short) (string_exact 3)))
 
 auth_signature_reads : Reads auth_signature_at IsAuthSignature bare_auth_signature
-auth_signature_reads = payload_reads make_auth_signature auth_signature_parts (λ a text s. refl) (front_exact 32 Short)
+auth_signature_reads = payload_reads make_auth_signature auth_signature_parts (λ a text s. refl) (prefix_exact 32 Short)
 
 client_ident_same : (a : List AnyAddr × (Addr × (Tail))) (text : List ℕ) → IsMainVector a.0 text → client_ident_parts (make_client_ident a) ≡ a
 client_ident_same a text is = ap (λ (v : List AnyAddr). let z : List AnyAddr × (Addr × (Tail)) = (v, a.1) in z) (vector_bare a.0 text is.0)

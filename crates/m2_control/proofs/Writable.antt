@@ -13,7 +13,7 @@ bare_twice (V4 a) = refl
 bare_twice (Other b) = refl
 
 pub writable : (c : Control) (text : List ℕ) → Spells (bare c) text → IsWritable c
-writable (control.Hello p) text (front, back, _, is, _) = formed p.seen back (subst (λ (a : AnyAddr). address.IsAddress a back) (bare_twice p.seen) is)
+writable (control.Hello p) text (prefix, back, _, is, _) = formed p.seen back (subst (λ (a : AnyAddr). address.IsAddress a back) (bare_twice p.seen) is)
 writable (control.AuthRequest p) text (_, _, _, (_, _, modes, payload, _), _) = (modes.0, payload.0)
 writable (control.AuthBadMethod p) text (_, _, _, (_, _, _, (_, _, methods, modes, _), _), _) = (methods.0, modes.0)
 writable (control.AuthDone p) text (_, _, _, (_, _, _, payload, _), _) = payload.0

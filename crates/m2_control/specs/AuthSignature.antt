@@ -1,6 +1,6 @@
 -- The payload of AUTH_SIGNATURE: signature. Format: Ceph's msgr2 documentation; what is refused is this project's profile.
 use Rattle.std.specs.Prelude.{ℕ, List, Result}
-use Rattle.m2_addr.specs.Reading.{front, made}
+use Rattle.m2_addr.specs.Reading.{prefix, made}
 use Rattle.m2_control.specs.declared.auth_signature.AuthSignature.{AuthSignature}
 use Rattle.m2_control.specs.declared.fault.ControlFault.{ControlFault}
 use Rattle.m2_control.specs.declared.fault.ControlFault.TheVariants.{Short}
@@ -20,7 +20,7 @@ abbrev pub IsAuthSignature : AuthSignature → List ℕ → Type 0
 IsAuthSignature p = IsSignature p.signature.bytes
 
 abbrev pub auth_signature_at : List ℕ → Result (AuthSignature × List ℕ) ControlFault
-auth_signature_at = made make_auth_signature (front 32 Short)
+auth_signature_at = made make_auth_signature (prefix 32 Short)
 
 abbrev pub auth_signature_text : AuthSignature → List ℕ
 auth_signature_text p = p.signature.bytes

@@ -8,7 +8,7 @@ use Rattle.m2_addr.specs.declared.addr.AnyAddr.{AnyAddr}
 use Rattle.m2_addr.specs.declared.addr.AnyAddr.TheVariants.{V4}
 use Rattle.m2_addr.specs.declared.fault.AddrFault.{AddrFault}
 use Rattle.m2_addr.specs.declared.fault.AddrFault.TheVariants.{NoMsgr2}
-use Rattle.m2_addr.specs.Reading.{◌>>=◌, number, front, checked, ◌⊳◌, made}
+use Rattle.m2_addr.specs.Reading.{◌>>=◌, number, prefix, checked, ◌⊳◌, made}
 use Rattle.m2_addr.specs.Grammar.{◌▹◌, IsNumber, IsText, IsString}
 use Rattle.m2_addr.specs.Addr.{IsAddress}
 use Rattle.m2_addr.specs.Vector.{IsVector, vector_at, main_of}
@@ -87,7 +87,7 @@ unfoldable pub list_at : ℕ → List ℕ → Result (List ℕ × List ℕ) Cont
 list_at field bytes = checked (λ n. nat_le n MOST_LISTED) (BadValue field) (number w32 Short) bytes >>= λ n. numbers_at n.0 n.1
 
 unfoldable pub string_at : ℕ → List ℕ → Result (List ℕ × List ℕ) ControlFault
-string_at field bytes = checked (λ n. nat_le n MOST_BYTES) (BadValue field) (number w32 Short) bytes >>= λ n. front n.0 Short n.1
+string_at field bytes = checked (λ n. nat_le n MOST_BYTES) (BadValue field) (number w32 Short) bytes >>= λ n. prefix n.0 Short n.1
 
 -- a field of an address, its faults raised
 abbrev pub raise : {A : Type 0} → Result A AddrFault → Result A ControlFault

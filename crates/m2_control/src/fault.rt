@@ -72,7 +72,7 @@ impl<T: Drop> From<AllocFailed<T>> for ControlFault {
 }
 
 /// Want of memory stays want of memory.
-pub fn raised(fault: AddrFault) -> ControlFault
+pub(crate) fn raised(fault: AddrFault) -> ControlFault
     ensures { result ≡ raised_as fault }
 {
     match fault {

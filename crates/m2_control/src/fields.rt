@@ -6,7 +6,7 @@ ghost use Rattle.std.specs.Int.{w32, w64, to_le_bytes};
 ghost use Rattle.m2_bytes.specs.Blob.{Appends};
 ghost use Rattle.m2_addr.specs.Addr.{bare, address_at, ipv4_at};
 ghost use Rattle.m2_addr.specs.Vector.{bares, main_at};
-ghost use Rattle.m2_addr.specs.Reading.{front};
+ghost use Rattle.m2_addr.specs.Reading.{prefix};
 ghost use Rattle.m2_control.specs.declared.fault.ControlFault.TheVariants.{Short};
 ghost use Rattle.m2_control.specs.Outcome.{GivesFront, GivesRest};
 ghost use Rattle.m2_control.specs.Fields.{bounded_at, cookie_at, flag_at, numbers_at, list_at, string_at, lifted, vector_field, list_text, string_text};
@@ -108,7 +108,7 @@ pub(crate) fn string(alloc: Global, r: &mut Reader<'_>, field: u8) -> Result<Blo
 
 /// 32 bytes.
 pub(crate) fn signature(alloc: Global, r: &mut Reader<'_>) -> Result<Blob, ControlFault>
-    ensures { GivesRest (λ b. b.bytes) result r.new (front 32 Short r.old) }
+    ensures { GivesRest (λ b. b.bytes) result r.new (prefix 32 Short r.old) }
 {
     let bytes = r.take(32)?;
     Ok(Blob::of(alloc, bytes)?)

@@ -10,7 +10,7 @@ use m2_bytes::Reader;
 
 /// What stands behind the addresses of an ident.
 #[derive(Clone, Copy, Debug)]
-pub struct Tail {
+pub(crate) struct Tail {
     pub gid: i64,
     pub global: u64,
     pub supported: u64,
@@ -22,7 +22,7 @@ pub struct Tail {
 impl Tail {
     /// The fields, of which the first has this number.
     #[tactic(auto, unfolding(crate::specs::Ident::tail_at))]
-    pub fn read(r: &mut Reader<'_>, first: u8) -> Result<Tail, ControlFault>
+    pub(crate) fn read(r: &mut Reader<'_>, first: u8) -> Result<Tail, ControlFault>
         requires { first ≤ 3 }
         ensures { GivesFront (λ t. t) result r.new (tail_at first r.old) }
     {

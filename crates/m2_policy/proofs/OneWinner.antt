@@ -4,14 +4,15 @@ use Rattle.std.specs.Ordering.{ordering_reverse, is_lt}
 use Rattle.std.specs.declared.cmp.Ordering.{Ordering}
 use Rattle.std.specs.declared.cmp.Ordering.TheVariants.{Less, Equal, Greater}
 use Rattle.m2_addr.specs.declared.addr.Addr.{Addr}
-use Rattle.m2_addr.specs.Order.{address_cmp, IsOrdered}
-use Rattle.m2_policy.specs.Race.{OneWins}
+use Rattle.m2_addr.specs.Order.{address_cmp}
+use Rattle.m2_addr.proofs.Order.{addresses_ordered}
+use Rattle.m2_policy.specs.Laws.{OneWins}
 
 one_below : (o p : Ordering) → o ≡ ordering_reverse p → (o ≡ Equal → ⊥) → (is_lt o || false) ≡ not (is_lt p || false)
 one_below o Less h differ = rw h refl
 one_below o Equal h differ = absurd (differ h)
 one_below o Greater h differ = rw h refl
 
-pub one_winner : IsOrdered → OneWins
-one_winner ordered a b differ =
-    one_below (address_cmp a b) (address_cmp b a) (ordered.total.antisymm a b) (λ e. differ (ordered.same a b e))
+pub one_winner : OneWins
+one_winner a b differ =
+    one_below (address_cmp a b) (address_cmp b a) (addresses_ordered.total.antisymm a b) (λ e. differ (addresses_ordered.same a b e))

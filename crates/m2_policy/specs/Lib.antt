@@ -1,4 +1,5 @@
 pub mod Policy
 pub mod Race
+pub mod Laws
 pub mod Features
 pub mod Path

@@ -8,18 +8,20 @@ use std::marker::Model;
 /// A list of at most [`FastSet::MOST`] kinds. Contracts see the list. It takes no memory.
 #[derive(Debug, Drop)]
 pub struct FastSet {
-    kinds: [u16; 16],
+    kinds: [u16; FastSet::MOST],
     len: usize,
 }
 
 impl Model for FastSet {
     ghost use Rattle.std.specs.Prelude.{ℕ, ◌≤◌, List, take};
 
+    ghost use Rattle.m2_policy.specs.declared.fast_set.TheConstants.FastSet.{MOST};
+
     ghost Value = { List ℕ };
 
     ghost view = { λ s. take s.len s.kinds };
 
-    ghost invariant = { λ s. s.len ≤ 16 };
+    ghost invariant = { λ s. s.len ≤ MOST };
 }
 
 impl FastSet {
@@ -31,14 +33,14 @@ impl FastSet {
         ensures { result ≡ [] }
     {
         FastSet {
-            kinds: [0; 16],
+            kinds: [0; FastSet::MOST],
             len: 0,
         }
     }
 
     /// Puts the kind last. There must be room for it; [`len`](FastSet::len) tells.
     pub fn add(&mut self, kind: u16)
-        requires { length self.old < 16 }
+        requires { length self.old < Self.MOST }
         ensures { self.new ≡ self.old ++ kind ∷ [] }
     {
         self.kinds[self.len] = kind;
@@ -58,7 +60,7 @@ impl FastSet {
     /// How many kinds.
     pub fn len(&self) -> usize
         ensures value { result ≡ length self.now }
-        ensures most { length self.now ≤ 16 }
+        ensures most { length self.now ≤ Self.MOST }
     {
         self.len
     }

@@ -11,18 +11,3 @@ pub fn missing(required: u64, supported: u64) -> u64
 {
     required & !supported
 }
-
-#[cfg(test)]
-mod tests {
-    use super::*;
-    use std::test::Fail;
-
-    #[test]
-    fn bits_that_the_other_lacks(rt: HostRuntime) -> Result<(), Fail> {
-        assert_eq!(rt; missing(4, 3), 4);
-        assert_eq!(rt; missing(0b1101, 0b0111), 0b1000);
-        assert_eq!(rt; missing(0, 0), 0);
-        assert_eq!(rt; missing(u64::MAX, u64::MAX), 0);
-        Ok(())
-    }
-}

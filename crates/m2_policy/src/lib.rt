@@ -10,15 +10,17 @@
 
 mod fast_set;
 mod features;
+mod laws;
 mod path;
 mod policy;
 mod race;
 
 pub use fast_set::FastSet;
 pub use features::missing;
+pub use laws::one_wins;
 pub use path::{Key, Path};
 pub use policy::{
     Policy, is_allowed, lossless_client, lossless_peer, lossy_client, stateful_server,
     stateless_server,
 };
-pub use race::{one_wins, wins};
+pub use race::wins;

@@ -33,24 +33,3 @@ impl Path {
         }
     }
 }
-
-#[cfg(test)]
-mod tests {
-    use super::*;
-    use std::test::Fail;
-
-    #[test]
-    fn only_the_listed_kinds_are_fast(rt: HostRuntime) -> Result<(), Fail> {
-        let mut fast = FastSet::empty();
-        assert!(rt; fast.is_empty());
-        fast.add(1);
-        fast.add(7);
-        let fast = fast.copy();
-        assert_eq!(rt; fast.len(), 2);
-        assert_eq!(rt; Path::of(7, &fast), Path::Fast);
-        assert_eq!(rt; Path::of(2, &fast), Path::Queued);
-        // What lies past the kinds that were added isn't one of them.
-        assert_eq!(rt; Path::of(0, &fast), Path::Queued);
-        Ok(())
-    }
-}

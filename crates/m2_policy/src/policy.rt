@@ -94,23 +94,3 @@ fn is_pair(a: &Policy, b: &Policy) -> bool
         || (*a == lossless_client() && *b == stateful_server())
         || (*a == lossy_client() && *b == stateless_server())
 }
-
-#[cfg(test)]
-mod tests {
-    use super::*;
-    use std::test::Fail;
-
-    #[test]
-    fn pairs_of_a_link(rt: HostRuntime) -> Result<(), Fail> {
-        assert!(rt; is_allowed(&lossless_peer(), &lossless_peer()));
-        assert!(rt; is_allowed(&lossless_client(), &stateful_server()));
-        assert!(rt; is_allowed(&stateful_server(), &lossless_client()));
-        assert!(rt; is_allowed(&lossy_client(), &stateless_server()));
-        assert!(rt; is_allowed(&stateless_server(), &lossy_client()));
-        assert!(rt; !is_allowed(&stateful_server(), &stateful_server()));
-        assert!(rt; !is_allowed(&lossless_client(), &lossless_client()));
-        assert!(rt; !is_allowed(&lossless_peer(), &stateful_server()));
-        assert!(rt; !is_allowed(&lossy_client(), &stateful_server()));
-        Ok(())
-    }
-}

@@ -30,6 +30,3 @@ pub use laws::{
 };
 pub use session::{Phase, Session};
 pub use steps::{is_lawful, step};
-
-#[cfg(test)]
-mod tests;

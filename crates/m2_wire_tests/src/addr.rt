@@ -1,5 +1,7 @@
-use m2_addr::*;
-use m2_bytes::{Blob, Reader};
+//! Addresses as Ceph's encoding has them, and vectors near their bound.
+
+use m2_addr::{Addr, AddrFault, AddrVec, AnyAddr, read_addr, read_main, read_v4, write_addr};
+use m2_bytes::{Blob, NoMemory, Reader};
 use std::cmp::Ordering;
 use std::test::*;
 
@@ -58,10 +60,10 @@ fn each_changed_byte_gives_its_fault(rt: HostRuntime) {
 }
 
 #[test]
-fn each_front_is_short(rt: HostRuntime) {
+fn each_prefix_is_short(rt: HostRuntime) {
     for length in 0..35 {
-        let (front, _) = TEXT.split_at(length);
-        assert_eq!(rt; read_v4(&mut Reader::new(front)), Err(AddrFault::Short));
+        let (prefix, _) = TEXT.split_at(length);
+        assert_eq!(rt; read_v4(&mut Reader::new(prefix)), Err(AddrFault::Short));
     }
 }
 
@@ -124,32 +126,6 @@ fn a_vector_is_refused_by_its_head(rt: HostRuntime) {
 }
 
 #[test]
-fn addresses_are_ordered_by_kind_nonce_ip_port(rt: HostRuntime) {
-    let higher = [
-        Addr { port: 6801, ..ADDR },
-        Addr {
-            ip: 0x7f000002,
-            port: 0,
-            ..ADDR
-        },
-        Addr {
-            nonce: 8,
-            ip: 0,
-            ..ADDR
-        },
-        Addr {
-            kind: 3,
-            nonce: 0,
-            ..ADDR
-        },
-    ];
-    for a in higher {
-        assert!(rt; ADDR < a);
-        assert!(rt; a != ADDR);
-    }
-}
-
-#[test]
 fn addresses_are_ordered_by_kind_nonce_ip_and_port(rt: HostRuntime) {
     let low = Addr {
         kind: 1,
@@ -171,4 +147,40 @@ fn addresses_are_ordered_by_kind_nonce_ip_and_port(rt: HostRuntime) {
     assert!(rt; ADDR.is_below(&port));
     assert!(rt; !port.is_below(&ADDR));
     assert_eq!(rt; ADDR.compare(&ADDR), Ordering::Equal);
+}
+
+/// The head, and then the piece so often.
+fn repeated(rt: &HostRuntime, head: &[u8], piece: &[u8], times: u32) -> Result<Blob, NoMemory> {
+    let mut text = Blob::of(rt.alloc(), head)?;
+    for _ in 0..times {
+        text.push_all(piece)?;
+    }
+    Ok(text)
+}
+
+#[test]
+fn a_vector_of_64_addresses_is_read_and_written(rt: HostRuntime) -> Result<(), Fail> {
+    let text = repeated(&rt, &[2, 64, 0, 0, 0], &TEXT, 64)?;
+    let many = AddrVec::read(rt.alloc(), &mut Reader::new(text.as_slice()))?;
+    assert_eq!(rt; many.as_slice().len(), 64);
+    assert_eq!(rt; read_main(&mut Reader::new(text.as_slice())), Ok(ADDR));
+    let mut again = Blob::empty(rt.alloc());
+    many.write(&mut again)?;
+    assert_eq!(rt; again.as_slice(), text.as_slice());
+    let more = repeated(&rt, &[2, 65, 0, 0, 0], &TEXT, 65)?;
+    let fault = read_main(&mut Reader::new(more.as_slice()));
+    assert_eq!(rt; fault, Err(AddrFault::TooMany));
+    Ok(())
+}
+
+#[test]
+fn an_address_of_4096_bytes_is_kept_as_its_bytes(rt: HostRuntime) -> Result<(), Fail> {
+    let head = [1, 1, 1, 0, 16, 0, 0, 2, 0, 0, 0, 7, 0, 0, 0, 244, 15, 0, 0];
+    let text = repeated(&rt, &head, &[10, 0, 26, 144], 1021)?;
+    assert_eq!(rt; text.len(), 4103);
+    match read_addr(rt.alloc(), &mut Reader::new(text.as_slice()))? {
+        AnyAddr::V4(_) => panic!(rt; "no IPv4 address"),
+        AnyAddr::Other(bytes) => assert_eq!(rt; bytes.as_slice(), text.as_slice()),
+    }
+    Ok(())
 }

@@ -1,8 +1,13 @@
+//! Payloads and banners as Ceph's documentation has them, and payloads near their bounds.
+
 ghost use Rattle.std.specs.Prelude.{◌≤◌, ◌≢◌};
 
-use m2_control::*;
 use m2_addr::AddrFault;
-use m2_bytes::Blob;
+use m2_bytes::{Blob, NoMemory};
+use m2_control::{
+    Banner, BannerStep, Control, ControlFault, ServerFacts, read_banner, write_banner,
+};
+use m2_tag::Tag;
 use std::test::*;
 
 /// supported 1, required 1, as this project's profile writes it.
@@ -72,10 +77,10 @@ fn the_banner_is_written_and_read(rt: HostRuntime) -> Result<(), Fail> {
 }
 
 #[test]
-fn each_front_of_the_banner_is_not_yet(rt: HostRuntime) {
+fn each_prefix_of_the_banner_is_not_yet(rt: HostRuntime) {
     for length in 0..26 {
-        let (front, _) = BANNER.split_at(length);
-        assert_eq!(rt; read_banner(front), BannerStep::NotYet);
+        let (prefix, _) = BANNER.split_at(length);
+        assert_eq!(rt; read_banner(prefix), BannerStep::NotYet);
     }
 }
 
@@ -96,8 +101,8 @@ fn a_banner_is_refused_by_text_and_length(rt: HostRuntime) {
     for at in 0..8 {
         let mut text = BANNER;
         text[at] = 0;
-        let (front, _) = text.split_at(at + 1);
-        assert_eq!(rt; read_banner(front), BannerStep::BadBanner);
+        let (prefix, _) = text.split_at(at + 1);
+        assert_eq!(rt; read_banner(prefix), BannerStep::BadBanner);
     }
 }
 
@@ -184,20 +189,20 @@ fn each_payload_is_read_and_written_as_it_was(rt: HostRuntime) {
     assert!(rt; is_kept(&rt, 20, &[7, 0, 0, 0, 0, 0, 0, 0]));
 }
 
-/// Whether each front of the payload is too short: the bytes from the first up to the end are
+/// Whether each prefix of the payload is too short: the bytes from the first up to the end are
 /// addresses, and there it is the fault of an address.
-fn fronts_are_short(rt: &HostRuntime, tag: u8, payload: &[u8], first: usize, end: usize) -> bool
+fn prefixes_are_short(rt: &HostRuntime, tag: u8, payload: &[u8], first: usize, end: usize) -> bool
     requires known { (1 ≤ tag) × (tag ≤ 22) }
     requires control { tag ≢ 17 }
 {
     for length in 0..payload.len() {
-        let (front, _) = payload.split_at(length);
+        let (prefix, _) = payload.split_at(length);
         let short = if first <= length && length < end {
             ControlFault::Address(AddrFault::Short)
         } else {
             ControlFault::Short
         };
-        if fault_of(rt, tag, front) != Some(short) {
+        if fault_of(rt, tag, prefix) != Some(short) {
             return false;
         }
     }
@@ -205,17 +210,17 @@ fn fronts_are_short(rt: &HostRuntime, tag: u8, payload: &[u8], first: usize, end
 }
 
 #[test]
-fn each_front_of_a_payload_is_short(rt: HostRuntime) {
-    assert!(rt; fronts_are_short(&rt, 1, &HELLO, 1, 36));
-    assert!(rt; fronts_are_short(&rt, 2, &AUTH_REQUEST, 0, 0));
-    assert!(rt; fronts_are_short(&rt, 3, &AUTH_BAD_METHOD, 0, 0));
-    assert!(rt; fronts_are_short(&rt, 6, &AUTH_DONE, 0, 0));
-    assert!(rt; fronts_are_short(&rt, 8, &CLIENT_IDENT, 0, 75));
-    assert!(rt; fronts_are_short(&rt, 9, &SERVER_IDENT, 0, 40));
-    assert!(rt; fronts_are_short(&rt, 10, &[0; 8], 0, 0));
-    assert!(rt; fronts_are_short(&rt, 11, &SESSION_RECONNECT, 0, 40));
-    assert!(rt; fronts_are_short(&rt, 15, &[0; 8], 0, 0));
-    assert!(rt; fronts_are_short(&rt, 18, &[0; 8], 0, 0));
+fn each_prefix_of_a_payload_is_short(rt: HostRuntime) {
+    assert!(rt; prefixes_are_short(&rt, 1, &HELLO, 1, 36));
+    assert!(rt; prefixes_are_short(&rt, 2, &AUTH_REQUEST, 0, 0));
+    assert!(rt; prefixes_are_short(&rt, 3, &AUTH_BAD_METHOD, 0, 0));
+    assert!(rt; prefixes_are_short(&rt, 6, &AUTH_DONE, 0, 0));
+    assert!(rt; prefixes_are_short(&rt, 8, &CLIENT_IDENT, 0, 75));
+    assert!(rt; prefixes_are_short(&rt, 9, &SERVER_IDENT, 0, 40));
+    assert!(rt; prefixes_are_short(&rt, 10, &[0; 8], 0, 0));
+    assert!(rt; prefixes_are_short(&rt, 11, &SESSION_RECONNECT, 0, 40));
+    assert!(rt; prefixes_are_short(&rt, 15, &[0; 8], 0, 0));
+    assert!(rt; prefixes_are_short(&rt, 18, &[0; 8], 0, 0));
 }
 
 /// How many of some texts are read, and how many are refused with each fault.
@@ -244,11 +249,11 @@ fn counted(before: Tally, fault: Option<ControlFault>) -> Tally {
     after
 }
 
-/// The outcomes of the payload with each value of its byte between the front and the back.
+/// The outcomes of the payload with each value of its byte between the prefix and the back.
 fn outcomes_at(
     rt: &HostRuntime,
     tag: u8,
-    front: &[u8],
+    prefix: &[u8],
     back: &[u8],
     before: Tally,
 ) -> Result<Tally, Fail>
@@ -257,7 +262,7 @@ fn outcomes_at(
 {
     let mut outcomes = before;
     for byte in 0..=255 {
-        let mut text = Blob::of(rt.alloc(), front)?;
+        let mut text = Blob::of(rt.alloc(), prefix)?;
         text.push_all(&[byte])?;
         text.push_all(back)?;
         outcomes = counted(outcomes, fault_of(rt, tag, text.as_slice()));
@@ -280,9 +285,9 @@ fn outcomes(rt: &HostRuntime, tag: u8, payload: &[u8]) -> Result<[u32; 5], Fail>
         other: 0,
     };
     for at in 0..payload.len() {
-        let (front, rest) = payload.split_at(at);
+        let (prefix, rest) = payload.split_at(at);
         let (_, back) = rest.split_at(1);
-        sum = outcomes_at(rt, tag, front, back, sum)?;
+        sum = outcomes_at(rt, tag, prefix, back, sum)?;
     }
     Ok([sum.read, sum.short, sum.extra, sum.bad_value, sum.address])
 }
@@ -318,10 +323,71 @@ fn the_bounds_of_a_reconnect_hold(rt: HostRuntime) {
     let mut text = SESSION_RECONNECT;
     text[72] = 1;
     assert_eq!(rt; fault_of(&rt, 11, &text), bad(6));
-    let (front, _) = SESSION_RECONNECT.split_at(79);
-    assert_eq!(rt; fault_of(&rt, 11, front), Some(ControlFault::Short));
+    let (prefix, _) = SESSION_RECONNECT.split_at(79);
+    assert_eq!(rt; fault_of(&rt, 11, prefix), Some(ControlFault::Short));
     text[48] = 0;
     assert_eq!(rt; fault_of(&rt, 11, &text), bad(3));
     text[40] = 0;
     assert_eq!(rt; fault_of(&rt, 11, &text), bad(2));
+}
+
+/// The head, and then the piece so often.
+fn repeated(rt: &HostRuntime, head: &[u8], piece: &[u8], times: u32) -> Result<Blob, NoMemory> {
+    let mut text = Blob::of(rt.alloc(), head)?;
+    for _ in 0..times {
+        text.push_all(piece)?;
+    }
+    Ok(text)
+}
+
+#[test]
+fn lists_and_strings_near_their_bounds_are_read_and_written(rt: HostRuntime) -> Result<(), Fail> {
+    let mut request = repeated(&rt, &[1, 0, 0, 0, 64, 0, 0, 0], &[1, 2, 3, 4], 64)?;
+    request.push_all(repeated(&rt, &[0, 16, 0, 0], &[5], 4096)?.as_slice())?;
+    assert!(rt; is_kept(&rt, 2, request.as_slice()));
+    let mut refusal = repeated(&rt, &[2, 0, 0, 0, 161, 255, 255, 255], &[64, 0, 0, 0], 65)?;
+    refusal.push_all(repeated(&rt, &[64, 0, 0, 0], &[255, 255, 255, 255], 64)?.as_slice())?;
+    assert!(rt; is_kept(&rt, 3, refusal.as_slice()));
+    let done = repeated(
+        &rt,
+        &[9, 0, 0, 0, 0, 0, 0, 0, 1, 0, 0, 0, 0, 16, 0, 0],
+        &[8],
+        4096,
+    )?;
+    assert!(rt; is_kept(&rt, 6, done.as_slice()));
+    let long = repeated(
+        &rt,
+        &[9, 0, 0, 0, 0, 0, 0, 0, 1, 0, 0, 0, 1, 16, 0, 0],
+        &[8],
+        4097,
+    )?;
+    let bad = Some(ControlFault::BadValue { field: 3 });
+    assert_eq!(rt; fault_of(&rt, 6, long.as_slice()), bad);
+    Ok(())
+}
+
+#[test]
+fn an_ident_of_64_addresses_says_the_same_without_memory(rt: HostRuntime) -> Result<(), Fail> {
+    let (_, behind) = SERVER_IDENT.split_at(5);
+    let (address, tail) = behind.split_at(35);
+    let mut ident = repeated(&rt, &[2, 64, 0, 0, 0], address, 64)?;
+    ident.push_all(tail)?;
+    assert!(rt; is_kept(&rt, 9, ident.as_slice()));
+    let facts = ServerFacts::read(ident.as_slice())?;
+    assert_eq!(rt; ServerFacts::read(&SERVER_IDENT), Ok(facts));
+    assert_eq!(rt; (facts.main.nonce, facts.main.port), (7, 6800));
+    assert_eq!(rt; (facts.gid, facts.global, facts.supported), (5, 4, 1));
+    assert_eq!(rt; (facts.required, facts.flags, facts.cookie), (1, 1, 0));
+    Ok(())
+}
+
+#[test]
+fn payloads_without_lists_are_read_without_memory(rt: HostRuntime) {
+    let ok = Control::read_plain(Tag::SessionReconnectOk, &[44, 1, 0, 0, 0, 0, 0, 0]);
+    match ok {
+        Ok(Control::SessionReconnectOk(payload)) => assert_eq!(rt; payload.seen, 300),
+        _ => panic!(rt; "a reconnect that was accepted"),
+    }
+    let extra = Control::read_plain(Tag::Wait, &[0]).err();
+    assert_eq!(rt; extra, Some(ControlFault::Extra));
 }

@@ -5,7 +5,11 @@
 #![tactic(auto)]
 
 #[cfg(test)]
+mod addr;
+#[cfg(test)]
 mod bytes;
+#[cfg(test)]
+mod control;
 #[cfg(test)]
 mod crc;
 #[cfg(test)]

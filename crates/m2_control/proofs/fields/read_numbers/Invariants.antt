@@ -1,7 +1,7 @@
 use Rattle.std.proofs.Common.{◌≡◌, ◌-◌}
 use Rattle.m2_control.specs.Fields.{numbers_at}
-use Rattle.m2_control.proofs.Lists.{with_front}
+use Rattle.m2_control.proofs.Lists.{with_prefix}
 use Rattle.m2_control.proofs.fields.read_numbers.Given as goal
 
 abbrev pub invariant-numbers : goal.invariant-numbers
-invariant-numbers l = with_front l.numbers.items (numbers_at (l.count - l.counter) l.r) ≡ numbers_at l.count l.fn.r
+invariant-numbers l = with_prefix l.numbers.items (numbers_at (l.count - l.counter) l.r) ≡ numbers_at l.count l.fn.r

@@ -1,0 +1,12 @@
+//! Tests of the session's crates: tables as docs/PROTOCOL.md has them, and values from outside.
+//!
+//! What it is: a file for each crate. They stand apart from the crates, since a crate with tests is proved
+//! twice. What it isn't: what a clause says already.
+#![tactic(auto)]
+
+#[cfg(test)]
+mod answers;
+#[cfg(test)]
+mod policy;
+#[cfg(test)]
+mod session;

@@ -1,0 +1,61 @@
+//! Policies, races, features and paths.
+
+use m2_addr::Addr;
+use m2_policy::{
+    FastSet, Path, is_allowed, lossless_client, lossless_peer, lossy_client, missing,
+    stateful_server, stateless_server, wins,
+};
+
+#[test]
+fn bits_that_the_other_lacks(rt: HostRuntime) {
+    assert_eq!(rt; missing(4, 3), 4);
+    assert_eq!(rt; missing(0b1101, 0b0111), 0b1000);
+    assert_eq!(rt; missing(0, 0), 0);
+    assert_eq!(rt; missing(u64::MAX, u64::MAX), 0);
+}
+
+#[test]
+fn only_the_listed_kinds_are_fast(rt: HostRuntime) {
+    let mut fast = FastSet::empty();
+    assert!(rt; fast.is_empty());
+    fast.add(1);
+    fast.add(7);
+    let fast = fast.copy();
+    assert_eq!(rt; fast.len(), 2);
+    assert_eq!(rt; Path::of(7, &fast), Path::Fast);
+    assert_eq!(rt; Path::of(2, &fast), Path::Queued);
+    // What lies past the kinds that were added isn't one of them.
+    assert_eq!(rt; Path::of(0, &fast), Path::Queued);
+}
+
+#[test]
+fn pairs_of_a_link(rt: HostRuntime) {
+    assert!(rt; is_allowed(&lossless_peer(), &lossless_peer()));
+    assert!(rt; is_allowed(&lossless_client(), &stateful_server()));
+    assert!(rt; is_allowed(&stateful_server(), &lossless_client()));
+    assert!(rt; is_allowed(&lossy_client(), &stateless_server()));
+    assert!(rt; is_allowed(&stateless_server(), &lossy_client()));
+    assert!(rt; !is_allowed(&stateful_server(), &stateful_server()));
+    assert!(rt; !is_allowed(&lossless_client(), &lossless_client()));
+    assert!(rt; !is_allowed(&lossless_peer(), &stateful_server()));
+    assert!(rt; !is_allowed(&lossy_client(), &stateful_server()));
+}
+
+#[test]
+fn nonces_come_before_ports(rt: HostRuntime) {
+    let low = Addr {
+        kind: 2,
+        nonce: 1,
+        ip: 0x7f00_0001,
+        port: 7002,
+    };
+    let high = Addr {
+        nonce: 2,
+        port: 7001,
+        ..low
+    };
+    assert!(rt; wins(&low, &high, false));
+    assert!(rt; !wins(&high, &low, false));
+    assert!(rt; wins(&high, &low, true));
+    assert!(rt; !wins(&low, &low, false));
+}
