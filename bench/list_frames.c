@@ -1,5 +1,6 @@
 /* What `msgr2 frames FILE` does, in plain C, as a reference for its rate: reads the file in pieces of 64 KiB,
-   checks each checksum with the table of 256 words, and prints the same lines. It judges no more than that. */
+   checks each checksum and prints the same lines. It judges no more than that. The checksum goes a byte a step by
+   a table of 256 words, and with -DEIGHT eight bytes a step by eight of them. */
 #include <fcntl.h>
 #include <stdint.h>
 #include <stdio.h>
@@ -8,7 +9,7 @@
 
 enum { PIECE = 65536, PREAMBLE = 32, EPILOGUE = 13 };
 
-static uint32_t table[256];
+static uint32_t table[8][256];
 
 static const char *names[] = {
     "", "HELLO", "AUTH_REQUEST", "AUTH_BAD_METHOD", "AUTH_REPLY_MORE", "AUTH_REQUEST_MORE", "AUTH_DONE",
@@ -17,16 +18,28 @@ static const char *names[] = {
     "KEEPALIVE2", "KEEPALIVE2_ACK", "ACK", "COMPRESSION_REQUEST", "COMPRESSION_DONE",
 };
 
-static void make_table(void) {
+static void make_tables(void) {
     for (uint32_t i = 0; i < 256; i++) {
         uint32_t word = i;
         for (int k = 0; k < 8; k++) word = (word >> 1) ^ (word & 1 ? 0x82f63b78u : 0);
-        table[i] = word;
+        table[0][i] = word;
     }
+    for (int t = 1; t < 8; t++)
+        for (int i = 0; i < 256; i++) table[t][i] = (table[t - 1][i] >> 8) ^ table[0][table[t - 1][i] & 0xff];
 }
 
 static uint32_t crc32c(uint32_t crc, const uint8_t *bytes, size_t count) {
-    for (size_t i = 0; i < count; i++) crc = (crc >> 8) ^ table[(crc ^ bytes[i]) & 0xff];
+#ifdef EIGHT
+    for (; count >= 8; bytes += 8, count -= 8) {
+        uint64_t word;
+        memcpy(&word, bytes, 8);
+        word ^= crc;
+        crc = table[7][word & 0xff] ^ table[6][word >> 8 & 0xff] ^ table[5][word >> 16 & 0xff] ^
+              table[4][word >> 24 & 0xff] ^ table[3][word >> 32 & 0xff] ^ table[2][word >> 40 & 0xff] ^
+              table[1][word >> 48 & 0xff] ^ table[0][word >> 56];
+    }
+#endif
+    for (size_t i = 0; i < count; i++) crc = (crc >> 8) ^ table[0][(crc ^ bytes[i]) & 0xff];
     return crc;
 }
 
@@ -106,7 +119,7 @@ static int list_frame(void) {
 
 int main(int argc, char **argv) {
     if (argc != 2 || (file = open(argv[1], O_RDONLY)) < 0) return 1;
-    make_table();
+    make_tables();
     int answer;
     while ((answer = list_frame()) > 0) {
     }

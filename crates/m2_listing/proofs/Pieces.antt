@@ -1,6 +1,8 @@
 -- One more piece of the file listed, and the ends of a listing.
-use Rattle.std.proofs.Common.{◌≡◌, ℕ, ◌-◌, ◌<◌, ◌≤◌, List, [], ◌++◌, length, take, drop, Option, Some, None, refl, sym, ap, ◌∙◌, subst, arith, length-drop, append_assoc, false, true, IfSome}
+use Rattle.std.proofs.Common.{◌≡◌, ℕ, ◌+◌, ◌-◌, ◌<◌, ◌≤◌, List, [], ◌++◌, length, take, drop, Option, Some, None, Result, Ok, Err, refl, sym, ap, ◌∙◌, subst, arith, length-drop, append_assoc, IsTrue, IfSome, false}
 use Rattle.std.proofs.lemmas.List.{append-nil, length-append, nil_from_length, take-append-drop}
+use Rattle.std.specs.Result.{IsErrAnd}
+use Rattle.std.proofs.lemmas.Bool.{false≢true}
 use Rattle.std.proofs.Math.Seq.{take-append_seam, take-length}
 use Rattle.m2_edge.specs.Sink.{SeenSink}
 use Rattle.m2_edge.specs.Source.{SeenSource, IsPrefixOf, IsGivenFrom, IsAtStartOf}
@@ -9,8 +11,9 @@ use Rattle.m2_frame.specs.Decoder.{IsSameButRoom, fed}
 use Rattle.m2_frame.specs.Position.{Position}
 use Rattle.m2_frame.specs.Reading.{Item, start, judge}
 use Rattle.m2_frame.specs.Stream.{Splits}
-use Rattle.m2_listing.specs.Listing.{limit, IsAll, IsCutAtLimit, Listed, Lists, ListsPrefix, Fetches}
-use Rattle.m2_listing.specs.SoFar.{SoFar, EndsHere, FedTo}
+use Rattle.m2_listing.specs.Listing.{limit, IsAll, IsCutAtLimit, Listed, Broken, Lists, ListsPrefix}
+use Rattle.m2_listing.specs.Reading.{GivesMore, Fetches}
+use Rattle.m2_listing.specs.SoFar.{SoFar, EndsHere, FedTo, GoesOn}
 use Rattle.m2_listing.specs.declared.listing.Listing.{Listing}
 use Rattle.m2_listing.specs.declared.listing.Listing.TheVariants as listing
 use Rattle.m2_listing.specs.declared.reading.Piece.TheVariants as piece
@@ -59,11 +62,11 @@ at_fed bytes more old new before mid feeds l e =
     subst (λ (s : Position). Listed (bytes ++ more) s.rest s.place before mid) (sym e) (Listed-fed feeds bytes old.rest more old.place before mid l)
 
 -- all frames that are there are listed
-abbrev pub IsPassed : Option Listing → Position → Position → SeenSink → SeenSink → Type 0
+abbrev pub IsPassed : Result (Unit {0}) Listing → Position → Position → SeenSink → SeenSink → Type 0
 IsPassed end s new mid after = (bytes : List ℕ) (before : SeenSink) → Listed bytes s.rest s.place before mid → FedTo end bytes new before after
 
 pub SoFar-came : HasFed → (src src' : SeenSource) (room n : ℕ) (old s new : Position) (before mid after : SeenSink)
-    → SoFar src room old before mid → Fetches (piece.Came n) room old s src src' → IsPassed None s new mid after
+    → SoFar src room old before mid → Fetches (Ok (piece.Came n)) room old s src src' → IsPassed (Ok tt) s new mid after
     → SoFar src' (room - n) new before after
 SoFar-came feeds src src' room n old s new before mid after sofar f passes =
     let got = passes (src.given ++ f.0) before (at_fed src.given f.0 old s before mid feeds sofar.listed f.4) in
@@ -73,7 +76,7 @@ SoFar-came feeds src src' room n old s new before mid after sofar f passes =
       listed = subst (λ bytes. Listed bytes new.rest new.place before after) (sym f.5) got.1;
     }
 
-Lists-stopped : (end : Listing) (bytes : List ℕ) (src : SeenSource) (new : Position) (before after : SeenSink) → FedTo (Some end) bytes new before after
+Lists-stopped : (end : Listing) (bytes : List ℕ) (src : SeenSource) (new : Position) (before after : SeenSink) → FedTo (Err end) bytes new before after
     → IsPrefixOf bytes src.given → length bytes ≤ limit → Lists end src before after
 Lists-stopped (listing.Bad place f) bytes src new before after d prefix le =
     (bytes, new.rest, prefix, le, d.1, subst (λ p. Listed bytes new.rest p before after) (sym d.0) d.2)
@@ -85,7 +88,7 @@ Lists-stopped (listing.TooLong place) bytes src new before after d prefix le = a
 Lists-stopped listing.ReadFault bytes src new before after d prefix le = absurd d
 
 pub Lists-came : HasFed → (end : Listing) (src src' : SeenSource) (room n : ℕ) (old s new : Position) (before mid after : SeenSink)
-    → SoFar src room old before mid → Fetches (piece.Came n) room old s src src' → IsPassed (Some end) s new mid after → Lists end src' before after
+    → SoFar src room old before mid → Fetches (Ok (piece.Came n)) room old s src src' → IsPassed (Err end) s new mid after → Lists end src' before after
 Lists-came feeds end src src' room n old s new before mid after sofar f passes =
     let got = passes (src.given ++ f.0) before (at_fed src.given f.0 old s before mid feeds sofar.listed f.4) in
     Lists-stopped end (src.given ++ f.0) src' new before after got
@@ -93,7 +96,7 @@ Lists-came feeds end src src' room n old s new before mid after sofar f passes =
     (omega (arith, sofar.counted, length-append src.given f.0, f.1, f.3))
 
 pub Lists-beyond : HasFed → (src src' : SeenSource) (room place : ℕ) (old s new : Position) (before mid after : SeenSink)
-    → SoFar src room old before mid → Fetches piece.TooLong room old s src src' → IsPassed None s new mid after → place ≡ new.place
+    → SoFar src room old before mid → Fetches (Ok piece.TooLong) room old s src src' → IsPassed (Ok tt) s new mid after → place ≡ new.place
     → Lists (listing.TooLong place) src' before after
 Lists-beyond feeds src src' room place old s new before mid after sofar f passes e =
     let got = passes (src.given ++ f.0) before (at_fed src.given f.0 old s before mid feeds sofar.listed f.2) in
@@ -103,7 +106,7 @@ Lists-beyond feeds src src' room place old s new before mid after sofar f passes
     (src.given ++ f.0, new.rest, cut, got.0, subst (λ p. Listed (src.given ++ f.0) new.rest p before after) (sym e) got.1)
 
 pub Lists-beyond_stopped : HasFed → (end : Listing) (src src' : SeenSource) (room : ℕ) (old s new : Position) (before mid after : SeenSink)
-    → SoFar src room old before mid → Fetches piece.TooLong room old s src src' → IsPassed (Some end) s new mid after → Lists end src' before after
+    → SoFar src room old before mid → Fetches (Ok piece.TooLong) room old s src src' → IsPassed (Err end) s new mid after → Lists end src' before after
 Lists-beyond_stopped feeds end src src' room old s new before mid after sofar f passes =
     let got = passes (src.given ++ f.0) before (at_fed src.given f.0 old s before mid feeds sofar.listed f.2) in
     Lists-stopped end (src.given ++ f.0) src' new before after got
@@ -143,12 +146,27 @@ SoFar-begins src s out e begun =
 
 -- a source that has begun stands in its input
 pub stands_at_start : (name : List ℕ) (old new : SeenSource) → IsAtStartOf (old.inputs name) new → StandsIn name old new
-stands_at_start name old new fresh = record { begun = fresh.begun; gives = by_input new.begun }
+stands_at_start name old new at = record { begun = at.begun; gives = by_input new.begun }
   where
     by_input : (begun : Option (List ℕ)) → IfSome begun (λ input. IsGivenFrom input new)
     by_input None = tt
-    by_input (Some input) = record { prefix = (0, fresh.given); whole = λ ended. let never : false ≡ true = sym fresh.ended ∙ ended in absurd cc }
+    by_input (Some input) = record { prefix = (0, at.given); whole = λ ended. absurd (false≢true (sym at.ended ∙ ended)) }
 
 -- nothing was read of the file, and nothing was written
 pub Lists-nothing : (src : SeenSource) (out : SeenSink) → ListsPrefix src out out
 Lists-nothing src out = ([], (0, refl), record { items = []; rest = []; splits = refl; written = (0, Takes-nothing out) })
+
+-- how a listing ended is answered on
+pub GoesOn-ended : (r : Result ℕ Listing) (x : Listing) (src : SeenSource) (s : Position) (before after : SeenSink) → IsErrAnd r (λ e. e ≡ x) → Lists x src before after → GoesOn r src s before after
+GoesOn-ended (Ok n) x src s before after h l = absurd h
+GoesOn-ended (Err e) x src s before after h l = subst (λ y. Lists y src before after) (sym h) l
+
+-- nothing more was fed
+pub Lists-unfetched : (x : Listing) (src src' : SeenSource) (room : ℕ) (old new : Position) (before after : SeenSink) → Fetches (Err x) room old new src src' → SoFar src room old before after → Lists x src' before after
+Lists-unfetched listing.ReadFault src src' room old new before after f l = Lists-broken src src' [] room old before after l (f.1 ∙ sym (append-nil src.given))
+Lists-unfetched listing.NoMemory src src' room old new before after f l = Lists-broken src src' f.1.0 room old before after l f.1.1
+Lists-unfetched listing.WriteFault src src' room old new before after f l = absurd f
+Lists-unfetched listing.Whole src src' room old new before after f l = absurd f
+Lists-unfetched (listing.Bad place x) src src' room old new before after f l = absurd f
+Lists-unfetched (listing.Cut place) src src' room old new before after f l = absurd f
+Lists-unfetched (listing.TooLong place) src src' room old new before after f l = absurd f

@@ -4,19 +4,11 @@ use Rattle.std.specs.Prelude.{◌≡◌, ◌≢◌, ℕ, ◌+◌, ◌<◌, ◌�
 use Rattle.m2_edge.specs.Sink.{SeenSink, TakesBytes, TakesPrefix}
 use Rattle.m2_edge.specs.Source.{SeenSource, IsPrefixOf}
 use Rattle.m2_edge.specs.Faults.{HasRisen}
-use Rattle.m2_frame.specs.Position.{Position}
 use Rattle.m2_frame.specs.Reading.{Item, start, bad, judge}
 use Rattle.m2_frame.specs.Stream.{Splits}
-use Rattle.m2_frame.specs.Decoder.{IsSameButRoom, fed}
 use Rattle.m2_listing.specs.Lines.{lines_of}
 use Rattle.m2_listing.specs.declared.listing.Listing.{Listing}
 use Rattle.m2_listing.specs.declared.listing.Listing.TheVariants as listing
-use Rattle.m2_listing.specs.declared.passing.Passed.{Passed}
-use Rattle.m2_listing.specs.declared.passing.Passed.TheVariants as passed
-use Rattle.m2_listing.specs.declared.passing.Step.{Step}
-use Rattle.m2_listing.specs.declared.passing.Step.TheVariants as step
-use Rattle.m2_listing.specs.declared.reading.Piece.{Piece}
-use Rattle.m2_listing.specs.declared.reading.Piece.TheVariants as piece
 
 -- the most bytes that a listed file has
 abbrev pub limit : ℕ
@@ -78,37 +70,3 @@ abbrev pub IsFaultCause : Listing → ℕ → ℕ → ℕ → ℕ → Type 0
 IsFaultCause listing.ReadFault src src' out out' = HasRisen src src'
 IsFaultCause listing.WriteFault src src' out out' = HasRisen out out'
 IsFaultCause _ src src' out out' = Unit {0}
-
--- ---- one step, and all that can be passed
-
--- one answer of the decoder taken up
-abbrev pub StepsTo : Step → List ℕ → Position → SeenSink → SeenSink → Type 0
-StepsTo step.More bytes s before after = Listed bytes s.rest s.place before after
-StepsTo step.Open bytes s before after = (judge s.rest ≡ start) × Listed bytes s.rest s.place before after
-StepsTo (step.Bad f) bytes s before after = (judge s.rest ≡ bad f) × Listed bytes s.rest s.place before after
-StepsTo step.WriteFault bytes s before after = Broken bytes before after
-StepsTo step.NoMemory bytes s before after = Broken bytes before after
-
-abbrev pub PassesTo : Passed → List ℕ → Position → SeenSink → SeenSink → Type 0
-PassesTo passed.Open bytes s before after = (judge s.rest ≡ start) × Listed bytes s.rest s.place before after
-PassesTo (passed.Bad f) bytes s before after = (judge s.rest ≡ bad f) × Listed bytes s.rest s.place before after
-PassesTo passed.WriteFault bytes s before after = Broken bytes before after
-PassesTo passed.NoMemory bytes s before after = Broken bytes before after
-
--- ---- one piece of the file
-
--- one more read gave these bytes
-abbrev pub GivesMore : List ℕ → SeenSource → SeenSource → Type 0
-GivesMore bytes src src' = src'.given ≡ src.given ++ bytes
-
--- A piece of at most `most` bytes came and was fed; or the end was found; or more than `most` came, of which the
--- first were fed. ReadFault: nothing came. NoMemory: what came wasn't fed.
-abbrev pub Fetches : Piece → ℕ → Position → Position → SeenSource → SeenSource → Type 0
-Fetches (piece.Came n) most old new src src' =
-    (bytes : List ℕ) × (length bytes ≡ n) × (0 < n) × (n ≤ most) × IsSameButRoom (fed old bytes) new × GivesMore bytes src src'
-Fetches piece.End most old new src src' = (new ≡ old) × (src'.given ≡ src.given) × IsTrue src'.ended
-Fetches piece.TooLong most old new src src' =
-    (bytes : List ℕ) × (length bytes ≡ most) × IsSameButRoom (fed old bytes) new
-    × ((got : List ℕ) × (length bytes < length got) × (bytes ≡ take (length bytes) got) × GivesMore got src src')
-Fetches piece.ReadFault most old new src src' = (new ≡ old) × (src'.given ≡ src.given)
-Fetches piece.NoMemory most old new src src' = IsSameButRoom old new × ((got : List ℕ) × GivesMore got src src')

@@ -1,5 +1,5 @@
 -- A listing in the middle of its file: what was read, listed and written so far.
-use Rattle.std.specs.Prelude.{◌≡◌, ◌≢◌, ℕ, ◌+◌, List, length, Option, Some, None, Result, Ok, Err}
+use Rattle.std.specs.Prelude.{◌≡◌, ◌≢◌, ℕ, ◌+◌, List, length, Result, Ok, Err}
 use Rattle.m2_edge.specs.Faults.{HasRisen}
 use Rattle.m2_edge.specs.Sink.{SeenSink}
 use Rattle.m2_edge.specs.Source.{SeenSource}
@@ -30,15 +30,15 @@ EndsHere listing.Whole s room = s.place + room ≡ limit
 EndsHere (listing.Cut place) s room = (place ≡ s.place) × (s.place + room ≢ limit)
 EndsHere _ s room = ⊥
 
-abbrev pub IsFedCause : Option Listing → ℕ → ℕ → Type 0
-IsFedCause (Some listing.WriteFault) old new = HasRisen old new
-IsFedCause (Some listing.ReadFault) old new = ⊥
+abbrev pub IsFedCause : Result (Unit {0}) Listing → ℕ → ℕ → Type 0
+IsFedCause (Err listing.WriteFault) old new = HasRisen old new
+IsFedCause (Err listing.ReadFault) old new = ⊥
 IsFedCause _ old new = Unit {0}
 
--- what was fed is listed, and a start is left; or the listing ends
-abbrev pub FedTo : Option Listing → List ℕ → Position → SeenSink → SeenSink → Type 0
-FedTo None bytes s before after = (judge s.rest ≡ start) × Listed bytes s.rest s.place before after
-FedTo (Some (listing.Bad place f)) bytes s before after = (place ≡ s.place) × (judge s.rest ≡ bad f) × Listed bytes s.rest s.place before after
-FedTo (Some listing.WriteFault) bytes s before after = Broken bytes before after
-FedTo (Some listing.NoMemory) bytes s before after = Broken bytes before after
-FedTo (Some _) bytes s before after = ⊥
+-- what was fed is listed and its lines are written, and a start is left; or the listing ends
+abbrev pub FedTo : Result (Unit {0}) Listing → List ℕ → Position → SeenSink → SeenSink → Type 0
+FedTo (Ok _) bytes s before after = (judge s.rest ≡ start) × Listed bytes s.rest s.place before after
+FedTo (Err (listing.Bad place f)) bytes s before after = (place ≡ s.place) × (judge s.rest ≡ bad f) × Listed bytes s.rest s.place before after
+FedTo (Err listing.WriteFault) bytes s before after = Broken bytes before after
+FedTo (Err listing.NoMemory) bytes s before after = Broken bytes before after
+FedTo (Err _) bytes s before after = ⊥

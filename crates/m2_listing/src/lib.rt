@@ -7,11 +7,7 @@
 
 mod lines;
 mod listing;
-mod names;
 mod passing;
 mod reading;
 
 pub use listing::{LIMIT, Listing, list_frames};
-
-#[cfg(test)]
-mod tests;

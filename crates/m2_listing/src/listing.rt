@@ -1,16 +1,17 @@
 //! The frames of a file, listed.
 
-ghost use Rattle.std.specs.Prelude.{◌≡◌, ℕ, ◌<◌, ◌≤◌, ◌⊎◌, List, IfOk};
+ghost use Rattle.std.specs.Prelude.{◌≡◌, ℕ, ◌<◌, ◌≤◌, ◌⊎◌, List, [], ◌++◌, IfOk, OnOk};
 ghost use Rattle.m2_edge.specs.Sink.{SeenSink};
 ghost use Rattle.m2_edge.specs.Source.{GivesItsInput, IsWhereItWas};
 ghost use Rattle.m2_edge.specs.Whole.{StandsIn};
 ghost use Rattle.m2_listing.specs.Listing.{Listed, Lists, IsFaultCause};
+ghost use Rattle.m2_listing.specs.Passing.{PutsOut, IsPutCause};
 ghost use Rattle.m2_listing.specs.SoFar.{SoFar, GoesOn, IsEndCause, EndsHere, IsFedCause, FedTo};
 
-use crate::passing::{Passed, pass_frames};
-use crate::reading::{Piece, fetch};
-use m2_bytes::Blob;
-use m2_edge::{Failed, Sink, Source};
+use crate::passing::{Lines, pass_frames};
+use crate::reading::{PIECE, Piece, fetch};
+use m2_bytes::NoMemory;
+use m2_edge::{Failed, Sink, Source, write_whole};
 use m2_frame::{Decoder, FrameFault, one_reading};
 use std::alloc::Global;
 
@@ -36,6 +37,17 @@ pub enum Listing {
     NoMemory,
 }
 
+impl From<NoMemory> for Listing {
+    ghost use Rattle.std.specs.Prelude.{◌≡◌};
+    ghost use Rattle.m2_listing.specs.declared.listing.Listing.TheVariants as listing;
+
+    ghost from_gives = { λ _ e. e ≡ listing.NoMemory };
+
+    fn from(_e: NoMemory) -> Listing {
+        Listing::NoMemory
+    }
+}
+
 /// What the end of the file says: nothing may follow the last whole frame.
 fn at_end(decoder: &Decoder, room: usize) -> Listing
     requires { room ≤ 1073741824 }
@@ -48,32 +60,49 @@ fn at_end(decoder: &Decoder, room: usize) -> Listing
     }
 }
 
-/// Lists what was fed last; none where a start is left.
-fn list_fed<O: Sink>(decoder: &mut Decoder, line: &mut Blob, out: &mut O) -> Option<Listing>
+/// Writes the lines that wait, all at once.
+fn put_out<O: Sink>(out: &mut O, lines: &mut Lines) -> Result<(), Listing>
+    ensures causes { (O.seen out.old).faults ≤ (O.seen out.new).faults }
+    ensures caused { IsPutCause result (O.seen out.old).faults (O.seen out.new).faults }
+    ensures written { PutsOut result lines.old.waiting.bytes (O.seen out.old) (O.seen out.new) }
+    ensures empty { OnOk result (lines.new.waiting.bytes ≡ []) }
+{
+    match write_whole(out, lines.waiting.as_slice()) {
+        Ok(()) => {
+            lines.waiting.clear();
+            Ok(())
+        }
+        Err(Failed) => Err(Listing::WriteFault),
+    }
+}
+
+/// Lists what was fed last, as far as a rest that is a start, and writes the lines.
+fn list_fed<O: Sink>(decoder: &mut Decoder, lines: &mut Lines, out: &mut O) -> Result<(), Listing>
+    requires { lines.old.waiting.bytes ≡ [] }
     ensures causes { (O.seen out.old).faults ≤ (O.seen out.new).faults }
     ensures caused { IsFedCause result (O.seen out.old).faults (O.seen out.new).faults }
+    ensures empty { OnOk result (lines.new.waiting.bytes ≡ []) }
     ensures passes { (bytes : List ℕ) (before : SeenSink) →
         Listed bytes decoder.old.rest decoder.old.place before (O.seen out.old) → FedTo result bytes decoder.new before (O.seen out.new) }
 {
-    match pass_frames(decoder, line, out) {
-        Passed::Open => None,
-        Passed::Bad(f) => Some(Listing::Bad(decoder.place(), f)),
-        Passed::WriteFault => Some(Listing::WriteFault),
-        Passed::NoMemory => Some(Listing::NoMemory),
-    }
+    let passed = pass_frames(decoder, lines);
+    put_out(out, lines)?;
+    passed
 }
 
 /// Reads a piece where `room` more bytes may come, and lists it: the room that is then left, or how
 /// the listing ended.
 fn list_piece<S: Source, O: Sink>(
     src: &mut S,
+    buffer: &mut [u8; PIECE],
     decoder: &mut Decoder,
-    line: &mut Blob,
+    lines: &mut Lines,
     out: &mut O,
     room: usize,
 ) -> Result<usize, Listing>
     requires room { room ≤ 1073741824 }
     requires known { GivesItsInput (S.seen src.old) }
+    requires written { lines.old.waiting.bytes ≡ [] }
     ensures read_causes { (S.seen src.old).faults ≤ (S.seen src.new).faults }
     ensures write_causes { (O.seen out.old).faults ≤ (O.seen out.new).faults }
     ensures caused { IsEndCause result (S.seen src.old).faults (S.seen src.new).faults (O.seen out.old).faults (O.seen out.new).faults }
@@ -81,28 +110,29 @@ fn list_piece<S: Source, O: Sink>(
     ensures smaller { IfOk result (λ left. left < room) }
     ensures begun { (S.seen src.new).begun ≡ (S.seen src.old).begun }
     ensures known { GivesItsInput (S.seen src.new) }
+    ensures written { OnOk result (lines.new.waiting.bytes ≡ []) }
     ensures goes { (before : SeenSink) → SoFar (S.seen src.old) room decoder.old before (O.seen out.old)
         → GoesOn result (S.seen src.new) decoder.new before (O.seen out.new) }
 {
     one_reading();
-    match fetch(src, decoder, room) {
-        Piece::Came(n) => match list_fed(decoder, line, out) {
-            None => Ok(room - n),
-            Some(end) => Err(end),
-        },
-        Piece::TooLong => match list_fed(decoder, line, out) {
-            None => Err(Listing::TooLong(decoder.place())),
-            Some(end) => Err(end),
-        },
+    let piece = fetch(src, buffer, decoder, room)?;
+    match piece {
+        Piece::Came(n) => {
+            list_fed(decoder, lines, out)?;
+            Ok(room - n)
+        }
+        Piece::TooLong => {
+            list_fed(decoder, lines, out)?;
+            Err(Listing::TooLong(decoder.place()))
+        }
         Piece::End => Err(at_end(decoder, room)),
-        Piece::ReadFault => Err(Listing::ReadFault),
-        Piece::NoMemory => Err(Listing::NoMemory),
     }
 }
 
 /// Lists the frames of the file of that name: a line on `out` for each.
 ///
-/// The file is read in pieces and never held whole.
+/// The file is read in pieces and never held whole. The lines of a piece are written at once, before the
+/// next is read.
 pub fn list_frames<S: Source, O: Sink>(
     alloc: Global,
     name: &str,
@@ -121,10 +151,11 @@ pub fn list_frames<S: Source, O: Sink>(
         Err(Failed) => return Listing::ReadFault,
     }
     let mut decoder = Decoder::new(alloc);
-    let mut line = Blob::empty(alloc);
+    let mut lines = Lines::none(alloc);
+    let mut buffer = [0u8; PIECE];
     let mut room = LIMIT;
     'pieces: loop {
-        match list_piece(src, &mut decoder, &mut line, out, room) {
+        match list_piece(src, &mut buffer, &mut decoder, &mut lines, out, room) {
             Ok(left) => room = left,
             Err(end) => return end,
         }

@@ -2,32 +2,34 @@
 
 ghost use Rattle.std.specs.Prelude.{◌≡◌, ◌+◌, ◌<◌, ◌≤◌, ◌^◌, length};
 ghost use Rattle.m2_edge.specs.Source.{GivesItsInput};
-ghost use Rattle.m2_listing.specs.Listing.{Fetches};
-ghost use Rattle.m2_listing.specs.Reading.{IsPieceCause};
+ghost use Rattle.m2_listing.specs.Reading.{Fetches, IsPieceCause};
 
-use m2_bytes::NoMemory;
+use crate::listing::Listing;
 use m2_edge::{Failed, Source};
 use m2_frame::Decoder;
 
 /// How many bytes a read asks for.
-const PIECE: usize = 65_536;
+pub(crate) const PIECE: usize = 65_536;
 
 /// What a read gave.
 #[derive(Clone, Copy, Debug, PartialEq, Eq)]
-pub enum Piece {
+pub(crate) enum Piece {
     /// So many bytes came, and were fed.
     Came(usize),
     /// The file is at its end.
     End,
     /// The file goes on beyond what may come; what may come was fed.
     TooLong,
-    ReadFault,
-    NoMemory,
 }
 
 /// Reads the next piece of at most `most` bytes, and one more where the piece is large enough, and
-/// feeds it.
-pub fn fetch<S: Source>(src: &mut S, decoder: &mut Decoder, most: usize) -> Piece
+/// feeds it. The buffer is only where the bytes lie between.
+pub(crate) fn fetch<S: Source>(
+    src: &mut S,
+    buffer: &mut [u8; PIECE],
+    decoder: &mut Decoder,
+    most: usize,
+) -> Result<Piece, Listing>
     requires most { most < 2 ^ 40 }
     requires known { GivesItsInput (S.seen src.old) }
     ensures causes { (S.seen src.old).faults ≤ (S.seen src.new).faults }
@@ -37,22 +39,19 @@ pub fn fetch<S: Source>(src: &mut S, decoder: &mut Decoder, most: usize) -> Piec
     ensures known { GivesItsInput (S.seen src.new) }
     ensures fetches { Fetches result most decoder.old decoder.new (S.seen src.old) (S.seen src.new) }
 {
-    let mut buffer = [0u8; PIECE];
     let room = (most + 1).min(PIECE);
     let n = match src.read(&mut buffer[..room]) {
         Ok(n) => n,
-        Err(Failed) => return Piece::ReadFault,
+        Err(Failed) => return Err(Listing::ReadFault),
     };
     if n == 0 {
-        return Piece::End;
+        return Ok(Piece::End);
     }
     let (came, _) = buffer.split_at(n.min(most));
-    if decoder.feed(came) == Err(NoMemory) {
-        return Piece::NoMemory;
-    }
+    decoder.feed(came)?;
     if n > most {
-        Piece::TooLong
+        Ok(Piece::TooLong)
     } else {
-        Piece::Came(n)
+        Ok(Piece::Came(n))
     }
 }

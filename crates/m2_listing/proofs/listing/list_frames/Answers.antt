@@ -9,6 +9,7 @@ pub pieces-init : goal.pieces-init
 pieces-init g c =
     let start = c.in-Ok.ensures.begins in
     record {
+      written = c.none-lines.ensures;
       room = omega arith;
       read_rises = c.begin.ensures.causes.never_falls;
       write_rises = omega arith;
@@ -19,6 +20,7 @@ pieces-init g c =
 
 pub pieces-preserved : goal.pieces-preserved
 pieces-preserved g c = record {
+  written = c.in-Ok-list_piece.ensures.written;
   room = omega (arith, c.in-Ok-list_piece.ensures.smaller, c.pieces.invariant.room);
   read_rises = omega (arith, c.list_piece.ensures.read_causes, c.pieces.invariant.read_rises);
   write_rises = omega (arith, c.list_piece.ensures.write_causes, c.pieces.invariant.write_rises);

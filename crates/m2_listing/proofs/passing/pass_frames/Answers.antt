@@ -1,7 +1,11 @@
+use Rattle.std.proofs.Common.{Ok, subst}
+use Rattle.m2_listing.specs.Passing.{StepsTo, with_taken}
 use Rattle.m2_listing.proofs.passing.pass_frames.Goals as goal
 
-pub returns-in-Open-clause-passes : goal.returns-in-Open-clause-passes
-returns-in-Open-clause-passes g c = λ bytes before l. c.in-Open.ensures.passes bytes before (c.frames.invariant.listed bytes before l)
-
-pub returns-in-Bad-clause-passes : goal.returns-in-Bad-clause-passes
-returns-in-Bad-clause-passes g c = λ bytes before l. c.in-Bad.ensures.passes bytes before (c.frames.invariant.listed bytes before l)
+pub returns-then-not-more : goal.returns-then-not-more
+returns-then-not-more c = record {
+  ends = tt;
+  passes = λ bytes before s l.
+      subst (λ more. StepsTo (Ok more) bytes c.pass_one.new.decoder before (with_taken s c.pass_one.new.lines.waiting.bytes)) c.if-not-more.true
+      (c.in_ok-more.ensures.passes bytes before s (c.frames.invariant bytes before s l));
+}
