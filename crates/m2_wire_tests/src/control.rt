@@ -1,8 +1,8 @@
 ghost use Rattle.std.specs.Prelude.{◌≤◌, ◌≢◌};
 
-use m2_control::*;
 use m2_addr::AddrFault;
 use m2_bytes::Blob;
+use m2_control::*;
 use std::test::*;
 
 /// supported 1, required 1, as this project's profile writes it.

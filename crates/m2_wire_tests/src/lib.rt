@@ -9,4 +9,6 @@ mod bytes;
 #[cfg(test)]
 mod crc;
 #[cfg(test)]
+mod message;
+#[cfg(test)]
 mod tag;

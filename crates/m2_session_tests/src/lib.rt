@@ -1,0 +1,12 @@
+//! Tests of the session's crates: values from outside, and calls near the bounds of what they take.
+//!
+//! What it is: a file for each crate. They stand apart from the crates, since a crate with tests is proved
+//! twice. What it isn't: what a clause says already.
+#![tactic(auto)]
+
+#[cfg(test)]
+mod link;
+#[cfg(test)]
+mod priority;
+#[cfg(test)]
+mod queues;
