@@ -4,20 +4,23 @@ use Rattle.std.specs.declared.collections.VecDeque.{VecDeque}
 use Rattle.std.specs.List.{range_with_len}
 use Rattle.std.proofs.lemmas.List.{append-nil, map-append, take-append-le}
 use Rattle.m2_message.specs.Message.{Content, content_of}
+use Rattle.m2_message.specs.Message.{priority_of}
 use Rattle.m2_message.specs.declared.message.Message.{Message}
-use Rattle.m2_queues.specs.OutQueues.{Queue, after_post, next_number, after_next, after_sent, message_at, cursor_number}
+use Rattle.m2_priority.proofs.Joining.{length-put_behind}
+use Rattle.m2_queues.specs.OutQueues.{Queue, Outgoing, due, unsent, after_post, next_number, after_next, after_sent, message_at, cursor_number}
+use Rattle.m2_queues.proofs.Unsent.{next-places, unsent-next, next-is_at_cursor, cursor-next, base-next}
 use Rattle.m2_queues.specs.declared.in_numbers.InNumbers.{InNumbers}
 use Rattle.m2_link.specs.Model as model
 use Rattle.m2_link.specs.Steps.{HavePlaces}
-use Rattle.m2_link.specs.Taken.{content_taken, number_taken, arriving_numbers}
+use Rattle.m2_link.specs.Accepted.{content_taken, number_taken, arriving_numbers}
 use Rattle.m2_link.specs.declared.direction.Direction.{Direction}
-use Rattle.m2_link.specs.declared.frame.Frame.{Frame}
-use Rattle.m2_link.specs.declared.frame.Frame.TheVariants as frame
-use Rattle.m2_link.specs.declared.taken.Taken.{Taken}
-use Rattle.m2_link.specs.Frame.{carried, AreNumberedPast}
-use Rattle.m2_link.specs.Sender.{due, unsent, Sends}
+use Rattle.m2_link.specs.declared.link_frame.LinkFrame.{LinkFrame}
+use Rattle.m2_link.specs.declared.link_frame.LinkFrame.TheVariants as frame
+use Rattle.m2_link.specs.declared.accepted.Accepted.{Accepted}
+use Rattle.m2_link.specs.LinkFrame.{carried, AreNumberedPast}
+use Rattle.m2_link.specs.Sender.{Sends}
 use Rattle.m2_link.specs.Direction.{under_way, direction_of, IsDirection, ArePaired, Prepares}
-use Rattle.m2_link.proofs.Senders.{waiting-post, length-behind, sends-post, sends-next, next-places, unsent-next, next-is_at_cursor, sends-sent, due-sent, waiting-sent, sends-accept}
+use Rattle.m2_link.proofs.Senders.{sends-post, sends-next, sends-sent, due-sent, waiting-sent, sends-accept}
 use Rattle.m2_link.proofs.Frames.{carried-append, carried-take, numbered-append}
 use Rattle.m2_link.proofs.Places.{places-none, places-more, places-left}
 
@@ -25,42 +28,42 @@ same_direction : (a a' : ℕ) (p p' : List Content) (f f' w w' : ℕ) (q q' : Li
     → ◌≡◌ {A = model.Direction} (record { accepted = a; placed = p; flowed = f; written = w; waiting = q }) (record { accepted = a'; placed = p'; flowed = f'; written = w'; waiting = q' })
 same_direction a a' p p' f f' w w' q q' e1 e2 e3 e4 e5 = rw (e1, e2, e3, e4, e5) refl
 
-numbered-split : (n : ℕ) (f : Frame) (fs : List Frame) → AreNumberedPast n (f ∷ fs) → AreNumberedPast n (f ∷ []) × AreNumberedPast (n + length (carried (f ∷ []))) fs
+numbered-split : (n : ℕ) (f : LinkFrame) (fs : List LinkFrame) → AreNumberedPast n (f ∷ fs) → AreNumberedPast n (f ∷ []) × AreNumberedPast (n + length (carried (f ∷ []))) fs
 numbered-split n (frame.Message number ack m) fs h = ((h.0, tt), h.1)
 numbered-split n (frame.Ack number) fs h = (tt, rw add-zero h)
 
 -- a post
-module _ (d : Direction) (m : Message) (q : Queue) (e : q ≡ after_post d.out m) (h : IsDirection d) where
-  pub view-post : direction_of (record d { out = q; posts = d.posts + 1 }) ≡ model.posts (content_of m) (direction_of d)
-  view-post = rw e (ap {A = List Content} (λ l. record (direction_of d) { waiting = l }) (waiting-post m d.out.waiting))
+module _ (d : Direction) (m : Content) (q : Outgoing) (e : q.queue ≡ after_post d.out.queue m) (h : IsDirection d) where
+  pub view-post : direction_of (record d { out = q; posts = d.posts + 1 }) ≡ model.posts m (direction_of d)
+  view-post = rw e
 
   pub holds-post : d.posts + 1 < 2 ^ 56 → IsDirection (record d { out = q; posts = d.posts + 1 })
   holds-post few = record {
-    sends = rw e (sends-post d.out d.numbers.last (under_way d) h.sends m);
+    sends = rw e (sends-post d.out.queue d.numbers.last (under_way d) h.sends m);
     flowed = h.flowed;
     numbered = h.numbered;
     readied = h.readied;
     counted =
-        ap (λ n. n + 1) h.counted ∙ (let more = length-behind (content_of m) (map content_of d.out.waiting) in
-        let sum : d.numbers.last + model.left_of (direction_of d) + 1 ≡ d.numbers.last + model.left_of (model.posts (content_of m) (direction_of d)) = omega (arith, more) in sum)
+        ap (λ n. n + 1) h.counted ∙ (let more = length-put_behind priority_of m d.out.queue.waiting in
+        let sum : d.numbers.last + model.left_of (direction_of d) + 1 ≡ d.numbers.last + model.left_of (model.posts m (direction_of d)) = omega (arith, more) in sum)
         ∙ ap (λ v. d.numbers.last + model.left_of v) (sym view-post);
     few = few;
   }
 
 -- The message at the cursor gets a number, if it has none; the ready frames lie elsewhere, perhaps, but are the same.
-module _ (d : Direction) (h : IsDirection d) (q : Queue) (e : q ≡ after_next d.out) (r : VecDeque Frame Global) (same : r.items ≡ d.ready.items) where
+module _ (d : Direction) (h : IsDirection d) (q : Outgoing) (e : q.queue ≡ after_next d.out.queue) (r : VecDeque LinkFrame Global) (same : r.items ≡ d.ready.items) where
   pub view-next : HavePlaces (direction_of d) (direction_of (record d { out = q; ready = r }))
   view-next =
-      let n = next-places d.out d.numbers.last (under_way d) h.sends in (
+      let n = next-places d.out.queue h.sends.within in (
         n.0,
         same_direction _ _ _ _ _ _ _ _ _ _ refl
-            (rw (same, e, n.1) (sym (append_assoc (under_way d) (due d.out) (take n.0 (map content_of d.out.waiting)))))
+            (rw (same, e, n.1) (sym (append_assoc (under_way d) (due d.out.queue) (take n.0 d.out.queue.waiting))))
             refl refl (rw e n.2),
       )
 
   pub holds-next : IsDirection (record d { out = q; ready = r })
   holds-next = record {
-    sends = rw (e, same) (sends-next d.out d.numbers.last (under_way d) h.sends);
+    sends = rw (e, same) (sends-next d.out.queue d.numbers.last (under_way d) h.sends);
     flowed = h.flowed;
     numbered = h.numbered;
     readied = rw same h.readied;
@@ -76,7 +79,7 @@ prepares-more d e f p q = record {
 }
 
 -- The frames on the wire lie elsewhere, perhaps, but are the same.
-pub prepares-room : (d : Direction) (h : IsDirection d) (w : VecDeque Frame Global) → w.items ≡ d.wire.items → Prepares d (record d { wire = w })
+pub prepares-room : (d : Direction) (h : IsDirection d) (w : VecDeque LinkFrame Global) → w.items ≡ d.wire.items → Prepares d (record d { wire = w })
 prepares-room d h w same = record {
   keeps = record {
     holds = record {
@@ -95,45 +98,45 @@ prepares-room d h w same = record {
 
 -- A copy of the message at the cursor is made ready, and the cursor moves past it. `r` are then the
 -- ready frames, and `q` the queue in which the message had its number.
-module _ (d : Direction) (h : IsDirection d) (q s : Queue) (e : q ≡ after_next d.out) (f : s ≡ after_sent q)
-    (n : ℕ) (given : Some n ≡ next_number d.out) (m : Message) (here : message_at q n ≡ Some m) (there : q.cursor < length q.kept)
-    (c : Message) (k : ℕ) (copy : content_of c ≡ content_of m) (r : VecDeque Frame Global) (pushed : r.items ≡ d.ready.items ++ frame.Message n k c ∷ []) where
-  ready_more : carried r.items ≡ carried d.ready.items ++ content_of m ∷ []
+module _ (d : Direction) (h : IsDirection d) (q s : Outgoing) (e : q.queue ≡ after_next d.out.queue) (f : s.queue ≡ after_sent q.queue)
+    (n : ℕ) (given : Some n ≡ next_number d.out.queue) (m : Content) (here : message_at q.queue n ≡ Some m) (there : q.queue.cursor < length q.queue.kept)
+    (c : Message) (k : ℕ) (copy : content_of c ≡ m) (r : VecDeque LinkFrame Global) (pushed : r.items ≡ d.ready.items ++ frame.Message n k c ∷ []) where
+  ready_more : carried r.items ≡ carried d.ready.items ++ m ∷ []
   ready_more = ap carried pushed ∙ carried-append d.ready.items (frame.Message n k c ∷ []) ∙ ap (λ x. carried d.ready.items ++ x ∷ []) copy
 
-  numbered_n : n ≡ cursor_number q
-  numbered_n = rw e (next-is_at_cursor d.out n given)
+  numbered_n : n ≡ cursor_number q.queue
+  numbered_n = next-is_at_cursor d.out.queue n (sym given) ∙ (rw (e, base-next, cursor-next) refl)
 
-  sends_q : Sends q d.numbers.last (under_way d)
-  sends_q = rw e (sends-next d.out d.numbers.last (under_way d) h.sends)
+  sends_q : Sends q.queue d.numbers.last (under_way d)
+  sends_q = rw e (sends-next d.out.queue d.numbers.last (under_way d) h.sends)
 
-  at_it : message_at q (cursor_number q) ≡ Some m
+  at_it : message_at q.queue (cursor_number q.queue) ≡ Some m
   at_it = rw numbered_n at here
 
-  due_s : due q ≡ content_of m ∷ due s
-  due_s = due-sent q d.numbers.last (under_way d) sends_q m there at_it ∙ ap (λ q. content_of m ∷ due q) (sym f)
+  due_s : due q.queue ≡ m ∷ due s.queue
+  due_s = due-sent q.queue d.numbers.last (under_way d) sends_q m there at_it ∙ ap (λ (k : Queue). m ∷ due k) (sym f)
 
-  waiting_s : s.waiting ≡ q.waiting
-  waiting_s = rw f (waiting-sent q d.numbers.last (under_way d) sends_q m there at_it)
+  waiting_s : s.queue.waiting ≡ q.queue.waiting
+  waiting_s = rw f (waiting-sent q.queue d.numbers.last (under_way d) sends_q m there at_it)
 
-  unsent_q : unsent d.out ≡ content_of m ∷ unsent s
+  unsent_q : unsent d.out.queue ≡ m ∷ unsent s.queue
   unsent_q =
-      sym (unsent-next d.out d.numbers.last (under_way d) h.sends) ∙ sym (ap unsent e)
+      sym (unsent-next d.out.queue h.sends.within) ∙ sym (ap unsent e)
       ∙ (rw (due_s, waiting_s) refl)
 
-  pub fewer-copy : length (unsent s) + 1 ≡ length (unsent d.out)
+  pub fewer-copy : length (unsent s.queue) + 1 ≡ length (unsent d.out.queue)
   fewer-copy = rw unsent_q (omega arith)
 
   -- the copy takes the place of the message itself
   view-moved : direction_of (record d { out = s; ready = r }) ≡ direction_of (record d { out = q })
-  view-moved = same_direction _ _ _ _ _ _ _ _ _ _ refl (rw (ready_more, due_s) (simp append_assoc)) refl refl (ap (map content_of) waiting_s)
+  view-moved = same_direction _ _ _ _ _ _ _ _ _ _ refl (rw (ready_more, due_s) (simp append_assoc)) refl refl waiting_s
 
   pub view-copy : HavePlaces (direction_of d) (direction_of (record d { out = s; ready = r }))
   view-copy = let p = view-next d h q e d.ready refl in (p.0, view-moved ∙ p.1)
 
   pub holds-copy : IsDirection (record d { out = s; ready = r })
   holds-copy = record {
-    sends = rw (f, ready_more, ← append_assoc (carried d.wire.items) (carried d.ready.items) (content_of m ∷ [])) (sends-sent q d.numbers.last (under_way d) sends_q m there at_it);
+    sends = rw (f, ready_more, ← append_assoc (carried d.wire.items) (carried d.ready.items) (m ∷ [])) (sends-sent q.queue d.numbers.last (under_way d) sends_q m there at_it);
     flowed = h.flowed;
     numbered = h.numbered;
     readied = rw pushed (numbered-append (d.numbers.last + length (carried d.wire.items)) d.ready.items (frame.Message n k c ∷ []) h.readied
@@ -143,7 +146,7 @@ module _ (d : Direction) (h : IsDirection d) (q s : Queue) (e : q ≡ after_next
   }
 
 -- A frame that is ready goes onto the wire, as `g` with its acknowledgement.
-module _ (d : Direction) (h : IsDirection d) (f g : Frame) (r w : VecDeque Frame Global) (popped : d.ready.items ≡ f ∷ r.items) (pushed : w.items ≡ d.wire.items ++ g ∷ [])
+module _ (d : Direction) (h : IsDirection d) (f g : LinkFrame) (r w : VecDeque LinkFrame Global) (popped : d.ready.items ≡ f ∷ r.items) (pushed : w.items ≡ d.wire.items ++ g ∷ [])
     (carries : carried (g ∷ []) ≡ carried (f ∷ [])) (numbers : (last : ℕ) → AreNumberedPast last (f ∷ []) → AreNumberedPast last (g ∷ [])) where
   wire_more : carried w.items ≡ carried d.wire.items ++ carried (f ∷ [])
   wire_more = ap carried pushed ∙ carried-append d.wire.items (g ∷ []) ∙ ap (λ l. carried d.wire.items ++ l) carries
@@ -158,7 +161,7 @@ module _ (d : Direction) (h : IsDirection d) (f g : Frame) (r w : VecDeque Frame
   flowed-write = rw (pushed, take-append-le d.flowed d.wire.items (g ∷ []) h.flowed) refl
 
   pub view-write : direction_of (record d { ready = r; wire = w }) ≡ record (direction_of d) { written = length (carried w.items) }
-  view-write = same_direction _ _ _ _ _ _ _ _ _ _ refl (ap (λ l. l ++ due d.out) way-write) flowed-write refl refl
+  view-write = same_direction _ _ _ _ _ _ _ _ _ _ refl (ap (λ l. l ++ due d.out.queue) way-write) flowed-write refl refl
 
   pub holds-write : IsDirection (record d { ready = r; wire = w })
   holds-write =
@@ -173,13 +176,13 @@ module _ (d : Direction) (h : IsDirection d) (f g : Frame) (r w : VecDeque Frame
       }
 
 -- An acknowledgement alone goes onto the wire.
-module _ (d : Direction) (h : IsDirection d) (k : ℕ) (w : VecDeque Frame Global) (pushed : w.items ≡ d.wire.items ++ frame.Ack k ∷ []) where
+module _ (d : Direction) (h : IsDirection d) (k : ℕ) (w : VecDeque LinkFrame Global) (pushed : w.items ≡ d.wire.items ++ frame.Ack k ∷ []) where
   wire_same : carried w.items ≡ carried d.wire.items
   wire_same = ap carried pushed ∙ carried-append d.wire.items (frame.Ack k ∷ []) ∙ append-nil (carried d.wire.items)
 
   pub view-ack : direction_of (record d { wire = w }) ≡ direction_of d
   view-ack = same_direction _ _ _ _ _ _ _ _ _ _ refl
-      (ap (λ l. (l ++ carried d.ready.items) ++ due d.out) wire_same)
+      (ap (λ l. (l ++ carried d.ready.items) ++ due d.out.queue) wire_same)
       (rw (pushed, take-append-le d.flowed d.wire.items (frame.Ack k ∷ []) h.flowed) refl)
       (ap length wire_same)
       refl
@@ -195,7 +198,7 @@ module _ (d : Direction) (h : IsDirection d) (k : ℕ) (w : VecDeque Frame Globa
   }
 
 -- The message in front of the wire is accepted, and goes behind what was taken.
-module _ (d : Direction) (h : IsDirection d) (j : ℕ) (flows : d.flowed ≡ suc j) (n k : ℕ) (m : Message) (w : VecDeque Frame Global)
+module _ (d : Direction) (h : IsDirection d) (j : ℕ) (flows : d.flowed ≡ suc j) (n k : ℕ) (m : Message) (w : VecDeque LinkFrame Global)
     (popped : d.wire.items ≡ frame.Message n k m ∷ w.items) (i : InNumbers) (is : i.last ≡ d.numbers.last + 1) where
   abbrev read : Direction
   read = record d { wire = w; flowed = j; numbers = i }
@@ -215,7 +218,7 @@ module _ (d : Direction) (h : IsDirection d) (j : ℕ) (flows : d.flowed ≡ suc
   pub view-read : model.accepts (direction_of read) ≡ model.accepts (direction_of d)
   view-read = same_direction _ _ _ _ _ _ _ _ _ _ (omega (arith, is, flowed-read)) (rw (flowed-read, placed-read) refl) refl (omega (arith, flowed-read, written-read)) refl
 
-  module _ (old new : List Taken) (number : ℕ) (takes : new ≡ old ++ record { number = number; message = m } ∷ []) where
+  module _ (old new : List Accepted) (number : ℕ) (takes : new ≡ old ++ record { number = number; message = m } ∷ []) where
     pub taken-read : map content_taken new ++ model.arriving (direction_of read) ≡ map content_taken old ++ model.arriving (direction_of d)
     taken-read = rw (takes, map-append, arriving-read) (append_assoc (map content_taken old) (content_of m ∷ []) (model.arriving (direction_of read)))
 
@@ -225,12 +228,12 @@ module _ (d : Direction) (h : IsDirection d) (j : ℕ) (flows : d.flowed ≡ suc
 
   pub holds-read : IsDirection read
   holds-read =
-      let over : Sends d.out d.numbers.last (content_of m ∷ (carried w.items ++ carried d.ready.items)) = rw popped at h.sends in
+      let over : Sends d.out.queue d.numbers.last (content_of m ∷ (carried w.items ++ carried d.ready.items)) = rw popped at h.sends in
       let within : suc j ≤ suc (length w.items) = rw (flows, popped) at h.flowed in
       let front : (n ≡ d.numbers.last + 1) × AreNumberedPast (d.numbers.last + 1) w.items = rw popped at h.numbered in
       let past : i.last + length (carried w.items) ≡ d.numbers.last + length (carried d.wire.items) = omega (arith, is, written-read) in
       record {
-        sends = rw is (sends-accept d.out d.numbers.last (content_of m) (carried w.items ++ carried d.ready.items) over);
+        sends = rw is (sends-accept d.out.queue d.numbers.last (content_of m) (carried w.items ++ carried d.ready.items) over);
         flowed = omega (arith, within);
         numbered = rw is front.1;
         readied = rw past h.readied;
@@ -242,7 +245,7 @@ module _ (d : Direction) (h : IsDirection d) (j : ℕ) (flows : d.flowed ≡ suc
 ordered : (d : Direction) → model.IsOrdered (direction_of d)
 ordered d = record {
   flowed = omega (arith, carried-take d.flowed d.wire.items);
-  written = omega (arith, length-append (under_way d) (due d.out), length-append (carried d.wire.items) (carried d.ready.items));
+  written = omega (arith, length-append (under_way d) (due d.out.queue), length-append (carried d.wire.items) (carried d.ready.items));
 }
 
 pub reachable : (d e : Direction) → ArePaired d e → model.IsReachable (record { first = direction_of d; second = direction_of e })

@@ -1,10 +1,11 @@
 -- The value model's link, from the fields of the code; and what holds of them.
-use Rattle.std.specs.Prelude.{◌≡◌, ◌+◌, ◌<◌, ◌≤◌, ◌^◌, List, ◌++◌, length, take, map}
-use Rattle.m2_message.specs.Message.{Content, content_of}
+use Rattle.std.specs.Prelude.{◌≡◌, ◌+◌, ◌<◌, ◌≤◌, ◌^◌, List, ◌++◌, length, take}
+use Rattle.m2_message.specs.Message.{Content}
+use Rattle.m2_queues.specs.OutQueues.{due}
 use Rattle.m2_link.specs.Model as model
 use Rattle.m2_link.specs.Steps.{HavePlaces}
-use Rattle.m2_link.specs.Frame.{carried, AreNumberedPast, AcknowledgeAtMost}
-use Rattle.m2_link.specs.Sender.{due, Sends}
+use Rattle.m2_link.specs.LinkFrame.{carried, AreNumberedPast, AcknowledgeAtMost}
+use Rattle.m2_link.specs.Sender.{Sends}
 use Rattle.m2_link.specs.declared.direction.Direction.{Direction}
 use Rattle.m2_link.specs.declared.link.Link.TheInside.{Inside}
 
@@ -15,16 +16,16 @@ under_way d = carried d.wire.items ++ carried d.ready.items
 abbrev pub direction_of : Direction → model.Direction
 direction_of d = record {
   accepted = d.numbers.last;
-  placed = under_way d ++ due d.out;
+  placed = under_way d ++ due d.out.queue;
   flowed = length (carried (take d.flowed d.wire.items));
   written = length (carried d.wire.items);
-  waiting = map content_of d.out.waiting;
+  waiting = d.out.queue.waiting;
 }
 
 -- what holds of one direction
 pub record IsDirection (d : Direction) : Type 0 where
   -- nothing is counted acknowledged that wasn't accepted
-  pub sends : Sends d.out d.numbers.last (under_way d)
+  pub sends : Sends d.out.queue d.numbers.last (under_way d)
   pub flowed : d.flowed ≤ length d.wire.items
   -- the wire carries the messages behind the last accepted one, without a gap
   pub numbered : AreNumberedPast d.numbers.last d.wire.items

@@ -1,6 +1,6 @@
 pub mod Model
 pub mod Steps
-pub mod Taken
-pub mod Frame
+pub mod Accepted
+pub mod LinkFrame
 pub mod Sender
 pub mod Direction

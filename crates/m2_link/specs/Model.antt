@@ -1,10 +1,11 @@
 -- The value model of an established link: lists of messages and counts. It knows no message numbers,
 -- acknowledgements, cursor or resending; the ends that are run have all of these. The rules are this
 -- project's own (docs/SCENARIOS.md).
-use Rattle.std.specs.Prelude.{ℕ, ◌+◌, ◌-◌, ◌≤◌, nat_lt, if◌then◌else◌, List, [], ◌∷◌, ◌++◌, length, take, drop}
-use Rattle.m2_message.specs.Message.{Content}
-use Rattle.m2_link.specs.declared.side.Side.{Side}
-use Rattle.m2_link.specs.declared.side.Side.TheVariants.{First, Second}
+use Rattle.std.specs.Prelude.{ℕ, ◌+◌, ◌-◌, ◌≤◌, List, [], ◌∷◌, ◌++◌, length, take, drop}
+use Rattle.m2_message.specs.Message.{Content, priority_of}
+use Rattle.m2_priority.specs.ByRank.{put_behind}
+use Rattle.m2_link.specs.declared.link_side.LinkSide.{LinkSide}
+use Rattle.m2_link.specs.declared.link_side.LinkSide.TheVariants.{First, Second}
 
 -- One direction of a link. A message first waits, then gets its place in the order of sending, and is
 -- accepted in that order.
@@ -31,14 +32,9 @@ silent = record { accepted = 0; placed = []; flowed = 0; written = 0; waiting = 
 abbrev pub fresh : Link
 fresh = record { first = silent; second = silent }
 
--- a message goes behind all that wait with its priority or a greater one
-abbrev pub behind : Content → List Content → List Content
-behind m [] = m ∷ []
-behind m (w ∷ ws) = if nat_lt w.header.priority m.header.priority then m ∷ w ∷ ws else w ∷ behind m ws
-
--- the message waits
+-- the message waits, behind all that wait with its priority or a greater one
 abbrev pub posts : Content → Direction → Direction
-posts m d = record d { waiting = behind m d.waiting }
+posts m d = record d { waiting = put_behind priority_of m d.waiting }
 
 -- what the reader takes of what has flowed to it: all of it, in order
 abbrev pub arriving : Direction → List Content
@@ -73,24 +69,24 @@ abbrev pub breaks : Direction → Direction
 breaks d = record d { flowed = 0; written = 0 }
 
 -- the direction that a side writes, and the one that it reads
-abbrev pub written_by : Side → Link → Direction
+abbrev pub written_by : LinkSide → Link → Direction
 written_by First l = l.first
 written_by Second l = l.second
 
-abbrev pub read_by : Side → Link → Direction
+abbrev pub read_by : LinkSide → Link → Direction
 read_by First l = l.second
 read_by Second l = l.first
 
-abbrev pub after_post : Side → Content → Link → Link
+abbrev pub after_post : LinkSide → Content → Link → Link
 after_post First m l = record l { first = posts m l.first }
 after_post Second m l = record l { second = posts m l.second }
 
 -- what a node takes in its turn, in order
-abbrev pub arrivals : Side → Link → List Content
+abbrev pub arrivals : LinkSide → Link → List Content
 arrivals node l = arriving (read_by node l)
 
 -- a turn of a node: it accepts what has flowed to it, and then writes what it posted
-abbrev pub after_turn : Side → Link → Link
+abbrev pub after_turn : LinkSide → Link → Link
 after_turn First l = record { first = writes l.first; second = accepts l.second }
 after_turn Second l = record { first = accepts l.first; second = writes l.second }
 

@@ -1,8 +1,8 @@
 -- What a turn that ran out of memory leaves: messages that waited may have got their places.
 use Rattle.std.specs.Prelude.{◌≡◌, ℕ, ◌++◌, take, drop}
 use Rattle.m2_link.specs.Model.{Direction, Link}
-use Rattle.m2_link.specs.declared.side.Side.{Side}
-use Rattle.m2_link.specs.declared.side.Side.TheVariants.{First, Second}
+use Rattle.m2_link.specs.declared.link_side.LinkSide.{LinkSide}
+use Rattle.m2_link.specs.declared.link_side.LinkSide.TheVariants.{First, Second}
 
 -- the first so many of those that wait get their places
 abbrev pub places : ℕ → Direction → Direction
@@ -13,6 +13,6 @@ abbrev pub HavePlaces : Direction → Direction → Type 0
 HavePlaces old new = (n : ℕ) × (new ≡ places n old)
 
 -- the same of the direction that a side writes; the other stays
-abbrev pub GivesPlaces : Side → Link → Link → Type 0
+abbrev pub GivesPlaces : LinkSide → Link → Link → Type 0
 GivesPlaces First old new = HavePlaces old.first new.first × (new.second ≡ old.second)
 GivesPlaces Second old new = (new.first ≡ old.first) × HavePlaces old.second new.second

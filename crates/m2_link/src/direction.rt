@@ -1,6 +1,6 @@
 //! One direction of a link: the sender's queue, the wire, and the reader's numbers.
 
-use crate::frame::Frame;
+use crate::link_frame::LinkFrame;
 use m2_message::Message;
 use m2_queues::{InNumbers, OutQueues};
 use std::alloc::Global;
@@ -19,11 +19,11 @@ pub(crate) struct Direction {
     pub(crate) out: OutQueues,
     /// Frames of copies, which get their acknowledgement when they are written. A turn for which
     /// memory ran out leaves those that it had made.
-    pub(crate) ready: VecDeque<Frame>,
+    pub(crate) ready: VecDeque<LinkFrame>,
     /// How many messages were posted.
     pub(crate) posts: u64,
     /// Frames that were written and not read.
-    pub(crate) wire: VecDeque<Frame>,
+    pub(crate) wire: VecDeque<LinkFrame>,
     /// How many of these, from the front, have flowed to the reader.
     pub(crate) flowed: usize,
     /// The number of the last message that the reader has accepted.
@@ -33,11 +33,11 @@ pub(crate) struct Direction {
 }
 
 impl Direction {
-    ghost use Rattle.std.specs.Prelude.{◌≡◌, ◌-◌, ◌<◌, ◌≤◌, ◌^◌, [], map, drop, OnOk, MatchResult};
+    ghost use Rattle.std.specs.Prelude.{◌≡◌, ◌-◌, ◌<◌, ◌≤◌, ◌^◌, [], drop, OnOk, MatchResult};
     ghost use Rattle.m2_message.specs.Message.{content_of};
     ghost use Rattle.m2_link.specs.Model.{silent, posts, flows, breaks, left_of};
     ghost use Rattle.m2_link.specs.Direction.{direction_of, IsDirection, Stays};
-    ghost use Rattle.m2_link.specs.Sender.{unsent};
+    ghost use Rattle.m2_queues.specs.OutQueues.{unsent};
 
     pub(crate) fn silent(alloc: Global) -> Direction
         ensures view { direction_of result ≡ silent }
@@ -107,7 +107,7 @@ impl Direction {
         requires holds { IsDirection self.old }
         requires accepted { number ≤ self.old.numbers.last }
         ensures stays { Stays self.old self.new }
-        ensures unsent { unsent self.new.out ≡ unsent self.old.out }
+        ensures unsent { unsent self.new.out.queue ≡ unsent self.old.out.queue }
         ensures only { self.new ≡ record self.old { out = self.new.out } }
     {
         if self.out.acked(number).is_err() {
@@ -127,10 +127,10 @@ impl Direction {
     /// The sender's queue.
     pub(crate) fn queue(&self) -> &OutQueues
         requires { IsDirection self.now }
-        ensures waiting { map content_of result.now.waiting ≡ (direction_of self.now).waiting }
-        ensures placed { map content_of (drop ((direction_of self.now).accepted - result.now.base) result.now.kept)
+        ensures waiting { result.now.queue.waiting ≡ (direction_of self.now).waiting }
+        ensures placed { drop ((direction_of self.now).accepted - result.now.queue.base) result.now.queue.kept
             ≡ (direction_of self.now).placed }
-        ensures acknowledged { result.now.base ≤ (direction_of self.now).accepted }
+        ensures acknowledged { result.now.queue.base ≤ (direction_of self.now).accepted }
     {
         &self.out
     }

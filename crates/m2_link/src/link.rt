@@ -4,11 +4,11 @@ ghost use Rattle.std.specs.Prelude.{◌≡◌, ◌+◌, ◌-◌, ◌<◌, ◌≤
 ghost use Rattle.m2_message.specs.Message.{content_of};
 ghost use Rattle.m2_link.specs.Model.{fresh, after_post, after_turn, after_flow, after_fault, arrivals, read_by, written_by, left, IsReachable};
 ghost use Rattle.m2_link.specs.Steps.{GivesPlaces};
-ghost use Rattle.m2_link.specs.Taken.{content_taken, number_taken, arriving_numbers};
+ghost use Rattle.m2_link.specs.Accepted.{content_taken, number_taken, arriving_numbers};
 
 use crate::direction::Direction;
-use crate::side::Side;
-use crate::taken::Taken;
+use crate::link_side::LinkSide;
+use crate::accepted::Accepted;
 use crate::turn::turn;
 use m2_bytes::NoMemory;
 use m2_message::Message;
@@ -55,20 +55,20 @@ impl Link {
     /// The side posts a message to the other: it waits behind all that wait with its priority or a
     /// greater one. Err hands it back for want of memory, or after 2^56 - 1 posts of the side, and
     /// nothing has changed.
-    pub fn post(&mut self, from: Side, message: Message) -> Result<(), Message>
+    pub fn post(&mut self, from: LinkSide, message: Message) -> Result<(), Message>
         ensures ok { OnOk result (self.new ≡ after_post from (content_of message) self.old) }
         ensures err { MatchResult result (λ _. Unit {0}) (λ back. (back ≡ message) × (self.new ≡ self.old)) }
     {
         match from {
-            Side::First => self.first.post(message),
-            Side::Second => self.second.post(message),
+            LinkSide::First => self.first.post(message),
+            LinkSide::Second => self.second.post(message),
         }
     }
 
     /// The node accepts what has flowed to it, which goes behind `taken`, each message with its
     /// number in the session; it then writes all that it posted, the greatest priority first. Err
     /// comes for want of memory: nothing was taken, and some of what waited may have got its place.
-    pub fn turn(&mut self, node: Side, taken: &mut Vec<Taken>) -> Result<(), NoMemory>
+    pub fn turn(&mut self, node: LinkSide, taken: &mut Vec<Accepted>) -> Result<(), NoMemory>
         ensures ok { OnOk result (self.new ≡ after_turn node self.old) }
         ensures taken { OnOk result (map content_taken taken.new.items ≡ map content_taken taken.old.items ++ arrivals node self.old) }
         ensures numbers { OnOk result (map number_taken taken.new.items
@@ -76,8 +76,8 @@ impl Link {
         ensures err { OnErr result (GivesPlaces node self.old self.new × (taken.new.items ≡ taken.old.items)) }
     {
         match node {
-            Side::First => turn(&mut self.second, &mut self.first, taken),
-            Side::Second => turn(&mut self.first, &mut self.second, taken),
+            LinkSide::First => turn(&mut self.second, &mut self.first, taken),
+            LinkSide::Second => turn(&mut self.first, &mut self.second, taken),
         }
     }
 
@@ -109,15 +109,15 @@ impl Link {
     /// The queue of what the side posts: what waits is what waits there, and what it keeps, past the
     /// messages that the other has accepted, is what has a place. What it counts acknowledged, which
     /// is its base, the other has accepted.
-    pub fn queue(&self, from: Side) -> &OutQueues
-        ensures waiting { map content_of result.now.waiting ≡ (written_by from self.now).waiting }
-        ensures placed { map content_of (drop ((written_by from self.now).accepted - result.now.base) result.now.kept)
+    pub fn queue(&self, from: LinkSide) -> &OutQueues
+        ensures waiting { result.now.queue.waiting ≡ (written_by from self.now).waiting }
+        ensures placed { drop ((written_by from self.now).accepted - result.now.queue.base) result.now.queue.kept
             ≡ (written_by from self.now).placed }
-        ensures acknowledged { result.now.base ≤ (written_by from self.now).accepted }
+        ensures acknowledged { result.now.queue.base ≤ (written_by from self.now).accepted }
     {
         match from {
-            Side::First => self.first.queue(),
-            Side::Second => self.second.queue(),
+            LinkSide::First => self.first.queue(),
+            LinkSide::Second => self.second.queue(),
         }
     }
 }

@@ -3,14 +3,14 @@
 ghost use Rattle.std.specs.Prelude.{◌≡◌, ◌+◌, ◌<◌, ◌≤◌, [], ◌∷◌, ◌++◌, vec_len, vec_capacity};
 
 use crate::direction::Direction;
-use crate::frame::Frame;
-use crate::taken::Taken;
+use crate::link_frame::LinkFrame;
+use crate::accepted::Accepted;
 use m2_message::Message;
 use m2_queues::{InNumbers, Judge};
 
 /// Takes a message that came in: the next one is accepted and handed on, and one that was accepted
 /// before is dropped.
-fn accept(numbers: &mut InNumbers, taken: &mut Vec<Taken>, number: u64, message: Message)
+fn accept(numbers: &mut InNumbers, taken: &mut Vec<Accepted>, number: u64, message: Message)
     requires gapless { number ≤ numbers.old.last + 1 }
     requires room { vec_len taken.old < vec_capacity taken.old }
     ensures next { number ≡ numbers.old.last + 1 →
@@ -22,7 +22,7 @@ fn accept(numbers: &mut InNumbers, taken: &mut Vec<Taken>, number: u64, message:
     match numbers.judge(number) {
         Judge::New => {
             numbers.last = number;
-            taken.push_reserved(Taken { number, message });
+            taken.push_reserved(Accepted { number, message });
         }
         Judge::Old => {}
         Judge::Gap => unreachable!(),
@@ -32,13 +32,13 @@ fn accept(numbers: &mut InNumbers, taken: &mut Vec<Taken>, number: u64, message:
 impl Direction {
     ghost use Rattle.std.specs.Prelude.{◌≡◌, ℕ, ◌+◌, ◌<◌, ◌≤◌, ◌++◌, map, vec_len, vec_capacity};
     ghost use Rattle.m2_link.specs.Model.{accepts, arriving};
-    ghost use Rattle.m2_link.specs.Taken.{content_taken, number_taken, arriving_numbers};
+    ghost use Rattle.m2_link.specs.Accepted.{content_taken, number_taken, arriving_numbers};
     ghost use Rattle.m2_link.specs.Direction.{direction_of, IsDirection};
-    ghost use Rattle.m2_link.specs.Frame.{AcknowledgeAtMost};
+    ghost use Rattle.m2_link.specs.LinkFrame.{AcknowledgeAtMost};
 
     /// Reads the frame that flowed first: its message is taken, and the number that it acknowledges
     /// is the result. What comes of reading all that has flowed stays the same.
-    pub(crate) fn read_one(&mut self, taken: &mut Vec<Taken>) -> u64
+    pub(crate) fn read_one(&mut self, taken: &mut Vec<Accepted>) -> u64
         requires holds { IsDirection self.old }
         requires flowed { 0 < self.old.flowed }
         requires room { vec_len taken.old + self.old.flowed ≤ vec_capacity taken.old }
@@ -58,7 +58,7 @@ impl Direction {
         };
         self.flowed -= 1;
         match frame {
-            Frame::Message {
+            LinkFrame::Message {
                 number,
                 ack,
                 message,
@@ -66,7 +66,7 @@ impl Direction {
                 accept(&mut self.numbers, taken, number, message);
                 ack
             }
-            Frame::Ack { number } => number,
+            LinkFrame::Ack { number } => number,
         }
     }
 }

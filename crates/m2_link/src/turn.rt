@@ -3,17 +3,17 @@
 ghost use Rattle.std.specs.Prelude.{◌≡◌, ◌+◌, ◌≤◌, ◌++◌, map, vec_len, vec_capacity, OnOk, OnErr};
 ghost use Rattle.m2_link.specs.Model.{accepts, arriving, writes};
 ghost use Rattle.m2_link.specs.Steps.{HavePlaces};
-ghost use Rattle.m2_link.specs.Taken.{content_taken, number_taken, arriving_numbers};
+ghost use Rattle.m2_link.specs.Accepted.{content_taken, number_taken, arriving_numbers};
 ghost use Rattle.m2_link.specs.Direction.{direction_of, ArePaired};
-ghost use Rattle.m2_link.specs.Sender.{unsent};
+ghost use Rattle.m2_queues.specs.OutQueues.{unsent};
 
 use crate::direction::Direction;
-use crate::taken::Taken;
+use crate::accepted::Accepted;
 use m2_bytes::NoMemory;
 
 /// The end reads all that has flowed to it: `inward` is the direction that it reads, and `outward`
 /// the one that it writes, whose sender is handed the acknowledgements.
-fn read(inward: &mut Direction, outward: &mut Direction, taken: &mut Vec<Taken>)
+fn read(inward: &mut Direction, outward: &mut Direction, taken: &mut Vec<Accepted>)
     requires paired { ArePaired inward.old outward.old }
     requires room { vec_len taken.old + inward.old.flowed ≤ vec_capacity taken.old }
     ensures paired { ArePaired inward.new outward.new }
@@ -21,7 +21,7 @@ fn read(inward: &mut Direction, outward: &mut Direction, taken: &mut Vec<Taken>)
     ensures taken { map content_taken taken.new.items ≡ map content_taken taken.old.items ++ arriving (direction_of inward.old) }
     ensures numbers { map number_taken taken.new.items ≡ map number_taken taken.old.items ++ arriving_numbers (direction_of inward.old) }
     ensures stays { direction_of outward.new ≡ direction_of outward.old }
-    ensures unsent { unsent outward.new.out ≡ unsent outward.old.out }
+    ensures unsent { unsent outward.new.out.queue ≡ unsent outward.old.out.queue }
     ensures only { outward.new ≡ record outward.old { out = outward.new.out } }
 {
     while inward.flowed > 0 {
@@ -35,7 +35,7 @@ fn read(inward: &mut Direction, outward: &mut Direction, taken: &mut Vec<Taken>)
 pub(crate) fn turn(
     inward: &mut Direction,
     outward: &mut Direction,
-    taken: &mut Vec<Taken>,
+    taken: &mut Vec<Accepted>,
 ) -> Result<(), NoMemory>
     requires { ArePaired inward.old outward.old }
     ensures paired { ArePaired inward.new outward.new }

@@ -1,7 +1,7 @@
 //! The sender's part of a turn: copies are made ready first, which takes memory, and are then written.
 
 use crate::direction::Direction;
-use crate::frame::Frame;
+use crate::link_frame::LinkFrame;
 use m2_bytes::NoMemory;
 
 impl Direction {
@@ -9,8 +9,8 @@ impl Direction {
     ghost use Rattle.std.specs.VecDeque.{deque_len, deque_capacity};
     ghost use Rattle.m2_link.specs.Model.{writes};
     ghost use Rattle.m2_link.specs.Direction.{direction_of, IsDirection, Prepares};
-    ghost use Rattle.m2_link.specs.Frame.{AcknowledgeAtMost};
-    ghost use Rattle.m2_link.specs.Sender.{unsent};
+    ghost use Rattle.m2_link.specs.LinkFrame.{AcknowledgeAtMost};
+    ghost use Rattle.m2_queues.specs.OutQueues.{unsent};
 
     /// Copies the message at the cursor into a frame, which gets its acknowledgement when it is
     /// written. At the end of what has a place, the first that waits gets its place before. False
@@ -19,7 +19,7 @@ impl Direction {
         requires { IsDirection self.old }
         ensures prepares { Prepares self.old self.new }
         ensures fewer { IfOk result (λ more. MatchBool more
-            (length (unsent self.new.out) + 1 ≡ length (unsent self.old.out)) (unsent self.new.out ≡ [])) }
+            (length (unsent self.new.out.queue) + 1 ≡ length (unsent self.old.out.queue)) (unsent self.new.out.queue ≡ [])) }
     {
         let Some(number) = self.out.next() else {
             return Ok(false);
@@ -28,7 +28,7 @@ impl Direction {
             unreachable!()
         };
         let message = message.copy()?;
-        self.ready.push_back(Frame::Message {
+        self.ready.push_back(LinkFrame::Message {
             number,
             ack: 0,
             message,
@@ -42,7 +42,7 @@ impl Direction {
     pub(crate) fn prepare(&mut self) -> Result<(), NoMemory>
         requires { IsDirection self.old }
         ensures prepares { Prepares self.old self.new }
-        ensures copied { OnOk result (unsent self.new.out ≡ []) }
+        ensures copied { OnOk result (unsent self.new.out.queue ≡ []) }
         ensures room { OnOk result (deque_len self.new.wire + deque_len self.new.ready < deque_capacity self.new.wire) }
     {
         while self.copy_one()? {}
@@ -72,7 +72,7 @@ impl Direction {
     /// Writes all that is ready, with this acknowledgement.
     fn write_ready(&mut self, ack: u64)
         requires holds { IsDirection self.old }
-        requires copied { unsent self.old.out ≡ [] }
+        requires copied { unsent self.old.out.queue ≡ [] }
         requires room { deque_len self.old.wire + deque_len self.old.ready < deque_capacity self.old.wire }
         ensures holds { IsDirection self.new }
         ensures view { direction_of self.new ≡ writes (direction_of self.old) }
@@ -92,14 +92,14 @@ impl Direction {
         ensures acks { (n : ℕ) → ack ≤ n → AcknowledgeAtMost n self.old.wire.items → AcknowledgeAtMost n self.new.wire.items }
         ensures last { self.new.numbers ≡ self.old.numbers }
     {
-        self.wire.push_back_reserved(Frame::Ack { number: ack });
+        self.wire.push_back_reserved(LinkFrame::Ack { number: ack });
     }
 
     /// Writes all that is ready, with this acknowledgement; where nothing is ready and one is owed,
     /// the acknowledgement alone.
     pub(crate) fn write(&mut self, ack: u64, owed: bool)
         requires holds { IsDirection self.old }
-        requires copied { unsent self.old.out ≡ [] }
+        requires copied { unsent self.old.out.queue ≡ [] }
         requires room { deque_len self.old.wire + deque_len self.old.ready < deque_capacity self.old.wire }
         ensures holds { IsDirection self.new }
         ensures view { direction_of self.new ≡ writes (direction_of self.old) }

@@ -1,7 +1,7 @@
 -- What is still to be sent, call by call.
-use Rattle.std.proofs.Common.{◌≡◌, ℕ, zero, suc, ◌<◌, ◌≤◌, Bool, true, false, List, [], ◌∷◌, ◌++◌, length, take, drop, slice_get, Some, None, ltb, cond, refl, sym, ap, ◌∙◌, arith, append_assoc, add-one}
-use Rattle.std.proofs.lemmas.List.{append-nil, take-append-drop, drop-append-le}
-use Rattle.m2_queues.specs.OutQueues.{Queue, IsNumbered, after_next, after_sent, next_number, cursor_number, due, unsent}
+use Rattle.std.proofs.Common.{◌≡◌, ℕ, ◌+◌, ◌-◌, zero, suc, ◌<◌, ◌≤◌, Bool, true, false, List, [], ◌∷◌, ◌++◌, length, take, drop, slice_get, Some, None, ltb, cond, refl, sym, ap, ◌∙◌, arith, append_assoc, add-one}
+use Rattle.std.proofs.lemmas.List.{append-nil, take-append-drop, drop-append-le, drop-drop}
+use Rattle.m2_queues.specs.OutQueues.{Queue, IsNumbered, after_next, after_sent, after_acked, next_number, cursor_number, due, unsent}
 
 -- the first past the n-th
 pub first_behind : {X : Type 0} (n : ℕ) (xs ys : List X) → n < length xs → slice_get (drop n xs ++ ys) 0 ≡ slice_get xs n
@@ -20,7 +20,7 @@ pub cursor_within : (q : Queue) → IsNumbered q → q.cursor ≤ length q.kept
 cursor_within q h = omega (arith, h.sent, h.given)
 
 -- the queue after the first that waits got its number
-abbrev numbering : Queue → Queue
+abbrev pub numbering : Queue → Queue
 numbering q = record q { kept = q.kept ++ take 1 q.waiting; waiting = drop 1 q.waiting }
 
 module _ (q : Queue) (within : q.cursor ≤ length q.kept) where
@@ -58,3 +58,10 @@ unsent-sent q h there = by_keeping q.keeps refl
     by_keeping : (b : Bool) → q.keeps ≡ b → unsent (after_sent q) ≡ drop 1 (unsent q)
     by_keeping true e = rw (e, add-one) (drop_one q.cursor q.kept q.waiting there)
     by_keeping false e = let none : q.cursor ≡ 0 = h.unkept e in rw (e, none) (drop_one 0 q.kept q.waiting (omega arith))
+
+-- an acknowledgement of what was sent leaves what is still to be sent
+pub due-acked : (q : Queue) (n : ℕ) → n ≤ q.base + q.cursor → due (after_acked q n) ≡ due q
+due-acked q n h = let e : (n - q.base) + (q.cursor - (n - q.base)) ≡ q.cursor = omega arith in rw (drop-drop, e)
+
+pub unsent-acked : (q : Queue) (n : ℕ) → n ≤ q.base + q.cursor → unsent (after_acked q n) ≡ unsent q
+unsent-acked q n h = ap (λ l. l ++ q.waiting) (due-acked q n h)

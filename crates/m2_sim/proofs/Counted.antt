@@ -6,15 +6,16 @@ use Rattle.std.specs.Option.{is_some}
 use Rattle.std.proofs.lemmas.List.{length-map, take-append-drop}
 use Rattle.std.proofs.lemmas.List.Elements.{recursion_from_All}
 use Rattle.std.proofs.lemmas.List.Sums.{sum_by-cons}
-use Rattle.m2_message.specs.Message.{Content}
+use Rattle.m2_message.specs.Message.{Content, priority_of}
 use Rattle.m2_policy.specs.declared.path.Key.{Key}
 use Rattle.m2_dispatch.specs.Heard.{Heard}
 use Rattle.m2_priority.specs.ByRank.{by_rank}
 use Rattle.m2_priority.proofs.ByRank.{length-by_rank}
+use Rattle.m2_priority.proofs.Joining.{length-put_behind}
 use Rattle.m2_link.specs.Model as link
-use Rattle.m2_link.specs.Model.{Direction, behind}
-use Rattle.m2_link.specs.declared.side.Side.{Side}
-use Rattle.m2_link.specs.declared.side.Side.TheVariants.{First, Second}
+use Rattle.m2_link.specs.Model.{Direction}
+use Rattle.m2_link.specs.declared.link_side.LinkSide.{LinkSide}
+use Rattle.m2_link.specs.declared.link_side.LinkSide.TheVariants.{First, Second}
 use Rattle.m2_scenario.specs.declared.node.Node.{Node}
 use Rattle.m2_scenario.specs.declared.link.Link.{Link}
 use Rattle.m2_scenario.specs.Draft.{DraftLine, post, dial, down, cut, turn, flow, fault, settle, is_post}
@@ -30,11 +31,6 @@ same_left : (f : Joint → Joint) → ((j : Joint) → left_on (f j) ≡ left_on
 same_left f same [] = refl
 same_left f same (j ∷ js) = sum_by-cons left_on (f j) (map f js) ∙ omega (arith, same j, same_left f same js, sum_by-cons left_on j js)
 
-length-behind : (m : Content) (ws : List Content) → length (behind m ws) ≡ length ws + 1
-length-behind m [] = refl
-length-behind m (w ∷ ws) =
-    elim (ltb w.header.priority m.header.priority) as (λ b. length (cond b (m ∷ w ∷ ws) (w ∷ behind m ws)) ≡ length (w ∷ ws) + 1) [ true ↦ omega arith | false ↦ omega (arith, length-behind m ws) ]
-
 -- the two parts of a list
 parts : {X : Type 0} (n : ℕ) (xs : List X) → length (take n xs) + length (drop n xs) ≡ length xs
 parts n xs = sym (length-append (take n xs) (drop n xs)) ∙ ap length (take-append-drop n xs)
@@ -42,17 +38,17 @@ parts n xs = sym (length-append (take n xs) (drop n xs)) ∙ ap length (take-app
 left-broken : (a b : ℕ) (j : Joint) → left_on (broken a b j) ≡ left_on j
 left-broken a b j = go (side_towards a b j)
   where
-    go : (t : Option Side) → left_on (where_side (λ side l. link.after_fault l) t j) ≡ left_on j
+    go : (t : Option LinkSide) → left_on (where_side (λ side l. link.after_fault l) t j) ≡ left_on j
     go None = refl
     go (Some s) = refl
 
 left-posted : (a b : ℕ) (m : Content) (j : Joint) → left_on (posted a b m j) ≡ cond (is_some (side_towards a b j)) (left_on j + 1) (left_on j)
 left-posted a b m j = go (side_towards a b j)
   where
-    go : (t : Option Side) → left_on (where_side (λ side l. link.after_post side m l) t j) ≡ cond (is_some t) (left_on j + 1) (left_on j)
+    go : (t : Option LinkSide) → left_on (where_side (λ side l. link.after_post side m l) t j) ≡ cond (is_some t) (left_on j + 1) (left_on j)
     go None = refl
-    go (Some First) = omega (arith, length-behind m j.link.first.waiting)
-    go (Some Second) = omega (arith, length-behind m j.link.second.waiting)
+    go (Some First) = omega (arith, length-put_behind priority_of m j.link.first.waiting)
+    go (Some Second) = omega (arith, length-put_behind priority_of m j.link.second.waiting)
 
 -- where none joins the two
 left_elsewhere : (a b : ℕ) (m : Content) (js : List Joint) → AllByRecursion (λ k. side_towards a b k ≡ None) js → sum_by left_on (map (posted a b m) js) ≡ sum_by left_on js
@@ -66,7 +62,7 @@ left_there : (a b : ℕ) (m : Content) (js : List Joint) → Once a b js → mee
 left_there a b m [] once met = absurd (cc)
 left_there a b m (j ∷ js) once met = sum_by-cons left_on (posted a b m j) (map (posted a b m) js) ∙ go (side_towards a b j) refl once.0 met (left_there a b m js once.1)
   where
-    go : (t : Option Side) → side_towards a b j ≡ t → Only t (AllByRecursion (λ k. side_towards a b k ≡ None) js) → (is_some t || meets a b js) ≡ true
+    go : (t : Option LinkSide) → side_towards a b j ≡ t → Only t (AllByRecursion (λ k. side_towards a b k ≡ None) js) → (is_some t || meets a b js) ≡ true
         → (meets a b js ≡ true → sum_by left_on (map (posted a b m) js) ≡ sum_by left_on js + 1)
         → left_on (posted a b m j) + sum_by left_on (map (posted a b m) js) ≡ sum_by left_on (j ∷ js) + 1
     go None e only met more =
@@ -80,7 +76,7 @@ left_there a b m (j ∷ js) once met = sum_by-cons left_on (posted a b m j) (map
 left-turned : (z : ℕ) (j : Joint) → left_on (turned z j) + length (taken z j) ≡ left_on j
 left-turned z j = go (side_of z j)
   where
-    go : (t : Option Side) → left_on (where_side link.after_turn t j) + length (taken_at t j) ≡ left_on j
+    go : (t : Option LinkSide) → left_on (where_side link.after_turn t j) + length (taken_at t j) ≡ left_on j
     go None = omega arith
     go (Some First) =
         omega (arith, length-map (link.arriving j.link.second) (from_peer j.b), parts j.link.second.flowed j.link.second.placed, length-append j.link.first.placed j.link.first.waiting)

@@ -9,8 +9,8 @@ use Rattle.std.proofs.lemmas.Bool.Decides.{nat_tests}
 use Rattle.m2_message.specs.Message.{Content}
 use Rattle.m2_dispatch.specs.Heard.{Heard, message, reset, peer_of, of_key}
 use Rattle.m2_link.specs.Model.{Direction, left_of}
-use Rattle.m2_link.specs.declared.side.Side.{Side}
-use Rattle.m2_link.specs.declared.side.Side.TheVariants.{First, Second}
+use Rattle.m2_link.specs.declared.link_side.LinkSide.{LinkSide}
+use Rattle.m2_link.specs.declared.link_side.LinkSide.TheVariants.{First, Second}
 use Rattle.m2_scenario.specs.declared.node.Node.{Node}
 use Rattle.m2_scenario.specs.declared.link.Link.{Link}
 use Rattle.m2_scenario.specs.Draft.{DraftLine, are_joined}
@@ -48,7 +48,7 @@ nothing_there x y (j ∷ js) h = go (side_towards x y j) refl (nothing_there x y
     none : left_on j ≡ 0
     none = omega (arith, h, sum_by-cons left_on j js)
 
-    go : (t : Option Side) → side_towards x y j ≡ t → unheard (towards x y js) ≡ [] → unheard (towards x y (j ∷ js)) ≡ []
+    go : (t : Option LinkSide) → side_towards x y j ≡ t → unheard (towards x y js) ≡ [] → unheard (towards x y (j ∷ js)) ≡ []
     go None e more = rw e more
     go (Some First) e more = rw e (nothing_unheard j.link.first (omega (arith, none)))
     go (Some Second) e more = rw e (nothing_unheard j.link.second (omega (arith, none)))

@@ -5,18 +5,20 @@ use Rattle.std.specs.List.{All, AllByRecursion, flat_map}
 use Rattle.std.proofs.lemmas.List.{append-nil, take-append-drop, length-map}
 use Rattle.std.proofs.lemmas.List.Elements.{filter-append, recursion_from_All, All-nil, All-append}
 use Rattle.std.proofs.lemmas.Bool.Decides.{nat_tests}
-use Rattle.m2_message.specs.Message.{Content}
+use Rattle.m2_message.specs.Message.{Content, priority_of}
 use Rattle.m2_policy.specs.declared.path.Key.{Key}
 use Rattle.m2_dispatch.specs.Heard.{is_key, of_key}
+use Rattle.m2_priority.specs.ByRank.{put_behind}
 use Rattle.m2_priority.proofs.ByRank.{Falls}
-use Rattle.m2_link.specs.Model.{Direction, posts, writes, accepts, arriving, behind}
+use Rattle.m2_priority.proofs.Joining.{falls-put_behind}
+use Rattle.m2_link.specs.Model.{Direction, posts, writes, accepts, arriving}
 use Rattle.m2_scenario.specs.declared.node.Node.{Node}
 use Rattle.m2_scenario.specs.declared.link.Link.{Link}
 use Rattle.m2_scenario.specs.Draft.{DraftLine, post, dial, down, cut, turn, flow, fault, settle, are_joined}
 use Rattle.m2_scenario.specs.Valid.{IsSound, IsLine}
 use Rattle.m2_sim.specs.Model.{Net, Joint, fresh, posted, after_post, after_fault, after_flow, flowing, broken, turned, taken, dispatched, at, grown_at, after_turn, after_turns, after_round, after_rounds, after_line, after_lines, key_of, nothing_heard, fast_of}
 use Rattle.m2_sim.specs.Posts.{posts_of}
-use Rattle.m2_sim.proofs.Keys.{and_first, and_second, has_key, priority_of, falls-behind, key-behind, key-dispatches, of_key-append}
+use Rattle.m2_sim.proofs.Keys.{and_first, and_second, has_key, key-post, key-dispatches, of_key-append}
 use Rattle.m2_sim.proofs.Joints.{AreOf, are_of-start, silent-start, towards, IsAlike, are_of-map, keeps-turned, keeps-posted, keeps-broken, keeps-flowing, turn_of_reader, turn_of_writer, turn_of_another, post_there, post_elsewhere, fault_keeps, flow_keeps}
 use Rattle.m2_sim.proofs.Takes.{picked_of_all, IsLinked, dispatched_linked}
 
@@ -185,8 +187,8 @@ posted_is_unheard fast key m d falls =
     let P = filter (has_key fast key) d.placed in
     let W = filter (has_key fast key) d.waiting in
     let M = filter (has_key fast key) (m ∷ []) in
-    filter-append (has_key fast key) d.placed (behind m d.waiting)
-    ∙ ap (λ l. P ++ l) (key-behind fast key m d.waiting falls)
+    filter-append (has_key fast key) d.placed (put_behind priority_of m d.waiting)
+    ∙ ap (λ l. P ++ l) (key-post fast key m d.waiting falls)
     ∙ sym (append_assoc P W M)
     ∙ ap (λ l. l ++ M) (sym (filter-append (has_key fast key) d.placed d.waiting))
 
@@ -215,7 +217,7 @@ after_a_post links n a b m said there h = record {
         absurd (let both : (eqb a x && eqb b y) ≡ true = rw (p, q) in cc)) h.joined.differ
 
     falls : (x y : ℕ) (c : Bool) → (eqb a x && eqb b y) ≡ c → Falls priority_of (towards x y (map (posted a b m) n.joints)).waiting
-    falls x y true e = rw (it_is x y e) (falls-behind m (towards x y n.joints).waiting (h.falls x y))
+    falls x y true e = rw (it_is x y e) (falls-put_behind priority_of (towards x y n.joints).waiting m (h.falls x y))
     falls x y false e = rw (it_is_not x y e) (h.falls x y)
 
     each : (x y : ℕ) (key : Key) (c : Bool) → (eqb a x && eqb b y) ≡ c

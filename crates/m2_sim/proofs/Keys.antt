@@ -5,14 +5,14 @@ use Rattle.std.specs.List.{AllByRecursion}
 use Rattle.std.proofs.lemmas.List.{append-nil}
 use Rattle.std.proofs.lemmas.List.Elements.{filter-append}
 use Rattle.std.proofs.lemmas.Bool.Decides.{nat_tests}
-use Rattle.m2_message.specs.Message.{Content}
+use Rattle.m2_message.specs.Message.{Content, priority_of}
 use Rattle.m2_policy.specs.declared.path.Key.{Key}
 use Rattle.m2_policy.specs.declared.path.Path.{Path}
 use Rattle.m2_policy.specs.declared.path.Path.TheVariants.{Fast, Queued}
 use Rattle.m2_dispatch.specs.Heard.{Heard, message, reset, is_path, is_key, of_key}
-use Rattle.m2_priority.specs.ByRank.{by_rank}
+use Rattle.m2_priority.specs.ByRank.{put_behind, by_rank}
 use Rattle.m2_priority.proofs.ByRank.{Falls, has_rank, rank-by_rank}
-use Rattle.m2_link.specs.Model.{behind}
+use Rattle.m2_priority.proofs.Joining.{rank-put_behind}
 use Rattle.m2_sim.specs.Model.{Taken, is_fast_path, is_fast, is_queued, rank_of, key_of, hears, dispatches}
 
 -- ---- tests
@@ -58,59 +58,21 @@ filter-by_rank rank p n h xs =
 abbrev pub has_key : List ℕ → Key → Content → Bool
 has_key fast key m = is_key (key_of fast m) key
 
-abbrev pub priority_of : Content → ℕ
-priority_of m = m.header.priority
-
-weaker : (n k : ℕ) (ms : List Content) → n ≤ k → AllByRecursion (λ m. priority_of m ≤ n) ms → AllByRecursion (λ m. priority_of m ≤ k) ms
-weaker n k [] h all = tt
-weaker n k (m ∷ ms) h all = (omega (arith, all.0), weaker n k ms h all.1)
-
-all-behind : (n : ℕ) (m : Content) (ws : List Content) → priority_of m ≤ n → AllByRecursion (λ o. priority_of o ≤ n) ws → AllByRecursion (λ o. priority_of o ≤ n) (behind m ws)
-all-behind n m [] h all = (h, tt)
-all-behind n m (w ∷ ws) h all =
-    elim (ltb (priority_of w) (priority_of m)) as (λ b. AllByRecursion (λ o. priority_of o ≤ n) (cond b (m ∷ w ∷ ws) (w ∷ behind m ws))) [ true ↦ (h, all) | false ↦ (all.0, all-behind n m ws h all.1) ]
-
-pub falls-behind : (m : Content) (ws : List Content) → Falls priority_of ws → Falls priority_of (behind m ws)
-falls-behind m [] h = (tt, tt)
-falls-behind m (w ∷ ws) h = go (ltb (priority_of w) (priority_of m)) refl (falls-behind m ws h.1)
-  where
-    go : (b : Bool) → ltb (priority_of w) (priority_of m) ≡ b → Falls priority_of (behind m ws) → Falls priority_of (cond b (m ∷ w ∷ ws) (w ∷ behind m ws))
-    go true e more = let under : priority_of w ≤ priority_of m = grind (arith, nat_tests) in ((under, weaker _ _ ws under h.0), h)
-    go false e more = let under : priority_of m ≤ priority_of w = grind (arith, nat_tests) in (all-behind _ m ws under h.0, more)
-
 -- a key's messages have its priority
 key_priority : (fast : List ℕ) (key : Key) (m : Content) → has_key fast key m ≡ true → priority_of m ≡ key.priority
 key_priority fast key m h =
     let same : eqb (priority_of m) key.priority ≡ true = and_first _ _ h in
     grind (arith, nat_tests)
 
--- none of a key is below its priority
-none_below : (fast : List ℕ) (key : Key) (n : ℕ) (ms : List Content) → n < key.priority → AllByRecursion (λ m. priority_of m ≤ n) ms → filter (has_key fast key) ms ≡ []
-none_below fast key n [] h all = refl
-none_below fast key n (m ∷ ms) h all = go (has_key fast key m) refl (none_below fast key n ms h all.1)
-  where
-    go : (b : Bool) → has_key fast key m ≡ b → filter (has_key fast key) ms ≡ [] → filter (has_key fast key) (m ∷ ms) ≡ []
-    go true e more = absurd (omega (arith, key_priority fast key m e, all.0))
-    go false e more = rw e more
-
 -- of each key a post goes to the end
-pub key-behind : (fast : List ℕ) (key : Key) (m : Content) (ws : List Content) → Falls priority_of ws
-    → filter (has_key fast key) (behind m ws) ≡ filter (has_key fast key) ws ++ filter (has_key fast key) (m ∷ [])
-key-behind fast key m [] h = refl
-key-behind fast key m (w ∷ ws) h =
-    go (ltb (priority_of w) (priority_of m)) (has_key fast key m) (has_key fast key w) refl refl refl (key-behind fast key m ws h.1)
-  where
-    go : (b c d : Bool) → ltb (priority_of w) (priority_of m) ≡ b → has_key fast key m ≡ c → has_key fast key w ≡ d
-        → filter (has_key fast key) (behind m ws) ≡ filter (has_key fast key) ws ++ filter (has_key fast key) (m ∷ [])
-        → filter (has_key fast key) (behind m (w ∷ ws)) ≡ filter (has_key fast key) (w ∷ ws) ++ filter (has_key fast key) (m ∷ [])
-    go true true d e f g more =
-        let at = key_priority fast key m f in
-        let lt : priority_of w < priority_of m = grind (arith, nat_tests) in
-        let rest : filter (has_key fast key) (w ∷ ws) ≡ [] = none_below fast key (priority_of w) (w ∷ ws) (omega (arith, at)) (omega arith, h.0) in
-        rw (e, f, rest)
-    go true false d e f g more = rw (e, f, append-nil)
-    go false c true e f g more = rw (e, g) (ap (λ l. w ∷ l) more)
-    go false c false e f g more = rw (e, g) more
+pub key-post : (fast : List ℕ) (key : Key) (m : Content) (ws : List Content) → Falls priority_of ws
+    → filter (has_key fast key) (put_behind priority_of m ws) ≡ filter (has_key fast key) ws ++ filter (has_key fast key) (m ∷ [])
+key-post fast key m ws h =
+    let p = has_key fast key in
+    let at : (o : Content) → p o ≡ true → has_rank priority_of key.priority o ≡ true = λ o e. let same = key_priority fast key o e in grind (arith, nat_tests) in
+    sym (filter-within p (has_rank priority_of key.priority) at (put_behind priority_of m ws))
+    ∙ ap (filter p) (rank-put_behind priority_of key.priority ws m h ∙ sym (filter-append (has_rank priority_of key.priority) ws (m ∷ [])))
+    ∙ filter-within p (has_rank priority_of key.priority) at (ws ++ m ∷ []) ∙ filter-append p ws (m ∷ [])
 
 -- ---- what was taken
 

@@ -5,8 +5,8 @@ use Rattle.std.specs.Global.{Global}
 use Rattle.std.proofs.lemmas.List.{append-nil, length-set, length-map, length-take-le, get_or_append_left, get_or_push, get_or-map, get_or-take, map_more}
 use Rattle.std.proofs.lemmas.List.Elements.{All-push}
 use Rattle.std.proofs.lemmas.Bool.{and_parts, eqb-true, cases_lt}
-use Rattle.m2_link.specs.declared.side.Side.{Side}
-use Rattle.m2_link.specs.declared.side.Side.TheVariants.{First, Second}
+use Rattle.m2_link.specs.declared.link_side.LinkSide.{LinkSide}
+use Rattle.m2_link.specs.declared.link_side.LinkSide.TheVariants.{First, Second}
 use Rattle.m2_scenario.specs.declared.link.Link.{Link}
 use Rattle.m2_scenario.specs.Draft.{joins}
 use Rattle.m2_scenario.specs.Link.{cell}
@@ -32,19 +32,19 @@ put_other (x ∷ xs) (suc i) (suc k) v h = put_other xs i k v (λ e. h (ap suc e
 
 -- ---- which side a link turns to another node
 
-abbrev pub Chosen : Bool → Bool → Option Side
+abbrev pub Chosen : Bool → Bool → Option LinkSide
 Chosen p q = if p then Some First else if q then Some Second else None
 
-chosen : (p q : Bool) (s : Side) → Chosen p q ≡ Some s → ((p ≡ true) × (s ≡ First)) ⊎ ((q ≡ true) × (s ≡ Second))
+chosen : (p q : Bool) (s : LinkSide) → Chosen p q ≡ Some s → ((p ≡ true) × (s ≡ First)) ⊎ ((q ≡ true) × (s ≡ Second))
 chosen true q s e = inl (refl, (cc))
 chosen false true s e = inr (refl, (cc))
 chosen false false s e = absurd (cc)
 
 -- `j` is a link of x and y, and `side` is that of x
-abbrev pub IsSide : ℕ → ℕ → Joint → Side → Type 0
+abbrev pub IsSide : ℕ → ℕ → Joint → LinkSide → Type 0
 IsSide x y j side = ((j.a ≡ x) × (j.b ≡ y) × (side ≡ First)) ⊎ ((j.a ≡ y) × (j.b ≡ x) × (side ≡ Second))
 
-pub sides : (x y : ℕ) (j : Joint) (side : Side) → side_towards x y j ≡ Some side → IsSide x y j side
+pub sides : (x y : ℕ) (j : Joint) (side : LinkSide) → side_towards x y j ≡ Some side → IsSide x y j side
 sides x y j side e = elim (chosen ((j.a == x) && (j.b == y)) ((j.a == y) && (j.b == x)) side e) as (λ _. IsSide x y j side) [
   | inl p ↦ let both = and_parts (j.a == x) (j.b == y) p.0 in inl (eqb-true j.a x both.0, eqb-true j.b y both.1, p.1)
   | inr p ↦ let both = and_parts (j.a == y) (j.b == x) p.0 in inr (eqb-true j.a y both.0, eqb-true j.b x both.1, p.1)
@@ -70,7 +70,7 @@ last_or_before : (k n : ℕ) → k < n + 1 → (k < n) ⊎ (k ≡ n)
 last_or_before k n h = elim (cases_lt k n) as (λ _. (k < n) ⊎ (k ≡ n)) [ inl low ↦ inl low | inr high ↦ inr (omega (arith, h, high)) ]
 
 -- the nodes of a link of few nodes
-pub low_of : (n : ℕ) → n ≤ 16 → (x y : ℕ) (j : Joint) (side : Side) → IsBetween n j → IsSide x y j side → (x < 16) × (y < 16)
+pub low_of : (n : ℕ) → n ≤ 16 → (x y : ℕ) (j : Joint) (side : LinkSide) → IsBetween n j → IsSide x y j side → (x < 16) × (y < 16)
 low_of n few x y j side w s = elim s as (λ _. (x < 16) × (y < 16)) [
   | inl p ↦ (omega (arith, w, p.0, p.1, few), omega (arith, w, p.0, p.1, few))
   | inr p ↦ (omega (arith, w, p.0, p.1, few), omega (arith, w, p.0, p.1, few))
@@ -110,7 +110,7 @@ module _ (old new : Topology) (n : ℕ) (js : List Joint) (a b : ℕ) (h : IsTop
     (ends : (x : ℕ) (d : Vec End Global) → x < length old.ends.items
     → ends_at new x d ≡ ends_at old x d ++ end_at (length js) (side_of x (between a b)))
     (towards : new.towards ≡ with_link (length js) a b old.towards) where
-  kept : (x y k : ℕ) (side : Side) → k < length js → side_towards x y (joint_at js k) ≡ Some side → HasEnd new.towards x y (record { place = k; side = side })
+  kept : (x y k : ℕ) (side : LinkSide) → k < length js → side_towards x y (joint_at js k) ≡ Some side → HasEnd new.towards x y (record { place = k; side = side })
   kept x y k side below is =
       let none = unlinked k below in
       let low = low_of n h.few x y (joint_at js k) side (h.within k (between 0 0) below) (sides x y (joint_at js k) side is) in
@@ -120,7 +120,7 @@ module _ (old new : Topology) (n : ℕ) (js : List Joint) (a b : ℕ) (h : IsTop
       (λ e. let same : side_towards b a (joint_at js k) ≡ Some side = rw (← e.0, ← e.1) is in let no : None ≡ Some side = sym (not_back a b (joint_at js k) none) ∙ same in absurd (cc no))
       ∙ h.towards x y k side below is
 
-  added : (x y : ℕ) (side : Side) → side_towards x y (between a b) ≡ Some side → HasEnd new.towards x y (record { place = length js; side = side })
+  added : (x y : ℕ) (side : LinkSide) → side_towards x y (between a b) ≡ Some side → HasEnd new.towards x y (record { place = length js; side = side })
   added x y side is =
       ap (λ cells. slice_get cells (cell x y)) towards
       ∙ (elim (sides x y (between a b) side is) as (λ _. HasEnd (with_link (length js) a b old.towards) x y (record { place = length js; side = side })) [
@@ -128,7 +128,7 @@ module _ (old new : Topology) (n : ℕ) (js : List Joint) (a b : ℕ) (h : IsTop
         | inr p ↦ rw (← p.0, ← p.1, p.2) (written_second old.towards (length js) a b h.cells (omega (arith, h.few)) (omega (arith, h.few)) apart)
       ])
 
-  one_of : (x y k : ℕ) (side : Side) → k < length (js ++ between a b ∷ []) → side_towards x y (joint_at (js ++ between a b ∷ []) k) ≡ Some side
+  one_of : (x y k : ℕ) (side : LinkSide) → k < length (js ++ between a b ∷ []) → side_towards x y (joint_at (js ++ between a b ∷ []) k) ≡ Some side
       → (k < length js) ⊎ (k ≡ length js) → HasEnd new.towards x y (record { place = k; side = side })
   one_of x y k side below is where' = elim where' as (λ _. HasEnd new.towards x y (record { place = k; side = side })) [
     | inl low ↦ kept x y k side low (ap (side_towards x y) (sym (get_or_append_left js (between a b ∷ []) (between 0 0) k low)) ∙ is)

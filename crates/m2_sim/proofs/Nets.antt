@@ -8,7 +8,7 @@ use Rattle.std.proofs.lemmas.List.Elements.{All-map}
 use Rattle.std.proofs.lemmas.Bool.{cases_eq}
 use Rattle.m2_message.specs.Message.{Content}
 use Rattle.m2_link.specs.Model as link
-use Rattle.m2_link.specs.declared.side.Side.{Side}
+use Rattle.m2_link.specs.declared.link_side.LinkSide.{LinkSide}
 use Rattle.m2_scenario.specs.declared.node.Node.{Node}
 use Rattle.m2_scenario.specs.declared.link.Link.{Link}
 use Rattle.m2_scenario.specs.Link.{cell}
@@ -52,7 +52,7 @@ broken_all x y js e j k h is put =
 
 -- ---- the nodes of a link stay
 
-bare_where : (change : Side → link.Link → link.Link) (o : Option Side) (j : Joint) → bare (where_side change o j) ≡ bare j
+bare_where : (change : LinkSide → link.Link → link.Link) (o : Option LinkSide) (j : Joint) → bare (where_side change o j) ≡ bare j
 bare_where change None j = refl
 bare_where change (Some side) j = refl
 
@@ -115,11 +115,11 @@ found : (p : Joint → Bool) (js : List Joint) → list_any p js ≡ true → (k
 found p [] h = absurd (cc)
 found p (j ∷ js) h = found_in p j js (p j) refl h (found p js)
 
-side_from : (o : Option Side) → is_some o ≡ true → (s : Side) × (o ≡ Some s)
+side_from : (o : Option LinkSide) → is_some o ≡ true → (s : LinkSide) × (o ≡ Some s)
 side_from None h = absurd (cc)
 side_from (Some s) h = (s, refl)
 
-none_from : (o : Option Side) → ((s : Side) → ¬ (o ≡ Some s)) → o ≡ None
+none_from : (o : Option LinkSide) → ((s : LinkSide) → ¬ (o ≡ Some s)) → o ≡ None
 none_from None h = refl
 none_from (Some s) h = absurd (h s refl)
 
@@ -130,7 +130,7 @@ module _ (t : Topology) (n : ℕ) (js : List Joint) (x y : ℕ) (h : IsTopology 
   at_k : (k : ℕ) → k < length js → joint_at (map bare js) k ≡ bare (joint_at js k)
   at_k k low = get_or-map bare js k (between 0 0) (between 0 0) low
 
-  end_is : (k : ℕ) (s : Side) → k < length js → side_towards x y (joint_at js k) ≡ Some s → HasEnd t.towards x y (record { place = k; side = s })
+  end_is : (k : ℕ) (s : LinkSide) → k < length js → side_towards x y (joint_at js k) ≡ Some s → HasEnd t.towards x y (record { place = k; side = s })
   end_is k s low is = h.towards x y k s (let e = length-map js bare in omega (arith, low, e)) (ap (side_towards x y) (at_k k low) ∙ is)
 
   pub linked_low : (x < 16) × (y < 16)

@@ -13,8 +13,8 @@ use Rattle.m2_priority.proofs.ByRank.{all-by_rank}
 use Rattle.m2_scenario.specs.declared.link.Link.{Link}
 use Rattle.m2_scenario.specs.Draft.{are_joined}
 use Rattle.m2_link.specs.Model.{arriving, arrivals, written_by}
-use Rattle.m2_link.specs.declared.side.Side.{Side}
-use Rattle.m2_link.specs.declared.side.Side.TheVariants.{First, Second}
+use Rattle.m2_link.specs.declared.link_side.LinkSide.{LinkSide}
+use Rattle.m2_link.specs.declared.link_side.LinkSide.TheVariants.{First, Second}
 use Rattle.m2_sim.specs.Model.{peer_of, rank_of, is_fast, is_queued, hears, dispatched, Joint, Taken, side_of, side_towards, from_peer, taken}
 use Rattle.m2_sim.proofs.Keys.{has_key, is_of, content_in}
 use Rattle.m2_sim.proofs.Joints.{AreOf, meets, same_test, or_true, Differ, JoinsBy, other, ends_of, at_side, reader_side, joins_not, towards, Only, Once}
@@ -41,10 +41,10 @@ module _ (x : ℕ) (fast : List ℕ) (key : Key) where
 
   module _ (y : ℕ) where
     -- on the link that joins the two
-    picked_there : (j : Joint) (s : Side) → Differ j → side_towards x y j ≡ Some s → picked (taken y j) ≡ filter (has_key fast key) (arriving (written_by s j.link))
+    picked_there : (j : Joint) (s : LinkSide) → Differ j → side_towards x y j ≡ Some s → picked (taken y j) ≡ filter (has_key fast key) (arriving (written_by s j.link))
     picked_there j s d h = go s (ends_of x y j s h) (reader_side x y j s d h)
       where
-        go : (s : Side) → JoinsBy x y s j → side_of y j ≡ Some (other s) → picked (taken y j) ≡ filter (has_key fast key) (arriving (written_by s j.link))
+        go : (s : LinkSide) → JoinsBy x y s j → side_of y j ≡ Some (other s) → picked (taken y j) ≡ filter (has_key fast key) (arriving (written_by s j.link))
         go First at e = rw e (from_it j.a _ at.0)
         go Second at e = rw e (from_it j.b _ at.1)
 
@@ -52,7 +52,7 @@ module _ (x : ℕ) (fast : List ℕ) (key : Key) where
     picked_elsewhere : (j : Joint) → side_towards x y j ≡ None → picked (taken y j) ≡ []
     picked_elsewhere j h = go (side_of y j) refl
       where
-        go : (t : Option Side) → side_of y j ≡ t → picked (taken y j) ≡ []
+        go : (t : Option LinkSide) → side_of y j ≡ t → picked (taken y j) ≡ []
         go None e = rw e
         go (Some First) e = rw e (from_another j.b _ (λ p. joins_not x y j Second h (at_side y j First e, p)))
         go (Some Second) e = rw e (from_another j.a _ (λ p. joins_not x y j First h (p, at_side y j Second e)))
@@ -70,7 +70,7 @@ module _ (x : ℕ) (fast : List ℕ) (key : Key) where
     picked_of_all (j ∷ js) all once =
         picked-append (taken y j) (flat_map (taken y) js) ∙ go (side_towards x y j) refl (picked_of_all js all.1 once.1) once.0
       where
-        go : (t : Option Side) → side_towards x y j ≡ t → picked (flat_map (taken y) js) ≡ filter (has_key fast key) (arriving (towards x y js))
+        go : (t : Option LinkSide) → side_towards x y j ≡ t → picked (flat_map (taken y) js) ≡ filter (has_key fast key) (arriving (towards x y js))
             → Only t (AllByRecursion (λ k. side_towards x y k ≡ None) js)
             → picked (taken y j) ++ picked (flat_map (taken y) js) ≡ filter (has_key fast key) (arriving (towards x y (j ∷ js)))
         go None e more only = rw (e, picked_elsewhere j e) more
@@ -89,7 +89,7 @@ each_meets (j ∷ js) = ((λ x y e. rw e), more js (each_meets js))
     more (k ∷ ks) all = ((λ x y e. rw (all.0 x y e) (or_true _)), more ks all.1)
 
 -- a node's link joins it and the peer
-joins_peer : (y : ℕ) (j : Joint) (s : Side) → side_of y j ≡ Some s → is_some (side_towards (peer_of s j) y j) ≡ true
+joins_peer : (y : ℕ) (j : Joint) (s : LinkSide) → side_of y j ≡ Some s → is_some (side_towards (peer_of s j) y j) ≡ true
 joins_peer y j First e =
     let tail : cond (eqb j.a y && eqb j.b j.b) (Some Second) None ≡ Some Second = rw (same_test j.a y (at_side y j First e), same_test j.b j.b refl) in
     elim (eqb j.a j.b && eqb j.b y) as (λ b. is_some (cond b (Some First) (cond (eqb j.a y && eqb j.b j.b) (Some Second) None)) ≡ true) [ true ↦ refl | false ↦ ap is_some tail ]
@@ -102,7 +102,7 @@ taken_linked links js y h = go js (each_meets js)
     Q : Taken → Type 0
     Q t = are_joined links t.peer y ≡ true
 
-    at_one : (k : Joint) → ((x y : ℕ) → is_some (side_towards x y k) ≡ true → meets x y js ≡ true) → (t : Option Side) → side_of y k ≡ t → All Q (taken y k)
+    at_one : (k : Joint) → ((x y : ℕ) → is_some (side_towards x y k) ≡ true → meets x y js ≡ true) → (t : Option LinkSide) → side_of y k ≡ t → All Q (taken y k)
     at_one k met None e = rw e (All-nil Q)
     at_one k met (Some s) e =
         let there = sym (h.met (peer_of s k) y) ∙ met (peer_of s k) y (joins_peer y k s e) in

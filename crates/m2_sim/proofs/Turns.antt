@@ -4,7 +4,7 @@ use Rattle.std.specs.List.{flat_map}
 use Rattle.std.proofs.lemmas.List.{length-map, length-set, get_or_at, set_at, get_or-map, map-append, map-set, set-get_or}
 use Rattle.std.proofs.lemmas.List.Elements.{All-nil, All-cons, All-append, All-set}
 use Rattle.m2_link.specs.Model as link
-use Rattle.m2_link.specs.declared.side.Side.{Side}
+use Rattle.m2_link.specs.declared.link_side.LinkSide.{LinkSide}
 use Rattle.m2_dispatch.specs.Heard.{Heard}
 use Rattle.m2_priority.specs.ByRank.{by_rank}
 use Rattle.m2_sim.specs.Model as model
@@ -21,7 +21,7 @@ use Rattle.m2_sim.proofs.Nets.{bare_turned}
 
 -- ---- a node's ends are all its links
 
-within_end : (n p : ℕ) (o : Option Side) → p < n → All (IsPlace n) (end_at p o)
+within_end : (n p : ℕ) (o : Option LinkSide) → p < n → All (IsPlace n) (end_at p o)
 within_end n p None h = All-nil (IsPlace n)
 within_end n p (Some side) h = All-cons (IsPlace n) (record { place = p; side = side }) [] h (All-nil (IsPlace n))
 
@@ -34,7 +34,7 @@ abbrev Turned : ℕ → List Joint → List Joint → Visited
 Turned x pre js = record { joints = pre ++ map (turned x) js; taken = flat_map (taken x) js }
 
 -- the turn at a link, where the ends behind it are those of the links behind it
-visit_one : (x : ℕ) (pre : List Joint) (j : Joint) (js : List Joint) (es : List End) (o : Option Side)
+visit_one : (x : ℕ) (pre : List Joint) (j : Joint) (js : List Joint) (es : List End) (o : Option LinkSide)
     → ((i : Joint) → visited es (pre ++ i ∷ js) ≡ record { joints = pre ++ i ∷ map (turned x) js; taken = flat_map (taken x) js })
     → visited (end_at (length pre) o ++ es) (pre ++ j ∷ js)
     ≡ record { joints = pre ++ where_side link.after_turn o j ∷ map (turned x) js; taken = taken_at o j ++ flat_map (taken x) js }

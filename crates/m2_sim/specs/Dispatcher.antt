@@ -3,8 +3,8 @@ use Rattle.std.specs.Prelude.{ℕ, List, [], ◌++◌, map, filter}
 use Rattle.m2_dispatch.specs.declared.logged.Logged.{Logged}
 use Rattle.m2_dispatch.specs.Heard.{Heard, message, reset, heard_of}
 use Rattle.m2_priority.specs.ByRank.{by_rank}
-use Rattle.m2_link.specs.Taken.{content_taken}
-use Rattle.m2_link.specs.declared.taken.Taken as link
+use Rattle.m2_link.specs.Accepted.{content_taken}
+use Rattle.m2_link.specs.declared.accepted.Accepted as link
 use Rattle.m2_sim.specs.Model.{Taken, from_peer, is_fast, is_queued, hears}
 
 pub record Dispatcher : Type 0 where
@@ -18,10 +18,10 @@ abbrev pub idle : List ℕ → Dispatcher
 idle fast = record { fast = fast; heard = []; queued = [] }
 
 -- a message that was taken from the link of a peer, and all of them
-abbrev pub from : ℕ → link.Taken → Taken
+abbrev pub from : ℕ → link.Accepted → Taken
 from peer t = from_peer peer (content_taken t)
 
-abbrev pub all_from : ℕ → List link.Taken → List Taken
+abbrev pub all_from : ℕ → List link.Accepted → List Taken
 all_from peer ts = map (from_peer peer) (map content_taken ts)
 
 -- the fast messages of what was taken, and the others, each in order

@@ -11,8 +11,8 @@ use Rattle.m2_policy.specs.declared.path.Path.{Path}
 use Rattle.m2_policy.specs.declared.path.Path.TheVariants.{Fast, Queued}
 use Rattle.m2_dispatch.specs.Heard.{Heard, message}
 use Rattle.m2_link.specs.Model as link
-use Rattle.m2_link.specs.declared.side.Side.{Side}
-use Rattle.m2_link.specs.declared.side.Side.TheVariants.{First, Second}
+use Rattle.m2_link.specs.declared.link_side.LinkSide.{LinkSide}
+use Rattle.m2_link.specs.declared.link_side.LinkSide.TheVariants.{First, Second}
 use Rattle.m2_scenario.specs.declared.node.Node.{Node}
 use Rattle.m2_scenario.specs.declared.link.Link.{Link}
 use Rattle.m2_scenario.specs.Draft.{DraftLine, post, dial, down, cut, turn, flow, fault, settle}
@@ -45,20 +45,20 @@ abbrev pub fresh : List Node → List Link → Net
 fresh nodes links = record { fast = map fast_of nodes; joints = map joint_of links; heard = map nothing_heard nodes }
 
 -- which node of a link a place is
-abbrev pub side_of : ℕ → Joint → Option Side
+abbrev pub side_of : ℕ → Joint → Option LinkSide
 side_of x j = if j.a == x then Some First else if j.b == x then Some Second else None
 
 -- the place of the other node
-abbrev pub peer_of : Side → Joint → ℕ
+abbrev pub peer_of : LinkSide → Joint → ℕ
 peer_of First j = j.b
 peer_of Second j = j.a
 
 -- the side of the first of two places, where the link is theirs
-abbrev pub side_towards : ℕ → ℕ → Joint → Option Side
+abbrev pub side_towards : ℕ → ℕ → Joint → Option LinkSide
 side_towards x y j = if (j.a == x) && (j.b == y) then Some First else if (j.a == y) && (j.b == x) then Some Second else None
 
 -- a change of the link, where a place is one of its nodes
-abbrev pub where_side : (Side → link.Link → link.Link) → Option Side → Joint → Joint
+abbrev pub where_side : (LinkSide → link.Link → link.Link) → Option LinkSide → Joint → Joint
 where_side change None j = j
 where_side change (Some side) j = record j { link = change side j.link }
 
@@ -93,7 +93,7 @@ abbrev pub from_peer : ℕ → Content → Taken
 from_peer peer m = record { peer = peer; content = m }
 
 -- what the node at x takes of one link, in order
-abbrev pub taken_at : Option Side → Joint → List Taken
+abbrev pub taken_at : Option LinkSide → Joint → List Taken
 taken_at None j = []
 taken_at (Some side) j = map (from_peer (peer_of side j)) (link.arrivals side j.link)
 

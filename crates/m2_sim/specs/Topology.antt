@@ -5,8 +5,8 @@ use Rattle.std.specs.Global.{Global}
 use Rattle.std.specs.List.{list_any}
 use Rattle.std.specs.Option.{is_some}
 use Rattle.m2_link.specs.Model as link
-use Rattle.m2_link.specs.declared.side.Side.{Side}
-use Rattle.m2_link.specs.declared.side.Side.TheVariants.{First, Second}
+use Rattle.m2_link.specs.declared.link_side.LinkSide.{LinkSide}
+use Rattle.m2_link.specs.declared.link_side.LinkSide.TheVariants.{First, Second}
 use Rattle.m2_scenario.specs.Link.{cell}
 use Rattle.m2_sim.specs.Model.{Joint, side_of, side_towards}
 use Rattle.m2_sim.specs.declared.topology.End.{End}
@@ -25,7 +25,7 @@ abbrev pub joint_at : List Joint → ℕ → Joint
 joint_at js k = slice_index_or js k (between 0 0)
 
 -- the end of a node that may have a part in the link at a place
-abbrev pub end_at : ℕ → Option Side → List End
+abbrev pub end_at : ℕ → Option LinkSide → List End
 end_at place None = []
 end_at place (Some side) = record { place = place; side = side } ∷ []
 
@@ -65,7 +65,7 @@ pub record IsTopology (t : Topology) (n : ℕ) (js : List Joint) : Type 0 where
   pub nodes : length t.ends.items ≡ n
   pub ends : (x : ℕ) (d : Vec End Global) → x < n → ends_at t x d ≡ ends_from 0 x js
   pub cells : length t.towards ≡ 256
-  pub towards : (x y k : ℕ) (side : Side) → k < length js → side_towards x y (joint_at js k) ≡ Some side
+  pub towards : (x y k : ℕ) (side : LinkSide) → k < length js → side_towards x y (joint_at js k) ≡ Some side
       → HasEnd t.towards x y (record { place = k; side = side })
 
 -- `end` is that of x at the only one of these joints that joins it to y

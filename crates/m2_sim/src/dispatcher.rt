@@ -7,7 +7,7 @@ ghost use Rattle.m2_sim.specs.Dispatcher.{idle, from, all_from, hears_taken, run
 
 use m2_bytes::{Items, NoMemory};
 use m2_dispatch::{Logged, LoggedList};
-use m2_link::Taken;
+use m2_link::Accepted;
 use m2_policy::{FastSet, Key, Path};
 use m2_priority::sort_by_rank;
 use std::alloc::Global;
@@ -46,7 +46,7 @@ impl Dispatcher {
 
     /// What was taken from the link of a peer, in order: the fast messages are dispatched, and the
     /// others wait. It empties `taken`. Err comes for want of memory.
-    pub(crate) fn hear(&mut self, peer: u32, taken: &mut Vec<Taken>) -> Result<(), NoMemory>
+    pub(crate) fn hear(&mut self, peer: u32, taken: &mut Vec<Accepted>) -> Result<(), NoMemory>
         ensures hears { OnOk result (self.new ≡ hears_taken (all_from peer taken.old.items) self.old) }
         ensures empty { OnOk result (taken.new.items ≡ []) }
     {
@@ -57,7 +57,7 @@ impl Dispatcher {
         Ok(())
     }
 
-    fn hear_one(&mut self, peer: u32, taken: Taken) -> Result<(), NoMemory>
+    fn hear_one(&mut self, peer: u32, taken: Accepted) -> Result<(), NoMemory>
         ensures { OnOk result (self.new ≡ hears_taken (from peer taken ∷ []) self.old) }
     {
         let header = taken.message.header;

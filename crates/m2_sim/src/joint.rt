@@ -2,13 +2,13 @@
 
 ghost use Rattle.std.specs.Prelude.{◌≡◌, ◌<◌, ◌^◌, ◌++◌, map, OnOk};
 ghost use Rattle.m2_message.specs.Message.{content_of};
-ghost use Rattle.m2_link.specs.Taken.{content_taken};
+ghost use Rattle.m2_link.specs.Accepted.{content_taken};
 ghost use Rattle.m2_link.specs.Model.{arrivals};
 ghost use Rattle.m2_sim.specs.Model.{joint_of, peer_of, flowing, left_on};
 ghost use Rattle.m2_sim.specs.Joint.{turned_by, posted_by, faulted};
 
 use m2_bytes::NoMemory;
-use m2_link::{Link, Side, Taken};
+use m2_link::{Accepted, Link, LinkSide};
 use m2_message::Message;
 use std::alloc::Global;
 use std::marker::Model;
@@ -42,17 +42,17 @@ impl Joint {
     }
 
     /// The node beyond a side.
-    pub(crate) fn peer(&self, side: Side) -> u32
+    pub(crate) fn peer(&self, side: LinkSide) -> u32
         ensures { result ≡ peer_of side self.now }
     {
         match side {
-            Side::First => self.b,
-            Side::Second => self.a,
+            LinkSide::First => self.b,
+            LinkSide::Second => self.a,
         }
     }
 
     /// The side posts a message. Err comes for want of memory.
-    pub(crate) fn post(&mut self, side: Side, message: Message) -> Result<(), NoMemory>
+    pub(crate) fn post(&mut self, side: LinkSide, message: Message) -> Result<(), NoMemory>
         ensures { OnOk result (self.new ≡ posted_by side (content_of message) self.old) }
     {
         match self.link.post(side, message) {
@@ -62,7 +62,7 @@ impl Joint {
     }
 
     /// A turn of the side, which puts what it takes behind `taken`. Err comes for want of memory.
-    pub(crate) fn turn(&mut self, side: Side, taken: &mut Vec<Taken>) -> Result<(), NoMemory>
+    pub(crate) fn turn(&mut self, side: LinkSide, taken: &mut Vec<Accepted>) -> Result<(), NoMemory>
         ensures joint { OnOk result (self.new ≡ turned_by side self.old) }
         ensures taken { OnOk result (map content_taken taken.new.items
             ≡ map content_taken taken.old.items ++ arrivals side self.old.link) }

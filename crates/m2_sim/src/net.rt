@@ -11,7 +11,7 @@ use crate::dispatcher::Dispatcher;
 use crate::joint::Joint;
 use crate::topology::{End, Topology};
 use m2_bytes::NoMemory;
-use m2_link::Taken;
+use m2_link::Accepted;
 use m2_message::Message;
 use m2_scenario::{Link, Node};
 use std::alloc::Global;
@@ -23,7 +23,7 @@ pub(crate) struct Net {
     pub(crate) joints: Vec<Joint>,
     pub(crate) dispatchers: Vec<Dispatcher>,
     /// What a node takes of a link; empty between turns.
-    pub(crate) taken: Vec<Taken>,
+    pub(crate) taken: Vec<Accepted>,
 }
 
 fn joints(alloc: Global, links: &[Link]) -> Result<Vec<Joint>, NoMemory>

@@ -10,7 +10,7 @@ ghost use Rattle.m2_sim.specs.Topology.{between, end_at, ends_from, ends_at, wit
 ghost use Rattle.m2_sim.specs.declared.topology.End.{End};
 
 use m2_bytes::NoMemory;
-use m2_link::Side;
+use m2_link::LinkSide;
 use m2_scenario::Link;
 use std::alloc::Global;
 
@@ -19,7 +19,7 @@ use std::alloc::Global;
 #[derive(Clone, Copy, Debug)]
 pub(crate) struct End {
     pub(crate) place: usize,
-    pub(crate) side: Side,
+    pub(crate) side: LinkSide,
 }
 
 /// Of each node the ends that it has, in the order of the links, and of each two that are joined
@@ -75,11 +75,11 @@ impl Topology {
     {
         let first = End {
             place,
-            side: Side::First,
+            side: LinkSide::First,
         };
         let second = End {
             place,
-            side: Side::Second,
+            side: LinkSide::Second,
         };
         self.ends[a as usize].push(first)?;
         self.ends[b as usize].push(second)?;

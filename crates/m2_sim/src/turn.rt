@@ -11,14 +11,14 @@ use crate::joint::Joint;
 use crate::net::Net;
 use crate::topology::End;
 use m2_bytes::NoMemory;
-use m2_link::Taken;
+use m2_link::Accepted;
 
 // A node takes its turn at each of its ends; the dispatcher hears what it takes, in this order.
 // `taken` is room for what is taken of one link.
 fn visit(
     ends: &[End],
     joints: &mut Vec<Joint>,
-    taken: &mut Vec<Taken>,
+    taken: &mut Vec<Accepted>,
     dispatcher: &mut Dispatcher,
 ) -> Result<(), NoMemory>
     requires places { All (IsPlace (length joints.old.items)) ends.now }

@@ -13,4 +13,6 @@ mod control;
 #[cfg(test)]
 mod crc;
 #[cfg(test)]
+mod message;
+#[cfg(test)]
 mod tag;

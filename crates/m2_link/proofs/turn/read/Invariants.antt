@@ -2,9 +2,9 @@
 -- handed its acknowledgements.
 use Rattle.std.proofs.Common.{◌≡◌, ◌+◌, ◌≤◌, ◌++◌, map, vec_len, vec_capacity}
 use Rattle.m2_link.specs.Model.{accepts, arriving}
-use Rattle.m2_link.specs.Taken.{content_taken, number_taken, arriving_numbers}
+use Rattle.m2_link.specs.Accepted.{content_taken, number_taken, arriving_numbers}
 use Rattle.m2_link.specs.Direction.{direction_of, ArePaired}
-use Rattle.m2_link.specs.Sender.{unsent}
+use Rattle.m2_queues.specs.OutQueues.{unsent}
 use Rattle.m2_link.proofs.turn.read.Given as goal
 
 abbrev pub invariant-loop-inward : goal.invariant-loop-inward
@@ -16,7 +16,7 @@ invariant-loop-inward l = record {
   numbers : map number_taken l.taken.items ++ arriving_numbers (direction_of l.inward)
       ≡ map number_taken l.initial.taken.items ++ arriving_numbers (direction_of l.initial.inward);
   stays : direction_of l.outward ≡ direction_of l.initial.outward;
-  unsent : unsent l.outward.out ≡ unsent l.initial.outward.out;
+  unsent : unsent l.outward.out.queue ≡ unsent l.initial.outward.out.queue;
   only : l.outward ≡ record l.initial.outward { out = l.outward.out };
 }
 

@@ -1,6 +1,6 @@
 use Rattle.m2_link.proofs.Frames.{most-append}
 use Rattle.m2_link.proofs.Moves.{view-ack, holds-ack}
-use Rattle.m2_link.specs.declared.frame.Frame.TheVariants.{Ack}
+use Rattle.m2_link.specs.declared.link_frame.LinkFrame.TheVariants.{Ack}
 use Rattle.m2_link.proofs.direction.Direction.write_ack.Goals as goal
 
 pub returns-clause-holds : goal.returns-clause-holds

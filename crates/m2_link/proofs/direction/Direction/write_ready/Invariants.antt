@@ -2,7 +2,7 @@
 use Rattle.std.proofs.Common.{◌≡◌, ℕ, ◌+◌, ◌<◌, ◌≤◌}
 use Rattle.std.specs.VecDeque.{deque_len, deque_capacity}
 use Rattle.m2_link.specs.Direction.{direction_of, IsDirection}
-use Rattle.m2_link.specs.Frame.{AcknowledgeAtMost}
+use Rattle.m2_link.specs.LinkFrame.{AcknowledgeAtMost}
 use Rattle.m2_link.proofs.direction.Direction.write_ready.Given as goal
 
 abbrev pub invariant-loop : goal.invariant-loop

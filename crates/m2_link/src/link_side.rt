@@ -2,7 +2,7 @@
 
 /// One of the two nodes of a link.
 #[derive(Clone, Copy, Debug, PartialEq, Eq)]
-pub enum Side {
+pub enum LinkSide {
     First,
     Second,
 }

@@ -1,7 +1,7 @@
 //! A pair of nodes, step by step.
 
-use super::*;
 use m2_bytes::{Blob, NoMemory};
+use m2_link::{Accepted, Link, LinkSide};
 use m2_message::{Header, Message};
 use std::alloc::Global;
 use std::test::Fail;
@@ -29,7 +29,12 @@ fn message(alloc: Global, priority: u16, letter: u8) -> Result<Message, NoMemory
 }
 
 /// Posts a message for each priority and letter.
-fn posts(link: &mut Link, alloc: Global, from: Side, what: &[(u16, u8)]) -> Result<(), NoMemory> {
+fn posts(
+    link: &mut Link,
+    alloc: Global,
+    from: LinkSide,
+    what: &[(u16, u8)],
+) -> Result<(), NoMemory> {
     for (priority, letter) in what {
         let message = message(alloc, *priority, *letter)?;
         link.post(from, message).map_err(|_| NoMemory)?;
@@ -38,7 +43,12 @@ fn posts(link: &mut Link, alloc: Global, from: Side, what: &[(u16, u8)]) -> Resu
 }
 
 /// One side takes a turn, what it wrote flows, and the other takes a turn: what they took.
-fn carries(link: &mut Link, alloc: Global, from: Side, to: Side) -> Result<Vec<Taken>, NoMemory> {
+fn carries(
+    link: &mut Link,
+    alloc: Global,
+    from: LinkSide,
+    to: LinkSide,
+) -> Result<Vec<Accepted>, NoMemory> {
     let mut taken = Vec::new(alloc);
     link.turn(from, &mut taken)?;
     link.flow();
@@ -47,7 +57,7 @@ fn carries(link: &mut Link, alloc: Global, from: Side, to: Side) -> Result<Vec<T
 }
 
 /// The letters that were taken, and the number of the last.
-fn told(alloc: Global, taken: &[Taken]) -> Result<(Vec<u8>, u64), NoMemory> {
+fn told(alloc: Global, taken: &[Accepted]) -> Result<(Vec<u8>, u64), NoMemory> {
     let mut letters = Vec::new(alloc);
     let mut last = 0;
     for item in taken {
@@ -61,8 +71,8 @@ fn told(alloc: Global, taken: &[Taken]) -> Result<(Vec<u8>, u64), NoMemory> {
 fn a_greater_priority_goes_first(rt: HostRuntime) -> Result<(), Fail> {
     let mut link = Link::new(rt.alloc());
     let what = [(63, b'a'), (127, b'b'), (196, b'c'), (127, b'd')];
-    posts(&mut link, rt.alloc(), Side::First, &what)?;
-    let taken = carries(&mut link, rt.alloc(), Side::First, Side::Second)?;
+    posts(&mut link, rt.alloc(), LinkSide::First, &what)?;
+    let taken = carries(&mut link, rt.alloc(), LinkSide::First, LinkSide::Second)?;
     let (letters, last) = told(rt.alloc(), &taken)?;
     assert_eq!(rt; letters.as_slice(), b"cbda".as_slice());
     assert_eq!(rt; (last, link.left()), (4, 0));
@@ -72,14 +82,14 @@ fn a_greater_priority_goes_first(rt: HostRuntime) -> Result<(), Fail> {
 #[test]
 fn a_fault_resends_what_was_not_read_in_its_old_place(rt: HostRuntime) -> Result<(), Fail> {
     let mut link = Link::new(rt.alloc());
-    posts(&mut link, rt.alloc(), Side::First, &[(127, b'a')])?;
-    let mut taken = carries(&mut link, rt.alloc(), Side::First, Side::Second)?;
-    posts(&mut link, rt.alloc(), Side::First, &[(127, b'b')])?;
-    link.turn(Side::First, &mut taken)?;
+    posts(&mut link, rt.alloc(), LinkSide::First, &[(127, b'a')])?;
+    let mut taken = carries(&mut link, rt.alloc(), LinkSide::First, LinkSide::Second)?;
+    posts(&mut link, rt.alloc(), LinkSide::First, &[(127, b'b')])?;
+    link.turn(LinkSide::First, &mut taken)?;
     link.fault();
-    posts(&mut link, rt.alloc(), Side::First, &[(196, b'c')])?;
+    posts(&mut link, rt.alloc(), LinkSide::First, &[(196, b'c')])?;
     assert_eq!(rt; (taken.len(), link.left()), (1, 2));
-    let resent = carries(&mut link, rt.alloc(), Side::First, Side::Second)?;
+    let resent = carries(&mut link, rt.alloc(), LinkSide::First, LinkSide::Second)?;
     let (letters, last) = told(rt.alloc(), &resent)?;
     assert_eq!(rt; letters.as_slice(), b"bc".as_slice());
     assert_eq!(rt; last, 3);
@@ -89,12 +99,12 @@ fn a_fault_resends_what_was_not_read_in_its_old_place(rt: HostRuntime) -> Result
 #[test]
 fn what_was_read_is_acknowledged_with_the_readers_next_frame(rt: HostRuntime) -> Result<(), Fail> {
     let mut link = Link::new(rt.alloc());
-    posts(&mut link, rt.alloc(), Side::Second, &[(127, b'a')])?;
-    let mut taken = carries(&mut link, rt.alloc(), Side::Second, Side::First)?;
-    let before = link.queue(Side::Second).base();
+    posts(&mut link, rt.alloc(), LinkSide::Second, &[(127, b'a')])?;
+    let mut taken = carries(&mut link, rt.alloc(), LinkSide::Second, LinkSide::First)?;
+    let before = link.queue(LinkSide::Second).base();
     link.flow();
-    link.turn(Side::Second, &mut taken)?;
-    assert_eq!(rt; (before, link.queue(Side::Second).base()), (0, 1));
+    link.turn(LinkSide::Second, &mut taken)?;
+    assert_eq!(rt; (before, link.queue(LinkSide::Second).base()), (0, 1));
     assert_eq!(rt; taken.len(), 1);
     Ok(())
 }
