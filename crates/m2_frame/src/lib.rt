@@ -29,6 +29,3 @@ pub use laws::{
 };
 pub use preamble::{PREAMBLE_BYTES, Preamble};
 pub use view::FrameView;
-
-#[cfg(test)]
-mod tests;

@@ -1,15 +1,16 @@
-//! A header's bytes from outside, and each call once.
+//! The header of a message from outside, and a message through its frame.
 
-use super::*;
 use m2_bytes::Blob;
 use m2_frame::Frame;
 use m2_message::{Header, Message};
+use m2_message_frame::{HEADER_BYTES, MessageFault, from_frame, to_frame};
+use m2_tag::Tag;
 use std::alloc::Global;
 use std::test::Fail;
 
-// The text that an independent program wrote for seq 1, kind 7, priority 127, version 1 and compat 1,
-// all else 0.
-const HEADER: [u8; 41] = [
+/// The text that an independent program wrote for seq 1, kind 7, priority 127, version 1 and compat 1,
+/// all else 0.
+const HEADER: [u8; HEADER_BYTES] = [
     0x01, 0x00, 0x00, 0x00, 0x00, 0x00, 0x00, 0x00, 0x00, 0x00, 0x00, 0x00, 0x00, 0x00, 0x00, 0x00,
     0x07, 0x00, 0x7f, 0x00, 0x01, 0x00, 0x00, 0x00, 0x00, 0x00, 0x00, 0x00, 0x00, 0x00, 0x00, 0x00,
     0x00, 0x00, 0x00, 0x00, 0x00, 0x01, 0x00, 0x00, 0x00,
@@ -35,7 +36,7 @@ fn header_with(seq: u64, ack_seq: u64) -> Header {
 /// What is read of a MESSAGE frame with this first segment.
 fn read(alloc: Global, first: &[u8]) -> Result<Result<Message, MessageFault>, Fail> {
     Ok(from_frame(Frame {
-        tag: 17,
+        tag: Tag::Message.number(),
         first: Blob::of(alloc, first)?,
         second: Blob::of(alloc, b"f")?,
         third: Blob::of(alloc, b"mm")?,
@@ -52,7 +53,7 @@ fn a_message_goes_through_a_frame(rt: HostRuntime) -> Result<(), Fail> {
         tail: Blob::of(rt.alloc(), b"ddd")?,
     };
     let frame = to_frame(rt.alloc(), &message, 1, 0)?;
-    assert_eq!(rt; frame.tag, 17);
+    assert_eq!(rt; frame.tag, Tag::Message.number());
     assert_eq!(rt; frame.first.as_slice(), HEADER.as_slice());
     assert_eq!(rt; frame.third.as_slice(), b"mm".as_slice());
     let back = from_frame(frame)?;
