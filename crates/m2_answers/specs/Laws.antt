@@ -1,5 +1,5 @@
 -- What a reader expects of cookies, dials and answers.
-use Rattle.std.specs.Prelude.{◌≡◌, ◌≢◌, ℕ, ◌<◌, ◌≤◌, ◌^◌, Bool, true, false, ◌⊎◌, IsTrue, IfSome}
+use Rattle.std.specs.Prelude.{◌≡◌, ◌≢◌, ◌<◌, ◌≤◌, ◌^◌, Bool, true, false, ◌⊎◌, IsTrue, IfSome}
 use Rattle.m2_control.specs.declared.fields.TheConstants.{GREATEST_NUMBER}
 use Rattle.m2_control.specs.Laws.{HasAddrRanges, HasRanges, IsInBounds}
 use Rattle.m2_session.specs.declared.answer.Answer.{Answer}
@@ -12,7 +12,7 @@ use Rattle.m2_answers.specs.declared.frame.Speaker.{Speaker}
 use Rattle.m2_answers.specs.declared.frame.Carried.{Carried}
 use Rattle.m2_answers.specs.Cookies.{cookie_of}
 use Rattle.m2_answers.specs.Dials.{dials}
-use Rattle.m2_answers.specs.Frames.{accepts, frame_of}
+use Rattle.m2_answers.specs.Frames.{frame_of}
 
 -- ---- cookies
 

@@ -1,6 +1,6 @@
 -- The fields that control payloads share: their texts and how they are read. Format: Ceph's msgr2 documentation;
 -- the bounds are this project's profile.
-use Rattle.std.specs.Prelude.{◌≡◌, ◌≢◌, ℕ, ℤ, zero, suc, ◌≤◌, ◌^◌, Bool, true, not, ◌==◌, nat_le, is_ok, if◌then◌else◌, List, [], ◌∷◌, ◌++◌, length, Result, Ok, Err}
+use Rattle.std.specs.Prelude.{◌≡◌, ◌≢◌, ℕ, ℤ, zero, suc, ◌≤◌, Bool, true, not, ◌==◌, nat_le, is_ok, if◌then◌else◌, List, [], ◌∷◌, ◌++◌, length, Result, Ok, Err}
 use Rattle.std.specs.List.{flat_map}
 use Rattle.std.specs.Int.{Width, w8, w32, w64, to_le_bytes, cast_signed}
 use Rattle.m2_addr.specs.declared.addr.Addr.{Addr}
