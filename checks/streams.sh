@@ -3,10 +3,10 @@
 # lists them: what comes out must be the frames that went in, and the table must say of the rest why it can't be listed.
 # It needs tcpdump, tshark, and the right to capture.
 #
-# usage: checks/streams.sh     (the program must be built: ./msgr2 builds it)
+# usage: checks/streams.sh [PROGRAM]     (the program must be built: ./msgr2 builds it)
 set -eu
 cd "$(dirname "${BASH_SOURCE[0]}")/.."
-program=crates/msgr2/out/msgr2
+program=${1:-crates/msgr2/out/msgr2}
 port=33300
 folder=$(mktemp -d)
 trap 'kill "$dump" 2>/dev/null || true; rm -rf "$folder"' EXIT
