@@ -8,4 +8,5 @@ pub mod PlanLines
 pub mod SimLines
 pub mod RunLines
 pub mod FirstWord
+pub mod Form
 pub mod Reading

@@ -1,6 +1,7 @@
 //! Lines of each kind of badness, and scenarios that are good, from the tables of the language.
 
-use super::*;
+use m2_scenario::Line;
+use m2_scenario_text::{BadScenario, read};
 use std::alloc::Global;
 use std::process::Abort;
 
@@ -213,18 +214,4 @@ fn a_post_is_read(rt: HostRuntime) {
             })
         )
     );
-}
-
-#[test]
-fn the_words_of_a_line_can_be_looked_at(rt: HostRuntime) {
-    let Some((first, rest)) = cut(b"  turn  a \r\n# turn a\n", b'\n') else {
-        rt.abort()
-    };
-    let mut words = words_in(first);
-    assert_eq!(rt; words.len(), 2);
-    assert_eq!(rt; words.next(), Some(b"turn".as_slice()));
-    assert_eq!(rt; words.next(), Some(b"a".as_slice()));
-    assert_eq!(rt; words.next(), None);
-    assert_eq!(rt; words_in(rest).len(), 0);
-    assert_eq!(rt; MOST_BYTES, 4194304);
 }

@@ -1,10 +1,10 @@
 //! Scenarios whose outcome the rules tell.
 
-use super::*;
 use m2_dispatch::{Logged, LoggedList};
 use m2_policy::Path;
 use m2_scenario::Scenario;
 use m2_scenario_text::read;
+use m2_sim::{Outcome, run};
 use std::alloc::Global;
 use std::test::Fail;
 

@@ -2,13 +2,14 @@
 
 ghost use Rattle.std.specs.Prelude.{◌≡◌, ◌+◌, All, length, IfOk, OnOk};
 ghost use Rattle.m2_dispatch.specs.Heard.{peer_of, heard_of};
-ghost use Rattle.m2_report.specs.Report.{IsOfNodes, AreLogsOf};
+ghost use Rattle.m2_report.specs.Report.{IsOfNodes, IsLogOf, AreLogsOf};
 
-use super::*;
 use m2_bytes::{Blob, Items};
 use m2_dispatch::{Logged, LoggedList};
 use m2_message::{Header, Message};
 use m2_policy::{Key, Path};
+use m2_report::{LogsList, report};
+use m2_scenario_text::read;
 use std::alloc::Global;
 use std::test::Fail;
 
@@ -77,9 +78,9 @@ fn message(alloc: Global, peer: u32, priority: u16, path: Path, front: u8) -> Re
 }
 
 fn add(log: &mut LoggedList, call: Logged) -> Result<(), Fail>
-    requires log { All (IsOfNodes 3) log.old }
+    requires log { IsLogOf 3 log.old }
     requires call { IsOfNodes 3 call }
-    ensures { OnOk result (All (IsOfNodes 3) log.new) }
+    ensures { OnOk result (IsLogOf 3 log.new) }
 {
     match log.push(call) {
         Ok(()) => Ok(()),
@@ -88,10 +89,10 @@ fn add(log: &mut LoggedList, call: Logged) -> Result<(), Fail>
 }
 
 fn add_log(logs: &mut LogsList, log: LoggedList) -> Result<(), Fail>
-    requires logs { All (All (IsOfNodes 3)) logs.old }
-    requires log { All (IsOfNodes 3) log }
-    ensures logs { OnOk result (All (All (IsOfNodes 3)) logs.new) }
-    ensures more { OnOk result (length logs.new ≡ length logs.old + 1) }
+    requires logs { All (IsLogOf 3) logs.old.items }
+    requires log { IsLogOf 3 log }
+    ensures logs { OnOk result (All (IsLogOf 3) logs.new.items) }
+    ensures more { OnOk result (length logs.new.items ≡ length logs.old.items + 1) }
 {
     match logs.push(log) {
         Ok(()) => Ok(()),
@@ -100,7 +101,7 @@ fn add_log(logs: &mut LogsList, log: LoggedList) -> Result<(), Fail>
 }
 
 fn log_of_zed(alloc: Global) -> Result<LoggedList, Fail>
-    ensures { IfOk result (All (IsOfNodes 3)) }
+    ensures { IfOk result (IsLogOf 3) }
 {
     let mut log = Items::empty(alloc);
     add(&mut log, message(alloc, 2, 127, Path::Queued, 1)?)?;
@@ -116,7 +117,7 @@ fn log_of_zed(alloc: Global) -> Result<LoggedList, Fail>
 
 fn log_of_one(alloc: Global, call: Logged) -> Result<LoggedList, Fail>
     requires { IsOfNodes 3 call }
-    ensures { IfOk result (All (IsOfNodes 3)) }
+    ensures { IfOk result (IsLogOf 3) }
 {
     let mut log = Items::empty(alloc);
     add(&mut log, call)?;
@@ -124,8 +125,8 @@ fn log_of_one(alloc: Global, call: Logged) -> Result<LoggedList, Fail>
 }
 
 fn logs_of_three(alloc: Global) -> Result<LogsList, Fail>
-    ensures logs { IfOk result (All (All (IsOfNodes 3))) }
-    ensures three { IfOk result (λ logs. length logs ≡ 3) }
+    ensures logs { IfOk result (λ logs. All (IsLogOf 3) logs.items) }
+    ensures three { IfOk result (λ logs. length logs.items ≡ 3) }
 {
     let mut logs = Items::empty(alloc);
     add_log(&mut logs, log_of_zed(alloc)?)?;
