@@ -49,7 +49,9 @@ pub use hello::Hello;
 pub use ident_missing_features::IdentMissingFeatures;
 pub use keepalive::Keepalive;
 pub use keepalive_ack::KeepaliveAck;
-pub use laws::{banner_is_a_function, written_banner_is_read, written_payload_is_read};
+pub use laws::{
+    banner_is_a_function, others_are_refused, written_banner_is_read, written_payload_is_read,
+};
 pub use server_facts::ServerFacts;
 pub use server_ident::ServerIdent;
 pub use session_reconnect::SessionReconnect;
