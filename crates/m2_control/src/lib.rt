@@ -44,7 +44,7 @@ pub use banner::{Banner, BannerStep, LEAST_BANNER, MOST_BANNER, read_banner, wri
 pub use client_ident::ClientIdent;
 pub use control::Control;
 pub use fault::ControlFault;
-pub use fields::{GREATEST_NUMBER, MOST_BYTES, MOST_LISTED, NumList};
+pub use fields::{GREATEST_NUMBER, MOST_BYTES, MOST_LISTED, NumList, SIGNATURE_BYTES};
 pub use hello::Hello;
 pub use ident_missing_features::IdentMissingFeatures;
 pub use keepalive::Keepalive;
