@@ -1,5 +1,5 @@
 -- What the top call leaves, by its status.
-use Rattle.std.specs.Prelude.{◌≡◌, ℕ, ◌≤◌, ◌⊎◌, List, Option}
+use Rattle.std.specs.Prelude.{◌≡◌, ℕ, ◌+◌, ◌≤◌, ◌⊎◌, List, Option}
 use Rattle.m2_edge.specs.Faults.{HasRisen}
 use Rattle.m2_edge.specs.Sink.{Takes, TakesFront}
 use Rattle.m2_edge.specs.Whole.{IsReadUpTo, StandsIn}
@@ -7,6 +7,7 @@ use Rattle.m2_cli.specs.declared.status.Status.{Status}
 use Rattle.m2_cli.specs.declared.status.Status.TheVariants.{Done, Usage, BadScenario, ReadFault, WriteFault, Left, NoMemory, BadFrames}
 use Rattle.m2_cli.specs.Status.{line_of}
 use Rattle.m2_cli.specs.Verdict.{status_in, report_in}
+use Rattle.m2_scenario_text.specs.declared.reading.TheConstants.{MOST_BYTES}
 
 -- What was said on the error sink: the status's line, with its line feed, and nothing where the work is
 -- done. After WriteFault it may be a front of one such line, and after NoMemory a front of its own.
@@ -52,7 +53,7 @@ IsRefused (BadFrames place fault) = ⊥
 
 -- a file is read to its end, or to the byte past the limit
 abbrev pub read_limit : ℕ
-read_limit = 4194305
+read_limit = MOST_BYTES + 1
 
 -- What `sim FILE` leaves: by the source's count of faults, by what the source tells of the file and of
 -- what is left of it, and by what the output has taken. The file was read whole, unless reading failed or

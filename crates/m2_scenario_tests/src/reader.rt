@@ -15,6 +15,9 @@ type Long<'a> = (&'a [u8], &'a [u8], usize, &'a [u8], u32, u8);
 const PAIR: &[u8] =
     b"node a osd 127.0.0.1:7001/1\nnode b osd 127.0.0.1:7002/2\nlink a b lossless_peer lossless_peer\n";
 
+// 64 bytes of a comment. A file of the pair, 65,534 of these and 35 bytes has as many bytes as a file may.
+const HASHES: &[u8] = b"################################################################";
+
 // The bad line and its kind's number, or zeros; 99 where memory ran out.
 fn answer(alloc: Global, text: &[u8], run: bool) -> (u32, u8) {
     match read(alloc, text, run) {
@@ -179,8 +182,22 @@ fn nodes_that_are_off_have_no_plan(rt: HostRuntime) {
 fn sizes_stand_at_their_limits_and_not_past_them(rt: HostRuntime) {
     let post = b"post a b 7 127 - - -\n";
     let cases: [Long<'_>; 10] = [
-        (b"", b"#", 4194211, b"", 0, 0),
-        (b"", b"#", 4194212, b"", 4, 12),
+        (
+            HASHES,
+            HASHES,
+            65533,
+            b"###################################",
+            0,
+            0,
+        ),
+        (
+            HASHES,
+            HASHES,
+            65533,
+            b"####################################",
+            4,
+            12,
+        ),
         (b"", post, 20000, b"", 0, 0),
         (b"", post, 20001, b"", 20004, 12),
         (b"post a b 7 127 - ", b"6d", 65536, b" -", 0, 0),

@@ -2,7 +2,7 @@ pub mod Vocabulary
 pub mod Pair
 pub mod Taking
 pub mod NodeLine
-pub mod GivenWords
+pub mod NodeOption
 pub mod LinkLine
 pub mod PlanLines
 pub mod SimLines

@@ -12,6 +12,7 @@ mod first_word;
 mod form;
 mod link_line;
 mod node_line;
+mod node_option;
 mod pair;
 mod plan_lines;
 mod reading;

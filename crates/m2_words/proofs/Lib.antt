@@ -1,3 +1,3 @@
 pub mod Cuts
 pub mod Decimals
-pub mod Kinds
+pub mod KindNumbers

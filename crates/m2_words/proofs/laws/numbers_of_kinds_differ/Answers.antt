@@ -1,4 +1,4 @@
-use Rattle.m2_words.proofs.Kinds.{numbers_differ}
+use Rattle.m2_words.proofs.KindNumbers.{numbers_differ}
 use Rattle.m2_words.proofs.laws.numbers_of_kinds_differ.Goals as goal
 
 pub returns : goal.returns
