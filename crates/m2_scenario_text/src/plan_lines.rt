@@ -72,7 +72,11 @@ fn are_short(message: &Message) -> bool
 }
 
 #[tactic(auto, unfolding(crate::specs::PlanLines::post_line))]
-pub(crate) fn post_line(alloc: Global, draft: &mut Draft, mut words: Words<'_>) -> Result<(), LineFault>
+pub(crate) fn post_line(
+    alloc: Global,
+    draft: &mut Draft,
+    mut words: Words<'_>,
+) -> Result<(), LineFault>
     ensures { Takes result (post_line draft.old words.entry) draft.new }
 {
     check(Kind::Words, words.len() == 7)?;

@@ -22,7 +22,12 @@ use std::alloc::Global;
 /// A scenario's text has at most so many bytes; [`read`] refuses the line in which the next stands.
 pub const MOST_BYTES: usize = 4_194_304;
 
-fn by_first_word(alloc: Global, draft: &mut Draft, about: FirstWord, words: Words<'_>) -> Result<(), LineFault>
+fn by_first_word(
+    alloc: Global,
+    draft: &mut Draft,
+    about: FirstWord,
+    words: Words<'_>,
+) -> Result<(), LineFault>
     ensures { Takes result (by_first_word draft.old about words.entry) draft.new }
 {
     match about {
