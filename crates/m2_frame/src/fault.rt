@@ -20,14 +20,14 @@ pub enum FrameFault {
     /// The flag of compressed frames is set; this project's profile has none.
     #[error("the frame is compressed")]
     Compressed,
-    /// The tag isn't 1 to 22.
+    /// There is no such tag.
     #[error("no such tag")]
     BadTag,
     /// The tag isn't MESSAGE, and there are several segments.
     #[error("several segments in a control frame")]
     BadSegments,
-    /// A segment is above this project's bound: 134,217,728 bytes in a MESSAGE, 1,048,576 in any
-    /// other frame.
+    /// A segment is above this project's bound: [`MESSAGE_LIMIT`](crate::MESSAGE_LIMIT) in a MESSAGE,
+    /// [`CONTROL_LIMIT`](crate::CONTROL_LIMIT) in any other frame.
     #[error("a segment is too long")]
     TooLong,
     /// The checksum of a segment, counted from 0, differs. It is the first such segment.

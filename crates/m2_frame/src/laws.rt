@@ -26,7 +26,7 @@ pub fn a_written_frame_is_read()
     ensures read { (f : Parts) (more : List ℕ) → Fits f → AreBytes f → judge (text_of f ++ more) ≡ text (whole f) (length (text_of f)) }
 {}
 
-/// No text is a front of another: what is a text stays one whatever follows, and it lies within the
+/// No text is a prefix of another: what is a text stays one whatever follows, and it lies within the
 /// bytes that were judged. What is bad stays so.
 pub fn no_text_begins_another()
     ensures stays { (rest more : List ℕ) (item : Item) (n : ℕ) → judge rest ≡ text item n → judge (rest ++ more) ≡ text item n }
