@@ -1,7 +1,7 @@
 -- The value model of an established link: lists of messages and counts. It knows no message numbers,
 -- acknowledgements, cursor or resending; the ends that are run have all of these. The rules are this
 -- project's own (docs/SCENARIOS.md).
-use Rattle.std.specs.Prelude.{ℕ, ◌+◌, ◌-◌, ◌≤◌, List, [], ◌∷◌, ◌++◌, length, take, drop}
+use Rattle.std.specs.Prelude.{ℕ, ◌+◌, ◌-◌, ◌≤◌, List, [], ◌++◌, length, take, drop}
 use Rattle.m2_message.specs.Message.{Content, priority_of}
 use Rattle.m2_priority.specs.ByRank.{put_behind}
 use Rattle.m2_link.specs.declared.link_side.LinkSide.{LinkSide}

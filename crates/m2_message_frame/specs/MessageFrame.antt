@@ -5,10 +5,6 @@ use Rattle.m2_message.specs.Message.{Content}
 use Rattle.m2_frame.specs.Frame.{Parts, message_tag}
 use Rattle.m2_message_frame.specs.HeaderText.{header_text, header_in, FieldsFit}
 
--- the message with the two numbers that the runtime writes
-abbrev pub numbered : ℕ → ℕ → Content → Content
-numbered seq ack_seq m = record m { header = record m.header { seq = seq; ack_seq = ack_seq } }
-
 abbrev pub parts_of : Content → Parts
 parts_of m = record { tag = message_tag; first = header_text m.header; second = m.front; third = m.middle; fourth = m.tail }
 

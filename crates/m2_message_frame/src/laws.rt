@@ -3,11 +3,11 @@
 ghost use Rattle.std.specs.Prelude.{◌≡◌, ◌<◌, ℕ, List, length};
 ghost use Rattle.std.specs.List.{All};
 ghost use Rattle.m2_message.specs.declared.header.Header.{Header};
-ghost use Rattle.m2_message.specs.Message.{Content};
+ghost use Rattle.m2_message.specs.Message.{Content, with_numbers};
 ghost use Rattle.m2_frame.specs.Frame.{Parts, message_tag};
 ghost use Rattle.m2_message_frame.specs.declared.header_text.TheConstants.{HEADER_BYTES};
 ghost use Rattle.m2_message_frame.specs.HeaderText.{header_text, header_in, FieldsFit};
-ghost use Rattle.m2_message_frame.specs.MessageFrame.{numbered, message_in, Carries};
+ghost use Rattle.m2_message_frame.specs.MessageFrame.{message_in, Carries};
 
 /// A header is read from its text by the places of its fields, and its text is the only one that says
 /// it. So of a MESSAGE frame whose first segment has so many bytes the message can be computed.
@@ -24,5 +24,5 @@ pub fn a_header_is_its_fields()
 pub fn one_message()
     ensures once { (f : Parts) (m n : Content) → Carries f m → Carries f n → m ≡ n }
     ensures comes_back { (f : Parts) (m n : Content) (seq ack_seq : ℕ)
-        → Carries f (numbered seq ack_seq m) → Carries f n → n ≡ numbered seq ack_seq m }
+        → Carries f (with_numbers seq ack_seq m) → Carries f n → n ≡ with_numbers seq ack_seq m }
 {}

@@ -1,10 +1,10 @@
 //! The frame of a message, and the message of a frame.
 
 ghost use Rattle.std.specs.Prelude.{◌≡◌, ◌≢◌, ◌↔◌, length, IsErr, IfOk, IsOkAnd};
-ghost use Rattle.m2_message.specs.Message.{Content, content_of, IsSendable};
+ghost use Rattle.m2_message.specs.Message.{Content, content_of, with_numbers, IsSendable};
 ghost use Rattle.m2_frame.specs.Frame.{parts, message_tag, Fits};
 ghost use Rattle.m2_message_frame.specs.HeaderText.{FieldsFit};
-ghost use Rattle.m2_message_frame.specs.MessageFrame.{numbered, message_in, Carries};
+ghost use Rattle.m2_message_frame.specs.MessageFrame.{message_in, Carries};
 
 use crate::fault::MessageFault;
 use crate::header_text::{HEADER_BYTES, read_header, write_header};
@@ -15,7 +15,7 @@ use m2_tag::Tag;
 use std::alloc::Global;
 
 /// The header with these two numbers in place of its own.
-fn with_numbers(header: Header, seq: u64, ack_seq: u64) -> Header
+fn numbered(header: Header, seq: u64, ack_seq: u64) -> Header
     ensures value { result ≡ record header { seq = seq; ack_seq = ack_seq } }
     ensures fields { FieldsFit result }
 {
@@ -31,11 +31,11 @@ fn with_numbers(header: Header, seq: u64, ack_seq: u64) -> Header
 pub fn to_frame(alloc: Global, message: &Message, seq: u64, ack_seq: u64) -> Result<Frame, NoMemory>
     requires { IsSendable message.now }
     ensures carries { IfOk result
-        (λ f. Carries (parts f) (numbered seq ack_seq (content_of message.now))) }
+        (λ f. Carries (parts f) (with_numbers seq ack_seq (content_of message.now))) }
     // It can be written.
     ensures fits { IfOk result (λ f. Fits (parts f)) }
 {
-    let header = with_numbers(message.header, seq, ack_seq);
+    let header = numbered(message.header, seq, ack_seq);
     Ok(Frame {
         tag: Tag::Message.number(),
         first: write_header(alloc, &header)?,

@@ -5,35 +5,12 @@ use Rattle.std.proofs.lemmas.List.Elements.{All-filter, All-map}
 use Rattle.std.proofs.lemmas.Grind.{flat_map-append}
 use Rattle.std.specs.List.{AllByRecursion, flat_map, range_with_len}
 use denote.Ref.{Bor}
-use Rattle.m2_priority.specs.ByRank.{put_before, by_rank}
-use Rattle.m2_priority.proofs.ByRank.{map-by_rank}
+use Rattle.m2_priority.specs.ByRank.{by_rank}
+use Rattle.m2_priority.proofs.ByRank.{map-by_rank, all-by_rank}
 use Rattle.m2_dispatch.specs.Heard.{Heard, heard_of, heard_by}
 use Rattle.m2_dispatch.specs.declared.logged.Logged.{Logged}
 use Rattle.m2_words.specs.Text.{Word}
 use Rattle.m2_report.specs.Report.{rank_of, told_by, IsPeerAmong, IsOfNodes}
-
--- ---- a fact of each item stays one in the order of ranks
-
-to_each : {X : Type 0} (P : X → Type 0) (xs : List X) → All P xs → AllByRecursion P xs
-to_each P [] all = tt
-to_each P (x ∷ xs) all = (all 0 x (omega arith), to_each P xs (λ k d below. all (suc k) d (omega (arith, below))))
-
-from_each : {X : Type 0} (P : X → Type 0) (xs : List X) → AllByRecursion P xs → All P xs
-from_each P [] all k d below = absurd (omega (arith, below))
-from_each P (x ∷ xs) all zero d below = all.0
-from_each P (x ∷ xs) all (suc k) d below = from_each P xs all.1 k d (omega (arith, below))
-
-each_put : {X : Type 0} (P : X → Type 0) (rank : X → ℕ) (x : X) (xs : List X) → P x → AllByRecursion P xs → AllByRecursion P (put_before rank x xs)
-each_put P rank x [] h all = (h, tt)
-each_put P rank x (y ∷ ys) h all =
-    elim (ltb (rank x) (rank y)) as (λ b. AllByRecursion P (cond b (y ∷ put_before rank x ys) (x ∷ y ∷ ys))) [ true ↦ (all.0, each_put P rank x ys h all.1) | false ↦ (h, all) ]
-
-each_by_rank : {X : Type 0} (P : X → Type 0) (rank : X → ℕ) (xs : List X) → AllByRecursion P xs → AllByRecursion P (by_rank rank xs)
-each_by_rank P rank [] all = tt
-each_by_rank P rank (x ∷ xs) all = each_put P rank x (by_rank rank xs) all.0 (each_by_rank P rank xs all.1)
-
-pub all_by_rank : {X : Type 0} (P : X → Type 0) (rank : X → ℕ) (xs : List X) → All P xs → All P (by_rank rank xs)
-all_by_rank P rank xs all = from_each P (by_rank rank xs) (each_by_rank P rank xs (to_each P xs all))
 
 -- ---- calls that were gathered
 
@@ -51,7 +28,7 @@ picked_among nodes log pick all = All-filter pick (IsPeerAmong nodes) (heard_by 
 
 -- and in whatever order
 pub sorted_among : (nodes : ℕ) (log : List Logged) (pick : Heard → Bool) → All (IsOfNodes nodes) log → All (IsPeerAmong nodes) (by_rank rank_of (filter pick (heard_by log)))
-sorted_among nodes log pick all = all_by_rank (IsPeerAmong nodes) rank_of _ (picked_among nodes log pick all)
+sorted_among nodes log pick all = all-by_rank rank_of (IsPeerAmong nodes) _ (picked_among nodes log pick all)
 
 -- so the peer of each is one
 pub gathered_there : (nodes : ℕ) (calls : List (Bor Logged)) (k : ℕ) (c : Bor Logged) → k < length calls → c ≡ get_or calls k c → All (IsPeerAmong nodes) (told_by calls) → IsOfNodes nodes c.now

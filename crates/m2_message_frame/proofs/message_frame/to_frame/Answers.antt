@@ -5,7 +5,7 @@ use Rattle.m2_message_frame.proofs.message_frame.to_frame.Goals as goal
 
 pub returns-clause-fits : goal.returns-clause-fits
 returns-clause-fits c =
-    let header : length c.in_ok-write_header.field-0.bytes ≡ 41 = ap length c.in_ok-write_header.ensures ∙ length-header_text c.with_numbers-header.result in
+    let header : length c.in_ok-write_header.field-0.bytes ≡ 41 = ap length c.in_ok-write_header.ensures ∙ length-header_text c.numbered-header.result in
     rw c.number.ensures (MESSAGE-fits _ _ _ _
     (omega (arith, header))
     (omega (arith, ap length c.in_ok-copy.ensures, c.requires.front))
