@@ -1,5 +1,5 @@
 """Times `msgr2 frames` beside two C programs that do the same, in one go and in turn, on frames of one size a row."""
-import filecmp, os, random, re, struct, subprocess, sys, tempfile, time
+import filecmp, os, random, struct, subprocess, sys, tempfile, time
 
 RUNS = 7
 FILE = 64_000_000  # bytes of a row's file, about
@@ -80,7 +80,8 @@ def system_calls(words, folder):
     log = os.path.join(folder, "calls")
     subprocess.run(["strace", "-f", "-c", "-o", log, *words], stdout=subprocess.DEVNULL, check=True)
     with open(log, encoding="utf-8") as file:
-        return int(re.search(r"^ *100\.00 .* ([0-9]+) +[0-9]* *total$", file.read(), re.M)[1])
+        total = file.read().splitlines()[-1].split()
+    return int(total[3])  # of: share, seconds, microseconds a call, calls, and maybe errors
 
 
 def from_pipe(program, text, piece):

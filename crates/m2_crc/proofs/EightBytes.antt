@@ -1,19 +1,19 @@
 -- Eight bytes at a time: put into the state together, each is moved out by as many shifts as there are from
 -- its place, and what it leaves stands in the table of so many shifts.
-use Rattle.std.proofs.Common.{◌≡◌, ℕ, zero, suc, ◌+◌, ◌*◌, ◌/◌, ◌%◌, ◌^◌, ◌<◌, Bool, true, false, eqb, List, [], ◌∷◌, ◌++◌, length, get_or, take, drop, refl, sym, ap, ◌∙◌, arith, inl, inr}
+use Rattle.std.proofs.Common.{◌≡◌, ℕ, zero, suc, ◌+◌, ◌*◌, ◌/◌, ◌%◌, ◌^◌, ◌<◌, Bool, true, eqb, List, [], ◌∷◌, ◌++◌, length, get_or, take, drop, refl, sym, ap, ◌∙◌, arith, inl, inr}
 use Rattle.std.specs.Prelude.{◌&&◌, bit_xor, fold}
 use Rattle.std.specs.Int.Bits.{xor_assoc, xor_zero_r, xor_zero_l, xor_self}
 use Rattle.std.specs.Int.{w64, from_le_bytes}
 use Rattle.std.specs.List.{concat}
 use Rattle.std.specs.Simd.{first_chunks}
-use Rattle.std.proofs.lemmas.List.{take-append-drop, append_assoc}
+use Rattle.std.proofs.lemmas.List.{take-append-drop, append_assoc, get_or-drop, get_or-take}
 use Rattle.std.proofs.lemmas.List.Sums.{fold-append}
 use Rattle.std.proofs.Math.Seq.{drop-drop}
 use Rattle.std.proofs.lemmas.Nat.{xor_block, xor_shr, xor_mod, xor_comm}
-use Rattle.std.proofs.lemmas.Bool.{eqb-true, cases_lt, and_parts, false≢true}
+use Rattle.std.proofs.lemmas.Bool.{eqb-true, cases_lt, and_parts}
 use Rattle.m2_crc.specs.Crc.{polynomial, shifted, shifted_by, after_byte, crc_of}
-use Rattle.m2_crc.specs.declared.table.TheConstants.{SHIFTED_8, SHIFTED_16, SHIFTED_24, SHIFTED_32, SHIFTED_40, SHIFTED_48, SHIFTED_56, SHIFTED_64}
-use Rattle.m2_crc.proofs.WholeBytes.{moved_down, even, odd, table_word}
+use Rattle.m2_crc.specs.declared.table.TheConstants.{SHIFTED}
+use Rattle.m2_crc.proofs.WholeBytes.{moved_down, even, odd}
 
 swapped : (a b c : ℕ) → bit_xor (bit_xor a b) c ≡ bit_xor (bit_xor a c) b
 swapped a b c = xor_assoc a b c ∙ ap (bit_xor a) (xor_comm b c) ∙ sym (xor_assoc a c b)
@@ -126,95 +126,57 @@ by_byte k x =
 next_byte : (acc k x : ℕ) → bit_xor acc (shifted_by (8 + k) x) ≡ bit_xor (bit_xor acc (shifted_by (8 + k) (x % 256))) (shifted_by k (x / 256))
 next_byte acc k x = ap (bit_xor acc) (by_byte k x) ∙ sym (xor_assoc acc (shifted_by (8 + k) (x % 256)) (shifted_by k (x / 256)))
 
--- each word of a table is eight shifts of the word at its place in the table before
-table_above : List ℕ → List ℕ → Bool
-table_above [] ys = true
-table_above (x ∷ xs) [] = false
-table_above (x ∷ xs) (y ∷ ys) = eqb y (shifted_by 8 x) && table_above xs ys
+-- each word of the first table is eight shifts of its place
+first_rule : List ℕ → ℕ → Bool
+first_rule [] i = true
+first_rule (x ∷ xs) i = eqb x (shifted_by 8 i) && first_rule xs (suc i)
 
-above_at : (xs ys : List ℕ) (i : ℕ) → table_above xs ys ≡ true → i < length xs → get_or ys i 0 ≡ shifted_by 8 (get_or xs i 0)
-unfolding table_above
-above_at [] ys i h lt = absurd (omega arith)
-above_at (x ∷ xs) [] i h lt = absurd (false≢true h)
-above_at (x ∷ xs) (y ∷ ys) zero h lt = eqb-true y (shifted_by 8 x) (and_parts (eqb y (shifted_by 8 x)) (table_above xs ys) h).0
-above_at (x ∷ xs) (y ∷ ys) (suc i) h lt = above_at xs ys i (and_parts (eqb y (shifted_by 8 x)) (table_above xs ys) h).1 (omega arith)
+first_holds : first_rule (take 256 SHIFTED) 0 ≡ true
+unfolding first_rule shifted shifted_by
+first_holds = refl
 
-holds_16 : table_above SHIFTED_8 SHIFTED_16 ≡ true
-unfolding table_above shifted shifted_by
-holds_16 = refl
+first_at : (xs : List ℕ) (i k : ℕ) → first_rule xs i ≡ true → k < length xs → get_or xs k 0 ≡ shifted_by 8 (i + k)
+unfolding first_rule
+first_at [] i k h lt = absurd (omega arith)
+first_at (x ∷ xs) i zero h lt = eqb-true x (shifted_by 8 i) (and_parts (eqb x (shifted_by 8 i)) (first_rule xs (suc i)) h).0 ∙ ap (shifted_by 8) (omega arith)
+first_at (x ∷ xs) i (suc k) h lt = first_at xs (suc i) k (and_parts (eqb x (shifted_by 8 i)) (first_rule xs (suc i)) h).1 (omega arith) ∙ ap (shifted_by 8) (omega arith)
 
-word_16 : (low : ℕ) → low < 256 → get_or SHIFTED_16 low 0 ≡ shifted_by 16 low
-word_16 low h = above_at SHIFTED_8 SHIFTED_16 low holds_16 h ∙ ap (shifted_by 8) (table_word low h) ∙ sym (added 8 8 low)
+-- each word of another table is eight shifts of the word at the same place in the one before
+rule_above : List ℕ → List ℕ → Bool
+rule_above [] ys = true
+rule_above (x ∷ xs) [] = true
+rule_above (x ∷ xs) (y ∷ ys) = eqb y (shifted_by 8 x) && rule_above xs ys
 
-holds_24 : table_above SHIFTED_16 SHIFTED_24 ≡ true
-unfolding table_above shifted shifted_by
-holds_24 = refl
+holds_above : rule_above SHIFTED (drop 256 SHIFTED) ≡ true
+unfolding rule_above shifted shifted_by
+holds_above = refl
 
-word_24 : (low : ℕ) → low < 256 → get_or SHIFTED_24 low 0 ≡ shifted_by 24 low
-word_24 low h = above_at SHIFTED_16 SHIFTED_24 low holds_24 h ∙ ap (shifted_by 8) (word_16 low h) ∙ sym (added 16 8 low)
+above_at : (xs ys : List ℕ) (i : ℕ) → rule_above xs ys ≡ true → i < length xs → i < length ys → get_or ys i 0 ≡ shifted_by 8 (get_or xs i 0)
+unfolding rule_above
+above_at [] ys i h lt le = absurd (omega arith)
+above_at (x ∷ xs) [] i h lt le = absurd (omega arith)
+above_at (x ∷ xs) (y ∷ ys) zero h lt le = eqb-true y (shifted_by 8 x) (and_parts (eqb y (shifted_by 8 x)) (rule_above xs ys) h).0
+above_at (x ∷ xs) (y ∷ ys) (suc i) h lt le = above_at xs ys i (and_parts (eqb y (shifted_by 8 x)) (rule_above xs ys) h).1 (omega arith) (omega arith)
 
-holds_32 : table_above SHIFTED_24 SHIFTED_32 ≡ true
-unfolding table_above shifted shifted_by
-holds_32 = refl
-
-word_32 : (low : ℕ) → low < 256 → get_or SHIFTED_32 low 0 ≡ shifted_by 32 low
-word_32 low h = above_at SHIFTED_24 SHIFTED_32 low holds_32 h ∙ ap (shifted_by 8) (word_24 low h) ∙ sym (added 24 8 low)
-
-holds_40 : table_above SHIFTED_32 SHIFTED_40 ≡ true
-unfolding table_above shifted shifted_by
-holds_40 = refl
-
-word_40 : (low : ℕ) → low < 256 → get_or SHIFTED_40 low 0 ≡ shifted_by 40 low
-word_40 low h = above_at SHIFTED_32 SHIFTED_40 low holds_40 h ∙ ap (shifted_by 8) (word_32 low h) ∙ sym (added 32 8 low)
-
-holds_48 : table_above SHIFTED_40 SHIFTED_48 ≡ true
-unfolding table_above shifted shifted_by
-holds_48 = refl
-
-word_48 : (low : ℕ) → low < 256 → get_or SHIFTED_48 low 0 ≡ shifted_by 48 low
-word_48 low h = above_at SHIFTED_40 SHIFTED_48 low holds_48 h ∙ ap (shifted_by 8) (word_40 low h) ∙ sym (added 40 8 low)
-
-holds_56 : table_above SHIFTED_48 SHIFTED_56 ≡ true
-unfolding table_above shifted shifted_by
-holds_56 = refl
-
-word_56 : (low : ℕ) → low < 256 → get_or SHIFTED_56 low 0 ≡ shifted_by 56 low
-word_56 low h = above_at SHIFTED_48 SHIFTED_56 low holds_56 h ∙ ap (shifted_by 8) (word_48 low h) ∙ sym (added 48 8 low)
-
-holds_64 : table_above SHIFTED_56 SHIFTED_64 ≡ true
-unfolding table_above shifted shifted_by
-holds_64 = refl
-
-word_64 : (low : ℕ) → low < 256 → get_or SHIFTED_64 low 0 ≡ shifted_by 64 low
-word_64 low h = above_at SHIFTED_56 SHIFTED_64 low holds_64 h ∙ ap (shifted_by 8) (word_56 low h) ∙ sym (added 56 8 low)
+-- what stands in the tables
+pub table_word : (more byte : ℕ) → more < 8 → byte < 256 → get_or SHIFTED (256 * more + byte) 0 ≡ shifted_by (8 * (more + 1)) byte
+table_word zero byte m h =
+    let e : 256 * 0 + byte ≡ byte = omega arith in
+    ap (λ (k : ℕ). get_or SHIFTED k 0) e ∙ sym (get_or-take 256 SHIFTED byte 0 h) ∙ first_at (take 256 SHIFTED) 0 byte first_holds h ∙ ap (shifted_by 8) (let z : 0 + byte ≡ byte = omega arith in z)
+table_word (suc more) byte m h =
+    let e : 256 * suc more + byte ≡ 256 + (256 * more + byte) = omega arith in
+    let all : length SHIFTED ≡ 2048 = refl in
+    let above : length (drop 256 SHIFTED) ≡ 1792 = refl in
+    let s : 8 * (suc more + 1) ≡ 8 * (more + 1) + 8 = omega arith in
+    ap (λ (k : ℕ). get_or SHIFTED k 0) e
+    ∙ sym (get_or-drop 256 SHIFTED (256 * more + byte) 0)
+    ∙ above_at SHIFTED (drop 256 SHIFTED) (256 * more + byte) holds_above (omega (arith, all)) (omega (arith, above))
+    ∙ ap (shifted_by 8) (table_word more byte (omega arith) h)
+    ∙ sym (ap (λ (k : ℕ). shifted_by k byte) s ∙ added (8 * (more + 1)) 8 byte)
 
 -- an exclusive or of equal numbers
 both : {a b c d : ℕ} → a ≡ b → c ≡ d → bit_xor a c ≡ bit_xor b d
 both {a = a} {d = d} h k = ap (bit_xor a) k ∙ ap (λ (x : ℕ). bit_xor x d) h
-
-looked_8 : (p x : ℕ) → p ≡ x % 256 → get_or SHIFTED_8 p 0 ≡ shifted_by 8 (x % 256)
-looked_8 p x e = table_word p (omega arith) ∙ ap (shifted_by 8) e
-
-looked_16 : (p x : ℕ) → p ≡ x % 256 → get_or SHIFTED_16 p 0 ≡ shifted_by 16 (x % 256)
-looked_16 p x e = word_16 p (omega arith) ∙ ap (shifted_by 16) e
-
-looked_24 : (p x : ℕ) → p ≡ x % 256 → get_or SHIFTED_24 p 0 ≡ shifted_by 24 (x % 256)
-looked_24 p x e = word_24 p (omega arith) ∙ ap (shifted_by 24) e
-
-looked_32 : (p x : ℕ) → p ≡ x % 256 → get_or SHIFTED_32 p 0 ≡ shifted_by 32 (x % 256)
-looked_32 p x e = word_32 p (omega arith) ∙ ap (shifted_by 32) e
-
-looked_40 : (p x : ℕ) → p ≡ x % 256 → get_or SHIFTED_40 p 0 ≡ shifted_by 40 (x % 256)
-looked_40 p x e = word_40 p (omega arith) ∙ ap (shifted_by 40) e
-
-looked_48 : (p x : ℕ) → p ≡ x % 256 → get_or SHIFTED_48 p 0 ≡ shifted_by 48 (x % 256)
-looked_48 p x e = word_48 p (omega arith) ∙ ap (shifted_by 48) e
-
-looked_56 : (p x : ℕ) → p ≡ x % 256 → get_or SHIFTED_56 p 0 ≡ shifted_by 56 (x % 256)
-looked_56 p x e = word_56 p (omega arith) ∙ ap (shifted_by 56) e
-
-looked_64 : (p x : ℕ) → p ≡ x % 256 → get_or SHIFTED_64 p 0 ≡ shifted_by 64 (x % 256)
-looked_64 p x e = word_64 p (omega arith) ∙ ap (shifted_by 64) e
 
 -- 64 shifts of a word of eight bytes are the exclusive or of as many shifts of each byte as there are from its place
 spread : (w w1 w2 w3 w4 w5 w6 w7 : ℕ) → w7 < 256 → w1 ≡ w / 256 → w2 ≡ w1 / 256 → w3 ≡ w2 / 256 → w4 ≡ w3 / 256 → w5 ≡ w4 / 256 → w6 ≡ w5 / 256 → w7 ≡ w6 / 256
@@ -236,12 +198,23 @@ spread w w1 w2 w3 w4 w5 w6 w7 h e1 e2 e3 e4 e5 e6 e7 =
     ∙ next_byte a5 8 w6 ∙ ap (λ (x : ℕ). bit_xor a6 (shifted_by 8 x)) (sym e7)
     ∙ ap (λ (x : ℕ). bit_xor a6 (shifted_by 8 x)) (let e : w7 ≡ w7 % 256 = omega arith in e)
 
--- 64 shifts of a word of eight bytes, by what the tables hold at each
-pub by_tables : (w p0 p1 p2 p3 p4 p5 p6 p7 : ℕ) → w < 2 ^ 64
+-- eight numbers put together in two ways
+regroup : (a b c d e f g h : ℕ) → bit_xor (bit_xor (bit_xor a b) (bit_xor c d)) (bit_xor (bit_xor (bit_xor e f) g) h)
+    ≡ bit_xor (bit_xor (bit_xor (bit_xor (bit_xor (bit_xor (bit_xor a b) c) d) e) f) g) h
+regroup a b c d e f g h =
+    let x = bit_xor (bit_xor (bit_xor a b) c) d in
+    ap (λ (y : ℕ). bit_xor y (bit_xor (bit_xor (bit_xor e f) g) h)) (sym (xor_assoc (bit_xor a b) c d))
+    ∙ sym (xor_assoc x (bit_xor (bit_xor e f) g) h)
+    ∙ ap (λ (y : ℕ). bit_xor y h) (sym (xor_assoc x (bit_xor e f) g) ∙ ap (λ (y : ℕ). bit_xor y g) (sym (xor_assoc x e f)))
+
+-- 64 shifts of a word of eight bytes, by what each byte leaves
+pub by_tables : (w p0 p1 p2 p3 p4 p5 p6 p7 t0 t1 t2 t3 t4 t5 t6 t7 : ℕ) → w < 2 ^ 64
     → p0 ≡ w % 256 → p1 ≡ w / 2 ^ 8 % 256 → p2 ≡ w / 2 ^ 16 % 256 → p3 ≡ w / 2 ^ 24 % 256
     → p4 ≡ w / 2 ^ 32 % 256 → p5 ≡ w / 2 ^ 40 % 256 → p6 ≡ w / 2 ^ 48 % 256 → p7 ≡ w / 2 ^ 56 % 256
-    → bit_xor (bit_xor (bit_xor (bit_xor (bit_xor (bit_xor (bit_xor (get_or SHIFTED_64 p0 0) (get_or SHIFTED_56 p1 0)) (get_or SHIFTED_48 p2 0)) (get_or SHIFTED_40 p3 0)) (get_or SHIFTED_32 p4 0)) (get_or SHIFTED_24 p5 0)) (get_or SHIFTED_16 p6 0)) (get_or SHIFTED_8 p7 0) ≡ shifted_by 64 w
-by_tables w p0 p1 p2 p3 p4 p5 p6 p7 h e0 e1 e2 e3 e4 e5 e6 e7 =
+    → t0 ≡ shifted_by 64 p0 → t1 ≡ shifted_by 56 p1 → t2 ≡ shifted_by 48 p2 → t3 ≡ shifted_by 40 p3
+    → t4 ≡ shifted_by 32 p4 → t5 ≡ shifted_by 24 p5 → t6 ≡ shifted_by 16 p6 → t7 ≡ shifted_by 8 p7
+    → bit_xor (bit_xor (bit_xor t0 t1) (bit_xor t2 t3)) (bit_xor (bit_xor (bit_xor t4 t5) t6) t7) ≡ shifted_by 64 w
+by_tables w p0 p1 p2 p3 p4 p5 p6 p7 t0 t1 t2 t3 t4 t5 t6 t7 h e0 e1 e2 e3 e4 e5 e6 e7 s0 s1 s2 s3 s4 s5 s6 s7 =
     let q2 : w / 2 ^ 16 ≡ w / 2 ^ 8 / 256 = omega arith in
     let q3 : w / 2 ^ 24 ≡ w / 2 ^ 16 / 256 = omega arith in
     let q4 : w / 2 ^ 32 ≡ w / 2 ^ 24 / 256 = omega arith in
@@ -249,7 +222,8 @@ by_tables w p0 p1 p2 p3 p4 p5 p6 p7 h e0 e1 e2 e3 e4 e5 e6 e7 =
     let q6 : w / 2 ^ 48 ≡ w / 2 ^ 40 / 256 = omega arith in
     let q7 : w / 2 ^ 56 ≡ w / 2 ^ 48 / 256 = omega arith in
     let small : w / 2 ^ 56 < 256 = omega arith in
-    both (both (both (both (both (both (both (looked_64 p0 w e0) (looked_56 p1 (w / 2 ^ 8) e1)) (looked_48 p2 (w / 2 ^ 16) e2)) (looked_40 p3 (w / 2 ^ 24) e3)) (looked_32 p4 (w / 2 ^ 32) e4)) (looked_24 p5 (w / 2 ^ 40) e5)) (looked_16 p6 (w / 2 ^ 48) e6)) (looked_8 p7 (w / 2 ^ 56) e7)
+    regroup t0 t1 t2 t3 t4 t5 t6 t7
+    ∙ (both (both (both (both (both (both (both (s0 ∙ ap (shifted_by 64) e0) (s1 ∙ ap (shifted_by 56) e1)) (s2 ∙ ap (shifted_by 48) e2)) (s3 ∙ ap (shifted_by 40) e3)) (s4 ∙ ap (shifted_by 32) e4)) (s5 ∙ ap (shifted_by 24) e5)) (s6 ∙ ap (shifted_by 16) e6)) (s7 ∙ ap (shifted_by 8) e7))
     ∙ sym (spread w (w / 2 ^ 8) (w / 2 ^ 16) (w / 2 ^ 24) (w / 2 ^ 32) (w / 2 ^ 40) (w / 2 ^ 48) (w / 2 ^ 56) small refl q2 q3 q4 q5 q6 q7)
 
 are_bytes : (bs : List ℕ) → ((i : ℕ) → get_or bs i 0 < 256) → AreBytes bs

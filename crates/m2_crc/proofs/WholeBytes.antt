@@ -1,13 +1,12 @@
 -- A whole byte at a time: eight shifts of a state are the state moved down by eight bits, with what
 -- eight shifts make of its lowest byte put in.
-use Rattle.std.proofs.Common.{◌≡◌, ℕ, zero, suc, ◌+◌, ◌*◌, ◌/◌, ◌%◌, ◌^◌, ◌<◌, Bool, true, eqb, List, [], ◌∷◌, length, get_or, refl, sym, ap, ◌∙◌, arith, inl, inr}
-use Rattle.std.specs.Prelude.{◌&&◌, bit_and, bit_xor}
+use Rattle.std.proofs.Common.{◌≡◌, ℕ, zero, suc, ◌+◌, ◌*◌, ◌/◌, ◌%◌, ◌^◌, ◌<◌, refl, sym, ap, ◌∙◌, arith, inl, inr}
+use Rattle.std.specs.Prelude.{bit_and, bit_xor}
 use lib.Bits.{xor_assoc, xor_zero_r}
 use Rattle.std.proofs.lemmas.Nat.{xor_block, xor_lt, xor_shr, xor_comm, shr_split, and_mask, pow_pos}
-use Rattle.std.proofs.lemmas.Bool.{eqb-true, cases_lt, and_parts}
+use Rattle.std.proofs.lemmas.Bool.{cases_lt}
 use Rattle.std.proofs.Math.Nat.{pow-suc, mul_assoc, mod-lt}
 use Rattle.m2_crc.specs.Crc.{polynomial, shifted, shifted_by, after_byte}
-use Rattle.m2_crc.specs.declared.table.TheConstants.{SHIFTED_8}
 
 doubled : (n hi : ℕ) → hi * 2 ^ suc n ≡ (hi * 2 ^ n) * 2
 doubled n hi = ap (λ (x : ℕ). hi * x) (pow-suc 2 n) ∙ sym (mul_assoc hi (2 ^ n) 2)
@@ -94,21 +93,3 @@ after_byte-split state byte h =
     ∙ xor_comm (x / 2 ^ 8) (shifted_by 8 (x % 2 ^ 8))
     ∙ ap (λ (y : ℕ). bit_xor (shifted_by 8 (x % 2 ^ 8)) y) high
     ∙ ap (λ (y : ℕ). bit_xor (shifted_by 8 y) (state / 256)) (sym (and_mask x 8))
-
--- each place of the table holds what eight shifts make of it
-table_rule : List ℕ → ℕ → Bool
-table_rule [] i = true
-table_rule (x ∷ xs) i = eqb x (shifted_by 8 i) && table_rule xs (suc i)
-
-table_holds : table_rule SHIFTED_8 0 ≡ true
-unfolding table_rule shifted shifted_by
-table_holds = refl
-
-table_at : (xs : List ℕ) (i k : ℕ) → table_rule xs i ≡ true → k < length xs → get_or xs k 0 ≡ shifted_by 8 (i + k)
-unfolding table_rule
-table_at [] i k h lt = absurd (omega arith)
-table_at (x ∷ xs) i zero h lt = eqb-true x (shifted_by 8 i) (and_parts (eqb x (shifted_by 8 i)) (table_rule xs (suc i)) h).0 ∙ ap (shifted_by 8) (omega arith)
-table_at (x ∷ xs) i (suc k) h lt = table_at xs (suc i) k (and_parts (eqb x (shifted_by 8 i)) (table_rule xs (suc i)) h).1 (omega arith) ∙ ap (shifted_by 8) (omega arith)
-
-pub table_word : (low : ℕ) → low < 256 → get_or SHIFTED_8 low 0 ≡ shifted_by 8 low
-table_word low h = table_at SHIFTED_8 0 low table_holds h ∙ ap (shifted_by 8) (omega arith)

@@ -1,45 +1,44 @@
 //! The checksum of a piece of bytes.
 
-ghost use Rattle.std.specs.Prelude.{◌≡◌, ◌<◌, ◌%◌};
+ghost use Rattle.std.specs.Prelude.{◌≡◌, ◌+◌, ◌*◌, ◌<◌, ◌%◌};
 ghost use Rattle.std.specs.List.{concat};
 ghost use Rattle.m2_crc.specs.Crc.{crc_of, shifted_by};
 
-use crate::table::{
-    SHIFTED_8, SHIFTED_16, SHIFTED_24, SHIFTED_32, SHIFTED_40, SHIFTED_48, SHIFTED_56, SHIFTED_64,
-};
+use crate::table::{BYTES, SHIFTED};
 
-/// What eight shifts make of a state that holds this byte alone.
+/// What the shifts of so many more bytes than one make of a state that holds this byte alone.
 #[inline(always)]
-fn eight_shifts(low: u8) -> u32
-    ensures { result ≡ shifted_by 8 low }
+fn moved_out(more: usize, byte: usize) -> u32
+    requires more { more < 8 }
+    requires byte { byte < 256 }
+    ensures { result ≡ shifted_by (8 * (more + 1)) byte }
 {
-    SHIFTED_8[low as usize]
+    SHIFTED[BYTES * more + byte]
 }
 
-/// The lowest byte of a word, as a place in a table.
+/// The lowest byte of a word.
 #[inline(always)]
 fn lowest_byte(word: u64) -> usize
     ensures value { result ≡ word % 256 }
-    ensures place { result < 256 }
+    ensures byte { result < 256 }
 {
     (word & 0xff) as usize
 }
 
-/// The state after eight bytes. Put into the state together, each is moved out by the table of as many shifts as
-/// there are from its place.
+/// The state after eight bytes. Put into the state together, each is moved out by as many shifts as there are from
+/// its place. The last four don't wait for the state.
 #[inline(always)]
 fn after_word(state: u32, bytes: &[u8; 8]) -> u32
     ensures { result ≡ crc_of state bytes.now }
 {
     let word = u64::from_le_bytes(*bytes) ^ state as u64;
-    SHIFTED_64[lowest_byte(word)]
-        ^ SHIFTED_56[lowest_byte(word >> 8)]
-        ^ SHIFTED_48[lowest_byte(word >> 16)]
-        ^ SHIFTED_40[lowest_byte(word >> 24)]
-        ^ SHIFTED_32[lowest_byte(word >> 32)]
-        ^ SHIFTED_24[lowest_byte(word >> 40)]
-        ^ SHIFTED_16[lowest_byte(word >> 48)]
-        ^ SHIFTED_8[lowest_byte(word >> 56)]
+    let last = moved_out(3, lowest_byte(word >> 32))
+        ^ moved_out(2, lowest_byte(word >> 40))
+        ^ moved_out(1, lowest_byte(word >> 48))
+        ^ moved_out(0, lowest_byte(word >> 56));
+    let first = moved_out(7, lowest_byte(word)) ^ moved_out(6, lowest_byte(word >> 8));
+    let then = moved_out(5, lowest_byte(word >> 16)) ^ moved_out(4, lowest_byte(word >> 24));
+    (first ^ then) ^ last
 }
 
 /// The state after these bytes, eight at a time.
@@ -60,8 +59,8 @@ fn after_bytes(seed: u32, bytes: &[u8]) -> u32
 {
     let mut state = seed;
     for byte in bytes {
-        let low = ((state ^ *byte as u32) & 0xff) as u8;
-        state = eight_shifts(low) ^ (state >> 8);
+        let low = ((state ^ *byte as u32) & 0xff) as usize;
+        state = moved_out(0, low) ^ (state >> 8);
     }
     state
 }

@@ -8,7 +8,7 @@ use Rattle.m2_crc.proofs.checksum.after_bytes.Goals as goal
 pub loop-byte-preserved : goal.loop-byte-preserved
 loop-byte-preserved c =
     let b = get_or c.args.bytes.now c.loop-byte.byte-index 0 in
-    ap (λ x. bit_xor x (c.loop-byte.state / 256)) c.eight_shifts.ensures
+    ap (λ x. bit_xor x (c.loop-byte.state / 256)) c.moved_out.ensures
     ∙ sym (after_byte-split c.loop-byte.state b (omega (arith, c.type_inv.bytes c.loop-byte.byte-index)))
     ∙ ap (λ s. after_byte s b) c.loop-byte.invariant
     ∙ sym (fold_more after_byte c.args.seed c.args.bytes.now c.loop-byte.byte-index 0 c.loop-byte-test.true)
