@@ -1,4 +1,5 @@
 pub mod Cuts
-pub mod Tops
-pub mod Fronts
 pub mod Listings
+pub mod Orders
+pub mod Says
+pub mod Tops

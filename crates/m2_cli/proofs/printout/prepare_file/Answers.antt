@@ -1,5 +1,5 @@
 use Rattle.std.proofs.Common.{ℕ, List, subst}
-use Rattle.m2_cli.specs.Answer.{IsAnswer, IsSoundIn}
+use Rattle.m2_cli.specs.Printout.{IsPrintout, IsSoundIn}
 use Rattle.m2_cli.specs.Verdict.{status_in, report_in}
 use Rattle.std.proofs.lemmas.Result.{err_from_is_err_and}
 use Rattle.m2_cli.proofs.Tops.{stands_whole}
