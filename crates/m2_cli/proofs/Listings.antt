@@ -1,5 +1,5 @@
 -- What `frames` leaves, however passing on and saying went.
-use Rattle.std.proofs.Common.{◌≡◌, ℕ, ◌≤◌, List, length, refl, sym, ◌∙◌, subst, arith, inl, inr}
+use Rattle.std.proofs.Common.{◌≡◌, ℕ, ◌≤◌, List, length, refl, sym, ◌∙◌, subst, arith, ◌⊎◌, inl, inr}
 use Rattle.std.specs.Prelude.{◌≢◌}
 use Rattle.std.proofs.Math.Seq.{take-length}
 use Rattle.m2_edge.specs.Faults.{HasRisen}
@@ -13,7 +13,8 @@ use Rattle.m2_cli.specs.declared.status.Status.{Status}
 use Rattle.m2_cli.specs.declared.status.Status.TheVariants as status
 use Rattle.m2_cli.specs.Edge.{Edge, IsCause, StandsSomewhere}
 use Rattle.m2_cli.specs.Frames.{ListsFile, IsListedInPart, status_of_listing, IsPassedOn}
-use Rattle.m2_cli.proofs.Says.{prefix_whole}
+use Rattle.m2_cli.specs.Print.{SaysStatus}
+use Rattle.m2_cli.proofs.Says.{prefix_whole, said_caused}
 
 all_prefix : (bytes : List ℕ) (src : SeenSource) → IsAll bytes src → IsPrefixOf bytes src.given
 all_prefix bytes src h = (length src.given, h.given ∙ sym (take-length src.given))
@@ -117,10 +118,6 @@ lists_passed l r file before after mid h rises (inr (failed, risen)) =
     let P : Listing → Type 0 = λ x. ListsFile file (status_of_listing x) before after in
     subst P (sym failed) (risen_before before.out.faults mid.faults after.out.faults rises risen, in_part l file before after h)
 
--- whatever it came to, a prefix was listed
-pub part_of : (work : Status) (file : List ℕ) (before after : Edge) (l : Listing) → Ended l file before after → ListsFile file status.NoMemory before after
-part_of work file before after l h = in_part l file before after h
-
 -- its cause
 pub listing_caused : (work : Status) (file : List ℕ) (before after : Edge) → ListsFile file work before after → IsCause work before after
 listing_caused status.Done file before after h = tt
@@ -131,6 +128,22 @@ listing_caused status.WriteFault file before after h = inl h.0
 listing_caused (status.Left count) file before after h = tt
 listing_caused status.NoMemory file before after h = tt
 listing_caused (status.BadFrames place fault) file before after h = tt
+
+-- what it came to, how that was said, and its cause
+pub listing_ends : (l r : Listing) (s answered : Status) (file : List ℕ) (before after : Edge) (mid : SeenSink) → Ended l file before after
+    → before.out.faults ≤ mid.faults → IsPassedOn l r mid after.out → s ≡ status_of_listing r
+    → SaysStatus s answered before.err after.err ⊎ SaysStatus status.NoMemory answered before.err after.err
+    → (work : Status) × SaysStatus work answered before.err after.err × ListsFile file work before after
+listing_ends l r s answered file before after mid h rises passed e (inl said) =
+    let P : Status → Type 0 = λ x. ListsFile file x before after in (s, said, subst P (sym e) (lists_passed l r file before after mid h rises passed))
+listing_ends l r s answered file before after mid h rises passed e (inr said) = (status.NoMemory, said, in_part l file before after h)
+
+pub caused_ends : (l r : Listing) (s answered : Status) (file : List ℕ) (before after : Edge) (mid : SeenSink) → Ended l file before after
+    → before.out.faults ≤ mid.faults → IsPassedOn l r mid after.out → s ≡ status_of_listing r
+    → SaysStatus s answered before.err after.err ⊎ SaysStatus status.NoMemory answered before.err after.err → IsCause answered before after
+caused_ends l r s answered file before after mid h rises passed e said =
+    let ends = listing_ends l r s answered file before after mid h rises passed e said in
+    said_caused ends.0 answered before after (listing_caused ends.0 file before after ends.2) ends.1
 
 -- a count that falls in neither of two calls
 pub no_fall : (o p q : ℕ) → o ≤ p → p ≤ q → o ≤ q

@@ -10,12 +10,13 @@ use Rattle.m2_scenario.specs.Valid.{IsSound}
 use Rattle.m2_sim.specs.Model.{fast_of, left}
 use Rattle.m2_sim.specs.Posts.{HearsFronts, HearsAll, HearsPeers}
 use Rattle.m2_sim.specs.Lines.{net_after}
+use Rattle.m2_cli.specs.declared.printout.Printout.{Printout}
 use Rattle.m2_cli.specs.declared.status.Status.{Status}
 use Rattle.m2_cli.specs.declared.status.Status.TheVariants.{Done, Usage, BadScenario, ReadFault, WriteFault, Left, NoMemory, BadFrames}
 use Rattle.m2_cli.specs.Edge.{Edge}
 use Rattle.m2_cli.specs.Order.{KeepsOrder, KeepsAll, KeepsPrefixes, PrintsPrefixes}
-use Rattle.m2_cli.specs.Print.{SaysStatus, unsaid}
-use Rattle.m2_cli.specs.Printout.{IsSoundIn}
+use Rattle.m2_cli.specs.Print.{PrintsReport, SaysStatus, unsaid}
+use Rattle.m2_cli.specs.Printout.{IsPrintoutOf, IsSoundIn}
 use Rattle.m2_cli.specs.Top.{RunsFile}
 use Rattle.m2_cli.specs.Verdict.{BadAt, scenario_in, net_for, status_of, report_for, report_in}
 use Rattle.m2_cli.proofs.Says.{prefix_whole}
@@ -93,7 +94,7 @@ refused NoMemory before after h = tt
 refused (BadFrames place fault) before after h = h
 
 -- a report that was written whole, and what was answered
-pub order_whole : Laws → (work answered : Status) (before after : Edge) → IsSoundIn after.source.given → work ≡ status_of (scenario_in after.source.given)
+order_whole : Laws → (work answered : Status) (before after : Edge) → IsSoundIn after.source.given → work ≡ status_of (scenario_in after.source.given)
     → TakesBytes (report_in after.source.given) before.out after.out → SaysStatus work answered before.err after.err → KeepsOrder answered before after
 order_whole laws work answered before after sound e h (inl s) =
     let P : Status → Type 0 = λ x. KeepsOrder x before after in
@@ -103,7 +104,7 @@ order_whole laws work answered before after sound e h (inr s) =
     subst P (sym s.answer) (refused work before after (read_prefix laws (scenario_in after.source.given) before after refl sound (prefix_whole (report_in after.source.given) before.out after.out h)))
 
 -- a report of which a prefix was written, and what was answered
-pub order_prefix : Laws → (work answered : Status) (before after : Edge) → IsSoundIn after.source.given → work ≡ WriteFault
+order_prefix : Laws → (work answered : Status) (before after : Edge) → IsSoundIn after.source.given → work ≡ WriteFault
     → TakesPrefix (report_in after.source.given) before.out after.out → SaysStatus work answered before.err after.err → KeepsOrder answered before after
 order_prefix laws work answered before after sound e h (inl s) =
     let P : Status → Type 0 = λ x. KeepsOrder x before after in
@@ -111,6 +112,16 @@ order_prefix laws work answered before after sound e h (inl s) =
 order_prefix laws work answered before after sound e h (inr s) =
     let P : Status → Type 0 = λ x. KeepsOrder x before after in
     subst P (sym s.answer) (refused work before after (read_prefix laws (scenario_in after.source.given) before after refl sound h))
+
+-- a printout that was printed, and what was answered
+pub order_printed : Laws → (p : Printout) (file : List ℕ) (answered : Status) (before after : Edge) → IsPrintoutOf p file before.source after.source
+    → (work : Status) × PrintsReport p work before.out after.out × SaysStatus work answered before.err after.err → KeepsOrder answered before after
+order_printed laws p file answered before after o (work, inl (same, d), said) =
+    let Q : List ℕ → Type 0 = λ t. TakesBytes t before.out after.out in
+    order_whole laws work answered before after o.sound (same ∙ o.printout.status) (subst Q o.printout.report d.taken) said
+order_printed laws p file answered before after o (work, inr (same, failed, some), said) =
+    let Q : List ℕ → Type 0 = λ t. TakesPrefix t before.out after.out in
+    order_prefix laws work answered before after o.sound same (subst Q o.printout.report some) said
 
 -- nothing was written
 pub order_nothing : (work answered : Status) (before after : Edge) → after.out.taken ≡ before.out.taken → KeepsOrder work before after
