@@ -1,0 +1,69 @@
+//! Files of frames, listed.
+
+use m2_bytes::{Blob, Items};
+use m2_edge::{Input, MemSink, MemSource};
+use m2_frame::FrameFault;
+use m2_listing::{Listing, list_frames};
+use std::alloc::{AllocError, Global};
+use std::test::*;
+
+// Texts of an independent program: a WAIT, and a MESSAGE with 41 bytes of header and one of data.
+const WAIT: [u8; 32] = [
+    0x10, 0x01, 0x00, 0x00, 0x00, 0x00, 0x08, 0x00, 0x00, 0x00, 0x00, 0x00, 0x00, 0x00, 0x00, 0x00,
+    0x00, 0x00, 0x00, 0x00, 0x00, 0x00, 0x00, 0x00, 0x00, 0x00, 0x00, 0x00, 0xc8, 0xe3, 0xaa, 0xb0,
+];
+
+const MESSAGE: [u8; 91] = [
+    0x11, 0x04, 0x29, 0x00, 0x00, 0x00, 0x08, 0x00, 0x00, 0x00, 0x00, 0x00, 0x08, 0x00, 0x00, 0x00,
+    0x00, 0x00, 0x08, 0x00, 0x01, 0x00, 0x00, 0x00, 0x00, 0x10, 0x00, 0x00, 0xfa, 0xfc, 0x8d, 0x25,
+    0x01, 0x00, 0x00, 0x00, 0x00, 0x00, 0x00, 0x00, 0x00, 0x00, 0x00, 0x00, 0x00, 0x00, 0x00, 0x00,
+    0x07, 0x00, 0x7f, 0x00, 0x01, 0x00, 0x00, 0x00, 0x00, 0x00, 0x00, 0x00, 0x00, 0x00, 0x00, 0x00,
+    0x00, 0x00, 0x00, 0x00, 0x00, 0x01, 0x00, 0x00, 0x00, 0xc9, 0x1c, 0xbf, 0x54, 0x61, 0x0e, 0xff,
+    0xff, 0xff, 0xff, 0xff, 0xff, 0xff, 0xff, 0xcf, 0xbc, 0x2f, 0x3e,
+];
+
+/// Lists a file of two pieces; whether it ended so, with these lines.
+fn is_listed(
+    alloc: Global,
+    front: &[u8],
+    back: &[u8],
+    end: Listing,
+    lines: &[u8],
+) -> Result<bool, AllocError> {
+    let mut bytes = Vec::from_slice(alloc, front)?;
+    bytes.extend_from_slice(back)?;
+    let name = Vec::from_slice(alloc, b"f")?;
+    let mut inputs = Vec::new(alloc);
+    let input = Input {
+        name: Blob::from_vec(name),
+        bytes: Blob::from_vec(bytes),
+    };
+    if let Err(_failed) = inputs.push(input) {
+        return Ok(false);
+    }
+    let mut src = MemSource::new(Items::from_vec(inputs), Items::empty(alloc));
+    let mut out = MemSink::new(alloc, Items::empty(alloc));
+    let listing = list_frames(alloc, "f", &mut src, &mut out);
+    Ok(listing == end && out.bytes() == lines)
+}
+
+#[test]
+fn files_are_listed(rt: HostRuntime) -> Result<(), Fail> {
+    let alloc = rt.alloc();
+    assert!(rt; is_listed(alloc, b"", b"", Listing::Whole, b"")?);
+    assert!(rt; is_listed(alloc, &WAIT, &WAIT, Listing::Whole, b"WAIT 0\nWAIT 0\n")?);
+    assert!(rt; is_listed(alloc, &WAIT[..31], b"", Listing::Cut(0), b"")?);
+    let bad = Listing::Bad(32, FrameFault::BadCount);
+    assert!(rt; is_listed(alloc, &WAIT, &[0; 32], bad, b"WAIT 0\n")?);
+    assert!(rt; is_listed(alloc, &MESSAGE, b"", Listing::Whole, b"MESSAGE 41 0 0 1\n")?);
+    Ok(())
+}
+
+// The late status stands at 78.
+#[test]
+fn an_aborted_frame_is_listed(rt: HostRuntime) -> Result<(), Fail> {
+    let mut text = MESSAGE;
+    text[78] = 0x01;
+    assert!(rt; is_listed(rt.alloc(), &text, b"", Listing::Whole, b"MESSAGE aborted\n")?);
+    Ok(())
+}
