@@ -208,7 +208,13 @@ fn a_failed_flush_is_a_write_fault_though_all_was_taken(rt: HostRuntime) -> Resu
     expect(&rt, run, Status::WriteFault, line, b"write fault\n");
     let bytes = Blob::of(alloc, &WAIT)?;
     let listed = run_on(alloc, &["frames", "f"], bytes, &[], &[2])?;
-    expect(&rt, listed, Status::WriteFault, b"WAIT 0\n", b"write fault\n");
+    expect(
+        &rt,
+        listed,
+        Status::WriteFault,
+        b"WAIT 0\n",
+        b"write fault\n",
+    );
     Ok(())
 }
 

@@ -1,10 +1,10 @@
 //! The edge: that calls succeed with ample memory, and the adapters over real files.
 
+use m2_bytes::{Blob, Items};
 use m2_edge::{
     CallList, Failed, Input, InputList, MemSink, MemSource, ReadFault, Sink, StdSink, StdSource,
     read_whole, write_whole,
 };
-use m2_bytes::{Blob, Items};
 use std::alloc::Global;
 use std::fs;
 use std::test::Fail;

@@ -36,4 +36,3 @@ returns-in-Ok-clause-order g c =
       peers = c.only_peers_are_heard.ensures;
     } in
     order_printed laws c.in-Ok.printout c.args.file.now c.print.result before after c.in-Ok.ensures.prepares c.print.ensures.prints
-
