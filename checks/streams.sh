@@ -3,10 +3,10 @@
 # lists them: what comes out must be the frames that went in, and the table must say of the rest why it can't be listed.
 # It needs tcpdump, tshark, and the right to capture.
 #
-# usage: checks/streams.sh     (the program must be built: ./msgr2 builds it)
+# usage: checks/streams.sh [PROGRAM]     (the program must be built: ./msgr2 builds it)
 set -eu
 cd "$(dirname "${BASH_SOURCE[0]}")/.."
-program=crates/msgr2/out/msgr2
+program=${1:-crates/msgr2/out/msgr2}
 port=33300
 folder=$(mktemp -d)
 trap 'kill "$dump" 2>/dev/null || true; rm -rf "$folder"' EXIT
@@ -14,7 +14,11 @@ tcpdump -i lo -U --immediate-mode -w "$folder/capture.pcap" "tcp port $port" 2>"
 dump=$!
 for _ in $(seq 50); do ! grep -q 'listening on' "$folder/tcpdump" || break; sleep 0.1; done
 python3 checks/speak.py $port
-sleep 1
+# Each of the four connections is closed from both sides.
+for _ in $(seq 50); do
+  [ "$(tshark -r "$folder/capture.pcap" -Y 'tcp.flags.fin == 1' 2>/dev/null | wc -l)" -lt 8 ] || break
+  sleep 0.2
+done
 kill "$dump"
 wait "$dump" 2>/dev/null || true
 
@@ -44,5 +48,5 @@ has_note 3 'no banner: not a connection of msgr2' 1
 
 # A capture that began when the last connection was open already.
 tshark -r "$folder/capture.pcap" -Y 'tcp.stream eq 3 && tcp.flags.syn == 0' -w "$folder/later.pcap" 2>/dev/null
-tools/streams "$folder/later.pcap" "$folder/later" | grep -q 'no banner: the capture began later'
+tools/streams "$folder/later.pcap" "$folder/later" | grep 'no banner: the capture began later' >/dev/null
 echo "all streams came out as they went in"

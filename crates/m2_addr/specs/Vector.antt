@@ -6,6 +6,7 @@ use Rattle.std.specs.Prelude.{◌≡◌, ℕ, zero, suc, ◌≤◌, ◌==◌, na
 use Rattle.std.specs.List.{flat_map, AllByRecursion}
 use Rattle.std.specs.Int.{w32, to_le_bytes}
 use Rattle.m2_addr.specs.declared.addr.Addr.{Addr}
+use Rattle.m2_addr.specs.declared.addr.TheConstants.Addr.{MSGR2}
 use Rattle.m2_addr.specs.declared.addr.AnyAddr.{AnyAddr}
 use Rattle.m2_addr.specs.declared.addr.AnyAddr.TheVariants.{V4, Other}
 use Rattle.m2_addr.specs.declared.vector.TheConstants.{MOST_ADDRESSES}
@@ -60,7 +61,7 @@ pub record IsKept (addrs : List AnyAddr) : Type 0 where
 -- the first IPv4 address of kind msgr2
 abbrev pub main_of : List AnyAddr → Result Addr AddrFault
 main_of [] = Err NoMsgr2
-main_of (V4 a ∷ addrs) = if a.kind == 2 then Ok a else main_of addrs
+main_of (V4 a ∷ addrs) = if a.kind == MSGR2 then Ok a else main_of addrs
 main_of (Other b ∷ addrs) = main_of addrs
 
 -- none is NoMsgr2
@@ -71,7 +72,7 @@ option_main None = Err NoMsgr2
 -- the one that was found, or else the next where it is of kind msgr2
 abbrev pub main_with : Option Addr → Option Addr → Option Addr
 main_with (Some a) next = Some a
-main_with None (Some a) = if a.kind == 2 then Some a else None
+main_with None (Some a) = if a.kind == MSGR2 then Some a else None
 main_with None None = None
 
 -- the main address of so many addresses at the front, and the bytes after them

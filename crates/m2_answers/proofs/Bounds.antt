@@ -1,12 +1,11 @@
 -- The frames of answers keep the bounds of their fields.
-use Rattle.std.proofs.Common.{◌≡◌, ◌≢◌, ℕ, ◌<◌, ◌≤◌, ◌^◌, Bool, true, false, not, ◌&&◌, ◌==◌, if◌then◌else◌, ◌%◌, ◌⊎◌, inl, inr, refl, ap, rules, arith, ne_eqb}
+use Rattle.std.proofs.Common.{◌≡◌, ◌≢◌, ℕ, ◌<◌, ◌^◌, Bool, true, false, not, ◌&&◌, ◌==◌, if◌then◌else◌, ◌%◌, ◌⊎◌, inl, inr, refl, rules, arith, ne_eqb}
 use Rattle.m2_addr.specs.declared.addr.Addr.{Addr}
-use Rattle.std.specs.Prelude.{pos, FitsSigned, is_ok, List, [], ◌∷◌}
+use Rattle.std.specs.Prelude.{pos, FitsSigned, is_ok, [], ◌∷◌}
 use Rattle.std.specs.Int.{w64}
 use Rattle.m2_addr.specs.declared.addr.AnyAddr.TheVariants.{V4}
 use Rattle.m2_addr.specs.Vector.{IsKept, main_of}
 use Rattle.m2_addr.proofs.Addresses.{ipv4_spelled, one_kept}
-use Rattle.m2_session.specs.declared.answer.Answer.{Answer}
 use Rattle.m2_session.specs.declared.answer.Answer.TheVariants as answer
 use Rattle.m2_control.specs.declared.control.Control.TheVariants as control
 use Rattle.m2_control.specs.Laws.{HasRanges, IsInBounds}

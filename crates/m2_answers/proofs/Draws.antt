@@ -1,6 +1,5 @@
 -- Cookies of different draws differ.
-use Rattle.std.proofs.Common.{◌≡◌, ◌≢◌, ℕ, ◌+◌, ◌*◌, ◌/◌, ◌%◌, ◌<◌, ◌≤◌, ◌^◌, false, refl, ap, ◌∙◌, arith}
-use Rattle.m2_control.specs.declared.fields.TheConstants.{GREATEST_NUMBER}
+use Rattle.std.proofs.Common.{◌≡◌, ℕ, ◌+◌, ◌*◌, ◌%◌, ◌<◌, ◌≤◌, ◌^◌, false, refl, arith}
 use Rattle.m2_answers.specs.declared.cookie.CookieParts.{CookieParts}
 use Rattle.m2_answers.specs.Cookies.{cookie_of}
 use Rattle.m2_answers.specs.Laws.{IsDrawn, CookiesTellDrawsApart}

@@ -1,5 +1,6 @@
 -- What a reader expects of cookies, dials and answers.
-use Rattle.std.specs.Prelude.{◌≡◌, ◌≢◌, ℕ, ◌<◌, ◌≤◌, ◌^◌, Bool, true, false, ◌⊎◌, IsTrue, IfSome}
+use Rattle.std.specs.Prelude.{◌≡◌, ◌≢◌, ◌<◌, ◌≤◌, ◌^◌, Bool, true, false, ◌⊎◌, IsTrue, IfSome}
+use Rattle.m2_addr.specs.declared.addr.TheConstants.Addr.{MSGR2}
 use Rattle.m2_control.specs.declared.fields.TheConstants.{GREATEST_NUMBER}
 use Rattle.m2_control.specs.Laws.{HasAddrRanges, HasRanges, IsInBounds}
 use Rattle.m2_session.specs.declared.answer.Answer.{Answer}
@@ -12,7 +13,7 @@ use Rattle.m2_answers.specs.declared.frame.Speaker.{Speaker}
 use Rattle.m2_answers.specs.declared.frame.Carried.{Carried}
 use Rattle.m2_answers.specs.Cookies.{cookie_of}
 use Rattle.m2_answers.specs.Dials.{dials}
-use Rattle.m2_answers.specs.Frames.{accepts, frame_of}
+use Rattle.m2_answers.specs.Frames.{frame_of}
 
 -- ---- cookies
 
@@ -36,7 +37,7 @@ DialsAreLawful = (s : Session) (waits wanted : Bool) → dials s waits wanted �
 -- a node that speaks msgr2, with words of 64 bits
 pub record IsSpeaker (n : Speaker) : Type 0 where
   pub ranges : HasAddrRanges n.addr
-  pub kind : n.addr.kind ≡ 2
+  pub kind : n.addr.kind ≡ MSGR2
   pub place : n.place < 2 ^ 32
   pub supports : n.supports < 2 ^ 64
   pub requires_ : n.requires_ < 2 ^ 64

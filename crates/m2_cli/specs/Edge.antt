@@ -1,10 +1,11 @@
 -- What contracts see of the outside before and after a call: of the source, of standard output and of standard
 -- error.
-use Rattle.std.specs.Prelude.{◌≡◌, ◌≤◌, ◌⊎◌, List, ℕ}
+use Rattle.std.specs.Prelude.{◌≡◌, ◌+◌, ◌≤◌, ◌⊎◌, List, ℕ}
 use Rattle.m2_edge.specs.Faults.{HasRisen}
 use Rattle.m2_edge.specs.Sink.{SeenSink}
 use Rattle.m2_edge.specs.Source.{SeenSource, IsWhereItWas}
 use Rattle.m2_edge.specs.Whole.{StandsIn, IsReadUpTo}
+use Rattle.m2_scenario_text.specs.declared.reading.TheConstants.{MOST_BYTES}
 use Rattle.m2_cli.specs.declared.status.Status.{Status}
 use Rattle.m2_cli.specs.declared.status.Status.TheVariants.{Done, Usage, BadScenario, ReadFault, WriteFault, Left, NoMemory, BadFrames}
 
@@ -50,7 +51,7 @@ pub record HasCauses (status : Status) (before after : Edge) : Type 0 where
 
 -- a file is read to its end, or to the byte past the limit
 abbrev pub read_limit : ℕ
-read_limit = 4194305
+read_limit = MOST_BYTES + 1
 
 -- the source stands in the file, or where it was before
 abbrev pub StandsSomewhere : List ℕ → SeenSource → SeenSource → Type 0

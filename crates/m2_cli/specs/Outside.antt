@@ -9,7 +9,7 @@ use Rattle.m2_scenario_text.specs.declared.first_word.FirstWord.{FirstWord}
 use Rattle.m2_scenario_text.specs.declared.first_word.FirstWord.TheVariants as first
 use Rattle.m2_scenario_text.specs.FirstWord.{first_word_of}
 use Rattle.m2_words.specs.Line.{line_words}
-use Rattle.m2_scenario_text.specs.Reading.{most_bytes}
+use Rattle.m2_scenario_text.specs.declared.reading.TheConstants.{MOST_BYTES}
 use Rattle.m2_words.specs.Text.{Word, word, pieces}
 
 abbrev pub is_later_option : Word → Bool
@@ -41,4 +41,4 @@ outside_from n (l ∷ ls) = if is_outside (line_words l) then Some n else outsid
 
 -- the first such line of a file, by its number from 1, within the limit on bytes, beyond which a file is bad anyway
 abbrev pub first_outside : List ℕ → Option ℕ
-first_outside bytes = outside_from 1 (pieces 10 (take most_bytes bytes))
+first_outside bytes = outside_from 1 (pieces 10 (take MOST_BYTES bytes))

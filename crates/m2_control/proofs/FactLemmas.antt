@@ -1,18 +1,16 @@
 -- The facts of a SERVER_IDENT, from its main address and what stands behind its addresses.
-use Rattle.std.proofs.Common.{◌≡◌, ℕ, ◌<◌, ◌≤◌, Bool, true, false, if◌then◌else◌, ◌==◌, is_ok, List, [], ◌∷◌, length, Result, Ok, Err, refl, sym, ap, subst, ◌∙◌, arith}
+use Rattle.std.proofs.Common.{◌≡◌, ℕ, ◌<◌, ◌≤◌, Bool, true, false, if◌then◌else◌, ◌==◌, List, [], ◌∷◌, length, Result, Ok, Err, refl, sym, ap, ◌∙◌, arith}
 use Rattle.std.proofs.lemmas.Bool.{eq-eqb, ne_eqb}
 use Rattle.m2_addr.specs.declared.addr.Addr.{Addr}
 use Rattle.m2_addr.specs.declared.addr.AnyAddr.{AnyAddr}
 use Rattle.m2_addr.specs.declared.addr.AnyAddr.TheVariants.{V4, Other}
 use Rattle.m2_addr.specs.declared.fault.AddrFault.{AddrFault}
 use Rattle.m2_addr.specs.declared.fault.AddrFault.TheVariants.{NoMsgr2}
-use Rattle.m2_addr.specs.Reading.{◌>>=◌, ◌⊳◌, made}
+use Rattle.m2_addr.specs.Reading.{◌>>=◌}
 use Rattle.m2_addr.specs.Vector.{vector_at, main_of, main_at}
-use Rattle.m2_addr.proofs.Exact.{bind_ok, ok_is}
+use Rattle.m2_addr.proofs.Exact.{ok_is}
 use Rattle.m2_addr.proofs.Mains.{main_then, main_in}
 use Rattle.m2_tag.specs.declared.tag.Tag.TheVariants as tag
-use Rattle.m2_control.specs.declared.control.Control.{Control}
-use Rattle.m2_control.specs.declared.control.Control.TheVariants as control
 use Rattle.m2_control.specs.declared.fault.ControlFault.{ControlFault}
 use Rattle.m2_control.specs.declared.fault.ControlFault.TheVariants.{Extra, Address}
 use Rattle.m2_control.specs.declared.ident.Tail.{Tail}

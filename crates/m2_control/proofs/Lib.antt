@@ -11,3 +11,4 @@ pub mod Writable
 pub mod Memory
 pub mod FactLemmas
 pub mod BannerGraph
+pub mod Refused

@@ -1,5 +1,5 @@
 -- A fault of an address, raised, is the payload's.
-use Rattle.std.proofs.Common.{◌≡◌, is_ok, List, [], ◌∷◌, Result, Err, refl, ap}
+use Rattle.std.proofs.Common.{◌≡◌, is_ok, List, [], ◌∷◌, Result, refl, ap}
 use Rattle.m2_addr.specs.declared.addr.AnyAddr.{AnyAddr}
 use Rattle.m2_addr.specs.declared.addr.AnyAddr.TheVariants.{V4, Other}
 use Rattle.m2_addr.specs.declared.fault.AddrFault.{AddrFault}

@@ -2,6 +2,7 @@
 use Rattle.std.specs.Prelude.{ℕ, List, Result}
 use Rattle.m2_addr.specs.Reading.{prefix, made}
 use Rattle.m2_control.specs.declared.auth_signature.AuthSignature.{AuthSignature}
+use Rattle.m2_control.specs.declared.fields.TheConstants.{SIGNATURE_BYTES}
 use Rattle.m2_control.specs.declared.fault.ControlFault.{ControlFault}
 use Rattle.m2_control.specs.declared.fault.ControlFault.TheVariants.{Short}
 use Rattle.m2_control.specs.Fields.{IsSignature, blob}
@@ -20,7 +21,7 @@ abbrev pub IsAuthSignature : AuthSignature → List ℕ → Type 0
 IsAuthSignature p = IsSignature p.signature.bytes
 
 abbrev pub auth_signature_at : List ℕ → Result (AuthSignature × List ℕ) ControlFault
-auth_signature_at = made make_auth_signature (prefix 32 Short)
+auth_signature_at = made make_auth_signature (prefix SIGNATURE_BYTES Short)
 
 abbrev pub auth_signature_text : AuthSignature → List ℕ
 auth_signature_text p = p.signature.bytes

@@ -6,7 +6,7 @@ use Rattle.m2_control.specs.declared.control.Control.{Control}
 use Rattle.m2_control.specs.declared.control.Control.TheVariants as control
 use Rattle.m2_tag.specs.declared.tag.Tag.{Tag}
 use Rattle.m2_tag.specs.declared.tag.Tag.TheVariants as tag
-use Rattle.m2_control.specs.declared.fields.TheConstants.{MOST_LISTED, MOST_BYTES}
+use Rattle.m2_control.specs.declared.fields.TheConstants.{MOST_LISTED, MOST_BYTES, SIGNATURE_BYTES}
 use Rattle.m2_control.specs.declared.fault.ControlFault.{ControlFault}
 use Rattle.m2_control.specs.declared.fault.ControlFault.TheVariants.{Extra, NotNegotiated}
 use Rattle.m2_control.specs.Hello.{bare_hello, IsHello, hello_at, hello_text}
@@ -146,11 +146,11 @@ text_of (control.Keepalive p) = keepalive_text p
 text_of (control.KeepaliveAck p) = keepalive_ack_text p
 text_of (control.Ack p) = ack_text p
 
--- what can be written: lists and byte strings keep their bounds, a signature has 32 bytes, an address is well-formed
+-- what can be written: lists and byte strings keep their bounds, a signature has SIGNATURE_BYTES, an address is well-formed
 abbrev pub IsWritable : Control → Type 0
 IsWritable (control.Hello p) = IsWellFormed p.seen
 IsWritable (control.AuthRequest p) = (length p.modes.items ≤ MOST_LISTED) × (length p.payload.bytes ≤ MOST_BYTES)
 IsWritable (control.AuthBadMethod p) = (length p.methods.items ≤ MOST_LISTED) × (length p.modes.items ≤ MOST_LISTED)
 IsWritable (control.AuthDone p) = length p.payload.bytes ≤ MOST_BYTES
-IsWritable (control.AuthSignature p) = length p.signature.bytes ≡ 32
+IsWritable (control.AuthSignature p) = length p.signature.bytes ≡ SIGNATURE_BYTES
 IsWritable _ = Unit {0}

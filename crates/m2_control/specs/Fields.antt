@@ -1,6 +1,6 @@
 -- The fields that control payloads share: their texts and how they are read. Format: Ceph's msgr2 documentation;
 -- the bounds are this project's profile.
-use Rattle.std.specs.Prelude.{◌≡◌, ◌≢◌, ℕ, ℤ, zero, suc, ◌≤◌, ◌^◌, Bool, true, not, ◌==◌, nat_le, is_ok, if◌then◌else◌, List, [], ◌∷◌, ◌++◌, length, Result, Ok, Err}
+use Rattle.std.specs.Prelude.{◌≡◌, ◌≢◌, ℕ, ℤ, zero, suc, ◌≤◌, Bool, true, not, ◌==◌, nat_le, is_ok, if◌then◌else◌, List, [], ◌∷◌, ◌++◌, length, Result, Ok, Err}
 use Rattle.std.specs.List.{flat_map}
 use Rattle.std.specs.Int.{Width, w8, w32, w64, to_le_bytes, cast_signed}
 use Rattle.m2_addr.specs.declared.addr.Addr.{Addr}
@@ -14,7 +14,7 @@ use Rattle.m2_addr.specs.Addr.{IsAddress}
 use Rattle.m2_addr.specs.Vector.{IsVector, vector_at, main_of}
 use Rattle.m2_bytes.specs.Blob.{Contents}
 use Rattle.m2_bytes.specs.Items.{Holding}
-use Rattle.m2_control.specs.declared.fields.TheConstants.{GREATEST_NUMBER, MOST_LISTED, MOST_BYTES}
+use Rattle.m2_control.specs.declared.fields.TheConstants.{GREATEST_NUMBER, MOST_LISTED, MOST_BYTES, SIGNATURE_BYTES}
 use Rattle.m2_control.specs.declared.fault.ControlFault.{ControlFault}
 use Rattle.m2_control.specs.declared.fault.ControlFault.TheVariants.{Short, BadValue, Address}
 
@@ -51,9 +51,9 @@ IsList ns text = (length ns ≤ MOST_LISTED) × (IsNumber w32 (length ns) ▹ Ar
 abbrev pub IsShortString : List ℕ → List ℕ → Type 0
 IsShortString bytes text = (length bytes ≤ MOST_BYTES) × IsString bytes text
 
--- 32 bytes without a count
+-- a signature stands without a count
 abbrev pub IsSignature : List ℕ → List ℕ → Type 0
-IsSignature bytes text = IsText bytes text × (length bytes ≡ 32)
+IsSignature bytes text = IsText bytes text × (length bytes ≡ SIGNATURE_BYTES)
 
 abbrev pub IsIpv4 : Addr → List ℕ → Type 0
 IsIpv4 a = IsAddress (V4 a)

@@ -1,6 +1,6 @@
 -- Which payloads are read again as they are written, and the banner. Each value keeps the ranges of its fields'
 -- types; the bounds beside them are this project's profile.
-use Rattle.std.specs.Prelude.{◌≡◌, ◌≢◌, ℕ, ◌<◌, ◌≤◌, ◌^◌, ◌↔◌, true, List, ◌++◌, Ok, FitsSigned}
+use Rattle.std.specs.Prelude.{◌≡◌, ◌≢◌, ℕ, ◌<◌, ◌≤◌, ◌^◌, ◌↔◌, true, false, List, ◌++◌, Ok, Err, FitsSigned}
 use Rattle.std.specs.List.{AllByRecursion}
 use Rattle.std.specs.Int.{w32, w64}
 use Rattle.m2_addr.specs.declared.addr.Addr.{Addr}
@@ -14,6 +14,9 @@ use Rattle.m2_control.specs.declared.banner.BannerStep.TheVariants.{Got}
 use Rattle.m2_control.specs.declared.client_ident.ClientIdent.{ClientIdent}
 use Rattle.m2_control.specs.declared.server_ident.ServerIdent.{ServerIdent}
 use Rattle.m2_control.specs.declared.ident.Tail.{Tail}
+use Rattle.m2_tag.specs.declared.tag.Tag.{Tag}
+use Rattle.m2_tag.specs.Tags.{is_negotiated}
+use Rattle.m2_control.specs.declared.fault.ControlFault.TheVariants.{NotNegotiated}
 use Rattle.m2_control.specs.declared.control.Control.{Control}
 use Rattle.m2_control.specs.declared.control.Control.TheVariants as control
 use Rattle.m2_control.specs.Banner.{IsStep, banner_in, banner_text}
@@ -77,6 +80,10 @@ IsInBounds (control.Ack p) = p.seen ≤ GREATEST_NUMBER
 IsInBounds other = IsWritable other
 
 -- ---- the laws
+
+-- A tag of an exchange that this profile doesn't negotiate has no payload that is read.
+abbrev pub OthersAreRefused : Type 0
+OthersAreRefused = (t : Tag) (bytes : List ℕ) → is_negotiated t ≡ false → payload_of t bytes ≡ Err NotNegotiated
 
 -- what is written of a payload is a text of it, and reading it gives the payload
 pub record IsReadAgain (c : Control) : Type 0 where

@@ -2,6 +2,7 @@
 
 ghost use Rattle.std.specs.Prelude.{◌≡◌, ◌≤◌, length};
 ghost use Rattle.m2_bytes.specs.Blob.{Appends};
+ghost use Rattle.m2_control.specs.declared.fields.TheConstants.{SIGNATURE_BYTES};
 ghost use Rattle.m2_control.specs.Outcome.{GivesRest};
 ghost use Rattle.m2_control.specs.AuthSignature.{bare_auth_signature, auth_signature_at, auth_signature_text};
 
@@ -13,7 +14,7 @@ use std::alloc::Global;
 /// Signs all that was said before.
 #[derive(Debug, Drop)]
 pub struct AuthSignature {
-    /// 32 bytes; without authentication all are 0.
+    /// [`SIGNATURE_BYTES`](crate::SIGNATURE_BYTES) bytes; without authentication all are 0.
     pub signature: Blob,
 }
 
@@ -26,7 +27,7 @@ impl AuthSignature {
     }
 
     pub(crate) fn write(&self, out: &mut Blob) -> Result<(), NoMemory>
-        requires { length self.now.signature.bytes ≡ 32 }
+        requires { length self.now.signature.bytes ≡ SIGNATURE_BYTES }
         ensures { Appends result out.old out.new (auth_signature_text self.now) }
     {
         out.push_all(self.signature.as_slice())

@@ -27,9 +27,9 @@ use crate::session_reconnect_ok::SessionReconnectOk;
 use crate::session_reset::SessionReset;
 use crate::session_retry::SessionRetry;
 use crate::session_retry_global::SessionRetryGlobal;
-use m2_tag::Tag;
 use crate::wait::Wait;
 use m2_bytes::{Blob, NoMemory, Reader};
+use m2_tag::Tag;
 use std::alloc::Global;
 
 /// The payload of a control frame, by its tag.

@@ -25,6 +25,9 @@ pub const GREATEST_NUMBER: u64 = 1 << 40;
 /// How many numbers a list has at most.
 pub const MOST_LISTED: u32 = 64;
 
+/// How many bytes a signature has.
+pub const SIGNATURE_BYTES: usize = 32;
+
 /// How many bytes a byte string has at most.
 pub const MOST_BYTES: u32 = 4096;
 
@@ -106,11 +109,11 @@ pub(crate) fn string(alloc: Global, r: &mut Reader<'_>, field: u8) -> Result<Blo
     Ok(Blob::of(alloc, bytes)?)
 }
 
-/// 32 bytes.
+/// [`SIGNATURE_BYTES`] bytes.
 pub(crate) fn signature(alloc: Global, r: &mut Reader<'_>) -> Result<Blob, ControlFault>
-    ensures { GivesRest (λ b. b.bytes) result r.new (prefix 32 Short r.old) }
+    ensures { GivesRest (λ b. b.bytes) result r.new (prefix SIGNATURE_BYTES Short r.old) }
 {
-    let bytes = r.take(32)?;
+    let bytes = r.take(SIGNATURE_BYTES)?;
     Ok(Blob::of(alloc, bytes)?)
 }
 

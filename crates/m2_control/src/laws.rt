@@ -1,4 +1,5 @@
-//! What is written is read again. Each function has an empty body: its contract is the law.
+//! What is written is read again, and what a reader expects of the rest. Each function has an empty
+//! body: its contract is the law.
 
 ghost use Rattle.m2_control.specs.Laws as laws;
 
@@ -8,6 +9,12 @@ ghost use Rattle.m2_control.specs.Laws as laws;
 #[tactic(auto, using(crate::proofs::Written::written_is_read))]
 pub fn written_payload_is_read()
     ensures { laws.WrittenIsRead }
+{}
+
+/// The payload of a tag that isn't negotiated is refused as such, whatever it is.
+#[tactic(auto, using(crate::proofs::Refused::others_are_refused))]
+pub fn others_are_refused()
+    ensures { laws.OthersAreRefused }
 {}
 
 /// What bytes are of a banner is a function of them: the relation that says so is its graph.

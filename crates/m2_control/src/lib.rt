@@ -44,12 +44,14 @@ pub use banner::{Banner, BannerStep, LEAST_BANNER, MOST_BANNER, read_banner, wri
 pub use client_ident::ClientIdent;
 pub use control::Control;
 pub use fault::ControlFault;
-pub use fields::{GREATEST_NUMBER, MOST_BYTES, MOST_LISTED, NumList};
+pub use fields::{GREATEST_NUMBER, MOST_BYTES, MOST_LISTED, NumList, SIGNATURE_BYTES};
 pub use hello::Hello;
 pub use ident_missing_features::IdentMissingFeatures;
 pub use keepalive::Keepalive;
 pub use keepalive_ack::KeepaliveAck;
-pub use laws::{banner_is_a_function, written_banner_is_read, written_payload_is_read};
+pub use laws::{
+    banner_is_a_function, others_are_refused, written_banner_is_read, written_payload_is_read,
+};
 pub use server_facts::ServerFacts;
 pub use server_ident::ServerIdent;
 pub use session_reconnect::SessionReconnect;

@@ -1,4 +1,4 @@
-//! Files of frames, listed.
+//! Files of frames that are whole, bad, cut and aborted, and their lines.
 
 use m2_bytes::{Blob, Items};
 use m2_edge::{Input, MemSink, MemSource};

@@ -1,5 +1,6 @@
 pub mod Checksums
 pub mod Cutting
+pub mod Faults
 pub mod Judge
 pub mod Lengths
 pub mod Memory

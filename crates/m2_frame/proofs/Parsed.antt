@@ -91,7 +91,7 @@ late-low : (x : Late) (low : ℕ) → judge_late low ≡ Ok x → low ≡ low_bi
 late-low Complete low e = eqb-true low 0xE (late_by-complete (low == 0xE) (low == 0x1) e)
 late-low Aborted low e = eqb-true low 0x1 (late_by-aborted (low == 0xE) (low == 0x1) e)
 
-place_right : (place count : ℕ) (epilogue segment : List ℕ) → is_wrong place count epilogue segment ≡ false → place < count → number_at (4 * place - 3) epilogue ≡ segment_crc segment
+pub place_right : (place count : ℕ) (epilogue segment : List ℕ) → is_wrong place count epilogue segment ≡ false → place < count → number_at (4 * place - 3) epilogue ≡ segment_crc segment
 place_right place count epilogue segment e h =
     let n = number_at (4 * place - 3) epilogue in
     let crc = segment_crc segment in

@@ -274,7 +274,7 @@ same_fields t n a b c d p et en ea eb ec ed =
     ∙ ap (λ (x : ℕ). made p.tag p.count p.first p.second x d) ec
     ∙ ap (λ (x : ℕ). made p.tag p.count p.first p.second p.third x) ed
 
-preamble_in-text : (p : Preamble) (text : List ℕ) → IsPreambleText p text → IsCounted p → preamble_in text ≡ p
+pub preamble_in-text : (p : Preamble) (text : List ℕ) → IsPreambleText p text → IsCounted p → preamble_in text ≡ p
 preamble_in-text p text t k =
     let n = slice_index text 1 in
     let second : counted_length 1 n 8 text ≡ p.second = ap (λ (c : ℕ). counted_length 1 c 8 text) t.count ∙ counted_there 1 p.count 8 p.second text t.second k.second in

@@ -1,4 +1,5 @@
 pub mod Decoder
+pub mod Faults
 pub mod Frame
 pub mod Grammar
 pub mod Holds

@@ -1,8 +1,9 @@
 //! Laws of the grammar, in functions that do nothing.
 
-ghost use Rattle.std.specs.Prelude.{◌≡◌, ◌≤◌, ◌↔◌, ℕ, List, [], ◌∷◌, ◌++◌, length, take, drop};
+ghost use Rattle.std.specs.Prelude.{◌≡◌, ◌≢◌, ◌≤◌, ◌↔◌, ℕ, List, [], ◌∷◌, ◌++◌, length, take, drop};
 ghost use Rattle.m2_frame.specs.declared.fault.FrameFault.{FrameFault};
 ghost use Rattle.m2_frame.specs.declared.preamble.TheConstants.{PREAMBLE_BYTES};
+ghost use Rattle.m2_frame.specs.Faults.{HasCause, IsBad};
 ghost use Rattle.m2_frame.specs.Frame.{Parts, Fits};
 ghost use Rattle.m2_frame.specs.Grammar.{IsFrameText, IsItemText, IsStreamText, AreBytes};
 ghost use Rattle.m2_frame.specs.Reading.{Item, whole, text, bad, judge};
@@ -40,4 +41,12 @@ pub fn one_reading()
     ensures fed { (items : List Item) (stream rest more : List ℕ) → Splits stream items rest → Splits (stream ++ more) items (rest ++ more) }
     ensures next { (items : List Item) (stream rest : List ℕ) (item : Item) (n : ℕ) → Splits stream items rest → judge rest ≡ text item n → Splits stream (items ++ item ∷ []) (drop n rest) }
     ensures only { (items others : List Item) (stream rest other : List ℕ) → Splits stream items rest → IsOpen rest → Splits stream others other → IsOpen other → (items ≡ others) × (rest ≡ other) }
+{}
+
+/// What is bad is so by the format's tables: the front is bad with a cause exactly where it has that
+/// cause and none of an earlier row, and has none at all where it isn't bad. A cause is one of a part
+/// that is whole, so it is the first cause of the first wrong whole part.
+pub fn bad_by_the_tables()
+    ensures bad { (rest : List ℕ) (f : FrameFault) → judge rest ≡ bad f ↔ IsBad f rest }
+    ensures right { (rest : List ℕ) → ((f : FrameFault) → judge rest ≢ bad f) → (g : FrameFault) → ¬ HasCause rest g }
 {}

@@ -24,10 +24,8 @@ pub use fault::FrameFault;
 pub use frame::{CONTROL_LIMIT, Frame, MESSAGE_LIMIT, MOST_SEGMENTS, fits};
 pub use got::Got;
 pub use laws::{
-    a_written_frame_is_read, judged_by_the_tables, no_text_begins_another, one_reading,
+    a_written_frame_is_read, bad_by_the_tables, judged_by_the_tables, no_text_begins_another,
+    one_reading,
 };
 pub use preamble::{PREAMBLE_BYTES, Preamble};
 pub use view::FrameView;
-
-#[cfg(test)]
-mod tests;

@@ -6,9 +6,9 @@ ghost use Rattle.m2_link.specs.Model.{fresh, after_post, after_turn, after_flow,
 ghost use Rattle.m2_link.specs.Steps.{GivesPlaces};
 ghost use Rattle.m2_link.specs.Accepted.{content_taken, number_taken, arriving_numbers};
 
+use crate::accepted::Accepted;
 use crate::direction::Direction;
 use crate::link_side::LinkSide;
-use crate::accepted::Accepted;
 use crate::turn::turn;
 use m2_bytes::NoMemory;
 use m2_message::Message;

@@ -2,9 +2,9 @@
 
 ghost use Rattle.std.specs.Prelude.{◌≡◌, ◌+◌, ◌<◌, ◌≤◌, [], ◌∷◌, ◌++◌, vec_len, vec_capacity};
 
+use crate::accepted::Accepted;
 use crate::direction::Direction;
 use crate::link_frame::LinkFrame;
-use crate::accepted::Accepted;
 use m2_message::Message;
 use m2_queues::{InNumbers, Judge};
 

@@ -7,8 +7,8 @@ ghost use Rattle.m2_link.specs.Accepted.{content_taken, number_taken, arriving_n
 ghost use Rattle.m2_link.specs.Direction.{direction_of, ArePaired};
 ghost use Rattle.m2_queues.specs.OutQueues.{unsent};
 
-use crate::direction::Direction;
 use crate::accepted::Accepted;
+use crate::direction::Direction;
 use m2_bytes::NoMemory;
 
 /// The end reads all that has flowed to it: `inward` is the direction that it reads, and `outward`

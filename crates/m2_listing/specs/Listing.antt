@@ -1,6 +1,6 @@
 -- What a listing of a file says: which bytes were read, which items they are, which lines were written, and
 -- where and why the file stops being frames.
-use Rattle.std.specs.Prelude.{◌≡◌, ◌≢◌, ℕ, ◌+◌, ◌<◌, ◌≤◌, ◌⊎◌, IsTrue, List, [], ◌++◌, length, take}
+use Rattle.std.specs.Prelude.{◌≡◌, ◌≢◌, ℕ, ◌+◌, ◌<◌, ◌≤◌, ◌⊎◌, IsTrue, List, [], length, take}
 use Rattle.m2_edge.specs.Sink.{SeenSink, TakesBytes, TakesPrefix}
 use Rattle.m2_edge.specs.Source.{SeenSource, IsPrefixOf, IsWhereItWas}
 use Rattle.m2_edge.specs.Whole.{StandsIn}

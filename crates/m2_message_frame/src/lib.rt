@@ -15,6 +15,3 @@ pub use fault::MessageFault;
 pub use header_text::HEADER_BYTES;
 pub use laws::{a_header_is_its_fields, one_message};
 pub use message_frame::{from_frame, to_frame};
-
-#[cfg(test)]
-mod tests;

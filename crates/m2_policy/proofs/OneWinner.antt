@@ -3,7 +3,6 @@ use Rattle.std.proofs.Common.{◌≡◌, false, not, ◌||◌, refl}
 use Rattle.std.specs.Ordering.{ordering_reverse, is_lt}
 use Rattle.std.specs.declared.cmp.Ordering.{Ordering}
 use Rattle.std.specs.declared.cmp.Ordering.TheVariants.{Less, Equal, Greater}
-use Rattle.m2_addr.specs.declared.addr.Addr.{Addr}
 use Rattle.m2_addr.specs.Order.{address_cmp}
 use Rattle.m2_addr.proofs.Order.{addresses_ordered}
 use Rattle.m2_policy.specs.Laws.{OneWins}

@@ -14,7 +14,6 @@ pub struct FastSet {
 
 impl Model for FastSet {
     ghost use Rattle.std.specs.Prelude.{ℕ, ◌≤◌, List, take};
-
     ghost use Rattle.m2_policy.specs.declared.fast_set.TheConstants.FastSet.{MOST};
 
     ghost Value = { List ℕ };

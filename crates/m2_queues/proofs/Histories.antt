@@ -139,3 +139,7 @@ pub numbers_are_places : (h : History) (number : ℕ) → Holds h → h.queue.ba
 numbers_are_places h number k past =
     let test : ltb h.queue.base number ≡ true = grind (arith, nat_tests) in
     rw (test, k.kept) (slice_get-drop h.queue.base (number - h.queue.base - 1) h.numbered ∙ ap (λ (i : ℕ). slice_get h.numbered i) (omega arith))
+
+pub calls-append : (h : History) (cs ds : List Call) → after_calls h (cs ++ ds) ≡ after_calls (after_calls h cs) ds
+calls-append h [] ds = refl
+calls-append h (c ∷ cs) ds = calls-append (after_call h c) cs ds

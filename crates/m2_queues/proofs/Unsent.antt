@@ -2,6 +2,7 @@
 use Rattle.std.proofs.Common.{◌≡◌, ℕ, ◌+◌, ◌-◌, zero, suc, ◌<◌, ◌≤◌, Bool, true, false, List, [], ◌∷◌, ◌++◌, length, take, drop, slice_get, Some, None, ltb, cond, refl, sym, ap, ◌∙◌, arith, append_assoc, add-one}
 use Rattle.std.proofs.lemmas.List.{append-nil, take-append-drop, drop-append-le, drop-drop}
 use Rattle.m2_queues.specs.OutQueues.{Queue, IsNumbered, after_next, after_sent, after_acked, next_number, cursor_number, due, unsent}
+use Rattle.m2_queues.specs.Laws.{KeepsNumbers}
 
 -- the first past the n-th
 pub first_behind : {X : Type 0} (n : ℕ) (xs ys : List X) → n < length xs → slice_get (drop n xs ++ ys) 0 ≡ slice_get xs n
@@ -42,6 +43,11 @@ cursor-next q = elim (ltb q.cursor (length q.kept)) as (λ b. (cond b q (numberi
 
 pub base-next : (q : Queue) → (after_next q).base ≡ q.base
 base-next q = elim (ltb q.cursor (length q.kept)) as (λ b. (cond b q (numbering q)).base ≡ q.base) [ true ↦ refl | false ↦ refl ]
+
+pub keeps_numbers-next : (q : Queue) → KeepsNumbers q (after_next q)
+keeps_numbers-next q =
+    elim (ltb q.cursor (length q.kept)) as (λ b. KeepsNumbers q (cond b q (numbering q)))
+    [ true ↦ record { keeps = refl; base = refl; written = refl; cursor = refl } | false ↦ record { keeps = refl; base = refl; written = refl; cursor = refl } ]
 
 -- the number that `next` answers stands at the cursor
 pub next-is_at_cursor : (q : Queue) (n : ℕ) → next_number q ≡ Some n → n ≡ cursor_number q

@@ -3,7 +3,7 @@
 use Rattle.std.specs.Prelude.{◌≡◌, ℕ, ◌+◌, ◌-◌, ◌<◌, ◌≤◌, max, Some, None, Bool, List, [], ◌∷◌, ◌++◌, length, take, drop, nat_lt, nat_le, slice_get, if◌then◌else◌}
 use Rattle.m2_message.specs.Message.{Content, priority_of}
 use Rattle.m2_priority.specs.ByRank.{IsFalling, of_rank}
-use Rattle.m2_queues.specs.OutQueues.{Queue, new_queue, newly_numbered, next_number, message_at, unsent, IsNumbered, after_post, after_next, after_sent, after_acked, after_requeue, after_discard, after_renumber}
+use Rattle.m2_queues.specs.OutQueues.{Queue, new_queue, newly_numbered, next_number, message_at, cursor_number, unsent, IsNumbered, after_post, after_next, after_sent, after_acked, after_requeue, after_discard, after_renumber}
 
 -- A call that did what it says. A post for which memory ran out leaves the queue as it was, and so does each call
 -- that makes room.
@@ -79,6 +79,24 @@ NumberedMessagesStay = (h : History) (call : Call) → ¬ SetsBack call → (mor
 -- numbers set back where none was acknowledged: the messages and their numbers stay, and all of them are to be sent again
 abbrev pub RenumberFromZeroKeepsTheNumbers : Type 0
 RenumberFromZeroKeepsTheNumbers = (h : History) → h.queue.base ≡ 0 → after_call h Renumber ≡ record h { queue = record h.queue { written = 0; cursor = 0 } }
+
+-- more calls go on from what the first ones left
+abbrev pub CallsGoOn : Type 0
+CallsGoOn = (h : History) (first more : List Call) → after_calls h (first ++ more) ≡ after_calls (after_calls h first) more
+
+-- what `next` answers is the number at the cursor
+abbrev pub NextIsTheCursors : Type 0
+NextIsTheCursors = (q : Queue) (number : ℕ) → next_number q ≡ Some number → number ≡ cursor_number q
+
+-- to number the next message changes no number and moves no cursor
+pub record KeepsNumbers (old new : Queue) : Type 0 where
+  pub keeps : new.keeps ≡ old.keeps
+  pub base : new.base ≡ old.base
+  pub written : new.written ≡ old.written
+  pub cursor : new.cursor ≡ old.cursor
+
+abbrev pub NextKeepsNumbers : Type 0
+NextKeepsNumbers = (q : Queue) → KeepsNumbers q (after_next q)
 
 -- to number the next message leaves what is still to be sent
 abbrev pub NextLeavesTheUnsent : Type 0

@@ -1,7 +1,7 @@
 //! What holds of a queue over every list of calls. These functions do nothing: each stands for the
 //! law that its contract names.
 
-ghost use Rattle.m2_queues.specs.Laws.{EachPriorityKeepsItsOrder, GreatestPriorityWaitsFirst, KeptAreTheNumbered, EachNumberIsAPlace, NumberedMessagesStay, RenumberFromZeroKeepsTheNumbers, NextLeavesTheUnsent, NextIsTheFirstUnsent, NothingNextIsNothingUnsent, SentTakesTheFirstUnsent, AckedLeavesTheUnsent, AcknowledgementsCommute};
+ghost use Rattle.m2_queues.specs.Laws.{EachPriorityKeepsItsOrder, GreatestPriorityWaitsFirst, KeptAreTheNumbered, EachNumberIsAPlace, NumberedMessagesStay, RenumberFromZeroKeepsTheNumbers, CallsGoOn, NextIsTheCursors, NextKeepsNumbers, NextLeavesTheUnsent, NextIsTheFirstUnsent, NothingNextIsNothingUnsent, SentTakesTheFirstUnsent, AckedLeavesTheUnsent, AcknowledgementsCommute};
 
 /// For each priority, what was posted since the last discard is, in this order, what was dropped
 /// before the numbers were last set back, what was numbered since, and what waits.
@@ -34,6 +34,17 @@ pub fn numbered_messages_stay()
 /// is to be sent again.
 pub fn renumber_from_zero_keeps_the_numbers()
     ensures { RenumberFromZeroKeepsTheNumbers }
+{}
+
+/// More calls go on from what the first ones left.
+pub fn calls_go_on()
+    ensures { CallsGoOn }
+{}
+
+/// The number that is due is that at the cursor, and to give it moves nothing.
+pub fn next_is_at_the_cursor()
+    ensures number { NextIsTheCursors }
+    ensures stays { NextKeepsNumbers }
 {}
 
 /// What is still to be sent stays when its first message gets a number, loses that message when it was

@@ -15,8 +15,8 @@ mod out_queues;
 pub use due::Due;
 pub use in_numbers::{InNumbers, Judge};
 pub use laws::{
-    acknowledgements_commute, each_number_is_a_place, each_priority_keeps_its_order,
-    greatest_priority_waits_first, kept_messages_are_the_numbered, numbered_messages_stay,
-    renumber_from_zero_keeps_the_numbers, the_unsent_go_one_by_one,
+    acknowledgements_commute, calls_go_on, each_number_is_a_place, each_priority_keeps_its_order,
+    greatest_priority_waits_first, kept_messages_are_the_numbered, next_is_at_the_cursor,
+    numbered_messages_stay, renumber_from_zero_keeps_the_numbers, the_unsent_go_one_by_one,
 };
 pub use out_queues::{BadAck, OutQueues};

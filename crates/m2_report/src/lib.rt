@@ -7,6 +7,3 @@
 mod reports;
 
 pub use reports::{LogsList, report};
-
-#[cfg(test)]
-mod report_tests;

@@ -8,6 +8,7 @@ use Rattle.std.proofs.lemmas.List.{map-append, length-set}
 use Rattle.m2_scenario.specs.declared.node.Node.{Node}
 use Rattle.m2_scenario.specs.declared.plan.Counts.{Counts}
 use Rattle.m2_scenario.specs.declared.line.Line.{Line}
+use Rattle.m2_scenario.specs.declared.limits.TheConstants.{MOST_NODES}
 use Rattle.m2_scenario.specs.Draft.{DraftLine, draft_line, is_post, is_cut, is_fault, rounds_of, is_step_of, without, post, dial, down, cut, turn, flow, fault, settle}
 use Rattle.m2_scenario.specs.Plan.{IsCounted, IsAmong, step_of}
 use Rattle.m2_scenario.specs.LineCounts.{IsCountOf}
@@ -25,7 +26,7 @@ step_is (fault from to s) a b e = absurd (cc)
 step_is (settle n) a b e = absurd (cc)
 
 -- the node of a step is one of sixteen
-pub step_below : (l : DraftLine) (a : ℕ) → IsAmong 16 l → step_of l ≡ Some a → a < 16
+pub step_below : (l : DraftLine) (a : ℕ) → IsAmong MOST_NODES l → step_of l ≡ Some a → a < MOST_NODES
 step_below (post from to m) a room e = let same : from ≡ a = cc in omega (arith, same, room)
 step_below (dial from to) a room e = let same : from ≡ a = cc in omega (arith, same, room)
 step_below (down from to) a room e = let same : from ≡ a = cc in omega (arith, same, room)
@@ -39,7 +40,7 @@ step_or : (l : DraftLine) (a b : ℕ) (lines : List DraftLine) → step_of l ≡
 step_or l a b lines e = list_any-append (is_step_of b) lines (l ∷ []) ∙ ap (λ t. list_any (is_step_of b) lines || (t || false)) (step_is l a b e)
 
 counted : (lines : List DraftLine) (l : DraftLine) (posts cuts faults rounds : ℕ) (planned : List Bool) (c : Counts) (a : ℕ)
-    → IsCounted lines posts cuts faults rounds planned → IsCountOf c l → c.step_of ≡ Some a → a < 16
+    → IsCounted lines posts cuts faults rounds planned → IsCountOf c l → c.step_of ≡ Some a → a < MOST_NODES
     → IsCounted (lines ++ l ∷ []) (posts + c.posts) (cuts + c.cuts) (faults + c.faults) (rounds + c.rounds) (slice_set planned a true)
 counted lines l posts cuts faults rounds planned c a h k step small = record {
   posts_are = omega (arith, sum_by-append (λ x. cond (is_post x) 1 0) lines (l ∷ []), h.posts_are, k.posts);
@@ -47,12 +48,12 @@ counted lines l posts cuts faults rounds planned c a h k step small = record {
   faults_are = omega (arith, sum_by-append (λ x. cond (is_fault x) 1 0) lines (l ∷ []), h.faults_are, k.faults);
   rounds_are = omega (arith, sum_by-append rounds_of lines (l ∷ []), h.rounds_are, k.rounds);
   planned_len = length-set planned a true ∙ h.planned_len;
-  planned_are = λ b below. flag_at planned 16 a b (list_any (is_step_of b) lines) (a == b) refl h.planned_len small below (h.planned_are b below) ∙ ap Some (sym (step_or l a b lines (sym k.step ∙ step)));
+  planned_are = λ b below. flag_at planned MOST_NODES a b (list_any (is_step_of b) lines) (a == b) refl h.planned_len small below (h.planned_are b below) ∙ ap Some (sym (step_or l a b lines (sym k.step ∙ step)));
 }
 
 -- the same of the lines in memory
 pub counted_line : (old : List Line) (new : List Line) (line : Line) (posts cuts faults rounds : ℕ) (planned : List Bool) (c : Counts) (a : ℕ)
-    → new ≡ old ++ line ∷ [] → IsCounted (map draft_line old) posts cuts faults rounds planned → IsCountOf c (draft_line line) → IsAmong 16 (draft_line line) → c.step_of ≡ Some a
+    → new ≡ old ++ line ∷ [] → IsCounted (map draft_line old) posts cuts faults rounds planned → IsCountOf c (draft_line line) → IsAmong MOST_NODES (draft_line line) → c.step_of ≡ Some a
     → IsCounted (map draft_line new) (posts + c.posts) (cuts + c.cuts) (faults + c.faults) (rounds + c.rounds) (slice_set planned a true)
 counted_line old new line posts cuts faults rounds planned c a e h k room step =
     rw (e, map-append draft_line old (line ∷ [])) (counted (map draft_line old) (draft_line line) posts cuts faults rounds planned c a h k step (step_below (draft_line line) a room (sym k.step ∙ step)))

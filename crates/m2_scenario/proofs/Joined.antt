@@ -7,18 +7,19 @@ use Rattle.std.proofs.lemmas.List.Folds.{list_any-append}
 use Rattle.std.proofs.lemmas.List.{length-set}
 use Rattle.std.proofs.lemmas.Bool.{and_from, and_parts, eqb-true, eq-eqb}
 use Rattle.m2_scenario.specs.declared.link.Link.{Link}
+use Rattle.m2_scenario.specs.declared.limits.TheConstants.{MOST_NODES, MOST_PAIRS}
 use Rattle.m2_scenario.specs.Draft.{joins, are_joined}
 use Rattle.m2_scenario.specs.Link.{cell, IsLookUp}
 use Rattle.m2_scenario.proofs.Flags.{flag_at, none_set}
 
 -- two cells are one only in one row and one column
-row_of : (a b x y : ℕ) → b < 16 → y < 16 → cell a b ≡ cell x y → a ≡ x
+row_of : (a b x y : ℕ) → b < MOST_NODES → y < MOST_NODES → cell a b ≡ cell x y → a ≡ x
 row_of a b x y h k e = omega (arith, e, h, k)
 
-column_of : (a b x y : ℕ) → b < 16 → y < 16 → cell a b ≡ cell x y → b ≡ y
+column_of : (a b x y : ℕ) → b < MOST_NODES → y < MOST_NODES → cell a b ≡ cell x y → b ≡ y
 column_of a b x y h k e = omega (arith, e, h, k)
 
-same_cell : (a b x y : ℕ) → b < 16 → y < 16 → (cell a b == cell x y) ≡ ((a == x) && (b == y))
+same_cell : (a b x y : ℕ) → b < MOST_NODES → y < MOST_NODES → (cell a b == cell x y) ≡ ((a == x) && (b == y))
 same_cell a b x y h k = both_ways (cell a b == cell x y) ((a == x) && (b == y))
     (λ t. let e : cell a b ≡ cell x y = eqb-true (cell a b) (cell x y) t in
     and_from (a == x) (b == y) (eq-eqb a x (row_of a b x y h k e)) (eq-eqb b y (column_of a b x y h k e)))
@@ -40,20 +41,20 @@ either_way false false t true false = refl
 either_way false false t false true = refl
 either_way false false t false false = refl
 
-cell_below : (a b : ℕ) → a < 16 → b < 16 → cell a b < 256
+cell_below : (a b : ℕ) → a < MOST_NODES → b < MOST_NODES → cell a b < MOST_PAIRS
 cell_below a b h k = omega (arith, h, k)
 
-tells_at : (links : List Link) (l : Link) (joined : List Bool) → IsLookUp links joined → l.a < 16 → l.b < 16 → (x y : ℕ) → x < 16 → y < 16
+tells_at : (links : List Link) (l : Link) (joined : List Bool) → IsLookUp links joined → l.a < MOST_NODES → l.b < MOST_NODES → (x y : ℕ) → x < MOST_NODES → y < MOST_NODES
     → slice_get (slice_set (slice_set joined (cell l.a l.b) true) (cell l.b l.a) true) (cell x y) ≡ Some (are_joined (links ++ l ∷ []) x y)
 tells_at links l joined h first second x y below under =
     let had : Bool = are_joined links x y in
     let once : slice_get (slice_set joined (cell l.a l.b) true) (cell x y) ≡ Some (had || (((l.a == x) && (l.b == y)) || false)) =
-    flag_at joined 256 (cell l.a l.b) (cell x y) had ((l.a == x) && (l.b == y)) (same_cell l.a l.b x y second under) h.cells (cell_below l.a l.b first second) (cell_below x y below under) (h.tells x y below under) in
-    flag_at (slice_set joined (cell l.a l.b) true) 256 (cell l.b l.a) (cell x y) (had || (((l.a == x) && (l.b == y)) || false)) ((l.b == x) && (l.a == y)) (same_cell l.b l.a x y first under)
+    flag_at joined MOST_PAIRS (cell l.a l.b) (cell x y) had ((l.a == x) && (l.b == y)) (same_cell l.a l.b x y second under) h.cells (cell_below l.a l.b first second) (cell_below x y below under) (h.tells x y below under) in
+    flag_at (slice_set joined (cell l.a l.b) true) MOST_PAIRS (cell l.b l.a) (cell x y) (had || (((l.a == x) && (l.b == y)) || false)) ((l.b == x) && (l.a == y)) (same_cell l.b l.a x y first under)
     (length-set joined (cell l.a l.b) true ∙ h.cells) (cell_below l.b l.a second first) (cell_below x y below under) once
     ∙ ap Some (either_way had (l.a == x) (l.b == y) (l.b == x) (l.a == y) ∙ sym (list_any-append (joins x y) links (l ∷ [])))
 
-pub look_up_kept : (links : List Link) (l : Link) (joined : List Bool) → IsLookUp links joined → l.a < 16 → l.b < 16
+pub look_up_kept : (links : List Link) (l : Link) (joined : List Bool) → IsLookUp links joined → l.a < MOST_NODES → l.b < MOST_NODES
     → IsLookUp (links ++ l ∷ []) (slice_set (slice_set joined (cell l.a l.b) true) (cell l.b l.a) true)
 look_up_kept links l joined h first second = record {
   cells = length-set (slice_set joined (cell l.a l.b) true) (cell l.b l.a) true ∙ length-set joined (cell l.a l.b) true ∙ h.cells;
@@ -62,9 +63,9 @@ look_up_kept links l joined h first second = record {
 
 -- the same of the links and the cells in memory
 pub look_up_pushed : (old new : List Link) (l : Link) (joined : List Bool) (i k : ℕ) → new ≡ old ++ l ∷ [] → i ≡ cell l.a l.b → k ≡ cell l.b l.a
-    → IsLookUp old joined → l.a < 16 → l.b < 16 → IsLookUp new (slice_set (slice_set joined i true) k true)
+    → IsLookUp old joined → l.a < MOST_NODES → l.b < MOST_NODES → IsLookUp new (slice_set (slice_set joined i true) k true)
 look_up_pushed old new l joined i k e at across h first second = rw (e, at, across) (look_up_kept old l joined h first second)
 
 -- a table with no flag set is that of no links
-pub none_joined : (links : List Link) (joined : List Bool) → links ≡ [] → length joined ≡ 256 → list_all not joined ≡ true → IsLookUp links joined
+pub none_joined : (links : List Link) (joined : List Bool) → links ≡ [] → length joined ≡ MOST_PAIRS → list_all not joined ≡ true → IsLookUp links joined
 none_joined links joined e len none = rw e (record { cells = len; tells = λ a b h k. none_set joined (cell a b) none (omega (arith, len, cell_below a b h k)) })

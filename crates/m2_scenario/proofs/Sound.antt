@@ -10,11 +10,12 @@ use Rattle.std.proofs.lemmas.Bool.{eqb-true, and_parts}
 use Rattle.std.proofs.lemmas.Slice.Eq.{bytes_eq-Decides}
 use Rattle.m2_scenario.specs.declared.node.Node.{Node}
 use Rattle.m2_scenario.specs.declared.link.Link.{Link}
+use Rattle.m2_scenario.specs.declared.limits.TheConstants.{MOST_NODES, MOST_LINKS, MOST_POSTS, MOST_CUTS, MOST_FAULTS, MOST_ROUNDS}
 use Rattle.m2_scenario.specs.Draft.{DraftLine, joins, are_joined, is_named, is_at, without, is_post, is_cut, is_fault, rounds_of, post, dial, down, cut, turn, flow, fault, settle}
 use Rattle.m2_scenario.specs.Plan.{HasRoom, IsAmong}
 use Rattle.m2_scenario.specs.Valid.{IsSound, IsLine, IsLink, JoinOthers, HasCenters, AreApart}
 
-posts_kept : (lines : List DraftLine) (l : DraftLine) → count_by is_post lines ≤ 20000 → HasRoom lines l → count_by is_post (lines ++ l ∷ []) ≤ 20000
+posts_kept : (lines : List DraftLine) (l : DraftLine) → count_by is_post lines ≤ MOST_POSTS → HasRoom lines l → count_by is_post (lines ++ l ∷ []) ≤ MOST_POSTS
 posts_kept lines (post a b m) h room = omega (arith, sum_by-append (λ x. cond (is_post x) 1 0) lines (post a b m ∷ []), h, room)
 posts_kept lines (dial a b) h room = omega (arith, sum_by-append (λ x. cond (is_post x) 1 0) lines (dial a b ∷ []), h)
 posts_kept lines (down a b) h room = omega (arith, sum_by-append (λ x. cond (is_post x) 1 0) lines (down a b ∷ []), h)
@@ -24,7 +25,7 @@ posts_kept lines (flow a b socket n) h room = omega (arith, sum_by-append (λ x.
 posts_kept lines (fault a b socket) h room = omega (arith, sum_by-append (λ x. cond (is_post x) 1 0) lines (fault a b socket ∷ []), h, room)
 posts_kept lines (settle n) h room = omega (arith, sum_by-append (λ x. cond (is_post x) 1 0) lines (settle n ∷ []), h, room)
 
-cuts_kept : (lines : List DraftLine) (l : DraftLine) → count_by is_cut lines ≤ 64 → HasRoom lines l → count_by is_cut (lines ++ l ∷ []) ≤ 64
+cuts_kept : (lines : List DraftLine) (l : DraftLine) → count_by is_cut lines ≤ MOST_CUTS → HasRoom lines l → count_by is_cut (lines ++ l ∷ []) ≤ MOST_CUTS
 cuts_kept lines (post a b m) h room = omega (arith, sum_by-append (λ x. cond (is_cut x) 1 0) lines (post a b m ∷ []), h, room)
 cuts_kept lines (dial a b) h room = omega (arith, sum_by-append (λ x. cond (is_cut x) 1 0) lines (dial a b ∷ []), h)
 cuts_kept lines (down a b) h room = omega (arith, sum_by-append (λ x. cond (is_cut x) 1 0) lines (down a b ∷ []), h)
@@ -34,7 +35,7 @@ cuts_kept lines (flow a b socket n) h room = omega (arith, sum_by-append (λ x. 
 cuts_kept lines (fault a b socket) h room = omega (arith, sum_by-append (λ x. cond (is_cut x) 1 0) lines (fault a b socket ∷ []), h, room)
 cuts_kept lines (settle n) h room = omega (arith, sum_by-append (λ x. cond (is_cut x) 1 0) lines (settle n ∷ []), h, room)
 
-faults_kept : (lines : List DraftLine) (l : DraftLine) → count_by is_fault lines ≤ 64 → HasRoom lines l → count_by is_fault (lines ++ l ∷ []) ≤ 64
+faults_kept : (lines : List DraftLine) (l : DraftLine) → count_by is_fault lines ≤ MOST_FAULTS → HasRoom lines l → count_by is_fault (lines ++ l ∷ []) ≤ MOST_FAULTS
 faults_kept lines (post a b m) h room = omega (arith, sum_by-append (λ x. cond (is_fault x) 1 0) lines (post a b m ∷ []), h, room)
 faults_kept lines (dial a b) h room = omega (arith, sum_by-append (λ x. cond (is_fault x) 1 0) lines (dial a b ∷ []), h)
 faults_kept lines (down a b) h room = omega (arith, sum_by-append (λ x. cond (is_fault x) 1 0) lines (down a b ∷ []), h)
@@ -44,7 +45,7 @@ faults_kept lines (flow a b socket n) h room = omega (arith, sum_by-append (λ x
 faults_kept lines (fault a b socket) h room = omega (arith, sum_by-append (λ x. cond (is_fault x) 1 0) lines (fault a b socket ∷ []), h, room)
 faults_kept lines (settle n) h room = omega (arith, sum_by-append (λ x. cond (is_fault x) 1 0) lines (settle n ∷ []), h, room)
 
-rounds_kept : (lines : List DraftLine) (l : DraftLine) → sum_by rounds_of lines ≤ 20000 → HasRoom lines l → sum_by rounds_of (lines ++ l ∷ []) ≤ 20000
+rounds_kept : (lines : List DraftLine) (l : DraftLine) → sum_by rounds_of lines ≤ MOST_ROUNDS → HasRoom lines l → sum_by rounds_of (lines ++ l ∷ []) ≤ MOST_ROUNDS
 rounds_kept lines (post a b m) h room = omega (arith, sum_by-append rounds_of lines (post a b m ∷ []), h, room)
 rounds_kept lines (dial a b) h room = omega (arith, sum_by-append rounds_of lines (dial a b ∷ []), h)
 rounds_kept lines (down a b) h room = omega (arith, sum_by-append rounds_of lines (down a b ∷ []), h)
@@ -96,7 +97,7 @@ more_links n links l (flow a b socket k) h = still_joined links l a b h
 more_links n links l (fault a b socket) h = still_joined links l a b h
 more_links n links l (settle k) h = h
 
-pub link_kept : (nodes : List Node) (links : List Link) (lines : List DraftLine) (l : Link) → IsSound nodes links lines → length links < 120 → IsLink (length nodes) l → are_joined links l.a l.b ≡ false → IsSound nodes (links ++ l ∷ []) lines
+pub link_kept : (nodes : List Node) (links : List Link) (lines : List DraftLine) (l : Link) → IsSound nodes links lines → length links < MOST_LINKS → IsLink (length nodes) l → are_joined links l.a l.b ≡ false → IsSound nodes (links ++ l ∷ []) lines
 link_kept nodes links lines l s room fits first = record {
   few_nodes = s.few_nodes;
   few_links = omega (arith, length-append links (l ∷ []), room);
@@ -136,7 +137,7 @@ apart_from new n name socket = record {
   sockets = λ e. let same : is_at new.at n ≡ true = both (n.at.ip == new.at.ip) (n.at.port == new.at.port) (same_number n.at.ip new.at.ip e.0) (same_number n.at.port new.at.port e.1) in cc;
 }
 
-pub node_kept : (nodes : List Node) (links : List Link) (lines : List DraftLine) (n : Node) → IsSound nodes links lines → length nodes < 16 → HasCenters n
+pub node_kept : (nodes : List Node) (links : List Link) (lines : List DraftLine) (n : Node) → IsSound nodes links lines → length nodes < MOST_NODES → HasCenters n
     → list_any (is_named n.name) nodes ≡ false → list_any (is_at n.at) nodes ≡ false → IsSound (nodes ++ n ∷ []) links lines
 node_kept nodes links lines n s room centers names sockets =
     let more : length nodes ≤ length (nodes ++ n ∷ []) = omega (arith, length-append nodes (n ∷ [])) in
@@ -208,11 +209,11 @@ joined_within n (l ∷ ls) a b all h = go (eqb l.a a && eqb l.b b) (eqb l.a b &&
     go false true e f h more = let same : l.b ≡ a = eqb-true l.b a (and_parts (eqb l.a b) (eqb l.b a) f).1 in omega (arith, all.0.b, same)
     go false false e f h more = more h
 
-small : (nodes : List Node) (links : List Link) (lines : List DraftLine) (a b : ℕ) → IsSound nodes links lines → are_joined links a b ≡ true → a < 16
+small : (nodes : List Node) (links : List Link) (lines : List DraftLine) (a b : ℕ) → IsSound nodes links lines → are_joined links a b ≡ true → a < MOST_NODES
 small nodes links lines a b s h = omega (arith, s.few_nodes, joined_within (length nodes) links a b (recursion_from_All (IsLink (length nodes)) links s.joined) h)
 
--- the node of a step is one of 16
-pub step_among : (nodes : List Node) (links : List Link) (lines : List DraftLine) (l : DraftLine) → IsSound nodes links lines → IsLine (length nodes) links l → IsAmong 16 l
+-- the node of a step has a place
+pub step_among : (nodes : List Node) (links : List Link) (lines : List DraftLine) (l : DraftLine) → IsSound nodes links lines → IsLine (length nodes) links l → IsAmong MOST_NODES l
 step_among nodes links lines (post a b m) s fits = small nodes links lines a b s fits.0
 step_among nodes links lines (dial a b) s fits = small nodes links lines a b s fits
 step_among nodes links lines (down a b) s fits = small nodes links lines a b s fits

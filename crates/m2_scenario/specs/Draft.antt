@@ -10,6 +10,7 @@ use Rattle.m2_scenario.specs.declared.node.Node.{Node}
 use Rattle.m2_scenario.specs.declared.link.Link.{Link}
 use Rattle.m2_scenario.specs.declared.line.Line.{Line}
 use Rattle.m2_scenario.specs.declared.line.Line.TheVariants as line
+use Rattle.m2_scenario.specs.declared.limits.TheConstants.{USUAL_LIMIT}
 use Rattle.m2_scenario.specs.declared.scenario.Scenario.{Scenario}
 
 -- a line of a scenario that is no node and no link
@@ -65,12 +66,12 @@ without (suc a) (n ∷ ns) = n ∷ without a ns
 abbrev pub without_start : ℕ → Draft → Draft
 without_start a d = record d { nodes = without a d.nodes }
 
--- the scenario is the draft; a limit that was never set is ten seconds
+-- the scenario is the draft; a limit that was never set is the usual one
 pub record IsMade (s : Scenario) (d : Draft) : Type 0 where
   pub nodes : s.nodes.items ≡ d.nodes
   pub links : s.links.items ≡ d.links
   pub lines : map draft_line s.lines.items ≡ d.lines
-  pub limit : s.limit ≡ unwrap_or d.limit 10000
+  pub limit : s.limit ≡ unwrap_or d.limit USUAL_LIMIT
 
 -- ---- what is looked up
 

@@ -7,6 +7,7 @@ ghost use Rattle.m2_scenario.specs.Draft.{no_lines, with_node, with_link, with_l
 ghost use Rattle.m2_scenario.specs.Plan.{HasRoom};
 ghost use Rattle.m2_scenario.specs.Valid.{IsLine, IsLink, HasCenters, IsValid};
 
+use crate::limits::{MOST_LINKS, MOST_NODES, USUAL_LIMIT};
 use crate::line::Line;
 use crate::link::Link;
 use crate::link_table::LinkTable;
@@ -152,7 +153,7 @@ impl Draft {
 
     /// Puts a node last that stands apart from those above.
     pub fn push_node(&mut self, alloc: Global, node: Node) -> Result<(), NoMemory>
-        requires room { length self.old.nodes < 16 }
+        requires room { length self.old.nodes < MOST_NODES }
         requires centers { HasCenters node }
         requires names { list_any (is_named node.name) self.old.nodes ≡ false }
         requires sockets { list_any (is_at node.at) self.old.nodes ≡ false }
@@ -163,7 +164,7 @@ impl Draft {
 
     /// Puts a link last of two nodes that aren't joined yet.
     pub fn push_link(&mut self, link: Link) -> Result<(), NoMemory>
-        requires room { length self.old.links < 120 }
+        requires room { length self.old.links < MOST_LINKS }
         requires fits { IsLink (length self.old.nodes) link }
         requires first { are_joined self.old.links link.a link.b ≡ false }
         ensures { MatchResult result (λ _. self.new ≡ with_link self.old link) (λ _. self.new ≡ self.old) }
@@ -196,7 +197,7 @@ impl Draft {
         self.limit = Some(milliseconds);
     }
 
-    /// The scenario. Where no limit was set it has ten seconds.
+    /// The scenario. Where no limit was set it has [`USUAL_LIMIT`].
     pub fn into_scenario(self) -> Scenario
         ensures made { IsMade result self }
         ensures valid { IsValid result }
@@ -205,7 +206,7 @@ impl Draft {
             nodes: self.nodes.into_list(),
             links: self.links.into_list(),
             lines: self.plan.into_list(),
-            limit: self.limit.unwrap_or(10000),
+            limit: self.limit.unwrap_or(USUAL_LIMIT),
         }
     }
 }

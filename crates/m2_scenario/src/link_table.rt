@@ -4,17 +4,18 @@ ghost use Rattle.std.specs.Prelude.{◌≡◌, ◌<◌, ◌++◌, ◌∷◌, [],
 ghost use Rattle.m2_scenario.specs.Draft.{are_joined};
 ghost use Rattle.m2_scenario.specs.Link.{cell};
 
+use crate::limits::{MOST_NODES, MOST_PAIRS};
 use crate::link::{Link, LinkList};
 use m2_bytes::{Items, NoMemory};
 use std::alloc::Global;
 use std::marker::Model;
 
-// The links so far, with a look-up of whether two nodes are joined: a row and a column for each of
-// 16 places.
+// The links so far, with a look-up of whether two nodes are joined: a row and a column for each
+// place.
 #[derive(Debug, Drop)]
 pub(crate) struct LinkTable {
     links: LinkList,
-    joined: [bool; 256],
+    joined: [bool; MOST_PAIRS],
 }
 
 impl Model for LinkTable {
@@ -35,7 +36,7 @@ impl LinkTable {
     {
         LinkTable {
             links: Items::empty(alloc),
-            joined: [false; 256],
+            joined: [false; MOST_PAIRS],
         }
     }
 
@@ -47,16 +48,16 @@ impl LinkTable {
 
     // Whether a link joins the nodes at these places.
     pub(crate) fn joins(&self, a: u32, b: u32) -> bool
-        requires first { a < 16 }
-        requires second { b < 16 }
+        requires first { a < MOST_NODES }
+        requires second { b < MOST_NODES }
         ensures { result ≡ are_joined self.now a b }
     {
         self.joined[cell(a, b)]
     }
 
     pub(crate) fn push(&mut self, link: Link) -> Result<(), NoMemory>
-        requires first { link.a < 16 }
-        requires second { link.b < 16 }
+        requires first { link.a < MOST_NODES }
+        requires second { link.b < MOST_NODES }
         ensures { MatchResult result (λ _. self.new ≡ self.old ++ link ∷ []) (λ _. self.new ≡ self.old) }
     {
         match self.links.push(link) {
@@ -75,12 +76,12 @@ impl LinkTable {
     }
 }
 
-// The cell of a row and a column.
-fn cell(a: u32, b: u32) -> usize
-    requires first { a < 16 }
-    requires second { b < 16 }
+/// The cell of a row and a column of a table that has a cell for each two places of nodes.
+pub fn cell(a: u32, b: u32) -> usize
+    requires first { a < MOST_NODES }
+    requires second { b < MOST_NODES }
     ensures value { result ≡ cell a b }
-    ensures within { result < 256 }
+    ensures within { result < MOST_PAIRS }
 {
-    (a * 16 + b) as usize
+    a as usize * MOST_NODES + b as usize
 }

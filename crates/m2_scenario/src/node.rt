@@ -15,7 +15,7 @@ pub struct Node {
     /// Ceph's number of the entity's type: MON 1, MDS 2, OSD 4, CLIENT 8, MGR 16.
     pub entity: u8,
     pub at: Addr,
-    /// How many event centers it has in `run`, from 1 to 4.
+    /// How many event centers it has in `run`, from 1 to [`MOST_CENTERS`](crate::MOST_CENTERS).
     pub centers: u32,
     /// The kinds of message that it dispatches at once.
     pub fast: FastSet,

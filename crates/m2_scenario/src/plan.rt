@@ -6,6 +6,7 @@ ghost use Rattle.m2_scenario.specs.Draft.{draft_line, is_post, is_cut, is_fault,
 ghost use Rattle.m2_scenario.specs.Plan.{HasRoom, IsAmong};
 ghost use Rattle.m2_scenario.specs.LineCounts.{IsCountOf};
 
+use crate::limits::MOST_NODES;
 use crate::line::{Line, LineList};
 use m2_bytes::{Items, NoMemory};
 use std::alloc::Global;
@@ -64,7 +65,7 @@ pub(crate) struct Plan {
     cuts: u32,
     faults: u32,
     rounds: u32,
-    planned: [bool; 16],
+    planned: [bool; MOST_NODES],
 }
 
 impl Model for Plan {
@@ -89,7 +90,7 @@ impl Plan {
             cuts: 0,
             faults: 0,
             rounds: 0,
-            planned: [false; 16],
+            planned: [false; MOST_NODES],
         }
     }
 
@@ -119,7 +120,7 @@ impl Plan {
 
     // Whether the node at this place has a step: a post, a dial or a down.
     pub(crate) fn has_step_of(&self, a: u32) -> bool
-        requires { a < 16 }
+        requires { a < MOST_NODES }
         ensures { result ≡ list_any (is_step_of a) self.now }
     {
         self.planned[a as usize]
@@ -127,7 +128,7 @@ impl Plan {
 
     pub(crate) fn push(&mut self, line: Line) -> Result<(), NoMemory>
         requires room { HasRoom self.old (draft_line line) }
-        requires among { IsAmong 16 (draft_line line) }
+        requires among { IsAmong MOST_NODES (draft_line line) }
         ensures { MatchResult result (λ _. self.new ≡ self.old ++ draft_line line ∷ []) (λ _. self.new ≡ self.old) }
     {
         let counts = counts_of(&line);

@@ -1,5 +1,5 @@
 -- The first word of a line says what it is about.
-use Rattle.std.specs.Prelude.{Bool, true, not, if◌then◌else◌, Option, Some, None, codes}
+use Rattle.std.specs.Prelude.{ℕ, ◌==◌, Bool, if◌then◌else◌, Option, Some, None, codes}
 use Rattle.std.specs.Str.{bytes_eq}
 use Rattle.m2_scenario_text.specs.declared.first_word.FirstWord.{FirstWord}
 use Rattle.m2_scenario_text.specs.declared.first_word.FirstWord.TheVariants as first
@@ -21,12 +21,20 @@ first_word_of w =
     if bytes_eq w (codes "off") then Some first.Off else
     if bytes_eq w (codes "limit") then Some first.Limit else None
 
--- turn, flow, fault and settle are of `sim` alone, off and limit of `run`
-abbrev pub belongs : Bool → FirstWord → Bool
-belongs run first.Turn = not run
-belongs run first.Flow = not run
-belongs run first.Fault = not run
-belongs run first.Settle = not run
-belongs run first.Off = run
-belongs run first.Limit = run
-belongs run _ = true
+-- each has a number of its own, by which two are compared
+abbrev pub number_of_word : FirstWord → ℕ
+number_of_word first.Node = 0
+number_of_word first.Link = 1
+number_of_word first.Post = 2
+number_of_word first.Dial = 3
+number_of_word first.Down = 4
+number_of_word first.Cut = 5
+number_of_word first.Turn = 6
+number_of_word first.Flow = 7
+number_of_word first.Fault = 8
+number_of_word first.Settle = 9
+number_of_word first.Off = 10
+number_of_word first.Limit = 11
+
+abbrev pub is_word : FirstWord → FirstWord → Bool
+is_word v w = number_of_word w == number_of_word v

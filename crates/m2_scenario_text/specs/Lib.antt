@@ -2,10 +2,11 @@ pub mod Vocabulary
 pub mod Pair
 pub mod Taking
 pub mod NodeLine
-pub mod GivenWords
+pub mod NodeOption
 pub mod LinkLine
 pub mod PlanLines
 pub mod SimLines
 pub mod RunLines
 pub mod FirstWord
+pub mod Form
 pub mod Reading

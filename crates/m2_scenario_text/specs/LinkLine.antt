@@ -5,6 +5,7 @@ use Rattle.m2_words.specs.declared.kind.Kind.{Kind}
 use Rattle.m2_words.specs.declared.kind.Kind.TheVariants as kind
 use Rattle.m2_words.specs.Steps.{◌>>=◌, check}
 use Rattle.m2_words.specs.Text.{Word, word}
+use Rattle.m2_scenario.specs.declared.limits.TheConstants.{MOST_LINKS}
 use Rattle.m2_scenario.specs.Draft.{Draft, with_link, are_joined}
 use Rattle.m2_scenario_text.specs.Vocabulary.{policy_of}
 use Rattle.m2_scenario_text.specs.Pair.{place_of}
@@ -19,5 +20,5 @@ link_line d ws = do
   b ← place_of d.nodes (word ws 1)
   _ ← check kind.Link (not (a == b))
   _ ← check kind.Link (not (are_joined d.links a b))
-  _ ← check kind.Limit (nat_lt (length d.links) 120)
+  _ ← check kind.Limit (nat_lt (length d.links) MOST_LINKS)
   Ok (with_link d (record { a = a; b = b; of_a = of_a; of_b = of_b }))

@@ -7,6 +7,8 @@ use Rattle.m2_scenario.specs.declared.node.Node.{Node}
 use Rattle.m2_words.specs.Steps.{◌>>=◌, check}
 use Rattle.m2_words.specs.Text.{Word, word}
 use Rattle.m2_words.specs.Word.{number_of, bytes_of}
+use Rattle.m2_scenario.specs.declared.limits.TheConstants.{MOST_POSTS}
+use Rattle.m2_scenario_text.specs.declared.plan_lines.TheConstants.{LEAST_PRIORITY, MOST_PRIORITY}
 use Rattle.m2_scenario.specs.Draft.{Draft, with_line, is_post, post, dial, down}
 use Rattle.m2_scenario.specs.Valid.{are_short}
 use Rattle.m2_scenario_text.specs.Pair.{pair_of}
@@ -49,7 +51,7 @@ content_with k priority front middle tail = record {
 unfoldable pub message_of : List Word → Result Content Kind
 message_of ws = do
   k ← number_of kind.Number 0 65535 (word ws 0)
-  priority ← number_of kind.Number 64 255 (word ws 1)
+  priority ← number_of kind.Number LEAST_PRIORITY MOST_PRIORITY (word ws 1)
   front ← bytes_of (word ws 2)
   middle ← bytes_of (word ws 3)
   tail ← bytes_of (word ws 4)
@@ -61,7 +63,7 @@ post_line d ws = do
   message ← message_of (drop 2 ws)
   pair ← planned_pair d (word ws 0) (word ws 1)
   _ ← check kind.Limit (are_short message)
-  _ ← check kind.Limit (nat_lt (count_by is_post d.lines) 20000)
+  _ ← check kind.Limit (nat_lt (count_by is_post d.lines) MOST_POSTS)
   Ok (with_line d (post pair.0 pair.1 message))
 
 unfoldable pub dial_line : Draft → List Word → Result Draft Kind

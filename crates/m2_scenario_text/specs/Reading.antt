@@ -10,7 +10,10 @@ use Rattle.m2_scenario.specs.declared.scenario.Scenario.{Scenario}
 use Rattle.m2_words.specs.Steps.{◌>>=◌, check, or_kind}
 use Rattle.m2_words.specs.Text.{Word, pieces}
 use Rattle.m2_words.specs.Line.{is_clean, without_return, line_words}
-use Rattle.m2_scenario_text.specs.FirstWord.{first_word_of, belongs}
+use Rattle.m2_scenario_text.specs.declared.form.Form.{Form}
+use Rattle.m2_scenario_text.specs.declared.reading.TheConstants.{MOST_BYTES}
+use Rattle.m2_scenario_text.specs.FirstWord.{first_word_of}
+use Rattle.m2_scenario_text.specs.Form.{form_of, has}
 use Rattle.m2_scenario.specs.Draft.{Draft, no_lines, IsMade}
 use Rattle.m2_scenario_text.specs.NodeLine.{node_line}
 use Rattle.m2_scenario_text.specs.LinkLine.{link_line}
@@ -34,17 +37,17 @@ by_first_word d first.Off ws = off_line d ws
 by_first_word d first.Limit ws = limit_line d ws
 
 -- a line of no words is passed over
-unfoldable pub words_line : Bool → Draft → List Word → Result Draft Kind
-words_line run d [] = Ok d
-words_line run d (w ∷ ws) = do
+unfoldable pub words_line : Form → Draft → List Word → Result Draft Kind
+words_line form d [] = Ok d
+words_line form d (w ∷ ws) = do
   k ← or_kind kind.Unknown (first_word_of w)
-  _ ← check kind.Mode (belongs run k)
+  _ ← check kind.Mode (has form k)
   by_first_word d k ws
 
-unfoldable pub line_step : Bool → Draft → Word → Result Draft Kind
-line_step run d line = do
+unfoldable pub line_step : Form → Draft → Word → Result Draft Kind
+line_step form d line = do
   _ ← check kind.Unknown (is_clean (without_return line))
-  words_line run d (line_words line)
+  words_line form d (line_words line)
 
 -- the first bad line, by its number from 1, with its kind
 pub record At : Type 0 where
@@ -57,17 +60,14 @@ at n (Err k) next = Err (record { line = n; kind = k })
 
 -- The lines from the nth on. Where the file goes past its limit, the line in which the byte past it
 -- stands is bad, whatever else is wrong with it.
-abbrev pub lines_from : Bool → Bool → ℕ → Draft → List Word → Result Draft At
-lines_from run past n d [] = Ok d
-lines_from run past n d (l ∷ []) = if past then Err (record { line = n; kind = kind.Limit }) else at n (line_step run d l) (λ e. Ok e)
-lines_from run past n d (l ∷ m ∷ ls) = at n (line_step run d l) (λ e. lines_from run past (n + 1) e (m ∷ ls))
+abbrev pub lines_from : Form → Bool → ℕ → Draft → List Word → Result Draft At
+lines_from form past n d [] = Ok d
+lines_from form past n d (l ∷ []) = if past then Err (record { line = n; kind = kind.Limit }) else at n (line_step form d l) (λ e. Ok e)
+lines_from form past n d (l ∷ m ∷ ls) = at n (line_step form d l) (λ e. lines_from form past (n + 1) e (m ∷ ls))
 
--- a file has at most so many bytes
-abbrev pub most_bytes : ℕ
-most_bytes = 4194304
-
+-- a text of `run`, or else of `sim`
 unfoldable pub text_read : Bool → Word → Result Draft At
-text_read run text = lines_from run (nat_lt most_bytes (length text)) 1 no_lines (pieces 10 (take most_bytes text))
+text_read run text = lines_from (form_of run) (nat_lt MOST_BYTES (length text)) 1 no_lines (pieces 10 (take MOST_BYTES text))
 
 -- Ok: the text makes the scenario. BadLine: its first bad line is this one.
 abbrev pub Reads : Bool → Word → Result Scenario BadScenario → Type 0

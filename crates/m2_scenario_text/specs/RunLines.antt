@@ -6,6 +6,7 @@ use Rattle.m2_words.specs.declared.kind.Kind.TheVariants as kind
 use Rattle.m2_words.specs.Steps.{◌>>=◌, check}
 use Rattle.m2_words.specs.Text.{Word, word}
 use Rattle.m2_words.specs.Word.{number_of}
+use Rattle.m2_scenario_text.specs.declared.run_lines.TheConstants.{MOST_LIMIT}
 use Rattle.m2_scenario.specs.Draft.{Draft, without_start, with_limit, is_step_of}
 use Rattle.m2_scenario_text.specs.Pair.{place_of}
 
@@ -21,5 +22,5 @@ unfoldable pub limit_line : Draft → List Word → Result Draft Kind
 limit_line d ws = do
   _ ← check kind.Words (length ws == 1)
   _ ← check kind.Words (is_none d.limit)
-  milliseconds ← number_of kind.Number 1 60000 (word ws 0)
+  milliseconds ← number_of kind.Number 1 MOST_LIMIT (word ws 0)
   Ok (with_limit milliseconds d)

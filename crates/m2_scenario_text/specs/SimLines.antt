@@ -7,6 +7,8 @@ use Rattle.m2_words.specs.Steps.{◌>>=◌, check}
 use Rattle.m2_words.specs.Text.{Word, word}
 use Rattle.m2_words.specs.Word.{number_of}
 use Rattle.m2_scenario_text.specs.Pair.{place_of, pair_of}
+use Rattle.m2_scenario.specs.declared.limits.TheConstants.{MOST_CUTS, MOST_BYTES_BEFORE_CUT, MOST_FAULTS, MOST_ROUNDS}
+use Rattle.m2_scenario_text.specs.declared.sim_lines.TheConstants.{MOST_ROUNDS_OF_A_LINE}
 use Rattle.m2_scenario.specs.Draft.{Draft, with_line, is_cut, is_fault, rounds_of, cut, turn, flow, fault, settle}
 
 unfoldable pub cut_line : Draft → List Word → Result Draft Kind
@@ -14,8 +16,8 @@ cut_line d ws = do
   _ ← check kind.Words (length ws == 3)
   bytes ← number_of kind.Number 0 18446744073709551615 (word ws 2)
   pair ← pair_of d (word ws 0) (word ws 1)
-  _ ← check kind.Limit (nat_le bytes 1048576)
-  _ ← check kind.Limit (nat_lt (count_by is_cut d.lines) 64)
+  _ ← check kind.Limit (nat_le bytes MOST_BYTES_BEFORE_CUT)
+  _ ← check kind.Limit (nat_lt (count_by is_cut d.lines) MOST_CUTS)
   Ok (with_line d (cut pair.0 pair.1 bytes))
 
 unfoldable pub turn_line : Draft → List Word → Result Draft Kind
@@ -49,12 +51,12 @@ fault_line d ws = do
   _ ← check kind.Words ((length ws == 2) || (length ws == 3))
   socket ← fault_of (drop 2 ws)
   pair ← pair_of d (word ws 0) (word ws 1)
-  _ ← check kind.Limit (nat_lt (count_by is_fault d.lines) 64)
+  _ ← check kind.Limit (nat_lt (count_by is_fault d.lines) MOST_FAULTS)
   Ok (with_line d (fault pair.0 pair.1 socket))
 
 unfoldable pub settle_line : Draft → List Word → Result Draft Kind
 settle_line d ws = do
   _ ← check kind.Words (length ws == 1)
-  rounds ← number_of kind.Number 1 10000 (word ws 0)
-  _ ← check kind.Limit (nat_le (sum_by rounds_of d.lines + rounds) 20000)
+  rounds ← number_of kind.Number 1 MOST_ROUNDS_OF_A_LINE (word ws 0)
+  _ ← check kind.Limit (nat_le (sum_by rounds_of d.lines + rounds) MOST_ROUNDS)
   Ok (with_line d (settle rounds))

@@ -1,7 +1,7 @@
 //! The first words of lines.
 
 ghost use Rattle.std.specs.Prelude.{◌≡◌};
-ghost use Rattle.m2_scenario_text.specs.FirstWord.{first_word_of, belongs};
+ghost use Rattle.m2_scenario_text.specs.FirstWord.{first_word_of, number_of_word, is_word};
 
 /// What a line is about, by its first word.
 #[derive(Clone, Copy, Debug, PartialEq, Eq)]
@@ -55,14 +55,16 @@ impl FirstWord {
         }
     }
 
-    // Whether such a line stands in a scenario for `run`, or else for `sim`.
-    pub(crate) fn belongs(self, run: bool) -> bool
-        ensures { result ≡ belongs run self }
+    fn number(self) -> u8
+        ensures { result ≡ number_of_word self }
     {
-        match self {
-            FirstWord::Turn | FirstWord::Flow | FirstWord::Fault | FirstWord::Settle => !run,
-            FirstWord::Off | FirstWord::Limit => run,
-            _ => true,
-        }
+        self as u8
+    }
+
+    /// Whether it is this one.
+    pub(crate) fn is(&self, word: FirstWord) -> bool
+        ensures { result ≡ is_word word self.now }
+    {
+        self.number() == word.number()
     }
 }

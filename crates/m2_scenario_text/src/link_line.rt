@@ -7,7 +7,7 @@ ghost use Rattle.m2_scenario_text.specs.LinkLine.{link_line};
 use crate::pair::place;
 use crate::vocabulary::policy;
 use m2_policy::is_allowed;
-use m2_scenario::{Draft, Link};
+use m2_scenario::{Draft, Link, MOST_LINKS};
 use m2_words::{Kind, LineFault, Words, check};
 
 #[tactic(auto, unfolding(crate::specs::LinkLine::link_line))]
@@ -24,7 +24,7 @@ pub(crate) fn link_line(draft: &mut Draft, mut words: Words<'_>) -> Result<(), L
     let b = place(draft, second)?;
     check(Kind::Link, a != b)?;
     check(Kind::Link, !draft.joins(a, b))?;
-    check(Kind::Limit, draft.links().len() < 120)?;
+    check(Kind::Limit, draft.links().len() < MOST_LINKS)?;
     draft.push_link(Link { a, b, of_a, of_b })?;
     Ok(())
 }

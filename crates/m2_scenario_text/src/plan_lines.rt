@@ -9,9 +9,15 @@ ghost use Rattle.m2_scenario_text.specs.Pair.{AreJoined};
 
 use crate::pair::pair;
 use m2_message::{Header, Message};
-use m2_scenario::{Draft, Line};
+use m2_scenario::{Draft, Line, MOST_PART_BYTES, MOST_POSTS};
 use m2_words::{Kind, LineFault, Words, check, read_bytes, read_number};
 use std::alloc::Global;
+
+/// The least priority that a post may have.
+pub const LEAST_PRIORITY: u64 = 64;
+
+/// The greatest priority that a post may have.
+pub const MOST_PRIORITY: u64 = 255;
 
 // Two joined nodes of which the first is started.
 #[tactic(auto, unfolding(crate::specs::PlanLines::planned_pair))]
@@ -31,7 +37,7 @@ fn message_of(alloc: Global, mut words: Words<'_>) -> Result<Message, LineFault>
     ensures { MessageRead result (message_of words.entry) }
 {
     let kind = read_number(Kind::Number, 0, 65535, words.take())? as u16;
-    let priority = read_number(Kind::Number, 64, 255, words.take())? as u16;
+    let priority = read_number(Kind::Number, LEAST_PRIORITY, MOST_PRIORITY, words.take())? as u16;
     let front = read_bytes(alloc, words.take())?;
     let middle = read_bytes(alloc, words.take())?;
     let tail = read_bytes(alloc, words.take())?;
@@ -56,15 +62,21 @@ fn message_of(alloc: Global, mut words: Words<'_>) -> Result<Message, LineFault>
     })
 }
 
-// Whether each part has at most 65,536 bytes.
+// Whether each part is short enough.
 fn are_short(message: &Message) -> bool
     ensures { result ≡ are_short (content_of message.now) }
 {
-    message.front.len() <= 65536 && message.middle.len() <= 65536 && message.tail.len() <= 65536
+    message.front.len() <= MOST_PART_BYTES
+        && message.middle.len() <= MOST_PART_BYTES
+        && message.tail.len() <= MOST_PART_BYTES
 }
 
 #[tactic(auto, unfolding(crate::specs::PlanLines::post_line))]
-pub(crate) fn post_line(alloc: Global, draft: &mut Draft, mut words: Words<'_>) -> Result<(), LineFault>
+pub(crate) fn post_line(
+    alloc: Global,
+    draft: &mut Draft,
+    mut words: Words<'_>,
+) -> Result<(), LineFault>
     ensures { Takes result (post_line draft.old words.entry) draft.new }
 {
     check(Kind::Words, words.len() == 7)?;
@@ -73,7 +85,7 @@ pub(crate) fn post_line(alloc: Global, draft: &mut Draft, mut words: Words<'_>) 
     let message = message_of(alloc, words)?;
     let (a, b) = planned_pair(draft, first, second)?;
     check(Kind::Limit, are_short(&message))?;
-    check(Kind::Limit, draft.posts() < 20000)?;
+    check(Kind::Limit, draft.posts() < MOST_POSTS)?;
     draft.push_line(Line::Post { a, b, message })?;
     Ok(())
 }

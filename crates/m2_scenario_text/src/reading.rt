@@ -9,6 +9,7 @@ ghost use Rattle.m2_scenario.specs.Valid.{IsValid};
 
 use crate::bad_scenario::BadScenario;
 use crate::first_word::FirstWord;
+use crate::form::Form;
 use crate::link_line::link_line;
 use crate::node_line::node_line;
 use crate::plan_lines::{dial_line, down_line, post_line};
@@ -19,9 +20,14 @@ use m2_words::{Kind, LineFault, Words, check, cut, is_clean, prefix, words_in};
 use std::alloc::Global;
 
 /// A scenario's text has at most so many bytes; [`read`] refuses the line in which the next stands.
-pub const MOST_BYTES: usize = 4194304;
+pub const MOST_BYTES: usize = 4_194_304;
 
-fn by_first_word(alloc: Global, draft: &mut Draft, about: FirstWord, words: Words<'_>) -> Result<(), LineFault>
+fn by_first_word(
+    alloc: Global,
+    draft: &mut Draft,
+    about: FirstWord,
+    words: Words<'_>,
+) -> Result<(), LineFault>
     ensures { Takes result (by_first_word draft.old about words.entry) draft.new }
 {
     match about {
@@ -43,11 +49,11 @@ fn by_first_word(alloc: Global, draft: &mut Draft, about: FirstWord, words: Word
 #[tactic(auto, unfolding(crate::specs::Reading::words_line))]
 fn words_line(
     alloc: Global,
-    run: bool,
+    form: Form,
     draft: &mut Draft,
     mut words: Words<'_>,
 ) -> Result<(), LineFault>
-    ensures { Takes result (words_line run draft.old words.entry) draft.new }
+    ensures { Takes result (words_line form draft.old words.entry) draft.new }
 {
     let Some(first) = words.next() else {
         return Ok(());
@@ -55,29 +61,29 @@ fn words_line(
     let Some(about) = FirstWord::of(first) else {
         return Err(LineFault::Bad(Kind::Unknown));
     };
-    check(Kind::Mode, about.belongs(run))?;
+    check(Kind::Mode, form.has(about))?;
     by_first_word(alloc, draft, about, words)
 }
 
 #[tactic(auto, unfolding(crate::specs::Reading::line_step))]
-fn line_step(alloc: Global, run: bool, draft: &mut Draft, line: &[u8]) -> Result<(), LineFault>
-    ensures { Takes result (line_step run draft.old line.now) draft.new }
+fn line_step(alloc: Global, form: Form, draft: &mut Draft, line: &[u8]) -> Result<(), LineFault>
+    ensures { Takes result (line_step form draft.old line.now) draft.new }
 {
     check(Kind::Unknown, is_clean(line))?;
-    words_line(alloc, run, draft, words_in(line))
+    words_line(alloc, form, draft, words_in(line))
 }
 
 // A line of the text, by its number.
 fn numbered_line(
     alloc: Global,
-    run: bool,
+    form: Form,
     draft: &mut Draft,
     number: u32,
     line: &[u8],
 ) -> Result<(), BadScenario>
-    ensures { LineRead result (line_step run draft.old line.now) number draft.new }
+    ensures { LineRead result (line_step form draft.old line.now) number draft.new }
 {
-    match line_step(alloc, run, draft, line) {
+    match line_step(alloc, form, draft, line) {
         Ok(()) => Ok(()),
         Err(LineFault::Bad(kind)) => Err(BadScenario::BadLine { line: number, kind }),
         Err(LineFault::NoMemory) => Err(BadScenario::NoMemory),
@@ -92,20 +98,20 @@ pub fn read(alloc: Global, bytes: &[u8], run: bool) -> Result<Scenario, BadScena
     ensures valid { IfOk result IsValid }
 {
     let past = bytes.len() > MOST_BYTES;
-    let draft = all_lines(alloc, prefix(bytes, MOST_BYTES), run, past)?;
+    let draft = all_lines(alloc, prefix(bytes, MOST_BYTES), Form::of(run), past)?;
     Ok(draft.into_scenario())
 }
 
 // The draft that all lines make.
-fn all_lines(alloc: Global, text: &[u8], run: bool, past: bool) -> Result<Draft, BadScenario>
-    requires { length text.now ≤ 4194304 }
-    ensures { DraftRead result (lines_from run past 1 no_lines (pieces 10 text.now)) }
+fn all_lines(alloc: Global, text: &[u8], form: Form, past: bool) -> Result<Draft, BadScenario>
+    requires { length text.now ≤ MOST_BYTES }
+    ensures { DraftRead result (lines_from form past 1 no_lines (pieces 10 text.now)) }
 {
     let mut draft = Draft::empty(alloc);
     let mut rest = text;
     let mut line = 1;
     'lines: while let Some((first, more)) = cut(rest, b'\n') {
-        numbered_line(alloc, run, &mut draft, line, first)?;
+        numbered_line(alloc, form, &mut draft, line, first)?;
         rest = more;
         line += 1;
     }
@@ -115,6 +121,6 @@ fn all_lines(alloc: Global, text: &[u8], run: bool, past: bool) -> Result<Draft,
             kind: Kind::Limit,
         });
     }
-    numbered_line(alloc, run, &mut draft, line, rest)?;
+    numbered_line(alloc, form, &mut draft, line, rest)?;
     Ok(draft)
 }

@@ -8,6 +8,9 @@ use crate::pair::place;
 use m2_scenario::Draft;
 use m2_words::{Kind, LineFault, Words, check, read_number};
 
+/// A run may take at most so many milliseconds.
+pub const MOST_LIMIT: u64 = 60_000;
+
 #[tactic(auto, unfolding(crate::specs::RunLines::off_line))]
 pub(crate) fn off_line(draft: &mut Draft, mut words: Words<'_>) -> Result<(), LineFault>
     ensures { Takes result (off_line draft.old words.entry) draft.new }
@@ -25,7 +28,7 @@ pub(crate) fn limit_line(draft: &mut Draft, mut words: Words<'_>) -> Result<(), 
 {
     check(Kind::Words, words.len() == 1)?;
     check(Kind::Words, draft.limit().is_none())?;
-    let milliseconds = read_number(Kind::Number, 1, 60000, words.take())?;
+    let milliseconds = read_number(Kind::Number, 1, MOST_LIMIT, words.take())?;
     draft.set_limit(milliseconds);
     Ok(())
 }

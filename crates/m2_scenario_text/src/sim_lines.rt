@@ -5,8 +5,11 @@ ghost use Rattle.m2_scenario_text.specs.Taking.{Takes};
 ghost use Rattle.m2_scenario_text.specs.SimLines.{flow_of, fault_of, cut_line, turn_line, flow_line, fault_line, settle_line};
 
 use crate::pair::{pair, place};
-use m2_scenario::{Draft, Line};
+use m2_scenario::{Draft, Line, MOST_BYTES_BEFORE_CUT, MOST_CUTS, MOST_FAULTS, MOST_ROUNDS};
 use m2_words::{Kind, LineFault, Words, check, read_number};
+
+/// One `settle` line has at most so many rounds.
+pub const MOST_ROUNDS_OF_A_LINE: u64 = 10_000;
 
 // The socket and the bytes of a flow: all of all sockets where no word is left.
 #[tactic(auto, unfolding(crate::specs::SimLines::flow_of))]
@@ -42,8 +45,8 @@ pub(crate) fn cut_line(draft: &mut Draft, mut words: Words<'_>) -> Result<(), Li
     let second = words.take();
     let bytes = read_number(Kind::Number, 0, u64::MAX, words.take())?;
     let (a, b) = pair(draft, first, second)?;
-    check(Kind::Limit, bytes <= 1048576)?;
-    check(Kind::Limit, draft.cuts() < 64)?;
+    check(Kind::Limit, bytes <= MOST_BYTES_BEFORE_CUT)?;
+    check(Kind::Limit, draft.cuts() < MOST_CUTS)?;
     draft.push_line(Line::Cut { a, b, bytes })?;
     Ok(())
 }
@@ -84,7 +87,7 @@ pub(crate) fn fault_line(draft: &mut Draft, mut words: Words<'_>) -> Result<(), 
     let second = words.take();
     let socket = fault_of(words)?;
     let (a, b) = pair(draft, first, second)?;
-    check(Kind::Limit, draft.faults() < 64)?;
+    check(Kind::Limit, draft.faults() < MOST_FAULTS)?;
     draft.push_line(Line::Fault { a, b, socket })?;
     Ok(())
 }
@@ -94,10 +97,10 @@ pub(crate) fn settle_line(draft: &mut Draft, mut words: Words<'_>) -> Result<(),
     ensures { Takes result (settle_line draft.old words.entry) draft.new }
 {
     check(Kind::Words, words.len() == 1)?;
-    let rounds = read_number(Kind::Number, 1, 10000, words.take())? as u32;
+    let rounds = read_number(Kind::Number, 1, MOST_ROUNDS_OF_A_LINE, words.take())? as u32;
     check(
         Kind::Limit,
-        draft.rounds() as u64 + rounds as u64 <= 20000,
+        draft.rounds() as u64 + rounds as u64 <= MOST_ROUNDS as u64,
     )?;
     draft.push_line(Line::Settle { rounds })?;
     Ok(())

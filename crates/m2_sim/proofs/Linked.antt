@@ -7,6 +7,7 @@ use Rattle.std.proofs.lemmas.List.Elements.{All-push}
 use Rattle.std.proofs.lemmas.Bool.{and_parts, eqb-true, cases_lt}
 use Rattle.m2_link.specs.declared.link_side.LinkSide.{LinkSide}
 use Rattle.m2_link.specs.declared.link_side.LinkSide.TheVariants.{First, Second}
+use Rattle.m2_scenario.specs.declared.limits.TheConstants.{MOST_NODES, MOST_PAIRS}
 use Rattle.m2_scenario.specs.declared.link.Link.{Link}
 use Rattle.m2_scenario.specs.Draft.{joins}
 use Rattle.m2_scenario.specs.Link.{cell}
@@ -70,8 +71,8 @@ last_or_before : (k n : ℕ) → k < n + 1 → (k < n) ⊎ (k ≡ n)
 last_or_before k n h = elim (cases_lt k n) as (λ _. (k < n) ⊎ (k ≡ n)) [ inl low ↦ inl low | inr high ↦ inr (omega (arith, h, high)) ]
 
 -- the nodes of a link of few nodes
-pub low_of : (n : ℕ) → n ≤ 16 → (x y : ℕ) (j : Joint) (side : LinkSide) → IsBetween n j → IsSide x y j side → (x < 16) × (y < 16)
-low_of n few x y j side w s = elim s as (λ _. (x < 16) × (y < 16)) [
+pub low_of : (n : ℕ) → n ≤ MOST_NODES → (x y : ℕ) (j : Joint) (side : LinkSide) → IsBetween n j → IsSide x y j side → (x < MOST_NODES) × (y < MOST_NODES)
+low_of n few x y j side w s = elim s as (λ _. (x < MOST_NODES) × (y < MOST_NODES)) [
   | inl p ↦ (omega (arith, w, p.0, p.1, few), omega (arith, w, p.0, p.1, few))
   | inr p ↦ (omega (arith, w, p.0, p.1, few), omega (arith, w, p.0, p.1, few))
 ]
@@ -86,7 +87,7 @@ ends-push p x (i ∷ js) j =
 
 -- ---- the two cells of a new link
 
-module _ (cells : List (Option End)) (place a b : ℕ) (len : length cells ≡ 256) (few_a : a < 16) (few_b : b < 16) (apart : a ≢ b) where
+module _ (cells : List (Option End)) (place a b : ℕ) (len : length cells ≡ MOST_PAIRS) (few_a : a < MOST_NODES) (few_b : b < MOST_NODES) (apart : a ≢ b) where
   written_first : HasEnd (with_link place a b cells) a b (record { place = place; side = First })
   written_first =
       put_other (slice_set cells (cell a b) (Some (record { place = place; side = First }))) (cell b a) (cell a b) (Some (record { place = place; side = Second }))
@@ -98,7 +99,7 @@ module _ (cells : List (Option End)) (place a b : ℕ) (len : length cells ≡ 2
       put_same (slice_set cells (cell a b) (Some (record { place = place; side = First }))) (cell b a) (Some (record { place = place; side = Second }))
       (omega (arith, length-set cells (cell a b) (Some (record { place = place; side = First }))))
 
-  written_else : (x y : ℕ) → x < 16 → y < 16 → ¬ ((x ≡ a) × (y ≡ b)) → ¬ ((x ≡ b) × (y ≡ a)) → slice_get (with_link place a b cells) (cell x y) ≡ slice_get cells (cell x y)
+  written_else : (x y : ℕ) → x < MOST_NODES → y < MOST_NODES → ¬ ((x ≡ a) × (y ≡ b)) → ¬ ((x ≡ b) × (y ≡ a)) → slice_get (with_link place a b cells) (cell x y) ≡ slice_get cells (cell x y)
   written_else x y few_x few_y this that =
       put_other (slice_set cells (cell a b) (Some (record { place = place; side = First }))) (cell b a) (cell x y) (Some (record { place = place; side = Second }))
       (λ e. that (omega (arith, e), omega (arith, e)))
@@ -150,7 +151,7 @@ module _ (old new : Topology) (n : ℕ) (js : List Joint) (a b : ℕ) (h : IsTop
 
 -- the link at a place goes in behind those before it
 pub linked_next : (old new : Topology) (n place : ℕ) (links : List Link) (d : Link) → place < length links
-    → n ≤ 16 → All (IsLink n) links → AllPairs JoinOthers links → IsTopology old n (map joint_of (take place links))
+    → n ≤ MOST_NODES → All (IsLink n) links → AllPairs JoinOthers links → IsTopology old n (map joint_of (take place links))
     → length new.ends.items ≡ length old.ends.items
     → ((x : ℕ) (e : Vec End Global) → x < length old.ends.items
     → ends_at new x e ≡ ends_at old x e ++ end_at place (side_of x (joint_of (get_or links place d))))

@@ -9,6 +9,7 @@ use Rattle.std.proofs.lemmas.Bool.{cases_eq}
 use Rattle.m2_message.specs.Message.{Content}
 use Rattle.m2_link.specs.Model as link
 use Rattle.m2_link.specs.declared.link_side.LinkSide.{LinkSide}
+use Rattle.m2_scenario.specs.declared.limits.TheConstants.{MOST_NODES, MOST_LINKS}
 use Rattle.m2_scenario.specs.declared.node.Node.{Node}
 use Rattle.m2_scenario.specs.declared.link.Link.{Link}
 use Rattle.m2_scenario.specs.Link.{cell}
@@ -96,7 +97,7 @@ module _ (nodes : List Node) (links : List Link) (n : Net) (joints : n.joints.it
   pub fresh_net : net_of n ≡ fresh nodes links
   fresh_net = rw (joints, dispatchers, map-map fast_kinds dispatcher_of nodes, map-map heard_by_it dispatcher_of nodes) refl
 
-  pub fresh_holds : n.taken.items ≡ [] → length links ≤ 120 → IsTopology n.topology (length nodes) (map joint_of links) → IsNet n
+  pub fresh_holds : n.taken.items ≡ [] → length links ≤ MOST_LINKS → IsTopology n.topology (length nodes) (map joint_of links) → IsNet n
   fresh_holds empty few is = record {
     topology = rw (joints, map-map bare joint_of links, dispatchers, length-map nodes dispatcher_of) is;
     few = rw (joints, length-map links joint_of) few;
@@ -133,7 +134,7 @@ module _ (t : Topology) (n : ℕ) (js : List Joint) (x y : ℕ) (h : IsTopology 
   end_is : (k : ℕ) (s : LinkSide) → k < length js → side_towards x y (joint_at js k) ≡ Some s → HasEnd t.towards x y (record { place = k; side = s })
   end_is k s low is = h.towards x y k s (let e = length-map js bare in omega (arith, low, e)) (ap (side_towards x y) (at_k k low) ∙ is)
 
-  pub linked_low : (x < 16) × (y < 16)
+  pub linked_low : (x < MOST_NODES) × (y < MOST_NODES)
   linked_low =
       let f = found (λ j. is_some (side_towards x y j)) js linked in
       let s = side_from (side_towards x y (joint_at js f.0)) f.2 in

@@ -1,6 +1,7 @@
 -- The value model's net, from the fields of the code; and what holds of them.
 use Rattle.std.specs.Prelude.{◌≡◌, ℕ, ◌≤◌, List, [], length, map, All}
 use Rattle.m2_dispatch.specs.Heard.{Heard}
+use Rattle.m2_scenario.specs.declared.limits.TheConstants.{MOST_LINKS}
 use Rattle.m2_scenario.specs.declared.node.Node.{Node}
 use Rattle.m2_sim.specs.Model as model
 use Rattle.m2_sim.specs.Dispatcher.{Dispatcher, idle}
@@ -27,7 +28,7 @@ IsIdle d = d.queued ≡ []
 -- the look-ups are those of the nodes and links, and no turn is under way
 pub record IsNet (n : Net) : Type 0 where
   pub topology : IsTopology n.topology (length n.dispatchers.items) (map bare n.joints.items)
-  pub few : length n.joints.items ≤ 120
+  pub few : length n.joints.items ≤ MOST_LINKS
   pub idle : All IsIdle n.dispatchers.items
   pub empty : n.taken.items ≡ []
 

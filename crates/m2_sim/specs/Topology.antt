@@ -7,6 +7,7 @@ use Rattle.std.specs.Option.{is_some}
 use Rattle.m2_link.specs.Model as link
 use Rattle.m2_link.specs.declared.link_side.LinkSide.{LinkSide}
 use Rattle.m2_link.specs.declared.link_side.LinkSide.TheVariants.{First, Second}
+use Rattle.m2_scenario.specs.declared.limits.TheConstants.{MOST_NODES, MOST_PAIRS}
 use Rattle.m2_scenario.specs.Link.{cell}
 use Rattle.m2_sim.specs.Model.{Joint, side_of, side_towards}
 use Rattle.m2_sim.specs.declared.topology.End.{End}
@@ -60,11 +61,11 @@ HasEnd towards x y end = slice_get towards (cell x y) ≡ Some (Some end)
 
 -- the look-ups are those of so many nodes and of these joints
 pub record IsTopology (t : Topology) (n : ℕ) (js : List Joint) : Type 0 where
-  pub few : n ≤ 16
+  pub few : n ≤ MOST_NODES
   pub within : All (IsBetween n) js
   pub nodes : length t.ends.items ≡ n
   pub ends : (x : ℕ) (d : Vec End Global) → x < n → ends_at t x d ≡ ends_from 0 x js
-  pub cells : length t.towards ≡ 256
+  pub cells : length t.towards ≡ MOST_PAIRS
   pub towards : (x y k : ℕ) (side : LinkSide) → k < length js → side_towards x y (joint_at js k) ≡ Some side
       → HasEnd t.towards x y (record { place = k; side = side })
 

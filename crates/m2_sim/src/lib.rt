@@ -21,6 +21,3 @@ pub use laws::{
     only_peers_are_heard,
 };
 pub use lines::{Outcome, run};
-
-#[cfg(test)]
-mod tests;

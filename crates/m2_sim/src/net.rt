@@ -13,7 +13,7 @@ use crate::topology::{End, Topology};
 use m2_bytes::NoMemory;
 use m2_link::Accepted;
 use m2_message::Message;
-use m2_scenario::{Link, Node};
+use m2_scenario::{Link, MOST_LINKS, MOST_NODES, Node};
 use std::alloc::Global;
 
 /// The links of a scenario, and the dispatcher of each node.
@@ -58,8 +58,8 @@ fn flow(joints: &mut [Joint])
 impl Net {
     /// The links are established, and nothing was posted. Err comes for want of memory.
     pub(crate) fn new(alloc: Global, nodes: &[Node], links: &[Link]) -> Result<Net, NoMemory>
-        requires few_nodes { length nodes.now ≤ 16 }
-        requires few_links { length links.now ≤ 120 }
+        requires few_nodes { length nodes.now ≤ MOST_NODES }
+        requires few_links { length links.now ≤ MOST_LINKS }
         requires joined { All (IsLink (length nodes.now)) links.now }
         requires once { AllPairs JoinOthers links.now }
         ensures net { IfOk result (λ n. net_of n ≡ fresh nodes.now links.now) }

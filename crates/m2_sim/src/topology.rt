@@ -11,7 +11,7 @@ ghost use Rattle.m2_sim.specs.declared.topology.End.{End};
 
 use m2_bytes::NoMemory;
 use m2_link::LinkSide;
-use m2_scenario::Link;
+use m2_scenario::{Link, MOST_NODES, MOST_PAIRS, cell};
 use std::alloc::Global;
 
 /// A node's end of a link: the link's place among the links, from 0, and which of the link's two
@@ -23,17 +23,17 @@ pub(crate) struct End {
 }
 
 /// Of each node the ends that it has, in the order of the links, and of each two that are joined
-/// the end of the first: a row and a column for each of 16 nodes.
+/// the end of the first: a row and a column for each place.
 #[derive(Debug, Drop)]
 pub(crate) struct Topology {
     pub(crate) ends: Vec<Vec<End>>,
-    pub(crate) towards: [Option<End>; 256],
+    pub(crate) towards: [Option<End>; MOST_PAIRS],
 }
 
 impl Topology {
     /// The topology of so many nodes and these links. Err comes for want of memory.
     pub(crate) fn of(alloc: Global, nodes: usize, links: &[Link]) -> Result<Topology, NoMemory>
-        requires few { nodes ≤ 16 }
+        requires few { nodes ≤ MOST_NODES }
         requires joined { All (IsLink nodes) links.now }
         requires once { AllPairs JoinOthers links.now }
         ensures { IfOk result (λ t. IsTopology t nodes (map joint_of links.now)) }
@@ -48,7 +48,7 @@ impl Topology {
 
     // So many nodes without a link.
     fn unlinked(alloc: Global, nodes: usize) -> Result<Topology, NoMemory>
-        requires { nodes ≤ 16 }
+        requires { nodes ≤ MOST_NODES }
         ensures { IfOk result (λ t. IsTopology t nodes []) }
     {
         let mut ends = Vec::with_capacity(alloc, nodes)?;
@@ -57,7 +57,7 @@ impl Topology {
         }
         Ok(Topology {
             ends,
-            towards: [None; 256],
+            towards: [None; MOST_PAIRS],
         })
     }
 
@@ -65,9 +65,9 @@ impl Topology {
     fn add(&mut self, place: usize, a: u32, b: u32) -> Result<(), NoMemory>
         requires a { a < length self.old.ends.items }
         requires b { b < length self.old.ends.items }
-        requires few { length self.old.ends.items ≤ 16 }
+        requires few { length self.old.ends.items ≤ MOST_NODES }
         requires different { a ≢ b }
-        requires cells { length self.old.towards ≡ 256 }
+        requires cells { length self.old.towards ≡ MOST_PAIRS }
         ensures len { OnOk result (length self.new.ends.items ≡ length self.old.ends.items) }
         ensures ends { OnOk result ((x : ℕ) (d : Vec End Global) → x < length self.old.ends.items →
             ends_at self.new x d ≡ ends_at self.old x d ++ end_at place (side_of x (between a b))) }
@@ -98,21 +98,11 @@ impl Topology {
 
     /// The end of the node at x at its link to the one at y; none where no link joins them.
     pub(crate) fn between(&self, x: u32, y: u32) -> Option<End>
-        requires x { x < 16 }
-        requires y { y < 16 }
-        requires cells { length self.now.towards ≡ 256 }
+        requires x { x < MOST_NODES }
+        requires y { y < MOST_NODES }
+        requires cells { length self.now.towards ≡ MOST_PAIRS }
         ensures { slice_get self.now.towards (cell x y) ≡ Some result }
     {
         self.towards[cell(x, y)]
     }
-}
-
-// The cell of a row and a column.
-fn cell(a: u32, b: u32) -> usize
-    requires first { a < 16 }
-    requires second { b < 16 }
-    ensures value { result ≡ cell a b }
-    ensures within { result < 256 }
-{
-    (a * 16 + b) as usize
 }

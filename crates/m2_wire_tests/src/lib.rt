@@ -13,6 +13,10 @@ mod control;
 #[cfg(test)]
 mod crc;
 #[cfg(test)]
+mod frame;
+#[cfg(test)]
 mod message;
+#[cfg(test)]
+mod message_frame;
 #[cfg(test)]
 mod tag;

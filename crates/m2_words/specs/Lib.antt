@@ -1,4 +1,5 @@
 pub mod Kind
+pub mod Laws
 pub mod Steps
 pub mod Text
 pub mod Line

@@ -10,6 +10,7 @@ use Rattle.m2_words.specs.declared.kind.Kind.{Kind}
 use Rattle.m2_words.specs.declared.kind.Kind.TheVariants as kind
 use Rattle.m2_words.specs.declared.kind.LineFault.{LineFault}
 use Rattle.m2_words.specs.declared.kind.LineFault.TheVariants as flaw
+use Rattle.m2_words.specs.declared.word.TheConstants.{MOST_NAME_BYTES}
 use Rattle.m2_words.specs.Steps.{or_kind}
 use Rattle.m2_words.specs.Text.{Word}
 
@@ -33,9 +34,9 @@ bytes_of w = or_kind kind.Hex (hex_value w)
 abbrev pub is_name_byte : ℕ → Bool
 is_name_byte b = (nat_le 97 b && nat_le b 122) || (nat_le 48 b && nat_le b 57) || (b == 95)
 
--- a name has 1 to 16 of them
+-- a name has one of them or more, and not too many
 abbrev pub is_name : Word → Bool
-is_name w = nat_le 1 (length w) && nat_le (length w) 16 && list_all is_name_byte w
+is_name w = nat_le 1 (length w) && nat_le (length w) MOST_NAME_BYTES && list_all is_name_byte w
 
 -- The bytes that a word spells, in memory, beside the bytes as they are defined. Memory may run out.
 abbrev pub BytesRead : Result Blob LineFault → Result (List ℕ) Kind → Type 0

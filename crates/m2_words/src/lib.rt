@@ -8,12 +8,14 @@
 
 mod address;
 mod kind;
+mod laws;
 mod line;
 mod text;
 mod word;
 
 pub use address::read_address;
 pub use kind::{Kind, LineFault, check};
+pub use laws::numbers_of_kinds_differ;
 pub use line::{is_clean, prefix, words_in};
 pub use text::{Words, cut};
-pub use word::{is_name, read_bytes, read_number};
+pub use word::{MOST_NAME_BYTES, is_name, read_bytes, read_number};

@@ -1,6 +1,6 @@
 //! A text in pieces: cuts at separators, and the words of a line.
 
-ghost use Rattle.std.specs.Prelude.{◌≡◌, ◌==◌, ◌<◌, ◌∷◌, [], length, position, Some, None, IfSome, MatchOption};
+ghost use Rattle.std.specs.Prelude.{◌≡◌, ◌==◌, ◌<◌, ◌≤◌, ◌∷◌, [], length, drop, position, Some, None, IfSome, MatchOption};
 ghost use Rattle.m2_words.specs.Text.{cut_at, pieces, words_of};
 
 use std::marker::Model;
@@ -33,7 +33,7 @@ pub fn cut(bytes: &[u8], mark: u8) -> Option<(&[u8], &[u8])>
 /// The words of a line that are left, lent from the line. Contracts see the list of them.
 ///
 /// [`words_in`](crate::words_in) gives it; [`next`](Words::next) and [`take`](Words::take) take the
-/// first word out, and [`len`](Words::len) counts.
+/// first word out, [`skip`](Words::skip) takes several, and [`len`](Words::len) counts.
 #[derive(Debug, Drop)]
 pub struct Words<'a> {
     rest: &'a [u8],
@@ -72,6 +72,24 @@ impl<'a> Words<'a> {
         match self.next() {
             Some(word) => word,
             None => unreachable!(),
+        }
+    }
+
+    /// The same words, to look ahead.
+    pub fn copy(&self) -> Words<'a>
+        ensures { result ≡ self.now }
+    {
+        Words { rest: self.rest }
+    }
+
+    /// Takes so many words out, which must be there.
+    pub fn skip(&mut self, count: usize)
+        requires { count ≤ length self.old }
+        ensures { self.new ≡ drop count self.old }
+    {
+        if count > 0 {
+            self.take();
+            self.skip(count - 1);
         }
     }
 

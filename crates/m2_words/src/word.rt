@@ -8,6 +8,9 @@ use crate::kind::{Kind, LineFault};
 use m2_bytes::{Blob, HexFault, read_decimal, read_hex};
 use std::alloc::Global;
 
+/// A name has at most so many bytes.
+pub const MOST_NAME_BYTES: usize = 16;
+
 #[tactic(auto, using(crate::proofs::Decimals::value_of_decimal, crate::proofs::Decimals::no_decimal))]
 fn decimal(word: &[u8]) -> Option<u64>
     ensures { result ≡ decimal_value word.now }
@@ -58,9 +61,10 @@ fn has_name_bytes(word: &[u8]) -> bool
     word.iter().all(|b| is_name_byte(*b))
 }
 
-/// Whether it is a name: 1 to 16 of the bytes that names have.
+/// Whether it is a name: a byte or more of those that names have, and at most
+/// [`MOST_NAME_BYTES`].
 pub fn is_name(word: &[u8]) -> bool
     ensures { result ≡ is_name word.now }
 {
-    1 <= word.len() && word.len() <= 16 && has_name_bytes(word)
+    1 <= word.len() && word.len() <= MOST_NAME_BYTES && has_name_bytes(word)
 }

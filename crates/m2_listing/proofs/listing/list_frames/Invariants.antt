@@ -1,4 +1,4 @@
-use Rattle.std.proofs.Common.{◌≡◌, ℕ, ◌≤◌, []}
+use Rattle.std.proofs.Common.{◌≡◌, ◌≤◌, []}
 use Rattle.m2_edge.specs.Whole.{StandsIn}
 use Rattle.m2_listing.specs.SoFar.{SoFar}
 use Rattle.m2_listing.proofs.listing.list_frames.Given as goal

@@ -1,0 +1,60 @@
+//! Which lines a scenario file may have.
+
+ghost use Rattle.std.specs.Prelude.{◌≡◌};
+ghost use Rattle.m2_scenario_text.specs.Form.{form_of, first_words_of, has};
+
+use crate::first_word::FirstWord;
+
+/// For what a scenario file is written, which says with which first words its lines may begin. A
+/// form more is a variant more, with its list of first words.
+#[derive(Clone, Copy, Debug, PartialEq, Eq)]
+pub enum Form {
+    Sim,
+    Run,
+}
+
+impl Form {
+    /// The form of `run`, or else of `sim`.
+    pub(crate) fn of(run: bool) -> Form
+        ensures { result ≡ form_of run }
+    {
+        if run { Form::Run } else { Form::Sim }
+    }
+
+    /// The first words of its lines.
+    pub fn first_words(self) -> &'static [FirstWord]
+        ensures { result.now ≡ first_words_of self }
+    {
+        match self {
+            Form::Sim => &[
+                FirstWord::Node,
+                FirstWord::Link,
+                FirstWord::Post,
+                FirstWord::Dial,
+                FirstWord::Down,
+                FirstWord::Cut,
+                FirstWord::Turn,
+                FirstWord::Flow,
+                FirstWord::Fault,
+                FirstWord::Settle,
+            ],
+            Form::Run => &[
+                FirstWord::Node,
+                FirstWord::Link,
+                FirstWord::Post,
+                FirstWord::Dial,
+                FirstWord::Down,
+                FirstWord::Cut,
+                FirstWord::Off,
+                FirstWord::Limit,
+            ],
+        }
+    }
+
+    /// Whether its lines may begin so.
+    pub(crate) fn has(self, word: FirstWord) -> bool
+        ensures { result ≡ has self word }
+    {
+        self.first_words().iter().any(|w| w.is(word))
+    }
+}

@@ -1,0 +1,201 @@
+//! The options of a node: the table of them, and what each sets.
+
+ghost use Rattle.std.specs.Prelude.{◌≡◌, ◌≤◌, ◌∷◌, true, Ok, Err, OnOk, MatchResult, length};
+ghost use Rattle.std.specs.List.{list_any};
+ghost use Rattle.m2_words.specs.Text.{word};
+ghost use Rattle.m2_scenario.specs.Valid.{HasCenters};
+ghost use Rattle.m2_scenario_text.specs.NodeOption.{row_of, number_of_option, repeats, are_once, options_in, with_option, set_option, set_options, OptionsRead};
+
+use crate::vocabulary::kinds;
+use m2_scenario::{MOST_CENTERS, Node};
+use m2_words::{Kind, LineFault, Words, read_number};
+use std::alloc::Global;
+
+/// What an option sets.
+#[derive(Clone, Copy, Debug)]
+pub(crate) enum NodeOption {
+    Centers,
+    Fast,
+    Throttle,
+    Supports,
+    Requires,
+}
+
+/// How often an option may stand in a line.
+#[derive(Clone, Copy, Debug)]
+pub(crate) enum Times {
+    Once,
+    /// Once for each type of peer, which its first word names.
+    OnceForEachPeerType,
+}
+
+/// A row of the table of options.
+#[derive(Clone, Copy, Debug)]
+pub(crate) struct OptionRow {
+    pub option: NodeOption,
+    /// How many words stand behind its name.
+    pub words: usize,
+    pub times: Times,
+}
+
+impl NodeOption {
+    fn number(self) -> u8
+        ensures { result ≡ number_of_option self }
+    {
+        self as u8
+    }
+
+    /// The row of the option of this name; none exactly where no option has it.
+    #[tactic(auto, unfolding(crate::specs::NodeOption::row_of))]
+    fn row_of(name: &[u8]) -> Option<OptionRow>
+        ensures { result ≡ row_of name.now }
+    {
+        if name == b"centers".as_slice() {
+            Some(table_row(NodeOption::Centers, 1, Times::Once))
+        } else if name == b"fast".as_slice() {
+            Some(table_row(NodeOption::Fast, 1, Times::Once))
+        } else if name == b"throttle".as_slice() {
+            Some(table_row(NodeOption::Throttle, 1, Times::Once))
+        } else if name == b"supports".as_slice() {
+            Some(table_row(NodeOption::Supports, 1, Times::Once))
+        } else if name == b"requires".as_slice() {
+            Some(table_row(NodeOption::Requires, 1, Times::Once))
+        } else {
+            None
+        }
+    }
+}
+
+fn table_row(option: NodeOption, words: usize, times: Times) -> OptionRow
+    ensures { result ≡ record { option = option; words = words; times = times } }
+{
+    OptionRow {
+        option,
+        words,
+        times,
+    }
+}
+
+/// An option that stands in a line, and the words from its first on, of which it has as many as its
+/// row says.
+#[derive(Debug, Drop)]
+pub(crate) struct GivenOption<'a> {
+    pub row: OptionRow,
+    pub words: Words<'a>,
+}
+
+impl<'a> GivenOption<'a> {
+    // Its first word.
+    fn word(&self) -> &'a [u8]
+        ensures { result.now ≡ word self.now.words 0 }
+    {
+        match self.words.copy().next() {
+            Some(word) => word,
+            None => b"",
+        }
+    }
+
+    // Whether it stands there again.
+    fn repeats(&self, other: &GivenOption<'a>) -> bool
+        ensures { result ≡ repeats self.now other.now }
+    {
+        let same = self.row.option.number() == other.row.option.number();
+        match self.row.times {
+            Times::Once => same,
+            Times::OnceForEachPeerType => same && self.word() == other.word(),
+        }
+    }
+}
+
+// Whether an option is repeated by one of these.
+fn is_repeated<'a>(option: &GivenOption<'a>, later: &[GivenOption<'a>]) -> bool
+    ensures { result ≡ list_any (repeats option.now) later.now }
+{
+    later.iter().any(|other| option.repeats(other))
+}
+
+/// Whether each stands as often as it may.
+pub(crate) fn are_once(given: &[GivenOption<'_>]) -> bool
+    ensures { result ≡ are_once given.now }
+{
+    let mut rest = given;
+    'options: while let [first, later @ ..] = rest {
+        if is_repeated(first, later) {
+            return false;
+        }
+        rest = later;
+    }
+    true
+}
+
+// The option of this name, with its words taken out.
+#[tactic(auto, using(crate::proofs::Options::next_is, crate::proofs::Options::next_lacks, crate::proofs::Options::next_unknown))]
+fn next_option<'a>(name: &[u8], words: &mut Words<'a>) -> Result<GivenOption<'a>, Kind>
+    ensures option { MatchResult result (λ o. options_in (name.now ∷ words.old) ≡ with_option o (options_in words.new)) (λ k. options_in (name.now ∷ words.old) ≡ Err k) }
+    ensures fewer { OnOk result (length words.new ≤ length words.old) }
+{
+    let Some(row) = NodeOption::row_of(name) else {
+        return Err(Kind::Words);
+    };
+    if words.len() < row.words {
+        return Err(Kind::Words);
+    }
+    let option = GivenOption {
+        row,
+        words: words.copy(),
+    };
+    words.skip(row.words);
+    Ok(option)
+}
+
+/// The options that the words name, in their order.
+#[tactic(auto, using(crate::proofs::Options::none_so_far, crate::proofs::Options::one_more, crate::proofs::Options::none_left, crate::proofs::Options::bad_left))]
+pub(crate) fn options<'a>(
+    alloc: Global,
+    mut words: Words<'a>,
+) -> Result<Vec<GivenOption<'a>>, LineFault>
+    ensures { OptionsRead result (options_in words.entry) }
+{
+    let mut given = Vec::new(alloc);
+    'options: while let Some(name) = words.next() {
+        let option = next_option(name, &mut words)?;
+        if given.push(option).is_err() {
+            return Err(LineFault::NoMemory);
+        }
+    }
+    Ok(given)
+}
+
+// Sets what an option says.
+#[tactic(auto, unfolding(crate::specs::NodeOption::set_by))]
+fn set_option(node: &mut Node, given: &GivenOption<'_>) -> Result<(), Kind>
+    requires { HasCenters node.old }
+    ensures set { MatchResult result (λ _. set_option given.now node.old ≡ Ok node.new) (λ k. set_option given.now node.old ≡ Err k) }
+    ensures centers { OnOk result (HasCenters node.new) }
+{
+    let word = given.word();
+    match given.row.option {
+        NodeOption::Centers => {
+            node.centers = read_number(Kind::Number, 1, MOST_CENTERS as u64, word)? as u32;
+        }
+        NodeOption::Fast => node.fast = kinds(word)?,
+        NodeOption::Throttle => {
+            node.throttle = read_number(Kind::Number, 0, u32::MAX as u64, word)?;
+        }
+        NodeOption::Supports => node.supports = read_number(Kind::Number, 0, u64::MAX, word)?,
+        NodeOption::Requires => node.requires_ = read_number(Kind::Number, 0, u64::MAX, word)?,
+    }
+    Ok(())
+}
+
+/// Sets what the options say.
+pub(crate) fn set_options(node: &mut Node, given: &[GivenOption<'_>]) -> Result<(), Kind>
+    requires { HasCenters node.old }
+    ensures set { MatchResult result (λ _. set_options given.now node.old ≡ Ok node.new) (λ k. set_options given.now node.old ≡ Err k) }
+    ensures centers { OnOk result (HasCenters node.new) }
+{
+    'options: for option in given {
+        set_option(node, option)?;
+    }
+    Ok(())
+}
