@@ -1,4 +1,6 @@
 pub mod Cuts
-pub mod Tops
-pub mod Fronts
 pub mod Listings
+pub mod Orders
+pub mod Programs
+pub mod Says
+pub mod Tops

@@ -1,55 +1,77 @@
 -- What `frames` leaves, however passing on and saying went.
-use Rattle.std.proofs.Common.{ℕ, ◌≤◌, List, length, Option, None, Some, refl, sym, ◌∙◌, subst, arith, inl, inr}
+use Rattle.std.proofs.Common.{◌≡◌, ℕ, ◌≤◌, List, length, refl, sym, ◌∙◌, subst, arith, ◌⊎◌, inl, inr}
+use Rattle.std.specs.Prelude.{◌≢◌}
 use Rattle.std.proofs.Math.Seq.{take-length}
 use Rattle.m2_edge.specs.Faults.{HasRisen}
+use Rattle.m2_edge.specs.Sink.{SeenSink, IsFlushed}
+use Rattle.m2_edge.specs.Source.{SeenSource, IsPrefixOf}
 use Rattle.m2_listing.specs.Lines.{lines_of}
-use Rattle.m2_listing.specs.Listing.{limit, Lists, Listed, Broken, IsAll, IsFrontOf, IsCutAtLimit, IsFaultCause}
+use Rattle.m2_listing.specs.Listing.{limit, Lists, ListsPrefix, Listed, Broken, IsAll, IsCutAtLimit, IsFaultCause, StandsBy}
 use Rattle.m2_listing.specs.declared.listing.Listing.{Listing}
 use Rattle.m2_listing.specs.declared.listing.Listing.TheVariants as listing
 use Rattle.m2_cli.specs.declared.status.Status.{Status}
 use Rattle.m2_cli.specs.declared.status.Status.TheVariants as status
-use Rattle.m2_cli.specs.Frames.{ListsFrames, ListsFront, status_of_listing, IsPassedOn}
-use Rattle.m2_cli.specs.Print.{unsaid, IsTold}
-use Rattle.m2_cli.specs.Top.{IsCause}
-use Rattle.m2_cli.proofs.Tops.{front_whole}
+use Rattle.m2_cli.specs.Edge.{Edge, IsCause, StandsSomewhere}
+use Rattle.m2_cli.specs.Frames.{ListsFile, IsListedInPart, status_of_listing, IsPassedOn}
+use Rattle.m2_cli.specs.Print.{SaysStatus}
+use Rattle.m2_cli.proofs.Says.{prefix_whole, said_caused}
 
-all_is_front : (bytes : List ℕ) (file : Option (List ℕ)) → IsAll bytes file → IsFrontOf bytes file
-all_is_front bytes None h = tt
-all_is_front bytes (Some input) h = (length input, h ∙ sym (take-length input))
+all_prefix : (bytes : List ℕ) (src : SeenSource) → IsAll bytes src → IsPrefixOf bytes src.given
+all_prefix bytes src h = (length src.given, h.given ∙ sym (take-length src.given))
 
-cut_is_front : (bytes : List ℕ) (file : Option (List ℕ)) → IsCutAtLimit bytes file → IsFrontOf bytes file
-cut_is_front bytes None h = tt
-cut_is_front bytes (Some input) h = (limit, h.1)
-
--- lines that were written whole are a front of themselves
-broken_of : (bytes rest : List ℕ) (place : ℕ) (old new : Option (List ℕ)) → Listed bytes rest place old new → Broken bytes old new
+-- lines that were written whole are a prefix of themselves
+broken_of : (bytes rest : List ℕ) (place : ℕ) (old new : SeenSink) → Listed bytes rest place old new → Broken bytes old new
 broken_of bytes rest place old new h =
-    record { items = h.items; rest = rest; splits = h.splits; written = front_whole (lines_of h.items) old new h.written }
+    record { items = h.items; rest = rest; splits = h.splits; written = prefix_whole (lines_of h.items) old new h.written }
 
--- whatever was listed, a front of the lines was written
-pub lists_front : (l : Listing) (file old new : Option (List ℕ)) → Lists l file old new → ListsFront file old new
-lists_front listing.Whole file old new (bytes, place, all, short, listed) = (bytes, all_is_front bytes file all, broken_of bytes _ place old new listed)
-lists_front (listing.Bad place f) file old new (bytes, rest, front, short, judged, listed) = (bytes, front, broken_of bytes rest place old new listed)
-lists_front (listing.Cut place) file old new (bytes, rest, all, short, judged, some, listed) = (bytes, all_is_front bytes file all, broken_of bytes rest place old new listed)
-lists_front (listing.TooLong place) file old new (bytes, rest, cut, judged, listed) = (bytes, cut_is_front bytes file cut, broken_of bytes rest place old new listed)
-lists_front listing.ReadFault file old new h = h
-lists_front listing.WriteFault file old new h = h
-lists_front listing.NoMemory file old new h = h
+-- whatever was listed, a prefix of the lines was written
+lists_prefix : (l : Listing) (src : SeenSource) (old new : SeenSink) → Lists l src old new → ListsPrefix src old new
+lists_prefix listing.Whole src old new (bytes, place, all, short, listed) = (bytes, all_prefix bytes src all, broken_of bytes _ place old new listed)
+lists_prefix (listing.Bad place f) src old new (bytes, rest, some, short, judged, listed) = (bytes, some, broken_of bytes rest place old new listed)
+lists_prefix (listing.Cut place) src old new (bytes, rest, all, short, judged, some, listed) = (bytes, all_prefix bytes src all, broken_of bytes rest place old new listed)
+lists_prefix (listing.TooLong place) src old new (bytes, rest, cut, judged, listed) = (bytes, (limit, cut.given), broken_of bytes rest place old new listed)
+lists_prefix listing.ReadFault src old new h = h
+lists_prefix listing.WriteFault src old new h = h
+lists_prefix listing.NoMemory src old new h = h
 
--- ---- after passing on
+-- ---- after passing on, which takes nothing
 
-pub lists_passed : (l r : Listing) (o p : ℕ) (file old new : Option (List ℕ)) → Lists l file old new → IsPassedOn l r o p → Lists r file old new
-lists_passed l r o p file old new h (inl same) = let P : Listing → Type 0 = λ x. Lists x file old new in subst P (sym same) h
-lists_passed l r o p file old new h (inr (failed, risen)) =
-    let P : Listing → Type 0 = λ x. Lists x file old new in subst P (sym failed) (lists_front l file old new h)
+listed_later : (bytes rest : List ℕ) (place : ℕ) (old mid new : SeenSink) → new.taken ≡ mid.taken → Listed bytes rest place old mid → Listed bytes rest place old new
+listed_later bytes rest place old mid new e h = record { items = h.items; splits = h.splits; counted = h.counted; written = e ∙ h.written }
 
--- a rise is still there later
-risen_later : (o p q : ℕ) → HasRisen o p → p ≤ q → HasRisen o q
-risen_later o p q h le = omega arith
+prefix_later : (src : SeenSource) (old mid new : SeenSink) → new.taken ≡ mid.taken → ListsPrefix src old mid → ListsPrefix src old new
+prefix_later src old mid new e (bytes, some, h) =
+    (bytes, some, record { items = h.items; rest = h.rest; splits = h.splits; written = (h.written.0, e ∙ h.written.1) })
 
--- a rise later is one from the start
-risen_before : (o p q : ℕ) → o ≤ p → HasRisen p q → HasRisen o q
-risen_before o p q le h = omega arith
+lists_later : (l : Listing) (src : SeenSource) (old mid new : SeenSink) → new.taken ≡ mid.taken → Lists l src old mid → Lists l src old new
+lists_later listing.Whole src old mid new e (bytes, place, all, short, listed) = (bytes, place, all, short, listed_later bytes _ place old mid new e listed)
+lists_later (listing.Bad place f) src old mid new e (bytes, rest, some, short, judged, listed) = (bytes, rest, some, short, judged, listed_later bytes rest place old mid new e listed)
+lists_later (listing.Cut place) src old mid new e (bytes, rest, all, short, judged, some, listed) = (bytes, rest, all, short, judged, some, listed_later bytes rest place old mid new e listed)
+lists_later (listing.TooLong place) src old mid new e (bytes, rest, cut, judged, listed) = (bytes, rest, cut, judged, listed_later bytes rest place old mid new e listed)
+lists_later listing.ReadFault src old mid new e h = prefix_later src old mid new e h
+lists_later listing.WriteFault src old mid new e h = prefix_later src old mid new e h
+lists_later listing.NoMemory src old mid new e h = prefix_later src old mid new e h
+
+stands_somewhere : (l : Listing) (file : List ℕ) (old new : SeenSource) → StandsBy l file old new → StandsSomewhere file old new
+stands_somewhere listing.Whole file old new h = inr h
+stands_somewhere (listing.Bad place f) file old new h = inr h
+stands_somewhere (listing.Cut place) file old new h = inr h
+stands_somewhere (listing.TooLong place) file old new h = inr h
+stands_somewhere listing.ReadFault file old new h = h
+stands_somewhere listing.WriteFault file old new h = inr h
+stands_somewhere listing.NoMemory file old new h = inr h
+
+-- how a listing ended: where the source stands, what was listed, and why it may have failed
+pub record Ended (l : Listing) (file : List ℕ) (before after : Edge) : Type 0 where
+  pub stands : StandsBy l file before.source after.source
+  pub lists : Lists l after.source before.out after.out
+  pub cause : IsFaultCause l before.source.faults after.source.faults before.out.faults after.out.faults
+
+in_part : (l : Listing) (file : List ℕ) (before after : Edge) → Ended l file before after → IsListedInPart file before after
+in_part l file before after h = record {
+  stands = stands_somewhere l file before.source after.source h.stands;
+  lists = lists_prefix l after.source before.out after.out h.lists;
+}
 
 cause_later : (l : Listing) (s t o p q : ℕ) → IsFaultCause l s t o p → p ≤ q → IsFaultCause l s t o q
 cause_later listing.Whole s t o p q h le = tt
@@ -58,74 +80,70 @@ cause_later (listing.Cut place) s t o p q h le = tt
 cause_later (listing.TooLong place) s t o p q h le = tt
 cause_later listing.ReadFault s t o p q h le = h
 cause_later listing.WriteFault s t o p q h le = risen_later o p q h le
+  where
+    risen_later : (o p q : ℕ) → HasRisen o p → p ≤ q → HasRisen o q
+    risen_later o p q h le = omega arith
 cause_later listing.NoMemory s t o p q h le = tt
 
-pub caused_passed : (l r : Listing) (s t o p q : ℕ) → o ≤ p → p ≤ q → IsFaultCause l s t o p → IsPassedOn l r p q → IsFaultCause r s t o q
-caused_passed l r s t o p q first second h (inl same) =
-    let P : Listing → Type 0 = λ x. IsFaultCause x s t o q in subst P (sym same) (cause_later l s t o p q h second)
-caused_passed l r s t o p q first second h (inr (failed, risen)) =
-    let P : Listing → Type 0 = λ x. IsFaultCause x s t o q in subst P (sym failed) (risen_before o p q first risen)
+-- a rise later is one from the start
+risen_before : (o p q : ℕ) → o ≤ p → HasRisen p q → HasRisen o q
+risen_before o p q le h = omega arith
 
--- ---- after saying
+-- what was listed, whose lines were then passed on
+pub ended_passed : (l : Listing) (file : List ℕ) (before after : Edge) (mid : SeenSink) → StandsBy l file before.source after.source
+    → Lists l after.source before.out mid → IsFaultCause l before.source.faults after.source.faults before.out.faults mid.faults
+    → after.out.taken ≡ mid.taken → mid.faults ≤ after.out.faults → Ended l file before after
+ended_passed l file before after mid stands lists cause same rises = record {
+  stands = stands;
+  lists = lists_later l after.source before.out mid after.out same lists;
+  cause = cause_later l _ _ _ mid.faults after.out.faults cause rises;
+}
 
-lists_same : (l : Listing) (file old new : Option (List ℕ)) → Lists l file old new → ListsFrames (status_of_listing l) file old new
-lists_same listing.Whole file old new h = h
-lists_same (listing.Bad place f) file old new h = (listing.Bad place f, refl, h)
-lists_same (listing.Cut place) file old new h = (listing.Cut place, refl, h)
-lists_same (listing.TooLong place) file old new h = (listing.TooLong place, refl, h)
-lists_same listing.ReadFault file old new h = h
-lists_same listing.WriteFault file old new h = h
-lists_same listing.NoMemory file old new h = h
+-- the listing is whole and passed on
+pub lists_flushed : (l : Listing) (file : List ℕ) (before after : Edge) → Ended l file before after
+    → (l ≢ listing.WriteFault → IsFlushed after.out) → ListsFile file (status_of_listing l) before after
+lists_flushed listing.Whole file before after h f = (h.stands, h.lists, f (λ e. absurd cc))
+lists_flushed (listing.Bad place x) file before after h f = (h.stands, (listing.Bad place x, refl, h.lists), f (λ e. absurd cc))
+lists_flushed (listing.Cut place) file before after h f = (h.stands, (listing.Cut place, refl, h.lists), f (λ e. absurd cc))
+lists_flushed (listing.TooLong place) file before after h f = (h.stands, (listing.TooLong place, refl, h.lists), f (λ e. absurd cc))
+lists_flushed listing.ReadFault file before after h f = (h.cause, in_part listing.ReadFault file before after h, f (λ e. absurd cc))
+lists_flushed listing.WriteFault file before after h f = (h.cause, in_part listing.WriteFault file before after h)
+lists_flushed listing.NoMemory file before after h f = in_part listing.NoMemory file before after h
 
-lists_unsaid : (s : Status) (file old new : Option (List ℕ)) → ListsFront file old new → ListsFrames (unsaid s) file old new
-lists_unsaid status.Done file old new h = h
-lists_unsaid status.Usage file old new h = h
-lists_unsaid (status.BadScenario line kind) file old new h = h
-lists_unsaid status.ReadFault file old new h = h
-lists_unsaid status.WriteFault file old new h = h
-lists_unsaid (status.Left count) file old new h = h
-lists_unsaid status.NoMemory file old new h = h
-lists_unsaid (status.BadFrames place fault) file old new h = h
+pub lists_passed : (l r : Listing) (file : List ℕ) (before after : Edge) (mid : SeenSink) → Ended l file before after → before.out.faults ≤ mid.faults
+    → IsPassedOn l r mid after.out → ListsFile file (status_of_listing r) before after
+lists_passed l r file before after mid h rises (inl (same, f)) =
+    let P : Listing → Type 0 = λ x. ListsFile file (status_of_listing x) before after in subst P (sym same) (lists_flushed l file before after h f)
+lists_passed l r file before after mid h rises (inr (failed, risen)) =
+    let P : Listing → Type 0 = λ x. ListsFile file (status_of_listing x) before after in
+    subst P (sym failed) (risen_before before.out.faults mid.faults after.out.faults rises risen, in_part l file before after h)
 
-pub lists_told : (l : Listing) (result : Status) (e f : ℕ) (file old new : Option (List ℕ)) → Lists l file old new
-    → IsTold (status_of_listing l) result e f → ListsFrames result file old new
-lists_told l result e f file old new h (inl (inl same)) =
-    let P : Status → Type 0 = λ x. ListsFrames x file old new in subst P (sym same) (lists_same l file old new h)
-lists_told l result e f file old new h (inl (inr (became, risen))) =
-    let P : Status → Type 0 = λ x. ListsFrames x file old new in
-    subst P (sym became) (lists_unsaid (status_of_listing l) file old new (lists_front l file old new h))
-lists_told l result e f file old new h (inr (inl same)) =
-    let P : Status → Type 0 = λ x. ListsFrames x file old new in subst P (sym same) (lists_front l file old new h)
-lists_told l result e f file old new h (inr (inr (became, risen))) =
-    let P : Status → Type 0 = λ x. ListsFrames x file old new in subst P (sym became) (lists_front l file old new h)
+-- its cause
+pub listing_caused : (work : Status) (file : List ℕ) (before after : Edge) → ListsFile file work before after → IsCause work before after
+listing_caused status.Done file before after h = tt
+listing_caused status.Usage file before after h = tt
+listing_caused (status.BadScenario line kind) file before after h = tt
+listing_caused status.ReadFault file before after h = h.0
+listing_caused status.WriteFault file before after h = inl h.0
+listing_caused (status.Left count) file before after h = tt
+listing_caused status.NoMemory file before after h = tt
+listing_caused (status.BadFrames place fault) file before after h = tt
 
-cause_same : (l : Listing) (s t o p e f : ℕ) → IsFaultCause l s t o p → IsCause (status_of_listing l) s t o p e f
-cause_same listing.Whole s t o p e f h = tt
-cause_same (listing.Bad place x) s t o p e f h = tt
-cause_same (listing.Cut place) s t o p e f h = tt
-cause_same (listing.TooLong place) s t o p e f h = tt
-cause_same listing.ReadFault s t o p e f h = h
-cause_same listing.WriteFault s t o p e f h = inl h
-cause_same listing.NoMemory s t o p e f h = tt
+-- what it came to, how that was said, and its cause
+pub listing_ends : (l r : Listing) (s answered : Status) (file : List ℕ) (before after : Edge) (mid : SeenSink) → Ended l file before after
+    → before.out.faults ≤ mid.faults → IsPassedOn l r mid after.out → s ≡ status_of_listing r
+    → SaysStatus s answered before.err after.err ⊎ SaysStatus status.NoMemory answered before.err after.err
+    → (work : Status) × SaysStatus work answered before.err after.err × ListsFile file work before after
+listing_ends l r s answered file before after mid h rises passed e (inl said) =
+    let P : Status → Type 0 = λ x. ListsFile file x before after in (s, said, subst P (sym e) (lists_passed l r file before after mid h rises passed))
+listing_ends l r s answered file before after mid h rises passed e (inr said) = (status.NoMemory, said, in_part l file before after h)
 
-cause_unsaid : (x : Status) (s t o p e f : ℕ) → HasRisen e f → IsCause (unsaid x) s t o p e f
-cause_unsaid status.Done s t o p e f h = inr h
-cause_unsaid status.Usage s t o p e f h = inr h
-cause_unsaid (status.BadScenario line kind) s t o p e f h = inr h
-cause_unsaid status.ReadFault s t o p e f h = inr h
-cause_unsaid status.WriteFault s t o p e f h = inr h
-cause_unsaid (status.Left count) s t o p e f h = inr h
-cause_unsaid status.NoMemory s t o p e f h = tt
-cause_unsaid (status.BadFrames place fault) s t o p e f h = inr h
-
-pub caused_told : (l : Listing) (result : Status) (s t o p e f : ℕ) → IsFaultCause l s t o p → IsTold (status_of_listing l) result e f
-    → IsCause result s t o p e f
-caused_told l result s t o p e f h (inl (inl same)) =
-    let P : Status → Type 0 = λ x. IsCause x s t o p e f in subst P (sym same) (cause_same l s t o p e f h)
-caused_told l result s t o p e f h (inl (inr (became, risen))) =
-    let P : Status → Type 0 = λ x. IsCause x s t o p e f in subst P (sym became) (cause_unsaid (status_of_listing l) s t o p e f risen)
-caused_told l result s t o p e f h (inr (inl same)) = let P : Status → Type 0 = λ x. IsCause x s t o p e f in subst P (sym same) tt
-caused_told l result s t o p e f h (inr (inr (became, risen))) = let P : Status → Type 0 = λ x. IsCause x s t o p e f in subst P (sym became) tt
+pub caused_ends : (l r : Listing) (s answered : Status) (file : List ℕ) (before after : Edge) (mid : SeenSink) → Ended l file before after
+    → before.out.faults ≤ mid.faults → IsPassedOn l r mid after.out → s ≡ status_of_listing r
+    → SaysStatus s answered before.err after.err ⊎ SaysStatus status.NoMemory answered before.err after.err → IsCause answered before after
+caused_ends l r s answered file before after mid h rises passed e said =
+    let ends = listing_ends l r s answered file before after mid h rises passed e said in
+    said_caused ends.0 answered before after (listing_caused ends.0 file before after ends.2) ends.1
 
 -- a count that falls in neither of two calls
 pub no_fall : (o p q : ℕ) → o ≤ p → p ≤ q → o ≤ q

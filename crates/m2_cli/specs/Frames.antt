@@ -1,11 +1,14 @@
 -- What `frames FILE` leaves, by its status. The numbers of faults are this project's own (docs/FRAMES.md).
-use Rattle.std.specs.Prelude.{◌≡◌, ℕ, ◌⊎◌, List, Option}
+use Rattle.std.specs.Prelude.{◌≡◌, ◌≢◌, ℕ, ◌⊎◌, List}
 use Rattle.m2_edge.specs.Faults.{HasRisen}
+use Rattle.m2_edge.specs.Sink.{SeenSink, IsFlushed}
+use Rattle.m2_edge.specs.Whole.{StandsIn}
 use Rattle.m2_frame.specs.declared.fault.FrameFault.{FrameFault}
 use Rattle.m2_frame.specs.declared.fault.FrameFault.TheVariants as fault
-use Rattle.m2_listing.specs.Listing.{Lists, Broken, IsFrontOf}
+use Rattle.m2_listing.specs.Listing.{Lists, ListsPrefix}
 use Rattle.m2_listing.specs.declared.listing.Listing.{Listing}
 use Rattle.m2_listing.specs.declared.listing.Listing.TheVariants as listing
+use Rattle.m2_cli.specs.Edge.{Edge, SourceFailed, OutFailed, StandsSomewhere}
 use Rattle.m2_cli.specs.declared.status.Status.{Status}
 use Rattle.m2_cli.specs.declared.status.Status.TheVariants.{Done, Usage, BadScenario, ReadFault, WriteFault, Left, NoMemory, BadFrames}
 
@@ -31,24 +34,28 @@ status_of_listing listing.ReadFault = ReadFault
 status_of_listing listing.WriteFault = WriteFault
 status_of_listing listing.NoMemory = NoMemory
 
--- the items of a front of the file, and of their lines a front was written
-abbrev pub ListsFront : Option (List ℕ) → Option (List ℕ) → Option (List ℕ) → Type 0
-ListsFront file old new = (bytes : List ℕ) × IsFrontOf bytes file × Broken bytes old new
+-- a prefix of the lines of a prefix of the file was written
+pub record IsListedInPart (file : List ℕ) (before after : Edge) : Type 0 where
+  pub stands : StandsSomewhere file before.source after.source
+  pub lists : ListsPrefix after.source before.out after.out
 
--- By the status, by what the source tells of the file, and by what the output has taken before and after.
+-- What `frames FILE` leaves, by what its work came to.
 -- Done: the file is frames and nothing else, and each has its line. BadFrames: each frame before the place has
 -- its line, and there the file stops being frames for exactly the cause that the number says. With the others
--- a front of the lines was written.
-abbrev pub ListsFrames : Status → Option (List ℕ) → Option (List ℕ) → Option (List ℕ) → Type 0
-ListsFrames Done file old new = Lists listing.Whole file old new
-ListsFrames (BadFrames place fault) file old new = (l : Listing) × (status_of_listing l ≡ BadFrames place fault) × Lists l file old new
-ListsFrames ReadFault file old new = ListsFront file old new
-ListsFrames WriteFault file old new = ListsFront file old new
-ListsFrames NoMemory file old new = ListsFront file old new
-ListsFrames Usage file old new = ⊥
-ListsFrames (BadScenario line kind) file old new = ⊥
-ListsFrames (Left count) file old new = ⊥
+-- a prefix of the lines was written. With Done, BadFrames and ReadFault all that was written is flushed.
+abbrev pub ListsFile : List ℕ → Status → Edge → Edge → Type 0
+ListsFile file Done before after = StandsIn file before.source after.source × Lists listing.Whole after.source before.out after.out × IsFlushed after.out
+ListsFile file (BadFrames place fault) before after =
+    StandsIn file before.source after.source
+    × ((l : Listing) × (status_of_listing l ≡ BadFrames place fault) × Lists l after.source before.out after.out) × IsFlushed after.out
+ListsFile file ReadFault before after = SourceFailed before after × IsListedInPart file before after × IsFlushed after.out
+ListsFile file WriteFault before after = OutFailed before after × IsListedInPart file before after
+ListsFile file NoMemory before after = IsListedInPart file before after
+ListsFile file Usage before after = ⊥
+ListsFile file (BadScenario line kind) before after = ⊥
+ListsFile file (Left count) before after = ⊥
 
--- a listing whose lines were passed on, or couldn't be; by the output's count of faults
-abbrev pub IsPassedOn : Listing → Listing → ℕ → ℕ → Type 0
-IsPassedOn listed result o p = (result ≡ listed) ⊎ ((result ≡ listing.WriteFault) × HasRisen o p)
+-- a listing whose lines were passed on, or couldn't be; by what is seen of the output before that and after
+abbrev pub IsPassedOn : Listing → Listing → SeenSink → SeenSink → Type 0
+IsPassedOn listed result old new =
+    ((result ≡ listed) × (listed ≢ listing.WriteFault → IsFlushed new)) ⊎ ((result ≡ listing.WriteFault) × HasRisen old.faults new.faults)

@@ -1,9 +1,11 @@
-pub mod Answer
+pub mod Edge
+pub mod Frames
+pub mod Order
+pub mod Outside
 pub mod Print
+pub mod Printout
+pub mod Program
 pub mod Status
 pub mod Top
-pub mod Outside
 pub mod Verdict
 pub mod Words
-pub mod Order
-pub mod Frames

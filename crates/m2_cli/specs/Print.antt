@@ -1,11 +1,25 @@
--- Writing a report and saying a status.
-use Rattle.std.specs.Prelude.{◌≡◌, ℕ, ◌⊎◌, List, [], Option}
+-- Writing a text and saying a status.
+use Rattle.std.specs.Prelude.{◌≡◌, ◌≢◌, ◌⊎◌, List, ℕ, [], Result, Ok, Err}
 use Rattle.m2_edge.specs.Faults.{HasRisen}
-use Rattle.m2_edge.specs.Sink.{Takes, TakesFront}
+use Rattle.m2_edge.specs.Sink.{SeenSink, TakesBytes, TakesPrefix, IsFlushed}
+use Rattle.m2_edge.specs.declared.failed.Failed.{Failed}
 use Rattle.m2_cli.specs.declared.status.Status.{Status}
 use Rattle.m2_cli.specs.declared.status.Status.TheVariants.{Done, Usage, BadScenario, ReadFault, WriteFault, Left, NoMemory, BadFrames}
+use Rattle.m2_cli.specs.Status.{line_of}
+use Rattle.m2_cli.specs.declared.printout.Printout.{Printout}
 
--- what a status becomes where its line couldn't be written
+-- a text was taken whole, and flushed; an empty one needs no call
+pub record Delivers (text : List ℕ) (old new : SeenSink) : Type 0 where
+  pub taken : TakesBytes text old new
+  pub flushed : text ≢ [] → IsFlushed new
+  pub untouched : text ≡ [] → new ≡ old
+
+-- the same, or a prefix was taken
+abbrev pub DeliversText : Result (Unit {0}) Failed → List ℕ → SeenSink → SeenSink → Type 0
+DeliversText (Ok _) text old new = Delivers text old new
+DeliversText (Err _) text old new = TakesPrefix text old new
+
+-- what is answered where the line of a status couldn't be said
 abbrev pub unsaid : Status → Status
 unsaid Done = WriteFault
 unsaid Usage = WriteFault
@@ -16,17 +30,24 @@ unsaid (Left count) = WriteFault
 unsaid NoMemory = NoMemory
 unsaid (BadFrames place fault) = WriteFault
 
--- a status that was said, or what it became since its line couldn't be written; by the error sink's count of faults
-abbrev pub IsSaid : Status → Status → ℕ → ℕ → Type 0
-IsSaid status result e f = (result ≡ status) ⊎ ((result ≡ unsaid status) × HasRisen e f)
+-- the line of what the work came to was said whole, and that is answered
+pub record IsSaid (work answered : Status) (old new : SeenSink) : Type 0 where
+  pub answer : answered ≡ work
+  pub line : Delivers (line_of work) old new
 
--- a status that was said, or NoMemory where there was none for its line
-abbrev pub IsTold : Status → Status → ℕ → ℕ → Type 0
-IsTold status result e f = IsSaid status result e f ⊎ IsSaid NoMemory result e f
+-- standard error failed, and a prefix of that line was said
+pub record IsRefused (work answered : Status) (old new : SeenSink) : Type 0 where
+  pub answer : answered ≡ unsaid work
+  pub failed : HasRisen old.faults new.faults
+  pub line : TakesPrefix (line_of work) old new
 
--- A report was written whole and the status said; or a write failed, and a front of the report was
--- written. By what the output has taken, and by the counts of faults of the output and of the error sink.
-abbrev pub Prints : Status → Status → List ℕ → Option (List ℕ) → Option (List ℕ) → ℕ → ℕ → ℕ → ℕ → Type 0
-Prints result status report old new o p e f =
-    ((result ≡ status) × Takes report old new × (report ≡ [] → new ≡ old))
-    ⊎ (((result ≡ WriteFault) ⊎ (result ≡ unsaid status)) × TakesFront report old new × (HasRisen o p ⊎ HasRisen e f))
+-- How what the work came to was said and answered: where standard error refused nothing, its whole line was said.
+abbrev pub SaysStatus : Status → Status → SeenSink → SeenSink → Type 0
+SaysStatus work answered old new = IsSaid work answered old new ⊎ IsRefused work answered old new
+
+-- What printing came to: the report was taken whole, and the work is at its status; or standard output failed, and
+-- took a prefix.
+abbrev pub PrintsReport : Printout → Status → SeenSink → SeenSink → Type 0
+PrintsReport p work old new =
+    ((work ≡ p.status) × Delivers p.report.bytes old new)
+    ⊎ ((work ≡ WriteFault) × HasRisen old.faults new.faults × TakesPrefix p.report.bytes old new)

@@ -1,75 +1,53 @@
--- What the top call leaves, by its status.
-use Rattle.std.specs.Prelude.{◌≡◌, ℕ, ◌+◌, ◌≤◌, ◌⊎◌, List, Option}
-use Rattle.m2_edge.specs.Faults.{HasRisen}
-use Rattle.m2_edge.specs.Sink.{Takes, TakesFront}
-use Rattle.m2_edge.specs.Whole.{IsReadUpTo, StandsIn}
+-- What the top call leaves, by what its work came to.
+use Rattle.std.specs.Prelude.{◌≡◌, List, ℕ, Option}
+use Rattle.m2_edge.specs.Sink.{TakesPrefix}
 use Rattle.m2_cli.specs.declared.status.Status.{Status}
 use Rattle.m2_cli.specs.declared.status.Status.TheVariants.{Done, Usage, BadScenario, ReadFault, WriteFault, Left, NoMemory, BadFrames}
-use Rattle.m2_cli.specs.Status.{line_of}
+use Rattle.m2_cli.specs.Edge.{Edge, SourceFailed, OutFailed, StandsSomewhere, IsReadWhole}
+use Rattle.m2_cli.specs.Frames.{ListsFile}
+use Rattle.m2_cli.specs.Print.{Delivers, SaysStatus}
 use Rattle.m2_cli.specs.Verdict.{status_in, report_in}
-use Rattle.m2_scenario_text.specs.declared.reading.TheConstants.{MOST_BYTES}
+use Rattle.m2_cli.specs.Words.{Form, MatchForm}
 
--- What was said on the error sink: the status's line, with its line feed, and nothing where the work is
--- done. After WriteFault it may be a front of one such line, and after NoMemory a front of its own.
-abbrev pub Says : Status → Option (List ℕ) → Option (List ℕ) → Type 0
-Says Done old new = new ≡ old
-Says Usage old new = Takes (line_of Usage) old new
-Says (BadScenario line kind) old new = Takes (line_of (BadScenario line kind)) old new
-Says ReadFault old new = Takes (line_of ReadFault) old new
-Says WriteFault old new = (said : Status) × TakesFront (line_of said) old new
-Says (Left count) old new = Takes (line_of (Left count)) old new
-Says NoMemory old new = TakesFront (line_of NoMemory) old new
-Says (BadFrames place fault) old new = Takes (line_of (BadFrames place fault)) old new
+-- the words are of no form: the work is to say so
+pub record IsOfNoForm (work : Status) (before after : Edge) : Type 0 where
+  pub usage : work ≡ Usage
+  pub unread : after.source ≡ before.source
+  pub unprinted : after.out ≡ before.out
 
--- What may be the cause of a status, by the counts of faults of the source, of the output and of the error
--- sink: a fault is answered only where a count rose in this call.
-abbrev pub IsCause : Status → ℕ → ℕ → ℕ → ℕ → ℕ → ℕ → Type 0
-IsCause Done s t o p e f = Unit {0}
-IsCause Usage s t o p e f = Unit {0}
-IsCause (BadScenario line kind) s t o p e f = Unit {0}
-IsCause ReadFault s t o p e f = HasRisen s t
-IsCause WriteFault s t o p e f = HasRisen o p ⊎ HasRisen e f
-IsCause (Left count) s t o p e f = Unit {0}
-IsCause NoMemory s t o p e f = Unit {0}
-IsCause (BadFrames place fault) s t o p e f = Unit {0}
+-- the file was read whole, this is what its bytes come to, and standard output took exactly their report, flushed
+pub record IsRunToEnd (file : List ℕ) (work : Status) (before after : Edge) : Type 0 where
+  pub read : IsReadWhole file before.source after.source
+  pub status : status_in after.source.given ≡ work
+  pub printed : Delivers (report_in after.source.given) before.out after.out
 
--- a status and its cause; no count ever falls
-pub record HasCauses (status : Status) (s t o p e f : ℕ) : Type 0 where
-  pub source_never_falls : s ≤ t
-  pub out_never_falls : o ≤ p
-  pub err_never_falls : e ≤ f
-  pub cause : IsCause status s t o p e f
+-- the file was read whole, standard output failed, and took a prefix of the report of its bytes
+pub record IsRunInPart (file : List ℕ) (before after : Edge) : Type 0 where
+  pub read : IsReadWhole file before.source after.source
+  pub failed : OutFailed before after
+  pub printed : TakesPrefix (report_in after.source.given) before.out after.out
 
--- The words are of no form: Usage, unless even that couldn't be said.
-abbrev pub IsRefused : Status → Type 0
-IsRefused Usage = Unit {0}
-IsRefused WriteFault = Unit {0}
-IsRefused Done = ⊥
-IsRefused (BadScenario line kind) = ⊥
-IsRefused ReadFault = ⊥
-IsRefused (Left count) = ⊥
-IsRefused NoMemory = ⊥
-IsRefused (BadFrames place fault) = ⊥
+-- nothing was printed; the file may have been read in part
+pub record IsNotRun (file : List ℕ) (before after : Edge) : Type 0 where
+  pub stands : StandsSomewhere file before.source after.source
+  pub unprinted : after.out ≡ before.out
 
--- a file is read to its end, or to the byte past the limit
-abbrev pub read_limit : ℕ
-read_limit = MOST_BYTES + 1
+-- What `sim FILE` leaves. Done, Left and BadScenario are what the bytes come to that the source gave; the report of
+-- bad ones is empty.
+abbrev pub RunsFile : List ℕ → Status → Edge → Edge → Type 0
+RunsFile file Done before after = IsRunToEnd file Done before after
+RunsFile file (Left count) before after = IsRunToEnd file (Left count) before after
+RunsFile file (BadScenario line kind) before after = IsRunToEnd file (BadScenario line kind) before after
+RunsFile file WriteFault before after = IsRunInPart file before after
+RunsFile file ReadFault before after = SourceFailed before after × IsNotRun file before after
+RunsFile file NoMemory before after = IsNotRun file before after
+RunsFile file Usage before after = ⊥
+RunsFile file (BadFrames place fault) before after = ⊥
 
--- What `sim FILE` leaves: by the source's count of faults, by what the source tells of the file and of
--- what is left of it, and by what the output has taken. The file was read whole, unless reading failed or
--- memory ran out. What is printed is the report of the bytes that were read, whole with Done and Left and a
--- front of it with WriteFault; with any other status nothing is printed.
-abbrev pub Runs : Status → ℕ → ℕ → Option (List ℕ) → Option (List ℕ) → Option (List ℕ) → Option (List ℕ) → Option (List ℕ) → Type 0
-Runs Done s t file before after old new =
-    (bytes : List ℕ) × IsReadUpTo read_limit bytes file after × (status_in bytes ≡ Done) × Takes (report_in bytes) old new
-Runs (Left count) s t file before after old new =
-    (bytes : List ℕ) × IsReadUpTo read_limit bytes file after × (status_in bytes ≡ Left count) × Takes (report_in bytes) old new
-Runs (BadScenario line kind) s t file before after old new =
-    (bytes : List ℕ) × IsReadUpTo read_limit bytes file after × (status_in bytes ≡ BadScenario line kind) × (new ≡ old)
-Runs WriteFault s t file before after old new =
-    ((bytes : List ℕ) × IsReadUpTo read_limit bytes file after × TakesFront (report_in bytes) old new)
-    ⊎ (HasRisen s t × StandsIn file before after × (new ≡ old))
-Runs ReadFault s t file before after old new = StandsIn file before after × (new ≡ old)
-Runs NoMemory s t file before after old new = StandsIn file before after × (new ≡ old)
-Runs Usage s t file before after old new = ⊥
-Runs (BadFrames place fault) s t file before after old new = ⊥
+-- What a call of these words leaves: its work came to something, which was said on standard error and answered; where
+-- standard error refused it the answer is a write fault.
+pub record Ends (form : Option Form) (answered : Status) (before after : Edge) : Type 0 where
+  pub work : Status
+  pub said : SaysStatus work answered before.err after.err
+  pub left : MatchForm form (IsOfNoForm work before after) (λ file. RunsFile file work before after)
+      (λ file. ListsFile file work before after)

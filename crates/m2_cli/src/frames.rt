@@ -1,9 +1,10 @@
 //! `frames FILE`: each frame of a file on a line, and where and why the file stops being frames.
 
 ghost use Rattle.std.specs.Prelude.{◌≡◌, ◌≤◌};
-ghost use Rattle.m2_cli.specs.Frames.{ListsFrames, number_of_fault, status_of_listing, IsPassedOn};
-ghost use Rattle.m2_cli.specs.Top.{HasCauses, Says};
-ghost use Rattle.m2_listing.specs.Listing.{Lists, IsFaultCause};
+ghost use Rattle.m2_cli.specs.declared.status.Status.{Status};
+ghost use Rattle.m2_cli.specs.Edge.{HasCauses, edge};
+ghost use Rattle.m2_cli.specs.Frames.{ListsFile, number_of_fault, status_of_listing, IsPassedOn};
+ghost use Rattle.m2_cli.specs.Print.{SaysStatus};
 
 use crate::print::say_made;
 use crate::status::Status;
@@ -20,11 +21,12 @@ pub(crate) fn frames<S: Source, O: Sink, E: Sink>(
     out: &mut O,
     err: &mut E,
 ) -> Status
-    ensures causes { HasCauses result (S.faults src.old) (S.faults src.new) (O.faults out.old) (O.faults out.new)
-        (E.faults err.old) (E.faults err.new) }
-    ensures inputs { S.input src.new ≡ S.input src.old }
-    ensures says { Says result (E.taken err.old) (E.taken err.new) }
-    ensures lists { ListsFrames result (S.input src.old file.now) (O.taken out.old) (O.taken out.new) }
+    ensures causes { HasCauses result (edge (S.seen src.old) (O.seen out.old) (E.seen err.old))
+        (edge (S.seen src.new) (O.seen out.new) (E.seen err.new)) }
+    ensures inputs { (S.seen src.new).inputs ≡ (S.seen src.old).inputs }
+    ensures ends { (work : Status) × SaysStatus work result (E.seen err.old) (E.seen err.new)
+        × ListsFile file.now work (edge (S.seen src.old) (O.seen out.old) (E.seen err.old))
+        (edge (S.seen src.new) (O.seen out.new) (E.seen err.new)) }
 {
     let listing = list_frames(alloc, file, src, out);
     let listing = pass_on(out, listing);
@@ -33,9 +35,9 @@ pub(crate) fn frames<S: Source, O: Sink, E: Sink>(
 
 /// Passes on the lines that were written. After a failed write nothing more is done there.
 fn pass_on<O: Sink>(out: &mut O, listing: Listing) -> Listing
-    ensures never_falls { O.faults out.old ≤ O.faults out.new }
-    ensures passed { IsPassedOn listing result (O.faults out.old) (O.faults out.new) }
-    ensures taken { O.taken out.new ≡ O.taken out.old }
+    ensures never_falls { (O.seen out.old).faults ≤ (O.seen out.new).faults }
+    ensures passed { IsPassedOn listing result (O.seen out.old) (O.seen out.new) }
+    ensures taken { (O.seen out.new).taken ≡ (O.seen out.old).taken }
 {
     match listing {
         Listing::WriteFault => Listing::WriteFault,

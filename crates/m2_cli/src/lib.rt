@@ -7,15 +7,15 @@
 //! (`m2_frame`, and `m2_listing` for a file of them).
 #![tactic(auto)]
 
-mod answer;
 mod frames;
 mod outside;
 mod print;
+mod printout;
+mod program;
 mod status;
-#[cfg(test)]
-mod tests;
 mod top;
 mod words;
 
+pub use program::{Ended, run_program};
 pub use status::Status;
 pub use top::msgr2;

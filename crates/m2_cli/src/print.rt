@@ -1,29 +1,28 @@
 //! Writing the report, and the status's line.
 
-ghost use Rattle.std.specs.Prelude.{◌≡◌, ◌≤◌, []};
+ghost use Rattle.std.specs.Prelude.{◌≡◌, ◌≤◌, ◌⊎◌};
 ghost use Rattle.m2_edge.specs.Faults.{HasCause};
-ghost use Rattle.m2_edge.specs.Whole.{WritesWhole};
-ghost use Rattle.m2_cli.specs.Print.{IsSaid, IsTold, Prints, unsaid};
+ghost use Rattle.m2_cli.specs.declared.status.Status.{Status};
+ghost use Rattle.m2_cli.specs.declared.status.Status.TheVariants as statuses;
+ghost use Rattle.m2_cli.specs.Print.{DeliversText, PrintsReport, SaysStatus, unsaid};
 ghost use Rattle.m2_cli.specs.Status.{line_of, fixed_line_of};
-ghost use Rattle.m2_cli.specs.Top.{Says};
 
-use crate::answer::Answer;
+use crate::printout::Printout;
 use crate::status::{Status, fixed_line, line};
 use m2_bytes::NoMemory;
 use m2_edge::{Failed, Sink, write_whole};
 use std::alloc::Global;
 
 /// Writes the report and then says the status. After a fault nothing more is written there.
-pub(crate) fn print<O: Sink, E: Sink>(answer: &Answer, out: &mut O, err: &mut E) -> Status
-    requires { answer.now.line.bytes ≡ line_of answer.now.status }
-    ensures out_never_falls { O.faults out.old ≤ O.faults out.new }
-    ensures err_never_falls { E.faults err.old ≤ E.faults err.new }
-    ensures prints { Prints result answer.now.status answer.now.report.bytes (O.taken out.old) (O.taken out.new)
-        (O.faults out.old) (O.faults out.new) (E.faults err.old) (E.faults err.new) }
-    ensures says { Says result (E.taken err.old) (E.taken err.new) }
+pub(crate) fn print<O: Sink, E: Sink>(printout: &Printout, out: &mut O, err: &mut E) -> Status
+    requires { printout.now.line.bytes ≡ line_of printout.now.status }
+    ensures out_never_falls { (O.seen out.old).faults ≤ (O.seen out.new).faults }
+    ensures err_never_falls { (E.seen err.old).faults ≤ (E.seen err.new).faults }
+    ensures prints { (work : Status) × PrintsReport printout.now work (O.seen out.old) (O.seen out.new)
+        × SaysStatus work result (E.seen err.old) (E.seen err.new) }
 {
-    match write_text(out, answer.report.as_slice()) {
-        Ok(()) => say(err, answer.status, answer.line.as_slice()),
+    match write_text(out, printout.report.as_slice()) {
+        Ok(()) => say(err, printout.status, printout.line.as_slice()),
         Err(_) => say_fixed(err, Status::WriteFault),
     }
 }
@@ -31,18 +30,17 @@ pub(crate) fn print<O: Sink, E: Sink>(answer: &Answer, out: &mut O, err: &mut E)
 /// Says a status that carries no number, and takes no memory for it.
 pub(crate) fn say_fixed<E: Sink>(err: &mut E, status: Status) -> Status
     requires { fixed_line_of status ≡ line_of status }
-    ensures never_falls { E.faults err.old ≤ E.faults err.new }
-    ensures said { IsSaid status result (E.faults err.old) (E.faults err.new) }
-    ensures says { Says result (E.taken err.old) (E.taken err.new) }
+    ensures never_falls { (E.seen err.old).faults ≤ (E.seen err.new).faults }
+    ensures says { SaysStatus status result (E.seen err.old) (E.seen err.new) }
 {
     say(err, status, fixed_line(&status))
 }
 
 /// Says a status by the line that is made for it; where there is no memory for that, NoMemory.
 pub(crate) fn say_made<E: Sink>(alloc: Global, err: &mut E, status: Status) -> Status
-    ensures never_falls { E.faults err.old ≤ E.faults err.new }
-    ensures told { IsTold status result (E.faults err.old) (E.faults err.new) }
-    ensures says { Says result (E.taken err.old) (E.taken err.new) }
+    ensures never_falls { (E.seen err.old).faults ≤ (E.seen err.new).faults }
+    ensures says { SaysStatus status result (E.seen err.old) (E.seen err.new)
+        ⊎ SaysStatus statuses.NoMemory result (E.seen err.old) (E.seen err.new) }
 {
     match line(alloc, &status) {
         Ok(text) => say(err, status, text.as_slice()),
@@ -53,9 +51,8 @@ pub(crate) fn say_made<E: Sink>(alloc: Global, err: &mut E, status: Status) -> S
 /// Says a status by its line. Where that fails the status is WriteFault, or NoMemory as before.
 fn say<E: Sink>(err: &mut E, status: Status, line: &[u8]) -> Status
     requires { line.now ≡ line_of status }
-    ensures never_falls { E.faults err.old ≤ E.faults err.new }
-    ensures said { IsSaid status result (E.faults err.old) (E.faults err.new) }
-    ensures says { Says result (E.taken err.old) (E.taken err.new) }
+    ensures never_falls { (E.seen err.old).faults ≤ (E.seen err.new).faults }
+    ensures says { SaysStatus status result (E.seen err.old) (E.seen err.new) }
 {
     match write_text(err, line) {
         Ok(()) => status,
@@ -74,9 +71,8 @@ fn unsaid(status: Status) -> Status
 
 /// Writes a text and passes it on. Where it is empty the sink isn't called.
 fn write_text<K: Sink>(sink: &mut K, text: &[u8]) -> Result<(), Failed>
-    ensures causes { HasCause result (K.faults sink.old) (K.faults sink.new) }
-    ensures writes { WritesWhole result text.now (K.taken sink.old) (K.taken sink.new) }
-    ensures nothing { text.now ≡ [] → K.taken sink.new ≡ K.taken sink.old }
+    ensures causes { HasCause result (K.seen sink.old).faults (K.seen sink.new).faults }
+    ensures delivers { DeliversText result text.now (K.seen sink.old) (K.seen sink.new) }
 {
     if text.is_empty() {
         return Ok(());

@@ -1,18 +1,23 @@
 //! The top call.
 
 ghost use Rattle.std.specs.Prelude.{◌≡◌, map, string_bytes};
-ghost use Rattle.m2_cli.specs.Top.{HasCauses, Says, Runs, IsRefused};
-ghost use Rattle.m2_cli.specs.Frames.{ListsFrames};
+ghost use Rattle.m2_cli.specs.declared.status.Status.{Status};
+ghost use Rattle.m2_cli.specs.Edge.{HasCauses, edge};
 ghost use Rattle.m2_cli.specs.Order.{KeepsOrder};
+ghost use Rattle.m2_cli.specs.Print.{SaysStatus};
+ghost use Rattle.m2_cli.specs.Top.{Ends, RunsFile};
 ghost use Rattle.m2_cli.specs.Words.{form_in, MatchForm};
 
-use crate::answer::answer_file;
 use crate::frames::frames;
 use crate::print::{print, say_fixed};
+use crate::printout::prepare_file;
 use crate::status::Status;
 use crate::words::{Command, command_of};
 use m2_edge::{ReadFault, Sink, Source};
-use m2_sim::{each_key_keeps_its_order, nothing_left_is_all_heard, only_peers_are_heard};
+use m2_sim::{
+    each_key_keeps_its_order, each_post_is_heard_or_left, nothing_left_is_all_heard,
+    only_peers_are_heard,
+};
 use std::alloc::Global;
 
 /// Runs the command that the words name, prints its report on `out`, says on `err` how it ended, and
@@ -28,20 +33,22 @@ pub fn msgr2<S: Source, O: Sink, E: Sink>(
     out: &mut O,
     err: &mut E,
 ) -> Status
-    ensures causes { HasCauses result (S.faults src.old) (S.faults src.new) (O.faults out.old) (O.faults out.new)
-        (E.faults err.old) (E.faults err.new) }
-    ensures inputs { S.input src.new ≡ S.input src.old }
-    ensures says { Says result (E.taken err.old) (E.taken err.new) }
-    ensures runs { MatchForm (form_in (map string_bytes args.now))
-        (IsRefused result × (src.new ≡ src.old) × (out.new ≡ out.old))
-        (λ file. Runs result (S.faults src.old) (S.faults src.new) (S.input src.old file) (S.rest src.old) (S.rest src.new)
-        (O.taken out.old) (O.taken out.new))
-        (λ file. ListsFrames result (S.input src.old file) (O.taken out.old) (O.taken out.new)) }
+    // No count of faults falls, and a status that names a fault is answered only where one happened.
+    ensures causes { HasCauses result (edge (S.seen src.old) (O.seen out.old) (E.seen err.old))
+        (edge (S.seen src.new) (O.seen out.new) (E.seen err.new)) }
+    ensures inputs { (S.seen src.new).inputs ≡ (S.seen src.old).inputs }
+    // Words of no form change neither the source nor standard output.
+    ensures refuses { MatchForm (form_in (map string_bytes args.now)) ((src.new ≡ src.old) × (out.new ≡ out.old))
+        (λ _. Unit {0}) (λ _. Unit {0}) }
+    // What the work came to, by the form of the words; its line on standard error; and what is answered.
+    ensures ends { Ends (form_in (map string_bytes args.now)) result
+        (edge (S.seen src.old) (O.seen out.old) (E.seen err.old)) (edge (S.seen src.new) (O.seen out.new) (E.seen err.new)) }
     // The headline of `sim`: of each two nodes, and of each priority and dispatch path, the messages that are
-    // printed as dispatched at the one from the other are a front of those that the file posts, in order, each
-    // once; with Done they are all of them. With WriteFault a front of such lines was printed.
+    // printed as dispatched at the one from the other are a prefix of those that the file posts, in order, each
+    // once; with Done they are all of them. With WriteFault a prefix of such lines was printed.
     ensures order { MatchForm (form_in (map string_bytes args.now)) (Unit {0})
-        (λ file. KeepsOrder result (S.input src.old file) (S.rest src.new) (O.taken out.old) (O.taken out.new))
+        (λ _. KeepsOrder result (edge (S.seen src.old) (O.seen out.old) (E.seen err.old))
+        (edge (S.seen src.new) (O.seen out.new) (E.seen err.new)))
         (λ _. Unit {0}) }
 {
     match command_of(args) {
@@ -59,19 +66,21 @@ fn sim<S: Source, O: Sink, E: Sink>(
     out: &mut O,
     err: &mut E,
 ) -> Status
-    ensures causes { HasCauses result (S.faults src.old) (S.faults src.new) (O.faults out.old) (O.faults out.new)
-        (E.faults err.old) (E.faults err.new) }
-    ensures inputs { S.input src.new ≡ S.input src.old }
-    ensures says { Says result (E.taken err.old) (E.taken err.new) }
-    ensures runs { Runs result (S.faults src.old) (S.faults src.new) (S.input src.old file.now) (S.rest src.old) (S.rest src.new)
-        (O.taken out.old) (O.taken out.new) }
-    ensures order { KeepsOrder result (S.input src.old file.now) (S.rest src.new) (O.taken out.old) (O.taken out.new) }
+    ensures causes { HasCauses result (edge (S.seen src.old) (O.seen out.old) (E.seen err.old))
+        (edge (S.seen src.new) (O.seen out.new) (E.seen err.new)) }
+    ensures inputs { (S.seen src.new).inputs ≡ (S.seen src.old).inputs }
+    ensures ends { (work : Status) × SaysStatus work result (E.seen err.old) (E.seen err.new)
+        × RunsFile file.now work (edge (S.seen src.old) (O.seen out.old) (E.seen err.old))
+        (edge (S.seen src.new) (O.seen out.new) (E.seen err.new)) }
+    ensures order { KeepsOrder result (edge (S.seen src.old) (O.seen out.old) (E.seen err.old))
+        (edge (S.seen src.new) (O.seen out.new) (E.seen err.new)) }
 {
     each_key_keeps_its_order();
+    each_post_is_heard_or_left();
     nothing_left_is_all_heard();
     only_peers_are_heard();
-    match answer_file(alloc, src, file) {
-        Ok(answer) => print(&answer, out, err),
+    match prepare_file(alloc, src, file) {
+        Ok(printout) => print(&printout, out, err),
         Err(ReadFault::Failed) => say_fixed(err, Status::ReadFault),
         Err(ReadFault::NoMemory) => say_fixed(err, Status::NoMemory),
     }

@@ -1,5 +1,5 @@
 -- One more piece of the file listed, and the ends of a listing.
-use Rattle.std.proofs.Common.{◌≡◌, ℕ, ◌-◌, ◌<◌, ◌≤◌, List, [], ◌++◌, length, take, drop, Option, Some, None, Result, Ok, Err, refl, sym, ap, ◌∙◌, subst, arith, length-drop, append_assoc, IfSome, false}
+use Rattle.std.proofs.Common.{◌≡◌, ℕ, ◌-◌, ◌<◌, ◌≤◌, List, [], ◌++◌, length, take, drop, Option, Some, None, Result, Ok, Err, refl, sym, ap, ◌∙◌, subst, arith, length-drop, append_assoc, IfSome, false, inr}
 use Rattle.std.proofs.lemmas.List.{append-nil, length-append, nil_from_length, take-append-drop}
 use Rattle.std.specs.Result.{IsErrAnd}
 use Rattle.std.proofs.lemmas.Bool.{false≢true}
@@ -11,7 +11,7 @@ use Rattle.m2_frame.specs.Decoder.{IsSameButRoom, fed}
 use Rattle.m2_frame.specs.Position.{Position}
 use Rattle.m2_frame.specs.Reading.{Item, start, judge}
 use Rattle.m2_frame.specs.Stream.{Splits}
-use Rattle.m2_listing.specs.Listing.{limit, IsAll, IsCutAtLimit, Listed, Lists, ListsPrefix}
+use Rattle.m2_listing.specs.Listing.{limit, IsAll, IsCutAtLimit, Listed, Lists, ListsPrefix, StandsBy}
 use Rattle.m2_listing.specs.Reading.{Fetches}
 use Rattle.m2_listing.specs.SoFar.{SoFar, EndsHere, FedTo, GoesOn}
 use Rattle.m2_listing.specs.declared.listing.Listing.{Listing}
@@ -151,6 +151,16 @@ stands_at_start name old new at = record { begun = at.begun; gives = by_input ne
     by_input : (begun : Option (List ℕ)) → IfSome begun (λ input. IsGivenFrom input new)
     by_input None = tt
     by_input (Some input) = record { prefix = (0, at.given); whole = λ ended. absurd (false≢true (sym at.ended ∙ ended)) }
+
+-- a listing that ended in its file
+pub stands_by : (end : Listing) (name : List ℕ) (old new : SeenSource) → StandsIn name old new → StandsBy end name old new
+stands_by listing.Whole name old new h = h
+stands_by (listing.Bad place f) name old new h = h
+stands_by (listing.Cut place) name old new h = h
+stands_by (listing.TooLong place) name old new h = h
+stands_by listing.ReadFault name old new h = inr h
+stands_by listing.WriteFault name old new h = h
+stands_by listing.NoMemory name old new h = h
 
 -- nothing was read of the file, and nothing was written
 pub Lists-nothing : (src : SeenSource) (out : SeenSink) → ListsPrefix src out out

@@ -1,8 +1,9 @@
 -- What a listing of a file says: which bytes were read, which items they are, which lines were written, and
 -- where and why the file stops being frames.
-use Rattle.std.specs.Prelude.{◌≡◌, ◌≢◌, ℕ, ◌+◌, ◌<◌, ◌≤◌, IsTrue, List, [], length, take}
+use Rattle.std.specs.Prelude.{◌≡◌, ◌≢◌, ℕ, ◌+◌, ◌<◌, ◌≤◌, ◌⊎◌, IsTrue, List, [], length, take}
 use Rattle.m2_edge.specs.Sink.{SeenSink, TakesBytes, TakesPrefix}
-use Rattle.m2_edge.specs.Source.{SeenSource, IsPrefixOf}
+use Rattle.m2_edge.specs.Source.{SeenSource, IsPrefixOf, IsWhereItWas}
+use Rattle.m2_edge.specs.Whole.{StandsIn}
 use Rattle.m2_edge.specs.Faults.{HasRisen}
 use Rattle.m2_frame.specs.Reading.{Item, start, bad, judge}
 use Rattle.m2_frame.specs.Stream.{Splits}
@@ -64,6 +65,11 @@ Lists (listing.TooLong place) src before after =
 Lists listing.ReadFault src before after = ListsPrefix src before after
 Lists listing.WriteFault src before after = ListsPrefix src before after
 Lists listing.NoMemory src before after = ListsPrefix src before after
+
+-- the source stands in the file; where it failed it may stand where it was before
+abbrev pub StandsBy : Listing → List ℕ → SeenSource → SeenSource → Type 0
+StandsBy listing.ReadFault name old new = IsWhereItWas old new ⊎ StandsIn name old new
+StandsBy _ name old new = StandsIn name old new
 
 -- a fault of the source or the sink is answered only where its count rose
 abbrev pub IsFaultCause : Listing → ℕ → ℕ → ℕ → ℕ → Type 0

@@ -1,10 +1,9 @@
 //! The frames of a file, listed.
 
-ghost use Rattle.std.specs.Prelude.{◌≡◌, ℕ, ◌<◌, ◌≤◌, ◌⊎◌, List, [], ◌++◌, IfOk, OnOk};
+ghost use Rattle.std.specs.Prelude.{◌≡◌, ℕ, ◌<◌, ◌≤◌, List, [], ◌++◌, IfOk, OnOk};
 ghost use Rattle.m2_edge.specs.Sink.{SeenSink};
-ghost use Rattle.m2_edge.specs.Source.{GivesItsInput, IsWhereItWas};
-ghost use Rattle.m2_edge.specs.Whole.{StandsIn};
-ghost use Rattle.m2_listing.specs.Listing.{Listed, Lists, IsFaultCause};
+ghost use Rattle.m2_edge.specs.Source.{GivesItsInput};
+ghost use Rattle.m2_listing.specs.Listing.{Listed, Lists, StandsBy, IsFaultCause};
 ghost use Rattle.m2_listing.specs.Passing.{PutsOut, IsPutCause};
 ghost use Rattle.m2_listing.specs.SoFar.{SoFar, GoesOn, IsEndCause, EndsHere, IsFedCause, FedTo};
 
@@ -143,7 +142,7 @@ pub fn list_frames<S: Source, O: Sink>(
     ensures write_causes { (O.seen out.old).faults ≤ (O.seen out.new).faults }
     ensures caused { IsFaultCause result (S.seen src.old).faults (S.seen src.new).faults (O.seen out.old).faults (O.seen out.new).faults }
     ensures inputs { (S.seen src.new).inputs ≡ (S.seen src.old).inputs }
-    ensures stands { IsWhereItWas (S.seen src.old) (S.seen src.new) ⊎ StandsIn name.now (S.seen src.old) (S.seen src.new) }
+    ensures stands { StandsBy result name.now (S.seen src.old) (S.seen src.new) }
     ensures lists { Lists result (S.seen src.new) (O.seen out.old) (O.seen out.new) }
 {
     match src.begin(name) {

@@ -1,8 +1,7 @@
 //! The program `msgr2`: the runtime's parts and the words, handed to the call that does the work.
 #![tactic(auto)]
 
-use m2_cli::{Status, msgr2};
-use m2_edge::{StdSink, StdSource};
+use m2_cli::{Status, run_program};
 use std::io::ErrorKind;
 use std::process::ExitCode;
 use std::{env, io};
@@ -16,14 +15,8 @@ fn main(rt: HostRuntime) -> ExitCode {
         // A word that isn't text is of no form.
         Err(_) => Vec::new(rt.alloc()),
     };
-    let status = msgr2(
-        rt.alloc(),
-        &words,
-        &mut StdSource::new(&rt),
-        &mut StdSink::new(rt.stdout()),
-        &mut StdSink::new(rt.stderr()),
-    );
-    ExitCode::from(status.code())
+    let ended = run_program(rt.alloc(), &rt, &words, rt.stdout(), rt.stderr());
+    ExitCode::from(ended.status.code())
 }
 
 /// The words behind the program's name.

@@ -1,27 +1,38 @@
-use Rattle.m2_cli.proofs.Fronts.{order_printed}
-use Rattle.m2_cli.proofs.Tops.{runs_printed, caused_printed}
+use Rattle.m2_cli.specs.declared.status.Status.TheVariants as status
+use Rattle.m2_cli.specs.Edge.{Edge, edge}
+use Rattle.m2_cli.proofs.Orders.{Laws, order_printed, order_nothing}
+use Rattle.m2_cli.proofs.Says.{said_caused}
+use Rattle.m2_cli.proofs.Tops.{runs_printed, run_caused}
 use Rattle.m2_cli.proofs.top.sim.Goals as goal
 
 pub returns-in-Ok-clause-causes : goal.returns-in-Ok-clause-causes
 returns-in-Ok-clause-causes g c =
-    let answers = c.in-Ok.ensures.answers in
+    let before : Edge = edge (g.S.Source.seen c.args.src.now) (g.O.Sink.seen c.args.out.now) (g.E.Sink.seen c.args.err.now) in
+    let after : Edge = edge (g.S.Source.seen c.prepare_file.new.src) (g.O.Sink.seen c.print.new.out) (g.E.Sink.seen c.print.new.err) in
+    let prints = c.print.ensures.prints in
     record {
       source_never_falls = c.in-Ok.ensures.causes.never_falls;
       out_never_falls = c.print.ensures.out_never_falls;
       err_never_falls = c.print.ensures.err_never_falls;
-      cause =
-          caused_printed c.print.result c.in-Ok.answer.status answers.0 c.in-Ok.answer.report.bytes _ _ _ _ _ _ _ _ c.print.ensures.prints
-          answers.2.status;
+      cause = said_caused prints.0 c.print.result before after
+          (run_caused prints.0 c.args.file.now before after (runs_printed c.in-Ok.printout prints.0 c.args.file.now before after c.in-Ok.ensures.prepares prints.1)) prints.2;
     }
 
-pub returns-in-Ok-clause-runs : goal.returns-in-Ok-clause-runs
-returns-in-Ok-clause-runs g c =
-    let answers = c.in-Ok.ensures.answers in
-    runs_printed c.print.result c.in-Ok.answer.status answers.0 c.in-Ok.answer.report.bytes _ _ _ _ _ _ _ _ _ _ _ c.print.ensures.prints
-    answers.2.status answers.2.report answers.1
+pub returns-in-Ok-clause-ends : goal.returns-in-Ok-clause-ends
+returns-in-Ok-clause-ends g c =
+    let before : Edge = edge (g.S.Source.seen c.args.src.now) (g.O.Sink.seen c.args.out.now) (g.E.Sink.seen c.args.err.now) in
+    let after : Edge = edge (g.S.Source.seen c.prepare_file.new.src) (g.O.Sink.seen c.print.new.out) (g.E.Sink.seen c.print.new.err) in
+    let prints = c.print.ensures.prints in
+    (prints.0, prints.2, runs_printed c.in-Ok.printout prints.0 c.args.file.now before after c.in-Ok.ensures.prepares prints.1)
 
 pub returns-in-Ok-clause-order : goal.returns-in-Ok-clause-order
 returns-in-Ok-clause-order g c =
-    let answers = c.in-Ok.ensures.answers in
-    order_printed c.each_key_keeps_its_order.ensures c.nothing_left_is_all_heard.ensures c.only_peers_are_heard.ensures c.print.result c.in-Ok.answer.status answers.0
-    c.in-Ok.answer.report.bytes _ _ _ _ _ _ _ _ c.print.ensures.prints answers.2.status answers.2.report answers.1 answers.3
+    let before : Edge = edge (g.S.Source.seen c.args.src.now) (g.O.Sink.seen c.args.out.now) (g.E.Sink.seen c.args.err.now) in
+    let after : Edge = edge (g.S.Source.seen c.prepare_file.new.src) (g.O.Sink.seen c.print.new.out) (g.E.Sink.seen c.print.new.err) in
+    let laws : Laws = record {
+      prefixes = c.each_key_keeps_its_order.ensures;
+      all = c.nothing_left_is_all_heard.ensures;
+      counted = c.each_post_is_heard_or_left.ensures;
+      peers = c.only_peers_are_heard.ensures;
+    } in
+    order_printed laws c.in-Ok.printout c.args.file.now c.print.result before after c.in-Ok.ensures.prepares c.print.ensures.prints

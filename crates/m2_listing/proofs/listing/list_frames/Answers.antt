@@ -1,9 +1,14 @@
 use Rattle.std.proofs.Common.{◌∙◌, arith}
-use Rattle.m2_listing.proofs.Pieces.{SoFar-begins, Lists-nothing, stands_at_start}
+use Rattle.m2_listing.proofs.Pieces.{SoFar-begins, Lists-nothing, stands_at_start, stands_by}
 use Rattle.m2_listing.proofs.listing.list_frames.Goals as goal
 
 pub returns-in-Err-clause-lists : goal.returns-in-Err-clause-lists
 returns-in-Err-clause-lists g c = Lists-nothing (g.S.Source.seen c.begin.new.self) (g.O.Sink.seen c.args.out.now)
+
+pub returns-in-Err-list_piece-clause-stands : goal.returns-in-Err-list_piece-clause-stands
+returns-in-Err-list_piece-clause-stands g c =
+    stands_by c.in-Err-list_piece.end c.args.name.now (g.S.Source.seen c.args.src.now) (g.S.Source.seen c.list_piece.new.src)
+    (record { begun = c.list_piece.ensures.begun ∙ c.pieces.invariant.stands.begun; gives = c.list_piece.ensures.known })
 
 pub pieces-init : goal.pieces-init
 pieces-init g c =

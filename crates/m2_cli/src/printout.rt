@@ -3,7 +3,7 @@
 ghost use Rattle.std.specs.Prelude.{◌≡◌, IfOk, OnOk, false, map, []};
 ghost use Rattle.m2_cli.specs.declared.status.Status.TheVariants as statuses;
 ghost use Rattle.m2_cli.specs.Verdict.{status_in, report_in, status_by_count};
-ghost use Rattle.m2_cli.specs.Answer.{IsAnswer, IsSoundIn, AnswersFile};
+ghost use Rattle.m2_cli.specs.Printout.{IsPrintout, IsSoundIn, PreparesFile};
 ghost use Rattle.m2_edge.specs.Whole.{HasReadCause};
 ghost use Rattle.m2_scenario.specs.Draft.{draft_line};
 ghost use Rattle.m2_report.specs.Report.{report_of};
@@ -23,45 +23,45 @@ use std::alloc::Global;
 
 /// How a scenario ends, its report, and the line that standard error is to get.
 #[derive(Drop)]
-pub(crate) struct Answer {
+pub(crate) struct Printout {
     pub status: Status,
     pub report: Blob,
     pub line: Blob,
 }
 
 /// Reads the file to its end or to the byte past the limit, and runs it.
-pub(crate) fn answer_file<S: Source>(
+pub(crate) fn prepare_file<S: Source>(
     alloc: Global,
     src: &mut S,
     file: &str,
-) -> Result<Answer, ReadFault>
-    ensures causes { HasReadCause result (S.faults src.old) (S.faults src.new) }
-    ensures inputs { S.input src.new ≡ S.input src.old }
-    ensures answers { AnswersFile result (S.input src.old file.now) (S.rest src.old) (S.rest src.new) }
+) -> Result<Printout, ReadFault>
+    ensures causes { HasReadCause result (S.seen src.old).faults (S.seen src.new).faults }
+    ensures inputs { (S.seen src.new).inputs ≡ (S.seen src.old).inputs }
+    ensures prepares { PreparesFile result file.now (S.seen src.old) (S.seen src.new) }
 {
     let bytes = read_whole(alloc, src, file, MOST_BYTES + 1)?;
-    let answer = answer_bytes(alloc, bytes.as_slice())?;
-    Ok(answer)
+    let printout = prepare_bytes(alloc, bytes.as_slice())?;
+    Ok(printout)
 }
 
 /// Runs the scenario that the bytes spell.
-fn answer_bytes(alloc: Global, bytes: &[u8]) -> Result<Answer, NoMemory>
-    ensures answer { IfOk result (λ a. IsAnswer a (status_in bytes.now) (report_in bytes.now)) }
+fn prepare_bytes(alloc: Global, bytes: &[u8]) -> Result<Printout, NoMemory>
+    ensures printout { IfOk result (λ p. IsPrintout p (status_in bytes.now) (report_in bytes.now)) }
     ensures sound { OnOk result (IsSoundIn bytes.now) }
 {
     match read(alloc, bytes, false) {
         Ok(scenario) => match first_outside(bytes) {
             Some(line) => refuse(alloc, line, NOT_RUN),
-            None => answer_scenario(alloc, scenario),
+            None => prepare_scenario(alloc, scenario),
         },
         Err(BadScenario::BadLine { line, kind }) => refuse(alloc, line, kind.number()),
         Err(BadScenario::NoMemory) => Err(NoMemory),
     }
 }
 
-/// The answer to a bad line.
-fn refuse(alloc: Global, line: u32, kind: u8) -> Result<Answer, NoMemory>
-    ensures { IfOk result (λ a. IsAnswer a (statuses.BadScenario line kind) []) }
+/// The printout for a bad line.
+fn refuse(alloc: Global, line: u32, kind: u8) -> Result<Printout, NoMemory>
+    ensures { IfOk result (λ p. IsPrintout p (statuses.BadScenario line kind) []) }
 {
     with_line(
         alloc,
@@ -71,10 +71,10 @@ fn refuse(alloc: Global, line: u32, kind: u8) -> Result<Answer, NoMemory>
 }
 
 /// Runs a scenario over links of its own.
-fn answer_scenario(alloc: Global, scenario: Scenario) -> Result<Answer, NoMemory>
+fn prepare_scenario(alloc: Global, scenario: Scenario) -> Result<Printout, NoMemory>
     requires { IsValid scenario }
-    ensures { IfOk result (λ a. let n = net_after scenario.nodes.items scenario.links.items (map draft_line scenario.lines.items) in
-        IsAnswer a (status_by_count (left n)) (report_of false scenario.nodes.items n.heard)) }
+    ensures { IfOk result (λ p. let n = net_after scenario.nodes.items scenario.links.items (map draft_line scenario.lines.items) in
+        IsPrintout p (status_by_count (left n)) (report_of false scenario.nodes.items n.heard)) }
 {
     let Scenario {
         nodes,
@@ -104,12 +104,12 @@ fn status_by_count(count: u64) -> Status
     }
 }
 
-/// The answer with the status's line.
-fn with_line(alloc: Global, status: Status, report: Blob) -> Result<Answer, NoMemory>
-    ensures { IfOk result (λ a. IsAnswer a status report.bytes) }
+/// The printout with the status's line.
+fn with_line(alloc: Global, status: Status, report: Blob) -> Result<Printout, NoMemory>
+    ensures { IfOk result (λ p. IsPrintout p status report.bytes) }
 {
     let line = line(alloc, &status)?;
-    Ok(Answer {
+    Ok(Printout {
         status,
         report,
         line,

@@ -1,10 +1,10 @@
-//! What no clause says: that calls succeed with ample memory, and the adapters over real files.
+//! The edge: that calls succeed with ample memory, and the adapters over real files.
 
-use crate::{
+use m2_bytes::{Blob, Items};
+use m2_edge::{
     CallList, Failed, Input, InputList, MemSink, MemSource, ReadFault, Sink, StdSink, StdSource,
     read_whole, write_whole,
 };
-use m2_bytes::{Blob, Items};
 use std::alloc::Global;
 use std::fs;
 use std::test::Fail;
@@ -28,14 +28,14 @@ fn inputs(alloc: Global, named: &[(&str, &str)]) -> Result<InputList, Fail> {
 }
 
 #[test]
-fn the_first_input_of_a_name_is_read_to_its_end_or_the_limit(rt: HostRuntime) -> Result<(), Fail> {
+fn two_inputs_are_read_one_after_the_other(rt: HostRuntime) -> Result<(), Fail> {
     let alloc = rt.alloc();
     let list = inputs(alloc, &[("a", "other"), ("b", "first"), ("b", "second")])?;
     let mut source = MemSource::new(list, calls(alloc, &[])?);
     let whole = read_whole(alloc, &mut source, "b", 100)?;
     assert_eq!(rt; whole.as_slice(), b"first".as_slice());
-    let front = read_whole(alloc, &mut source, "a", 2)?;
-    assert_eq!(rt; front.as_slice(), b"ot".as_slice());
+    let beginning = read_whole(alloc, &mut source, "a", 2)?;
+    assert_eq!(rt; beginning.as_slice(), b"ot".as_slice());
     Ok(())
 }
 
@@ -63,17 +63,39 @@ fn a_sink_in_memory_keeps_what_it_took(rt: HostRuntime) -> Result<(), Fail> {
 }
 
 #[test]
-fn a_file_is_read_as_it_was_written(rt: HostRuntime) -> Result<(), Fail> {
+fn a_flush_that_fails_keeps_what_was_taken(rt: HostRuntime) -> Result<(), Fail> {
     let alloc = rt.alloc();
-    let path = "m2_edge_adapters.tmp";
-    let mut sink = StdSink::new(fs::create(&rt, path)?);
-    assert_eq!(rt; write_whole(&mut sink, b"one line\n"), Ok(()));
+    let mut sink = MemSink::new(alloc, calls(alloc, &[2])?);
+    assert_eq!(rt; write_whole(&mut sink, b"kept"), Ok(()));
+    assert_eq!(rt; sink.flush(), Err(Failed));
+    assert_eq!(rt; sink.bytes(), b"kept".as_slice());
     assert_eq!(rt; sink.flush(), Ok(()));
+    Ok(())
+}
+
+/// Writes a file of this text.
+fn write_file(rt: &HostRuntime, path: &str, text: &[u8]) -> Result<(), Fail> {
+    let mut sink = StdSink::new(fs::create(rt, path)?);
+    assert_eq!(rt; write_whole(&mut sink, text), Ok(()));
+    assert_eq!(rt; sink.flush(), Ok(()));
+    Ok(())
+}
+
+#[test]
+fn two_files_are_read_one_after_the_other(rt: HostRuntime) -> Result<(), Fail> {
+    let alloc = rt.alloc();
+    let one = "m2_edge_tests_one.tmp";
+    let two = "m2_edge_tests_two.tmp";
+    write_file(&rt, one, b"one line\n")?;
+    write_file(&rt, two, b"another\n")?;
     let mut source = StdSource::new(&rt);
-    let whole = read_whole(alloc, &mut source, path, 100)?;
-    assert_eq!(rt; whole.as_slice(), b"one line\n".as_slice());
-    fs::remove_file(&rt, path)?;
-    let missing = read_whole(alloc, &mut source, path, 100);
+    let first = read_whole(alloc, &mut source, one, 100)?;
+    assert_eq!(rt; first.as_slice(), b"one line\n".as_slice());
+    let second = read_whole(alloc, &mut source, two, 100)?;
+    assert_eq!(rt; second.as_slice(), b"another\n".as_slice());
+    fs::remove_file(&rt, one)?;
+    fs::remove_file(&rt, two)?;
+    let missing = read_whole(alloc, &mut source, one, 100);
     assert_eq!(rt; missing.err(), Some(ReadFault::Failed));
     assert_eq!(rt; source.faults(), 1);
     Ok(())

@@ -1,7 +1,7 @@
 //! Scenarios from the manual, and what no clause says: that calls succeed with ample memory.
 
-use crate::{Status, msgr2};
 use m2_bytes::{Blob, Items};
+use m2_cli::{Status, msgr2};
 use m2_edge::{CallList, Input, InputList, MemSink, MemSource};
 use std::alloc::Global;
 use std::process::Abort;
@@ -196,6 +196,25 @@ fn a_failed_read_and_a_failed_write_are_answered(rt: HostRuntime) -> Result<(), 
     let bytes = Blob::of(alloc, &WAIT)?;
     let write = run_on(alloc, &["frames", "f"], bytes, &[], &[1])?;
     expect(&rt, write, Status::WriteFault, b"", b"write fault\n");
+    Ok(())
+}
+
+#[test]
+fn a_failed_flush_is_a_write_fault_though_all_was_taken(rt: HostRuntime) -> Result<(), Fail> {
+    let alloc = rt.alloc();
+    let steps = "post a b 7 127 616263 - -\nsettle 12\n";
+    let run = run_over(alloc, &["sim", "f"], &[PAIR, steps], &[], &[2])?;
+    let line = b"b from a 127 queued 7 616263 - -\n";
+    expect(&rt, run, Status::WriteFault, line, b"write fault\n");
+    let bytes = Blob::of(alloc, &WAIT)?;
+    let listed = run_on(alloc, &["frames", "f"], bytes, &[], &[2])?;
+    expect(
+        &rt,
+        listed,
+        Status::WriteFault,
+        b"WAIT 0\n",
+        b"write fault\n",
+    );
     Ok(())
 }
 

@@ -1,0 +1,32 @@
+-- What is to be printed, made before anything is written.
+use Rattle.std.specs.Prelude.{◌≡◌, ℕ, List, Result, Ok, Err}
+use Rattle.m2_edge.specs.Source.{SeenSource}
+use Rattle.m2_edge.specs.declared.whole.ReadFault.{ReadFault}
+use Rattle.m2_cli.specs.declared.printout.Printout.{Printout}
+use Rattle.m2_cli.specs.declared.status.Status.{Status}
+use Rattle.m2_cli.specs.Edge.{IsReadWhole, StandsSomewhere}
+use Rattle.m2_cli.specs.Status.{line_of}
+use Rattle.m2_cli.specs.Verdict.{status_in, report_in, scenario_in}
+use Rattle.m2_scenario.specs.Draft.{Draft}
+use Rattle.m2_scenario.specs.Valid.{IsSound}
+
+-- a printout of this status and report, with the status's line
+pub record IsPrintout (p : Printout) (s : Status) (text : List ℕ) : Type 0 where
+  pub status : p.status ≡ s
+  pub report : p.report.bytes ≡ text
+  pub line : p.line.bytes ≡ line_of p.status
+
+-- what the bytes make, if they make a scenario, is a valid one
+abbrev pub IsSoundIn : List ℕ → Type 0
+IsSoundIn bytes = (d : Draft) → scenario_in bytes ≡ Ok d → IsSound d.nodes d.links d.lines
+
+-- the printout of all that the source gave of a file
+pub record IsPrintoutOf (p : Printout) (file : List ℕ) (old new : SeenSource) : Type 0 where
+  pub read : IsReadWhole file old new
+  pub printout : IsPrintout p (status_in new.given) (report_in new.given)
+  pub sound : IsSoundIn new.given
+
+-- The printout of a file. Err: the file was read in part, or not at all.
+abbrev pub PreparesFile : Result Printout ReadFault → List ℕ → SeenSource → SeenSource → Type 0
+PreparesFile (Ok p) file old new = IsPrintoutOf p file old new
+PreparesFile (Err _) file old new = StandsSomewhere file old new

@@ -1,0 +1,22 @@
+-- What the program leaves, which begins with a source and sinks that nothing went through.
+use Rattle.std.specs.Prelude.{◌≡◌, List, ℕ, Option}
+use Rattle.m2_edge.specs.Sink.{SeenSink}
+use Rattle.m2_edge.specs.Source.{SeenSource}
+use Rattle.m2_edge.specs.Whole.{IsReadUpTo}
+use Rattle.m2_cli.specs.declared.status.Status.{Status}
+use Rattle.m2_cli.specs.declared.status.Status.TheVariants.{Done}
+use Rattle.m2_cli.specs.Edge.{read_limit}
+use Rattle.m2_cli.specs.Verdict.{status_in, report_in}
+use Rattle.m2_cli.specs.Words.{Form, MatchForm}
+
+-- standard output took exactly the report of all that the file gave, and passed it on
+pub record PrintsTheReport (source : SeenSource) (out : SeenSink) : Type 0 where
+  pub whole : IsReadUpTo read_limit source.given source
+  pub done : status_in source.given ≡ Done
+  pub printed : out.taken ≡ report_in source.given
+  pub flushed : out.flushed ≡ report_in source.given
+
+-- the program's promise: with Done, `sim FILE` printed exactly the report of what the file gave
+abbrev pub PrintsWhereDone : Option Form → Status → SeenSource → SeenSink → Type 0
+PrintsWhereDone form status source out =
+    MatchForm form (Unit {0}) (λ _. status ≡ Done → PrintsTheReport source out) (λ _. Unit {0})
