@@ -50,7 +50,7 @@ impl Decoder {
     ghost use Rattle.m2_frame.specs.Decoder.{Answers, IsAtFront, IsAtStart, IsSameButRoom, Passes, fed, owed, passed};
     ghost use Rattle.m2_frame.specs.Frame.{Parts};
     ghost use Rattle.m2_frame.specs.Judging.{IsWholeText};
-    ghost use Rattle.m2_frame.specs.Reading.{whole};
+    ghost use Rattle.m2_frame.specs.Reading.{whole, start, judge};
     ghost use Rattle.m2_frame.specs.View.{parts_seen};
 
     /// A decoder at the start of a stream. Takes no memory.
@@ -124,6 +124,17 @@ impl Decoder {
     {
         matches!(
             self.finding,
+            Finding::Nothing | Finding::Sized(_) | Finding::Sealed(_)
+        )
+    }
+
+    /// Whether what is left is the start of a frame, or nothing, whatever size is owed.
+    pub fn starts(&self) -> bool
+        ensures { IsTrue result ↔ (judge self.now.rest ≡ start) }
+    {
+        let rest = self.buffer.as_slice();
+        matches!(
+            find_on(self.finding, true, rest),
             Finding::Nothing | Finding::Sized(_) | Finding::Sealed(_)
         )
     }

@@ -1,11 +1,13 @@
--- What bytes are as a banner is one thing, and stays so as more comes.
-use Rattle.std.proofs.Common.{◌≡◌, ℕ, ◌+◌, ◌<◌, ◌≤◌, ◌⊎◌, inl, inr, List, [], ◌∷◌, ◌++◌, length, take, drop, slice_index, refl, sym, ap, ◌∙◌, subst, arith, length-append, length-drop}
+-- What bytes are as a banner is one thing, which is computed, and stays so as more comes.
+use Rattle.std.proofs.Common.{◌≡◌, ◌≢◌, ℕ, ◌+◌, ◌<◌, ◌≤◌, ◌⊎◌, inl, inr, List, [], ◌∷◌, ◌++◌, length, take, drop, slice_index, refl, sym, ap, ◌∙◌, subst, arith, length-append, length-drop}
 use Rattle.std.proofs.lemmas.List.{get_or_append_left, take-append-le, drop-append-le}
 use Rattle.std.specs.Int.{w16, w64, from_le_bytes}
 use Rattle.m2_control.specs.declared.banner.Banner.{Banner}
 use Rattle.m2_control.specs.declared.banner.BannerStep.{BannerStep}
 use Rattle.m2_control.specs.declared.banner.BannerStep.TheVariants.{Got, NotYet, BadBanner}
-use Rattle.m2_control.specs.Banner.{Agrees, Differs, IsAllowed, IsStep, payload_length}
+use Rattle.m2_control.specs.declared.banner.TheConstants.{LEAST_BANNER, MOST_BANNER}
+use Rattle.m2_control.specs.Banner.{Agrees, Differs, IsAllowed, IsStep, payload_length, banner_in}
+use Rattle.m2_control.proofs.BannerGraph.{is_a_function}
 
 index_stays : (bytes more : List ℕ) (i : ℕ) → i < length bytes → slice_index (bytes ++ more) i ≡ slice_index bytes i
 index_stays bytes more i h = get_or_append_left bytes more 0 i h
@@ -45,40 +47,18 @@ got_stays banner used bytes more h =
 
 pub bad_stays : (bytes more : List ℕ) → IsStep BadBanner bytes → IsStep BadBanner (bytes ++ more)
 bad_stays bytes more (inl d) = inl (differs_stays bytes more d)
-bad_stays bytes more (inr h) = inr (omega (arith, h.0, length-append bytes more), subst (λ n. (n < 16) ⊎ (4096 < n)) (sym (length_stays bytes more h.0)) h.1)
+bad_stays bytes more (inr h) = inr (omega (arith, h.0, length-append bytes more), subst (λ n. (n < LEAST_BANNER) ⊎ (MOST_BANNER < n)) (sym (length_stays bytes more h.0)) h.1)
 
--- ---- one step
+-- ---- as a function
 
-not_both : (bytes : List ℕ) → Agrees bytes → Differs bytes → ⊥
-not_both bytes a d = d.3 (a d.0 d.1 d.2)
+pub is_step : (bytes : List ℕ) → IsStep (banner_in bytes) bytes
+is_step bytes = (is_a_function (banner_in bytes) bytes).1 refl
 
-not_bad : (bytes : List ℕ) → IsAllowed (payload_length bytes) → ((payload_length bytes < 16) ⊎ (4096 < payload_length bytes)) → ⊥
-not_bad bytes a (inl h) = omega (arith, a.0, h)
-not_bad bytes a (inr h) = omega (arith, a.1, h)
+-- what bytes are as a banner is what is computed
+pub step_is : (b : BannerStep) (bytes : List ℕ) → IsStep b bytes → banner_in bytes ≡ b
+step_is b bytes h = sym ((is_a_function b bytes).0 h)
 
-got_waits : (banner : Banner) (used : ℕ) (bytes : List ℕ) → IsStep (Got banner used) bytes → IsStep NotYet bytes → ⊥
-got_waits banner used bytes h (a, inl n) = omega (arith, h.1.0, h.2, h.3, n)
-got_waits banner used bytes h (a, inr n) = omega (arith, h.2, h.3, n.1)
-
-got_bad : (banner : Banner) (used : ℕ) (bytes : List ℕ) → IsStep (Got banner used) bytes → IsStep BadBanner bytes → ⊥
-got_bad banner used bytes h (inl d) = not_both bytes h.0 d
-got_bad banner used bytes h (inr n) = not_bad bytes h.1 n.1
-
-waits_bad : (bytes : List ℕ) → IsStep NotYet bytes → IsStep BadBanner bytes → ⊥
-waits_bad bytes h (inl d) = not_both bytes h.0 d
-waits_bad bytes (a, inl n) (inr m) = omega (arith, n, m.0)
-waits_bad bytes (a, inr n) (inr m) = not_bad bytes n.0 m.1
-
-same_got : (a b : Banner) (n m : ℕ) → a.supported ≡ b.supported → a.required ≡ b.required → n ≡ m → Got a n ≡ Got b m
-same_got a b n m s r e = ap (λ x. Got (record { supported = x; required = a.required }) n) s ∙ ap (λ x. Got (record { supported = b.supported; required = x }) n) r ∙ ap (Got b) e
-
-pub one_step : (x y : BannerStep) (bytes : List ℕ) → IsStep x bytes → IsStep y bytes → x ≡ y
-one_step (Got a n) (Got b m) bytes h k = same_got a b n m (h.4 ∙ sym k.4) (h.5 ∙ sym k.5) (h.2 ∙ sym k.2)
-one_step (Got a n) NotYet bytes h k = absurd (got_waits a n bytes h k)
-one_step (Got a n) BadBanner bytes h k = absurd (got_bad a n bytes h k)
-one_step NotYet (Got b m) bytes h k = absurd (got_waits b m bytes k h)
-one_step NotYet NotYet bytes h k = refl
-one_step NotYet BadBanner bytes h k = absurd (waits_bad bytes h k)
-one_step BadBanner (Got b m) bytes h k = absurd (got_bad b m bytes k h)
-one_step BadBanner NotYet bytes h k = absurd (waits_bad bytes k h)
-one_step BadBanner BadBanner bytes h k = refl
+pub banner_stays : (b : BannerStep) (bytes more : List ℕ) → banner_in bytes ≡ b → b ≢ NotYet → banner_in (bytes ++ more) ≡ b
+banner_stays (Got banner used) bytes more e n = step_is (Got banner used) (bytes ++ more) (got_stays banner used bytes more (subst (λ b. IsStep b bytes) e (is_step bytes)))
+banner_stays NotYet bytes more e n = absurd (n refl)
+banner_stays BadBanner bytes more e n = step_is BadBanner (bytes ++ more) (bad_stays bytes more (subst (λ b. IsStep b bytes) e (is_step bytes)))

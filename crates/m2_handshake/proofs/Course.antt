@@ -1,125 +1,127 @@
 -- A half has one course, by what it was fed and by the replies that it was given.
-use Rattle.std.proofs.Common.{◌≡◌, ◌≢◌, ℕ, ◌⊎◌, inl, inr, Bool, true, false, List, [], ◌∷◌, ◌++◌, refl, sym, ap, ◌∙◌, subst, append-nil}
+use Rattle.std.proofs.Common.{◌≡◌, ◌≢◌, ℕ, zero, suc, ◌+◌, ◌≤◌, ◌⊎◌, inl, inr, true, false, List, [], ◌∷◌, ◌++◌, length, refl, sym, ap, ◌∙◌, subst, arith}
+use Rattle.std.proofs.lemmas.Bool.{true≢false}
 use Rattle.m2_control.specs.declared.control.Control.{Control}
+use Rattle.m2_control.specs.declared.control.Control.TheVariants as control
 use Rattle.m2_handshake.specs.declared.fault.HalfFault.{HalfFault}
-use Rattle.m2_handshake.specs.declared.stage.Side.{Side}
-use Rattle.m2_handshake.specs.declared.stage.Side.TheVariants.{Opener, Acceptor}
-use Rattle.m2_handshake.specs.declared.stage.Stage.TheVariants.{Asked}
-use Rattle.m2_handshake.specs.Asking.{is_authed, after_reply}
-use Rattle.m2_handshake.specs.Course.{grown, ungranted, SignedMoves, MovesOnOnce, MovesOn, Event, silent, wrote, asked, replied, Goes, Runs, IsReplied, IsRested, replies_of}
-use Rattle.m2_handshake.specs.Laws.{later, GoesOnTo, HasOneCourse}
-use Rattle.m2_handshake.specs.Moves.{Move, stays, quiet, writes, signs, asks, fails, ask_move_at}
-use Rattle.m2_handshake.specs.Standing.{Standing}
-use Rattle.m2_handshake.proofs.Settling.{settled, settle, settle_asked}
-use Rattle.m2_handshake.proofs.Staying.{stay, stay_asked, one, one_asked}
+use Rattle.m2_handshake.specs.declared.stage.HalfSide.TheVariants.{Opener}
+use Rattle.m2_handshake.specs.declared.stage.Stage.{Stage}
+use Rattle.m2_handshake.specs.declared.stage.Stage.TheVariants.{Opening, Banner, Waits, Authed, Asked, Ended, Faulty}
+use Rattle.m2_handshake.specs.Course.{signed_move, course_move_at, course_move, Event, silent, wrote, asked, failed, replied, Step, rests, goes, step_by, step_of, answered, Goes, Runs, IsRested, replies_of, stops, on, reply_at, next_by, next_of, behind, course_by, course_of, steps_left, stages_left}
+use Rattle.m2_handshake.specs.Laws.{later, RestsThere, GoesOnTo, GoesOneWay}
+use Rattle.m2_handshake.specs.Moves.{Move, stays, quiet, writes, signs, asks, fails, read_held, refuse_held, is_authed}
+use Rattle.m2_handshake.specs.Standing.{Standing, grown, fed, fed_at}
+use Rattle.m2_handshake.proofs.Leading.{is_faulty, Leads, leads, tells}
+use Rattle.m2_handshake.proofs.Staying.{stay_on}
 
--- ---- the next move
+pub rests_isnt_goes : (e : Event) (b : Standing) → rests ≢ goes e b
+rests_isnt_goes e b q = cc
 
-one_signed : (side : Side) (s : Standing) (m other : Move) → SignedMoves side s m → SignedMoves side s other → m ≡ other
-one_signed Opener s m other a b = a ∙ sym b
-one_signed Acceptor s m other a b = one_asked s m other a b
+pub same_step : (d e : Event) (b c : Standing) → goes d b ≡ goes e c → (d ≡ e) × (b ≡ c)
+same_step d e b c q = (cc, cc)
 
-one_once : (b : Bool) (s : Standing) (m other : Move) → MovesOnOnce b s m → MovesOnOnce b s other → m ≡ other
-one_once false s m other a b = one s m other a b
-one_once true s m other a b = one_signed s.side s m other a b
+-- ---- where it rests
 
-pub one_on : (s : Standing) (m other : Move) → MovesOn s m → MovesOn s other → m ≡ other
-one_on s m other a b = one_once (is_authed s.stage) s m other a b
+pub waiting : (s : Standing) → course_move s ≡ stays → IsRested s
+waiting s h = ap (λ m. step_by m s) h
 
-stay_signed : (side : Side) (s : Standing) (m : Move) (more : List ℕ) → SignedMoves side s m → m ≢ stays → SignedMoves side (grown more s) (later more m)
-stay_signed Opener s m more e n = absurd (n e)
-stay_signed Acceptor s m more h n = stay_asked s m more h n
+pub owing : (s : Standing) → s.stage ≡ Asked → IsRested s
+owing s e = waiting s (ap (λ stage. course_move_at stage s) e)
 
-stay_once : (b : Bool) (s : Standing) (m : Move) (more : List ℕ) → MovesOnOnce b s m → m ≢ stays → MovesOnOnce b (grown more s) (later more m)
-stay_once false s m more h n = stay s m more h n
-stay_once true s m more h n = stay_signed s.side s m more h n
+pub ended : (f : HalfFault) (s : Standing) → s.stage ≡ Faulty f → IsRested s
+ended f s e = waiting s (ap (λ stage. course_move_at stage s) e)
 
-pub stay_on : (s : Standing) (m : Move) (more : List ℕ) → MovesOn s m → m ≢ stays → MovesOn (grown more s) (later more m)
-stay_on s m more h n = stay_once (is_authed s.stage) s m more h n
+signed_at : (stage : Stage) (s : Standing) → s.side ≡ Opener → is_authed stage ≡ true → course_move_at stage s ≡ stays
+signed_at Opening s o q = absurd (true≢false (sym q))
+signed_at Banner s o q = absurd (true≢false (sym q))
+signed_at (Waits awaited) s o q = absurd (true≢false (sym q))
+signed_at Authed s o q = ap (λ side. signed_move side (read_held s s.held)) o
+signed_at Asked s o q = refl
+signed_at Ended s o q = ap (λ side. signed_move side (refuse_held s s.held)) o
+signed_at (Faulty f) s o q = absurd (true≢false (sym q))
 
-settle_signed : (side : Side) (s : Standing) (m : Move) → SignedMoves side s m → SignedMoves side (ungranted s) (settled m)
-settle_signed Opener s m e = ap settled e
-settle_signed Acceptor s m h = settle_asked s m h
+signed : (s : Standing) → s.side ≡ Opener → is_authed s.stage ≡ true → IsRested s
+signed s o q = waiting s (signed_at s.stage s o q)
 
-settle_once : (b : Bool) (s : Standing) (m : Move) → MovesOnOnce b s m → MovesOnOnce b (ungranted s) (settled m)
-settle_once false s m h = settle s m h
-settle_once true s m h = settle_signed s.side s m h
+pub rests_there : RestsThere
+rests_there = record { waiting = waiting; owing = owing; failed = ended; signed = signed }
 
-pub settle_on : (s : Standing) (m : Move) → MovesOn s m → MovesOn (ungranted s) (settled m)
-settle_on s m h = settle_once (is_authed s.stage) s m h
+-- ---- one step, as more is fed
 
--- while a reply is owed there is none
-signed_waits : (side : Side) (s : Standing) (m : Move) → s.stage ≡ Asked → SignedMoves side s m → m ≡ stays
-signed_waits Opener s m e h = h
-signed_waits Acceptor s m e h = h ∙ ap (λ stage. ask_move_at stage s) e
+abbrev pub fed_step : List ℕ → Step → Step
+fed_step more rests = rests
+fed_step more (goes e b) = goes e (fed b more)
 
-asked_waits : (s : Standing) (m : Move) → s.stage ≡ Asked → MovesOn s m → m ≡ stays
-asked_waits s m e h = signed_waits s.side s m e (subst (λ b. MovesOnOnce b s m) (ap is_authed e) h)
+grows_at : (stage : Stage) (s : Standing) (more : List ℕ) → is_faulty stage ≡ false → fed_at stage s more ≡ grown more s
+grows_at Opening s more l = refl
+grows_at Banner s more l = refl
+grows_at (Waits awaited) s more l = refl
+grows_at Authed s more l = refl
+grows_at Asked s more l = refl
+grows_at Ended s more l = refl
+grows_at (Faulty f) s more l = absurd (true≢false l)
 
--- ---- steps
+pub grows : (s : Standing) (more : List ℕ) → is_faulty s.stage ≡ false → fed s more ≡ grown more s
+grows s more l = grows_at s.stage s more l
 
--- a move that goes on, what it does and where it leads
-abbrev pub IsOn : Move → Type 0
-IsOn stays = ⊥
-IsOn (fails f) = ⊥
-IsOn _ = Unit {0}
+alive_at : (stage : Stage) (s : Standing) → course_move_at stage s ≢ stays → is_faulty stage ≡ false
+alive_at Opening s n = refl
+alive_at Banner s n = refl
+alive_at (Waits awaited) s n = refl
+alive_at Authed s n = refl
+alive_at Asked s n = refl
+alive_at Ended s n = refl
+alive_at (Faulty f) s n = absurd (n refl)
 
-abbrev event_of : Move → Event
-event_of (writes words s) = wrote words
-event_of (asks ask s) = asked ask
-event_of _ = silent
+moves_later : (a : Standing) (more : List ℕ) (m : Move) → course_move a ≡ m → m ≢ stays → step_of (fed a more) ≡ step_by (later more m) (grown more a)
+moves_later a more m e n =
+    let k : course_move a ≢ stays = λ q. n (sym e ∙ q) in
+    ap step_of (grows a more (alive_at a.stage a k)) ∙ ap (λ x. step_by x (grown more a)) (stay_on a more k ∙ ap (later more) e)
 
-abbrev end_of : Standing → Move → Standing
-end_of a stays = a
-end_of a (quiet s) = s
-end_of a (writes words s) = s
-end_of a (signs s) = s
-end_of a (asks ask s) = s
-end_of a (fails f) = a
+step_fed : (a : Standing) (more : List ℕ) (m : Move) → course_move a ≡ m → Leads a m → m ≢ stays → step_of (fed a more) ≡ fed_step more (step_by m a)
+step_fed a more stays e l n = absurd (n refl)
+step_fed a more (quiet b) e l n = moves_later a more (quiet b) e n ∙ ap (goes silent) (sym (grows b more l.0.alive))
+step_fed a more (writes words b) e l n = moves_later a more (writes words b) e n ∙ ap (goes (wrote words)) (sym (grows b more l.0.alive))
+step_fed a more (signs b) e l n = moves_later a more (signs b) e n ∙ ap (goes silent) (sym (grows b more l.0.alive))
+step_fed a more (asks ask b) e l n = moves_later a more (asks ask b) e n ∙ ap (goes (asked ask)) (sym (grows b more l.0.alive))
+step_fed a more (fails f) e l n = moves_later a more (fails f) e n
 
-record Moved (a : Standing) (d : Event) (b : Standing) : Type 0 where
-  by : Move
-  moves : MovesOn a by
-  on : IsOn by
-  does : event_of by ≡ d
-  leads : end_of a by ≡ b
+pub moves_on : (a b : Standing) (e : Event) → step_of a ≡ goes e b → course_move a ≢ stays
+moves_on a b e h q = rests_isnt_goes e b (sym (waiting a q) ∙ h)
 
-moved : (d : Event) (a b : Standing) → (IsReplied d → ⊥) → Goes a d b → Moved a d b
-moved silent a b n (inl h) = record { by = quiet b; moves = h; on = tt; does = refl; leads = refl }
-moved silent a b n (inr h) = record { by = signs b; moves = h; on = tt; does = refl; leads = refl }
-moved (wrote words) a b n h = record { by = writes words b; moves = h; on = tt; does = refl; leads = refl }
-moved (asked ask) a b n h = record { by = asks ask b; moves = h; on = tt; does = refl; leads = refl }
-moved (replied c) a b n h = absurd (n tt)
+own_later : (a b : Standing) (e : Event) (more : List ℕ) → step_of a ≡ goes e b → step_of (fed a more) ≡ goes e (fed b more)
+own_later a b e more h = step_fed a more (course_move a) refl (leads a) (moves_on a b e h) ∙ ap (fed_step more) h
 
-pub isnt_stays : (m : Move) → IsOn m → m ≢ stays
-isnt_stays m h e = subst IsOn e h
+answered_later : (c : Control) (a : Standing) (more : List ℕ) → fed (answered c a) more ≡ answered c (grown more a)
+answered_later (control.IdentMissingFeatures p) a more = refl
+answered_later (control.Wait p) a more = refl
+answered_later c a more = refl
 
-isnt_fails : (m : Move) (f : HalfFault) → IsOn m → m ≢ fails f
-isnt_fails m f h e = subst IsOn e h
-
-goes_later : (d : Event) (a b : Standing) (more : List ℕ) → Goes a d b → Goes (grown more a) d (grown more b)
-goes_later silent a b more (inl h) = inl (stay_on a (quiet b) more h (isnt_stays (quiet b) tt))
-goes_later silent a b more (inr h) = inr (stay_on a (signs b) more h (isnt_stays (signs b) tt))
-goes_later (wrote words) a b more h = stay_on a (writes words b) more h (isnt_stays (writes words b) tt)
-goes_later (asked ask) a b more h = stay_on a (asks ask b) more h (isnt_stays (asks ask b) tt)
-goes_later (replied c) a b more h = (h.0, h.1, ap (grown more) h.2)
-
-pub goes_settled : (d : Event) (a b : Standing) → Goes a d b → Goes (ungranted a) d (ungranted b)
-goes_settled silent a b (inl h) = inl (settle_on a (quiet b) h)
-goes_settled silent a b (inr h) = inr (settle_on a (signs b) h)
-goes_settled (wrote words) a b h = settle_on a (writes words b) h
-goes_settled (asked ask) a b h = settle_on a (asks ask b) h
-goes_settled (replied c) a b h = (h.0, h.1, ap ungranted h.2)
+goes_later : (e : Event) (a b : Standing) (more : List ℕ) → Goes a e b → Goes (fed a more) e (fed b more)
+goes_later silent a b more h = own_later a b silent more h
+goes_later (wrote words) a b more h = own_later a b (wrote words) more h
+goes_later (asked ask) a b more h = own_later a b (asked ask) more h
+goes_later (failed f) a b more h = own_later a b (failed f) more h
+goes_later (replied c) a b more h =
+    let g = grows a more (ap is_faulty h.0) in
+    (ap (λ (s : Standing). s.stage) g ∙ h.0, h.1, ap (λ s. fed s more) h.2 ∙ answered_later c a more ∙ sym (ap (answered c) g))
 
 -- ---- one step
 
-same_move : (a b c : Standing) (d e : Event) → Moved a d b → Moved a e c → (d ≡ e) × (b ≡ c)
-same_move a b c d e g h =
-    let same = one_on a g.by h.by g.moves h.moves in
-    (sym g.does ∙ ap event_of same ∙ h.does, sym g.leads ∙ ap (end_of a) same ∙ h.leads)
+abbrev pub IsReplied : Event → Type 0
+IsReplied (replied c) = Unit {0}
+IsReplied _ = ⊥
 
-no_move : (a b : Standing) (d : Event) → a.stage ≡ Asked → Moved a d b → ⊥
-no_move a b d e g = isnt_stays g.by g.on (asked_waits a g.by e g.moves)
+pub own : (e : Event) (a b : Standing) → (IsReplied e → ⊥) → Goes a e b → step_of a ≡ goes e b
+own silent a b n h = h
+own (wrote words) a b n h = h
+own (asked ask) a b n h = h
+own (failed f) a b n h = h
+own (replied c) a b n h = absurd (n tt)
+
+-- while a reply is owed there is none
+no_step : (a b : Standing) (e : Event) → a.stage ≡ Asked → step_of a ≡ goes e b → ⊥
+no_step a b e q h = rests_isnt_goes e b (sym (owing a q) ∙ h)
 
 same_reply : (x y : Control) (xs ys : List Control) → y ∷ ys ≡ x ∷ xs → (x ≡ y) × (ys ≡ xs)
 same_reply x y xs ys e = (cc, cc)
@@ -128,40 +130,22 @@ same_goes : (a b c : Standing) (d e : Event) (ds es : List Event) (more : List C
     replies_of (e ∷ es) ≡ replies_of (d ∷ ds) ++ more → (d ≡ e) × (b ≡ c) × (replies_of es ≡ replies_of ds ++ more)
 same_goes a b c (replied x) (replied y) ds es more g h r =
     let same = same_reply x y (replies_of ds ++ more) (replies_of es) r in
-    (ap replied same.0, g.2 ∙ ap (λ z. record a { stage = after_reply z }) same.0 ∙ sym h.2, same.1)
-same_goes a b c (replied x) e ds es more g h r = absurd (no_move a c e g.0 (moved e a c (λ i. i) h))
-same_goes a b c d (replied y) ds es more g h r = absurd (no_move a b d h.0 (moved d a b (λ i. i) g))
+    (ap replied same.0, g.2 ∙ ap (λ z. answered z a) same.0 ∙ sym h.2, same.1)
+same_goes a b c (replied x) e ds es more g h r = absurd (no_step a c e g.0 (own e a c (λ i. i) h))
+same_goes a b c d (replied y) ds es more g h r = absurd (no_step a b d h.0 (own d a b (λ i. i) g))
 same_goes a b c d e ds es more g h r =
-    let same = same_move a b c d e (moved d a b (λ i. i) g) (moved e a c (λ i. i) h) in
+    let same = same_step d e b c (sym (own d a b (λ i. i) g) ∙ own e a c (λ i. i) h) in
     (same.0, same.1, r)
 
 -- ---- many steps
 
-pub fed : (ds : List Event) (a b : Standing) (more : List ℕ) → Runs ds a b → Runs ds (grown more a) (grown more b)
-fed [] a b more h = ap (grown more) h
-fed (d ∷ ds) a b more h = (grown more h.0, goes_later d a h.0 more h.1, fed ds h.0 b more h.2)
+pub feeds : (ds : List Event) (a b : Standing) (more : List ℕ) → Runs ds a b → Runs ds (fed a more) (fed b more)
+feeds [] a b more h = ap (λ s. fed s more) h
+feeds (d ∷ ds) a b more h = (fed h.0 more, goes_later d a h.0 more h.1, feeds ds h.0 b more h.2)
 
 pub next : (ds : List Event) (d : Event) (a b c : Standing) → Runs ds a b → Goes b d c → Runs (ds ++ d ∷ []) a c
 next [] d a b c h g = (c, subst (λ x. Goes x d c) (sym h) g, refl)
 next (e ∷ ds) d a b c h g = (h.0, h.1, next ds d h.0 b c h.2 g)
-
-pub waiting : (s : Standing) → MovesOn s stays → IsRested s
-waiting s h (replied c) other g = tt
-waiting s h d other g = let m = moved d s other (λ i. i) g in absurd (isnt_stays m.by m.on (one_on s m.by stays m.moves h))
-
-pub failed : (f : HalfFault) (s : Standing) → MovesOn s (fails f) → IsRested s
-failed f s h (replied c) other g = tt
-failed f s h d other g = let m = moved d s other (λ i. i) g in absurd (isnt_fails m.by f m.on (one_on s m.by (fails f) m.moves h))
-
-owes : (side : Side) (s : Standing) → s.stage ≡ Asked → SignedMoves side s stays
-owes Opener s e = refl
-owes Acceptor s e = sym (ap (λ stage. ask_move_at stage s) e)
-
-owing : (s : Standing) → s.stage ≡ Asked → IsRested s
-owing s e = waiting s (subst (λ b. MovesOnOnce b s stays) (sym (ap is_authed e)) (owes s.side s e))
-
-signed : (s : Standing) → s.side ≡ Opener → is_authed s.stage ≡ true → IsRested s
-signed s o q = waiting s (subst (λ b. MovesOnOnce b s stays) (sym q) (subst (λ side. SignedMoves side s stays) (sym o) refl))
 
 same_cons : (d e : Event) (ds es : List Event) → d ≡ e → ds ≡ es → d ∷ ds ≡ e ∷ es
 same_cons d e ds es p q = ap (λ x. x ∷ ds) p ∙ ap (λ l. e ∷ l) q
@@ -179,21 +163,89 @@ ways (d ∷ ds) (e ∷ es) a b c more k l r =
     let after : Runs es k.0 c = subst (λ x. Runs es x c) (sym same.1) l.2 in
     wider d e ds es b c same.0 (ways ds es k.0 b c more k.2 after same.2)
 
-no_reply : (e : Event) (es : List Event) → IsReplied e → [] ≢ replies_of (e ∷ es)
-no_reply (replied c) es i e = cc
-no_reply silent es i e = elim i [ ]
-no_reply (wrote words) es i e = elim i [ ]
-no_reply (asked ask) es i e = elim i [ ]
+pub one_way : GoesOneWay
+one_way = record { fed = feeds; next = next; ways = ways }
 
-pub only : (ds es : List Event) (a b c : Standing) → Runs ds a b → IsRested b → Runs es a c → IsRested c → replies_of ds ≡ replies_of es → (ds ≡ es) × (b ≡ c)
-only [] [] a b c k o l p r = (refl, sym k ∙ l)
-only [] (e ∷ es) a b c k o l p r = absurd (no_reply e es (o e l.0 (subst (λ x. Goes x e l.0) k l.1)) r)
-only (d ∷ ds) [] a b c k o l p r = absurd (no_reply d ds (p d k.0 (subst (λ x. Goes x d k.0) l k.1)) (sym r))
-only (d ∷ ds) (e ∷ es) a b c k o l p r =
-    let same = same_goes a k.0 l.0 d e ds es [] k.1 l.1 (sym r ∙ sym (append-nil (replies_of (d ∷ ds)))) in
-    let after : Runs es k.0 c = subst (λ x. Runs es x c) (sym same.1) l.2 in
-    let rest = only ds es k.0 b c k.2 o after p (sym (same.2 ∙ append-nil (replies_of ds))) in
-    (same_cons d e ds es same.0 rest.0, rest.1)
+no_reply : (e : Event) (es : List Event) → IsReplied e → replies_of (e ∷ es) ≢ []
+no_reply (replied c) es i q = cc
+no_reply silent es i q = elim i [ ]
+no_reply (wrote words) es i q = elim i [ ]
+no_reply (asked ask) es i q = elim i [ ]
+no_reply (failed f) es i q = elim i [ ]
 
-pub course : HasOneCourse
-course = record { fed = fed; next = next; waiting = waiting; owing = owing; failed = failed; signed = signed; ways = ways; only = only }
+-- without a reply nothing is done from where a half rests
+pub stands : (es : List Event) (a b : Standing) → IsRested a → Runs es a b → replies_of es ≡ [] → (es ≡ []) × (a ≡ b)
+stands [] a b o k r = (refl, k)
+stands (replied c ∷ es) a b o k r = absurd (no_reply (replied c) es tt r)
+stands (silent ∷ es) a b o k r = absurd (rests_isnt_goes silent k.0 (sym o ∙ k.1))
+stands (wrote words ∷ es) a b o k r = absurd (rests_isnt_goes (wrote words) k.0 (sym o ∙ k.1))
+stands (asked ask ∷ es) a b o k r = absurd (rests_isnt_goes (asked ask) k.0 (sym o ∙ k.1))
+stands (failed f ∷ es) a b o k r = absurd (rests_isnt_goes (failed f) k.0 (sym o ∙ k.1))
+
+-- ---- how many steps there are
+
+least_stage : (stage : Stage) → is_faulty stage ≡ false → 1 ≤ stages_left stage
+least_stage Opening l = omega arith
+least_stage Banner l = omega arith
+least_stage (Waits awaited) l = omega arith
+least_stage Authed l = omega arith
+least_stage Asked l = omega arith
+least_stage Ended l = omega arith
+least_stage (Faulty f) l = absurd (true≢false l)
+
+answered_left : (c : Control) (a : Standing) → a.stage ≡ Asked → steps_left (answered c a) ≡ steps_left a
+answered_left (control.IdentMissingFeatures p) a q = omega (arith, ap stages_left q)
+answered_left (control.Wait p) a q = omega (arith, ap stages_left q)
+answered_left c a q = omega (arith, ap stages_left q)
+
+pub counted : (es : List Event) (a b : Standing) → Runs es a b → length es + steps_left b ≤ steps_left a + length (replies_of es)
+counted [] a b k = omega (arith, ap steps_left k)
+counted (replied c ∷ es) a b k =
+    let same : steps_left k.0 ≡ steps_left a = ap steps_left k.1.2 ∙ answered_left c a k.1.0 in
+    omega (arith, counted es k.0 b k.2, same)
+counted (silent ∷ es) a b k = omega (arith, counted es k.0 b k.2, (tells a silent k.0 k.1).0.less)
+counted (wrote words ∷ es) a b k = omega (arith, counted es k.0 b k.2, (tells a (wrote words) k.0 k.1).0.less)
+counted (asked ask ∷ es) a b k = omega (arith, counted es k.0 b k.2, (tells a (asked ask) k.0 k.1).0.less)
+counted (failed f ∷ es) a b k =
+    let t = tells a (failed f) k.0 k.1 in
+    omega (arith, counted es k.0 b k.2, ap steps_left t.2, least_stage a.stage t.0)
+
+-- ---- the course that is computed
+
+no_more : (stage : Stage) (s : Standing) → reply_at stage s [] ≡ stops
+no_more Opening s = refl
+no_more Banner s = refl
+no_more (Waits awaited) s = refl
+no_more Authed s = refl
+no_more Asked s = refl
+no_more Ended s = refl
+no_more (Faulty f) s = refl
+
+stops_there : (n : ℕ) (s : Standing) → course_by n stops s ≡ record { events = []; standing = s }
+stops_there zero s = refl
+stops_there (suc n) s = refl
+
+next_own : (a b : Standing) (e : Event) (cs : List Control) → step_of a ≡ goes e b → next_of a cs ≡ on e b cs
+next_own a b e cs h = ap (λ s. next_by s a cs) h
+
+next_replied : (a b : Standing) (c : Control) (cs : List Control) → a.stage ≡ Asked → b ≡ answered c a → next_of a (c ∷ cs) ≡ on (replied c) b cs
+next_replied a b c cs q h =
+    ap (λ s. next_by s a (c ∷ cs)) (owing a q) ∙ ap (λ stage. reply_at stage a (c ∷ cs)) q ∙ ap (λ s. on (replied c) s cs) (sym h)
+
+goes_first : (e : Event) (es : List Event) (a b : Standing) → Goes a e b → next_of a (replies_of (e ∷ es)) ≡ on e b (replies_of es)
+goes_first silent es a b h = next_own a b silent (replies_of es) h
+goes_first (wrote words) es a b h = next_own a b (wrote words) (replies_of es) h
+goes_first (asked ask) es a b h = next_own a b (asked ask) (replies_of es) h
+goes_first (failed f) es a b h = next_own a b (failed f) (replies_of es) h
+goes_first (replied c) es a b h = next_replied a b c (replies_of es) h.0 h.2
+
+comes : (es : List Event) (n : ℕ) (a b : Standing) → Runs es a b → IsRested b → length es ≤ n → course_by n (next_of a (replies_of es)) a ≡ record { events = es; standing = b }
+comes [] n a b k o l =
+    let here : next_of a [] ≡ stops = ap (λ s. next_of s []) k ∙ ap (λ s. next_by s b []) o ∙ no_more b.stage b in
+    ap (λ x. course_by n x a) here ∙ stops_there n a ∙ ap (λ s. record { events = []; standing = s }) k
+comes (e ∷ es) zero a b k o l = absurd (omega (arith, l))
+comes (e ∷ es) (suc n) a b k o l =
+    ap (λ x. course_by (suc n) x a) (goes_first e es a k.0 k.1) ∙ ap (behind e) (comes es n k.0 b k.2 o (omega (arith, l)))
+
+pub come : (es : List Event) (a b : Standing) → Runs es a b → IsRested b → course_of a (replies_of es) ≡ record { events = es; standing = b }
+come es a b k o = comes es (steps_left a + length (replies_of es)) a b k o (omega (arith, counted es a b k))

@@ -1,72 +1,72 @@
 -- A fault stays.
-use Rattle.std.proofs.Common.{◌≡◌, ℕ, ◌⊎◌, inl, inr, List, [], ◌∷◌, refl, sym, ap, ◌∙◌, subst}
+use Rattle.std.proofs.Common.{◌≡◌, List, [], ◌∷◌, sym, ap, ◌∙◌, subst}
 use Rattle.m2_handshake.specs.declared.answer.HalfStep.{HalfStep}
 use Rattle.m2_handshake.specs.declared.answer.HalfStep.TheVariants as answer
-use Rattle.m2_handshake.specs.declared.ask.Ask.{Ask}
 use Rattle.m2_handshake.specs.declared.ask.AskStep.{AskStep}
 use Rattle.m2_handshake.specs.declared.ask.AskStep.TheVariants as step
 use Rattle.m2_handshake.specs.declared.fault.HalfFault.{HalfFault}
 use Rattle.m2_handshake.specs.declared.stage.Stage.TheVariants.{Faulty}
 use Rattle.m2_handshake.specs.Asking.{AskAnswers, AskEnds}
 use Rattle.m2_handshake.specs.Asks.{bare_ask}
-use Rattle.m2_handshake.specs.Half.{Answers, Ends}
+use Rattle.m2_handshake.specs.Half.{Writer, Answers, Ends}
 use Rattle.m2_handshake.specs.Laws.{KeepsItsFault}
-use Rattle.m2_handshake.specs.Moves.{Move, stays, quiet, writes, signs, asks, fails, ask_move_at, MovesAt, Moves, MovesToAsk, Quietly}
-use Rattle.m2_handshake.specs.Standing.{Standing}
+use Rattle.m2_handshake.specs.Moves.{Move, stays, quiet, writes, signs, asks, fails, ask_move_at, ask_move_of, move_at, move_of, wants_memory_at, wants_memory_to_ask_at, Quietly}
+use Rattle.m2_handshake.specs.Standing.{Standing, faulted_at}
+use Rattle.m2_handshake.proofs.Leading.{true_isnt_false}
 
-fails_alone : (f : HalfFault) (s : Standing) (m : Move) → s.stage ≡ Faulty f → Moves s m → m ≡ fails f
-fails_alone f s m e h = subst (λ stage. MovesAt stage s m) e h
+fails_alone : (f : HalfFault) (s : Standing) → s.stage ≡ Faulty f → move_of s ≡ fails f
+fails_alone f s e = ap (λ stage. move_at stage s) e
 
-fails_asked : (f : HalfFault) (s : Standing) (m : Move) → s.stage ≡ Faulty f → MovesToAsk s m → m ≡ fails f
-fails_asked f s m e h = h ∙ ap (λ stage. ask_move_at stage s) e
+fails_asked : (f : HalfFault) (s : Standing) → s.stage ≡ Faulty f → ask_move_of s ≡ fails f
+fails_asked f s e = ap (λ stage. ask_move_at stage s) e
 
-quiet_isnt_fails : (s : Standing) (f : HalfFault) → quiet s ≡ fails f → ⊥
-quiet_isnt_fails s f e = cc
+kept : (f g : HalfFault) (s : Standing) → s.stage ≡ Faulty f → faulted_at s.stage g s ≡ s
+kept f g s e = ap (λ stage. faulted_at stage g s) e
 
-stays_isnt_fails : (f : HalfFault) → stays ≡ fails f → ⊥
-stays_isnt_fails f e = cc
+-- a move that is no fault
+abbrev pub IsSound : Move → Type 0
+IsSound (fails f) = ⊥
+IsSound _ = Unit {0}
 
-writes_isnt_fails : (w : List ℕ) (s : Standing) (f : HalfFault) → writes w s ≡ fails f → ⊥
-writes_isnt_fails w s f e = cc
-
-signs_isnt_fails : (s : Standing) (f : HalfFault) → signs s ≡ fails f → ⊥
-signs_isnt_fails s f e = cc
-
-asks_isnt_fails : (a : Ask) (s : Standing) (f : HalfFault) → asks a s ≡ fails f → ⊥
-asks_isnt_fails a s f e = cc
+isnt_fails : (f : HalfFault) (m : Move) → IsSound m → m ≡ fails f → ⊥
+isnt_fails f m h e = subst IsSound e h
 
 same_fault : (f g : HalfFault) → fails g ≡ fails f → g ≡ f
 same_fault f g e = cc
 
-no_quiet : (R : Standing → Move → Type 0) (f : HalfFault) (ms : List Standing) (a b : Standing) → ((m : Move) → R a m → m ≡ fails f) → Quietly R ms a b → a ≡ b
-no_quiet R f [] a b h path = path
-no_quiet R f (m ∷ ms) a b h path = absurd (quiet_isnt_fails m f (h (quiet m) path.0))
+no_quiet : (move : Standing → Move) (f : HalfFault) (ms : List Standing) (a b : Standing) → move a ≡ fails f → Quietly move ms a b → a ≡ b
+no_quiet move f [] a b h path = path
+no_quiet move f (m ∷ ms) a b h path = absurd (isnt_fails f (quiet m) tt (sym path.0 ∙ h))
 
-ends : (f : HalfFault) (result : HalfStep) (s new : Standing) (before out : List ℕ) → s.stage ≡ Faulty f → Ends result s new before out →
-    ((result ≡ answer.Fault f) ⊎ (result ≡ answer.NoMemory)) × (new.stage ≡ Faulty f) × (out ≡ before)
-ends f answer.NotYet s new before out e h = absurd (stays_isnt_fails f (fails_alone f s stays e h.0))
-ends f answer.Wrote s new before out e h = absurd (writes_isnt_fails h.0 new f (fails_alone f s (writes h.0 new) e h.1))
-ends f answer.Authed s new before out e h = absurd (signs_isnt_fails new f (fails_alone f s (signs new) e h.0))
-ends f (answer.Fault g) s new before out e h = let same = same_fault f g (fails_alone f s (fails g) e h.0) in (inl (ap answer.Fault same), h.1 ∙ ap Faulty same, h.2)
-ends f answer.NoMemory s new before out e h = (inr refl, ap (λ (x : Standing). x.stage) h.0 ∙ e, h.1)
+ends : (f : HalfFault) (result : HalfStep) (old new : Writer) → old.standing.stage ≡ Faulty f → Ends result old new →
+    (result ≡ answer.Fault f) × (new.standing.stage ≡ Faulty f) × (new.out ≡ old.out)
+ends f answer.NotYet old new e h = absurd (isnt_fails f stays tt (sym h.0 ∙ fails_alone f old.standing e))
+ends f answer.Wrote old new e h = absurd (isnt_fails f (writes h.0 new.standing) tt (sym h.1 ∙ fails_alone f old.standing e))
+ends f answer.Authed old new e h = absurd (isnt_fails f (signs new.standing) tt (sym h.0 ∙ fails_alone f old.standing e))
+ends f (answer.Fault g) old new e h =
+    let same = same_fault f g (sym h.0 ∙ fails_alone f old.standing e) in
+    (ap answer.Fault same, ap (λ (x : Writer). x.standing.stage) h.1 ∙ ap (λ (s : Standing). s.stage) (kept f g old.standing e) ∙ e, ap (λ (x : Writer). x.out) h.1)
+ends f answer.NoMemory old new e h = absurd (true_isnt_false (sym h.0 ∙ ap (λ stage. wants_memory_at stage old.standing) e))
 
 ask_ends : (f : HalfFault) (result : AskStep) (s new : Standing) → s.stage ≡ Faulty f → AskEnds result s new →
-    ((result ≡ step.Fault f) ⊎ (result ≡ step.NoMemory)) × (new.stage ≡ Faulty f)
-ask_ends f step.NotYet s new e h = absurd (stays_isnt_fails f (fails_asked f s stays e h.0))
-ask_ends f (step.Asked ask) s new e h = absurd (asks_isnt_fails (bare_ask ask) new f (fails_asked f s (asks (bare_ask ask) new) e h))
-ask_ends f (step.Fault g) s new e h = let same = same_fault f g (fails_asked f s (fails g) e h.0) in (inl (ap step.Fault same), h.1 ∙ ap Faulty same)
-ask_ends f step.NoMemory s new e h = (inr refl, ap (λ (x : Standing). x.stage) h ∙ e)
+    (result ≡ step.Fault f) × (new.stage ≡ Faulty f)
+ask_ends f step.NotYet s new e h = absurd (isnt_fails f stays tt (sym h.0 ∙ fails_asked f s e))
+ask_ends f (step.Asked ask) s new e h = absurd (isnt_fails f (asks (bare_ask ask) new) tt (sym h ∙ fails_asked f s e))
+ask_ends f (step.Fault g) s new e h =
+    let same = same_fault f g (sym h.0 ∙ fails_asked f s e) in
+    (ap step.Fault same, ap (λ (x : Standing). x.stage) (h.1 ∙ kept f g s e) ∙ e)
+ask_ends f step.NoMemory s new e h = absurd (true_isnt_false (sym h.0 ∙ ap (λ stage. wants_memory_to_ask_at stage s) e))
 
-next : (f : HalfFault) (result : HalfStep) (old new : Standing) (before out : List ℕ) → old.stage ≡ Faulty f → Answers result old new before out →
-    ((result ≡ answer.Fault f) ⊎ (result ≡ answer.NoMemory)) × (new.stage ≡ Faulty f) × (out ≡ before)
-next f result old new before out e a =
-    let same = no_quiet Moves f a.passed old a.mid (λ m h. fails_alone f old m e h) a.quietly in
-    ends f result a.mid new before out (ap (λ (x : Standing). x.stage) (sym same) ∙ e) a.ends
+next : (f : HalfFault) (result : HalfStep) (old new : Writer) → old.standing.stage ≡ Faulty f → Answers result old new →
+    (result ≡ answer.Fault f) × (new.standing.stage ≡ Faulty f) × (new.out ≡ old.out)
+next f result old new e a =
+    let same = no_quiet move_of f a.passed old.standing a.mid (fails_alone f old.standing e) a.quietly in
+    ends f result (record { standing = a.mid; out = old.out }) new (ap (λ (x : Standing). x.stage) (sym same) ∙ e) a.ends
 
 ask : (f : HalfFault) (result : AskStep) (old new : Standing) → old.stage ≡ Faulty f → AskAnswers result old new →
-    ((result ≡ step.Fault f) ⊎ (result ≡ step.NoMemory)) × (new.stage ≡ Faulty f)
+    (result ≡ step.Fault f) × (new.stage ≡ Faulty f)
 ask f result old new e a =
-    let same = no_quiet MovesToAsk f a.passed old a.mid (λ m h. fails_asked f old m e h) a.quietly in
+    let same = no_quiet ask_move_of f a.passed old a.mid (fails_asked f old e) a.quietly in
     ask_ends f result a.mid new (ap (λ (x : Standing). x.stage) (sym same) ∙ e) a.ends
 
 pub fault_stays : KeepsItsFault

@@ -3,10 +3,15 @@ pub mod Banners
 pub mod Course
 pub mod Faults
 pub mod Fitting
+pub mod Greeting
+pub mod Idents
+pub mod Leading
 pub mod Memory
 pub mod Path
 pub mod Payloads
+pub mod Prefixes
 pub mod Reaching
-pub mod Settling
+pub mod Resting
+pub mod Signing
 pub mod Staying
 pub mod Turns

@@ -1,132 +1,190 @@
--- The answers of a half tell its one course.
-use Rattle.std.proofs.Common.{◌≡◌, ◌≢◌, ℕ, ◌⊎◌, inl, inr, Bool, true, false, List, [], ◌∷◌, ◌++◌, flat_map, Result, Ok, Err, refl, sym, ap, ◌∙◌, subst, append_assoc, append-nil}
-use Rattle.std.proofs.lemmas.Grind.{flat_map-append}
-use Rattle.std.proofs.lemmas.List.{append_cancel_left, flat_map_more}
-use Rattle.m2_bytes.specs.declared.memory.NoMemory as OutOfMemory
+-- Each call of a half leads on from where it has come to.
+use Rattle.std.proofs.Common.{◌≡◌, ℕ, ◌⊎◌, inl, inr, true, false, List, [], ◌∷◌, ◌++◌, flat_map, Ok, refl, sym, ap, ◌∙◌, subst, append_assoc, append-nil}
+use Rattle.std.proofs.lemmas.List.{flat_map_more}
 use Rattle.m2_control.specs.declared.control.Control.{Control}
-use Rattle.m2_control.specs.declared.control.Control.TheVariants as control
 use Rattle.m2_handshake.specs.declared.answer.HalfStep.{HalfStep}
 use Rattle.m2_handshake.specs.declared.answer.HalfStep.TheVariants as answer
 use Rattle.m2_handshake.specs.declared.ask.Ask.{Ask}
 use Rattle.m2_handshake.specs.declared.ask.AskStep.{AskStep}
 use Rattle.m2_handshake.specs.declared.ask.AskStep.TheVariants as step
 use Rattle.m2_handshake.specs.declared.fault.HalfFault.{HalfFault}
-use Rattle.m2_handshake.specs.declared.stage.Side.{Side}
-use Rattle.m2_handshake.specs.declared.stage.Side.TheVariants.{Opener, Acceptor}
+use Rattle.m2_handshake.specs.declared.stage.HalfSide.{HalfSide}
+use Rattle.m2_handshake.specs.declared.stage.HalfSide.TheVariants.{Opener, Acceptor}
 use Rattle.m2_handshake.specs.declared.stage.Stage.{Stage}
 use Rattle.m2_handshake.specs.declared.stage.Stage.TheVariants.{Opening, Banner, Waits, Authed, Asked, Ended, Faulty}
-use Rattle.m2_handshake.specs.Asking.{is_authed, after_reply, can_ask_at, can_ask, AskAnswers, AskEnds, Replies}
+use Rattle.m2_handshake.specs.Asking.{AskAnswers, AskEnds, Replies}
 use Rattle.m2_handshake.specs.Asks.{bare_ask}
-use Rattle.m2_handshake.specs.Course.{grown, ungranted, SignedMoves, MovesOnOnce, MovesOn, Event, silent, wrote, asked, replied, Goes, Runs, IsRested, text_in, asks_in, replies_in, text_of, replies_of, Exchange, no_exchange, Reaches, RestsBy, Signs, Tells, AskTells, ReplyTells}
-use Rattle.m2_handshake.specs.Half.{Answers, Ends, Rests, fed_at}
-use Rattle.m2_handshake.specs.Laws.{GoesOnTo, IsByBytesAndReplies}
-use Rattle.m2_handshake.specs.Moves.{Move, stays, quiet, writes, signs, asks, fails, ask_move_at, MovesAt, Moves, MovesToAsk, Quietly}
-use Rattle.m2_handshake.specs.Standing.{Standing}
-use Rattle.m2_handshake.specs.Texts.{frame_text, IsReply}
-use Rattle.m2_handshake.proofs.Course.{one_on, settle_on, IsOn, isnt_stays, goes_settled, fed, next, waiting, failed, ways, only}
-use Rattle.m2_handshake.proofs.Fitting.{fits, ask_fits}
-
-true_isnt_false : true ≡ false → ⊥
-true_isnt_false e = cc
+use Rattle.m2_handshake.specs.Course.{signed_move, course_move_at, course_move, Event, silent, wrote, asked, failed, replied, step_by, step_of, Goes, Runs, IsRested, text_in, asks_in, replies_in, text_of, asks_of, Course, course_of, Exchange, no_exchange, Reaches}
+use Rattle.m2_handshake.specs.Half.{Writer, Answers, Ends}
+use Rattle.m2_handshake.specs.Laws.{WritesOn, with_ask, with_reply, LeadsOn, RestsAtItsCourse, AnswersAtRest}
+use Rattle.m2_handshake.specs.Moves.{Move, stays, quiet, writes, signs, asks, fails, read_held, refuse_held, ask_move_at, ask_move_of, move_at, move_of, can_ask_at, can_ask, Quietly}
+use Rattle.m2_handshake.specs.Standing.{Standing, grown, fed, fed_at, fallen, faulted, faulted_at}
+use Rattle.m2_handshake.specs.Texts.{IsReply}
+use Rattle.m2_handshake.proofs.Course.{waiting, ended, feeds, next, come}
+use Rattle.m2_handshake.proofs.Leading.{is_faulty, is_over, tells, true_isnt_false}
 
 -- ---- a move of the handshake, and one towards an ask, as one of the course
 
-unsigned_at : (stage : Stage) (s : Standing) (m : Move) → MovesAt stage s m → m ≢ signs s → is_authed stage ≡ false
-unsigned_at Opening s m h n = refl
-unsigned_at Banner s m h n = refl
-unsigned_at (Waits awaited) s m h n = refl
-unsigned_at Authed s m h n = absurd (n h)
-unsigned_at Asked s m h n = absurd (n h)
-unsigned_at Ended s m h n = absurd (n h)
-unsigned_at (Faulty f) s m h n = refl
+-- before it is over a move of the handshake is one of the course
+same_move_at : (stage : Stage) (s : Standing) → is_over stage ≡ false → course_move_at stage s ≡ move_at stage s
+same_move_at Opening s o = refl
+same_move_at Banner s o = refl
+same_move_at (Waits awaited) s o = refl
+same_move_at Authed s o = absurd (true_isnt_false o)
+same_move_at Asked s o = absurd (true_isnt_false o)
+same_move_at Ended s o = absurd (true_isnt_false o)
+same_move_at (Faulty f) s o = absurd (true_isnt_false o)
 
-handshake_on : (s : Standing) (m : Move) → Moves s m → m ≢ signs s → MovesOn s m
-handshake_on s m h n = subst (λ b. MovesOnOnce b s m) (sym (unsigned_at s.stage s m h n)) h
+pub same_move : (s : Standing) → is_over s.stage ≡ false → course_move s ≡ move_of s
+same_move s o = same_move_at s.stage s o
 
-signs_at : (stage : Stage) (s : Standing) (m : Move) → is_authed stage ≡ true → MovesAt stage s m → m ≡ signs s
-signs_at Opening s m a h = absurd (true_isnt_false (sym a))
-signs_at Banner s m a h = absurd (true_isnt_false (sym a))
-signs_at (Waits awaited) s m a h = absurd (true_isnt_false (sym a))
-signs_at Authed s m a h = h
-signs_at Asked s m a h = h
-signs_at Ended s m a h = h
-signs_at (Faulty f) s m a h = absurd (true_isnt_false (sym a))
+-- a move that neither signs nor fails
+abbrev pub IsOn : Move → Type 0
+IsOn (signs s) = ⊥
+IsOn (fails f) = ⊥
+IsOn _ = Unit {0}
+
+unover_at : (stage : Stage) (s : Standing) (m : Move) → move_at stage s ≡ m → IsOn m → is_over stage ≡ false
+unover_at Opening s m e h = refl
+unover_at Banner s m e h = refl
+unover_at (Waits awaited) s m e h = refl
+unover_at Authed s m e h = absurd (subst IsOn (sym e) h)
+unover_at Asked s m e h = absurd (subst IsOn (sym e) h)
+unover_at Ended s m e h = absurd (subst IsOn (sym e) h)
+unover_at (Faulty f) s m e h = absurd (subst IsOn (sym e) h)
+
+pub unover : (s : Standing) (m : Move) → move_of s ≡ m → IsOn m → is_over s.stage ≡ false
+unover s m e h = unover_at s.stage s m e h
+
+pub handshake_on : (s : Standing) (m : Move) → move_of s ≡ m → IsOn m → course_move s ≡ m
+handshake_on s m e h = same_move s (unover s m e h) ∙ e
 
 same_signs : (a b : Standing) → signs a ≡ signs b → a ≡ b
 same_signs a b e = cc
 
+fails_isnt_signs : (f : HalfFault) (s : Standing) → fails f ≡ signs s → ⊥
+fails_isnt_signs f s e = cc
+
+signs_isnt_fails : (f : HalfFault) (s : Standing) → signs s ≡ fails f → ⊥
+signs_isnt_fails f s e = cc
+
 -- a half signs in a step of its course, or it has signed already
-signs_once : (b : Bool) (s t : Standing) → is_authed s.stage ≡ b → Moves s (signs t) → MovesOn s (signs t) ⊎ (s ≡ t)
-signs_once false s t q h = inl (subst (λ b. MovesOnOnce b s (signs t)) (sym q) h)
-signs_once true s t q h = inr (sym (same_signs t s (signs_at s.stage s (signs t) q h)))
+signs_once_at : (stage : Stage) (s t : Standing) → move_at stage s ≡ signs t → (is_over stage ≡ false) ⊎ (s ≡ t)
+signs_once_at Opening s t e = inl refl
+signs_once_at Banner s t e = inl refl
+signs_once_at (Waits awaited) s t e = inl refl
+signs_once_at Authed s t e = inr (same_signs s t e)
+signs_once_at Asked s t e = inr (same_signs s t e)
+signs_once_at Ended s t e = inr (same_signs s t e)
+signs_once_at (Faulty f) s t e = absurd (fails_isnt_signs f t e)
 
-acceptor : (side : Side) (stage : Stage) → can_ask_at side stage ≡ true → side ≡ Acceptor
-acceptor Opener stage c = absurd (true_isnt_false (sym c))
-acceptor Acceptor stage c = refl
+-- it fails in a step of its course, or it keeps the fault that it had
+fails_once_at : (stage : Stage) (f : HalfFault) (s : Standing) → move_at stage s ≡ fails f → (is_over stage ≡ false) × (faulted_at stage f s ≡ fallen f s) ⊎ (faulted_at stage f s ≡ s)
+fails_once_at Opening f s e = inl (refl, refl)
+fails_once_at Banner f s e = inl (refl, refl)
+fails_once_at (Waits awaited) f s e = inl (refl, refl)
+fails_once_at Authed f s e = absurd (signs_isnt_fails f s e)
+fails_once_at Asked f s e = absurd (signs_isnt_fails f s e)
+fails_once_at Ended f s e = absurd (signs_isnt_fails f s e)
+fails_once_at (Faulty g) f s e = inr refl
 
-faulty_at : (side : Side) (stage : Stage) (s : Standing) (m : Move) → can_ask_at side stage ≡ true → is_authed stage ≡ false → m ≡ ask_move_at stage s → MovesAt stage s m
-faulty_at Opener stage s m c q h = absurd (true_isnt_false (sym c))
-faulty_at Acceptor Opening s m c q h = absurd (true_isnt_false (sym c))
-faulty_at Acceptor Banner s m c q h = absurd (true_isnt_false (sym c))
-faulty_at Acceptor (Waits awaited) s m c q h = absurd (true_isnt_false (sym c))
-faulty_at Acceptor Authed s m c q h = absurd (true_isnt_false q)
-faulty_at Acceptor Asked s m c q h = absurd (true_isnt_false q)
-faulty_at Acceptor Ended s m c q h = absurd (true_isnt_false q)
-faulty_at Acceptor (Faulty f) s m c q h = h
+acceptor_at : (side : HalfSide) (stage : Stage) → can_ask_at side stage ≡ true → (side ≡ Acceptor) × (is_over stage ≡ true)
+acceptor_at Opener stage c = absurd (true_isnt_false (sym c))
+acceptor_at Acceptor Opening c = absurd (true_isnt_false (sym c))
+acceptor_at Acceptor Banner c = absurd (true_isnt_false (sym c))
+acceptor_at Acceptor (Waits awaited) c = absurd (true_isnt_false (sym c))
+acceptor_at Acceptor Authed c = (refl, refl)
+acceptor_at Acceptor Asked c = (refl, refl)
+acceptor_at Acceptor Ended c = (refl, refl)
+acceptor_at Acceptor (Faulty f) c = (refl, refl)
 
-asking_once : (b : Bool) (s : Standing) (m : Move) → is_authed s.stage ≡ b → can_ask s ≡ true → MovesToAsk s m → MovesOn s m
-asking_once false s m q c h = subst (λ b. MovesOnOnce b s m) (sym q) (faulty_at s.side s.stage s m c q h)
-asking_once true s m q c h = subst (λ b. MovesOnOnce b s m) (sym q) (subst (λ side. SignedMoves side s m) (sym (acceptor s.side s.stage c)) h)
+over_can_ask : (stage : Stage) → is_over stage ≡ true → can_ask_at Acceptor stage ≡ true
+over_can_ask Opening o = absurd (true_isnt_false (sym o))
+over_can_ask Banner o = absurd (true_isnt_false (sym o))
+over_can_ask (Waits awaited) o = absurd (true_isnt_false (sym o))
+over_can_ask Authed o = refl
+over_can_ask Asked o = refl
+over_can_ask Ended o = refl
+over_can_ask (Faulty f) o = refl
 
-asking_on : (s : Standing) (m : Move) → can_ask s ≡ true → MovesToAsk s m → MovesOn s m
-asking_on s m c h = asking_once (is_authed s.stage) s m refl c h
+asks_at : (stage : Stage) (s : Standing) → s.side ≡ Acceptor → is_over stage ≡ true → is_faulty stage ≡ false → course_move_at stage s ≡ ask_move_at stage s
+asks_at Opening s a o l = absurd (true_isnt_false (sym o))
+asks_at Banner s a o l = absurd (true_isnt_false (sym o))
+asks_at (Waits awaited) s a o l = absurd (true_isnt_false (sym o))
+asks_at Authed s a o l = ap (λ side. signed_move side (read_held s s.held)) a
+asks_at Asked s a o l = refl
+asks_at Ended s a o l = ap (λ side. signed_move side (refuse_held s s.held)) a
+asks_at (Faulty f) s a o l = absurd (true_isnt_false l)
 
-no_early : (s t : Standing) → (⊥ × (is_authed t.stage ≡ false)) ⊎ (t.stage ≡ s.stage) → t.stage ≡ s.stage
-no_early s t (inl e) = absurd e.0
-no_early s t (inr e) = e
+asking_on : (s : Standing) → can_ask s ≡ true → is_faulty s.stage ≡ false → course_move s ≡ ask_move_of s
+asking_on s c l = let k = acceptor_at s.side s.stage c in asks_at s.stage s k.0 k.1 l
 
-still_asks : (s t : Standing) → can_ask s ≡ true → MovesToAsk s (quiet t) → can_ask t ≡ true
+-- a move towards an ask that is no fault is one of a half without one
+abbrev pub IsSound : Move → Type 0
+IsSound (fails f) = ⊥
+IsSound _ = Unit {0}
+
+sound_at : (stage : Stage) (s : Standing) (m : Move) → ask_move_at stage s ≡ m → IsSound m → is_faulty stage ≡ false
+sound_at Opening s m e h = refl
+sound_at Banner s m e h = refl
+sound_at (Waits awaited) s m e h = refl
+sound_at Authed s m e h = refl
+sound_at Asked s m e h = refl
+sound_at Ended s m e h = refl
+sound_at (Faulty f) s m e h = absurd (subst IsSound (sym e) h)
+
+sound_on : (s : Standing) (m : Move) → can_ask s ≡ true → ask_move_of s ≡ m → IsSound m → course_move s ≡ m
+sound_on s m c e h = asking_on s c (sound_at s.stage s m e h) ∙ e
+
+asks_fail_at : (stage : Stage) (f : HalfFault) (s : Standing) → (is_faulty stage ≡ false) × (faulted_at stage f s ≡ fallen f s) ⊎ (faulted_at stage f s ≡ s)
+asks_fail_at Opening f s = inl (refl, refl)
+asks_fail_at Banner f s = inl (refl, refl)
+asks_fail_at (Waits awaited) f s = inl (refl, refl)
+asks_fail_at Authed f s = inl (refl, refl)
+asks_fail_at Asked f s = inl (refl, refl)
+asks_fail_at Ended f s = inl (refl, refl)
+asks_fail_at (Faulty g) f s = inr refl
+
+pub by_move : (a : Standing) (m : Move) → course_move a ≡ m → step_of a ≡ step_by m a
+by_move a m h = ap (λ x. step_by x a) h
+
+still_asks : (s t : Standing) → can_ask s ≡ true → course_move s ≡ quiet t → can_ask t ≡ true
 still_asks s t c h =
-    let kept = ask_fits s (quiet t) h in
-    ap (λ side. can_ask_at side t.stage) kept.0.side ∙ ap (can_ask_at s.side) (no_early s t kept.1) ∙ c
+    let k = acceptor_at s.side s.stage c in
+    let told = tells s silent t (by_move s (quiet t) h) in
+    ap (λ side. can_ask_at side t.stage) (told.0.side ∙ k.0) ∙ over_can_ask t.stage (told.2 k.1)
 
 -- ---- steps reach further
 
-retell : (begin s : Standing) (x y : Exchange) → x.bytes ≡ y.bytes → x.replies ≡ y.replies → x.text ≡ y.text → x.asks ≡ y.asks → Reaches begin x s → Reaches begin y s
+pub retell : (begin s : Standing) (x y : Exchange) → x.bytes ≡ y.bytes → x.replies ≡ y.replies → x.text ≡ y.text → x.asks ≡ y.asks → Reaches begin x s → Reaches begin y s
 retell begin s x y b c w a r = record {
   events = r.events;
-  runs = subst (λ (l : List ℕ). Runs r.events (ungranted (grown l begin)) (ungranted s)) b r.runs;
+  runs = subst (λ (l : List ℕ). Runs r.events (fed begin l) s) b r.runs;
   replies = r.replies ∙ c;
   text = r.text ∙ w;
   asks = r.asks ∙ a;
 }
 
-at_same : (begin s t : Standing) (x : Exchange) → ungranted s ≡ ungranted t → Reaches begin x s → Reaches begin x t
-at_same begin s t x e r = record {
-  events = r.events;
-  runs = subst (λ u. Runs r.events (ungranted (grown x.bytes begin)) u) e r.runs;
-  replies = r.replies;
-  text = r.text;
-  asks = r.asks;
-}
-
 more_of : {X : Type 0} (f : Event → List X) (ds : List Event) (d : Event) (l : List X) → flat_map f ds ≡ l → flat_map f (ds ++ d ∷ []) ≡ l ++ f d
 more_of f ds d l e = sym (flat_map_more f [] ds d) ∙ ap (λ k. k ++ f d) e
 
-abbrev with_event : Exchange → Event → Exchange
+abbrev pub with_event : Exchange → Event → Exchange
 with_event x d = record { bytes = x.bytes; replies = x.replies ++ replies_in d; text = x.text ++ text_in d; asks = x.asks ++ asks_in d }
 
 further : (begin s t : Standing) (x : Exchange) (d : Event) → Reaches begin x s → Goes s d t → Reaches begin (with_event x d) t
 further begin s t x d r g = record {
   events = r.events ++ d ∷ [];
-  runs = next r.events d (ungranted (grown x.bytes begin)) (ungranted s) (ungranted t) r.runs (goes_settled d s t g);
+  runs = next r.events d (fed begin x.bytes) s t r.runs g;
   replies = more_of replies_in r.events d x.replies r.replies;
   text = more_of text_in r.events d x.text r.text;
   asks = more_of asks_in r.events d x.asks r.asks;
 }
 
-silently : (begin s t : Standing) (x : Exchange) → Reaches begin x s → Goes s silent t → Reaches begin x t
+pub silently : (begin s t : Standing) (x : Exchange) → Reaches begin x s → Goes s silent t → Reaches begin x t
 silently begin s t x r g = retell begin t (with_event x silent) x refl (append-nil x.replies) (append-nil x.text) (append-nil x.asks) (further begin s t x silent r g)
+
+failing : (begin s t : Standing) (x : Exchange) (f : HalfFault) → Reaches begin x s → Goes s (failed f) t → Reaches begin x t
+failing begin s t x f r g = retell begin t (with_event x (failed f)) x refl (append-nil x.replies) (append-nil x.text) (append-nil x.asks) (further begin s t x (failed f) r g)
 
 writing : (begin s t : Standing) (x : Exchange) (words : List ℕ) → Reaches begin x s → Goes s (wrote words) t → Reaches begin (record x { text = x.text ++ words }) t
 writing begin s t x words r g =
@@ -136,228 +194,172 @@ asking : (begin s t : Standing) (x : Exchange) (ask : Ask) → Reaches begin x s
 asking begin s t x ask r g =
     retell begin t (with_event x (asked ask)) (record x { asks = x.asks ++ ask ∷ [] }) refl (append-nil x.replies) (append-nil x.text) refl (further begin s t x (asked ask) r g)
 
-replying : (begin s t : Standing) (x : Exchange) (c : Control) → Reaches begin x s → Goes s (replied c) t → Reaches begin (record x { replies = x.replies ++ c ∷ []; text = x.text ++ frame_text c }) t
+replying : (begin s t : Standing) (x : Exchange) (c : Control) → Reaches begin x s → Goes s (replied c) t → Reaches begin (with_reply c x) t
 replying begin s t x c r g =
-    retell begin t (with_event x (replied c)) (record x { replies = x.replies ++ c ∷ []; text = x.text ++ frame_text c }) refl refl refl (append-nil x.asks)
-    (further begin s t x (replied c) r g)
+    retell begin t (with_event x (replied c)) (with_reply c x) refl refl refl (append-nil x.asks) (further begin s t x (replied c) r g)
 
--- ---- what the answers tell
+-- ---- `next`
 
-same_ungranted : (mid new : Standing) → Rests mid new → ungranted mid ≡ ungranted new
-same_ungranted mid new e = sym (ap ungranted e)
-
-waits_by : (s : Standing) → MovesOn s stays → RestsBy stays (ungranted s)
-waits_by s h = let w = settle_on s stays h in (waiting (ungranted s) w, w)
-
-fails_by : (f : HalfFault) (s : Standing) → MovesOn s (fails f) → RestsBy (fails f) (ungranted s)
-fails_by f s h = let w = settle_on s (fails f) h in (failed f (ungranted s) w, w)
-
-abbrev pub IsUnsigned : Move → Type 0
-IsUnsigned (signs s) = ⊥
-IsUnsigned _ = Unit {0}
-
-no_signs : (m : Move) (s : Standing) → IsUnsigned m → m ≢ signs s
-no_signs m s h e = subst IsUnsigned e h
-
-quietly_reaches : (ms : List Standing) (begin old mid : Standing) (x : Exchange) → Reaches begin x old → Quietly Moves ms old mid → Reaches begin x mid
+pub quietly_reaches : (ms : List Standing) (begin old mid : Standing) (x : Exchange) → Reaches begin x old → Quietly move_of ms old mid → Reaches begin x mid
 quietly_reaches [] begin old mid x r same = subst (Reaches begin x) same r
 quietly_reaches (m ∷ ms) begin old mid x r path =
-    quietly_reaches ms begin m mid x (silently begin old m x r (inl (handshake_on old (quiet m) path.0 (no_signs (quiet m) old tt)))) path.1
+    quietly_reaches ms begin m mid x (silently begin old m x r (by_move old (quiet m) (handshake_on old (quiet m) path.0 tt))) path.1
 
-signs_reach : (begin mid new : Standing) (x : Exchange) → Reaches begin x mid → MovesOn mid (signs new) ⊎ (mid ≡ new) → Reaches begin x new
-signs_reach begin mid new x r (inl h) = silently begin mid new x r (inr h)
-signs_reach begin mid new x r (inr same) = subst (Reaches begin x) same r
+-- without a word
+mutely : (begin : Standing) (old new : Writer) (x : Exchange) → new.out ≡ old.out → Reaches begin x new.standing → WritesOn begin x old new
+mutely begin old new x e r = ([], e ∙ sym (append-nil old.out), retell begin new.standing x (record x { text = x.text ++ [] }) refl refl (sym (append-nil x.text)) refl r)
 
-ends_tell : (result : HalfStep) (begin mid new : Standing) (x : Exchange) (before out : List ℕ) → Reaches begin x mid → Ends result mid new before out → Tells result begin x new before out
-ends_tell answer.NotYet begin mid new x before out r e =
-    let same = same_ungranted mid new e.1 in
-    (at_same begin mid new x same r, subst (RestsBy stays) same (waits_by mid (handshake_on mid stays e.0 (no_signs stays mid tt))), e.2)
-ends_tell answer.Wrote begin mid new x before out r e =
-    (e.0, writing begin mid new x e.0 r (handshake_on mid (writes e.0 new) e.1 (no_signs (writes e.0 new) mid tt)), e.2)
-ends_tell answer.Authed begin mid new x before out r e =
-    (signs_reach begin mid new x r (signs_once (is_authed mid.stage) mid new refl e.0), (fits mid (signs new) e.0).2, e.1)
-ends_tell (answer.Fault f) begin mid new x before out r e = (mid, r, fails_by f mid (handshake_on mid (fails f) e.0 (no_signs (fails f) mid tt)), e.1, e.2)
-ends_tell answer.NoMemory begin mid new x before out r e = (at_same begin mid new x (same_ungranted mid new e.0) r, e.1)
+signs_reach : (begin s t : Standing) (x : Exchange) → Reaches begin x s → move_of s ≡ signs t → (is_over s.stage ≡ false) ⊎ (s ≡ t) → Reaches begin x t
+signs_reach begin s t x r e (inl o) = silently begin s t x r (by_move s (signs t) (same_move s o ∙ e))
+signs_reach begin s t x r e (inr same) = subst (Reaches begin x) same r
 
-answered : (result : HalfStep) (begin old new : Standing) (x : Exchange) (before out : List ℕ) → Reaches begin x old → Answers result old new before out → Tells result begin x new before out
-answered result begin old new x before out r a = ends_tell result begin a.mid new x before out (quietly_reaches a.passed begin old a.mid x r a.quietly) a.ends
+fails_reach : (begin s : Standing) (x : Exchange) (f : HalfFault) → Reaches begin x s → move_of s ≡ fails f → (is_over s.stage ≡ false) × (faulted f s ≡ fallen f s) ⊎ (faulted f s ≡ s) → Reaches begin x (faulted f s)
+fails_reach begin s x f r e (inl w) = subst (Reaches begin x) (sym w.1) (failing begin s (fallen f s) x f r (by_move s (fails f) (same_move s w.0 ∙ e)))
+fails_reach begin s x f r e (inr same) = subst (Reaches begin x) (sym same) r
 
-asking_reaches : (ms : List Standing) (begin old mid : Standing) (x : Exchange) → Reaches begin x old → can_ask old ≡ true → Quietly MovesToAsk ms old mid → Reaches begin x mid × (can_ask mid ≡ true)
+ends_on : (result : HalfStep) (begin : Standing) (old new : Writer) (x : Exchange) → Reaches begin x old.standing → Ends result old new → WritesOn begin x old new
+ends_on answer.NotYet begin old new x r e = mutely begin old new x (ap (λ (w : Writer). w.out) e.1) (subst (λ (w : Writer). Reaches begin x w.standing) (sym e.1) r)
+ends_on answer.Wrote begin old new x r e =
+    (e.0, e.2, writing begin old.standing new.standing x e.0 r (by_move old.standing (writes e.0 new.standing) (handshake_on old.standing (writes e.0 new.standing) e.1 tt)))
+ends_on answer.Authed begin old new x r e =
+    mutely begin old new x e.1 (signs_reach begin old.standing new.standing x r e.0 (signs_once_at old.standing.stage old.standing new.standing e.0))
+ends_on (answer.Fault f) begin old new x r e =
+    mutely begin old new x (ap (λ (w : Writer). w.out) e.1) (subst (λ (w : Writer). Reaches begin x w.standing) (sym e.1)
+    (fails_reach begin old.standing x f r e.0 (fails_once_at old.standing.stage f old.standing e.0)))
+ends_on answer.NoMemory begin old new x r e = mutely begin old new x (ap (λ (w : Writer). w.out) e.1) (subst (λ (w : Writer). Reaches begin x w.standing) (sym e.1) r)
+
+nexts : (result : HalfStep) (begin : Standing) (old new : Writer) (x : Exchange) → Reaches begin x old.standing → Answers result old new → WritesOn begin x old new
+nexts result begin old new x r a =
+    ends_on result begin (record { standing = a.mid; out = old.out }) new x (quietly_reaches a.passed begin old.standing a.mid x r a.quietly) a.ends
+
+-- ---- `ask`
+
+pub asking_reaches : (ms : List Standing) (begin old mid : Standing) (x : Exchange) → Reaches begin x old → can_ask old ≡ true → Quietly ask_move_of ms old mid → Reaches begin x mid × (can_ask mid ≡ true)
 asking_reaches [] begin old mid x r c same = (subst (Reaches begin x) same r, subst (λ s. can_ask s ≡ true) same c)
 asking_reaches (m ∷ ms) begin old mid x r c path =
-    asking_reaches ms begin m mid x (silently begin old m x r (inl (asking_on old (quiet m) c path.0))) (still_asks old m c path.0) path.1
+    let h = sound_on old (quiet m) c path.0 tt in
+    asking_reaches ms begin m mid x (silently begin old m x r (by_move old (quiet m) h)) (still_asks old m c h) path.1
 
-ask_ends_tell : (result : AskStep) (begin mid new : Standing) (x : Exchange) → Reaches begin x mid → can_ask mid ≡ true → AskEnds result mid new → AskTells result begin x new
-ask_ends_tell step.NotYet begin mid new x r c e =
-    let same = same_ungranted mid new e.1 in
-    (at_same begin mid new x same r, subst (RestsBy stays) same (waits_by mid (asking_on mid stays c e.0)))
-ask_ends_tell (step.Asked ask) begin mid new x r c e =
-    (asking begin mid new x (bare_ask ask) r (asking_on mid (asks (bare_ask ask) new) c e), (ask_fits mid (asks (bare_ask ask) new) e).2)
-ask_ends_tell (step.Fault f) begin mid new x r c e = (mid, r, fails_by f mid (asking_on mid (fails f) c e.0), e.1)
-ask_ends_tell step.NoMemory begin mid new x r c e = at_same begin mid new x (same_ungranted mid new e) r
+asks_fail : (begin s : Standing) (x : Exchange) (f : HalfFault) → Reaches begin x s → can_ask s ≡ true → ask_move_of s ≡ fails f →
+    (is_faulty s.stage ≡ false) × (faulted f s ≡ fallen f s) ⊎ (faulted f s ≡ s) → Reaches begin x (faulted f s)
+asks_fail begin s x f r c e (inl w) = subst (Reaches begin x) (sym w.1) (failing begin s (fallen f s) x f r (by_move s (fails f) (asking_on s c w.0 ∙ e)))
+asks_fail begin s x f r c e (inr same) = subst (Reaches begin x) (sym same) r
 
-was_asked : (result : AskStep) (begin old new : Standing) (x : Exchange) → Reaches begin x old → can_ask old ≡ true → AskAnswers result old new → AskTells result begin x new
+ask_ends_on : (result : AskStep) (begin s new : Standing) (x : Exchange) → Reaches begin x s → can_ask s ≡ true → AskEnds result s new → Reaches begin (with_ask result x) new
+ask_ends_on step.NotYet begin s new x r c e = subst (Reaches begin x) (sym e.1) r
+ask_ends_on (step.Asked ask) begin s new x r c e =
+    asking begin s new x (bare_ask ask) r (by_move s (asks (bare_ask ask) new) (sound_on s (asks (bare_ask ask) new) c e tt))
+ask_ends_on (step.Fault f) begin s new x r c e = subst (Reaches begin x) (sym e.1) (asks_fail begin s x f r c e.0 (asks_fail_at s.stage f s))
+ask_ends_on step.NoMemory begin s new x r c e = subst (Reaches begin x) (sym e.1) r
+
+was_asked : (result : AskStep) (begin old new : Standing) (x : Exchange) → Reaches begin x old → can_ask old ≡ true → AskAnswers result old new → Reaches begin (with_ask result x) new
 was_asked result begin old new x r c a =
     let there = asking_reaches a.passed begin old a.mid x r c a.quietly in
-    ask_ends_tell result begin a.mid new x there.0 there.1 a.ends
+    ask_ends_on result begin a.mid new x there.0 there.1 a.ends
 
-was_replied : (result : Result (Unit {0}) OutOfMemory.NoMemory) (c : Control) (begin old new : Standing) (x : Exchange) (before out : List ℕ) →
-    Reaches begin x old → old.stage ≡ Asked → IsReply c → Replies result c old new before out → ReplyTells result c begin x new before out
-was_replied (Ok u) c begin old new x before out r q i h = (replying begin old new x c r (q, i, h.0), h.1)
-was_replied (Err e) c begin old new x before out r q i h = (subst (Reaches begin x) (sym h.0) r, h.1)
+-- ---- `reply` and `feed`
 
--- ---- the whole course
+was_replied : (c : Control) (begin : Standing) (old new : Writer) (x : Exchange) → Reaches begin x old.standing → old.standing.stage ≡ Asked → IsReply c → Replies (Ok tt) c old new → Reaches begin (with_reply c x) new.standing
+was_replied c begin old new x r q i h = replying begin old.standing new.standing x c r (q, i, h.0)
 
-begins : (s : Standing) → Reaches s no_exchange s
-begins s = record { events = []; runs = ap (λ (l : List ℕ). record s { rest = l; granted = false }) (append-nil s.rest); replies = refl; text = refl; asks = refl }
+fed_none_at : (stage : Stage) (s : Standing) → fed_at stage s [] ≡ s
+fed_none_at Opening s = ap (λ (l : List ℕ). record s { rest = l }) (append-nil s.rest)
+fed_none_at Banner s = ap (λ (l : List ℕ). record s { rest = l }) (append-nil s.rest)
+fed_none_at (Waits awaited) s = ap (λ (l : List ℕ). record s { rest = l }) (append-nil s.rest)
+fed_none_at Authed s = ap (λ (l : List ℕ). record s { rest = l }) (append-nil s.rest)
+fed_none_at Asked s = ap (λ (l : List ℕ). record s { rest = l }) (append-nil s.rest)
+fed_none_at Ended s = ap (λ (l : List ℕ). record s { rest = l }) (append-nil s.rest)
+fed_none_at (Faulty f) s = refl
 
-fed_more : (begin s : Standing) (x : Exchange) (more : List ℕ) → Reaches begin x s → Reaches begin (record x { bytes = x.bytes ++ more }) (grown more s)
+pub begins : (s : Standing) → Reaches s no_exchange s
+begins s = record { events = []; runs = fed_none_at s.stage s; replies = refl; text = refl; asks = refl }
+
+grown_twice : (s : Standing) (xs ys : List ℕ) → grown ys (grown xs s) ≡ grown (xs ++ ys) s
+grown_twice s xs ys = ap (λ (l : List ℕ). record s { rest = l }) (append_assoc s.rest xs ys)
+
+fed_twice_at : (stage : Stage) (s : Standing) (xs ys : List ℕ) → s.stage ≡ stage → fed (fed_at stage s xs) ys ≡ fed_at stage s (xs ++ ys)
+fed_twice_at Opening s xs ys q = ap (λ stage. fed_at stage (grown xs s) ys) q ∙ grown_twice s xs ys
+fed_twice_at Banner s xs ys q = ap (λ stage. fed_at stage (grown xs s) ys) q ∙ grown_twice s xs ys
+fed_twice_at (Waits awaited) s xs ys q = ap (λ stage. fed_at stage (grown xs s) ys) q ∙ grown_twice s xs ys
+fed_twice_at Authed s xs ys q = ap (λ stage. fed_at stage (grown xs s) ys) q ∙ grown_twice s xs ys
+fed_twice_at Asked s xs ys q = ap (λ stage. fed_at stage (grown xs s) ys) q ∙ grown_twice s xs ys
+fed_twice_at Ended s xs ys q = ap (λ stage. fed_at stage (grown xs s) ys) q ∙ grown_twice s xs ys
+fed_twice_at (Faulty f) s xs ys q = ap (λ stage. fed_at stage s ys) q
+
+pub fed_twice : (s : Standing) (xs ys : List ℕ) → fed (fed s xs) ys ≡ fed s (xs ++ ys)
+fed_twice s xs ys = fed_twice_at s.stage s xs ys refl
+
+fed_more : (begin s : Standing) (x : Exchange) (more : List ℕ) → Reaches begin x s → Reaches begin (record x { bytes = x.bytes ++ more }) (fed s more)
 fed_more begin s x more r = record {
   events = r.events;
-  runs = subst (λ (l : List ℕ). Runs r.events (record begin { rest = l; granted = false }) (ungranted (grown more s))) (append_assoc begin.rest x.bytes more)
-      (fed r.events (ungranted (grown x.bytes begin)) (ungranted s) more r.runs);
+  runs = subst (λ a. Runs r.events a (fed s more)) (fed_twice begin x.bytes more) (feeds r.events (fed begin x.bytes) s more r.runs);
   replies = r.replies;
   text = r.text;
   asks = r.asks;
 }
 
-feeds_at : (stage : Stage) (s : Standing) (piece : List ℕ) → ((f : HalfFault) → stage ≢ Faulty f) → fed_at stage s piece ≡ grown piece s
-feeds_at Opening s piece n = refl
-feeds_at Banner s piece n = refl
-feeds_at (Waits awaited) s piece n = refl
-feeds_at Authed s piece n = refl
-feeds_at Asked s piece n = refl
-feeds_at Ended s piece n = refl
-feeds_at (Faulty f) s piece n = absurd (n f refl)
+pub leads_on : LeadsOn
+leads_on = record { begins = begins; feeds = fed_more; nexts = nexts; asks = was_asked; replies = was_replied }
 
-feeds : (s : Standing) (piece : List ℕ) → ((f : HalfFault) → s.stage ≢ Faulty f) → fed_at s.stage s piece ≡ grown piece s
-feeds s piece n = feeds_at s.stage s piece n
+-- ---- where it rests
 
-one_end : (begin s other : Standing) (x y : Exchange) → x.bytes ≡ y.bytes → x.replies ≡ y.replies → Reaches begin x s → IsRested (ungranted s) → Reaches begin y other → IsRested (ungranted other) →
-    (x.text ≡ y.text) × (x.asks ≡ y.asks) × (ungranted s ≡ ungranted other)
-one_end begin s other x y b c r o k p =
-    let there : Runs k.events (ungranted (grown x.bytes begin)) (ungranted other) = subst (λ (l : List ℕ). Runs k.events (ungranted (grown l begin)) (ungranted other)) (sym b) k.runs in
-    let same = only r.events k.events (ungranted (grown x.bytes begin)) (ungranted s) (ungranted other) r.runs o there p (r.replies ∙ c ∙ sym k.replies) in
-    (sym r.text ∙ ap (flat_map text_in) same.0 ∙ k.text, sym r.asks ∙ ap (flat_map asks_in) same.0 ∙ k.asks, same.1)
+pub at_its_course : RestsAtItsCourse
+at_its_course begin s x r o =
+    let end : Course = record { events = r.events; standing = s } in
+    let there : course_of (fed begin x.bytes) x.replies ≡ end = ap (course_of (fed begin x.bytes)) (sym r.replies) ∙ come r.events (fed begin x.bytes) s r.runs o in
+    record {
+      text = sym r.text ∙ sym (ap (λ (c : Course). text_of c.events) there);
+      asks = sym r.asks ∙ sym (ap (λ (c : Course). asks_of c.events) there);
+      standing = sym (ap (λ (c : Course). c.standing) there);
+    }
 
-quiet_isnt_signs : (a b : Standing) → quiet a ≢ signs b
-quiet_isnt_signs a b e = cc
+rests_next : (old new : Writer) → Answers answer.NotYet old new → IsRested new.standing
+rests_next old new a = subst (λ (w : Writer). IsRested w.standing) (sym a.ends.1) (waiting a.mid (handshake_on a.mid stays a.ends.0 tt))
 
-writes_isnt_signs : (words : List ℕ) (a b : Standing) → writes words a ≢ signs b
-writes_isnt_signs words a b e = cc
+same_fault : (f g : HalfFault) → fails g ≡ fails f → g ≡ f
+same_fault f g e = cc
 
-asks_isnt_signs : (ask : Ask) (a b : Standing) → asks ask a ≢ signs b
-asks_isnt_signs ask a b e = cc
+fault_kept_at : (stage : Stage) (f : HalfFault) (s : Standing) → s.stage ≡ stage → (stage ≡ Faulty f) ⊎ (is_faulty stage ≡ false) → (faulted_at stage f s).stage ≡ Faulty f
+fault_kept_at Opening f s q h = refl
+fault_kept_at Banner f s q h = refl
+fault_kept_at (Waits awaited) f s q h = refl
+fault_kept_at Authed f s q h = refl
+fault_kept_at Asked f s q h = refl
+fault_kept_at Ended f s q h = refl
+fault_kept_at (Faulty g) f s q (inl e) = q ∙ e
+fault_kept_at (Faulty g) f s q (inr e) = absurd (true_isnt_false e)
 
--- ---- once both sides have signed only replies are written
+kept_by_move : (stage : Stage) (f : HalfFault) (s : Standing) → move_at stage s ≡ fails f → (stage ≡ Faulty f) ⊎ (is_faulty stage ≡ false)
+kept_by_move Opening f s e = inr refl
+kept_by_move Banner f s e = inr refl
+kept_by_move (Waits awaited) f s e = inr refl
+kept_by_move Authed f s e = inr refl
+kept_by_move Asked f s e = inr refl
+kept_by_move Ended f s e = inr refl
+kept_by_move (Faulty g) f s e = inl (ap Faulty (same_fault f g e))
 
-to_ask : (side : Side) (a : Standing) (m : Move) → IsOn m → SignedMoves side a m → MovesToAsk a m
-to_ask Opener a m o h = absurd (isnt_stays m o h)
-to_ask Acceptor a m o h = h
+kept_by_ask : (stage : Stage) (f : HalfFault) (s : Standing) → ask_move_at stage s ≡ fails f → (stage ≡ Faulty f) ⊎ (is_faulty stage ≡ false)
+kept_by_ask Opening f s e = inr refl
+kept_by_ask Banner f s e = inr refl
+kept_by_ask (Waits awaited) f s e = inr refl
+kept_by_ask Authed f s e = inr refl
+kept_by_ask Asked f s e = inr refl
+kept_by_ask Ended f s e = inr refl
+kept_by_ask (Faulty g) f s e = inl (ap Faulty (same_fault f g e))
 
-signed_to_ask : (a : Standing) (m : Move) → is_authed a.stage ≡ true → IsOn m → MovesOn a m → MovesToAsk a m
-signed_to_ask a m q o h = to_ask a.side a m o (subst (λ b. MovesOnOnce b a m) q h)
+rests_fault : (f : HalfFault) (old new : Writer) → Answers (answer.Fault f) old new → IsRested new.standing
+rests_fault f old new a =
+    subst (λ (w : Writer). IsRested w.standing) (sym a.ends.1)
+    (ended f (faulted f a.mid) (fault_kept_at a.mid.stage f a.mid refl (kept_by_move a.mid.stage f a.mid a.ends.0)))
 
-cons_isnt_nil : (c : Control) (cs : List Control) → c ∷ cs ≢ []
-cons_isnt_nil c cs e = cc
+rests_ask : (old new : Standing) → can_ask old ≡ true → AskAnswers step.NotYet old new → IsRested new
+rests_ask old new c a =
+    let there = asking_reaches a.passed old old a.mid no_exchange (begins old) c a.quietly in
+    subst IsRested (sym a.ends.1) (waiting a.mid (sound_on a.mid stays there.1 a.ends.0 tt))
 
-nothing_written : (ds : List Event) (a b : Standing) → is_authed a.stage ≡ true → Runs ds a b → replies_of ds ≡ [] → text_of ds ≡ []
-nothing_written [] a b q k e = refl
-nothing_written (silent ∷ ds) a b q (m, inl h, k) e =
-    let kept = ask_fits a (quiet m) (signed_to_ask a (quiet m) q tt h) in
-    nothing_written ds m b (ap is_authed (no_early a m kept.1) ∙ q) k e
-nothing_written (silent ∷ ds) a b q (m, inr h, k) e = absurd (ask_fits a (signs m) (signed_to_ask a (signs m) q tt h)).1
-nothing_written (wrote words ∷ ds) a b q (m, h, k) e = absurd (ask_fits a (writes words m) (signed_to_ask a (writes words m) q tt h)).1
-nothing_written (asked ask ∷ ds) a b q (m, h, k) e = nothing_written ds m b (ap is_authed (ask_fits a (asks ask m) (signed_to_ask a (asks ask m) q tt h)).2) k e
-nothing_written (replied c ∷ ds) a b q k e = absurd (cons_isnt_nil c (replies_of ds) e)
+rests_ask_fault : (f : HalfFault) (old new : Standing) → AskAnswers (step.Fault f) old new → IsRested new
+rests_ask_fault f old new a =
+    subst IsRested (sym a.ends.1) (ended f (faulted f a.mid) (fault_kept_at a.mid.stage f a.mid refl (kept_by_ask a.mid.stage f a.mid a.ends.0)))
 
--- the one goes on to the other with the same replies
-nothing_more : (ds es more : List Event) (a b : Standing) → is_authed a.stage ≡ true → es ≡ ds ++ more → Runs more a b → replies_of es ≡ replies_of ds → text_of es ≡ text_of ds
-nothing_more ds es more a b q e k r =
-    let none : replies_of more ≡ [] = append_cancel_left (replies_of ds) (replies_of more) []
-    (sym (flat_map-append replies_in ds more) ∙ sym (ap (flat_map replies_in) e) ∙ r ∙ sym (append-nil (replies_of ds))) in
-    ap (flat_map text_in) e ∙ flat_map-append text_in ds more ∙ ap (λ l. text_of ds ++ l) (nothing_written more a b q k none) ∙ append-nil (text_of ds)
-
-text_signed : (ds es : List Event) (a b c : Standing) → Runs ds a b → is_authed b.stage ≡ true → Runs es a c → is_authed c.stage ≡ true → replies_of es ≡ replies_of ds →
-    GoesOnTo ds b es c ⊎ GoesOnTo es c ds b → text_of ds ≡ text_of es
-text_signed ds es a b c k q l p r (inl w) = sym (nothing_more ds es w.0 b c q w.1 w.2 r)
-text_signed ds es a b c k q l p r (inr w) = nothing_more es ds w.0 c b p w.1 w.2 (sym r)
-
-signed : (begin s other : Standing) (x y : Exchange) → x.bytes ≡ y.bytes → x.replies ≡ y.replies → Reaches begin x s → is_authed s.stage ≡ true → Reaches begin y other → is_authed other.stage ≡ true → x.text ≡ y.text
-signed begin s other x y b c r q k p =
-    let from = ungranted (grown x.bytes begin) in
-    let there : Runs k.events from (ungranted other) = subst (λ (l : List ℕ). Runs k.events (ungranted (grown l begin)) (ungranted other)) (sym b) k.runs in
-    let given : replies_of k.events ≡ replies_of r.events = k.replies ∙ sym c ∙ sym r.replies in
-    let way = ways r.events k.events from (ungranted s) (ungranted other) [] r.runs there (given ∙ sym (append-nil (replies_of r.events))) in
-    sym r.text ∙ text_signed r.events k.events from (ungranted s) (ungranted other) r.runs q there p given way ∙ k.text
-
--- ---- a half signs once
-
-still_unsigned : (s t : Standing) → is_authed s.stage ≡ false → ((Unit {0}) × (is_authed t.stage ≡ false)) ⊎ (t.stage ≡ s.stage) → is_authed t.stage ≡ false
-still_unsigned s t q (inl e) = e.1
-still_unsigned s t q (inr e) = ap is_authed e ∙ q
-
-quietly_unsigned : (ms : List Standing) (a b : Standing) → is_authed a.stage ≡ false → Quietly Moves ms a b → is_authed b.stage ≡ false
-quietly_unsigned [] a b q same = subst (λ (s : Standing). is_authed s.stage ≡ false) same q
-quietly_unsigned (m ∷ ms) a b q path = quietly_unsigned ms m b (still_unsigned a m q (fits a (quiet m) path.0).1) path.1
-
-signing : (begin old new : Standing) (x : Exchange) (before out : List ℕ) → Reaches begin x old → is_authed old.stage ≡ false → Answers answer.Authed old new before out → Signs begin x new
-signing begin old new x before out r q a =
-    let unsigned = quietly_unsigned a.passed old a.mid q a.quietly in
-    (a.mid, quietly_reaches a.passed begin old a.mid x r a.quietly, settle_on a.mid (signs new) (subst (λ b. MovesOnOnce b a.mid (signs new)) (sym unsigned) a.ends.0))
-
-replied_signed : (c : Control) → is_authed (after_reply c) ≡ true
-replied_signed (control.IdentMissingFeatures p) = refl
-replied_signed (control.Wait p) = refl
-replied_signed c = refl
-
-step_signed : (e : Event) (a b : Standing) → is_authed a.stage ≡ true → Goes a e b → is_authed b.stage ≡ true
-step_signed silent a b q (inl h) = ap is_authed (no_early a b (ask_fits a (quiet b) (signed_to_ask a (quiet b) q tt h)).1) ∙ q
-step_signed silent a b q (inr h) = absurd (ask_fits a (signs b) (signed_to_ask a (signs b) q tt h)).1
-step_signed (wrote words) a b q h = absurd (ask_fits a (writes words b) (signed_to_ask a (writes words b) q tt h)).1
-step_signed (asked ask) a b q h = ap is_authed (ask_fits a (asks ask b) (signed_to_ask a (asks ask b) q tt h)).2
-step_signed (replied c) a b q h = ap (λ (s : Standing). is_authed s.stage) h.2 ∙ replied_signed c
-
-stay_signed : (es : List Event) (a b : Standing) → is_authed a.stage ≡ true → Runs es a b → is_authed b.stage ≡ true
-stay_signed [] a b q same = subst (λ (s : Standing). is_authed s.stage ≡ true) same q
-stay_signed (e ∷ es) a b q k = stay_signed es k.0 b (step_signed e a k.0 q k.1) k.2
-
--- a half that signs hasn't signed yet, and has then
-not_signed : (s t : Standing) → is_authed s.stage ≡ true → MovesOn s (signs t) → ⊥
-not_signed s t q h = (ask_fits s (signs t) (signed_to_ask s (signs t) q tt h)).1
-
-then_signed : (b : Bool) (s t : Standing) → is_authed s.stage ≡ b → MovesOn s (signs t) → is_authed t.stage ≡ true
-then_signed false s t q h = (fits s (signs t) (subst (λ b. MovesOnOnce b s (signs t)) q h)).2
-then_signed true s t q h = absurd (not_signed s t q h)
-
-step_signs : (e : Event) (s t m : Standing) → MovesOn s (signs t) → Goes s e m → is_authed m.stage ≡ true
-step_signs silent s t m h (inl g) = absurd (quiet_isnt_signs m t (one_on s (quiet m) (signs t) g h))
-step_signs silent s t m h (inr g) = then_signed (is_authed s.stage) s m refl g
-step_signs (wrote words) s t m h g = absurd (writes_isnt_signs words m t (one_on s (writes words m) (signs t) g h))
-step_signs (asked ask) s t m h g = absurd (asks_isnt_signs ask m t (one_on s (asks ask m) (signs t) g h))
-step_signs (replied c) s t m h g = absurd (not_signed s t (ap is_authed g.0) h)
-
-no_further : (es : List Event) (s other t u : Standing) → MovesOn s (signs t) → MovesOn other (signs u) → Runs es s other → (es ≡ []) × (s ≡ other)
-no_further [] s other t u h i same = (refl, same)
-no_further (e ∷ es) s other t u h i k = absurd (not_signed other u (stay_signed es k.0 other (step_signs e s t k.0 h k.1) k.2) i)
-
-same_signature : (ds es : List Event) (a b t u : Standing) → MovesOn a (signs t) → MovesOn b (signs u) → GoesOnTo ds a es b ⊎ GoesOnTo es b ds a → (ds ≡ es) × (a ≡ b)
-same_signature ds es a b t u h i (inl w) =
-    let none = no_further w.0 a b t u h i w.2 in
-    (sym (w.1 ∙ ap (λ l. ds ++ l) none.0 ∙ append-nil ds), none.1)
-same_signature ds es a b t u h i (inr w) =
-    let none = no_further w.0 b a u t i h w.2 in
-    (w.1 ∙ ap (λ l. es ++ l) none.0 ∙ append-nil es, sym none.1)
-
-one_signature : (begin s other : Standing) (x y : Exchange) → x.bytes ≡ y.bytes → x.replies ≡ y.replies → Signs begin x s → Signs begin y other → (x.text ≡ y.text) × (ungranted s ≡ ungranted other)
-one_signature begin s other x y b c (mid, r, h) (end, k, i) =
-    let from = ungranted (grown x.bytes begin) in
-    let there : Runs k.events from (ungranted end) = subst (λ (l : List ℕ). Runs k.events (ungranted (grown l begin)) (ungranted end)) (sym b) k.runs in
-    let given : replies_of k.events ≡ replies_of r.events = k.replies ∙ sym c ∙ sym r.replies in
-    let way = ways r.events k.events from (ungranted mid) (ungranted end) [] r.runs there (given ∙ sym (append-nil (replies_of r.events))) in
-    let same = same_signature r.events k.events (ungranted mid) (ungranted end) (ungranted s) (ungranted other) h i way in
-    let moved : MovesOn (ungranted end) (signs (ungranted s)) = subst (λ m. MovesOn m (signs (ungranted s))) same.1 h in
-    (sym r.text ∙ ap (flat_map text_in) same.0 ∙ k.text, same_signs (ungranted s) (ungranted other) (one_on (ungranted end) (signs (ungranted s)) (signs (ungranted other)) moved i))
-
-pub by_bytes_and_replies : IsByBytesAndReplies
-by_bytes_and_replies = record { begins = begins; fed = fed_more; feeds = feeds; answered = answered; asked = was_asked; replied = was_replied; only = one_end; signing = signing; one_signature = one_signature; signed = signed }
+pub at_rest : AnswersAtRest
+at_rest = record { next = rests_next; next_fault = rests_fault; ask = rests_ask; ask_fault = rests_ask_fault }

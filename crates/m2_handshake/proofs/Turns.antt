@@ -1,43 +1,16 @@
 -- As many replies as asks, or one less; an opener has none.
-use Rattle.std.proofs.Common.{◌≡◌, ◌+◌, ◌≤◌, inl, inr, Bool, true, false, List, [], ◌∷◌, ◌++◌, length, flat_map, refl, sym, ap, ◌∙◌, subst, arith, length-append}
+use Rattle.std.proofs.Common.{◌≡◌, ℕ, ◌+◌, ◌≤◌, List, [], ◌∷◌, ◌++◌, length, flat_map, refl, sym, ap, ◌∙◌, arith, length-append}
 use Rattle.std.proofs.lemmas.Grind.{flat_map-append}
 use Rattle.m2_control.specs.declared.control.Control.{Control}
 use Rattle.m2_control.specs.declared.control.Control.TheVariants as control
-use Rattle.m2_handshake.specs.declared.stage.Side.{Side}
-use Rattle.m2_handshake.specs.declared.stage.Side.TheVariants.{Opener, Acceptor}
+use Rattle.m2_handshake.specs.declared.stage.HalfSide.TheVariants.{Opener, Acceptor}
 use Rattle.m2_handshake.specs.declared.stage.Stage.{Stage}
 use Rattle.m2_handshake.specs.declared.stage.Stage.TheVariants.{Opening, Banner, Waits, Authed, Asked, Ended, Faulty}
-use Rattle.m2_handshake.specs.Asking.{is_authed, after_reply}
-use Rattle.m2_handshake.specs.Course.{grown, ungranted, SignedMoves, MovesOnOnce, MovesOn, Event, silent, wrote, asked, replied, Goes, Runs, asks_in, replies_in, asks_of, replies_of, Exchange, Reaches, owed}
+use Rattle.m2_handshake.specs.Asking.{after_reply}
+use Rattle.m2_handshake.specs.Course.{Event, silent, wrote, asked, failed, replied, Goes, Runs, asks_in, replies_in, asks_of, replies_of, Exchange, Reaches, owed}
 use Rattle.m2_handshake.specs.Laws.{AsksBeforeReplies}
-use Rattle.m2_handshake.specs.Moves.{Move, stays, quiet, writes, signs, asks, fails}
-use Rattle.m2_handshake.specs.Standing.{Standing}
-use Rattle.m2_handshake.proofs.Fitting.{Fits, fits, ask_fits}
-
--- ---- what a move of the course keeps; only an acceptor is asked
-
-looser : (E L F M : Type 0) (a : Standing) (m : Move) → (E → F) → (L → M) → Fits E L a m → Fits F M a m
-looser E L F M a stays f g h = tt
-looser E L F M a (quiet b) f g (k, inl e) = (k, inl (f e.0, e.1))
-looser E L F M a (quiet b) f g (k, inr e) = (k, inr e)
-looser E L F M a (writes words b) f g h = (h.0, f h.1)
-looser E L F M a (signs b) f g h = (h.0, f h.1, h.2)
-looser E L F M a (asks ask b) f g h = (h.0, h.1, h.2, g h.3)
-looser E L F M a (fails e) f g h = h
-
-nothing : {A : Type 0} → ⊥ → A
-nothing e = absurd e
-
-fits_signed : (side : Side) (a : Standing) (m : Move) → a.side ≡ side → SignedMoves side a m → Fits (Unit {0}) (a.side ≡ Acceptor) a m
-fits_signed Opener a m q h = subst (Fits (Unit {0}) (a.side ≡ Acceptor) a) (sym h) tt
-fits_signed Acceptor a m q h = looser ⊥ (Unit {0}) (Unit {0}) (a.side ≡ Acceptor) a m nothing (λ u. q) (ask_fits a m h)
-
-fits_once : (b : Bool) (a : Standing) (m : Move) → MovesOnOnce b a m → Fits (Unit {0}) (a.side ≡ Acceptor) a m
-fits_once false a m h = looser (Unit {0}) ⊥ (Unit {0}) (a.side ≡ Acceptor) a m (λ u. u) nothing (fits a m h)
-fits_once true a m h = fits_signed a.side a m refl h
-
-fits_on : (a : Standing) (m : Move) → MovesOn a m → Fits (Unit {0}) (a.side ≡ Acceptor) a m
-fits_on a m h = fits_once (is_authed a.stage) a m h
+use Rattle.m2_handshake.specs.Standing.{Standing, fed, fed_at}
+use Rattle.m2_handshake.proofs.Leading.{tells}
 
 -- ---- one step
 
@@ -47,17 +20,17 @@ pays (control.Wait p) = refl
 pays c = refl
 
 counts : (d : Event) (a b : Standing) → Goes a d b → length (asks_of (d ∷ [])) + owed a.stage ≡ length (replies_of (d ∷ [])) + owed b.stage
-counts silent a b (inl h) = ap (λ n. 0 + n) (sym (fits_on a (quiet b) h).0.owes)
-counts silent a b (inr h) = ap (λ n. 0 + n) (sym (fits_on a (signs b) h).0.owes)
-counts (wrote words) a b h = ap (λ n. 0 + n) (sym (fits_on a (writes words b) h).0.owes)
-counts (asked ask) a b h = let k = fits_on a (asks ask b) h in ap (λ n. 1 + n) k.1 ∙ sym (ap (λ n. 0 + n) (ap owed k.2))
+counts silent a b h = ap (λ n. 0 + n) (sym (tells a silent b h).1)
+counts (wrote words) a b h = ap (λ n. 0 + n) (sym (tells a (wrote words) b h).1)
+counts (asked ask) a b h = let t = tells a (asked ask) b h in ap (λ n. 1 + n) t.1 ∙ sym (ap (λ n. 0 + n) (ap owed t.2))
+counts (failed f) a b h = let t = tells a (failed f) b h in ap (λ n. 0 + n) (t.1 ∙ sym (ap (λ (s : Standing). owed s.stage) t.2))
 counts (replied c) a b h = ap (λ n. 0 + n) (ap owed h.0) ∙ sym (ap (λ n. 1 + n) (ap (λ (s : Standing). owed s.stage) h.2 ∙ pays c))
 
 same_side : (d : Event) (a b : Standing) → Goes a d b → b.side ≡ a.side
-same_side silent a b (inl h) = (fits_on a (quiet b) h).0.side
-same_side silent a b (inr h) = (fits_on a (signs b) h).0.side
-same_side (wrote words) a b h = (fits_on a (writes words b) h).0.side
-same_side (asked ask) a b h = (fits_on a (asks ask b) h).0
+same_side silent a b h = (tells a silent b h).0.side
+same_side (wrote words) a b h = (tells a (wrote words) b h).0.side
+same_side (asked ask) a b h = (tells a (asked ask) b h).0.side
+same_side (failed f) a b h = ap (λ (s : Standing). s.side) (tells a (failed f) b h).2
 same_side (replied c) a b h = ap (λ (s : Standing). s.side) h.2
 
 -- ---- many
@@ -78,22 +51,43 @@ owes_one Asked = omega arith
 owes_one Ended = omega arith
 owes_one (Faulty f) = omega arith
 
-front_runs : (front back : List Event) (a b : Standing) → Runs (front ++ back) a b → (mid : Standing) × Runs front a mid
-front_runs [] back a b k = (a, refl)
-front_runs (d ∷ front) back a b (m, g, k) = let rest = front_runs front back m b k in (rest.0, (m, g, rest.1))
+prefix_runs : (front back : List Event) (a b : Standing) → Runs (front ++ back) a b → (mid : Standing) × Runs front a mid
+prefix_runs [] back a b k = (a, refl)
+prefix_runs (d ∷ front) back a b (m, g, k) = let rest = prefix_runs front back m b k in (rest.0, (m, g, rest.1))
 
 points : (front back : List Event) (a b : Standing) → owed a.stage ≡ 0 → Runs (front ++ back) a b →
     (length (replies_of front) ≤ length (asks_of front)) × (length (asks_of front) ≤ 1 + length (replies_of front))
 points front back a b o k =
-    let there = front_runs front back a b k in
+    let there = prefix_runs front back a b k in
     let count = counted front a there.0 there.1 in
     let most = owes_one there.0.stage in
     (omega (arith, count, o), omega (arith, count, o, most))
 
+fed_stage_at : (stage : Stage) (s : Standing) (more : List ℕ) → (fed_at stage s more).stage ≡ s.stage
+fed_stage_at Opening s more = refl
+fed_stage_at Banner s more = refl
+fed_stage_at (Waits awaited) s more = refl
+fed_stage_at Authed s more = refl
+fed_stage_at Asked s more = refl
+fed_stage_at Ended s more = refl
+fed_stage_at (Faulty f) s more = refl
+
+pub fed_stage : (s : Standing) (more : List ℕ) → (fed s more).stage ≡ s.stage
+fed_stage s more = fed_stage_at s.stage s more
+
+fed_side_at : (stage : Stage) (s : Standing) (more : List ℕ) → (fed_at stage s more).side ≡ s.side
+fed_side_at Opening s more = refl
+fed_side_at Banner s more = refl
+fed_side_at (Waits awaited) s more = refl
+fed_side_at Authed s more = refl
+fed_side_at Asked s more = refl
+fed_side_at Ended s more = refl
+fed_side_at (Faulty f) s more = refl
+
 ends : (begin s : Standing) (x : Exchange) → owed begin.stage ≡ 0 → Reaches begin x s → length x.asks ≡ length x.replies + owed s.stage
 ends begin s x o r =
-    let count = counted r.events (ungranted (grown x.bytes begin)) (ungranted s) r.runs in
-    omega (arith, count, o, ap length r.asks, ap length r.replies)
+    let count = counted r.events (fed begin x.bytes) s r.runs in
+    omega (arith, count, o, ap owed (fed_stage begin x.bytes), ap length r.asks, ap length r.replies)
 
 -- ---- an opener
 
@@ -104,16 +98,17 @@ no_asks : (ds : List Event) (a b : Standing) → a.side ≡ Opener → Runs ds a
 no_asks [] a b q k = refl
 no_asks (silent ∷ ds) a b q (m, g, k) = no_asks ds m b (same_side silent a m g ∙ q) k
 no_asks (wrote words ∷ ds) a b q (m, g, k) = no_asks ds m b (same_side (wrote words) a m g ∙ q) k
-no_asks (asked ask ∷ ds) a b q (m, g, k) = absurd (opener_isnt_acceptor (sym q ∙ (fits_on a (asks ask m) g).3))
+no_asks (asked ask ∷ ds) a b q (m, g, k) = absurd (opener_isnt_acceptor (sym q ∙ (tells a (asked ask) m g).3))
+no_asks (failed f ∷ ds) a b q (m, g, k) = no_asks ds m b (same_side (failed f) a m g ∙ q) k
 no_asks (replied c ∷ ds) a b q (m, g, k) = no_asks ds m b (same_side (replied c) a m g ∙ q) k
 
-is_empty : (cs : List Control) → length cs ≡ 0 → cs ≡ []
+pub is_empty : {A : Type 0} (xs : List A) → length xs ≡ 0 → xs ≡ []
 is_empty [] e = refl
-is_empty (c ∷ cs) e = absurd (omega (arith, e))
+is_empty (x ∷ xs) e = absurd (omega (arith, e))
 
 opener : (begin s : Standing) (x : Exchange) → begin.side ≡ Opener → owed begin.stage ≡ 0 → Reaches begin x s → (x.asks ≡ []) × (x.replies ≡ [])
 opener begin s x q o r =
-    let none = sym r.asks ∙ no_asks r.events (ungranted (grown x.bytes begin)) (ungranted s) q r.runs in
+    let none = sym r.asks ∙ no_asks r.events (fed begin x.bytes) s (fed_side_at begin.stage begin x.bytes ∙ q) r.runs in
     (none, is_empty x.replies (omega (arith, ends begin s x o r, ap length none)))
 
 pub asks_first : AsksBeforeReplies

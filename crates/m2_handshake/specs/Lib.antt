@@ -1,6 +1,7 @@
 pub mod Asking
 pub mod Asks
 pub mod Course
+pub mod Greeting
 pub mod Half
 pub mod Ident
 pub mod Laws

@@ -1,26 +1,25 @@
 -- The moves of a half: what it does next where it stands, a function of its unread bytes. One frame is taken
 -- from them at a time, and then answered by the table of the handshake.
-use Rattle.std.specs.Prelude.{◌≡◌, ◌==◌, ◌&&◌, ◌%◌, nat_lt, ℕ, Bool, false, if◌then◌else◌, List, [], ◌∷◌, drop, Option, Some, None}
+use Rattle.std.specs.Prelude.{◌≡◌, ◌==◌, ◌&&◌, ◌%◌, nat_lt, ℕ, Bool, true, false, if◌then◌else◌, List, [], ◌∷◌, drop, Option, Some, None, Result, Ok, Err}
+use Rattle.m2_addr.specs.declared.addr.Addr.{Addr}
 use Rattle.m2_control.specs.declared.banner.Banner.{Banner as Features}
 use Rattle.m2_control.specs.declared.banner.BannerStep.{BannerStep}
 use Rattle.m2_control.specs.declared.banner.BannerStep.TheVariants.{Got, NotYet, BadBanner}
-use Rattle.m2_control.specs.Banner.{IsStep, banner_text}
+use Rattle.m2_control.specs.Banner.{banner_in, banner_text}
 use Rattle.m2_frame.specs.Frame.{Parts}
 use Rattle.m2_frame.specs.Reading.{whole, dropped, Front, start, bad, text, judge}
 use Rattle.m2_handshake.specs.declared.ask.Ask.{Ask}
-use Rattle.m2_handshake.specs.declared.ask.Asking.{Asking}
-use Rattle.m2_handshake.specs.declared.ask.Asking.TheVariants.{Asks, Refused}
 use Rattle.m2_handshake.specs.declared.fault.HalfFault.{HalfFault}
 use Rattle.m2_handshake.specs.declared.fault.HalfFault.TheVariants as fault
-use Rattle.m2_handshake.specs.declared.reaction.Reaction.{Reaction}
-use Rattle.m2_handshake.specs.declared.reaction.Reaction.TheVariants.{Says, Silent, Signed, Refuses}
 use Rattle.m2_handshake.specs.declared.stage.Awaited.{Awaited}
 use Rattle.m2_handshake.specs.declared.stage.Awaited.TheVariants.{Hello}
+use Rattle.m2_handshake.specs.declared.stage.HalfSide.{HalfSide}
+use Rattle.m2_handshake.specs.declared.stage.HalfSide.TheVariants.{Opener, Acceptor}
 use Rattle.m2_handshake.specs.declared.stage.Stage.{Stage}
 use Rattle.m2_handshake.specs.declared.stage.Stage.TheVariants.{Opening, Banner, Waits, Authed, Asked, Ended, Faulty}
 use Rattle.m2_handshake.specs.Asks.{ask_in}
 use Rattle.m2_handshake.specs.Standing.{Standing}
-use Rattle.m2_handshake.specs.Steps.{after_frame}
+use Rattle.m2_handshake.specs.Steps.{Reaction, says, listens, signed, refuses, after_frame}
 use Rattle.m2_handshake.specs.Texts.{frame_text, hello}
 
 -- what comes next: nothing, for what is there is only the start of something; the half goes on without a word,
@@ -45,7 +44,7 @@ is_agreed b = (b.supported % 2 == 1) && nat_lt b.required 2
 
 abbrev pub after_banner : Standing → BannerStep → Move
 after_banner s (Got b used) =
-    if is_agreed b then writes (frame_text (hello s.entity s.seen)) (record s { stage = Waits Hello; rest = drop used s.rest; granted = false })
+    if is_agreed b then writes (frame_text (hello s.entity s.seen)) (record s { stage = Waits Hello; rest = drop used s.rest })
     else fails fault.BannerFeatures
 after_banner s NotYet = stays
 after_banner s BadBanner = fails fault.BadBanner
@@ -56,38 +55,38 @@ after_banner s BadBanner = fails fault.BadBanner
 abbrev pub take_frame : Standing → Front → Move
 take_frame s start = stays
 take_frame s (bad f) = fails (fault.Frame f)
-take_frame s (text (dropped tag) n) = quiet (record s { rest = drop n s.rest; granted = false })
-take_frame s (text (whole f) n) = quiet (record s { held = Some f; rest = drop n s.rest; granted = false })
+take_frame s (text (dropped tag) n) = quiet (record s { rest = drop n s.rest })
+take_frame s (text (whole f) n) = quiet (record s { held = Some f; rest = drop n s.rest })
 
 abbrev pub after_reaction : Standing → Reaction → Move
-after_reaction s (Says next words) = writes words.bytes (record s { stage = Waits next; held = None })
-after_reaction s (Silent next) = quiet (record s { stage = Waits next; held = None })
-after_reaction s Signed = signs (record s { stage = Authed; held = None })
-after_reaction s (Refuses f) = fails f
+after_reaction s (says next words) = writes words (record s { stage = Waits next; held = None })
+after_reaction s (listens next) = quiet (record s { stage = Waits next; held = None })
+after_reaction s signed = signs (record s { stage = Authed; held = None })
+after_reaction s (refuses f) = fails f
 
 abbrev pub answer_held : Standing → Awaited → Option Parts → Move
 answer_held s awaited (Some f) = after_reaction s (after_frame s.side awaited f)
 answer_held s awaited None = take_frame s (judge s.rest)
 
--- ---- a half's next move, by its stage
+-- ---- a half's next move in the handshake, by its stage
 
-abbrev pub MovesAt : Stage → Standing → Move → Type 0
-MovesAt Opening s m = m ≡ writes (banner_text features) (record s { stage = Banner })
-MovesAt Banner s m = (b : BannerStep) × IsStep b s.rest × (m ≡ after_banner s b)
-MovesAt (Waits awaited) s m = m ≡ answer_held s awaited s.held
-MovesAt Authed s m = m ≡ signs s
-MovesAt Asked s m = m ≡ signs s
-MovesAt Ended s m = m ≡ signs s
-MovesAt (Faulty f) s m = m ≡ fails f
+abbrev pub move_at : Stage → Standing → Move
+move_at Opening s = writes (banner_text features) (record s { stage = Banner })
+move_at Banner s = after_banner s (banner_in s.rest)
+move_at (Waits awaited) s = answer_held s awaited s.held
+move_at Authed s = signs s
+move_at Asked s = signs s
+move_at Ended s = signs s
+move_at (Faulty f) s = fails f
 
-abbrev pub Moves : Standing → Move → Type 0
-Moves s m = MovesAt s.stage s m
+abbrev pub move_of : Standing → Move
+move_of s = move_at s.stage s
 
 -- ---- an acceptor's next move towards an ask, by its stage
 
-abbrev pub after_asking : Standing → Asking → Move
-after_asking s (Asks ask main) = asks ask (record s { stage = Asked; held = None; peer = Some main })
-after_asking s (Refused f) = fails f
+abbrev pub after_asking : Standing → Result (Ask × Addr) HalfFault → Move
+after_asking s (Ok (ask, main)) = asks ask (record s { stage = Asked; held = None; peer = Some main })
+after_asking s (Err f) = fails f
 
 abbrev pub read_held : Standing → Option Parts → Move
 read_held s (Some f) = after_asking s (ask_in s.peer f)
@@ -105,11 +104,89 @@ ask_move_at Ended s = refuse_held s s.held
 ask_move_at (Faulty f) s = fails f
 ask_move_at _ s = stays
 
-abbrev pub MovesToAsk : Standing → Move → Type 0
-MovesToAsk s m = m ≡ ask_move_at s.stage s
+abbrev pub ask_move_of : Standing → Move
+ask_move_of s = ask_move_at s.stage s
+
+-- ---- who is asked
+
+-- both sides have signed, and there was no fault
+abbrev pub is_authed : Stage → Bool
+is_authed Authed = true
+is_authed Asked = true
+is_authed Ended = true
+is_authed _ = false
+
+-- an acceptor that waits for an ask, owes a reply, waits for the end or keeps a fault
+abbrev pub can_ask_at : HalfSide → Stage → Bool
+can_ask_at Opener stage = false
+can_ask_at Acceptor (Faulty f) = true
+can_ask_at Acceptor stage = is_authed stage
+
+abbrev pub can_ask : Standing → Bool
+can_ask s = can_ask_at s.side s.stage
+
+-- the next move: of an acceptor that has signed it is one towards an ask
+abbrev pub next_move_at : Stage → HalfSide → Standing → Move
+next_move_at Authed Acceptor s = ask_move_at Authed s
+next_move_at Asked Acceptor s = ask_move_at Asked s
+next_move_at Ended Acceptor s = ask_move_at Ended s
+next_move_at stage side s = move_at stage s
+
+abbrev pub next_move : Standing → Move
+next_move s = next_move_at s.stage s.side s
+
+-- nothing is to be done before more bytes come, or while a reply is owed
+abbrev pub is_stays : Move → Bool
+is_stays stays = true
+is_stays _ = false
+
+abbrev pub is_at_rest : Standing → Bool
+is_at_rest s = is_stays (next_move s)
+
+-- no frame is in hand, and what is unread is the start of one; the same of a banner
+abbrev pub is_start : Option Parts → Front → Bool
+is_start None start = true
+is_start _ _ = false
+
+abbrev pub is_banner_start : BannerStep → Bool
+is_banner_start NotYet = true
+is_banner_start _ = false
+
+-- ---- where memory is wanted: for its own banner; where the whole banner of the other side is there; for a frame in
+-- hand, or the whole text of one
+
+abbrev pub is_banner : BannerStep → Bool
+is_banner (Got b used) = true
+is_banner _ = false
+
+abbrev pub is_whole : Front → Bool
+is_whole (text (whole f) n) = true
+is_whole _ = false
+
+abbrev pub is_frame_there : Option Parts → Front → Bool
+is_frame_there (Some f) front = true
+is_frame_there None front = is_whole front
+
+abbrev pub wants_memory_at : Stage → Standing → Bool
+wants_memory_at Opening s = true
+wants_memory_at Banner s = is_banner (banner_in s.rest)
+wants_memory_at (Waits awaited) s = is_frame_there s.held (judge s.rest)
+wants_memory_at _ s = false
+
+abbrev pub wants_memory : Standing → Bool
+wants_memory s = wants_memory_at s.stage s
+
+-- towards an ask
+abbrev pub wants_memory_to_ask_at : Stage → Standing → Bool
+wants_memory_to_ask_at Authed s = is_frame_there s.held (judge s.rest)
+wants_memory_to_ask_at Ended s = is_frame_there s.held (judge s.rest)
+wants_memory_to_ask_at _ s = false
+
+abbrev pub wants_memory_to_ask : Standing → Bool
+wants_memory_to_ask s = wants_memory_to_ask_at s.stage s
 
 -- ---- several moves without a word
 
-abbrev pub Quietly : (Standing → Move → Type 0) → List Standing → Standing → Standing → Type 0
-Quietly R [] a b = a ≡ b
-Quietly R (m ∷ ms) a b = R a (quiet m) × Quietly R ms m b
+abbrev pub Quietly : (Standing → Move) → List Standing → Standing → Standing → Type 0
+Quietly move [] a b = a ≡ b
+Quietly move (m ∷ ms) a b = (move a ≡ quiet m) × Quietly move ms m b

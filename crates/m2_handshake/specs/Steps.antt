@@ -6,23 +6,20 @@ use Rattle.std.specs.List.{list_all, list_any}
 use Rattle.m2_control.specs.declared.auth_request.AuthRequest.{AuthRequest}
 use Rattle.m2_control.specs.declared.control.Control.{Control}
 use Rattle.m2_control.specs.declared.control.Control.TheVariants as control
-use Rattle.m2_control.specs.declared.fault.ControlFault.{ControlFault}
-use Rattle.m2_control.specs.declared.tag.Tag.{Tag}
-use Rattle.m2_control.specs.declared.tag.Tag.TheVariants as tag
-use Rattle.m2_control.specs.Control.{tag_of, payload_of}
-use Rattle.m2_control.specs.Tags.{tag_number}
+use Rattle.m2_tag.specs.declared.tag.Tag.{Tag}
+use Rattle.m2_tag.specs.declared.tag.Tag.TheVariants as tag
+use Rattle.m2_control.specs.Control.{tag_of}
+use Rattle.m2_tag.specs.Tags.{tag_number}
 use Rattle.m2_frame.specs.Frame.{Parts}
 use Rattle.m2_handshake.specs.declared.fault.HalfFault.{HalfFault}
 use Rattle.m2_handshake.specs.declared.fault.HalfFault.TheVariants.{Unexpected, BadAuth, BadSignature}
-use Rattle.m2_handshake.specs.declared.fault.HalfFault.TheVariants as fault
 use Rattle.m2_handshake.specs.declared.stage.Awaited.{Awaited}
 use Rattle.m2_handshake.specs.declared.stage.Awaited.TheVariants.{Hello, Request, Done, Signature}
-use Rattle.m2_handshake.specs.declared.stage.Side.{Side}
-use Rattle.m2_handshake.specs.declared.stage.Side.TheVariants.{Opener, Acceptor}
-use Rattle.m2_handshake.specs.declared.reaction.Reaction.{Reaction}
-use Rattle.m2_handshake.specs.declared.reaction.Reaction.TheVariants.{Says, Silent, Signed, Refuses}
+use Rattle.m2_handshake.specs.declared.stage.HalfSide.{HalfSide}
+use Rattle.m2_handshake.specs.declared.stage.HalfSide.TheVariants.{Opener, Acceptor}
+use Rattle.m2_handshake.specs.declared.texts.TheConstants.{NONE, CRC, SIGNATURE_BYTES}
+use Rattle.m2_handshake.specs.Reading.{payload_in}
 use Rattle.m2_handshake.specs.Texts.{frame_text, request, done, signature, bad_method}
-use Rattle.m2_control.specs.Fields.{blob}
 
 -- ---- words of the table
 
@@ -35,47 +32,43 @@ awaited_tag Signature = tag.AuthSignature
 
 -- the method is none, and crc is among the modes
 abbrev pub is_served : AuthRequest → Bool
-is_served r = (r.method == 1) && list_any (λ m. m == 1) r.modes
+is_served r = (r.method == NONE) && list_any (λ m. m == CRC) r.modes.items
 
 -- 32 zero bytes
 abbrev pub is_unsigned : List ℕ → Bool
-is_unsigned bytes = (length bytes == 32) && list_all (λ b. b == 0) bytes
+is_unsigned bytes = (length bytes == SIGNATURE_BYTES) && list_all (λ b. b == 0) bytes
 
--- writes this text and waits for that frame
-abbrev pub says : Awaited → List ℕ → Reaction
-says next text = Says next (blob text)
+-- what a frame brings: the half writes this text, or none, and waits for that frame; both sides have signed; a fault
+pub data Reaction : Type 0 where
+  says : Awaited → List ℕ → Reaction
+  listens : Awaited → Reaction
+  signed : Reaction
+  refuses : HalfFault → Reaction
 
 -- ---- the table: the side; what it waits for; what is read; what is written, and what is waited for then
 
-abbrev pub after : Side → Awaited → Control → Reaction
+abbrev pub after : HalfSide → Awaited → Control → Reaction
 after Opener Hello (control.Hello _) = says Done (frame_text request)
-after Acceptor Hello (control.Hello _) = Silent Request
+after Acceptor Hello (control.Hello _) = listens Request
 after _ Request (control.AuthRequest r) =
     if is_served r then says Signature (frame_text done ++ frame_text signature)
     else says Request (frame_text (bad_method r.method))
-after _ Done (control.AuthDone d) = if d.mode == 1 then says Signature (frame_text signature) else Refuses BadAuth
-after _ Signature (control.AuthSignature s) = if is_unsigned s.signature.bytes then Signed else Refuses BadSignature
-after _ _ c = Refuses (Unexpected (tag_number (tag_of c)))
+after _ Done (control.AuthDone d) = if d.mode == CRC then says Signature (frame_text signature) else refuses BadAuth
+after _ Signature (control.AuthSignature s) = if is_unsigned s.signature.bytes then signed else refuses BadSignature
+after _ _ c = refuses (Unexpected (tag_number (tag_of c)))
 
 -- another tag than the one that is waited for; AUTH_BAD_METHOD is the acceptor's refusal
 abbrev pub unawaited : Awaited → ℕ → HalfFault
-unawaited Done t = if t == 3 then BadAuth else Unexpected t
+unawaited Done t = if t == tag_number tag.AuthBadMethod then BadAuth else Unexpected t
 unawaited _ t = Unexpected t
 
 -- ---- a whole frame: its tag is looked at, then its payload is read
 
-abbrev pub after_payload : Side → Awaited → Result Control ControlFault → Reaction
+abbrev pub after_payload : HalfSide → Awaited → Result Control HalfFault → Reaction
 after_payload side awaited (Ok c) = after side awaited c
-after_payload side awaited (Err e) = Refuses (fault.Control e)
+after_payload side awaited (Err f) = refuses f
 
-abbrev pub after_frame : Side → Awaited → Parts → Reaction
+abbrev pub after_frame : HalfSide → Awaited → Parts → Reaction
 after_frame side awaited f =
-    if f.tag == tag_number (awaited_tag awaited) then after_payload side awaited (payload_of (awaited_tag awaited) f.first)
-    else Refuses (unawaited awaited f.tag)
-
--- a reaction without where its text lies in memory
-abbrev pub bare_reaction : Reaction → Reaction
-bare_reaction (Says next text) = says next text.bytes
-bare_reaction (Silent next) = Silent next
-bare_reaction Signed = Signed
-bare_reaction (Refuses f) = Refuses f
+    if f.tag == tag_number (awaited_tag awaited) then after_payload side awaited (payload_in (awaited_tag awaited) f.first)
+    else refuses (unawaited awaited f.tag)

@@ -1,16 +1,17 @@
 -- What a half writes until it is authed: HELLO and the four frames of an authentication without a method, in
 -- crc mode. Formats: Ceph's msgr2 documentation; the values are this project's profile.
-use Rattle.std.specs.Prelude.{◌≡◌, ℕ, ℤ, List, [], ◌∷◌, ◌++◌, negsuc, Result, Ok, Err}
+use Rattle.std.specs.Prelude.{◌≡◌, ℕ, List, [], ◌∷◌, ◌++◌, replicate, Result, Ok, Err}
 use Rattle.m2_addr.specs.declared.addr.Addr.{Addr}
 use Rattle.m2_addr.specs.declared.addr.AnyAddr.TheVariants.{V4}
 use Rattle.m2_bytes.specs.declared.memory.NoMemory.{NoMemory}
 use Rattle.m2_bytes.specs.Blob.{Contents}
 use Rattle.m2_control.specs.declared.control.Control.{Control}
 use Rattle.m2_control.specs.declared.control.Control.TheVariants as control
-use Rattle.m2_control.specs.Tags.{tag_number}
+use Rattle.m2_tag.specs.Tags.{tag_number}
 use Rattle.m2_control.specs.Control as payload
-use Rattle.m2_control.specs.Fields.{blob}
+use Rattle.m2_control.specs.Fields.{blob, listed}
 use Rattle.m2_frame.specs.Frame.{Parts}
+use Rattle.m2_handshake.specs.declared.texts.TheConstants.{NONE, CRC, SIGNATURE_BYTES, NOT_SUPPORTED}
 use Rattle.m2_frame.specs.Text as frame
 
 -- a frame of one segment, the payload
@@ -24,26 +25,19 @@ frame_text c = frame.text_of (control_parts c)
 abbrev pub hello : ℕ → Addr → Control
 hello entity seen = control.Hello (record { entity = entity; seen = V4 seen })
 
--- method 1 is none, mode 1 is crc
 abbrev pub request : Control
-request = control.AuthRequest (record { method = 1; modes = 1 ∷ []; payload = blob [] })
+request = control.AuthRequest (record { method = NONE; modes = listed (CRC ∷ []); payload = blob [] })
 
 abbrev pub done : Control
-done = control.AuthDone (record { global_id = 0; mode = 1; payload = blob [] })
+done = control.AuthDone (record { global_id = 0; mode = CRC; payload = blob [] })
 
 -- 32 zero bytes
-abbrev pub unsigned : List ℕ
-unsigned = 0 ∷ 0 ∷ 0 ∷ 0 ∷ 0 ∷ 0 ∷ 0 ∷ 0 ∷ 0 ∷ 0 ∷ 0 ∷ 0 ∷ 0 ∷ 0 ∷ 0 ∷ 0 ∷ 0 ∷ 0 ∷ 0 ∷ 0 ∷ 0 ∷ 0 ∷ 0 ∷ 0 ∷ 0 ∷ 0 ∷ 0 ∷ 0 ∷ 0 ∷ 0 ∷ 0 ∷ 0 ∷ []
-
 abbrev pub signature : Control
-signature = control.AuthSignature (record { signature = blob unsigned })
-
-abbrev pub minus_95 : ℤ
-minus_95 = negsuc 94
+signature = control.AuthSignature (record { signature = blob (replicate SIGNATURE_BYTES 0) })
 
 -- the method that was asked for, and what is accepted
 abbrev pub bad_method : ℕ → Control
-bad_method method = control.AuthBadMethod (record { method = method; outcome = minus_95; methods = 1 ∷ []; modes = 1 ∷ [] })
+bad_method method = control.AuthBadMethod (record { method = method; outcome = NOT_SUPPORTED; methods = listed (NONE ∷ []); modes = listed (CRC ∷ []) })
 
 -- Ok: the text is added at the end. Err: the bytes are as before.
 abbrev pub Adds : Result (Unit {0}) NoMemory → Contents → Contents → List ℕ → Type 0

@@ -1,22 +1,22 @@
 //! One side of a handshake.
 
-ghost use Rattle.std.specs.Prelude.{◌≡◌, ◌≤◌, [], true, false, None, IsSome, MatchResult, length};
-ghost use Rattle.m2_handshake.specs.declared.answer.HalfStep.TheVariants as answers;
-ghost use Rattle.m2_handshake.specs.declared.ask.AskStep.TheVariants as asksteps;
-ghost use Rattle.m2_handshake.specs.declared.stage.Side.TheVariants as sides;
+ghost use Rattle.std.specs.Prelude.{◌≡◌, ◌≤◌, ◌+◌, true, false, None, IsOk, IsSome, OnOk, OnErr, IsTrue, ◌↔◌, length};
+ghost use Rattle.m2_frame.specs.Reading.{judge};
 ghost use Rattle.m2_handshake.specs.declared.stage.Stage.TheVariants as stages;
-ghost use Rattle.m2_handshake.specs.Half.{Advances, Answers, Ends, Follows, IsReading, SaysHello, Shrinks, TakesFrame, fed};
-ghost use Rattle.m2_handshake.specs.Asking.{AskAdvances, AskAnswers, AskShrinks, OfTaking, Replies, can_ask, is_ready};
-ghost use Rattle.m2_handshake.specs.Moves.{is_agreed};
+ghost use Rattle.m2_handshake.specs.Asking.{AskAdvances, AskAnswers, AskShrinks, Replies, is_ready};
+ghost use Rattle.m2_handshake.specs.Half.{Advances, Answers, Ends, Follows, IsReading, SaysHello, Shrinks, TakesFrame, writer};
+ghost use Rattle.m2_handshake.specs.Moves.{can_ask, is_agreed, is_at_rest, is_banner_start, is_start};
+ghost use Rattle.m2_handshake.specs.Standing.{CanFeed, IsClear, IsSameButRoom, acceptor_at_start, at_start, faulted, fed, opener_at_start};
 ghost use Rattle.m2_handshake.specs.Texts.{IsReply};
 
-use crate::advance::{Advance, AskAdvance};
 use crate::answer::HalfStep;
-use crate::ask::{AskStep, Asking, read_ask};
+use crate::ask::{Ask, AskStep, read_ask};
 use crate::fault::HalfFault;
-use crate::reaction::{Reaction, react};
-use crate::stage::{Awaited, Side, Stage};
-use crate::taking::{Text, take};
+use crate::halt::Halt;
+use crate::progress::Progress;
+use crate::reaction::{Turn, react};
+use crate::stage::{Awaited, HalfSide, Stage};
+use crate::taking::take;
 use crate::texts::{put_hello, put_reply};
 use m2_addr::Addr;
 use m2_bytes::{Blob, NoMemory};
@@ -31,61 +31,88 @@ const FEATURES: Banner = Banner {
     required: 1,
 };
 
-/// One side of a handshake, from its banner to the ask. Contracts see where it stands.
+/// One side of a handshake, from its banner to the ask. Contracts see where it stands, how many bytes it
+/// was fed, and the room: how many more fit before memory is taken.
 ///
 /// Makers: [`client`](Half::client), [`server`](Half::server). Feed it the pieces of the socket in
 /// order with [`feed`](Half::feed), and ask [`next`](Half::next) until it answers
 /// [`HalfStep::NotYet`]; what it appends goes to the socket. Its answers are those of the bytes that
 /// were fed, however they were cut. An authed client is [`finish`](Half::finish)ed. An authed server is
 /// [`ask`](Half::ask)ed, and each ask is given its [`reply`](Half::reply) unless its session is accepted.
+/// Before bytes are read that can't be given back, [`reserve`](Half::reserve) makes room for them.
+/// Looks: [`stage`](Half::stage), [`rests`](Half::rests), [`can_ask`](Half::can_ask),
+/// [`is_ready`](Half::is_ready).
 #[derive(Debug, Drop)]
 pub struct Half {
     alloc: Global,
-    side: Side,
+    side: HalfSide,
     entity: u8,
     seen: Addr,
     stage: Stage,
     peer: Option<Addr>,
     held: Option<Frame>,
-    front: Blob,
+    early: Blob,
     decoder: Decoder,
+    count: u64,
 }
 
 impl Model for Half {
-    ghost use Rattle.m2_handshake.specs.Standing.{Standing, parts_held, rest_of, granted_of};
+    ghost use Rattle.m2_handshake.specs.Standing.{HalfState, Holds, parts_held, unread_of};
 
-    ghost Value = { Standing };
+    ghost Value = { HalfState };
 
     ghost view = { λ h. record {
-      side = h.side;
-      entity = h.entity;
-      seen = h.seen;
-      stage = h.stage;
-      peer = h.peer;
-      held = parts_held h.held;
-      rest = rest_of h.stage h.front.bytes h.decoder;
-      granted = granted_of h.stage h.decoder;
+      standing = record {
+        side = h.side;
+        entity = h.entity;
+        seen = h.seen;
+        stage = h.stage;
+        peer = h.peer;
+        held = parts_held h.held;
+        rest = (unread_of h.stage h.early h.decoder).rest;
+      };
+      granted = (unread_of h.stage h.early h.decoder).granted;
+      count = h.count;
+      room = (unread_of h.stage h.early h.decoder).room;
     } };
+
+    ghost invariant = { λ h. Holds (record {
+      standing = record {
+        side = h.side;
+        entity = h.entity;
+        seen = h.seen;
+        stage = h.stage;
+        peer = h.peer;
+        held = parts_held h.held;
+        rest = (unread_of h.stage h.early h.decoder).rest;
+      };
+      granted = (unread_of h.stage h.early h.decoder).granted;
+      count = h.count;
+      room = (unread_of h.stage h.early h.decoder).room;
+    }) (unread_of h.stage h.early h.decoder) };
 }
 
 impl Half {
     /// The side that connected. Its HELLO names this entity, and the address that was dialled.
     pub fn client(alloc: Global, entity: u8, seen: Addr) -> Half
-        ensures { result ≡ record { side = sides.Opener; entity = entity; seen = seen; stage = stages.Opening; peer = None; held = None; rest = []; granted = false } }
+        ensures standing { result.standing ≡ opener_at_start entity seen }
+        ensures granted { result.granted ≡ false }
     {
-        Half::new(alloc, Side::Opener, entity, seen)
+        Half::new(alloc, HalfSide::Opener, entity, seen)
     }
 
     /// The side that accepted. Its HELLO names this entity, and the address of the socket with the
     /// kind of msgr2 and nonce 0.
     pub fn server(alloc: Global, entity: u8, seen: Addr) -> Half
-        ensures { result ≡ record { side = sides.Acceptor; entity = entity; seen = seen; stage = stages.Opening; peer = None; held = None; rest = []; granted = false } }
+        ensures standing { result.standing ≡ acceptor_at_start entity seen }
+        ensures granted { result.granted ≡ false }
     {
-        Half::new(alloc, Side::Acceptor, entity, seen)
+        Half::new(alloc, HalfSide::Acceptor, entity, seen)
     }
 
-    fn new(alloc: Global, side: Side, entity: u8, seen: Addr) -> Half
-        ensures { result ≡ record { side = side; entity = entity; seen = seen; stage = stages.Opening; peer = None; held = None; rest = []; granted = false } }
+    fn new(alloc: Global, side: HalfSide, entity: u8, seen: Addr) -> Half
+        ensures standing { result.standing ≡ at_start side entity seen }
+        ensures granted { result.granted ≡ false }
     {
         Half {
             alloc,
@@ -95,14 +122,15 @@ impl Half {
             stage: Stage::Opening,
             peer: None,
             held: None,
-            front: Blob::empty(alloc),
+            early: Blob::empty(alloc),
             decoder: Decoder::new(alloc),
+            count: 0,
         }
     }
 
     /// Where the half stands.
     pub fn stage(&self) -> Stage
-        ensures { result ≡ self.now.stage }
+        ensures { result ≡ self.now.standing.stage }
     {
         self.stage
     }
@@ -110,7 +138,7 @@ impl Half {
     /// Whether both sides have signed and no frame is in hand, so that the half can be finished. After
     /// an answer of Authed it is so; only an ask that found no memory may leave its frame in hand.
     pub fn is_ready(&self) -> bool
-        ensures { result ≡ is_ready self.now }
+        ensures { result ≡ is_ready self.now.standing }
     {
         match self.stage {
             Stage::Authed | Stage::Asked | Stage::Ended => self.held.is_none(),
@@ -118,58 +146,136 @@ impl Half {
         }
     }
 
-    /// Takes the next piece of the socket. A half that has answered a fault keeps nothing of it.
-    pub fn feed(&mut self, piece: &[u8]) -> Result<(), NoMemory>
-        ensures { MatchResult result (λ _. self.new ≡ fed self.old piece.now) (λ _. self.new ≡ self.old) }
+    /// Whether nothing is to be done before more bytes come, or while a reply is owed: where
+    /// [`next`](Half::next), or [`ask`](Half::ask) at an acceptor that has signed, answers NotYet and
+    /// leaves the half where it stands. An opener that has signed answers Authed, and doesn't rest.
+    #[tactic(auto, using(crate::proofs::Resting::banner_rest, crate::proofs::Resting::held_rest, crate::proofs::Resting::read_rest, crate::proofs::Resting::refuse_rest, crate::proofs::Banners::step_is))]
+    pub fn rests(&self) -> bool
+        ensures { result ≡ is_at_rest self.now.standing }
     {
         match self.stage {
-            Stage::Opening | Stage::Banner => self.front.push_all(piece),
-            Stage::Faulty(_) => Ok(()),
-            _ => self.decoder.feed(piece),
+            Stage::Opening | Stage::Faulty(_) => false,
+            Stage::Banner => is_start_of_banner(read_banner(self.early.as_slice())),
+            Stage::Waits(_) => self.is_at_start(),
+            Stage::Authed | Stage::Ended => match self.side {
+                HalfSide::Opener => false,
+                HalfSide::Acceptor => self.is_at_start(),
+            },
+            Stage::Asked => match self.side {
+                HalfSide::Opener => false,
+                HalfSide::Acceptor => true,
+            },
         }
+    }
+
+    /// Whether no frame is in hand, and what is unread is the start of one.
+    #[tactic(auto, using(crate::proofs::Resting::start_is, crate::proofs::Resting::start_isnt))]
+    fn is_at_start(&self) -> bool
+        requires { IsReading self.now.standing.stage }
+        ensures { result ≡ is_start self.now.standing.held (judge self.now.standing.rest) }
+    {
+        match self.held {
+            Some(_) => false,
+            None => self.decoder.starts(),
+        }
+    }
+
+    /// Makes room for `more` bytes, so that feeding them can't fail.
+    ///
+    /// The room is that of what is fed before the next answer. The end of a banner moves the bytes behind
+    /// it, which may want memory: [`next`](Half::next) then answers want of memory, no byte is lost, and
+    /// a later call goes on from there.
+    pub fn reserve(&mut self, more: usize) -> Result<(), NoMemory>
+        ensures same { IsSameButRoom self.old self.new }
+        ensures fits { OnOk result (CanFeed self.new more) }
+        ensures grows { self.old.room ≤ self.new.room }
+    {
+        if more as u64 > u64::MAX - self.count {
+            return Err(NoMemory);
+        }
+        match self.stage {
+            Stage::Opening | Stage::Banner => self.early.reserve(more),
+            _ => self.decoder.reserve(more),
+        }
+    }
+
+    /// Takes the next piece of the socket. A half that has answered a fault keeps nothing of it. A
+    /// socket that would pass 2^64 bytes is answered as want of memory.
+    pub fn feed(&mut self, piece: &[u8]) -> Result<(), NoMemory>
+        ensures ok { OnOk result (self.new.standing ≡ fed self.old.standing piece.now) }
+        ensures err { OnErr result (IsSameButRoom self.old self.new) }
+        ensures granted { self.new.granted ≡ self.old.granted }
+        ensures count { OnOk result (self.new.count ≡ self.old.count + length piece.now) }
+        ensures room { self.old.room ≤ self.new.room + length piece.now }
+        ensures succeeds { CanFeed self.old (length piece.now) → IsOk result }
+    {
+        if piece.len() as u64 > u64::MAX - self.count {
+            return Err(NoMemory);
+        }
+        match self.stage {
+            Stage::Opening | Stage::Banner => self.early.push_all(piece)?,
+            Stage::Faulty(_) => {}
+            _ => self.decoder.feed(piece)?,
+        }
+        self.count += piece.len() as u64;
+        Ok(())
     }
 
     /// The next answer of the handshake; what it writes is appended to `out`.
     pub fn next(&mut self, out: &mut Blob) -> HalfStep
-        ensures { Answers result self.old self.new out.old.bytes out.new.bytes }
+        ensures { Answers result (writer self.old out.old) (writer self.new out.new) }
     {
         'moves: loop {
             match self.advance(out) {
-                Advance::On => {}
-                Advance::Stops(answer) => return answer,
+                Ok(Progress::On) => {}
+                Ok(Progress::Wrote) => return HalfStep::Wrote,
+                Ok(Progress::Signed) => return HalfStep::Authed,
+                Err(Halt::NotYet) => return HalfStep::NotYet,
+                Err(Halt::NoMemory) => return HalfStep::NoMemory,
+                Err(Halt::Fault(fault)) => {
+                    self.fail(fault);
+                    return HalfStep::Fault(fault);
+                }
             }
         }
     }
 
     /// Whether this is an acceptor and both sides have signed, so that it can be asked for asks.
     pub fn can_ask(&self) -> bool
-        ensures { result ≡ can_ask self.now }
+        ensures { result ≡ can_ask self.now.standing }
     {
         match (self.side, self.stage) {
-            (Side::Opener, _) => false,
-            (Side::Acceptor, Stage::Opening | Stage::Banner | Stage::Waits(_)) => false,
-            (Side::Acceptor, _) => true,
+            (HalfSide::Opener, _) => false,
+            (HalfSide::Acceptor, Stage::Opening | Stage::Banner | Stage::Waits(_)) => false,
+            (HalfSide::Acceptor, _) => true,
         }
     }
 
     /// The next ask, at an acceptor that is authed.
     pub fn ask(&mut self) -> AskStep
-        requires { can_ask self.old ≡ true }
-        ensures { AskAnswers result self.old self.new }
+        requires { can_ask self.old.standing ≡ true }
+        ensures { AskAnswers result self.old.standing self.new.standing }
     {
         'moves: loop {
             match self.advance_ask() {
-                AskAdvance::On => {}
-                AskAdvance::Stops(answer) => return answer,
+                Ok(None) => {}
+                Ok(Some(ask)) => return AskStep::Asked(ask),
+                Err(Halt::NotYet) => return AskStep::NotYet,
+                Err(Halt::NoMemory) => return AskStep::NoMemory,
+                Err(Halt::Fault(fault)) => {
+                    self.fail(fault);
+                    return AskStep::Fault(fault);
+                }
             }
         }
     }
 
     /// Appends the frame of the reply to the last ask, which isn't that of an accepted session.
     pub fn reply(&mut self, c: &Control, out: &mut Blob) -> Result<(), NoMemory>
-        requires owed { self.old.stage ≡ stages.Asked }
+        requires owed { self.old.standing.stage ≡ stages.Asked }
         requires reply { IsReply c.now }
-        ensures { Replies result c.now self.old self.new out.old.bytes out.new.bytes }
+        ensures exact { Replies result c.now (writer self.old out.old) (writer self.new out.new) }
+        ensures granted { self.new.granted ≡ false }
     {
         put_reply(self.alloc, c, out)?;
         self.stage = match c {
@@ -179,209 +285,184 @@ impl Half {
         Ok(())
     }
 
-    /// Hands on the decoder with all unread bytes.
+    /// Hands on the decoder with all unread bytes. A half that was asked has granted nothing.
     pub fn finish(self) -> Decoder
-        requires { is_ready self ≡ true }
-        ensures rest { result.rest ≡ self.rest }
+        requires { is_ready self.standing ≡ true }
+        ensures rest { result.rest ≡ self.standing.rest }
         ensures granted { result.granted ≡ self.granted }
+        ensures clear { IsClear self }
     {
         self.decoder
     }
 
     /// One move towards the next ask.
-    fn advance_ask(&mut self) -> AskAdvance
-        ensures exact { AskAdvances result self.old self.new }
-        ensures shrinks { AskShrinks result self.old self.new }
+    fn advance_ask(&mut self) -> Result<Option<Ask>, Halt>
+        ensures exact { AskAdvances result self.old.standing self.new.standing }
+        ensures shrinks { AskShrinks result self.old.standing self.new.standing }
     {
         match self.stage {
             Stage::Authed => self.seek_ask(),
             Stage::Ended => self.await_end(),
-            Stage::Faulty(fault) => AskAdvance::Stops(AskStep::Fault(fault)),
-            Stage::Opening | Stage::Banner | Stage::Waits(_) | Stage::Asked => {
-                AskAdvance::Stops(AskStep::NotYet)
-            }
+            Stage::Faulty(fault) => Err(Halt::Fault(fault)),
+            Stage::Opening | Stage::Banner | Stage::Waits(_) | Stage::Asked => Err(Halt::NotYet),
         }
     }
 
     /// Takes the next frame, or reads the ask that is in hand.
-    fn seek_ask(&mut self) -> AskAdvance
-        requires { self.old.stage ≡ stages.Authed }
-        ensures exact { AskAdvances result self.old self.new }
-        ensures shrinks { AskShrinks result self.old self.new }
+    fn seek_ask(&mut self) -> Result<Option<Ask>, Halt>
+        requires { self.old.standing.stage ≡ stages.Authed }
+        ensures exact { AskAdvances result self.old.standing self.new.standing }
+        ensures shrinks { AskShrinks result self.old.standing self.new.standing }
     {
-        let asking = match &self.held {
-            None => return of_taking(self.take_frame()),
-            Some(frame) => read_ask(self.alloc, self.peer, frame),
+        let Some(frame) = &self.held else {
+            self.take_frame()?;
+            return Ok(None);
         };
-        match asking {
-            Ok(Asking::Asks(ask, main)) => {
-                self.held = None;
-                self.stage = Stage::Asked;
-                self.peer = Some(main);
-                AskAdvance::Stops(AskStep::Asked(ask))
-            }
-            Ok(Asking::Refused(fault)) => AskAdvance::Stops(self.fail_ask(fault)),
-            Err(NoMemory) => AskAdvance::Stops(AskStep::NoMemory),
-        }
+        let (ask, main) = read_ask(self.alloc, self.peer, frame)?;
+        self.held = None;
+        self.stage = Stage::Asked;
+        self.peer = Some(main);
+        Ok(Some(ask))
     }
 
     /// Takes the next frame; any whole one is too much.
-    fn await_end(&mut self) -> AskAdvance
-        requires { self.old.stage ≡ stages.Ended }
-        ensures exact { AskAdvances result self.old self.new }
-        ensures shrinks { AskShrinks result self.old self.new }
+    fn await_end(&mut self) -> Result<Option<Ask>, Halt>
+        requires { self.old.standing.stage ≡ stages.Ended }
+        ensures exact { AskAdvances result self.old.standing self.new.standing }
+        ensures shrinks { AskShrinks result self.old.standing self.new.standing }
     {
-        let tag = match &self.held {
-            None => return of_taking(self.take_frame()),
-            Some(frame) => frame.tag,
+        let Some(frame) = &self.held else {
+            self.take_frame()?;
+            return Ok(None);
         };
-        AskAdvance::Stops(self.fail_ask(HalfFault::Unexpected { tag }))
-    }
-
-    /// Answers a fault to an ask, and keeps it.
-    fn fail_ask(&mut self, fault: HalfFault) -> AskStep
-        ensures answer { result ≡ asksteps.Fault fault }
-        ensures stage { self.new.stage ≡ stages.Faulty fault }
-    {
-        self.stage = Stage::Faulty(fault);
-        AskStep::Fault(fault)
+        Err(Halt::Fault(HalfFault::Unexpected { tag: frame.tag }))
     }
 
     /// One move.
-    fn advance(&mut self, out: &mut Blob) -> Advance
-        ensures exact { Advances result self.old self.new out.old.bytes out.new.bytes }
-        ensures shrinks { Shrinks result self.old self.new }
+    fn advance(&mut self, out: &mut Blob) -> Result<Progress, Halt>
+        ensures exact { Advances result (writer self.old out.old) (writer self.new out.new) }
+        ensures shrinks { Shrinks result self.old.standing self.new.standing }
     {
         match self.stage {
-            Stage::Opening => Advance::Stops(self.open(out)),
-            Stage::Banner => Advance::Stops(self.greet(out)),
+            Stage::Opening => self.open(out),
+            Stage::Banner => self.greet(out),
             Stage::Waits(awaited) => self.go_on(awaited, out),
-            Stage::Authed | Stage::Asked | Stage::Ended => Advance::Stops(HalfStep::Authed),
-            Stage::Faulty(fault) => Advance::Stops(HalfStep::Fault(fault)),
+            Stage::Authed | Stage::Asked | Stage::Ended => Ok(Progress::Signed),
+            Stage::Faulty(fault) => Err(Halt::Fault(fault)),
         }
     }
 
     /// Writes its banner.
-    fn open(&mut self, out: &mut Blob) -> HalfStep
-        requires { self.old.stage ≡ stages.Opening }
-        ensures { Ends result self.old self.new out.old.bytes out.new.bytes }
+    fn open(&mut self, out: &mut Blob) -> Result<Progress, Halt>
+        requires { self.old.standing.stage ≡ stages.Opening }
+        ensures exact { Advances result (writer self.old out.old) (writer self.new out.new) }
+        ensures shrinks { Shrinks result self.old.standing self.new.standing }
     {
-        match write_banner(&FEATURES, out) {
-            Ok(()) => {
-                self.stage = Stage::Banner;
-                HalfStep::Wrote
-            }
-            Err(NoMemory) => HalfStep::NoMemory,
-        }
+        write_banner(&FEATURES, out)?;
+        self.stage = Stage::Banner;
+        Ok(Progress::Wrote)
     }
 
     /// Reads the banner of the other side, and answers with HELLO.
-    fn greet(&mut self, out: &mut Blob) -> HalfStep
-        requires { self.old.stage ≡ stages.Banner }
-        ensures { Ends result self.old self.new out.old.bytes out.new.bytes }
+    #[tactic(auto, using(crate::proofs::Banners::step_is))]
+    fn greet(&mut self, out: &mut Blob) -> Result<Progress, Halt>
+        requires { self.old.standing.stage ≡ stages.Banner }
+        ensures exact { Advances result (writer self.old out.old) (writer self.new out.new) }
+        ensures shrinks { Shrinks result self.old.standing self.new.standing }
     {
-        match read_banner(self.front.as_slice()) {
-            BannerStep::NotYet => HalfStep::NotYet,
-            BannerStep::BadBanner => self.fail(HalfFault::BadBanner),
+        match read_banner(self.early.as_slice()) {
+            BannerStep::NotYet => Err(Halt::NotYet),
+            BannerStep::BadBanner => Err(Halt::Fault(HalfFault::BadBanner)),
             BannerStep::Got { banner, used } => {
                 if !agrees(&banner) {
-                    return self.fail(HalfFault::BannerFeatures);
+                    return Err(Halt::Fault(HalfFault::BannerFeatures));
                 }
-                match self.say_hello(used as usize, out) {
-                    Ok(()) => HalfStep::Wrote,
-                    Err(NoMemory) => HalfStep::NoMemory,
-                }
+                self.say_hello(used as usize, out)?;
+                Ok(Progress::Wrote)
             }
         }
     }
 
     /// Writes HELLO, and leaves what stands behind the banner to the decoder.
     fn say_hello(&mut self, used: usize, out: &mut Blob) -> Result<(), NoMemory>
-        requires stage { self.old.stage ≡ stages.Banner }
-        requires there { used ≤ length self.old.rest }
-        ensures { SaysHello result used self.old self.new out.old.bytes out.new.bytes }
+        requires stage { self.old.standing.stage ≡ stages.Banner }
+        requires there { used ≤ length self.old.standing.rest }
+        ensures { SaysHello result used (writer self.old out.old) (writer self.new out.new) }
     {
-        let (_, unread) = self.front.as_slice().split_at(used);
+        let (_, unread) = self.early.as_slice().split_at(used);
         let mut decoder = Decoder::new(self.alloc);
         decoder.feed(unread)?;
         put_hello(self.alloc, self.entity, self.seen, out)?;
         self.decoder = decoder;
-        self.front.clear();
+        self.early = Blob::empty(self.alloc);
         self.stage = Stage::Waits(Awaited::Hello);
         Ok(())
     }
 
     /// Takes the next frame, or answers the one that is in hand.
-    fn go_on(&mut self, awaited: Awaited, out: &mut Blob) -> Advance
-        requires { self.old.stage ≡ stages.Waits awaited }
-        ensures exact { Advances result self.old self.new out.old.bytes out.new.bytes }
-        ensures shrinks { Shrinks result self.old self.new }
+    fn go_on(&mut self, awaited: Awaited, out: &mut Blob) -> Result<Progress, Halt>
+        requires { self.old.standing.stage ≡ stages.Waits awaited }
+        ensures exact { Advances result (writer self.old out.old) (writer self.new out.new) }
+        ensures shrinks { Shrinks result self.old.standing self.new.standing }
     {
-        let reaction = match &self.held {
-            None => return self.take_frame(),
-            Some(frame) => react(self.alloc, self.side, awaited, frame),
+        let Some(frame) = &self.held else {
+            self.take_frame()?;
+            return Ok(Progress::On);
         };
-        match reaction {
-            Ok(reaction) => self.follow(reaction, out),
-            Err(NoMemory) => Advance::Stops(HalfStep::NoMemory),
-        }
+        let turn = react(self.alloc, self.side, awaited, frame)?;
+        self.follow(turn, out)
     }
 
-    /// Takes the next frame into hand.
-    fn take_frame(&mut self) -> Advance
-        requires free { self.old.held ≡ None }
-        requires reads { IsReading self.old.stage }
-        ensures exact { TakesFrame result self.old self.new }
-        ensures shrinks { Shrinks result self.old self.new }
+    /// Takes the next frame into hand, or passes an aborted one.
+    fn take_frame(&mut self) -> Result<(), Halt>
+        requires free { self.old.standing.held ≡ None }
+        requires reads { IsReading self.old.standing.stage }
+        ensures { TakesFrame result self.old.standing self.new.standing }
     {
-        match take(&mut self.decoder) {
-            Text::Whole(frame) => {
-                self.held = Some(frame);
-                Advance::On
-            }
-            Text::Aborted { tag: _ } => Advance::On,
-            Text::NotYet => Advance::Stops(HalfStep::NotYet),
-            Text::Bad(fault) => Advance::Stops(self.fail(HalfFault::Frame(fault))),
-            Text::NoMemory => Advance::Stops(HalfStep::NoMemory),
-        }
+        self.held = take(&mut self.decoder)?;
+        Ok(())
     }
 
     /// Does what the frame in hand brings.
-    fn follow(&mut self, reaction: Reaction, out: &mut Blob) -> Advance
-        requires held { IsSome self.old.held }
-        requires reads { IsReading self.old.stage }
-        ensures { Follows reaction result self.old self.new out.old.bytes out.new.bytes }
+    fn follow(&mut self, turn: Turn, out: &mut Blob) -> Result<Progress, Halt>
+        requires held { IsSome self.old.standing.held }
+        requires reads { IsReading self.old.standing.stage }
+        ensures { Follows turn result (writer self.old out.old) (writer self.new out.new) }
     {
-        match reaction {
-            Reaction::Says(next, text) => {
-                if let Err(NoMemory) = out.push_all(text.as_slice()) {
-                    return Advance::Stops(HalfStep::NoMemory);
-                }
-                self.held = None;
-                self.stage = Stage::Waits(next);
-                Advance::Stops(HalfStep::Wrote)
+        let (stage, progress) = match turn {
+            Turn::Says(next, text) => {
+                out.push_all(text.as_slice())?;
+                (Stage::Waits(next), Progress::Wrote)
             }
-            Reaction::Silent(next) => {
-                self.held = None;
-                self.stage = Stage::Waits(next);
-                Advance::On
-            }
-            Reaction::Signed => {
-                self.held = None;
-                self.stage = Stage::Authed;
-                Advance::Stops(HalfStep::Authed)
-            }
-            Reaction::Refuses(fault) => Advance::Stops(self.fail(fault)),
-        }
+            Turn::Listens(next) => (Stage::Waits(next), Progress::On),
+            Turn::Signs => (Stage::Authed, Progress::Signed),
+        };
+        self.held = None;
+        self.stage = stage;
+        Ok(progress)
     }
 
-    /// Answers a fault, and keeps it.
-    fn fail(&mut self, fault: HalfFault) -> HalfStep
-        ensures answer { result ≡ answers.Fault fault }
-        ensures stage { self.new.stage ≡ stages.Faulty fault }
+    /// Keeps the first fault, and lets go of what was read.
+    fn fail(&mut self, fault: HalfFault)
+        ensures { self.new.standing ≡ faulted fault self.old.standing }
     {
+        if let Stage::Faulty(_) = self.stage {
+            return;
+        }
+        self.held = None;
+        self.early = Blob::empty(self.alloc);
+        self.decoder = Decoder::new(self.alloc);
         self.stage = Stage::Faulty(fault);
-        HalfStep::Fault(fault)
+    }
+}
+
+/// Whether what is there is the start of a banner.
+fn is_start_of_banner(step: BannerStep) -> bool
+    ensures { result ≡ is_banner_start step }
+{
+    match step {
+        BannerStep::NotYet => true,
+        BannerStep::BadBanner | BannerStep::Got { .. } => false,
     }
 }
 
@@ -390,16 +471,4 @@ fn agrees(banner: &Banner) -> bool
     ensures { result ≡ is_agreed banner.now }
 {
     banner.supported % 2 == 1 && banner.required < 2
-}
-
-/// What taking a frame gave, as a move towards an ask.
-fn of_taking(advance: Advance) -> AskAdvance
-    ensures { OfTaking advance result }
-{
-    match advance {
-        Advance::On => AskAdvance::On,
-        Advance::Stops(HalfStep::Fault(fault)) => AskAdvance::Stops(AskStep::Fault(fault)),
-        Advance::Stops(HalfStep::NoMemory) => AskAdvance::Stops(AskStep::NoMemory),
-        Advance::Stops(_) => AskAdvance::Stops(AskStep::NotYet),
-    }
 }

@@ -1,38 +1,67 @@
 //! What a reader expects of a half, in functions that do nothing.
 
-ghost use Rattle.m2_handshake.specs.Laws.{AsksBeforeReplies, HasOneCourse, IsByBytesAndReplies, IsOne, KeepsItsFault, Stays, TellsMemoryApart};
-ghost use Rattle.m2_handshake.specs.Course.{MovesOn};
-ghost use Rattle.m2_handshake.specs.Moves.{Moves, MovesToAsk};
+ghost use Rattle.m2_handshake.specs.Course.{course_move};
+ghost use Rattle.m2_handshake.specs.Greeting.{GreetingIsSigned};
+ghost use Rattle.m2_handshake.specs.Laws.{AnswersAtRest, AsksBeforeReplies, GoesOneWay, KeepsItsFault, LeadsOn, MoreWritesMore, RestsAtItsCourse, RestsExactly, RestsThere, SignsOnce, Stays, TellsMemoryApart, UnreadIsTheEnd};
+ghost use Rattle.m2_handshake.specs.Moves.{ask_move_of, move_of};
 
 /// A half that moves does so whatever is fed behind.
 pub fn moves_stay()
-    ensures moves { Stays Moves }
-    ensures asks { Stays MovesToAsk }
-    ensures course { Stays MovesOn }
+    ensures moves { Stays move_of }
+    ensures asks { Stays ask_move_of }
+    ensures course { Stays course_move }
 {}
 
-/// Where a half stands, it has one move; so where it has come to a fault, that fault is the only one.
-pub fn one_move()
-    ensures moves { IsOne Moves }
-    ensures asks { IsOne MovesToAsk }
-    ensures course { IsOne MovesOn }
+/// A half rests where it waits for bytes, owes a reply or has come to a fault, and an opener where both
+/// sides have signed. After an answer of NotYet or of a fault it rests.
+pub fn where_a_half_rests()
+    ensures there { RestsThere }
+    ensures answered { AnswersAtRest }
 {}
 
-/// Where a half stands, it has one course by the replies that it is given, which stays as more is fed.
-pub fn one_course()
-    ensures { HasOneCourse }
+/// A half that [`rests`](crate::Half::rests) answers NotYet and stays as it is, and after that answer it
+/// rests. So it is true exactly where [`Half::next`](crate::Half::next), or
+/// [`Half::ask`](crate::Half::ask) where it can be asked, has nothing to do.
+pub fn a_half_at_rest_answers_not_yet()
+    ensures { RestsExactly }
+{}
+
+/// A half has one way to go by the replies that it is given, which stays as more is fed.
+pub fn one_way()
+    ensures { GoesOneWay }
+{}
+
+/// Each call of a half leads on from where it has come to: [`Half::feed`](crate::Half::feed),
+/// [`Half::next`](crate::Half::next), [`Half::ask`](crate::Half::ask) and
+/// [`Half::reply`](crate::Half::reply) tell its course.
+pub fn calls_lead_on()
+    ensures { LeadsOn }
+{}
+
+/// Where a half rests, what it has written, what it was asked and where it stands is computed from its
+/// bytes and its replies.
+pub fn a_rest_is_computed()
+    ensures { RestsAtItsCourse }
+{}
+
+/// By the same bytes and replies a half signs with the same text, which stays from then on.
+pub fn it_signs_once()
+    ensures { SignsOnce }
+{}
+
+/// What a half writes by a prefix of its bytes and replies is a prefix of what it writes by all.
+pub fn more_bytes_write_more()
+    ensures { MoreWritesMore }
+{}
+
+/// The unread bytes are the end of what was fed, and what was used stays used.
+pub fn unread_bytes_are_the_end()
+    ensures { UnreadIsTheEnd }
 {}
 
 /// The n-th reply is written after the n-th ask, and an opener has none.
 pub fn asks_come_before_replies()
     ensures { AsksBeforeReplies }
-{}
-
-/// The answers of [`Half::next`](crate::Half::next), [`Half::ask`](crate::Half::ask) and
-/// [`Half::reply`](crate::Half::reply) tell that course: what a half has written, what it was asked
-/// and where it stands are the same for every cutting of what it was fed, given the same replies.
-pub fn half_is_by_bytes_and_replies()
-    ensures { IsByBytesAndReplies }
 {}
 
 /// A half that has answered a fault answers it from then on, and writes nothing more.
@@ -43,4 +72,10 @@ pub fn a_fault_stays()
 /// No fault that a half answers is want of memory, which is an answer of its own.
 pub fn memory_is_no_fault()
     ensures { TellsMemoryApart }
+{}
+
+/// What an opener writes until it has signed is read by an acceptor as signed, with exactly what follows,
+/// its ask, unread.
+pub fn a_greeting_is_signed()
+    ensures { GreetingIsSigned }
 {}

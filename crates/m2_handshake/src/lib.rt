@@ -11,13 +11,14 @@
 //! were cut; its course is defined in `specs/Course.antt`.
 #![tactic(auto)]
 
-mod advance;
 mod answer;
 mod ask;
 mod fault;
 mod half;
+mod halt;
 mod ident;
 mod laws;
+mod progress;
 mod reaction;
 mod stage;
 mod taking;
@@ -27,12 +28,10 @@ pub use answer::HalfStep;
 pub use ask::{Ask, AskStep};
 pub use fault::HalfFault;
 pub use half::Half;
-pub use ident::{IdentCheck, check_ident};
+pub use ident::{IdentCheck, check_ident, check_server_ident};
 pub use laws::{
-    a_fault_stays, asks_come_before_replies, half_is_by_bytes_and_replies, memory_is_no_fault,
-    moves_stay, one_course, one_move,
+    a_fault_stays, a_greeting_is_signed, a_half_at_rest_answers_not_yet, a_rest_is_computed,
+    asks_come_before_replies, calls_lead_on, it_signs_once, memory_is_no_fault,
+    more_bytes_write_more, moves_stay, one_way, unread_bytes_are_the_end, where_a_half_rests,
 };
-pub use stage::{Awaited, Side, Stage};
-
-#[cfg(test)]
-mod tests;
+pub use stage::{Awaited, HalfSide, Stage};

@@ -2,33 +2,37 @@
 
 ghost use Rattle.std.specs.Prelude.{◌≡◌, ◌==◌, IfOk};
 ghost use Rattle.std.specs.List.{list_all};
-ghost use Rattle.m2_control.specs.Control.{bare, payload_of, tag_of};
-ghost use Rattle.m2_control.specs.Tags.{tag_number};
+ghost use Rattle.m2_control.specs.Control.{bare, tag_of};
+ghost use Rattle.m2_tag.specs.Tags.{tag_number};
 ghost use Rattle.m2_frame.specs.Frame.{parts};
-ghost use Rattle.m2_handshake.specs.Reading.{GivesControl, IsControlTag};
-ghost use Rattle.m2_handshake.specs.Steps.{after, after_frame, awaited_tag, bare_reaction, is_served, is_unsigned, unawaited};
+ghost use Rattle.m2_handshake.specs.Half.{GivesTurn};
+ghost use Rattle.m2_handshake.specs.Reading.{GivesControl, IsControlTag, payload_in};
+ghost use Rattle.m2_handshake.specs.Steps.{after, after_frame, awaited_tag, is_served, is_unsigned, unawaited};
 ghost use Rattle.m2_handshake.specs.declared.fault.HalfFault.TheVariants as faults;
-ghost use Rattle.m2_handshake.specs.declared.reaction.Reaction.TheVariants as reaction;
+ghost use Rattle.m2_handshake.specs.declared.halt.Halt.TheVariants as halts;
 ghost use Rattle.m2_handshake.specs.declared.stage.Awaited.TheVariants as awaits;
 
 use crate::fault::HalfFault;
-use crate::stage::{Awaited, Side};
-use crate::texts::{CRC, NONE, put_bad_method, put_done, put_request, put_signature};
-use m2_bytes::{Blob, NoMemory};
-use m2_control::{AuthRequest, Control, ControlFault, Tag};
+use crate::halt::Halt;
+use crate::stage::{Awaited, HalfSide};
+use crate::texts::{
+    CRC, NONE, SIGNATURE_BYTES, put_bad_method, put_done, put_request, put_signature,
+};
+use m2_bytes::Blob;
+use m2_control::{AuthRequest, Control, ControlFault};
 use m2_frame::Frame;
+use m2_tag::Tag;
 use std::alloc::Global;
 
-/// What a frame brings.
+/// What a half does with an awaited frame.
 #[derive(Debug, Drop)]
-pub enum Reaction {
-    /// The half writes this text, and waits for that frame.
+pub enum Turn {
+    /// It writes this text, and waits for that frame.
     Says(Awaited, Blob),
-    /// The half waits for that frame.
-    Silent(Awaited),
+    /// It waits for that frame.
+    Listens(Awaited),
     /// Both sides have signed.
-    Signed,
-    Refuses(HalfFault),
+    Signs,
 }
 
 /// The tag of the frame that is waited for.
@@ -44,19 +48,15 @@ fn tag_of(awaited: Awaited) -> Tag
     }
 }
 
-/// The payload of a control frame, or what is wrong with it.
-pub fn read_control(
-    alloc: Global,
-    tag: Tag,
-    payload: &[u8],
-) -> Result<Result<Control, ControlFault>, NoMemory>
+/// The payload of a control frame.
+pub fn read_control(alloc: Global, tag: Tag, payload: &[u8]) -> Result<Control, Halt>
     requires { IsControlTag tag }
-    ensures { IfOk result (λ r. GivesControl r (payload_of tag payload.now)) }
+    ensures { GivesControl result (payload_in tag payload.now) }
 {
     match Control::read(alloc, tag.number(), payload) {
-        Ok(control) => Ok(Ok(control)),
-        Err(ControlFault::NoMemory) => Err(NoMemory),
-        Err(fault) => Ok(Err(fault)),
+        Ok(control) => Ok(control),
+        Err(ControlFault::NoMemory) => Err(Halt::NoMemory),
+        Err(fault) => Err(Halt::Fault(HalfFault::Control(fault))),
     }
 }
 
@@ -83,14 +83,14 @@ fn are_zero(bytes: &[u8]) -> bool
 fn is_right(signature: &[u8]) -> bool
     ensures { result ≡ is_unsigned signature.now }
 {
-    signature.len() == 32 && are_zero(signature)
+    signature.len() == SIGNATURE_BYTES && are_zero(signature)
 }
 
 /// The refusal of a frame whose tag isn't waited for; AUTH_BAD_METHOD is the acceptor's own refusal.
 fn refusal(awaited: Awaited, tag: u8) -> HalfFault
     ensures { result ≡ unawaited awaited tag }
 {
-    if awaited == Awaited::Done && tag == 3 {
+    if awaited == Awaited::Done && tag == Tag::AuthBadMethod.number() {
         HalfFault::BadAuth
     } else {
         HalfFault::Unexpected { tag }
@@ -98,25 +98,25 @@ fn refusal(awaited: Awaited, tag: u8) -> HalfFault
 }
 
 /// What HELLO brings.
-fn after_hello(alloc: Global, side: Side, control: &Control) -> Result<Reaction, NoMemory>
-    ensures { IfOk result (λ r. bare_reaction r ≡ after side awaits.Hello (bare control.now)) }
+fn after_hello(alloc: Global, side: HalfSide, control: &Control) -> Result<Turn, Halt>
+    ensures { GivesTurn result (after side awaits.Hello (bare control.now)) }
 {
     match control {
         Control::Hello(_) => match side {
-            Side::Opener => {
+            HalfSide::Opener => {
                 let mut text = Blob::empty(alloc);
                 put_request(alloc, &mut text)?;
-                Ok(Reaction::Says(Awaited::Done, text))
+                Ok(Turn::Says(Awaited::Done, text))
             }
-            Side::Acceptor => Ok(Reaction::Silent(Awaited::Request)),
+            HalfSide::Acceptor => Ok(Turn::Listens(Awaited::Request)),
         },
-        other => Ok(unexpected(other)),
+        other => Err(unexpected(other)),
     }
 }
 
 /// What AUTH_REQUEST brings.
-fn after_request(alloc: Global, side: Side, control: &Control) -> Result<Reaction, NoMemory>
-    ensures { IfOk result (λ r. bare_reaction r ≡ after side awaits.Request (bare control.now)) }
+fn after_request(alloc: Global, side: HalfSide, control: &Control) -> Result<Turn, Halt>
+    ensures { GivesTurn result (after side awaits.Request (bare control.now)) }
 {
     match control {
         Control::AuthRequest(request) => {
@@ -124,88 +124,81 @@ fn after_request(alloc: Global, side: Side, control: &Control) -> Result<Reactio
             if serves(request) {
                 put_done(alloc, &mut text)?;
                 put_signature(alloc, &mut text)?;
-                Ok(Reaction::Says(Awaited::Signature, text))
+                Ok(Turn::Says(Awaited::Signature, text))
             } else {
                 put_bad_method(alloc, request.method, &mut text)?;
-                Ok(Reaction::Says(Awaited::Request, text))
+                Ok(Turn::Says(Awaited::Request, text))
             }
         }
-        other => Ok(unexpected(other)),
+        other => Err(unexpected(other)),
     }
 }
 
 /// What AUTH_DONE brings.
-fn after_done(alloc: Global, side: Side, control: &Control) -> Result<Reaction, NoMemory>
-    ensures { IfOk result (λ r. bare_reaction r ≡ after side awaits.Done (bare control.now)) }
+fn after_done(alloc: Global, side: HalfSide, control: &Control) -> Result<Turn, Halt>
+    ensures { GivesTurn result (after side awaits.Done (bare control.now)) }
 {
     match control {
         Control::AuthDone(done) => {
             if done.mode != CRC {
-                return Ok(Reaction::Refuses(HalfFault::BadAuth));
+                return Err(Halt::Fault(HalfFault::BadAuth));
             }
             let mut text = Blob::empty(alloc);
             put_signature(alloc, &mut text)?;
-            Ok(Reaction::Says(Awaited::Signature, text))
+            Ok(Turn::Says(Awaited::Signature, text))
         }
-        other => Ok(unexpected(other)),
+        other => Err(unexpected(other)),
     }
 }
 
 /// What AUTH_SIGNATURE brings.
-fn after_signature(side: Side, control: &Control) -> Reaction
-    ensures { bare_reaction result ≡ after side awaits.Signature (bare control.now) }
+fn after_signature(side: HalfSide, control: &Control) -> Result<Turn, Halt>
+    ensures { GivesTurn result (after side awaits.Signature (bare control.now)) }
 {
     match control {
         Control::AuthSignature(signature) => {
             if is_right(signature.signature.as_slice()) {
-                Reaction::Signed
+                Ok(Turn::Signs)
             } else {
-                Reaction::Refuses(HalfFault::BadSignature)
+                Err(Halt::Fault(HalfFault::BadSignature))
             }
         }
-        other => unexpected(other),
+        other => Err(unexpected(other)),
     }
 }
 
 /// What a payload brings that isn't waited for.
-fn unexpected(control: &Control) -> Reaction
-    ensures { result ≡ reaction.Refuses (faults.Unexpected (tag_number (tag_of (bare control.now)))) }
+fn unexpected(control: &Control) -> Halt
+    ensures { result ≡ halts.Fault (faults.Unexpected (tag_number (tag_of (bare control.now)))) }
 {
-    Reaction::Refuses(HalfFault::Unexpected { tag: control.tag() })
+    Halt::Fault(HalfFault::Unexpected { tag: control.tag() })
 }
 
 /// What a payload brings.
 fn after_control(
     alloc: Global,
-    side: Side,
+    side: HalfSide,
     awaited: Awaited,
     control: &Control,
-) -> Result<Reaction, NoMemory>
-    ensures { IfOk result (λ r. bare_reaction r ≡ after side awaited (bare control.now)) }
+) -> Result<Turn, Halt>
+    ensures { GivesTurn result (after side awaited (bare control.now)) }
 {
     match awaited {
         Awaited::Hello => after_hello(alloc, side, control),
         Awaited::Request => after_request(alloc, side, control),
         Awaited::Done => after_done(alloc, side, control),
-        Awaited::Signature => Ok(after_signature(side, control)),
+        Awaited::Signature => after_signature(side, control),
     }
 }
 
 /// What a whole frame brings: its tag is looked at, and then its payload is read.
-pub fn react(
-    alloc: Global,
-    side: Side,
-    awaited: Awaited,
-    frame: &Frame,
-) -> Result<Reaction, NoMemory>
-    ensures { IfOk result (λ r. bare_reaction r ≡ after_frame side awaited (parts frame.now)) }
+pub fn react(alloc: Global, side: HalfSide, awaited: Awaited, frame: &Frame) -> Result<Turn, Halt>
+    ensures { GivesTurn result (after_frame side awaited (parts frame.now)) }
 {
     let tag = tag_of(awaited);
     if frame.tag != tag.number() {
-        return Ok(Reaction::Refuses(refusal(awaited, frame.tag)));
+        return Err(Halt::Fault(refusal(awaited, frame.tag)));
     }
-    match read_control(alloc, tag, frame.first.as_slice())? {
-        Ok(control) => after_control(alloc, side, awaited, &control),
-        Err(fault) => Ok(Reaction::Refuses(HalfFault::Control(fault))),
-    }
+    let control = read_control(alloc, tag, frame.first.as_slice())?;
+    after_control(alloc, side, awaited, &control)
 }

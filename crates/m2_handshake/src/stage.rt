@@ -4,7 +4,7 @@ use crate::fault::HalfFault;
 
 /// Which end of the socket a half is.
 #[derive(Clone, Copy, Debug, PartialEq, Eq)]
-pub enum Side {
+pub enum HalfSide {
     /// The end that connected.
     Opener,
     /// The end that accepted.

@@ -17,10 +17,13 @@ pub const NONE: u32 = 1;
 pub const CRC: u32 = 1;
 
 /// What AUTH_BAD_METHOD answers: -EOPNOTSUPP.
-const NOT_SUPPORTED: i32 = -95;
+pub const NOT_SUPPORTED: i32 = -95;
+
+/// The length of a signature, in bytes.
+pub const SIGNATURE_BYTES: usize = 32;
 
 /// The signature of crc mode.
-const UNSIGNED: [u8; 32] = [0; 32];
+const UNSIGNED: [u8; SIGNATURE_BYTES] = [0; SIGNATURE_BYTES];
 
 /// Appends the frame of a payload, or nothing for want of memory.
 pub fn put_frame(alloc: Global, control: &Control, out: &mut Blob) -> Result<(), NoMemory>
@@ -42,7 +45,7 @@ pub fn put_frame(alloc: Global, control: &Control, out: &mut Blob) -> Result<(),
 
 /// A list of one number.
 fn only(alloc: Global, number: u32) -> Result<NumList, NoMemory>
-    ensures { IfOk result (λ l. l ≡ number ∷ []) }
+    ensures { IfOk result (λ l. l.items ≡ number ∷ []) }
 {
     let mut list = NumList::empty(alloc);
     match list.push(number) {

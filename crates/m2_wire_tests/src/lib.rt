@@ -15,6 +15,8 @@ mod crc;
 #[cfg(test)]
 mod frame;
 #[cfg(test)]
+mod handshake;
+#[cfg(test)]
 mod message;
 #[cfg(test)]
 mod message_frame;

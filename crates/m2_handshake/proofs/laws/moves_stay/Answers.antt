@@ -1,5 +1,4 @@
-use Rattle.m2_handshake.proofs.Course.{stay_on}
-use Rattle.m2_handshake.proofs.Staying.{stay, stay_asked}
+use Rattle.m2_handshake.proofs.Staying.{stay, stay_asked, stay_on}
 use Rattle.m2_handshake.proofs.laws.moves_stay.Goals as goal
 
 pub returns-clause-moves : goal.returns-clause-moves

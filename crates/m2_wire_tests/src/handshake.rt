@@ -1,13 +1,12 @@
-use super::*;
-use m2_addr::{Addr, AddrVec};
+//! The handshake: bytes of an independent program, fed and compared.
+
+use m2_addr::Addr;
 use m2_bytes::{Blob, NoMemory};
-use m2_control::{ClientIdent, Control, SessionReset, Wait};
+use m2_control::{Control, SessionReset, Wait};
 use m2_frame::Got;
-use m2_policy::lossless_peer;
+use m2_handshake::{Ask, AskStep, Half, HalfFault, HalfStep, Stage};
 use std::alloc::Global;
 use std::test::*;
-
-// The bytes below were written by an independent program.
 
 /// What a client writes: banner, HELLO, AUTH_REQUEST, AUTH_SIGNATURE.
 const CLIENT: [u8; 218] = [
@@ -159,31 +158,6 @@ fn tell(half: &mut Half, bytes: &[u8], out: &mut Blob) -> HalfStep {
     last
 }
 
-/// What a half says of bytes that are fed at once.
-fn hear(mut half: Half, bytes: &[u8], out: &mut Blob) -> HalfStep {
-    if half.feed(bytes).is_err() {
-        return HalfStep::NoMemory;
-    }
-    run(&mut half, out)
-}
-
-/// The bytes with one of them changed.
-fn changed(alloc: Global, bytes: &[u8], place: usize, to: u8) -> Result<Blob, NoMemory> {
-    let mut text = Vec::from_slice(alloc, bytes)?;
-    if place < text.len() {
-        text[place] = to;
-    }
-    Ok(Blob::from_vec(text))
-}
-
-/// What a server says of this profile's banner with a byte changed.
-fn hear_changed(alloc: Global, place: usize, to: u8) -> HalfStep {
-    match changed(alloc, part(client_text(), 0, 26), place, to) {
-        Ok(banner) => hear(a_server(alloc), banner.as_slice(), &mut Blob::empty(alloc)),
-        Err(NoMemory) => HalfStep::NoMemory,
-    }
-}
-
 /// One exchange: what was written to each side is fed byte by byte, and is kept in its record.
 fn exchange(
     client: &mut Half,
@@ -240,31 +214,6 @@ fn two_halves_byte_by_byte_are_authed_and_leave_the_ask_unread(
     assert_eq!(rt; server_wrote.as_slice(), server_text());
     let ask = handed_on(server).ok_or("no ask")?;
     assert_eq!(rt; ask.as_slice(), part(&IDENT, 32, 155));
-    Ok(())
-}
-
-#[test]
-fn banners_are_accepted_by_their_features_and_length(rt: HostRuntime) -> Result<(), Fail> {
-    let alloc = rt.alloc();
-    let features = HalfStep::Fault(HalfFault::BannerFeatures);
-    let bad = HalfStep::Fault(HalfFault::BadBanner);
-    assert_eq!(rt; hear_changed(alloc, 10, 1), HalfStep::NotYet);
-    assert_eq!(rt; hear_changed(alloc, 10, 3), HalfStep::NotYet);
-    assert_eq!(rt; hear_changed(alloc, 18, 0), HalfStep::NotYet);
-    assert_eq!(rt; hear_changed(alloc, 10, 0), features);
-    assert_eq!(rt; hear_changed(alloc, 18, 3), features);
-    assert_eq!(rt; hear_changed(alloc, 8, 15), bad);
-    assert_eq!(rt; hear_changed(alloc, 0, 15), bad);
-    // A payload of 20 bytes is passed whole.
-    let mut long = changed(alloc, part(client_text(), 0, 26), 8, 20)?;
-    long.push_all(&[0; 4])?;
-    long.push_all(part(client_text(), 26, 218))?;
-    let mut out = Blob::empty(alloc);
-    assert_eq!(rt;
-        hear(a_server(alloc), long.as_slice(), &mut out),
-        HalfStep::Authed
-    );
-    assert_eq!(rt; out.as_slice(), server_text());
     Ok(())
 }
 
@@ -369,77 +318,39 @@ fn a_later_ask_comes_from_the_address_of_the_first(rt: HostRuntime) {
     assert_eq!(rt; ask(&mut an_authed(alloc), &WAIT), 16);
 }
 
-/// Whether what a half says of these bytes is a fault, a start, or the handshake as it is written.
-fn is_in_order(half: Half, bytes: &[u8], right: &[u8], out: &mut Blob) -> bool {
-    out.clear();
-    match hear(half, bytes, out) {
-        HalfStep::Authed => out.as_slice() == right,
-        HalfStep::NotYet | HalfStep::Fault(_) => true,
-        HalfStep::Wrote | HalfStep::NoMemory => false,
-    }
-}
-
-/// Whether every front of the text is a start, and it is in order with any byte turned.
-fn is_fast(alloc: Global, server: bool, text: &[u8], right: &[u8]) -> Result<bool, NoMemory> {
+/// What a server says of many bytes that it has made room for.
+fn hear_many(alloc: Global, count: usize) -> Result<HalfStep, NoMemory> {
+    let mut server = a_server(alloc);
     let mut out = Blob::empty(alloc);
-    for place in 0..text.len() {
-        let (front, behind) = text.split_at(place);
-        let half = if server {
-            a_server(alloc)
-        } else {
-            a_client(alloc)
-        };
-        let step = hear(half, front, &mut out);
-        let Some(byte) = behind.first() else {
-            return Ok(false);
-        };
-        let turned = changed(alloc, text, place, 255 - *byte)?;
-        let half = if server {
-            a_server(alloc)
-        } else {
-            a_client(alloc)
-        };
-        if step != HalfStep::NotYet || !is_in_order(half, turned.as_slice(), right, &mut out) {
-            return Ok(false);
-        }
-    }
-    Ok(true)
+    let bytes = vec![in alloc; 0u8; count]?;
+    server.reserve(count)?;
+    server.feed(bytes.as_slice())?;
+    Ok(run(&mut server, &mut out))
 }
 
 #[test]
-fn no_front_and_no_turned_byte_is_another_handshake(rt: HostRuntime) -> Result<(), Fail> {
+fn a_half_rests_where_it_has_nothing_to_do(rt: HostRuntime) -> Result<(), Fail> {
     let alloc = rt.alloc();
-    assert!(rt; is_fast(alloc, true, client_text(), server_text())?);
-    assert!(rt; is_fast(alloc, false, server_text(), client_text())?);
+    let mut server = a_server(alloc);
+    let mut out = Blob::empty(alloc);
+    assert!(rt; !server.rests());
+    tell(&mut server, part(client_text(), 0, 20), &mut out);
+    assert!(rt; server.rests());
+    server.feed(part(client_text(), 20, 26))?;
+    assert!(rt; !server.rests());
+    let mut authed = an_authed(alloc);
+    assert!(rt; authed.rests());
+    assert_eq!(rt; ask(&mut authed, &IDENT), 0);
+    assert!(rt; authed.rests());
+    assert!(rt; answer(&mut authed, false, &mut out));
+    authed.feed(&IDENT)?;
+    assert!(rt; !authed.rests());
     Ok(())
 }
 
 #[test]
-fn an_ident_is_looked_at_in_order(rt: HostRuntime) -> Result<(), Fail> {
-    let alloc = rt.alloc();
-    let mut ident = ClientIdent {
-        addrs: AddrVec::one(alloc, at(7001, 1))?,
-        target: at(7002, 2),
-        gid: 0,
-        global: 1,
-        supported: 3,
-        required: 0,
-        flags: 0,
-        cookie: 5,
-    };
-    let policy = lossless_peer();
-    assert_eq!(rt;
-        check_ident(&ident, &at(7002, 2), &policy, 3),
-        IdentCheck::Fine
-    );
-    assert_eq!(rt;
-        check_ident(&ident, &at(7002, 2), &policy, 4),
-        IdentCheck::Missing(4)
-    );
-    ident.flags = 1;
-    let disagrees = IdentCheck::Fault(HalfFault::FlagDisagrees);
-    assert_eq!(rt; check_ident(&ident, &at(7002, 2), &policy, 4), disagrees);
-    let wrong = IdentCheck::Fault(HalfFault::WrongAddress);
-    assert_eq!(rt; check_ident(&ident, &at(7002, 3), &policy, 4), wrong);
+fn room_is_made_for_64_kib(rt: HostRuntime) -> Result<(), Fail> {
+    let bad = HalfStep::Fault(HalfFault::BadBanner);
+    assert_eq!(rt; hear_many(rt.alloc(), 65536)?, bad);
     Ok(())
 }

@@ -1,0 +1,226 @@
+-- An acceptor reads what an opener writes, step by step.
+use Rattle.std.proofs.Common.{◌≡◌, ℕ, ◌<◌, ◌^◌, List, [], ◌∷◌, ◌++◌, length, Option, Some, None, Ok, refl, ap, ◌∙◌, arith, append-nil}
+use Rattle.std.specs.List.{All}
+use Rattle.std.specs.Int.{w16, w32, to_le_bytes, to_be_bytes}
+use Rattle.std.proofs.lemmas.List.Elements.{All-from_recursion, All-cons, All-append}
+use Rattle.std.proofs.Math.Seq.{drop-append_seam}
+use Rattle.m2_addr.specs.declared.addr.Addr.{Addr}
+use Rattle.m2_addr.specs.Addr.{ipv4_text}
+use Rattle.m2_control.specs.declared.banner.BannerStep.{BannerStep}
+use Rattle.m2_control.specs.declared.banner.BannerStep.TheVariants.{Got}
+use Rattle.m2_control.specs.declared.control.Control.{Control}
+use Rattle.m2_control.specs.Banner.{banner_in, banner_text}
+use Rattle.m2_control.specs.Control as payload
+use Rattle.m2_control.specs.Laws.{HasAddrRanges, HasRanges, IsInBounds}
+use Rattle.m2_control.proofs.Written.{written_is_read, banner_is_read}
+use Rattle.m2_frame.specs.Frame.{Parts, Fits}
+use Rattle.m2_frame.specs.Grammar.{AreBytes}
+use Rattle.m2_frame.specs.Reading.{Front, whole, text, judge}
+use Rattle.m2_frame.specs.Text as frame
+use Rattle.m2_frame.proofs.Spelled.{item_text-judged}
+use Rattle.m2_frame.proofs.Written.{text_of-written}
+use Rattle.m2_handshake.specs.declared.stage.Awaited.{Awaited}
+use Rattle.m2_handshake.specs.declared.stage.Awaited.TheVariants.{Hello, Request, Signature}
+use Rattle.m2_handshake.specs.declared.stage.HalfSide.TheVariants.{Acceptor}
+use Rattle.m2_handshake.specs.declared.stage.Stage.{Stage}
+use Rattle.m2_handshake.specs.declared.stage.Stage.TheVariants.{Banner, Waits, Authed}
+use Rattle.m2_handshake.specs.Course.{silent, wrote, goes, step_by, step_of, course_move, text_of}
+use Rattle.m2_handshake.specs.Greeting.{GreetingIsSigned}
+use Rattle.m2_handshake.specs.Moves.{features, after_banner, take_frame, after_reaction}
+use Rattle.m2_handshake.specs.Reading.{of_payload, payload_in}
+use Rattle.m2_handshake.specs.Standing.{Standing, fed, acceptor_at_start}
+use Rattle.m2_handshake.specs.Steps.{Reaction, says, listens, signed, after_payload, after_frame}
+use Rattle.m2_handshake.specs.Texts.{control_parts, frame_text, hello, request, done, signature}
+use Rattle.m2_handshake.proofs.Banners.{is_step}
+
+abbrev IsByte : ℕ → Type 0
+IsByte b = b < 256
+
+four_bytes : (n : ℕ) → All (λ b. b < 256) (to_le_bytes w32 n)
+four_bytes n = All-from_recursion IsByte (to_le_bytes w32 n) (omega arith, (omega arith, (omega arith, (omega arith, tt))))
+
+two_bytes : (n : ℕ) → All (λ b. b < 256) (to_le_bytes w16 n)
+two_bytes n = All-from_recursion IsByte (to_le_bytes w16 n) (omega arith, (omega arith, tt))
+
+four_first : (n : ℕ) → All (λ b. b < 256) (to_be_bytes w32 n)
+four_first n = All-from_recursion IsByte (to_be_bytes w32 n) (omega arith, (omega arith, (omega arith, (omega arith, tt))))
+
+two_first : (n : ℕ) → All (λ b. b < 256) (to_be_bytes w16 n)
+two_first n = All-from_recursion IsByte (to_be_bytes w16 n) (omega arith, (omega arith, tt))
+
+no_bytes : All (λ b. b < 256) []
+no_bytes = All-from_recursion IsByte [] tt
+
+zeros : All (λ b. b < 256) (0 ∷ 0 ∷ 0 ∷ 0 ∷ 0 ∷ 0 ∷ 0 ∷ 0 ∷ [])
+zeros = All-from_recursion IsByte (0 ∷ 0 ∷ 0 ∷ 0 ∷ 0 ∷ 0 ∷ 0 ∷ 0 ∷ []) (omega arith, (omega arith, (omega arith, (omega arith, (omega arith, (omega arith, (omega arith, (omega arith, tt))))))))
+
+address_bytes : (a : Addr) → All (λ b. b < 256) (ipv4_text a)
+address_bytes a =
+    let ip = to_be_bytes w32 a.ip ++ 0 ∷ 0 ∷ 0 ∷ 0 ∷ 0 ∷ 0 ∷ 0 ∷ 0 ∷ [] in
+    let port = to_be_bytes w16 a.port ++ ip in
+    let family = to_le_bytes w16 2 ++ port in
+    let size = to_le_bytes w32 16 ++ family in
+    let nonce = to_le_bytes w32 a.nonce ++ size in
+    let kind = to_le_bytes w32 a.kind ++ nonce in
+    let body = to_le_bytes w32 28 ++ kind in
+    All-cons IsByte 1 (1 ∷ 1 ∷ body) (omega arith) (All-cons IsByte 1 (1 ∷ body) (omega arith) (All-cons IsByte 1 body (omega arith)
+    (All-append IsByte (to_le_bytes w32 28) kind (four_bytes 28) (All-append IsByte (to_le_bytes w32 a.kind) nonce (four_bytes a.kind)
+    (All-append IsByte (to_le_bytes w32 a.nonce) size (four_bytes a.nonce) (All-append IsByte (to_le_bytes w32 16) family (four_bytes 16)
+    (All-append IsByte (to_le_bytes w16 2) port (two_bytes 2) (All-append IsByte (to_be_bytes w16 a.port) ip (two_first a.port)
+    (All-append IsByte (to_be_bytes w32 a.ip) (0 ∷ 0 ∷ 0 ∷ 0 ∷ 0 ∷ 0 ∷ 0 ∷ 0 ∷ []) (four_first a.ip) zeros)))))))))
+
+-- a payload whose frame is read as it was written
+record IsSent (c : Control) : Type 0 where
+  fits : Fits (control_parts c)
+  bytes : AreBytes (control_parts c)
+  read : payload_in (payload.tag_of c) (payload.text_of c) ≡ Ok (payload.bare c)
+
+payload_read : (c : Control) → HasRanges c → IsInBounds c → payload_in (payload.tag_of c) (payload.text_of c) ≡ Ok (payload.bare c)
+payload_read c r b = ap of_payload (written_is_read c r b).read
+
+hello_sent : (entity : ℕ) (a : Addr) → entity < 2 ^ 8 → HasAddrRanges a → IsSent (hello entity a)
+hello_sent entity a e h = record {
+  fits = record { tag_from = omega arith; tag_to = omega arith; count = omega arith; first = omega arith; second = omega arith; third = omega arith; fourth = omega arith };
+  bytes = record { first = All-cons IsByte entity (ipv4_text a) (omega (arith, e)) (address_bytes a); second = no_bytes; third = no_bytes; fourth = no_bytes };
+  read = payload_read (hello entity a) (e, h) tt;
+}
+
+request_bytes : All (λ b. b < 256) (payload.text_of request)
+request_bytes = All-from_recursion IsByte (payload.text_of request) (
+  omega arith,
+  (
+    omega arith,
+    (
+      omega arith,
+      (
+        omega arith,
+        (
+          omega arith,
+          (
+            omega arith,
+            (
+              omega arith,
+              (
+                omega arith,
+                (omega arith, (omega arith, (omega arith, (omega arith, (omega arith, (omega arith, (omega arith, (omega arith, tt)))))))),
+              ),
+            ),
+          ),
+        ),
+      ),
+    ),
+  ),
+)
+
+request_sent : IsSent request
+request_sent = record {
+  fits = record { tag_from = omega arith; tag_to = omega arith; count = omega arith; first = omega arith; second = omega arith; third = omega arith; fourth = omega arith };
+  bytes = record { first = request_bytes; second = no_bytes; third = no_bytes; fourth = no_bytes };
+  read = payload_read request (omega arith, (omega arith, tt)) (omega arith, omega arith);
+}
+
+eight_zeros : (more : List ℕ) → All (λ b. b < 256) more → All (λ b. b < 256) (0 ∷ 0 ∷ 0 ∷ 0 ∷ 0 ∷ 0 ∷ 0 ∷ 0 ∷ more)
+eight_zeros more h = All-append IsByte (0 ∷ 0 ∷ 0 ∷ 0 ∷ 0 ∷ 0 ∷ 0 ∷ 0 ∷ []) more zeros h
+
+signature_bytes : All (λ b. b < 256) (payload.text_of signature)
+signature_bytes =
+    let eight = 0 ∷ 0 ∷ 0 ∷ 0 ∷ 0 ∷ 0 ∷ 0 ∷ 0 ∷ [] in
+    let sixteen = 0 ∷ 0 ∷ 0 ∷ 0 ∷ 0 ∷ 0 ∷ 0 ∷ 0 ∷ eight in
+    let most = 0 ∷ 0 ∷ 0 ∷ 0 ∷ 0 ∷ 0 ∷ 0 ∷ 0 ∷ sixteen in
+    eight_zeros most (eight_zeros sixteen (eight_zeros eight zeros))
+
+signature_sent : IsSent signature
+signature_sent = record {
+  fits = record { tag_from = omega arith; tag_to = omega arith; count = omega arith; first = omega arith; second = omega arith; third = omega arith; fourth = omega arith };
+  bytes = record { first = signature_bytes; second = no_bytes; third = no_bytes; fourth = no_bytes };
+  read = payload_read signature tt refl;
+}
+
+-- ---- steps
+
+abbrev at : ℕ → Addr → Stage → Option Parts → List ℕ → Standing
+at own seen stage held rest = record { side = Acceptor; entity = own; seen = seen; stage = stage; peer = None; held = held; rest = rest }
+
+-- the banner is passed, and HELLO is written
+greets : (own : ℕ) (seen : Addr) (more : List ℕ) → step_of (at own seen Banner None (banner_text features ++ more)) ≡ goes (wrote (frame_text (hello own seen))) (at own seen (Waits Hello) None more)
+greets own seen more =
+    let s = at own seen Banner None (banner_text features ++ more) in
+    let b : banner_in (banner_text features ++ more) ≡ Got features 26 = banner_is_read features more (banner_in (banner_text features ++ more)) (omega arith) (omega arith) (is_step (banner_text features ++ more)) in
+    ap (λ (x : BannerStep). step_by (after_banner s x) s) b
+    ∙ ap (λ (r : List ℕ). goes (wrote (frame_text (hello own seen))) (at own seen (Waits Hello) None r)) (drop-append_seam (banner_text features) more)
+
+takes : (own : ℕ) (seen : Addr) (awaited : Awaited) (c : Control) (more : List ℕ) → IsSent c →
+    step_of (at own seen (Waits awaited) None (frame_text c ++ more)) ≡ goes silent (at own seen (Waits awaited) (Some (control_parts c)) more)
+takes own seen awaited c more k =
+    let s = at own seen (Waits awaited) None (frame_text c ++ more) in
+    let j : judge (frame_text c ++ more) ≡ text (whole (control_parts c)) (length (frame_text c)) =
+    item_text-judged (whole (control_parts c)) (frame.text_of (control_parts c)) more (text_of-written (control_parts c) k.fits k.bytes) in
+    ap (λ (x : Front). step_by (take_frame s x) s) j
+    ∙ ap (λ (r : List ℕ). goes silent (at own seen (Waits awaited) (Some (control_parts c)) r)) (drop-append_seam (frame_text c) more)
+
+reads_hello : (entity : ℕ) (a : Addr) → IsSent (hello entity a) → after_frame Acceptor Hello (control_parts (hello entity a)) ≡ listens Request
+reads_hello entity a k = ap (after_payload Acceptor Hello) k.read
+
+reads_request : after_frame Acceptor Request (control_parts request) ≡ says Signature (frame_text done ++ frame_text signature)
+reads_request = ap (after_payload Acceptor Request) request_sent.read
+
+reads_signature : after_frame Acceptor Signature (control_parts signature) ≡ signed
+reads_signature = ap (after_payload Acceptor Signature) signature_sent.read
+
+reacts : (own : ℕ) (seen : Addr) (awaited : Awaited) (f : Parts) (more : List ℕ) (r : Reaction) → after_frame Acceptor awaited f ≡ r →
+    course_move (at own seen (Waits awaited) (Some f) more) ≡ after_reaction (at own seen (Waits awaited) (Some f) more) r
+reacts own seen awaited f more r e = ap (after_reaction (at own seen (Waits awaited) (Some f) more)) e
+
+opens : (own : ℕ) (seen : Addr) (bytes : List ℕ) → step_of (fed (acceptor_at_start own seen) bytes) ≡ goes (wrote (banner_text features)) (at own seen Banner None bytes)
+opens own seen bytes = refl
+
+told : (first second third : List ℕ) → text_of (wrote first ∷ wrote second ∷ silent ∷ silent ∷ silent ∷ wrote third ∷ silent ∷ []) ≡ first ++ (second ++ third)
+told first second third = ap (λ l. first ++ (second ++ l)) (append-nil third)
+
+pub greeting_is_signed : GreetingIsSigned
+greeting_is_signed entity own dialled seen more e h =
+    let sent = hello_sent entity dialled e h in
+    let third = frame_text signature ++ more in
+    let second = frame_text request ++ third in
+    let first = frame_text (hello entity dialled) ++ second in
+    let listening = at own seen (Waits Hello) (Some (control_parts (hello entity dialled))) second in
+    let asked = at own seen (Waits Request) (Some (control_parts request)) third in
+    let last = at own seen (Waits Signature) (Some (control_parts signature)) more in (
+      at own seen Authed None more,
+      record { stage = refl; held = refl; rest = refl },
+      (
+        last,
+        record {
+          events = wrote (banner_text features) ∷ wrote (frame_text (hello own seen)) ∷ silent ∷ silent ∷ silent ∷ wrote (frame_text done ++ frame_text signature) ∷ silent ∷ [];
+          runs = (
+            at own seen Banner None (banner_text features ++ first),
+            opens own seen (banner_text features ++ first),
+            (
+              at own seen (Waits Hello) None first,
+              greets own seen first,
+              (
+                listening,
+                takes own seen Hello (hello entity dialled) second sent,
+                (
+                  at own seen (Waits Request) None second,
+                  ap (λ m. step_by m listening) (reacts own seen Hello (control_parts (hello entity dialled)) second (listens Request) (reads_hello entity dialled sent)),
+                  (
+                    asked,
+                    takes own seen Request request third request_sent,
+                    (
+                      at own seen (Waits Signature) None third,
+                      ap (λ m. step_by m asked) (reacts own seen Request (control_parts request) third (says Signature (frame_text done ++ frame_text signature)) reads_request),
+                      (last, takes own seen Signature signature more signature_sent, refl),
+                    ),
+                  ),
+                ),
+              ),
+            ),
+          );
+          replies = refl;
+          text = told (banner_text features) (frame_text (hello own seen)) (frame_text done ++ frame_text signature);
+          asks = refl;
+        },
+        reacts own seen Signature (control_parts signature) more signed reads_signature,
+      ),
+    )
