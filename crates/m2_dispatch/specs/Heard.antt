@@ -1,4 +1,4 @@
--- What a node heard, apart from message numbers and from where bytes lie in memory.
+-- What a node's dispatcher was called with, apart from where bytes lie in memory.
 use Rattle.std.specs.Prelude.{ℕ, ◌==◌, Bool, true, false, ◌&&◌, if◌then◌else◌, List, [], ◌∷◌, map}
 use Rattle.m2_message.specs.Message.{Content, content_of}
 use Rattle.m2_policy.specs.declared.path.Key.{Key}
@@ -7,13 +7,13 @@ use Rattle.m2_policy.specs.declared.path.Path.TheVariants.{Fast, Queued}
 use Rattle.m2_dispatch.specs.declared.logged.Logged.{Logged}
 use Rattle.m2_dispatch.specs.declared.logged.Logged.TheVariants as logged
 
--- a message with its key, or a reset, and the place of the peer that it comes from
+-- a message with its key and its number in the session, or a reset, and the place of the peer that it comes from
 pub data Heard : Type 0 where
-  message : ℕ → Key → Content → Heard
-  reset : ℕ → Heard
+  message : (peer : ℕ) → Key → (number : ℕ) → Content → Heard
+  reset : (peer : ℕ) → Heard
 
 abbrev pub heard_of : Logged → Heard
-heard_of (logged.Message peer key number m) = message peer key (content_of m)
+heard_of (logged.Message peer key number m) = message peer key number (content_of m)
 heard_of (logged.Reset peer) = reset peer
 
 -- what a log tells of it
@@ -21,7 +21,7 @@ abbrev pub heard_by : List Logged → List Heard
 heard_by log = map heard_of log
 
 abbrev pub peer_of : Heard → ℕ
-peer_of (message peer key m) = peer
+peer_of (message peer key number m) = peer
 peer_of (reset peer) = peer
 
 abbrev pub is_path : Path → Path → Bool
@@ -35,5 +35,5 @@ is_key k l = (k.priority == l.priority) && is_path k.path l.path
 -- the messages of a peer with a key, in order
 abbrev pub of_key : ℕ → Key → List Heard → List Content
 of_key peer key [] = []
-of_key peer key (message p k m ∷ hs) = if (p == peer) && is_key k key then m ∷ of_key peer key hs else of_key peer key hs
+of_key peer key (message p k number m ∷ hs) = if (p == peer) && is_key k key then m ∷ of_key peer key hs else of_key peer key hs
 of_key peer key (reset p ∷ hs) = of_key peer key hs

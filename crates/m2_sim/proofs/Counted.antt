@@ -20,7 +20,8 @@ use Rattle.m2_scenario.specs.declared.node.Node.{Node}
 use Rattle.m2_scenario.specs.declared.link.Link.{Link}
 use Rattle.m2_scenario.specs.Draft.{DraftLine, post, dial, down, cut, turn, flow, fault, settle, is_post}
 use Rattle.m2_scenario.specs.Valid.{IsSound, IsLine}
-use Rattle.m2_sim.specs.Model.{Net, Joint, Taken, fresh, joint_of, nothing_heard, fast_of, side_of, side_towards, where_side, posted, broken, flowing, turned, taken, taken_at, is_fast, is_queued, rank_of, hears, dispatches, dispatched, at, grown_at, after_flow, after_turn, after_turns, after_round, after_rounds, after_line, after_lines, left_on, left, from_peer}
+use Rattle.m2_sim.specs.Model.{Net, Joint, Taken, fresh, joint_of, nothing_heard, side_of, side_towards, where_side, posted, broken, flowing, turned, taken, taken_at, is_fast, is_queued, rank_of, hears, dispatches, dispatched, grown_at, after_flow, after_turn, after_turns, after_round, after_rounds, after_line, after_lines, left_on, left, numbered_from, arrivals_at, from_peer}
+use Rattle.m2_order.specs.Order.{at, fast_of}
 use Rattle.m2_sim.proofs.Joints.{Once, Only, meets}
 use Rattle.m2_sim.proofs.Holds.{Holds, after_some_turns, nothing_said, at_start, after_a_line, after_a_turn, after_a_flow, fast-line}
 
@@ -72,6 +73,10 @@ left_there a b m (j ∷ js) once met = sum_by-cons left_on (posted a b m j) (map
         let one : left_on (posted a b m j) ≡ left_on j + 1 = left-posted a b m j ∙ rw e in
         omega (arith, one, left_elsewhere a b m js only, sum_by-cons left_on j js)
 
+length-numbered : (n : ℕ) (ms : List Content) → length (numbered_from n ms) ≡ length ms
+length-numbered n [] = refl
+length-numbered n (m ∷ ms) = ap suc (length-numbered (n + 1) ms)
+
 -- what a turn takes of a link was left there
 left-turned : (z : ℕ) (j : Joint) → left_on (turned z j) + length (taken z j) ≡ left_on j
 left-turned z j = go (side_of z j)
@@ -79,9 +84,9 @@ left-turned z j = go (side_of z j)
     go : (t : Option LinkSide) → left_on (where_side link.after_turn t j) + length (taken_at t j) ≡ left_on j
     go None = omega arith
     go (Some First) =
-        omega (arith, length-map (link.arriving j.link.second) (from_peer j.b), parts j.link.second.flowed j.link.second.placed, length-append j.link.first.placed j.link.first.waiting)
+        omega (arith, length-map (arrivals_at First j.link) (from_peer j.b), length-numbered (j.link.second.accepted + 1) (link.arriving j.link.second), parts j.link.second.flowed j.link.second.placed, length-append j.link.first.placed j.link.first.waiting)
     go (Some Second) =
-        omega (arith, length-map (link.arriving j.link.first) (from_peer j.a), parts j.link.first.flowed j.link.first.placed, length-append j.link.second.placed j.link.second.waiting)
+        omega (arith, length-map (arrivals_at Second j.link) (from_peer j.a), length-numbered (j.link.first.accepted + 1) (link.arriving j.link.first), parts j.link.first.flowed j.link.first.placed, length-append j.link.second.placed j.link.second.waiting)
 
 left_after_turn : (z : ℕ) (js : List Joint) → sum_by left_on (map (turned z) js) + length (flat_map (taken z) js) ≡ sum_by left_on js
 left_after_turn z [] = refl

@@ -1,4 +1,4 @@
--- What was heard: a front of what was posted, all of it where nothing is left, and only from nodes that are linked.
+-- What was heard: a prefix of what was posted, all of it where nothing is left, and only from nodes that are linked.
 use Rattle.std.proofs.Common.{◌≡◌, ℕ, ◌<◌, Bool, true, false, ◌&&◌, ◌||◌, eqb, List, [], ◌∷◌, ◌++◌, length, filter, take, Option, None, Some, refl, sym, ap, subst, map, ◌∙◌, arith, length-append, sum_by}
 use Rattle.std.proofs.lemmas.List.{append-nil, nil_from_length, length-map}
 use Rattle.std.specs.List.{AllByRecursion}
@@ -15,27 +15,28 @@ use Rattle.m2_scenario.specs.declared.node.Node.{Node}
 use Rattle.m2_scenario.specs.declared.link.Link.{Link}
 use Rattle.m2_scenario.specs.Draft.{DraftLine, are_joined}
 use Rattle.m2_scenario.specs.Valid.{IsSound, IsLink}
-use Rattle.m2_sim.specs.Model.{Joint, fresh, after_lines, at, left_on, left, side_towards, fast_of}
-use Rattle.m2_sim.specs.Posts.{IsFrontOf, HearsFronts, HearsAll, IsMessage, IsPeer, HearsPeers}
+use Rattle.m2_sim.specs.Model.{Joint, fresh, after_lines, left_on, left, side_towards}
+use Rattle.m2_order.specs.Order.{at, fast_of, posts_of, AreSame, IsPrefixOf, HearsPrefixes, HearsAll, IsMessage, IsPeer, HearsPeers}
+use Rattle.m2_order.proofs.Sames.{equal_are_same}
 use Rattle.m2_sim.proofs.Keys.{and_first, and_second, has_key}
 use Rattle.m2_sim.proofs.Joints.{towards}
 use Rattle.m2_sim.proofs.Takes.{IsLinked}
 use Rattle.m2_sim.proofs.Holds.{unheard, in_the_end, fast-lines}
 
-front_of : (front rest whole : List Content) → front ++ rest ≡ whole → IsFrontOf front whole
-front_of front rest whole h = record {
-  few = omega (arith, length-append front rest, ap length h);
-  is = sym (take-append_seam front rest) ∙ ap (take (length front)) h;
+prefix_of : (heard rest posted : List Content) → heard ++ rest ≡ posted → IsPrefixOf heard posted
+prefix_of heard rest posted h = record {
+  few = omega (arith, length-append heard rest, ap length h);
+  same = subst (AreSame heard) (sym (take-append_seam heard rest) ∙ ap (take (length heard)) h) (equal_are_same heard);
 }
 
-hears_fronts_of : (nodes : List Node) (links : List Link) (lines : List DraftLine) → IsSound nodes links lines →
-    let n = after_lines lines (fresh nodes links) in HearsFronts n.fast lines n.heard
-hears_fronts_of nodes links lines sound x y key = front_of _ _ _ ((in_the_end nodes links lines sound).each x y key)
+hears_prefixes_of : (nodes : List Node) (links : List Link) (lines : List DraftLine) → IsSound nodes links lines →
+    let n = after_lines lines (fresh nodes links) in HearsPrefixes n.fast lines n.heard
+hears_prefixes_of nodes links lines sound x y key = prefix_of _ _ _ ((in_the_end nodes links lines sound).each x y key)
 
-pub hears_fronts : (nodes : List Node) (links : List Link) (lines : List DraftLine) → IsSound nodes links lines →
-    HearsFronts (map fast_of nodes) lines (after_lines lines (fresh nodes links)).heard
-hears_fronts nodes links lines sound =
-    subst (λ fast. HearsFronts fast lines (after_lines lines (fresh nodes links)).heard) (fast-lines lines (fresh nodes links)) (hears_fronts_of nodes links lines sound)
+pub hears_prefixes : (nodes : List Node) (links : List Link) (lines : List DraftLine) → IsSound nodes links lines →
+    HearsPrefixes (map fast_of nodes) lines (after_lines lines (fresh nodes links)).heard
+hears_prefixes nodes links lines sound =
+    subst (λ fast. HearsPrefixes fast lines (after_lines lines (fresh nodes links)).heard) (fast-lines lines (fresh nodes links)) (hears_prefixes_of nodes links lines sound)
 
 nothing_unheard : (d : Direction) → left_of d ≡ 0 → unheard d ≡ []
 nothing_unheard d h = nil_from_length (unheard d) (omega (arith, length-append d.placed d.waiting, h))
@@ -57,7 +58,8 @@ hears_all_of : (nodes : List Node) (links : List Link) (lines : List DraftLine) 
     let n = after_lines lines (fresh nodes links) in left n ≡ 0 → HearsAll n.fast lines n.heard
 hears_all_of nodes links lines sound none x y key =
     let n = after_lines lines (fresh nodes links) in
-    sym (append-nil _) ∙ ap (λ l. of_key x key (at y n.heard) ++ filter (has_key (at y n.fast) key) l) (sym (nothing_there x y n.joints none)) ∙ (in_the_end nodes links lines sound).each x y key
+    subst (AreSame (of_key x key (at y n.heard))) (sym (append-nil _) ∙ ap (λ l. of_key x key (at y n.heard) ++ filter (has_key (at y n.fast) key) l) (sym (nothing_there x y n.joints none)) ∙ (in_the_end nodes links lines sound).each x y key)
+    (equal_are_same (of_key x key (at y n.heard)))
 
 pub hears_all : (nodes : List Node) (links : List Link) (lines : List DraftLine) → IsSound nodes links lines →
     let n = after_lines lines (fresh nodes links) in left n ≡ 0 → HearsAll (map fast_of nodes) lines n.heard
@@ -75,11 +77,11 @@ joined_within n (l ∷ ls) x y all h = go (eqb l.a x && eqb l.b y) (eqb l.a y &&
     go false false e f h more = more h
 
 peer_linked : (links : List Link) (y : ℕ) (h : Heard) → IsLinked links y h → are_joined links (peer_of h) y ≡ true
-peer_linked links y (message peer key m) linked = linked
+peer_linked links y (message peer key number m) linked = linked
 peer_linked links y (reset peer) linked = absurd linked
 
 linked_message : (links : List Link) (y : ℕ) (h : Heard) → IsLinked links y h → IsMessage h
-linked_message links y (message peer key m) linked = tt
+linked_message links y (message peer key number m) linked = tt
 linked_message links y (reset peer) linked = linked
 
 pub hears_peers : (nodes : List Node) (links : List Link) (lines : List DraftLine) → IsSound nodes links lines →

@@ -3,17 +3,16 @@ use Rattle.std.proofs.Common.{◌≡◌, ℕ, List, [], ◌++◌, map, refl}
 use Rattle.std.specs.Prelude.{reverse}
 use Rattle.std.proofs.lemmas.List.{map-append}
 use Rattle.m2_priority.proofs.ByRank.{map-by_rank}
-use Rattle.m2_link.specs.declared.accepted.Accepted as link
-use Rattle.m2_link.specs.Accepted.{content_taken}
+use Rattle.m2_link.specs.declared.accepted.Accepted.{Accepted}
 use Rattle.m2_dispatch.specs.declared.logged.Logged.{Logged}
 use Rattle.m2_dispatch.specs.Heard.{heard_of}
 use Rattle.m2_priority.specs.ByRank.{by_rank}
 use Rattle.m2_sim.specs.Model.{Taken, from_peer}
-use Rattle.m2_sim.specs.Dispatcher.{Dispatcher, priority_heard, priority_logged}
+use Rattle.m2_sim.specs.Dispatcher.{Dispatcher, arrival_of, priority_heard, priority_logged}
 
 -- what is still to be heard, in order, where the last of a list is heard next
-abbrev pub left_in : ℕ → List link.Accepted → List Taken
-left_in peer ts = map (from_peer peer) (map content_taken (reverse ts))
+abbrev pub left_in : ℕ → List Accepted → List Taken
+left_in peer ts = map (from_peer peer) (map arrival_of (reverse ts))
 
 -- ---- the queue is run
 

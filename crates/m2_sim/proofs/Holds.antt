@@ -16,8 +16,8 @@ use Rattle.m2_scenario.specs.declared.node.Node.{Node}
 use Rattle.m2_scenario.specs.declared.link.Link.{Link}
 use Rattle.m2_scenario.specs.Draft.{DraftLine, post, dial, down, cut, turn, flow, fault, settle, are_joined}
 use Rattle.m2_scenario.specs.Valid.{IsSound, IsLine}
-use Rattle.m2_sim.specs.Model.{Net, Joint, fresh, posted, after_post, after_fault, after_flow, flowing, broken, turned, taken, dispatched, at, grown_at, after_turn, after_turns, after_round, after_rounds, after_line, after_lines, key_of, nothing_heard, fast_of}
-use Rattle.m2_sim.specs.Posts.{posts_of}
+use Rattle.m2_sim.specs.Model.{Net, Joint, fresh, posted, after_post, after_fault, after_flow, flowing, broken, turned, taken, dispatched, grown_at, after_turn, after_turns, after_round, after_rounds, after_line, after_lines, nothing_heard}
+use Rattle.m2_order.specs.Order.{at, fast_of, key_of, posts_of}
 use Rattle.m2_sim.proofs.Keys.{and_first, and_second, has_key, key-post, key-dispatches, of_key-append}
 use Rattle.m2_sim.proofs.Joints.{AreOf, are_of-start, silent-start, towards, IsAlike, are_of-map, keeps-turned, keeps-posted, keeps-broken, keeps-flowing, turn_of_reader, turn_of_writer, turn_of_another, post_there, post_elsewhere, fault_keeps, flow_keeps}
 use Rattle.m2_sim.proofs.Takes.{picked_of_all, IsLinked, dispatched_linked}

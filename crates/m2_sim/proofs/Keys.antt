@@ -13,7 +13,8 @@ use Rattle.m2_dispatch.specs.Heard.{Heard, message, reset, is_path, is_key, of_k
 use Rattle.m2_priority.specs.ByRank.{put_behind, by_rank}
 use Rattle.m2_priority.proofs.ByRank.{Falls, has_rank, rank-by_rank}
 use Rattle.m2_priority.proofs.Joining.{rank-put_behind}
-use Rattle.m2_sim.specs.Model.{Taken, is_fast_path, is_fast, is_queued, rank_of, key_of, hears, dispatches}
+use Rattle.m2_order.specs.Order.{key_of}
+use Rattle.m2_sim.specs.Model.{Taken, is_fast_path, is_fast, is_queued, rank_of, hears, dispatches}
 
 -- ---- tests
 
@@ -78,7 +79,7 @@ key-post fast key m ws h =
 
 pub of_key-append : (x : ℕ) (key : Key) (hs gs : List Heard) → of_key x key (hs ++ gs) ≡ of_key x key hs ++ of_key x key gs
 of_key-append x key [] gs = refl
-of_key-append x key (message p k m ∷ hs) gs =
+of_key-append x key (message p k number m ∷ hs) gs =
     elim (eqb p x && is_key k key) as (λ b. cond b (m ∷ of_key x key (hs ++ gs)) (of_key x key (hs ++ gs)) ≡ cond b (m ∷ of_key x key hs) (of_key x key hs) ++ of_key x key gs) [
       | true ↦ ap (λ l. m ∷ l) (of_key-append x key hs gs)
       | false ↦ of_key-append x key hs gs

@@ -9,3 +9,4 @@ pub mod Takes
 pub mod Holds
 pub mod Heard
 pub mod Counted
+pub mod Numbered

@@ -12,8 +12,8 @@ use Rattle.m2_scenario.specs.Draft.{DraftLine, post, dial, down, cut, turn, flow
 use Rattle.m2_report.specs.Report.{IsPeerAmong, AreLogsOf, heard_in}
 use Rattle.m2_scenario.specs.Valid.{IsLine, IsSound}
 use Rattle.m2_sim.specs.Model as model
-use Rattle.m2_sim.specs.Model.{Joint, joint_of, fast_of, fresh, side_towards, at, after_lines}
-use Rattle.m2_sim.specs.Posts.{IsPeer}
+use Rattle.m2_sim.specs.Model.{Joint, joint_of, fresh, side_towards, after_lines}
+use Rattle.m2_order.specs.Order.{at, fast_of, IsPeer}
 use Rattle.m2_sim.specs.Topology.{bare, are_linked}
 use Rattle.m2_sim.specs.Lines.{CanRun}
 use Rattle.m2_sim.specs.Net.{net_of, fast_kinds}

@@ -1,5 +1,5 @@
 -- What a node takes in a turn: of each other node what has flowed on the one link that joins the two.
-use Rattle.std.proofs.Common.{◌≡◌, ℕ, Bool, true, false, ◌&&◌, List, [], ◌∷◌, ◌++◌, map, filter, eqb, Option, None, Some, refl, sym, cond, ap, ◌∙◌, arith}
+use Rattle.std.proofs.Common.{◌≡◌, ℕ, ◌+◌, Bool, true, false, ◌&&◌, List, [], ◌∷◌, ◌++◌, map, filter, eqb, Option, None, Some, refl, sym, cond, ap, ◌∙◌, arith}
 use Rattle.std.specs.List.{All, AllByRecursion, flat_map}
 use Rattle.std.specs.Option.{is_some}
 use Rattle.std.proofs.lemmas.List.{append-nil, map-append}
@@ -12,10 +12,10 @@ use Rattle.m2_priority.specs.ByRank.{by_rank}
 use Rattle.m2_priority.proofs.ByRank.{all-by_rank}
 use Rattle.m2_scenario.specs.declared.link.Link.{Link}
 use Rattle.m2_scenario.specs.Draft.{are_joined}
-use Rattle.m2_link.specs.Model.{arriving, arrivals, written_by}
+use Rattle.m2_link.specs.Model.{arriving, written_by}
 use Rattle.m2_link.specs.declared.link_side.LinkSide.{LinkSide}
 use Rattle.m2_link.specs.declared.link_side.LinkSide.TheVariants.{First, Second}
-use Rattle.m2_sim.specs.Model.{peer_of, rank_of, is_fast, is_queued, hears, dispatched, Joint, Taken, side_of, side_towards, from_peer, taken}
+use Rattle.m2_sim.specs.Model.{peer_of, rank_of, is_fast, is_queued, hears, dispatched, Joint, Taken, side_of, side_towards, numbered_from, arrivals_at, from_peer, taken}
 use Rattle.m2_sim.proofs.Keys.{has_key, is_of, content_in}
 use Rattle.m2_sim.proofs.Joints.{AreOf, meets, same_test, or_true, Differ, JoinsBy, other, ends_of, at_side, reader_side, joins_not, towards, Only, Once}
 
@@ -24,20 +24,21 @@ module _ (x : ℕ) (fast : List ℕ) (key : Key) where
   abbrev pub picked : List Taken → List Content
   picked ts = map content_in (filter (is_of x fast key) ts)
 
-  from_it : (q : ℕ) (ms : List Content) → q ≡ x → picked (map (from_peer q) ms) ≡ filter (has_key fast key) ms
-  from_it q [] h = refl
-  from_it q (m ∷ ms) h = go (has_key fast key m) refl (from_it q ms h)
+  from_it : (q n : ℕ) (ms : List Content) → q ≡ x → picked (map (from_peer q) (numbered_from n ms)) ≡ filter (has_key fast key) ms
+  from_it q n [] h = refl
+  from_it q n (m ∷ ms) h = go (has_key fast key m) refl (from_it q (n + 1) ms h)
     where
       here : eqb q x ≡ true
       here = grind (arith, nat_tests)
 
-      go : (b : Bool) → has_key fast key m ≡ b → picked (map (from_peer q) ms) ≡ filter (has_key fast key) ms → picked (map (from_peer q) (m ∷ ms)) ≡ filter (has_key fast key) (m ∷ ms)
+      go : (b : Bool) → has_key fast key m ≡ b → picked (map (from_peer q) (numbered_from (n + 1) ms)) ≡ filter (has_key fast key) ms
+          → picked (map (from_peer q) (numbered_from n (m ∷ ms))) ≡ filter (has_key fast key) (m ∷ ms)
       go true e more = rw (here, e) (ap (λ l. m ∷ l) more)
       go false e more = rw (here, e) more
 
-  from_another : (q : ℕ) (ms : List Content) → (q ≡ x → ⊥) → picked (map (from_peer q) ms) ≡ []
-  from_another q [] h = refl
-  from_another q (m ∷ ms) h = let there : eqb q x ≡ false = grind (arith, nat_tests) in rw there (from_another q ms h)
+  from_another : (q n : ℕ) (ms : List Content) → (q ≡ x → ⊥) → picked (map (from_peer q) (numbered_from n ms)) ≡ []
+  from_another q n [] h = refl
+  from_another q n (m ∷ ms) h = let there : eqb q x ≡ false = grind (arith, nat_tests) in rw there (from_another q (n + 1) ms h)
 
   module _ (y : ℕ) where
     -- on the link that joins the two
@@ -45,8 +46,8 @@ module _ (x : ℕ) (fast : List ℕ) (key : Key) where
     picked_there j s d h = go s (ends_of x y j s h) (reader_side x y j s d h)
       where
         go : (s : LinkSide) → JoinsBy x y s j → side_of y j ≡ Some (other s) → picked (taken y j) ≡ filter (has_key fast key) (arriving (written_by s j.link))
-        go First at e = rw e (from_it j.a _ at.0)
-        go Second at e = rw e (from_it j.b _ at.1)
+        go First at e = rw e (from_it j.a _ _ at.0)
+        go Second at e = rw e (from_it j.b _ _ at.1)
 
     -- on another link
     picked_elsewhere : (j : Joint) → side_towards x y j ≡ None → picked (taken y j) ≡ []
@@ -54,8 +55,8 @@ module _ (x : ℕ) (fast : List ℕ) (key : Key) where
       where
         go : (t : Option LinkSide) → side_of y j ≡ t → picked (taken y j) ≡ []
         go None e = rw e
-        go (Some First) e = rw e (from_another j.b _ (λ p. joins_not x y j Second h (at_side y j First e, p)))
-        go (Some Second) e = rw e (from_another j.a _ (λ p. joins_not x y j First h (p, at_side y j Second e)))
+        go (Some First) e = rw e (from_another j.b _ _ (λ p. joins_not x y j Second h (at_side y j First e, p)))
+        go (Some Second) e = rw e (from_another j.a _ _ (λ p. joins_not x y j First h (p, at_side y j Second e)))
 
     picked-append : (ts us : List Taken) → picked (ts ++ us) ≡ picked ts ++ picked us
     picked-append ts us = ap (map content_in) (filter-append (is_of x fast key) ts us) ∙ map-append content_in (filter (is_of x fast key) ts) (filter (is_of x fast key) us)
@@ -106,7 +107,7 @@ taken_linked links js y h = go js (each_meets js)
     at_one k met None e = rw e (All-nil Q)
     at_one k met (Some s) e =
         let there = sym (h.met (peer_of s k) y) ∙ met (peer_of s k) y (joins_peer y k s e) in
-        rw e (All-map Q (from_peer (peer_of s k)) (arrivals s k.link) (λ i d p. there))
+        rw e (All-map Q (from_peer (peer_of s k)) (arrivals_at s k.link) (λ i d p. there))
 
     go : (ks : List Joint) → AllByRecursion (λ k. (x y : ℕ) → is_some (side_towards x y k) ≡ true → meets x y js ≡ true) ks → All Q (flat_map (taken y) ks)
     go [] all = All-nil Q
@@ -114,7 +115,7 @@ taken_linked links js y h = go js (each_meets js)
 
 -- a message from a node that is linked with the one at y
 abbrev pub IsLinked : List Link → ℕ → heard.Heard → Type 0
-IsLinked links y (heard.message peer key m) = are_joined links peer y ≡ true
+IsLinked links y (heard.message peer key number m) = are_joined links peer y ≡ true
 IsLinked links y (heard.reset peer) = ⊥
 
 pub dispatched_linked : (links : List Link) (js : List Joint) (y : ℕ) (fast : List ℕ) → AreOf links js → All (IsLinked links y) (dispatched y fast js)

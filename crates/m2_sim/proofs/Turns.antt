@@ -8,7 +8,8 @@ use Rattle.m2_link.specs.declared.link_side.LinkSide.{LinkSide}
 use Rattle.m2_dispatch.specs.Heard.{Heard}
 use Rattle.m2_priority.specs.ByRank.{by_rank}
 use Rattle.m2_sim.specs.Model as model
-use Rattle.m2_sim.specs.Model.{Joint, Taken, side_of, where_side, turned, taken, taken_at, is_fast, is_queued, rank_of, hears, dispatches, at, grown_at, after_turn, after_turns, after_round, after_rounds}
+use Rattle.m2_sim.specs.Model.{Joint, Taken, side_of, where_side, turned, taken, taken_at, is_fast, is_queued, rank_of, hears, dispatches, grown_at, after_turn, after_turns, after_round, after_rounds}
+use Rattle.m2_order.specs.Order.{at}
 use Rattle.m2_sim.specs.Joint.{turned_by}
 use Rattle.m2_sim.specs.Dispatcher.{Dispatcher, heard_fast, heard_queued, hears_taken, runs_queue, priority_heard}
 use Rattle.m2_sim.specs.Topology.{bare, between, joint_at, end_at, ends_from}

@@ -3,9 +3,9 @@ use Rattle.std.specs.Prelude.{ℕ, List, [], ◌++◌, map, filter}
 use Rattle.m2_dispatch.specs.declared.logged.Logged.{Logged}
 use Rattle.m2_dispatch.specs.Heard.{Heard, message, reset, heard_of}
 use Rattle.m2_priority.specs.ByRank.{by_rank}
-use Rattle.m2_link.specs.Accepted.{content_taken}
-use Rattle.m2_link.specs.declared.accepted.Accepted as link
-use Rattle.m2_sim.specs.Model.{Taken, from_peer, is_fast, is_queued, hears}
+use Rattle.m2_message.specs.Message.{content_of}
+use Rattle.m2_link.specs.declared.accepted.Accepted.{Accepted}
+use Rattle.m2_sim.specs.Model.{Arrival, Taken, from_peer, is_fast, is_queued, hears}
 
 pub record Dispatcher : Type 0 where
   -- the kinds that it is called with at once
@@ -17,12 +17,16 @@ pub record Dispatcher : Type 0 where
 abbrev pub idle : List ℕ → Dispatcher
 idle fast = record { fast = fast; heard = []; queued = [] }
 
--- a message that was taken from the link of a peer, and all of them
-abbrev pub from : ℕ → link.Accepted → Taken
-from peer t = from_peer peer (content_taken t)
+-- what a link says of a message that it accepted
+abbrev pub arrival_of : Accepted → Arrival
+arrival_of t = record { number = t.number; content = content_of t.message }
 
-abbrev pub all_from : ℕ → List link.Accepted → List Taken
-all_from peer ts = map (from_peer peer) (map content_taken ts)
+-- a message that was taken from the link of a peer, and all of them
+abbrev pub from : ℕ → Accepted → Taken
+from peer t = from_peer peer (arrival_of t)
+
+abbrev pub all_from : ℕ → List Accepted → List Taken
+all_from peer ts = map (from_peer peer) (map arrival_of ts)
 
 -- the fast messages of what was taken, and the others, each in order
 abbrev pub heard_fast : List ℕ → List Taken → List Heard
@@ -36,7 +40,7 @@ abbrev pub hears_taken : List Taken → Dispatcher → Dispatcher
 hears_taken ts d = record d { heard = d.heard ++ heard_fast d.fast ts; queued = d.queued ++ heard_queued d.fast ts }
 
 abbrev pub priority_heard : Heard → ℕ
-priority_heard (message peer key m) = key.priority
+priority_heard (message peer key number m) = key.priority
 priority_heard (reset peer) = 0
 
 -- What waits is heard, the greatest priority first.

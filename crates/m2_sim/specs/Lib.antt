@@ -1,5 +1,4 @@
 pub mod Model
-pub mod Posts
 pub mod Topology
 pub mod Joint
 pub mod Dispatcher

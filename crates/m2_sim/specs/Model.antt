@@ -1,12 +1,12 @@
 -- The value model of `sim`: a link for each `link` line, as lists of messages and counts, and what each
--- node has heard. It knows no message numbers, acknowledgements, cursor or resending; the ends that are
--- run have all of these. The rules are this project's own (docs/SCENARIOS.md).
+-- node has heard. A message's number is its place among those that were accepted; of acknowledgements, a cursor
+-- and resending it knows nothing, and the ends that are run have all of these. The rules are this project's own
+-- (docs/SCENARIOS.md).
 use Rattle.std.specs.Prelude.{ℕ, zero, suc, ◌+◌, ◌==◌, Bool, true, false, not, ◌&&◌, if◌then◌else◌, Option, Some, None}
 use Rattle.std.specs.Prelude.{List, [], ◌∷◌, ◌++◌, length, map, filter, sum_by}
 use Rattle.std.specs.List.{flat_map}
 use Rattle.m2_message.specs.Message.{Content}
 use Rattle.m2_policy.specs.Path.{path_of}
-use Rattle.m2_policy.specs.declared.path.Key.{Key}
 use Rattle.m2_policy.specs.declared.path.Path.{Path}
 use Rattle.m2_policy.specs.declared.path.Path.TheVariants.{Fast, Queued}
 use Rattle.m2_dispatch.specs.Heard.{Heard, message}
@@ -17,6 +17,7 @@ use Rattle.m2_scenario.specs.declared.node.Node.{Node}
 use Rattle.m2_scenario.specs.declared.link.Link.{Link}
 use Rattle.m2_scenario.specs.Draft.{DraftLine, post, dial, down, cut, turn, flow, fault, settle}
 use Rattle.m2_priority.specs.ByRank.{by_rank}
+use Rattle.m2_order.specs.Order.{at, fast_of, key_of}
 
 -- the link of two nodes, by their places among the nodes from 0: `a` is its first node
 pub record Joint : Type 0 where
@@ -36,9 +37,6 @@ joint_of l = record { a = l.a; b = l.b; link = link.fresh }
 
 abbrev pub nothing_heard : Node → List Heard
 nothing_heard n = []
-
-abbrev pub fast_of : Node → List ℕ
-fast_of n = n.fast
 
 -- the links are established, and nothing was posted
 abbrev pub fresh : List Node → List Link → Net
@@ -84,18 +82,33 @@ after_flow n = record n { joints = map flowing n.joints }
 
 -- ---- a turn
 
--- a message that was taken, and the peer that it comes from
-pub record Taken : Type 0 where
-  pub peer : ℕ
+-- a message that was accepted, with its number in the session
+pub record Arrival : Type 0 where
+  pub number : ℕ
   pub content : Content
 
-abbrev pub from_peer : ℕ → Content → Taken
-from_peer peer m = record { peer = peer; content = m }
+-- messages with their numbers, one after another
+abbrev pub numbered_from : ℕ → List Content → List Arrival
+numbered_from n [] = []
+numbered_from n (m ∷ ms) = record { number = n; content = m } ∷ numbered_from (n + 1) ms
+
+-- what a side accepts in its turn, in order: the first number is the one behind those that it has accepted
+abbrev pub arrivals_at : LinkSide → link.Link → List Arrival
+arrivals_at side l = numbered_from ((link.read_by side l).accepted + 1) (link.arrivals side l)
+
+-- a message that was taken, its number, and the peer that it comes from
+pub record Taken : Type 0 where
+  pub peer : ℕ
+  pub number : ℕ
+  pub content : Content
+
+abbrev pub from_peer : ℕ → Arrival → Taken
+from_peer peer a = record { peer = peer; number = a.number; content = a.content }
 
 -- what the node at x takes of one link, in order
 abbrev pub taken_at : Option LinkSide → Joint → List Taken
 taken_at None j = []
-taken_at (Some side) j = map (from_peer (peer_of side j)) (link.arrivals side j.link)
+taken_at (Some side) j = map (from_peer (peer_of side j)) (arrivals_at side j.link)
 
 abbrev pub taken : ℕ → Joint → List Taken
 taken x j = taken_at (side_of x j) j
@@ -116,11 +129,8 @@ is_queued fast t = not (is_fast fast t)
 abbrev pub rank_of : Taken → ℕ
 rank_of t = t.content.header.priority
 
-abbrev pub key_of : List ℕ → Content → Key
-key_of fast m = record { priority = m.header.priority; path = path_of m.header.kind fast }
-
 abbrev pub hears : List ℕ → Taken → Heard
-hears fast t = message t.peer (key_of fast t.content) t.content
+hears fast t = message t.peer (key_of fast t.content) t.number t.content
 
 -- what was taken, in the order of its dispatch: the fast messages as they came, and then the others, the
 -- greatest priority first
@@ -131,12 +141,6 @@ dispatches fast ts = map (hears fast) (filter (is_fast fast) ts ++ by_rank rank_
 -- the scenario
 abbrev pub dispatched : ℕ → List ℕ → List Joint → List Heard
 dispatched x fast joints = dispatches fast (flat_map (taken x) joints)
-
--- the list at a place; the empty list where there is no such place
-abbrev pub at : {X : Type 0} → ℕ → List (List X) → List X
-at x [] = []
-at zero (l ∷ ls) = l
-at (suc x) (l ∷ ls) = at x ls
 
 -- some items more behind the list at a place
 abbrev pub grown_at : {X : Type 0} → ℕ → List X → List (List X) → List (List X)

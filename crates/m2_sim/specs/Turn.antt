@@ -1,7 +1,6 @@
 -- A node's turn at its ends, one after another.
 use Rattle.std.specs.Prelude.{ℕ, ◌<◌, List, [], ◌∷◌, ◌++◌, map, slice_set}
-use Rattle.m2_link.specs.Model as link
-use Rattle.m2_sim.specs.Model.{Joint, Taken, from_peer, peer_of}
+use Rattle.m2_sim.specs.Model.{Joint, Taken, arrivals_at, from_peer, peer_of}
 use Rattle.m2_sim.specs.Joint.{turned_by}
 use Rattle.m2_sim.specs.Topology.{joint_at}
 use Rattle.m2_sim.specs.declared.topology.End.{End}
@@ -11,7 +10,7 @@ IsPlace links e = e.place < links
 
 -- what is taken at an end
 abbrev pub taken_by : End → Joint → List Taken
-taken_by e j = map (from_peer (peer_of e.side j)) (link.arrivals e.side j.link)
+taken_by e j = map (from_peer (peer_of e.side j)) (arrivals_at e.side j.link)
 
 -- the links after turns at some ends, and what was taken there, in order
 pub record Visited : Type 0 where

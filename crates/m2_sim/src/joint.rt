@@ -1,10 +1,9 @@
 //! A link with its two nodes.
 
-ghost use Rattle.std.specs.Prelude.{◌≡◌, ◌<◌, ◌^◌, ◌++◌, map, OnOk};
+ghost use Rattle.std.specs.Prelude.{◌≡◌, ◌<◌, ◌^◌, [], map, OnOk};
 ghost use Rattle.m2_message.specs.Message.{content_of};
-ghost use Rattle.m2_link.specs.Accepted.{content_taken};
-ghost use Rattle.m2_link.specs.Model.{arrivals};
-ghost use Rattle.m2_sim.specs.Model.{joint_of, peer_of, flowing, left_on};
+ghost use Rattle.m2_sim.specs.Dispatcher.{arrival_of};
+ghost use Rattle.m2_sim.specs.Model.{arrivals_at, joint_of, peer_of, flowing, left_on};
 ghost use Rattle.m2_sim.specs.Joint.{turned_by, posted_by, faulted};
 
 use m2_bytes::NoMemory;
@@ -61,11 +60,12 @@ impl Joint {
         }
     }
 
-    /// A turn of the side, which puts what it takes behind `taken`. Err comes for want of memory.
+    /// A turn of the side: `taken` has what it accepted, each message with its number in the session.
+    /// Err comes for want of memory.
     pub(crate) fn turn(&mut self, side: LinkSide, taken: &mut Vec<Accepted>) -> Result<(), NoMemory>
+        requires { taken.old.items ≡ [] }
         ensures joint { OnOk result (self.new ≡ turned_by side self.old) }
-        ensures taken { OnOk result (map content_taken taken.new.items
-            ≡ map content_taken taken.old.items ++ arrivals side self.old.link) }
+        ensures taken { OnOk result (map arrival_of taken.new.items ≡ arrivals_at side self.old.link) }
     {
         self.link.turn(side, taken)
     }

@@ -1,5 +1,5 @@
-use Rattle.m2_sim.proofs.Heard.{hears_fronts}
+use Rattle.m2_sim.proofs.Heard.{hears_prefixes}
 use Rattle.m2_sim.proofs.laws.each_key_keeps_its_order.Goals as goal
 
 pub returns : goal.returns
-returns c = hears_fronts
+returns c = hears_prefixes

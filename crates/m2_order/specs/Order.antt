@@ -1,0 +1,79 @@
+-- The order of messages: of each two nodes and each key (a priority with a dispatch path), what a node heard from
+-- the other is a prefix of what the other posted, in order, each once. Said of a scenario's lines and of the calls
+-- of dispatchers alone. This is the project's promise; a message is the same whatever numbers the runtime wrote
+-- into it.
+use Rattle.std.specs.Prelude.{◌≡◌, ℕ, zero, suc, ◌+◌, ◌==◌, ◌&&◌, ◌<◌, ◌≤◌, true, if◌then◌else◌, List, [], ◌∷◌, length, take, All, sum_by, count_by}
+use Rattle.m2_message.specs.Message.{Content, IsSameMessage}
+use Rattle.m2_policy.specs.Path.{path_of}
+use Rattle.m2_policy.specs.declared.path.Key.{Key}
+use Rattle.m2_dispatch.specs.Heard.{Heard, message, reset, peer_of, is_key, of_key}
+use Rattle.m2_scenario.specs.declared.link.Link.{Link}
+use Rattle.m2_scenario.specs.declared.node.Node.{Node}
+use Rattle.m2_scenario.specs.Draft.{DraftLine, post, is_post, are_joined}
+
+-- ---- what was posted
+
+-- the kinds that a node dispatches at once
+abbrev pub fast_of : Node → List ℕ
+fast_of n = n.fast
+
+-- the key of a message at a node that dispatches these kinds at once
+abbrev pub key_of : List ℕ → Content → Key
+key_of fast m = record { priority = m.header.priority; path = path_of m.header.kind fast }
+
+-- the list at a place; the empty list where there is no such place
+abbrev pub at : {X : Type 0} → ℕ → List (List X) → List X
+at x [] = []
+at zero (l ∷ ls) = l
+at (suc x) (l ∷ ls) = at x ls
+
+-- the messages that x posts to y, in order, with this key at y, which dispatches the kinds of `fast` at once
+abbrev pub posts_of : (x y : ℕ) → List ℕ → Key → List DraftLine → List Content
+posts_of x y fast key [] = []
+posts_of x y fast key (post a b m ∷ ls) =
+    if ((a == x) && (b == y)) && is_key (key_of fast m) key then m ∷ posts_of x y fast key ls else posts_of x y fast key ls
+posts_of x y fast key (_ ∷ ls) = posts_of x y fast key ls
+
+-- ---- what was heard of it
+
+-- the same messages, one for one
+abbrev pub AreSame : List Content → List Content → Type 0
+AreSame [] [] = Unit {0}
+AreSame (m ∷ ms) (n ∷ ns) = IsSameMessage m n × AreSame ms ns
+AreSame _ _ = ⊥
+
+-- the first ones of them, in order
+pub record IsPrefixOf (heard posted : List Content) : Type 0 where
+  pub few : length heard ≤ length posted
+  pub same : AreSame heard (take (length heard) posted)
+
+-- Of each two nodes x and y and each key: what y heard from x is a prefix of what x posted to y, in order, each
+-- once. By the kinds that each node dispatches at once, the scenario's lines, and what each node heard.
+abbrev pub HearsPrefixes : List (List ℕ) → List DraftLine → List (List Heard) → Type 0
+HearsPrefixes fast lines heard = (x y : ℕ) (key : Key) → IsPrefixOf (of_key x key (at y heard)) (posts_of x y (at y fast) key lines)
+
+-- Of each two nodes x and y and each key: y heard all that x posted to y, in order, each once.
+abbrev pub HearsAll : List (List ℕ) → List DraftLine → List (List Heard) → Type 0
+HearsAll fast lines heard = (x y : ℕ) (key : Key) → AreSame (of_key x key (at y heard)) (posts_of x y (at y fast) key lines)
+
+-- ---- how many, and from whom
+
+-- so many calls of dispatchers, of all nodes together, and so many posts that are left, are the posts
+abbrev pub AreThePosts : List DraftLine → List (List Heard) → (left : ℕ) → Type 0
+AreThePosts lines heard left = sum_by length heard + left ≡ count_by is_post lines
+
+-- a node of so many that a link joins with the node at y
+pub record IsPeer (nodes : ℕ) (links : List Link) (y x : ℕ) : Type 0 where
+  pub within : x < nodes
+  pub joined : are_joined links x y ≡ true
+
+-- no reset
+abbrev pub IsMessage : Heard → Type 0
+IsMessage (message peer key number m) = Unit {0}
+IsMessage (reset peer) = ⊥
+
+-- There is a list for each node, and all that a node heard are messages, and come from its peers.
+pub record HearsPeers (nodes : ℕ) (links : List Link) (heard : List (List Heard)) : Type 0 where
+  pub places : length heard ≡ nodes
+  pub messages : (y : ℕ) → All IsMessage (at y heard)
+  pub peers : (y : ℕ) → All (λ h. IsPeer nodes links y (peer_of h)) (at y heard)
