@@ -131,7 +131,7 @@ impl Decoder {
     {
         matches!(
             self.finding,
-            Finding::Nothing | Finding::Sized(_) | Finding::Sealed(_)
+            Finding::Sized(_) | Finding::Sealed(_) | Finding::Nothing
         )
     }
 
