@@ -1,4 +1,4 @@
--- What was heard: a front of what was posted, all of it where nothing is left, and only from nodes that are linked.
+-- What was heard: a prefix of what was posted, all of it where nothing is left, and only from nodes that are linked.
 use Rattle.std.proofs.Common.{◌≡◌, ℕ, ◌<◌, Bool, true, false, ◌&&◌, ◌||◌, eqb, List, [], ◌∷◌, ◌++◌, length, filter, take, Option, None, Some, refl, sym, ap, subst, map, ◌∙◌, arith, length-append, sum_by}
 use Rattle.std.proofs.lemmas.List.{append-nil, nil_from_length, length-map}
 use Rattle.std.specs.List.{AllByRecursion}
@@ -16,21 +16,21 @@ use Rattle.m2_scenario.specs.declared.link.Link.{Link}
 use Rattle.m2_scenario.specs.Draft.{DraftLine, are_joined}
 use Rattle.m2_scenario.specs.Valid.{IsSound, IsLink}
 use Rattle.m2_sim.specs.Model.{Joint, fresh, after_lines, at, left_on, left, side_towards, fast_of}
-use Rattle.m2_sim.specs.Posts.{IsFrontOf, HearsFronts, HearsAll, IsMessage, IsPeer, HearsPeers}
+use Rattle.m2_sim.specs.Posts.{IsPrefixOf, HearsFronts, HearsAll, IsMessage, IsPeer, HearsPeers}
 use Rattle.m2_sim.proofs.Keys.{and_first, and_second, has_key}
 use Rattle.m2_sim.proofs.Joints.{towards}
 use Rattle.m2_sim.proofs.Takes.{IsLinked}
 use Rattle.m2_sim.proofs.Holds.{unheard, in_the_end, fast-lines}
 
-front_of : (front rest whole : List Content) → front ++ rest ≡ whole → IsFrontOf front whole
-front_of front rest whole h = record {
-  few = omega (arith, length-append front rest, ap length h);
-  is = sym (take-append_seam front rest) ∙ ap (take (length front)) h;
+prefix_of : (prefix rest whole : List Content) → prefix ++ rest ≡ whole → IsPrefixOf prefix whole
+prefix_of prefix rest whole h = record {
+  few = omega (arith, length-append prefix rest, ap length h);
+  is = sym (take-append_seam prefix rest) ∙ ap (take (length prefix)) h;
 }
 
 hears_fronts_of : (nodes : List Node) (links : List Link) (lines : List DraftLine) → IsSound nodes links lines →
     let n = after_lines lines (fresh nodes links) in HearsFronts n.fast lines n.heard
-hears_fronts_of nodes links lines sound x y key = front_of _ _ _ ((in_the_end nodes links lines sound).each x y key)
+hears_fronts_of nodes links lines sound x y key = prefix_of _ _ _ ((in_the_end nodes links lines sound).each x y key)
 
 pub hears_fronts : (nodes : List Node) (links : List Link) (lines : List DraftLine) → IsSound nodes links lines →
     HearsFronts (map fast_of nodes) lines (after_lines lines (fresh nodes links)).heard

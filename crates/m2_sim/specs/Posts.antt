@@ -15,14 +15,14 @@ posts_of x y fast key (post a b m ∷ ls) =
 posts_of x y fast key (_ ∷ ls) = posts_of x y fast key ls
 
 -- the first ones of them, in order
-pub record IsFrontOf (front whole : List Content) : Type 0 where
-  pub few : length front ≤ length whole
-  pub is : front ≡ take (length front) whole
+pub record IsPrefixOf (prefix whole : List Content) : Type 0 where
+  pub few : length prefix ≤ length whole
+  pub is : prefix ≡ take (length prefix) whole
 
--- Of each two nodes x and y and each key: what y heard from x is a front of what x posted to y, in order,
+-- Of each two nodes x and y and each key: what y heard from x is a prefix of what x posted to y, in order,
 -- each once.
 abbrev pub HearsFronts : List (List ℕ) → List DraftLine → List (List Heard) → Type 0
-HearsFronts fast lines heard = (x y : ℕ) (key : Key) → IsFrontOf (of_key x key (at y heard)) (posts_of x y (at y fast) key lines)
+HearsFronts fast lines heard = (x y : ℕ) (key : Key) → IsPrefixOf (of_key x key (at y heard)) (posts_of x y (at y fast) key lines)
 
 -- Of each two nodes x and y and each key: y heard all that x posted to y, in order, each once.
 abbrev pub HearsAll : List (List ℕ) → List DraftLine → List (List Heard) → Type 0

@@ -9,7 +9,7 @@ ghost use Rattle.m2_scenario.specs.Valid.{IsSound};
 ghost use Rattle.m2_sim.specs.Model.{after_lines, fast_of, fresh, left};
 ghost use Rattle.m2_sim.specs.Posts.{HearsFronts, HearsAll, HearsPeers};
 
-/// Of each two nodes and each key, what the one heard from the other is a front of what the other
+/// Of each two nodes and each key, what the one heard from the other is a prefix of what the other
 /// posted to it, in order, each once.
 pub fn each_key_keeps_its_order()
     ensures { (nodes : List Node) (links : List Link) (lines : List DraftLine) → IsSound nodes links lines →
