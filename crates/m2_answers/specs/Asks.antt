@@ -14,10 +14,24 @@ use Rattle.m2_answers.specs.declared.ask.AskFacts.{AskFacts}
 -- ---- from an ask to its facts
 
 abbrev pub facts_of_ident : ClientIdent → AskFacts
-facts_of_ident p = record { ident = true; client = p.cookie; server = 0; global = p.global; connect = 0; seen = 0 }
+facts_of_ident p = record {
+  ident = true;
+  client = p.cookie;
+  server = 0;
+  global = p.global;
+  connect = 0;
+  seen = 0;
+}
 
 abbrev pub facts_of_reconnect : SessionReconnect → AskFacts
-facts_of_reconnect p = record { ident = false; client = p.client; server = p.server; global = p.global; connect = p.connect; seen = p.seen }
+facts_of_reconnect p = record {
+  ident = false;
+  client = p.client;
+  server = p.server;
+  global = p.global;
+  connect = p.connect;
+  seen = p.seen;
+}
 
 -- ---- from the facts to the answer, and to what the session is told
 
@@ -26,7 +40,9 @@ abbrev pub reconnect_of : AskFacts → Reconnect
 reconnect_of a = record { client = a.client; server = a.server; global = a.global; connect = a.connect; seen = a.seen }
 
 abbrev pub answer_to : Session → AskFacts → (written : ℕ) → Answer
-answer_to s a written = if a.ident then ident_answer s a.client a.global else reconnect_answer s (reconnect_of a) written
+answer_to s a written =
+    if a.ident then ident_answer s a.client a.global
+    else reconnect_answer s (reconnect_of a) written
 
 abbrev pub told_of_ident : AskFacts → Answer → (server : ℕ) → Option Event
 told_of_ident a answer server = ident_event answer a.client server a.global

@@ -1,5 +1,5 @@
--- The frame that is written for each answer. Which frame it is follows Ceph's ProtocolV2; what a SERVER_IDENT says of its
--- node is this project's profile.
+-- The frame that is written for each answer. Which frame it is follows Ceph's ProtocolV2; what a SERVER_IDENT says of
+-- its node is this project's profile.
 use Rattle.std.specs.Prelude.{pos, Bool, true, false, if◌then◌else◌, [], ◌∷◌, Option, Some, None}
 use Rattle.m2_addr.specs.declared.addr.AnyAddr.TheVariants.{V4}
 use Rattle.m2_control.specs.declared.control.Control.{Control}

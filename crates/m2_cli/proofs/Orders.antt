@@ -1,14 +1,14 @@
 -- What `sim` prints keeps the order of the posts, since the model does.
 use Rattle.std.proofs.Common.{◌≡◌, ◌∙◌, ℕ, ◌+◌, zero, suc, Bool, true, false, cond, List, [], ◌++◌, length, take, Result, Ok, Err, refl, sym, ap, subst, map, append-nil, inl, inr}
-use Rattle.std.specs.Prelude.{◌==◌, count_by, sum_by}
+use Rattle.std.specs.Prelude.{◌==◌}
 use Rattle.std.proofs.lemmas.Bool.{eqb-true}
 use Rattle.m2_edge.specs.Sink.{SeenSink, TakesBytes, TakesPrefix}
 use Rattle.m2_scenario.specs.declared.link.Link.{Link}
 use Rattle.m2_scenario.specs.declared.node.Node.{Node}
-use Rattle.m2_scenario.specs.Draft.{Draft, DraftLine, is_post}
+use Rattle.m2_scenario.specs.Draft.{Draft, DraftLine}
 use Rattle.m2_scenario.specs.Valid.{IsSound}
-use Rattle.m2_sim.specs.Model.{fast_of, left}
-use Rattle.m2_sim.specs.Posts.{HearsFronts, HearsAll, HearsPeers}
+use Rattle.m2_order.specs.Order.{fast_of, AreThePosts, HearsPrefixes, HearsAll, HearsPeers}
+use Rattle.m2_sim.specs.Model.{left}
 use Rattle.m2_sim.specs.Lines.{net_after}
 use Rattle.m2_cli.specs.declared.printout.Printout.{Printout}
 use Rattle.m2_cli.specs.declared.status.Status.{Status}
@@ -23,11 +23,11 @@ use Rattle.m2_cli.proofs.Says.{prefix_whole}
 
 -- the laws of the model
 pub record Laws : Type 0 where
-  pub prefixes : (nodes : List Node) (links : List Link) (lines : List DraftLine) → IsSound nodes links lines → HearsFronts (map fast_of nodes) lines (net_after nodes links lines).heard
+  pub prefixes : (nodes : List Node) (links : List Link) (lines : List DraftLine) → IsSound nodes links lines → HearsPrefixes (map fast_of nodes) lines (net_after nodes links lines).heard
   pub all : (nodes : List Node) (links : List Link) (lines : List DraftLine) → IsSound nodes links lines → left (net_after nodes links lines) ≡ 0
       → HearsAll (map fast_of nodes) lines (net_after nodes links lines).heard
   pub counted : (nodes : List Node) (links : List Link) (lines : List DraftLine) → IsSound nodes links lines
-      → sum_by length (net_after nodes links lines).heard + left (net_after nodes links lines) ≡ count_by is_post lines
+      → AreThePosts lines (net_after nodes links lines).heard (left (net_after nodes links lines))
   pub peers : (nodes : List Node) (links : List Link) (lines : List DraftLine) → IsSound nodes links lines
       → HearsPeers (length nodes) links (net_after nodes links lines).heard
 

@@ -3,13 +3,12 @@
 -- the other is a prefix of what the file posts, in order, each once; where the work is done it is all of it.
 -- Where some are left, the printed ones and the count are together the posts. Where a write failed, what was
 -- printed is a prefix of such lines.
-use Rattle.std.specs.Prelude.{◌≡◌, ◌+◌, ◌⊎◌, ℕ, false, List, length, map, count_by, sum_by, Ok}
+use Rattle.std.specs.Prelude.{◌≡◌, ◌⊎◌, ℕ, false, List, length, map, Ok}
 use Rattle.m2_dispatch.specs.Heard.{Heard}
 use Rattle.m2_edge.specs.Sink.{TakesBytes, TakesPrefix}
-use Rattle.m2_scenario.specs.Draft.{Draft, is_post}
+use Rattle.m2_scenario.specs.Draft.{Draft}
 use Rattle.m2_report.specs.Report.{report_of}
-use Rattle.m2_sim.specs.Model.{fast_of}
-use Rattle.m2_sim.specs.Posts.{HearsFronts, HearsAll, HearsPeers}
+use Rattle.m2_order.specs.Order.{fast_of, AreThePosts, HearsPrefixes, HearsAll, HearsPeers}
 use Rattle.m2_cli.specs.declared.status.Status.{Status}
 use Rattle.m2_cli.specs.declared.status.Status.TheVariants.{Done, Usage, BadScenario, ReadFault, WriteFault, Left, NoMemory, BadFrames}
 use Rattle.m2_cli.specs.Edge.{Edge}
@@ -20,7 +19,7 @@ use Rattle.m2_cli.specs.Verdict.{scenario_in}
 pub record PrintsPrefixes (d : Draft) (heard : List (List Heard)) (text : List ℕ) : Type 0 where
   pub lines : text ≡ report_of false d.nodes heard
   pub peers : HearsPeers (length d.nodes) d.links heard
-  pub prefixes : HearsFronts (map fast_of d.nodes) d.lines heard
+  pub prefixes : HearsPrefixes (map fast_of d.nodes) d.lines heard
 
 -- the lines of all that was dispatched, and it is all that was posted
 pub record KeepsAll (given : List ℕ) (text : List ℕ) : Type 0 where
@@ -36,7 +35,7 @@ pub record KeepsPrefixes (given : List ℕ) (text : List ℕ) (count : ℕ) : Ty
   pub read : scenario_in given ≡ Ok scenario
   pub heard : List (List Heard)
   pub prints : PrintsPrefixes scenario heard text
-  pub counted : sum_by length heard + count ≡ count_by is_post scenario.lines
+  pub counted : AreThePosts scenario.lines heard count
 
 -- By what is answered. Done: all is printed. Left: all but so many. WriteFault: a prefix of such lines, or nothing.
 abbrev pub KeepsOrder : Status → Edge → Edge → Type 0

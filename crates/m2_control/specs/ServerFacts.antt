@@ -10,10 +10,26 @@ use Rattle.m2_control.specs.declared.server_facts.ServerFacts.{ServerFacts}
 use Rattle.m2_control.specs.declared.fault.ControlFault.{ControlFault}
 
 abbrev pub facts_with : Addr → Tail → ServerFacts
-facts_with main t = record { main = main; gid = t.gid; global = t.global; supported = t.supported; required = t.required; flags = t.flags; cookie = t.cookie }
+facts_with main t = record {
+  main = main;
+  gid = t.gid;
+  global = t.global;
+  supported = t.supported;
+  required = t.required;
+  flags = t.flags;
+  cookie = t.cookie;
+}
 
 abbrev pub facts_of : ServerIdent → Addr → ServerFacts
-facts_of p main = facts_with main (record { gid = p.gid; global = p.global; supported = p.supported; required = p.required; flags = p.flags; cookie = p.cookie })
+facts_of p main = record {
+  main = main;
+  gid = p.gid;
+  global = p.global;
+  supported = p.supported;
+  required = p.required;
+  flags = p.flags;
+  cookie = p.cookie;
+}
 
 pub record AreFactsOf (facts : ServerFacts) (p : ServerIdent) : Type 0 where
   pub main : main_of p.addrs ≡ Ok facts.main

@@ -73,21 +73,17 @@ fn a_flush_that_fails_keeps_what_was_taken(rt: HostRuntime) -> Result<(), Fail> 
     Ok(())
 }
 
-/// Writes a file of this text.
-fn write_file(rt: &HostRuntime, path: &str, text: &[u8]) -> Result<(), Fail> {
-    let mut sink = StdSink::new(fs::create(rt, path)?);
-    assert_eq!(rt; write_whole(&mut sink, text), Ok(()));
-    assert_eq!(rt; sink.flush(), Ok(()));
-    Ok(())
-}
-
 #[test]
 fn two_files_are_read_one_after_the_other(rt: HostRuntime) -> Result<(), Fail> {
     let alloc = rt.alloc();
     let one = "m2_edge_tests_one.tmp";
     let two = "m2_edge_tests_two.tmp";
-    write_file(&rt, one, b"one line\n")?;
-    write_file(&rt, two, b"another\n")?;
+    let mut sink = StdSink::new(fs::create(&rt, one)?);
+    assert_eq!(rt; write_whole(&mut sink, b"one line\n"), Ok(()));
+    assert_eq!(rt; sink.flush(), Ok(()));
+    let mut sink = StdSink::new(fs::create(&rt, two)?);
+    assert_eq!(rt; write_whole(&mut sink, b"another\n"), Ok(()));
+    assert_eq!(rt; sink.flush(), Ok(()));
     let mut source = StdSource::new(&rt);
     let first = read_whole(alloc, &mut source, one, 100)?;
     assert_eq!(rt; first.as_slice(), b"one line\n".as_slice());

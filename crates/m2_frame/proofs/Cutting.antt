@@ -1,7 +1,7 @@
 -- A stream has one reading, and it stays as more comes.
-use Rattle.std.proofs.Common.{◌≡◌, ℕ, ◌+◌, ◌≤◌, Bool, true, false, cond, List, [], ◌∷◌, length, take, drop, ◌++◌, Result, Ok, Err, refl, sym, ap, ◌∙◌, subst, arith, length-drop, inl, inr}
+use Rattle.std.proofs.Common.{◌≡◌, ℕ, ◌+◌, ◌<◌, ◌≤◌, Bool, true, false, cond, List, [], ◌∷◌, length, take, drop, ◌++◌, Result, Ok, Err, refl, sym, ap, ◌∙◌, subst, arith, length-drop, inl, inr}
 use Rattle.std.proofs.lemmas.Bool.{cases_lt}
-use Rattle.std.proofs.lemmas.List.{drop-append-le}
+use Rattle.std.proofs.lemmas.List.{drop-append-le, take-append-drop, length-take-le}
 use Rattle.m2_frame.specs.declared.epilogue.Late.{Late}
 use Rattle.m2_frame.specs.declared.epilogue.Late.TheVariants.{Complete, Aborted}
 use Rattle.m2_frame.specs.declared.fault.FrameFault.{FrameFault}
@@ -104,7 +104,7 @@ text_within rest i n e =
       | inr le ↦ omega (arith, body_within (read_preamble (take 32 rest)) (drop 32 rest) i n (sym (judge-whole rest le) ∙ e), length-drop 32 rest, le)
     ]
 
--- what is a text stays one, whatever follows: no text is a front of another
+-- what is a text stays one, whatever follows: no text is a prefix of another
 pub text_stays : (rest more : List ℕ) (i : Item) (n : ℕ) → judge rest ≡ text i n → judge (rest ++ more) ≡ text i n
 text_stays rest more i n e =
     elim (judge-settled rest more) [
@@ -144,3 +144,24 @@ Splits-once (i ∷ is) (j ∷ js) stream rest other a o b p =
     let moved : Splits (drop a.0 stream) js other = subst (λ n. Splits (drop n stream) js other) (sym same.1) b.2 in
     let rest_same = Splits-once is js (drop a.0 stream) rest other a.2 o moved p in
     (ap (λ x. x ∷ is) same.0 ∙ ap (λ xs. j ∷ xs) rest_same.0, rest_same.1)
+
+-- a proper prefix of a text is a start
+pub text-begun : (bytes : List ℕ) (i : Item) (k : ℕ) → judge bytes ≡ text i (length bytes) → k < length bytes → judge (take k bytes) ≡ start
+text-begun bytes i k whole short = by_front (judge (take k bytes)) refl
+  where
+    by_front : (x : Front) → judge (take k bytes) ≡ x → x ≡ start
+    by_front start e = refl
+    by_front (bad f) e =
+        let more : judge bytes ≡ bad f = subst (λ (l : List ℕ). judge l ≡ bad f) (take-append-drop k bytes) (fault_stays (take k bytes) (drop k bytes) f e) in
+        absurd (bad_isnt_text f i (length bytes) (sym more ∙ whole))
+    by_front (text j n) e =
+        let more : judge bytes ≡ text j n = subst (λ (l : List ℕ). judge l ≡ text j n) (take-append-drop k bytes) (text_stays (take k bytes) (drop k bytes) j n e) in
+        let same = same_text j i n (length bytes) (sym more ∙ whole) in
+        let within = text_within (take k bytes) j n e in
+        let few = length-take-le k bytes (omega (arith, short)) in
+        absurd (omega (arith, same.1, within, few, short))
+
+-- one reading goes on where another ends
+pub Splits-append : (is js : List Item) (stream mid rest : List ℕ) → Splits stream is mid → Splits mid js rest → Splits stream (is ++ js) rest
+Splits-append [] js stream mid rest s t = subst (λ (l : List ℕ). Splits l js rest) (sym s) t
+Splits-append (i ∷ is) js stream mid rest s t = (s.0, s.1, Splits-append is js (drop s.0 stream) mid rest s.2 t)

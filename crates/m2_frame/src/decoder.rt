@@ -21,8 +21,14 @@ use std::marker::Model;
 /// frames in order, then `NotYet` where the rest is a start, or the first fault, from then on. After
 /// the preamble of each MESSAGE it answers [`Got::Size`] until [`grant`](Decoder::grant).
 ///
-/// A byte is copied when it is fed, and once more into its frame. A text is judged as its bytes come, and
-/// each of its parts once.
+/// Makers: [`new`](Decoder::new). Readers: [`rests`](Decoder::rests), [`look`](Decoder::look),
+/// [`place`](Decoder::place). Input: [`reserve`](Decoder::reserve), [`feed`](Decoder::feed). Output:
+/// [`next`](Decoder::next), [`grant`](Decoder::grant), [`pass`](Decoder::pass). After `reserve` a `feed`
+/// of so many bytes can't fail, and of the output `next` alone takes memory, for a whole frame.
+///
+/// A byte is copied when it is fed, and once more into its frame. A text is judged as its bytes come,
+/// and each of its parts once: by the call that brought its last byte, granted its size, or passed the
+/// text before it.
 #[derive(Debug, Drop)]
 pub struct Decoder {
     buffer: BytesMut,
@@ -70,6 +76,7 @@ impl Decoder {
         ensures same { IsSameButRoom self.old self.new }
         ensures room { OnOk result (more ≤ self.new.room) }
         ensures grows { self.old.room ≤ self.new.room }
+        ensures succeeds { more ≤ self.old.room → IsOk result }
     {
         self.buffer.reserve(more)?;
         Ok(())
@@ -109,7 +116,7 @@ impl Decoder {
         }
     }
 
-    /// Grants the size that the last answer asked for.
+    /// Grants the size that [`next`](Decoder::next) asks for.
     pub fn grant(&mut self)
         requires { IsSome (owed self.old) }
         ensures { self.new ≡ record self.old { granted = true } }
@@ -124,7 +131,7 @@ impl Decoder {
     {
         matches!(
             self.finding,
-            Finding::Nothing | Finding::Sized(_) | Finding::Sealed(_)
+            Finding::Sized(_) | Finding::Sealed(_) | Finding::Nothing
         )
     }
 

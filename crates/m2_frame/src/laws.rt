@@ -1,12 +1,12 @@
 //! Laws of the grammar, in functions that do nothing.
 
-ghost use Rattle.std.specs.Prelude.{◌≡◌, ◌≢◌, ◌≤◌, ◌↔◌, ℕ, List, [], ◌∷◌, ◌++◌, length, take, drop};
+ghost use Rattle.std.specs.Prelude.{◌≡◌, ◌≢◌, ◌<◌, ◌≤◌, ◌↔◌, ℕ, List, [], ◌∷◌, ◌++◌, length, take, drop};
 ghost use Rattle.m2_frame.specs.declared.fault.FrameFault.{FrameFault};
 ghost use Rattle.m2_frame.specs.declared.preamble.TheConstants.{PREAMBLE_BYTES};
 ghost use Rattle.m2_frame.specs.Faults.{HasCause, IsBad};
 ghost use Rattle.m2_frame.specs.Frame.{Parts, Fits};
 ghost use Rattle.m2_frame.specs.Grammar.{IsFrameText, IsItemText, IsStreamText, AreBytes};
-ghost use Rattle.m2_frame.specs.Reading.{Item, whole, text, bad, judge};
+ghost use Rattle.m2_frame.specs.Reading.{Item, whole, text, start, bad, judge};
 ghost use Rattle.m2_frame.specs.Stream.{Splits, IsOpen};
 ghost use Rattle.m2_frame.specs.Text.{text_of};
 
@@ -27,19 +27,22 @@ pub fn a_written_frame_is_read()
 {}
 
 /// No text is a prefix of another: what is a text stays one whatever follows, and it lies within the
-/// bytes that were judged. What is bad stays so.
+/// bytes that were judged; each proper prefix of it is a start. What is bad stays so.
 pub fn no_text_begins_another()
     ensures stays { (rest more : List ℕ) (item : Item) (n : ℕ) → judge rest ≡ text item n → judge (rest ++ more) ≡ text item n }
     ensures some { (rest : List ℕ) (item : Item) (n : ℕ) → judge rest ≡ text item n → PREAMBLE_BYTES ≤ n }
     ensures within { (rest : List ℕ) (item : Item) (n : ℕ) → judge rest ≡ text item n → n ≤ length rest }
+    ensures begun { (bytes : List ℕ) (item : Item) (n : ℕ) → judge bytes ≡ text item (length bytes) → n < length bytes → judge (take n bytes) ≡ start }
     ensures fault { (rest more : List ℕ) (f : FrameFault) → judge rest ≡ bad f → judge (rest ++ more) ≡ bad f }
 {}
 
 /// A stream has one reading: what is fed adds to its rest and to nothing else, what is at the front
-/// of the rest is its next item, and no other items can be read from it.
+/// of the rest is its next item, what is read from the rest comes behind what was read before, and no
+/// other items can be read from it.
 pub fn one_reading()
     ensures fed { (items : List Item) (stream rest more : List ℕ) → Splits stream items rest → Splits (stream ++ more) items (rest ++ more) }
     ensures next { (items : List Item) (stream rest : List ℕ) (item : Item) (n : ℕ) → Splits stream items rest → judge rest ≡ text item n → Splits stream (items ++ item ∷ []) (drop n rest) }
+    ensures joined { (items others : List Item) (stream rest end : List ℕ) → Splits stream items rest → Splits rest others end → Splits stream (items ++ others) end }
     ensures only { (items others : List Item) (stream rest other : List ℕ) → Splits stream items rest → IsOpen rest → Splits stream others other → IsOpen other → (items ≡ others) × (rest ≡ other) }
 {}
 

@@ -2,11 +2,15 @@
 use Rattle.std.proofs.Common.{ℕ, zero, suc, ◌+◌, Bool, true, false, ◌==◌, ◌&&◌, not, nat_lt, nat_le, if◌then◌else◌, List, [], ◌∷◌, length, take, drop, Result, Ok, Err}
 use Rattle.std.specs.Int.{Width, w8, w32, w64, byte_len, from_le_bytes, cast_signed}
 use Rattle.m2_addr.specs.declared.addr.AnyAddr.{AnyAddr}
+use Rattle.m2_addr.specs.declared.addr.TheConstants.Addr.{MSGR2}
+use Rattle.m2_addr.specs.declared.reading.TheConstants.{LEAST_LENGTH, MOST_LENGTH}
+use Rattle.m2_addr.specs.declared.vector.TheConstants.{MOST_ADDRESSES}
+use Rattle.m2_control.specs.declared.fields.TheConstants.{MOST_LISTED, MOST_BYTES, SIGNATURE_BYTES}
 use Rattle.m2_addr.specs.declared.addr.AnyAddr.TheVariants.{V4, Other}
 use Rattle.m2_addr.specs.declared.fault.AddrFault.{AddrFault}
 use Rattle.m2_addr.specs.declared.fault.AddrFault.TheVariants as address
 use Rattle.m2_addr.specs.Addr.{is_ipv4, ipv4_of, seen, head_at, socket_at, body_at, body_of, shape_at, address_at, ipv4_at}
-use Rattle.m2_addr.specs.Reading.{◌>>=◌, number, front, checked, marked, ◌⊳◌, made}
+use Rattle.m2_addr.specs.Reading.{◌>>=◌, number, prefix, checked, marked, ◌⊳◌, made}
 use Rattle.m2_addr.specs.Vector.{main_of, addresses_at, count_at, vector_at}
 use Rattle.m2_control.specs.declared.control.Control.{Control}
 use Rattle.m2_control.specs.declared.control.Control.TheVariants as control
@@ -45,8 +49,8 @@ either P false x y h k = k
 number_reads : {F : Type 0} (P : F → Type 0) (w : Width) (e : F) → P e → Reads P (number w e)
 number_reads P w e h bytes = either P (nat_lt (length bytes) (byte_len w)) (Err e) (Ok (from_le_bytes w (take (byte_len w) bytes), drop (byte_len w) bytes)) h tt
 
-front_reads : {F : Type 0} (P : F → Type 0) (n : ℕ) (e : F) → P e → Reads P (front n e)
-front_reads P n e h bytes = either P (nat_lt (length bytes) n) (Err e) (Ok (take n bytes, drop n bytes)) h tt
+prefix_reads : {F : Type 0} (P : F → Type 0) (n : ℕ) (e : F) → P e → Reads P (prefix n e)
+prefix_reads P n e h bytes = either P (nat_lt (length bytes) n) (Err e) (Ok (take n bytes, drop n bytes)) h tt
 
 checked_reads : {A F : Type 0} (P : F → Type 0) (test : A → Bool) (e : F) (read : List ℕ → Result (A × List ℕ) F) → P e → Reads P read → Reads P (checked test e read)
 checked_reads P test e read h k bytes = followed P (read bytes) (λ x. if test x.0 then Ok x else Err e) (k bytes) (λ x. either P (test x.0) (Ok x) (Err e) tt h)
@@ -70,18 +74,18 @@ OfAddress e = IsOfBytes (fault.Control (Address e))
 head_reads : Reads OfAddress head_at
 unfolding head_at
 head_reads = marked_reads OfAddress 1 address.Short address.BadMarker
-    (checked (λ v. not (v == 0)) address.BadMarker (number w8 address.Short) ⊳ marked 1 address.Short address.BadMarker (checked (λ n. nat_le 12 n && nat_le n 4096) address.BadLength (number w32 address.Short)))
+    (checked (λ v. not (v == 0)) address.BadMarker (number w8 address.Short) ⊳ marked 1 address.Short address.BadMarker (checked (λ n. nat_le LEAST_LENGTH n && nat_le n MOST_LENGTH) address.BadLength (number w32 address.Short)))
     tt tt
-    (both_read OfAddress (checked (λ v. not (v == 0)) address.BadMarker (number w8 address.Short)) (marked 1 address.Short address.BadMarker (checked (λ n. nat_le 12 n && nat_le n 4096) address.BadLength (number w32 address.Short)))
+    (both_read OfAddress (checked (λ v. not (v == 0)) address.BadMarker (number w8 address.Short)) (marked 1 address.Short address.BadMarker (checked (λ n. nat_le LEAST_LENGTH n && nat_le n MOST_LENGTH) address.BadLength (number w32 address.Short)))
     (checked_reads OfAddress (λ v. not (v == 0)) address.BadMarker (number w8 address.Short) tt (number_reads OfAddress w8 address.Short tt))
-    (marked_reads OfAddress 1 address.Short address.BadMarker (checked (λ n. nat_le 12 n && nat_le n 4096) address.BadLength (number w32 address.Short)) tt tt
-    (checked_reads OfAddress (λ n. nat_le 12 n && nat_le n 4096) address.BadLength (number w32 address.Short) tt (number_reads OfAddress w32 address.Short tt))))
+    (marked_reads OfAddress 1 address.Short address.BadMarker (checked (λ n. nat_le LEAST_LENGTH n && nat_le n MOST_LENGTH) address.BadLength (number w32 address.Short)) tt tt
+    (checked_reads OfAddress (λ n. nat_le LEAST_LENGTH n && nat_le n MOST_LENGTH) address.BadLength (number w32 address.Short) tt (number_reads OfAddress w32 address.Short tt))))
 
 socket_reads : Reads OfAddress socket_at
 unfolding socket_at
-socket_reads bytes = followed OfAddress (checked (λ n. not (n == 1)) address.BadLength (number w32 address.Short) bytes) (λ n. front n.0 address.BadLength n.1)
+socket_reads bytes = followed OfAddress (checked (λ n. not (n == 1)) address.BadLength (number w32 address.Short) bytes) (λ n. prefix n.0 address.BadLength n.1)
     (checked_reads OfAddress (λ n. not (n == 1)) address.BadLength (number w32 address.Short) tt (number_reads OfAddress w32 address.Short tt) bytes)
-    (λ n. front_reads OfAddress n.0 address.BadLength tt n.1)
+    (λ n. prefix_reads OfAddress n.0 address.BadLength tt n.1)
 
 body_reads : Reads OfAddress body_at
 body_reads = both_read OfAddress (number w32 address.Short) (number w32 address.Short ⊳ socket_at) (number_reads OfAddress w32 address.Short tt)
@@ -94,7 +98,7 @@ body_of_reads bytes = followed OfAddress (body_at bytes) (λ body. Ok body.0) (b
 shape_reads : Reads OfAddress shape_at
 unfolding shape_at
 shape_reads bytes = followed OfAddress (head_at bytes) _ (head_reads bytes) λ head.
-    followed OfAddress (front head.0.1 address.Short head.1) _ (front_reads OfAddress head.0.1 address.Short tt head.1) λ rest.
+    followed OfAddress (prefix head.0.1 address.Short head.1) _ (prefix_reads OfAddress head.0.1 address.Short tt head.1) λ rest.
     followed OfAddress (body_of rest.0) _ (body_of_reads rest.0) λ body. tt
 
 address_reads : Reads OfAddress address_at
@@ -109,8 +113,8 @@ addresses_read zero bytes = tt
 addresses_read (suc n) bytes = made_reads OfAddress (λ x. x.0 ∷ x.1) (address_at ⊳ addresses_at n) (both_read OfAddress address_at (addresses_at n) address_reads (addresses_read n)) bytes
 
 count_reads : Reads OfAddress count_at
-count_reads = marked_reads OfAddress 2 address.Short address.BadMarker (checked (λ n. nat_le n 64) address.TooMany (number w32 address.Short)) tt tt
-    (checked_reads OfAddress (λ n. nat_le n 64) address.TooMany (number w32 address.Short) tt (number_reads OfAddress w32 address.Short tt))
+count_reads = marked_reads OfAddress 2 address.Short address.BadMarker (checked (λ n. nat_le n MOST_ADDRESSES) address.TooMany (number w32 address.Short)) tt tt
+    (checked_reads OfAddress (λ n. nat_le n MOST_ADDRESSES) address.TooMany (number w32 address.Short) tt (number_reads OfAddress w32 address.Short tt))
 
 vector_reads : Reads OfAddress vector_at
 unfolding vector_at
@@ -118,7 +122,7 @@ vector_reads bytes = followed OfAddress (count_at bytes) (λ n. addresses_at n.0
 
 pub main_reads : (addrs : List AnyAddr) → Fails OfAddress (main_of addrs)
 main_reads [] = tt
-main_reads (V4 a ∷ addrs) = either OfAddress (a.kind == 2) (Ok a) (main_of addrs) tt (main_reads addrs)
+main_reads (V4 a ∷ addrs) = either OfAddress (a.kind == MSGR2) (Ok a) (main_of addrs) tt (main_reads addrs)
 main_reads (Other b ∷ addrs) = main_reads addrs
 
 -- ---- fields
@@ -154,15 +158,15 @@ numbers_read (suc n) bytes = made_reads OfPayload (λ x. x.0 ∷ x.1) (number w3
 
 list_reads : (field : ℕ) → Reads OfPayload (list_at field)
 unfolding list_at
-list_reads field bytes = followed OfPayload (checked (λ n. nat_le n 64) (BadValue field) (number w32 Short) bytes) (λ n. numbers_at n.0 n.1)
-    (checked_reads OfPayload (λ n. nat_le n 64) (BadValue field) (number w32 Short) tt (short_reads w32) bytes)
+list_reads field bytes = followed OfPayload (checked (λ n. nat_le n MOST_LISTED) (BadValue field) (number w32 Short) bytes) (λ n. numbers_at n.0 n.1)
+    (checked_reads OfPayload (λ n. nat_le n MOST_LISTED) (BadValue field) (number w32 Short) tt (short_reads w32) bytes)
     (λ n. numbers_read n.0 n.1)
 
 string_reads : (field : ℕ) → Reads OfPayload (string_at field)
 unfolding string_at
-string_reads field bytes = followed OfPayload (checked (λ n. nat_le n 4096) (BadValue field) (number w32 Short) bytes) (λ n. front n.0 Short n.1)
-    (checked_reads OfPayload (λ n. nat_le n 4096) (BadValue field) (number w32 Short) tt (short_reads w32) bytes)
-    (λ n. front_reads OfPayload n.0 Short tt n.1)
+string_reads field bytes = followed OfPayload (checked (λ n. nat_le n MOST_BYTES) (BadValue field) (number w32 Short) bytes) (λ n. prefix n.0 Short n.1)
+    (checked_reads OfPayload (λ n. nat_le n MOST_BYTES) (BadValue field) (number w32 Short) tt (short_reads w32) bytes)
+    (λ n. prefix_reads OfPayload n.0 Short tt n.1)
 
 main_vector_reads : Reads OfPayload vector_field
 unfolding vector_field
@@ -187,7 +191,7 @@ done_reads : Reads OfPayload auth_done_at
 done_reads = made_reads OfPayload make_auth_done _ (both_read OfPayload (number w64 Short) _ (short_reads w64) (both_read OfPayload (number w32 Short) _ (short_reads w32) (string_reads 3)))
 
 signature_reads : Reads OfPayload auth_signature_at
-signature_reads = made_reads OfPayload make_auth_signature (front 32 Short) (front_reads OfPayload 32 Short tt)
+signature_reads = made_reads OfPayload make_auth_signature (prefix SIGNATURE_BYTES Short) (prefix_reads OfPayload SIGNATURE_BYTES Short tt)
 
 ident_reads : Reads OfPayload client_ident_at
 ident_reads = made_reads OfPayload make_client_ident _ (both_read OfPayload vector_field _ main_vector_reads (both_read OfPayload (lifted ipv4_at) _ (lifted_reads ipv4_at ipv4_reads) (tail_reads 3)))

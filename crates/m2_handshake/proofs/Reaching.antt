@@ -98,6 +98,9 @@ acceptor_at Acceptor Asked c = (refl, refl)
 acceptor_at Acceptor Ended c = (refl, refl)
 acceptor_at Acceptor (Faulty f) c = (refl, refl)
 
+pub asks_acceptor : (s : Standing) → can_ask s ≡ true → s.side ≡ Acceptor
+asks_acceptor s c = (acceptor_at s.side s.stage c).0
+
 over_can_ask : (stage : Stage) → is_over stage ≡ true → can_ask_at Acceptor stage ≡ true
 over_can_ask Opening o = absurd (true_isnt_false (sym o))
 over_can_ask Banner o = absurd (true_isnt_false (sym o))

@@ -75,17 +75,19 @@ IsSameButRoom old new = new ≡ record old { room = new.room }
 abbrev pub CanFeed : HalfState → ℕ → Type 0
 CanFeed h more = (more ≤ h.room) × (h.count + more < 2 ^ 64)
 
--- both sides have signed and no frame is in hand, or one of the authentication is waited for: a frame is read next
-abbrev pub awaits_at : Stage → Option Parts → Bool
-awaits_at (Waits awaited) None = true
-awaits_at Authed None = true
-awaits_at Ended None = true
-awaits_at _ _ = false
+-- a frame is read next: one of the authentication, an ask, or what is too much after the end; an opener that has signed
+-- reads no more
+abbrev pub awaits_at : Option Parts → Stage → HalfSide → Bool
+awaits_at None (Waits awaited) side = true
+awaits_at None Authed Acceptor = true
+awaits_at None Ended Acceptor = true
+awaits_at _ _ _ = false
 
 abbrev pub awaits_frame : Standing → Bool
-awaits_frame s = awaits_at s.stage s.held
+awaits_frame s = awaits_at s.held s.stage s.side
 
--- only a half that reads a frame next has granted its size: not one with a frame in hand, nor one that was asked
+-- only a half that reads a frame next has granted its size: not one with a frame in hand, nor one that was asked, nor an
+-- opener that has signed
 abbrev pub IsClear : HalfState → Type 0
 IsClear h = awaits_frame h.standing ≡ false → h.granted ≡ false
 

@@ -5,6 +5,7 @@ use Rattle.std.specs.Prelude.{◌==◌, ◌&&◌, ℕ, Bool, if◌then◌else◌
 use Rattle.std.specs.List.{list_all, list_any}
 use Rattle.m2_control.specs.declared.auth_request.AuthRequest.{AuthRequest}
 use Rattle.m2_control.specs.declared.control.Control.{Control}
+use Rattle.m2_control.specs.declared.fields.TheConstants.{SIGNATURE_BYTES}
 use Rattle.m2_control.specs.declared.control.Control.TheVariants as control
 use Rattle.m2_tag.specs.declared.tag.Tag.{Tag}
 use Rattle.m2_tag.specs.declared.tag.Tag.TheVariants as tag
@@ -17,7 +18,7 @@ use Rattle.m2_handshake.specs.declared.stage.Awaited.{Awaited}
 use Rattle.m2_handshake.specs.declared.stage.Awaited.TheVariants.{Hello, Request, Done, Signature}
 use Rattle.m2_handshake.specs.declared.stage.HalfSide.{HalfSide}
 use Rattle.m2_handshake.specs.declared.stage.HalfSide.TheVariants.{Opener, Acceptor}
-use Rattle.m2_handshake.specs.declared.texts.TheConstants.{NONE, CRC, SIGNATURE_BYTES}
+use Rattle.m2_handshake.specs.declared.texts.TheConstants.{NONE, CRC}
 use Rattle.m2_handshake.specs.Reading.{payload_in}
 use Rattle.m2_handshake.specs.Texts.{frame_text, request, done, signature, bad_method}
 

@@ -6,12 +6,13 @@ use Rattle.m2_addr.specs.declared.addr.AnyAddr.TheVariants.{V4}
 use Rattle.m2_bytes.specs.declared.memory.NoMemory.{NoMemory}
 use Rattle.m2_bytes.specs.Blob.{Contents}
 use Rattle.m2_control.specs.declared.control.Control.{Control}
+use Rattle.m2_control.specs.declared.fields.TheConstants.{SIGNATURE_BYTES}
 use Rattle.m2_control.specs.declared.control.Control.TheVariants as control
 use Rattle.m2_tag.specs.Tags.{tag_number}
 use Rattle.m2_control.specs.Control as payload
 use Rattle.m2_control.specs.Fields.{blob, listed}
 use Rattle.m2_frame.specs.Frame.{Parts}
-use Rattle.m2_handshake.specs.declared.texts.TheConstants.{NONE, CRC, SIGNATURE_BYTES, NOT_SUPPORTED}
+use Rattle.m2_handshake.specs.declared.texts.TheConstants.{NONE, CRC, NOT_SUPPORTED}
 use Rattle.m2_frame.specs.Text as frame
 
 -- a frame of one segment, the payload

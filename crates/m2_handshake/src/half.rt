@@ -2,11 +2,12 @@
 
 ghost use Rattle.std.specs.Prelude.{◌≡◌, ◌≤◌, ◌+◌, true, false, None, IsOk, IsSome, OnOk, OnErr, IsTrue, ◌↔◌, length};
 ghost use Rattle.m2_frame.specs.Reading.{judge};
+ghost use Rattle.m2_handshake.specs.declared.stage.HalfSide.TheVariants as sides;
 ghost use Rattle.m2_handshake.specs.declared.stage.Stage.TheVariants as stages;
 ghost use Rattle.m2_handshake.specs.Asking.{AskAdvances, AskAnswers, AskShrinks, Replies, is_ready};
 ghost use Rattle.m2_handshake.specs.Half.{Advances, Answers, Ends, Follows, IsReading, SaysHello, Shrinks, TakesFrame, writer};
 ghost use Rattle.m2_handshake.specs.Moves.{can_ask, is_agreed, is_at_rest, is_banner_start, is_start};
-ghost use Rattle.m2_handshake.specs.Standing.{CanFeed, IsClear, IsSameButRoom, acceptor_at_start, at_start, faulted, fed, opener_at_start};
+ghost use Rattle.m2_handshake.specs.Standing.{CanFeed, IsClear, IsSameButRoom, awaits_frame, acceptor_at_start, at_start, faulted, fed, opener_at_start};
 ghost use Rattle.m2_handshake.specs.Texts.{IsReply};
 
 use crate::answer::HalfStep;
@@ -252,6 +253,7 @@ impl Half {
     }
 
     /// The next ask, at an acceptor that is authed.
+    #[tactic(auto, using(crate::proofs::Reaching::asks_acceptor))]
     pub fn ask(&mut self) -> AskStep
         requires { can_ask self.old.standing ≡ true }
         ensures { AskAnswers result self.old.standing self.new.standing }
@@ -285,7 +287,8 @@ impl Half {
         Ok(())
     }
 
-    /// Hands on the decoder with all unread bytes. A half that was asked has granted nothing.
+    /// Hands on the decoder with all unread bytes. An opener, and an acceptor that was asked, has granted
+    /// nothing.
     pub fn finish(self) -> Decoder
         requires { is_ready self.standing ≡ true }
         ensures rest { result.rest ≡ self.standing.rest }
@@ -297,6 +300,8 @@ impl Half {
 
     /// One move towards the next ask.
     fn advance_ask(&mut self) -> Result<Option<Ask>, Halt>
+        requires { self.old.standing.side ≡ sides.Acceptor }
+        ensures side_stays { self.new.standing.side ≡ self.old.standing.side }
         ensures exact { AskAdvances result self.old.standing self.new.standing }
         ensures shrinks { AskShrinks result self.old.standing self.new.standing }
     {
@@ -310,7 +315,9 @@ impl Half {
 
     /// Takes the next frame, or reads the ask that is in hand.
     fn seek_ask(&mut self) -> Result<Option<Ask>, Halt>
-        requires { self.old.standing.stage ≡ stages.Authed }
+        requires stage { self.old.standing.stage ≡ stages.Authed }
+        requires side { self.old.standing.side ≡ sides.Acceptor }
+        ensures side_stays { self.new.standing.side ≡ self.old.standing.side }
         ensures exact { AskAdvances result self.old.standing self.new.standing }
         ensures shrinks { AskShrinks result self.old.standing self.new.standing }
     {
@@ -327,7 +334,9 @@ impl Half {
 
     /// Takes the next frame; any whole one is too much.
     fn await_end(&mut self) -> Result<Option<Ask>, Halt>
-        requires { self.old.standing.stage ≡ stages.Ended }
+        requires stage { self.old.standing.stage ≡ stages.Ended }
+        requires side { self.old.standing.side ≡ sides.Acceptor }
+        ensures side_stays { self.new.standing.side ≡ self.old.standing.side }
         ensures exact { AskAdvances result self.old.standing self.new.standing }
         ensures shrinks { AskShrinks result self.old.standing self.new.standing }
     {
@@ -417,7 +426,9 @@ impl Half {
     fn take_frame(&mut self) -> Result<(), Halt>
         requires free { self.old.standing.held ≡ None }
         requires reads { IsReading self.old.standing.stage }
-        ensures { TakesFrame result self.old.standing self.new.standing }
+        requires awaits { awaits_frame self.old.standing ≡ true }
+        ensures exact { TakesFrame result self.old.standing self.new.standing }
+        ensures side_stays { self.new.standing.side ≡ self.old.standing.side }
     {
         self.held = take(&mut self.decoder)?;
         Ok(())

@@ -15,11 +15,9 @@ ghost use Rattle.m2_handshake.specs.declared.stage.Awaited.TheVariants as awaits
 use crate::fault::HalfFault;
 use crate::halt::Halt;
 use crate::stage::{Awaited, HalfSide};
-use crate::texts::{
-    CRC, NONE, SIGNATURE_BYTES, put_bad_method, put_done, put_request, put_signature,
-};
+use crate::texts::{CRC, NONE, put_bad_method, put_done, put_request, put_signature};
 use m2_bytes::Blob;
-use m2_control::{AuthRequest, Control, ControlFault};
+use m2_control::{AuthRequest, Control, ControlFault, SIGNATURE_BYTES};
 use m2_frame::Frame;
 use m2_tag::Tag;
 use std::alloc::Global;

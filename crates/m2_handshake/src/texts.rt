@@ -6,7 +6,9 @@ ghost use Rattle.m2_handshake.specs.Texts.{Adds, IsReply, frame_text, hello, req
 
 use m2_addr::{Addr, AnyAddr};
 use m2_bytes::{Blob, NoMemory};
-use m2_control::{AuthBadMethod, AuthDone, AuthRequest, AuthSignature, Control, Hello, NumList};
+use m2_control::{
+    AuthBadMethod, AuthDone, AuthRequest, AuthSignature, Control, Hello, NumList, SIGNATURE_BYTES,
+};
 use m2_frame::{Frame, encode};
 use std::alloc::Global;
 
@@ -18,9 +20,6 @@ pub const CRC: u32 = 1;
 
 /// What AUTH_BAD_METHOD answers: -EOPNOTSUPP.
 pub const NOT_SUPPORTED: i32 = -95;
-
-/// The length of a signature, in bytes.
-pub const SIGNATURE_BYTES: usize = 32;
 
 /// The signature of crc mode.
 const UNSIGNED: [u8; SIGNATURE_BYTES] = [0; SIGNATURE_BYTES];

@@ -1,6 +1,6 @@
 -- Each post was heard or is left: a turn hears as many as it takes from what is left, a post leaves one
 -- more, and nothing else changes how many are left.
-use Rattle.std.proofs.Common.{◌≡◌, ℕ, zero, suc, ◌+◌, ◌<◌, ◌≤◌, Bool, true, false, not, ◌||◌, cond, List, [], ◌∷◌, ◌++◌, length, map, filter, take, drop, ltb, Option, None, Some, refl, sym, ap, ◌∙◌, arith, length-append, count_by, sum_by}
+use Rattle.std.proofs.Common.{◌≡◌, ℕ, zero, suc, ◌+◌, ◌<◌, ◌≤◌, Bool, true, false, not, ◌||◌, cond, List, [], ◌∷◌, ◌++◌, length, map, filter, take, drop, Option, None, Some, refl, sym, ap, ◌∙◌, arith, length-append, count_by, sum_by}
 use Rattle.std.specs.List.{AllByRecursion, flat_map}
 use Rattle.std.specs.Option.{is_some}
 use Rattle.std.proofs.lemmas.List.{length-map, take-append-drop}
@@ -13,7 +13,6 @@ use Rattle.m2_priority.specs.ByRank.{by_rank}
 use Rattle.m2_priority.proofs.ByRank.{length-by_rank}
 use Rattle.m2_priority.proofs.Joining.{length-put_behind}
 use Rattle.m2_link.specs.Model as link
-use Rattle.m2_link.specs.Model.{Direction}
 use Rattle.m2_link.specs.declared.link_side.LinkSide.{LinkSide}
 use Rattle.m2_link.specs.declared.link_side.LinkSide.TheVariants.{First, Second}
 use Rattle.m2_scenario.specs.declared.node.Node.{Node}

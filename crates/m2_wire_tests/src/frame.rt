@@ -199,17 +199,14 @@ fn bytes_of(alloc: Global, len: usize) -> Result<Vec<u8>, NoMemory> {
     Ok(bytes)
 }
 
-/// The frame of a text that comes in pieces of so many bytes; each size that is asked for is granted.
-fn read_in_pieces(alloc: Global, text: &[u8], piece: usize) -> Result<Option<Frame>, NoMemory> {
+/// The frame of a text that comes in pieces of 64 KiB; each size that is asked for is granted.
+fn read_in_pieces(alloc: Global, text: &[u8]) -> Result<Option<Frame>, NoMemory> {
     let mut decoder = Decoder::new(alloc);
-    let mut rest = text;
-    while !rest.is_empty() {
-        let (now, later) = rest.split_at(piece.min(rest.len()));
-        decoder.feed(now)?;
+    for piece in text.chunks(65_536) {
+        decoder.feed(piece)?;
         if let Some(frame) = frame_there(&mut decoder) {
             return Ok(Some(frame));
         }
-        rest = later;
     }
     Ok(None)
 }
@@ -233,10 +230,10 @@ fn granted_frame(decoder: &mut Decoder) -> Option<Frame> {
     }
 }
 
-/// The first and the last segment of a frame that was written and read again in pieces of 64 KiB.
+/// A frame that was written, read again.
 fn read_again(alloc: Global, frame: &Frame) -> Result<Option<Frame>, NoMemory> {
     let text = text_of(alloc, frame)?;
-    read_in_pieces(alloc, text.as_slice(), 65_536)
+    read_in_pieces(alloc, text.as_slice())
 }
 
 #[test]

@@ -1,4 +1,4 @@
-use Rattle.std.proofs.Common.{[], ◌∷◌, ◌++◌, Ok, Option, None, subst}
+use Rattle.std.proofs.Common.{◌∙◌, [], ◌∷◌, ◌++◌, Ok, Option, None, subst}
 use Rattle.m2_handshake.specs.declared.ask.Ask.{Ask}
 use Rattle.m2_handshake.specs.Asking.{AskAdvances}
 use Rattle.m2_handshake.specs.Moves.{ask_move_of}
@@ -15,4 +15,5 @@ moves-preserved c =
         c.moves.invariant.passed.0 ++ c.advance_ask.new.self.standing ∷ [],
         then_quietly ask_move_of c.moves.invariant.passed.0 c.args.self.now.standing c.moves.self.standing c.advance_ask.new.self.standing c.moves.invariant.passed.1 went,
       );
+      acceptor = c.advance_ask.ensures.side_stays ∙ c.moves.invariant.acceptor;
     }
