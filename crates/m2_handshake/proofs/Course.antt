@@ -212,7 +212,7 @@ counted (failed f ∷ es) a b k =
 
 -- ---- the course that is computed
 
-no_more : (stage : Stage) (s : Standing) → reply_at stage s [] ≡ stops
+pub no_more : (stage : Stage) (s : Standing) → reply_at stage s [] ≡ stops
 no_more Opening s = refl
 no_more Banner s = refl
 no_more (Waits awaited) s = refl

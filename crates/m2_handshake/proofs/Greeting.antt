@@ -24,8 +24,8 @@ use Rattle.m2_handshake.specs.declared.stage.Awaited.TheVariants.{Hello, Request
 use Rattle.m2_handshake.specs.declared.stage.HalfSide.TheVariants.{Acceptor}
 use Rattle.m2_handshake.specs.declared.stage.Stage.{Stage}
 use Rattle.m2_handshake.specs.declared.stage.Stage.TheVariants.{Banner, Waits, Authed}
-use Rattle.m2_handshake.specs.Course.{silent, wrote, goes, step_by, step_of, course_move, text_of}
-use Rattle.m2_handshake.specs.Greeting.{GreetingIsSigned}
+use Rattle.m2_handshake.specs.Course.{silent, wrote, goes, step_by, step_of, course_move, text_of, Signs}
+use Rattle.m2_handshake.specs.Greeting.{greeting, welcome, GreetingIsSigned}
 use Rattle.m2_handshake.specs.Moves.{features, after_banner, take_frame, after_reaction}
 use Rattle.m2_handshake.specs.Reading.{of_payload, payload_in}
 use Rattle.m2_handshake.specs.Standing.{Standing, fed, acceptor_at_start}
@@ -48,7 +48,7 @@ four_first n = All-from_recursion IsByte (to_be_bytes w32 n) (omega arith, (omeg
 two_first : (n : ℕ) → All (λ b. b < 256) (to_be_bytes w16 n)
 two_first n = All-from_recursion IsByte (to_be_bytes w16 n) (omega arith, (omega arith, tt))
 
-no_bytes : All (λ b. b < 256) []
+pub no_bytes : All (λ b. b < 256) []
 no_bytes = All-from_recursion IsByte [] tt
 
 zeros : All (λ b. b < 256) (0 ∷ 0 ∷ 0 ∷ 0 ∷ 0 ∷ 0 ∷ 0 ∷ 0 ∷ [])
@@ -70,12 +70,12 @@ address_bytes a =
     (All-append IsByte (to_be_bytes w32 a.ip) (0 ∷ 0 ∷ 0 ∷ 0 ∷ 0 ∷ 0 ∷ 0 ∷ 0 ∷ []) (four_first a.ip) zeros)))))))))
 
 -- a payload whose frame is read as it was written
-record IsSent (c : Control) : Type 0 where
-  fits : Fits (control_parts c)
-  bytes : AreBytes (control_parts c)
-  read : payload_in (payload.tag_of c) (payload.text_of c) ≡ Ok (payload.bare c)
+pub record IsSent (c : Control) : Type 0 where
+  pub fits : Fits (control_parts c)
+  pub bytes : AreBytes (control_parts c)
+  pub read : payload_in (payload.tag_of c) (payload.text_of c) ≡ Ok (payload.bare c)
 
-payload_read : (c : Control) → HasRanges c → IsInBounds c → payload_in (payload.tag_of c) (payload.text_of c) ≡ Ok (payload.bare c)
+pub payload_read : (c : Control) → HasRanges c → IsInBounds c → payload_in (payload.tag_of c) (payload.text_of c) ≡ Ok (payload.bare c)
 payload_read c r b = ap of_payload (written_is_read c r b).read
 
 hello_sent : (entity : ℕ) (a : Addr) → entity < 2 ^ 8 → HasAddrRanges a → IsSent (hello entity a)
@@ -138,7 +138,7 @@ signature_sent = record {
 
 -- ---- steps
 
-abbrev at : ℕ → Addr → Stage → Option Parts → List ℕ → Standing
+abbrev pub at : ℕ → Addr → Stage → Option Parts → List ℕ → Standing
 at own seen stage held rest = record { side = Acceptor; entity = own; seen = seen; stage = stage; peer = None; held = held; rest = rest }
 
 -- the banner is passed, and HELLO is written
@@ -177,8 +177,9 @@ opens own seen bytes = refl
 told : (first second third : List ℕ) → text_of (wrote first ∷ wrote second ∷ silent ∷ silent ∷ silent ∷ wrote third ∷ silent ∷ []) ≡ first ++ (second ++ third)
 told first second third = ap (λ l. first ++ (second ++ l)) (append-nil third)
 
-pub greeting_is_signed : GreetingIsSigned
-greeting_is_signed entity own dialled seen more e h =
+pub signs_there : (entity own : ℕ) (dialled seen : Addr) (more : List ℕ) → entity < 2 ^ 8 → HasAddrRanges dialled →
+    Signs (acceptor_at_start own seen) (record { bytes = greeting entity dialled more; replies = []; text = welcome own seen; asks = [] }) (at own seen Authed None more)
+signs_there entity own dialled seen more e h =
     let sent = hello_sent entity dialled e h in
     let third = frame_text signature ++ more in
     let second = frame_text request ++ third in
@@ -186,41 +187,40 @@ greeting_is_signed entity own dialled seen more e h =
     let listening = at own seen (Waits Hello) (Some (control_parts (hello entity dialled))) second in
     let asked = at own seen (Waits Request) (Some (control_parts request)) third in
     let last = at own seen (Waits Signature) (Some (control_parts signature)) more in (
-      at own seen Authed None more,
-      record { stage = refl; held = refl; rest = refl },
-      (
-        last,
-        record {
-          events = wrote (banner_text features) ∷ wrote (frame_text (hello own seen)) ∷ silent ∷ silent ∷ silent ∷ wrote (frame_text done ++ frame_text signature) ∷ silent ∷ [];
-          runs = (
-            at own seen Banner None (banner_text features ++ first),
-            opens own seen (banner_text features ++ first),
+      last,
+      record {
+        events = wrote (banner_text features) ∷ wrote (frame_text (hello own seen)) ∷ silent ∷ silent ∷ silent ∷ wrote (frame_text done ++ frame_text signature) ∷ silent ∷ [];
+        runs = (
+          at own seen Banner None (banner_text features ++ first),
+          opens own seen (banner_text features ++ first),
+          (
+            at own seen (Waits Hello) None first,
+            greets own seen first,
             (
-              at own seen (Waits Hello) None first,
-              greets own seen first,
+              listening,
+              takes own seen Hello (hello entity dialled) second sent,
               (
-                listening,
-                takes own seen Hello (hello entity dialled) second sent,
+                at own seen (Waits Request) None second,
+                ap (λ m. step_by m listening) (reacts own seen Hello (control_parts (hello entity dialled)) second (listens Request) (reads_hello entity dialled sent)),
                 (
-                  at own seen (Waits Request) None second,
-                  ap (λ m. step_by m listening) (reacts own seen Hello (control_parts (hello entity dialled)) second (listens Request) (reads_hello entity dialled sent)),
+                  asked,
+                  takes own seen Request request third request_sent,
                   (
-                    asked,
-                    takes own seen Request request third request_sent,
-                    (
-                      at own seen (Waits Signature) None third,
-                      ap (λ m. step_by m asked) (reacts own seen Request (control_parts request) third (says Signature (frame_text done ++ frame_text signature)) reads_request),
-                      (last, takes own seen Signature signature more signature_sent, refl),
-                    ),
+                    at own seen (Waits Signature) None third,
+                    ap (λ m. step_by m asked) (reacts own seen Request (control_parts request) third (says Signature (frame_text done ++ frame_text signature)) reads_request),
+                    (last, takes own seen Signature signature more signature_sent, refl),
                   ),
                 ),
               ),
             ),
-          );
-          replies = refl;
-          text = told (banner_text features) (frame_text (hello own seen)) (frame_text done ++ frame_text signature);
-          asks = refl;
-        },
-        reacts own seen Signature (control_parts signature) more signed reads_signature,
-      ),
+          ),
+        );
+        replies = refl;
+        text = told (banner_text features) (frame_text (hello own seen)) (frame_text done ++ frame_text signature);
+        asks = refl;
+      },
+      reacts own seen Signature (control_parts signature) more signed reads_signature,
     )
+
+pub greeting_is_signed : GreetingIsSigned
+greeting_is_signed entity own dialled seen more e h = (at own seen Authed None more, record { stage = refl; held = refl; rest = refl }, signs_there entity own dialled seen more e h)

@@ -1,8 +1,10 @@
+pub mod Asked
 pub mod Asks
 pub mod Banners
 pub mod Course
 pub mod Faults
 pub mod Fitting
+pub mod Granting
 pub mod Greeting
 pub mod Idents
 pub mod Leading
@@ -13,5 +15,6 @@ pub mod Prefixes
 pub mod Reaching
 pub mod Resting
 pub mod Signing
+pub mod Speaking
 pub mod Staying
 pub mod Turns

@@ -193,7 +193,7 @@ writing : (begin s t : Standing) (x : Exchange) (words : List ℕ) → Reaches b
 writing begin s t x words r g =
     retell begin t (with_event x (wrote words)) (record x { text = x.text ++ words }) refl (append-nil x.replies) refl (append-nil x.asks) (further begin s t x (wrote words) r g)
 
-asking : (begin s t : Standing) (x : Exchange) (ask : Ask) → Reaches begin x s → Goes s (asked ask) t → Reaches begin (record x { asks = x.asks ++ ask ∷ [] }) t
+pub asking : (begin s t : Standing) (x : Exchange) (ask : Ask) → Reaches begin x s → Goes s (asked ask) t → Reaches begin (record x { asks = x.asks ++ ask ∷ [] }) t
 asking begin s t x ask r g =
     retell begin t (with_event x (asked ask)) (record x { asks = x.asks ++ ask ∷ [] }) refl (append-nil x.replies) (append-nil x.text) refl (further begin s t x (asked ask) r g)
 

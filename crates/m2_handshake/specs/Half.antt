@@ -1,5 +1,5 @@
 -- What the calls of a half answer, and where they leave it.
-use Rattle.std.specs.Prelude.{◌≡◌, ℕ, ◌+◌, ◌<◌, true, List, ◌++◌, length, drop, Option, Some, None, Result, Ok, Err}
+use Rattle.std.specs.Prelude.{◌≡◌, ℕ, ◌+◌, ◌<◌, true, false, List, ◌++◌, length, drop, Option, Some, None, Result, Ok, Err}
 use Rattle.m2_bytes.specs.declared.memory.NoMemory as OutOfMemory
 use Rattle.m2_bytes.specs.Blob.{Contents}
 use Rattle.m2_frame.specs.Frame.{Parts}
@@ -15,7 +15,7 @@ use Rattle.m2_handshake.specs.declared.reaction.Turn.TheVariants.{Says, Listens,
 use Rattle.m2_handshake.specs.declared.stage.Awaited.TheVariants.{Hello}
 use Rattle.m2_handshake.specs.declared.stage.Stage.{Stage}
 use Rattle.m2_handshake.specs.declared.stage.Stage.TheVariants.{Waits, Authed, Ended}
-use Rattle.m2_handshake.specs.Moves.{stays, quiet, writes, signs, fails, take_frame, after_reaction, is_frame_there, move_of, wants_memory, Quietly}
+use Rattle.m2_handshake.specs.Moves.{stays, quiet, writes, signs, fails, take_frame, after_reaction, is_authed, is_frame_there, move_of, wants_memory, Quietly}
 use Rattle.m2_handshake.specs.Standing.{Standing, HalfState, faulted}
 use Rattle.m2_handshake.specs.Steps.{Reaction, says, listens, signed, refuses}
 use Rattle.m2_handshake.specs.Texts.{frame_text, hello}
@@ -51,6 +51,26 @@ Advances (Ok Signed) old new = Ends answer.Authed old new
 Advances (Err NotYet) old new = Ends answer.NotYet old new
 Advances (Err (Fault f)) old new = (move_of old.standing ≡ fails f) × (new ≡ old)
 Advances (Err NoMemory) old new = Ends answer.NoMemory old new
+
+-- ---- what is granted where both sides have signed
+
+-- if it has signed, then nothing is granted
+abbrev pub IsClearIfSigned : HalfState → Type 0
+IsClearIfSigned h = is_authed h.standing.stage ≡ true → h.granted ≡ false
+
+-- a half that has signed now, and hadn't before, has granted nothing
+abbrev pub SignsClear : HalfState → HalfState → Type 0
+SignsClear old new = is_authed old.standing.stage ≡ false → IsClearIfSigned new
+
+-- one that had signed stays as it is
+abbrev pub StaysSigned : HalfState → HalfState → Type 0
+StaysSigned old new = is_authed old.standing.stage ≡ true → new ≡ old
+
+-- so does its move, which is that both sides have signed
+abbrev pub AnswersSigned : Result Progress Halt → HalfState → HalfState → Type 0
+AnswersSigned result old new = is_authed old.standing.stage ≡ true → (result ≡ Ok Signed) × (new ≡ old)
+
+-- ---- how much is left
 
 -- how much a half has left to read: each byte, and a frame that it has in hand
 abbrev pub held_work : Option Parts → ℕ

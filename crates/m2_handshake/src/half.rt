@@ -5,8 +5,8 @@ ghost use Rattle.m2_frame.specs.Reading.{judge};
 ghost use Rattle.m2_handshake.specs.declared.stage.HalfSide.TheVariants as sides;
 ghost use Rattle.m2_handshake.specs.declared.stage.Stage.TheVariants as stages;
 ghost use Rattle.m2_handshake.specs.Asking.{AskAdvances, AskAnswers, AskShrinks, Replies, is_ready};
-ghost use Rattle.m2_handshake.specs.Half.{Advances, Answers, Ends, Follows, IsReading, SaysHello, Shrinks, TakesFrame, writer};
-ghost use Rattle.m2_handshake.specs.Moves.{can_ask, is_agreed, is_at_rest, is_banner_start, is_start};
+ghost use Rattle.m2_handshake.specs.Half.{Advances, Answers, AnswersSigned, Ends, Follows, IsClearIfSigned, IsReading, SaysHello, Shrinks, SignsClear, StaysSigned, TakesFrame, writer};
+ghost use Rattle.m2_handshake.specs.Moves.{can_ask, is_agreed, is_at_rest, is_authed, is_banner_start, is_start};
 ghost use Rattle.m2_handshake.specs.Standing.{CanFeed, IsClear, IsSameButRoom, awaits_frame, acceptor_at_start, at_start, faulted, fed, opener_at_start};
 ghost use Rattle.m2_handshake.specs.Texts.{IsReply};
 
@@ -222,9 +222,12 @@ impl Half {
         Ok(())
     }
 
-    /// The next answer of the handshake; what it writes is appended to `out`.
+    /// The next answer of the handshake; what it writes is appended to `out`. A half that signs has granted
+    /// nothing, and one that has signed stays as it is.
     pub fn next(&mut self, out: &mut Blob) -> HalfStep
-        ensures { Answers result (writer self.old out.old) (writer self.new out.new) }
+        ensures answer { Answers result (writer self.old out.old) (writer self.new out.new) }
+        ensures signs { SignsClear self.old self.new }
+        ensures signed { StaysSigned self.old self.new }
     {
         'moves: loop {
             match self.advance(out) {
@@ -349,6 +352,8 @@ impl Half {
 
     /// One move.
     fn advance(&mut self, out: &mut Blob) -> Result<Progress, Halt>
+        ensures signs { SignsClear self.old self.new }
+        ensures signed { AnswersSigned result self.old self.new }
         ensures exact { Advances result (writer self.old out.old) (writer self.new out.new) }
         ensures shrinks { Shrinks result self.old.standing self.new.standing }
     {
@@ -364,6 +369,7 @@ impl Half {
     /// Writes its banner.
     fn open(&mut self, out: &mut Blob) -> Result<Progress, Halt>
         requires { self.old.standing.stage ≡ stages.Opening }
+        ensures signs { IsClearIfSigned self.new }
         ensures exact { Advances result (writer self.old out.old) (writer self.new out.new) }
         ensures shrinks { Shrinks result self.old.standing self.new.standing }
     {
@@ -376,6 +382,7 @@ impl Half {
     #[tactic(auto, using(crate::proofs::Banners::step_is))]
     fn greet(&mut self, out: &mut Blob) -> Result<Progress, Halt>
         requires { self.old.standing.stage ≡ stages.Banner }
+        ensures signs { IsClearIfSigned self.new }
         ensures exact { Advances result (writer self.old out.old) (writer self.new out.new) }
         ensures shrinks { Shrinks result self.old.standing self.new.standing }
     {
@@ -411,6 +418,7 @@ impl Half {
     /// Takes the next frame, or answers the one that is in hand.
     fn go_on(&mut self, awaited: Awaited, out: &mut Blob) -> Result<Progress, Halt>
         requires { self.old.standing.stage ≡ stages.Waits awaited }
+        ensures signs { IsClearIfSigned self.new }
         ensures exact { Advances result (writer self.old out.old) (writer self.new out.new) }
         ensures shrinks { Shrinks result self.old.standing self.new.standing }
     {
@@ -429,16 +437,20 @@ impl Half {
         requires awaits { awaits_frame self.old.standing ≡ true }
         ensures exact { TakesFrame result self.old.standing self.new.standing }
         ensures side_stays { self.new.standing.side ≡ self.old.standing.side }
+        ensures stage_stays { self.new.standing.stage ≡ self.old.standing.stage }
     {
         self.held = take(&mut self.decoder)?;
         Ok(())
     }
 
     /// Does what the frame in hand brings.
+    #[tactic(auto, using(crate::proofs::Granting::held_awaits_none))]
     fn follow(&mut self, turn: Turn, out: &mut Blob) -> Result<Progress, Halt>
         requires held { IsSome self.old.standing.held }
         requires reads { IsReading self.old.standing.stage }
-        ensures { Follows turn result (writer self.old out.old) (writer self.new out.new) }
+        requires unsigned { is_authed self.old.standing.stage ≡ false }
+        ensures exact { Follows turn result (writer self.old out.old) (writer self.new out.new) }
+        ensures signs { IsClearIfSigned self.new }
     {
         let (stage, progress) = match turn {
             Turn::Says(next, text) => {

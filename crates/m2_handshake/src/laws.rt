@@ -1,7 +1,7 @@
 //! What a reader expects of a half, in functions that do nothing.
 
 ghost use Rattle.m2_handshake.specs.Course.{course_move};
-ghost use Rattle.m2_handshake.specs.Greeting.{GreetingIsSigned};
+ghost use Rattle.m2_handshake.specs.Greeting.{GreetingIsAsked, GreetingIsSigned, OpenerGreets};
 ghost use Rattle.m2_handshake.specs.Laws.{AnswersAtRest, AsksBeforeReplies, GoesOneWay, KeepsItsFault, LeadsOn, MoreWritesMore, RestsAtItsCourse, RestsExactly, RestsThere, SignsOnce, Stays, TellsMemoryApart, UnreadIsTheEnd};
 ghost use Rattle.m2_handshake.specs.Moves.{ask_move_of, move_of};
 
@@ -74,8 +74,20 @@ pub fn memory_is_no_fault()
     ensures { TellsMemoryApart }
 {}
 
+/// An opener that signs has written its banner, HELLO, AUTH_REQUEST and AUTH_SIGNATURE and nothing more,
+/// whatever brought it there.
+pub fn an_opener_writes_its_greeting()
+    ensures { OpenerGreets }
+{}
+
 /// What an opener writes until it has signed is read by an acceptor as signed, with exactly what follows,
 /// its ask, unread.
 pub fn a_greeting_is_signed()
     ensures { GreetingIsSigned }
+{}
+
+/// What an opener has written when it signed, and behind it its ask, are read by an acceptor as signed and
+/// then as exactly this ask: [`Half::ask`](crate::Half::ask) answers it, with exactly what follows unread.
+pub fn an_ask_behind_a_greeting_is_asked()
+    ensures { GreetingIsAsked }
 {}
