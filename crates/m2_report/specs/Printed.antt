@@ -1,0 +1,66 @@
+-- What a line of the report prints of a call, and of which calls it can be read again.
+use Rattle.std.specs.Prelude.{◌≡◌, ℕ, ◌<◌, ◌^◌, true, List, length, All, AllPairs}
+use Rattle.m2_message.specs.Message.{Content}
+use Rattle.m2_policy.specs.declared.path.Key.{Key}
+use Rattle.m2_dispatch.specs.Heard.{Heard, message, reset}
+use Rattle.m2_scenario.specs.declared.node.Node.{Node}
+use Rattle.m2_scenario.specs.Valid.{AreApart}
+use Rattle.m2_words.specs.Word.{is_name}
+use Rattle.m2_report.specs.Report.{IsPeerAmong, name_of}
+
+-- ---- what is printed
+
+-- of a message its key, its kind and the bytes of its parts; its other fields and its number aren't printed
+pub record PrintedMessage : Type 0 where
+  pub key : Key
+  pub kind : ℕ
+  pub front : List ℕ
+  pub middle : List ℕ
+  pub tail : List ℕ
+
+-- a message or a reset, and the place of the peer that it comes from
+pub data Printed : Type 0 where
+  printed_message : (peer : ℕ) → PrintedMessage → Printed
+  printed_reset : (peer : ℕ) → Printed
+
+abbrev pub message_of : Key → Content → PrintedMessage
+message_of key m = record { key = key; kind = m.header.kind; front = m.front; middle = m.middle; tail = m.tail }
+
+abbrev pub printed_of : Heard → Printed
+printed_of (message peer key number m) = printed_message peer (message_of key m)
+printed_of (reset peer) = printed_reset peer
+
+-- ---- of which nodes and calls
+
+abbrev pub IsNamed : Node → Type 0
+IsNamed n = is_name (name_of n) ≡ true
+
+-- nodes as a valid scenario has them: each has a name, and no two have the same
+pub record AreNamed (nodes : List Node) : Type 0 where
+  pub named : All IsNamed nodes
+  pub apart : AllPairs AreApart nodes
+
+abbrev pub AreBytes : List ℕ → Type 0
+AreBytes bytes = All (λ b. b < 256) bytes
+
+-- a priority and a kind of sixteen bits, and parts of bytes
+pub record Fits (m : PrintedMessage) : Type 0 where
+  pub priority : m.key.priority < 2 ^ 16
+  pub kind : m.kind < 2 ^ 16
+  pub front : AreBytes m.front
+  pub middle : AreBytes m.middle
+  pub tail : AreBytes m.tail
+
+abbrev pub FitsLine : Heard → Type 0
+FitsLine (message peer key number m) = Fits (message_of key m)
+FitsLine (reset peer) = Unit {0}
+
+-- a call from one of so many nodes that a line can tell
+pub record IsTellable (nodes : ℕ) (h : Heard) : Type 0 where
+  pub peer : IsPeerAmong nodes h
+  pub fits : FitsLine h
+
+-- calls for each node that lines can tell
+pub record AreTellable (nodes : List Node) (heard : List (List Heard)) : Type 0 where
+  pub each : length heard ≡ length nodes
+  pub calls : All (All (IsTellable (length nodes))) heard
