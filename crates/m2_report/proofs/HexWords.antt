@@ -7,20 +7,20 @@ use Rattle.std.proofs.lemmas.List.Elements.{All-head, All-tail}
 use Rattle.std.proofs.lemmas.List.Sums.{AllPass-from_list_all}
 use Rattle.hex.specs.Hex.{encode_with, lower_digits}
 use Rattle.m2_bytes.specs.Hexadecimal.{hex_text, hex_value}
-use Rattle.m2_report.specs.Printed.{AreBytes}
+use Rattle.m2_report.specs.Printed.{IsPart}
 use Rattle.m2_report.proofs.PlainWords.{IsPlain}
 
 -- what is written for bytes spells them
 abbrev pub HexIsReadAgain : Type 0
 HexIsReadAgain = (bytes : List ℕ) → ((i : ℕ) → slice_index bytes i < 256) → hex_value (hex_text bytes) ≡ Some bytes
 
-at_each : (bytes : List ℕ) → AreBytes bytes → (i : ℕ) → slice_index bytes i < 256
+at_each : (bytes : List ℕ) → IsPart bytes → (i : ℕ) → slice_index bytes i < 256
 at_each bytes small i = elim (cases_lt i (length bytes)) [
   | inl inside ↦ small i 0 inside
   | inr past ↦ omega (arith, get_or_past bytes i 0 past)
 ]
 
-pub hex_once : HexIsReadAgain → (a b : List ℕ) → AreBytes a → AreBytes b → hex_text a ≡ hex_text b → a ≡ b
+pub hex_once : HexIsReadAgain → (a b : List ℕ) → IsPart a → IsPart b → hex_text a ≡ hex_text b → a ≡ b
 hex_once again a b small fits e =
     let left = again a (at_each a small) in
     let right = again b (at_each b fits) in
@@ -30,13 +30,13 @@ hex_once again a b small fits e =
 plain_digit : (k : ℕ) → k < 16 → 32 < get_or lower_digits k 0
 plain_digit k h = ltb-true 32 _ (AllPass-from_list_all (nat_lt 32) lower_digits refl k 0 h)
 
-plain_hex : (bytes : List ℕ) → AreBytes bytes → IsPlain (encode_with lower_digits bytes)
+plain_hex : (bytes : List ℕ) → IsPart bytes → IsPlain (encode_with lower_digits bytes)
 unfolding encode_with
 plain_hex [] small = tt
 plain_hex (b ∷ bs) small =
     let here : b < 256 = All-head (λ x. x < 256) b bs small in
     (plain_digit (b / 16) (omega arith), (plain_digit (b % 16) (omega arith), plain_hex bs (All-tail (λ x. x < 256) b bs small)))
 
-pub plain_hex_text : (bytes : List ℕ) → AreBytes bytes → IsPlain (hex_text bytes)
+pub plain_hex_text : (bytes : List ℕ) → IsPart bytes → IsPlain (hex_text bytes)
 plain_hex_text [] small = (omega arith, tt)
 plain_hex_text (b ∷ bs) small = plain_hex (b ∷ bs) small

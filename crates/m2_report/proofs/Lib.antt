@@ -6,3 +6,5 @@ pub mod PlainWords
 pub mod HexWords
 pub mod LinesOnce
 pub mod ReadOnce
+pub mod LogsFit
+pub mod SortedOnce

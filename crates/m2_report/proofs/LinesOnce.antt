@@ -10,7 +10,7 @@ use Rattle.m2_policy.specs.declared.path.Path.TheVariants.{Fast, Queued}
 use Rattle.m2_dispatch.specs.Heard.{Heard, message, reset}
 use Rattle.m2_words.specs.Text.{Word, word}
 use Rattle.m2_report.specs.Report.{path_word, dispatch_line, reset_line, line_of}
-use Rattle.m2_report.specs.Printed.{PrintedMessage, printed_message, printed_reset, message_of, printed_of, Fits, IsTellable}
+use Rattle.m2_report.specs.Printed.{PrintedMessage, printed_message, printed_reset, message_of, printed_of, FieldsFit, IsReportable}
 use Rattle.m2_report.proofs.PlainWords.{IsPlain, cut_once, plain_if, plain_decimal}
 use Rattle.m2_report.proofs.HexWords.{HexIsReadAgain, hex_once, plain_hex_text}
 
@@ -47,7 +47,7 @@ same_key a b priority path = λ i. record { priority = priority i; path = path i
 same_message : (m n : PrintedMessage) → m.key ≡ n.key → m.kind ≡ n.kind → m.front ≡ n.front → m.middle ≡ n.middle → m.tail ≡ n.tail → m ≡ n
 same_message m n key kind front middle tail = λ i. record { key = key i; kind = kind i; front = front i; middle = middle i; tail = tail i }
 
-message_once : HexIsReadAgain → (p q : Word) (m n : PrintedMessage) (r s : Word) → IsPlain p → IsPlain q → Fits m → Fits n
+message_once : HexIsReadAgain → (p q : Word) (m n : PrintedMessage) (r s : Word) → IsPlain p → IsPlain q → FieldsFit m → FieldsFit n
     → message_words p m r ≡ message_words q n s → (p ≡ q) × (m ≡ n) × (r ≡ s)
 message_once again p q m n r s plain plain_too fits fits_too e =
     let a = cut_once 32 p q _ _ (omega arith) plain plain_too e in
@@ -67,8 +67,8 @@ message_once again p q m n r s plain plain_too fits fits_too e =
 
 -- ---- a line
 
--- names that are plain words and differ
-pub record AreTold (names : List Word) : Type 0 where
+-- names that are plain words and tell their nodes apart
+pub record AreTellingNames (names : List Word) : Type 0 where
   pub plain : (k : ℕ) → k < length names → IsPlain (word names k)
   pub once : (j k : ℕ) → j < length names → k < length names → word names j ≡ word names k → j ≡ k
 
@@ -86,22 +86,22 @@ plain_from = plain_if (codes "from") refl
 plain_reset : IsPlain (codes "reset")
 plain_reset = plain_if (codes "reset") refl
 
-pub line_once : HexIsReadAgain → (names : List Word) → AreTold names → (node : Word) → IsPlain node → (x y : Heard) → IsTellable (length names) x → IsTellable (length names) y
+pub line_once : HexIsReadAgain → (names : List Word) → AreTellingNames names → (node : Word) → IsPlain node → (x y : Heard) → IsReportable (length names) x → IsReportable (length names) y
     → (r s : Word) → line_of names node x ++ r ≡ line_of names node y ++ s → (printed_of x ≡ printed_of y) × (r ≡ s)
-line_once again names told node plain (message p k a m) (message q l b n) x y r s e =
+line_once again names telling node plain (message p k a m) (message q l b n) x y r s e =
     let begun = cut_once 32 node node _ _ (omega arith) plain plain (sym (message_shape node (word names p) k m r) ∙ e ∙ message_shape node (word names q) l n s) in
     let second = cut_once 32 (codes "from") (codes "from") _ _ (omega arith) plain_from plain_from begun.1 in
-    let words = message_once again (word names p) (word names q) (message_of k m) (message_of l n) r s (told.plain p x.peer) (told.plain q y.peer) x.fits y.fits second.1 in
-    let peer = told.once p q x.peer y.peer words.0 in
+    let words = message_once again (word names p) (word names q) (message_of k m) (message_of l n) r s (telling.plain p x.peer) (telling.plain q y.peer) x.fits y.fits second.1 in
+    let peer = telling.once p q x.peer y.peer words.0 in
     (ap (λ w. printed_message w (message_of k m)) peer ∙ ap (printed_message q) words.1, words.2)
-line_once again names told node plain (message p k a m) (reset q) x y r s e =
+line_once again names telling node plain (message p k a m) (reset q) x y r s e =
     let begun = cut_once 32 node node _ _ (omega arith) plain plain (sym (message_shape node (word names p) k m r) ∙ e ∙ reset_shape node (word names q) s) in
     absurd (words_differ (cut_once 32 (codes "from") (codes "reset") _ _ (omega arith) plain_from plain_reset begun.1).0)
-line_once again names told node plain (reset p) (message q l b n) x y r s e =
+line_once again names telling node plain (reset p) (message q l b n) x y r s e =
     let begun = cut_once 32 node node _ _ (omega arith) plain plain (sym (reset_shape node (word names p) r) ∙ e ∙ message_shape node (word names q) l n s) in
     absurd (words_differ (sym (cut_once 32 (codes "reset") (codes "from") _ _ (omega arith) plain_reset plain_from begun.1).0))
-line_once again names told node plain (reset p) (reset q) x y r s e =
+line_once again names telling node plain (reset p) (reset q) x y r s e =
     let begun = cut_once 32 node node _ _ (omega arith) plain plain (sym (reset_shape node (word names p) r) ∙ e ∙ reset_shape node (word names q) s) in
     let second = cut_once 32 (codes "reset") (codes "reset") _ _ (omega arith) plain_reset plain_reset begun.1 in
-    let third = cut_once 10 (word names p) (word names q) r s (omega arith) (told.plain p x.peer) (told.plain q y.peer) second.1 in
-    (ap printed_reset (told.once p q x.peer y.peer third.0), third.1)
+    let third = cut_once 10 (word names p) (word names q) r s (omega arith) (telling.plain p x.peer) (telling.plain q y.peer) second.1 in
+    (ap printed_reset (telling.once p q x.peer y.peer third.0), third.1)

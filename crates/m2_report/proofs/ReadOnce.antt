@@ -10,12 +10,12 @@ use Rattle.m2_scenario.specs.declared.node.Node.{Node}
 use Rattle.m2_scenario.specs.Valid.{AreApart}
 use Rattle.m2_words.specs.Text.{Word, word}
 use Rattle.m2_report.specs.Report.{name_of, line_of}
-use Rattle.m2_report.specs.Printed.{IsNamed, AreNamed, IsTellable, printed_of}
+use Rattle.m2_report.specs.Printed.{IsNamed, AreNamed, IsReportable, printed_of}
 use Rattle.m2_report.specs.Laws.{ReportsAreReadInOneWay}
 use Rattle.m2_report.proofs.Names.{name_there}
 use Rattle.m2_report.proofs.PlainWords.{IsPlain, cut_once, plain_name}
 use Rattle.m2_report.proofs.HexWords.{HexIsReadAgain}
-use Rattle.m2_report.proofs.LinesOnce.{AreTold, line_begins, line_once}
+use Rattle.m2_report.proofs.LinesOnce.{AreTellingNames, line_begins, line_once}
 use Rattle.m2_report.proofs.ReportLines.{lines_of}
 
 -- ---- the names
@@ -35,8 +35,8 @@ word_once (n ∷ ns) apart j k h i e =
       | inr (inr above) ↦ absurd ((apart k j n above h).names (sym same))
     ]
 
-told_of : (nodes : List Node) → AreNamed nodes → AreTold (map name_of nodes)
-told_of nodes are =
+telling_names : (nodes : List Node) → AreNamed nodes → AreTellingNames (map name_of nodes)
+telling_names nodes are =
     let n : length (map name_of nodes) ≡ length nodes = length-map nodes name_of in
     record {
       plain = λ k h. plain_at nodes are.named k (omega (arith, n, h));
@@ -53,22 +53,22 @@ no_text : (node : Word) → Elsewhere node []
 no_text [] more e = cc
 no_text (b ∷ bs) more e = cc
 
-node_once : HexIsReadAgain → (names : List Word) → AreTold names → (node : Word) → IsPlain node → (one other : List Heard)
-    → All (IsTellable (length names)) one → All (IsTellable (length names)) other → (r s : Word) → Elsewhere node r → Elsewhere node s
+node_once : HexIsReadAgain → (names : List Word) → AreTellingNames names → (node : Word) → IsPlain node → (one other : List Heard)
+    → All (IsReportable (length names)) one → All (IsReportable (length names)) other → (r s : Word) → Elsewhere node r → Elsewhere node s
     → flat_map (line_of names node) one ++ r ≡ flat_map (line_of names node) other ++ s → (map printed_of one ≡ map printed_of other) × (r ≡ s)
-node_once again names told node plain [] [] fit fit_too r s apart apart_too e = (refl, e)
-node_once again names told node plain [] (y ∷ ys) fit fit_too r s apart apart_too e =
+node_once again names telling node plain [] [] fit fit_too r s apart apart_too e = (refl, e)
+node_once again names telling node plain [] (y ∷ ys) fit fit_too r s apart apart_too e =
     let begun = line_begins names node y (flat_map (line_of names node) ys ++ s) in
     absurd (apart begun.0 (e ∙ append_assoc (line_of names node y) (flat_map (line_of names node) ys) s ∙ begun.1))
-node_once again names told node plain (x ∷ xs) [] fit fit_too r s apart apart_too e =
+node_once again names telling node plain (x ∷ xs) [] fit fit_too r s apart apart_too e =
     let begun = line_begins names node x (flat_map (line_of names node) xs ++ r) in
     absurd (apart_too begun.0 (sym e ∙ append_assoc (line_of names node x) (flat_map (line_of names node) xs) r ∙ begun.1))
-node_once again names told node plain (x ∷ xs) (y ∷ ys) fit fit_too r s apart apart_too e =
+node_once again names telling node plain (x ∷ xs) (y ∷ ys) fit fit_too r s apart apart_too e =
     let lines = flat_map (line_of names node) in
-    let P = IsTellable (length names) in
-    let begun = line_once again names told node plain x y (All-head P x xs fit) (All-head P y ys fit_too) (lines xs ++ r) (lines ys ++ s)
+    let P = IsReportable (length names) in
+    let begun = line_once again names telling node plain x y (All-head P x xs fit) (All-head P y ys fit_too) (lines xs ++ r) (lines ys ++ s)
     (sym (append_assoc (line_of names node x) (lines xs) r) ∙ e ∙ append_assoc (line_of names node y) (lines ys) s) in
-    let rest = node_once again names told node plain xs ys (All-tail P x xs fit) (All-tail P y ys fit_too) r s apart apart_too begun.1 in
+    let rest = node_once again names telling node plain xs ys (All-tail P x xs fit) (All-tail P y ys fit_too) r s apart apart_too begun.1 in
     (ap (λ p. p ∷ map printed_of xs) begun.0 ∙ ap (λ ps. printed_of y ∷ ps) rest.0, rest.1)
 
 -- ---- node by node
@@ -90,28 +90,28 @@ others_lines names node plain (m ∷ ms) named differ ((x ∷ xs) ∷ hs) more e
 names_apart : (n : Node) (ns : List Node) → AllPairs AreApart (n ∷ ns) → All (λ m. name_of n ≢ name_of m) ns
 names_apart n ns apart k d h = (apart 0 (suc k) d (omega arith) (omega (arith, h))).names
 
-nodes_once : HexIsReadAgain → (names : List Word) → AreTold names → (nodes : List Node) → AreNamed nodes → (one other : List (List Heard))
+nodes_once : HexIsReadAgain → (names : List Word) → AreTellingNames names → (nodes : List Node) → AreNamed nodes → (one other : List (List Heard))
     → length one ≡ length nodes → length other ≡ length nodes
-    → All (All (IsTellable (length names))) one → All (All (IsTellable (length names))) other
+    → All (All (IsReportable (length names))) one → All (All (IsReportable (length names))) other
     → lines_of false names nodes one ≡ lines_of false names nodes other → map (map printed_of) one ≡ map (map printed_of) other
-nodes_once again names told [] are [] [] l m fit fit_too e = refl
-nodes_once again names told [] are [] (g ∷ gs) l m fit fit_too e = absurd (omega (arith, m))
-nodes_once again names told [] are (h ∷ hs) other l m fit fit_too e = absurd (omega (arith, l))
-nodes_once again names told (n ∷ ns) are [] other l m fit fit_too e = absurd (omega (arith, l))
-nodes_once again names told (n ∷ ns) are (h ∷ hs) [] l m fit fit_too e = absurd (omega (arith, m))
-nodes_once again names told (n ∷ ns) are (h ∷ hs) (g ∷ gs) l m fit fit_too e =
-    let P = All (IsTellable (length names)) in
+nodes_once again names telling [] are [] [] l m fit fit_too e = refl
+nodes_once again names telling [] are [] (g ∷ gs) l m fit fit_too e = absurd (omega (arith, m))
+nodes_once again names telling [] are (h ∷ hs) other l m fit fit_too e = absurd (omega (arith, l))
+nodes_once again names telling (n ∷ ns) are [] other l m fit fit_too e = absurd (omega (arith, l))
+nodes_once again names telling (n ∷ ns) are (h ∷ hs) [] l m fit fit_too e = absurd (omega (arith, m))
+nodes_once again names telling (n ∷ ns) are (h ∷ hs) (g ∷ gs) l m fit fit_too e =
+    let P = All (IsReportable (length names)) in
     let plain = plain_name _ (All-head IsNamed n ns are.named) in
     let named = All-tail IsNamed n ns are.named in
     let differ = names_apart n ns are.apart in
-    let first = node_once again names told (name_of n) plain h g (All-head P h hs fit) (All-head P g gs fit_too) (lines_of false names ns hs) (lines_of false names ns gs)
+    let first = node_once again names telling (name_of n) plain h g (All-head P h hs fit) (All-head P g gs fit_too) (lines_of false names ns hs) (lines_of false names ns gs)
     (others_lines names (name_of n) plain ns named differ hs) (others_lines names (name_of n) plain ns named differ gs) e in
     let later : AreNamed ns = record { named = named; apart = λ i j d below within. are.apart (suc i) (suc j) d (omega (arith, below)) (omega (arith, within)) } in
-    let rest = nodes_once again names told ns later hs gs (omega (arith, l)) (omega (arith, m)) (All-tail P h hs fit) (All-tail P g gs fit_too) first.1 in
+    let rest = nodes_once again names telling ns later hs gs (omega (arith, l)) (omega (arith, m)) (All-tail P h hs fit) (All-tail P g gs fit_too) first.1 in
     ap (λ p. p ∷ map (map printed_of) hs) first.0 ∙ ap (λ ps. map printed_of g ∷ ps) rest
 
 pub report_once : HexIsReadAgain → ReportsAreReadInOneWay
 report_once again nodes one other are fit fit_too e =
     let n : length (map name_of nodes) ≡ length nodes = length-map nodes name_of in
-    nodes_once again (map name_of nodes) (told_of nodes are) nodes are one other fit.each fit_too.each
-    (subst (λ k. All (All (IsTellable k)) one) (sym n) fit.calls) (subst (λ k. All (All (IsTellable k)) other) (sym n) fit_too.calls) e
+    nodes_once again (map name_of nodes) (telling_names nodes are) nodes are one other fit.each fit_too.each
+    (subst (λ k. All (All (IsReportable k)) one) (sym n) fit.calls) (subst (λ k. All (All (IsReportable k)) other) (sym n) fit_too.calls) e

@@ -1,8 +1,10 @@
--- What a line of the report prints of a call, and of which calls it can be read again.
+-- What a line of the report prints of a call, and which nodes and calls have lines that are read in one way.
 use Rattle.std.specs.Prelude.{◌≡◌, ℕ, ◌<◌, ◌^◌, true, List, length, All, AllPairs}
 use Rattle.m2_message.specs.Message.{Content}
 use Rattle.m2_policy.specs.declared.path.Key.{Key}
-use Rattle.m2_dispatch.specs.Heard.{Heard, message, reset}
+use Rattle.m2_bytes.specs.Items.{Holding}
+use Rattle.m2_dispatch.specs.Heard.{Heard, message, reset, heard_of}
+use Rattle.m2_dispatch.specs.declared.logged.Logged.{Logged}
 use Rattle.m2_scenario.specs.declared.node.Node.{Node}
 use Rattle.m2_scenario.specs.Valid.{AreApart}
 use Rattle.m2_words.specs.Word.{is_name}
@@ -40,27 +42,36 @@ pub record AreNamed (nodes : List Node) : Type 0 where
   pub named : All IsNamed nodes
   pub apart : AllPairs AreApart nodes
 
-abbrev pub AreBytes : List ℕ → Type 0
-AreBytes bytes = All (λ b. b < 256) bytes
+-- a part of a message: each number in it is a byte
+abbrev pub IsPart : List ℕ → Type 0
+IsPart part = All (λ b. b < 256) part
 
 -- a priority and a kind of sixteen bits, and parts of bytes
-pub record Fits (m : PrintedMessage) : Type 0 where
+pub record FieldsFit (m : PrintedMessage) : Type 0 where
   pub priority : m.key.priority < 2 ^ 16
   pub kind : m.kind < 2 ^ 16
-  pub front : AreBytes m.front
-  pub middle : AreBytes m.middle
-  pub tail : AreBytes m.tail
+  pub front : IsPart m.front
+  pub middle : IsPart m.middle
+  pub tail : IsPart m.tail
 
 abbrev pub FitsLine : Heard → Type 0
-FitsLine (message peer key number m) = Fits (message_of key m)
+FitsLine (message peer key number m) = FieldsFit (message_of key m)
 FitsLine (reset peer) = Unit {0}
 
--- a call from one of so many nodes that a line can tell
-pub record IsTellable (nodes : ℕ) (h : Heard) : Type 0 where
+-- a call whose fields fit a line, and whose peer is one of so many nodes
+pub record IsReportable (nodes : ℕ) (h : Heard) : Type 0 where
   pub peer : IsPeerAmong nodes h
   pub fits : FitsLine h
 
--- calls for each node that lines can tell
-pub record AreTellable (nodes : List Node) (heard : List (List Heard)) : Type 0 where
+-- for each node the calls that it heard, each fit for a line
+pub record AreReportable (nodes : List Node) (heard : List (List Heard)) : Type 0 where
   pub each : length heard ≡ length nodes
-  pub calls : All (All (IsTellable (length nodes))) heard
+  pub calls : All (All (IsReportable (length nodes))) heard
+
+-- ---- and of which logs
+
+abbrev pub CallFits : Logged → Type 0
+CallFits l = FitsLine (heard_of l)
+
+abbrev pub LogFits : Holding Logged → Type 0
+LogFits log = All CallFits log.items

@@ -6,7 +6,9 @@
 #![tactic(auto)]
 
 mod laws;
+mod reportable;
 mod reports;
 
 pub use laws::reports_are_read_in_one_way;
+pub use reportable::{logs_are_reportable, nodes_are_named, report_tells_what_was_heard};
 pub use reports::{LogsList, report};
