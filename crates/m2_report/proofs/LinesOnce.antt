@@ -1,5 +1,5 @@
 -- A line of the report is read in one way, whatever stands behind it.
-use Rattle.std.proofs.Common.{◌≡◌, ℕ, ◌<◌, List, ◌∷◌, ◌++◌, codes, length, refl, sym, ap, ◌∙◌, arith, append_assoc}
+use Rattle.std.proofs.Common.{◌≡◌, ℕ, ◌≤◌, ◌^◌, ◌<◌, List, ◌∷◌, ◌++◌, codes, length, refl, sym, ap, ◌∙◌, arith, append_assoc}
 use Rattle.std.specs.Fmt.{decimal}
 use Rattle.std.proofs.lemmas.Fmt.{decimal_injective}
 use Rattle.m2_bytes.specs.Hexadecimal.{hex_text}
@@ -10,7 +10,7 @@ use Rattle.m2_policy.specs.declared.path.Path.TheVariants.{Fast, Queued}
 use Rattle.m2_dispatch.specs.Heard.{Heard, message, reset}
 use Rattle.m2_words.specs.Text.{Word, word}
 use Rattle.m2_report.specs.Report.{path_word, dispatch_line, reset_line, line_of}
-use Rattle.m2_report.specs.Printed.{PrintedMessage, printed_message, printed_reset, message_of, printed_of, FieldsFit, IsReportable}
+use Rattle.m2_report.specs.Printed.{PrintedMessage, printed_message, printed_reset, message_of, printed_of, FieldsFit, IsPart, IsReportable}
 use Rattle.m2_report.proofs.PlainWords.{IsPlain, cut_once, plain_if, plain_decimal}
 use Rattle.m2_report.proofs.HexWords.{HexIsReadAgain, hex_once, plain_hex_text}
 
@@ -31,39 +31,57 @@ reset_shape node peer rest = simp append_assoc
 
 -- ---- each word tells what it was written for
 
+-- a number before a space
+number_once : (m n : ℕ) (r s : Word) → m < 2 ^ 16 → n < 2 ^ 16
+    → decimal m ++ 32 ∷ r ≡ decimal n ++ 32 ∷ s → (m ≡ n) × (r ≡ s)
+number_once m n r s small small_too e =
+    let fits : m < 2 ^ 64 = omega arith in
+    let fits_too : n < 2 ^ 64 = omega arith in
+    let word = cut_once 32 (decimal m) (decimal n) r s (omega arith) (plain_decimal m fits) (plain_decimal n fits_too) e in
+    (decimal_injective m n fits fits_too word.0, word.1)
+
+-- a part before a space or a line feed
+part_once : HexIsReadAgain → (mark : ℕ) → mark ≤ 32 → (a b r s : Word) → IsPart a → IsPart b
+    → hex_text a ++ mark ∷ r ≡ hex_text b ++ mark ∷ s → (a ≡ b) × (r ≡ s)
+part_once again mark low a b r s part part_too e =
+    let word = cut_once mark (hex_text a) (hex_text b) r s low (plain_hex_text a part) (plain_hex_text b part_too) e in
+    (hex_once again a b part part_too word.0, word.1)
+
 plain_path : (p : Path) → IsPlain (path_word p)
 plain_path Fast = plain_if (path_word Fast) refl
 plain_path Queued = plain_if (path_word Queued) refl
 
-path_once : (p q : Path) → path_word p ≡ path_word q → p ≡ q
-path_once Fast Fast e = refl
-path_once Fast Queued e = absurd (omega (arith, ap length e))
-path_once Queued Fast e = absurd (omega (arith, ap length e))
-path_once Queued Queued e = refl
+same_path : (p q : Path) → path_word p ≡ path_word q → p ≡ q
+same_path Fast Fast e = refl
+same_path Fast Queued e = absurd (omega (arith, ap length e))
+same_path Queued Fast e = absurd (omega (arith, ap length e))
+same_path Queued Queued e = refl
 
-same_key : (a b : Key) → a.priority ≡ b.priority → a.path ≡ b.path → a ≡ b
-same_key a b priority path = λ i. record { priority = priority i; path = path i }
+-- a path before a space
+path_once : (p q : Path) (r s : Word) → path_word p ++ 32 ∷ r ≡ path_word q ++ 32 ∷ s → (p ≡ q) × (r ≡ s)
+path_once p q r s e =
+    let word = cut_once 32 (path_word p) (path_word q) r s (omega arith) (plain_path p) (plain_path q) e in
+    (same_path p q word.0, word.1)
 
-same_message : (m n : PrintedMessage) → m.key ≡ n.key → m.kind ≡ n.kind → m.front ≡ n.front → m.middle ≡ n.middle → m.tail ≡ n.tail → m ≡ n
-same_message m n key kind front middle tail = λ i. record { key = key i; kind = kind i; front = front i; middle = middle i; tail = tail i }
-
-message_once : HexIsReadAgain → (p q : Word) (m n : PrintedMessage) (r s : Word) → IsPlain p → IsPlain q → FieldsFit m → FieldsFit n
+message_once : HexIsReadAgain → (p q : Word) (m n : PrintedMessage) (r s : Word)
+    → IsPlain p → IsPlain q → FieldsFit m → FieldsFit n
     → message_words p m r ≡ message_words q n s → (p ≡ q) × (m ≡ n) × (r ≡ s)
 message_once again p q m n r s plain plain_too fits fits_too e =
-    let a = cut_once 32 p q _ _ (omega arith) plain plain_too e in
-    let b = cut_once 32 (decimal m.key.priority) (decimal n.key.priority) _ _ (omega arith) (plain_decimal _ (omega (arith, fits.priority))) (plain_decimal _ (omega (arith, fits_too.priority))) a.1 in
-    let c = cut_once 32 (path_word m.key.path) (path_word n.key.path) _ _ (omega arith) (plain_path m.key.path) (plain_path n.key.path) b.1 in
-    let d = cut_once 32 (decimal m.kind) (decimal n.kind) _ _ (omega arith) (plain_decimal _ (omega (arith, fits.kind))) (plain_decimal _ (omega (arith, fits_too.kind))) c.1 in
-    let f = cut_once 32 (hex_text m.front) (hex_text n.front) _ _ (omega arith) (plain_hex_text m.front fits.front) (plain_hex_text n.front fits_too.front) d.1 in
-    let g = cut_once 32 (hex_text m.middle) (hex_text n.middle) _ _ (omega arith) (plain_hex_text m.middle fits.middle) (plain_hex_text n.middle fits_too.middle) f.1 in
-    let h = cut_once 10 (hex_text m.tail) (hex_text n.tail) r s (omega arith) (plain_hex_text m.tail fits.tail) (plain_hex_text n.tail fits_too.tail) g.1 in
-    let priority = decimal_injective m.key.priority n.key.priority (omega (arith, fits.priority)) (omega (arith, fits_too.priority)) b.0 in
-    let kind = decimal_injective m.kind n.kind (omega (arith, fits.kind)) (omega (arith, fits_too.kind)) d.0 in
-    let key = same_key m.key n.key priority (path_once m.key.path n.key.path c.0) in
-    let front = hex_once again m.front n.front fits.front fits_too.front f.0 in
-    let middle = hex_once again m.middle n.middle fits.middle fits_too.middle g.0 in
-    let tail = hex_once again m.tail n.tail fits.tail fits_too.tail h.0 in
-    (a.0, same_message m n key kind front middle tail, h.1)
+    let peer = cut_once 32 p q _ _ (omega arith) plain plain_too e in
+    let priority = number_once m.key.priority n.key.priority _ _ fits.priority fits_too.priority peer.1 in
+    let path = path_once m.key.path n.key.path _ _ priority.1 in
+    let kind = number_once m.kind n.kind _ _ fits.kind fits_too.kind path.1 in
+    let front = part_once again 32 (omega arith) m.front n.front _ _ fits.front fits_too.front kind.1 in
+    let middle = part_once again 32 (omega arith) m.middle n.middle _ _ fits.middle fits_too.middle front.1 in
+    let tail = part_once again 10 (omega arith) m.tail n.tail r s fits.tail fits_too.tail middle.1 in
+    let same : m ≡ n = λ i. record {
+      key = record { priority = priority.0 i; path = path.0 i };
+      kind = kind.0 i;
+      front = front.0 i;
+      middle = middle.0 i;
+      tail = tail.0 i;
+    } in
+    (peer.0, same, tail.1)
 
 -- ---- a line
 
@@ -86,22 +104,36 @@ plain_from = plain_if (codes "from") refl
 plain_reset : IsPlain (codes "reset")
 plain_reset = plain_if (codes "reset") refl
 
-pub line_once : HexIsReadAgain → (names : List Word) → AreTellingNames names → (node : Word) → IsPlain node → (x y : Heard) → IsReportable (length names) x → IsReportable (length names) y
-    → (r s : Word) → line_of names node x ++ r ≡ line_of names node y ++ s → (printed_of x ≡ printed_of y) × (r ≡ s)
+-- behind the name of the node two lines go on with the same word
+second_once : (node v w r s : Word) → IsPlain node → IsPlain v → IsPlain w
+    → node ++ 32 ∷ (v ++ 32 ∷ r) ≡ node ++ 32 ∷ (w ++ 32 ∷ s) → (v ≡ w) × (r ≡ s)
+second_once node v w r s plain plain_v plain_w e =
+    cut_once 32 v w r s (omega arith) plain_v plain_w (cut_once 32 node node _ _ (omega arith) plain plain e).1
+
+pub line_once : HexIsReadAgain → (names : List Word) → AreTellingNames names → (node : Word) → IsPlain node → (x y : Heard)
+    → IsReportable (length names) x → IsReportable (length names) y → (r s : Word)
+    → line_of names node x ++ r ≡ line_of names node y ++ s → (printed_of x ≡ printed_of y) × (r ≡ s)
 line_once again names telling node plain (message p k a m) (message q l b n) x y r s e =
-    let begun = cut_once 32 node node _ _ (omega arith) plain plain (sym (message_shape node (word names p) k m r) ∙ e ∙ message_shape node (word names q) l n s) in
-    let second = cut_once 32 (codes "from") (codes "from") _ _ (omega arith) plain_from plain_from begun.1 in
-    let words = message_once again (word names p) (word names q) (message_of k m) (message_of l n) r s (telling.plain p x.peer) (telling.plain q y.peer) x.fits y.fits second.1 in
+    let one = message_shape node (word names p) k m r in
+    let other = message_shape node (word names q) l n s in
+    let second = second_once node (codes "from") (codes "from") _ _ plain plain_from plain_from (sym one ∙ e ∙ other) in
+    let words = message_once again (word names p) (word names q) (message_of k m) (message_of l n) r s
+        (telling.plain p x.peer) (telling.plain q y.peer) x.fits y.fits second.1 in
     let peer = telling.once p q x.peer y.peer words.0 in
     (ap (λ w. printed_message w (message_of k m)) peer ∙ ap (printed_message q) words.1, words.2)
 line_once again names telling node plain (message p k a m) (reset q) x y r s e =
-    let begun = cut_once 32 node node _ _ (omega arith) plain plain (sym (message_shape node (word names p) k m r) ∙ e ∙ reset_shape node (word names q) s) in
-    absurd (words_differ (cut_once 32 (codes "from") (codes "reset") _ _ (omega arith) plain_from plain_reset begun.1).0)
+    let one = message_shape node (word names p) k m r in
+    let other = reset_shape node (word names q) s in
+    let second = second_once node (codes "from") (codes "reset") _ _ plain plain_from plain_reset (sym one ∙ e ∙ other) in
+    absurd (words_differ second.0)
 line_once again names telling node plain (reset p) (message q l b n) x y r s e =
-    let begun = cut_once 32 node node _ _ (omega arith) plain plain (sym (reset_shape node (word names p) r) ∙ e ∙ message_shape node (word names q) l n s) in
-    absurd (words_differ (sym (cut_once 32 (codes "reset") (codes "from") _ _ (omega arith) plain_reset plain_from begun.1).0))
+    let one = reset_shape node (word names p) r in
+    let other = message_shape node (word names q) l n s in
+    let second = second_once node (codes "reset") (codes "from") _ _ plain plain_reset plain_from (sym one ∙ e ∙ other) in
+    absurd (words_differ (sym second.0))
 line_once again names telling node plain (reset p) (reset q) x y r s e =
-    let begun = cut_once 32 node node _ _ (omega arith) plain plain (sym (reset_shape node (word names p) r) ∙ e ∙ reset_shape node (word names q) s) in
-    let second = cut_once 32 (codes "reset") (codes "reset") _ _ (omega arith) plain_reset plain_reset begun.1 in
-    let third = cut_once 10 (word names p) (word names q) r s (omega arith) (telling.plain p x.peer) (telling.plain q y.peer) second.1 in
-    (ap printed_reset (telling.once p q x.peer y.peer third.0), third.1)
+    let one = reset_shape node (word names p) r in
+    let other = reset_shape node (word names q) s in
+    let second = second_once node (codes "reset") (codes "reset") _ _ plain plain_reset plain_reset (sym one ∙ e ∙ other) in
+    let peer = cut_once 10 (word names p) (word names q) r s (omega arith) (telling.plain p x.peer) (telling.plain q y.peer) second.1 in
+    (ap printed_reset (telling.once p q x.peer y.peer peer.0), peer.1)

@@ -1,5 +1,5 @@
 -- What a line of the report prints of a call, and which nodes and calls have lines that are read in one way.
-use Rattle.std.specs.Prelude.{◌≡◌, ℕ, ◌<◌, ◌^◌, true, List, length, All, AllPairs}
+use Rattle.std.specs.Prelude.{◌≡◌, ℕ, ◌<◌, ◌^◌, true, false, List, length, All, AllPairs}
 use Rattle.m2_message.specs.Message.{Content}
 use Rattle.m2_policy.specs.declared.path.Key.{Key}
 use Rattle.m2_bytes.specs.Items.{Holding}
@@ -8,7 +8,7 @@ use Rattle.m2_dispatch.specs.declared.logged.Logged.{Logged}
 use Rattle.m2_scenario.specs.declared.node.Node.{Node}
 use Rattle.m2_scenario.specs.Valid.{AreApart}
 use Rattle.m2_words.specs.Word.{is_name}
-use Rattle.m2_report.specs.Report.{IsPeerAmong, name_of}
+use Rattle.m2_report.specs.Report.{IsPeerAmong, name_of, report_of}
 
 -- ---- what is printed
 
@@ -67,6 +67,10 @@ pub record IsReportable (nodes : ℕ) (h : Heard) : Type 0 where
 pub record AreReportable (nodes : List Node) (heard : List (List Heard)) : Type 0 where
   pub each : length heard ≡ length nodes
   pub calls : All (All (IsReportable (length nodes))) heard
+
+-- two runs of the nodes print one text, in the order of their calls
+abbrev pub PrintAlike : List Node → List (List Heard) → List (List Heard) → Type 0
+PrintAlike nodes one other = report_of false nodes one ≡ report_of false nodes other
 
 -- ---- and of which logs
 

@@ -1,12 +1,13 @@
 //! That the report of every run is one that is read in one way. These functions do nothing: they look
 //! at each value once, since what its type promises is known where it is looked at.
 
-ghost use Rattle.std.specs.Prelude.{◌≡◌, ◌<◌, ◌^◌, false, All, map};
+ghost use Rattle.std.specs.Prelude.{◌≡◌, ◌<◌, ◌^◌, All, map};
 ghost use Rattle.m2_message.specs.Message.{content_of};
 ghost use Rattle.m2_dispatch.specs.Heard.{heard_of};
 ghost use Rattle.m2_scenario.specs.Valid.{IsValid};
-ghost use Rattle.m2_report.specs.Report.{AreLogsOf, report_of, heard_in};
-ghost use Rattle.m2_report.specs.Printed.{IsPart, AreNamed, AreReportable, CallFits, LogFits, FieldsFit, IsNamed, message_of, printed_of};
+ghost use Rattle.m2_report.specs.Report.{AreLogsOf, heard_in};
+ghost use Rattle.m2_report.specs.Printed.{IsPart, AreNamed, AreReportable, CallFits, LogFits, FieldsFit, IsNamed};
+ghost use Rattle.m2_report.specs.Printed.{PrintAlike, message_of, printed_of};
 
 use crate::laws::reports_are_read_in_one_way;
 use crate::reports::LogsList;
@@ -21,7 +22,7 @@ pub fn report_tells_what_was_heard(s: &Scenario, one: &LogsList, other: &LogsLis
     requires valid { IsValid s.now }
     requires one { AreLogsOf s.now.nodes.items one.now.items }
     requires other { AreLogsOf s.now.nodes.items other.now.items }
-    requires alike { report_of false s.now.nodes.items (map heard_in one.now.items) ≡ report_of false s.now.nodes.items (map heard_in other.now.items) }
+    requires alike { PrintAlike s.now.nodes.items (map heard_in one.now.items) (map heard_in other.now.items) }
     ensures { map (map printed_of) (map heard_in one.now.items) ≡ map (map printed_of) (map heard_in other.now.items) }
 {
     nodes_are_named(s);
