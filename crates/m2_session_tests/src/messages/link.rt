@@ -1,31 +1,20 @@
 //! A pair of nodes, step by step.
 
-use m2_bytes::{Blob, NoMemory};
+use super::message_of;
+use m2_bytes::NoMemory;
 use m2_link::{Accepted, Link, LinkSide};
 use m2_message::{Header, Message};
 use std::alloc::Global;
 use std::test::Fail;
 
 fn message(alloc: Global, priority: u16, letter: u8) -> Result<Message, NoMemory> {
+    let message = message_of(alloc, &[letter])?;
     let header = Header {
-        seq: 0,
-        tid: 0,
         kind: 1,
         priority,
-        version: 0,
-        pre_padding: 0,
-        data_off: 0,
-        ack_seq: 0,
-        flags: 0,
-        compat: 0,
-        reserved: 0,
+        ..message.header
     };
-    Ok(Message {
-        header,
-        front: Blob::of(alloc, &[letter])?,
-        middle: Blob::empty(alloc),
-        tail: Blob::empty(alloc),
-    })
+    Ok(Message { header, ..message })
 }
 
 /// Posts a message for each priority and letter.
@@ -67,13 +56,18 @@ fn told(alloc: Global, taken: &[Accepted]) -> Result<(Vec<u8>, u64), NoMemory> {
     Ok((letters, last))
 }
 
+/// Carries from the first side to the second: the letters that were taken, and the number of the last.
+fn delivers(link: &mut Link, alloc: Global) -> Result<(Vec<u8>, u64), NoMemory> {
+    let taken = carries(link, alloc, LinkSide::First, LinkSide::Second)?;
+    told(alloc, &taken)
+}
+
 #[test]
 fn a_greater_priority_goes_first(rt: HostRuntime) -> Result<(), Fail> {
     let mut link = Link::new(rt.alloc());
     let what = [(63, b'a'), (127, b'b'), (196, b'c'), (127, b'd')];
     posts(&mut link, rt.alloc(), LinkSide::First, &what)?;
-    let taken = carries(&mut link, rt.alloc(), LinkSide::First, LinkSide::Second)?;
-    let (letters, last) = told(rt.alloc(), &taken)?;
+    let (letters, last) = delivers(&mut link, rt.alloc())?;
     assert_eq!(rt; letters.as_slice(), b"cbda".as_slice());
     assert_eq!(rt; (last, link.left()), (4, 0));
     Ok(())
@@ -89,8 +83,7 @@ fn a_fault_resends_what_was_not_read_in_its_old_place(rt: HostRuntime) -> Result
     link.fault();
     posts(&mut link, rt.alloc(), LinkSide::First, &[(196, b'c')])?;
     assert_eq!(rt; (taken.len(), link.left()), (1, 2));
-    let resent = carries(&mut link, rt.alloc(), LinkSide::First, LinkSide::Second)?;
-    let (letters, last) = told(rt.alloc(), &resent)?;
+    let (letters, last) = delivers(&mut link, rt.alloc())?;
     assert_eq!(rt; letters.as_slice(), b"bc".as_slice());
     assert_eq!(rt; last, 3);
     Ok(())
