@@ -192,15 +192,15 @@ const CLOSES: Effects = Effects {
 #[test]
 fn what_a_side_that_asked_is_told(rt: HostRuntime) {
     let reconnect = session(3, Phase::ReconnectSent);
+    let sets_back = Effects {
+        set_back: true,
+        ..Effects::NONE
+    };
     let asks = Session {
         phase: Phase::Connecting,
         server_cookie: 0,
         connect: 0,
         ..reconnect
-    };
-    let sets_back = Effects {
-        set_back: true,
-        ..Effects::NONE
     };
     assert_eq!(rt; after(reconnect, RESET), Some((asks, sets_back)));
     let forgets = Session {

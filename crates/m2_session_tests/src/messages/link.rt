@@ -5,6 +5,7 @@ use m2_bytes::NoMemory;
 use m2_link::{Accepted, Link, LinkSide};
 use m2_message::{Header, Message};
 use std::alloc::Global;
+use std::process::Abort;
 use std::test::Fail;
 
 fn message(alloc: Global, priority: u16, letter: u8) -> Result<Message, NoMemory> {
@@ -56,10 +57,18 @@ fn told(alloc: Global, taken: &[Accepted]) -> Result<(Vec<u8>, u64), NoMemory> {
     Ok((letters, last))
 }
 
-/// Carries from the first side to the second: the letters that were taken, and the number of the last.
-fn delivers(link: &mut Link, alloc: Global) -> Result<(Vec<u8>, u64), NoMemory> {
+/// Carries from the first side to the second, which takes these letters, the last with this number.
+fn assert_carried(
+    rt: &impl Abort,
+    link: &mut Link,
+    alloc: Global,
+    expected: (&[u8], u64),
+) -> Result<(), Fail> {
     let taken = carries(link, alloc, LinkSide::First, LinkSide::Second)?;
-    told(alloc, &taken)
+    let (letters, last) = told(alloc, &taken)?;
+    assert_eq!(rt; letters.as_slice(), expected.0);
+    assert_eq!(rt; last, expected.1);
+    Ok(())
 }
 
 #[test]
@@ -67,9 +76,8 @@ fn a_greater_priority_goes_first(rt: HostRuntime) -> Result<(), Fail> {
     let mut link = Link::new(rt.alloc());
     let what = [(63, b'a'), (127, b'b'), (196, b'c'), (127, b'd')];
     posts(&mut link, rt.alloc(), LinkSide::First, &what)?;
-    let (letters, last) = delivers(&mut link, rt.alloc())?;
-    assert_eq!(rt; letters.as_slice(), b"cbda".as_slice());
-    assert_eq!(rt; (last, link.left()), (4, 0));
+    assert_carried(&rt, &mut link, rt.alloc(), (b"cbda", 4))?;
+    assert_eq!(rt; link.left(), 0);
     Ok(())
 }
 
@@ -83,10 +91,7 @@ fn a_fault_resends_what_was_not_read_in_its_old_place(rt: HostRuntime) -> Result
     link.fault();
     posts(&mut link, rt.alloc(), LinkSide::First, &[(196, b'c')])?;
     assert_eq!(rt; (taken.len(), link.left()), (1, 2));
-    let (letters, last) = delivers(&mut link, rt.alloc())?;
-    assert_eq!(rt; letters.as_slice(), b"bc".as_slice());
-    assert_eq!(rt; last, 3);
-    Ok(())
+    assert_carried(&rt, &mut link, rt.alloc(), (b"bc", 3))
 }
 
 #[test]
