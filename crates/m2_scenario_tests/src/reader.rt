@@ -86,6 +86,11 @@ const GOOD: &[&[u8]] = &[
 ];
 
 const BAD_FOR_SIM: &[Bad<'static>] = &[
+    (
+        b"node c osd 127.0.0.1:3/3\nnode d osd 127.0.0.1:4/4\nnode e osd 127.0.0.1:5/5\nnode f osd 127.0.0.1:6/6\nnode g osd 127.0.0.1:7/7\nnode h osd 127.0.0.1:8/8\nnode i osd 127.0.0.1:9/9\nnode j osd 127.0.0.1:10/10\nnode k osd 127.0.0.1:11/11\nnode l osd 127.0.0.1:12/12\nnode m osd 127.0.0.1:13/13\nnode n osd 127.0.0.1:14/14\nnode o osd 127.0.0.1:15/15\nnode p osd 127.0.0.1:16/16\nnode q osd 127.0.0.1:17/17",
+        18,
+        12,
+    ),
     (b"turn\ta", 4, 1),
     (b"\nturn \ra", 5, 1),
     (b"off a", 4, 11),
@@ -109,11 +114,6 @@ const BAD_FOR_SIM: &[Bad<'static>] = &[
     (b"settle 0", 4, 3),
     (b"settle 10000\nsettle 10000\nsettle 1", 6, 12),
     (b"link z z lossy_client stateful_server", 4, 8),
-    (
-        b"node c osd 127.0.0.1:3/3\nnode d osd 127.0.0.1:4/4\nnode e osd 127.0.0.1:5/5\nnode f osd 127.0.0.1:6/6\nnode g osd 127.0.0.1:7/7\nnode h osd 127.0.0.1:8/8\nnode i osd 127.0.0.1:9/9\nnode j osd 127.0.0.1:10/10\nnode k osd 127.0.0.1:11/11\nnode l osd 127.0.0.1:12/12\nnode m osd 127.0.0.1:13/13\nnode n osd 127.0.0.1:14/14\nnode o osd 127.0.0.1:15/15\nnode p osd 127.0.0.1:16/16\nnode q osd 127.0.0.1:17/17",
-        18,
-        12,
-    ),
     (b"node abcdefghijklmnopq x 1", 4, 4),
     (b"node c osd 127.0.0.1:65536/3", 4, 7),
     (
