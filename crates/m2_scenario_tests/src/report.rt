@@ -9,6 +9,7 @@ use m2_dispatch::{Logged, LoggedList};
 use m2_message::{Header, Message};
 use m2_policy::{Key, Path};
 use m2_report::{LogsList, report};
+use m2_scenario::Line;
 use m2_scenario_text::read;
 use std::alloc::Global;
 use std::test::Fail;
@@ -16,31 +17,53 @@ use std::test::Fail;
 const NODES: &[u8] =
     b"node zed osd 127.0.0.1:7001/1\nnode b osd 127.0.0.1:7002/2\nnode a osd 127.0.0.1:7003/3\n";
 
-const AS_THEY_CAME: &[u8] = b"what stands already
-zed from a 127 queued 7 01 - -
-zed from b 64 queued 7 02 - -
-zed reset b
-zed from b 196 queued 7 03 - -
-zed from b 196 fast 1 04 - -
-zed from b 64 fast 1 05 - -
-zed from b 64 queued 7 06 - -
-zed reset a
-b from zed 255 fast 1 07 - -
-a reset zed
-";
+// The calls of zed, as they are printed.
+const FROM_A: &[u8] = b"zed from a 127 queued 7 01 - -\n";
 
-const SORTED: &[u8] = b"what stands already
-zed from b 196 fast 1 04 - -
-zed from b 196 queued 7 03 - -
-zed from b 64 fast 1 05 - -
-zed from b 64 queued 7 02 - -
-zed from b 64 queued 7 06 - -
-zed reset b
-zed from a 127 queued 7 01 - -
-zed reset a
-b from zed 255 fast 1 07 - -
-a reset zed
-";
+const QUEUED_64: &[u8] = b"zed from b 64 queued 7 02 - -\n";
+
+const RESET_B: &[u8] = b"zed reset b\n";
+
+const QUEUED_196: &[u8] = b"zed from b 196 queued 7 03 - -\n";
+
+const FAST_196: &[u8] = b"zed from b 196 fast 1 04 - -\n";
+
+const FAST_64: &[u8] = b"zed from b 64 fast 1 05 - -\n";
+
+const LATER_64: &[u8] = b"zed from b 64 queued 7 06 - -\n";
+
+const RESET_A: &[u8] = b"zed reset a\n";
+
+const AS_THEY_CAME: [&[u8]; 8] = [
+    FROM_A, QUEUED_64, RESET_B, QUEUED_196, FAST_196, FAST_64, LATER_64, RESET_A,
+];
+
+const SORTED: [&[u8]; 8] = [
+    FAST_196, QUEUED_196, FAST_64, QUEUED_64, LATER_64, RESET_B, FROM_A, RESET_A,
+];
+
+// A line that stands already, the calls of zed in this order, and then those of the other two.
+fn text_with(alloc: Global, of_zed: &[&[u8]]) -> Result<Blob, Fail> {
+    let mut text = Blob::of(alloc, b"what stands already\n")?;
+    for line in of_zed {
+        text.push_all(line)?;
+    }
+    text.push_all(b"b from zed 255 fast 1 07 - -\na reset zed\n")?;
+    Ok(text)
+}
+
+// Two joined nodes and a post of no bytes.
+const POST: &[u8] = b"node a osd 127.0.0.1:7001/1\nnode b osd 127.0.0.1:7002/2\n\
+                      link a b lossless_peer lossless_peer\npost a b 7 127 - - -\n";
+
+// A message as a post has it.
+fn posted(alloc: Global) -> Result<Message, Fail> {
+    let mut scenario = read(alloc, POST, false)?;
+    match scenario.lines.pop() {
+        Some(Line::Post { message, .. }) => Ok(message),
+        _ => Err("a post")?,
+    }
+}
 
 // A message of kind 1 where it is fast and of kind 7 where it is queued, its front one byte.
 fn message(alloc: Global, peer: u32, priority: u16, path: Path, front: u8) -> Result<Logged, Fail>
@@ -50,24 +73,16 @@ fn message(alloc: Global, peer: u32, priority: u16, path: Path, front: u8) -> Re
         Path::Fast => 1,
         Path::Queued => 7,
     };
-    let header = Header {
-        seq: 1,
-        tid: 0,
-        kind,
-        priority,
-        version: 1,
-        pre_padding: 0,
-        data_off: 0,
-        ack_seq: 0,
-        flags: 0,
-        compat: 1,
-        reserved: 0,
-    };
+    let posted = posted(alloc)?;
     let message = Message {
-        header,
+        header: Header {
+            seq: 1,
+            kind,
+            priority,
+            ..posted.header
+        },
         front: Blob::of(alloc, &[front])?,
-        middle: Blob::empty(alloc),
-        tail: Blob::empty(alloc),
+        ..posted
     };
     Ok(Logged::Message {
         peer,
@@ -152,9 +167,10 @@ fn reported(alloc: Global, sorted: bool) -> Result<Blob, Fail> {
 
 #[test]
 fn calls_are_printed_as_they_came_or_sorted(rt: HostRuntime) -> Result<(), Fail> {
-    for (sorted, text) in [(false, AS_THEY_CAME), (true, SORTED)] {
+    for (sorted, of_zed) in [(false, AS_THEY_CAME), (true, SORTED)] {
         let printed = reported(rt.alloc(), sorted)?;
-        assert_eq!(rt; printed.as_slice(), text);
+        let expected = text_with(rt.alloc(), &of_zed)?;
+        assert_eq!(rt; printed.as_slice(), expected.as_slice());
     }
     Ok(())
 }

@@ -6,6 +6,7 @@ use m2_scenario::Scenario;
 use m2_scenario_text::read;
 use m2_sim::{Outcome, run};
 use std::alloc::Global;
+use std::process::Abort;
 use std::test::Fail;
 
 fn played(alloc: Global, text: &[u8]) -> Result<Outcome, Fail> {
@@ -41,74 +42,51 @@ fn calls(alloc: Global, log: Option<&LoggedList>) -> Result<Vec<u8>, Fail> {
     Ok(text)
 }
 
-#[test]
-fn the_greater_priority_goes_first(rt: HostRuntime) -> Result<(), Fail> {
-    let o = played(
-        rt.alloc(),
-        b"node a osd 127.0.0.1:7001/1\n\
-          node b osd 127.0.0.1:7002/2 fast 1\n\
-          link a b lossless_peer lossless_peer\n\
-          post a b 1 64 61 - -\n\
-          post a b 1 255 62 - -\n\
-          settle 2\n",
-    )?;
+/// Two joined nodes; to the second messages of kind 1 are fast.
+const PAIR: &[u8] = b"node a osd 127.0.0.1:7001/1\n\
+                      node b osd 127.0.0.1:7002/2 fast 1\n\
+                      link a b lossless_peer lossless_peer\n";
+
+// Plays these steps of the pair, after which nothing is left, a has heard nothing, and b these calls.
+fn assert_heard(rt: &impl Abort, alloc: Global, steps: &[u8], of_b: &[u8]) -> Result<(), Fail> {
+    let mut text = Vec::from_slice(alloc, PAIR)?;
+    text.extend_from_slice(steps)?;
+    let o = played(alloc, text.as_slice())?;
     assert_eq!(rt; o.left, 0);
-    assert_eq!(rt;
-        calls(rt.alloc(), o.logs.get(1))?.as_slice(),
-        b"f1bf2a".as_slice()
-    );
-    assert_eq!(rt;
-        calls(rt.alloc(), o.logs.get(0))?.as_slice(),
-        b"".as_slice()
-    );
+    assert_eq!(rt; calls(alloc, o.logs.get(0))?.as_slice(), b"".as_slice());
+    assert_eq!(rt; calls(alloc, o.logs.get(1))?.as_slice(), of_b);
     Ok(())
 }
 
 #[test]
+fn the_greater_priority_goes_first(rt: HostRuntime) -> Result<(), Fail> {
+    let steps = b"post a b 1 64 61 - -\npost a b 1 255 62 - -\nsettle 2\n";
+    assert_heard(&rt, rt.alloc(), steps, b"f1bf2a")
+}
+
+#[test]
 fn what_was_sent_before_a_fault_keeps_its_place(rt: HostRuntime) -> Result<(), Fail> {
-    let o = played(
-        rt.alloc(),
-        b"node a osd 127.0.0.1:7001/1\n\
-          node b osd 127.0.0.1:7002/2 fast 1\n\
-          link a b lossless_peer lossless_peer\n\
-          post a b 1 64 61 - -\n\
-          turn a\n\
-          fault b a\n\
-          post a b 1 255 62 - -\n\
-          settle 2\n",
-    )?;
-    assert_eq!(rt; o.left, 0);
-    assert_eq!(rt;
-        calls(rt.alloc(), o.logs.get(1))?.as_slice(),
-        b"f1af2b".as_slice()
-    );
-    Ok(())
+    let steps = b"post a b 1 64 61 - -\n\
+                  turn a\n\
+                  fault b a\n\
+                  post a b 1 255 62 - -\n\
+                  settle 2\n";
+    assert_heard(&rt, rt.alloc(), steps, b"f1af2b")
 }
 
 #[test]
 fn in_one_turn_fast_messages_go_first_and_the_others_by_priority(
     rt: HostRuntime,
 ) -> Result<(), Fail> {
-    let o = played(
-        rt.alloc(),
-        b"node a osd 127.0.0.1:7001/1\n\
-          node b osd 127.0.0.1:7002/2 fast 1\n\
-          link a b lossless_peer lossless_peer\n\
-          post a b 2 64 61 - -\n\
-          post a b 2 64 62 - -\n\
-          turn a\n\
-          post a b 2 255 63 - -\n\
-          turn a\n\
-          post a b 1 64 64 - -\n\
-          turn a\n\
-          settle 1\n",
-    )?;
-    assert_eq!(rt; o.left, 0);
-    assert_eq!(rt;
-        calls(rt.alloc(), o.logs.get(1))?.as_slice(),
-        b"f4dq3cq1aq2b".as_slice()
-    );
-    Ok(())
+    let steps = b"post a b 2 64 61 - -\n\
+                  post a b 2 64 62 - -\n\
+                  turn a\n\
+                  post a b 2 255 63 - -\n\
+                  turn a\n\
+                  post a b 1 64 64 - -\n\
+                  turn a\n\
+                  settle 1\n";
+    assert_heard(&rt, rt.alloc(), steps, b"f4dq3cq1aq2b")
 }
 
 #[test]

@@ -1,5 +1,6 @@
 //! Policies, races, features and paths.
 
+use crate::session::address;
 use m2_addr::Addr;
 use m2_policy::{
     FastSet, Path, is_allowed, lossless_client, lossless_peer, lossy_client, missing,
@@ -44,15 +45,12 @@ fn pairs_of_a_link(rt: HostRuntime) {
 #[test]
 fn nonces_come_before_ports(rt: HostRuntime) {
     let low = Addr {
-        kind: 2,
-        nonce: 1,
-        ip: 0x7f00_0001,
         port: 7002,
+        ..address(1)
     };
     let high = Addr {
-        nonce: 2,
         port: 7001,
-        ..low
+        ..address(2)
     };
     assert!(rt; wins(&low, &high, false));
     assert!(rt; !wins(&high, &low, false));

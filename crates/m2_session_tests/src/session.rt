@@ -4,12 +4,13 @@ ghost use Rattle.std.specs.Prelude.{◌<◌, ◌-◌, ◌^◌};
 ghost use Rattle.m2_session.specs.Steps.{HasFollower};
 
 use m2_addr::Addr;
-use m2_policy::{lossless_peer, lossy_client, stateful_server};
+use m2_policy::{Policy, lossless_peer, lossy_client, stateful_server};
 use m2_session::{
     Answer, Effects, Event, Phase, Session, is_lawful, judge_ident, judge_reconnect, step,
 };
 
-fn address(nonce: u32) -> Addr {
+/// 127.0.0.1:7000 with this nonce.
+pub(crate) fn address(nonce: u32) -> Addr {
     Addr {
         kind: 2,
         nonce,
@@ -188,21 +189,20 @@ const CLOSES: Effects = Effects {
     ..Effects::NONE
 };
 
-const SETS_BACK: Effects = Effects {
-    set_back: true,
-    ..Effects::NONE
-};
-
 #[test]
 fn what_a_side_that_asked_is_told(rt: HostRuntime) {
     let reconnect = session(3, Phase::ReconnectSent);
+    let sets_back = Effects {
+        set_back: true,
+        ..Effects::NONE
+    };
     let asks = Session {
         phase: Phase::Connecting,
         server_cookie: 0,
         connect: 0,
         ..reconnect
     };
-    assert_eq!(rt; after(reconnect, RESET), Some((asks, SETS_BACK)));
+    assert_eq!(rt; after(reconnect, RESET), Some((asks, sets_back)));
     let forgets = Session {
         client_cookie: 0,
         ..asks
@@ -210,7 +210,7 @@ fn what_a_side_that_asked_is_told(rt: HostRuntime) {
     let thrown_away = Effects {
         discard: true,
         remote_reset: true,
-        ..SETS_BACK
+        ..sets_back
     };
     let full = after(reconnect, Event::GotReset { full: true });
     assert_eq!(rt; full, Some((forgets, thrown_away)));
@@ -250,39 +250,39 @@ fn what_a_side_that_was_asked_is_told(rt: HostRuntime) {
     assert_eq!(rt; after(wait, TOOK_RECONNECT), Some((resumed, CLOSES)));
 }
 
+/// A session in phase Ready under this policy, and what a fault makes of it.
+fn faulted(policy: Policy) -> (Session, Option<(Session, Effects)>) {
+    let ready = Session {
+        policy,
+        ..session(3, Phase::Ready)
+    };
+    (ready, after(ready, FAULT))
+}
+
+/// The session after a fault, in this phase.
+fn lost(ready: Session, phase: Phase) -> Session {
+    Session {
+        phase,
+        lost_ready: true,
+        ..ready
+    }
+}
+
 #[test]
 fn faults_by_policy(rt: HostRuntime) {
-    let ready = session(3, Phase::Ready);
-    let waits = Session {
-        phase: Phase::Wait,
-        lost_ready: true,
-        ..ready
-    };
-    assert_eq!(rt; after(ready, FAULT), Some((waits, CLOSES)));
-    let lossy = Session {
-        policy: lossy_client(),
-        ..ready
-    };
+    let (peer, after_fault) = faulted(lossless_peer());
+    assert_eq!(rt; after_fault, Some((lost(peer, Phase::Wait), CLOSES)));
+    let (lossy, after_fault) = faulted(lossy_client());
     let forgotten = Session {
-        phase: Phase::Absent,
         client_cookie: 0,
         server_cookie: 0,
-        lost_ready: true,
-        ..lossy
+        ..lost(lossy, Phase::Absent)
     };
     let dropped = Effects {
         discard: true,
         ..CLOSES
     };
-    assert_eq!(rt; after(lossy, FAULT), Some((forgotten, dropped)));
-    let server = Session {
-        policy: stateful_server(),
-        ..ready
-    };
-    let keeps = Session {
-        phase: Phase::Standby,
-        lost_ready: true,
-        ..server
-    };
-    assert_eq!(rt; after(server, FAULT), Some((keeps, CLOSES)));
+    assert_eq!(rt; after_fault, Some((forgotten, dropped)));
+    let (server, after_fault) = faulted(stateful_server());
+    assert_eq!(rt; after_fault, Some((lost(server, Phase::Standby), CLOSES)));
 }

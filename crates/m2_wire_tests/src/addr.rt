@@ -125,20 +125,19 @@ fn a_vector_is_refused_by_its_head(rt: HostRuntime) {
     }
 }
 
+fn addr(kind: u32, nonce: u32, ip: u32, port: u16) -> Addr {
+    Addr {
+        kind,
+        nonce,
+        ip,
+        port,
+    }
+}
+
 #[test]
 fn addresses_are_ordered_by_kind_nonce_ip_and_port(rt: HostRuntime) {
-    let low = Addr {
-        kind: 1,
-        nonce: 9,
-        ip: 9,
-        port: 9,
-    };
-    let nonce = Addr {
-        kind: 2,
-        nonce: 7,
-        ip: 1,
-        port: 1,
-    };
+    let low = addr(1, 9, 9, 9);
+    let nonce = addr(2, 7, 1, 1);
     let ip = Addr { nonce: 6, ..ADDR };
     let port = Addr { port: 6801, ..ADDR };
     assert!(rt; low.is_below(&ip));
@@ -150,7 +149,12 @@ fn addresses_are_ordered_by_kind_nonce_ip_and_port(rt: HostRuntime) {
 }
 
 /// The head, and then the piece so often.
-fn repeated(rt: &HostRuntime, head: &[u8], piece: &[u8], times: u32) -> Result<Blob, NoMemory> {
+pub(crate) fn repeated(
+    rt: &HostRuntime,
+    head: &[u8],
+    piece: &[u8],
+    times: u32,
+) -> Result<Blob, NoMemory> {
     let mut text = Blob::of(rt.alloc(), head)?;
     for _ in 0..times {
         text.push_all(piece)?;

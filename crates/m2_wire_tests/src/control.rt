@@ -2,8 +2,9 @@
 
 ghost use Rattle.std.specs.Prelude.{◌≤◌, ◌≢◌};
 
+use crate::addr::repeated;
 use m2_addr::AddrFault;
-use m2_bytes::{Blob, NoMemory};
+use m2_bytes::{Blob, NoMemory, put_u32};
 use m2_control::{
     Banner, BannerStep, Control, ControlFault, ServerFacts, read_banner, write_banner,
 };
@@ -331,13 +332,11 @@ fn the_bounds_of_a_reconnect_hold(rt: HostRuntime) {
     assert_eq!(rt; fault_of(&rt, 11, &text), bad(2));
 }
 
-/// The head, and then the piece so often.
-fn repeated(rt: &HostRuntime, head: &[u8], piece: &[u8], times: u32) -> Result<Blob, NoMemory> {
-    let mut text = Blob::of(rt.alloc(), head)?;
-    for _ in 0..times {
-        text.push_all(piece)?;
-    }
-    Ok(text)
+/// The payload of an AUTH_DONE of global 9 and mode 1 with so many bytes behind.
+fn done_with(rt: &HostRuntime, count: u32) -> Result<Blob, NoMemory> {
+    let mut head = Blob::of(rt.alloc(), &[9, 0, 0, 0, 0, 0, 0, 0, 1, 0, 0, 0])?;
+    put_u32(&mut head, count)?;
+    repeated(rt, head.as_slice(), &[8], count)
 }
 
 #[test]
@@ -348,19 +347,8 @@ fn lists_and_strings_near_their_bounds_are_read_and_written(rt: HostRuntime) -> 
     let mut refusal = repeated(&rt, &[2, 0, 0, 0, 161, 255, 255, 255], &[64, 0, 0, 0], 65)?;
     refusal.push_all(repeated(&rt, &[64, 0, 0, 0], &[255, 255, 255, 255], 64)?.as_slice())?;
     assert!(rt; is_kept(&rt, 3, refusal.as_slice()));
-    let done = repeated(
-        &rt,
-        &[9, 0, 0, 0, 0, 0, 0, 0, 1, 0, 0, 0, 0, 16, 0, 0],
-        &[8],
-        4096,
-    )?;
-    assert!(rt; is_kept(&rt, 6, done.as_slice()));
-    let long = repeated(
-        &rt,
-        &[9, 0, 0, 0, 0, 0, 0, 0, 1, 0, 0, 0, 1, 16, 0, 0],
-        &[8],
-        4097,
-    )?;
+    assert!(rt; is_kept(&rt, 6, done_with(&rt, 4096)?.as_slice()));
+    let long = done_with(&rt, 4097)?;
     let bad = Some(ControlFault::BadValue { field: 3 });
     assert_eq!(rt; fault_of(&rt, 6, long.as_slice()), bad);
     Ok(())

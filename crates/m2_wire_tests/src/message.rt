@@ -1,5 +1,6 @@
 //! A message and its copy.
 
+use crate::message_frame::header_with;
 use m2_bytes::Blob;
 use m2_message::{Header, Message};
 use std::test::Fail;
@@ -7,17 +8,8 @@ use std::test::Fail;
 #[test]
 fn a_copy_says_the_same(rt: HostRuntime) -> Result<(), Fail> {
     let header = Header {
-        seq: 1,
         tid: 2,
-        kind: 7,
-        priority: 127,
-        version: 1,
-        pre_padding: 0,
-        data_off: 0,
-        ack_seq: 0,
-        flags: 0,
-        compat: 1,
-        reserved: 0,
+        ..header_with(1, 0)
     };
     let message = Message {
         header,

@@ -17,7 +17,7 @@ const HEADER: [u8; HEADER_BYTES] = [
 ];
 
 /// The header of those bytes, with other numbers.
-fn header_with(seq: u64, ack_seq: u64) -> Header {
+pub(crate) fn header_with(seq: u64, ack_seq: u64) -> Header {
     Header {
         seq,
         tid: 0,

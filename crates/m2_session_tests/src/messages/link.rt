@@ -1,31 +1,21 @@
 //! A pair of nodes, step by step.
 
-use m2_bytes::{Blob, NoMemory};
+use super::message_of;
+use m2_bytes::NoMemory;
 use m2_link::{Accepted, Link, LinkSide};
 use m2_message::{Header, Message};
 use std::alloc::Global;
+use std::process::Abort;
 use std::test::Fail;
 
 fn message(alloc: Global, priority: u16, letter: u8) -> Result<Message, NoMemory> {
+    let message = message_of(alloc, &[letter])?;
     let header = Header {
-        seq: 0,
-        tid: 0,
         kind: 1,
         priority,
-        version: 0,
-        pre_padding: 0,
-        data_off: 0,
-        ack_seq: 0,
-        flags: 0,
-        compat: 0,
-        reserved: 0,
+        ..message.header
     };
-    Ok(Message {
-        header,
-        front: Blob::of(alloc, &[letter])?,
-        middle: Blob::empty(alloc),
-        tail: Blob::empty(alloc),
-    })
+    Ok(Message { header, ..message })
 }
 
 /// Posts a message for each priority and letter.
@@ -67,15 +57,27 @@ fn told(alloc: Global, taken: &[Accepted]) -> Result<(Vec<u8>, u64), NoMemory> {
     Ok((letters, last))
 }
 
+/// Carries from the first side to the second, which takes these letters, the last with this number.
+fn assert_carried(
+    rt: &impl Abort,
+    link: &mut Link,
+    alloc: Global,
+    expected: (&[u8], u64),
+) -> Result<(), Fail> {
+    let taken = carries(link, alloc, LinkSide::First, LinkSide::Second)?;
+    let (letters, last) = told(alloc, &taken)?;
+    assert_eq!(rt; letters.as_slice(), expected.0);
+    assert_eq!(rt; last, expected.1);
+    Ok(())
+}
+
 #[test]
 fn a_greater_priority_goes_first(rt: HostRuntime) -> Result<(), Fail> {
     let mut link = Link::new(rt.alloc());
     let what = [(63, b'a'), (127, b'b'), (196, b'c'), (127, b'd')];
     posts(&mut link, rt.alloc(), LinkSide::First, &what)?;
-    let taken = carries(&mut link, rt.alloc(), LinkSide::First, LinkSide::Second)?;
-    let (letters, last) = told(rt.alloc(), &taken)?;
-    assert_eq!(rt; letters.as_slice(), b"cbda".as_slice());
-    assert_eq!(rt; (last, link.left()), (4, 0));
+    assert_carried(&rt, &mut link, rt.alloc(), (b"cbda", 4))?;
+    assert_eq!(rt; link.left(), 0);
     Ok(())
 }
 
@@ -89,11 +91,7 @@ fn a_fault_resends_what_was_not_read_in_its_old_place(rt: HostRuntime) -> Result
     link.fault();
     posts(&mut link, rt.alloc(), LinkSide::First, &[(196, b'c')])?;
     assert_eq!(rt; (taken.len(), link.left()), (1, 2));
-    let resent = carries(&mut link, rt.alloc(), LinkSide::First, LinkSide::Second)?;
-    let (letters, last) = told(rt.alloc(), &resent)?;
-    assert_eq!(rt; letters.as_slice(), b"bc".as_slice());
-    assert_eq!(rt; last, 3);
-    Ok(())
+    assert_carried(&rt, &mut link, rt.alloc(), (b"bc", 3))
 }
 
 #[test]

@@ -1,7 +1,7 @@
 //! The outgoing queue: what goes first, what is sent again, and a queue as long as a scenario's posts.
 
-use m2_bytes::Blob;
-use m2_message::{Header, Message};
+use super::message_of;
+use m2_message::Header;
 use m2_queues::{BadAck, OutQueues};
 use std::alloc::Global;
 use std::test::Fail;
@@ -11,24 +11,16 @@ const POSTS: u32 = 20_000;
 
 /// Posts a message of this priority with this transaction number; whether it was taken.
 fn posts(queue: &mut OutQueues, alloc: Global, priority: u16, tid: u64) -> bool {
-    let header = Header {
-        seq: 0,
+    let Ok(mut message) = message_of(alloc, b"") else {
+        return false;
+    };
+    message.header = Header {
         tid,
         kind: 7,
         priority,
         version: 1,
-        pre_padding: 0,
-        data_off: 0,
-        ack_seq: 0,
-        flags: 0,
         compat: 1,
-        reserved: 0,
-    };
-    let message = Message {
-        header,
-        front: Blob::empty(alloc),
-        middle: Blob::empty(alloc),
-        tail: Blob::empty(alloc),
+        ..message.header
     };
     queue.post(message).is_ok()
 }
