@@ -138,13 +138,6 @@ listing_ends l r s answered file before after mid h rises passed e (inl said) =
     let P : Status → Type 0 = λ x. ListsFile file x before after in (s, said, subst P (sym e) (lists_passed l r file before after mid h rises passed))
 listing_ends l r s answered file before after mid h rises passed e (inr said) = (status.NoMemory, said, in_part l file before after h)
 
-pub caused_ends : (l r : Listing) (s answered : Status) (file : List ℕ) (before after : Edge) (mid : SeenSink) → Ended l file before after
-    → before.out.faults ≤ mid.faults → IsPassedOn l r mid after.out → s ≡ status_of_listing r
-    → SaysStatus s answered before.err after.err ⊎ SaysStatus status.NoMemory answered before.err after.err → IsCause answered before after
-caused_ends l r s answered file before after mid h rises passed e said =
-    let ends = listing_ends l r s answered file before after mid h rises passed e said in
-    said_caused ends.0 answered before after (listing_caused ends.0 file before after ends.2) ends.1
-
 -- a count that falls in neither of two calls
 pub no_fall : (o p q : ℕ) → o ≤ p → p ≤ q → o ≤ q
 no_fall o p q first second = omega arith

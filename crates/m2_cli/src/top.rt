@@ -1,12 +1,11 @@
 //! The top call.
 
 ghost use Rattle.std.specs.Prelude.{◌≡◌, map, string_bytes};
-ghost use Rattle.m2_cli.specs.declared.status.Status.{Status};
 ghost use Rattle.m2_cli.specs.Edge.{HasCauses, edge};
 ghost use Rattle.m2_cli.specs.Order.{KeepsOrder};
-ghost use Rattle.m2_cli.specs.Print.{SaysStatus};
 ghost use Rattle.m2_cli.specs.Top.{Ends, RunsFile};
 ghost use Rattle.m2_cli.specs.Words.{form_in, MatchForm};
+ghost use Rattle.m2_cli.specs.Work.{Works};
 
 use crate::frames::frames;
 use crate::print::{print, say_fixed};
@@ -66,11 +65,7 @@ fn sim<S: Source, O: Sink, E: Sink>(
     out: &mut O,
     err: &mut E,
 ) -> Status
-    ensures causes { HasCauses result (edge (S.seen src.old) (O.seen out.old) (E.seen err.old))
-        (edge (S.seen src.new) (O.seen out.new) (E.seen err.new)) }
-    ensures inputs { (S.seen src.new).inputs ≡ (S.seen src.old).inputs }
-    ensures ends { (work : Status) × SaysStatus work result (E.seen err.old) (E.seen err.new)
-        × RunsFile file.now work (edge (S.seen src.old) (O.seen out.old) (E.seen err.old))
+    ensures works { Works (RunsFile file.now) result (edge (S.seen src.old) (O.seen out.old) (E.seen err.old))
         (edge (S.seen src.new) (O.seen out.new) (E.seen err.new)) }
     ensures order { KeepsOrder result (edge (S.seen src.old) (O.seen out.old) (E.seen err.old))
         (edge (S.seen src.new) (O.seen out.new) (E.seen err.new)) }
