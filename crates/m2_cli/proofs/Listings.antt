@@ -6,7 +6,7 @@ use Rattle.m2_edge.specs.Faults.{HasRisen}
 use Rattle.m2_edge.specs.Sink.{SeenSink, IsFlushed}
 use Rattle.m2_edge.specs.Source.{SeenSource, IsPrefixOf}
 use Rattle.m2_listing.specs.Lines.{lines_of}
-use Rattle.m2_listing.specs.Listing.{limit, Lists, ListsPrefix, Listed, Broken, IsAll, IsCutAtLimit, IsFaultCause, StandsBy}
+use Rattle.m2_listing.specs.Listing.{limit, Lists, ListsPrefix, Listed, Broken, IsAll, IsFaultCause, StandsBy}
 use Rattle.m2_listing.specs.declared.listing.Listing.{Listing}
 use Rattle.m2_listing.specs.declared.listing.Listing.TheVariants as listing
 use Rattle.m2_cli.specs.declared.status.Status.{Status}
@@ -14,7 +14,7 @@ use Rattle.m2_cli.specs.declared.status.Status.TheVariants as status
 use Rattle.m2_cli.specs.Edge.{Edge, IsCause, StandsSomewhere}
 use Rattle.m2_cli.specs.Frames.{ListsFile, IsListedInPart, status_of_listing, IsPassedOn}
 use Rattle.m2_cli.specs.Print.{SaysStatus}
-use Rattle.m2_cli.proofs.Says.{prefix_whole, said_caused}
+use Rattle.m2_cli.proofs.Says.{prefix_whole}
 
 all_prefix : (bytes : List ℕ) (src : SeenSource) → IsAll bytes src → IsPrefixOf bytes src.given
 all_prefix bytes src h = (length src.given, h.given ∙ sym (take-length src.given))

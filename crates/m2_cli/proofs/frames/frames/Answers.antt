@@ -1,7 +1,4 @@
 -- What was listed, passed on and said.
-use Rattle.std.proofs.Common.{List, inl, inr, ◌⊎◌, subst, sym}
-use Rattle.m2_edge.specs.Sink.{SeenSink}
-use Rattle.m2_cli.specs.declared.status.Status.{Status}
 use Rattle.m2_cli.specs.declared.status.Status.TheVariants as status
 use Rattle.m2_cli.specs.Edge.{Edge, edge}
 use Rattle.m2_cli.proofs.Listings.{Ended, ended_passed, listing_ends, listing_caused, no_fall}
