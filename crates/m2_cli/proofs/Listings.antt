@@ -6,7 +6,7 @@ use Rattle.m2_edge.specs.Faults.{HasRisen}
 use Rattle.m2_edge.specs.Sink.{SeenSink, IsFlushed}
 use Rattle.m2_edge.specs.Source.{SeenSource, IsPrefixOf}
 use Rattle.m2_listing.specs.Lines.{lines_of}
-use Rattle.m2_listing.specs.Listing.{limit, Lists, ListsPrefix, Listed, Broken, IsAll, IsCutAtLimit, IsFaultCause, StandsBy}
+use Rattle.m2_listing.specs.Listing.{limit, Lists, ListsPrefix, Listed, Broken, IsAll, IsFaultCause, StandsBy}
 use Rattle.m2_listing.specs.declared.listing.Listing.{Listing}
 use Rattle.m2_listing.specs.declared.listing.Listing.TheVariants as listing
 use Rattle.m2_cli.specs.declared.status.Status.{Status}
@@ -14,7 +14,7 @@ use Rattle.m2_cli.specs.declared.status.Status.TheVariants as status
 use Rattle.m2_cli.specs.Edge.{Edge, IsCause, StandsSomewhere}
 use Rattle.m2_cli.specs.Frames.{ListsFile, IsListedInPart, status_of_listing, IsPassedOn}
 use Rattle.m2_cli.specs.Print.{SaysStatus}
-use Rattle.m2_cli.proofs.Says.{prefix_whole, said_caused}
+use Rattle.m2_cli.proofs.Says.{prefix_whole}
 
 all_prefix : (bytes : List ℕ) (src : SeenSource) → IsAll bytes src → IsPrefixOf bytes src.given
 all_prefix bytes src h = (length src.given, h.given ∙ sym (take-length src.given))
@@ -137,13 +137,6 @@ pub listing_ends : (l r : Listing) (s answered : Status) (file : List ℕ) (befo
 listing_ends l r s answered file before after mid h rises passed e (inl said) =
     let P : Status → Type 0 = λ x. ListsFile file x before after in (s, said, subst P (sym e) (lists_passed l r file before after mid h rises passed))
 listing_ends l r s answered file before after mid h rises passed e (inr said) = (status.NoMemory, said, in_part l file before after h)
-
-pub caused_ends : (l r : Listing) (s answered : Status) (file : List ℕ) (before after : Edge) (mid : SeenSink) → Ended l file before after
-    → before.out.faults ≤ mid.faults → IsPassedOn l r mid after.out → s ≡ status_of_listing r
-    → SaysStatus s answered before.err after.err ⊎ SaysStatus status.NoMemory answered before.err after.err → IsCause answered before after
-caused_ends l r s answered file before after mid h rises passed e said =
-    let ends = listing_ends l r s answered file before after mid h rises passed e said in
-    said_caused ends.0 answered before after (listing_caused ends.0 file before after ends.2) ends.1
 
 -- a count that falls in neither of two calls
 pub no_fall : (o p q : ℕ) → o ≤ p → p ≤ q → o ≤ q

@@ -93,39 +93,31 @@ refused (Left count) before after h = h
 refused NoMemory before after h = tt
 refused (BadFrames place fault) before after h = h
 
--- a report that was written whole, and what was answered
-order_whole : Laws → (work answered : Status) (before after : Edge) → IsSoundIn after.source.given → work ≡ status_of (scenario_in after.source.given)
-    → TakesBytes (report_in after.source.given) before.out after.out → SaysStatus work answered before.err after.err → KeepsOrder answered before after
-order_whole laws work answered before after sound e h (inl s) =
-    let P : Status → Type 0 = λ x. KeepsOrder x before after in
-    subst P (sym (s.answer ∙ e)) (read_order laws (scenario_in after.source.given) before after refl sound h)
-order_whole laws work answered before after sound e h (inr s) =
-    let P : Status → Type 0 = λ x. KeepsOrder x before after in
-    subst P (sym s.answer) (refused work before after (read_prefix laws (scenario_in after.source.given) before after refl sound (prefix_whole (report_in after.source.given) before.out after.out h)))
-
--- a report of which a prefix was written, and what was answered
-order_prefix : Laws → (work answered : Status) (before after : Edge) → IsSoundIn after.source.given → work ≡ WriteFault
-    → TakesPrefix (report_in after.source.given) before.out after.out → SaysStatus work answered before.err after.err → KeepsOrder answered before after
-order_prefix laws work answered before after sound e h (inl s) =
-    let P : Status → Type 0 = λ x. KeepsOrder x before after in
-    subst P (sym (s.answer ∙ e)) (read_prefix laws (scenario_in after.source.given) before after refl sound h)
-order_prefix laws work answered before after sound e h (inr s) =
-    let P : Status → Type 0 = λ x. KeepsOrder x before after in
-    subst P (sym s.answer) (refused work before after (read_prefix laws (scenario_in after.source.given) before after refl sound h))
+-- what is answered, where what the work came to keeps the order, and so does a write fault
+order_said : (work answered : Status) (before after : Edge) → KeepsOrder work before after → KeepsOrder WriteFault before after
+    → SaysStatus work answered before.err after.err → KeepsOrder answered before after
+order_said work answered before after h fault (inl s) = let P : Status → Type 0 = λ x. KeepsOrder x before after in subst P (sym s.answer) h
+order_said work answered before after h fault (inr s) = let P : Status → Type 0 = λ x. KeepsOrder x before after in subst P (sym s.answer) (refused work before after fault)
 
 -- a printout that was printed, and what was answered
 pub order_printed : Laws → (p : Printout) (file : List ℕ) (answered : Status) (before after : Edge) → IsPrintoutOf p file before.source after.source
     → (work : Status) × PrintsReport p work before.out after.out × SaysStatus work answered before.err after.err → KeepsOrder answered before after
 order_printed laws p file answered before after o (work, inl (same, d), said) =
+    let P : Status → Type 0 = λ x. KeepsOrder x before after in
     let Q : List ℕ → Type 0 = λ t. TakesBytes t before.out after.out in
-    order_whole laws work answered before after o.sound (same ∙ o.printout.status) (subst Q o.printout.report d.taken) said
+    let all : TakesBytes (report_in after.source.given) before.out after.out = subst Q o.printout.report d.taken in
+    order_said work answered before after
+    (subst P (sym (same ∙ o.printout.status)) (read_order laws (scenario_in after.source.given) before after refl o.sound all))
+    (read_prefix laws (scenario_in after.source.given) before after refl o.sound (prefix_whole (report_in after.source.given) before.out after.out all)) said
 order_printed laws p file answered before after o (work, inr (same, failed, some), said) =
+    let P : Status → Type 0 = λ x. KeepsOrder x before after in
     let Q : List ℕ → Type 0 = λ t. TakesPrefix t before.out after.out in
-    order_prefix laws work answered before after o.sound same (subst Q o.printout.report some) said
+    let part : KeepsOrder WriteFault before after =
+    read_prefix laws (scenario_in after.source.given) before after refl o.sound (subst Q o.printout.report some)
+    in
+    order_said work answered before after (subst P (sym same) part) part said
 
 -- nothing was written
 pub order_nothing : (work answered : Status) (before after : Edge) → after.out.taken ≡ before.out.taken → KeepsOrder work before after
     → SaysStatus work answered before.err after.err → KeepsOrder answered before after
-order_nothing work answered before after same h (inl s) = let P : Status → Type 0 = λ x. KeepsOrder x before after in subst P (sym s.answer) h
-order_nothing work answered before after same h (inr s) =
-    let P : Status → Type 0 = λ x. KeepsOrder x before after in subst P (sym s.answer) (refused work before after (inl same))
+order_nothing work answered before after same h said = order_said work answered before after h (inl same) said

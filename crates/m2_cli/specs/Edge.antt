@@ -1,5 +1,5 @@
--- What contracts see of the outside before and after a call: of the source, of standard output and of standard
--- error.
+-- What a call may have done to the outside: what is seen of the source, of standard output and of standard error,
+-- before it and after it.
 use Rattle.std.specs.Prelude.{◌≡◌, ◌+◌, ◌≤◌, ◌⊎◌, List, ℕ}
 use Rattle.m2_edge.specs.Faults.{HasRisen}
 use Rattle.m2_edge.specs.Sink.{SeenSink}
@@ -18,7 +18,7 @@ pub record Edge : Type 0 where
 abbrev pub edge : SeenSource → SeenSink → SeenSink → Edge
 edge source out err = record { source = source; out = out; err = err }
 
--- ---- faults
+-- ---- faults: one happened in this call where the count has risen
 
 abbrev pub SourceFailed : Edge → Edge → Type 0
 SourceFailed before after = HasRisen before.source.faults after.source.faults
@@ -29,7 +29,8 @@ OutFailed before after = HasRisen before.out.faults after.out.faults
 abbrev pub ErrFailed : Edge → Edge → Type 0
 ErrFailed before after = HasRisen before.err.faults after.err.faults
 
--- A status that names a fault is answered only where one happened in this call.
+-- A read fault is answered only where the source failed, and a write fault only where one of the sinks did. The other
+-- statuses have no such cause.
 abbrev pub IsCause : Status → Edge → Edge → Type 0
 IsCause ReadFault before after = SourceFailed before after
 IsCause WriteFault before after = OutFailed before after ⊎ ErrFailed before after
@@ -40,7 +41,7 @@ IsCause (Left count) before after = Unit {0}
 IsCause NoMemory before after = Unit {0}
 IsCause (BadFrames place fault) before after = Unit {0}
 
--- the same, and no count of faults ever falls
+-- the status has its cause, and no count of faults falls
 pub record HasCauses (status : Status) (before after : Edge) : Type 0 where
   pub source_never_falls : before.source.faults ≤ after.source.faults
   pub out_never_falls : before.out.faults ≤ after.out.faults
@@ -49,15 +50,15 @@ pub record HasCauses (status : Status) (before after : Edge) : Type 0 where
 
 -- ---- reading
 
--- a file is read to its end, or to the byte past the limit
+-- so many bytes of a file are read at most: as a scenario may have, and one more, which tells that it is too long
 abbrev pub read_limit : ℕ
 read_limit = MOST_BYTES + 1
 
--- the source stands in the file, or where it was before
+-- the file was never begun, and the source is as it was; or it was begun, and any prefix of it was read
 abbrev pub StandsSomewhere : List ℕ → SeenSource → SeenSource → Type 0
 StandsSomewhere file old new = IsWhereItWas old new ⊎ StandsIn file old new
 
--- what the source gave is the whole of the file, up to the byte past the limit
+-- what the source gave is the whole of the file, or its first bytes to the one past the limit
 pub record IsReadWhole (file : List ℕ) (old new : SeenSource) : Type 0 where
   pub stands : StandsIn file old new
   pub whole : IsReadUpTo read_limit new.given new

@@ -41,8 +41,9 @@ pub record IsListedInPart (file : List ℕ) (before after : Edge) : Type 0 where
 
 -- What `frames FILE` leaves, by what its work came to.
 -- Done: the file is frames and nothing else, and each has its line. BadFrames: each frame before the place has
--- its line, and there the file stops being frames for exactly the cause that the number says. With the others
--- a prefix of the lines was written. With Done, BadFrames and ReadFault all that was written is flushed.
+-- its line, and there the file stops being frames for exactly the cause that the number says. ReadFault,
+-- WriteFault and NoMemory: a prefix of the lines was written. With Done, BadFrames and ReadFault all that was
+-- written is flushed. It never comes to the statuses of a scenario.
 abbrev pub ListsFile : List ℕ → Status → Edge → Edge → Type 0
 ListsFile file Done before after = StandsIn file before.source after.source × Lists listing.Whole after.source before.out after.out × IsFlushed after.out
 ListsFile file (BadFrames place fault) before after =

@@ -9,3 +9,4 @@ pub mod Status
 pub mod Top
 pub mod Verdict
 pub mod Words
+pub mod Work

@@ -14,14 +14,14 @@ use Rattle.m2_cli.specs.declared.status.Status.TheVariants.{Done, Usage, BadScen
 use Rattle.m2_cli.specs.Edge.{Edge}
 use Rattle.m2_cli.specs.Verdict.{scenario_in}
 
--- the lines tell for each node what it heard: messages of its peers alone, and from each peer, of each key, a
--- prefix of what that peer posts
+-- the text tells for each node what it heard: messages of its peers alone, and from each peer, of each key, a
+-- prefix of what that peer posts to it
 pub record PrintsPrefixes (d : Draft) (heard : List (List Heard)) (text : List ℕ) : Type 0 where
   pub lines : text ≡ report_of false d.nodes heard
   pub peers : HearsPeers (length d.nodes) d.links heard
   pub prefixes : HearsPrefixes (map fast_of d.nodes) d.lines heard
 
--- the lines of all that was dispatched, and it is all that was posted
+-- the text is the lines of all that was dispatched, which is all that the scenario posts
 pub record KeepsAll (given : List ℕ) (text : List ℕ) : Type 0 where
   pub scenario : Draft
   pub read : scenario_in given ≡ Ok scenario
@@ -29,7 +29,7 @@ pub record KeepsAll (given : List ℕ) (text : List ℕ) : Type 0 where
   pub prints : PrintsPrefixes scenario heard text
   pub all : HearsAll (map fast_of scenario.nodes) scenario.lines heard
 
--- the lines of all that was dispatched, and the rest of the posts is left
+-- the text is the lines of all that was dispatched, and so many posts are left
 pub record KeepsPrefixes (given : List ℕ) (text : List ℕ) (count : ℕ) : Type 0 where
   pub scenario : Draft
   pub read : scenario_in given ≡ Ok scenario
@@ -37,7 +37,8 @@ pub record KeepsPrefixes (given : List ℕ) (text : List ℕ) (count : ℕ) : Ty
   pub prints : PrintsPrefixes scenario heard text
   pub counted : AreThePosts scenario.lines heard count
 
--- By what is answered. Done: all is printed. Left: all but so many. WriteFault: a prefix of such lines, or nothing.
+-- By what is answered. Done: all that the file posts is printed. Left: all but so many. WriteFault: a prefix of such
+-- lines, or nothing. The others are not about order: with them nothing is printed, as `RunsFile` says.
 abbrev pub KeepsOrder : Status → Edge → Edge → Type 0
 KeepsOrder Done before after = (text : List ℕ) × KeepsAll after.source.given text × TakesBytes text before.out after.out
 KeepsOrder (Left count) before after =

@@ -1,4 +1,4 @@
--- Writing a text and saying a status.
+-- Printing a report on standard output, and saying a status on standard error.
 use Rattle.std.specs.Prelude.{◌≡◌, ◌≢◌, ◌⊎◌, List, ℕ, [], Result, Ok, Err}
 use Rattle.m2_edge.specs.Faults.{HasRisen}
 use Rattle.m2_edge.specs.Sink.{SeenSink, TakesBytes, TakesPrefix, IsFlushed}
@@ -14,12 +14,12 @@ pub record Delivers (text : List ℕ) (old new : SeenSink) : Type 0 where
   pub flushed : text ≢ [] → IsFlushed new
   pub untouched : text ≡ [] → new ≡ old
 
--- the same, or a prefix was taken
+-- Ok: the text was taken whole, and flushed. Err: a prefix of it was taken.
 abbrev pub DeliversText : Result (Unit {0}) Failed → List ℕ → SeenSink → SeenSink → Type 0
 DeliversText (Ok _) text old new = Delivers text old new
 DeliversText (Err _) text old new = TakesPrefix text old new
 
--- what is answered where the line of a status couldn't be said
+-- what is answered where standard error refused the line of a status
 abbrev pub unsaid : Status → Status
 unsaid Done = WriteFault
 unsaid Usage = WriteFault
@@ -41,7 +41,8 @@ pub record IsRefused (work answered : Status) (old new : SeenSink) : Type 0 wher
   pub failed : HasRisen old.faults new.faults
   pub line : TakesPrefix (line_of work) old new
 
--- How what the work came to was said and answered: where standard error refused nothing, its whole line was said.
+-- How what the work came to was said and answered. Either its whole line stands on standard error and the work's
+-- status is answered, or standard error failed, has a prefix of that line, and `unsaid` is answered.
 abbrev pub SaysStatus : Status → Status → SeenSink → SeenSink → Type 0
 SaysStatus work answered old new = IsSaid work answered old new ⊎ IsRefused work answered old new
 

@@ -1,4 +1,4 @@
--- What the program leaves, which begins with a source and sinks that nothing went through.
+-- What the program leaves. Its source and sinks are new, so what they gave and took is all of this one command.
 use Rattle.std.specs.Prelude.{◌≡◌, List, ℕ, Option}
 use Rattle.m2_edge.specs.Sink.{SeenSink}
 use Rattle.m2_edge.specs.Source.{SeenSource}
@@ -9,7 +9,8 @@ use Rattle.m2_cli.specs.Edge.{read_limit}
 use Rattle.m2_cli.specs.Verdict.{status_in, report_in}
 use Rattle.m2_cli.specs.Words.{Form, MatchForm}
 
--- standard output took exactly the report of all that the file gave, and passed it on
+-- the file was read whole and its scenario leaves nothing undelivered; standard output took exactly the report of
+-- what the file gave, and flushed it
 pub record PrintsTheReport (source : SeenSource) (out : SeenSink) : Type 0 where
   pub whole : IsReadUpTo read_limit source.given source
   pub done : status_in source.given ≡ Done

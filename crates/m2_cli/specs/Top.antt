@@ -32,8 +32,10 @@ pub record IsNotRun (file : List ℕ) (before after : Edge) : Type 0 where
   pub stands : StandsSomewhere file before.source after.source
   pub unprinted : after.out ≡ before.out
 
--- What `sim FILE` leaves. Done, Left and BadScenario are what the bytes come to that the source gave; the report of
--- bad ones is empty.
+-- What `sim FILE` leaves, by what its work came to.
+-- Done, Left and BadScenario: the file was read whole, its bytes come to exactly that, and their report was printed
+-- whole; a bad scenario's is empty. WriteFault: standard output failed, and has a prefix of the report. ReadFault and
+-- NoMemory: nothing was printed. It never comes to Usage or BadFrames.
 abbrev pub RunsFile : List ℕ → Status → Edge → Edge → Type 0
 RunsFile file Done before after = IsRunToEnd file Done before after
 RunsFile file (Left count) before after = IsRunToEnd file (Left count) before after
@@ -44,8 +46,9 @@ RunsFile file NoMemory before after = IsNotRun file before after
 RunsFile file Usage before after = ⊥
 RunsFile file (BadFrames place fault) before after = ⊥
 
--- What a call of these words leaves: its work came to something, which was said on standard error and answered; where
--- standard error refused it the answer is a write fault.
+-- What a call of these words leaves. Its work came to a status, whose line was said on standard error and which is
+-- answered; where standard error refused the line a write fault is answered, or NoMemory as before. What was read and
+-- printed goes by the form of the words.
 pub record Ends (form : Option Form) (answered : Status) (before after : Edge) : Type 0 where
   pub work : Status
   pub said : SaysStatus work answered before.err after.err

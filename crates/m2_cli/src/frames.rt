@@ -1,10 +1,9 @@
 //! `frames FILE`: each frame of a file on a line, and where and why the file stops being frames.
 
 ghost use Rattle.std.specs.Prelude.{◌≡◌, ◌≤◌};
-ghost use Rattle.m2_cli.specs.declared.status.Status.{Status};
-ghost use Rattle.m2_cli.specs.Edge.{HasCauses, edge};
+ghost use Rattle.m2_cli.specs.Edge.{edge};
 ghost use Rattle.m2_cli.specs.Frames.{ListsFile, number_of_fault, status_of_listing, IsPassedOn};
-ghost use Rattle.m2_cli.specs.Print.{SaysStatus};
+ghost use Rattle.m2_cli.specs.Work.{Works};
 
 use crate::print::say_made;
 use crate::status::Status;
@@ -21,11 +20,7 @@ pub(crate) fn frames<S: Source, O: Sink, E: Sink>(
     out: &mut O,
     err: &mut E,
 ) -> Status
-    ensures causes { HasCauses result (edge (S.seen src.old) (O.seen out.old) (E.seen err.old))
-        (edge (S.seen src.new) (O.seen out.new) (E.seen err.new)) }
-    ensures inputs { (S.seen src.new).inputs ≡ (S.seen src.old).inputs }
-    ensures ends { (work : Status) × SaysStatus work result (E.seen err.old) (E.seen err.new)
-        × ListsFile file.now work (edge (S.seen src.old) (O.seen out.old) (E.seen err.old))
+    ensures { Works (ListsFile file.now) result (edge (S.seen src.old) (O.seen out.old) (E.seen err.old))
         (edge (S.seen src.new) (O.seen out.new) (E.seen err.new)) }
 {
     let listing = list_frames(alloc, file, src, out);

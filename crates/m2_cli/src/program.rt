@@ -20,7 +20,7 @@ pub struct Ended<'a, R: Files, O, E> {
     pub err: StdSink<E>,
 }
 
-/// All that the program does: it reads files of the runtime, prints on `out` and says on `err`.
+/// All that the program does: [`msgr2`] over the files of the runtime, printing on `out` and saying on `err`.
 pub fn run_program<'a, R: Files, O: Write, E: Write>(
     alloc: Global,
     rt: &'a R,
@@ -28,6 +28,9 @@ pub fn run_program<'a, R: Files, O: Write, E: Write>(
     out: O,
     err: E,
 ) -> Ended<'a, R, O, E>
+    // Where `sim FILE` answers Done, `out` took exactly the report of what the file gave, and flushed it; the file was
+    // read to its end, or to the byte past the limit of a scenario. Nothing is said here of other statuses, nor of
+    // `frames`: that is in the contract of `msgr2`.
     ensures done { PrintsWhereDone (form_in (map string_bytes words.now)) result.status
         (⟦<StdSource<'a, R> as Source>⟧.seen result.source) (⟦<StdSink<O> as Sink>⟧.seen result.out) }
 {

@@ -1,12 +1,11 @@
 //! The top call.
 
 ghost use Rattle.std.specs.Prelude.{◌≡◌, map, string_bytes};
-ghost use Rattle.m2_cli.specs.declared.status.Status.{Status};
 ghost use Rattle.m2_cli.specs.Edge.{HasCauses, edge};
 ghost use Rattle.m2_cli.specs.Order.{KeepsOrder};
-ghost use Rattle.m2_cli.specs.Print.{SaysStatus};
 ghost use Rattle.m2_cli.specs.Top.{Ends, RunsFile};
 ghost use Rattle.m2_cli.specs.Words.{form_in, MatchForm};
+ghost use Rattle.m2_cli.specs.Work.{Works};
 
 use crate::frames::frames;
 use crate::print::{print, say_fixed};
@@ -33,19 +32,24 @@ pub fn msgr2<S: Source, O: Sink, E: Sink>(
     out: &mut O,
     err: &mut E,
 ) -> Status
-    // No count of faults falls, and a status that names a fault is answered only where one happened.
+    // A read fault or a write fault is answered only where one happened in this call: where the count of the
+    // source, or of one of the sinks, has risen. No count falls.
     ensures causes { HasCauses result (edge (S.seen src.old) (O.seen out.old) (E.seen err.old))
         (edge (S.seen src.new) (O.seen out.new) (E.seen err.new)) }
+    // No file's contents change.
     ensures inputs { (S.seen src.new).inputs ≡ (S.seen src.old).inputs }
-    // Words of no form change neither the source nor standard output.
+    // Words of no form touch neither the source nor standard output.
     ensures refuses { MatchForm (form_in (map string_bytes args.now)) ((src.new ≡ src.old) × (out.new ≡ out.old))
         (λ _. Unit {0}) (λ _. Unit {0}) }
-    // What the work came to, by the form of the words; its line on standard error; and what is answered.
+    // By the form of the words: how much of the file was read, what of its report was printed, which line was said
+    // on standard error, and which status is answered. `RunsFile` says it for each status of `sim`, and `ListsFile`
+    // for each of `frames`.
     ensures ends { Ends (form_in (map string_bytes args.now)) result
         (edge (S.seen src.old) (O.seen out.old) (E.seen err.old)) (edge (S.seen src.new) (O.seen out.new) (E.seen err.new)) }
-    // The headline of `sim`: of each two nodes, and of each priority and dispatch path, the messages that are
-    // printed as dispatched at the one from the other are a prefix of those that the file posts, in order, each
-    // once; with Done they are all of them. With WriteFault a prefix of such lines was printed.
+    // The headline of `sim`, of what the file gave and what was printed. For each two nodes, each priority and each
+    // dispatch path: the messages printed as dispatched at the one from the other are a prefix of those that the
+    // file posts, in order, each once. With Done they are all of them; with Left so many are missing. With WriteFault
+    // a prefix of such lines was printed, or nothing.
     ensures order { MatchForm (form_in (map string_bytes args.now)) (Unit {0})
         (λ _. KeepsOrder result (edge (S.seen src.old) (O.seen out.old) (E.seen err.old))
         (edge (S.seen src.new) (O.seen out.new) (E.seen err.new)))
@@ -58,7 +62,7 @@ pub fn msgr2<S: Source, O: Sink, E: Sink>(
     }
 }
 
-/// Runs the scenario of a file.
+/// Reads the scenario of a file, runs it, and prints its report.
 fn sim<S: Source, O: Sink, E: Sink>(
     alloc: Global,
     file: &str,
@@ -66,11 +70,7 @@ fn sim<S: Source, O: Sink, E: Sink>(
     out: &mut O,
     err: &mut E,
 ) -> Status
-    ensures causes { HasCauses result (edge (S.seen src.old) (O.seen out.old) (E.seen err.old))
-        (edge (S.seen src.new) (O.seen out.new) (E.seen err.new)) }
-    ensures inputs { (S.seen src.new).inputs ≡ (S.seen src.old).inputs }
-    ensures ends { (work : Status) × SaysStatus work result (E.seen err.old) (E.seen err.new)
-        × RunsFile file.now work (edge (S.seen src.old) (O.seen out.old) (E.seen err.old))
+    ensures works { Works (RunsFile file.now) result (edge (S.seen src.old) (O.seen out.old) (E.seen err.old))
         (edge (S.seen src.new) (O.seen out.new) (E.seen err.new)) }
     ensures order { KeepsOrder result (edge (S.seen src.old) (O.seen out.old) (E.seen err.old))
         (edge (S.seen src.new) (O.seen out.new) (E.seen err.new)) }

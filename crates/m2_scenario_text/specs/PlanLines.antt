@@ -66,14 +66,18 @@ post_line d ws = do
   _ ← check kind.Limit (nat_lt (count_by is_post d.lines) MOST_POSTS)
   Ok (with_line d (post pair.0 pair.1 message))
 
+-- the nodes of a line that names two and nothing else
+unfoldable pub nodes_alone : Draft → List Word → Result (ℕ × ℕ) Kind
+nodes_alone d ws = do
+  _ ← check kind.Words (length ws == 2)
+  planned_pair d (word ws 0) (word ws 1)
+
 unfoldable pub dial_line : Draft → List Word → Result Draft Kind
 dial_line d ws = do
-  _ ← check kind.Words (length ws == 2)
-  pair ← planned_pair d (word ws 0) (word ws 1)
+  pair ← nodes_alone d ws
   Ok (with_line d (dial pair.0 pair.1))
 
 unfoldable pub down_line : Draft → List Word → Result Draft Kind
 down_line d ws = do
-  _ ← check kind.Words (length ws == 2)
-  pair ← planned_pair d (word ws 0) (word ws 1)
+  pair ← nodes_alone d ws
   Ok (with_line d (down pair.0 pair.1))

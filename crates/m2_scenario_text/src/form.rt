@@ -4,6 +4,9 @@ ghost use Rattle.std.specs.Prelude.{◌≡◌};
 ghost use Rattle.m2_scenario_text.specs.Form.{form_of, first_words_of, has};
 
 use crate::first_word::FirstWord;
+use crate::first_word::FirstWord::{
+    Cut, Dial, Down, Fault, Flow, Limit, Link, Node, Off, Post, Settle, Turn,
+};
 
 /// For what a scenario file is written, which says with which first words its lines may begin. A
 /// form more is a variant more, with its list of first words.
@@ -26,28 +29,8 @@ impl Form {
         ensures { result.now ≡ first_words_of self }
     {
         match self {
-            Form::Sim => &[
-                FirstWord::Node,
-                FirstWord::Link,
-                FirstWord::Post,
-                FirstWord::Dial,
-                FirstWord::Down,
-                FirstWord::Cut,
-                FirstWord::Turn,
-                FirstWord::Flow,
-                FirstWord::Fault,
-                FirstWord::Settle,
-            ],
-            Form::Run => &[
-                FirstWord::Node,
-                FirstWord::Link,
-                FirstWord::Post,
-                FirstWord::Dial,
-                FirstWord::Down,
-                FirstWord::Cut,
-                FirstWord::Off,
-                FirstWord::Limit,
-            ],
+            Form::Sim => &[Node, Link, Post, Dial, Down, Cut, Turn, Flow, Fault, Settle],
+            Form::Run => &[Node, Link, Post, Dial, Down, Cut, Off, Limit],
         }
     }
 

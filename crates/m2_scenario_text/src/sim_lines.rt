@@ -41,10 +41,9 @@ pub(crate) fn cut_line(draft: &mut Draft, mut words: Words<'_>) -> Result<(), Li
     ensures { Takes result (cut_line draft.old words.entry) draft.new }
 {
     check(Kind::Words, words.len() == 3)?;
-    let first = words.take();
-    let second = words.take();
+    let nodes = pair(draft, &mut words);
     let bytes = read_number(Kind::Number, 0, u64::MAX, words.take())?;
-    let (a, b) = pair(draft, first, second)?;
+    let (a, b) = nodes?;
     check(Kind::Limit, bytes <= MOST_BYTES_BEFORE_CUT)?;
     check(Kind::Limit, draft.cuts() < MOST_CUTS)?;
     draft.push_line(Line::Cut { a, b, bytes })?;
@@ -68,10 +67,9 @@ pub(crate) fn flow_line(draft: &mut Draft, mut words: Words<'_>) -> Result<(), L
 {
     let count = words.len();
     check(Kind::Words, count == 2 || count == 4)?;
-    let first = words.take();
-    let second = words.take();
+    let nodes = pair(draft, &mut words);
     let (socket, most) = flow_of(words)?;
-    let (a, b) = pair(draft, first, second)?;
+    let (a, b) = nodes?;
     draft.push_line(Line::Flow { a, b, socket, most })?;
     Ok(())
 }
@@ -83,10 +81,9 @@ pub(crate) fn fault_line(draft: &mut Draft, mut words: Words<'_>) -> Result<(), 
 {
     let count = words.len();
     check(Kind::Words, count == 2 || count == 3)?;
-    let first = words.take();
-    let second = words.take();
+    let nodes = pair(draft, &mut words);
     let socket = fault_of(words)?;
-    let (a, b) = pair(draft, first, second)?;
+    let (a, b) = nodes?;
     check(Kind::Limit, draft.faults() < MOST_FAULTS)?;
     draft.push_line(Line::Fault { a, b, socket })?;
     Ok(())

@@ -5,25 +5,24 @@ use Rattle.m2_cli.proofs.Says.{said_caused}
 use Rattle.m2_cli.proofs.Tops.{runs_printed, run_caused}
 use Rattle.m2_cli.proofs.top.sim.Goals as goal
 
-pub returns-in-Ok-clause-causes : goal.returns-in-Ok-clause-causes
-returns-in-Ok-clause-causes g c =
+pub returns-in-Ok-clause-works : goal.returns-in-Ok-clause-works
+returns-in-Ok-clause-works g c =
     let before : Edge = edge (g.S.Source.seen c.args.src.now) (g.O.Sink.seen c.args.out.now) (g.E.Sink.seen c.args.err.now) in
     let after : Edge = edge (g.S.Source.seen c.prepare_file.new.src) (g.O.Sink.seen c.print.new.out) (g.E.Sink.seen c.print.new.err) in
     let prints = c.print.ensures.prints in
+    let runs = runs_printed c.in-Ok.printout prints.0 c.args.file.now before after c.in-Ok.ensures.prepares prints.1 in
     record {
-      source_never_falls = c.in-Ok.ensures.causes.never_falls;
-      out_never_falls = c.print.ensures.out_never_falls;
-      err_never_falls = c.print.ensures.err_never_falls;
-      cause = said_caused prints.0 c.print.result before after
-          (run_caused prints.0 c.args.file.now before after (runs_printed c.in-Ok.printout prints.0 c.args.file.now before after c.in-Ok.ensures.prepares prints.1)) prints.2;
+      causes = record {
+        source_never_falls = c.in-Ok.ensures.causes.never_falls;
+        out_never_falls = c.print.ensures.out_never_falls;
+        err_never_falls = c.print.ensures.err_never_falls;
+        cause = said_caused prints.0 c.print.result before after (run_caused prints.0 c.args.file.now before after runs) prints.2;
+      };
+      inputs = c.in-Ok.ensures.inputs;
+      work = prints.0;
+      said = prints.2;
+      left = runs;
     }
-
-pub returns-in-Ok-clause-ends : goal.returns-in-Ok-clause-ends
-returns-in-Ok-clause-ends g c =
-    let before : Edge = edge (g.S.Source.seen c.args.src.now) (g.O.Sink.seen c.args.out.now) (g.E.Sink.seen c.args.err.now) in
-    let after : Edge = edge (g.S.Source.seen c.prepare_file.new.src) (g.O.Sink.seen c.print.new.out) (g.E.Sink.seen c.print.new.err) in
-    let prints = c.print.ensures.prints in
-    (prints.0, prints.2, runs_printed c.in-Ok.printout prints.0 c.args.file.now before after c.in-Ok.ensures.prepares prints.1)
 
 pub returns-in-Ok-clause-order : goal.returns-in-Ok-clause-order
 returns-in-Ok-clause-order g c =
