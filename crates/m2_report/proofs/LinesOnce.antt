@@ -118,7 +118,7 @@ line_once again names telling node plain (message p k a m) (message q l b n) x y
     let other = message_shape node (word names q) l n s in
     let second = second_once node (codes "from") (codes "from") _ _ plain plain_from plain_from (sym one ∙ e ∙ other) in
     let words = message_once again (word names p) (word names q) (message_of k m) (message_of l n) r s
-        (telling.plain p x.peer) (telling.plain q y.peer) x.fits y.fits second.1 in
+    (telling.plain p x.peer) (telling.plain q y.peer) x.fits y.fits second.1 in
     let peer = telling.once p q x.peer y.peer words.0 in
     (ap (λ w. printed_message w (message_of k m)) peer ∙ ap (printed_message q) words.1, words.2)
 line_once again names telling node plain (message p k a m) (reset q) x y r s e =
