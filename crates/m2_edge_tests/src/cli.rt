@@ -1,5 +1,6 @@
 //! Scenarios from the manual, and what no clause says: that calls succeed with ample memory.
 
+use crate::texts::WAIT;
 use m2_bytes::{Blob, Items};
 use m2_cli::{Status, msgr2};
 use m2_edge::{CallList, Input, InputList, MemSink, MemSource};
@@ -9,12 +10,6 @@ use std::test::Fail;
 
 const PAIR: &str =
     "node a osd 127.0.0.1:7001/1\nnode b osd 127.0.0.1:7002/2\nlink a b lossless_peer lossless_peer\n";
-
-/// The text of one WAIT frame.
-const WAIT: [u8; 32] = [
-    0x10, 0x01, 0x00, 0x00, 0x00, 0x00, 0x08, 0x00, 0x00, 0x00, 0x00, 0x00, 0x00, 0x00, 0x00, 0x00,
-    0x00, 0x00, 0x00, 0x00, 0x00, 0x00, 0x00, 0x00, 0x00, 0x00, 0x00, 0x00, 0xc8, 0xe3, 0xaa, 0xb0,
-];
 
 /// What a command ended with, printed and said.
 struct Seen {
@@ -36,6 +31,11 @@ fn run_over(
         bytes.push_all(part.as_bytes())?;
     }
     run_on(alloc, words, bytes, src_fails, out_fails)
+}
+
+/// Runs `sim` over one file named `f`, where nothing fails.
+fn sim(alloc: Global, file: &[&str]) -> Result<Seen, Fail> {
+    run_over(alloc, &["sim", "f"], file, &[], &[])
 }
 
 /// Runs `frames` over two pieces in a file named `f`.
@@ -87,13 +87,18 @@ fn expect(rt: &impl Abort, seen: Seen, status: Status, out: &[u8], err: &[u8]) {
     } = seen;
 }
 
+/// Nothing was printed, and this line was named.
+fn expect_bad(rt: &impl Abort, seen: Seen, line: u32, kind: u8, said: &[u8]) {
+    expect(rt, seen, Status::BadScenario { line, kind }, b"", said);
+}
+
 #[test]
 fn posts_are_dispatched_once_flowed(rt: HostRuntime) -> Result<(), Fail> {
     let alloc = rt.alloc();
     let post = "post a b 7 127 616263 - -\n";
-    let unsettled = run_over(alloc, &["sim", "f"], &[PAIR, post], &[], &[])?;
+    let unsettled = sim(alloc, &[PAIR, post])?;
     expect(&rt, unsettled, Status::Left { count: 1 }, b"", b"left: 1\n");
-    let settled = run_over(alloc, &["sim", "f"], &[PAIR, post, "settle 12\n"], &[], &[])?;
+    let settled = sim(alloc, &[PAIR, post, "settle 12\n"])?;
     let line = b"b from a 127 queued 7 616263 - -\n";
     expect(&rt, settled, Status::Done, line, b"");
     Ok(())
@@ -102,7 +107,7 @@ fn posts_are_dispatched_once_flowed(rt: HostRuntime) -> Result<(), Fail> {
 #[test]
 fn a_fault_between_two_posts_loses_and_doubles_nothing(rt: HostRuntime) -> Result<(), Fail> {
     let steps = "post a b 1 127 61 - -\nturn a\nfault a b\npost a b 1 127 62 - -\nsettle 24\n";
-    let both = run_over(rt.alloc(), &["sim", "f"], &[PAIR, steps], &[], &[])?;
+    let both = sim(rt.alloc(), &[PAIR, steps])?;
     let lines = b"b from a 127 queued 1 61 - -\nb from a 127 queued 1 62 - -\n";
     expect(&rt, both, Status::Done, lines, b"");
     Ok(())
@@ -111,11 +116,10 @@ fn a_fault_between_two_posts_loses_and_doubles_nothing(rt: HostRuntime) -> Resul
 #[test]
 fn an_empty_file_is_done_and_a_bad_line_is_named(rt: HostRuntime) -> Result<(), Fail> {
     let alloc = rt.alloc();
-    let empty = run_over(alloc, &["sim", "f"], &[], &[], &[])?;
+    let empty = sim(alloc, &[])?;
     expect(&rt, empty, Status::Done, b"", b"");
-    let bad = run_over(alloc, &["sim", "f"], &["turn z"], &[], &[])?;
-    let status = Status::BadScenario { line: 1, kind: 5 };
-    expect(&rt, bad, status, b"", b"bad scenario: line 1 kind 5\n");
+    let bad = sim(alloc, &["turn z"])?;
+    expect_bad(&rt, bad, 1, 5, b"bad scenario: line 1 kind 5\n");
     Ok(())
 }
 
@@ -128,22 +132,10 @@ fn a_fast_message_overtakes_only_in_one_turn(rt: HostRuntime) -> Result<(), Fail
     let high = "post a b 1 255 62 - -\n";
     let high_first = b"b from a 255 fast 1 62 - -\nb from a 64 fast 1 61 - -\n";
     let low_first = b"b from a 64 fast 1 61 - -\nb from a 255 fast 1 62 - -\n";
-    let together = run_over(
-        alloc,
-        &["sim", "f"],
-        &[nodes, low, high, "settle 16\n"],
-        &[],
-        &[],
-    )?;
+    let together = sim(alloc, &[nodes, low, high, "settle 16\n"])?;
     expect(&rt, together, Status::Done, high_first, b"");
     let broken = "turn a\nfault a b\n";
-    let resent = run_over(
-        alloc,
-        &["sim", "f"],
-        &[nodes, low, broken, high, "settle 16\n"],
-        &[],
-        &[],
-    )?;
+    let resent = sim(alloc, &[nodes, low, broken, high, "settle 16\n"])?;
     expect(&rt, resent, Status::Done, low_first, b"");
     Ok(())
 }
@@ -151,7 +143,6 @@ fn a_fast_message_overtakes_only_in_one_turn(rt: HostRuntime) -> Result<(), Fail
 #[test]
 fn what_sim_cannot_run_is_refused_where_nothing_else_is_bad(rt: HostRuntime) -> Result<(), Fail> {
     let alloc = rt.alloc();
-    let status = Status::BadScenario { line: 4, kind: 13 };
     let said = b"bad scenario: line 4 kind 13\n";
     for line in [
         "dial a b\n",
@@ -163,22 +154,14 @@ fn what_sim_cannot_run_is_refused_where_nothing_else_is_bad(rt: HostRuntime) -> 
         "node c osd 127.0.0.1:7003/3 supports 1\n",
         "node c osd 127.0.0.1:7003/3 centers 2 requires 1\n",
     ] {
-        let seen = run_over(alloc, &["sim", "f"], &[PAIR, line], &[], &[])?;
-        expect(&rt, seen, status, b"", said);
+        let seen = sim(alloc, &[PAIR, line])?;
+        expect_bad(&rt, seen, 4, 13, said);
     }
     let client = "node c client 127.0.0.1:7003/3\nlink c a lossless_client stateful_server\n";
-    let seen = run_over(alloc, &["sim", "f"], &[PAIR, client], &[], &[])?;
-    let status = Status::BadScenario { line: 5, kind: 13 };
-    expect(&rt, seen, status, b"", b"bad scenario: line 5 kind 13\n");
-    let other = run_over(
-        alloc,
-        &["sim", "f"],
-        &[PAIR, "dial a b\nsettle 0\n"],
-        &[],
-        &[],
-    )?;
-    let status = Status::BadScenario { line: 5, kind: 3 };
-    expect(&rt, other, status, b"", b"bad scenario: line 5 kind 3\n");
+    let seen = sim(alloc, &[PAIR, client])?;
+    expect_bad(&rt, seen, 5, 13, b"bad scenario: line 5 kind 13\n");
+    let other = sim(alloc, &[PAIR, "dial a b\nsettle 0\n"])?;
+    expect_bad(&rt, other, 5, 3, b"bad scenario: line 5 kind 3\n");
     Ok(())
 }
 
@@ -222,14 +205,12 @@ fn a_failed_flush_is_a_write_fault_though_all_was_taken(rt: HostRuntime) -> Resu
 fn words_of_another_form_are_refused(rt: HostRuntime) -> Result<(), Fail> {
     let alloc = rt.alloc();
     let usage = b"usage: msgr2 sim FILE or run FILE or frames FILE or load N SEED\n";
-    let none = run_over(alloc, &[], &[], &[], &[])?;
-    expect(&rt, none, Status::Usage, b"", usage);
-    let option = run_over(alloc, &["sim", "-x"], &[], &[], &[])?;
-    expect(&rt, option, Status::Usage, b"", usage);
-    let verb = run_over(alloc, &["walk", "f"], &[], &[], &[])?;
-    expect(&rt, verb, Status::Usage, b"", usage);
-    let alone = run_over(alloc, &["frames"], &[], &[], &[])?;
-    expect(&rt, alone, Status::Usage, b"", usage);
+    let none: [&str; 0] = [];
+    let refused: [&[&str]; 4] = [&none, &["sim", "-x"], &["walk", "f"], &["frames"]];
+    for words in refused {
+        let seen = run_over(alloc, words, &[], &[], &[])?;
+        expect(&rt, seen, Status::Usage, b"", usage);
+    }
     let dashes = run_over(alloc, &["sim", "--", "f"], &[], &[], &[])?;
     expect(&rt, dashes, Status::Done, b"", b"");
     let hidden = run_over(alloc, &["--", "sim", "-x"], &[], &[], &[])?;

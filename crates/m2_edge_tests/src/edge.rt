@@ -7,6 +7,7 @@ use m2_edge::{
 };
 use std::alloc::Global;
 use std::fs;
+use std::process::Abort;
 use std::test::Fail;
 
 fn calls(alloc: Global, numbers: &[u64]) -> Result<CallList, Fail> {
@@ -51,11 +52,16 @@ fn a_listed_call_and_an_unknown_name_fail(rt: HostRuntime) -> Result<(), Fail> {
     Ok(())
 }
 
-#[test]
-fn a_sink_in_memory_keeps_what_it_took(rt: HostRuntime) -> Result<(), Fail> {
-    let alloc = rt.alloc();
+/// A sink in memory whose second call fails, and which took `kept` at its first.
+fn sink_of_one(rt: &impl Abort, alloc: Global) -> Result<MemSink, Fail> {
     let mut sink = MemSink::new(alloc, calls(alloc, &[2])?);
     assert_eq!(rt; write_whole(&mut sink, b"kept"), Ok(()));
+    Ok(sink)
+}
+
+#[test]
+fn a_sink_in_memory_keeps_what_it_took(rt: HostRuntime) -> Result<(), Fail> {
+    let mut sink = sink_of_one(&rt, rt.alloc())?;
     assert_eq!(rt; write_whole(&mut sink, b"lost"), Err(Failed));
     assert_eq!(rt; sink.flush(), Ok(()));
     assert_eq!(rt; sink.bytes(), b"kept".as_slice());
@@ -64,9 +70,7 @@ fn a_sink_in_memory_keeps_what_it_took(rt: HostRuntime) -> Result<(), Fail> {
 
 #[test]
 fn a_flush_that_fails_keeps_what_was_taken(rt: HostRuntime) -> Result<(), Fail> {
-    let alloc = rt.alloc();
-    let mut sink = MemSink::new(alloc, calls(alloc, &[2])?);
-    assert_eq!(rt; write_whole(&mut sink, b"kept"), Ok(()));
+    let mut sink = sink_of_one(&rt, rt.alloc())?;
     assert_eq!(rt; sink.flush(), Err(Failed));
     assert_eq!(rt; sink.bytes(), b"kept".as_slice());
     assert_eq!(rt; sink.flush(), Ok(()));

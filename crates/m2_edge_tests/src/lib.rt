@@ -10,3 +10,5 @@ mod cli;
 mod edge;
 #[cfg(test)]
 mod listing;
+#[cfg(test)]
+mod texts;
