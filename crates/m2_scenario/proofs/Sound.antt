@@ -1,8 +1,7 @@
 -- A valid scenario stays valid with one node, link or line more.
-use Rattle.std.proofs.Common.{◌≡◌, ◌==◌, ◌<◌, ◌≤◌, ℕ, zero, suc, Bool, true, false, ◌&&◌, ◌||◌, List, [], ◌∷◌, ◌++◌, length, get_or, refl, sym, ap, cond, eqb, subst, Result, Ok, Err, MatchResult, ◌∙◌, arith, length-append, count_by, sum_by}
+use Rattle.std.proofs.Common.{◌≡◌, ◌==◌, ◌<◌, ◌≤◌, ℕ, zero, suc, Bool, true, false, ◌&&◌, ◌||◌, List, [], ◌∷◌, ◌++◌, length, get_or, refl, sym, ap, eqb, subst, Result, Ok, Err, MatchResult, ◌∙◌, arith, length-append}
 use Rattle.std.specs.List.{list_any, AllByRecursion}
 use Rattle.std.specs.Str.{bytes_eq}
-use Rattle.std.proofs.lemmas.List.Sums.{sum_by-append}
 use Rattle.std.proofs.lemmas.List.Folds.{list_any-append}
 use Rattle.std.proofs.lemmas.List.Elements.{All-push, All-weaker, recursion_from_All}
 use Rattle.std.proofs.lemmas.List.Quantifiers.{all_pairs_push}
@@ -10,52 +9,26 @@ use Rattle.std.proofs.lemmas.Bool.{eqb-true, and_parts}
 use Rattle.std.proofs.lemmas.Slice.Eq.{bytes_eq-Decides}
 use Rattle.m2_scenario.specs.declared.node.Node.{Node}
 use Rattle.m2_scenario.specs.declared.link.Link.{Link}
-use Rattle.m2_scenario.specs.declared.limits.TheConstants.{MOST_NODES, MOST_LINKS, MOST_POSTS, MOST_CUTS, MOST_FAULTS, MOST_ROUNDS}
-use Rattle.m2_scenario.specs.Draft.{DraftLine, joins, are_joined, is_named, is_at, without, is_post, is_cut, is_fault, rounds_of, post, dial, down, cut, turn, flow, fault, settle}
-use Rattle.m2_scenario.specs.Plan.{HasRoom, IsAmong}
+use Rattle.m2_scenario.specs.declared.limits.TheConstants.{MOST_NODES, MOST_LINKS}
+use Rattle.m2_scenario.specs.Draft.{DraftLine, joins, are_joined, is_named, is_at, without, post, dial, down, cut, turn, flow, fault, settle}
+use Rattle.m2_scenario.specs.declared.counts.Counts.{Counts}
+use Rattle.m2_scenario.specs.Counts.{counts_of, with_one_more, AreWithin, Permit}
+use Rattle.m2_scenario.specs.Plan.{IsAmong}
+use Rattle.m2_scenario.proofs.Counted.{counts_more}
 use Rattle.m2_scenario.specs.Valid.{IsSound, IsLine, IsLink, JoinOthers, HasCenters, AreApart}
 
-posts_kept : (lines : List DraftLine) (l : DraftLine) → count_by is_post lines ≤ MOST_POSTS → HasRoom lines l → count_by is_post (lines ++ l ∷ []) ≤ MOST_POSTS
-posts_kept lines (post a b m) h room = omega (arith, sum_by-append (λ x. cond (is_post x) 1 0) lines (post a b m ∷ []), h, room)
-posts_kept lines (dial a b) h room = omega (arith, sum_by-append (λ x. cond (is_post x) 1 0) lines (dial a b ∷ []), h)
-posts_kept lines (down a b) h room = omega (arith, sum_by-append (λ x. cond (is_post x) 1 0) lines (down a b ∷ []), h)
-posts_kept lines (cut a b n) h room = omega (arith, sum_by-append (λ x. cond (is_post x) 1 0) lines (cut a b n ∷ []), h, room)
-posts_kept lines (turn a) h room = omega (arith, sum_by-append (λ x. cond (is_post x) 1 0) lines (turn a ∷ []), h)
-posts_kept lines (flow a b socket n) h room = omega (arith, sum_by-append (λ x. cond (is_post x) 1 0) lines (flow a b socket n ∷ []), h)
-posts_kept lines (fault a b socket) h room = omega (arith, sum_by-append (λ x. cond (is_post x) 1 0) lines (fault a b socket ∷ []), h, room)
-posts_kept lines (settle n) h room = omega (arith, sum_by-append (λ x. cond (is_post x) 1 0) lines (settle n ∷ []), h, room)
+-- counts stay within the limits with a line that these permit
+permitted : (c : Counts) (l : DraftLine) → AreWithin c → Permit c l → AreWithin (with_one_more c l)
+permitted c (post a b m) w room = record { posts = omega (arith, room); cuts = w.cuts; faults = w.faults; rounds = w.rounds }
+permitted c (cut a b n) w room = record { posts = w.posts; cuts = omega (arith, room); faults = w.faults; rounds = w.rounds }
+permitted c (fault a b s) w room = record { posts = w.posts; cuts = w.cuts; faults = omega (arith, room); rounds = w.rounds }
+permitted c (settle n) w room = record { posts = w.posts; cuts = w.cuts; faults = w.faults; rounds = room }
+permitted c (dial a b) w room = w
+permitted c (down a b) w room = w
+permitted c (turn a) w room = w
+permitted c (flow a b s n) w room = w
 
-cuts_kept : (lines : List DraftLine) (l : DraftLine) → count_by is_cut lines ≤ MOST_CUTS → HasRoom lines l → count_by is_cut (lines ++ l ∷ []) ≤ MOST_CUTS
-cuts_kept lines (post a b m) h room = omega (arith, sum_by-append (λ x. cond (is_cut x) 1 0) lines (post a b m ∷ []), h, room)
-cuts_kept lines (dial a b) h room = omega (arith, sum_by-append (λ x. cond (is_cut x) 1 0) lines (dial a b ∷ []), h)
-cuts_kept lines (down a b) h room = omega (arith, sum_by-append (λ x. cond (is_cut x) 1 0) lines (down a b ∷ []), h)
-cuts_kept lines (cut a b n) h room = omega (arith, sum_by-append (λ x. cond (is_cut x) 1 0) lines (cut a b n ∷ []), h, room)
-cuts_kept lines (turn a) h room = omega (arith, sum_by-append (λ x. cond (is_cut x) 1 0) lines (turn a ∷ []), h)
-cuts_kept lines (flow a b socket n) h room = omega (arith, sum_by-append (λ x. cond (is_cut x) 1 0) lines (flow a b socket n ∷ []), h)
-cuts_kept lines (fault a b socket) h room = omega (arith, sum_by-append (λ x. cond (is_cut x) 1 0) lines (fault a b socket ∷ []), h, room)
-cuts_kept lines (settle n) h room = omega (arith, sum_by-append (λ x. cond (is_cut x) 1 0) lines (settle n ∷ []), h, room)
-
-faults_kept : (lines : List DraftLine) (l : DraftLine) → count_by is_fault lines ≤ MOST_FAULTS → HasRoom lines l → count_by is_fault (lines ++ l ∷ []) ≤ MOST_FAULTS
-faults_kept lines (post a b m) h room = omega (arith, sum_by-append (λ x. cond (is_fault x) 1 0) lines (post a b m ∷ []), h, room)
-faults_kept lines (dial a b) h room = omega (arith, sum_by-append (λ x. cond (is_fault x) 1 0) lines (dial a b ∷ []), h)
-faults_kept lines (down a b) h room = omega (arith, sum_by-append (λ x. cond (is_fault x) 1 0) lines (down a b ∷ []), h)
-faults_kept lines (cut a b n) h room = omega (arith, sum_by-append (λ x. cond (is_fault x) 1 0) lines (cut a b n ∷ []), h, room)
-faults_kept lines (turn a) h room = omega (arith, sum_by-append (λ x. cond (is_fault x) 1 0) lines (turn a ∷ []), h)
-faults_kept lines (flow a b socket n) h room = omega (arith, sum_by-append (λ x. cond (is_fault x) 1 0) lines (flow a b socket n ∷ []), h)
-faults_kept lines (fault a b socket) h room = omega (arith, sum_by-append (λ x. cond (is_fault x) 1 0) lines (fault a b socket ∷ []), h, room)
-faults_kept lines (settle n) h room = omega (arith, sum_by-append (λ x. cond (is_fault x) 1 0) lines (settle n ∷ []), h, room)
-
-rounds_kept : (lines : List DraftLine) (l : DraftLine) → sum_by rounds_of lines ≤ MOST_ROUNDS → HasRoom lines l → sum_by rounds_of (lines ++ l ∷ []) ≤ MOST_ROUNDS
-rounds_kept lines (post a b m) h room = omega (arith, sum_by-append rounds_of lines (post a b m ∷ []), h, room)
-rounds_kept lines (dial a b) h room = omega (arith, sum_by-append rounds_of lines (dial a b ∷ []), h)
-rounds_kept lines (down a b) h room = omega (arith, sum_by-append rounds_of lines (down a b ∷ []), h)
-rounds_kept lines (cut a b n) h room = omega (arith, sum_by-append rounds_of lines (cut a b n ∷ []), h, room)
-rounds_kept lines (turn a) h room = omega (arith, sum_by-append rounds_of lines (turn a ∷ []), h)
-rounds_kept lines (flow a b socket n) h room = omega (arith, sum_by-append rounds_of lines (flow a b socket n ∷ []), h)
-rounds_kept lines (fault a b socket) h room = omega (arith, sum_by-append rounds_of lines (fault a b socket ∷ []), h, room)
-rounds_kept lines (settle n) h room = omega (arith, sum_by-append rounds_of lines (settle n ∷ []), h, room)
-
-pub line_kept : (nodes : List Node) (links : List Link) (lines : List DraftLine) (l : DraftLine) → IsSound nodes links lines → IsLine (length nodes) links l → HasRoom lines l → IsSound nodes links (lines ++ l ∷ [])
+pub line_kept : (nodes : List Node) (links : List Link) (lines : List DraftLine) (l : DraftLine) → IsSound nodes links lines → IsLine (length nodes) links l → Permit (counts_of lines) l → IsSound nodes links (lines ++ l ∷ [])
 line_kept nodes links lines l s fits room = record {
   few_nodes = s.few_nodes;
   few_links = s.few_links;
@@ -64,10 +37,7 @@ line_kept nodes links lines l s fits room = record {
   joined = s.joined;
   joined_once = s.joined_once;
   in_place = All-push (IsLine (length nodes) links) lines l s.in_place fits;
-  posts = posts_kept lines l s.posts room;
-  cuts = cuts_kept lines l s.cuts room;
-  faults = faults_kept lines l s.faults room;
-  rounds = rounds_kept lines l s.rounds room;
+  within = rw (counts_more lines l) (permitted (counts_of lines) l s.within room);
 }
 
 or_first : (a b : Bool) → (a || b) ≡ false → a ≡ false
@@ -106,10 +76,7 @@ link_kept nodes links lines l s room fits first = record {
   joined = All-push (IsLink (length nodes)) links l s.joined fits;
   joined_once = all_pairs_push JoinOthers links l s.joined_once (none_at (joins l.a l.b) links first);
   in_place = All-weaker (IsLine (length nodes) links) (IsLine (length nodes) (links ++ l ∷ [])) (more_links (length nodes) links l) lines s.in_place;
-  posts = s.posts;
-  cuts = s.cuts;
-  faults = s.faults;
-  rounds = s.rounds;
+  within = s.within;
 }
 
 link_among_more : (m n : ℕ) → m ≤ n → (l : Link) → IsLink m l → IsLink n l
@@ -149,10 +116,7 @@ node_kept nodes links lines n s room centers names sockets =
       joined = All-weaker (IsLink (length nodes)) (IsLink (length (nodes ++ n ∷ []))) (link_among_more (length nodes) (length (nodes ++ n ∷ [])) more) links s.joined;
       joined_once = s.joined_once;
       in_place = All-weaker (IsLine (length nodes) links) (IsLine (length (nodes ++ n ∷ [])) links) (line_among_more (length nodes) (length (nodes ++ n ∷ [])) more links) lines s.in_place;
-      posts = s.posts;
-      cuts = s.cuts;
-      faults = s.faults;
-      rounds = s.rounds;
+      within = s.within;
     }
 
 -- a node that isn't started is as it was in all else
@@ -193,10 +157,7 @@ start_kept nodes links lines a s =
       joined = rw same s.joined;
       joined_once = s.joined_once;
       in_place = rw same s.in_place;
-      posts = s.posts;
-      cuts = s.cuts;
-      faults = s.faults;
-      rounds = s.rounds;
+      within = s.within;
     }
 
 -- whoever is joined to another is a node
@@ -233,10 +194,7 @@ nothing_sound nodes links lines e f g = rw (e, f, g) (record {
   joined = λ k d h. absurd (omega (arith, h));
   joined_once = λ i j d h k. absurd (omega (arith, k));
   in_place = λ k d h. absurd (omega (arith, h));
-  posts = omega arith;
-  cuts = omega arith;
-  faults = omega arith;
-  rounds = omega arith;
+  within = record { posts = omega arith; cuts = omega arith; faults = omega arith; rounds = omega arith };
 })
 
 -- what holds of what was there, and of what a push makes of it, holds however the push ends

@@ -3,4 +3,4 @@ pub mod Plan
 pub mod Valid
 pub mod NodeTable
 pub mod Link
-pub mod LineCounts
+pub mod Counts

@@ -1,11 +1,12 @@
 -- When a scenario is valid.
-use Rattle.std.specs.Prelude.{◌≡◌, ◌≢◌, ℕ, ◌<◌, ◌≤◌, nat_le, Bool, ◌&&◌, true, false, List, length, map, count_by, sum_by, All, AllPairs}
+use Rattle.std.specs.Prelude.{◌≡◌, ◌≢◌, ℕ, ◌<◌, ◌≤◌, nat_le, Bool, ◌&&◌, true, false, List, length, map, All, AllPairs}
 use Rattle.m2_policy.specs.Policy.{allows}
 use Rattle.m2_scenario.specs.declared.node.Node.{Node}
 use Rattle.m2_scenario.specs.declared.link.Link.{Link}
-use Rattle.m2_scenario.specs.declared.limits.TheConstants.{MOST_NODES, MOST_LINKS, MOST_CENTERS, MOST_POSTS, MOST_PART_BYTES, MOST_CUTS, MOST_BYTES_BEFORE_CUT, MOST_FAULTS, MOST_ROUNDS}
+use Rattle.m2_scenario.specs.declared.limits.TheConstants.{MOST_NODES, MOST_LINKS, MOST_CENTERS, MOST_PART_BYTES, MOST_BYTES_BEFORE_CUT}
 use Rattle.m2_scenario.specs.declared.scenario.Scenario.{Scenario}
-use Rattle.m2_scenario.specs.Draft.{DraftLine, draft_line, joins, are_joined, is_post, is_cut, is_fault, rounds_of, post, dial, down, cut, turn, flow, fault, settle}
+use Rattle.m2_scenario.specs.Draft.{DraftLine, draft_line, joins, are_joined, post, dial, down, cut, turn, flow, fault, settle}
+use Rattle.m2_scenario.specs.Counts.{counts_of, AreWithin}
 use Rattle.m2_message.specs.Message.{Content}
 
 -- two nodes have different names, and don't stand at one ip and port
@@ -57,10 +58,7 @@ pub record IsSound (nodes : List Node) (links : List Link) (lines : List DraftLi
   pub joined : All (IsLink (length nodes)) links
   pub joined_once : AllPairs JoinOthers links
   pub in_place : All (IsLine (length nodes) links) lines
-  pub posts : count_by is_post lines ≤ MOST_POSTS
-  pub cuts : count_by is_cut lines ≤ MOST_CUTS
-  pub faults : count_by is_fault lines ≤ MOST_FAULTS
-  pub rounds : sum_by rounds_of lines ≤ MOST_ROUNDS
+  pub within : AreWithin (counts_of lines)
 
 abbrev pub IsValid : Scenario → Type 0
 IsValid s = IsSound s.nodes.items s.links.items (map draft_line s.lines.items)

@@ -1,12 +1,13 @@
 //! The scenario so far.
 
-ghost use Rattle.std.specs.Prelude.{◌≡◌, ◌<◌, ◌≤◌, [], true, false, Some, IfSome, MatchResult, length, position, map, count_by, sum_by};
+ghost use Rattle.std.specs.Prelude.{◌≡◌, ◌<◌, false, Some, IfSome, MatchResult, length, position};
 ghost use Rattle.std.specs.List.{list_any};
-ghost use Rattle.m2_scenario.specs.Draft.{draft_line, is_named, is_at, are_joined, is_post, is_cut, is_fault, rounds_of, is_step_of};
+ghost use Rattle.m2_scenario.specs.Draft.{draft_line, is_named, is_at, are_joined, is_step_of};
 ghost use Rattle.m2_scenario.specs.Draft.{no_lines, with_node, with_link, with_line, without_start, with_limit, IsMade};
-ghost use Rattle.m2_scenario.specs.Plan.{HasRoom};
+ghost use Rattle.m2_scenario.specs.Counts.{counts_of, Permit};
 ghost use Rattle.m2_scenario.specs.Valid.{IsLine, IsLink, HasCenters, IsValid};
 
+use crate::counts::Counts;
 use crate::limits::{MOST_LINKS, MOST_NODES, USUAL_LIMIT};
 use crate::line::Line;
 use crate::link::Link;
@@ -123,32 +124,11 @@ impl Draft {
         self.plan.has_step_of(a)
     }
 
-    /// How many posts there are.
-    pub fn posts(&self) -> u32
-        ensures { result ≡ count_by is_post self.now.lines }
+    /// What the limits count of its lines.
+    pub fn counts(&self) -> Counts
+        ensures { result ≡ counts_of self.now.lines }
     {
-        self.plan.posts()
-    }
-
-    /// How many cuts there are.
-    pub fn cuts(&self) -> u32
-        ensures { result ≡ count_by is_cut self.now.lines }
-    {
-        self.plan.cuts()
-    }
-
-    /// How many faults there are.
-    pub fn faults(&self) -> u32
-        ensures { result ≡ count_by is_fault self.now.lines }
-    {
-        self.plan.faults()
-    }
-
-    /// How many rounds all settles have together.
-    pub fn rounds(&self) -> u32
-        ensures { result ≡ sum_by rounds_of self.now.lines }
-    {
-        self.plan.rounds()
+        self.plan.counts()
     }
 
     /// Puts a node last that stands apart from those above.
@@ -176,7 +156,7 @@ impl Draft {
     #[tactic(auto, using(crate::proofs::Sound::line_kept, crate::proofs::Sound::step_among))]
     pub fn push_line(&mut self, line: Line) -> Result<(), NoMemory>
         requires fits { IsLine (length self.old.nodes) self.old.links (draft_line line) }
-        requires room { HasRoom self.old.lines (draft_line line) }
+        requires room { Permit (counts_of self.old.lines) (draft_line line) }
         ensures { MatchResult result (λ _. self.new ≡ with_line self.old (draft_line line)) (λ _. self.new ≡ self.old) }
     {
         self.plan.push(line)

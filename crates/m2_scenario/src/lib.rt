@@ -2,11 +2,11 @@
 //!
 //! What it is: [`Scenario`], its [`Node`]s, [`Link`]s and [`Line`]s, and [`Draft`], the scenario so
 //! far, whose pushes keep it valid (`specs/Valid.antt` says when it is, within the limits of
-//! `limits.rt`). What it isn't: a
-//! scenario's text (`m2_scenario_text` reads it, by the same pushes), its run (`m2_sim`) or its
-//! report (`m2_report`).
+//! `limits.rt`). What it isn't: a scenario's text (`m2_scenario_text` reads it, by the same pushes),
+//! its run (`m2_sim`) or its report (`m2_report`).
 #![tactic(auto)]
 
+mod counts;
 mod draft;
 mod limits;
 mod line;
@@ -18,6 +18,7 @@ mod node_table;
 mod plan;
 mod scenario;
 
+pub use counts::Counts;
 pub use draft::Draft;
 pub use limits::{
     MOST_BYTES_BEFORE_CUT, MOST_CENTERS, MOST_CUTS, MOST_FAULTS, MOST_LINKS, MOST_NODES,

@@ -2,9 +2,9 @@
 //!
 //! What it is: [`read`], the scenario of a text or its first bad line with its kind
 //! (docs/SCENARIOS.md has every form of line); [`FirstWord`], what a line is about, and [`Form`],
-//! which lines a file may have, for callers that look at a text themselves. Each form of line has a reader in a file of its own, which judges the
-//! line's words in the order of the kinds and pushes what they say onto a draft. What it isn't: words
-//! (`m2_words`), scenarios (`m2_scenario`), or a run of one.
+//! which lines a file may have, for callers that look at a text themselves. Each form of line has a
+//! reader, which judges the line's words in the order of the kinds and pushes what they say onto a
+//! draft. What it isn't: words (`m2_words`), scenarios (`m2_scenario`), or a run of one.
 #![tactic(auto)]
 
 mod bad_scenario;

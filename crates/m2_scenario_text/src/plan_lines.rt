@@ -87,7 +87,7 @@ pub(crate) fn post_line(
     let message = message_of(alloc, words)?;
     let (a, b) = nodes?;
     check(Kind::Limit, are_short(&message))?;
-    check(Kind::Limit, draft.posts() < MOST_POSTS)?;
+    check(Kind::Limit, draft.counts().posts < MOST_POSTS)?;
     draft.push_line(Line::Post { a, b, message })?;
     Ok(())
 }

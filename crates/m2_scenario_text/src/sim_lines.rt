@@ -45,7 +45,7 @@ pub(crate) fn cut_line(draft: &mut Draft, mut words: Words<'_>) -> Result<(), Li
     let bytes = read_number(Kind::Number, 0, u64::MAX, words.take())?;
     let (a, b) = nodes?;
     check(Kind::Limit, bytes <= MOST_BYTES_BEFORE_CUT)?;
-    check(Kind::Limit, draft.cuts() < MOST_CUTS)?;
+    check(Kind::Limit, draft.counts().cuts < MOST_CUTS)?;
     draft.push_line(Line::Cut { a, b, bytes })?;
     Ok(())
 }
@@ -84,7 +84,7 @@ pub(crate) fn fault_line(draft: &mut Draft, mut words: Words<'_>) -> Result<(), 
     let nodes = pair(draft, &mut words);
     let socket = fault_of(words)?;
     let (a, b) = nodes?;
-    check(Kind::Limit, draft.faults() < MOST_FAULTS)?;
+    check(Kind::Limit, draft.counts().faults < MOST_FAULTS)?;
     draft.push_line(Line::Fault { a, b, socket })?;
     Ok(())
 }
@@ -97,7 +97,7 @@ pub(crate) fn settle_line(draft: &mut Draft, mut words: Words<'_>) -> Result<(),
     let rounds = read_number(Kind::Number, 1, MOST_ROUNDS_OF_A_LINE, words.take())? as u32;
     check(
         Kind::Limit,
-        draft.rounds() as u64 + rounds as u64 <= MOST_ROUNDS as u64,
+        draft.counts().rounds as u64 + rounds as u64 <= MOST_ROUNDS as u64,
     )?;
     draft.push_line(Line::Settle { rounds })?;
     Ok(())
