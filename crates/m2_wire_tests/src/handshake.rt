@@ -1,11 +1,16 @@
 //! The handshake: bytes of an independent program, fed and compared.
 
+<<<<<<< HEAD
 use crate::frame::WAIT;
 use m2_addr::Addr;
+=======
+use m2_addr::{Addr, AddrVec};
+>>>>>>> ccb4e001bed713030f0aa7c90ec5d4d1868be596
 use m2_bytes::{Blob, NoMemory};
-use m2_control::{Control, SessionReset, Wait};
+use m2_control::{ClientIdent, Control, SessionReset, Wait};
 use m2_frame::Got;
-use m2_handshake::{Ask, AskStep, Half, HalfFault, HalfStep, Stage};
+use m2_handshake::{Ask, AskStep, Half, HalfFault, HalfStep, IdentCheck, Stage, check_ident};
+use m2_policy::lossless_peer;
 use std::alloc::Global;
 use std::test::*;
 
@@ -315,5 +320,52 @@ fn a_half_rests_where_it_has_nothing_to_do(rt: HostRuntime) -> Result<(), Fail> 
 fn room_is_made_for_64_kib(rt: HostRuntime) -> Result<(), Fail> {
     let bad = HalfStep::Fault(HalfFault::BadBanner);
     assert_eq!(rt; hear_many(rt.alloc(), 65536)?, bad);
+    Ok(())
+}
+
+/// What a server says of a banner with these lowest bytes of the supported and the required features.
+fn hear_banner(alloc: Global, supported: u8, required: u8) -> HalfStep {
+    let mut server = a_server(alloc);
+    let mut out = Blob::empty(alloc);
+    tell(&mut server, part(client_text(), 0, 10), &mut out);
+    tell(&mut server, &[supported, 0, 0, 0, 0, 0, 0, 0], &mut out);
+    tell(&mut server, &[required, 0, 0, 0, 0, 0, 0, 0], &mut out)
+}
+
+#[test]
+fn a_banner_without_msgr2_1_or_with_more_required_is_refused(rt: HostRuntime) {
+    let alloc = rt.alloc();
+    let refused = HalfStep::Fault(HalfFault::BannerFeatures);
+    assert_eq!(rt; hear_banner(alloc, 1, 1), HalfStep::NotYet);
+    assert_eq!(rt; hear_banner(alloc, 3, 0), HalfStep::NotYet);
+    assert_eq!(rt; hear_banner(alloc, 2, 1), refused);
+    assert_eq!(rt; hear_banner(alloc, 3, 3), refused);
+}
+
+/// What 127.0.0.1:7002/2 finds in an ident of a lossless peer that supports bit 0, where these bits are
+/// required.
+fn look(alloc: Global, target: Addr, flags: u64, required: u64) -> Result<IdentCheck, NoMemory> {
+    let ident = ClientIdent {
+        addrs: AddrVec::one(alloc, at(7001, 1))?,
+        target,
+        gid: 0,
+        global: 1,
+        supported: 1,
+        required: 0,
+        flags,
+        cookie: 1,
+    };
+    Ok(check_ident(&ident, &at(7002, 2), &lossless_peer(), required))
+}
+
+#[test]
+fn an_ident_is_looked_at_in_order(rt: HostRuntime) -> Result<(), Fail> {
+    let alloc = rt.alloc();
+    let wrong = IdentCheck::Fault(HalfFault::WrongAddress);
+    let disagrees = IdentCheck::Fault(HalfFault::FlagDisagrees);
+    assert_eq!(rt; look(alloc, at(7003, 2), 1, 5)?, wrong);
+    assert_eq!(rt; look(alloc, at(7002, 2), 1, 5)?, disagrees);
+    assert_eq!(rt; look(alloc, at(7002, 2), 0, 5)?, IdentCheck::Missing(4));
+    assert_eq!(rt; look(alloc, at(7002, 2), 0, 1)?, IdentCheck::Fine);
     Ok(())
 }
