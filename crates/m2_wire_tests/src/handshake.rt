@@ -1,11 +1,7 @@
 //! The handshake: bytes of an independent program, fed and compared.
 
-<<<<<<< HEAD
 use crate::frame::WAIT;
-use m2_addr::Addr;
-=======
 use m2_addr::{Addr, AddrVec};
->>>>>>> ccb4e001bed713030f0aa7c90ec5d4d1868be596
 use m2_bytes::{Blob, NoMemory};
 use m2_control::{ClientIdent, Control, SessionReset, Wait};
 use m2_frame::Got;
