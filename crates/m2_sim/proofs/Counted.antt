@@ -19,7 +19,7 @@ use Rattle.m2_scenario.specs.declared.node.Node.{Node}
 use Rattle.m2_scenario.specs.declared.link.Link.{Link}
 use Rattle.m2_scenario.specs.Draft.{DraftLine, post, dial, down, cut, turn, flow, fault, settle, is_post}
 use Rattle.m2_scenario.specs.Valid.{IsSound, IsLine}
-use Rattle.m2_sim.specs.Model.{Net, Joint, Taken, fresh, joint_of, nothing_heard, side_of, side_towards, where_side, posted, broken, flowing, turned, taken, taken_at, is_fast, is_queued, rank_of, hears, dispatches, dispatched, grown_at, after_flow, after_turn, after_turns, after_round, after_rounds, after_line, after_lines, left_on, left, numbered_from, arrivals_at, from_peer}
+use Rattle.m2_sim.specs.Model.{Net, Joint, FromPeer, fresh, joint_of, nothing_heard, side_of, side_towards, where_side, posted, broken, flowing, turned, taken, taken_at, is_fast, is_queued, rank_of, hears, dispatches, dispatched, grown_at, after_flow, after_turn, after_turns, after_round, after_rounds, after_line, after_lines, left_on, left, numbered_from, arrivals_at, from_peer}
 use Rattle.m2_order.specs.Order.{at, fast_of}
 use Rattle.m2_sim.proofs.Joints.{Once, Only, meets}
 use Rattle.m2_sim.proofs.Holds.{Holds, after_some_turns, nothing_said, at_start, after_a_line, after_a_turn, after_a_flow, fast-line}
@@ -105,7 +105,7 @@ both_tests p (x ∷ xs) =
     ]
 
 -- all that was taken is dispatched
-length-dispatches : (fast : List ℕ) (ts : List Taken) → length (dispatches fast ts) ≡ length ts
+length-dispatches : (fast : List ℕ) (ts : List FromPeer) → length (dispatches fast ts) ≡ length ts
 length-dispatches fast ts =
     let quick = filter (is_fast fast) ts in
     let slow = filter (is_queued fast) ts in

@@ -7,11 +7,11 @@ use Rattle.m2_link.specs.declared.accepted.Accepted.{Accepted}
 use Rattle.m2_dispatch.specs.declared.logged.Logged.{Logged}
 use Rattle.m2_dispatch.specs.Heard.{heard_of}
 use Rattle.m2_priority.specs.ByRank.{by_rank}
-use Rattle.m2_sim.specs.Model.{Taken, from_peer}
+use Rattle.m2_sim.specs.Model.{FromPeer, from_peer}
 use Rattle.m2_sim.specs.Dispatcher.{Dispatcher, arrival_of, priority_heard, priority_logged}
 
 -- what is still to be heard, in order, where the last of a list is heard next
-abbrev pub left_in : ℕ → List Accepted → List Taken
+abbrev pub left_in : ℕ → List Accepted → List FromPeer
 left_in peer ts = map (from_peer peer) (map arrival_of (reverse ts))
 
 -- ---- the queue is run

@@ -13,7 +13,7 @@ use Rattle.m2_priority.specs.ByRank.{put_behind, by_rank}
 use Rattle.m2_priority.proofs.ByRank.{Falls, has_rank, rank-by_rank}
 use Rattle.m2_priority.proofs.Joining.{rank-put_behind}
 use Rattle.m2_order.specs.Order.{key_of}
-use Rattle.m2_sim.specs.Model.{Taken, is_fast_path, is_fast, is_queued, rank_of, hears, dispatches}
+use Rattle.m2_sim.specs.Model.{FromPeer, is_fast_path, is_fast, is_queued, rank_of, hears, dispatches}
 
 -- ---- tests
 
@@ -85,14 +85,14 @@ of_key-append x key (message p k number m ∷ hs) gs =
     ]
 of_key-append x key (reset p ∷ hs) gs = of_key-append x key hs gs
 
-abbrev pub content_in : Taken → Content
+abbrev pub content_in : FromPeer → Content
 content_in t = t.content
 
 -- the message comes from x and has the key
-abbrev pub is_of : ℕ → List ℕ → Key → Taken → Bool
+abbrev pub is_of : ℕ → List ℕ → Key → FromPeer → Bool
 is_of x fast key t = eqb t.peer x && has_key fast key t.content
 
-key-hears : (x : ℕ) (fast : List ℕ) (key : Key) (ts : List Taken) → of_key x key (map (hears fast) ts) ≡ map content_in (filter (is_of x fast key) ts)
+key-hears : (x : ℕ) (fast : List ℕ) (key : Key) (ts : List FromPeer) → of_key x key (map (hears fast) ts) ≡ map content_in (filter (is_of x fast key) ts)
 key-hears x fast key [] = refl
 key-hears x fast key (t ∷ ts) =
     elim (is_of x fast key t) as (λ b. cond b (t.content ∷ of_key x key (map (hears fast) ts)) (of_key x key (map (hears fast) ts)) ≡ map content_in (cond b (t ∷ filter (is_of x fast key) ts) (filter (is_of x fast key) ts))) [
@@ -107,21 +107,21 @@ same_path Fast Queued h = absurd (cc)
 same_path Queued Fast h = absurd (cc)
 
 -- a key's messages go by its path
-by_its_path : (x : ℕ) (fast : List ℕ) (key : Key) (t : Taken) → is_of x fast key t ≡ true → is_fast fast t ≡ is_fast_path key.path
+by_its_path : (x : ℕ) (fast : List ℕ) (key : Key) (t : FromPeer) → is_of x fast key t ≡ true → is_fast fast t ≡ is_fast_path key.path
 by_its_path x fast key t h = same_path _ _ (and_second _ _ (and_second _ _ h))
 
-at_its_rank : (x : ℕ) (fast : List ℕ) (key : Key) (t : Taken) → is_of x fast key t ≡ true → has_rank rank_of key.priority t ≡ true
+at_its_rank : (x : ℕ) (fast : List ℕ) (key : Key) (t : FromPeer) → is_of x fast key t ≡ true → has_rank rank_of key.priority t ≡ true
 at_its_rank x fast key t h = and_first _ _ (and_second (eqb t.peer x) (has_key fast key t.content) h)
 
 -- what is dispatched of a peer with a key is what was taken of it with this key, in order
-pub key-dispatches : (x : ℕ) (fast : List ℕ) (key : Key) (ts : List Taken) → of_key x key (dispatches fast ts) ≡ map content_in (filter (is_of x fast key) ts)
+pub key-dispatches : (x : ℕ) (fast : List ℕ) (key : Key) (ts : List FromPeer) → of_key x key (dispatches fast ts) ≡ map content_in (filter (is_of x fast key) ts)
 key-dispatches x fast key ts =
     key-hears x fast key (filter (is_fast fast) ts ++ by_rank rank_of (filter (is_queued fast) ts))
     ∙ ap (map content_in) (filter-append p (filter (is_fast fast) ts) (by_rank rank_of (filter (is_queued fast) ts))
     ∙ ap (λ l. filter p (filter (is_fast fast) ts) ++ l) (filter-by_rank rank_of p key.priority (at_its_rank x fast key) (filter (is_queued fast) ts))
     ∙ go (is_fast_path key.path) refl)
   where
-    p : Taken → Bool
+    p : FromPeer → Bool
     p t = is_of x fast key t
 
     go : (b : Bool) → is_fast_path key.path ≡ b → filter p (filter (is_fast fast) ts) ++ filter p (filter (is_queued fast) ts) ≡ filter p ts

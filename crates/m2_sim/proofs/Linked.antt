@@ -14,7 +14,7 @@ use Rattle.m2_scenario.specs.Link.{cell}
 use Rattle.m2_scenario.specs.Valid.{IsLink, JoinOthers}
 use Rattle.m2_sim.specs.Model.{Joint, joint_of, side_of, side_towards}
 use Rattle.m2_sim.specs.Topology.{between, joint_at, end_at, ends_from, ends_at, with_link, IsBetween, HasEnd, IsTopology}
-use Rattle.m2_sim.specs.declared.topology.End.{End}
+use Rattle.m2_sim.specs.declared.topology.NodeEnd.{NodeEnd}
 use Rattle.m2_sim.specs.declared.topology.Topology.{Topology}
 
 -- ---- a cell that was written
@@ -87,7 +87,7 @@ ends-push p x (i ∷ js) j =
 
 -- ---- the two cells of a new link
 
-module _ (cells : List (Option End)) (place a b : ℕ) (len : length cells ≡ MOST_PAIRS) (few_a : a < MOST_NODES) (few_b : b < MOST_NODES) (apart : a ≢ b) where
+module _ (cells : List (Option NodeEnd)) (place a b : ℕ) (len : length cells ≡ MOST_PAIRS) (few_a : a < MOST_NODES) (few_b : b < MOST_NODES) (apart : a ≢ b) where
   written_first : HasEnd (with_link place a b cells) a b (record { place = place; side = First })
   written_first =
       put_other (slice_set cells (cell a b) (Some (record { place = place; side = First }))) (cell b a) (cell a b) (Some (record { place = place; side = Second }))
@@ -108,7 +108,7 @@ module _ (cells : List (Option End)) (place a b : ℕ) (len : length cells ≡ M
 module _ (old new : Topology) (n : ℕ) (js : List Joint) (a b : ℕ) (h : IsTopology old n js) (low_a : a < n) (low_b : b < n) (apart : a ≢ b)
     (unlinked : (k : ℕ) → k < length js → side_towards a b (joint_at js k) ≡ None)
     (len : length new.ends.items ≡ length old.ends.items)
-    (ends : (x : ℕ) (d : Vec End Global) → x < length old.ends.items
+    (ends : (x : ℕ) (d : Vec NodeEnd Global) → x < length old.ends.items
     → ends_at new x d ≡ ends_at old x d ++ end_at (length js) (side_of x (between a b)))
     (towards : new.towards ≡ with_link (length js) a b old.towards) where
   kept : (x y k : ℕ) (side : LinkSide) → k < length js → side_towards x y (joint_at js k) ≡ Some side → HasEnd new.towards x y (record { place = k; side = side })
@@ -153,7 +153,7 @@ module _ (old new : Topology) (n : ℕ) (js : List Joint) (a b : ℕ) (h : IsTop
 pub linked_next : (old new : Topology) (n place : ℕ) (links : List Link) (d : Link) → place < length links
     → n ≤ MOST_NODES → All (IsLink n) links → AllPairs JoinOthers links → IsTopology old n (map joint_of (take place links))
     → length new.ends.items ≡ length old.ends.items
-    → ((x : ℕ) (e : Vec End Global) → x < length old.ends.items
+    → ((x : ℕ) (e : Vec NodeEnd Global) → x < length old.ends.items
     → ends_at new x e ≡ ends_at old x e ++ end_at place (side_of x (joint_of (get_or links place d))))
     → new.towards ≡ with_link place (get_or links place d).a (get_or links place d).b old.towards
     → IsTopology new n (map joint_of (take (place + 1) links))
@@ -169,6 +169,6 @@ linked_next old new n place links d within few all pairs h len ends towards =
     ∙ not_joined (get_or links k d) l.a l.b (pairs k place d low' within) in
     rw (map_more joint_of links place d within)
     (linked old new n (map joint_of before) l.a l.b h is.a is.b is.different apart len
-    (subst (λ (p : ℕ). (x : ℕ) (e : Vec End Global) → x < length old.ends.items
+    (subst (λ (p : ℕ). (x : ℕ) (e : Vec NodeEnd Global) → x < length old.ends.items
     → ends_at new x e ≡ ends_at old x e ++ end_at p (side_of x (joint_of l))) (sym count) ends)
     (subst (λ (p : ℕ). new.towards ≡ with_link p l.a l.b old.towards) (sym count) towards))

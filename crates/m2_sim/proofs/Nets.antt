@@ -17,7 +17,7 @@ use Rattle.m2_sim.specs.Model.{Joint, joint_of, fresh, side_of, side_towards, wh
 use Rattle.m2_sim.specs.Joint.{posted_by, faulted}
 use Rattle.m2_sim.specs.Topology.{bare, between, joint_at, are_linked, IsBetween, HasEnd, IsTopology, IsTowards}
 use Rattle.m2_sim.specs.Net.{net_of, fast_kinds, heard_by_it, dispatcher_of, IsIdle, Keeps, IsNet}
-use Rattle.m2_sim.specs.declared.topology.End.{End}
+use Rattle.m2_sim.specs.declared.topology.NodeEnd.{NodeEnd}
 use Rattle.m2_sim.specs.declared.topology.Topology.{Topology}
 use Rattle.m2_sim.specs.declared.net.Net.{Net}
 use Rattle.m2_sim.proofs.Linked.{sides, low_of}
@@ -37,14 +37,14 @@ pub all_from_one : (f : Joint → Joint) (js : List Joint) (p : ℕ) → p < len
 all_from_one f js p within alone = ext_get_or (between 0 0) (set js p (f (joint_at js p))) (map f js) (length-set js p (f (joint_at js p)) ∙ sym (length-map js f))
     (λ k low. each f js p within alone k (let low' : k < length js = omega (arith, low, length-set js p (f (joint_at js p))) in low') (cases_eq k p))
 
-pub posted_all : (x y : ℕ) (m : Content) (js : List Joint) (e : End) (j k : Joint) → IsTowards x y js e
+pub posted_all : (x y : ℕ) (m : Content) (js : List Joint) (e : NodeEnd) (j k : Joint) → IsTowards x y js e
     → j ≡ get_or js e.place j → k ≡ posted_by e.side m j → set js e.place k ≡ map (posted x y m) js
 posted_all x y m js e j k h is put =
     ap (set js e.place) (put ∙ ap (posted_by e.side m) (get_or_read js e.place j h.within is (between 0 0))
     ∙ sym (ap (λ o. where_side (λ side l. link.after_post side m l) o (joint_at js e.place)) h.here))
     ∙ all_from_one (posted x y m) js e.place h.within (λ k low apart. ap (λ o. where_side (λ side l. link.after_post side m l) o (joint_at js k)) (h.alone k low apart))
 
-pub broken_all : (x y : ℕ) (js : List Joint) (e : End) (j k : Joint) → IsTowards x y js e
+pub broken_all : (x y : ℕ) (js : List Joint) (e : NodeEnd) (j k : Joint) → IsTowards x y js e
     → j ≡ get_or js e.place j → k ≡ faulted j → set js e.place k ≡ map (broken x y) js
 broken_all x y js e j k h is put =
     ap (set js e.place) (put ∙ ap faulted (get_or_read js e.place j h.within is (between 0 0))
@@ -124,8 +124,8 @@ none_from : (o : Option LinkSide) → ((s : LinkSide) → ¬ (o ≡ Some s)) →
 none_from None h = refl
 none_from (Some s) h = absurd (h s refl)
 
-same_place : (cells : List (Option End)) (c : ℕ) (d e : End) → slice_get cells c ≡ Some (Some d) → slice_get cells c ≡ Some (Some e) → d.place ≡ e.place
-same_place cells c d e p q = let same : d ≡ e = cc in ap (λ (e : End). e.place) same
+same_place : (cells : List (Option NodeEnd)) (c : ℕ) (d e : NodeEnd) → slice_get cells c ≡ Some (Some d) → slice_get cells c ≡ Some (Some e) → d.place ≡ e.place
+same_place cells c d e p q = let same : d ≡ e = cc in ap (λ (e : NodeEnd). e.place) same
 
 module _ (t : Topology) (n : ℕ) (js : List Joint) (x y : ℕ) (h : IsTopology t n (map bare js)) (linked : are_linked x y js ≡ true) where
   at_k : (k : ℕ) → k < length js → joint_at (map bare js) k ≡ bare (joint_at js k)
@@ -141,7 +141,7 @@ module _ (t : Topology) (n : ℕ) (js : List Joint) (x y : ℕ) (h : IsTopology 
       let w : IsBetween n (bare (joint_at js f.0)) = rw (at_k f.0 f.1) at (h.within f.0 (between 0 0) (let e = length-map js bare in omega (arith, f.1, e))) in
       low_of n h.few x y (bare (joint_at js f.0)) s.0 w (sides x y (joint_at js f.0) s.0 s.1)
 
-  pub towards_is : (e : Option End) → slice_get t.towards (cell x y) ≡ Some e → (end : End) × (e ≡ Some end) × IsTowards x y js end
+  pub towards_is : (e : Option NodeEnd) → slice_get t.towards (cell x y) ≡ Some e → (end : NodeEnd) × (e ≡ Some end) × IsTowards x y js end
   towards_is e read =
       let f = found (λ j. is_some (side_towards x y j)) js linked in
       let s = side_from (side_towards x y (joint_at js f.0)) f.2 in

@@ -15,13 +15,13 @@ use Rattle.m2_scenario.specs.Draft.{are_joined}
 use Rattle.m2_link.specs.Model.{arriving, written_by}
 use Rattle.m2_link.specs.declared.link_side.LinkSide.{LinkSide}
 use Rattle.m2_link.specs.declared.link_side.LinkSide.TheVariants.{First, Second}
-use Rattle.m2_sim.specs.Model.{peer_of, rank_of, is_fast, is_queued, hears, dispatched, Joint, Taken, side_of, side_towards, numbered_from, arrivals_at, from_peer, taken}
+use Rattle.m2_sim.specs.Model.{peer_of, rank_of, is_fast, is_queued, hears, dispatched, Joint, FromPeer, side_of, side_towards, numbered_from, arrivals_at, from_peer, taken}
 use Rattle.m2_sim.proofs.Keys.{has_key, is_of, content_in}
 use Rattle.m2_sim.proofs.Joints.{AreOf, meets, same_test, or_true, Differ, JoinsBy, other, ends_of, at_side, reader_side, joins_not, towards, Only, Once}
 
 module _ (x : ℕ) (fast : List ℕ) (key : Key) where
   -- the messages from x with the key
-  abbrev pub picked : List Taken → List Content
+  abbrev pub picked : List FromPeer → List Content
   picked ts = map content_in (filter (is_of x fast key) ts)
 
   from_it : (q n : ℕ) (ms : List Content) → q ≡ x → picked (map (from_peer q) (numbered_from n ms)) ≡ filter (has_key fast key) ms
@@ -58,7 +58,7 @@ module _ (x : ℕ) (fast : List ℕ) (key : Key) where
         go (Some First) e = rw e (from_another j.b _ _ (λ p. joins_not x y j Second h (at_side y j First e, p)))
         go (Some Second) e = rw e (from_another j.a _ _ (λ p. joins_not x y j First h (p, at_side y j Second e)))
 
-    picked-append : (ts us : List Taken) → picked (ts ++ us) ≡ picked ts ++ picked us
+    picked-append : (ts us : List FromPeer) → picked (ts ++ us) ≡ picked ts ++ picked us
     picked-append ts us = ap (map content_in) (filter-append (is_of x fast key) ts us) ∙ map-append content_in (filter (is_of x fast key) ts) (filter (is_of x fast key) us)
 
     none_picked : (js : List Joint) → AllByRecursion (λ k. side_towards x y k ≡ None) js → picked (flat_map (taken y) js) ≡ []
@@ -100,7 +100,7 @@ joins_peer y j Second e = rw (same_test j.a j.a refl, same_test j.b y (at_side y
 taken_linked : (links : List Link) (js : List Joint) (y : ℕ) → AreOf links js → All (λ t. are_joined links t.peer y ≡ true) (flat_map (taken y) js)
 taken_linked links js y h = go js (each_meets js)
   where
-    Q : Taken → Type 0
+    Q : FromPeer → Type 0
     Q t = are_joined links t.peer y ≡ true
 
     at_one : (k : Joint) → ((x y : ℕ) → is_some (side_towards x y k) ≡ true → meets x y js ≡ true) → (t : Option LinkSide) → side_of y k ≡ t → All Q (taken y k)
@@ -122,7 +122,7 @@ pub dispatched_linked : (links : List Link) (js : List Joint) (y : ℕ) (fast : 
 dispatched_linked links js y fast h =
     let all = taken_linked links js y h in
     let ts = flat_map (taken y) js in
-    let P : Taken → Type 0 = λ t. are_joined links t.peer y ≡ true in
+    let P : FromPeer → Type 0 = λ t. are_joined links t.peer y ≡ true in
     All-map (IsLinked links y) (hears fast) _ (
     All-append P (filter (is_fast fast) ts) (by_rank rank_of (filter (is_queued fast) ts)) (All-filter (is_fast fast) P ts all)
     (all-by_rank rank_of P (filter (is_queued fast) ts) (All-filter (is_queued fast) P ts all)))

@@ -8,14 +8,14 @@ use Rattle.m2_link.specs.declared.link_side.LinkSide.{LinkSide}
 use Rattle.m2_dispatch.specs.Heard.{Heard}
 use Rattle.m2_priority.specs.ByRank.{by_rank}
 use Rattle.m2_sim.specs.Model as model
-use Rattle.m2_sim.specs.Model.{Joint, Taken, side_of, where_side, turned, taken, taken_at, is_fast, is_queued, rank_of, hears, dispatches, grown_at, after_turn, after_turns, after_round, after_rounds}
+use Rattle.m2_sim.specs.Model.{Joint, FromPeer, side_of, where_side, turned, taken, taken_at, is_fast, is_queued, rank_of, hears, dispatches, grown_at, after_turn, after_turns, after_round, after_rounds}
 use Rattle.m2_order.specs.Order.{at}
 use Rattle.m2_sim.specs.Joint.{turned_by}
 use Rattle.m2_sim.specs.Dispatcher.{Dispatcher, heard_fast, heard_queued, hears_taken, runs_queue, priority_heard}
 use Rattle.m2_sim.specs.Topology.{bare, between, joint_at, end_at, ends_from}
 use Rattle.m2_sim.specs.Net.{net_of, fast_kinds, heard_by_it, IsIdle, IsNet, Keeps}
 use Rattle.m2_sim.specs.Turn.{IsPlace, Visited, visited, taken_by, behind}
-use Rattle.m2_sim.specs.declared.topology.End.{End}
+use Rattle.m2_sim.specs.declared.topology.NodeEnd.{NodeEnd}
 use Rattle.m2_sim.specs.declared.net.Net.{Net}
 use Rattle.m2_priority.proofs.ByRank.{map-by_rank}
 use Rattle.m2_sim.proofs.Nets.{bare_turned}
@@ -35,7 +35,7 @@ abbrev Turned : ℕ → List Joint → List Joint → Visited
 Turned x pre js = record { joints = pre ++ map (turned x) js; taken = flat_map (taken x) js }
 
 -- the turn at a link, where the ends behind it are those of the links behind it
-visit_one : (x : ℕ) (pre : List Joint) (j : Joint) (js : List Joint) (es : List End) (o : Option LinkSide)
+visit_one : (x : ℕ) (pre : List Joint) (j : Joint) (js : List Joint) (es : List NodeEnd) (o : Option LinkSide)
     → ((i : Joint) → visited es (pre ++ i ∷ js) ≡ record { joints = pre ++ i ∷ map (turned x) js; taken = flat_map (taken x) js })
     → visited (end_at (length pre) o ++ es) (pre ++ j ∷ js)
     ≡ record { joints = pre ++ where_side link.after_turn o j ∷ map (turned x) js; taken = taken_at o j ++ flat_map (taken x) js }
@@ -64,7 +64,7 @@ visit_all x js = visit_from x [] js
 
 -- ---- what a dispatcher hears in a turn
 
-heard_in_turn : (fast : List ℕ) (ts : List Taken) → heard_fast fast ts ++ by_rank priority_heard (heard_queued fast ts) ≡ dispatches fast ts
+heard_in_turn : (fast : List ℕ) (ts : List FromPeer) → heard_fast fast ts ++ by_rank priority_heard (heard_queued fast ts) ≡ dispatches fast ts
 heard_in_turn fast ts =
     ap (λ l. heard_fast fast ts ++ l) (sym (map-by_rank (hears fast) priority_heard (filter (is_queued fast) ts)))
     ∙ sym (map-append (hears fast) (filter (is_fast fast) ts) (by_rank rank_of (filter (is_queued fast) ts)))
@@ -83,7 +83,7 @@ same_net : (f f' : List (List ℕ)) (j j' : List Joint) (h h' : List (List Heard
     → ◌≡◌ {A = model.Net} (record { fast = f; joints = j; heard = h }) (record { fast = f'; joints = j'; heard = h' })
 same_net f f' j j' h h' p q r = rw (p, q, r) refl
 
-module _ (old new : Net) (x : ℕ) (d d' d'' : Dispatcher) (es : List End) (h : IsNet old) (low : x < length old.dispatchers.items)
+module _ (old new : Net) (x : ℕ) (d d' d'' : Dispatcher) (es : List NodeEnd) (h : IsNet old) (low : x < length old.dispatchers.items)
     (is : (e : Dispatcher) → d ≡ get_or old.dispatchers.items x e)
     (ends : es ≡ ends_from 0 x (map bare old.joints.items))
     (joints : new.joints.items ≡ (visited es old.joints.items).joints)
@@ -104,7 +104,7 @@ module _ (old new : Net) (x : ℕ) (d d' d'' : Dispatcher) (es : List End) (h : 
 
   more_heard : d''.heard ≡ d.heard ++ dispatches d.fast (flat_map (taken x) old.joints.items)
   more_heard =
-      let ts : List Taken = flat_map (taken x) old.joints.items in
+      let ts : List FromPeer = flat_map (taken x) old.joints.items in
       let took : (visited es old.joints.items).taken ≡ ts = ap (λ (v : Visited). v.taken) all_ends in
       ap (λ (d : Dispatcher). d.heard) run
       ∙ ap (λ (d : Dispatcher). d.heard ++ by_rank priority_heard d.queued) heard

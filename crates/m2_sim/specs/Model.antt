@@ -97,20 +97,20 @@ abbrev pub arrivals_at : LinkSide → link.Link → List Arrival
 arrivals_at side l = numbered_from ((link.read_by side l).accepted + 1) (link.arrivals side l)
 
 -- a message that was taken, its number, and the peer that it comes from
-pub record Taken : Type 0 where
+pub record FromPeer : Type 0 where
   pub peer : ℕ
   pub number : ℕ
   pub content : Content
 
-abbrev pub from_peer : ℕ → Arrival → Taken
+abbrev pub from_peer : ℕ → Arrival → FromPeer
 from_peer peer a = record { peer = peer; number = a.number; content = a.content }
 
 -- what the node at x takes of one link, in order
-abbrev pub taken_at : Option LinkSide → Joint → List Taken
+abbrev pub taken_at : Option LinkSide → Joint → List FromPeer
 taken_at None j = []
 taken_at (Some side) j = map (from_peer (peer_of side j)) (arrivals_at side j.link)
 
-abbrev pub taken : ℕ → Joint → List Taken
+abbrev pub taken : ℕ → Joint → List FromPeer
 taken x j = taken_at (side_of x j) j
 
 abbrev pub turned : ℕ → Joint → Joint
@@ -120,21 +120,21 @@ abbrev pub is_fast_path : Path → Bool
 is_fast_path Fast = true
 is_fast_path Queued = false
 
-abbrev pub is_fast : List ℕ → Taken → Bool
+abbrev pub is_fast : List ℕ → FromPeer → Bool
 is_fast fast t = is_fast_path (path_of t.content.header.kind fast)
 
-abbrev pub is_queued : List ℕ → Taken → Bool
+abbrev pub is_queued : List ℕ → FromPeer → Bool
 is_queued fast t = not (is_fast fast t)
 
-abbrev pub rank_of : Taken → ℕ
+abbrev pub rank_of : FromPeer → ℕ
 rank_of t = t.content.header.priority
 
-abbrev pub hears : List ℕ → Taken → Heard
+abbrev pub hears : List ℕ → FromPeer → Heard
 hears fast t = message t.peer (key_of fast t.content) t.number t.content
 
 -- what was taken, in the order of its dispatch: the fast messages as they came, and then the others, the
 -- greatest priority first
-abbrev pub dispatches : List ℕ → List Taken → List Heard
+abbrev pub dispatches : List ℕ → List FromPeer → List Heard
 dispatches fast ts = map (hears fast) (filter (is_fast fast) ts ++ by_rank rank_of (filter (is_queued fast) ts))
 
 -- what a node with these fast kinds dispatches in its turn: it takes from each of its links in the order of

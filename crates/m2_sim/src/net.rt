@@ -9,7 +9,7 @@ ghost use Rattle.m2_sim.specs.Net.{net_of, IsNet, Keeps, dispatcher_of};
 
 use crate::dispatcher::Dispatcher;
 use crate::joint::Joint;
-use crate::topology::{End, Topology};
+use crate::topology::{NodeEnd, Topology};
 use m2_bytes::NoMemory;
 use m2_link::Accepted;
 use m2_message::Message;
@@ -74,7 +74,7 @@ impl Net {
     }
 
     // The end of the node at x at its link to the one at y.
-    fn end_towards(&self, x: u32, y: u32) -> End
+    fn end_towards(&self, x: u32, y: u32) -> NodeEnd
         requires holds { IsNet self.now }
         requires linked { are_linked x y self.now.joints.items ≡ true }
         ensures { IsTowards x y self.now.joints.items result }

@@ -7,7 +7,7 @@ ghost use Rattle.m2_scenario.specs.Link.{cell};
 ghost use Rattle.m2_scenario.specs.Valid.{IsLink, JoinOthers};
 ghost use Rattle.m2_sim.specs.Model.{Joint, side_of, joint_of};
 ghost use Rattle.m2_sim.specs.Topology.{between, end_at, ends_from, ends_at, with_link, IsTopology};
-ghost use Rattle.m2_sim.specs.declared.topology.End.{End};
+ghost use Rattle.m2_sim.specs.declared.topology.NodeEnd.{NodeEnd};
 
 use m2_bytes::NoMemory;
 use m2_link::LinkSide;
@@ -17,7 +17,7 @@ use std::alloc::Global;
 /// A node's end of a link: the link's place among the links, from 0, and which of the link's two
 /// nodes it is.
 #[derive(Clone, Copy, Debug)]
-pub(crate) struct End {
+pub(crate) struct NodeEnd {
     pub(crate) place: usize,
     pub(crate) side: LinkSide,
 }
@@ -26,8 +26,8 @@ pub(crate) struct End {
 /// the end of the first: a row and a column for each place.
 #[derive(Debug, Drop)]
 pub(crate) struct Topology {
-    pub(crate) ends: Vec<Vec<End>>,
-    pub(crate) towards: [Option<End>; MOST_PAIRS],
+    pub(crate) ends: Vec<Vec<NodeEnd>>,
+    pub(crate) towards: [Option<NodeEnd>; MOST_PAIRS],
 }
 
 impl Topology {
@@ -69,15 +69,15 @@ impl Topology {
         requires different { a ≢ b }
         requires cells { length self.old.towards ≡ MOST_PAIRS }
         ensures len { OnOk result (length self.new.ends.items ≡ length self.old.ends.items) }
-        ensures ends { OnOk result ((x : ℕ) (d : Vec End Global) → x < length self.old.ends.items →
+        ensures ends { OnOk result ((x : ℕ) (d : Vec NodeEnd Global) → x < length self.old.ends.items →
             ends_at self.new x d ≡ ends_at self.old x d ++ end_at place (side_of x (between a b))) }
         ensures towards { OnOk result (self.new.towards ≡ with_link place a b self.old.towards) }
     {
-        let first = End {
+        let first = NodeEnd {
             place,
             side: LinkSide::First,
         };
-        let second = End {
+        let second = NodeEnd {
             place,
             side: LinkSide::Second,
         };
@@ -89,7 +89,7 @@ impl Topology {
     }
 
     /// The ends of the node at this place.
-    pub(crate) fn of_node(&self, x: u32) -> &[End]
+    pub(crate) fn of_node(&self, x: u32) -> &[NodeEnd]
         requires { x < length self.now.ends.items }
         ensures { (n : ℕ) (js : List Joint) → IsTopology self.now n js → x < n → result.now ≡ ends_from 0 x js }
     {
@@ -97,7 +97,7 @@ impl Topology {
     }
 
     /// The end of the node at x at its link to the one at y; none where no link joins them.
-    pub(crate) fn between(&self, x: u32, y: u32) -> Option<End>
+    pub(crate) fn between(&self, x: u32, y: u32) -> Option<NodeEnd>
         requires x { x < MOST_NODES }
         requires y { y < MOST_NODES }
         requires cells { length self.now.towards ≡ MOST_PAIRS }

@@ -9,14 +9,14 @@ ghost use Rattle.m2_sim.specs.Turn.{visited, IsPlace};
 use crate::dispatcher::Dispatcher;
 use crate::joint::Joint;
 use crate::net::Net;
-use crate::topology::End;
+use crate::topology::NodeEnd;
 use m2_bytes::NoMemory;
 use m2_link::Accepted;
 
 // A node takes its turn at each of its ends; the dispatcher hears what it takes, in this order.
 // `taken` is room for what is taken of one link.
 fn visit(
-    ends: &[End],
+    ends: &[NodeEnd],
     joints: &mut Vec<Joint>,
     taken: &mut Vec<Accepted>,
     dispatcher: &mut Dispatcher,

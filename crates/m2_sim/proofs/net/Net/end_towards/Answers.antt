@@ -1,6 +1,6 @@
 use Rattle.std.proofs.Common.{length, subst}
 use Rattle.m2_sim.specs.Topology.{IsTowards}
-use Rattle.m2_sim.specs.declared.topology.End.{End}
+use Rattle.m2_sim.specs.declared.topology.NodeEnd.{NodeEnd}
 use Rattle.m2_sim.proofs.Nets.{linked_low, towards_is}
 use Rattle.m2_sim.proofs.net.Net.end_towards.Goals as goal
 
@@ -24,4 +24,4 @@ returns c =
     let r = towards_is n.topology (length n.dispatchers.items) n.joints.items c.args.x c.args.y c.requires.holds.topology c.requires.linked c.between.result c.between.ensures in
     let here = c.in-Some.is in
     let some = r.1 in
-    subst (λ (e : End). IsTowards c.args.x c.args.y n.joints.items e) (cc (here, some)) r.2
+    subst (λ (e : NodeEnd). IsTowards c.args.x c.args.y n.joints.items e) (cc (here, some)) r.2
