@@ -1,0 +1,5 @@
+pub mod End
+pub mod Fabric
+pub mod Log
+pub mod Port
+pub mod Sockets
