@@ -1,0 +1,2 @@
+pub mod CutEnd
+pub mod SimEnd
