@@ -1,5 +1,5 @@
 -- What contracts see of an end, and how each of its calls changes that. This project's own.
-use Rattle.std.specs.Prelude.{◌≡◌, ℕ, ◌≤◌, Bool, true, false, List, [], ◌++◌, length, take, drop, Option, Some, None, IfSome, Result, Ok, Err}
+use Rattle.std.specs.Prelude.{◌≡◌, ℕ, ◌≤◌, Bool, true, false, List, [], ◌++◌, length, take, drop, Option, Some, None, IfSome}
 use Rattle.std.specs.Option.{option_map}
 use Rattle.m2_edge.specs.Faults.{HasRisen}
 use Rattle.m2_fabric.specs.Log.{Log, IsPieceOf, after_close, after_read, after_write, nothing_done}

@@ -1,9 +1,10 @@
 -- What contracts see of a port, and how each of its calls changes that. This project's own.
-use Rattle.std.specs.Prelude.{◌≡◌, ℕ, ◌&&◌, not, Bool, true, false, if◌then◌else◌, List, [], ◌∷◌, ◌++◌, map, Option, Some, None, IfSome}
+use Rattle.std.specs.Prelude.{◌≡◌, ℕ, ◌&&◌, not, Bool, true, false, if◌then◌else◌, List, [], ◌∷◌, ◌++◌, Option, Some, IfSome}
+use Rattle.std.specs.List.{list_any}
 use Rattle.std.specs.Option.{option_map}
 use Rattle.m2_addr.specs.declared.addr.Addr.{Addr}
 use Rattle.m2_edge.specs.Faults.{HasRisen, next_count}
-use Rattle.m2_fabric.specs.End.{SeenEnd, Inflow, after_news, fresh_end, nothing_told}
+use Rattle.m2_fabric.specs.End.{SeenEnd, after_news, fresh_end, nothing_told}
 use Rattle.m2_fabric.specs.Log.{nothing_done}
 use Rattle.m2_fabric.specs.Sockets.{IsNewTo, goes_to, is_among, same_socket}
 use Rattle.m2_fabric.specs.declared.end.News.{News}
@@ -81,7 +82,7 @@ with_poll faults s = record s { faults = faults }
 
 -- The socket goes to the port's own address, and the port neither made it nor has it waiting.
 abbrev pub may_wait : SocketId → SeenPort → List SeenEnd → Bool
-may_wait id s waiting = goes_to s.at id && (not (is_among id s.made) && not (is_among id (map (λ (e : SeenEnd). e.id) waiting)))
+may_wait id s waiting = goes_to s.at id && (not (is_among id s.made) && not (list_any (λ (e : SeenEnd). same_socket id e.id) waiting))
 
 abbrev pub with_waiting : SocketId → SeenPort → List SeenEnd → List SeenEnd
 with_waiting id s waiting = if may_wait id s waiting then waiting ++ fresh_end id ∷ [] else waiting

@@ -36,7 +36,12 @@ pub trait Fabric {
 
     /// Takes back the ports of the node's last [`split`](Fabric::split), and the ends that were made of
     /// them. Takes no memory.
-    fn gather(&mut self, node: u32, ports: PortList<Self::Port>, ends: EndList<<Self::Port as Port>::End>)
+    fn gather(
+        &mut self,
+        node: u32,
+        ports: PortList<Self::Port>,
+        ends: EndList<<Self::Port as Port>::End>,
+    )
         requires { (seen self.old).out node ≡ Some (length ports.items) }
         ensures { Gathers node (record { ports = map Self.Port.seen ports.items; ends = map Self.Port.End.seen ends.items }) (seen self.old) (seen self.new) };
 }

@@ -1,5 +1,5 @@
 -- A call of an end inside, as it is seen outside.
-use Rattle.std.proofs.Common.{◌≡◌, ℕ, ◌≤◌, List, length, take, Option, None, Some, refl, sym, ◌∙◌, ap, arith, length-take}
+use Rattle.std.proofs.Common.{ℕ, ◌≤◌, List, length, take, Option, None, Some, sym, ◌∙◌, ap, arith, length-take}
 use Rattle.std.proofs.lemmas.List.{take-take}
 use Rattle.std.specs.Prelude.{IfSome}
 use Rattle.m2_edge.specs.Faults.{HasRisen, next_count}

@@ -6,7 +6,11 @@
 #![tactic(auto)]
 
 mod cut_end;
+mod cut_port;
 mod sim_end;
+mod sim_port;
 
 pub use cut_end::CutEnd;
+pub use cut_port::{Cut, CutList, CutPort};
 pub use sim_end::SimEnd;
+pub use sim_port::SimPort;
