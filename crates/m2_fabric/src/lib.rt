@@ -2,9 +2,9 @@
 //! tells of both afterwards.
 //!
 //! What it is: [`SocketId`], a socket's name; [`EndLog`], all that an end did; the traits [`End`] (one
-//! end of a socket), [`Port`] (what opens and accepts sockets for one event thread), [`Fabric`] (what
-//! gives a node its ports and tells of them afterwards) and [`Holder`] (whoever has the ports and ends
-//! of all nodes in memory). What it isn't: a network. Ends in memory stand in `m2_sim_fabric`.
+//! end of a socket), [`Port`] (what opens and accepts sockets for one event thread) and [`Fabric`] (what
+//! gives a node its ports and tells of them afterwards). What it isn't: a network. Ends in memory stand
+//! in `m2_sim_fabric`.
 //!
 //! Each end, port and fabric has a count of faults, and answers `Failed` only where it rose. Contracts
 //! see of an end its socket, its log and its faults, and each call by one relation by cases on its
