@@ -1,0 +1,6 @@
+pub mod End
+pub mod Fabric
+pub mod Holder
+pub mod Log
+pub mod Port
+pub mod Sockets

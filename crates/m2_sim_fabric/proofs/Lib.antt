@@ -1,0 +1,3 @@
+pub mod Bounds
+pub mod Turns
+pub mod Waits

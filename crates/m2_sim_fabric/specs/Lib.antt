@@ -1,0 +1,4 @@
+pub mod CutEnd
+pub mod CutPort
+pub mod SimEnd
+pub mod SimPort
