@@ -63,26 +63,17 @@ points front back a b o k =
     let most = owes_one there.0.stage in
     (omega (arith, count, o), omega (arith, count, o, most))
 
-fed_stage_at : (stage : Stage) (s : Standing) (more : List ℕ) → (fed_at stage s more).stage ≡ s.stage
-fed_stage_at Opening s more = refl
-fed_stage_at Banner s more = refl
-fed_stage_at (Waits awaited) s more = refl
-fed_stage_at Authed s more = refl
-fed_stage_at Asked s more = refl
-fed_stage_at Ended s more = refl
-fed_stage_at (Faulty f) s more = refl
+fed_keeps_at : (stage : Stage) (s : Standing) (more : List ℕ) → ((fed_at stage s more).stage ≡ s.stage) × ((fed_at stage s more).side ≡ s.side)
+fed_keeps_at Opening s more = (refl, refl)
+fed_keeps_at Banner s more = (refl, refl)
+fed_keeps_at (Waits awaited) s more = (refl, refl)
+fed_keeps_at Authed s more = (refl, refl)
+fed_keeps_at Asked s more = (refl, refl)
+fed_keeps_at Ended s more = (refl, refl)
+fed_keeps_at (Faulty f) s more = (refl, refl)
 
 pub fed_stage : (s : Standing) (more : List ℕ) → (fed s more).stage ≡ s.stage
-fed_stage s more = fed_stage_at s.stage s more
-
-fed_side_at : (stage : Stage) (s : Standing) (more : List ℕ) → (fed_at stage s more).side ≡ s.side
-fed_side_at Opening s more = refl
-fed_side_at Banner s more = refl
-fed_side_at (Waits awaited) s more = refl
-fed_side_at Authed s more = refl
-fed_side_at Asked s more = refl
-fed_side_at Ended s more = refl
-fed_side_at (Faulty f) s more = refl
+fed_stage s more = (fed_keeps_at s.stage s more).0
 
 ends : (begin s : Standing) (x : Exchange) → owed begin.stage ≡ 0 → Reaches begin x s → length x.asks ≡ length x.replies + owed s.stage
 ends begin s x o r =
@@ -108,7 +99,7 @@ is_empty (x ∷ xs) e = absurd (omega (arith, e))
 
 opener : (begin s : Standing) (x : Exchange) → begin.side ≡ Opener → owed begin.stage ≡ 0 → Reaches begin x s → (x.asks ≡ []) × (x.replies ≡ [])
 opener begin s x q o r =
-    let none = sym r.asks ∙ no_asks r.events (fed begin x.bytes) s (fed_side_at begin.stage begin x.bytes ∙ q) r.runs in
+    let none = sym r.asks ∙ no_asks r.events (fed begin x.bytes) s ((fed_keeps_at begin.stage begin x.bytes).1 ∙ q) r.runs in
     (none, is_empty x.replies (omega (arith, ends begin s x o r, ap length none)))
 
 pub asks_first : AsksBeforeReplies
