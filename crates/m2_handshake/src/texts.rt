@@ -2,6 +2,7 @@
 
 ghost use Rattle.std.specs.Prelude.{◌≡◌, ◌≤◌, ◌∷◌, [], length, IfOk};
 ghost use Rattle.m2_control.specs.Control.{IsWritable, text_of};
+ghost use Rattle.m2_frame.specs.declared.frame.TheConstants.{CONTROL_LIMIT};
 ghost use Rattle.m2_handshake.specs.Texts.{Adds, IsReply, frame_text, hello, request, done, signature, bad_method};
 
 use m2_addr::{Addr, AnyAddr};
@@ -27,7 +28,7 @@ const UNSIGNED: [u8; SIGNATURE_BYTES] = [0; SIGNATURE_BYTES];
 /// Appends the frame of a payload, or nothing for want of memory.
 pub fn put_frame(alloc: Global, control: &Control, out: &mut Blob) -> Result<(), NoMemory>
     requires writable { IsWritable control.now }
-    requires short { length (text_of control.now) ≤ 1048576 }
+    requires short { length (text_of control.now) ≤ CONTROL_LIMIT }
     ensures { Adds result out.old out.new (frame_text control.now) }
 {
     let mut first = Blob::empty(alloc);

@@ -11,7 +11,8 @@ use Rattle.m2_frame.specs.Decoder.{IsSameButRoom, fed}
 use Rattle.m2_frame.specs.Position.{Position}
 use Rattle.m2_frame.specs.Reading.{Item, start, judge}
 use Rattle.m2_frame.specs.Stream.{Splits}
-use Rattle.m2_listing.specs.Listing.{limit, IsAll, IsCutAtLimit, Listed, Lists, ListsPrefix, StandsBy}
+use Rattle.m2_listing.specs.declared.listing.TheConstants.{LIMIT}
+use Rattle.m2_listing.specs.Listing.{IsAll, IsCutAtLimit, Listed, Lists, ListsPrefix, StandsBy}
 use Rattle.m2_listing.specs.Reading.{Fetches}
 use Rattle.m2_listing.specs.SoFar.{SoFar, EndsHere, FedTo, GoesOn}
 use Rattle.m2_listing.specs.declared.listing.Listing.{Listing}
@@ -45,7 +46,7 @@ gave_beyond given given' x got first e =
     let parts : got ≡ x ++ drop (length x) got = sym (take-append-drop (length x) got) ∙ ap (λ t. t ++ drop (length x) got) (sym first) in
     e ∙ ap (λ t. given ++ t) parts ∙ sym (append_assoc given x (drop (length x) got))
 
-cut_at_limit : (bytes more : List ℕ) (src : SeenSource) → src.given ≡ bytes ++ more → length bytes ≡ limit → 0 < length more → IsCutAtLimit bytes src
+cut_at_limit : (bytes more : List ℕ) (src : SeenSource) → src.given ≡ bytes ++ more → length bytes ≡ LIMIT → 0 < length more → IsCutAtLimit bytes src
 cut_at_limit bytes more src e len some = record {
   beyond = omega (arith, ap length e, length-append bytes more, len, some);
   given = sym (ap (λ n. take n src.given) (sym len) ∙ ap (take (length bytes)) e ∙ take-append_seam bytes more);
@@ -77,7 +78,7 @@ SoFar-came feeds src src' room n old s new before mid after sofar f passes =
     }
 
 Lists-stopped : (end : Listing) (bytes : List ℕ) (src : SeenSource) (new : Position) (before after : SeenSink) → FedTo (Err end) bytes new before after
-    → IsPrefixOf bytes src.given → length bytes ≤ limit → Lists end src before after
+    → IsPrefixOf bytes src.given → length bytes ≤ LIMIT → Lists end src before after
 Lists-stopped (listing.Bad place f) bytes src new before after d prefix le =
     (bytes, new.rest, prefix, le, d.1, subst (λ p. Listed bytes new.rest p before after) (sym d.0) d.2)
 Lists-stopped listing.WriteFault bytes src new before after d prefix le = (bytes, prefix, d)
@@ -134,7 +135,7 @@ Lists-end listing.NoMemory src src' room s before after sofar d all = absurd d
 
 -- nothing is read yet
 pub SoFar-begins : (src : SeenSource) (s : Position) (out : SeenSink) → s ≡ record { place = 0; rest = []; granted = false; room = 0 } → src.given ≡ []
-    → SoFar src 1073741824 s out out
+    → SoFar src LIMIT s out out
 SoFar-begins src s out e begun =
     let rest : s.rest ≡ [] = ap (λ (t : Position). t.rest) e in
     let place : s.place ≡ 0 = ap (λ (t : Position). t.place) e in

@@ -8,12 +8,9 @@ use Rattle.m2_edge.specs.Faults.{HasRisen}
 use Rattle.m2_frame.specs.Reading.{Item, start, bad, judge}
 use Rattle.m2_frame.specs.Stream.{Splits}
 use Rattle.m2_listing.specs.Lines.{lines_of}
+use Rattle.m2_listing.specs.declared.listing.TheConstants.{LIMIT}
 use Rattle.m2_listing.specs.declared.listing.Listing.{Listing}
 use Rattle.m2_listing.specs.declared.listing.Listing.TheVariants as listing
-
--- the most bytes that a listed file has
-abbrev pub limit : ℕ
-limit = 1073741824
 
 -- ---- what was read
 
@@ -24,8 +21,8 @@ pub record IsAll (bytes : List ℕ) (src : SeenSource) : Type 0 where
 
 -- these bytes are what the reads gave up to the limit, and they gave more
 pub record IsCutAtLimit (bytes : List ℕ) (src : SeenSource) : Type 0 where
-  pub beyond : limit < length src.given
-  pub given : bytes ≡ take limit src.given
+  pub beyond : LIMIT < length src.given
+  pub given : bytes ≡ take LIMIT src.given
 
 -- ---- what was written
 
@@ -55,11 +52,11 @@ ListsPrefix src before after = (bytes : List ℕ) × IsPrefixOf bytes src.given 
 -- The others: a prefix of the lines was written.
 abbrev pub Lists : Listing → SeenSource → SeenSink → SeenSink → Type 0
 Lists listing.Whole src before after =
-    (bytes : List ℕ) × (place : ℕ) × IsAll bytes src × (length bytes ≤ limit) × Listed bytes [] place before after
+    (bytes : List ℕ) × (place : ℕ) × IsAll bytes src × (length bytes ≤ LIMIT) × Listed bytes [] place before after
 Lists (listing.Bad place f) src before after =
-    (bytes : List ℕ) × (rest : List ℕ) × IsPrefixOf bytes src.given × (length bytes ≤ limit) × (judge rest ≡ bad f) × Listed bytes rest place before after
+    (bytes : List ℕ) × (rest : List ℕ) × IsPrefixOf bytes src.given × (length bytes ≤ LIMIT) × (judge rest ≡ bad f) × Listed bytes rest place before after
 Lists (listing.Cut place) src before after =
-    (bytes : List ℕ) × (rest : List ℕ) × IsAll bytes src × (length bytes ≤ limit) × (judge rest ≡ start) × (rest ≢ []) × Listed bytes rest place before after
+    (bytes : List ℕ) × (rest : List ℕ) × IsAll bytes src × (length bytes ≤ LIMIT) × (judge rest ≡ start) × (rest ≢ []) × Listed bytes rest place before after
 Lists (listing.TooLong place) src before after =
     (bytes : List ℕ) × (rest : List ℕ) × IsCutAtLimit bytes src × (judge rest ≡ start) × Listed bytes rest place before after
 Lists listing.ReadFault src before after = ListsPrefix src before after

@@ -5,13 +5,14 @@ use Rattle.m2_edge.specs.Sink.{SeenSink}
 use Rattle.m2_edge.specs.Source.{SeenSource}
 use Rattle.m2_frame.specs.Position.{Position}
 use Rattle.m2_frame.specs.Reading.{start, bad, judge}
-use Rattle.m2_listing.specs.Listing.{limit, Listed, Broken, Lists, IsFaultCause}
+use Rattle.m2_listing.specs.declared.listing.TheConstants.{LIMIT}
+use Rattle.m2_listing.specs.Listing.{Listed, Broken, Lists, IsFaultCause}
 use Rattle.m2_listing.specs.declared.listing.Listing.{Listing}
 use Rattle.m2_listing.specs.declared.listing.Listing.TheVariants as listing
 
 -- `room` more bytes may come, the rest is a start, and the lines of all that the reads gave before it were written
 pub record SoFar (src : SeenSource) (room : ℕ) (s : Position) (before after : SeenSink) : Type 0 where
-  pub counted : length src.given + room ≡ limit
+  pub counted : length src.given + room ≡ LIMIT
   pub open_end : judge s.rest ≡ start
   pub listed : Listed src.given s.rest s.place before after
 
@@ -26,8 +27,8 @@ IsEndCause (Err end) src src' out out' = IsFaultCause end src src' out out'
 
 -- the end of the file: place is where the last whole frame ends
 abbrev pub EndsHere : Listing → Position → ℕ → Type 0
-EndsHere listing.Whole s room = s.place + room ≡ limit
-EndsHere (listing.Cut place) s room = (place ≡ s.place) × (s.place + room ≢ limit)
+EndsHere listing.Whole s room = s.place + room ≡ LIMIT
+EndsHere (listing.Cut place) s room = (place ≡ s.place) × (s.place + room ≢ LIMIT)
 EndsHere _ s room = ⊥
 
 abbrev pub IsFedCause : Result (Unit {0}) Listing → ℕ → ℕ → Type 0

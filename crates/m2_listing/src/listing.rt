@@ -3,6 +3,7 @@
 ghost use Rattle.std.specs.Prelude.{◌≡◌, ℕ, ◌<◌, ◌≤◌, List, [], ◌++◌, IfOk, OnOk};
 ghost use Rattle.m2_edge.specs.Sink.{SeenSink};
 ghost use Rattle.m2_edge.specs.Source.{GivesItsInput};
+ghost use Rattle.m2_listing.specs.declared.listing.TheConstants.{LIMIT};
 ghost use Rattle.m2_listing.specs.Listing.{Listed, Lists, StandsBy, IsFaultCause};
 ghost use Rattle.m2_listing.specs.Passing.{PutsOut, IsPutCause};
 ghost use Rattle.m2_listing.specs.SoFar.{SoFar, GoesOn, IsEndCause, EndsHere, IsFedCause, FedTo};
@@ -49,7 +50,7 @@ impl From<NoMemory> for Listing {
 
 /// What the end of the file says: nothing may follow the last whole frame.
 fn at_end(decoder: &Decoder, room: usize) -> Listing
-    requires { room ≤ 1073741824 }
+    requires { room ≤ LIMIT }
     ensures { EndsHere result decoder.now room }
 {
     if decoder.place() == (LIMIT - room) as u64 {
@@ -99,7 +100,7 @@ fn list_piece<S: Source, O: Sink>(
     out: &mut O,
     room: usize,
 ) -> Result<usize, Listing>
-    requires room { room ≤ 1073741824 }
+    requires room { room ≤ LIMIT }
     requires known { GivesItsInput (S.seen src.old) }
     requires written { lines.old.waiting.bytes ≡ [] }
     ensures read_causes { (S.seen src.old).faults ≤ (S.seen src.new).faults }
