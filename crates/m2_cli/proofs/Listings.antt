@@ -6,7 +6,8 @@ use Rattle.m2_edge.specs.Faults.{HasRisen}
 use Rattle.m2_edge.specs.Sink.{SeenSink, IsFlushed}
 use Rattle.m2_edge.specs.Source.{SeenSource, IsPrefixOf}
 use Rattle.m2_listing.specs.Lines.{lines_of}
-use Rattle.m2_listing.specs.Listing.{limit, Lists, ListsPrefix, Listed, Broken, IsAll, IsFaultCause, StandsBy}
+use Rattle.m2_listing.specs.declared.listing.TheConstants.{LIMIT}
+use Rattle.m2_listing.specs.Listing.{Lists, ListsPrefix, Listed, Broken, IsAll, IsFaultCause, StandsBy}
 use Rattle.m2_listing.specs.declared.listing.Listing.{Listing}
 use Rattle.m2_listing.specs.declared.listing.Listing.TheVariants as listing
 use Rattle.m2_cli.specs.declared.status.Status.{Status}
@@ -29,7 +30,7 @@ lists_prefix : (l : Listing) (src : SeenSource) (old new : SeenSink) → Lists l
 lists_prefix listing.Whole src old new (bytes, place, all, short, listed) = (bytes, all_prefix bytes src all, broken_of bytes _ place old new listed)
 lists_prefix (listing.Bad place f) src old new (bytes, rest, some, short, judged, listed) = (bytes, some, broken_of bytes rest place old new listed)
 lists_prefix (listing.Cut place) src old new (bytes, rest, all, short, judged, some, listed) = (bytes, all_prefix bytes src all, broken_of bytes rest place old new listed)
-lists_prefix (listing.TooLong place) src old new (bytes, rest, cut, judged, listed) = (bytes, (limit, cut.given), broken_of bytes rest place old new listed)
+lists_prefix (listing.TooLong place) src old new (bytes, rest, cut, judged, listed) = (bytes, (LIMIT, cut.given), broken_of bytes rest place old new listed)
 lists_prefix listing.ReadFault src old new h = h
 lists_prefix listing.WriteFault src old new h = h
 lists_prefix listing.NoMemory src old new h = h
