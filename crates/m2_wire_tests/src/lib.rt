@@ -1,4 +1,5 @@
-//! Tests of the wire's crates: values from outside, and calls near the bounds of what they take.
+//! Tests of bytes, tags, checksums, addresses and control payloads: values from outside, and calls near the bounds
+//! of what they take.
 //!
 //! What it is: a file for each crate. They stand apart from the crates, since a crate with tests is proved
 //! twice. What it isn't: what a clause says already.
@@ -12,13 +13,5 @@ mod bytes;
 mod control;
 #[cfg(test)]
 mod crc;
-#[cfg(test)]
-mod frame;
-#[cfg(test)]
-mod handshake;
-#[cfg(test)]
-mod message;
-#[cfg(test)]
-mod message_frame;
 #[cfg(test)]
 mod tag;
