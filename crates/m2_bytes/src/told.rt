@@ -31,3 +31,7 @@ impl Told {
         Told {}
     }
 }
+
+unsafe impl Send for Told {}
+
+unsafe impl Sync for Told {}

@@ -1,0 +1,19 @@
+//! A message on its way to a dispatcher.
+
+use m2_message::Message;
+use m2_policy::Key;
+use m2_shared::Grant;
+
+/// A message that was accepted, with what was granted for it. It can't be dropped, since a grant is to
+/// be given back.
+pub struct Letter {
+    /// The place among the nodes, from 0, of the one that it comes from.
+    pub peer: u32,
+    /// Its priority and the way that it is dispatched.
+    pub key: Key,
+    /// Its number in the session, from 1.
+    pub number: u64,
+    pub message: Message,
+    /// What a throttle granted for its bytes.
+    pub grant: Grant,
+}

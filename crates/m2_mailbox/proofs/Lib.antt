@@ -1,0 +1,4 @@
+pub mod Sublists
+pub mod Totals
+pub mod Keeps
+pub mod Held

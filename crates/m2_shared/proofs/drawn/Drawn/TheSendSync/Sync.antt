@@ -1,0 +1,7 @@
+-- It owns nothing, so any thread may share it.
+use denote.Param.Send.{IsSync, part_keyless}
+use Rattle.m2_shared.specs.contracts.drawn.Drawn.{the_row}
+use Rattle.m2_shared.proofs.drawn.Drawn.TheSendSync.Send.{send}
+
+pub sync : IsSync the_row
+sync = record { shared = λ d b o κ q. part_keyless the_row send q d b o }

@@ -1,0 +1,10 @@
+pub mod Place
+pub mod Throttle
+pub mod ThrottleFields
+pub mod Take
+pub mod Numbers
+pub mod NumbersFields
+pub mod Draw
+pub mod Held
+pub mod Counted
+pub mod Changes
