@@ -68,6 +68,11 @@ Reads read.Ended piece old new = IfSome old.inflow (IsReadUp true) × (new ≡ w
 Reads read.Failed piece old new = HasRisen old.faults new.faults × (new ≡ record old { faults = new.faults })
 Reads read.NoMemory piece old new = new ≡ old
 
+-- For want of memory a read leaves the piece as it was.
+abbrev pub LeavesPiece : EndRead → List ℕ → List ℕ → Type 0
+LeavesPiece read.NoMemory old new = new ≡ old
+LeavesPiece _ old new = Unit {0}
+
 -- ---- writing
 
 -- the end, after a write of a piece that answered so

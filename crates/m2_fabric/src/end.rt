@@ -1,7 +1,7 @@
 //! One end of a socket.
 
 ghost use Rattle.std.specs.Prelude.{◌≡◌, ◌<◌, false, length, OnOk, OnErr};
-ghost use Rattle.m2_fabric.specs.End.{Reads, SeenEnd, Writes, after_closing, after_news};
+ghost use Rattle.m2_fabric.specs.End.{LeavesPiece, Reads, SeenEnd, Writes, after_closing, after_news};
 ghost use Rattle.m2_fabric.specs.Log.{log_of};
 
 use crate::log::EndLog;
@@ -69,11 +69,12 @@ pub trait End: Drop {
     fn faults(&self) -> u64
         ensures { result ≡ (seen self.now).faults };
 
-    /// Reads the next bytes into the first part of `into`.
+    /// Reads the next bytes into the first part of `into`. For want of memory the piece stays as it was.
     fn read(&mut self, into: &mut [u8]) -> EndRead
         requires piece { 0 < length into.old }
         requires open { (seen self.old).log.closed ≡ false }
-        ensures { Reads result into.new (seen self.old) (seen self.new) };
+        ensures reads { Reads result into.new (seen self.old) (seen self.new) }
+        ensures piece { LeavesPiece result into.old into.new };
 
     /// Writes the first bytes of the piece.
     fn write(&mut self, bytes: &[u8]) -> EndWrite

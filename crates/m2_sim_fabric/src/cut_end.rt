@@ -1,7 +1,7 @@
 //! An end that breaks after so many bytes.
 
 ghost use Rattle.std.specs.Prelude.{◌≡◌, ◌<◌, ◌≤◌, false, length, take};
-ghost use Rattle.m2_fabric.specs.End.{Reads, Writes};
+ghost use Rattle.m2_fabric.specs.End.{LeavesPiece, Reads, Writes};
 ghost use Rattle.m2_sim_fabric.specs.CutEnd.{Bounded, ReadsBounded, WritesBounded, allowance, allowed, counted_read, counted_write, is_cut, left_after_read, left_after_write, passed, shown};
 
 use m2_bytes::NoMemory;
@@ -112,7 +112,8 @@ fn read_within<E: End>(end: &mut E, left: Option<u64>, into: &mut [u8]) -> EndRe
     requires piece { 0 < length into.old }
     requires whole { (E.seen end.old).log.closed ≡ false }
     requires passes { is_cut left ≡ false }
-    ensures { Reads result (allowed left into.new) (E.seen end.old) (E.seen end.new) }
+    ensures reads { Reads result (allowed left into.new) (E.seen end.old) (E.seen end.new) }
+    ensures piece { LeavesPiece result into.old into.new }
 {
     let most = allowance(left, into.len());
     let (first, _) = into.split_at_mut(most);
@@ -151,6 +152,7 @@ impl<E: End> End for CutEnd<E> {
         requires piece { 0 < length into.old }
         requires open { self.old.inner.log.closed ≡ false }
         ensures reads { Reads result into.new (shown self.old) (shown self.new) }
+        ensures piece { LeavesPiece result into.old into.new }
         ensures exact { ReadsBounded result into.new self.old self.new }
     {
         if is_cut(self.left) {

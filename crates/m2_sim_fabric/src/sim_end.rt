@@ -1,7 +1,7 @@
 //! An end in memory.
 
 ghost use Rattle.std.specs.Prelude.{◌≡◌, ◌<◌, ◌≤◌, false, length, min, take, OnOk, OnErr};
-ghost use Rattle.m2_fabric.specs.End.{Reads, SeenEnd, Writes, after_closing, after_news, fresh_end};
+ghost use Rattle.m2_fabric.specs.End.{LeavesPiece, Reads, SeenEnd, Writes, after_closing, after_news, fresh_end};
 ghost use Rattle.m2_fabric.specs.Log.{log_of};
 ghost use Rattle.m2_fabric.specs.declared.log.TheConstants.{MOST_MOVED};
 ghost use Rattle.m2_sim_fabric.specs.SimEnd.{ReadsAll, WritesAll};
@@ -94,6 +94,7 @@ impl End for SimEnd {
         requires piece { 0 < length into.old }
         requires open { self.old.log.closed ≡ false }
         ensures reads { Reads result into.new self.old self.new }
+        ensures piece { LeavesPiece result into.old into.new }
         ensures exact { ReadsAll result into.new self.old }
     {
         if self.failed {

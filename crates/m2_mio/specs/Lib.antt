@@ -1,0 +1,4 @@
+pub mod Address
+pub mod End
+pub mod Port
+pub mod Stream

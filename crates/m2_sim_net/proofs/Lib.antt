@@ -1,0 +1,7 @@
+pub mod Arriving
+pub mod Entering
+pub mod Flowing
+pub mod Loops
+pub mod Pairs
+pub mod Passes
+pub mod Told

@@ -1,0 +1,5 @@
+pub mod InStep
+pub mod Kept
+pub mod Meeting
+pub mod News
+pub mod SimFabric
