@@ -1,0 +1,9 @@
+pub mod Agreeing
+pub mod Sound
+pub mod Faulting
+pub mod Writing
+pub mod Greeted
+pub mod Unnamed
+pub mod Counted
+pub mod Numbered
+pub mod Asked

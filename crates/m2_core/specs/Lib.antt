@@ -1,0 +1,10 @@
+pub mod CoreNow
+pub mod Agrees
+pub mod Effects
+pub mod Queues
+pub mod Moves
+pub mod Calls
+pub mod Shaken
+pub mod Composing
+pub mod Numbering
+pub mod Asking

@@ -1,0 +1,15 @@
+//! What a session's step leaves for the record.
+
+use m2_fabric::End;
+
+/// What a step of the session leaves for whoever holds the core: the end of the feed that was left, closed;
+/// and what is handed to the dispatcher, a discard and behind it a remote reset.
+#[derive(Drop)]
+pub struct Aftermath<E: End> {
+    /// The end of the feed, where the step closed one.
+    pub closed: Option<E>,
+    /// What was accepted and isn't dispatched is thrown away.
+    pub discarded: bool,
+    /// The dispatcher is told that the peer has reset the session.
+    pub remote_reset: bool,
+}

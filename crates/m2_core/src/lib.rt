@@ -1,0 +1,28 @@
+//! One side of a session without its journal: the session, the outgoing queue and the feed.
+//!
+//! What it is: [`Core`], what a record is beside its journal, its plan and its trails; and its calls, of
+//! which each says by the replay of journals what it does: it is one entry, and behind that entry the core
+//! stands where the replay does, wherever it did so before ([`Aftermath`] has what the entry leaves for the
+//! record). What it isn't: a record. It writes no journal, knows no plan and no clock, and does nothing by
+//! itself.
+//!
+//! `specs/CoreNow.antt` says what contracts see of a core, `specs/Agrees.antt` what it means that it stands
+//! where a journal's replay does.
+#![tactic(auto)]
+
+mod aftermath;
+mod asking;
+mod composing;
+mod counting;
+mod facts;
+mod feed_laws;
+mod live;
+mod numbering;
+mod plan;
+mod shaking;
+mod side;
+mod sockets;
+
+pub use aftermath::Aftermath;
+pub use asking::CoreAsk;
+pub use side::Core;

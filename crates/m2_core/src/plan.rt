@@ -1,0 +1,73 @@
+//! What a plan asks for.
+
+ghost use Rattle.std.specs.Prelude.{◌≡◌, ◌-◌, ℕ, Bool, Option, Some, true, false, option_map, OnErr, OnOk, max};
+ghost use Rattle.m2_journal.specs.Items as item;
+ghost use Rattle.m2_journal.specs.Plan.{Planned, to_post};
+ghost use Rattle.m2_message.specs.Message.{content_of};
+ghost use Rattle.m2_session.specs.declared.event.Event.TheVariants as event;
+ghost use Rattle.m2_session.specs.Steps.{step_of};
+ghost use Rattle.m2_shared.specs.Place.{IsAlone};
+ghost use Rattle.m2_core.specs.Agrees.{LeadsOn, MayCome};
+ghost use Rattle.m2_core.specs.Calls.{after_dial, after_down, after_posted, is_exhausted};
+ghost use Rattle.m2_core.specs.CoreNow.{IsOwned, held};
+ghost use Rattle.m2_core.specs.Effects.{IsAftermath};
+
+use crate::aftermath::Aftermath;
+use crate::feed_laws::feed_laws;
+use crate::side::Core;
+use m2_bytes::NoMemory;
+use m2_fabric::End;
+use m2_message::Message;
+use m2_session::{Event, Phase};
+use m2_shared::{TakePass, Throttle};
+
+impl<E: End> Core<E> {
+    /// Makes room for so many posts.
+    pub fn reserve_posts(&mut self, n: u32) -> Result<(), NoMemory>
+        ensures ok { OnOk result (self.new ≡ record self.old { live = record self.old.live { out = record self.old.live.out { spare = max self.old.live.out.spare n } } }) }
+        ensures err { OnErr result (self.new ≡ self.old) }
+    {
+        self.live.out.reserve(n)
+    }
+
+    /// Queues a copy of a message: the entry Post. Err for want of memory changes nothing.
+    #[tactic(auto, using(crate::proofs::Agreeing::posted))]
+    pub fn post(&mut self, message: &Message) -> Result<(), NoMemory>
+        ensures ok { OnOk result (self.new ≡ record self.old { live = after_posted (content_of message.now) self.old.live }) }
+        ensures err { OnErr result (self.new ≡ self.old) }
+        ensures leads { OnOk result ((place : ℕ) → LeadsOn (item.post place (Some (to_post (content_of message.now)))) self.old self.new) }
+    {
+        feed_laws();
+        let copy = message.copy()?;
+        match self.live.out.post(copy) {
+            Ok(()) => Ok(()),
+            Err(_) => Err(NoMemory),
+        }
+    }
+
+    /// A dial is wanted, where there is no session or nothing to write: the entry Dial.
+    pub fn dial(&mut self)
+        ensures value { self.new ≡ after_dial self.old }
+        ensures leads { (planned : Option Planned) → LeadsOn (item.dial planned) self.old self.new }
+    {
+        self.dials = self.dials
+            || matches!(self.live.session.phase, Phase::Absent | Phase::Standby);
+    }
+
+    /// Gives the session up: the entry Down. What is owed then is told by the aftermath. By the plan it
+    /// may come at any time, and else where a number is used up.
+    pub fn down(&mut self, throttle: &Throttle, pass: &mut TakePass) -> Aftermath<E>
+        requires pass { pass.old.place ≡ throttle.now.place }
+        requires owned { IsOwned throttle.now.place self.old.live.granted }
+        ensures value { self.new ≡ after_down self.old }
+        ensures leads { (planned : Bool) (step : Option Planned) → LeadsOn (item.down planned step) self.old self.new }
+        ensures may { is_exhausted self.old ≡ true → (step : Option Planned) → MayCome (item.down false step) self.old }
+        ensures aftermath { IsAftermath (step_of self.old.live.session event.MarkedDown).effects self.old.live.feed (option_map E.seen result.closed) result.discarded result.remote_reset }
+        ensures place { pass.new.place ≡ pass.old.place }
+        ensures word { IsAlone throttle.now.place → pass.new.word ≡ pass.old.word - held self.old.live.granted }
+    {
+        let aftermath = self.live.tell(Event::MarkedDown, throttle, pass);
+        self.dials = false;
+        aftermath
+    }
+}

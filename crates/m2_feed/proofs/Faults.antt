@@ -1,0 +1,317 @@
+-- What the code finds wrong is a fault of the replay; what it finds acknowledged the replay was told.
+use Rattle.std.proofs.Common.{◌≡◌, ◌≢◌, ℕ, ◌+◌, ◌≤◌, ◌<◌, ◌==◌, Bool, true, false, cond, not, List, [], ◌∷◌, ◌++◌, length, take, drop, Option, Some, None, Result, Ok, Err, refl, sym, ap, ◌∙◌, subst, arith, append-nil}
+use Rattle.std.specs.Prelude.{◌&&◌, ◌||◌, if◌then◌else◌, nat_lt, slice_get, option_map}
+use Rattle.std.specs.List.{cons_option, filter_map, list_any}
+use Rattle.std.specs.Option.{is_some, option_to_list}
+use Rattle.std.proofs.lemmas.Bool.{true≢false, eq-eqb, eqb-true, lt-ltb}
+use Rattle.m2_frame.specs.declared.epilogue.Late.{Late}
+use Rattle.m2_frame.specs.declared.epilogue.Late.TheVariants.{Complete, Aborted}
+use Rattle.m2_frame.specs.declared.fault.FrameFault.{FrameFault}
+use Rattle.m2_frame.specs.declared.fault.FrameFault.TheVariants.{BadSegmentCrc}
+use Rattle.m2_frame.specs.declared.preamble.Preamble.{Preamble}
+use Rattle.m2_frame.specs.declared.preamble.TheConstants.{PREAMBLE_BYTES}
+use Rattle.m2_frame.specs.Frame.{Parts, message_tag}
+use Rattle.m2_frame.specs.Preamble.{read_preamble}
+use Rattle.m2_frame.specs.Reading.{Item, whole, dropped, Front, start, bad, text, asked_by, first_is_right, first_len, later_len, frame_in, front_of, judge, judge_body, judge_first, judge_later, judge_rest, owed_at, size_asked, size_in, size_of, text_len}
+use Rattle.m2_frame.proofs.Cutting.{bad_isnt_text, same_text, start_isnt_text}
+use Rattle.m2_handshake.specs.declared.answer.HalfStep.TheVariants as half
+use Rattle.m2_handshake.specs.declared.fault.HalfFault.{HalfFault}
+use Rattle.m2_handshake.proofs.Leading.{either}
+use Rattle.m2_journal.specs.Feeds.{answer_said, next_said, is_passed, said_at, told, told_by}
+use Rattle.m2_journal.specs.Lawful.{acknowledges_too_much, begins_message, has_failed, is_bad, is_broken, is_early_message, is_refused, said_next}
+use Rattle.m2_journal.specs.Said.{Said, says, brings, aborts, garbles, Split, split, said, said_by, said_of_message}
+use Rattle.m2_journal.specs.SideFacts.{SideFacts}
+use Rattle.m2_journal.specs.State.{Feed, State}
+use Rattle.m2_journal.proofs.Splitting.{split-open}
+use Rattle.m2_message_frame.specs.declared.header_text.TheConstants.{HEADER_BYTES}
+use Rattle.m2_message_frame.specs.MessageFrame.{message_in}
+use Rattle.m2_session.specs.declared.session.Phase.{Phase}
+use Rattle.m2_session.specs.declared.session.Phase.TheVariants.{Absent, Connecting, IdentSent, ReconnectSent, Ready, Standby, Wait}
+use Rattle.m2_session.specs.Phases as phase
+use Rattle.m2_tag.specs.Tags.{tag_in}
+use Rattle.m2_feed.specs.Calls.{GreetsOn, IsBad, IsFront, Owes}
+use Rattle.m2_feed.specs.FeedNow.{FeedNow, Reading, shaking, framing}
+use Rattle.m2_feed.specs.Laws.{FindsFaults, HearsTold}
+use Rattle.m2_feed.specs.Stands.{Frames, ReadsAs, Shakes, Stands, is_ready, passes_over}
+use Rattle.m2_feed.proofs.Framing.{at-front, idle-next, idle-place, ready-place}
+use Rattle.m2_feed.proofs.Shaking.{fails-there}
+
+-- ---- one fault of several
+
+or2 : (a b c d e : Bool) → b ≡ true → (a || b || c || d || e) ≡ true
+or2 true b c d e h = refl
+or2 false b c d e h = ap (λ x. false || x || c || d || e) h
+
+or3 : (a b c d e : Bool) → c ≡ true → (a || b || c || d || e) ≡ true
+or3 true b c d e h = refl
+or3 false true c d e h = refl
+or3 false false c d e h = ap (λ x. false || false || x || d || e) h
+
+or4 : (a b c d e : Bool) → d ≡ true → (a || b || c || d || e) ≡ true
+or4 true b c d e h = refl
+or4 false true c d e h = refl
+or4 false false true d e h = refl
+or4 false false false d e h = ap (λ x. false || false || false || x || e) h
+
+or5 : (a b c d e : Bool) → e ≡ true → (a || b || c || d || e) ≡ true
+or5 true b c d e h = refl
+or5 false true c d e h = refl
+or5 false false true d e h = refl
+or5 false false false true e h = refl
+or5 false false false false e h = ap (λ x. false || false || false || false || x) h
+
+module _ (s : State) (d : Feed) where
+  broken-bad : is_bad (judge d.rest) ≡ true → is_broken s d ≡ true
+  broken-bad h = or2 (has_failed d.hand) (is_bad (judge d.rest)) (is_refused s.session.phase s.last (said_next s d)) (is_early_message s d) (acknowledges_too_much s d) h
+
+  broken-refused : is_refused s.session.phase s.last (said_next s d) ≡ true → is_broken s d ≡ true
+  broken-refused h = or3 (has_failed d.hand) (is_bad (judge d.rest)) (is_refused s.session.phase s.last (said_next s d)) (is_early_message s d) (acknowledges_too_much s d) h
+
+  broken-early : is_early_message s d ≡ true → is_broken s d ≡ true
+  broken-early h = or4 (has_failed d.hand) (is_bad (judge d.rest)) (is_refused s.session.phase s.last (said_next s d)) (is_early_message s d) (acknowledges_too_much s d) h
+
+  broken-told : acknowledges_too_much s d ≡ true → is_broken s d ≡ true
+  broken-told h = or5 (has_failed d.hand) (is_bad (judge d.rest)) (is_refused s.session.phase s.last (said_next s d)) (is_early_message s d) (acknowledges_too_much s d) h
+
+-- ---- the text at the front is the one that is said next
+
+said-there : (f : SideFacts) (s : State) (item : Item) (len : ℕ) (v : FeedNow) (d : Feed) (rest : List ℕ) (granted : Bool) → judge rest ≡ text item len →
+    passes_over s item ≡ false → Frames f s v d rest granted → said_next s d ≡ Some (said item)
+said-there f s item len v d rest granted j stops k = at (is_ready s) refl
+  where
+    at : (b : Bool) → is_ready s ≡ b → said_next s d ≡ Some (said item)
+    at true q =
+        let halts : is_passed s.last (said item) ≡ false = sym (ap (λ b. b && is_passed s.last (said item)) q) ∙ stops in
+        ap (λ b. if b then next_said s.last d else answer_said d) q ∙ (ready-place f s item len v d rest granted q j halts k).1
+    at false q = ap (λ b. if b then next_said s.last d else answer_said d) q ∙ idle-next f s item len v d rest granted q j k
+
+refused-there : (f : SideFacts) (s : State) (item : Item) (len : ℕ) (v : FeedNow) (d : Feed) (rest : List ℕ) (granted : Bool) → judge rest ≡ text item len →
+    passes_over s item ≡ false → is_refused s.session.phase s.last (Some (said item)) ≡ true → Frames f s v d rest granted → is_broken s d ≡ true
+refused-there f s item len v d rest granted j stops refuses k =
+    broken-refused s d (ap (is_refused s.session.phase s.last) (said-there f s item len v d rest granted j stops k) ∙ refuses)
+
+-- ---- a size that is asked for is that of a MESSAGE
+
+item_tag : Item → ℕ
+item_tag (whole f) = f.tag
+item_tag (dropped tag) = tag
+
+front-tag : (p : Preamble) (first later : List ℕ) (r : Result Late FrameFault) (i : Item) (n : ℕ) → front_of p first later r ≡ text i n → item_tag i ≡ p.tag
+unfolding item_tag
+front-tag p first later (Ok Complete) i n e = ap item_tag (sym (same_text (whole (frame_in p first later)) i (text_len p) n e).0)
+front-tag p first later (Ok Aborted) i n e = ap item_tag (sym (same_text (dropped p.tag) i (text_len p) n e).0)
+front-tag p first later (Err f) i n e = absurd (bad_isnt_text f i n e)
+
+later-tag : (p : Preamble) (first after : List ℕ) (i : Item) (n : ℕ) → judge_later p first after ≡ text i n → item_tag i ≡ p.tag
+unfolding judge_later
+later-tag p first after i n =
+    either (λ m. m ≡ text i n → item_tag i ≡ p.tag) (nat_lt (length after) (later_len p)) start (front_of p first (take (later_len p) after) (judge_rest p (take (later_len p) after)))
+    (λ e. absurd (start_isnt_text i n e)) (front-tag p first (take (later_len p) after) (judge_rest p (take (later_len p) after)) i n)
+
+first-tag : (p : Preamble) (body : List ℕ) (i : Item) (n : ℕ) → judge_first p body ≡ text i n → item_tag i ≡ p.tag
+unfolding judge_first
+first-tag p body i n =
+    let after = if first_is_right p (take (first_len p) body) then judge_later p (take (first_len p) body) (drop (first_len p) body) else bad (BadSegmentCrc 0) in
+    either (λ m. m ≡ text i n → item_tag i ≡ p.tag) (nat_lt (length body) (first_len p)) start after
+    (λ e. absurd (start_isnt_text i n e))
+    (either (λ m. m ≡ text i n → item_tag i ≡ p.tag) (first_is_right p (take (first_len p) body)) (judge_later p (take (first_len p) body) (drop (first_len p) body)) (bad (BadSegmentCrc 0))
+    (later-tag p (take (first_len p) body) (drop (first_len p) body) i n) (λ e. absurd (bad_isnt_text (BadSegmentCrc 0) i n e)))
+
+judge-tag : (rest : List ℕ) (p : Preamble) (i : Item) (n : ℕ) → read_preamble (take PREAMBLE_BYTES rest) ≡ Ok p → judge rest ≡ text i n → item_tag i ≡ p.tag
+unfolding judge
+judge-tag rest p i n read =
+    either (λ m. m ≡ text i n → item_tag i ≡ p.tag) (nat_lt (length rest) PREAMBLE_BYTES) start (judge_body (read_preamble (take PREAMBLE_BYTES rest)) (drop PREAMBLE_BYTES rest))
+    (λ e. absurd (start_isnt_text i n e))
+    (λ e. first-tag p (drop PREAMBLE_BYTES rest) i n (ap (λ r. judge_body r (drop PREAMBLE_BYTES rest)) (sym read) ∙ e))
+
+abbrev Asks : List ℕ → Type 0
+Asks rest = (p : Preamble) × (read_preamble (take PREAMBLE_BYTES rest) ≡ Ok p) × (p.tag ≡ message_tag)
+
+none_isnt_some : (n : ℕ) → None ≡ Some n → ⊥
+none_isnt_some n e = cc
+
+size-in : (p : Preamble) (n : ℕ) → size_in p ≡ Some n → p.tag ≡ message_tag
+size-in p n e = eqb-true p.tag message_tag (at (p.tag == message_tag) e)
+  where
+    at : (b : Bool) → (if b then Some (asked_by p) else None) ≡ Some n → b ≡ true
+    at true e = refl
+    at false e = absurd (none_isnt_some n e)
+
+size-asks : (rest : List ℕ) (n : ℕ) → size_of rest ≡ Some n → Asks rest
+unfolding size_of
+size-asks rest n =
+    either (λ m. m ≡ Some n → Asks rest) (nat_lt (length rest) PREAMBLE_BYTES) None (size_asked (read_preamble (take PREAMBLE_BYTES rest)))
+    (λ e. absurd (none_isnt_some n e)) (at (read_preamble (take PREAMBLE_BYTES rest)) refl)
+  where
+    at : (r : Result Preamble FrameFault) → read_preamble (take PREAMBLE_BYTES rest) ≡ r → size_asked r ≡ Some n → Asks rest
+    at (Ok p) q e = (p, q, size-in p n e)
+    at (Err f) q e = absurd (none_isnt_some n e)
+
+-- what a MESSAGE says is no payload
+abbrev IsNoPayload : Said → Type 0
+IsNoPayload (says c) = ⊥
+IsNoPayload _ = Unit {0}
+
+message-says : (f : Parts) → IsNoPayload (said_of_message f)
+message-says f = at (length f.first == HEADER_BYTES)
+  where
+    at : (b : Bool) → IsNoPayload (if b then brings (message_in f) else garbles)
+    at true = tt
+    at false = tt
+
+item-says : (i : Item) → item_tag i ≡ message_tag → IsNoPayload (said i)
+unfolding item_tag
+item-says (whole f) e = subst (λ t. IsNoPayload (said_by (tag_in t) f)) (sym e) (message-says f)
+item-says (dropped tag) e = tt
+
+message-refused : (p : Phase) (last : ℕ) (x : Said) → phase.is p Ready ≡ false → IsNoPayload x → is_refused p last (Some x) ≡ true
+message-refused ReconnectSent last (brings m) q h = refl
+message-refused ReconnectSent last aborts q h = refl
+message-refused ReconnectSent last garbles q h = refl
+message-refused ReconnectSent last (says c) q h = absurd h
+message-refused Ready last x q h = absurd (true≢false q)
+message-refused Absent last (brings m) q h = refl
+message-refused Absent last aborts q h = refl
+message-refused Absent last garbles q h = refl
+message-refused Absent last (says c) q h = absurd h
+message-refused Connecting last (brings m) q h = refl
+message-refused Connecting last aborts q h = refl
+message-refused Connecting last garbles q h = refl
+message-refused Connecting last (says c) q h = absurd h
+message-refused IdentSent last (brings m) q h = refl
+message-refused IdentSent last aborts q h = refl
+message-refused IdentSent last garbles q h = refl
+message-refused IdentSent last (says c) q h = absurd h
+message-refused Standby last (brings m) q h = refl
+message-refused Standby last aborts q h = refl
+message-refused Standby last garbles q h = refl
+message-refused Standby last (says c) q h = absurd h
+message-refused Wait last (brings m) q h = refl
+message-refused Wait last aborts q h = refl
+message-refused Wait last garbles q h = refl
+message-refused Wait last (says c) q h = absurd h
+
+get-past : (xs : List Item) → slice_get xs (length xs) ≡ None
+get-past [] = refl
+get-past (x ∷ xs) = get-past xs
+
+-- no whole text is there: nothing is left, and the bytes are the replay's
+open-there : (f : SideFacts) (s : State) (v : FeedNow) (d : Feed) (rest : List ℕ) (granted : Bool) → ((i : Item) (n : ℕ) → judge rest ≢ text i n) → (k : Frames f s v d rest granted) →
+    (k.left ≡ []) × (d.rest ≡ rest)
+open-there f s v d rest granted none k =
+    let both : record { items = k.left; rest = d.rest } ≡ record { items = []; rest = rest } = sym k.splits ∙ split-open rest none in
+    (ap (λ (c : Split). c.items) both, ap (λ (c : Split). c.rest) both)
+
+early-open : (f : SideFacts) (s : State) (n : ℕ) (v : FeedNow) (d : Feed) (rest : List ℕ) (granted : Bool) → is_ready s ≡ false → size_of rest ≡ Some n →
+    ((i : Item) (n : ℕ) → judge rest ≢ text i n) → Frames f s v d rest granted → is_broken s d ≡ true
+early-open f s n v d rest granted q size none k =
+    let open_at = open-there f s v d rest granted none k in
+    let place = idle-place f s v d rest granted q k in
+    let got : d.got ≡ k.before = place.1 ∙ ap (λ (l : List Item). k.before ++ l) open_at.0 ∙ append-nil k.before in
+    let said_none : answer_said d ≡ None =
+    ap (λ (m : ℕ). said_at d.got m) k.taken ∙ ap (λ (l : List Item). said_at l (length k.before)) got ∙ ap (option_map said) (get-past k.before) in
+    broken-early s d
+    (ap (λ b. not b && begins_message (answer_said d) d.rest) q ∙ ap (λ o. begins_message o d.rest) said_none
+    ∙ ap (λ (l : List ℕ). begins_message None l) open_at.1 ∙ ap is_some size)
+
+early-there : (f : SideFacts) (s : State) (n : ℕ) (v : FeedNow) (d : Feed) (rest : List ℕ) (granted : Bool) → is_ready s ≡ false → owed_at rest granted ≡ Some n →
+    Frames f s v d rest granted → is_broken s d ≡ true
+early-there f s n v d rest granted q owes k = at (judge rest) refl
+  where
+    size : size_of rest ≡ Some n
+    size = ap (λ g. if g then None else size_of rest) (sym (k.ungranted q)) ∙ owes
+
+    at : (front : Front) → judge rest ≡ front → is_broken s d ≡ true
+    at start e = early-open f s n v d rest granted q size (λ i n t. start_isnt_text i n (sym e ∙ t)) k
+    at (bad x) e = early-open f s n v d rest granted q size (λ i n t. bad_isnt_text x i n (sym e ∙ t)) k
+    at (text item len) e =
+        let asks = size-asks rest n size in
+        let tag : item_tag item ≡ message_tag = judge-tag rest asks.0 item len asks.1 e ∙ asks.2 in
+        refused-there f s item len v d rest granted e (ap (λ b. b && is_passed s.last (said item)) q) (message-refused s.session.phase s.last (said item) q (item-says item tag)) k
+
+-- ---- what is told
+
+any-told : (p : ℕ → Bool) (xs : List Item) (item : Item) (more : List Item) (n : ℕ) → told_by (said item) ≡ Some n → p n ≡ true →
+    list_any p (filter_map (λ item. told_by (said item)) (xs ++ item ∷ more)) ≡ true
+any-told p [] item more n e h =
+    ap (λ o. list_any p (cons_option o (filter_map (λ item. told_by (said item)) more))) e
+    ∙ ap (λ b. b || list_any p (filter_map (λ item. told_by (said item)) more)) h
+any-told p (x ∷ xs) item more n e h = later (told_by (said x)) (any-told p xs item more n e h)
+  where
+    later : (o : Option ℕ) → list_any p (filter_map (λ item. told_by (said item)) (xs ++ item ∷ more)) ≡ true →
+        list_any p (cons_option o (filter_map (λ item. told_by (said item)) (xs ++ item ∷ more))) ≡ true
+    later (Some m) k = ap (λ b. p m || b) k ∙ or_true (p m)
+      where
+        or_true : (b : Bool) → (b || true) ≡ true
+        or_true true = refl
+        or_true false = refl
+    later None k = k
+
+any-resumed : (p : ℕ → Bool) (o : Option ℕ) (ns : List ℕ) → list_any p ns ≡ true → list_any p (option_to_list o ++ ns) ≡ true
+any-resumed p None ns h = h
+any-resumed p (Some n) ns h = ap (λ b. p n || b) h ∙ or_true (p n)
+  where
+    or_true : (b : Bool) → (b || true) ≡ true
+    or_true true = refl
+    or_true false = refl
+
+told-there : (f : SideFacts) (s : State) (item : Item) (len number : ℕ) (v : FeedNow) (d : Feed) (rest : List ℕ) (granted : Bool) (p : ℕ → Bool) → judge rest ≡ text item len →
+    told_by (said item) ≡ Some number → p number ≡ true → Frames f s v d rest granted → list_any p (told d) ≡ true
+told-there f s item len number v d rest granted p j e h k =
+    let l = at-front item len rest d.rest k.left k.splits j in
+    let got : d.got ≡ (k.before ++ k.passed) ++ item ∷ l.more = k.got ∙ ap (λ (y : List Item). k.before ++ k.passed ++ y) l.is in
+    any-resumed p d.resumed (filter_map (λ item. told_by (said item)) d.got)
+    (ap (λ (y : List Item). list_any p (filter_map (λ item. told_by (said item)) y)) got ∙ any-told p (k.before ++ k.passed) item l.more number e h)
+
+-- ---- the laws
+
+pub finds_faults : FindsFaults
+finds_faults = record { of_half = of_half; frame = frame; early = early; refused = refused; too_much = too_much }
+  where
+    of_half : (f : SideFacts) (s : State) (e : HalfFault) (old new : FeedNow) (d : Feed) → Stands f s old d →
+        GreetsOn (half.Fault e) old new → has_failed d.hand ≡ true
+    of_half f s e old new d k g =
+        let h : Shakes g.before old d = subst (λ r. ReadsAs r f s old d) g.stood k.reads in
+        fails-there e g.before g.after g.writes.0 old new d g.writes.2 h
+
+    frame : (f : SideFacts) (s : State) (e : FrameFault) (v : FeedNow) (d : Feed) → Stands f s v d →
+        IsBad v.reading e → is_broken s d ≡ true
+    frame f s e v d k b = at v.reading b k.reads
+      where
+        at : (r : Reading) → IsBad r e → ReadsAs r f s v d → is_broken s d ≡ true
+        at (shaking h) i p = absurd i
+        at (framing rest granted) i p =
+            let open_at = open-there f s v d rest granted (λ x n t. bad_isnt_text e x n (sym i.1 ∙ t)) p in
+            broken-bad s d (ap (λ (l : List ℕ). is_bad (judge l)) open_at.1 ∙ ap is_bad i.1)
+
+    early : (f : SideFacts) (s : State) (n : ℕ) (v : FeedNow) (d : Feed) → Stands f s v d →
+        is_ready s ≡ false → Owes v.reading n → is_broken s d ≡ true
+    early f s n v d k q owes = at v.reading owes k.reads
+      where
+        at : (r : Reading) → Owes r n → ReadsAs r f s v d → is_broken s d ≡ true
+        at (shaking h) i p = absurd i
+        at (framing rest granted) i p = early-there f s n v d rest granted q i p
+
+    refused : (f : SideFacts) (s : State) (item : Item) (len : ℕ) (v : FeedNow) (d : Feed) → Stands f s v d →
+        IsFront v.reading item len → passes_over s item ≡ false → is_refused s.session.phase s.last (Some (said item)) ≡ true → is_broken s d ≡ true
+    refused f s item len v d k front stops refuses = at v.reading front k.reads
+      where
+        at : (r : Reading) → IsFront r item len → ReadsAs r f s v d → is_broken s d ≡ true
+        at (shaking h) i p = absurd i
+        at (framing rest granted) i p = refused-there f s item len v d rest granted i.1 stops refuses p
+
+    too_much : (f : SideFacts) (s : State) (item : Item) (len number : ℕ) (v : FeedNow) (d : Feed) → Stands f s v d →
+        IsFront v.reading item len → told_by (said item) ≡ Some number → s.out.queue.written < number → is_broken s d ≡ true
+    too_much f s item len number v d k front e above = at v.reading front k.reads
+      where
+        at : (r : Reading) → IsFront r item len → ReadsAs r f s v d → is_broken s d ≡ true
+        at (shaking h) i p = absurd i
+        at (framing rest granted) i p =
+            broken-told s d (told-there f s item len number v d rest granted (nat_lt s.out.queue.written) i.1 e (lt-ltb s.out.queue.written number above) p)
+
+pub hears_told : HearsTold
+hears_told f s item len number v d k front e = at v.reading front k.reads
+  where
+    at : (r : Reading) → IsFront r item len → ReadsAs r f s v d → list_any (λ n. n == number) (told d) ≡ true
+    at (shaking h) i p = absurd i
+    at (framing rest granted) i p = told-there f s item len number v d rest granted (λ n. n == number) i.1 e (eq-eqb number number refl) p

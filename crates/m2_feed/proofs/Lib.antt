@@ -1,0 +1,12 @@
+pub mod Fronts
+pub mod Answering
+pub mod Texts
+pub mod Courses
+pub mod Shaking
+pub mod Framing
+pub mod Putting
+pub mod Puts
+pub mod Begun
+pub mod Beside
+pub mod Faults
+pub mod Lengths

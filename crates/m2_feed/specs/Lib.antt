@@ -1,0 +1,4 @@
+pub mod FeedNow
+pub mod Calls
+pub mod Stands
+pub mod Laws

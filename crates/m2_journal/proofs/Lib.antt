@@ -1,0 +1,17 @@
+pub mod Growing
+pub mod Splitting
+pub mod Sessions
+pub mod Paying
+pub mod Answering
+pub mod Pair
+pub mod Written
+pub mod OneMessage
+pub mod BrokenSocket
+pub mod Idents
+pub mod Cookies
+pub mod Eventful
+pub mod Fed
+pub mod Drawn
+pub mod Sockets
+pub mod Held
+pub mod Sound

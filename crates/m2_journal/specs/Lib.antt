@@ -1,0 +1,12 @@
+pub mod Plan
+pub mod SideFacts
+pub mod Items
+pub mod Said
+pub mod OutFrames
+pub mod State
+pub mod Feeds
+pub mod Steps
+pub mod Lawful
+pub mod Replay
+pub mod Growth
+pub mod Laws

@@ -1,0 +1,252 @@
+-- A feed's end is written once.
+use Rattle.std.proofs.Common.{◌≡◌, ℕ, ◌+◌, ◌<◌, ◌≤◌, Bool, true, false, if◌then◌else◌, List, [], ◌∷◌, ◌++◌, map, take, drop, length, Option, Some, None, refl, sym, ap, subst, ◌∙◌, arith}
+use Rattle.std.proofs.Math.Seq.{drop-append_seam, take-length}
+use Rattle.std.proofs.lemmas.List.{append-nil, length-take-le}
+use Rattle.m2_core.specs.Agrees.{LeadsOn, MayCome, Stays}
+use Rattle.m2_core.specs.CoreNow.{CoreNow}
+use Rattle.m2_core.specs.Moves.{HasWritten, IsWroteOn, WritesFeed}
+use Rattle.m2_fabric.specs.declared.end.EndWrite.TheVariants as write
+use Rattle.m2_fabric.specs.declared.socket.SocketId.{SocketId}
+use Rattle.m2_fabric.specs.End.{SeenEnd, with_write}
+use Rattle.m2_fabric.specs.Sockets.{IsNewTo, is_among, same_socket}
+use Rattle.m2_feed.specs.Calls.{WritesOn}
+use Rattle.m2_feed.specs.FeedNow.{FeedNow}
+use Rattle.m2_feed.specs.declared.answers.FeedWrite.{FeedWrite}
+use Rattle.m2_feed.specs.declared.answers.FeedWrite.TheVariants as put
+use Rattle.m2_journal.specs.declared.entry.Entry.{Entry}
+use Rattle.m2_journal.specs.declared.entry.Entry.TheVariants as entry
+use Rattle.m2_journal.specs.Feeds.{finished, narrowed, texts_at}
+use Rattle.m2_journal.specs.Items as item
+use Rattle.m2_journal.specs.Items.{AreCovering, Sources, item_of, reach_of}
+use Rattle.m2_journal.specs.Lawful.{Lawful}
+use Rattle.m2_journal.specs.OutFrames.{OutFrame, is_unnamed}
+use Rattle.m2_journal.specs.Plan.{Planned, planned}
+use Rattle.m2_journal.specs.Replay.{IsReplay}
+use Rattle.m2_journal.specs.SideFacts.{SideFacts}
+use Rattle.m2_journal.specs.State.{Feed, PartText, State}
+use Rattle.m2_journal.specs.Steps as journal
+use Rattle.m2_journal.specs.Steps.{after}
+use Rattle.m2_journal.proofs.Growing.{one_more}
+use Rattle.m2_record.specs.Calls.{IsCounted, entries_put, moment_after, wrote_entries}
+use Rattle.m2_record.specs.Entered.{AreSettled, HavePut}
+use Rattle.m2_record.specs.IsRecord.{FeedHasRoom, FeedIsOpen, IsOpenAmong, IsRecord, IsReplayedTo, closed_in}
+use Rattle.m2_record.specs.RecordNow.{RecordNow, Rooms, ends_of, feed_end, grounds_of, ids_of, speaks_of}
+use Rattle.m2_record.specs.Sources.{TakenTrail, broken_of, end_at, got_of, put_of, runs_of, sources_of}
+use Rattle.m2_record.proofs.Ends.{EndsStay}
+use Rattle.m2_record.proofs.Entering.{put-continues, put-covers, reach-more}
+use Rattle.m2_record.proofs.Keeping.{as-planned, ground, replay-stays, settled}
+use Rattle.m2_record.proofs.Names.{differ, same_equal, same_refl}
+use Rattle.m2_record.proofs.Opens.{closed-more}
+use Rattle.m2_record.proofs.Telling.{Beside, beside}
+
+-- ---- what it leaves of a state
+
+sending-late : (b : Bool) (k : SocketId) (w : OutFrame) (s : State) → beside (if b then journal.sends k (w ∷ []) s else s) ≡ beside s
+sending-late true k w s = refl
+sending-late false k w s = refl
+
+putting-on : (o : Option PartText) (texts : List PartText) (d : Feed) (s : State) → beside (journal.puts_on o texts d s) ≡ beside s
+putting-on (Some t) texts d s = sending-late (is_unnamed t.frame) d.socket t.frame _
+putting-on None texts d s = refl
+
+putting : (f : SideFacts) (bytes : List ℕ) (o : Option Feed) (s : State) → beside (journal.on_feed_at o (journal.puts f bytes) s) ≡ beside s
+putting f bytes (Some d) s = putting-on (finished (narrowed bytes (texts_at f s d))) (narrowed bytes (texts_at f s d)) d s
+putting f bytes None s = refl
+
+-- ---- what it leaves of the ends
+
+abbrev src : List Planned → SeenEnd → List SeenEnd → Sources
+src plan e spent = sources_of (ground plan (e ∷ spent) [])
+
+module _ (plan : List Planned) (e : SeenEnd) (spent : List SeenEnd) (n : ℕ) (piece : List ℕ) (fits : n ≤ length piece) where
+  abbrev f : SeenEnd
+  f = with_write (write.Put n) piece e
+
+  len : length (take n piece) ≡ n
+  len = length-take-le n piece fits
+
+  other : (k : SocketId) (b : Bool) → same_socket k e.id ≡ b → got_of (end_at (f ∷ spent) k) ≡ got_of (end_at (e ∷ spent) k)
+  other k true g = rw g refl
+  other k false g = rw g refl
+
+  broken-so : (k : SocketId) (b : Bool) → same_socket k e.id ≡ b → broken_of (end_at (f ∷ spent) k) ≡ broken_of (end_at (e ∷ spent) k)
+  broken-so k true g = rw g refl
+  broken-so k false g = rw g refl
+
+  put-more : HavePut e.id (take n piece) (src plan e spent) (src plan f spent)
+  put-more = record {
+    plan = as-planned plan;
+    put = rw (same_refl e.id) refl;
+    runs = rw (same_refl e.id, len) refl;
+    other_put = λ k g. rw g refl;
+    got = λ k. other k (same_socket k e.id) refl;
+    other_runs = λ k g. rw g refl;
+  }
+
+  all-settled : (journal : List Entry) → AreSettled (src plan e spent) (src plan f spent) journal
+  all-settled journal = settled (src plan e spent) (src plan f spent) journal (λ k c. broken-so k (same_socket k e.id) refl) (λ k. refl) (λ k. refl)
+
+  module _ (facts : SideFacts) (journal : List Entry) (s : State) (r : IsReplay facts (src plan e spent) journal s) where
+    item-is : item_of (src plan f spent) (reach_of journal) (entry.Wrote e.id n) ≡ item.wrote e.id (take n piece)
+    item-is = ap (item.wrote e.id)
+        (ap (λ m. take n (drop m ((src plan f spent).put e.id))) (r.covering.written e.id)
+        ∙ ap (λ l. take n (drop (length ((src plan e spent).put e.id)) l)) put-more.put
+        ∙ ap (take n) (drop-append_seam ((src plan e spent).put e.id) (take n piece))
+        ∙ ap (λ m. take m (take n piece)) (sym len) ∙ take-length (take n piece))
+
+    pub put-on : Lawful facts (item.wrote e.id (take n piece)) s → IsReplay facts (src plan f spent) (journal ++ entry.Wrote e.id n ∷ []) (after facts (item.wrote e.id (take n piece)) s)
+    put-on law = subst (λ i. IsReplay facts (src plan f spent) (journal ++ entry.Wrote e.id n ∷ []) (after facts i s)) item-is
+        (one_more facts (src plan e spent) (src plan f spent) journal (entry.Wrote e.id n) s r
+        (put-continues (src plan e spent) (src plan f spent) journal e.id (take n piece) r.covering put-more (all-settled journal))
+        (subst (λ m. AreCovering (src plan f spent) (journal ++ entry.Wrote e.id m ∷ [])) len (put-covers (src plan e spent) (src plan f spent) journal e.id (take n piece) r.covering put-more))
+        (subst (λ i. Lawful facts i s) (sym item-is) law))
+
+-- ---- flags of the feed's end
+
+pub ends-flagged : (journal : List Entry) (e f : SeenEnd) (spent : List SeenEnd) → f.id ≡ e.id → f.log.got ≡ e.log.got → f.log.put ≡ e.log.put → f.log.runs ≡ e.log.runs → IsNewTo (closed_in journal) e.id →
+    EndsStay journal (e ∷ spent) (f ∷ spent)
+ends-flagged journal e f spent id got put runs unclosed = record {
+  got = λ k. got-at k (same_socket k e.id) refl;
+  put = λ k. put-at k (same_socket k e.id) refl;
+  runs = λ k. runs-at k (same_socket k e.id) refl;
+  broken = λ k c. broken-at k c (same_socket k e.id) refl;
+}
+  where
+    got-at : (k : SocketId) (b : Bool) → same_socket k e.id ≡ b → got_of (end_at (f ∷ spent) k) ≡ got_of (end_at (e ∷ spent) k)
+    got-at k true g = rw (id, g) got
+    got-at k false g = rw (id, g) refl
+
+    put-at : (k : SocketId) (b : Bool) → same_socket k e.id ≡ b → put_of (end_at (f ∷ spent) k) ≡ put_of (end_at (e ∷ spent) k)
+    put-at k true g = rw (id, g) put
+    put-at k false g = rw (id, g) refl
+
+    runs-at : (k : SocketId) (b : Bool) → same_socket k e.id ≡ b → runs_of (end_at (f ∷ spent) k) ≡ runs_of (end_at (e ∷ spent) k)
+    runs-at k true g = rw (id, g) runs
+    runs-at k false g = rw (id, g) refl
+
+    broken-at : (k : SocketId) → is_among k (closed_in journal) ≡ true → (b : Bool) → same_socket k e.id ≡ b → broken_of (end_at (f ∷ spent) k) ≡ broken_of (end_at (e ∷ spent) k)
+    broken-at k c true g = absurd (differ (sym (subst (IsNewTo (closed_in journal)) (sym (same_equal k e.id g)) unclosed) ∙ c))
+    broken-at k c false g = rw (id, g) refl
+
+-- ---- a record whose feed is written
+
+module _ (r : RecordNow) (s : State) (h : IsReplayedTo s r) (untaken : r.trails ≡ []) (c : CoreNow) (facts : c.facts ≡ r.core.facts) (v w : FeedNow) (was : r.core.live.feed ≡ Some v) (is : c.live.feed ≡ Some w) where
+  before : IsReplay r.core.facts (src (map planned r.plan) v.end r.spent) r.journal s
+  before = subst (λ (t : List TakenTrail). IsReplay r.core.facts (sources_of (ground (map planned r.plan) (v.end ∷ r.spent) t)) r.journal s) untaken
+      (subst (λ (o : Option FeedNow). IsReplay r.core.facts (sources_of (ground (map planned r.plan) (feed_end o ++ r.spent) r.trails)) r.journal s) was h.replay)
+
+  pub behind : (journal : List Entry) (t : State) → IsReplay r.core.facts (src (map planned r.plan) w.end r.spent) journal t →
+      IsReplay c.facts (sources_of (ground (map planned r.plan) (feed_end c.live.feed ++ r.spent) r.trails)) journal t
+  behind journal t p = subst (λ (f : SideFacts). IsReplay f (sources_of (ground (map planned r.plan) (feed_end c.live.feed ++ r.spent) r.trails)) journal t) (sym facts)
+      (subst (λ (o : Option FeedNow). IsReplay r.core.facts (sources_of (ground (map planned r.plan) (feed_end o ++ r.spent) r.trails)) journal t) (sym is)
+      (subst (λ (trails : List TakenTrail). IsReplay r.core.facts (sources_of (ground (map planned r.plan) (w.end ∷ r.spent) trails)) journal t) (sym untaken) p))
+
+  open-before : IsOpenAmong r.spent r.journal v.end.id
+  open-before = subst (FeedIsOpen r.spent r.journal) was h.feed
+
+  room-after : (room : Rooms) → room.ends ≡ r.room.ends → FeedHasRoom room.ends c.live.feed
+  room-after room e = subst (FeedHasRoom room.ends) (sym is) (subst (λ n. 0 < n) (sym e) (subst (FeedHasRoom r.room.ends) was h.room))
+
+  open-after : (journal : List Entry) → closed_in journal ≡ closed_in r.journal → w.end.id ≡ v.end.id → FeedIsOpen r.spent journal c.live.feed
+  open-after journal e id = subst (FeedIsOpen r.spent journal) (sym is) (record {
+    unspent = subst (IsNewTo (ids_of r.spent)) (sym id) open-before.unspent;
+    unclosed = subst (λ (l : List SocketId). IsNewTo l w.end.id) (sym e) (subst (IsNewTo (closed_in r.journal)) (sym id) open-before.unclosed);
+  })
+
+  -- no bytes were put
+  pub not-put : (room : Rooms) → room.ends ≡ r.room.ends → Stays r.core c → w.end.id ≡ v.end.id → w.end.log.got ≡ v.end.log.got → w.end.log.put ≡ v.end.log.put → w.end.log.runs ≡ v.end.log.runs →
+      IsReplayedTo s (record r { core = c; room = room })
+  not-put room e stays id got put runs = record {
+    replay = behind r.journal s (replay-stays r.journal (map planned r.plan) (map planned r.plan) (v.end ∷ r.spent) (w.end ∷ r.spent) [] (as-planned (map planned r.plan))
+        (ends-flagged r.journal v.end w.end r.spent id got put runs open-before.unclosed) r.core.facts s before);
+    core = stays s h.core;
+    steps = h.steps;
+    reach = h.reach;
+    parcels = h.parcels;
+    spent = h.spent;
+    feed = open-after r.journal refl id;
+    room = room-after room e;
+    few = h.few;
+  }
+
+  -- these bytes were put
+  pub has-put : (n now : ℕ) (room : Rooms) → room.ends ≡ r.room.ends → n ≤ length v.composed → w.end ≡ with_write (write.Put n) v.composed v.end →
+      MayCome (item.wrote v.end.id (take n v.composed)) r.core → LeadsOn (item.wrote v.end.id (take n v.composed)) r.core c →
+      IsReplayedTo (after r.core.facts (item.wrote v.end.id (take n v.composed)) s) (record r { core = c; journal = r.journal ++ entry.Wrote v.end.id n ∷ []; last = now; room = room })
+  has-put n now room e fits end may leads = record {
+    replay = behind journal1 t (subst (λ (x : SeenEnd). IsReplay r.core.facts (src (map planned r.plan) x r.spent) journal1 t) (sym end)
+        (put-on (map planned r.plan) v.end r.spent n v.composed fits r.core.facts r.journal s before (may s h.core)));
+    core = leads s h.core;
+    steps = h.steps ∙ sym (ap (λ (b : Beside). b.steps) same);
+    reach = ap (λ p. p.steps) (reach-more r.journal (entry.Wrote v.end.id n)) ∙ h.reach ∙ sym (ap (λ (b : Beside). b.steps) same);
+    parcels = (h.parcels.0, ap (λ (b : Beside). b.deliveries) same ∙ h.parcels.1);
+    spent = h.spent;
+    feed = open-after journal1 (closed-more r.journal (entry.Wrote v.end.id n) refl) (ap (λ (x : SeenEnd). x.id) end);
+    room = room-after room e;
+    few = h.few;
+  }
+    where
+      journal1 : List Entry
+      journal1 = r.journal ++ entry.Wrote v.end.id n ∷ []
+
+      t : State
+      t = after r.core.facts (item.wrote v.end.id (take n v.composed)) s
+
+      same : beside (after r.core.facts (item.wrote v.end.id (take n v.composed)) s) ≡ beside s
+      same = putting r.core.facts (take n v.composed) s.feed s
+
+  pub put-spent : (bytes : List ℕ) → s.spent ≡ [] → (after r.core.facts (item.wrote v.end.id bytes) s).spent ≡ []
+  put-spent bytes e = ap (λ (b : Beside). b.spent) (putting r.core.facts bytes s.feed s) ∙ e
+
+-- ---- by the answer of the write
+
+module _ (r : RecordNow) (h : IsRecord r) (untaken : r.trails ≡ []) (c : CoreNow) (facts : c.facts ≡ r.core.facts) (now : ℕ) (room : Rooms) (ends : room.ends ≡ r.room.ends) where
+  stayed : (v w : FeedNow) → r.core.live.feed ≡ Some v → c.live.feed ≡ Some w → Stays r.core c → w.end.id ≡ v.end.id → w.end.log.got ≡ v.end.log.got → w.end.log.put ≡ v.end.log.put → w.end.log.runs ≡ v.end.log.runs →
+      IsRecord (record r { core = c; journal = r.journal ++ []; room = room })
+  stayed v w was is stays id got put runs = subst (λ (l : List Entry). IsRecord (record r { core = c; journal = l; room = room })) (sym (append-nil r.journal))
+      (record { state = h.state; at_state = not-put r h.state h.at_state untaken c facts v w was is room ends stays id got put runs; settled = h.settled })
+
+  pub written-at : (answer : FeedWrite) (o p : Option FeedNow) → r.core.live.feed ≡ o → c.live.feed ≡ p → WritesFeed answer o p → IsWroteOn answer o r.core c →
+      IsRecord (record r { core = c; journal = r.journal ++ wrote_entries answer o; last = moment_after answer now r.last; room = room })
+  written-at (put.Put n ack) (Some v) (Some w) was is x y = record {
+    state = after r.core.facts (item.wrote v.end.id (take n v.composed)) h.state;
+    at_state = has-put r h.state h.at_state untaken c facts v w was is n now room ends x.0.0.fits x.0.2 y.0 y.1;
+    settled = put-spent r h.state h.at_state untaken c facts v w was is (take n v.composed) h.settled;
+  }
+  written-at put.NotYet (Some v) (Some w) was is x y = stayed v w was is y (ap (λ (z : SeenEnd). z.id) x.0.1) (ap (λ (z : SeenEnd). z.log.got) x.0.1) (ap (λ (z : SeenEnd). z.log.put) x.0.1) (ap (λ (z : SeenEnd). z.log.runs) x.0.1)
+  written-at put.Failed (Some v) (Some w) was is x y = stayed v w was is y (ap (λ (z : SeenEnd). z.id) x.0.1) (ap (λ (z : SeenEnd). z.log.got) x.0.1) (ap (λ (z : SeenEnd). z.log.put) x.0.1) (ap (λ (z : SeenEnd). z.log.runs) x.0.1)
+  written-at put.NoMemory (Some v) (Some w) was is x y = stayed v w was is y (ap (λ (z : FeedNow). z.end.id) x) (ap (λ (z : FeedNow). z.end.log.got) x) (ap (λ (z : FeedNow). z.end.log.put) x) (ap (λ (z : FeedNow). z.end.log.runs) x)
+  written-at answer None p was is x y = absurd y
+  written-at answer (Some v) None was is x y = absurd (no-feed answer v x)
+    where
+      no-feed : (answer : FeedWrite) (v : FeedNow) → WritesFeed answer (Some v) None → ⊥
+      no-feed answer v x = x
+
+  pub written : (answer : FeedWrite) → HasWritten answer r.core c → IsRecord (record r { core = c; journal = r.journal ++ wrote_entries answer r.core.live.feed; last = moment_after answer now r.last; room = room })
+  written answer x = written-at answer r.core.live.feed c.live.feed refl refl x.writes x.entry
+
+-- ---- as the code comes to it
+
+same-entries : (answer : FeedWrite) (k : SocketId) (o : Option FeedNow) (v : FeedNow) → o ≡ Some v → k ≡ v.end.id → entries_put answer k ≡ wrote_entries answer o
+same-entries (put.Put n ack) k o v e g = rw (e, g) refl
+same-entries put.NotYet k o v e g = refl
+same-entries put.Failed k o v e g = refl
+same-entries put.NoMemory k o v e g = refl
+
+pub written-after : (answer : FeedWrite) (r : RecordNow) (c : CoreNow) (k : SocketId) (v : FeedNow) (now : ℕ) (journal : List Entry) (last entries : ℕ) → IsRecord r → r.trails ≡ [] → HasWritten answer r.core c →
+    r.core.live.feed ≡ Some v → k ≡ v.end.id → journal ≡ r.journal ++ entries_put answer k → last ≡ moment_after answer now r.last →
+    IsRecord (record r { core = c; journal = journal; last = last; room = record r.room { entries = entries } })
+written-after answer r c k v now journal last entries h untaken x was id j l =
+    rw (j, same-entries answer k r.core.live.feed v was id, l)
+    (written r h untaken c (ap (λ (y : CoreNow). y.facts) x.only) now (record r.room { entries = entries }) refl answer x)
+
+counted-at : (answer : FeedWrite) (o p : Option FeedNow) → WritesFeed answer o p → IsCounted answer
+counted-at (put.Put n ack) (Some v) (Some w) x = (let most = x.0.0.most in omega (arith, most))
+counted-at (put.Put n ack) (Some v) None x = absurd x
+counted-at (put.Put n ack) None p x = absurd x
+counted-at put.NotYet o p x = tt
+counted-at put.Failed o p x = tt
+counted-at put.NoMemory o p x = tt
+
+pub counted : (answer : FeedWrite) (b c : CoreNow) → HasWritten answer b c → IsCounted answer
+counted answer b c x = counted-at answer b.live.feed c.live.feed x.writes

@@ -1,0 +1,16 @@
+pub mod Names
+pub mod Entering
+pub mod Ends
+pub mod Keeping
+pub mod Making
+pub mod Planning
+pub mod Telling
+pub mod Opens
+pub mod Taking
+pub mod FeedLeft
+pub mod Going
+pub mod Naming
+pub mod Opening
+pub mod HasPut
+pub mod Owning
+pub mod Broken

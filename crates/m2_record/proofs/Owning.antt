@@ -1,0 +1,53 @@
+-- What a record holds was granted by one throttle, and stays so.
+use Rattle.std.proofs.Common.{◌≡◌, Bool, true, false, List, [], ◌∷◌, ◌++◌, Option, Some, None, refl, sym, subst}
+use Rattle.std.specs.List.{AllByRecursion}
+use Rattle.m2_core.specs.Calls.{after_down}
+use Rattle.m2_core.specs.CoreNow.{CoreNow, LiveNow}
+use Rattle.m2_core.specs.CoreNow as core
+use Rattle.m2_core.specs.Effects as effects
+use Rattle.m2_dispatcher.specs.declared.parcel.Parcel.{Parcel}
+use Rattle.m2_dispatcher.specs.declared.parcel.Parcel.TheVariants as parcel
+use Rattle.m2_dispatcher.specs.Parcel.{IsOwned}
+use Rattle.m2_session.specs.declared.event.Event.{Event}
+use Rattle.m2_session.specs.declared.event.Event.TheVariants as event
+use Rattle.m2_session.specs.Steps.{step_of}
+use Rattle.m2_shared.specs.Place.{Place}
+use Rattle.m2_record.specs.Calls.{Owns, one_if, told_parcels}
+use Rattle.m2_record.specs.RecordNow.{RecordNow}
+
+closing : (b : Bool) (place : Place) (l : LiveNow) → core.IsOwned place l.granted → core.IsOwned place (effects.where_true b effects.closes l).granted
+closing true place l h = tt
+closing false place l h = h
+
+requeueing : (b : Bool) (place : Place) (l : LiveNow) → core.IsOwned place l.granted → core.IsOwned place (effects.where_true b effects.requeues l).granted
+requeueing true place l h = h
+requeueing false place l h = h
+
+setting : (b : Bool) (place : Place) (l : LiveNow) → core.IsOwned place l.granted → core.IsOwned place (effects.where_true b effects.sets_back l).granted
+setting true place l h = h
+setting false place l h = h
+
+discarding : (b : Bool) (place : Place) (l : LiveNow) → core.IsOwned place l.granted → core.IsOwned place (effects.where_true b effects.discards l).granted
+discarding true place l h = h
+discarding false place l h = h
+
+pub tells-owned : (v : Event) (place : Place) (l : LiveNow) → core.IsOwned place l.granted → core.IsOwned place (effects.tells v l).granted
+tells-owned v place l h =
+    let e = (step_of l.session v).effects in
+    discarding e.discard place _ (setting e.set_back place _ (requeueing e.requeue place _ (closing e.close place (record l { session = (step_of l.session v).session }) h)))
+
+all-more : (P : Parcel → Type 0) (xs ys : List Parcel) → AllByRecursion P xs → AllByRecursion P ys → AllByRecursion P (xs ++ ys)
+all-more P [] ys h g = g
+all-more P (x ∷ xs) ys h g = (h.0, all-more P xs ys h.1 g)
+
+one-owned : (place : Place) (b : Bool) (x : Parcel) → IsOwned place x → AllByRecursion (IsOwned place) (one_if b x)
+one-owned place true x h = (h, tt)
+one-owned place false x h = tt
+
+pub owned-down : (place : Place) (r new : RecordNow) (discarded reset : Bool) → Owns place r → new.core ≡ after_down r.core → new.parcels ≡ r.parcels ++ told_parcels r.place discarded reset → Owns place new
+owned-down place r new discarded reset h c p = record {
+  feed = subst (λ (x : CoreNow). core.IsOwned place x.live.granted) (sym c) (tells-owned event.MarkedDown place r.core.live h.feed);
+  parcels = subst (AllByRecursion (IsOwned place)) (sym p) (all-more (IsOwned place) r.parcels (told_parcels r.place discarded reset) h.parcels
+      (all-more (IsOwned place) (one_if discarded (parcel.Discard r.place)) (one_if reset (parcel.RemoteReset r.place))
+      (one-owned place discarded (parcel.Discard r.place) tt) (one-owned place reset (parcel.RemoteReset r.place) tt)));
+}

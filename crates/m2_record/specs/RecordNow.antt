@@ -1,0 +1,75 @@
+-- What contracts see of a record. This project's own.
+use Rattle.std.specs.Prelude.{ℕ, List, [], ◌∷◌, ◌++◌, map, Option, Some, None}
+use Rattle.m2_core.specs.CoreNow.{CoreNow}
+use Rattle.m2_dispatcher.specs.declared.parcel.Parcel.{Parcel}
+use Rattle.m2_dispatcher.specs.declared.parcel.Parcel.TheVariants as parcel
+use Rattle.m2_fabric.specs.declared.socket.SocketId.{SocketId}
+use Rattle.m2_fabric.specs.End.{SeenEnd}
+use Rattle.m2_feed.specs.FeedNow.{FeedNow}
+use Rattle.m2_journal.specs.declared.entry.Entry.{Entry}
+use Rattle.m2_journal.specs.declared.facts.PlanStep.{PlanStep}
+use Rattle.m2_journal.specs.Items.{Sources}
+use Rattle.m2_journal.specs.Plan.{planned}
+use Rattle.m2_journal.specs.State.{Delivery, letter, discarded, remote_reset}
+use Rattle.m2_message.specs.Message.{content_of}
+use Rattle.m2_record.specs.Sources.{Grounds, TakenTrail, sources_of}
+
+-- how many entries, parcels and closed ends fit before memory is taken
+pub record Rooms : Type 0 where
+  pub entries : ℕ
+  pub parcels : ℕ
+  pub ends : ℕ
+
+pub record RecordNow : Type 0 where
+  -- the peer's place among the nodes
+  pub place : ℕ
+  -- what is to be done, and how many steps of it were taken
+  pub plan : List PlanStep
+  pub steps : ℕ
+  -- what was done
+  pub journal : List Entry
+  -- what the halves did that were taken, until then
+  pub trails : List TakenTrail
+  -- the session, the outgoing queue and the feed
+  pub core : CoreNow
+  -- the ends that were the feed, in order
+  pub spent : List SeenEnd
+  -- what is ready for the dispatcher, in order
+  pub parcels : List Parcel
+  -- the moment before which no connect is due
+  pub next_dial : ℕ
+  -- how long the next wait before a connect is, in milliseconds
+  pub wait : ℕ
+  -- how many connects failed
+  pub missed : ℕ
+  -- the moment of the last productive entry
+  pub last : ℕ
+  pub room : Rooms
+
+-- ---- its ends
+
+abbrev pub feed_end : Option FeedNow → List SeenEnd
+feed_end (Some v) = v.end ∷ []
+feed_end None = []
+
+-- the feed's end, and then those that were the feed
+abbrev pub ends_of : RecordNow → List SeenEnd
+ends_of r = feed_end r.core.live.feed ++ r.spent
+
+abbrev pub ids_of : List SeenEnd → List SocketId
+ids_of ends = map (λ e. e.id) ends
+
+-- ---- what its journal speaks of
+
+abbrev pub grounds_of : RecordNow → Grounds
+grounds_of r = record { plan = map planned r.plan; ends = ends_of r; trails = r.trails }
+
+abbrev pub speaks_of : RecordNow → Sources
+speaks_of r = sources_of (grounds_of r)
+
+-- ---- what is handed out
+
+abbrev pub delivery_of : Parcel → Delivery
+delivery_of (parcel.Letter l) = letter l.number l.key (content_of l.message)
+delivery_of (parcel.Discard peer) = discarded
+delivery_of (parcel.RemoteReset peer) = remote_reset

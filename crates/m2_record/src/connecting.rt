@@ -1,0 +1,54 @@
+//! How a record comes to a socket that it opens.
+
+ghost use Rattle.std.specs.Prelude.{◌≡◌, ◌<◌, ◌≤◌, OnOk};
+ghost use Rattle.m2_record.specs.Calls.{ConnectIsDue, Connects, ComesBack, IsNewSocket, IsUntouched, after_missing};
+
+use crate::record::Record;
+use m2_bytes::{Items, NoMemory};
+use m2_fabric::End;
+use m2_journal::{Entry, EntryList};
+
+impl<E: End> Record<E> {
+    /// A socket that was opened to the peer is the feed. A connect was due, and the end has done nothing.
+    /// Err is want of memory: the end comes back, and all but the room is as before.
+    pub fn connected(&mut self, end: E, now: u64) -> Result<(), E>
+        requires due { ConnectIsDue now self.old }
+        requires end { IsUntouched (E.seen end).log }
+        requires socket { IsNewSocket self.old (E.seen end).id }
+        ensures ok { OnOk result (Connects (E.seen end) self.old self.new) }
+        ensures err { ComesBack result end self.old self.new }
+    {
+        match room_for_socket(&mut self.journal, &mut self.spent) {
+            Ok(()) => {}
+            Err(_) => return Err(end),
+        }
+        let socket = end.id();
+        self.core.opened(end);
+        self.journal.push_reserved(Entry::Opened { socket });
+        Ok(())
+    }
+    /// A connect that was due failed: the next one is due after the wait.
+    pub fn not_connected(&mut self, now: u64)
+        requires { ConnectIsDue now self.old }
+        ensures { self.new ≡ after_missing now self.old }
+    {
+        self.missed = self.missed.saturating_add(1);
+        self.next_dial = now.saturating_add(self.wait);
+        self.wait = self
+            .wait
+            .saturating_add(self.wait)
+            .min(self.core.node().most_wait);
+    }
+}
+
+/// Makes room for the entry of a socket, and for its end among those that were the feed.
+fn room_for_socket<E: End>(journal: &mut EntryList, spent: &mut Items<E>) -> Result<(), NoMemory>
+    ensures entries { journal.new.items ≡ journal.old.items }
+    ensures ends { spent.new.items ≡ spent.old.items }
+    ensures more { spent.old.room ≤ spent.new.room }
+    ensures ok { OnOk result ((0 < journal.new.room) × (0 < spent.new.room)) }
+{
+    journal.reserve(1)?;
+    spent.reserve(1)?;
+    Ok(())
+}

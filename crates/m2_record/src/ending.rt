@@ -1,0 +1,87 @@
+//! How a record ends.
+
+ghost use Rattle.std.specs.Prelude.{◌≡◌, ◌-◌, ◌++◌, []};
+ghost use Rattle.std.specs.List.{AllByRecursion};
+ghost use Rattle.std.specs.VecDeque.{deque_len};
+ghost use Rattle.std.specs.Prelude.{map};
+ghost use Rattle.m2_core.specs.CoreNow.{held};
+ghost use Rattle.m2_dispatcher.specs.Parcel.{IsOwned};
+ghost use Rattle.m2_shared.specs.Place.{IsAlone};
+ghost use Rattle.m2_record.specs.Calls.{Owns, all_granted, granted_in};
+ghost use Rattle.m2_record.specs.RecordNow.{feed_end};
+
+use crate::record::Record;
+use m2_bytes::Items;
+use m2_dispatcher::{Letter, Parcel};
+use m2_fabric::End;
+use m2_shared::{TakePass, Throttle};
+use std::collections::VecDeque;
+
+impl<E: End> Record<E> {
+    /// Gives back all that was granted, and gives the ends that were the feed, and then the feed's as it
+    /// is. Takes no memory.
+    pub fn ends(self, throttle: &Throttle, pass: &mut TakePass) -> Items<E>
+        requires pass { pass.old.place ≡ throttle.now.place }
+        requires owned { Owns throttle.now.place self }
+        ensures ends { map E.seen result.items ≡ self.spent ++ feed_end self.core.live.feed }
+        ensures place { pass.new.place ≡ pass.old.place }
+        ensures word { IsAlone throttle.now.place → pass.new.word ≡ pass.old.word - held self.core.live.granted - all_granted self.parcels }
+    {
+        let Record {
+            place: _,
+            plan: _,
+            steps: _,
+            journal: _,
+            core,
+            mut spent,
+            parcels,
+            next_dial: _,
+            wait: _,
+            missed: _,
+            last: _,
+        } = self;
+        let feed = core.end(throttle, pass);
+        give_all(parcels, throttle, pass);
+        if let Some(feed) = feed {
+            spent.push_reserved(feed.into_end());
+        }
+        spent
+    }
+}
+
+/// Gives back what was granted for the letters of all these parcels.
+fn give_all(parcels: VecDeque<Parcel>, throttle: &Throttle, pass: &mut TakePass)
+    requires pass { pass.old.place ≡ throttle.now.place }
+    requires owned { AllByRecursion (IsOwned throttle.now.place) parcels.items }
+    ensures place { pass.new.place ≡ pass.old.place }
+    ensures word { IsAlone throttle.now.place → pass.new.word ≡ pass.old.word - all_granted parcels.items }
+{
+    let mut parcels = parcels;
+    'giving: while let Some(parcel) = parcels.pop_front() {
+        give_one(parcel, throttle, pass);
+    }
+    parcels.destroy_empty();
+}
+
+/// Gives back what was granted for a parcel's letter.
+fn give_one(parcel: Parcel, throttle: &Throttle, pass: &mut TakePass)
+    requires pass { pass.old.place ≡ throttle.now.place }
+    requires owned { IsOwned throttle.now.place parcel }
+    ensures place { pass.new.place ≡ pass.old.place }
+    ensures word { IsAlone throttle.now.place → pass.new.word ≡ pass.old.word - granted_in parcel }
+{
+    match parcel {
+        Parcel::Letter(letter) => {
+            let Letter {
+                peer: _,
+                key: _,
+                number: _,
+                message: _,
+                grant,
+            } = letter;
+            throttle.give(pass, grant);
+        }
+        Parcel::Discard { peer: _ } => {}
+        Parcel::RemoteReset { peer: _ } => {}
+    }
+}

@@ -1,0 +1,25 @@
+//! One side of a session, known by its journal.
+//!
+//! What it is: [`Record`], a core (`m2_core`) with the plan that it follows, the journal of what it did, the
+//! ends that were its feed, and what is ready for a dispatcher. Its type keeps one fact: it is the replay of
+//! its journal (`specs/IsRecord.antt`). Each call says how the journal grew, so whoever stands above knows a
+//! record by its journal and its logs alone. What it isn't: a thread, a port or a clock. It takes the
+//! moment, the numbers and the grants as its caller hands them in, and opens no socket.
+//!
+//! What it doesn't have yet: the judging of asks, reading, and the frames that are read and composed; so no
+//! call takes the first step that is due.
+//!
+//! `specs/RecordNow.antt` says what contracts see of a record, `specs/Sources.antt` what its journal
+//! speaks of.
+#![tactic(auto)]
+
+mod connecting;
+mod ending;
+mod handing;
+mod leaving;
+mod moving;
+mod parts;
+mod planned;
+mod record;
+
+pub use record::{MOST_STEPS, Record};

@@ -1,0 +1,73 @@
+//! How a record's feed moves bytes.
+
+ghost use Rattle.std.specs.Prelude.{◌≡◌, ◌-◌, ◌<◌, ◌++◌, false};
+ghost use Rattle.m2_core.specs.CoreNow.{OnFeedNow, held};
+ghost use Rattle.m2_feed.specs.Calls.{is_empty};
+ghost use Rattle.m2_shared.specs.Place.{IsAlone};
+ghost use Rattle.m2_record.specs.Calls.{Breaks, EndIsBroken, HasRoomFor, IsCounted, Owns, WritesFeedOnce, entries_put, moment_after};
+
+use crate::leaving::{put_closed, put_told};
+use crate::record::Record;
+use m2_fabric::{End, SocketId};
+use m2_feed::FeedWrite;
+use m2_journal::{Entry, EntryList};
+use m2_shared::{TakePass, Throttle};
+
+impl<E: End> Record<E> {
+    /// Writes once to the feed's end what is composed there. Where bytes are put, they have their entry.
+    pub fn write(&mut self, now: u64) -> FeedWrite
+        requires feed { OnFeedNow self.old.core.live.feed (λ v. is_empty v.composed ≡ false) }
+        requires room { 0 < self.old.room.entries }
+        ensures { WritesFeedOnce result now self.old self.new }
+    {
+        let Some(feed) = self.core.feed() else {
+            unreachable!()
+        };
+        let socket = feed.id();
+        let answer = self.core.write();
+        note_put(answer, socket, now, &mut self.journal, &mut self.last);
+        answer
+    }
+    /// Closes the feed, whose end has failed or ended. What is owed then is ready for the dispatcher, and
+    /// what a throttle granted for the feed is given back. Two entries and parcels are reserved.
+    pub fn break_feed(&mut self, throttle: &Throttle, pass: &mut TakePass)
+        requires broken { EndIsBroken self.old }
+        requires room { HasRoomFor 2 self.old.room }
+        requires pass { pass.old.place ≡ throttle.now.place }
+        requires owned { Owns throttle.now.place self.old }
+        ensures breaks { Breaks self.old self.new }
+        ensures place { pass.new.place ≡ pass.old.place }
+        ensures word { IsAlone throttle.now.place → pass.new.word ≡ pass.old.word - held self.old.core.live.granted }
+    {
+        let aftermath = self.core.fault(throttle, pass);
+        put_told(
+            aftermath.discarded,
+            aftermath.remote_reset,
+            self.place,
+            &mut self.parcels,
+        );
+        put_closed(aftermath.closed, &mut self.journal, &mut self.spent);
+    }
+}
+
+/// Bytes that were put have their entry, and this moment is the last productive one.
+fn note_put(answer: FeedWrite, socket: SocketId, now: u64, journal: &mut EntryList, last: &mut u64)
+    requires count { IsCounted answer }
+    requires room { 0 < journal.old.room }
+    ensures journal { journal.new.items ≡ journal.old.items ++ entries_put answer socket }
+    ensures last { last.new ≡ moment_after answer now last.old }
+{
+    match answer {
+        FeedWrite::Put {
+            count,
+            acknowledged: _,
+        } => {
+            journal.push_reserved(Entry::Wrote {
+                socket,
+                count: count as u32,
+            });
+            *last = now;
+        }
+        _ => {}
+    }
+}

@@ -1,0 +1,86 @@
+//! What a record lends.
+
+ghost use Rattle.std.specs.Prelude.{◌≡◌, map};
+ghost use Rattle.m2_record.specs.RecordNow.{feed_end};
+ghost use Rattle.std.specs.Option.{option_map, option_to_list};
+
+use crate::record::Record;
+use m2_bytes::Items;
+use m2_fabric::End;
+use m2_journal::{EntryList, NodeFacts, PlanList};
+use m2_session::Session;
+
+impl<E: End> Record<E> {
+    /// What the node tells its records.
+    pub fn facts(&self) -> &NodeFacts
+        ensures { result.now ≡ self.now.core.facts.node }
+    {
+        self.core.node()
+    }
+
+    /// The peer's place among the nodes, from 0.
+    pub fn place(&self) -> u32
+        ensures { result ≡ self.now.place }
+    {
+        self.place
+    }
+
+    /// What is remembered of the peer.
+    pub fn session(&self) -> &Session
+        ensures { result.now ≡ self.now.core.live.session }
+    {
+        self.core.session()
+    }
+
+    /// What is to be done.
+    pub fn plan(&self) -> &PlanList
+        ensures { result.now.items ≡ self.now.plan }
+    {
+        &self.plan
+    }
+
+    /// What was done.
+    pub fn journal(&self) -> &EntryList
+        ensures { result.now.items ≡ self.now.journal }
+    {
+        &self.journal
+    }
+
+    /// The feed's end, while there is a feed.
+    pub fn feed(&self) -> Option<&E>
+        ensures { option_to_list (option_map (λ e. E.seen e.now) result) ≡ feed_end self.now.core.live.feed }
+    {
+        match self.core.feed() {
+            Some(feed) => Some(feed.end()),
+            None => None,
+        }
+    }
+
+    /// The ends that were the feed, in order.
+    pub fn spent(&self) -> &Items<E>
+        ensures { map E.seen result.now.items ≡ self.now.spent }
+    {
+        &self.spent
+    }
+
+    /// The moment before which no connect is due.
+    pub fn next_dial(&self) -> u64
+        ensures { result ≡ self.now.next_dial }
+    {
+        self.next_dial
+    }
+
+    /// How many connects failed.
+    pub fn missed(&self) -> u64
+        ensures { result ≡ self.now.missed }
+    {
+        self.missed
+    }
+
+    /// The moment of the last productive entry: a Post, Read, Wrote or Accepted. 0 before the first.
+    pub fn last(&self) -> u64
+        ensures { result ≡ self.now.last }
+    {
+        self.last
+    }
+}

@@ -1,0 +1,138 @@
+//! A record: what it holds, how it begins, and its plan.
+
+ghost use Rattle.std.specs.Prelude.{◌≡◌, ◌<◌, ◌≤◌, ◌++◌, ◌∷◌, [], OnOk};
+ghost use Rattle.m2_answers.specs.declared.cookie.TheConstants.{MOST_PLACES};
+ghost use Rattle.m2_record.specs.Calls.{AddsStep, CanBePlanned, HasNoLess, HasRoomFor, IsSameButRoom};
+ghost use Rattle.m2_record.specs.IsRecord.{new_record};
+
+use m2_addr::Addr;
+use m2_bytes::{Items, NoMemory};
+use m2_core::Core;
+use m2_dispatcher::Parcel;
+use m2_fabric::End;
+use m2_journal::{EntryList, NodeFacts, PlanList, PlanStep};
+use m2_policy::Policy;
+use std::alloc::Global;
+use std::collections::VecDeque;
+use std::marker::Model;
+
+/// How many steps a plan has at most.
+pub const MOST_STEPS: usize = 0xFFFF_FFFF;
+
+/// One side of a session, with the journal of what it did. Contracts see it as one value, which is the
+/// replay of its journal. It can't be dropped, since what a throttle granted can't.
+pub struct Record<E: End> {
+    /// The peer's place among the nodes, from 0.
+    pub(crate) place: u32,
+    /// What is to be done, and how many steps of it were taken.
+    pub(crate) plan: PlanList,
+    pub(crate) steps: u32,
+    /// What was done.
+    pub(crate) journal: EntryList,
+    pub(crate) core: Core<E>,
+    /// The ends that were the feed, in order.
+    pub(crate) spent: Items<E>,
+    /// What is ready for the dispatcher, in order.
+    pub(crate) parcels: VecDeque<Parcel>,
+    /// The moment before which no connect is due.
+    pub(crate) next_dial: u64,
+    /// How long the next wait before a connect is, in milliseconds.
+    pub(crate) wait: u64,
+    /// How many connects failed.
+    pub(crate) missed: u64,
+    /// The moment of the last productive entry.
+    pub(crate) last: u64,
+}
+
+impl<E: End> Model for Record<E> {
+    ghost use Rattle.std.specs.Prelude.{◌-◌, [], map};
+    ghost use Rattle.std.specs.VecDeque.{deque_len, deque_capacity};
+    ghost use Rattle.m2_record.specs.RecordNow.{RecordNow};
+    ghost use Rattle.m2_record.specs.IsRecord.{IsRecord};
+
+    ghost Value = { RecordNow };
+
+    ghost view = { λ r. record {
+      place = r.place;
+      plan = r.plan.items;
+      steps = r.steps;
+      journal = r.journal.items;
+      trails = [];
+      core = r.core;
+      spent = map E.seen r.spent.items;
+      parcels = r.parcels.items;
+      next_dial = r.next_dial;
+      wait = r.wait;
+      missed = r.missed;
+      last = r.last;
+      room = record { entries = r.journal.room; parcels = deque_capacity r.parcels - deque_len r.parcels; ends = r.spent.room };
+    } };
+
+    ghost invariant = { λ r. IsRecord (record {
+      place = r.place;
+      plan = r.plan.items;
+      steps = r.steps;
+      journal = r.journal.items;
+      trails = [];
+      core = r.core;
+      spent = map E.seen r.spent.items;
+      parcels = r.parcels.items;
+      next_dial = r.next_dial;
+      wait = r.wait;
+      missed = r.missed;
+      last = r.last;
+      room = record { entries = r.journal.room; parcels = deque_capacity r.parcels - deque_len r.parcels; ends = r.spent.room };
+    }) };
+}
+
+impl<E: End> Record<E> {
+    /// A record towards this peer, with nothing planned and nothing done. `mine` is this node's address, and
+    /// `place` the peer's place among the nodes. Takes no memory.
+    pub fn new(
+        alloc: Global,
+        mine: Addr,
+        peer: Addr,
+        place: u32,
+        policy: Policy,
+        facts: NodeFacts,
+    ) -> Record<E>
+        requires node { facts.number < MOST_PLACES }
+        requires place { place < MOST_PLACES }
+        ensures { result ≡ record (new_record (record { mine = mine; peer = peer; policy = policy; node = facts }) place) { room = result.room } }
+    {
+        Record {
+            place,
+            wait: facts.first_wait,
+            plan: Items::empty(alloc),
+            steps: 0,
+            journal: Items::empty(alloc),
+            core: Core::new(alloc, mine, peer, policy, facts),
+            spent: Items::empty(alloc),
+            parcels: VecDeque::new(alloc),
+            next_dial: 0,
+            missed: 0,
+            last: 0,
+        }
+    }
+    /// Adds a step at the end of the plan, which has less than 2^32 - 1. Err hands it back, for want of memory.
+    pub fn plan_add(&mut self, step: PlanStep) -> Result<(), PlanStep>
+        requires { CanBePlanned step }
+        ensures { AddsStep result step self.old self.new }
+    {
+        if self.plan.len() >= MOST_STEPS {
+            return Err(step);
+        }
+        self.plan.push(step)
+    }
+
+    /// Makes room for so many entries of the journal, and as many parcels.
+    pub fn reserve(&mut self, entries: u32) -> Result<(), NoMemory>
+        ensures only { IsSameButRoom self.old self.new }
+        ensures more { HasNoLess self.old.room self.new.room }
+        ensures ok { OnOk result (HasRoomFor entries self.new.room) }
+    {
+        self.journal.reserve(entries as usize)?;
+        self.parcels.reserve(entries as usize)?;
+        Ok(())
+    }
+}

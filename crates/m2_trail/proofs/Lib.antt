@@ -1,0 +1,13 @@
+pub mod Runs
+pub mod Points
+pub mod Replying
+pub mod Over
+pub mod Reading
+pub mod Asked
+pub mod Bytes
+pub mod Stepping
+pub mod Judging
+pub mod Whole
+pub mod Taking
+pub mod Staying
+pub mod Readable

@@ -1,0 +1,9 @@
+pub mod Unput
+pub mod Asks
+pub mod Replies
+pub mod Trails
+pub mod Incoming
+pub mod Moving
+pub mod Arrivals
+pub mod Home
+pub mod Laws

@@ -1,0 +1,36 @@
+//! What a socket of the peer did before a record took it: the acceptor's half of the handshake over an
+//! end, with the trail that it leaves.
+//!
+//! What it is: [`Incoming`], an accepted end with its half, which reads, answers and writes; [`Arrival`],
+//! one that was asked and waits to be judged; [`Loose`], one that no record took; and [`Trail`], what
+//! they note: reads, writes and close in order, and the asks that were judged. What it isn't: a session.
+//! It knows no tables of judgement and no addresses of links: whoever judges says the answer, and the
+//! half replies with the frame of that answer.
+//!
+//! Two facts of a trail hold beside the log of its end, at any time (`specs/Trails.antt`): the judged asks
+//! are the first ones in the bytes got; and at each point what was put is what an acceptor's half writes,
+//! where its replies are the frames of the answers and at most one refusal behind them. They are kept by
+//! the types here, so whoever holds one knows them, and so does a record that takes a half.
+#![tactic(auto)]
+
+mod arrival;
+mod facts;
+mod home;
+mod incoming;
+mod laws;
+mod loose;
+mod moving;
+mod replies;
+mod step;
+mod trail;
+mod unput;
+
+pub use arrival::{Arrival, Takeover};
+pub use facts::facts_of_ask;
+pub use home::HomeOf;
+pub use incoming::{Incoming, MOST_READ};
+pub use laws::{asks_can_be_read, replies_are_frames, trails_cover, trails_stay};
+pub use loose::{Loose, LooseList};
+pub use replies::reply_to;
+pub use step::IncomingStep;
+pub use trail::{Trail, TrailList};
