@@ -1,12 +1,12 @@
 -- Counters only rise, so what waits for one is met for good.
-use Rattle.std.proofs.Common.{◌≡◌, ℕ, zero, suc, ◌+◌, ◌≤◌, true, List, [], ◌∷◌, length, take, refl, subst, arith, Option, Some, None}
+use Rattle.std.proofs.Common.{◌≡◌, ℕ, zero, suc, ◌≤◌, true, List, [], ◌∷◌, take, refl, subst, arith, Option, Some, None}
 use Rattle.std.specs.Prelude.{slice_get, slice_index, slice_index_or}
 use Rattle.std.proofs.lemmas.Bool.Decides.{nat_tests}
 use Rattle.m2_merge.specs.declared.counted.CountedEntry.{CountedEntry}
 use Rattle.m2_merge.specs.declared.counted.Need.{Need}
 use Rattle.m2_merge.specs.declared.counted.Need.TheVariants.{Nothing, AtLeast, Never}
 use Rattle.m2_merge.specs.Order.{Cut, AtMost}
-use Rattle.m2_merge.specs.Counted.{Strands, adds, sum_added, value_at, is_met, may_come}
+use Rattle.m2_merge.specs.Counted.{Strands, sum_added, value_at, is_met, may_come}
 use Rattle.m2_merge.specs.Laws.{CountedStaysMet}
 
 pub sum-rises : (c m n : ℕ) (s : List CountedEntry) → m ≤ n → sum_added c (take m s) ≤ sum_added c (take n s)

@@ -1,9 +1,9 @@
 -- Of cuts that are reached: where nothing may come is the furthest of all.
-use Rattle.std.proofs.Common.{◌≡◌, ℕ, zero, suc, ◌+◌, ◌<◌, ◌≤◌, inl, inr, Bool, true, List, [], ◌∷◌, length, map, refl, sym, ap, ◌∙◌, subst, arith, ◌⊎◌}
-use Rattle.std.specs.Prelude.{slice_index, slice_set}
+use Rattle.std.proofs.Common.{◌≡◌, ℕ, zero, suc, ◌+◌, ◌<◌, ◌≤◌, inl, inr, List, [], ◌∷◌, length, refl, sym, ◌∙◌, subst, arith, ◌⊎◌}
+use Rattle.std.specs.Prelude.{slice_index}
 use Rattle.std.proofs.lemmas.List.{length-set, length-map, get_or-set_same, get_or-set_other, ext_get_or}
 use Rattle.std.proofs.lemmas.Bool.{cases_eq}
-use Rattle.m2_merge.specs.Order.{Cut, Rule, StaysMet, AtMost, MayCome, AreLawful, IsStuck, IsOrder, IsNext, AreNext, IsGreedy, nothing, come, come_all, reached}
+use Rattle.m2_merge.specs.Order.{Cut, Rule, StaysMet, AtMost, MayCome, AreLawful, IsStuck, AreNext, nothing, come, come_all, reached}
 use Rattle.m2_merge.specs.Laws.{StuckIsTheEnd, GreedyIsAnOrder, StopsAreOne}
 
 -- ---- one more of a strand

@@ -1,2 +1,4 @@
 pub mod Furthest
 pub mod Counts
+pub mod Listing
+pub mod Going

@@ -1,3 +1,5 @@
 pub mod Order
 pub mod Counted
 pub mod Laws
+pub mod Users
+pub mod Merging
