@@ -1,0 +1,3 @@
+pub mod Order
+pub mod Channel
+pub mod ChannelLaws
