@@ -1,3 +1,9 @@
 pub mod Keys
 pub mod Runs
 pub mod Counts
+pub mod Quiet
+pub mod Orders
+pub mod Through
+pub mod Observing
+pub mod Resets
+pub mod OneMessage

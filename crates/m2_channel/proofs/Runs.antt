@@ -66,7 +66,7 @@ pub record Leaves (xs : List ChannelStep) (c d : Channel) : Type 0 where
   pub dispatched : d.dispatched ≡ c.dispatched ++ dispatches xs
   pub marked : d.marked ≡ false
 
-unmarked_step : (x : ChannelStep) (c : Channel) → c.marked ≡ false → after_step x c ≡ changed x c
+pub unmarked_step : (x : ChannelStep) (c : Channel) → c.marked ≡ false → after_step x c ≡ changed x c
 unmarked_step x c e = ap (λ b. if b then c else changed x c) e
 
 nothing_more : {X : Type 0} (xs : List X) → xs ≡ xs ++ []
@@ -139,7 +139,7 @@ pub all_append : {X : Type 0} (P : X → Type 0) (xs ys : List X) → AllByRecur
 all_append P [] ys h k = k
 all_append P (x ∷ xs) ys h k = (h.0, all_append P xs ys h.1 k)
 
-all_first : {X : Type 0} (P : X → Type 0) (xs ys : List X) → AllByRecursion P (xs ++ ys) → AllByRecursion P xs
+pub all_first : {X : Type 0} (P : X → Type 0) (xs ys : List X) → AllByRecursion P (xs ++ ys) → AllByRecursion P xs
 all_first P [] ys h = tt
 all_first P (x ∷ xs) ys h = (h.0, all_first P xs ys h.1)
 

@@ -1,3 +1,4 @@
-pub mod Order
 pub mod Channel
 pub mod ChannelLaws
+pub mod Observed
+pub mod ObservedLaws

@@ -1,7 +1,10 @@
-//! What is promised of the ordered channel. These functions do nothing: each stands for the law that its
-//! contract names.
+//! What is promised of the ordered channel, and of what two journals show of it. These functions do
+//! nothing: each stands for the law that its contract names.
 
 ghost use Rattle.m2_channel.specs.ChannelLaws as laws;
+ghost use Rattle.m2_channel.specs.ObservedLaws as observed;
+
+use m2_paired::{a_message_comes_over, lossless_is_never_reset};
 
 /// Wherever a run of the channel leads, of each key what is dispatched is the first ones of what is
 /// accepted, and that of what is posted, in order, each once; and what is acknowledged was accepted.
@@ -28,3 +31,28 @@ pub fn unmarked_runs_deliver()
 pub fn done_is_all_dispatched()
     ensures { laws.DoneIsAllDispatched }
 {}
+
+/// Of every two journals of a lossless link without a mark-down, in every order of their entries that
+/// fits: what is observed in either direction is a run of the channel without a reset; so of each key
+/// what is dispatched is the first ones of what was posted, in order, each once; what is acknowledged was
+/// accepted; and where as many are dispatched as were posted, all are.
+pub fn observed_is_a_run()
+    ensures { observed.ObservedIsARun }
+{
+    lossless_is_never_reset();
+}
+
+/// A reset is observed exactly where an entry throws messages away, sets numbers back after an
+/// acceptance, or obeys a full reset.
+#[tactic(auto, using(crate::proofs::Resets::resets_are))]
+pub fn resets_are_observed()
+    ensures { observed.ResetsAreObserved }
+{}
+
+/// There is a history in which a message is posted, accepted, dispatched and acknowledged.
+pub fn a_message_is_observed()
+    ensures { observed.AMessageIsObserved }
+{
+    lossless_is_never_reset();
+    a_message_comes_over();
+}

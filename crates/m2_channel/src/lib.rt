@@ -1,7 +1,8 @@
-//! The ordered channel: what one side of a link may expect of the messages of the other.
+//! The ordered channel: what one side of a link may expect of the messages of the other; and that this
+//! is what two journals show.
 //!
 //! What it is: definitions and laws. `specs/Channel.antt` is the channel of one direction as a machine:
-//! its state, its steps, its runs. `specs/ChannelLaws.antt` is what is promised of its runs. What it
+//! its state, its steps, its runs; `specs/ChannelLaws.antt` is what is promised of its runs. What it
 //! isn't: anything that runs. The channel knows no sockets, cookies, numbers on the wire, resending or
 //! handshakes; the code has all of these, and no such lists.
 //!
@@ -16,8 +17,26 @@
 //!
 //! In a marked channel each step may be taken, a reset too, and changes nothing: nothing is claimed of
 //! what comes behind a mark.
+//!
+//! `specs/Observed.antt` says what two journals in one order, with the log of a dispatcher, show of the
+//! channel, and `specs/ObservedLaws.antt` what is promised of that. The near side posts, the far side
+//! accepts.
+//!
+//! | entry | of | shows |
+//! |---|---|---|
+//! | Post | the near side | `post`, with the key that the message has at the far side |
+//! | Acked | the near side | `acknowledge` |
+//! | Accepted | the far side | `accept`, with the message in the bytes |
+//! | Down | either | `mark` |
+//! | one that throws messages away, sets numbers back behind an acceptance of either side, or obeys a full reset | either | `reset`, behind what else it shows |
+//! | any other | either | nothing |
+//!
+//! Behind the entries stand the dispatches that the far side's log has of the near side.
 #![tactic(auto)]
 
 mod laws;
 
-pub use laws::{done_is_all_dispatched, runs_deliver, runs_keep_order, unmarked_runs_deliver};
+pub use laws::{
+    a_message_is_observed, done_is_all_dispatched, observed_is_a_run, resets_are_observed,
+    runs_deliver, runs_keep_order, unmarked_runs_deliver,
+};

@@ -1,0 +1,104 @@
+-- What is promised of the observed run: for every two journals of a lossless link without a mark-down, in every order of
+-- their entries that fits, it is a run of the ordered channel without a reset; so messages come over as they were posted.
+use Rattle.std.specs.Prelude.{◌≡◌, ℕ, ◌≤◌, List, [], ◌∷◌, length, map}
+use Rattle.std.specs.List.{AllByRecursion}
+use Rattle.m2_dispatch.specs.Heard as heard
+use Rattle.m2_dispatch.specs.Heard.{Heard}
+use Rattle.m2_message.specs.Message.{Content, unnumbered}
+use Rattle.m2_policy.specs.declared.path.Key.{Key}
+use Rattle.m2_journal.specs.Lawful.{key_of}
+use Rattle.m2_journal.specs.SideFacts.{SideFacts}
+use Rattle.m2_journal.specs.State.{State}
+use Rattle.m2_crossing.specs.Order.{AreFirstOf}
+use Rattle.m2_paired.specs.Orders as orders
+use Rattle.m2_paired.specs.Orders.{SideItem, near_items, far_items, near_after, far_after, posts_in, trouble_in, AreNodes, IsHistory, IsNoFullReset}
+use Rattle.m2_channel.specs.Channel as channel
+use Rattle.m2_channel.specs.Channel.{KeyedMessage, keyed, new_channel, after_steps, IsRun, IsNoMark, IsNoReset, posts, acceptances, dispatches}
+use Rattle.m2_channel.specs.ChannelLaws.{IsDelivered}
+use Rattle.m2_channel.specs.Observed.{shown_from, observed, heard_from, turned, handed, IsNoDiscard}
+
+-- ---- what a log has to be
+
+-- Where no messages were thrown away, of each key what a side's dispatchers were called with of its peer is the first ones
+-- of what it accepted, in order, each once. A message is the same whatever numbers the runtime wrote into it.
+abbrev pub IsLogOf : (peer : ℕ) → List Heard → State → Type 0
+IsLogOf peer log s = AllByRecursion IsNoDiscard s.deliveries → (key : Key) →
+    AreFirstOf (map unnumbered (heard.of_key peer key log)) (channel.of_key key (handed s.deliveries))
+
+-- ---- one direction
+
+-- what was posted, each message with its key at the far side
+abbrev pub posted_to : SideFacts → List Content → List KeyedMessage
+posted_to g ms = map (λ m. keyed (key_of g m) m) ms
+
+-- what is dispatched at the far side of what the near side posted
+pub record ComeAsPosted (f g : SideFacts) (posted : List Content) (log : List Heard) : Type 0 where
+  -- of each key the first ones that were posted, in order, each once
+  pub in_order : (key : Key) →
+      AreFirstOf (map unnumbered (heard.of_key f.node.number key log)) (orders.of_key g key (map unnumbered posted))
+  -- no more than was posted; and where it is as many, all of it
+  pub few : length (heard_from f.node.number log) ≤ length posted
+  pub done : length (heard_from f.node.number log) ≡ length posted → (key : Key) →
+      map unnumbered (heard.of_key f.node.number key log) ≡ orders.of_key g key (map unnumbered posted)
+
+-- from the near side to the far side
+pub record IsBrought (f g : SideFacts) (order : List SideItem) (log : List Heard) : Type 0 where
+  -- what is observed is a run of the channel, without a mark and without a reset
+  pub run : IsRun (observed f g order log) new_channel
+  pub no_mark : AllByRecursion IsNoMark (observed f g order log)
+  pub delivered : IsDelivered (observed f g order log)
+  -- it posts what the near side has posted, accepts what the far side has accepted, and dispatches what the log tells
+  pub posts : posts (observed f g order log) ≡ posted_to g (posts_in (near_items order))
+  pub acceptances : acceptances (observed f g order log) ≡ handed (far_after g order).deliveries
+  pub dispatches : dispatches (observed f g order log) ≡ heard_from f.node.number log
+  -- what the near side counts as acknowledged is what the channel has acknowledged
+  pub acknowledged : (after_steps (observed f g order log) new_channel).acknowledged ≡ (near_after f order).out.queue.base
+  -- so messages come over as they were posted
+  pub as_posted : ComeAsPosted f g (posts_in (near_items order)) log
+
+-- ---- both
+
+pub record AreBrought (f g : SideFacts) (order : List SideItem) (near_log far_log : List Heard) : Type 0 where
+  pub near : IsBrought f g order far_log
+  pub far : IsBrought g f (turned order) near_log
+
+pub record AreLogs (f g : SideFacts) (order : List SideItem) (near_log far_log : List Heard) : Type 0 where
+  pub near : IsLogOf g.node.number near_log (near_after f order)
+  pub far : IsLogOf f.node.number far_log (far_after g order)
+
+abbrev pub ObservedIsARun : Type 0
+ObservedIsARun = (f g : SideFacts) (order : List SideItem) (near_log far_log : List Heard) → AreNodes f g → IsHistory f g order →
+    AreLogs f g order near_log far_log → AreBrought f g order near_log far_log
+
+-- ---- resets
+
+-- Of the entries of an order, wherever the sides stand: a reset is observed exactly where one throws messages away, sets
+-- numbers back after an acceptance, or obeys a full reset.
+pub record ShowsResets (f g : SideFacts) (order : List SideItem) (near far : State) : Type 0 where
+  pub trouble : AllByRecursion IsNoReset (shown_from f g order near far) → trouble_in f g order near far ≡ 0
+  pub near_obeys : AllByRecursion IsNoReset (shown_from f g order near far) → AllByRecursion IsNoFullReset (near_items order)
+  pub far_obeys : AllByRecursion IsNoReset (shown_from f g order near far) → AllByRecursion IsNoFullReset (far_items order)
+  pub none : trouble_in f g order near far ≡ 0 → AllByRecursion IsNoFullReset (near_items order) → AllByRecursion IsNoFullReset (far_items order) →
+      AllByRecursion IsNoReset (shown_from f g order near far)
+
+abbrev pub ResetsAreObserved : Type 0
+ResetsAreObserved = (f g : SideFacts) (order : List SideItem) (near far : State) → ShowsResets f g order near far
+
+-- ---- there is something to observe
+
+-- a history in which one message is posted, accepted, dispatched and acknowledged
+pub record AMessageIsObserved : Type 0 where
+  pub f : SideFacts
+  pub g : SideFacts
+  pub order : List SideItem
+  pub log : List Heard
+  pub nodes : AreNodes f g
+  pub history : IsHistory f g order
+  pub logs : AreLogs f g order [] log
+  pub brought : AreBrought f g order [] log
+  pub message : KeyedMessage
+  pub more : List Content
+  pub posted : channel.of_key message.key (posts (observed f g order log)) ≡ message.message ∷ more
+  pub accepted : acceptances (observed f g order log) ≡ message ∷ []
+  pub dispatched : dispatches (observed f g order log) ≡ message ∷ []
+  pub acknowledged : (after_steps (observed f g order log) new_channel).acknowledged ≡ 1
