@@ -24,7 +24,7 @@ use Rattle.m2_crossing.specs.Link.{Stand, ready, Joined, Node, Link, link}
 use Rattle.m2_crossing.specs.Mails.{Mail, letter, acked_by, heard_with}
 use Rattle.m2_crossing.specs.Roles.{Role}
 use Rattle.m2_crossing.specs.Steps.{Run, done, near_acts, accepts_mail, passes_mail}
-use Rattle.m2_paired.specs.Fits.{Says, IsRefusal, AreSaid, MayBeRefused, HearsAt}
+use Rattle.m2_paired.specs.Fits.{Says, IsRefusal, AreSaid, HearsAt}
 use Rattle.m2_paired.specs.Frames.{answers_on, to_come, mail_of, mails}
 use Rattle.m2_paired.specs.LinkOf.{role_of, raised_by, heard_in, heard_first, letters, joined_by, node_of, stand_of, link_of}
 use Rattle.m2_paired.specs.Laws.{AcceptedIsSteps}
@@ -92,10 +92,10 @@ inside d None = d
 some_same : (s r : Said) → Some s ≡ Some r → s ≡ r
 some_same s r e = ap (inside s) e
 
-stands : (r : Type 0) (last told : ℕ) (m : Content) (is : List Item) (vs : List OutFrame) → AreSaid r is vs →
+stands : (last told : ℕ) (m : Content) (is : List Item) (vs : List OutFrame) → AreSaid is vs →
     said_at is (prefix_len (λ i. is_passed last (said i)) is) ≡ Some (brings m) → Stands last told m is vs
-stands r last told m [] vs h e = absurd (nothing_isnt_some (brings m) e)
-stands r last told m (i ∷ is) [] h e = by_said (said i) refl h.1
+stands last told m [] vs h e = absurd (nothing_isnt_some (brings m) e)
+stands last told m (i ∷ is) [] h e = by_said (said i) refl h.0
   where
     -- a refusal is no message, and isn't passed over
     by_said : (s : Said) → said i ≡ s → IsRefusal s → Stands last told m (i ∷ is) []
@@ -104,8 +104,8 @@ stands r last told m (i ∷ is) [] h e = by_said (said i) refl h.1
         let it : said i ≡ brings m = some_same _ _ (ap (λ l. said_at (i ∷ is) l) (sym len) ∙ e) in
         absurd (subst IsRefusal (sym q ∙ it) tt)
     by_said s q f = elim f [ ]
-stands r last told m (i ∷ is) (w ∷ vs) h e =
-    by_test (is_passed last (said i)) refl (stands r last (heard_if told (mail_of w)) m is vs h.1)
+stands last told m (i ∷ is) (w ∷ vs) h e =
+    by_test (is_passed last (said i)) refl (stands last (heard_if told (mail_of w)) m is vs h.1)
   where
     n : ℕ
     n = prefix_len (λ j. is_passed last (said j)) is
@@ -167,17 +167,17 @@ module _ (p q : Role) (trouble number : ℕ) (key : Key) (s₀ b : State) (d : F
   abbrev later : List Mail
   later = mails (drop (next_place s.last d + 1) (answers_on d.socket b.sent))
 
-  accepted_is_steps : (r : Type 0) → number ≡ s.last + 1 → m.header.seq ≡ number →
+  accepted_is_steps : number ≡ s.last + 1 → m.header.seq ≡ number →
       next_said s.last d ≡ Some (brings m) →
-      AreSaid r d.got (answers_on d.socket b.sent) → d.taken ≤ length (answers_on d.socket b.sent) →
+      AreSaid d.got (answers_on d.socket b.sent) → d.taken ≤ length (answers_on d.socket b.sent) →
       Run p q (link_of trouble s b) (link_of (trouble + 0) u b)
-  accepted_is_steps r e seq next texts within =
+  accepted_is_steps e seq next texts within =
       let n : ℕ = prefix_len (λ i. is_passed s.last (said i)) (drop d.taken d.got) in
       let told : ℕ = heard_in (heard_first d.resumed) (take d.taken d.got) in
       let here_it_is : said_at (drop d.taken d.got) n ≡ Some (brings m) = ap (option_map said)
       (sym (get-drop d.taken n d.got)) ∙ next in
-      let it = stands r s.last told m (drop d.taken d.got) (to_come d b.sent)
-      (AreSaid-drop r d.taken d.got (answers_on d.socket b.sent) within texts) here_it_is in
+      let it = stands s.last told m (drop d.taken d.got) (to_come d b.sent)
+      (AreSaid-drop d.taken d.got (answers_on d.socket b.sent) within texts) here_it_is in
       let place : d.taken + (n + 1) ≡ next_place s.last d + 1 = omega arith in
       let behind : mails (drop (n + 1) (to_come d b.sent)) ≡ later =
       ap mails (drop-behind d.taken (n + 1) (answers_on d.socket b.sent) ∙ ap (λ n. drop n (answers_on d.socket b.sent)) place) in
@@ -223,7 +223,7 @@ accepted_is f g n key t s b may = at s.feed refl may.lawful may.fits.near_hears 
     in_ready d e p = rw (sym e, sym p) refl
 
     at : (o : Option Feed) → s.feed ≡ o → OnFeedAt o (MayAccept f s n key) →
-        HearsAt o s.sent b.sent (judged_sockets b) → IfFed o (FeedIsPaired (beside s b)) →
+        HearsAt o b.sent → IfFed o (FeedIsPaired (beside s b)) →
         Run (role_of f) (role_of g) (link_of t s b) (link_of (t + 0) (after f (item.accepted n key) s) b)
     at None e h heard paired = elim h [ ]
     at (Some d) e h heard paired =
@@ -232,4 +232,4 @@ accepted_is f g n key t s b may = at s.feed refl may.lawful may.fits.near_hears 
         (in_ready d e h.phase)
         (subst (λ o. Run (role_of f) (role_of g) (link_of t (record s { feed = Some d; session = record s.session { phase = phase.Ready } }) b)
         (link_of (t + 0) (accepts n key o d (record s { feed = Some d; session = record s.session { phase = phase.Ready } })) b)) (sym it.1)
-        (accepted_is_steps (role_of f) (role_of g) t n key s b d it.0 (MayBeRefused d s.sent (judged_sockets b)) it.2 it.3 it.1 heard paired.sent))
+        (accepted_is_steps (role_of f) (role_of g) t n key s b d it.0 it.2 it.3 it.1 heard paired.sent))

@@ -24,7 +24,7 @@ use Rattle.m2_crossing.specs.Link.{Node}
 use Rattle.m2_crossing.specs.Mails.{Mail, acked_by, heard_with}
 use Rattle.m2_crossing.specs.Roles.{Role}
 use Rattle.m2_crossing.specs.Steps.{Run, counts}
-use Rattle.m2_paired.specs.Fits.{Says, IsRefusal, AreSaid, MayBeRefused, HearsAt}
+use Rattle.m2_paired.specs.Fits.{Says, IsRefusal, AreSaid, HearsAt}
 use Rattle.m2_paired.specs.Frames.{answers_on, to_come, mail_of, mails}
 use Rattle.m2_paired.specs.LinkOf.{role_of, raised_by, heard_in, heard_first, joined_by, node_of, stand_of, link_of}
 use Rattle.m2_paired.specs.Laws.{AckedIsSteps}
@@ -128,17 +128,17 @@ tells_as_mail told (says (control.SessionRetryGlobal p)) (out.retry_global g) h 
 tells_as_mail told (says (control.Wait p)) out.wait h e = elim e [ ]
 tells_as_mail told s w h e = elim h [ ]
 
-heard-below : (r : Type 0) (told : ℕ) (is : List Item) (vs : List OutFrame) → AreSaid r is vs →
+heard-below : (told : ℕ) (is : List Item) (vs : List OutFrame) → AreSaid is vs →
     AllByRecursion IsMail vs → heard_in told is ≤ heard_with told (mails vs)
-heard-below r told [] vs h o = of-above told (mails vs)
-heard-below r told (i ∷ is) [] h o = by_said (said i) refl (h.1, h.2)
+heard-below told [] vs h o = of-above told (mails vs)
+heard-below told (i ∷ is) [] h o = by_said (said i) refl h
   where
     by_said : (s : Said) → said i ≡ s → IsRefusal s × (is ≡ []) → heard_in told (i ∷ is) ≤ told
     by_said (says (control.IdentMissingFeatures p)) q f =
         let end : heard_in told (i ∷ is) ≡ told = rw (q, f.1) refl in omega (arith, end)
     by_said s q f = elim f.0 [ ]
-heard-below r told (i ∷ is) (w ∷ vs) h o =
-    let more = heard-below r (heard_if told (mail_of w)) is vs h.1 o.1 in
+heard-below told (i ∷ is) (w ∷ vs) h o =
+    let more = heard-below (heard_if told (mail_of w)) is vs h.1 o.1 in
     let mine : heard_in told (i ∷ is) ≡ heard_in (heard_if told (mail_of w)) is = ap (λ n. heard_in n is)
     (tells_as_mail told (said i) w h.0 o.0) in
     let theirs : heard_with told (mails (w ∷ vs)) ≡ heard_with (heard_if told (mail_of w)) (mails vs) =
@@ -159,18 +159,18 @@ module _ (p q : Role) (trouble number : ℕ) (s₀ b : State) (d : Feed) where
   numbered_after : (after_call s.out (Acked number)).numbered ≡ s.out.numbered
   numbered_after = refl
 
-  acked_is_step : (r : Type 0) → s.out.queue.base < number → number ≤ s.out.queue.written →
+  acked_is_step : s.out.queue.base < number → number ≤ s.out.queue.written →
       list_any (λ n. n == number) (told d) ≡ true →
-      AreSaid r d.got (answers_on d.socket b.sent) → d.taken ≤ length
+      AreSaid d.got (answers_on d.socket b.sent) → d.taken ≤ length
       (answers_on d.socket b.sent) → AllByRecursion IsMail (to_come d b.sent) →
       Run p q (link_of trouble s b) (link_of (trouble + 0) (queues (Acked number) s) b)
-  acked_is_step r above written_there cited texts within only =
+  acked_is_step above written_there cited texts within only =
       let all = told-heard number d.resumed d.got cited in
       let split : heard_in (heard_first d.resumed) d.got ≡ heard_in (heard_in (heard_first d.resumed) (take d.taken d.got)) (drop d.taken d.got) =
       ap (heard_in (heard_first d.resumed)) (sym (take-append-drop d.taken d.got))
       ∙ heard_in-append (heard_first d.resumed) (take d.taken d.got) (drop d.taken d.got) in
-      let left = heard-below r (heard_in (heard_first d.resumed) (take d.taken d.got)) (drop d.taken d.got)
-      (to_come d b.sent) (AreSaid-drop r d.taken d.got (answers_on d.socket b.sent) within texts) only in
+      let left = heard-below (heard_in (heard_first d.resumed) (take d.taken d.got)) (drop d.taken d.got)
+      (to_come d b.sent) (AreSaid-drop d.taken d.got (answers_on d.socket b.sent) within texts) only in
       let bound : number ≤ heard_with (node_of s (judged_sockets b)).heard (mails (to_come d b.sent)) = omega
       (arith, all, split, left) in
       let x : Node = node_of s (judged_sockets b) in
@@ -184,12 +184,12 @@ acked_is f g n t s b may = at s.feed refl may.lawful may.fits.near_hears may.pai
     in_ready : (d : Feed) → s.feed ≡ Some d → s.session.phase ≡ phase.Ready → record s { feed = Some d; session = record s.session { phase = phase.Ready } } ≡ s
     in_ready d e p = rw (sym e, sym p) refl
 
-    at : (o : Option Feed) → s.feed ≡ o → OnFeedAt o (MayAcknowledge s n) → HearsAt o s.sent b.sent (judged_sockets b) →
+    at : (o : Option Feed) → s.feed ≡ o → OnFeedAt o (MayAcknowledge s n) → HearsAt o b.sent →
         IfFed o (FeedIsPaired (beside s b)) →
         Run (role_of f) (role_of g) (link_of t s b) (link_of (t + 0) (after f (item.acked n) s) b)
     at None e h heard paired = elim h [ ]
     at (Some d) e h heard paired =
         subst (λ z. Run (role_of f) (role_of g) (link_of t z b) (link_of (t + 0) (after f (item.acked n) z) b))
         (in_ready d e h.phase)
-        (acked_is_step (role_of f) (role_of g) t n s b d (MayBeRefused d s.sent (judged_sockets b)) h.above h.written h.told heard paired.sent
+        (acked_is_step (role_of f) (role_of g) t n s b d h.above h.written h.told heard paired.sent
         (subst (λ p. IsToCome p (to_come d b.sent)) h.phase paired.coming))

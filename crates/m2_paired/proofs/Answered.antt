@@ -31,15 +31,15 @@ pub record IsNext (x : Said) (n : ℕ) (vs : List OutFrame) : Type 0 where
   pub says : Says x frame
   pub within : n + 1 ≤ length vs
 
-pub next_of : (r : Type 0) (n : ℕ) (is : List Item) (vs : List OutFrame) (x : Said) → (IsRefusal x → ⊥) →
-    AreSaid r is vs → said_at is n ≡ Some x → IsNext x n vs
-next_of r n [] vs x real h e = nothing_isnt_some x e
-next_of r zero (i ∷ is) [] x real h e = absurd (real (subst IsRefusal (some_same (said i) x e) h.1))
-next_of r zero (i ∷ is)
+pub next_of : (n : ℕ) (is : List Item) (vs : List OutFrame) (x : Said) → (IsRefusal x → ⊥) →
+    AreSaid is vs → said_at is n ≡ Some x → IsNext x n vs
+next_of n [] vs x real h e = nothing_isnt_some x e
+next_of zero (i ∷ is) [] x real h e = absurd (real (subst IsRefusal (some_same (said i) x e) h.0))
+next_of zero (i ∷ is)
     (w ∷ vs) x real h e = record { frame = w; first = refl; says = subst (λ s. Says s w) (some_same (said i) x e) h.0; within = omega arith }
-next_of r (suc n) (i ∷ is) [] x real h e = nothing_isnt_some x (subst (λ l. said_at l n ≡ Some x) h.2 e)
-next_of r (suc n) (i ∷ is) (w ∷ vs) x real h e =
-    let it = next_of r n is vs x real h.1 e in
+next_of (suc n) (i ∷ is) [] x real h e = nothing_isnt_some x (subst (λ l. said_at l n ≡ Some x) h.1 e)
+next_of (suc n) (i ∷ is) (w ∷ vs) x real h e =
+    let it = next_of n is vs x real h.1 e in
     let place : n + 1 ≡ suc n = omega arith in
     let within = it.within in
     record {

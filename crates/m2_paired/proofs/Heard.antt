@@ -50,12 +50,12 @@ heard_in-append told (i ∷ is) js = heard_in-append (raised_by told (told_by (s
 abbrev nil_of : (X : Type 0) → List X
 nil_of X = []
 
-pub AreSaid-drop : (r : Type 0) (n : ℕ) (is : List Item) (vs : List OutFrame) → n ≤ length vs → AreSaid r is vs →
-    AreSaid r (drop n is) (drop n vs)
-AreSaid-drop r zero is vs l h = h
-AreSaid-drop r (suc n) [] vs l h = tt
-AreSaid-drop r (suc n) (i ∷ is) [] l h = absurd (omega (arith, l))
-AreSaid-drop r (suc n) (i ∷ is) (w ∷ vs) l h = AreSaid-drop r n is vs (omega (arith, l)) h.1
+pub AreSaid-drop : (n : ℕ) (is : List Item) (vs : List OutFrame) → n ≤ length vs → AreSaid is vs →
+    AreSaid (drop n is) (drop n vs)
+AreSaid-drop zero is vs l h = h
+AreSaid-drop (suc n) [] vs l h = tt
+AreSaid-drop (suc n) (i ∷ is) [] l h = absurd (omega (arith, l))
+AreSaid-drop (suc n) (i ∷ is) (w ∷ vs) l h = AreSaid-drop n is vs (omega (arith, l)) h.1
 
 pub get-drop : {X : Type 0} (n k : ℕ) (xs : List X) → slice_get xs (n + k) ≡ slice_get (drop n xs) k
 get-drop zero k xs = ap (slice_get xs) (let e : zero + k ≡ k = omega arith in e)

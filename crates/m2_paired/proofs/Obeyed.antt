@@ -22,7 +22,7 @@ use Rattle.m2_crossing.specs.Asks.{reset}
 use Rattle.m2_crossing.specs.Link.{refused, connecting, Node, Joined, Link, link}
 use Rattle.m2_crossing.specs.Roles.{Role}
 use Rattle.m2_crossing.specs.Steps.{Run, troubled, set_back, obeys, obeys_in_full}
-use Rattle.m2_paired.specs.Fits.{Says, IsRefusal, MayBeRefused, HearsAt}
+use Rattle.m2_paired.specs.Fits.{Says, IsRefusal, HearsAt}
 use Rattle.m2_paired.specs.Frames.{answers_on, ask_now, to_come}
 use Rattle.m2_paired.specs.LinkOf.{role_of, raised_by, heard_first, heard_on, joined_by, stand_on, node_of, stand_of, link_of}
 use Rattle.m2_paired.specs.Laws.{ObeyedIsSteps}
@@ -109,7 +109,7 @@ obeyed_is f g full t s b may = at s.feed refl may.lawful may.fits.near_hears
     both d true stands heard = obeyed_is_step f (role_of g) t s b d true stands heard
     both d false stands heard = obeyed_is_step f (role_of g) t s b d false stands heard
 
-    at : (o : Option Feed) → s.feed ≡ o → OnFeedAt o (MayObey s full) → HearsAt o s.sent b.sent (judged_sockets b) →
+    at : (o : Option Feed) → s.feed ≡ o → OnFeedAt o (MayObey s full) → HearsAt o b.sent →
         Run (role_of f) (role_of g) (link_of t s b)
         (link_of (t + trouble_at f (item.obeyed full) s b) (after f (item.obeyed full) s) b)
     at None e h heard = elim h [ ]
@@ -117,7 +117,7 @@ obeyed_is f g full t s b may = at s.feed refl may.lawful may.fits.near_hears
         let which_is = which full (answer_said d) h.next in
         let x = which_is.0 in
         let resets : IsReset full (Some x) = subst (IsReset full) which_is.1 h.next in
-        let next = next_of (MayBeRefused d s.sent (judged_sockets b)) d.taken d.got (answers_on d.socket b.sent) x
+        let next = next_of d.taken d.got (answers_on d.socket b.sent) x
         (no_refusal full x resets) heard which_is.1 in
         let first : to_come d b.sent ≡ out.reset full ∷ drop (d.taken + 1) (answers_on d.socket b.sent) =
         next.first ∙ ap (λ w. w ∷ drop (d.taken + 1) (answers_on d.socket b.sent))

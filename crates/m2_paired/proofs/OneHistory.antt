@@ -16,7 +16,6 @@ use Rattle.m2_addr.specs.Vector.{addresses_at, vector_at}
 use Rattle.m2_message_frame.specs.HeaderText.{header_text}
 use Rattle.m2_message.specs.Message.{unnumbered}
 use Rattle.m2_session.specs.declared.answer.Answer.TheVariants.{Accept}
-use Rattle.m2_journal.specs.Lawful.{judged_sockets}
 use Rattle.m2_journal.specs.Replay.{AreLawful, after_items}
 use Rattle.m2_journal.specs.SideFacts.{SideFacts}
 use Rattle.m2_journal.specs.State.{Judgement, State, start}
@@ -110,8 +109,8 @@ abbrev its : Judgement
 its = record { socket = socket 1; item = record { ask = first_ask; answer = Accept } }
 
 -- before any judgement
-fits_early : (a b : State) → HearsAt a.feed a.sent b.sent (judged_sockets b) →
-    HearsAt b.feed b.sent a.sent (judged_sockets a) → a.judgements ≡ [] → b.judgements ≡ [] → b.opened ≡ [] → Fits a b
+fits_early : (a b : State) → HearsAt a.feed b.sent →
+    HearsAt b.feed a.sent → a.judgements ≡ [] → b.judgements ≡ [] → b.opened ≡ [] → Fits a b
 fits_early a b near far none nothing unopened = record {
   near_hears = near;
   far_hears = far;
@@ -121,8 +120,8 @@ fits_early a b near far none nothing unopened = record {
 }
 
 -- behind it, from what each side has, by value
-fits_so : (a b : State) → HearsAt a.feed a.sent b.sent (judged_sockets b) →
-    HearsAt b.feed b.sent a.sent (judged_sockets a) → a.judgements ≡ [] → b.opened ≡ [] →
+fits_so : (a b : State) → HearsAt a.feed b.sent →
+    HearsAt b.feed a.sent → a.judgements ≡ [] → b.opened ≡ [] →
     a.opened ≡ socket 1 ∷ [] → asks_on (socket 1) a.sent ≡ ask_by first_ask ∷ [] → b.judgements ≡ its ∷ [] → Fits a b
 fits_so a b near far none nothing opened asks judged = record {
   near_hears = near;

@@ -55,10 +55,10 @@ opened : delivered.a.opened ≡ socket 1 ∷ []
 unfolding text_of preamble_text segment_crc after_byte shifted shifted_by judge judge_first judge_later judge_epilogue read_preamble bounded_at cookie_at flag_at numbers_at list_at string_at vector_field tail_at head_at socket_at body_of shape_at addresses_at vector_at header_text
 opened = refl
 
-near_hears : HearsAt delivered.a.feed delivered.a.sent delivered.b.sent []
+near_hears : HearsAt delivered.a.feed delivered.b.sent
 unfolding text_of preamble_text segment_crc after_byte shifted shifted_by judge judge_first judge_later judge_epilogue read_preamble bounded_at cookie_at flag_at numbers_at list_at string_at vector_field tail_at head_at socket_at body_of shape_at addresses_at vector_at header_text
 near_hears = ((refl, refl), (refl, tt))
 
-far_hears : HearsAt delivered.b.feed delivered.b.sent delivered.a.sent []
+far_hears : HearsAt delivered.b.feed delivered.a.sent
 unfolding text_of preamble_text segment_crc after_byte shifted shifted_by judge judge_first judge_later judge_epilogue read_preamble bounded_at cookie_at flag_at numbers_at list_at string_at vector_field tail_at head_at socket_at body_of shape_at addresses_at vector_at header_text
 far_hears = (refl, tt)

@@ -198,17 +198,17 @@ module _ (f g : SideFacts) (n : ℕ) (a₀ b : State) (d : Feed) where
 
   -- what is said in the place of the answer, as long as the entry leaves the feed
   abbrev IsHeard : Phase → Option Event → Type 0
-  IsHeard p e = HearsAt (heeds e d (at_phase p)).feed (heeds e d (at_phase p)).sent b.sent (judged_sockets b)
+  IsHeard p e = HearsAt (heeds e d (at_phase p)).feed b.sent
 
   answered : (p : Phase) → WaitsUnjudged (Some d) p a₀.sent b.sent (judged_sockets b) → IsHeard p (event_heard f p d) →
       IsRun p (event_heard f p d)
   answered p w h =
       by_answer f (λ p o e. answer_said d ≡ o → WaitsUnjudged (Some d) p a₀.sent b.sent (judged_sockets b) → IsHeard p e → IsRun p e)
-      (λ i e w h. takes_ident i e (next_of _ d.taken d.got (answers_on d.socket b.sent) (says (control.ServerIdent i)) (λ r. r) h e))
+      (λ i e w h. takes_ident i e (next_of d.taken d.got (answers_on d.socket b.sent) (says (control.ServerIdent i)) (λ r. r) h e))
       (λ k e w h. takes_wait phase.IdentSent w)
-      (λ k e w h. takes_ok k e (next_of _ d.taken d.got (answers_on d.socket b.sent) (says (control.SessionReconnectOk k)) (λ r. r) h e))
-      (λ r e w h. takes_retry r e (next_of _ d.taken d.got (answers_on d.socket b.sent) (says (control.SessionRetry r)) (λ r. r) h e))
-      (λ r e w h. takes_retry_global r e (next_of _ d.taken d.got (answers_on d.socket b.sent) (says (control.SessionRetryGlobal r)) (λ r. r) h e))
+      (λ k e w h. takes_ok k e (next_of d.taken d.got (answers_on d.socket b.sent) (says (control.SessionReconnectOk k)) (λ r. r) h e))
+      (λ r e w h. takes_retry r e (next_of d.taken d.got (answers_on d.socket b.sent) (says (control.SessionRetry r)) (λ r. r) h e))
+      (λ r e w h. takes_retry_global r e (next_of d.taken d.got (answers_on d.socket b.sent) (says (control.SessionRetryGlobal r)) (λ r. r) h e))
       (λ k e w h. takes_wait phase.ReconnectSent w)
       (λ p o e w h. takes_none p)
       p (answer_said d) refl w h
@@ -245,8 +245,7 @@ read_is f g socket bytes n a b may = at a.feed refl may.lawful.0 may.paired.near
   where
     at : (o : Option Feed) → a.feed ≡ o → OnFeedAt o (λ d. same_socket socket d.socket ≡ true) →
         IfFed o (FeedIsPaired (beside a b)) →
-        HearsAt (after f (item.read socket bytes) a).feed (after f (item.read socket bytes) a).sent b.sent
-        (judged_sockets b) →
+        HearsAt (after f (item.read socket bytes) a).feed b.sent →
         Run (role_of f) (role_of g) (link_of n a b)
         (link_of (n + trouble_at f (item.read socket bytes) a b) (after f (item.read socket bytes) a) b)
     at None e h paired heard = elim h [ ]
@@ -254,4 +253,4 @@ read_is f g socket bytes n a b may = at a.feed refl may.lawful.0 may.paired.near
         let it : record a { feed = Some d } ≡ a = ap (λ o. record a { feed = o }) (sym e) in
         subst (λ z. Run (role_of f) (role_of g) (link_of n z b) (link_of (n + trouble_at f (item.read socket bytes) z b) (after f (item.read socket bytes) z) b)) it
         (read_is_steps f g bytes n a b d (subst (λ z. FeedIsPaired (beside z b) d) (sym it) paired)
-        (subst (λ z. HearsAt (after f (item.read socket bytes) z).feed (after f (item.read socket bytes) z).sent b.sent (judged_sockets b)) (sym it) heard))
+        (subst (λ z. HearsAt (after f (item.read socket bytes) z).feed b.sent) (sym it) heard))

@@ -7,12 +7,12 @@ use Rattle.m2_policy.specs.declared.path.Key.{Key}
 use Rattle.m2_session.specs.declared.session.Phase.TheVariants as phase
 use Rattle.m2_journal.specs.Feeds.{is_passed, next_place, next_said}
 use Rattle.m2_journal.specs.Items as item
-use Rattle.m2_journal.specs.Lawful.{OnFeedAt, MayAccept, judged_sockets}
+use Rattle.m2_journal.specs.Lawful.{OnFeedAt, MayAccept}
 use Rattle.m2_journal.specs.Said.{brings, said}
 use Rattle.m2_journal.specs.SideFacts.{SideFacts}
 use Rattle.m2_journal.specs.State.{Feed, State}
 use Rattle.m2_journal.specs.Steps.{after, accepts}
-use Rattle.m2_paired.specs.Fits.{AreSaid, MayBeRefused, HearsAt}
+use Rattle.m2_paired.specs.Fits.{AreSaid, HearsAt}
 use Rattle.m2_paired.specs.Frames.{answers_on, to_come}
 use Rattle.m2_paired.specs.Laws.{Stays}
 use Rattle.m2_paired.specs.Paired.{IsMail, IsAccepted, beside, FeedIsPaired, Paired}
@@ -38,11 +38,11 @@ module _ (number : ℕ) (key : Key) (a₀ b : State) (d : Feed) (m : Content) wh
   abbrev d' : Feed
   d' = record d { taken = place + 1 }
 
-  accepted_so : (r : Type 0) → number ≡ a.last + 1 → next_said a.last d ≡ Some (brings m) →
-      AreSaid r d.got (answers_on d.socket b.sent) → Paired a b →
+  accepted_so : number ≡ a.last + 1 → next_said a.last d ≡ Some (brings m) →
+      AreSaid d.got (answers_on d.socket b.sent) → Paired a b →
       Paired (accepts number key (Some (brings m)) d a) b
-  accepted_so r is next texts h =
-      let it : IsNext (brings m) place (answers_on d.socket b.sent) = next_of r place d.got
+  accepted_so is next texts h =
+      let it : IsNext (brings m) place (answers_on d.socket b.sent) = next_of place d.got
       (answers_on d.socket b.sent) (brings m) (λ z. z) texts next in
       let old = h.near.feed in
       let further : d.taken +
@@ -73,7 +73,7 @@ pub accepted_stays : (f g : SideFacts) (n : ℕ) (key : Key) → Stays f g (item
 accepted_stays f g n key s b may = at s.feed refl may.lawful may.fits.near_hears
   where
     at : (o : Option Feed) → s.feed ≡ o → OnFeedAt o (MayAccept f s n key) →
-        HearsAt o s.sent b.sent (judged_sockets b) → Paired (after f (item.accepted n key) s) b
+        HearsAt o b.sent → Paired (after f (item.accepted n key) s) b
     at None e h heard = elim h [ ]
     at (Some d) e h heard =
         let is = its_message f s n key (next_said s.last d) h.next in
@@ -81,4 +81,4 @@ accepted_stays f g n key s b may = at s.feed refl may.lawful may.fits.near_hears
         (sym e, sym h.phase) refl in
         subst (λ z. Paired (after f (item.accepted n key) z) b) it
         (subst (λ o. Paired (accepts n key o d (record s { feed = Some d; session = record s.session { phase = phase.Ready } })) b) (sym is.1)
-        (accepted_so n key s b d is.0 (MayBeRefused d s.sent (judged_sockets b)) is.2 is.1 heard (subst (λ z. Paired z b) (sym it) may.paired)))
+        (accepted_so n key s b d is.0 is.2 is.1 heard (subst (λ z. Paired z b) (sym it) may.paired)))

@@ -13,7 +13,7 @@ use Rattle.m2_session.specs.declared.session.Phase.{Phase}
 use Rattle.m2_session.specs.declared.session.Phase.TheVariants as phase
 use Rattle.m2_journal.specs.Feeds.{answer_said, hears}
 use Rattle.m2_journal.specs.Items as item
-use Rattle.m2_journal.specs.Lawful.{OnFeedAt, IsReset, MayObey, judged_sockets}
+use Rattle.m2_journal.specs.Lawful.{OnFeedAt, IsReset, MayObey}
 use Rattle.m2_journal.specs.Laws.{IfFed}
 use Rattle.m2_journal.specs.OutFrames as out
 use Rattle.m2_journal.specs.OutFrames.{OutFrame}
@@ -21,7 +21,7 @@ use Rattle.m2_journal.specs.Said.{Said, says}
 use Rattle.m2_journal.specs.SideFacts.{SideFacts}
 use Rattle.m2_journal.specs.State.{Feed, State}
 use Rattle.m2_journal.specs.Steps.{after, event_heard, takes_answer, heeds, tells, with_feed}
-use Rattle.m2_paired.specs.Fits.{MayBeRefused, HearsAt}
+use Rattle.m2_paired.specs.Fits.{HearsAt}
 use Rattle.m2_paired.specs.Frames.{answers_on, to_come}
 use Rattle.m2_paired.specs.Laws.{Stays}
 use Rattle.m2_paired.specs.Paired.{IsAnswered, IsToCome, beside, FeedIsPaired, Paired}
@@ -43,7 +43,7 @@ module _ (f : SideFacts) (a₀ b : State) (d : Feed) where
   rest = drop (d.taken + 1) (answers_on d.socket b.sent)
 
   abbrev IsHeard : Phase → Option Event → Type 0
-  IsHeard p e = HearsAt (heeds e d (at_phase p)).feed (heeds e d (at_phase p)).sent b.sent (judged_sockets b)
+  IsHeard p e = HearsAt (heeds e d (at_phase p)).feed b.sent
 
   -- the other side sees the same socket, or none
   far_same : (p : Phase) (d' : Feed) → d'.socket ≡ d.socket → Paired (at_phase p) b → IfFed b.feed
@@ -117,11 +117,11 @@ module _ (f : SideFacts) (a₀ b : State) (d : Feed) where
       Paired (heeds (event_heard f p d) d (at_phase p)) b
   answered_stays p heard h =
       by_answer f (λ p o e. answer_said d ≡ o → IsHeard p e → Paired (at_phase p) b → Paired (heeds e d (at_phase p)) b)
-      (λ i e heard h. ident_stays i e (next_of _ d.taken d.got (answers_on d.socket b.sent) (says (control.ServerIdent i)) (λ r. r) heard e) h)
+      (λ i e heard h. ident_stays i e (next_of d.taken d.got (answers_on d.socket b.sent) (says (control.ServerIdent i)) (λ r. r) heard e) h)
       (λ k e heard h. wait_stays phase.IdentSent h)
-      (λ k e heard h. ok_stays k e (next_of _ d.taken d.got (answers_on d.socket b.sent) (says (control.SessionReconnectOk k)) (λ r. r) heard e) h)
-      (λ r e heard h. retry_stays r e (next_of _ d.taken d.got (answers_on d.socket b.sent) (says (control.SessionRetry r)) (λ r. r) heard e) h)
-      (λ r e heard h. retry_global_stays r e (next_of _ d.taken d.got (answers_on d.socket b.sent) (says (control.SessionRetryGlobal r)) (λ r. r) heard e) h)
+      (λ k e heard h. ok_stays k e (next_of d.taken d.got (answers_on d.socket b.sent) (says (control.SessionReconnectOk k)) (λ r. r) heard e) h)
+      (λ r e heard h. retry_stays r e (next_of d.taken d.got (answers_on d.socket b.sent) (says (control.SessionRetry r)) (λ r. r) heard e) h)
+      (λ r e heard h. retry_global_stays r e (next_of d.taken d.got (answers_on d.socket b.sent) (says (control.SessionRetryGlobal r)) (λ r. r) heard e) h)
       (λ k e heard h. wait_stays phase.ReconnectSent h)
       (λ p o e heard h. h)
       p (answer_said d) refl heard h
@@ -130,15 +130,14 @@ pub read_stays : (f g : SideFacts) (socket : SocketId) (bytes : List ℕ) → St
 read_stays f g socket bytes a b may = at a.feed refl may.lawful.0 may.fits_after.near_hears
   where
     at : (o : Option Feed) → a.feed ≡ o → OnFeedAt o (λ d. same_socket socket d.socket ≡ true) →
-        HearsAt (after f (item.read socket bytes) a).feed (after f (item.read socket bytes) a).sent b.sent
-        (judged_sockets b) → Paired (after f (item.read socket bytes) a) b
+        HearsAt (after f (item.read socket bytes) a).feed b.sent → Paired (after f (item.read socket bytes) a) b
     at None e h heard = elim h [ ]
     at (Some d) e h heard =
         let it : record a { feed = Some d } ≡ a = ap (λ o. record a { feed = o }) (sym e) in
         let old : Paired (record a { feed = Some d }) b = subst (λ z. Paired z b) (sym it) may.paired in
         subst (λ z. Paired (after f (item.read socket bytes) z) b) it
         (answered_stays f a b (hears bytes d) a.session.phase
-        (subst (λ z. HearsAt (after f (item.read socket bytes) z).feed (after f (item.read socket bytes) z).sent b.sent (judged_sockets b)) (sym it) heard)
+        (subst (λ z. HearsAt (after f (item.read socket bytes) z).feed b.sent) (sym it) heard)
         (same_stays a b d (hears bytes d) (hears_hears bytes d) (hears_fits a.session.phase a.last bytes d old.near.feed.texts) old))
 
 -- ---- a reset is obeyed
@@ -183,14 +182,14 @@ module _ (a₀ b : State) (d : Feed) where
 pub obeyed_stays : (f g : SideFacts) (full : Bool) → Stays f g (item.obeyed full)
 obeyed_stays f g full s b may = at s.feed refl may.lawful may.fits.near_hears
   where
-    at : (o : Option Feed) → s.feed ≡ o → OnFeedAt o (MayObey s full) → HearsAt o s.sent b.sent (judged_sockets b) →
+    at : (o : Option Feed) → s.feed ≡ o → OnFeedAt o (MayObey s full) → HearsAt o b.sent →
         Paired (after f (item.obeyed full) s) b
     at None e h heard = elim h [ ]
     at (Some d) e h heard =
         let which_is = which full (answer_said d) h.next in
         let x = which_is.0 in
         let resets : IsReset full (Some x) = subst (IsReset full) which_is.1 h.next in
-        let next = next_of (MayBeRefused d s.sent (judged_sockets b)) d.taken d.got (answers_on d.socket b.sent) x
+        let next = next_of d.taken d.got (answers_on d.socket b.sent) x
         (no_refusal full x resets) heard which_is.1 in
         let it : record s { feed = Some d; session = record s.session { phase = phase.ReconnectSent } } ≡ s = rw
         (sym e, sym h.phase) refl in

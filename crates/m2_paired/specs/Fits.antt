@@ -15,8 +15,7 @@ use Rattle.m2_journal.specs.OutFrames.{OutFrame}
 use Rattle.m2_journal.specs.Said.{Said, says, brings, said}
 use Rattle.m2_journal.specs.State.{Feed, Judgement, SentFrame, State}
 use Rattle.m2_crossing.specs.Asks.{Ask, by_ident, by_reconnect}
-use Rattle.m2_paired.specs.Frames.{asks_on, answers_on, ask_now}
-use Rattle.m2_paired.specs.LinkOf.{is_unjudged}
+use Rattle.m2_paired.specs.Frames.{asks_on, answers_on}
 
 -- ---- what is read was sent
 
@@ -39,24 +38,14 @@ IsRefusal (says (control.IdentMissingFeatures p)) = Unit {0}
 IsRefusal _ = ⊥
 
 -- What was got is a prefix of what was sent. Behind all of it there may be one refusal.
-abbrev pub AreSaid : (may_be_refused : Type 0) → List Item → List OutFrame → Type 0
-AreSaid r [] ws = Unit {0}
-AreSaid r (i ∷ is) [] = r × IsRefusal (said i) × (is ≡ [])
-AreSaid r (i ∷ is) (w ∷ ws) = Says (said i) w × AreSaid r is ws
+abbrev pub AreSaid : List Item → List OutFrame → Type 0
+AreSaid [] ws = Unit {0}
+AreSaid (i ∷ is) [] = IsRefusal (said i) × (is ≡ [])
+AreSaid (i ∷ is) (w ∷ ws) = Says (said i) w × AreSaid is ws
 
-abbrev pub IsIdent : Ask → Type 0
-IsIdent (by_ident i) = Unit {0}
-IsIdent _ = ⊥
-
--- the side's last ask on a socket that it opened is an ident, which isn't judged
-pub record MayBeRefused (d : Feed) (mine : List SentFrame) (judged : List SocketId) : Type 0 where
-  pub opened : d.opened ≡ true
-  pub ident : IsIdent (ask_now d mine)
-  pub unjudged : is_unjudged d.socket mine judged ≡ true
-
-abbrev pub HearsAt : Option Feed → (mine theirs : List SentFrame) → (judged : List SocketId) → Type 0
-HearsAt (Some d) mine theirs judged = AreSaid (MayBeRefused d mine judged) d.got (answers_on d.socket theirs)
-HearsAt None mine theirs judged = Unit {0}
+abbrev pub HearsAt : Option Feed → (theirs : List SentFrame) → Type 0
+HearsAt (Some d) theirs = AreSaid d.got (answers_on d.socket theirs)
+HearsAt None theirs = Unit {0}
 
 -- ---- what is judged was asked
 
@@ -70,8 +59,8 @@ pub record AreItsAsks (sockets : List SocketId) (theirs : List SentFrame) (js : 
   pub first : asks_on k theirs ≡ map (λ i. ask_by i.ask) (judged_on k js) ++ more
 
 pub record Fits (a b : State) : Type 0 where
-  pub near_hears : HearsAt a.feed a.sent b.sent (judged_sockets b)
-  pub far_hears : HearsAt b.feed b.sent a.sent (judged_sockets a)
+  pub near_hears : HearsAt a.feed b.sent
+  pub far_hears : HearsAt b.feed a.sent
   pub near_judges : AllByRecursion (AreItsAsks b.opened b.sent a.judgements) (judged_sockets a)
   pub far_judges : AllByRecursion (AreItsAsks a.opened a.sent b.judgements) (judged_sockets b)
   -- no socket is opened by both
