@@ -1,0 +1,4 @@
+pub mod Tags
+pub mod Heeding
+pub mod Sizes
+pub mod Bringing
