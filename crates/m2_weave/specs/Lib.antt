@@ -1,0 +1,4 @@
+pub mod Strands
+pub mod Rule
+pub mod Stops
+pub mod Laws

@@ -1,0 +1,29 @@
+//! What is promised of the rule by which strands are woven. These functions do nothing: each stands for
+//! the law that its contract names.
+
+ghost use Rattle.m2_weave.specs.Laws as laws;
+
+use m2_merge::greedy_is_an_order;
+
+/// What may come may still come later, while other strands go on. So by `m2_merge` taking whatever may
+/// come finds an order of all exactly where there is one.
+pub fn rule_stays_met()
+    ensures { laws.RuleStaysMet }
+{}
+
+/// The rule says of each item whether it may come.
+pub fn rule_decides()
+    ensures { laws.RuleDecides }
+{}
+
+/// Where a greedy order stops before the end, there is no order.
+pub fn a_stop_is_no_order()
+    ensures { laws.StopIsNoOrder }
+{
+    greedy_is_an_order();
+}
+
+/// A byte that is named unfit is the first one that was read and not written there so.
+pub fn unfit_is_the_first()
+    ensures { laws.UnfitIsTheFirst }
+{}

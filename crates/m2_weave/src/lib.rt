@@ -1,0 +1,18 @@
+//! The journals of two sides woven into one order, by the bytes of the sockets between them.
+//!
+//! What it is: definitions and laws. *Strands* are the two journals and what halves did on sockets before
+//! a side took them (`specs/Strands.antt`). An entry may come once the other end of its socket has written
+//! the bytes that it read; an ask is judged once its half has handed it on; and a half writes once all its
+//! asks so far are judged (`specs/Rule.antt`). What may come may still come later, so by `m2_merge` taking
+//! whatever may come finds an order of all entries exactly where there is one; where it stops at a read,
+//! [`Unfit`] names the byte that the other end hasn't written there (`specs/Stops.antt`).
+//!
+//! What it isn't: what follows from such an order. `m2_paired` says that of two journals in an order that
+//! fits.
+#![tactic(auto)]
+
+mod laws;
+mod unfit;
+
+pub use laws::{a_stop_is_no_order, rule_decides, rule_stays_met, unfit_is_the_first};
+pub use unfit::{Unfit, Why};
