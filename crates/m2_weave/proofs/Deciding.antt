@@ -24,7 +24,7 @@ there-first : (e : EndOf) (x : ℕ) (o : Option ℕ) (p : ℕ) (r : Option Unfit
 there-first e x None p r h = absurd (cc)
 there-first e x (Some y) p r h = let s : (x ≡ y) × (is_none r ≡ true) = same-byte x y _ r h in (ap Some (sym s.0), s.1)
 
-read-sound : (e : EndOf) (t : ℕ → Option ℕ) (p : ℕ) (xs : List ℕ) → is_none (first_unfit e t p xs) ≡ true → AreThere t p xs
+pub read-sound : (e : EndOf) (t : ℕ → Option ℕ) (p : ℕ) (xs : List ℕ) → is_none (first_unfit e t p xs) ≡ true → AreThere t p xs
 read-sound e t p [] h i l = absurd (omega (arith, l))
 read-sound e t p (x ∷ xs) h zero l =
     let f : (t p ≡ Some x) × (is_none (first_unfit e t (p + 1) xs) ≡ true) = there-first e x (t p) p (first_unfit e t (p + 1) xs) h in

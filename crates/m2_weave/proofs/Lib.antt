@@ -1,3 +1,5 @@
 pub mod Staying
 pub mod Deciding
 pub mod Naming
+pub mod SameSocket
+pub mod Written

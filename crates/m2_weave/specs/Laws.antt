@@ -1,13 +1,13 @@
 -- What is promised of the rule by which strands are woven.
-use Rattle.std.specs.Prelude.{◌≡◌, ℕ, ◌+◌, ◌<◌, true, List, length, slice_get, Option, Some, None}
+use Rattle.std.specs.Prelude.{◌≡◌, ℕ, ◌+◌, ◌<◌, ◌≤◌, true, List, length, slice_get, slice_index, Option, Some, None}
 use Rattle.m2_fabric.specs.declared.socket.SocketId.{SocketId}
-use Rattle.m2_merge.specs.Order.{Cut, StaysMet}
+use Rattle.m2_merge.specs.Order.{Cut, StaysMet, AreLawful, nothing, reached}
 use Rattle.m2_weave.specs.declared.unfit.Unfit.{Unfit}
 use Rattle.m2_weave.specs.declared.unfit.Why.{Why}
 use Rattle.m2_weave.specs.declared.unfit.Why.TheVariants.{Beyond, Differs}
-use Rattle.m2_weave.specs.Strands.{EndOf, Strand, StrandItem}
-use Rattle.m2_weave.specs.Rule.{Woven, MayCome, by_bytes, comes, first_unfit}
-use Rattle.m2_weave.specs.Stops.{IsWoven, StopsAt}
+use Rattle.m2_weave.specs.Strands.{EndOf, Strand, StrandItem, other, end_in, begun_at, place_of}
+use Rattle.m2_weave.specs.Rule.{Woven, MayCome, byte_at, by_bytes, comes, first_unfit, strand_at}
+use Rattle.m2_weave.specs.Stops.{IsWoven, StopsAt, sizes}
 
 -- what may come may still come later, while other strands go on
 abbrev pub RuleStaysMet : Type 0
@@ -40,3 +40,16 @@ pub record IsFirstUnfit (e : EndOf) (there : ℕ → Option ℕ) (from : ℕ) (b
 abbrev pub UnfitIsTheFirst : Type 0
 UnfitIsTheFirst = (e : EndOf) (there : ℕ → Option ℕ) (from : ℕ) (bytes : List ℕ) (u : Unfit) →
     first_unfit e there from bytes ≡ Some u → IsFirstUnfit e there from bytes u
+
+-- ---- what was read was written
+
+-- Each byte that a strand has read on a socket in its first items, as far as the end's log has it, is the one that the other
+-- end has written at its place by then.
+abbrev pub IsRead : Woven → Cut → Strand → ℕ → Type 0
+IsRead w at s n = (k : SocketId) (p : ℕ) → begun_at w.strands s k ≤ p → p < place_of w.strands s n k → p < length (w.bytes.got (end_in s k)) →
+    byte_at w at (other (end_in s k)) p ≡ slice_get (w.bytes.got (end_in s k)) p
+
+-- wherever a lawful order leads
+abbrev pub ReadWasWritten : Type 0
+ReadWasWritten = (w : Woven) (order : List ℕ) → AreLawful (by_bytes w) (sizes w) (nothing (sizes w)) order →
+    (j : ℕ) → IsRead w (reached (sizes w) order) (strand_at w j) (slice_index (reached (sizes w) order) j)

@@ -27,3 +27,8 @@ pub fn a_stop_is_no_order()
 pub fn unfit_is_the_first()
     ensures { laws.UnfitIsTheFirst }
 {}
+
+/// Wherever a lawful order leads, what was read at an end was written at the other end before.
+pub fn all_read_was_written()
+    ensures { laws.ReadWasWritten }
+{}

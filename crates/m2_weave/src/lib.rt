@@ -14,5 +14,7 @@
 mod laws;
 mod unfit;
 
-pub use laws::{a_stop_is_no_order, rule_decides, rule_stays_met, unfit_is_the_first};
+pub use laws::{
+    a_stop_is_no_order, all_read_was_written, rule_decides, rule_stays_met, unfit_is_the_first,
+};
 pub use unfit::{Unfit, Why};

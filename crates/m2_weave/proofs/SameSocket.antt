@@ -1,0 +1,21 @@
+-- One name is one socket.
+use Rattle.std.proofs.Common.{◌≡◌, Bool, true, false, refl, eqb-true}
+use Rattle.std.specs.Prelude.{◌==◌, ◌&&◌}
+use Rattle.m2_fabric.specs.declared.socket.SocketId.{SocketId}
+use Rattle.m2_fabric.specs.Sockets.{same_socket}
+
+both : (a b : Bool) → (a && b) ≡ true → (a ≡ true) × (b ≡ true)
+both true b h = (refl, h)
+both false b h = absurd (cc)
+
+pub one_socket : (a b : SocketId) → same_socket a b ≡ true → a ≡ b
+one_socket a b h =
+    let ip = a.from_ip == b.from_ip in
+    let port = a.from_port == b.from_port in
+    let to_ip = a.to_ip == b.to_ip in
+    let to_port = a.to_port == b.to_port in
+    let five = both (((ip && port) && to_ip) && to_port) (a.turn == b.turn) h in
+    let four = both ((ip && port) && to_ip) to_port five.0 in
+    let three = both (ip && port) to_ip four.0 in
+    let two = both ip port three.0 in
+    rw (eqb-true a.from_ip b.from_ip two.0, eqb-true a.from_port b.from_port two.1, eqb-true a.to_ip b.to_ip three.1, eqb-true a.to_port b.to_port four.1, eqb-true a.turn b.turn five.1) refl
