@@ -4,3 +4,5 @@ pub mod Valid
 pub mod NodeTable
 pub mod Link
 pub mod Counts
+pub mod Node
+pub mod Posted

@@ -1,10 +1,10 @@
 //! The scenario so far.
 
-ghost use Rattle.std.specs.Prelude.{◌≡◌, ◌<◌, false, Some, IfSome, MatchResult, length, position};
+ghost use Rattle.std.specs.Prelude.{◌≡◌, ◌<◌, false, Some, IfSome, MatchResult, OnOk, length, position};
 ghost use Rattle.std.specs.List.{list_any};
 ghost use Rattle.m2_scenario.specs.Draft.{draft_line, is_named, is_at, are_joined, is_step_of};
 ghost use Rattle.m2_scenario.specs.Draft.{no_lines, with_node, with_link, with_line, without_start, with_limit, IsMade};
-ghost use Rattle.m2_scenario.specs.Counts.{counts_of, Permit};
+ghost use Rattle.m2_scenario.specs.Counts.{counts_of, with_one_more, Permit};
 ghost use Rattle.m2_scenario.specs.Valid.{IsLine, IsLink, HasCenters, IsValid};
 
 use crate::counts::Counts;
@@ -157,7 +157,8 @@ impl Draft {
     pub fn push_line(&mut self, line: Line) -> Result<(), NoMemory>
         requires fits { IsLine (length self.old.nodes) self.old.links (draft_line line) }
         requires room { Permit (counts_of self.old.lines) (draft_line line) }
-        ensures { MatchResult result (λ _. self.new ≡ with_line self.old (draft_line line)) (λ _. self.new ≡ self.old) }
+        ensures counts { OnOk result (counts_of self.new.lines ≡ with_one_more (counts_of self.old.lines) (draft_line line)) }
+        ensures line { MatchResult result (λ _. self.new ≡ with_line self.old (draft_line line)) (λ _. self.new ≡ self.old) }
     {
         self.plan.push(line)
     }

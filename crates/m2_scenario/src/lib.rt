@@ -16,6 +16,7 @@ mod name;
 mod node;
 mod node_table;
 mod plan;
+mod post;
 mod scenario;
 
 pub use counts::Counts;
@@ -29,4 +30,5 @@ pub use link::{Link, LinkList};
 pub use link_table::cell;
 pub use name::Name;
 pub use node::{Node, NodeList};
+pub use post::posted;
 pub use scenario::Scenario;

@@ -1,5 +1,9 @@
 //! Nodes.
 
+ghost use Rattle.std.specs.Prelude.{◌≡◌};
+ghost use Rattle.m2_scenario.specs.Node.{plain_node};
+ghost use Rattle.m2_scenario.specs.Valid.{HasCenters};
+
 use crate::name::Name;
 use m2_addr::Addr;
 use m2_bytes::Items;
@@ -27,4 +31,24 @@ pub struct Node {
     pub requires_: u64,
     /// Whether `run` starts it.
     pub started: bool,
+}
+
+impl Node {
+    /// The node of a line that has no options.
+    pub fn plain(name: Name, entity: u8, at: Addr) -> Node
+        ensures value { result ≡ plain_node name entity at }
+        ensures centers { HasCenters result }
+    {
+        Node {
+            name,
+            entity,
+            at,
+            centers: 1,
+            fast: FastSet::empty(),
+            throttle: 0,
+            supports: u64::MAX,
+            requires_: 0,
+            started: true,
+        }
+    }
 }

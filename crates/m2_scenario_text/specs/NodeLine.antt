@@ -1,7 +1,6 @@
 -- `node NAME ENTITY IP:PORT/NONCE` and options.
-use Rattle.std.specs.Prelude.{ℕ, nat_le, nat_lt, true, not, List, [], length, drop, Result, Ok}
+use Rattle.std.specs.Prelude.{nat_le, nat_lt, not, List, length, drop, Result, Ok}
 use Rattle.std.specs.List.{list_any}
-use Rattle.m2_addr.specs.declared.addr.Addr.{Addr}
 use Rattle.m2_words.specs.declared.kind.Kind.{Kind}
 use Rattle.m2_words.specs.declared.kind.Kind.TheVariants as kind
 use Rattle.m2_words.specs.Steps.{◌>>=◌, check}
@@ -10,23 +9,10 @@ use Rattle.m2_words.specs.Word.{is_name}
 use Rattle.m2_words.specs.Address.{address_of}
 use Rattle.m2_scenario.specs.declared.limits.TheConstants.{MOST_NODES}
 use Rattle.m2_scenario.specs.declared.node.Node.{Node}
+use Rattle.m2_scenario.specs.Node.{plain_node}
 use Rattle.m2_scenario.specs.Draft.{Draft, with_node, is_named, is_at}
 use Rattle.m2_scenario_text.specs.Vocabulary.{entity_of}
 use Rattle.m2_scenario_text.specs.NodeOption.{options_in, are_once, set_options}
-
--- the node of a line that has no options
-abbrev pub plain_node : Word → ℕ → Addr → Node
-plain_node name entity at = record {
-  name = name;
-  entity = entity;
-  at = at;
-  centers = 1;
-  fast = [];
-  throttle = 0;
-  supports = 18446744073709551615;
-  requires_ = 0;
-  started = true;
-}
 
 -- the node that the words describe, wherever it stands
 unfoldable pub node_of : List Word → Result Node Kind

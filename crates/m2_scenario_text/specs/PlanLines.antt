@@ -10,6 +10,7 @@ use Rattle.m2_words.specs.Word.{number_of, bytes_of}
 use Rattle.m2_scenario.specs.declared.limits.TheConstants.{MOST_POSTS}
 use Rattle.m2_scenario_text.specs.declared.plan_lines.TheConstants.{LEAST_PRIORITY, MOST_PRIORITY}
 use Rattle.m2_scenario.specs.Draft.{Draft, with_line, is_post, post, dial, down}
+use Rattle.m2_scenario.specs.Posted.{posted}
 use Rattle.m2_scenario.specs.Valid.{are_short}
 use Rattle.m2_scenario_text.specs.Pair.{pair_of}
 use Rattle.std.specs.Prelude.{slice_get}
@@ -26,27 +27,6 @@ planned_pair d first second = do
   _ ← check kind.Link (started (slice_get d.nodes pair.0))
   Ok pair
 
--- a post's message: version 1, compat 1, and 0 in the fields that a line doesn't name
-abbrev pub content_with : ℕ → ℕ → List ℕ → List ℕ → List ℕ → Content
-content_with k priority front middle tail = record {
-  header = record {
-    seq = 0;
-    tid = 0;
-    kind = k;
-    priority = priority;
-    version = 1;
-    pre_padding = 0;
-    data_off = 0;
-    ack_seq = 0;
-    flags = 0;
-    compat = 1;
-    reserved = 0;
-  };
-  front = front;
-  middle = middle;
-  tail = tail;
-}
-
 -- KIND PRIORITY FRONT MIDDLE DATA
 unfoldable pub message_of : List Word → Result Content Kind
 message_of ws = do
@@ -55,7 +35,7 @@ message_of ws = do
   front ← bytes_of (word ws 2)
   middle ← bytes_of (word ws 3)
   tail ← bytes_of (word ws 4)
-  Ok (content_with k priority front middle tail)
+  Ok (posted k priority front middle tail)
 
 unfoldable pub post_line : Draft → List Word → Result Draft Kind
 post_line d ws = do

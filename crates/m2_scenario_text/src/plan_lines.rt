@@ -9,8 +9,8 @@ ghost use Rattle.m2_scenario.specs.Valid.{are_short};
 ghost use Rattle.m2_scenario_text.specs.Pair.{AreJoined};
 
 use crate::pair::pair;
-use m2_message::{Header, Message};
-use m2_scenario::{Draft, Line, MOST_PART_BYTES, MOST_POSTS};
+use m2_message::Message;
+use m2_scenario::{Draft, Line, MOST_PART_BYTES, MOST_POSTS, posted};
 use m2_words::{Kind, LineFault, Words, check, read_bytes, read_number};
 use std::alloc::Global;
 
@@ -44,25 +44,7 @@ fn message_of(alloc: Global, mut words: Words<'_>) -> Result<Message, LineFault>
     let front = read_bytes(alloc, words.take())?;
     let middle = read_bytes(alloc, words.take())?;
     let tail = read_bytes(alloc, words.take())?;
-    let header = Header {
-        seq: 0,
-        tid: 0,
-        kind,
-        priority,
-        version: 1,
-        pre_padding: 0,
-        data_off: 0,
-        ack_seq: 0,
-        flags: 0,
-        compat: 1,
-        reserved: 0,
-    };
-    Ok(Message {
-        header,
-        front,
-        middle,
-        tail,
-    })
+    Ok(posted(kind, priority, front, middle, tail))
 }
 
 // Whether each part is short enough.

@@ -1,0 +1,5 @@
+pub mod Draws
+pub mod Choices
+pub mod Cluster
+pub mod Generated
+pub mod Counted
