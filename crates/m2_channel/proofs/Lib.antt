@@ -7,3 +7,4 @@ pub mod Through
 pub mod Observing
 pub mod Resets
 pub mod OneMessage
+pub mod Marks

@@ -7,7 +7,7 @@ use Rattle.m2_message.specs.Message.{Content, unnumbered}
 use Rattle.m2_policy.specs.declared.path.Key.{Key}
 use Rattle.m2_crossing.specs.Order.{AreFirstOf}
 use Rattle.m2_journal.specs.SideFacts.{SideFacts}
-use Rattle.m2_journal.specs.State.{start}
+use Rattle.m2_journal.specs.State.{State, start}
 use Rattle.m2_paired.specs.Orders as orders
 use Rattle.m2_paired.specs.Orders.{SideItem, near_items, IsHistory, near_after, far_after, AreNodes, posts_in, LosslessIsNeverReset}
 use Rattle.m2_channel.specs.Channel as channel
@@ -19,7 +19,7 @@ use Rattle.m2_channel.proofs.Keys.{key_self, next_is, of_key-append}
 use Rattle.m2_channel.proofs.Runs.{unmarked_step, leaves, run_append, after_append, all_append, unmarked_deliver}
 use Rattle.m2_channel.proofs.Counts.{done_is_all}
 use Rattle.m2_channel.proofs.Orders.{history_turned, nodes_turned, far_after_turned}
-use Rattle.m2_channel.proofs.Through.{posted_keys, shows_all}
+use Rattle.m2_channel.proofs.Through.{Stands, posted_keys, shows_all}
 
 -- ---- what a log has of a peer
 
@@ -81,7 +81,7 @@ all_dispatched peer (heard.reset p ∷ log) = all_dispatched peer log
 -- ---- they may be taken
 
 -- of each key what was dispatched, and behind it what the log has, is the first ones of what was accepted
-abbrev Follows : (peer : ℕ) → List Heard → Channel → Type 0
+abbrev pub Follows : (peer : ℕ) → List Heard → Channel → Type 0
 Follows peer log c = (key : Key) → AreFirstOf (channel.of_key key c.dispatched ++ map unnumbered (heard.of_key peer key log)) (channel.of_key key c.accepted)
 
 first_of_more : (done rest all : List Content) (m : Content) → AreFirstOf (done ++ m ∷ rest) all → AreFirstOf (done ++ m ∷ []) all
@@ -109,7 +109,7 @@ hears_one peer k m log c unmarked h on =
     at key true e = subst (λ l. AreFirstOf l (channel.of_key key c.accepted)) (sym (append_assoc (channel.of_key key c.dispatched) (unnumbered m ∷ []) (map unnumbered (heard.of_key peer key log)))) e
     at key false e = subst (λ l. AreFirstOf (l ++ map unnumbered (heard.of_key peer key log)) (channel.of_key key c.accepted)) (sym (append-nil (channel.of_key key c.dispatched))) e
 
-dispatch_run : (peer : ℕ) (log : List Heard) (c : Channel) → c.marked ≡ false → Follows peer log c → IsRun (dispatched_from peer log) c
+pub dispatch_run : (peer : ℕ) (log : List Heard) (c : Channel) → c.marked ≡ false → Follows peer log c → IsRun (dispatched_from peer log) c
 dispatch_run peer [] c unmarked h = tt
 dispatch_run peer (heard.message p k n m ∷ log) c unmarked h = at (p == peer) h (λ d e g. dispatch_run peer log d e g)
   where
@@ -120,6 +120,12 @@ dispatch_run peer (heard.message p k n m ∷ log) c unmarked h = at (p == peer) 
     at true g on = hears_one peer k m log c unmarked g on
     at false g on = on c unmarked g
 dispatch_run peer (heard.reset p ∷ log) c unmarked h = dispatch_run peer log c unmarked h
+
+-- where the channel stands by two journals, of which this is the log
+pub follows : (g : SideFacts) (peer : ℕ) (log : List Heard) (ps : List Content) (a b : State) (c : Channel) → Stands g ps a b c → IsLogOf peer log b → Follows peer log c
+follows g peer log ps a b c it is_log key =
+    subst (λ l. AreFirstOf (channel.of_key key l ++ map unnumbered (heard.of_key peer key log)) (channel.of_key key c.accepted)) (sym it.dispatched)
+    (subst (λ l. AreFirstOf (map unnumbered (heard.of_key peer key log)) (channel.of_key key l)) (sym it.accepted) (is_log it.no_discard key))
 
 -- ---- all of it
 
@@ -139,11 +145,7 @@ brought never f g order log nodes history is_log =
     let shows = shows_all never f g nodes order history in
     let c = after_steps xs new_channel in
     let it = shows.stands in
-    let log_first = is_log it.no_discard in
-    let follows : Follows peer log c = λ key.
-    subst (λ l. AreFirstOf (channel.of_key key l ++ map unnumbered (heard.of_key peer key log)) (channel.of_key key c.accepted)) (sym it.dispatched)
-    (subst (λ l. AreFirstOf (map unnumbered (heard.of_key peer key log)) (channel.of_key key l)) (sym it.accepted) (log_first key)) in
-    let run = run_append xs ys new_channel shows.run (dispatch_run peer log c it.marked follows) in
+    let run = run_append xs ys new_channel shows.run (dispatch_run peer log c it.marked (follows g peer log ps (near_after f order) b c it is_log)) in
     let no_mark = all_append IsNoMark xs ys shows.no_mark (none_marked (heard_from peer log)) in
     let delivered = unmarked_deliver all run no_mark in
     let whole = leaves all new_channel refl no_mark in

@@ -19,12 +19,12 @@ use Rattle.m2_channel.proofs.Runs.{all_first}
 
 -- ---- one after the other
 
-near-append : (xs ys : List SideItem) → near_items (xs ++ ys) ≡ near_items xs ++ near_items ys
+pub near-append : (xs ys : List SideItem) → near_items (xs ++ ys) ≡ near_items xs ++ near_items ys
 near-append [] ys = refl
 near-append (near_item i ∷ xs) ys = ap (λ is. i ∷ is) (near-append xs ys)
 near-append (far_item i ∷ xs) ys = near-append xs ys
 
-far-append : (xs ys : List SideItem) → far_items (xs ++ ys) ≡ far_items xs ++ far_items ys
+pub far-append : (xs ys : List SideItem) → far_items (xs ++ ys) ≡ far_items xs ++ far_items ys
 far-append [] ys = refl
 far-append (near_item i ∷ xs) ys = far-append xs ys
 far-append (far_item i ∷ xs) ys = ap (λ is. i ∷ is) (far-append xs ys)
@@ -57,11 +57,11 @@ posts_beside order i = ap posts_in (near-append order (far_item i ∷ []) ∙ ap
 
 -- ---- the first entries
 
-lawful_first : (f : SideFacts) (is js : List JournalItem) (s : State) → AreLawful f (is ++ js) s → AreLawful f is s
+pub lawful_first : (f : SideFacts) (is js : List JournalItem) (s : State) → AreLawful f (is ++ js) s → AreLawful f is s
 lawful_first f [] js s h = tt
 lawful_first f (i ∷ is) js s h = (h.0, lawful_first f is js (after f i s) h.1)
 
-fit_first : (f g : SideFacts) (xs ys : List SideItem) (a b : State) → FitThroughout f g (xs ++ ys) a b → FitThroughout f g xs a b
+pub fit_first : (f g : SideFacts) (xs ys : List SideItem) (a b : State) → FitThroughout f g (xs ++ ys) a b → FitThroughout f g xs a b
 fit_first f g [] ys a b h = tt
 fit_first f g (near_item i ∷ xs) ys a b h = (h.0, fit_first f g xs ys (after f i a) b h.1)
 fit_first f g (far_item i ∷ xs) ys a b h = (h.0, fit_first f g xs ys a (after g i b) h.1)
@@ -101,7 +101,7 @@ fits_turned a b h = record {
     apart k true e g = differ (sym (h.opened_apart k e) ∙ g)
     apart k false e g = e
 
-fit_turned : (f g : SideFacts) (order : List SideItem) (a b : State) → FitThroughout f g order a b → FitThroughout g f (turned order) b a
+pub fit_turned : (f g : SideFacts) (order : List SideItem) (a b : State) → FitThroughout f g order a b → FitThroughout g f (turned order) b a
 fit_turned f g [] a b h = tt
 fit_turned f g (near_item i ∷ order) a b h = (fits_turned (after f i a) b h.0, fit_turned f g order (after f i a) b h.1)
 fit_turned f g (far_item i ∷ order) a b h = (fits_turned a (after g i b) h.0, fit_turned f g order a (after g i b) h.1)

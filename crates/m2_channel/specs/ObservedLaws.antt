@@ -7,13 +7,14 @@ use Rattle.m2_dispatch.specs.Heard.{Heard}
 use Rattle.m2_message.specs.Message.{Content, unnumbered}
 use Rattle.m2_policy.specs.declared.path.Key.{Key}
 use Rattle.m2_journal.specs.Lawful.{key_of}
+use Rattle.m2_journal.specs.Replay.{AreLawful}
 use Rattle.m2_journal.specs.SideFacts.{SideFacts}
-use Rattle.m2_journal.specs.State.{State}
+use Rattle.m2_journal.specs.State.{State, start}
 use Rattle.m2_crossing.specs.Order.{AreFirstOf}
 use Rattle.m2_paired.specs.Orders as orders
-use Rattle.m2_paired.specs.Orders.{SideItem, near_items, far_items, near_after, far_after, posts_in, trouble_in, AreNodes, IsHistory, IsNoFullReset}
+use Rattle.m2_paired.specs.Orders.{SideItem, near_items, far_items, near_after, far_after, posts_in, trouble_in, AreNodes, FitThroughout, IsHistory, IsNoFullReset}
 use Rattle.m2_channel.specs.Channel as channel
-use Rattle.m2_channel.specs.Channel.{KeyedMessage, keyed, new_channel, after_steps, IsRun, IsNoMark, IsNoReset, posts, acceptances, dispatches}
+use Rattle.m2_channel.specs.Channel.{KeyedMessage, keyed, new_channel, after_steps, IsRun, IsNoMark, IsNoReset, unmarked, posts, acceptances, dispatches}
 use Rattle.m2_channel.specs.ChannelLaws.{IsDelivered}
 use Rattle.m2_channel.specs.Observed.{shown_from, observed, heard_from, turned, handed, IsNoDiscard}
 
@@ -69,6 +70,28 @@ pub record AreLogs (f g : SideFacts) (order : List SideItem) (near_log far_log :
 abbrev pub ObservedIsARun : Type 0
 ObservedIsARun = (f g : SideFacts) (order : List SideItem) (near_log far_log : List Heard) → AreNodes f g → IsHistory f g order →
     AreLogs f g order near_log far_log → AreBrought f g order near_log far_log
+
+-- ---- with mark-downs
+
+-- Both journals are lawful, and the order of their entries fits. A side may be marked down.
+pub record IsLawfulOrder (f g : SideFacts) (order : List SideItem) : Type 0 where
+  pub near_lawful : AreLawful f (near_items order) (start f)
+  pub far_lawful : AreLawful g (far_items order) (start g)
+  pub fits : FitThroughout f g order (start f) (start g)
+
+-- What is observed is a run of the channel, in which no reset comes without a mark before it; and up to the first mark
+-- all comes over as it was posted.
+pub record IsBroughtToAMark (f g : SideFacts) (order : List SideItem) (log : List Heard) : Type 0 where
+  pub run : IsRun (observed f g order log) new_channel
+  pub delivered : IsDelivered (unmarked (observed f g order log))
+
+pub record AreBroughtToAMark (f g : SideFacts) (order : List SideItem) (near_log far_log : List Heard) : Type 0 where
+  pub near : IsBroughtToAMark f g order far_log
+  pub far : IsBroughtToAMark g f (turned order) near_log
+
+abbrev pub ObservedIsARunToAMark : Type 0
+ObservedIsARunToAMark = (f g : SideFacts) (order : List SideItem) (near_log far_log : List Heard) → AreNodes f g →
+    IsLawfulOrder f g order → AreLogs f g order near_log far_log → AreBroughtToAMark f g order near_log far_log
 
 -- ---- resets
 

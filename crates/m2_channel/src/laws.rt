@@ -56,3 +56,11 @@ pub fn a_message_is_observed()
     lossless_is_never_reset();
     a_message_comes_over();
 }
+
+/// Where a side may be marked down, what is observed is a run of the channel too: no reset comes without
+/// a mark before it, and up to the first mark messages come over as they were posted.
+pub fn observed_is_a_run_to_a_mark()
+    ensures { observed.ObservedIsARunToAMark }
+{
+    lossless_is_never_reset();
+}

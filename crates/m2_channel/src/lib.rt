@@ -31,7 +31,9 @@
 //! | one that throws messages away, sets numbers back behind an acceptance of either side, or obeys a full reset | either | `reset`, behind what else it shows |
 //! | any other | either | nothing |
 //!
-//! Behind the entries stand the dispatches that the far side's log has of the near side.
+//! Behind the entries stand the dispatches that the far side's log has of the near side. Of a lossless
+//! link this is a run of the channel: [`observed_is_a_run`] where no side is marked down,
+//! [`observed_is_a_run_to_a_mark`] where one may be.
 #![tactic(auto)]
 
 mod laws;
