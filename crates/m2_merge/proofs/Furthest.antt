@@ -58,7 +58,7 @@ further rule all from at (k ∷ ks) stays stuck w (may, l) =
     further rule all (come k from) at ks stays stuck
     (step-within from at k w (below-at rule all from at k stays stuck w may (cases_eq (slice_index from k) (slice_index at k)))) l
 
-zero-at : (all : Cut) (k : ℕ) → slice_index (nothing all) k ≡ 0
+pub zero-at : (all : Cut) (k : ℕ) → slice_index (nothing all) k ≡ 0
 zero-at [] k = refl
 zero-at (n ∷ all) zero = refl
 zero-at (n ∷ all) (suc k) = zero-at all k

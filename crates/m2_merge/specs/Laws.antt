@@ -1,6 +1,7 @@
 -- What is promised of every merge: taking whatever may come finds an order of all entries exactly where there is one.
-use Rattle.std.specs.Prelude.{◌≡◌, ℕ, List, length}
+use Rattle.std.specs.Prelude.{◌≡◌, ℕ, List, length, slice_index}
 use Rattle.m2_merge.specs.Order.{Cut, Rule, StaysMet, AtMost, AreLawful, IsStuck, IsOrder, IsGreedy, nothing, reached}
+use Rattle.m2_merge.specs.Both.{times}
 use Rattle.m2_merge.specs.Counted.{Strands, by_counters}
 
 -- where nothing may come no order has gone further
@@ -21,3 +22,7 @@ StopsAreOne = (one other : ℕ → ℕ) (rule : Rule) (all : Cut) (xs ys : List 
 -- by counters what is met stays met
 abbrev pub CountedStaysMet : Type 0
 CountedStaysMet = (strands : Strands) → StaysMet (by_counters strands)
+
+-- an order of all names each strand as often as it has entries
+abbrev pub OrderNamesAll : Type 0
+OrderNamesAll = (rule : Rule) (all : Cut) (order : List ℕ) → IsOrder rule all order → (k : ℕ) → times k order ≡ slice_index all k

@@ -1,6 +1,7 @@
 //! What is promised of every merge. These functions do nothing: each stands for the law that its contract
 //! names.
 
+ghost use Rattle.m2_merge.specs.Both.{ComeInOrder};
 ghost use Rattle.m2_merge.specs.Laws as laws;
 
 /// Where every entry that may come was taken until none may, no order goes further.
@@ -24,4 +25,14 @@ pub fn stops_are_one()
 #[tactic(auto, using(crate::proofs::Counts::counted_stays_met))]
 pub fn counted_stays_met()
     ensures { laws.CountedStaysMet }
+{}
+
+/// An order of all names each strand as often as it has entries.
+pub fn an_order_names_all()
+    ensures { laws.OrderNamesAll }
+{}
+
+/// Of each two strands the entries come in their own order, as many as the order names of each.
+pub fn both_come_in_order<A, B>()
+    ensures { ComeInOrder A B }
 {}

@@ -17,5 +17,8 @@ mod merging;
 mod users;
 
 pub use counted::{CountedEntry, CountedStrand, Need};
-pub use laws::{counted_stays_met, greedy_is_an_order, stops_are_one, stuck_is_the_end};
+pub use laws::{
+    an_order_names_all, both_come_in_order, counted_stays_met, greedy_is_an_order, stops_are_one,
+    stuck_is_the_end,
+};
 pub use merging::{Merged, merge};

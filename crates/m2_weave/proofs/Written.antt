@@ -1,5 +1,5 @@
 -- Wherever a lawful order leads, what was read was written before.
-use Rattle.std.proofs.Common.{◌≡◌, ℕ, zero, suc, ◌+◌, ◌-◌, ◌<◌, ◌≤◌, ◌⊎◌, inl, inr, Bool, true, false, List, [], ◌∷◌, length, take, drop, map, min, refl, sym, ap, ◌∙◌, subst, arith, add-one, Option, Some, None}
+use Rattle.std.proofs.Common.{◌≡◌, ℕ, zero, suc, ◌+◌, ◌-◌, ◌<◌, ◌≤◌, ◌⊎◌, inl, inr, Bool, true, false, List, [], ◌∷◌, length, take, drop, refl, sym, ap, ◌∙◌, subst, arith, add-one, Option, Some, None}
 use Rattle.std.specs.Prelude.{if◌then◌else◌, slice_get, slice_index}
 use Rattle.std.proofs.lemmas.List.{length-set, length-map, length-take, length-drop, get_or-set_same, get_or-set_other}
 use Rattle.std.proofs.lemmas.Option.{slice_get-get_or}
@@ -7,8 +7,8 @@ use Rattle.std.proofs.lemmas.Bool.{cases_eq}
 use Rattle.m2_fabric.specs.declared.socket.SocketId.{SocketId}
 use Rattle.m2_fabric.specs.Sockets.{same_socket}
 use Rattle.m2_journal.specs.declared.entry.Entry.TheVariants as entry
-use Rattle.m2_merge.specs.Order.{Cut, AtMost, AreLawful, come, come_all, nothing, reached}
-use Rattle.m2_weave.specs.Strands.{EndOf, Strand, StrandItem, noted, handed, other, end_in, read_by, total, begun_at, place_of}
+use Rattle.m2_merge.specs.Order.{Cut, AtMost, AreLawful, come, come_all, nothing}
+use Rattle.m2_weave.specs.Strands.{Strand, StrandItem, noted, handed, other, end_in, read_by, total, place_of}
 use Rattle.m2_weave.specs.Rule.{Woven, byte_at, by_bytes, comes, strand_at}
 use Rattle.m2_weave.specs.Stops.{sizes}
 use Rattle.m2_weave.specs.Laws.{IsRead, ReadWasWritten}

@@ -7,7 +7,7 @@ use Rattle.m2_merge.specs.Order.{Cut, Rule}
 use Rattle.m2_weave.specs.declared.unfit.Unfit.{Unfit}
 use Rattle.m2_weave.specs.declared.unfit.Why.{Why}
 use Rattle.m2_weave.specs.declared.unfit.Why.TheVariants.{Beyond, Differs}
-use Rattle.m2_weave.specs.Strands.{EndOf, Bytes, Strand, StrandItem, noted, handed, other, end_in, handed_by, judged_by, total, written_at, handed_at, judged_at, place_of}
+use Rattle.m2_weave.specs.Strands.{EndOf, Bytes, Strand, StrandItem, noted, other, end_in, handed_by, judged_by, total, written_at, handed_at, judged_at, place_of}
 
 -- what is woven
 pub record Woven : Type 0 where

@@ -1,5 +1,5 @@
 -- An order of all that is woven; and where the greedy one stops, the byte that has no writer.
-use Rattle.std.specs.Prelude.{◌≡◌, ℕ, suc, ◌<◌, List, [], ◌∷◌, length, map, slice_get, slice_index, Option, Some, None}
+use Rattle.std.specs.Prelude.{◌≡◌, ℕ, List, [], ◌∷◌, length, map, slice_get, Option, Some, None}
 use Rattle.m2_journal.specs.declared.entry.Entry.TheVariants as entry
 use Rattle.m2_merge.specs.Order.{Cut, IsGreedy, IsOrder, reached}
 use Rattle.m2_weave.specs.declared.unfit.Unfit.{Unfit}
