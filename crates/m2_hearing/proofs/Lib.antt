@@ -1,0 +1,4 @@
+pub mod Payloads
+pub mod Answers
+pub mod Sizes
+pub mod Fronts
