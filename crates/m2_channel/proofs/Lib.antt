@@ -8,3 +8,4 @@ pub mod Observing
 pub mod Resets
 pub mod OneMessage
 pub mod Marks
+pub mod Handing

@@ -2,3 +2,4 @@ pub mod Channel
 pub mod ChannelLaws
 pub mod Observed
 pub mod ObservedLaws
+pub mod Handing

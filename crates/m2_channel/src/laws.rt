@@ -2,8 +2,10 @@
 //! nothing: each stands for the law that its contract names.
 
 ghost use Rattle.m2_channel.specs.ChannelLaws as laws;
+ghost use Rattle.m2_channel.specs.Handing as handing;
 ghost use Rattle.m2_channel.specs.ObservedLaws as observed;
 
+use m2_dispatcher::each_key_keeps_its_order;
 use m2_paired::{a_message_comes_over, lossless_is_never_reset};
 
 /// Wherever a run of the channel leads, of each key what is dispatched is the first ones of what is
@@ -63,4 +65,13 @@ pub fn observed_is_a_run_to_a_mark()
     ensures { observed.ObservedIsARunToAMark }
 {
     lossless_is_never_reset();
+}
+
+/// Where a record's parcels go into the queue before a dispatcher, each once and in order, the
+/// dispatcher's log is a log of that record: of each key some of what it accepted, in order, each once,
+/// and the first ones of it as long as nothing is thrown away.
+pub fn logs_are_logs_of_what_is_handed_on()
+    ensures { handing.LogsAreLogs }
+{
+    each_key_keeps_its_order();
 }

@@ -34,11 +34,15 @@
 //! Behind the entries stand the dispatches that the far side's log has of the near side. Of a lossless
 //! link this is a run of the channel: [`observed_is_a_run`] where no side is marked down,
 //! [`observed_is_a_run_to_a_mark`] where one may be.
+//!
+//! `specs/Handing.antt` says when a log is that of a record: where the record's parcels are put into the
+//! queue before the dispatcher, each once and in order ([`logs_are_logs_of_what_is_handed_on`]).
 #![tactic(auto)]
 
 mod laws;
 
 pub use laws::{
-    a_message_is_observed, done_is_all_dispatched, observed_is_a_run, resets_are_observed,
-    runs_deliver, runs_keep_order, unmarked_runs_deliver,
+    a_message_is_observed, done_is_all_dispatched, logs_are_logs_of_what_is_handed_on,
+    observed_is_a_run, observed_is_a_run_to_a_mark, resets_are_observed, runs_deliver,
+    runs_keep_order, unmarked_runs_deliver,
 };

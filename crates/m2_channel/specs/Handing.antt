@@ -1,0 +1,68 @@
+-- From what a record hands on, through the queue before its node's dispatcher, to what that is called with.
+use Rattle.std.specs.Prelude.{◌≡◌, ℕ, ◌==◌, if◌then◌else◌, List, [], ◌∷◌, ◌++◌, map, take}
+use Rattle.m2_dispatch.specs.Heard as heard
+use Rattle.m2_dispatch.specs.Heard.{Heard}
+use Rattle.m2_dispatcher.specs.declared.letter.Letter.{Letter}
+use Rattle.m2_dispatcher.specs.declared.parcel.Parcel.{Parcel}
+use Rattle.m2_dispatcher.specs.declared.parcel.Parcel.TheVariants as parcel
+use Rattle.m2_dispatcher.specs.Laws.{Call, Put, Turn, History, IsSublist, start, after_call}
+use Rattle.m2_dispatcher.specs.Letters.{heard_in}
+use Rattle.m2_dispatcher.specs.Parcel.{heard_at_put}
+use Rattle.m2_message.specs.Message.{content_of, unnumbered}
+use Rattle.m2_policy.specs.declared.path.Key.{Key}
+use Rattle.m2_journal.specs.State as state
+use Rattle.m2_journal.specs.State.{Delivery, State}
+use Rattle.m2_channel.specs.Channel as channel
+use Rattle.m2_channel.specs.Observed.{handed}
+use Rattle.m2_channel.specs.ObservedLaws.{IsLogOf}
+
+-- ---- what is handed on
+
+abbrev pub peer_of : Parcel → ℕ
+peer_of (parcel.Letter l) = l.peer
+peer_of (parcel.Discard peer) = peer
+peer_of (parcel.RemoteReset peer) = peer
+
+-- those of a peer among the parcels that were put, in order
+abbrev pub parcels_of : ℕ → List Call → List Parcel
+parcels_of peer [] = []
+parcels_of peer (Put p ∷ calls) = if peer_of p == peer then p ∷ parcels_of peer calls else parcels_of peer calls
+parcels_of peer (Turn ∷ calls) = parcels_of peer calls
+
+-- a parcel is this delivery
+abbrev pub IsParcelOf : Parcel → Delivery → Type 0
+IsParcelOf (parcel.Letter l) (state.letter number key m) = (l.key ≡ key) × (l.number ≡ number) × (content_of l.message ≡ m)
+IsParcelOf (parcel.Discard peer) state.discarded = Unit {0}
+IsParcelOf (parcel.RemoteReset peer) state.remote_reset = Unit {0}
+IsParcelOf _ _ = ⊥
+
+-- the parcels are the first ones of these deliveries, in order
+abbrev pub AreParcelsOf : List Parcel → List Delivery → Type 0
+AreParcelsOf [] ds = Unit {0}
+AreParcelsOf (p ∷ ps) [] = ⊥
+AreParcelsOf (p ∷ ps) (d ∷ ds) = IsParcelOf p d × AreParcelsOf ps ds
+
+-- ---- what is heard
+
+-- at a call, where these letters wait
+abbrev pub heard_at : Call → List Letter → List Heard
+heard_at (Put p) waiting = heard_at_put p
+heard_at Turn waiting = map heard_in (take 1 waiting)
+
+abbrev pub heard_by_calls : ℕ → History → List Call → List Heard
+heard_by_calls peer h [] = []
+heard_by_calls peer h (c ∷ calls) = heard_at c h.waiting ++ heard_by_calls peer (after_call peer h c) calls
+
+-- ---- what is promised
+
+-- what a dispatcher is called with of a record's peer
+pub record IsHeardOf (peer : ℕ) (log : List Heard) (s : State) : Type 0 where
+  -- as long as nothing was thrown away, of each key the first ones of what the record accepted, in order, each once
+  pub first : IsLogOf peer log s
+  -- and always, of each key some of it, in order, each once
+  pub some : (key : Key) → IsSublist (map unnumbered (heard.of_key peer key log)) (channel.of_key key (handed s.deliveries))
+
+-- so it is where the parcels of the peer that were put into the queue are the first ones that the record handed on
+abbrev pub LogsAreLogs : Type 0
+LogsAreLogs = (peer : ℕ) (calls : List Call) (s : State) → AreParcelsOf (parcels_of peer calls) s.deliveries →
+    IsHeardOf peer (heard_by_calls peer start calls) s
