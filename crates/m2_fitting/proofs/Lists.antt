@@ -1,0 +1,79 @@
+-- Lists that are put together in two ways, and prefixes.
+use Rattle.std.proofs.Common.{◌≡◌, ◌≢◌, ◌⊎◌, inl, inr, List, [], ◌∷◌, ◌++◌, Option, Some, None, refl, sym, ap, ◌∙◌, append_assoc, append-nil}
+use Rattle.std.specs.List.{AllByRecursion, flat_map}
+use Rattle.m2_handshake.specs.Laws.{IsPrefix}
+
+pub cons_same : {X : Type 0} (x y : X) (xs ys : List X) → x ∷ xs ≡ y ∷ ys → (x ≡ y) × (xs ≡ ys)
+cons_same x y xs ys e = (cc, cc)
+
+pub cons_is_some : {X : Type 0} (x : X) (xs : List X) → x ∷ xs ≢ []
+cons_is_some x xs e = cc
+
+pub not_nil : {X Y : Type 0} {x : X} {xs : List X} → x ∷ xs ≡ [] → Y
+not_nil {X} {Y} {x} {xs} e = absurd (cons_is_some x xs e)
+
+pub nil_not : {X Y : Type 0} {x : X} {xs : List X} → [] ≡ x ∷ xs → Y
+nil_not {X} {Y} {x} {xs} e = absurd (cons_is_some x xs (sym e))
+
+some_is_one : {X : Type 0} (x : X) → Some x ≢ None
+some_is_one x e = cc
+
+pub some_not_none : {X Y : Type 0} {x : X} → Some x ≡ None → Y
+some_not_none {X} {Y} {x} e = absurd (some_is_one x e)
+
+pub none_not_some : {X Y : Type 0} {x : X} → None ≡ Some x → Y
+none_not_some {X} {Y} {x} e = absurd (some_is_one x (sym e))
+
+-- the first of two parts ends before the other one does, and what is between
+pub record EndsBefore {X : Type 0} (xs ys zs ws : List X) : Type 0 where
+  pub more : List X
+  pub some : more ≢ []
+  pub longer : zs ≡ xs ++ more
+  pub behind : ys ≡ more ++ ws
+
+-- or it ends there or behind
+pub record EndsBehind {X : Type 0} (xs ys zs ws : List X) : Type 0 where
+  pub more : List X
+  pub longer : xs ≡ zs ++ more
+  pub behind : more ++ ys ≡ ws
+
+pub compare : {X : Type 0} (xs ys zs ws : List X) → xs ++ ys ≡ zs ++ ws → EndsBefore xs ys zs ws ⊎ EndsBehind xs ys zs ws
+compare [] ys [] ws e = inr (record { more = []; longer = refl; behind = e })
+compare [] ys (z ∷ zs) ws e = inl (record { more = z ∷ zs; some = cons_is_some z zs; longer = refl; behind = e })
+compare (x ∷ xs) ys [] ws e = inr (record { more = x ∷ xs; longer = refl; behind = e })
+compare (x ∷ xs) ys (z ∷ zs) ws e =
+    let same = cons_same x z (xs ++ ys) (zs ++ ws) e in
+    by_either (compare xs ys zs ws same.1)
+    (λ h. inl (record { more = h.more; some = h.some; longer = ap (λ l. z ∷ l) h.longer ∙ ap (λ y. y ∷ (xs ++ h.more)) (sym same.0); behind = h.behind }))
+    (λ h. inr (record { more = h.more; longer = ap (λ l. x ∷ l) h.longer ∙ ap (λ y. y ∷ (zs ++ h.more)) same.0; behind = h.behind }))
+  where
+    by_either : {P Q R : Type 0} → P ⊎ Q → (P → R) → (Q → R) → R
+    by_either (inl p) f g = f p
+    by_either (inr q) f g = g q
+
+-- ---- all of a list
+
+pub all-front : {X : Type 0} (P : X → Type 0) (xs ys : List X) → AllByRecursion P (xs ++ ys) → AllByRecursion P xs
+all-front P [] ys h = tt
+all-front P (x ∷ xs) ys h = (h.0, all-front P xs ys h.1)
+
+pub all-back : {X : Type 0} (P : X → Type 0) (xs ys : List X) → AllByRecursion P (xs ++ ys) → AllByRecursion P ys
+all-back P [] ys h = h
+all-back P (x ∷ xs) ys h = all-back P xs ys h.1
+
+pub all-both : {X : Type 0} (P : X → Type 0) (xs ys : List X) → AllByRecursion P xs → AllByRecursion P ys → AllByRecursion P (xs ++ ys)
+all-both P [] ys h k = k
+all-both P (x ∷ xs) ys h k = (h.0, all-both P xs ys h.1 k)
+
+-- ---- prefixes
+
+pub nothing_before : {X : Type 0} (xs ys : List X) → xs ++ ys ≡ [] → xs ≡ []
+nothing_before [] ys e = refl
+nothing_before (x ∷ xs) ys e = absurd (cons_is_some x (xs ++ ys) e)
+
+pub prefix_trans : {X : Type 0} (xs ys zs : List X) → IsPrefix xs ys → IsPrefix ys zs → IsPrefix xs zs
+prefix_trans xs ys zs p q = (p.0 ++ q.0, q.1 ∙ (ap (λ l. l ++ q.0) p.1 ∙ append_assoc xs p.0 q.0))
+
+pub same_behind : {X : Type 0} (xs ys zs : List X) → xs ++ ys ≡ xs ++ zs → ys ≡ zs
+same_behind [] ys zs e = e
+same_behind (x ∷ xs) ys zs e = same_behind xs ys zs (cons_same x x (xs ++ ys) (xs ++ zs) e).1

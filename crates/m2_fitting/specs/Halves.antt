@@ -1,0 +1,74 @@
+-- Bytes that fit, where an order of entries has come: what each end has got, the other had put, and the halves on sockets
+-- of the peer have read the asks that were judged, and have written no answer before it was judged.
+use Rattle.std.specs.Prelude.{◌≡◌, ℕ, ◌<◌, ◌^◌, true, false, List, [], map, Option, IfSome}
+use Rattle.std.specs.List.{AllByRecursion}
+use Rattle.m2_control.specs.Laws.{HasAddrRanges}
+use Rattle.m2_fabric.specs.declared.socket.SocketId.{SocketId}
+use Rattle.m2_fabric.specs.Sockets.{is_among}
+use Rattle.m2_handshake.specs.declared.stage.Stage.TheVariants.{Asked}
+use Rattle.m2_handshake.specs.Course.{Exchange, Reaches}
+use Rattle.m2_handshake.specs.Laws.{IsPrefix}
+use Rattle.m2_handshake.specs.Standing.{Standing, acceptor_at_start}
+use Rattle.m2_journal.specs.declared.entry.JudgedItem.{JudgedItem}
+use Rattle.m2_journal.specs.Lawful.{judged_on}
+use Rattle.m2_journal.specs.SideFacts.{SideFacts}
+use Rattle.m2_trail.specs.Asks.{facts_of_ask}
+use Rattle.m2_trail.specs.Replies.{replies_to, all_replies}
+use Rattle.m2_trail.specs.Trails.{opener_of, ComesToAsk, ComesToWrite}
+use Rattle.m2_fitting.specs.Ends.{Half, Side, state_of, takings_on, got_at, put_at}
+
+-- ---- a half
+
+-- a half on this socket that names itself by this number, at its start
+abbrev pub begins : (entity : ℕ) → SocketId → Standing
+begins entity k = acceptor_at_start entity (opener_of k)
+
+-- a half that a record has taken: it owes the reply to the last of the asks that were judged, has replied to those before,
+-- has put all that it wrote, and had this left unread
+pub record IsTaken (begin : Standing) (h : Half) (judged : List JudgedItem) (left : List ℕ) : Type 0 where
+  pub exchange : Exchange
+  pub standing : Standing
+  pub comes : Reaches begin exchange standing
+  pub got : exchange.bytes ≡ h.got
+  pub put : exchange.text ≡ h.put
+  pub replies : exchange.replies ≡ replies_to judged
+  pub asks : map facts_of_ask exchange.asks ≡ map (λ (i : JudgedItem). i.ask) judged
+  pub stage : standing.stage ≡ Asked
+  pub unread : standing.rest ≡ left
+
+-- what a node names itself by, and the address that it dials, keep the ranges of their types
+pub record IsNamed (f : SideFacts) : Type 0 where
+  pub entity : f.node.entity < 2 ^ 8
+  pub peer : HasAddrRanges f.peer
+
+-- A side's half on a socket, beside what its record has judged there so far.
+pub record HalfFits (a : Side) (k : SocketId) : Type 0 where
+  -- what it names itself by
+  pub entity : ℕ
+  pub entity_fits : entity < 2 ^ 8
+  -- the side that opened a socket has no half there
+  pub opened : is_among k (state_of a).opened ≡ true → ((a.halves k).got ≡ []) × ((a.halves k).put ≡ [])
+  -- the n-th ask was read before it was judged
+  pub refused : Option ℕ
+  pub refused_fits : IfSome refused (λ bits. bits < 2 ^ 64)
+  pub asks : ComesToAsk (begins entity k) (a.halves k).got (all_replies (judged_on k (state_of a).judgements) refused) (judged_on k (state_of a).judgements)
+  -- the n-th answer was judged before it was written, and behind all answers stands at most one refusal
+  pub writes : takings_on k a.entries ≡ [] →
+      ComesToWrite (begins entity k) (a.halves k).got (all_replies (judged_on k (state_of a).judgements) refused) (a.halves k).put
+  pub taken : AllByRecursion (IsTaken (begins entity k) (a.halves k) (judged_on k (state_of a).judgements)) (takings_on k a.entries)
+
+-- ---- both sides
+
+pub record BytesFit (a b : Side) : Type 0 where
+  -- what each end has got, the other end had put
+  pub near_got : (k : SocketId) → IsPrefix (got_at a k) (put_at b k)
+  pub far_got : (k : SocketId) → IsPrefix (got_at b k) (put_at a k)
+  -- on a socket that neither side has opened, nothing was written at its other end
+  pub strange : (k : SocketId) → is_among k (state_of a).opened ≡ false → is_among k (state_of b).opened ≡ false →
+      (got_at a k ≡ []) × (got_at b k ≡ [])
+  -- the names of sockets that were opened keep the ranges of their types, and none is opened by both
+  pub near_names : (k : SocketId) → is_among k (state_of a).opened ≡ true → HasAddrRanges (opener_of k)
+  pub far_names : (k : SocketId) → is_among k (state_of b).opened ≡ true → HasAddrRanges (opener_of k)
+  pub apart : (k : SocketId) → is_among k (state_of a).opened ≡ true → is_among k (state_of b).opened ≡ false
+  pub near_halves : (k : SocketId) → HalfFits a k
+  pub far_halves : (k : SocketId) → HalfFits b k

@@ -1,0 +1,4 @@
+pub mod Texts
+pub mod Ends
+pub mod Halves
+pub mod Orders

@@ -1,0 +1,25 @@
+//! What bytes that fit give. These functions do nothing: each stands for the law that its contract
+//! names.
+
+ghost use Rattle.m2_fitting.specs.Orders as orders;
+
+use m2_paired::{histories_are_runs, lossless_is_never_reset};
+
+/// Two lawful journals in an order throughout which bytes fit are a history: what each side has heard
+/// and judged, the other had sent.
+pub fn bytes_give_fits()
+    ensures { orders.BytesGiveFits }
+{
+    histories_are_runs();
+}
+
+/// In every order of two lossless journals without a mark-down in which each byte was written before it
+/// is read at the other end, each ask is read before it is judged, and each answer is judged before it
+/// is written: nothing is thrown away, no number is set back after an acceptance, and messages come in
+/// order, each once.
+pub fn lossless_bytes_are_never_reset()
+    ensures { orders.LosslessBytesAreNeverReset }
+{
+    histories_are_runs();
+    lossless_is_never_reset();
+}
