@@ -1,35 +1,32 @@
 -- An acceptor that is fed the front of what an opener writes is asked just the asks among its frames, in order, and writes its
 -- welcome and its replies.
-use Rattle.std.proofs.Common.{◌≡◌, ◌≢◌, ℕ, ◌<◌, ◌^◌, ◌⊎◌, inl, inr, Bool, true, false, List, [], ◌∷◌, ◌++◌, length, drop, map, Option, Some, None, Result, Ok, Err, refl, sym, ap, ◌∙◌, subst, append_assoc, append-nil}
+use Rattle.std.proofs.Common.{◌≡◌, ℕ, ◌<◌, ◌^◌, ◌⊎◌, inl, inr, List, [], ◌∷◌, ◌++◌, length, drop, map, Option, Some, None, Result, Ok, Err, refl, sym, ap, ◌∙◌, subst, append_assoc, append-nil}
 use Rattle.std.specs.List.{AllByRecursion, flat_map}
 use Rattle.std.proofs.lemmas.List.{map-append}
 use Rattle.std.proofs.lemmas.Grind.{flat_map-append}
 use Rattle.std.proofs.Math.Seq.{drop-append_seam}
 use Rattle.m2_addr.specs.declared.addr.Addr.{Addr}
-use Rattle.m2_addr.specs.Vector.{main_of}
 use Rattle.m2_control.specs.declared.control.Control.{Control}
 use Rattle.m2_control.specs.declared.control.Control.TheVariants as control
-use Rattle.m2_control.specs.Control as payload
 use Rattle.m2_control.specs.Laws.{HasAddrRanges}
 use Rattle.m2_frame.specs.Frame.{Parts}
-use Rattle.m2_frame.specs.Reading.{whole, start, text, Front, judge}
+use Rattle.m2_frame.specs.Reading.{whole, start, text, judge}
 use Rattle.m2_frame.specs.Text as frame
 use Rattle.m2_handshake.specs.declared.ask.Ask.{Ask}
-use Rattle.m2_handshake.specs.declared.ask.Ask.TheVariants as handshake
 use Rattle.m2_handshake.specs.declared.fault.HalfFault.{HalfFault}
 use Rattle.m2_handshake.specs.declared.stage.HalfSide.{HalfSide}
 use Rattle.m2_handshake.specs.declared.stage.HalfSide.TheVariants.{Acceptor}
 use Rattle.m2_handshake.specs.declared.stage.Stage.{Stage}
 use Rattle.m2_handshake.specs.declared.stage.Stage.TheVariants.{Opening, Banner, Waits, Authed, Asked, Ended, Faulty}
 use Rattle.m2_handshake.specs.Asking.{after_reply}
-use Rattle.m2_handshake.specs.Asks.{asked_of, under, known_main, ask_in}
+use Rattle.m2_handshake.specs.Asks.{asked_of, under, ask_in}
 use Rattle.m2_handshake.specs.Course as course
 use Rattle.m2_handshake.specs.Course.{course_move_at, course_move, signed_move, Event, silent, wrote, failed, replied, Step, rests, goes, step_by, step_of, answered, Goes, Runs, text_in, asks_in, replies_in, text_of, asks_of, replies_of, Exchange, Reaches, Signs}
-use Rattle.m2_handshake.specs.Greeting.{greeting, welcome, HasSigned}
+use Rattle.m2_handshake.specs.Greeting.{greeting, welcome}
 use Rattle.m2_handshake.specs.Laws.{IsPrefix, GoesOnTo}
 use Rattle.m2_handshake.specs.Moves.{Move, stays, quiet, writes, signs, asks, fails, take_frame, after_asking, read_held, refuse_held}
-use Rattle.m2_handshake.specs.Standing.{Standing, fed, fed_at, fallen, acceptor_at_start}
-use Rattle.m2_handshake.specs.Texts.{control_parts, frame_text, IsReply}
+use Rattle.m2_handshake.specs.Standing.{Standing, fed, fed_at, acceptor_at_start}
+use Rattle.m2_handshake.specs.Texts.{frame_text, IsReply}
 use Rattle.m2_handshake.proofs.Course.{feeds, next, ways}
 use Rattle.m2_handshake.proofs.Greeting.{at, payload_read, signs_there}
 use Rattle.m2_handshake.proofs.Reaching.{fed_twice}

@@ -1,16 +1,14 @@
 -- Where a side has taken a socket, the other sends no ask there any more, as long as that is the feed of the first.
-use Rattle.std.proofs.Common.{◌≡◌, ◌≢◌, ℕ, ◌+◌, ◌≤◌, ◌⊎◌, inl, inr, Bool, true, false, if◌then◌else◌, List, [], ◌∷◌, ◌++◌, length, map, Option, Some, None, refl, sym, ap, ◌∙◌, subst, arith, append_assoc, append-nil, length-append}
+use Rattle.std.proofs.Common.{◌≡◌, ℕ, ◌+◌, ◌≤◌, ◌⊎◌, inl, inr, Bool, true, false, if◌then◌else◌, List, [], ◌∷◌, ◌++◌, length, map, Option, Some, None, refl, sym, ap, ◌∙◌, subst, arith, append_assoc, append-nil, length-append}
 use Rattle.std.specs.List.{AllByRecursion, filter}
 use Rattle.std.proofs.lemmas.List.{map-append}
 use Rattle.std.proofs.lemmas.List.Elements.{filter-append}
 use Rattle.m2_answers.specs.declared.ask.AskFacts.{AskFacts}
 use Rattle.m2_fabric.specs.declared.socket.SocketId.{SocketId}
 use Rattle.m2_fabric.specs.Sockets.{same_socket}
-use Rattle.m2_handshake.specs.Moves.{is_authed}
 use Rattle.m2_message.specs.Message.{Content}
-use Rattle.m2_policy.specs.declared.path.Key.{Key}
 use Rattle.m2_queues.specs.OutQueues.{message_at}
-use Rattle.m2_queues.specs.Laws.{Next, Sent, Acked}
+use Rattle.m2_queues.specs.Laws.{Next}
 use Rattle.m2_session.specs.declared.answer.Answer.{Answer}
 use Rattle.m2_session.specs.declared.event.Event.{Event}
 use Rattle.m2_session.specs.declared.event.Event.TheVariants as event
@@ -20,15 +18,13 @@ use Rattle.m2_journal.specs.declared.entry.JudgedItem.{JudgedItem}
 use Rattle.m2_journal.specs.Feeds.{hears, opened_feed, next_said, narrowed, finished, texts_at}
 use Rattle.m2_journal.specs.Items as item
 use Rattle.m2_journal.specs.Items.{JournalItem}
-use Rattle.m2_journal.specs.Lawful.{Lawful, OnFeedAt, MayAsk, judged_on, judged_sockets}
+use Rattle.m2_journal.specs.Lawful.{Lawful, OnFeedAt, MayAsk, judged_on}
 use Rattle.m2_journal.specs.Laws.{IfFed}
 use Rattle.m2_journal.specs.OutFrames as out
 use Rattle.m2_journal.specs.OutFrames.{OutFrame, is_unnamed, replies_of}
-use Rattle.m2_journal.specs.Plan.{Planned, to_post, to_dial, to_go_down}
-use Rattle.m2_journal.specs.Said.{Said, says, brings, aborts, garbles}
 use Rattle.m2_journal.specs.SideFacts.{SideFacts, cookie_of}
 use Rattle.m2_journal.specs.State.{PartText, Feed, Judgement, SentFrame, State}
-use Rattle.m2_journal.specs.Steps.{acceptance, accepts, after, breaks, composes, event_heard, event_of, forgets, heeds, is_on, is_waiting, notes, posts, puts_on, queues, sends, takes_answer, takes_answer_if, takes_socket, tells, tells_if, with_feed, writes_message}
+use Rattle.m2_journal.specs.Steps.{acceptance, accepts, after, breaks, composes, event_heard, event_of, forgets, is_on, is_waiting, notes, puts_on, queues, sends, takes_answer, takes_socket, tells, tells_if, with_feed, writes_message}
 use Rattle.m2_paired.specs.Frames.{is_ask, ask_of, asks_on, to_come}
 use Rattle.m2_paired.specs.Laws.{IsNoDown}
 use Rattle.m2_paired.specs.LinkOf.{judged_count}
@@ -40,7 +36,7 @@ use Rattle.m2_fitting.proofs.Entries.{acceptance_named, posts_less, heeds_less, 
 use Rattle.m2_fitting.proofs.Hands.{ready_apart}
 use Rattle.m2_fitting.proofs.Hears.{NoAskBehind}
 use Rattle.m2_fitting.proofs.Judges.{replies_no_asks, judged_here}
-use Rattle.m2_fitting.proofs.Less.{Less, FeedLess, SameBytes, untouched, less_trans, tells_less, tells_if_less}
+use Rattle.m2_fitting.proofs.Less.{Less, FeedLess, untouched, less_trans, tells_less, tells_if_less}
 use Rattle.m2_fitting.proofs.Lists.{none_not_some}
 use Rattle.m2_fitting.proofs.Says.{NoAsk}
 

@@ -3,8 +3,6 @@ use Rattle.std.proofs.Common.{◌≡◌, ◌≢◌, ℕ, ◌+◌, ◌⊎◌, inl
 use Rattle.std.proofs.lemmas.Bool.{eqb-true}
 use Rattle.m2_answers.specs.declared.ask.AskFacts.{AskFacts}
 use Rattle.m2_answers.specs.Asks as asks
-use Rattle.m2_fabric.specs.declared.socket.SocketId.{SocketId}
-use Rattle.m2_handshake.specs.Standing.{Standing}
 use Rattle.m2_message.specs.Message.{Content}
 use Rattle.m2_policy.specs.declared.path.Key.{Key}
 use Rattle.m2_queues.specs.OutQueues.{message_at}
@@ -19,12 +17,11 @@ use Rattle.m2_session.specs.declared.session.Phase.TheVariants as phase
 use Rattle.m2_session.specs.declared.session.Session.{Session}
 use Rattle.m2_session.specs.Laws.{takes}
 use Rattle.m2_session.specs.Phases as phases
-use Rattle.m2_session.specs.Steps.{step_of, fault}
-use Rattle.m2_journal.specs.declared.entry.JudgedItem.{JudgedItem}
-use Rattle.m2_journal.specs.Feeds.{hears, hears_at, next_said, narrowed, finished, texts_at, unnamed, acknowledgements, keepalive_answers, split_into}
+use Rattle.m2_session.specs.Steps.{step_of}
+use Rattle.m2_journal.specs.Feeds.{hears, hears_at, next_said, narrowed, finished, texts_at, unnamed, acknowledgements, keepalive_answers}
 use Rattle.m2_journal.specs.Items as item
 use Rattle.m2_journal.specs.Items.{JournalItem}
-use Rattle.m2_journal.specs.Lawful.{Lawful, OnFeedAt, MayAsk, MayObey, MayNumber}
+use Rattle.m2_journal.specs.Lawful.{Lawful, OnFeedAt, MayAsk, MayObey}
 use Rattle.m2_journal.specs.Laws.{IfFed}
 use Rattle.m2_journal.specs.OutFrames as out
 use Rattle.m2_journal.specs.OutFrames.{OutFrame, is_unnamed, replies_of}
@@ -32,10 +29,10 @@ use Rattle.m2_journal.specs.Plan.{Planned, to_post, to_dial, to_go_down}
 use Rattle.m2_journal.specs.Said.{Said, says, brings, aborts, garbles}
 use Rattle.m2_journal.specs.SideFacts.{SideFacts, cookie_of}
 use Rattle.m2_journal.specs.State.{PartText, Feed, State}
-use Rattle.m2_journal.specs.Steps.{accepts, acceptance, after, answers, breaks, closes, composes, event_of, forgets, heeds, event_heard, is_on, is_waiting, kept_of, notes, posts, puts, puts_on, queues, sends, takes_answer, takes_answer_if, takes_socket, tells, tells_if, with_feed, writes_message, where_true, discards, sets_back, tells_of_reset}
+use Rattle.m2_journal.specs.Steps.{accepts, after, breaks, closes, composes, event_of, forgets, heeds, event_heard, is_on, is_waiting, kept_of, notes, posts, puts_on, queues, sends, takes_answer, takes_answer_if, takes_socket, tells, tells_if, with_feed, writes_message, where_true}
 use Rattle.m2_paired.specs.Laws.{IsNoDown}
 use Rattle.m2_paired.proofs.Sockets.{differ}
-use Rattle.m2_fitting.proofs.Less.{Less, FeedLess, SameBytes, tells_less, tells_if_less, has_effects_less}
+use Rattle.m2_fitting.proofs.Less.{FeedLess, tells_less, tells_if_less, has_effects_less}
 
 abbrev pub HandSo : State → Feed → Type 0
 HandSo s d = (d.hand ≡ None) ⊎ (s.session.phase ≡ phase.Connecting)

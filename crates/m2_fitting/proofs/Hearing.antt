@@ -1,11 +1,9 @@
 -- A feed that reads more bytes has heard all that was read on its socket.
-use Rattle.std.proofs.Common.{◌≡◌, ℕ, ◌⊎◌, inl, inr, Bool, true, false, if◌then◌else◌, List, [], ◌∷◌, ◌++◌, Option, Some, None, refl, sym, ap, ◌∙◌, subst, append_assoc, append-nil}
+use Rattle.std.proofs.Common.{◌≡◌, ℕ, ◌⊎◌, inl, inr, Bool, true, false, if◌then◌else◌, List, [], ◌∷◌, ◌++◌, Some, None, refl, sym, ap, ◌∙◌, subst, append_assoc, append-nil}
 use Rattle.std.specs.List.{AllByRecursion}
 use Rattle.m2_fabric.specs.declared.socket.SocketId.{SocketId}
 use Rattle.m2_frame.specs.Reading.{Item}
 use Rattle.m2_handshake.specs.declared.stage.HalfSide.TheVariants.{Opener}
-use Rattle.m2_handshake.specs.declared.stage.Stage.{Stage}
-use Rattle.m2_handshake.specs.declared.stage.Stage.TheVariants.{Opening, Banner, Waits, Authed, Asked, Ended, Faulty}
 use Rattle.m2_handshake.specs.Course.{Course, course_of, text_of}
 use Rattle.m2_handshake.specs.Moves.{is_authed}
 use Rattle.m2_handshake.specs.Standing.{Standing, fed, opener_at_start}

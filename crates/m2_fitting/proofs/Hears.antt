@@ -1,28 +1,21 @@
 -- Where bytes fit at a point of an order, what the feed of a side has got are the first frames that the other sent there.
-use Rattle.std.proofs.Common.{◌≡◌, ◌≢◌, ℕ, zero, suc, ◌≤◌, ◌⊎◌, inl, inr, Bool, true, false, not, if◌then◌else◌, List, [], ◌∷◌, ◌++◌, length, map, take, Option, Some, None, refl, sym, ap, ◌∙◌, subst, arith, append_assoc, append-nil, length-append}
+use Rattle.std.proofs.Common.{◌≡◌, ◌≢◌, ℕ, ◌≤◌, ◌⊎◌, inl, inr, Bool, true, false, not, if◌then◌else◌, List, [], ◌∷◌, ◌++◌, length, map, Option, Some, None, refl, sym, ap, ◌∙◌, subst, arith, append_assoc, append-nil, length-append}
 use Rattle.std.specs.Prelude.{◌<◌, ◌^◌, IfSome}
 use Rattle.std.specs.List.{AllByRecursion, filter, filter_map, flat_map}
 use Rattle.std.proofs.lemmas.Grind.{flat_map-append}
-use Rattle.std.proofs.lemmas.List.{map-append}
 use Rattle.std.proofs.lemmas.List.Elements.{filter-append, filter_map-append}
 use Rattle.m2_control.specs.Laws.{HasAddrRanges}
 use Rattle.m2_fabric.specs.declared.socket.SocketId.{SocketId}
-use Rattle.m2_fabric.specs.Sockets.{is_among, same_socket}
-use Rattle.m2_frame.specs.Frame.{Parts}
-use Rattle.m2_frame.specs.Reading.{Item, whole}
+use Rattle.m2_fabric.specs.Sockets.{is_among}
 use Rattle.m2_frame.specs.Text as frame
 use Rattle.m2_handshake.specs.declared.ask.Ask.{Ask}
-use Rattle.m2_handshake.specs.declared.stage.HalfSide.TheVariants.{Opener}
-use Rattle.m2_handshake.specs.Course.{Course, Exchange, Reaches}
 use Rattle.m2_handshake.specs.Greeting.{welcome}
-use Rattle.m2_handshake.specs.Laws.{IsPrefix}
 use Rattle.m2_handshake.specs.Moves.{is_authed}
-use Rattle.m2_handshake.specs.Standing.{Standing, fed, opener_at_start}
+use Rattle.m2_handshake.specs.Standing.{fed, opener_at_start}
 use Rattle.m2_handshake.specs.Texts.{control_parts, frame_text}
 use Rattle.m2_session.specs.declared.answer.Answer.{Answer}
 use Rattle.m2_session.specs.declared.answer.Answer.TheVariants as answer
 use Rattle.m2_journal.specs.declared.entry.JudgedItem.{JudgedItem}
-use Rattle.m2_journal.specs.Feeds.{silent_feed, split_into}
 use Rattle.m2_journal.specs.Lawful.{judged_on}
 use Rattle.m2_journal.specs.Laws.{IfFed, IsWritable}
 use Rattle.m2_journal.specs.OutFrames as out
@@ -37,20 +30,20 @@ use Rattle.m2_paired.proofs.Sockets.{differ, same_refl}
 use Rattle.m2_trail.specs.Asks.{facts_of_ask}
 use Rattle.m2_trail.specs.Replies.{reply_to, replies_to, refusal, refusal_of, all_replies}
 use Rattle.m2_trail.specs.Trails.{opener_of, ComesToWrite}
-use Rattle.m2_fitting.specs.Ends.{Side, state_of, read_on, wrote_on, takings_on, got_at, put_at}
-use Rattle.m2_fitting.specs.Halves.{begins, IsTaken, HalfFits, BytesFit}
+use Rattle.m2_fitting.specs.Ends.{Side, state_of, read_on, wrote_on, takings_on}
+use Rattle.m2_fitting.specs.Halves.{begins, IsTaken, HalfFits}
 use Rattle.m2_fitting.specs.Texts.{CanBeSent, texts_of}
 use Rattle.m2_fitting.proofs.Acceptors.{as_asked, HasWelcomed, IsAsked}
 use Rattle.m2_fitting.proofs.Fronts.{AreFirst, front_items}
 use Rattle.m2_fitting.proofs.Judges.{replied_no_asks}
-use Rattle.m2_fitting.proofs.Kept.{View, feed_on, view, replied, course_at, heard_of, OpenedFeed, AsksComeFirst, OpenedKept, UntakenKept, TakenFeed, TakenKept, KeptBy, Kept}
-use Rattle.m2_fitting.proofs.Lists.{all-both, all-back, cons_is_some, cons_same, nothing_before, not_nil, nil_not, none_not_some}
+use Rattle.m2_fitting.proofs.Kept.{feed_on, view, replied, course_at, heard_of, OpenedFeed, AsksComeFirst, UntakenKept, TakenFeed, TakenKept, KeptBy}
+use Rattle.m2_fitting.proofs.Lists.{all-both, all-back, cons_same, not_nil, nil_not, none_not_some}
 use Rattle.m2_fitting.proofs.Openers.{signs_behind}
 use Rattle.m2_fitting.proofs.Points.{Known, turn, all_frames, no_asks_stay, asks_go, nothing_of_nothing, put_first, ReadsFrames, opened_kept, reads_frames, half_asked, opened_by_other, no_map}
-use Rattle.m2_fitting.proofs.Puts.{IsLate, IsPut, texts_both}
-use Rattle.m2_fitting.proofs.Says.{NoAsk, CanBeWritten, part, parts_all, all_written, texts_made, all_writable, said_first, said_refused}
+use Rattle.m2_fitting.proofs.Puts.{IsLate, texts_both}
+use Rattle.m2_fitting.proofs.Says.{NoAsk, parts_all, all_written, texts_made, all_writable, said_first, said_refused}
 use Rattle.m2_fitting.proofs.Sent.{refusal_readable}
-use Rattle.m2_fitting.proofs.Steps.{AllKept, if_some, here_feed, none_isnt}
+use Rattle.m2_fitting.proofs.Steps.{if_some, here_feed, none_isnt}
 
 -- ---- the texts of replies are those of their frames
 

@@ -1,38 +1,37 @@
 -- What is kept of each socket where one is opened, and where an ask is judged.
-use Rattle.std.proofs.Common.{◌≡◌, ℕ, ◌⊎◌, inl, inr, Bool, true, false, ◌&&◌, ◌||◌, if◌then◌else◌, List, [], ◌∷◌, ◌++◌, map, Option, Some, None, refl, sym, ap, ◌∙◌, subst, append_assoc, append-nil}
-use Rattle.std.specs.List.{AllByRecursion, filter, filter_map, flat_map}
+use Rattle.std.proofs.Common.{◌≡◌, ℕ, inr, Bool, true, false, ◌&&◌, ◌||◌, if◌then◌else◌, List, [], ◌∷◌, ◌++◌, map, Option, Some, None, refl, sym, ap, ◌∙◌, subst, append_assoc, append-nil}
+use Rattle.std.specs.List.{AllByRecursion, filter, filter_map}
 use Rattle.std.proofs.lemmas.Grind.{flat_map-append}
 use Rattle.std.proofs.lemmas.List.Elements.{filter-append}
 use Rattle.std.proofs.lemmas.List.{map-append}
 use Rattle.m2_answers.specs.declared.ask.AskFacts.{AskFacts}
 use Rattle.m2_fabric.specs.declared.socket.SocketId.{SocketId}
 use Rattle.m2_fabric.specs.Sockets.{is_among, same_socket}
-use Rattle.m2_handshake.specs.Course.{Course, course_of, text_of}
+use Rattle.m2_handshake.specs.Course.{Course, text_of}
 use Rattle.m2_handshake.specs.Moves.{is_authed}
 use Rattle.m2_session.specs.declared.answer.Answer.{Answer}
 use Rattle.m2_session.specs.declared.answer.Answer.TheVariants as answer
 use Rattle.m2_session.specs.Laws.{takes}
 use Rattle.m2_journal.specs.declared.entry.JudgedItem.{JudgedItem}
-use Rattle.m2_journal.specs.Feeds.{begun, greets, signs, opened_feed, taken_feed, silent_feed, split_into}
+use Rattle.m2_journal.specs.Feeds.{begun, greets, signs, opened_feed, silent_feed}
 use Rattle.m2_journal.specs.Items as item
 use Rattle.m2_journal.specs.Items.{JournalItem}
 use Rattle.m2_journal.specs.Lawful.{judged_on, judged_sockets, may_ask_again}
-use Rattle.m2_journal.specs.OutFrames as out
 use Rattle.m2_journal.specs.OutFrames.{OutFrame, is_unnamed, replies_of}
 use Rattle.m2_journal.specs.Said.{split}
 use Rattle.m2_journal.specs.SideFacts.{SideFacts}
-use Rattle.m2_journal.specs.State.{PartText, Feed, Judgement, SentFrame, State}
-use Rattle.m2_journal.specs.Steps.{opens, sends}
+use Rattle.m2_journal.specs.State.{Feed, Judgement, SentFrame, State}
+use Rattle.m2_journal.specs.Steps.{opens}
 use Rattle.m2_paired.specs.Frames.{is_ask, frames_on}
 use Rattle.m2_paired.proofs.Sent.{frames_here, frames_elsewhere}
-use Rattle.m2_paired.proofs.Sockets.{differ, same_refl, same_equal, among-last}
-use Rattle.m2_fitting.specs.Ends.{read_in, wrote_in, taken_in, read_on, wrote_on, takings_on}
+use Rattle.m2_paired.proofs.Sockets.{differ, same_equal, among-last}
+use Rattle.m2_fitting.specs.Ends.{taken_in, read_on, wrote_on, takings_on}
 use Rattle.m2_fitting.specs.Texts.{texts_of}
 use Rattle.m2_fitting.proofs.Hearing.{Greets, greets_so}
-use Rattle.m2_fitting.proofs.Kept.{View, feed_on, view, replied, course_at, heard_of, greeting_of, IsNamed, OpenedFeed, OpenedKept, UntakenKept, TakenFeed, TakenKept, KeptBy, Kept, with_feed, kept_less, opened_put}
+use Rattle.m2_fitting.proofs.Kept.{View, feed_on, view, replied, course_at, heard_of, IsNamed, OpenedFeed, UntakenKept, KeptBy, Kept, with_feed, kept_less, opened_put}
 use Rattle.m2_fitting.proofs.Less.{FeedLess}
 use Rattle.m2_fitting.proofs.Lists.{all-both, nil_not, some_not_none}
-use Rattle.m2_fitting.proofs.Puts.{HasPut, IsPut, is_put, composed_put}
+use Rattle.m2_fitting.proofs.Puts.{HasPut, is_put, composed_put}
 use Rattle.m2_fitting.proofs.Says.{NoAsk}
 use Rattle.m2_fitting.proofs.Steps.{AllKept, read_next, wrote_next, takings_next, here_feed, other_feed}
 

@@ -1,13 +1,13 @@
 -- What lawful entries of one journal keep of each socket: what was put there are the texts of the frames that were sent, what
 -- was got is what the feed has heard, and what was sent there are the answers that were judged, and then the record's frames.
-use Rattle.std.proofs.Common.{◌≡◌, ℕ, ◌⊎◌, inl, inr, Bool, true, false, if◌then◌else◌, List, [], ◌∷◌, ◌++◌, map, Option, Some, None, refl, sym, ap, ◌∙◌, subst, append_assoc, append-nil}
+use Rattle.std.proofs.Common.{◌≡◌, ℕ, ◌⊎◌, inl, inr, Bool, true, false, if◌then◌else◌, List, [], ◌∷◌, ◌++◌, Option, Some, None, refl, sym, ap, ◌∙◌, subst, append_assoc, append-nil}
 use Rattle.std.specs.List.{AllByRecursion, flat_map}
 use Rattle.m2_fabric.specs.declared.socket.SocketId.{SocketId}
 use Rattle.m2_fabric.specs.Sockets.{is_among, same_socket}
-use Rattle.m2_handshake.specs.Course.{Course, course_of, opener_course, text_of}
+use Rattle.m2_handshake.specs.Course.{Course, opener_course, text_of}
 use Rattle.m2_handshake.specs.Greeting.{greeting}
 use Rattle.m2_handshake.specs.Moves.{is_authed}
-use Rattle.m2_handshake.specs.Standing.{Standing, fed, opener_at_start}
+use Rattle.m2_handshake.specs.Standing.{fed, opener_at_start}
 use Rattle.m2_handshake.proofs.Speaking.{opener_greets}
 use Rattle.m2_session.specs.Laws.{takes}
 use Rattle.m2_journal.specs.declared.entry.JudgedItem.{JudgedItem}
@@ -25,7 +25,7 @@ use Rattle.m2_fitting.specs.Ends.{read_on, wrote_on, takings_on}
 use Rattle.m2_fitting.specs.Texts.{texts_of}
 use Rattle.m2_fitting.proofs.Less.{FeedLess, SameBytes}
 use Rattle.m2_fitting.proofs.Lists.{some_not_none}
-use Rattle.m2_fitting.proofs.Puts.{GoesOnSo, HasPut, IsPut, is_put, late_text}
+use Rattle.m2_fitting.proofs.Puts.{HasPut, IsPut, is_put, late_text}
 use Rattle.m2_fitting.proofs.Says.{NoAsk}
 use Rattle.m2_fitting.proofs.Speaking.{text_is_front}
 

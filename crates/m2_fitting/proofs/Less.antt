@@ -4,7 +4,7 @@ use Rattle.std.proofs.Common.{◌≡◌, Bool, true, false, Option, Some, None, 
 use Rattle.m2_session.specs.declared.event.Effects.{Effects}
 use Rattle.m2_session.specs.declared.event.Event.{Event}
 use Rattle.m2_session.specs.Steps.{step_of}
-use Rattle.m2_queues.specs.Laws.{Call, Requeue}
+use Rattle.m2_queues.specs.Laws.{Requeue}
 use Rattle.m2_journal.specs.State.{Feed, State}
 use Rattle.m2_journal.specs.Steps.{where_true, closes, sets_back, discards, tells_of_reset, queues, tells, tells_if}
 

@@ -1,46 +1,32 @@
 -- What is kept of each socket where bytes are read and written, and where a socket is opened, judged and taken.
 use Rattle.std.proofs.Common.{◌≡◌, ◌≢◌, ℕ, ◌+◌, ◌⊎◌, inl, inr, Bool, true, false, not, if◌then◌else◌, List, [], ◌∷◌, ◌++◌, length, map, Option, Some, None, refl, sym, ap, ◌∙◌, subst, append_assoc, append-nil}
 use Rattle.std.specs.Prelude.{nat_lt, ◌==◌, ◌&&◌}
-use Rattle.std.specs.List.{AllByRecursion, filter, filter_map, flat_map}
-use Rattle.std.proofs.lemmas.Grind.{flat_map-append}
-use Rattle.std.proofs.lemmas.List.Elements.{filter-append}
-use Rattle.std.proofs.lemmas.List.{map-append}
-use Rattle.std.proofs.lemmas.Bool.{or_cases}
-use Rattle.m2_answers.specs.declared.ask.AskFacts.{AskFacts}
+use Rattle.std.specs.List.{AllByRecursion, filter}
 use Rattle.m2_control.specs.Banner.{begins}
 use Rattle.m2_fabric.specs.declared.socket.SocketId.{SocketId}
-use Rattle.m2_fabric.specs.Sockets.{is_among, same_socket}
-use Rattle.m2_handshake.specs.Course.{Course, course_of, text_of}
-use Rattle.m2_handshake.specs.Moves.{is_authed}
-use Rattle.m2_handshake.specs.Standing.{opener_at_start}
-use Rattle.m2_session.specs.declared.answer.Answer.{Answer}
-use Rattle.m2_session.specs.declared.answer.Answer.TheVariants as answer
-use Rattle.m2_session.specs.Laws.{takes}
-use Rattle.m2_journal.specs.declared.entry.JudgedItem.{JudgedItem}
-use Rattle.m2_journal.specs.Feeds.{greets, signs, goes_on, hears, without_first, narrowed, finished, opened_feed, taken_feed, silent_feed, split_into, texts_at}
+use Rattle.m2_fabric.specs.Sockets.{same_socket}
+use Rattle.m2_handshake.specs.Course.{text_of}
+use Rattle.m2_journal.specs.Feeds.{hears, without_first, narrowed, finished, texts_at}
 use Rattle.m2_journal.specs.Items as item
 use Rattle.m2_journal.specs.Items.{JournalItem}
-use Rattle.m2_journal.specs.Lawful.{judged_on, judged_sockets, may_ask_again}
-use Rattle.m2_journal.specs.Laws.{IfFed}
 use Rattle.m2_journal.specs.OutFrames as out
 use Rattle.m2_journal.specs.OutFrames.{OutFrame, acknowledges, is_unnamed, keepalives_answered}
-use Rattle.m2_journal.specs.Said.{split}
 use Rattle.m2_journal.specs.SideFacts.{SideFacts}
-use Rattle.m2_journal.specs.State.{PartText, Feed, Judgement, SentFrame, State}
-use Rattle.m2_journal.specs.Steps.{opens, puts, puts_on, sends}
+use Rattle.m2_journal.specs.State.{PartText, Feed, SentFrame, State}
+use Rattle.m2_journal.specs.Steps.{puts, puts_on, sends}
 use Rattle.m2_paired.specs.Frames.{is_ask, frames_on}
 use Rattle.m2_paired.proofs.Answered.{nothing_isnt_some, some_same}
 use Rattle.m2_paired.proofs.Feeds.{hears_hears}
 use Rattle.m2_paired.proofs.Sent.{frames_here, frames_elsewhere}
-use Rattle.m2_paired.proofs.Sockets.{differ, by_either, same_refl, same_equal}
-use Rattle.m2_fitting.specs.Ends.{read_in, wrote_in, taken_in, read_on, wrote_on, takings_on}
+use Rattle.m2_paired.proofs.Sockets.{differ, same_equal}
+use Rattle.m2_fitting.specs.Ends.{read_in, wrote_in, read_on, wrote_on, takings_on}
 use Rattle.m2_fitting.specs.Texts.{texts_of}
 use Rattle.m2_fitting.proofs.Hearing.{opened_hears, taken_hears}
-use Rattle.m2_fitting.proofs.Kept.{View, feed_on, view, replied, course_at, heard_of, greeting_of, IsNamed, OpenedFeed, AsksComeFirst, OpenedKept, UntakenKept, TakenFeed, TakenKept, KeptBy, Kept, with_feed, opened_put}
+use Rattle.m2_fitting.proofs.Kept.{View, feed_on, view, course_at, heard_of, IsNamed, OpenedFeed, AsksComeFirst, TakenFeed, KeptBy, Kept, opened_put}
 use Rattle.m2_fitting.proofs.Lists.{all-both, not_nil, same_behind}
-use Rattle.m2_fitting.proofs.Puts.{HasPut, IsPut, GoesOnHere, GoesOnSo, is_put, narrowed_here, found_whole, none_whole, texts_here, all_more, late_text, texts_both}
+use Rattle.m2_fitting.proofs.Puts.{HasPut, GoesOnHere, GoesOnSo, is_put, narrowed_here, found_whole, none_whole, texts_here, all_more, late_text, texts_both}
 use Rattle.m2_fitting.proofs.Says.{NoAsk}
-use Rattle.m2_fitting.proofs.Steps.{AllKept, read_next, wrote_next, takings_next, if_some, none_isnt, here_feed, other_feed, order_on}
+use Rattle.m2_fitting.proofs.Steps.{AllKept, read_next, wrote_next, takings_next, if_some, none_isnt, here_feed, other_feed}
 
 -- ---- bytes are read on the feed
 

@@ -1,5 +1,5 @@
 -- An opener that is fed what an acceptor writes signs behind its welcome, and what it writes is the front of its greeting.
-use Rattle.std.proofs.Common.{◌≡◌, ◌≢◌, ℕ, ◌<◌, ◌^◌, ◌⊎◌, inl, inr, Bool, true, false, List, [], ◌∷◌, ◌++◌, length, Option, Some, None, refl, sym, ap, ◌∙◌, subst, arith, append_assoc, append-nil}
+use Rattle.std.proofs.Common.{◌≡◌, ℕ, ◌<◌, ◌^◌, ◌⊎◌, inl, inr, true, List, [], ◌∷◌, ◌++◌, length, Option, Some, None, refl, sym, ap, ◌∙◌, subst, arith, append_assoc}
 use Rattle.std.proofs.lemmas.Bool.{true≢false}
 use Rattle.std.proofs.lemmas.Grind.{flat_map-append}
 use Rattle.std.proofs.Math.Seq.{drop-append_seam}
@@ -8,7 +8,6 @@ use Rattle.m2_control.specs.declared.banner.BannerStep.{BannerStep}
 use Rattle.m2_control.specs.declared.banner.BannerStep.TheVariants.{Got}
 use Rattle.m2_control.specs.declared.control.Control.{Control}
 use Rattle.m2_control.specs.Banner.{banner_in, banner_text}
-use Rattle.m2_control.specs.Control as payload
 use Rattle.m2_control.specs.Laws.{HasAddrRanges}
 use Rattle.m2_control.proofs.Written.{banner_is_read}
 use Rattle.m2_frame.specs.Frame.{Parts}
@@ -21,7 +20,7 @@ use Rattle.m2_handshake.specs.declared.stage.Awaited.TheVariants.{Hello, Done, S
 use Rattle.m2_handshake.specs.declared.stage.HalfSide.TheVariants.{Opener}
 use Rattle.m2_handshake.specs.declared.stage.Stage.{Stage}
 use Rattle.m2_handshake.specs.declared.stage.Stage.TheVariants.{Opening, Banner, Waits, Authed, Asked, Ended, Faulty}
-use Rattle.m2_handshake.specs.Course.{Event, silent, wrote, goes, step_by, step_of, course_move, Runs, replies_in, replies_of, Exchange, Reaches}
+use Rattle.m2_handshake.specs.Course.{Event, silent, wrote, goes, step_by, step_of, course_move, Runs, replies_in, replies_of}
 use Rattle.m2_handshake.specs.Greeting.{welcome}
 use Rattle.m2_handshake.specs.Laws.{GoesOnTo}
 use Rattle.m2_handshake.specs.Moves.{features, after_banner, take_frame, after_reaction, is_authed}
@@ -29,10 +28,9 @@ use Rattle.m2_handshake.specs.Standing.{Standing, fed, fed_at, opener_at_start}
 use Rattle.m2_handshake.specs.Steps.{Reaction, says, signed, after_payload, after_frame}
 use Rattle.m2_handshake.specs.Texts.{control_parts, frame_text, hello, request, done, signature}
 use Rattle.m2_handshake.proofs.Banners.{is_step}
-use Rattle.m2_handshake.proofs.Course.{feeds, next, ways, stands, rests_there}
+use Rattle.m2_handshake.proofs.Course.{feeds, ways, stands, rests_there}
 use Rattle.m2_handshake.proofs.Greeting.{IsSent}
 use Rattle.m2_handshake.proofs.Reaching.{fed_twice}
-use Rattle.m2_fitting.proofs.Lists.{nothing_before}
 use Rattle.m2_fitting.proofs.Sent.{hello_sent, done_sent, signature_sent}
 
 -- ---- its steps

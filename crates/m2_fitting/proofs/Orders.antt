@@ -1,8 +1,7 @@
 -- An order throughout which bytes fit is one of two journals that fits.
-use Rattle.std.proofs.Common.{◌≡◌, ℕ, ◌⊎◌, inl, inr, false, List, [], ◌∷◌, ◌++◌, Option, Some, None, refl, sym, ap, ◌∙◌, subst, append_assoc, append-nil}
-use Rattle.std.specs.List.{AllByRecursion, flat_map}
+use Rattle.std.proofs.Common.{◌≡◌, List, [], ◌∷◌, ◌++◌, Option, Some, None, refl, sym, ap, ◌∙◌, subst, append_assoc, append-nil}
+use Rattle.std.specs.List.{AllByRecursion}
 use Rattle.std.proofs.lemmas.Grind.{flat_map-append}
-use Rattle.m2_fabric.specs.declared.socket.SocketId.{SocketId}
 use Rattle.m2_journal.specs.Items.{JournalItem}
 use Rattle.m2_journal.specs.Lawful.{Lawful}
 use Rattle.m2_journal.specs.Laws.{IfFed}
@@ -15,9 +14,7 @@ use Rattle.m2_paired.specs.Fits.{Fits}
 use Rattle.m2_paired.specs.Laws.{IsNoDown}
 use Rattle.m2_paired.specs.Orders.{SideItem, near_item, far_item, near_items, far_items, near_after, far_after, FitThroughout, IsHistory, AreNodes, LeadsTo, HistoriesAreRuns, LosslessIsNeverReset}
 use Rattle.m2_paired.specs.Paired.{FeedIsPaired, beside, Paired}
-use Rattle.m2_paired.proofs.Sockets.{differ}
 use Rattle.m2_fitting.specs.Ends.{Side, state_of}
-use Rattle.m2_fitting.specs.Halves.{BytesFit}
 use Rattle.m2_fitting.specs.Orders.{Move, near_entry, far_entry, near_half, far_half, entry_in, entries_of, near_side, far_side, IsByteHistory, BytesGiveFits, LosslessBytesAreNeverReset}
 use Rattle.m2_fitting.proofs.Asking.{near_behind, far_behind}
 use Rattle.m2_fitting.proofs.Entries.{FeedSo, entry_keeps}

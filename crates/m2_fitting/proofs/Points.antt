@@ -1,56 +1,39 @@
 -- Where bytes fit at a point of an order, what each side has heard and judged there, the other had sent.
-use Rattle.std.proofs.Common.{◌≡◌, ◌≢◌, ℕ, ◌≤◌, ◌⊎◌, inl, inr, Bool, true, false, not, if◌then◌else◌, List, [], ◌∷◌, ◌++◌, length, map, take, Option, Some, None, refl, sym, ap, ◌∙◌, subst, arith, append_assoc, append-nil, length-append}
-use Rattle.std.specs.Prelude.{◌<◌, ◌^◌, IfSome}
+use Rattle.std.proofs.Common.{◌≡◌, ◌≢◌, ℕ, ◌⊎◌, inl, inr, Bool, true, false, not, List, [], ◌∷◌, ◌++◌, map, refl, sym, ap, ◌∙◌, append_assoc, append-nil}
 use Rattle.std.specs.List.{AllByRecursion, filter, filter_map, flat_map}
-use Rattle.std.proofs.lemmas.Grind.{flat_map-append}
 use Rattle.std.proofs.lemmas.List.{map-append}
-use Rattle.std.proofs.lemmas.List.Elements.{filter-append, filter_map-append}
-use Rattle.m2_answers.specs.declared.ask.AskFacts.{AskFacts}
-use Rattle.m2_control.specs.declared.control.Control.{Control}
+use Rattle.std.proofs.lemmas.List.Elements.{filter_map-append}
 use Rattle.m2_fabric.specs.declared.socket.SocketId.{SocketId}
 use Rattle.m2_fabric.specs.Sockets.{is_among, same_socket}
-use Rattle.m2_frame.specs.Frame.{Parts}
-use Rattle.m2_frame.specs.Reading.{whole}
 use Rattle.m2_frame.specs.Text as frame
 use Rattle.m2_handshake.specs.declared.ask.Ask.{Ask}
-use Rattle.m2_handshake.specs.Course.{Course, Exchange, Reaches}
-use Rattle.m2_handshake.specs.Greeting.{greeting, welcome}
+use Rattle.m2_handshake.specs.Course.{Exchange, Reaches}
+use Rattle.m2_handshake.specs.Greeting.{greeting}
 use Rattle.m2_handshake.specs.Laws.{IsPrefix}
-use Rattle.m2_handshake.specs.Moves.{is_authed}
-use Rattle.m2_handshake.specs.Standing.{Standing, fed, opener_at_start}
-use Rattle.m2_handshake.specs.Texts.{control_parts, frame_text}
-use Rattle.m2_session.specs.declared.answer.Answer.{Answer}
-use Rattle.m2_session.specs.declared.answer.Answer.TheVariants as answer
+use Rattle.m2_handshake.specs.Standing.{Standing}
 use Rattle.m2_journal.specs.declared.entry.JudgedItem.{JudgedItem}
-use Rattle.m2_journal.specs.Feeds.{silent_feed, split_into}
 use Rattle.m2_journal.specs.Lawful.{judged_on, judged_sockets}
-use Rattle.m2_journal.specs.Laws.{IfFed}
 use Rattle.m2_journal.specs.OutFrames as out
 use Rattle.m2_journal.specs.OutFrames.{OutFrame, is_unnamed, replies_of}
 use Rattle.m2_journal.specs.Said.{split}
 use Rattle.m2_journal.specs.SideFacts.{SideFacts}
-use Rattle.m2_journal.specs.State.{Feed, Judgement, SentFrame, State}
-use Rattle.m2_crossing.specs.Asks as crossing
-use Rattle.m2_feed.proofs.Courses.{ran, runs-side}
-use Rattle.m2_paired.specs.Fits.{AreSaid, HearsAt, ask_by, AreItsAsks, Fits}
-use Rattle.m2_paired.specs.Frames.{is_ask, ask_of, frames_on, asks_on, answers_on}
-use Rattle.m2_paired.proofs.Sockets.{differ, same_refl, same_equal}
+use Rattle.m2_journal.specs.State.{Judgement, SentFrame}
+use Rattle.m2_paired.specs.Fits.{ask_by, AreItsAsks}
+use Rattle.m2_paired.specs.Frames.{is_ask, ask_of, frames_on}
+use Rattle.m2_paired.proofs.Sockets.{differ, same_refl}
 use Rattle.m2_trail.specs.Asks.{facts_of_ask}
-use Rattle.m2_trail.specs.Replies.{reply_to, replies_to, refusal, refusal_of, all_replies}
-use Rattle.m2_trail.specs.Trails.{opener_of, ComesToAsk, ComesToWrite}
-use Rattle.m2_fitting.specs.Ends.{Half, Side, state_of, read_on, wrote_on, takings_on, got_at, put_at}
-use Rattle.m2_fitting.specs.Halves.{begins, IsTaken, IsNamed, HalfFits, BytesFit}
+use Rattle.m2_trail.specs.Replies.{all_replies}
+use Rattle.m2_trail.specs.Trails.{opener_of, ComesToAsk}
+use Rattle.m2_fitting.specs.Ends.{Side, state_of, read_on, wrote_on, takings_on, got_at}
+use Rattle.m2_fitting.specs.Halves.{begins, IsNamed, HalfFits, BytesFit}
 use Rattle.m2_fitting.specs.Texts.{CanBeSent, CanAllBeSent, texts_of}
 use Rattle.m2_fitting.proofs.Acceptors.{as_asked, HasWelcomed, IsAsked, accepts}
 use Rattle.m2_fitting.proofs.Fronts.{AreFirst, front_items, nothing_split, begun_is_open}
-use Rattle.m2_fitting.proofs.Judges.{replied_no_asks}
-use Rattle.m2_fitting.proofs.Kept.{View, feed_on, view, replied, course_at, heard_of, greeting_of, OpenedFeed, AsksComeFirst, OpenedKept, UntakenKept, TakenFeed, TakenKept, KeptBy, Kept}
-use Rattle.m2_fitting.proofs.Lists.{all-both, all-front, all-back, compare, cons_is_some, cons_same, nothing_before, not_nil, nil_not}
-use Rattle.m2_fitting.proofs.Openers.{signs_behind}
-use Rattle.m2_fitting.proofs.Puts.{IsLate, IsPut, texts_both, text_alone}
-use Rattle.m2_fitting.proofs.Says.{NoAsk, CanBeWritten, part, parts_all, written, unnamed_written, writable, text_made, all_written, texts_made, all_writable, said_first, said_refused}
-use Rattle.m2_fitting.proofs.Sent.{refusal_readable}
-use Rattle.m2_fitting.proofs.Steps.{AllKept, if_some, here_feed, none_isnt}
+use Rattle.m2_fitting.proofs.Kept.{view, greeting_of, OpenedKept, KeptBy}
+use Rattle.m2_fitting.proofs.Lists.{all-both, cons_is_some, cons_same, nothing_before, not_nil, nil_not}
+use Rattle.m2_fitting.proofs.Puts.{IsLate, texts_both, text_alone}
+use Rattle.m2_fitting.proofs.Says.{NoAsk, CanBeWritten, part, parts_all, unnamed_written, writable, text_made, all_written, texts_made, all_writable}
+use Rattle.m2_fitting.proofs.Steps.{AllKept}
 
 -- ---- what is known at a point
 

@@ -1,16 +1,15 @@
 -- A frame that keeps the bounds of its format is read as what was sent.
 use Rattle.std.proofs.Common.{◌≡◌, ℕ, zero, suc, Bool, true, false, if◌then◌else◌, List, [], ◌∷◌, ◌++◌, length, take, map, refl, sym, ap, ◌∙◌, subst}
-use Rattle.std.specs.Prelude.{◌==◌, ◌<◌, ◌^◌}
+use Rattle.std.specs.Prelude.{◌==◌}
 use Rattle.std.specs.List.{AllByRecursion, flat_map}
-use Rattle.m2_control.specs.declared.control.Control.{Control}
 use Rattle.m2_control.specs.declared.control.Control.TheVariants as control
 use Rattle.m2_control.specs.Control.{bare}
 use Rattle.m2_control.proofs.Written.{written_is_read}
 use Rattle.m2_frame.specs.Frame.{Parts}
-use Rattle.m2_frame.specs.Reading.{Item, whole}
+use Rattle.m2_frame.specs.Reading.{whole}
 use Rattle.m2_frame.specs.Text as frame
 use Rattle.m2_handshake.specs.Texts.{control_parts}
-use Rattle.m2_message.specs.Message.{Content, with_numbers}
+use Rattle.m2_message.specs.Message.{with_numbers}
 use Rattle.m2_message_frame.specs.declared.header_text.TheConstants.{HEADER_BYTES}
 use Rattle.m2_message_frame.specs.MessageFrame.{parts_of, message_in}
 use Rattle.m2_message_frame.proofs.Carried.{message_in-carried}
@@ -25,7 +24,7 @@ use Rattle.m2_paired.specs.Frames.{is_ask}
 use Rattle.m2_paired.proofs.Sockets.{differ}
 use Rattle.m2_trail.specs.Replies.{refusal}
 use Rattle.m2_fitting.proofs.Sent.{ack_writable, stamp_writable}
-use Rattle.m2_fitting.specs.Texts.{Made, of_message, of_payload, of_none, made, IsReadable, IsBrought, CanBeMade, CanBeSent, texts_of}
+use Rattle.m2_fitting.specs.Texts.{Made, of_message, of_payload, of_none, made, IsReadable, CanBeSent, texts_of}
 
 -- ---- the parts of a frame
 

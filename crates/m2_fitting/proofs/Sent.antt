@@ -1,13 +1,11 @@
 -- The payloads that an acceptor writes of itself, and those that no entry names, are read as they were written.
-use Rattle.std.proofs.Common.{◌≡◌, ℕ, ◌<◌, ◌^◌, List, [], ◌∷◌, ◌++◌, refl, arith}
+use Rattle.std.proofs.Common.{ℕ, ◌<◌, ◌^◌, List, [], ◌∷◌, ◌++◌, refl, arith}
 use Rattle.std.specs.List.{All}
 use Rattle.std.specs.Int.{w16, w32, w64, to_le_bytes, to_be_bytes}
 use Rattle.std.proofs.lemmas.List.Elements.{All-from_recursion, All-cons, All-append}
 use Rattle.m2_addr.specs.declared.addr.Addr.{Addr}
 use Rattle.m2_addr.specs.Addr.{ipv4_text}
-use Rattle.m2_control.specs.declared.control.Control.{Control}
 use Rattle.m2_control.specs.declared.control.Control.TheVariants as control
-use Rattle.m2_control.specs.declared.keepalive.Keepalive.{Keepalive}
 use Rattle.m2_control.specs.Control as payload
 use Rattle.m2_control.specs.Laws.{HasAddrRanges}
 use Rattle.m2_handshake.specs.Texts.{control_parts, hello, done, signature}

@@ -1,5 +1,5 @@
 -- What an opener has written is the front of its greeting, whatever it was fed.
-use Rattle.std.proofs.Common.{◌≡◌, ℕ, Bool, true, false, List, [], ◌∷◌, ◌++◌, Option, Some, None, Result, Ok, Err, refl, sym, ap, ◌∙◌, subst, append_assoc, append-nil}
+use Rattle.std.proofs.Common.{◌≡◌, ℕ, List, [], ◌∷◌, ◌++◌, Option, Some, None, Result, Ok, Err, refl, sym, ap, ◌∙◌, subst, append_assoc, append-nil}
 use Rattle.std.specs.Prelude.{◌==◌}
 use Rattle.m2_addr.specs.declared.addr.Addr.{Addr}
 use Rattle.m2_control.specs.declared.banner.BannerStep.{BannerStep}
@@ -25,7 +25,7 @@ use Rattle.m2_handshake.specs.Laws.{IsPrefix}
 use Rattle.m2_handshake.specs.Moves.{Move, stays, quiet, writes, signs, asks, fails, features, is_agreed, after_banner, take_frame, after_reaction, answer_held, read_held}
 use Rattle.m2_handshake.specs.Reading.{payload_in}
 use Rattle.m2_handshake.specs.Standing.{Standing, fed, opener_at_start}
-use Rattle.m2_handshake.specs.Steps.{Reaction, says, listens, signed, refuses, awaited_tag, is_unsigned, after, unawaited, after_payload, after_frame}
+use Rattle.m2_handshake.specs.Steps.{Reaction, says, signed, refuses, awaited_tag, is_unsigned, after, unawaited, after_payload, after_frame}
 use Rattle.m2_handshake.specs.Texts.{frame_text, hello, request, signature}
 use Rattle.m2_handshake.proofs.Leading.{either}
 

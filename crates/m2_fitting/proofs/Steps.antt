@@ -1,39 +1,27 @@
 -- Each lawful entry of a journal keeps what is kept of each socket.
-use Rattle.std.proofs.Common.{◌≡◌, ◌≢◌, ℕ, ◌⊎◌, inl, inr, Bool, true, false, not, ◌&&◌, if◌then◌else◌, List, [], ◌∷◌, ◌++◌, length, map, Option, Some, None, refl, sym, ap, ◌∙◌, subst, append_assoc, append-nil}
-use Rattle.std.specs.Prelude.{◌==◌, nat_lt}
-use Rattle.std.specs.List.{AllByRecursion, filter, filter_map, flat_map}
+use Rattle.std.proofs.Common.{◌≡◌, ℕ, inl, Bool, true, false, not, if◌then◌else◌, List, [], ◌∷◌, ◌++◌, Option, Some, None, refl, sym, ap, ◌∙◌, subst, append_assoc, append-nil}
+use Rattle.std.specs.List.{AllByRecursion, filter, filter_map}
 use Rattle.std.proofs.lemmas.Grind.{flat_map-append}
-use Rattle.std.proofs.lemmas.List.Elements.{filter_map-append, filter-append}
-use Rattle.std.proofs.lemmas.List.{map-append}
-use Rattle.m2_answers.specs.declared.ask.AskFacts.{AskFacts}
+use Rattle.std.proofs.lemmas.List.Elements.{filter_map-append}
 use Rattle.m2_fabric.specs.declared.socket.SocketId.{SocketId}
-use Rattle.m2_fabric.specs.Sockets.{is_among, same_socket}
+use Rattle.m2_fabric.specs.Sockets.{same_socket}
 use Rattle.m2_handshake.specs.Course.{text_of}
-use Rattle.m2_message.specs.Message.{Content}
-use Rattle.m2_queues.specs.OutQueues.{message_at}
-use Rattle.m2_queues.specs.Laws.{Next, Sent}
-use Rattle.m2_session.specs.declared.answer.Answer.{Answer}
-use Rattle.m2_session.specs.Laws.{takes}
-use Rattle.m2_journal.specs.declared.entry.JudgedItem.{JudgedItem}
-use Rattle.m2_journal.specs.Feeds.{begun, hears, narrowed, finished, texts_at, unnamed}
+use Rattle.m2_journal.specs.Feeds.{begun}
 use Rattle.m2_journal.specs.Items.{JournalItem}
-use Rattle.m2_journal.specs.Lawful.{judged_on}
 use Rattle.m2_journal.specs.Laws.{IfFed}
-use Rattle.m2_journal.specs.OutFrames as out
-use Rattle.m2_journal.specs.OutFrames.{OutFrame, is_unnamed, replies_of}
+use Rattle.m2_journal.specs.OutFrames.{OutFrame, is_unnamed}
 use Rattle.m2_journal.specs.SideFacts.{SideFacts}
-use Rattle.m2_journal.specs.State.{PartText, Feed, SentFrame, State}
-use Rattle.m2_journal.specs.Steps.{composes, puts, puts_on, queues, writes_message}
+use Rattle.m2_journal.specs.State.{Feed, SentFrame, State}
+use Rattle.m2_journal.specs.Steps.{composes}
 use Rattle.m2_paired.specs.Frames.{is_ask, frames_on, answers_on}
 use Rattle.m2_paired.proofs.Sent.{frames_here, frames_elsewhere}
-use Rattle.m2_paired.proofs.Sockets.{differ, same_refl, same_equal}
+use Rattle.m2_paired.proofs.Sockets.{differ, same_equal}
 use Rattle.m2_fitting.specs.Ends.{read_in, wrote_in, taken_in, read_on, wrote_on, takings_on}
 use Rattle.m2_fitting.specs.Texts.{texts_of}
-use Rattle.m2_fitting.proofs.Hearing.{opened_hears, taken_hears}
-use Rattle.m2_fitting.proofs.Kept.{View, feed_on, view, course_at, greeting_of, IsNamed, OpenedFeed, AsksComeFirst, OpenedKept, UntakenKept, TakenFeed, TakenKept, KeptBy, Kept, with_feed, kept_less, opened_put}
-use Rattle.m2_fitting.proofs.Less.{FeedLess, SameBytes, Less, same_feed}
+use Rattle.m2_fitting.proofs.Kept.{View, feed_on, view, course_at, OpenedFeed, AsksComeFirst, TakenFeed, KeptBy, Kept, with_feed, kept_less, opened_put}
+use Rattle.m2_fitting.proofs.Less.{FeedLess, Less}
 use Rattle.m2_fitting.proofs.Lists.{all-both, not_nil, none_not_some}
-use Rattle.m2_fitting.proofs.Puts.{HasPut, IsPut, GoesOnHere, is_put, composed_put, narrowed_here, found_whole, none_whole, texts_here, all_more, late_text, texts_both}
+use Rattle.m2_fitting.proofs.Puts.{HasPut, is_put, composed_put}
 use Rattle.m2_fitting.proofs.Says.{NoAsk}
 
 -- what is kept of every socket, where these entries have led here

@@ -4,7 +4,6 @@ use Rattle.std.specs.List.{flat_map, AllByRecursion}
 use Rattle.m2_control.specs.declared.control.Control.{Control}
 use Rattle.m2_control.specs.declared.control.Control.TheVariants as control
 use Rattle.m2_control.specs.Laws.{HasRanges, IsInBounds}
-use Rattle.m2_frame.specs.Frame.{Parts}
 use Rattle.m2_handshake.specs.Texts.{control_parts}
 use Rattle.m2_message.specs.Message.{Content, with_numbers}
 use Rattle.m2_message_frame.specs.HeaderText.{FieldsFit}
