@@ -1,6 +1,7 @@
 pub mod Agreeing
 pub mod Sound
 pub mod Faulting
+pub mod Judged
 pub mod Writing
 pub mod Greeted
 pub mod Unnamed

@@ -132,7 +132,3 @@ event_of f a number answer = asks.event_of (kept_of f a) answer (cookie_of f num
 abbrev pub tells_if : Option Event → LiveNow → LiveNow
 tells_if (Some e) l = tells e l
 tells_if None l = l
-
--- of an answer that takes no socket
-abbrev pub after_answered : AskFacts → ℕ → CoreNow → CoreNow
-after_answered a number c = record c { live = tells_if (event_of c.facts a number (answer_to a c.live)) c.live; top = number }

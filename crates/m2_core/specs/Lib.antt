@@ -3,6 +3,8 @@ pub mod Agrees
 pub mod Effects
 pub mod Queues
 pub mod Moves
+pub mod Judging
+pub mod TakingOver
 pub mod Calls
 pub mod Shaken
 pub mod Composing

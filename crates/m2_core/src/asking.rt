@@ -140,7 +140,7 @@ impl<E: End> Live<E> {
 }
 
 /// The cookie that is drawn with a number.
-fn cookie_at(policy: &Policy, node: &NodeFacts, number: u64) -> u64
+pub(crate) fn cookie_at(policy: &Policy, node: &NodeFacts, number: u64) -> u64
     requires { node.now.number < MOST_PLACES }
     ensures { (f : SideFacts) → f.policy ≡ policy.now → f.node ≡ node.now → result ≡ cookie_of f number }
 {

@@ -16,13 +16,16 @@ mod composing;
 mod counting;
 mod facts;
 mod feed_laws;
+mod judging;
 mod live;
 mod numbering;
 mod plan;
 mod shaking;
 mod side;
 mod sockets;
+mod verdict;
 
 pub use aftermath::Aftermath;
 pub use asking::CoreAsk;
 pub use side::Core;
+pub use verdict::Verdict;

@@ -31,7 +31,9 @@ use std::marker::Model;
 /// [`down`](Core::down). The feed comes and goes: [`opened`](Core::opened), [`fault`](Core::fault).
 /// Bytes: [`write`](Core::write). What was read: [`shake`](Core::shake), [`acked`](Core::acked). What is
 /// composed: [`ask`](Core::ask), [`number`](Core::number), [`acknowledge`](Core::acknowledge),
-/// [`answer_keepalive`](Core::answer_keepalive).
+/// [`answer_keepalive`](Core::answer_keepalive). An ask of the peer: [`answer_to`](Core::answer_to),
+/// [`verdict`](Core::verdict); then [`answered`](Core::answered), or [`acceptance`](Core::acceptance) and
+/// [`take_over`](Core::take_over).
 ///
 /// A call that takes a throttle has the condition that the pass and what the core holds were made from it.
 pub struct Core<E: End> {

@@ -1,0 +1,153 @@
+//! What an answer to an ask of the peer leaves of this side.
+
+ghost use Rattle.std.specs.Prelude.{◌≡◌, ℕ, List, ◌-◌, ◌<◌, ◌≤◌, ◌^◌, true, false, length, option_map, IfSome, IsSome, IsTrue};
+ghost use Rattle.m2_fabric.specs.declared.socket.SocketId.{SocketId};
+ghost use Rattle.m2_session.specs.Laws.{takes};
+ghost use Rattle.m2_session.specs.Steps as table;
+ghost use Rattle.m2_session.specs.Steps.{HasFollower};
+ghost use Rattle.m2_shared.specs.Place.{IsAlone};
+ghost use Rattle.m2_core.specs.Calls.{tells_if};
+ghost use Rattle.m2_core.specs.CoreNow.{IsOwned, held};
+ghost use Rattle.m2_core.specs.Effects.{IsAftermath};
+ghost use Rattle.m2_core.specs.Judging.{IsVerdict, acceptance_text, told_of};
+ghost use Rattle.m2_core.specs.TakingOver.{MakesJudgement, IsTakenFeed, after_answering, after_taking, effects_of, resumed_by, with_taken};
+
+use crate::aftermath::Aftermath;
+use crate::feed_laws::feed_laws;
+use crate::live::Live;
+use crate::side::Core;
+use crate::verdict::Verdict;
+use m2_answers::AskFacts;
+use m2_bytes::Blob;
+use m2_fabric::End;
+use m2_feed::Feed;
+use m2_frame::Decoder;
+use m2_session::Event;
+use m2_shared::{TakePass, Throttle};
+
+impl<E: End> Core<E> {
+    /// The answer takes no socket: the entry Judged. Of the effects there are at most those of a pending
+    /// socket that is closed. Its reply is the half's.
+    pub fn answered(
+        &mut self,
+        v: &Verdict,
+        throttle: &Throttle,
+        pass: &mut TakePass,
+    ) -> Aftermath<E>
+        requires verdict { IsVerdict v.now self.old }
+        requires refuses { takes v.now.answer ≡ false }
+        requires pass { pass.old.place ≡ throttle.now.place }
+        requires owned { IsOwned throttle.now.place self.old.live.granted }
+        ensures value { self.new ≡ after_answering v.now self.old }
+        ensures judged { (socket : SocketId) (unread : List ℕ) → MakesJudgement v.now socket unread self.old self.new }
+        ensures aftermath { IsAftermath (effects_of (told_of self.old.facts v.now) self.old.live.session) self.old.live.feed (option_map E.seen result.closed) result.discarded result.remote_reset }
+        ensures place { pass.new.place ≡ pass.old.place }
+        ensures word { IsAlone throttle.now.place → pass.new.word ≡ pass.old.word }
+    {
+        feed_laws();
+        let told = self.told_of(v);
+        let aftermath = self.live.tell_if(told, throttle, pass);
+        self.top = v.number;
+        aftermath
+    }
+
+    /// The answer takes the socket: the entry Judged. The old feed's end comes back, closed; the end of the
+    /// socket is the feed, with the bytes that its half had left unread in the decoder, and the text of the
+    /// acceptance is to be written. Takes no memory.
+    pub fn take_over(
+        &mut self,
+        v: &Verdict,
+        end: E,
+        decoder: Decoder,
+        acceptance: Blob,
+        throttle: &Throttle,
+        pass: &mut TakePass,
+    ) -> Aftermath<E>
+        requires verdict { IsVerdict v.now self.old }
+        requires takes { takes v.now.answer ≡ true }
+        requires open { (E.seen end).log.closed ≡ false }
+        requires read { length decoder.rest ≤ length (E.seen end).log.got }
+        requires ungranted { decoder.granted ≡ false }
+        requires text { acceptance.bytes ≡ acceptance_text self.old.facts v.now self.old.live.last }
+        requires pass { pass.old.place ≡ throttle.now.place }
+        requires owned { IsOwned throttle.now.place self.old.live.granted }
+        ensures value { IfSome self.new.live.feed (λ d. IsTakenFeed v.now (E.seen end) decoder.rest self.old d × (self.new ≡ after_taking v.now d self.old)) }
+        ensures feed { IsSome self.new.live.feed }
+        ensures judged { MakesJudgement v.now (E.seen end).id decoder.rest self.old self.new }
+        ensures aftermath { IsAftermath (effects_of (told_of self.old.facts v.now) self.old.live.session) self.old.live.feed (option_map E.seen result.closed) result.discarded result.remote_reset }
+        ensures place { pass.new.place ≡ pass.old.place }
+        ensures word { IsAlone throttle.now.place → pass.new.word ≡ pass.old.word - held self.old.live.granted }
+    {
+        m2_feed::a_feed_begins_beside_its_replay();
+        let told = self.told_of(v);
+        let feed = Feed::taken_over(self.alloc, end, decoder, acceptance);
+        let aftermath = self
+            .live
+            .take(told, feed, resumed_by(&v.ask), throttle, pass);
+        self.dials = false;
+        self.top = v.number;
+        aftermath
+    }
+}
+
+impl<E: End> Live<E> {
+    /// Tells the session what there is to tell, and does what it owes then.
+    fn tell_if(
+        &mut self,
+        told: Option<Event>,
+        throttle: &Throttle,
+        pass: &mut TakePass,
+    ) -> Aftermath<E>
+        requires lawful { IfSome told (λ e. IsTrue (table.is_lawful self.old.session e)) }
+        requires connect { self.old.session.connect < 2 ^ 64 - 1 }
+        requires follower { IfSome told HasFollower }
+        requires pass { pass.old.place ≡ throttle.now.place }
+        requires owned { IsOwned throttle.now.place self.old.granted }
+        ensures live { self.new ≡ tells_if told self.old }
+        ensures aftermath { IsAftermath (effects_of told self.old.session) self.old.feed (option_map E.seen result.closed) result.discarded result.remote_reset }
+        ensures place { pass.new.place ≡ pass.old.place }
+        ensures word { IsAlone throttle.now.place → (effects_of told self.old.session).close ≡ true → pass.new.word ≡ pass.old.word - held self.old.granted }
+        ensures kept { (effects_of told self.old.session).close ≡ false → pass.new ≡ pass.old }
+    {
+        match told {
+            Some(event) => self.tell(event, throttle, pass),
+            None => Aftermath {
+                closed: None,
+                discarded: false,
+                remote_reset: false,
+            },
+        }
+    }
+
+    /// The same, and this is the feed then, on which a resumption acknowledges up to that number.
+    fn take(
+        &mut self,
+        told: Option<Event>,
+        feed: Feed<E>,
+        resumed: u64,
+        throttle: &Throttle,
+        pass: &mut TakePass,
+    ) -> Aftermath<E>
+        requires lawful { IfSome told (λ e. IsTrue (table.is_lawful self.old.session e)) }
+        requires connect { self.old.session.connect < 2 ^ 64 - 1 }
+        requires follower { IfSome told HasFollower }
+        requires pass { pass.old.place ≡ throttle.now.place }
+        requires owned { IsOwned throttle.now.place self.old.granted }
+        ensures live { self.new ≡ with_taken told feed resumed self.old }
+        ensures aftermath { IsAftermath (effects_of told self.old.session) self.old.feed (option_map E.seen result.closed) result.discarded result.remote_reset }
+        ensures place { pass.new.place ≡ pass.old.place }
+        ensures word { IsAlone throttle.now.place → (effects_of told self.old.session).close ≡ true → pass.new.word ≡ pass.old.word - held self.old.granted }
+    {
+        let aftermath = self.tell_if(told, throttle, pass);
+        self.feed = Some(feed);
+        self.resumed = resumed;
+        aftermath
+    }
+}
+
+/// Up to where a resumption acknowledges, 0 where the ask is none.
+fn resumed_by(ask: &AskFacts) -> u64
+    ensures { result ≡ resumed_by ask.now }
+{
+    if ask.ident { 0 } else { ask.seen }
+}
