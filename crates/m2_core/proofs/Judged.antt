@@ -50,6 +50,7 @@ use Rattle.m2_core.specs.declared.verdict.Verdict.{Verdict}
 use Rattle.m2_core.specs.Agrees.{Agrees, FeedsAgree}
 use Rattle.m2_core.specs.Calls.{tells_if}
 use Rattle.m2_core.specs.CoreNow.{CoreNow, Holds, IsSound, LiveNow, held}
+use Rattle.m2_core.specs.Effects.{closed_if, closed_of}
 use Rattle.m2_core.specs.Judging.{CanJudge, IsAnswerFrame, IsVerdict, MayBeJudged, acceptance_text, carried_by, entry_of, told_of, verdict_on}
 use Rattle.m2_core.specs.TakingOver.{MakesJudgement, IsTakenFeed, after_answering, after_taking, effects_of, resumed_by, with_taken}
 
@@ -504,6 +505,10 @@ closes_by o s false full a server e = rw e refl
 -- an answer that takes the socket leaves the old feed
 pub closes_all : (c : CoreNow) (v : Verdict) (o : Option Event) → IsVerdict v c → takes v.answer ≡ true → o ≡ told_of c.facts v → (effects_of o c.live.session).close ≡ true
 closes_all c v o is t e = let told = told_taking c v is t in closes_by o c.live.session v.ask.ident told.0 _ _ (e ∙ told.1)
+
+pub closes_old : (c : CoreNow) (v : Verdict) (o : Option Event) (x : Option SeenEnd) → IsVerdict v c → takes v.answer ≡ true → o ≡ told_of c.facts v →
+    x ≡ closed_if (effects_of o c.live.session).close c.live.feed → x ≡ closed_of c.live.feed
+closes_old c v o x is t e b = b ∙ ap (λ (z : Bool). closed_if z c.live.feed) (closes_all c v o is t e)
 
 pending_idle : (p : Phase) → IsTrue (phases.is_among p phases.all_but_absent_and_ready) → phases.is p phase.Ready ≡ false
 pending_idle phase.Absent e = refl

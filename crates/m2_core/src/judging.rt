@@ -8,7 +8,7 @@ ghost use Rattle.m2_session.specs.Steps.{HasFollower};
 ghost use Rattle.m2_shared.specs.Place.{IsAlone};
 ghost use Rattle.m2_core.specs.Calls.{tells_if};
 ghost use Rattle.m2_core.specs.CoreNow.{IsOwned, held};
-ghost use Rattle.m2_core.specs.Effects.{IsAftermath};
+ghost use Rattle.m2_core.specs.Effects.{IsAftermath, closed_of};
 ghost use Rattle.m2_core.specs.Judging.{IsVerdict, acceptance_text, told_of};
 ghost use Rattle.m2_core.specs.TakingOver.{MakesJudgement, IsTakenFeed, after_answering, after_taking, effects_of, resumed_by, with_taken};
 
@@ -74,6 +74,7 @@ impl<E: End> Core<E> {
         ensures value { IfSome self.new.live.feed (λ d. IsTakenFeed v.now (E.seen end) decoder.rest self.old d × (self.new ≡ after_taking v.now d self.old)) }
         ensures feed { IsSome self.new.live.feed }
         ensures judged { MakesJudgement v.now (E.seen end).id decoder.rest self.old self.new }
+        ensures closed { option_map E.seen result.closed ≡ closed_of self.old.live.feed }
         ensures aftermath { IsAftermath (effects_of (told_of self.old.facts v.now) self.old.live.session) self.old.live.feed (option_map E.seen result.closed) result.discarded result.remote_reset }
         ensures place { pass.new.place ≡ pass.old.place }
         ensures word { IsAlone throttle.now.place → pass.new.word ≡ pass.old.word - held self.old.live.granted }

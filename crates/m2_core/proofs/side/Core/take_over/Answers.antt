@@ -36,3 +36,8 @@ returns-clause-judged g c = rw (← c.self.view_is)
 pub returns-clause-word : goal.returns-clause-word
 returns-clause-word g c = rw (← c.self.view_is) (λ alone. c.take-aftermath.ensures.word alone
     (judged.closes_all _ _ _ (subst (λ (o : CoreNow). IsVerdict c.args.v.now o) (sym c.self.view_is) c.requires.verdict) c.requires.takes (subst (λ (o : CoreNow). c.told_of-told.result ≡ told_of o.facts c.args.v.now) (sym c.self.view_is) c.told_of-told.ensures)))
+
+pub returns-clause-closed : goal.returns-clause-closed
+returns-clause-closed g c = rw (← c.self.view_is)
+    (judged.closes_old _ _ _ _ (subst (λ (o : CoreNow). IsVerdict c.args.v.now o) (sym c.self.view_is) c.requires.verdict) c.requires.takes
+    (subst (λ (o : CoreNow). c.told_of-told.result ≡ told_of o.facts c.args.v.now) (sym c.self.view_is) c.told_of-told.ensures) c.take-aftermath.ensures.aftermath.end)
