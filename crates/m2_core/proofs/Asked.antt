@@ -27,6 +27,8 @@ use Rattle.m2_journal.specs.Steps.{after}
 use Rattle.m2_session.specs.declared.session.Phase.{Phase}
 use Rattle.m2_session.specs.declared.session.Phase.TheVariants.{Connecting, Ready}
 use Rattle.m2_session.specs.declared.session.Session.{Session}
+use Rattle.m2_feed.specs.declared.writing.Writing.TheVariants as writing
+use Rattle.m2_session.specs.declared.event.Event.{Event}
 use Rattle.m2_session.specs.Phases as phase
 use Rattle.m2_session.specs.Steps.{step_of}
 use Rattle.m2_shared.specs.Throttle.{SeenGrant}
@@ -34,8 +36,8 @@ use Rattle.m2_core.proofs.Agreeing.{IsResumed, agreed, core_of}
 use Rattle.m2_core.proofs.Numbered.{has_text, room_on}
 use Rattle.m2_core.specs.declared.asking.CoreAsk.TheVariants as ask
 use Rattle.m2_core.specs.Agrees.{Agrees, FeedsAgree, LeadsOn, MayCome, Stays}
-use Rattle.m2_core.specs.Asking.{AsksNow, CanAsk, ComposesAsk, HasAsked, IsAsk, MayAskNow, ReservesAsk, ask_len, ask_of, asked_event, filled}
-use Rattle.m2_core.specs.Calls.{asks_ident}
+use Rattle.m2_core.specs.Asking.{AsksNow, AsksWith, CanAsk, ComposesAsk, HasAsked, IsAsk, MayAskNow, ReservesAsk, ask_len, ask_of, asked_event, filled}
+use Rattle.m2_core.specs.Calls.{ask_event, ask_frame, asks_ident}
 use Rattle.m2_core.specs.CoreNow.{CoreNow, LiveNow, OnFeedNow}
 use Rattle.m2_core.specs.Numbering.{ChangesRoom}
 
@@ -191,3 +193,46 @@ has_asked composes changes moves c mid l b cookie number a may room can e kind k
           (asked_on composes changes c b number mid.feed l.feed may.phase can text s
           (subst (λ (z : LiveNow). Agrees (record c { live = z }) s) e (stays_so moves c mid room e s h))),
     )
+
+-- ---- what is left of the core
+
+-- the event of an ask, and its text, by its kind
+event_by : (f : SideFacts) (b : Bool) (number : ℕ) → asked_event b (cookie_of f number) ≡ ask_event f b number
+event_by f true number = refl
+event_by f false number = refl
+
+text_by : (f : SideFacts) (l m : LiveNow) (b : Bool) (number cookie : ℕ) → m.session ≡ (step_of l.session (asked_event b cookie)).session → m.last ≡ l.last →
+    frame_text (filled m.session.client_cookie number (ask_of f l b 0 0)) ≡ out.text_of f (ask_frame b number m)
+text_by f l m true number cookie e last = refl
+text_by f l m false number cookie e last = rw (e, last) refl
+
+composed_as : (t u : List ℕ) (x z : Option FeedNow) → t ≡ u → ComposesAsk t x z → ComposesAsk u x z
+composed_as t u x z e h = subst (λ (y : List ℕ). ComposesAsk y x z) e h
+
+from_room : (t : List ℕ) (x y z : Option FeedNow) → ChangesRoom x y → ComposesAsk t y z → ComposesAsk t x z
+from_room t (Some v) (Some w) (Some new) e h = h ∙ ap (λ (q : FeedNow). record q { composed = t; writing = writing.Named false; room = new.room }) e
+from_room t (Some v) (Some w) None e h = h
+from_room t (Some v) None z e h = absurd e
+from_room t None y z e h = absurd e
+
+pub asks_with : (c : CoreNow) (mid l : LiveNow) (b : Bool) (cookie number : ℕ) (a : Control) →
+    ChangesRoom c.live.feed mid.feed → mid ≡ record c.live { feed = mid.feed } → b ≡ asks_ident c.live → cookie ≡ cookie_of c.facts number →
+    a ≡ ask_of c.facts c.live b 0 0 → AsksNow b cookie number a mid l → AsksWith number c (record c { live = l; top = number })
+asks_with c mid l b cookie number a room e kind k is w =
+    let same : mid.session ≡ c.live.session = ap (λ (z : LiveNow). z.session) e in
+    let session : l.session ≡ (step_of c.live.session (asked_event b (cookie_of c.facts number))).session =
+    w.session ∙ ap (λ (z : Session). (step_of z (asked_event b cookie)).session) same ∙ ap (λ (z : ℕ). (step_of c.live.session (asked_event b z)).session) k in
+    let last : l.last ≡ c.live.last = ap (λ (z : LiveNow). z.last) w.only ∙ ap (λ (z : LiveNow). z.last) e in
+    record {
+      event = session ∙ ap (λ (v : Event). (step_of c.live.session v).session) (event_by c.facts b number ∙ ap (λ (z : Bool). ask_event c.facts z number) kind);
+      text = composed_as _ _ c.live.feed l.feed (text_by c.facts c.live l b number (cookie_of c.facts number) session last ∙ ap (λ (z : Bool). out.text_of c.facts (ask_frame z number l)) kind)
+          (from_room _ c.live.feed mid.feed l.feed room (composed_as _ _ mid.feed l.feed (ap (λ (z : Control). frame_text (filled l.session.client_cookie number z)) is) w.feed));
+      only = ap (λ (z : LiveNow). record c { live = z; top = number }) (w.only ∙ ap (λ (z : LiveNow). record z { session = l.session; feed = l.feed }) e);
+    }
+
+-- said of the same core
+pub asks_as : (number : ℕ) (c old new : CoreNow) → c ≡ old → AsksWith number c new → AsksWith number old new
+asks_as number c old new e h = subst (λ (v : CoreNow). AsksWith number v new) e h
+
+pub ask_as : (a : Control) (c old : CoreNow) (b : Bool) → c ≡ old → a ≡ ask_of old.facts old.live b 0 0 → a ≡ ask_of c.facts c.live b 0 0
+ask_as a c old b e h = subst (λ (v : CoreNow). a ≡ ask_of v.facts v.live b 0 0) (sym e) h

@@ -8,3 +8,4 @@ pub mod Unnamed
 pub mod Counted
 pub mod Numbered
 pub mod Asked
+pub mod Heard

@@ -1,5 +1,5 @@
 -- What an ask leaves of a core.
-use Rattle.std.specs.Prelude.{◌≡◌, ℕ, ◌<◌, ◌≤◌, pos, Bool, true, false, if◌then◌else◌, List, [], ◌∷◌, length, Option, Some, None, Result, OnOk}
+use Rattle.std.specs.Prelude.{◌≡◌, ℕ, ◌<◌, ◌≤◌, pos, Bool, true, false, if◌then◌else◌, List, [], ◌∷◌, ◌++◌, length, Option, Some, None, Result, OnOk}
 use Rattle.m2_addr.specs.declared.addr.AnyAddr.TheVariants.{V4}
 use Rattle.m2_control.specs.declared.control.Control.{Control}
 use Rattle.m2_control.specs.declared.control.Control.TheVariants as control
@@ -14,16 +14,19 @@ use Rattle.m2_frame.specs.declared.frame.TheConstants.{CONTROL_LIMIT}
 use Rattle.m2_session.specs.declared.event.Event.{Event}
 use Rattle.m2_session.specs.declared.event.Event.TheVariants as event
 use Rattle.m2_journal.specs.Items as item
+use Rattle.m2_journal.specs.OutFrames as out
 use Rattle.m2_journal.specs.OutFrames.{client_ident_of}
 use Rattle.m2_journal.specs.SideFacts.{SideFacts}
 use Rattle.m2_session.specs.declared.session.Phase.TheVariants.{Connecting}
 use Rattle.m2_core.specs.declared.asking.CoreAsk.{CoreAsk}
 use Rattle.m2_core.specs.declared.asking.CoreAsk.TheVariants as ask
 use Rattle.m2_core.specs.Agrees.{LeadsOn, MayCome, Stays}
-use Rattle.m2_core.specs.Calls.{asks_ident}
+use Rattle.m2_core.specs.Calls.{ask_event, ask_frame, asks_ident}
 use Rattle.m2_bytes.specs.declared.memory.NoMemory as memory
 use Rattle.m2_handshake.specs.Texts.{frame_text}
 use Rattle.m2_session.specs.Steps.{step_of}
+use Rattle.m2_shared.specs.declared.limits.TheConstants.{LAST_NUMBER}
+use Rattle.m2_shared.specs.Numbers.{SeenNumberPass}
 use Rattle.m2_core.specs.Composing.{CanWrite}
 use Rattle.m2_core.specs.Numbering.{ChangesRoom}
 use Rattle.m2_core.specs.CoreNow.{CoreNow, LiveNow, OnFeedNow}
@@ -94,3 +97,21 @@ abbrev pub HasAsked : CoreAsk → (before after : CoreNow) → Type 0
 HasAsked (ask.Asked by_ident number) before after =
     (by_ident ≡ asks_ident before.live) × MayCome (item.asked by_ident number) before × LeadsOn (item.asked by_ident number) before after
 HasAsked _ before after = Stays before after
+
+-- the session is told that it asks with this number, and the ask that says so is composed
+pub record AsksWith (number : ℕ) (before after : CoreNow) : Type 0 where
+  pub event : after.live.session ≡ (step_of before.live.session (ask_event before.facts (asks_ident before.live) number)).session
+  pub text : ComposesAsk (out.text_of before.facts (ask_frame (asks_ident before.live) number after.live)) before.live.feed after.live.feed
+  pub only : after ≡ record before { live = record before.live { session = after.live.session; feed = after.live.feed }; top = number }
+
+-- what is left of a core: where nothing was asked all but the feed's room is as before
+abbrev pub LeavesAsk : CoreAsk → (before after : CoreNow) → Type 0
+LeavesAsk (ask.Asked by_ident number) before after = AsksWith number before after
+LeavesAsk _ before after = ChangesRoom before.live.feed after.live.feed × (after ≡ record before { live = record before.live { feed = after.live.feed } })
+
+-- what is left of the pass: the number of an ask was drawn by it
+abbrev pub LeavesPass : CoreAsk → (before after : SeenNumberPass) → Type 0
+LeavesPass (ask.Asked by_ident number) before after = (after.drawn ≡ before.drawn ++ number ∷ []) × (after.least ≡ number)
+LeavesPass ask.Spent before after = (after.drawn ≡ before.drawn) × (after.least ≡ LAST_NUMBER)
+LeavesPass (ask.Again seen now) before after = (after.drawn ≡ before.drawn) × (after.least ≡ now)
+LeavesPass ask.NoMemory before after = after ≡ before

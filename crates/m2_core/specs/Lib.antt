@@ -10,3 +10,5 @@ pub mod Shaken
 pub mod Composing
 pub mod Numbering
 pub mod Asking
+pub mod ToCompose
+pub mod News

@@ -11,7 +11,7 @@ ghost use Rattle.m2_session.specs.declared.session.Phase.TheVariants.{Connecting
 ghost use Rattle.m2_session.specs.Steps.{step_of};
 ghost use Rattle.m2_core.specs.CoreNow.{OnFeedNow};
 ghost use Rattle.m2_handshake.specs.Texts.{frame_text};
-ghost use Rattle.m2_core.specs.Asking.{AsksNow, CanAsk, ComposesAsk, HasAsked, IsAsk, MayAskNow, ReservesAsk, ask_len, ask_of, asked_event, filled};
+ghost use Rattle.m2_core.specs.Asking.{AsksNow, CanAsk, ComposesAsk, HasAsked, IsAsk, LeavesAsk, LeavesPass, MayAskNow, ReservesAsk, ask_len, ask_of, asked_event, filled};
 ghost use Rattle.m2_core.specs.Numbering.{ChangesRoom};
 
 use crate::feed_laws::feed_laws;
@@ -80,6 +80,8 @@ impl<E: End> Core<E> {
         requires pass { pass.old.place ≡ numbers.now.place }
         requires top { self.old.top ≤ pass.old.least }
         ensures asked { HasAsked result self.old self.new }
+        ensures leaves { LeavesAsk result self.old self.new }
+        ensures pass { LeavesPass result pass.old pass.new }
         ensures place { pass.new.place ≡ pass.old.place }
     {
         feed_laws();

@@ -18,14 +18,17 @@ mod facts;
 mod feed_laws;
 mod judging;
 mod live;
+mod news;
 mod numbering;
 mod plan;
 mod shaking;
 mod side;
 mod sockets;
+mod to_compose;
 mod verdict;
 
 pub use aftermath::Aftermath;
 pub use asking::CoreAsk;
 pub use side::Core;
+pub use to_compose::CoreText;
 pub use verdict::Verdict;

@@ -1,0 +1,10 @@
+-- What a feed's end is told of the other side.
+use Rattle.std.specs.Prelude.{ℕ, List, Option, Some, None}
+use Rattle.m2_fabric.specs.End.{after_news}
+use Rattle.m2_fabric.specs.declared.end.News.{News}
+use Rattle.m2_feed.specs.FeedNow.{FeedNow}
+
+-- the end of a feed, where there is one, has heard the news
+abbrev pub heard_on : News → List ℕ → Option FeedNow → Option FeedNow
+heard_on n bytes (Some v) = Some (record v { end = after_news n bytes v.end })
+heard_on n bytes None = None
