@@ -1,3 +1,4 @@
 pub mod Wrapped
 pub mod Streams
 pub mod Short
+pub mod Posts

@@ -1,5 +1,5 @@
 -- What a post chooses is fit for the limits and links.
-use Rattle.std.proofs.Common.{◌≡◌, ◌≢◌, ◌+◌, ◌<◌, ◌≤◌, ◌%◌, ℕ, zero, suc, Bool, true, false, ◌&&◌, List, [], ◌∷◌, length, refl, sym, ap, arith, replicate, nat_le}
+use Rattle.std.proofs.Common.{◌≡◌, ◌+◌, ◌<◌, ◌%◌, ℕ, zero, suc, true, refl, arith, nat_le}
 use Rattle.std.proofs.lemmas.List.{length-replicate}
 use Rattle.m2_scenario.specs.Draft.{are_joined}
 use Rattle.m2_scenario.specs.Valid.{are_short}

@@ -1,5 +1,5 @@
 -- A state is the seed of the draws that are still to come.
-use Rattle.std.proofs.Common.{◌≡◌, ◌+◌, ◌*◌, ℕ, zero, suc, refl, sym, ap, ◌∙◌, arith, List, [], ◌∷◌, ◌++◌}
+use Rattle.std.proofs.Common.{◌≡◌, ◌+◌, ◌*◌, ℕ, zero, suc, refl, ap, ◌∙◌, arith, ◌++◌}
 use Rattle.m2_generate.specs.Draws.{next_state, upper_bits, state_after, draw}
 use Rattle.m2_generate.specs.Generated.{lines_by, first_lines, draws_of}
 

@@ -10,6 +10,8 @@ mod choices;
 mod cluster;
 mod draws;
 mod generator;
+mod laws;
 mod lines;
 
 pub use generator::generate;
+pub use laws::posts_are_as_many_as_asked;

@@ -1,4 +1,4 @@
-use Rattle.std.proofs.Common.{◌≡◌, ◌∙◌, ◌*◌, ℕ, List, ap, None}
+use Rattle.std.proofs.Common.{◌∙◌, ◌*◌, ℕ, List, ap, None}
 use Rattle.m2_scenario.specs.Draft.{Draft, DraftLine}
 use Rattle.m2_generate.specs.Cluster.{osds, all_pairs}
 use Rattle.m2_generate.specs.Draws.{draw, state_after}
