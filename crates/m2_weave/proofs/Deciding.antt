@@ -6,7 +6,9 @@ use Rattle.std.proofs.lemmas.Bool.Decides.{nat_tests}
 use Rattle.m2_journal.specs.declared.entry.Entry.TheVariants as entry
 use Rattle.m2_merge.specs.Order.{Cut}
 use Rattle.m2_weave.specs.declared.unfit.Unfit.{Unfit}
-use Rattle.m2_weave.specs.Strands.{EndOf, Strand, StrandItem, noted, handed, other, end_in, total, handed_by, handed_at, judged_by, judged_at, place_of}
+use Rattle.m2_weave.specs.declared.strand.StrandItem.{StrandItem}
+use Rattle.m2_weave.specs.declared.strand.StrandItem.TheVariants.{Noted, Handed}
+use Rattle.m2_weave.specs.Strands.{EndOf, StrandNow, other, end_in, total, handed_by, handed_at, judged_by, judged_at, place_of}
 use Rattle.m2_weave.specs.Rule.{Woven, MayCome, AreThere, byte_at, unfit_byte, first_unfit, comes}
 use Rattle.m2_weave.specs.Laws.{RuleDecides}
 
@@ -38,7 +40,7 @@ read-sound e t p (x ∷ xs) h (suc i) l =
 if-same : (x : ℕ) (f : Unfit) (r : Option Unfit) → (if x == x then r else Some f) ≡ r
 if-same x f r = let e : (x == x) ≡ true = grind (arith, nat_tests) in ap (λ b. if b then r else Some f) e
 
-read-complete : (e : EndOf) (t : ℕ → Option ℕ) (p : ℕ) (xs : List ℕ) → AreThere t p xs → is_none (first_unfit e t p xs) ≡ true
+pub read-complete : (e : EndOf) (t : ℕ → Option ℕ) (p : ℕ) (xs : List ℕ) → AreThere t p xs → is_none (first_unfit e t p xs) ≡ true
 read-complete e t p [] h = refl
 read-complete e t p (x ∷ xs) h =
     let here : p ≡ p + 0 = omega arith in
@@ -62,21 +64,21 @@ most a b e = grind (arith, nat_tests)
 is-most : (a b : ℕ) → a ≤ b → nat_le a b ≡ true
 is-most a b e = grind (arith, nat_tests)
 
-sound : (w : Woven) (at : Cut) (s : Strand) (n : ℕ) (i : StrandItem) → comes w at s n (Some i) ≡ true → MayCome w at s n i
-sound w at s n (noted (entry.Read k count)) h =
+sound : (w : Woven) (at : Cut) (s : StrandNow) (n : ℕ) (i : StrandItem) → comes w at s n (Some i) ≡ true → MayCome w at s n i
+sound w at s n (Noted (entry.Read k count)) h =
     read-sound (end_in s k) (byte_at w at (other (end_in s k))) (place_of w.strands s n k) _ h
-sound w at s n (noted (entry.Judged k ask number answer)) h = below (total (judged_by k) (take n s.items)) (handed_at w.strands at k) h
-sound w at s n (noted (entry.Wrote k count)) h = most (total (handed_by k) (take n s.items)) (judged_at w.strands at k) h
-sound w at s n (noted _) h = tt
-sound w at s n (handed k) h = tt
+sound w at s n (Noted (entry.Judged k ask number answer)) h = below (total (judged_by k) (take n s.items)) (handed_at w.strands at k) h
+sound w at s n (Noted (entry.Wrote k count)) h = most (total (handed_by k) (take n s.items)) (judged_at w.strands at k) h
+sound w at s n (Noted _) h = tt
+sound w at s n (Handed k) h = tt
 
-complete : (w : Woven) (at : Cut) (s : Strand) (n : ℕ) (i : StrandItem) → MayCome w at s n i → comes w at s n (Some i) ≡ true
-complete w at s n (noted (entry.Read k count)) h =
+complete : (w : Woven) (at : Cut) (s : StrandNow) (n : ℕ) (i : StrandItem) → MayCome w at s n i → comes w at s n (Some i) ≡ true
+complete w at s n (Noted (entry.Read k count)) h =
     read-complete (end_in s k) (byte_at w at (other (end_in s k))) (place_of w.strands s n k) _ h
-complete w at s n (noted (entry.Judged k ask number answer)) h = is-below (total (judged_by k) (take n s.items)) (handed_at w.strands at k) h
-complete w at s n (noted (entry.Wrote k count)) h = is-most (total (handed_by k) (take n s.items)) (judged_at w.strands at k) h
-complete w at s n (noted _) h = refl
-complete w at s n (handed k) h = refl
+complete w at s n (Noted (entry.Judged k ask number answer)) h = is-below (total (judged_by k) (take n s.items)) (handed_at w.strands at k) h
+complete w at s n (Noted (entry.Wrote k count)) h = is-most (total (handed_by k) (take n s.items)) (judged_at w.strands at k) h
+complete w at s n (Noted _) h = refl
+complete w at s n (Handed k) h = refl
 
 pub decides : RuleDecides
 decides = record { sound = sound; complete = complete }

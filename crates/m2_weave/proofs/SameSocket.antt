@@ -1,5 +1,5 @@
 -- One name is one socket.
-use Rattle.std.proofs.Common.{◌≡◌, Bool, true, false, refl, eqb-true}
+use Rattle.std.proofs.Common.{◌≡◌, Bool, true, false, refl, eqb-true, eq-eqb}
 use Rattle.std.specs.Prelude.{◌==◌, ◌&&◌}
 use Rattle.m2_fabric.specs.declared.socket.SocketId.{SocketId}
 use Rattle.m2_fabric.specs.Sockets.{same_socket}
@@ -19,3 +19,6 @@ one_socket a b h =
     let three = both (ip && port) to_ip four.0 in
     let two = both ip port three.0 in
     rw (eqb-true a.from_ip b.from_ip two.0, eqb-true a.from_port b.from_port two.1, eqb-true a.to_ip b.to_ip three.1, eqb-true a.to_port b.to_port four.1, eqb-true a.turn b.turn five.1) refl
+
+pub same_refl : (k : SocketId) → same_socket k k ≡ true
+same_refl k = rw (eq-eqb k.from_ip k.from_ip refl, eq-eqb k.from_port k.from_port refl, eq-eqb k.to_ip k.to_ip refl, eq-eqb k.to_port k.to_port refl, eq-eqb k.turn k.turn refl) refl

@@ -7,7 +7,9 @@ use Rattle.m2_journal.specs.declared.entry.Entry.TheVariants as entry
 use Rattle.m2_merge.specs.Order.{Cut, AtMost}
 use Rattle.m2_weave.specs.declared.unfit.Unfit.{Unfit}
 use Rattle.m2_weave.specs.declared.unfit.Why.TheVariants.{Differs}
-use Rattle.m2_weave.specs.Strands.{EndOf, Strand, StrandItem, noted, handed, other, end_in, total, total_at, written_in, written_at, handed_by, handed_at, judged_by, judged_at, place_of}
+use Rattle.m2_weave.specs.declared.strand.StrandItem.{StrandItem}
+use Rattle.m2_weave.specs.declared.strand.StrandItem.TheVariants.{Noted, Handed}
+use Rattle.m2_weave.specs.Strands.{EndOf, StrandNow, other, end_in, total, total_at, written_in, written_at, handed_by, handed_at, judged_by, judged_at, place_of}
 use Rattle.m2_weave.specs.Rule.{Woven, byte_at, unfit, unfit_byte, first_unfit, comes, strand_at}
 use Rattle.m2_weave.specs.Laws.{RuleStaysMet}
 
@@ -20,7 +22,7 @@ total-rises f (suc m) (suc n) [] h = omega arith
 total-rises f (suc m) (suc n) (i ∷ is) h =
     let r : total f (take m is) ≤ total f (take n is) = total-rises f m n is (omega (arith, h)) in omega arith
 
-pub total-at-rises : (f : Strand → StrandItem → ℕ) (ss : List Strand) (a b : Cut) → AtMost a b → total_at f ss a ≤ total_at f ss b
+pub total-at-rises : (f : StrandNow → StrandItem → ℕ) (ss : List StrandNow) (a b : Cut) → AtMost a b → total_at f ss a ≤ total_at f ss b
 total-at-rises f [] a b most = omega arith
 total-at-rises f (s ∷ ss) [] b most = omega arith
 total-at-rises f (s ∷ ss) (m ∷ a) [] most = absurd (omega (arith, most.count))
@@ -71,18 +73,18 @@ more-below a b c h e = grind (arith, nat_tests)
 more-least : (a b c : ℕ) → b ≤ c → nat_le a b ≡ true → nat_le a c ≡ true
 more-least a b c h e = grind (arith, nat_tests)
 
-comes-stays : (w : Woven) (a b : Cut) (s : Strand) (n : ℕ) (i : Option StrandItem) → AtMost a b → comes w a s n i ≡ true → comes w b s n i ≡ true
-comes-stays w a b s n (Some (noted (entry.Read k count))) most h =
+comes-stays : (w : Woven) (a b : Cut) (s : StrandNow) (n : ℕ) (i : Option StrandItem) → AtMost a b → comes w a s n i ≡ true → comes w b s n i ≡ true
+comes-stays w a b s n (Some (Noted (entry.Read k count))) most h =
     unfit-stays (end_in s k) (byte_at w a (other (end_in s k))) (byte_at w b (other (end_in s k)))
     (λ p y. byte-stays w a b (other (end_in s k)) p y most) (place_of w.strands s n k) _ h
-comes-stays w a b s n (Some (noted (entry.Judged k ask number answer))) most h =
+comes-stays w a b s n (Some (Noted (entry.Judged k ask number answer))) most h =
     more-below (total (judged_by k) (take n s.items)) (handed_at w.strands a k) (handed_at w.strands b k)
     (total-at-rises (λ s i. handed_by k i) w.strands a b most) h
-comes-stays w a b s n (Some (noted (entry.Wrote k count))) most h =
+comes-stays w a b s n (Some (Noted (entry.Wrote k count))) most h =
     more-least (total (handed_by k) (take n s.items)) (judged_at w.strands a k) (judged_at w.strands b k)
     (total-at-rises (λ s i. judged_by k i) w.strands a b most) h
-comes-stays w a b s n (Some (noted _)) most h = refl
-comes-stays w a b s n (Some (handed k)) most h = refl
+comes-stays w a b s n (Some (Noted _)) most h = refl
+comes-stays w a b s n (Some (Handed k)) most h = refl
 comes-stays w a b s n None most h = h
 
 pub stays_met : RuleStaysMet

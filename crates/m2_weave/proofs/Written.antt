@@ -8,7 +8,9 @@ use Rattle.m2_fabric.specs.declared.socket.SocketId.{SocketId}
 use Rattle.m2_fabric.specs.Sockets.{same_socket}
 use Rattle.m2_journal.specs.declared.entry.Entry.TheVariants as entry
 use Rattle.m2_merge.specs.Order.{Cut, AtMost, AreLawful, come, come_all, nothing}
-use Rattle.m2_weave.specs.Strands.{Strand, StrandItem, noted, handed, other, end_in, read_by, total, place_of}
+use Rattle.m2_weave.specs.declared.strand.StrandItem.{StrandItem}
+use Rattle.m2_weave.specs.declared.strand.StrandItem.TheVariants.{Noted, Handed}
+use Rattle.m2_weave.specs.Strands.{StrandNow, other, end_in, read_by, total, place_of}
 use Rattle.m2_weave.specs.Rule.{Woven, byte_at, by_bytes, comes, strand_at}
 use Rattle.m2_weave.specs.Stops.{sizes}
 use Rattle.m2_weave.specs.Laws.{IsRead, ReadWasWritten}
@@ -64,7 +66,7 @@ zero-at (n ∷ all) (suc k) = zero-at all k
 
 -- ---- one read
 
-read-here : (w : Woven) (at : Cut) (s : Strand) (n : ℕ) (k : SocketId) (count p : ℕ) → comes w at s n (Some (noted (entry.Read k count))) ≡ true →
+read-here : (w : Woven) (at : Cut) (s : StrandNow) (n : ℕ) (k : SocketId) (count p : ℕ) → comes w at s n (Some (Noted (entry.Read k count))) ≡ true →
     place_of w.strands s n k ≤ p → p < place_of w.strands s n k + count → p < length (w.bytes.got (end_in s k)) →
     byte_at w at (other (end_in s k)) p ≡ slice_get (w.bytes.got (end_in s k)) p
 read-here w at s n k count p h low high within =
@@ -79,20 +81,20 @@ read-here w at s n k count p h low high within =
     ap there (sym same) ∙ read ∙ get-take count (p - from) (drop from got) short ∙ get-drop from (p - from) got ∙ ap (slice_get got) same
 
 -- of a read on this socket or another
-read-if : (w : Woven) (at : Cut) (s : Strand) (n : ℕ) (k x : SocketId) (count p : ℕ) (b : Bool) → same_socket k x ≡ b →
-    comes w at s n (Some (noted (entry.Read x count))) ≡ true → place_of w.strands s n k ≤ p →
+read-if : (w : Woven) (at : Cut) (s : StrandNow) (n : ℕ) (k x : SocketId) (count p : ℕ) (b : Bool) → same_socket k x ≡ b →
+    comes w at s n (Some (Noted (entry.Read x count))) ≡ true → place_of w.strands s n k ≤ p →
     p < place_of w.strands s n k + (if b then count else 0) → p < length (w.bytes.got (end_in s k)) →
     byte_at w at (other (end_in s k)) p ≡ slice_get (w.bytes.got (end_in s k)) p
 read-if w at s n k x count p true is h low high within =
-    read-here w at s n k count p (subst (λ y. comes w at s n (Some (noted (entry.Read y count))) ≡ true) (sym (one_socket k x is)) h) low high within
+    read-here w at s n k count p (subst (λ y. comes w at s n (Some (Noted (entry.Read y count))) ≡ true) (sym (one_socket k x is)) h) low high within
 read-if w at s n k x count p false is h low high within = absurd (omega (arith, low, high))
 
-item-here : (w : Woven) (at : Cut) (s : Strand) (n : ℕ) (k : SocketId) (p : ℕ) (i : StrandItem) → comes w at s n (Some i) ≡ true →
+item-here : (w : Woven) (at : Cut) (s : StrandNow) (n : ℕ) (k : SocketId) (p : ℕ) (i : StrandItem) → comes w at s n (Some i) ≡ true →
     place_of w.strands s n k ≤ p → p < place_of w.strands s n k + read_by k i → p < length (w.bytes.got (end_in s k)) →
     byte_at w at (other (end_in s k)) p ≡ slice_get (w.bytes.got (end_in s k)) p
-item-here w at s n k p (noted (entry.Read x count)) h low high within = read-if w at s n k x count p (same_socket k x) refl h low high within
-item-here w at s n k p (noted _) h low high within = absurd (omega (arith, low, high))
-item-here w at s n k p (handed _) h low high within = absurd (omega (arith, low, high))
+item-here w at s n k p (Noted (entry.Read x count)) h low high within = read-if w at s n k x count p (same_socket k x) refl h low high within
+item-here w at s n k p (Noted _) h low high within = absurd (omega (arith, low, high))
+item-here w at s n k p (Handed _) h low high within = absurd (omega (arith, low, high))
 
 -- ---- one more item of a strand
 
@@ -103,13 +105,13 @@ either (suc p) zero = inr (omega arith)
 either (suc p) (suc m) = elim (either p m) [ inl h ↦ inl (omega (arith, h)) | inr h ↦ inr (omega (arith, h)) ]
 
 -- what was read stays written
-read-stays : (w : Woven) (at to : Cut) (s : Strand) (n : ℕ) → AtMost at to → IsRead w at s n → IsRead w to s n
+read-stays : (w : Woven) (at to : Cut) (s : StrandNow) (n : ℕ) → AtMost at to → IsRead w at s n → IsRead w to s n
 read-stays w at to s n most r k p low high within =
     let got = w.bytes.got (end_in s k) in
     let is : slice_get got p ≡ Some (slice_index got p) = slice_get-get_or got p 0 within in
     byte-stays w at to (other (end_in s k)) p (slice_index got p) most (r k p low high within ∙ is) ∙ sym is
 
-own-read : (w : Woven) (at to : Cut) (s : Strand) (n : ℕ) (i : Option StrandItem) → slice_get s.items n ≡ i → comes w at s n i ≡ true → AtMost at to →
+own-read : (w : Woven) (at to : Cut) (s : StrandNow) (n : ℕ) (i : Option StrandItem) → slice_get s.items n ≡ i → comes w at s n i ≡ true → AtMost at to →
     IsRead w at s n → IsRead w to s (n + 1)
 own-read w at to s n None is h most r k p low high within = absurd (cc)
 own-read w at to s n (Some i) is h most r k p low high within =

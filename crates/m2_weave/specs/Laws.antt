@@ -5,8 +5,11 @@ use Rattle.m2_merge.specs.Order.{Cut, StaysMet, AreLawful, nothing, reached}
 use Rattle.m2_weave.specs.declared.unfit.Unfit.{Unfit}
 use Rattle.m2_weave.specs.declared.unfit.Why.{Why}
 use Rattle.m2_weave.specs.declared.unfit.Why.TheVariants.{Beyond, Differs}
-use Rattle.m2_weave.specs.Strands.{EndOf, Strand, StrandItem, other, end_in, begun_at, place_of}
+use Rattle.m2_weave.specs.declared.strand.StrandItem.{StrandItem}
+use Rattle.m2_weave.specs.Strands.{EndOf, StrandNow, other, end_in, begun_at, place_of}
 use Rattle.m2_weave.specs.Rule.{Woven, MayCome, byte_at, by_bytes, comes, first_unfit, strand_at}
+use Rattle.m2_merge.specs.Counted.{by_counters, lengths}
+use Rattle.m2_weave.specs.Counting.{AreNamed, counted}
 use Rattle.m2_weave.specs.Stops.{IsWoven, StopsAt, sizes}
 
 -- what may come may still come later, while other strands go on
@@ -15,8 +18,8 @@ RuleStaysMet = (w : Woven) → StaysMet (by_bytes w)
 
 -- the rule says of each item whether it may come
 pub record RuleDecides : Type 0 where
-  pub sound : (w : Woven) (at : Cut) (s : Strand) (n : ℕ) (i : StrandItem) → comes w at s n (Some i) ≡ true → MayCome w at s n i
-  pub complete : (w : Woven) (at : Cut) (s : Strand) (n : ℕ) (i : StrandItem) → MayCome w at s n i → comes w at s n (Some i) ≡ true
+  pub sound : (w : Woven) (at : Cut) (s : StrandNow) (n : ℕ) (i : StrandItem) → comes w at s n (Some i) ≡ true → MayCome w at s n i
+  pub complete : (w : Woven) (at : Cut) (s : StrandNow) (n : ℕ) (i : StrandItem) → MayCome w at s n i → comes w at s n (Some i) ≡ true
 
 -- where a greedy order stops before the end, there is no order
 abbrev pub StopIsNoOrder : Type 0
@@ -45,7 +48,7 @@ UnfitIsTheFirst = (e : EndOf) (there : ℕ → Option ℕ) (from : ℕ) (bytes :
 
 -- Each byte that a strand has read on a socket in its first items, as far as the end's log has it, is the one that the other
 -- end has written at its place by then.
-abbrev pub IsRead : Woven → Cut → Strand → ℕ → Type 0
+abbrev pub IsRead : Woven → Cut → StrandNow → ℕ → Type 0
 IsRead w at s n = (k : SocketId) (p : ℕ) → begun_at w.strands s k ≤ p → p < place_of w.strands s n k → p < length (w.bytes.got (end_in s k)) →
     byte_at w at (other (end_in s k)) p ≡ slice_get (w.bytes.got (end_in s k)) p
 
@@ -53,3 +56,10 @@ IsRead w at s n = (k : SocketId) (p : ℕ) → begun_at w.strands s k ≤ p → 
 abbrev pub ReadWasWritten : Type 0
 ReadWasWritten = (w : Woven) (order : List ℕ) → AreLawful (by_bytes w) (sizes w) (nothing (sizes w)) order →
     (j : ℕ) → IsRead w (reached (sizes w) order) (strand_at w j) (slice_index (reached (sizes w) order) j)
+
+-- ---- the rule by counters
+
+-- Where each socket has a name, counters say the same as the bytes; and the strands have as many entries.
+pub record CountersDecide : Type 0 where
+  pub rule : (names : List SocketId) (w : Woven) → AreNamed names w → (at : Cut) (k : ℕ) → by_counters (counted names w) at k ≡ by_bytes w at k
+  pub sizes : (names : List SocketId) (w : Woven) → lengths (counted names w) ≡ sizes w

@@ -1,4 +1,5 @@
 pub mod Strands
 pub mod Rule
 pub mod Stops
+pub mod Counting
 pub mod Laws

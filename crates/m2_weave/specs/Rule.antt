@@ -7,11 +7,13 @@ use Rattle.m2_merge.specs.Order.{Cut, Rule}
 use Rattle.m2_weave.specs.declared.unfit.Unfit.{Unfit}
 use Rattle.m2_weave.specs.declared.unfit.Why.{Why}
 use Rattle.m2_weave.specs.declared.unfit.Why.TheVariants.{Beyond, Differs}
-use Rattle.m2_weave.specs.Strands.{EndOf, Bytes, Strand, StrandItem, noted, other, end_in, handed_by, judged_by, total, written_at, handed_at, judged_at, place_of}
+use Rattle.m2_weave.specs.declared.strand.StrandItem.{StrandItem}
+use Rattle.m2_weave.specs.declared.strand.StrandItem.TheVariants.{Noted}
+use Rattle.m2_weave.specs.Strands.{EndOf, Bytes, StrandNow, other, end_in, handed_by, judged_by, total, written_at, handed_at, judged_at, place_of}
 
 -- what is woven
 pub record Woven : Type 0 where
-  pub strands : List Strand
+  pub strands : List StrandNow
   pub bytes : Bytes
 
 -- ---- what is read
@@ -34,7 +36,7 @@ first_unfit e there place [] = None
 first_unfit e there place (got ∷ bytes) = unfit_byte e place got (there place) (first_unfit e there (place + 1) bytes)
 
 -- what is wrong with the bytes that a strand reads next, so many on a socket, after so many items
-abbrev pub unfit_read : Woven → Cut → Strand → ℕ → SocketId → (count : ℕ) → Option Unfit
+abbrev pub unfit_read : Woven → Cut → StrandNow → ℕ → SocketId → (count : ℕ) → Option Unfit
 unfit_read w at s n k count =
     first_unfit (end_in s k) (byte_at w at (other (end_in s k))) (place_of w.strands s n k)
     (take count (drop (place_of w.strands s n k) (w.bytes.got (end_in s k))))
@@ -43,17 +45,17 @@ unfit_read w at s n k count =
 
 -- A read: its bytes are those that the other end has written there by then. A judgement, the n-th of its socket: the half
 -- has handed on n asks. What a half writes: all asks that it has handed on before are judged. All else at any time.
-abbrev pub comes : Woven → Cut → Strand → ℕ → Option StrandItem → Bool
-comes w at s n (Some (noted (entry.Read k count))) = is_none (unfit_read w at s n k count)
-comes w at s n (Some (noted (entry.Judged k ask number answer))) = nat_lt (total (judged_by k) (take n s.items)) (handed_at w.strands at k)
-comes w at s n (Some (noted (entry.Wrote k count))) = nat_le (total (handed_by k) (take n s.items)) (judged_at w.strands at k)
+abbrev pub comes : Woven → Cut → StrandNow → ℕ → Option StrandItem → Bool
+comes w at s n (Some (Noted (entry.Read k count))) = is_none (unfit_read w at s n k count)
+comes w at s n (Some (Noted (entry.Judged k ask number answer))) = nat_lt (total (judged_by k) (take n s.items)) (handed_at w.strands at k)
+comes w at s n (Some (Noted (entry.Wrote k count))) = nat_le (total (handed_by k) (take n s.items)) (judged_at w.strands at k)
 comes w at s n (Some _) = true
 comes w at s n None = false
 
-abbrev pub nothing_at_all : Strand
+abbrev pub nothing_at_all : StrandNow
 nothing_at_all = record { of_half = false; items = [] }
 
-abbrev pub strand_at : Woven → ℕ → Strand
+abbrev pub strand_at : Woven → ℕ → StrandNow
 strand_at w k = slice_index_or w.strands k nothing_at_all
 
 abbrev pub by_bytes : Woven → Rule
@@ -65,10 +67,10 @@ by_bytes w at k = comes w at (strand_at w k) (slice_index at k) (slice_get (stra
 abbrev pub AreThere : (there : ℕ → Option ℕ) → ℕ → List ℕ → Type 0
 AreThere there place bytes = (i : ℕ) → i < length bytes → there (place + i) ≡ slice_get bytes i
 
-abbrev pub MayCome : Woven → Cut → Strand → ℕ → StrandItem → Type 0
-MayCome w at s n (noted (entry.Read k count)) =
+abbrev pub MayCome : Woven → Cut → StrandNow → ℕ → StrandItem → Type 0
+MayCome w at s n (Noted (entry.Read k count)) =
     AreThere (byte_at w at (other (end_in s k))) (place_of w.strands s n k)
     (take count (drop (place_of w.strands s n k) (w.bytes.got (end_in s k))))
-MayCome w at s n (noted (entry.Judged k ask number answer)) = total (judged_by k) (take n s.items) < handed_at w.strands at k
-MayCome w at s n (noted (entry.Wrote k count)) = total (handed_by k) (take n s.items) ≤ judged_at w.strands at k
+MayCome w at s n (Noted (entry.Judged k ask number answer)) = total (judged_by k) (take n s.items) < handed_at w.strands at k
+MayCome w at s n (Noted (entry.Wrote k count)) = total (handed_by k) (take n s.items) ≤ judged_at w.strands at k
 MayCome w at s n _ = Unit {0}

@@ -32,3 +32,8 @@ pub fn unfit_is_the_first()
 pub fn all_read_was_written()
     ensures { laws.ReadWasWritten }
 {}
+
+/// The rule can be had by counters, four of each socket, so that what an entry waits for is one number.
+pub fn counters_decide()
+    ensures { laws.CountersDecide }
+{}

@@ -12,9 +12,12 @@
 #![tactic(auto)]
 
 mod laws;
+mod strand;
 mod unfit;
 
 pub use laws::{
-    a_stop_is_no_order, all_read_was_written, rule_decides, rule_stays_met, unfit_is_the_first,
+    a_stop_is_no_order, all_read_was_written, counters_decide, rule_decides, rule_stays_met,
+    unfit_is_the_first,
 };
+pub use strand::{Strand, StrandItem};
 pub use unfit::{Unfit, Why};
