@@ -2,4 +2,5 @@ pub mod Strands
 pub mod Rule
 pub mod Stops
 pub mod Counting
+pub mod Table
 pub mod Laws

@@ -13,6 +13,7 @@
 
 mod laws;
 mod strand;
+mod table;
 mod unfit;
 
 pub use laws::{
@@ -20,4 +21,5 @@ pub use laws::{
     unfit_is_the_first,
 };
 pub use strand::{Strand, StrandItem};
+pub use table::{EndBytes, SocketBytes};
 pub use unfit::{Unfit, Why};

@@ -1,0 +1,44 @@
+-- Sockets with the bytes of both ends, as a table; and what is woven by strands and such a table.
+use Rattle.std.specs.Prelude.{◌≡◌, ℕ, ◌+◌, ◌||◌, Bool, true, false, if◌then◌else◌, List, [], ◌∷◌, length, map, take, slice_get, slice_index, slice_index_or, Option, Some, None}
+use Rattle.std.specs.List.{list_any}
+use Rattle.m2_fabric.specs.declared.socket.SocketId.{SocketId}
+use Rattle.m2_fabric.specs.Sockets.{is_among}
+use Rattle.m2_weave.specs.declared.strand.Strand.{Strand}
+use Rattle.m2_weave.specs.declared.strand.StrandItem.{StrandItem}
+use Rattle.m2_weave.specs.declared.table.SocketBytes.{SocketBytes}
+use Rattle.m2_weave.specs.Strands.{Bytes, StrandNow, strand_now, opens, read_by, read_by_halves, total}
+use Rattle.m2_weave.specs.Rule.{Woven}
+use Rattle.m2_weave.specs.Counting.{place_in}
+
+abbrev pub names_of : List SocketBytes → List SocketId
+names_of sockets = map (λ (s : SocketBytes). s.socket) sockets
+
+-- what an end has read, and what it has written: nothing where the socket isn't in the table
+abbrev pub got_at : Option SocketBytes → (opener : Bool) → List ℕ
+got_at (Some s) true = s.opener.got.now
+got_at (Some s) false = s.acceptor.got.now
+got_at None opener = []
+
+abbrev pub put_at : Option SocketBytes → (opener : Bool) → List ℕ
+put_at (Some s) true = s.opener.put.now
+put_at (Some s) false = s.acceptor.put.now
+put_at None opener = []
+
+abbrev pub bytes_of : List SocketBytes → Bytes
+bytes_of sockets = record {
+  got = λ e. got_at (slice_get sockets (place_in (names_of sockets) e.socket)) e.opener;
+  put = λ e. put_at (slice_get sockets (place_in (names_of sockets) e.socket)) e.opener;
+}
+
+abbrev pub woven_of : List Strand → List SocketBytes → Woven
+woven_of strands sockets = record { strands = map strand_now strands; bytes = bytes_of sockets }
+
+-- ---- numbers that are kept of each socket, at its place
+
+-- of each named socket the number is this one
+abbrev pub KeepsNumbers : List SocketId → (SocketId → ℕ) → List ℕ → Type 0
+KeepsNumbers names f numbers = (k : SocketId) → is_among k names ≡ true → slice_index numbers (place_in names k) ≡ f k
+
+-- of each named socket whether the items opened it
+abbrev pub KeepsOpened : List SocketId → List StrandItem → List Bool → Type 0
+KeepsOpened names items flags = (k : SocketId) → is_among k names ≡ true → slice_index_or flags (place_in names k) false ≡ list_any (opens k) items
