@@ -36,7 +36,7 @@ use Rattle.m2_fitting.proofs.Entries.{acceptance_named, posts_less, heeds_less, 
 use Rattle.m2_fitting.proofs.Hands.{ready_apart}
 use Rattle.m2_fitting.proofs.Hears.{NoAskBehind}
 use Rattle.m2_fitting.proofs.Judges.{replies_no_asks, judged_here}
-use Rattle.m2_fitting.proofs.Less.{Less, FeedLess, untouched, less_trans, tells_less, tells_if_less}
+use Rattle.m2_fitting.proofs.Less.{Less, FeedLess, untouched, less_trans, less_top, tells_less, tells_if_less}
 use Rattle.m2_fitting.proofs.Lists.{none_not_some}
 use Rattle.m2_fitting.proofs.Says.{NoAsk}
 
@@ -98,9 +98,6 @@ puts_asks k (Some t) texts d s = at (is_unnamed t.frame) refl
 writes_asks : (f : SideFacts) (k : SocketId) (n : ℕ) (o : Option Content) (s : State) → asks_on k (writes_message f n o s).sent ≡ asks_on k s.sent
 writes_asks f k n None s = refl
 writes_asks f k n (Some m) s = composes_asks f k (out.message n s.last m) s refl
-
-less_top : (e : Event) (s : State) (n : ℕ) → Less s (tells e (record s { top = n }))
-less_top e s n = less_trans s (record s { top = n }) _ (untouched s _ refl refl refl refl) (tells_less e (record s { top = n }))
 
 -- an ask is sent on the feed, in Connecting
 pub record AsksThere (s : State) (k : SocketId) : Type 0 where

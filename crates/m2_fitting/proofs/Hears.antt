@@ -254,7 +254,7 @@ module _ (a b : Side) (h : Known a b) (d : Feed) (fed_is : (state_of a).feed ≡
   opened_heard opened heard = by_sign (is_authed (course_at a.facts got).standing.stage) refl
     where
       closed : is_among d.socket (state_of b).opened ≡ false
-      closed = h.bytes.apart d.socket opened
+      closed = h.apart d.socket opened
 
       by_sign : (t : Bool) → is_authed (course_at a.facts got).standing.stage ≡ t → AreSaid d.got (answers_on d.socket (state_of b).sent)
       by_sign false q = subst (λ is. AreSaid is (answers_on d.socket (state_of b).sent)) (sym (heard.got ∙ heard_got a.facts d.socket got false q)) tt

@@ -1,6 +1,6 @@
 -- What an event of the session leaves of a state: all that was sent, opened and judged, and of the feed nothing, or what of it
 -- concerns bytes.
-use Rattle.std.proofs.Common.{◌≡◌, Bool, true, false, Option, Some, None, refl, ◌∙◌}
+use Rattle.std.proofs.Common.{◌≡◌, ℕ, Bool, true, false, Option, Some, None, refl, ◌∙◌}
 use Rattle.m2_session.specs.declared.event.Effects.{Effects}
 use Rattle.m2_session.specs.declared.event.Event.{Event}
 use Rattle.m2_session.specs.Steps.{step_of}
@@ -104,3 +104,7 @@ tells_less e s =
 pub tells_if_less : (o : Option Event) (s : State) → Less s (tells_if o s)
 tells_if_less (Some e) s = tells_less e s
 tells_if_less None s = same_state s
+
+-- behind a greater number
+pub less_top : (e : Event) (s : State) (n : ℕ) → Less s (tells e (record s { top = n }))
+less_top e s n = less_trans s (record s { top = n }) _ (untouched s _ refl refl refl refl) (tells_less e (record s { top = n }))

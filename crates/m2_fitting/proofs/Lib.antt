@@ -14,6 +14,7 @@ pub mod Moves
 pub mod Judges
 pub mod Hands
 pub mod Entries
+pub mod Growing
 pub mod Points
 pub mod Hears
 pub mod Asking

@@ -1,23 +1,28 @@
 -- An order throughout which bytes fit is one of two journals that fits.
-use Rattle.std.proofs.Common.{◌≡◌, List, [], ◌∷◌, ◌++◌, Option, Some, None, refl, sym, ap, ◌∙◌, subst, append_assoc, append-nil}
+use Rattle.std.proofs.Common.{◌≡◌, Bool, true, false, List, [], ◌∷◌, ◌++◌, Option, Some, None, refl, sym, ap, ◌∙◌, subst, append_assoc, append-nil}
 use Rattle.std.specs.List.{AllByRecursion}
 use Rattle.std.proofs.lemmas.Grind.{flat_map-append}
+use Rattle.m2_fabric.specs.declared.socket.SocketId.{SocketId}
+use Rattle.m2_fabric.specs.Sockets.{goes_to, is_among}
 use Rattle.m2_journal.specs.Items.{JournalItem}
 use Rattle.m2_journal.specs.Lawful.{Lawful}
 use Rattle.m2_journal.specs.Laws.{IfFed}
 use Rattle.m2_journal.specs.Replay.{AreLawful, after_items}
 use Rattle.m2_journal.specs.SideFacts.{SideFacts}
-use Rattle.m2_journal.specs.State.{Feed, State, start}
+use Rattle.m2_journal.specs.State.{Feed, SentFrame, State, start}
 use Rattle.m2_journal.specs.Steps.{after}
 use Rattle.m2_journal.proofs.Growing.{after-append}
 use Rattle.m2_paired.specs.Fits.{Fits}
 use Rattle.m2_paired.specs.Laws.{IsNoDown}
 use Rattle.m2_paired.specs.Orders.{SideItem, near_item, far_item, near_items, far_items, near_after, far_after, FitThroughout, IsHistory, AreNodes, LeadsTo, HistoriesAreRuns, LosslessIsNeverReset}
 use Rattle.m2_paired.specs.Paired.{FeedIsPaired, beside, Paired}
+use Rattle.m2_paired.proofs.Sockets.{differ, at_among}
 use Rattle.m2_fitting.specs.Ends.{Side, state_of}
 use Rattle.m2_fitting.specs.Orders.{Move, near_entry, far_entry, near_half, far_half, entry_in, entries_of, near_side, far_side, IsByteHistory, BytesGiveFits, LosslessBytesAreNeverReset}
 use Rattle.m2_fitting.proofs.Asking.{near_behind, far_behind}
+use Rattle.m2_fitting.specs.Texts.{CanBeSent, CanAllBeSent}
 use Rattle.m2_fitting.proofs.Entries.{FeedSo, entry_keeps}
+use Rattle.m2_fitting.proofs.Growing.{Leads, entry_grows}
 use Rattle.m2_fitting.proofs.Hands.{HandKept, hand_keeps}
 use Rattle.m2_fitting.proofs.Hears.{NoAskBehind, near_hears}
 use Rattle.m2_fitting.proofs.Lists.{all-front, all-back, all-both}
@@ -49,12 +54,45 @@ fits-append f g (far_item i ∷ xs) ys a b h k = (h.0, fits-append f g xs ys a (
 entries-append : (xs ys : List Move) → entries_of (xs ++ ys) ≡ entries_of xs ++ entries_of ys
 entries-append xs ys = flat_map-append entry_in xs ys
 
+-- ---- what was sent and opened
+
+sent_on : (f : SideFacts) (is : List JournalItem) (s : State) → AreLawful f is s → AllByRecursion IsNoDown is → (more : List SentFrame) × ((after_items f is s).sent ≡ s.sent ++ more)
+sent_on f [] s l up = ([], sym (append-nil s.sent))
+sent_on f (i ∷ is) s l up =
+    let one = entry_grows f i s up.0 l.0 in
+    let more = sent_on f is (after f i s) l.1 up.1 in
+    (one.more_sent ++ more.0, more.1 ∙ ap (λ l. l ++ more.0) one.sent ∙ append_assoc s.sent one.more_sent more.0)
+
+-- so what was sent by the first entries can be read, where all can
+sent_before : (f : SideFacts) (is js : List JournalItem) → AreLawful f (is ++ js) (start f) → AllByRecursion IsNoDown (is ++ js) →
+    CanAllBeSent f (after_items f (is ++ js) (start f)).sent → CanAllBeSent f (after_items f is (start f)).sent
+sent_before f is js l up h =
+    let parts = lawful-front f is js (start f) l in
+    let more = sent_on f js (after_items f is (start f)) parts.1 (all-back IsNoDown is js up) in
+    all-front (λ x. CanBeSent f x.frame) (after_items f is (start f)).sent more.0
+    (subst (CanAllBeSent f) (ap (λ s. s.sent) (after-append f is js (start f)) ∙ more.1) h)
+
+leads_on : (f : SideFacts) (i : JournalItem) (s : State) → IsNoDown i → Lawful f i s → AllByRecursion (Leads f) s.opened → AllByRecursion (Leads f) (after f i s).opened
+leads_on f i s up l h =
+    let grows = entry_grows f i s up l in
+    subst (AllByRecursion (Leads f)) (sym grows.opened) (all-both (Leads f) s.opened grows.more_opened h grows.leads)
+
+opened_apart : (f g : SideFacts) (near far : List SocketId) → ((k : SocketId) → goes_to f.peer k ≡ true → goes_to g.peer k ≡ false) →
+    AllByRecursion (Leads f) near → AllByRecursion (Leads g) far → (k : SocketId) → is_among k near ≡ true → is_among k far ≡ false
+opened_apart f g near far peers h l k o = at (is_among k far) refl
+  where
+    at : (t : Bool) → is_among k far ≡ t → is_among k far ≡ false
+    at false e = e
+    at true e = differ (sym (peers k (at_among (Leads f) near k h o)) ∙ at_among (Leads g) far k l e)
+
 -- ---- where the first moves lead
 
 record IsKept (f g : SideFacts) (xs : List SideItem) : Type 0 where
   history : IsHistory f g xs
   near : AllKept f (near_items xs) (near_after f xs)
   far : AllKept g (far_items xs) (far_after g xs)
+  near_leads : AllByRecursion (Leads f) (near_after f xs).opened
+  far_leads : AllByRecursion (Leads g) (far_after g xs).opened
   near_hand : HandKept (near_after f xs)
   far_hand : HandKept (far_after g xs)
   near_behind : NoAskBehind (near_after f xs) (far_after g xs)
@@ -68,6 +106,8 @@ at_start f g = record {
   history = record { near_lawful = tt; far_lawful = tt; near_not_down = tt; far_not_down = tt; fits = tt };
   near = nothing_kept f;
   far = nothing_kept g;
+  near_leads = tt;
+  far_leads = tt;
   near_hand = tt;
   far_hand = tt;
   near_behind = tt;
@@ -91,25 +131,35 @@ fits_so a b h near far = record {
   far_hears = near_hears b a (turn a b h) far;
   near_judges = near_judges a b h;
   far_judges = near_judges b a (turn a b h);
-  opened_apart = h.bytes.apart;
+  opened_apart = h.apart;
 }
 
 module _ (runs : HistoriesAreRuns) (f g : SideFacts) (order : List Move) (nodes : AreNodes f g) (h : IsByteHistory f g order) where
   known : (front back : List Move) → order ≡ front ++ back → AllKept f (near_items (entries_of front)) (near_after f (entries_of front)) → AllKept g (far_items (entries_of front)) (far_after g (entries_of front)) →
-      Known (near_side f front) (far_side g front)
-  known front back e near far = record {
+      AllByRecursion (Leads f) (near_after f (entries_of front)).opened → AllByRecursion (Leads g) (far_after g (entries_of front)).opened → Known (near_side f front) (far_side g front)
+  known front back e near far near_leads far_leads = record {
     near_kept = near;
     far_kept = far;
     bytes = h.bytes front back e;
-    near_sent = (h.readable front back e).near;
-    far_sent = (h.readable front back e).far;
+    apart = opened_apart f g (near_after f (entries_of front)).opened (far_after g (entries_of front)).opened h.peers near_leads far_leads;
+    near_sent = sent_before f (near_items (entries_of front)) (near_items (entries_of back)) (subst (λ is. AreLawful f is (start f)) near_all h.near_lawful) (subst (AllByRecursion IsNoDown) near_all h.near_not_down)
+        (subst (λ is. CanAllBeSent f (after_items f is (start f)).sent) near_all h.readable.near);
+    far_sent = sent_before g (far_items (entries_of front)) (far_items (entries_of back)) (subst (λ is. AreLawful g is (start g)) far_all h.far_lawful) (subst (AllByRecursion IsNoDown) far_all h.far_not_down)
+        (subst (λ is. CanAllBeSent g (after_items g is (start g)).sent) far_all h.readable.far);
     near_named = h.near_named;
     far_named = h.far_named;
   }
+    where
+      near_all : near_items (entries_of order) ≡ near_items (entries_of front) ++ near_items (entries_of back)
+      near_all = ap (λ l. near_items (entries_of l)) e ∙ ap near_items (entries-append front back) ∙ near-append (entries_of front) (entries_of back)
+
+      far_all : far_items (entries_of order) ≡ far_items (entries_of front) ++ far_items (entries_of back)
+      far_all = ap (λ l. far_items (entries_of l)) e ∙ ap far_items (entries-append front back) ∙ far-append (entries_of front) (entries_of back)
 
   near_step : (front back : List Move) (i : JournalItem) → order ≡ (front ++ near_entry i ∷ []) ++ back → IsKept f g (entries_of front) → IsKept f g (entries_of (front ++ near_entry i ∷ []))
   near_step front back i e old =
-      let known_now = known now back e (subst₂ (λ is s. AllKept f is s) (sym near_list) (sym near_state) near_kept) (subst₂ (λ is s. AllKept g is s) (sym far_list) (sym far_state) old.far) in
+      let known_now = known now back e (subst₂ (λ is s. AllKept f is s) (sym near_list) (sym near_state) near_kept) (subst₂ (λ is s. AllKept g is s) (sym far_list) (sym far_state) old.far)
+      (subst (λ s. AllByRecursion (Leads f) s.opened) (sym near_state) leads_now) (subst (λ s. AllByRecursion (Leads g) s.opened) (sym far_state) old.far_leads) in
       let fits = subst₂ Fits near_state far_state
       (fits_so (near_side f now) (far_side g now) known_now
       (subst₂ NoAskBehind (sym near_state) (sym far_state) near_now)
@@ -124,6 +174,8 @@ module _ (runs : HistoriesAreRuns) (f g : SideFacts) (order : List Move) (nodes 
         };
         near = subst₂ (λ is s. AllKept f is s) (sym list_near) (sym state_near) near_kept;
         far = subst₂ (λ is s. AllKept g is s) (sym list_far) (sym state_far) old.far;
+        near_leads = subst (λ s. AllByRecursion (Leads f) s.opened) (sym state_near) leads_now;
+        far_leads = subst (λ s. AllByRecursion (Leads g) s.opened) (sym state_far) old.far_leads;
         near_hand = subst HandKept (sym state_near) (hand_keeps f i a up lawful old.near_hand);
         far_hand = subst HandKept (sym state_far) old.far_hand;
         near_behind = subst₂ NoAskBehind (sym state_near) (sym state_far) near_now;
@@ -189,6 +241,9 @@ module _ (runs : HistoriesAreRuns) (f g : SideFacts) (order : List Move) (nodes 
       leads : LeadsTo f g xs
       leads = runs f g xs nodes.near_keeps nodes.far_keeps old.history
 
+      leads_now : AllByRecursion (Leads f) (after f i a).opened
+      leads_now = leads_on f i a up lawful old.near_leads
+
       near_kept : AllKept f (near_items xs ++ i ∷ []) (after f i a)
       near_kept = entry_keeps f (near_items xs) i a up lawful old.near_hand (feed_so a b leads.paired.near.feed) old.near
 
@@ -200,7 +255,8 @@ module _ (runs : HistoriesAreRuns) (f g : SideFacts) (order : List Move) (nodes 
 
   far_step : (front back : List Move) (i : JournalItem) → order ≡ (front ++ far_entry i ∷ []) ++ back → IsKept f g (entries_of front) → IsKept f g (entries_of (front ++ far_entry i ∷ []))
   far_step front back i e old =
-      let known_now = known now back e (subst₂ (λ is s. AllKept f is s) (sym near_list) (sym near_state) old.near) (subst₂ (λ is s. AllKept g is s) (sym far_list) (sym far_state) far_kept) in
+      let known_now = known now back e (subst₂ (λ is s. AllKept f is s) (sym near_list) (sym near_state) old.near) (subst₂ (λ is s. AllKept g is s) (sym far_list) (sym far_state) far_kept)
+      (subst (λ s. AllByRecursion (Leads f) s.opened) (sym near_state) old.near_leads) (subst (λ s. AllByRecursion (Leads g) s.opened) (sym far_state) leads_now) in
       let fits = subst₂ Fits near_state far_state
       (fits_so (near_side f now) (far_side g now) known_now
       (subst₂ NoAskBehind (sym near_state) (sym far_state) near_now)
@@ -215,6 +271,8 @@ module _ (runs : HistoriesAreRuns) (f g : SideFacts) (order : List Move) (nodes 
         };
         near = subst₂ (λ is s. AllKept f is s) (sym list_near) (sym state_near) old.near;
         far = subst₂ (λ is s. AllKept g is s) (sym list_far) (sym state_far) far_kept;
+        near_leads = subst (λ s. AllByRecursion (Leads f) s.opened) (sym state_near) old.near_leads;
+        far_leads = subst (λ s. AllByRecursion (Leads g) s.opened) (sym state_far) leads_now;
         near_hand = subst HandKept (sym state_near) old.near_hand;
         far_hand = subst HandKept (sym state_far) (hand_keeps g i b up lawful old.far_hand);
         near_behind = subst₂ NoAskBehind (sym state_near) (sym state_far) near_now;
@@ -279,6 +337,9 @@ module _ (runs : HistoriesAreRuns) (f g : SideFacts) (order : List Move) (nodes 
 
       leads : LeadsTo f g xs
       leads = runs f g xs nodes.near_keeps nodes.far_keeps old.history
+
+      leads_now : AllByRecursion (Leads g) (after g i b).opened
+      leads_now = leads_on g i b up lawful old.far_leads
 
       far_kept : AllKept g (far_items xs ++ i ∷ []) (after g i b)
       far_kept = entry_keeps g (far_items xs) i b up lawful old.far_hand (feed_so b a leads.paired.far.feed) old.far

@@ -41,6 +41,8 @@ pub record Known (a b : Side) : Type 0 where
   pub near_kept : AllKept a.facts a.entries (state_of a)
   pub far_kept : AllKept b.facts b.entries (state_of b)
   pub bytes : BytesFit a b
+  -- no socket is opened by both
+  pub apart : (k : SocketId) → is_among k (state_of a).opened ≡ true → is_among k (state_of b).opened ≡ false
   pub near_sent : CanAllBeSent a.facts (state_of a).sent
   pub far_sent : CanAllBeSent b.facts (state_of b).sent
   pub near_named : IsNamed a.facts
@@ -53,25 +55,25 @@ bytes_turn a b h = record {
   strange = λ k p q. let s = h.strange k q p in (s.1, s.0);
   near_names = h.far_names;
   far_names = h.near_names;
-  apart = λ k p. far_apart k p (is_among k (state_of a).opened) refl;
   near_halves = h.far_halves;
   far_halves = h.near_halves;
 }
-  where
-    far_apart : (k : SocketId) → is_among k (state_of b).opened ≡ true → (t : Bool) → is_among k (state_of a).opened ≡ t → is_among k (state_of a).opened ≡ false
-    far_apart k p true e = differ (sym (h.apart k e) ∙ p)
-    far_apart k p false e = e
 
 pub turn : (a b : Side) → Known a b → Known b a
 turn a b h = record {
   near_kept = h.far_kept;
   far_kept = h.near_kept;
   bytes = bytes_turn a b h.bytes;
+  apart = λ k p. far_apart k p (is_among k (state_of a).opened) refl;
   near_sent = h.far_sent;
   far_sent = h.near_sent;
   near_named = h.far_named;
   far_named = h.near_named;
 }
+  where
+    far_apart : (k : SocketId) → is_among k (state_of b).opened ≡ true → (t : Bool) → is_among k (state_of a).opened ≡ t → is_among k (state_of a).opened ≡ false
+    far_apart k p true e = differ (sym (h.apart k e) ∙ p)
+    far_apart k p false e = e
 
 -- ---- the frames of a socket
 

@@ -5,8 +5,10 @@ use Rattle.std.specs.List.{flat_map, filter_map}
 use Rattle.m2_fabric.specs.declared.socket.SocketId.{SocketId}
 use Rattle.m2_fabric.specs.Sockets.{same_socket}
 use Rattle.m2_session.specs.Laws.{takes}
+use Rattle.m2_journal.specs.declared.entry.JudgedItem.{JudgedItem}
 use Rattle.m2_journal.specs.Items as item
 use Rattle.m2_journal.specs.Items.{JournalItem}
+use Rattle.m2_journal.specs.Lawful.{judged_on}
 use Rattle.m2_journal.specs.Replay.{after_items}
 use Rattle.m2_journal.specs.SideFacts.{SideFacts}
 use Rattle.m2_journal.specs.State.{State, start}
@@ -25,6 +27,10 @@ pub record Side : Type 0 where
 -- where its journal leads
 abbrev pub state_of : Side → State
 state_of a = after_items a.facts a.entries (start a.facts)
+
+-- what its record has judged on a socket so far
+abbrev pub judged_at : Side → SocketId → List JudgedItem
+judged_at a k = judged_on k (state_of a).judgements
 
 -- ---- the bytes of a journal's entries on a socket
 

@@ -10,12 +10,11 @@ use Rattle.m2_handshake.specs.Course.{Exchange, Reaches}
 use Rattle.m2_handshake.specs.Laws.{IsPrefix}
 use Rattle.m2_handshake.specs.Standing.{Standing, acceptor_at_start}
 use Rattle.m2_journal.specs.declared.entry.JudgedItem.{JudgedItem}
-use Rattle.m2_journal.specs.Lawful.{judged_on}
 use Rattle.m2_journal.specs.SideFacts.{SideFacts}
 use Rattle.m2_trail.specs.Asks.{facts_of_ask}
 use Rattle.m2_trail.specs.Replies.{replies_to, all_replies}
 use Rattle.m2_trail.specs.Trails.{opener_of, ComesToAsk, ComesToWrite}
-use Rattle.m2_fitting.specs.Ends.{Half, Side, state_of, takings_on, got_at, put_at}
+use Rattle.m2_fitting.specs.Ends.{Half, Side, state_of, judged_at, takings_on, got_at, put_at}
 
 -- ---- a half
 
@@ -43,32 +42,33 @@ pub record IsNamed (f : SideFacts) : Type 0 where
 
 -- A side's half on a socket, beside what its record has judged there so far.
 pub record HalfFits (a : Side) (k : SocketId) : Type 0 where
-  -- what it names itself by
-  pub entity : ℕ
-  pub entity_fits : entity < 2 ^ 8
   -- the side that opened a socket has no half there
   pub opened : is_among k (state_of a).opened ≡ true → ((a.halves k).got ≡ []) × ((a.halves k).put ≡ [])
-  -- the n-th ask was read before it was judged
+  -- what the half names itself by, and the features for which it refused an ident
+  pub entity : ℕ
+  pub entity_fits : entity < 2 ^ 8
   pub refused : Option ℕ
   pub refused_fits : IfSome refused (λ bits. bits < 2 ^ 64)
-  pub asks : ComesToAsk (begins entity k) (a.halves k).got (all_replies (judged_on k (state_of a).judgements) refused) (judged_on k (state_of a).judgements)
-  -- the n-th answer was judged before it was written, and behind all answers stands at most one refusal
+  -- the asks that were judged are the first in what it has read: each was read before it was judged
+  pub asks : ComesToAsk (begins entity k) (a.halves k).got (all_replies (judged_at a k) refused) (judged_at a k)
+  -- what it has written is the front of what it writes by that and by the replies to these asks: each was judged before its
+  -- answer was written
   pub writes : takings_on k a.entries ≡ [] →
-      ComesToWrite (begins entity k) (a.halves k).got (all_replies (judged_on k (state_of a).judgements) refused) (a.halves k).put
-  pub taken : AllByRecursion (IsTaken (begins entity k) (a.halves k) (judged_on k (state_of a).judgements)) (takings_on k a.entries)
+      ComesToWrite (begins entity k) (a.halves k).got (all_replies (judged_at a k) refused) (a.halves k).put
+  pub taken : AllByRecursion (IsTaken (begins entity k) (a.halves k) (judged_at a k)) (takings_on k a.entries)
 
 -- ---- both sides
 
+-- At a point of an order. On each socket there are two ends: the opener's, and that of a half and of the record that took it.
 pub record BytesFit (a b : Side) : Type 0 where
-  -- what each end has got, the other end had put
+  -- what each end has got, the other end had put: each byte was written before it was read
   pub near_got : (k : SocketId) → IsPrefix (got_at a k) (put_at b k)
   pub far_got : (k : SocketId) → IsPrefix (got_at b k) (put_at a k)
   -- on a socket that neither side has opened, nothing was written at its other end
   pub strange : (k : SocketId) → is_among k (state_of a).opened ≡ false → is_among k (state_of b).opened ≡ false →
       (got_at a k ≡ []) × (got_at b k ≡ [])
-  -- the names of sockets that were opened keep the ranges of their types, and none is opened by both
+  -- the names of sockets that were opened keep the ranges of their types
   pub near_names : (k : SocketId) → is_among k (state_of a).opened ≡ true → HasAddrRanges (opener_of k)
   pub far_names : (k : SocketId) → is_among k (state_of b).opened ≡ true → HasAddrRanges (opener_of k)
-  pub apart : (k : SocketId) → is_among k (state_of a).opened ≡ true → is_among k (state_of b).opened ≡ false
   pub near_halves : (k : SocketId) → HalfFits a k
   pub far_halves : (k : SocketId) → HalfFits b k

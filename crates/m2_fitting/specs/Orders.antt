@@ -1,8 +1,8 @@
 -- An order of the entries of two journals and of the halves of both sides, and bytes that fit throughout it.
-use Rattle.std.specs.Prelude.{◌≡◌, ℕ, if◌then◌else◌, List, [], ◌∷◌, ◌++◌}
+use Rattle.std.specs.Prelude.{◌≡◌, ℕ, true, false, if◌then◌else◌, List, [], ◌∷◌, ◌++◌}
 use Rattle.std.specs.List.{AllByRecursion, flat_map}
 use Rattle.m2_fabric.specs.declared.socket.SocketId.{SocketId}
-use Rattle.m2_fabric.specs.Sockets.{same_socket}
+use Rattle.m2_fabric.specs.Sockets.{same_socket, goes_to}
 use Rattle.m2_journal.specs.Items.{JournalItem}
 use Rattle.m2_journal.specs.Replay.{AreLawful}
 use Rattle.m2_journal.specs.SideFacts.{SideFacts}
@@ -76,7 +76,7 @@ far_side g order = record {
 abbrev pub Throughout : List Move → (List Move → Type 0) → Type 0
 Throughout order P = (front back : List Move) → order ≡ front ++ back → P front
 
--- what a side has sent can be read again
+-- what the two sides have sent can be read again
 pub record CanBeRead (f g : SideFacts) (order : List Move) : Type 0 where
   pub near : CanAllBeSent f (state_of (near_side f order)).sent
   pub far : CanAllBeSent g (state_of (far_side g order)).sent
@@ -85,11 +85,13 @@ pub record CanBeRead (f g : SideFacts) (order : List Move) : Type 0 where
 pub record IsByteHistory (f g : SideFacts) (order : List Move) : Type 0 where
   pub near_named : IsNamed f
   pub far_named : IsNamed g
+  -- the two sides dial different places
+  pub peers : (k : SocketId) → goes_to f.peer k ≡ true → goes_to g.peer k ≡ false
   pub near_lawful : AreLawful f (near_items (entries_of order)) (start f)
   pub far_lawful : AreLawful g (far_items (entries_of order)) (start g)
   pub near_not_down : AllByRecursion IsNoDown (near_items (entries_of order))
   pub far_not_down : AllByRecursion IsNoDown (far_items (entries_of order))
-  pub readable : Throughout order (CanBeRead f g)
+  pub readable : CanBeRead f g order
   pub bytes : Throughout order (λ front. BytesFit (near_side f front) (far_side g front))
 
 -- ---- what follows
