@@ -29,9 +29,9 @@ use Rattle.m2_paired.specs.Frames.{is_ask, ask_of, frames_on, asks_on, answers_o
 use Rattle.m2_paired.proofs.Sockets.{differ, same_refl}
 use Rattle.m2_trail.specs.Asks.{facts_of_ask}
 use Rattle.m2_trail.specs.Replies.{reply_to, replies_to, refusal, refusal_of, all_replies}
-use Rattle.m2_trail.specs.Trails.{opener_of, ComesToWrite}
+use Rattle.m2_trail.specs.Trails.{ComesToWrite}
 use Rattle.m2_fitting.specs.Ends.{Side, state_of, read_on, wrote_on, takings_on}
-use Rattle.m2_fitting.specs.Halves.{begins, IsTaken, HalfFits}
+use Rattle.m2_fitting.specs.Halves.{HalfName, begins, IsTaken, HalfFits}
 use Rattle.m2_fitting.specs.Texts.{CanBeSent, texts_of}
 use Rattle.m2_fitting.proofs.Acceptors.{as_asked, HasWelcomed, IsAsked}
 use Rattle.m2_fitting.proofs.Fronts.{AreFirst, front_items}
@@ -70,12 +70,12 @@ replied_texts g (j ∷ js) =
 
 -- ---- what an opener has behind the welcome
 
-opened_signs : (f : SideFacts) (k : SocketId) (own : ℕ) (read more follows : List ℕ) → own < 2 ^ 8 → HasAddrRanges (opener_of k) → read ++ more ≡ welcome own (opener_of k) ++ follows →
+opened_signs : (f : SideFacts) (name : HalfName) (read more follows : List ℕ) → read ++ more ≡ welcome name.entity name.seen ++ follows →
     is_authed (course_at f read).standing.stage ≡ true → (course_at f read).standing.rest ++ more ≡ follows
-opened_signs f k own read more follows small ranges e q =
+opened_signs f name read more follows e q =
     let start = fed (opener_at_start f.node.entity f.peer) read in
     let r = ran start in
-    signs_behind f.node.entity own f.peer (opener_of k) follows read more (course_at f read).events (course_at f read).standing small ranges e r.runs r.no_replies
+    signs_behind f.node.entity name.entity f.peer name.seen follows read more (course_at f read).events (course_at f read).standing name.entity_fits name.seen_fits e r.runs r.no_replies
     (runs-side (course_at f read).events start (course_at f read).standing r.runs) q
 
 -- what it has got
@@ -123,11 +123,9 @@ module _ (a b : Side) (h : Known a b) (d : Feed) (fed_is : (state_of a).feed ≡
 
   -- what the other side has put there is a welcome and what follows it
   record Follows (read follows : List ℕ) : Type 0 where
-    own : ℕ
-    small : own < 2 ^ 8
-    ranges : HasAddrRanges (opener_of d.socket)
+    name : HalfName
     more : List ℕ
-    all : read ++ more ≡ welcome own (opener_of d.socket) ++ follows
+    all : read ++ more ≡ welcome name.entity name.seen ++ follows
 
   abbrev got : List ℕ
   got = read_on d.socket a.entries
@@ -139,12 +137,12 @@ module _ (a b : Side) (h : Known a b) (d : Feed) (fed_is : (state_of a).feed ≡
   untaken_follows : (opened : is_among d.socket (state_of a).opened ≡ true) → UntakenKept (view b.entries (state_of b) d.socket) → takings_on d.socket b.entries ≡ [] →
       Follows got (flat_map frame_text (all_replies (judged_on d.socket (state_of b).judgements) far.refused))
   untaken_follows opened kept none =
-      at (half_asked b a (turn a b h) d.socket (b.halves d.socket).got read_more reads far.entity w.exchange w.standing w.comes w.fed)
+      at (half_asked b a (turn a b h) d.socket (b.halves d.socket).got read_more reads far.name w.exchange w.standing w.comes w.fed)
     where
       js : List JudgedItem
       js = judged_on d.socket (state_of b).judgements
 
-      w : ComesToWrite (begins far.entity d.socket) (b.halves d.socket).got (all_replies js far.refused) (b.halves d.socket).put
+      w : ComesToWrite (begins far.name) (b.halves d.socket).got (all_replies js far.refused) (b.halves d.socket).put
       w = far.writes none
 
       read_more : List ℕ
@@ -164,26 +162,22 @@ module _ (a b : Side) (h : Known a b) (d : Feed) (fed_is : (state_of a).feed ≡
       behind : List ℕ
       behind = (h.bytes.near_got d.socket).0 ++ w.written.0
 
-      at : HasWelcomed far.entity (opener_of d.socket) w.exchange ⊎ IsAsked a.facts far.entity (opener_of d.socket) (frames_on d.socket (state_of a).sent ++ reads.late) (read_more ++ reads.left) w.exchange w.standing →
+      at : HasWelcomed far.name.entity far.name.seen w.exchange ⊎ IsAsked a.facts far.name.entity far.name.seen (frames_on d.socket (state_of a).sent ++ reads.late) (read_more ++ reads.left) w.exchange w.standing →
           Follows got (flat_map frame_text (all_replies js far.refused))
       at (inl x) = record {
-        own = far.entity;
-        small = far.entity_fits;
-        ranges = h.bytes.near_names d.socket opened;
+        name = far.name;
         more = (behind ++ x.text.0) ++ flat_map frame_text (all_replies js far.refused);
         all =
             sym (append_assoc got (behind ++ x.text.0) (flat_map frame_text (all_replies js far.refused)))
             ∙ ap (λ l. l ++ flat_map frame_text (all_replies js far.refused)) (sym (append_assoc got behind x.text.0) ∙ ap (λ l. l ++ x.text.0) (sym text) ∙ sym x.text.1);
       }
       at (inr x) = record {
-        own = far.entity;
-        small = far.entity_fits;
-        ranges = h.bytes.near_names d.socket opened;
+        name = far.name;
         more = behind ++ flat_map frame_text w.given.0;
         all =
             sym (append_assoc got behind (flat_map frame_text w.given.0)) ∙ ap (λ l. l ++ flat_map frame_text w.given.0) (sym text ∙ x.text)
-            ∙ append_assoc (welcome far.entity (opener_of d.socket)) (flat_map frame_text w.exchange.replies) (flat_map frame_text w.given.0)
-            ∙ ap (λ l. welcome far.entity (opener_of d.socket) ++ l) (sym (flat_map-append frame_text w.exchange.replies w.given.0) ∙ ap (flat_map frame_text) (sym w.given.1));
+            ∙ append_assoc (welcome far.name.entity far.name.seen) (flat_map frame_text w.exchange.replies) (flat_map frame_text w.given.0)
+            ∙ ap (λ l. welcome far.name.entity far.name.seen ++ l) (sym (flat_map-append frame_text w.exchange.replies w.given.0) ∙ ap (flat_map frame_text) (sym w.given.1));
       }
 
   -- or it was taken, and then its record's frames follow
@@ -191,21 +185,19 @@ module _ (a b : Side) (h : Known a b) (d : Feed) (fed_is : (state_of a).feed ≡
     late : List OutFrame
     left : List ℕ
     late_is : IsLate late left
-    own : ℕ
-    small : own < 2 ^ 8
-    ranges : HasAddrRanges (opener_of d.socket)
+    name : HalfName
     more : List ℕ
-    all : got ++ (more ++ left) ≡ welcome own (opener_of d.socket) ++ texts_of b.facts (frames ++ late)
+    all : got ++ (more ++ left) ≡ welcome name.entity name.seen ++ texts_of b.facts (frames ++ late)
 
   taken_follows : (opened : is_among d.socket (state_of a).opened ≡ true) (unread : List ℕ) → TakenKept b.facts unread (view b.entries (state_of b) d.socket) → takings_on d.socket b.entries ≡ unread ∷ [] → FollowsFrames
   taken_follows opened unread kept one =
-      at (half_asked b a (turn a b h) d.socket (b.halves d.socket).got read_more reads far.entity t.exchange t.standing t.comes t.got)
+      at (half_asked b a (turn a b h) d.socket (b.halves d.socket).got read_more reads far.name t.exchange t.standing t.comes t.got)
     where
       js : List JudgedItem
       js = judged_on d.socket (state_of b).judgements
 
-      t : IsTaken (begins far.entity d.socket) (b.halves d.socket) js unread
-      t = (subst (AllByRecursion (IsTaken (begins far.entity d.socket) (b.halves d.socket) js)) one far.taken).0
+      t : IsTaken (begins far.name) (b.halves d.socket) js unread
+      t = (subst (AllByRecursion (IsTaken (begins far.name) (b.halves d.socket) js)) one far.taken).0
 
       read_more : List ℕ
       read_more = read_on d.socket b.entries ++ ((turn a b h).bytes.near_got d.socket).0
@@ -226,26 +218,24 @@ module _ (a b : Side) (h : Known a b) (d : Feed) (fed_is : (state_of a).feed ≡
           no_end [] x e = not_nil e
           no_end (y ∷ ys) x e = not_nil e
 
-      at : HasWelcomed far.entity (opener_of d.socket) t.exchange ⊎ IsAsked a.facts far.entity (opener_of d.socket) (frames_on d.socket (state_of a).sent ++ reads.late) (read_more ++ reads.left) t.exchange t.standing → FollowsFrames
+      at : HasWelcomed far.name.entity far.name.seen t.exchange ⊎ IsAsked a.facts far.name.entity far.name.seen (frames_on d.socket (state_of a).sent ++ reads.late) (read_more ++ reads.left) t.exchange t.standing → FollowsFrames
       at (inl x) = absurd (some_judged (no_map (λ (i : JudgedItem). i.ask) js (sym t.asks ∙ ap (map facts_of_ask) x.asks)))
       at (inr x) =
-          let text : (b.halves d.socket).put ≡ welcome far.entity (opener_of d.socket) ++ texts_of b.facts (replied js) =
-          sym t.put ∙ x.text ∙ ap (λ l. welcome far.entity (opener_of d.socket) ++ l) (ap (flat_map frame_text) t.replies ∙ replied_texts b.facts js) in
+          let text : (b.halves d.socket).put ≡ welcome far.name.entity far.name.seen ++ texts_of b.facts (replied js) =
+          sym t.put ∙ x.text ∙ ap (λ l. welcome far.name.entity far.name.seen ++ l) (ap (flat_map frame_text) t.replies ∙ replied_texts b.facts js) in
           record {
             late = kept.put.late;
             left = kept.put.left;
             late_is = kept.put.begun;
-            own = far.entity;
-            small = far.entity_fits;
-            ranges = h.bytes.near_names d.socket opened;
+            name = far.name;
             more = rest;
             all =
                 sym (append_assoc got rest kept.put.left) ∙ ap (λ l. l ++ kept.put.left) (sym put)
                 ∙ append_assoc (b.halves d.socket).put (wrote_on d.socket b.entries) kept.put.left
                 ∙ ap (λ l. (b.halves d.socket).put ++ l) kept.put.all
                 ∙ ap (λ l. l ++ texts_of b.facts (kept.after ++ kept.put.late)) text
-                ∙ append_assoc (welcome far.entity (opener_of d.socket)) (texts_of b.facts (replied js)) (texts_of b.facts (kept.after ++ kept.put.late))
-                ∙ ap (λ l. welcome far.entity (opener_of d.socket) ++ l)
+                ∙ append_assoc (welcome far.name.entity far.name.seen) (texts_of b.facts (replied js)) (texts_of b.facts (kept.after ++ kept.put.late))
+                ∙ ap (λ l. welcome far.name.entity far.name.seen ++ l)
                 (sym (texts_both b.facts (replied js) (kept.after ++ kept.put.late))
                 ∙ ap (texts_of b.facts) (sym (append_assoc (replied js) kept.after kept.put.late) ∙ ap (λ l. l ++ kept.put.late) (sym kept.frames)));
           }
@@ -272,7 +262,7 @@ module _ (a b : Side) (h : Known a b) (d : Feed) (fed_is : (state_of a).feed ≡
               let js = judged_on d.socket (state_of b).judgements in
               let f = untaken_follows opened g z in
               let behind : unread ++ f.more ≡ flat_map frame_text (all_replies js far.refused) =
-              opened_signs a.facts d.socket f.own got f.more (flat_map frame_text (all_replies js far.refused)) f.small f.ranges f.all q in
+              opened_signs a.facts f.name got f.more (flat_map frame_text (all_replies js far.refused)) f.all q in
               let none : AllByRecursion NoAsk frames = subst (AllByRecursion NoAsk) (sym g.frames) (replied_no_asks js) in
               let texts : flat_map frame_text (all_replies js far.refused) ≡ texts_of b.facts frames ++ flat_map frame_text (refusal_of far.refused) =
               flat_map-append frame_text (replies_to js) (refusal_of far.refused) ∙ ap (λ l. l ++ flat_map frame_text (refusal_of far.refused)) (replied_texts b.facts js ∙ ap (texts_of b.facts) (sym g.frames)) in
@@ -281,7 +271,7 @@ module _ (a b : Side) (h : Known a b) (d : Feed) (fed_is : (state_of a).feed ≡
           by_taking false (u ∷ []) e z g =
               let f = taken_follows opened u g z in
               let behind : unread ++ (f.more ++ f.left) ≡ texts_of b.facts (frames ++ f.late) =
-              opened_signs a.facts d.socket f.own got (f.more ++ f.left) (texts_of b.facts (frames ++ f.late)) f.small f.ranges f.all q in
+              opened_signs a.facts f.name got (f.more ++ f.left) (texts_of b.facts (frames ++ f.late)) f.all q in
               subst (AreSaid (split unread).items) (sym (answers_all b d.socket g.no_asks))
               (first_said b.facts frames unread g.no_asks can (put_first b.facts frames f.late unread f.more f.left (all_written b.facts frames can) f.late_is behind))
           by_taking false (u ∷ u' ∷ us) e z g = absurd g
@@ -347,7 +337,7 @@ module _ (a b : Side) (h : Known a b) (d : Feed) (fed_is : (state_of a).feed ≡
   taken_heard : (unread : List ℕ) → TakenKept a.facts unread (view a.entries (state_of a) d.socket) → takings_on d.socket a.entries ≡ unread ∷ [] →
       length (asks_on d.socket (state_of b).sent) ≤ length (judged_on d.socket (state_of a).judgements) → (after : List OutFrame) → TakenFeed a.facts unread got (wrote_on d.socket a.entries) after d →
       AreSaid d.got (answers_on d.socket (state_of b).sent)
-  taken_heard unread kept one last after heard = at (half_asked a b h d.socket (a.halves d.socket).got (got ++ (h.bytes.near_got d.socket).0) reads near.entity t.exchange t.standing t.comes t.got)
+  taken_heard unread kept one last after heard = at (half_asked a b h d.socket (a.halves d.socket).got (got ++ (h.bytes.near_got d.socket).0) reads near.name t.exchange t.standing t.comes t.got)
     where
       js : List JudgedItem
       js = judged_on d.socket (state_of a).judgements
@@ -362,8 +352,8 @@ module _ (a b : Side) (h : Known a b) (d : Feed) (fed_is : (state_of a).feed ≡
           no_end [] x e = not_nil e
           no_end (y ∷ ys) x e = not_nil e
 
-      t : IsTaken (begins near.entity d.socket) (a.halves d.socket) js unread
-      t = (subst (AllByRecursion (IsTaken (begins near.entity d.socket) (a.halves d.socket) js)) one near.taken).0
+      t : IsTaken (begins near.name) (a.halves d.socket) js unread
+      t = (subst (AllByRecursion (IsTaken (begins near.name) (a.halves d.socket) js)) one near.taken).0
 
       opened : is_among d.socket (state_of b).opened ≡ true
       opened = opened_by_other a b h d.socket some_judged
@@ -374,7 +364,7 @@ module _ (a b : Side) (h : Known a b) (d : Feed) (fed_is : (state_of a).feed ≡
       reads : ReadsFrames b d.socket (a.halves d.socket).got (got ++ (h.bytes.near_got d.socket).0)
       reads = reads_frames a b h d.socket (a.halves d.socket).got got opened refl
 
-      at : HasWelcomed near.entity (opener_of d.socket) t.exchange ⊎ IsAsked b.facts near.entity (opener_of d.socket) (frames ++ reads.late) ((got ++ (h.bytes.near_got d.socket).0) ++ reads.left) t.exchange t.standing →
+      at : HasWelcomed near.name.entity near.name.seen t.exchange ⊎ IsAsked b.facts near.name.entity near.name.seen (frames ++ reads.late) ((got ++ (h.bytes.near_got d.socket).0) ++ reads.left) t.exchange t.standing →
           AreSaid d.got (answers_on d.socket (state_of b).sent)
       at (inl x) = absurd (some_judged (no_map (λ (i : JudgedItem). i.ask) js (sym t.asks ∙ ap (map facts_of_ask) x.asks)))
       at (inr x) =

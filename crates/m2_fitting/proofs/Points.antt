@@ -23,9 +23,9 @@ use Rattle.m2_paired.specs.Frames.{is_ask, ask_of, frames_on}
 use Rattle.m2_paired.proofs.Sockets.{differ, same_refl}
 use Rattle.m2_trail.specs.Asks.{facts_of_ask}
 use Rattle.m2_trail.specs.Replies.{all_replies}
-use Rattle.m2_trail.specs.Trails.{opener_of, ComesToAsk}
+use Rattle.m2_trail.specs.Trails.{ComesToAsk}
 use Rattle.m2_fitting.specs.Ends.{Side, state_of, read_on, wrote_on, takings_on, got_at}
-use Rattle.m2_fitting.specs.Halves.{begins, IsNamed, HalfFits, BytesFit}
+use Rattle.m2_fitting.specs.Halves.{HalfName, begins, IsNamed, HalfFits, BytesFit}
 use Rattle.m2_fitting.specs.Texts.{CanBeSent, CanAllBeSent, texts_of}
 use Rattle.m2_fitting.proofs.Acceptors.{as_asked, HasWelcomed, IsAsked, accepts}
 use Rattle.m2_fitting.proofs.Fronts.{AreFirst, front_items, nothing_split, begun_is_open}
@@ -53,8 +53,6 @@ bytes_turn a b h = record {
   near_got = h.far_got;
   far_got = h.near_got;
   strange = λ k p q. let s = h.strange k q p in (s.1, s.0);
-  near_names = h.far_names;
-  far_names = h.near_names;
   near_halves = h.far_halves;
   far_halves = h.near_halves;
 }
@@ -164,10 +162,10 @@ reads_frames a b h k front rest o e =
     }
 
 -- the half was asked just asks of the other side, or nothing
-pub half_asked : (a b : Side) (h : Known a b) (k : SocketId) (bytes more : List ℕ) (r : ReadsFrames b k bytes more) (entity : ℕ) (x : Exchange) (s : Standing) → Reaches (begins entity k) x s → x.bytes ≡ bytes →
-    HasWelcomed entity (opener_of k) x ⊎ IsAsked b.facts entity (opener_of k) (frames_on k (state_of b).sent ++ r.late) (more ++ r.left) x s
-half_asked a b h k bytes more r entity x s comes given =
-    accepts b.facts entity (opener_of k) (frames_on k (state_of b).sent ++ r.late) bytes (more ++ r.left) x s h.far_named.entity h.far_named.peer
+pub half_asked : (a b : Side) (h : Known a b) (k : SocketId) (bytes more : List ℕ) (r : ReadsFrames b k bytes more) (name : HalfName) (x : Exchange) (s : Standing) → Reaches (begins name) x s → x.bytes ≡ bytes →
+    HasWelcomed name.entity name.seen x ⊎ IsAsked b.facts name.entity name.seen (frames_on k (state_of b).sent ++ r.late) (more ++ r.left) x s
+half_asked a b h k bytes more r name x s comes given =
+    accepts b.facts name.entity name.seen (frames_on k (state_of b).sent ++ r.late) bytes (more ++ r.left) x s h.far_named.entity h.far_named.peer
     (can_write a b h k r.late r.left r.late_is) r.all comes given
 
 -- a half that has read nothing was asked nothing
@@ -175,11 +173,11 @@ pub no_map : {X Y : Type 0} (f : X → Y) (xs : List X) → map f xs ≡ [] → 
 no_map f [] e = refl
 no_map f (x ∷ xs) e = not_nil e
 
-none_asked : (a b : Side) (h : Known a b) (k : SocketId) (entity : ℕ) (x : Exchange) (s : Standing) → Reaches (begins entity k) x s → x.bytes ≡ [] → x.asks ≡ []
-none_asked a b h k entity x s comes given =
-    at (accepts b.facts entity (opener_of k) [] [] (greeting b.facts.node.entity b.facts.peer []) x s h.far_named.entity h.far_named.peer tt refl comes given)
+none_asked : (a b : Side) (h : Known a b) (k : SocketId) (name : HalfName) (x : Exchange) (s : Standing) → Reaches (begins name) x s → x.bytes ≡ [] → x.asks ≡ []
+none_asked a b h k name x s comes given =
+    at (accepts b.facts name.entity name.seen [] [] (greeting b.facts.node.entity b.facts.peer []) x s h.far_named.entity h.far_named.peer tt refl comes given)
   where
-    at : HasWelcomed entity (opener_of k) x ⊎ IsAsked b.facts entity (opener_of k) [] (greeting b.facts.node.entity b.facts.peer []) x s → x.asks ≡ []
+    at : HasWelcomed name.entity name.seen x ⊎ IsAsked b.facts name.entity name.seen [] (greeting b.facts.node.entity b.facts.peer []) x s → x.asks ≡ []
     at (inl w) = w.asks
     at (inr i) = no_map as_asked x.asks (i.asks ∙ ap (map ask_of) (nothing_before i.used i.left (sym i.all)))
 
@@ -208,7 +206,7 @@ opened_by_other a b h k n = at (is_among k (state_of b).opened) refl
         let nothing = nothing_before (a.halves k).got (read_on k a.entries) (h.bytes.strange k (unopened a k h.near_kept n) e).0 in
         let asked = half.asks in
         absurd (n (facts_nothing (judged_on k (state_of a).judgements) asked.exchange.asks asked.first
-        (none_asked a b h k half.entity asked.exchange asked.standing asked.comes (asked.fed ∙ nothing))))
+        (none_asked a b h k half.name asked.exchange asked.standing asked.comes (asked.fed ∙ nothing))))
 
 asks_of_used : (asks : List Ask) (used : List OutFrame) → map as_asked asks ≡ map ask_of used → filter_map ask_of used ≡ map (λ a. ask_by (facts_of_ask a)) asks
 asks_of_used [] [] e = refl
@@ -239,7 +237,7 @@ map_twice f g [] = refl
 map_twice f g (x ∷ xs) = ap (λ l. f (g x) ∷ l) (map_twice f g xs)
 
 judges_so : (a b : Side) (h : Known a b) (k : SocketId) → judged_on k (state_of a).judgements ≢ [] → AreItsAsks (state_of b).opened (state_of b).sent (state_of a).judgements k
-judges_so a b h k n = at (half_asked a b h k (a.halves k).got more reads half.entity asked.exchange asked.standing asked.comes asked.fed)
+judges_so a b h k n = at (half_asked a b h k (a.halves k).got more reads half.name asked.exchange asked.standing asked.comes asked.fed)
   where
     opened : is_among k (state_of b).opened ≡ true
     opened = opened_by_other a b h k n
@@ -250,7 +248,7 @@ judges_so a b h k n = at (half_asked a b h k (a.halves k).got more reads half.en
     js : List JudgedItem
     js = judged_on k (state_of a).judgements
 
-    asked : ComesToAsk (begins half.entity k) (a.halves k).got (all_replies js half.refused) js
+    asked : ComesToAsk (begins half.name) (a.halves k).got (all_replies js half.refused) js
     asked = half.asks
 
     more : List ℕ
@@ -262,7 +260,7 @@ judges_so a b h k n = at (half_asked a b h k (a.halves k).got more reads half.en
     frames : List OutFrame
     frames = frames_on k (state_of b).sent
 
-    at : HasWelcomed half.entity (opener_of k) asked.exchange ⊎ IsAsked b.facts half.entity (opener_of k) (frames ++ reads.late) (more ++ reads.left) asked.exchange asked.standing →
+    at : HasWelcomed half.name.entity half.name.seen asked.exchange ⊎ IsAsked b.facts half.name.entity half.name.seen (frames ++ reads.late) (more ++ reads.left) asked.exchange asked.standing →
         AreItsAsks (state_of b).opened (state_of b).sent (state_of a).judgements k
     at (inl w) = absurd (n (facts_nothing js asked.exchange.asks asked.first w.asks))
     at (inr i) =

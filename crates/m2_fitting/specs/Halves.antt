@@ -2,6 +2,7 @@
 -- of the peer have read the asks that were judged, and have written no answer before it was judged.
 use Rattle.std.specs.Prelude.{◌≡◌, ℕ, ◌<◌, ◌^◌, true, false, List, [], map, Option, IfSome}
 use Rattle.std.specs.List.{AllByRecursion}
+use Rattle.m2_addr.specs.declared.addr.Addr.{Addr}
 use Rattle.m2_control.specs.Laws.{HasAddrRanges}
 use Rattle.m2_fabric.specs.declared.socket.SocketId.{SocketId}
 use Rattle.m2_fabric.specs.Sockets.{is_among}
@@ -13,14 +14,21 @@ use Rattle.m2_journal.specs.declared.entry.JudgedItem.{JudgedItem}
 use Rattle.m2_journal.specs.SideFacts.{SideFacts}
 use Rattle.m2_trail.specs.Asks.{facts_of_ask}
 use Rattle.m2_trail.specs.Replies.{replies_to, all_replies}
-use Rattle.m2_trail.specs.Trails.{opener_of, ComesToAsk, ComesToWrite}
+use Rattle.m2_trail.specs.Trails.{ComesToAsk, ComesToWrite}
 use Rattle.m2_fitting.specs.Ends.{Half, Side, state_of, judged_at, takings_on, got_at, put_at}
 
 -- ---- a half
 
--- a half on this socket that names itself by this number, at its start
-abbrev pub begins : (entity : ℕ) → SocketId → Standing
-begins entity k = acceptor_at_start entity (opener_of k)
+-- what a half names itself by, and the address that it knows of the opener, in the ranges of their types
+pub record HalfName : Type 0 where
+  pub entity : ℕ
+  pub seen : Addr
+  pub entity_fits : entity < 2 ^ 8
+  pub seen_fits : HasAddrRanges seen
+
+-- where it begins
+abbrev pub begins : HalfName → Standing
+begins name = acceptor_at_start name.entity name.seen
 
 -- a half that a record has taken: it owes the reply to the last of the asks that were judged, has replied to those before,
 -- has put all that it wrote, and had this left unread
@@ -44,18 +52,17 @@ pub record IsNamed (f : SideFacts) : Type 0 where
 pub record HalfFits (a : Side) (k : SocketId) : Type 0 where
   -- the side that opened a socket has no half there
   pub opened : is_among k (state_of a).opened ≡ true → ((a.halves k).got ≡ []) × ((a.halves k).put ≡ [])
-  -- what the half names itself by, and the features for which it refused an ident
-  pub entity : ℕ
-  pub entity_fits : entity < 2 ^ 8
+  -- its name, and the features for which it refused an ident
+  pub name : HalfName
   pub refused : Option ℕ
   pub refused_fits : IfSome refused (λ bits. bits < 2 ^ 64)
   -- the asks that were judged are the first in what it has read: each was read before it was judged
-  pub asks : ComesToAsk (begins entity k) (a.halves k).got (all_replies (judged_at a k) refused) (judged_at a k)
+  pub asks : ComesToAsk (begins name) (a.halves k).got (all_replies (judged_at a k) refused) (judged_at a k)
   -- what it has written is the front of what it writes by that and by the replies to these asks: each was judged before its
   -- answer was written
   pub writes : takings_on k a.entries ≡ [] →
-      ComesToWrite (begins entity k) (a.halves k).got (all_replies (judged_at a k) refused) (a.halves k).put
-  pub taken : AllByRecursion (IsTaken (begins entity k) (a.halves k) (judged_at a k)) (takings_on k a.entries)
+      ComesToWrite (begins name) (a.halves k).got (all_replies (judged_at a k) refused) (a.halves k).put
+  pub taken : AllByRecursion (IsTaken (begins name) (a.halves k) (judged_at a k)) (takings_on k a.entries)
 
 -- ---- both sides
 
@@ -67,8 +74,5 @@ pub record BytesFit (a b : Side) : Type 0 where
   -- on a socket that neither side has opened, nothing was written at its other end
   pub strange : (k : SocketId) → is_among k (state_of a).opened ≡ false → is_among k (state_of b).opened ≡ false →
       (got_at a k ≡ []) × (got_at b k ≡ [])
-  -- the names of sockets that were opened keep the ranges of their types
-  pub near_names : (k : SocketId) → is_among k (state_of a).opened ≡ true → HasAddrRanges (opener_of k)
-  pub far_names : (k : SocketId) → is_among k (state_of b).opened ≡ true → HasAddrRanges (opener_of k)
   pub near_halves : (k : SocketId) → HalfFits a k
   pub far_halves : (k : SocketId) → HalfFits b k
