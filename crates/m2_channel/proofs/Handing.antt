@@ -18,10 +18,11 @@ use Rattle.m2_journal.specs.State as state
 use Rattle.m2_journal.specs.State.{Delivery, State}
 use Rattle.m2_channel.specs.Channel as channel
 use Rattle.m2_channel.specs.Channel.{keyed}
-use Rattle.m2_channel.specs.Observed.{handed, IsNoDiscard}
+use Rattle.m2_channel.specs.Observed.{handed, IsNoDiscard, IsLetter}
 use Rattle.m2_channel.specs.ObservedLaws.{IsLogOf}
-use Rattle.m2_channel.specs.Handing.{peer_of, parcels_of, IsParcelOf, AreParcelsOf, heard_by_calls, LogsAreLogs}
+use Rattle.m2_channel.specs.Handing.{IsNoResetOf, peer_of, parcels_of, IsParcelOf, AreParcelsOf, heard_by_calls, LogsAreLogs}
 use Rattle.m2_channel.proofs.Keys.{differ, first_of_first}
+use Rattle.m2_channel.proofs.Runs.{all_append}
 
 -- what the law of the queue says
 pub record DispatchesInOrder : Type 0 where
@@ -230,6 +231,50 @@ some_of_more (x ∷ xs) [] zs h = absurd h
 some_of_more (x ∷ xs) (y ∷ ys) zs (inl h) = inl (h.0, some_of_more xs ys zs h.1)
 some_of_more (x ∷ xs) (y ∷ ys) zs (inr h) = inr (some_of_more (x ∷ xs) ys zs h)
 
+-- ---- where messages alone are handed on no reset is heard
+
+abbrev IsLetterParcel : Parcel → Type 0
+IsLetterParcel (parcel.Letter l) = Unit {0}
+IsLetterParcel _ = ⊥
+
+letter_handed : (p : Parcel) (d : Delivery) → IsParcelOf p d → IsLetter d → IsLetterParcel p
+letter_handed (parcel.Letter l) d is only = tt
+letter_handed (parcel.Discard q) state.discarded is only = only
+letter_handed (parcel.Discard q) (state.letter n k m) is only = is
+letter_handed (parcel.Discard q) state.remote_reset is only = is
+letter_handed (parcel.RemoteReset q) state.remote_reset is only = only
+letter_handed (parcel.RemoteReset q) (state.letter n k m) is only = is
+letter_handed (parcel.RemoteReset q) state.discarded is only = is
+
+letters_handed : (ps : List Parcel) (ds : List Delivery) → AreParcelsOf ps ds → AllByRecursion IsLetter ds → AllByRecursion IsLetterParcel ps
+letters_handed [] ds are only = tt
+letters_handed (p ∷ ps) [] are only = absurd are
+letters_handed (p ∷ ps) (d ∷ ds) are only = (letter_handed p d are.0 only.0, letters_handed ps ds are.1 only.1)
+
+none_of_letters : (peer : ℕ) (ls : List Letter) → AllByRecursion (IsNoResetOf peer) (map heard_in ls)
+none_of_letters peer [] = tt
+none_of_letters peer (l ∷ ls) = (tt, none_of_letters peer ls)
+
+none_at_put : (peer : ℕ) (p : Parcel) (b : Bool) → (peer_of p == peer) ≡ b → (b ≡ true → IsLetterParcel p) → AllByRecursion (IsNoResetOf peer) (heard_at_put p)
+none_at_put peer (parcel.Letter l) b e h = tt
+none_at_put peer (parcel.Discard q) b e h = tt
+none_at_put peer (parcel.RemoteReset q) true e h = absurd (h refl)
+none_at_put peer (parcel.RemoteReset q) false e h = (e, tt)
+
+none_heard : (peer : ℕ) (calls : List Call) (h : History) → AllByRecursion IsLetterParcel (parcels_of peer calls) → AllByRecursion (IsNoResetOf peer) (heard_by_calls peer h calls)
+none_heard peer [] h only = tt
+none_heard peer (Turn ∷ calls) h only =
+    all_append (IsNoResetOf peer) (map heard_in (take 1 h.waiting)) (heard_by_calls peer (after_call peer h Turn) calls) (none_of_letters peer (take 1 h.waiting))
+    (none_heard peer calls (after_call peer h Turn) only)
+none_heard peer (Put p ∷ calls) h only =
+    let it = at (peer_of p == peer) refl only in
+    all_append (IsNoResetOf peer) (heard_at_put p) (heard_by_calls peer (after_call peer h (Put p)) calls) it.0 (none_heard peer calls (after_call peer h (Put p)) it.1)
+  where
+    at : (b : Bool) → (peer_of p == peer) ≡ b → AllByRecursion IsLetterParcel (if b then p ∷ parcels_of peer calls else parcels_of peer calls) →
+        AllByRecursion (IsNoResetOf peer) (heard_at_put p) × AllByRecursion IsLetterParcel (parcels_of peer calls)
+    at true e g = (none_at_put peer p true e (λ x. g.0), g.1)
+    at false e g = (none_at_put peer p false e (λ x. differ x), g)
+
 -- ---- all of it
 
 module _ (order : DispatchesInOrder) (peer : ℕ) (calls : List Call) (s : State) (are : AreParcelsOf (parcels_of peer calls) s.deliveries) where
@@ -265,4 +310,8 @@ module _ (order : DispatchesInOrder) (peer : ℕ) (calls : List Call) (s : State
       (subst (λ l. IsSublist (of_it peer key h.ever_dispatched) l) (put_is peer key calls start) some))))
 
 pub logs_are : DispatchesInOrder → LogsAreLogs
-logs_are order peer calls s are = record { first = is_log order peer calls s are; some = some_handed order peer calls s are }
+logs_are order peer calls s are = record {
+  first = is_log order peer calls s are;
+  some = some_handed order peer calls s are;
+  no_reset = λ only. none_heard peer calls start (letters_handed (parcels_of peer calls) s.deliveries are only);
+}

@@ -7,13 +7,14 @@ use Rattle.m2_message.specs.Message.{Content, unnumbered}
 use Rattle.m2_policy.specs.declared.path.Key.{Key}
 use Rattle.m2_crossing.specs.Order.{AreFirstOf}
 use Rattle.m2_journal.specs.SideFacts.{SideFacts}
-use Rattle.m2_journal.specs.State.{State, start}
+use Rattle.m2_journal.specs.State as state
+use Rattle.m2_journal.specs.State.{Delivery, State, start}
 use Rattle.m2_paired.specs.Orders as orders
 use Rattle.m2_paired.specs.Orders.{SideItem, near_items, IsHistory, near_after, far_after, AreNodes, posts_in, LosslessIsNeverReset}
 use Rattle.m2_channel.specs.Channel as channel
 use Rattle.m2_channel.specs.Channel.{KeyedMessage, keyed, Channel, ChannelStep, dispatch, new_channel, IsLawful, changed, after_step, after_steps, IsRun, IsNoMark, posts, acceptances, dispatches}
 use Rattle.m2_channel.specs.ChannelLaws.{ComeInOrder}
-use Rattle.m2_channel.specs.Observed.{shown_from, observed, heard_from, dispatched_from, turned, handed}
+use Rattle.m2_channel.specs.Observed.{shown_from, observed, heard_from, dispatched_from, turned, handed, IsLetter, IsNoDiscard}
 use Rattle.m2_channel.specs.ObservedLaws.{IsLogOf, posted_to, IsBrought, ObservedIsARun}
 use Rattle.m2_channel.proofs.Keys.{key_self, next_is, of_key-append}
 use Rattle.m2_channel.proofs.Runs.{unmarked_step, leaves, run_append, after_append, all_append, unmarked_deliver}
@@ -121,11 +122,17 @@ dispatch_run peer (heard.message p k n m ∷ log) c unmarked h = at (p == peer) 
     at false g on = on c unmarked g
 dispatch_run peer (heard.reset p ∷ log) c unmarked h = dispatch_run peer log c unmarked h
 
+no_discards : (ds : List Delivery) → AllByRecursion IsLetter ds → AllByRecursion IsNoDiscard ds
+no_discards [] h = tt
+no_discards (state.letter n k m ∷ ds) h = (tt, no_discards ds h.1)
+no_discards (state.discarded ∷ ds) h = absurd h.0
+no_discards (state.remote_reset ∷ ds) h = absurd h.0
+
 -- where the channel stands by two journals, of which this is the log
 pub follows : (g : SideFacts) (peer : ℕ) (log : List Heard) (ps : List Content) (a b : State) (c : Channel) → Stands g ps a b c → IsLogOf peer log b → Follows peer log c
 follows g peer log ps a b c it is_log key =
     subst (λ l. AreFirstOf (channel.of_key key l ++ map unnumbered (heard.of_key peer key log)) (channel.of_key key c.accepted)) (sym it.dispatched)
-    (subst (λ l. AreFirstOf (map unnumbered (heard.of_key peer key log)) (channel.of_key key l)) (sym it.accepted) (is_log it.no_discard key))
+    (subst (λ l. AreFirstOf (map unnumbered (heard.of_key peer key log)) (channel.of_key key l)) (sym it.accepted) (is_log (no_discards b.deliveries it.letters_only) key))
 
 -- ---- all of it
 
@@ -168,6 +175,7 @@ brought never f g order log nodes history is_log =
       acceptances = accepted;
       dispatches = dispatched;
       acknowledged = ap (λ d. d.acknowledged) end ∙ keeps_acknowledged (heard_from peer log) c ∙ it.acknowledged;
+      letters_only = it.letters_only;
       as_posted = record {
         in_order = λ key. subst (λ l. AreFirstOf l (orders.of_key g key (map unnumbered ps))) (heard_keys peer key log)
             (subst (λ l. AreFirstOf (channel.of_key key (heard_from peer log)) l) (posted_keys g key ps) (over key));

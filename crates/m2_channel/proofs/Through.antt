@@ -30,7 +30,7 @@ use Rattle.m2_paired.specs.Orders.{SideItem, near_item, far_item, near_items, fa
 use Rattle.m2_paired.specs.Trouble.{trouble_at, trouble_told}
 use Rattle.m2_channel.specs.Channel as channel
 use Rattle.m2_channel.specs.Channel.{KeyedMessage, keyed, Channel, ChannelStep, post, accept, dispatch, acknowledge, mark, reset, new_channel, IsLawful, changed, after_step, after_steps, IsRun, IsNoMark}
-use Rattle.m2_channel.specs.Observed.{shown_by_sender, shown_by_reader, shown_down, shown_reset, brought_on, brought_by, resets_told, obeys_in_full, is_reset, shown_near, shown_far, shown_from, handed, IsNoDiscard}
+use Rattle.m2_channel.specs.Observed.{shown_by_sender, shown_by_reader, shown_down, shown_reset, brought_on, brought_by, resets_told, obeys_in_full, is_reset, shown_near, shown_far, shown_from, handed, IsLetter}
 use Rattle.m2_channel.specs.ObservedLaws.{posted_to}
 use Rattle.m2_channel.proofs.Keys.{differ, key_self, next_is, of_key-append}
 use Rattle.m2_channel.proofs.Runs.{unmarked_step, run_append, after_append, all_append}
@@ -126,7 +126,7 @@ pub record Stands (g : SideFacts) (ps : List Content) (a b : State) (c : Channel
   pub keys : (key : Key) → channel.of_key key (handed b.deliveries) ≡ orders.of_key g key (letters b.deliveries)
   pub near_keeps : a.out.queue.keeps ≡ true
   pub far_keeps : b.out.queue.keeps ≡ true
-  pub no_discard : AllByRecursion IsNoDiscard b.deliveries
+  pub letters_only : AllByRecursion IsLetter b.deliveries
 
 -- steps that lead the channel there
 pub record Shows (xs : List ChannelStep) (g : SideFacts) (ps : List Content) (a b : State) (c : Channel) : Type 0 where
@@ -159,7 +159,7 @@ still g ps a t b c h base keeps = record {
   keys = h.keys;
   near_keeps = keeps ∙ h.near_keeps;
   far_keeps = h.far_keeps;
-  no_discard = h.no_discard;
+  letters_only = h.letters_only;
 }
 
 post_shown : (g : SideFacts) (ps : List Content) (m : Content) (a t b : State) (c : Channel) → Stands g ps a b c → t.out.queue.base ≡ a.out.queue.base →
@@ -175,7 +175,7 @@ post_shown g ps m a t b c h base keeps =
       keys = h.keys;
       near_keeps = keeps ∙ h.near_keeps;
       far_keeps = h.far_keeps;
-      no_discard = h.no_discard;
+      letters_only = h.letters_only;
     })
 
 posts_shown : (g : SideFacts) (place : ℕ) (o : Option Planned) (ps : List Content) (a t b : State) (c : Channel) → Stands g ps a b c →
@@ -203,7 +203,7 @@ acked_shown g ps number a t b c h base keeps few =
       keys = h.keys;
       near_keeps = keeps ∙ h.near_keeps;
       far_keeps = h.far_keeps;
-      no_discard = h.no_discard;
+      letters_only = h.letters_only;
     })
 
 sender_shows : (g : SideFacts) (i : JournalItem) (ps : List Content) (a t b : State) (c : Channel) → Stands g ps a b c → Leads i a t →
@@ -257,7 +257,7 @@ stays g i ps a b t c h hand gone l = record {
   keys = λ key. ap (channel.of_key key) (hand ∙ append-nil (handed b.deliveries)) ∙ h.keys key ∙ ap (orders.of_key g key) (sym (gone ∙ append-nil (letters b.deliveries)));
   near_keeps = h.near_keeps;
   far_keeps = l.keeps ∙ h.far_keeps;
-  no_discard = l.no_discard h.no_discard;
+  letters_only = l.letters_only h.letters_only;
 }
 
 -- what a key has, with one more
@@ -295,7 +295,7 @@ accepted_shown g number key m ps a b t c h k l hand gone come =
           ∙ sym (ap (orders.of_key g other) gone ∙ letters_more g other (letters b.deliveries) m);
       near_keeps = h.near_keeps;
       far_keeps = l.keeps ∙ h.far_keeps;
-      no_discard = l.no_discard h.no_discard;
+      letters_only = l.letters_only h.letters_only;
     })
 
 accepts_shown : (g : SideFacts) (number : ℕ) (key : Key) (ps : List Content) (a b t : State) (c : Channel) → Stands g ps a b c → Lawful g (item.accepted number key) b →
@@ -430,7 +430,7 @@ module _ (never : LosslessIsNeverReset) (f g : SideFacts) (nodes : AreNodes f g)
     keys = λ key. refl;
     near_keeps = ap not nodes.near_keeps;
     far_keeps = ap not nodes.far_keeps;
-    no_discard = tt;
+    letters_only = tt;
   }
 
   -- from the start of both

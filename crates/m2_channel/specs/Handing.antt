@@ -1,5 +1,6 @@
 -- From what a record hands on, through the queue before its node's dispatcher, to what that is called with.
-use Rattle.std.specs.Prelude.{◌≡◌, ℕ, ◌==◌, if◌then◌else◌, List, [], ◌∷◌, ◌++◌, map, take}
+use Rattle.std.specs.Prelude.{◌≡◌, ℕ, ◌==◌, if◌then◌else◌, List, [], ◌∷◌, ◌++◌, map, take, false}
+use Rattle.std.specs.List.{AllByRecursion}
 use Rattle.m2_dispatch.specs.Heard as heard
 use Rattle.m2_dispatch.specs.Heard.{Heard}
 use Rattle.m2_dispatcher.specs.declared.letter.Letter.{Letter}
@@ -13,7 +14,7 @@ use Rattle.m2_policy.specs.declared.path.Key.{Key}
 use Rattle.m2_journal.specs.State as state
 use Rattle.m2_journal.specs.State.{Delivery, State}
 use Rattle.m2_channel.specs.Channel as channel
-use Rattle.m2_channel.specs.Observed.{handed}
+use Rattle.m2_channel.specs.Observed.{handed, IsLetter}
 use Rattle.m2_channel.specs.ObservedLaws.{IsLogOf}
 
 -- ---- what is handed on
@@ -55,12 +56,18 @@ heard_by_calls peer h (c ∷ calls) = heard_at c h.waiting ++ heard_by_calls pee
 
 -- ---- what is promised
 
+abbrev pub IsNoResetOf : ℕ → Heard → Type 0
+IsNoResetOf peer (heard.reset p) = (p == peer) ≡ false
+IsNoResetOf peer _ = Unit {0}
+
 -- what a dispatcher is called with of a record's peer
 pub record IsHeardOf (peer : ℕ) (log : List Heard) (s : State) : Type 0 where
   -- as long as nothing was thrown away, of each key the first ones of what the record accepted, in order, each once
   pub first : IsLogOf peer log s
   -- and always, of each key some of it, in order, each once
   pub some : (key : Key) → IsSublist (map unnumbered (heard.of_key peer key log)) (channel.of_key key (handed s.deliveries))
+  -- and where the record handed on messages alone, no reset of the peer
+  pub no_reset : AllByRecursion IsLetter s.deliveries → AllByRecursion (IsNoResetOf peer) log
 
 -- so it is where the parcels of the peer that were put into the queue are the first ones that the record handed on
 abbrev pub LogsAreLogs : Type 0

@@ -120,3 +120,8 @@ handed (_ ∷ ds) = handed ds
 abbrev pub IsNoDiscard : Delivery → Type 0
 IsNoDiscard state.discarded = ⊥
 IsNoDiscard _ = Unit {0}
+
+-- a message: neither that messages are thrown away, nor that the peer has reset the session
+abbrev pub IsLetter : Delivery → Type 0
+IsLetter (state.letter number key m) = Unit {0}
+IsLetter _ = ⊥

@@ -16,7 +16,7 @@ use Rattle.m2_paired.specs.Orders.{SideItem, near_items, far_items, near_after, 
 use Rattle.m2_channel.specs.Channel as channel
 use Rattle.m2_channel.specs.Channel.{KeyedMessage, keyed, new_channel, after_steps, IsRun, IsNoMark, IsNoReset, unmarked, posts, acceptances, dispatches}
 use Rattle.m2_channel.specs.ChannelLaws.{IsDelivered}
-use Rattle.m2_channel.specs.Observed.{shown_from, observed, heard_from, turned, handed, IsNoDiscard}
+use Rattle.m2_channel.specs.Observed.{shown_from, observed, heard_from, turned, handed, IsNoDiscard, IsLetter}
 
 -- ---- what a log has to be
 
@@ -54,6 +54,8 @@ pub record IsBrought (f g : SideFacts) (order : List SideItem) (log : List Heard
   pub dispatches : dispatches (observed f g order log) ≡ heard_from f.node.number log
   -- what the near side counts as acknowledged is what the channel has acknowledged
   pub acknowledged : (after_steps (observed f g order log) new_channel).acknowledged ≡ (near_after f order).out.queue.base
+  -- the far side throws nothing away, and isn't told that the near side has reset the session
+  pub letters_only : AllByRecursion IsLetter (far_after g order).deliveries
   -- so messages come over as they were posted
   pub as_posted : ComeAsPosted f g (posts_in (near_items order)) log
 
