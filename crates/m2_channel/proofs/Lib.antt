@@ -9,3 +9,4 @@ pub mod Resets
 pub mod OneMessage
 pub mod Marks
 pub mod Handing
+pub mod Acknowledged

@@ -303,7 +303,7 @@ written_at : (s : State) (number : ℕ) (o : Option Feed) → OnFeedAt o (MayAck
 written_at s number (Some d) may = may.written
 written_at s number None may = absurd may
 
-acked-leads : (f : SideFacts) (number : ℕ) (s : State) → Lawful f (item.acked number) s → Leads (item.acked number) s (after f (item.acked number) s)
+pub acked-leads : (f : SideFacts) (number : ℕ) (s : State) → Lawful f (item.acked number) s → Leads (item.acked number) s (after f (item.acked number) s)
 acked-leads f number s may =
     let it = acked_raises s.out.queue number (written_at s number s.feed may) in
     record {

@@ -185,7 +185,7 @@ posts_shown g place (Some to_dial) ps a t b c h base keeps = none_shown g (ps ++
 posts_shown g place (Some to_go_down) ps a t b c h base keeps = none_shown g (ps ++ []) t b c (still g ps a t b c h base keeps)
 posts_shown g place None ps a t b c h base keeps = none_shown g (ps ++ []) t b c (still g ps a t b c h base keeps)
 
-raised_to : (n m l : ℕ) → max n m ≤ l → m ≤ l
+pub raised_to : (n m l : ℕ) → max n m ≤ l → m ≤ l
 raised_to n m l h = omega (arith, h)
 
 acked_shown : (g : SideFacts) (ps : List Content) (number : ℕ) (a t b : State) (c : Channel) → Stands g ps a b c → t.out.queue.base ≡ max a.out.queue.base number →

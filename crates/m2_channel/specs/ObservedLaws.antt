@@ -1,18 +1,20 @@
 -- What is promised of the observed run: for every two journals of a lossless link without a mark-down, in every order of
 -- their entries that fits, it is a run of the ordered channel without a reset; so messages come over as they were posted.
-use Rattle.std.specs.Prelude.{◌≡◌, ℕ, ◌≤◌, List, [], ◌∷◌, length, map}
+use Rattle.std.specs.Prelude.{◌≡◌, ℕ, ◌≤◌, List, [], ◌∷◌, ◌++◌, length, map}
 use Rattle.std.specs.List.{AllByRecursion}
 use Rattle.m2_dispatch.specs.Heard as heard
 use Rattle.m2_dispatch.specs.Heard.{Heard}
 use Rattle.m2_message.specs.Message.{Content, unnumbered}
 use Rattle.m2_policy.specs.declared.path.Key.{Key}
+use Rattle.m2_journal.specs.Items as item
 use Rattle.m2_journal.specs.Lawful.{key_of}
 use Rattle.m2_journal.specs.Replay.{AreLawful}
 use Rattle.m2_journal.specs.SideFacts.{SideFacts}
 use Rattle.m2_journal.specs.State.{State, start}
 use Rattle.m2_crossing.specs.Order.{AreFirstOf}
+use Rattle.m2_paired.specs.LinkOf.{letters}
 use Rattle.m2_paired.specs.Orders as orders
-use Rattle.m2_paired.specs.Orders.{SideItem, near_items, far_items, near_after, far_after, posts_in, trouble_in, AreNodes, FitThroughout, IsHistory, IsNoFullReset}
+use Rattle.m2_paired.specs.Orders.{SideItem, near_item, far_item, near_items, far_items, near_after, far_after, posts_in, trouble_in, AreNodes, FitThroughout, IsHistory, IsNoFullReset}
 use Rattle.m2_channel.specs.Channel as channel
 use Rattle.m2_channel.specs.Channel.{KeyedMessage, keyed, new_channel, after_steps, IsRun, IsNoMark, IsNoReset, unmarked, posts, acceptances, dispatches}
 use Rattle.m2_channel.specs.ChannelLaws.{IsDelivered}
@@ -94,6 +96,16 @@ pub record AreBroughtToAMark (f g : SideFacts) (order : List SideItem) (near_log
 abbrev pub ObservedIsARunToAMark : Type 0
 ObservedIsARunToAMark = (f g : SideFacts) (order : List SideItem) (near_log far_log : List Heard) → AreNodes f g →
     IsLawfulOrder f g order → AreLogs f g order near_log far_log → AreBroughtToAMark f g order near_log far_log
+
+-- ---- acknowledgements
+
+-- The number that an Acked entry names is at most that of the messages that the other side has accepted by then.
+pub record AcknowledgedWasAccepted (f g : SideFacts) (before : List SideItem) (number : ℕ) : Type 0 where
+  pub near : IsHistory f g (before ++ near_item (item.acked number) ∷ []) → number ≤ length (letters (far_after g before).deliveries)
+  pub far : IsHistory f g (before ++ far_item (item.acked number) ∷ []) → number ≤ length (letters (near_after f before).deliveries)
+
+abbrev pub AcknowledgedIsAccepted : Type 0
+AcknowledgedIsAccepted = (f g : SideFacts) (before : List SideItem) (number : ℕ) → AreNodes f g → AcknowledgedWasAccepted f g before number
 
 -- ---- resets
 

@@ -75,3 +75,11 @@ pub fn logs_are_logs_of_what_is_handed_on()
 {
     each_key_keeps_its_order();
 }
+
+/// In a lossless history no more is counted as acknowledged at an entry than the other side has accepted
+/// by then.
+pub fn acknowledged_is_accepted()
+    ensures { observed.AcknowledgedIsAccepted }
+{
+    lossless_is_never_reset();
+}

@@ -42,7 +42,7 @@
 mod laws;
 
 pub use laws::{
-    a_message_is_observed, done_is_all_dispatched, logs_are_logs_of_what_is_handed_on,
-    observed_is_a_run, observed_is_a_run_to_a_mark, resets_are_observed, runs_deliver,
-    runs_keep_order, unmarked_runs_deliver,
+    a_message_is_observed, acknowledged_is_accepted, done_is_all_dispatched,
+    logs_are_logs_of_what_is_handed_on, observed_is_a_run, observed_is_a_run_to_a_mark,
+    resets_are_observed, runs_deliver, runs_keep_order, unmarked_runs_deliver,
 };
