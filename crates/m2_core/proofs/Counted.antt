@@ -66,6 +66,7 @@ sound c number l h numbers w e = rw e (record {
     connect = h.sound.connect;
     numbers = (let a = gone c.live.out.queue number numbers w in let b = h.sound.numbers in omega (arith, a, b));
     grant = h.sound.grant;
+    told = h.sound.told;
     ungranted = h.sound.ungranted;
   };
 })

@@ -11,7 +11,7 @@ use Rattle.m2_journal.specs.SideFacts.{SideFacts}
 use Rattle.m2_journal.specs.State.{Feed, State}
 use Rattle.m2_session.specs.declared.session.Phase.{Phase}
 use Rattle.m2_core.specs.Agrees.{Agrees, FeedsAgree, IsBroken, Stays}
-use Rattle.m2_core.specs.CoreNow.{CoreNow, Holds, IsAskedIfSigned, IsSound, LiveNow, OnFeedNow, granted_in}
+use Rattle.m2_core.specs.CoreNow.{CoreNow, Holds, IsAskedIfSigned, IsSound, LiveNow, OnFeedNow, granted_in, is_granted_in}
 use Rattle.m2_core.specs.Moves.{live_with}
 use Rattle.m2_core.specs.Shaken.{GreetsFeed, HasShaken, IsHalfFault}
 
@@ -61,6 +61,13 @@ has_shaken greets finds answer c y w = record {
 -- ---- what holds of each core
 
 -- nothing is granted for a half, nor for a decoder that a half leaves
+untold : (answer : HalfStep) (v new : FeedNow) → GreetsOn answer v new → (is_granted_in v.reading ≡ false) × (is_granted_in new.reading ≡ false)
+untold half.Authed v new w = (ap is_granted_in w.stood, ap (λ x. is_granted_in x.reading) w.leaves)
+untold half.NotYet v new w = (ap is_granted_in w.stood, ap (λ x. is_granted_in x.reading) w.leaves)
+untold half.Wrote v new w = (ap is_granted_in w.stood, ap (λ x. is_granted_in x.reading) w.leaves)
+untold (half.Fault e) v new w = (ap is_granted_in w.stood, ap (λ x. is_granted_in x.reading) w.leaves)
+untold half.NoMemory v new w = (ap is_granted_in w.stood, ap (λ x. is_granted_in x.reading) w.leaves)
+
 ungranted : (answer : HalfStep) (v new : FeedNow) → GreetsOn answer v new → (granted_in v.reading ≡ None) × (granted_in new.reading ≡ None)
 ungranted half.Authed v new w = (ap granted_in w.stood, ap (λ x. granted_in x.reading) w.leaves)
 ungranted half.NotYet v new w = (ap granted_in w.stood, ap (λ x. granted_in x.reading) w.leaves)
@@ -71,12 +78,14 @@ ungranted half.NoMemory v new w = (ap granted_in w.stood, ap (λ x. granted_in x
 sound_on : (answer : HalfStep) (l : LiveNow) (x y : Option FeedNow) → GreetsFeed answer x y → IsSound (live_with x l) → IsSound (live_with y l)
 sound_on answer l (Some v) (Some new) w h =
     let none = ungranted answer v new w in
+    let silent = untold answer v new w in
     record {
       fed = h.fed;
       asked = λ e. h.asked (ap is_framing w.stood);
       connect = h.connect;
       numbers = h.numbers;
       grant = h.grant ∙ none.0 ∙ sym none.1;
+      told = h.told ∙ silent.0 ∙ sym silent.1;
       ungranted = h.ungranted;
     }
 sound_on answer l None y w h = absurd w

@@ -28,7 +28,7 @@ stays law n bytes c s a = record {
 }
 
 sound_on : (n : News) (bytes : List ℕ) (l : LiveNow) (x : Option FeedNow) → IsSound (live_with x l) → IsSound (live_with (heard_on n bytes x) l)
-sound_on n bytes l (Some v) h = record { fed = h.fed; asked = h.asked; connect = h.connect; numbers = h.numbers; grant = h.grant; ungranted = h.ungranted }
+sound_on n bytes l (Some v) h = record { fed = h.fed; asked = h.asked; connect = h.connect; numbers = h.numbers; grant = h.grant; told = h.told; ungranted = h.ungranted }
 sound_on n bytes l None h = h
 
 pub keeps : (n : News) (bytes : List ℕ) (c : CoreNow) → Holds c → Holds (record c { live = live_with (heard_on n bytes c.live.feed) c.live })

@@ -436,6 +436,7 @@ quiet_sound (Some event.Pending) q l h = record {
   connect = h.connect;
   numbers = h.numbers;
   grant = refl;
+  told = refl;
   ungranted = λ _. refl;
 }
   where
@@ -462,9 +463,9 @@ keeps_answering c v o l h t e g = record { place = h.place; sound = rw (g, e) (q
 
 taken_sound : (b full : Bool) (a : AskFacts) (server resumed : ℕ) (d : FeedNow) (rest : List ℕ) (l : LiveNow) → a.connect ≤ GREATEST_NUMBER → d.reading ≡ framing rest false → IsSound l →
     IsSound (with_taken (Some (took b full a server)) d resumed l)
-taken_sound true true a server resumed d rest l n r h = record { fed = refl; asked = rw r (λ e. cc); connect = omega arith; numbers = omega arith; grant = rw r refl; ungranted = λ _. refl }
-taken_sound true false a server resumed d rest l n r h = let m = h.numbers in record { fed = refl; asked = rw r (λ e. cc); connect = omega arith; numbers = omega (arith, m); grant = rw r refl; ungranted = λ _. refl }
-taken_sound false full a server resumed d rest l n r h = record { fed = refl; asked = rw r (λ e. cc); connect = omega (arith, n); numbers = h.numbers; grant = rw r refl; ungranted = λ _. refl }
+taken_sound true true a server resumed d rest l n r h = record { fed = refl; asked = rw r (λ e. cc); connect = omega arith; numbers = omega arith; grant = rw r refl; told = rw r refl; ungranted = λ _. refl }
+taken_sound true false a server resumed d rest l n r h = let m = h.numbers in record { fed = refl; asked = rw r (λ e. cc); connect = omega arith; numbers = omega (arith, m); grant = rw r refl; told = rw r refl; ungranted = λ _. refl }
+taken_sound false full a server resumed d rest l n r h = record { fed = refl; asked = rw r (λ e. cc); connect = omega (arith, n); numbers = h.numbers; grant = rw r refl; told = rw r refl; ungranted = λ _. refl }
 
 holds_by : (o : Option Event) (e : Event) (d : FeedNow) (resumed : ℕ) (l : LiveNow) → o ≡ Some e → IsSound (with_taken (Some e) d resumed l) → IsSound (with_taken o d resumed l)
 holds_by o e d resumed l i h = rw i h

@@ -8,4 +8,9 @@ pub mod Unnamed
 pub mod Counted
 pub mod Numbered
 pub mod Asked
+pub mod HeardBytes
+pub mod Taken
+pub mod Telling
+pub mod Listening
+pub mod Obeyed
 pub mod Heard

@@ -160,6 +160,7 @@ sound_on l (Some v) (Some new) b e n h = record {
   connect = h.connect;
   numbers = n;
   grant = rw e h.grant;
+  told = rw e h.told;
   ungranted = h.ungranted;
 }
 sound_on l None y b e n h = absurd e

@@ -19,10 +19,10 @@ fault_by lossy server idle s =
 
 faulted_by : (lossy server idle lost : Bool) (l : LiveNow) → IsSound l →
     IsSound (has_effects (fault_by lossy server idle l.session).1 (record l { session = record (fault_by lossy server idle l.session).0 { lost_ready = lost } }))
-faulted_by true server idle lost l h = record { fed = refl; asked = tt; connect = h.connect; numbers = omega arith; grant = refl; ungranted = λ _. refl }
-faulted_by false true idle lost l h = record { fed = refl; asked = tt; connect = h.connect; numbers = h.numbers; grant = refl; ungranted = λ _. refl }
-faulted_by false false true lost l h = record { fed = refl; asked = tt; connect = h.connect; numbers = h.numbers; grant = refl; ungranted = λ _. refl }
-faulted_by false false false lost l h = record { fed = refl; asked = tt; connect = h.connect; numbers = h.numbers; grant = refl; ungranted = λ _. refl }
+faulted_by true server idle lost l h = record { fed = refl; asked = tt; connect = h.connect; numbers = omega arith; grant = refl; told = refl; ungranted = λ _. refl }
+faulted_by false true idle lost l h = record { fed = refl; asked = tt; connect = h.connect; numbers = h.numbers; grant = refl; told = refl; ungranted = λ _. refl }
+faulted_by false false true lost l h = record { fed = refl; asked = tt; connect = h.connect; numbers = h.numbers; grant = refl; told = refl; ungranted = λ _. refl }
+faulted_by false false false lost l h = record { fed = refl; asked = tt; connect = h.connect; numbers = h.numbers; grant = refl; told = refl; ungranted = λ _. refl }
 
 pub faulted : (c : CoreNow) → Holds c → Holds (record c { live = after_fault c.live })
 faulted c h = record {

@@ -117,6 +117,7 @@ sound_on l (Some v) (Some new) e h = record {
   connect = h.connect;
   numbers = h.numbers;
   grant = rw e h.grant;
+  told = rw e h.told;
   ungranted = h.ungranted;
 }
 sound_on l None y e h = absurd e

@@ -137,6 +137,7 @@ sound_on answer l (Some v) (Some new) w h = record {
   connect = h.connect;
   numbers = h.numbers;
   grant = rw (same_reading answer v new w) h.grant;
+  told = rw (same_reading answer v new w) h.told;
   ungranted = h.ungranted;
 }
 sound_on answer l None y w h = absurd w

@@ -70,6 +70,15 @@ abbrev pub granted_on : Option FeedNow → Option ℕ
 granted_on (Some v) = granted_in v.reading
 granted_on None = None
 
+-- whether its decoder was told so
+abbrev pub is_granted_in : Reading → Bool
+is_granted_in (framing rest granted) = granted
+is_granted_in (shaking s) = false
+
+abbrev pub is_granted_on : Option FeedNow → Bool
+is_granted_on (Some v) = is_granted_in v.reading
+is_granted_on None = false
+
 abbrev pub size_granted : Option SeenGrant → Option ℕ
 size_granted (Some g) = Some g.n
 size_granted None = None
@@ -100,13 +109,14 @@ IsAskedIfSigned p (Some v) = is_framing v.reading ≡ false → p ≡ Connecting
 IsAskedIfSigned p None = Unit {0}
 
 -- What holds of each core. There is a feed exactly in the phases that have one; numbers that are counted up have a next one;
--- and a grant is held exactly for the MESSAGE at the feed's front, in Ready alone.
+-- and a grant is held exactly for the MESSAGE at the feed's front, of which its decoder was told, in Ready alone.
 pub record IsSound (l : LiveNow) : Type 0 where
   pub fed : is_some l.feed ≡ phase.is_among l.session.phase phase.with_feed
   pub asked : IsAskedIfSigned l.session.phase l.feed
   pub connect : l.session.connect ≤ GREATEST_NUMBER + 1
   pub numbers : last_number l.out.queue ≤ GREATEST_NUMBER
   pub grant : size_granted l.granted ≡ granted_on l.feed
+  pub told : is_some l.granted ≡ is_granted_on l.feed
   pub ungranted : is_ready l ≡ false → l.granted ≡ None
 
 -- and cookies can be drawn

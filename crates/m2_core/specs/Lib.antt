@@ -10,5 +10,6 @@ pub mod Shaken
 pub mod Composing
 pub mod Numbering
 pub mod Asking
+pub mod Hearing
 pub mod ToCompose
 pub mod News

@@ -1,5 +1,7 @@
 //! What a session's step leaves for the record.
 
+ghost use Rattle.std.specs.Prelude.{◌≡◌, false, None, option_map};
+
 use m2_fabric::End;
 
 /// What a step of the session leaves for whoever holds the core: the end of the feed that was left, closed;
@@ -12,4 +14,19 @@ pub struct Aftermath<E: End> {
     pub discarded: bool,
     /// The dispatcher is told that the peer has reset the session.
     pub remote_reset: bool,
+}
+
+impl<E: End> Aftermath<E> {
+    /// Nothing is left.
+    pub(crate) fn nothing() -> Aftermath<E>
+        ensures closed { option_map E.seen result.closed ≡ None }
+        ensures discarded { result.discarded ≡ false }
+        ensures remote_reset { result.remote_reset ≡ false }
+    {
+        Aftermath {
+            closed: None,
+            discarded: false,
+            remote_reset: false,
+        }
+    }
 }

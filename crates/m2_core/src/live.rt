@@ -133,6 +133,33 @@ impl<E: End> Live<E> {
         }
     }
 
+    /// Tells the session of an event where nothing is granted, and does what it owes then.
+    pub(crate) fn heed(&mut self, event: Event) -> Aftermath<E>
+        requires lawful { IsTrue (table.is_lawful self.old.session event) }
+        requires connect { self.old.session.connect < 2 ^ 64 - 1 }
+        requires follower { HasFollower event }
+        requires ungranted { self.old.granted ≡ None }
+        ensures live { self.new ≡ tells event self.old }
+        ensures aftermath { IsAftermath (step_of self.old.session event).effects self.old.feed (option_map E.seen result.closed) result.discarded result.remote_reset }
+    {
+        let (session, effects) = step(self.session, event);
+        self.session = session;
+        move_queue(&effects, &mut self.out);
+        if effects.set_back {
+            self.last = 0;
+        }
+        let mut closed = None;
+        if effects.close {
+            self.resumed = 0;
+            closed = leave(&mut self.feed);
+        }
+        Aftermath {
+            closed,
+            discarded: effects.discard,
+            remote_reset: effects.remote_reset,
+        }
+    }
+
     /// The messages up to this number go.
     pub(crate) fn count(&mut self, number: u64)
         requires { number ≤ self.old.out.queue.written }

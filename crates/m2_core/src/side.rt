@@ -29,7 +29,8 @@ use std::marker::Model;
 /// [`may_dial`](Core::may_dial), [`is_exhausted`](Core::is_exhausted). By the plan:
 /// [`reserve_posts`](Core::reserve_posts), [`post`](Core::post), [`dial`](Core::dial),
 /// [`down`](Core::down). The feed comes and goes: [`opened`](Core::opened), [`fault`](Core::fault).
-/// Bytes: [`write`](Core::write). What was read: [`shake`](Core::shake), [`acked`](Core::acked). What is
+/// Bytes: [`read`](Core::read), [`write`](Core::write). What was read: [`shake`](Core::shake),
+/// [`hearing`](Core::hearing), [`obey`](Core::obey), [`acked`](Core::acked). What is
 /// composed: [`ask`](Core::ask), [`number`](Core::number), [`acknowledge`](Core::acknowledge),
 /// [`answer_keepalive`](Core::answer_keepalive). An ask of the peer: [`answer_to`](Core::answer_to),
 /// [`verdict`](Core::verdict); then [`answered`](Core::answered), or [`acceptance`](Core::acceptance) and
