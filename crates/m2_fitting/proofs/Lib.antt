@@ -19,3 +19,4 @@ pub mod Points
 pub mod Hears
 pub mod Asking
 pub mod Orders
+pub mod OnePoint

@@ -31,7 +31,7 @@ use Rattle.m2_fitting.proofs.Steps.{AllKept}
 
 -- ---- lists
 
-lawful-front : (f : SideFacts) (is js : List JournalItem) (s : State) → AreLawful f (is ++ js) s → AreLawful f is s × AreLawful f js (after_items f is s)
+pub lawful-front : (f : SideFacts) (is js : List JournalItem) (s : State) → AreLawful f (is ++ js) s → AreLawful f is s × AreLawful f js (after_items f is s)
 lawful-front f [] js s h = (tt, h)
 lawful-front f (i ∷ is) js s h = let more = lawful-front f is js (after f i s) h.1 in ((h.0, more.0), more.1)
 

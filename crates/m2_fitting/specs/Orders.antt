@@ -3,6 +3,7 @@ use Rattle.std.specs.Prelude.{◌≡◌, ℕ, true, false, if◌then◌else◌, 
 use Rattle.std.specs.List.{AllByRecursion, flat_map}
 use Rattle.m2_fabric.specs.declared.socket.SocketId.{SocketId}
 use Rattle.m2_fabric.specs.Sockets.{same_socket, goes_to}
+use Rattle.m2_session.specs.declared.session.Phase.TheVariants.{Ready}
 use Rattle.m2_journal.specs.Items.{JournalItem}
 use Rattle.m2_journal.specs.Replay.{AreLawful}
 use Rattle.m2_journal.specs.SideFacts.{SideFacts}
@@ -103,3 +104,15 @@ BytesGiveFits = (f g : SideFacts) (order : List Move) → AreNodes f g → IsByt
 -- so a lossless session is never reset
 abbrev pub LosslessBytesAreNeverReset : Type 0
 LosslessBytesAreNeverReset = (f g : SideFacts) (order : List Move) → AreNodes f g → IsByteHistory f g order → IsNeverReset f g (entries_of order)
+
+-- ---- bytes can fit
+
+-- two lawful journals at a point at which bytes fit, and where both sides are in Ready
+pub record BytesCanFit : Type 0 where
+  pub near : Side
+  pub far : Side
+  pub near_lawful : AreLawful near.facts near.entries (start near.facts)
+  pub far_lawful : AreLawful far.facts far.entries (start far.facts)
+  pub bytes : BytesFit near far
+  pub near_ready : (state_of near).session.phase ≡ Ready
+  pub far_ready : (state_of far).session.phase ≡ Ready

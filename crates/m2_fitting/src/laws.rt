@@ -23,3 +23,9 @@ pub fn lossless_bytes_are_never_reset()
     histories_are_runs();
     lossless_is_never_reset();
 }
+
+/// There is a point at which bytes fit and both sides are in Ready: the one has opened a socket, and the
+/// other has taken it with its half.
+pub fn bytes_can_fit()
+    ensures { orders.BytesCanFit }
+{}

@@ -12,4 +12,4 @@
 
 mod laws;
 
-pub use laws::{bytes_give_fits, lossless_bytes_are_never_reset};
+pub use laws::{bytes_can_fit, bytes_give_fits, lossless_bytes_are_never_reset};
