@@ -36,7 +36,7 @@ use Rattle.m2_paired.proofs.Sockets.{differ, same_equal}
 use Rattle.m2_trail.specs.Asks.{facts_of_ask}
 use Rattle.m2_trail.specs.Replies.{all_replies}
 use Rattle.m2_trail.specs.Trails.{ComesToAsk, ComesToWrite}
-use Rattle.m2_fitting.specs.Ends.{Half, Side, state_of, judged_at, read_on, wrote_in, wrote_on, takings_on, got_at, put_at}
+use Rattle.m2_fitting.specs.Ends.{HalfBytes, Side, state_of, judged_at, read_on, wrote_in, wrote_on, takings_on, got_at, put_at}
 use Rattle.m2_fitting.specs.Halves.{HalfName, begins, IsTaken, HalfFits, BytesFit}
 use Rattle.m2_fitting.specs.Orders.{BytesCanFit}
 use Rattle.m2_fitting.proofs.Lists.{not_nil}
@@ -47,11 +47,11 @@ use Rattle.m2_fitting.proofs.Orders.{lawful-front}
 abbrev one : SocketId
 one = socket 1
 
-abbrev silent : Half
+abbrev silent : HalfBytes
 silent = record { got = []; put = [] }
 
 -- what the opener wrote until its ask was judged, and what it read
-abbrev half : Half
+abbrev half : HalfBytes
 half = record { got = wrote_on one (take 9 delivered.of_a); put = read_on one (take 9 delivered.of_a) }
 
 -- what the two did until the opener has read the answer to its ask
@@ -154,7 +154,7 @@ far_silent k e = rw e refl
 
 far_got_elsewhere : (k : SocketId) → same_socket k one ≡ false → got_at far k ≡ []
 unfolding far
-far_got_elsewhere k e = ap (λ (h : Half). h.got ++ read_on k of_taker) (far_silent k e) ∙ read_elsewhere k of_taker e far_on_one
+far_got_elsewhere k e = ap (λ (h : HalfBytes). h.got ++ read_on k of_taker) (far_silent k e) ∙ read_elsewhere k of_taker e far_on_one
 
 -- ---- the halves
 
@@ -183,7 +183,7 @@ nothing_written = record {
 
 silent_fits : (a : Side) (k : SocketId) → a.halves k ≡ silent → judged_at a k ≡ [] → takings_on k a.entries ≡ [] → HalfFits a k
 silent_fits a k s j t = record {
-  opened = λ o. (ap (λ (h : Half). h.got) s, ap (λ (h : Half). h.put) s);
+  opened = λ o. (ap (λ (h : HalfBytes). h.got) s, ap (λ (h : HalfBytes). h.put) s);
   name = name;
   refused = None;
   refused_fits = tt;

@@ -18,7 +18,7 @@ use Rattle.m2_paired.specs.Orders.{SideItem, near_item, far_item, near_items, fa
 use Rattle.m2_paired.specs.Paired.{FeedIsPaired, beside, Paired}
 use Rattle.m2_paired.proofs.Sockets.{differ, at_among}
 use Rattle.m2_fitting.specs.Ends.{Side, state_of}
-use Rattle.m2_fitting.specs.Orders.{Move, near_entry, far_entry, near_half, far_half, entry_in, entries_of, near_side, far_side, IsByteHistory, BytesGiveFits, LosslessBytesAreNeverReset}
+use Rattle.m2_fitting.specs.Orders.{OrderEntry, near_entry, far_entry, near_half, far_half, entry_in, entries_of, near_side, far_side, IsByteHistory, BytesGiveFits, LosslessBytesAreNeverReset}
 use Rattle.m2_fitting.proofs.Asking.{near_behind, far_behind}
 use Rattle.m2_fitting.specs.Texts.{CanBeSent, CanAllBeSent}
 use Rattle.m2_fitting.proofs.Entries.{FeedSo, entry_keeps}
@@ -51,7 +51,7 @@ fits-append f g [] ys a b h k = k
 fits-append f g (near_item i ∷ xs) ys a b h k = (h.0, fits-append f g xs ys (after f i a) b h.1 k)
 fits-append f g (far_item i ∷ xs) ys a b h k = (h.0, fits-append f g xs ys a (after g i b) h.1 k)
 
-entries-append : (xs ys : List Move) → entries_of (xs ++ ys) ≡ entries_of xs ++ entries_of ys
+entries-append : (xs ys : List OrderEntry) → entries_of (xs ++ ys) ≡ entries_of xs ++ entries_of ys
 entries-append xs ys = flat_map-append entry_in xs ys
 
 -- ---- what was sent and opened
@@ -134,8 +134,8 @@ fits_so a b h near far = record {
   opened_apart = h.apart;
 }
 
-module _ (runs : HistoriesAreRuns) (f g : SideFacts) (order : List Move) (nodes : AreNodes f g) (h : IsByteHistory f g order) where
-  known : (front back : List Move) → order ≡ front ++ back → AllKept f (near_items (entries_of front)) (near_after f (entries_of front)) → AllKept g (far_items (entries_of front)) (far_after g (entries_of front)) →
+module _ (runs : HistoriesAreRuns) (f g : SideFacts) (order : List OrderEntry) (nodes : AreNodes f g) (h : IsByteHistory f g order) where
+  known : (front back : List OrderEntry) → order ≡ front ++ back → AllKept f (near_items (entries_of front)) (near_after f (entries_of front)) → AllKept g (far_items (entries_of front)) (far_after g (entries_of front)) →
       AllByRecursion (Leads f) (near_after f (entries_of front)).opened → AllByRecursion (Leads g) (far_after g (entries_of front)).opened → Known (near_side f front) (far_side g front)
   known front back e near far near_leads far_leads = record {
     near_kept = near;
@@ -156,7 +156,7 @@ module _ (runs : HistoriesAreRuns) (f g : SideFacts) (order : List Move) (nodes 
       far_all : far_items (entries_of order) ≡ far_items (entries_of front) ++ far_items (entries_of back)
       far_all = ap (λ l. far_items (entries_of l)) e ∙ ap far_items (entries-append front back) ∙ far-append (entries_of front) (entries_of back)
 
-  near_step : (front back : List Move) (i : JournalItem) → order ≡ (front ++ near_entry i ∷ []) ++ back → IsKept f g (entries_of front) → IsKept f g (entries_of (front ++ near_entry i ∷ []))
+  near_step : (front back : List OrderEntry) (i : JournalItem) → order ≡ (front ++ near_entry i ∷ []) ++ back → IsKept f g (entries_of front) → IsKept f g (entries_of (front ++ near_entry i ∷ []))
   near_step front back i e old =
       let known_now = known now back e (subst₂ (λ is s. AllKept f is s) (sym near_list) (sym near_state) near_kept) (subst₂ (λ is s. AllKept g is s) (sym far_list) (sym far_state) old.far)
       (subst (λ s. AllByRecursion (Leads f) s.opened) (sym near_state) leads_now) (subst (λ s. AllByRecursion (Leads g) s.opened) (sym far_state) old.far_leads) in
@@ -185,7 +185,7 @@ module _ (runs : HistoriesAreRuns) (f g : SideFacts) (order : List Move) (nodes 
       subst₂ : {X Y : Type 0} (P : X → Y → Type 0) {x x' : X} {y y' : Y} → x ≡ x' → y ≡ y' → P x y → P x' y'
       subst₂ P {x} {x'} {y} {y'} p q k = subst (λ z. P x' z) q (subst (λ z. P z y) p k)
 
-      now : List Move
+      now : List OrderEntry
       now = front ++ near_entry i ∷ []
 
       xs : List SideItem
@@ -253,7 +253,7 @@ module _ (runs : HistoriesAreRuns) (f g : SideFacts) (order : List Move) (nodes 
       far_now : NoAskBehind b (after f i a)
       far_now = far_behind f i b a up lawful (paired_turn a b leads.paired) old.far_behind
 
-  far_step : (front back : List Move) (i : JournalItem) → order ≡ (front ++ far_entry i ∷ []) ++ back → IsKept f g (entries_of front) → IsKept f g (entries_of (front ++ far_entry i ∷ []))
+  far_step : (front back : List OrderEntry) (i : JournalItem) → order ≡ (front ++ far_entry i ∷ []) ++ back → IsKept f g (entries_of front) → IsKept f g (entries_of (front ++ far_entry i ∷ []))
   far_step front back i e old =
       let known_now = known now back e (subst₂ (λ is s. AllKept f is s) (sym near_list) (sym near_state) old.near) (subst₂ (λ is s. AllKept g is s) (sym far_list) (sym far_state) far_kept)
       (subst (λ s. AllByRecursion (Leads f) s.opened) (sym near_state) old.near_leads) (subst (λ s. AllByRecursion (Leads g) s.opened) (sym far_state) leads_now) in
@@ -282,7 +282,7 @@ module _ (runs : HistoriesAreRuns) (f g : SideFacts) (order : List Move) (nodes 
       subst₂ : {X Y : Type 0} (P : X → Y → Type 0) {x x' : X} {y y' : Y} → x ≡ x' → y ≡ y' → P x y → P x' y'
       subst₂ P {x} {x'} {y} {y'} p q k = subst (λ z. P x' z) q (subst (λ z. P z y) p k)
 
-      now : List Move
+      now : List OrderEntry
       now = front ++ far_entry i ∷ []
 
       xs : List SideItem
@@ -350,13 +350,13 @@ module _ (runs : HistoriesAreRuns) (f g : SideFacts) (order : List Move) (nodes 
       far_now : NoAskBehind (after g i b) a
       far_now = near_behind g i b a up (paired_turn a b leads.paired) old.far_behind
 
-  step : (front back : List Move) (m : Move) → order ≡ (front ++ m ∷ []) ++ back → IsKept f g (entries_of front) → IsKept f g (entries_of (front ++ m ∷ []))
+  step : (front back : List OrderEntry) (m : OrderEntry) → order ≡ (front ++ m ∷ []) ++ back → IsKept f g (entries_of front) → IsKept f g (entries_of (front ++ m ∷ []))
   step front back (near_entry i) e old = near_step front back i e old
   step front back (far_entry i) e old = far_step front back i e old
   step front back (near_half k m) e old = subst (IsKept f g) (sym (entries-append front (near_half k m ∷ []) ∙ append-nil (entries_of front))) old
   step front back (far_half k m) e old = subst (IsKept f g) (sym (entries-append front (far_half k m ∷ []) ∙ append-nil (entries_of front))) old
 
-  goes_on : (front back : List Move) → order ≡ front ++ back → IsKept f g (entries_of front) → IsKept f g (entries_of order)
+  goes_on : (front back : List OrderEntry) → order ≡ front ++ back → IsKept f g (entries_of front) → IsKept f g (entries_of order)
   goes_on front [] e old = subst (λ l. IsKept f g (entries_of l)) (sym (e ∙ append-nil front)) old
   goes_on front (m ∷ ms) e old =
       let here : order ≡ (front ++ m ∷ []) ++ ms = e ∙ sym (append_assoc front (m ∷ []) ms) in

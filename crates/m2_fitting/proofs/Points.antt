@@ -25,7 +25,7 @@ use Rattle.m2_trail.specs.Asks.{facts_of_ask}
 use Rattle.m2_trail.specs.Replies.{all_replies}
 use Rattle.m2_trail.specs.Trails.{ComesToAsk}
 use Rattle.m2_fitting.specs.Ends.{Side, state_of, read_on, wrote_on, takings_on, got_at}
-use Rattle.m2_fitting.specs.Halves.{HalfName, begins, IsNamed, HalfFits, BytesFit}
+use Rattle.m2_fitting.specs.Halves.{HalfName, begins, KeepsRanges, HalfFits, BytesFit}
 use Rattle.m2_fitting.specs.Texts.{CanBeSent, CanAllBeSent, texts_of}
 use Rattle.m2_fitting.proofs.Acceptors.{as_asked, HasWelcomed, IsAsked, accepts}
 use Rattle.m2_fitting.proofs.Fronts.{AreFirst, front_items, nothing_split, begun_is_open}
@@ -45,8 +45,8 @@ pub record Known (a b : Side) : Type 0 where
   pub apart : (k : SocketId) → is_among k (state_of a).opened ≡ true → is_among k (state_of b).opened ≡ false
   pub near_sent : CanAllBeSent a.facts (state_of a).sent
   pub far_sent : CanAllBeSent b.facts (state_of b).sent
-  pub near_named : IsNamed a.facts
-  pub far_named : IsNamed b.facts
+  pub near_named : KeepsRanges a.facts
+  pub far_named : KeepsRanges b.facts
 
 bytes_turn : (a b : Side) → BytesFit a b → BytesFit b a
 bytes_turn a b h = record {

@@ -24,7 +24,7 @@ use Rattle.m2_paired.specs.Frames.{is_ask}
 use Rattle.m2_paired.proofs.Sockets.{differ}
 use Rattle.m2_trail.specs.Replies.{refusal}
 use Rattle.m2_fitting.proofs.Sent.{ack_writable, stamp_writable}
-use Rattle.m2_fitting.specs.Texts.{Made, of_message, of_payload, of_none, made, IsReadable, CanBeSent, texts_of}
+use Rattle.m2_fitting.specs.Texts.{Made, of_message, of_payload, of_none, made, KeepsFormat, CanBeSent, texts_of}
 
 -- ---- the parts of a frame
 
@@ -164,10 +164,10 @@ said_first f (suc n) [] a k = tt
 said_first f (suc n) (w ∷ ws) a k = (says_sent f w a.0 k.0, said_first f n ws a.1 k.1)
 
 -- and a refusal behind them
-says_refusal : (bits : ℕ) → IsReadable (refusal bits) → IsRefusal (said (whole (control_parts (refusal bits))))
+says_refusal : (bits : ℕ) → KeepsFormat (refusal bits) → IsRefusal (said (whole (control_parts (refusal bits))))
 says_refusal bits k = subst IsRefusal (sym (ap said_of_payload (written_is_read (refusal bits) k.ranges k.bounds).read)) tt
 
-pub said_refused : (f : SideFacts) (n : ℕ) (bits : ℕ) (ws : List OutFrame) → IsReadable (refusal bits) → AllByRecursion NoAsk ws → AllByRecursion (CanBeSent f) ws →
+pub said_refused : (f : SideFacts) (n : ℕ) (bits : ℕ) (ws : List OutFrame) → KeepsFormat (refusal bits) → AllByRecursion NoAsk ws → AllByRecursion (CanBeSent f) ws →
     AreSaid (map whole (take n (parts_all f ws ++ control_parts (refusal bits) ∷ []))) ws
 said_refused f zero bits ws r a k = tt
 said_refused f (suc zero) bits [] r a k = (says_refusal bits r, refl)

@@ -12,7 +12,7 @@ use Rattle.m2_handshake.specs.Texts.{control_parts, hello, done, signature}
 use Rattle.m2_handshake.proofs.Greeting.{IsSent, payload_read, no_bytes}
 use Rattle.m2_journal.specs.Laws.{IsWritable}
 use Rattle.m2_trail.specs.Replies.{refusal}
-use Rattle.m2_fitting.specs.Texts.{IsReadable}
+use Rattle.m2_fitting.specs.Texts.{KeepsFormat}
 
 abbrev IsByte : ℕ → Type 0
 IsByte b = b < 256
@@ -92,7 +92,7 @@ signature_sent = record {
 
 -- ---- what no entry names, whatever numbers stand in it
 
-pub refusal_readable : (bits : ℕ) → bits < 2 ^ 64 → IsReadable (refusal bits)
+pub refusal_readable : (bits : ℕ) → bits < 2 ^ 64 → KeepsFormat (refusal bits)
 refusal_readable bits h = record {
   writable = record {
     fits = record { tag_from = omega arith; tag_to = omega arith; count = omega arith; first = omega arith; second = omega arith; third = omega arith; fourth = omega arith };

@@ -14,7 +14,7 @@ use Rattle.m2_journal.specs.SideFacts.{SideFacts}
 use Rattle.m2_journal.specs.State.{State, start}
 
 -- the bytes that a half has read so far, and those that it has written
-pub record Half : Type 0 where
+pub record HalfBytes : Type 0 where
   pub got : List ℕ
   pub put : List ℕ
 
@@ -22,7 +22,7 @@ pub record Half : Type 0 where
 pub record Side : Type 0 where
   pub facts : SideFacts
   pub entries : List JournalItem
-  pub halves : SocketId → Half
+  pub halves : SocketId → HalfBytes
 
 -- where its journal leads
 abbrev pub state_of : Side → State

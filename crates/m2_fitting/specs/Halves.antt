@@ -15,7 +15,7 @@ use Rattle.m2_journal.specs.SideFacts.{SideFacts}
 use Rattle.m2_trail.specs.Asks.{facts_of_ask}
 use Rattle.m2_trail.specs.Replies.{replies_to, all_replies}
 use Rattle.m2_trail.specs.Trails.{ComesToAsk, ComesToWrite}
-use Rattle.m2_fitting.specs.Ends.{Half, Side, state_of, judged_at, takings_on, got_at, put_at}
+use Rattle.m2_fitting.specs.Ends.{HalfBytes, Side, state_of, judged_at, takings_on, got_at, put_at}
 
 -- ---- a half
 
@@ -32,7 +32,7 @@ begins name = acceptor_at_start name.entity name.seen
 
 -- a half that a record has taken: it owes the reply to the last of the asks that were judged, has replied to those before,
 -- has put all that it wrote, and had this left unread
-pub record IsTaken (begin : Standing) (h : Half) (judged : List JudgedItem) (left : List ℕ) : Type 0 where
+pub record IsTaken (begin : Standing) (h : HalfBytes) (judged : List JudgedItem) (left : List ℕ) : Type 0 where
   pub exchange : Exchange
   pub standing : Standing
   pub comes : Reaches begin exchange standing
@@ -44,7 +44,7 @@ pub record IsTaken (begin : Standing) (h : Half) (judged : List JudgedItem) (lef
   pub unread : standing.rest ≡ left
 
 -- what a node names itself by, and the address that it dials, keep the ranges of their types
-pub record IsNamed (f : SideFacts) : Type 0 where
+pub record KeepsRanges (f : SideFacts) : Type 0 where
   pub entity : f.node.entity < 2 ^ 8
   pub peer : HasAddrRanges f.peer
 

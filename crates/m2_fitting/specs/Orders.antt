@@ -11,60 +11,60 @@ use Rattle.m2_journal.specs.State.{start}
 use Rattle.m2_paired.specs.Laws.{IsNoDown}
 use Rattle.m2_paired.specs.Orders.{SideItem, near_item, far_item, near_items, far_items, AreNodes, IsHistory, IsNeverReset}
 use Rattle.m2_fitting.specs.Ends.{Side, state_of}
-use Rattle.m2_fitting.specs.Halves.{IsNamed, BytesFit}
+use Rattle.m2_fitting.specs.Halves.{KeepsRanges, BytesFit}
 use Rattle.m2_fitting.specs.Texts.{CanAllBeSent}
 
 -- ---- an order
 
 -- what a half does
-pub data HalfMove : Type 0 where
-  reads : (bytes : List ℕ) → HalfMove
-  writes : (bytes : List ℕ) → HalfMove
+pub data HalfEntry : Type 0 where
+  reads : (bytes : List ℕ) → HalfEntry
+  writes : (bytes : List ℕ) → HalfEntry
 
 -- an entry of a journal, or of the trail of a half
-pub data Move : Type 0 where
-  near_entry : JournalItem → Move
-  far_entry : JournalItem → Move
-  near_half : SocketId → HalfMove → Move
-  far_half : SocketId → HalfMove → Move
+pub data OrderEntry : Type 0 where
+  near_entry : JournalItem → OrderEntry
+  far_entry : JournalItem → OrderEntry
+  near_half : SocketId → HalfEntry → OrderEntry
+  far_half : SocketId → HalfEntry → OrderEntry
 
 -- the entries of both journals alone
-abbrev pub entry_in : Move → List SideItem
+abbrev pub entry_in : OrderEntry → List SideItem
 entry_in (near_entry i) = near_item i ∷ []
 entry_in (far_entry i) = far_item i ∷ []
 entry_in (near_half k m) = []
 entry_in (far_half k m) = []
 
-abbrev pub entries_of : List Move → List SideItem
+abbrev pub entries_of : List OrderEntry → List SideItem
 entries_of order = flat_map entry_in order
 
 -- ---- what each side has got and put by it
 
-abbrev pub got_by : HalfMove → List ℕ
+abbrev pub got_by : HalfEntry → List ℕ
 got_by (reads bytes) = bytes
 got_by (writes bytes) = []
 
-abbrev pub put_by : HalfMove → List ℕ
+abbrev pub put_by : HalfEntry → List ℕ
 put_by (reads bytes) = []
 put_by (writes bytes) = bytes
 
 -- of the half of the near side on this socket
-abbrev pub near_move : SocketId → (HalfMove → List ℕ) → Move → List ℕ
+abbrev pub near_move : SocketId → (HalfEntry → List ℕ) → OrderEntry → List ℕ
 near_move k bytes (near_half socket m) = if same_socket k socket then bytes m else []
 near_move k bytes m = []
 
-abbrev pub far_move : SocketId → (HalfMove → List ℕ) → Move → List ℕ
+abbrev pub far_move : SocketId → (HalfEntry → List ℕ) → OrderEntry → List ℕ
 far_move k bytes (far_half socket m) = if same_socket k socket then bytes m else []
 far_move k bytes m = []
 
-abbrev pub near_side : SideFacts → List Move → Side
+abbrev pub near_side : SideFacts → List OrderEntry → Side
 near_side f order = record {
   facts = f;
   entries = near_items (entries_of order);
   halves = λ k. record { got = flat_map (near_move k got_by) order; put = flat_map (near_move k put_by) order };
 }
 
-abbrev pub far_side : SideFacts → List Move → Side
+abbrev pub far_side : SideFacts → List OrderEntry → Side
 far_side g order = record {
   facts = g;
   entries = far_items (entries_of order);
@@ -74,18 +74,18 @@ far_side g order = record {
 -- ---- bytes that fit throughout
 
 -- what holds where the first moves of an order lead, however many they are
-abbrev pub Throughout : List Move → (List Move → Type 0) → Type 0
-Throughout order P = (front back : List Move) → order ≡ front ++ back → P front
+abbrev pub Throughout : List OrderEntry → (List OrderEntry → Type 0) → Type 0
+Throughout order P = (front back : List OrderEntry) → order ≡ front ++ back → P front
 
 -- what the two sides have sent can be read again
-pub record CanBeRead (f g : SideFacts) (order : List Move) : Type 0 where
+pub record CanBeRead (f g : SideFacts) (order : List OrderEntry) : Type 0 where
   pub near : CanAllBeSent f (state_of (near_side f order)).sent
   pub far : CanAllBeSent g (state_of (far_side g order)).sent
 
 -- both journals are lawful, no side is marked down by its own node, and the bytes fit at each point
-pub record IsByteHistory (f g : SideFacts) (order : List Move) : Type 0 where
-  pub near_named : IsNamed f
-  pub far_named : IsNamed g
+pub record IsByteHistory (f g : SideFacts) (order : List OrderEntry) : Type 0 where
+  pub near_named : KeepsRanges f
+  pub far_named : KeepsRanges g
   -- the two sides dial different places
   pub peers : (k : SocketId) → goes_to f.peer k ≡ true → goes_to g.peer k ≡ false
   pub near_lawful : AreLawful f (near_items (entries_of order)) (start f)
@@ -99,11 +99,11 @@ pub record IsByteHistory (f g : SideFacts) (order : List Move) : Type 0 where
 
 -- the two journals are a history, in an order that fits
 abbrev pub BytesGiveFits : Type 0
-BytesGiveFits = (f g : SideFacts) (order : List Move) → AreNodes f g → IsByteHistory f g order → IsHistory f g (entries_of order)
+BytesGiveFits = (f g : SideFacts) (order : List OrderEntry) → AreNodes f g → IsByteHistory f g order → IsHistory f g (entries_of order)
 
 -- so a lossless session is never reset
 abbrev pub LosslessBytesAreNeverReset : Type 0
-LosslessBytesAreNeverReset = (f g : SideFacts) (order : List Move) → AreNodes f g → IsByteHistory f g order → IsNeverReset f g (entries_of order)
+LosslessBytesAreNeverReset = (f g : SideFacts) (order : List OrderEntry) → AreNodes f g → IsByteHistory f g order → IsNeverReset f g (entries_of order)
 
 -- ---- bytes can fit
 

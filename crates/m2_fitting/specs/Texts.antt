@@ -40,18 +40,18 @@ made f (out.keepalive_answer k) = of_payload (control.KeepaliveAck (record { sec
 -- ---- what can be read again
 
 -- a payload whose frame can be written, and which keeps the ranges of its fields and the bounds of the profile
-pub record IsReadable (c : Control) : Type 0 where
+pub record KeepsFormat (c : Control) : Type 0 where
   pub writable : IsWritable (control_parts c)
   pub ranges : HasRanges c
   pub bounds : IsInBounds c
 
-pub record IsBrought (m : Content) : Type 0 where
+pub record KeepsFields (m : Content) : Type 0 where
   pub writable : IsWritable (parts_of m)
   pub fields : FieldsFit m.header
 
 abbrev pub CanBeMade : Made → Type 0
-CanBeMade (of_message m) = IsBrought m
-CanBeMade (of_payload c) = IsReadable c
+CanBeMade (of_message m) = KeepsFields m
+CanBeMade (of_payload c) = KeepsFormat c
 CanBeMade of_none = ⊥
 
 -- the frame keeps the bounds of its format
