@@ -73,7 +73,7 @@ far_side g order = record {
 
 -- ---- bytes that fit throughout
 
--- what holds where the first moves of an order lead, however many they are
+-- what holds where the first entries of an order lead, however many they are
 abbrev pub Throughout : List OrderEntry → (List OrderEntry → Type 0) → Type 0
 Throughout order P = (front back : List OrderEntry) → order ≡ front ++ back → P front
 
@@ -82,7 +82,8 @@ pub record CanBeRead (f g : SideFacts) (order : List OrderEntry) : Type 0 where
   pub near : CanAllBeSent f (state_of (near_side f order)).sent
   pub far : CanAllBeSent g (state_of (far_side g order)).sent
 
--- both journals are lawful, no side is marked down by its own node, and the bytes fit at each point
+-- Both journals are lawful, no side is marked down by its own node, and the bytes fit at each point. What the two sides have
+-- sent can be read: a side whose numbers are used up may answer with one that no frame can carry.
 pub record IsByteHistory (f g : SideFacts) (order : List OrderEntry) : Type 0 where
   pub near_named : KeepsRanges f
   pub far_named : KeepsRanges g
