@@ -1,5 +1,6 @@
-pub mod Cuts
 pub mod Listings
+pub mod Loads
+pub mod Memory
 pub mod Orders
 pub mod Programs
 pub mod Says

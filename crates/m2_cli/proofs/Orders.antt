@@ -1,5 +1,5 @@
 -- What `sim` prints keeps the order of the posts, since the model does.
-use Rattle.std.proofs.Common.{◌≡◌, ◌∙◌, ℕ, ◌+◌, zero, suc, Bool, true, false, cond, List, [], ◌++◌, length, take, Result, Ok, Err, refl, sym, ap, subst, map, append-nil, inl, inr}
+use Rattle.std.proofs.Common.{◌≡◌, ◌∙◌, ℕ, zero, suc, Bool, true, false, cond, List, [], ◌++◌, length, take, Result, Ok, Err, refl, sym, ap, subst, map, append-nil, inl, inr}
 use Rattle.std.specs.Prelude.{◌==◌}
 use Rattle.std.proofs.lemmas.Bool.{eqb-true}
 use Rattle.m2_edge.specs.Sink.{SeenSink, TakesBytes, TakesPrefix}
@@ -17,7 +17,6 @@ use Rattle.m2_cli.specs.Edge.{Edge}
 use Rattle.m2_cli.specs.Order.{KeepsOrder, KeepsAll, KeepsPrefixes, PrintsPrefixes}
 use Rattle.m2_cli.specs.Print.{PrintsReport, SaysStatus, unsaid}
 use Rattle.m2_cli.specs.Printout.{IsPrintoutOf, IsSoundIn}
-use Rattle.m2_cli.specs.Top.{RunsFile}
 use Rattle.m2_cli.specs.Verdict.{BadAt, scenario_in, net_for, status_of, report_for, report_in}
 use Rattle.m2_cli.proofs.Says.{prefix_whole}
 

@@ -5,10 +5,11 @@ use Rattle.m2_cli.specs.declared.status.Status.{Status}
 use Rattle.m2_cli.specs.declared.status.Status.TheVariants as status
 use Rattle.m2_cli.specs.Edge.{Edge}
 use Rattle.m2_cli.specs.Print.{Delivers, SaysStatus, unsaid}
-use Rattle.m2_cli.specs.Program.{PrintsTheReport, PrintsWhereDone}
+use Rattle.m2_cli.specs.Program.{PrintsTheReport, PrintsTheLoad, PrintsWhereDone}
+use Rattle.m2_cli.specs.Load.{load_text, IsLoadRun, RunsLoad}
 use Rattle.m2_cli.specs.Top.{Ends, IsRunToEnd, RunsFile}
 use Rattle.m2_cli.specs.Verdict.{report_in}
-use Rattle.m2_cli.specs.Words.{Form, sim_of, frames_of}
+use Rattle.m2_command.specs.Form.{Form, sim_of, frames_of, load_of}
 
 -- all that was taken is flushed, where nothing lay in the sink before
 flushed_whole : (text : List ℕ) (old new : SeenSink) → Delivers text old new → old.taken ≡ [] → old.flushed ≡ [] → new.flushed ≡ text
@@ -34,15 +35,27 @@ prints_report file before after run taken flushed = record {
   flushed = flushed_whole (report_in after.source.given) before.out after.out run.printed taken flushed;
 }
 
-said_done : (file : List ℕ) (work answered : Status) (before after : Edge) → SaysStatus work answered before.err after.err → RunsFile file work before after
-    → answered ≡ status.Done → IsRunToEnd file status.Done before after
-said_done file work answered before after (inl s) run e =
-    let P : Status → Type 0 = λ x. RunsFile file x before after in subst P (sym s.answer ∙ e) run
-said_done file work answered before after (inr s) run e = absurd (never_done work (sym s.answer ∙ e))
+prints_load : (posts seed : ℕ) (before after : Edge) → IsLoadRun posts seed status.Done before after → before.out.taken ≡ [] → before.out.flushed ≡ []
+    → PrintsTheLoad posts seed after.out
+prints_load posts seed before after run taken flushed = record {
+  done = run.status;
+  printed = run.printed.taken ∙ ap (λ (t : List ℕ). t ++ load_text posts seed) taken;
+  flushed = flushed_whole (load_text posts seed) before.out after.out run.printed taken flushed;
+}
+
+-- where Done is answered, the work came to it
+said_done : (Leaves : Status → Type 0) (work answered : Status) (before after : Edge) → SaysStatus work answered before.err after.err → Leaves work
+    → answered ≡ status.Done → Leaves status.Done
+said_done Leaves work answered before after (inl s) left e = subst Leaves (sym s.answer ∙ e) left
+said_done Leaves work answered before after (inr s) left e = absurd (never_done work (sym s.answer ∙ e))
 
 pub program_done : (form : Option Form) (answered : Status) (before after : Edge) → Ends form answered before after → before.out.taken ≡ []
     → before.out.flushed ≡ [] → PrintsWhereDone form answered after.source after.out
 program_done None answered before after ends taken flushed = tt
 program_done (Some (sim_of file)) answered before after ends taken flushed =
-    λ e. prints_report file before after (said_done file ends.work answered before after ends.said ends.left e) taken flushed
+    λ e. prints_report file before after
+    (said_done (λ x. RunsFile file x before after) ends.work answered before after ends.said ends.left e) taken flushed
 program_done (Some (frames_of file)) answered before after ends taken flushed = tt
+program_done (Some (load_of posts seed)) answered before after ends taken flushed =
+    λ e. prints_load posts seed before after
+    (said_done (λ x. RunsLoad posts seed x before after) ends.work answered before after ends.said ends.left e) taken flushed

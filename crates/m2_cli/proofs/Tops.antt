@@ -1,10 +1,10 @@
 -- What a run leaves, by what its work came to.
-use Rattle.std.proofs.Common.{◌≡◌, ℕ, ◌==◌, Bool, true, false, cond, List, [], Result, Ok, Err, refl, sym, ◌∙◌, ap, subst, ◌⊎◌, inl, inr}
-use Rattle.m2_edge.specs.Sink.{SeenSink, TakesPrefix}
+use Rattle.std.proofs.Common.{◌≡◌, ℕ, ◌==◌, Bool, true, false, cond, List, Result, Ok, Err, refl, sym, ◌∙◌, ap, subst, inl, inr}
+use Rattle.m2_edge.specs.Sink.{TakesPrefix}
 use Rattle.m2_cli.specs.declared.printout.Printout.{Printout}
 use Rattle.m2_cli.specs.declared.status.Status.{Status}
 use Rattle.m2_cli.specs.declared.status.Status.TheVariants as status
-use Rattle.m2_cli.specs.Edge.{Edge, IsCause, IsReadWhole, OutFailed}
+use Rattle.m2_cli.specs.Edge.{Edge, IsCause, IsReadWhole}
 use Rattle.m2_cli.specs.Print.{Delivers, PrintsReport}
 use Rattle.m2_cli.specs.Printout.{IsPrintoutOf}
 use Rattle.m2_cli.specs.Top.{RunsFile}

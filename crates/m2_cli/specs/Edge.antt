@@ -1,6 +1,6 @@
 -- What a call may have done to the outside: what is seen of the source, of standard output and of standard error,
 -- before it and after it.
-use Rattle.std.specs.Prelude.{◌≡◌, ◌+◌, ◌≤◌, ◌⊎◌, List, ℕ}
+use Rattle.std.specs.Prelude.{◌+◌, ◌≤◌, ◌⊎◌, List, ℕ}
 use Rattle.m2_edge.specs.Faults.{HasRisen}
 use Rattle.m2_edge.specs.Sink.{SeenSink}
 use Rattle.m2_edge.specs.Source.{SeenSource, IsWhereItWas}

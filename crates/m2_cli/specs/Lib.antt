@@ -8,5 +8,5 @@ pub mod Program
 pub mod Status
 pub mod Top
 pub mod Verdict
-pub mod Words
 pub mod Work
+pub mod Load

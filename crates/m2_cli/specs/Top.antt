@@ -1,5 +1,5 @@
 -- What the top call leaves, by what its work came to.
-use Rattle.std.specs.Prelude.{◌≡◌, List, ℕ, Option}
+use Rattle.std.specs.Prelude.{◌≡◌, ◌⊎◌, List, ℕ, Option}
 use Rattle.m2_edge.specs.Sink.{TakesPrefix}
 use Rattle.m2_cli.specs.declared.status.Status.{Status}
 use Rattle.m2_cli.specs.declared.status.Status.TheVariants.{Done, Usage, BadScenario, ReadFault, WriteFault, Left, NoMemory, BadFrames}
@@ -7,13 +7,14 @@ use Rattle.m2_cli.specs.Edge.{Edge, SourceFailed, OutFailed, StandsSomewhere, Is
 use Rattle.m2_cli.specs.Frames.{ListsFile}
 use Rattle.m2_cli.specs.Print.{Delivers, SaysStatus}
 use Rattle.m2_cli.specs.Verdict.{status_in, report_in}
-use Rattle.m2_cli.specs.Words.{Form, MatchForm}
+use Rattle.m2_command.specs.Form.{Form, MatchForm}
+use Rattle.m2_cli.specs.Load.{RunsLoad, KeepsLoad, IsUntouched}
+use Rattle.m2_cli.specs.Order.{KeepsOrder}
 
--- the words are of no form: the work is to say so
+-- the words are of no form: the work is to say so, or memory ran out before they were read
 pub record IsOfNoForm (work : Status) (before after : Edge) : Type 0 where
-  pub usage : work ≡ Usage
-  pub unread : after.source ≡ before.source
-  pub unprinted : after.out ≡ before.out
+  pub usage : (work ≡ Usage) ⊎ (work ≡ NoMemory)
+  pub untouched : IsUntouched before after
 
 -- the file was read whole, this is what its bytes come to, and standard output took exactly their report, flushed
 pub record IsRunToEnd (file : List ℕ) (work : Status) (before after : Edge) : Type 0 where
@@ -53,4 +54,10 @@ pub record Ends (form : Option Form) (answered : Status) (before after : Edge) :
   pub work : Status
   pub said : SaysStatus work answered before.err after.err
   pub left : MatchForm form (IsOfNoForm work before after) (λ file. RunsFile file work before after)
-      (λ file. ListsFile file work before after)
+      (λ file. ListsFile file work before after) (λ posts seed. RunsLoad posts seed work before after)
+
+-- The headline, by the form of the words: of `sim FILE` said of what the file gave and what was printed, of
+-- `load N SEED` of the generated scenario and the three lines.
+abbrev pub KeepsItsOrder : Option Form → Status → Edge → Edge → Type 0
+KeepsItsOrder form answered before after = MatchForm form (Unit {0}) (λ _. KeepsOrder answered before after) (λ _. Unit {0})
+    (λ posts seed. KeepsLoad posts seed answered before after)

@@ -94,7 +94,8 @@ fn prepare_scenario(alloc: Global, scenario: Scenario) -> Result<Printout, NoMem
     with_line(alloc, status_by_count(left), text)
 }
 
-fn status_by_count(count: u64) -> Status
+/// Done where no post is left.
+pub(crate) fn status_by_count(count: u64) -> Status
     ensures { result ≡ status_by_count count }
 {
     if count == 0 {
@@ -105,7 +106,7 @@ fn status_by_count(count: u64) -> Status
 }
 
 /// The printout with the status's line.
-fn with_line(alloc: Global, status: Status, report: Blob) -> Result<Printout, NoMemory>
+pub(crate) fn with_line(alloc: Global, status: Status, report: Blob) -> Result<Printout, NoMemory>
     ensures { IfOk result (λ p. IsPrintout p status report.bytes) }
 {
     let line = line(alloc, &status)?;

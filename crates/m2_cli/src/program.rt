@@ -2,7 +2,7 @@
 
 ghost use Rattle.std.specs.Prelude.{map, string_bytes};
 ghost use Rattle.m2_cli.specs.Program.{PrintsWhereDone};
-ghost use Rattle.m2_cli.specs.Words.{form_in};
+ghost use Rattle.m2_command.specs.Form.{form_in};
 
 use crate::status::Status;
 use crate::top::msgr2;
@@ -29,8 +29,9 @@ pub fn run_program<'a, R: Files, O: Write, E: Write>(
     err: E,
 ) -> Ended<'a, R, O, E>
     // Where `sim FILE` answers Done, `out` took exactly the report of what the file gave, and flushed it; the file was
-    // read to its end, or to the byte past the limit of a scenario. Nothing is said here of other statuses, nor of
-    // `frames`: that is in the contract of `msgr2`.
+    // read to its end, or to the byte past the limit of a scenario. Where `load N SEED` answers Done, `out` took exactly
+    // its three lines, and flushed them. Nothing is said here of other statuses, nor of `frames`: that is in the contract
+    // of `msgr2`.
     ensures done { PrintsWhereDone (form_in (map string_bytes words.now)) result.status
         (⟦<StdSource<'a, R> as Source>⟧.seen result.source) (⟦<StdSink<O> as Sink>⟧.seen result.out) }
 {

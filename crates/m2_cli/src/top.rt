@@ -1,17 +1,19 @@
 //! The top call.
 
-ghost use Rattle.std.specs.Prelude.{◌≡◌, map, string_bytes};
+ghost use Rattle.std.specs.Prelude.{◌≡◌, Some, map, string_bytes};
 ghost use Rattle.m2_cli.specs.Edge.{HasCauses, edge};
 ghost use Rattle.m2_cli.specs.Order.{KeepsOrder};
-ghost use Rattle.m2_cli.specs.Top.{Ends, RunsFile};
-ghost use Rattle.m2_cli.specs.Words.{form_in, MatchForm};
+ghost use Rattle.m2_cli.specs.Top.{Ends, KeepsItsOrder, RunsFile};
+ghost use Rattle.m2_command.specs.Form.{form_in, form_of, IsWithin, MatchForm};
 ghost use Rattle.m2_cli.specs.Work.{Works};
 
 use crate::frames::frames;
+use crate::load::load;
 use crate::print::{print, say_fixed};
 use crate::printout::prepare_file;
 use crate::status::Status;
-use crate::words::{Command, command_of};
+use m2_bytes::NoMemory;
+use m2_command::{Command, command_of};
 use m2_edge::{ReadFault, Sink, Source};
 use m2_sim::{
     each_key_keeps_its_order, each_post_is_heard_or_left, nothing_left_is_all_heard,
@@ -20,11 +22,12 @@ use m2_sim::{
 use std::alloc::Global;
 
 /// Runs the command that the words name, prints its report on `out`, says on `err` how it ended, and
-/// answers that. The forms of the words are `sim FILE` and `frames FILE`.
+/// answers that. The forms of the words are `sim FILE`, `frames FILE` and `load N SEED`.
 ///
 /// The words are looked at first. With `sim` the file is then read whole, then its scenario is run,
-/// and only then is anything written. With `frames` the file is read in pieces, and the frames of
-/// each are listed before the next is read.
+/// and only then is anything written. With `load` nothing is read: the scenario of the two numbers is
+/// generated and run, and only then is anything written. With `frames` the file is read in pieces, and the
+/// frames of each are listed before the next is read.
 pub fn msgr2<S: Source, O: Sink, E: Sink>(
     alloc: Global,
     args: &[String],
@@ -40,25 +43,48 @@ pub fn msgr2<S: Source, O: Sink, E: Sink>(
     ensures inputs { (S.seen src.new).inputs ≡ (S.seen src.old).inputs }
     // Words of no form touch neither the source nor standard output.
     ensures refuses { MatchForm (form_in (map string_bytes args.now)) ((src.new ≡ src.old) × (out.new ≡ out.old))
-        (λ _. Unit {0}) (λ _. Unit {0}) }
+        (λ _. Unit {0}) (λ _. Unit {0}) (λ _ _. Unit {0}) }
     // By the form of the words: how much of the file was read, what of its report was printed, which line was said
-    // on standard error, and which status is answered. `RunsFile` says it for each status of `sim`, and `ListsFile`
-    // for each of `frames`.
+    // on standard error, and which status is answered. `RunsFile` says it for each status of `sim`, `ListsFile`
+    // for each of `frames`, and `RunsLoad` for each of `load`.
     ensures ends { Ends (form_in (map string_bytes args.now)) result
         (edge (S.seen src.old) (O.seen out.old) (E.seen err.old)) (edge (S.seen src.new) (O.seen out.new) (E.seen err.new)) }
     // The headline of `sim`, of what the file gave and what was printed. For each two nodes, each priority and each
     // dispatch path: the messages printed as dispatched at the one from the other are a prefix of those that the
     // file posts, in order, each once. With Done they are all of them; with Left so many are missing. With WriteFault
-    // a prefix of such lines was printed, or nothing.
-    ensures order { MatchForm (form_in (map string_bytes args.now)) (Unit {0})
-        (λ _. KeepsOrder result (edge (S.seen src.old) (O.seen out.old) (E.seen err.old))
-        (edge (S.seen src.new) (O.seen out.new) (E.seen err.new)))
-        (λ _. Unit {0}) }
+    // a prefix of such lines was printed, or nothing. Of `load` the same of the generated posts and of what was
+    // dispatched, and the three lines tell how many these are.
+    ensures order { KeepsItsOrder (form_in (map string_bytes args.now)) result
+        (edge (S.seen src.old) (O.seen out.old) (E.seen err.old)) (edge (S.seen src.new) (O.seen out.new) (E.seen err.new)) }
 {
-    match command_of(args) {
-        None => say_fixed(err, Status::Usage),
-        Some(Command::Sim(file)) => sim(alloc, file, src, out, err),
-        Some(Command::Frames(file)) => frames(alloc, file, src, out, err),
+    match command_of(alloc, args) {
+        Ok(Some(command)) => run_command(alloc, command, src, out, err),
+        Ok(None) => say_fixed(err, Status::Usage),
+        Err(NoMemory) => say_fixed(err, Status::NoMemory),
+    }
+}
+
+/// Runs a command.
+fn run_command<S: Source, O: Sink, E: Sink>(
+    alloc: Global,
+    command: Command,
+    src: &mut S,
+    out: &mut O,
+    err: &mut E,
+) -> Status
+    requires { IsWithin command }
+    ensures causes { HasCauses result (edge (S.seen src.old) (O.seen out.old) (E.seen err.old))
+        (edge (S.seen src.new) (O.seen out.new) (E.seen err.new)) }
+    ensures inputs { (S.seen src.new).inputs ≡ (S.seen src.old).inputs }
+    ensures ends { Ends (Some (form_of command)) result
+        (edge (S.seen src.old) (O.seen out.old) (E.seen err.old)) (edge (S.seen src.new) (O.seen out.new) (E.seen err.new)) }
+    ensures order { KeepsItsOrder (Some (form_of command)) result
+        (edge (S.seen src.old) (O.seen out.old) (E.seen err.old)) (edge (S.seen src.new) (O.seen out.new) (E.seen err.new)) }
+{
+    match command {
+        Command::Sim(file) => sim(alloc, file.as_str(), src, out, err),
+        Command::Frames(file) => frames(alloc, file.as_str(), src, out, err),
+        Command::Load { posts, seed } => load(alloc, posts, seed, out, err),
     }
 }
 

@@ -1,5 +1,4 @@
 -- What was listed, passed on and said.
-use Rattle.m2_cli.specs.declared.status.Status.TheVariants as status
 use Rattle.m2_cli.specs.Edge.{Edge, edge}
 use Rattle.m2_cli.proofs.Listings.{Ended, ended_passed, listing_ends, listing_caused, no_fall}
 use Rattle.m2_cli.proofs.Says.{said_caused}

@@ -1,6 +1,6 @@
 use Rattle.std.proofs.Common.{List, ℕ, ◌==◌, ap, length, sym, ◌∙◌}
 use Rattle.std.proofs.lemmas.Bool.{false≢true}
-use Rattle.m2_cli.proofs.Says.{delivers_nothing, delivers_flushed}
+use Rattle.m2_cli.proofs.Says.{delivers_flushed}
 use Rattle.m2_cli.proofs.print.write_text.Goals as goal
 
 pub returns-clause-delivers : goal.returns-clause-delivers

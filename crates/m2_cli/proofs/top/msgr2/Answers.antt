@@ -1,10 +1,11 @@
-use Rattle.std.proofs.Common.{◌≡◌, ◌∙◌, sym, ap, map, Some, string_bytes}
-use Rattle.m2_cli.specs.Words.{form_in, form_of, sim_of}
+use Rattle.std.proofs.Common.{map, refl, string_bytes}
+use Rattle.m2_command.specs.Form.{form_in}
+use Rattle.m2_cli.specs.Edge.{Edge, edge}
+use Rattle.m2_cli.proofs.Memory.{memory_ends}
 use Rattle.m2_cli.proofs.top.msgr2.Goals as goal
 
-pub returns-in-Some-Sim-clause-order : goal.returns-in-Some-Sim-clause-order
-returns-in-Some-Sim-clause-order g c =
-    let form : form_in (map string_bytes c.args.args.now) ≡ Some (sim_of c.in-Some-Sim.file.now) =
-    sym c.in-Some-Sim.ensures ∙ ap (λ command. Some (form_of command)) c.in-Some-Sim.field-0-is
-    in
-    rw form c.sim.ensures.order
+pub returns-in-Err-clause-ends : goal.returns-in-Err-clause-ends
+returns-in-Err-clause-ends g c =
+    let before : Edge = edge (g.S.Source.seen c.args.src.now) (g.O.Sink.seen c.args.out.now) (g.E.Sink.seen c.args.err.now) in
+    let after : Edge = edge (g.S.Source.seen c.args.src.now) (g.O.Sink.seen c.args.out.now) (g.E.Sink.seen c.say_fixed-in-Err.new.err) in
+    memory_ends (form_in (map string_bytes c.args.args.now)) c.say_fixed-in-Err.result before after refl refl c.say_fixed-in-Err.ensures.says

@@ -1,6 +1,5 @@
-use Rattle.m2_cli.specs.declared.status.Status.TheVariants as status
 use Rattle.m2_cli.specs.Edge.{Edge, edge}
-use Rattle.m2_cli.proofs.Orders.{Laws, order_printed, order_nothing}
+use Rattle.m2_cli.proofs.Orders.{Laws, order_printed}
 use Rattle.m2_cli.proofs.Says.{said_caused}
 use Rattle.m2_cli.proofs.Tops.{runs_printed, run_caused}
 use Rattle.m2_cli.proofs.top.sim.Goals as goal
