@@ -14,3 +14,10 @@ pub mod Telling
 pub mod Listening
 pub mod Obeyed
 pub mod Heard
+pub mod Fronts
+pub mod Granted
+pub mod Passed
+pub mod Accepted
+pub mod Rested
+pub mod Heeded
+pub mod Nexts

@@ -13,3 +13,9 @@ pub mod Asking
 pub mod Hearing
 pub mod ToCompose
 pub mod News
+pub mod Front
+pub mod Granting
+pub mod Passing
+pub mod Accepting
+pub mod Resting
+pub mod Next

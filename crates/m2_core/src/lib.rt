@@ -10,28 +10,37 @@
 //! where a journal's replay does.
 #![tactic(auto)]
 
+mod accepting;
 mod aftermath;
 mod asking;
 mod composing;
 mod counting;
 mod facts;
 mod feed_laws;
+mod front_laws;
+mod granting;
 mod heeding;
 mod judging;
 mod live;
 mod news;
+mod next;
 mod numbering;
 mod obeying;
+mod passing;
 mod plan;
 mod reading;
+mod resting;
 mod shaking;
 mod side;
 mod sockets;
 mod to_compose;
 mod verdict;
 
+pub use accepting::CoreAccepted;
 pub use aftermath::Aftermath;
 pub use asking::CoreAsk;
+pub use granting::CoreGrant;
+pub use next::{CoreFront, CoreNext};
 pub use reading::CoreRead;
 pub use side::Core;
 pub use to_compose::CoreText;

@@ -48,7 +48,7 @@ impl<E: End> Model for Live<E> {
 }
 
 /// Gives back what was granted, where something was.
-fn give_back(granted: &mut Option<Grant>, throttle: &Throttle, pass: &mut TakePass)
+pub(crate) fn give_back(granted: &mut Option<Grant>, throttle: &Throttle, pass: &mut TakePass)
     requires pass { pass.old.place ≡ throttle.now.place }
     requires owned { IsOwned throttle.now.place granted.old }
     ensures granted { granted.new ≡ None }

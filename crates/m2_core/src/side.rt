@@ -30,7 +30,9 @@ use std::marker::Model;
 /// [`reserve_posts`](Core::reserve_posts), [`post`](Core::post), [`dial`](Core::dial),
 /// [`down`](Core::down). The feed comes and goes: [`opened`](Core::opened), [`fault`](Core::fault).
 /// Bytes: [`read`](Core::read), [`write`](Core::write). What was read: [`shake`](Core::shake),
-/// [`hearing`](Core::hearing), [`obey`](Core::obey), [`acked`](Core::acked). What is
+/// [`hearing`](Core::hearing), [`obey`](Core::obey), and [`next`](Core::next), which
+/// does what the front of the feed says by [`grant`](Core::grant), [`pass_frame`](Core::pass_frame),
+/// [`pass_keepalive`](Core::pass_keepalive), [`acked`](Core::acked) and [`accept`](Core::accept). What is
 /// composed: [`ask`](Core::ask), [`number`](Core::number), [`acknowledge`](Core::acknowledge),
 /// [`answer_keepalive`](Core::answer_keepalive). An ask of the peer: [`answer_to`](Core::answer_to),
 /// [`verdict`](Core::verdict); then [`answered`](Core::answered), or [`acceptance`](Core::acceptance) and

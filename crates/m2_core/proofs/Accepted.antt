@@ -1,0 +1,253 @@
+-- The message at the front is accepted: the core and the replay go on alike.
+use Rattle.std.proofs.Common.{◌≡◌, ◌≢◌, ℕ, ◌+◌, ◌≤◌, ◌<◌, Bool, true, false, List, length, Option, Some, None, Result, Ok, Err, refl, sym, ap, subst, ◌∙◌, arith}
+use Rattle.std.specs.Prelude.{◌⊎◌, nat_le}
+use Rattle.std.specs.Option.{is_some}
+use Rattle.std.proofs.lemmas.Bool.{lt-leb}
+use Rattle.m2_bytes.specs.declared.memory.NoMemory as memory
+use Rattle.m2_feed.specs.Calls.{GivesNext, HasFrame, IsFront, OnlyReads, Passes}
+use Rattle.m2_feed.specs.FeedNow.{FeedNow, Reading, framing, shaking, is_framing}
+use Rattle.m2_feed.specs.Laws.{ChangesBeside, PassesThe, TakesBeside}
+use Rattle.m2_frame.specs.declared.fault.FrameFault.{FrameFault}
+use Rattle.m2_frame.specs.declared.got.Got.{Got}
+use Rattle.m2_frame.specs.declared.got.Got.TheVariants as got
+use Rattle.m2_frame.specs.declared.frame.Frame.{Frame}
+use Rattle.m2_frame.specs.Frame.{Parts, parts, message_tag}
+use Rattle.m2_frame.specs.Reading.{Item, whole, dropped, size_of}
+use Rattle.m2_heard.specs.declared.heard.FrameHeard.{FrameHeard}
+use Rattle.m2_heard.specs.declared.heard.FrameHeard.TheVariants.{Brings}
+use Rattle.m2_heard.specs.declared.hearer.Hearer.{Hearer}
+use Rattle.m2_heard.specs.Heard.{heard_of}
+use Rattle.m2_heard.specs.Laws.{AsksForItsSize, BringsMessages, IsAsReplayed, IsHeardAsReplayed, IsMessageFrame, IsNextMessage}
+use Rattle.m2_journal.specs.Feeds.{is_passed, next_place, next_said}
+use Rattle.m2_journal.specs.Items as item
+use Rattle.m2_journal.specs.Lawful.{IsNext, MayAccept, OnFeedAt, key_of}
+use Rattle.m2_journal.specs.Said.{Said, brings, said}
+use Rattle.m2_journal.specs.SideFacts.{SideFacts}
+use Rattle.m2_journal.specs.State.{Feed, State}
+use Rattle.m2_journal.specs.Steps.{accepts, on_feed_at}
+use Rattle.m2_message.specs.declared.message.Message.{Message}
+use Rattle.m2_message.specs.Message.{Content, content_of}
+use Rattle.m2_message.specs.Message as message
+use Rattle.m2_message_frame.specs.declared.header_text.TheConstants.{HEADER_BYTES}
+use Rattle.m2_message_frame.specs.MessageFrame.{message_in}
+use Rattle.m2_policy.specs.declared.path.Key.{Key}
+use Rattle.m2_session.specs.declared.session.Phase.{Phase}
+use Rattle.m2_session.specs.declared.session.Phase.TheVariants.{Ready}
+use Rattle.m2_session.specs.Phases as phase
+use Rattle.m2_shared.specs.Throttle.{SeenGrant}
+use Rattle.m2_core.specs.declared.accepting.CoreAccepted.{CoreAccepted}
+use Rattle.m2_core.specs.Accepting.{Accepts, HasAccepted, LiveAccepts, MovesIfOk, MovesMessage, TakesFrame, accepted_live}
+use Rattle.m2_core.specs.Agrees.{Agrees, FeedsAgree, LeadsOn, MayCome}
+use Rattle.m2_core.specs.CoreNow.{CoreNow, Holds, IsSound, LiveNow, OnFeedNow, granted_in, granted_on, size_granted}
+use Rattle.m2_core.specs.Front.{Hears, HearsOn, hearer_at, hearer_of}
+use Rattle.m2_core.specs.Passing.{PassesItem, passed_live}
+use Rattle.m2_core.proofs.Agreeing.{IsResumed}
+use Rattle.m2_core.proofs.Counted.{is_the_phase}
+use Rattle.m2_core.proofs.Fronts.{as_replayed, one_front}
+use Rattle.m2_core.proofs.Passed.{sound_on}
+
+-- ---- the frame at the front
+
+pub frames : (r : Reading) → HasFrame r → is_framing r ≡ true
+frames (framing rest granted) h = refl
+frames (shaking s) h = absurd h.2
+
+-- where a whole frame stands there the decoder answers that frame, or want of memory
+pub no_aborted : (old new : Reading) (tag : ℕ) → HasFrame old → GivesNext (got.Aborted tag) old new → ⊥
+no_aborted old new tag h g =
+    let same = (one_front old (whole h.0) (dropped tag) h.1 g.0 h.2 g.1).0 in
+    cc
+
+pub no_size : (old new : Reading) (n : ℕ) → HasFrame old → GivesNext (got.Size n) old new → ⊥
+no_size (framing rest granted) new n h g = let a = h.2.0 in let b = g.0 in cc
+no_size (shaking s) new n h g = absurd h.2
+
+pub no_start : (old new : Reading) → HasFrame old → GivesNext got.NotYet old new → ⊥
+no_start (framing rest granted) new h g = let a = h.2.1 in let b = g.0.1 in cc
+no_start (shaking s) new h g = absurd h.2
+
+pub no_fault : (old new : Reading) (f : FrameFault) → HasFrame old → GivesNext (got.Fault f) old new → ⊥
+no_fault (framing rest granted) new f h g = let a = h.2.1 in let b = g.0.1 in cc
+no_fault (shaking s) new f h g = absurd h.2
+
+pub has_frame : (h : Hearer) (n : ℕ) (x : Option FeedNow) → OnFeedNow x (λ v. Hears h (Brings n) v.reading) → OnFeedNow x (λ v. HasFrame v.reading)
+has_frame h n (Some v) k = (k.frame, k.len, k.front)
+has_frame h n None k = absurd k
+
+-- the frame that is taken is the one that was heard
+same_says : (h : Hearer) (n : ℕ) (f : Parts) (x y : Option FeedNow) → OnFeedNow x (λ v. Hears h (Brings n) v.reading) → PassesItem (whole f) x y → heard_of h (whole f) ≡ Brings n
+same_says h n f (Some v) (Some new) k p =
+    ap (λ (i : Item). heard_of h i) (one_front v.reading (whole f) (whole k.frame) p.0.len k.len p.0.front k.front).0 ∙ k.says
+same_says h n f (Some v) None k p = absurd p
+same_says h n f None y k p = absurd k
+
+taken_item : (f : Frame) (x y : Option FeedNow) → TakesFrame (Ok f) x y → PassesItem (whole (parts f)) x y
+taken_item f (Some v) (Some new) t = (record { len = t.0.0; front = t.0.1; other = whole (parts f); passes = t.0 }, t.1)
+taken_item f (Some v) None t = absurd t
+taken_item f None y t = absurd t
+
+-- it is a MESSAGE with a whole header
+is_message : BringsMessages → (n : ℕ) (f : Frame) (x y : Option FeedNow) → ((h : Hearer) × OnFeedNow x (λ v. Hears h (Brings n) v.reading)) → TakesFrame (Ok f) x y → IsMessageFrame (parts f)
+is_message law n f x y k t = law k.0 (parts f) n (same_says k.0 n (parts f) x y k.1 (taken_item f x y t))
+
+pub is_tagged : BringsMessages → (n : ℕ) (f : Frame) (x y : Option FeedNow) → ((h : Hearer) × OnFeedNow x (λ v. Hears h (Brings n) v.reading)) → TakesFrame (Ok f) x y → f.tag ≡ message_tag
+is_tagged law n f x y k t = (is_message law n f x y k t).tag
+
+pub is_headed : BringsMessages → (n : ℕ) (f : Frame) (x y : Option FeedNow) → ((h : Hearer) × OnFeedNow x (λ v. Hears h (Brings n) v.reading)) → TakesFrame (Ok f) x y →
+    length f.first.bytes ≢ HEADER_BYTES → ⊥
+is_headed law n f x y k t differs = differs (is_message law n f x y k t).header
+
+pub moves : (n : ℕ) (f : Frame) (m : Message) (x y : Option FeedNow) → TakesFrame (Ok f) x y → content_of m ≡ message_in (parts f) →
+    (h : Hearer) → OnFeedNow x (λ v. Hears h (Brings n) v.reading) → MovesIfOk (Ok m) h n x y
+moves n f m x y t e h k =
+    let p = taken_item f x y t in
+    record { frame = parts f; says = same_says h n (parts f) x y k p; message = e; passes = p }
+
+pub has_frame_there : (n : ℕ) (x : Option FeedNow) → ((h : Hearer) × OnFeedNow x (λ v. Hears h (Brings n) v.reading)) → OnFeedNow x (λ v. HasFrame v.reading)
+has_frame_there n x k = has_frame k.0 n x k.1
+
+-- ---- what was granted
+
+none_is_some : (n : ℕ) → None ≡ Some n → ⊥
+none_is_some n e = cc
+
+some_is_none : (n : ℕ) → Some n ≡ None → ⊥
+some_is_none n e = cc
+
+abbrev bytes_of : Parts → ℕ
+bytes_of f = length f.second + length f.third + length f.fourth
+
+granted_there : AsksForItsSize → (r : Reading) (f : Parts) (len : ℕ) → f.tag ≡ message_tag → IsFront r (whole f) len → granted_in r ≡ Some (bytes_of f)
+granted_there law (framing rest true) f len tag i = law.message rest f len i.1 tag
+granted_there law (framing rest false) f len tag i = absurd (some_is_none (bytes_of f) (sym (law.message rest f len i.1 tag) ∙ i.0))
+granted_there law (shaking s) f len tag i = absurd i
+
+granted_to : (g : Option SeenGrant) (n : ℕ) → size_granted g ≡ Some n → (k : SeenGrant) × (g ≡ Some k) × (k.n ≡ n)
+granted_to (Some k) n e = (k, refl, cc)
+granted_to None n e = absurd (none_is_some n e)
+
+granted_front : AsksForItsSize → (f : Parts) (x y : Option FeedNow) → f.tag ≡ message_tag → PassesItem (whole f) x y → granted_on x ≡ Some (bytes_of f)
+granted_front law f (Some v) (Some new) tag p = granted_there law v.reading f p.0.len tag p.0.front
+granted_front law f (Some v) None tag p = absurd p
+granted_front law f None y tag p = absurd p
+
+held_for : BringsMessages → AsksForItsSize → (c : CoreNow) (n : ℕ) (m : Content) (y : Option FeedNow) → Holds c → MovesMessage (hearer_of c) n m c.live.feed y →
+    (k : SeenGrant) × (c.live.granted ≡ Some k) × (k.n ≡ length m.front + length m.middle + length m.tail)
+held_for law sizes c n m y h v =
+    let is = law (hearer_of c) v.frame n v.says in
+    let g = granted_to c.live.granted (bytes_of v.frame) (h.sound.grant ∙ granted_front sizes v.frame c.live.feed y is.tag v.passes) in
+    (g.0, g.1, g.2 ∙ ap (λ (c : Content). length c.front + length c.middle + length c.tail) (sym v.message))
+
+-- a message stands at the front only where its size is held
+granted_at : BringsMessages → AsksForItsSize → (h : Hearer) (n : ℕ) (x : Option FeedNow) → OnFeedNow x (λ v. Hears h (Brings n) v.reading) → (k : ℕ) × (granted_on x ≡ Some k)
+granted_at law sizes h n (Some v) k = (bytes_of k.frame, granted_there sizes v.reading k.frame k.len (law h k.frame n k.says).tag k.front)
+granted_at law sizes h n None k = absurd k
+
+some_of_size : (g : Option SeenGrant) (n : ℕ) → size_granted g ≡ Some n → is_some g ≡ true
+some_of_size (Some k) n e = refl
+some_of_size None n e = absurd (none_is_some n e)
+
+pub is_granted : BringsMessages → AsksForItsSize → (c : CoreNow) (n : ℕ) → Holds c → HearsOn c (Brings n) → is_some c.live.granted ≡ true
+is_granted law sizes c n h a = let k = granted_at law sizes (hearer_of c) n c.live.feed a in some_of_size c.live.granted k.0 (h.sound.grant ∙ k.1)
+
+pub is_heard : (c : CoreNow) (n : ℕ) → HearsOn c (Brings n) → (h : Hearer) × OnFeedNow c.live.feed (λ v. Hears h (Brings n) v.reading)
+is_heard c n a = (hearer_of c, a)
+
+-- ---- beside the replay
+
+-- the next message, where the journal leads
+record NextAt (s : State) (n : ℕ) (m : Content) (i : Item) : Type 0 where
+  ready : phase.is s.session.phase Ready ≡ true
+  says : said i ≡ brings m
+  seq : m.header.seq ≡ n
+  next : n ≡ s.last + 1
+
+same_message : (m k : Content) → brings m ≡ brings k → m ≡ k
+same_message m k e = cc
+
+next_at : IsHeardAsReplayed → BringsMessages → (c : CoreNow) (s : State) (n : ℕ) (m : Content) (y : Option FeedNow) → Agrees c s → (v : MovesMessage (hearer_of c) n m c.live.feed y) →
+    NextAt s n m (whole v.frame)
+next_at law brings_law c s n m y a v =
+    let k : IsNextMessage (hearer_at c.facts s) n (said (whole v.frame)) = as_replayed law c s a (whole v.frame) (Brings n) v.says in
+    let is = brings_law (hearer_of c) v.frame n v.says in
+    let says : said (whole v.frame) ≡ brings m = is.says ∙ ap (λ (x : Content). brings x) (sym v.message) in
+    let same : k.message ≡ m = same_message k.message m (sym k.said ∙ says) in
+    record { ready = k.ready; says = says; seq = ap (λ (x : Content). x.header.seq) (sym same) ∙ k.number; next = k.next }
+
+stops : (s : State) (n : ℕ) (m : Content) (i : Item) → NextAt s n m i → is_passed s.last (said i) ≡ false
+stops s n m i k = ap (λ (x : Said). is_passed s.last x) k.says ∙ lt-leb m.header.seq s.last (let a = k.seq in let b = k.next in omega (arith, a, b))
+
+may_on : TakesBeside → (f : SideFacts) (s : State) (n : ℕ) (key : Key) (m : Content) (i : Item) (x y : Option FeedNow) (d : Option Feed) → NextAt s n m i → key ≡ key_of f m →
+    PassesItem i x y → FeedsAgree f s x d → OnFeedAt d (MayAccept f s n key)
+may_on law f s n key m i (Some v) (Some new) (Some d) k e p st =
+    let next : next_said s.last d ≡ Some (brings m) = law.text_next f s i p.0.len v d st k.ready (stops s n m i k) p.0.front ∙ ap (λ (x : Said). Some x) k.says in
+    record {
+      phase = is_the_phase s.session.phase k.ready;
+      next = subst (λ (o : Option Said). IsNext f s n key o) (sym next) (k.next, k.seq, e);
+    }
+may_on law f s n key m i (Some v) (Some new) None k e p st = absurd st
+may_on law f s n key m i (Some v) None d k e p st = absurd p
+may_on law f s n key m i None y d k e p st = absurd p
+
+abbrev accepted : (n : ℕ) → Option FeedNow → CoreNow → CoreNow
+accepted n y c = record c { live = accepted_live n y c.live; owes = true }
+
+led_on : TakesBeside → ChangesBeside → (c : CoreNow) (s : State) (n : ℕ) (key : Key) (m : Content) (i : Item) (x y : Option FeedNow) (d : Option Feed) → NextAt s n m i →
+    Agrees c s → PassesItem i x y → FeedsAgree c.facts s x d → IsResumed c.live.resumed d → Agrees (accepted n y c) (on_feed_at d (λ e. accepts n key (next_said s.last e) e) s)
+led_on takes changes c s n key m i (Some v) (Some new) (Some d) k a p st r =
+    let next : next_said s.last d ≡ Some (brings m) = takes.text_next c.facts s i p.0.len v d st k.ready (stops s n m i k) p.0.front ∙ ap (λ (x : Said). Some x) k.says in
+    let taken = takes.text c.facts s i v new d st k.ready (stops s n m i k) p.0 p.1 in
+    subst (λ (o : Option Said). Agrees (accepted n (Some new) c) (accepts n key o d s)) (sym next) (record {
+      session = a.session;
+      queue = a.queue;
+      last = refl;
+      owes = refl;
+      dials = a.dials;
+      top = a.top;
+      feed = changes.ready c.facts s (accepts n key (Some (brings m)) d s) new (record d { taken = next_place s.last d + 1 }) taken k.ready (let b = k.next in omega (arith, b)) (λ _. refl);
+      resumed = r;
+    })
+led_on takes changes c s n key m i (Some v) (Some new) None k a p st r = absurd st
+led_on takes changes c s n key m i (Some v) None d k a p st r = absurd p
+led_on takes changes c s n key m i None y d k a p st r = absurd p
+
+accepts_it : IsHeardAsReplayed → BringsMessages → AsksForItsSize → TakesBeside → ChangesBeside → (c : CoreNow) (a : CoreAccepted) (y : Option FeedNow) → Holds c →
+    MovesMessage (hearer_of c) a.number (content_of a.message) c.live.feed y → a.key ≡ key_of c.facts (content_of a.message) → c.live.granted ≡ Some a.grant → Accepts a c (accepted a.number y c)
+accepts_it law bringing sizes takes changes c a y h v key g =
+    let m = content_of a.message in
+    let k = held_for bringing sizes c a.number m y h v in
+    let held = k.1 in
+    let same : k.0 ≡ a.grant = cc in
+    let next : IsNextMessage (hearer_of c) a.number (said (whole v.frame)) =
+    subst (λ (x : FrameHeard). IsAsReplayed x (hearer_of c) (said (whole v.frame))) v.says (law (hearer_of c) (whole v.frame)) in
+    record {
+      moves = v;
+      number = next.next;
+      key = key;
+      grant = g;
+      size = ap (λ (x : SeenGrant). x.n) (sym same) ∙ k.2;
+      only = refl;
+      may = λ s b. may_on takes c.facts s a.number a.key m (whole v.frame) c.live.feed y s.feed (next_at law bringing c s a.number m y b v) key v.passes b.feed;
+      leads = λ s b. led_on takes changes c s a.number a.key m (whole v.frame) c.live.feed y s.feed (next_at law bringing c s a.number m y b v) b v.passes b.feed b.resumed;
+    }
+
+-- the same, as the code comes to it
+pub accepts_to : IsHeardAsReplayed → BringsMessages → AsksForItsSize → TakesBeside → ChangesBeside → (c : CoreNow) (n : ℕ) (key : Key) (m : Message) (g : SeenGrant) (l : LiveNow) → Holds c →
+    HearsOn c (Brings n) → LiveAccepts (Ok (m, g)) n c.live l → ((f : SideFacts) → f.node ≡ c.facts.node → (k : Content) → k.header ≡ m.header → key ≡ key_of f k) →
+    HasAccepted (Ok (record { number = n; key = key; message = m; grant = g })) n c (record c { live = l; owes = true })
+accepts_to law bringing sizes takes changes c n key m g l h a k e = (
+  refl,
+  subst (λ (x : LiveNow). Accepts (record { number = n; key = key; message = m; grant = g }) c (record c { live = x; owes = true })) (sym k.2)
+      (accepts_it law bringing sizes takes changes c (record { number = n; key = key; message = m; grant = g }) l.feed h (k.0 (hearer_of c) a) (e c.facts refl (content_of m) refl) k.1),
+)
+
+-- ---- what holds of each core
+
+sound_last : (l : LiveNow) (n : ℕ) → IsSound l → IsSound (record l { last = n })
+sound_last l n h = record { fed = h.fed; asked = h.asked; connect = h.connect; numbers = h.numbers; grant = h.grant; told = h.told; ungranted = h.ungranted }
+
+keeps : (c : CoreNow) (n : ℕ) (m : Content) (y : Option FeedNow) → Holds c → MovesMessage (hearer_of c) n m c.live.feed y → Holds (accepted n y c)
+keeps c n m y h v = record { place = h.place; sound = sound_last (passed_live y c.live) n (sound_on c.live (whole v.frame) c.live.feed y v.passes h.sound) }
+
+pub keeps_to : (c : CoreNow) (n : ℕ) (m : Message) (g : SeenGrant) (l : LiveNow) → Holds c → HearsOn c (Brings n) → LiveAccepts (Ok (m, g)) n c.live l → Holds (record c { live = l; owes = true })
+keeps_to c n m g l h a k = subst (λ (x : LiveNow). Holds (record c { live = x; owes = true })) (sym k.2) (keeps c n (content_of m) l.feed h (k.0 (hearer_of c) a))

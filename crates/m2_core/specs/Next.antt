@@ -1,0 +1,97 @@
+-- What a core does with the front of its feed: one entry at most, by what stands there.
+use Rattle.std.specs.Prelude.{◌≡◌, ◌≢◌, ℕ, ◌<◌, ◌≤◌, Bool, true, false, Option, Some, None}
+use Rattle.m2_feed.specs.Calls.{IsBad, Owes, Rests}
+use Rattle.m2_feed.specs.FeedNow.{FeedNow, Reading}
+use Rattle.m2_frame.specs.Frame.{message_tag}
+use Rattle.m2_heard.specs.declared.fault.WireFault.{WireFault}
+use Rattle.m2_heard.specs.declared.fault.WireFault.TheVariants as fault
+use Rattle.m2_heard.specs.declared.heard.FrameHeard.{FrameHeard}
+use Rattle.m2_heard.specs.declared.heard.FrameHeard.TheVariants as heard
+use Rattle.m2_journal.specs.Items as item
+use Rattle.m2_session.specs.declared.event.Effects.{Effects}
+use Rattle.m2_session.specs.declared.event.Event.TheVariants as event
+use Rattle.m2_session.specs.Steps.{nothing, step_of}
+use Rattle.m2_shared.specs.Throttle.{SeenThrottle, Waits}
+use Rattle.m2_core.specs.declared.next.CoreNext.{CoreNext}
+use Rattle.m2_core.specs.declared.next.CoreNext.TheVariants as next
+use Rattle.m2_core.specs.declared.resting.CoreRest.{CoreRest}
+use Rattle.m2_core.specs.declared.resting.CoreRest.TheVariants as rest
+use Rattle.m2_core.specs.Accepting.{Accepts}
+use Rattle.m2_core.specs.Agrees.{IsBroken, IsToldTo, LeadsOn, MayCome}
+use Rattle.m2_core.specs.Calls.{after_fault}
+use Rattle.m2_core.specs.CoreNow.{CoreNow, LiveNow, OnFeedNow, is_ready, is_waiting}
+use Rattle.m2_core.specs.Front.{FrontHeard, HearsOn, asks, hearer_of, rests, tells}
+use Rattle.m2_core.specs.declared.granting.CoreGrant.{CoreGrant}
+use Rattle.m2_core.specs.declared.granting.CoreGrant.TheVariants as grant
+use Rattle.m2_core.specs.Granting.{Grants}
+use Rattle.m2_core.specs.Passing.{HasPassed, HasStamped}
+
+-- ---- where no whole frame stands at the front
+
+abbrev pub RestSays : CoreRest → Reading → (before after : CoreNow) → Type 0
+RestSays rest.Rests r before after = Rests r × (after ≡ before)
+RestSays (rest.Asks n) r before after = Owes r n × (after ≡ before)
+RestSays (rest.Fault f) r before after = IsBad r f × (after ≡ before)
+RestSays rest.Passed r before after = HasPassed before after
+
+-- ---- what has to be so before what was heard is heeded
+
+-- an acknowledgement that may be counted
+pub record CanCount (number : ℕ) (c : CoreNow) : Type 0 where
+  pub ready : is_ready c.live ≡ true
+  pub told : IsToldTo number c
+  pub above : c.live.out.queue.base < number
+  pub written : number ≤ c.live.out.queue.written
+
+abbrev pub CanHeed : FrameHeard → CoreNow → Type 0
+CanHeed (heard.Acknowledges n) c = CanCount n c
+CanHeed (heard.Fault cause) c = IsBroken c
+CanHeed (heard.Resets full) c = Unit {0}
+CanHeed says c = HearsOn c says
+
+-- ---- what is done
+
+-- the feed is closed for what stands at its front
+pub record Closes (before after : CoreNow) : Type 0 where
+  pub broken : IsBroken before
+  pub only : after ≡ record before { live = after_fault before.live }
+  pub entry : OnFeedNow before.live.feed (λ v. MayCome (item.closed v.end.id false) before × LeadsOn (item.closed v.end.id false) before after)
+
+-- an acknowledgement is counted
+pub record Counts (number : ℕ) (before after : CoreNow) : Type 0 where
+  pub may : MayCome (item.acked number) before
+  pub leads : LeadsOn (item.acked number) before after
+
+-- each answer, where this stands at the front
+abbrev pub IsNext : SeenThrottle → CoreNext → FrontHeard → (before after : CoreNow) → Type 0
+IsNext t next.Rests rests before after = after ≡ before
+IsNext t next.Granted (asks n) before after = Grants t n before after
+IsNext t (next.Full held) (asks n) before after = Waits t.most held n × (after ≡ before)
+IsNext t (next.Again seen now) (asks n) before after = (now ≢ seen) × (after ≡ before)
+IsNext t next.Passed (tells heard.Nothing) before after = HasPassed before after
+IsNext t next.Passed (tells (heard.Stamp k)) before after = HasStamped k before after
+IsNext t next.NoMemory (tells (heard.Stamp k)) before after = after ≡ before
+IsNext t (next.Acked number) (tells (heard.Acknowledges n)) before after = (number ≡ n) × Counts n before after
+IsNext t (next.Accepted a) (tells (heard.Brings n)) before after = (a.number ≡ n) × Accepts a before after
+IsNext t next.NoMemory (tells (heard.Brings n)) before after = after ≡ before
+IsNext t (next.Resets full) (tells (heard.Resets mark)) before after = (full ≡ mark) × (after ≡ before)
+IsNext t (next.Fault cause) (tells (heard.Fault why)) before after = (cause ≡ why) × Closes before after
+IsNext t _ _ before after = ⊥
+
+-- what the size of a MESSAGE says, in Ready and outside it
+abbrev pub size_front : Bool → ℕ → FrontHeard
+size_front true n = asks n
+size_front false n = tells (heard.Fault (fault.Unexpected message_tag))
+
+-- the answer of a throttle
+abbrev pub granted_next : CoreGrant → CoreNext
+granted_next grant.Granted = next.Granted
+granted_next (grant.Full held) = next.Full held
+granted_next (grant.Again seen now) = next.Again seen now
+
+-- ---- what is left for the record
+
+-- the effects of the fault, where there is one
+abbrev pub effects_of : CoreNext → LiveNow → Effects
+effects_of (next.Fault cause) l = (step_of l.session (event.Faulted (is_waiting l))).effects
+effects_of _ l = nothing

@@ -1,0 +1,284 @@
+//! What a core does with the front of its feed.
+
+ghost use Rattle.std.specs.Prelude.{◌≡◌, IfSome, IsNone, None, true, false, option_map};
+ghost use Rattle.std.specs.Option.{is_some};
+ghost use Rattle.m2_feed.specs.Calls.{Owes};
+ghost use Rattle.m2_feed.specs.FeedNow.{is_framing};
+ghost use Rattle.m2_heard.specs.declared.heard.FrameHeard.TheVariants as heard;
+ghost use Rattle.m2_core.specs.Agrees.{IsBroken};
+ghost use Rattle.m2_core.specs.CoreNow.{IsOwned, OnFeedNow, is_ready};
+ghost use Rattle.m2_core.specs.Effects.{IsAftermath};
+ghost use Rattle.m2_core.specs.Front.{Hears, HearsOn, front_of, heard_by, hearer_of, resumption_at, resumption_of, tells};
+ghost use Rattle.m2_core.specs.Next.{CanHeed, IsNext, effects_of, granted_next, size_front};
+ghost use Rattle.m2_core.specs.Resting.{HasNoFrame};
+
+use crate::accepting::CoreAccepted;
+use crate::aftermath::Aftermath;
+use crate::front_laws::front_laws;
+use crate::granting::CoreGrant;
+use crate::resting::CoreRest;
+use crate::side::Core;
+use m2_bytes::NoMemory;
+use m2_fabric::End;
+use m2_feed::Feed;
+use m2_heard::{FrameHeard, Hearer, WireFault, hear};
+use m2_session::Phase;
+use m2_shared::{TakePass, Throttle};
+use m2_tag::Tag;
+
+/// What was done with the front of the feed. It may hold a grant, so it can't be dropped.
+pub enum CoreNext {
+    /// No whole text is there, and nothing was done.
+    Rests,
+    /// A text was passed of which no entry is made.
+    Passed,
+    /// The size of the MESSAGE that is on its way is granted.
+    Granted,
+    /// The peer's acknowledgement up to this number was counted: the entry Acked. What acknowledges stays
+    /// at the front.
+    Acked { number: u64 },
+    /// The message at the front was accepted: the entry Accepted.
+    Accepted(CoreAccepted),
+    /// A reset with this mark is next, which is to be obeyed. Nothing was done.
+    Resets { full: bool },
+    /// So many bytes are out that the size of a MESSAGE has to wait. Nothing was done.
+    Full { held: u64 },
+    /// Another thread took or gave at that moment. Nothing was done, and one may try again.
+    Again { seen: u64, now: u64 },
+    /// What is there may not come, or can't be read: the feed was closed for this cause, the entry Closed.
+    Fault(WireFault),
+    /// Nothing was done.
+    NoMemory,
+}
+
+/// What was done with the front of the feed, and what that leaves for the record: something after a fault
+/// alone.
+pub struct CoreFront<E: End> {
+    pub next: CoreNext,
+    pub aftermath: Aftermath<E>,
+}
+
+/// What was done, where it leaves nothing for the record.
+fn quiet<E: End>(next: CoreNext) -> CoreFront<E>
+    ensures next { result.next ≡ next }
+    ensures aftermath { (option_map E.seen result.aftermath.closed ≡ None) × (result.aftermath.discarded ≡ false) × (result.aftermath.remote_reset ≡ false) }
+{
+    CoreFront {
+        next,
+        aftermath: Aftermath {
+            closed: None,
+            discarded: false,
+            remote_reset: false,
+        },
+    }
+}
+
+impl<E: End> Core<E> {
+    /// Looks at the front of the feed, on which both sides have signed, and does what it says: one entry at
+    /// most. What acknowledges is counted first, and stays at the front; a message whose number isn't above
+    /// the last is passed, and one that skips a number is a fault.
+    #[tactic(auto, using(crate::proofs::Nexts::resumed_can, crate::proofs::Nexts::next_resumed, crate::proofs::Nexts::next_front))]
+    pub fn next(&mut self, throttle: &Throttle, pass: &mut TakePass) -> CoreFront<E>
+        requires signed { OnFeedNow self.old.live.feed (λ v. is_framing v.reading ≡ true) }
+        requires pass { pass.old.place ≡ throttle.now.place }
+        requires owned { IsOwned throttle.now.place self.old.live.granted }
+        ensures next { OnFeedNow self.old.live.feed (λ v. IsNext throttle.now result.next (heard_by self.old v.reading) self.old self.new) }
+        ensures aftermath { IsAftermath (effects_of result.next self.old.live) self.old.live.feed (option_map E.seen result.aftermath.closed) result.aftermath.discarded result.aftermath.remote_reset }
+        ensures place { pass.new.place ≡ pass.old.place }
+    {
+        match self.resumption() {
+            Some(heard) => self.heed(heard, throttle, pass),
+            None => self.next_text(throttle, pass),
+        }
+    }
+
+    /// The same of the text at the front.
+    #[tactic(auto, using(crate::proofs::Heeded::hears_can, crate::proofs::Nexts::next_heard))]
+    fn next_text(&mut self, throttle: &Throttle, pass: &mut TakePass) -> CoreFront<E>
+        requires signed { OnFeedNow self.old.live.feed (λ v. is_framing v.reading ≡ true) }
+        requires pass { pass.old.place ≡ throttle.now.place }
+        requires owned { IsOwned throttle.now.place self.old.live.granted }
+        ensures next { OnFeedNow self.old.live.feed (λ v. IsNext throttle.now result.next (front_of (hearer_of self.old) v.reading) self.old self.new) }
+        ensures aftermath { IsAftermath (effects_of result.next self.old.live) self.old.live.feed (option_map E.seen result.aftermath.closed) result.aftermath.discarded result.aftermath.remote_reset }
+        ensures place { pass.new.place ≡ pass.old.place }
+    {
+        front_laws();
+        match self.hear_front() {
+            Some(heard) => self.heed(heard, throttle, pass),
+            None => self.next_rest(throttle, pass),
+        }
+    }
+
+    /// Who hears.
+    fn hearer(&self) -> Hearer
+        ensures { result ≡ hearer_of self.now }
+    {
+        let (acknowledged, written) = (self.live.out.base(), self.live.out.written());
+        Hearer {
+            phase: self.live.session.phase,
+            peer: self.peer,
+            policy: self.policy,
+            last: self.live.last,
+            written,
+            acknowledged,
+        }
+    }
+
+    /// What the whole frame at the front says, where there is one.
+    fn hear_front(&self) -> Option<FrameHeard>
+        requires signed { OnFeedNow self.now.live.feed (λ v. is_framing v.reading ≡ true) }
+        ensures some { IfSome result (HearsOn self.now) }
+        ensures none { IsNone result → HasNoFrame self.now.live.feed }
+    {
+        let hearer = self.hearer();
+        hear_on(&self.live.feed, &hearer)
+    }
+
+    /// What a resumption on the feed says, before any text there.
+    fn resumption(&self) -> Option<FrameHeard>
+        ensures { result ≡ resumption_at self.now }
+    {
+        if self.live.session.phase == Phase::Ready {
+            return resumption_of(&self.hearer(), self.live.resumed);
+        }
+        None
+    }
+
+    /// Does what was heard.
+    #[tactic(auto, using(crate::proofs::Nexts::is_fed))]
+    fn heed(&mut self, heard: FrameHeard, throttle: &Throttle, pass: &mut TakePass) -> CoreFront<E>
+        requires can { CanHeed heard self.old }
+        requires signed { OnFeedNow self.old.live.feed (λ v. is_framing v.reading ≡ true) }
+        requires pass { pass.old.place ≡ throttle.now.place }
+        requires owned { IsOwned throttle.now.place self.old.live.granted }
+        ensures next { IsNext throttle.now result.next (tells heard) self.old self.new }
+        ensures aftermath { IsAftermath (effects_of result.next self.old.live) self.old.live.feed (option_map E.seen result.aftermath.closed) result.aftermath.discarded result.aftermath.remote_reset }
+        ensures place { pass.new.place ≡ pass.old.place }
+    {
+        match heard {
+            FrameHeard::Nothing => {
+                self.pass_frame(throttle, pass);
+                quiet(CoreNext::Passed)
+            }
+            FrameHeard::Stamp(stamp) => match self.pass_keepalive(stamp, throttle, pass) {
+                Ok(()) => quiet(CoreNext::Passed),
+                Err(NoMemory) => quiet(CoreNext::NoMemory),
+            },
+            FrameHeard::Acknowledges { number } => {
+                self.acked(number);
+                quiet(CoreNext::Acked { number })
+            }
+            FrameHeard::Brings { number } => match self.accept(number) {
+                Ok(accepted) => quiet(CoreNext::Accepted(accepted)),
+                Err(NoMemory) => quiet(CoreNext::NoMemory),
+            },
+            FrameHeard::Resets { full } => quiet(CoreNext::Resets { full }),
+            FrameHeard::Fault(cause) => self.close_for(cause, throttle, pass),
+        }
+    }
+
+    /// Closes the feed for what stands at its front: the entry Closed.
+    #[tactic(auto, using(crate::proofs::Nexts::closes))]
+    fn close_for(
+        &mut self,
+        cause: WireFault,
+        throttle: &Throttle,
+        pass: &mut TakePass,
+    ) -> CoreFront<E>
+        requires broken { IsBroken self.old }
+        requires fed { is_some self.old.live.feed ≡ true }
+        requires pass { pass.old.place ≡ throttle.now.place }
+        requires owned { IsOwned throttle.now.place self.old.live.granted }
+        ensures next { IsNext throttle.now result.next (tells (heard.Fault cause)) self.old self.new }
+        ensures aftermath { IsAftermath (effects_of result.next self.old.live) self.old.live.feed (option_map E.seen result.aftermath.closed) result.aftermath.discarded result.aftermath.remote_reset }
+        ensures place { pass.new.place ≡ pass.old.place }
+    {
+        let aftermath = self.fault(throttle, pass);
+        CoreFront {
+            next: CoreNext::Fault(cause),
+            aftermath,
+        }
+    }
+
+    /// The same where no whole frame stands at the front.
+    #[tactic(auto, using(crate::proofs::Nexts::rest_breaks, crate::proofs::Nexts::rest_owes, crate::proofs::Nexts::next_rests, crate::proofs::Nexts::next_passed, crate::proofs::Nexts::next_faulted, crate::proofs::Nexts::next_sized))]
+    fn next_rest(&mut self, throttle: &Throttle, pass: &mut TakePass) -> CoreFront<E>
+        requires signed { OnFeedNow self.old.live.feed (λ v. is_framing v.reading ≡ true) }
+        requires none { HasNoFrame self.old.live.feed }
+        requires pass { pass.old.place ≡ throttle.now.place }
+        requires owned { IsOwned throttle.now.place self.old.live.granted }
+        ensures next { OnFeedNow self.old.live.feed (λ v. IsNext throttle.now result.next (front_of (hearer_of self.old) v.reading) self.old self.new) }
+        ensures aftermath { IsAftermath (effects_of result.next self.old.live) self.old.live.feed (option_map E.seen result.aftermath.closed) result.aftermath.discarded result.aftermath.remote_reset }
+        ensures place { pass.new.place ≡ pass.old.place }
+    {
+        front_laws();
+        match self.rest(throttle, pass) {
+            CoreRest::Rests => quiet(CoreNext::Rests),
+            CoreRest::Passed => quiet(CoreNext::Passed),
+            CoreRest::Fault(f) => self.close_for(WireFault::Frame(f), throttle, pass),
+            CoreRest::Asks(n) => self.next_size(n, throttle, pass),
+        }
+    }
+
+    /// The same where a MESSAGE asks for its size.
+    #[tactic(auto, using(crate::proofs::Nexts::is_bounded, crate::proofs::Nexts::size_breaks, crate::proofs::Nexts::size_fed, crate::proofs::Nexts::next_granted, crate::proofs::Nexts::next_early))]
+    fn next_size(&mut self, n: u64, throttle: &Throttle, pass: &mut TakePass) -> CoreFront<E>
+        requires owes { OnFeedNow self.old.live.feed (λ v. Owes v.reading n) }
+        requires pass { pass.old.place ≡ throttle.now.place }
+        requires owned { IsOwned throttle.now.place self.old.live.granted }
+        ensures next { IsNext throttle.now result.next (size_front (is_ready self.old.live) n) self.old self.new }
+        ensures aftermath { IsAftermath (effects_of result.next self.old.live) self.old.live.feed (option_map E.seen result.aftermath.closed) result.aftermath.discarded result.aftermath.remote_reset }
+        ensures place { pass.new.place ≡ pass.old.place }
+    {
+        front_laws();
+        if self.live.session.phase != Phase::Ready {
+            let cause = WireFault::Unexpected {
+                tag: Tag::Message.number(),
+            };
+            return self.close_for(cause, throttle, pass);
+        }
+        let answer = self.grant(n, throttle, pass);
+        quiet(granted_next(answer))
+    }
+}
+
+/// The answer of a throttle.
+fn granted_next(answer: CoreGrant) -> CoreNext
+    ensures { result ≡ granted_next answer }
+{
+    match answer {
+        CoreGrant::Granted => CoreNext::Granted,
+        CoreGrant::Full { held } => CoreNext::Full { held },
+        CoreGrant::Again { seen, now } => CoreNext::Again { seen, now },
+    }
+}
+
+/// What the whole frame at the front of the feed says, where there is one.
+#[tactic(auto, using(crate::proofs::Nexts::hears))]
+fn hear_on<E: End>(feed: &Option<Feed<E>>, hearer: &Hearer) -> Option<FrameHeard>
+    requires signed { OnFeedNow feed.now (λ v. is_framing v.reading ≡ true) }
+    ensures some { IfSome result (λ heard. OnFeedNow feed.now (λ v. Hears hearer.now heard v.reading)) }
+    ensures none { IsNone result → HasNoFrame feed.now }
+{
+    let Some(feed) = feed else { unreachable!() };
+    match feed.look() {
+        Some(frame) => Some(hear(&frame, hearer)),
+        None => None,
+    }
+}
+
+/// What a resumption says that acknowledges up to this number.
+fn resumption_of(hearer: &Hearer, resumed: u64) -> Option<FrameHeard>
+    ensures { result ≡ resumption_of hearer.now resumed }
+{
+    if resumed > hearer.written {
+        return Some(FrameHeard::Fault(WireFault::BadAck {
+            written: hearer.written,
+            got: resumed,
+        }));
+    }
+    if resumed > hearer.acknowledged {
+        return Some(FrameHeard::Acknowledges { number: resumed });
+    }
+    None
+}
