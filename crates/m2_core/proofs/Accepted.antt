@@ -1,25 +1,21 @@
 -- The message at the front is accepted: the core and the replay go on alike.
-use Rattle.std.proofs.Common.{◌≡◌, ◌≢◌, ℕ, ◌+◌, ◌≤◌, ◌<◌, Bool, true, false, List, length, Option, Some, None, Result, Ok, Err, refl, sym, ap, subst, ◌∙◌, arith}
-use Rattle.std.specs.Prelude.{◌⊎◌, nat_le}
+use Rattle.std.proofs.Common.{◌≡◌, ◌≢◌, ℕ, ◌+◌, true, false, length, Option, Some, None, Ok, refl, sym, ap, subst, ◌∙◌, arith}
 use Rattle.std.specs.Option.{is_some}
 use Rattle.std.proofs.lemmas.Bool.{lt-leb}
-use Rattle.m2_bytes.specs.declared.memory.NoMemory as memory
-use Rattle.m2_feed.specs.Calls.{GivesNext, HasFrame, IsFront, OnlyReads, Passes}
+use Rattle.m2_feed.specs.Calls.{GivesNext, HasFrame, IsFront}
 use Rattle.m2_feed.specs.FeedNow.{FeedNow, Reading, framing, shaking, is_framing}
-use Rattle.m2_feed.specs.Laws.{ChangesBeside, PassesThe, TakesBeside}
+use Rattle.m2_feed.specs.Laws.{ChangesBeside, TakesBeside}
 use Rattle.m2_frame.specs.declared.fault.FrameFault.{FrameFault}
-use Rattle.m2_frame.specs.declared.got.Got.{Got}
 use Rattle.m2_frame.specs.declared.got.Got.TheVariants as got
 use Rattle.m2_frame.specs.declared.frame.Frame.{Frame}
 use Rattle.m2_frame.specs.Frame.{Parts, parts, message_tag}
-use Rattle.m2_frame.specs.Reading.{Item, whole, dropped, size_of}
+use Rattle.m2_frame.specs.Reading.{Item, whole, dropped}
 use Rattle.m2_heard.specs.declared.heard.FrameHeard.{FrameHeard}
 use Rattle.m2_heard.specs.declared.heard.FrameHeard.TheVariants.{Brings}
 use Rattle.m2_heard.specs.declared.hearer.Hearer.{Hearer}
 use Rattle.m2_heard.specs.Heard.{heard_of}
 use Rattle.m2_heard.specs.Laws.{AsksForItsSize, BringsMessages, IsAsReplayed, IsHeardAsReplayed, IsMessageFrame, IsNextMessage}
 use Rattle.m2_journal.specs.Feeds.{is_passed, next_place, next_said}
-use Rattle.m2_journal.specs.Items as item
 use Rattle.m2_journal.specs.Lawful.{IsNext, MayAccept, OnFeedAt, key_of}
 use Rattle.m2_journal.specs.Said.{Said, brings, said}
 use Rattle.m2_journal.specs.SideFacts.{SideFacts}
@@ -27,17 +23,15 @@ use Rattle.m2_journal.specs.State.{Feed, State}
 use Rattle.m2_journal.specs.Steps.{accepts, on_feed_at}
 use Rattle.m2_message.specs.declared.message.Message.{Message}
 use Rattle.m2_message.specs.Message.{Content, content_of}
-use Rattle.m2_message.specs.Message as message
 use Rattle.m2_message_frame.specs.declared.header_text.TheConstants.{HEADER_BYTES}
 use Rattle.m2_message_frame.specs.MessageFrame.{message_in}
 use Rattle.m2_policy.specs.declared.path.Key.{Key}
-use Rattle.m2_session.specs.declared.session.Phase.{Phase}
 use Rattle.m2_session.specs.declared.session.Phase.TheVariants.{Ready}
 use Rattle.m2_session.specs.Phases as phase
 use Rattle.m2_shared.specs.Throttle.{SeenGrant}
 use Rattle.m2_core.specs.declared.accepting.CoreAccepted.{CoreAccepted}
 use Rattle.m2_core.specs.Accepting.{Accepts, HasAccepted, LiveAccepts, MovesIfOk, MovesMessage, TakesFrame, accepted_live}
-use Rattle.m2_core.specs.Agrees.{Agrees, FeedsAgree, LeadsOn, MayCome}
+use Rattle.m2_core.specs.Agrees.{Agrees, FeedsAgree}
 use Rattle.m2_core.specs.CoreNow.{CoreNow, Holds, IsSound, LiveNow, OnFeedNow, granted_in, granted_on, size_granted}
 use Rattle.m2_core.specs.Front.{Hears, HearsOn, hearer_at, hearer_of}
 use Rattle.m2_core.specs.Passing.{PassesItem, passed_live}

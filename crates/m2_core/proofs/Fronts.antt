@@ -1,9 +1,8 @@
 -- What stands at the front of a feed, beside its replay.
-use Rattle.std.proofs.Common.{◌≡◌, ◌≢◌, ℕ, ◌≤◌, Bool, true, false, ◌&&◌, List, Option, Some, None, refl, sym, ap, subst, ◌∙◌}
-use Rattle.m2_feed.specs.Calls.{IsFront, Owes}
+use Rattle.std.proofs.Common.{◌≡◌, ℕ, refl, sym, subst, ◌∙◌}
+use Rattle.m2_feed.specs.Calls.{IsFront}
 use Rattle.m2_feed.specs.FeedNow.{Reading, framing, shaking}
-use Rattle.m2_frame.specs.Frame.{Parts}
-use Rattle.m2_frame.specs.Reading.{Item, whole, text}
+use Rattle.m2_frame.specs.Reading.{Item}
 use Rattle.m2_frame.proofs.Cutting.{same_text}
 use Rattle.m2_heard.specs.declared.heard.FrameHeard.{FrameHeard}
 use Rattle.m2_heard.specs.declared.hearer.Hearer.{Hearer}
@@ -16,7 +15,7 @@ use Rattle.m2_queues.specs.OutQueues.{Queue}
 use Rattle.m2_session.specs.declared.session.Session.{Session}
 use Rattle.m2_core.specs.Agrees.{Agrees}
 use Rattle.m2_core.specs.CoreNow.{CoreNow}
-use Rattle.m2_core.specs.Front.{Hears, hearer_at, hearer_of, hearer_with}
+use Rattle.m2_core.specs.Front.{hearer_at, hearer_of, hearer_with}
 
 same_hearer : (f : SideFacts) (s t : Session) (q p : Queue) (l m : ℕ) → s ≡ t → q ≡ p → l ≡ m → hearer_with f s q l ≡ hearer_with f t p m
 same_hearer f s t q p l m e1 e2 e3 = rw (e1, e2, e3) refl

@@ -1,9 +1,9 @@
 -- The size of a MESSAGE is granted: the replay knows nothing of it.
-use Rattle.std.proofs.Common.{◌≡◌, ◌≢◌, ℕ, ◌+◌, Bool, true, false, cond, List, Option, Some, None, refl, sym, ap, subst, ◌∙◌}
+use Rattle.std.proofs.Common.{◌≡◌, ℕ, Bool, true, false, List, Option, Some, None, refl, sym, ap, ◌∙◌}
 use Rattle.std.proofs.lemmas.Bool.{true≢false}
 use Rattle.m2_feed.specs.Calls.{Owes, with_grant}
 use Rattle.m2_feed.specs.FeedNow.{FeedNow, Reading, framing, shaking}
-use Rattle.m2_feed.specs.Stands.{Frames, ReadsAs, Stands}
+use Rattle.m2_feed.specs.Stands.{ReadsAs}
 use Rattle.m2_feed.proofs.Framing.{same, writes-same}
 use Rattle.m2_frame.specs.Reading.{size_of}
 use Rattle.m2_journal.specs.SideFacts.{SideFacts}
@@ -13,7 +13,7 @@ use Rattle.m2_session.specs.declared.session.Session.{Session}
 use Rattle.m2_session.specs.Phases as phase
 use Rattle.m2_shared.specs.Place.{Place}
 use Rattle.m2_shared.specs.Throttle.{SeenGrant, SeenThrottle}
-use Rattle.m2_core.specs.Agrees.{Agrees, FeedsAgree, Stays}
+use Rattle.m2_core.specs.Agrees.{FeedsAgree, Stays}
 use Rattle.m2_core.specs.CoreNow.{CoreNow, Holds, IsSound, LiveNow, OnFeedNow, granted_in, granted_on, is_ready, size_granted}
 use Rattle.m2_core.specs.Granting.{Grants, after_granted, granted_feed}
 

@@ -1,13 +1,12 @@
 -- What is heard at the front may be heeded, and the front is what the answer says.
-use Rattle.std.proofs.Common.{◌≡◌, ◌≢◌, ℕ, ◌<◌, ◌≤◌, Bool, true, false, ◌&&◌, ◌||◌, List, [], ◌∷◌, Option, Some, None, refl, sym, ap, subst, ◌∙◌, inl, inr, arith}
-use Rattle.std.specs.Prelude.{◌⊎◌, ◌==◌, nat_lt, if◌then◌else◌}
+use Rattle.std.proofs.Common.{◌≡◌, ℕ, ◌<◌, ◌≤◌, Bool, true, false, ◌&&◌, ◌||◌, List, [], ◌∷◌, Option, Some, None, refl, sym, ap, subst, ◌∙◌, inl, inr, arith}
+use Rattle.std.specs.Prelude.{◌⊎◌, ◌==◌, nat_lt}
 use Rattle.std.specs.List.{list_any}
 use Rattle.std.specs.Option.{is_some}
-use Rattle.std.proofs.lemmas.Bool.{true≢false, eqb-true, lt-ltb, ltb-true, ltb-false}
+use Rattle.std.proofs.lemmas.Bool.{eqb-true, lt-ltb}
 use Rattle.m2_feed.specs.Calls.{IsBad, IsFront, Owes}
-use Rattle.m2_feed.specs.FeedNow.{FeedNow, Reading, framing, shaking}
+use Rattle.m2_feed.specs.FeedNow.{FeedNow}
 use Rattle.m2_feed.specs.Laws.{FindsFaults, HearsTold}
-use Rattle.m2_feed.specs.Stands.{passes_over}
 use Rattle.m2_frame.specs.declared.fault.FrameFault.{FrameFault}
 use Rattle.m2_fabric.specs.Sockets.{same_socket}
 use Rattle.m2_frame.specs.Reading.{Item, judge, whole}
@@ -19,7 +18,7 @@ use Rattle.m2_heard.specs.Heard.{heard_of}
 use Rattle.m2_heard.specs.Laws.{IsAcknowledging, IsAsReplayed, IsBeyond, IsHeardAsReplayed, IsRefused}
 use Rattle.m2_journal.specs.Feeds.{is_passed, told, told_by}
 use Rattle.m2_journal.specs.Items as item
-use Rattle.m2_journal.specs.Lawful.{MayClose, OnFeed, OnFeedAt, acknowledges_too_much, has_failed, is_bad, is_broken, is_early_message, is_refused, said_next}
+use Rattle.m2_journal.specs.Lawful.{MayClose, OnFeedAt, acknowledges_too_much, has_failed, is_bad, is_broken, is_early_message, is_refused, said_next}
 use Rattle.m2_journal.specs.Said.{said}
 use Rattle.m2_journal.specs.SideFacts.{SideFacts}
 use Rattle.m2_journal.specs.State.{Feed, State}
@@ -27,8 +26,8 @@ use Rattle.m2_queues.specs.OutQueues.{Queue}
 use Rattle.m2_session.specs.declared.session.Phase.TheVariants.{Ready}
 use Rattle.m2_session.specs.declared.session.Session.{Session}
 use Rattle.m2_session.specs.Phases as phase
-use Rattle.m2_core.specs.Agrees.{Agrees, FeedsAgree, IsBroken, IsTold, IsToldTo, MayCome}
-use Rattle.m2_core.specs.CoreNow.{CoreNow, LiveNow, OnFeedNow, is_ready}
+use Rattle.m2_core.specs.Agrees.{Agrees, FeedsAgree, IsBroken, IsTold, MayCome}
+use Rattle.m2_core.specs.CoreNow.{CoreNow, OnFeedNow, is_ready}
 use Rattle.m2_core.specs.Front.{Hears, HearsOn, hearer_at, hearer_of}
 use Rattle.m2_core.specs.Next.{CanCount, CanHeed}
 use Rattle.m2_core.proofs.Faulting.{is_on_feed}

@@ -21,3 +21,4 @@ pub mod Accepted
 pub mod Rested
 pub mod Heeded
 pub mod Nexts
+pub mod Helds

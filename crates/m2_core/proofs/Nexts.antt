@@ -1,16 +1,14 @@
 -- What is done with the front of a feed, by what stands there.
-use Rattle.std.proofs.Common.{◌≡◌, ◌≢◌, ℕ, ◌*◌, ◌<◌, ◌≤◌, Bool, true, false, List, Option, Some, None, refl, sym, ap, subst, ◌∙◌, arith}
+use Rattle.std.proofs.Common.{◌≡◌, ℕ, ◌≤◌, Bool, true, false, Option, Some, None, refl, sym, ap, subst, ◌∙◌, arith}
 use Rattle.std.specs.Prelude.{nat_lt, if◌then◌else◌}
 use Rattle.std.specs.Option.{is_some}
 use Rattle.std.proofs.lemmas.Bool.{ltb-true, ltb-false}
 use Rattle.m2_feed.specs.Calls.{IsBad, IsFront, Owes, Rests}
 use Rattle.m2_feed.specs.FeedNow.{FeedNow, Reading, framing, shaking, is_framing}
-use Rattle.m2_feed.specs.Laws.{FindsFaults, PassesThe}
+use Rattle.m2_feed.specs.Laws.{FindsFaults}
 use Rattle.m2_frame.specs.declared.fault.FrameFault.{FrameFault}
-use Rattle.m2_frame.specs.declared.frame.TheConstants.{MESSAGE_LIMIT}
 use Rattle.m2_frame.specs.Frame.{Parts, message_tag}
-use Rattle.m2_frame.specs.Reading.{Front, Item, bad, judge, owed_at, size_of, start, text, whole}
-use Rattle.m2_heard.specs.declared.fault.WireFault.{WireFault}
+use Rattle.m2_frame.specs.Reading.{Item, judge, whole}
 use Rattle.m2_heard.specs.declared.fault.WireFault.TheVariants as fault
 use Rattle.m2_heard.specs.declared.heard.FrameHeard.{FrameHeard}
 use Rattle.m2_heard.specs.declared.heard.FrameHeard.TheVariants.{Nothing, Acknowledges, Fault}
@@ -32,9 +30,8 @@ use Rattle.m2_core.specs.Calls.{after_fault}
 use Rattle.m2_core.specs.CoreNow.{CoreNow, OnFeedNow, is_ready}
 use Rattle.m2_core.specs.Front.{FrontHeard, Hears, HearsOn, asks, before_front, front_in, front_of, heard_by, hearer_of, rests, resumption_at, resumption_of, tells}
 use Rattle.m2_core.specs.Granting.{HasGranted}
-use Rattle.m2_core.specs.Next.{CanCount, CanHeed, Closes, IsNext, RestSays, granted_next, size_front}
+use Rattle.m2_core.specs.Next.{CanHeed, Closes, IsNext, RestSays, granted_next, size_front}
 use Rattle.m2_core.specs.Passing.{HasPassed, PassesHeard, PassesItem}
-use Rattle.m2_core.specs.Resting.{HasNoFrame}
 use Rattle.m2_core.proofs.Heeded.{bad_breaks, early_breaks, may_close, resumed_breaks, resumed_counts}
 
 pub is_fed : (x : Option FeedNow) → OnFeedNow x (λ v. is_framing v.reading ≡ true) → is_some x ≡ true

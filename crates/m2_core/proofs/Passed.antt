@@ -1,9 +1,9 @@
 -- A text that is passed without an entry: the replay passes it over.
-use Rattle.std.proofs.Common.{◌≡◌, ◌≢◌, ℕ, Bool, true, false, ◌&&◌, List, ◌++◌, ◌∷◌, [], Option, Some, None, Result, Ok, Err, refl, sym, ap, subst, ◌∙◌}
+use Rattle.std.proofs.Common.{◌≡◌, ℕ, Bool, true, false, ◌&&◌, Option, Some, None, Result, Ok, Err, refl, sym, ap, subst, ◌∙◌}
 use Rattle.std.proofs.lemmas.Bool.{true≢false}
 use Rattle.m2_bytes.specs.declared.memory.NoMemory as memory
 use Rattle.m2_control.specs.declared.keepalive.Keepalive.{Keepalive}
-use Rattle.m2_feed.specs.Calls.{HasFrame, IsFront, NotesStamp, passed}
+use Rattle.m2_feed.specs.Calls.{HasFrame, IsFront, passed}
 use Rattle.m2_feed.specs.FeedNow.{FeedNow, Reading, framing, shaking, is_framing}
 use Rattle.m2_feed.specs.Laws.{PassesBeside, PassesThe}
 use Rattle.m2_feed.specs.Stands.{passes_over}
@@ -21,7 +21,7 @@ use Rattle.m2_session.specs.Phases as phase
 use Rattle.m2_core.specs.Agrees.{Agrees, FeedsAgree, Stays}
 use Rattle.m2_core.specs.CoreNow.{CoreNow, Holds, IsAskedIfSigned, IsSound, LiveNow, OnFeedNow, granted_in, is_granted_in, granted_on}
 use Rattle.m2_core.specs.Front.{Hears, HearsOn, hearer_at, hearer_of}
-use Rattle.m2_core.specs.Passing.{HasNoted, HasPassed, HasStamped, LiveNotes, LivePasses, NotesFeed, PassesFeed, PassesHeard, PassesItem, StampsFeed, passed_live}
+use Rattle.m2_core.specs.Passing.{HasNoted, HasPassed, LiveNotes, LivePasses, NotesFeed, PassesFeed, PassesHeard, PassesItem, StampsFeed, passed_live}
 use Rattle.m2_core.proofs.Fronts.{as_replayed}
 
 both : (a b : Bool) → a ≡ true → b ≡ true → (a && b) ≡ true

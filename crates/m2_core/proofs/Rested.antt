@@ -1,26 +1,20 @@
 -- One answer of the decoder where no whole frame stands at the front.
-use Rattle.std.proofs.Common.{◌≡◌, ◌≢◌, ℕ, Bool, true, false, List, Option, Some, None, refl, sym, ap, subst, ◌∙◌}
+use Rattle.std.proofs.Common.{◌≡◌, ◌≢◌, ℕ, Bool, true, false, Option, Some, None, refl, sym, ap, subst, ◌∙◌}
 use Rattle.std.specs.Prelude.{if◌then◌else◌}
-use Rattle.std.proofs.lemmas.Bool.{true≢false}
-use Rattle.m2_feed.specs.Calls.{HasFrame, IsBad, IsFront, OnlyReads, Owes, Rests}
+use Rattle.m2_feed.specs.Calls.{IsBad, IsFront, OnlyReads, Owes, Rests}
 use Rattle.m2_feed.specs.FeedNow.{FeedNow, Reading, framing, shaking}
 use Rattle.m2_feed.specs.Laws.{PassesBeside}
 use Rattle.m2_frame.specs.declared.fault.FrameFault.{FrameFault}
 use Rattle.m2_frame.specs.declared.frame.Frame.{Frame}
 use Rattle.m2_frame.specs.declared.got.Got.{Got}
 use Rattle.m2_frame.specs.declared.got.Got.TheVariants as got
-use Rattle.m2_frame.specs.Frame.{Parts, parts}
-use Rattle.m2_frame.specs.Reading.{Item, whole, dropped, size_of}
+use Rattle.m2_frame.specs.Frame.{parts}
+use Rattle.m2_frame.specs.Reading.{dropped}
 use Rattle.m2_heard.specs.declared.fault.WireFault.TheVariants as fault
-use Rattle.m2_heard.specs.declared.heard.FrameHeard.{FrameHeard}
 use Rattle.m2_heard.specs.declared.heard.FrameHeard.TheVariants.{Nothing, Fault}
-use Rattle.m2_heard.specs.Heard.{heard_of}
 use Rattle.m2_heard.specs.Laws.{AsksForItsSize, IsHeardAsReplayed}
-use Rattle.m2_session.specs.declared.session.Phase.TheVariants.{Ready}
-use Rattle.m2_session.specs.Phases as phase
-use Rattle.m2_shared.specs.Throttle.{SeenGrant}
 use Rattle.m2_core.specs.declared.resting.CoreRest.TheVariants as rest
-use Rattle.m2_core.specs.CoreNow.{CoreNow, Holds, LiveNow, OnFeedNow, granted_in, granted_on, is_ready, size_granted}
+use Rattle.m2_core.specs.CoreNow.{CoreNow, Holds, OnFeedNow, granted_in, granted_on, is_ready, size_granted}
 use Rattle.m2_core.specs.Front.{hearer_of}
 use Rattle.m2_core.specs.Moves.{live_with}
 use Rattle.m2_core.specs.Next.{RestSays}

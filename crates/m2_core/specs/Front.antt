@@ -1,9 +1,9 @@
 -- What stands at the front of a core's feed, and what it says to the core.
-use Rattle.std.specs.Prelude.{◌≡◌, ℕ, Bool, true, false, nat_lt, if◌then◌else◌, List, Option, Some, None}
+use Rattle.std.specs.Prelude.{◌≡◌, ℕ, nat_lt, if◌then◌else◌, Option, Some, None}
 use Rattle.m2_feed.specs.Calls.{IsFront}
-use Rattle.m2_feed.specs.FeedNow.{FeedNow, Reading, framing, shaking}
+use Rattle.m2_feed.specs.FeedNow.{Reading, framing, shaking}
 use Rattle.m2_frame.specs.Frame.{Parts, message_tag}
-use Rattle.m2_frame.specs.Reading.{Front, Item, start, bad, text, whole, judge, owed_at}
+use Rattle.m2_frame.specs.Reading.{Front, start, bad, text, whole, judge, owed_at}
 use Rattle.m2_heard.specs.declared.fault.WireFault.TheVariants as fault
 use Rattle.m2_heard.specs.declared.heard.FrameHeard.{FrameHeard}
 use Rattle.m2_heard.specs.declared.heard.FrameHeard.TheVariants.{Acknowledges, Fault}
@@ -15,7 +15,7 @@ use Rattle.m2_queues.specs.OutQueues.{Queue}
 use Rattle.m2_session.specs.declared.session.Phase.TheVariants.{Ready}
 use Rattle.m2_session.specs.declared.session.Session.{Session}
 use Rattle.m2_session.specs.Phases as phase
-use Rattle.m2_core.specs.CoreNow.{CoreNow, LiveNow, OnFeedNow, is_ready}
+use Rattle.m2_core.specs.CoreNow.{CoreNow, OnFeedNow, is_ready}
 
 -- ---- who hears
 

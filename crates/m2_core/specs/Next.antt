@@ -1,9 +1,8 @@
 -- What a core does with the front of its feed: one entry at most, by what stands there.
-use Rattle.std.specs.Prelude.{◌≡◌, ◌≢◌, ℕ, ◌<◌, ◌≤◌, Bool, true, false, Option, Some, None}
+use Rattle.std.specs.Prelude.{◌≡◌, ◌≢◌, ℕ, ◌-◌, ◌+◌, ◌<◌, ◌≤◌, Bool, true, false}
 use Rattle.m2_feed.specs.Calls.{IsBad, Owes, Rests}
-use Rattle.m2_feed.specs.FeedNow.{FeedNow, Reading}
+use Rattle.m2_feed.specs.FeedNow.{Reading}
 use Rattle.m2_frame.specs.Frame.{message_tag}
-use Rattle.m2_heard.specs.declared.fault.WireFault.{WireFault}
 use Rattle.m2_heard.specs.declared.fault.WireFault.TheVariants as fault
 use Rattle.m2_heard.specs.declared.heard.FrameHeard.{FrameHeard}
 use Rattle.m2_heard.specs.declared.heard.FrameHeard.TheVariants as heard
@@ -18,9 +17,9 @@ use Rattle.m2_core.specs.declared.resting.CoreRest.{CoreRest}
 use Rattle.m2_core.specs.declared.resting.CoreRest.TheVariants as rest
 use Rattle.m2_core.specs.Accepting.{Accepts}
 use Rattle.m2_core.specs.Agrees.{IsBroken, IsToldTo, LeadsOn, MayCome}
-use Rattle.m2_core.specs.Calls.{after_fault}
+use Rattle.m2_core.specs.Calls.{after_counted, after_fault}
 use Rattle.m2_core.specs.CoreNow.{CoreNow, LiveNow, OnFeedNow, is_ready, is_waiting}
-use Rattle.m2_core.specs.Front.{FrontHeard, HearsOn, asks, hearer_of, rests, tells}
+use Rattle.m2_core.specs.Front.{FrontHeard, HearsOn, asks, rests, tells}
 use Rattle.m2_core.specs.declared.granting.CoreGrant.{CoreGrant}
 use Rattle.m2_core.specs.declared.granting.CoreGrant.TheVariants as grant
 use Rattle.m2_core.specs.Granting.{Grants}
@@ -59,6 +58,7 @@ pub record Closes (before after : CoreNow) : Type 0 where
 
 -- an acknowledgement is counted
 pub record Counts (number : ℕ) (before after : CoreNow) : Type 0 where
+  pub only : after ≡ record before { live = after_counted number before.live }
   pub may : MayCome (item.acked number) before
   pub leads : LeadsOn (item.acked number) before after
 
@@ -88,6 +88,20 @@ abbrev pub granted_next : CoreGrant → CoreNext
 granted_next grant.Granted = next.Granted
 granted_next (grant.Full held) = next.Full held
 granted_next (grant.Again seen now) = next.Again seen now
+
+-- ---- what is held
+
+-- The word of a throttle that is alone, by what is held for the feed before and behind: a size is drawn when it is granted,
+-- and what is held is given back where its text is passed, or the feed closed. A grant that is handed out stays drawn.
+abbrev pub word_next : CoreNext → (word before behind : ℕ) → ℕ
+word_next next.Granted word before behind = word + behind
+word_next next.Passed word before behind = word - before
+word_next (next.Fault cause) word before behind = word - before
+word_next _ word before behind = word
+
+abbrev pub word_rest : CoreRest → (word before : ℕ) → ℕ
+word_rest rest.Passed word before = word - before
+word_rest _ word before = word
 
 -- ---- what is left for the record
 

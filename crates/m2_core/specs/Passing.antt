@@ -1,5 +1,5 @@
 -- What passing a text at the front, of which no entry is made, leaves of a core.
-use Rattle.std.specs.Prelude.{◌≡◌, ◌++◌, ◌∷◌, [], Option, Some, None, Result, Ok, Err}
+use Rattle.std.specs.Prelude.{◌≡◌, Option, Some, None, Result, Ok, Err}
 use Rattle.m2_bytes.specs.declared.memory.NoMemory as memory
 use Rattle.m2_control.specs.declared.keepalive.Keepalive.{Keepalive}
 use Rattle.m2_feed.specs.Calls.{NotesStamp, OnlyReads, PassesFrame}

@@ -1,5 +1,5 @@
 -- One answer of a feed's decoder, where no whole frame stands at the front.
-use Rattle.std.specs.Prelude.{◌≡◌, ℕ, Option, Some, None}
+use Rattle.std.specs.Prelude.{ℕ, Option, Some}
 use Rattle.m2_feed.specs.Calls.{GivesNext, IsFront, OnlyReads}
 use Rattle.m2_feed.specs.FeedNow.{FeedNow}
 use Rattle.m2_frame.specs.declared.got.Got.{Got}

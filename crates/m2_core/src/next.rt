@@ -5,11 +5,12 @@ ghost use Rattle.std.specs.Option.{is_some};
 ghost use Rattle.m2_feed.specs.Calls.{Owes};
 ghost use Rattle.m2_feed.specs.FeedNow.{is_framing};
 ghost use Rattle.m2_heard.specs.declared.heard.FrameHeard.TheVariants as heard;
+ghost use Rattle.m2_shared.specs.Place.{IsAlone};
 ghost use Rattle.m2_core.specs.Agrees.{IsBroken};
-ghost use Rattle.m2_core.specs.CoreNow.{IsOwned, OnFeedNow, is_ready};
+ghost use Rattle.m2_core.specs.CoreNow.{IsOwned, OnFeedNow, held, is_ready};
 ghost use Rattle.m2_core.specs.Effects.{IsAftermath};
 ghost use Rattle.m2_core.specs.Front.{Hears, HearsOn, front_of, heard_by, hearer_of, resumption_at, resumption_of, tells};
-ghost use Rattle.m2_core.specs.Next.{CanHeed, IsNext, effects_of, granted_next, size_front};
+ghost use Rattle.m2_core.specs.Next.{CanHeed, IsNext, effects_of, granted_next, size_front, word_next};
 ghost use Rattle.m2_core.specs.Resting.{HasNoFrame};
 
 use crate::accepting::CoreAccepted;
@@ -77,14 +78,16 @@ impl<E: End> Core<E> {
     /// Looks at the front of the feed, on which both sides have signed, and does what it says: one entry at
     /// most. What acknowledges is counted first, and stays at the front; a message whose number isn't above
     /// the last is passed, and one that skips a number is a fault.
-    #[tactic(auto, using(crate::proofs::Nexts::resumed_can, crate::proofs::Nexts::next_resumed, crate::proofs::Nexts::next_front))]
+    #[tactic(auto, using(crate::proofs::Nexts::resumed_can, crate::proofs::Nexts::next_resumed, crate::proofs::Nexts::next_front, crate::proofs::Helds::owned_on))]
     pub fn next(&mut self, throttle: &Throttle, pass: &mut TakePass) -> CoreFront<E>
         requires signed { OnFeedNow self.old.live.feed (λ v. is_framing v.reading ≡ true) }
         requires pass { pass.old.place ≡ throttle.now.place }
         requires owned { IsOwned throttle.now.place self.old.live.granted }
         ensures next { OnFeedNow self.old.live.feed (λ v. IsNext throttle.now result.next (heard_by self.old v.reading) self.old self.new) }
         ensures aftermath { IsAftermath (effects_of result.next self.old.live) self.old.live.feed (option_map E.seen result.aftermath.closed) result.aftermath.discarded result.aftermath.remote_reset }
+        ensures owned { IsOwned throttle.now.place self.new.live.granted }
         ensures place { pass.new.place ≡ pass.old.place }
+        ensures word { IsAlone throttle.now.place → pass.new.word ≡ word_next result.next pass.old.word (held self.old.live.granted) (held self.new.live.granted) }
     {
         match self.resumption() {
             Some(heard) => self.heed(heard, throttle, pass),
@@ -101,6 +104,7 @@ impl<E: End> Core<E> {
         ensures next { OnFeedNow self.old.live.feed (λ v. IsNext throttle.now result.next (front_of (hearer_of self.old) v.reading) self.old self.new) }
         ensures aftermath { IsAftermath (effects_of result.next self.old.live) self.old.live.feed (option_map E.seen result.aftermath.closed) result.aftermath.discarded result.aftermath.remote_reset }
         ensures place { pass.new.place ≡ pass.old.place }
+        ensures word { IsAlone throttle.now.place → pass.new.word ≡ word_next result.next pass.old.word (held self.old.live.granted) (held self.new.live.granted) }
     {
         front_laws();
         match self.hear_front() {
@@ -154,6 +158,7 @@ impl<E: End> Core<E> {
         ensures next { IsNext throttle.now result.next (tells heard) self.old self.new }
         ensures aftermath { IsAftermath (effects_of result.next self.old.live) self.old.live.feed (option_map E.seen result.aftermath.closed) result.aftermath.discarded result.aftermath.remote_reset }
         ensures place { pass.new.place ≡ pass.old.place }
+        ensures word { IsAlone throttle.now.place → pass.new.word ≡ word_next result.next pass.old.word (held self.old.live.granted) (held self.new.live.granted) }
     {
         match heard {
             FrameHeard::Nothing => {
@@ -192,6 +197,7 @@ impl<E: End> Core<E> {
         ensures next { IsNext throttle.now result.next (tells (heard.Fault cause)) self.old self.new }
         ensures aftermath { IsAftermath (effects_of result.next self.old.live) self.old.live.feed (option_map E.seen result.aftermath.closed) result.aftermath.discarded result.aftermath.remote_reset }
         ensures place { pass.new.place ≡ pass.old.place }
+        ensures word { IsAlone throttle.now.place → pass.new.word ≡ word_next result.next pass.old.word (held self.old.live.granted) (held self.new.live.granted) }
     {
         let aftermath = self.fault(throttle, pass);
         CoreFront {
@@ -201,7 +207,7 @@ impl<E: End> Core<E> {
     }
 
     /// The same where no whole frame stands at the front.
-    #[tactic(auto, using(crate::proofs::Nexts::rest_breaks, crate::proofs::Nexts::rest_owes, crate::proofs::Nexts::next_rests, crate::proofs::Nexts::next_passed, crate::proofs::Nexts::next_faulted, crate::proofs::Nexts::next_sized))]
+    #[tactic(auto, using(crate::proofs::Nexts::rest_breaks, crate::proofs::Nexts::rest_owes, crate::proofs::Nexts::next_rests, crate::proofs::Nexts::next_passed, crate::proofs::Nexts::next_faulted, crate::proofs::Nexts::next_sized, crate::proofs::Helds::word_faulted, crate::proofs::Helds::word_sized))]
     fn next_rest(&mut self, throttle: &Throttle, pass: &mut TakePass) -> CoreFront<E>
         requires signed { OnFeedNow self.old.live.feed (λ v. is_framing v.reading ≡ true) }
         requires none { HasNoFrame self.old.live.feed }
@@ -210,6 +216,7 @@ impl<E: End> Core<E> {
         ensures next { OnFeedNow self.old.live.feed (λ v. IsNext throttle.now result.next (front_of (hearer_of self.old) v.reading) self.old self.new) }
         ensures aftermath { IsAftermath (effects_of result.next self.old.live) self.old.live.feed (option_map E.seen result.aftermath.closed) result.aftermath.discarded result.aftermath.remote_reset }
         ensures place { pass.new.place ≡ pass.old.place }
+        ensures word { IsAlone throttle.now.place → pass.new.word ≡ word_next result.next pass.old.word (held self.old.live.granted) (held self.new.live.granted) }
     {
         front_laws();
         match self.rest(throttle, pass) {
@@ -221,7 +228,7 @@ impl<E: End> Core<E> {
     }
 
     /// The same where a MESSAGE asks for its size.
-    #[tactic(auto, using(crate::proofs::Nexts::is_bounded, crate::proofs::Nexts::size_breaks, crate::proofs::Nexts::size_fed, crate::proofs::Nexts::next_granted, crate::proofs::Nexts::next_early))]
+    #[tactic(auto, using(crate::proofs::Nexts::is_bounded, crate::proofs::Nexts::size_breaks, crate::proofs::Nexts::size_fed, crate::proofs::Nexts::next_granted, crate::proofs::Nexts::next_early, crate::proofs::Helds::word_granted))]
     fn next_size(&mut self, n: u64, throttle: &Throttle, pass: &mut TakePass) -> CoreFront<E>
         requires owes { OnFeedNow self.old.live.feed (λ v. Owes v.reading n) }
         requires pass { pass.old.place ≡ throttle.now.place }
@@ -229,6 +236,7 @@ impl<E: End> Core<E> {
         ensures next { IsNext throttle.now result.next (size_front (is_ready self.old.live) n) self.old self.new }
         ensures aftermath { IsAftermath (effects_of result.next self.old.live) self.old.live.feed (option_map E.seen result.aftermath.closed) result.aftermath.discarded result.aftermath.remote_reset }
         ensures place { pass.new.place ≡ pass.old.place }
+        ensures word { IsAlone throttle.now.place → pass.new.word ≡ word_next result.next pass.old.word (held self.old.live.granted) (held self.new.live.granted) }
     {
         front_laws();
         if self.live.session.phase != Phase::Ready {

@@ -2,8 +2,9 @@
 
 ghost use Rattle.std.specs.Prelude.{◌≡◌, true};
 ghost use Rattle.m2_feed.specs.FeedNow.{is_framing};
-ghost use Rattle.m2_core.specs.CoreNow.{IsOwned, OnFeedNow};
-ghost use Rattle.m2_core.specs.Next.{RestSays};
+ghost use Rattle.m2_shared.specs.Place.{IsAlone};
+ghost use Rattle.m2_core.specs.CoreNow.{IsOwned, OnFeedNow, held};
+ghost use Rattle.m2_core.specs.Next.{RestSays, word_rest};
 ghost use Rattle.m2_core.specs.Resting.{AnswersFeed, HasNoFrame};
 
 use crate::front_laws::front_laws;
@@ -38,6 +39,7 @@ impl<E: End> Core<E> {
         requires owned { IsOwned throttle.now.place self.old.live.granted }
         ensures rest { OnFeedNow self.old.live.feed (λ v. RestSays result v.reading self.old self.new) }
         ensures place { pass.new.place ≡ pass.old.place }
+        ensures word { IsAlone throttle.now.place → pass.new.word ≡ word_rest result pass.old.word (held self.old.live.granted) }
     {
         front_laws();
         match next_on(&mut self.live.feed) {
