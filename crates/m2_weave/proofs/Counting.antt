@@ -112,12 +112,12 @@ next-is names w at k =
     ∙ items-get names w s 0 (slice_index at k) s.items
     ∙ ap (λ x. option_map (counted_item names w s x) (slice_get s.items (slice_index at k))) same
 
-named-at : (names : List SocketId) (is : List StrandItem) (n : ℕ) (i : StrandItem) → AllByRecursion (IsNamed names) is → slice_get is n ≡ Some i → IsNamed names i
+pub named-at : (names : List SocketId) (is : List StrandItem) (n : ℕ) (i : StrandItem) → AllByRecursion (IsNamed names) is → slice_get is n ≡ Some i → IsNamed names i
 named-at names [] n i h e = absurd (cc)
 named-at names (x ∷ is) zero i h e = let same : x ≡ i = cc in subst (IsNamed names) same h.0
 named-at names (x ∷ is) (suc n) i h e = named-at names is n i h.1 e
 
-named-strand : (names : List SocketId) (ss : List StrandNow) (k : ℕ) → AllByRecursion (λ (s : StrandNow). AllByRecursion (IsNamed names) s.items) ss →
+pub named-strand : (names : List SocketId) (ss : List StrandNow) (k : ℕ) → AllByRecursion (λ (s : StrandNow). AllByRecursion (IsNamed names) s.items) ss →
     AllByRecursion (IsNamed names) (slice_index_or ss k nothing_at_all).items
 named-strand names [] k h = tt
 named-strand names (s ∷ ss) zero h = h.0

@@ -6,3 +6,5 @@ pub mod Written
 pub mod Fitting
 pub mod Numbering
 pub mod Counting
+pub mod Tallies
+pub mod Whole

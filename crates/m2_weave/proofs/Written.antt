@@ -29,17 +29,17 @@ total-suc f (suc n) (x ∷ is) i h =
 total-more : (f : StrandItem → ℕ) (n : ℕ) (is : List StrandItem) (i : StrandItem) → slice_get is n ≡ Some i → total f (take (n + 1) is) ≡ total f (take n is) + f i
 total-more f n is i h = subst (λ m. total f (take m is) ≡ total f (take n is) + f i) (sym (add-one n)) (total-suc f n is i h)
 
-get-take : (c i : ℕ) (xs : List ℕ) → i < c → slice_get (take c xs) i ≡ slice_get xs i
-get-take zero i xs h = absurd (omega (arith, h))
-get-take (suc c) i [] h = refl
-get-take (suc c) zero (x ∷ xs) h = refl
-get-take (suc c) (suc i) (x ∷ xs) h = get-take c i xs (omega (arith, h))
+pub get_take : (c i : ℕ) (xs : List ℕ) → i < c → slice_get (take c xs) i ≡ slice_get xs i
+get_take zero i xs h = absurd (omega (arith, h))
+get_take (suc c) i [] h = refl
+get_take (suc c) zero (x ∷ xs) h = refl
+get_take (suc c) (suc i) (x ∷ xs) h = get_take c i xs (omega (arith, h))
 
-get-drop : (p i : ℕ) (xs : List ℕ) → slice_get (drop p xs) i ≡ slice_get xs (p + i)
-get-drop zero i xs = let same : i ≡ 0 + i = omega arith in ap (slice_get xs) same
-get-drop (suc p) i [] = refl
-get-drop (suc p) i (x ∷ xs) =
-    let same : suc (p + i) ≡ suc p + i = omega arith in get-drop p i xs ∙ ap (slice_get (x ∷ xs)) same
+pub get_drop : (p i : ℕ) (xs : List ℕ) → slice_get (drop p xs) i ≡ slice_get xs (p + i)
+get_drop zero i xs = let same : i ≡ 0 + i = omega arith in ap (slice_get xs) same
+get_drop (suc p) i [] = refl
+get_drop (suc p) i (x ∷ xs) =
+    let same : suc (p + i) ≡ suc p + i = omega arith in get_drop p i xs ∙ ap (slice_get (x ∷ xs)) same
 
 in-range : (xs : List ℕ) (k n : ℕ) → n < slice_index xs k → k < length xs
 in-range [] k n h = omega (arith, h)
@@ -78,7 +78,7 @@ read-here w at s n k count p h low high within =
     let inside : p - from < length (take count (drop from got)) = omega (arith, length-take count (drop from got), length-drop from got, low, short, within) in
     let read : there (from + (p - from)) ≡ slice_get (take count (drop from got)) (p - from) =
     read-sound (end_in s k) there from (take count (drop from got)) h (p - from) inside in
-    ap there (sym same) ∙ read ∙ get-take count (p - from) (drop from got) short ∙ get-drop from (p - from) got ∙ ap (slice_get got) same
+    ap there (sym same) ∙ read ∙ get_take count (p - from) (drop from got) short ∙ get_drop from (p - from) got ∙ ap (slice_get got) same
 
 -- of a read on this socket or another
 read-if : (w : Woven) (at : Cut) (s : StrandNow) (n : ℕ) (k x : SocketId) (count p : ℕ) (b : Bool) → same_socket k x ≡ b →

@@ -4,3 +4,4 @@ pub mod Stops
 pub mod Counting
 pub mod Table
 pub mod Laws
+pub mod Tally

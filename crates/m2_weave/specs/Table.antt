@@ -1,12 +1,10 @@
 -- Sockets with the bytes of both ends, as a table; and what is woven by strands and such a table.
-use Rattle.std.specs.Prelude.{◌≡◌, ℕ, ◌+◌, ◌||◌, Bool, true, false, if◌then◌else◌, List, [], ◌∷◌, length, map, take, slice_get, slice_index, slice_index_or, Option, Some, None}
-use Rattle.std.specs.List.{list_any}
+use Rattle.std.specs.Prelude.{◌≡◌, ℕ, ◌+◌, Bool, true, false, if◌then◌else◌, List, [], length, map, slice_get, slice_index, slice_index_or, Option, Some, None}
 use Rattle.m2_fabric.specs.declared.socket.SocketId.{SocketId}
-use Rattle.m2_fabric.specs.Sockets.{is_among}
+use Rattle.m2_fabric.specs.Sockets.{is_among, same_socket}
 use Rattle.m2_weave.specs.declared.strand.Strand.{Strand}
-use Rattle.m2_weave.specs.declared.strand.StrandItem.{StrandItem}
 use Rattle.m2_weave.specs.declared.table.SocketBytes.{SocketBytes}
-use Rattle.m2_weave.specs.Strands.{Bytes, StrandNow, strand_now, opens, read_by, read_by_halves, total}
+use Rattle.m2_weave.specs.Strands.{Bytes, strand_now}
 use Rattle.m2_weave.specs.Rule.{Woven}
 use Rattle.m2_weave.specs.Counting.{place_in}
 
@@ -33,12 +31,21 @@ bytes_of sockets = record {
 abbrev pub woven_of : List Strand → List SocketBytes → Woven
 woven_of strands sockets = record { strands = map strand_now strands; bytes = bytes_of sockets }
 
+-- how many items each strand has
+abbrev pub lengths_of : List Strand → List ℕ
+lengths_of strands = map (λ (s : Strand). length s.items.items) strands
+
 -- ---- numbers that are kept of each socket, at its place
 
 -- of each named socket the number is this one
 abbrev pub KeepsNumbers : List SocketId → (SocketId → ℕ) → List ℕ → Type 0
 KeepsNumbers names f numbers = (k : SocketId) → is_among k names ≡ true → slice_index numbers (place_in names k) ≡ f k
 
--- of each named socket whether the items opened it
-abbrev pub KeepsOpened : List SocketId → List StrandItem → List Bool → Type 0
-KeepsOpened names items flags = (k : SocketId) → is_among k names ≡ true → slice_index_or flags (place_in names k) false ≡ list_any (opens k) items
+-- one number has risen: that of this socket
+abbrev pub HasRisen : List SocketId → SocketId → (amount : ℕ) → (old new : List ℕ) → Type 0
+HasRisen names x amount old new = (k : SocketId) → is_among k names ≡ true →
+    slice_index new (place_in names k) ≡ slice_index old (place_in names k) + (if same_socket k x then amount else 0)
+
+-- of each named socket whether it was opened
+abbrev pub KeepsOpened : List SocketId → (SocketId → Bool) → List Bool → Type 0
+KeepsOpened names f flags = (k : SocketId) → is_among k names ≡ true → slice_index_or flags (place_in names k) false ≡ f k

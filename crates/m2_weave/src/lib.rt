@@ -1,20 +1,24 @@
 //! The journals of two sides woven into one order, by the bytes of the sockets between them.
 //!
-//! What it is: definitions and laws. *Strands* are the two journals and what halves did on sockets before
-//! a side took them (`specs/Strands.antt`). An entry may come once the other end of its socket has written
-//! the bytes that it read; an ask is judged once its half has handed it on; and a half writes once all its
-//! asks so far are judged (`specs/Rule.antt`). What may come may still come later, so by `m2_merge` taking
-//! whatever may come finds an order of all entries exactly where there is one; where it stops at a read,
-//! [`Unfit`] names the byte that the other end hasn't written there (`specs/Stops.antt`).
+//! What it is: [`weave`], with its definitions and laws. A [`Strand`] is a journal, or what a half did on a
+//! socket before a side took it (`specs/Strands.antt`); [`SocketBytes`] has what both ends of a socket have
+//! read and written. An entry may come once the other end of its socket has written the bytes that it read;
+//! an ask is judged once its half has handed it on; and a half writes once all its asks so far are judged
+//! (`specs/Rule.antt`). What may come may still come later, so by `m2_merge` taking whatever may come finds
+//! an order of all entries exactly where there is one. Where that stops at a read, `specs/Stops.antt` says
+//! which byte is [`Unfit`].
 //!
 //! What it isn't: what follows from such an order. `m2_paired` says that of two journals in an order that
-//! fits.
+//! fits. No call names the unfit byte yet.
 #![tactic(auto)]
 
+mod counts;
 mod laws;
 mod strand;
 mod table;
+mod tally;
 mod unfit;
+mod weaving;
 
 pub use laws::{
     a_stop_is_no_order, all_read_was_written, counters_decide, rule_decides, rule_stays_met,
@@ -23,3 +27,4 @@ pub use laws::{
 pub use strand::{Strand, StrandItem};
 pub use table::{EndBytes, SocketBytes};
 pub use unfit::{Unfit, Why};
+pub use weaving::{WovenOrder, weave};

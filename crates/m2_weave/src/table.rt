@@ -1,10 +1,10 @@
 //! Sockets with the bytes of both ends.
 
-ghost use Rattle.std.specs.Prelude.{◌≡◌, ◌<◌, ◌+◌, length, drop, take, slice_get, slice_index, slice_set, OnOk};
+ghost use Rattle.std.specs.Prelude.{◌≡◌, ◌<◌, true, length, drop, take, slice_get};
+ghost use Rattle.m2_fabric.specs.Sockets.{is_among};
 ghost use Rattle.m2_weave.specs.Counting.{place_in};
 ghost use Rattle.m2_weave.specs.Table.{got_at, names_of, put_at};
 
-use m2_bytes::NoMemory;
 use m2_fabric::SocketId;
 
 /// What an end of a socket has read and what it has written, from its log.
@@ -34,6 +34,15 @@ pub(crate) fn place_in(sockets: &[SocketBytes<'_>], k: &SocketId) -> usize
     sockets.len()
 }
 
+/// The place of a socket that is in the table.
+pub(crate) fn named_place(sockets: &[SocketBytes<'_>], k: &SocketId) -> usize
+    requires named { is_among k.now (names_of sockets.now) ≡ true }
+    ensures place { result ≡ place_in (names_of sockets.now) k.now }
+    ensures within { result < length sockets.now }
+{
+    place_in(sockets, k)
+}
+
 /// What an end of a socket of the table has read.
 pub(crate) fn got_at<'a>(sockets: &[SocketBytes<'a>], place: usize, opener: bool) -> &'a [u8]
     requires { place < length sockets.now }
@@ -59,17 +68,4 @@ pub(crate) fn piece(bytes: &[u8], from: usize, count: usize) -> &[u8]
     let (_, rest) = bytes.split_at(from.min(bytes.len()));
     let (first, _) = rest.split_at(count.min(rest.len()));
     first
-}
-
-/// Adds to the number at a place. A number above 2^64 - 1 is answered as for want of memory.
-pub(crate) fn add(numbers: &mut [u64], place: usize, amount: u64) -> Result<(), NoMemory>
-    requires { place < length numbers.old }
-    ensures { OnOk result (numbers.new ≡ slice_set numbers.old place (slice_index numbers.old place + amount)) }
-{
-    let number = numbers[place];
-    if amount > u64::MAX - number {
-        return Err(NoMemory);
-    }
-    numbers[place] = number + amount;
-    Ok(())
 }

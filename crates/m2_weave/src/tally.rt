@@ -1,0 +1,218 @@
+//! Numbers that are counted of each socket of a table.
+
+ghost use Rattle.std.specs.Prelude.{◌≡◌, ℕ, ◌+◌, ◌*◌, ◌<◌, ◌^◌, ◌||◌, Bool, true, false, length, if◌then◌else◌, drop, map, take, replicate, slice_get, slice_index, slice_index_or, IfOk, OnOk, Decides};
+ghost use Rattle.std.specs.List.{list_any};
+ghost use Rattle.m2_fabric.specs.Sockets.{is_among, same_socket};
+ghost use Rattle.m2_weave.specs.Counting.{bytes_need, place_in, side_number};
+ghost use Rattle.m2_weave.specs.Strands.{opens, read_by, read_by_halves, strand_now, total};
+ghost use Rattle.m2_weave.specs.Table.{HasRisen, KeepsNumbers, KeepsOpened, got_at, names_of};
+ghost use Rattle.m2_weave.specs.Tally.{bytes_alone};
+
+use crate::strand::{Strand, StrandItem};
+use crate::table::{SocketBytes, got_at, named_place, piece, place_in, put_at};
+use m2_bytes::NoMemory;
+use m2_fabric::SocketId;
+use m2_journal::Entry;
+use m2_merge::Need;
+use std::alloc::Global;
+
+/// Adds to the number of a socket, if it is in the table. A number above 2^64 - 1 is answered as for want
+/// of memory.
+pub(crate) fn raise(
+    numbers: &mut Vec<u64>,
+    sockets: &[SocketBytes<'_>],
+    socket: &SocketId,
+    amount: u64,
+) -> Result<(), NoMemory>
+    requires count { length numbers.old.items ≡ length sockets.now }
+    ensures count { length numbers.new.items ≡ length sockets.now }
+    ensures risen { OnOk result (HasRisen (names_of sockets.now) socket.now amount numbers.old.items numbers.new.items) }
+{
+    let place = place_in(sockets, socket);
+    if place >= sockets.len() {
+        return Ok(());
+    }
+    let number = numbers[place];
+    if amount > u64::MAX - number {
+        return Err(NoMemory);
+    }
+    numbers[place] = number + amount;
+    Ok(())
+}
+
+/// Adds what an item has read.
+fn add_read(
+    numbers: &mut Vec<u64>,
+    sockets: &[SocketBytes<'_>],
+    item: StrandItem,
+) -> Result<(), NoMemory>
+    requires count { length numbers.old.items ≡ length sockets.now }
+    ensures count { length numbers.new.items ≡ length sockets.now }
+    ensures added { OnOk result (KeepsNumbers (names_of sockets.now)
+        (λ k. slice_index numbers.old.items (place_in (names_of sockets.now) k) + read_by k item) numbers.new.items) }
+{
+    if let StrandItem::Noted(Entry::Read { socket, count }) = item {
+        return raise(numbers, sockets, &socket, u64::from(count));
+    }
+    Ok(())
+}
+
+/// Adds what these items have read.
+fn add_reads(
+    numbers: &mut Vec<u64>,
+    sockets: &[SocketBytes<'_>],
+    items: &[StrandItem],
+) -> Result<(), NoMemory>
+    requires count { length numbers.old.items ≡ length sockets.now }
+    ensures count { length numbers.new.items ≡ length sockets.now }
+    ensures added { OnOk result (KeepsNumbers (names_of sockets.now)
+        (λ k. slice_index numbers.old.items (place_in (names_of sockets.now) k) + total (read_by k) items.now) numbers.new.items) }
+{
+    for item in items {
+        add_read(numbers, sockets, *item)?;
+    }
+    Ok(())
+}
+
+/// Adds what a strand has read, if it is a half's.
+fn add_half(numbers: &mut Vec<u64>, sockets: &[SocketBytes<'_>], s: &Strand) -> Result<(), NoMemory>
+    requires count { length numbers.old.items ≡ length sockets.now }
+    ensures count { length numbers.new.items ≡ length sockets.now }
+    ensures added { OnOk result (KeepsNumbers (names_of sockets.now)
+        (λ k. slice_index numbers.old.items (place_in (names_of sockets.now) k)
+        + (if s.now.of_half then total (read_by k) s.now.items.items else 0)) numbers.new.items) }
+{
+    if s.of_half {
+        return add_reads(numbers, sockets, s.items.as_slice());
+    }
+    Ok(())
+}
+
+/// What halves have read on each socket of the table.
+pub(crate) fn read_by_halves(
+    alloc: Global,
+    sockets: &[SocketBytes<'_>],
+    strands: &[Strand],
+) -> Result<Vec<u64>, NoMemory>
+    ensures count { IfOk result (λ v. length v.items ≡ length sockets.now) }
+    ensures numbers { IfOk result (λ v. KeepsNumbers (names_of sockets.now) (read_by_halves (map strand_now strands.now)) v.items) }
+{
+    let mut numbers = zeros(alloc, sockets.len())?;
+    for s in strands {
+        add_half(&mut numbers, sockets, s)?;
+    }
+    Ok(numbers)
+}
+
+/// So many zeros.
+pub(crate) fn zeros(alloc: Global, n: usize) -> Result<Vec<u64>, NoMemory>
+    ensures { IfOk result (λ v. v.items ≡ replicate n 0) }
+{
+    Ok(Vec::from_elem(alloc, 0, n)?)
+}
+
+/// Which sockets of the table these items have opened.
+pub(crate) fn opened_by(
+    alloc: Global,
+    sockets: &[SocketBytes<'_>],
+    items: &[StrandItem],
+) -> Result<Vec<bool>, NoMemory>
+    ensures count { IfOk result (λ v. length v.items ≡ length sockets.now) }
+    ensures flags { IfOk result (λ v. KeepsOpened (names_of sockets.now) (λ k. list_any (opens k) items.now) v.items) }
+{
+    let mut flags = unset(alloc, sockets.len())?;
+    for item in items {
+        if let StrandItem::Noted(Entry::Opened { socket }) = *item {
+            set(&mut flags, sockets, &socket);
+        }
+    }
+    Ok(flags)
+}
+
+/// So many flags that aren't set.
+fn unset(alloc: Global, n: usize) -> Result<Vec<bool>, NoMemory>
+    ensures { IfOk result (λ v. v.items ≡ replicate n false) }
+{
+    Ok(Vec::from_elem(alloc, false, n)?)
+}
+
+/// Sets the flag of a socket, if it is in the table.
+fn set(flags: &mut Vec<bool>, sockets: &[SocketBytes<'_>], socket: &SocketId)
+    requires count { length flags.old.items ≡ length sockets.now }
+    ensures count { length flags.new.items ≡ length sockets.now }
+    ensures set { KeepsOpened (names_of sockets.now)
+        (λ k. same_socket k socket.now || slice_index_or flags.old.items (place_in (names_of sockets.now) k) false) flags.new.items }
+{
+    let place = place_in(sockets, socket);
+    if place < sockets.len() {
+        flags[place] = true;
+    }
+}
+
+/// Where the reads of a strand begin on each socket: a journal goes on where a half has left off on a
+/// socket that it didn't open.
+pub(crate) fn begin(
+    alloc: Global,
+    of_half: bool,
+    opened: &[bool],
+    halves: &[u64],
+) -> Result<Vec<u64>, NoMemory>
+    requires count { length opened.now ≡ length halves.now }
+    ensures count { IfOk result (λ v. length v.items ≡ length halves.now) }
+    ensures numbers { IfOk result (λ v. (p : ℕ) → p < length halves.now →
+        slice_index v.items p ≡ (if of_half || slice_index_or opened.now p false then 0 else slice_index halves.now p)) }
+{
+    let mut numbers = Vec::with_capacity(alloc, halves.len())?;
+    for p in 0..halves.len() {
+        let number = if of_half || opened[p] { 0 } else { halves[p] };
+        numbers.push(number)?;
+    }
+    Ok(numbers)
+}
+
+/// Whether the two have the same bytes.
+fn is_same(a: &[u8], b: &[u8]) -> bool
+    ensures { Decides result (a.now ≡ b.now) }
+{
+    a == b
+}
+
+/// What a read waits for: so many bytes at an end, from a place on.
+pub(crate) fn read_need(
+    sockets: &[SocketBytes<'_>],
+    socket: &SocketId,
+    opener: bool,
+    from: u64,
+    count: u32,
+) -> Need
+    requires named { is_among socket.now (names_of sockets.now) ≡ true }
+    requires few { length sockets.now < 2 ^ 60 }
+    ensures { result ≡ bytes_need (names_of sockets.now) (bytes_alone sockets.now) (record { socket = socket.now; opener = opener }) from
+        (take count (drop from (got_at (slice_get sockets.now (place_in (names_of sockets.now) socket.now)) opener))) }
+{
+    let place = named_place(sockets, socket);
+    let bytes = piece(
+        got_at(sockets, place, opener),
+        from as usize,
+        count as usize,
+    );
+    let there = piece(put_at(sockets, place, !opener), from as usize, bytes.len());
+    let same = is_same(bytes, there);
+    if same {
+        if bytes.is_empty() {
+            return Need::Nothing;
+        }
+        let counter = writes(place, !opener);
+        let least = from + bytes.len() as u64;
+        return Need::AtLeast { counter, least };
+    }
+    Need::Never
+}
+
+/// The number of the counter of what an end writes.
+pub(crate) fn writes(place: usize, opener: bool) -> usize
+    requires { place < 2 ^ 60 }
+    ensures { result ≡ 4 * place + side_number opener }
+{
+    4 * place + usize::from(opener)
+}

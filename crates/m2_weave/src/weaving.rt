@@ -1,0 +1,142 @@
+//! The weaving of strands.
+
+ghost use Rattle.std.specs.Prelude.{◌≡◌, ◌<◌, ◌^◌, length, map, IfOk, Decides};
+ghost use Rattle.m2_merge.specs.Counted.{entries_of};
+ghost use Rattle.m2_merge.specs.Merging.{even};
+ghost use Rattle.m2_merge.specs.Order.{IsGreedy, reached};
+ghost use Rattle.m2_weave.specs.Counting.{AreNamed, counted, counted_items};
+ghost use Rattle.m2_weave.specs.Rule.{by_bytes, strand_at};
+ghost use Rattle.m2_weave.specs.Stops.{sizes};
+ghost use Rattle.m2_weave.specs.Strands.{read_by_halves, strand_now};
+ghost use Rattle.m2_weave.specs.Table.{KeepsNumbers, lengths_of, names_of, woven_of};
+ghost use Rattle.m2_weave.specs.Tally.{CountsAre};
+
+use crate::counts::Counts;
+use crate::strand::Strand;
+use crate::table::SocketBytes;
+use crate::tally::{begin, opened_by, read_by_halves, zeros};
+use m2_bytes::{Items, NoMemory};
+use m2_merge::{CountedStrand, merge};
+use std::alloc::Global;
+
+/// What a weaving found: the strands of the items, in the order in which they come; how many items of each
+/// strand that is; and whether it is all of them.
+#[derive(Debug, Drop)]
+pub struct WovenOrder {
+    pub order: Items<usize>,
+    pub at: Items<usize>,
+    pub whole: bool,
+}
+
+/// The counts before the first item of a strand.
+fn counts_of(
+    alloc: Global,
+    strands: &[Strand],
+    sockets: &[SocketBytes<'_>],
+    halves: &[u64],
+    k: usize,
+) -> Result<Counts, NoMemory>
+    requires strand { k < length strands.now }
+    requires count { length halves.now ≡ length sockets.now }
+    requires halves { KeepsNumbers (names_of sockets.now) (read_by_halves (map strand_now strands.now)) halves.now }
+    ensures { IfOk result (CountsAre sockets.now (woven_of strands.now sockets.now) (strand_at (woven_of strands.now sockets.now) k) 0) }
+{
+    let s = &strands[k];
+    let opened = opened_by(alloc, sockets, s.items.as_slice())?;
+    let reads = begin(alloc, s.of_half, &opened, halves)?;
+    let handed = zeros(alloc, sockets.len())?;
+    let judged = zeros(alloc, sockets.len())?;
+    Ok(Counts {
+        opened,
+        reads,
+        handed,
+        judged,
+    })
+}
+
+/// The items of a strand as entries of a merge.
+fn count_items(
+    alloc: Global,
+    strands: &[Strand],
+    sockets: &[SocketBytes<'_>],
+    counts: &mut Counts,
+    k: usize,
+) -> Result<CountedStrand, NoMemory>
+    requires strand { k < length strands.now }
+    requires few { length sockets.now < 2 ^ 60 }
+    requires named { AreNamed (names_of sockets.now) (woven_of strands.now sockets.now) }
+    requires counts { CountsAre sockets.now (woven_of strands.now sockets.now) (strand_at (woven_of strands.now sockets.now) k) 0 counts.old }
+    ensures { IfOk result (λ c. c.entries.items ≡ counted_items (names_of sockets.now) (woven_of strands.now sockets.now)
+        (strand_at (woven_of strands.now sockets.now) k) 0 (strand_at (woven_of strands.now sockets.now) k).items) }
+{
+    let items = strands[k].items.as_slice();
+    let mut entries = Items::empty(alloc);
+    for n in 0..items.len() {
+        let e = counts.count(sockets, items[n])?;
+        match entries.push(e) {
+            Ok(()) => {}
+            Err(_) => return Err(NoMemory),
+        }
+    }
+    Ok(CountedStrand { entries })
+}
+
+/// All strands by counters.
+fn count_all(
+    alloc: Global,
+    strands: &[Strand],
+    sockets: &[SocketBytes<'_>],
+) -> Result<Vec<CountedStrand>, NoMemory>
+    requires few { length sockets.now < 2 ^ 60 }
+    requires named { AreNamed (names_of sockets.now) (woven_of strands.now sockets.now) }
+    ensures { IfOk result (λ v. entries_of v.items ≡ counted (names_of sockets.now) (woven_of strands.now sockets.now)) }
+{
+    let halves = read_by_halves(alloc, sockets, strands)?;
+    let mut all = Vec::with_capacity(alloc, strands.len())?;
+    for k in 0..strands.len() {
+        let mut counts = counts_of(alloc, strands, sockets, &halves, k)?;
+        let strand = count_items(alloc, strands, sockets, &mut counts, k)?;
+        all.push(strand)?;
+    }
+    Ok(all)
+}
+
+/// Whether so many items are all items of the strands.
+fn is_all(strands: &[Strand], at: &[usize]) -> bool
+    requires { length at.now ≡ length strands.now }
+    ensures { Decides result (at.now ≡ lengths_of strands.now) }
+{
+    for k in 0..at.len() {
+        if at[k] != strands[k].items.len() {
+            return false;
+        }
+    }
+    true
+}
+
+/// Weaves strands whose sockets are all in the table: whatever may come is taken, until nothing may. So all
+/// items come exactly where there is an order of all of them by this rule; else the order goes as far as any
+/// order goes. It takes time in proportion to the bytes, and to the items times the sockets of the table.
+/// Counts above 2^64 - 1 are answered as for want of memory.
+pub fn weave(
+    alloc: Global,
+    strands: &[Strand],
+    sockets: &[SocketBytes<'_>],
+) -> Result<WovenOrder, NoMemory>
+    requires named { AreNamed (names_of sockets.now) (woven_of strands.now sockets.now) }
+    ensures greedy { IfOk result (λ w. IsGreedy even (by_bytes (woven_of strands.now sockets.now)) (sizes (woven_of strands.now sockets.now)) w.order.items) }
+    ensures at { IfOk result (λ w. w.at.items ≡ reached (sizes (woven_of strands.now sockets.now)) w.order.items) }
+    ensures whole { IfOk result (λ w. Decides w.whole (w.at.items ≡ sizes (woven_of strands.now sockets.now))) }
+{
+    if sockets.len() >= 1 << 60 {
+        return Err(NoMemory);
+    }
+    let counted = count_all(alloc, strands, sockets)?;
+    let merged = merge(alloc, &counted, 4 * sockets.len() + 4)?;
+    let whole = is_all(strands, merged.at.as_slice());
+    Ok(WovenOrder {
+        order: merged.order,
+        at: merged.at,
+        whole,
+    })
+}
