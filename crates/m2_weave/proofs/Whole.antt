@@ -302,3 +302,18 @@ pub length_get : (strands : List Strand) (k : ℕ) (s : Strand) → k < length s
 length_get [] k s h e = absurd (omega (arith, h))
 length_get (x ∷ strands) zero s h e = ap (λ (y : Strand). length y.items.items) (sym e)
 length_get (x ∷ strands) (suc k) s h e = length_get strands k s (omega (arith, h)) e
+
+-- ---- names, an item at a time
+
+pub all_get : {X : Type 0} (P : X → Type 0) (xs : List X) (n : ℕ) (d : X) → n < length xs → AllByRecursion P xs → P (slice_index_or xs n d)
+all_get P [] n d h all = absurd (omega (arith, h))
+all_get P (x ∷ xs) zero d h all = all.0
+all_get P (x ∷ xs) (suc n) d h all = all_get P xs n d (omega (arith, h)) all.1
+
+pub all_map : {X Y : Type 0} (P : Y → Type 0) (f : X → Y) (xs : List X) → AllByRecursion (λ x. P (f x)) xs → AllByRecursion P (map f xs)
+all_map P f [] all = tt
+all_map P f (x ∷ xs) all = (all.0, all_map P f xs all.1)
+
+pub map_all : {X Y : Type 0} (P : Y → Type 0) (f : X → Y) (xs : List X) → AllByRecursion P (map f xs) → AllByRecursion (λ x. P (f x)) xs
+map_all P f [] all = tt
+map_all P f (x ∷ xs) all = (all.0, map_all P f xs all.1)

@@ -27,4 +27,4 @@ pub use laws::{
 pub use strand::{Strand, StrandItem};
 pub use table::{EndBytes, SocketBytes};
 pub use unfit::{Unfit, Why};
-pub use weaving::{WovenOrder, weave};
+pub use weaving::{WovenOrder, are_named, weave};

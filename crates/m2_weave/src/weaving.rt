@@ -1,10 +1,12 @@
 //! The weaving of strands.
 
 ghost use Rattle.std.specs.Prelude.{◌≡◌, ◌<◌, ◌^◌, length, map, IfOk, Decides};
+ghost use Rattle.std.specs.List.{AllByRecursion};
+ghost use Rattle.m2_fabric.specs.Sockets.{is_among};
 ghost use Rattle.m2_merge.specs.Counted.{entries_of};
 ghost use Rattle.m2_merge.specs.Merging.{even};
 ghost use Rattle.m2_merge.specs.Order.{IsGreedy, reached};
-ghost use Rattle.m2_weave.specs.Counting.{AreNamed, counted, counted_items};
+ghost use Rattle.m2_weave.specs.Counting.{AreNamed, IsNamed, counted, counted_items};
 ghost use Rattle.m2_weave.specs.Rule.{by_bytes, strand_at};
 ghost use Rattle.m2_weave.specs.Stops.{sizes};
 ghost use Rattle.m2_weave.specs.Strands.{read_by_halves, strand_now};
@@ -12,10 +14,12 @@ ghost use Rattle.m2_weave.specs.Table.{KeepsNumbers, lengths_of, names_of, woven
 ghost use Rattle.m2_weave.specs.Tally.{CountsAre};
 
 use crate::counts::Counts;
-use crate::strand::Strand;
+use crate::strand::{Strand, StrandItem};
 use crate::table::SocketBytes;
 use crate::tally::{begin, opened_by, read_by_halves, zeros};
 use m2_bytes::{Items, NoMemory};
+use m2_fabric::SocketId;
+use m2_journal::Entry;
 use m2_merge::{CountedStrand, merge};
 use std::alloc::Global;
 
@@ -108,6 +112,78 @@ fn is_all(strands: &[Strand], at: &[usize]) -> bool
 {
     for k in 0..at.len() {
         if at[k] != strands[k].items.len() {
+            return false;
+        }
+    }
+    true
+}
+
+/// Whether the socket of an item is in the table, where it matters.
+fn is_named(sockets: &[SocketBytes<'_>], item: StrandItem) -> bool
+    ensures { Decides result (IsNamed (names_of sockets.now) item) }
+{
+    let socket = match item {
+        StrandItem::Noted(Entry::Read { socket, count: _ })
+        | StrandItem::Noted(Entry::Wrote { socket, count: _ })
+        | StrandItem::Handed(socket) => socket,
+        StrandItem::Noted(
+            Entry::Judged {
+                socket,
+                ask: _,
+                number: _,
+                answer: _,
+            },
+        ) => socket,
+        StrandItem::Noted(
+            Entry::Post { place: _ }
+            | Entry::Dial
+            | Entry::Opened { socket: _ }
+            | Entry::Closed { socket: _ }
+            | Entry::Asked {
+                ident: _,
+                number: _,
+            }
+            | Entry::Numbered { number: _ }
+            | Entry::Accepted { number: _, key: _ }
+            | Entry::Acked { number: _ }
+            | Entry::Obeyed { full: _ }
+            | Entry::Down { planned: _ },
+        ) => return true,
+    };
+    is_in(sockets, &socket)
+}
+
+/// Whether a socket is in the table.
+fn is_in(sockets: &[SocketBytes<'_>], k: &SocketId) -> bool
+    ensures { result ≡ is_among k.now (names_of sockets.now) }
+{
+    for s in sockets {
+        if k.is_same(&s.socket) {
+            return true;
+        }
+    }
+    false
+}
+
+/// Whether the sockets of all items are in the table.
+fn all_named(sockets: &[SocketBytes<'_>], items: &[StrandItem]) -> bool
+    ensures { Decides result (AllByRecursion (IsNamed (names_of sockets.now)) items.now) }
+{
+    for item in items {
+        if !is_named(sockets, *item) {
+            return false;
+        }
+    }
+    true
+}
+
+/// Whether the sockets of all strands are in the table, as [`weave`] wants it: those on which an entry
+/// reads, writes or judges, or on which an ask was handed on.
+pub fn are_named(strands: &[Strand], sockets: &[SocketBytes<'_>]) -> bool
+    ensures { Decides result (AreNamed (names_of sockets.now) (woven_of strands.now sockets.now)) }
+{
+    for s in strands {
+        if !all_named(sockets, s.items.as_slice()) {
             return false;
         }
     }
