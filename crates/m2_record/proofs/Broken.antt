@@ -1,7 +1,8 @@
 -- A feed is closed for a fault of its end.
-use Rattle.std.proofs.Common.{◌≡◌, ℕ, ◌+◌, ◌<◌, ◌&&◌, ◌||◌, not, if◌then◌else◌, Bool, true, false, List, [], ◌∷◌, ◌++◌, map, Option, Some, None, inl, refl, sym, ap, subst, ◌∙◌}
+use Rattle.std.specs.Prelude.{◌⊎◌}
+use Rattle.std.proofs.Common.{◌≡◌, ℕ, ◌+◌, ◌<◌, ◌&&◌, ◌||◌, not, if◌then◌else◌, Bool, true, false, List, [], ◌∷◌, ◌++◌, map, Option, Some, None, inl, inr, refl, sym, ap, subst, ◌∙◌}
 use Rattle.std.specs.Option.{is_some, option_to_list}
-use Rattle.m2_core.specs.Agrees.{Agrees, FeedsAgree, LeadsOn}
+use Rattle.m2_core.specs.Agrees.{Agrees, FeedsAgree, IsBroken, LeadsOn}
 use Rattle.m2_core.specs.Calls.{after_fault}
 use Rattle.m2_core.specs.CoreNow.{CoreNow, LiveNow, OnFeedNow, is_waiting}
 use Rattle.m2_core.specs.Effects.{IsAftermath, closed_if}
@@ -12,9 +13,10 @@ use Rattle.m2_fabric.specs.Sockets.{IsNewTo, same_socket}
 use Rattle.m2_feed.specs.FeedNow.{FeedNow}
 use Rattle.m2_journal.specs.declared.entry.Entry.{Entry}
 use Rattle.m2_journal.specs.declared.entry.Entry.TheVariants as entry
+use Rattle.m2_journal.specs.declared.facts.NodeFacts.{NodeFacts}
 use Rattle.m2_journal.specs.Items as item
 use Rattle.m2_journal.specs.Items.{item_of, reach_of}
-use Rattle.m2_journal.specs.Lawful.{OnFeedAt, is_broken}
+use Rattle.m2_journal.specs.Lawful.{OnFeed, OnFeedAt, is_broken}
 use Rattle.m2_journal.specs.Plan.{planned}
 use Rattle.m2_journal.specs.Replay.{IsReplay}
 use Rattle.m2_journal.specs.SideFacts.{SideFacts}
@@ -23,17 +25,21 @@ use Rattle.m2_journal.specs.Steps as journal
 use Rattle.m2_journal.specs.Steps.{after, breaks, forgets, is_on}
 use Rattle.m2_session.specs.declared.event.Effects.{Effects}
 use Rattle.m2_session.specs.declared.event.Event.TheVariants as event
+use Rattle.m2_session.specs.declared.session.Phase.{Phase}
 use Rattle.m2_session.specs.declared.session.Phase.TheVariants.{Absent, Standby, Wait}
 use Rattle.m2_session.specs.declared.session.Session.{Session}
 use Rattle.m2_session.specs.Steps as table
 use Rattle.m2_session.specs.Steps.{step_of}
 use Rattle.m2_record.specs.Calls.{KeepsEnds, closed_entries, told_parcels}
-use Rattle.m2_record.specs.IsRecord.{IsRecord, IsReplayedTo, FeedIsOpen, FeedHasRoom}
-use Rattle.m2_record.specs.RecordNow.{RecordNow, Rooms, feed_end, grounds_of, speaks_of}
+use Rattle.m2_record.specs.IsRecord.{IsRecord, IsReplayedTo, IsWellKept, FeedHasRoom, FeedIsOpen, FeedIsWhole, feeds_in}
+use Rattle.m2_record.specs.RecordNow.{RecordNow, Rooms, feed_end, grounds_of, ids_of, speaks_of}
 use Rattle.m2_record.specs.Sources.{broken_of, end_at, is_broken_end, sources_of}
 use Rattle.m2_record.proofs.Ends.{ends-moved}
 use Rattle.m2_record.proofs.Entering.{reach-more}
 use Rattle.m2_record.proofs.FeedLeft.{closed-left, parcels-left}
+use Rattle.m2_record.specs.Waits.{stepped}
+use Rattle.m2_record.specs.declared.waits.Waits.{Waits}
+use Rattle.m2_record.proofs.Kept.{feeds-more, ids-left, stepped-within, tells-fits, told-from, whole-left}
 use Rattle.m2_record.proofs.Keeping.{as-planned, ground, one-more, replay-stays}
 use Rattle.m2_record.proofs.Names.{differ, same_refl}
 use Rattle.m2_record.proofs.Telling.{Beside, beside, feed_left, spent_if, tells-beside, tells-feed, told_by}
@@ -59,10 +65,19 @@ either : (a b : Bool) → a ≡ true → (a || b) ≡ true
 either true b h = refl
 either false b h = absurd (differ h)
 
-on-feed : (f : SideFacts) (s : State) (v : FeedNow) (d : Option Feed) (broken : Bool) → FeedsAgree f s (Some v) d → broken ≡ true →
+or-so : (a b : Bool) → b ≡ true → (a || b) ≡ true
+or-so true b h = refl
+or-so false b h = h
+
+-- what the end or the bytes on it show
+abbrev Cause : RecordNow → FeedNow → Type 0
+Cause r v = (is_broken_end v.end ≡ true) ⊎ IsBroken r.core
+
+on-feed : (r : RecordNow) (s : State) (v : FeedNow) (d : Option Feed) (broken : Bool) → FeedsAgree r.core.facts s (Some v) d → (broken ≡ true) ⊎ OnFeedAt d (λ x. is_broken s x ≡ true) →
     OnFeedAt d (λ x. (same_socket v.end.id x.socket ≡ true) × ((broken || is_broken s x) ≡ true))
-on-feed f s v (Some d) broken a b = (subst (λ (k : SocketId). same_socket v.end.id k ≡ true) a.socket (same_refl v.end.id), either broken (is_broken s d) b)
-on-feed f s v None broken a b = absurd a
+on-feed r s v (Some d) broken a (inl b) = (subst (λ (k : SocketId). same_socket v.end.id k ≡ true) a.socket (same_refl v.end.id), either broken (is_broken s d) b)
+on-feed r s v (Some d) broken a (inr b) = (subst (λ (k : SocketId). same_socket v.end.id k ≡ true) a.socket (same_refl v.end.id), or-so broken (is_broken s d) b)
+on-feed r s v None broken a b = absurd a
 
 is-on-feed : (f : SideFacts) (s : State) (v : FeedNow) (d : Option Feed) → FeedsAgree f s (Some v) d → is_on v.end.id d ≡ true
 is-on-feed f s v (Some d) a = subst (λ (k : SocketId). same_socket v.end.id k ≡ true) a.socket (same_refl v.end.id)
@@ -72,15 +87,19 @@ breaking : (b : Bool) (k : SocketId) (s : State) → b ≡ true → (if b then b
 breaking true k s h = refl
 breaking false k s h = absurd (differ h)
 
-module _ (r : RecordNow) (s : State) (h : IsReplayedTo s r) (v : FeedNow) (was : r.core.live.feed ≡ Some v) (cause : is_broken_end v.end ≡ true) where
+module _ (r : RecordNow) (s : State) (h : IsReplayedTo s r) (v : FeedNow) (was : r.core.live.feed ≡ Some v) (cause : Cause r v) where
   abbrev left : Effects
   left = (step_of r.core.live.session (event.Faulted (is_waiting r.core.live))).effects
 
   agreed : FeedsAgree r.core.facts s (Some v) s.feed
   agreed = subst (λ (o : Option FeedNow). FeedsAgree r.core.facts s o s.feed) was h.core.feed
 
-  end-there : broken_of (end_at (feed_end r.core.live.feed ++ r.spent) v.end.id) ≡ true
-  end-there = subst (λ (o : Option FeedNow). broken_of (end_at (feed_end o ++ r.spent) v.end.id) ≡ true) (sym was) (rw (same_refl v.end.id) cause)
+  end-at : (b : Bool) → is_broken_end v.end ≡ b → broken_of (end_at (feed_end r.core.live.feed ++ r.spent) v.end.id) ≡ b
+  end-at b e = subst (λ (o : Option FeedNow). broken_of (end_at (feed_end o ++ r.spent) v.end.id) ≡ b) (sym was) (rw (same_refl v.end.id) e)
+
+  shown : Cause r v → (broken_of (end_at (feed_end r.core.live.feed ++ r.spent) v.end.id) ≡ true) ⊎ OnFeedAt s.feed (λ x. is_broken s x ≡ true)
+  shown (inl b) = inl (end-at true b)
+  shown (inr b) = inr (b s h.core)
 
   breaks-there : after r.core.facts (item_of (speaks_of r) (reach_of r.journal) (entry.Closed v.end.id)) s ≡ breaks s
   breaks-there = breaking (is_on v.end.id s.feed) v.end.id s (is-on-feed r.core.facts s v s.feed agreed)
@@ -104,65 +123,109 @@ module _ (r : RecordNow) (s : State) (h : IsReplayedTo s r) (v : FeedNow) (was :
       (ends-moved (r.journal ++ entry.Closed v.end.id ∷ []) v.end r.spent (subst (FeedIsOpen r.spent r.journal) was h.feed).unspent) r.core.facts (breaks s)
       (subst (λ (o : Option FeedNow). IsReplay r.core.facts (sources_of (ground (map planned r.plan) (feed_end o ++ r.spent) r.trails)) (r.journal ++ entry.Closed v.end.id ∷ []) (breaks s)) was
       (subst (IsReplay r.core.facts (speaks_of r) (r.journal ++ entry.Closed v.end.id ∷ [])) breaks-there
-      (one-more r.core.facts (grounds_of r) r.journal (entry.Closed v.end.id) s h.replay tt tt (inl (on-feed r.core.facts s v s.feed _ agreed end-there))))))
+      (one-more r.core.facts (grounds_of r) r.journal (entry.Closed v.end.id) s h.replay tt tt (inl (on-feed r s v s.feed _ agreed (shown cause)))))))
 
-  pub is-broken : (room : Rooms) → ((broken : Bool) → LeadsOn (item.closed v.end.id broken) r.core broken_core) →
+  pub is-broken : (now : ℕ) (room : Rooms) → ((broken : Bool) → LeadsOn (item.closed v.end.id broken) r.core broken_core) →
       IsReplayedTo (breaks s) (record r {
         core = broken_core;
         journal = r.journal ++ entry.Closed v.end.id ∷ [];
         spent = r.spent ++ after_closing v.end ∷ [];
         parcels = r.parcels ++ told_parcels r.place left.discard left.remote_reset;
+        waits = stepped r.core.facts.node now r.core.live.session.phase broken_core.live.session.phase r.waits;
+        held = false;
         room = room;
       })
-  is-broken room leads = record {
+  is-broken now room leads = record {
     replay = replay-there;
     core = subst (Agrees broken_core) breaks-there (leads (broken_of (end_at (feed_end r.core.live.feed ++ r.spent) v.end.id)) s h.core);
     steps = h.steps ∙ sym (ap (λ (b : Beside). b.steps) told);
     reach = ap (λ p. p.steps) (reach-more r.journal (entry.Closed v.end.id)) ∙ h.reach ∙ sym (ap (λ (b : Beside). b.steps) told);
-    parcels = parcels-left r.parcels s.deliveries (breaks s).deliveries r.place left h.parcels (ap (λ (b : Beside). b.deliveries) told);
+    parcels = parcels-left r.handed r.parcels s.deliveries (breaks s).deliveries r.place left h.parcels (ap (λ (b : Beside). b.deliveries) told);
     spent = closed-left true (Some v) r.spent h.spent;
     feed = subst (FeedIsOpen (r.spent ++ after_closing v.end ∷ []) (r.journal ++ entry.Closed v.end.id ∷ [])) (sym no-feed) tt;
     room = subst (FeedHasRoom room.ends) (sym no-feed) tt;
     few = h.few;
   }
 
+  closed-all : closed_if left.close r.core.live.feed ≡ Some (after_closing v.end)
+  closed-all = ap (λ b. closed_if b r.core.live.feed) (fault-closes r.core.live.session (is_waiting r.core.live)) ∙ ap (closed_if true) was
+
+  pub kept-broken : (now : ℕ) (room : Rooms) → IsWellKept r → IsWellKept (record r {
+    core = broken_core;
+    journal = r.journal ++ entry.Closed v.end.id ∷ [];
+    spent = r.spent ++ after_closing v.end ∷ [];
+    parcels = r.parcels ++ told_parcels r.place left.discard left.remote_reset;
+    waits = stepped r.core.facts.node now r.core.live.session.phase broken_core.live.session.phase r.waits;
+    held = false;
+    room = room;
+  })
+  kept-broken now room k = record {
+    ends = subst (λ (o : Option FeedNow). ids_of ((r.spent ++ after_closing v.end ∷ []) ++ feed_end o) ≡ feeds_in (r.journal ++ entry.Closed v.end.id ∷ [])) (sym no-feed)
+        (ids-left true (Some v) r.spent ∙ subst (λ (o : Option FeedNow). ids_of (r.spent ++ feed_end o) ≡ feeds_in r.journal) was k.ends ∙ sym (feeds-more r.journal (entry.Closed v.end.id) refl));
+    whole = subst FeedIsWhole (sym no-feed) tt;
+    parcels = told-from r.place r.parcels left.discard left.remote_reset k.parcels;
+    plan = k.plan;
+    queue = tells-fits (event.Faulted (is_waiting r.core.live)) r.core.live k.queue;
+    waits = stepped-within r.core.facts.node now r.core.live.session.phase broken_core.live.session.phase r.waits k.waits;
+    held = λ e. absurd (differ e);
+  }
+
 -- ---- as the code comes to it
 
-module _ (r : RecordNow) (h : IsRecord r) (v : FeedNow) (was : r.core.live.feed ≡ Some v) (cause : is_broken_end v.end ≡ true) where
-  pub went-broken : (room : Rooms) (c : CoreNow) → c ≡ record r.core { live = after_fault r.core.live } → ((broken : Bool) → LeadsOn (item.closed v.end.id broken) r.core c) →
-      IsRecord (record r {
-        core = c;
-        journal = r.journal ++ entry.Closed v.end.id ∷ [];
-        spent = r.spent ++ after_closing v.end ∷ [];
-        parcels = r.parcels ++ told_parcels r.place (step_of r.core.live.session (event.Faulted (is_waiting r.core.live))).effects.discard (step_of r.core.live.session (event.Faulted (is_waiting r.core.live))).effects.remote_reset;
-        room = room;
-      })
-  went-broken room c e leads =
-      subst (λ (d : CoreNow). ((broken : Bool) → LeadsOn (item.closed v.end.id broken) r.core d) → IsRecord (record r {
-        core = d;
-        journal = r.journal ++ entry.Closed v.end.id ∷ [];
-        spent = r.spent ++ after_closing v.end ∷ [];
-        parcels = r.parcels ++ told_parcels r.place (step_of r.core.live.session (event.Faulted (is_waiting r.core.live))).effects.discard (step_of r.core.live.session (event.Faulted (is_waiting r.core.live))).effects.remote_reset;
-        room = room;
-      })) (sym e) (λ more. record { state = breaks h.state; at_state = is-broken r h.state h.at_state v was cause room more; settled = h.settled }) leads
+abbrev left_of : RecordNow → Effects
+left_of r = (step_of r.core.live.session (event.Faulted (is_waiting r.core.live))).effects
+
+module _ (r : RecordNow) (h : IsRecord r) (v : FeedNow) (was : r.core.live.feed ≡ Some v) (cause : Cause r v) (now : ℕ) (room : Rooms) where
+  abbrev broken_with : CoreNow → Phase → RecordNow
+  broken_with c p = record r {
+    core = c;
+    journal = r.journal ++ entry.Closed v.end.id ∷ [];
+    spent = r.spent ++ after_closing v.end ∷ [];
+    parcels = r.parcels ++ told_parcels r.place (left_of r).discard (left_of r).remote_reset;
+    waits = stepped r.core.facts.node now r.core.live.session.phase p r.waits;
+    held = false;
+    room = room;
+  }
+
+  pub went-broken : (c : CoreNow) → c ≡ record r.core { live = after_fault r.core.live } → ((broken : Bool) → LeadsOn (item.closed v.end.id broken) r.core c) →
+      IsRecord (broken_with c c.live.session.phase)
+  went-broken c e leads = subst (λ (d : CoreNow). ((broken : Bool) → LeadsOn (item.closed v.end.id broken) r.core d) → IsRecord (broken_with d d.live.session.phase)) (sym e)
+      (λ more. record {
+        state = breaks h.state;
+        at_state = is-broken r h.state h.at_state v was cause now room more;
+        settled = h.settled;
+        kept = kept-broken r h.state h.at_state v was cause now room h.kept;
+      }) leads
 
 -- what is closed is the feed's end
-closed-is : (r : RecordNow) (v : FeedNow) (closed : Option SeenEnd) → r.core.live.feed ≡ Some v → closed ≡ closed_if (step_of r.core.live.session (event.Faulted (is_waiting r.core.live))).effects.close r.core.live.feed →
+closed-is : (r : RecordNow) (v : FeedNow) (closed : Option SeenEnd) → r.core.live.feed ≡ Some v → closed ≡ closed_if (left_of r).close r.core.live.feed →
     closed ≡ Some (after_closing v.end)
 closed-is r v closed was e = e ∙ ap (λ b. closed_if b r.core.live.feed) (fault-closes r.core.live.session (is_waiting r.core.live)) ∙ ap (closed_if true) was
 
-pub broken-after : (r : RecordNow) (v : FeedNow) (c : CoreNow) (journal : List Entry) (spent : List SeenEnd) (parcels : List Parcel) (room : Rooms) (closed : Option SeenEnd) (discarded reset : Bool) →
-    IsRecord r → r.core.live.feed ≡ Some v → is_broken_end v.end ≡ true → c ≡ record r.core { live = after_fault r.core.live } → ((broken : Bool) → LeadsOn (item.closed v.end.id broken) r.core c) →
-    IsAftermath (step_of r.core.live.session (event.Faulted (is_waiting r.core.live))).effects r.core.live.feed closed discarded reset →
-    journal ≡ r.journal ++ closed_entries closed → spent ≡ r.spent ++ option_to_list closed → parcels ≡ r.parcels ++ told_parcels r.place discarded reset →
-    IsRecord (record r { core = c; journal = journal; spent = spent; parcels = parcels; room = room })
-broken-after r v c journal spent parcels room closed discarded reset h was cause e leads a j sp pa =
-    rw (j, sp, pa, closed-is r v closed was a.end, a.thrown_away, a.reset) (went-broken r h v was cause room c e leads)
+-- what the code has made of a record
+pub record HasBroken (now : ℕ) (r : RecordNow) (c : CoreNow) (journal : List Entry) (spent : List SeenEnd) (parcels : List Parcel) (waits : Waits) (closed : Option SeenEnd) (discarded reset : Bool) : Type 0 where
+  pub core : c ≡ record r.core { live = after_fault r.core.live }
+  pub aftermath : IsAftermath (left_of r) r.core.live.feed closed discarded reset
+  pub journal_is : journal ≡ r.journal ++ closed_entries closed
+  pub spent_is : spent ≡ r.spent ++ option_to_list closed
+  pub parcels_are : parcels ≡ r.parcels ++ told_parcels r.place discarded reset
+  pub waits_are : waits ≡ stepped r.core.facts.node now r.core.live.session.phase c.live.session.phase r.waits
 
-pub broken-on : (r : RecordNow) (o : Option FeedNow) (c : CoreNow) (journal : List Entry) (spent : List SeenEnd) (parcels : List Parcel) (room : Rooms) (closed : Option SeenEnd) (discarded reset : Bool) →
-    r.core.live.feed ≡ o → IsRecord r → OnFeedNow o (λ v. is_broken_end v.end ≡ true) → c ≡ record r.core { live = after_fault r.core.live } → OnFeedNow o (λ v. (broken : Bool) → LeadsOn (item.closed v.end.id broken) r.core c) →
-    IsAftermath (step_of r.core.live.session (event.Faulted (is_waiting r.core.live))).effects r.core.live.feed closed discarded reset →
-    journal ≡ r.journal ++ closed_entries closed → spent ≡ r.spent ++ option_to_list closed → parcels ≡ r.parcels ++ told_parcels r.place discarded reset →
-    IsRecord (record r { core = c; journal = journal; spent = spent; parcels = parcels; room = room })
-broken-on r (Some v) c journal spent parcels room closed discarded reset was h cause e leads a j sp pa = broken-after r v c journal spent parcels room closed discarded reset h was cause e leads a j sp pa
-broken-on r None c journal spent parcels room closed discarded reset was h cause e leads a j sp pa = absurd cause
+broken-after : (now : ℕ) (r : RecordNow) (v : FeedNow) (c : CoreNow) (journal : List Entry) (spent : List SeenEnd) (parcels : List Parcel) (waits : Waits) (room : Rooms) (closed : Option SeenEnd) (discarded reset : Bool) →
+    IsRecord r → r.core.live.feed ≡ Some v → Cause r v → ((broken : Bool) → LeadsOn (item.closed v.end.id broken) r.core c) →
+    HasBroken now r c journal spent parcels waits closed discarded reset →
+    IsRecord (record r { core = c; journal = journal; spent = spent; parcels = parcels; waits = waits; held = false; room = room })
+broken-after now r v c journal spent parcels waits room closed discarded reset h was cause leads x =
+    rw (x.journal_is, x.spent_is, x.parcels_are, x.waits_are, closed-is r v closed was x.aftermath.end, x.aftermath.thrown_away, x.aftermath.reset)
+    (went-broken r h v was cause now room c x.core leads)
+
+pub broken-on : (now : ℕ) (r : RecordNow) (o : Option FeedNow) (c : CoreNow) (journal : List Entry) (spent : List SeenEnd) (parcels : List Parcel) (waits : Waits) (room : Rooms) (closed : Option SeenEnd) (discarded reset : Bool) →
+    r.core.live.feed ≡ o → IsRecord r → OnFeedNow o (Cause r) → OnFeedNow o (λ v. (broken : Bool) → LeadsOn (item.closed v.end.id broken) r.core c) →
+    HasBroken now r c journal spent parcels waits closed discarded reset →
+    IsRecord (record r { core = c; journal = journal; spent = spent; parcels = parcels; waits = waits; held = false; room = room })
+broken-on now r (Some v) c journal spent parcels waits room closed discarded reset was h cause leads x = broken-after now r v c journal spent parcels waits room closed discarded reset h was cause leads x
+broken-on now r None c journal spent parcels waits room closed discarded reset was h cause leads x = absurd cause
+
+-- what the code reads of the core is what it says
+pub waits-as : (f g : NodeFacts) (now : ℕ) (s t p q : Session) (w v : Waits) → v ≡ stepped g now p.phase q.phase w → g ≡ f → p ≡ s → q ≡ t → v ≡ stepped f now s.phase t.phase w
+waits-as f g now s t p q w v e a b c = e ∙ rw (a, b, c) refl

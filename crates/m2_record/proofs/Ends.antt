@@ -43,7 +43,7 @@ pub record TellTheSame (old new : Option SeenEnd) : Type 0 where
   pub runs : runs_of new ≡ runs_of old
   pub broken : broken_of new ≡ broken_of old
 
-tells-itself : (o : Option SeenEnd) → TellTheSame o o
+pub tells-itself : (o : Option SeenEnd) → TellTheSame o o
 tells-itself o = record { got = refl; put = refl; runs = refl; broken = refl }
 
 -- the first end is closed, and is the last

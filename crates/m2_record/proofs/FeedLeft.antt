@@ -21,11 +21,12 @@ use Rattle.m2_journal.specs.Steps.{after, closes_socket, forgets, is_on, breaks,
 use Rattle.m2_session.specs.declared.event.Effects.{Effects}
 use Rattle.m2_record.specs.Calls.{closed_entries, told_parcels}
 use Rattle.m2_record.specs.Calls as calls
-use Rattle.m2_record.specs.IsRecord.{AreLastOf, FeedHasRoom, FeedIsOpen, IsClosedEnd, IsRecord, IsReplayedTo}
+use Rattle.m2_record.specs.IsRecord.{AreBehind, FeedHasRoom, FeedIsOpen, IsClosedEnd, IsRecord, IsReplayedTo, IsWellKept}
 use Rattle.m2_record.specs.RecordNow.{RecordNow, Rooms, delivery_of, feed_end, grounds_of, speaks_of}
 use Rattle.m2_record.proofs.Ends.{EndsStay, ends-moved, ends-same}
 use Rattle.m2_record.proofs.Entering.{reach-more}
 use Rattle.m2_record.proofs.Keeping.{one-more}
+use Rattle.m2_record.proofs.Kept.{kept-closed-as}
 use Rattle.m2_record.proofs.Names.{same_refl}
 use Rattle.m2_record.proofs.Telling.{feed_left, one_if, spent_if, told_by}
 
@@ -66,11 +67,12 @@ one-delivery : (b : Bool) (x : Parcel) (d : Delivery) → delivery_of x ≡ d �
 one-delivery true x d e = ap (λ (y : Delivery). y ∷ []) e
 one-delivery false x d e = refl
 
-pub parcels-left : (parcels : List Parcel) (deliveries all : List Delivery) (place : ℕ) (e : Effects) → AreLastOf (map delivery_of parcels) deliveries → all ≡ deliveries ++ told_by e →
-    AreLastOf (map delivery_of (parcels ++ told_parcels place e.discard e.remote_reset)) all
-parcels-left parcels deliveries all place e h more = (
+pub parcels-left : (handed : ℕ) (parcels : List Parcel) (deliveries all : List Delivery) (place : ℕ) (e : Effects) → AreBehind handed (map delivery_of parcels) deliveries → all ≡ deliveries ++ told_by e →
+    AreBehind handed (map delivery_of (parcels ++ told_parcels place e.discard e.remote_reset)) all
+parcels-left handed parcels deliveries all place e h more = (
   h.0,
-  more ∙ ap (λ (l : List Delivery). l ++ told_by e) h.1 ∙ append_assoc h.0 (map delivery_of parcels) (told_by e)
+  h.1,
+  more ∙ ap (λ (l : List Delivery). l ++ told_by e) h.2 ∙ append_assoc h.0 (map delivery_of parcels) (told_by e)
       ∙ ap (λ (l : List Delivery). h.0 ++ l) (sym (map-append delivery_of parcels (told_parcels place e.discard e.remote_reset) ∙ ap (λ (l : List Delivery). map delivery_of parcels ++ l) told)),
 )
   where
@@ -123,8 +125,8 @@ module _ (r : RecordNow) (s : State) (h : IsReplayedTo s r) (unfed : r.core.live
     resumed = h.core.resumed;
   }
 
-  pub closes-spent : IsRecord (record r { journal = r.journal ++ entry.Closed k ∷ [] })
-  closes-spent = record {
+  pub closes-spent : IsWellKept r → IsRecord (record r { journal = r.journal ++ entry.Closed k ∷ [] })
+  closes-spent kept = record {
     state = forgets k s;
     at_state = record {
       replay = subst (λ (t : State). IsReplay r.core.facts (speaks_of r) (r.journal ++ entry.Closed k ∷ []) t) (forgot true)
@@ -139,6 +141,7 @@ module _ (r : RecordNow) (s : State) (h : IsReplayedTo s r) (unfed : r.core.live
       few = h.few;
     };
     settled = without-own k s.spent spent;
+    kept = kept-closed-as r k kept;
   }
 
 -- ---- as an end is closed, or none is
@@ -156,7 +159,7 @@ spent-is true f s None (Some d) sockets e a = absurd a
 spent-is true f s None None sockets e a = e
 spent-is false f s v d sockets e a = e
 
-pub closes-entries : (r : RecordNow) (s : State) (closed : Option SeenEnd) → IsReplayedTo s r → SpentIs closed r.core.live.feed s.spent →
+pub closes-entries : (r : RecordNow) (s : State) (closed : Option SeenEnd) → IsReplayedTo s r → IsWellKept r → SpentIs closed r.core.live.feed s.spent →
     IsRecord (record r { journal = r.journal ++ closed_entries closed })
-closes-entries r s (Some e) h spent = closes-spent r s h spent.1 e.id spent.0
-closes-entries r s None h spent = subst (λ (l : List Entry). IsRecord (record r { journal = l })) (sym (append-nil r.journal)) (record { state = s; at_state = h; settled = spent })
+closes-entries r s (Some e) h kept spent = closes-spent r s h spent.1 e.id spent.0 kept
+closes-entries r s None h kept spent = subst (λ (l : List Entry). IsRecord (record r { journal = l })) (sym (append-nil r.journal)) (record { state = s; at_state = h; settled = spent; kept = kept })

@@ -26,14 +26,16 @@ use Rattle.m2_session.specs.declared.event.Effects.{Effects}
 use Rattle.m2_session.specs.declared.event.Event.TheVariants as event
 use Rattle.m2_session.specs.declared.session.Session.{Session}
 use Rattle.m2_session.specs.Steps.{step_of}
-use Rattle.m2_record.specs.Calls.{IsDownNext, KeepsEnds, MayGoDown, after_going_down, closed_entries, next_step, told_parcels}
+use Rattle.m2_record.specs.Calls.{IsDownNext, KeepsEnds, MayGoDown, after_going_down, closed_entries, told_parcels}
+use Rattle.m2_record.specs.Due.{next_step}
 use Rattle.m2_record.specs.Entered.{MovesNothing, StepIsThere}
-use Rattle.m2_record.specs.IsRecord.{FeedHasRoom, FeedIsOpen, IsRecord, IsReplayedTo}
-use Rattle.m2_record.specs.RecordNow.{RecordNow, Rooms, ends_of, feed_end, grounds_of, speaks_of}
+use Rattle.m2_record.specs.IsRecord.{FeedHasRoom, FeedIsOpen, FeedIsWhole, IsRecord, IsReplayedTo, IsWellKept, feeds_in}
+use Rattle.m2_record.specs.RecordNow.{RecordNow, Rooms, ends_of, feed_end, grounds_of, ids_of, speaks_of}
 use Rattle.m2_record.specs.Sources.{sources_of}
 use Rattle.m2_record.proofs.Entering.{reach-more}
 use Rattle.m2_record.proofs.Keeping.{as-planned, ground, one-more, replay-stays}
 use Rattle.m2_record.proofs.FeedLeft.{KeepsRoom, SpentIs, closed-left, closes-entries, ends-left, open-left, parcels-left, room-left, spent-is}
+use Rattle.m2_record.proofs.Kept.{feeds-more, ids-left, tells-fits, told-from, whole-left}
 use Rattle.m2_record.proofs.Names.{differ}
 use Rattle.m2_record.proofs.Opens.{still-open}
 use Rattle.m2_record.proofs.Taking.{planned-next}
@@ -109,7 +111,20 @@ module _ (r : RecordNow) (s : State) (h : IsReplayedTo s r) where
     steps = (if p then r.steps + 1 else r.steps);
     spent = r.spent ++ option_to_list (closed_if left.close r.core.live.feed);
     parcels = r.parcels ++ told_parcels r.place left.discard left.remote_reset;
+    held = false;
     room = room;
+  }
+
+  kept-between : (p : Bool) (room : Rooms) → IsWellKept r → IsWellKept (between p room)
+  kept-between p room k = record {
+    ends = subst (λ (v : Option FeedNow). ids_of ((r.spent ++ option_to_list (closed_if left.close r.core.live.feed)) ++ feed_end v) ≡ feeds_in (r.journal ++ entry.Down p ∷ [])) (sym feed-gone)
+        (ids-left left.close r.core.live.feed r.spent ∙ k.ends ∙ sym (feeds-more r.journal (entry.Down p) refl));
+    whole = subst FeedIsWhole (sym feed-gone) (whole-left left.close r.core.live.feed k.whole);
+    parcels = told-from r.place r.parcels left.discard left.remote_reset k.parcels;
+    plan = k.plan;
+    queue = tells-fits event.MarkedDown r.core.live k.queue;
+    waits = k.waits;
+    held = λ e. absurd (differ e);
   }
 
   between-is : (p : Bool) (room : Rooms) → MayGo p r r.core → LeadsDown p r.core (after_down r.core) → KeepsRoom left.close r.room.ends room.ends → IsReplayedTo (goes_down p (tells event.MarkedDown s)) (between p room)
@@ -118,7 +133,7 @@ module _ (r : RecordNow) (s : State) (h : IsReplayedTo s r) where
     core = agrees p (after_down r.core) leads;
     steps = counted-steps p (tells event.MarkedDown s).steps (h.steps ∙ sym (ap (λ (b : Beside). b.steps) told));
     reach = ap (λ q. q.steps) (reach-more r.journal (entry.Down p)) ∙ counted-reach p (tells event.MarkedDown s).steps (h.reach ∙ sym (ap (λ (b : Beside). b.steps) told));
-    parcels = parcels-left r.parcels s.deliveries (tells event.MarkedDown s).deliveries r.place left h.parcels (ap (λ (b : Beside). b.deliveries) told);
+    parcels = parcels-left r.handed r.parcels s.deliveries (tells event.MarkedDown s).deliveries r.place left h.parcels (ap (λ (b : Beside). b.deliveries) told);
     spent = closed-left left.close r.core.live.feed r.spent h.spent;
     feed = subst (λ (v : Option FeedNow). FeedIsOpen (r.spent ++ option_to_list (closed_if left.close r.core.live.feed)) (r.journal ++ entry.Down p ∷ []) v) (sym feed-gone)
         (open-left left.close r.core.live.feed r.spent (r.journal ++ entry.Down p ∷ []) (still-open r.spent r.journal (entry.Down p) r.core.live.feed refl h.feed));
@@ -136,7 +151,7 @@ pub went-down : (p : Bool) (r : RecordNow) (c : CoreNow) (room : Rooms) → IsRe
 went-down p r c room h may keeps e leads =
     subst (λ (d : CoreNow). LeadsDown p r.core d → IsRecord (record (after_going_down p r) { core = d; room = room })) (sym e)
     (λ more. closes-entries (between r h.state h.at_state p room) (goes_down p (tells event.MarkedDown h.state)) (closed_if (step_of r.core.live.session event.MarkedDown).effects.close r.core.live.feed)
-    (between-is r h.state h.at_state p room may more keeps) (down-spent r h.state h.at_state p h.settled)) leads
+    (between-is r h.state h.at_state p room may more keeps) (kept-between r h.state h.at_state p room h.kept) (down-spent r h.state h.at_state p h.settled)) leads
 
 -- ---- as the code comes to it
 
@@ -166,7 +181,7 @@ pub down-after : (p : Bool) (r : RecordNow) (c : CoreNow) (journal : List Entry)
     IsAftermath (step_of r.core.live.session event.MarkedDown).effects r.core.live.feed closed discarded remote_reset →
     journal ≡ (r.journal ++ entry.Down p ∷ []) ++ closed_entries closed → steps ≡ (if p then r.steps + 1 else r.steps) → spent ≡ r.spent ++ option_to_list closed →
     parcels ≡ r.parcels ++ told_parcels r.place discarded remote_reset → KeepsEnds closed r.room.ends room.ends →
-    IsRecord (record r { core = c; journal = journal; steps = steps; spent = spent; parcels = parcels; room = room })
+    IsRecord (record r { core = c; journal = journal; steps = steps; spent = spent; parcels = parcels; held = false; room = room })
 down-after p r c journal steps spent parcels room closed discarded remote_reset h may exhausted value leads after_it j st sp pa ends =
     rw (j, st, sp, pa, after_it.end, after_it.thrown_away, after_it.reset)
     (went-down p r c room h (may-go p r may exhausted)

@@ -1,9 +1,9 @@
 -- A feed's end is written once.
 use Rattle.std.proofs.Common.{◌≡◌, ℕ, ◌+◌, ◌<◌, ◌≤◌, Bool, true, false, if◌then◌else◌, List, [], ◌∷◌, ◌++◌, map, take, drop, length, Option, Some, None, refl, sym, ap, subst, ◌∙◌, arith}
 use Rattle.std.proofs.Math.Seq.{drop-append_seam, take-length}
-use Rattle.std.proofs.lemmas.List.{append-nil, length-take-le}
+use Rattle.std.proofs.lemmas.List.{append-nil, length-take-le, map-append}
 use Rattle.m2_core.specs.Agrees.{LeadsOn, MayCome, Stays}
-use Rattle.m2_core.specs.CoreNow.{CoreNow}
+use Rattle.m2_core.specs.CoreNow.{CoreNow, OnFeedNow}
 use Rattle.m2_core.specs.Moves.{HasWritten, IsWroteOn, WritesFeed}
 use Rattle.m2_fabric.specs.declared.end.EndWrite.TheVariants as write
 use Rattle.m2_fabric.specs.declared.socket.SocketId.{SocketId}
@@ -27,13 +27,16 @@ use Rattle.m2_journal.specs.State.{Feed, PartText, State}
 use Rattle.m2_journal.specs.Steps as journal
 use Rattle.m2_journal.specs.Steps.{after}
 use Rattle.m2_journal.proofs.Growing.{one_more}
-use Rattle.m2_record.specs.Calls.{IsCounted, entries_put, moment_after, wrote_entries}
+use Rattle.m2_queues.specs.OutQueues.{Outgoing}
+use Rattle.m2_record.specs.Calls.{IsCounted, entries_put, held_after, moment_after, wrote_entries}
 use Rattle.m2_record.specs.Entered.{AreSettled, HavePut}
-use Rattle.m2_record.specs.IsRecord.{FeedHasRoom, FeedIsOpen, IsOpenAmong, IsRecord, IsReplayedTo, closed_in}
+use Rattle.m2_record.specs.IsRecord.{FeedHasRoom, FeedIsOpen, FeedIsWhole, FitFrames, IsOpenAmong, IsRecord, IsReplayedTo, IsWellKept, closed_in, feeds_in}
+use Rattle.m2_record.specs.Waits.{IsWithin}
 use Rattle.m2_record.specs.RecordNow.{RecordNow, Rooms, ends_of, feed_end, grounds_of, ids_of, speaks_of}
 use Rattle.m2_record.specs.Sources.{TakenTrail, broken_of, end_at, got_of, put_of, runs_of, sources_of}
 use Rattle.m2_record.proofs.Ends.{EndsStay}
 use Rattle.m2_record.proofs.Entering.{put-continues, put-covers, reach-more}
+use Rattle.m2_record.proofs.Kept.{feeds-more}
 use Rattle.m2_record.proofs.Keeping.{as-planned, ground, replay-stays, settled}
 use Rattle.m2_record.proofs.Names.{differ, same_equal, same_refl}
 use Rattle.m2_record.proofs.Opens.{closed-more}
@@ -179,7 +182,7 @@ module _ (r : RecordNow) (s : State) (h : IsReplayedTo s r) (untaken : r.trails 
     core = leads s h.core;
     steps = h.steps ∙ sym (ap (λ (b : Beside). b.steps) same);
     reach = ap (λ p. p.steps) (reach-more r.journal (entry.Wrote v.end.id n)) ∙ h.reach ∙ sym (ap (λ (b : Beside). b.steps) same);
-    parcels = (h.parcels.0, ap (λ (b : Beside). b.deliveries) same ∙ h.parcels.1);
+    parcels = (h.parcels.0, h.parcels.1, ap (λ (b : Beside). b.deliveries) same ∙ h.parcels.2);
     spent = h.spent;
     feed = open-after journal1 (closed-more r.journal (entry.Wrote v.end.id n) refl) (ap (λ (x : SeenEnd). x.id) end);
     room = room-after room e;
@@ -198,31 +201,86 @@ module _ (r : RecordNow) (s : State) (h : IsReplayedTo s r) (untaken : r.trails 
   pub put-spent : (bytes : List ℕ) → s.spent ≡ [] → (after r.core.facts (item.wrote v.end.id bytes) s).spent ≡ []
   put-spent bytes e = ap (λ (b : Beside). b.spent) (putting r.core.facts bytes s.feed s) ∙ e
 
+-- ---- what holds beside the journal
+
+-- what a write leaves of a feed's end: its name, that it is open, and whether it is blocked
+same-end : (answer : FeedWrite) (v w : FeedNow) → WritesOn answer v w → (w.end.id ≡ v.end.id) × (w.end.log.closed ≡ v.end.log.closed)
+same-end (put.Put n ack) v w x = (ap (λ (z : SeenEnd). z.id) x.0.2, ap (λ (z : SeenEnd). z.log.closed) x.0.2)
+same-end put.NotYet v w x = (ap (λ (z : SeenEnd). z.id) x.0.1, ap (λ (z : SeenEnd). z.log.closed) x.0.1)
+same-end put.Failed v w x = (ap (λ (z : SeenEnd). z.id) x.0.1, ap (λ (z : SeenEnd). z.log.closed) x.0.1)
+same-end put.NoMemory v w x = (ap (λ (z : FeedNow). z.end.id) x, ap (λ (z : FeedNow). z.end.log.closed) x)
+
+still-held : (answer : FeedWrite) (held : Bool) (v w : FeedNow) → WritesOn answer v w → (held ≡ true → v.end.log.blocked ≡ true) → held_after answer held ≡ true → w.end.log.blocked ≡ true
+still-held (put.Put n ack) held v w x h e = absurd (differ e)
+still-held put.NotYet held v w x h e = ap (λ (z : SeenEnd). z.log.blocked) x.0.1
+still-held put.Failed held v w x h e = ap (λ (z : SeenEnd). z.log.blocked) x.0.1 ∙ h e
+still-held put.NoMemory held v w x h e = ap (λ (z : FeedNow). z.end.log.blocked) x ∙ h e
+
+no-entry : (answer : FeedWrite) (o : Option FeedNow) (journal : List Entry) → feeds_in (journal ++ wrote_entries answer o) ≡ feeds_in journal
+no-entry (put.Put n ack) (Some v) journal = feeds-more journal (entry.Wrote v.end.id n) refl
+no-entry (put.Put n ack) None journal = ap feeds_in (append-nil journal)
+no-entry put.NotYet o journal = ap feeds_in (append-nil journal)
+no-entry put.Failed o journal = ap feeds_in (append-nil journal)
+no-entry put.NoMemory o journal = ap feeds_in (append-nil journal)
+
+pub same-ids : (spent : List SeenEnd) (v w : FeedNow) → w.end.id ≡ v.end.id → ids_of (spent ++ w.end ∷ []) ≡ ids_of (spent ++ v.end ∷ [])
+same-ids spent v w e = map-append (λ (x : SeenEnd). x.id) spent (w.end ∷ []) ∙ ap (λ (k : SocketId). ids_of spent ++ k ∷ []) e ∙ sym (map-append (λ (x : SeenEnd). x.id) spent (v.end ∷ []))
+
+abbrev wrote_with : FeedWrite → (now : ℕ) → (room : Rooms) → Option FeedNow → CoreNow → RecordNow → RecordNow
+wrote_with answer now room o c r = record r { core = c; journal = r.journal ++ wrote_entries answer o; last = moment_after answer now r.last; held = held_after answer r.held; room = room }
+
+kept-put : (r : RecordNow) (k : IsWellKept r) (c : CoreNow) (now : ℕ) (room : Rooms) (answer : FeedWrite) (o p : Option FeedNow) → c.facts ≡ r.core.facts → c.live.out ≡ r.core.live.out →
+    r.core.live.feed ≡ o → c.live.feed ≡ p → WritesFeed answer o p → IsWellKept (wrote_with answer now room o c r)
+kept-put r k c now room answer (Some v) (Some w) facts out was is x =
+    let same = same-end answer v w x in record {
+      ends = ap (λ (f : Option FeedNow). ids_of (r.spent ++ feed_end f)) is ∙ same-ids r.spent v w same.0 ∙ sym (ap (λ (f : Option FeedNow). ids_of (r.spent ++ feed_end f)) was) ∙ k.ends ∙ sym (no-entry answer (Some v) r.journal);
+      whole = subst FeedIsWhole (sym is) (same.1 ∙ subst FeedIsWhole was k.whole);
+      parcels = k.parcels;
+      plan = k.plan;
+      queue = subst (λ (y : Outgoing). FitFrames y.queue) (sym out) k.queue;
+      waits = subst (λ (f : SideFacts). IsWithin f.node r.waits) (sym facts) k.waits;
+      held = λ e. subst (λ (f : Option FeedNow). OnFeedNow f (λ z. z.end.log.blocked ≡ true)) (sym is)
+          (still-held answer r.held v w x (λ g. subst (λ (f : Option FeedNow). OnFeedNow f (λ z. z.end.log.blocked ≡ true)) was (k.held g)) e);
+    }
+kept-put r k c now room answer None p facts out was is x = absurd x
+kept-put r k c now room answer (Some v) None facts out was is x = absurd x
+
 -- ---- by the answer of the write
 
-module _ (r : RecordNow) (h : IsRecord r) (untaken : r.trails ≡ []) (c : CoreNow) (facts : c.facts ≡ r.core.facts) (now : ℕ) (room : Rooms) (ends : room.ends ≡ r.room.ends) where
-  stayed : (v w : FeedNow) → r.core.live.feed ≡ Some v → c.live.feed ≡ Some w → Stays r.core c → w.end.id ≡ v.end.id → w.end.log.got ≡ v.end.log.got → w.end.log.put ≡ v.end.log.put → w.end.log.runs ≡ v.end.log.runs →
-      IsRecord (record r { core = c; journal = r.journal ++ []; room = room })
-  stayed v w was is stays id got put runs = subst (λ (l : List Entry). IsRecord (record r { core = c; journal = l; room = room })) (sym (append-nil r.journal))
-      (record { state = h.state; at_state = not-put r h.state h.at_state untaken c facts v w was is room ends stays id got put runs; settled = h.settled })
+module _ (r : RecordNow) (h : IsRecord r) (untaken : r.trails ≡ []) (c : CoreNow) (facts : c.facts ≡ r.core.facts) (out : c.live.out ≡ r.core.live.out) (now : ℕ) (room : Rooms) (ends : room.ends ≡ r.room.ends) where
+  stayed : (v w : FeedNow) (held : Bool) → r.core.live.feed ≡ Some v → c.live.feed ≡ Some w → IsWellKept (record r { core = c; journal = r.journal ++ []; held = held; room = room }) →
+      Stays r.core c → w.end.id ≡ v.end.id → w.end.log.got ≡ v.end.log.got → w.end.log.put ≡ v.end.log.put → w.end.log.runs ≡ v.end.log.runs →
+      IsRecord (record r { core = c; journal = r.journal ++ []; held = held; room = room })
+  stayed v w held was is kept stays id got put runs = subst (λ (l : List Entry). IsWellKept (record r { core = c; journal = l; held = held; room = room }) → IsRecord (record r { core = c; journal = l; held = held; room = room })) (sym (append-nil r.journal))
+      (λ k. record { state = h.state; at_state = held-too (not-put r h.state h.at_state untaken c facts v w was is room ends stays id got put runs); settled = h.settled; kept = k }) kept
+    where
+      held-too : IsReplayedTo h.state (record r { core = c; room = room }) → IsReplayedTo h.state (record r { core = c; held = held; room = room })
+      held-too a = record { replay = a.replay; core = a.core; steps = a.steps; reach = a.reach; parcels = a.parcels; spent = a.spent; feed = a.feed; room = a.room; few = a.few }
+
+  has-put-held : (s : State) (journal : List Entry) (last : ℕ) (held : Bool) → IsReplayedTo s (record r { core = c; journal = journal; last = last; room = room }) → IsReplayedTo s (record r { core = c; journal = journal; last = last; held = held; room = room })
+  has-put-held s journal last held a = record { replay = a.replay; core = a.core; steps = a.steps; reach = a.reach; parcels = a.parcels; spent = a.spent; feed = a.feed; room = a.room; few = a.few }
 
   pub written-at : (answer : FeedWrite) (o p : Option FeedNow) → r.core.live.feed ≡ o → c.live.feed ≡ p → WritesFeed answer o p → IsWroteOn answer o r.core c →
-      IsRecord (record r { core = c; journal = r.journal ++ wrote_entries answer o; last = moment_after answer now r.last; room = room })
+      IsRecord (wrote_with answer now room o c r)
   written-at (put.Put n ack) (Some v) (Some w) was is x y = record {
     state = after r.core.facts (item.wrote v.end.id (take n v.composed)) h.state;
-    at_state = has-put r h.state h.at_state untaken c facts v w was is n now room ends x.0.0.fits x.0.2 y.0 y.1;
+    at_state = has-put-held _ _ now false (has-put r h.state h.at_state untaken c facts v w was is n now room ends x.0.0.fits x.0.2 y.0 y.1);
     settled = put-spent r h.state h.at_state untaken c facts v w was is (take n v.composed) h.settled;
+    kept = kept-put r h.kept c now room (put.Put n ack) (Some v) (Some w) facts out was is x;
   }
-  written-at put.NotYet (Some v) (Some w) was is x y = stayed v w was is y (ap (λ (z : SeenEnd). z.id) x.0.1) (ap (λ (z : SeenEnd). z.log.got) x.0.1) (ap (λ (z : SeenEnd). z.log.put) x.0.1) (ap (λ (z : SeenEnd). z.log.runs) x.0.1)
-  written-at put.Failed (Some v) (Some w) was is x y = stayed v w was is y (ap (λ (z : SeenEnd). z.id) x.0.1) (ap (λ (z : SeenEnd). z.log.got) x.0.1) (ap (λ (z : SeenEnd). z.log.put) x.0.1) (ap (λ (z : SeenEnd). z.log.runs) x.0.1)
-  written-at put.NoMemory (Some v) (Some w) was is x y = stayed v w was is y (ap (λ (z : FeedNow). z.end.id) x) (ap (λ (z : FeedNow). z.end.log.got) x) (ap (λ (z : FeedNow). z.end.log.put) x) (ap (λ (z : FeedNow). z.end.log.runs) x)
+  written-at put.NotYet (Some v) (Some w) was is x y = stayed v w true was is (kept-put r h.kept c now room put.NotYet (Some v) (Some w) facts out was is x) y
+      (ap (λ (z : SeenEnd). z.id) x.0.1) (ap (λ (z : SeenEnd). z.log.got) x.0.1) (ap (λ (z : SeenEnd). z.log.put) x.0.1) (ap (λ (z : SeenEnd). z.log.runs) x.0.1)
+  written-at put.Failed (Some v) (Some w) was is x y = stayed v w r.held was is (kept-put r h.kept c now room put.Failed (Some v) (Some w) facts out was is x) y
+      (ap (λ (z : SeenEnd). z.id) x.0.1) (ap (λ (z : SeenEnd). z.log.got) x.0.1) (ap (λ (z : SeenEnd). z.log.put) x.0.1) (ap (λ (z : SeenEnd). z.log.runs) x.0.1)
+  written-at put.NoMemory (Some v) (Some w) was is x y = stayed v w r.held was is (kept-put r h.kept c now room put.NoMemory (Some v) (Some w) facts out was is x) y
+      (ap (λ (z : FeedNow). z.end.id) x) (ap (λ (z : FeedNow). z.end.log.got) x) (ap (λ (z : FeedNow). z.end.log.put) x) (ap (λ (z : FeedNow). z.end.log.runs) x)
   written-at answer None p was is x y = absurd y
   written-at answer (Some v) None was is x y = absurd (no-feed answer v x)
     where
       no-feed : (answer : FeedWrite) (v : FeedNow) → WritesFeed answer (Some v) None → ⊥
       no-feed answer v x = x
 
-  pub written : (answer : FeedWrite) → HasWritten answer r.core c → IsRecord (record r { core = c; journal = r.journal ++ wrote_entries answer r.core.live.feed; last = moment_after answer now r.last; room = room })
+  pub written : (answer : FeedWrite) → HasWritten answer r.core c → IsRecord (wrote_with answer now room r.core.live.feed c r)
   written answer x = written-at answer r.core.live.feed c.live.feed refl refl x.writes x.entry
 
 -- ---- as the code comes to it
@@ -233,12 +291,12 @@ same-entries put.NotYet k o v e g = refl
 same-entries put.Failed k o v e g = refl
 same-entries put.NoMemory k o v e g = refl
 
-pub written-after : (answer : FeedWrite) (r : RecordNow) (c : CoreNow) (k : SocketId) (v : FeedNow) (now : ℕ) (journal : List Entry) (last entries : ℕ) → IsRecord r → r.trails ≡ [] → HasWritten answer r.core c →
-    r.core.live.feed ≡ Some v → k ≡ v.end.id → journal ≡ r.journal ++ entries_put answer k → last ≡ moment_after answer now r.last →
-    IsRecord (record r { core = c; journal = journal; last = last; room = record r.room { entries = entries } })
-written-after answer r c k v now journal last entries h untaken x was id j l =
-    rw (j, same-entries answer k r.core.live.feed v was id, l)
-    (written r h untaken c (ap (λ (y : CoreNow). y.facts) x.only) now (record r.room { entries = entries }) refl answer x)
+pub written-after : (answer : FeedWrite) (r : RecordNow) (c : CoreNow) (k : SocketId) (v : FeedNow) (now : ℕ) (journal : List Entry) (last entries : ℕ) (held : Bool) → IsRecord r → r.trails ≡ [] → HasWritten answer r.core c →
+    r.core.live.feed ≡ Some v → k ≡ v.end.id → journal ≡ r.journal ++ entries_put answer k → last ≡ moment_after answer now r.last → held ≡ held_after answer r.held →
+    IsRecord (record r { core = c; journal = journal; last = last; held = held; room = record r.room { entries = entries } })
+written-after answer r c k v now journal last entries held h untaken x was id j l b =
+    rw (j, same-entries answer k r.core.live.feed v was id, l, b)
+    (written r h untaken c (ap (λ (y : CoreNow). y.facts) x.only) (ap (λ (y : CoreNow). y.live.out) x.only) now (record r.room { entries = entries }) refl answer x)
 
 counted-at : (answer : FeedWrite) (o p : Option FeedNow) → WritesFeed answer o p → IsCounted answer
 counted-at (put.Put n ack) (Some v) (Some w) x = (let most = x.0.0.most in omega (arith, most))

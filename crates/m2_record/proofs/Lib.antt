@@ -5,6 +5,9 @@ pub mod Keeping
 pub mod Making
 pub mod Planning
 pub mod Telling
+pub mod Waiting
+pub mod Kept
+pub mod Dues
 pub mod Opens
 pub mod Taking
 pub mod FeedLeft
@@ -14,3 +17,6 @@ pub mod Opening
 pub mod HasPut
 pub mod Owning
 pub mod Broken
+pub mod Standing
+pub mod Texts
+pub mod Hearing

@@ -6,9 +6,12 @@ use Rattle.m2_journal.specs.SideFacts.{SideFacts}
 use Rattle.m2_journal.specs.State.{start}
 use Rattle.m2_record.specs.IsRecord.{IsRecord, new_record}
 use Rattle.m2_record.specs.RecordNow.{RecordNow, Rooms}
+use Rattle.m2_record.specs.Waits.{AreWaits}
+use Rattle.m2_record.proofs.Kept.{first-within}
+use Rattle.m2_record.proofs.Names.{differ}
 
-pub new-is-record : (f : SideFacts) (place : ℕ) (room : Rooms) → Agrees (at_start f) (start f) → IsRecord (record (new_record f place) { room = room })
-new-is-record f place room a = record {
+pub new-is-record : (f : SideFacts) (place : ℕ) (room : Rooms) → AreWaits f.node → Agrees (at_start f) (start f) → IsRecord (record (new_record f place) { room = room })
+new-is-record f place room w a = record {
   state = start f;
   at_state = record {
     replay = record {
@@ -19,11 +22,20 @@ new-is-record f place room a = record {
     core = a;
     steps = refl;
     reach = refl;
-    parcels = ([], refl);
+    parcels = ([], refl, refl);
     spent = tt;
     feed = tt;
     room = tt;
     few = omega arith;
   };
   settled = refl;
+  kept = record {
+    ends = refl;
+    whole = tt;
+    parcels = tt;
+    plan = tt;
+    queue = record { kept = tt; waiting = tt };
+    waits = first-within f.node w;
+    held = λ e. absurd (differ e);
+  };
 }

@@ -8,7 +8,7 @@ use Rattle.std.proofs.lemmas.List.Folds.{list_any-append}
 use Rattle.m2_control.specs.declared.fields.TheConstants.{GREATEST_NUMBER}
 use Rattle.m2_core.specs.Agrees.{FeedsAgree, LeadsOn}
 use Rattle.m2_core.specs.Calls.{IsOpening, after_opened, is_exhausted, needed}
-use Rattle.m2_core.specs.CoreNow.{CoreNow, may_dial}
+use Rattle.m2_core.specs.CoreNow.{CoreNow, OnFeedNow, may_dial}
 use Rattle.m2_answers.specs.Dials.{at_rest}
 use Rattle.m2_bytes.specs.Items.{Holding}
 use Rattle.m2_fabric.specs.declared.socket.SocketId.{SocketId}
@@ -32,13 +32,17 @@ use Rattle.m2_queues.specs.OutQueues.{next_number}
 use Rattle.m2_session.specs.declared.session.Phase.{Phase}
 use Rattle.m2_session.specs.declared.session.Phase.TheVariants.{Absent, Connecting, IdentSent, ReconnectSent, Ready, Standby, Wait}
 use Rattle.m2_session.specs.Phases.{is, is_among, with_feed}
+use Rattle.m2_fabric.specs.Log.{Log, nothing_done}
+use Rattle.m2_session.specs.declared.event.Event.TheVariants as event
 use Rattle.m2_record.specs.Calls.{ConnectIsDue, IsNewSocket, IsUntouched}
-use Rattle.m2_record.specs.IsRecord.{FeedHasRoom, FeedIsOpen, IsRecord, IsReplayedTo, closed_in}
+use Rattle.m2_record.specs.IsRecord.{FeedHasRoom, FeedIsOpen, FitFrames, IsRecord, IsReplayedTo, IsWellKept, closed_in, feeds_in}
 use Rattle.m2_record.specs.RecordNow.{RecordNow, Rooms, ends_of, feed_end, grounds_of, ids_of, speaks_of}
 use Rattle.m2_record.specs.Sources.{sources_of}
 use Rattle.m2_record.proofs.Ends.{HasDoneNothing, ends-fresh, neither}
 use Rattle.m2_record.proofs.Entering.{reach-more}
 use Rattle.m2_record.proofs.Keeping.{as-planned, ground, one-more, replay-stays}
+use Rattle.m2_record.proofs.Dues.{connects}
+use Rattle.m2_record.proofs.Kept.{feeds-opened, ids-opened, kept-in-room, tells-fits}
 use Rattle.m2_record.proofs.Names.{both, differ}
 use Rattle.m2_record.proofs.Naming.{is-unclosed, is-unnamed}
 use Rattle.m2_record.proofs.Opens.{closed-more}
@@ -88,7 +92,7 @@ connect-fits c due h =
 same-dial : (r : RecordNow) (s : State) → IsReplayedTo s r → law.may_dial s ≡ may_dial r.core
 same-dial r s h = rw (h.core.session, h.core.queue, h.core.dials) refl
 
-module _ (r : RecordNow) (s : State) (h : IsReplayedTo s r) (v : FeedNow) (due : may_dial r.core ≡ true) (fits : is_exhausted r.core ≡ false) (fresh : IsUntouched v.end.log)
+module _ (r : RecordNow) (s : State) (h : IsReplayedTo s r) (v : FeedNow) (due : may_dial r.core ≡ true) (fits : is_exhausted r.core ≡ false) (fresh : v.end.log ≡ nothing_done)
     (new : IsNewSocket r v.end.id) (leads : LeadsOn (item.opened v.end.id) r.core (after_opened v r.core)) where
   may-open : MayOpen r.core.facts s v.end.id
   may-open = record {
@@ -115,7 +119,7 @@ module _ (r : RecordNow) (s : State) (h : IsReplayedTo s r) (v : FeedNow) (due :
   pub opened : (room : Rooms) → 0 < room.ends → IsReplayedTo (after r.core.facts (item.opened v.end.id) s) (record r { core = after_opened v r.core; journal = r.journal ++ entry.Opened v.end.id ∷ []; room = room })
   opened room more = record {
     replay = replay-stays journal (map planned r.plan) (map planned r.plan) r.spent (v.end ∷ r.spent) r.trails (as-planned (map planned r.plan))
-        (ends-fresh journal v.end r.spent (record { got = fresh.got; put = fresh.put; runs = fresh.runs }) unspent unclosed) r.core.facts (after r.core.facts (item.opened v.end.id) s) before;
+        (ends-fresh journal v.end r.spent (record { got = ap (λ (l : Log). l.got) fresh; put = ap (λ (l : Log). l.put) fresh; runs = ap (λ (l : Log). l.runs) fresh }) unspent unclosed) r.core.facts (after r.core.facts (item.opened v.end.id) s) before;
     core = leads s h.core;
     steps = h.steps;
     reach = ap (λ p. p.steps) (reach-more r.journal (entry.Opened v.end.id)) ∙ h.reach;
@@ -124,6 +128,23 @@ module _ (r : RecordNow) (s : State) (h : IsReplayedTo s r) (v : FeedNow) (due :
     feed = record { unspent = unspent; unclosed = unclosed };
     room = more;
     few = h.few;
+  }
+
+-- ---- what holds beside the journal
+
+module _ (r : RecordNow) (h : IsRecord r) (v : FeedNow) (due : may_dial r.core ≡ true) (fresh : v.end.log ≡ nothing_done) where
+  no-feed : r.core.live.feed ≡ None
+  no-feed = unfed r h.state h.at_state due
+
+  pub kept-opened : (room : Rooms) → IsWellKept (record r { core = after_opened v r.core; journal = r.journal ++ entry.Opened v.end.id ∷ []; room = room })
+  kept-opened room = record {
+    ends = ids-opened r.spent v.end (feeds_in r.journal) (subst (λ (o : Option FeedNow). ids_of (r.spent ++ feed_end o) ≡ feeds_in r.journal) no-feed h.kept.ends) ∙ sym (feeds-opened r.journal v.end.id);
+    whole = ap (λ (l : Log). l.closed) fresh;
+    parcels = h.kept.parcels;
+    plan = h.kept.plan;
+    queue = tells-fits event.Dialled r.core.live h.kept.queue;
+    waits = h.kept.waits;
+    held = λ e. absurd (subst (λ (o : Option FeedNow). OnFeedNow o (λ w. w.end.log.blocked ≡ true)) no-feed (h.kept.held e));
   }
 
 -- ---- as the code comes to it
@@ -138,9 +159,10 @@ module _ (r : RecordNow) (c : CoreNow) (e : SeenEnd) (now : ℕ) (room : Rooms) 
       (subst (λ (k : SeenEnd). IsRecord (record r { core = after_opened v r.core; journal = r.journal ++ entry.Opened k.id ∷ []; room = room })) end
       (record {
         state = after r.core.facts (item.opened v.end.id) h.state;
-        at_state = opened r h.state h.at_state v due.dials due.fits (subst (λ (k : SeenEnd). IsUntouched k.log) (sym end) fresh) (subst (λ (k : SeenEnd). IsNewSocket r k.id) (sym end) new)
+        at_state = opened r h.state h.at_state v (connects now r due).0 (connects now r due).1 (subst (λ (k : SeenEnd). k.log ≡ nothing_done) (sym end) fresh) (subst (λ (k : SeenEnd). IsNewSocket r k.id) (sym end) new)
             (subst (λ (k : SeenEnd). LeadsOn (item.opened k.id) r.core (after_opened v r.core)) (sym end) (subst (λ (d : CoreNow). LeadsOn (item.opened e.id) r.core d) value.1 leads)) room more;
         settled = h.settled;
+        kept = kept-opened r h v (connects now r due).0 (subst (λ (k : SeenEnd). k.log ≡ nothing_done) (sym end) fresh) room;
       }))
 
 pub opened-after : (r : RecordNow) (c : CoreNow) (e : SeenEnd) (now : ℕ) (before : List Entry) (journal : Holding Entry) (n : ℕ) (spent : List SeenEnd) (room : Rooms) → IsRecord r → ConnectIsDue now r → IsUntouched e.log → IsNewSocket r e.id → 0 < room.ends →
@@ -166,8 +188,16 @@ roomier r journal spent room h j sp more = rw (j, sp) (record {
     few = h.at_state.few;
   };
   settled = h.settled;
+  kept = kept-in-room r room h.kept;
 })
   where
     still-room : (o : Option FeedNow) → FeedHasRoom r.room.ends o → FeedHasRoom room.ends o
     still-room (Some v) g = omega (arith, g, more)
     still-room None g = tt
+
+-- what the core is asked for
+pub connect-dials : (now : ℕ) (r : RecordNow) → IsRecord r → ConnectIsDue now r → may_dial r.core ≡ true
+connect-dials now r h due = (connects now r due).0
+
+pub connect-number : (now : ℕ) (r : RecordNow) → IsRecord r → ConnectIsDue now r → dial_connect r.core.live.session ≤ GREATEST_NUMBER
+connect-number now r h due = let two = connects now r due in connect-fits r.core two.0 two.1

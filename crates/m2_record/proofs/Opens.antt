@@ -10,6 +10,7 @@ use Rattle.m2_feed.specs.FeedNow.{FeedNow}
 use Rattle.m2_journal.specs.declared.entry.Entry.{Entry}
 use Rattle.m2_record.specs.IsRecord.{FeedHasRoom, FeedIsOpen, IsRecord, closed_by, closed_in}
 use Rattle.m2_record.specs.RecordNow.{RecordNow, Rooms}
+use Rattle.m2_record.proofs.Kept.{kept-in-room}
 
 -- an entry that closes nothing
 closes-none : (e : Entry) → closed_by e ≡ None → closed_in (e ∷ []) ≡ []
@@ -38,4 +39,5 @@ in_room r room ends h = record {
     few = h.at_state.few;
   };
   settled = h.settled;
+  kept = kept-in-room r room h.kept;
 }

@@ -20,11 +20,13 @@ use Rattle.m2_journal.specs.Steps.{after, wants_dial}
 use Rattle.m2_message.specs.declared.message.Message.{Message}
 use Rattle.m2_message.specs.Message.{content_of}
 use Rattle.m2_bytes.specs.Items.{Holding}
-use Rattle.m2_record.specs.Calls.{IsDialNext, next_step}
-use Rattle.m2_record.specs.IsRecord.{FeedIsOpen, IsOpenAmong, IsRecord, IsReplayedTo, closed_in}
+use Rattle.m2_record.specs.Calls.{IsDialNext}
+use Rattle.m2_record.specs.Due.{next_step}
+use Rattle.m2_record.specs.IsRecord.{CanBePlanned, FeedIsOpen, IsOpenAmong, IsRecord, IsReplayedTo, IsWellKept, closed_in}
 use Rattle.m2_record.specs.RecordNow.{RecordNow, Rooms, grounds_of, speaks_of}
 use Rattle.m2_record.proofs.Entering.{reach-more}
 use Rattle.m2_record.proofs.Keeping.{one-more}
+use Rattle.m2_record.proofs.Kept.{all-get, feeds-more, posted-fits}
 use Rattle.m2_record.proofs.Opens.{in_room, still-open}
 
 module _ (r : RecordNow) (s : State) (h : IsReplayedTo s r) (x : PlanStep) (next : next_step r ≡ Some x) where
@@ -53,12 +55,15 @@ dialled r s h next leads = record {
   few = h.few;
 }
 
+kept-dialled : (r : RecordNow) → IsWellKept r → IsWellKept (record r { core = after_dial r.core; journal = r.journal ++ entry.Dial ∷ []; steps = r.steps + 1 })
+kept-dialled r k = record { ends = k.ends ∙ sym (feeds-more r.journal entry.Dial refl); whole = k.whole; parcels = k.parcels; plan = k.plan; queue = k.queue; waits = k.waits; held = k.held }
+
 pub took-dial : (r : RecordNow) (c : CoreNow) (room : Rooms) → IsRecord r → room.ends ≡ r.room.ends → next_step r ≡ Some step.Dial → c ≡ after_dial r.core → ((p : Option Planned) → LeadsOn (item.dial p) r.core c) →
     IsRecord (record r { core = c; journal = r.journal ++ entry.Dial ∷ []; steps = r.steps + 1; room = room })
 took-dial r c room h ends next e leads =
     subst (λ (d : CoreNow). ((p : Option Planned) → LeadsOn (item.dial p) r.core d) → IsRecord (record r { core = d; journal = r.journal ++ entry.Dial ∷ []; steps = r.steps + 1; room = room })) (sym e)
     (λ more. in_room (record r { core = after_dial r.core; journal = r.journal ++ entry.Dial ∷ []; steps = r.steps + 1 }) room ends
-    (record { state = wants_dial h.state; at_state = dialled r h.state h.at_state next more; settled = h.settled })) leads
+    (record { state = wants_dial h.state; at_state = dialled r h.state h.at_state next more; settled = h.settled; kept = kept-dialled r h.kept })) leads
 
 -- ---- a post
 
@@ -87,13 +92,26 @@ posts r s m now h next leads = record {
     there : slice_get (map planned r.plan) (reach_of r.journal).steps ≡ Some (to_post (content_of m))
     there = planned-next r s h (step.Post m) next
 
+kept-posted : (r : RecordNow) (m : Message) (now : ℕ) → next_step r ≡ Some (step.Post m) → IsWellKept r → IsWellKept (posted m r (post_core m r.core) now)
+kept-posted r m now next k =
+    let can : CanBePlanned (step.Post m) = all-get CanBePlanned r.steps r.plan (step.Post m) k.plan next in
+    record {
+      ends = k.ends ∙ sym (feeds-more r.journal (entry.Post r.steps) refl);
+      whole = k.whole;
+      parcels = k.parcels;
+      plan = k.plan;
+      queue = posted-fits r.core.live.out.queue (content_of m) (record { front = can.front; middle = can.middle; tail = can.tail }) k.queue;
+      waits = k.waits;
+      held = k.held;
+    }
+
 pub took-post : (r : RecordNow) (c : CoreNow) (m : Message) (now : ℕ) (room : Rooms) → IsRecord r → room.ends ≡ r.room.ends → next_step r ≡ Some (step.Post m) →
     c ≡ record r.core { live = after_posted (content_of m) r.core.live } → ((place : ℕ) → LeadsOn (item.post place (Some (to_post (content_of m)))) r.core c) →
     IsRecord (record r { core = c; journal = r.journal ++ entry.Post r.steps ∷ []; steps = r.steps + 1; last = now; room = room })
 took-post r c m now room h ends next e leads =
     subst (λ (d : CoreNow). ((place : ℕ) → LeadsOn (item.post place (Some (to_post (content_of m)))) r.core d) → IsRecord (record (posted m r d now) { room = room })) (sym e)
     (λ more. in_room (posted m r (post_core m r.core) now) room ends
-    (record { state = after r.core.facts (item.post r.steps (Some (to_post (content_of m)))) h.state; at_state = posts r h.state m now h.at_state next more; settled = h.settled })) leads
+    (record { state = after r.core.facts (item.post r.steps (Some (to_post (content_of m)))) h.state; at_state = posts r h.state m now h.at_state next more; settled = h.settled; kept = kept-posted r m now next h.kept })) leads
 
 -- ---- as the code comes to them
 

@@ -1,34 +1,54 @@
 -- What calls of a record leave of it. This project's own.
-use Rattle.std.specs.Prelude.{◌≡◌, ℕ, ◌+◌, ◌-◌, ◌^◌, ◌≤◌, ◌<◌, Bool, true, false, min, if◌then◌else◌, List, [], ◌∷◌, ◌++◌, length, slice_get, Option, Some, None, IfSome, IsSome, Result, Ok, Err}
+use Rattle.std.specs.Prelude.{◌≡◌, ◌⊎◌, ℕ, ◌+◌, ◌-◌, ◌^◌, ◌≤◌, ◌<◌, Bool, true, false, min, if◌then◌else◌, List, [], ◌∷◌, ◌++◌, length, slice_get, Option, Some, None, IfSome, IsSome, Result, Ok, Err}
 use Rattle.std.specs.List.{AllByRecursion}
 use Rattle.std.specs.Option.{option_to_list}
 use Rattle.m2_bytes.specs.declared.memory.NoMemory as memory
+use Rattle.m2_core.specs.Agrees.{IsBroken}
+use Rattle.m2_core.specs.Asking.{HasAsked, LeavesAsk, LeavesPass}
 use Rattle.m2_core.specs.Calls.{IsOpening, after_dial, after_down, after_fault, after_opened, after_posted, is_exhausted}
 use Rattle.m2_core.specs.CoreNow as core
-use Rattle.m2_core.specs.CoreNow.{CoreNow, may_dial}
+use Rattle.m2_core.specs.CoreNow.{CoreNow}
 use Rattle.m2_core.specs.Effects.{closed_if}
-use Rattle.m2_core.specs.Moves.{HasWritten}
+use Rattle.m2_core.specs.Composing.{HasAcknowledged, HasAnswered}
+use Rattle.m2_core.specs.Moves.{HasWritten, live_with}
+use Rattle.m2_core.specs.News.{heard_on}
+use Rattle.m2_core.specs.Numbering.{HasNumbered}
+use Rattle.m2_core.specs.Shaken.{HasShaken}
+use Rattle.m2_core.specs.declared.asking.CoreAsk.{CoreAsk}
+use Rattle.m2_core.specs.declared.asking.CoreAsk.TheVariants as ask
+use Rattle.m2_core.specs.declared.to_compose.CoreText.{CoreText}
+use Rattle.m2_core.specs.declared.to_compose.CoreText.TheVariants as text
 use Rattle.m2_dispatcher.specs.declared.parcel.Parcel.{Parcel}
 use Rattle.m2_dispatcher.specs.declared.parcel.Parcel.TheVariants as parcel
 use Rattle.m2_dispatcher.specs.Parcel.{IsOwned}
 use Rattle.m2_fabric.specs.declared.socket.SocketId.{SocketId}
 use Rattle.m2_fabric.specs.End.{SeenEnd}
-use Rattle.m2_fabric.specs.Log.{Log}
-use Rattle.m2_fabric.specs.Sockets.{IsNewTo, goes_to}
+use Rattle.m2_fabric.specs.End as end
+use Rattle.m2_fabric.specs.Port.{one_hears}
+use Rattle.m2_fabric.specs.declared.end.News.{News}
+use Rattle.m2_fabric.specs.Log.{Log, nothing_done}
+use Rattle.m2_fabric.specs.Sockets.{IsNewTo, goes_to, same_socket}
 use Rattle.m2_feed.specs.FeedNow.{FeedNow}
 use Rattle.m2_feed.specs.declared.answers.FeedWrite.{FeedWrite}
 use Rattle.m2_feed.specs.declared.answers.FeedWrite.TheVariants as put
+use Rattle.m2_handshake.specs.declared.answer.HalfStep.{HalfStep}
 use Rattle.m2_journal.specs.declared.entry.Entry.{Entry}
 use Rattle.m2_journal.specs.declared.entry.Entry.TheVariants as entry
 use Rattle.m2_journal.specs.declared.facts.PlanStep.{PlanStep}
 use Rattle.m2_journal.specs.declared.facts.PlanStep.TheVariants as step
 use Rattle.m2_message.specs.declared.message.Message.{Message}
-use Rattle.m2_message.specs.Message.{IsSendable, content_of}
+use Rattle.m2_message.specs.Message.{content_of}
 use Rattle.m2_session.specs.declared.event.Effects.{Effects}
 use Rattle.m2_session.specs.declared.event.Event.TheVariants as event
 use Rattle.m2_session.specs.Steps.{step_of}
+use Rattle.m2_shared.specs.Numbers.{SeenNumberPass}
 use Rattle.m2_shared.specs.Place.{Place}
-use Rattle.m2_record.specs.IsRecord.{named_in}
+use Rattle.m2_record.specs.declared.composing.Composed.{Composed}
+use Rattle.m2_record.specs.declared.composing.Composed.TheVariants as composed
+use Rattle.m2_record.specs.Due.{due_step, next_step, on_feed}
+use Rattle.m2_record.specs.declared.due.Due.TheVariants as due
+use Rattle.m2_record.specs.IsRecord.{CanBePlanned, named_in}
+use Rattle.m2_record.specs.Waits.{begun, not_above, stepped}
 use Rattle.m2_record.specs.RecordNow.{RecordNow, Rooms, ends_of, ids_of}
 use Rattle.m2_record.specs.Sources.{is_broken_end}
 
@@ -51,11 +71,6 @@ pub record HasRoomFor (n : ℕ) (r : Rooms) : Type 0 where
 
 -- ---- the plan
 
--- a message that is to be posted can be sent
-abbrev pub CanBePlanned : PlanStep → Type 0
-CanBePlanned (step.Post m) = IsSendable m
-CanBePlanned _ = Unit {0}
-
 abbrev pub planned_too : PlanStep → RecordNow → RecordNow
 planned_too x r = record r { plan = r.plan ++ x ∷ [] }
 
@@ -63,9 +78,6 @@ planned_too x r = record r { plan = r.plan ++ x ∷ [] }
 abbrev pub AddsStep : Result (Unit {0}) PlanStep → PlanStep → RecordNow → RecordNow → Type 0
 AddsStep (Ok _) x old new = new ≡ planned_too x old
 AddsStep (Err back) x old new = (back ≡ x) × (new ≡ old)
-
-abbrev pub next_step : RecordNow → Option PlanStep
-next_step r = slice_get r.plan r.steps
 
 -- one entry less fits
 abbrev pub with_entry : Rooms → Rooms
@@ -133,7 +145,7 @@ with_down planned r = record r { journal = r.journal ++ entry.Down planned ∷ [
 
 abbrev pub after_going_down : (planned : Bool) → RecordNow → RecordNow
 after_going_down planned r =
-    record (left_by (step_of r.core.live.session event.MarkedDown).effects (with_down planned r)) { core = after_down r.core }
+    record (left_by (step_of r.core.live.session event.MarkedDown).effects (with_down planned r)) { core = after_down r.core; held = false }
 
 -- all but the room is as a Down leaves it
 abbrev pub GoesDown : (planned : Bool) → RecordNow → RecordNow → Type 0
@@ -168,17 +180,12 @@ KeepsEnds None old new = new ≡ old
 -- ---- a connect
 
 -- an end that has done nothing
-pub record IsUntouched (l : Log) : Type 0 where
-  pub got : l.got ≡ []
-  pub put : l.put ≡ []
-  pub runs : l.runs ≡ []
-  pub closed : l.closed ≡ false
+abbrev pub IsUntouched : Log → Type 0
+IsUntouched l = l ≡ nothing_done
 
 -- a connect is due: no step comes before it
-pub record ConnectIsDue (now : ℕ) (r : RecordNow) : Type 0 where
-  pub dials : may_dial r.core ≡ true
-  pub moment : r.next_dial ≤ now
-  pub fits : is_exhausted r.core ≡ false
+abbrev pub ConnectIsDue : (now : ℕ) → RecordNow → Type 0
+ConnectIsDue now r = due_step now r ≡ due.Connect r.waits.next_dial
 
 -- a socket to the peer that no entry and no end of the record has
 pub record IsNewSocket (r : RecordNow) (socket : SocketId) : Type 0 where
@@ -222,6 +229,12 @@ abbrev pub moment_after : FeedWrite → (now last : ℕ) → ℕ
 moment_after (put.Put n acknowledged) now last = now
 moment_after answer now last = last
 
+-- whether it is held then: what was blocked is, and what was put no more
+abbrev pub held_after : FeedWrite → Bool → Bool
+held_after (put.Put n acknowledged) held = false
+held_after put.NotYet held = true
+held_after _ held = held
+
 -- the core has written its feed once, and where bytes were put they have their entry
 pub record WritesFeedOnce (answer : FeedWrite) (now : ℕ) (old new : RecordNow) : Type 0 where
   pub core : HasWritten answer old.core new.core
@@ -229,6 +242,7 @@ pub record WritesFeedOnce (answer : FeedWrite) (now : ℕ) (old new : RecordNow)
     core = new.core;
     journal = old.journal ++ wrote_entries answer old.core.live.feed;
     last = moment_after answer now old.last;
+    held = held_after answer old.held;
     room = new.room;
   }
 
@@ -236,7 +250,7 @@ pub record WritesFeedOnce (answer : FeedWrite) (now : ℕ) (old new : RecordNow)
 
 -- the first parcel that is ready goes; none exactly where none is
 abbrev pub HandsOut : Option Parcel → RecordNow → RecordNow → Type 0
-HandsOut (Some x) old new = (old.parcels ≡ x ∷ new.parcels) × (new ≡ record old { parcels = new.parcels; room = new.room })
+HandsOut (Some x) old new = (old.parcels ≡ x ∷ new.parcels) × (new ≡ record old { parcels = new.parcels; handed = old.handed + 1; room = new.room })
 HandsOut None old new = (old.parcels ≡ []) × (new ≡ old)
 
 -- ---- the plan's next step
@@ -255,19 +269,16 @@ abbrev pub is_down_next : Option PlanStep → Bool
 is_down_next (Some step.Down) = true
 is_down_next _ = false
 
+-- what is given back then: where the session is given up, what is held for the feed
+abbrev pub returned_by : Option PlanStep → RecordNow → ℕ
+returned_by (Some step.Down) r = core.held r.core.live.granted
+returned_by next r = 0
+
 -- ---- a connect that failed
 
--- the greatest number that a moment or a count has
-abbrev pub not_above : ℕ → ℕ
-not_above n = min n (2 ^ 64 - 1)
-
--- one more is missed; the next one is due behind the wait, and the wait behind that is twice as long, up to the longest
+-- one more is missed, and a wait begins
 abbrev pub after_missing : (now : ℕ) → RecordNow → RecordNow
-after_missing now r = record r {
-  missed = not_above (r.missed + 1);
-  next_dial = not_above (now + r.wait);
-  wait = min (not_above (r.wait + r.wait)) r.core.facts.node.most_wait;
-}
+after_missing now r = record r { missed = not_above (r.missed + 1); waits = begun r.core.facts.node now r.waits }
 
 -- how many bytes were granted for a parcel, and for all of them
 abbrev pub granted_in : Parcel → ℕ
@@ -281,15 +292,98 @@ all_granted (x ∷ xs) = granted_in x + all_granted xs
 
 -- ---- a fault
 
--- there is a feed, whose end has failed, or has found that nothing more will come
+-- there is a feed whose end has failed, or has found that nothing more will come
 abbrev pub EndIsBroken : RecordNow → Type 0
 EndIsBroken r = core.OnFeedNow r.core.live.feed (λ v. is_broken_end v.end ≡ true)
 
--- the feed is closed for a fault: it leaves what a session's step leaves
-abbrev pub after_breaking : RecordNow → RecordNow
-after_breaking r =
-    record (left_by (step_of r.core.live.session (event.Faulted (core.is_waiting r.core.live))).effects r) { core = record r.core { live = after_fault r.core.live } }
+-- or on which the bytes that were got are a fault
+abbrev pub FeedIsBroken : RecordNow → Type 0
+FeedIsBroken r = core.OnFeedNow r.core.live.feed (λ v. (is_broken_end v.end ≡ true) ⊎ IsBroken r.core)
+
+-- The feed is closed for a fault, which leaves what a session's step leaves. Where the phase becomes Wait, a wait begins.
+abbrev pub after_breaking : (now : ℕ) → RecordNow → RecordNow
+after_breaking now r =
+    record (left_by (step_of r.core.live.session (event.Faulted (core.is_waiting r.core.live))).effects r) {
+      core = record r.core { live = after_fault r.core.live };
+      waits = stepped r.core.facts.node now r.core.live.session.phase (after_fault r.core.live).session.phase r.waits;
+      held = false;
+    }
 
 -- all but the room is as a fault of the feed leaves it
-abbrev pub Breaks : RecordNow → RecordNow → Type 0
-Breaks old new = new ≡ record (after_breaking old) { room = new.room }
+abbrev pub Breaks : (now : ℕ) → RecordNow → RecordNow → Type 0
+Breaks now old new = new ≡ record (after_breaking now old) { room = new.room }
+
+-- ---- composing
+
+abbrev pub numbered_entries : Result ℕ memory.NoMemory → List Entry
+numbered_entries (Ok number) = entry.Numbered number ∷ []
+numbered_entries (Err _) = []
+
+abbrev pub asked_entries : CoreAsk → List Entry
+asked_entries (ask.Asked by_ident number) = entry.Asked by_ident number ∷ []
+asked_entries _ = []
+
+-- the core changes, and the journal gets these entries
+abbrev pub GetsEntries : List Entry → RecordNow → RecordNow → Type 0
+GetsEntries entries old new = new ≡ record old { core = new.core; journal = old.journal ++ entries; room = new.room }
+
+-- the core alone changes
+abbrev pub ChangesCore : RecordNow → RecordNow → Type 0
+ChangesCore old new = new ≡ record old { core = new.core; room = new.room }
+
+abbrev pub NumbersNext : Result ℕ memory.NoMemory → RecordNow → RecordNow → Type 0
+NumbersNext answer old new = HasNumbered answer old.core new.core × GetsEntries (numbered_entries answer) old new
+
+abbrev pub Asks : CoreAsk → RecordNow → RecordNow → Type 0
+Asks answer old new = HasAsked answer old.core new.core × LeavesAsk answer old.core new.core × GetsEntries (asked_entries answer) old new
+
+abbrev pub Acknowledges : Result (Unit {0}) memory.NoMemory → RecordNow → RecordNow → Type 0
+Acknowledges answer old new = HasAcknowledged answer old.core new.core × ChangesCore old new
+
+abbrev pub AnswersKeepalive : Result (Unit {0}) memory.NoMemory → RecordNow → RecordNow → Type 0
+AnswersKeepalive answer old new = HasAnswered answer old.core new.core × ChangesCore old new
+
+abbrev pub Shakes : HalfStep → RecordNow → RecordNow → Type 0
+Shakes answer old new = HasShaken answer old.core new.core × ChangesCore old new
+
+abbrev pub composed_ask : CoreAsk → Composed
+composed_ask (ask.Asked by_ident number) = composed.Asked by_ident number
+composed_ask ask.Spent = composed.Spent
+composed_ask (ask.Again seen now) = composed.Again seen now
+composed_ask ask.NoMemory = composed.NoMemory
+
+abbrev pub composed_if : Result (Unit {0}) memory.NoMemory → Composed → Composed
+composed_if (Ok _) c = c
+composed_if (Err _) c = composed.NoMemory
+
+-- by the text that is to be composed, and the answer
+abbrev pub ComposesAs : CoreText → Composed → RecordNow → RecordNow → Type 0
+ComposesAs text.Ask (composed.Asked by_ident number) old new = Asks (ask.Asked by_ident number) old new
+ComposesAs text.Ask composed.Spent old new = Asks ask.Spent old new
+ComposesAs text.Ask (composed.Again seen now) old new = Asks (ask.Again seen now) old new
+ComposesAs text.Ask composed.NoMemory old new = Asks ask.NoMemory old new
+ComposesAs text.KeepaliveAnswer composed.Answered old new = AnswersKeepalive (Ok tt) old new
+ComposesAs text.KeepaliveAnswer composed.NoMemory old new = AnswersKeepalive (Err (record {})) old new
+ComposesAs text.Message (composed.Numbered number) old new = NumbersNext (Ok number) old new
+ComposesAs text.Message composed.NoMemory old new = NumbersNext (Err (record {})) old new
+ComposesAs text.Acknowledgement composed.Acknowledged old new = Acknowledges (Ok tt) old new
+ComposesAs text.Acknowledgement composed.NoMemory old new = Acknowledges (Err (record {})) old new
+ComposesAs t _ old new = ⊥
+
+-- what is left of the pass: the number of an ask was drawn by it
+abbrev pub DrawsAs : Composed → SeenNumberPass → SeenNumberPass → Type 0
+DrawsAs (composed.Asked by_ident number) before after = LeavesPass (ask.Asked by_ident number) before after
+DrawsAs composed.Spent before after = LeavesPass ask.Spent before after
+DrawsAs (composed.Again seen now) before after = LeavesPass (ask.Again seen now) before after
+DrawsAs _ before after = after ≡ before
+
+-- ---- news of the other side
+
+abbrev pub is_feed : SocketId → RecordNow → Bool
+is_feed id r = on_feed (λ v. same_socket id v.end.id) r.core.live.feed
+
+-- the end of that socket, where the record has it, has heard the news
+abbrev pub after_news : SocketId → News → List ℕ → RecordNow → RecordNow
+after_news id news bytes r =
+    if is_feed id r then record r { core = record r.core { live = live_with (heard_on news bytes r.core.live.feed) r.core.live } }
+    else record r { spent = one_hears id (end.after_news news bytes) r.spent }

@@ -1,20 +1,28 @@
 -- A record is the replay of its journal. This project's own.
-use Rattle.std.specs.Prelude.{◌≡◌, ℕ, ◌<◌, ◌^◌, Bool, true, false, List, [], ◌∷◌, ◌++◌, length, map, Option, Some, None}
+use Rattle.std.specs.Prelude.{◌≡◌, ℕ, ◌<◌, ◌^◌, Bool, true, false, if◌then◌else◌, List, [], ◌∷◌, ◌++◌, length, map, Option, Some, None}
 use Rattle.std.specs.List.{AllByRecursion, filter_map}
 use Rattle.m2_core.specs.Agrees.{Agrees}
-use Rattle.m2_core.specs.CoreNow.{at_start}
+use Rattle.m2_core.specs.CoreNow.{OnFeedNow, at_start}
+use Rattle.m2_core.specs.Numbering.{FitsFrame}
 use Rattle.m2_dispatcher.specs.declared.parcel.Parcel.{Parcel}
+use Rattle.m2_dispatcher.specs.declared.parcel.Parcel.TheVariants as parcel
 use Rattle.m2_fabric.specs.declared.socket.SocketId.{SocketId}
 use Rattle.m2_fabric.specs.End.{SeenEnd}
 use Rattle.m2_fabric.specs.Sockets.{IsNewTo}
 use Rattle.m2_feed.specs.FeedNow.{FeedNow}
 use Rattle.m2_journal.specs.declared.entry.Entry.{Entry}
 use Rattle.m2_journal.specs.declared.entry.Entry.TheVariants as entry
+use Rattle.m2_journal.specs.declared.facts.PlanStep.{PlanStep}
+use Rattle.m2_journal.specs.declared.facts.PlanStep.TheVariants as step
 use Rattle.m2_journal.specs.Items.{reach_of}
 use Rattle.m2_journal.specs.Replay.{IsReplay}
 use Rattle.m2_journal.specs.SideFacts.{SideFacts}
 use Rattle.m2_journal.specs.State.{Delivery, State}
-use Rattle.m2_record.specs.RecordNow.{RecordNow, Rooms, delivery_of, ids_of, speaks_of}
+use Rattle.m2_message.specs.Message.{IsSendable, size_of}
+use Rattle.m2_queues.specs.OutQueues.{Queue}
+use Rattle.m2_session.specs.Laws.{takes}
+use Rattle.m2_record.specs.RecordNow.{RecordNow, Rooms, delivery_of, feed_end, ids_of, speaks_of}
+use Rattle.m2_record.specs.Waits.{IsWithin, at_first}
 
 -- ---- words
 
@@ -38,9 +46,18 @@ socket_of _ = None
 abbrev pub named_in : List Entry → List SocketId
 named_in journal = filter_map socket_of journal
 
--- the last ones of a list
-abbrev pub AreLastOf : {X : Type 0} → List X → List X → Type 0
-AreLastOf {X} last all = (before : List X) × (all ≡ before ++ last)
+-- the sockets that became the feed: those that were opened, and those that were taken by an answer
+abbrev pub became_feed : Entry → Option SocketId
+became_feed (entry.Opened socket) = Some socket
+became_feed (entry.Judged socket ask number answer) = if takes answer then Some socket else None
+became_feed _ = None
+
+abbrev pub feeds_in : List Entry → List SocketId
+feeds_in journal = filter_map became_feed journal
+
+-- those of a list behind the first n
+abbrev pub AreBehind : {X : Type 0} → (n : ℕ) → List X → List X → Type 0
+AreBehind {X} n last all = (before : List X) × (length before ≡ n) × (all ≡ before ++ last)
 
 abbrev pub IsClosedEnd : SeenEnd → Type 0
 IsClosedEnd e = e.log.closed ≡ true
@@ -59,17 +76,52 @@ abbrev pub FeedHasRoom : (ends : ℕ) → Option FeedNow → Type 0
 FeedHasRoom ends (Some v) = 0 < ends
 FeedHasRoom ends None = Unit {0}
 
+-- ---- what holds beside its journal
+
+-- a message that is to be posted can be sent
+abbrev pub CanBePlanned : PlanStep → Type 0
+CanBePlanned (step.Post m) = IsSendable m
+CanBePlanned _ = Unit {0}
+
+-- each message of a queue fits in a frame
+pub record FitFrames (q : Queue) : Type 0 where
+  pub kept : AllByRecursion FitsFrame q.kept
+  pub waiting : AllByRecursion FitsFrame q.waiting
+
+-- what is handed out comes from this peer, and for a message its size was granted
+abbrev pub IsFrom : (place : ℕ) → Parcel → Type 0
+IsFrom place (parcel.Letter l) = (l.peer ≡ place) × (l.grant.n ≡ size_of l.message)
+IsFrom place (parcel.Discard peer) = peer ≡ place
+IsFrom place (parcel.RemoteReset peer) = peer ≡ place
+
+-- the feed's end isn't closed
+abbrev pub FeedIsWhole : Option FeedNow → Type 0
+FeedIsWhole (Some v) = v.end.log.closed ≡ false
+FeedIsWhole None = Unit {0}
+
+-- Its ends are those of the sockets that became the feed, in order, the feed's last, which is open. Its parcels are of its
+-- peer. What is planned or queued can be sent. Where it is held, the feed is blocked.
+pub record IsWellKept (r : RecordNow) : Type 0 where
+  pub ends : ids_of (r.spent ++ feed_end r.core.live.feed) ≡ feeds_in r.journal
+  pub whole : FeedIsWhole r.core.live.feed
+  pub parcels : AllByRecursion (IsFrom r.place) r.parcels
+  pub plan : AllByRecursion CanBePlanned r.plan
+  pub queue : FitFrames r.core.live.out.queue
+  pub waits : IsWithin r.core.facts.node r.waits
+  pub held : r.held ≡ true → OnFeedNow r.core.live.feed (λ v. v.end.log.blocked ≡ true)
+
 -- ---- a record beside a state
 
 -- Its entries are lawful one after the other, and cover the plan and the logs of its ends to the last byte. They lead to
--- this state, and there its core stands; so many steps of the plan were taken; its parcels are what is handed out last;
+-- this state, and there its core stands; so many steps of the plan were taken; its parcels are what is
+-- handed out behind what was handed out before;
 -- each end but the feed is closed, and the feed's has room among them.
 pub record IsReplayedTo (s : State) (r : RecordNow) : Type 0 where
   pub replay : IsReplay r.core.facts (speaks_of r) r.journal s
   pub core : Agrees r.core s
   pub steps : r.steps ≡ s.steps
   pub reach : (reach_of r.journal).steps ≡ s.steps
-  pub parcels : AreLastOf (map delivery_of r.parcels) s.deliveries
+  pub parcels : AreBehind r.handed (map delivery_of r.parcels) s.deliveries
   pub spent : AllByRecursion IsClosedEnd r.spent
   pub feed : FeedIsOpen r.spent r.journal r.core.live.feed
   pub room : FeedHasRoom r.room.ends r.core.live.feed
@@ -80,6 +132,7 @@ pub record IsRecord (r : RecordNow) : Type 0 where
   pub state : State
   pub at_state : IsReplayedTo state r
   pub settled : state.spent ≡ []
+  pub kept : IsWellKept r
 
 -- ---- a new one
 
@@ -97,8 +150,9 @@ new_record f place = record {
   core = at_start f;
   spent = [];
   parcels = [];
-  next_dial = 0;
-  wait = f.node.first_wait;
+  handed = 0;
+  waits = at_first f.node;
+  held = false;
   missed = 0;
   last = 0;
   room = no_room;

@@ -1,5 +1,5 @@
 -- What contracts see of a record. This project's own.
-use Rattle.std.specs.Prelude.{ℕ, List, [], ◌∷◌, ◌++◌, map, Option, Some, None}
+use Rattle.std.specs.Prelude.{ℕ, Bool, List, [], ◌∷◌, ◌++◌, map, Option, Some, None}
 use Rattle.m2_core.specs.CoreNow.{CoreNow}
 use Rattle.m2_dispatcher.specs.declared.parcel.Parcel.{Parcel}
 use Rattle.m2_dispatcher.specs.declared.parcel.Parcel.TheVariants as parcel
@@ -12,6 +12,7 @@ use Rattle.m2_journal.specs.Items.{Sources}
 use Rattle.m2_journal.specs.Plan.{planned}
 use Rattle.m2_journal.specs.State.{Delivery, letter, discarded, remote_reset}
 use Rattle.m2_message.specs.Message.{content_of}
+use Rattle.m2_record.specs.declared.waits.Waits.{Waits}
 use Rattle.m2_record.specs.Sources.{Grounds, TakenTrail, sources_of}
 
 -- how many entries, parcels and closed ends fit before memory is taken
@@ -36,10 +37,12 @@ pub record RecordNow : Type 0 where
   pub spent : List SeenEnd
   -- what is ready for the dispatcher, in order
   pub parcels : List Parcel
-  -- the moment before which no connect is due
-  pub next_dial : ℕ
-  -- how long the next wait before a connect is, in milliseconds
-  pub wait : ℕ
+  -- how many were handed out before them
+  pub handed : ℕ
+  -- when it may dial next
+  pub waits : Waits
+  -- whether the feed's last write answered that it can't yet, and nothing has settled since
+  pub held : Bool
   -- how many connects failed
   pub missed : ℕ
   -- the moment of the last productive entry

@@ -1,10 +1,10 @@
 //! How a record comes to a socket that it opens.
 
-ghost use Rattle.std.specs.Prelude.{◌≡◌, ◌<◌, ◌≤◌, OnOk};
+ghost use Rattle.std.specs.Prelude.{◌≡◌, ◌-◌, ◌<◌, ◌≤◌, OnOk, vec_capacity, vec_len};
 ghost use Rattle.m2_record.specs.Calls.{ConnectIsDue, Connects, ComesBack, IsNewSocket, IsUntouched, after_missing};
 
 use crate::record::Record;
-use m2_bytes::{Items, NoMemory};
+use m2_bytes::NoMemory;
 use m2_fabric::End;
 use m2_journal::{Entry, EntryList};
 
@@ -33,20 +33,16 @@ impl<E: End> Record<E> {
         ensures { self.new ≡ after_missing now self.old }
     {
         self.missed = self.missed.saturating_add(1);
-        self.next_dial = now.saturating_add(self.wait);
-        self.wait = self
-            .wait
-            .saturating_add(self.wait)
-            .min(self.core.node().most_wait);
+        self.waits = self.waits.begun(self.core.node(), now);
     }
 }
 
 /// Makes room for the entry of a socket, and for its end among those that were the feed.
-fn room_for_socket<E: End>(journal: &mut EntryList, spent: &mut Items<E>) -> Result<(), NoMemory>
+fn room_for_socket<E: End>(journal: &mut EntryList, spent: &mut Vec<E>) -> Result<(), NoMemory>
     ensures entries { journal.new.items ≡ journal.old.items }
     ensures ends { spent.new.items ≡ spent.old.items }
-    ensures more { spent.old.room ≤ spent.new.room }
-    ensures ok { OnOk result ((0 < journal.new.room) × (0 < spent.new.room)) }
+    ensures more { vec_capacity spent.old - vec_len spent.old ≤ vec_capacity spent.new - vec_len spent.new }
+    ensures ok { OnOk result ((0 < journal.new.room) × (0 < vec_capacity spent.new - vec_len spent.new)) }
 {
     journal.reserve(1)?;
     spent.reserve(1)?;

@@ -1,6 +1,6 @@
 //! How a record ends.
 
-ghost use Rattle.std.specs.Prelude.{◌≡◌, ◌-◌, ◌++◌, []};
+ghost use Rattle.std.specs.Prelude.{◌≡◌, ◌-◌, ◌++◌, [], vec_capacity, vec_len};
 ghost use Rattle.std.specs.List.{AllByRecursion};
 ghost use Rattle.std.specs.VecDeque.{deque_len};
 ghost use Rattle.std.specs.Prelude.{map};
@@ -8,12 +8,14 @@ ghost use Rattle.m2_core.specs.CoreNow.{held};
 ghost use Rattle.m2_dispatcher.specs.Parcel.{IsOwned};
 ghost use Rattle.m2_shared.specs.Place.{IsAlone};
 ghost use Rattle.m2_record.specs.Calls.{Owns, all_granted, granted_in};
+ghost use Rattle.m2_record.specs.IsRecord.{FeedHasRoom};
 ghost use Rattle.m2_record.specs.RecordNow.{feed_end};
 
 use crate::record::Record;
 use m2_bytes::Items;
 use m2_dispatcher::{Letter, Parcel};
 use m2_fabric::End;
+use m2_feed::Feed;
 use m2_shared::{TakePass, Throttle};
 use std::collections::VecDeque;
 
@@ -35,17 +37,26 @@ impl<E: End> Record<E> {
             core,
             mut spent,
             parcels,
-            next_dial: _,
-            wait: _,
+            handed: _,
+            waits: _,
+            held: _,
             missed: _,
             last: _,
         } = self;
         let feed = core.end(throttle, pass);
         give_all(parcels, throttle, pass);
-        if let Some(feed) = feed {
-            spent.push_reserved(feed.into_end());
-        }
-        spent
+        put_left(feed, &mut spent);
+        Items::from_vec(spent)
+    }
+}
+
+/// The feed's end, where there is a feed, goes to those that were the feed, as it is.
+fn put_left<E: End>(feed: Option<Feed<E>>, spent: &mut Vec<E>)
+    requires { FeedHasRoom (vec_capacity spent.old - vec_len spent.old) feed }
+    ensures { map E.seen spent.new.items ≡ map E.seen spent.old.items ++ feed_end feed }
+{
+    if let Some(feed) = feed {
+        spent.push_reserved(feed.into_end());
     }
 }
 

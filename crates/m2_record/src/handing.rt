@@ -3,6 +3,7 @@
 ghost use Rattle.m2_record.specs.Calls.{HandsOut};
 
 use crate::record::Record;
+use m2_bytes::Told;
 use m2_dispatcher::Parcel;
 use m2_fabric::End;
 
@@ -11,6 +12,10 @@ impl<E: End> Record<E> {
     pub fn hand(&mut self) -> Option<Parcel>
         ensures { HandsOut result self.old self.new }
     {
-        self.parcels.pop_front()
+        let parcel = self.parcels.pop_front();
+        if parcel.is_some() {
+            self.handed = Told::and(&self.handed, &[0]);
+        }
+        parcel
     }
 }

@@ -1,11 +1,10 @@
 //! What a session's step leaves for a record.
 
-ghost use Rattle.std.specs.Prelude.{◌≡◌, ◌<◌, ◌≤◌, ◌+◌, ◌++◌, map, option_map};
+ghost use Rattle.std.specs.Prelude.{◌≡◌, ◌-◌, ◌<◌, ◌≤◌, ◌+◌, ◌++◌, map, option_map, vec_capacity, vec_len};
 ghost use Rattle.std.specs.Option.{option_to_list};
 ghost use Rattle.std.specs.VecDeque.{deque_len, deque_capacity};
 ghost use Rattle.m2_record.specs.Calls.{FitsClosed, KeepsEnds, closed_entries, told_parcels};
 
-use m2_bytes::Items;
 use m2_core::Aftermath;
 use m2_dispatcher::Parcel;
 use m2_fabric::End;
@@ -14,12 +13,12 @@ use std::collections::VecDeque;
 
 /// The end of a feed that was left, where there is one, goes to those that were the feed, and its socket
 /// gets its entry.
-pub(crate) fn put_closed<E: End>(closed: Option<E>, journal: &mut EntryList, spent: &mut Items<E>)
+pub(crate) fn put_closed<E: End>(closed: Option<E>, journal: &mut EntryList, spent: &mut Vec<E>)
     requires entries { 0 < journal.old.room }
-    requires ends { FitsClosed (option_map E.seen closed) spent.old.room }
+    requires ends { FitsClosed (option_map E.seen closed) (vec_capacity spent.old - vec_len spent.old) }
     ensures journal { journal.new.items ≡ journal.old.items ++ closed_entries (option_map E.seen closed) }
     ensures spent { map E.seen spent.new.items ≡ map E.seen spent.old.items ++ option_to_list (option_map E.seen closed) }
-    ensures ends { KeepsEnds (option_map E.seen closed) spent.old.room spent.new.room }
+    ensures ends { KeepsEnds (option_map E.seen closed) (vec_capacity spent.old - vec_len spent.old) (vec_capacity spent.new - vec_len spent.new) }
 {
     if let Some(end) = closed {
         journal.push_reserved(Entry::Closed { socket: end.id() });

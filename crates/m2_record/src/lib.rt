@@ -13,13 +13,22 @@
 //! speaks of.
 #![tactic(auto)]
 
+mod composing;
 mod connecting;
+mod due;
 mod ending;
 mod handing;
+mod laws;
 mod leaving;
 mod moving;
+mod news;
 mod parts;
 mod planned;
 mod record;
+mod waits;
 
+pub use composing::Composed;
+pub use due::Due;
+pub use laws::waits_double;
 pub use record::{MOST_STEPS, Record};
+pub use waits::Waits;

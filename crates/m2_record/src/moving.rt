@@ -4,7 +4,7 @@ ghost use Rattle.std.specs.Prelude.{◌≡◌, ◌-◌, ◌<◌, ◌++◌, false
 ghost use Rattle.m2_core.specs.CoreNow.{OnFeedNow, held};
 ghost use Rattle.m2_feed.specs.Calls.{is_empty};
 ghost use Rattle.m2_shared.specs.Place.{IsAlone};
-ghost use Rattle.m2_record.specs.Calls.{Breaks, EndIsBroken, HasRoomFor, IsCounted, Owns, WritesFeedOnce, entries_put, moment_after};
+ghost use Rattle.m2_record.specs.Calls.{Breaks, FeedIsBroken, HasRoomFor, IsCounted, Owns, WritesFeedOnce, entries_put, held_after, moment_after};
 
 use crate::leaving::{put_closed, put_told};
 use crate::record::Record;
@@ -26,20 +26,28 @@ impl<E: End> Record<E> {
         let socket = feed.id();
         let answer = self.core.write();
         note_put(answer, socket, now, &mut self.journal, &mut self.last);
+        self.held = held_after(answer, self.held);
         answer
     }
-    /// Closes the feed, whose end has failed or ended. What is owed then is ready for the dispatcher, and
-    /// what a throttle granted for the feed is given back. Two entries and parcels are reserved.
-    pub fn break_feed(&mut self, throttle: &Throttle, pass: &mut TakePass)
-        requires broken { EndIsBroken self.old }
+    /// Closes the feed: its end has failed or ended, or the bytes that were got on it are a fault. What is
+    /// owed then is ready for the dispatcher, what a throttle granted for the feed is given back, and where
+    /// the phase becomes Wait, a wait begins. Two entries and parcels are reserved.
+    pub fn break_feed(&mut self, throttle: &Throttle, pass: &mut TakePass, now: u64)
+        requires broken { FeedIsBroken self.old }
         requires room { HasRoomFor 2 self.old.room }
         requires pass { pass.old.place ≡ throttle.now.place }
         requires owned { Owns throttle.now.place self.old }
-        ensures breaks { Breaks self.old self.new }
+        ensures breaks { Breaks now self.old self.new }
+        ensures owned { Owns throttle.now.place self.new }
         ensures place { pass.new.place ≡ pass.old.place }
         ensures word { IsAlone throttle.now.place → pass.new.word ≡ pass.old.word - held self.old.core.live.granted }
     {
+        let old = self.core.session().phase;
         let aftermath = self.core.fault(throttle, pass);
+        self.waits = self
+            .waits
+            .stepped(self.core.node(), now, old, self.core.session().phase);
+        self.held = false;
         put_told(
             aftermath.discarded,
             aftermath.remote_reset,
@@ -47,6 +55,20 @@ impl<E: End> Record<E> {
             &mut self.parcels,
         );
         put_closed(aftermath.closed, &mut self.journal, &mut self.spent);
+    }
+}
+
+/// Whether the feed is held after a write that answered so.
+fn held_after(answer: FeedWrite, held: bool) -> bool
+    ensures { result ≡ held_after answer held }
+{
+    match answer {
+        FeedWrite::Put {
+            count: _,
+            acknowledged: _,
+        } => false,
+        FeedWrite::NotYet => true,
+        _ => held,
     }
 }
 

@@ -5,7 +5,6 @@ ghost use Rattle.m2_record.specs.RecordNow.{feed_end};
 ghost use Rattle.std.specs.Option.{option_map, option_to_list};
 
 use crate::record::Record;
-use m2_bytes::Items;
 use m2_fabric::End;
 use m2_journal::{EntryList, NodeFacts, PlanList};
 use m2_session::Session;
@@ -57,17 +56,25 @@ impl<E: End> Record<E> {
     }
 
     /// The ends that were the feed, in order.
-    pub fn spent(&self) -> &Items<E>
-        ensures { map E.seen result.now.items ≡ self.now.spent }
+    pub fn spent(&self) -> &[E]
+        ensures { map E.seen result.now ≡ self.now.spent }
     {
-        &self.spent
+        self.spent.as_slice()
     }
 
     /// The moment before which no connect is due.
     pub fn next_dial(&self) -> u64
-        ensures { result ≡ self.now.next_dial }
+        ensures { result ≡ self.now.waits.next_dial }
     {
-        self.next_dial
+        self.waits.next_dial
+    }
+
+    /// Whether the feed's last write answered that it can't yet, and no step has found since that nothing
+    /// is to be done but that.
+    pub fn held(&self) -> bool
+        ensures { result ≡ self.now.held }
+    {
+        self.held
     }
 
     /// How many connects failed.

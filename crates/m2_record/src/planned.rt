@@ -3,7 +3,8 @@
 ghost use Rattle.std.specs.Prelude.{◌≡◌, ◌+◌, ◌-◌, ◌^◌, ◌<◌, ◌≤◌, true, false, if◌then◌else◌, OnOk, OnErr};
 ghost use Rattle.m2_core.specs.CoreNow.{held};
 ghost use Rattle.m2_shared.specs.Place.{IsAlone};
-ghost use Rattle.m2_record.specs.Calls.{GoesDown, HasRoomFor, IsDialNext, IsPostNext, MayGoDown, Owns, PostsNext, TakesNext, is_down_next, next_step, with_dial};
+ghost use Rattle.m2_record.specs.Calls.{GoesDown, HasRoomFor, IsDialNext, IsPostNext, MayGoDown, Owns, PostsNext, TakesNext, is_down_next, returned_by, with_dial};
+ghost use Rattle.m2_record.specs.Due.{next_step};
 
 use crate::leaving::{put_closed, put_told};
 use crate::record::Record;
@@ -61,6 +62,7 @@ impl<E: End> Record<E> {
     {
         self.journal.push_reserved(Entry::Down { planned });
         let aftermath = self.core.down(throttle, pass);
+        self.held = false;
         self.steps = steps_taken(planned, self.steps);
         put_told(
             aftermath.discarded,
@@ -82,7 +84,9 @@ impl<E: End> Record<E> {
         requires pass { pass.old.place ≡ throttle.now.place }
         requires owned { Owns throttle.now.place self.old }
         ensures taken { TakesNext (next_step self.old) result now self.old self.new }
+        ensures owned { Owns throttle.now.place self.new }
         ensures place { pass.new.place ≡ pass.old.place }
+        ensures word { IsAlone throttle.now.place → pass.new.word ≡ pass.old.word - returned_by (next_step self.old) self.old }
     {
         match self.plan.get(self.steps as usize) {
             Some(PlanStep::Post(_)) => self.take_post(now),

@@ -2,11 +2,13 @@
 
 ghost use Rattle.std.specs.Prelude.{◌≡◌, ◌<◌, ◌≤◌, ◌++◌, ◌∷◌, [], OnOk};
 ghost use Rattle.m2_answers.specs.declared.cookie.TheConstants.{MOST_PLACES};
-ghost use Rattle.m2_record.specs.Calls.{AddsStep, CanBePlanned, HasNoLess, HasRoomFor, IsSameButRoom};
-ghost use Rattle.m2_record.specs.IsRecord.{new_record};
+ghost use Rattle.m2_record.specs.Calls.{AddsStep, HasNoLess, HasRoomFor, IsSameButRoom};
+ghost use Rattle.m2_record.specs.IsRecord.{CanBePlanned, new_record};
+ghost use Rattle.m2_record.specs.Waits.{AreWaits};
 
+use crate::waits::Waits;
 use m2_addr::Addr;
-use m2_bytes::{Items, NoMemory};
+use m2_bytes::{Items, NoMemory, Told};
 use m2_core::Core;
 use m2_dispatcher::Parcel;
 use m2_fabric::End;
@@ -31,13 +33,15 @@ pub struct Record<E: End> {
     pub(crate) journal: EntryList,
     pub(crate) core: Core<E>,
     /// The ends that were the feed, in order.
-    pub(crate) spent: Items<E>,
+    pub(crate) spent: Vec<E>,
     /// What is ready for the dispatcher, in order.
     pub(crate) parcels: VecDeque<Parcel>,
-    /// The moment before which no connect is due.
-    pub(crate) next_dial: u64,
-    /// How long the next wait before a connect is, in milliseconds.
-    pub(crate) wait: u64,
+    /// A mark for each parcel that was handed out: contracts count them, and no code does.
+    pub(crate) handed: Told,
+    pub(crate) waits: Waits,
+    /// The feed's last write answered that it can't yet, and no step has found since that nothing is to
+    /// be done but that.
+    pub(crate) held: bool,
     /// How many connects failed.
     pub(crate) missed: u64,
     /// The moment of the last productive entry.
@@ -45,7 +49,7 @@ pub struct Record<E: End> {
 }
 
 impl<E: End> Model for Record<E> {
-    ghost use Rattle.std.specs.Prelude.{◌-◌, [], map};
+    ghost use Rattle.std.specs.Prelude.{◌-◌, [], length, map, vec_capacity, vec_len};
     ghost use Rattle.std.specs.VecDeque.{deque_len, deque_capacity};
     ghost use Rattle.m2_record.specs.RecordNow.{RecordNow};
     ghost use Rattle.m2_record.specs.IsRecord.{IsRecord};
@@ -61,11 +65,12 @@ impl<E: End> Model for Record<E> {
       core = r.core;
       spent = map E.seen r.spent.items;
       parcels = r.parcels.items;
-      next_dial = r.next_dial;
-      wait = r.wait;
+      handed = length r.handed.bytes;
+      waits = r.waits;
+      held = r.held;
       missed = r.missed;
       last = r.last;
-      room = record { entries = r.journal.room; parcels = deque_capacity r.parcels - deque_len r.parcels; ends = r.spent.room };
+      room = record { entries = r.journal.room; parcels = deque_capacity r.parcels - deque_len r.parcels; ends = vec_capacity r.spent - vec_len r.spent };
     } };
 
     ghost invariant = { λ r. IsRecord (record {
@@ -77,11 +82,12 @@ impl<E: End> Model for Record<E> {
       core = r.core;
       spent = map E.seen r.spent.items;
       parcels = r.parcels.items;
-      next_dial = r.next_dial;
-      wait = r.wait;
+      handed = length r.handed.bytes;
+      waits = r.waits;
+      held = r.held;
       missed = r.missed;
       last = r.last;
-      room = record { entries = r.journal.room; parcels = deque_capacity r.parcels - deque_len r.parcels; ends = r.spent.room };
+      room = record { entries = r.journal.room; parcels = deque_capacity r.parcels - deque_len r.parcels; ends = vec_capacity r.spent - vec_len r.spent };
     }) };
 }
 
@@ -98,18 +104,20 @@ impl<E: End> Record<E> {
     ) -> Record<E>
         requires node { facts.number < MOST_PLACES }
         requires place { place < MOST_PLACES }
+        requires waits { AreWaits facts }
         ensures { result ≡ record (new_record (record { mine = mine; peer = peer; policy = policy; node = facts }) place) { room = result.room } }
     {
         Record {
             place,
-            wait: facts.first_wait,
+            waits: Waits::at_first(&facts),
             plan: Items::empty(alloc),
             steps: 0,
             journal: Items::empty(alloc),
             core: Core::new(alloc, mine, peer, policy, facts),
-            spent: Items::empty(alloc),
+            spent: Vec::new(alloc),
             parcels: VecDeque::new(alloc),
-            next_dial: 0,
+            handed: Told::nothing(),
+            held: false,
             missed: 0,
             last: 0,
         }

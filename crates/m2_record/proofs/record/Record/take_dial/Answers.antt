@@ -1,5 +1,6 @@
 use Rattle.std.proofs.Common.{sym, subst}
-use Rattle.m2_record.specs.Calls.{IsDialNext, next_step}
+use Rattle.m2_record.specs.Calls.{IsDialNext}
+use Rattle.m2_record.specs.Due.{next_step}
 use Rattle.m2_record.specs.RecordNow.{RecordNow}
 use Rattle.m2_record.proofs.Taking.{dial-after}
 use Rattle.m2_record.proofs.record.Record.take_dial.Goals as goal

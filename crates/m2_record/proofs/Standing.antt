@@ -1,0 +1,142 @@
+-- A record whose core goes on while its feed's end stays as it is.
+use Rattle.std.proofs.Common.{◌≡◌, ℕ, ◌+◌, ◌<◌, Bool, true, false, List, [], ◌∷◌, ◌++◌, map, Option, Some, None, refl, sym, ap, subst, ◌∙◌}
+use Rattle.m2_core.specs.Agrees.{Agrees}
+use Rattle.m2_core.specs.CoreNow.{CoreNow, OnFeedNow}
+use Rattle.m2_fabric.specs.declared.socket.SocketId.{SocketId}
+use Rattle.m2_fabric.specs.End.{SeenEnd}
+use Rattle.m2_feed.specs.FeedNow.{FeedNow}
+use Rattle.m2_journal.specs.declared.entry.Entry.{Entry}
+use Rattle.m2_journal.specs.Items.{JournalItem, item_of, passed, reach_of}
+use Rattle.m2_journal.specs.Lawful.{Lawful}
+use Rattle.m2_journal.specs.Plan.{planned}
+use Rattle.m2_journal.specs.Replay.{IsReplay}
+use Rattle.m2_journal.specs.SideFacts.{SideFacts}
+use Rattle.m2_journal.specs.State.{Delivery, State}
+use Rattle.m2_journal.specs.Steps.{after}
+use Rattle.m2_record.specs.Entered.{MovesNothing, StepIsThere}
+use Rattle.m2_record.specs.IsRecord.{AreBehind, FeedHasRoom, FeedIsOpen, FeedIsWhole, FitFrames, IsOpenAmong, IsRecord, IsReplayedTo, IsWellKept, became_feed, closed_by, feeds_in}
+use Rattle.m2_record.specs.RecordNow.{RecordNow, Rooms, delivery_of, feed_end, grounds_of, ids_of, speaks_of}
+use Rattle.m2_record.specs.Sources.{sources_of}
+use Rattle.m2_record.specs.Waits.{IsWithin}
+use Rattle.m2_record.proofs.Entering.{reach-more}
+use Rattle.m2_record.proofs.Keeping.{ground, one-more}
+use Rattle.m2_record.proofs.Kept.{feeds-more}
+use Rattle.m2_record.proofs.Opens.{still-open}
+use Rattle.m2_record.proofs.Telling.{Beside, beside}
+
+-- both have a feed with the same end, or none has
+abbrev pub SameEnd : Option FeedNow → Option FeedNow → Type 0
+SameEnd (Some v) (Some w) = w.end ≡ v.end
+SameEnd None None = Unit {0}
+SameEnd x y = ⊥
+
+pub same-feed_end : (x y : Option FeedNow) → SameEnd x y → feed_end y ≡ feed_end x
+same-feed_end (Some v) (Some w) e = ap (λ (z : SeenEnd). z ∷ []) e
+same-feed_end None None e = refl
+same-feed_end (Some v) None e = absurd e
+same-feed_end None (Some w) e = absurd e
+
+same-open : (spent : List SeenEnd) (journal : List Entry) (x y : Option FeedNow) → SameEnd x y → FeedIsOpen spent journal x → FeedIsOpen spent journal y
+same-open spent journal (Some v) (Some w) e h = subst (λ (x : SeenEnd). IsOpenAmong spent journal x.id) (sym e) h
+same-open spent journal None None e h = tt
+same-open spent journal (Some v) None e h = absurd e
+same-open spent journal None (Some w) e h = absurd e
+
+same-room : (n : ℕ) (x y : Option FeedNow) → SameEnd x y → FeedHasRoom n x → FeedHasRoom n y
+same-room n (Some v) (Some w) e h = h
+same-room n None None e h = tt
+same-room n (Some v) None e h = absurd e
+same-room n None (Some w) e h = absurd e
+
+same-whole : (x y : Option FeedNow) → SameEnd x y → FeedIsWhole x → FeedIsWhole y
+same-whole (Some v) (Some w) e h = ap (λ (x : SeenEnd). x.log.closed) e ∙ h
+same-whole None None e h = tt
+same-whole (Some v) None e h = absurd e
+same-whole None (Some w) e h = absurd e
+
+same-held : (x y : Option FeedNow) → SameEnd x y → OnFeedNow x (λ v. v.end.log.blocked ≡ true) → OnFeedNow y (λ v. v.end.log.blocked ≡ true)
+same-held (Some v) (Some w) e h = ap (λ (x : SeenEnd). x.log.blocked) e ∙ h
+same-held None y e h = absurd h
+same-held (Some v) None e h = absurd e
+
+module _ (r : RecordNow) (c : CoreNow) (facts : c.facts ≡ r.core.facts) (same : SameEnd r.core.live.feed c.live.feed) (room : Rooms) where
+  speaks-too : (journal : List Entry) (t : State) → IsReplay r.core.facts (speaks_of r) journal t →
+      IsReplay c.facts (sources_of (ground (map planned r.plan) (feed_end c.live.feed ++ r.spent) r.trails)) journal t
+  speaks-too journal t p = subst (λ (f : SideFacts). IsReplay f (sources_of (ground (map planned r.plan) (feed_end c.live.feed ++ r.spent) r.trails)) journal t) (sym facts)
+      (subst (λ (l : List SeenEnd). IsReplay r.core.facts (sources_of (ground (map planned r.plan) (l ++ r.spent) r.trails)) journal t) (sym (same-feed_end r.core.live.feed c.live.feed same)) p)
+
+  module _ (s : State) (h : IsReplayedTo s r) (ends : room.ends ≡ r.room.ends) where
+    room-too : FeedHasRoom room.ends c.live.feed
+    room-too = subst (λ n. FeedHasRoom n c.live.feed) (sym ends) (same-room r.room.ends r.core.live.feed c.live.feed same h.room)
+
+    -- no entry is made
+    pub stands : Agrees c s → IsReplayedTo s (record r { core = c; room = room })
+    stands a = record {
+      replay = speaks-too r.journal s h.replay;
+      core = a;
+      steps = h.steps;
+      reach = h.reach;
+      parcels = h.parcels;
+      spent = h.spent;
+      feed = same-open r.spent r.journal r.core.live.feed c.live.feed same h.feed;
+      room = room-too;
+      few = h.few;
+    }
+
+    -- an entry that moves nothing, and is no step of the plan
+    pub enters : (e : Entry) (i : JournalItem) → MovesNothing e → StepIsThere (speaks_of r) r.journal e → closed_by e ≡ None → (passed e (reach_of r.journal)).steps ≡ (reach_of r.journal).steps →
+        item_of (speaks_of r) (reach_of r.journal) e ≡ i → Lawful r.core.facts i s → Agrees c (after r.core.facts i s) → beside (after r.core.facts i s) ≡ beside s →
+        IsReplayedTo (after r.core.facts i s) (record r { core = c; journal = r.journal ++ e ∷ []; room = room })
+    enters e i still step unclosed steps is may a told = record {
+      replay = speaks-too (r.journal ++ e ∷ []) (after r.core.facts i s)
+          (subst (λ (j : JournalItem). IsReplay r.core.facts (speaks_of r) (r.journal ++ e ∷ []) (after r.core.facts j s)) is
+          (one-more r.core.facts (grounds_of r) r.journal e s h.replay still step (subst (λ (j : JournalItem). Lawful r.core.facts j s) (sym is) may)));
+      core = a;
+      steps = h.steps ∙ sym (ap (λ (b : Beside). b.steps) told);
+      reach = ap (λ p. p.steps) (reach-more r.journal e) ∙ steps ∙ h.reach ∙ sym (ap (λ (b : Beside). b.steps) told);
+      parcels = (h.parcels.0, h.parcels.1, ap (λ (b : Beside). b.deliveries) told ∙ h.parcels.2);
+      spent = h.spent;
+      feed = same-open r.spent (r.journal ++ e ∷ []) r.core.live.feed c.live.feed same (still-open r.spent r.journal e r.core.live.feed unclosed h.feed);
+      room = room-too;
+      few = h.few;
+    }
+
+  module _ (k : IsWellKept r) (queue : FitFrames c.live.out.queue) where
+    kept-at : (journal : List Entry) → feeds_in journal ≡ feeds_in r.journal → IsWellKept (record r { core = c; journal = journal; room = room })
+    kept-at journal e = record {
+      ends = ap (λ (l : List SeenEnd). ids_of (r.spent ++ l)) (same-feed_end r.core.live.feed c.live.feed same) ∙ k.ends ∙ sym e;
+      whole = same-whole r.core.live.feed c.live.feed same k.whole;
+      parcels = k.parcels;
+      plan = k.plan;
+      queue = queue;
+      waits = subst (λ (f : SideFacts). IsWithin f.node r.waits) (sym facts) k.waits;
+      held = λ x. same-held r.core.live.feed c.live.feed same (k.held x);
+    }
+
+    pub kept-on : IsWellKept (record r { core = c; room = room })
+    kept-on = kept-at r.journal refl
+
+    pub kept-with : (e : Entry) → became_feed e ≡ None → IsWellKept (record r { core = c; journal = r.journal ++ e ∷ []; room = room })
+    kept-with e h = kept-at (r.journal ++ e ∷ []) (feeds-more r.journal e h)
+
+-- ---- records
+
+pub stands-record : (r : RecordNow) (c : CoreNow) (room : Rooms) → IsRecord r → c.facts ≡ r.core.facts → SameEnd r.core.live.feed c.live.feed → room.ends ≡ r.room.ends → FitFrames c.live.out.queue →
+    ((s : State) → IsReplayedTo s r → Agrees c s) → IsRecord (record r { core = c; room = room })
+stands-record r c room h facts same ends queue a = record {
+  state = h.state;
+  at_state = stands r c facts same room h.state h.at_state ends (a h.state h.at_state);
+  settled = h.settled;
+  kept = kept-on r c facts same room h.kept queue;
+}
+
+pub enters-record : (r : RecordNow) (c : CoreNow) (room : Rooms) (e : Entry) (i : JournalItem) → IsRecord r → c.facts ≡ r.core.facts → SameEnd r.core.live.feed c.live.feed → room.ends ≡ r.room.ends → FitFrames c.live.out.queue →
+    MovesNothing e → StepIsThere (speaks_of r) r.journal e → closed_by e ≡ None → became_feed e ≡ None → (passed e (reach_of r.journal)).steps ≡ (reach_of r.journal).steps →
+    item_of (speaks_of r) (reach_of r.journal) e ≡ i → ((s : State) → Agrees r.core s → Lawful r.core.facts i s) → ((s : State) → Agrees r.core s → Agrees c (after r.core.facts i s)) →
+    ((s : State) → beside (after r.core.facts i s) ≡ beside s) → IsRecord (record r { core = c; journal = r.journal ++ e ∷ []; room = room })
+enters-record r c room e i h facts same ends queue still step unclosed none steps is may leads told = record {
+  state = after r.core.facts i h.state;
+  at_state = enters r c facts same room h.state h.at_state ends e i still step unclosed steps is (may h.state h.at_state.core) (leads h.state h.at_state.core) (told h.state);
+  settled = ap (λ (b : Beside). b.spent) (told h.state) ∙ h.settled;
+  kept = kept-with r c facts same room h.kept queue e none;
+}
