@@ -206,7 +206,19 @@ fn words_of_another_form_are_refused(rt: HostRuntime) -> Result<(), Fail> {
     let alloc = rt.alloc();
     let usage = b"usage: msgr2 sim FILE or run FILE or frames FILE or load N SEED\n";
     let none: [&str; 0] = [];
-    let refused: [&[&str]; 4] = [&none, &["sim", "-x"], &["walk", "f"], &["frames"]];
+    let refused: [&[&str]; 11] = [
+        &none,
+        &["sim"],
+        &["sim", "-x"],
+        &["walk", "f"],
+        &["frames"],
+        &["load", "5"],
+        &["load", "0", "1"],
+        &["load", "01", "1"],
+        &["load", "20001", "1"],
+        &["load", "1", "18446744073709551616"],
+        &["load", "1", "1", "1"],
+    ];
     for words in refused {
         let seen = run_over(alloc, words, &[], &[], &[])?;
         expect(&rt, seen, Status::Usage, b"", usage);
@@ -215,6 +227,44 @@ fn words_of_another_form_are_refused(rt: HostRuntime) -> Result<(), Fail> {
     expect(&rt, dashes, Status::Done, b"", b"");
     let hidden = run_over(alloc, &["--", "sim", "-x"], &[], &[], &[])?;
     expect(&rt, hidden, Status::ReadFault, b"", b"read fault\n");
+    Ok(())
+}
+
+/// Runs the words, which need no file.
+fn run_words(alloc: Global, words: &[&str]) -> Result<Seen, Fail> {
+    run_on(alloc, words, Blob::empty(alloc), &[], &[])
+}
+
+#[test]
+fn a_load_tells_how_many_were_dispatched(rt: HostRuntime) -> Result<(), Fail> {
+    let alloc = rt.alloc();
+    let one = run_words(alloc, &["load", "1", "1"])?;
+    expect(
+        &rt,
+        one,
+        Status::Done,
+        b"posted 1\ndispatched 1\nleft 0\n",
+        b"",
+    );
+    let hundred = run_words(alloc, &["load", "--", "100", "1"])?;
+    expect(
+        &rt,
+        hundred,
+        Status::Done,
+        b"posted 100\ndispatched 100\nleft 0\n",
+        b"",
+    );
+    Ok(())
+}
+
+#[test]
+fn a_load_prints_the_same_again(rt: HostRuntime) -> Result<(), Fail> {
+    let alloc = rt.alloc();
+    let lines = b"posted 2000\ndispatched 2000\nleft 0\n";
+    let first = run_words(alloc, &["load", "2000", "7"])?;
+    expect(&rt, first, Status::Done, lines, b"");
+    let second = run_words(alloc, &["load", "2000", "7"])?;
+    expect(&rt, second, Status::Done, lines, b"");
     Ok(())
 }
 
