@@ -8,3 +8,4 @@ pub mod Numbering
 pub mod Counting
 pub mod Tallies
 pub mod Whole
+pub mod Along

@@ -26,7 +26,7 @@ total-suc f zero (x ∷ is) i h = let same : x ≡ i = cc in subst (λ y. f x + 
 total-suc f (suc n) (x ∷ is) i h =
     let r : total f (take (suc n) is) ≡ total f (take n is) + f i = total-suc f n is i h in omega (arith, r)
 
-total-more : (f : StrandItem → ℕ) (n : ℕ) (is : List StrandItem) (i : StrandItem) → slice_get is n ≡ Some i → total f (take (n + 1) is) ≡ total f (take n is) + f i
+pub total-more : (f : StrandItem → ℕ) (n : ℕ) (is : List StrandItem) (i : StrandItem) → slice_get is n ≡ Some i → total f (take (n + 1) is) ≡ total f (take n is) + f i
 total-more f n is i h = subst (λ m. total f (take m is) ≡ total f (take n is) + f i) (sym (add-one n)) (total-suc f n is i h)
 
 pub get_take : (c i : ℕ) (xs : List ℕ) → i < c → slice_get (take c xs) i ≡ slice_get xs i
@@ -41,7 +41,7 @@ get_drop (suc p) i [] = refl
 get_drop (suc p) i (x ∷ xs) =
     let same : suc (p + i) ≡ suc p + i = omega arith in get_drop p i xs ∙ ap (slice_get (x ∷ xs)) same
 
-in-range : (xs : List ℕ) (k n : ℕ) → n < slice_index xs k → k < length xs
+pub in-range : (xs : List ℕ) (k n : ℕ) → n < slice_index xs k → k < length xs
 in-range [] k n h = omega (arith, h)
 in-range (x ∷ xs) zero n h = omega arith
 in-range (x ∷ xs) (suc k) n h = let r : k < length xs = in-range xs k n h in omega arith
@@ -53,13 +53,13 @@ come-each at k j h (inl e) =
     subst P (sym e) at_k
 come-each at k j h (inr n) = omega (arith, get_or-set_other at k j (slice_index at k + 1) 0 n)
 
-come-most : (at : Cut) (k : ℕ) → k < length at → AtMost at (come k at)
+pub come-most : (at : Cut) (k : ℕ) → k < length at → AtMost at (come k at)
 come-most at k h = record {
   count = sym (length-set at k (slice_index at k + 1));
   each = λ j. come-each at k j h (cases_eq j k);
 }
 
-zero-at : (all : Cut) (k : ℕ) → slice_index (nothing all) k ≡ 0
+pub zero-at : (all : Cut) (k : ℕ) → slice_index (nothing all) k ≡ 0
 zero-at [] k = refl
 zero-at (n ∷ all) zero = refl
 zero-at (n ∷ all) (suc k) = zero-at all k

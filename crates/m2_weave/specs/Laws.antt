@@ -1,12 +1,14 @@
 -- What is promised of the rule by which strands are woven.
-use Rattle.std.specs.Prelude.{◌≡◌, ℕ, ◌+◌, ◌<◌, ◌≤◌, true, List, length, slice_get, slice_index, Option, Some, None}
+use Rattle.std.specs.Prelude.{◌≡◌, ℕ, ◌+◌, ◌<◌, ◌≤◌, true, List, length, slice_get, slice_index, take, Option, Some, None}
 use Rattle.m2_fabric.specs.declared.socket.SocketId.{SocketId}
 use Rattle.m2_merge.specs.Order.{Cut, StaysMet, AreLawful, nothing, reached}
 use Rattle.m2_weave.specs.declared.unfit.Unfit.{Unfit}
 use Rattle.m2_weave.specs.declared.unfit.Why.{Why}
 use Rattle.m2_weave.specs.declared.unfit.Why.TheVariants.{Beyond, Differs}
 use Rattle.m2_weave.specs.declared.strand.StrandItem.{StrandItem}
-use Rattle.m2_weave.specs.Strands.{EndOf, StrandNow, other, end_in, begun_at, place_of}
+use Rattle.m2_weave.specs.declared.strand.StrandItem.TheVariants.{Noted}
+use Rattle.m2_journal.specs.declared.entry.Entry.TheVariants as entry
+use Rattle.m2_weave.specs.Strands.{EndOf, StrandNow, other, end_in, begun_at, handed_at, handed_by, judged_at, judged_by, place_of, total}
 use Rattle.m2_weave.specs.Rule.{Woven, MayCome, byte_at, by_bytes, comes, first_unfit, strand_at}
 use Rattle.m2_merge.specs.Counted.{by_counters, lengths}
 use Rattle.m2_weave.specs.Counting.{AreNamed, counted}
@@ -63,3 +65,17 @@ ReadWasWritten = (w : Woven) (order : List ℕ) → AreLawful (by_bytes w) (size
 pub record CountersDecide : Type 0 where
   pub rule : (names : List SocketId) (w : Woven) → AreNamed names w → (at : Cut) (k : ℕ) → by_counters (counted names w) at k ≡ by_bytes w at k
   pub sizes : (names : List SocketId) (w : Woven) → lengths (counted names w) ≡ sizes w
+
+-- ---- what was judged was handed on, and is answered behind its judgement
+
+-- Of a strand's first items: on no socket are more asks judged than halves have handed on by then; and where it wrote on a
+-- socket, all asks that it had handed on there before are judged by then.
+pub record IsAsked (w : Woven) (at : Cut) (s : StrandNow) (n : ℕ) : Type 0 where
+  pub judged : (k : SocketId) → total (judged_by k) (take n s.items) ≤ handed_at w.strands at k
+  pub answered : (k : SocketId) (m count : ℕ) → m < n → slice_get s.items m ≡ Some (Noted (entry.Wrote k count)) →
+      total (handed_by k) (take m s.items) ≤ judged_at w.strands at k
+
+-- wherever a lawful order leads
+abbrev pub AsksComeFirst : Type 0
+AsksComeFirst = (w : Woven) (order : List ℕ) → AreLawful (by_bytes w) (sizes w) (nothing (sizes w)) order →
+    (j : ℕ) → IsAsked w (reached (sizes w) order) (strand_at w j) (slice_index (reached (sizes w) order) j)

@@ -37,3 +37,9 @@ pub fn all_read_was_written()
 pub fn counters_decide()
     ensures { laws.CountersDecide }
 {}
+
+/// Wherever a lawful order leads, no more asks of a socket are judged than were handed on before, and what
+/// a half wrote came behind the judgement of all that it had handed on.
+pub fn asks_come_first()
+    ensures { laws.AsksComeFirst }
+{}

@@ -21,8 +21,8 @@ mod unfit;
 mod weaving;
 
 pub use laws::{
-    a_stop_is_no_order, all_read_was_written, counters_decide, rule_decides, rule_stays_met,
-    unfit_is_the_first,
+    a_stop_is_no_order, all_read_was_written, asks_come_first, counters_decide, rule_decides,
+    rule_stays_met, unfit_is_the_first,
 };
 pub use strand::{Strand, StrandItem};
 pub use table::{EndBytes, SocketBytes};
