@@ -2,7 +2,7 @@
 use Rattle.std.proofs.Common.{◌≡◌, ℕ, zero, suc, ◌+◌, ◌<◌, ◌≤◌, Bool, true, false, List, [], ◌∷◌, length, take, drop, map, refl, sym, ap, ◌∙◌, subst, arith, add-one, not, ◌*◌}
 use Rattle.std.specs.Prelude.{◌||◌, if◌then◌else◌, slice_get, slice_index, slice_index_or, slice_set}
 use Rattle.std.specs.Option.{is_none}
-use Rattle.std.proofs.lemmas.List.{get_or-set_same, get_or-set_other, length-map}
+use Rattle.std.proofs.lemmas.List.{drop_more, get_or-set_same, get_or-set_other, length-map}
 use Rattle.m2_fabric.specs.declared.socket.SocketId.{SocketId}
 use Rattle.m2_fabric.specs.Sockets.{same_socket, is_among}
 use Rattle.m2_merge.specs.declared.counted.Need.{Need}
@@ -10,8 +10,9 @@ use Rattle.m2_merge.specs.declared.counted.Need.TheVariants.{Nothing, AtLeast, N
 use Rattle.m2_weave.specs.declared.strand.Strand.{Strand}
 use Rattle.m2_weave.specs.declared.strand.StrandItem.{StrandItem}
 use Rattle.m2_weave.specs.declared.table.SocketBytes.{SocketBytes}
-use Rattle.m2_weave.specs.Strands.{EndOf, other, strand_now, read_by, read_by_halves, total}
-use Rattle.m2_weave.specs.Rule.{AreThere, first_unfit}
+use Rattle.m2_weave.specs.Strands.{EndOf, StrandNow, has_opened, other, same_side, strand_now, read_by, read_by_halves, total, written_at, written_by, written_in}
+use Rattle.m2_weave.specs.Rule.{AreThere, Woven, first_unfit}
+use Rattle.m2_weave.specs.Stops.{first_stop, or_else, unfit_next}
 use Rattle.m2_weave.specs.Counting.{place_in, side_number, writes, fit_need, bytes_need}
 use Rattle.m2_weave.specs.Table.{names_of, got_at, put_at, HasRisen, KeepsOpened}
 use Rattle.m2_weave.specs.Tally.{bytes_alone}
@@ -226,3 +227,50 @@ need_least sockets k opener from count place side got put bytes there f same som
     ap (λ n. AtLeast (4 * place + n) (from + length bytes)) at
     ∙ at-least _ _ from bytes (fits-there sockets k opener from count place got put bytes there f same) some
     ∙ found-need sockets k opener from count place got put bytes there f
+
+-- ---- a sum, an item at a time
+
+pub sum_more : (f : StrandItem → ℕ) (n : ℕ) (is : List StrandItem) (d : StrandItem) (new old this : ℕ) → n < length is → new ≡ old + this →
+    this ≡ f (slice_index_or is n d) → old ≡ total f (take n is) → new ≡ total f (take (n + 1) is)
+sum_more f n is d new old this h a b c = omega (arith, a, b, c, total_more f n is d h)
+
+-- ---- what is written at an end
+
+total-if : (b : Bool) (f : StrandItem → ℕ) (is : List StrandItem) → total (λ i. if b then f i else 0) is ≡ (if b then total f is else 0)
+total-if true f [] = refl
+total-if true f (i ∷ is) = ap (λ n. f i + n) (total-if true f is)
+total-if false f [] = refl
+total-if false f (i ∷ is) = omega (arith, total-if false f is)
+
+pub written_so : (e : EndOf) (s : StrandNow) (is : List StrandItem) → total (written_in e s) is ≡ (if same_side (has_opened s e.socket) e.opener then total (written_by e.socket) is else 0)
+written_so e s is = total-if (same_side (has_opened s e.socket) e.opener) (written_by e.socket) is
+
+-- one strand more
+pub written_more : (strands : List Strand) (at : List ℕ) (j : ℕ) (s : Strand) (e : EndOf) (sum new here all : ℕ) → j < length strands → length at ≡ length strands →
+    new ≡ sum + here → here ≡ total (written_in e (strand_now (slice_index_or strands j s))) (take (slice_index at j) (slice_index_or strands j s).items.items) →
+    sum + written_at (map strand_now (drop j strands)) (drop j at) e ≡ all → new + written_at (map strand_now (drop (j + 1) strands)) (drop (j + 1) at) e ≡ all
+written_more strands at j d e sum new here all h n grown here_is before =
+    let s = slice_index_or strands j d in
+    let ns : drop j at ≡ slice_index at j ∷ drop (j + 1) at = drop_more at j 0 (omega (arith, h, n)) in
+    let split : written_at (map strand_now (drop j strands)) (drop j at) e
+    ≡ total (written_in e (strand_now s)) (take (slice_index at j) s.items.items) + written_at (map strand_now (drop (j + 1) strands)) (drop (j + 1) at) e =
+    ap (λ xs. written_at (map strand_now xs) (drop j at) e) (drop_more strands j d h)
+    ∙ ap (λ ms. written_at (map strand_now (s ∷ drop (j + 1) strands)) ms e) ns in
+    omega (arith, split, grown, here_is, before)
+
+pub written_next : (strands : List Strand) (at : List ℕ) (j : ℕ) (s : Strand) (e : EndOf) (sum new here all : ℕ) → j < length strands → length at ≡ length strands →
+    s ≡ slice_index_or strands j s → new ≡ sum + here → here ≡ total (written_in e (strand_now s)) (take (slice_index at j) s.items.items) →
+    sum + written_at (map strand_now (drop j strands)) (drop j at) e ≡ all → new + written_at (map strand_now (drop (j + 1) strands)) (drop (j + 1) at) e ≡ all
+written_next strands at j s e sum new here all h n is grown here_is before =
+    written_more strands at j s e sum new here all h n grown
+    (subst (λ (x : Strand). here ≡ total (written_in e (strand_now x)) (take (slice_index at j) x.items.items)) is here_is) before
+
+-- ---- the first strand that stops
+
+pub stop_next : (w : Woven) (cut : List ℕ) (strands : List Strand) (at : List ℕ) (j : ℕ) (s : Strand) → j < length strands → length at ≡ length strands →
+    s ≡ slice_index_or strands j s → first_stop w cut (map strand_now (drop j strands)) (drop j at)
+    ≡ or_else (unfit_next w cut (strand_now s) (slice_index at j)) (first_stop w cut (map strand_now (drop (j + 1) strands)) (drop (j + 1) at))
+stop_next w cut strands at j s h n is =
+    ap (λ xs. first_stop w cut (map strand_now xs) (drop j at)) (drop_more strands j s h)
+    ∙ ap (λ ms. first_stop w cut (map strand_now (slice_index_or strands j s ∷ drop (j + 1) strands)) ms) (drop_more at j 0 (omega (arith, h, n)))
+    ∙ ap (λ (x : Strand). or_else (unfit_next w cut (strand_now x) (slice_index at j)) (first_stop w cut (map strand_now (drop (j + 1) strands)) (drop (j + 1) at))) (sym is)

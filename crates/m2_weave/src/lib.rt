@@ -5,15 +5,16 @@
 //! read and written. An entry may come once the other end of its socket has written the bytes that it read;
 //! an ask is judged once its half has handed it on; and a half writes once all its asks so far are judged
 //! (`specs/Rule.antt`). What may come may still come later, so by `m2_merge` taking whatever may come finds
-//! an order of all entries exactly where there is one. Where that stops at a read, `specs/Stops.antt` says
-//! which byte is [`Unfit`].
+//! an order of all entries exactly where there is one. Where that stops at a read, [`first_stop`] names the
+//! byte that is [`Unfit`] (`specs/Stops.antt`).
 //!
 //! What it isn't: what follows from such an order. `m2_paired` says that of two journals in an order that
-//! fits. No call names the unfit byte yet.
+//! fits.
 #![tactic(auto)]
 
 mod counts;
 mod laws;
+mod stopping;
 mod strand;
 mod table;
 mod tally;
@@ -24,6 +25,7 @@ pub use laws::{
     a_stop_is_no_order, all_read_was_written, asks_come_first, counters_decide, rule_decides,
     rule_stays_met, unfit_is_the_first,
 };
+pub use stopping::first_stop;
 pub use strand::{Strand, StrandItem};
 pub use table::{EndBytes, SocketBytes};
 pub use unfit::{Unfit, Why};

@@ -1,0 +1,281 @@
+//! Where an order stops: the byte that the other end hasn't written.
+
+ghost use Rattle.std.specs.Prelude.{◌≡◌, ◌+◌, ◌<◌, ◌^◌, length, map, take, nat_lt, if◌then◌else◌, slice_get, IfOk};
+ghost use Rattle.std.specs.List.{list_any};
+ghost use Rattle.m2_weave.specs.Rule.{first_unfit, unfit_read};
+ghost use Rattle.m2_weave.specs.Stops.{first_stop, unfit_next};
+ghost use Rattle.m2_weave.specs.Table.{woven_of};
+ghost use Rattle.m2_weave.specs.Strands.{begun_at, opens, place_of, read_by, read_by_halves, same_side, strand_now, total, written_at, written_by, written_in};
+
+use crate::strand::{Strand, StrandItem};
+use crate::table::{SocketBytes, got_at, piece, place_in, put_at};
+use crate::unfit::{Unfit, Why};
+use m2_bytes::NoMemory;
+use m2_fabric::SocketId;
+use m2_journal::Entry;
+
+/// The sum; a sum above 2^64 - 1 is answered as for want of memory.
+fn plus(a: u64, b: u64) -> Result<u64, NoMemory>
+    ensures { IfOk result (λ n. n ≡ a + b) }
+{
+    if b > u64::MAX - a {
+        return Err(NoMemory);
+    }
+    Ok(a + b)
+}
+
+/// What an item has read on a socket.
+fn read_by(item: StrandItem, k: &SocketId) -> u64
+    ensures { result ≡ read_by k.now item }
+{
+    if let StrandItem::Noted(Entry::Read { socket, count }) = item {
+        if k.is_same(&socket) {
+            return u64::from(count);
+        }
+    }
+    0
+}
+
+/// What an item has written on a socket.
+fn written_by(item: StrandItem, k: &SocketId) -> u64
+    ensures { result ≡ written_by k.now item }
+{
+    if let StrandItem::Noted(Entry::Wrote { socket, count }) = item {
+        if k.is_same(&socket) {
+            return u64::from(count);
+        }
+    }
+    0
+}
+
+/// What these items have read on a socket.
+fn read_on(items: &[StrandItem], k: &SocketId) -> Result<u64, NoMemory>
+    ensures { IfOk result (λ n. n ≡ total (read_by k.now) items.now) }
+{
+    let mut sum = 0;
+    for item in items {
+        sum = plus(sum, read_by(*item, k))?;
+    }
+    Ok(sum)
+}
+
+/// What these items have written on a socket.
+fn written_on(items: &[StrandItem], k: &SocketId) -> Result<u64, NoMemory>
+    ensures { IfOk result (λ n. n ≡ total (written_by k.now) items.now) }
+{
+    let mut sum = 0;
+    for item in items {
+        sum = plus(sum, written_by(*item, k))?;
+    }
+    Ok(sum)
+}
+
+/// Whether an item opened the socket.
+fn opens(item: StrandItem, k: &SocketId) -> bool
+    ensures { result ≡ opens k.now item }
+{
+    if let StrandItem::Noted(Entry::Opened { socket }) = item {
+        return k.is_same(&socket);
+    }
+    false
+}
+
+/// Whether one of these items opened the socket.
+fn has_opened(items: &[StrandItem], k: &SocketId) -> bool
+    ensures { result ≡ list_any (opens k.now) items.now }
+{
+    for item in items {
+        if opens(*item, k) {
+            return true;
+        }
+    }
+    false
+}
+
+/// The first of these bytes, read at an end from a place on, that isn't the one written there so far.
+fn first_unfit(
+    socket: &SocketId,
+    opener: bool,
+    put: &[u8],
+    written: u64,
+    from: u64,
+    bytes: &[u8],
+) -> Option<Unfit>
+    requires { from + length bytes.now < 2 ^ 64 }
+    ensures { result ≡ first_unfit (record { socket = socket.now; opener = opener })
+        (λ place. if nat_lt place written then slice_get put.now place else None) from bytes.now }
+{
+    for i in 0..bytes.len() {
+        let place = from + i as u64;
+        let got = bytes[i];
+        let why = match byte_at(put, written, place) {
+            None => Why::Beyond { got },
+            Some(put) => {
+                if got == put {
+                    continue;
+                }
+                Why::Differs { got, put }
+            }
+        };
+        return Some(Unfit {
+            socket: *socket,
+            opener,
+            place,
+            why,
+        });
+    }
+    None
+}
+
+/// The byte at a place, if it is one of the first so many.
+fn byte_at(put: &[u8], written: u64, place: u64) -> Option<u8>
+    ensures { result ≡ (if nat_lt place written then slice_get put.now place else None) }
+{
+    if place < written {
+        put.get(place as usize).copied()
+    } else {
+        None
+    }
+}
+
+/// What the first so many items of a strand have written at an end.
+fn written_in(s: &Strand, n: usize, k: &SocketId, opener: bool) -> Result<u64, NoMemory>
+    ensures { IfOk result (λ m. m ≡ total (written_in (record { socket = k.now; opener = opener }) (strand_now s.now)) (take n s.now.items.items)) }
+{
+    let items = s.items.as_slice();
+    let is_opener = has_opened(items, k);
+    if is_same_side(is_opener, opener) {
+        let (first, _) = items.split_at(n.min(items.len()));
+        return written_on(first, k);
+    }
+    Ok(0)
+}
+
+/// Whether both are of the opener's side, or neither is.
+fn is_same_side(a: bool, b: bool) -> bool
+    ensures { result ≡ same_side a b }
+{
+    if a { b } else { !b }
+}
+
+/// What the first items of all strands, so many of each, have written at an end.
+fn written_at(strands: &[Strand], at: &[usize], k: &SocketId, opener: bool) -> Result<u64, NoMemory>
+    requires count { length at.now ≡ length strands.now }
+    ensures { IfOk result (λ n. n ≡ written_at (map strand_now strands.now) at.now (record { socket = k.now; opener = opener })) }
+{
+    let mut sum = 0;
+    for j in 0..strands.len() {
+        sum = plus(sum, written_in(&strands[j], at[j], k, opener)?)?;
+    }
+    Ok(sum)
+}
+
+/// What a half has read on a socket; of a journal nothing.
+fn half_read(s: &Strand, k: &SocketId) -> Result<u64, NoMemory>
+    ensures { IfOk result (λ n. n ≡ (if s.now.of_half then total (read_by k.now) s.now.items.items else 0)) }
+{
+    if s.of_half {
+        return read_on(s.items.as_slice(), k);
+    }
+    Ok(0)
+}
+
+/// What halves have read on a socket.
+fn halves_read(strands: &[Strand], k: &SocketId) -> Result<u64, NoMemory>
+    ensures { IfOk result (λ n. n ≡ read_by_halves (map strand_now strands.now) k.now) }
+{
+    let mut sum = 0;
+    for s in strands {
+        sum = plus(sum, half_read(s, k)?)?;
+    }
+    Ok(sum)
+}
+
+/// Where a strand's reads begin on a socket.
+fn begun_at(strands: &[Strand], s: &Strand, k: &SocketId) -> Result<u64, NoMemory>
+    ensures { IfOk result (λ n. n ≡ begun_at (map strand_now strands.now) (strand_now s.now) k.now) }
+{
+    if s.of_half || has_opened(s.items.as_slice(), k) {
+        return Ok(0);
+    }
+    halves_read(strands, k)
+}
+
+/// The place of the next byte that a strand reads on a socket, after so many of its items.
+fn place_of(strands: &[Strand], s: &Strand, n: usize, k: &SocketId) -> Result<u64, NoMemory>
+    ensures { IfOk result (λ m. m ≡ place_of (map strand_now strands.now) (strand_now s.now) n k.now) }
+{
+    let begun = begun_at(strands, s, k)?;
+    let items = s.items.as_slice();
+    let (first, _) = items.split_at(n.min(items.len()));
+    let read = read_on(first, k)?;
+    plus(begun, read)
+}
+
+/// What is wrong with the next item of a strand after so many, if it is a read.
+fn unfit_next(
+    strands: &[Strand],
+    sockets: &[SocketBytes<'_>],
+    at: &[usize],
+    s: &Strand,
+    n: usize,
+) -> Result<Option<Unfit>, NoMemory>
+    requires count { length at.now ≡ length strands.now }
+    ensures { IfOk result (λ u. u ≡ unfit_next (woven_of strands.now sockets.now) at.now (strand_now s.now) n) }
+{
+    match s.items.get(n) {
+        Some(StrandItem::Noted(Entry::Read { socket, count })) => {
+            unfit_read(strands, sockets, at, s, n, socket, *count)
+        }
+        _ => Ok(None),
+    }
+}
+
+/// What is wrong with a read of so many bytes on a socket, behind so many items of a strand.
+fn unfit_read(
+    strands: &[Strand],
+    sockets: &[SocketBytes<'_>],
+    at: &[usize],
+    s: &Strand,
+    n: usize,
+    socket: &SocketId,
+    count: u32,
+) -> Result<Option<Unfit>, NoMemory>
+    requires count { length at.now ≡ length strands.now }
+    ensures { IfOk result (λ u. u ≡ unfit_read (woven_of strands.now sockets.now) at.now (strand_now s.now) n socket.now count) }
+{
+    let opener = has_opened(s.items.as_slice(), socket);
+    let from = place_of(strands, s, n, socket)?;
+    let place = place_in(sockets, socket);
+    if place >= sockets.len() {
+        return Ok(None);
+    }
+    let bytes = piece(
+        got_at(sockets, place, opener),
+        from as usize,
+        count as usize,
+    );
+    let put = put_at(sockets, place, !opener);
+    let written = written_at(strands, at, socket, !opener)?;
+    Ok(first_unfit(socket, opener, put, written, from, bytes))
+}
+
+/// Behind so many items of each strand, as [`weave`](crate::weave) tells them: the byte at which the first
+/// strand stands that stands at a read which may not come; none where each strand that isn't at its end
+/// waits for a judgement, or for an ask to be handed on. It goes through the items once for each such
+/// strand. Counts above 2^64 - 1 are answered as for want of memory.
+pub fn first_stop(
+    strands: &[Strand],
+    sockets: &[SocketBytes<'_>],
+    at: &[usize],
+) -> Result<Option<Unfit>, NoMemory>
+    requires count { length at.now ≡ length strands.now }
+    ensures { IfOk result (λ u. u ≡ first_stop (woven_of strands.now sockets.now) at.now (map strand_now strands.now) at.now) }
+{
+    for j in 0..strands.len() {
+        if let Some(found) = unfit_next(strands, sockets, at, &strands[j], at[j])? {
+            return Ok(Some(found));
+        }
+    }
+    Ok(None)
+}
