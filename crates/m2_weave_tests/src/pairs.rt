@@ -5,7 +5,9 @@ use m2_bytes::NoMemory;
 use m2_fabric::SocketId;
 use m2_journal::Entry;
 use m2_session::Answer;
-use m2_weave::{EndBytes, SocketBytes, Strand, WovenOrder, are_named, weave};
+use m2_weave::{
+    EndBytes, SocketBytes, Strand, Unfit, Why, WovenOrder, are_named, first_stop, weave,
+};
 use std::alloc::Global;
 
 /// The socket of this turn between two nodes.
@@ -113,17 +115,11 @@ fn stops(found: &Option<WovenOrder>, at: &[usize]) -> bool {
     }
 }
 
-/// One side opens a socket, writes its ask in one piece and reads three bytes. The other side's half reads
-/// the ask in two pieces, hands it on behind so many entries and writes one byte; its journal judges the
-/// ask and writes two more. The strands are the opener's journal, the other journal and the half.
-fn pair<'a>(
-    alloc: Global,
-    put: &'a [u8],
-    count: u32,
-    got: &'a [u8],
-    judged_after: &[usize],
-) -> Result<Option<WovenOrder>, NoMemory> {
-    let near = Strand::of_journal(alloc, &[opened(1), wrote(1, count), read(1, 3)])?;
+/// One side has this journal. The other side's half reads an ask in two pieces, hands it on behind so many
+/// entries and writes one byte; its journal judges the ask and writes two more. The strands are the
+/// opener's journal, the other journal and the half.
+fn pair(alloc: Global, near: &[Entry], judged_after: &[usize]) -> Result<Vec<Strand>, NoMemory> {
+    let near = Strand::of_journal(alloc, near)?;
     let far = Strand::of_journal(alloc, &[judged(1), wrote(1, 2)])?;
     let half = Strand::of_half(
         alloc,
@@ -131,38 +127,76 @@ fn pair<'a>(
         &[read(1, 2), read(1, 2), wrote(1, 1)],
         judged_after,
     )?;
-    let strands = Vec::from_array(alloc, [near, far, half])?;
-    woven(
-        alloc,
-        &strands,
-        &[bytes(1, (&[7, 8, 9], put), (got, &[7, 8, 9]))],
-    )
+    Ok(Vec::from_array(alloc, [near, far, half])?)
+}
+
+/// What stops the order behind so many items of each strand, if there are as many strands.
+fn stop(
+    strands: &[Strand],
+    sockets: &[SocketBytes<'_>],
+    at: &[usize],
+) -> Result<Option<Unfit>, NoMemory> {
+    if at.len() != strands.len() {
+        return Ok(None);
+    }
+    first_stop(strands, sockets, at)
+}
+
+/// Whether a read of the acceptor stops the order: the byte at this place is wrong so.
+fn is_at(found: Result<Option<Unfit>, NoMemory>, place: u64, why: Why) -> bool {
+    let at = Unfit {
+        socket: socket(1),
+        opener: false,
+        place,
+        why,
+    };
+    match found {
+        Ok(Some(unfit)) => unfit == at,
+        _ => false,
+    }
 }
 
 #[test]
 fn a_pair_is_woven_in_the_order_of_its_bytes(rt: HostRuntime) -> Result<(), NoMemory> {
-    let found = pair(rt.alloc(), &[1, 2, 3, 4], 4, &[1, 2, 3, 4], &[2])?;
+    let alloc = rt.alloc();
+    let strands = pair(alloc, &[opened(1), wrote(1, 4), read(1, 3)], &[2])?;
+    let sockets = [bytes(1, (&[7, 8, 9], &[1, 2, 3, 4]), (&[1, 2, 3, 4], &[7, 8, 9]))];
+    let found = woven(alloc, &strands, &sockets)?;
     assert!(rt; is_whole(&found, &[0, 0, 2, 2, 2, 1, 2, 1, 0]));
+    assert!(rt; matches!(stop(&strands, &sockets, &[3, 2, 4]), Ok(None)));
     Ok(())
 }
 
 #[test]
 fn a_changed_byte_stops_it_before_its_read(rt: HostRuntime) -> Result<(), NoMemory> {
-    let found = pair(rt.alloc(), &[1, 2, 3, 4], 4, &[1, 2, 9, 4], &[2])?;
+    let alloc = rt.alloc();
+    let strands = pair(alloc, &[opened(1), wrote(1, 4)], &[2])?;
+    let sockets = [bytes(1, (&[7, 8, 9], &[1, 2, 3, 4]), (&[1, 2, 9, 4], &[7, 8, 9]))];
+    let found = woven(alloc, &strands, &sockets)?;
     assert!(rt; stops(&found, &[2, 0, 1]));
+    let found = stop(&strands, &sockets, &[2, 0, 1]);
+    assert!(rt; is_at(found, 2, Why::Differs { got: 9, put: 3 }));
     Ok(())
 }
 
 #[test]
 fn a_byte_that_was_not_written_stops_it_before_its_read(rt: HostRuntime) -> Result<(), NoMemory> {
-    let found = pair(rt.alloc(), &[1, 2, 3], 3, &[1, 2, 3, 4], &[2])?;
+    let alloc = rt.alloc();
+    let strands = pair(alloc, &[opened(1), wrote(1, 3)], &[2])?;
+    let sockets = [bytes(1, (&[7, 8, 9], &[1, 2, 3]), (&[1, 2, 3, 4], &[7, 8, 9]))];
+    let found = woven(alloc, &strands, &sockets)?;
     assert!(rt; stops(&found, &[2, 0, 1]));
+    let found = stop(&strands, &sockets, &[2, 0, 1]);
+    assert!(rt; is_at(found, 3, Why::Beyond { got: 4 }));
     Ok(())
 }
 
 #[test]
 fn a_judgement_without_its_ask_stops_it(rt: HostRuntime) -> Result<(), NoMemory> {
-    let found = pair(rt.alloc(), &[1, 2, 3, 4], 4, &[1, 2, 3, 4], &[])?;
+    let alloc = rt.alloc();
+    let strands = pair(alloc, &[opened(1), wrote(1, 4), read(1, 3)], &[])?;
+    let sockets = [bytes(1, (&[7, 8, 9], &[1, 2, 3, 4]), (&[1, 2, 3, 4], &[7, 8, 9]))];
+    let found = woven(alloc, &strands, &sockets)?;
     assert!(rt; stops(&found, &[2, 0, 3]));
     Ok(())
 }
