@@ -6,6 +6,8 @@
 #![tactic(auto)]
 
 #[cfg(test)]
+mod load;
+#[cfg(test)]
 mod reader;
 #[cfg(test)]
 mod report;

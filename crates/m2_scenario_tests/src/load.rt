@@ -1,0 +1,101 @@
+//! Generated load, against scenarios that a script of the same rule printed.
+//!
+//! The script is an independent one, in another language: it draws with whole numbers modulo 2^64, and prints each line
+//! of the scenario as a file has it. Its lines stand here as it printed them.
+
+ghost use Rattle.std.specs.Prelude.{◌≤◌};
+ghost use Rattle.m2_scenario.specs.declared.limits.TheConstants.{MOST_POSTS};
+
+use m2_generate::generate;
+use m2_scenario::{MOST_POSTS, Scenario};
+use m2_scenario_text::read;
+use std::alloc::Global;
+use std::process::Abort;
+
+/// The nodes and links of each generated scenario.
+const CLUSTER: &[u8] = b"node n0 osd 127.0.0.1:7000/1 fast 1 throttle 65536\n\
+node n1 osd 127.0.0.1:7001/2 fast 1 throttle 65536\n\
+node n2 osd 127.0.0.1:7002/3 fast 1 throttle 65536\n\
+node n3 osd 127.0.0.1:7003/4 fast 1 throttle 65536\n\
+link n0 n1 lossless_peer lossless_peer\n\
+link n0 n2 lossless_peer lossless_peer\n\
+link n0 n3 lossless_peer lossless_peer\n\
+link n1 n2 lossless_peer lossless_peer\n\
+link n1 n3 lossless_peer lossless_peer\n\
+link n2 n3 lossless_peer lossless_peer\n";
+
+/// Of seed 7 two posts, with what stands at the end.
+const TWO_OF_7: &[u8] = b"post n2 n1 2 127 000000000000000000 - -\n\
+post n3 n1 1 255 01010101010101010101010101010101010101010101 - -\n\
+settle 200\n";
+
+/// Of seed 1 sixteen posts, of which the 8th and the 16th are followed by a round, and the 16th by a fault as well.
+const SIXTEEN_OF_1: &[u8] =
+    b"post n2 n3 1 196 0000000000000000000000000000000000000000000000000000 - -\n\
+post n3 n2 1 127 0101010101010101010101010101010101010101010101010101 - -\n\
+post n3 n1 1 64 0202020202020202020202020202020202020202020202020202 - -\n\
+post n0 n2 2 64 030303030303030303030303030303030303030303 - -\n\
+post n3 n1 1 196 0404040404040404040404040404040404040404040404040404040404 - -\n\
+post n0 n1 1 127 - - -\n\
+post n3 n1 1 127 0606060606060606060606060606 - -\n\
+post n2 n3 1 64 0707070707070707070707070707070707070707070707070707070707 - -\n\
+settle 1\n\
+post n3 n1 1 64 08080808080808080808080808 - -\n\
+post n2 n3 2 255 0909 - -\n\
+post n2 n0 1 196 0a0a0a0a0a0a0a0a0a0a0a0a0a0a0a0a0a0a0a0a0a0a0a0a0a0a0a0a0a - -\n\
+post n0 n3 2 255 0b0b0b0b0b0b - -\n\
+post n1 n2 1 127 0c0c0c0c0c0c0c - -\n\
+post n3 n1 1 196 0d0d0d0d0d0d0d - -\n\
+post n2 n3 2 64 0e0e0e0e0e0e0e - -\n\
+post n0 n1 1 255 0f0f0f0f0f - -\n\
+fault n0 n1\n\
+settle 1\n\
+settle 200\n";
+
+/// What is seen of the scenario of the cluster and these lines; none where memory ran out.
+fn text_of_lines(alloc: Global, lines: &[u8]) -> Option<String> {
+    let Ok(mut text) = Vec::from_slice(alloc, CLUSTER) else {
+        return None;
+    };
+    if text.extend_from_slice(lines).is_err() {
+        return None;
+    }
+    let Ok(scenario) = read(alloc, text.as_slice(), false) else {
+        return None;
+    };
+    text_of(alloc, &scenario)
+}
+
+/// Each node, link and line, with all that it has.
+fn text_of(alloc: Global, scenario: &Scenario) -> Option<String> {
+    format!(in alloc; "{scenario:?}").ok()
+}
+
+fn text_of_generated(alloc: Global, posts: u32, seed: u64) -> Option<String>
+    requires least { 1 ≤ posts }
+    requires most { posts ≤ MOST_POSTS }
+{
+    let Ok(scenario) = generate(alloc, posts, seed) else {
+        return None;
+    };
+    text_of(alloc, &scenario)
+}
+
+#[test]
+fn a_seed_gives_the_lines_that_its_draws_choose(rt: HostRuntime) {
+    let two = text_of_lines(rt.alloc(), TWO_OF_7);
+    assert!(rt; two.is_some());
+    assert!(rt; text_of_generated(rt.alloc(), 2, 7) == two);
+    let sixteen = text_of_lines(rt.alloc(), SIXTEEN_OF_1);
+    assert!(rt; sixteen.is_some());
+    assert!(rt; text_of_generated(rt.alloc(), 16, 1) == sixteen);
+}
+
+// 20,000 posts, as many faults as a scenario may have, a round for each 8 posts, and the rounds at the end.
+#[test]
+fn the_greatest_load_is_made(rt: HostRuntime) {
+    let Ok(scenario) = generate(rt.alloc(), MOST_POSTS, u64::MAX) else {
+        rt.abort()
+    };
+    assert_eq!(rt; scenario.lines.len(), 20_000 + 64 + 2_500 + 1);
+}
