@@ -148,6 +148,14 @@ impl<E: End> Core<E> {
         None
     }
 
+    /// Whether a resumption on the feed says something, before any text there: where it acknowledges what
+    /// isn't counted yet, or more than was written.
+    pub fn has_resumption(&self) -> bool
+        ensures { result ≡ is_some (resumption_at self.now) }
+    {
+        self.resumption().is_some()
+    }
+
     /// Does what was heard.
     #[tactic(auto, using(crate::proofs::Nexts::is_fed))]
     fn heed(&mut self, heard: FrameHeard, throttle: &Throttle, pass: &mut TakePass) -> CoreFront<E>

@@ -2,7 +2,7 @@
 use Rattle.std.specs.Prelude.{◌⊎◌}
 use Rattle.std.proofs.Common.{◌≡◌, ℕ, ◌+◌, ◌<◌, ◌&&◌, ◌||◌, not, if◌then◌else◌, Bool, true, false, List, [], ◌∷◌, ◌++◌, map, Option, Some, None, inl, inr, refl, sym, ap, subst, ◌∙◌}
 use Rattle.std.specs.Option.{is_some, option_to_list}
-use Rattle.m2_core.specs.Agrees.{Agrees, FeedsAgree, IsBroken, LeadsOn}
+use Rattle.m2_core.specs.Agrees.{Agrees, FeedsAgree, LeadsOn}
 use Rattle.m2_core.specs.Calls.{after_fault}
 use Rattle.m2_core.specs.CoreNow.{CoreNow, LiveNow, OnFeedNow, is_waiting}
 use Rattle.m2_core.specs.Effects.{IsAftermath, closed_if}
@@ -30,7 +30,7 @@ use Rattle.m2_session.specs.declared.session.Phase.TheVariants.{Absent, Standby,
 use Rattle.m2_session.specs.declared.session.Session.{Session}
 use Rattle.m2_session.specs.Steps as table
 use Rattle.m2_session.specs.Steps.{step_of}
-use Rattle.m2_record.specs.Calls.{KeepsEnds, closed_entries, told_parcels}
+use Rattle.m2_record.specs.Calls.{BytesAreBroken, KeepsEnds, closed_entries, told_parcels}
 use Rattle.m2_record.specs.IsRecord.{IsRecord, IsReplayedTo, IsWellKept, FeedHasRoom, FeedIsOpen, FeedIsWhole, feeds_in}
 use Rattle.m2_record.specs.RecordNow.{RecordNow, Rooms, feed_end, grounds_of, ids_of, speaks_of}
 use Rattle.m2_record.specs.Sources.{broken_of, end_at, is_broken_end, sources_of}
@@ -71,7 +71,7 @@ or-so false b h = h
 
 -- what the end or the bytes on it show
 abbrev Cause : RecordNow → FeedNow → Type 0
-Cause r v = (is_broken_end v.end ≡ true) ⊎ IsBroken r.core
+Cause r v = (is_broken_end v.end ≡ true) ⊎ BytesAreBroken r
 
 on-feed : (r : RecordNow) (s : State) (v : FeedNow) (d : Option Feed) (broken : Bool) → FeedsAgree r.core.facts s (Some v) d → (broken ≡ true) ⊎ OnFeedAt d (λ x. is_broken s x ≡ true) →
     OnFeedAt d (λ x. (same_socket v.end.id x.socket ≡ true) × ((broken || is_broken s x) ≡ true))
@@ -99,7 +99,7 @@ module _ (r : RecordNow) (s : State) (h : IsReplayedTo s r) (v : FeedNow) (was :
 
   shown : Cause r v → (broken_of (end_at (feed_end r.core.live.feed ++ r.spent) v.end.id) ≡ true) ⊎ OnFeedAt s.feed (λ x. is_broken s x ≡ true)
   shown (inl b) = inl (end-at true b)
-  shown (inr b) = inr (b s h.core)
+  shown (inr b) = inr (b s h)
 
   breaks-there : after r.core.facts (item_of (speaks_of r) (reach_of r.journal) (entry.Closed v.end.id)) s ≡ breaks s
   breaks-there = breaking (is_on v.end.id s.feed) v.end.id s (is-on-feed r.core.facts s v s.feed agreed)

@@ -193,7 +193,7 @@ may_ask r e quiet h =
     record {
       phase = is-connecting r.core.live.session.phase row;
       fits = asked-fits (phase.is r.core.live.session.phase Connecting) r.core.live.session.connect row (parts-fit r.core h).1;
-      feed = ask-feed r.core r.core.live.feed quiet (text-of r.core text.Ask e);
+      feed = ask-feed r.core r.core.live.feed (neither _ _ quiet).0 (text-of r.core text.Ask e);
     }
   where
     asked-fits : (b : Bool) (n : ℕ) → b ≡ true → list_any (nat_lt GREATEST_NUMBER) (where_so b n) ≡ false → n ≤ GREATEST_NUMBER

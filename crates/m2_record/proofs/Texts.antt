@@ -1,5 +1,6 @@
 -- A record composes a text: what each of the core's calls leaves of its feed's end, of its queue and of the state.
-use Rattle.std.proofs.Common.{◌≡◌, ℕ, ◌≤◌, Bool, true, false, List, [], ◌∷◌, ◌++◌, length, Option, Some, None, Result, Ok, Err, refl, sym, ap, subst, ◌∙◌}
+use Rattle.std.proofs.Common.{◌≡◌, ℕ, ◌≤◌, Bool, true, false, List, [], ◌∷◌, ◌++◌, length, Option, Some, None, map, Result, Ok, Err, inr, refl, sym, ap, subst, ◌∙◌}
+use Rattle.std.specs.Prelude.{◌⊎◌}
 use Rattle.std.specs.Prelude.{slice_get, nat_lt, if◌then◌else◌}
 use Rattle.std.proofs.lemmas.List.{append-nil}
 use Rattle.std.specs.List.{AllByRecursion}
@@ -7,7 +8,7 @@ use Rattle.m2_bytes.specs.declared.memory.NoMemory as memory
 use Rattle.m2_core.specs.Agrees.{Agrees, LeadsOn, MayCome, Stays}
 use Rattle.m2_core.specs.Asking.{AsksWith, ComposesAsk, HasAsked, LeavesAsk}
 use Rattle.m2_core.specs.Composing.{AnswersFeed, ComposesFeed, HasAcknowledged, HasAnswered}
-use Rattle.m2_core.specs.CoreNow.{CoreNow}
+use Rattle.m2_core.specs.CoreNow.{CoreNow, OnFeedNow}
 use Rattle.m2_core.specs.Numbering.{ChangesRoom, ComposesMessage, FitsFrame, HasNumbered, IsNextSendable, NumbersOn}
 use Rattle.m2_core.specs.Shaken.{GreetsFeed, HasShaken}
 use Rattle.m2_core.specs.declared.asking.CoreAsk.{CoreAsk}
@@ -22,7 +23,11 @@ use Rattle.m2_journal.specs.declared.entry.Entry.TheVariants as entry
 use Rattle.m2_journal.specs.Items as item
 use Rattle.m2_journal.specs.Items.{items_of}
 use Rattle.m2_journal.specs.Laws.{CanBePaid, IfFed}
+use Rattle.m2_fabric.specs.End.{SeenEnd}
+use Rattle.m2_journal.specs.Lawful.{OnFeed, is_broken}
 use Rattle.m2_journal.specs.OutFrames.{OutFrame}
+use Rattle.m2_journal.specs.Plan.{planned}
+use Rattle.m2_journal.specs.Replay.{replay}
 use Rattle.m2_journal.specs.SideFacts.{SideFacts, cookie_of}
 use Rattle.m2_journal.specs.State.{Delivery, Feed, State}
 use Rattle.m2_journal.specs.Steps as journal
@@ -33,11 +38,13 @@ use Rattle.m2_queues.specs.OutQueues.{Outgoing, Queue, after_next, message_at, n
 use Rattle.m2_queues.specs.Laws.{Next}
 use Rattle.m2_session.specs.declared.event.Event.TheVariants as event
 use Rattle.m2_session.specs.declared.session.Session.{Session}
-use Rattle.m2_record.specs.Calls.{asked_entries, numbered_entries}
+use Rattle.m2_record.specs.Calls.{BytesAreBroken, IsFaultOf, asked_entries, numbered_entries}
+use Rattle.m2_record.specs.Sources.{is_broken_end, sources_of}
+use Rattle.m2_record.proofs.Keeping.{ground}
 use Rattle.m2_record.specs.IsRecord.{FitFrames, IsRecord, IsReplayedTo}
 use Rattle.m2_record.specs.RecordNow.{RecordNow, Rooms, speaks_of}
 use Rattle.m2_record.proofs.Kept.{all-get, next-fits, sent-fits}
-use Rattle.m2_record.proofs.Standing.{SameEnd, enters-record, stands-record}
+use Rattle.m2_record.proofs.Standing.{SameEnd, enters-record, same-feed_end, stands-record}
 use Rattle.m2_record.proofs.Telling.{Beside, beside, tells-beside}
 
 abbrev Memory : Type 0
@@ -162,3 +169,35 @@ numbered-after r c journal room answer h ends x j = rw j (numbered r h c room en
 pub asked-after : (r : RecordNow) (c : CoreNow) (journal : List Entry) (room : Rooms) (answer : CoreAsk) → IsRecord r → room.ends ≡ r.room.ends → HasAsked answer r.core c → LeavesAsk answer r.core c →
     journal ≡ r.journal ++ asked_entries answer → IsRecord (record r { core = c; journal = journal; room = room })
 asked-after r c journal room answer h ends x y j = rw j (asked r h c room ends answer x y)
+
+-- ---- a fault of the half, said of the record behind it
+
+-- the record behind leads where the one before does
+same-state : (r : RecordNow) (c : CoreNow) (room : Rooms) (s t : State) → c.facts ≡ r.core.facts → SameEnd r.core.live.feed c.live.feed → IsReplayedTo s r → IsReplayedTo t (record r { core = c; room = room }) → t ≡ s
+same-state r c room s t facts same h k =
+    k.replay.state
+    ∙ ap (λ (l : List SeenEnd). replay c.facts (sources_of (ground (map planned r.plan) (l ++ r.spent) r.trails)) r.journal) (same-feed_end r.core.live.feed c.live.feed same)
+    ∙ ap (λ (f : SideFacts). replay f (speaks_of r) r.journal) facts ∙ sym h.replay.state
+
+on-fed : (o p : Option FeedNow) (A : Type 0) → SameEnd o p → OnFeedNow o (λ v. Unit {0}) → A → OnFeedNow p (λ v. (is_broken_end v.end ≡ true) ⊎ A)
+on-fed (Some v) (Some w) A e h a = inr a
+on-fed (Some v) None A e h a = absurd e
+on-fed None p A e h a = absurd h
+
+has-feed : (answer : HalfStep) (o p : Option FeedNow) → GreetsFeed answer o p → OnFeedNow o (λ v. Unit {0})
+has-feed answer (Some v) p x = tt
+has-feed answer None p x = absurd x
+
+pub fault-then : (r : RecordNow) (c : CoreNow) (room : Rooms) (answer : HalfStep) → IsRecord r → HasShaken answer r.core c → IsFaultOf answer (record r { core = c; room = room })
+fault-then r c room (half.Fault e) h x = on-fed r.core.live.feed c.live.feed (BytesAreBroken (record r { core = c; room = room })) same (has-feed (half.Fault e) r.core.live.feed c.live.feed x.greets)
+    (λ t k. subst (λ (s : State). OnFeed s (λ d. is_broken s d ≡ true)) (sym (same-state r c room h.state t facts same h.at_state k)) (x.broken h.state h.at_state.core))
+  where
+    facts : c.facts ≡ r.core.facts
+    facts = ap (λ (z : CoreNow). z.facts) x.only
+
+    same : SameEnd r.core.live.feed c.live.feed
+    same = same-greeted (half.Fault e) r.core.live.feed c.live.feed x.greets
+fault-then r c room half.NotYet h x = tt
+fault-then r c room half.Wrote h x = tt
+fault-then r c room half.Authed h x = tt
+fault-then r c room half.NoMemory h x = tt

@@ -3,7 +3,6 @@ use Rattle.std.specs.Prelude.{◌≡◌, ◌⊎◌, ℕ, ◌+◌, ◌-◌, ◌^�
 use Rattle.std.specs.List.{AllByRecursion}
 use Rattle.std.specs.Option.{option_to_list}
 use Rattle.m2_bytes.specs.declared.memory.NoMemory as memory
-use Rattle.m2_core.specs.Agrees.{IsBroken}
 use Rattle.m2_core.specs.Asking.{HasAsked, LeavesAsk, LeavesPass}
 use Rattle.m2_core.specs.Calls.{IsOpening, after_dial, after_down, after_fault, after_opened, after_posted, is_exhausted}
 use Rattle.m2_core.specs.CoreNow as core
@@ -32,10 +31,13 @@ use Rattle.m2_feed.specs.FeedNow.{FeedNow}
 use Rattle.m2_feed.specs.declared.answers.FeedWrite.{FeedWrite}
 use Rattle.m2_feed.specs.declared.answers.FeedWrite.TheVariants as put
 use Rattle.m2_handshake.specs.declared.answer.HalfStep.{HalfStep}
+use Rattle.m2_handshake.specs.declared.answer.HalfStep.TheVariants as half
 use Rattle.m2_journal.specs.declared.entry.Entry.{Entry}
 use Rattle.m2_journal.specs.declared.entry.Entry.TheVariants as entry
 use Rattle.m2_journal.specs.declared.facts.PlanStep.{PlanStep}
 use Rattle.m2_journal.specs.declared.facts.PlanStep.TheVariants as step
+use Rattle.m2_journal.specs.Lawful.{OnFeed, is_broken}
+use Rattle.m2_journal.specs.State.{State}
 use Rattle.m2_message.specs.declared.message.Message.{Message}
 use Rattle.m2_message.specs.Message.{content_of}
 use Rattle.m2_session.specs.declared.event.Effects.{Effects}
@@ -47,7 +49,7 @@ use Rattle.m2_record.specs.declared.composing.Composed.{Composed}
 use Rattle.m2_record.specs.declared.composing.Composed.TheVariants as composed
 use Rattle.m2_record.specs.Due.{due_step, next_step, on_feed}
 use Rattle.m2_record.specs.declared.due.Due.TheVariants as due
-use Rattle.m2_record.specs.IsRecord.{CanBePlanned, named_in}
+use Rattle.m2_record.specs.IsRecord.{CanBePlanned, IsReplayedTo, named_in}
 use Rattle.m2_record.specs.Waits.{begun, not_above, stepped}
 use Rattle.m2_record.specs.RecordNow.{RecordNow, Rooms, ends_of, ids_of}
 use Rattle.m2_record.specs.Sources.{is_broken_end}
@@ -296,9 +298,13 @@ all_granted (x ∷ xs) = granted_in x + all_granted xs
 abbrev pub EndIsBroken : RecordNow → Type 0
 EndIsBroken r = core.OnFeedNow r.core.live.feed (λ v. is_broken_end v.end ≡ true)
 
--- or on which the bytes that were got are a fault
+-- the bytes that were got on the feed are a fault, where its journal leads
+abbrev pub BytesAreBroken : RecordNow → Type 0
+BytesAreBroken r = (s : State) → IsReplayedTo s r → OnFeed s (λ d. is_broken s d ≡ true)
+
+-- one of the two
 abbrev pub FeedIsBroken : RecordNow → Type 0
-FeedIsBroken r = core.OnFeedNow r.core.live.feed (λ v. (is_broken_end v.end ≡ true) ⊎ IsBroken r.core)
+FeedIsBroken r = core.OnFeedNow r.core.live.feed (λ v. (is_broken_end v.end ≡ true) ⊎ BytesAreBroken r)
 
 -- The feed is closed for a fault, which leaves what a session's step leaves. Where the phase becomes Wait, a wait begins.
 abbrev pub after_breaking : (now : ℕ) → RecordNow → RecordNow
@@ -345,6 +351,11 @@ AnswersKeepalive answer old new = HasAnswered answer old.core new.core × Change
 
 abbrev pub Shakes : HalfStep → RecordNow → RecordNow → Type 0
 Shakes answer old new = HasShaken answer old.core new.core × ChangesCore old new
+
+-- a fault that the half finds is one of the feed
+abbrev pub IsFaultOf : HalfStep → RecordNow → Type 0
+IsFaultOf (half.Fault e) r = FeedIsBroken r
+IsFaultOf _ r = Unit {0}
 
 abbrev pub composed_ask : CoreAsk → Composed
 composed_ask (ask.Asked by_ident number) = composed.Asked by_ident number

@@ -4,6 +4,7 @@ use Rattle.std.specs.Prelude.{◌≡◌, ℕ, ◌&&◌, ◌||◌, not, Bool, tru
 use Rattle.std.specs.Option.{is_none, is_some}
 use Rattle.m2_core.specs.Calls.{is_exhausted}
 use Rattle.m2_core.specs.CoreNow.{may_dial}
+use Rattle.m2_core.specs.Front.{resumption_at}
 use Rattle.m2_core.specs.ToCompose.{to_compose}
 use Rattle.m2_dispatcher.specs.declared.parcel.Parcel.{Parcel}
 use Rattle.m2_feed.specs.Calls.{is_empty}
@@ -55,9 +56,9 @@ may_connect now r = may_dial r.core && nat_le r.waits.next_dial now
 abbrev pub may_write : RecordNow → Bool
 may_write r = on_feed (λ v. not (is_empty v.composed) && not r.held) r.core.live.feed
 
--- the half or the decoder has an answer to what was read
+-- the half or the decoder has an answer to what was read, or a resumption says what isn't counted yet
 abbrev pub has_frame : RecordNow → Bool
-has_frame r = on_feed (λ v. not (rests v.reading)) r.core.live.feed
+has_frame r = on_feed (λ v. not (rests v.reading)) r.core.live.feed || is_some (resumption_at r.core)
 
 -- nothing is to be composed
 abbrev pub may_read : RecordNow → Bool

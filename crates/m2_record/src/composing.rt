@@ -7,7 +7,7 @@ ghost use Rattle.m2_core.specs.CoreNow.{OnFeedNow};
 ghost use Rattle.m2_core.specs.ToCompose.{to_compose};
 ghost use Rattle.m2_core.specs.declared.to_compose.CoreText.TheVariants as text;
 ghost use Rattle.m2_feed.specs.FeedNow.{is_framing};
-ghost use Rattle.m2_record.specs.Calls.{Acknowledges, AnswersKeepalive, Asks, ComposesAs, DrawsAs, NumbersNext, Shakes, asked_entries, composed_ask, composed_if, numbered_entries};
+ghost use Rattle.m2_record.specs.Calls.{Acknowledges, AnswersKeepalive, Asks, ComposesAs, DrawsAs, IsFaultOf, NumbersNext, Shakes, asked_entries, composed_ask, composed_if, numbered_entries};
 ghost use Rattle.m2_record.specs.declared.due.Due.TheVariants as due;
 ghost use Rattle.m2_record.specs.Due.{due_step, has_frame};
 
@@ -120,7 +120,8 @@ impl<E: End> Record<E> {
     /// finds is one of the feed.
     pub(crate) fn shake(&mut self) -> HalfStep
         requires { OnFeedNow self.old.core.live.feed (λ v. is_framing v.reading ≡ false) }
-        ensures { Shakes result self.old self.new }
+        ensures shakes { Shakes result self.old self.new }
+        ensures fault { IsFaultOf result self.new }
     {
         self.core.shake()
     }

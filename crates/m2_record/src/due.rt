@@ -23,7 +23,8 @@ pub enum Due {
     Connect { at: u64 },
     /// Bytes are composed.
     Write,
-    /// What was read has an answer: of the opener's half, or a frame.
+    /// What was read has an answer: of the opener's half, or a frame; or a resumption acknowledges what
+    /// isn't counted yet.
     Frame,
     /// The feed is to be read.
     Read,
@@ -75,7 +76,7 @@ impl<E: End> Record<E> {
         if feed.has_composed() && !self.held {
             return Due::Write;
         }
-        if !rests(feed) {
+        if !rests(feed) || self.core.has_resumption() {
             return Due::Frame;
         }
         match self.core.to_compose() {

@@ -6,11 +6,11 @@
 //! record by its journal and its logs alone. What it isn't: a thread, a port or a clock. It takes the
 //! moment, the numbers and the grants as its caller hands them in, and opens no socket.
 //!
-//! What it doesn't have yet: the judging of asks, reading, and the frames that are read and composed; so no
+//! What it doesn't have yet: the judging of asks, reading, and what the frames that are read lead to; so no
 //! call takes the first step that is due.
 //!
-//! `specs/RecordNow.antt` says what contracts see of a record, `specs/Sources.antt` what its journal
-//! speaks of.
+//! `specs/Due.antt` has the table of due steps. `specs/RecordNow.antt` says what contracts see of a record,
+//! `specs/Sources.antt` what its journal speaks of.
 #![tactic(auto)]
 
 mod composing;
