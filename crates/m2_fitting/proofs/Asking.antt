@@ -10,7 +10,6 @@ use Rattle.m2_message.specs.Message.{Content}
 use Rattle.m2_queues.specs.OutQueues.{message_at}
 use Rattle.m2_queues.specs.Laws.{Next}
 use Rattle.m2_session.specs.declared.answer.Answer.{Answer}
-use Rattle.m2_session.specs.declared.event.Event.{Event}
 use Rattle.m2_session.specs.declared.event.Event.TheVariants as event
 use Rattle.m2_session.specs.declared.session.Phase.TheVariants as phase
 use Rattle.m2_session.specs.Laws.{takes}
@@ -36,7 +35,7 @@ use Rattle.m2_fitting.proofs.Entries.{acceptance_named, posts_less, heeds_less, 
 use Rattle.m2_fitting.proofs.Hands.{ready_apart}
 use Rattle.m2_fitting.proofs.Hears.{NoAskBehind}
 use Rattle.m2_fitting.proofs.Judges.{replies_no_asks, judged_here}
-use Rattle.m2_fitting.proofs.Less.{Less, FeedLess, untouched, less_trans, less_top, tells_less, tells_if_less}
+use Rattle.m2_fitting.proofs.Less.{Less, FeedLess, less_top, tells_less, tells_if_less}
 use Rattle.m2_fitting.proofs.Lists.{none_not_some}
 use Rattle.m2_fitting.proofs.Says.{NoAsk}
 

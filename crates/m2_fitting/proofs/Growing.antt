@@ -1,5 +1,5 @@
 -- What was opened and sent goes on as it was, and each socket that is opened leads to the peer.
-use Rattle.std.proofs.Common.{◌≡◌, ℕ, Bool, true, false, if◌then◌else◌, List, [], ◌∷◌, ◌++◌, map, Option, Some, None, refl, sym, ap, ◌∙◌, subst, append_assoc, append-nil}
+use Rattle.std.proofs.Common.{◌≡◌, ℕ, Bool, true, false, if◌then◌else◌, List, [], ◌∷◌, ◌++◌, map, Option, Some, None, refl, sym, ap, ◌∙◌, subst, append-nil}
 use Rattle.std.specs.List.{AllByRecursion}
 use Rattle.m2_fabric.specs.declared.socket.SocketId.{SocketId}
 use Rattle.m2_fabric.specs.Sockets.{goes_to}
@@ -19,7 +19,7 @@ use Rattle.m2_journal.specs.State.{PartText, Feed, SentFrame, State}
 use Rattle.m2_journal.specs.Steps.{acceptance, accepts, after, breaks, composes, event_heard, event_of, forgets, is_on, is_waiting, notes, puts_on, queues, sends, takes_answer, takes_socket, tells, tells_if, with_feed, writes_message}
 use Rattle.m2_paired.specs.Laws.{IsNoDown}
 use Rattle.m2_fitting.proofs.Entries.{posts_less, heeds_less, accepts_less}
-use Rattle.m2_fitting.proofs.Less.{Less, untouched, less_trans, less_top, tells_less, tells_if_less}
+use Rattle.m2_fitting.proofs.Less.{Less, untouched, less_top, tells_less, tells_if_less}
 
 abbrev pub Leads : SideFacts → SocketId → Type 0
 Leads f k = goes_to f.peer k ≡ true

@@ -2,6 +2,7 @@ pub mod Lists
 pub mod Fronts
 pub mod Sent
 pub mod Says
+pub mod Formats
 pub mod Openers
 pub mod Acceptors
 pub mod Speaking
@@ -14,6 +15,8 @@ pub mod Moves
 pub mod Judges
 pub mod Hands
 pub mod Entries
+pub mod Bounded
+pub mod Composed
 pub mod Growing
 pub mod Points
 pub mod Hears

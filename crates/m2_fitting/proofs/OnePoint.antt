@@ -1,7 +1,6 @@
 -- A point at which bytes fit: one side has opened a socket, its ask was accepted, and it has read the answer.
-use Rattle.std.specs.Prelude.{◌≡◌, ℕ, ◌<◌, ◌^◌, Bool, true, false, if◌then◌else◌, List, [], ◌∷◌, ◌++◌, take, drop, map, None, refl}
+use Rattle.std.specs.Prelude.{◌≡◌, ℕ, ◌^◌, Bool, true, false, if◌then◌else◌, List, [], ◌∷◌, ◌++◌, take, drop, map, None, refl}
 use Rattle.std.proofs.Common.{sym, ap, ◌∙◌, subst, append-nil}
-use Rattle.std.proofs.lemmas.Grind.{flat_map-append}
 use Rattle.std.proofs.lemmas.List.{take-append-drop}
 use Rattle.std.specs.List.{AllByRecursion}
 use Rattle.std.proofs.lemmas.Bool.{ltb-true}
@@ -36,7 +35,7 @@ use Rattle.m2_paired.proofs.Sockets.{differ, same_equal}
 use Rattle.m2_trail.specs.Asks.{facts_of_ask}
 use Rattle.m2_trail.specs.Replies.{all_replies}
 use Rattle.m2_trail.specs.Trails.{ComesToAsk, ComesToWrite}
-use Rattle.m2_fitting.specs.Ends.{HalfBytes, Side, state_of, judged_at, read_on, wrote_in, wrote_on, takings_on, got_at, put_at}
+use Rattle.m2_fitting.specs.Ends.{HalfBytes, Side, state_of, judged_at, read_on, wrote_on, takings_on, got_at, put_at}
 use Rattle.m2_fitting.specs.Halves.{HalfName, begins, IsTaken, HalfFits, BytesFit}
 use Rattle.m2_fitting.specs.Orders.{BytesCanFit}
 use Rattle.m2_fitting.proofs.Lists.{not_nil}

@@ -9,10 +9,10 @@ use Rattle.m2_journal.specs.Lawful.{Lawful}
 use Rattle.m2_journal.specs.Laws.{IfFed}
 use Rattle.m2_journal.specs.Replay.{AreLawful, after_items}
 use Rattle.m2_journal.specs.SideFacts.{SideFacts}
-use Rattle.m2_journal.specs.State.{Feed, SentFrame, State, start}
+use Rattle.m2_journal.specs.State.{Feed, State, start}
 use Rattle.m2_journal.specs.Steps.{after}
 use Rattle.m2_journal.proofs.Growing.{after-append}
-use Rattle.m2_paired.specs.Fits.{Fits}
+use Rattle.m2_paired.specs.Fits.{Fits, HearsAt}
 use Rattle.m2_paired.specs.Laws.{IsNoDown}
 use Rattle.m2_paired.specs.Orders.{SideItem, near_item, far_item, near_items, far_items, near_after, far_after, FitThroughout, IsHistory, AreNodes, LeadsTo, HistoriesAreRuns, LosslessIsNeverReset}
 use Rattle.m2_paired.specs.Paired.{FeedIsPaired, beside, Paired}
@@ -20,7 +20,9 @@ use Rattle.m2_paired.proofs.Sockets.{differ, at_among}
 use Rattle.m2_fitting.specs.Ends.{Side, state_of}
 use Rattle.m2_fitting.specs.Orders.{OrderEntry, near_entry, far_entry, near_half, far_half, entry_in, entries_of, near_side, far_side, IsByteHistory, BytesGiveFits, LosslessBytesAreNeverReset}
 use Rattle.m2_fitting.proofs.Asking.{near_behind, far_behind}
-use Rattle.m2_fitting.specs.Texts.{CanBeSent, CanAllBeSent}
+use Rattle.m2_fitting.specs.Texts.{CanBePosted}
+use Rattle.m2_fitting.proofs.Bounded.{IsUnasked}
+use Rattle.m2_fitting.proofs.Composed.{AreComposed, FeedIsKnown, Holds, IsNode, can_be_sent, entry_holds, entry_sent, starts_holding, unasked_so}
 use Rattle.m2_fitting.proofs.Entries.{FeedSo, entry_keeps}
 use Rattle.m2_fitting.proofs.Growing.{Leads, entry_grows}
 use Rattle.m2_fitting.proofs.Hands.{HandKept, hand_keeps}
@@ -54,23 +56,7 @@ fits-append f g (far_item i ∷ xs) ys a b h k = (h.0, fits-append f g xs ys a (
 entries-append : (xs ys : List OrderEntry) → entries_of (xs ++ ys) ≡ entries_of xs ++ entries_of ys
 entries-append xs ys = flat_map-append entry_in xs ys
 
--- ---- what was sent and opened
-
-sent_on : (f : SideFacts) (is : List JournalItem) (s : State) → AreLawful f is s → AllByRecursion IsNoDown is → (more : List SentFrame) × ((after_items f is s).sent ≡ s.sent ++ more)
-sent_on f [] s l up = ([], sym (append-nil s.sent))
-sent_on f (i ∷ is) s l up =
-    let one = entry_grows f i s up.0 l.0 in
-    let more = sent_on f is (after f i s) l.1 up.1 in
-    (one.more_sent ++ more.0, more.1 ∙ ap (λ l. l ++ more.0) one.sent ∙ append_assoc s.sent one.more_sent more.0)
-
--- so what was sent by the first entries can be read, where all can
-sent_before : (f : SideFacts) (is js : List JournalItem) → AreLawful f (is ++ js) (start f) → AllByRecursion IsNoDown (is ++ js) →
-    CanAllBeSent f (after_items f (is ++ js) (start f)).sent → CanAllBeSent f (after_items f is (start f)).sent
-sent_before f is js l up h =
-    let parts = lawful-front f is js (start f) l in
-    let more = sent_on f js (after_items f is (start f)) parts.1 (all-back IsNoDown is js up) in
-    all-front (λ x. CanBeSent f x.frame) (after_items f is (start f)).sent more.0
-    (subst (CanAllBeSent f) (ap (λ s. s.sent) (after-append f is js (start f)) ∙ more.1) h)
+-- ---- what was opened
 
 leads_on : (f : SideFacts) (i : JournalItem) (s : State) → IsNoDown i → Lawful f i s → AllByRecursion (Leads f) s.opened → AllByRecursion (Leads f) (after f i s).opened
 leads_on f i s up l h =
@@ -97,6 +83,8 @@ record IsKept (f g : SideFacts) (xs : List SideItem) : Type 0 where
   far_hand : HandKept (far_after g xs)
   near_behind : NoAskBehind (near_after f xs) (far_after g xs)
   far_behind : NoAskBehind (far_after g xs) (near_after f xs)
+  near_holds : Holds f (near_after f xs)
+  far_holds : Holds g (far_after g xs)
 
 nothing_kept : (f : SideFacts) → AllKept f [] (start f)
 nothing_kept f k = record { read = refl; wrote = refl; feed = refl; frames = refl }
@@ -112,6 +100,8 @@ at_start f g = record {
   far_hand = tt;
   near_behind = tt;
   far_behind = tt;
+  near_holds = starts_holding f;
+  far_holds = starts_holding g;
 }
 
 feed_so : (a b : State) → IfFed a.feed (FeedIsPaired (beside a b)) → IfFed a.feed (FeedSo a)
@@ -120,6 +110,14 @@ feed_so a b h = at a.feed h
     at : (o : Option Feed) → IfFed o (FeedIsPaired (beside a b)) → IfFed o (FeedSo a)
     at None g = tt
     at (Some d) g = record { asks_alone = g.asks_alone; taken = g.taken }
+
+-- what is known of a side's feed
+feed_known : (a b : State) → HearsAt a.feed b.sent → IfFed a.feed (FeedIsPaired (beside a b)) → IfFed a.feed (FeedIsKnown a)
+feed_known a b heard h = at a.feed heard (unasked_so a.feed b.sent heard) h
+  where
+    at : (o : Option Feed) → HearsAt o b.sent → IfFed o IsUnasked → IfFed o (FeedIsPaired (beside a b)) → IfFed o (FeedIsKnown a)
+    at None heard u g = tt
+    at (Some d) heard u g = record { written = g.texts; unasked = u }
 
 paired_turn : (a b : State) → Paired a b → Paired b a
 paired_turn a b paired = record { near = paired.far; far = paired.near }
@@ -135,31 +133,31 @@ fits_so a b h near far = record {
 }
 
 module _ (runs : HistoriesAreRuns) (f g : SideFacts) (order : List OrderEntry) (nodes : AreNodes f g) (h : IsByteHistory f g order) where
+  near_node : IsNode f
+  near_node = record { ranges = h.near_named; keeps = nodes.near_keeps; salt = nodes.near_salt }
+
+  far_node : IsNode g
+  far_node = record { ranges = h.far_named; keeps = nodes.far_keeps; salt = nodes.far_salt }
+
   known : (front back : List OrderEntry) → order ≡ front ++ back → AllKept f (near_items (entries_of front)) (near_after f (entries_of front)) → AllKept g (far_items (entries_of front)) (far_after g (entries_of front)) →
-      AllByRecursion (Leads f) (near_after f (entries_of front)).opened → AllByRecursion (Leads g) (far_after g (entries_of front)).opened → Known (near_side f front) (far_side g front)
-  known front back e near far near_leads far_leads = record {
+      AllByRecursion (Leads f) (near_after f (entries_of front)).opened → AllByRecursion (Leads g) (far_after g (entries_of front)).opened →
+      AreComposed f (near_after f (entries_of front)).sent → AreComposed g (far_after g (entries_of front)).sent → Known (near_side f front) (far_side g front)
+  known front back e near far near_leads far_leads near_sent far_sent = record {
     near_kept = near;
     far_kept = far;
     bytes = h.bytes front back e;
     apart = opened_apart f g (near_after f (entries_of front)).opened (far_after g (entries_of front)).opened h.peers near_leads far_leads;
-    near_sent = sent_before f (near_items (entries_of front)) (near_items (entries_of back)) (subst (λ is. AreLawful f is (start f)) near_all h.near_lawful) (subst (AllByRecursion IsNoDown) near_all h.near_not_down)
-        (subst (λ is. CanAllBeSent f (after_items f is (start f)).sent) near_all h.readable.near);
-    far_sent = sent_before g (far_items (entries_of front)) (far_items (entries_of back)) (subst (λ is. AreLawful g is (start g)) far_all h.far_lawful) (subst (AllByRecursion IsNoDown) far_all h.far_not_down)
-        (subst (λ is. CanAllBeSent g (after_items g is (start g)).sent) far_all h.readable.far);
+    near_sent = can_be_sent f (near_after f (entries_of front)).sent near_sent;
+    far_sent = can_be_sent g (far_after g (entries_of front)).sent far_sent;
     near_named = h.near_named;
     far_named = h.far_named;
   }
-    where
-      near_all : near_items (entries_of order) ≡ near_items (entries_of front) ++ near_items (entries_of back)
-      near_all = ap (λ l. near_items (entries_of l)) e ∙ ap near_items (entries-append front back) ∙ near-append (entries_of front) (entries_of back)
-
-      far_all : far_items (entries_of order) ≡ far_items (entries_of front) ++ far_items (entries_of back)
-      far_all = ap (λ l. far_items (entries_of l)) e ∙ ap far_items (entries-append front back) ∙ far-append (entries_of front) (entries_of back)
 
   near_step : (front back : List OrderEntry) (i : JournalItem) → order ≡ (front ++ near_entry i ∷ []) ++ back → IsKept f g (entries_of front) → IsKept f g (entries_of (front ++ near_entry i ∷ []))
   near_step front back i e old =
       let known_now = known now back e (subst₂ (λ is s. AllKept f is s) (sym near_list) (sym near_state) near_kept) (subst₂ (λ is s. AllKept g is s) (sym far_list) (sym far_state) old.far)
-      (subst (λ s. AllByRecursion (Leads f) s.opened) (sym near_state) leads_now) (subst (λ s. AllByRecursion (Leads g) s.opened) (sym far_state) old.far_leads) in
+      (subst (λ s. AllByRecursion (Leads f) s.opened) (sym near_state) leads_now) (subst (λ s. AllByRecursion (Leads g) s.opened) (sym far_state) old.far_leads)
+      (subst (λ s. AreComposed f s.sent) (sym near_state) sent_now) (subst (λ s. AreComposed g s.sent) (sym far_state) old.far_holds.sent) in
       let fits = subst₂ Fits near_state far_state
       (fits_so (near_side f now) (far_side g now) known_now
       (subst₂ NoAskBehind (sym near_state) (sym far_state) near_now)
@@ -180,6 +178,9 @@ module _ (runs : HistoriesAreRuns) (f g : SideFacts) (order : List OrderEntry) (
         far_hand = subst HandKept (sym state_far) old.far_hand;
         near_behind = subst₂ NoAskBehind (sym state_near) (sym state_far) near_now;
         far_behind = subst₂ NoAskBehind (sym state_far) (sym state_near) far_now;
+        near_holds = subst (Holds f) (sym state_near)
+            (entry_holds f g i a b.opened b.sent near_node up posted lawful feed old.far_holds.sent leads.fits.near_hears fits.near_hears fits.near_judges old.near_holds);
+        far_holds = subst (Holds g) (sym state_far) old.far_holds;
       })
     where
       subst₂ : {X Y : Type 0} (P : X → Y → Type 0) {x x' : X} {y y' : Y} → x ≡ x' → y ≡ y' → P x y → P x' y'
@@ -238,8 +239,17 @@ module _ (runs : HistoriesAreRuns) (f g : SideFacts) (order : List OrderEntry) (
       up : IsNoDown i
       up = (all-back IsNoDown (near_items xs) (i ∷ []) (all-front IsNoDown (near_items xs ++ i ∷ []) (near_items (entries_of back)) (subst (AllByRecursion IsNoDown) whole h.near_not_down))).0
 
+      posted : CanBePosted i
+      posted = (all-back CanBePosted (near_items xs) (i ∷ []) (all-front CanBePosted (near_items xs ++ i ∷ []) (near_items (entries_of back)) (subst (AllByRecursion CanBePosted) whole h.near_posts))).0
+
       leads : LeadsTo f g xs
       leads = runs f g xs nodes.near_keeps nodes.far_keeps old.history
+
+      feed : IfFed a.feed (FeedIsKnown a)
+      feed = feed_known a b leads.fits.near_hears leads.paired.near.feed
+
+      sent_now : AreComposed f (after f i a).sent
+      sent_now = entry_sent f i a near_node up lawful feed old.near_holds
 
       leads_now : AllByRecursion (Leads f) (after f i a).opened
       leads_now = leads_on f i a up lawful old.near_leads
@@ -256,7 +266,8 @@ module _ (runs : HistoriesAreRuns) (f g : SideFacts) (order : List OrderEntry) (
   far_step : (front back : List OrderEntry) (i : JournalItem) → order ≡ (front ++ far_entry i ∷ []) ++ back → IsKept f g (entries_of front) → IsKept f g (entries_of (front ++ far_entry i ∷ []))
   far_step front back i e old =
       let known_now = known now back e (subst₂ (λ is s. AllKept f is s) (sym near_list) (sym near_state) old.near) (subst₂ (λ is s. AllKept g is s) (sym far_list) (sym far_state) far_kept)
-      (subst (λ s. AllByRecursion (Leads f) s.opened) (sym near_state) old.near_leads) (subst (λ s. AllByRecursion (Leads g) s.opened) (sym far_state) leads_now) in
+      (subst (λ s. AllByRecursion (Leads f) s.opened) (sym near_state) old.near_leads) (subst (λ s. AllByRecursion (Leads g) s.opened) (sym far_state) leads_now)
+      (subst (λ s. AreComposed f s.sent) (sym near_state) old.near_holds.sent) (subst (λ s. AreComposed g s.sent) (sym far_state) sent_now) in
       let fits = subst₂ Fits near_state far_state
       (fits_so (near_side f now) (far_side g now) known_now
       (subst₂ NoAskBehind (sym near_state) (sym far_state) near_now)
@@ -277,6 +288,9 @@ module _ (runs : HistoriesAreRuns) (f g : SideFacts) (order : List OrderEntry) (
         far_hand = subst HandKept (sym state_far) (hand_keeps g i b up lawful old.far_hand);
         near_behind = subst₂ NoAskBehind (sym state_near) (sym state_far) near_now;
         far_behind = subst₂ NoAskBehind (sym state_far) (sym state_near) far_now;
+        near_holds = subst (Holds f) (sym state_near) old.near_holds;
+        far_holds = subst (Holds g) (sym state_far)
+            (entry_holds g f i b a.opened a.sent far_node up posted lawful feed old.near_holds.sent leads.fits.far_hears fits.far_hears fits.far_judges old.far_holds);
       })
     where
       subst₂ : {X Y : Type 0} (P : X → Y → Type 0) {x x' : X} {y y' : Y} → x ≡ x' → y ≡ y' → P x y → P x' y'
@@ -335,8 +349,17 @@ module _ (runs : HistoriesAreRuns) (f g : SideFacts) (order : List OrderEntry) (
       up : IsNoDown i
       up = (all-back IsNoDown (far_items xs) (i ∷ []) (all-front IsNoDown (far_items xs ++ i ∷ []) (far_items (entries_of back)) (subst (AllByRecursion IsNoDown) whole h.far_not_down))).0
 
+      posted : CanBePosted i
+      posted = (all-back CanBePosted (far_items xs) (i ∷ []) (all-front CanBePosted (far_items xs ++ i ∷ []) (far_items (entries_of back)) (subst (AllByRecursion CanBePosted) whole h.far_posts))).0
+
       leads : LeadsTo f g xs
       leads = runs f g xs nodes.near_keeps nodes.far_keeps old.history
+
+      feed : IfFed b.feed (FeedIsKnown b)
+      feed = feed_known b a leads.fits.far_hears leads.paired.far.feed
+
+      sent_now : AreComposed g (after g i b).sent
+      sent_now = entry_sent g i b far_node up lawful feed old.far_holds
 
       leads_now : AllByRecursion (Leads g) (after g i b).opened
       leads_now = leads_on g i b up lawful old.far_leads

@@ -1,9 +1,16 @@
 -- A frame that keeps the bounds of its format is read as what was sent.
 use Rattle.std.proofs.Common.{◌≡◌, ℕ, zero, suc, Bool, true, false, if◌then◌else◌, List, [], ◌∷◌, ◌++◌, length, take, map, refl, sym, ap, ◌∙◌, subst}
-use Rattle.std.specs.Prelude.{◌==◌}
+use Rattle.std.specs.Prelude.{◌<◌, ◌≤◌, ◌^◌, ◌==◌, nat_le, Err}
+use Rattle.std.specs.Int.{w64, to_le_bytes}
+use Rattle.std.proofs.lemmas.Bool.{leb-true, leb-false}
+use Rattle.std.proofs.lemmas.Nat.{from_le_bytes-to_le_bytes_8}
 use Rattle.std.specs.List.{AllByRecursion, flat_map}
 use Rattle.m2_control.specs.declared.control.Control.TheVariants as control
+use Rattle.m2_control.specs.declared.fault.ControlFault.TheVariants.{BadValue}
+use Rattle.m2_control.specs.declared.fields.TheConstants.{GREATEST_NUMBER}
+use Rattle.m2_control.specs.Control as payload
 use Rattle.m2_control.specs.Control.{bare}
+use Rattle.m2_control.specs.Fields.{bounded_at}
 use Rattle.m2_control.proofs.Written.{written_is_read}
 use Rattle.m2_frame.specs.Frame.{Parts}
 use Rattle.m2_frame.specs.Reading.{whole}
@@ -22,6 +29,7 @@ use Rattle.m2_journal.specs.SideFacts.{SideFacts}
 use Rattle.m2_paired.specs.Fits.{Says, IsRefusal, AreSaid}
 use Rattle.m2_paired.specs.Frames.{is_ask}
 use Rattle.m2_paired.proofs.Sockets.{differ}
+use Rattle.m2_tag.specs.declared.tag.Tag.TheVariants as tag
 use Rattle.m2_trail.specs.Replies.{refusal}
 use Rattle.m2_fitting.proofs.Sent.{ack_writable, stamp_writable}
 use Rattle.m2_fitting.specs.Texts.{Made, of_message, of_payload, of_none, made, KeepsFormat, CanBeSent, texts_of}
@@ -122,6 +130,11 @@ brought : (b : Bool) (m : Said) → b ≡ true → (if b then m else garbles) �
 brought true m e = refl
 brought false m e = differ e
 
+-- a SESSION_RETRY with a greater number is refused
+retry_refused : (n : ℕ) → n < 2 ^ 64 → nat_le n GREATEST_NUMBER ≡ false → payload.payload_of tag.SessionRetry (to_le_bytes w64 n) ≡ Err (BadValue 1)
+unfolding bounded_at
+retry_refused n h e = rw (from_le_bytes-to_le_bytes_8 n h, e) refl
+
 pub says_sent : (f : SideFacts) (w : OutFrame) → is_ask w ≡ false → CanBeSent f w → Says (said (whole (part f w))) w
 says_sent f out.greeting n k = absurd k
 says_sent f (out.ident cookie global) n k = differ (sym n)
@@ -133,8 +146,16 @@ says_sent f (out.reconnect_ok seen) n k =
     subst (λ s. Says s (out.reconnect_ok seen)) (sym (ap said_of_payload (written_is_read (control.SessionReconnectOk (record { seen = seen })) k.ranges k.bounds).read)) refl
 says_sent f (out.reset full) n k =
     subst (λ s. Says s (out.reset full)) (sym (ap said_of_payload (written_is_read (control.SessionReset (record { full = full })) k.ranges k.bounds).read)) refl
-says_sent f (out.retry connect) n k =
-    subst (λ s. Says s (out.retry connect)) (sym (ap said_of_payload (written_is_read (control.SessionRetry (record { connect = connect })) k.ranges k.bounds).read)) refl
+says_sent f (out.retry connect) n k = at (nat_le connect GREATEST_NUMBER) refl
+  where
+    at : (t : Bool) → nat_le connect GREATEST_NUMBER ≡ t → Says (said (whole (part f (out.retry connect)))) (out.retry connect)
+    at true e =
+        let few : connect ≤ GREATEST_NUMBER = leb-true connect GREATEST_NUMBER e in
+        let it : Says (says (control.SessionRetry (record { connect = connect }))) (out.retry connect) = (refl, few) in
+        subst (λ s. Says s (out.retry connect)) (sym (ap said_of_payload (written_is_read (control.SessionRetry (record { connect = connect })) k.ranges few).read)) it
+    at false e =
+        let many = leb-false connect GREATEST_NUMBER e in
+        subst (λ s. Says s (out.retry connect)) (sym (ap said_of_payload (retry_refused connect k.ranges e))) many
 says_sent f (out.retry_global global) n k =
     subst (λ s. Says s (out.retry_global global)) (sym (ap said_of_payload (written_is_read (control.SessionRetryGlobal (record { global = global })) k.ranges k.bounds).read)) refl
 says_sent f out.wait n k =

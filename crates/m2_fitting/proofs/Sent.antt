@@ -14,18 +14,18 @@ use Rattle.m2_journal.specs.Laws.{IsWritable}
 use Rattle.m2_trail.specs.Replies.{refusal}
 use Rattle.m2_fitting.specs.Texts.{KeepsFormat}
 
-abbrev IsByte : ℕ → Type 0
+abbrev pub IsByte : ℕ → Type 0
 IsByte b = b < 256
 
-eight_bytes : (n : ℕ) → All (λ b. b < 256) (to_le_bytes w64 n)
+pub eight_bytes : (n : ℕ) → All (λ b. b < 256) (to_le_bytes w64 n)
 eight_bytes n =
     All-from_recursion IsByte (to_le_bytes w64 n)
     (omega arith, (omega arith, (omega arith, (omega arith, (omega arith, (omega arith, (omega arith, (omega arith, tt))))))))
 
-four_bytes : (n : ℕ) → All (λ b. b < 256) (to_le_bytes w32 n)
+pub four_bytes : (n : ℕ) → All (λ b. b < 256) (to_le_bytes w32 n)
 four_bytes n = All-from_recursion IsByte (to_le_bytes w32 n) (omega arith, (omega arith, (omega arith, (omega arith, tt))))
 
-two_bytes : (n : ℕ) → All (λ b. b < 256) (to_le_bytes w16 n)
+pub two_bytes : (n : ℕ) → All (λ b. b < 256) (to_le_bytes w16 n)
 two_bytes n = All-from_recursion IsByte (to_le_bytes w16 n) (omega arith, (omega arith, tt))
 
 four_first : (n : ℕ) → All (λ b. b < 256) (to_be_bytes w32 n)
@@ -39,7 +39,7 @@ zeros =
     All-from_recursion IsByte (0 ∷ 0 ∷ 0 ∷ 0 ∷ 0 ∷ 0 ∷ 0 ∷ 0 ∷ [])
     (omega arith, (omega arith, (omega arith, (omega arith, (omega arith, (omega arith, (omega arith, (omega arith, tt))))))))
 
-address_bytes : (a : Addr) → All (λ b. b < 256) (ipv4_text a)
+pub address_bytes : (a : Addr) → All (λ b. b < 256) (ipv4_text a)
 address_bytes a =
     let ip = to_be_bytes w32 a.ip ++ 0 ∷ 0 ∷ 0 ∷ 0 ∷ 0 ∷ 0 ∷ 0 ∷ 0 ∷ [] in
     let port = to_be_bytes w16 a.port ++ ip in

@@ -3,6 +3,8 @@
 use Rattle.std.specs.Prelude.{◌≡◌, ℕ, ◌<◌, ◌^◌, true, false, List, [], map, Option, IfSome}
 use Rattle.std.specs.List.{AllByRecursion}
 use Rattle.m2_addr.specs.declared.addr.Addr.{Addr}
+use Rattle.m2_addr.specs.declared.addr.TheConstants.Addr.{MSGR2}
+use Rattle.m2_answers.specs.declared.cookie.TheConstants.{MOST_PLACES}
 use Rattle.m2_control.specs.Laws.{HasAddrRanges}
 use Rattle.m2_fabric.specs.declared.socket.SocketId.{SocketId}
 use Rattle.m2_fabric.specs.Sockets.{is_among}
@@ -43,10 +45,16 @@ pub record IsTaken (begin : Standing) (h : HalfBytes) (judged : List JudgedItem)
   pub stage : standing.stage ≡ Asked
   pub unread : standing.rest ≡ left
 
--- what a node names itself by, and the address that it dials, keep the ranges of their types
+-- What a node names itself by and says of itself, and the address that it dials, keep the ranges of their types; its own
+-- address is one of msgr2, and its place one of those that cookies have.
 pub record KeepsRanges (f : SideFacts) : Type 0 where
   pub entity : f.node.entity < 2 ^ 8
   pub peer : HasAddrRanges f.peer
+  pub mine : HasAddrRanges f.mine
+  pub kind : f.mine.kind ≡ MSGR2
+  pub place : f.node.number < MOST_PLACES
+  pub supports : f.node.supports < 2 ^ 64
+  pub requires_ : f.node.requires_ < 2 ^ 64
 
 -- A side's half on a socket, beside what its record has judged there so far.
 pub record HalfFits (a : Side) (k : SocketId) : Type 0 where

@@ -12,7 +12,7 @@ use Rattle.m2_paired.specs.Laws.{IsNoDown}
 use Rattle.m2_paired.specs.Orders.{SideItem, near_item, far_item, near_items, far_items, AreNodes, IsHistory, IsNeverReset}
 use Rattle.m2_fitting.specs.Ends.{Side, state_of}
 use Rattle.m2_fitting.specs.Halves.{KeepsRanges, BytesFit}
-use Rattle.m2_fitting.specs.Texts.{CanAllBeSent}
+use Rattle.m2_fitting.specs.Texts.{CanBePosted}
 
 -- ---- an order
 
@@ -77,13 +77,8 @@ far_side g order = record {
 abbrev pub Throughout : List OrderEntry → (List OrderEntry → Type 0) → Type 0
 Throughout order P = (front back : List OrderEntry) → order ≡ front ++ back → P front
 
--- what the two sides have sent can be read again
-pub record CanBeRead (f g : SideFacts) (order : List OrderEntry) : Type 0 where
-  pub near : CanAllBeSent f (state_of (near_side f order)).sent
-  pub far : CanAllBeSent g (state_of (far_side g order)).sent
-
--- Both journals are lawful, no side is marked down by its own node, and the bytes fit at each point. What the two sides have
--- sent can be read: a side whose numbers are used up may answer with one that no frame can carry.
+-- Both journals are lawful, no side is marked down by its own node, what the plans post keeps the bounds of its frames, and the
+-- bytes fit at each point.
 pub record IsByteHistory (f g : SideFacts) (order : List OrderEntry) : Type 0 where
   pub near_named : KeepsRanges f
   pub far_named : KeepsRanges g
@@ -93,7 +88,8 @@ pub record IsByteHistory (f g : SideFacts) (order : List OrderEntry) : Type 0 wh
   pub far_lawful : AreLawful g (far_items (entries_of order)) (start g)
   pub near_not_down : AllByRecursion IsNoDown (near_items (entries_of order))
   pub far_not_down : AllByRecursion IsNoDown (far_items (entries_of order))
-  pub readable : CanBeRead f g order
+  pub near_posts : AllByRecursion CanBePosted (near_items (entries_of order))
+  pub far_posts : AllByRecursion CanBePosted (far_items (entries_of order))
   pub bytes : Throughout order (λ front. BytesFit (near_side f front) (far_side g front))
 
 -- ---- what follows

@@ -1,5 +1,5 @@
 -- The texts of frames one after the other, and which frames can be read again. Formats: Ceph's msgr2 documentation.
-use Rattle.std.specs.Prelude.{ℕ, List}
+use Rattle.std.specs.Prelude.{ℕ, List, Some}
 use Rattle.std.specs.List.{flat_map, AllByRecursion}
 use Rattle.m2_control.specs.declared.control.Control.{Control}
 use Rattle.m2_control.specs.declared.control.Control.TheVariants as control
@@ -8,9 +8,12 @@ use Rattle.m2_handshake.specs.Texts.{control_parts}
 use Rattle.m2_message.specs.Message.{Content, with_numbers}
 use Rattle.m2_message_frame.specs.HeaderText.{FieldsFit}
 use Rattle.m2_message_frame.specs.MessageFrame.{parts_of}
+use Rattle.m2_journal.specs.Items as item
+use Rattle.m2_journal.specs.Items.{JournalItem}
 use Rattle.m2_journal.specs.Laws.{IsWritable}
 use Rattle.m2_journal.specs.OutFrames as out
 use Rattle.m2_journal.specs.OutFrames.{OutFrame, client_ident_of, server_ident_of}
+use Rattle.m2_journal.specs.Plan.{to_post}
 use Rattle.m2_journal.specs.SideFacts.{SideFacts}
 use Rattle.m2_journal.specs.State.{SentFrame}
 use Rattle.m2_feed.specs.Laws.{reconnect_of}
@@ -39,11 +42,17 @@ made f (out.keepalive_answer k) = of_payload (control.KeepaliveAck (record { sec
 
 -- ---- what can be read again
 
--- a payload whose frame can be written, and which keeps the ranges of its fields and the bounds of the profile
+-- The bounds of the profile. A SESSION_RETRY may carry a number above the greatest, by a side whose connect numbers are used
+-- up: no reader takes it.
+abbrev pub KeepsBounds : Control → Type 0
+KeepsBounds (control.SessionRetry p) = Unit {0}
+KeepsBounds c = IsInBounds c
+
+-- a payload whose frame can be written, and which keeps the ranges of its fields and those bounds
 pub record KeepsFormat (c : Control) : Type 0 where
   pub writable : IsWritable (control_parts c)
   pub ranges : HasRanges c
-  pub bounds : IsInBounds c
+  pub bounds : KeepsBounds c
 
 pub record KeepsFields (m : Content) : Type 0 where
   pub writable : IsWritable (parts_of m)
@@ -60,6 +69,11 @@ CanBeSent f w = CanBeMade (made f w)
 
 abbrev pub CanAllBeSent : SideFacts → List SentFrame → Type 0
 CanAllBeSent f sent = AllByRecursion (λ x. CanBeSent f x.frame) sent
+
+-- a message that the plan posts keeps the bounds of its frame
+abbrev pub CanBePosted : JournalItem → Type 0
+CanBePosted (item.post place (Some (to_post m))) = KeepsFields m
+CanBePosted _ = Unit {0}
 
 -- ---- texts
 

@@ -16,9 +16,9 @@ pub fn bytes_give_fits()
 /// In every order of two lossless journals without a mark-down in which each byte was written before it
 /// is read at the other end, each ask is read before it is judged, and each answer is judged before it
 /// is written: nothing is thrown away, no number is set back after an acceptance, and messages come in
-/// order, each once. The two sides dial different places; the names of their nodes and the addresses
-/// that they dial keep the ranges of their types, and the frames that they send the bounds of their
-/// formats.
+/// order, each once. The two sides dial different places; what their nodes say of themselves and the
+/// addresses that they dial keep the ranges of their types, and the messages that they post the bounds of
+/// their frames. That whatever they send then can be read is a part of what is proved.
 pub fn lossless_bytes_are_never_reset()
     ensures { orders.LosslessBytesAreNeverReset }
 {

@@ -74,6 +74,7 @@ tells_same told last (says (control.SessionReset p)) (out.reset full) h e = absu
 tells_same told last (says (control.SessionRetry p)) (out.retry k) h e = absurd (false_isnt_true e)
 tells_same told last (says (control.SessionRetryGlobal p)) (out.retry_global g) h e = absurd (false_isnt_true e)
 tells_same told last (says (control.Wait p)) out.wait h e = absurd (false_isnt_true e)
+tells_same told last garbles (out.retry k) h e = absurd (false_isnt_true e)
 tells_same told last s w h e = elim h [ ]
 
 one_more : (k : ℕ) → 1 + k ≡ suc k

@@ -17,7 +17,7 @@ use Rattle.m2_journal.specs.Lawful.{OnFeedAt, MayAcknowledge, judged_sockets}
 use Rattle.m2_journal.specs.Laws.{IfFed}
 use Rattle.m2_journal.specs.OutFrames as out
 use Rattle.m2_journal.specs.OutFrames.{OutFrame}
-use Rattle.m2_journal.specs.Said.{Said, says, brings, said}
+use Rattle.m2_journal.specs.Said.{Said, says, brings, garbles, said}
 use Rattle.m2_journal.specs.State.{Feed, State}
 use Rattle.m2_journal.specs.Steps.{after, queues}
 use Rattle.m2_crossing.specs.Link.{Node}
@@ -126,6 +126,7 @@ tells_as_mail told (says (control.SessionReset p)) (out.reset full) h e = elim e
 tells_as_mail told (says (control.SessionRetry p)) (out.retry k) h e = elim e [ ]
 tells_as_mail told (says (control.SessionRetryGlobal p)) (out.retry_global g) h e = elim e [ ]
 tells_as_mail told (says (control.Wait p)) out.wait h e = elim e [ ]
+tells_as_mail told garbles (out.retry k) h e = elim e [ ]
 tells_as_mail told s w h e = elim h [ ]
 
 heard-below : (told : ℕ) (is : List Item) (vs : List OutFrame) → AreSaid is vs →

@@ -40,7 +40,7 @@ counted k (j ∷ js) = at (same_socket k j.socket) refl (counted k js)
     at true e h = rw e (ap suc h)
     at false e h = rw e h
 
-asked_more : (k : SocketId) (js : List Judgement) (ask : AskFacts) (answer : Answer) →
+pub asked_more : (k : SocketId) (js : List Judgement) (ask : AskFacts) (answer : Answer) →
     map (λ i. ask_by i.ask) (judged_on k (js ++ judgement k ask answer ∷ [])) ≡ map (λ i. ask_by i.ask)
     (judged_on k js) ++ ask_by ask ∷ []
 asked_more k js ask answer =

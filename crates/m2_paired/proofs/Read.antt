@@ -79,7 +79,7 @@ is_ok k (out.reconnect_ok seen) h = ap out.reconnect_ok (sym h)
 is_ok k w h = elim h [ ]
 
 pub is_retry : (r : SessionRetry) (w : OutFrame) → Says (says (control.SessionRetry r)) w → w ≡ out.retry r.connect
-is_retry r (out.retry connect) h = ap out.retry (sym h)
+is_retry r (out.retry connect) h = ap out.retry (sym h.0)
 is_retry r w h = elim h [ ]
 
 pub is_retry_global : (r : SessionRetryGlobal) (w : OutFrame) → Says (says (control.SessionRetryGlobal r)) w →

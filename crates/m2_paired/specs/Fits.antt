@@ -1,10 +1,11 @@
 -- What an order of two journals gives that fits: bytes are read after they were written, and an ask is judged after it
 -- was sent.
-use Rattle.std.specs.Prelude.{◌≡◌, true, false, if◌then◌else◌, List, [], ◌∷◌, ◌++◌, map, Option, Some, None}
+use Rattle.std.specs.Prelude.{◌≡◌, ◌<◌, ◌≤◌, true, false, if◌then◌else◌, List, [], ◌∷◌, ◌++◌, map, Option, Some, None}
 use Rattle.std.specs.List.{AllByRecursion}
 use Rattle.m2_answers.specs.declared.ask.AskFacts.{AskFacts}
 use Rattle.m2_answers.specs.Asks.{reconnect_of}
 use Rattle.m2_control.specs.declared.control.Control.TheVariants as control
+use Rattle.m2_control.specs.declared.fields.TheConstants.{GREATEST_NUMBER}
 use Rattle.m2_fabric.specs.declared.socket.SocketId.{SocketId}
 use Rattle.m2_fabric.specs.Sockets.{is_among}
 use Rattle.m2_frame.specs.Reading.{Item}
@@ -12,14 +13,15 @@ use Rattle.m2_message.specs.Message.{with_numbers}
 use Rattle.m2_journal.specs.Lawful.{judged_on, judged_sockets}
 use Rattle.m2_journal.specs.OutFrames as out
 use Rattle.m2_journal.specs.OutFrames.{OutFrame}
-use Rattle.m2_journal.specs.Said.{Said, says, brings, said}
+use Rattle.m2_journal.specs.Said.{Said, says, brings, garbles, said}
 use Rattle.m2_journal.specs.State.{Feed, Judgement, SentFrame, State}
 use Rattle.m2_crossing.specs.Asks.{Ask, by_ident, by_reconnect}
 use Rattle.m2_paired.specs.Frames.{asks_on, answers_on}
 
 -- ---- what is read was sent
 
--- a text that was got says what was sent; a message comes with the two numbers with which it was sent
+-- A text that was got says what was sent; a message comes with the two numbers with which it was sent. A SESSION_RETRY whose
+-- number is above the greatest says nothing that is read.
 abbrev pub Says : Said → OutFrame → Type 0
 Says (brings m) (out.message number acked n) = m ≡ with_numbers number acked n
 Says (says (control.Ack p)) (out.acknowledgement number) = p.seen ≡ number
@@ -27,7 +29,8 @@ Says (says (control.KeepaliveAck p)) (out.keepalive_answer k) = (p.seconds ≡ k
 Says (says (control.ServerIdent i)) (out.server_ident cookie global) = (i.cookie ≡ cookie) × (i.global ≡ global)
 Says (says (control.SessionReconnectOk p)) (out.reconnect_ok seen) = p.seen ≡ seen
 Says (says (control.SessionReset p)) (out.reset full) = p.full ≡ full
-Says (says (control.SessionRetry p)) (out.retry connect) = p.connect ≡ connect
+Says (says (control.SessionRetry p)) (out.retry connect) = (p.connect ≡ connect) × (connect ≤ GREATEST_NUMBER)
+Says garbles (out.retry connect) = GREATEST_NUMBER < connect
 Says (says (control.SessionRetryGlobal p)) (out.retry_global global) = p.global ≡ global
 Says (says (control.Wait p)) out.wait = Unit {0}
 Says _ _ = ⊥
