@@ -20,7 +20,7 @@ use Rattle.m2_channel.specs.Channel as channel
 use Rattle.m2_channel.specs.Channel.{keyed}
 use Rattle.m2_channel.specs.Observed.{handed, IsNoDiscard, IsLetter}
 use Rattle.m2_channel.specs.ObservedLaws.{IsLogOf}
-use Rattle.m2_channel.specs.Handing.{IsNoResetOf, peer_of, parcels_of, IsParcelOf, AreParcelsOf, heard_by_calls, LogsAreLogs}
+use Rattle.m2_channel.specs.Handing.{IsNoResetOf, peer_of, parcels_of, IsParcelOf, AreParcelsOf, heard_by_calls, IsHeardOf}
 use Rattle.m2_channel.proofs.Keys.{differ, first_of_first}
 use Rattle.m2_channel.proofs.Runs.{all_append}
 
@@ -92,7 +92,7 @@ heard_letters peer key (l ∷ ls) = at (is_of_key peer key l) (heard_letters pee
     at true e = ap (λ x. content l ∷ x) e
     at false e = e
 
-heard-append : (peer : ℕ) (key : Key) (xs ys : List Heard) → heard.of_key peer key (xs ++ ys) ≡ heard.of_key peer key xs ++ heard.of_key peer key ys
+pub heard-append : (peer : ℕ) (key : Key) (xs ys : List Heard) → heard.of_key peer key (xs ++ ys) ≡ heard.of_key peer key xs ++ heard.of_key peer key ys
 heard-append peer key [] ys = refl
 heard-append peer key (heard.message p k n m ∷ xs) ys = at ((p == peer) && is_key k key) (heard-append peer key xs ys)
   where
@@ -225,7 +225,7 @@ some_of_map f (x ∷ xs) [] h = absurd h
 some_of_map f (x ∷ xs) (y ∷ ys) (inl h) = inl (ap f h.0, some_of_map f xs ys h.1)
 some_of_map f (x ∷ xs) (y ∷ ys) (inr h) = inr (some_of_map f (x ∷ xs) ys h)
 
-some_of_more : {X : Type 0} (xs ys zs : List X) → IsSublist xs ys → IsSublist xs (ys ++ zs)
+pub some_of_more : {X : Type 0} (xs ys zs : List X) → IsSublist xs ys → IsSublist xs (ys ++ zs)
 some_of_more [] ys zs h = tt
 some_of_more (x ∷ xs) [] zs h = absurd h
 some_of_more (x ∷ xs) (y ∷ ys) zs (inl h) = inl (h.0, some_of_more xs ys zs h.1)
@@ -309,8 +309,10 @@ module _ (order : DispatchesInOrder) (peer : ℕ) (calls : List Call) (s : State
       (subst (λ l. IsSublist l (of_it peer key own)) (sym (heard_is peer key calls start))
       (subst (λ l. IsSublist (of_it peer key h.ever_dispatched) l) (put_is peer key calls start) some))))
 
-pub logs_are : DispatchesInOrder → LogsAreLogs
-logs_are order peer calls s are = record {
+-- through the queue alone
+pub queue_logs : DispatchesInOrder → (peer : ℕ) (calls : List Call) (s : State) → AreParcelsOf (parcels_of peer calls) s.deliveries →
+    IsHeardOf peer (heard_by_calls peer start calls) s
+queue_logs order peer calls s are = record {
   first = is_log order peer calls s are;
   some = some_handed order peer calls s are;
   no_reset = λ only. none_heard peer calls start (letters_handed (parcels_of peer calls) s.deliveries are only);

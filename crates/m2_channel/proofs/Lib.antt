@@ -9,4 +9,5 @@ pub mod Resets
 pub mod OneMessage
 pub mod Marks
 pub mod Handing
+pub mod TwoWays
 pub mod Acknowledged

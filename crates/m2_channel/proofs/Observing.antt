@@ -14,8 +14,8 @@ use Rattle.m2_paired.specs.Orders.{SideItem, near_items, IsHistory, near_after, 
 use Rattle.m2_channel.specs.Channel as channel
 use Rattle.m2_channel.specs.Channel.{KeyedMessage, keyed, Channel, ChannelStep, dispatch, new_channel, IsLawful, changed, after_step, after_steps, IsRun, IsNoMark, posts, acceptances, dispatches}
 use Rattle.m2_channel.specs.ChannelLaws.{ComeInOrder}
-use Rattle.m2_channel.specs.Observed.{shown_from, observed, heard_from, dispatched_from, turned, handed, IsLetter, IsNoDiscard}
-use Rattle.m2_channel.specs.ObservedLaws.{IsLogOf, posted_to, IsBrought, ObservedIsARun}
+use Rattle.m2_channel.specs.Observed.{Logs, all_of, shown_from, observed, heard_from, dispatched_from, turned, handed, IsLetter, IsNoDiscard}
+use Rattle.m2_channel.specs.ObservedLaws.{AreLogsOf, IsLogOf, posted_to, IsBrought, ObservedIsARun}
 use Rattle.m2_channel.proofs.Keys.{key_self, next_is, of_key-append}
 use Rattle.m2_channel.proofs.Runs.{unmarked_step, leaves, run_append, after_append, all_append, unmarked_deliver}
 use Rattle.m2_channel.proofs.Counts.{done_is_all}
@@ -140,15 +140,16 @@ posted_count : (g : SideFacts) (ps : List Content) → length (posted_to g ps) �
 posted_count g [] = refl
 posted_count g (m ∷ ps) = ap suc (posted_count g ps)
 
-pub brought : LosslessIsNeverReset → (f g : SideFacts) (order : List SideItem) (log : List Heard) → AreNodes f g → IsHistory f g order →
-    IsLogOf f.node.number log (far_after g order) → IsBrought f g order log
-brought never f g order log nodes history is_log =
+pub brought : LosslessIsNeverReset → (f g : SideFacts) (order : List SideItem) (logs : Logs) → AreNodes f g → IsHistory f g order →
+    AreLogsOf f.node.number logs (far_after g order) → IsBrought f g order logs
+brought never f g order logs nodes history is_log =
     let peer = f.node.number in
+    let log = all_of logs in
     let ps = posts_in (near_items order) in
     let b = far_after g order in
     let xs = shown_from f g order (start f) (start g) in
     let ys = dispatched_from peer log in
-    let all = observed f g order log in
+    let all = observed f g order logs in
     let shows = shows_all never f g nodes order history in
     let c = after_steps xs new_channel in
     let it = shows.stands in
@@ -185,8 +186,8 @@ brought never f g order log nodes history is_log =
     }
 
 pub observed_is : LosslessIsNeverReset → ObservedIsARun
-observed_is never f g order near_log far_log nodes history logs = record {
-  near = brought never f g order far_log nodes history logs.far;
-  far = brought never g f (turned order) near_log (nodes_turned f g nodes) (history_turned f g order history)
-      (subst (IsLogOf g.node.number near_log) (sym (far_after_turned f order)) logs.near);
+observed_is never f g order near_logs far_logs nodes history logs = record {
+  near = brought never f g order far_logs nodes history logs.far;
+  far = brought never g f (turned order) near_logs (nodes_turned f g nodes) (history_turned f g order history)
+      (subst (AreLogsOf g.node.number near_logs) (sym (far_after_turned f order)) logs.near);
 }

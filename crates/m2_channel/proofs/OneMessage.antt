@@ -12,7 +12,7 @@ use Rattle.m2_paired.specs.LinkOf.{letters}
 use Rattle.m2_paired.specs.Orders.{near_after, far_after, AMessageComesOver, LosslessIsNeverReset}
 use Rattle.m2_channel.specs.Channel as channel
 use Rattle.m2_channel.specs.Channel.{KeyedMessage, keyed, posts, dispatches}
-use Rattle.m2_channel.specs.Observed.{observed, heard_from, handed}
+use Rattle.m2_channel.specs.Observed.{Logs, observed, heard_from, handed}
 use Rattle.m2_channel.specs.ObservedLaws.{IsLogOf, AreLogs, AMessageIsObserved}
 use Rattle.m2_channel.proofs.Keys.{key_self}
 use Rattle.m2_channel.proofs.Observing.{heard_keys, observed_is}
@@ -58,6 +58,9 @@ its_log peer k m s e none key =
 no_log : (peer : ℕ) (s : State) → IsLogOf peer [] s
 no_log peer s none key = (channel.of_key key (handed s.deliveries), refl)
 
+abbrev no_logs : Logs
+no_logs = record { fast = []; queued = [] }
+
 -- ---- it is observed
 
 pub is_observed : LosslessIsNeverReset → AMessageComesOver → AMessageIsObserved
@@ -65,12 +68,12 @@ is_observed never it =
     let b = far_after it.g it.order in
     let one = one_letter b.deliveries it.message it.accepted in
     let peer = it.f.node.number in
-    let log = one_heard peer one.key it.message in
-    let logs : AreLogs it.f it.g it.order [] log = record {
+    let log : Logs = record { fast = []; queued = one_heard peer one.key it.message } in
+    let logs : AreLogs it.f it.g it.order no_logs log = record {
       near = no_log it.g.node.number (near_after it.f it.order);
       far = its_log peer one.key it.message b one.handed;
     } in
-    let brought = observed_is never it.f it.g it.order [] log it.nodes it.history logs in
+    let brought = observed_is never it.f it.g it.order no_logs log it.nodes it.history logs in
     let dispatched = brought.near.dispatches ∙ heard_one peer one.key it.message in
     let first = brought.near.delivered.over one.key in
     let own : channel.of_key one.key (dispatches (observed it.f it.g it.order log)) ≡ unnumbered it.message ∷ [] =
@@ -79,7 +82,8 @@ is_observed never it =
       f = it.f;
       g = it.g;
       order = it.order;
-      log = log;
+      near_logs = no_logs;
+      far_logs = log;
       nodes = it.nodes;
       history = it.history;
       logs = logs;

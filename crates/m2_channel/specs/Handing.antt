@@ -1,8 +1,9 @@
--- From what a record hands on, through the queue before its node's dispatcher, to what that is called with.
+-- From what a record hands on to what its node's two dispatchers are called with: messages of a fast key go to the one at once,
+-- and all else goes through the queue before the other. The two ways are Ceph's.
 use Rattle.std.specs.Prelude.{◌≡◌, ℕ, ◌==◌, if◌then◌else◌, List, [], ◌∷◌, ◌++◌, map, take, false}
-use Rattle.std.specs.List.{AllByRecursion}
+use Rattle.std.specs.List.{AllByRecursion, filter}
 use Rattle.m2_dispatch.specs.Heard as heard
-use Rattle.m2_dispatch.specs.Heard.{Heard}
+use Rattle.m2_dispatch.specs.Heard.{Heard, is_path}
 use Rattle.m2_dispatcher.specs.declared.letter.Letter.{Letter}
 use Rattle.m2_dispatcher.specs.declared.parcel.Parcel.{Parcel}
 use Rattle.m2_dispatcher.specs.declared.parcel.Parcel.TheVariants as parcel
@@ -11,13 +12,37 @@ use Rattle.m2_dispatcher.specs.Letters.{heard_in}
 use Rattle.m2_dispatcher.specs.Parcel.{heard_at_put}
 use Rattle.m2_message.specs.Message.{content_of, unnumbered}
 use Rattle.m2_policy.specs.declared.path.Key.{Key}
+use Rattle.m2_policy.specs.declared.path.Path.TheVariants.{Fast}
 use Rattle.m2_journal.specs.State as state
 use Rattle.m2_journal.specs.State.{Delivery, State}
 use Rattle.m2_channel.specs.Channel as channel
-use Rattle.m2_channel.specs.Observed.{handed, IsLetter}
+use Rattle.m2_channel.specs.Observed.{all_of, handed, IsLetter}
 use Rattle.m2_channel.specs.ObservedLaws.{IsLogOf}
 
--- ---- what is handed on
+-- ---- the two ways
+
+-- what is dispatched at once of what is handed on, and of which peer
+abbrev pub heard_at_once : ℕ → List Delivery → List Heard
+heard_at_once peer [] = []
+heard_at_once peer (state.letter number key m ∷ ds) =
+    if is_path key.path Fast then heard.message peer key number m ∷ heard_at_once peer ds else heard_at_once peer ds
+heard_at_once peer (_ ∷ ds) = heard_at_once peer ds
+
+-- what goes through the queue
+abbrev pub queued_of : List Delivery → List Delivery
+queued_of [] = []
+queued_of (state.letter number key m ∷ ds) = if is_path key.path Fast then queued_of ds else state.letter number key m ∷ queued_of ds
+queued_of (d ∷ ds) = d ∷ queued_of ds
+
+-- the calls of a log that are of this peer, in order
+abbrev pub calls_of : ℕ → List Heard → List Heard
+calls_of peer log = filter (λ h. heard.peer_of h == peer) log
+
+-- the calls are the first ones of these
+abbrev pub AreFirstCalls : List Heard → List Heard → Type 0
+AreFirstCalls calls all = (more : List Heard) × (all ≡ calls ++ more)
+
+-- ---- through the queue
 
 abbrev pub peer_of : Parcel → ℕ
 peer_of (parcel.Letter l) = l.peer
@@ -60,7 +85,7 @@ abbrev pub IsNoResetOf : ℕ → Heard → Type 0
 IsNoResetOf peer (heard.reset p) = (p == peer) ≡ false
 IsNoResetOf peer _ = Unit {0}
 
--- what a dispatcher is called with of a record's peer
+-- what a record's peer is heard to send, by a log
 pub record IsHeardOf (peer : ℕ) (log : List Heard) (s : State) : Type 0 where
   -- as long as nothing was thrown away, of each key the first ones of what the record accepted, in order, each once
   pub first : IsLogOf peer log s
@@ -69,7 +94,9 @@ pub record IsHeardOf (peer : ℕ) (log : List Heard) (s : State) : Type 0 where
   -- and where the record handed on messages alone, no reset of the peer
   pub no_reset : AllByRecursion IsLetter s.deliveries → AllByRecursion (IsNoResetOf peer) log
 
--- so it is where the parcels of the peer that were put into the queue are the first ones that the record handed on
+-- So it is by both dispatchers together, where the calls of the one are the first of the record's messages of fast keys, and the
+-- parcels of the peer that were put into the queue before the other are the first ones of all else that the record handed on.
 abbrev pub LogsAreLogs : Type 0
-LogsAreLogs = (peer : ℕ) (calls : List Call) (s : State) → AreParcelsOf (parcels_of peer calls) s.deliveries →
-    IsHeardOf peer (heard_by_calls peer start calls) s
+LogsAreLogs = (peer : ℕ) (fast : List Heard) (calls : List Call) (s : State) →
+    AreFirstCalls (calls_of peer fast) (heard_at_once peer s.deliveries) → AreParcelsOf (parcels_of peer calls) (queued_of s.deliveries) →
+    IsHeardOf peer (all_of (record { fast = fast; queued = heard_by_calls peer start calls })) s

@@ -1,5 +1,5 @@
 -- What is observed of the ordered channel from one side of a link to the other: the steps that the entries of both
--- journals show, in an order of both, and behind these the dispatches that the other side's log shows. This project's own.
+-- journals show, in an order of both, and behind these the dispatches that the other side's logs show. This project's own.
 use Rattle.std.specs.Prelude.{ℕ, ◌+◌, ◌&&◌, ◌||◌, ◌==◌, Bool, true, false, nat_lt, if◌then◌else◌, List, [], ◌∷◌, ◌++◌, length, map, Option, Some, None}
 use Rattle.m2_dispatch.specs.Heard as heard
 use Rattle.m2_dispatch.specs.Heard.{Heard}
@@ -85,6 +85,16 @@ shown_from f g [] a b = []
 shown_from f g (near_item i ∷ order) a b = shown_near f g i a b ++ shown_from f g order (after f i a) b
 shown_from f g (far_item i ∷ order) a b = shown_far g i a b ++ shown_from f g order a (after g i b)
 
+-- What a node's two dispatchers were called with: the one that takes a message at once, by the thread that has read it, and
+-- the one behind the queue.
+pub record Logs : Type 0 where
+  pub fast : List Heard
+  pub queued : List Heard
+
+-- Both together. The messages of a key stand in one of them, so of each key this is the order of the calls.
+abbrev pub all_of : Logs → List Heard
+all_of logs = logs.fast ++ logs.queued
+
 -- the messages that a log has of a peer, in order
 abbrev pub heard_from : ℕ → List Heard → List KeyedMessage
 heard_from peer [] = []
@@ -95,8 +105,8 @@ abbrev pub dispatched_from : ℕ → List Heard → List ChannelStep
 dispatched_from peer log = map (λ x. dispatch x.key x.message) (heard_from peer log)
 
 -- all of it: the entries, and behind them what the far side's dispatchers were called with of the near side
-abbrev pub observed : (f g : SideFacts) → List SideItem → (log : List Heard) → List ChannelStep
-observed f g order log = shown_from f g order (start f) (start g) ++ dispatched_from f.node.number log
+abbrev pub observed : (f g : SideFacts) → List SideItem → Logs → List ChannelStep
+observed f g order logs = shown_from f g order (start f) (start g) ++ dispatched_from f.node.number (all_of logs)
 
 -- ---- of the other direction
 
@@ -108,7 +118,19 @@ other_side (far_item i) = near_item i
 abbrev pub turned : List SideItem → List SideItem
 turned order = map other_side order
 
--- ---- logs
+-- ---- up to a mark-down
+
+abbrev pub marks_down : JournalItem → Bool
+marks_down (item.down planned step) = true
+marks_down _ = false
+
+-- the entries before the first one that marks a side down
+abbrev pub before_down : List SideItem → List SideItem
+before_down [] = []
+before_down (near_item i ∷ order) = if marks_down i then [] else near_item i ∷ before_down order
+before_down (far_item i ∷ order) = if marks_down i then [] else far_item i ∷ before_down order
+
+-- ---- what is handed on
 
 -- what a record handed on, without what isn't a message
 abbrev pub handed : List Delivery → List KeyedMessage

@@ -18,15 +18,19 @@ use Rattle.m2_paired.specs.Orders.{SideItem, near_item, far_item, near_items, fa
 use Rattle.m2_channel.specs.Channel as channel
 use Rattle.m2_channel.specs.Channel.{KeyedMessage, keyed, new_channel, after_steps, IsRun, IsNoMark, IsNoReset, unmarked, posts, acceptances, dispatches}
 use Rattle.m2_channel.specs.ChannelLaws.{IsDelivered}
-use Rattle.m2_channel.specs.Observed.{shown_from, observed, heard_from, turned, handed, IsNoDiscard, IsLetter}
+use Rattle.m2_channel.specs.Observed.{Logs, all_of, shown_from, observed, heard_from, turned, before_down, handed, IsNoDiscard, IsLetter}
 
 -- ---- what a log has to be
 
--- Where no messages were thrown away, of each key what a side's dispatchers were called with of its peer is the first ones
--- of what it accepted, in order, each once. A message is the same whatever numbers the runtime wrote into it.
+-- Where no messages were thrown away, of each key what a dispatcher was called with of a side's peer is the first ones of what
+-- the side accepted, in order, each once. A message is the same whatever numbers the runtime wrote into it.
 abbrev pub IsLogOf : (peer : ℕ) → List Heard → State → Type 0
 IsLogOf peer log s = AllByRecursion IsNoDiscard s.deliveries → (key : Key) →
     AreFirstOf (map unnumbered (heard.of_key peer key log)) (channel.of_key key (handed s.deliveries))
+
+-- so it is of both dispatchers of a side together
+abbrev pub AreLogsOf : (peer : ℕ) → Logs → State → Type 0
+AreLogsOf peer logs s = IsLogOf peer (all_of logs) s
 
 -- ---- one direction
 
@@ -35,67 +39,71 @@ abbrev pub posted_to : SideFacts → List Content → List KeyedMessage
 posted_to g ms = map (λ m. keyed (key_of g m) m) ms
 
 -- what is dispatched at the far side of what the near side posted
-pub record ComeAsPosted (f g : SideFacts) (posted : List Content) (log : List Heard) : Type 0 where
+pub record ComeAsPosted (f g : SideFacts) (posted : List Content) (logs : Logs) : Type 0 where
   -- of each key the first ones that were posted, in order, each once
   pub in_order : (key : Key) →
-      AreFirstOf (map unnumbered (heard.of_key f.node.number key log)) (orders.of_key g key (map unnumbered posted))
+      AreFirstOf (map unnumbered (heard.of_key f.node.number key (all_of logs))) (orders.of_key g key (map unnumbered posted))
   -- no more than was posted; and where it is as many, all of it
-  pub few : length (heard_from f.node.number log) ≤ length posted
-  pub done : length (heard_from f.node.number log) ≡ length posted → (key : Key) →
-      map unnumbered (heard.of_key f.node.number key log) ≡ orders.of_key g key (map unnumbered posted)
+  pub few : length (heard_from f.node.number (all_of logs)) ≤ length posted
+  pub done : length (heard_from f.node.number (all_of logs)) ≡ length posted → (key : Key) →
+      map unnumbered (heard.of_key f.node.number key (all_of logs)) ≡ orders.of_key g key (map unnumbered posted)
 
 -- from the near side to the far side
-pub record IsBrought (f g : SideFacts) (order : List SideItem) (log : List Heard) : Type 0 where
+pub record IsBrought (f g : SideFacts) (order : List SideItem) (logs : Logs) : Type 0 where
   -- what is observed is a run of the channel, without a mark and without a reset
-  pub run : IsRun (observed f g order log) new_channel
-  pub no_mark : AllByRecursion IsNoMark (observed f g order log)
-  pub delivered : IsDelivered (observed f g order log)
-  -- it posts what the near side has posted, accepts what the far side has accepted, and dispatches what the log tells
-  pub posts : posts (observed f g order log) ≡ posted_to g (posts_in (near_items order))
-  pub acceptances : acceptances (observed f g order log) ≡ handed (far_after g order).deliveries
-  pub dispatches : dispatches (observed f g order log) ≡ heard_from f.node.number log
+  pub run : IsRun (observed f g order logs) new_channel
+  pub no_mark : AllByRecursion IsNoMark (observed f g order logs)
+  pub delivered : IsDelivered (observed f g order logs)
+  -- it posts what the near side has posted, accepts what the far side has accepted, and dispatches what the logs tell
+  pub posts : posts (observed f g order logs) ≡ posted_to g (posts_in (near_items order))
+  pub acceptances : acceptances (observed f g order logs) ≡ handed (far_after g order).deliveries
+  pub dispatches : dispatches (observed f g order logs) ≡ heard_from f.node.number (all_of logs)
   -- what the near side counts as acknowledged is what the channel has acknowledged
-  pub acknowledged : (after_steps (observed f g order log) new_channel).acknowledged ≡ (near_after f order).out.queue.base
+  pub acknowledged : (after_steps (observed f g order logs) new_channel).acknowledged ≡ (near_after f order).out.queue.base
   -- the far side throws nothing away, and isn't told that the near side has reset the session
   pub letters_only : AllByRecursion IsLetter (far_after g order).deliveries
   -- so messages come over as they were posted
-  pub as_posted : ComeAsPosted f g (posts_in (near_items order)) log
+  pub as_posted : ComeAsPosted f g (posts_in (near_items order)) logs
 
 -- ---- both
 
-pub record AreBrought (f g : SideFacts) (order : List SideItem) (near_log far_log : List Heard) : Type 0 where
-  pub near : IsBrought f g order far_log
-  pub far : IsBrought g f (turned order) near_log
+pub record AreBrought (f g : SideFacts) (order : List SideItem) (near_logs far_logs : Logs) : Type 0 where
+  pub near : IsBrought f g order far_logs
+  pub far : IsBrought g f (turned order) near_logs
 
-pub record AreLogs (f g : SideFacts) (order : List SideItem) (near_log far_log : List Heard) : Type 0 where
-  pub near : IsLogOf g.node.number near_log (near_after f order)
-  pub far : IsLogOf f.node.number far_log (far_after g order)
+pub record AreLogs (f g : SideFacts) (order : List SideItem) (near_logs far_logs : Logs) : Type 0 where
+  pub near : AreLogsOf g.node.number near_logs (near_after f order)
+  pub far : AreLogsOf f.node.number far_logs (far_after g order)
 
 abbrev pub ObservedIsARun : Type 0
-ObservedIsARun = (f g : SideFacts) (order : List SideItem) (near_log far_log : List Heard) → AreNodes f g → IsHistory f g order →
-    AreLogs f g order near_log far_log → AreBrought f g order near_log far_log
+ObservedIsARun = (f g : SideFacts) (order : List SideItem) (near_logs far_logs : Logs) → AreNodes f g → IsHistory f g order →
+    AreLogs f g order near_logs far_logs → AreBrought f g order near_logs far_logs
 
 -- ---- with mark-downs
 
--- Both journals are lawful, and the order of their entries fits. A side may be marked down.
+-- Both journals are lawful, and the order of their entries fits up to the first that marks a side down.
 pub record IsLawfulOrder (f g : SideFacts) (order : List SideItem) : Type 0 where
   pub near_lawful : AreLawful f (near_items order) (start f)
   pub far_lawful : AreLawful g (far_items order) (start g)
-  pub fits : FitThroughout f g order (start f) (start g)
+  pub fits : FitThroughout f g (before_down order) (start f) (start g)
 
 -- What is observed is a run of the channel, in which no reset comes without a mark before it; and up to the first mark
 -- all comes over as it was posted.
-pub record IsBroughtToAMark (f g : SideFacts) (order : List SideItem) (log : List Heard) : Type 0 where
-  pub run : IsRun (observed f g order log) new_channel
-  pub delivered : IsDelivered (unmarked (observed f g order log))
+pub record IsBroughtToAMark (f g : SideFacts) (order : List SideItem) (logs : Logs) : Type 0 where
+  pub run : IsRun (observed f g order logs) new_channel
+  pub delivered : IsDelivered (unmarked (observed f g order logs))
 
-pub record AreBroughtToAMark (f g : SideFacts) (order : List SideItem) (near_log far_log : List Heard) : Type 0 where
-  pub near : IsBroughtToAMark f g order far_log
-  pub far : IsBroughtToAMark g f (turned order) near_log
+pub record AreBroughtToAMark (f g : SideFacts) (order : List SideItem) (near_logs far_logs : Logs) : Type 0 where
+  pub near : IsBroughtToAMark f g order far_logs
+  pub far : IsBroughtToAMark g f (turned order) near_logs
+  -- the entries before the first mark-down are a history, and whatever the dispatchers were called with of what was accepted
+  -- by then is brought over as without a mark
+  pub before : IsHistory f g (before_down order)
+  pub dispatched : (near far : Logs) → AreLogs f g (before_down order) near far → AreBrought f g (before_down order) near far
 
 abbrev pub ObservedIsARunToAMark : Type 0
-ObservedIsARunToAMark = (f g : SideFacts) (order : List SideItem) (near_log far_log : List Heard) → AreNodes f g →
-    IsLawfulOrder f g order → AreLogs f g order near_log far_log → AreBroughtToAMark f g order near_log far_log
+ObservedIsARunToAMark = (f g : SideFacts) (order : List SideItem) (near_logs far_logs : Logs) → AreNodes f g →
+    IsLawfulOrder f g order → AreLogs f g order near_logs far_logs → AreBroughtToAMark f g order near_logs far_logs
 
 -- ---- acknowledgements
 
@@ -128,14 +136,15 @@ pub record AMessageIsObserved : Type 0 where
   pub f : SideFacts
   pub g : SideFacts
   pub order : List SideItem
-  pub log : List Heard
+  pub near_logs : Logs
+  pub far_logs : Logs
   pub nodes : AreNodes f g
   pub history : IsHistory f g order
-  pub logs : AreLogs f g order [] log
-  pub brought : AreBrought f g order [] log
+  pub logs : AreLogs f g order near_logs far_logs
+  pub brought : AreBrought f g order near_logs far_logs
   pub message : KeyedMessage
   pub more : List Content
-  pub posted : channel.of_key message.key (posts (observed f g order log)) ≡ message.message ∷ more
-  pub accepted : acceptances (observed f g order log) ≡ message ∷ []
-  pub dispatched : dispatches (observed f g order log) ≡ message ∷ []
-  pub acknowledged : (after_steps (observed f g order log) new_channel).acknowledged ≡ 1
+  pub posted : channel.of_key message.key (posts (observed f g order far_logs)) ≡ message.message ∷ more
+  pub accepted : acceptances (observed f g order far_logs) ≡ message ∷ []
+  pub dispatched : dispatches (observed f g order far_logs) ≡ message ∷ []
+  pub acknowledged : (after_steps (observed f g order far_logs) new_channel).acknowledged ≡ 1

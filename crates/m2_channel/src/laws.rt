@@ -60,16 +60,17 @@ pub fn a_message_is_observed()
 }
 
 /// Where a side may be marked down, what is observed is a run of the channel too: no reset comes without
-/// a mark before it, and up to the first mark messages come over as they were posted.
+/// a mark before it. The entries before the first mark are a history, of which messages come over and are
+/// dispatched as they were posted. The order has to fit up to that mark alone.
 pub fn observed_is_a_run_to_a_mark()
     ensures { observed.ObservedIsARunToAMark }
 {
     lossless_is_never_reset();
 }
 
-/// Where a record's parcels go into the queue before a dispatcher, each once and in order, the
-/// dispatcher's log is a log of that record: of each key some of what it accepted, in order, each once,
-/// and the first ones of it as long as nothing is thrown away.
+/// Where a record's messages of fast keys go to a dispatcher at once, and all else goes into the queue
+/// before another, each once and in order, the logs of both are those of that record: of each key some of
+/// what it accepted, in order, each once, and the first ones of it as long as nothing is thrown away.
 pub fn logs_are_logs_of_what_is_handed_on()
     ensures { handing.LogsAreLogs }
 {

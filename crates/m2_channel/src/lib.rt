@@ -18,7 +18,7 @@
 //! In a marked channel each step may be taken, a reset too, and changes nothing: nothing is claimed of
 //! what comes behind a mark.
 //!
-//! `specs/Observed.antt` says what two journals in one order, with the log of a dispatcher, show of the
+//! `specs/Observed.antt` says what two journals in one order, with the logs of a side's dispatchers, show of the
 //! channel, and `specs/ObservedLaws.antt` what is promised of that. The near side posts, the far side
 //! accepts.
 //!
@@ -31,12 +31,13 @@
 //! | one that throws messages away, sets numbers back behind an acceptance of either side, or obeys a full reset | either | `reset`, behind what else it shows |
 //! | any other | either | nothing |
 //!
-//! Behind the entries stand the dispatches that the far side's log has of the near side. Of a lossless
-//! link this is a run of the channel: [`observed_is_a_run`] where no side is marked down,
+//! Behind the entries stand the dispatches that the far side's two logs have of the near side: of messages
+//! that are dispatched at once, and of those that wait in the queue. Of a lossless link this is a run of the channel: [`observed_is_a_run`] where no side is marked down,
 //! [`observed_is_a_run_to_a_mark`] where one may be.
 //!
-//! `specs/Handing.antt` says when a log is that of a record: where the record's parcels are put into the
-//! queue before the dispatcher, each once and in order ([`logs_are_logs_of_what_is_handed_on`]).
+//! `specs/Handing.antt` says when logs are those of a record: where its messages of fast keys are dispatched
+//! at once and all else is put into the queue before the other dispatcher, each once and in order
+//! ([`logs_are_logs_of_what_is_handed_on`]).
 #![tactic(auto)]
 
 mod laws;

@@ -1,4 +1,4 @@
-use Rattle.m2_channel.proofs.Handing.{logs_are}
+use Rattle.m2_channel.proofs.TwoWays.{logs_are}
 use Rattle.m2_channel.proofs.laws.logs_are_logs_of_what_is_handed_on.Goals as goal
 
 pub returns : goal.returns
