@@ -28,9 +28,9 @@ use Rattle.m2_paired.specs.Frames.{is_ask, ask_of, frames_on, asks_on, answers_o
 use Rattle.m2_paired.proofs.Sockets.{differ, same_refl}
 use Rattle.m2_trail.specs.Asks.{facts_of_ask}
 use Rattle.m2_trail.specs.Replies.{reply_to, replies_to, refusal, refusal_of, all_replies}
-use Rattle.m2_trail.specs.Trails.{ComesToWrite}
+use Rattle.m2_trail.specs.Trails.{ComesToWrite, IsTaken}
 use Rattle.m2_fitting.specs.Ends.{Side, state_of, read_on, wrote_on, takings_on}
-use Rattle.m2_fitting.specs.Halves.{HalfName, begins, IsTaken, HalfFits}
+use Rattle.m2_fitting.specs.Halves.{HalfName, begins, HalfFits}
 use Rattle.m2_fitting.specs.Texts.{CanBeSent, texts_of}
 use Rattle.m2_fitting.proofs.Acceptors.{as_asked, HasWelcomed, IsAsked}
 use Rattle.m2_fitting.proofs.Fronts.{AreFirst, front_items}

@@ -34,9 +34,9 @@ use Rattle.m2_feed.proofs.Courses.{ran}
 use Rattle.m2_paired.proofs.Sockets.{differ, same_equal}
 use Rattle.m2_trail.specs.Asks.{facts_of_ask}
 use Rattle.m2_trail.specs.Replies.{all_replies}
-use Rattle.m2_trail.specs.Trails.{ComesToAsk, ComesToWrite}
-use Rattle.m2_fitting.specs.Ends.{HalfBytes, Side, state_of, judged_at, read_on, wrote_on, takings_on, got_at, put_at}
-use Rattle.m2_fitting.specs.Halves.{HalfName, begins, IsTaken, HalfFits, BytesFit}
+use Rattle.m2_trail.specs.Trails.{ComesToAsk, ComesToWrite, HalfBytes, IsTaken}
+use Rattle.m2_fitting.specs.Ends.{Side, state_of, judged_at, read_on, wrote_on, takings_on, got_at, put_at}
+use Rattle.m2_fitting.specs.Halves.{HalfName, begins, HalfFits, BytesFit}
 use Rattle.m2_fitting.specs.Orders.{BytesCanFit}
 use Rattle.m2_fitting.proofs.Lists.{not_nil}
 use Rattle.m2_fitting.proofs.Orders.{lawful-front}

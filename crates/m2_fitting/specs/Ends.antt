@@ -12,11 +12,7 @@ use Rattle.m2_journal.specs.Lawful.{judged_on}
 use Rattle.m2_journal.specs.Replay.{after_items}
 use Rattle.m2_journal.specs.SideFacts.{SideFacts}
 use Rattle.m2_journal.specs.State.{State, start}
-
--- the bytes that a half has read so far, and those that it has written
-pub record HalfBytes : Type 0 where
-  pub got : List ℕ
-  pub put : List ℕ
+use Rattle.m2_trail.specs.Trails.{HalfBytes}
 
 -- Of one side what has come so far: the entries of its journal, and on each socket the bytes of its half there.
 pub record Side : Type 0 where

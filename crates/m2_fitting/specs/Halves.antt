@@ -1,6 +1,6 @@
 -- Bytes that fit, where an order of entries has come: what each end has got, the other had put, and the halves on sockets
 -- of the peer have read the asks that were judged, and have written no answer before it was judged.
-use Rattle.std.specs.Prelude.{◌≡◌, ℕ, ◌<◌, ◌^◌, true, false, List, [], map, Option, IfSome}
+use Rattle.std.specs.Prelude.{◌≡◌, ℕ, ◌<◌, ◌^◌, true, false, [], Option, IfSome}
 use Rattle.std.specs.List.{AllByRecursion}
 use Rattle.m2_addr.specs.declared.addr.Addr.{Addr}
 use Rattle.m2_addr.specs.declared.addr.TheConstants.Addr.{MSGR2}
@@ -8,16 +8,12 @@ use Rattle.m2_answers.specs.declared.cookie.TheConstants.{MOST_PLACES}
 use Rattle.m2_control.specs.Laws.{HasAddrRanges}
 use Rattle.m2_fabric.specs.declared.socket.SocketId.{SocketId}
 use Rattle.m2_fabric.specs.Sockets.{is_among}
-use Rattle.m2_handshake.specs.declared.stage.Stage.TheVariants.{Asked}
-use Rattle.m2_handshake.specs.Course.{Exchange, Reaches}
 use Rattle.m2_handshake.specs.Laws.{IsPrefix}
 use Rattle.m2_handshake.specs.Standing.{Standing, acceptor_at_start}
-use Rattle.m2_journal.specs.declared.entry.JudgedItem.{JudgedItem}
 use Rattle.m2_journal.specs.SideFacts.{SideFacts}
-use Rattle.m2_trail.specs.Asks.{facts_of_ask}
-use Rattle.m2_trail.specs.Replies.{replies_to, all_replies}
-use Rattle.m2_trail.specs.Trails.{ComesToAsk, ComesToWrite}
-use Rattle.m2_fitting.specs.Ends.{HalfBytes, Side, state_of, judged_at, takings_on, got_at, put_at}
+use Rattle.m2_trail.specs.Replies.{all_replies}
+use Rattle.m2_trail.specs.Trails.{ComesToAsk, ComesToWrite, IsTaken}
+use Rattle.m2_fitting.specs.Ends.{Side, state_of, judged_at, takings_on, got_at, put_at}
 
 -- ---- a half
 
@@ -31,19 +27,6 @@ pub record HalfName : Type 0 where
 -- where it begins
 abbrev pub begins : HalfName → Standing
 begins name = acceptor_at_start name.entity name.seen
-
--- a half that a record has taken: it owes the reply to the last of the asks that were judged, has replied to those before,
--- has put all that it wrote, and had this left unread
-pub record IsTaken (begin : Standing) (h : HalfBytes) (judged : List JudgedItem) (left : List ℕ) : Type 0 where
-  pub exchange : Exchange
-  pub standing : Standing
-  pub comes : Reaches begin exchange standing
-  pub got : exchange.bytes ≡ h.got
-  pub put : exchange.text ≡ h.put
-  pub replies : exchange.replies ≡ replies_to judged
-  pub asks : map facts_of_ask exchange.asks ≡ map (λ (i : JudgedItem). i.ask) judged
-  pub stage : standing.stage ≡ Asked
-  pub unread : standing.rest ≡ left
 
 -- What a node names itself by and says of itself, and the address that it dials, keep the ranges of their types; its own
 -- address is one of msgr2, and its place one of those that cookies have.

@@ -1,7 +1,8 @@
 -- Reading and writing keep what an incoming socket keeps.
-use Rattle.std.proofs.Common.{◌≡◌, ℕ, ◌≤◌, ◌<◌, Bool, true, false, List, [], ◌∷◌, ◌++◌, length, map, take, drop, Option, Some, None, refl, sym, ap, ◌∙◌, subst, arith, append_assoc, append-nil}
+use Rattle.std.proofs.Common.{◌≡◌, ℕ, min, ◌≤◌, ◌<◌, Bool, true, false, List, [], ◌∷◌, ◌++◌, length, map, take, drop, slice_index, Option, Some, None, refl, sym, ap, ◌∙◌, subst, arith, append_assoc, append-nil}
 use Rattle.std.specs.Option.{option_map}
 use Rattle.std.proofs.lemmas.List.{take-append-drop, length-append, length-take-le}
+use Rattle.m2_bytes.specs.Items.{Holding}
 use Rattle.m2_fabric.specs.declared.end.EndRead.{EndRead}
 use Rattle.m2_fabric.specs.declared.end.EndRead.TheVariants as read
 use Rattle.m2_fabric.specs.declared.end.EndWrite.{EndWrite}
@@ -19,7 +20,9 @@ use Rattle.m2_handshake.proofs.Reaching.{leads_on}
 use Rattle.m2_handshake.proofs.Turns.{fed_stage}
 use Rattle.m2_journal.specs.declared.entry.Entry.{Entry}
 use Rattle.m2_trail.specs.Incoming.{IncomingNow, Asking, IsOwed, StandsAt, Keeps, exchange_of, given_by, is_over, after_read, after_write, fed_of, noted_read, left_by, noted_write}
-use Rattle.m2_trail.specs.Trails.{TrailNow, begins, entry_of, closing, entries_of, IsCounted, IsPoint}
+use Rattle.m2_trail.specs.Trails.{TrailNow, begins, entry_of, closing, entries_of, replies_by, IsAsked, IsCounted, IsPoint, RisesWithin}
+use Rattle.m2_trail.proofs.Given.{given_by_then}
+use Rattle.m2_trail.proofs.Judged.{asked_stays, rises_more}
 use Rattle.m2_trail.proofs.Points.{Longer, last_point, points_more}
 use Rattle.m2_trail.proofs.Runs.{entries_more, read_by-append, written_by-append}
 
@@ -94,8 +97,8 @@ keeps_got n piece inflow v fits unasked k =
     let w : IncomingNow = after_read (read.Got n) piece (read_end n piece inflow v.end) v in
     let counted : IsCounted log = read_counted n piece v.end.log fits k.counted in
     let comes : Reaches (begins v.trail) (exchange_of given k.asking.asks w) (fed v.half more) = leads_on.feeds (begins v.trail) v.half (exchange_of given k.asking.asks v) more k.comes in
-    let last : IsPoint (begins v.trail) log given log.runs =
-    last_point (begins v.trail) (fed v.half more) log given (exchange_of given k.asking.asks w) counted comes refl (prefix_self given) (v.left, refl) in
+    let last : (m : ℕ) → length v.end.log.runs < m → IsPoint (begins v.trail) log (replies_by v.trail v.refused m) log.runs =
+    λ m h. last_point (begins v.trail) (fed v.half more) log (replies_by v.trail v.refused m) (exchange_of given k.asking.asks w) counted comes refl (given_by_then v k m h) (v.left, refl) in
     record {
       unclosed = k.unclosed;
       socket = k.socket;
@@ -107,7 +110,11 @@ keeps_got n piece inflow v fits unasked k =
       stands = stands_unasked v.ask v.is_judged v w k.asking unasked refl k.stands;
       again = λ o. k.again (sym (ap is_over (fed_stage v.half more)) ∙ o);
       refused_ends = λ s. ap is_over (fed_stage v.half more) ∙ k.refused_ends s;
-      points = points_more (begins v.trail) v.end.log log given (run.Read n) k.counted (read_longer n piece v.end.log) refl k.points last;
+      refused_fits = k.refused_fits;
+      many = k.many;
+      rising = rises_more 0 v.trail.judged_after (length v.end.log.runs) (length log.runs) (omega (arith, length-append v.end.log.runs (run.Read n ∷ []))) k.rising;
+      asked = λ place h. asked_stays v.trail v.end.log log place (run.Read n ∷ []) k.counted (read_longer n piece v.end.log) refl (omega (arith, h, k.many)) k.rising (k.asked place h);
+      points = points_more (begins v.trail) v.end.log log (replies_by v.trail v.refused) (run.Read n) k.counted (read_longer n piece v.end.log) refl k.points last;
     }
 
 -- no bytes were moved: of the log only what the last call answered has changed
@@ -124,7 +131,11 @@ keeps_end end v id log same k = record {
   stands = stands_still v.ask v.is_judged v (record v { end = end }) k.asking refl refl refl k.stands;
   again = k.again;
   refused_ends = k.refused_ends;
-  points = λ n. subst (λ (l : Log). IsPoint (begins v.trail) l (given_by v k.asking) (take n l.runs)) (sym same) (k.points n);
+  refused_fits = k.refused_fits;
+  many = k.many;
+  rising = subst (λ (l : Log). RisesWithin 0 v.trail.judged_after (length l.runs)) (sym same) k.rising;
+  asked = λ place h. subst (λ (l : Log). IsAsked v.trail l place (take (slice_index v.trail.judged_after place) l.runs)) (sym same) (k.asked place h);
+  points = λ n. subst (λ (l : Log). IsPoint (begins v.trail) l (replies_by v.trail v.refused n) (take n l.runs)) (sym same) (k.points n);
 }
 
 pub keeps_read : (answer : EndRead) (piece : List ℕ) (end : SeenEnd) (v : IncomingNow) → v.ask ≡ None → Keeps v → Reads answer piece v.end end → Keeps (after_read answer piece end v)
@@ -162,8 +173,8 @@ keeps_put n v some fits k =
     let counted : IsCounted log = write_counted n v.left v.end.log fits k.counted in
     let comes : Reaches (begins v.trail) (exchange_of given k.asking.asks w) v.half =
     subst (λ text. Reaches (begins v.trail) (record { bytes = v.end.log.got; replies = given; text = text; asks = k.asking.asks }) v.half) (same_text n v.end.log.put v.left) k.comes in
-    let last : IsPoint (begins v.trail) log given log.runs =
-    last_point (begins v.trail) v.half log given (exchange_of given k.asking.asks w) counted comes refl (prefix_self given) (drop n v.left, refl) in
+    let last : (m : ℕ) → length v.end.log.runs < m → IsPoint (begins v.trail) log (replies_by v.trail v.refused m) log.runs =
+    λ m h. last_point (begins v.trail) v.half log (replies_by v.trail v.refused m) (exchange_of given k.asking.asks w) counted comes refl (given_by_then v k m h) (drop n v.left, refl) in
     record {
       unclosed = k.unclosed;
       socket = k.socket;
@@ -175,7 +186,11 @@ keeps_put n v some fits k =
       stands = stands_unasked v.ask v.is_judged v w k.asking unasked refl k.stands;
       again = k.again;
       refused_ends = k.refused_ends;
-      points = points_more (begins v.trail) v.end.log log given (run.Wrote n) k.counted (write_longer n v.left v.end.log) refl k.points last;
+      refused_fits = k.refused_fits;
+      many = k.many;
+      rising = rises_more 0 v.trail.judged_after (length v.end.log.runs) (length log.runs) (omega (arith, length-append v.end.log.runs (run.Wrote n ∷ []))) k.rising;
+      asked = λ place h. asked_stays v.trail v.end.log log place (run.Wrote n ∷ []) k.counted (write_longer n v.left v.end.log) refl (omega (arith, h, k.many)) k.rising (k.asked place h);
+      points = points_more (begins v.trail) v.end.log log (replies_by v.trail v.refused) (run.Wrote n) k.counted (write_longer n v.left v.end.log) refl k.points last;
     }
 
 pub keeps_write : (answer : EndWrite) (end : SeenEnd) (v : IncomingNow) → Keeps v → Writes answer v.left v.end end → Keeps (after_write answer end v)
@@ -185,6 +200,10 @@ keeps_write write.Failed end v k r = keeps_end end v (ap (λ (e : SeenEnd). e.id
 keeps_write write.NoMemory end v k r = keeps_end end v (ap (λ (e : SeenEnd). e.id) r) end.log (rw r refl) k
 
 -- ---- as the calls leave the fields
+
+-- the room of both lists of judgements
+pub room_same : {A B : Type 0} (js ks : Holding A) (ns ms : Holding B) → js ≡ ks → ns ≡ ms → min js.room ns.room ≡ min ks.room ms.room
+room_same js ks ns ms e f = rw (e, f) refl
 
 pub read_kept : (v : IncomingNow) (answer : EndRead) (piece : List ℕ) (end : SeenEnd) (half : Standing) (t : TrailNow) (room : ℕ) →
     Keeps v → v.ask ≡ None → Reads answer piece v.end end → half ≡ fed_of answer piece v.half → t ≡ noted_read answer v.trail → room ≡ v.room →

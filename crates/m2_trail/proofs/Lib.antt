@@ -1,6 +1,8 @@
 pub mod Runs
 pub mod Points
+pub mod Judged
 pub mod Replying
+pub mod Given
 pub mod Over
 pub mod Reading
 pub mod Asked

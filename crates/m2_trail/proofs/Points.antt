@@ -81,14 +81,15 @@ last_point begin s log replies x c r b g t = record {
 }
 
 -- one run more is one point more
-pub points_more : (begin : Standing) (old new : Log) (replies : List Control) (r : Run) → IsCounted old → Longer old new → new.runs ≡ old.runs ++ r ∷ [] →
-    ((n : ℕ) → IsPoint begin old replies (take n old.runs)) → IsPoint begin new replies new.runs → (n : ℕ) → IsPoint begin new replies (take n new.runs)
+pub points_more : (begin : Standing) (old new : Log) (replies : ℕ → List Control) (r : Run) → IsCounted old → Longer old new → new.runs ≡ old.runs ++ r ∷ [] →
+    ((n : ℕ) → IsPoint begin old (replies n) (take n old.runs)) → ((n : ℕ) → length old.runs < n → IsPoint begin new (replies n) new.runs) →
+    (n : ℕ) → IsPoint begin new (replies n) (take n new.runs)
 points_more begin old new replies r c l e points last n = by_place (cases_lt (length old.runs) n)
   where
-    by_place : (length old.runs < n) ⊎ (n ≤ length old.runs) → IsPoint begin new replies (take n new.runs)
+    by_place : (length old.runs < n) ⊎ (n ≤ length old.runs) → IsPoint begin new (replies n) (take n new.runs)
     by_place (inl h) =
         let all : take n new.runs ≡ new.runs = take_all n new.runs (rw (ap length e, length-append old.runs (r ∷ [])) (omega arith)) in
-        subst (IsPoint begin new replies) (sym all) last
+        subst (IsPoint begin new (replies n)) (sym all) (last n h)
     by_place (inr h) =
         let same : take n new.runs ≡ take n old.runs = ap (take n) e ∙ take-append-le n old.runs (r ∷ []) h in
-        subst (IsPoint begin new replies) (sym same) (point_stays begin old new replies (take n old.runs) (first_within n old c) l (points n))
+        subst (IsPoint begin new (replies n)) (sym same) (point_stays begin old new (replies n) (take n old.runs) (first_within n old c) l (points n))

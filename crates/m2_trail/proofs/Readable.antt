@@ -1,12 +1,14 @@
 -- The asks of a half can be read.
-use Rattle.std.proofs.Common.{◌≡◌, ◌≢◌, ℕ, ◌≤◌, ◌<◌, ◌%◌, ◌==◌, ◌&&◌, not, ◌⊎◌, inl, inr, Bool, true, false, if◌then◌else◌, List, [], ◌∷◌, ◌++◌, map, Option, Some, None, refl, sym, ap, ◌∙◌, subst, arith}
+use Rattle.std.proofs.Common.{◌≡◌, ◌≢◌, ℕ, zero, suc, ◌≤◌, ◌<◌, ◌%◌, ◌==◌, ◌&&◌, not, ◌⊎◌, inl, inr, Bool, true, false, if◌then◌else◌, List, [], ◌∷◌, ◌++◌, length, map, take, Option, Some, None, refl, sym, ap, ◌∙◌, subst, arith}
 use Rattle.std.proofs.lemmas.Bool.{eq-eqb}
+use Rattle.std.proofs.lemmas.List.{take_all}
 use Rattle.std.specs.List.{AllByRecursion}
 use Rattle.std.specs.Option.{IfSome}
 use Rattle.m2_answers.specs.declared.ask.AskFacts.{AskFacts}
 use Rattle.m2_control.specs.declared.banner.BannerStep.{BannerStep}
 use Rattle.m2_control.specs.declared.banner.BannerStep.TheVariants.{Got, NotYet, BadBanner}
 use Rattle.m2_control.specs.declared.fields.TheConstants.{GREATEST_NUMBER}
+use Rattle.m2_control.specs.declared.control.Control.{Control}
 use Rattle.m2_control.specs.Banner.{banner_in}
 use Rattle.m2_control.specs.Laws.{IsInBounds}
 use Rattle.m2_fabric.specs.Log.{Log}
@@ -30,7 +32,7 @@ use Rattle.m2_journal.specs.Lawful.{IsReadable}
 use Rattle.m2_journal.specs.SideFacts.{SideFacts}
 use Rattle.m2_trail.specs.Asks.{facts_of_ask, AgreesWith}
 use Rattle.m2_trail.specs.Laws.{HasNumbers, AsksCanBeRead}
-use Rattle.m2_trail.specs.Trails.{TrailNow, IsTrailOf}
+use Rattle.m2_trail.specs.Trails.{TrailNow, begins, ComesToAsk, IsTrailOf}
 use Rattle.m2_trail.proofs.Asked.{AsksWell, move_well, take_well}
 
 differ : true ≡ false → ⊥
@@ -156,10 +158,21 @@ items_bounded : (judged : List JudgedItem) → AllByRecursion HasNumbers (map (�
 items_bounded [] h = tt
 items_bounded (i ∷ is) h = (h.0, items_bounded is h.1)
 
+asked_bounded : (begin : Standing) (bytes : List ℕ) (replies : List Control) (judged : List JudgedItem) → ComesToAsk begin bytes replies judged →
+    AllByRecursion (λ (i : JudgedItem). HasNumbers i.ask) judged
+asked_bounded begin bytes replies judged a =
+    let all = facts_bounded a.exchange.asks (reached_bounded begin a.exchange a.standing a.comes) in
+    items_bounded judged (all_first HasNumbers (map (λ (i : JudgedItem). i.ask) judged) a.first.0 (subst (AllByRecursion HasNumbers) a.first.1 all))
+
+-- all of them are those up to the last one
 judged_bounded : (t : TrailNow) (log : Log) → IsTrailOf t log → AllByRecursion (λ (i : JudgedItem). HasNumbers i.ask) t.judged
-judged_bounded t log f =
-    let all = facts_bounded f.asks.exchange.asks (reached_bounded _ f.asks.exchange f.asks.standing f.asks.comes) in
-    items_bounded t.judged (all_first HasNumbers (map (λ (i : JudgedItem). i.ask) t.judged) f.asks.first.0 (subst (AllByRecursion HasNumbers) f.asks.first.1 all))
+judged_bounded t log f = by_count (length t.judged) refl
+  where
+    by_count : (n : ℕ) → length t.judged ≡ n → AllByRecursion (λ (i : JudgedItem). HasNumbers i.ask) t.judged
+    by_count zero e = subst (AllByRecursion (λ (i : JudgedItem). HasNumbers i.ask)) (take_all 0 t.judged (omega (arith, e))) tt
+    by_count (suc n) e =
+        subst (AllByRecursion (λ (i : JudgedItem). HasNumbers i.ask)) (take_all (suc n) t.judged (omega (arith, e)))
+        (asked_bounded (begins t) _ _ (take (suc n) t.judged) (f.asks n (omega (arith, e))))
 
 pub asks_can_be_read : AsksCanBeRead
 asks_can_be_read = record {

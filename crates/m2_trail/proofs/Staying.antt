@@ -1,5 +1,5 @@
 -- Trails beside logs that grow.
-use Rattle.std.proofs.Common.{◌≡◌, ℕ, List, ◌++◌, take, drop, sym, ap, ◌∙◌, subst, arith}
+use Rattle.std.proofs.Common.{◌≡◌, ℕ, suc, List, ◌++◌, take, drop, slice_index, sym, ap, ◌∙◌, subst, arith}
 use Rattle.std.proofs.lemmas.List.{take-append-drop}
 use Rattle.std.proofs.lemmas.List.Elements.{filter_map-append}
 use Rattle.m2_fabric.specs.declared.socket.SocketId.{SocketId}
@@ -10,9 +10,9 @@ use Rattle.m2_handshake.specs.Standing.{fed}
 use Rattle.m2_journal.specs.declared.entry.Entry.{Entry}
 use Rattle.m2_journal.specs.Items.{run_of, runs_on}
 use Rattle.m2_trail.specs.Laws.{GoesOn, IsWithin, TrailsStay, TrailsCover}
-use Rattle.m2_trail.specs.Replies.{all_replies, replies_to}
-use Rattle.m2_trail.specs.Trails.{TrailNow, IsTrailOf, IsWholeTrail, ComesToAsk, begins, runs_of, read_by, written_by, unread_of}
-use Rattle.m2_trail.proofs.Points.{Longer, Within, got_stays, point_stays}
+use Rattle.m2_trail.specs.Replies.{replies_to}
+use Rattle.m2_trail.specs.Trails.{TrailNow, half_bytes, IsAsked, IsTaken, IsTakenTrail, IsTrailOf, IsWholeTrail, ComesToAsk, begins, replies_by, runs_of, read_by, written_by, unread_of}
+use Rattle.m2_trail.proofs.Points.{Longer, Within, got_stays, put_stays, point_stays}
 use Rattle.m2_trail.proofs.Runs.{read_by-append, written_by-append, runs_on-all}
 
 longer : (old new : Log) → GoesOn old new → Longer old new
@@ -32,11 +32,20 @@ first_within t log n w =
     let written = ap written_by split ∙ written_by-append (runs_on t.socket (take n t.entries)) (runs_on t.socket (drop n t.entries)) in
     record { got = omega (arith, w.got); put = omega (arith, w.put) }
 
+asked_stays : (t : TrailNow) (old new : Log) (place n : ℕ) → IsWithin t old → GoesOn old new →
+    IsAsked t old place (runs_on t.socket (take n t.entries)) → IsAsked t new place (runs_on t.socket (take n t.entries))
+asked_stays t old new place n w g a =
+    subst (λ bytes. ComesToAsk (begins t) bytes (replies_to (take place t.judged)) (take (suc place) t.judged))
+    (sym (got_stays (runs_on t.socket (take n t.entries)) old new (first_within t old n w) (longer old new g))) a
+
 facts_stay : (t : TrailNow) (old new : Log) → IsWithin t old → GoesOn old new → IsTrailOf t old → IsTrailOf t new
 facts_stay t old new w g f = record {
   refused = f.refused;
-  asks = subst (λ bytes. ComesToAsk (begins t) bytes (all_replies t.judged f.refused) t.judged) (sym (got_stays (runs_of t) old new (whole_within t old w) (longer old new g))) f.asks;
-  points = λ n. point_stays (begins t) old new (all_replies t.judged f.refused) (runs_on t.socket (take n t.entries)) (first_within t old n w) (longer old new g) (f.points n);
+  refused_fits = f.refused_fits;
+  many = f.many;
+  rising = f.rising;
+  asks = λ place h. asked_stays t old new place (slice_index t.judged_after place) w g (f.asks place h);
+  points = λ n. point_stays (begins t) old new (replies_by t f.refused n) (runs_on t.socket (take n t.entries)) (first_within t old n w) (longer old new g) (f.points n);
 }
 
 unread_stays : (t : TrailNow) (old new : Log) → IsWithin t old → GoesOn old new → unread_of t new ≡ unread_of t old
@@ -44,8 +53,25 @@ unfolding unread_of
 unread_stays t old new w g =
     ap (λ bytes. (course_of (fed (begins t) bytes) (replies_to t.judged)).standing.rest) (got_stays (runs_of t) old new (whole_within t old w) (longer old new g))
 
+half_stays : (t : TrailNow) (old new : Log) → IsWithin t old → GoesOn old new → IsTaken (begins t) (half_bytes t old) t.judged (unread_of t old) →
+    IsTaken (begins t) (half_bytes t new) t.judged (unread_of t new)
+half_stays t old new w g k = record {
+  exchange = k.exchange;
+  standing = k.standing;
+  comes = k.comes;
+  got = k.got ∙ sym (got_stays (runs_of t) old new (whole_within t old w) (longer old new g));
+  put = k.put ∙ sym (put_stays (runs_of t) old new (whole_within t old w) (longer old new g));
+  replies = k.replies;
+  asks = k.asks;
+  stage = k.stage;
+  unread = k.unread ∙ sym (unread_stays t old new w g);
+}
+
+taken_stay : (t : TrailNow) (old new : Log) → IsWithin t old → GoesOn old new → IsTakenTrail t old → IsTakenTrail t new
+taken_stay t old new w g it = record { half = half_stays t old new w g it.half; earlier = it.earlier; last = it.last }
+
 pub trails_stay : TrailsStay
-trails_stay = record { facts = facts_stay; unread = unread_stays }
+trails_stay = record { facts = facts_stay; unread = unread_stays; taken = taken_stay }
 
 -- ---- whole trails
 

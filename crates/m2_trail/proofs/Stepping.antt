@@ -50,6 +50,10 @@ answer_kept result v half left unasked k a =
       stands = stands_unasked v.ask v.is_judged v w k.asking unasked refl k.stands;
       again = unover _ (is_over v.half.stage) (is_over half.stage) (λ o. answered_over result (behind v.half v.left) (behind half left) o a) k.again;
       refused_ends = λ s. answered_over result (behind v.half v.left) (behind half left) (k.refused_ends s) a;
+      refused_fits = k.refused_fits;
+      many = k.many;
+      rising = k.rising;
+      asked = k.asked;
       points = k.points;
     }
 
@@ -72,6 +76,10 @@ quiet_kept result v half unasked can k quiet a =
       stands = stands_unasked v.ask v.is_judged v (record v { half = half }) k.asking unasked refl k.stands;
       again = unover _ (is_over v.half.stage) (is_over half.stage) (λ o. asked_over result v.half half o a) k.again;
       refused_ends = λ s. asked_over result v.half half (k.refused_ends s) a;
+      refused_fits = k.refused_fits;
+      many = k.many;
+      rising = k.rising;
+      asked = k.asked;
       points = k.points;
     }
 
@@ -138,5 +146,9 @@ ask_kept ask v half put unasked can k a =
       stands = stands_asked ask v.ask v.is_judged v (record v { half = half; ask = Some ask }) k.asking unasked unrefused put unrefused (asks_well a.mid half (bare_ask ask) a.ends) k.stands;
       again = λ _. k.again (isnt (is_over v.half.stage) not_over);
       refused_ends = λ s. absurd (not_over (k.refused_ends s));
+      refused_fits = k.refused_fits;
+      many = k.many;
+      rising = k.rising;
+      asked = k.asked;
       points = k.points;
     }

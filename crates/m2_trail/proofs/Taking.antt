@@ -1,6 +1,8 @@
 -- What a half leaves to the record that takes it.
-use Rattle.std.proofs.Common.{◌≡◌, ℕ, true, List, [], ◌∷◌, ◌++◌, Option, None, sym, ap, ◌∙◌, append-nil}
+use Rattle.std.proofs.Common.{◌≡◌, ℕ, true, is_some, List, [], ◌∷◌, ◌++◌, Option, Some, None, refl, sym, ap, ◌∙◌, append-nil}
+use Rattle.std.proofs.lemmas.List.{map-append}
 use Rattle.m2_control.specs.declared.control.Control.{Control}
+use Rattle.m2_fabric.specs.Log.{Log}
 use Rattle.m2_handshake.specs.declared.ask.Ask.{Ask}
 use Rattle.m2_handshake.specs.declared.fault.HalfFault.{HalfFault}
 use Rattle.m2_handshake.specs.declared.stage.Stage.TheVariants.{Asked, Faulty}
@@ -10,14 +12,15 @@ use Rattle.m2_handshake.proofs.Course.{owing}
 use Rattle.m2_handshake.proofs.Prefixes.{unread_is_the_end}
 use Rattle.m2_handshake.proofs.Reaching.{at_its_course}
 use Rattle.m2_journal.specs.declared.entry.JudgedItem.{JudgedItem}
+use Rattle.m2_journal.specs.Items.{runs_on}
 use Rattle.m2_session.specs.declared.answer.Answer.{Answer}
 use Rattle.m2_session.specs.Laws.{takes}
 use Rattle.m2_trail.specs.Arrivals.{IsEndOf}
-use Rattle.m2_trail.specs.Incoming.{IncomingNow, Keeps, IsAnswered, exchange_of, given_by, item_of}
+use Rattle.m2_trail.specs.Incoming.{IncomingNow, Keeps, IsAnswered, exchange_of, facts_judged, given_by, item_of, items_of, with_judged}
 use Rattle.m2_trail.specs.Replies.{reply_to, replies_to, all_replies}
-use Rattle.m2_trail.specs.Trails.{begins, got_by, runs_of, unread_of}
+use Rattle.m2_trail.specs.Trails.{begins, got_by, put_by, runs_of, unread_of, half_bytes, IsTaken, IsTakenTrail, TrailNow}
 use Rattle.m2_trail.proofs.Judging.{owes_at}
-use Rattle.m2_trail.proofs.Points.{all_got}
+use Rattle.m2_trail.proofs.Points.{all_got, all_put}
 use Rattle.m2_trail.proofs.Replying.{replies_to-append, none_where_taken}
 use Rattle.m2_trail.proofs.Runs.{runs_on-all}
 
@@ -56,3 +59,30 @@ is_unread v answer k a t =
     ap (λ (s : Standing). s.rest) there.standing
     ∙ (ap (λ l. (course_of (fed begin l) given).standing.rest) bytes
     ∙ ap (λ cs. (course_of (fed begin (got_by (runs_of v.trail) v.end.log)) cs).standing.rest) replies)
+
+-- the half owes the reply to its last ask, and all that it wrote is put
+pub is_taken : (v : IncomingNow) (answer : Answer) → Keeps v → IsAnswered answer v → takes answer ≡ true →
+    IsTaken (begins v.trail) (half_bytes v.trail v.end.log) v.trail.judged (unread_of v.trail v.end.log)
+is_taken v answer k a t =
+    let found = owes_at answer v.ask v.is_judged v k.asking v.trail.judged a.1.0 a.0 k.stands k.judged a.1.1 in
+    let owes = found.2 in
+    let given : List Control = given_by v k.asking in
+    let runs : runs_of v.trail ≡ v.end.log.runs = ap (runs_on v.trail.socket) k.entries ∙ runs_on-all v.trail.socket v.end.log in
+    let judged : v.trail.judged ≡ k.asking.before ++ item_of found.0 answer ∷ [] = k.judged ∙ ap (λ l. k.asking.before ++ l) owes.this in
+    record {
+      exchange = exchange_of given k.asking.asks v;
+      standing = v.half;
+      comes = k.comes;
+      got = sym (ap (λ rs. got_by rs v.end.log) runs ∙ all_got v.end.log k.counted);
+      put = ap (λ l. v.end.log.put ++ l) owes.owed.put ∙ (append-nil v.end.log.put ∙ sym (ap (λ rs. put_by rs v.end.log) runs ∙ all_put v.end.log k.counted));
+      replies = same_replies k.asking.before found.0 answer k.asking.this v.refused t owes.this owes.owed.unrefused ∙ ap replies_to (sym k.judged);
+      asks = owes.facts ∙ (sym (map-append (λ (i : JudgedItem). i.ask) k.asking.before (item_of found.0 answer ∷ [])) ∙ ap facts_judged (sym judged));
+      stage = owes.owed.stage;
+      unread = is_unread v answer k a t;
+    }
+
+-- the last ask was judged behind all entries
+pub taken_now : (had : Option Ask) (answer : Answer) (t : TrailNow) (log : Log) → is_some had ≡ true → (let w : TrailNow = with_judged (items_of had answer) t in
+    IsTaken (begins w) (half_bytes w log) w.judged (unread_of w log) → IsTakenTrail w log)
+taken_now None answer t log some half = absurd cc
+taken_now (Some ask) answer t log some half = record { half = half; earlier = t.judged_after; last = refl }

@@ -1,5 +1,5 @@
 -- The trail of an incoming socket tells all that its end did.
-use Rattle.std.proofs.Common.{◌≡◌, ℕ, zero, suc, Bool, true, false, is_some, List, [], ◌∷◌, ◌++◌, map, take, Option, Some, None, refl, sym, ap, ◌∙◌, subst, append-nil}
+use Rattle.std.proofs.Common.{◌≡◌, ℕ, zero, suc, Bool, true, false, is_some, List, [], ◌∷◌, ◌++◌, length, map, take, slice_index, Option, Some, None, refl, sym, ap, ◌∙◌, subst, append-nil, arith}
 use Rattle.m2_answers.specs.declared.ask.AskFacts.{AskFacts}
 use Rattle.m2_control.specs.declared.control.Control.{Control}
 use Rattle.m2_fabric.specs.End.{SeenEnd, after_closing}
@@ -17,47 +17,13 @@ use Rattle.m2_trail.specs.Asks.{facts_of_ask}
 use Rattle.m2_trail.specs.Arrivals.{IsArrival}
 use Rattle.m2_trail.specs.Incoming.{IncomingNow, Asking, IsOwed, StandsAt, Keeps, exchange_of, facts_asked, facts_judged, given_by, is_over, accepted, item_of, with_entry}
 use Rattle.m2_trail.specs.Replies.{replies_to, all_replies}
-use Rattle.m2_trail.specs.Trails.{TrailNow, begins, entry_of, closing, entries_of, got_by, runs_of, IsCounted, IsPoint, IsTrailOf, IsWholeTrail, opener_of}
-use Rattle.m2_trail.proofs.Points.{all_got, point_replies}
-use Rattle.m2_trail.proofs.Replying.{replies_to-append}
-use Rattle.m2_trail.proofs.Runs.{runs_on-all, runs_on-take}
+use Rattle.m2_trail.specs.Trails.{TrailNow, begins, entry_of, closing, entries_of, replies_by, IsAsked, IsCounted, IsPoint, IsTrailOf, IsWholeTrail, opener_of}
+use Rattle.m2_trail.proofs.Given.{entries_at_least}
+use Rattle.m2_trail.proofs.Judged.{rises_more}
+use Rattle.m2_trail.proofs.Runs.{runs_on-take}
 
 differ : true ≡ false → ⊥
 differ e = cc
-
--- ---- the replies that were given, and those to all judged asks
-
--- one reply more may be owed, where none was refused
-owed_replies : (before this : List JudgedItem) (refused : Option ℕ) → refused ≡ None → IsPrefix (all_replies before refused) (all_replies (before ++ this) refused)
-owed_replies before this (Some bits) r = absurd cc
-owed_replies before this None r =
-    (replies_to this, append-nil (replies_to (before ++ this)) ∙ (replies_to-append before this ∙ ap (λ l. l ++ replies_to this) (sym (append-nil (replies_to before)))))
-
-no_more : (before this : List JudgedItem) (refused : Option ℕ) → this ≡ [] → IsPrefix (all_replies before refused) (all_replies (before ++ this) refused)
-no_more before this refused e =
-    ([], ap (λ l. all_replies l refused) (ap (λ l. before ++ l) e ∙ append-nil before) ∙ sym (append-nil (all_replies before refused)))
-
-given_first : (ask : Option Ask) (judged : Bool) (v : IncomingNow) (a : Asking) → StandsAt ask judged v a → IsPrefix (all_replies a.before v.refused) (all_replies (a.before ++ a.this) v.refused)
-given_first None judged v a s = no_more a.before a.this v.refused s.1
-given_first (Some ask) false v a s = no_more a.before a.this v.refused s.1
-given_first (Some ask) true v a s = owed_replies a.before a.this v.refused s.0.unrefused
-
--- ---- the judged asks are the first ones
-
-same_judged : (before this : List JudgedItem) (asks more : List AskFacts) → this ≡ [] → asks ≡ facts_judged before ++ more → asks ≡ facts_judged (before ++ this) ++ more
-same_judged before this asks more none e = e ∙ ap (λ l. facts_judged l ++ more) (sym (ap (λ l. before ++ l) none ∙ append-nil before))
-
-judged_first : (ask : Option Ask) (judged : Bool) (v : IncomingNow) (a : Asking) → StandsAt ask judged v a → IsPrefix (facts_judged (a.before ++ a.this)) (facts_asked a.asks)
-judged_first None judged v a s = (s.2.0, same_judged a.before a.this (facts_asked a.asks) s.2.0 s.1 s.2.1)
-judged_first (Some ask) false v a s = (facts_of_ask ask ∷ [], same_judged a.before a.this (facts_asked a.asks) (facts_of_ask ask ∷ []) s.1 s.2)
-judged_first (Some ask) true v a s =
-    let one : facts_judged (a.before ++ a.this) ≡ facts_judged a.before ++ facts_of_ask ask ∷ [] =
-    ap (λ l. facts_judged (a.before ++ l)) s.1.1 ∙ facts_more a.before (item_of ask s.1.0) in
-    ([], s.2 ∙ (sym one ∙ sym (append-nil (facts_judged (a.before ++ a.this)))))
-  where
-    facts_more : (before : List JudgedItem) (item : JudgedItem) → facts_judged (before ++ item ∷ []) ≡ facts_judged before ++ item.ask ∷ []
-    facts_more [] item = refl
-    facts_more (i ∷ is) item = ap (λ l. i.ask ∷ l) (facts_more is item)
 
 -- ---- the two facts, whether the end is closed behind it or not
 
@@ -69,24 +35,25 @@ pub trail_of : (v : IncomingNow) (closed : Bool) (entries : List Entry) → Keep
 trail_of v closed entries k e =
     let t : TrailNow = record v.trail { entries = entries } in
     let log : Log = closed_as closed v.end.log in
-    let given : List Control = given_by v k.asking in
-    let replies : List Control = all_replies v.trail.judged v.refused in
-    let counted : IsCounted log = record { got = k.counted.got; put = k.counted.put } in
-    let runs : runs_of t ≡ log.runs = ap (runs_on t.socket) e ∙ runs_on-all t.socket log in
-    let first : IsPrefix given replies = subst (λ l. IsPrefix given (all_replies l v.refused)) (sym k.judged) (given_first v.ask v.is_judged v k.asking k.stands) in
+    let first : (n : ℕ) → runs_on t.socket (take n entries) ≡ take n log.runs = λ n. ap (λ l. runs_on t.socket (take n l)) e ∙ runs_on-take t.socket n log in
     record {
       refused = v.refused;
-      asks = record {
-        exchange = exchange_of given k.asking.asks v;
-        standing = v.half;
-        comes = k.comes;
-        fed = sym (ap (λ rs. got_by rs log) runs ∙ all_got log counted);
-        given = first;
-        first = subst (λ l. IsPrefix (facts_judged l) (facts_asked k.asking.asks)) (sym k.judged) (judged_first v.ask v.is_judged v k.asking k.stands);
-      };
+      refused_fits = k.refused_fits;
+      many = k.many;
+      rising = rises_more 0 v.trail.judged_after (length log.runs) (length entries) (omega (arith, ap length e, entries_at_least v.trail.socket log)) k.rising;
+      asks = λ place h.
+          let n = slice_index v.trail.judged_after place in
+          let asked : IsAsked t log place (take n log.runs) = record {
+            exchange = (k.asked place h).exchange;
+            standing = (k.asked place h).standing;
+            comes = (k.asked place h).comes;
+            fed = (k.asked place h).fed;
+            given = (k.asked place h).given;
+            first = (k.asked place h).first;
+          } in
+          subst (IsAsked t log place) (sym (first n)) asked;
       points = λ n.
-          let here : runs_on t.socket (take n entries) ≡ take n log.runs = ap (λ l. runs_on t.socket (take n l)) e ∙ runs_on-take t.socket n log in
-          let point : IsPoint (begins t) log given (take n log.runs) = record {
+          let point : IsPoint (begins t) log (replies_by t v.refused n) (take n log.runs) = record {
             exchange = (k.points n).exchange;
             standing = (k.points n).standing;
             comes = (k.points n).comes;
@@ -94,7 +61,7 @@ trail_of v closed entries k e =
             given = (k.points n).given;
             written = (k.points n).written;
           } in
-          subst (IsPoint (begins t) log replies) (sym here) (point_replies (begins t) log given replies (take n log.runs) first point);
+          subst (IsPoint (begins t) log (replies_by t v.refused n)) (sym (first n)) point;
     }
 
 pub whole_trail : (v : IncomingNow) → Keeps v → IsWholeTrail v.trail v.end
@@ -211,11 +178,15 @@ begun_keeps entity end room n =
       stands = (refl, refl, ([], refl, refl));
       again = λ _. tt;
       refused_ends = λ s. absurd (differ (sym s));
+      refused_fits = tt;
+      many = refl;
+      rising = omega arith;
+      asked = λ place h. absurd (omega (arith, h));
       points = λ i. subst (λ (l : Log). IsPoint begin l [] (take i l.runs)) (sym n) (no_point i begin);
     }
 
 -- as its maker leaves the fields
-pub begun_left : (end : SeenEnd) (t : TrailNow) (half : Standing) (left : List ℕ) (room : ℕ) → end.log ≡ nothing_done → t.socket ≡ end.id → t.entries ≡ [] → t.judged ≡ [] →
+pub begun_left : (end : SeenEnd) (t : TrailNow) (half : Standing) (left : List ℕ) (room : ℕ) → end.log ≡ nothing_done → t.socket ≡ end.id → t.entries ≡ [] → t.judged ≡ [] → t.judged_after ≡ [] →
     half ≡ acceptor_at_start t.entity (opener_of t.socket) → left ≡ [] →
     Keeps (record { end = end; trail = t; half = half; left = left; ask = None; is_judged = false; refused = None; room = room })
-begun_left end t half left room n s e j h l = rw (h, l, s, e, j) (begun_keeps t.entity end room n)
+begun_left end t half left room n s e j p h l = rw (h, l, s, e, j, p) (begun_keeps t.entity end room n)

@@ -1,6 +1,6 @@
 -- What contracts see of a socket of the peer with its half and its trail, and how each call changes that. This project's
 -- own.
-use Rattle.std.specs.Prelude.{◌≡◌, ℕ, Bool, true, false, List, [], ◌∷◌, ◌++◌, length, map, take, drop, Option, Some, None, IsSome, MatchBool}
+use Rattle.std.specs.Prelude.{◌≡◌, ℕ, ◌<◌, ◌^◌, Bool, true, false, List, [], ◌∷◌, ◌++◌, length, map, take, drop, slice_index, Option, Some, None, IsSome, IfSome, MatchBool}
 use Rattle.std.specs.List.{AllByRecursion}
 use Rattle.m2_addr.specs.declared.addr.Addr.{Addr}
 use Rattle.m2_answers.specs.declared.ask.AskFacts.{AskFacts}
@@ -35,7 +35,7 @@ use Rattle.m2_trail.specs.declared.step.IncomingStep.{IncomingStep}
 use Rattle.m2_trail.specs.declared.step.IncomingStep.TheVariants as step
 use Rattle.m2_trail.specs.Asks.{facts_of_ask, IsMain}
 use Rattle.m2_trail.specs.Replies.{refusal_of, all_replies}
-use Rattle.m2_trail.specs.Trails.{TrailNow, begins, entries_of, opener_of, IsCounted, IsPoint}
+use Rattle.m2_trail.specs.Trails.{TrailNow, begins, entries_of, opener_of, replies_by, IsAsked, IsCounted, IsPoint, RisesWithin}
 
 pub record IncomingNow : Type 0 where
   pub end : SeenEnd
@@ -59,7 +59,7 @@ pub record IncomingNow : Type 0 where
 abbrev pub accepted : ℕ → SeenEnd → (room : ℕ) → IncomingNow
 accepted entity end room = record {
   end = end;
-  trail = record { socket = end.id; entity = entity; entries = []; judged = [] };
+  trail = record { socket = end.id; entity = entity; entries = []; judged = []; judged_after = [] };
   half = acceptor_at_start entity (opener_of end.id);
   left = [];
   ask = None;
@@ -139,13 +139,14 @@ StepsOn step.NoMemory old new = HalfAnswers half.NoMemory asked.NoMemory old new
 abbrev pub item_of : Ask → Answer → JudgedItem
 item_of ask answer = record { ask = facts_of_ask ask; answer = answer }
 
--- the ask in hand is judged
+-- the answer to the ask in hand
 abbrev pub items_of : Option Ask → Answer → List JudgedItem
 items_of (Some ask) answer = item_of ask answer ∷ []
 items_of None answer = []
 
+-- asks are judged, behind all entries that there are
 abbrev pub with_judged : List JudgedItem → TrailNow → TrailNow
-with_judged more t = record t { judged = t.judged ++ more }
+with_judged more t = record t { judged = t.judged ++ more; judged_after = t.judged_after ++ map (λ (_ : JudgedItem). length t.entries) more }
 
 abbrev pub after_judging : Answer → (room : ℕ) → IncomingNow → IncomingNow
 after_judging answer room v =
@@ -228,4 +229,8 @@ pub record Keeps (v : IncomingNow) : Type 0 where
   pub stands : StandsAt v.ask v.is_judged v asking
   pub again : is_over v.half.stage ≡ false → AllByRecursion (λ (i : JudgedItem). may_ask_again i.answer ≡ true) asking.before
   pub refused_ends : IsSome v.refused → is_over v.half.stage ≡ true
-  pub points : (n : ℕ) → IsPoint (begins v.trail) v.end.log (given_by v asking) (take n v.end.log.runs)
+  pub refused_fits : IfSome v.refused (λ bits. bits < 2 ^ 64)
+  pub many : length v.trail.judged_after ≡ length v.trail.judged
+  pub rising : RisesWithin 0 v.trail.judged_after (length v.end.log.runs)
+  pub asked : (place : ℕ) → place < length v.trail.judged → IsAsked v.trail v.end.log place (take (slice_index v.trail.judged_after place) v.end.log.runs)
+  pub points : (n : ℕ) → IsPoint (begins v.trail) v.end.log (replies_by v.trail v.refused n) (take n v.end.log.runs)

@@ -24,7 +24,7 @@ use Rattle.m2_session.specs.declared.answer.Answer.{Answer}
 use Rattle.m2_session.specs.Laws.{takes}
 use Rattle.m2_trail.specs.Asks.{facts_of_ask, AgreesWith}
 use Rattle.m2_trail.specs.Replies.{reply_to}
-use Rattle.m2_trail.specs.Trails.{TrailNow, IsTrailOf, IsWholeTrail, runs_of, read_by, written_by, unread_of}
+use Rattle.m2_trail.specs.Trails.{TrailNow, IsTakenTrail, IsTrailOf, IsWholeTrail, runs_of, read_by, written_by, unread_of}
 
 -- ---- asks
 
@@ -63,10 +63,11 @@ pub record IsWithin (t : TrailNow) (log : Log) : Type 0 where
   pub got : read_by (runs_of t) ≤ length log.got
   pub put : written_by (runs_of t) ≤ length log.put
 
--- As the log of an end grows, its trail is still one, and what its half left unread is the same.
+-- As the log of an end grows, its trail is still one, what its half left unread is the same, and a half that was taken was so.
 pub record TrailsStay : Type 0 where
   pub facts : (t : TrailNow) (old new : Log) → IsWithin t old → GoesOn old new → IsTrailOf t old → IsTrailOf t new
   pub unread : (t : TrailNow) (old new : Log) → IsWithin t old → GoesOn old new → unread_of t new ≡ unread_of t old
+  pub taken : (t : TrailNow) (old new : Log) → IsWithin t old → GoesOn old new → IsTakenTrail t old → IsTakenTrail t new
 
 -- The runs of the trail of an end that no record took are those of its log, to the last byte.
 pub record TrailsCover : Type 0 where

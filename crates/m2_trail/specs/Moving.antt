@@ -24,6 +24,7 @@ pub record Notes (new_trail : TrailNow) (old new : Trail) : Type 0 where
   pub tells : trail_now new ≡ new_trail
   pub room : 1 ≤ new.entries.room
   pub judged : new.judged ≡ old.judged
+  pub judged_after : new.judged_after ≡ old.judged_after
 
 abbrev pub NotesRead : EndRead → Trail → Trail → Type 0
 NotesRead answer old new = Notes (noted_read answer (trail_now old)) old new

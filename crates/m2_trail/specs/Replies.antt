@@ -1,6 +1,6 @@
 -- What an acceptor's half replies: to a judged ask the frame of the answer, where it takes no socket, and to an ident of
 -- which features are missing a refusal. The frames are Ceph's; that a refusal is the last reply is this project's profile.
-use Rattle.std.specs.Prelude.{ℕ, false, List, [], ◌∷◌, ◌++◌, slice_get, Option, Some, None}
+use Rattle.std.specs.Prelude.{ℕ, zero, suc, false, List, [], ◌∷◌, ◌++◌, slice_get, Option, Some, None}
 use Rattle.std.specs.List.{flat_map}
 use Rattle.m2_control.specs.declared.control.Control.{Control}
 use Rattle.m2_control.specs.declared.control.Control.TheVariants as control
@@ -35,3 +35,9 @@ refusal_of None = []
 -- all replies of a half: those to its judged asks, and behind them at most one refusal
 abbrev pub all_replies : List JudgedItem → Option ℕ → List Control
 all_replies judged refused = replies_to judged ++ refusal_of refused
+
+-- the replies to the first so many judged asks; a refusal stands only behind all of them
+abbrev pub first_replies : List JudgedItem → ℕ → Option ℕ → List Control
+first_replies [] n refused = refusal_of refused
+first_replies (i ∷ is) zero refused = []
+first_replies (i ∷ is) (suc n) refused = reply_to i.answer ++ first_replies is n refused

@@ -10,7 +10,7 @@ ghost use Rattle.m2_trail.specs.Arrivals.{IsArrival, IsEndOf, closed_of, left_of
 ghost use Rattle.m2_trail.specs.Asks.{AgreesWith, IsMain, check_of, facts_of_ask, is_ident};
 ghost use Rattle.m2_trail.specs.Incoming.{IsAnswered, after_judging, after_refusing, after_replying, items_of, with_judged};
 ghost use Rattle.m2_trail.specs.Replies as replies;
-ghost use Rattle.m2_trail.specs.Trails.{IsWholeTrail, trail_now, unread_of};
+ghost use Rattle.m2_trail.specs.Trails.{IsTakenTrail, IsWholeTrail, trail_now, unread_of};
 
 use crate::facts::facts_of_ask;
 use crate::home::HomeOf;
@@ -219,7 +219,8 @@ impl<E: End> Arrival<E> {
     }
 
     /// Hands on the socket to the record that takes it by this answer, which is noted. The bytes unread are
-    /// the end of what was got, behind what the half has used. Takes no memory.
+    /// the end of what was got, behind what the half has used. The half owes the reply to the ask, has replied
+    /// to those before, and has put all that it wrote. Takes no memory.
     pub fn take(self, answer: Answer) -> Takeover<E>
         requires unjudged { self.is_judged ≡ false }
         requires room { 0 < self.room }
@@ -231,6 +232,7 @@ impl<E: End> Arrival<E> {
         ensures ungranted { result.decoder.granted ≡ false }
         ensures end_of_got { IsEndOf result.decoder.rest self.end.log.got }
         ensures whole { IsWholeTrail (with_judged (items_of self.ask answer) self.trail) self.end }
+        ensures taken { IsTakenTrail (with_judged (items_of self.ask answer) self.trail) self.end.log }
     {
         let mut of = self.of;
         of.note(answer);

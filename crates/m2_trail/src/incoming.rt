@@ -13,7 +13,7 @@ ghost use Rattle.m2_trail.specs.Arrivals.{IsArrival, IsEndOf, closed_of, left_of
 ghost use Rattle.m2_trail.specs.Asks.{IsMain};
 ghost use Rattle.m2_trail.specs.Incoming.{IsAnswered, ReadsOn, StepsOn, WritesOn, accepted, after_judging, after_refusing, after_replying};
 ghost use Rattle.m2_trail.specs.Replies.{refusal, reply_to};
-ghost use Rattle.m2_trail.specs.Trails.{IsWholeTrail, opener_of, trail_now, unread_of};
+ghost use Rattle.m2_trail.specs.Trails.{IsTaken, IsWholeTrail, begins, half_bytes, opener_of, trail_now, unread_of};
 ghost use Rattle.m2_trail.specs.Unput.{is_some};
 
 use crate::arrival::Takeover;
@@ -61,7 +61,7 @@ pub struct Incoming<E: End> {
 }
 
 impl<E: End> Model for Incoming<E> {
-    ghost use Rattle.std.specs.Prelude.{◌≤◌};
+    ghost use Rattle.std.specs.Prelude.{◌≤◌, min};
     ghost use Rattle.m2_trail.specs.Incoming.{IncomingNow, Keeps};
     ghost use Rattle.m2_trail.specs.Trails.{trail_now};
 
@@ -75,7 +75,7 @@ impl<E: End> Model for Incoming<E> {
       ask = i.ask;
       is_judged = i.is_judged;
       refused = i.refused;
-      room = i.trail.judged.room;
+      room = min i.trail.judged.room i.trail.judged_after.room;
     } };
 
     ghost invariant = { λ i. Keeps (record {
@@ -86,7 +86,7 @@ impl<E: End> Model for Incoming<E> {
       ask = i.ask;
       is_judged = i.is_judged;
       refused = i.refused;
-      room = i.trail.judged.room;
+      room = min i.trail.judged.room i.trail.judged_after.room;
     }) × (1 ≤ i.trail.entries.room) };
 }
 
@@ -113,6 +113,7 @@ impl<E: End> Incoming<E> {
                 entity,
                 entries,
                 judged: Items::empty(alloc),
+                judged_after: Items::empty(alloc),
             },
             unput: Unput::empty(alloc),
             ask: None,
@@ -302,7 +303,8 @@ impl<E: End> Incoming<E> {
         ensures same { self.new ≡ record self.old { room = self.new.room } }
         ensures room { OnOk result (0 < self.new.room) }
     {
-        self.trail.judged.reserve(1)
+        self.trail.judged.reserve(1)?;
+        self.trail.judged_after.reserve(1)
     }
 
     /// Notes the answer to the ask.
@@ -317,6 +319,8 @@ impl<E: End> Incoming<E> {
             ask: facts_of_ask(ask),
             answer,
         });
+        let place = self.trail.entries.len();
+        self.trail.judged_after.push_reserved(place);
         self.is_judged = true;
     }
 
@@ -360,6 +364,7 @@ impl<E: End> Incoming<E> {
         ensures ungranted { result.decoder.granted ≡ false }
         ensures end_of_got { IsEndOf result.decoder.rest self.end.log.got }
         ensures whole { IsWholeTrail self.trail self.end }
+        ensures taken { IsTaken (begins self.trail) (half_bytes self.trail self.end.log) self.trail.judged (unread_of self.trail self.end.log) }
     {
         Takeover {
             end: self.end,

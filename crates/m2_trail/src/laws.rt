@@ -14,7 +14,8 @@ pub fn replies_are_frames()
     ensures { laws.RepliesAreFrames }
 {}
 
-/// As the log of an end grows, its trail is still one, and what its half left unread is the same.
+/// As the log of an end grows, its trail is still one, what its half left unread is the same, and a half
+/// that was taken was so.
 pub fn trails_stay()
     ensures { laws.TrailsStay }
 {}

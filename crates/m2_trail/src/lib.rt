@@ -7,10 +7,12 @@
 //! It knows no tables of judgement and no addresses of links: whoever judges says the answer, and the
 //! half replies with the frame of that answer.
 //!
-//! Two facts of a trail hold beside the log of its end, at any time (`specs/Trails.antt`): the judged asks
-//! are the first ones in the bytes got; and at each point what was put is what an acceptor's half writes,
-//! where its replies are the frames of the answers and at most one refusal behind them. They are kept by
-//! the types here, so whoever holds one knows them, and so does a record that takes a half.
+//! Two facts of a trail hold beside the log of its end, at any time (`specs/Trails.antt`): each judged ask
+//! is one that the half came to before it was judged, by what it had got by then and by the replies to the
+//! asks before; and at each point what was put is what an acceptor's half writes by what it got there and
+//! by the answers judged by then, where its replies are the frames of the answers and at most one refusal
+//! behind them. They are kept by the types here, so whoever holds one knows them, and so does a record that
+//! takes a half, which is then known to owe one reply and to have put all that it wrote.
 #![tactic(auto)]
 
 mod arrival;

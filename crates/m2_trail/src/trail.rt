@@ -14,6 +14,8 @@ pub struct Trail {
     pub entries: EntryList,
     /// Its asks that were judged, in order.
     pub judged: JudgedList,
+    /// How many entries there were when each of them was judged.
+    pub judged_after: Items<usize>,
 }
 
 /// Trails, in order.
