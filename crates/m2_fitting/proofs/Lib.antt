@@ -23,3 +23,4 @@ pub mod Hears
 pub mod Asking
 pub mod Orders
 pub mod OnePoint
+pub mod Trails

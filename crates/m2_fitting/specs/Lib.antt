@@ -1,4 +1,5 @@
 pub mod Texts
+pub mod Trails
 pub mod Ends
 pub mod Halves
 pub mod Orders

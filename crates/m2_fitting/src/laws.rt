@@ -2,6 +2,7 @@
 //! names.
 
 ghost use Rattle.m2_fitting.specs.Orders as orders;
+ghost use Rattle.m2_fitting.specs.Trails as trails;
 
 use m2_paired::{histories_are_runs, lossless_is_never_reset};
 
@@ -30,4 +31,12 @@ pub fn lossless_bytes_are_never_reset()
 /// other has taken it with its half.
 pub fn bytes_can_fit()
     ensures { orders.BytesCanFit }
+{}
+
+/// A trail gives what bytes that fit want of a half, at each point of an order of its entries and of its
+/// judgements: where each ask was judged behind the entries that were there then, and no entry that writes
+/// comes before the judgements that were made before it, the half has come to the judged asks by what it
+/// has got, and writes what it has put by that and by their answers.
+pub fn trails_tell_each_point()
+    ensures { trails.TrailsTellEachPoint }
 {}
