@@ -2,6 +2,7 @@ pub mod Staying
 pub mod Deciding
 pub mod Naming
 pub mod SameSocket
+pub mod Places
 pub mod Written
 pub mod Fitting
 pub mod Numbering

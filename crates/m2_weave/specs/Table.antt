@@ -1,5 +1,6 @@
 -- Sockets with the bytes of both ends, as a table; and what is woven by strands and such a table.
-use Rattle.std.specs.Prelude.{◌≡◌, ℕ, ◌+◌, Bool, true, false, if◌then◌else◌, List, [], length, map, slice_get, slice_index, slice_index_or, Option, Some, None}
+use Rattle.std.specs.Prelude.{◌≡◌, ℕ, ◌+◌, ◌==◌, ◌&&◌, Bool, true, false, if◌then◌else◌, List, [], length, map, slice_get, slice_index, slice_index_or, Option, Some, None}
+use Rattle.std.specs.Map.{lookup}
 use Rattle.m2_fabric.specs.declared.socket.SocketId.{SocketId}
 use Rattle.m2_fabric.specs.Sockets.{is_among, same_socket}
 use Rattle.m2_weave.specs.declared.strand.Strand.{Strand}
@@ -10,6 +11,28 @@ use Rattle.m2_weave.specs.Counting.{place_in}
 
 abbrev pub names_of : List SocketBytes → List SocketId
 names_of sockets = map (λ (s : SocketBytes). s.socket) sockets
+
+-- ---- where sockets stand
+
+-- the five numbers of a name
+abbrev pub Five : Type 0
+Five = ℕ × ℕ × ℕ × ℕ × ℕ
+
+abbrev pub five_of : SocketId → Five
+five_of k = (k.from_ip, k.from_port, k.to_ip, k.to_port, k.turn)
+
+abbrev pub same_five : Five → Five → Bool
+same_five a b = (a.0 == b.0) && (a.1 == b.1) && (a.2 == b.2) && (a.3 == b.3) && (a.4 == b.4)
+
+-- the place of a socket among names that stand from a place on, where it is one of them
+abbrev pub found_from : ℕ → List SocketId → SocketId → Option ℕ
+found_from place names k = if is_among k names then Some (place + place_in names k) else None
+
+-- a map has the place of each name
+abbrev pub ArePlaces : List (Five × ℕ) → List SocketId → Type 0
+ArePlaces places names = (k : SocketId) → lookup (same_five (five_of k)) places ≡ found_from 0 names k
+
+-- ---- what their ends have read and written
 
 -- what an end has read, and what it has written: nothing where the socket isn't in the table
 abbrev pub got_at : Option SocketBytes → (opener : Bool) → List ℕ

@@ -9,7 +9,7 @@ ghost use Rattle.m2_weave.specs.Table.{names_of};
 ghost use Rattle.m2_weave.specs.Tally.{AreFor, IsCounted, IsHandedCounted, IsJudgedCounted, IsReadCounted, item_by};
 
 use crate::strand::StrandItem;
-use crate::table::{SocketBytes, named_place};
+use crate::table::{SocketTable, named_place};
 use crate::tally::{raise, read_need, writes};
 use m2_bytes::NoMemory;
 use m2_fabric::SocketId;
@@ -30,7 +30,7 @@ impl Counts {
     /// Counts an item, and gives it as an entry of a merge.
     pub(crate) fn count(
         &mut self,
-        sockets: &[SocketBytes<'_>],
+        sockets: &SocketTable<'_>,
         item: StrandItem,
     ) -> Result<CountedEntry, NoMemory>
         requires sizes { AreFor sockets.now self.old }
@@ -78,7 +78,7 @@ impl Counts {
 
     fn count_read(
         &mut self,
-        sockets: &[SocketBytes<'_>],
+        sockets: &SocketTable<'_>,
         socket: &SocketId,
         count: u32,
     ) -> Result<CountedEntry, NoMemory>
@@ -103,12 +103,7 @@ impl Counts {
         })
     }
 
-    fn count_write(
-        &self,
-        sockets: &[SocketBytes<'_>],
-        socket: &SocketId,
-        count: u32,
-    ) -> CountedEntry
+    fn count_write(&self, sockets: &SocketTable<'_>, socket: &SocketId, count: u32) -> CountedEntry
         requires sizes { AreFor sockets.now self.now }
         requires named { is_among socket.now (names_of sockets.now) ≡ true }
         requires few { length sockets.now < 2 ^ 60 }
@@ -127,7 +122,7 @@ impl Counts {
 
     fn count_judged(
         &mut self,
-        sockets: &[SocketBytes<'_>],
+        sockets: &SocketTable<'_>,
         socket: &SocketId,
     ) -> Result<CountedEntry, NoMemory>
         requires sizes { AreFor sockets.now self.old }
@@ -153,7 +148,7 @@ impl Counts {
 
     fn count_handed(
         &mut self,
-        sockets: &[SocketBytes<'_>],
+        sockets: &SocketTable<'_>,
         socket: &SocketId,
     ) -> Result<CountedEntry, NoMemory>
         requires sizes { AreFor sockets.now self.old }

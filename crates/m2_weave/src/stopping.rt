@@ -8,7 +8,7 @@ ghost use Rattle.m2_weave.specs.Table.{woven_of};
 ghost use Rattle.m2_weave.specs.Strands.{begun_at, opens, place_of, read_by, read_by_halves, same_side, strand_now, total, written_at, written_by, written_in};
 
 use crate::strand::{Strand, StrandItem};
-use crate::table::{SocketBytes, got_at, piece, place_in, put_at};
+use crate::table::{SocketTable, got_at, piece, place_in, put_at};
 use crate::unfit::{Unfit, Why};
 use m2_bytes::NoMemory;
 use m2_fabric::SocketId;
@@ -215,7 +215,7 @@ fn place_of(strands: &[Strand], s: &Strand, n: usize, k: &SocketId) -> Result<u6
 /// What is wrong with the next item of a strand after so many, if it is a read.
 fn unfit_next(
     strands: &[Strand],
-    sockets: &[SocketBytes<'_>],
+    sockets: &SocketTable<'_>,
     at: &[usize],
     s: &Strand,
     n: usize,
@@ -234,7 +234,7 @@ fn unfit_next(
 /// What is wrong with a read of so many bytes on a socket, behind so many items of a strand.
 fn unfit_read(
     strands: &[Strand],
-    sockets: &[SocketBytes<'_>],
+    sockets: &SocketTable<'_>,
     at: &[usize],
     s: &Strand,
     n: usize,
@@ -266,7 +266,7 @@ fn unfit_read(
 /// strand. Counts above 2^64 - 1 are answered as for want of memory.
 pub fn first_stop(
     strands: &[Strand],
-    sockets: &[SocketBytes<'_>],
+    sockets: &SocketTable<'_>,
     at: &[usize],
 ) -> Result<Option<Unfit>, NoMemory>
     requires count { length at.now ≡ length strands.now }

@@ -1,11 +1,15 @@
-//! Sockets with the bytes of both ends.
+//! Sockets with the bytes of both ends, and where each stands by its name.
 
-ghost use Rattle.std.specs.Prelude.{◌≡◌, ◌<◌, true, length, drop, take, slice_get};
+ghost use Rattle.std.specs.Prelude.{◌≡◌, ◌<◌, true, length, drop, take, slice_get, IfOk};
 ghost use Rattle.m2_fabric.specs.Sockets.{is_among};
 ghost use Rattle.m2_weave.specs.Counting.{place_in};
-ghost use Rattle.m2_weave.specs.Table.{got_at, names_of, put_at};
+ghost use Rattle.m2_weave.specs.Table.{five_of, got_at, names_of, put_at};
 
+use m2_bytes::NoMemory;
 use m2_fabric::SocketId;
+use std::alloc::Global;
+use std::collections::HashMap;
+use std::marker::Model;
 
 /// What an end of a socket has read and what it has written, from its log.
 #[derive(Clone, Copy, Debug)]
@@ -22,20 +26,83 @@ pub struct SocketBytes<'a> {
     pub acceptor: EndBytes<'a>,
 }
 
+/// A socket's name as a key: its five numbers.
+type SocketKey = (u32, u16, u32, u16, u32);
+
+/// Sockets with the bytes of both ends, each found by its name at once; of a name that stands twice the
+/// first. Contracts see the list.
+#[derive(Drop)]
+pub struct SocketTable<'a> {
+    sockets: &'a [SocketBytes<'a>],
+    places: HashMap<SocketKey, usize>,
+}
+
+impl<'a> Model for SocketTable<'a> {
+    ghost use Rattle.std.specs.Prelude.{List};
+    ghost use Rattle.m2_weave.specs.declared.table.SocketBytes.{SocketBytes};
+    ghost use Rattle.m2_weave.specs.Table.{ArePlaces, names_of};
+
+    ghost Value = { List SocketBytes };
+
+    ghost view = { λ t. t.sockets.now };
+
+    ghost invariant = { λ t. ArePlaces t.places.entries (names_of t.sockets.now) };
+}
+
+impl<'a> SocketTable<'a> {
+    /// These sockets.
+    pub fn of(alloc: Global, sockets: &'a [SocketBytes<'a>]) -> Result<SocketTable<'a>, NoMemory>
+        ensures { IfOk result (λ t. t ≡ sockets.now) }
+    {
+        let mut places = HashMap::new(alloc);
+        let count = sockets.len();
+        for n in 0..count {
+            let place = count - 1 - n;
+            let key = key_of(&sockets[place].socket);
+            places.insert(key, place)?;
+        }
+        Ok(SocketTable { sockets, places })
+    }
+
+    /// The sockets in order.
+    pub fn as_slice(&self) -> &'a [SocketBytes<'a>]
+        ensures { result.now ≡ self.now }
+    {
+        self.sockets
+    }
+
+    /// How many sockets there are.
+    pub fn len(&self) -> usize
+        ensures { result ≡ length self.now }
+    {
+        self.sockets.len()
+    }
+
+    /// Whether a socket is one of them.
+    pub fn has(&self, k: &SocketId) -> bool
+        ensures { result ≡ is_among k.now (names_of self.now) }
+    {
+        self.places.contains_key(&key_of(k))
+    }
+}
+
+/// The five numbers of a socket's name.
+fn key_of(k: &SocketId) -> SocketKey
+    ensures { result ≡ five_of k.now }
+{
+    (k.from_ip, k.from_port, k.to_ip, k.to_port, k.turn)
+}
+
 /// The place of a socket in the table; the table's length where it isn't there.
-pub(crate) fn place_in(sockets: &[SocketBytes<'_>], k: &SocketId) -> usize
+pub(crate) fn place_in(sockets: &SocketTable<'_>, k: &SocketId) -> usize
     ensures { result ≡ place_in (names_of sockets.now) k.now }
 {
-    for (i, s) in sockets.iter().enumerate() {
-        if k.is_same(&s.socket) {
-            return i;
-        }
-    }
-    sockets.len()
+    let found = sockets.places.get(&key_of(k)).copied();
+    found.unwrap_or(sockets.len())
 }
 
 /// The place of a socket that is in the table.
-pub(crate) fn named_place(sockets: &[SocketBytes<'_>], k: &SocketId) -> usize
+pub(crate) fn named_place(sockets: &SocketTable<'_>, k: &SocketId) -> usize
     requires named { is_among k.now (names_of sockets.now) ≡ true }
     ensures place { result ≡ place_in (names_of sockets.now) k.now }
     ensures within { result < length sockets.now }
@@ -44,20 +111,20 @@ pub(crate) fn named_place(sockets: &[SocketBytes<'_>], k: &SocketId) -> usize
 }
 
 /// What an end of a socket of the table has read.
-pub(crate) fn got_at<'a>(sockets: &[SocketBytes<'a>], place: usize, opener: bool) -> &'a [u8]
+pub(crate) fn got_at<'a>(sockets: &SocketTable<'a>, place: usize, opener: bool) -> &'a [u8]
     requires { place < length sockets.now }
     ensures { result.now ≡ got_at (slice_get sockets.now place) opener }
 {
-    let s = &sockets[place];
+    let s = &sockets.as_slice()[place];
     if opener { s.opener.got } else { s.acceptor.got }
 }
 
 /// What it has written.
-pub(crate) fn put_at<'a>(sockets: &[SocketBytes<'a>], place: usize, opener: bool) -> &'a [u8]
+pub(crate) fn put_at<'a>(sockets: &SocketTable<'a>, place: usize, opener: bool) -> &'a [u8]
     requires { place < length sockets.now }
     ensures { result.now ≡ put_at (slice_get sockets.now place) opener }
 {
-    let s = &sockets[place];
+    let s = &sockets.as_slice()[place];
     if opener { s.opener.put } else { s.acceptor.put }
 }
 

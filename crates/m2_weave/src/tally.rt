@@ -9,7 +9,7 @@ ghost use Rattle.m2_weave.specs.Table.{HasRisen, KeepsNumbers, KeepsOpened, got_
 ghost use Rattle.m2_weave.specs.Tally.{bytes_alone};
 
 use crate::strand::{Strand, StrandItem};
-use crate::table::{SocketBytes, got_at, named_place, piece, place_in, put_at};
+use crate::table::{SocketTable, got_at, named_place, piece, place_in, put_at};
 use m2_bytes::NoMemory;
 use m2_fabric::SocketId;
 use m2_journal::Entry;
@@ -20,7 +20,7 @@ use std::alloc::Global;
 /// of memory.
 pub(crate) fn raise(
     numbers: &mut Vec<u64>,
-    sockets: &[SocketBytes<'_>],
+    sockets: &SocketTable<'_>,
     socket: &SocketId,
     amount: u64,
 ) -> Result<(), NoMemory>
@@ -43,7 +43,7 @@ pub(crate) fn raise(
 /// Adds what an item has read.
 fn add_read(
     numbers: &mut Vec<u64>,
-    sockets: &[SocketBytes<'_>],
+    sockets: &SocketTable<'_>,
     item: StrandItem,
 ) -> Result<(), NoMemory>
     requires count { length numbers.old.items ≡ length sockets.now }
@@ -60,7 +60,7 @@ fn add_read(
 /// Adds what these items have read.
 fn add_reads(
     numbers: &mut Vec<u64>,
-    sockets: &[SocketBytes<'_>],
+    sockets: &SocketTable<'_>,
     items: &[StrandItem],
 ) -> Result<(), NoMemory>
     requires count { length numbers.old.items ≡ length sockets.now }
@@ -75,7 +75,7 @@ fn add_reads(
 }
 
 /// Adds what a strand has read, if it is a half's.
-fn add_half(numbers: &mut Vec<u64>, sockets: &[SocketBytes<'_>], s: &Strand) -> Result<(), NoMemory>
+fn add_half(numbers: &mut Vec<u64>, sockets: &SocketTable<'_>, s: &Strand) -> Result<(), NoMemory>
     requires count { length numbers.old.items ≡ length sockets.now }
     ensures count { length numbers.new.items ≡ length sockets.now }
     ensures added { OnOk result (KeepsNumbers (names_of sockets.now)
@@ -91,7 +91,7 @@ fn add_half(numbers: &mut Vec<u64>, sockets: &[SocketBytes<'_>], s: &Strand) -> 
 /// What halves have read on each socket of the table.
 pub(crate) fn read_by_halves(
     alloc: Global,
-    sockets: &[SocketBytes<'_>],
+    sockets: &SocketTable<'_>,
     strands: &[Strand],
 ) -> Result<Vec<u64>, NoMemory>
     ensures count { IfOk result (λ v. length v.items ≡ length sockets.now) }
@@ -114,7 +114,7 @@ pub(crate) fn zeros(alloc: Global, n: usize) -> Result<Vec<u64>, NoMemory>
 /// Which sockets of the table these items have opened.
 pub(crate) fn opened_by(
     alloc: Global,
-    sockets: &[SocketBytes<'_>],
+    sockets: &SocketTable<'_>,
     items: &[StrandItem],
 ) -> Result<Vec<bool>, NoMemory>
     ensures count { IfOk result (λ v. length v.items ≡ length sockets.now) }
@@ -137,7 +137,7 @@ fn unset(alloc: Global, n: usize) -> Result<Vec<bool>, NoMemory>
 }
 
 /// Sets the flag of a socket, if it is in the table.
-fn set(flags: &mut Vec<bool>, sockets: &[SocketBytes<'_>], socket: &SocketId)
+fn set(flags: &mut Vec<bool>, sockets: &SocketTable<'_>, socket: &SocketId)
     requires count { length flags.old.items ≡ length sockets.now }
     ensures count { length flags.new.items ≡ length sockets.now }
     ensures set { KeepsOpened (names_of sockets.now)
@@ -179,7 +179,7 @@ fn is_same(a: &[u8], b: &[u8]) -> bool
 
 /// What a read waits for: so many bytes at an end, from a place on.
 pub(crate) fn read_need(
-    sockets: &[SocketBytes<'_>],
+    sockets: &SocketTable<'_>,
     socket: &SocketId,
     opener: bool,
     from: u64,

@@ -2,7 +2,6 @@
 
 ghost use Rattle.std.specs.Prelude.{◌≡◌, ◌<◌, ◌^◌, length, map, IfOk, Decides};
 ghost use Rattle.std.specs.List.{AllByRecursion};
-ghost use Rattle.m2_fabric.specs.Sockets.{is_among};
 ghost use Rattle.m2_merge.specs.Counted.{entries_of};
 ghost use Rattle.m2_merge.specs.Merging.{even};
 ghost use Rattle.m2_merge.specs.Order.{IsGreedy, reached};
@@ -15,10 +14,9 @@ ghost use Rattle.m2_weave.specs.Tally.{CountsAre};
 
 use crate::counts::Counts;
 use crate::strand::{Strand, StrandItem};
-use crate::table::SocketBytes;
+use crate::table::SocketTable;
 use crate::tally::{begin, opened_by, read_by_halves, zeros};
 use m2_bytes::{Items, NoMemory};
-use m2_fabric::SocketId;
 use m2_journal::Entry;
 use m2_merge::{CountedStrand, merge};
 use std::alloc::Global;
@@ -36,7 +34,7 @@ pub struct WovenOrder {
 fn counts_of(
     alloc: Global,
     strands: &[Strand],
-    sockets: &[SocketBytes<'_>],
+    sockets: &SocketTable<'_>,
     halves: &[u64],
     k: usize,
 ) -> Result<Counts, NoMemory>
@@ -62,7 +60,7 @@ fn counts_of(
 fn count_items(
     alloc: Global,
     strands: &[Strand],
-    sockets: &[SocketBytes<'_>],
+    sockets: &SocketTable<'_>,
     counts: &mut Counts,
     k: usize,
 ) -> Result<CountedStrand, NoMemory>
@@ -89,7 +87,7 @@ fn count_items(
 fn count_all(
     alloc: Global,
     strands: &[Strand],
-    sockets: &[SocketBytes<'_>],
+    sockets: &SocketTable<'_>,
 ) -> Result<Vec<CountedStrand>, NoMemory>
     requires few { length sockets.now < 2 ^ 60 }
     requires named { AreNamed (names_of sockets.now) (woven_of strands.now sockets.now) }
@@ -119,7 +117,7 @@ fn is_all(strands: &[Strand], at: &[usize]) -> bool
 }
 
 /// Whether the socket of an item is in the table, where it matters.
-fn is_named(sockets: &[SocketBytes<'_>], item: StrandItem) -> bool
+fn is_named(sockets: &SocketTable<'_>, item: StrandItem) -> bool
     ensures { Decides result (IsNamed (names_of sockets.now) item) }
 {
     let socket = match item {
@@ -150,23 +148,11 @@ fn is_named(sockets: &[SocketBytes<'_>], item: StrandItem) -> bool
             | Entry::Down { planned: _ },
         ) => return true,
     };
-    is_in(sockets, &socket)
-}
-
-/// Whether a socket is in the table.
-fn is_in(sockets: &[SocketBytes<'_>], k: &SocketId) -> bool
-    ensures { result ≡ is_among k.now (names_of sockets.now) }
-{
-    for s in sockets {
-        if k.is_same(&s.socket) {
-            return true;
-        }
-    }
-    false
+    sockets.has(&socket)
 }
 
 /// Whether the sockets of all items are in the table.
-fn all_named(sockets: &[SocketBytes<'_>], items: &[StrandItem]) -> bool
+fn all_named(sockets: &SocketTable<'_>, items: &[StrandItem]) -> bool
     ensures { Decides result (AllByRecursion (IsNamed (names_of sockets.now)) items.now) }
 {
     for item in items {
@@ -179,7 +165,7 @@ fn all_named(sockets: &[SocketBytes<'_>], items: &[StrandItem]) -> bool
 
 /// Whether the sockets of all strands are in the table, as [`weave`] wants it: those on which an entry
 /// reads, writes or judges, or on which an ask was handed on.
-pub fn are_named(strands: &[Strand], sockets: &[SocketBytes<'_>]) -> bool
+pub fn are_named(strands: &[Strand], sockets: &SocketTable<'_>) -> bool
     ensures { Decides result (AreNamed (names_of sockets.now) (woven_of strands.now sockets.now)) }
 {
     for s in strands {
@@ -192,12 +178,12 @@ pub fn are_named(strands: &[Strand], sockets: &[SocketBytes<'_>]) -> bool
 
 /// Weaves strands whose sockets are all in the table: whatever may come is taken, until nothing may. So all
 /// items come exactly where there is an order of all of them by this rule; else the order goes as far as any
-/// order goes. It takes time in proportion to the bytes, and to the items times the sockets of the table.
-/// Counts above 2^64 - 1 are answered as for want of memory.
+/// order goes. It takes time in proportion to the bytes and the items, and to the strands times the sockets
+/// of the table. Counts above 2^64 - 1 are answered as for want of memory.
 pub fn weave(
     alloc: Global,
     strands: &[Strand],
-    sockets: &[SocketBytes<'_>],
+    sockets: &SocketTable<'_>,
 ) -> Result<WovenOrder, NoMemory>
     requires named { AreNamed (names_of sockets.now) (woven_of strands.now sockets.now) }
     ensures greedy { IfOk result (λ w. IsGreedy even (by_bytes (woven_of strands.now sockets.now)) (sizes (woven_of strands.now sockets.now)) w.order.items) }

@@ -6,7 +6,8 @@ use m2_fabric::SocketId;
 use m2_journal::Entry;
 use m2_session::Answer;
 use m2_weave::{
-    EndBytes, SocketBytes, Strand, Unfit, Why, WovenOrder, are_named, first_stop, weave,
+    EndBytes, SocketBytes, SocketTable, Strand, Unfit, Why, WovenOrder, are_named, first_stop,
+    weave,
 };
 use std::alloc::Global;
 
@@ -89,10 +90,11 @@ fn woven(
     strands: &[Strand],
     sockets: &[SocketBytes<'_>],
 ) -> Result<Option<WovenOrder>, NoMemory> {
-    if !are_named(strands, sockets) {
+    let table = SocketTable::of(alloc, sockets)?;
+    if !are_named(strands, &table) {
         return Ok(None);
     }
-    Ok(Some(weave(alloc, strands, sockets)?))
+    Ok(Some(weave(alloc, strands, &table)?))
 }
 
 fn is(a: &[usize], b: &[usize]) -> bool {
@@ -132,6 +134,7 @@ fn pair(alloc: Global, near: &[Entry], judged_after: &[usize]) -> Result<Vec<Str
 
 /// What stops the order behind so many items of each strand, if there are as many strands.
 fn stop(
+    alloc: Global,
     strands: &[Strand],
     sockets: &[SocketBytes<'_>],
     at: &[usize],
@@ -139,7 +142,8 @@ fn stop(
     if at.len() != strands.len() {
         return Ok(None);
     }
-    first_stop(strands, sockets, at)
+    let table = SocketTable::of(alloc, sockets)?;
+    first_stop(strands, &table, at)
 }
 
 /// Whether a read of the acceptor stops the order: the byte at this place is wrong so.
@@ -163,7 +167,7 @@ fn a_pair_is_woven_in_the_order_of_its_bytes(rt: HostRuntime) -> Result<(), NoMe
     let sockets = [bytes(1, (&[7, 8, 9], &[1, 2, 3, 4]), (&[1, 2, 3, 4], &[7, 8, 9]))];
     let found = woven(alloc, &strands, &sockets)?;
     assert!(rt; is_whole(&found, &[0, 0, 2, 2, 2, 1, 2, 1, 0]));
-    assert!(rt; matches!(stop(&strands, &sockets, &[3, 2, 4]), Ok(None)));
+    assert!(rt; matches!(stop(alloc, &strands, &sockets, &[3, 2, 4]), Ok(None)));
     Ok(())
 }
 
@@ -174,7 +178,7 @@ fn a_changed_byte_stops_it_before_its_read(rt: HostRuntime) -> Result<(), NoMemo
     let sockets = [bytes(1, (&[7, 8, 9], &[1, 2, 3, 4]), (&[1, 2, 9, 4], &[7, 8, 9]))];
     let found = woven(alloc, &strands, &sockets)?;
     assert!(rt; stops(&found, &[2, 0, 1]));
-    let found = stop(&strands, &sockets, &[2, 0, 1]);
+    let found = stop(alloc, &strands, &sockets, &[2, 0, 1]);
     assert!(rt; is_at(found, 2, Why::Differs { got: 9, put: 3 }));
     Ok(())
 }
@@ -186,7 +190,7 @@ fn a_byte_that_was_not_written_stops_it_before_its_read(rt: HostRuntime) -> Resu
     let sockets = [bytes(1, (&[7, 8, 9], &[1, 2, 3]), (&[1, 2, 3, 4], &[7, 8, 9]))];
     let found = woven(alloc, &strands, &sockets)?;
     assert!(rt; stops(&found, &[2, 0, 1]));
-    let found = stop(&strands, &sockets, &[2, 0, 1]);
+    let found = stop(alloc, &strands, &sockets, &[2, 0, 1]);
     assert!(rt; is_at(found, 3, Why::Beyond { got: 4 }));
     Ok(())
 }
@@ -240,6 +244,6 @@ fn a_socket_that_is_not_in_the_table_is_told(rt: HostRuntime) -> Result<(), NoMe
     let alloc = rt.alloc();
     let near = Strand::of_journal(alloc, &[wrote(1, 1)])?;
     let strands = Vec::from_array(alloc, [near])?;
-    assert!(rt; !are_named(&strands, &[]));
+    assert!(rt; !are_named(&strands, &SocketTable::of(alloc, &[])?));
     Ok(())
 }

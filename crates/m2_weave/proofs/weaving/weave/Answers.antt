@@ -1,5 +1,5 @@
 -- The merge by counters is the weaving by bytes.
-use Rattle.std.proofs.Common.{◌≡◌, ◌+◌, ◌*◌, ◌∙◌, length, refl, sym, ap, subst}
+use Rattle.std.proofs.Common.{◌≡◌, ◌+◌, ◌*◌, ◌∙◌, length, sym, ap, subst}
 use Rattle.m2_merge.specs.Counted.{Strands, by_counters, entries_of, lengths}
 use Rattle.m2_merge.specs.Merging.{even}
 use Rattle.m2_merge.specs.Order.{Cut, IsGreedy, reached}
@@ -17,7 +17,7 @@ merge-requires c =
     let w = woven_of c.args.strands.now c.args.sockets.now in
     let same : entries_of c.deref.result.now ≡ counted (names_of c.args.sockets.now) w = ap entries_of c.deref.ensures.value ∙ c.in_ok-counted.ensures in
     record {
-      within = counters_are_there c.args.sockets.now w (entries_of c.deref.result.now) (4 * length c.args.sockets.now + 4) same refl;
+      within = counters_are_there c.args.sockets.now w (entries_of c.deref.result.now) (4 * c.len-2.result + 4) same (ap (λ n. 4 * n + 4) c.len-2.ensures);
     }
 
 pub is_all-whole-requires : goal.is_all-whole-requires
