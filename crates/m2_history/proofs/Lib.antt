@@ -1,1 +1,5 @@
 pub mod Both
+pub mod HalfStrands
+pub mod Keeping
+pub mod Counting
+pub mod Delivering

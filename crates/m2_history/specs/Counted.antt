@@ -1,6 +1,6 @@
 -- What a side posted, accepted and dispatched of a key, by its plan, its journal and the logs of its node's dispatchers. A key
 -- is a priority with a dispatch path, which is Ceph's.
-use Rattle.std.specs.Prelude.{ℕ, ◌+◌, Bool, false, if◌then◌else◌, List, [], ◌∷◌, ◌++◌, slice_get, Option, Some, None}
+use Rattle.std.specs.Prelude.{ℕ, ◌+◌, Bool, false, if◌then◌else◌, List, [], ◌∷◌, ◌++◌, slice_get, Option, Some}
 use Rattle.m2_channel.specs.Observed.{Logs}
 use Rattle.m2_dispatch.specs.declared.logged.Logged.{Logged}
 use Rattle.m2_dispatch.specs.Heard.{heard_by, is_key}
