@@ -265,37 +265,46 @@ module _ {T O : Type 0} where
 
     -- ---- passes cut in two
 
-    pub splits : (port : ℕ) (v : View T O) (o : O) → owner_in v ≡ Some o → 1 < parts_in v → Forks (Kept belongs) port v (without_part v) (one_part v)
-    splits port (Open k) o is_o more items views h at =
-        let r = opened items views port k h at in
-        let fit = r.fits port (Open k) at in
-        let left : View T O = without_part (Open k) in
-        let right : View T O = one_part (Open k) in
+    -- two stand in the place of one, and have together what it had
+    cut : (items : List (Slip T O)) (views : List (View T O)) (r : IsOpen belongs items views) (port : ℕ) (v left right : View T O) → get_elem? views port ≡ some v
+        → parts_in left + parts_in right ≡ parts_in v → takers_in left + takers_in right ≡ takers_in v
+        → ((weight : T → ℕ) → weight_in weight left + weight_in weight right ≡ weight_in weight v)
+        → Fits belongs r.owner (r.taken ++ r.held) r.taken left → Fits belongs r.owner (r.taken ++ r.held) r.taken right
+        → IsOpen belongs items (set views port left ++ right ∷ [])
+    cut items views r port v left right at parts takers weighs fits_left fits_right =
         let F : View T O → Type 0 = Fits belongs r.owner (r.taken ++ r.held) r.taken in
-        let InOrder : List T → Type 0 = λ list. IsSublist list (r.taken ++ r.held) in
-        inr (inr (record {
+        record {
           owner = r.owner;
           taken = r.taken;
           held = r.held;
           items_are = r.items_are;
           belong = r.belong;
           parts =
-              let t = total_set parts_in views port (Open k) left at in
+              let t = total_set parts_in views port v left at in
               let p = r.parts in
-              omega (arith, t, p, sum_by-append parts_in (set views port left) (right ∷ []), sum_by-cons parts_in right []);
+              omega (arith, t, p, parts, sum_by-append parts_in (set views port left) (right ∷ []), sum_by-cons parts_in right []);
           takers =
-              let t = total_set takers_in views port (Open k) left at in
+              let t = total_set takers_in views port v left at in
               let p = r.takers in
-              omega (arith, t, p, sum_by-append takers_in (set views port left) (right ∷ []), sum_by-cons takers_in right []);
+              omega (arith, t, p, takers, sum_by-append takers_in (set views port left) (right ∷ []), sum_by-cons takers_in right []);
           weighs = λ weight.
-              let t = total_set (weight_in weight) views port (Open k) left at in
+              let t = total_set (weight_in weight) views port v left at in
               let p = r.weighs weight in
-              let none : weight_in weight right ≡ 0 = refl in
-              omega (arith, t, p, none, sum_by-append (weight_in weight) (set views port left) (right ∷ []), sum_by-cons (weight_in weight) right []);
-          fits = fit_snoc F (set views port left) right
-              (fit.0, All-cons InOrder [] [] (sub_nil (r.taken ++ r.held)) (All-nil InOrder), (λ none. absurd (omega arith)), (λ t. absurd (true≢false (sym t))))
-              (fit_set F views port left (fit.0, fit.1, (λ none. absurd (omega arith)), fit.3) (λ j u apart e. r.fits j u e));
-        }))
+              let w = weighs weight in
+              omega (arith, t, p, w, sum_by-append (weight_in weight) (set views port left) (right ∷ []), sum_by-cons (weight_in weight) right []);
+          fits = fit_snoc F (set views port left) right fits_right (fit_set F views port left fits_left (λ j u apart e. r.fits j u e));
+        }
+
+    pub splits : (port : ℕ) (v : View T O) (o : O) → owner_in v ≡ Some o → 1 < parts_in v → Forks (Kept belongs) port v (without_part v) (one_part v)
+    splits port (Open k) o is_o more items views h at =
+        let r = opened items views port k h at in
+        let fit = r.fits port (Open k) at in
+        let InOrder : List T → Type 0 = λ list. IsSublist list (r.taken ++ r.held) in
+        inr (inr (cut items views r port (Open k) (without_part (Open k)) (one_part (Open k)) at
+        (omega arith) (omega arith)
+        (λ weight. let none : weight_in weight (one_part (Open k)) ≡ 0 = refl in omega (arith, none))
+        (fit.0, fit.1, (λ none. absurd (omega arith)), fit.3)
+        (fit.0, All-cons InOrder [] [] (sub_nil (r.taken ++ r.held)) (All-nil InOrder), (λ none. absurd (omega arith)), (λ t. absurd (true≢false (sym t))))))
     splits port Fresh o is_o more items views h at = absurd (omega arith)
     splits port (Telling p) o is_o more items views h at = absurd (omega arith)
     splits port Spent o is_o more items views h at = absurd (omega arith)
@@ -304,39 +313,57 @@ module _ {T O : Type 0} where
     parts_ways port (Open k) may some_part items views h at =
         let r = opened items views port k h at in
         let fit = r.fits port (Open k) at in
-        let left : View T O = put_right (Open k) in
-        let right : View T O = take_right (Open k) in
-        let F : View T O → Type 0 = Fits belongs r.owner (r.taken ++ r.held) r.taken in
         let InOrder : List T → Type 0 = λ list. IsSublist list (r.taken ++ r.held) in
-        let one : takers_in right ≡ 1 = ap (λ (b : Bool). cond b 1 0) may in
-        let one' : takers_in (Open k) ≡ 1 = ap (λ (b : Bool). cond b 1 0) may in
-        inr (inr (record {
+        inr (inr (cut items views r port (Open k) (put_right (Open k)) (take_right (Open k)) at
+        (omega arith) (omega arith)
+        (λ weight. let none : weight_in weight (take_right (Open k)) ≡ 0 = refl in omega (arith, none))
+        (fit.0, fit.1, fit.2, (λ t. absurd (true≢false (sym t))))
+        (fit.0, All-nil InOrder, (λ none. refl), fit.3)))
+    parts_ways port Fresh may some_part items views h at = absurd (omega arith)
+    parts_ways port (Telling p) may some_part items views h at = absurd (omega arith)
+    parts_ways port Spent may some_part items views h at = absurd (omega arith)
+
+    -- ---- passes put together
+
+    -- the other pass stands where it stood before the first one changed
+    stood : (views : List (View T O)) (port other : ℕ) (both u : View T O) → other ≢ port → get_elem? (set views port both) other ≡ some u → get_elem? views other ≡ some u
+    stood views port other both u apart at =
+        ⊎_elim (λ (x : (other ≡ port) × (both ≡ u)). absurd (apart x.0)) (λ (x : (other ≢ port) × (get_elem? views other ≡ some u)). x.1) (at_set views port other both u at)
+
+    -- one stands in the place of two, and has what they had together
+    fused : (items : List (Slip T O)) (views : List (View T O)) (r : IsOpen belongs items views) (port other : ℕ) (v u both : View T O) → get_elem? views port ≡ some v
+        → get_elem? (set views port both) other ≡ some u
+        → parts_in v + parts_in u ≡ parts_in both → takers_in v + takers_in u ≡ takers_in both
+        → ((weight : T → ℕ) → weight_in weight v + weight_in weight u ≡ weight_in weight both)
+        → Fits belongs r.owner (r.taken ++ r.held) r.taken both
+        → IsOpen belongs items (set (set views port both) other Spent)
+    fused items views r port other v u both at at' parts takers weighs fits =
+        let F : View T O → Type 0 = Fits belongs r.owner (r.taken ++ r.held) r.taken in
+        let now : List (View T O) = set views port both in
+        record {
           owner = r.owner;
           taken = r.taken;
           held = r.held;
           items_are = r.items_are;
           belong = r.belong;
           parts =
-              let t = total_set parts_in views port (Open k) left at in
+              let t = total_set parts_in views port v both at in
+              let s = total_set parts_in now other u Spent at' in
               let p = r.parts in
-              omega (arith, t, p, sum_by-append parts_in (set views port left) (right ∷ []), sum_by-cons parts_in right []);
+              omega (arith, t, s, p, parts);
           takers =
-              let t = total_set takers_in views port (Open k) left at in
+              let t = total_set takers_in views port v both at in
+              let s = total_set takers_in now other u Spent at' in
               let p = r.takers in
-              omega (arith, t, p, one, one', sum_by-append takers_in (set views port left) (right ∷ []), sum_by-cons takers_in right []);
+              omega (arith, t, s, p, takers);
           weighs = λ weight.
-              let t = total_set (weight_in weight) views port (Open k) left at in
+              let t = total_set (weight_in weight) views port v both at in
+              let s = total_set (weight_in weight) now other u Spent at' in
               let p = r.weighs weight in
-              let none : weight_in weight right ≡ 0 = refl in
-              omega (arith, t, p, none, sum_by-append (weight_in weight) (set views port left) (right ∷ []), sum_by-cons (weight_in weight) right []);
-          fits = fit_snoc F (set views port left) right (fit.0, All-nil InOrder, (λ none. refl), fit.3)
-              (fit_set F views port left (fit.0, fit.1, fit.2, (λ t. absurd (true≢false (sym t)))) (λ j u apart e. r.fits j u e));
-        }))
-    parts_ways port Fresh may some_part items views h at = absurd (omega arith)
-    parts_ways port (Telling p) may some_part items views h at = absurd (omega arith)
-    parts_ways port Spent may some_part items views h at = absurd (omega arith)
-
-    -- ---- passes put together
+              let w = weighs weight in
+              omega (arith, t, s, p, w);
+          fits = fit_set F now other Spent tt (λ j y away e. fit_set F views port both fits (λ j' y' away' e'. r.fits j' y' e') j y e);
+        }
 
     pub joins : (port : ℕ) (v : View T O) (other : ℕ) (u : View T O) → 0 < parts_in v → 0 < parts_in u → takes_in u ≡ false
         → Merges (Kept belongs) port v other u (joined v u) Spent
@@ -344,39 +371,12 @@ module _ {T O : Type 0} where
         let r = opened items views port k h at in
         let fit = r.fits port (Open k) at in
         let both : View T O = joined (Open k) (Open l) in
-        let now : List (View T O) = set views port both in
-        let was : get_elem? views other ≡ some (Open l)
-        = ⊎_elim (λ (x : (other ≡ port) × (both ≡ Open l)). absurd (apart x.0)) (λ (x : (other ≢ port) × (get_elem? views other ≡ some (Open l))). x.1) (at_set views port other both (Open l) at') in
-        let fit' = r.fits other (Open l) was in
-        let F : View T O → Type 0 = Fits belongs r.owner (r.taken ++ r.held) r.taken in
+        let fit' = r.fits other (Open l) (stood views port other both (Open l) apart at') in
         let InOrder : List T → Type 0 = λ list. IsSublist list (r.taken ++ r.held) in
         let none : takers_in (Open l) ≡ 0 = ap (λ (b : Bool). cond b 1 0) idle in
-        inr (inr (record {
-          owner = r.owner;
-          taken = r.taken;
-          held = r.held;
-          items_are = r.items_are;
-          belong = r.belong;
-          parts =
-              let t = total_set parts_in views port (Open k) both at in
-              let s = total_set parts_in now other (Open l) Spent at' in
-              let p = r.parts in
-              omega arith;
-          takers =
-              let t = total_set takers_in views port (Open k) both at in
-              let s = total_set takers_in now other (Open l) Spent at' in
-              let p = r.takers in
-              omega arith;
-          weighs = λ weight.
-              let t = total_set (weight_in weight) views port (Open k) both at in
-              let s = total_set (weight_in weight) now other (Open l) Spent at' in
-              let p = r.weighs weight in
-              let q = sum_by-append (sum_by weight) k.puts l.puts in
-              omega arith;
-          fits = fit_set F now other Spent tt
-              (λ j y away e. fit_set F views port both (fit.0, All-append InOrder k.puts l.puts fit.1 fit'.1, (λ none'. absurd (omega arith)), fit.3)
-              (λ j' y' away' e'. r.fits j' y' e') j y e);
-        }))
+        inr (inr (fused items views r port other (Open k) (Open l) both at at'
+        refl (omega (arith, none)) (λ weight. sym (sum_by-append (sum_by weight) k.puts l.puts))
+        (fit.0, All-append InOrder k.puts l.puts fit.1 fit'.1, (λ none'. absurd (omega arith)), fit.3)))
     joins port Fresh other u some_part some_part' idle items views h at apart at' = absurd (omega arith)
     joins port (Telling p) other u some_part some_part' idle items views h at apart at' = absurd (omega arith)
     joins port Spent other u some_part some_part' idle items views h at apart at' = absurd (omega arith)
@@ -390,39 +390,12 @@ module _ {T O : Type 0} where
         let r = opened items views port k h at in
         let fit = r.fits port (Open k) at in
         let both : View T O = reunited (Open k) (Open l) in
-        let now : List (View T O) = set views port both in
-        let was : get_elem? views other ≡ some (Open l)
-        = ⊎_elim (λ (x : (other ≡ port) × (both ≡ Open l)). absurd (apart x.0)) (λ (x : (other ≢ port) × (get_elem? views other ≡ some (Open l))). x.1) (at_set views port other both (Open l) at') in
-        let fit' = r.fits other (Open l) was in
-        let F : View T O → Type 0 = Fits belongs r.owner (r.taken ++ r.held) r.taken in
+        let fit' = r.fits other (Open l) (stood views port other both (Open l) apart at') in
         let idle' : takers_in (Open k) ≡ 0 = ap (λ (b : Bool). cond b 1 0) idle in
-        let one : takers_in (Open l) ≡ 1 = ap (λ (b : Bool). cond b 1 0) may in
-        let one' : takers_in both ≡ 1 = ap (λ (b : Bool). cond b 1 0) may in
-        inr (inr (record {
-          owner = r.owner;
-          taken = r.taken;
-          held = r.held;
-          items_are = r.items_are;
-          belong = r.belong;
-          parts =
-              let t = total_set parts_in views port (Open k) both at in
-              let s = total_set parts_in now other (Open l) Spent at' in
-              let p = r.parts in
-              omega arith;
-          takers =
-              let t = total_set takers_in views port (Open k) both at in
-              let s = total_set takers_in now other (Open l) Spent at' in
-              let p = r.takers in
-              omega arith;
-          weighs = λ weight.
-              let t = total_set (weight_in weight) views port (Open k) both at in
-              let s = total_set (weight_in weight) now other (Open l) Spent at' in
-              let p = r.weighs weight in
-              let q : weight_in weight (Open l) ≡ 0 = light r.owner (r.taken ++ r.held) r.taken weight (Open l) fit' none in
-              omega arith;
-          fits = fit_set F now other Spent tt
-              (λ j y away e. fit_set F views port both (fit.0, fit.1, fit.2, fit'.3) (λ j' y' away' e'. r.fits j' y' e') j y e);
-        }))
+        inr (inr (fused items views r port other (Open k) (Open l) both at at'
+        (omega (arith, none)) (omega (arith, idle'))
+        (λ weight. let q = light r.owner (r.taken ++ r.held) r.taken weight (Open l) fit' none in omega (arith, q))
+        (fit.0, fit.1, fit.2, fit'.3)))
     reunites port Fresh other u some_part idle none may items views h at apart at' = absurd (omega arith)
     reunites port (Telling p) other u some_part idle none may items views h at apart at' = absurd (omega arith)
     reunites port Spent other u some_part idle none may items views h at apart at' = absurd (omega arith)
