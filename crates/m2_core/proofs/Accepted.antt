@@ -1,5 +1,5 @@
 -- The message at the front is accepted: the core and the replay go on alike.
-use Rattle.std.proofs.Common.{◌≡◌, ◌≢◌, ℕ, ◌+◌, true, false, length, Option, Some, None, Ok, refl, sym, ap, subst, ◌∙◌, arith}
+use Rattle.std.proofs.Common.{◌≡◌, ◌≢◌, ℕ, ◌+◌, true, false, [], ◌∷◌, ◌++◌, length, Option, Some, None, Ok, refl, sym, ap, subst, ◌∙◌, arith}
 use Rattle.std.specs.Option.{is_some}
 use Rattle.std.proofs.lemmas.Bool.{lt-leb}
 use Rattle.m2_feed.specs.Calls.{GivesNext, HasFrame, IsFront}
@@ -19,7 +19,7 @@ use Rattle.m2_journal.specs.Feeds.{is_passed, next_place, next_said}
 use Rattle.m2_journal.specs.Lawful.{IsNext, MayAccept, OnFeedAt, key_of}
 use Rattle.m2_journal.specs.Said.{Said, brings, said}
 use Rattle.m2_journal.specs.SideFacts.{SideFacts}
-use Rattle.m2_journal.specs.State.{Feed, State}
+use Rattle.m2_journal.specs.State.{Feed, State, letter}
 use Rattle.m2_journal.specs.Steps.{accepts, on_feed_at}
 use Rattle.m2_message.specs.declared.message.Message.{Message}
 use Rattle.m2_message.specs.Message.{Content, content_of}
@@ -205,6 +205,16 @@ led_on takes changes c s n key m i (Some v) (Some new) None k a p st r = absurd 
 led_on takes changes c s n key m i (Some v) None d k a p st r = absurd p
 led_on takes changes c s n key m i None y d k a p st r = absurd p
 
+-- and the message is handed out
+handed_on : TakesBeside → (f : SideFacts) (s : State) (n : ℕ) (key : Key) (m : Content) (i : Item) (x y : Option FeedNow) (d : Option Feed) → NextAt s n m i →
+    PassesItem i x y → FeedsAgree f s x d → (on_feed_at d (λ e. accepts n key (next_said s.last e) e) s).deliveries ≡ s.deliveries ++ letter n key m ∷ []
+handed_on law f s n key m i (Some v) (Some new) (Some d) k p st =
+    let next : next_said s.last d ≡ Some (brings m) = law.text_next f s i p.0.len v d st k.ready (stops s n m i k) p.0.front ∙ ap (λ (x : Said). Some x) k.says in
+    ap (λ (o : Option Said). (accepts n key o d s).deliveries) next
+handed_on law f s n key m i (Some v) (Some new) None k p st = absurd st
+handed_on law f s n key m i (Some v) None d k p st = absurd p
+handed_on law f s n key m i None y d k p st = absurd p
+
 accepts_it : IsHeardAsReplayed → BringsMessages → AsksForItsSize → TakesBeside → ChangesBeside → (c : CoreNow) (a : CoreAccepted) (y : Option FeedNow) → Holds c →
     MovesMessage (hearer_of c) a.number (content_of a.message) c.live.feed y → a.key ≡ key_of c.facts (content_of a.message) → c.live.granted ≡ Some a.grant → Accepts a c (accepted a.number y c)
 accepts_it law bringing sizes takes changes c a y h v key g =
@@ -222,6 +232,7 @@ accepts_it law bringing sizes takes changes c a y h v key g =
       size = ap (λ (x : SeenGrant). x.n) (sym same) ∙ k.2;
       only = refl;
       may = λ s b. may_on takes c.facts s a.number a.key m (whole v.frame) c.live.feed y s.feed (next_at law bringing c s a.number m y b v) key v.passes b.feed;
+      hands_out = λ s b. handed_on takes c.facts s a.number a.key m (whole v.frame) c.live.feed y s.feed (next_at law bringing c s a.number m y b v) v.passes b.feed;
       leads = λ s b. led_on takes changes c s a.number a.key m (whole v.frame) c.live.feed y s.feed (next_at law bringing c s a.number m y b v) b v.passes b.feed b.resumed;
     }
 

@@ -1,30 +1,22 @@
 -- Where a core agrees with a replay, it is made of that replay's own parts.
-use Rattle.std.proofs.Common.{◌≡◌, ℕ, Bool, true, false, ◌&&◌, ◌||◌, not, Option, Some, None, refl, sym, ap, subst, ◌∙◌, arith}
-use Rattle.std.specs.Prelude.{◌⊎◌, ◌==◌, nat_le, if◌then◌else◌, IsTrue}
-use Rattle.m2_fabric.specs.declared.socket.SocketId.{SocketId}
-use Rattle.m2_fabric.specs.Sockets.{same_socket}
+use Rattle.std.proofs.Common.{◌≡◌, ℕ, Bool, true, false, Option, Some, None, refl, subst, ◌∙◌, arith}
+use Rattle.std.specs.Prelude.{◌⊎◌}
 use Rattle.m2_feed.specs.FeedNow.{FeedNow}
 use Rattle.m2_feed.specs.Laws.{ChangesBeside}
 use Rattle.m2_feed.specs.Stands.{Stands, is_ready}
-use Rattle.m2_journal.proofs.Growing.{same_socket-self}
 use Rattle.m2_journal.specs.Items as item
 use Rattle.m2_journal.specs.Items.{JournalItem}
-use Rattle.m2_journal.specs.Plan.{Planned, to_post}
+use Rattle.m2_journal.specs.Plan.{to_post}
 use Rattle.m2_journal.specs.SideFacts.{SideFacts}
 use Rattle.m2_journal.specs.State.{Feed, State}
-use Rattle.m2_journal.specs.Steps as steps
 use Rattle.m2_journal.specs.Steps.{after}
 use Rattle.m2_message.specs.Message.{Content}
-use Rattle.m2_queues.specs.OutQueues.{Outgoing, Queue}
-use Rattle.m2_session.specs.declared.session.Phase.{Phase}
+use Rattle.m2_queues.specs.OutQueues.{Queue}
 use Rattle.m2_session.specs.declared.session.Session.{Session}
-use Rattle.m2_session.specs.declared.event.Effects.{Effects}
-use Rattle.m2_session.specs.Steps.{closes, step_of}
 use Rattle.m2_shared.specs.Throttle.{SeenGrant}
 use Rattle.m2_core.specs.Agrees.{Agrees, FeedsAgree, IsTold, LeadsOn}
-use Rattle.m2_core.specs.Calls.{after_counted, after_fault, after_posted}
-use Rattle.m2_core.specs.CoreNow.{CoreNow, LiveNow, OnFeedNow}
-use Rattle.m2_core.specs.Effects as effects
+use Rattle.m2_core.specs.Calls.{after_posted}
+use Rattle.m2_core.specs.CoreNow.{CoreNow}
 
 -- the core that has just what a replay has, with this room, feed and grant
 abbrev pub core_of : SideFacts → State → (spare resumed : ℕ) → Option FeedNow → Option SeenGrant → CoreNow

@@ -1,10 +1,7 @@
 -- An ask is composed: the core and the replay go on alike.
-use Rattle.std.proofs.Common.{◌≡◌, ◌≢◌, ℕ, ◌+◌, ◌<◌, ◌≤◌, Bool, true, false, ◌&&◌, List, [], ◌∷◌, ◌++◌, length, Option, Some, None, Result, Ok, Err, refl, sym, ap, subst, ◌∙◌, arith, zero, suc}
-use Rattle.std.specs.Prelude.{pos, ◌==◌, if◌then◌else◌}
-use Rattle.m2_addr.specs.declared.addr.Addr.{Addr}
+use Rattle.std.proofs.Common.{◌≡◌, ℕ, ◌<◌, ◌≤◌, Bool, true, false, ◌&&◌, List, [], ◌∷◌, ◌++◌, length, Option, Some, None, refl, sym, ap, subst, ◌∙◌, arith, zero, suc}
+use Rattle.std.specs.Prelude.{◌==◌}
 use Rattle.m2_control.specs.declared.control.Control.{Control}
-use Rattle.m2_control.specs.Control.{IsWritable, text_of}
-use Rattle.m2_frame.specs.declared.frame.TheConstants.{CONTROL_LIMIT}
 use Rattle.m2_journal.specs.SideFacts.{SideFacts}
 use Rattle.std.specs.List.{AllByRecursion}
 use Rattle.std.proofs.lemmas.List.{append-nil}
@@ -13,7 +10,7 @@ use Rattle.m2_feed.specs.Calls as feed
 use Rattle.m2_feed.specs.Calls.{Rests}
 use Rattle.m2_feed.specs.FeedNow.{FeedNow, Reading, framing, shaking, is_framing}
 use Rattle.m2_feed.specs.Laws.{ChangesBeside, ComposesBeside, StaysBeside}
-use Rattle.m2_feed.specs.Stands.{ReadsAs, Stands, is_ready, passes_over}
+use Rattle.m2_feed.specs.Stands.{ReadsAs, is_ready, passes_over}
 use Rattle.m2_frame.specs.Reading.{Front, Item, judge, start}
 use Rattle.m2_handshake.specs.Texts.{frame_text}
 use Rattle.m2_journal.specs.Items as item
@@ -36,7 +33,7 @@ use Rattle.m2_core.proofs.Agreeing.{IsResumed, agreed, core_of}
 use Rattle.m2_core.proofs.Numbered.{has_text, room_on}
 use Rattle.m2_core.specs.declared.asking.CoreAsk.TheVariants as ask
 use Rattle.m2_core.specs.Agrees.{Agrees, FeedsAgree, LeadsOn, MayCome, Stays}
-use Rattle.m2_core.specs.Asking.{AsksNow, AsksWith, CanAsk, ComposesAsk, HasAsked, IsAsk, MayAskNow, ReservesAsk, ask_len, ask_of, asked_event, filled}
+use Rattle.m2_core.specs.Asking.{AsksNow, AsksWith, CanAsk, ComposesAsk, HasAsked, IsAsk, MayAskNow, ask_len, ask_of, asked_event, filled}
 use Rattle.m2_core.specs.Calls.{ask_event, ask_frame, asks_ident}
 use Rattle.m2_core.specs.CoreNow.{CoreNow, LiveNow, OnFeedNow}
 use Rattle.m2_core.specs.Numbering.{ChangesRoom}

@@ -1,6 +1,6 @@
 -- An acknowledgement is counted: the core and the replay go on alike.
-use Rattle.std.proofs.Common.{◌≡◌, ℕ, ◌+◌, ◌-◌, ◌<◌, ◌≤◌, Bool, true, false, List, length, drop, Option, Some, None, refl, sym, ap, subst, ◌∙◌, arith}
-use Rattle.std.specs.Prelude.{max, nat_le, if◌then◌else◌}
+use Rattle.std.proofs.Common.{◌≡◌, ℕ, ◌-◌, ◌<◌, ◌≤◌, true, Option, Some, None, refl, sym, ap, subst, ◌∙◌, arith}
+use Rattle.std.specs.Prelude.{nat_le}
 use Rattle.std.proofs.lemmas.Bool.{le-leb}
 use Rattle.std.proofs.lemmas.List.{length-drop}
 use Rattle.m2_feed.specs.Laws.{ChangesBeside}
@@ -13,7 +13,7 @@ use Rattle.m2_session.specs.declared.session.Phase.{Phase}
 use Rattle.m2_session.specs.declared.session.Phase.TheVariants.{Absent, Connecting, IdentSent, ReconnectSent, Ready, Standby, Wait}
 use Rattle.m2_session.specs.Phases as phase
 use Rattle.m2_core.proofs.Agreeing.{feeds_as}
-use Rattle.m2_core.specs.Agrees.{Agrees, IsTold, IsToldTo, LeadsOn, MayCome}
+use Rattle.m2_core.specs.Agrees.{IsTold, IsToldTo, LeadsOn, MayCome}
 use Rattle.m2_core.specs.Calls.{after_counted}
 use Rattle.m2_core.specs.CoreNow.{CoreNow, Holds, LiveNow, is_ready}
 

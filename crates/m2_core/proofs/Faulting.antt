@@ -1,6 +1,5 @@
 -- A feed that is closed for a fault: the core and the replay go on alike.
-use Rattle.std.proofs.Common.{◌≡◌, ℕ, Bool, true, false, ◌&&◌, ◌||◌, not, Option, Some, None, refl, subst, inl, inr}
-use Rattle.std.specs.Prelude.{◌⊎◌, if◌then◌else◌}
+use Rattle.std.proofs.Common.{◌≡◌, ℕ, Bool, true, false, ◌&&◌, ◌||◌, not, Option, Some, None, refl, subst, inl}
 use Rattle.std.specs.Option.{is_some}
 use Rattle.m2_fabric.specs.Sockets.{same_socket}
 use Rattle.m2_feed.specs.FeedNow.{FeedNow}

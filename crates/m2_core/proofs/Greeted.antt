@@ -1,17 +1,15 @@
 -- An answer of the opener's half: the replay has come so far before.
-use Rattle.std.proofs.Common.{◌≡◌, ℕ, Bool, true, false, ◌||◌, List, Option, Some, None, refl, sym, ap, subst, ◌∙◌}
-use Rattle.m2_feed.specs.Calls.{GreetsOn, after_greeting}
-use Rattle.m2_feed.specs.FeedNow.{FeedNow, Reading, framing, shaking, is_framing}
+use Rattle.std.proofs.Common.{◌≡◌, true, false, Option, Some, None, refl, sym, ap, ◌∙◌}
+use Rattle.m2_feed.specs.Calls.{GreetsOn}
+use Rattle.m2_feed.specs.FeedNow.{FeedNow, is_framing}
 use Rattle.m2_feed.specs.Laws.{FindsFaults, GreetsBeside}
 use Rattle.m2_handshake.specs.declared.answer.HalfStep.{HalfStep}
 use Rattle.m2_handshake.specs.declared.answer.HalfStep.TheVariants as half
-use Rattle.m2_handshake.specs.Standing.{Standing}
 use Rattle.m2_journal.specs.Lawful.{OnFeedAt, is_broken}
 use Rattle.m2_journal.specs.SideFacts.{SideFacts}
 use Rattle.m2_journal.specs.State.{Feed, State}
-use Rattle.m2_session.specs.declared.session.Phase.{Phase}
-use Rattle.m2_core.specs.Agrees.{Agrees, FeedsAgree, IsBroken, Stays}
-use Rattle.m2_core.specs.CoreNow.{CoreNow, Holds, IsAskedIfSigned, IsSound, LiveNow, OnFeedNow, granted_in, is_granted_in}
+use Rattle.m2_core.specs.Agrees.{FeedsAgree}
+use Rattle.m2_core.specs.CoreNow.{CoreNow, Holds, IsSound, LiveNow, granted_in, is_granted_in}
 use Rattle.m2_core.specs.Moves.{live_with}
 use Rattle.m2_core.specs.Shaken.{GreetsFeed, HasShaken, IsHalfFault}
 

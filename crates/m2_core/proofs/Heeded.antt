@@ -32,6 +32,7 @@ use Rattle.m2_core.specs.Front.{Hears, HearsOn, hearer_at, hearer_of}
 use Rattle.m2_core.specs.Next.{CanCount, CanHeed}
 use Rattle.m2_core.proofs.Faulting.{is_on_feed}
 use Rattle.m2_core.proofs.Fronts.{as_replayed}
+use Rattle.m2_core.proofs.Resetting.{reset_heard}
 
 -- ---- a fault is one of the replay
 
@@ -84,7 +85,7 @@ ack_heard law told c n h =
 pub hears_can : IsHeardAsReplayed → FindsFaults → HearsTold → (c : CoreNow) (heard : FrameHeard) → HearsOn c heard → CanHeed heard c
 hears_can law finds told c (Acknowledges n) h = ack_heard law told c n h
 hears_can law finds told c (Fault cause) h = fault_heard law finds c cause h
-hears_can law finds told c (Resets full) h = tt
+hears_can law finds told c (Resets full) h = reset_heard law c full h
 hears_can law finds told c Nothing h = h
 hears_can law finds told c (Stamp k) h = h
 hears_can law finds told c (Brings n) h = h
@@ -157,15 +158,17 @@ resumed_counts c ready above written = record { ready = ready; told = λ s a. re
 -- ---- a fault may be an entry
 
 closes_on : (f : SideFacts) (s : State) (x : Option FeedNow) (d : Option Feed) → FeedsAgree f s x d → OnFeedAt d (λ z. is_broken s z ≡ true) → s.feed ≡ d →
-    OnFeedNow x (λ v. MayClose s v.end.id false)
-closes_on f s (Some v) (Some d) st b e = inl (subst (λ (o : Option Feed). OnFeedAt o (λ z. (same_socket v.end.id z.socket ≡ true) × ((false || is_broken s z) ≡ true))) (sym e) (is_on_feed f s v d st, b))
+    OnFeedNow x (λ v. (broken : Bool) → MayClose s v.end.id broken)
+closes_on f s (Some v) (Some d) st b e = λ broken.
+    inl (subst (λ (o : Option Feed). OnFeedAt o (λ z. (same_socket v.end.id z.socket ≡ true) × ((broken || is_broken s z) ≡ true))) (sym e) (is_on_feed f s v d st, or_right broken (is_broken s d) b))
 closes_on f s (Some v) None st b e = absurd st
 closes_on f s None (Some d) st b e = absurd st
 closes_on f s None None st b e = absurd b
 
-may_close_at : (c : CoreNow) (x : Option FeedNow) → ((s : State) → Agrees c s → OnFeedNow x (λ v. MayClose s v.end.id false)) → is_some x ≡ true → OnFeedNow x (λ v. MayCome (item.closed v.end.id false) c)
-may_close_at c (Some v) h e = h
+may_close_at : (c : CoreNow) (x : Option FeedNow) → ((s : State) → Agrees c s → OnFeedNow x (λ v. (broken : Bool) → MayClose s v.end.id broken)) → is_some x ≡ true →
+    OnFeedNow x (λ v. (broken : Bool) → MayCome (item.closed v.end.id broken) c)
+may_close_at c (Some v) h e = λ broken s a. h s a broken
 may_close_at c None h e = cc
 
-pub may_close : (c : CoreNow) → is_some c.live.feed ≡ true → IsBroken c → OnFeedNow c.live.feed (λ v. MayCome (item.closed v.end.id false) c)
+pub may_close : (c : CoreNow) → is_some c.live.feed ≡ true → IsBroken c → OnFeedNow c.live.feed (λ v. (broken : Bool) → MayCome (item.closed v.end.id broken) c)
 may_close c some b = may_close_at c c.live.feed (λ s a. closes_on c.facts s c.live.feed s.feed a.feed (b s a) refl) some

@@ -50,9 +50,9 @@ use Rattle.m2_core.specs.declared.verdict.Verdict.{Verdict}
 use Rattle.m2_core.specs.Agrees.{Agrees, FeedsAgree}
 use Rattle.m2_core.specs.Calls.{tells_if}
 use Rattle.m2_core.specs.CoreNow.{CoreNow, Holds, IsSound, LiveNow, held}
-use Rattle.m2_core.specs.Effects.{closed_if, closed_of}
+use Rattle.m2_core.specs.Effects.{closed_if, closed_of, effects_of}
 use Rattle.m2_core.specs.Judging.{CanJudge, IsAnswerFrame, IsVerdict, MayBeJudged, acceptance_text, carried_by, entry_of, told_of, verdict_on}
-use Rattle.m2_core.specs.TakingOver.{MakesJudgement, IsTakenFeed, after_answering, after_taking, effects_of, resumed_by, with_taken}
+use Rattle.m2_core.specs.TakingOver.{MakesJudgement, IsTakenFeed, after_answering, after_taking, resumed_by_ask, with_taken}
 
 -- ---- the entry may come
 
@@ -389,7 +389,7 @@ ask_by ident client server global connect seen = record { ident = ident; client 
 module _ (law : TakesOverBeside) (end : SeenEnd) (unread : List ℕ) (d : FeedNow) where
   taken_at : (b full : Bool) (client server global connect seen kept : ℕ) (given : Answer) (f : SideFacts) (s : State) (n r number : ℕ) (x : Option FeedNow) (g : Option SeenGrant) (y : Option Feed) →
       d ≡ at_acceptance end unread false (out.text_of f (acceptance_by b f number s.last)) d →
-      Agrees (taking number (resumed_by (ask_by b client server global connect seen)) (Some (took b full (ask_by b kept server global connect seen) (cookie_of f number))) d (core_of f (record s { feed = y }) n r x g))
+      Agrees (taking number (resumed_by_ask (ask_by b client server global connect seen)) (Some (took b full (ask_by b kept server global connect seen) (cookie_of f number))) d (core_of f (record s { feed = y }) n r x g))
       (replay.takes_socket f end.id (ask_by b client server global connect seen) number unread
       (replay.tells_if (Some (took b full (ask_by b kept server global connect seen) (cookie_of f number)))
       (replay.notes end.id (ask_by b client server global connect seen) number given (record s { feed = y }))))
@@ -418,7 +418,7 @@ judged_taking law c v end unread d is t e trail s a =
     let f = c.facts in
     let known = core_of f s c.live.out.spare c.live.resumed c.live.feed c.live.granted in
     subst (λ (u : CoreNow). Agrees (after_taking v d u) (after f (entry_of v end.id unread trail) s)) (agreed c s a)
-    (taken_as (λ o. taking v.number (resumed_by v.ask) o d known)
+    (taken_as (λ o. taking v.number (resumed_by_ask v.ask) o d known)
     (λ o. replay.takes_socket f end.id v.ask v.number unread (replay.tells_if o (replay.notes end.id v.ask v.number v.answer s)))
     (λ o. replay.sends end.id (replies_of v.answer) (replay.tells_if o (replay.notes end.id v.ask v.number v.answer s)))
     (told_of f v) _ (takes v.answer) told.1 t
@@ -471,13 +471,13 @@ holds_by : (o : Option Event) (e : Event) (d : FeedNow) (resumed : ℕ) (l : Liv
 holds_by o e d resumed l i h = rw i h
 
 pub keeps_taking : (c : CoreNow) (v : Verdict) (o : Option Event) (end : SeenEnd) (unread : List ℕ) (d : FeedNow) (l : LiveNow) → Holds c → IsVerdict v c → takes v.answer ≡ true →
-    o ≡ told_of c.facts v → IsTakenFeed v end unread c d → l ≡ with_taken o d (resumed_by v.ask) c.live → Holds (record c { live = l; dials = false; top = v.number })
+    o ≡ told_of c.facts v → IsTakenFeed v end unread c d → l ≡ with_taken o d (resumed_by_ask v.ask) c.live → Holds (record c { live = l; dials = false; top = v.number })
 keeps_taking c v o end unread d l h is t e b g =
     let told = told_taking c v is t in
     record {
       place = h.place;
-      sound = rw g (holds_by o _ d (resumed_by v.ask) c.live (e ∙ told.1)
-          (taken_sound v.ask.ident told.0 (kept_of c.facts v.ask) (cookie_of c.facts v.number) (resumed_by v.ask) d unread c.live is.can.readable.connect (ap (λ z. z.reading) b) h.sound));
+      sound = rw g (holds_by o _ d (resumed_by_ask v.ask) c.live (e ∙ told.1)
+          (taken_sound v.ask.ident told.0 (kept_of c.facts v.ask) (cookie_of c.facts v.number) (resumed_by_ask v.ask) d unread c.live is.can.readable.connect (ap (λ z. z.reading) b) h.sound));
     }
 
 -- as the code comes to its feed
@@ -487,13 +487,13 @@ as_taken end unread granted bytes text d g t e =
     subst (λ (z : List ℕ). d ≡ at_acceptance end unread false z d) t (subst (λ (z : Bool). d ≡ at_acceptance end unread z bytes d) g e)
 
 pub takes_value : (c : CoreNow) (v : Verdict) (o : Option Event) (end : SeenEnd) (unread : List ℕ) (d : FeedNow) (l : LiveNow) → Holds c →
-    o ≡ told_of c.facts v → IsTakenFeed v end unread c d → l ≡ with_taken o d (resumed_by v.ask) c.live →
+    o ≡ told_of c.facts v → IsTakenFeed v end unread c d → l ≡ with_taken o d (resumed_by_ask v.ask) c.live →
     IfSome l.feed (λ z. IsTakenFeed v end unread c z × (record c { live = l; dials = false; top = v.number } ≡ after_taking v z c))
 takes_value c v o end unread d l h e b g = rw (g, e) (b, refl)
 
 -- as the code comes to it
 pub takes_over : TakesOverBeside → (c : CoreNow) (v : Verdict) (o : Option Event) (end : SeenEnd) (unread : List ℕ) (d : FeedNow) (l : LiveNow) → IsVerdict v c → takes v.answer ≡ true →
-    o ≡ told_of c.facts v → IsTakenFeed v end unread c d → l ≡ with_taken o d (resumed_by v.ask) c.live →
+    o ≡ told_of c.facts v → IsTakenFeed v end unread c d → l ≡ with_taken o d (resumed_by_ask v.ask) c.live →
     MakesJudgement v end.id unread c (record c { live = l; dials = false; top = v.number })
 takes_over law c v o end unread d l is t e b g = rw (g, e) (judged_taking law c v end unread d is t b)
 

@@ -19,6 +19,7 @@ pub mod Granted
 pub mod Passed
 pub mod Accepted
 pub mod Rested
+pub mod Resetting
 pub mod Heeded
 pub mod Nexts
 pub mod Helds

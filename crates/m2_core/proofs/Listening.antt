@@ -44,8 +44,9 @@ use Rattle.m2_core.proofs.Telling.{resumed_still}
 use Rattle.m2_core.specs.Agrees.{Agrees, FeedsAgree, Stays}
 use Rattle.m2_core.specs.CoreNow.{CoreNow, Holds, IsAskedIfSigned, LiveNow}
 use Rattle.m2_core.specs.Effects.{closed_if}
-use Rattle.m2_core.specs.Hearing.{HasRead, Heeds, IsRead, IsReadEntry, PassesFeed, ReadsFeed, TakesAnswer, after_answer, effects_heard, heard_after, heard_on, hearing}
+use Rattle.m2_core.specs.Hearing.{HasRead, Heeds, IsRead, IsReadEntry, ReadsFeed, TakesAnswer, after_answer, effects_heard, heard_after, heard_on, hearing}
 use Rattle.m2_core.specs.Moves.{live_with}
+use Rattle.m2_core.specs.Passing.{PassesFeed}
 
 -- ---- what a read gave
 

@@ -11,7 +11,7 @@ use Rattle.m2_frame.specs.Frame.{Parts, message_tag}
 use Rattle.m2_frame.specs.Reading.{Item, judge, whole}
 use Rattle.m2_heard.specs.declared.fault.WireFault.TheVariants as fault
 use Rattle.m2_heard.specs.declared.heard.FrameHeard.{FrameHeard}
-use Rattle.m2_heard.specs.declared.heard.FrameHeard.TheVariants.{Nothing, Acknowledges, Fault}
+use Rattle.m2_heard.specs.declared.heard.FrameHeard.TheVariants.{Nothing, Acknowledges, Fault, Resets}
 use Rattle.m2_heard.specs.declared.hearer.Hearer.{Hearer}
 use Rattle.m2_heard.specs.Heard.{heard_of}
 use Rattle.m2_heard.specs.Laws.{AsksForItsSize}
@@ -19,18 +19,18 @@ use Rattle.m2_journal.specs.Items as item
 use Rattle.m2_session.specs.declared.session.Phase.TheVariants.{Ready}
 use Rattle.m2_session.specs.Phases as phase
 use Rattle.m2_shared.specs.declared.limits.TheConstants.{MOST_TAKEN}
-use Rattle.m2_shared.specs.Throttle.{SeenThrottle}
+use Rattle.m2_shared.specs.Throttle.{SeenTakePass, SeenThrottle}
 use Rattle.m2_core.specs.declared.granting.CoreGrant.{CoreGrant}
 use Rattle.m2_core.specs.declared.granting.CoreGrant.TheVariants as grant
 use Rattle.m2_core.specs.declared.next.CoreNext.{CoreNext}
 use Rattle.m2_core.specs.declared.next.CoreNext.TheVariants as next
 use Rattle.m2_core.specs.declared.resting.CoreRest.TheVariants as rest
-use Rattle.m2_core.specs.Agrees.{IsBroken, LeadsOn, MayCome}
+use Rattle.m2_core.specs.Agrees.{IsBroken, LeadsOn}
 use Rattle.m2_core.specs.Calls.{after_fault}
 use Rattle.m2_core.specs.CoreNow.{CoreNow, OnFeedNow, is_ready}
 use Rattle.m2_core.specs.Front.{FrontHeard, Hears, HearsOn, asks, before_front, front_in, front_of, heard_by, hearer_of, rests, resumption_at, resumption_of, tells}
-use Rattle.m2_core.specs.Granting.{HasGranted}
-use Rattle.m2_core.specs.Next.{CanHeed, Closes, IsNext, RestSays, granted_next, size_front}
+use Rattle.m2_core.specs.Granting.{HasGranted, Throttled}
+use Rattle.m2_core.specs.Next.{CanHeed, Closes, IsNext, IsResetHeard, MayObeyIfReset, RestSays, granted_next, size_front}
 use Rattle.m2_core.specs.Passing.{HasPassed, PassesHeard, PassesItem}
 use Rattle.m2_core.proofs.Heeded.{bad_breaks, early_breaks, may_close, resumed_breaks, resumed_counts}
 
@@ -69,7 +69,7 @@ owed_front h (shaking s) n f = absurd f
 pub hears : (h : Hearer) (heard : FrameHeard) (f : Parts) (r : Reading) → ((len : ℕ) × IsFront r (whole f) len) → heard ≡ heard_of h (whole f) → Hears h heard r
 hears h heard f r k e = record { frame = f; len = k.0; front = k.1; says = sym e }
 
-pub next_heard : (t : SeenThrottle) (a : CoreNext) (c new : CoreNow) (heard : FrameHeard) → HearsOn c heard → IsNext t a (tells heard) c new →
+pub next_heard : (t : Throttled) (a : CoreNext) (c new : CoreNow) (heard : FrameHeard) → HearsOn c heard → IsNext t a (tells heard) c new →
     OnFeedNow c.live.feed (λ v. IsNext t a (front_of (hearer_of c) v.reading) c new)
 next_heard t a c new heard h n =
     map_on c.live.feed (λ v. Hears (hearer_of c) heard v.reading) (λ v. IsNext t a (front_of (hearer_of c) v.reading) c new)
@@ -77,46 +77,62 @@ next_heard t a c new heard h n =
 
 -- ---- a resumption
 
-resumed_by : (c : CoreNow) (heard : FrameHeard) → is_ready c.live ≡ true → (a b : Bool) → nat_lt c.live.out.queue.written c.live.resumed ≡ a → nat_lt c.live.out.queue.base c.live.resumed ≡ b →
+resumed_may : (c : CoreNow) (heard : FrameHeard) → is_ready c.live ≡ true → (a b : Bool) → nat_lt c.live.out.queue.written c.live.resumed ≡ a → nat_lt c.live.out.queue.base c.live.resumed ≡ b →
     (if a then Some (Fault (fault.BadAck c.live.out.queue.written c.live.resumed)) else if b then Some (Acknowledges c.live.resumed) else None) ≡ Some heard → CanHeed heard c
-resumed_by c heard ready true b p q e =
+resumed_may c heard ready true b p q e =
     let same : Fault (fault.BadAck c.live.out.queue.written c.live.resumed) ≡ heard = cc in
     subst (λ (x : FrameHeard). CanHeed x c) same (resumed_breaks c (ltb-true c.live.out.queue.written c.live.resumed p))
-resumed_by c heard ready false true p q e =
+resumed_may c heard ready false true p q e =
     let same : Acknowledges c.live.resumed ≡ heard = cc in
     subst (λ (x : FrameHeard). CanHeed x c) same
     (resumed_counts c ready (ltb-true c.live.out.queue.base c.live.resumed q) (ltb-false c.live.out.queue.written c.live.resumed p))
-resumed_by c heard ready false false p q e = let never : ⊥ = cc in absurd never
+resumed_may c heard ready false false p q e = let never : ⊥ = cc in absurd never
 
 pub resumed_can : (c : CoreNow) (heard : FrameHeard) → Some heard ≡ resumption_at c → CanHeed heard c
 resumed_can c heard e = at (is_ready c.live) refl (sym e)
   where
     at : (b : Bool) → is_ready c.live ≡ b → (if b then resumption_of (hearer_of c) c.live.resumed else None) ≡ Some heard → CanHeed heard c
-    at true q h = resumed_by c heard q (nat_lt c.live.out.queue.written c.live.resumed) (nat_lt c.live.out.queue.base c.live.resumed) refl refl h
+    at true q h = resumed_may c heard q (nat_lt c.live.out.queue.written c.live.resumed) (nat_lt c.live.out.queue.base c.live.resumed) refl refl h
     at false q h = let never : ⊥ = cc in absurd never
 
-pub next_resumed : (t : SeenThrottle) (a : CoreNext) (c new : CoreNow) (heard : FrameHeard) → OnFeedNow c.live.feed (λ v. is_framing v.reading ≡ true) → Some heard ≡ resumption_at c → IsNext t a (tells heard) c new →
+pub next_resumed : (t : Throttled) (a : CoreNext) (c new : CoreNow) (heard : FrameHeard) → OnFeedNow c.live.feed (λ v. is_framing v.reading ≡ true) → Some heard ≡ resumption_at c → IsNext t a (tells heard) c new →
     OnFeedNow c.live.feed (λ v. IsNext t a (heard_by c v.reading) c new)
 next_resumed t a c new heard s e n =
     map_on c.live.feed (λ v. is_framing v.reading ≡ true) (λ v. IsNext t a (heard_by c v.reading) c new)
     (λ v k. subst (λ (o : Option FrameHeard). IsNext t a (before_front o (front_of (hearer_of c) v.reading)) c new) e n) s
 
-pub next_front : (t : SeenThrottle) (a : CoreNext) (c new : CoreNow) → None ≡ resumption_at c → OnFeedNow c.live.feed (λ v. IsNext t a (front_of (hearer_of c) v.reading) c new) →
+pub next_front : (t : Throttled) (a : CoreNext) (c new : CoreNow) → None ≡ resumption_at c → OnFeedNow c.live.feed (λ v. IsNext t a (front_of (hearer_of c) v.reading) c new) →
     OnFeedNow c.live.feed (λ v. IsNext t a (heard_by c v.reading) c new)
 next_front t a c new e n =
     map_on c.live.feed (λ v. IsNext t a (front_of (hearer_of c) v.reading) c new) (λ v. IsNext t a (heard_by c v.reading) c new)
     (λ v k. subst (λ (o : Option FrameHeard). IsNext t a (before_front o (front_of (hearer_of c) v.reading)) c new) e k) n
 
+-- ---- a reset
+
+reset_next : (t : Throttled) (a : CoreNext) (front : FrontHeard) (c new : CoreNow) → IsNext t a front c new → MayObeyIfReset a new
+reset_next t (next.Resets full) (tells (Resets mark)) c new h = subst (λ (k : CoreNow). IsResetHeard full k) (sym h.2) h.1
+reset_next t (next.Resets full) front c new h = absurd h
+reset_next t a front c new h = tt
+
+pub reset_on : (t : Throttled) (a : CoreNext) (c new : CoreNow) → OnFeedNow c.live.feed (λ v. IsNext t a (heard_by c v.reading) c new) → MayObeyIfReset a new
+reset_on t a c new h = at c.live.feed h
+  where
+    at : (x : Option FeedNow) → OnFeedNow x (λ v. IsNext t a (heard_by c v.reading) c new) → MayObeyIfReset a new
+    at (Some v) k = reset_next t a (heard_by c v.reading) c new k
+    at None k = absurd k
+
+pub reset_text : (t : Throttled) (a : CoreNext) (c new : CoreNow) → OnFeedNow c.live.feed (λ v. IsNext t a (front_of (hearer_of c) v.reading) c new) → MayObeyIfReset a new
+reset_text t a c new h = at c.live.feed h
+  where
+    at : (x : Option FeedNow) → OnFeedNow x (λ v. IsNext t a (front_of (hearer_of c) v.reading) c new) → MayObeyIfReset a new
+    at (Some v) k = reset_next t a (front_of (hearer_of c) v.reading) c new k
+    at None k = absurd k
+
 -- ---- a fault
 
 pub closes : (c new : CoreNow) → is_some c.live.feed ≡ true → IsBroken c → new ≡ record c { live = after_fault c.live } →
     OnFeedNow c.live.feed (λ v. (broken : Bool) → LeadsOn (item.closed v.end.id broken) c new) → Closes c new
-closes c new some b e leads = record { broken = b; only = e; entry = both_on c.live.feed (may_close c some b) leads }
-  where
-    both_on : (x : Option FeedNow) → OnFeedNow x (λ v. MayCome (item.closed v.end.id false) c) → OnFeedNow x (λ v. (broken : Bool) → LeadsOn (item.closed v.end.id broken) c new) →
-        OnFeedNow x (λ v. MayCome (item.closed v.end.id false) c × LeadsOn (item.closed v.end.id false) c new)
-    both_on (Some v) m l = (m, l false)
-    both_on None m l = absurd m
+closes c new some b e leads = record { broken = b; only = e; may = may_close c some b; leads = leads }
 
 -- ---- where no whole frame stands
 
@@ -124,7 +140,7 @@ and_on : (x : Option FeedNow) (P Q : FeedNow → Type 0) → OnFeedNow x P → O
 and_on (Some v) P Q p q = (p, q)
 and_on None P Q p q = absurd p
 
-pub next_rests : (t : SeenThrottle) (c new : CoreNow) → OnFeedNow c.live.feed (λ v. is_framing v.reading ≡ true) → OnFeedNow c.live.feed (λ v. RestSays rest.Rests v.reading c new) →
+pub next_rests : (t : Throttled) (c new : CoreNow) → OnFeedNow c.live.feed (λ v. is_framing v.reading ≡ true) → OnFeedNow c.live.feed (λ v. RestSays rest.Rests v.reading c new) →
     OnFeedNow c.live.feed (λ v. IsNext t next.Rests (front_of (hearer_of c) v.reading) c new)
 next_rests t c new s r =
     map_on c.live.feed (λ v. (is_framing v.reading ≡ true) × RestSays rest.Rests v.reading c new) (λ v. IsNext t next.Rests (front_of (hearer_of c) v.reading) c new)
@@ -135,7 +151,7 @@ passed_front : (h : Hearer) (i : Item) (v : FeedNow) (y : Option FeedNow) → he
 passed_front h i v (Some new) e p = item_front h v.reading i p.0.len p.0.front ∙ ap (λ (x : FrameHeard). tells x) e
 passed_front h i v None e p = absurd p
 
-passed_on : (t : SeenThrottle) (c new : CoreNow) (x : Option FeedNow) → PassesHeard (hearer_of c) Nothing x new.live.feed → HasPassed c new →
+passed_on : (t : Throttled) (c new : CoreNow) (x : Option FeedNow) → PassesHeard (hearer_of c) Nothing x new.live.feed → HasPassed c new →
     OnFeedNow x (λ v. IsNext t next.Passed (front_of (hearer_of c) v.reading) c new)
 passed_on t c new (Some v) k p = subst (λ (x : FrontHeard). IsNext t next.Passed x c new) (sym (passed_front (hearer_of c) k.item v new.live.feed k.says k.passes)) p
 passed_on t c new None k p = absurd k.passes
@@ -144,7 +160,7 @@ the_passed : (c new : CoreNow) (x : Option FeedNow) → OnFeedNow x (λ v. RestS
 the_passed c new (Some v) r = r
 the_passed c new None r = absurd r
 
-pub next_passed : (t : SeenThrottle) (c new : CoreNow) → OnFeedNow c.live.feed (λ v. RestSays rest.Passed v.reading c new) →
+pub next_passed : (t : Throttled) (c new : CoreNow) → OnFeedNow c.live.feed (λ v. RestSays rest.Passed v.reading c new) →
     OnFeedNow c.live.feed (λ v. IsNext t next.Passed (front_of (hearer_of c) v.reading) c new)
 next_passed t c new r = let p = the_passed c new c.live.feed r in passed_on t c new c.live.feed p.passes p
 
@@ -161,20 +177,28 @@ pub rest_breaks : FindsFaults → (c mid : CoreNow) (e : FrameFault) → OnFeedN
 rest_breaks law c mid e r =
     subst (λ (k : CoreNow). IsBroken k) (sym (unchanged c mid c.live.feed (λ v. IsBad v.reading e) r)) (bad_breaks law c e (first_on c mid c.live.feed (λ v. IsBad v.reading e) r))
 
-pub next_faulted : (t : SeenThrottle) (a : CoreNext) (c mid new : CoreNow) (e : FrameFault) → OnFeedNow c.live.feed (λ v. RestSays (rest.Fault e) v.reading c mid) →
-    IsNext t a (tells (Fault (fault.Frame e))) mid new → OnFeedNow c.live.feed (λ v. IsNext t a (front_of (hearer_of c) v.reading) c new)
-next_faulted t a c mid new e r n =
+-- the pass is as it was then, too
+abbrev with_passes : SeenThrottle → (before behind : SeenTakePass) → Throttled
+with_passes t before behind = record { throttle = t; before = before; behind = behind }
+
+pub next_faulted : (p : SeenThrottle) (u m w : SeenTakePass) (a : CoreNext) (c mid new : CoreNow) (e : FrameFault) → OnFeedNow c.live.feed (λ v. RestSays (rest.Fault e) v.reading c mid) → m ≡ u →
+    IsNext (with_passes p m w) a (tells (Fault (fault.Frame e))) mid new → OnFeedNow c.live.feed (λ v. IsNext (with_passes p u w) a (front_of (hearer_of c) v.reading) c new)
+next_faulted p u m w a c mid new e r q n =
+    let t = with_passes p u w in
     let same = unchanged c mid c.live.feed (λ v. IsBad v.reading e) r in
-    let from_c : IsNext t a (tells (Fault (fault.Frame e))) c new = subst (λ (k : CoreNow). IsNext t a (tells (Fault (fault.Frame e))) k new) same n in
+    let from_u : IsNext t a (tells (Fault (fault.Frame e))) mid new = subst (λ (k : SeenTakePass). IsNext (with_passes p k w) a (tells (Fault (fault.Frame e))) mid new) q n in
+    let from_c : IsNext t a (tells (Fault (fault.Frame e))) c new = subst (λ (k : CoreNow). IsNext t a (tells (Fault (fault.Frame e))) k new) same from_u in
     map_on c.live.feed (λ v. IsBad v.reading e) (λ v. IsNext t a (front_of (hearer_of c) v.reading) c new)
     (λ v k. subst (λ (x : FrontHeard). IsNext t a x c new) (sym (bad_front (hearer_of c) v.reading e k)) from_c)
     (first_on c mid c.live.feed (λ v. IsBad v.reading e) r)
 
-pub next_sized : (t : SeenThrottle) (a : CoreNext) (c mid new : CoreNow) (n : ℕ) → OnFeedNow c.live.feed (λ v. RestSays (rest.Asks n) v.reading c mid) →
-    IsNext t a (size_front (is_ready mid.live) n) mid new → OnFeedNow c.live.feed (λ v. IsNext t a (front_of (hearer_of c) v.reading) c new)
-next_sized t a c mid new n r x =
+pub next_sized : (p : SeenThrottle) (u m w : SeenTakePass) (a : CoreNext) (c mid new : CoreNow) (n : ℕ) → OnFeedNow c.live.feed (λ v. RestSays (rest.Asks n) v.reading c mid) → m ≡ u →
+    IsNext (with_passes p m w) a (size_front (is_ready mid.live) n) mid new → OnFeedNow c.live.feed (λ v. IsNext (with_passes p u w) a (front_of (hearer_of c) v.reading) c new)
+next_sized p u m w a c mid new n r q x =
+    let t = with_passes p u w in
     let same = unchanged c mid c.live.feed (λ v. Owes v.reading n) r in
-    let from_c : IsNext t a (size_front (is_ready c.live) n) c new = subst (λ (k : CoreNow). IsNext t a (size_front (is_ready k.live) n) k new) same x in
+    let from_u : IsNext t a (size_front (is_ready mid.live) n) mid new = subst (λ (k : SeenTakePass). IsNext (with_passes p k w) a (size_front (is_ready mid.live) n) mid new) q x in
+    let from_c : IsNext t a (size_front (is_ready c.live) n) c new = subst (λ (k : CoreNow). IsNext t a (size_front (is_ready k.live) n) k new) same from_u in
     map_on c.live.feed (λ v. Owes v.reading n) (λ v. IsNext t a (front_of (hearer_of c) v.reading) c new)
     (λ v k. subst (λ (y : FrontHeard). IsNext t a y c new) (sym (owed_front (hearer_of c) v.reading n k)) from_c)
     (first_on c mid c.live.feed (λ v. Owes v.reading n) r)
@@ -204,14 +228,14 @@ pub size_fed : (x : Option FeedNow) (n : ℕ) → OnFeedNow x (λ v. Owes v.read
 size_fed (Some v) n o = refl
 size_fed None n o = absurd o
 
-next_of_grant : (t : SeenThrottle) (g : CoreGrant) (c new : CoreNow) (n : ℕ) → HasGranted g t n c new → IsNext t (granted_next g) (asks n) c new
+next_of_grant : (t : Throttled) (g : CoreGrant) (c new : CoreNow) (n : ℕ) → HasGranted g t n c new → IsNext t (granted_next g) (asks n) c new
 next_of_grant t grant.Granted c new n h = h
 next_of_grant t (grant.Full held) c new n h = h
 next_of_grant t (grant.Again seen now) c new n h = h
 
-pub next_granted : (t : SeenThrottle) (g : CoreGrant) (c new : CoreNow) (n : ℕ) → is_ready c.live ≡ true → HasGranted g t n c new → IsNext t (granted_next g) (size_front (is_ready c.live) n) c new
+pub next_granted : (t : Throttled) (g : CoreGrant) (c new : CoreNow) (n : ℕ) → is_ready c.live ≡ true → HasGranted g t n c new → IsNext t (granted_next g) (size_front (is_ready c.live) n) c new
 next_granted t g c new n q h = subst (λ (b : Bool). IsNext t (granted_next g) (size_front b n) c new) (sym q) (next_of_grant t g c new n h)
 
-pub next_early : (t : SeenThrottle) (a : CoreNext) (c new : CoreNow) (n : ℕ) → is_ready c.live ≡ false → IsNext t a (tells (Fault (fault.Unexpected message_tag))) c new →
+pub next_early : (t : Throttled) (a : CoreNext) (c new : CoreNow) (n : ℕ) → is_ready c.live ≡ false → IsNext t a (tells (Fault (fault.Unexpected message_tag))) c new →
     IsNext t a (size_front (is_ready c.live) n) c new
 next_early t a c new n q h = subst (λ (b : Bool). IsNext t a (size_front b n) c new) (sym q) h

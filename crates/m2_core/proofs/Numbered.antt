@@ -1,6 +1,6 @@
 -- The next message is numbered and composed: the core and the replay go on alike.
-use Rattle.std.proofs.Common.{◌≡◌, ◌≢◌, ℕ, ◌+◌, ◌<◌, ◌≤◌, Bool, true, false, List, [], ◌∷◌, ◌++◌, length, take, drop, Option, Some, None, Result, Ok, Err, refl, sym, ap, subst, ◌∙◌, arith}
-use Rattle.std.specs.Prelude.{max, nat_lt, ◌||◌, if◌then◌else◌}
+use Rattle.std.proofs.Common.{◌≡◌, ◌≢◌, ℕ, ◌+◌, ◌<◌, ◌≤◌, Bool, true, false, [], length, take, Option, Some, None, Result, Ok, Err, refl, sym, ap, subst, ◌∙◌, arith}
+use Rattle.std.specs.Prelude.{nat_lt}
 use Rattle.std.proofs.lemmas.Bool.{lt-ltb}
 use Rattle.std.proofs.lemmas.Bool.Decides.{nat_tests}
 use Rattle.std.proofs.lemmas.List.{length-drop, length-take, length-append}
@@ -11,7 +11,6 @@ use Rattle.m2_feed.specs.Laws.{ChangesBeside, ComposesBeside, StaysBeside}
 use Rattle.m2_frame.proofs.Lengths.{length-text_of}
 use Rattle.m2_frame.specs.Frame.{Parts}
 use Rattle.m2_frame.specs.Text as frame
-use Rattle.m2_journal.specs.Feeds.{begun}
 use Rattle.m2_journal.specs.Items as item
 use Rattle.m2_journal.specs.Lawful.{MayNumber, OnFeedAt}
 use Rattle.m2_journal.specs.OutFrames as out
@@ -27,10 +26,10 @@ use Rattle.m2_session.specs.declared.session.Phase.TheVariants.{Ready}
 use Rattle.m2_shared.specs.Throttle.{SeenGrant}
 use Rattle.m2_core.proofs.Agreeing.{IsResumed, agreed, core_of, stands_as}
 use Rattle.m2_core.proofs.Counted.{is_the_phase}
-use Rattle.m2_core.specs.Agrees.{Agrees, FeedsAgree, LeadsOn, MayCome, Stays}
+use Rattle.m2_core.specs.Agrees.{Agrees, FeedsAgree, LeadsOn, MayCome}
 use Rattle.m2_core.specs.Composing.{CanWrite}
 use Rattle.m2_core.specs.CoreNow.{CoreNow, Holds, IsSound, LiveNow, OnFeedNow, is_ready}
-use Rattle.m2_core.specs.Numbering.{ChangesRoom, ComposesMessage, HasNumbered, IsNextSendable, IsNumbered, Numbers, NumbersOn}
+use Rattle.m2_core.specs.Numbering.{ChangesRoom, ComposesMessage, HasNumbered, IsNextSendable, Numbers, NumbersOn}
 
 abbrev Answer : Type 0
 Answer = Result ℕ memory.NoMemory

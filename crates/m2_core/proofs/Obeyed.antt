@@ -26,8 +26,9 @@ use Rattle.m2_core.proofs.Taken.{Fronted, IsFronted, fronted, keeps_reset}
 use Rattle.m2_core.specs.Agrees.{Agrees, FeedsAgree, LeadsOn, MayCome}
 use Rattle.m2_core.specs.CoreNow.{CoreNow, Holds, LiveNow}
 use Rattle.m2_core.specs.Effects.{tells}
-use Rattle.m2_core.specs.Hearing.{HasObeyed, ObeysReset, PassesFeed, hearing}
+use Rattle.m2_core.specs.Hearing.{HasObeyed, ObeysReset, hearing}
 use Rattle.m2_core.specs.Moves.{live_with}
+use Rattle.m2_core.specs.Passing.{PassesFeed}
 
 reset_stamp : (full : Bool) (y : Said) → IsReset full (Some y) → stamp_of y ≡ None
 reset_stamp full (says (control.SessionReset p)) h = refl

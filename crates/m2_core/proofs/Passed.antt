@@ -18,8 +18,8 @@ use Rattle.m2_journal.specs.SideFacts.{SideFacts}
 use Rattle.m2_journal.specs.State.{Feed, State}
 use Rattle.m2_session.specs.declared.session.Phase.TheVariants.{Ready}
 use Rattle.m2_session.specs.Phases as phase
-use Rattle.m2_core.specs.Agrees.{Agrees, FeedsAgree, Stays}
-use Rattle.m2_core.specs.CoreNow.{CoreNow, Holds, IsAskedIfSigned, IsSound, LiveNow, OnFeedNow, granted_in, is_granted_in, granted_on}
+use Rattle.m2_core.specs.Agrees.{FeedsAgree, Stays}
+use Rattle.m2_core.specs.CoreNow.{CoreNow, Holds, IsSound, LiveNow, OnFeedNow, granted_in, is_granted_in}
 use Rattle.m2_core.specs.Front.{Hears, HearsOn, hearer_at, hearer_of}
 use Rattle.m2_core.specs.Passing.{HasNoted, HasPassed, LiveNotes, LivePasses, NotesFeed, PassesFeed, PassesHeard, PassesItem, StampsFeed, passed_live}
 use Rattle.m2_core.proofs.Fronts.{as_replayed}

@@ -19,17 +19,17 @@ use Rattle.m2_core.specs.Front.{hearer_of}
 use Rattle.m2_core.specs.Moves.{live_with}
 use Rattle.m2_core.specs.Next.{RestSays}
 use Rattle.m2_core.specs.Passing.{HasPassed, PassesHeard, PassesItem, passed_live}
-use Rattle.m2_core.specs.Resting.{AnswersFeed, HasNoFrame}
+use Rattle.m2_core.specs.Resting.{GivesFeed, HasNoFrame}
 use Rattle.m2_core.proofs.Passed.{passed_stays, sound_on}
 
 -- ---- what isn't answered
 
-pub no_frame : (f : Frame) (x y : Option FeedNow) → HasNoFrame x → AnswersFeed (got.Frame f) x y → ⊥
+pub no_frame : (f : Frame) (x y : Option FeedNow) → HasNoFrame x → GivesFeed (got.Frame f) x y → ⊥
 no_frame f (Some v) (Some new) h a = h (parts f) a.0.0 a.0.1
 no_frame f (Some v) None h a = a
 no_frame f None y h a = a
 
-pub no_memory : (x y : Option FeedNow) → HasNoFrame x → AnswersFeed got.NoMemory x y → ⊥
+pub no_memory : (x y : Option FeedNow) → HasNoFrame x → GivesFeed got.NoMemory x y → ⊥
 no_memory (Some v) (Some new) h a = let k = a.0.0 in h k.0 k.1 k.2
 no_memory (Some v) None h a = a
 no_memory None y h a = a
@@ -47,28 +47,28 @@ with_same : (c : CoreNow) (x y : Option FeedNow) (P : FeedNow → Type 0) → y 
 with_same c (Some v) y P e p = (p, same_core c y e)
 with_same c None y P e p = absurd p
 
-start_on : (x y : Option FeedNow) → AnswersFeed got.NotYet x y → OnFeedNow x (λ v. Rests v.reading) × (y ≡ x)
+start_on : (x y : Option FeedNow) → GivesFeed got.NotYet x y → OnFeedNow x (λ v. Rests v.reading) × (y ≡ x)
 start_on (Some v) (Some new) a = (a.0.0, same_feed v new a.0.1 a.1)
 start_on (Some v) None a = absurd a
 start_on None y a = absurd a
 
-size_on : (n : ℕ) (x y : Option FeedNow) → AnswersFeed (got.Size n) x y → OnFeedNow x (λ v. Owes v.reading n) × (y ≡ x)
+size_on : (n : ℕ) (x y : Option FeedNow) → GivesFeed (got.Size n) x y → OnFeedNow x (λ v. Owes v.reading n) × (y ≡ x)
 size_on n (Some v) (Some new) a = (a.0.0, same_feed v new a.0.1 a.1)
 size_on n (Some v) None a = absurd a
 size_on n None y a = absurd a
 
-fault_on : (f : FrameFault) (x y : Option FeedNow) → AnswersFeed (got.Fault f) x y → OnFeedNow x (λ v. IsBad v.reading f) × (y ≡ x)
+fault_on : (f : FrameFault) (x y : Option FeedNow) → GivesFeed (got.Fault f) x y → OnFeedNow x (λ v. IsBad v.reading f) × (y ≡ x)
 fault_on f (Some v) (Some new) a = (a.0.0, same_feed v new a.0.1 a.1)
 fault_on f (Some v) None a = absurd a
 fault_on f None y a = absurd a
 
-pub rests : (c : CoreNow) (y : Option FeedNow) → AnswersFeed got.NotYet c.live.feed y → OnFeedNow c.live.feed (λ v. RestSays rest.Rests v.reading c (record c { live = live_with y c.live }))
+pub rests : (c : CoreNow) (y : Option FeedNow) → GivesFeed got.NotYet c.live.feed y → OnFeedNow c.live.feed (λ v. RestSays rest.Rests v.reading c (record c { live = live_with y c.live }))
 rests c y a = let k = start_on c.live.feed y a in with_same c c.live.feed y (λ v. Rests v.reading) k.1 k.0
 
-pub asks : (c : CoreNow) (n : ℕ) (y : Option FeedNow) → AnswersFeed (got.Size n) c.live.feed y → OnFeedNow c.live.feed (λ v. RestSays (rest.Asks n) v.reading c (record c { live = live_with y c.live }))
+pub asks : (c : CoreNow) (n : ℕ) (y : Option FeedNow) → GivesFeed (got.Size n) c.live.feed y → OnFeedNow c.live.feed (λ v. RestSays (rest.Asks n) v.reading c (record c { live = live_with y c.live }))
 asks c n y a = let k = size_on n c.live.feed y a in with_same c c.live.feed y (λ v. Owes v.reading n) k.1 k.0
 
-pub faults : (c : CoreNow) (f : FrameFault) (y : Option FeedNow) → AnswersFeed (got.Fault f) c.live.feed y → OnFeedNow c.live.feed (λ v. RestSays (rest.Fault f) v.reading c (record c { live = live_with y c.live }))
+pub faults : (c : CoreNow) (f : FrameFault) (y : Option FeedNow) → GivesFeed (got.Fault f) c.live.feed y → OnFeedNow c.live.feed (λ v. RestSays (rest.Fault f) v.reading c (record c { live = live_with y c.live }))
 faults c f y a = let k = fault_on f c.live.feed y a in with_same c c.live.feed y (λ v. IsBad v.reading f) k.1 k.0
 
 -- ---- a message that the peer gave up
@@ -76,7 +76,7 @@ faults c f y a = let k = fault_on f c.live.feed y a in with_same c c.live.feed y
 none_is_some : (n : ℕ) → None ≡ Some n → ⊥
 none_is_some n e = cc
 
-aborted_item : (tag : ℕ) (x y : Option FeedNow) → AnswersFeed (got.Aborted tag) x y → PassesItem (dropped tag) x y
+aborted_item : (tag : ℕ) (x y : Option FeedNow) → GivesFeed (got.Aborted tag) x y → PassesItem (dropped tag) x y
 aborted_item tag (Some v) (Some new) a = (record { len = a.0.0; front = a.0.1; other = dropped tag; passes = a.0 }, a.1)
 aborted_item tag (Some v) None a = absurd a
 aborted_item tag None y a = absurd a
@@ -107,11 +107,11 @@ aborted_heard law c tag y h p = record {
   passes = p;
 }
 
-on_any : (x : Option FeedNow) (P : Type 0) (g : Got) (y : Option FeedNow) → AnswersFeed g x y → P → OnFeedNow x (λ v. P)
+on_any : (x : Option FeedNow) (P : Type 0) (g : Got) (y : Option FeedNow) → GivesFeed g x y → P → OnFeedNow x (λ v. P)
 on_any (Some v) P g y a p = p
 on_any None P g y a p = absurd a
 
-pub passes : IsHeardAsReplayed → PassesBeside → AsksForItsSize → (c : CoreNow) (tag : ℕ) (y : Option FeedNow) → Holds c → AnswersFeed (got.Aborted tag) c.live.feed y →
+pub passes : IsHeardAsReplayed → PassesBeside → AsksForItsSize → (c : CoreNow) (tag : ℕ) (y : Option FeedNow) → Holds c → GivesFeed (got.Aborted tag) c.live.feed y →
     OnFeedNow c.live.feed (λ v. RestSays rest.Passed v.reading c (record c { live = passed_live y c.live }))
 passes law beside sizes c tag y h a =
     let k = aborted_heard sizes c tag y h (aborted_item tag c.live.feed y a) in
@@ -123,14 +123,14 @@ passes law beside sizes c tag y h a =
 keeps_same : (c : CoreNow) (y : Option FeedNow) → Holds c → y ≡ c.live.feed → Holds (record c { live = live_with y c.live })
 keeps_same c y h e = subst (λ (v : CoreNow). Holds v) (sym (same_core c y e)) h
 
-pub keeps_resting : (c : CoreNow) (y : Option FeedNow) → Holds c → AnswersFeed got.NotYet c.live.feed y → Holds (record c { live = live_with y c.live })
+pub keeps_resting : (c : CoreNow) (y : Option FeedNow) → Holds c → GivesFeed got.NotYet c.live.feed y → Holds (record c { live = live_with y c.live })
 keeps_resting c y h a = keeps_same c y h (start_on c.live.feed y a).1
 
-pub keeps_asking : (c : CoreNow) (n : ℕ) (y : Option FeedNow) → Holds c → AnswersFeed (got.Size n) c.live.feed y → Holds (record c { live = live_with y c.live })
+pub keeps_asking : (c : CoreNow) (n : ℕ) (y : Option FeedNow) → Holds c → GivesFeed (got.Size n) c.live.feed y → Holds (record c { live = live_with y c.live })
 keeps_asking c n y h a = keeps_same c y h (size_on n c.live.feed y a).1
 
-pub keeps_faulting : (c : CoreNow) (f : FrameFault) (y : Option FeedNow) → Holds c → AnswersFeed (got.Fault f) c.live.feed y → Holds (record c { live = live_with y c.live })
+pub keeps_faulting : (c : CoreNow) (f : FrameFault) (y : Option FeedNow) → Holds c → GivesFeed (got.Fault f) c.live.feed y → Holds (record c { live = live_with y c.live })
 keeps_faulting c f y h a = keeps_same c y h (fault_on f c.live.feed y a).1
 
-pub keeps_passing : (c : CoreNow) (tag : ℕ) (y : Option FeedNow) → Holds c → AnswersFeed (got.Aborted tag) c.live.feed y → Holds (record c { live = passed_live y c.live })
+pub keeps_passing : (c : CoreNow) (tag : ℕ) (y : Option FeedNow) → Holds c → GivesFeed (got.Aborted tag) c.live.feed y → Holds (record c { live = passed_live y c.live })
 keeps_passing c tag y h a = record { place = h.place; sound = sound_on c.live (dropped tag) c.live.feed y (aborted_item tag c.live.feed y a) h.sound }

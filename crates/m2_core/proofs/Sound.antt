@@ -1,11 +1,11 @@
 -- What holds of each core holds again after its calls.
-use Rattle.std.proofs.Common.{◌≡◌, ℕ, ◌+◌, ◌≤◌, Bool, true, false, ◌&&◌, not, Option, Some, None, refl, arith}
+use Rattle.std.proofs.Common.{◌≡◌, Bool, true, false, ◌&&◌, not, refl, arith}
 use Rattle.std.specs.Prelude.{if◌then◌else◌}
 use Rattle.m2_session.specs.declared.event.Effects.{Effects}
 use Rattle.m2_session.specs.declared.event.Event.TheVariants as event
 use Rattle.m2_session.specs.declared.session.Phase.TheVariants.{Absent, Standby, Wait}
 use Rattle.m2_session.specs.declared.session.Session.{Session}
-use Rattle.m2_session.specs.Steps.{closes, fault}
+use Rattle.m2_session.specs.Steps.{closes}
 use Rattle.m2_core.specs.Calls.{after_fault}
 use Rattle.m2_core.specs.CoreNow.{CoreNow, Holds, IsSound, LiveNow, is_waiting}
 use Rattle.m2_core.specs.Effects.{has_effects, tells}

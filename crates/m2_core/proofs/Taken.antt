@@ -32,8 +32,9 @@ use Rattle.m2_session.specs.Steps.{HasFollower, is_lawful, step_of}
 use Rattle.m2_core.specs.Agrees.{FeedsAgree, IsBroken}
 use Rattle.m2_core.specs.CoreNow.{CoreNow, Holds, IsSound, LiveNow, OnFeedNow, granted_in, is_granted_in, is_ready, size_granted}
 use Rattle.m2_core.specs.Effects.{closed_if, tells}
-use Rattle.m2_core.specs.Hearing.{Heeds, IsFaultHeard, PassesFeed, TakesAnswer, after_answer, effects_heard, heard_on, hearing}
+use Rattle.m2_core.specs.Hearing.{Heeds, IsFaultHeard, TakesAnswer, after_answer, effects_heard, heard_on, hearing}
 use Rattle.m2_core.specs.Moves.{live_with}
+use Rattle.m2_core.specs.Passing.{PassesFeed}
 
 -- ---- what is heard is a frame at the front
 

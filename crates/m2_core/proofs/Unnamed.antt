@@ -1,5 +1,5 @@
 -- A text that no entry names is composed: of it the replay knows nothing yet.
-use Rattle.std.proofs.Common.{◌≡◌, ℕ, ◌<◌, Bool, true, false, List, [], ◌∷◌, length, Option, Some, None, Result, Ok, Err, refl, sym, ap, subst, ◌∙◌, arith}
+use Rattle.std.proofs.Common.{◌≡◌, ℕ, ◌<◌, true, false, List, [], ◌∷◌, length, Option, Some, None, Result, Ok, Err, refl, sym, ap, subst, ◌∙◌, arith}
 use Rattle.m2_bytes.specs.declared.memory.NoMemory as memory
 use Rattle.m2_control.specs.declared.keepalive.Keepalive.{Keepalive}
 use Rattle.m2_feed.specs.Calls.{ComposesIfOk, answer_text}
@@ -14,8 +14,8 @@ use Rattle.m2_journal.specs.SideFacts.{SideFacts}
 use Rattle.m2_journal.specs.State.{Feed, State}
 use Rattle.m2_session.specs.declared.session.Phase.TheVariants.{Ready}
 use Rattle.m2_session.specs.Phases as phase
-use Rattle.m2_core.specs.Agrees.{Agrees, FeedsAgree, Stays}
-use Rattle.m2_core.specs.Composing.{AnswersFeed, CanWrite, ComposesFeed, HasAcknowledged, HasAnswered, HasStamp, OwesOne, StaysWherePaid}
+use Rattle.m2_core.specs.Agrees.{FeedsAgree}
+use Rattle.m2_core.specs.Composing.{AnswersStamp, CanWrite, ComposesFeed, HasAcknowledged, HasAnswered, HasStamp, OwesOne}
 use Rattle.m2_core.specs.CoreNow.{CoreNow, Holds, IsSound, LiveNow, OnFeedNow, is_ready}
 use Rattle.m2_core.specs.Moves.{live_with}
 
@@ -67,14 +67,14 @@ answered_by law moves (Ok u) f s v new [] d e ready has w st = absurd (none (sub
 answered_by law moves (Err n) f s v new stamps d e ready has w st = moves.room f s v new d st w
 
 answered_at : ComposesBeside → StaysBeside → (r : Answer) (f : SideFacts) (s : State) (x y : Option FeedNow) (d : Option Feed) →
-    phase.is s.session.phase Ready ≡ true → OnFeedNow x HasStamp → AnswersFeed r x y → FeedsAgree f s x d → FeedsAgree f s y d
+    phase.is s.session.phase Ready ≡ true → OnFeedNow x HasStamp → AnswersStamp r x y → FeedsAgree f s x d → FeedsAgree f s y d
 answered_at law moves r f s (Some v) (Some new) (Some d) ready has w st = answered_by law moves r f s v new v.stamps d refl ready has w st
 answered_at law moves r f s (Some v) (Some new) None ready has w st = absurd st
 answered_at law moves r f s None y d ready has w st = absurd w
 answered_at law moves r f s (Some v) None d ready has w st = absurd w
 
 pub answered : ComposesBeside → StaysBeside → (r : Answer) (c : CoreNow) (y : Option FeedNow) → is_ready c.live ≡ true → OnFeedNow c.live.feed HasStamp →
-    AnswersFeed r c.live.feed y → HasAnswered r c (record c { live = live_with y c.live })
+    AnswersStamp r c.live.feed y → HasAnswered r c (record c { live = live_with y c.live })
 answered law moves r c y ready has w = record {
   composes = w;
   only = refl;
@@ -104,7 +104,7 @@ acknowledgement_reads (Err e) w text (Some v) (Some new) h = ap (λ z. z.reading
 acknowledgement_reads r w text None y h = absurd h
 acknowledgement_reads r w text (Some v) None h = absurd h
 
-answer_reads : (r : Answer) (x y : Option FeedNow) → AnswersFeed r x y → ReadsSame x y
+answer_reads : (r : Answer) (x y : Option FeedNow) → AnswersStamp r x y → ReadsSame x y
 answer_reads (Ok u) (Some v) (Some new) h = ap (λ z. z.reading) h
 answer_reads (Err e) (Some v) (Some new) h = ap (λ z. z.reading) h
 answer_reads r None y h = absurd h
@@ -127,5 +127,5 @@ pub keeps_acknowledging : (r : Answer) (w : Writing) (text : List ℕ) (c : Core
     Holds (record c { live = live_with y c.live })
 keeps_acknowledging r w text c y h e = record { place = h.place; sound = sound_on c.live c.live.feed y (acknowledgement_reads r w text c.live.feed y e) h.sound }
 
-pub keeps_answering : (r : Answer) (c : CoreNow) (y : Option FeedNow) → Holds c → AnswersFeed r c.live.feed y → Holds (record c { live = live_with y c.live })
+pub keeps_answering : (r : Answer) (c : CoreNow) (y : Option FeedNow) → Holds c → AnswersStamp r c.live.feed y → Holds (record c { live = live_with y c.live })
 keeps_answering r c y h e = record { place = h.place; sound = sound_on c.live c.live.feed y (answer_reads r c.live.feed y e) h.sound }

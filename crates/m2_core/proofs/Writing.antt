@@ -1,9 +1,8 @@
 -- What is put on the feed: the core and the replay go on alike.
-use Rattle.std.proofs.Common.{◌≡◌, ℕ, ◌<◌, ◌≤◌, Bool, true, false, ◌&&◌, not, List, take, length, Option, Some, None, refl, sym, ap, subst, ◌∙◌, inl, inr, [], ◌∷◌}
-use Rattle.std.specs.Prelude.{if◌then◌else◌, ◌==◌, ◌⊎◌}
-use Rattle.std.specs.List.{list_any, find}
+use Rattle.std.proofs.Common.{◌≡◌, ℕ, Bool, true, false, ◌&&◌, not, List, take, Option, Some, None, refl, sym, ap, subst, inl, inr, [], ◌∷◌}
+use Rattle.std.specs.Prelude.{if◌then◌else◌}
 use Rattle.m2_fabric.specs.declared.socket.SocketId.{SocketId}
-use Rattle.m2_feed.specs.Calls.{WritesOn, pays}
+use Rattle.m2_feed.specs.Calls.{WritesOn}
 use Rattle.m2_feed.specs.FeedNow.{FeedNow}
 use Rattle.m2_feed.specs.Laws.{PutsBeside, PutsKeep, StaysBeside, takes}
 use Rattle.m2_feed.specs.Stands.{Stands}
@@ -20,7 +19,7 @@ use Rattle.m2_journal.specs.Steps.{after, puts, puts_on, puts_whole, sends_late}
 use Rattle.m2_shared.specs.Throttle.{SeenGrant}
 use Rattle.m2_core.proofs.Agreeing.{IsResumed, core_of, leads_by}
 use Rattle.m2_core.proofs.Faulting.{is_on_feed}
-use Rattle.m2_core.specs.Agrees.{Agrees, FeedsAgree, IsTold, LeadsOn, MayCome, Stays}
+use Rattle.m2_core.specs.Agrees.{Agrees, FeedsAgree, IsTold, Stays}
 use Rattle.m2_core.specs.CoreNow.{CoreNow, Holds, IsSound, LiveNow}
 use Rattle.m2_core.specs.Moves.{HasWritten, IsWrote, IsWroteOn, WritesFeed, live_with, owes_after}
 

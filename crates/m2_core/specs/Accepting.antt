@@ -11,12 +11,13 @@ use Rattle.m2_heard.specs.declared.hearer.Hearer.{Hearer}
 use Rattle.m2_heard.specs.Heard.{heard_of}
 use Rattle.m2_journal.specs.Items as item
 use Rattle.m2_journal.specs.Lawful.{key_of}
+use Rattle.m2_journal.specs.State.{letter}
 use Rattle.m2_message.specs.declared.message.Message.{Message}
 use Rattle.m2_message.specs.Message.{Content, content_of, size_of}
 use Rattle.m2_message_frame.specs.MessageFrame.{message_in}
 use Rattle.m2_shared.specs.Throttle.{SeenGrant}
 use Rattle.m2_core.specs.declared.accepting.CoreAccepted.{CoreAccepted}
-use Rattle.m2_core.specs.Agrees.{LeadsOn, MayCome}
+use Rattle.m2_core.specs.Agrees.{HandsOut, LeadsOn, MayCome}
 use Rattle.m2_core.specs.CoreNow.{CoreNow, LiveNow, OnFeedNow}
 use Rattle.m2_core.specs.Front.{Hears, hearer_of}
 use Rattle.m2_core.specs.Passing.{PassesItem}
@@ -58,6 +59,7 @@ pub record Accepts (a : CoreAccepted) (before after : CoreNow) : Type 0 where
   pub only : after ≡ record before { live = accepted_live a.number after.live.feed before.live; owes = true }
   pub may : MayCome (item.accepted a.number a.key) before
   pub leads : LeadsOn (item.accepted a.number a.key) before after
+  pub hands_out : HandsOut (item.accepted a.number a.key) (letter a.number a.key (content_of a.message)) before
 
 -- the entry Accepted of this number, or for want of memory nothing changes
 abbrev pub HasAccepted : Result CoreAccepted memory.NoMemory → (number : ℕ) → (before after : CoreNow) → Type 0

@@ -1,14 +1,14 @@
 -- A core beside the state that its record's journal is replayed to. What a journal has besides (the steps of the plan, the
 -- sockets, the judgements, what was sent and what is handed out) is no part of a core. This project's own.
-use Rattle.std.specs.Prelude.{◌≡◌, ℕ, ◌⊎◌, ◌==◌, true, List, Option, Some, None}
+use Rattle.std.specs.Prelude.{◌≡◌, ℕ, ◌⊎◌, ◌==◌, true, [], ◌∷◌, ◌++◌, Option, Some, None}
 use Rattle.std.specs.List.{list_any}
 use Rattle.m2_feed.specs.FeedNow.{FeedNow}
 use Rattle.m2_feed.specs.Stands.{Stands}
 use Rattle.m2_journal.specs.Feeds.{told}
 use Rattle.m2_journal.specs.Items.{JournalItem}
-use Rattle.m2_journal.specs.Lawful.{Lawful, OnFeed, OnFeedAt, is_broken}
+use Rattle.m2_journal.specs.Lawful.{Lawful, OnFeed, is_broken}
 use Rattle.m2_journal.specs.SideFacts.{SideFacts}
-use Rattle.m2_journal.specs.State.{Feed, State}
+use Rattle.m2_journal.specs.State.{Delivery, Feed, State}
 use Rattle.m2_journal.specs.Steps.{after}
 use Rattle.m2_core.specs.CoreNow.{CoreNow}
 
@@ -46,6 +46,10 @@ Stays old new = (s : State) → Agrees old s → Agrees new s
 -- the entry is lawful wherever the core agrees
 abbrev pub MayCome : JournalItem → CoreNow → Type 0
 MayCome item c = (s : State) → Agrees c s → Lawful c.facts item s
+
+-- wherever the core agrees, the entry hands this out behind all that was handed out before
+abbrev pub HandsOut : JournalItem → Delivery → CoreNow → Type 0
+HandsOut item x c = (s : State) → Agrees c s → (after c.facts item s).deliveries ≡ s.deliveries ++ x ∷ []
 
 -- the feed has told an acknowledgement up to this number
 abbrev pub IsToldTo : ℕ → CoreNow → Type 0

@@ -1,5 +1,5 @@
 -- What an ask leaves of a core.
-use Rattle.std.specs.Prelude.{◌≡◌, ℕ, ◌<◌, ◌≤◌, pos, Bool, true, false, if◌then◌else◌, List, [], ◌∷◌, ◌++◌, length, Option, Some, None, Result, OnOk}
+use Rattle.std.specs.Prelude.{◌≡◌, ℕ, ◌<◌, ◌≤◌, Bool, true, false, List, [], ◌∷◌, All, length, Option, Some, Result, OnOk}
 use Rattle.m2_addr.specs.declared.addr.AnyAddr.TheVariants.{V4}
 use Rattle.m2_control.specs.declared.control.Control.{Control}
 use Rattle.m2_control.specs.declared.control.Control.TheVariants as control
@@ -25,8 +25,12 @@ use Rattle.m2_core.specs.Calls.{ask_event, ask_frame, asks_ident}
 use Rattle.m2_bytes.specs.declared.memory.NoMemory as memory
 use Rattle.m2_handshake.specs.Texts.{frame_text}
 use Rattle.m2_session.specs.Steps.{step_of}
+use Rattle.m2_shared.specs.declared.draw.Draw.{Draw}
+use Rattle.m2_shared.specs.declared.draw.Draw.TheVariants as draw
 use Rattle.m2_shared.specs.declared.limits.TheConstants.{LAST_NUMBER}
+use Rattle.m2_shared.specs.Draw.{IfDrawAgain, IfNumber, IsDrawAlone, drawn_after, word_told}
 use Rattle.m2_shared.specs.Numbers.{SeenNumberPass}
+use Rattle.m2_shared.specs.Place.{IsAlone, Place}
 use Rattle.m2_core.specs.Composing.{CanWrite}
 use Rattle.m2_core.specs.Numbering.{ChangesRoom}
 use Rattle.m2_core.specs.CoreNow.{CoreNow, LiveNow, OnFeedNow}
@@ -109,9 +113,20 @@ abbrev pub LeavesAsk : CoreAsk → (before after : CoreNow) → Type 0
 LeavesAsk (ask.Asked by_ident number) before after = AsksWith number before after
 LeavesAsk _ before after = ChangesRoom before.live.feed after.live.feed × (after ≡ record before { live = record before.live { feed = after.live.feed } })
 
+-- This is what the counter whose word lies there answers to a draw, and what that leaves of the pass. Of a counter that is
+-- alone it is the answer of its word, which is never Again.
+pub record IsDraw (place : Place) (answer : Draw) (before behind : SeenNumberPass) : Type 0 where
+  pub bounds : IfNumber answer (λ n. (0 < n) × (n ≤ LAST_NUMBER))
+  pub rises : IfNumber answer (λ n. All (λ x. x < n) before.drawn)
+  pub above : IfNumber answer (λ n. before.least < n)
+  pub drawn : behind.drawn ≡ drawn_after answer before.drawn
+  pub least : behind.least ≡ word_told answer
+  pub again : IfDrawAgain answer (λ seen now. (before.least ≤ seen) × (seen < now))
+  pub alone : IsAlone place → IsDrawAlone answer before.least
+
 -- what is left of the pass: the number of an ask was drawn by it
-abbrev pub LeavesPass : CoreAsk → (before after : SeenNumberPass) → Type 0
-LeavesPass (ask.Asked by_ident number) before after = (after.drawn ≡ before.drawn ++ number ∷ []) × (after.least ≡ number)
-LeavesPass ask.Spent before after = (after.drawn ≡ before.drawn) × (after.least ≡ LAST_NUMBER)
-LeavesPass (ask.Again seen now) before after = (after.drawn ≡ before.drawn) × (after.least ≡ now)
-LeavesPass ask.NoMemory before after = after ≡ before
+abbrev pub LeavesPass : CoreAsk → Place → (before behind : SeenNumberPass) → Type 0
+LeavesPass (ask.Asked by_ident number) place before behind = IsDraw place (draw.Number number) before behind
+LeavesPass ask.Spent place before behind = IsDraw place draw.Spent before behind
+LeavesPass (ask.Again seen now) place before behind = IsDraw place (draw.Again seen now) before behind
+LeavesPass ask.NoMemory place before behind = behind ≡ before

@@ -1,17 +1,15 @@
 -- What each call of a core that makes an entry leaves of it. This project's own.
-use Rattle.std.specs.Prelude.{◌≡◌, ℕ, ◌+◌, ◌-◌, ◌==◌, ◌||◌, ◌&&◌, not, Bool, true, false, if◌then◌else◌, List, [], ◌∷◌, ◌++◌, nat_lt, Option, Some, None}
+use Rattle.std.specs.Prelude.{◌≡◌, ℕ, ◌-◌, ◌==◌, ◌||◌, Bool, true, false, List, ◌++◌, nat_lt, Option, Some, None}
 use Rattle.std.specs.List.{list_any}
 use Rattle.std.specs.Option.{option_to_list}
 use Rattle.m2_answers.specs.declared.ask.AskFacts.{AskFacts}
 use Rattle.m2_answers.specs.Asks as asks
 use Rattle.m2_answers.specs.Dials.{at_rest}
-use Rattle.m2_control.specs.declared.control.Control.{Control}
-use Rattle.m2_control.specs.declared.control.Control.TheVariants as control
 use Rattle.m2_control.specs.declared.fields.TheConstants.{GREATEST_NUMBER}
 use Rattle.m2_fabric.specs.End.{SeenEnd}
 use Rattle.m2_feed.specs.Calls as feed
 use Rattle.m2_feed.specs.Calls.{at_acceptance, at_opening}
-use Rattle.m2_feed.specs.FeedNow.{FeedNow, Room}
+use Rattle.m2_feed.specs.FeedNow.{FeedNow}
 use Rattle.m2_feed.specs.declared.writing.Writing.{Writing}
 use Rattle.m2_handshake.specs.Standing.{opener_at_start}
 use Rattle.m2_journal.specs.Lawful.{dial_connect, where_so}
@@ -20,12 +18,11 @@ use Rattle.m2_journal.specs.OutFrames.{OutFrame}
 use Rattle.m2_journal.specs.SideFacts.{SideFacts, cookie_of}
 use Rattle.m2_journal.specs.Steps.{kept_of}
 use Rattle.m2_message.specs.Message.{Content}
-use Rattle.m2_queues.specs.OutQueues.{Outgoing, after_acked, after_next, after_post, after_sent, message_at, next_number}
+use Rattle.m2_queues.specs.OutQueues.{after_acked, after_next, after_post, after_sent, message_at, next_number}
 use Rattle.m2_session.specs.declared.answer.Answer.{Answer}
 use Rattle.m2_session.specs.declared.event.Event.{Event}
 use Rattle.m2_session.specs.declared.event.Event.TheVariants as event
 use Rattle.m2_session.specs.declared.session.Phase.TheVariants.{Connecting}
-use Rattle.m2_session.specs.Laws.{takes}
 use Rattle.m2_session.specs.Phases as phase
 use Rattle.m2_core.specs.CoreNow.{CoreNow, LiveNow, is_waiting, may_dial}
 use Rattle.m2_core.specs.Effects.{tells}

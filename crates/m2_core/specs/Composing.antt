@@ -1,5 +1,5 @@
 -- What composing a text that no entry names leaves of a core.
-use Rattle.std.specs.Prelude.{◌≡◌, ◌<◌, ℕ, true, false, List, [], length, Option, Some, None, Result, Ok, Err}
+use Rattle.std.specs.Prelude.{◌≡◌, ◌<◌, ℕ, true, false, List, length, Option, Some, Result}
 use Rattle.m2_bytes.specs.declared.memory.NoMemory as memory
 use Rattle.m2_feed.specs.Calls.{ComposesIfOk, answer_text, is_empty}
 use Rattle.m2_feed.specs.FeedNow.{FeedNow, is_framing}
@@ -7,10 +7,9 @@ use Rattle.m2_feed.specs.declared.writing.Writing.{Writing}
 use Rattle.m2_feed.specs.declared.writing.Writing.TheVariants as writing
 use Rattle.m2_journal.specs.Laws.{CanBePaid, IfFed}
 use Rattle.m2_journal.specs.OutFrames as out
-use Rattle.m2_journal.specs.SideFacts.{SideFacts}
 use Rattle.m2_journal.specs.State.{State}
 use Rattle.m2_core.specs.Agrees.{Agrees, Stays}
-use Rattle.m2_core.specs.CoreNow.{CoreNow, LiveNow, OnFeedNow, is_ready}
+use Rattle.m2_core.specs.CoreNow.{CoreNow, is_ready}
 use Rattle.m2_core.specs.Moves.{live_with}
 
 -- both sides have signed, and nothing is left of another text
@@ -42,11 +41,11 @@ pub record HasStamp (v : FeedNow) : Type 0 where
   pub can : CanWrite v
   pub some : 0 < length v.stamps
 
-abbrev pub AnswersFeed : Result (Unit {0}) memory.NoMemory → Option FeedNow → Option FeedNow → Type 0
-AnswersFeed r (Some old) (Some new) = ComposesIfOk r (writing.KeepaliveAnswer false) (answer_text old.stamps) old new
-AnswersFeed r _ _ = ⊥
+abbrev pub AnswersStamp : Result (Unit {0}) memory.NoMemory → Option FeedNow → Option FeedNow → Type 0
+AnswersStamp r (Some old) (Some new) = ComposesIfOk r (writing.KeepaliveAnswer false) (answer_text old.stamps) old new
+AnswersStamp r _ _ = ⊥
 
 pub record HasAnswered (r : Result (Unit {0}) memory.NoMemory) (before after : CoreNow) : Type 0 where
-  pub composes : AnswersFeed r before.live.feed after.live.feed
+  pub composes : AnswersStamp r before.live.feed after.live.feed
   pub only : after ≡ record before { live = live_with after.live.feed before.live }
   pub stays : Stays before after

@@ -2,10 +2,11 @@
 use Rattle.std.specs.Prelude.{◌≡◌, Bool, true, false, Option, Some, None}
 use Rattle.m2_fabric.specs.End.{SeenEnd, after_closing}
 use Rattle.m2_feed.specs.FeedNow.{FeedNow}
-use Rattle.m2_queues.specs.OutQueues.{Outgoing, after_requeue, after_discard, after_renumber}
+use Rattle.m2_queues.specs.OutQueues.{after_requeue, after_discard, after_renumber}
 use Rattle.m2_session.specs.declared.event.Effects.{Effects}
 use Rattle.m2_session.specs.declared.event.Event.{Event}
-use Rattle.m2_session.specs.Steps.{step_of}
+use Rattle.m2_session.specs.declared.session.Session.{Session}
+use Rattle.m2_session.specs.Steps.{nothing, step_of}
 use Rattle.m2_core.specs.CoreNow.{LiveNow}
 
 abbrev pub where_true : Bool → (LiveNow → LiveNow) → LiveNow → LiveNow
@@ -34,6 +35,11 @@ has_effects e l =
 -- the session is told of an event
 abbrev pub tells : Event → LiveNow → LiveNow
 tells e l = has_effects (step_of l.session e).effects (record l { session = (step_of l.session e).session })
+
+-- and of what there is to tell, where there is something
+abbrev pub effects_of : Option Event → Session → Effects
+effects_of (Some e) s = (step_of s e).effects
+effects_of None s = nothing
 
 -- ---- what the record is handed
 

@@ -4,7 +4,7 @@ use Rattle.m2_addr.specs.declared.addr.Addr.{Addr}
 use Rattle.m2_fabric.specs.End.{SeenEnd}
 use Rattle.m2_fabric.specs.declared.end.EndRead.{EndRead}
 use Rattle.m2_fabric.specs.declared.end.EndRead.TheVariants as read
-use Rattle.m2_feed.specs.Calls.{OnlyReads, PassesFrame, ReadsOn}
+use Rattle.m2_feed.specs.Calls.{ReadsOn}
 use Rattle.m2_feed.specs.FeedNow.{FeedNow}
 use Rattle.m2_hearing.specs.declared.heard.Heard.{Heard}
 use Rattle.m2_hearing.specs.declared.heard.Heard.TheVariants as heard
@@ -14,17 +14,17 @@ use Rattle.m2_journal.specs.Items as item
 use Rattle.m2_journal.specs.SideFacts.{SideFacts}
 use Rattle.m2_policy.specs.declared.policy.Policy.{Policy}
 use Rattle.m2_session.specs.declared.event.Effects.{Effects}
-use Rattle.m2_session.specs.declared.event.Event.{Event}
 use Rattle.m2_session.specs.declared.event.Event.TheVariants as event
 use Rattle.m2_session.specs.declared.session.Phase.{Phase}
 use Rattle.m2_session.specs.declared.session.Session.{Session}
-use Rattle.m2_session.specs.Steps.{nothing, step_of}
+use Rattle.m2_session.specs.Steps.{nothing}
 use Rattle.m2_shared.specs.Numbers.{SeenNumberPass}
 use Rattle.m2_core.specs.Agrees.{IsBroken, LeadsOn, MayCome, Stays}
 use Rattle.m2_core.specs.Calls.{tells_if}
 use Rattle.m2_core.specs.CoreNow.{CoreNow, LiveNow, is_ready}
-use Rattle.m2_core.specs.Effects.{closed_if, tells}
+use Rattle.m2_core.specs.Effects.{closed_if, effects_of, tells}
 use Rattle.m2_core.specs.Moves.{live_with}
+use Rattle.m2_core.specs.Passing.{PassesFeed}
 
 -- ---- what is heard
 
@@ -43,18 +43,13 @@ heard_after _ f l = None
 
 -- ---- what is taken
 
--- the frame at the front is passed
-abbrev pub PassesFeed : Option FeedNow → Option FeedNow → Type 0
-PassesFeed (Some old) (Some new) = PassesFrame old.reading new.reading × OnlyReads old new
-PassesFeed _ _ = ⊥
-
-abbrev pub resumed_by : Heard → ℕ → ℕ
-resumed_by (heard.ReconnectOk seen) resumed = seen
-resumed_by _ resumed = resumed
+abbrev pub resumed_by_answer : Heard → ℕ → ℕ
+resumed_by_answer (heard.ReconnectOk seen) resumed = seen
+resumed_by_answer _ resumed = resumed
 
 -- what the session is told of an answer, with this feed behind it
 abbrev pub after_answer : Heard → Option FeedNow → LiveNow → LiveNow
-after_answer h x l = tells_if (event_of h) (record l { feed = x; resumed = resumed_by h l.resumed })
+after_answer h x l = tells_if (event_of h) (record l { feed = x; resumed = resumed_by_answer h l.resumed })
 
 pub record TakesAnswer (h : Heard) (old new : LiveNow) : Type 0 where
   pub passed : Option FeedNow
@@ -69,12 +64,8 @@ Heeds (Some (heard.Refused e)) old new = new ≡ old
 Heeds (Some h) old new = TakesAnswer h old new
 
 -- what the step that was told of it leaves
-abbrev pub effects_of : Session → Option Event → Effects
-effects_of s (Some e) = (step_of s e).effects
-effects_of s None = nothing
-
 abbrev pub effects_heard : Option Heard → Session → Effects
-effects_heard (Some h) s = effects_of s (event_of h)
+effects_heard (Some h) s = effects_of (event_of h) s
 effects_heard None s = nothing
 
 -- the counter of global numbers is raised to a number that is told

@@ -1,5 +1,5 @@
 -- What writing the feed's end leaves of a core.
-use Rattle.std.specs.Prelude.{◌≡◌, ℕ, ◌&&◌, not, Bool, take, Option, Some, None}
+use Rattle.std.specs.Prelude.{◌≡◌, ◌&&◌, not, Bool, take, Option, Some, None}
 use Rattle.m2_feed.specs.Calls.{WritesOn}
 use Rattle.m2_feed.specs.FeedNow.{FeedNow}
 use Rattle.m2_feed.specs.declared.answers.FeedWrite.{FeedWrite}

@@ -1,16 +1,18 @@
 -- What a core does with the front of its feed: one entry at most, by what stands there.
-use Rattle.std.specs.Prelude.{◌≡◌, ◌≢◌, ℕ, ◌-◌, ◌+◌, ◌<◌, ◌≤◌, Bool, true, false}
+use Rattle.std.specs.Prelude.{◌≡◌, ℕ, ◌-◌, ◌+◌, ◌<◌, ◌≤◌, Bool, true, false, Some}
 use Rattle.m2_feed.specs.Calls.{IsBad, Owes, Rests}
 use Rattle.m2_feed.specs.FeedNow.{Reading}
 use Rattle.m2_frame.specs.Frame.{message_tag}
 use Rattle.m2_heard.specs.declared.fault.WireFault.TheVariants as fault
 use Rattle.m2_heard.specs.declared.heard.FrameHeard.{FrameHeard}
 use Rattle.m2_heard.specs.declared.heard.FrameHeard.TheVariants as heard
+use Rattle.m2_hearing.specs.declared.heard.Heard.TheVariants as answer
 use Rattle.m2_journal.specs.Items as item
 use Rattle.m2_session.specs.declared.event.Effects.{Effects}
 use Rattle.m2_session.specs.declared.event.Event.TheVariants as event
 use Rattle.m2_session.specs.Steps.{nothing, step_of}
-use Rattle.m2_shared.specs.Throttle.{SeenThrottle, Waits}
+use Rattle.m2_shared.specs.declared.take.Take.TheVariants as take
+use Rattle.m2_shared.specs.Throttle.{SeenTakePass}
 use Rattle.m2_core.specs.declared.next.CoreNext.{CoreNext}
 use Rattle.m2_core.specs.declared.next.CoreNext.TheVariants as next
 use Rattle.m2_core.specs.declared.resting.CoreRest.{CoreRest}
@@ -22,7 +24,8 @@ use Rattle.m2_core.specs.CoreNow.{CoreNow, LiveNow, OnFeedNow, is_ready, is_wait
 use Rattle.m2_core.specs.Front.{FrontHeard, HearsOn, asks, rests, tells}
 use Rattle.m2_core.specs.declared.granting.CoreGrant.{CoreGrant}
 use Rattle.m2_core.specs.declared.granting.CoreGrant.TheVariants as grant
-use Rattle.m2_core.specs.Granting.{Grants}
+use Rattle.m2_core.specs.Granting.{Grants, IsAnswer, Throttled, grant_at}
+use Rattle.m2_core.specs.Hearing.{hearing}
 use Rattle.m2_core.specs.Passing.{HasPassed, HasStamped}
 
 -- ---- where no whole frame stands at the front
@@ -42,19 +45,24 @@ pub record CanCount (number : ℕ) (c : CoreNow) : Type 0 where
   pub above : c.live.out.queue.base < number
   pub written : number ≤ c.live.out.queue.written
 
+-- the frame at the front is a reset with this mark, which may be obeyed
+abbrev pub IsResetHeard : (full : Bool) → CoreNow → Type 0
+IsResetHeard full c = hearing c.facts c.live ≡ Some (answer.Reset full)
+
 abbrev pub CanHeed : FrameHeard → CoreNow → Type 0
 CanHeed (heard.Acknowledges n) c = CanCount n c
 CanHeed (heard.Fault cause) c = IsBroken c
-CanHeed (heard.Resets full) c = Unit {0}
+CanHeed (heard.Resets full) c = IsResetHeard full c
 CanHeed says c = HearsOn c says
 
 -- ---- what is done
 
--- the feed is closed for what stands at its front
+-- the feed is closed for what stands at its front, whether its end is broken too or not
 pub record Closes (before after : CoreNow) : Type 0 where
   pub broken : IsBroken before
   pub only : after ≡ record before { live = after_fault before.live }
-  pub entry : OnFeedNow before.live.feed (λ v. MayCome (item.closed v.end.id false) before × LeadsOn (item.closed v.end.id false) before after)
+  pub may : OnFeedNow before.live.feed (λ v. (broken : Bool) → MayCome (item.closed v.end.id broken) before)
+  pub leads : OnFeedNow before.live.feed (λ v. (broken : Bool) → LeadsOn (item.closed v.end.id broken) before after)
 
 -- an acknowledgement is counted
 pub record Counts (number : ℕ) (before after : CoreNow) : Type 0 where
@@ -63,20 +71,25 @@ pub record Counts (number : ℕ) (before after : CoreNow) : Type 0 where
   pub leads : LeadsOn (item.acked number) before after
 
 -- each answer, where this stands at the front
-abbrev pub IsNext : SeenThrottle → CoreNext → FrontHeard → (before after : CoreNow) → Type 0
+abbrev pub IsNext : Throttled → CoreNext → FrontHeard → (before after : CoreNow) → Type 0
 IsNext t next.Rests rests before after = after ≡ before
-IsNext t next.Granted (asks n) before after = Grants t n before after
-IsNext t (next.Full held) (asks n) before after = Waits t.most held n × (after ≡ before)
-IsNext t (next.Again seen now) (asks n) before after = (now ≢ seen) × (after ≡ before)
+IsNext t next.Granted (asks n) before after = IsAnswer t n (grant_at t.throttle.place n) × Grants t.throttle n before after
+IsNext t (next.Full held) (asks n) before after = IsAnswer t n (take.Full held) × (after ≡ before)
+IsNext t (next.Again seen now) (asks n) before after = IsAnswer t n (take.Again seen now) × (after ≡ before)
 IsNext t next.Passed (tells heard.Nothing) before after = HasPassed before after
 IsNext t next.Passed (tells (heard.Stamp k)) before after = HasStamped k before after
 IsNext t next.NoMemory (tells (heard.Stamp k)) before after = after ≡ before
 IsNext t (next.Acked number) (tells (heard.Acknowledges n)) before after = (number ≡ n) × Counts n before after
 IsNext t (next.Accepted a) (tells (heard.Brings n)) before after = (a.number ≡ n) × Accepts a before after
 IsNext t next.NoMemory (tells (heard.Brings n)) before after = after ≡ before
-IsNext t (next.Resets full) (tells (heard.Resets mark)) before after = (full ≡ mark) × (after ≡ before)
+IsNext t (next.Resets full) (tells (heard.Resets mark)) before after = (full ≡ mark) × IsResetHeard full before × (after ≡ before)
 IsNext t (next.Fault cause) (tells (heard.Fault why)) before after = (cause ≡ why) × Closes before after
 IsNext t _ _ before after = ⊥
+
+-- where it is a reset, it may be obeyed
+abbrev pub MayObeyIfReset : CoreNext → CoreNow → Type 0
+MayObeyIfReset (next.Resets full) c = IsResetHeard full c
+MayObeyIfReset _ c = Unit {0}
 
 -- what the size of a MESSAGE says, in Ready and outside it
 abbrev pub size_front : Bool → ℕ → FrontHeard
@@ -103,9 +116,14 @@ abbrev pub word_rest : CoreRest → (word before : ℕ) → ℕ
 word_rest rest.Passed word before = word - before
 word_rest _ word before = word
 
+-- what is left of the pass: where nothing was passed, all
+abbrev pub LeavesRest : CoreRest → (before after : SeenTakePass) → Type 0
+LeavesRest rest.Passed before after = Unit {0}
+LeavesRest _ before after = after ≡ before
+
 -- ---- what is left for the record
 
 -- the effects of the fault, where there is one
-abbrev pub effects_of : CoreNext → LiveNow → Effects
-effects_of (next.Fault cause) l = (step_of l.session (event.Faulted (is_waiting l))).effects
-effects_of _ l = nothing
+abbrev pub effects_next : CoreNext → LiveNow → Effects
+effects_next (next.Fault cause) l = (step_of l.session (event.Faulted (is_waiting l))).effects
+effects_next _ l = nothing

@@ -1,5 +1,5 @@
 -- What composing the next message leaves of a core.
-use Rattle.std.specs.Prelude.{◌≡◌, ℕ, ◌<◌, ◌≤◌, true, List, length, Option, Some, None, Result, Ok, Err}
+use Rattle.std.specs.Prelude.{◌≡◌, ℕ, ◌<◌, ◌≤◌, true, length, Option, Some, Result, Ok, Err}
 use Rattle.m2_bytes.specs.declared.memory.NoMemory as memory
 use Rattle.m2_control.specs.declared.fields.TheConstants.{GREATEST_NUMBER}
 use Rattle.m2_feed.specs.Calls as feed
@@ -12,9 +12,7 @@ use Rattle.m2_message.specs.Message.{Content, with_numbers}
 use Rattle.m2_message_frame.specs.MessageFrame.{parts_of}
 use Rattle.m2_queues.specs.OutQueues.{Outgoing, Queue, after_next, after_sent, message_at, next_number}
 use Rattle.m2_core.specs.Agrees.{LeadsOn, MayCome, Stays}
-use Rattle.m2_core.specs.Calls.{after_numbered}
-use Rattle.m2_core.specs.CoreNow.{CoreNow, LiveNow}
-use Rattle.m2_core.specs.Moves.{live_with}
+use Rattle.m2_core.specs.CoreNow.{CoreNow}
 
 -- the next message has a number that isn't above the greatest
 abbrev pub HasNumber : Queue → Type 0

@@ -1,5 +1,5 @@
 -- What a session's effects do to the outgoing queue.
-use Rattle.std.specs.Prelude.{Bool, true, false, if◌then◌else◌}
+use Rattle.std.specs.Prelude.{if◌then◌else◌}
 use Rattle.m2_queues.specs.OutQueues.{Outgoing, Queue, after_requeue, after_discard, after_renumber}
 use Rattle.m2_session.specs.declared.event.Effects.{Effects}
 

@@ -7,9 +7,9 @@ use Rattle.m2_frame.specs.Frame.{Parts}
 use Rattle.m2_frame.specs.Reading.{whole}
 use Rattle.m2_core.specs.CoreNow.{OnFeedNow}
 
-abbrev pub AnswersFeed : Got → Option FeedNow → Option FeedNow → Type 0
-AnswersFeed g (Some old) (Some new) = GivesNext g old.reading new.reading × OnlyReads old new
-AnswersFeed g _ _ = ⊥
+abbrev pub GivesFeed : Got → Option FeedNow → Option FeedNow → Type 0
+GivesFeed g (Some old) (Some new) = GivesNext g old.reading new.reading × OnlyReads old new
+GivesFeed g _ _ = ⊥
 
 -- no whole frame stands at the front
 abbrev pub HasNoFrame : Option FeedNow → Type 0

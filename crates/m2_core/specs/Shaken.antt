@@ -1,5 +1,5 @@
 -- What an answer of the opener's half leaves of a core.
-use Rattle.std.specs.Prelude.{◌≡◌, Option, Some, None}
+use Rattle.std.specs.Prelude.{◌≡◌, Option, Some}
 use Rattle.m2_feed.specs.Calls.{GreetsOn}
 use Rattle.m2_feed.specs.FeedNow.{FeedNow}
 use Rattle.m2_handshake.specs.declared.answer.HalfStep.{HalfStep}

@@ -1,25 +1,17 @@
 -- What an answer to an ask of the peer leaves of a core, and of a socket that it takes. This project's own.
-use Rattle.std.specs.Prelude.{◌≡◌, ℕ, false, if◌then◌else◌, List, Option, Some, None}
+use Rattle.std.specs.Prelude.{◌≡◌, ℕ, false, if◌then◌else◌, List, Option, Some}
 use Rattle.m2_answers.specs.declared.ask.AskFacts.{AskFacts}
 use Rattle.m2_fabric.specs.declared.socket.SocketId.{SocketId}
 use Rattle.m2_fabric.specs.End.{SeenEnd}
 use Rattle.m2_feed.specs.Calls.{at_acceptance}
 use Rattle.m2_feed.specs.FeedNow.{FeedNow}
 use Rattle.m2_journal.specs.declared.entry.JudgedItem.{JudgedItem}
-use Rattle.m2_session.specs.declared.event.Effects.{Effects}
 use Rattle.m2_session.specs.declared.event.Event.{Event}
-use Rattle.m2_session.specs.declared.session.Session.{Session}
-use Rattle.m2_session.specs.Steps.{nothing, step_of}
 use Rattle.m2_core.specs.declared.verdict.Verdict.{Verdict}
 use Rattle.m2_core.specs.Agrees.{LeadsOn}
 use Rattle.m2_core.specs.Calls.{tells_if}
 use Rattle.m2_core.specs.CoreNow.{CoreNow, LiveNow}
 use Rattle.m2_core.specs.Judging.{acceptance_text, entry_of, told_of}
-
--- the effects of what a session is told, none where it is told nothing
-abbrev pub effects_of : Option Event → Session → Effects
-effects_of (Some e) s = (step_of s e).effects
-effects_of None s = nothing
 
 -- it is the entry Judged, of this socket with these bytes
 abbrev pub MakesJudgement : Verdict → SocketId → (unread : List ℕ) → CoreNow → CoreNow → Type 0
@@ -33,8 +25,8 @@ after_answering v c = record c { live = tells_if (told_of c.facts v) c.live; top
 -- ---- an answer that takes the socket
 
 -- up to where a resumption acknowledges
-abbrev pub resumed_by : AskFacts → ℕ
-resumed_by a = if a.ident then 0 else a.seen
+abbrev pub resumed_by_ask : AskFacts → ℕ
+resumed_by_ask a = if a.ident then 0 else a.seen
 
 -- The session is told, by which the old feed is closed, and the socket is the feed.
 abbrev pub with_taken : Option Event → FeedNow → (resumed : ℕ) → LiveNow → LiveNow
@@ -42,7 +34,7 @@ with_taken e d resumed l = record (tells_if e l) { feed = Some d; resumed = resu
 
 abbrev pub after_taking : Verdict → FeedNow → CoreNow → CoreNow
 after_taking v d c = record c {
-  live = with_taken (told_of c.facts v) d (resumed_by v.ask) c.live;
+  live = with_taken (told_of c.facts v) d (resumed_by_ask v.ask) c.live;
   dials = false;
   top = v.number;
 }

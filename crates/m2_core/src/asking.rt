@@ -81,7 +81,7 @@ impl<E: End> Core<E> {
         requires top { self.old.top ≤ pass.old.least }
         ensures asked { HasAsked result self.old self.new }
         ensures leaves { LeavesAsk result self.old self.new }
-        ensures pass { LeavesPass result pass.old pass.new }
+        ensures pass { LeavesPass result numbers.now.place pass.old pass.new }
         ensures place { pass.new.place ≡ pass.old.place }
     {
         feed_laws();

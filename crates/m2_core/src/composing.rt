@@ -1,7 +1,7 @@
 //! Texts that no entry names.
 
 ghost use Rattle.std.specs.Prelude.{◌≡◌, true, false};
-ghost use Rattle.m2_core.specs.Composing.{AnswersFeed, CanWrite, ComposesFeed, HasAcknowledged, HasAnswered, HasStamp, OwesOne};
+ghost use Rattle.m2_core.specs.Composing.{AnswersStamp, CanWrite, ComposesFeed, HasAcknowledged, HasAnswered, HasStamp, OwesOne};
 ghost use Rattle.m2_core.specs.CoreNow.{OnFeedNow, is_ready};
 ghost use Rattle.m2_feed.specs.declared.writing.Writing.TheVariants as writing;
 ghost use Rattle.m2_handshake.specs.Texts.{frame_text};
@@ -54,7 +54,7 @@ fn acknowledge_on<E: End>(feed: &mut Option<Feed<E>>, number: u64) -> Result<(),
 /// Composes the answer to the first keepalive on the feed.
 fn answer_on<E: End>(feed: &mut Option<Feed<E>>) -> Result<(), NoMemory>
     requires { OnFeedNow feed.old HasStamp }
-    ensures { AnswersFeed result feed.old feed.new }
+    ensures { AnswersStamp result feed.old feed.new }
 {
     match feed {
         Some(feed) => feed.compose_keepalive_answer(),

@@ -33,7 +33,7 @@ impl<E: End> Core<E> {
         requires owes { OnFeedNow self.old.live.feed (λ v. Owes v.reading n) }
         requires most { n ≤ MOST_TAKEN }
         requires pass { pass.old.place ≡ throttle.now.place }
-        ensures granted { HasGranted result throttle.now n self.old self.new }
+        ensures granted { HasGranted result (record { throttle = throttle.now; before = pass.old; behind = pass.new }) n self.old self.new }
         ensures place { pass.new.place ≡ pass.old.place }
         ensures word { IsAlone throttle.now.place → pass.new.word ≡ word_after result pass.old.word n }
     {

@@ -8,25 +8,14 @@ ghost use Rattle.m2_session.specs.Steps as table;
 ghost use Rattle.m2_session.specs.Steps.{HasFollower, step_of};
 ghost use Rattle.m2_core.specs.CoreNow.{OnFeedNow};
 ghost use Rattle.m2_core.specs.Effects.{IsAftermath};
-ghost use Rattle.m2_core.specs.Hearing.{ObeysReset, PassesFeed, TakesAnswer};
+ghost use Rattle.m2_core.specs.Hearing.{ObeysReset, TakesAnswer};
 
 use crate::aftermath::Aftermath;
 use crate::live::Live;
+use crate::passing::pass_on;
 use m2_fabric::End;
-use m2_feed::Feed;
 use m2_hearing::Heard;
 use m2_session::Event;
-
-/// Passes the frame at the front of the feed.
-fn pass_front<E: End>(feed: &mut Option<Feed<E>>)
-    requires { OnFeedNow feed.old (λ v. HasFrame v.reading) }
-    ensures { PassesFeed feed.old feed.new }
-{
-    match feed {
-        Some(feed) => feed.pass(),
-        None => unreachable!(),
-    }
-}
 
 impl<E: End> Live<E> {
     /// Takes an answer, of which the session is told so: passes its frame, and notes up to where a
@@ -42,7 +31,7 @@ impl<E: End> Live<E> {
         ensures takes { TakesAnswer heard self.old self.new }
         ensures aftermath { IsAftermath (step_of self.old.session event).effects self.old.feed (option_map E.seen result.closed) result.discarded result.remote_reset }
     {
-        pass_front(&mut self.feed);
+        pass_on(&mut self.feed);
         if let Heard::ReconnectOk { seen } = heard {
             self.resumed = seen;
         }
@@ -59,7 +48,7 @@ impl<E: End> Live<E> {
         ensures obeys { ObeysReset full self.old self.new }
         ensures aftermath { IsAftermath (step_of self.old.session (event.GotReset full)).effects self.old.feed (option_map E.seen result.closed) result.discarded result.remote_reset }
     {
-        pass_front(&mut self.feed);
+        pass_on(&mut self.feed);
         self.heed(Event::GotReset { full })
     }
 }

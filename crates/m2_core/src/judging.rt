@@ -8,9 +8,9 @@ ghost use Rattle.m2_session.specs.Steps.{HasFollower};
 ghost use Rattle.m2_shared.specs.Place.{IsAlone};
 ghost use Rattle.m2_core.specs.Calls.{tells_if};
 ghost use Rattle.m2_core.specs.CoreNow.{IsOwned, held};
-ghost use Rattle.m2_core.specs.Effects.{IsAftermath, closed_of};
+ghost use Rattle.m2_core.specs.Effects.{IsAftermath, closed_of, effects_of};
 ghost use Rattle.m2_core.specs.Judging.{IsVerdict, acceptance_text, told_of};
-ghost use Rattle.m2_core.specs.TakingOver.{MakesJudgement, IsTakenFeed, after_answering, after_taking, effects_of, resumed_by, with_taken};
+ghost use Rattle.m2_core.specs.TakingOver.{MakesJudgement, IsTakenFeed, after_answering, after_taking, resumed_by_ask, with_taken};
 
 use crate::aftermath::Aftermath;
 use crate::feed_laws::feed_laws;
@@ -84,7 +84,7 @@ impl<E: End> Core<E> {
         let feed = Feed::taken_over(self.alloc, end, decoder, acceptance);
         let aftermath = self
             .live
-            .take(told, feed, resumed_by(&v.ask), throttle, pass);
+            .take(told, feed, resumed_by_ask(&v.ask), throttle, pass);
         self.dials = false;
         self.top = v.number;
         aftermath
@@ -147,8 +147,8 @@ impl<E: End> Live<E> {
 }
 
 /// Up to where a resumption acknowledges, 0 where the ask is none.
-fn resumed_by(ask: &AskFacts) -> u64
-    ensures { result ≡ resumed_by ask.now }
+fn resumed_by_ask(ask: &AskFacts) -> u64
+    ensures { result ≡ resumed_by_ask ask.now }
 {
     if ask.ident { 0 } else { ask.seen }
 }

@@ -3,7 +3,7 @@
 ghost use Rattle.std.specs.Prelude.{◌≡◌, OnErr, OnOk};
 ghost use Rattle.m2_core.specs.Agrees.{Stays};
 ghost use Rattle.m2_core.specs.Moves.{live_with};
-ghost use Rattle.m2_core.specs.News.{heard_on};
+ghost use Rattle.m2_core.specs.News.{feed_after_news};
 
 use crate::feed_laws::feed_laws;
 use crate::side::Core;
@@ -16,7 +16,7 @@ impl<E: End> Core<E> {
     /// changes. Err for want of memory changes nothing.
     #[tactic(auto, using(crate::proofs::Heard::keeps, crate::proofs::Heard::stays))]
     pub fn hear(&mut self, bytes: &[u8], news: News) -> Result<(), NoMemory>
-        ensures ok { OnOk result (self.new ≡ record self.old { live = live_with (heard_on news bytes.now self.old.live.feed) self.old.live }) }
+        ensures ok { OnOk result (self.new ≡ record self.old { live = live_with (feed_after_news news bytes.now self.old.live.feed) self.old.live }) }
         ensures err { OnErr result (self.new ≡ self.old) }
         ensures stays { Stays self.old self.new }
     {
@@ -27,7 +27,7 @@ impl<E: End> Core<E> {
 
 /// Tells the end of a feed, where there is one.
 fn hear_on<E: End>(feed: &mut Option<Feed<E>>, bytes: &[u8], news: News) -> Result<(), NoMemory>
-    ensures ok { OnOk result (feed.new ≡ heard_on news bytes.now feed.old) }
+    ensures ok { OnOk result (feed.new ≡ feed_after_news news bytes.now feed.old) }
     ensures err { OnErr result (feed.new ≡ feed.old) }
 {
     match feed {

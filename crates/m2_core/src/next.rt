@@ -10,7 +10,7 @@ ghost use Rattle.m2_core.specs.Agrees.{IsBroken};
 ghost use Rattle.m2_core.specs.CoreNow.{IsOwned, OnFeedNow, held, is_ready};
 ghost use Rattle.m2_core.specs.Effects.{IsAftermath};
 ghost use Rattle.m2_core.specs.Front.{Hears, HearsOn, front_of, heard_by, hearer_of, resumption_at, resumption_of, tells};
-ghost use Rattle.m2_core.specs.Next.{CanHeed, IsNext, effects_of, granted_next, size_front, word_next};
+ghost use Rattle.m2_core.specs.Next.{CanHeed, IsNext, MayObeyIfReset, effects_next, granted_next, size_front, word_next};
 ghost use Rattle.m2_core.specs.Resting.{HasNoFrame};
 
 use crate::accepting::CoreAccepted;
@@ -78,13 +78,14 @@ impl<E: End> Core<E> {
     /// Looks at the front of the feed, on which both sides have signed, and does what it says: one entry at
     /// most. What acknowledges is counted first, and stays at the front; a message whose number isn't above
     /// the last is passed, and one that skips a number is a fault.
-    #[tactic(auto, using(crate::proofs::Nexts::resumed_can, crate::proofs::Nexts::next_resumed, crate::proofs::Nexts::next_front, crate::proofs::Helds::owned_on))]
+    #[tactic(auto, using(crate::proofs::Nexts::resumed_can, crate::proofs::Nexts::next_resumed, crate::proofs::Nexts::next_front, crate::proofs::Nexts::reset_on, crate::proofs::Helds::owned_on))]
     pub fn next(&mut self, throttle: &Throttle, pass: &mut TakePass) -> CoreFront<E>
         requires signed { OnFeedNow self.old.live.feed (λ v. is_framing v.reading ≡ true) }
         requires pass { pass.old.place ≡ throttle.now.place }
         requires owned { IsOwned throttle.now.place self.old.live.granted }
-        ensures next { OnFeedNow self.old.live.feed (λ v. IsNext throttle.now result.next (heard_by self.old v.reading) self.old self.new) }
-        ensures aftermath { IsAftermath (effects_of result.next self.old.live) self.old.live.feed (option_map E.seen result.aftermath.closed) result.aftermath.discarded result.aftermath.remote_reset }
+        ensures next { OnFeedNow self.old.live.feed (λ v. IsNext (record { throttle = throttle.now; before = pass.old; behind = pass.new }) result.next (heard_by self.old v.reading) self.old self.new) }
+        ensures aftermath { IsAftermath (effects_next result.next self.old.live) self.old.live.feed (option_map E.seen result.aftermath.closed) result.aftermath.discarded result.aftermath.remote_reset }
+        ensures resets { MayObeyIfReset result.next self.new }
         ensures owned { IsOwned throttle.now.place self.new.live.granted }
         ensures place { pass.new.place ≡ pass.old.place }
         ensures word { IsAlone throttle.now.place → pass.new.word ≡ word_next result.next pass.old.word (held self.old.live.granted) (held self.new.live.granted) }
@@ -101,8 +102,8 @@ impl<E: End> Core<E> {
         requires signed { OnFeedNow self.old.live.feed (λ v. is_framing v.reading ≡ true) }
         requires pass { pass.old.place ≡ throttle.now.place }
         requires owned { IsOwned throttle.now.place self.old.live.granted }
-        ensures next { OnFeedNow self.old.live.feed (λ v. IsNext throttle.now result.next (front_of (hearer_of self.old) v.reading) self.old self.new) }
-        ensures aftermath { IsAftermath (effects_of result.next self.old.live) self.old.live.feed (option_map E.seen result.aftermath.closed) result.aftermath.discarded result.aftermath.remote_reset }
+        ensures next { OnFeedNow self.old.live.feed (λ v. IsNext (record { throttle = throttle.now; before = pass.old; behind = pass.new }) result.next (front_of (hearer_of self.old) v.reading) self.old self.new) }
+        ensures aftermath { IsAftermath (effects_next result.next self.old.live) self.old.live.feed (option_map E.seen result.aftermath.closed) result.aftermath.discarded result.aftermath.remote_reset }
         ensures place { pass.new.place ≡ pass.old.place }
         ensures word { IsAlone throttle.now.place → pass.new.word ≡ word_next result.next pass.old.word (held self.old.live.granted) (held self.new.live.granted) }
     {
@@ -163,8 +164,8 @@ impl<E: End> Core<E> {
         requires signed { OnFeedNow self.old.live.feed (λ v. is_framing v.reading ≡ true) }
         requires pass { pass.old.place ≡ throttle.now.place }
         requires owned { IsOwned throttle.now.place self.old.live.granted }
-        ensures next { IsNext throttle.now result.next (tells heard) self.old self.new }
-        ensures aftermath { IsAftermath (effects_of result.next self.old.live) self.old.live.feed (option_map E.seen result.aftermath.closed) result.aftermath.discarded result.aftermath.remote_reset }
+        ensures next { IsNext (record { throttle = throttle.now; before = pass.old; behind = pass.new }) result.next (tells heard) self.old self.new }
+        ensures aftermath { IsAftermath (effects_next result.next self.old.live) self.old.live.feed (option_map E.seen result.aftermath.closed) result.aftermath.discarded result.aftermath.remote_reset }
         ensures place { pass.new.place ≡ pass.old.place }
         ensures word { IsAlone throttle.now.place → pass.new.word ≡ word_next result.next pass.old.word (held self.old.live.granted) (held self.new.live.granted) }
     {
@@ -202,8 +203,8 @@ impl<E: End> Core<E> {
         requires fed { is_some self.old.live.feed ≡ true }
         requires pass { pass.old.place ≡ throttle.now.place }
         requires owned { IsOwned throttle.now.place self.old.live.granted }
-        ensures next { IsNext throttle.now result.next (tells (heard.Fault cause)) self.old self.new }
-        ensures aftermath { IsAftermath (effects_of result.next self.old.live) self.old.live.feed (option_map E.seen result.aftermath.closed) result.aftermath.discarded result.aftermath.remote_reset }
+        ensures next { IsNext (record { throttle = throttle.now; before = pass.old; behind = pass.new }) result.next (tells (heard.Fault cause)) self.old self.new }
+        ensures aftermath { IsAftermath (effects_next result.next self.old.live) self.old.live.feed (option_map E.seen result.aftermath.closed) result.aftermath.discarded result.aftermath.remote_reset }
         ensures place { pass.new.place ≡ pass.old.place }
         ensures word { IsAlone throttle.now.place → pass.new.word ≡ word_next result.next pass.old.word (held self.old.live.granted) (held self.new.live.granted) }
     {
@@ -221,8 +222,8 @@ impl<E: End> Core<E> {
         requires none { HasNoFrame self.old.live.feed }
         requires pass { pass.old.place ≡ throttle.now.place }
         requires owned { IsOwned throttle.now.place self.old.live.granted }
-        ensures next { OnFeedNow self.old.live.feed (λ v. IsNext throttle.now result.next (front_of (hearer_of self.old) v.reading) self.old self.new) }
-        ensures aftermath { IsAftermath (effects_of result.next self.old.live) self.old.live.feed (option_map E.seen result.aftermath.closed) result.aftermath.discarded result.aftermath.remote_reset }
+        ensures next { OnFeedNow self.old.live.feed (λ v. IsNext (record { throttle = throttle.now; before = pass.old; behind = pass.new }) result.next (front_of (hearer_of self.old) v.reading) self.old self.new) }
+        ensures aftermath { IsAftermath (effects_next result.next self.old.live) self.old.live.feed (option_map E.seen result.aftermath.closed) result.aftermath.discarded result.aftermath.remote_reset }
         ensures place { pass.new.place ≡ pass.old.place }
         ensures word { IsAlone throttle.now.place → pass.new.word ≡ word_next result.next pass.old.word (held self.old.live.granted) (held self.new.live.granted) }
     {
@@ -241,8 +242,8 @@ impl<E: End> Core<E> {
         requires owes { OnFeedNow self.old.live.feed (λ v. Owes v.reading n) }
         requires pass { pass.old.place ≡ throttle.now.place }
         requires owned { IsOwned throttle.now.place self.old.live.granted }
-        ensures next { IsNext throttle.now result.next (size_front (is_ready self.old.live) n) self.old self.new }
-        ensures aftermath { IsAftermath (effects_of result.next self.old.live) self.old.live.feed (option_map E.seen result.aftermath.closed) result.aftermath.discarded result.aftermath.remote_reset }
+        ensures next { IsNext (record { throttle = throttle.now; before = pass.old; behind = pass.new }) result.next (size_front (is_ready self.old.live) n) self.old self.new }
+        ensures aftermath { IsAftermath (effects_next result.next self.old.live) self.old.live.feed (option_map E.seen result.aftermath.closed) result.aftermath.discarded result.aftermath.remote_reset }
         ensures place { pass.new.place ≡ pass.old.place }
         ensures word { IsAlone throttle.now.place → pass.new.word ≡ word_next result.next pass.old.word (held self.old.live.granted) (held self.new.live.granted) }
     {

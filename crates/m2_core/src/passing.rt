@@ -95,7 +95,7 @@ impl<E: End> Live<E> {
 }
 
 /// Passes the frame at the front of the feed.
-fn pass_on<E: End>(feed: &mut Option<Feed<E>>)
+pub(crate) fn pass_on<E: End>(feed: &mut Option<Feed<E>>)
     requires { OnFeedNow feed.old (λ v. HasFrame v.reading) }
     ensures { PassesFeed feed.old feed.new }
 {

@@ -4,8 +4,8 @@ ghost use Rattle.std.specs.Prelude.{◌≡◌, true};
 ghost use Rattle.m2_feed.specs.FeedNow.{is_framing};
 ghost use Rattle.m2_shared.specs.Place.{IsAlone};
 ghost use Rattle.m2_core.specs.CoreNow.{IsOwned, OnFeedNow, held};
-ghost use Rattle.m2_core.specs.Next.{RestSays, word_rest};
-ghost use Rattle.m2_core.specs.Resting.{AnswersFeed, HasNoFrame};
+ghost use Rattle.m2_core.specs.Next.{LeavesRest, RestSays, word_rest};
+ghost use Rattle.m2_core.specs.Resting.{GivesFeed, HasNoFrame};
 
 use crate::front_laws::front_laws;
 use crate::live::give_back;
@@ -39,6 +39,7 @@ impl<E: End> Core<E> {
         requires owned { IsOwned throttle.now.place self.old.live.granted }
         ensures rest { OnFeedNow self.old.live.feed (λ v. RestSays result v.reading self.old self.new) }
         ensures place { pass.new.place ≡ pass.old.place }
+        ensures kept { LeavesRest result pass.old pass.new }
         ensures word { IsAlone throttle.now.place → pass.new.word ≡ word_rest result pass.old.word (held self.old.live.granted) }
     {
         front_laws();
@@ -59,7 +60,7 @@ impl<E: End> Core<E> {
 /// One answer of the feed's decoder.
 fn next_on<E: End>(feed: &mut Option<Feed<E>>) -> Got
     requires { OnFeedNow feed.old (λ v. is_framing v.reading ≡ true) }
-    ensures { AnswersFeed result feed.old feed.new }
+    ensures { GivesFeed result feed.old feed.new }
 {
     match feed {
         Some(feed) => feed.next(),

@@ -7,7 +7,7 @@ use Rattle.m2_bytes.specs.declared.memory.NoMemory as memory
 use Rattle.m2_core.specs.Agrees.{Stays}
 use Rattle.m2_core.specs.CoreNow.{CoreNow, OnFeedNow}
 use Rattle.m2_core.specs.Moves.{live_with}
-use Rattle.m2_core.specs.News.{heard_on}
+use Rattle.m2_core.specs.News.{feed_after_news}
 use Rattle.m2_fabric.specs.declared.end.News.{News}
 use Rattle.m2_fabric.specs.declared.socket.SocketId.{SocketId}
 use Rattle.m2_fabric.specs.End.{SeenEnd, after_news}
@@ -120,10 +120,10 @@ module _ (n : News) (bytes : List ℕ) (r : RecordNow) (h : IsRecord r) (v : Fee
   told = record v { end = after_news n bytes v.end }
 
   abbrev heard_core : CoreNow
-  heard_core = record r.core { live = live_with (heard_on n bytes r.core.live.feed) r.core.live }
+  heard_core = record r.core { live = live_with (feed_after_news n bytes r.core.live.feed) r.core.live }
 
-  is : heard_on n bytes r.core.live.feed ≡ Some told
-  is = ap (heard_on n bytes) was
+  is : feed_after_news n bytes r.core.live.feed ≡ Some told
+  is = ap (feed_after_news n bytes) was
 
   feed-heard : Stays r.core heard_core → IsRecord (record r { core = heard_core })
   feed-heard stays = record {
@@ -200,13 +200,13 @@ module _ (n : News) (bytes : List ℕ) (id : SocketId) (r : RecordNow) (h : IsRe
 abbrev Answer : Type 0
 Answer = Result (Unit {0}) memory.NoMemory
 
-heard-on : (n : News) (bytes : List ℕ) (r : RecordNow) (o : Option FeedNow) (c : CoreNow) → IsRecord r → r.core.live.feed ≡ o → c ≡ record r.core { live = live_with (heard_on n bytes r.core.live.feed) r.core.live } → Stays r.core c →
+heard-on : (n : News) (bytes : List ℕ) (r : RecordNow) (o : Option FeedNow) (c : CoreNow) → IsRecord r → r.core.live.feed ≡ o → c ≡ record r.core { live = live_with (feed_after_news n bytes r.core.live.feed) r.core.live } → Stays r.core c →
     IsRecord (record r { core = c })
 heard-on n bytes r (Some v) c h was e stays =
     subst (λ (d : CoreNow). Stays r.core d → IsRecord (record r { core = d })) (sym e) (λ s. feed-heard n bytes r h v was s) stays
-heard-on n bytes r None c h was e stays = subst (λ (d : CoreNow). IsRecord (record r { core = d })) (sym (e ∙ ap (λ (o : Option FeedNow). record r.core { live = live_with (heard_on n bytes o) r.core.live }) was ∙ ap (λ (o : Option FeedNow). record r.core { live = live_with o r.core.live }) (sym was))) h
+heard-on n bytes r None c h was e stays = subst (λ (d : CoreNow). IsRecord (record r { core = d })) (sym (e ∙ ap (λ (o : Option FeedNow). record r.core { live = live_with (feed_after_news n bytes o) r.core.live }) was ∙ ap (λ (o : Option FeedNow). record r.core { live = live_with o r.core.live }) (sym was))) h
 
-pub feed-after : (answer : Answer) (n : News) (bytes : List ℕ) (r : RecordNow) (c : CoreNow) → IsRecord r → OnOk answer (c ≡ record r.core { live = live_with (heard_on n bytes r.core.live.feed) r.core.live }) → OnErr answer (c ≡ r.core) → Stays r.core c →
+pub feed-after : (answer : Answer) (n : News) (bytes : List ℕ) (r : RecordNow) (c : CoreNow) → IsRecord r → OnOk answer (c ≡ record r.core { live = live_with (feed_after_news n bytes r.core.live.feed) r.core.live }) → OnErr answer (c ≡ r.core) → Stays r.core c →
     IsRecord (record r { core = c })
 feed-after (Ok u) n bytes r c h ok err stays = heard-on n bytes r r.core.live.feed c h refl ok stays
 feed-after (Err e) n bytes r c h ok err stays = rw err h

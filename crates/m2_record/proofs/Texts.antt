@@ -7,7 +7,7 @@ use Rattle.std.specs.List.{AllByRecursion}
 use Rattle.m2_bytes.specs.declared.memory.NoMemory as memory
 use Rattle.m2_core.specs.Agrees.{Agrees, LeadsOn, MayCome, Stays}
 use Rattle.m2_core.specs.Asking.{AsksWith, ComposesAsk, HasAsked, LeavesAsk}
-use Rattle.m2_core.specs.Composing.{AnswersFeed, ComposesFeed, HasAcknowledged, HasAnswered}
+use Rattle.m2_core.specs.Composing.{AnswersStamp, ComposesFeed, HasAcknowledged, HasAnswered}
 use Rattle.m2_core.specs.CoreNow.{CoreNow, OnFeedNow}
 use Rattle.m2_core.specs.Numbering.{ChangesRoom, ComposesMessage, FitsFrame, HasNumbered, IsNextSendable, NumbersOn}
 use Rattle.m2_core.specs.Shaken.{GreetsFeed, HasShaken}
@@ -76,7 +76,7 @@ same-composed answer w bytes (Some v) (Some z) h = same-if answer w bytes v z h
 same-composed answer w bytes (Some v) None h = absurd h
 same-composed answer w bytes None y h = absurd h
 
-same-answered : (answer : Memory) (x y : Option FeedNow) → AnswersFeed answer x y → SameEnd x y
+same-answered : (answer : Memory) (x y : Option FeedNow) → AnswersStamp answer x y → SameEnd x y
 same-answered answer (Some v) (Some z) h = same-if answer _ _ v z h
 same-answered answer (Some v) None h = absurd h
 same-answered answer None y h = absurd h

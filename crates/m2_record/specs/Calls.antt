@@ -10,7 +10,7 @@ use Rattle.m2_core.specs.CoreNow.{CoreNow}
 use Rattle.m2_core.specs.Effects.{closed_if}
 use Rattle.m2_core.specs.Composing.{HasAcknowledged, HasAnswered}
 use Rattle.m2_core.specs.Moves.{HasWritten, live_with}
-use Rattle.m2_core.specs.News.{heard_on}
+use Rattle.m2_core.specs.News.{feed_after_news}
 use Rattle.m2_core.specs.Numbering.{HasNumbered}
 use Rattle.m2_core.specs.Shaken.{HasShaken}
 use Rattle.m2_core.specs.declared.asking.CoreAsk.{CoreAsk}
@@ -382,11 +382,11 @@ ComposesAs text.Acknowledgement composed.NoMemory old new = Acknowledges (Err (r
 ComposesAs t _ old new = ⊥
 
 -- what is left of the pass: the number of an ask was drawn by it
-abbrev pub DrawsAs : Composed → SeenNumberPass → SeenNumberPass → Type 0
-DrawsAs (composed.Asked by_ident number) before after = LeavesPass (ask.Asked by_ident number) before after
-DrawsAs composed.Spent before after = LeavesPass ask.Spent before after
-DrawsAs (composed.Again seen now) before after = LeavesPass (ask.Again seen now) before after
-DrawsAs _ before after = after ≡ before
+abbrev pub DrawsAs : Composed → Place → SeenNumberPass → SeenNumberPass → Type 0
+DrawsAs (composed.Asked by_ident number) place before after = LeavesPass (ask.Asked by_ident number) place before after
+DrawsAs composed.Spent place before after = LeavesPass ask.Spent place before after
+DrawsAs (composed.Again seen now) place before after = LeavesPass (ask.Again seen now) place before after
+DrawsAs _ place before after = after ≡ before
 
 -- ---- news of the other side
 
@@ -396,5 +396,5 @@ is_feed id r = on_feed (λ v. same_socket id v.end.id) r.core.live.feed
 -- the end of that socket, where the record has it, has heard the news
 abbrev pub after_news : SocketId → News → List ℕ → RecordNow → RecordNow
 after_news id news bytes r =
-    if is_feed id r then record r { core = record r.core { live = live_with (heard_on news bytes r.core.live.feed) r.core.live } }
+    if is_feed id r then record r { core = record r.core { live = live_with (feed_after_news news bytes r.core.live.feed) r.core.live } }
     else record r { spent = one_hears id (end.after_news news bytes) r.spent }

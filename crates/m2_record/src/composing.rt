@@ -49,7 +49,7 @@ impl<E: End> Record<E> {
         requires top { self.old.core.top ≤ pass.old.least }
         ensures composes { IfSome (to_compose self.old.core) (λ t. ComposesAs t result self.old self.new) }
         ensures some { IsSome (to_compose self.old.core) }
-        ensures pass { DrawsAs result pass.old pass.new }
+        ensures pass { DrawsAs result numbers.now.place pass.old pass.new }
         ensures place { pass.new.place ≡ pass.old.place }
     {
         match self.core.to_compose() {
@@ -108,7 +108,7 @@ impl<E: End> Record<E> {
         requires pass { pass.old.place ≡ numbers.now.place }
         requires top { self.old.core.top ≤ pass.old.least }
         ensures asks { Asks result self.old self.new }
-        ensures pass { LeavesPass result pass.old pass.new }
+        ensures pass { LeavesPass result numbers.now.place pass.old pass.new }
         ensures place { pass.new.place ≡ pass.old.place }
     {
         let answer = self.core.ask(numbers, pass);

@@ -1,6 +1,14 @@
+use Rattle.m2_core.specs.Granting.{Throttled}
 use Rattle.m2_core.proofs.Helds.{owned_text}
+use Rattle.m2_core.proofs.Nexts.{reset_text}
 use Rattle.m2_core.proofs.side.Core.next.Goals as goal
+
+pub returns-in-None-clause-resets : goal.returns-in-None-clause-resets
+returns-in-None-clause-resets g c =
+    let t : Throttled = record { throttle = c.args.throttle.now; before = c.args.pass.now; behind = c.next_text.new.pass } in
+    reset_text t c.next_text.result.next c.args.self.now c.next_text.new.self c.next_text.ensures.next
 
 pub returns-in-None-clause-owned : goal.returns-in-None-clause-owned
 returns-in-None-clause-owned g c =
-    owned_text c.args.throttle.now c.next_text.result.next c.args.self.now c.next_text.new.self c.requires.owned c.next_text.ensures.next
+    let t : Throttled = record { throttle = c.args.throttle.now; before = c.args.pass.now; behind = c.next_text.new.pass } in
+    owned_text t c.next_text.result.next c.args.self.now c.next_text.new.self c.requires.owned c.next_text.ensures.next
