@@ -32,8 +32,9 @@ use Rattle.m2_session.specs.Steps as table
 use Rattle.m2_session.specs.Steps.{step_of}
 use Rattle.m2_record.specs.Calls.{BytesAreBroken, KeepsEnds, closed_entries, told_parcels}
 use Rattle.m2_record.specs.IsRecord.{IsRecord, IsReplayedTo, IsWellKept, FeedHasRoom, FeedIsOpen, FeedIsWhole, feeds_in}
-use Rattle.m2_record.specs.RecordNow.{RecordNow, Rooms, feed_end, grounds_of, ids_of, speaks_of}
+use Rattle.m2_record.specs.RecordNow.{RecordNow, Rooms, ends_of, feed_end, grounds_of, ids_of, speaks_of}
 use Rattle.m2_record.specs.Sources.{broken_of, end_at, is_broken_end, sources_of}
+use Rattle.m2_record.specs.TakenTrails.{HaveTrails}
 use Rattle.m2_record.proofs.Ends.{ends-moved}
 use Rattle.m2_record.proofs.Entering.{reach-more}
 use Rattle.m2_record.proofs.FeedLeft.{closed-left, parcels-left}
@@ -43,6 +44,7 @@ use Rattle.m2_record.proofs.Kept.{feeds-more, ids-left, stepped-within, tells-fi
 use Rattle.m2_record.proofs.Keeping.{as-planned, ground, one-more, replay-stays}
 use Rattle.m2_record.proofs.Names.{differ, same_refl}
 use Rattle.m2_record.proofs.Telling.{Beside, beside, feed_left, spent_if, tells-beside, tells-feed, told_by}
+use Rattle.m2_record.proofs.Trailing.{closed-behind, ends-go-on, trails-more}
 
 -- a fault closes the feed, whatever the session is
 abbrev closes-too : Session × Effects → Bool
@@ -147,6 +149,13 @@ module _ (r : RecordNow) (s : State) (h : IsReplayedTo s r) (v : FeedNow) (was :
     few = h.few;
   }
 
+  pub trails-broken : HaveTrails r.core.facts.node.entity (ends_of r) r.journal r.trails →
+      HaveTrails r.core.facts.node.entity (feed_end (after_fault r.core.live).feed ++ (r.spent ++ after_closing v.end ∷ [])) (r.journal ++ entry.Closed v.end.id ∷ []) r.trails
+  trails-broken t = subst (λ (o : Option FeedNow). HaveTrails r.core.facts.node.entity (feed_end o ++ (r.spent ++ after_closing v.end ∷ [])) (r.journal ++ entry.Closed v.end.id ∷ []) r.trails) (sym no-feed)
+      (trails-more r.core.facts.node.entity (v.end ∷ r.spent) (r.spent ++ after_closing v.end ∷ []) r.journal (entry.Closed v.end.id) r.trails
+      (ends-go-on r.journal (v.end ∷ r.spent) (r.spent ++ after_closing v.end ∷ []) (ends-moved r.journal v.end r.spent (subst (FeedIsOpen r.spent r.journal) was h.feed).unspent)) refl
+      (subst (λ (o : Option FeedNow). HaveTrails r.core.facts.node.entity (feed_end o ++ r.spent) r.journal r.trails) was t))
+
   closed-all : closed_if left.close r.core.live.feed ≡ Some (after_closing v.end)
   closed-all = ap (λ b. closed_if b r.core.live.feed) (fault-closes r.core.live.session (is_waiting r.core.live)) ∙ ap (closed_if true) was
 
@@ -194,6 +203,8 @@ module _ (r : RecordNow) (h : IsRecord r) (v : FeedNow) (was : r.core.live.feed 
         state = breaks h.state;
         at_state = is-broken r h.state h.at_state v was cause now room more;
         settled = h.settled;
+        closed = closed-behind r.journal r.spent (Some (after_closing v.end)) h.closed;
+        trails = trails-broken r h.state h.at_state v was cause h.trails;
         kept = kept-broken r h.state h.at_state v was cause now room h.kept;
       }) leads
 

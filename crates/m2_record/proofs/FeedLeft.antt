@@ -21,14 +21,16 @@ use Rattle.m2_journal.specs.Steps.{after, closes_socket, forgets, is_on, breaks,
 use Rattle.m2_session.specs.declared.event.Effects.{Effects}
 use Rattle.m2_record.specs.Calls.{closed_entries, told_parcels}
 use Rattle.m2_record.specs.Calls as calls
-use Rattle.m2_record.specs.IsRecord.{AreBehind, FeedHasRoom, FeedIsOpen, IsClosedEnd, IsRecord, IsReplayedTo, IsWellKept}
-use Rattle.m2_record.specs.RecordNow.{RecordNow, Rooms, delivery_of, feed_end, grounds_of, speaks_of}
+use Rattle.m2_record.specs.IsRecord.{AreBehind, FeedHasRoom, FeedIsOpen, IsClosedEnd, IsRecord, IsReplayedTo, IsWellKept, closed_in}
+use Rattle.m2_record.specs.RecordNow.{RecordNow, Rooms, delivery_of, ends_of, feed_end, grounds_of, ids_of, speaks_of}
+use Rattle.m2_record.specs.TakenTrails.{HaveTrails}
 use Rattle.m2_record.proofs.Ends.{EndsStay, ends-moved, ends-same}
 use Rattle.m2_record.proofs.Entering.{reach-more}
 use Rattle.m2_record.proofs.Keeping.{one-more}
 use Rattle.m2_record.proofs.Kept.{kept-closed-as}
 use Rattle.m2_record.proofs.Names.{same_refl}
 use Rattle.m2_record.proofs.Telling.{feed_left, one_if, spent_if, told_by}
+use Rattle.m2_record.proofs.Trailing.{trails-behind}
 
 -- ---- ends
 
@@ -125,8 +127,9 @@ module _ (r : RecordNow) (s : State) (h : IsReplayedTo s r) (unfed : r.core.live
     resumed = h.core.resumed;
   }
 
-  pub closes-spent : IsWellKept r → IsRecord (record r { journal = r.journal ++ entry.Closed k ∷ [] })
-  closes-spent kept = record {
+  pub closes-spent : closed_in (r.journal ++ entry.Closed k ∷ []) ≡ ids_of r.spent → HaveTrails r.core.facts.node.entity (ends_of r) r.journal r.trails → IsWellKept r →
+      IsRecord (record r { journal = r.journal ++ entry.Closed k ∷ [] })
+  closes-spent closed trails kept = record {
     state = forgets k s;
     at_state = record {
       replay = subst (λ (t : State). IsReplay r.core.facts (speaks_of r) (r.journal ++ entry.Closed k ∷ []) t) (forgot true)
@@ -141,6 +144,8 @@ module _ (r : RecordNow) (s : State) (h : IsReplayedTo s r) (unfed : r.core.live
       few = h.few;
     };
     settled = without-own k s.spent spent;
+    closed = closed;
+    trails = trails-behind r.core.facts.node.entity (ends_of r) r.journal (entry.Closed k) r.trails refl trails;
     kept = kept-closed-as r k kept;
   }
 
@@ -159,7 +164,8 @@ spent-is true f s None (Some d) sockets e a = absurd a
 spent-is true f s None None sockets e a = e
 spent-is false f s v d sockets e a = e
 
-pub closes-entries : (r : RecordNow) (s : State) (closed : Option SeenEnd) → IsReplayedTo s r → IsWellKept r → SpentIs closed r.core.live.feed s.spent →
-    IsRecord (record r { journal = r.journal ++ closed_entries closed })
-closes-entries r s (Some e) h kept spent = closes-spent r s h spent.1 e.id spent.0 kept
-closes-entries r s None h kept spent = subst (λ (l : List Entry). IsRecord (record r { journal = l })) (sym (append-nil r.journal)) (record { state = s; at_state = h; settled = spent; kept = kept })
+pub closes-entries : (r : RecordNow) (s : State) (closed : Option SeenEnd) → IsReplayedTo s r → IsWellKept r → SpentIs closed r.core.live.feed s.spent → closed_in (r.journal ++ closed_entries closed) ≡ ids_of r.spent →
+    HaveTrails r.core.facts.node.entity (ends_of r) r.journal r.trails → IsRecord (record r { journal = r.journal ++ closed_entries closed })
+closes-entries r s (Some e) h kept spent closed trails = closes-spent r s h spent.1 e.id spent.0 closed trails kept
+closes-entries r s None h kept spent closed trails = subst (λ (l : List Entry). IsRecord (record r { journal = l })) (sym (append-nil r.journal))
+    (record { state = s; at_state = h; settled = spent; closed = sym (ap closed_in (append-nil r.journal)) ∙ closed; trails = trails; kept = kept })

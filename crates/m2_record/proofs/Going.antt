@@ -32,14 +32,16 @@ use Rattle.m2_record.specs.Entered.{MovesNothing, StepIsThere}
 use Rattle.m2_record.specs.IsRecord.{FeedHasRoom, FeedIsOpen, FeedIsWhole, IsRecord, IsReplayedTo, IsWellKept, feeds_in}
 use Rattle.m2_record.specs.RecordNow.{RecordNow, Rooms, ends_of, feed_end, grounds_of, ids_of, speaks_of}
 use Rattle.m2_record.specs.Sources.{sources_of}
+use Rattle.m2_record.specs.TakenTrails.{HaveTrails}
 use Rattle.m2_record.proofs.Entering.{reach-more}
 use Rattle.m2_record.proofs.Keeping.{as-planned, ground, one-more, replay-stays}
 use Rattle.m2_record.proofs.FeedLeft.{KeepsRoom, SpentIs, closed-left, closes-entries, ends-left, open-left, parcels-left, room-left, spent-is}
 use Rattle.m2_record.proofs.Kept.{feeds-more, ids-left, tells-fits, told-from, whole-left}
 use Rattle.m2_record.proofs.Names.{differ}
-use Rattle.m2_record.proofs.Opens.{still-open}
+use Rattle.m2_record.proofs.Opens.{closed-more, still-open}
 use Rattle.m2_record.proofs.Taking.{planned-next}
 use Rattle.m2_record.proofs.Telling.{Beside, beside, feed_left, spent_if, tells-beside, tells-feed, told_by}
+use Rattle.m2_record.proofs.Trailing.{closed-behind, ends-go-on, trails-more}
 
 -- a Down may come: it is the plan's next step, or a number that is needed is above the greatest
 abbrev pub MayGo : (planned : Bool) → RecordNow → CoreNow → Type 0
@@ -141,6 +143,13 @@ module _ (r : RecordNow) (s : State) (h : IsReplayedTo s r) where
     few = h.few;
   }
 
+  trails-between : (p : Bool) → HaveTrails r.core.facts.node.entity (ends_of r) r.journal r.trails →
+      HaveTrails r.core.facts.node.entity (feed_end (after_down r.core).live.feed ++ (r.spent ++ option_to_list (closed_if left.close r.core.live.feed))) (r.journal ++ entry.Down p ∷ []) r.trails
+  trails-between p t =
+      subst (λ (v : Option FeedNow). HaveTrails r.core.facts.node.entity (feed_end v ++ (r.spent ++ option_to_list (closed_if left.close r.core.live.feed))) (r.journal ++ entry.Down p ∷ []) r.trails) (sym feed-gone)
+      (trails-more r.core.facts.node.entity (ends_of r) (feed_end (feed_left left.close r.core.live.feed) ++ (r.spent ++ option_to_list (closed_if left.close r.core.live.feed))) r.journal (entry.Down p) r.trails
+      (ends-go-on r.journal (ends_of r) (feed_end (feed_left left.close r.core.live.feed) ++ (r.spent ++ option_to_list (closed_if left.close r.core.live.feed))) (ends-left left.close r.core.live.feed r.spent r.journal h.feed)) refl t)
+
   down-spent : (p : Bool) → s.spent ≡ [] → SpentIs (closed_if left.close r.core.live.feed) (after_down r.core).live.feed (goes_down p (tells event.MarkedDown s)).spent
   down-spent p none = subst (λ (v : Option FeedNow). SpentIs (closed_if left.close r.core.live.feed) v (tells event.MarkedDown s).spent) (sym feed-gone)
       (subst (λ (l : List SocketId). SpentIs (closed_if left.close r.core.live.feed) (feed_left left.close r.core.live.feed) l) (sym (ap (λ (b : Beside). b.spent) told))
@@ -151,7 +160,9 @@ pub went-down : (p : Bool) (r : RecordNow) (c : CoreNow) (room : Rooms) → IsRe
 went-down p r c room h may keeps e leads =
     subst (λ (d : CoreNow). LeadsDown p r.core d → IsRecord (record (after_going_down p r) { core = d; room = room })) (sym e)
     (λ more. closes-entries (between r h.state h.at_state p room) (goes_down p (tells event.MarkedDown h.state)) (closed_if (step_of r.core.live.session event.MarkedDown).effects.close r.core.live.feed)
-    (between-is r h.state h.at_state p room may more keeps) (kept-between r h.state h.at_state p room h.kept) (down-spent r h.state h.at_state p h.settled)) leads
+    (between-is r h.state h.at_state p room may more keeps) (kept-between r h.state h.at_state p room h.kept) (down-spent r h.state h.at_state p h.settled)
+    (closed-behind (r.journal ++ entry.Down p ∷ []) r.spent (closed_if (step_of r.core.live.session event.MarkedDown).effects.close r.core.live.feed) (closed-more r.journal (entry.Down p) refl ∙ h.closed))
+    (trails-between r h.state h.at_state p h.trails)) leads
 
 -- ---- as the code comes to it
 

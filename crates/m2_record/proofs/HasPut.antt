@@ -6,6 +6,7 @@ use Rattle.m2_core.specs.Agrees.{LeadsOn, MayCome, Stays}
 use Rattle.m2_core.specs.CoreNow.{CoreNow, OnFeedNow}
 use Rattle.m2_core.specs.Moves.{HasWritten, IsWroteOn, WritesFeed}
 use Rattle.m2_fabric.specs.declared.end.EndWrite.TheVariants as write
+use Rattle.m2_fabric.specs.declared.log.Run.TheVariants as run
 use Rattle.m2_fabric.specs.declared.socket.SocketId.{SocketId}
 use Rattle.m2_fabric.specs.End.{SeenEnd, with_write}
 use Rattle.m2_fabric.specs.Sockets.{IsNewTo, is_among, same_socket}
@@ -27,20 +28,25 @@ use Rattle.m2_journal.specs.State.{Feed, PartText, State}
 use Rattle.m2_journal.specs.Steps as journal
 use Rattle.m2_journal.specs.Steps.{after}
 use Rattle.m2_journal.proofs.Growing.{one_more}
+use Rattle.m2_trail.specs.Trails.{TrailNow}
 use Rattle.m2_queues.specs.OutQueues.{Outgoing}
 use Rattle.m2_record.specs.Calls.{IsCounted, entries_put, held_after, moment_after, wrote_entries}
 use Rattle.m2_record.specs.Entered.{AreSettled, HavePut}
 use Rattle.m2_record.specs.IsRecord.{FeedHasRoom, FeedIsOpen, FeedIsWhole, FitFrames, IsOpenAmong, IsRecord, IsReplayedTo, IsWellKept, closed_in, feeds_in}
 use Rattle.m2_record.specs.Waits.{IsWithin}
 use Rattle.m2_record.specs.RecordNow.{RecordNow, Rooms, ends_of, feed_end, grounds_of, ids_of, speaks_of}
-use Rattle.m2_record.specs.Sources.{TakenTrail, broken_of, end_at, got_of, put_of, runs_of, sources_of}
+use Rattle.m2_record.specs.Sources.{broken_of, end_at, got_of, log_at, put_of, read_before, runs_of, sources_of, trail_at}
+use Rattle.m2_record.specs.TakenTrails.{HaveTrails}
 use Rattle.m2_record.proofs.Ends.{EndsStay}
 use Rattle.m2_record.proofs.Entering.{put-continues, put-covers, reach-more}
 use Rattle.m2_record.proofs.Kept.{feeds-more}
 use Rattle.m2_record.proofs.Keeping.{as-planned, ground, replay-stays, settled}
 use Rattle.m2_record.proofs.Names.{differ, same_equal, same_refl}
 use Rattle.m2_record.proofs.Opens.{closed-more}
-use Rattle.m2_record.proofs.Telling.{Beside, beside}
+use Rattle.m2_record.proofs.Telling.{beside}
+use Rattle.m2_record.proofs.Telling as telling
+use Rattle.m2_record.proofs.Trailing.{Beside, LogGoesOn, first-goes-on, first-there, prefix-same, runs-more, trails-behind, trails-go-on, unread-same}
+use Rattle.m2_record.proofs.Trailing as trailing
 
 -- ---- what it leaves of a state
 
@@ -58,10 +64,10 @@ putting f bytes None s = refl
 
 -- ---- what it leaves of the ends
 
-abbrev src : List Planned → SeenEnd → List SeenEnd → Sources
-src plan e spent = sources_of (ground plan (e ∷ spent) [])
+abbrev src : List Planned → SeenEnd → List SeenEnd → List TrailNow → Sources
+src plan e spent trails = sources_of (ground plan (e ∷ spent) trails)
 
-module _ (plan : List Planned) (e : SeenEnd) (spent : List SeenEnd) (n : ℕ) (piece : List ℕ) (fits : n ≤ length piece) where
+module _ (plan : List Planned) (e : SeenEnd) (spent : List SeenEnd) (trails : List TrailNow) (there : Beside (trail_at trails e.id) e.log) (n : ℕ) (piece : List ℕ) (fits : n ≤ length piece) where
   abbrev f : SeenEnd
   f = with_write (write.Put n) piece e
 
@@ -76,33 +82,38 @@ module _ (plan : List Planned) (e : SeenEnd) (spent : List SeenEnd) (n : ℕ) (p
   broken-so k true g = rw g refl
   broken-so k false g = rw g refl
 
-  put-more : HavePut e.id (take n piece) (src plan e spent) (src plan f spent)
+  put-more : HavePut e.id (take n piece) (src plan e spent trails) (src plan f spent trails)
   put-more = record {
     plan = as-planned plan;
-    put = rw (same_refl e.id) refl;
-    runs = rw (same_refl e.id, len) refl;
+    put = rw (same_refl e.id) (trailing.put-more (trail_at trails e.id) e.log (take n piece) there);
+    runs = rw (same_refl e.id, len) (runs-more (trail_at trails e.id) e.log (run.Wrote n ∷ []) there);
     other_put = λ k g. rw g refl;
-    got = λ k. other k (same_socket k e.id) refl;
+    got = λ k. ap (drop (read_before (trail_at trails k))) (other k (same_socket k e.id) refl);
     other_runs = λ k g. rw g refl;
   }
 
-  all-settled : (journal : List Entry) → AreSettled (src plan e spent) (src plan f spent) journal
-  all-settled journal = settled (src plan e spent) (src plan f spent) journal (λ k c. broken-so k (same_socket k e.id) refl) (λ k. refl) (λ k. refl)
+  all-settled : (journal : List Entry) → AreSettled (src plan e spent trails) (src plan f spent trails) journal
+  all-settled journal = settled (src plan e spent trails) (src plan f spent trails) journal (λ k c. broken-so k (same_socket k e.id) refl)
+      (λ k. unread-same (trail_at trails k) (log_at (e ∷ spent) k) (log_at (f ∷ spent) k) (other k (same_socket k e.id) refl)) (λ k. refl)
 
-  module _ (facts : SideFacts) (journal : List Entry) (s : State) (r : IsReplay facts (src plan e spent) journal s) where
-    item-is : item_of (src plan f spent) (reach_of journal) (entry.Wrote e.id n) ≡ item.wrote e.id (take n piece)
+  module _ (facts : SideFacts) (journal : List Entry) (s : State) (r : IsReplay facts (src plan e spent trails) journal s) where
+    item-is : item_of (src plan f spent trails) (reach_of journal) (entry.Wrote e.id n) ≡ item.wrote e.id (take n piece)
     item-is = ap (item.wrote e.id)
-        (ap (λ m. take n (drop m ((src plan f spent).put e.id))) (r.covering.written e.id)
-        ∙ ap (λ l. take n (drop (length ((src plan e spent).put e.id)) l)) put-more.put
-        ∙ ap (take n) (drop-append_seam ((src plan e spent).put e.id) (take n piece))
+        (ap (λ m. take n (drop m ((src plan f spent trails).put e.id))) (r.covering.written e.id)
+        ∙ ap (λ l. take n (drop (length ((src plan e spent trails).put e.id)) l)) put-more.put
+        ∙ ap (take n) (drop-append_seam ((src plan e spent trails).put e.id) (take n piece))
         ∙ ap (λ m. take m (take n piece)) (sym len) ∙ take-length (take n piece))
 
-    pub put-on : Lawful facts (item.wrote e.id (take n piece)) s → IsReplay facts (src plan f spent) (journal ++ entry.Wrote e.id n ∷ []) (after facts (item.wrote e.id (take n piece)) s)
-    put-on law = subst (λ i. IsReplay facts (src plan f spent) (journal ++ entry.Wrote e.id n ∷ []) (after facts i s)) item-is
-        (one_more facts (src plan e spent) (src plan f spent) journal (entry.Wrote e.id n) s r
-        (put-continues (src plan e spent) (src plan f spent) journal e.id (take n piece) r.covering put-more (all-settled journal))
-        (subst (λ m. AreCovering (src plan f spent) (journal ++ entry.Wrote e.id m ∷ [])) len (put-covers (src plan e spent) (src plan f spent) journal e.id (take n piece) r.covering put-more))
+    pub put-on : Lawful facts (item.wrote e.id (take n piece)) s → IsReplay facts (src plan f spent trails) (journal ++ entry.Wrote e.id n ∷ []) (after facts (item.wrote e.id (take n piece)) s)
+    put-on law = subst (λ i. IsReplay facts (src plan f spent trails) (journal ++ entry.Wrote e.id n ∷ []) (after facts i s)) item-is
+        (one_more facts (src plan e spent trails) (src plan f spent trails) journal (entry.Wrote e.id n) s r
+        (put-continues (src plan e spent trails) (src plan f spent trails) journal e.id (take n piece) r.covering put-more (all-settled journal))
+        (subst (λ m. AreCovering (src plan f spent trails) (journal ++ entry.Wrote e.id m ∷ [])) len (put-covers (src plan e spent trails) (src plan f spent trails) journal e.id (take n piece) r.covering put-more))
         (subst (λ i. Lawful facts i s) (sym item-is) law))
+
+-- the log goes on
+pub put-goes-on : (n : ℕ) (piece : List ℕ) (e : SeenEnd) → LogGoesOn e.log (with_write (write.Put n) piece e).log
+put-goes-on n piece e = record { got = prefix-same e.log.got e.log.got refl; put = (take n piece, refl); runs = (run.Wrote n ∷ [], refl) }
 
 -- ---- flags of the feed's end
 
@@ -133,16 +144,14 @@ ends-flagged journal e f spent id got put runs unclosed = record {
 
 -- ---- a record whose feed is written
 
-module _ (r : RecordNow) (s : State) (h : IsReplayedTo s r) (untaken : r.trails ≡ []) (c : CoreNow) (facts : c.facts ≡ r.core.facts) (v w : FeedNow) (was : r.core.live.feed ≡ Some v) (is : c.live.feed ≡ Some w) where
-  before : IsReplay r.core.facts (src (map planned r.plan) v.end r.spent) r.journal s
-  before = subst (λ (t : List TakenTrail). IsReplay r.core.facts (sources_of (ground (map planned r.plan) (v.end ∷ r.spent) t)) r.journal s) untaken
-      (subst (λ (o : Option FeedNow). IsReplay r.core.facts (sources_of (ground (map planned r.plan) (feed_end o ++ r.spent) r.trails)) r.journal s) was h.replay)
+module _ (r : RecordNow) (s : State) (h : IsReplayedTo s r) (c : CoreNow) (facts : c.facts ≡ r.core.facts) (v w : FeedNow) (was : r.core.live.feed ≡ Some v) (is : c.live.feed ≡ Some w) where
+  before : IsReplay r.core.facts (src (map planned r.plan) v.end r.spent r.trails) r.journal s
+  before = subst (λ (o : Option FeedNow). IsReplay r.core.facts (sources_of (ground (map planned r.plan) (feed_end o ++ r.spent) r.trails)) r.journal s) was h.replay
 
-  pub behind : (journal : List Entry) (t : State) → IsReplay r.core.facts (src (map planned r.plan) w.end r.spent) journal t →
+  pub behind : (journal : List Entry) (t : State) → IsReplay r.core.facts (src (map planned r.plan) w.end r.spent r.trails) journal t →
       IsReplay c.facts (sources_of (ground (map planned r.plan) (feed_end c.live.feed ++ r.spent) r.trails)) journal t
   behind journal t p = subst (λ (f : SideFacts). IsReplay f (sources_of (ground (map planned r.plan) (feed_end c.live.feed ++ r.spent) r.trails)) journal t) (sym facts)
-      (subst (λ (o : Option FeedNow). IsReplay r.core.facts (sources_of (ground (map planned r.plan) (feed_end o ++ r.spent) r.trails)) journal t) (sym is)
-      (subst (λ (trails : List TakenTrail). IsReplay r.core.facts (sources_of (ground (map planned r.plan) (w.end ∷ r.spent) trails)) journal t) (sym untaken) p))
+      (subst (λ (o : Option FeedNow). IsReplay r.core.facts (sources_of (ground (map planned r.plan) (feed_end o ++ r.spent) r.trails)) journal t) (sym is) p)
 
   open-before : IsOpenAmong r.spent r.journal v.end.id
   open-before = subst (FeedIsOpen r.spent r.journal) was h.feed
@@ -160,7 +169,7 @@ module _ (r : RecordNow) (s : State) (h : IsReplayedTo s r) (untaken : r.trails 
   pub not-put : (room : Rooms) → room.ends ≡ r.room.ends → Stays r.core c → w.end.id ≡ v.end.id → w.end.log.got ≡ v.end.log.got → w.end.log.put ≡ v.end.log.put → w.end.log.runs ≡ v.end.log.runs →
       IsReplayedTo s (record r { core = c; room = room })
   not-put room e stays id got put runs = record {
-    replay = behind r.journal s (replay-stays r.journal (map planned r.plan) (map planned r.plan) (v.end ∷ r.spent) (w.end ∷ r.spent) [] (as-planned (map planned r.plan))
+    replay = behind r.journal s (replay-stays r.journal (map planned r.plan) (map planned r.plan) (v.end ∷ r.spent) (w.end ∷ r.spent) r.trails (as-planned (map planned r.plan))
         (ends-flagged r.journal v.end w.end r.spent id got put runs open-before.unclosed) r.core.facts s before);
     core = stays s h.core;
     steps = h.steps;
@@ -173,16 +182,16 @@ module _ (r : RecordNow) (s : State) (h : IsReplayedTo s r) (untaken : r.trails 
   }
 
   -- these bytes were put
-  pub has-put : (n now : ℕ) (room : Rooms) → room.ends ≡ r.room.ends → n ≤ length v.composed → w.end ≡ with_write (write.Put n) v.composed v.end →
+  pub has-put : Beside (trail_at r.trails v.end.id) v.end.log → (n now : ℕ) (room : Rooms) → room.ends ≡ r.room.ends → n ≤ length v.composed → w.end ≡ with_write (write.Put n) v.composed v.end →
       MayCome (item.wrote v.end.id (take n v.composed)) r.core → LeadsOn (item.wrote v.end.id (take n v.composed)) r.core c →
       IsReplayedTo (after r.core.facts (item.wrote v.end.id (take n v.composed)) s) (record r { core = c; journal = r.journal ++ entry.Wrote v.end.id n ∷ []; last = now; room = room })
-  has-put n now room e fits end may leads = record {
-    replay = behind journal1 t (subst (λ (x : SeenEnd). IsReplay r.core.facts (src (map planned r.plan) x r.spent) journal1 t) (sym end)
-        (put-on (map planned r.plan) v.end r.spent n v.composed fits r.core.facts r.journal s before (may s h.core)));
+  has-put there n now room e fits end may leads = record {
+    replay = behind journal1 t (subst (λ (x : SeenEnd). IsReplay r.core.facts (src (map planned r.plan) x r.spent r.trails) journal1 t) (sym end)
+        (put-on (map planned r.plan) v.end r.spent r.trails there n v.composed fits r.core.facts r.journal s before (may s h.core)));
     core = leads s h.core;
-    steps = h.steps ∙ sym (ap (λ (b : Beside). b.steps) same);
-    reach = ap (λ p. p.steps) (reach-more r.journal (entry.Wrote v.end.id n)) ∙ h.reach ∙ sym (ap (λ (b : Beside). b.steps) same);
-    parcels = (h.parcels.0, h.parcels.1, ap (λ (b : Beside). b.deliveries) same ∙ h.parcels.2);
+    steps = h.steps ∙ sym (ap (λ (b : telling.Beside). b.steps) same);
+    reach = ap (λ p. p.steps) (reach-more r.journal (entry.Wrote v.end.id n)) ∙ h.reach ∙ sym (ap (λ (b : telling.Beside). b.steps) same);
+    parcels = (h.parcels.0, h.parcels.1, ap (λ (b : telling.Beside). b.deliveries) same ∙ h.parcels.2);
     spent = h.spent;
     feed = open-after journal1 (closed-more r.journal (entry.Wrote v.end.id n) refl) (ap (λ (x : SeenEnd). x.id) end);
     room = room-after room e;
@@ -199,7 +208,7 @@ module _ (r : RecordNow) (s : State) (h : IsReplayedTo s r) (untaken : r.trails 
       same = putting r.core.facts (take n v.composed) s.feed s
 
   pub put-spent : (bytes : List ℕ) → s.spent ≡ [] → (after r.core.facts (item.wrote v.end.id bytes) s).spent ≡ []
-  put-spent bytes e = ap (λ (b : Beside). b.spent) (putting r.core.facts bytes s.feed s) ∙ e
+  put-spent bytes e = ap (λ (b : telling.Beside). b.spent) (putting r.core.facts bytes s.feed s) ∙ e
 
 -- ---- what holds beside the journal
 
@@ -247,12 +256,30 @@ kept-put r k c now room answer (Some v) None facts out was is x = absurd x
 
 -- ---- by the answer of the write
 
-module _ (r : RecordNow) (h : IsRecord r) (untaken : r.trails ≡ []) (c : CoreNow) (facts : c.facts ≡ r.core.facts) (out : c.live.out ≡ r.core.live.out) (now : ℕ) (room : Rooms) (ends : room.ends ≡ r.room.ends) where
+module _ (r : RecordNow) (h : IsRecord r) (c : CoreNow) (facts : c.facts ≡ r.core.facts) (out : c.live.out ≡ r.core.live.out) (now : ℕ) (room : Rooms) (ends : room.ends ≡ r.room.ends) where
+  -- the trails, beside the feed's end
+  trails-before : (v : FeedNow) → r.core.live.feed ≡ Some v → HaveTrails r.core.facts.node.entity (v.end ∷ r.spent) r.journal r.trails
+  trails-before v was = subst (λ (o : Option FeedNow). HaveTrails r.core.facts.node.entity (feed_end o ++ r.spent) r.journal r.trails) was h.trails
+
+  trails-on : (v w : FeedNow) → r.core.live.feed ≡ Some v → c.live.feed ≡ Some w → (journal : List Entry) → w.end.id ≡ v.end.id → LogGoesOn v.end.log w.end.log →
+      HaveTrails r.core.facts.node.entity (v.end ∷ r.spent) journal r.trails → HaveTrails c.facts.node.entity (feed_end c.live.feed ++ r.spent) journal r.trails
+  trails-on v w was is journal id go t = subst (λ (f : SideFacts). HaveTrails f.node.entity (feed_end c.live.feed ++ r.spent) journal r.trails) (sym facts)
+      (subst (λ (o : Option FeedNow). HaveTrails r.core.facts.node.entity (feed_end o ++ r.spent) journal r.trails) (sym is)
+      (trails-go-on r.core.facts.node.entity (v.end ∷ r.spent) (w.end ∷ r.spent) journal r.trails (first-goes-on v.end w.end r.spent id go) t))
+
   stayed : (v w : FeedNow) (held : Bool) → r.core.live.feed ≡ Some v → c.live.feed ≡ Some w → IsWellKept (record r { core = c; journal = r.journal ++ []; held = held; room = room }) →
       Stays r.core c → w.end.id ≡ v.end.id → w.end.log.got ≡ v.end.log.got → w.end.log.put ≡ v.end.log.put → w.end.log.runs ≡ v.end.log.runs →
       IsRecord (record r { core = c; journal = r.journal ++ []; held = held; room = room })
   stayed v w held was is kept stays id got put runs = subst (λ (l : List Entry). IsWellKept (record r { core = c; journal = l; held = held; room = room }) → IsRecord (record r { core = c; journal = l; held = held; room = room })) (sym (append-nil r.journal))
-      (λ k. record { state = h.state; at_state = held-too (not-put r h.state h.at_state untaken c facts v w was is room ends stays id got put runs); settled = h.settled; kept = k }) kept
+      (λ k. record {
+        state = h.state;
+        at_state = held-too (not-put r h.state h.at_state c facts v w was is room ends stays id got put runs);
+        settled = h.settled;
+        closed = h.closed;
+        trails = trails-on v w was is r.journal id (record { got = prefix-same v.end.log.got w.end.log.got got; put = prefix-same v.end.log.put w.end.log.put put; runs = prefix-same v.end.log.runs w.end.log.runs runs })
+            (trails-before v was);
+        kept = k;
+      }) kept
     where
       held-too : IsReplayedTo h.state (record r { core = c; room = room }) → IsReplayedTo h.state (record r { core = c; held = held; room = room })
       held-too a = record { replay = a.replay; core = a.core; steps = a.steps; reach = a.reach; parcels = a.parcels; spent = a.spent; feed = a.feed; room = a.room; few = a.few }
@@ -264,8 +291,11 @@ module _ (r : RecordNow) (h : IsRecord r) (untaken : r.trails ≡ []) (c : CoreN
       IsRecord (wrote_with answer now room o c r)
   written-at (put.Put n ack) (Some v) (Some w) was is x y = record {
     state = after r.core.facts (item.wrote v.end.id (take n v.composed)) h.state;
-    at_state = has-put-held _ _ now false (has-put r h.state h.at_state untaken c facts v w was is n now room ends x.0.0.fits x.0.2 y.0 y.1);
-    settled = put-spent r h.state h.at_state untaken c facts v w was is (take n v.composed) h.settled;
+    at_state = has-put-held _ _ now false (has-put r h.state h.at_state c facts v w was is (first-there r.core.facts.node.entity v.end r.spent r.journal r.trails (trails-before v was)) n now room ends x.0.0.fits x.0.2 y.0 y.1);
+    settled = put-spent r h.state h.at_state c facts v w was is (take n v.composed) h.settled;
+    closed = closed-more r.journal (entry.Wrote v.end.id n) refl ∙ h.closed;
+    trails = trails-on v w was is (r.journal ++ entry.Wrote v.end.id n ∷ []) (ap (λ (z : SeenEnd). z.id) x.0.2) (subst (λ (z : SeenEnd). LogGoesOn v.end.log z.log) (sym x.0.2) (put-goes-on n v.composed v.end))
+        (trails-behind r.core.facts.node.entity (v.end ∷ r.spent) r.journal (entry.Wrote v.end.id n) r.trails refl (trails-before v was));
     kept = kept-put r h.kept c now room (put.Put n ack) (Some v) (Some w) facts out was is x;
   }
   written-at put.NotYet (Some v) (Some w) was is x y = stayed v w true was is (kept-put r h.kept c now room put.NotYet (Some v) (Some w) facts out was is x) y
@@ -291,12 +321,12 @@ same-entries put.NotYet k o v e g = refl
 same-entries put.Failed k o v e g = refl
 same-entries put.NoMemory k o v e g = refl
 
-pub written-after : (answer : FeedWrite) (r : RecordNow) (c : CoreNow) (k : SocketId) (v : FeedNow) (now : ℕ) (journal : List Entry) (last entries : ℕ) (held : Bool) → IsRecord r → r.trails ≡ [] → HasWritten answer r.core c →
+pub written-after : (answer : FeedWrite) (r : RecordNow) (c : CoreNow) (k : SocketId) (v : FeedNow) (now : ℕ) (journal : List Entry) (last entries : ℕ) (held : Bool) → IsRecord r → HasWritten answer r.core c →
     r.core.live.feed ≡ Some v → k ≡ v.end.id → journal ≡ r.journal ++ entries_put answer k → last ≡ moment_after answer now r.last → held ≡ held_after answer r.held →
     IsRecord (record r { core = c; journal = journal; last = last; held = held; room = record r.room { entries = entries } })
-written-after answer r c k v now journal last entries held h untaken x was id j l b =
+written-after answer r c k v now journal last entries held h x was id j l b =
     rw (j, same-entries answer k r.core.live.feed v was id, l, b)
-    (written r h untaken c (ap (λ (y : CoreNow). y.facts) x.only) (ap (λ (y : CoreNow). y.live.out) x.only) now (record r.room { entries = entries }) refl answer x)
+    (written r h c (ap (λ (y : CoreNow). y.facts) x.only) (ap (λ (y : CoreNow). y.live.out) x.only) now (record r.room { entries = entries }) refl answer x)
 
 counted-at : (answer : FeedWrite) (o p : Option FeedNow) → WritesFeed answer o p → IsCounted answer
 counted-at (put.Put n ack) (Some v) (Some w) x = (let most = x.0.0.most in omega (arith, most))

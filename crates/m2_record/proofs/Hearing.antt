@@ -22,9 +22,11 @@ use Rattle.m2_record.specs.Calls.{is_feed}
 use Rattle.m2_record.specs.IsRecord.{FeedHasRoom, FeedIsOpen, FeedIsWhole, IsClosedEnd, IsRecord, IsReplayedTo, IsWellKept, closed_in, feeds_in}
 use Rattle.m2_record.specs.RecordNow.{RecordNow, Rooms, feed_end, ids_of, speaks_of}
 use Rattle.m2_record.specs.Sources.{broken_of, end_at, got_of, put_of, runs_of, sources_of}
+use Rattle.m2_record.specs.TakenTrails.{HaveTrails}
 use Rattle.m2_record.proofs.Ends.{EndsStay, TellTheSame, tells-itself}
 use Rattle.m2_record.proofs.HasPut.{same-ids}
 use Rattle.m2_record.proofs.Keeping.{as-planned, ground, replay-stays}
+use Rattle.m2_record.proofs.Trailing.{ends-go-on, trails-go-on}
 
 -- ---- ends of which one hears
 
@@ -142,6 +144,10 @@ module _ (n : News) (bytes : List ℕ) (r : RecordNow) (h : IsRecord r) (v : Fee
       few = h.at_state.few;
     };
     settled = h.settled;
+    closed = h.closed;
+    trails = subst (λ (o : Option FeedNow). HaveTrails r.core.facts.node.entity (feed_end o ++ r.spent) r.journal r.trails) (sym is)
+        (trails-go-on r.core.facts.node.entity (v.end ∷ r.spent) (told.end ∷ r.spent) r.journal r.trails (ends-go-on r.journal (v.end ∷ r.spent) (told.end ∷ r.spent) (first-heard n bytes r.journal v.end r.spent))
+        (subst (λ (o : Option FeedNow). HaveTrails r.core.facts.node.entity (feed_end o ++ r.spent) r.journal r.trails) was h.trails));
     kept = record {
       ends = subst (λ (o : Option FeedNow). ids_of (r.spent ++ feed_end o) ≡ feeds_in r.journal) (sym is)
           (same-ids r.spent v told refl ∙ subst (λ (o : Option FeedNow). ids_of (r.spent ++ feed_end o) ≡ feeds_in r.journal) was h.kept.ends);
@@ -184,6 +190,9 @@ module _ (n : News) (bytes : List ℕ) (id : SocketId) (r : RecordNow) (h : IsRe
       few = h.at_state.few;
     };
     settled = h.settled;
+    closed = h.closed ∙ sym (ids-heard n bytes id r.spent);
+    trails = trails-go-on r.core.facts.node.entity (feed_end r.core.live.feed ++ r.spent) (feed_end r.core.live.feed ++ spent) r.journal r.trails
+        (ends-go-on r.journal (feed_end r.core.live.feed ++ r.spent) (feed_end r.core.live.feed ++ spent) (behind r.journal r.core.live.feed r.spent spent (ends-heard n bytes r.journal id r.spent))) h.trails;
     kept = record {
       ends = same-feeds r.core.live.feed ∙ h.kept.ends;
       whole = h.kept.whole;

@@ -19,10 +19,12 @@ use Rattle.m2_journal.specs.Laws.{ReplaysStay, OneMoreLeadsOn}
 use Rattle.m2_journal.proofs.Growing.{one_more, replays_stay}
 use Rattle.m2_record.specs.Entered.{AreSettled, KeepLogs, MovesNothing, StepIsThere}
 use Rattle.m2_record.specs.IsRecord.{closed_in}
-use Rattle.m2_record.specs.Sources.{Grounds, TakenTrail, read_before, runs_before, sources_of, trail_at, written_before}
+use Rattle.m2_trail.specs.Trails.{TrailNow}
+use Rattle.m2_record.specs.Sources.{Grounds, log_at, read_before, runs_before, sources_of, trail_at, written_before}
 use Rattle.m2_record.proofs.Ends.{EndsStay}
 use Rattle.m2_record.proofs.Entering.{kept-continues, kept-covers, still-covers}
 use Rattle.m2_record.proofs.Names.{same_refl}
+use Rattle.m2_record.proofs.Trailing.{unread-same}
 
 -- ---- what is settled
 
@@ -54,10 +56,10 @@ settled old new (entry.Down planned ∷ es) b u t = (tt, settled old new es b u 
 
 -- ---- from ends to what a journal speaks of
 
-abbrev pub ground : List Planned → List SeenEnd → List TakenTrail → Grounds
+abbrev pub ground : List Planned → List SeenEnd → List TrailNow → Grounds
 ground plan ends trails = record { plan = plan; ends = ends; trails = trails }
 
-module _ (journal : List Entry) (plan planned : List Planned) (old new : List SeenEnd) (trails : List TakenTrail) (more : IsExtended plan planned) (h : EndsStay journal old new) where
+module _ (journal : List Entry) (plan planned : List Planned) (old new : List SeenEnd) (trails : List TrailNow) (more : IsExtended plan planned) (h : EndsStay journal old new) where
   pub logs-stay : KeepLogs (sources_of (ground plan old trails)) (sources_of (ground planned new trails))
   logs-stay = record {
     plan = more;
@@ -67,7 +69,8 @@ module _ (journal : List Entry) (plan planned : List Planned) (old new : List Se
   }
 
   pub all-settled : AreSettled (sources_of (ground plan old trails)) (sources_of (ground planned new trails)) journal
-  all-settled = settled (sources_of (ground plan old trails)) (sources_of (ground planned new trails)) journal h.broken (λ k. refl) (λ k. refl)
+  all-settled = settled (sources_of (ground plan old trails)) (sources_of (ground planned new trails)) journal h.broken
+      (λ k. unread-same (trail_at trails k) (log_at old k) (log_at new k) (h.got k)) (λ k. refl)
 
   -- a replay stays as the plan goes on and the logs stay
   pub replay-stays : (f : SideFacts) (s : State) → IsReplay f (sources_of (ground plan old trails)) journal s → IsReplay f (sources_of (ground planned new trails)) journal s

@@ -1,6 +1,7 @@
 pub mod Names
 pub mod Entering
 pub mod Ends
+pub mod Trailing
 pub mod Keeping
 pub mod Making
 pub mod Planning

@@ -29,6 +29,8 @@ new-is-record f place room w a = record {
     few = omega arith;
   };
   settled = refl;
+  closed = refl;
+  trails = record { sockets = refl; each = tt };
   kept = record {
     ends = refl;
     whole = tt;

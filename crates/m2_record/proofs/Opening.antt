@@ -38,6 +38,7 @@ use Rattle.m2_record.specs.Calls.{ConnectIsDue, IsNewSocket, IsUntouched}
 use Rattle.m2_record.specs.IsRecord.{FeedHasRoom, FeedIsOpen, FitFrames, IsRecord, IsReplayedTo, IsWellKept, closed_in, feeds_in}
 use Rattle.m2_record.specs.RecordNow.{RecordNow, Rooms, ends_of, feed_end, grounds_of, ids_of, speaks_of}
 use Rattle.m2_record.specs.Sources.{sources_of}
+use Rattle.m2_record.specs.TakenTrails.{HaveTrails}
 use Rattle.m2_record.proofs.Ends.{HasDoneNothing, ends-fresh, neither}
 use Rattle.m2_record.proofs.Entering.{reach-more}
 use Rattle.m2_record.proofs.Keeping.{as-planned, ground, one-more, replay-stays}
@@ -46,6 +47,7 @@ use Rattle.m2_record.proofs.Kept.{feeds-opened, ids-opened, kept-in-room, tells-
 use Rattle.m2_record.proofs.Names.{both, differ}
 use Rattle.m2_record.proofs.Naming.{is-unclosed, is-unnamed}
 use Rattle.m2_record.proofs.Opens.{closed-more}
+use Rattle.m2_record.proofs.Trailing.{ends-go-on, trails-more}
 
 -- ---- a record that may dial has no feed
 
@@ -136,6 +138,12 @@ module _ (r : RecordNow) (h : IsRecord r) (v : FeedNow) (due : may_dial r.core �
   no-feed : r.core.live.feed ≡ None
   no-feed = unfed r h.state h.at_state due
 
+  pub trails-opened : IsNewSocket r v.end.id → HaveTrails r.core.facts.node.entity (v.end ∷ r.spent) (r.journal ++ entry.Opened v.end.id ∷ []) r.trails
+  trails-opened new = trails-more r.core.facts.node.entity r.spent (v.end ∷ r.spent) r.journal (entry.Opened v.end.id) r.trails
+      (ends-go-on r.journal r.spent (v.end ∷ r.spent) (ends-fresh r.journal v.end r.spent (record { got = ap (λ (l : Log). l.got) fresh; put = ap (λ (l : Log). l.put) fresh; runs = ap (λ (l : Log). l.runs) fresh })
+      (subst (λ (o : Option FeedNow). IsNewTo (ids_of (feed_end o ++ r.spent)) v.end.id) no-feed new.ends) (is-unclosed r.journal v.end.id new.entries)))
+      refl (subst (λ (o : Option FeedNow). HaveTrails r.core.facts.node.entity (feed_end o ++ r.spent) r.journal r.trails) no-feed h.trails)
+
   pub kept-opened : (room : Rooms) → IsWellKept (record r { core = after_opened v r.core; journal = r.journal ++ entry.Opened v.end.id ∷ []; room = room })
   kept-opened room = record {
     ends = ids-opened r.spent v.end (feeds_in r.journal) (subst (λ (o : Option FeedNow). ids_of (r.spent ++ feed_end o) ≡ feeds_in r.journal) no-feed h.kept.ends) ∙ sym (feeds-opened r.journal v.end.id);
@@ -162,6 +170,8 @@ module _ (r : RecordNow) (c : CoreNow) (e : SeenEnd) (now : ℕ) (room : Rooms) 
         at_state = opened r h.state h.at_state v (connects now r due).0 (connects now r due).1 (subst (λ (k : SeenEnd). k.log ≡ nothing_done) (sym end) fresh) (subst (λ (k : SeenEnd). IsNewSocket r k.id) (sym end) new)
             (subst (λ (k : SeenEnd). LeadsOn (item.opened k.id) r.core (after_opened v r.core)) (sym end) (subst (λ (d : CoreNow). LeadsOn (item.opened e.id) r.core d) value.1 leads)) room more;
         settled = h.settled;
+        closed = closed-more r.journal (entry.Opened v.end.id) refl ∙ h.closed;
+        trails = trails-opened r h v (connects now r due).0 (subst (λ (k : SeenEnd). k.log ≡ nothing_done) (sym end) fresh) (subst (λ (k : SeenEnd). IsNewSocket r k.id) (sym end) new);
         kept = kept-opened r h v (connects now r due).0 (subst (λ (k : SeenEnd). k.log ≡ nothing_done) (sym end) fresh) room;
       }))
 
@@ -188,6 +198,8 @@ roomier r journal spent room h j sp more = rw (j, sp) (record {
     few = h.at_state.few;
   };
   settled = h.settled;
+  closed = h.closed;
+  trails = h.trails;
   kept = kept-in-room r room h.kept;
 })
   where

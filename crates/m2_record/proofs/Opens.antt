@@ -39,5 +39,7 @@ in_room r room ends h = record {
     few = h.at_state.few;
   };
   settled = h.settled;
+  closed = h.closed;
+  trails = h.trails;
   kept = kept-in-room r room h.kept;
 }

@@ -36,6 +36,8 @@ more-planned r x h can few = record {
     few = (let l = length-append r.plan (x ∷ []) in omega (arith, l, few));
   };
   settled = h.settled;
+  closed = h.closed;
+  trails = h.trails;
   kept = record {
     ends = h.kept.ends;
     whole = h.kept.whole;
@@ -75,6 +77,8 @@ handed-first r x rest n h e = record {
     few = h.at_state.few;
   };
   settled = h.settled;
+  closed = h.closed;
+  trails = h.trails;
   kept = record {
     ends = h.kept.ends;
     whole = h.kept.whole;

@@ -1,28 +1,38 @@
 -- A record whose core goes on while its feed's end stays as it is.
-use Rattle.std.proofs.Common.{◌≡◌, ℕ, ◌+◌, ◌<◌, Bool, true, false, List, [], ◌∷◌, ◌++◌, map, Option, Some, None, refl, sym, ap, subst, ◌∙◌}
+use Rattle.std.proofs.Common.{◌≡◌, ℕ, ◌+◌, ◌<◌, Bool, true, false, List, [], ◌∷◌, ◌++◌, length, map, Option, Some, None, refl, sym, ap, subst, ◌∙◌, arith, length-append}
+use Rattle.std.specs.Prelude.{if◌then◌else◌}
+use Rattle.m2_answers.specs.declared.ask.AskFacts.{AskFacts}
 use Rattle.m2_core.specs.Agrees.{Agrees}
 use Rattle.m2_core.specs.CoreNow.{CoreNow, OnFeedNow}
 use Rattle.m2_fabric.specs.declared.socket.SocketId.{SocketId}
 use Rattle.m2_fabric.specs.End.{SeenEnd}
 use Rattle.m2_feed.specs.FeedNow.{FeedNow}
 use Rattle.m2_journal.specs.declared.entry.Entry.{Entry}
-use Rattle.m2_journal.specs.Items.{JournalItem, item_of, passed, reach_of}
+use Rattle.m2_journal.specs.declared.entry.Entry.TheVariants as entry
+use Rattle.m2_journal.specs.Items.{JournalItem, Places, Sources, item_of, passed, reach_of, where_taken}
 use Rattle.m2_journal.specs.Lawful.{Lawful}
+use Rattle.m2_journal.specs.OutFrames.{replies_of}
 use Rattle.m2_journal.specs.Plan.{planned}
 use Rattle.m2_journal.specs.Replay.{IsReplay}
 use Rattle.m2_journal.specs.SideFacts.{SideFacts}
-use Rattle.m2_journal.specs.State.{Delivery, State}
+use Rattle.m2_journal.specs.State.{Delivery, Judgement, State}
+use Rattle.m2_journal.specs.Steps as journal
 use Rattle.m2_journal.specs.Steps.{after}
+use Rattle.m2_session.specs.declared.answer.Answer.{Answer}
+use Rattle.m2_session.specs.declared.event.Event.{Event}
+use Rattle.m2_session.specs.Laws.{takes}
 use Rattle.m2_record.specs.Entered.{MovesNothing, StepIsThere}
 use Rattle.m2_record.specs.IsRecord.{AreBehind, FeedHasRoom, FeedIsOpen, FeedIsWhole, FitFrames, IsOpenAmong, IsRecord, IsReplayedTo, IsWellKept, became_feed, closed_by, feeds_in}
-use Rattle.m2_record.specs.RecordNow.{RecordNow, Rooms, delivery_of, feed_end, grounds_of, ids_of, speaks_of}
+use Rattle.m2_record.specs.RecordNow.{RecordNow, Rooms, delivery_of, ends_of, feed_end, grounds_of, ids_of, speaks_of}
 use Rattle.m2_record.specs.Sources.{sources_of}
+use Rattle.m2_record.specs.TakenTrails.{HaveTrails, judgement_of}
 use Rattle.m2_record.specs.Waits.{IsWithin}
 use Rattle.m2_record.proofs.Entering.{reach-more}
 use Rattle.m2_record.proofs.Keeping.{ground, one-more}
 use Rattle.m2_record.proofs.Kept.{feeds-more}
-use Rattle.m2_record.proofs.Opens.{still-open}
-use Rattle.m2_record.proofs.Telling.{Beside, beside}
+use Rattle.m2_record.proofs.Opens.{closed-more, still-open}
+use Rattle.m2_record.proofs.Telling.{Beside, beside, tells-beside}
+use Rattle.m2_record.proofs.Trailing.{trails-behind}
 
 -- both have a feed with the same end, or none has
 abbrev pub SameEnd : Option FeedNow → Option FeedNow → Type 0
@@ -119,7 +129,34 @@ module _ (r : RecordNow) (c : CoreNow) (facts : c.facts ≡ r.core.facts) (same 
     pub kept-with : (e : Entry) → became_feed e ≡ None → IsWellKept (record r { core = c; journal = r.journal ++ e ∷ []; room = room })
     kept-with e h = kept-at (r.journal ++ e ∷ []) (feeds-more r.journal e h)
 
+-- ---- an entry that leaves the judgements as they were is none of an ask
+
+told-judged : (e : Option Event) (s : State) → (journal.tells_if e s).judgements ≡ s.judgements
+told-judged (Some e) s = ap (λ (b : Beside). b.judgements) (tells-beside e s)
+told-judged None s = refl
+
+answered-judged : (b : Bool) (f : SideFacts) (k : SocketId) (a : AskFacts) (number : ℕ) (answer : Answer) (unread : List ℕ) (s : State) →
+    (if b then journal.takes_socket f k a number unread s else journal.sends k (replies_of answer) s).judgements ≡ s.judgements
+answered-judged true f k a number answer unread s = refl
+answered-judged false f k a number answer unread s = refl
+
+no-more : (xs : List Judgement) (x : Judgement) → xs ++ x ∷ [] ≡ xs → ⊥
+no-more xs x e = let l = length-append xs (x ∷ []) in let m = ap length e in omega (arith, l, m)
+
+pub not-judged : (f : SideFacts) (src : Sources) (p : Places) (e : Entry) (s : State) → beside (after f (item_of src p e) s) ≡ beside s → judgement_of e ≡ None
+not-judged f src p (entry.Judged k a number answer) s told =
+    let t = journal.notes k a number answer s in
+    let one : Judgement = record { socket = k; item = record { ask = a; answer = answer } } in
+    absurd (no-more s.judgements one (sym (answered-judged (takes answer) f k a number answer (where_taken answer (src.unread k)) (journal.tells_if (journal.event_of f a number answer) t)
+    ∙ told-judged (journal.event_of f a number answer) t) ∙ ap (λ (b : Beside). b.judgements) told))
+not-judged f src p _ s told = refl
+
 -- ---- records
+
+pub same-trails : (r : RecordNow) (c : CoreNow) → c.facts ≡ r.core.facts → SameEnd r.core.live.feed c.live.feed → (journal : List Entry) →
+    HaveTrails r.core.facts.node.entity (ends_of r) journal r.trails → HaveTrails c.facts.node.entity (feed_end c.live.feed ++ r.spent) journal r.trails
+same-trails r c facts same journal h = subst (λ (f : SideFacts). HaveTrails f.node.entity (feed_end c.live.feed ++ r.spent) journal r.trails) (sym facts)
+    (subst (λ (l : List SeenEnd). HaveTrails r.core.facts.node.entity (l ++ r.spent) journal r.trails) (sym (same-feed_end r.core.live.feed c.live.feed same)) h)
 
 pub stands-record : (r : RecordNow) (c : CoreNow) (room : Rooms) → IsRecord r → c.facts ≡ r.core.facts → SameEnd r.core.live.feed c.live.feed → room.ends ≡ r.room.ends → FitFrames c.live.out.queue →
     ((s : State) → IsReplayedTo s r → Agrees c s) → IsRecord (record r { core = c; room = room })
@@ -127,6 +164,8 @@ stands-record r c room h facts same ends queue a = record {
   state = h.state;
   at_state = stands r c facts same room h.state h.at_state ends (a h.state h.at_state);
   settled = h.settled;
+  closed = h.closed;
+  trails = same-trails r c facts same r.journal h.trails;
   kept = kept-on r c facts same room h.kept queue;
 }
 
@@ -138,5 +177,9 @@ enters-record r c room e i h facts same ends queue still step unclosed none step
   state = after r.core.facts i h.state;
   at_state = enters r c facts same room h.state h.at_state ends e i still step unclosed steps is (may h.state h.at_state.core) (leads h.state h.at_state.core) (told h.state);
   settled = ap (λ (b : Beside). b.spent) (told h.state) ∙ h.settled;
+  closed = closed-more r.journal e unclosed ∙ h.closed;
+  trails = trails-behind c.facts.node.entity (feed_end c.live.feed ++ r.spent) r.journal e r.trails
+      (not-judged r.core.facts (speaks_of r) (reach_of r.journal) e h.state (subst (λ (j : JournalItem). beside (after r.core.facts j h.state) ≡ beside h.state) (sym is) (told h.state)))
+      (same-trails r c facts same r.journal h.trails);
   kept = kept-with r c facts same room h.kept queue e none;
 }

@@ -23,11 +23,12 @@ use Rattle.m2_bytes.specs.Items.{Holding}
 use Rattle.m2_record.specs.Calls.{IsDialNext}
 use Rattle.m2_record.specs.Due.{next_step}
 use Rattle.m2_record.specs.IsRecord.{CanBePlanned, FeedIsOpen, IsOpenAmong, IsRecord, IsReplayedTo, IsWellKept, closed_in}
-use Rattle.m2_record.specs.RecordNow.{RecordNow, Rooms, grounds_of, speaks_of}
+use Rattle.m2_record.specs.RecordNow.{RecordNow, Rooms, ends_of, grounds_of, speaks_of}
 use Rattle.m2_record.proofs.Entering.{reach-more}
 use Rattle.m2_record.proofs.Keeping.{one-more}
 use Rattle.m2_record.proofs.Kept.{all-get, feeds-more, posted-fits}
-use Rattle.m2_record.proofs.Opens.{in_room, still-open}
+use Rattle.m2_record.proofs.Opens.{closed-more, in_room, still-open}
+use Rattle.m2_record.proofs.Trailing.{trails-behind}
 
 module _ (r : RecordNow) (s : State) (h : IsReplayedTo s r) (x : PlanStep) (next : next_step r ≡ Some x) where
   pub planned-next : slice_get (map planned r.plan) (reach_of r.journal).steps ≡ Some (planned x)
@@ -63,7 +64,14 @@ pub took-dial : (r : RecordNow) (c : CoreNow) (room : Rooms) → IsRecord r → 
 took-dial r c room h ends next e leads =
     subst (λ (d : CoreNow). ((p : Option Planned) → LeadsOn (item.dial p) r.core d) → IsRecord (record r { core = d; journal = r.journal ++ entry.Dial ∷ []; steps = r.steps + 1; room = room })) (sym e)
     (λ more. in_room (record r { core = after_dial r.core; journal = r.journal ++ entry.Dial ∷ []; steps = r.steps + 1 }) room ends
-    (record { state = wants_dial h.state; at_state = dialled r h.state h.at_state next more; settled = h.settled; kept = kept-dialled r h.kept })) leads
+    (record {
+      state = wants_dial h.state;
+      at_state = dialled r h.state h.at_state next more;
+      settled = h.settled;
+      closed = closed-more r.journal entry.Dial refl ∙ h.closed;
+      trails = trails-behind r.core.facts.node.entity (ends_of r) r.journal entry.Dial r.trails refl h.trails;
+      kept = kept-dialled r h.kept;
+    })) leads
 
 -- ---- a post
 
@@ -111,7 +119,14 @@ pub took-post : (r : RecordNow) (c : CoreNow) (m : Message) (now : ℕ) (room : 
 took-post r c m now room h ends next e leads =
     subst (λ (d : CoreNow). ((place : ℕ) → LeadsOn (item.post place (Some (to_post (content_of m)))) r.core d) → IsRecord (record (posted m r d now) { room = room })) (sym e)
     (λ more. in_room (posted m r (post_core m r.core) now) room ends
-    (record { state = after r.core.facts (item.post r.steps (Some (to_post (content_of m)))) h.state; at_state = posts r h.state m now h.at_state next more; settled = h.settled; kept = kept-posted r m now next h.kept })) leads
+    (record {
+      state = after r.core.facts (item.post r.steps (Some (to_post (content_of m)))) h.state;
+      at_state = posts r h.state m now h.at_state next more;
+      settled = h.settled;
+      closed = closed-more r.journal (entry.Post r.steps) refl ∙ h.closed;
+      trails = trails-behind r.core.facts.node.entity (ends_of r) r.journal (entry.Post r.steps) r.trails refl h.trails;
+      kept = kept-posted r m now next h.kept;
+    })) leads
 
 -- ---- as the code comes to them
 

@@ -21,7 +21,8 @@ use Rattle.m2_journal.specs.State.{Delivery, State}
 use Rattle.m2_message.specs.Message.{IsSendable, size_of}
 use Rattle.m2_queues.specs.OutQueues.{Queue}
 use Rattle.m2_session.specs.Laws.{takes}
-use Rattle.m2_record.specs.RecordNow.{RecordNow, Rooms, delivery_of, feed_end, ids_of, speaks_of}
+use Rattle.m2_record.specs.RecordNow.{RecordNow, Rooms, delivery_of, ends_of, feed_end, ids_of, speaks_of}
+use Rattle.m2_record.specs.TakenTrails.{HaveTrails}
 use Rattle.m2_record.specs.Waits.{IsWithin, at_first}
 
 -- ---- words
@@ -127,11 +128,13 @@ pub record IsReplayedTo (s : State) (r : RecordNow) : Type 0 where
   pub room : FeedHasRoom r.room.ends r.core.live.feed
   pub few : length r.plan < 2 ^ 32
 
--- a record, of which each spent socket has its entry
+-- A record, of which each spent socket has its entry, and each taken one its trail.
 pub record IsRecord (r : RecordNow) : Type 0 where
   pub state : State
   pub at_state : IsReplayedTo state r
   pub settled : state.spent ≡ []
+  pub closed : closed_in r.journal ≡ ids_of r.spent
+  pub trails : HaveTrails r.core.facts.node.entity (ends_of r) r.journal r.trails
   pub kept : IsWellKept r
 
 -- ---- a new one

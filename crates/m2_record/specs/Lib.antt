@@ -1,4 +1,5 @@
 pub mod Sources
+pub mod TakenTrails
 pub mod Entered
 pub mod Waits
 pub mod RecordNow

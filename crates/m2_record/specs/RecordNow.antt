@@ -12,8 +12,9 @@ use Rattle.m2_journal.specs.Items.{Sources}
 use Rattle.m2_journal.specs.Plan.{planned}
 use Rattle.m2_journal.specs.State.{Delivery, letter, discarded, remote_reset}
 use Rattle.m2_message.specs.Message.{content_of}
+use Rattle.m2_trail.specs.Trails.{TrailNow}
 use Rattle.m2_record.specs.declared.waits.Waits.{Waits}
-use Rattle.m2_record.specs.Sources.{Grounds, TakenTrail, sources_of}
+use Rattle.m2_record.specs.Sources.{Grounds, sources_of}
 
 -- how many entries, parcels and closed ends fit before memory is taken
 pub record Rooms : Type 0 where
@@ -29,8 +30,8 @@ pub record RecordNow : Type 0 where
   pub steps : ℕ
   -- what was done
   pub journal : List Entry
-  -- what the halves did that were taken, until then
-  pub trails : List TakenTrail
+  -- what the halves did that were taken, until then, in order
+  pub trails : List TrailNow
   -- the session, the outgoing queue and the feed
   pub core : CoreNow
   -- the ends that were the feed, in order

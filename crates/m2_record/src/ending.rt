@@ -34,6 +34,7 @@ impl<E: End> Record<E> {
             plan: _,
             steps: _,
             journal: _,
+            trails: _,
             core,
             mut spent,
             parcels,

@@ -1,15 +1,26 @@
 //! What a record lends.
 
 ghost use Rattle.std.specs.Prelude.{◌≡◌, map};
+ghost use Rattle.m2_record.specs.IsRecord.{IsRecord};
 ghost use Rattle.m2_record.specs.RecordNow.{feed_end};
+ghost use Rattle.m2_trail.specs.Trails.{trail_now};
 ghost use Rattle.std.specs.Option.{option_map, option_to_list};
 
 use crate::record::Record;
 use m2_fabric::End;
 use m2_journal::{EntryList, NodeFacts, PlanList};
 use m2_session::Session;
+use m2_trail::TrailList;
 
 impl<E: End> Record<E> {
+    /// What a record is, for contracts alone: the replay of its journal, with a trail for each socket that it
+    /// took.
+    pub fn is_record(&self)
+        ensures { IsRecord self.now }
+    {
+        let _ = &self.place;
+    }
+
     /// What the node tells its records.
     pub fn facts(&self) -> &NodeFacts
         ensures { result.now ≡ self.now.core.facts.node }
@@ -43,6 +54,13 @@ impl<E: End> Record<E> {
         ensures { result.now.items ≡ self.now.journal }
     {
         &self.journal
+    }
+
+    /// What the halves did that were taken, until then, in order.
+    pub fn trails(&self) -> &TrailList
+        ensures { map trail_now result.now.items ≡ self.now.trails }
+    {
+        &self.trails
     }
 
     /// The feed's end, while there is a feed.

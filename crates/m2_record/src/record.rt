@@ -14,6 +14,7 @@ use m2_dispatcher::Parcel;
 use m2_fabric::End;
 use m2_journal::{EntryList, NodeFacts, PlanList, PlanStep};
 use m2_policy::Policy;
+use m2_trail::TrailList;
 use std::alloc::Global;
 use std::collections::VecDeque;
 use std::marker::Model;
@@ -31,6 +32,8 @@ pub struct Record<E: End> {
     pub(crate) steps: u32,
     /// What was done.
     pub(crate) journal: EntryList,
+    /// What the halves did that were taken, until then, in order.
+    pub(crate) trails: TrailList,
     pub(crate) core: Core<E>,
     /// The ends that were the feed, in order.
     pub(crate) spent: Vec<E>,
@@ -49,8 +52,9 @@ pub struct Record<E: End> {
 }
 
 impl<E: End> Model for Record<E> {
-    ghost use Rattle.std.specs.Prelude.{◌-◌, [], length, map, vec_capacity, vec_len};
+    ghost use Rattle.std.specs.Prelude.{◌-◌, length, map, vec_capacity, vec_len};
     ghost use Rattle.std.specs.VecDeque.{deque_len, deque_capacity};
+    ghost use Rattle.m2_trail.specs.Trails.{trail_now};
     ghost use Rattle.m2_record.specs.RecordNow.{RecordNow};
     ghost use Rattle.m2_record.specs.IsRecord.{IsRecord};
 
@@ -61,7 +65,7 @@ impl<E: End> Model for Record<E> {
       plan = r.plan.items;
       steps = r.steps;
       journal = r.journal.items;
-      trails = [];
+      trails = map trail_now r.trails.items;
       core = r.core;
       spent = map E.seen r.spent.items;
       parcels = r.parcels.items;
@@ -78,7 +82,7 @@ impl<E: End> Model for Record<E> {
       plan = r.plan.items;
       steps = r.steps;
       journal = r.journal.items;
-      trails = [];
+      trails = map trail_now r.trails.items;
       core = r.core;
       spent = map E.seen r.spent.items;
       parcels = r.parcels.items;
@@ -113,6 +117,7 @@ impl<E: End> Record<E> {
             plan: Items::empty(alloc),
             steps: 0,
             journal: Items::empty(alloc),
+            trails: Items::empty(alloc),
             core: Core::new(alloc, mine, peer, policy, facts),
             spent: Vec::new(alloc),
             parcels: VecDeque::new(alloc),
