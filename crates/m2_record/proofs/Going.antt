@@ -176,7 +176,7 @@ may-go : (p : Bool) (r : RecordNow) → MayGoDown p r → (is_exhausted r.core �
 may-go true r h may = down-next (next_step r) h
 may-go false r h may = may h None
 
-keeps-room : (close : Bool) (feed : Option FeedNow) (closed : Option SeenEnd) (old new : ℕ) → closed ≡ closed_if close feed → KeepsEnds closed old new → KeepsRoom close old new
+pub keeps-room : (close : Bool) (feed : Option FeedNow) (closed : Option SeenEnd) (old new : ℕ) → closed ≡ closed_if close feed → KeepsEnds closed old new → KeepsRoom close old new
 keeps-room true feed closed old new e k = tt
 keeps-room false feed closed old new e k = subst (λ (o : Option SeenEnd). KeepsEnds o old new) e k
 

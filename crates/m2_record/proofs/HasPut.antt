@@ -64,7 +64,7 @@ putting f bytes None s = refl
 
 -- ---- what it leaves of the ends
 
-abbrev src : List Planned → SeenEnd → List SeenEnd → List TrailNow → Sources
+abbrev pub src : List Planned → SeenEnd → List SeenEnd → List TrailNow → Sources
 src plan e spent trails = sources_of (ground plan (e ∷ spent) trails)
 
 module _ (plan : List Planned) (e : SeenEnd) (spent : List SeenEnd) (trails : List TrailNow) (there : Beside (trail_at trails e.id) e.log) (n : ℕ) (piece : List ℕ) (fits : n ≤ length piece) where
@@ -117,6 +117,10 @@ put-goes-on n piece e = record { got = prefix-same e.log.got e.log.got refl; put
 
 -- ---- flags of the feed's end
 
+-- a socket that no entry has closed isn't one that was closed
+pub unclosed-one : (journal : List Entry) (k socket : SocketId) (A : Type 0) → IsNewTo (closed_in journal) socket → is_among k (closed_in journal) ≡ true → same_socket k socket ≡ true → A
+unclosed-one journal k socket A new c g = absurd (differ (sym (subst (IsNewTo (closed_in journal)) (sym (same_equal k socket g)) new) ∙ c))
+
 pub ends-flagged : (journal : List Entry) (e f : SeenEnd) (spent : List SeenEnd) → f.id ≡ e.id → f.log.got ≡ e.log.got → f.log.put ≡ e.log.put → f.log.runs ≡ e.log.runs → IsNewTo (closed_in journal) e.id →
     EndsStay journal (e ∷ spent) (f ∷ spent)
 ends-flagged journal e f spent id got put runs unclosed = record {
@@ -139,7 +143,7 @@ ends-flagged journal e f spent id got put runs unclosed = record {
     runs-at k false g = rw (id, g) refl
 
     broken-at : (k : SocketId) → is_among k (closed_in journal) ≡ true → (b : Bool) → same_socket k e.id ≡ b → broken_of (end_at (f ∷ spent) k) ≡ broken_of (end_at (e ∷ spent) k)
-    broken-at k c true g = absurd (differ (sym (subst (IsNewTo (closed_in journal)) (sym (same_equal k e.id g)) unclosed) ∙ c))
+    broken-at k c true g = unclosed-one journal k e.id _ unclosed c g
     broken-at k c false g = rw (id, g) refl
 
 -- ---- a record whose feed is written
@@ -258,16 +262,16 @@ kept-put r k c now room answer (Some v) None facts out was is x = absurd x
 
 module _ (r : RecordNow) (h : IsRecord r) (c : CoreNow) (facts : c.facts ≡ r.core.facts) (out : c.live.out ≡ r.core.live.out) (now : ℕ) (room : Rooms) (ends : room.ends ≡ r.room.ends) where
   -- the trails, beside the feed's end
-  trails-before : (v : FeedNow) → r.core.live.feed ≡ Some v → HaveTrails r.core.facts.node.entity (v.end ∷ r.spent) r.journal r.trails
+  pub trails-before : (v : FeedNow) → r.core.live.feed ≡ Some v → HaveTrails r.core.facts.node.entity (v.end ∷ r.spent) r.journal r.trails
   trails-before v was = subst (λ (o : Option FeedNow). HaveTrails r.core.facts.node.entity (feed_end o ++ r.spent) r.journal r.trails) was h.trails
 
-  trails-on : (v w : FeedNow) → r.core.live.feed ≡ Some v → c.live.feed ≡ Some w → (journal : List Entry) → w.end.id ≡ v.end.id → LogGoesOn v.end.log w.end.log →
+  pub trails-on : (v w : FeedNow) → r.core.live.feed ≡ Some v → c.live.feed ≡ Some w → (journal : List Entry) → w.end.id ≡ v.end.id → LogGoesOn v.end.log w.end.log →
       HaveTrails r.core.facts.node.entity (v.end ∷ r.spent) journal r.trails → HaveTrails c.facts.node.entity (feed_end c.live.feed ++ r.spent) journal r.trails
   trails-on v w was is journal id go t = subst (λ (f : SideFacts). HaveTrails f.node.entity (feed_end c.live.feed ++ r.spent) journal r.trails) (sym facts)
       (subst (λ (o : Option FeedNow). HaveTrails r.core.facts.node.entity (feed_end o ++ r.spent) journal r.trails) (sym is)
       (trails-go-on r.core.facts.node.entity (v.end ∷ r.spent) (w.end ∷ r.spent) journal r.trails (first-goes-on v.end w.end r.spent id go) t))
 
-  stayed : (v w : FeedNow) (held : Bool) → r.core.live.feed ≡ Some v → c.live.feed ≡ Some w → IsWellKept (record r { core = c; journal = r.journal ++ []; held = held; room = room }) →
+  pub stayed : (v w : FeedNow) (held : Bool) → r.core.live.feed ≡ Some v → c.live.feed ≡ Some w → IsWellKept (record r { core = c; journal = r.journal ++ []; held = held; room = room }) →
       Stays r.core c → w.end.id ≡ v.end.id → w.end.log.got ≡ v.end.log.got → w.end.log.put ≡ v.end.log.put → w.end.log.runs ≡ v.end.log.runs →
       IsRecord (record r { core = c; journal = r.journal ++ []; held = held; room = room })
   stayed v w held was is kept stays id got put runs = subst (λ (l : List Entry). IsWellKept (record r { core = c; journal = l; held = held; room = room }) → IsRecord (record r { core = c; journal = l; held = held; room = room })) (sym (append-nil r.journal))

@@ -28,7 +28,7 @@ use Rattle.m2_record.proofs.Trailing.{unread-same}
 
 -- ---- what is settled
 
-either : (a b : Bool) → b ≡ true → (a || b) ≡ true
+pub either : (a b : Bool) → b ≡ true → (a || b) ≡ true
 either true b h = refl
 either false b h = h
 

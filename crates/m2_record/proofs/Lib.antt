@@ -16,6 +16,7 @@ pub mod Going
 pub mod Naming
 pub mod Opening
 pub mod HasPut
+pub mod HasGot
 pub mod Owning
 pub mod Broken
 pub mod Standing

@@ -46,25 +46,25 @@ same-feed_end None None e = refl
 same-feed_end (Some v) None e = absurd e
 same-feed_end None (Some w) e = absurd e
 
-same-open : (spent : List SeenEnd) (journal : List Entry) (x y : Option FeedNow) → SameEnd x y → FeedIsOpen spent journal x → FeedIsOpen spent journal y
+pub same-open : (spent : List SeenEnd) (journal : List Entry) (x y : Option FeedNow) → SameEnd x y → FeedIsOpen spent journal x → FeedIsOpen spent journal y
 same-open spent journal (Some v) (Some w) e h = subst (λ (x : SeenEnd). IsOpenAmong spent journal x.id) (sym e) h
 same-open spent journal None None e h = tt
 same-open spent journal (Some v) None e h = absurd e
 same-open spent journal None (Some w) e h = absurd e
 
-same-room : (n : ℕ) (x y : Option FeedNow) → SameEnd x y → FeedHasRoom n x → FeedHasRoom n y
+pub same-room : (n : ℕ) (x y : Option FeedNow) → SameEnd x y → FeedHasRoom n x → FeedHasRoom n y
 same-room n (Some v) (Some w) e h = h
 same-room n None None e h = tt
 same-room n (Some v) None e h = absurd e
 same-room n None (Some w) e h = absurd e
 
-same-whole : (x y : Option FeedNow) → SameEnd x y → FeedIsWhole x → FeedIsWhole y
+pub same-whole : (x y : Option FeedNow) → SameEnd x y → FeedIsWhole x → FeedIsWhole y
 same-whole (Some v) (Some w) e h = ap (λ (x : SeenEnd). x.log.closed) e ∙ h
 same-whole None None e h = tt
 same-whole (Some v) None e h = absurd e
 same-whole None (Some w) e h = absurd e
 
-same-held : (x y : Option FeedNow) → SameEnd x y → OnFeedNow x (λ v. v.end.log.blocked ≡ true) → OnFeedNow y (λ v. v.end.log.blocked ≡ true)
+pub same-held : (x y : Option FeedNow) → SameEnd x y → OnFeedNow x (λ v. v.end.log.blocked ≡ true) → OnFeedNow y (λ v. v.end.log.blocked ≡ true)
 same-held (Some v) (Some w) e h = ap (λ (x : SeenEnd). x.log.blocked) e ∙ h
 same-held None y e h = absurd h
 same-held (Some v) None e h = absurd e

@@ -121,9 +121,11 @@ pub trail-there : (kind : ℕ) (ends : List SeenEnd) (journal : List Entry) (ts 
 trail-there kind ends journal ts k h = at-socket kind ends journal ts k h.each
 
 -- that of the first end
+pub first-here : (e : SeenEnd) (ends : List SeenEnd) (o : Option TrailNow) → Beside o (log_at (e ∷ ends) e.id) → Beside o e.log
+first-here e ends o h = subst (λ (b : Bool). Beside o (log_of (if b then Some e else end_at ends e.id))) (same_refl e.id) h
+
 pub first-there : (kind : ℕ) (e : SeenEnd) (ends : List SeenEnd) (journal : List Entry) (ts : List TrailNow) → HaveTrails kind (e ∷ ends) journal ts → Beside (trail_at ts e.id) e.log
-first-there kind e ends journal ts h =
-    subst (λ (b : Bool). Beside (trail_at ts e.id) (log_of (if b then Some e else end_at ends e.id))) (same_refl e.id) (trail-there kind (e ∷ ends) journal ts e.id h)
+first-there kind e ends journal ts h = first-here e ends (trail_at ts e.id) (trail-there kind (e ∷ ends) journal ts e.id h)
 
 -- ---- one entry more
 

@@ -30,6 +30,8 @@ use Rattle.m2_fabric.specs.Sockets.{IsNewTo, goes_to, same_socket}
 use Rattle.m2_feed.specs.FeedNow.{FeedNow}
 use Rattle.m2_feed.specs.declared.answers.FeedWrite.{FeedWrite}
 use Rattle.m2_feed.specs.declared.answers.FeedWrite.TheVariants as put
+use Rattle.m2_heard.specs.declared.fault.WireFault.{WireFault}
+use Rattle.m2_heard.specs.declared.fault.WireFault.TheVariants as fault
 use Rattle.m2_handshake.specs.declared.answer.HalfStep.{HalfStep}
 use Rattle.m2_handshake.specs.declared.answer.HalfStep.TheVariants as half
 use Rattle.m2_journal.specs.declared.entry.Entry.{Entry}
@@ -70,6 +72,11 @@ pub record HasNoLess (old new : Rooms) : Type 0 where
 pub record HasRoomFor (n : ℕ) (r : Rooms) : Type 0 where
   pub entries : n ≤ r.entries
   pub parcels : n ≤ r.parcels
+
+-- a feed can be closed for a fault: its entry fits, and the two parcels of what that may hand out
+pub record HasRoomToClose (r : Rooms) : Type 0 where
+  pub entries : 0 < r.entries
+  pub parcels : 2 ≤ r.parcels
 
 -- ---- the plan
 
@@ -248,6 +255,16 @@ pub record WritesFeedOnce (answer : FeedWrite) (now : ℕ) (old new : RecordNow)
     room = new.room;
   }
 
+-- how many entries fit then
+abbrev pub room_put : FeedWrite → ℕ → ℕ
+room_put (put.Put n acknowledged) room = room - 1
+room_put answer room = room
+
+-- a fault that a write finds: its end has failed
+abbrev pub fault_put : FeedWrite → Option WireFault
+fault_put put.Failed = Some fault.Failed
+fault_put _ = None
+
 -- ---- handing out
 
 -- the first parcel that is ready goes; none exactly where none is
@@ -318,6 +335,37 @@ after_breaking now r =
 -- all but the room is as a fault of the feed leaves it
 abbrev pub Breaks : (now : ℕ) → RecordNow → RecordNow → Type 0
 Breaks now old new = new ≡ record (after_breaking now old) { room = new.room }
+
+-- where a fault is found the feed is broken
+abbrev pub IsBrokenFor : Option WireFault → RecordNow → Type 0
+IsBrokenFor (Some f) r = FeedIsBroken r
+IsBrokenFor None r = Unit {0}
+
+-- and there is room to close it
+abbrev pub FitsClosing : Option WireFault → Rooms → Type 0
+FitsClosing (Some f) r = HasRoomToClose r
+FitsClosing None r = Unit {0}
+
+-- no room is taken where a fault is found
+abbrev pub KeepsRoomFor : Option WireFault → (old new : Rooms) → Type 0
+KeepsRoomFor (Some f) old new = new ≡ old
+KeepsRoomFor None old new = Unit {0}
+
+-- for a fault the feed is closed, and else nothing more is done
+abbrev pub ClosesFor : Option WireFault → (now : ℕ) → RecordNow → RecordNow → Type 0
+ClosesFor (Some f) now mid new = Breaks now mid new
+ClosesFor None now mid new = new ≡ mid
+
+-- what is given back then: where the feed is closed, what is held for it
+abbrev pub returned_for : Option WireFault → RecordNow → ℕ
+returned_for (Some f) r = core.held r.core.live.granted
+returned_for None r = 0
+
+-- the feed's end is written once, and the feed is closed where that finds a fault
+pub record Writes (answer : FeedWrite) (now : ℕ) (old new : RecordNow) : Type 0 where
+  pub mid : RecordNow
+  pub once : WritesFeedOnce answer now old mid
+  pub closes : ClosesFor (fault_put answer) now mid new
 
 -- ---- composing
 

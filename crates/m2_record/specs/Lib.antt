@@ -6,4 +6,5 @@ pub mod RecordNow
 pub mod IsRecord
 pub mod Due
 pub mod Calls
+pub mod Reading
 pub mod Laws

@@ -17,6 +17,7 @@ pub(crate) fn put_closed<E: End>(closed: Option<E>, journal: &mut EntryList, spe
     requires entries { 0 < journal.old.room }
     requires ends { FitsClosed (option_map E.seen closed) (vec_capacity spent.old - vec_len spent.old) }
     ensures journal { journal.new.items ≡ journal.old.items ++ closed_entries (option_map E.seen closed) }
+    ensures entries { KeepsEnds (option_map E.seen closed) journal.old.room journal.new.room }
     ensures spent { map E.seen spent.new.items ≡ map E.seen spent.old.items ++ option_to_list (option_map E.seen closed) }
     ensures ends { KeepsEnds (option_map E.seen closed) (vec_capacity spent.old - vec_len spent.old) (vec_capacity spent.new - vec_len spent.new) }
 {

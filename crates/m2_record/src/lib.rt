@@ -6,8 +6,8 @@
 //! record by its journal and its logs alone. What it isn't: a thread, a port or a clock. It takes the
 //! moment, the numbers and the grants as its caller hands them in, and opens no socket.
 //!
-//! What it doesn't have yet: the judging of asks, reading, and what the frames that are read lead to; so no
-//! call takes the first step that is due.
+//! What it doesn't have yet: the judging of asks, and what the frames that are read lead to; so no call takes
+//! the first step that is due.
 //!
 //! `specs/Due.antt` has the table of due steps. `specs/RecordNow.antt` says what contracts see of a record,
 //! `specs/Sources.antt` what its journal speaks of.
@@ -24,11 +24,15 @@ mod moving;
 mod news;
 mod parts;
 mod planned;
+mod reading;
 mod record;
+mod stepped;
 mod waits;
 
 pub use composing::Composed;
 pub use due::Due;
 pub use laws::waits_double;
+pub use reading::RecordRead;
 pub use record::{MOST_STEPS, Record};
+pub use stepped::Stepped;
 pub use waits::Waits;

@@ -4,7 +4,7 @@ ghost use Rattle.std.specs.Prelude.{◌≡◌, ◌-◌, ◌<◌, ◌++◌, false
 ghost use Rattle.m2_core.specs.CoreNow.{OnFeedNow, held};
 ghost use Rattle.m2_feed.specs.Calls.{is_empty};
 ghost use Rattle.m2_shared.specs.Place.{IsAlone};
-ghost use Rattle.m2_record.specs.Calls.{Breaks, FeedIsBroken, HasRoomFor, IsCounted, Owns, WritesFeedOnce, entries_put, held_after, moment_after};
+ghost use Rattle.m2_record.specs.Calls.{Breaks, FeedIsBroken, HasRoomFor, HasRoomToClose, IsBrokenFor, IsCounted, KeepsRoomFor, Owns, Writes, WritesFeedOnce, entries_put, fault_put, held_after, moment_after, returned_for, room_put};
 
 use crate::leaving::{put_closed, put_told};
 use crate::record::Record;
@@ -18,7 +18,9 @@ impl<E: End> Record<E> {
     pub fn write(&mut self, now: u64) -> FeedWrite
         requires feed { OnFeedNow self.old.core.live.feed (λ v. is_empty v.composed ≡ false) }
         requires room { 0 < self.old.room.entries }
-        ensures { WritesFeedOnce result now self.old self.new }
+        ensures writes { WritesFeedOnce result now self.old self.new }
+        ensures broken { IsBrokenFor (fault_put result) self.new }
+        ensures room { KeepsRoomFor (fault_put result) self.old.room self.new.room }
     {
         let Some(feed) = self.core.feed() else {
             unreachable!()
@@ -29,12 +31,39 @@ impl<E: End> Record<E> {
         self.held = held_after(answer, self.held);
         answer
     }
+    /// Writes once to the feed's end what is composed there, and closes the feed where that has failed. Two
+    /// entries and parcels are reserved.
+    pub fn write_or_close(
+        &mut self,
+        throttle: &Throttle,
+        pass: &mut TakePass,
+        now: u64,
+    ) -> FeedWrite
+        requires feed { OnFeedNow self.old.core.live.feed (λ v. is_empty v.composed ≡ false) }
+        requires room { HasRoomFor 2 self.old.room }
+        requires pass { pass.old.place ≡ throttle.now.place }
+        requires owned { Owns throttle.now.place self.old }
+        ensures writes { Writes result now self.old self.new }
+        ensures owned { Owns throttle.now.place self.new }
+        ensures place { pass.new.place ≡ pass.old.place }
+        ensures word { IsAlone throttle.now.place → pass.new.word ≡ pass.old.word - returned_for (fault_put result) self.old }
+    {
+        let answer = self.write(now);
+        match answer {
+            FeedWrite::Failed => {
+                self.break_feed(throttle, pass, now);
+                answer
+            }
+            _ => answer,
+        }
+    }
+
     /// Closes the feed: its end has failed or ended, or the bytes that were got on it are a fault. What is
     /// owed then is ready for the dispatcher, what a throttle granted for the feed is given back, and where
-    /// the phase becomes Wait, a wait begins. Two entries and parcels are reserved.
+    /// the phase becomes Wait, a wait begins. One entry and two parcels are reserved.
     pub fn break_feed(&mut self, throttle: &Throttle, pass: &mut TakePass, now: u64)
         requires broken { FeedIsBroken self.old }
-        requires room { HasRoomFor 2 self.old.room }
+        requires room { HasRoomToClose self.old.room }
         requires pass { pass.old.place ≡ throttle.now.place }
         requires owned { Owns throttle.now.place self.old }
         ensures breaks { Breaks now self.old self.new }
@@ -77,6 +106,7 @@ fn note_put(answer: FeedWrite, socket: SocketId, now: u64, journal: &mut EntryLi
     requires count { IsCounted answer }
     requires room { 0 < journal.old.room }
     ensures journal { journal.new.items ≡ journal.old.items ++ entries_put answer socket }
+    ensures room { journal.new.room ≡ room_put answer journal.old.room }
     ensures last { last.new ≡ moment_after answer now last.old }
 {
     match answer {

@@ -1,6 +1,7 @@
 //! What a record lends.
 
 ghost use Rattle.std.specs.Prelude.{◌≡◌, map};
+ghost use Rattle.m2_record.specs.Due.{on_feed};
 ghost use Rattle.m2_record.specs.IsRecord.{IsRecord};
 ghost use Rattle.m2_record.specs.RecordNow.{feed_end};
 ghost use Rattle.m2_trail.specs.Trails.{trail_now};
@@ -8,6 +9,7 @@ ghost use Rattle.std.specs.Option.{option_map, option_to_list};
 
 use crate::record::Record;
 use m2_fabric::End;
+use m2_feed::Feed;
 use m2_journal::{EntryList, NodeFacts, PlanList};
 use m2_session::Session;
 use m2_trail::TrailList;
@@ -87,6 +89,26 @@ impl<E: End> Record<E> {
         self.waits.next_dial
     }
 
+    /// Whether the feed's last read answered that nothing is there yet. False where there is no feed.
+    pub fn dry(&self) -> bool
+        ensures { result ≡ on_feed (λ v. v.end.log.dry) self.now.core.live.feed }
+    {
+        match self.core.feed() {
+            Some(feed) => is_dry(feed),
+            None => false,
+        }
+    }
+
+    /// Whether the feed's last write answered that it can't yet. False where there is no feed.
+    pub fn blocked(&self) -> bool
+        ensures { result ≡ on_feed (λ v. v.end.log.blocked) self.now.core.live.feed }
+    {
+        match self.core.feed() {
+            Some(feed) => is_blocked(feed),
+            None => false,
+        }
+    }
+
     /// Whether the feed's last write answered that it can't yet, and no step has found since that nothing
     /// is to be done but that.
     pub fn held(&self) -> bool
@@ -108,4 +130,18 @@ impl<E: End> Record<E> {
     {
         self.last
     }
+}
+
+/// Whether the last read of a feed's end answered that nothing is there yet.
+fn is_dry<E: End>(feed: &Feed<E>) -> bool
+    ensures { result ≡ feed.now.end.log.dry }
+{
+    feed.end().log().dry
+}
+
+/// Whether the last write of a feed's end answered that it can't yet.
+fn is_blocked<E: End>(feed: &Feed<E>) -> bool
+    ensures { result ≡ feed.now.end.log.blocked }
+{
+    feed.end().log().blocked
 }

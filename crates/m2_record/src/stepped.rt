@@ -1,0 +1,25 @@
+//! What a step answered.
+
+use m2_dispatcher::Parcel;
+use m2_heard::WireFault;
+
+/// What a step answered. It may hold a parcel, so it can't be dropped.
+pub enum Stepped {
+    /// Something was done, or a write answered that it can't yet.
+    Moved,
+    /// A parcel is handed out.
+    Hand(Parcel),
+    /// Nothing but a connect is due, or the read of this step answered that nothing is there yet.
+    Dry,
+    /// So many bytes are out that the size of a MESSAGE has to wait.
+    Full { held: u64 },
+    /// Another thread changed the throttle or the counter of global numbers at that moment. One may try
+    /// again.
+    Again { seen: u64, now: u64 },
+    /// No global number is left for an ask.
+    Spent,
+    /// The feed was closed for this cause.
+    Faulted(WireFault),
+    /// Nothing was done.
+    NoMemory,
+}
