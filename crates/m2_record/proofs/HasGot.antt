@@ -11,8 +11,9 @@ use Rattle.m2_core.specs.Calls.{tells_if}
 use Rattle.m2_core.specs.CoreNow.{CoreNow, LiveNow, OnFeedNow}
 use Rattle.m2_core.specs.CoreNow as core
 use Rattle.m2_core.specs.Effects.{closed_if, tells}
-use Rattle.m2_core.specs.Hearing.{HasRead, Heeds, IsFaultHeard, IsRead, IsReadEntry, PassesFeed, ReadNow, ReadsFeed, TakesAnswer, effects_heard, heard_after, resumed_by}
+use Rattle.m2_core.specs.Hearing.{HasRead, Heeds, IsFaultHeard, IsRead, IsReadEntry, ReadNow, ReadsFeed, TakesAnswer, effects_heard, heard_after, resumed_by_answer}
 use Rattle.m2_core.specs.Moves.{live_with}
+use Rattle.m2_core.specs.Passing.{PassesFeed}
 use Rattle.m2_dispatcher.specs.Parcel.{IsOwned}
 use Rattle.m2_edge.specs.Faults.{HasRisen}
 use Rattle.m2_fabric.specs.declared.end.EndRead.{EndRead}
@@ -163,7 +164,7 @@ module _ (P : LiveNow → Type 0) (told : (e : Event) (l : LiveNow) → P l → 
   told-if None l h = h
 
   taken : (h : Heard) (l new : LiveNow) → TakesAnswer h l new → P l → P new
-  taken h l new w p = subst P (sym w.live) (told-if (event_of h) (record l { feed = w.passed; resumed = resumed_by h l.resumed }) (moved w.passed (resumed_by h l.resumed) l p))
+  taken h l new w p = subst P (sym w.live) (told-if (event_of h) (record l { feed = w.passed; resumed = resumed_by_answer h l.resumed }) (moved w.passed (resumed_by_answer h l.resumed) l p))
 
   heeded : (o : Option Heard) (l new : LiveNow) → Heeds o l new → P l → P new
   heeded None l new w p = subst P (sym w) p
