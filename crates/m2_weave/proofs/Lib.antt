@@ -10,3 +10,4 @@ pub mod Counting
 pub mod Tallies
 pub mod Whole
 pub mod Along
+pub mod Tidy

@@ -15,7 +15,7 @@ use Rattle.m2_weave.specs.Laws.{RuleStaysMet}
 
 -- ---- sums rise
 
-total-rises : (f : StrandItem → ℕ) (m n : ℕ) (is : List StrandItem) → m ≤ n → total f (take m is) ≤ total f (take n is)
+pub total-rises : (f : StrandItem → ℕ) (m n : ℕ) (is : List StrandItem) → m ≤ n → total f (take m is) ≤ total f (take n is)
 total-rises f zero n is h = omega arith
 total-rises f (suc m) zero is h = absurd (omega (arith, h))
 total-rises f (suc m) (suc n) [] h = omega arith

@@ -5,3 +5,4 @@ pub mod Counting
 pub mod Table
 pub mod Laws
 pub mod Tally
+pub mod Tidy

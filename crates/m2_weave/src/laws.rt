@@ -2,6 +2,7 @@
 //! the law that its contract names.
 
 ghost use Rattle.m2_weave.specs.Laws as laws;
+ghost use Rattle.m2_weave.specs.Tidy.{TidyStopsAreReads};
 
 use m2_merge::greedy_is_an_order;
 
@@ -42,4 +43,10 @@ pub fn counters_decide()
 /// a half wrote came behind the judgement of all that it had handed on.
 pub fn asks_come_first()
     ensures { laws.AsksComeFirst }
+{}
+
+/// Where strands wait in no circle, as those of records do, a stop is at a read: it names its socket, its
+/// side, the place, and the byte that the other end hasn't written there by then, or has written otherwise.
+pub fn tidy_stops_are_reads()
+    ensures { TidyStopsAreReads }
 {}

@@ -23,7 +23,7 @@ mod weaving;
 
 pub use laws::{
     a_stop_is_no_order, all_read_was_written, asks_come_first, counters_decide, rule_decides,
-    rule_stays_met, unfit_is_the_first,
+    rule_stays_met, tidy_stops_are_reads, unfit_is_the_first,
 };
 pub use stopping::first_stop;
 pub use strand::{Strand, StrandItem};

@@ -262,7 +262,8 @@ fn unfit_read(
 
 /// Behind so many items of each strand, as [`weave`](crate::weave) tells them: the byte at which the first
 /// strand stands that stands at a read which may not come; none where each strand that isn't at its end
-/// waits for a judgement, or for an ask to be handed on. It goes through the items once for each such
+/// waits for a judgement, or for an ask to be handed on, which tidy strands don't
+/// ([`tidy_stops_are_reads`](crate::tidy_stops_are_reads)). It goes through the items once for each such
 /// strand. Counts above 2^64 - 1 are answered as for want of memory.
 pub fn first_stop(
     strands: &[Strand],
