@@ -1,7 +1,7 @@
 -- A feed's end is read once, and an answer that is completed so is taken.
 use Rattle.std.specs.Prelude.{◌⊎◌}
 use Rattle.std.specs.Option.{is_some, option_to_list}
-use Rattle.std.proofs.Common.{◌≡◌, ℕ, ◌+◌, ◌<◌, ◌≤◌, ◌^◌, ◌==◌, not, if◌then◌else◌, Bool, true, false, List, [], ◌∷◌, ◌++◌, map, option_map, take, drop, length, Option, Some, None, inl, inr, refl, sym, ap, subst, ◌∙◌, arith}
+use Rattle.std.proofs.Common.{◌≡◌, ℕ, ◌+◌, ◌<◌, ◌≤◌, ◌==◌, not, if◌then◌else◌, Bool, true, false, List, [], ◌∷◌, ◌++◌, map, option_map, take, drop, length, Option, Some, None, inl, inr, refl, sym, ap, subst, ◌∙◌, arith}
 use Rattle.std.proofs.Math.Seq.{drop-append_seam, take-length}
 use Rattle.std.proofs.lemmas.Bool.Decides.{nat_tests}
 use Rattle.std.proofs.lemmas.List.{append-nil}
@@ -59,7 +59,7 @@ use Rattle.m2_record.specs.Calls.{BytesAreBroken, FitsClosing, HasRoomFor, HasRo
 use Rattle.m2_record.specs.Entered.{AreSettled, HaveRead}
 use Rattle.m2_record.specs.IsRecord.{FeedHasRoom, FeedIsOpen, FeedIsWhole, FitFrames, IsOpenAmong, IsRecord, IsReplayedTo, IsWellKept, closed_in, feeds_in}
 use Rattle.m2_record.specs.Reading.{IsReadCounted, ReadsFeedOnce, entries_read, fault_by, fault_heard, held_read, read_entries, waits_read, moment_read}
-use Rattle.m2_record.specs.RecordNow.{RecordNow, Rooms, feed_end, ids_of, speaks_of}
+use Rattle.m2_record.specs.RecordNow.{RecordNow, Rooms, feed_end, ids_of}
 use Rattle.m2_record.specs.Sources.{broken_of, end_at, is_broken_end, log_at, put_of, read_before, runs_before, sources_of, trail_at, written_before}
 use Rattle.m2_record.specs.TakenTrails.{HaveTrails}
 use Rattle.m2_record.specs.Waits.{IsWithin}
@@ -74,7 +74,7 @@ use Rattle.m2_record.proofs.Names.{differ, same_refl}
 use Rattle.m2_record.proofs.Opens.{closed-more}
 use Rattle.m2_record.proofs.Owning.{tells-owned}
 use Rattle.m2_record.proofs.Standing.{SameEnd, same-feed_end, same-held, same-open, same-room, same-whole}
-use Rattle.m2_record.proofs.Telling.{Beside, beside, feed_left, spent_if}
+use Rattle.m2_record.proofs.Telling.{Beside, beside, feed_left}
 use Rattle.m2_record.proofs.Trailing as trailing
 use Rattle.m2_record.proofs.Trailing.{LogGoesOn, closed-behind, ends-go-on, first-goes-on, first-here, prefix-same, runs-more, trail-there, trails-go-on, trails-more, unread-stays}
 use Rattle.m2_shared.specs.Place.{Place}

@@ -1,5 +1,5 @@
 -- Trails beside the logs of their ends, as these go on and the journal does.
-use Rattle.std.proofs.Common.{◌≡◌, ℕ, ◌+◌, ◌≤◌, Bool, true, false, List, [], ◌∷◌, ◌++◌, drop, take, length, map, Option, Some, None, refl, sym, ap, subst, ◌∙◌, arith, length-append}
+use Rattle.std.proofs.Common.{◌≡◌, ℕ, ◌≤◌, Bool, true, false, List, [], ◌∷◌, ◌++◌, drop, take, length, Option, Some, None, refl, sym, ap, subst, ◌∙◌, arith, length-append}
 use Rattle.std.specs.Prelude.{IfSome, if◌then◌else◌}
 use Rattle.std.specs.List.{AllByRecursion, filter_map}
 use Rattle.std.specs.Option.{option_to_list}
@@ -16,7 +16,7 @@ use Rattle.m2_journal.specs.declared.entry.Entry.{Entry}
 use Rattle.m2_journal.specs.declared.entry.Entry.TheVariants as entry
 use Rattle.m2_journal.specs.Lawful.{judged_on}
 use Rattle.m2_journal.specs.State.{Judgement}
-use Rattle.m2_trail.specs.Laws.{GoesOn, IsWithin}
+use Rattle.m2_trail.specs.Laws.{GoesOn}
 use Rattle.m2_trail.specs.Replies.{replies_to}
 use Rattle.m2_trail.specs.Trails as trail
 use Rattle.m2_trail.specs.Trails.{TrailNow, opener_of, read_by, unread_of}
