@@ -1,8 +1,11 @@
-//! Tests of bytes, tags, checksums, addresses and control payloads: values from outside, and calls near the bounds
+//! Tests of the wire, from bytes to the handshake: values from outside, recorded texts, and calls near the bounds
 //! of what they take.
 //!
 //! What it is: a file for each crate. They stand apart from the crates, since a crate with tests is proved
 //! twice. What it isn't: what a clause says already.
+//!
+//! Where values are compared with many others they stand in a table, and what can end early works on borrowed
+//! values: a test is proved too, and a long one that owns much is dear.
 #![tactic(auto)]
 
 #[cfg(test)]
@@ -13,5 +16,11 @@ mod bytes;
 mod control;
 #[cfg(test)]
 mod crc;
+#[cfg(test)]
+mod frame;
+#[cfg(test)]
+mod handshake;
+#[cfg(test)]
+mod message_frame;
 #[cfg(test)]
 mod tag;

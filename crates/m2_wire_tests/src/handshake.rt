@@ -74,14 +74,6 @@ fn part(bytes: &[u8], from: usize, to: usize) -> &[u8] {
     }
 }
 
-fn client_text() -> &'static [u8] {
-    &CLIENT
-}
-
-fn server_text() -> &'static [u8] {
-    &SERVER
-}
-
 fn at(port: u16, nonce: u32) -> Addr {
     Addr {
         kind: 2,
@@ -122,23 +114,6 @@ fn tell(half: &mut Half, bytes: &[u8], out: &mut Blob) -> HalfStep {
     last
 }
 
-/// One exchange: what was written to each side is fed byte by byte, and is kept in its record.
-fn exchange(
-    client: &mut Half,
-    server: &mut Half,
-    to_server: &mut Blob,
-    to_client: &mut Blob,
-    client_wrote: &mut Blob,
-    server_wrote: &mut Blob,
-) -> Result<(), NoMemory> {
-    to_server.clear();
-    tell(client, to_client.as_slice(), to_server);
-    to_client.clear();
-    tell(server, to_server.as_slice(), to_client);
-    client_wrote.push_all(to_server.as_slice())?;
-    server_wrote.push_all(to_client.as_slice())
-}
-
 /// The payload of the frame that a finished half hands on.
 fn handed_on(half: Half) -> Option<Blob> {
     if !half.is_ready() {
@@ -151,83 +126,77 @@ fn handed_on(half: Half) -> Option<Blob> {
     }
 }
 
+/// Whether a half that is fed these bytes one by one is authed then, and has written those.
+fn is_authed(half: &mut Half, alloc: Global, fed: &[u8], wrote: &[u8]) -> bool {
+    let mut out = Blob::empty(alloc);
+    tell(half, fed, &mut out) == HalfStep::Authed && out.as_slice() == wrote
+}
+
 #[test]
 fn two_halves_byte_by_byte_are_authed_and_leave_the_ask_unread(
     rt: HostRuntime,
 ) -> Result<(), Fail> {
     let alloc = rt.alloc();
     let mut client = a_client(alloc);
-    let mut server = a_server(alloc);
-    let mut to_server = Blob::empty(alloc);
-    let mut to_client = Blob::empty(alloc);
-    let mut client_wrote = Blob::empty(alloc);
-    let mut server_wrote = Blob::empty(alloc);
-    for _ in 0..5 {
-        exchange(
-            &mut client,
-            &mut server,
-            &mut to_server,
-            &mut to_client,
-            &mut client_wrote,
-            &mut server_wrote,
-        )?;
-    }
+    assert!(rt; is_authed(&mut client, alloc, &SERVER, &CLIENT));
     assert_eq!(rt; client.stage(), Stage::Authed);
-    assert_eq!(rt; tell(&mut server, &IDENT, &mut to_client), HalfStep::Authed);
-    assert_eq!(rt; client_wrote.as_slice(), client_text());
-    assert_eq!(rt; server_wrote.as_slice(), server_text());
+    let mut server = a_server(alloc);
+    assert!(rt; is_authed(&mut server, alloc, &CLIENT, &SERVER));
+    assert!(rt; is_authed(&mut server, alloc, &IDENT, b""));
     let ask = handed_on(server).ok_or("no ask")?;
-    assert_eq!(rt; ask.as_slice(), part(&IDENT, 32, 155));
+    assert_eq!(rt; ask.as_slice(), &IDENT[32..155]);
     Ok(())
 }
 
 #[test]
-fn another_method_is_answered_and_asked_again(rt: HostRuntime) -> Result<(), Fail> {
-    let alloc = rt.alloc();
-    let mut server = a_server(alloc);
-    let mut out = Blob::empty(alloc);
-    tell(&mut server, part(client_text(), 0, 98), &mut out);
-    out.clear();
+fn another_method_is_answered_and_asked_again(rt: HostRuntime) {
+    let mut server = a_server(rt.alloc());
+    let mut out = Blob::empty(rt.alloc());
+    tell(&mut server, &CLIENT[..98], &mut out);
     assert_eq!(rt;
         tell(&mut server, &OTHER_METHOD, &mut out),
         HalfStep::NotYet
     );
-    assert_eq!(rt; out.as_slice(), REFUSAL.as_slice());
-    out.clear();
-    let rest = part(client_text(), 98, 218);
-    assert_eq!(rt; tell(&mut server, rest, &mut out), HalfStep::Authed);
-    assert_eq!(rt; out.as_slice(), part(server_text(), 98, 218));
-    Ok(())
+    assert_eq!(rt;
+        tell(&mut server, &CLIENT[98..], &mut out),
+        HalfStep::Authed
+    );
+    assert_eq!(rt; part(out.as_slice(), 98, 158), REFUSAL.as_slice());
+    assert_eq!(rt; part(out.as_slice(), 158, 278), &SERVER[98..]);
 }
 
 #[test]
 fn an_opener_takes_the_refusal_for_a_fault_and_keeps_it(rt: HostRuntime) {
-    let alloc = rt.alloc();
-    let mut client = a_client(alloc);
-    let mut out = Blob::empty(alloc);
+    let mut client = a_client(rt.alloc());
+    let mut out = Blob::empty(rt.alloc());
     let refused = HalfStep::Fault(HalfFault::BadAuth);
-    tell(&mut client, part(server_text(), 0, 98), &mut out);
+    tell(&mut client, &SERVER[..98], &mut out);
     assert_eq!(rt; tell(&mut client, &REFUSAL, &mut out), refused);
-    assert_eq!(rt;
-        tell(&mut client, part(server_text(), 98, 218), &mut out),
-        refused
-    );
+    assert_eq!(rt; tell(&mut client, &SERVER[98..], &mut out), refused);
 }
 
-/// Feeds bytes to a server and asks it: 0 for an ident, 1 for a reconnect, 2 for nothing; the tag of
-/// an unexpected frame, 100 for an unknown peer, 101 for another fault; 102 where it can't be asked.
-fn ask(server: &mut Half, bytes: &[u8]) -> u8 {
+/// What a server says when it is asked.
+#[derive(Clone, Copy, Debug, PartialEq, Eq)]
+enum AskSeen {
+    Ident,
+    Reconnect,
+    NotYet,
+    Fault(HalfFault),
+    /// It can't be asked, or memory ran out.
+    Other,
+}
+
+/// Feeds bytes to a server and asks it.
+fn ask(server: &mut Half, bytes: &[u8]) -> AskSeen {
     if server.feed(bytes).is_err() || !server.can_ask() {
-        return 102;
+        return AskSeen::Other;
     }
     match server.ask() {
-        AskStep::Asked(Ask::Ident(_)) => 0,
-        AskStep::Asked(Ask::Reconnect(_)) => 1,
-        AskStep::NotYet => 2,
-        AskStep::Fault(HalfFault::Unexpected { tag }) => tag,
-        AskStep::Fault(HalfFault::UnknownPeer) => 100,
-        AskStep::Fault(_) => 101,
-        AskStep::NoMemory => 102,
+        AskStep::Asked(Ask::Ident(_)) => AskSeen::Ident,
+        AskStep::Asked(Ask::Reconnect(_)) => AskSeen::Reconnect,
+        AskStep::NotYet => AskSeen::NotYet,
+        AskStep::Fault(fault) => AskSeen::Fault(fault),
+        AskStep::NoMemory => AskSeen::Other,
     }
 }
 
@@ -249,73 +218,57 @@ fn answer(server: &mut Half, away: bool, out: &mut Blob) -> bool {
 fn an_authed(alloc: Global) -> Half {
     let mut server = a_server(alloc);
     let mut out = Blob::empty(alloc);
-    tell(&mut server, client_text(), &mut out);
+    tell(&mut server, &CLIENT, &mut out);
     server
 }
 
 #[test]
 fn asks_are_answered_until_the_end(rt: HostRuntime) {
-    let alloc = rt.alloc();
-    let mut server = an_authed(alloc);
-    let mut out = Blob::empty(alloc);
-    assert_eq!(rt; ask(&mut server, part(&IDENT, 0, 99)), 2);
-    assert_eq!(rt; ask(&mut server, part(&IDENT, 99, 159)), 0);
-    assert_eq!(rt; ask(&mut server, &IDENT), 2);
+    let mut server = an_authed(rt.alloc());
+    let mut out = Blob::empty(rt.alloc());
+    assert_eq!(rt;
+        (server.rests(), ask(&mut server, &IDENT[..67])),
+        (true, AskSeen::NotYet)
+    );
+    assert_eq!(rt; ask(&mut server, &IDENT[67..]), AskSeen::Ident);
+    assert_eq!(rt;
+        (server.rests(), ask(&mut server, &IDENT)),
+        (true, AskSeen::NotYet)
+    );
     assert!(rt; answer(&mut server, false, &mut out));
-    assert_eq!(rt; ask(&mut server, &[]), 0);
+    assert_eq!(rt;
+        (server.rests(), ask(&mut server, &[])),
+        (false, AskSeen::Ident)
+    );
     assert!(rt; answer(&mut server, true, &mut out));
     assert_eq!(rt; part(out.as_slice(), 0, 37), RESET.as_slice());
     assert_eq!(rt; part(out.as_slice(), 37, 69), WAIT.as_slice());
-    assert_eq!(rt; ask(&mut server, &[]), 2);
-    assert_eq!(rt; ask(&mut server, &IDENT), 8);
-    assert_eq!(rt; ask(&mut server, &IDENT), 8);
+    assert_eq!(rt; ask(&mut server, &[]), AskSeen::NotYet);
+    let unexpected = AskSeen::Fault(HalfFault::Unexpected { tag: 8 });
+    assert_eq!(rt; ask(&mut server, &IDENT), unexpected);
+    assert_eq!(rt; ask(&mut server, &IDENT), unexpected);
 }
 
 #[test]
 fn a_later_ask_comes_from_the_address_of_the_first(rt: HostRuntime) {
-    let alloc = rt.alloc();
-    let mut server = an_authed(alloc);
-    let mut out = Blob::empty(alloc);
-    assert_eq!(rt; ask(&mut server, &IDENT), 0);
+    let mut server = an_authed(rt.alloc());
+    let mut out = Blob::empty(rt.alloc());
+    assert_eq!(rt; ask(&mut server, &IDENT), AskSeen::Ident);
     assert!(rt; answer(&mut server, false, &mut out));
-    assert_eq!(rt; ask(&mut server, &stranger()), 100);
-    assert_eq!(rt; ask(&mut an_authed(alloc), &WAIT), 16);
-}
-
-/// What a server says of many bytes that it has made room for.
-fn hear_many(alloc: Global, count: usize) -> Result<HalfStep, NoMemory> {
-    let mut server = a_server(alloc);
-    let mut out = Blob::empty(alloc);
-    let bytes = vec![in alloc; 0u8; count]?;
-    server.reserve(count)?;
-    server.feed(bytes.as_slice())?;
-    Ok(run(&mut server, &mut out))
-}
-
-#[test]
-fn a_half_rests_where_it_has_nothing_to_do(rt: HostRuntime) -> Result<(), Fail> {
-    let alloc = rt.alloc();
-    let mut server = a_server(alloc);
-    let mut out = Blob::empty(alloc);
-    assert!(rt; !server.rests());
-    tell(&mut server, part(client_text(), 0, 20), &mut out);
-    assert!(rt; server.rests());
-    server.feed(part(client_text(), 20, 26))?;
-    assert!(rt; !server.rests());
-    let mut authed = an_authed(alloc);
-    assert!(rt; authed.rests());
-    assert_eq!(rt; ask(&mut authed, &IDENT), 0);
-    assert!(rt; authed.rests());
-    assert!(rt; answer(&mut authed, false, &mut out));
-    authed.feed(&IDENT)?;
-    assert!(rt; !authed.rests());
-    Ok(())
+    let unknown = AskSeen::Fault(HalfFault::UnknownPeer);
+    assert_eq!(rt; ask(&mut server, &stranger()), unknown);
+    let unexpected = AskSeen::Fault(HalfFault::Unexpected { tag: 16 });
+    assert_eq!(rt; ask(&mut an_authed(rt.alloc()), &WAIT), unexpected);
 }
 
 #[test]
 fn room_is_made_for_64_kib(rt: HostRuntime) -> Result<(), Fail> {
+    let mut server = a_server(rt.alloc());
+    let mut out = Blob::empty(rt.alloc());
+    assert!(rt; server.reserve(65_536).is_ok());
+    assert!(rt; server.feed(&b"\0".repeat(rt.alloc(), 65_536)?).is_ok());
     let bad = HalfStep::Fault(HalfFault::BadBanner);
-    assert_eq!(rt; hear_many(rt.alloc(), 65536)?, bad);
+    assert_eq!(rt; run(&mut server, &mut out), bad);
     Ok(())
 }
 
@@ -323,7 +276,7 @@ fn room_is_made_for_64_kib(rt: HostRuntime) -> Result<(), Fail> {
 fn hear_banner(alloc: Global, supported: u8, required: u8) -> HalfStep {
     let mut server = a_server(alloc);
     let mut out = Blob::empty(alloc);
-    tell(&mut server, part(client_text(), 0, 10), &mut out);
+    tell(&mut server, &CLIENT[..10], &mut out);
     tell(&mut server, &[supported, 0, 0, 0, 0, 0, 0, 0], &mut out);
     tell(&mut server, &[required, 0, 0, 0, 0, 0, 0, 0], &mut out)
 }

@@ -1,6 +1,6 @@
-//! The header of a message from outside, and a message through its frame.
+//! The header of a message from outside, and a message and its copy through a frame.
 
-use m2_bytes::Blob;
+use m2_bytes::{Blob, NoMemory};
 use m2_frame::Frame;
 use m2_message::{Header, Message};
 use m2_message_frame::{HEADER_BYTES, MessageFault, from_frame, to_frame};
@@ -17,7 +17,7 @@ const HEADER: [u8; HEADER_BYTES] = [
 ];
 
 /// The header of those bytes, with other numbers.
-pub(crate) fn header_with(seq: u64, ack_seq: u64) -> Header {
+fn header_with(seq: u64, ack_seq: u64) -> Header {
     Header {
         seq,
         tid: 0,
@@ -33,29 +33,17 @@ pub(crate) fn header_with(seq: u64, ack_seq: u64) -> Header {
     }
 }
 
-/// What is read of a MESSAGE frame with this first segment.
-fn read(alloc: Global, first: &[u8]) -> Result<Result<Message, MessageFault>, Fail> {
-    Ok(from_frame(Frame {
-        tag: Tag::Message.number(),
-        first: Blob::of(alloc, first)?,
-        second: Blob::of(alloc, b"f")?,
-        third: Blob::of(alloc, b"mm")?,
-        fourth: Blob::of(alloc, b"ddd")?,
-    }))
-}
-
 #[test]
-fn a_message_goes_through_a_frame(rt: HostRuntime) -> Result<(), Fail> {
+fn a_copy_of_a_message_goes_through_a_frame(rt: HostRuntime) -> Result<(), Fail> {
     let message = Message {
         header: header_with(5, 6),
         front: Blob::of(rt.alloc(), b"f")?,
         middle: Blob::of(rt.alloc(), b"mm")?,
         tail: Blob::of(rt.alloc(), b"ddd")?,
     };
-    let frame = to_frame(rt.alloc(), &message, 1, 0)?;
-    assert_eq!(rt; frame.tag, Tag::Message.number());
+    let frame = to_frame(rt.alloc(), &message.copy()?, 1, 0)?;
+    assert_eq!(rt; (frame.tag, message.size()), (Tag::Message.number(), 6));
     assert_eq!(rt; frame.first.as_slice(), HEADER.as_slice());
-    assert_eq!(rt; frame.third.as_slice(), b"mm".as_slice());
     let back = from_frame(frame)?;
     assert_eq!(rt; back.header, header_with(1, 0));
     assert_eq!(rt; back.front.as_slice(), b"f".as_slice());
@@ -64,22 +52,22 @@ fn a_message_goes_through_a_frame(rt: HostRuntime) -> Result<(), Fail> {
     Ok(())
 }
 
+/// Whether a MESSAGE frame with this first segment alone is a message.
+fn is_message(alloc: Global, first: &[u8]) -> Result<bool, NoMemory> {
+    let read = from_frame(Frame {
+        tag: Tag::Message.number(),
+        first: Blob::of(alloc, first)?,
+        second: Blob::empty(alloc),
+        third: Blob::empty(alloc),
+        fourth: Blob::empty(alloc),
+    });
+    Ok(!matches!(read, Err(MessageFault::BadHeader)))
+}
+
 #[test]
 fn a_header_has_41_bytes(rt: HostRuntime) -> Result<(), Fail> {
-    assert_eq!(rt; read(rt.alloc(), &HEADER)??.header, header_with(1, 0));
-    let mut long = Blob::of(rt.alloc(), &HEADER)?;
-    long.push_all(&[0])?;
-    assert!(rt;
-        matches!(
-            read(rt.alloc(), long.as_slice())?,
-            Err(MessageFault::BadHeader)
-        )
-    );
-    assert!(rt;
-        matches!(
-            read(rt.alloc(), &HEADER[..40])?,
-            Err(MessageFault::BadHeader)
-        )
-    );
+    assert!(rt; is_message(rt.alloc(), &HEADER)?);
+    assert!(rt; !is_message(rt.alloc(), &[0; HEADER_BYTES + 1])?);
+    assert!(rt; !is_message(rt.alloc(), &HEADER[..40])?);
     Ok(())
 }
