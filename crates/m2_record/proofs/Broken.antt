@@ -72,7 +72,7 @@ or-so true b h = refl
 or-so false b h = h
 
 -- what the end or the bytes on it show
-abbrev Cause : RecordNow → FeedNow → Type 0
+abbrev pub Cause : RecordNow → FeedNow → Type 0
 Cause r v = (is_broken_end v.end ≡ true) ⊎ BytesAreBroken r
 
 on-feed : (r : RecordNow) (s : State) (v : FeedNow) (d : Option Feed) (broken : Bool) → FeedsAgree r.core.facts s (Some v) d → (broken ≡ true) ⊎ OnFeedAt d (λ x. is_broken s x ≡ true) →

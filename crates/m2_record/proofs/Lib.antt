@@ -22,3 +22,5 @@ pub mod Broken
 pub mod Standing
 pub mod Texts
 pub mod Hearing
+pub mod Fronts
+pub mod Heeding

@@ -1,5 +1,5 @@
 -- What a record holds was granted by one throttle, and stays so.
-use Rattle.std.proofs.Common.{◌≡◌, Bool, true, false, List, [], ◌∷◌, ◌++◌, Option, Some, None, refl, sym, ap, subst}
+use Rattle.std.proofs.Common.{◌≡◌, ℕ, Bool, true, false, List, [], ◌∷◌, ◌++◌, Option, Some, None, refl, sym, ap, subst}
 use Rattle.std.specs.List.{AllByRecursion}
 use Rattle.m2_core.specs.Calls.{after_down, after_fault}
 use Rattle.m2_core.specs.CoreNow.{CoreNow, LiveNow}
@@ -44,12 +44,14 @@ one-owned : (place : Place) (b : Bool) (x : Parcel) → IsOwned place x → AllB
 one-owned place true x h = (h, tt)
 one-owned place false x h = tt
 
+pub told-all : (place : Place) (peer : ℕ) (discarded reset : Bool) → AllByRecursion (IsOwned place) (told_parcels peer discarded reset)
+told-all place peer discarded reset = all-more (IsOwned place) (one_if discarded (parcel.Discard peer)) (one_if reset (parcel.RemoteReset peer))
+    (one-owned place discarded (parcel.Discard peer) tt) (one-owned place reset (parcel.RemoteReset peer) tt)
+
 owned-told : (place : Place) (v : Event) (r new : RecordNow) (discarded reset : Bool) → Owns place r → new.core.live ≡ effects.tells v r.core.live → new.parcels ≡ r.parcels ++ told_parcels r.place discarded reset → Owns place new
 owned-told place v r new discarded reset h c p = record {
   feed = subst (λ (x : LiveNow). core.IsOwned place x.granted) (sym c) (tells-owned v place r.core.live h.feed);
-  parcels = subst (AllByRecursion (IsOwned place)) (sym p) (all-more (IsOwned place) r.parcels (told_parcels r.place discarded reset) h.parcels
-      (all-more (IsOwned place) (one_if discarded (parcel.Discard r.place)) (one_if reset (parcel.RemoteReset r.place))
-      (one-owned place discarded (parcel.Discard r.place) tt) (one-owned place reset (parcel.RemoteReset r.place) tt)));
+  parcels = subst (AllByRecursion (IsOwned place)) (sym p) (all-more (IsOwned place) r.parcels (told_parcels r.place discarded reset) h.parcels (told-all place r.place discarded reset));
 }
 
 pub owned-broken : (place : Place) (r new : RecordNow) (discarded reset : Bool) → Owns place r → new.core ≡ record r.core { live = after_fault r.core.live } → new.parcels ≡ r.parcels ++ told_parcels r.place discarded reset → Owns place new

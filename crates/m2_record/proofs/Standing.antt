@@ -1,9 +1,12 @@
 -- A record whose core goes on while its feed's end stays as it is.
-use Rattle.std.proofs.Common.{◌≡◌, ℕ, ◌+◌, ◌<◌, Bool, true, false, List, [], ◌∷◌, ◌++◌, length, map, Option, Some, None, refl, sym, ap, subst, ◌∙◌, arith, length-append}
+use Rattle.std.proofs.Common.{◌≡◌, ℕ, ◌+◌, ◌<◌, Bool, true, false, List, [], ◌∷◌, ◌++◌, length, map, Option, Some, None, refl, sym, ap, subst, ◌∙◌, append_assoc, arith, length-append}
+use Rattle.std.specs.List.{AllByRecursion}
 use Rattle.std.specs.Prelude.{if◌then◌else◌}
+use Rattle.std.proofs.lemmas.List.{append-nil, map-append}
 use Rattle.m2_answers.specs.declared.ask.AskFacts.{AskFacts}
 use Rattle.m2_core.specs.Agrees.{Agrees}
 use Rattle.m2_core.specs.CoreNow.{CoreNow, OnFeedNow}
+use Rattle.m2_dispatcher.specs.declared.parcel.Parcel.{Parcel}
 use Rattle.m2_fabric.specs.declared.socket.SocketId.{SocketId}
 use Rattle.m2_fabric.specs.End.{SeenEnd}
 use Rattle.m2_feed.specs.FeedNow.{FeedNow}
@@ -22,17 +25,21 @@ use Rattle.m2_session.specs.declared.answer.Answer.{Answer}
 use Rattle.m2_session.specs.declared.event.Event.{Event}
 use Rattle.m2_session.specs.Laws.{takes}
 use Rattle.m2_record.specs.Entered.{MovesNothing, StepIsThere}
-use Rattle.m2_record.specs.IsRecord.{AreBehind, FeedHasRoom, FeedIsOpen, FeedIsWhole, FitFrames, IsOpenAmong, IsRecord, IsReplayedTo, IsWellKept, became_feed, closed_by, feeds_in}
+use Rattle.m2_record.specs.IsRecord.{AreBehind, FeedHasRoom, FeedIsOpen, FeedIsWhole, FitFrames, IsFrom, IsOpenAmong, IsRecord, IsReplayedTo, IsWellKept, became_feed, closed_by, feeds_in}
 use Rattle.m2_record.specs.RecordNow.{RecordNow, Rooms, delivery_of, ends_of, feed_end, grounds_of, ids_of, speaks_of}
 use Rattle.m2_record.specs.Sources.{sources_of}
 use Rattle.m2_record.specs.TakenTrails.{HaveTrails, judgement_of}
 use Rattle.m2_record.specs.Waits.{IsWithin}
 use Rattle.m2_record.proofs.Entering.{reach-more}
 use Rattle.m2_record.proofs.Keeping.{ground, one-more}
-use Rattle.m2_record.proofs.Kept.{feeds-more}
+use Rattle.m2_record.proofs.Kept.{all-append, feeds-more}
 use Rattle.m2_record.proofs.Opens.{closed-more, still-open}
 use Rattle.m2_record.proofs.Telling.{Beside, beside, tells-beside}
 use Rattle.m2_record.proofs.Trailing.{trails-behind}
+
+-- these parcels are handed out, and all else beside the core is the same
+abbrev pub HandsMore : List Parcel → State → State → Type 0
+HandsMore more s t = beside t ≡ record (beside s) { deliveries = s.deliveries ++ map delivery_of more }
 
 -- both have a feed with the same end, or none has
 abbrev pub SameEnd : Option FeedNow → Option FeedNow → Type 0
@@ -93,18 +100,19 @@ module _ (r : RecordNow) (c : CoreNow) (facts : c.facts ≡ r.core.facts) (same 
       few = h.few;
     }
 
-    -- an entry that moves nothing, and is no step of the plan
-    pub enters : (e : Entry) (i : JournalItem) → MovesNothing e → StepIsThere (speaks_of r) r.journal e → closed_by e ≡ None → (passed e (reach_of r.journal)).steps ≡ (reach_of r.journal).steps →
-        item_of (speaks_of r) (reach_of r.journal) e ≡ i → Lawful r.core.facts i s → Agrees c (after r.core.facts i s) → beside (after r.core.facts i s) ≡ beside s →
-        IsReplayedTo (after r.core.facts i s) (record r { core = c; journal = r.journal ++ e ∷ []; room = room })
-    enters e i still step unclosed steps is may a told = record {
+    -- an entry that moves nothing, is no step of the plan, and hands these parcels out
+    pub enters : (e : Entry) (i : JournalItem) (more : List Parcel) (last : ℕ) → MovesNothing e → StepIsThere (speaks_of r) r.journal e → closed_by e ≡ None → (passed e (reach_of r.journal)).steps ≡ (reach_of r.journal).steps →
+        item_of (speaks_of r) (reach_of r.journal) e ≡ i → Lawful r.core.facts i s → Agrees c (after r.core.facts i s) → HandsMore more s (after r.core.facts i s) →
+        IsReplayedTo (after r.core.facts i s) (record r { core = c; journal = r.journal ++ e ∷ []; parcels = r.parcels ++ more; last = last; room = room })
+    enters e i more last still step unclosed steps is may a told = record {
       replay = speaks-too (r.journal ++ e ∷ []) (after r.core.facts i s)
           (subst (λ (j : JournalItem). IsReplay r.core.facts (speaks_of r) (r.journal ++ e ∷ []) (after r.core.facts j s)) is
           (one-more r.core.facts (grounds_of r) r.journal e s h.replay still step (subst (λ (j : JournalItem). Lawful r.core.facts j s) (sym is) may)));
       core = a;
       steps = h.steps ∙ sym (ap (λ (b : Beside). b.steps) told);
       reach = ap (λ p. p.steps) (reach-more r.journal e) ∙ steps ∙ h.reach ∙ sym (ap (λ (b : Beside). b.steps) told);
-      parcels = (h.parcels.0, h.parcels.1, ap (λ (b : Beside). b.deliveries) told ∙ h.parcels.2);
+      parcels = (h.parcels.0, h.parcels.1, ap (λ (b : Beside). b.deliveries) told ∙ ap (λ (l : List Delivery). l ++ map delivery_of more) h.parcels.2
+          ∙ append_assoc h.parcels.0 (map delivery_of r.parcels) (map delivery_of more) ∙ ap (λ (l : List Delivery). h.parcels.0 ++ l) (sym (map-append delivery_of r.parcels more)));
       spent = h.spent;
       feed = same-open r.spent (r.journal ++ e ∷ []) r.core.live.feed c.live.feed same (still-open r.spent r.journal e r.core.live.feed unclosed h.feed);
       room = room-too;
@@ -112,11 +120,12 @@ module _ (r : RecordNow) (c : CoreNow) (facts : c.facts ≡ r.core.facts) (same 
     }
 
   module _ (k : IsWellKept r) (queue : FitFrames c.live.out.queue) where
-    kept-at : (journal : List Entry) → feeds_in journal ≡ feeds_in r.journal → IsWellKept (record r { core = c; journal = journal; room = room })
-    kept-at journal e = record {
+    kept-at : (journal : List Entry) (parcels : List Parcel) (last : ℕ) → feeds_in journal ≡ feeds_in r.journal → AllByRecursion (IsFrom r.place) parcels →
+        IsWellKept (record r { core = c; journal = journal; parcels = parcels; last = last; room = room })
+    kept-at journal parcels last e p = record {
       ends = ap (λ (l : List SeenEnd). ids_of (r.spent ++ l)) (same-feed_end r.core.live.feed c.live.feed same) ∙ k.ends ∙ sym e;
       whole = same-whole r.core.live.feed c.live.feed same k.whole;
-      parcels = k.parcels;
+      parcels = p;
       plan = k.plan;
       queue = queue;
       waits = subst (λ (f : SideFacts). IsWithin f.node r.waits) (sym facts) k.waits;
@@ -124,10 +133,11 @@ module _ (r : RecordNow) (c : CoreNow) (facts : c.facts ≡ r.core.facts) (same 
     }
 
     pub kept-on : IsWellKept (record r { core = c; room = room })
-    kept-on = kept-at r.journal refl
+    kept-on = kept-at r.journal r.parcels r.last refl k.parcels
 
-    pub kept-with : (e : Entry) → became_feed e ≡ None → IsWellKept (record r { core = c; journal = r.journal ++ e ∷ []; room = room })
-    kept-with e h = kept-at (r.journal ++ e ∷ []) (feeds-more r.journal e h)
+    pub kept-with : (e : Entry) (more : List Parcel) (last : ℕ) → became_feed e ≡ None → AllByRecursion (IsFrom r.place) more →
+        IsWellKept (record r { core = c; journal = r.journal ++ e ∷ []; parcels = r.parcels ++ more; last = last; room = room })
+    kept-with e more last h p = kept-at (r.journal ++ e ∷ []) (r.parcels ++ more) last (feeds-more r.journal e h) (all-append (IsFrom r.place) r.parcels more k.parcels p)
 
 -- ---- an entry that leaves the judgements as they were is none of an ask
 
@@ -169,17 +179,29 @@ stands-record r c room h facts same ends queue a = record {
   kept = kept-on r c facts same room h.kept queue;
 }
 
+-- an entry that hands these parcels out
+pub hands-record : (r : RecordNow) (c : CoreNow) (room : Rooms) (e : Entry) (i : JournalItem) (more : List Parcel) (last : ℕ) → IsRecord r → c.facts ≡ r.core.facts → SameEnd r.core.live.feed c.live.feed → room.ends ≡ r.room.ends → FitFrames c.live.out.queue →
+    MovesNothing e → StepIsThere (speaks_of r) r.journal e → closed_by e ≡ None → became_feed e ≡ None → judgement_of e ≡ None → (passed e (reach_of r.journal)).steps ≡ (reach_of r.journal).steps →
+    item_of (speaks_of r) (reach_of r.journal) e ≡ i → ((s : State) → Agrees r.core s → Lawful r.core.facts i s) → ((s : State) → Agrees r.core s → Agrees c (after r.core.facts i s)) →
+    ((s : State) → Agrees r.core s → HandsMore more s (after r.core.facts i s)) → AllByRecursion (IsFrom r.place) more →
+    IsRecord (record r { core = c; journal = r.journal ++ e ∷ []; parcels = r.parcels ++ more; last = last; room = room })
+hands-record r c room e i more last h facts same ends queue still step unclosed none unjudged steps is may leads told from = record {
+  state = after r.core.facts i h.state;
+  at_state = enters r c facts same room h.state h.at_state ends e i more last still step unclosed steps is (may h.state h.at_state.core) (leads h.state h.at_state.core) (told h.state h.at_state.core);
+  settled = ap (λ (b : Beside). b.spent) (told h.state h.at_state.core) ∙ h.settled;
+  closed = closed-more r.journal e unclosed ∙ h.closed;
+  trails = trails-behind c.facts.node.entity (feed_end c.live.feed ++ r.spent) r.journal e r.trails unjudged (same-trails r c facts same r.journal h.trails);
+  kept = kept-with r c facts same room h.kept queue e more last none from;
+}
+
+-- one that hands out nothing
 pub enters-record : (r : RecordNow) (c : CoreNow) (room : Rooms) (e : Entry) (i : JournalItem) → IsRecord r → c.facts ≡ r.core.facts → SameEnd r.core.live.feed c.live.feed → room.ends ≡ r.room.ends → FitFrames c.live.out.queue →
     MovesNothing e → StepIsThere (speaks_of r) r.journal e → closed_by e ≡ None → became_feed e ≡ None → (passed e (reach_of r.journal)).steps ≡ (reach_of r.journal).steps →
     item_of (speaks_of r) (reach_of r.journal) e ≡ i → ((s : State) → Agrees r.core s → Lawful r.core.facts i s) → ((s : State) → Agrees r.core s → Agrees c (after r.core.facts i s)) →
     ((s : State) → beside (after r.core.facts i s) ≡ beside s) → IsRecord (record r { core = c; journal = r.journal ++ e ∷ []; room = room })
-enters-record r c room e i h facts same ends queue still step unclosed none steps is may leads told = record {
-  state = after r.core.facts i h.state;
-  at_state = enters r c facts same room h.state h.at_state ends e i still step unclosed steps is (may h.state h.at_state.core) (leads h.state h.at_state.core) (told h.state);
-  settled = ap (λ (b : Beside). b.spent) (told h.state) ∙ h.settled;
-  closed = closed-more r.journal e unclosed ∙ h.closed;
-  trails = trails-behind c.facts.node.entity (feed_end c.live.feed ++ r.spent) r.journal e r.trails
-      (not-judged r.core.facts (speaks_of r) (reach_of r.journal) e h.state (subst (λ (j : JournalItem). beside (after r.core.facts j h.state) ≡ beside h.state) (sym is) (told h.state)))
-      (same-trails r c facts same r.journal h.trails);
-  kept = kept-with r c facts same room h.kept queue e none;
-}
+enters-record r c room e i h facts same ends queue still step unclosed none steps is may leads told =
+    subst (λ (l : List Parcel). IsRecord (record r { core = c; journal = r.journal ++ e ∷ []; parcels = l; room = room })) (append-nil r.parcels)
+    (hands-record r c room e i [] r.last h facts same ends queue still step unclosed none
+    (not-judged r.core.facts (speaks_of r) (reach_of r.journal) e h.state (subst (λ (j : JournalItem). beside (after r.core.facts j h.state) ≡ beside h.state) (sym is) (told h.state)))
+    steps is may leads
+    (λ s a. told s ∙ ap (λ (l : List Delivery). record (beside s) { deliveries = l }) (sym (append-nil s.deliveries))) tt)

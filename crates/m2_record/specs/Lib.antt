@@ -7,4 +7,5 @@ pub mod IsRecord
 pub mod Due
 pub mod Calls
 pub mod Reading
+pub mod Framing
 pub mod Laws

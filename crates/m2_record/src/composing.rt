@@ -122,6 +122,7 @@ impl<E: End> Record<E> {
         requires { OnFeedNow self.old.core.live.feed (λ v. is_framing v.reading ≡ false) }
         ensures shakes { Shakes result self.old self.new }
         ensures fault { IsFaultOf result self.new }
+        ensures room { self.new.room ≡ self.old.room }
     {
         self.core.shake()
     }

@@ -6,8 +6,7 @@
 //! record by its journal and its logs alone. What it isn't: a thread, a port or a clock. It takes the
 //! moment, the numbers and the grants as its caller hands them in, and opens no socket.
 //!
-//! What it doesn't have yet: the judging of asks, and what the frames that are read lead to; so no call takes
-//! the first step that is due.
+//! What it doesn't have yet: the judging of asks, and the call that takes the first step that is due.
 //!
 //! `specs/Due.antt` has the table of due steps. `specs/RecordNow.antt` says what contracts see of a record,
 //! `specs/Sources.antt` what its journal speaks of.
@@ -17,6 +16,7 @@ mod composing;
 mod connecting;
 mod due;
 mod ending;
+mod framing;
 mod handing;
 mod laws;
 mod leaving;
@@ -31,6 +31,7 @@ mod waits;
 
 pub use composing::Composed;
 pub use due::Due;
+pub use framing::Framed;
 pub use laws::waits_double;
 pub use reading::RecordRead;
 pub use record::{MOST_STEPS, Record};
