@@ -24,3 +24,8 @@ pub mod Texts
 pub mod Hearing
 pub mod Fronts
 pub mod Heeding
+pub mod Judgements
+pub mod Answered
+pub mod Spending
+pub mod TakenOver
+pub mod Arriving

@@ -67,6 +67,7 @@ pub record HasNoLess (old new : Rooms) : Type 0 where
   pub entries : old.entries ≤ new.entries
   pub parcels : old.parcels ≤ new.parcels
   pub ends : old.ends ≤ new.ends
+  pub trails : old.trails ≤ new.trails
 
 -- so many entries, and as many parcels, fit
 pub record HasRoomFor (n : ℕ) (r : Rooms) : Type 0 where

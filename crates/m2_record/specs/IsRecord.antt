@@ -140,7 +140,7 @@ pub record IsRecord (r : RecordNow) : Type 0 where
 -- ---- a new one
 
 abbrev pub no_room : Rooms
-no_room = record { entries = 0; parcels = 0; ends = 0 }
+no_room = record { entries = 0; parcels = 0; ends = 0; trails = 0 }
 
 -- nothing planned, nothing done
 abbrev pub new_record : SideFacts → (place : ℕ) → RecordNow

@@ -9,3 +9,4 @@ pub mod Calls
 pub mod Reading
 pub mod Framing
 pub mod Laws
+pub mod Judging

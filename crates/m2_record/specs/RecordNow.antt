@@ -16,11 +16,12 @@ use Rattle.m2_trail.specs.Trails.{TrailNow}
 use Rattle.m2_record.specs.declared.waits.Waits.{Waits}
 use Rattle.m2_record.specs.Sources.{Grounds, sources_of}
 
--- how many entries, parcels and closed ends fit before memory is taken
+-- how many entries, parcels, closed ends and trails fit before memory is taken
 pub record Rooms : Type 0 where
   pub entries : ℕ
   pub parcels : ℕ
   pub ends : ℕ
+  pub trails : ℕ
 
 pub record RecordNow : Type 0 where
   -- the peer's place among the nodes

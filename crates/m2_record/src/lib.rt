@@ -6,7 +6,7 @@
 //! record by its journal and its logs alone. What it isn't: a thread, a port or a clock. It takes the
 //! moment, the numbers and the grants as its caller hands them in, and opens no socket.
 //!
-//! What it doesn't have yet: the judging of asks, and the call that takes the first step that is due.
+//! What it doesn't have yet: the call that takes the first step that is due.
 //!
 //! `specs/Due.antt` has the table of due steps. `specs/RecordNow.antt` says what contracts see of a record,
 //! `specs/Sources.antt` what its journal speaks of.
@@ -18,6 +18,7 @@ mod due;
 mod ending;
 mod framing;
 mod handing;
+mod judging;
 mod laws;
 mod leaving;
 mod moving;
@@ -32,6 +33,7 @@ mod waits;
 pub use composing::Composed;
 pub use due::Due;
 pub use framing::Framed;
+pub use judging::Judged;
 pub use laws::waits_double;
 pub use reading::RecordRead;
 pub use record::{MOST_STEPS, Record};

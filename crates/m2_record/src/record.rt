@@ -74,7 +74,7 @@ impl<E: End> Model for Record<E> {
       held = r.held;
       missed = r.missed;
       last = r.last;
-      room = record { entries = r.journal.room; parcels = deque_capacity r.parcels - deque_len r.parcels; ends = vec_capacity r.spent - vec_len r.spent };
+      room = record { entries = r.journal.room; parcels = deque_capacity r.parcels - deque_len r.parcels; ends = vec_capacity r.spent - vec_len r.spent; trails = r.trails.room };
     } };
 
     ghost invariant = { λ r. IsRecord (record {
@@ -91,7 +91,7 @@ impl<E: End> Model for Record<E> {
       held = r.held;
       missed = r.missed;
       last = r.last;
-      room = record { entries = r.journal.room; parcels = deque_capacity r.parcels - deque_len r.parcels; ends = vec_capacity r.spent - vec_len r.spent };
+      room = record { entries = r.journal.room; parcels = deque_capacity r.parcels - deque_len r.parcels; ends = vec_capacity r.spent - vec_len r.spent; trails = r.trails.room };
     }) };
 }
 
