@@ -270,10 +270,13 @@ module _ (t : Throttled) (r : RecordNow) (c : CoreNow) where
   -- a reset is heard still
   pub reset-if : (x : CoreNext) (new : RecordNow) → AnswersFront t x r.core c → new.core ≡ c → HasRoomFor 2 r.room → r.room.entries ≤ new.room.entries + length (entries_next x) → r.room.parcels ≤ new.room.parcels + length (parcels_next r.place x) →
       IsResetIf (framed_next x) new
-  reset-if (next.Resets full) new h e two entries parcels = (subst (IsResetHeard full) (sym (e ∙ (reset-so t r.core c full h).0)) (reset-so t r.core c full h).1, record {
-    entries = (let a = two.entries in omega (arith, a, entries));
-    parcels = (let a = two.parcels in omega (arith, a, parcels));
-  })
+  reset-if (next.Resets full) new h e two entries parcels = (
+    subst (IsResetHeard full) (sym (e ∙ (reset-so t r.core c full h).0)) (reset-so t r.core c full h).1,
+    record {
+      entries = (let a = two.entries in omega (arith, a, entries));
+      parcels = (let a = two.parcels in omega (arith, a, parcels));
+    },
+  )
   reset-if next.Rests new h e two entries parcels = tt
   reset-if next.Passed new h e two entries parcels = tt
   reset-if next.Granted new h e two entries parcels = tt

@@ -111,8 +111,12 @@ module _ (r : RecordNow) (c : CoreNow) (facts : c.facts ≡ r.core.facts) (same 
       core = a;
       steps = h.steps ∙ sym (ap (λ (b : Beside). b.steps) told);
       reach = ap (λ p. p.steps) (reach-more r.journal e) ∙ steps ∙ h.reach ∙ sym (ap (λ (b : Beside). b.steps) told);
-      parcels = (h.parcels.0, h.parcels.1, ap (λ (b : Beside). b.deliveries) told ∙ ap (λ (l : List Delivery). l ++ map delivery_of more) h.parcels.2
-          ∙ append_assoc h.parcels.0 (map delivery_of r.parcels) (map delivery_of more) ∙ ap (λ (l : List Delivery). h.parcels.0 ++ l) (sym (map-append delivery_of r.parcels more)));
+      parcels = (
+        h.parcels.0,
+        h.parcels.1,
+        ap (λ (b : Beside). b.deliveries) told ∙ ap (λ (l : List Delivery). l ++ map delivery_of more) h.parcels.2
+            ∙ append_assoc h.parcels.0 (map delivery_of r.parcels) (map delivery_of more) ∙ ap (λ (l : List Delivery). h.parcels.0 ++ l) (sym (map-append delivery_of r.parcels more)),
+      );
       spent = h.spent;
       feed = same-open r.spent (r.journal ++ e ∷ []) r.core.live.feed c.live.feed same (still-open r.spent r.journal e r.core.live.feed unclosed h.feed);
       room = room-too;

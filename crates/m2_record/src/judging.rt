@@ -260,9 +260,9 @@ impl<E: End> Record<E> {
             answer: v.answer,
         });
         let old = self.core.session().phase;
-        let aftermath =
-            self.core
-                .take_over(v, half.end, half.decoder, acceptance, throttle, pass);
+        let aftermath = self
+            .core
+            .take_over(v, half.end, half.decoder, acceptance, throttle, pass);
         self.trails.push_reserved(half.trail);
         self.waits = self
             .waits
