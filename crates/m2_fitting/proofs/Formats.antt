@@ -167,7 +167,7 @@ ack_keeps n h = record { writable = ack_writable n; ranges = omega (arith, h); b
 
 -- ---- a message
 
-header_bytes : (h : Header) → h.flags < 2 ^ 8 → All (λ b. b < 256) (header_text h)
+pub header_bytes : (h : Header) → h.flags < 2 ^ 8 → All (λ b. b < 256) (header_text h)
 unfolding header_text
 header_bytes h below =
     let reserved = to_le_bytes w16 h.reserved in

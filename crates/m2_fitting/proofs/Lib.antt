@@ -3,6 +3,7 @@ pub mod Fronts
 pub mod Sent
 pub mod Says
 pub mod Formats
+pub mod Posts
 pub mod Openers
 pub mod Acceptors
 pub mod Speaking

@@ -1,4 +1,5 @@
 pub mod Texts
+pub mod Posts
 pub mod Trails
 pub mod Ends
 pub mod Halves

@@ -1,5 +1,5 @@
 -- What a trail gives of its half at each point of an order of its entries and of the judgements of its asks.
-use Rattle.std.specs.Prelude.{◌≡◌, ℕ, suc, ◌<◌, ◌≤◌, ◌^◌, List, length, slice_get, slice_index, take, Option, Some, None, IfSome}
+use Rattle.std.specs.Prelude.{ℕ, suc, ◌<◌, ◌≤◌, ◌^◌, List, length, slice_get, slice_index, take, Option, Some, IfSome}
 use Rattle.m2_fabric.specs.Log.{Log}
 use Rattle.m2_handshake.specs.Standing.{Standing}
 use Rattle.m2_journal.specs.declared.entry.Entry.{Entry}

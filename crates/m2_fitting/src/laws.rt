@@ -2,6 +2,7 @@
 //! names.
 
 ghost use Rattle.m2_fitting.specs.Orders as orders;
+ghost use Rattle.m2_fitting.specs.Posts as posts;
 ghost use Rattle.m2_fitting.specs.Trails as trails;
 
 use m2_paired::{histories_are_runs, lossless_is_never_reset};
@@ -26,6 +27,11 @@ pub fn lossless_bytes_are_never_reset()
     histories_are_runs();
     lossless_is_never_reset();
 }
+
+/// Every message that may be sent keeps the bounds of its frame, so that plans can post it.
+pub fn posts_can_be_sent()
+    ensures { posts.SendablePostsKeepFields }
+{}
 
 /// There is a point at which bytes fit and both sides are in Ready: the one has opened a socket, and the
 /// other has taken it with its half.

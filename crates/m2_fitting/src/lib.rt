@@ -14,5 +14,6 @@
 mod laws;
 
 pub use laws::{
-    bytes_can_fit, bytes_give_fits, lossless_bytes_are_never_reset, trails_tell_each_point,
+    bytes_can_fit, bytes_give_fits, lossless_bytes_are_never_reset, posts_can_be_sent,
+    trails_tell_each_point,
 };
