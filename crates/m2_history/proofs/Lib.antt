@@ -3,3 +3,5 @@ pub mod HalfStrands
 pub mod Keeping
 pub mod Counting
 pub mod Delivering
+pub mod Gathering
+pub mod Orders

@@ -1,0 +1,55 @@
+//! The strands of both sides.
+
+ghost use Rattle.std.specs.Prelude.{◌≡◌, ◌∷◌, ◌++◌, [], map, OnOk};
+ghost use Rattle.m2_history.specs.HalfStrands.{strand_of};
+ghost use Rattle.m2_history.specs.Woven.{strands_of_side};
+ghost use Rattle.m2_trail.specs.Trails.{trail_now};
+ghost use Rattle.m2_weave.specs.Strands.{strand_now};
+
+use m2_bytes::NoMemory;
+use m2_journal::Entry;
+use m2_trail::Trail;
+use m2_weave::Strand;
+use std::alloc::Global;
+
+/// Appends the strand of a half.
+pub(crate) fn add_half(
+    alloc: Global,
+    strands: &mut Vec<Strand>,
+    trail: &Trail,
+) -> Result<(), NoMemory>
+    ensures { OnOk result (map strand_now strands.new.items ≡ map strand_now strands.old.items ++ strand_of (trail_now trail.now) ∷ []) }
+{
+    let strand = Strand::of_half(
+        alloc,
+        trail.socket,
+        trail.entries.as_slice(),
+        trail.judged_after.as_slice(),
+    )?;
+    strands.push(strand)?;
+    Ok(())
+}
+
+/// Appends the strands of the halves that a side took.
+fn add_halves(alloc: Global, strands: &mut Vec<Strand>, trails: &[Trail]) -> Result<(), NoMemory>
+    ensures { OnOk result (map strand_now strands.new.items ≡ map strand_now strands.old.items ++ map strand_of (map trail_now trails.now)) }
+{
+    for trail in trails {
+        add_half(alloc, strands, trail)?;
+    }
+    Ok(())
+}
+
+/// Appends the strands of a side.
+pub(crate) fn add_strands(
+    alloc: Global,
+    strands: &mut Vec<Strand>,
+    journal: &[Entry],
+    trails: &[Trail],
+) -> Result<(), NoMemory>
+    ensures { OnOk result (map strand_now strands.new.items ≡ map strand_now strands.old.items ++ strands_of_side journal.now (map trail_now trails.now)) }
+{
+    let strand = Strand::of_journal(alloc, journal)?;
+    strands.push(strand)?;
+    add_halves(alloc, strands, trails)
+}
