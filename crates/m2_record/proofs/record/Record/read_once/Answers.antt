@@ -44,6 +44,7 @@ returns-clause-reads g c =
         entries = c.put_closed.new.journal.room;
         parcels = deque_capacity c.self.inside.parcels - deque_len c.self.inside.parcels;
         ends = vec_capacity c.put_closed.new.spent - vec_len c.put_closed.new.spent;
+        trails = c.self.inside.trails.room;
       };
     } in
     subst (λ (v : RecordNow). ReadsFeedOnce (record { answer = c.read-answer.result.answer; heard = c.read-answer.result.heard }) c.args.now v new) c.self.view_is
@@ -77,6 +78,7 @@ returns-clause-broken g c =
         entries = c.put_closed.new.journal.room;
         parcels = deque_capacity c.self.inside.parcels - deque_len c.self.inside.parcels;
         ends = vec_capacity c.put_closed.new.spent - vec_len c.put_closed.new.spent;
+        trails = c.self.inside.trails.room;
       };
     } in
     read-broken (record { answer = c.read-answer.result.answer; heard = c.read-answer.result.heard; closed = option_map g.E.End.seen c.read-answer.result.aftermath.closed }) _ new c.read-answer.ensures.read c.read-answer.ensures.fault
@@ -84,8 +86,8 @@ returns-clause-broken g c =
 pub returns-clause-room : goal.returns-clause-room
 returns-clause-room g c =
     let parcels = deque_capacity c.self.inside.parcels - deque_len c.self.inside.parcels in
-    let old : Rooms = record { entries = c.self.inside.journal.room; parcels = parcels; ends = vec_capacity c.self.inside.spent - vec_len c.self.inside.spent } in
-    let new : Rooms = record { entries = c.put_closed.new.journal.room; parcels = parcels; ends = vec_capacity c.put_closed.new.spent - vec_len c.put_closed.new.spent } in
+    let old : Rooms = record { entries = c.self.inside.journal.room; parcels = parcels; ends = vec_capacity c.self.inside.spent - vec_len c.self.inside.spent; trails = c.self.inside.trails.room } in
+    let new : Rooms = record { entries = c.put_closed.new.journal.room; parcels = parcels; ends = vec_capacity c.put_closed.new.spent - vec_len c.put_closed.new.spent; trails = c.self.inside.trails.room } in
     read-fits (record { answer = c.read-answer.result.answer; heard = c.read-answer.result.heard; closed = option_map g.E.End.seen c.read-answer.result.aftermath.closed }) _ _ c.note_read.new.journal.room old new c.read-answer.ensures.read
     (subst (λ (v : RecordNow). HasRoomFor 2 v.room) (sym c.self.view_is) c.requires.room) c.note_read.ensures.room c.put_closed.ensures.entries refl
 
