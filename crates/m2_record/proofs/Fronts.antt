@@ -36,6 +36,7 @@ pub record MakesNone (before after : CoreNow) : Type 0 where
   pub facts : after.facts ≡ before.facts
   pub end : SameEnd before.live.feed after.live.feed
   pub queue : after.live.out ≡ before.live.out
+  pub top : after.top ≡ before.top
   pub stays : Stays before after
 
 pub end-stays : (x : Option FeedNow) → SameEnd x x
@@ -43,7 +44,7 @@ end-stays (Some v) = refl
 end-stays None = tt
 
 pub same : (b c : CoreNow) → c ≡ b → MakesNone b c
-same b c e = subst (MakesNone b) (sym e) (record { facts = refl; end = end-stays b.live.feed; queue = refl; stays = λ s a. a })
+same b c e = subst (MakesNone b) (sym e) (record { facts = refl; end = end-stays b.live.feed; queue = refl; top = refl; stays = λ s a. a })
 
 pub end-passed : (i : Item) (x y : Option FeedNow) → PassesItem i x y → SameEnd x y
 end-passed i (Some v) (Some w) p = ap (λ (z : FeedNow). z.end) p.1
@@ -64,6 +65,7 @@ passes b c h = record {
   facts = ap (λ (z : CoreNow). z.facts) h.only;
   end = end-passed h.passes.item b.live.feed c.live.feed h.passes.passes;
   queue = ap (λ (z : CoreNow). z.live.out) h.only;
+  top = ap (λ (z : CoreNow). z.top) h.only;
   stays = h.stays;
 }
 
@@ -72,6 +74,7 @@ stamps k b c h = record {
   facts = ap (λ (z : CoreNow). z.facts) h.only;
   end = end-stamped (hearer_of b) k b.live.feed c.live.feed h.stamps;
   queue = ap (λ (z : CoreNow). z.live.out) h.only;
+  top = ap (λ (z : CoreNow). z.top) h.only;
   stays = h.stays;
 }
 
@@ -80,6 +83,7 @@ grants t n b c h = record {
   facts = ap (λ (z : CoreNow). z.facts) h.only;
   end = subst (λ (z : CoreNow). SameEnd b.live.feed z.live.feed) (sym h.only) (end-granted b.live.feed);
   queue = ap (λ (z : CoreNow). z.live.out) h.only;
+  top = ap (λ (z : CoreNow). z.top) h.only;
   stays = h.stays;
 }
 
@@ -168,6 +172,19 @@ module _ (t : Throttled) (b c : CoreNow) where
 
   pub fault-so : (cause : WireFault) → AnswersFront t (next.Fault cause) b c → Closes b c
   fault-so cause h = on-front b.live.feed (λ v. fault-says cause (heard_by b v.reading)) h
+
+  -- no number is drawn
+  pub top-so : (x : CoreNext) → AnswersFront t x b c → c.top ≡ b.top
+  top-so next.Rests h = ap (λ (z : CoreNow). z.top) (rests-so h)
+  top-so next.Passed h = (passed-so h).top
+  top-so next.Granted h = (granted-so h).top
+  top-so (next.Acked number) h = ap (λ (z : CoreNow). z.top) (acked-so number h).only
+  top-so (next.Accepted a) h = ap (λ (z : CoreNow). z.top) (accepted-so a h).only
+  top-so (next.Resets full) h = ap (λ (z : CoreNow). z.top) (reset-so full h).0
+  top-so (next.Full out) h = ap (λ (z : CoreNow). z.top) (full-so out h)
+  top-so (next.Again seen now) h = ap (λ (z : CoreNow). z.top) (again-so seen now h)
+  top-so (next.Fault cause) h = ap (λ (z : CoreNow). z.top) (fault-so cause h).only
+  top-so next.NoMemory h = ap (λ (z : CoreNow). z.top) (memory-so h)
 
 -- ---- where the step is due, something is at the front
 

@@ -46,7 +46,7 @@ use Rattle.m2_session.specs.declared.session.Session.{Session}
 use Rattle.m2_session.specs.Table.{first_that_holds}
 use Rattle.m2_session.specs.Steps.{step_of}
 use Rattle.m2_shared.specs.Place.{Place}
-use Rattle.m2_record.specs.Calls.{BytesAreBroken, ChangesCore, FitsClosed, GetsEntries, HasRoomFor, IsSameButRoom, Owns, Shakes, closed_entries, told_parcels}
+use Rattle.m2_record.specs.Calls.{Breaks, BytesAreBroken, ChangesCore, FitsClosed, GetsEntries, HasRoomFor, IsSameButRoom, Owns, Shakes, closed_entries, told_parcels}
 use Rattle.m2_record.specs.declared.due.Due.{Due}
 use Rattle.m2_record.specs.declared.due.Due.TheVariants as due
 use Rattle.m2_record.specs.declared.framing.Framed.{Framed}
@@ -413,6 +413,12 @@ shaken-owned place answer old mid h o = record {
   feed = subst (core.IsOwned place) (sym (ap (λ (z : CoreNow). z.live.granted) h.0.only)) o.feed;
   parcels = subst (AllByRecursion (IsOwned place)) (sym (ap (λ (z : RecordNow). z.parcels) h.1)) o.parcels;
 }
+
+pub shaken-top : (answer : HalfStep) (old mid : RecordNow) → Shakes answer old mid → mid.core.top ≡ old.core.top
+shaken-top answer old mid h = ap (λ (z : CoreNow). z.top) h.0.only
+
+pub broken-top : (now : ℕ) (mid new : RecordNow) → Breaks now mid new → new.core.top ≡ mid.core.top
+broken-top now mid new h = ap (λ (z : RecordNow). z.core.top) h
 
 pub shaken-held : (answer : HalfStep) (old mid : RecordNow) → Shakes answer old mid → mid.core.live.granted ≡ old.core.live.granted
 shaken-held answer old mid h = ap (λ (z : CoreNow). z.live.granted) h.0.only

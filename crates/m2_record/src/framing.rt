@@ -60,6 +60,7 @@ impl<E: End> Record<E> {
         requires owned { Owns throttle.now.place self.old }
         ensures frames { Frames (record { throttle = throttle.now; before = pass.old; behind = pass.new }) result now self.old self.new }
         ensures owned { Owns throttle.now.place self.new }
+        ensures top { self.new.core.top ≡ self.old.core.top }
         ensures place { pass.new.place ≡ pass.old.place }
         ensures word { IsAlone throttle.now.place → pass.new.word ≡ word_framed result pass.old.word (held self.old.core.live.granted) (held self.new.core.live.granted) }
     {
@@ -89,6 +90,7 @@ impl<E: End> Record<E> {
         requires owned { Owns throttle.now.place self.old }
         ensures greets { Greets result now self.old self.new }
         ensures owned { Owns throttle.now.place self.new }
+        ensures top { self.new.core.top ≡ self.old.core.top }
         ensures place { pass.new.place ≡ pass.old.place }
         ensures word { IsAlone throttle.now.place → pass.new.word ≡ word_framed (framed.Half result) pass.old.word (held self.old.core.live.granted) (held self.new.core.live.granted) }
     {
@@ -113,6 +115,7 @@ impl<E: End> Record<E> {
         requires owned { Owns throttle.now.place self.old }
         ensures frames { Frames (record { throttle = throttle.now; before = pass.old; behind = pass.new }) result now self.old self.new }
         ensures owned { Owns throttle.now.place self.new }
+        ensures top { self.new.core.top ≡ self.old.core.top }
         ensures place { pass.new.place ≡ pass.old.place }
         ensures word { IsAlone throttle.now.place → pass.new.word ≡ word_framed result pass.old.word (held self.old.core.live.granted) (held self.new.core.live.granted) }
     {
@@ -136,6 +139,7 @@ impl<E: End> Record<E> {
         ensures heeds { Heeds (record { throttle = throttle.now; before = pass.old; behind = pass.new }) result now self.old self.new }
         ensures reset { IsResetIf result self.new }
         ensures owned { Owns throttle.now.place self.new }
+        ensures top { self.new.core.top ≡ self.old.core.top }
         ensures place { pass.new.place ≡ pass.old.place }
         ensures word { IsAlone throttle.now.place → pass.new.word ≡ word_framed result pass.old.word (held self.old.core.live.granted) (held self.new.core.live.granted) }
     {
@@ -172,6 +176,7 @@ impl<E: End> Record<E> {
         requires room { HasRoomFor 2 self.old.room }
         ensures obeys { Obeys full self.old self.new }
         ensures owned { (place : Place) → Owns place self.old → Owns place self.new }
+        ensures top { self.new.core.top ≡ self.old.core.top }
     {
         let aftermath = self.core.obey(full);
         self.journal.push_reserved(Entry::Obeyed { full });

@@ -2,7 +2,7 @@ use Rattle.std.proofs.Common.{◌≡◌, ◌-◌, ◌∙◌, ap, arith, refl, su
 use Rattle.m2_core.specs.CoreNow.{held}
 use Rattle.m2_handshake.specs.declared.answer.HalfStep.TheVariants as half
 use Rattle.m2_record.specs.Calls.{HasRoomToClose}
-use Rattle.m2_record.proofs.Heeding.{shaken-held, shaken-owned}
+use Rattle.m2_record.proofs.Heeding.{broken-top, shaken-held, shaken-owned, shaken-top}
 use Rattle.m2_record.proofs.record.Record.greet.Goals as goal
 
 pub shake-requires : goal.shake-requires
@@ -49,3 +49,18 @@ returns-in-NoMemory-clause-greets g c = c.in-NoMemory.ensures.shakes
 
 pub returns-in-NoMemory-clause-owned : goal.returns-in-NoMemory-clause-owned
 returns-in-NoMemory-clause-owned g c = shaken-owned c.args.throttle.now.place half.NoMemory c.args.self.now c.shake.new.self c.in-NoMemory.ensures.shakes c.requires.owned
+
+pub returns-in-Fault-clause-top : goal.returns-in-Fault-clause-top
+returns-in-Fault-clause-top g c = broken-top c.args.now c.shake.new.self c.break_feed.new.self c.break_feed.ensures.breaks ∙ shaken-top (half.Fault c.in-Fault.fault) c.args.self.now c.shake.new.self c.in-Fault.ensures.shakes
+
+pub returns-in-NotYet-clause-top : goal.returns-in-NotYet-clause-top
+returns-in-NotYet-clause-top g c = shaken-top half.NotYet c.args.self.now c.shake.new.self c.in-NotYet.ensures.shakes
+
+pub returns-in-Wrote-clause-top : goal.returns-in-Wrote-clause-top
+returns-in-Wrote-clause-top g c = shaken-top half.Wrote c.args.self.now c.shake.new.self c.in-Wrote.ensures.shakes
+
+pub returns-in-Authed-clause-top : goal.returns-in-Authed-clause-top
+returns-in-Authed-clause-top g c = shaken-top half.Authed c.args.self.now c.shake.new.self c.in-Authed.ensures.shakes
+
+pub returns-in-NoMemory-clause-top : goal.returns-in-NoMemory-clause-top
+returns-in-NoMemory-clause-top g c = shaken-top half.NoMemory c.args.self.now c.shake.new.self c.in-NoMemory.ensures.shakes

@@ -3,6 +3,7 @@ use Rattle.m2_core.specs.CoreNow.{CoreNow, OnFeedNow, held}
 use Rattle.m2_fabric.specs.End.{SeenEnd}
 use Rattle.m2_record.specs.RecordNow.{RecordNow}
 use Rattle.m2_record.proofs.Heeding.{closed-fits, done-so, heeds-left, heeds-noted, no-reset, noted-none, owned-closed, owned-left, owned-so, record-closed, record-noted, reset-left, room-so, signed-so, tested, word-so}
+use Rattle.m2_record.proofs.Fronts.{top-so}
 use Rattle.m2_record.proofs.record.Record.heed_front.Goals as goal
 
 pub next-next-requires-clause-signed : goal.next-next-requires-clause-signed
@@ -100,3 +101,9 @@ pub returns-clause-word : goal.returns-clause-word
 returns-clause-word g c a = word-so c.next-next.result.next c.note_next-framed.result _ _ _ _ _
     (done-so _ _ _ c.next-next.new.self c.next-next.result.next c.self.view_is c.requires.frame c.requires.signed c.next-next.ensures.next)
     c.note_next-framed.ensures.answer (ap (λ (v : RecordNow). held v.core.live.granted) c.self.view_is) (c.next-next.ensures.word a)
+
+pub returns-then-not-is_faulted-clause-top : goal.returns-then-not-is_faulted-clause-top
+returns-then-not-is_faulted-clause-top g c = top-so _ c.self.inside.core c.next-next.new.self c.next-next.result.next c.next-next.ensures.next ∙ ap (λ (v : RecordNow). v.core.top) c.self.view_is
+
+pub returns-clause-top : goal.returns-clause-top
+returns-clause-top g c = top-so _ c.self.inside.core c.next-next.new.self c.next-next.result.next c.next-next.ensures.next ∙ ap (λ (v : RecordNow). v.core.top) c.self.view_is

@@ -1,5 +1,7 @@
 use Rattle.std.proofs.Common.{◌≡◌, ◌++◌, ◌∙◌, ap, option_map, refl, subst, sym}
+use Rattle.m2_core.specs.CoreNow.{CoreNow}
 use Rattle.m2_record.specs.Calls.{Owns, told_parcels}
+use Rattle.m2_record.specs.RecordNow.{RecordNow}
 use Rattle.m2_record.proofs.Heeding.{obeyed-owns, obeyed-leaves, obeys}
 use Rattle.m2_record.proofs.record.Record.obey.Goals as goal
 
@@ -13,3 +15,6 @@ returns-clause-obeys g c = obeyed-leaves c.self.invariant c.obey-aftermath.new.s
 
 pub returns-clause-owned : goal.returns-clause-owned
 returns-clause-owned g c place o = obeyed-owns c.self.invariant c.obey-aftermath.new.self c.args.full c.obey-aftermath.ensures.obeyed c.obey-aftermath.result.discarded c.obey-aftermath.result.remote_reset place _ _ c.self.view_is o refl c.put_told.ensures.items
+
+pub returns-clause-top : goal.returns-clause-top
+returns-clause-top g c = ap (λ (z : CoreNow). z.top) c.obey-aftermath.ensures.obeyed.only ∙ ap (λ (v : RecordNow). v.core.top) c.self.view_is

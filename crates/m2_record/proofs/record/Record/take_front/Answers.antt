@@ -19,3 +19,6 @@ returns-in-Some-clause-word g c a = c.heed_front-framed.ensures.word a ∙ word-
 
 pub returns-in-None-clause-frames : goal.returns-in-None-clause-frames
 returns-in-None-clause-frames g c = unreset _ c.heed_front-framed.result c.args.now _ _ (sym c.reset_in.ensures ∙ c.in-None.is) c.heed_front-framed.ensures.heeds
+
+pub returns-in-Some-clause-top : goal.returns-in-Some-clause-top
+returns-in-Some-clause-top g c = c.obey.ensures.top ∙ c.heed_front-framed.ensures.top
