@@ -47,22 +47,20 @@ fn written(rt: &HostRuntime, answer: Answer) -> Result<Option<(u8, u64)>, NoMemo
 
 #[test]
 fn each_answer_writes_the_frame_of_its_name(rt: HostRuntime) -> Result<(), Fail> {
-    assert_eq!(rt; written(&rt, Answer::Accept)?, Some((9, 4)));
-    assert_eq!(rt;
-        written(&rt, Answer::AcceptReset { full: true })?,
-        Some((9, 4))
-    );
-    assert_eq!(rt; written(&rt, Answer::AcceptRace)?, Some((9, 4)));
-    assert_eq!(rt; written(&rt, Answer::Resume)?, Some((15, 300)));
-    assert_eq!(rt; written(&rt, Answer::Close)?, None);
-    assert_eq!(rt; written(&rt, Answer::Wait)?, Some((16, 0)));
-    assert_eq!(rt; written(&rt, Answer::Reset { full: true })?, Some((12, 1)));
-    assert_eq!(rt; written(&rt, Answer::ResetPending)?, Some((12, 0)));
-    assert_eq!(rt; written(&rt, Answer::Retry { number: 7 })?, Some((13, 7)));
-    assert_eq!(rt;
-        written(&rt, Answer::RetryGlobal { number: 8 })?,
-        Some((14, 8))
-    );
+    for (answer, frame) in [
+        (Answer::Accept, Some((9, 4))),
+        (Answer::AcceptReset { full: true }, Some((9, 4))),
+        (Answer::AcceptRace, Some((9, 4))),
+        (Answer::Resume, Some((15, 300))),
+        (Answer::Close, None),
+        (Answer::Wait, Some((16, 0))),
+        (Answer::Reset { full: true }, Some((12, 1))),
+        (Answer::ResetPending, Some((12, 0))),
+        (Answer::Retry { number: 7 }, Some((13, 7))),
+        (Answer::RetryGlobal { number: 8 }, Some((14, 8))),
+    ] {
+        assert_eq!(rt; written(&rt, answer)?, frame);
+    }
     Ok(())
 }
 

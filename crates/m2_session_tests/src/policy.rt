@@ -31,15 +31,19 @@ fn only_the_listed_kinds_are_fast(rt: HostRuntime) {
 
 #[test]
 fn pairs_of_a_link(rt: HostRuntime) {
-    assert!(rt; is_allowed(&lossless_peer(), &lossless_peer()));
-    assert!(rt; is_allowed(&lossless_client(), &stateful_server()));
-    assert!(rt; is_allowed(&stateful_server(), &lossless_client()));
-    assert!(rt; is_allowed(&lossy_client(), &stateless_server()));
-    assert!(rt; is_allowed(&stateless_server(), &lossy_client()));
-    assert!(rt; !is_allowed(&stateful_server(), &stateful_server()));
-    assert!(rt; !is_allowed(&lossless_client(), &lossless_client()));
-    assert!(rt; !is_allowed(&lossless_peer(), &stateful_server()));
-    assert!(rt; !is_allowed(&lossy_client(), &stateful_server()));
+    for (one, other, allowed) in [
+        (lossless_peer(), lossless_peer(), true),
+        (lossless_client(), stateful_server(), true),
+        (stateful_server(), lossless_client(), true),
+        (lossy_client(), stateless_server(), true),
+        (stateless_server(), lossy_client(), true),
+        (stateful_server(), stateful_server(), false),
+        (lossless_client(), lossless_client(), false),
+        (lossless_peer(), stateful_server(), false),
+        (lossy_client(), stateful_server(), false),
+    ] {
+        assert_eq!(rt; is_allowed(&one, &other), allowed);
+    }
 }
 
 #[test]

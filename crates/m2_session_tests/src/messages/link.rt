@@ -3,20 +3,8 @@
 use super::message_of;
 use m2_bytes::NoMemory;
 use m2_link::{Accepted, Link, LinkSide};
-use m2_message::{Header, Message};
 use std::alloc::Global;
-use std::process::Abort;
 use std::test::Fail;
-
-fn message(alloc: Global, priority: u16, letter: u8) -> Result<Message, NoMemory> {
-    let message = message_of(alloc, &[letter])?;
-    let header = Header {
-        kind: 1,
-        priority,
-        ..message.header
-    };
-    Ok(Message { header, ..message })
-}
 
 /// Posts a message for each priority and letter.
 fn posts(
@@ -26,83 +14,91 @@ fn posts(
     what: &[(u16, u8)],
 ) -> Result<(), NoMemory> {
     for (priority, letter) in what {
-        let message = message(alloc, *priority, *letter)?;
+        let message = message_of(alloc, *priority, 0, &[*letter])?;
         link.post(from, message).map_err(|_| NoMemory)?;
     }
     Ok(())
 }
 
-/// One side takes a turn, what it wrote flows, and the other takes a turn: what they took.
+/// One side takes a turn, what it wrote flows, and the other takes a turn.
 fn carries(
     link: &mut Link,
-    alloc: Global,
     from: LinkSide,
     to: LinkSide,
-) -> Result<Vec<Accepted>, NoMemory> {
-    let mut taken = Vec::new(alloc);
-    link.turn(from, &mut taken)?;
+    taken: &mut Vec<Accepted>,
+) -> Result<(), NoMemory> {
+    link.turn(from, taken)?;
     link.flow();
-    link.turn(to, &mut taken)?;
-    Ok(taken)
+    link.turn(to, taken)
 }
 
-/// The letters that were taken, and the number of the last.
-fn told(alloc: Global, taken: &[Accepted]) -> Result<(Vec<u8>, u64), NoMemory> {
-    let mut letters = Vec::new(alloc);
-    let mut last = 0;
-    for item in taken {
-        letters.extend_from_slice(item.message.front.as_slice())?;
-        last = item.number;
-    }
-    Ok((letters, last))
-}
-
-/// Carries from the first side to the second, which takes these letters, the last with this number.
-fn assert_carried(
-    rt: &impl Abort,
-    link: &mut Link,
-    alloc: Global,
-    expected: (&[u8], u64),
-) -> Result<(), Fail> {
-    let taken = carries(link, alloc, LinkSide::First, LinkSide::Second)?;
-    let (letters, last) = told(alloc, &taken)?;
-    assert_eq!(rt; letters.as_slice(), expected.0);
-    assert_eq!(rt; last, expected.1);
-    Ok(())
+/// Whether messages of these letters were taken, the last with this number.
+fn are(taken: &[Accepted], letters: &[u8], last: u64) -> bool {
+    let of_letters = taken.iter().zip(letters).all(|(item, letter)| item
+        .message
+        .front
+        .as_slice()
+        .first()
+        == Some(letter));
+    let to_the_last = match taken.last() {
+        Some(item) => item.number == last,
+        None => false,
+    };
+    taken.len() == letters.len() && of_letters && to_the_last
 }
 
 #[test]
 fn a_greater_priority_goes_first(rt: HostRuntime) -> Result<(), Fail> {
     let mut link = Link::new(rt.alloc());
+    let mut taken = Vec::new(rt.alloc());
     let what = [(63, b'a'), (127, b'b'), (196, b'c'), (127, b'd')];
     posts(&mut link, rt.alloc(), LinkSide::First, &what)?;
-    assert_carried(&rt, &mut link, rt.alloc(), (b"cbda", 4))?;
+    carries(&mut link, LinkSide::First, LinkSide::Second, &mut taken)?;
+    assert!(rt; are(&taken, b"cbda", 4));
     assert_eq!(rt; link.left(), 0);
     Ok(())
+}
+
+/// A message is carried over, a second is written and lost in a fault, and a third is posted.
+fn loses_one(link: &mut Link, alloc: Global, taken: &mut Vec<Accepted>) -> Result<(), NoMemory> {
+    posts(link, alloc, LinkSide::First, &[(127, b'a')])?;
+    carries(link, LinkSide::First, LinkSide::Second, taken)?;
+    posts(link, alloc, LinkSide::First, &[(127, b'b')])?;
+    link.turn(LinkSide::First, taken)?;
+    link.fault();
+    posts(link, alloc, LinkSide::First, &[(196, b'c')])
 }
 
 #[test]
 fn a_fault_resends_what_was_not_read_in_its_old_place(rt: HostRuntime) -> Result<(), Fail> {
     let mut link = Link::new(rt.alloc());
-    posts(&mut link, rt.alloc(), LinkSide::First, &[(127, b'a')])?;
-    let mut taken = carries(&mut link, rt.alloc(), LinkSide::First, LinkSide::Second)?;
-    posts(&mut link, rt.alloc(), LinkSide::First, &[(127, b'b')])?;
-    link.turn(LinkSide::First, &mut taken)?;
-    link.fault();
-    posts(&mut link, rt.alloc(), LinkSide::First, &[(196, b'c')])?;
+    let mut taken = Vec::new(rt.alloc());
+    loses_one(&mut link, rt.alloc(), &mut taken)?;
     assert_eq!(rt; (taken.len(), link.left()), (1, 2));
-    assert_carried(&rt, &mut link, rt.alloc(), (b"bc", 3))
+    carries(&mut link, LinkSide::First, LinkSide::Second, &mut taken)?;
+    assert!(rt; are(&taken, b"abc", 3));
+    Ok(())
+}
+
+/// A message is carried over, and then what its reader wrote.
+fn is_acknowledged(
+    link: &mut Link,
+    alloc: Global,
+    taken: &mut Vec<Accepted>,
+) -> Result<(u64, u64), NoMemory> {
+    posts(link, alloc, LinkSide::Second, &[(127, b'a')])?;
+    carries(link, LinkSide::Second, LinkSide::First, taken)?;
+    let before = link.queue(LinkSide::Second).base();
+    link.flow();
+    link.turn(LinkSide::Second, taken)?;
+    Ok((before, link.queue(LinkSide::Second).base()))
 }
 
 #[test]
 fn what_was_read_is_acknowledged_with_the_readers_next_frame(rt: HostRuntime) -> Result<(), Fail> {
     let mut link = Link::new(rt.alloc());
-    posts(&mut link, rt.alloc(), LinkSide::Second, &[(127, b'a')])?;
-    let mut taken = carries(&mut link, rt.alloc(), LinkSide::Second, LinkSide::First)?;
-    let before = link.queue(LinkSide::Second).base();
-    link.flow();
-    link.turn(LinkSide::Second, &mut taken)?;
-    assert_eq!(rt; (before, link.queue(LinkSide::Second).base()), (0, 1));
-    assert_eq!(rt; taken.len(), 1);
+    let mut taken = Vec::new(rt.alloc());
+    let bases = is_acknowledged(&mut link, rt.alloc(), &mut taken)?;
+    assert_eq!(rt; (bases, taken.len()), ((0, 1), 1));
     Ok(())
 }

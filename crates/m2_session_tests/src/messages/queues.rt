@@ -1,28 +1,18 @@
 //! The outgoing queue: what goes first, what is sent again, and a queue as long as a scenario's posts.
 
 use super::message_of;
-use m2_message::Header;
 use m2_queues::{BadAck, OutQueues};
 use std::alloc::Global;
-use std::test::Fail;
 
 /// The most posts of a scenario.
 const POSTS: u32 = 20_000;
 
 /// Posts a message of this priority with this transaction number; whether it was taken.
 fn posts(queue: &mut OutQueues, alloc: Global, priority: u16, tid: u64) -> bool {
-    let Ok(mut message) = message_of(alloc, b"") else {
-        return false;
-    };
-    message.header = Header {
-        tid,
-        kind: 7,
-        priority,
-        version: 1,
-        compat: 1,
-        ..message.header
-    };
-    queue.post(message).is_ok()
+    match message_of(alloc, priority, tid, b"") {
+        Ok(message) => queue.post(message).is_ok(),
+        Err(_) => false,
+    }
 }
 
 /// Sends the next message, where a look showed it before: its number, its priority and its
@@ -80,9 +70,9 @@ fn sends_in_order(queue: &mut OutQueues, count: u32) -> bool {
 }
 
 #[test]
-fn a_greater_priority_goes_first_and_a_resend_before_all(rt: HostRuntime) -> Result<(), Fail> {
+fn a_greater_priority_goes_first_and_a_resend_before_all(rt: HostRuntime) {
     let mut queue = OutQueues::new(rt.alloc(), true);
-    queue.reserve(2)?;
+    assert!(rt; queue.reserve(2).is_ok());
     assert_eq!(rt; queue.spare(), 2);
     assert!(rt; posts(&mut queue, rt.alloc(), 127, 1));
     assert!(rt; posts(&mut queue, rt.alloc(), 196, 2));
@@ -99,13 +89,12 @@ fn a_greater_priority_goes_first_and_a_resend_before_all(rt: HostRuntime) -> Res
     assert_eq!(rt; sends(&mut queue), Some((1, 127, 1)));
     queue.discard();
     assert!(rt; !queue.waits());
-    Ok(())
 }
 
 #[test]
-fn a_queue_takes_and_sends_the_posts_of_the_longest_scenario(rt: HostRuntime) -> Result<(), Fail> {
+fn a_queue_takes_and_sends_the_posts_of_the_longest_scenario(rt: HostRuntime) {
     let mut queue = OutQueues::new(rt.alloc(), true);
-    queue.reserve(POSTS)?;
+    assert!(rt; queue.reserve(POSTS).is_ok());
     assert_eq!(rt; queue.spare(), POSTS);
     assert!(rt; posts_many(&mut queue, rt.alloc(), POSTS));
     assert_eq!(rt; queue.spare(), 0);
@@ -113,5 +102,4 @@ fn a_queue_takes_and_sends_the_posts_of_the_longest_scenario(rt: HostRuntime) ->
     assert_eq!(rt; sends(&mut queue), None);
     assert_eq!(rt; queue.acked(u64::from(POSTS)), Ok(()));
     assert!(rt; !queue.waits());
-    Ok(())
 }
