@@ -364,10 +364,10 @@ module _ (r : RecordNow) (s : State) (h : IsReplayedTo s r) (c : CoreNow) (facts
 
 -- ---- by the answer of the end
 
-none-heard : (o : Option Heard) (l new : LiveNow) → o ≡ None → Heeds o l new → new ≡ l
+pub none-heard : (o : Option Heard) (l new : LiveNow) → o ≡ None → Heeds o l new → new ≡ l
 none-heard o l new e w = subst (λ z. Heeds z l new) e w
 
-none-closed : (o : Option Heard) (s : Session) (closed : Option SeenEnd) (p : Option FeedNow) → o ≡ None → closed ≡ closed_if (closes_heard o s) p → closed ≡ None
+pub none-closed : (o : Option Heard) (s : Session) (closed : Option SeenEnd) (p : Option FeedNow) → o ≡ None → closed ≡ closed_if (closes_heard o s) p → closed ≡ None
 none-closed o s closed p e cl = cl ∙ ap (λ (z : Option Heard). closed_if (closes_heard z s) p) e
 
 closed-some : (b : Bool) (mid : FeedNow) → is_some (closed_if b (Some mid)) ≡ b

@@ -17,6 +17,8 @@ pub mod Naming
 pub mod Opening
 pub mod HasPut
 pub mod HasGot
+pub mod Topmost
+pub mod DueSteps
 pub mod Owning
 pub mod Broken
 pub mod Standing

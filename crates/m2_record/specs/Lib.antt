@@ -8,5 +8,6 @@ pub mod Due
 pub mod Calls
 pub mod Reading
 pub mod Framing
+pub mod Stepping
 pub mod Laws
 pub mod Judging

@@ -6,10 +6,8 @@
 //! record by its journal and its logs alone. What it isn't: a thread, a port or a clock. It takes the
 //! moment, the numbers and the grants as its caller hands them in, and opens no socket.
 //!
-//! What it doesn't have yet: the call that takes the first step that is due.
-//!
-//! `specs/Due.antt` has the table of due steps. `specs/RecordNow.antt` says what contracts see of a record,
-//! `specs/Sources.antt` what its journal speaks of.
+//! `specs/Due.antt` has the table of due steps, `specs/Stepping.antt` what each of them does.
+//! `specs/RecordNow.antt` says what contracts see of a record, `specs/Sources.antt` what its journal speaks of.
 #![tactic(auto)]
 
 mod composing;
@@ -28,7 +26,9 @@ mod planned;
 mod reading;
 mod record;
 mod stepped;
+mod stepping;
 mod waits;
+mod work;
 
 pub use composing::Composed;
 pub use due::Due;
@@ -39,3 +39,4 @@ pub use reading::RecordRead;
 pub use record::{MOST_STEPS, Record};
 pub use stepped::Stepped;
 pub use waits::Waits;
+pub use work::Work;
