@@ -1,13 +1,11 @@
 -- A record answers an ask of its peer, and doesn't take the socket.
-use Rattle.std.proofs.Common.{◌≡◌, ℕ, ◌+◌, ◌<◌, ◌&&◌, if◌then◌else◌, Bool, true, false, List, [], ◌∷◌, ◌++◌, length, map, Option, Some, None, refl, sym, ap, subst, ◌∙◌}
+use Rattle.std.proofs.Common.{◌≡◌, ℕ, ◌&&◌, if◌then◌else◌, Bool, true, false, List, [], ◌∷◌, ◌++◌, map, Option, Some, None, refl, sym, ap, subst, ◌∙◌}
 use Rattle.std.specs.List.{AllByRecursion}
 use Rattle.std.specs.Option.{is_none, option_to_list}
 use Rattle.std.proofs.lemmas.List.{append-nil}
 use Rattle.m2_answers.specs.declared.ask.AskFacts.{AskFacts}
-use Rattle.m2_core.specs.Agrees.{Agrees}
 use Rattle.m2_core.specs.Calls as core
 use Rattle.m2_core.specs.CoreNow.{CoreNow, LiveNow, OnFeedNow}
-use Rattle.m2_core.specs.CoreNow as held
 use Rattle.m2_core.specs.Effects.{IsAftermath, closed_if, effects_of}
 use Rattle.m2_core.specs.Judging.{MayBeJudged, judgement_of, told_of}
 use Rattle.m2_core.specs.TakingOver.{MakesJudgement, after_answering}
@@ -15,7 +13,6 @@ use Rattle.m2_core.specs.declared.verdict.Verdict.{Verdict}
 use Rattle.m2_dispatcher.specs.declared.parcel.Parcel.{Parcel}
 use Rattle.m2_fabric.specs.declared.socket.SocketId.{SocketId}
 use Rattle.m2_fabric.specs.End.{SeenEnd}
-use Rattle.m2_fabric.specs.Sockets.{IsNewTo, is_among}
 use Rattle.m2_feed.specs.FeedNow.{FeedNow}
 use Rattle.m2_journal.specs.declared.entry.Entry.{Entry}
 use Rattle.m2_journal.specs.Items.{item_of, reach_of, where_taken}
@@ -24,17 +21,16 @@ use Rattle.m2_journal.specs.Plan.{planned}
 use Rattle.m2_journal.specs.Replay.{IsReplay}
 use Rattle.m2_journal.specs.OutFrames.{replies_of}
 use Rattle.m2_journal.specs.SideFacts.{SideFacts}
-use Rattle.m2_journal.specs.State.{Delivery, Judgement, State}
+use Rattle.m2_journal.specs.State.{Delivery, State}
 use Rattle.m2_journal.specs.Steps as journal
 use Rattle.m2_journal.specs.Steps.{after}
 use Rattle.m2_journal.proofs.Sockets.{judgement}
-use Rattle.m2_message.specs.Message.{Content}
 use Rattle.m2_session.specs.declared.answer.Answer.{Answer}
 use Rattle.m2_session.specs.declared.event.Effects.{Effects}
 use Rattle.m2_session.specs.declared.event.Event.{Event}
 use Rattle.m2_session.specs.declared.session.Session.{Session}
 use Rattle.m2_session.specs.Laws.{takes}
-use Rattle.m2_record.specs.Calls.{KeepsEnds, Owns, closed_entries, told_parcels}
+use Rattle.m2_record.specs.Calls.{KeepsEnds, closed_entries, told_parcels}
 use Rattle.m2_record.specs.IsRecord.{FeedHasRoom, FeedIsOpen, FeedIsWhole, FitFrames, IsRecord, IsReplayedTo, IsWellKept, became_feed, feeds_in}
 use Rattle.m2_record.specs.Judging.{CanAskOn, after_answer, effects_at, judged_entry}
 use Rattle.m2_record.specs.RecordNow.{RecordNow, Rooms, ends_of, feed_end, grounds_of, ids_of, speaks_of}

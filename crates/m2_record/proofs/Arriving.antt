@@ -1,5 +1,5 @@
 -- An arrival that a record may judge: the answer to its ask may have its entry.
-use Rattle.std.proofs.Common.{◌≡◌, ℕ, ◌≤◌, Bool, true, false, List, [], ◌∷◌, ◌++◌, Option, Some, None, refl, sym, ap, subst, ◌∙◌, arith}
+use Rattle.std.proofs.Common.{◌≡◌, ℕ, ◌≤◌, true, List, [], ◌∷◌, ◌++◌, Option, Some, None, sym, ap, subst, ◌∙◌, arith}
 use Rattle.std.specs.Prelude.{IfSome, IsSome}
 use Rattle.std.specs.List.{AllByRecursion}
 use Rattle.m2_answers.specs.declared.ask.AskFacts.{AskFacts}
@@ -15,7 +15,6 @@ use Rattle.m2_journal.specs.Lawful.{IsReadable, may_ask_again}
 use Rattle.m2_journal.specs.SideFacts.{SideFacts}
 use Rattle.m2_journal.specs.State.{State}
 use Rattle.m2_journal.proofs.Sound.{are_sound}
-use Rattle.m2_session.specs.declared.session.Session.{Session}
 use Rattle.m2_trail.specs.Arrivals.{IsArrival}
 use Rattle.m2_trail.specs.Asks.{AgreesWith, facts_of_ask}
 use Rattle.m2_trail.specs.Incoming as incoming

@@ -1,22 +1,22 @@
 -- A feed is closed for a fault of its end.
 use Rattle.std.specs.Prelude.{◌⊎◌}
-use Rattle.std.proofs.Common.{◌≡◌, ℕ, ◌+◌, ◌<◌, ◌&&◌, ◌||◌, not, if◌then◌else◌, Bool, true, false, List, [], ◌∷◌, ◌++◌, map, Option, Some, None, inl, inr, refl, sym, ap, subst, ◌∙◌}
-use Rattle.std.specs.Option.{is_some, option_to_list}
+use Rattle.std.proofs.Common.{◌≡◌, ℕ, ◌&&◌, ◌||◌, not, if◌then◌else◌, Bool, true, false, List, [], ◌∷◌, ◌++◌, map, Option, Some, None, inl, inr, refl, sym, ap, subst, ◌∙◌}
+use Rattle.std.specs.Option.{option_to_list}
 use Rattle.m2_core.specs.Agrees.{Agrees, FeedsAgree, LeadsOn}
 use Rattle.m2_core.specs.Calls.{after_fault}
-use Rattle.m2_core.specs.CoreNow.{CoreNow, LiveNow, OnFeedNow, is_waiting}
+use Rattle.m2_core.specs.CoreNow.{CoreNow, OnFeedNow, is_waiting}
 use Rattle.m2_core.specs.Effects.{IsAftermath, closed_if}
 use Rattle.m2_dispatcher.specs.declared.parcel.Parcel.{Parcel}
 use Rattle.m2_fabric.specs.declared.socket.SocketId.{SocketId}
 use Rattle.m2_fabric.specs.End.{SeenEnd, after_closing}
-use Rattle.m2_fabric.specs.Sockets.{IsNewTo, same_socket}
+use Rattle.m2_fabric.specs.Sockets.{same_socket}
 use Rattle.m2_feed.specs.FeedNow.{FeedNow}
 use Rattle.m2_journal.specs.declared.entry.Entry.{Entry}
 use Rattle.m2_journal.specs.declared.entry.Entry.TheVariants as entry
 use Rattle.m2_journal.specs.declared.facts.NodeFacts.{NodeFacts}
 use Rattle.m2_journal.specs.Items as item
 use Rattle.m2_journal.specs.Items.{item_of, reach_of}
-use Rattle.m2_journal.specs.Lawful.{OnFeed, OnFeedAt, is_broken}
+use Rattle.m2_journal.specs.Lawful.{OnFeedAt, is_broken}
 use Rattle.m2_journal.specs.Plan.{planned}
 use Rattle.m2_journal.specs.Replay.{IsReplay}
 use Rattle.m2_journal.specs.SideFacts.{SideFacts}
@@ -30,7 +30,7 @@ use Rattle.m2_session.specs.declared.session.Phase.TheVariants.{Absent, Standby,
 use Rattle.m2_session.specs.declared.session.Session.{Session}
 use Rattle.m2_session.specs.Steps as table
 use Rattle.m2_session.specs.Steps.{step_of}
-use Rattle.m2_record.specs.Calls.{BytesAreBroken, KeepsEnds, closed_entries, told_parcels}
+use Rattle.m2_record.specs.Calls.{BytesAreBroken, closed_entries, told_parcels}
 use Rattle.m2_record.specs.IsRecord.{IsRecord, IsReplayedTo, IsWellKept, FeedHasRoom, FeedIsOpen, FeedIsWhole, feeds_in}
 use Rattle.m2_record.specs.RecordNow.{RecordNow, Rooms, ends_of, feed_end, grounds_of, ids_of, speaks_of}
 use Rattle.m2_record.specs.Sources.{broken_of, end_at, is_broken_end, sources_of}
@@ -40,10 +40,10 @@ use Rattle.m2_record.proofs.Entering.{reach-more}
 use Rattle.m2_record.proofs.FeedLeft.{closed-left, parcels-left}
 use Rattle.m2_record.specs.Waits.{stepped}
 use Rattle.m2_record.specs.declared.waits.Waits.{Waits}
-use Rattle.m2_record.proofs.Kept.{feeds-more, ids-left, stepped-within, tells-fits, told-from, whole-left}
+use Rattle.m2_record.proofs.Kept.{feeds-more, ids-left, stepped-within, tells-fits, told-from}
 use Rattle.m2_record.proofs.Keeping.{as-planned, ground, one-more, replay-stays}
 use Rattle.m2_record.proofs.Names.{differ, same_refl}
-use Rattle.m2_record.proofs.Telling.{Beside, beside, feed_left, spent_if, tells-beside, tells-feed, told_by}
+use Rattle.m2_record.proofs.Telling.{Beside, beside, feed_left, tells-beside, tells-feed, told_by}
 use Rattle.m2_record.proofs.Trailing.{closed-behind, ends-go-on, trails-more}
 
 -- a fault closes the feed, whatever the session is

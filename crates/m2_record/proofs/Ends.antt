@@ -1,7 +1,6 @@
 -- What a list of ends tells of a socket, where the list changes.
-use Rattle.std.proofs.Common.{◌≡◌, ℕ, Bool, true, false, List, [], ◌∷◌, ◌++◌, map, drop, Option, Some, None, refl, sym, ap, subst, ◌∙◌}
+use Rattle.std.proofs.Common.{◌≡◌, Bool, true, false, List, [], ◌∷◌, ◌++◌, Option, Some, None, refl, sym, subst, ◌∙◌}
 use Rattle.std.specs.Prelude.{◌||◌, if◌then◌else◌}
-use Rattle.m2_fabric.specs.declared.log.Run.{Run}
 use Rattle.m2_fabric.specs.declared.socket.SocketId.{SocketId}
 use Rattle.m2_fabric.specs.End.{SeenEnd, after_closing}
 use Rattle.m2_fabric.specs.Sockets.{IsNewTo, is_among, same_socket}
@@ -9,7 +8,7 @@ use Rattle.m2_journal.specs.declared.entry.Entry.{Entry}
 use Rattle.m2_record.specs.IsRecord.{closed_in}
 use Rattle.m2_record.specs.RecordNow.{ids_of}
 use Rattle.m2_record.specs.Sources.{broken_of, end_at, got_of, put_of, runs_of}
-use Rattle.m2_record.proofs.Names.{apart, differ, same_equal, same_refl}
+use Rattle.m2_record.proofs.Names.{differ, same_equal}
 
 -- ---- among
 

@@ -1,7 +1,5 @@
 -- One entry more: what the journal speaks of goes on as it was, and the journal covers it.
-use Rattle.std.proofs.Common.{◌≡◌, ℕ, ◌+◌, ◌<◌, ◌≤◌, Bool, true, false, List, [], ◌∷◌, ◌++◌, length, Option, Some, None, refl, sym, ap, subst, ◌∙◌, arith, length-append}
-use Rattle.std.specs.Prelude.{◌==◌, if◌then◌else◌}
-use Rattle.std.specs.List.{filter_map}
+use Rattle.std.proofs.Common.{◌≡◌, ℕ, ◌+◌, ◌≤◌, Bool, true, false, List, [], ◌∷◌, ◌++◌, length, Option, Some, None, refl, sym, ap, subst, ◌∙◌, arith, length-append}
 use Rattle.std.proofs.lemmas.List.{append-nil}
 use Rattle.std.proofs.lemmas.List.Elements.{filter_map-append}
 use Rattle.m2_fabric.specs.declared.log.Run.{Run}
@@ -10,7 +8,7 @@ use Rattle.m2_fabric.specs.declared.socket.SocketId.{SocketId}
 use Rattle.m2_fabric.specs.Sockets.{same_socket}
 use Rattle.m2_journal.specs.declared.entry.Entry.{Entry}
 use Rattle.m2_journal.specs.declared.entry.Entry.TheVariants as entry
-use Rattle.m2_journal.specs.Growth.{IsExtended, Grow, AreThere, Continues}
+use Rattle.m2_journal.specs.Growth.{IsExtended, AreThere, Continues}
 use Rattle.m2_journal.specs.Items.{Sources, Places, Counts, raised, AreCovering, passed, passed_by, at_start, reach_of, run_of, runs_on}
 use Rattle.m2_record.specs.Entered.{KeepLogs, HaveRead, HavePut, AreSettled, MovesNothing, StepIsThere}
 use Rattle.m2_record.proofs.Names.{same_refl, same_equal, apart}

@@ -1,28 +1,27 @@
 -- An entry by which the feed may be left: its end, its socket's entry, and what is handed out.
-use Rattle.std.proofs.Common.{◌≡◌, ℕ, ◌<◌, if◌then◌else◌, ◌||◌, Bool, true, false, List, [], ◌∷◌, ◌++◌, map, Option, Some, None, inl, inr, refl, sym, ap, subst, ◌∙◌, append_assoc}
+use Rattle.std.proofs.Common.{◌≡◌, ℕ, if◌then◌else◌, Bool, true, false, List, [], ◌∷◌, ◌++◌, map, Option, Some, None, inr, refl, sym, ap, subst, ◌∙◌, append_assoc}
 use Rattle.std.specs.List.{AllByRecursion}
 use Rattle.std.specs.Option.{option_to_list}
 use Rattle.std.proofs.lemmas.List.{append-nil, map-append}
 use Rattle.m2_core.specs.Agrees.{Agrees, FeedsAgree}
-use Rattle.m2_core.specs.CoreNow.{CoreNow}
 use Rattle.m2_core.specs.Effects.{closed_if}
 use Rattle.m2_dispatcher.specs.declared.parcel.Parcel.{Parcel}
 use Rattle.m2_fabric.specs.declared.socket.SocketId.{SocketId}
 use Rattle.m2_fabric.specs.End.{SeenEnd}
-use Rattle.m2_fabric.specs.Sockets.{IsNewTo, is_among, same_socket}
+use Rattle.m2_fabric.specs.Sockets.{is_among}
 use Rattle.m2_feed.specs.FeedNow.{FeedNow}
 use Rattle.m2_journal.specs.declared.entry.Entry.{Entry}
 use Rattle.m2_journal.specs.declared.entry.Entry.TheVariants as entry
-use Rattle.m2_journal.specs.Items.{item_of, passed, reach_of}
+use Rattle.m2_journal.specs.Items.{item_of, reach_of}
 use Rattle.m2_journal.specs.Replay.{IsReplay}
 use Rattle.m2_journal.specs.SideFacts.{SideFacts}
 use Rattle.m2_journal.specs.State.{Delivery, Feed, State, discarded, remote_reset}
-use Rattle.m2_journal.specs.Steps.{after, closes_socket, forgets, is_on, breaks, without}
+use Rattle.m2_journal.specs.Steps.{after, forgets, is_on, breaks, without}
 use Rattle.m2_session.specs.declared.event.Effects.{Effects}
 use Rattle.m2_record.specs.Calls.{closed_entries, told_parcels}
 use Rattle.m2_record.specs.Calls as calls
 use Rattle.m2_record.specs.IsRecord.{AreBehind, FeedHasRoom, FeedIsOpen, IsClosedEnd, IsRecord, IsReplayedTo, IsWellKept, closed_in}
-use Rattle.m2_record.specs.RecordNow.{RecordNow, Rooms, delivery_of, ends_of, feed_end, grounds_of, ids_of, speaks_of}
+use Rattle.m2_record.specs.RecordNow.{RecordNow, delivery_of, ends_of, feed_end, grounds_of, ids_of, speaks_of}
 use Rattle.m2_record.specs.TakenTrails.{HaveTrails}
 use Rattle.m2_record.proofs.Ends.{EndsStay, ends-moved, ends-same}
 use Rattle.m2_record.proofs.Entering.{reach-more}

@@ -6,7 +6,7 @@ use Rattle.m2_core.specs.declared.next.CoreNext.{CoreNext}
 use Rattle.m2_core.specs.declared.next.CoreNext.TheVariants as next
 use Rattle.m2_core.specs.Accepting.{Accepts}
 use Rattle.m2_core.specs.Agrees.{Stays}
-use Rattle.m2_core.specs.CoreNow.{CoreNow, LiveNow, OnFeedNow}
+use Rattle.m2_core.specs.CoreNow.{CoreNow, OnFeedNow}
 use Rattle.m2_core.specs.Front.{FrontHeard, asks, before_front, front_in, front_of, heard_by, hearer_of, rests, resumption_at, tells}
 use Rattle.m2_core.specs.Granting.{Grants, Throttled, granted_feed}
 use Rattle.m2_core.specs.Next.{Closes, Counts, IsNext, IsResetHeard}
@@ -15,7 +15,6 @@ use Rattle.m2_control.specs.declared.keepalive.Keepalive.{Keepalive}
 use Rattle.m2_feed.specs.FeedNow.{FeedNow, Reading, framing, is_framing, shaking}
 use Rattle.m2_frame.specs.Reading.{Front, Item, bad, judge, owed_at, start, text}
 use Rattle.m2_heard.specs.declared.fault.WireFault.{WireFault}
-use Rattle.m2_heard.specs.declared.fault.WireFault.TheVariants as fault
 use Rattle.m2_heard.specs.declared.heard.FrameHeard.{FrameHeard}
 use Rattle.m2_heard.specs.declared.heard.FrameHeard.TheVariants as heard
 use Rattle.m2_heard.specs.declared.hearer.Hearer.{Hearer}

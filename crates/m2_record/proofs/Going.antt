@@ -1,12 +1,11 @@
 -- A record is marked down.
-use Rattle.std.proofs.Common.{◌≡◌, ℕ, ◌+◌, ◌<◌, ◌^◌, if◌then◌else◌, Bool, true, false, List, [], ◌∷◌, ◌++◌, length, map, Option, Some, None, refl, sym, ap, subst, ◌∙◌, arith}
+use Rattle.std.proofs.Common.{◌≡◌, ℕ, ◌+◌, ◌<◌, ◌^◌, if◌then◌else◌, Bool, true, false, List, [], ◌∷◌, ◌++◌, map, Option, Some, None, refl, sym, ap, subst, ◌∙◌, arith}
 use Rattle.std.specs.Option.{option_to_list}
 use Rattle.std.proofs.lemmas.Option.{slice_get_within}
 use Rattle.m2_core.specs.Agrees.{Agrees, LeadsOn, MayCome}
 use Rattle.m2_core.specs.Calls.{after_down, is_exhausted}
 use Rattle.m2_core.specs.CoreNow.{CoreNow}
 use Rattle.m2_core.specs.Effects.{IsAftermath, closed_if}
-use Rattle.m2_core.specs.Effects as core
 use Rattle.m2_dispatcher.specs.declared.parcel.Parcel.{Parcel}
 use Rattle.m2_fabric.specs.declared.socket.SocketId.{SocketId}
 use Rattle.m2_fabric.specs.End.{SeenEnd}
@@ -20,7 +19,7 @@ use Rattle.m2_journal.specs.Items.{item_of, passed, reach_of}
 use Rattle.m2_journal.specs.Lawful.{IsDown, Lawful}
 use Rattle.m2_journal.specs.Plan.{Planned, planned}
 use Rattle.m2_journal.specs.Replay.{IsReplay}
-use Rattle.m2_journal.specs.State.{Delivery, State}
+use Rattle.m2_journal.specs.State.{State}
 use Rattle.m2_journal.specs.Steps.{after, goes_down, tells}
 use Rattle.m2_session.specs.declared.event.Effects.{Effects}
 use Rattle.m2_session.specs.declared.event.Event.TheVariants as event

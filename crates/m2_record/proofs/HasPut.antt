@@ -1,5 +1,5 @@
 -- A feed's end is written once.
-use Rattle.std.proofs.Common.{◌≡◌, ℕ, ◌+◌, ◌<◌, ◌≤◌, Bool, true, false, if◌then◌else◌, List, [], ◌∷◌, ◌++◌, map, take, drop, length, Option, Some, None, refl, sym, ap, subst, ◌∙◌, arith}
+use Rattle.std.proofs.Common.{◌≡◌, ℕ, ◌<◌, ◌≤◌, Bool, true, false, if◌then◌else◌, List, [], ◌∷◌, ◌++◌, map, take, drop, length, Option, Some, None, refl, sym, ap, subst, ◌∙◌, arith}
 use Rattle.std.proofs.Math.Seq.{drop-append_seam, take-length}
 use Rattle.std.proofs.lemmas.List.{append-nil, length-take-le, map-append}
 use Rattle.m2_core.specs.Agrees.{LeadsOn, MayCome, Stays}
@@ -34,7 +34,7 @@ use Rattle.m2_record.specs.Calls.{IsCounted, entries_put, held_after, moment_aft
 use Rattle.m2_record.specs.Entered.{AreSettled, HavePut}
 use Rattle.m2_record.specs.IsRecord.{FeedHasRoom, FeedIsOpen, FeedIsWhole, FitFrames, IsOpenAmong, IsRecord, IsReplayedTo, IsWellKept, closed_in, feeds_in}
 use Rattle.m2_record.specs.Waits.{IsWithin}
-use Rattle.m2_record.specs.RecordNow.{RecordNow, Rooms, ends_of, feed_end, grounds_of, ids_of, speaks_of}
+use Rattle.m2_record.specs.RecordNow.{RecordNow, Rooms, feed_end, ids_of}
 use Rattle.m2_record.specs.Sources.{broken_of, end_at, got_of, log_at, put_of, read_before, runs_of, sources_of, trail_at}
 use Rattle.m2_record.specs.TakenTrails.{HaveTrails}
 use Rattle.m2_record.proofs.Ends.{EndsStay}

@@ -1,5 +1,5 @@
 -- An end of a record hears news: its name, its log and its faults stay.
-use Rattle.std.proofs.Common.{◌≡◌, ℕ, ◌<◌, Bool, true, false, List, [], ◌∷◌, ◌++◌, map, Option, Some, None, Result, Ok, Err, refl, sym, ap, subst, ◌∙◌, OnOk, OnErr}
+use Rattle.std.proofs.Common.{◌≡◌, ℕ, Bool, true, false, List, [], ◌∷◌, ◌++◌, map, Option, Some, None, Result, Ok, Err, refl, sym, ap, subst, ◌∙◌, OnOk, OnErr}
 use Rattle.std.specs.Prelude.{if◌then◌else◌}
 use Rattle.std.specs.List.{AllByRecursion}
 use Rattle.std.proofs.lemmas.List.{map-append}
@@ -17,10 +17,8 @@ use Rattle.m2_feed.specs.FeedNow.{FeedNow}
 use Rattle.m2_journal.specs.declared.entry.Entry.{Entry}
 use Rattle.m2_journal.specs.Plan.{planned}
 use Rattle.m2_journal.specs.Replay.{IsReplay}
-use Rattle.m2_journal.specs.State.{State}
-use Rattle.m2_record.specs.Calls.{is_feed}
-use Rattle.m2_record.specs.IsRecord.{FeedHasRoom, FeedIsOpen, FeedIsWhole, IsClosedEnd, IsRecord, IsReplayedTo, IsWellKept, closed_in, feeds_in}
-use Rattle.m2_record.specs.RecordNow.{RecordNow, Rooms, feed_end, ids_of, speaks_of}
+use Rattle.m2_record.specs.IsRecord.{FeedHasRoom, FeedIsOpen, FeedIsWhole, IsClosedEnd, IsRecord, closed_in, feeds_in}
+use Rattle.m2_record.specs.RecordNow.{RecordNow, feed_end, ids_of}
 use Rattle.m2_record.specs.Sources.{broken_of, end_at, got_of, put_of, runs_of, sources_of}
 use Rattle.m2_record.specs.TakenTrails.{HaveTrails}
 use Rattle.m2_record.proofs.Ends.{EndsStay, TellTheSame, tells-itself}

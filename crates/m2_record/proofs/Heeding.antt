@@ -1,5 +1,5 @@
 -- What stands at the front of the feed is done: each entry of it, and none.
-use Rattle.std.proofs.Common.{◌≡◌, ℕ, ◌+◌, ◌-◌, ◌≤◌, ◌||◌, not, if◌then◌else◌, Bool, true, false, List, [], ◌∷◌, ◌++◌, length, map, Option, Some, None, inl, inr, refl, sym, ap, subst, ◌∙◌, arith}
+use Rattle.std.proofs.Common.{◌≡◌, ℕ, ◌+◌, ◌-◌, ◌≤◌, ◌||◌, not, if◌then◌else◌, Bool, true, false, List, [], ◌∷◌, ◌++◌, length, Option, Some, None, inl, inr, refl, sym, ap, subst, ◌∙◌, arith}
 use Rattle.std.specs.Prelude.{◌⊎◌, nat_lt}
 use Rattle.std.specs.List.{AllByRecursion}
 use Rattle.std.specs.Option.{is_some, option_to_list}
@@ -63,7 +63,7 @@ use Rattle.m2_record.proofs.Kept.{acked-fits, all-append, tells-fits, told-from}
 use Rattle.m2_record.proofs.Names.{differ}
 use Rattle.m2_record.proofs.Owning.{tells-owned, told-all}
 use Rattle.m2_record.proofs.Standing.{HandsMore, SameEnd, enters-record, hands-record, stands-record}
-use Rattle.m2_record.proofs.Telling.{Beside, beside, feed_left, tells-beside, tells-feed}
+use Rattle.m2_record.proofs.Telling.{beside, feed_left, tells-beside, tells-feed}
 
 -- ---- no entry
 

@@ -1,5 +1,5 @@
 -- What a journal speaks of stays: from the ends, the plan and the trails to the sources, and to the replay.
-use Rattle.std.proofs.Common.{◌≡◌, ℕ, ◌+◌, ◌<◌, ◌≤◌, Bool, true, false, List, [], ◌∷◌, ◌++◌, map, drop, length, Option, Some, None, refl, sym, ap, subst, ◌∙◌}
+use Rattle.std.proofs.Common.{◌≡◌, Bool, true, false, List, [], ◌∷◌, ◌++◌, drop, refl, sym, ap}
 use Rattle.std.specs.Prelude.{◌||◌}
 use Rattle.std.proofs.lemmas.List.{append-nil}
 use Rattle.m2_fabric.specs.declared.socket.SocketId.{SocketId}
@@ -7,7 +7,7 @@ use Rattle.m2_fabric.specs.End.{SeenEnd}
 use Rattle.m2_fabric.specs.Sockets.{is_among, same_socket}
 use Rattle.m2_journal.specs.declared.entry.Entry.{Entry}
 use Rattle.m2_journal.specs.declared.entry.Entry.TheVariants as entry
-use Rattle.m2_journal.specs.Growth.{Continues, IsExtended, IsSettled}
+use Rattle.m2_journal.specs.Growth.{IsExtended}
 use Rattle.m2_journal.specs.Items.{Sources, item_of, reach_of}
 use Rattle.m2_journal.specs.Lawful.{Lawful}
 use Rattle.m2_journal.specs.Plan.{Planned}
@@ -15,7 +15,6 @@ use Rattle.m2_journal.specs.Replay.{IsReplay}
 use Rattle.m2_journal.specs.SideFacts.{SideFacts}
 use Rattle.m2_journal.specs.State.{State}
 use Rattle.m2_journal.specs.Steps.{after}
-use Rattle.m2_journal.specs.Laws.{ReplaysStay, OneMoreLeadsOn}
 use Rattle.m2_journal.proofs.Growing.{one_more, replays_stay}
 use Rattle.m2_record.specs.Entered.{AreSettled, KeepLogs, MovesNothing, StepIsThere}
 use Rattle.m2_record.specs.IsRecord.{closed_in}

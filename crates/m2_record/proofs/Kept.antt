@@ -1,10 +1,10 @@
 -- What holds of a record beside its journal, and how its calls keep it.
-use Rattle.std.proofs.Common.{◌≡◌, ℕ, ◌+◌, ◌<◌, ◌≤◌, ◌&&◌, not, if◌then◌else◌, Bool, true, false, List, [], ◌∷◌, ◌++◌, length, map, take, drop, max, min, Option, Some, None, zero, suc, refl, sym, ap, subst, ◌∙◌, arith, append_assoc}
-use Rattle.std.specs.List.{AllByRecursion, filter_map}
+use Rattle.std.proofs.Common.{◌≡◌, ℕ, ◌+◌, ◌&&◌, not, if◌then◌else◌, Bool, true, false, List, [], ◌∷◌, ◌++◌, length, take, drop, max, Option, Some, None, zero, suc, refl, sym, ap, subst, ◌∙◌, arith}
+use Rattle.std.specs.List.{AllByRecursion}
 use Rattle.std.specs.Option.{option_to_list}
 use Rattle.std.proofs.lemmas.List.{append-nil, map-append}
 use Rattle.std.proofs.lemmas.List.Elements.{filter_map-append}
-use Rattle.m2_core.specs.CoreNow.{LiveNow, OnFeedNow}
+use Rattle.m2_core.specs.CoreNow.{LiveNow}
 use Rattle.m2_core.specs.Effects as core
 use Rattle.m2_core.specs.Effects.{closed_if}
 use Rattle.m2_dispatcher.specs.declared.parcel.Parcel.{Parcel}
@@ -26,7 +26,7 @@ use Rattle.m2_session.specs.Steps.{step_of}
 use Rattle.std.specs.Prelude.{nat_lt, slice_get}
 use Rattle.m2_core.specs.Numbering.{FitsFrame}
 use Rattle.m2_record.specs.Calls.{closed_entries, one_if, told_parcels}
-use Rattle.m2_record.specs.IsRecord.{FeedIsWhole, FitFrames, IsFrom, IsRecord, IsWellKept, became_feed, feeds_in}
+use Rattle.m2_record.specs.IsRecord.{FeedIsWhole, FitFrames, IsFrom, IsWellKept, became_feed, feeds_in}
 use Rattle.m2_record.specs.RecordNow.{RecordNow, Rooms, feed_end, ids_of}
 use Rattle.m2_record.specs.Waits.{IsWithin, AreWaits, begun, over, stepped}
 use Rattle.m2_record.specs.declared.waits.Waits.{Waits}

@@ -1,5 +1,5 @@
 -- The sockets that a replayed record has opened, and the asks that it has judged, stand in its journal.
-use Rattle.std.proofs.Common.{◌≡◌, ℕ, ◌+◌, Bool, true, false, if◌then◌else◌, ◌||◌, List, [], ◌∷◌, ◌++◌, map, Option, Some, None, refl, sym, ap, subst, ◌∙◌, append_assoc}
+use Rattle.std.proofs.Common.{◌≡◌, ℕ, ◌+◌, Bool, true, false, if◌then◌else◌, List, [], ◌∷◌, ◌++◌, map, Option, Some, None, refl, sym, ap, subst, ◌∙◌, append_assoc}
 use Rattle.std.specs.List.{filter_map}
 use Rattle.std.specs.Option.{option_map, option_to_list}
 use Rattle.std.proofs.lemmas.List.{append-nil}
@@ -8,8 +8,7 @@ use Rattle.m2_fabric.specs.declared.socket.SocketId.{SocketId}
 use Rattle.m2_fabric.specs.Sockets.{IsNewTo, is_among, same_socket}
 use Rattle.m2_message.specs.Message.{Content}
 use Rattle.m2_policy.specs.declared.path.Key.{Key}
-use Rattle.m2_queues.specs.OutQueues.{message_at}
-use Rattle.m2_queues.specs.Laws.{Next, Acked}
+use Rattle.m2_queues.specs.Laws.{Next}
 use Rattle.m2_session.specs.declared.answer.Answer.{Answer}
 use Rattle.m2_session.specs.declared.event.Event.{Event}
 use Rattle.m2_session.specs.declared.event.Event.TheVariants as event
@@ -32,7 +31,7 @@ use Rattle.m2_journal.proofs.Sockets.{Names, judgement, names_of}
 use Rattle.m2_record.specs.IsRecord.{became_feed, closed_by, closed_in, feeds_in, named_in, socket_of}
 use Rattle.m2_record.specs.TakenTrails.{judgement_of, judgements_in, taken_by, taken_in}
 use Rattle.m2_record.proofs.Ends.{neither}
-use Rattle.m2_record.proofs.Telling.{Beside, beside, tells-beside}
+use Rattle.m2_record.proofs.Telling.{Beside, tells-beside}
 
 -- ---- what an entry names
 

@@ -1,5 +1,5 @@
 -- A record opens a socket.
-use Rattle.std.proofs.Common.{◌≡◌, ℕ, ◌+◌, ◌<◌, ◌≤◌, ◌&&◌, ◌||◌, not, Bool, true, false, List, [], ◌∷◌, ◌++◌, map, Option, Some, None, refl, sym, ap, subst, ◌∙◌, arith}
+use Rattle.std.proofs.Common.{◌≡◌, ℕ, ◌<◌, ◌≤◌, ◌&&◌, ◌||◌, not, Bool, true, false, List, [], ◌∷◌, ◌++◌, map, Option, Some, None, refl, sym, ap, subst, ◌∙◌, arith}
 use Rattle.std.specs.Prelude.{nat_lt, IfSome, IsSome}
 use Rattle.std.specs.List.{list_any}
 use Rattle.std.specs.Option.{is_some, option_to_list}
@@ -7,13 +7,13 @@ use Rattle.std.proofs.lemmas.Bool.{ltb-false}
 use Rattle.std.proofs.lemmas.List.Folds.{list_any-append}
 use Rattle.m2_control.specs.declared.fields.TheConstants.{GREATEST_NUMBER}
 use Rattle.m2_core.specs.Agrees.{FeedsAgree, LeadsOn}
-use Rattle.m2_core.specs.Calls.{IsOpening, after_opened, is_exhausted, needed}
+use Rattle.m2_core.specs.Calls.{IsOpening, after_opened, is_exhausted}
 use Rattle.m2_core.specs.CoreNow.{CoreNow, OnFeedNow, may_dial}
 use Rattle.m2_answers.specs.Dials.{at_rest}
 use Rattle.m2_bytes.specs.Items.{Holding}
 use Rattle.m2_fabric.specs.declared.socket.SocketId.{SocketId}
 use Rattle.m2_fabric.specs.End.{SeenEnd}
-use Rattle.m2_fabric.specs.Sockets.{IsNewTo, goes_to}
+use Rattle.m2_fabric.specs.Sockets.{IsNewTo}
 use Rattle.m2_feed.specs.FeedNow.{FeedNow}
 use Rattle.m2_journal.specs.declared.entry.Entry.{Entry}
 use Rattle.m2_journal.specs.declared.entry.Entry.TheVariants as entry
@@ -35,11 +35,11 @@ use Rattle.m2_session.specs.Phases.{is, is_among, with_feed}
 use Rattle.m2_fabric.specs.Log.{Log, nothing_done}
 use Rattle.m2_session.specs.declared.event.Event.TheVariants as event
 use Rattle.m2_record.specs.Calls.{ConnectIsDue, IsNewSocket, IsUntouched}
-use Rattle.m2_record.specs.IsRecord.{FeedHasRoom, FeedIsOpen, FitFrames, IsRecord, IsReplayedTo, IsWellKept, closed_in, feeds_in}
-use Rattle.m2_record.specs.RecordNow.{RecordNow, Rooms, ends_of, feed_end, grounds_of, ids_of, speaks_of}
+use Rattle.m2_record.specs.IsRecord.{FeedHasRoom, IsRecord, IsReplayedTo, IsWellKept, closed_in, feeds_in}
+use Rattle.m2_record.specs.RecordNow.{RecordNow, Rooms, feed_end, grounds_of, ids_of, speaks_of}
 use Rattle.m2_record.specs.Sources.{sources_of}
 use Rattle.m2_record.specs.TakenTrails.{HaveTrails}
-use Rattle.m2_record.proofs.Ends.{HasDoneNothing, ends-fresh, neither}
+use Rattle.m2_record.proofs.Ends.{ends-fresh, neither}
 use Rattle.m2_record.proofs.Entering.{reach-more}
 use Rattle.m2_record.proofs.Keeping.{as-planned, ground, one-more, replay-stays}
 use Rattle.m2_record.proofs.Dues.{connects}

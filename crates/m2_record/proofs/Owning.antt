@@ -1,5 +1,5 @@
 -- What a record holds was granted by one throttle, and stays so.
-use Rattle.std.proofs.Common.{◌≡◌, ℕ, Bool, true, false, List, [], ◌∷◌, ◌++◌, Option, Some, None, refl, sym, ap, subst}
+use Rattle.std.proofs.Common.{◌≡◌, ℕ, Bool, true, false, List, [], ◌∷◌, ◌++◌, Option, Some, None, sym, ap, subst}
 use Rattle.std.specs.Prelude.{IfSome, IsSome}
 use Rattle.std.specs.List.{AllByRecursion}
 use Rattle.m2_core.specs.Calls.{after_down, after_fault, tells_if}

@@ -5,14 +5,12 @@ use Rattle.std.specs.Option.{is_some, option_to_list}
 use Rattle.std.proofs.lemmas.List.{map-append}
 use Rattle.m2_bytes.specs.Items.{Holding, Pushes}
 use Rattle.m2_journal.specs.declared.facts.PlanStep.{PlanStep}
-use Rattle.m2_journal.specs.Items.{Sources}
 use Rattle.m2_journal.specs.Plan.{Planned, planned}
 use Rattle.m2_journal.specs.Replay.{IsReplay}
 use Rattle.m2_dispatcher.specs.declared.parcel.Parcel.{Parcel}
-use Rattle.m2_journal.specs.State.{Delivery}
 use Rattle.m2_record.specs.Calls.{planned_too}
-use Rattle.m2_record.specs.IsRecord.{CanBePlanned, IsFrom, IsRecord, IsReplayedTo}
-use Rattle.m2_record.specs.RecordNow.{RecordNow, Rooms, delivery_of, ends_of, grounds_of}
+use Rattle.m2_record.specs.IsRecord.{CanBePlanned, IsFrom, IsRecord}
+use Rattle.m2_record.specs.RecordNow.{RecordNow, delivery_of, ends_of}
 use Rattle.m2_record.specs.Sources.{sources_of}
 use Rattle.m2_record.proofs.Ends.{ends-same}
 use Rattle.m2_record.proofs.Keeping.{ground, replay-stays}

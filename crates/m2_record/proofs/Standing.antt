@@ -1,5 +1,5 @@
 -- A record whose core goes on while its feed's end stays as it is.
-use Rattle.std.proofs.Common.{◌≡◌, ℕ, ◌+◌, ◌<◌, Bool, true, false, List, [], ◌∷◌, ◌++◌, length, map, Option, Some, None, refl, sym, ap, subst, ◌∙◌, append_assoc, arith, length-append}
+use Rattle.std.proofs.Common.{◌≡◌, ℕ, Bool, true, false, List, [], ◌∷◌, ◌++◌, length, map, Option, Some, None, refl, sym, ap, subst, ◌∙◌, append_assoc, arith, length-append}
 use Rattle.std.specs.List.{AllByRecursion}
 use Rattle.std.specs.Prelude.{if◌then◌else◌}
 use Rattle.std.proofs.lemmas.List.{append-nil, map-append}
@@ -25,7 +25,7 @@ use Rattle.m2_session.specs.declared.answer.Answer.{Answer}
 use Rattle.m2_session.specs.declared.event.Event.{Event}
 use Rattle.m2_session.specs.Laws.{takes}
 use Rattle.m2_record.specs.Entered.{MovesNothing, StepIsThere}
-use Rattle.m2_record.specs.IsRecord.{AreBehind, FeedHasRoom, FeedIsOpen, FeedIsWhole, FitFrames, IsFrom, IsOpenAmong, IsRecord, IsReplayedTo, IsWellKept, became_feed, closed_by, feeds_in}
+use Rattle.m2_record.specs.IsRecord.{FeedHasRoom, FeedIsOpen, FeedIsWhole, FitFrames, IsFrom, IsOpenAmong, IsRecord, IsReplayedTo, IsWellKept, became_feed, closed_by, feeds_in}
 use Rattle.m2_record.specs.RecordNow.{RecordNow, Rooms, delivery_of, ends_of, feed_end, grounds_of, ids_of, speaks_of}
 use Rattle.m2_record.specs.Sources.{sources_of}
 use Rattle.m2_record.specs.TakenTrails.{HaveTrails, judgement_of}

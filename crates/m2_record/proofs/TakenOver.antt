@@ -1,5 +1,5 @@
 -- A record answers an ask of its peer by taking the socket.
-use Rattle.std.proofs.Common.{◌≡◌, ℕ, ◌+◌, ◌<◌, ◌≤◌, ◌||◌, if◌then◌else◌, Bool, true, false, List, [], ◌∷◌, ◌++◌, drop, length, map, Option, Some, None, refl, sym, ap, subst, ◌∙◌, arith}
+use Rattle.std.proofs.Common.{◌≡◌, ℕ, ◌<◌, ◌≤◌, ◌||◌, if◌then◌else◌, Bool, true, false, List, [], ◌∷◌, ◌++◌, drop, length, map, Option, Some, None, refl, sym, ap, subst, ◌∙◌, arith}
 use Rattle.std.specs.Prelude.{IfSome, IsSome}
 use Rattle.std.specs.List.{AllByRecursion, filter_map}
 use Rattle.std.specs.Option.{option_to_list}
@@ -9,7 +9,7 @@ use Rattle.std.proofs.lemmas.List.Elements.{filter_map-append}
 use Rattle.m2_addr.proofs.Addresses.{all_push}
 use Rattle.m2_answers.specs.declared.ask.AskFacts.{AskFacts}
 use Rattle.m2_core.specs.Agrees.{Agrees}
-use Rattle.m2_core.specs.CoreNow.{CoreNow, LiveNow}
+use Rattle.m2_core.specs.CoreNow.{CoreNow}
 use Rattle.m2_core.specs.Effects.{IsAftermath, closed_if, effects_of}
 use Rattle.m2_core.specs.Judging.{IsVerdict, MayBeJudged, judgement_of, told_of}
 use Rattle.m2_core.specs.TakingOver.{IsTakenFeed, MakesJudgement, after_taking}
@@ -25,14 +25,14 @@ use Rattle.m2_feed.specs.FeedNow.{FeedNow}
 use Rattle.m2_journal.specs.declared.entry.Entry.{Entry}
 use Rattle.m2_journal.specs.declared.entry.Entry.TheVariants as entry
 use Rattle.m2_journal.specs.declared.entry.JudgedItem.{JudgedItem}
-use Rattle.m2_journal.specs.Growth.{IsExtended, IsSettled}
+use Rattle.m2_journal.specs.Growth.{IsSettled}
 use Rattle.m2_journal.specs.Items.{Sources, item_of, reach_of, where_taken}
 use Rattle.m2_journal.specs.Lawful.{IsOfTrail, Lawful, judged_on, may_ask_again}
 use Rattle.m2_journal.specs.OutFrames.{replies_of}
 use Rattle.m2_journal.specs.Plan.{Planned, planned}
 use Rattle.m2_journal.specs.Replay.{IsReplay}
 use Rattle.m2_journal.specs.SideFacts.{SideFacts}
-use Rattle.m2_journal.specs.State.{Delivery, Feed, State}
+use Rattle.m2_journal.specs.State.{Feed, State}
 use Rattle.m2_journal.specs.Steps as journal
 use Rattle.m2_journal.specs.Steps.{after, is_on}
 use Rattle.m2_journal.proofs.Growing.{one_more}
@@ -47,9 +47,9 @@ use Rattle.m2_trail.proofs.Points.{prefix_trans}
 use Rattle.m2_trail.proofs.Staying.{trails_cover}
 use Rattle.m2_record.specs.Calls.{KeepsEnds, closed_entries, told_parcels}
 use Rattle.m2_record.specs.Entered.{AreSettled, KeepLogs}
-use Rattle.m2_record.specs.IsRecord.{FeedHasRoom, FeedIsOpen, FeedIsWhole, IsRecord, IsReplayedTo, IsWellKept, became_feed, closed_by, closed_in, feeds_in}
+use Rattle.m2_record.specs.IsRecord.{FeedIsOpen, IsRecord, IsReplayedTo, IsWellKept, became_feed, closed_by, closed_in, feeds_in}
 use Rattle.m2_record.specs.Judging.{CanBeTaken, IsWholeHalf, TakenHalf, TakesOver, after_taking_over, effects_at, judged_entry}
-use Rattle.m2_record.specs.RecordNow.{RecordNow, Rooms, ends_of, feed_end, grounds_of, ids_of, speaks_of}
+use Rattle.m2_record.specs.RecordNow.{RecordNow, Rooms, ends_of, feed_end, ids_of, speaks_of}
 use Rattle.m2_record.specs.Sources as source
 use Rattle.m2_record.specs.Sources.{broken_of, end_at, got_of, log_at, log_of, put_of, read_before, runs_before, runs_of, sources_of, trail_at, written_before}
 use Rattle.m2_record.specs.TakenTrails.{HaveTrails, IsKeptTrail, IsTrailBeside, judgements_in, taken_by, taken_in}

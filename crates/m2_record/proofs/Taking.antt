@@ -1,5 +1,5 @@
 -- Steps of the plan that make one entry: a dial and a post.
-use Rattle.std.proofs.Common.{◌≡◌, ℕ, ◌+◌, ◌<◌, List, [], ◌∷◌, ◌++◌, length, map, Option, Some, None, refl, sym, ap, subst, ◌∙◌, arith}
+use Rattle.std.proofs.Common.{◌≡◌, ℕ, ◌+◌, ◌<◌, [], ◌∷◌, ◌++◌, length, map, Option, Some, None, refl, sym, ap, subst, ◌∙◌}
 use Rattle.std.specs.Prelude.{slice_get}
 use Rattle.std.specs.Option.{option_map}
 use Rattle.std.proofs.lemmas.Option.{slice_get-map, slice_get_within}
@@ -13,7 +13,7 @@ use Rattle.m2_journal.specs.declared.facts.PlanStep.TheVariants as step
 use Rattle.m2_journal.specs.Items as item
 use Rattle.m2_journal.specs.Items.{item_of, passed, reach_of}
 use Rattle.m2_journal.specs.Lawful.{IsDial, IsPost}
-use Rattle.m2_journal.specs.Plan.{Planned, planned, to_dial, to_post}
+use Rattle.m2_journal.specs.Plan.{Planned, planned, to_post}
 use Rattle.m2_journal.specs.Replay.{IsReplay}
 use Rattle.m2_journal.specs.State.{State}
 use Rattle.m2_journal.specs.Steps.{after, wants_dial}
@@ -22,7 +22,7 @@ use Rattle.m2_message.specs.Message.{content_of}
 use Rattle.m2_bytes.specs.Items.{Holding}
 use Rattle.m2_record.specs.Calls.{IsDialNext}
 use Rattle.m2_record.specs.Due.{next_step}
-use Rattle.m2_record.specs.IsRecord.{CanBePlanned, FeedIsOpen, IsOpenAmong, IsRecord, IsReplayedTo, IsWellKept, closed_in}
+use Rattle.m2_record.specs.IsRecord.{CanBePlanned, IsRecord, IsReplayedTo, IsWellKept}
 use Rattle.m2_record.specs.RecordNow.{RecordNow, Rooms, ends_of, grounds_of, speaks_of}
 use Rattle.m2_record.proofs.Entering.{reach-more}
 use Rattle.m2_record.proofs.Keeping.{one-more}

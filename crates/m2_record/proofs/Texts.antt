@@ -1,15 +1,15 @@
 -- A record composes a text: what each of the core's calls leaves of its feed's end, of its queue and of the state.
-use Rattle.std.proofs.Common.{◌≡◌, ℕ, ◌≤◌, Bool, true, false, List, [], ◌∷◌, ◌++◌, length, Option, Some, None, map, Result, Ok, Err, inr, refl, sym, ap, subst, ◌∙◌}
+use Rattle.std.proofs.Common.{◌≡◌, ℕ, Bool, true, false, List, [], ◌++◌, Option, Some, None, map, Result, Ok, Err, inr, refl, sym, ap, subst, ◌∙◌}
 use Rattle.std.specs.Prelude.{◌⊎◌}
 use Rattle.std.specs.Prelude.{slice_get, nat_lt, if◌then◌else◌}
 use Rattle.std.proofs.lemmas.List.{append-nil}
 use Rattle.std.specs.List.{AllByRecursion}
 use Rattle.m2_bytes.specs.declared.memory.NoMemory as memory
-use Rattle.m2_core.specs.Agrees.{Agrees, LeadsOn, MayCome, Stays}
-use Rattle.m2_core.specs.Asking.{AsksWith, ComposesAsk, HasAsked, LeavesAsk}
+use Rattle.m2_core.specs.Agrees.{Stays}
+use Rattle.m2_core.specs.Asking.{ComposesAsk, HasAsked, LeavesAsk}
 use Rattle.m2_core.specs.Composing.{AnswersStamp, ComposesFeed, HasAcknowledged, HasAnswered}
 use Rattle.m2_core.specs.CoreNow.{CoreNow, OnFeedNow}
-use Rattle.m2_core.specs.Numbering.{ChangesRoom, ComposesMessage, FitsFrame, HasNumbered, IsNextSendable, NumbersOn}
+use Rattle.m2_core.specs.Numbering.{ChangesRoom, ComposesMessage, FitsFrame, HasNumbered, IsNextSendable}
 use Rattle.m2_core.specs.Shaken.{GreetsFeed, HasShaken}
 use Rattle.m2_core.specs.declared.asking.CoreAsk.{CoreAsk}
 use Rattle.m2_core.specs.declared.asking.CoreAsk.TheVariants as ask
@@ -34,10 +34,9 @@ use Rattle.m2_journal.specs.Steps as journal
 use Rattle.m2_journal.specs.Steps.{after}
 use Rattle.m2_journal.proofs.Paying.{can_be_paid}
 use Rattle.m2_message.specs.Message.{Content}
-use Rattle.m2_queues.specs.OutQueues.{Outgoing, Queue, after_next, message_at, next_number}
+use Rattle.m2_queues.specs.OutQueues.{Outgoing, Queue, after_next, message_at}
 use Rattle.m2_queues.specs.Laws.{Next}
 use Rattle.m2_session.specs.declared.event.Event.TheVariants as event
-use Rattle.m2_session.specs.declared.session.Session.{Session}
 use Rattle.m2_record.specs.Calls.{BytesAreBroken, IsFaultOf, asked_entries, numbered_entries}
 use Rattle.m2_record.specs.Sources.{is_broken_end, sources_of}
 use Rattle.m2_record.proofs.Keeping.{ground}
@@ -45,7 +44,7 @@ use Rattle.m2_record.specs.IsRecord.{FitFrames, IsRecord, IsReplayedTo}
 use Rattle.m2_record.specs.RecordNow.{RecordNow, Rooms, speaks_of}
 use Rattle.m2_record.proofs.Kept.{all-get, next-fits, sent-fits}
 use Rattle.m2_record.proofs.Standing.{SameEnd, enters-record, same-feed_end, stands-record}
-use Rattle.m2_record.proofs.Telling.{Beside, beside, tells-beside}
+use Rattle.m2_record.proofs.Telling.{beside, tells-beside}
 
 abbrev Memory : Type 0
 Memory = Result (Unit {0}) memory.NoMemory

@@ -1,5 +1,5 @@
 -- What calls of a record leave of it. This project's own.
-use Rattle.std.specs.Prelude.{◌≡◌, ◌⊎◌, ℕ, ◌+◌, ◌-◌, ◌^◌, ◌≤◌, ◌<◌, Bool, true, false, min, if◌then◌else◌, List, [], ◌∷◌, ◌++◌, length, slice_get, Option, Some, None, IfSome, IsSome, Result, Ok, Err}
+use Rattle.std.specs.Prelude.{◌≡◌, ◌⊎◌, ℕ, ◌+◌, ◌-◌, ◌^◌, ◌≤◌, ◌<◌, Bool, true, false, if◌then◌else◌, List, [], ◌∷◌, ◌++◌, Option, Some, None, IfSome, IsSome, Result, Ok, Err}
 use Rattle.std.specs.List.{AllByRecursion}
 use Rattle.std.specs.Option.{option_to_list}
 use Rattle.m2_bytes.specs.declared.memory.NoMemory as memory
@@ -51,7 +51,7 @@ use Rattle.m2_record.specs.declared.composing.Composed.{Composed}
 use Rattle.m2_record.specs.declared.composing.Composed.TheVariants as composed
 use Rattle.m2_record.specs.Due.{due_step, next_step, on_feed}
 use Rattle.m2_record.specs.declared.due.Due.TheVariants as due
-use Rattle.m2_record.specs.IsRecord.{CanBePlanned, IsReplayedTo, named_in}
+use Rattle.m2_record.specs.IsRecord.{IsReplayedTo, named_in}
 use Rattle.m2_record.specs.Waits.{begun, not_above, stepped}
 use Rattle.m2_record.specs.RecordNow.{RecordNow, Rooms, ends_of, ids_of}
 use Rattle.m2_record.specs.Sources.{is_broken_end}

@@ -1,6 +1,6 @@
 -- The first step of a record that is due, by a table: the first row that holds. The table is this project's profile
 -- (docs/PROTOCOL.md has it in the same order).
-use Rattle.std.specs.Prelude.{◌≡◌, ℕ, ◌&&◌, ◌||◌, not, Bool, true, false, nat_le, List, [], ◌∷◌, slice_get, Option, Some, None}
+use Rattle.std.specs.Prelude.{ℕ, ◌&&◌, ◌||◌, not, Bool, true, false, nat_le, List, [], ◌∷◌, slice_get, Option, Some, None}
 use Rattle.std.specs.Option.{is_none, is_some}
 use Rattle.m2_core.specs.Calls.{is_exhausted}
 use Rattle.m2_core.specs.CoreNow.{may_dial}

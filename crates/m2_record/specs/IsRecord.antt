@@ -1,5 +1,5 @@
 -- A record is the replay of its journal. This project's own.
-use Rattle.std.specs.Prelude.{◌≡◌, ℕ, ◌<◌, ◌^◌, Bool, true, false, if◌then◌else◌, List, [], ◌∷◌, ◌++◌, length, map, Option, Some, None}
+use Rattle.std.specs.Prelude.{◌≡◌, ℕ, ◌<◌, ◌^◌, true, false, if◌then◌else◌, List, [], ◌++◌, length, map, Option, Some, None}
 use Rattle.std.specs.List.{AllByRecursion, filter_map}
 use Rattle.m2_core.specs.Agrees.{Agrees}
 use Rattle.m2_core.specs.CoreNow.{OnFeedNow, at_start}
@@ -17,7 +17,7 @@ use Rattle.m2_journal.specs.declared.facts.PlanStep.TheVariants as step
 use Rattle.m2_journal.specs.Items.{reach_of}
 use Rattle.m2_journal.specs.Replay.{IsReplay}
 use Rattle.m2_journal.specs.SideFacts.{SideFacts}
-use Rattle.m2_journal.specs.State.{Delivery, State}
+use Rattle.m2_journal.specs.State.{State}
 use Rattle.m2_message.specs.Message.{IsSendable, size_of}
 use Rattle.m2_queues.specs.OutQueues.{Queue}
 use Rattle.m2_session.specs.Laws.{takes}

@@ -1,7 +1,5 @@
 use Rattle.std.proofs.Common.{◌++◌, ◌∷◌, [], ◌-◌, ◌∙◌, ap, map, subst, sym}
-use Rattle.m2_bytes.specs.Items.{Holding}
 use Rattle.m2_fabric.specs.declared.socket.SocketId.{SocketId}
-use Rattle.m2_journal.specs.declared.entry.Entry.{Entry}
 use Rattle.m2_journal.specs.declared.entry.Entry.TheVariants as entry
 use Rattle.m2_record.specs.Calls.{ConnectIsDue, IsNewSocket}
 use Rattle.m2_record.specs.RecordNow.{RecordNow}

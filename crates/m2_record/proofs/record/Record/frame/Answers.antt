@@ -1,4 +1,4 @@
-use Rattle.std.proofs.Common.{◌≡◌, ◌∙◌, sym}
+use Rattle.std.proofs.Common.{◌∙◌, sym}
 use Rattle.m2_record.proofs.Heeding.{frame-due, signed-on, unsigned-on}
 use Rattle.m2_record.proofs.record.Record.frame.Goals as goal
 

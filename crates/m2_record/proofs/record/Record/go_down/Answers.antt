@@ -1,4 +1,4 @@
-use Rattle.std.proofs.Common.{◌++◌, ◌∙◌, ap, option_map, refl, subst, sym}
+use Rattle.std.proofs.Common.{◌++◌, ◌∙◌, ap, option_map, subst, sym}
 use Rattle.m2_bytes.specs.Items.{Holding}
 use Rattle.m2_journal.specs.declared.entry.Entry.{Entry}
 use Rattle.m2_record.specs.Calls.{MayGoDown, Owns, closed_entries}

@@ -1,4 +1,4 @@
-use Rattle.std.proofs.Common.{◌≡◌, ◌-◌, ◌∙◌, ap, arith, refl, subst, sym}
+use Rattle.std.proofs.Common.{◌-◌, ◌∙◌, ap, arith, subst, sym}
 use Rattle.m2_core.specs.CoreNow.{held}
 use Rattle.m2_handshake.specs.declared.answer.HalfStep.TheVariants as half
 use Rattle.m2_record.specs.Calls.{HasRoomToClose}

@@ -1,4 +1,4 @@
-use Rattle.std.proofs.Common.{refl, subst, sym}
+use Rattle.std.proofs.Common.{subst, sym}
 use Rattle.m2_record.specs.Judging.{CanBeJudged}
 use Rattle.m2_record.specs.RecordNow.{RecordNow}
 use Rattle.m2_record.proofs.Arriving.{can-judge}

@@ -1,6 +1,5 @@
-use Rattle.std.proofs.Common.{◌≡◌, ◌++◌, ◌∙◌, ap, option_map, refl, subst, sym}
+use Rattle.std.proofs.Common.{◌∙◌, ap, option_map, refl}
 use Rattle.m2_core.specs.CoreNow.{CoreNow}
-use Rattle.m2_record.specs.Calls.{Owns, told_parcels}
 use Rattle.m2_record.specs.RecordNow.{RecordNow}
 use Rattle.m2_record.proofs.Heeding.{obeyed-owns, obeyed-leaves, obeys}
 use Rattle.m2_record.proofs.record.Record.obey.Goals as goal

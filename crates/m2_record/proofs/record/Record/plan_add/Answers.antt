@@ -1,4 +1,4 @@
-use Rattle.std.proofs.Common.{rules, arith, refl}
+use Rattle.std.proofs.Common.{arith, refl}
 use Rattle.m2_record.proofs.Planning.{plan-after}
 use Rattle.m2_record.proofs.record.Record.plan_add.Goals as goal
 

@@ -4,7 +4,7 @@ use Rattle.m2_trail.specs.Trails.{trail_now}
 use Rattle.m2_record.specs.Calls.{HasRoomFor, Owns}
 use Rattle.m2_record.specs.Reading.{ReadsFeedOnce}
 use Rattle.m2_record.specs.RecordNow.{RecordNow, Rooms}
-use Rattle.m2_record.proofs.HasGot.{HasMade, counted, entered, kept-held, owned-read, read-after, read-broken, read-fits, read-made, seen-some, waited}
+use Rattle.m2_record.proofs.HasGot.{counted, entered, kept-held, owned-read, read-after, read-broken, read-fits, read-made, seen-some, waited}
 use Rattle.m2_record.proofs.record.Record.read_once.Goals as goal
 
 pub invariant_of-self : goal.invariant_of-self

@@ -1,6 +1,5 @@
 use Rattle.std.proofs.Common.{◌≤◌, ◌∙◌, ap, arith, refl, subst, sym}
 use Rattle.m2_record.specs.declared.due.Due.TheVariants as due
-use Rattle.m2_record.specs.RecordNow.{RecordNow}
 use Rattle.m2_shared.specs.Numbers.{SeenNumberPass}
 use Rattle.m2_record.proofs.DueSteps.{by-due, composed-owned, composed-top, due-holds, framed-top, raised-least, raised-place, read-top, reads-due, top-below, writes-due}
 use Rattle.m2_record.proofs.record.Record.take_due.Goals as goal

@@ -1,4 +1,4 @@
-use Rattle.std.proofs.Common.{◌≡◌, ◌∙◌, sym}
+use Rattle.std.proofs.Common.{◌∙◌, sym}
 use Rattle.m2_record.proofs.Heeding.{may-obey, reset-obeyed, unreset, word-obeyed}
 use Rattle.m2_record.proofs.record.Record.take_front.Goals as goal
 

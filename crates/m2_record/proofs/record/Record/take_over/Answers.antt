@@ -1,7 +1,6 @@
-use Rattle.std.proofs.Common.{◌≡◌, ◌++◌, ◌∷◌, [], ◌-◌, ◌≤◌, ◌∙◌, ap, map, option_map, refl, subst, sym}
+use Rattle.std.proofs.Common.{◌++◌, ◌∷◌, [], ◌-◌, ◌≤◌, ◌∙◌, ap, map, option_map, subst, sym}
 use Rattle.std.proofs.lemmas.List.{map-append}
 use Rattle.m2_bytes.specs.Items.{Holding}
-use Rattle.m2_core.specs.CoreNow.{CoreNow}
 use Rattle.m2_core.specs.Judging.{IsVerdict, MayBeJudged}
 use Rattle.m2_fabric.specs.declared.socket.SocketId.{SocketId}
 use Rattle.m2_journal.specs.declared.entry.Entry.{Entry}

@@ -1,5 +1,5 @@
-use Rattle.std.proofs.Common.{refl, sym}
-use Rattle.m2_record.proofs.HasPut.{counted, written-after}
+use Rattle.std.proofs.Common.{sym}
+use Rattle.m2_record.proofs.HasPut.{written-after}
 use Rattle.m2_record.proofs.record.Record.write.Goals as goal
 
 pub invariant_of-self : goal.invariant_of-self
