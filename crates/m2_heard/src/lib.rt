@@ -6,8 +6,9 @@
 //! What it isn't: the record. It reads no socket, passes no frame and keeps no number.
 //!
 //! An answer that a side waits for is taken when it is read; what is said here of one is said of one that
-//! still stands at the front, which is a fault. The rules are those of docs/PROTOCOL.md, and the laws say
-//! that each answer is what the replay of journals says of the same text.
+//! still stands at the front, which is a fault, but for a reset, which is to be obeyed. The rules are those
+//! of docs/PROTOCOL.md, and the laws say that each answer is what the replay of journals says of the same
+//! text.
 #![tactic(auto)]
 
 mod fault;
