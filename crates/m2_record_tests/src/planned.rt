@@ -12,10 +12,11 @@ ghost use Rattle.m2_record.specs.Waits.{AreWaits};
 use m2_addr::Addr;
 use m2_bytes::Blob;
 use m2_fabric::{News, SocketId};
+use m2_handshake::HalfStep;
 use m2_journal::{Entry, NodeFacts, PlanStep};
 use m2_message::{Header, Message};
 use m2_policy::{FastSet, lossless_peer};
-use m2_record::{Due, Record};
+use m2_record::{Due, Framed, Record};
 use m2_shared::{TakePass, Throttle};
 use m2_sim_fabric::SimEnd;
 use std::alloc::Global;
@@ -157,6 +158,53 @@ fn a_post_is_queued_and_a_socket_is_opened_for_it(rt: HostRuntime) {
     }
     assert!(rt; matches!(record.journal().get(1), Some(Entry::Opened { socket: _ })));
     assert!(rt; record.feed().is_some() && record.trails().is_empty());
+    let ends = record.ends(&throttle, &mut pass);
+    assert_eq!(rt; ends.len(), 1);
+}
+
+/// Takes the step Frame, where it is due.
+fn frames(
+    side: &mut Record<SimEnd>,
+    throttle: &Throttle,
+    pass: &mut TakePass,
+    now: u64,
+) -> Option<Framed>
+    requires room { HasRoomFor 2 side.old.room }
+    requires pass { pass.old.place ≡ throttle.now.place }
+    requires owned { Owns throttle.now.place side.old }
+    ensures owned { Owns throttle.now.place side.new }
+    ensures place { pass.new.place ≡ pass.old.place }
+{
+    match side.due(now) {
+        Due::Frame => Some(side.frame(throttle, pass, now)),
+        _ => None,
+    }
+}
+
+/// On a socket that is opened the half writes its banner first, and then a write is due.
+#[test]
+fn a_half_writes_its_banner_first(rt: HostRuntime) {
+    let alloc = rt.alloc();
+    let (throttle, mut pass) = Throttle::alone(0);
+    let mut record = Record::new(alloc, at(1), at(2), 1, lossless_peer(), facts());
+    plans(&rt, &mut record, PlanStep::Post(message(alloc)));
+    reserves(&rt, &mut record, 2);
+    takes(&rt, &mut record, &throttle, &mut pass, 5);
+    let due = record.due(5);
+    if due
+        == (Due::Connect {
+            at: record.next_dial(),
+        })
+    {
+        match record.connected(SimEnd::new(alloc, socket()), 5) {
+            Ok(()) => {}
+            Err(_end) => panic!(rt; "no memory for a socket"),
+        }
+    }
+    reserves(&rt, &mut record, 2);
+    let framed = frames(&mut record, &throttle, &mut pass, 6);
+    assert!(rt; framed == Some(Framed::Half(HalfStep::Wrote)));
+    assert!(rt; record.due(6) == Due::Write);
     let ends = record.ends(&throttle, &mut pass);
     assert_eq!(rt; ends.len(), 1);
 }
