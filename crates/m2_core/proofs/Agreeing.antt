@@ -14,8 +14,8 @@ use Rattle.m2_message.specs.Message.{Content}
 use Rattle.m2_queues.specs.OutQueues.{Queue}
 use Rattle.m2_session.specs.declared.session.Session.{Session}
 use Rattle.m2_shared.specs.Throttle.{SeenGrant}
+use Rattle.m2_live.specs.Calls.{after_posted}
 use Rattle.m2_core.specs.Agrees.{Agrees, FeedsAgree, IsTold, LeadsOn}
-use Rattle.m2_core.specs.Calls.{after_posted}
 use Rattle.m2_core.specs.CoreNow.{CoreNow}
 
 -- the core that has just what a replay has, with this room, feed and grant

@@ -29,14 +29,16 @@ use Rattle.m2_session.specs.declared.event.Event.{Event}
 use Rattle.m2_session.specs.Phases as phase
 use Rattle.m2_session.specs.Steps.{step_of}
 use Rattle.m2_shared.specs.Throttle.{SeenGrant}
+use Rattle.m2_live.specs.LiveNow.{LiveNow, OnFeedNow}
+use Rattle.m2_live.specs.OnFeed.{CanAsk, ChangesRoom, ComposesAsk}
+use Rattle.m2_live.specs.Asking.{AsksNow, IsAsk, ask_len, asked_event, filled}
 use Rattle.m2_core.proofs.Agreeing.{IsResumed, agreed, core_of}
 use Rattle.m2_core.proofs.Numbered.{has_text, room_on}
 use Rattle.m2_core.specs.declared.asking.CoreAsk.TheVariants as ask
 use Rattle.m2_core.specs.Agrees.{Agrees, FeedsAgree, LeadsOn, MayCome, Stays}
-use Rattle.m2_core.specs.Asking.{AsksNow, AsksWith, CanAsk, ComposesAsk, HasAsked, IsAsk, MayAskNow, ask_len, ask_of, asked_event, filled}
+use Rattle.m2_core.specs.Asking.{AsksWith, HasAsked, MayAskNow, ask_of}
 use Rattle.m2_core.specs.Calls.{ask_event, ask_frame, asks_ident}
-use Rattle.m2_core.specs.CoreNow.{CoreNow, LiveNow, OnFeedNow}
-use Rattle.m2_core.specs.Numbering.{ChangesRoom}
+use Rattle.m2_core.specs.CoreNow.{CoreNow}
 
 pub is_ask : (f : SideFacts) (l : LiveNow) (b : Bool) → IsAsk (ask_len b) (ask_of f l b 0 0)
 is_ask f l true = record { writable = λ k n. tt; size = λ k n. refl; short = omega arith }

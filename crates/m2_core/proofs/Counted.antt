@@ -12,10 +12,11 @@ use Rattle.m2_queues.specs.OutQueues.{IsNumbered, Queue, after_acked, last_numbe
 use Rattle.m2_session.specs.declared.session.Phase.{Phase}
 use Rattle.m2_session.specs.declared.session.Phase.TheVariants.{Absent, Connecting, IdentSent, ReconnectSent, Ready, Standby, Wait}
 use Rattle.m2_session.specs.Phases as phase
+use Rattle.m2_live.specs.LiveNow.{LiveNow, is_ready}
+use Rattle.m2_live.specs.Calls.{after_counted}
 use Rattle.m2_core.proofs.Agreeing.{feeds_as}
 use Rattle.m2_core.specs.Agrees.{IsTold, IsToldTo, LeadsOn, MayCome}
-use Rattle.m2_core.specs.Calls.{after_counted}
-use Rattle.m2_core.specs.CoreNow.{CoreNow, Holds, LiveNow, is_ready}
+use Rattle.m2_core.specs.CoreNow.{CoreNow, Holds}
 
 pub is_the_phase : (p : Phase) → phase.is p Ready ≡ true → p ≡ Ready
 is_the_phase Ready e = refl

@@ -1,9 +1,6 @@
 -- What stands at the front of a feed, beside its replay.
-use Rattle.std.proofs.Common.{◌≡◌, ℕ, refl, sym, subst, ◌∙◌}
-use Rattle.m2_feed.specs.Calls.{IsFront}
-use Rattle.m2_feed.specs.FeedNow.{Reading, framing, shaking}
+use Rattle.std.proofs.Common.{◌≡◌, ℕ, refl, subst}
 use Rattle.m2_frame.specs.Reading.{Item}
-use Rattle.m2_frame.proofs.Cutting.{same_text}
 use Rattle.m2_heard.specs.declared.heard.FrameHeard.{FrameHeard}
 use Rattle.m2_heard.specs.declared.hearer.Hearer.{Hearer}
 use Rattle.m2_heard.specs.Heard.{heard_of}
@@ -29,8 +26,3 @@ pub as_replayed : IsHeardAsReplayed → (c : CoreNow) (s : State) → Agrees c s
     IsAsReplayed heard (hearer_at c.facts s) (said item)
 as_replayed law c s a item heard e =
     subst (λ (h : Hearer). IsAsReplayed heard h (said item)) (hearer_agrees c s a) (subst (λ (x : FrameHeard). IsAsReplayed x (hearer_of c) (said item)) e (law (hearer_of c) item))
-
--- one item alone stands at a front
-pub one_front : (r : Reading) (i j : Item) (n m : ℕ) → IsFront r i n → IsFront r j m → (i ≡ j) × (n ≡ m)
-one_front (framing rest granted) i j n m h k = same_text i j n m (sym h.1 ∙ k.1)
-one_front (shaking s) i j n m h k = absurd h

@@ -8,10 +8,12 @@ use Rattle.m2_handshake.specs.declared.answer.HalfStep.TheVariants as half
 use Rattle.m2_journal.specs.Lawful.{OnFeedAt, is_broken}
 use Rattle.m2_journal.specs.SideFacts.{SideFacts}
 use Rattle.m2_journal.specs.State.{Feed, State}
+use Rattle.m2_live.specs.LiveNow.{LiveNow, granted_in, is_granted_in}
+use Rattle.m2_live.specs.OnFeed.{GreetsFeed}
+use Rattle.m2_live.specs.Calls.{live_with}
 use Rattle.m2_core.specs.Agrees.{FeedsAgree}
-use Rattle.m2_core.specs.CoreNow.{CoreNow, Holds, IsSound, LiveNow, granted_in, is_granted_in}
-use Rattle.m2_core.specs.Moves.{live_with}
-use Rattle.m2_core.specs.Shaken.{GreetsFeed, HasShaken, IsHalfFault}
+use Rattle.m2_core.specs.CoreNow.{CoreNow, Holds, IsSound}
+use Rattle.m2_core.specs.Shaken.{HasShaken, IsHalfFault}
 
 greeted : GreetsBeside → (f : SideFacts) (s : State) (answer : HalfStep) (x y : Option FeedNow) (d : Option Feed) → GreetsFeed answer x y →
     FeedsAgree f s x d → FeedsAgree f s y d

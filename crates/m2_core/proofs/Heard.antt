@@ -5,10 +5,11 @@ use Rattle.m2_feed.specs.FeedNow.{FeedNow}
 use Rattle.m2_feed.specs.Laws.{StaysBeside}
 use Rattle.m2_journal.specs.SideFacts.{SideFacts}
 use Rattle.m2_journal.specs.State.{Feed, State}
+use Rattle.m2_live.specs.LiveNow.{LiveNow}
+use Rattle.m2_live.specs.OnFeed.{feed_after_news}
+use Rattle.m2_live.specs.Calls.{live_with}
 use Rattle.m2_core.specs.Agrees.{FeedsAgree, Stays}
-use Rattle.m2_core.specs.CoreNow.{CoreNow, Holds, IsSound, LiveNow}
-use Rattle.m2_core.specs.Moves.{live_with}
-use Rattle.m2_core.specs.News.{feed_after_news}
+use Rattle.m2_core.specs.CoreNow.{CoreNow, Holds, IsSound}
 
 heard : StaysBeside → (f : SideFacts) (s : State) (n : News) (bytes : List ℕ) (x : Option FeedNow) (d : Option Feed) → FeedsAgree f s x d → FeedsAgree f s (feed_after_news n bytes x) d
 heard law f s n bytes (Some v) (Some d) h = law.end f s v _ d h refl refl

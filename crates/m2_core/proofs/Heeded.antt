@@ -26,9 +26,11 @@ use Rattle.m2_queues.specs.OutQueues.{Queue}
 use Rattle.m2_session.specs.declared.session.Phase.TheVariants.{Ready}
 use Rattle.m2_session.specs.declared.session.Session.{Session}
 use Rattle.m2_session.specs.Phases as phase
+use Rattle.m2_live.specs.LiveNow.{OnFeedNow, is_ready}
+use Rattle.m2_live.specs.OnFeed.{Hears}
 use Rattle.m2_core.specs.Agrees.{Agrees, FeedsAgree, IsBroken, IsTold, MayCome}
-use Rattle.m2_core.specs.CoreNow.{CoreNow, OnFeedNow, is_ready}
-use Rattle.m2_core.specs.Front.{Hears, HearsOn, hearer_at, hearer_of}
+use Rattle.m2_core.specs.CoreNow.{CoreNow}
+use Rattle.m2_core.specs.Front.{HearsOn, hearer_at, hearer_of}
 use Rattle.m2_core.specs.Next.{CanCount, CanHeed}
 use Rattle.m2_core.proofs.Faulting.{is_on_feed}
 use Rattle.m2_core.proofs.Fronts.{as_replayed}

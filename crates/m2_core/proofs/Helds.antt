@@ -7,14 +7,15 @@ use Rattle.m2_heard.specs.declared.heard.FrameHeard.TheVariants as heard
 use Rattle.m2_session.specs.declared.session.Phase.TheVariants.{Ready}
 use Rattle.m2_session.specs.Phases as phase
 use Rattle.m2_shared.specs.Throttle.{SeenGrant}
+use Rattle.m2_live.specs.LiveNow.{IsOwned, LiveNow, OnFeedNow, held, is_waiting}
+use Rattle.m2_live.specs.Effects.{has_effects}
+use Rattle.m2_live.specs.Calls.{after_fault}
 use Rattle.m2_core.specs.declared.granting.CoreGrant.{CoreGrant}
 use Rattle.m2_core.specs.declared.granting.CoreGrant.TheVariants as grant
 use Rattle.m2_core.specs.declared.next.CoreNext.{CoreNext}
 use Rattle.m2_core.specs.declared.next.CoreNext.TheVariants as next
 use Rattle.m2_core.specs.declared.resting.CoreRest.TheVariants as rest
-use Rattle.m2_core.specs.Calls.{after_fault}
-use Rattle.m2_core.specs.CoreNow.{CoreNow, IsOwned, LiveNow, OnFeedNow, held, is_waiting}
-use Rattle.m2_core.specs.Effects.{has_effects}
+use Rattle.m2_core.specs.CoreNow.{CoreNow}
 use Rattle.m2_core.specs.Front.{FrontHeard, asks, front_of, heard_by, hearer_of, rests, tells}
 use Rattle.m2_core.specs.Granting.{HasGranted, Throttled}
 use Rattle.m2_core.specs.Granting as granting

@@ -43,16 +43,17 @@ use Rattle.m2_session.specs.Steps.{HasFollower, is_lawful}
 use Rattle.m2_session.proofs.Answers.{answers_are_lawful_lem}
 use Rattle.m2_session.proofs.Rows.{each_answer}
 use Rattle.m2_shared.specs.Throttle.{SeenGrant}
+use Rattle.m2_live.specs.LiveNow.{LiveNow, held}
+use Rattle.m2_live.specs.Effects.{closed_if, closed_of, effects_of}
+use Rattle.m2_live.specs.Calls.{resumed_by_ask, tells_if, with_taken}
 use Rattle.m2_core.proofs.Agreeing.{IsResumed, agreed, core_of, feeds_as, leads_by}
 use Rattle.m2_core.proofs.Counted.{is_the_phase}
 use Rattle.m2_core.proofs.Numbered.{has_text}
 use Rattle.m2_core.specs.declared.verdict.Verdict.{Verdict}
 use Rattle.m2_core.specs.Agrees.{Agrees, FeedsAgree}
-use Rattle.m2_core.specs.Calls.{tells_if}
-use Rattle.m2_core.specs.CoreNow.{CoreNow, Holds, IsSound, LiveNow, held}
-use Rattle.m2_core.specs.Effects.{closed_if, closed_of, effects_of}
+use Rattle.m2_core.specs.CoreNow.{CoreNow, Holds, IsSound}
 use Rattle.m2_core.specs.Judging.{CanJudge, IsAnswerFrame, IsVerdict, MayBeJudged, acceptance_text, carried_by, entry_of, told_of, verdict_on}
-use Rattle.m2_core.specs.TakingOver.{MakesJudgement, IsTakenFeed, after_answering, after_taking, resumed_by_ask, with_taken}
+use Rattle.m2_core.specs.TakingOver.{MakesJudgement, IsTakenFeed, after_answering, after_taking}
 
 -- ---- the entry may come
 

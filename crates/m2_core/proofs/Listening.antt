@@ -35,6 +35,11 @@ use Rattle.m2_session.specs.declared.session.Phase.TheVariants.{IdentSent, Recon
 use Rattle.m2_session.specs.declared.session.Session.{Session}
 use Rattle.m2_session.specs.Phases as phase
 use Rattle.m2_shared.specs.Throttle.{SeenGrant}
+use Rattle.m2_live.specs.LiveNow.{LiveNow}
+use Rattle.m2_live.specs.Effects.{closed_if}
+use Rattle.m2_live.specs.OnFeed.{PassesFeed, ReadsFeed}
+use Rattle.m2_live.specs.Calls.{live_with}
+use Rattle.m2_live.specs.Hearing.{TakesAnswer, after_answer, heard_on}
 use Rattle.m2_core.proofs.Agreeing.{IsResumed, agreed, core_of, stands_as}
 use Rattle.m2_core.proofs.Counted.{is_the_phase}
 use Rattle.m2_core.proofs.Faulting.{is_on_feed}
@@ -42,11 +47,8 @@ use Rattle.m2_core.proofs.HeardBytes.{keeps}
 use Rattle.m2_core.proofs.Taken.{Fronted, fronted_by}
 use Rattle.m2_core.proofs.Telling.{resumed_still}
 use Rattle.m2_core.specs.Agrees.{Agrees, FeedsAgree, Stays}
-use Rattle.m2_core.specs.CoreNow.{CoreNow, Holds, IsAskedIfSigned, LiveNow}
-use Rattle.m2_core.specs.Effects.{closed_if}
-use Rattle.m2_core.specs.Hearing.{HasRead, Heeds, IsRead, IsReadEntry, ReadsFeed, TakesAnswer, after_answer, effects_heard, heard_after, heard_on, hearing}
-use Rattle.m2_core.specs.Moves.{live_with}
-use Rattle.m2_core.specs.Passing.{PassesFeed}
+use Rattle.m2_core.specs.CoreNow.{CoreNow, Holds, IsAskedIfSigned}
+use Rattle.m2_core.specs.Hearing.{HasRead, Heeds, IsRead, IsReadEntry, effects_heard, heard_after, hearing}
 
 -- ---- what a read gave
 

@@ -7,7 +7,7 @@ use Rattle.m2_feed.specs.Calls.{IsBad, IsFront, Owes, Rests}
 use Rattle.m2_feed.specs.FeedNow.{FeedNow, Reading, framing, shaking, is_framing}
 use Rattle.m2_feed.specs.Laws.{FindsFaults}
 use Rattle.m2_frame.specs.declared.fault.FrameFault.{FrameFault}
-use Rattle.m2_frame.specs.Frame.{Parts, message_tag}
+use Rattle.m2_frame.specs.Frame.{message_tag}
 use Rattle.m2_frame.specs.Reading.{Item, judge, whole}
 use Rattle.m2_heard.specs.declared.fault.WireFault.TheVariants as fault
 use Rattle.m2_heard.specs.declared.heard.FrameHeard.{FrameHeard}
@@ -20,18 +20,20 @@ use Rattle.m2_session.specs.declared.session.Phase.TheVariants.{Ready}
 use Rattle.m2_session.specs.Phases as phase
 use Rattle.m2_shared.specs.declared.limits.TheConstants.{MOST_TAKEN}
 use Rattle.m2_shared.specs.Throttle.{SeenTakePass, SeenThrottle}
+use Rattle.m2_live.specs.LiveNow.{OnFeedNow, is_ready}
+use Rattle.m2_live.specs.OnFeed.{Hears, PassesItem}
+use Rattle.m2_live.specs.Calls.{after_fault}
 use Rattle.m2_core.specs.declared.granting.CoreGrant.{CoreGrant}
 use Rattle.m2_core.specs.declared.granting.CoreGrant.TheVariants as grant
 use Rattle.m2_core.specs.declared.next.CoreNext.{CoreNext}
 use Rattle.m2_core.specs.declared.next.CoreNext.TheVariants as next
 use Rattle.m2_core.specs.declared.resting.CoreRest.TheVariants as rest
 use Rattle.m2_core.specs.Agrees.{IsBroken, LeadsOn}
-use Rattle.m2_core.specs.Calls.{after_fault}
-use Rattle.m2_core.specs.CoreNow.{CoreNow, OnFeedNow, is_ready}
-use Rattle.m2_core.specs.Front.{FrontHeard, Hears, HearsOn, asks, before_front, front_in, front_of, heard_by, hearer_of, rests, resumption_at, resumption_of, tells}
+use Rattle.m2_core.specs.CoreNow.{CoreNow}
+use Rattle.m2_core.specs.Front.{FrontHeard, HearsOn, asks, before_front, front_in, front_of, heard_by, hearer_of, rests, resumption_at, resumption_of, tells}
 use Rattle.m2_core.specs.Granting.{HasGranted, Throttled}
 use Rattle.m2_core.specs.Next.{CanHeed, Closes, IsNext, IsResetHeard, MayObeyIfReset, RestSays, granted_next, size_front}
-use Rattle.m2_core.specs.Passing.{HasPassed, PassesHeard, PassesItem}
+use Rattle.m2_core.specs.Passing.{HasPassed, PassesHeard}
 use Rattle.m2_core.proofs.Heeded.{bad_breaks, early_breaks, may_close, resumed_breaks, resumed_counts}
 
 pub is_fed : (x : Option FeedNow) → OnFeedNow x (λ v. is_framing v.reading ≡ true) → is_some x ≡ true
@@ -65,9 +67,6 @@ owed_front h (framing rest granted) n f = ap (λ (o : Option ℕ). front_in h o 
 owed_front h (shaking s) n f = absurd f
 
 -- ---- the whole frame at the front
-
-pub hears : (h : Hearer) (heard : FrameHeard) (f : Parts) (r : Reading) → ((len : ℕ) × IsFront r (whole f) len) → heard ≡ heard_of h (whole f) → Hears h heard r
-hears h heard f r k e = record { frame = f; len = k.0; front = k.1; says = sym e }
 
 pub next_heard : (t : Throttled) (a : CoreNext) (c new : CoreNow) (heard : FrameHeard) → HearsOn c heard → IsNext t a (tells heard) c new →
     OnFeedNow c.live.feed (λ v. IsNext t a (front_of (hearer_of c) v.reading) c new)

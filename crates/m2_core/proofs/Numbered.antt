@@ -17,19 +17,20 @@ use Rattle.m2_journal.specs.OutFrames as out
 use Rattle.m2_journal.specs.SideFacts.{SideFacts}
 use Rattle.m2_journal.specs.State.{Feed, State}
 use Rattle.m2_journal.specs.Steps.{after, queues, writes_message}
-use Rattle.m2_message.specs.declared.message.Message.{Message}
-use Rattle.m2_message.specs.Message.{Content, IsSendable, content_of}
+use Rattle.m2_message.specs.Message.{Content}
 use Rattle.m2_queues.proofs.Unsent.{next-is_at_cursor}
 use Rattle.m2_queues.specs.Laws.{Next}
 use Rattle.m2_queues.specs.OutQueues.{Outgoing, Queue, after_next, after_sent, last_number, message_at, next_number}
 use Rattle.m2_session.specs.declared.session.Phase.TheVariants.{Ready}
 use Rattle.m2_shared.specs.Throttle.{SeenGrant}
+use Rattle.m2_live.specs.LiveNow.{LiveNow, OnFeedNow, is_ready}
+use Rattle.m2_live.specs.OnFeed.{CanWrite, ChangesRoom, ComposesMessage}
+use Rattle.m2_live.specs.Numbering.{Numbers, NumbersOn}
 use Rattle.m2_core.proofs.Agreeing.{IsResumed, agreed, core_of, stands_as}
 use Rattle.m2_core.proofs.Counted.{is_the_phase}
 use Rattle.m2_core.specs.Agrees.{Agrees, FeedsAgree, LeadsOn, MayCome}
-use Rattle.m2_core.specs.Composing.{CanWrite}
-use Rattle.m2_core.specs.CoreNow.{CoreNow, Holds, IsSound, LiveNow, OnFeedNow, is_ready}
-use Rattle.m2_core.specs.Numbering.{ChangesRoom, ComposesMessage, HasNumbered, IsNextSendable, Numbers, NumbersOn}
+use Rattle.m2_core.specs.CoreNow.{CoreNow, Holds, IsSound}
+use Rattle.m2_core.specs.Numbering.{HasNumbered}
 
 abbrev Answer : Type 0
 Answer = Result ℕ memory.NoMemory
@@ -94,9 +95,6 @@ room_on moves f s (Some v) (Some new) None w st = absurd st
 room_on moves f s None y d w st = absurd w
 room_on moves f s (Some v) None d w st = absurd w
 
-pub same_number : (q : Queue) (k n : ℕ) → next_number q ≡ Some k → next_number q ≡ Some n → n ≤ GREATEST_NUMBER → k ≤ GREATEST_NUMBER
-same_number q k n e g fits = subst (λ z. z ≤ GREATEST_NUMBER) (next-is_at_cursor q n g ∙ sym (next-is_at_cursor q k e)) fits
-
 pub has_numbered : ComposesBeside → ChangesBeside → StaysBeside → (r : Answer) (c : CoreNow) (b : Outgoing) (y : Option FeedNow) → is_ready c.live ≡ true →
     OnFeedNow c.live.feed CanWrite → NumbersOn r c.live.last c.live.out b c.live.feed y →
     HasNumbered r c (record c { live = record c.live { out = b; feed = y } })
@@ -119,10 +117,6 @@ has_numbered composes changes moves (Err e) c b y ready can w = record {
     resumed = a.resumed;
   };
 }
-
--- what the next message's contents fit in is what the message itself does
-pub sendable : (q : Queue) → IsNextSendable q → (k : ℕ) (m : Message) → next_number q ≡ Some k → message_at (after_next q) k ≡ Some (content_of m) → IsSendable m
-sendable q h k m e there = let f = h.fits k (content_of m) e there in record { front = f.front; middle = f.middle; tail = f.tail }
 
 -- ---- what holds of each core
 

@@ -21,14 +21,16 @@ use Rattle.m2_session.specs.declared.session.Session.{Session}
 use Rattle.m2_session.specs.Phases.{is_among}
 use Rattle.m2_session.specs.Steps.{is_lawful}
 use Rattle.m2_shared.specs.Throttle.{SeenGrant}
+use Rattle.m2_live.specs.LiveNow.{LiveNow}
+use Rattle.m2_live.specs.Effects.{tells}
+use Rattle.m2_live.specs.OnFeed.{PassesFeed}
+use Rattle.m2_live.specs.Calls.{live_with}
+use Rattle.m2_live.specs.Hearing.{ObeysReset}
 use Rattle.m2_core.proofs.Agreeing.{IsResumed, core_of, agreed}
 use Rattle.m2_core.proofs.Taken.{Fronted, IsFronted, fronted, keeps_reset}
 use Rattle.m2_core.specs.Agrees.{Agrees, FeedsAgree, LeadsOn, MayCome}
-use Rattle.m2_core.specs.CoreNow.{CoreNow, Holds, LiveNow}
-use Rattle.m2_core.specs.Effects.{tells}
-use Rattle.m2_core.specs.Hearing.{HasObeyed, ObeysReset, hearing}
-use Rattle.m2_core.specs.Moves.{live_with}
-use Rattle.m2_core.specs.Passing.{PassesFeed}
+use Rattle.m2_core.specs.CoreNow.{CoreNow, Holds}
+use Rattle.m2_core.specs.Hearing.{HasObeyed, hearing}
 
 reset_stamp : (full : Bool) (y : Said) → IsReset full (Some y) → stamp_of y ≡ None
 reset_stamp full (says (control.SessionReset p)) h = refl

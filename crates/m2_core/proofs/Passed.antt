@@ -18,10 +18,13 @@ use Rattle.m2_journal.specs.SideFacts.{SideFacts}
 use Rattle.m2_journal.specs.State.{Feed, State}
 use Rattle.m2_session.specs.declared.session.Phase.TheVariants.{Ready}
 use Rattle.m2_session.specs.Phases as phase
+use Rattle.m2_live.specs.LiveNow.{LiveNow, OnFeedNow, granted_in, is_granted_in}
+use Rattle.m2_live.specs.OnFeed.{Hears, NotesFeed, PassesFeed, PassesItem}
+use Rattle.m2_live.specs.Calls.{LiveNotes, LivePasses, passed_live}
 use Rattle.m2_core.specs.Agrees.{FeedsAgree, Stays}
-use Rattle.m2_core.specs.CoreNow.{CoreNow, Holds, IsSound, LiveNow, OnFeedNow, granted_in, is_granted_in}
-use Rattle.m2_core.specs.Front.{Hears, HearsOn, hearer_at, hearer_of}
-use Rattle.m2_core.specs.Passing.{HasNoted, HasPassed, LiveNotes, LivePasses, NotesFeed, PassesFeed, PassesHeard, PassesItem, StampsFeed, passed_live}
+use Rattle.m2_core.specs.CoreNow.{CoreNow, Holds, IsSound}
+use Rattle.m2_core.specs.Front.{HearsOn, hearer_at, hearer_of}
+use Rattle.m2_core.specs.Passing.{HasNoted, HasPassed, PassesHeard, StampsFeed}
 use Rattle.m2_core.proofs.Fronts.{as_replayed}
 
 both : (a b : Bool) → a ≡ true → b ≡ true → (a && b) ≡ true

@@ -25,9 +25,11 @@ use Rattle.m2_session.specs.Phases as phase
 use Rattle.m2_tag.specs.declared.tag.Tag.{Tag}
 use Rattle.m2_tag.specs.declared.tag.Tag.TheVariants as tag
 use Rattle.m2_tag.specs.Tags.{tag_in}
-use Rattle.m2_core.specs.CoreNow.{CoreNow, OnFeedNow}
-use Rattle.m2_core.specs.Front.{Hears, HearsOn, hearer_of}
-use Rattle.m2_core.specs.Hearing.{heard_on}
+use Rattle.m2_live.specs.LiveNow.{OnFeedNow}
+use Rattle.m2_live.specs.OnFeed.{Hears}
+use Rattle.m2_live.specs.Hearing.{heard_on}
+use Rattle.m2_core.specs.CoreNow.{CoreNow}
+use Rattle.m2_core.specs.Front.{HearsOn, hearer_of}
 use Rattle.m2_core.specs.Next.{IsResetHeard}
 
 -- ---- a frame, where a reconnect was sent

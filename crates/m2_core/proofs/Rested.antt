@@ -13,13 +13,14 @@ use Rattle.m2_frame.specs.Reading.{dropped}
 use Rattle.m2_heard.specs.declared.fault.WireFault.TheVariants as fault
 use Rattle.m2_heard.specs.declared.heard.FrameHeard.TheVariants.{Nothing, Fault}
 use Rattle.m2_heard.specs.Laws.{AsksForItsSize, IsHeardAsReplayed}
+use Rattle.m2_live.specs.LiveNow.{OnFeedNow, granted_in, granted_on, is_ready, size_granted}
+use Rattle.m2_live.specs.OnFeed.{GivesFeed, HasNoFrame, PassesItem}
+use Rattle.m2_live.specs.Calls.{live_with, passed_live}
 use Rattle.m2_core.specs.declared.resting.CoreRest.TheVariants as rest
-use Rattle.m2_core.specs.CoreNow.{CoreNow, Holds, OnFeedNow, granted_in, granted_on, is_ready, size_granted}
+use Rattle.m2_core.specs.CoreNow.{CoreNow, Holds}
 use Rattle.m2_core.specs.Front.{hearer_of}
-use Rattle.m2_core.specs.Moves.{live_with}
 use Rattle.m2_core.specs.Next.{RestSays}
-use Rattle.m2_core.specs.Passing.{HasPassed, PassesHeard, PassesItem, passed_live}
-use Rattle.m2_core.specs.Resting.{GivesFeed, HasNoFrame}
+use Rattle.m2_core.specs.Passing.{HasPassed, PassesHeard}
 use Rattle.m2_core.proofs.Passed.{passed_stays, sound_on}
 
 -- ---- what isn't answered

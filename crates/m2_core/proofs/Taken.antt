@@ -4,8 +4,7 @@ use Rattle.std.specs.Prelude.{IfSome, IsTrue, if◌then◌else◌, option_map}
 use Rattle.std.specs.Option.{is_some}
 use Rattle.m2_addr.specs.declared.addr.Addr.{Addr}
 use Rattle.m2_control.specs.declared.fields.TheConstants.{GREATEST_NUMBER}
-use Rattle.m2_fabric.specs.End.{after_closing}
-use Rattle.m2_feed.specs.Calls.{HasFrame, IsFront, OnlyReads, PassesFrame}
+use Rattle.m2_feed.specs.Calls.{HasFrame, IsFront, PassesFrame}
 use Rattle.m2_feed.specs.FeedNow.{FeedNow, Reading, framing, shaking, is_framing}
 use Rattle.m2_feed.specs.Laws.{FindsFaults}
 use Rattle.m2_frame.specs.Frame.{Parts}
@@ -29,12 +28,14 @@ use Rattle.m2_session.specs.declared.session.Phase.TheVariants.{Ready}
 use Rattle.m2_session.specs.declared.session.Session.{Session}
 use Rattle.m2_session.specs.Phases as phase
 use Rattle.m2_session.specs.Steps.{HasFollower, is_lawful, step_of}
+use Rattle.m2_live.specs.LiveNow.{LiveNow, OnFeedNow, granted_in, is_granted_in, is_ready, size_granted}
+use Rattle.m2_live.specs.Effects.{tells}
+use Rattle.m2_live.specs.OnFeed.{PassesFeed}
+use Rattle.m2_live.specs.Calls.{live_with}
+use Rattle.m2_live.specs.Hearing.{TakesAnswer, after_answer, heard_on}
 use Rattle.m2_core.specs.Agrees.{FeedsAgree, IsBroken}
-use Rattle.m2_core.specs.CoreNow.{CoreNow, Holds, IsSound, LiveNow, OnFeedNow, granted_in, is_granted_in, is_ready, size_granted}
-use Rattle.m2_core.specs.Effects.{closed_if, tells}
-use Rattle.m2_core.specs.Hearing.{Heeds, IsFaultHeard, TakesAnswer, after_answer, effects_heard, heard_on, hearing}
-use Rattle.m2_core.specs.Moves.{live_with}
-use Rattle.m2_core.specs.Passing.{PassesFeed}
+use Rattle.m2_core.specs.CoreNow.{CoreNow, Holds, IsSound}
+use Rattle.m2_core.specs.Hearing.{Heeds, IsFaultHeard, effects_heard, hearing}
 
 -- ---- what is heard is a frame at the front
 
@@ -169,16 +170,6 @@ leaves_it (heard.RetryGlobal number) old new q t = absurd (none_isnt_event _ (sy
 leaves_it heard.Wait old new q t = absurd (none_isnt_event _ (sym q))
 leaves_it (heard.Reset full) old new q t = t
 leaves_it (heard.Refused g) old new q t = t
-
--- the end is that of the feed before
-same_end : (b : Bool) (v new : FeedNow) → OnlyReads v new → closed_if b (Some new) ≡ closed_if b (Some v)
-same_end true v new o = ap (λ (z : FeedNow). Some (after_closing z.end)) o
-same_end false v new o = refl
-
-pub closed_same : (b : Bool) (x y : Option FeedNow) → PassesFeed x y → closed_if b y ≡ closed_if b x
-closed_same b (Some v) (Some new) p = same_end b v new p.1
-closed_same b None y p = absurd p
-closed_same b (Some v) None p = absurd p
 
 -- ---- what holds of each core
 

@@ -14,10 +14,12 @@ use Rattle.m2_journal.specs.SideFacts.{SideFacts}
 use Rattle.m2_journal.specs.State.{Feed, State}
 use Rattle.m2_session.specs.declared.session.Phase.TheVariants.{Ready}
 use Rattle.m2_session.specs.Phases as phase
+use Rattle.m2_live.specs.LiveNow.{LiveNow, OnFeedNow, is_ready}
+use Rattle.m2_live.specs.OnFeed.{AnswersStamp, CanWrite, ComposesFeed, HasStamp}
+use Rattle.m2_live.specs.Calls.{live_with}
 use Rattle.m2_core.specs.Agrees.{FeedsAgree}
-use Rattle.m2_core.specs.Composing.{AnswersStamp, CanWrite, ComposesFeed, HasAcknowledged, HasAnswered, HasStamp, OwesOne}
-use Rattle.m2_core.specs.CoreNow.{CoreNow, Holds, IsSound, LiveNow, OnFeedNow, is_ready}
-use Rattle.m2_core.specs.Moves.{live_with}
+use Rattle.m2_core.specs.Composing.{HasAcknowledged, HasAnswered, OwesOne}
+use Rattle.m2_core.specs.CoreNow.{CoreNow, Holds, IsSound}
 
 abbrev Answer : Type 0
 Answer = Result (Unit {0}) memory.NoMemory

@@ -17,11 +17,14 @@ use Rattle.m2_journal.specs.State.{Feed, PartText, State}
 use Rattle.m2_journal.specs.Steps as replay
 use Rattle.m2_journal.specs.Steps.{after, puts, puts_on, puts_whole, sends_late}
 use Rattle.m2_shared.specs.Throttle.{SeenGrant}
+use Rattle.m2_live.specs.LiveNow.{LiveNow}
+use Rattle.m2_live.specs.OnFeed.{WritesFeed}
+use Rattle.m2_live.specs.Calls.{live_with}
 use Rattle.m2_core.proofs.Agreeing.{IsResumed, core_of, leads_by}
 use Rattle.m2_core.proofs.Faulting.{is_on_feed}
 use Rattle.m2_core.specs.Agrees.{Agrees, FeedsAgree, IsTold, Stays}
-use Rattle.m2_core.specs.CoreNow.{CoreNow, Holds, IsSound, LiveNow}
-use Rattle.m2_core.specs.Moves.{HasWritten, IsWrote, IsWroteOn, WritesFeed, live_with, owes_after}
+use Rattle.m2_core.specs.CoreNow.{CoreNow, Holds, IsSound}
+use Rattle.m2_core.specs.Moves.{HasWritten, IsWrote, IsWroteOn, owes_after}
 
 -- ---- what a text that is put leaves of the replay besides its feed
 

@@ -1,29 +1,20 @@
 -- What an ask leaves of a core.
-use Rattle.std.specs.Prelude.{◌≡◌, ℕ, ◌<◌, ◌≤◌, Bool, true, false, List, [], ◌∷◌, All, length, Option, Some, Result, OnOk}
+use Rattle.std.specs.Prelude.{◌≡◌, ℕ, ◌<◌, ◌≤◌, Bool, true, false, [], ◌∷◌, All}
 use Rattle.m2_addr.specs.declared.addr.AnyAddr.TheVariants.{V4}
 use Rattle.m2_control.specs.declared.control.Control.{Control}
 use Rattle.m2_control.specs.declared.control.Control.TheVariants as control
 use Rattle.m2_control.specs.declared.fields.TheConstants.{GREATEST_NUMBER}
-use Rattle.m2_control.specs.Control.{IsWritable, text_of}
-use Rattle.m2_feed.specs.Calls as feed
-use Rattle.m2_feed.specs.Calls.{Rests}
-use Rattle.m2_feed.specs.FeedNow.{CanCompose, FeedNow}
-use Rattle.m2_feed.specs.declared.composing.TheConstants.{IDENT_BYTES, RECONNECT_BYTES}
-use Rattle.m2_feed.specs.declared.writing.Writing.TheVariants as writing
-use Rattle.m2_frame.specs.declared.frame.TheConstants.{CONTROL_LIMIT}
-use Rattle.m2_session.specs.declared.event.Event.{Event}
-use Rattle.m2_session.specs.declared.event.Event.TheVariants as event
 use Rattle.m2_journal.specs.Items as item
 use Rattle.m2_journal.specs.OutFrames as out
 use Rattle.m2_journal.specs.OutFrames.{client_ident_of}
 use Rattle.m2_journal.specs.SideFacts.{SideFacts}
 use Rattle.m2_session.specs.declared.session.Phase.TheVariants.{Connecting}
+use Rattle.m2_live.specs.LiveNow.{LiveNow, OnFeedNow}
+use Rattle.m2_live.specs.OnFeed.{CanAsk, ChangesRoom, ComposesAsk}
 use Rattle.m2_core.specs.declared.asking.CoreAsk.{CoreAsk}
 use Rattle.m2_core.specs.declared.asking.CoreAsk.TheVariants as ask
 use Rattle.m2_core.specs.Agrees.{LeadsOn, MayCome, Stays}
 use Rattle.m2_core.specs.Calls.{ask_event, ask_frame, asks_ident}
-use Rattle.m2_bytes.specs.declared.memory.NoMemory as memory
-use Rattle.m2_handshake.specs.Texts.{frame_text}
 use Rattle.m2_session.specs.Steps.{step_of}
 use Rattle.m2_shared.specs.declared.draw.Draw.{Draw}
 use Rattle.m2_shared.specs.declared.draw.Draw.TheVariants as draw
@@ -31,9 +22,7 @@ use Rattle.m2_shared.specs.declared.limits.TheConstants.{LAST_NUMBER}
 use Rattle.m2_shared.specs.Draw.{IfDrawAgain, IfNumber, IsDrawAlone, drawn_after, word_told}
 use Rattle.m2_shared.specs.Numbers.{SeenNumberPass}
 use Rattle.m2_shared.specs.Place.{IsAlone, Place}
-use Rattle.m2_core.specs.Composing.{CanWrite}
-use Rattle.m2_core.specs.Numbering.{ChangesRoom}
-use Rattle.m2_core.specs.CoreNow.{CoreNow, LiveNow, OnFeedNow}
+use Rattle.m2_core.specs.CoreNow.{CoreNow}
 
 -- the ask of this side, an ident with this cookie or a reconnect, with this global number
 abbrev pub ask_of : SideFacts → LiveNow → (by_ident : Bool) → (cookie number : ℕ) → Control
@@ -46,50 +35,6 @@ ask_of f l false cookie number = control.SessionReconnect (record {
   connect = l.session.connect;
   seen = l.last;
 })
-
--- the same ask with this cookie, where it is an ident, and this number
-abbrev pub filled : (cookie number : ℕ) → Control → Control
-filled cookie number (control.ClientIdent p) = control.ClientIdent (record p { global = number; cookie = cookie })
-filled cookie number (control.SessionReconnect p) = control.SessionReconnect (record p { global = number })
-filled cookie number c = c
-
--- how many bytes its payload has
-abbrev pub ask_len : (by_ident : Bool) → ℕ
-ask_len true = IDENT_BYTES
-ask_len false = RECONNECT_BYTES
-
--- whatever its cookie and its number are, the ask can be written, and has so many bytes
-pub record IsAsk (len : ℕ) (c : Control) : Type 0 where
-  pub writable : (cookie number : ℕ) → IsWritable (filled cookie number c)
-  pub size : (cookie number : ℕ) → length (text_of (filled cookie number c)) ≡ len
-  pub short : len ≤ CONTROL_LIMIT
-
-abbrev pub asked_event : (by_ident : Bool) → (cookie : ℕ) → Event
-asked_event true cookie = event.AskedIdent cookie
-asked_event false cookie = event.AskedReconnect
-
--- a text that an entry names is composed
-abbrev pub ComposesAsk : List ℕ → Option FeedNow → Option FeedNow → Type 0
-ComposesAsk bytes (Some old) (Some new) = feed.Composes (writing.Named false) bytes old new
-ComposesAsk bytes _ _ = ⊥
-
--- nothing has come that isn't answered, and nothing is left of another text
-pub record CanAsk (v : FeedNow) : Type 0 where
-  pub write : CanWrite v
-  pub rests : Rests v.reading
-
--- the room for an ask is made
-pub record ReservesAsk (r : Result (Unit {0}) memory.NoMemory) (len : ℕ) (old new : LiveNow) : Type 0 where
-  pub same : ChangesRoom old.feed new.feed
-  pub can : OnFeedNow new.feed CanAsk
-  pub room : OnOk r (OnFeedNow new.feed (λ v. CanCompose v len))
-  pub only : new ≡ record old { feed = new.feed }
-
--- the session is told that it asks, and the ask is composed
-pub record AsksNow (by_ident : Bool) (cookie number : ℕ) (c : Control) (old new : LiveNow) : Type 0 where
-  pub session : new.session ≡ (step_of old.session (asked_event by_ident cookie)).session
-  pub feed : ComposesAsk (frame_text (filled new.session.client_cookie number c)) old.feed new.feed
-  pub only : new ≡ record old { session = new.session; feed = new.feed }
 
 pub record MayAskNow (c : CoreNow) : Type 0 where
   pub phase : c.live.session.phase ≡ Connecting

@@ -1,5 +1,5 @@
 -- What each call of a core that makes an entry leaves of it. This project's own.
-use Rattle.std.specs.Prelude.{◌≡◌, ℕ, ◌-◌, ◌==◌, ◌||◌, Bool, true, false, List, ◌++◌, nat_lt, Option, Some, None}
+use Rattle.std.specs.Prelude.{◌≡◌, ℕ, ◌==◌, ◌||◌, Bool, true, false, List, ◌++◌, nat_lt, Option, Some}
 use Rattle.std.specs.List.{list_any}
 use Rattle.std.specs.Option.{option_to_list}
 use Rattle.m2_answers.specs.declared.ask.AskFacts.{AskFacts}
@@ -7,30 +7,25 @@ use Rattle.m2_answers.specs.Asks as asks
 use Rattle.m2_answers.specs.Dials.{at_rest}
 use Rattle.m2_control.specs.declared.fields.TheConstants.{GREATEST_NUMBER}
 use Rattle.m2_fabric.specs.End.{SeenEnd}
-use Rattle.m2_feed.specs.Calls as feed
-use Rattle.m2_feed.specs.Calls.{at_acceptance, at_opening}
+use Rattle.m2_feed.specs.Calls.{at_opening}
 use Rattle.m2_feed.specs.FeedNow.{FeedNow}
-use Rattle.m2_feed.specs.declared.writing.Writing.{Writing}
 use Rattle.m2_handshake.specs.Standing.{opener_at_start}
 use Rattle.m2_journal.specs.Lawful.{dial_connect, where_so}
 use Rattle.m2_journal.specs.OutFrames as out
 use Rattle.m2_journal.specs.OutFrames.{OutFrame}
 use Rattle.m2_journal.specs.SideFacts.{SideFacts, cookie_of}
 use Rattle.m2_journal.specs.Steps.{kept_of}
-use Rattle.m2_message.specs.Message.{Content}
-use Rattle.m2_queues.specs.OutQueues.{after_acked, after_next, after_post, after_sent, message_at, next_number}
+use Rattle.m2_queues.specs.OutQueues.{next_number}
 use Rattle.m2_session.specs.declared.answer.Answer.{Answer}
 use Rattle.m2_session.specs.declared.event.Event.{Event}
 use Rattle.m2_session.specs.declared.event.Event.TheVariants as event
 use Rattle.m2_session.specs.declared.session.Phase.TheVariants.{Connecting}
 use Rattle.m2_session.specs.Phases as phase
-use Rattle.m2_core.specs.CoreNow.{CoreNow, LiveNow, is_waiting, may_dial}
-use Rattle.m2_core.specs.Effects.{tells}
+use Rattle.m2_live.specs.LiveNow.{LiveNow}
+use Rattle.m2_live.specs.Effects.{tells}
+use Rattle.m2_core.specs.CoreNow.{CoreNow, may_dial}
 
 -- ---- the plan
-
-abbrev pub after_posted : Content → LiveNow → LiveNow
-after_posted m l = record l { out = record { queue = after_post l.out.queue m; spare = l.out.spare - 1 } }
 
 abbrev pub after_dial : CoreNow → CoreNow
 after_dial c = record c { dials = c.dials || phase.is_among c.live.session.phase at_rest }
@@ -70,22 +65,6 @@ after_opened v c = record c { live = record (tells event.Dialled c.live) { feed 
 abbrev pub IsOpening : SideFacts → SeenEnd → FeedNow → Type 0
 IsOpening f end v = v ≡ at_opening end (opener_at_start f.node.entity f.peer) v
 
--- the feed is closed for a fault
-abbrev pub after_fault : LiveNow → LiveNow
-after_fault l = tells (event.Faulted (is_waiting l)) l
-
--- ---- what is composed
-
--- a text is composed on the feed; only room is left open
-abbrev pub ComposesAt : Writing → List ℕ → Option FeedNow → Option FeedNow → Type 0
-ComposesAt w text (Some old) (Some new) = feed.Composes w text old new
-ComposesAt w text _ _ = ⊥
-
--- the feed's text is composed, and all else is as in `mid`
-pub record Composes (w : Writing) (text : List ℕ) (mid new : LiveNow) : Type 0 where
-  pub feed : ComposesAt w text mid.feed new.feed
-  pub only : new ≡ record mid { feed = new.feed }
-
 -- ---- asking
 
 -- what the session is told where it asks with this number
@@ -97,26 +76,10 @@ ask_event f false number = event.AskedReconnect
 abbrev pub asks_ident : LiveNow → Bool
 asks_ident l = l.session.server_cookie == 0
 
-abbrev pub after_asked : (number : ℕ) → CoreNow → CoreNow
-after_asked number c = record c { live = tells (ask_event c.facts (asks_ident c.live) number) c.live; top = number }
-
 -- the ask, of a session that was told of it
 abbrev pub ask_frame : (ident : Bool) → (number : ℕ) → LiveNow → OutFrame
 ask_frame true number l = out.ident l.session.client_cookie number
 ask_frame false number l = out.reconnect l.session.client_cookie l.session.server_cookie number l.session.connect l.last
-
--- ---- messages
-
--- the next message has its number, and counts as sent
-abbrev pub after_numbered : LiveNow → LiveNow
-after_numbered l = record l { out = record l.out { queue = after_sent (after_next l.out.queue) } }
-
--- the message that gets this number
-abbrev pub message_due : ℕ → LiveNow → Option Content
-message_due number l = message_at (after_next l.out.queue) number
-
-abbrev pub after_counted : ℕ → LiveNow → LiveNow
-after_counted number l = record l { out = record l.out { queue = after_acked l.out.queue number } }
 
 -- ---- judging
 
@@ -125,7 +88,3 @@ answer_to a l = asks.answer_to l.session a l.out.queue.written
 
 abbrev pub event_of : SideFacts → AskFacts → ℕ → Answer → Option Event
 event_of f a number answer = asks.event_of (kept_of f a) answer (cookie_of f number)
-
-abbrev pub tells_if : Option Event → LiveNow → LiveNow
-tells_if (Some e) l = tells e l
-tells_if None l = l

@@ -1,25 +1,15 @@
 -- What composing a text that no entry names leaves of a core.
-use Rattle.std.specs.Prelude.{◌≡◌, ◌<◌, ℕ, true, false, List, length, Option, Some, Result}
+use Rattle.std.specs.Prelude.{◌≡◌, true, false, Result}
 use Rattle.m2_bytes.specs.declared.memory.NoMemory as memory
-use Rattle.m2_feed.specs.Calls.{ComposesIfOk, answer_text, is_empty}
-use Rattle.m2_feed.specs.FeedNow.{FeedNow, is_framing}
-use Rattle.m2_feed.specs.declared.writing.Writing.{Writing}
 use Rattle.m2_feed.specs.declared.writing.Writing.TheVariants as writing
 use Rattle.m2_journal.specs.Laws.{CanBePaid, IfFed}
 use Rattle.m2_journal.specs.OutFrames as out
 use Rattle.m2_journal.specs.State.{State}
+use Rattle.m2_live.specs.LiveNow.{is_ready}
+use Rattle.m2_live.specs.OnFeed.{AnswersStamp, ComposesFeed}
+use Rattle.m2_live.specs.Calls.{live_with}
 use Rattle.m2_core.specs.Agrees.{Agrees, Stays}
-use Rattle.m2_core.specs.CoreNow.{CoreNow, is_ready}
-use Rattle.m2_core.specs.Moves.{live_with}
-
--- both sides have signed, and nothing is left of another text
-pub record CanWrite (v : FeedNow) : Type 0 where
-  pub signed : is_framing v.reading ≡ true
-  pub put : is_empty v.composed ≡ true
-
-abbrev pub ComposesFeed : Result (Unit {0}) memory.NoMemory → Writing → List ℕ → Option FeedNow → Option FeedNow → Type 0
-ComposesFeed r w text (Some old) (Some new) = ComposesIfOk r w text old new
-ComposesFeed r w text _ _ = ⊥
+use Rattle.m2_core.specs.CoreNow.{CoreNow}
 
 -- an acknowledgement is due
 pub record OwesOne (c : CoreNow) : Type 0 where
@@ -35,15 +25,6 @@ pub record HasAcknowledged (r : Result (Unit {0}) memory.NoMemory) (before after
   pub composes : ComposesFeed r (writing.Acknowledgement before.live.last false) (out.text_of before.facts (out.acknowledgement before.live.last)) before.live.feed after.live.feed
   pub only : after ≡ record before { live = live_with after.live.feed before.live }
   pub stays : StaysWherePaid before after
-
--- a keepalive is to be answered
-pub record HasStamp (v : FeedNow) : Type 0 where
-  pub can : CanWrite v
-  pub some : 0 < length v.stamps
-
-abbrev pub AnswersStamp : Result (Unit {0}) memory.NoMemory → Option FeedNow → Option FeedNow → Type 0
-AnswersStamp r (Some old) (Some new) = ComposesIfOk r (writing.KeepaliveAnswer false) (answer_text old.stamps) old new
-AnswersStamp r _ _ = ⊥
 
 pub record HasAnswered (r : Result (Unit {0}) memory.NoMemory) (before after : CoreNow) : Type 0 where
   pub composes : AnswersStamp r before.live.feed after.live.feed

@@ -1,31 +1,16 @@
 -- What contracts see of a core: a record without its journal, plan and parcels. This project's own.
-use Rattle.std.specs.Prelude.{◌≡◌, ℕ, ◌+◌, ◌<◌, ◌≤◌, Bool, true, false, not, Option, Some, None}
+use Rattle.std.specs.Prelude.{◌≡◌, ℕ, ◌+◌, ◌<◌, ◌≤◌, Bool, false, not, Option, Some, None}
 use Rattle.std.specs.Option.{is_some}
 use Rattle.m2_answers.specs.declared.cookie.TheConstants.{MOST_PLACES}
 use Rattle.m2_answers.specs.Dials as dials
 use Rattle.m2_control.specs.declared.fields.TheConstants.{GREATEST_NUMBER}
-use Rattle.m2_feed.specs.FeedNow.{FeedNow, Reading, framing, shaking, is_framing}
-use Rattle.m2_frame.specs.Reading.{size_of}
+use Rattle.m2_feed.specs.FeedNow.{FeedNow, is_framing}
 use Rattle.m2_journal.specs.SideFacts.{SideFacts, absent}
-use Rattle.m2_queues.specs.OutQueues.{Outgoing, last_number, new_queue, waits}
+use Rattle.m2_queues.specs.OutQueues.{last_number, new_queue}
 use Rattle.m2_session.specs.declared.session.Phase.{Phase}
-use Rattle.m2_session.specs.declared.session.Phase.TheVariants.{Connecting, Ready}
-use Rattle.m2_session.specs.declared.session.Session.{Session}
+use Rattle.m2_session.specs.declared.session.Phase.TheVariants.{Connecting}
 use Rattle.m2_session.specs.Phases as phase
-use Rattle.m2_shared.specs.Throttle.{SeenGrant}
-use Rattle.m2_shared.specs.Place.{Place}
-
--- what a session's step can change
-pub record LiveNow : Type 0 where
-  pub session : Session
-  pub out : Outgoing
-  -- the last accepted number
-  pub last : ℕ
-  -- up to where a resumption on the feed acknowledges, 0 where none does
-  pub resumed : ℕ
-  pub feed : Option FeedNow
-  -- what a throttle has granted for the MESSAGE that isn't finished
-  pub granted : Option SeenGrant
+use Rattle.m2_live.specs.LiveNow.{LiveNow, granted_on, is_granted_on, is_ready, is_waiting, size_granted}
 
 pub record CoreNow : Type 0 where
   -- what never changes
@@ -52,52 +37,6 @@ abbrev pub at_start : SideFacts → CoreNow
 at_start f = record { facts = f; live = live_at_start f; owes = false; dials = false; top = 0 }
 
 -- ---- words
-
--- there is a feed, of which this holds
-abbrev pub OnFeedNow : Option FeedNow → (FeedNow → Type 0) → Type 0
-OnFeedNow (Some v) P = P v
-OnFeedNow None P = ⊥
-
-abbrev pub with_feed : FeedNow → LiveNow → LiveNow
-with_feed v l = record l { feed = Some v }
-
--- the size that is granted for the MESSAGE at the front
-abbrev pub granted_in : Reading → Option ℕ
-granted_in (framing rest true) = size_of rest
-granted_in _ = None
-
-abbrev pub granted_on : Option FeedNow → Option ℕ
-granted_on (Some v) = granted_in v.reading
-granted_on None = None
-
--- whether its decoder was told so
-abbrev pub is_granted_in : Reading → Bool
-is_granted_in (framing rest granted) = granted
-is_granted_in (shaking s) = false
-
-abbrev pub is_granted_on : Option FeedNow → Bool
-is_granted_on (Some v) = is_granted_in v.reading
-is_granted_on None = false
-
-abbrev pub size_granted : Option SeenGrant → Option ℕ
-size_granted (Some g) = Some g.n
-size_granted None = None
-
--- how many bytes are held for it
-abbrev pub held : Option SeenGrant → ℕ
-held (Some g) = g.n
-held None = 0
-
--- what is held was granted by the throttle whose word lies there
-abbrev pub IsOwned : Place → Option SeenGrant → Type 0
-IsOwned place (Some g) = g.place ≡ place
-IsOwned place None = Unit {0}
-
-abbrev pub is_ready : LiveNow → Bool
-is_ready l = phase.is l.session.phase Ready
-
-abbrev pub is_waiting : LiveNow → Bool
-is_waiting l = waits l.out.queue
 
 -- a dial is due
 abbrev pub may_dial : CoreNow → Bool

@@ -1,9 +1,8 @@
 -- What stands at the front of a core's feed, and what it says to the core.
-use Rattle.std.specs.Prelude.{◌≡◌, ℕ, nat_lt, if◌then◌else◌, Option, Some, None}
-use Rattle.m2_feed.specs.Calls.{IsFront}
+use Rattle.std.specs.Prelude.{ℕ, nat_lt, if◌then◌else◌, Option, Some, None}
 use Rattle.m2_feed.specs.FeedNow.{Reading, framing, shaking}
-use Rattle.m2_frame.specs.Frame.{Parts, message_tag}
-use Rattle.m2_frame.specs.Reading.{Front, start, bad, text, whole, judge, owed_at}
+use Rattle.m2_frame.specs.Frame.{message_tag}
+use Rattle.m2_frame.specs.Reading.{Front, start, bad, text, judge, owed_at}
 use Rattle.m2_heard.specs.declared.fault.WireFault.TheVariants as fault
 use Rattle.m2_heard.specs.declared.heard.FrameHeard.{FrameHeard}
 use Rattle.m2_heard.specs.declared.heard.FrameHeard.TheVariants.{Acknowledges, Fault}
@@ -15,7 +14,9 @@ use Rattle.m2_queues.specs.OutQueues.{Queue}
 use Rattle.m2_session.specs.declared.session.Phase.TheVariants.{Ready}
 use Rattle.m2_session.specs.declared.session.Session.{Session}
 use Rattle.m2_session.specs.Phases as phase
-use Rattle.m2_core.specs.CoreNow.{CoreNow, OnFeedNow, is_ready}
+use Rattle.m2_live.specs.LiveNow.{OnFeedNow, is_ready}
+use Rattle.m2_live.specs.OnFeed.{Hears}
+use Rattle.m2_core.specs.CoreNow.{CoreNow}
 
 -- ---- who hears
 
@@ -76,13 +77,6 @@ abbrev pub heard_by : CoreNow → Reading → FrontHeard
 heard_by c r = before_front (resumption_at c) (front_of (hearer_of c) r)
 
 -- ---- words
-
--- a whole frame stands at the front, and this is what it says
-pub record Hears (h : Hearer) (heard : FrameHeard) (r : Reading) : Type 0 where
-  pub frame : Parts
-  pub len : ℕ
-  pub front : IsFront r (whole frame) len
-  pub says : heard_of h (whole frame) ≡ heard
 
 abbrev pub HearsOn : CoreNow → FrameHeard → Type 0
 HearsOn c heard = OnFeedNow c.live.feed (λ v. Hears (hearer_of c) heard v.reading)

@@ -1,21 +1,17 @@
 -- What granting the size of a MESSAGE leaves of a core.
-use Rattle.std.specs.Prelude.{◌≡◌, ◌≢◌, ℕ, ◌+◌, Option, Some, None}
-use Rattle.m2_feed.specs.Calls.{with_grant}
-use Rattle.m2_feed.specs.FeedNow.{FeedNow}
+use Rattle.std.specs.Prelude.{◌≡◌, ◌≢◌, ℕ, ◌+◌, Some}
 use Rattle.m2_shared.specs.declared.take.Take.{Take}
 use Rattle.m2_shared.specs.declared.take.Take.TheVariants as take
 use Rattle.m2_shared.specs.Changes.{IsLook, IsMissed, IsRoom}
 use Rattle.m2_shared.specs.Place.{IsAlone, IsShared, Place}
 use Rattle.m2_shared.specs.Take.{IfFull, IfGranted, IfTakeAgain, IsAnswerAlone}
 use Rattle.m2_shared.specs.Throttle.{SeenTakePass, SeenThrottle, Waits}
+use Rattle.m2_live.specs.LiveNow.{LiveNow}
+use Rattle.m2_live.specs.OnFeed.{granted_feed}
 use Rattle.m2_core.specs.declared.granting.CoreGrant.{CoreGrant}
 use Rattle.m2_core.specs.declared.granting.CoreGrant.TheVariants as grant
 use Rattle.m2_core.specs.Agrees.{Stays}
-use Rattle.m2_core.specs.CoreNow.{CoreNow, LiveNow}
-
-abbrev pub granted_feed : Option FeedNow → Option FeedNow
-granted_feed (Some v) = Some (record v { reading = with_grant v.reading })
-granted_feed None = None
+use Rattle.m2_core.specs.CoreNow.{CoreNow}
 
 -- so many bytes are held for the MESSAGE at the front
 abbrev pub after_granted : Place → ℕ → LiveNow → LiveNow

@@ -1,36 +1,26 @@
 -- What a core reads, what it hears there where it has asked, and what obeying a reset leaves of it.
-use Rattle.std.specs.Prelude.{◌≡◌, ℕ, ◌<◌, Bool, if◌then◌else◌, List, ◌++◌, length, max, Option, Some, None}
-use Rattle.m2_addr.specs.declared.addr.Addr.{Addr}
+use Rattle.std.specs.Prelude.{◌≡◌, ℕ, ◌<◌, Bool, if◌then◌else◌, List, ◌++◌, length, Option, Some, None}
 use Rattle.m2_fabric.specs.End.{SeenEnd}
 use Rattle.m2_fabric.specs.declared.end.EndRead.{EndRead}
 use Rattle.m2_fabric.specs.declared.end.EndRead.TheVariants as read
-use Rattle.m2_feed.specs.Calls.{ReadsOn}
 use Rattle.m2_feed.specs.FeedNow.{FeedNow}
 use Rattle.m2_hearing.specs.declared.heard.Heard.{Heard}
 use Rattle.m2_hearing.specs.declared.heard.Heard.TheVariants as heard
-use Rattle.m2_hearing.specs.Front.{heard_at}
 use Rattle.m2_hearing.specs.Heard.{event_of}
 use Rattle.m2_journal.specs.Items as item
 use Rattle.m2_journal.specs.SideFacts.{SideFacts}
-use Rattle.m2_policy.specs.declared.policy.Policy.{Policy}
 use Rattle.m2_session.specs.declared.event.Effects.{Effects}
-use Rattle.m2_session.specs.declared.event.Event.TheVariants as event
-use Rattle.m2_session.specs.declared.session.Phase.{Phase}
 use Rattle.m2_session.specs.declared.session.Session.{Session}
 use Rattle.m2_session.specs.Steps.{nothing}
-use Rattle.m2_shared.specs.Numbers.{SeenNumberPass}
+use Rattle.m2_live.specs.LiveNow.{LiveNow, is_ready}
+use Rattle.m2_live.specs.Effects.{closed_if, effects_of}
+use Rattle.m2_live.specs.OnFeed.{ReadsFeed}
+use Rattle.m2_live.specs.Calls.{live_with}
+use Rattle.m2_live.specs.Hearing.{ObeysReset, TakesAnswer, heard_on}
 use Rattle.m2_core.specs.Agrees.{IsBroken, LeadsOn, MayCome, Stays}
-use Rattle.m2_core.specs.Calls.{tells_if}
-use Rattle.m2_core.specs.CoreNow.{CoreNow, LiveNow, is_ready}
-use Rattle.m2_core.specs.Effects.{closed_if, effects_of, tells}
-use Rattle.m2_core.specs.Moves.{live_with}
-use Rattle.m2_core.specs.Passing.{PassesFeed}
+use Rattle.m2_core.specs.CoreNow.{CoreNow}
 
 -- ---- what is heard
-
-abbrev pub heard_on : Addr → Policy → Phase → Option FeedNow → Option Heard
-heard_on peer policy phase (Some v) = heard_at peer policy phase v.reading
-heard_on peer policy phase None = None
 
 -- what the frame at the front says before Ready
 abbrev pub hearing : SideFacts → LiveNow → Option Heard
@@ -42,19 +32,6 @@ heard_after (read.Got n) f l = hearing f l
 heard_after _ f l = None
 
 -- ---- what is taken
-
-abbrev pub resumed_by_answer : Heard → ℕ → ℕ
-resumed_by_answer (heard.ReconnectOk seen) resumed = seen
-resumed_by_answer _ resumed = resumed
-
--- what the session is told of an answer, with this feed behind it
-abbrev pub after_answer : Heard → Option FeedNow → LiveNow → LiveNow
-after_answer h x l = tells_if (event_of h) (record l { feed = x; resumed = resumed_by_answer h l.resumed })
-
-pub record TakesAnswer (h : Heard) (old new : LiveNow) : Type 0 where
-  pub passed : Option FeedNow
-  pub passes : PassesFeed old.feed passed
-  pub live : new ≡ after_answer h passed old
 
 -- An answer is taken; a reset, which is obeyed apart, and a fault stay at the front.
 abbrev pub Heeds : Option Heard → LiveNow → LiveNow → Type 0
@@ -68,21 +45,12 @@ abbrev pub effects_heard : Option Heard → Session → Effects
 effects_heard (Some h) s = effects_of (event_of h) s
 effects_heard None s = nothing
 
--- the counter of global numbers is raised to a number that is told
-abbrev pub raised_by : Option Heard → SeenNumberPass → SeenNumberPass
-raised_by (Some (heard.RetryGlobal number)) pass = record pass { least = max pass.least number }
-raised_by _ pass = pass
-
 -- a refusal is a fault
 abbrev pub IsFaultHeard : Option Heard → CoreNow → Type 0
 IsFaultHeard (Some (heard.Refused e)) c = IsBroken c
 IsFaultHeard _ c = Unit {0}
 
 -- ---- reading
-
-abbrev pub ReadsFeed : EndRead → Option FeedNow → Option FeedNow → Type 0
-ReadsFeed answer (Some old) (Some new) = ReadsOn answer old new
-ReadsFeed answer _ _ = ⊥
 
 -- These bytes came, behind all that came before: the entry Read, of which the answer that they complete is a part.
 pub record IsReadEntry (n : ℕ) (old mid : FeedNow) (before after : CoreNow) : Type 0 where
@@ -116,12 +84,6 @@ pub record HasRead (r : ReadNow) (before after : CoreNow) : Type 0 where
   pub entry : IsRead r.answer before.live.feed feed before after
 
 -- ---- obeying
-
--- the reset at the front is passed, and the session is told of it
-pub record ObeysReset (full : Bool) (old new : LiveNow) : Type 0 where
-  pub passed : Option FeedNow
-  pub passes : PassesFeed old.feed passed
-  pub live : new ≡ tells (event.GotReset full) (live_with passed old)
 
 pub record HasObeyed (full : Bool) (before after : CoreNow) : Type 0 where
   pub obeys : ObeysReset full before.live after.live

@@ -20,10 +20,11 @@ use Rattle.m2_journal.specs.SideFacts.{SideFacts, cookie_of, speaker_of}
 use Rattle.m2_journal.specs.State.{State}
 use Rattle.m2_session.specs.declared.event.Event.{Event}
 use Rattle.m2_session.specs.Laws.{takes}
+use Rattle.m2_live.specs.LiveNow.{LiveNow}
 use Rattle.m2_core.specs.declared.verdict.Verdict.{Verdict}
 use Rattle.m2_core.specs.Agrees.{Agrees}
 use Rattle.m2_core.specs.Calls.{answer_to, event_of}
-use Rattle.m2_core.specs.CoreNow.{CoreNow, LiveNow}
+use Rattle.m2_core.specs.CoreNow.{CoreNow}
 
 -- ---- when an ask may be judged
 

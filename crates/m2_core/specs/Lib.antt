@@ -1,7 +1,5 @@
 pub mod CoreNow
 pub mod Agrees
-pub mod Effects
-pub mod Queues
 pub mod Moves
 pub mod Judging
 pub mod TakingOver
@@ -12,10 +10,8 @@ pub mod Numbering
 pub mod Asking
 pub mod Hearing
 pub mod ToCompose
-pub mod News
 pub mod Front
 pub mod Granting
 pub mod Passing
 pub mod Accepting
-pub mod Resting
 pub mod Next

@@ -1,25 +1,18 @@
 -- What writing the feed's end leaves of a core.
 use Rattle.std.specs.Prelude.{◌≡◌, ◌&&◌, not, Bool, take, Option, Some, None}
-use Rattle.m2_feed.specs.Calls.{WritesOn}
 use Rattle.m2_feed.specs.FeedNow.{FeedNow}
 use Rattle.m2_feed.specs.declared.answers.FeedWrite.{FeedWrite}
 use Rattle.m2_feed.specs.declared.answers.FeedWrite.TheVariants as put
 use Rattle.m2_journal.specs.Items as item
+use Rattle.m2_live.specs.OnFeed.{WritesFeed}
+use Rattle.m2_live.specs.Calls.{live_with}
 use Rattle.m2_core.specs.Agrees.{LeadsOn, MayCome, Stays}
-use Rattle.m2_core.specs.CoreNow.{CoreNow, LiveNow}
-
--- the feed's end is written once
-abbrev pub WritesFeed : FeedWrite → Option FeedNow → Option FeedNow → Type 0
-WritesFeed answer (Some old) (Some new) = WritesOn answer old new
-WritesFeed answer _ _ = ⊥
+use Rattle.m2_core.specs.CoreNow.{CoreNow}
 
 -- what is owed after a write
 abbrev pub owes_after : FeedWrite → Bool → Bool
 owes_after (put.Put n acknowledged) owes = owes && not acknowledged
 owes_after _ owes = owes
-
-abbrev pub live_with : Option FeedNow → LiveNow → LiveNow
-live_with x l = record l { feed = x }
 
 -- The bytes that were put are those of an entry that may come and leads on; where none were put there is no entry.
 abbrev pub IsWrote : FeedWrite → FeedNow → (before after : CoreNow) → Type 0

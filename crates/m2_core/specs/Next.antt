@@ -13,14 +13,15 @@ use Rattle.m2_session.specs.declared.event.Event.TheVariants as event
 use Rattle.m2_session.specs.Steps.{nothing, step_of}
 use Rattle.m2_shared.specs.declared.take.Take.TheVariants as take
 use Rattle.m2_shared.specs.Throttle.{SeenTakePass}
+use Rattle.m2_live.specs.LiveNow.{LiveNow, OnFeedNow, is_ready, is_waiting}
+use Rattle.m2_live.specs.Calls.{after_counted, after_fault}
 use Rattle.m2_core.specs.declared.next.CoreNext.{CoreNext}
 use Rattle.m2_core.specs.declared.next.CoreNext.TheVariants as next
 use Rattle.m2_core.specs.declared.resting.CoreRest.{CoreRest}
 use Rattle.m2_core.specs.declared.resting.CoreRest.TheVariants as rest
 use Rattle.m2_core.specs.Accepting.{Accepts}
 use Rattle.m2_core.specs.Agrees.{IsBroken, IsToldTo, LeadsOn, MayCome}
-use Rattle.m2_core.specs.Calls.{after_counted, after_fault}
-use Rattle.m2_core.specs.CoreNow.{CoreNow, LiveNow, OnFeedNow, is_ready, is_waiting}
+use Rattle.m2_core.specs.CoreNow.{CoreNow}
 use Rattle.m2_core.specs.Front.{FrontHeard, HearsOn, asks, rests, tells}
 use Rattle.m2_core.specs.declared.granting.CoreGrant.{CoreGrant}
 use Rattle.m2_core.specs.declared.granting.CoreGrant.TheVariants as grant

@@ -1,17 +1,11 @@
 -- What an answer of the opener's half leaves of a core.
-use Rattle.std.specs.Prelude.{◌≡◌, Option, Some}
-use Rattle.m2_feed.specs.Calls.{GreetsOn}
-use Rattle.m2_feed.specs.FeedNow.{FeedNow}
+use Rattle.std.specs.Prelude.{◌≡◌}
 use Rattle.m2_handshake.specs.declared.answer.HalfStep.{HalfStep}
 use Rattle.m2_handshake.specs.declared.answer.HalfStep.TheVariants as half
+use Rattle.m2_live.specs.OnFeed.{GreetsFeed}
+use Rattle.m2_live.specs.Calls.{live_with}
 use Rattle.m2_core.specs.Agrees.{IsBroken, Stays}
 use Rattle.m2_core.specs.CoreNow.{CoreNow}
-use Rattle.m2_core.specs.Moves.{live_with}
-
--- one answer of the half
-abbrev pub GreetsFeed : HalfStep → Option FeedNow → Option FeedNow → Type 0
-GreetsFeed answer (Some old) (Some new) = GreetsOn answer old new
-GreetsFeed answer _ _ = ⊥
 
 -- a fault that it finds is one of the replay
 abbrev pub IsHalfFault : HalfStep → CoreNow → Type 0

@@ -1,16 +1,14 @@
 -- What an answer to an ask of the peer leaves of a core, and of a socket that it takes. This project's own.
-use Rattle.std.specs.Prelude.{◌≡◌, ℕ, false, if◌then◌else◌, List, Option, Some}
-use Rattle.m2_answers.specs.declared.ask.AskFacts.{AskFacts}
+use Rattle.std.specs.Prelude.{◌≡◌, ℕ, false, List}
 use Rattle.m2_fabric.specs.declared.socket.SocketId.{SocketId}
 use Rattle.m2_fabric.specs.End.{SeenEnd}
 use Rattle.m2_feed.specs.Calls.{at_acceptance}
 use Rattle.m2_feed.specs.FeedNow.{FeedNow}
 use Rattle.m2_journal.specs.declared.entry.JudgedItem.{JudgedItem}
-use Rattle.m2_session.specs.declared.event.Event.{Event}
+use Rattle.m2_live.specs.Calls.{resumed_by_ask, tells_if, with_taken}
 use Rattle.m2_core.specs.declared.verdict.Verdict.{Verdict}
 use Rattle.m2_core.specs.Agrees.{LeadsOn}
-use Rattle.m2_core.specs.Calls.{tells_if}
-use Rattle.m2_core.specs.CoreNow.{CoreNow, LiveNow}
+use Rattle.m2_core.specs.CoreNow.{CoreNow}
 use Rattle.m2_core.specs.Judging.{acceptance_text, entry_of, told_of}
 
 -- it is the entry Judged, of this socket with these bytes
@@ -23,14 +21,6 @@ abbrev pub after_answering : Verdict → CoreNow → CoreNow
 after_answering v c = record c { live = tells_if (told_of c.facts v) c.live; top = v.number }
 
 -- ---- an answer that takes the socket
-
--- up to where a resumption acknowledges
-abbrev pub resumed_by_ask : AskFacts → ℕ
-resumed_by_ask a = if a.ident then 0 else a.seen
-
--- The session is told, by which the old feed is closed, and the socket is the feed.
-abbrev pub with_taken : Option Event → FeedNow → (resumed : ℕ) → LiveNow → LiveNow
-with_taken e d resumed l = record (tells_if e l) { feed = Some d; resumed = resumed }
 
 abbrev pub after_taking : Verdict → FeedNow → CoreNow → CoreNow
 after_taking v d c = record c {

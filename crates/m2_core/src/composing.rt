@@ -1,17 +1,15 @@
 //! Texts that no entry names.
 
-ghost use Rattle.std.specs.Prelude.{◌≡◌, true, false};
-ghost use Rattle.m2_core.specs.Composing.{AnswersStamp, CanWrite, ComposesFeed, HasAcknowledged, HasAnswered, HasStamp, OwesOne};
-ghost use Rattle.m2_core.specs.CoreNow.{OnFeedNow, is_ready};
-ghost use Rattle.m2_feed.specs.declared.writing.Writing.TheVariants as writing;
-ghost use Rattle.m2_handshake.specs.Texts.{frame_text};
-ghost use Rattle.m2_feed.specs.Calls.{acknowledgement};
+ghost use Rattle.std.specs.Prelude.{◌≡◌, true};
+ghost use Rattle.m2_live.specs.LiveNow.{OnFeedNow, is_ready};
+ghost use Rattle.m2_live.specs.OnFeed.{CanWrite, HasStamp};
+ghost use Rattle.m2_core.specs.Composing.{HasAcknowledged, HasAnswered, OwesOne};
 
 use crate::feed_laws::feed_laws;
 use crate::side::Core;
 use m2_bytes::NoMemory;
 use m2_fabric::End;
-use m2_feed::Feed;
+use m2_live::{acknowledge_on, answer_on};
 
 impl<E: End> Core<E> {
     /// Composes an acknowledgement up to the last accepted number, where one is owed. No entry names it.
@@ -37,27 +35,5 @@ impl<E: End> Core<E> {
     {
         feed_laws();
         answer_on(&mut self.live.feed)
-    }
-}
-
-/// Composes an acknowledgement on the feed.
-fn acknowledge_on<E: End>(feed: &mut Option<Feed<E>>, number: u64) -> Result<(), NoMemory>
-    requires { OnFeedNow feed.old CanWrite }
-    ensures { ComposesFeed result (writing.Acknowledgement number false) (frame_text (acknowledgement number)) feed.old feed.new }
-{
-    match feed {
-        Some(feed) => feed.compose_acknowledgement(number),
-        None => unreachable!(),
-    }
-}
-
-/// Composes the answer to the first keepalive on the feed.
-fn answer_on<E: End>(feed: &mut Option<Feed<E>>) -> Result<(), NoMemory>
-    requires { OnFeedNow feed.old HasStamp }
-    ensures { AnswersStamp result feed.old feed.new }
-{
-    match feed {
-        Some(feed) => feed.compose_keepalive_answer(),
-        None => unreachable!(),
     }
 }

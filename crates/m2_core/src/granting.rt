@@ -1,16 +1,16 @@
 //! What is granted for a MESSAGE.
 
-ghost use Rattle.std.specs.Prelude.{◌≡◌, ◌≤◌, ℕ, None, true};
+ghost use Rattle.std.specs.Prelude.{◌≡◌, ◌≤◌, None, true};
 ghost use Rattle.m2_feed.specs.Calls.{Owes};
 ghost use Rattle.m2_shared.specs.declared.limits.TheConstants.{MOST_TAKEN};
 ghost use Rattle.m2_shared.specs.Place.{IsAlone};
-ghost use Rattle.m2_core.specs.CoreNow.{OnFeedNow, is_ready};
-ghost use Rattle.m2_core.specs.Granting.{HasGranted, granted_feed, word_after};
+ghost use Rattle.m2_live.specs.LiveNow.{OnFeedNow, is_ready};
+ghost use Rattle.m2_core.specs.Granting.{HasGranted, word_after};
 
 use crate::feed_laws::feed_laws;
 use crate::side::Core;
 use m2_fabric::End;
-use m2_feed::Feed;
+use m2_live::grant_on;
 use m2_shared::{Take, TakePass, Throttle};
 
 /// What asking a throttle for the size of a MESSAGE answered.
@@ -49,16 +49,5 @@ impl<E: End> Core<E> {
             Take::Full { held } => CoreGrant::Full { held },
             Take::Again { seen, now } => CoreGrant::Again { seen, now },
         }
-    }
-}
-
-/// Tells the feed that the size is granted.
-fn grant_on<E: End>(feed: &mut Option<Feed<E>>)
-    requires { OnFeedNow feed.old (λ v. (n : ℕ) × Owes v.reading n) }
-    ensures { feed.new ≡ granted_feed feed.old }
-{
-    match feed {
-        Some(feed) => feed.grant(),
-        None => unreachable!(),
     }
 }

@@ -2,7 +2,7 @@
 //!
 //! What it is: [`Core`], what a record is beside its journal, its plan and its trails; and its calls, of
 //! which each says by the replay of journals what it does. Most are one entry, and behind that entry the core
-//! stands where the replay does, wherever it did so before ([`Aftermath`] has what the entry leaves for the
+//! stands where the replay does, wherever it did so before (`Aftermath` of `m2_live` has what the entry leaves for the
 //! record). The others make none, and the core stands where it stood: what the opener's half answers, news of
 //! the other side, a size that is granted, a text that is passed, and the two texts that no entry names.
 //! What it isn't: a record. It writes no journal, knows no plan and no clock, and does nothing by itself.
@@ -12,7 +12,6 @@
 #![tactic(auto)]
 
 mod accepting;
-mod aftermath;
 mod asking;
 mod composing;
 mod counting;
@@ -20,9 +19,7 @@ mod facts;
 mod feed_laws;
 mod front_laws;
 mod granting;
-mod heeding;
 mod judging;
-mod live;
 mod news;
 mod next;
 mod numbering;
@@ -38,7 +35,6 @@ mod to_compose;
 mod verdict;
 
 pub use accepting::CoreAccepted;
-pub use aftermath::Aftermath;
 pub use asking::CoreAsk;
 pub use granting::CoreGrant;
 pub use next::{CoreFront, CoreNext};

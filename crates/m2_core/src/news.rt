@@ -1,15 +1,15 @@
 //! What the feed's end is told of the other side.
 
 ghost use Rattle.std.specs.Prelude.{◌≡◌, OnErr, OnOk};
+ghost use Rattle.m2_live.specs.OnFeed.{feed_after_news};
+ghost use Rattle.m2_live.specs.Calls.{live_with};
 ghost use Rattle.m2_core.specs.Agrees.{Stays};
-ghost use Rattle.m2_core.specs.Moves.{live_with};
-ghost use Rattle.m2_core.specs.News.{feed_after_news};
 
 use crate::feed_laws::feed_laws;
 use crate::side::Core;
 use m2_bytes::NoMemory;
 use m2_fabric::{End, News};
-use m2_feed::Feed;
+use m2_live::hear_on;
 
 impl<E: End> Core<E> {
     /// Tells the feed's end, where there is one and it is in memory, of the other side. Nothing else
@@ -22,16 +22,5 @@ impl<E: End> Core<E> {
     {
         feed_laws();
         hear_on(&mut self.live.feed, bytes, news)
-    }
-}
-
-/// Tells the end of a feed, where there is one.
-fn hear_on<E: End>(feed: &mut Option<Feed<E>>, bytes: &[u8], news: News) -> Result<(), NoMemory>
-    ensures ok { OnOk result (feed.new ≡ feed_after_news news bytes.now feed.old) }
-    ensures err { OnErr result (feed.new ≡ feed.old) }
-{
-    match feed {
-        Some(feed) => feed.hear(bytes, news),
-        None => Ok(()),
     }
 }

@@ -6,23 +6,22 @@ ghost use Rattle.m2_feed.specs.Calls.{Owes};
 ghost use Rattle.m2_feed.specs.FeedNow.{is_framing};
 ghost use Rattle.m2_heard.specs.declared.heard.FrameHeard.TheVariants as heard;
 ghost use Rattle.m2_shared.specs.Place.{IsAlone};
+ghost use Rattle.m2_live.specs.LiveNow.{IsOwned, OnFeedNow, held, is_ready};
+ghost use Rattle.m2_live.specs.Effects.{IsAftermath};
+ghost use Rattle.m2_live.specs.OnFeed.{HasNoFrame};
 ghost use Rattle.m2_core.specs.Agrees.{IsBroken};
-ghost use Rattle.m2_core.specs.CoreNow.{IsOwned, OnFeedNow, held, is_ready};
-ghost use Rattle.m2_core.specs.Effects.{IsAftermath};
-ghost use Rattle.m2_core.specs.Front.{Hears, HearsOn, front_of, heard_by, hearer_of, resumption_at, resumption_of, tells};
+ghost use Rattle.m2_core.specs.Front.{HearsOn, front_of, heard_by, hearer_of, resumption_at, resumption_of, tells};
 ghost use Rattle.m2_core.specs.Next.{CanHeed, IsNext, MayObeyIfReset, effects_next, granted_next, size_front, word_next};
-ghost use Rattle.m2_core.specs.Resting.{HasNoFrame};
 
 use crate::accepting::CoreAccepted;
-use crate::aftermath::Aftermath;
 use crate::front_laws::front_laws;
 use crate::granting::CoreGrant;
 use crate::resting::CoreRest;
 use crate::side::Core;
 use m2_bytes::NoMemory;
 use m2_fabric::End;
-use m2_feed::Feed;
-use m2_heard::{FrameHeard, Hearer, WireFault, hear};
+use m2_heard::{FrameHeard, Hearer, WireFault};
+use m2_live::{Aftermath, front_on};
 use m2_session::Phase;
 use m2_shared::{TakePass, Throttle};
 use m2_tag::Tag;
@@ -136,7 +135,7 @@ impl<E: End> Core<E> {
         ensures none { IsNone result → HasNoFrame self.now.live.feed }
     {
         let hearer = self.hearer();
-        hear_on(&self.live.feed, &hearer)
+        front_on(&self.live.feed, &hearer)
     }
 
     /// What a resumption on the feed says, before any text there.
@@ -267,20 +266,6 @@ fn granted_next(answer: CoreGrant) -> CoreNext
         CoreGrant::Granted => CoreNext::Granted,
         CoreGrant::Full { held } => CoreNext::Full { held },
         CoreGrant::Again { seen, now } => CoreNext::Again { seen, now },
-    }
-}
-
-/// What the whole frame at the front of the feed says, where there is one.
-#[tactic(auto, using(crate::proofs::Nexts::hears))]
-fn hear_on<E: End>(feed: &Option<Feed<E>>, hearer: &Hearer) -> Option<FrameHeard>
-    requires signed { OnFeedNow feed.now (λ v. is_framing v.reading ≡ true) }
-    ensures some { IfSome result (λ heard. OnFeedNow feed.now (λ v. Hears hearer.now heard v.reading)) }
-    ensures none { IsNone result → HasNoFrame feed.now }
-{
-    let Some(feed) = feed else { unreachable!() };
-    match feed.look() {
-        Some(frame) => Some(hear(&frame, hearer)),
-        None => None,
     }
 }
 

@@ -4,13 +4,13 @@ ghost use Rattle.std.specs.Prelude.{◌≡◌, Some, option_map};
 ghost use Rattle.m2_hearing.specs.declared.heard.Heard.TheVariants as heard;
 ghost use Rattle.m2_session.specs.declared.event.Event.TheVariants as event;
 ghost use Rattle.m2_session.specs.Steps.{step_of};
-ghost use Rattle.m2_core.specs.Effects.{IsAftermath};
+ghost use Rattle.m2_live.specs.Effects.{IsAftermath};
 ghost use Rattle.m2_core.specs.Hearing.{HasObeyed, hearing};
 
-use crate::aftermath::Aftermath;
 use crate::reading::laws_of_hearing;
 use crate::side::Core;
 use m2_fabric::End;
+use m2_live::Aftermath;
 
 impl<E: End> Core<E> {
     /// Obeys the SESSION_RESET that is heard at the front, with this mark: the entry Obeyed. Its frame is

@@ -1,20 +1,17 @@
 //! Texts at the front that are passed without an entry.
 
 ghost use Rattle.std.specs.Prelude.{◌≡◌, ◌-◌, IsErr, IsOk};
-ghost use Rattle.m2_feed.specs.Calls.{HasFrame};
 ghost use Rattle.m2_heard.specs.declared.heard.FrameHeard.TheVariants as heard;
 ghost use Rattle.m2_shared.specs.Place.{IsAlone};
-ghost use Rattle.m2_core.specs.CoreNow.{IsOwned, OnFeedNow, held};
+ghost use Rattle.m2_live.specs.LiveNow.{IsOwned, held};
 ghost use Rattle.m2_core.specs.Front.{HearsOn};
-ghost use Rattle.m2_core.specs.Passing.{HasNoted, HasPassed, LiveNotes, LivePasses, NotesFeed, PassesFeed};
+ghost use Rattle.m2_core.specs.Passing.{HasNoted, HasPassed};
 
 use crate::front_laws::front_laws;
-use crate::live::{Live, give_back};
 use crate::side::Core;
 use m2_bytes::NoMemory;
 use m2_control::Keepalive;
 use m2_fabric::End;
-use m2_feed::Feed;
 use m2_shared::{TakePass, Throttle};
 
 impl<E: End> Core<E> {
@@ -52,66 +49,5 @@ impl<E: End> Core<E> {
     {
         front_laws();
         self.live.note_front(stamp, throttle, pass)
-    }
-}
-
-impl<E: End> Live<E> {
-    /// The same of what the session's steps can change.
-    fn pass_front(&mut self, throttle: &Throttle, pass: &mut TakePass)
-        requires front { OnFeedNow self.old.feed (λ v. HasFrame v.reading) }
-        requires pass { pass.old.place ≡ throttle.now.place }
-        requires owned { IsOwned throttle.now.place self.old.granted }
-        ensures passes { LivePasses self.old self.new }
-        ensures place { pass.new.place ≡ pass.old.place }
-        ensures word { IsAlone throttle.now.place → pass.new.word ≡ pass.old.word - held self.old.granted }
-    {
-        pass_on(&mut self.feed);
-        give_back(&mut self.granted, throttle, pass);
-    }
-
-    /// The same of a keepalive, whose stamp is noted.
-    fn note_front(
-        &mut self,
-        stamp: Keepalive,
-        throttle: &Throttle,
-        pass: &mut TakePass,
-    ) -> Result<(), NoMemory>
-        requires front { OnFeedNow self.old.feed (λ v. HasFrame v.reading) }
-        requires pass { pass.old.place ≡ throttle.now.place }
-        requires owned { IsOwned throttle.now.place self.old.granted }
-        ensures notes { LiveNotes result stamp self.old self.new }
-        ensures place { pass.new.place ≡ pass.old.place }
-        ensures word { IsOk result → IsAlone throttle.now.place → pass.new.word ≡ pass.old.word - held self.old.granted }
-        ensures kept { IsErr result → pass.new ≡ pass.old }
-    {
-        match note_on(&mut self.feed, stamp) {
-            Ok(()) => {
-                give_back(&mut self.granted, throttle, pass);
-                Ok(())
-            }
-            Err(NoMemory) => Err(NoMemory),
-        }
-    }
-}
-
-/// Passes the frame at the front of the feed.
-pub(crate) fn pass_on<E: End>(feed: &mut Option<Feed<E>>)
-    requires { OnFeedNow feed.old (λ v. HasFrame v.reading) }
-    ensures { PassesFeed feed.old feed.new }
-{
-    match feed {
-        Some(feed) => feed.pass(),
-        None => unreachable!(),
-    }
-}
-
-/// Passes the keepalive at the front of the feed, and notes its stamp.
-fn note_on<E: End>(feed: &mut Option<Feed<E>>, stamp: Keepalive) -> Result<(), NoMemory>
-    requires { OnFeedNow feed.old (λ v. HasFrame v.reading) }
-    ensures { NotesFeed result stamp feed.old feed.new }
-{
-    match feed {
-        Some(feed) => feed.pass_keepalive(stamp),
-        None => unreachable!(),
     }
 }

@@ -1,24 +1,20 @@
 //! What is read, and what is heard there.
 
-ghost use Rattle.std.specs.Prelude.{◌≡◌, ◌≤◌, false, true, None, Some, IfSome, option_map, if◌then◌else◌};
+ghost use Rattle.std.specs.Prelude.{◌≡◌, false, true, None, Some, IfSome, option_map};
 ghost use Rattle.std.specs.Option.{is_some};
 ghost use Rattle.m2_hearing.specs.Heard.{IsBounded};
 ghost use Rattle.m2_hearing.specs.Laws as hearing_laws;
 ghost use Rattle.m2_feed.specs.Laws as feed_laws;
-ghost use Rattle.m2_core.specs.CoreNow.{is_ready};
-ghost use Rattle.m2_core.specs.Effects.{closed_if};
-ghost use Rattle.m2_core.specs.Hearing.{HasRead, Heeds, IsFaultHeard, ReadsFeed, effects_heard, heard_on, hearing, raised_by};
-ghost use Rattle.m2_core.specs.Moves.{live_with};
+ghost use Rattle.m2_live.specs.Effects.{closed_if};
+ghost use Rattle.m2_live.specs.OnFeed.{ReadsFeed};
+ghost use Rattle.m2_live.specs.Calls.{live_with};
+ghost use Rattle.m2_live.specs.Hearing.{raised_by};
+ghost use Rattle.m2_core.specs.Hearing.{HasRead, Heeds, IsFaultHeard, effects_heard, hearing};
 
-use crate::aftermath::Aftermath;
-use crate::live::Live;
 use crate::side::Core;
-use m2_addr::Addr;
 use m2_fabric::{End, EndRead};
-use m2_feed::Feed;
-use m2_hearing::{Heard, heard_at_front};
-use m2_policy::Policy;
-use m2_session::Phase;
+use m2_hearing::Heard;
+use m2_live::{Aftermath, raise, read_on};
 use m2_shared::{NumberPass, Numbers};
 
 /// What a read answered.
@@ -87,7 +83,7 @@ impl<E: End> Core<E> {
         ensures reads { ReadsFeed result self.old.live.feed self.new.live.feed }
         ensures only { self.new ≡ record self.old { live = live_with self.new.live.feed self.old.live } }
     {
-        read_feed(&mut self.live.feed)
+        read_on(&mut self.live.feed)
     }
 
     /// Takes what was heard at the front, where the session is told of it.
@@ -109,44 +105,6 @@ impl<E: End> Core<E> {
             Some(event) => self.live.take_answer(h, event),
             None => Aftermath::nothing(),
         }
-    }
-}
-
-impl<E: End> Live<E> {
-    /// What the frame at the front says to a side that isn't Ready.
-    fn hearing(&self, peer: &Addr, policy: &Policy) -> Option<Heard>
-        ensures value { result ≡ (if is_ready self.now then None else heard_on peer.now policy.now self.now.session.phase self.now.feed) }
-        ensures bounded { IfSome result IsBounded }
-    {
-        if self.session.phase == Phase::Ready {
-            return None;
-        }
-        match &self.feed {
-            Some(feed) => heard_at_front(feed, self.session.phase, peer, policy),
-            None => None,
-        }
-    }
-}
-
-/// Reads the feed's end once.
-fn read_feed<E: End>(feed: &mut Option<Feed<E>>) -> EndRead
-    requires { is_some feed.old ≡ true }
-    ensures { ReadsFeed result feed.old feed.new }
-{
-    match feed {
-        Some(feed) => feed.read(),
-        None => unreachable!(),
-    }
-}
-
-/// Raises the counter to the global number that a peer tells.
-fn raise(heard: Option<Heard>, numbers: &Numbers, pass: &mut NumberPass)
-    requires pass { pass.old.place ≡ numbers.now.place }
-    requires bounded { IfSome heard IsBounded }
-    ensures { pass.new ≡ raised_by heard pass.old }
-{
-    if let Some(Heard::RetryGlobal { number }) = heard {
-        numbers.raise(pass, number);
     }
 }
 

@@ -3,16 +3,15 @@
 ghost use Rattle.std.specs.Prelude.{◌≡◌, true};
 ghost use Rattle.m2_feed.specs.FeedNow.{is_framing};
 ghost use Rattle.m2_shared.specs.Place.{IsAlone};
-ghost use Rattle.m2_core.specs.CoreNow.{IsOwned, OnFeedNow, held};
+ghost use Rattle.m2_live.specs.LiveNow.{IsOwned, OnFeedNow, held};
+ghost use Rattle.m2_live.specs.OnFeed.{HasNoFrame};
 ghost use Rattle.m2_core.specs.Next.{LeavesRest, RestSays, word_rest};
-ghost use Rattle.m2_core.specs.Resting.{GivesFeed, HasNoFrame};
 
 use crate::front_laws::front_laws;
-use crate::live::give_back;
 use crate::side::Core;
 use m2_fabric::End;
-use m2_feed::Feed;
 use m2_frame::{FrameFault, Got};
+use m2_live::{give_back, next_on};
 use m2_shared::{TakePass, Throttle};
 
 /// What stands at the front where no whole frame does.
@@ -54,16 +53,5 @@ impl<E: End> Core<E> {
             Got::Frame(_) => unreachable!(),
             Got::NoMemory => unreachable!(),
         }
-    }
-}
-
-/// One answer of the feed's decoder.
-fn next_on<E: End>(feed: &mut Option<Feed<E>>) -> Got
-    requires { OnFeedNow feed.old (λ v. is_framing v.reading ≡ true) }
-    ensures { GivesFeed result feed.old feed.new }
-{
-    match feed {
-        Some(feed) => feed.next(),
-        None => unreachable!(),
     }
 }

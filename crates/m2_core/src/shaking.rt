@@ -2,14 +2,14 @@
 
 ghost use Rattle.std.specs.Prelude.{◌≡◌, false};
 ghost use Rattle.m2_feed.specs.FeedNow.{is_framing};
-ghost use Rattle.m2_core.specs.CoreNow.{OnFeedNow};
-ghost use Rattle.m2_core.specs.Shaken.{GreetsFeed, HasShaken};
+ghost use Rattle.m2_live.specs.LiveNow.{OnFeedNow};
+ghost use Rattle.m2_core.specs.Shaken.{HasShaken};
 
 use crate::feed_laws::feed_laws;
 use crate::side::Core;
 use m2_fabric::End;
-use m2_feed::Feed;
 use m2_handshake::HalfStep;
+use m2_live::greet_on;
 
 impl<E: End> Core<E> {
     /// One answer of the opener's half, which makes no entry; what it writes is composed. A fault that it
@@ -20,17 +20,6 @@ impl<E: End> Core<E> {
         ensures shaken { HasShaken result self.old self.new }
     {
         feed_laws();
-        greet_feed(&mut self.live.feed)
-    }
-}
-
-/// One answer of the feed's half.
-fn greet_feed<E: End>(feed: &mut Option<Feed<E>>) -> HalfStep
-    requires { OnFeedNow feed.old (λ v. is_framing v.reading ≡ false) }
-    ensures { GreetsFeed result feed.old feed.new }
-{
-    match feed {
-        Some(feed) => feed.greet(),
-        None => unreachable!(),
+        greet_on(&mut self.live.feed)
     }
 }

@@ -9,17 +9,19 @@ ghost use Rattle.m2_journal.specs.Lawful.{dial_connect};
 ghost use Rattle.m2_session.specs.declared.event.Event.TheVariants as event;
 ghost use Rattle.m2_session.specs.Steps.{step_of};
 ghost use Rattle.m2_shared.specs.Place.{IsAlone};
+ghost use Rattle.m2_live.specs.LiveNow.{IsOwned, OnFeedNow, held, is_waiting};
+ghost use Rattle.m2_live.specs.Effects.{IsAftermath};
+ghost use Rattle.m2_live.specs.Calls.{after_fault};
 ghost use Rattle.m2_core.specs.Agrees.{LeadsOn};
-ghost use Rattle.m2_core.specs.Calls.{IsOpening, after_fault, after_opened};
-ghost use Rattle.m2_core.specs.CoreNow.{IsOwned, OnFeedNow, held, is_waiting, may_dial};
-ghost use Rattle.m2_core.specs.Effects.{IsAftermath};
-ghost use Rattle.m2_core.specs.Moves.{HasWritten, WritesFeed, owes_after};
+ghost use Rattle.m2_core.specs.Calls.{IsOpening, after_opened};
+ghost use Rattle.m2_core.specs.CoreNow.{may_dial};
+ghost use Rattle.m2_core.specs.Moves.{HasWritten, owes_after};
 
-use crate::aftermath::Aftermath;
 use crate::feed_laws::feed_laws;
 use crate::side::Core;
 use m2_fabric::End;
 use m2_feed::{Feed, FeedWrite};
+use m2_live::{Aftermath, write_on};
 use m2_session::{Event, step};
 use m2_shared::{TakePass, Throttle};
 
@@ -65,20 +67,9 @@ impl<E: End> Core<E> {
         ensures writes { HasWritten result self.old self.new }
     {
         feed_laws();
-        let answer = write_feed(&mut self.live.feed);
+        let answer = write_on(&mut self.live.feed);
         self.owes = owes_after(answer, self.owes);
         answer
-    }
-}
-
-/// Writes to the feed's end once what is composed there.
-fn write_feed<E: End>(feed: &mut Option<Feed<E>>) -> FeedWrite
-    requires { OnFeedNow feed.old (λ v. is_empty v.composed ≡ false) }
-    ensures { WritesFeed result feed.old feed.new }
-{
-    match feed {
-        Some(feed) => feed.write(),
-        None => unreachable!(),
     }
 }
 

@@ -6,12 +6,12 @@ ghost use Rattle.m2_session.specs.Laws.{takes};
 ghost use Rattle.m2_core.specs.Calls as calls;
 ghost use Rattle.m2_core.specs.Judging.{CanJudge, IsAnswerFrame, IsVerdict, MayBeJudged, acceptance_text, told_of, verdict_on};
 
-use crate::asking::cookie_at;
 use crate::side::Core;
 use m2_answers::{AskFacts, Carried, Speaker, event_of, judge};
 use m2_bytes::{Blob, NoMemory};
 use m2_control::Control;
 use m2_fabric::End;
+use m2_live::cookie_at;
 use m2_session::{Answer, Event};
 
 /// The answer of this side to an ask on a socket of its peer's.

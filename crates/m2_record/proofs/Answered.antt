@@ -4,9 +4,12 @@ use Rattle.std.specs.List.{AllByRecursion}
 use Rattle.std.specs.Option.{is_none, option_to_list}
 use Rattle.std.proofs.lemmas.List.{append-nil}
 use Rattle.m2_answers.specs.declared.ask.AskFacts.{AskFacts}
-use Rattle.m2_core.specs.Calls as core
-use Rattle.m2_core.specs.CoreNow.{CoreNow, LiveNow, OnFeedNow}
-use Rattle.m2_core.specs.Effects.{IsAftermath, closed_if, effects_of}
+use Rattle.m2_live.specs.LiveNow.{LiveNow, OnFeedNow}
+use Rattle.m2_live.specs.Effects.{IsAftermath, closed_if, effects_of}
+use Rattle.m2_live.specs.Calls as live
+use Rattle.m2_live.specs.Waits.{stepped}
+use Rattle.m2_live.specs.declared.waits.Waits.{Waits}
+use Rattle.m2_core.specs.CoreNow.{CoreNow}
 use Rattle.m2_core.specs.Judging.{MayBeJudged, judgement_of, told_of}
 use Rattle.m2_core.specs.TakingOver.{MakesJudgement, after_answering}
 use Rattle.m2_core.specs.declared.verdict.Verdict.{Verdict}
@@ -36,8 +39,6 @@ use Rattle.m2_record.specs.Judging.{CanAskOn, after_answer, effects_at, judged_e
 use Rattle.m2_record.specs.RecordNow.{RecordNow, Rooms, ends_of, feed_end, grounds_of, ids_of, speaks_of}
 use Rattle.m2_record.specs.Sources.{sources_of}
 use Rattle.m2_record.specs.TakenTrails.{HaveTrails}
-use Rattle.m2_record.specs.Waits.{stepped}
-use Rattle.m2_record.specs.declared.waits.Waits.{Waits}
 use Rattle.m2_record.proofs.Entering.{reach-more}
 use Rattle.m2_record.proofs.FeedLeft.{KeepsRoom, SpentIs, closed-left, closes-entries, ends-left, open-left, parcels-left, room-left, spent-is}
 use Rattle.m2_record.proofs.Going.{keeps-room}
@@ -56,11 +57,11 @@ pub tells_if-beside : (o : Option Event) (s : State) →
 tells_if-beside (Some e) s = tells-beside e s
 tells_if-beside None s = ap (λ (l : List Delivery). record (beside s) { deliveries = l }) (sym (append-nil s.deliveries))
 
-pub tells_if-feed : (o : Option Event) (l : LiveNow) → (core.tells_if o l).feed ≡ feed_left (effects_of o l.session).close l.feed
+pub tells_if-feed : (o : Option Event) (l : LiveNow) → (live.tells_if o l).feed ≡ feed_left (effects_of o l.session).close l.feed
 tells_if-feed (Some e) l = tells-feed e l
 tells_if-feed None l = refl
 
-pub tells_if-fits : (o : Option Event) (l : LiveNow) → FitFrames l.out.queue → FitFrames (core.tells_if o l).out.queue
+pub tells_if-fits : (o : Option Event) (l : LiveNow) → FitFrames l.out.queue → FitFrames (live.tells_if o l).out.queue
 tells_if-fits (Some e) l h = tells-fits e l h
 tells_if-fits None l h = h
 

@@ -2,10 +2,13 @@
 use Rattle.std.specs.Prelude.{◌⊎◌}
 use Rattle.std.proofs.Common.{◌≡◌, ℕ, ◌&&◌, ◌||◌, not, if◌then◌else◌, Bool, true, false, List, [], ◌∷◌, ◌++◌, map, Option, Some, None, inl, inr, refl, sym, ap, subst, ◌∙◌}
 use Rattle.std.specs.Option.{option_to_list}
+use Rattle.m2_live.specs.LiveNow.{OnFeedNow, is_waiting}
+use Rattle.m2_live.specs.Effects.{IsAftermath, closed_if}
+use Rattle.m2_live.specs.Calls.{after_fault}
+use Rattle.m2_live.specs.Waits.{stepped}
+use Rattle.m2_live.specs.declared.waits.Waits.{Waits}
 use Rattle.m2_core.specs.Agrees.{Agrees, FeedsAgree, LeadsOn}
-use Rattle.m2_core.specs.Calls.{after_fault}
-use Rattle.m2_core.specs.CoreNow.{CoreNow, OnFeedNow, is_waiting}
-use Rattle.m2_core.specs.Effects.{IsAftermath, closed_if}
+use Rattle.m2_core.specs.CoreNow.{CoreNow}
 use Rattle.m2_dispatcher.specs.declared.parcel.Parcel.{Parcel}
 use Rattle.m2_fabric.specs.declared.socket.SocketId.{SocketId}
 use Rattle.m2_fabric.specs.End.{SeenEnd, after_closing}
@@ -38,8 +41,6 @@ use Rattle.m2_record.specs.TakenTrails.{HaveTrails}
 use Rattle.m2_record.proofs.Ends.{ends-moved}
 use Rattle.m2_record.proofs.Entering.{reach-more}
 use Rattle.m2_record.proofs.FeedLeft.{closed-left, parcels-left}
-use Rattle.m2_record.specs.Waits.{stepped}
-use Rattle.m2_record.specs.declared.waits.Waits.{Waits}
 use Rattle.m2_record.proofs.Kept.{feeds-more, ids-left, stepped-within, tells-fits, told-from}
 use Rattle.m2_record.proofs.Keeping.{as-planned, ground, one-more, replay-stays}
 use Rattle.m2_record.proofs.Names.{differ, same_refl}

@@ -4,12 +4,14 @@ use Rattle.std.specs.List.{AllByRecursion}
 use Rattle.std.proofs.Common.{◌≡◌, ℕ, ◌≤◌, ◌&&◌, ◌||◌, not, if◌then◌else◌, Bool, true, false, List, [], ◌++◌, Option, Some, None, Result, Ok, Err, refl, sym, ap, subst, ◌∙◌, arith, IfSome}
 use Rattle.std.proofs.lemmas.List.{append-nil}
 use Rattle.m2_bytes.specs.declared.memory.NoMemory as memory
+use Rattle.m2_live.specs.LiveNow.{IsOwned as IsOwnedGrant, LiveNow, OnFeedNow}
+use Rattle.m2_live.specs.OnFeed.{AnswersStamp, ChangesRoom, ComposesFeed, GreetsFeed, ReadsFeed, WritesFeed}
+use Rattle.m2_live.specs.Calls.{live_with}
+use Rattle.m2_live.specs.Hearing.{raised_by}
 use Rattle.m2_core.specs.Calls.{is_exhausted}
-use Rattle.m2_core.specs.Composing.{AnswersStamp, ComposesFeed}
 use Rattle.m2_control.specs.declared.fields.TheConstants.{GREATEST_NUMBER}
 use Rattle.m2_core.specs.Asking.{LeavesPass}
-use Rattle.m2_core.specs.CoreNow.{CoreNow, LiveNow, OnFeedNow}
-use Rattle.m2_core.specs.CoreNow.{IsOwned as IsOwnedGrant}
+use Rattle.m2_core.specs.CoreNow.{CoreNow}
 use Rattle.m2_core.specs.Front.{FrontHeard, asks, heard_by, rests, tells}
 use Rattle.m2_core.specs.Next.{IsNext}
 use Rattle.m2_core.specs.declared.asking.CoreAsk.{CoreAsk}
@@ -19,10 +21,7 @@ use Rattle.m2_core.specs.declared.next.CoreNext.TheVariants as next
 use Rattle.m2_dispatcher.specs.Parcel.{IsOwned}
 use Rattle.m2_heard.specs.declared.heard.FrameHeard.TheVariants as frame
 use Rattle.m2_shared.specs.Place.{Place}
-use Rattle.m2_core.specs.Hearing.{HasRead, ReadNow, ReadsFeed, heard_after, raised_by}
-use Rattle.m2_core.specs.Moves.{WritesFeed, live_with}
-use Rattle.m2_core.specs.Numbering.{ChangesRoom}
-use Rattle.m2_core.specs.Shaken.{GreetsFeed}
+use Rattle.m2_core.specs.Hearing.{HasRead, ReadNow, heard_after}
 use Rattle.m2_core.specs.ToCompose.{to_compose}
 use Rattle.m2_core.specs.declared.to_compose.CoreText.{CoreText}
 use Rattle.m2_core.specs.declared.to_compose.CoreText.TheVariants as text

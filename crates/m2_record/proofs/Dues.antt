@@ -6,11 +6,13 @@ use Rattle.std.specs.Option.{is_none, is_some, option_to_list}
 use Rattle.std.proofs.lemmas.Bool.{ltb-false, ltb-true}
 use Rattle.std.proofs.lemmas.List.Folds.{list_any-append}
 use Rattle.m2_control.specs.declared.fields.TheConstants.{GREATEST_NUMBER}
-use Rattle.m2_core.specs.Asking.{CanAsk, MayAskNow}
+use Rattle.m2_live.specs.LiveNow.{OnFeedNow, is_ready}
+use Rattle.m2_live.specs.OnFeed.{CanAsk, CanWrite, HasStamp}
+use Rattle.m2_live.specs.Numbering.{HasNumber}
+use Rattle.m2_core.specs.Asking.{MayAskNow}
 use Rattle.m2_core.specs.Calls.{is_exhausted}
-use Rattle.m2_core.specs.Composing.{CanWrite, HasStamp, OwesOne}
-use Rattle.m2_core.specs.CoreNow.{CoreNow, OnFeedNow, is_ready, may_dial}
-use Rattle.m2_core.specs.Numbering.{HasNumber}
+use Rattle.m2_core.specs.Composing.{OwesOne}
+use Rattle.m2_core.specs.CoreNow.{CoreNow, may_dial}
 use Rattle.m2_core.specs.ToCompose.{text_on, text_rows, to_compose}
 use Rattle.m2_core.specs.declared.to_compose.CoreText.{CoreText}
 use Rattle.m2_core.specs.declared.to_compose.CoreText.TheVariants as text

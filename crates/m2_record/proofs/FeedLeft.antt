@@ -1,35 +1,27 @@
 -- An entry by which the feed may be left: its end, its socket's entry, and what is handed out.
-use Rattle.std.proofs.Common.{◌≡◌, ℕ, if◌then◌else◌, Bool, true, false, List, [], ◌∷◌, ◌++◌, map, Option, Some, None, inr, refl, sym, ap, subst, ◌∙◌, append_assoc}
+use Rattle.std.proofs.Common.{◌≡◌, ℕ, Bool, true, false, List, [], ◌∷◌, ◌++◌, map, Option, Some, None, refl, sym, ap, subst, ◌∙◌, append_assoc}
 use Rattle.std.specs.List.{AllByRecursion}
 use Rattle.std.specs.Option.{option_to_list}
 use Rattle.std.proofs.lemmas.List.{append-nil, map-append}
-use Rattle.m2_core.specs.Agrees.{Agrees, FeedsAgree}
-use Rattle.m2_core.specs.Effects.{closed_if}
+use Rattle.m2_live.specs.Effects.{closed_if}
+use Rattle.m2_core.specs.Agrees.{FeedsAgree}
 use Rattle.m2_dispatcher.specs.declared.parcel.Parcel.{Parcel}
 use Rattle.m2_fabric.specs.declared.socket.SocketId.{SocketId}
 use Rattle.m2_fabric.specs.End.{SeenEnd}
-use Rattle.m2_fabric.specs.Sockets.{is_among}
 use Rattle.m2_feed.specs.FeedNow.{FeedNow}
 use Rattle.m2_journal.specs.declared.entry.Entry.{Entry}
-use Rattle.m2_journal.specs.declared.entry.Entry.TheVariants as entry
-use Rattle.m2_journal.specs.Items.{item_of, reach_of}
-use Rattle.m2_journal.specs.Replay.{IsReplay}
 use Rattle.m2_journal.specs.SideFacts.{SideFacts}
 use Rattle.m2_journal.specs.State.{Delivery, Feed, State, discarded, remote_reset}
-use Rattle.m2_journal.specs.Steps.{after, forgets, is_on, breaks, without}
+use Rattle.m2_journal.specs.Steps.{is_on}
 use Rattle.m2_session.specs.declared.event.Effects.{Effects}
 use Rattle.m2_record.specs.Calls.{closed_entries, told_parcels}
 use Rattle.m2_record.specs.Calls as calls
 use Rattle.m2_record.specs.IsRecord.{AreBehind, FeedHasRoom, FeedIsOpen, IsClosedEnd, IsRecord, IsReplayedTo, IsWellKept, closed_in}
-use Rattle.m2_record.specs.RecordNow.{RecordNow, delivery_of, ends_of, feed_end, grounds_of, ids_of, speaks_of}
+use Rattle.m2_record.specs.RecordNow.{RecordNow, delivery_of, ends_of, feed_end, ids_of}
 use Rattle.m2_record.specs.TakenTrails.{HaveTrails}
 use Rattle.m2_record.proofs.Ends.{EndsStay, ends-moved, ends-same}
-use Rattle.m2_record.proofs.Entering.{reach-more}
-use Rattle.m2_record.proofs.Keeping.{one-more}
-use Rattle.m2_record.proofs.Kept.{kept-closed-as}
-use Rattle.m2_record.proofs.Names.{same_refl}
+use Rattle.m2_record.proofs.Spending.{SpentOff, closes-behind}
 use Rattle.m2_record.proofs.Telling.{feed_left, one_if, spent_if, told_by}
-use Rattle.m2_record.proofs.Trailing.{trails-behind}
 
 -- ---- ends
 
@@ -85,6 +77,7 @@ parcels-left handed parcels deliveries all place e h more = (
 
 -- ---- the entry of a socket that is spent
 
+-- where there is no feed there is none in the replay
 none-fed : (f : SideFacts) (s : State) (v : Option FeedNow) (d : Option Feed) → FeedsAgree f s v d → v ≡ None → d ≡ None
 none-fed f s None None a e = refl
 none-fed f s None (Some d) a e = absurd a
@@ -92,61 +85,6 @@ none-fed f s (Some v) d a e = absurd (no-some v e)
   where
     no-some : (v : FeedNow) → Some v ≡ None → ⊥
     no-some v e = subst (λ (o : Option FeedNow). elim o as (λ _. Type 0) [ None ↦ ⊥ | Some x ↦ Unit {0} ]) e tt
-
-closed-unfed : (o : Option Feed) (k : SocketId) (s : State) → o ≡ None → (if is_on k o then breaks s else forgets k s) ≡ forgets k s
-closed-unfed None k s e = refl
-closed-unfed (Some d) k s e = absurd (subst (λ (o : Option Feed). elim o as (λ _. Type 0) [ None ↦ ⊥ | Some x ↦ Unit {0} ]) e tt)
-
-still-agrees : (f : SideFacts) (s t : State) (v : Option FeedNow) (d : Option Feed) → v ≡ None → d ≡ None → FeedsAgree f t v d
-still-agrees f s t v d e g = rw (e, g) tt
-
-is-own : (k : SocketId) (sockets : List SocketId) → sockets ≡ k ∷ [] → is_among k sockets ≡ true
-is-own k sockets e = rw (e, same_refl k) refl
-
-without-own : (k : SocketId) (sockets : List SocketId) → sockets ≡ k ∷ [] → without k sockets ≡ []
-without-own k sockets e = rw (e, same_refl k) refl
-
--- the feed was left, and its socket has its entry behind that
-module _ (r : RecordNow) (s : State) (h : IsReplayedTo s r) (unfed : r.core.live.feed ≡ None) (k : SocketId) (spent : s.spent ≡ k ∷ []) where
-  no-feed : s.feed ≡ None
-  no-feed = none-fed r.core.facts s r.core.live.feed s.feed h.core.feed unfed
-
-  forgot : (broken : Bool) → after r.core.facts (item_of (speaks_of r) (reach_of r.journal) (entry.Closed k)) s ≡ forgets k s
-  forgot broken = closed-unfed s.feed k s no-feed
-
-  still-there : Agrees r.core (forgets k s)
-  still-there = record {
-    session = h.core.session;
-    queue = h.core.queue;
-    last = h.core.last;
-    owes = h.core.owes;
-    dials = h.core.dials;
-    top = h.core.top;
-    feed = still-agrees r.core.facts s (forgets k s) r.core.live.feed s.feed unfed no-feed;
-    resumed = h.core.resumed;
-  }
-
-  pub closes-spent : closed_in (r.journal ++ entry.Closed k ∷ []) ≡ ids_of r.spent → HaveTrails r.core.facts.node.entity (ends_of r) r.journal r.trails → IsWellKept r →
-      IsRecord (record r { journal = r.journal ++ entry.Closed k ∷ [] })
-  closes-spent closed trails kept = record {
-    state = forgets k s;
-    at_state = record {
-      replay = subst (λ (t : State). IsReplay r.core.facts (speaks_of r) (r.journal ++ entry.Closed k ∷ []) t) (forgot true)
-          (one-more r.core.facts (grounds_of r) r.journal (entry.Closed k) s h.replay tt tt (inr (is-own k s.spent spent)));
-      core = still-there;
-      steps = h.steps;
-      reach = ap (λ p. p.steps) (reach-more r.journal (entry.Closed k)) ∙ h.reach;
-      parcels = h.parcels;
-      spent = h.spent;
-      feed = subst (FeedIsOpen r.spent (r.journal ++ entry.Closed k ∷ [])) (sym unfed) tt;
-      room = h.room;
-      few = h.few;
-    };
-    settled = without-own k s.spent spent;
-    closed = closed;
-    trails = trails-behind r.core.facts.node.entity (ends_of r) r.journal (entry.Closed k) r.trails refl trails;
-    kept = kept-closed-as r k kept;
-  }
 
 -- ---- as an end is closed, or none is
 
@@ -163,8 +101,12 @@ spent-is true f s None (Some d) sockets e a = absurd a
 spent-is true f s None None sockets e a = e
 spent-is false f s v d sockets e a = e
 
+-- so it isn't the feed where the journal leads
+spent-off : (f : SideFacts) (s : State) (closed : Option SeenEnd) (v : Option FeedNow) (d : Option Feed) (sockets : List SocketId) → FeedsAgree f s v d → SpentIs closed v sockets → SpentOff closed d sockets
+spent-off f s (Some e) v d sockets a spent = (spent.0, subst (λ (o : Option Feed). is_on e.id o ≡ false) (sym (none-fed f s v d a spent.1)) refl)
+spent-off f s None v d sockets a spent = spent
+
 pub closes-entries : (r : RecordNow) (s : State) (closed : Option SeenEnd) → IsReplayedTo s r → IsWellKept r → SpentIs closed r.core.live.feed s.spent → closed_in (r.journal ++ closed_entries closed) ≡ ids_of r.spent →
     HaveTrails r.core.facts.node.entity (ends_of r) r.journal r.trails → IsRecord (record r { journal = r.journal ++ closed_entries closed })
-closes-entries r s (Some e) h kept spent closed trails = closes-spent r s h spent.1 e.id spent.0 closed trails kept
-closes-entries r s None h kept spent closed trails = subst (λ (l : List Entry). IsRecord (record r { journal = l })) (sym (append-nil r.journal))
-    (record { state = s; at_state = h; settled = spent; closed = sym (ap closed_in (append-nil r.journal)) ∙ closed; trails = trails; kept = kept })
+closes-entries r s closed h kept spent so trails =
+    closes-behind r s closed h kept (spent-off r.core.facts s closed r.core.live.feed s.feed s.spent h.core.feed spent) so trails

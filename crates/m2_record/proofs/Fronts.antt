@@ -1,16 +1,18 @@
 -- What the core's answer of the front of its feed says of a record.
 use Rattle.std.proofs.Common.{◌≡◌, ℕ, ◌&&◌, ◌||◌, not, if◌then◌else◌, Bool, true, false, Option, Some, None, refl, sym, ap, subst, ◌∙◌}
 use Rattle.std.specs.Option.{is_none, is_some}
+use Rattle.m2_live.specs.LiveNow.{OnFeedNow}
+use Rattle.m2_live.specs.OnFeed.{PassesItem, granted_feed}
 use Rattle.m2_core.specs.declared.accepting.CoreAccepted.{CoreAccepted}
 use Rattle.m2_core.specs.declared.next.CoreNext.{CoreNext}
 use Rattle.m2_core.specs.declared.next.CoreNext.TheVariants as next
 use Rattle.m2_core.specs.Accepting.{Accepts}
 use Rattle.m2_core.specs.Agrees.{Stays}
-use Rattle.m2_core.specs.CoreNow.{CoreNow, OnFeedNow}
+use Rattle.m2_core.specs.CoreNow.{CoreNow}
 use Rattle.m2_core.specs.Front.{FrontHeard, asks, before_front, front_in, front_of, heard_by, hearer_of, rests, resumption_at, tells}
-use Rattle.m2_core.specs.Granting.{Grants, Throttled, granted_feed}
+use Rattle.m2_core.specs.Granting.{Grants, Throttled}
 use Rattle.m2_core.specs.Next.{Closes, Counts, IsNext, IsResetHeard}
-use Rattle.m2_core.specs.Passing.{HasPassed, HasStamped, PassesItem, StampsFeed}
+use Rattle.m2_core.specs.Passing.{HasPassed, HasStamped, StampsFeed}
 use Rattle.m2_control.specs.declared.keepalive.Keepalive.{Keepalive}
 use Rattle.m2_feed.specs.FeedNow.{FeedNow, Reading, framing, is_framing, shaking}
 use Rattle.m2_frame.specs.Reading.{Front, Item, bad, judge, owed_at, start, text}

@@ -6,14 +6,17 @@ use Rattle.std.proofs.Math.Seq.{drop-append_seam, take-length}
 use Rattle.std.proofs.lemmas.Bool.Decides.{nat_tests}
 use Rattle.std.proofs.lemmas.List.{append-nil}
 use Rattle.std.specs.List.{AllByRecursion}
+use Rattle.m2_live.specs.LiveNow as live
+use Rattle.m2_live.specs.LiveNow.{LiveNow, OnFeedNow}
+use Rattle.m2_live.specs.Effects.{closed_if, tells}
+use Rattle.m2_live.specs.OnFeed.{PassesFeed, ReadsFeed}
+use Rattle.m2_live.specs.Calls.{live_with, tells_if}
+use Rattle.m2_live.specs.Hearing.{TakesAnswer, resumed_by_answer}
+use Rattle.m2_live.specs.Waits.{IsWithin}
+use Rattle.m2_live.specs.declared.waits.Waits.{Waits}
 use Rattle.m2_core.specs.Agrees.{Agrees, FeedsAgree, LeadsOn, MayCome, Stays}
-use Rattle.m2_core.specs.Calls.{tells_if}
-use Rattle.m2_core.specs.CoreNow.{CoreNow, LiveNow, OnFeedNow}
-use Rattle.m2_core.specs.CoreNow as core
-use Rattle.m2_core.specs.Effects.{closed_if, tells}
-use Rattle.m2_core.specs.Hearing.{HasRead, Heeds, IsFaultHeard, IsRead, IsReadEntry, ReadNow, ReadsFeed, TakesAnswer, effects_heard, heard_after, resumed_by_answer}
-use Rattle.m2_core.specs.Moves.{live_with}
-use Rattle.m2_core.specs.Passing.{PassesFeed}
+use Rattle.m2_core.specs.CoreNow.{CoreNow}
+use Rattle.m2_core.specs.Hearing.{HasRead, Heeds, IsFaultHeard, IsRead, IsReadEntry, ReadNow, effects_heard, heard_after}
 use Rattle.m2_dispatcher.specs.Parcel.{IsOwned}
 use Rattle.m2_edge.specs.Faults.{HasRisen}
 use Rattle.m2_fabric.specs.declared.end.EndRead.{EndRead}
@@ -62,8 +65,6 @@ use Rattle.m2_record.specs.Reading.{IsReadCounted, ReadsFeedOnce, entries_read, 
 use Rattle.m2_record.specs.RecordNow.{RecordNow, Rooms, feed_end, ids_of}
 use Rattle.m2_record.specs.Sources.{broken_of, end_at, is_broken_end, log_at, put_of, read_before, runs_before, sources_of, trail_at, written_before}
 use Rattle.m2_record.specs.TakenTrails.{HaveTrails}
-use Rattle.m2_record.specs.Waits.{IsWithin}
-use Rattle.m2_record.specs.declared.waits.Waits.{Waits}
 use Rattle.m2_record.proofs.Entering.{reach-more, read-continues, read-covers}
 use Rattle.m2_record.proofs.FeedLeft.{KeepsRoom, SpentIs, closed-left, closes-entries, ends-left, open-left, room-left}
 use Rattle.m2_record.proofs.Going.{keeps-room}
@@ -179,8 +180,8 @@ module _ (P : LiveNow → Type 0) (told : (e : Event) (l : LiveNow) → P l → 
 heard-fits : (o : Option Heard) (l new : LiveNow) → Heeds o l new → FitFrames l.out.queue → FitFrames new.out.queue
 heard-fits o l new w h = heeded (λ (z : LiveNow). FitFrames z.out.queue) tells-fits (λ x n z p. p) o l new w h
 
-heard-owned : (place : Place) (o : Option Heard) (l new : LiveNow) → Heeds o l new → core.IsOwned place l.granted → core.IsOwned place new.granted
-heard-owned place o l new w h = heeded (λ (z : LiveNow). core.IsOwned place z.granted) (λ e z p. tells-owned e place z p) (λ x n z p. p) o l new w h
+heard-owned : (place : Place) (o : Option Heard) (l new : LiveNow) → Heeds o l new → live.IsOwned place l.granted → live.IsOwned place new.granted
+heard-owned place o l new w h = heeded (λ (z : LiveNow). live.IsOwned place z.granted) (λ e z p. tells-owned e place z p) (λ x n z p. p) o l new w h
 
 -- ---- what it leaves of the ends
 

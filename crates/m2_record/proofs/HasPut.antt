@@ -2,9 +2,12 @@
 use Rattle.std.proofs.Common.{◌≡◌, ℕ, ◌<◌, ◌≤◌, Bool, true, false, if◌then◌else◌, List, [], ◌∷◌, ◌++◌, map, take, drop, length, Option, Some, None, refl, sym, ap, subst, ◌∙◌, arith}
 use Rattle.std.proofs.Math.Seq.{drop-append_seam, take-length}
 use Rattle.std.proofs.lemmas.List.{append-nil, length-take-le, map-append}
+use Rattle.m2_live.specs.LiveNow.{OnFeedNow}
+use Rattle.m2_live.specs.OnFeed.{WritesFeed}
+use Rattle.m2_live.specs.Waits.{IsWithin}
 use Rattle.m2_core.specs.Agrees.{LeadsOn, MayCome, Stays}
-use Rattle.m2_core.specs.CoreNow.{CoreNow, OnFeedNow}
-use Rattle.m2_core.specs.Moves.{HasWritten, IsWroteOn, WritesFeed}
+use Rattle.m2_core.specs.CoreNow.{CoreNow}
+use Rattle.m2_core.specs.Moves.{HasWritten, IsWroteOn}
 use Rattle.m2_fabric.specs.declared.end.EndWrite.TheVariants as write
 use Rattle.m2_fabric.specs.declared.log.Run.TheVariants as run
 use Rattle.m2_fabric.specs.declared.socket.SocketId.{SocketId}
@@ -33,7 +36,6 @@ use Rattle.m2_queues.specs.OutQueues.{Outgoing}
 use Rattle.m2_record.specs.Calls.{IsCounted, entries_put, held_after, moment_after, wrote_entries}
 use Rattle.m2_record.specs.Entered.{AreSettled, HavePut}
 use Rattle.m2_record.specs.IsRecord.{FeedHasRoom, FeedIsOpen, FeedIsWhole, FitFrames, IsOpenAmong, IsRecord, IsReplayedTo, IsWellKept, closed_in, feeds_in}
-use Rattle.m2_record.specs.Waits.{IsWithin}
 use Rattle.m2_record.specs.RecordNow.{RecordNow, Rooms, feed_end, ids_of}
 use Rattle.m2_record.specs.Sources.{broken_of, end_at, got_of, log_at, put_of, read_before, runs_of, sources_of, trail_at}
 use Rattle.m2_record.specs.TakenTrails.{HaveTrails}

@@ -6,17 +6,21 @@ use Rattle.std.specs.Option.{is_some, option_to_list}
 use Rattle.std.proofs.lemmas.Bool.{ltb-true}
 use Rattle.std.proofs.lemmas.List.{append-nil}
 use Rattle.m2_bytes.specs.Items.{Holding}
-use Rattle.m2_core.specs.Accepting.{Accepts, MovesMessage}
-use Rattle.m2_core.specs.CoreNow.{CoreNow, LiveNow, OnFeedNow, is_ready}
+use Rattle.m2_live.specs.LiveNow as live
+use Rattle.m2_live.specs.LiveNow.{LiveNow, OnFeedNow, is_ready}
+use Rattle.m2_live.specs.Effects.{IsAftermath, closed_if}
+use Rattle.m2_live.specs.OnFeed.{PassesFeed}
+use Rattle.m2_live.specs.Calls.{live_with}
+use Rattle.m2_live.specs.Accepting.{MovesMessage}
+use Rattle.m2_live.specs.Waits.{stepped}
+use Rattle.m2_live.specs.declared.waits.Waits.{Waits}
+use Rattle.m2_core.specs.Accepting.{Accepts}
+use Rattle.m2_core.specs.CoreNow.{CoreNow}
 use Rattle.m2_core.specs.Agrees.{FeedsAgree, IsTold}
 use Rattle.m2_core.specs.Front.{hearer_of, resumption_at, resumption_of}
-use Rattle.m2_core.specs.CoreNow as core
-use Rattle.m2_core.specs.Effects.{IsAftermath, closed_if}
 use Rattle.m2_core.specs.Granting.{Throttled}
 use Rattle.m2_core.specs.Hearing.{HasObeyed}
-use Rattle.m2_core.specs.Moves.{live_with}
 use Rattle.m2_core.specs.Next.{Closes, Counts, IsResetHeard, effects_next, word_next}
-use Rattle.m2_core.specs.Passing.{PassesFeed}
 use Rattle.m2_core.specs.declared.accepting.CoreAccepted.{CoreAccepted}
 use Rattle.m2_core.specs.declared.next.CoreNext.{CoreNext}
 use Rattle.m2_core.specs.declared.next.CoreNext.TheVariants as next
@@ -55,8 +59,6 @@ use Rattle.m2_record.specs.Due.{due_step, feed_rows, has_frame, has_parcel, has_
 use Rattle.m2_record.specs.Framing.{AnswersFront, Frames, Heeds, IsDone, IsResetIf, Obeys, entries_next, framed_next, is_faulted, is_signed, letter_of, moment_next, parcels_next, reset_in, word_framed}
 use Rattle.m2_record.specs.IsRecord.{FeedHasRoom, FitFrames, IsRecord}
 use Rattle.m2_record.specs.RecordNow.{RecordNow, Rooms}
-use Rattle.m2_record.specs.Waits.{stepped}
-use Rattle.m2_record.specs.declared.waits.Waits.{Waits}
 use Rattle.m2_record.proofs.Broken.{Cause, HasBroken, broken-on, waits-as}
 use Rattle.m2_record.proofs.Fronts.{MakesNone, accepted-so, acked-so, again-so, end-passed, end-stays, fault-so, full-so, granted-so, is-done, memory-so, passed-so, reset-so, rests-so, same}
 use Rattle.m2_record.proofs.Kept.{acked-fits, all-append, tells-fits, told-from}
@@ -140,8 +142,8 @@ module _ (full : Bool) (r : RecordNow) (c : CoreNow) (x : HasObeyed full r.core 
       feed = ap (λ (l : LiveNow). l.feed) x.obeys.live ∙ tells-feed (event.GotReset full) (live_with x.obeys.passed r.core.live)
           ∙ ap (λ b. feed_left b x.obeys.passed) (reset-keeps full r.core.live.session)
 
-  obeyed-owned : (place : Place) → core.IsOwned place r.core.live.granted → core.IsOwned place c.live.granted
-  obeyed-owned place h = subst (λ (l : LiveNow). core.IsOwned place l.granted) (sym x.obeys.live) (tells-owned (event.GotReset full) place (live_with x.obeys.passed r.core.live) h)
+  obeyed-owned : (place : Place) → live.IsOwned place r.core.live.granted → live.IsOwned place c.live.granted
+  obeyed-owned place h = subst (λ (l : LiveNow). live.IsOwned place l.granted) (sym x.obeys.live) (tells-owned (event.GotReset full) place (live_with x.obeys.passed r.core.live) h)
 
   obeys-told : (room : Rooms) → IsRecord r → room.ends ≡ r.room.ends →
       IsRecord (record r { core = c; journal = r.journal ++ entry.Obeyed full ∷ []; parcels = r.parcels ++ told_parcels r.place full full; room = room })
@@ -177,7 +179,7 @@ module _ {r : RecordNow} (h : IsRecord r) (c : CoreNow) where
   pub obeyed-owns : (full : Bool) → HasObeyed full r.core c → (discarded reset : Bool) (place : Place) (old new : RecordNow) → r ≡ old → Owns place old → new.core.live.granted ≡ c.live.granted →
       new.parcels ≡ r.parcels ++ told_parcels r.place discarded reset → Owns place new
   obeyed-owns full x discarded reset place old new e o g p = record {
-    feed = subst (core.IsOwned place) (sym g) (obeyed-owned full r c x place (subst (Owns place) (sym e) o).feed);
+    feed = subst (live.IsOwned place) (sym g) (obeyed-owned full r c x place (subst (Owns place) (sym e) o).feed);
     parcels = subst (AllByRecursion (IsOwned place)) (sym p) (all-append (IsOwned place) r.parcels (told_parcels r.place discarded reset) (subst (Owns place) (sym e) o).parcels (told-all place r.place discarded reset));
   }
 
@@ -251,8 +253,8 @@ module _ (t : Throttled) (r : RecordNow) (c : CoreNow) (now : ℕ) (room : Rooms
 
 module _ (t : Throttled) (r : RecordNow) (c : CoreNow) where
   -- what it leaves is owned
-  owned-plain : (place : Place) (x : CoreNext) → Owns place r → core.IsOwned place c.live.granted → AnswersFront t x r.core c → AllByRecursion (IsOwned place) (r.parcels ++ parcels_next r.place x)
-  owned-plain place (next.Accepted a) o g h = all-append (IsOwned place) r.parcels (letter_of r.place a ∷ []) o.parcels (subst (core.IsOwned place) (accepted-so t r.core c a h).grant o.feed, tt)
+  owned-plain : (place : Place) (x : CoreNext) → Owns place r → live.IsOwned place c.live.granted → AnswersFront t x r.core c → AllByRecursion (IsOwned place) (r.parcels ++ parcels_next r.place x)
+  owned-plain place (next.Accepted a) o g h = all-append (IsOwned place) r.parcels (letter_of r.place a ∷ []) o.parcels (subst (live.IsOwned place) (accepted-so t r.core c a h).grant o.feed, tt)
   owned-plain place next.Rests o g h = all-append (IsOwned place) r.parcels [] o.parcels tt
   owned-plain place next.Passed o g h = all-append (IsOwned place) r.parcels [] o.parcels tt
   owned-plain place next.Granted o g h = all-append (IsOwned place) r.parcels [] o.parcels tt
@@ -263,9 +265,9 @@ module _ (t : Throttled) (r : RecordNow) (c : CoreNow) where
   owned-plain place (next.Fault cause) o g h = all-append (IsOwned place) r.parcels [] o.parcels tt
   owned-plain place next.NoMemory o g h = all-append (IsOwned place) r.parcels [] o.parcels tt
 
-  pub owned-noted : (place : Place) (x : CoreNext) (new : RecordNow) → Owns place r → core.IsOwned place c.live.granted → AnswersFront t x r.core c → new.core.live.granted ≡ c.live.granted →
+  pub owned-noted : (place : Place) (x : CoreNext) (new : RecordNow) → Owns place r → live.IsOwned place c.live.granted → AnswersFront t x r.core c → new.core.live.granted ≡ c.live.granted →
       new.parcels ≡ r.parcels ++ parcels_next r.place x → Owns place new
-  owned-noted place x new o g h e p = record { feed = subst (core.IsOwned place) (sym e) g; parcels = subst (AllByRecursion (IsOwned place)) (sym p) (owned-plain place x o g h) }
+  owned-noted place x new o g h e p = record { feed = subst (live.IsOwned place) (sym e) g; parcels = subst (AllByRecursion (IsOwned place)) (sym p) (owned-plain place x o g h) }
 
   -- a reset is heard still
   pub reset-if : (x : CoreNext) (new : RecordNow) → AnswersFront t x r.core c → new.core ≡ c → HasRoomFor 2 r.room → r.room.entries ≤ new.room.entries + length (entries_next x) → r.room.parcels ≤ new.room.parcels + length (parcels_next r.place x) →
@@ -410,7 +412,7 @@ word-obeyed f full word before x y e = subst (λ (g : Framed). word_framed g wor
 
 pub shaken-owned : (place : Place) (answer : HalfStep) (old mid : RecordNow) → Shakes answer old mid → Owns place old → Owns place mid
 shaken-owned place answer old mid h o = record {
-  feed = subst (core.IsOwned place) (sym (ap (λ (z : CoreNow). z.live.granted) h.0.only)) o.feed;
+  feed = subst (live.IsOwned place) (sym (ap (λ (z : CoreNow). z.live.granted) h.0.only)) o.feed;
   parcels = subst (AllByRecursion (IsOwned place)) (sym (ap (λ (z : RecordNow). z.parcels) h.1)) o.parcels;
 }
 
@@ -509,7 +511,7 @@ module _ (t : Throttled) (x : CoreNext) (f : Framed) (r : RecordNow) (c : CoreNo
       (heeds t r c now room x journal parcels last d k.answers (goes-on b) m))
 
 module _ (t : Throttled) (x : CoreNext) (f : Framed) (r : RecordNow) (c : CoreNow) (k : Came t x f r c) where
-  pub owned-left : (place : Place) (old new : RecordNow) → r ≡ old → Owns place old → core.IsOwned place c.live.granted → new.core.live.granted ≡ c.live.granted → new.parcels ≡ r.parcels ++ parcels_next r.place x → Owns place new
+  pub owned-left : (place : Place) (old new : RecordNow) → r ≡ old → Owns place old → live.IsOwned place c.live.granted → new.core.live.granted ≡ c.live.granted → new.parcels ≡ r.parcels ++ parcels_next r.place x → Owns place new
   owned-left place old new e o own g p = owned-noted t r c place x new (subst (Owns place) (sym e) o) own k.answers g p
 
   pub reset-left : (old new : RecordNow) → r ≡ old → new.core ≡ c → HasRoomFor 2 old.room → r.room.entries ≤ new.room.entries + length (entries_next x) → r.room.parcels ≤ new.room.parcels + length (parcels_next r.place x) → IsResetIf f new
@@ -578,7 +580,7 @@ module _ {r : RecordNow} (h : IsRecord r) (t : Throttled) (x : CoreNext) (f : Fr
       (subst (λ (g : Framed). Heeds t g now r (record r { core = c; journal = journal; spent = spent; parcels = parcels; waits = waits; held = false; last = last; room = room })) (sym is)
       (heeds-closed t r c now journal spent parcels waits last room closed discarded reset x stops-there answers made))
 
-  pub owned-closed : (place : Place) (old new : RecordNow) → r ≡ old → Owns place old → core.IsOwned place new.core.live.granted → core.IsOwned place c.live.granted → new.parcels ≡ parcels → Owns place new
+  pub owned-closed : (place : Place) (old new : RecordNow) → r ≡ old → Owns place old → live.IsOwned place new.core.live.granted → live.IsOwned place c.live.granted → new.parcels ≡ parcels → Owns place new
   owned-closed place old new e o g own same-parcels = record {
     feed = g;
     parcels = subst (AllByRecursion (IsOwned place)) (sym (same-parcels ∙ made.parcels_are)) (all-append (IsOwned place) (r.parcels ++ parcels_next r.place x) (told_parcels r.place discarded reset)
@@ -592,7 +594,7 @@ signed-so r old e h = subst (λ (v : RecordNow). OnFeedNow v.core.live.feed (λ 
 pub room-so : (r old : RecordNow) → r ≡ old → HasRoomFor 2 old.room → HasRoomFor 2 r.room
 room-so r old e h = subst (λ (v : RecordNow). HasRoomFor 2 v.room) (sym e) h
 
-pub owned-so : (place : Place) (r old : RecordNow) → r ≡ old → Owns place old → core.IsOwned place r.core.live.granted
+pub owned-so : (place : Place) (r old : RecordNow) → r ≡ old → Owns place old → live.IsOwned place r.core.live.granted
 owned-so place r old e h = (subst (Owns place) (sym e) h).feed
 
 pub done-so : (t : Throttled) (r old : RecordNow) (c : CoreNow) (x : CoreNext) → r ≡ old → has_frame old ≡ true → OnFeedNow old.core.live.feed (λ v. is_framing v.reading ≡ true) → AnswersFront t x r.core c → IsDone x

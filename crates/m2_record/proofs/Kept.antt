@@ -4,9 +4,6 @@ use Rattle.std.specs.List.{AllByRecursion}
 use Rattle.std.specs.Option.{option_to_list}
 use Rattle.std.proofs.lemmas.List.{append-nil, map-append}
 use Rattle.std.proofs.lemmas.List.Elements.{filter_map-append}
-use Rattle.m2_core.specs.CoreNow.{LiveNow}
-use Rattle.m2_core.specs.Effects as core
-use Rattle.m2_core.specs.Effects.{closed_if}
 use Rattle.m2_dispatcher.specs.declared.parcel.Parcel.{Parcel}
 use Rattle.m2_dispatcher.specs.declared.parcel.Parcel.TheVariants as parcel
 use Rattle.m2_fabric.specs.declared.socket.SocketId.{SocketId}
@@ -24,12 +21,15 @@ use Rattle.m2_session.specs.declared.session.Phase.TheVariants.{Ready, Wait}
 use Rattle.m2_session.specs.Phases as phase
 use Rattle.m2_session.specs.Steps.{step_of}
 use Rattle.std.specs.Prelude.{nat_lt, slice_get}
-use Rattle.m2_core.specs.Numbering.{FitsFrame}
+use Rattle.m2_live.specs.LiveNow.{LiveNow}
+use Rattle.m2_live.specs.Effects as live
+use Rattle.m2_live.specs.Effects.{closed_if}
+use Rattle.m2_live.specs.Numbering.{FitsFrame}
+use Rattle.m2_live.specs.Waits.{IsWithin, AreWaits, begun, over, stepped}
+use Rattle.m2_live.specs.declared.waits.Waits.{Waits}
 use Rattle.m2_record.specs.Calls.{closed_entries, one_if, told_parcels}
 use Rattle.m2_record.specs.IsRecord.{FeedIsWhole, FitFrames, IsFrom, IsWellKept, became_feed, feeds_in}
 use Rattle.m2_record.specs.RecordNow.{RecordNow, Rooms, feed_end, ids_of}
-use Rattle.m2_record.specs.Waits.{IsWithin, AreWaits, begun, over, stepped}
-use Rattle.m2_record.specs.declared.waits.Waits.{Waits}
 use Rattle.m2_record.proofs.Telling.{feed_left}
 
 -- ---- the sockets that became the feed
@@ -130,29 +130,29 @@ sent-fits q h = at q.keeps
 pub acked-fits : (q : Queue) (number : ℕ) → FitFrames q → FitFrames (after_acked q number)
 acked-fits q number h = record { kept = all-drop FitsFrame _ q.kept h.kept; waiting = h.waiting }
 
-closes-fits : (b : Bool) (l : LiveNow) → FitFrames l.out.queue → FitFrames (core.where_true b core.closes l).out.queue
+closes-fits : (b : Bool) (l : LiveNow) → FitFrames l.out.queue → FitFrames (live.where_true b live.closes l).out.queue
 closes-fits true l h = h
 closes-fits false l h = h
 
-requeues-fits : (b : Bool) (l : LiveNow) → FitFrames l.out.queue → FitFrames (core.where_true b core.requeues l).out.queue
+requeues-fits : (b : Bool) (l : LiveNow) → FitFrames l.out.queue → FitFrames (live.where_true b live.requeues l).out.queue
 requeues-fits true l h = record { kept = h.kept; waiting = h.waiting }
 requeues-fits false l h = h
 
-sets-fits : (b : Bool) (l : LiveNow) → FitFrames l.out.queue → FitFrames (core.where_true b core.sets_back l).out.queue
+sets-fits : (b : Bool) (l : LiveNow) → FitFrames l.out.queue → FitFrames (live.where_true b live.sets_back l).out.queue
 sets-fits true l h = record { kept = h.kept; waiting = h.waiting }
 sets-fits false l h = h
 
-discards-fits : (b : Bool) (l : LiveNow) → FitFrames l.out.queue → FitFrames (core.where_true b core.discards l).out.queue
+discards-fits : (b : Bool) (l : LiveNow) → FitFrames l.out.queue → FitFrames (live.where_true b live.discards l).out.queue
 discards-fits true l h = record { kept = tt; waiting = tt }
 discards-fits false l h = h
 
-pub tells-fits : (v : Event) (l : LiveNow) → FitFrames l.out.queue → FitFrames (core.tells v l).out.queue
+pub tells-fits : (v : Event) (l : LiveNow) → FitFrames l.out.queue → FitFrames (live.tells v l).out.queue
 tells-fits v l h =
     let e = (step_of l.session v).effects in
     let l0 = record l { session = (step_of l.session v).session } in
-    let l1 = core.where_true e.close core.closes l0 in
-    let l2 = core.where_true e.requeue core.requeues l1 in
-    let l3 = core.where_true e.set_back core.sets_back l2 in
+    let l1 = live.where_true e.close live.closes l0 in
+    let l2 = live.where_true e.requeue live.requeues l1 in
+    let l3 = live.where_true e.set_back live.sets_back l2 in
     discards-fits e.discard l3 (sets-fits e.set_back l2 (requeues-fits e.requeue l1 (closes-fits e.close l0 h)))
 
 -- ---- waits

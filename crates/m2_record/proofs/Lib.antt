@@ -6,7 +6,6 @@ pub mod Keeping
 pub mod Making
 pub mod Planning
 pub mod Telling
-pub mod Waiting
 pub mod Kept
 pub mod Dues
 pub mod Opens

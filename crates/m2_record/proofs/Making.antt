@@ -1,12 +1,12 @@
 -- A new record is the replay of no entries.
 use Rattle.std.proofs.Common.{ℕ, [], refl, arith}
+use Rattle.m2_live.specs.Waits.{AreWaits}
 use Rattle.m2_core.specs.Agrees.{Agrees}
 use Rattle.m2_core.specs.CoreNow.{at_start}
 use Rattle.m2_journal.specs.SideFacts.{SideFacts}
 use Rattle.m2_journal.specs.State.{start}
 use Rattle.m2_record.specs.IsRecord.{IsRecord, new_record}
 use Rattle.m2_record.specs.RecordNow.{Rooms}
-use Rattle.m2_record.specs.Waits.{AreWaits}
 use Rattle.m2_record.proofs.Kept.{first-within}
 use Rattle.m2_record.proofs.Names.{differ}
 

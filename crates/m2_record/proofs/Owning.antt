@@ -2,10 +2,12 @@
 use Rattle.std.proofs.Common.{◌≡◌, ℕ, Bool, true, false, List, [], ◌∷◌, ◌++◌, Option, Some, None, sym, ap, subst}
 use Rattle.std.specs.Prelude.{IfSome, IsSome}
 use Rattle.std.specs.List.{AllByRecursion}
-use Rattle.m2_core.specs.Calls.{after_down, after_fault, tells_if}
-use Rattle.m2_core.specs.CoreNow.{CoreNow, LiveNow}
-use Rattle.m2_core.specs.CoreNow as core
-use Rattle.m2_core.specs.Effects as effects
+use Rattle.m2_live.specs.LiveNow as live
+use Rattle.m2_live.specs.LiveNow.{LiveNow}
+use Rattle.m2_live.specs.Effects as effects
+use Rattle.m2_live.specs.Calls.{after_fault, tells_if}
+use Rattle.m2_core.specs.Calls.{after_down}
+use Rattle.m2_core.specs.CoreNow.{CoreNow}
 use Rattle.m2_core.specs.Judging.{told_of}
 use Rattle.m2_core.specs.TakingOver.{IsTakenFeed, after_answering, after_taking}
 use Rattle.m2_core.specs.declared.verdict.Verdict.{Verdict}
@@ -22,23 +24,23 @@ use Rattle.m2_record.specs.Calls.{Owns, one_if, told_parcels}
 use Rattle.m2_record.specs.RecordNow.{RecordNow}
 use Rattle.m2_record.proofs.Names.{differ}
 
-closing : (b : Bool) (place : Place) (l : LiveNow) → core.IsOwned place l.granted → core.IsOwned place (effects.where_true b effects.closes l).granted
+closing : (b : Bool) (place : Place) (l : LiveNow) → live.IsOwned place l.granted → live.IsOwned place (effects.where_true b effects.closes l).granted
 closing true place l h = tt
 closing false place l h = h
 
-requeueing : (b : Bool) (place : Place) (l : LiveNow) → core.IsOwned place l.granted → core.IsOwned place (effects.where_true b effects.requeues l).granted
+requeueing : (b : Bool) (place : Place) (l : LiveNow) → live.IsOwned place l.granted → live.IsOwned place (effects.where_true b effects.requeues l).granted
 requeueing true place l h = h
 requeueing false place l h = h
 
-setting : (b : Bool) (place : Place) (l : LiveNow) → core.IsOwned place l.granted → core.IsOwned place (effects.where_true b effects.sets_back l).granted
+setting : (b : Bool) (place : Place) (l : LiveNow) → live.IsOwned place l.granted → live.IsOwned place (effects.where_true b effects.sets_back l).granted
 setting true place l h = h
 setting false place l h = h
 
-discarding : (b : Bool) (place : Place) (l : LiveNow) → core.IsOwned place l.granted → core.IsOwned place (effects.where_true b effects.discards l).granted
+discarding : (b : Bool) (place : Place) (l : LiveNow) → live.IsOwned place l.granted → live.IsOwned place (effects.where_true b effects.discards l).granted
 discarding true place l h = h
 discarding false place l h = h
 
-pub tells-owned : (v : Event) (place : Place) (l : LiveNow) → core.IsOwned place l.granted → core.IsOwned place (effects.tells v l).granted
+pub tells-owned : (v : Event) (place : Place) (l : LiveNow) → live.IsOwned place l.granted → live.IsOwned place (effects.tells v l).granted
 tells-owned v place l h =
     let e = (step_of l.session v).effects in
     discarding e.discard place _ (setting e.set_back place _ (requeueing e.requeue place _ (closing e.close place (record l { session = (step_of l.session v).session }) h)))
@@ -55,33 +57,33 @@ pub told-all : (place : Place) (peer : ℕ) (discarded reset : Bool) → AllByRe
 told-all place peer discarded reset = all-more (IsOwned place) (one_if discarded (parcel.Discard peer)) (one_if reset (parcel.RemoteReset peer))
     (one-owned place discarded (parcel.Discard peer) tt) (one-owned place reset (parcel.RemoteReset peer) tt)
 
-pub tells_if-owned : (o : Option Event) (place : Place) (l : LiveNow) → core.IsOwned place l.granted → core.IsOwned place (tells_if o l).granted
+pub tells_if-owned : (o : Option Event) (place : Place) (l : LiveNow) → live.IsOwned place l.granted → live.IsOwned place (tells_if o l).granted
 tells_if-owned (Some e) place l h = tells-owned e place l h
 tells_if-owned None place l h = h
 
-pub owned-as : (place : Place) (r new : RecordNow) (discarded reset : Bool) → Owns place r → core.IsOwned place new.core.live.granted → new.parcels ≡ r.parcels ++ told_parcels r.place discarded reset → Owns place new
+pub owned-as : (place : Place) (r new : RecordNow) (discarded reset : Bool) → Owns place r → live.IsOwned place new.core.live.granted → new.parcels ≡ r.parcels ++ told_parcels r.place discarded reset → Owns place new
 owned-as place r new discarded reset h granted p = record {
   feed = granted;
   parcels = subst (AllByRecursion (IsOwned place)) (sym p) (all-more (IsOwned place) r.parcels (told_parcels r.place discarded reset) h.parcels (told-all place r.place discarded reset));
 }
 
 owned-told : (place : Place) (v : Event) (r new : RecordNow) (discarded reset : Bool) → Owns place r → new.core.live ≡ effects.tells v r.core.live → new.parcels ≡ r.parcels ++ told_parcels r.place discarded reset → Owns place new
-owned-told place v r new discarded reset h c p = owned-as place r new discarded reset h (subst (λ (x : LiveNow). core.IsOwned place x.granted) (sym c) (tells-owned v place r.core.live h.feed)) p
+owned-told place v r new discarded reset h c p = owned-as place r new discarded reset h (subst (λ (x : LiveNow). live.IsOwned place x.granted) (sym c) (tells-owned v place r.core.live h.feed)) p
 
 pub owned-broken : (place : Place) (r new : RecordNow) (discarded reset : Bool) → Owns place r → new.core ≡ record r.core { live = after_fault r.core.live } → new.parcels ≡ r.parcels ++ told_parcels r.place discarded reset → Owns place new
-owned-broken place r new discarded reset h c p = owned-told place (event.Faulted (core.is_waiting r.core.live)) r new discarded reset h (ap (λ (x : CoreNow). x.live) c) p
+owned-broken place r new discarded reset h c p = owned-told place (event.Faulted (live.is_waiting r.core.live)) r new discarded reset h (ap (λ (x : CoreNow). x.live) c) p
 
 pub owned-down : (place : Place) (r new : RecordNow) (discarded reset : Bool) → Owns place r → new.core ≡ after_down r.core → new.parcels ≡ r.parcels ++ told_parcels r.place discarded reset → Owns place new
 owned-down place r new discarded reset h c p = owned-told place event.MarkedDown r new discarded reset h (ap (λ (x : CoreNow). x.live) c) p
 
 pub owned-answered : (place : Place) (v : Verdict) (r new : RecordNow) (discarded reset : Bool) → Owns place r → new.core ≡ after_answering v r.core → new.parcels ≡ r.parcels ++ told_parcels r.place discarded reset → Owns place new
 owned-answered place v r new discarded reset h c p =
-    owned-as place r new discarded reset h (subst (λ (x : CoreNow). core.IsOwned place x.live.granted) (sym c) (tells_if-owned (told_of r.core.facts v) place r.core.live h.feed)) p
+    owned-as place r new discarded reset h (subst (λ (x : CoreNow). live.IsOwned place x.live.granted) (sym c) (tells_if-owned (told_of r.core.facts v) place r.core.live h.feed)) p
 
 pub owned-taken : (place : Place) (v : Verdict) (end : SeenEnd) (unread : List ℕ) (r new : RecordNow) (discarded reset : Bool) → Owns place r → IfSome new.core.live.feed (λ d. IsTakenFeed v end unread r.core d × (new.core ≡ after_taking v d r.core)) → IsSome new.core.live.feed →
     new.parcels ≡ r.parcels ++ told_parcels r.place discarded reset → Owns place new
 owned-taken place v end unread r new discarded reset h value some p = owned-as place r new discarded reset h (at new.core.live.feed value some) p
   where
-    at : (o : Option FeedNow) → IfSome o (λ d. IsTakenFeed v end unread r.core d × (new.core ≡ after_taking v d r.core)) → IsSome o → core.IsOwned place new.core.live.granted
-    at (Some d) e f = subst (λ (x : CoreNow). core.IsOwned place x.live.granted) (sym e.1) (tells_if-owned (told_of r.core.facts v) place r.core.live h.feed)
+    at : (o : Option FeedNow) → IfSome o (λ d. IsTakenFeed v end unread r.core d × (new.core ≡ after_taking v d r.core)) → IsSome o → live.IsOwned place new.core.live.granted
+    at (Some d) e f = subst (λ (x : CoreNow). live.IsOwned place x.live.granted) (sym e.1) (tells_if-owned (told_of r.core.facts v) place r.core.live h.feed)
     at None e f = absurd (differ f)

@@ -4,8 +4,10 @@ use Rattle.std.specs.List.{AllByRecursion}
 use Rattle.std.specs.Prelude.{if◌then◌else◌}
 use Rattle.std.proofs.lemmas.List.{append-nil, map-append}
 use Rattle.m2_answers.specs.declared.ask.AskFacts.{AskFacts}
+use Rattle.m2_live.specs.LiveNow.{OnFeedNow}
+use Rattle.m2_live.specs.Waits.{IsWithin}
 use Rattle.m2_core.specs.Agrees.{Agrees}
-use Rattle.m2_core.specs.CoreNow.{CoreNow, OnFeedNow}
+use Rattle.m2_core.specs.CoreNow.{CoreNow}
 use Rattle.m2_dispatcher.specs.declared.parcel.Parcel.{Parcel}
 use Rattle.m2_fabric.specs.declared.socket.SocketId.{SocketId}
 use Rattle.m2_fabric.specs.End.{SeenEnd}
@@ -29,7 +31,6 @@ use Rattle.m2_record.specs.IsRecord.{FeedHasRoom, FeedIsOpen, FeedIsWhole, FitFr
 use Rattle.m2_record.specs.RecordNow.{RecordNow, Rooms, delivery_of, ends_of, feed_end, grounds_of, ids_of, speaks_of}
 use Rattle.m2_record.specs.Sources.{sources_of}
 use Rattle.m2_record.specs.TakenTrails.{HaveTrails, judgement_of}
-use Rattle.m2_record.specs.Waits.{IsWithin}
 use Rattle.m2_record.proofs.Entering.{reach-more}
 use Rattle.m2_record.proofs.Keeping.{ground, one-more}
 use Rattle.m2_record.proofs.Kept.{all-append, feeds-more}

@@ -8,9 +8,11 @@ use Rattle.std.proofs.lemmas.List.{append-nil, map-append}
 use Rattle.std.proofs.lemmas.List.Elements.{filter_map-append}
 use Rattle.m2_addr.proofs.Addresses.{all_push}
 use Rattle.m2_answers.specs.declared.ask.AskFacts.{AskFacts}
+use Rattle.m2_live.specs.Effects.{IsAftermath, closed_if, effects_of}
+use Rattle.m2_live.specs.Waits.{stepped}
+use Rattle.m2_live.specs.declared.waits.Waits.{Waits}
 use Rattle.m2_core.specs.Agrees.{Agrees}
 use Rattle.m2_core.specs.CoreNow.{CoreNow}
-use Rattle.m2_core.specs.Effects.{IsAftermath, closed_if, effects_of}
 use Rattle.m2_core.specs.Judging.{IsVerdict, MayBeJudged, judgement_of, told_of}
 use Rattle.m2_core.specs.TakingOver.{IsTakenFeed, MakesJudgement, after_taking}
 use Rattle.m2_core.specs.declared.verdict.Verdict.{Verdict}
@@ -53,8 +55,6 @@ use Rattle.m2_record.specs.RecordNow.{RecordNow, Rooms, ends_of, feed_end, ids_o
 use Rattle.m2_record.specs.Sources as source
 use Rattle.m2_record.specs.Sources.{broken_of, end_at, got_of, log_at, log_of, put_of, read_before, runs_before, runs_of, sources_of, trail_at, written_before}
 use Rattle.m2_record.specs.TakenTrails.{HaveTrails, IsKeptTrail, IsTrailBeside, judgements_in, taken_by, taken_in}
-use Rattle.m2_record.specs.Waits.{stepped}
-use Rattle.m2_record.specs.declared.waits.Waits.{Waits}
 use Rattle.m2_record.proofs.Answered.{judges-beside, tells_if-fits}
 use Rattle.m2_record.proofs.Ends.{EndsStay, end-new, neither}
 use Rattle.m2_record.proofs.Entering.{kept-continues, reach-more, still-covers}

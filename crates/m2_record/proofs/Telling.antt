@@ -1,8 +1,8 @@
 -- What a session's step leaves of a state beside what a core has, and what it leaves of a core's feed.
 use Rattle.std.proofs.Common.{◌≡◌, ℕ, Bool, true, false, List, [], ◌∷◌, ◌++◌, Option, Some, None, refl, sym, ap, ◌∙◌, append_assoc}
 use Rattle.std.proofs.lemmas.List.{append-nil}
-use Rattle.m2_core.specs.CoreNow.{LiveNow}
-use Rattle.m2_core.specs.Effects as core
+use Rattle.m2_live.specs.LiveNow.{LiveNow}
+use Rattle.m2_live.specs.Effects as live
 use Rattle.m2_fabric.specs.declared.socket.SocketId.{SocketId}
 use Rattle.m2_feed.specs.FeedNow.{FeedNow}
 use Rattle.m2_journal.specs.State.{Delivery, Feed, Judgement, State, discarded, remote_reset}
@@ -92,27 +92,27 @@ abbrev pub feed_left : Bool → Option FeedNow → Option FeedNow
 feed_left true feed = None
 feed_left false feed = feed
 
-closes-feed : (b : Bool) (l : LiveNow) → (core.where_true b core.closes l).feed ≡ feed_left b l.feed
+closes-feed : (b : Bool) (l : LiveNow) → (live.where_true b live.closes l).feed ≡ feed_left b l.feed
 closes-feed true l = refl
 closes-feed false l = refl
 
-requeues-feed : (b : Bool) (l : LiveNow) → (core.where_true b core.requeues l).feed ≡ l.feed
+requeues-feed : (b : Bool) (l : LiveNow) → (live.where_true b live.requeues l).feed ≡ l.feed
 requeues-feed true l = refl
 requeues-feed false l = refl
 
-sets-feed : (b : Bool) (l : LiveNow) → (core.where_true b core.sets_back l).feed ≡ l.feed
+sets-feed : (b : Bool) (l : LiveNow) → (live.where_true b live.sets_back l).feed ≡ l.feed
 sets-feed true l = refl
 sets-feed false l = refl
 
-discards-feed : (b : Bool) (l : LiveNow) → (core.where_true b core.discards l).feed ≡ l.feed
+discards-feed : (b : Bool) (l : LiveNow) → (live.where_true b live.discards l).feed ≡ l.feed
 discards-feed true l = refl
 discards-feed false l = refl
 
-pub tells-feed : (v : Event) (l : LiveNow) → (core.tells v l).feed ≡ feed_left (step_of l.session v).effects.close l.feed
+pub tells-feed : (v : Event) (l : LiveNow) → (live.tells v l).feed ≡ feed_left (step_of l.session v).effects.close l.feed
 tells-feed v l =
     let e = (step_of l.session v).effects in
     let l0 = record l { session = (step_of l.session v).session } in
-    let l1 = core.where_true e.close core.closes l0 in
-    let l2 = core.where_true e.requeue core.requeues l1 in
-    let l3 = core.where_true e.set_back core.sets_back l2 in
+    let l1 = live.where_true e.close live.closes l0 in
+    let l2 = live.where_true e.requeue live.requeues l1 in
+    let l3 = live.where_true e.set_back live.sets_back l2 in
     discards-feed e.discard l3 ∙ sets-feed e.set_back l2 ∙ requeues-feed e.requeue l1 ∙ closes-feed e.close l0

@@ -5,12 +5,15 @@ use Rattle.std.specs.Prelude.{slice_get, nat_lt, if◌then◌else◌}
 use Rattle.std.proofs.lemmas.List.{append-nil}
 use Rattle.std.specs.List.{AllByRecursion}
 use Rattle.m2_bytes.specs.declared.memory.NoMemory as memory
+use Rattle.m2_live.specs.LiveNow.{OnFeedNow}
+use Rattle.m2_live.specs.OnFeed.{AnswersStamp, ChangesRoom, ComposesAsk, ComposesFeed, ComposesMessage, GreetsFeed}
+use Rattle.m2_live.specs.Numbering.{FitsFrame, IsNextSendable}
 use Rattle.m2_core.specs.Agrees.{Stays}
-use Rattle.m2_core.specs.Asking.{ComposesAsk, HasAsked, LeavesAsk}
-use Rattle.m2_core.specs.Composing.{AnswersStamp, ComposesFeed, HasAcknowledged, HasAnswered}
-use Rattle.m2_core.specs.CoreNow.{CoreNow, OnFeedNow}
-use Rattle.m2_core.specs.Numbering.{ChangesRoom, ComposesMessage, FitsFrame, HasNumbered, IsNextSendable}
-use Rattle.m2_core.specs.Shaken.{GreetsFeed, HasShaken}
+use Rattle.m2_core.specs.Asking.{HasAsked, LeavesAsk}
+use Rattle.m2_core.specs.Composing.{HasAcknowledged, HasAnswered}
+use Rattle.m2_core.specs.CoreNow.{CoreNow}
+use Rattle.m2_core.specs.Numbering.{HasNumbered}
+use Rattle.m2_core.specs.Shaken.{HasShaken}
 use Rattle.m2_core.specs.declared.asking.CoreAsk.{CoreAsk}
 use Rattle.m2_core.specs.declared.asking.CoreAsk.TheVariants as ask
 use Rattle.m2_feed.specs.Calls.{ComposesIfOk}

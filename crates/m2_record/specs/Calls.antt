@@ -3,14 +3,16 @@ use Rattle.std.specs.Prelude.{◌≡◌, ◌⊎◌, ℕ, ◌+◌, ◌-◌, ◌^�
 use Rattle.std.specs.List.{AllByRecursion}
 use Rattle.std.specs.Option.{option_to_list}
 use Rattle.m2_bytes.specs.declared.memory.NoMemory as memory
+use Rattle.m2_live.specs.LiveNow as live
+use Rattle.m2_live.specs.Effects.{closed_if}
+use Rattle.m2_live.specs.OnFeed.{feed_after_news}
+use Rattle.m2_live.specs.Calls.{after_fault, after_posted, live_with}
+use Rattle.m2_live.specs.Waits.{begun, not_above, stepped}
 use Rattle.m2_core.specs.Asking.{HasAsked, LeavesAsk, LeavesPass}
-use Rattle.m2_core.specs.Calls.{IsOpening, after_dial, after_down, after_fault, after_opened, after_posted, is_exhausted}
-use Rattle.m2_core.specs.CoreNow as core
+use Rattle.m2_core.specs.Calls.{IsOpening, after_dial, after_down, after_opened, is_exhausted}
 use Rattle.m2_core.specs.CoreNow.{CoreNow}
-use Rattle.m2_core.specs.Effects.{closed_if}
 use Rattle.m2_core.specs.Composing.{HasAcknowledged, HasAnswered}
-use Rattle.m2_core.specs.Moves.{HasWritten, live_with}
-use Rattle.m2_core.specs.News.{feed_after_news}
+use Rattle.m2_core.specs.Moves.{HasWritten}
 use Rattle.m2_core.specs.Numbering.{HasNumbered}
 use Rattle.m2_core.specs.Shaken.{HasShaken}
 use Rattle.m2_core.specs.declared.asking.CoreAsk.{CoreAsk}
@@ -52,7 +54,6 @@ use Rattle.m2_record.specs.declared.composing.Composed.TheVariants as composed
 use Rattle.m2_record.specs.Due.{due_step, next_step, on_feed}
 use Rattle.m2_record.specs.declared.due.Due.TheVariants as due
 use Rattle.m2_record.specs.IsRecord.{IsReplayedTo, named_in}
-use Rattle.m2_record.specs.Waits.{begun, not_above, stepped}
 use Rattle.m2_record.specs.RecordNow.{RecordNow, Rooms, ends_of, ids_of}
 use Rattle.m2_record.specs.Sources.{is_broken_end}
 
@@ -174,7 +175,7 @@ MayGoDown false r = is_exhausted r.core ≡ true
 
 -- all that it holds was granted by the throttle whose word lies there
 pub record Owns (place : Place) (r : RecordNow) : Type 0 where
-  pub feed : core.IsOwned place r.core.live.granted
+  pub feed : live.IsOwned place r.core.live.granted
   pub parcels : AllByRecursion (IsOwned place) r.parcels
 
 -- there is room for an end that was closed, where there is one
@@ -291,7 +292,7 @@ is_down_next _ = false
 
 -- what is given back then: where the session is given up, what is held for the feed
 abbrev pub returned_by : Option PlanStep → RecordNow → ℕ
-returned_by (Some step.Down) r = core.held r.core.live.granted
+returned_by (Some step.Down) r = live.held r.core.live.granted
 returned_by next r = 0
 
 -- ---- a connect that failed
@@ -314,7 +315,7 @@ all_granted (x ∷ xs) = granted_in x + all_granted xs
 
 -- there is a feed whose end has failed, or has found that nothing more will come
 abbrev pub EndIsBroken : RecordNow → Type 0
-EndIsBroken r = core.OnFeedNow r.core.live.feed (λ v. is_broken_end v.end ≡ true)
+EndIsBroken r = live.OnFeedNow r.core.live.feed (λ v. is_broken_end v.end ≡ true)
 
 -- the bytes that were got on the feed are a fault, where its journal leads
 abbrev pub BytesAreBroken : RecordNow → Type 0
@@ -322,12 +323,12 @@ BytesAreBroken r = (s : State) → IsReplayedTo s r → OnFeed s (λ d. is_broke
 
 -- one of the two
 abbrev pub FeedIsBroken : RecordNow → Type 0
-FeedIsBroken r = core.OnFeedNow r.core.live.feed (λ v. (is_broken_end v.end ≡ true) ⊎ BytesAreBroken r)
+FeedIsBroken r = live.OnFeedNow r.core.live.feed (λ v. (is_broken_end v.end ≡ true) ⊎ BytesAreBroken r)
 
 -- The feed is closed for a fault, which leaves what a session's step leaves. Where the phase becomes Wait, a wait begins.
 abbrev pub after_breaking : (now : ℕ) → RecordNow → RecordNow
 after_breaking now r =
-    record (left_by (step_of r.core.live.session (event.Faulted (core.is_waiting r.core.live))).effects r) {
+    record (left_by (step_of r.core.live.session (event.Faulted (live.is_waiting r.core.live))).effects r) {
       core = record r.core { live = after_fault r.core.live };
       waits = stepped r.core.facts.node now r.core.live.session.phase (after_fault r.core.live).session.phase r.waits;
       held = false;
@@ -359,7 +360,7 @@ ClosesFor None now mid new = new ≡ mid
 
 -- what is given back then: where the feed is closed, what is held for it
 abbrev pub returned_for : Option WireFault → RecordNow → ℕ
-returned_for (Some f) r = core.held r.core.live.granted
+returned_for (Some f) r = live.held r.core.live.granted
 returned_for None r = 0
 
 -- the feed's end is written once, and the feed is closed where that finds a fault

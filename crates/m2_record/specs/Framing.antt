@@ -1,10 +1,11 @@
 -- What the step Frame leaves of a record: one answer of the opener's half, or what stands at the front of the feed. This
 -- project's own.
 use Rattle.std.specs.Prelude.{◌≡◌, ℕ, ◌+◌, ◌-◌, Bool, true, false, List, [], ◌∷◌, ◌++◌, Option, Some, None}
+use Rattle.m2_live.specs.LiveNow.{OnFeedNow}
 use Rattle.m2_core.specs.declared.accepting.CoreAccepted.{CoreAccepted}
 use Rattle.m2_core.specs.declared.next.CoreNext.{CoreNext}
 use Rattle.m2_core.specs.declared.next.CoreNext.TheVariants as next
-use Rattle.m2_core.specs.CoreNow.{CoreNow, OnFeedNow}
+use Rattle.m2_core.specs.CoreNow.{CoreNow}
 use Rattle.m2_core.specs.Front.{heard_by}
 use Rattle.m2_core.specs.Granting.{Throttled}
 use Rattle.m2_core.specs.Hearing.{HasObeyed}

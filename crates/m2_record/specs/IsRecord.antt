@@ -1,9 +1,11 @@
 -- A record is the replay of its journal. This project's own.
 use Rattle.std.specs.Prelude.{◌≡◌, ℕ, ◌<◌, ◌^◌, true, false, if◌then◌else◌, List, [], ◌++◌, length, map, Option, Some, None}
 use Rattle.std.specs.List.{AllByRecursion, filter_map}
+use Rattle.m2_live.specs.LiveNow.{OnFeedNow}
+use Rattle.m2_live.specs.Numbering.{FitsFrame}
+use Rattle.m2_live.specs.Waits.{IsWithin, at_first}
 use Rattle.m2_core.specs.Agrees.{Agrees}
-use Rattle.m2_core.specs.CoreNow.{OnFeedNow, at_start}
-use Rattle.m2_core.specs.Numbering.{FitsFrame}
+use Rattle.m2_core.specs.CoreNow.{at_start}
 use Rattle.m2_dispatcher.specs.declared.parcel.Parcel.{Parcel}
 use Rattle.m2_dispatcher.specs.declared.parcel.Parcel.TheVariants as parcel
 use Rattle.m2_fabric.specs.declared.socket.SocketId.{SocketId}
@@ -23,7 +25,6 @@ use Rattle.m2_queues.specs.OutQueues.{Queue}
 use Rattle.m2_session.specs.Laws.{takes}
 use Rattle.m2_record.specs.RecordNow.{RecordNow, Rooms, delivery_of, ends_of, feed_end, ids_of, speaks_of}
 use Rattle.m2_record.specs.TakenTrails.{HaveTrails}
-use Rattle.m2_record.specs.Waits.{IsWithin, at_first}
 
 -- ---- words
 

@@ -4,8 +4,9 @@ use Rattle.std.specs.Prelude.{◌≡◌, ℕ, ◌<◌, ◌≤◌, ◌&&◌, true
 use Rattle.std.specs.List.{AllByRecursion}
 use Rattle.std.specs.Option.{is_none}
 use Rattle.m2_control.specs.declared.fields.TheConstants.{GREATEST_NUMBER}
-use Rattle.m2_core.specs.CoreNow as core
-use Rattle.m2_core.specs.Effects.{closed_if, effects_of}
+use Rattle.m2_live.specs.LiveNow as live
+use Rattle.m2_live.specs.Effects.{closed_if, effects_of}
+use Rattle.m2_live.specs.Waits.{stepped}
 use Rattle.m2_core.specs.Judging.{judgement_of, told_of}
 use Rattle.m2_core.specs.TakingOver.{IsTakenFeed, after_answering, after_taking}
 use Rattle.m2_core.specs.declared.verdict.Verdict.{Verdict}
@@ -28,7 +29,6 @@ use Rattle.m2_record.specs.RecordNow.{RecordNow, ends_of, ids_of}
 use Rattle.m2_record.specs.declared.judging.Judged.{Judged}
 use Rattle.m2_record.specs.declared.judging.Judged.TheVariants as judged
 use Rattle.m2_record.specs.TakenTrails.{judgements_in}
-use Rattle.m2_record.specs.Waits.{stepped}
 
 -- ---- when an arrival may be judged
 
@@ -132,5 +132,5 @@ JudgesAs (judged.NoMemory arrival) v a now old new = (arrival ≡ record a { roo
 
 -- what is given back: where the socket is taken, what was held for the old feed
 abbrev pub given_back : {E : Type 0} → Judged E → (granted : Option SeenGrant) → ℕ
-given_back (judged.Taken answer) granted = core.held granted
+given_back (judged.Taken answer) granted = live.held granted
 given_back _ granted = 0

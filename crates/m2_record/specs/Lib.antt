@@ -1,7 +1,6 @@
 pub mod Sources
 pub mod TakenTrails
 pub mod Entered
-pub mod Waits
 pub mod RecordNow
 pub mod IsRecord
 pub mod Due
@@ -9,5 +8,4 @@ pub mod Calls
 pub mod Reading
 pub mod Framing
 pub mod Stepping
-pub mod Laws
 pub mod Judging

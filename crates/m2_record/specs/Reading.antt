@@ -1,6 +1,8 @@
 -- What reading the feed's end leaves of a record, and what the read answers. This project's own.
 use Rattle.std.specs.Prelude.{◌≡◌, ℕ, ◌<◌, ◌^◌, Bool, true, false, List, [], ◌∷◌, ◌++◌, Option, Some, None}
 use Rattle.std.specs.Option.{is_some, option_to_list}
+use Rattle.m2_live.specs.Waits as waits
+use Rattle.m2_live.specs.declared.waits.Waits.{Waits}
 use Rattle.m2_core.specs.Hearing.{HasRead}
 use Rattle.m2_fabric.specs.declared.end.EndRead.{EndRead}
 use Rattle.m2_fabric.specs.declared.end.EndRead.TheVariants as read
@@ -19,10 +21,8 @@ use Rattle.m2_session.specs.declared.session.Phase.{Phase}
 use Rattle.m2_record.specs.declared.reading.RecordRead.{RecordRead}
 use Rattle.m2_record.specs.declared.stepped.Stepped.{Stepped}
 use Rattle.m2_record.specs.declared.stepped.Stepped.TheVariants as stepped
-use Rattle.m2_record.specs.declared.waits.Waits.{Waits}
 use Rattle.m2_record.specs.Calls.{ClosesFor, closed_entries}
 use Rattle.m2_record.specs.RecordNow.{RecordNow}
-use Rattle.m2_record.specs.Waits as waits
 
 -- ---- one read
 

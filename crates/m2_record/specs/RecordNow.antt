@@ -1,5 +1,6 @@
 -- What contracts see of a record. This project's own.
 use Rattle.std.specs.Prelude.{ℕ, Bool, List, [], ◌∷◌, ◌++◌, map, Option, Some, None}
+use Rattle.m2_live.specs.declared.waits.Waits.{Waits}
 use Rattle.m2_core.specs.CoreNow.{CoreNow}
 use Rattle.m2_dispatcher.specs.declared.parcel.Parcel.{Parcel}
 use Rattle.m2_dispatcher.specs.declared.parcel.Parcel.TheVariants as parcel
@@ -13,7 +14,6 @@ use Rattle.m2_journal.specs.Plan.{planned}
 use Rattle.m2_journal.specs.State.{Delivery, letter, discarded, remote_reset}
 use Rattle.m2_message.specs.Message.{content_of}
 use Rattle.m2_trail.specs.Trails.{TrailNow}
-use Rattle.m2_record.specs.declared.waits.Waits.{Waits}
 use Rattle.m2_record.specs.Sources.{Grounds, sources_of}
 
 -- how many entries, parcels, closed ends and trails fit before memory is taken

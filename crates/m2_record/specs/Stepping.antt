@@ -2,10 +2,10 @@
 -- its other half: for each of its rows what the step does. This project's own.
 use Rattle.std.specs.Prelude.{◌≡◌, ℕ, ◌-◌, false, Option, Some, None, Result, Ok, Err, IfSome}
 use Rattle.m2_bytes.specs.declared.memory.NoMemory as memory
-use Rattle.m2_core.specs.CoreNow as core
+use Rattle.m2_live.specs.LiveNow as live
+use Rattle.m2_live.specs.Hearing.{raised_by}
 use Rattle.m2_core.specs.CoreNow.{CoreNow}
 use Rattle.m2_core.specs.Granting.{Throttled}
-use Rattle.m2_core.specs.Hearing.{raised_by}
 use Rattle.m2_core.specs.ToCompose.{to_compose}
 use Rattle.m2_feed.specs.FeedNow.{FeedNow}
 use Rattle.m2_feed.specs.declared.answers.FeedWrite.{FeedWrite}
@@ -105,7 +105,7 @@ PlansAs None answer now old new = (answer ≡ Ok tt) × GoesDown false old new
 
 abbrev pub returned_planned : Option PlanStep → RecordNow → ℕ
 returned_planned (Some x) r = returned_by (Some x) r
-returned_planned None r = core.held r.core.live.granted
+returned_planned None r = live.held r.core.live.granted
 
 pub record StepsPlan (w : Worked) (old new : RecordNow) : Type 0 where
   pub taken : Result (Unit {0}) memory.NoMemory
@@ -135,7 +135,7 @@ pub record StepsFrame (w : Worked) (old new : RecordNow) : Type 0 where
   pub framed : Framed
   pub frames : Frames w.bytes framed w.now old new
   pub answers : w.answer ≡ answer_framed framed
-  pub bytes : IsAlone w.bytes.throttle.place → w.bytes.behind.word ≡ word_framed framed w.bytes.before.word (core.held old.core.live.granted) (core.held new.core.live.granted)
+  pub bytes : IsAlone w.bytes.throttle.place → w.bytes.behind.word ≡ word_framed framed w.bytes.before.word (live.held old.core.live.granted) (live.held new.core.live.granted)
   pub numbers : DrawsNothing w.numbers
 
 -- a number that the peer tells raises the counter

@@ -1,9 +1,9 @@
 //! What a record composes.
 
 ghost use Rattle.std.specs.Prelude.{◌≡◌, ◌<◌, ◌≤◌, ◌++◌, IfSome, IsSome, Some, false};
+ghost use Rattle.m2_live.specs.LiveNow.{OnFeedNow};
 ghost use Rattle.m2_core.specs.Calls.{is_exhausted};
 ghost use Rattle.m2_core.specs.Asking.{LeavesPass};
-ghost use Rattle.m2_core.specs.CoreNow.{OnFeedNow};
 ghost use Rattle.m2_core.specs.ToCompose.{to_compose};
 ghost use Rattle.m2_core.specs.declared.to_compose.CoreText.TheVariants as text;
 ghost use Rattle.m2_feed.specs.FeedNow.{is_framing};

@@ -4,9 +4,9 @@ ghost use Rattle.std.specs.Prelude.{◌≡◌, ◌-◌, ◌++◌, [], vec_capaci
 ghost use Rattle.std.specs.List.{AllByRecursion};
 ghost use Rattle.std.specs.VecDeque.{deque_len};
 ghost use Rattle.std.specs.Prelude.{map};
-ghost use Rattle.m2_core.specs.CoreNow.{held};
 ghost use Rattle.m2_dispatcher.specs.Parcel.{IsOwned};
 ghost use Rattle.m2_shared.specs.Place.{IsAlone};
+ghost use Rattle.m2_live.specs.LiveNow.{held};
 ghost use Rattle.m2_record.specs.Calls.{Owns, all_granted, granted_in};
 ghost use Rattle.m2_record.specs.IsRecord.{FeedHasRoom};
 ghost use Rattle.m2_record.specs.RecordNow.{feed_end};

@@ -2,7 +2,7 @@
 
 ghost use Rattle.std.specs.Prelude.{◌≡◌, ◌+◌, ◌-◌, ◌<◌, ◌≤◌, ◌++◌, length, true, false};
 ghost use Rattle.std.specs.VecDeque.{deque_capacity, deque_len};
-ghost use Rattle.m2_core.specs.CoreNow.{OnFeedNow, held};
+ghost use Rattle.m2_live.specs.LiveNow.{OnFeedNow, held};
 ghost use Rattle.m2_core.specs.Next.{IsResetHeard};
 ghost use Rattle.m2_feed.specs.FeedNow.{is_framing};
 ghost use Rattle.m2_handshake.specs.declared.answer.HalfStep.TheVariants as half;

@@ -2,7 +2,7 @@
 
 ghost use Rattle.std.specs.Prelude.{◌≡◌, ◌-◌, ◌<◌, ◌≤◌, ◌&&◌, ◌++◌, true, false, option_map, vec_capacity, vec_len, IfSome, OnOk};
 ghost use Rattle.std.specs.Option.{is_none};
-ghost use Rattle.m2_core.specs.CoreNow.{held};
+ghost use Rattle.m2_live.specs.LiveNow.{held};
 ghost use Rattle.m2_core.specs.Judging.{IsVerdict, MayBeJudged, acceptance_text, verdict_on};
 ghost use Rattle.m2_session.specs.Laws.{takes};
 ghost use Rattle.m2_shared.specs.Place.{IsAlone};

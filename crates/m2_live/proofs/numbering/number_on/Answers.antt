@@ -1,6 +1,6 @@
 use Rattle.std.proofs.Common.{sym}
-use Rattle.m2_core.proofs.Numbered.{sendable}
-use Rattle.m2_core.proofs.numbering.number_on.Goals as goal
+use Rattle.m2_live.proofs.Numbered.{sendable}
+use Rattle.m2_live.proofs.numbering.number_on.Goals as goal
 
 pub compose_message-requires-clause-sendable : goal.compose_message-requires-clause-sendable
 compose_message-requires-clause-sendable g c =

@@ -1,7 +1,7 @@
 -- Each wait is twice the one before, up to the longest.
 use Rattle.std.proofs.Common.{◌≡◌, ℕ, ◌+◌, ◌≤◌, min, suc, refl, sym, ap, ◌∙◌, arith}
-use Rattle.m2_record.specs.Laws.{WaitsDouble}
-use Rattle.m2_record.specs.Waits.{doubled}
+use Rattle.m2_live.specs.Laws.{WaitsDouble}
+use Rattle.m2_live.specs.Waits.{doubled}
 
 twice : (x m : ℕ) → min (min x m + min x m) m ≡ min (x + x) m
 twice x m = omega arith

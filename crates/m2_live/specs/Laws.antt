@@ -1,8 +1,8 @@
 -- What holds of the waits before a side dials.
 use Rattle.std.specs.Prelude.{◌≡◌, ℕ, suc}
 use Rattle.m2_journal.specs.declared.facts.NodeFacts.{NodeFacts}
-use Rattle.m2_record.specs.Waits.{AreWaits, begun, nth_wait, over}
-use Rattle.m2_record.specs.declared.waits.Waits.{Waits}
+use Rattle.m2_live.specs.Waits.{AreWaits, begun, nth_wait, over}
+use Rattle.m2_live.specs.declared.waits.Waits.{Waits}
 
 -- The next wait is the first one from Ready on, and behind the n-th comes the one after it.
 pub record WaitsDouble : Type 0 where

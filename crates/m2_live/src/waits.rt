@@ -1,7 +1,7 @@
 //! When a side may dial again.
 
 ghost use Rattle.std.specs.Prelude.{◌≡◌};
-ghost use Rattle.m2_record.specs.Waits.{at_first, begun, over, stepped};
+ghost use Rattle.m2_live.specs.Waits.{at_first, begun, over, stepped};
 
 use m2_journal::NodeFacts;
 use m2_session::Phase;
@@ -17,7 +17,7 @@ pub struct Waits {
 
 impl Waits {
     /// No wait was on so far.
-    pub(crate) fn at_first(node: &NodeFacts) -> Waits
+    pub fn at_first(node: &NodeFacts) -> Waits
         ensures { result ≡ at_first node.now }
     {
         Waits {
@@ -27,7 +27,7 @@ impl Waits {
     }
 
     /// A wait begins. The next one is twice as long, up to the longest.
-    pub(crate) fn begun(self, node: &NodeFacts, now: u64) -> Waits
+    pub fn begun(self, node: &NodeFacts, now: u64) -> Waits
         ensures { result ≡ begun node.now now self }
     {
         Waits {
@@ -48,7 +48,7 @@ impl Waits {
 
     /// Beside a step of the session from one phase to another: a wait begins where the phase becomes
     /// Wait, and in Ready the next one is the first again.
-    pub(crate) fn stepped(self, node: &NodeFacts, now: u64, old: Phase, new: Phase) -> Waits
+    pub fn stepped(self, node: &NodeFacts, now: u64, old: Phase, new: Phase) -> Waits
         ensures { result ≡ stepped node.now now old new self }
     {
         if new == Phase::Wait && old != Phase::Wait {

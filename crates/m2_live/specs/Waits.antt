@@ -5,7 +5,7 @@ use Rattle.m2_journal.specs.declared.facts.NodeFacts.{NodeFacts}
 use Rattle.m2_session.specs.declared.session.Phase.{Phase}
 use Rattle.m2_session.specs.declared.session.Phase.TheVariants.{Ready, Wait}
 use Rattle.m2_session.specs.Phases as phase
-use Rattle.m2_record.specs.declared.waits.Waits.{Waits}
+use Rattle.m2_live.specs.declared.waits.Waits.{Waits}
 
 -- the greatest number that a moment or a count has
 abbrev pub not_above : ℕ → ℕ

@@ -1,30 +1,36 @@
--- What a session's step leaves of a core's live part: the effects of the table, in its order. What they hand out is the record's.
-use Rattle.std.specs.Prelude.{◌≡◌, Bool, true, false, Option, Some, None}
+-- What a session's step leaves of what it can change: the effects of the table, in its order. What they hand out is the
+-- caller's.
+use Rattle.std.specs.Prelude.{◌≡◌, Bool, true, false, Option, Some, None, if◌then◌else◌}
 use Rattle.m2_fabric.specs.End.{SeenEnd, after_closing}
 use Rattle.m2_feed.specs.FeedNow.{FeedNow}
-use Rattle.m2_queues.specs.OutQueues.{after_requeue, after_discard, after_renumber}
+use Rattle.m2_queues.specs.OutQueues.{Outgoing, after_requeue, after_discard, after_renumber, Queue}
+use Rattle.m2_session.specs.Steps.{nothing, step_of}
 use Rattle.m2_session.specs.declared.event.Effects.{Effects}
 use Rattle.m2_session.specs.declared.event.Event.{Event}
 use Rattle.m2_session.specs.declared.session.Session.{Session}
-use Rattle.m2_session.specs.Steps.{nothing, step_of}
-use Rattle.m2_core.specs.CoreNow.{LiveNow}
+use Rattle.m2_live.specs.LiveNow.{LiveNow}
 
 abbrev pub where_true : Bool → (LiveNow → LiveNow) → LiveNow → LiveNow
 where_true true change l = change l
 where_true false change l = l
 
+-- the feed goes, with what is granted for it
 abbrev pub closes : LiveNow → LiveNow
 closes l = record l { feed = None; granted = None; resumed = 0 }
 
+-- what was sent and isn't acknowledged is to be sent again
 abbrev pub requeues : LiveNow → LiveNow
 requeues l = record l { out = record l.out { queue = after_requeue l.out.queue } }
 
+-- numbers begin again in both directions
 abbrev pub sets_back : LiveNow → LiveNow
 sets_back l = record l { last = 0; out = record l.out { queue = after_renumber l.out.queue } }
 
+-- what is kept and what waits is thrown away
 abbrev pub discards : LiveNow → LiveNow
 discards l = record l { out = record l.out { queue = after_discard l.out.queue } }
 
+-- all of them, the first below
 abbrev pub has_effects : Effects → LiveNow → LiveNow
 has_effects e l =
     where_true e.discard discards
@@ -41,7 +47,18 @@ abbrev pub effects_of : Option Event → Session → Effects
 effects_of (Some e) s = (step_of s e).effects
 effects_of None s = nothing
 
--- ---- what the record is handed
+-- ---- the queue alone
+
+abbrev pub moved_queue : Effects → Queue → Queue
+moved_queue e q =
+    let requeued = if e.requeue then after_requeue q else q in
+    let renumbered = if e.set_back then after_renumber requeued else requeued in
+    if e.discard then after_discard renumbered else renumbered
+
+abbrev pub moved : Effects → Outgoing → Outgoing
+moved e out = record out { queue = moved_queue e out.queue }
+
+-- ---- what the caller is handed
 
 -- the end of the feed that was left, closed
 abbrev pub closed_of : Option FeedNow → Option SeenEnd

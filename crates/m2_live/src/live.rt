@@ -5,12 +5,12 @@ ghost use Rattle.m2_queues.specs.OutQueues.{IsNumbered};
 ghost use Rattle.m2_session.specs.Steps as table;
 ghost use Rattle.m2_session.specs.Steps.{HasFollower, step_of};
 ghost use Rattle.m2_shared.specs.Place.{IsAlone};
-ghost use Rattle.m2_core.specs.CoreNow.{IsOwned, held, is_waiting};
-ghost use Rattle.m2_core.specs.Calls.{after_counted};
-ghost use Rattle.m2_core.specs.Effects.{IsAftermath, closed_of, tells};
-ghost use Rattle.m2_core.specs.Queues.{moved};
+ghost use Rattle.m2_live.specs.LiveNow.{IsOwned, held, is_waiting};
+ghost use Rattle.m2_live.specs.Effects.{IsAftermath, moved, tells};
+ghost use Rattle.m2_live.specs.Calls.{after_counted};
 
 use crate::aftermath::Aftermath;
+use crate::on_feed::close_on;
 use m2_fabric::End;
 use m2_feed::Feed;
 use m2_queues::OutQueues;
@@ -19,21 +19,34 @@ use m2_shared::{Grant, TakePass, Throttle};
 use std::marker::Model;
 
 /// What a session's step can change: the session, the outgoing queue, the last accepted number, and the
-/// feed with what was granted for it.
-pub(crate) struct Live<E: End> {
-    pub(crate) session: Session,
-    pub(crate) out: OutQueues,
+/// feed with what was granted for it. It can't be dropped, since a grant can't: it ends by
+/// [`end`](Live::end). Whoever holds it keeps its parts in step with each other.
+///
+/// Of a step: [`tell`](Live::tell), [`heed`](Live::heed), [`tell_if`](Live::tell_if), [`take`](Live::take).
+/// Of the front of the feed: [`pass_front`](Live::pass_front), [`note_front`](Live::note_front),
+/// [`accept_front`](Live::accept_front), [`hearing`](Live::hearing), [`take_answer`](Live::take_answer),
+/// [`obey`](Live::obey). Of what is composed: [`reserve_ask`](Live::reserve_ask),
+/// [`compose_ask`](Live::compose_ask), [`number`](Live::number). Of the queue: [`count`](Live::count),
+/// [`waits`](Live::waits).
+///
+/// A call that takes a throttle has the condition that the pass and what is granted were made from it.
+pub struct Live<E: End> {
+    /// What is remembered of the peer.
+    pub session: Session,
+    /// What is kept and what waits to be sent.
+    pub out: OutQueues,
     /// The last accepted number.
-    pub(crate) last: u64,
+    pub last: u64,
     /// Up to where a resumption on the feed acknowledges, 0 where none does.
-    pub(crate) resumed: u64,
-    pub(crate) feed: Option<Feed<E>>,
+    pub resumed: u64,
+    /// The one open socket.
+    pub feed: Option<Feed<E>>,
     /// What a throttle has granted for the MESSAGE that isn't finished.
-    pub(crate) granted: Option<Grant>,
+    pub granted: Option<Grant>,
 }
 
 impl<E: End> Model for Live<E> {
-    ghost use Rattle.m2_core.specs.CoreNow.{LiveNow};
+    ghost use Rattle.m2_live.specs.LiveNow.{LiveNow};
 
     ghost Value = { LiveNow };
 
@@ -48,7 +61,7 @@ impl<E: End> Model for Live<E> {
 }
 
 /// Gives back what was granted, where something was.
-pub(crate) fn give_back(granted: &mut Option<Grant>, throttle: &Throttle, pass: &mut TakePass)
+pub fn give_back(granted: &mut Option<Grant>, throttle: &Throttle, pass: &mut TakePass)
     requires pass { pass.old.place ≡ throttle.now.place }
     requires owned { IsOwned throttle.now.place granted.old }
     ensures granted { granted.new ≡ None }
@@ -58,17 +71,6 @@ pub(crate) fn give_back(granted: &mut Option<Grant>, throttle: &Throttle, pass: 
     match granted.take() {
         Some(grant) => throttle.give(pass, grant),
         None => {}
-    }
-}
-
-/// Closes the feed, where there is one.
-fn leave<E: End>(feed: &mut Option<Feed<E>>) -> Option<E>
-    ensures feed { feed.new ≡ None }
-    ensures closed { option_map E.seen result ≡ closed_of feed.old }
-{
-    match feed.take() {
-        Some(left) => Some(left.close()),
-        None => None,
     }
 }
 
@@ -89,7 +91,7 @@ fn move_queue(effects: &Effects, out: &mut OutQueues)
 
 impl<E: End> Live<E> {
     /// Whether a message is kept or waits to be written.
-    pub(crate) fn waits(&self) -> bool
+    pub fn waits(&self) -> bool
         ensures { result ≡ is_waiting self.now }
     {
         self.out.waits()
@@ -97,12 +99,7 @@ impl<E: End> Live<E> {
 
     /// Tells the session of an event, and does what it owes then. What was granted for a feed that is
     /// closed is given back.
-    pub(crate) fn tell(
-        &mut self,
-        event: Event,
-        throttle: &Throttle,
-        pass: &mut TakePass,
-    ) -> Aftermath<E>
+    pub fn tell(&mut self, event: Event, throttle: &Throttle, pass: &mut TakePass) -> Aftermath<E>
         requires lawful { IsTrue (table.is_lawful self.old.session event) }
         requires connect { self.old.session.connect < 2 ^ 64 - 1 }
         requires follower { HasFollower event }
@@ -124,7 +121,7 @@ impl<E: End> Live<E> {
         if effects.close {
             give_back(&mut self.granted, throttle, pass);
             self.resumed = 0;
-            closed = leave(&mut self.feed);
+            closed = close_on(&mut self.feed);
         }
         Aftermath {
             closed,
@@ -134,7 +131,7 @@ impl<E: End> Live<E> {
     }
 
     /// Tells the session of an event where nothing is granted, and does what it owes then.
-    pub(crate) fn heed(&mut self, event: Event) -> Aftermath<E>
+    pub fn heed(&mut self, event: Event) -> Aftermath<E>
         requires lawful { IsTrue (table.is_lawful self.old.session event) }
         requires connect { self.old.session.connect < 2 ^ 64 - 1 }
         requires follower { HasFollower event }
@@ -151,7 +148,7 @@ impl<E: End> Live<E> {
         let mut closed = None;
         if effects.close {
             self.resumed = 0;
-            closed = leave(&mut self.feed);
+            closed = close_on(&mut self.feed);
         }
         Aftermath {
             closed,
@@ -161,7 +158,7 @@ impl<E: End> Live<E> {
     }
 
     /// The messages up to this number go.
-    pub(crate) fn count(&mut self, number: u64)
+    pub fn count(&mut self, number: u64)
         requires { number ≤ self.old.out.queue.written }
         ensures live { self.new ≡ after_counted number self.old }
         ensures numbers { IsNumbered self.old.out.queue }
@@ -174,7 +171,7 @@ impl<E: End> Live<E> {
     }
 
     /// Gives back what is held, and gives the feed.
-    pub(crate) fn end(self, throttle: &Throttle, pass: &mut TakePass) -> Option<Feed<E>>
+    pub fn end(self, throttle: &Throttle, pass: &mut TakePass) -> Option<Feed<E>>
         requires pass { pass.old.place ≡ throttle.now.place }
         requires owned { IsOwned throttle.now.place self.granted }
         ensures feed { result ≡ self.feed }

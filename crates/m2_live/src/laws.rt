@@ -1,6 +1,6 @@
-//! What a reader expects of a record. The function has an empty body: its contract is the law.
+//! What a reader expects of the waits. The function has an empty body: its contract is the law.
 
-ghost use Rattle.m2_record.specs.Laws as laws;
+ghost use Rattle.m2_live.specs.Laws as laws;
 
 /// The n-th wait since the last Ready, counted from 0, is the first one doubled n times, and no longer than
 /// the longest.

@@ -1,0 +1,5 @@
+pub mod Fronts
+pub mod Accepted
+pub mod Numbered
+pub mod Closed
+pub mod Waiting

@@ -1,0 +1,10 @@
+pub mod LiveNow
+pub mod Effects
+pub mod OnFeed
+pub mod Calls
+pub mod Asking
+pub mod Numbering
+pub mod Accepting
+pub mod Hearing
+pub mod Waits
+pub mod Laws
