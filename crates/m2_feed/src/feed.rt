@@ -42,8 +42,8 @@ pub const MOST_READ: usize = 65_536;
 ///
 /// Makers: [`opened`](Feed::opened), [`taken_over`](Feed::taken_over). Readers: [`end`](Feed::end),
 /// [`id`](Feed::id), [`is_signed`](Feed::is_signed), [`rests`](Feed::rests),
-/// [`has_composed`](Feed::has_composed), [`has_stamp`](Feed::has_stamp), [`writing`](Feed::writing),
-/// [`look`](Feed::look). Calls that move bytes: [`read`](Feed::read), [`write`](Feed::write). The opener's
+/// [`has_composed`](Feed::has_composed), [`composed`](Feed::composed), [`has_stamp`](Feed::has_stamp),
+/// [`writing`](Feed::writing), [`look`](Feed::look). Calls that move bytes: [`read`](Feed::read), [`write`](Feed::write). The opener's
 /// handshake: [`greet`](Feed::greet). Frames: [`next`](Feed::next), [`grant`](Feed::grant),
 /// [`pass`](Feed::pass), [`pass_keepalive`](Feed::pass_keepalive). Composing: [`reserve_control`](Feed::reserve_control),
 /// [`compose_control`](Feed::compose_control), [`compose_message`](Feed::compose_message),
@@ -166,6 +166,13 @@ impl<E: End> Feed<E> {
         ensures { result ≡ not (is_empty self.now.composed) }
     {
         !self.outgoing.is_empty()
+    }
+
+    /// The bytes that are composed and not put.
+    pub fn composed(&self) -> &[u8]
+        ensures { result.now ≡ self.now.composed }
+    {
+        self.outgoing.as_slice()
     }
 
     /// Whether a keepalive came that isn't answered.

@@ -57,6 +57,11 @@ abbrev pub feed_end : Option FeedNow → List SeenEnd
 feed_end (Some v) = v.end ∷ []
 feed_end None = []
 
+-- what is composed on the feed and not put
+abbrev pub composed_on : Option FeedNow → List ℕ
+composed_on (Some v) = v.composed
+composed_on None = []
+
 -- the feed's end, and then those that were the feed
 abbrev pub ends_of : RecordNow → List SeenEnd
 ends_of r = feed_end r.core.live.feed ++ r.spent

@@ -32,6 +32,7 @@ pub use composing::Composed;
 pub use due::Due;
 pub use framing::Framed;
 pub use judging::Judged;
+pub use parts::RecordParts;
 pub use reading::RecordRead;
 pub use record::{MOST_STEPS, Record};
 pub use stepped::Stepped;

@@ -3,7 +3,7 @@
 ghost use Rattle.std.specs.Prelude.{◌≡◌, map};
 ghost use Rattle.m2_record.specs.Due.{on_feed};
 ghost use Rattle.m2_record.specs.IsRecord.{IsRecord};
-ghost use Rattle.m2_record.specs.RecordNow.{feed_end};
+ghost use Rattle.m2_record.specs.RecordNow.{composed_on, feed_end};
 ghost use Rattle.m2_trail.specs.Trails.{trail_now};
 ghost use Rattle.std.specs.Option.{option_map, option_to_list};
 
@@ -13,6 +13,34 @@ use m2_feed::Feed;
 use m2_journal::{EntryList, NodeFacts, PlanList};
 use m2_session::Session;
 use m2_trail::TrailList;
+
+/// What a record lends, all at once. Each part is as its reader of the same name says.
+///
+/// Maker: [`parts`](Record::parts).
+#[derive(Drop)]
+pub struct RecordParts<'a, E: End> {
+    /// What the node tells its records.
+    pub facts: &'a NodeFacts,
+    /// The peer's place among the nodes, from 0.
+    pub place: u32,
+    pub session: &'a Session,
+    pub plan: &'a PlanList,
+    pub journal: &'a EntryList,
+    pub trails: &'a TrailList,
+    /// The feed's end, while there is a feed.
+    pub feed: Option<&'a E>,
+    /// The ends that were the feed, in order.
+    pub spent: &'a [E],
+    /// The bytes that are composed and not written.
+    pub composed: &'a [u8],
+    pub dry: bool,
+    pub blocked: bool,
+    pub held: bool,
+    /// A moment in milliseconds, as `last`.
+    pub next_dial: u64,
+    pub missed: u64,
+    pub last: u64,
+}
 
 impl<E: End> Record<E> {
     /// What a record is, for contracts alone: the replay of its journal, with a trail for each socket that it
@@ -82,6 +110,16 @@ impl<E: End> Record<E> {
         self.spent.as_slice()
     }
 
+    /// The bytes that are composed on the feed and not written. None where there is no feed.
+    pub fn composed(&self) -> &[u8]
+        ensures { result.now ≡ composed_on self.now.core.live.feed }
+    {
+        match self.core.feed() {
+            Some(feed) => feed.composed(),
+            None => &[],
+        }
+    }
+
     /// The moment before which no connect is due.
     pub fn next_dial(&self) -> u64
         ensures { result ≡ self.now.waits.next_dial }
@@ -129,6 +167,44 @@ impl<E: End> Record<E> {
         ensures { result ≡ self.now.last }
     {
         self.last
+    }
+
+    /// All of this at once. What is lent is a record's: the replay of its journal.
+    pub fn parts(&self) -> RecordParts<'_, E>
+        ensures facts { result.facts.now ≡ self.now.core.facts.node }
+        ensures place { result.place ≡ self.now.place }
+        ensures session { result.session.now ≡ self.now.core.live.session }
+        ensures plan { result.plan.now.items ≡ self.now.plan }
+        ensures journal { result.journal.now.items ≡ self.now.journal }
+        ensures trails { map trail_now result.trails.now.items ≡ self.now.trails }
+        ensures feed { option_to_list (option_map (λ e. E.seen e.now) result.feed) ≡ feed_end self.now.core.live.feed }
+        ensures spent { map E.seen result.spent.now ≡ self.now.spent }
+        ensures composed { result.composed.now ≡ composed_on self.now.core.live.feed }
+        ensures dry { result.dry ≡ on_feed (λ v. v.end.log.dry) self.now.core.live.feed }
+        ensures blocked { result.blocked ≡ on_feed (λ v. v.end.log.blocked) self.now.core.live.feed }
+        ensures held { result.held ≡ self.now.held }
+        ensures next_dial { result.next_dial ≡ self.now.waits.next_dial }
+        ensures missed { result.missed ≡ self.now.missed }
+        ensures last { result.last ≡ self.now.last }
+        ensures is_record { IsRecord self.now }
+    {
+        RecordParts {
+            facts: self.facts(),
+            place: self.place,
+            session: self.session(),
+            plan: &self.plan,
+            journal: &self.journal,
+            trails: &self.trails,
+            feed: self.feed(),
+            spent: self.spent(),
+            composed: self.composed(),
+            dry: self.dry(),
+            blocked: self.blocked(),
+            held: self.held,
+            next_dial: self.waits.next_dial,
+            missed: self.missed,
+            last: self.last,
+        }
     }
 }
 
