@@ -8,6 +8,7 @@ pub mod Fitting
 pub mod Numbering
 pub mod Counting
 pub mod Tallies
+pub mod Clearing
 pub mod Whole
 pub mod Along
 pub mod Tidy

@@ -7,8 +7,7 @@ use Rattle.std.proofs.lemmas.Bool.{eq-eqb, eqb-true}
 use Rattle.m2_fabric.specs.declared.socket.SocketId.{SocketId}
 use Rattle.m2_fabric.specs.Sockets.{is_among, same_socket}
 use Rattle.m2_weave.specs.Counting.{place_in}
-use Rattle.m2_weave.specs.declared.table.SocketBytes.{SocketBytes}
-use Rattle.m2_weave.specs.Table.{Five, five_of, found_from, names_of, same_five}
+use Rattle.m2_weave.specs.Table.{Five, five_of, found_from, same_five}
 
 number_turned : (a b : ℕ) → (a == b) ≡ (b == a)
 number_turned a b = at (a == b) (b == a) refl refl
@@ -60,34 +59,34 @@ found_some names k = at (is_among k names)
 
 -- ---- along the loop
 
-drop_past : (n : ℕ) (xs : List SocketBytes) → length xs ≤ n → drop n xs ≡ []
+drop_past : (n : ℕ) (xs : List SocketId) → length xs ≤ n → drop n xs ≡ []
 drop_past zero [] h = refl
 drop_past zero (x ∷ xs) h = absurd (omega (arith, h))
 drop_past (suc n) [] h = refl
 drop_past (suc n) (x ∷ xs) h = drop_past n xs (omega (arith, h))
 
-drop_first : (xs : List SocketBytes) (n : ℕ) (d : SocketBytes) → n < length xs → drop n xs ≡ slice_index_or xs n d ∷ drop (suc n) xs
+drop_first : (xs : List SocketId) (n : ℕ) (d : SocketId) → n < length xs → drop n xs ≡ slice_index_or xs n d ∷ drop (suc n) xs
 drop_first [] n d h = absurd (omega (arith, h))
 drop_first (y ∷ ys) zero d h = refl
 drop_first (y ∷ ys) (suc n) d h = drop_first ys n d (omega (arith, h))
 
--- the names of the sockets from a place on
-abbrev pub ArePlacedFrom : ℕ → List (Five × ℕ) → List SocketBytes → Type 0
-ArePlacedFrom from places sockets = (k : SocketId) → lookup (same_five (five_of k)) places ≡ found_from from (names_of (drop from sockets)) k
+-- the names from a place on
+abbrev pub ArePlacedFrom : ℕ → List (Five × ℕ) → List SocketId → Type 0
+ArePlacedFrom from places names = (k : SocketId) → lookup (same_five (five_of k)) places ≡ found_from from (drop from names) k
 
-pub none_placed : (sockets : List SocketBytes) (places : List (Five × ℕ)) (from : ℕ) → places ≡ [] → from ≡ length sockets → ArePlacedFrom from places sockets
-none_placed sockets places from none e k =
-    let back : drop from sockets ≡ [] = drop_past from sockets (omega (arith, e)) in
+pub none_placed : (names : List SocketId) (places : List (Five × ℕ)) (from : ℕ) → places ≡ [] → from ≡ length names → ArePlacedFrom from places names
+none_placed names places from none e k =
+    let back : drop from names ≡ [] = drop_past from names (omega (arith, e)) in
     rw (none, back) refl
 
-pub one_placed : (sockets : List SocketBytes) (d : SocketBytes) (old new : List (Five × ℕ)) (key : Five) (place before after : ℕ) → before ≡ suc place → after ≡ place →
-    place < length sockets → key ≡ five_of (slice_index_or sockets place d).socket → ArePlacedFrom before old sockets →
-    ((q : Five) → lookup (same_five q) new ≡ cond (same_five key q) (Some place) (lookup (same_five q) old)) → ArePlacedFrom after new sockets
-one_placed sockets d old new key place before after b a within named h updates k =
-    let x = slice_index_or sockets place d in
-    let front : drop place sockets ≡ x ∷ drop (suc place) sockets = drop_first sockets place d within in
+pub one_placed : (names : List SocketId) (d : SocketId) (old new : List (Five × ℕ)) (key : Five) (place before after : ℕ) → before ≡ suc place → after ≡ place →
+    place < length names → key ≡ five_of (slice_index_or names place d) → ArePlacedFrom before old names →
+    ((q : Five) → lookup (same_five q) new ≡ cond (same_five key q) (Some place) (lookup (same_five q) old)) → ArePlacedFrom after new names
+one_placed names d old new key place before after b a within named h updates k =
+    let x = slice_index_or names place d in
+    let front : drop place names ≡ x ∷ drop (suc place) names = drop_first names place d within in
     updates (five_of k)
     ∙ ap (λ (q : Five). cond (same_five q (five_of k)) (Some place) (lookup (same_five (five_of k)) old)) named
-    ∙ found_more place x.socket (names_of (drop (suc place) sockets)) k (lookup (same_five (five_of k)) old) (subst (λ n. lookup (same_five (five_of k)) old ≡ found_from n (names_of (drop n sockets)) k) b (h k))
-    ∙ ap (λ xs. found_from place (names_of xs) k) (sym front)
-    ∙ ap (λ n. found_from n (names_of (drop n sockets)) k) (sym a)
+    ∙ found_more place x (drop (suc place) names) k (lookup (same_five (five_of k)) old) (subst (λ n. lookup (same_five (five_of k)) old ≡ found_from n (drop n names) k) b (h k))
+    ∙ ap (λ xs. found_from place xs k) (sym front)
+    ∙ ap (λ n. found_from n (drop n names) k) (sym a)

@@ -1,8 +1,8 @@
 -- Strands counted item by item, and a greedy order by counters as one by bytes.
 use Rattle.std.proofs.Common.{◌≡◌, ℕ, zero, suc, ◌+◌, ◌*◌, ◌<◌, ◌≤◌, Bool, true, false, List, [], ◌∷◌, ◌++◌, length, take, drop, map, not, refl, sym, ap, ◌∙◌, subst, arith, add-one, append_assoc}
-use Rattle.std.specs.Prelude.{◌||◌, if◌then◌else◌, replicate, slice_get, slice_index, slice_index_or, All}
+use Rattle.std.specs.Prelude.{◌||◌, if◌then◌else◌, slice_get, slice_index, slice_index_or, All}
 use Rattle.std.specs.List.{AllByRecursion}
-use Rattle.std.proofs.lemmas.List.{length-map, length-replicate, get_or-replicate, drop_more, take_more, take_all}
+use Rattle.std.proofs.lemmas.List.{length-map, drop_more, take_more, take_all}
 use Rattle.m2_fabric.specs.declared.socket.SocketId.{SocketId}
 use Rattle.m2_fabric.specs.Sockets.{is_among, same_socket}
 use Rattle.m2_journal.specs.declared.entry.Entry.TheVariants as entry
@@ -17,19 +17,32 @@ use Rattle.m2_weave.specs.declared.strand.Strand.{Strand}
 use Rattle.m2_weave.specs.declared.strand.StrandItem.{StrandItem}
 use Rattle.m2_weave.specs.declared.strand.StrandItem.TheVariants.{Noted, Handed}
 use Rattle.m2_weave.specs.declared.table.SocketBytes.{SocketBytes}
-use Rattle.m2_weave.specs.Strands.{EndOf, StrandNow, strand_now, end_in, handed_by, has_opened, judged_by, read_by, read_by_halves}
+use Rattle.m2_weave.specs.Strands.{EndOf, StrandNow, strand_now, end_in, handed_by, has_opened, judged_by, place_of, read_by}
 use Rattle.m2_weave.specs.Rule.{Woven, nothing_at_all, strand_at}
 use Rattle.m2_weave.specs.Counting.{AreNamed, IsNamed, bytes_need, counted, counted_item, counted_items, fit_need, hands, judges, place_in, side_number, writes}
-use Rattle.m2_weave.specs.Table.{KeepsNumbers, KeepsOpened, got_at, lengths_of, names_of, woven_of}
+use Rattle.m2_weave.specs.Table.{got_at, lengths_of, names_of, woven_of}
 use Rattle.m2_weave.specs.Stops.{sizes}
-use Rattle.m2_weave.specs.Tally.{CountsAre, IsCounted, end_at, item_by, number_at}
-use Rattle.m2_weave.proofs.Tallies.{names_count, place_within, total_more}
+use Rattle.m2_weave.specs.Tally.{CountsAre, IsCounted, end_at, from_at, item_by, number_at}
+use Rattle.m2_weave.proofs.Tallies.{names_count, total_more}
 
 -- ---- an item as it is counted
 
 end-is : (sockets : List SocketBytes) (w : Woven) (s : StrandNow) (n : ℕ) (c : Counts) (k : SocketId) → CountsAre sockets w s n c → is_among k (names_of sockets) ≡ true →
     end_at sockets c k ≡ end_in s k
 end-is sockets w s n c k are among = ap (λ b. let e : EndOf = record { socket = k; opener = b } in e) (are.opened k among)
+
+from-at : (b d f g : Bool) (m r x y p : ℕ) → b ≡ d → f ≡ g → m ≡ r → x ≡ y → (if b || f then 0 else m) + x ≡ (if d || g then 0 else r) + y
+from-at true true f g m r x y p e h i j = omega (arith, j)
+from-at true false f g m r x y p e h i j = absurd (cc)
+from-at false true f g m r x y p e h i j = absurd (cc)
+from-at false false true true m r x y p e h i j = omega (arith, j)
+from-at false false true false m r x y p e h i j = absurd (cc)
+from-at false false false true m r x y p e h i j = absurd (cc)
+from-at false false false false m r x y p e h i j = omega (arith, i, j)
+
+from-is : (sockets : List SocketBytes) (w : Woven) (s : StrandNow) (n : ℕ) (c : Counts) (k : SocketId) → CountsAre sockets w s n c → is_among k (names_of sockets) ≡ true →
+    from_at sockets c k ≡ place_of w.strands s n k
+from-is sockets w s n c k are among = from-at c.of_half s.of_half _ _ _ _ _ _ 0 are.of_half (are.opened k among) (are.halves k among) (are.reads k among)
 
 pub item_is : (strands : List Strand) (sockets : List SocketBytes) (s : StrandNow) (n : ℕ) (c : Counts) (i : StrandItem) →
     CountsAre sockets (woven_of strands sockets) s n c → IsNamed (names_of sockets) i →
@@ -41,8 +54,8 @@ item_is strands sockets s n c (Noted (entry.Read k count)) are named =
       counter = 0;
       amount = 0;
     } in
-    ap (λ e. need e (number_at sockets c.reads.items k)) (end-is sockets w s n c k are named)
-    ∙ ap (λ p. need (end_in s k) p) (are.reads k named)
+    ap (λ e. need e (from_at sockets c k)) (end-is sockets w s n c k are named)
+    ∙ ap (λ p. need (end_in s k) p) (from-is sockets w s n c k are named)
 item_is strands sockets s n c (Noted (entry.Wrote k count)) are named =
     let w = woven_of strands sockets in
     let item : EndOf → ℕ → CountedEntry = λ e h. record { need = AtLeast (judges (names_of sockets) k) h; counter = writes (names_of sockets) e; amount = count } in
@@ -59,57 +72,12 @@ pub counts_on : (sockets : List SocketBytes) (w : Woven) (s : StrandNow) (n : �
     CountsAre sockets w s n c → IsCounted sockets (slice_index_or s.items n d) c next e → CountsAre sockets w s (n + 1) next
 counts_on sockets w s n c next d e h are one = record {
   sizes = one.sizes;
-  opened = λ k among. ap (λ (fs : Counts). slice_index_or fs.opened.items (place_in (names_of sockets) k) false) (same-opened) ∙ are.opened k among;
+  of_half = one.of_half ∙ are.of_half;
+  halves = λ k among. ap (λ (fs : Counts). slice_index fs.halves.items (place_in (names_of sockets) k)) (ap (λ o. record next { halves = o }) one.halves) ∙ are.halves k among;
+  opened = λ k among. ap (λ (fs : Counts). slice_index_or fs.opened.items (place_in (names_of sockets) k) false) (ap (λ o. record next { opened = o }) one.opened) ∙ are.opened k among;
   reads = λ k among. omega (arith, one.reads k among, are.reads k among, total_more (read_by k) n s.items d h);
   handed = λ k among. omega (arith, one.handed k among, are.handed k among, total_more (handed_by k) n s.items d h);
   judged = λ k among. omega (arith, one.judged k among, are.judged k among, total_more (judged_by k) n s.items d h);
-}
-  where
-    same-opened : record next { opened = next.opened } ≡ record next { opened = c.opened }
-    same-opened = ap (λ o. record next { opened = o }) one.opened
-
--- ---- the start of a strand
-
-begun : (b f : Bool) (m r p : ℕ) → b ≡ f → m ≡ r → p ≡ (if b then 0 else m) → p ≡ (if f then 0 else r) + 0
-begun true true m r p e n h = omega (arith, h)
-begun true false m r p e n h = absurd (cc)
-begun false true m r p e n h = absurd (cc)
-begun false false m r p e n h = omega (arith, h, n)
-
--- as a strand begins
-pub record Begins (sockets : List SocketBytes) (ss : List StrandNow) (s : StrandNow) (halves : List ℕ) (c : Counts) : Type 0 where
-  pub opened_count : length c.opened.items ≡ length sockets
-  pub opened : KeepsOpened (names_of sockets) (has_opened s) c.opened.items
-  pub halves_count : length halves ≡ length sockets
-  pub halves_are : KeepsNumbers (names_of sockets) (read_by_halves ss) halves
-  pub reads_count : length c.reads.items ≡ length halves
-  pub reads : (p : ℕ) → p < length halves →
-      slice_index c.reads.items p ≡ (if s.of_half || slice_index_or c.opened.items p false then 0 else slice_index halves p)
-  pub handed : c.handed.items ≡ replicate (length sockets) 0
-  pub judged : c.judged.items ≡ replicate (length sockets) 0
-
-zero-at : (sockets : List SocketBytes) (xs : List ℕ) (k : SocketId) → xs ≡ replicate (length sockets) 0 → is_among k (names_of sockets) ≡ true →
-    slice_index xs (place_in (names_of sockets) k) ≡ 0
-zero-at sockets xs k e among =
-    let within : place_in (names_of sockets) k < length sockets = omega (arith, place_within (names_of sockets) k among, names_count sockets) in
-    ap (λ ys. slice_index ys (place_in (names_of sockets) k)) e ∙ get_or-replicate (length sockets) (place_in (names_of sockets) k) 0 0 within
-
-pub begins_so : (sockets : List SocketBytes) (w : Woven) (s : StrandNow) (halves : List ℕ) (c : Counts) → Begins sockets w.strands s halves c → CountsAre sockets w s 0 c
-begins_so sockets w s halves c b = record {
-  sizes = record {
-    opened = b.opened_count;
-    reads = b.reads_count ∙ b.halves_count;
-    handed = ap length b.handed ∙ length-replicate (length sockets) 0;
-    judged = ap length b.judged ∙ length-replicate (length sockets) 0;
-  };
-  opened = b.opened;
-  reads = λ k among.
-      let p = place_in (names_of sockets) k in
-      let within : p < length halves = omega (arith, place_within (names_of sockets) k among, names_count sockets, b.halves_count) in
-      begun (s.of_half || slice_index_or c.opened.items p false) (s.of_half || has_opened s k) (slice_index halves p) (read_by_halves w.strands k)
-      (slice_index c.reads.items p) (ap (λ f. s.of_half || f) (b.opened k among)) (b.halves_are k among) (b.reads p within);
-  handed = λ k among. zero-at sockets c.handed.items k b.handed among;
-  judged = λ k among. zero-at sockets c.judged.items k b.judged among;
 }
 
 -- ---- all items of a strand

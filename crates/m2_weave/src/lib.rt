@@ -2,7 +2,7 @@
 //!
 //! What it is: [`weave`], with its definitions and laws. A [`Strand`] is a journal, or what a half did on a
 //! socket before a side took it (`specs/Strands.antt`); a [`SocketTable`] has what both ends of each socket
-//! have read and written. An entry may come once the other end of its socket has written the bytes that it read;
+//! have read and written, found by [`SocketNames`]. An entry may come once the other end of its socket has written the bytes that it read;
 //! an ask is judged once its half has handed it on; and a half writes once all its asks so far are judged
 //! (`specs/Rule.antt`). What may come may still come later, so by `m2_merge` taking whatever may come finds
 //! an order of all entries exactly where there is one. Where that stops at a read, [`first_stop`] names the
@@ -27,6 +27,6 @@ pub use laws::{
 };
 pub use stopping::first_stop;
 pub use strand::{Strand, StrandItem};
-pub use table::{EndBytes, SocketBytes, SocketTable};
+pub use table::{EndBytes, SocketBytes, SocketNames, SocketTable};
 pub use unfit::{Unfit, Why};
 pub use weaving::{WovenOrder, are_named, weave};

@@ -15,7 +15,7 @@ use m2_fabric::SocketId;
 use m2_journal::Entry;
 
 /// The sum; a sum above 2^64 - 1 is answered as for want of memory.
-fn plus(a: u64, b: u64) -> Result<u64, NoMemory>
+pub(crate) fn plus(a: u64, b: u64) -> Result<u64, NoMemory>
     ensures { IfOk result (λ n. n ≡ a + b) }
 {
     if b > u64::MAX - a {

@@ -29,24 +29,81 @@ pub struct SocketBytes<'a> {
 /// A socket's name as a key: its five numbers.
 type SocketKey = (u32, u16, u32, u16, u32);
 
+/// Names of sockets, each found at once; of a name that stands twice the first. Contracts see the list.
+#[derive(Drop)]
+pub struct SocketNames {
+    names: Vec<SocketId>,
+    places: HashMap<SocketKey, usize>,
+}
+
+impl Model for SocketNames {
+    ghost use Rattle.std.specs.Prelude.{List};
+    ghost use Rattle.m2_fabric.specs.declared.socket.SocketId.{SocketId};
+    ghost use Rattle.m2_weave.specs.Table.{ArePlaces};
+
+    ghost Value = { List SocketId };
+
+    ghost view = { λ t. t.names.items };
+
+    ghost invariant = { λ t. ArePlaces t.places.entries t.names.items };
+}
+
+impl SocketNames {
+    /// These names.
+    pub fn of(alloc: Global, names: Vec<SocketId>) -> Result<SocketNames, NoMemory>
+        ensures { IfOk result (λ t. t ≡ names.items) }
+    {
+        let mut places = HashMap::new(alloc);
+        let count = names.len();
+        for n in 0..count {
+            let place = count - 1 - n;
+            let key = key_of(&names[place]);
+            places.insert(key, place)?;
+        }
+        Ok(SocketNames { names, places })
+    }
+
+    /// How many names there are.
+    pub fn len(&self) -> usize
+        ensures { result ≡ length self.now }
+    {
+        self.names.len()
+    }
+
+    /// Whether a socket is one of them.
+    pub fn has(&self, k: &SocketId) -> bool
+        ensures { result ≡ is_among k.now self.now }
+    {
+        self.places.contains_key(&key_of(k))
+    }
+
+    /// The place of a socket among them; their number where it is none of them.
+    pub fn place(&self, k: &SocketId) -> usize
+        ensures { result ≡ place_in self.now k.now }
+    {
+        let found = self.places.get(&key_of(k)).copied();
+        found.unwrap_or(self.names.len())
+    }
+}
+
 /// Sockets with the bytes of both ends, each found by its name at once; of a name that stands twice the
 /// first. Contracts see the list.
 #[derive(Drop)]
 pub struct SocketTable<'a> {
     sockets: &'a [SocketBytes<'a>],
-    places: HashMap<SocketKey, usize>,
+    names: SocketNames,
 }
 
 impl<'a> Model for SocketTable<'a> {
-    ghost use Rattle.std.specs.Prelude.{List};
+    ghost use Rattle.std.specs.Prelude.{◌≡◌, List};
     ghost use Rattle.m2_weave.specs.declared.table.SocketBytes.{SocketBytes};
-    ghost use Rattle.m2_weave.specs.Table.{ArePlaces, names_of};
+    ghost use Rattle.m2_weave.specs.Table.{names_of};
 
     ghost Value = { List SocketBytes };
 
     ghost view = { λ t. t.sockets.now };
 
-    ghost invariant = { λ t. ArePlaces t.places.entries (names_of t.sockets.now) };
+    ghost invariant = { λ t. t.names ≡ names_of t.sockets.now };
 }
 
 impl<'a> SocketTable<'a> {
@@ -54,14 +111,8 @@ impl<'a> SocketTable<'a> {
     pub fn of(alloc: Global, sockets: &'a [SocketBytes<'a>]) -> Result<SocketTable<'a>, NoMemory>
         ensures { IfOk result (λ t. t ≡ sockets.now) }
     {
-        let mut places = HashMap::new(alloc);
-        let count = sockets.len();
-        for n in 0..count {
-            let place = count - 1 - n;
-            let key = key_of(&sockets[place].socket);
-            places.insert(key, place)?;
-        }
-        Ok(SocketTable { sockets, places })
+        let names = SocketNames::of(alloc, names_of(alloc, sockets)?)?;
+        Ok(SocketTable { sockets, names })
     }
 
     /// The sockets in order.
@@ -82,8 +133,19 @@ impl<'a> SocketTable<'a> {
     pub fn has(&self, k: &SocketId) -> bool
         ensures { result ≡ is_among k.now (names_of self.now) }
     {
-        self.places.contains_key(&key_of(k))
+        self.names.has(k)
     }
+}
+
+/// The names of these sockets.
+fn names_of(alloc: Global, sockets: &[SocketBytes<'_>]) -> Result<Vec<SocketId>, NoMemory>
+    ensures { IfOk result (λ v. v.items ≡ names_of sockets.now) }
+{
+    let mut names = Vec::with_capacity(alloc, sockets.len())?;
+    for s in sockets {
+        names.push(s.socket)?;
+    }
+    Ok(names)
 }
 
 /// The five numbers of a socket's name.
@@ -97,8 +159,7 @@ fn key_of(k: &SocketId) -> SocketKey
 pub(crate) fn place_in(sockets: &SocketTable<'_>, k: &SocketId) -> usize
     ensures { result ≡ place_in (names_of sockets.now) k.now }
 {
-    let found = sockets.places.get(&key_of(k)).copied();
-    found.unwrap_or(sockets.len())
+    sockets.names.place(k)
 }
 
 /// The place of a socket that is in the table.

@@ -1,6 +1,6 @@
 //! Numbers that are counted of each socket of a table.
 
-ghost use Rattle.std.specs.Prelude.{◌≡◌, ℕ, ◌+◌, ◌*◌, ◌<◌, ◌^◌, ◌||◌, Bool, true, false, length, if◌then◌else◌, drop, map, take, replicate, slice_get, slice_index, slice_index_or, IfOk, OnOk, Decides};
+ghost use Rattle.std.specs.Prelude.{◌≡◌, ◌+◌, ◌*◌, ◌<◌, ◌^◌, ◌||◌, true, false, length, if◌then◌else◌, drop, map, take, replicate, slice_get, slice_index, slice_index_or, IfOk, OnOk, Decides};
 ghost use Rattle.std.specs.List.{list_any};
 ghost use Rattle.m2_fabric.specs.Sockets.{is_among, same_socket};
 ghost use Rattle.m2_weave.specs.Counting.{bytes_need, place_in, side_number};
@@ -111,26 +111,22 @@ pub(crate) fn zeros(alloc: Global, n: usize) -> Result<Vec<u64>, NoMemory>
     Ok(Vec::from_elem(alloc, 0, n)?)
 }
 
-/// Which sockets of the table these items have opened.
-pub(crate) fn opened_by(
-    alloc: Global,
-    sockets: &SocketTable<'_>,
-    items: &[StrandItem],
-) -> Result<Vec<bool>, NoMemory>
-    ensures count { IfOk result (λ v. length v.items ≡ length sockets.now) }
-    ensures flags { IfOk result (λ v. KeepsOpened (names_of sockets.now) (λ k. list_any (opens k) items.now) v.items) }
+/// Sets the flags of the sockets of the table that these items have opened, where none is set before.
+pub(crate) fn set_opened(flags: &mut Vec<bool>, sockets: &SocketTable<'_>, items: &[StrandItem])
+    requires count { length flags.old.items ≡ length sockets.now }
+    requires clear { KeepsOpened (names_of sockets.now) (λ _. false) flags.old.items }
+    ensures count { length flags.new.items ≡ length sockets.now }
+    ensures flags { KeepsOpened (names_of sockets.now) (λ k. list_any (opens k) items.now) flags.new.items }
 {
-    let mut flags = unset(alloc, sockets.len())?;
     for item in items {
         if let StrandItem::Noted(Entry::Opened { socket }) = *item {
-            set(&mut flags, sockets, &socket);
+            set(flags, sockets, &socket);
         }
     }
-    Ok(flags)
 }
 
 /// So many flags that aren't set.
-fn unset(alloc: Global, n: usize) -> Result<Vec<bool>, NoMemory>
+pub(crate) fn unset(alloc: Global, n: usize) -> Result<Vec<bool>, NoMemory>
     ensures { IfOk result (λ v. v.items ≡ replicate n false) }
 {
     Ok(Vec::from_elem(alloc, false, n)?)
@@ -147,27 +143,6 @@ fn set(flags: &mut Vec<bool>, sockets: &SocketTable<'_>, socket: &SocketId)
     if place < sockets.len() {
         flags[place] = true;
     }
-}
-
-/// Where the reads of a strand begin on each socket: a journal goes on where a half has left off on a
-/// socket that it didn't open.
-pub(crate) fn begin(
-    alloc: Global,
-    of_half: bool,
-    opened: &[bool],
-    halves: &[u64],
-) -> Result<Vec<u64>, NoMemory>
-    requires count { length opened.now ≡ length halves.now }
-    ensures count { IfOk result (λ v. length v.items ≡ length halves.now) }
-    ensures numbers { IfOk result (λ v. (p : ℕ) → p < length halves.now →
-        slice_index v.items p ≡ (if of_half || slice_index_or opened.now p false then 0 else slice_index halves.now p)) }
-{
-    let mut numbers = Vec::with_capacity(alloc, halves.len())?;
-    for p in 0..halves.len() {
-        let number = if of_half || opened[p] { 0 } else { halves[p] };
-        numbers.push(number)?;
-    }
-    Ok(numbers)
 }
 
 /// Whether the two have the same bytes.

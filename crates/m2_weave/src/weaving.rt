@@ -1,6 +1,6 @@
 //! The weaving of strands.
 
-ghost use Rattle.std.specs.Prelude.{◌≡◌, ◌<◌, ◌^◌, length, map, IfOk, Decides};
+ghost use Rattle.std.specs.Prelude.{◌≡◌, ◌<◌, ◌^◌, length, map, IfOk, OnOk, Decides};
 ghost use Rattle.std.specs.List.{AllByRecursion};
 ghost use Rattle.m2_merge.specs.Counted.{entries_of};
 ghost use Rattle.m2_merge.specs.Merging.{even};
@@ -8,14 +8,13 @@ ghost use Rattle.m2_merge.specs.Order.{IsGreedy, reached};
 ghost use Rattle.m2_weave.specs.Counting.{AreNamed, IsNamed, counted, counted_items};
 ghost use Rattle.m2_weave.specs.Rule.{by_bytes, strand_at};
 ghost use Rattle.m2_weave.specs.Stops.{sizes};
-ghost use Rattle.m2_weave.specs.Strands.{read_by_halves, strand_now};
-ghost use Rattle.m2_weave.specs.Table.{KeepsNumbers, lengths_of, names_of, woven_of};
-ghost use Rattle.m2_weave.specs.Tally.{CountsAre};
+ghost use Rattle.m2_weave.specs.Strands.{strand_now};
+ghost use Rattle.m2_weave.specs.Table.{lengths_of, names_of, woven_of};
+ghost use Rattle.m2_weave.specs.Tally.{CountsAre, IsClear};
 
 use crate::counts::Counts;
 use crate::strand::{Strand, StrandItem};
 use crate::table::SocketTable;
-use crate::tally::{begin, opened_by, read_by_halves, zeros};
 use m2_bytes::{Items, NoMemory};
 use m2_journal::Entry;
 use m2_merge::{CountedStrand, merge};
@@ -30,32 +29,6 @@ pub struct WovenOrder {
     pub whole: bool,
 }
 
-/// The counts before the first item of a strand.
-fn counts_of(
-    alloc: Global,
-    strands: &[Strand],
-    sockets: &SocketTable<'_>,
-    halves: &[u64],
-    k: usize,
-) -> Result<Counts, NoMemory>
-    requires strand { k < length strands.now }
-    requires count { length halves.now ≡ length sockets.now }
-    requires halves { KeepsNumbers (names_of sockets.now) (read_by_halves (map strand_now strands.now)) halves.now }
-    ensures { IfOk result (CountsAre sockets.now (woven_of strands.now sockets.now) (strand_at (woven_of strands.now sockets.now) k) 0) }
-{
-    let s = &strands[k];
-    let opened = opened_by(alloc, sockets, s.items.as_slice())?;
-    let reads = begin(alloc, s.of_half, &opened, halves)?;
-    let handed = zeros(alloc, sockets.len())?;
-    let judged = zeros(alloc, sockets.len())?;
-    Ok(Counts {
-        opened,
-        reads,
-        handed,
-        judged,
-    })
-}
-
 /// The items of a strand as entries of a merge.
 fn count_items(
     alloc: Global,
@@ -68,8 +41,10 @@ fn count_items(
     requires few { length sockets.now < 2 ^ 60 }
     requires named { AreNamed (names_of sockets.now) (woven_of strands.now sockets.now) }
     requires counts { CountsAre sockets.now (woven_of strands.now sockets.now) (strand_at (woven_of strands.now sockets.now) k) 0 counts.old }
-    ensures { IfOk result (λ c. c.entries.items ≡ counted_items (names_of sockets.now) (woven_of strands.now sockets.now)
+    ensures items { IfOk result (λ c. c.entries.items ≡ counted_items (names_of sockets.now) (woven_of strands.now sockets.now)
         (strand_at (woven_of strands.now sockets.now) k) 0 (strand_at (woven_of strands.now sockets.now) k).items) }
+    ensures counts { OnOk result (CountsAre sockets.now (woven_of strands.now sockets.now) (strand_at (woven_of strands.now sockets.now) k)
+        (length (strand_at (woven_of strands.now sockets.now) k).items) counts.new) }
 {
     let items = strands[k].items.as_slice();
     let mut entries = Items::empty(alloc);
@@ -83,6 +58,28 @@ fn count_items(
     Ok(CountedStrand { entries })
 }
 
+/// A strand by counters, between others.
+fn count_strand(
+    alloc: Global,
+    strands: &[Strand],
+    sockets: &SocketTable<'_>,
+    counts: &mut Counts,
+    k: usize,
+) -> Result<CountedStrand, NoMemory>
+    requires strand { k < length strands.now }
+    requires few { length sockets.now < 2 ^ 60 }
+    requires named { AreNamed (names_of sockets.now) (woven_of strands.now sockets.now) }
+    requires clear { IsClear sockets.now (map strand_now strands.now) counts.old }
+    ensures items { IfOk result (λ c. c.entries.items ≡ counted_items (names_of sockets.now) (woven_of strands.now sockets.now)
+        (strand_at (woven_of strands.now sockets.now) k) 0 (strand_at (woven_of strands.now sockets.now) k).items) }
+    ensures clear { OnOk result (IsClear sockets.now (map strand_now strands.now) counts.new) }
+{
+    counts.open(strands, sockets, k);
+    let strand = count_items(alloc, strands, sockets, counts, k)?;
+    counts.clear(strands, sockets, k);
+    Ok(strand)
+}
+
 /// All strands by counters.
 fn count_all(
     alloc: Global,
@@ -93,11 +90,10 @@ fn count_all(
     requires named { AreNamed (names_of sockets.now) (woven_of strands.now sockets.now) }
     ensures { IfOk result (λ v. entries_of v.items ≡ counted (names_of sockets.now) (woven_of strands.now sockets.now)) }
 {
-    let halves = read_by_halves(alloc, sockets, strands)?;
+    let mut counts = Counts::none(alloc, strands, sockets)?;
     let mut all = Vec::with_capacity(alloc, strands.len())?;
     for k in 0..strands.len() {
-        let mut counts = counts_of(alloc, strands, sockets, &halves, k)?;
-        let strand = count_items(alloc, strands, sockets, &mut counts, k)?;
+        let strand = count_strand(alloc, strands, sockets, &mut counts, k)?;
         all.push(strand)?;
     }
     Ok(all)
@@ -178,8 +174,8 @@ pub fn are_named(strands: &[Strand], sockets: &SocketTable<'_>) -> bool
 
 /// Weaves strands whose sockets are all in the table: whatever may come is taken, until nothing may. So all
 /// items come exactly where there is an order of all of them by this rule; else the order goes as far as any
-/// order goes. It takes time in proportion to the bytes and the items, and to the strands times the sockets
-/// of the table. Counts above 2^64 - 1 are answered as for want of memory.
+/// order goes. It takes time in proportion to the bytes, the items, the strands and the sockets of the table.
+/// Counts above 2^64 - 1 are answered as for want of memory.
 pub fn weave(
     alloc: Global,
     strands: &[Strand],

@@ -1,7 +1,0 @@
-use Rattle.std.proofs.Common.{◌-◌, length}
-use Rattle.m2_weave.proofs.Places.{ArePlacedFrom}
-use Rattle.m2_weave.proofs.table.SocketTable.of.Given as goal
-
--- the last sockets have their places
-abbrev pub invariant-loop-n : goal.invariant-loop-n
-invariant-loop-n l = ArePlacedFrom (length l.sockets - l.n) l.places.entries l.sockets
