@@ -80,6 +80,11 @@ pub record HasRoomToClose (r : Rooms) : Type 0 where
   pub entries : 0 < r.entries
   pub parcels : 2 ≤ r.parcels
 
+-- a socket that is opened fits: its entry, and its end among those that were the feed
+pub record FitsSocket (r : Rooms) : Type 0 where
+  pub entries : 0 < r.entries
+  pub ends : 0 < r.ends
+
 -- ---- the plan
 
 abbrev pub planned_too : PlanStep → RecordNow → RecordNow

@@ -3,9 +3,10 @@
 ghost use Rattle.std.specs.Prelude.{◌≡◌, ◌<◌, ◌≤◌, ◌++◌, ◌∷◌, [], OnOk};
 ghost use Rattle.m2_answers.specs.declared.cookie.TheConstants.{MOST_PLACES};
 ghost use Rattle.m2_live.specs.Waits.{AreWaits};
-ghost use Rattle.m2_record.specs.Calls.{AddsStep, HasNoLess, HasRoomFor, IsSameButRoom};
+ghost use Rattle.m2_record.specs.Calls.{AddsStep, FitsSocket, HasNoLess, HasRoomFor, IsSameButRoom};
 ghost use Rattle.m2_record.specs.IsRecord.{CanBePlanned, new_record};
 
+use crate::connecting::room_for_socket;
 use m2_addr::Addr;
 use m2_bytes::{Items, NoMemory, Told};
 use m2_core::Core;
@@ -147,5 +148,14 @@ impl<E: End> Record<E> {
         self.journal.reserve(entries as usize)?;
         self.parcels.reserve(entries as usize)?;
         Ok(())
+    }
+
+    /// Makes room for a socket that is opened, so that [`connected`](Record::connected) can't fail.
+    pub fn reserve_socket(&mut self) -> Result<(), NoMemory>
+        ensures only { IsSameButRoom self.old self.new }
+        ensures more { HasNoLess self.old.room self.new.room }
+        ensures ok { OnOk result (FitsSocket self.new.room) }
+    {
+        room_for_socket(&mut self.journal, &mut self.spent)
     }
 }
