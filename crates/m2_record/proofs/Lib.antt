@@ -30,3 +30,4 @@ pub mod Answered
 pub mod Spending
 pub mod TakenOver
 pub mod Arriving
+pub mod Handed

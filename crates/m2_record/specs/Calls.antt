@@ -10,7 +10,6 @@ use Rattle.m2_live.specs.Calls.{after_fault, after_posted, live_with}
 use Rattle.m2_live.specs.Waits.{begun, not_above, stepped}
 use Rattle.m2_core.specs.Asking.{HasAsked, LeavesAsk, LeavesPass}
 use Rattle.m2_core.specs.Calls.{IsOpening, after_dial, after_down, after_opened, is_exhausted}
-use Rattle.m2_core.specs.CoreNow.{CoreNow}
 use Rattle.m2_core.specs.Composing.{HasAcknowledged, HasAnswered}
 use Rattle.m2_core.specs.Moves.{HasWritten}
 use Rattle.m2_core.specs.Numbering.{HasNumbered}

@@ -4,9 +4,9 @@ use Rattle.std.specs.Prelude.{◌≡◌, ℕ, ◌-◌, false, Option, Some, None
 use Rattle.m2_bytes.specs.declared.memory.NoMemory as memory
 use Rattle.m2_live.specs.LiveNow as live
 use Rattle.m2_live.specs.Hearing.{raised_by}
-use Rattle.m2_core.specs.CoreNow.{CoreNow}
 use Rattle.m2_core.specs.Granting.{Throttled}
 use Rattle.m2_core.specs.ToCompose.{to_compose}
+use Rattle.m2_dispatcher.specs.Parcel.{IsOwned}
 use Rattle.m2_feed.specs.FeedNow.{FeedNow}
 use Rattle.m2_feed.specs.declared.answers.FeedWrite.{FeedWrite}
 use Rattle.m2_feed.specs.declared.answers.FeedWrite.TheVariants as put
@@ -198,3 +198,8 @@ IfMemory answer P = Unit {0}
 abbrev pub StepsAs : Stepped → Worked → RecordNow → RecordNow → Type 0
 StepsAs stepped.NoMemory w old new = NothingDone old new
 StepsAs answer w old new = (mid : RecordNow) × IsSameButRoom old mid × TakesDue w mid new
+
+-- a parcel that a step hands out was granted by the throttle whose word lies there
+abbrev pub IsHandedOwned : Place → Stepped → Type 0
+IsHandedOwned place (stepped.Hand x) = IsOwned place x
+IsHandedOwned place answer = Unit {0}

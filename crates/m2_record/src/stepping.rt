@@ -6,7 +6,7 @@ ghost use Rattle.m2_shared.specs.Place.{IsAlone};
 ghost use Rattle.m2_record.specs.Calls.{HasRoomFor, Owns};
 ghost use Rattle.m2_record.specs.Due.{has_parcel, has_plan, next_step};
 ghost use Rattle.m2_record.specs.declared.stepped.Stepped.TheVariants as stepped;
-ghost use Rattle.m2_record.specs.Stepping.{HandsAs, IfMemory, IsSameWork, NothingDone, PlansAs, StepsAs, TakesDue, answer_composed, answer_framed, answer_planned, answer_put, returned_planned, worked};
+ghost use Rattle.m2_record.specs.Stepping.{HandsAs, IfMemory, IsHandedOwned, IsSameWork, NothingDone, PlansAs, StepsAs, TakesDue, answer_composed, answer_framed, answer_planned, answer_put, returned_planned, worked};
 
 use crate::composing::Composed;
 use crate::due::Due;
@@ -38,6 +38,7 @@ impl<E: End> Record<E> {
         ensures steps { StepsAs result (worked now result work.old work.new) self.old self.new }
         ensures top { self.new.core.top ≤ work.new.number_pass.now.least }
         ensures owned { Owns work.old.throttle.now.place self.new }
+        ensures handed { IsHandedOwned work.old.throttle.now.place result }
         ensures number_place { work.new.number_pass.now.place ≡ work.old.number_pass.now.place }
         ensures take_place { work.new.take_pass.now.place ≡ work.old.take_pass.now.place }
         ensures same { IsSameWork work.old work.new }
