@@ -1,5 +1,5 @@
 -- A parcel that a step of a record hands out was granted by the throttle that owns what the record holds.
-use Rattle.std.proofs.Common.{◌≡◌, ℕ, Bool, true, false, List, [], ◌∷◌, Option, Some, None, Ok, Err, refl, sym, ap, subst, ◌∙◌}
+use Rattle.std.proofs.Common.{◌≡◌, Bool, true, false, List, ◌∷◌, Option, Some, None, Ok, Err, refl, sym, ap, subst, ◌∙◌}
 use Rattle.std.specs.Prelude.{Result}
 use Rattle.std.specs.List.{AllByRecursion}
 use Rattle.m2_bytes.specs.declared.memory.NoMemory as memory
@@ -23,7 +23,7 @@ use Rattle.m2_record.specs.declared.framing.Framed.{Framed}
 use Rattle.m2_record.specs.declared.framing.Framed.TheVariants as framed
 use Rattle.m2_record.specs.declared.stepped.Stepped.{Stepped}
 use Rattle.m2_record.specs.declared.stepped.Stepped.TheVariants as stepped
-use Rattle.m2_record.specs.Calls.{HandsOut, IsSameButRoom, Owns}
+use Rattle.m2_record.specs.Calls.{IsSameButRoom, Owns}
 use Rattle.m2_record.specs.Due.{due_step}
 use Rattle.m2_record.specs.Reading.{answer_by, answer_heard, answer_read, fault_read, faulted_or}
 use Rattle.m2_record.specs.RecordNow.{RecordNow}

@@ -31,3 +31,4 @@ pub mod Spending
 pub mod TakenOver
 pub mod Arriving
 pub mod Handed
+pub mod Remembered

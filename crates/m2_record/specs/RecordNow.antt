@@ -1,5 +1,5 @@
 -- What contracts see of a record. This project's own.
-use Rattle.std.specs.Prelude.{ℕ, Bool, List, [], ◌∷◌, ◌++◌, map, Option, Some, None}
+use Rattle.std.specs.Prelude.{◌≡◌, ℕ, Bool, List, [], ◌∷◌, ◌++◌, map, Option, Some, None}
 use Rattle.m2_live.specs.declared.waits.Waits.{Waits}
 use Rattle.m2_core.specs.CoreNow.{CoreNow}
 use Rattle.m2_dispatcher.specs.declared.parcel.Parcel.{Parcel}
@@ -11,8 +11,10 @@ use Rattle.m2_journal.specs.declared.entry.Entry.{Entry}
 use Rattle.m2_journal.specs.declared.facts.PlanStep.{PlanStep}
 use Rattle.m2_journal.specs.Items.{Sources}
 use Rattle.m2_journal.specs.Plan.{planned}
+use Rattle.m2_journal.specs.SideFacts.{SideFacts}
 use Rattle.m2_journal.specs.State.{Delivery, letter, discarded, remote_reset}
 use Rattle.m2_message.specs.Message.{content_of}
+use Rattle.m2_session.specs.declared.session.Session.{Session}
 use Rattle.m2_trail.specs.Trails.{TrailNow}
 use Rattle.m2_record.specs.Sources.{Grounds, sources_of}
 
@@ -50,6 +52,12 @@ pub record RecordNow : Type 0 where
   -- the moment of the last productive entry
   pub last : ℕ
   pub room : Rooms
+
+-- a session is with that peer, by that policy
+pub record IsSessionOf (f : SideFacts) (s : Session) : Type 0 where
+  pub mine : s.mine ≡ f.mine
+  pub peer : s.peer ≡ f.peer
+  pub policy : s.policy ≡ f.policy
 
 -- ---- its ends
 

@@ -3,14 +3,14 @@
 ghost use Rattle.std.specs.Prelude.{◌≡◌, map};
 ghost use Rattle.m2_record.specs.Due.{on_feed};
 ghost use Rattle.m2_record.specs.IsRecord.{IsRecord};
-ghost use Rattle.m2_record.specs.RecordNow.{composed_on, feed_end};
+ghost use Rattle.m2_record.specs.RecordNow.{IsSessionOf, composed_on, feed_end};
 ghost use Rattle.m2_trail.specs.Trails.{trail_now};
 ghost use Rattle.std.specs.Option.{option_map, option_to_list};
 
 use crate::record::Record;
 use m2_fabric::End;
 use m2_feed::Feed;
-use m2_journal::{EntryList, NodeFacts, PlanList};
+use m2_journal::{EntryList, NodeFacts, PlanList, replays_are_sound};
 use m2_session::Session;
 use m2_trail::TrailList;
 
@@ -65,10 +65,14 @@ impl<E: End> Record<E> {
         self.place
     }
 
-    /// What is remembered of the peer.
+    /// What is remembered of the peer. The addresses and the policy in it are those with which the record
+    /// was made.
     pub fn session(&self) -> &Session
-        ensures { result.now ≡ self.now.core.live.session }
+        ensures session { result.now ≡ self.now.core.live.session }
+        ensures facts { IsSessionOf self.now.core.facts result.now }
     {
+        self.is_record();
+        replays_are_sound();
         self.core.session()
     }
 
