@@ -1,6 +1,6 @@
 -- What a session's step leaves of what it can change: the effects of the table, in its order. What they hand out is the
 -- caller's.
-use Rattle.std.specs.Prelude.{◌≡◌, Bool, true, false, Option, Some, None, if◌then◌else◌}
+use Rattle.std.specs.Prelude.{◌≡◌, ℕ, Bool, true, false, Option, Some, None, if◌then◌else◌}
 use Rattle.m2_fabric.specs.End.{SeenEnd, after_closing}
 use Rattle.m2_feed.specs.FeedNow.{FeedNow}
 use Rattle.m2_queues.specs.OutQueues.{Outgoing, after_requeue, after_discard, after_renumber, Queue}
@@ -47,7 +47,7 @@ abbrev pub effects_of : Option Event → Session → Effects
 effects_of (Some e) s = (step_of s e).effects
 effects_of None s = nothing
 
--- ---- the queue alone
+-- ---- the numbers alone
 
 abbrev pub moved_queue : Effects → Queue → Queue
 moved_queue e q =
@@ -57,6 +57,10 @@ moved_queue e q =
 
 abbrev pub moved : Effects → Outgoing → Outgoing
 moved e out = record out { queue = moved_queue e out.queue }
+
+-- the last accepted one
+abbrev pub moved_last : Effects → ℕ → ℕ
+moved_last e last = if e.set_back then 0 else last
 
 -- ---- what the caller is handed
 

@@ -6,7 +6,7 @@ ghost use Rattle.m2_session.specs.Steps as table;
 ghost use Rattle.m2_session.specs.Steps.{HasFollower, step_of};
 ghost use Rattle.m2_shared.specs.Place.{IsAlone};
 ghost use Rattle.m2_live.specs.LiveNow.{IsOwned, held, is_waiting};
-ghost use Rattle.m2_live.specs.Effects.{IsAftermath, moved, tells};
+ghost use Rattle.m2_live.specs.Effects.{IsAftermath, moved, moved_last, tells};
 ghost use Rattle.m2_live.specs.Calls.{after_counted};
 
 use crate::aftermath::Aftermath;
@@ -74,15 +74,17 @@ pub fn give_back(granted: &mut Option<Grant>, throttle: &Throttle, pass: &mut Ta
     }
 }
 
-/// What effects do to the queue.
-fn move_queue(effects: &Effects, out: &mut OutQueues)
-    ensures { out.new ≡ moved effects.now out.old }
+/// What effects do to the queue, and to the last accepted number.
+fn move_numbers(effects: &Effects, out: &mut OutQueues, last: &mut u64)
+    ensures queue { out.new ≡ moved effects.now out.old }
+    ensures last { last.new ≡ moved_last effects.now last.old }
 {
     if effects.requeue {
         out.requeue();
     }
     if effects.set_back {
         out.renumber();
+        *last = 0;
     }
     if effects.discard {
         out.discard();
@@ -113,10 +115,7 @@ impl<E: End> Live<E> {
     {
         let (session, effects) = step(self.session, event);
         self.session = session;
-        move_queue(&effects, &mut self.out);
-        if effects.set_back {
-            self.last = 0;
-        }
+        move_numbers(&effects, &mut self.out, &mut self.last);
         let mut closed = None;
         if effects.close {
             give_back(&mut self.granted, throttle, pass);
@@ -141,10 +140,7 @@ impl<E: End> Live<E> {
     {
         let (session, effects) = step(self.session, event);
         self.session = session;
-        move_queue(&effects, &mut self.out);
-        if effects.set_back {
-            self.last = 0;
-        }
+        move_numbers(&effects, &mut self.out, &mut self.last);
         let mut closed = None;
         if effects.close {
             self.resumed = 0;
