@@ -1,0 +1,13 @@
+pub mod Sums
+pub mod Names
+pub mod Journals
+pub mod Halves
+pub mod Walk
+pub mod Scene
+pub mod Cuts
+pub mod Moved
+pub mod Fits
+pub mod Along
+pub mod Bytes
+pub mod Linked
+pub mod Whole

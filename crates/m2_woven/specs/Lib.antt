@@ -1,0 +1,4 @@
+pub mod Actors
+pub mod Order
+pub mod Link
+pub mod Laws
