@@ -1,0 +1,4 @@
+pub mod Schedule
+pub mod Verb
+pub mod Lines
+pub mod Reading

@@ -1,0 +1,22 @@
+//! What a side of a session did and where it stands, as lines of text.
+//!
+//! What it is: the lines of which the trace of two records is made, one function for each kind of thing:
+//! [`put_start`], [`put_plan`], [`put_journal`], [`put_trail`], [`put_end`], [`put_session`] and
+//! [`put_handed`]; and the words of which lines are made. A line begins with the side and what it tells of;
+//! docs/PROTOCOL.md has them all. What it isn't: a record, or the order in which the lines of a trace stand
+//! (`m2_record_trace`).
+//!
+//! Each call appends its lines. On Err, for want of memory, some of them may have been appended.
+#![tactic(auto)]
+
+mod ends;
+mod entries;
+mod sides;
+mod trails;
+mod words;
+
+pub use ends::put_end;
+pub use entries::put_journal;
+pub use sides::{put_handed, put_plan, put_session, put_start};
+pub use trails::put_trail;
+pub use words::{put_bytes, put_flag, put_head, put_number, put_socket};
