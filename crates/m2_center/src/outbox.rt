@@ -1,0 +1,168 @@
+//! Where the parcels of a center's records go.
+
+ghost use Rattle.std.specs.Prelude.{◌≡◌, ◌-◌, [], None, true, IfOk, IfErr};
+ghost use Rattle.m2_dispatcher.specs.Letters.{IsOwnedLetter};
+ghost use Rattle.m2_dispatcher.specs.Parcel.{IsOwned};
+ghost use Rattle.m2_shared.specs.Place.{IsAlone};
+ghost use Rattle.m2_center.specs.Outbox.{Dispatches, IsFast, OwnsHeld, Puts, Retries, Takes, is_free, returned, returned_again, returned_for};
+
+use m2_dispatcher::{Dispatcher, Letter, Parcel};
+use m2_policy::Path;
+use m2_shared::{TakePass, Throttle};
+use std::alloc::Global;
+use std::collections::VecDeque;
+use std::marker::Model;
+
+/// How many parcels the mail holds at most.
+pub const MOST_MAIL: usize = 1024;
+
+/// Where the parcels of a center's records go: a letter of a fast kind is dispatched at once, each other
+/// parcel goes into the mail. A letter that the dispatcher couldn't take for want of memory is held, and
+/// nothing more is put before it has gone. It can't be dropped, since letters can't.
+///
+/// Maker: [`new`](Outbox::new). Looks: [`is_free`](Outbox::is_free), [`fast`](Outbox::fast). In:
+/// [`put`](Outbox::put), and [`retry`](Outbox::retry) for the letter that is held. Out:
+/// [`take`](Outbox::take). The end: [`finish`](Outbox::finish).
+pub struct Outbox<D> {
+    fast: D,
+    mail: VecDeque<Parcel>,
+    held: Option<Letter>,
+}
+
+impl<D> Model for Outbox<D> {
+    ghost use Rattle.std.specs.Prelude.{◌≤◌};
+    ghost use Rattle.std.specs.VecDeque.{deque_capacity};
+    ghost use Rattle.m2_center.specs.Outbox.{OutboxNow, IsFastHeld};
+    ghost use Rattle.m2_center.specs.declared.outbox.TheConstants.{MOST_MAIL};
+
+    ghost Value = { OutboxNow D };
+
+    ghost view = { λ o. record { fast = o.fast; mail = o.mail.items; held = o.held } };
+
+    ghost invariant = { λ o. (MOST_MAIL ≤ deque_capacity o.mail) × IsFastHeld o.held };
+}
+
+impl<D> Outbox<D> {
+    /// Nothing was put. Err hands the dispatcher of fast kinds back, for want of memory.
+    pub fn new(alloc: Global, fast: D) -> Result<Outbox<D>, D>
+        ensures ok { IfOk result (λ o. o ≡ record { fast = fast; mail = []; held = None }) }
+        ensures err { IfErr result (λ back. back ≡ fast) }
+    {
+        let mut mail = VecDeque::new(alloc);
+        if mail.reserve(MOST_MAIL).is_err() {
+            mail.destroy_empty();
+            return Err(fast);
+        }
+        Ok(Outbox {
+            fast,
+            mail,
+            held: None,
+        })
+    }
+
+    /// The dispatcher of fast kinds.
+    pub fn fast(&self) -> &D
+        ensures { result.now ≡ self.now.fast }
+    {
+        &self.fast
+    }
+
+    /// Whether a parcel may be put: no letter is held, and the mail isn't full.
+    pub fn is_free(&self) -> bool
+        ensures { result ≡ is_free self.now }
+    {
+        self.held.is_none() && self.mail.len() < MOST_MAIL
+    }
+
+    /// The parcel that is first in the mail goes; none exactly where the mail is empty.
+    pub fn take(&mut self) -> Option<Parcel>
+        ensures { Takes result self.old self.new }
+    {
+        self.mail.pop_front()
+    }
+
+    /// The dispatcher of fast kinds, and all parcels that it wasn't called with: those of the mail in order,
+    /// and the letter that is held.
+    pub fn finish(self) -> (D, VecDeque<Parcel>, Option<Letter>)
+        ensures fast { result.0 ≡ self.fast }
+        ensures mail { result.1.items ≡ self.mail }
+        ensures held { result.2 ≡ self.held }
+    {
+        let Outbox { fast, mail, held } = self;
+        (fast, mail, held)
+    }
+}
+
+impl<D: Dispatcher> Outbox<D> {
+    /// Takes a parcel. A letter of a fast kind is dispatched, and its grant given back; where the dispatcher
+    /// lacks memory it is held. Each other parcel is last in the mail.
+    pub fn put(&mut self, parcel: Parcel, throttle: &Throttle, pass: &mut TakePass)
+        requires free { is_free self.old ≡ true }
+        requires pass { pass.old.place ≡ throttle.now.place }
+        requires owned { IsOwned throttle.now.place parcel }
+        ensures puts { Puts D.heard parcel self.old self.new }
+        ensures place { pass.new.place ≡ pass.old.place }
+        ensures word { IsAlone throttle.now.place → pass.new.word ≡ pass.old.word - returned parcel self.new.held }
+    {
+        match parcel {
+            Parcel::Letter(letter) => match letter.key.path {
+                Path::Fast => self.dispatch(letter, throttle, pass),
+                Path::Queued => self.mail.push_back_reserved(Parcel::Letter(letter)),
+            },
+            Parcel::Discard { peer } => self.mail.push_back_reserved(Parcel::Discard { peer }),
+            Parcel::RemoteReset { peer } => {
+                self.mail.push_back_reserved(Parcel::RemoteReset { peer })
+            }
+        }
+    }
+}
+
+impl<D: Dispatcher> Outbox<D> {
+    /// Tries the letter that is held again, where one is.
+    pub fn retry(&mut self, throttle: &Throttle, pass: &mut TakePass)
+        requires pass { pass.old.place ≡ throttle.now.place }
+        requires owned { OwnsHeld throttle.now.place self.old.held }
+        ensures retries { Retries D.heard self.old self.new }
+        ensures place { pass.new.place ≡ pass.old.place }
+        ensures word { IsAlone throttle.now.place → pass.new.word ≡ pass.old.word - returned_again self.old.held self.new.held }
+    {
+        if let Some(letter) = self.held.take() {
+            self.dispatch(letter, throttle, pass);
+        }
+    }
+
+    /// Dispatches a letter of a fast kind, or holds it.
+    fn dispatch(&mut self, letter: Letter, throttle: &Throttle, pass: &mut TakePass)
+        requires none { self.old.held ≡ None }
+        requires kind { IsFast letter }
+        requires pass { pass.old.place ≡ throttle.now.place }
+        requires owned { IsOwnedLetter throttle.now.place letter }
+        ensures dispatches { Dispatches D.heard letter self.old self.new }
+        ensures place { pass.new.place ≡ pass.old.place }
+        ensures word { IsAlone throttle.now.place → pass.new.word ≡ pass.old.word - returned_for letter self.new.held }
+    {
+        let Letter {
+            peer,
+            key,
+            number,
+            message,
+            grant,
+        } = letter;
+        match self.fast.message(peer, key, number, message) {
+            Ok(()) => throttle.give(pass, grant),
+            Err(message) => {
+                let letter = Letter {
+                    peer,
+                    key,
+                    number,
+                    message,
+                    grant,
+                };
+                match self.held.replace(letter) {
+                    None => {}
+                    Some(_) => unreachable!(),
+                }
+            }
+        }
+    }
+}
