@@ -5,6 +5,8 @@
 //! handed out. To come: the turn of a record, the judging of asks, and the center.
 #![tactic(auto)]
 
+mod laws;
 mod outbox;
 
+pub use laws::steps_bring_no_socket;
 pub use outbox::{MOST_MAIL, Outbox};
