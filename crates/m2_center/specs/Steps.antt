@@ -1,6 +1,7 @@
 -- What a record's steps do with sockets. This project's own.
-use Rattle.std.specs.Prelude.{◌≡◌, List, ◌++◌}
-use Rattle.std.specs.List.{AllByRecursion}
+use Rattle.std.specs.Prelude.{◌≡◌, List, ◌++◌, Option, Some, None}
+use Rattle.std.specs.List.{AllByRecursion, filter_map}
+use Rattle.m2_fabric.specs.declared.socket.SocketId.{SocketId}
 use Rattle.m2_journal.specs.declared.entry.Entry.{Entry}
 use Rattle.m2_journal.specs.declared.entry.Entry.TheVariants as entry
 use Rattle.m2_record.specs.RecordNow.{RecordNow}
@@ -10,6 +11,15 @@ abbrev pub BringsNoSocket : Entry → Type 0
 BringsNoSocket (entry.Opened socket) = ⊥
 BringsNoSocket (entry.Judged socket ask number answer) = ⊥
 BringsNoSocket _ = Unit {0}
+
+-- the sockets that entries opened, or on which they judged an ask
+abbrev pub came_by : Entry → Option SocketId
+came_by (entry.Opened socket) = Some socket
+came_by (entry.Judged socket ask number answer) = Some socket
+came_by _ = None
+
+abbrev pub came_in : List Entry → List SocketId
+came_in journal = filter_map came_by journal
 
 -- the journal goes on, and no socket came
 pub record GoesOn (old new : RecordNow) : Type 0 where

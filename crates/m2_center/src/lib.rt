@@ -8,5 +8,5 @@
 mod laws;
 mod outbox;
 
-pub use laws::steps_bring_no_socket;
+pub use laws::{records_know_their_sockets, steps_bring_no_socket};
 pub use outbox::{MOST_MAIL, Outbox};
