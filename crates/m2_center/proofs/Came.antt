@@ -28,7 +28,7 @@ use Rattle.m2_center.specs.Steps.{came_by, came_in}
 
 -- ---- lists of sockets
 
-front : (k : SocketId) (xs ys : List SocketId) → is_among k (xs ++ ys) ≡ false → is_among k xs ≡ false
+pub front : (k : SocketId) (xs ys : List SocketId) → is_among k (xs ++ ys) ≡ false → is_among k xs ≡ false
 front k [] ys e = refl
 front k (x ∷ xs) ys e = at (same_socket k x) (front k xs ys) e
   where
@@ -36,7 +36,7 @@ front k (x ∷ xs) ys e = at (same_socket k x) (front k xs ys) e
     at true rest h = h
     at false rest h = rest h
 
-back : (k : SocketId) (xs ys : List SocketId) → is_among k (xs ++ ys) ≡ false → is_among k ys ≡ false
+pub back : (k : SocketId) (xs ys : List SocketId) → is_among k (xs ++ ys) ≡ false → is_among k ys ≡ false
 back k [] ys e = e
 back k (x ∷ xs) ys e = at (same_socket k x) (back k xs ys) e
   where
@@ -44,7 +44,7 @@ back k (x ∷ xs) ys e = at (same_socket k x) (back k xs ys) e
     at true rest h = absurd (differ (sym h))
     at false rest h = rest h
 
-both : (k : SocketId) (xs ys : List SocketId) → is_among k xs ≡ false → is_among k ys ≡ false → is_among k (xs ++ ys) ≡ false
+pub both : (k : SocketId) (xs ys : List SocketId) → is_among k xs ≡ false → is_among k ys ≡ false → is_among k (xs ++ ys) ≡ false
 both k [] ys _ e = e
 both k (x ∷ xs) ys e f = at (same_socket k x) (λ h. both k xs ys h f) e
   where
@@ -60,7 +60,7 @@ alone k x other = at (same_socket k x) refl
     at true e = absurd (other e)
     at false e = refl
 
-with_head : (p : Entry → Option SocketId) (e : Entry) (es : List Entry) → filter_map p (e ∷ es) ≡ option_to_list (p e) ++ filter_map p es
+pub with_head : (p : Entry → Option SocketId) (e : Entry) (es : List Entry) → filter_map p (e ∷ es) ≡ option_to_list (p e) ++ filter_map p es
 with_head p e es = at (p e) refl
   where
     at : (o : Option SocketId) → p e ≡ o → filter_map p (e ∷ es) ≡ option_to_list o ++ filter_map p es

@@ -1,3 +1,4 @@
+pub mod Connecting
 pub mod Laws
 pub mod Outbox
 pub mod Steps

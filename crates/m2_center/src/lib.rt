@@ -5,8 +5,10 @@
 //! handed out. To come: the turn of a record, the judging of asks, and the center.
 #![tactic(auto)]
 
+mod connecting;
 mod laws;
 mod outbox;
 
+pub use connecting::connect_if_due;
 pub use laws::{records_know_their_sockets, steps_bring_no_socket};
 pub use outbox::{MOST_MAIL, Outbox};
