@@ -1,3 +1,4 @@
 pub mod Came
 pub mod GoesOn
+pub mod Led
 pub mod Opened

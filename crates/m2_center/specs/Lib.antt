@@ -1,4 +1,5 @@
 pub mod Connecting
 pub mod Laws
 pub mod Outbox
+pub mod RecordTurn
 pub mod Steps
