@@ -2,7 +2,6 @@
 use Rattle.std.proofs.Common.{◌≡◌, ◌⊎◌, inl, inr, Bool, true, false, ◌||◌, if◌then◌else◌, List, [], ◌∷◌, ◌++◌, map, Option, Some, None, IsTrue, refl, sym, ap, subst, ◌∙◌, append_assoc}
 use Rattle.std.specs.List.{AllByRecursion, filter_map}
 use Rattle.std.specs.Option.{option_to_list}
-use Rattle.std.proofs.lemmas.Bool.{or_cases, or_right, or_left}
 use Rattle.m2_fabric.specs.declared.socket.SocketId.{SocketId}
 use Rattle.m2_fabric.specs.End.{SeenEnd}
 use Rattle.m2_fabric.specs.Sockets.{IsNewTo, is_among, same_socket}
@@ -84,7 +83,7 @@ before : (k : SocketId) (n : Names) (es : List Entry) → IsUnnamed k (named_too
 before k n es u = record {
   opened = front k n.opened (opened_in es) u.opened;
   judged = front k (map (λ (j : Judgement). j.socket) n.judgements) (map (λ (j : Judgement). j.socket) (judgements_in es))
-    (sym (ap (is_among k) (map_append n.judgements (judgements_in es))) ∙ u.judged);
+      (sym (ap (is_among k) (map_append n.judgements (judgements_in es))) ∙ u.judged);
 }
 
 -- ---- one entry
@@ -157,10 +156,10 @@ walk f src [] p was k l u = refl
 walk f src (e ∷ es) p was k l u =
     ap (is_among k) (with_head socket_of e es)
     ∙ both k (option_to_list (socket_of e)) (named_in es)
-      (unnamed_here f src p s k e (before k (names_of s) (e ∷ es) u) (subst (IsUnnamed k) (after-names f i s) (before k (names_of (after f i s)) es later)) (are_sound f was parts.0) parts.1.0)
-      (walk f src es (passed e p) (was ++ i ∷ []) k
-        (subst (λ is. AreLawful f is (start f)) (sym one) l)
-        (subst (λ t. IsUnnamed k (named_too (names_of t) es)) (sym (after-append f was (i ∷ []) (start f))) later))
+    (unnamed_here f src p s k e (before k (names_of s) (e ∷ es) u) (subst (IsUnnamed k) (after-names f i s) (before k (names_of (after f i s)) es later)) (are_sound f was parts.0) parts.1.0)
+    (walk f src es (passed e p) (was ++ i ∷ []) k
+    (subst (λ is. AreLawful f is (start f)) (sym one) l)
+    (subst (λ t. IsUnnamed k (named_too (names_of t) es)) (sym (after-append f was (i ∷ []) (start f))) later))
   where
     i : JournalItem
     i = item_of src p e

@@ -1,7 +1,6 @@
 -- No socket comes by a step.
-use Rattle.std.proofs.Common.{◌≡◌, ℕ, Bool, true, false, List, [], ◌∷◌, ◌++◌, Option, Some, None, Result, Ok, Err, IfSome, IsSome, if◌then◌else◌, true≢false, refl, sym, ap, subst, ◌∙◌, append-nil, append_assoc}
+use Rattle.std.proofs.Common.{◌≡◌, ℕ, Bool, true, false, List, [], ◌∷◌, ◌++◌, Option, Some, None, Result, Ok, Err, IfSome, IsSome, if◌then◌else◌, true≢false, refl, sym, ap, ◌∙◌, append-nil, append_assoc}
 use Rattle.std.specs.List.{AllByRecursion}
-use Rattle.std.specs.Option.{is_some}
 use Rattle.m2_bytes.specs.declared.memory.NoMemory as memory
 use Rattle.m2_core.specs.declared.asking.CoreAsk.{CoreAsk}
 use Rattle.m2_core.specs.declared.asking.CoreAsk.TheVariants as ask
@@ -30,12 +29,12 @@ use Rattle.m2_record.specs.declared.framing.Framed.{Framed}
 use Rattle.m2_record.specs.declared.framing.Framed.TheVariants as framed
 use Rattle.m2_record.specs.declared.stepped.Stepped.{Stepped}
 use Rattle.m2_record.specs.declared.stepped.Stepped.TheVariants as stepped
-use Rattle.m2_record.specs.Calls.{Breaks, ChangesCore, ClosesFor, ComposesAs, GetsEntries, GoesDown, IsSameButRoom, TakesNext, Writes, asked_entries, closed_entries, fault_put, wrote_entries}
+use Rattle.m2_record.specs.Calls.{Breaks, ChangesCore, ClosesFor, ComposesAs, GetsEntries, GoesDown, IsSameButRoom, Writes, asked_entries, closed_entries, fault_put, wrote_entries}
 use Rattle.m2_record.specs.Due.{due_step, has_frame, has_parcel, has_plan, may_compose, may_connect, may_read, may_write, next_step}
-use Rattle.m2_record.specs.Framing.{Frames, Greets, Heeds, Obeys}
+use Rattle.m2_record.specs.Framing.{Frames, Greets}
 use Rattle.m2_record.specs.Reading.{Reads, fault_read, read_entries}
 use Rattle.m2_record.specs.RecordNow.{RecordNow}
-use Rattle.m2_record.specs.Stepping.{HandsAs, PlansAs, StepsAs, StepsBy, StepsHand, TakesDue, Worked}
+use Rattle.m2_record.specs.Stepping.{HandsAs, PlansAs, StepsAs, StepsBy, TakesDue, Worked}
 use Rattle.m2_center.specs.Steps.{BringsNoSocket, GoesOn}
 
 -- ---- journals that grow
@@ -128,8 +127,8 @@ hands stepped.NoMemory old new e = elim e [ ]
 writes : (answer : FeedWrite) (now : ℕ) (old new : RecordNow) → Writes answer now old new → GoesOn old new
 writes answer now old new w =
     chain old w.mid new
-      (by_these old w.mid (wrote_entries answer old.core.live.feed) (ap (λ r. r.journal) w.once.only) (wrote answer old.core.live.feed))
-      (closes (fault_put answer) now w.mid new w.closes)
+    (by_these old w.mid (wrote_entries answer old.core.live.feed) (ap (λ r. r.journal) w.once.only) (wrote answer old.core.live.feed))
+    (closes (fault_put answer) now w.mid new w.closes)
 
 greets : (answer : HalfStep) (now : ℕ) (old new : RecordNow) → Greets answer now old new → GoesOn old new
 greets (half.Fault f) now old new (mid, (_, e), b) = chain old mid new (core_alone old mid e) (breaks now mid new b)
@@ -154,10 +153,10 @@ frames t framed.NoMemory now old new (_, e) = room_alone old new e
 reads : (x : _) (now : ℕ) (old new : RecordNow) → Reads x now old new → GoesOn old new
 reads x now old new r =
     chain old r.mid new
-      (by_these old r.mid (read_entries x.answer old.core.live.feed ++ closed_entries r.once.closed)
-        (ap (λ r. r.journal) r.once.only ∙ append_assoc old.journal (read_entries x.answer old.core.live.feed) (closed_entries r.once.closed))
-        (both (read_entries x.answer old.core.live.feed) (closed_entries r.once.closed) (was_read x.answer old.core.live.feed) (closed r.once.closed)))
-      (closes (fault_read x) now r.mid new r.closes)
+    (by_these old r.mid (read_entries x.answer old.core.live.feed ++ closed_entries r.once.closed)
+    (ap (λ r. r.journal) r.once.only ∙ append_assoc old.journal (read_entries x.answer old.core.live.feed) (closed_entries r.once.closed))
+    (both (read_entries x.answer old.core.live.feed) (closed_entries r.once.closed) (was_read x.answer old.core.live.feed) (closed r.once.closed)))
+    (closes (fault_read x) now r.mid new r.closes)
 
 asks : (answer : CoreAsk) (old new : RecordNow) → GetsEntries (asked_entries answer) old new → GoesOn old new
 asks answer old new e = gets (asked_entries answer) old new (asked answer) e

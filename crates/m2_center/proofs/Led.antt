@@ -8,7 +8,7 @@ use Rattle.m2_shared.specs.Throttle.{SeenThrottle}
 use Rattle.m2_center.specs.declared.record_turn.RecordTurn.{RecordTurn}
 use Rattle.m2_center.specs.declared.record_turn.RecordTurn.TheVariants as turn
 use Rattle.m2_center.specs.declared.record_turn.TheConstants.{MOST_STEPS}
-use Rattle.m2_center.specs.RecordTurn.{EndsBy, LedOn, LedWithin, Means, Steps, StepsOnce, Turning, TurnsAs, means_of}
+use Rattle.m2_center.specs.RecordTurn.{LedOn, LedWithin, Means, Steps, StepsOnce, Turning, TurnsAs, means_of}
 
 -- one step more
 pub and_one : {D : Type 0} (heard : D → List Heard) (m : Means) (ts : List (Turning D)) (a b c : Turning D) → Steps heard m ts a b → LedOn heard m b c → Steps heard m (ts ++ c ∷ []) a c

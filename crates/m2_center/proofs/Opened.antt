@@ -1,13 +1,12 @@
 -- A socket that a port made for a record is new to it, and is the last that came.
-use Rattle.std.proofs.Common.{◌≡◌, ℕ, Bool, true, false, if◌then◌else◌, List, [], ◌∷◌, ◌++◌, Option, Some, None, IfSome, IsSome, refl, sym, ap, subst, ◌∙◌}
+use Rattle.std.proofs.Common.{◌≡◌, ℕ, Bool, true, false, if◌then◌else◌, List, [], ◌∷◌, ◌++◌, Option, Some, None, IfSome, IsSome, refl, sym, ap, ◌∙◌}
 use Rattle.std.specs.List.{AllByRecursion, filter_map}
-use Rattle.std.specs.Option.{option_to_list}
 use Rattle.m2_addr.specs.declared.addr.Addr.{Addr}
 use Rattle.m2_core.specs.Calls.{IsOpening}
 use Rattle.m2_fabric.specs.declared.socket.SocketId.{SocketId}
 use Rattle.m2_fabric.specs.End.{SeenEnd}
 use Rattle.m2_fabric.specs.Port.{IsNewEnd}
-use Rattle.m2_fabric.specs.Sockets.{IsNewTo, goes_to, is_among}
+use Rattle.m2_fabric.specs.Sockets.{goes_to, is_among}
 use Rattle.m2_feed.specs.FeedNow.{FeedNow}
 use Rattle.m2_journal.specs.declared.entry.Entry.{Entry}
 use Rattle.m2_journal.specs.declared.entry.Entry.TheVariants as entry
@@ -21,7 +20,7 @@ use Rattle.m2_record.specs.RecordNow.{IsSessionOf, RecordNow}
 use Rattle.m2_record.proofs.Names.{differ}
 use Rattle.m2_center.specs.Connecting.{IsMadeBy}
 use Rattle.m2_center.specs.Steps.{BringsNoSocket, GoesOn, came_by, came_in}
-use Rattle.m2_center.proofs.Came.{are_known, back, both, front, with_head}
+use Rattle.m2_center.proofs.Came.{are_known, back, both, front}
 
 -- ---- the connect that is due
 

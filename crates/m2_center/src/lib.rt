@@ -1,8 +1,9 @@
-//! An event thread of a node: the sockets that it accepted, and the records that are at home there.
+//! An event thread of a node, in parts: what a record does in the thread's turn.
 //!
-//! What it is, so far: [`Outbox`], where the parcels of the records go. Letters of fast kinds are dispatched
-//! at once, all other parcels wait in the mail for the node's dispatcher, each in the order in which it was
-//! handed out. To come: the turn of a record, the judging of asks, and the center.
+//! What it is, so far: [`connect_if_due`], which makes a record's connect at the port; [`turn_record`], which
+//! takes the steps of a record that are due; and [`Outbox`], where the parcels of the records go: letters of
+//! fast kinds are dispatched at once, all other parcels wait in the mail for the node's dispatcher. To come:
+//! the judging of asks, and the center, which holds the records, the halves and the port.
 #![tactic(auto)]
 
 mod connecting;

@@ -1,4 +1,4 @@
-use Rattle.std.proofs.Common.{◌≡◌, ap, refl, subst, sym, ◌∙◌}
+use Rattle.std.proofs.Common.{ap, refl, subst, sym}
 use Rattle.m2_fabric.specs.Port.{SeenPort}
 use Rattle.m2_center.specs.Connecting.{IsMadeBy}
 use Rattle.m2_center.proofs.Opened.{is_due, is_new, opened_made, room_made}
@@ -10,7 +10,7 @@ connected-requires-clause-due g c = is_due c.args.now c.in-Connect.at c.due.resu
 pub connected-requires-clause-socket : goal.connected-requires-clause-socket
 connected-requires-clause-socket g c =
     is_new c.session.result.now.peer _ _ c.session.result.now c.reserve_socket.new.self c.is_record.ensures c.session.ensures.facts refl
-      (room_made _ c.args.side.now c.reserve_socket.new.self c.reserve_socket.ensures.only c.requires.made) c.in-Made.ensures.0
+    (room_made _ c.args.side.now c.reserve_socket.new.self c.reserve_socket.ensures.only c.requires.made) c.in-Made.ensures.0
 
 pub not_connected-requires : goal.not_connected-requires
 not_connected-requires g c = is_due c.args.now c.in-Connect.at c.due.result c.args.side.now c.reserve_socket.new.self c.due.ensures c.in-Connect.is c.reserve_socket.ensures.only
@@ -18,4 +18,4 @@ not_connected-requires g c = is_due c.args.now c.in-Connect.at c.due.result c.ar
 pub returns-in-Ok-clause-made : goal.returns-in-Ok-clause-made
 returns-in-Ok-clause-made g c =
     subst (λ made. IsMadeBy made c.connected.new.self) (sym (ap (λ (p : SeenPort). p.made) c.in-Made.ensures.2))
-      (opened_made _ _ c.reserve_socket.new.self c.connected.new.self (room_made _ c.args.side.now c.reserve_socket.new.self c.reserve_socket.ensures.only c.requires.made) c.in-Ok.ensures.ok)
+    (opened_made _ _ c.reserve_socket.new.self c.connected.new.self (room_made _ c.args.side.now c.reserve_socket.new.self c.reserve_socket.ensures.only c.requires.made) c.in-Ok.ensures.ok)

@@ -1,4 +1,4 @@
-use Rattle.std.proofs.Common.{◌≡◌, ◌++◌, ◌∷◌, [], Some, ap, arith, subst, sym, ◌∙◌}
+use Rattle.std.proofs.Common.{◌++◌, ◌∷◌, [], Some, ap, arith, subst, ◌∙◌}
 use Rattle.m2_record.specs.Calls.{Owns}
 use Rattle.m2_center.specs.Outbox.{OwnsHeld}
 use Rattle.m2_center.specs.RecordTurn.{LedOn, StepsOnce, means_of, turning}
@@ -8,9 +8,9 @@ use Rattle.m2_center.proofs.record_turn.turn_record.Goals as goal
 pub returns-in-Some-clause-turns : goal.returns-in-Some-clause-turns
 returns-in-Some-clause-turns g c =
     ends_turn g.D.Dispatcher.heard (means_of c.args.now c.args.work.now) c.in-Some.end _ (turning c.steps.side c.steps.out c.steps.work) _
-      (record { stood = c.steps.invariant.stood; steps = c.steps.invariant.steps; within = omega (arith, c.steps.invariant.count, c.steps-test.true) })
-      (subst (λ m. StepsOnce g.D.Dispatcher.heard m (Some c.in-Some.end) (turning c.steps.side c.steps.out c.steps.work) (turning c.step_once.new.side c.step_once.new.out c.step_once.new.work))
-        (same_means c.args.now c.args.work.now c.steps.work c.steps.invariant.same) c.in-Some.ensures.steps)
+    (record { stood = c.steps.invariant.stood; steps = c.steps.invariant.steps; within = omega (arith, c.steps.invariant.count, c.steps-test.true) })
+    (subst (λ m. StepsOnce g.D.Dispatcher.heard m (Some c.in-Some.end) (turning c.steps.side c.steps.out c.steps.work) (turning c.step_once.new.side c.step_once.new.out c.step_once.new.work))
+    (same_means c.args.now c.args.work.now c.steps.work c.steps.invariant.same) c.in-Some.ensures.steps)
 
 pub returns-in-Some-clause-owned : goal.returns-in-Some-clause-owned
 returns-in-Some-clause-owned g c = subst (λ p. Owns p c.step_once.new.side) (ap (λ t. t.place) c.steps.invariant.same.throttle) c.step_once.ensures.owned
@@ -19,7 +19,7 @@ pub steps-preserved : goal.steps-preserved
 steps-preserved g c = record {
   stood = c.steps.invariant.stood ++ turning c.step_once.new.side c.step_once.new.out c.step_once.new.work ∷ [];
   steps = and_one g.D.Dispatcher.heard (means_of c.args.now c.args.work.now) c.steps.invariant.stood _ (turning c.steps.side c.steps.out c.steps.work) _ c.steps.invariant.steps
-    (subst (λ m. LedOn g.D.Dispatcher.heard m (turning c.steps.side c.steps.out c.steps.work) (turning c.step_once.new.side c.step_once.new.out c.step_once.new.work))
+      (subst (λ m. LedOn g.D.Dispatcher.heard m (turning c.steps.side c.steps.out c.steps.work) (turning c.step_once.new.side c.step_once.new.out c.step_once.new.work))
       (same_means c.args.now c.args.work.now c.steps.work c.steps.invariant.same) c.in_default.ensures.steps);
   count = omega (arith, one_more c.steps.invariant.stood (turning c.step_once.new.side c.step_once.new.out c.step_once.new.work), c.steps.invariant.count);
   top = c.step_once.ensures.top;
