@@ -1,0 +1,73 @@
+-- A record stays supplied by what it works with.
+use Rattle.std.proofs.Common.{◌≡◌, ℕ, Bool, true, false, List, Option, Some, None, Ok, Err, sym, subst, cond}
+use Rattle.std.specs.Prelude.{IfSome, IsSome, Result}
+use Rattle.m2_core.specs.CoreNow.{LiveNow, CoreNow}
+use Rattle.m2_core.specs.CoreNow as core
+use Rattle.m2_core.specs.Effects as effects
+use Rattle.m2_fabric.specs.declared.end.News.{News}
+use Rattle.m2_fabric.specs.declared.socket.SocketId.{SocketId}
+use Rattle.m2_fabric.specs.End.{SeenEnd}
+use Rattle.m2_feed.specs.FeedNow.{FeedNow}
+use Rattle.m2_journal.specs.declared.facts.PlanStep.{PlanStep}
+use Rattle.m2_session.specs.declared.event.Event.{Event}
+use Rattle.m2_session.specs.declared.event.Event.TheVariants as event
+use Rattle.m2_session.specs.Steps.{step_of}
+use Rattle.m2_shared.specs.Place.{Place}
+use Rattle.m2_record.specs.Calls.{AddsStep, Connects, after_missing, after_news, is_feed, with_opened}
+use Rattle.m2_core.specs.Calls.{IsOpening}
+use Rattle.m2_record.specs.RecordNow.{RecordNow}
+use Rattle.m2_record_pair.specs.SideNow.{IsSupplied, Means}
+
+differ : false ≡ true → ⊥
+differ e = subst (λ b. elim b as (λ _. Type 0) [ false ↦ Unit {0} | true ↦ ⊥ ]) e tt
+
+pub supplied_same : (m : Means) (old new : RecordNow) → new ≡ old → IsSupplied m old → IsSupplied m new
+supplied_same m old new e h = subst (IsSupplied m) (sym e) h
+
+pub supplied_planned : (answer : Result (Unit {0}) PlanStep) (x : PlanStep) (m : Means) (old new : RecordNow) → AddsStep answer x old new → IsSupplied m old → IsSupplied m new
+supplied_planned (Ok _) x m old new e h = subst (IsSupplied m) (sym e) (record { owned = record { feed = h.owned.feed; parcels = h.owned.parcels }; top = h.top })
+supplied_planned (Err back) x m old new e h = subst (IsSupplied m) (sym e.1) h
+
+either_supplied : (b : Bool) (m : Means) (x y : RecordNow) → IsSupplied m x → IsSupplied m y → IsSupplied m (cond b x y)
+either_supplied true m x y h k = h
+either_supplied false m x y h k = k
+
+pub supplied_heard : (socket : SocketId) (news : News) (bytes : List ℕ) (m : Means) (r : RecordNow) → IsSupplied m r → IsSupplied m (after_news socket news bytes r)
+supplied_heard socket news bytes m r h =
+    either_supplied (is_feed socket r) m _ _ (record { owned = record { feed = h.owned.feed; parcels = h.owned.parcels }; top = h.top }) (record { owned = record { feed = h.owned.feed; parcels = h.owned.parcels }; top = h.top })
+
+pub supplied_missed : (now : ℕ) (m : Means) (r : RecordNow) → IsSupplied m r → IsSupplied m (after_missing now r)
+supplied_missed now m r h = record { owned = record { feed = h.owned.feed; parcels = h.owned.parcels }; top = h.top }
+
+pub supplied_room : (m : Means) (old new : RecordNow) → new ≡ record old { room = new.room } → IsSupplied m old → IsSupplied m new
+supplied_room m old new e h = subst (IsSupplied m) (sym e) (record { owned = record { feed = h.owned.feed; parcels = h.owned.parcels }; top = h.top })
+
+-- ---- a socket that was opened
+
+closing : (b : Bool) (place : Place) (l : LiveNow) → core.IsOwned place l.granted → core.IsOwned place (effects.where_true b effects.closes l).granted
+closing true place l h = tt
+closing false place l h = h
+
+requeueing : (b : Bool) (place : Place) (l : LiveNow) → core.IsOwned place l.granted → core.IsOwned place (effects.where_true b effects.requeues l).granted
+requeueing true place l h = h
+requeueing false place l h = h
+
+setting : (b : Bool) (place : Place) (l : LiveNow) → core.IsOwned place l.granted → core.IsOwned place (effects.where_true b effects.sets_back l).granted
+setting true place l h = h
+setting false place l h = h
+
+discarding : (b : Bool) (place : Place) (l : LiveNow) → core.IsOwned place l.granted → core.IsOwned place (effects.where_true b effects.discards l).granted
+discarding true place l h = h
+discarding false place l h = h
+
+tells_owned : (v : Event) (place : Place) (l : LiveNow) → core.IsOwned place l.granted → core.IsOwned place (effects.tells v l).granted
+tells_owned v place l h =
+    let e = (step_of l.session v).effects in
+    discarding e.discard place _ (setting e.set_back place _ (requeueing e.requeue place _ (closing e.close place (record l { session = (step_of l.session v).session }) h)))
+
+opened_at : (o : Option FeedNow) (end : SeenEnd) (m : Means) (old new : RecordNow) → IfSome o (λ v. IsOpening old.core.facts end v × (new ≡ record (with_opened v end.id old) { room = new.room })) → IsSome o → IsSupplied m old → IsSupplied m new
+opened_at (Some v) end m old new h s k = subst (IsSupplied m) (sym h.1) (record { owned = record { feed = tells_owned event.Dialled m.throttle.place old.core.live k.owned.feed; parcels = k.owned.parcels }; top = k.top })
+opened_at None end m old new h s k = absurd (differ s)
+
+pub supplied_opened : (end : SeenEnd) (m : Means) (old new : RecordNow) → Connects end old new → IsSupplied m old → IsSupplied m new
+supplied_opened end m old new h k = opened_at new.core.live.feed end m old new h.0 h.1 k

@@ -1,0 +1,6 @@
+pub mod SideNow
+pub mod Steps
+pub mod Sockets
+pub mod Judging
+pub mod Hearing
+pub mod PairNow

@@ -1,0 +1,64 @@
+//! The sockets of the peer that a side has accepted and not taken.
+
+ghost use Rattle.std.specs.Prelude.{◌≡◌, OnErr};
+
+use crate::halves::{HalfMoved, moved};
+use crate::judging::HalfLeft;
+use crate::side::{Side, put};
+use m2_bytes::NoMemory;
+use m2_sim_fabric::SimEnd;
+use m2_trail::Incoming;
+
+/// How often a half moves in one turn at most.
+const MOST_MOVES: u32 = 10_000;
+
+/// How many bytes it reads at a time at most.
+const PIECE: usize = 4_096;
+
+impl Side {
+    /// Each half reads, answers and writes until it rests, and where it is asked, its ask is judged. Err is want of memory
+    /// before anything was done.
+    pub(crate) fn arrivals(&mut self, now: u64) -> Result<(), NoMemory>
+        ensures { OnErr result (self.new ≡ self.old) }
+    {
+        self.loose.reserve(self.halves.len())?;
+        let mut none = Vec::new(self.alloc);
+        none.reserve(self.halves.len())?;
+        let halves = std::mem::replace(&mut self.halves, none);
+        'halves: for half in halves {
+            let left = self.half_goes(half, now);
+            self.keep(left);
+        }
+        Ok(())
+    }
+
+    /// Keeps what is left of a half, where memory lasts.
+    fn keep(&mut self, left: HalfLeft) {
+        match left {
+            HalfLeft::Open(half) => match self.halves.push(half) {
+                Ok(()) => {}
+                Err(_half) => {}
+            },
+            HalfLeft::Loose(half) => put(&mut self.loose, half),
+            HalfLeft::Taken => {}
+        }
+    }
+
+    /// A half goes on until it rests, is closed or is taken.
+    fn half_goes(&mut self, half: Incoming<SimEnd>, now: u64) -> HalfLeft {
+        let mut piece = [0; PIECE];
+        let mut half = half;
+        'moves: for _ in 0..MOST_MOVES {
+            match moved(half, &mut piece) {
+                HalfMoved::On(next) => half = next,
+                HalfMoved::Rests(next) => return HalfLeft::Open(next),
+                HalfMoved::Over(next) => return HalfLeft::Loose(next.close()),
+                HalfMoved::Asked(arrival) => match self.judge(arrival, now) {
+                    HalfLeft::Open(next) => half = next,
+                    left => return left,
+                },
+            }
+        }
+        HalfLeft::Open(half)
+    }
+}
