@@ -1,4 +1,5 @@
 pub mod Connecting
+pub mod Judging
 pub mod Laws
 pub mod Outbox
 pub mod RecordTurn

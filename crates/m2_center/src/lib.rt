@@ -7,11 +7,13 @@
 #![tactic(auto)]
 
 mod connecting;
+mod judging;
 mod laws;
 mod outbox;
 mod record_turn;
 
 pub use connecting::connect_if_due;
+pub use judging::{AskJudged, judge_ask};
 pub use laws::{records_know_their_sockets, steps_bring_no_socket};
 pub use outbox::{MOST_MAIL, Outbox};
 pub use record_turn::{MOST_STEPS, RecordTurn, turn_record};
