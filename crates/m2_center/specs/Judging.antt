@@ -1,6 +1,5 @@
 -- How an ask is judged at its home, and replied to. The answers are those of the session's tables; the rest is this project's own.
-use Rattle.std.specs.Prelude.{◌≡◌, ℕ, ◌-◌, ◌⊎◌, false, true, List, [], ◌∷◌, Option, Some, None, IfSome}
-use Rattle.m2_control.specs.declared.control.Control.{Control}
+use Rattle.std.specs.Prelude.{◌≡◌, ℕ, ◌-◌, false, None, IfSome, IsSome}
 use Rattle.m2_core.specs.Judging.{verdict_on}
 use Rattle.m2_fabric.specs.Sockets.{IsNewTo}
 use Rattle.m2_journal.specs.Lawful.{judged_on}
@@ -67,3 +66,12 @@ JudgesAsk {E} (asked.Owes arrival) a m old new = (answer : Answer) × Judges {E 
 JudgesAsk {E} (asked.Undrawn arrival) a m old new =
     (arrival ≡ a) × (new.side ≡ old.side) × (new.bytes ≡ old.bytes) × ((answer : Draw) × IsUndrawn answer × DrawsSo answer old.numbers new.numbers)
 JudgesAsk {E} (asked.NoMemory arrival) a m old new = Judges {E = E} (judged.NoMemory arrival) a m old new
+
+-- ---- the reply
+
+-- a reply for each answer but those that take the socket and the one to close
+abbrev pub RepliesAs : {E : Type 0} → Replied E → IncomingNow → Type 0
+RepliesAs (replied.Open half) a =
+    (answer : Answer) × IsAnswered answer a × IsSome (first_reply answer) × IfSome (first_reply answer) (λ c. half ≡ after_replying c a)
+RepliesAs (replied.Closed loose) a = (answer : Answer) × IsAnswered answer a × (first_reply answer ≡ None) × (loose ≡ closed_of a)
+RepliesAs (replied.NoMemory back) a = back ≡ a

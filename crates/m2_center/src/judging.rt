@@ -3,7 +3,8 @@
 ghost use Rattle.std.specs.Prelude.{◌≡◌, ◌≤◌, true};
 ghost use Rattle.m2_record.specs.Calls.{Owns};
 ghost use Rattle.m2_record.specs.Stepping.{IsSameWork};
-ghost use Rattle.m2_center.specs.Judging.{CanBeHeard, JudgesAsk, judging};
+ghost use Rattle.m2_trail.specs.Incoming.{IsAnswered};
+ghost use Rattle.m2_center.specs.Judging.{CanBeHeard, JudgesAsk, RepliesAs, judging};
 ghost use Rattle.m2_center.specs.RecordTurn.{means_of};
 
 use m2_fabric::End;
@@ -68,5 +69,33 @@ pub fn judge_ask<E: End>(
         Judged::Taken(answer) => AskJudged::Taken(answer),
         Judged::Back { answer: _, arrival } => AskJudged::Owes(arrival),
         Judged::NoMemory(arrival) => AskJudged::NoMemory(arrival),
+    }
+}
+
+/// Replies to an ask that was judged and took no socket: with the frame of its answer, or by closing where
+/// the answer says so.
+pub fn reply_owed<E: End>(a: Arrival<E>) -> Replied<E>
+    requires { a.is_judged ≡ true }
+    ensures { RepliesAs result a }
+{
+    let answer = answer_noted(&a);
+    if reply_to(&answer).is_none() {
+        return Replied::Closed(a.close());
+    }
+    match a.reply(&answer) {
+        Ok(half) => Replied::Open(half),
+        Err(a) => Replied::NoMemory(a),
+    }
+}
+
+/// The answer to an ask that was judged.
+fn answer_noted<E: End>(a: &Arrival<E>) -> Answer
+    requires { a.now.is_judged ≡ true }
+    ensures { IsAnswered result a.now }
+{
+    a.is_arrival();
+    match a.trail().judged.as_slice().last() {
+        Some(item) => item.answer,
+        None => unreachable!(),
     }
 }

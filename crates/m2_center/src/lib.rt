@@ -1,9 +1,10 @@
 //! An event thread of a node, in parts: what a record does in the thread's turn.
 //!
-//! What it is, so far: [`connect_if_due`], which makes a record's connect at the port; [`turn_record`], which
+//! What it is, so far: [`judge_ask`], which judges the ask of a half by its record, and [`reply_owed`], which
+//! replies to it; [`connect_if_due`], which makes a record's connect at the port; [`turn_record`], which
 //! takes the steps of a record that are due; and [`Outbox`], where the parcels of the records go: letters of
 //! fast kinds are dispatched at once, all other parcels wait in the mail for the node's dispatcher. To come:
-//! the judging of asks, and the center, which holds the records, the halves and the port.
+//! the center, which holds the records, the halves and the port.
 #![tactic(auto)]
 
 mod connecting;
@@ -13,7 +14,7 @@ mod outbox;
 mod record_turn;
 
 pub use connecting::connect_if_due;
-pub use judging::{AskJudged, judge_ask};
+pub use judging::{AskJudged, Replied, judge_ask, reply_owed};
 pub use laws::{records_know_their_sockets, steps_bring_no_socket};
 pub use outbox::{MOST_MAIL, Outbox};
 pub use record_turn::{MOST_STEPS, RecordTurn, turn_record};
