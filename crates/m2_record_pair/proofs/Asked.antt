@@ -1,5 +1,5 @@
 -- What is known of a half by what was looked at, and of an arrival that was judged.
-use Rattle.std.proofs.Common.{◌≡◌, ℕ, ◌<◌, true, false, List, [], ◌∷◌, length, Option, Some, None, refl, sym, subst, arith}
+use Rattle.std.proofs.Common.{◌≡◌, ℕ, true, false, List, Option, Some, None, refl, sym, subst}
 use Rattle.std.specs.Prelude.{IfSome, IsSome, slice_get}
 use Rattle.std.specs.Option.{is_none, option_to_list}
 use Rattle.m2_control.specs.declared.control.Control.{Control}
@@ -7,20 +7,9 @@ use Rattle.m2_handshake.specs.declared.ask.Ask.{Ask}
 use Rattle.m2_session.specs.declared.answer.Answer.{Answer}
 use Rattle.m2_trail.specs.Incoming.{IncomingNow, IsAnswered, after_judging}
 use Rattle.m2_trail.specs.Replies.{first_reply, reply_to}
-use Rattle.m2_trail.specs.Unput.{is_some}
 
 differ : false ≡ true → ⊥
 differ e = subst (λ b. elim b as (λ _. Type 0) [ false ↦ Unit {0} | true ↦ ⊥ ]) e tt
-
--- something is left to be put
-pub some_left : (bytes : List ℕ) → is_some bytes ≡ true → 0 < length bytes
-some_left [] h = absurd (differ h)
-some_left (b ∷ bs) h = omega arith
-
--- nothing is
-pub none_left : (bytes : List ℕ) → is_some bytes ≡ false → bytes ≡ []
-none_left [] h = refl
-none_left (b ∷ bs) h = absurd (differ (sym h))
 
 -- an arrival comes back with its answer noted
 pub is_answered : (answer : Answer) (a x : IncomingNow) (room : ℕ) → x ≡ after_judging answer room a → IsAnswered answer x

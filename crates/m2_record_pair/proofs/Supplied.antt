@@ -1,9 +1,9 @@
 -- A record stays supplied by what it works with.
 use Rattle.std.proofs.Common.{◌≡◌, ℕ, Bool, true, false, List, Option, Some, None, Ok, Err, sym, subst, cond}
 use Rattle.std.specs.Prelude.{IfSome, IsSome, Result}
-use Rattle.m2_core.specs.CoreNow.{LiveNow, CoreNow}
-use Rattle.m2_core.specs.CoreNow as core
-use Rattle.m2_core.specs.Effects as effects
+use Rattle.m2_live.specs.LiveNow.{LiveNow}
+use Rattle.m2_live.specs.LiveNow as live
+use Rattle.m2_live.specs.Effects as effects
 use Rattle.m2_fabric.specs.declared.end.News.{News}
 use Rattle.m2_fabric.specs.declared.socket.SocketId.{SocketId}
 use Rattle.m2_fabric.specs.End.{SeenEnd}
@@ -44,23 +44,23 @@ supplied_room m old new e h = subst (IsSupplied m) (sym e) (record { owned = rec
 
 -- ---- a socket that was opened
 
-closing : (b : Bool) (place : Place) (l : LiveNow) → core.IsOwned place l.granted → core.IsOwned place (effects.where_true b effects.closes l).granted
+closing : (b : Bool) (place : Place) (l : LiveNow) → live.IsOwned place l.granted → live.IsOwned place (effects.where_true b effects.closes l).granted
 closing true place l h = tt
 closing false place l h = h
 
-requeueing : (b : Bool) (place : Place) (l : LiveNow) → core.IsOwned place l.granted → core.IsOwned place (effects.where_true b effects.requeues l).granted
+requeueing : (b : Bool) (place : Place) (l : LiveNow) → live.IsOwned place l.granted → live.IsOwned place (effects.where_true b effects.requeues l).granted
 requeueing true place l h = h
 requeueing false place l h = h
 
-setting : (b : Bool) (place : Place) (l : LiveNow) → core.IsOwned place l.granted → core.IsOwned place (effects.where_true b effects.sets_back l).granted
+setting : (b : Bool) (place : Place) (l : LiveNow) → live.IsOwned place l.granted → live.IsOwned place (effects.where_true b effects.sets_back l).granted
 setting true place l h = h
 setting false place l h = h
 
-discarding : (b : Bool) (place : Place) (l : LiveNow) → core.IsOwned place l.granted → core.IsOwned place (effects.where_true b effects.discards l).granted
+discarding : (b : Bool) (place : Place) (l : LiveNow) → live.IsOwned place l.granted → live.IsOwned place (effects.where_true b effects.discards l).granted
 discarding true place l h = h
 discarding false place l h = h
 
-tells_owned : (v : Event) (place : Place) (l : LiveNow) → core.IsOwned place l.granted → core.IsOwned place (effects.tells v l).granted
+tells_owned : (v : Event) (place : Place) (l : LiveNow) → live.IsOwned place l.granted → live.IsOwned place (effects.tells v l).granted
 tells_owned v place l h =
     let e = (step_of l.session v).effects in
     discarding e.discard place _ (setting e.set_back place _ (requeueing e.requeue place _ (closing e.close place (record l { session = (step_of l.session v).session }) h)))

@@ -1,12 +1,10 @@
 -- Which sockets entries of a journal name, and what they have judged there. This project's own.
-use Rattle.std.specs.Prelude.{◌≡◌, Bool, false, if◌then◌else◌, List, [], ◌∷◌, Option, Some, None}
+use Rattle.std.specs.Prelude.{Bool, false, if◌then◌else◌, List, [], ◌∷◌, Option, Some, None}
 use Rattle.m2_fabric.specs.declared.socket.SocketId.{SocketId}
 use Rattle.m2_fabric.specs.Sockets.{same_socket}
 use Rattle.m2_journal.specs.declared.entry.Entry.{Entry}
 use Rattle.m2_journal.specs.declared.entry.Entry.TheVariants as entry
 use Rattle.m2_journal.specs.declared.entry.JudgedItem.{JudgedItem}
-use Rattle.m2_journal.specs.SideFacts.{SideFacts}
-use Rattle.m2_session.specs.declared.session.Session.{Session}
 
 -- it is that one
 abbrev pub is_one : SocketId → Option SocketId → Bool
@@ -17,9 +15,3 @@ is_one socket None = false
 abbrev pub judged_by : SocketId → Entry → List JudgedItem
 judged_by socket (entry.Judged k ask number answer) = if same_socket socket k then record { ask = ask; answer = answer } ∷ [] else []
 judged_by socket _ = []
-
--- a session is that of these facts
-pub record IsSessionOf (f : SideFacts) (s : Session) : Type 0 where
-  pub mine : s.mine ≡ f.mine
-  pub peer : s.peer ≡ f.peer
-  pub policy : s.policy ≡ f.policy

@@ -6,10 +6,8 @@ use Rattle.m2_dispatch.specs.declared.logged.Logged.TheVariants as logged
 use Rattle.m2_dispatcher.specs.declared.letter.Letter.{Letter}
 use Rattle.m2_dispatcher.specs.declared.parcel.Parcel.{Parcel}
 use Rattle.m2_dispatcher.specs.declared.parcel.Parcel.TheVariants as parcel
-use Rattle.m2_dispatcher.specs.Parcel.{IsOwned}
 use Rattle.m2_policy.specs.declared.path.Path.{Path}
 use Rattle.m2_policy.specs.declared.path.Path.TheVariants as path
-use Rattle.m2_shared.specs.Place.{Place}
 use Rattle.m2_record.specs.declared.stepped.Stepped.{Stepped}
 use Rattle.m2_record.specs.declared.stepped.Stepped.TheVariants as stepped
 use Rattle.m2_record.specs.Calls.{granted_in}
@@ -45,11 +43,6 @@ fast_of (parcel.Discard peer) = []
 fast_of (parcel.RemoteReset peer) = []
 
 -- ---- of an answer of the record's step
-
--- a parcel that it hands out is owned
-abbrev pub IsHandedOwned : Place → Stepped → Type 0
-IsHandedOwned place (stepped.Hand x) = IsOwned place x
-IsHandedOwned place answer = Unit {0}
 
 -- the same answer, without its parcel
 abbrev pub side_step : Stepped → SideStep

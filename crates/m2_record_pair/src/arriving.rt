@@ -2,15 +2,15 @@
 
 ghost use Rattle.std.specs.Prelude.{◌≡◌, OnErr};
 
-use crate::halves::{HalfMoved, moved};
 use crate::judging::HalfLeft;
 use crate::side::{Side, put};
 use m2_bytes::NoMemory;
+use m2_halves::{HalfTurn, advance};
 use m2_sim_fabric::SimEnd;
-use m2_trail::Incoming;
+use m2_trail::{Arrival, Incoming};
 
-/// How often a half moves in one turn at most.
-const MOST_MOVES: u32 = 10_000;
+/// How many asks of a half are judged in one turn at most.
+const MOST_ASKS: u32 = 1_000;
 
 /// How many bytes it reads at a time at most.
 const PIECE: usize = 4_096;
@@ -48,15 +48,16 @@ impl Side {
     fn half_goes(&mut self, half: Incoming<SimEnd>, now: u64) -> HalfLeft {
         let mut piece = [0; PIECE];
         let mut half = half;
-        'moves: for _ in 0..MOST_MOVES {
-            match moved(half, &mut piece) {
-                HalfMoved::On(next) => half = next,
-                HalfMoved::Rests(next) => return HalfLeft::Open(next),
-                HalfMoved::Over(next) => return HalfLeft::Loose(next.close()),
-                HalfMoved::Asked(arrival) => match self.judge(arrival, now) {
+        'asks: for _ in 0..MOST_ASKS {
+            match advance(&mut half, &mut piece) {
+                HalfTurn::Asked => match self.judge(Arrival::of(half), now) {
                     HalfLeft::Open(next) => half = next,
                     left => return left,
                 },
+                HalfTurn::Over => return HalfLeft::Loose(half.close()),
+                HalfTurn::Waits | HalfTurn::Busy | HalfTurn::NoMemory => {
+                    return HalfLeft::Open(half);
+                }
             }
         }
         HalfLeft::Open(half)

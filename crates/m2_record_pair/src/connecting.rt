@@ -9,14 +9,13 @@ ghost use Rattle.m2_record.specs.Calls.{ConnectIsDue, Connects, IsNewSocket, aft
 ghost use Rattle.m2_record.specs.IsRecord.{named_in, socket_of};
 ghost use Rattle.m2_record.specs.RecordNow.{ends_of, ids_of};
 ghost use Rattle.m2_record_pair.specs.SideNow.{Accepts, Opens, IsSameButRoom};
-ghost use Rattle.m2_record_pair.specs.Sockets.{IsSessionOf, is_one};
+ghost use Rattle.m2_record_pair.specs.Sockets.{is_one};
 
 use crate::side::Side;
 use m2_bytes::NoMemory;
 use m2_fabric::{End, SocketId};
-use m2_journal::{Entry, replays_are_sound};
+use m2_journal::Entry;
 use m2_record::{Due, Record};
-use m2_session::Session;
 use m2_sim_fabric::SimEnd;
 use m2_trail::Incoming;
 
@@ -107,21 +106,11 @@ fn connect_is_due(kept: &Record<SimEnd>, now: u64) -> bool
     kept.due(now) == (Due::Connect { at })
 }
 
-/// What a record remembers of its peer: the addresses and the policy are those with which it was made.
-pub(crate) fn session_of(kept: &Record<SimEnd>) -> &Session
-    ensures session { result.now ≡ kept.now.core.live.session }
-    ensures facts { IsSessionOf kept.now.core.facts result.now }
-{
-    kept.is_record();
-    replays_are_sound();
-    kept.session()
-}
-
 /// Whether a socket leads to the peer, and no entry and no end of the record has it.
 fn is_new_socket(kept: &Record<SimEnd>, socket: &SocketId) -> bool
     ensures { OnTrue result (IsNewSocket kept.now socket.now) }
 {
-    if !socket.goes_to(&session_of(kept).peer) || is_named(kept.journal().as_slice(), socket) {
+    if !socket.goes_to(&kept.session().peer) || is_named(kept.journal().as_slice(), socket) {
         return false;
     }
     !has_end(kept, socket)

@@ -4,8 +4,8 @@ ghost use Rattle.std.specs.Prelude.{◌≡◌, ◌-◌, ◌<◌, ◌≤◌, ◌+
 ghost use Rattle.m2_shared.specs.Place.{IsAlone};
 ghost use Rattle.m2_dispatcher.specs.Parcel.{IsOwned};
 ghost use Rattle.m2_record.specs.Calls.{Owns, granted_in};
-ghost use Rattle.m2_record.specs.Stepping.{StepsAs};
-ghost use Rattle.m2_record_pair.specs.Steps.{IsHandedOwned, fast_at, fast_by, fast_of, given_back, call_of, queued_at, queued_by, queued_of, side_step};
+ghost use Rattle.m2_record.specs.Stepping.{IsHandedOwned, StepsAs};
+ghost use Rattle.m2_record_pair.specs.Steps.{fast_at, fast_by, fast_of, given_back, call_of, queued_at, queued_by, queued_of, side_step};
 
 use crate::step::SideStep;
 use m2_dispatch::{Logged, LoggedList};

@@ -10,7 +10,7 @@ ghost use Rattle.m2_record.specs.TakenTrails.{judgements_in};
 ghost use Rattle.m2_record_pair.specs.Judging.{IfMissing, IsKnown};
 ghost use Rattle.m2_record_pair.specs.Sockets.{judged_by};
 
-use crate::connecting::{has_end, session_of};
+use crate::connecting::has_end;
 use crate::side::Side;
 use m2_answers::AskFacts;
 use m2_fabric::SocketId;
@@ -66,7 +66,7 @@ impl Side {
         ensures agreed { result ≡ checks.Fine → IfSome arrival.now.ask (AgreesWith self.now.kept.core.facts.policy) }
         ensures missing { IfMissing result (IfSome arrival.now.ask (λ ask. is_ident ask ≡ true)) }
     {
-        let session = session_of(&self.record);
+        let session = self.record.session();
         arrival.check(
             &session.mine,
             &session.policy,

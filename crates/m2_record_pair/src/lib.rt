@@ -12,7 +12,6 @@
 mod arriving;
 mod connecting;
 mod dispatching;
-mod halves;
 mod judging;
 mod pair;
 mod side;

@@ -4,13 +4,13 @@ ghost use Rattle.std.specs.Prelude.{◌≡◌, ◌-◌, ◌<◌, ◌≤◌, [], 
 ghost use Rattle.std.specs.Bool.{OnTrue};
 ghost use Rattle.std.specs.List.{list_any};
 ghost use Rattle.m2_answers.specs.declared.cookie.TheConstants.{MOST_PLACES};
-ghost use Rattle.m2_core.specs.CoreNow.{held};
+ghost use Rattle.m2_live.specs.LiveNow.{held};
 ghost use Rattle.m2_fabric.specs.Sockets.{same_socket};
 ghost use Rattle.m2_message.specs.Message.{IsSendable};
 ghost use Rattle.m2_shared.specs.declared.limits.TheConstants.{MOST_TAKEN};
 ghost use Rattle.m2_record.specs.Calls.{AddsStep, all_granted};
 ghost use Rattle.m2_record.specs.IsRecord.{CanBePlanned};
-ghost use Rattle.m2_record.specs.Waits.{AreWaits};
+ghost use Rattle.m2_live.specs.Waits.{AreWaits};
 ghost use Rattle.m2_record_pair.specs.Hearing.{side_hears, half_hears};
 ghost use Rattle.m2_record_pair.specs.SideNow.{new_side};
 ghost use Rattle.m2_record_pair.specs.Steps.{TakesStep};
