@@ -1,4 +1,5 @@
 pub mod Came
 pub mod GoesOn
+pub mod Heard
 pub mod Led
 pub mod Opened

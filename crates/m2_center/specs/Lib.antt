@@ -1,3 +1,4 @@
+pub mod Answering
 pub mod Connecting
 pub mod Judging
 pub mod Laws

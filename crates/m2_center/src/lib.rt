@@ -1,18 +1,20 @@
 //! An event thread of a node, in parts: what a record does in the thread's turn.
 //!
-//! What it is, so far: [`judge_ask`], which judges the ask of a half by its record, and [`reply_owed`], which
-//! replies to it; [`connect_if_due`], which makes a record's connect at the port; [`turn_record`], which
+//! What it is, so far: [`answer_half`], which looks at the ask of a half, has it judged by its record
+//! ([`judge_ask`]) and replies ([`reply_owed`]); [`connect_if_due`], which makes a record's connect at the port; [`turn_record`], which
 //! takes the steps of a record that are due; and [`Outbox`], where the parcels of the records go: letters of
 //! fast kinds are dispatched at once, all other parcels wait in the mail for the node's dispatcher. To come:
 //! the center, which holds the records, the halves and the port.
 #![tactic(auto)]
 
+mod answering;
 mod connecting;
 mod judging;
 mod laws;
 mod outbox;
 mod record_turn;
 
+pub use answering::{HalfAnswered, answer_half};
 pub use connecting::connect_if_due;
 pub use judging::{AskJudged, Replied, judge_ask, reply_owed};
 pub use laws::{records_know_their_sockets, steps_bring_no_socket};
