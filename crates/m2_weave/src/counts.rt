@@ -13,8 +13,8 @@ ghost use Rattle.m2_weave.specs.Tally.{AreFor, CountsAre, IsClear, IsCounted, Is
 
 use crate::stopping::plus;
 use crate::strand::{Strand, StrandItem};
-use crate::table::{SocketTable, named_place, place_in};
-use crate::tally::{raise, read_by_halves, read_need, set_opened, unset, writes, zeros};
+use crate::table::{SocketTable, named_place, place_in, raise};
+use crate::tally::{read_by_halves, read_need, set_opened, unset, writes, zeros};
 use m2_bytes::NoMemory;
 use m2_fabric::SocketId;
 use m2_journal::Entry;

@@ -2,11 +2,11 @@
 //!
 //! What it is: [`weave`], with its definitions and laws. A [`Strand`] is a journal, or what a half did on a
 //! socket before a side took it (`specs/Strands.antt`); a [`SocketTable`] has what both ends of each socket
-//! have read and written, found by [`SocketNames`]. An entry may come once the other end of its socket has written the bytes that it read;
-//! an ask is judged once its half has handed it on; and a half writes once all its asks so far are judged
-//! (`specs/Rule.antt`). What may come may still come later, so by `m2_merge` taking whatever may come finds
-//! an order of all entries exactly where there is one. Where that stops at a read, [`first_stop`] names the
-//! byte that is [`Unfit`] (`specs/Stops.antt`).
+//! have read and written, found by [`SocketNames`]. An entry may come once the other end of its socket has
+//! written the bytes that it read; an ask is judged once its half has handed it on; and a half writes once
+//! all its asks so far are judged (`specs/Rule.antt`). What may come may still come later, so by `m2_merge`
+//! taking whatever may come finds an order of all entries exactly where there is one. Where that stops at a
+//! read, [`first_stop`] names the byte that is [`Unfit`] (`specs/Stops.antt`).
 //!
 //! What it isn't: what follows from such an order. `m2_paired` says that of two journals in an order that
 //! fits.

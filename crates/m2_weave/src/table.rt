@@ -1,9 +1,9 @@
 //! Sockets with the bytes of both ends, and where each stands by its name.
 
-ghost use Rattle.std.specs.Prelude.{◌≡◌, ◌<◌, true, length, drop, take, slice_get, IfOk};
+ghost use Rattle.std.specs.Prelude.{◌≡◌, ◌<◌, true, length, drop, take, slice_get, IfOk, OnOk};
 ghost use Rattle.m2_fabric.specs.Sockets.{is_among};
 ghost use Rattle.m2_weave.specs.Counting.{place_in};
-ghost use Rattle.m2_weave.specs.Table.{five_of, got_at, names_of, put_at};
+ghost use Rattle.m2_weave.specs.Table.{HasRisen, five_of, got_at, names_of, put_at};
 
 use m2_bytes::NoMemory;
 use m2_fabric::SocketId;
@@ -84,6 +84,30 @@ impl SocketNames {
         let found = self.places.get(&key_of(k)).copied();
         found.unwrap_or(self.names.len())
     }
+
+    /// Adds to the number of a socket, if it is one of them, where these numbers stand at their places. A
+    /// number above 2^64 - 1 is answered as for want of memory.
+    pub fn raise(
+        &self,
+        numbers: &mut Vec<u64>,
+        socket: &SocketId,
+        amount: u64,
+    ) -> Result<(), NoMemory>
+        requires count { length numbers.old.items ≡ length self.now }
+        ensures count { length numbers.new.items ≡ length self.now }
+        ensures risen { OnOk result (HasRisen self.now socket.now amount numbers.old.items numbers.new.items) }
+    {
+        let place = self.place(socket);
+        if place >= self.len() {
+            return Ok(());
+        }
+        let number = numbers[place];
+        if amount > u64::MAX - number {
+            return Err(NoMemory);
+        }
+        numbers[place] = number + amount;
+        Ok(())
+    }
 }
 
 /// Sockets with the bytes of both ends, each found by its name at once; of a name that stands twice the
@@ -153,6 +177,21 @@ fn key_of(k: &SocketId) -> SocketKey
     ensures { result ≡ five_of k.now }
 {
     (k.from_ip, k.from_port, k.to_ip, k.to_port, k.turn)
+}
+
+/// Adds to the number of a socket, if it is in the table. A number above 2^64 - 1 is answered as for want
+/// of memory.
+pub(crate) fn raise(
+    numbers: &mut Vec<u64>,
+    sockets: &SocketTable<'_>,
+    socket: &SocketId,
+    amount: u64,
+) -> Result<(), NoMemory>
+    requires count { length numbers.old.items ≡ length sockets.now }
+    ensures count { length numbers.new.items ≡ length sockets.now }
+    ensures risen { OnOk result (HasRisen (names_of sockets.now) socket.now amount numbers.old.items numbers.new.items) }
+{
+    sockets.names.raise(numbers, socket, amount)
 }
 
 /// The place of a socket in the table; the table's length where it isn't there.

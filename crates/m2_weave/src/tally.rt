@@ -5,40 +5,16 @@ ghost use Rattle.std.specs.List.{list_any};
 ghost use Rattle.m2_fabric.specs.Sockets.{is_among, same_socket};
 ghost use Rattle.m2_weave.specs.Counting.{bytes_need, place_in, side_number};
 ghost use Rattle.m2_weave.specs.Strands.{opens, read_by, read_by_halves, strand_now, total};
-ghost use Rattle.m2_weave.specs.Table.{HasRisen, KeepsNumbers, KeepsOpened, got_at, names_of};
+ghost use Rattle.m2_weave.specs.Table.{KeepsNumbers, KeepsOpened, got_at, names_of};
 ghost use Rattle.m2_weave.specs.Tally.{bytes_alone};
 
 use crate::strand::{Strand, StrandItem};
-use crate::table::{SocketTable, got_at, named_place, piece, place_in, put_at};
+use crate::table::{SocketTable, got_at, named_place, piece, place_in, put_at, raise};
 use m2_bytes::NoMemory;
 use m2_fabric::SocketId;
 use m2_journal::Entry;
 use m2_merge::Need;
 use std::alloc::Global;
-
-/// Adds to the number of a socket, if it is in the table. A number above 2^64 - 1 is answered as for want
-/// of memory.
-pub(crate) fn raise(
-    numbers: &mut Vec<u64>,
-    sockets: &SocketTable<'_>,
-    socket: &SocketId,
-    amount: u64,
-) -> Result<(), NoMemory>
-    requires count { length numbers.old.items ≡ length sockets.now }
-    ensures count { length numbers.new.items ≡ length sockets.now }
-    ensures risen { OnOk result (HasRisen (names_of sockets.now) socket.now amount numbers.old.items numbers.new.items) }
-{
-    let place = place_in(sockets, socket);
-    if place >= sockets.len() {
-        return Ok(());
-    }
-    let number = numbers[place];
-    if amount > u64::MAX - number {
-        return Err(NoMemory);
-    }
-    numbers[place] = number + amount;
-    Ok(())
-}
 
 /// Adds what an item has read.
 fn add_read(
