@@ -5,3 +5,9 @@ pub mod Counting
 pub mod Delivering
 pub mod Gathering
 pub mod Orders
+pub mod Tidiness
+pub mod Linked
+pub mod Kept
+pub mod Known
+pub mod Sides
+pub mod BothRecords

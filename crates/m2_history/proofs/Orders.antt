@@ -1,7 +1,7 @@
 -- What comes of weaving: an order of all strands, or a stop where no order goes further.
 use Rattle.std.proofs.Common.{◌≡◌, ℕ, ◌+◌, Bool, true, false, true≢false, Decides, List, [], ◌∷◌, length, map, Option, Result, Ok, Err, refl, sym, ap, ◌∙◌, subst}
 use Rattle.std.proofs.lemmas.List.{length-map, length-set}
-use Rattle.std.specs.Prelude.{slice_index}
+use Rattle.std.specs.Prelude.{replicate, slice_index}
 use Rattle.m2_merge.specs.Merging.{even}
 use Rattle.m2_merge.specs.Order.{IsGreedy, come, come_all, nothing, reached}
 use Rattle.m2_merge.proofs.Furthest.{are-lawful}
@@ -14,9 +14,10 @@ use Rattle.m2_weave.specs.Stops.{IsWoven, StopsAt, first_stop, sizes}
 use Rattle.m2_weave.specs.Strands.{StrandNow, strand_now}
 use Rattle.m2_weave.specs.Table.{woven_of}
 use Rattle.m2_history.specs.declared.history.History.{History}
-use Rattle.m2_history.specs.declared.history.WeaveFault.{WeaveFault}
-use Rattle.m2_history.specs.declared.history.WeaveFault.TheVariants as fault
-use Rattle.m2_history.specs.Woven.{BothNow, ComesOf, Weaves, ends_of, row_now, rows_of, strands_of}
+use Rattle.m2_history.specs.declared.history.PartsFault.{PartsFault}
+use Rattle.m2_history.specs.declared.history.PartsFault.TheVariants as fault
+use Rattle.m2_history.specs.Steps.{steps_from}
+use Rattle.m2_history.specs.Woven.{BothNow, ComesOf, IsHistoryOrFull, Weaves, ends_of, row_now, rows_of, strands_of}
 
 -- what the weaving of the strands found
 pub record Found (w : Woven) (order at : List ℕ) (whole : Bool) : Type 0 where
@@ -24,12 +25,31 @@ pub record Found (w : Woven) (order at : List ℕ) (whole : Bool) : Type 0 where
   pub places : at ≡ reached (sizes w) order
   pub decides : Decides whole (at ≡ sizes w)
 
-pub whole_order : (strands : List Strand) (table rows : List SocketBytes) (order at : List ℕ) (whole : Bool) → table ≡ rows → Found (woven_of strands table) order at whole →
+whole_order : (strands : List Strand) (table rows : List SocketBytes) (order at : List ℕ) (whole : Bool) → table ≡ rows → Found (woven_of strands table) order at whole →
     whole ≡ true → IsWoven (woven_of strands rows) order
 whole_order strands table rows order at whole same f all =
     let w : Woven = woven_of strands table in
     subst (λ t. IsWoven (woven_of strands t) order) same
     (record { lawful = are-lawful even (by_bytes w) (sizes w) (nothing (sizes w)) order f.greedy.each; whole = sym f.places ∙ f.decides.0 all })
+
+-- before any entry as many zeros as strands
+zeros : (strands : List Strand) → nothing (map (λ (s : StrandNow). length s.items) (map strand_now strands)) ≡ replicate (length strands) 0
+zeros [] = refl
+zeros (s ∷ strands) = ap (λ l. 0 ∷ l) (zeros strands)
+
+-- the order as a history
+pub history_comes : (result : Result History PartsFault) (strands : List Strand) (table rows : List SocketBytes) (order seen at : List ℕ) (count : ℕ) (whole : Bool) → table ≡ rows →
+    Found (woven_of strands table) order at whole → whole ≡ true → seen ≡ order → count ≡ length strands → IsHistoryOrFull result (replicate count 0) seen →
+    ComesOf result (map strand_now strands) rows
+history_comes (Ok h) strands table rows order seen at count whole same f all here n is = record {
+  order = order;
+  woven = whole_order strands table rows order at whole same f all;
+  steps = is ∙ ap (steps_from (replicate count 0)) here ∙ ap (λ c. steps_from c order) (ap (λ m. replicate m 0) n ∙ sym (zeros strands));
+}
+history_comes (Err fault.NoMemory) strands table rows order seen at count whole same f all here n is = tt
+history_comes (Err (fault.Unfit u)) strands table rows order seen at count whole same f all here n is = absurd is
+history_comes (Err fault.Waits) strands table rows order seen at count whole same f all here n is = absurd is
+history_comes (Err fault.NoEnd) strands table rows order seen at count whole same f all here n is = absurd is
 
 pub no_order : StopIsNoOrder → (strands : List Strand) (table rows : List SocketBytes) (order at : List ℕ) (whole : Bool) (u : Option Unfit) (seen : List ℕ) → table ≡ rows →
     Found (woven_of strands table) order at whole → whole ≡ false → seen ≡ at → u ≡ first_stop (woven_of strands table) seen (map strand_now strands) seen →
@@ -60,7 +80,7 @@ places strands table order at whole f =
     ∙ length-map strands strand_now)))
 
 -- of both sides
-pub weaves_of : (result : Result History WeaveFault) (x : BothNow) (sockets : List SocketBytes) (strands : List StrandNow) → map row_now sockets ≡ rows_of (ends_of x) →
+pub weaves_of : (result : Result History PartsFault) (x : BothNow) (sockets : List SocketBytes) (strands : List StrandNow) → map row_now sockets ≡ rows_of (ends_of x) →
     strands ≡ strands_of x → ComesOf result strands sockets → Weaves result x
 weaves_of (Ok h) x sockets strands rows same c = (sockets, rows, subst (λ ss. ComesOf (Ok h) ss sockets) same c)
 weaves_of (Err (fault.Unfit u)) x sockets strands rows same c = (sockets, rows, subst (λ ss. ComesOf (Err (fault.Unfit u)) ss sockets) same c)

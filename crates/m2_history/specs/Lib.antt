@@ -4,3 +4,6 @@ pub mod HalfStrands
 pub mod Parts
 pub mod Woven
 pub mod Ends
+pub mod Link
+pub mod Sockets
+pub mod Steps

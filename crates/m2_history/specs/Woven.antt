@@ -1,25 +1,27 @@
 -- What is woven of two sides: their journals and halves as strands, and the bytes of their ends, socket by socket. This project's
 -- own.
-use Rattle.std.specs.Prelude.{◌≡◌, ℕ, ◌&&◌, ◌||◌, Bool, true, false, if◌then◌else◌, List, [], ◌∷◌, ◌++◌, map, Some, None, Result, Ok, Err}
+use Rattle.std.specs.Prelude.{◌≡◌, ℕ, ◌+◌, ◌&&◌, ◌||◌, Bool, true, false, if◌then◌else◌, List, [], ◌∷◌, ◌++◌, map, take, Some, None, Result, Ok, Err}
 use Rattle.std.specs.List.{list_any}
 use Rattle.m2_fabric.specs.declared.socket.SocketId.{SocketId}
 use Rattle.m2_fabric.specs.End.{SeenEnd}
 use Rattle.m2_fabric.specs.Sockets.{same_socket}
 use Rattle.m2_journal.specs.declared.entry.Entry.{Entry}
 use Rattle.m2_journal.specs.declared.entry.Entry.TheVariants as entry
+use Rattle.m2_merge.specs.Order.{Cut, nothing}
 use Rattle.m2_trail.specs.Arrivals.{LooseNow}
 use Rattle.m2_trail.specs.Trails.{TrailNow}
 use Rattle.m2_weave.specs.declared.table.SocketBytes.{SocketBytes}
 use Rattle.m2_weave.specs.Counting.{AreNamed}
 use Rattle.m2_weave.specs.Rule.{Woven}
-use Rattle.m2_weave.specs.Stops.{IsWoven, StopsAt}
-use Rattle.m2_weave.specs.Strands.{StrandNow, has_opened, journal_of, same_side}
+use Rattle.m2_weave.specs.Stops.{IsWoven, StopsAt, sizes}
+use Rattle.m2_weave.specs.Strands.{StrandNow, has_opened, journal_of, judged_by, same_side, total}
 use Rattle.m2_weave.specs.Table.{bytes_of, names_of}
 use Rattle.m2_history.specs.declared.history.History.{History}
-use Rattle.m2_history.specs.declared.history.WeaveFault.{WeaveFault}
-use Rattle.m2_history.specs.declared.history.WeaveFault.TheVariants as fault
+use Rattle.m2_history.specs.declared.history.PartsFault.{PartsFault}
+use Rattle.m2_history.specs.declared.history.PartsFault.TheVariants as fault
 use Rattle.m2_history.specs.HalfStrands.{strand_of}
 use Rattle.m2_history.specs.Parts.{PartsNow}
+use Rattle.m2_history.specs.Steps.{steps_from}
 
 -- ---- what is woven
 
@@ -48,8 +50,16 @@ is_of_link a b l = knows a l.end.id || knows b l.end.id
 abbrev pub strands_of_side : List Entry → List TrailNow → List StrandNow
 strands_of_side journal trails = journal_of journal ∷ map strand_of trails
 
+-- how many asks on a socket two journals have judged
+abbrev pub judged_times : (a b : List Entry) → SocketId → ℕ
+judged_times a b k = total (judged_by k) (journal_of a).items + total (judged_by k) (journal_of b).items
+
+-- Of a loose half's asks those count that the two journals have judged: another record of its node may have judged more.
+abbrev pub as_judged : (a b : List Entry) → TrailNow → TrailNow
+as_judged a b t = record t { judged_after = take (judged_times a b t.socket) t.judged_after }
+
 abbrev pub loose_strand : (a b : List Entry) → LooseNow → List StrandNow
-loose_strand a b l = if is_of_link a b l then strand_of l.trail ∷ [] else []
+loose_strand a b l = if is_of_link a b l then strand_of (as_judged a b l.trail) ∷ [] else []
 
 abbrev pub loose_strands : (a b : List Entry) → List LooseNow → List StrandNow
 loose_strands a b [] = []
@@ -119,10 +129,22 @@ row_now s = record {
 
 -- ---- a history
 
+-- an order by its steps, or want of memory
+abbrev pub IsHistoryOrFull : Result History PartsFault → (at : Cut) → List ℕ → Type 0
+IsHistoryOrFull (Ok h) at order = h.steps.items ≡ steps_from at order
+IsHistoryOrFull (Err fault.NoMemory) at order = Unit {0}
+IsHistoryOrFull (Err _) at order = ⊥
+
+-- the steps are those of an order of all strands
+pub record IsHistory (w : Woven) (h : History) : Type 0 where
+  pub order : List ℕ
+  pub woven : IsWoven w order
+  pub steps : h.steps.items ≡ steps_from (nothing (sizes w)) order
+
 -- What comes of weaving strands with the bytes of these sockets: an order of all of them, exactly where there is one; else the byte
 -- at which the first strand stands that stands at a read, or that none does.
-abbrev pub ComesOf : Result History WeaveFault → List StrandNow → List SocketBytes → Type 0
-ComesOf (Ok h) strands sockets = IsWoven (record { strands = strands; bytes = bytes_of sockets }) h.order.items
+abbrev pub ComesOf : Result History PartsFault → List StrandNow → List SocketBytes → Type 0
+ComesOf (Ok h) strands sockets = IsHistory (record { strands = strands; bytes = bytes_of sockets }) h
 ComesOf (Err (fault.Unfit u)) strands sockets = let w : Woven = record { strands = strands; bytes = bytes_of sockets } in
     StopsAt w (Some u) × ((order : List ℕ) → IsWoven w order → ⊥)
 ComesOf (Err fault.Waits) strands sockets = let w : Woven = record { strands = strands; bytes = bytes_of sockets } in
@@ -131,6 +153,6 @@ ComesOf (Err fault.NoEnd) strands sockets = AreNamed (names_of sockets) (record 
 ComesOf (Err fault.NoMemory) strands sockets = Unit {0}
 
 -- of two sides and halves that neither took
-abbrev pub Weaves : Result History WeaveFault → BothNow → Type 0
+abbrev pub Weaves : Result History PartsFault → BothNow → Type 0
 Weaves (Err fault.NoMemory) x = Unit {0}
 Weaves result x = (sockets : List SocketBytes) × (map row_now sockets ≡ rows_of (ends_of x)) × ComesOf result (strands_of x) sockets

@@ -3,6 +3,7 @@
 
 ghost use Rattle.m2_history.specs.Delivered as delivered;
 ghost use Rattle.m2_history.specs.HalfStrands as strands;
+ghost use Rattle.m2_history.specs.Link as link;
 
 use m2_channel::observed_is_a_run;
 
@@ -26,3 +27,15 @@ pub fn posted_is_delivered()
 {
     observed_is_a_run();
 }
+
+/// A record's side has an end for each socket that it reads or writes on and for each half that it took, and
+/// these halves handed on just the asks that it judged.
+pub fn records_are_kept()
+    ensures { link.RecordsAreKept }
+{}
+
+/// The strands of two records and of the loose halves beside them wait in no circle, and each socket that
+/// they name has an end, where the half of each ask that was judged is there.
+pub fn strands_are_tidy()
+    ensures { link.StrandsAreTidy }
+{}

@@ -3,15 +3,17 @@
 ghost use Rattle.std.specs.Prelude.{◌≡◌, ◌∷◌, ◌++◌, [], map, OnOk};
 ghost use Rattle.std.specs.Option.{option_map, option_to_list};
 ghost use Rattle.m2_history.specs.Ends.{end_now};
-ghost use Rattle.m2_history.specs.Woven.{end_of, half_end, knows, is_about};
+ghost use Rattle.m2_history.specs.Sockets.{end_by};
+ghost use Rattle.m2_history.specs.Woven.{end_of, half_end};
 ghost use Rattle.m2_trail.specs.Trails.{trail_now};
-ghost use Rattle.m2_weave.specs.declared.strand.StrandItem.TheVariants.{Noted};
-ghost use Rattle.m2_weave.specs.Strands.{has_opened, journal_of, opens};
 
+use crate::sockets::opened_in;
 use m2_bytes::NoMemory;
 use m2_fabric::{End, EndLog, SocketId};
 use m2_journal::Entry;
 use m2_trail::{Loose, Trail};
+use m2_weave::SocketNames;
+use std::alloc::Global;
 use std::marker::Model;
 
 /// What a record did, as it lends it: its journal, the trails of the halves that it took, the feed's end
@@ -76,11 +78,17 @@ impl<'a, E: End> Parts<'a, E> {
     }
 
     /// Appends all its ends, the feed's first.
-    pub(crate) fn add_ends(&self, ends: &mut Vec<EndPart<'a>>) -> Result<(), NoMemory>
+    pub(crate) fn add_ends(
+        &self,
+        alloc: Global,
+        ends: &mut Vec<EndPart<'a>>,
+    ) -> Result<(), NoMemory>
         ensures { OnOk result (map end_now ends.new.items ≡ map end_now ends.old.items ++ map (end_of self.now.journal) self.now.ends) }
     {
-        add_feed(ends, self.journal, self.feed)?;
-        add_spent(ends, self.journal, self.spent)
+        let opened = opened_in(alloc, self.journal)?;
+        add_feed(ends, &opened, self.feed)?;
+        add_spent(ends, &opened, self.spent)?;
+        Ok(())
     }
 }
 
@@ -92,86 +100,16 @@ pub(crate) struct EndPart<'a> {
     pub(crate) log: &'a EndLog,
 }
 
-/// Whether an entry opens a socket.
-fn opens(e: &Entry, k: &SocketId) -> bool
-    ensures { result ≡ opens k.now (Noted e.now) }
-{
-    if let Entry::Opened { socket } = e {
-        k.is_same(socket)
-    } else {
-        false
-    }
-}
-
-/// Whether a journal has opened a socket.
-fn is_opened(journal: &[Entry], k: &SocketId) -> bool
-    ensures { result ≡ has_opened (journal_of journal.now) k.now }
-{
-    for e in journal {
-        if opens(e, k) {
-            return true;
-        }
-    }
-    false
-}
-
-/// Whether an entry opens a socket, or judges an ask on it.
-fn is_about(e: &Entry, k: &SocketId) -> bool
-    ensures { result ≡ is_about k.now e.now }
-{
-    match e {
-        Entry::Opened { socket } => k.is_same(socket),
-        Entry::Judged {
-            socket,
-            ask: _,
-            number: _,
-            answer: _,
-        } => k.is_same(socket),
-        Entry::Post { place: _ }
-        | Entry::Dial
-        | Entry::Read {
-            socket: _,
-            count: _,
-        }
-        | Entry::Wrote {
-            socket: _,
-            count: _,
-        }
-        | Entry::Closed { socket: _ }
-        | Entry::Asked {
-            ident: _,
-            number: _,
-        }
-        | Entry::Numbered { number: _ }
-        | Entry::Accepted { number: _, key: _ }
-        | Entry::Acked { number: _ }
-        | Entry::Obeyed { full: _ }
-        | Entry::Down { planned: _ } => false,
-    }
-}
-
-/// Whether a journal speaks of a socket like that.
-pub(crate) fn knows(journal: &[Entry], k: &SocketId) -> bool
-    ensures { result ≡ knows journal.now k.now }
-{
-    for e in journal {
-        if is_about(e, k) {
-            return true;
-        }
-    }
-    false
-}
-
-/// Appends an end of a side.
+/// Appends an end of the side that has opened these sockets.
 fn add_end<'a, E: End>(
     ends: &mut Vec<EndPart<'a>>,
-    journal: &[Entry],
+    opened: &SocketNames,
     end: &'a E,
 ) -> Result<(), NoMemory>
-    ensures { OnOk result (map end_now ends.new.items ≡ map end_now ends.old.items ++ end_of journal.now (E.seen end.now) ∷ []) }
+    ensures { OnOk result (map end_now ends.new.items ≡ map end_now ends.old.items ++ end_by opened.now (E.seen end.now) ∷ []) }
 {
     let socket = end.id();
-    let opener = is_opened(journal, &socket);
+    let opener = opened.has(&socket);
     ends.push(EndPart {
         socket,
         opener,
@@ -183,13 +121,13 @@ fn add_end<'a, E: End>(
 /// Appends the ends that were the feed.
 fn add_spent<'a, E: End>(
     ends: &mut Vec<EndPart<'a>>,
-    journal: &[Entry],
+    opened: &SocketNames,
     spent: &'a [E],
 ) -> Result<(), NoMemory>
-    ensures { OnOk result (map end_now ends.new.items ≡ map end_now ends.old.items ++ map (end_of journal.now) (map E.seen spent.now)) }
+    ensures { OnOk result (map end_now ends.new.items ≡ map end_now ends.old.items ++ map (end_by opened.now) (map E.seen spent.now)) }
 {
     for end in spent {
-        add_end(ends, journal, end)?;
+        add_end(ends, opened, end)?;
     }
     Ok(())
 }
@@ -197,14 +135,14 @@ fn add_spent<'a, E: End>(
 /// Appends the feed's end, if there is one.
 fn add_feed<'a, E: End>(
     ends: &mut Vec<EndPart<'a>>,
-    journal: &[Entry],
+    opened: &SocketNames,
     feed: Option<&'a E>,
 ) -> Result<(), NoMemory>
     ensures { OnOk result (map end_now ends.new.items
-        ≡ map end_now ends.old.items ++ map (end_of journal.now) (option_to_list (option_map (λ e. E.seen e.now) feed.entry))) }
+        ≡ map end_now ends.old.items ++ map (end_by opened.now) (option_to_list (option_map (λ e. E.seen e.now) feed.entry))) }
 {
     match feed {
-        Some(end) => add_end(ends, journal, end),
+        Some(end) => add_end(ends, opened, end),
         None => Ok(()),
     }
 }

@@ -12,20 +12,17 @@ use m2_trail::Trail;
 use m2_weave::Strand;
 use std::alloc::Global;
 
-/// Appends the strand of a half.
+/// Appends the strand of a half that has handed on its asks behind so many of its entries.
 pub(crate) fn add_half(
     alloc: Global,
     strands: &mut Vec<Strand>,
     trail: &Trail,
+    judged_after: &[usize],
 ) -> Result<(), NoMemory>
-    ensures { OnOk result (map strand_now strands.new.items ≡ map strand_now strands.old.items ++ strand_of (trail_now trail.now) ∷ []) }
+    ensures { OnOk result (map strand_now strands.new.items
+        ≡ map strand_now strands.old.items ++ strand_of (record (trail_now trail.now) { judged_after = judged_after.now }) ∷ []) }
 {
-    let strand = Strand::of_half(
-        alloc,
-        trail.socket,
-        trail.entries.as_slice(),
-        trail.judged_after.as_slice(),
-    )?;
+    let strand = Strand::of_half(alloc, trail.socket, trail.entries.as_slice(), judged_after)?;
     strands.push(strand)?;
     Ok(())
 }
@@ -35,7 +32,7 @@ fn add_halves(alloc: Global, strands: &mut Vec<Strand>, trails: &[Trail]) -> Res
     ensures { OnOk result (map strand_now strands.new.items ≡ map strand_now strands.old.items ++ map strand_of (map trail_now trails.now)) }
 {
     for trail in trails {
-        add_half(alloc, strands, trail)?;
+        add_half(alloc, strands, trail, trail.judged_after.as_slice())?;
     }
     Ok(())
 }

@@ -6,4 +6,4 @@ use Rattle.m2_history.proofs.weaving.add_loose_strands.Given as goal
 -- those so far, and those that are left
 abbrev pub invariant-loop-half : goal.invariant-loop-half
 invariant-loop-half g l =
-    map strand_now l.strands.items ++ loose_strands l.a l.b (drop l.half-index l.loose) ≡ map strand_now l.initial.strands.items ++ loose_strands l.a l.b l.loose
+    map strand_now l.strands.items ++ loose_strands l.known.a l.known.b (drop l.half-index l.loose) ≡ map strand_now l.initial.strands.items ++ loose_strands l.known.a l.known.b l.loose
