@@ -11,3 +11,4 @@ pub mod Along
 pub mod Bytes
 pub mod Linked
 pub mod Whole
+pub mod Woven

@@ -301,7 +301,7 @@ module _ (l : LinkNow) (link : IsLink l) (sockets : List SocketBytes) (rows : ma
   pub side_bytes : (s : Bool) (k : SocketId) → is_among k (ids_of (part s).ends) ≡ true → HasBytes sockets k (opens_in x s k) (log_at (part s).ends k).got (log_at (part s).ends k).put
   side_bytes s k h =
       let e = end_there (journal s) (part s).ends k h in
-      let has = bytes_there (ends_of l.both) sockets e.end link.apart.ends rows (member s e.end e.there) in
+      let has = bytes_there (ends_of l.both) sockets e.end link.joined.apart.ends rows (member s e.end e.there) in
       record {
         got = ap (λ j. (bytes_of sockets).got (record { socket = j; opener = opens_in x s k })) (sym e.socket)
             ∙ ap (λ o. (bytes_of sockets).got (record { socket = e.end.socket; opener = o })) (sym e.opener) ∙ has.got ∙ e.got;
@@ -321,8 +321,8 @@ module _ (l : LinkNow) (link : IsLink l) (sockets : List SocketBytes) (rows : ma
   opened_judges_none s k o = opened_unjudged (l.facts s) (sources s) (journal s) at_start k (link.sides s).lawful o
 
   one_judges : (s : Bool) (k : SocketId) → (judged_on k (judgements_in (journal s)) ≡ []) ⊎ (judged_on k (judgements_in (journal (not s))) ≡ [])
-  one_judges true k = link.apart.judged k
-  one_judges false k = by_either (link.apart.judged k) inr inl
+  one_judges true k = link.joined.apart.judged k
+  one_judges false k = by_either (link.joined.apart.judged k) inr inl
 
   never_both : (s : Bool) (k : SocketId) → opens_in x s k ≡ true → (b : Bool) → opens_in x (not s) k ≡ b → opens_in x (not s) k ≡ false
   never_both s k o false e = e
@@ -332,8 +332,8 @@ module _ (l : LinkNow) (link : IsLink l) (sockets : List SocketBytes) (rows : ma
       leads s o = opened_leads (l.facts s) (sources s) (journal s) at_start (start (l.facts s)) k (link.sides s).lawful o
 
       at : (s : Bool) → opens_in x s k ≡ true → opens_in x (not s) k ≡ true → opens_in x (not s) k ≡ false
-      at true o e = differ (sym (link.peers k (leads true o)) ∙ leads false e)
-      at false o e = differ (sym (link.peers k (leads true e)) ∙ leads false o)
+      at true o e = differ (sym (link.joined.peers k (leads true o)) ∙ leads false e)
+      at false o e = differ (sym (link.joined.peers k (leads true e)) ∙ leads false o)
 
   pub sides_apart : (s : Bool) (k : SocketId) → opens_in x s k ≡ true → opens_in x (not s) k ≡ false
   sides_apart s k o = never_both s k o (opens_in x (not s) k) refl
@@ -350,7 +350,7 @@ module _ (l : LinkNow) (link : IsLink l) (sockets : List SocketBytes) (rows : ma
   taken_known s t member kept seen = record {
     trail = kept.beside.facts;
     own = taken_own t kept.beside.entries;
-    entity = subst (λ n. n < 2 ^ 8) (sym kept.entity) (link.named s).entity;
+    entity = subst (λ n. n < 2 ^ 8) (sym kept.entity) (link.joined.named s).entity;
     seen = seen;
     unopened = unopened (opens_in x s t.socket) refl;
     judged = kept.judged;
@@ -414,10 +414,10 @@ module _ (l : LinkNow) (link : IsLink l) (sockets : List SocketBytes) (rows : ma
       others true e =
           let n = near_half_is a b k e in
           by_either n.known (λ o. opened_judges_none false k o)
-          (λ m. by_either (link.apart.judged k) (λ none. absurd (judges_some n.closed m none)) (λ none. none))
+          (λ m. by_either (link.joined.apart.judged k) (λ none. absurd (judges_some n.closed m none)) (λ none. none))
       others false e = by_either (far_half_is a b k e) (λ o. opened_judges_none true k o) (λ n. judged_is_known k a n.1)
 
       bytes : HasBytes sockets h.end.id false h.end.log.got h.end.log.put
       bytes =
-          bytes_there (ends_of l.both) sockets (half_end h) link.apart.ends rows
+          bytes_there (ends_of l.both) sockets (half_end h) link.joined.apart.ends rows
           (of_right (half_end h) (map (end_of a) l.both.a.ends ++ map (end_of b) l.both.b.ends) (loose_ends a b l.both.loose) (loose_member a b l.both.loose h member of_link))

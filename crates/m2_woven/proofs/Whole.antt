@@ -1,5 +1,5 @@
 -- A link that is woven into one order: its sides and halves are a scene, and bytes fit throughout.
-use Rattle.std.proofs.Common.{◌≡◌, ℕ, zero, suc, ◌+◌, inl, inr, Bool, true, false, ◌||◌, if◌then◌else◌, List, [], ◌∷◌, ◌++◌, length, map, take, drop, Some, None, refl, sym, ap, ◌∙◌, subst, append_assoc}
+use Rattle.std.proofs.Common.{◌≡◌, ℕ, zero, suc, ◌+◌, ◌≤◌, inl, inr, Bool, true, false, ◌||◌, if◌then◌else◌, List, [], ◌∷◌, ◌++◌, length, map, take, drop, Some, None, refl, sym, ap, ◌∙◌, subst, arith, append_assoc, take_all}
 use Rattle.std.specs.Prelude.{slice_get, slice_index}
 use Rattle.std.specs.List.{AllByRecursion, flat_map}
 use Rattle.std.proofs.lemmas.List.{length-map, map-append}
@@ -15,9 +15,10 @@ use Rattle.m2_fitting.specs.Trails.{TrailsTellEachPoint}
 use Rattle.m2_history.specs.Delivered.{PostedIsDelivered}
 use Rattle.m2_history.specs.HalfStrands.{OrdersGivePoints, strand_of}
 use Rattle.m2_history.specs.Parts.{PartsNow}
-use Rattle.m2_history.specs.Woven.{BothNow, is_of_link, loose_strand, loose_strands, row_now, rows_of, ends_of, strands_of, strands_of_side}
+use Rattle.m2_history.specs.Woven.{BothNow, as_judged, is_of_link, judged_times, loose_strand, loose_strands, row_now, rows_of, ends_of, strands_of, strands_of_side}
 use Rattle.m2_journal.specs.declared.entry.Entry.{Entry}
 use Rattle.m2_journal.specs.Items.{items_of}
+use Rattle.m2_journal.specs.Lawful.{judged_on}
 use Rattle.m2_journal.specs.Replay.{AreLawful}
 use Rattle.m2_journal.specs.State.{start}
 use Rattle.m2_merge.specs.Order as merge
@@ -27,7 +28,7 @@ use Rattle.m2_paired.specs.Orders.{far_items, near_items}
 use Rattle.m2_paired.proofs.Sockets.{same_refl}
 use Rattle.m2_record.specs.RecordNow.{feed_end, ids_of, ends_of as ends_of_record}
 use Rattle.m2_record.specs.Sources.{log_at, read_before, trail_at, unread_of, written_before}
-use Rattle.m2_record.specs.TakenTrails.{IsKeptTrail, taken_in}
+use Rattle.m2_record.specs.TakenTrails.{IsKeptTrail, judgements_in, taken_in}
 use Rattle.m2_trail.specs.Arrivals.{LooseNow}
 use Rattle.m2_trail.specs.Trails.{TrailNow, opener_of}
 use Rattle.m2_weave.specs.declared.strand.StrandItem.TheVariants.{Noted}
@@ -38,10 +39,11 @@ use Rattle.m2_weave.specs.Stops.{IsWoven, sizes}
 use Rattle.m2_weave.specs.Strands.{StrandNow, journal_of}
 use Rattle.m2_weave.specs.Table.{bytes_of}
 use Rattle.m2_woven.specs.Actors.{Actor, of_record, of_half, actors_of, actors_of_side, is_near, journal_by, loose_actor, loose_actors, part_of, strand_by, taken_half}
-use Rattle.m2_woven.specs.Laws.{RecordsAreSides, WovenBytesFit, WovenIsDelivered, WovenIsSo, kept_by}
-use Rattle.m2_woven.specs.Link.{IsLink, IsLooseBeside, LinkNow, items_by, order_of}
+use Rattle.m2_woven.specs.Laws.{RecordsAreSides, WovenBytesFit, WovenIsDelivered, WovenIsNeverReset, kept_by}
+use Rattle.m2_woven.specs.Link.{IsLink, IsLooseBeside, IsOrderOf, LinkNow, items_by, order_of}
 use Rattle.m2_woven.proofs.Along.{at_first, begins_there, cut_of, fits_there, front, items_so}
 use Rattle.m2_woven.proofs.Bytes.{HasBytes, IsOf, of_left, of_right}
+use Rattle.m2_woven.proofs.Journals.{judged_count}
 use Rattle.m2_woven.proofs.Linked.{FoundTrail, IsKnownActor, all_at, all_join, all_with, feed_opened, find_trail, get_left, get_map, get_right, loose_halves, loose_known, members, no_trail, one_record, places_of, record_between, setting_of, side_bytes, sides_apart, opened_judges_none, taken_halves, taken_known, trail_at_half}
 use Rattle.m2_woven.proofs.Moved.{unjudged_untaken}
 use Rattle.m2_woven.proofs.Scene.{IsHalfAt, IsHalfIn, IsOpenedIn, IsScene, IsTakenIn, Setting, items_in, opens_in, strand_is, woven_in}
@@ -57,24 +59,40 @@ taken_strands journals s ends (t ∷ ts) = ap (λ (l : List StrandNow). strand_o
 side_strands : (x : BothNow) (s : Bool) → map (strand_by (λ r. journal_by x r)) (actors_of_side s (part_of x s)) ≡ strands_of_side (journal_by x s) (part_of x s).trails
 side_strands x s = ap (λ (l : List StrandNow). journal_of (journal_by x s) ∷ l) (taken_strands (λ r. journal_by x r) s (part_of x s).ends (part_of x s).trails)
 
-one_loose : (journals : Bool → List Entry) (a b : List Entry) (l : LooseNow) → map (strand_by journals) (loose_actor a b l) ≡ loose_strand a b l
-one_loose journals a b l = at (is_of_link a b l)
+-- of a half that neither took all asks count, since its side has judged them
+as_it_is : (a b : List Entry) (h : LooseNow) → IsLooseBeside a b h → as_judged a b h.trail ≡ h.trail
+as_it_is a b h beside = ap (λ (ns : List ℕ). record h.trail { judged_after = ns }) (take_all (judged_times a b h.trail.socket) h.trail.judged_after (all (is_near a b h.trail.socket) refl))
   where
-    at : (c : Bool) → map (strand_by journals) (if c then of_half (is_near a b l.trail.socket) l.trail l.end.log ∷ [] else []) ≡ (if c then strand_of l.trail ∷ [] else [])
-    at true = refl
-    at false = refl
+    k : SocketId
+    k = h.trail.socket
 
-all_loose : (journals : Bool → List Entry) (a b : List Entry) (ls : List LooseNow) → map (strand_by journals) (loose_actors a b ls) ≡ loose_strands a b ls
-all_loose journals a b [] = refl
-all_loose journals a b (l ∷ ls) =
-    map-append (strand_by journals) (loose_actor a b l) (loose_actors a b ls)
-    ∙ ap (λ m. m ++ map (strand_by journals) (loose_actors a b ls)) (one_loose journals a b l) ∙ ap (λ m. loose_strand a b l ++ m) (all_loose journals a b ls)
+    all : (s : Bool) → is_near a b k ≡ s → length h.trail.judged_after ≤ judged_times a b k
+    all true e =
+        let told = ap length (beside.judged ∙ ap (λ s. judged_on k (judgements_in (if s then a else b))) e) in
+        omega (arith, told, beside.whole.facts.many, judged_count k a)
+    all false e =
+        let told = ap length (beside.judged ∙ ap (λ s. judged_on k (judgements_in (if s then a else b))) e) in
+        omega (arith, told, beside.whole.facts.many, judged_count k b)
 
-strands_are : (x : BothNow) → map (strand_by (λ s. journal_by x s)) (actors_of x) ≡ strands_of x
-strands_are x =
+one_loose : (journals : Bool → List Entry) (a b : List Entry) (h : LooseNow) → (is_of_link a b h ≡ true → IsLooseBeside a b h) → map (strand_by journals) (loose_actor a b h) ≡ loose_strand a b h
+one_loose journals a b h beside = at (is_of_link a b h) refl
+  where
+    at : (c : Bool) → is_of_link a b h ≡ c → map (strand_by journals) (if c then of_half (is_near a b h.trail.socket) h.trail h.end.log ∷ [] else []) ≡ (if c then strand_of (as_judged a b h.trail) ∷ [] else [])
+    at true e = ap (λ t. strand_of t ∷ []) (sym (as_it_is a b h (beside e)))
+    at false e = refl
+
+all_loose : (journals : Bool → List Entry) (a b : List Entry) (hs : List LooseNow) → AllByRecursion (λ (h : LooseNow). is_of_link a b h ≡ true → IsLooseBeside a b h) hs →
+    map (strand_by journals) (loose_actors a b hs) ≡ loose_strands a b hs
+all_loose journals a b [] beside = refl
+all_loose journals a b (h ∷ hs) beside =
+    map-append (strand_by journals) (loose_actor a b h) (loose_actors a b hs)
+    ∙ ap (λ m. m ++ map (strand_by journals) (loose_actors a b hs)) (one_loose journals a b h beside.0) ∙ ap (λ m. loose_strand a b h ++ m) (all_loose journals a b hs beside.1)
+
+strands_are : (x : BothNow) → AllByRecursion (λ (h : LooseNow). is_of_link x.a.journal x.b.journal h ≡ true → IsLooseBeside x.a.journal x.b.journal h) x.loose → map (strand_by (λ s. journal_by x s)) (actors_of x) ≡ strands_of x
+strands_are x beside =
     map-append strand (near ++ far) loose
     ∙ ap (λ m. m ++ map strand loose) (map-append strand near far ∙ ap (λ m. m ++ map strand far) (side_strands x true) ∙ ap (λ m. strands_of_side x.a.journal x.a.trails ++ m) (side_strands x false))
-    ∙ ap (λ m. (strands_of_side x.a.journal x.a.trails ++ strands_of_side x.b.journal x.b.trails) ++ m) (all_loose (λ s. journal_by x s) x.a.journal x.b.journal x.loose)
+    ∙ ap (λ m. (strands_of_side x.a.journal x.a.trails ++ strands_of_side x.b.journal x.b.trails) ++ m) (all_loose (λ s. journal_by x s) x.a.journal x.b.journal x.loose beside)
   where
     strand : Actor → StrandNow
     strand = strand_by (λ s. journal_by x s)
@@ -155,12 +173,12 @@ module _ (l : LinkNow) (link : IsLink l) (sockets : List SocketBytes) (rows : ma
   known_actors =
       all_join (IsKnownActor l link sockets rows) (actors_of_side true (part true) ++ actors_of_side false (part false)) loose
       (all_join (IsKnownActor l link sockets rows) (actors_of_side true (part true)) (actors_of_side false (part false)) (tt, known_side true) (tt, known_side false))
-      (known_loose l.both.loose (members l.both.loose) link.loose)
+      (known_loose l.both.loose (members l.both.loose) link.joined.loose)
 
   half_known : (j : ℕ) (s : Bool) (t : TrailNow) (log : Log) → IsHalfAt x j s t log → IsHalfIn x s t log
   half_known j s t log e =
       all_at (IsKnownActor l link sockets rows) (actors_of l.both) j (of_half s t log) known_actors e
-      (trail_at_half (λ t. HasAddrRanges (opener_of t.socket)) (actors_of l.both) j s t log link.seen e)
+      (trail_at_half (λ t. HasAddrRanges (opener_of t.socket)) (actors_of l.both) j s t log link.joined.seen e)
 
   -- ---- taken and opened sockets
 
@@ -222,7 +240,7 @@ module _ (l : LinkNow) (link : IsLink l) (sockets : List SocketBytes) (rows : ma
     place = place;
     there = there;
     once = once;
-    halves_once = λ i j s r t u log other e g q. places_of (actors_of l.both) link.apart.halves i j s r t u log other e g q;
+    halves_once = λ i j s r t u log other e g q. places_of (actors_of l.both) link.joined.apart.halves i j s r t u log other e g q;
     half = half_known;
     taken = taken_so;
     opened = opened_so;
@@ -277,19 +295,19 @@ module _ (read : ReadWasWritten) (asked : AsksComeFirst) (points : OrdersGivePoi
       let lawful = lawful_first (by_bytes (woven_in y)) (sizes (woven_in y)) (nothing (sizes (woven_in y))) p.first p.more
       (subst (λ o. merge.AreLawful (by_bytes (woven_in y)) (sizes (woven_in y)) (nothing (sizes (woven_in y))) o) p.parts woven.lawful) in
       subst (λ m. BytesFit (near_side (l.facts true) m) (far_side (l.facts false) m)) p.entries
-      (fits_there y sc p.first points tell (cut_of y read asked p.first lawful) link.named)
+      (fits_there y sc p.first points tell (cut_of y read asked p.first lawful) link.joined.named)
 
   byte_history : IsByteHistory (l.facts true) (l.facts false) (order_of l order)
   byte_history = record {
-    near_named = link.named true;
-    far_named = link.named false;
-    peers = link.peers;
+    near_named = link.joined.named true;
+    far_named = link.joined.named false;
+    peers = link.joined.peers;
     near_lawful = subst (λ is. AreLawful (l.facts true) is (start (l.facts true))) (sym near) (link.sides true).lawful;
     far_lawful = subst (λ is. AreLawful (l.facts false) is (start (l.facts false))) (sym far) (link.sides false).lawful;
-    near_not_down = subst (AllByRecursion IsNoDown) (sym near) (link.quiet true).up;
-    far_not_down = subst (AllByRecursion IsNoDown) (sym far) (link.quiet false).up;
-    near_posts = subst (AllByRecursion CanBePosted) (sym near) (link.quiet true).posts;
-    far_posts = subst (AllByRecursion CanBePosted) (sym far) (link.quiet false).posts;
+    near_not_down = subst (AllByRecursion IsNoDown) (sym near) (link.joined.quiet true).up;
+    far_not_down = subst (AllByRecursion IsNoDown) (sym far) (link.joined.quiet false).up;
+    near_posts = subst (AllByRecursion CanBePosted) (sym near) (link.joined.quiet true).posts;
+    far_posts = subst (AllByRecursion CanBePosted) (sym far) (link.joined.quiet false).posts;
     bytes = throughout;
   }
     where
@@ -301,31 +319,32 @@ module _ (read : ReadWasWritten) (asked : AsksComeFirst) (points : OrdersGivePoi
 
 -- ---- the laws
 
-pub bytes_fit_throughout : ReadWasWritten → AsksComeFirst → OrdersGivePoints → TrailsTellEachPoint → WovenBytesFit
-bytes_fit_throughout read asked points tell l sockets order link rows woven =
-    byte_history read asked points tell l sockets link rows order (subst (λ ss. IsWoven (record { strands = ss; bytes = bytes_of sockets }) order) (sym (strands_are l.both)) woven)
+by_actors : (l : LinkNow) (order : List ℕ) → IsLink l → (o : IsOrderOf l order) → IsWoven (woven_in (setting_of l o.sockets)) order
+by_actors l order link o = subst (λ ss. IsWoven (record { strands = ss; bytes = bytes_of o.sockets }) order) (sym (strands_are l.both link.joined.loose)) o.woven
 
-pub woven_so : WovenBytesFit → BytesGiveFits → LosslessBytesAreNeverReset → WovenIsSo
-woven_so fit gives never l h link woven =
-    let bytes = fit l woven.0 h.order.items link woven.1 woven.2 in
+pub bytes_fit_throughout : ReadWasWritten → AsksComeFirst → OrdersGivePoints → TrailsTellEachPoint → WovenBytesFit
+bytes_fit_throughout read asked points tell l order link o = byte_history read asked points tell l o.sockets link o.rows order (by_actors l order link o)
+
+pub never_reset : WovenBytesFit → BytesGiveFits → LosslessBytesAreNeverReset → WovenIsNeverReset
+never_reset fit gives never l order nodes link o =
+    let bytes = fit l order link o in
     record {
-      bytes = bytes;
-      history = λ nodes. gives (l.facts true) (l.facts false) (order_of l h.order.items) nodes bytes;
-      never_reset = λ nodes. never (l.facts true) (l.facts false) (order_of l h.order.items) nodes bytes;
+      history = gives (l.facts true) (l.facts false) (order_of l order) nodes bytes;
+      never_reset = never (l.facts true) (l.facts false) (order_of l order) nodes bytes;
     }
 
-pub delivered : ReadWasWritten → AsksComeFirst → OrdersGivePoints → TrailsTellEachPoint → WovenIsSo → PostedIsDelivered → WovenIsDelivered
-delivered read asked points tell so posted l h near_logs far_logs nodes link woven logs =
-    posted (l.facts true) (l.facts false) (entries_of (order_of l h.order.items)) (kept_by l true) (kept_by l false) near_logs far_logs nodes ((so l h link woven).history nodes)
+pub delivered : ReadWasWritten → AsksComeFirst → OrdersGivePoints → TrailsTellEachPoint → WovenIsNeverReset → PostedIsDelivered → WovenIsDelivered
+delivered read asked points tell so posted l order near_logs far_logs nodes link o logs =
+    posted (l.facts true) (l.facts false) (entries_of (order_of l order)) (kept_by l true) (kept_by l false) near_logs far_logs nodes (so l order nodes link o).history
     (record {
       near_plan = refl;
       far_plan = refl;
-      near_items = near_entries (order_of l h.order.items) ∙ all true;
-      far_items = far_entries (order_of l h.order.items) ∙ all false;
+      near_items = near_entries (order_of l order) ∙ all true;
+      far_items = far_entries (order_of l order) ∙ all false;
     }) logs
   where
-    all : (s : Bool) → flat_map (item_in s) (order_of l h.order.items) ≡ items_by l s
-    all s = whole_journal read asked points tell l woven.0 link woven.1 h.order.items (subst (λ ss. IsWoven (record { strands = ss; bytes = bytes_of woven.0 }) h.order.items) (sym (strands_are l.both)) woven.2) s
+    all : (s : Bool) → flat_map (item_in s) (order_of l order) ≡ items_by l s
+    all s = whole_journal read asked points tell l o.sockets link o.rows order (by_actors l order link o) s
 
 -- ---- records
 

@@ -1,47 +1,45 @@
 -- What follows where two sides of a link are woven into one order. This project's own.
-use Rattle.std.specs.Prelude.{◌≡◌, ℕ, Bool, true, false, List, map, Ok}
+use Rattle.std.specs.Prelude.{ℕ, Bool, true, false, if◌then◌else◌, List, map}
 use Rattle.m2_channel.specs.Observed.{Logs}
 use Rattle.m2_channel.specs.ObservedLaws.{AreLogs}
 use Rattle.m2_fitting.specs.Orders.{IsByteHistory, entries_of}
 use Rattle.m2_history.specs.declared.history.History.{History}
 use Rattle.m2_history.specs.Delivered.{AreDelivered, Kept}
-use Rattle.m2_history.specs.Parts.{PartsNow}
-use Rattle.m2_history.specs.Woven.{Weaves, ends_of, row_now, rows_of, strands_of}
+use Rattle.m2_history.specs.Link.{both_of, parts_of}
 use Rattle.m2_paired.specs.Orders.{AreNodes, IsHistory, IsNeverReset}
 use Rattle.m2_record.specs.IsRecord.{IsRecord}
-use Rattle.m2_record.specs.RecordNow.{RecordNow, ends_of as record_ends}
-use Rattle.m2_weave.specs.declared.table.SocketBytes.{SocketBytes}
-use Rattle.m2_weave.specs.Stops.{IsWoven}
-use Rattle.m2_weave.specs.Table.{bytes_of}
+use Rattle.m2_record.specs.RecordNow.{RecordNow}
+use Rattle.m2_trail.specs.Arrivals.{LooseNow}
 use Rattle.m2_woven.specs.Actors.{part_of}
-use Rattle.m2_woven.specs.Link.{LinkNow, IsLink, IsSideOf, order_of, sources_in}
+use Rattle.m2_woven.specs.Link.{LinkNow, AreJoined, IsLink, IsOrderOf, IsSideOf, order_of, sources_in}
 
 -- ---- sides
-
--- what a record has of a side
-abbrev pub parts_of : RecordNow → PartsNow
-parts_of r = record { journal = r.journal; trails = r.trails; ends = record_ends r }
 
 -- every record is a side of a link
 abbrev pub RecordsAreSides : Type 0
 RecordsAreSides = (r : RecordNow) → IsRecord r → IsSideOf r.core.facts r.plan (parts_of r)
 
+-- two records, with halves that neither took
+abbrev pub link_of : (a b : RecordNow) → List LooseNow → LinkNow
+link_of a b loose = record {
+  facts = λ near. (if near then a else b).core.facts;
+  plans = λ near. (if near then a else b).plan;
+  both = both_of a b loose;
+}
+
 -- ---- an order that was found
 
 -- throughout an order of all that two sides and their halves did, by the rule of weaving, bytes fit
 abbrev pub WovenBytesFit : Type 0
-WovenBytesFit = (l : LinkNow) (sockets : List SocketBytes) (order : List ℕ) → IsLink l → map row_now sockets ≡ rows_of (ends_of l.both) →
-    IsWoven (record { strands = strands_of l.both; bytes = bytes_of sockets }) order → IsByteHistory (l.facts true) (l.facts false) (order_of l order)
+WovenBytesFit = (l : LinkNow) (order : List ℕ) → IsLink l → IsOrderOf l order → IsByteHistory (l.facts true) (l.facts false) (order_of l order)
 
--- what a history of a link holds that weaving has found: bytes fit throughout, the two journals are a history, and where
--- neither policy is lossy nothing was reset
+-- so the two journals in it are a history, and where neither policy is lossy nothing was reset
 pub record IsWovenSo (l : LinkNow) (order : List ℕ) : Type 0 where
-  pub bytes : IsByteHistory (l.facts true) (l.facts false) (order_of l order)
-  pub history : AreNodes (l.facts true) (l.facts false) → IsHistory (l.facts true) (l.facts false) (entries_of (order_of l order))
-  pub never_reset : AreNodes (l.facts true) (l.facts false) → IsNeverReset (l.facts true) (l.facts false) (entries_of (order_of l order))
+  pub history : IsHistory (l.facts true) (l.facts false) (entries_of (order_of l order))
+  pub never_reset : IsNeverReset (l.facts true) (l.facts false) (entries_of (order_of l order))
 
-abbrev pub WovenIsSo : Type 0
-WovenIsSo = (l : LinkNow) (h : History) → IsLink l → Weaves (Ok h) l.both → IsWovenSo l h.order.items
+abbrev pub WovenIsNeverReset : Type 0
+WovenIsNeverReset = (l : LinkNow) (order : List ℕ) → AreNodes (l.facts true) (l.facts false) → IsLink l → IsOrderOf l order → IsWovenSo l order
 
 -- ---- what was posted and dispatched
 
@@ -53,7 +51,28 @@ kept_by l near = record {
 }
 
 -- from either side to the other, of each key what is dispatched is the first of what was posted
-abbrev pub WovenIsDelivered : Type 0
-WovenIsDelivered = (l : LinkNow) (h : History) (near_logs far_logs : Logs) → AreNodes (l.facts true) (l.facts false) → IsLink l → Weaves (Ok h) l.both →
-    AreLogs (l.facts true) (l.facts false) (entries_of (order_of l h.order.items)) near_logs far_logs →
+abbrev pub IsWovenDelivered : LinkNow → List ℕ → (near_logs far_logs : Logs) → Type 0
+IsWovenDelivered l order near_logs far_logs =
+    AreLogs (l.facts true) (l.facts false) (entries_of (order_of l order)) near_logs far_logs →
     AreDelivered (l.facts true) (l.facts false) (kept_by l true) (kept_by l false) near_logs far_logs
+
+abbrev pub WovenIsDelivered : Type 0
+WovenIsDelivered = (l : LinkNow) (order : List ℕ) (near_logs far_logs : Logs) → AreNodes (l.facts true) (l.facts false) → IsLink l → IsOrderOf l order →
+    IsWovenDelivered l order near_logs far_logs
+
+-- ---- what weaving gives of two records
+
+-- the strands of a history, in its order
+abbrev pub strands_in : History → List ℕ
+strands_in h = map (λ s. s.strand) h.steps.items
+
+-- of two lossless nodes
+pub record AreLossless (l : LinkNow) : Type 0 where
+  pub nodes : AreNodes (l.facts true) (l.facts false)
+  pub joined : AreJoined l
+
+abbrev pub IsUnreset : LinkNow → History → Type 0
+IsUnreset l h = AreLossless l → IsNeverReset (l.facts true) (l.facts false) (entries_of (order_of l (strands_in h)))
+
+abbrev pub IsDeliveredIn : LinkNow → (near_logs far_logs : Logs) → History → Type 0
+IsDeliveredIn l near_logs far_logs h = AreLossless l → IsWovenDelivered l (strands_in h) near_logs far_logs

@@ -8,7 +8,7 @@ use Rattle.m2_fitting.specs.Halves.{KeepsRanges}
 use Rattle.m2_fitting.specs.Orders.{OrderEntry}
 use Rattle.m2_fitting.specs.Texts.{CanBePosted}
 use Rattle.m2_history.specs.Parts.{PartsNow}
-use Rattle.m2_history.specs.Woven.{BothNow, EndNow, ends_of, is_end, is_of_link}
+use Rattle.m2_history.specs.Woven.{BothNow, EndNow, ends_of, is_end, is_of_link, row_now, rows_of, strands_of}
 use Rattle.m2_journal.specs.declared.entry.Entry.{Entry}
 use Rattle.m2_journal.specs.Items.{JournalItem, Sources, items_of}
 use Rattle.m2_journal.specs.Lawful.{judged_on}
@@ -24,6 +24,9 @@ use Rattle.m2_record.specs.Sources.{sources_of}
 use Rattle.m2_record.specs.TakenTrails.{HaveTrails, judgements_in}
 use Rattle.m2_trail.specs.Arrivals.{LooseNow}
 use Rattle.m2_trail.specs.Trails.{TrailNow, IsWholeTrail, opener_of}
+use Rattle.m2_weave.specs.declared.table.SocketBytes.{SocketBytes}
+use Rattle.m2_weave.specs.Stops.{IsWoven}
+use Rattle.m2_weave.specs.Table.{bytes_of}
 use Rattle.m2_woven.specs.Actors.{Actor, actors_of, is_near, part_of, trail_by}
 use Rattle.m2_woven.specs.Order.{entries_from}
 
@@ -75,16 +78,19 @@ pub record AreApart (x : BothNow) : Type 0 where
   pub halves : IsDistinct same_socket (map (λ (t : TrailNow). t.socket) (trails_of x))
   pub judged : (k : SocketId) → (judged_on k (judgements_in x.a.journal) ≡ []) ⊎ (judged_on k (judgements_in x.b.journal) ≡ [])
 
--- Two sides that dial different places, with the halves that neither took; what nodes and sockets are named by keeps the ranges
--- of its types.
-pub record IsLink (l : LinkNow) : Type 0 where
-  pub sides : (near : Bool) → IsSideOf (l.facts near) (l.plans near) (part_of l.both near)
+-- What is asked of two sides and of the halves that neither took, beside what records keep: they dial different places, and what
+-- nodes and sockets are named by keeps the ranges of its types.
+pub record AreJoined (l : LinkNow) : Type 0 where
   pub quiet : (near : Bool) → IsQuietSide (l.plans near) (part_of l.both near)
   pub loose : AllByRecursion (λ (h : LooseNow). is_of_link l.both.a.journal l.both.b.journal h ≡ true → IsLooseBeside l.both.a.journal l.both.b.journal h) l.both.loose
   pub apart : AreApart l.both
   pub named : (near : Bool) → KeepsRanges (l.facts near)
   pub seen : AllByRecursion (λ (t : TrailNow). HasAddrRanges (opener_of t.socket)) (trails_of l.both)
   pub peers : (k : SocketId) → goes_to (l.facts true).peer k ≡ true → goes_to (l.facts false).peer k ≡ false
+
+pub record IsLink (l : LinkNow) : Type 0 where
+  pub sides : (near : Bool) → IsSideOf (l.facts near) (l.plans near) (part_of l.both near)
+  pub joined : AreJoined l
 
 -- ---- an order of them
 
@@ -94,3 +100,9 @@ items_by l near = items_in (l.plans near) (part_of l.both near)
 -- the entries of both journals and of the halves in an order of their strands
 abbrev pub order_of : LinkNow → List ℕ → List OrderEntry
 order_of l order = entries_from (items_by l) (actors_of l.both) (map (λ (a : Actor). 0) (actors_of l.both)) order
+
+-- it is one by the rule of weaving, with the bytes of all ends
+pub record IsOrderOf (l : LinkNow) (order : List ℕ) : Type 0 where
+  pub sockets : List SocketBytes
+  pub rows : map row_now sockets ≡ rows_of (ends_of l.both)
+  pub woven : IsWoven (record { strands = strands_of l.both; bytes = bytes_of sockets }) order

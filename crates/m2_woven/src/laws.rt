@@ -25,10 +25,10 @@ pub fn woven_bytes_fit()
     trails_tell_each_point();
 }
 
-/// So the journals in the order of a [`History`](m2_history::History) are a history, and between two lossless nodes without a
-/// mark-down nothing was reset.
+/// So the journals in such an order are a history, and between two lossless nodes without a mark-down nothing
+/// was reset.
 pub fn woven_is_never_reset()
-    ensures { laws.WovenIsSo }
+    ensures { laws.WovenIsNeverReset }
 {
     woven_bytes_fit();
     bytes_give_fits();

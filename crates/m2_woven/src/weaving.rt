@@ -1,0 +1,37 @@
+//! Two records woven, and what that says of a lossless link.
+
+ghost use Rattle.std.specs.Prelude.{IfOk};
+ghost use Rattle.m2_history.specs.Counted.{logs_of};
+ghost use Rattle.m2_history.specs.Link.{AreOfLink, WeavesRecords, both_of};
+ghost use Rattle.m2_woven.specs.Laws.{IsDeliveredIn, IsUnreset, link_of};
+
+use crate::laws::{records_are_sides, woven_is_delivered, woven_is_never_reset};
+use m2_fabric::End;
+use m2_history::{History, Side, WeaveFault};
+use m2_trail::LooseList;
+use std::alloc::Global;
+
+/// Weaves the two sides of a link, with the halves that neither took, as [`m2_history::weave`] does. Between
+/// two lossless nodes that mark nothing down, nothing was reset in the history that it gives: no message was
+/// thrown away, and no number set back behind an acceptance. And where the dispatchers' logs are logs of what
+/// both records handed on, of each key what either side's dispatchers were called with is the first of what the
+/// other side posted, in order, each once.
+pub fn weave<E: End>(
+    alloc: Global,
+    a: &Side<'_, E>,
+    b: &Side<'_, E>,
+    loose: &LooseList<E>,
+) -> Result<History, WeaveFault>
+    requires link { AreOfLink (both_of a.now.record.now b.now.record.now loose.now.items) }
+    ensures weaves { WeavesRecords result (both_of a.now.record.now b.now.record.now loose.now.items) }
+    ensures never_reset { IfOk result (IsUnreset (link_of a.now.record.now b.now.record.now loose.now.items)) }
+    ensures delivered { IfOk result (IsDeliveredIn (link_of a.now.record.now b.now.record.now loose.now.items)
+        (logs_of a.now.fast.now.items a.now.log.now.items) (logs_of b.now.fast.now.items b.now.log.now.items)) }
+{
+    a.record.is_record();
+    b.record.is_record();
+    records_are_sides();
+    woven_is_never_reset();
+    woven_is_delivered();
+    m2_history::weave(alloc, a, b, loose)
+}
