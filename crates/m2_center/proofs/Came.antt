@@ -230,7 +230,7 @@ ids_append [] ys = refl
 ids_append (x ∷ xs) ys = ap (λ (l : List SocketId). x.id ∷ l) (ids_append xs ys)
 
 -- the feed's end stands last there and first here
-turned : (k : SocketId) (feed spent : List SeenEnd) → IsNewTo (ids_of (spent ++ feed)) k → IsNewTo (ids_of (feed ++ spent)) k
+pub turned : (k : SocketId) (feed spent : List SeenEnd) → IsNewTo (ids_of (spent ++ feed)) k → IsNewTo (ids_of (feed ++ spent)) k
 turned k feed spent new =
     let parts = sym (ap (is_among k) (ids_append spent feed)) ∙ new in
     ap (is_among k) (ids_append feed spent) ∙ both k (ids_of feed) (ids_of spent) (back k (ids_of spent) (ids_of feed) parts) (front k (ids_of spent) (ids_of feed) parts)

@@ -48,11 +48,11 @@ is_due now at d old mid e is room =
 
 -- ---- the sockets that came
 
-filtered : (p : Entry → Option SocketId) (xs ys : List Entry) → filter_map p (xs ++ ys) ≡ filter_map p xs ++ filter_map p ys
-filtered p [] ys = refl
-filtered p (x ∷ xs) ys = at (p x) refl (filtered p xs ys)
+pub filtered : {X : Type 0} (p : Entry → Option X) (xs ys : List Entry) → filter_map p (xs ++ ys) ≡ filter_map p xs ++ filter_map p ys
+filtered {X} p [] ys = refl
+filtered {X} p (x ∷ xs) ys = at (p x) refl (filtered p xs ys)
   where
-    at : (o : Option SocketId) → p x ≡ o → filter_map p (xs ++ ys) ≡ filter_map p xs ++ filter_map p ys → filter_map p (x ∷ xs ++ ys) ≡ filter_map p (x ∷ xs) ++ filter_map p ys
+    at : (o : Option X) → p x ≡ o → filter_map p (xs ++ ys) ≡ filter_map p xs ++ filter_map p ys → filter_map p (x ∷ xs ++ ys) ≡ filter_map p (x ∷ xs) ++ filter_map p ys
     at (Some k) h rest = rw h (ap (λ l. k ∷ l) rest)
     at None h rest = rw h rest
 

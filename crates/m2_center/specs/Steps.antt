@@ -21,8 +21,9 @@ came_by _ = None
 abbrev pub came_in : List Entry → List SocketId
 came_in journal = filter_map came_by journal
 
--- the journal goes on, and no socket came
+-- the journal goes on, no socket came, and what never changes is the same
 pub record GoesOn (old new : RecordNow) : Type 0 where
   pub more : List Entry
   pub journal : new.journal ≡ old.journal ++ more
+  pub facts : new.core.facts ≡ old.core.facts
   pub no_socket : AllByRecursion BringsNoSocket more

@@ -17,6 +17,9 @@ mod record_turn;
 pub use answering::{HalfAnswered, answer_half};
 pub use connecting::connect_if_due;
 pub use judging::{AskJudged, Replied, judge_ask, reply_owed};
-pub use laws::{records_know_their_sockets, steps_bring_no_socket};
+pub use laws::{
+    judging_keeps_others, judging_keeps_what_is_known, records_know_their_sockets,
+    steps_bring_no_socket, steps_keep_what_is_known,
+};
 pub use outbox::{MOST_MAIL, Outbox};
 pub use record_turn::{MOST_STEPS, RecordTurn, turn_record};
