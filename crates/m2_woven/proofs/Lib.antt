@@ -12,3 +12,4 @@ pub mod Bytes
 pub mod Linked
 pub mod Whole
 pub mod Woven
+pub mod OneLink

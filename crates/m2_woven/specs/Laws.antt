@@ -1,8 +1,10 @@
 -- What follows where two sides of a link are woven into one order. This project's own.
-use Rattle.std.specs.Prelude.{ℕ, Bool, true, false, if◌then◌else◌, List, map}
+use Rattle.std.specs.Prelude.{◌≢◌, ℕ, Bool, true, false, [], if◌then◌else◌, List, map}
 use Rattle.m2_channel.specs.Observed.{Logs}
 use Rattle.m2_channel.specs.ObservedLaws.{AreLogs}
-use Rattle.m2_fitting.specs.Orders.{IsByteHistory, entries_of}
+use Rattle.m2_fabric.specs.declared.socket.SocketId.{SocketId}
+use Rattle.m2_fitting.specs.Ends.{got_at}
+use Rattle.m2_fitting.specs.Orders.{IsByteHistory, entries_of, far_side}
 use Rattle.m2_history.specs.declared.history.History.{History}
 use Rattle.m2_history.specs.Delivered.{AreDelivered, Kept}
 use Rattle.m2_history.specs.Link.{both_of, parts_of}
@@ -76,3 +78,15 @@ IsUnreset l h = AreLossless l → IsNeverReset (l.facts true) (l.facts false) (e
 
 abbrev pub IsDeliveredIn : LinkNow → (near_logs far_logs : Logs) → History → Type 0
 IsDeliveredIn l near_logs far_logs h = AreLossless l → IsWovenDelivered l (strands_in h) near_logs far_logs
+
+-- ---- there are such links
+
+-- one with an order in which the far side has read something
+pub record ALinkIsWoven : Type 0 where
+  pub link : LinkNow
+  pub order : List ℕ
+  pub nodes : AreNodes (link.facts true) (link.facts false)
+  pub is_link : IsLink link
+  pub is_order : IsOrderOf link order
+  pub socket : SocketId
+  pub read : got_at (far_side (link.facts false) (order_of link order)) socket ≢ []

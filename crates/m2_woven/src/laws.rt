@@ -47,3 +47,9 @@ pub fn woven_is_delivered()
     woven_is_never_reset();
     posted_is_delivered();
 }
+
+/// There is a link of lossless nodes with an order by the rule of weaving in which one side's half has read
+/// what the other side wrote.
+pub fn a_link_is_woven()
+    ensures { laws.ALinkIsWoven }
+{}

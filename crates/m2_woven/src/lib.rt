@@ -14,5 +14,7 @@
 mod laws;
 mod weaving;
 
-pub use laws::{records_are_sides, woven_bytes_fit, woven_is_delivered, woven_is_never_reset};
+pub use laws::{
+    a_link_is_woven, records_are_sides, woven_bytes_fit, woven_is_delivered, woven_is_never_reset,
+};
 pub use weaving::weave;
