@@ -23,16 +23,18 @@ use Rattle.m2_record.specs.IsRecord.{IsRecord, became_feed, feeds_in}
 use Rattle.m2_record.specs.declared.judging.Judged.{Judged}
 use Rattle.m2_record.specs.declared.judging.Judged.TheVariants as judged
 use Rattle.m2_record.specs.Judging.{JudgesAs, TakenHalf, after_taking_over, half_of, judged_entry}
+use Rattle.m2_record.specs.declared.stepped.Stepped.{Stepped}
 use Rattle.m2_record.specs.RecordNow.{RecordNow, ends_of, feed_end, ids_of}
+use Rattle.m2_record.specs.Stepping.{StepsAs, Worked}
 use Rattle.m2_record.specs.TakenTrails.{judgement_of, judgements_in}
 use Rattle.m2_record.proofs.Names.{differ, same_refl}
-use Rattle.m2_center.specs.Answering.{IsKnown}
+use Rattle.m2_center.specs.Answering.{IsKnown, StaysBeside}
 use Rattle.m2_center.specs.Judging.{Judges, Judging}
 use Rattle.m2_center.specs.RecordTurn.{Means}
 use Rattle.m2_center.specs.Steps.{BringsNoSocket, GoesOn}
 use Rattle.m2_center.proofs.Came.{both, turned}
-use Rattle.m2_center.proofs.GoesOn.{room_alone}
-use Rattle.m2_center.proofs.Opened.{filtered}
+use Rattle.m2_center.proofs.GoesOn.{room_alone, steps}
+use Rattle.m2_center.proofs.Opened.{filtered, still_made}
 
 -- ---- ends and the sockets that became the feed
 
@@ -204,3 +206,20 @@ others_known {E} j a b m old new some was is other known h = at a.ask h.judges s
     at : (o : Option Ask) → IfSome o (λ ask. JudgesAs j (verdict_on (facts_of_ask ask) h.number old.side.core.live) a m.now old.side new.side) → IsSome o → IsKnown b new.side
     at None e none = absurd (differ none)
     at (Some ask) e _ = by_answer j (verdict_on (facts_of_ask ask) h.number old.side.core.live) e
+
+-- ---- what stays beside a record
+
+pub step_stays : (answer : Stepped) (w : Worked) (old new : RecordNow) → StepsAs answer w old new → IsRecord old → IsRecord new → StaysBeside old new
+step_stays answer w old new step was is =
+    let on = steps answer w old new step in
+    record { facts = on.facts; made = (λ made known. still_made made old new on known); known = (λ a known. steps_known a old new on was is known) }
+
+pub nothing_moved : (r : RecordNow) → StaysBeside r r
+nothing_moved r = record { facts = refl; made = (λ made known. known); known = (λ a known. known) }
+
+pub stays_on : (a b c : RecordNow) → StaysBeside a b → StaysBeside b c → StaysBeside a c
+stays_on a b c first second = record {
+  facts = second.facts ∙ first.facts;
+  made = (λ made known. second.made made (first.made made known));
+  known = (λ h known. second.known h (first.known h known));
+}

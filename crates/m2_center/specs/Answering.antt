@@ -1,6 +1,7 @@
 -- What comes of a half that was asked: an ident is looked at before it is judged, and where an answer takes no socket the half
 -- replies. The order is that of a center's turn; the rest is this project's own.
-use Rattle.std.specs.Prelude.{◌≡◌, ℕ, ◌⊎◌, Bool, true, false, IfSome}
+use Rattle.std.specs.Prelude.{◌≡◌, ℕ, ◌⊎◌, Bool, true, false, List, IfSome}
+use Rattle.m2_fabric.specs.declared.socket.SocketId.{SocketId}
 use Rattle.m2_fabric.specs.Sockets.{IsNewTo}
 use Rattle.m2_handshake.specs.declared.ident.IdentCheck.{IdentCheck}
 use Rattle.m2_handshake.specs.declared.ident.IdentCheck.TheVariants.{Fine, Missing, Fault}
@@ -15,6 +16,7 @@ use Rattle.m2_center.specs.declared.answering.HalfAnswered.{HalfAnswered}
 use Rattle.m2_center.specs.declared.answering.HalfAnswered.TheVariants as half
 use Rattle.m2_center.specs.declared.judging.AskJudged.TheVariants as asked
 use Rattle.m2_center.specs.declared.judging.Replied.TheVariants as replied
+use Rattle.m2_center.specs.Connecting.{IsMadeBy}
 use Rattle.m2_center.specs.Judging.{Judging, JudgesAsk, RepliesAs}
 use Rattle.m2_center.specs.RecordTurn.{Means}
 
@@ -69,3 +71,11 @@ AnswersBy false result a m old new = (found : IdentCheck) × IsFound found a old
 
 abbrev pub AnswersHalf : {E : Type 0} → HalfAnswered E → IncomingNow → Means → Judging → Judging → Type 0
 AnswersHalf result a m old new = AnswersBy a.is_judged result a m old new
+
+-- ---- what stays beside a record
+
+-- what never changes of it, the sockets that came to it, and what it knows of the sockets of halves
+pub record StaysBeside (old new : RecordNow) : Type 0 where
+  pub facts : new.core.facts ≡ old.core.facts
+  pub made : (made : List SocketId) → IsMadeBy made old → IsMadeBy made new
+  pub known : (a : IncomingNow) → IsKnown a old → IsKnown a new

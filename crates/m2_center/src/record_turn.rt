@@ -3,6 +3,7 @@
 ghost use Rattle.std.specs.Prelude.{◌≡◌, ◌≤◌, true};
 ghost use Rattle.m2_record.specs.Calls.{Owns};
 ghost use Rattle.m2_record.specs.Stepping.{IsSameWork};
+ghost use Rattle.m2_center.specs.Answering.{StaysBeside};
 ghost use Rattle.m2_center.specs.Outbox.{OwnsHeld, is_free};
 ghost use Rattle.m2_center.specs.RecordTurn.{StepsOnce, TurnsAs, means_of, turning};
 
@@ -51,6 +52,7 @@ pub fn turn_record<E: End, D: Dispatcher>(
     requires owned { Owns work.old.throttle.now.place side.old }
     requires held { OwnsHeld work.old.throttle.now.place out.old.held }
     ensures turns { TurnsAs D.heard (means_of now work.old) result (turning side.old out.old work.old) (turning side.new out.new work.new) }
+    ensures stays { StaysBeside side.old side.new }
     ensures top { side.new.core.top ≤ work.new.number_pass.now.least }
     ensures owned { Owns work.old.throttle.now.place side.new }
     ensures held { OwnsHeld work.old.throttle.now.place out.new.held }
@@ -84,6 +86,7 @@ fn step_once<E: End, D: Dispatcher>(
     requires takes { work.old.take_pass.now.place ≡ work.old.throttle.now.place }
     requires owned { Owns work.old.throttle.now.place side.old }
     ensures steps { StepsOnce D.heard (means_of now work.old) result (turning side.old out.old work.old) (turning side.new out.new work.new) }
+    ensures stays { StaysBeside side.old side.new }
     ensures top { side.new.core.top ≤ work.new.number_pass.now.least }
     ensures owned { Owns work.old.throttle.now.place side.new }
     ensures held { OwnsHeld work.old.throttle.now.place out.new.held }
@@ -93,7 +96,10 @@ fn step_once<E: End, D: Dispatcher>(
     ensures number_pass { work.new.number_pass.ghost_name ≡ work.old.number_pass.ghost_name }
     ensures take_pass { work.new.take_pass.ghost_name ≡ work.old.take_pass.ghost_name }
 {
-    match side.step(work, now) {
+    side.is_record();
+    let stepped = side.step(work, now);
+    side.is_record();
+    match stepped {
         Stepped::Moved => None,
         Stepped::Hand(parcel) => {
             out.put(parcel, work.throttle, work.take_pass);

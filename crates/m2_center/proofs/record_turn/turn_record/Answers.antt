@@ -2,6 +2,7 @@ use Rattle.std.proofs.Common.{◌++◌, ◌∷◌, [], Some, ap, arith, subst, �
 use Rattle.m2_record.specs.Calls.{Owns}
 use Rattle.m2_center.specs.Outbox.{OwnsHeld}
 use Rattle.m2_center.specs.RecordTurn.{LedOn, StepsOnce, means_of, turning}
+use Rattle.m2_center.proofs.Known.{stays_on, nothing_moved}
 use Rattle.m2_center.proofs.Led.{and_one, ends_turn, one_more, same_means}
 use Rattle.m2_center.proofs.record_turn.turn_record.Goals as goal
 
@@ -22,6 +23,7 @@ steps-preserved g c = record {
       (subst (λ m. LedOn g.D.Dispatcher.heard m (turning c.steps.side c.steps.out c.steps.work) (turning c.step_once.new.side c.step_once.new.out c.step_once.new.work))
       (same_means c.args.now c.args.work.now c.steps.work c.steps.invariant.same) c.in_default.ensures.steps);
   count = omega (arith, one_more c.steps.invariant.stood (turning c.step_once.new.side c.step_once.new.out c.step_once.new.work), c.steps.invariant.count);
+  stays = stays_on _ _ _ c.steps.invariant.stays c.step_once.ensures.stays;
   top = c.step_once.ensures.top;
   owned = subst (λ p. Owns p c.step_once.new.side) (ap (λ t. t.place) c.steps.invariant.same.throttle) c.step_once.ensures.owned;
   held = subst (λ p. OwnsHeld p c.step_once.new.out.held) (ap (λ t. t.place) c.steps.invariant.same.throttle) c.step_once.ensures.held;

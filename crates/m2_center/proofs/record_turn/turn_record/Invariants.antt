@@ -1,6 +1,7 @@
 use Rattle.std.proofs.Common.{◌≡◌, ◌≤◌, List, length}
 use Rattle.m2_record.specs.Calls.{Owns}
 use Rattle.m2_record.specs.Stepping.{IsSameWork}
+use Rattle.m2_center.specs.Answering.{StaysBeside}
 use Rattle.m2_center.specs.Outbox.{OwnsHeld}
 use Rattle.m2_center.specs.RecordTurn.{Steps, Turning, means_of, turning}
 use Rattle.m2_center.proofs.record_turn.turn_record.Given as goal
@@ -10,6 +11,7 @@ invariant-steps g l = record {
   stood : List (Turning g.row.D.Denot);
   steps : Steps g.D.Dispatcher.heard (means_of l.fn.now l.fn.work) stood (turning l.fn.side l.fn.out l.fn.work) (turning l.side l.out l.work);
   count : length stood ≡ l.counter;
+  stays : StaysBeside l.fn.side l.side;
   top : l.side.core.top ≤ l.work.number_pass.now.least;
   owned : Owns l.fn.work.throttle.now.place l.side;
   held : OwnsHeld l.fn.work.throttle.now.place l.out.held;
