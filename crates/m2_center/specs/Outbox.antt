@@ -1,11 +1,13 @@
 -- Where the parcels of a center's records go, and how each call changes that. Letters of fast kinds are dispatched at once, the
 -- other parcels wait in the mail; that a letter can be held is this project's own.
 use Rattle.std.specs.Prelude.{◌≡◌, ℕ, ◌&&◌, nat_lt, Bool, List, [], ◌∷◌, ◌++◌, length, Option, Some, None}
+use Rattle.std.specs.List.{AllByRecursion}
 use Rattle.std.specs.Option.{is_none}
 use Rattle.m2_dispatch.specs.Heard.{Heard}
 use Rattle.m2_dispatcher.specs.declared.letter.Letter.{Letter}
 use Rattle.m2_dispatcher.specs.declared.parcel.Parcel.{Parcel}
 use Rattle.m2_dispatcher.specs.declared.parcel.Parcel.TheVariants as parcel
+use Rattle.m2_dispatcher.specs.Parcel.{IsOwned}
 use Rattle.m2_dispatcher.specs.Letters.{IsOwnedLetter, heard_in}
 use Rattle.m2_policy.specs.declared.path.Path.{Path}
 use Rattle.m2_policy.specs.declared.path.Path.TheVariants.{Fast, Queued}
@@ -28,6 +30,11 @@ IsFastHeld None = Unit {0}
 abbrev pub OwnsHeld : Place → Option Letter → Type 0
 OwnsHeld place (Some l) = IsOwnedLetter place l
 OwnsHeld place None = Unit {0}
+
+-- all that is held and in the mail was granted by the throttle whose word lies there
+pub record OwnsAll {D : Type 0} (place : Place) (o : OutboxNow D) : Type 0 where
+  pub held : OwnsHeld place o.held
+  pub mail : AllByRecursion (IsOwned place) o.mail
 
 -- a parcel may be put
 abbrev pub is_free : {D : Type 0} → OutboxNow D → Bool

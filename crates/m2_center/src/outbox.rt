@@ -1,10 +1,10 @@
 //! Where the parcels of a center's records go.
 
-ghost use Rattle.std.specs.Prelude.{◌≡◌, ◌-◌, [], None, true, IfOk, IfErr};
+ghost use Rattle.std.specs.Prelude.{◌≡◌, ◌-◌, [], None, true, IfOk, IfErr, IfSome};
 ghost use Rattle.m2_dispatcher.specs.Letters.{IsOwnedLetter};
 ghost use Rattle.m2_dispatcher.specs.Parcel.{IsOwned};
-ghost use Rattle.m2_shared.specs.Place.{IsAlone};
-ghost use Rattle.m2_center.specs.Outbox.{Dispatches, IsFast, OwnsHeld, Puts, Retries, Takes, is_free, returned, returned_again, returned_for};
+ghost use Rattle.m2_shared.specs.Place.{IsAlone, Place};
+ghost use Rattle.m2_center.specs.Outbox.{Dispatches, IsFast, OwnsAll, Puts, Retries, Takes, is_free, returned, returned_again, returned_for};
 
 use m2_dispatcher::{Dispatcher, Letter, Parcel};
 use m2_policy::Path;
@@ -76,7 +76,8 @@ impl<D> Outbox<D> {
 
     /// The parcel that is first in the mail goes; none exactly where the mail is empty.
     pub fn take(&mut self) -> Option<Parcel>
-        ensures { Takes result self.old self.new }
+        ensures takes { Takes result self.old self.new }
+        ensures owned { (place : Place) → OwnsAll place self.old → IfSome result (IsOwned place) × OwnsAll place self.new }
     {
         self.mail.pop_front()
     }
@@ -100,7 +101,9 @@ impl<D: Dispatcher> Outbox<D> {
         requires free { is_free self.old ≡ true }
         requires pass { pass.old.place ≡ throttle.now.place }
         requires owned { IsOwned throttle.now.place parcel }
+        requires all { OwnsAll throttle.now.place self.old }
         ensures puts { Puts D.heard parcel self.old self.new }
+        ensures all { OwnsAll throttle.now.place self.new }
         ensures place { pass.new.place ≡ pass.old.place }
         ensures word { IsAlone throttle.now.place → pass.new.word ≡ pass.old.word - returned parcel self.new.held }
     {
@@ -121,8 +124,9 @@ impl<D: Dispatcher> Outbox<D> {
     /// Tries the letter that is held again, where one is.
     pub fn retry(&mut self, throttle: &Throttle, pass: &mut TakePass)
         requires pass { pass.old.place ≡ throttle.now.place }
-        requires owned { OwnsHeld throttle.now.place self.old.held }
+        requires all { OwnsAll throttle.now.place self.old }
         ensures retries { Retries D.heard self.old self.new }
+        ensures all { OwnsAll throttle.now.place self.new }
         ensures place { pass.new.place ≡ pass.old.place }
         ensures word { IsAlone throttle.now.place → pass.new.word ≡ pass.old.word - returned_again self.old.held self.new.held }
     {
@@ -137,7 +141,9 @@ impl<D: Dispatcher> Outbox<D> {
         requires kind { IsFast letter }
         requires pass { pass.old.place ≡ throttle.now.place }
         requires owned { IsOwnedLetter throttle.now.place letter }
+        requires all { OwnsAll throttle.now.place self.old }
         ensures dispatches { Dispatches D.heard letter self.old self.new }
+        ensures all { OwnsAll throttle.now.place self.new }
         ensures place { pass.new.place ≡ pass.old.place }
         ensures word { IsAlone throttle.now.place → pass.new.word ≡ pass.old.word - returned_for letter self.new.held }
     {

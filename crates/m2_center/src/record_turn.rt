@@ -4,7 +4,7 @@ ghost use Rattle.std.specs.Prelude.{◌≡◌, ◌≤◌, true};
 ghost use Rattle.m2_record.specs.Calls.{Owns};
 ghost use Rattle.m2_record.specs.Stepping.{IsSameWork};
 ghost use Rattle.m2_center.specs.Answering.{StaysBeside};
-ghost use Rattle.m2_center.specs.Outbox.{OwnsHeld, is_free};
+ghost use Rattle.m2_center.specs.Outbox.{OwnsAll, is_free};
 ghost use Rattle.m2_center.specs.RecordTurn.{StepsOnce, TurnsAs, means_of, turning};
 
 use crate::outbox::Outbox;
@@ -50,12 +50,12 @@ pub fn turn_record<E: End, D: Dispatcher>(
     requires top { side.old.core.top ≤ work.old.number_pass.now.least }
     requires takes { work.old.take_pass.now.place ≡ work.old.throttle.now.place }
     requires owned { Owns work.old.throttle.now.place side.old }
-    requires held { OwnsHeld work.old.throttle.now.place out.old.held }
+    requires out { OwnsAll work.old.throttle.now.place out.old }
     ensures turns { TurnsAs D.heard (means_of now work.old) result (turning side.old out.old work.old) (turning side.new out.new work.new) }
     ensures stays { StaysBeside side.old side.new }
     ensures top { side.new.core.top ≤ work.new.number_pass.now.least }
     ensures owned { Owns work.old.throttle.now.place side.new }
-    ensures held { OwnsHeld work.old.throttle.now.place out.new.held }
+    ensures out { OwnsAll work.old.throttle.now.place out.new }
     ensures number_place { work.new.number_pass.now.place ≡ work.old.number_pass.now.place }
     ensures take_place { work.new.take_pass.now.place ≡ work.old.take_pass.now.place }
     ensures same { IsSameWork work.old work.new }
@@ -85,11 +85,12 @@ fn step_once<E: End, D: Dispatcher>(
     requires top { side.old.core.top ≤ work.old.number_pass.now.least }
     requires takes { work.old.take_pass.now.place ≡ work.old.throttle.now.place }
     requires owned { Owns work.old.throttle.now.place side.old }
+    requires out { OwnsAll work.old.throttle.now.place out.old }
     ensures steps { StepsOnce D.heard (means_of now work.old) result (turning side.old out.old work.old) (turning side.new out.new work.new) }
     ensures stays { StaysBeside side.old side.new }
     ensures top { side.new.core.top ≤ work.new.number_pass.now.least }
     ensures owned { Owns work.old.throttle.now.place side.new }
-    ensures held { OwnsHeld work.old.throttle.now.place out.new.held }
+    ensures out { OwnsAll work.old.throttle.now.place out.new }
     ensures number_place { work.new.number_pass.now.place ≡ work.old.number_pass.now.place }
     ensures take_place { work.new.take_pass.now.place ≡ work.old.take_pass.now.place }
     ensures same { IsSameWork work.old work.new }

@@ -1,8 +1,8 @@
 use Rattle.std.proofs.Common.{◌++◌, ◌∷◌, [], Some, ap, arith, subst, ◌∙◌}
 use Rattle.m2_record.specs.Calls.{Owns}
-use Rattle.m2_center.specs.Outbox.{OwnsHeld}
+use Rattle.m2_center.specs.Outbox.{OwnsAll}
 use Rattle.m2_center.specs.RecordTurn.{LedOn, StepsOnce, means_of, turning}
-use Rattle.m2_center.proofs.Known.{stays_on, nothing_moved}
+use Rattle.m2_center.proofs.Known.{stays_on}
 use Rattle.m2_center.proofs.Led.{and_one, ends_turn, one_more, same_means}
 use Rattle.m2_center.proofs.record_turn.turn_record.Goals as goal
 
@@ -26,7 +26,7 @@ steps-preserved g c = record {
   stays = stays_on _ _ _ c.steps.invariant.stays c.step_once.ensures.stays;
   top = c.step_once.ensures.top;
   owned = subst (λ p. Owns p c.step_once.new.side) (ap (λ t. t.place) c.steps.invariant.same.throttle) c.step_once.ensures.owned;
-  held = subst (λ p. OwnsHeld p c.step_once.new.out.held) (ap (λ t. t.place) c.steps.invariant.same.throttle) c.step_once.ensures.held;
+  out = subst (λ p. OwnsAll p c.step_once.new.out) (ap (λ t. t.place) c.steps.invariant.same.throttle) c.step_once.ensures.out;
   number_place = c.step_once.ensures.number_place ∙ c.steps.invariant.number_place;
   take_place = c.step_once.ensures.take_place ∙ c.steps.invariant.take_place;
   same = record { numbers = c.step_once.ensures.same.numbers ∙ c.steps.invariant.same.numbers; throttle = c.step_once.ensures.same.throttle ∙ c.steps.invariant.same.throttle };

@@ -2,7 +2,7 @@ use Rattle.std.proofs.Common.{◌≡◌, ◌≤◌, List, length}
 use Rattle.m2_record.specs.Calls.{Owns}
 use Rattle.m2_record.specs.Stepping.{IsSameWork}
 use Rattle.m2_center.specs.Answering.{StaysBeside}
-use Rattle.m2_center.specs.Outbox.{OwnsHeld}
+use Rattle.m2_center.specs.Outbox.{OwnsAll}
 use Rattle.m2_center.specs.RecordTurn.{Steps, Turning, means_of, turning}
 use Rattle.m2_center.proofs.record_turn.turn_record.Given as goal
 
@@ -14,7 +14,7 @@ invariant-steps g l = record {
   stays : StaysBeside l.fn.side l.side;
   top : l.side.core.top ≤ l.work.number_pass.now.least;
   owned : Owns l.fn.work.throttle.now.place l.side;
-  held : OwnsHeld l.fn.work.throttle.now.place l.out.held;
+  out : OwnsAll l.fn.work.throttle.now.place l.out;
   number_place : l.work.number_pass.now.place ≡ l.fn.work.number_pass.now.place;
   take_place : l.work.take_pass.now.place ≡ l.fn.work.take_pass.now.place;
   same : IsSameWork l.fn.work l.work;
