@@ -14,8 +14,8 @@ use Rattle.m2_journal.specs.Items.{at_start, items_of}
 use Rattle.m2_merge.specs.Order.{AreLawful, Cut, come_all, nothing}
 use Rattle.m2_paired.proofs.Sockets.{same_refl}
 use Rattle.m2_trail.specs.Trails.{HalfBytes, TrailNow}
-use Rattle.m2_weave.specs.Laws.{AsksComeFirst, ReadWasWritten}
-use Rattle.m2_weave.specs.Rule.{by_bytes}
+use Rattle.m2_weave.specs.Laws.{AsksComeFirst, IsAsked, IsRead, ReadWasWritten}
+use Rattle.m2_weave.specs.Rule.{by_bytes, strand_at}
 use Rattle.m2_weave.specs.Stops.{sizes}
 use Rattle.m2_weave.specs.Strands.{StrandNow}
 use Rattle.m2_woven.specs.Actors.{Actor, of_record, of_half, strand_by}
@@ -46,9 +46,13 @@ begins_there x = at x.actors
     at (a ∷ actors) = ap (λ (l : List ℕ). 0 ∷ l) (at actors)
 
 -- what was read was written, and what was judged was handed on
-pub cut_of : (x : Setting) → ReadWasWritten → AsksComeFirst → (order : List ℕ) → AreLawful (by_bytes (woven_in x)) (sizes (woven_in x)) (nothing (sizes (woven_in x))) order →
-    IsCut x (come_all order (at_first x.actors))
-cut_of x read asked order l = subst (λ at. IsCut x (come_all order at)) (begins_there x) (record { read = read (woven_in x) order l; asked = asked (woven_in x) order l })
+pub read_there : (x : Setting) → ReadWasWritten → (order : List ℕ) → AreLawful (by_bytes (woven_in x)) (sizes (woven_in x)) (nothing (sizes (woven_in x))) order →
+    (j : ℕ) → IsRead (woven_in x) (come_all order (at_first x.actors)) (strand_at (woven_in x) j) (slice_index (come_all order (at_first x.actors)) j)
+read_there x read order l j = subst (λ at. IsRead (woven_in x) (come_all order at) (strand_at (woven_in x) j) (slice_index (come_all order at) j)) (begins_there x) (read (woven_in x) order l j)
+
+pub asked_there : (x : Setting) → AsksComeFirst → (order : List ℕ) → AreLawful (by_bytes (woven_in x)) (sizes (woven_in x)) (nothing (sizes (woven_in x))) order →
+    (j : ℕ) → IsAsked (woven_in x) (come_all order (at_first x.actors)) (strand_at (woven_in x) j) (slice_index (come_all order (at_first x.actors)) j)
+asked_there x asked order l j = subst (λ at. IsAsked (woven_in x) (come_all order at) (strand_at (woven_in x) j) (slice_index (come_all order at) j)) (begins_there x) (asked (woven_in x) order l j)
 
 same_or_not : (s r : Bool) → (r ≡ s) ⊎ (r ≡ s → ⊥)
 same_or_not true true = inl refl

@@ -34,10 +34,11 @@ use Rattle.m2_woven.proofs.Names.{items_add}
 use Rattle.m2_woven.proofs.Scene as scene
 use Rattle.m2_woven.proofs.Scene.{IsHalfIn, IsScene, IsTakenIn, Setting, come, handed_is, items_in, judged_is, opens_in, strand_is, strands_in, taken_map, woven_in}
 
--- what was read there was written, and what was judged was handed on
+-- what was read there was written, what was judged was handed on, and of a half its side alone has judged the asks
 pub record IsCut (x : Setting) (at : Cut) : Type 0 where
   pub read : (j : ℕ) → IsRead (woven_in x) at (strand_at (woven_in x) j) (slice_index at j)
   pub asked : (j : ℕ) → IsAsked (woven_in x) at (strand_at (woven_in x) j) (slice_index at j)
+  pub alone : (j : ℕ) (s : Bool) (t : TrailNow) (log : Log) → scene.IsHalfAt x j s t log → judged_on t.socket (judgements_in (x.journals (not s))) ≡ []
 
 -- ---- first entries
 
@@ -122,7 +123,7 @@ module _ (x : Setting) (sc : IsScene x) (points : OrdersGivePoints) (tell : Trai
     others_none =
         judged_count t.socket (first (not s))
         ∙ ap length (no_front (judged_now (not s) t.socket) (judged_on t.socket (judgements_in (drop (slice_index at (sc.place (not s))) (x.journals (not s)))))
-        (sym (judged_parts t.socket (slice_index at (sc.place (not s))) (x.journals (not s))) ∙ known.others))
+        (sym (judged_parts t.socket (slice_index at (sc.place (not s))) (x.journals (not s))) ∙ cut.alone j s t log there))
 
     pub judged_so : judged_at (strands_in x) at t.socket ≡ length (judged_now s t.socket)
     judged_so = let all = judged_is x sc at s t.socket in let own = judged_count t.socket (first s) in omega (arith, all, own, others_none)

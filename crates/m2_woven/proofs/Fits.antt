@@ -47,11 +47,11 @@ first_of (suc n) (suc m) (x ∷ xs) (y ∷ ys) h =
     let same : y ≡ x = cc in
     (r.0, ap (λ l. y ∷ l) r.1 ∙ ap (λ z. z ∷ (take n xs ++ r.0)) same)
 
-if_some : (b : Bool) (o : Option ℕ) (y : ℕ) → (if b then o else None) ≡ Some y → (b ≡ true) × (o ≡ Some y)
+pub if_some : (b : Bool) (o : Option ℕ) (y : ℕ) → (if b then o else None) ≡ Some y → (b ≡ true) × (o ≡ Some y)
 if_some true o y e = (refl, e)
 if_some false o y e = absurd (cc)
 
-below : (p n : ℕ) → nat_lt p n ≡ true → p < n
+pub below : (p n : ℕ) → nat_lt p n ≡ true → p < n
 below p n e = grind (arith, nat_tests)
 
 module _ (x : Setting) (at : Cut) (k : SocketId) where
@@ -232,7 +232,7 @@ module _ (x : Setting) (sc : IsScene x) (points : OrdersGivePoints) (tell : Trai
           no_length (judged_on k (judgements_in (come x sc at s)))
           (let own = own_judged x sc points tell at cut s k in let none = none_handed x sc at k (none_at_all other) in omega (arith, own, none))
       by_half (inl f) =
-          let others = (sc.half f.place (not s) f.trail f.log f.there).others in
+          let others = cut.alone f.place (not s) f.trail f.log f.there in
           let none : judged_on k (judgements_in (x.journals s)) ≡ [] =
           ap (λ j. judged_on j (judgements_in (x.journals s))) (same_equal k f.trail.socket f.socket)
           ∙ ap (λ r. judged_on f.trail.socket (judgements_in (x.journals r))) (sym (not_not s)) ∙ others in

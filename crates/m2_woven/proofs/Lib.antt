@@ -9,6 +9,7 @@ pub mod Moved
 pub mod Fits
 pub mod Along
 pub mod Bytes
+pub mod Alone
 pub mod Linked
 pub mod Whole
 pub mod Woven

@@ -7,7 +7,6 @@ use Rattle.m2_fabric.specs.declared.socket.SocketId.{SocketId}
 use Rattle.m2_fabric.specs.End.{SeenEnd}
 use Rattle.m2_fabric.specs.Log.{Log}
 use Rattle.m2_fabric.specs.Sockets.{goes_to, is_among, same_socket}
-use Rattle.m2_fitting.proofs.Lists.{not_nil}
 use Rattle.m2_history.specs.Parts.{PartsNow}
 use Rattle.m2_history.specs.Woven.{EndNow, end_of, ends_of, half_end, is_of_link, knows, loose_ends, row_now, rows_of}
 use Rattle.m2_journal.specs.declared.entry.Entry.{Entry}
@@ -217,58 +216,23 @@ feed_opened P (entry.Judged x ask number answer ∷ es) k h o = at (takes answer
     at false q later = later (rw q at h) o
 feed_opened P (e ∷ es) k h o = feed_opened P es k h o
 
--- ---- what a journal knows of a socket
-
-judged_is_known : (k : SocketId) (es : List Entry) → knows es k ≡ false → judged_on k (judgements_in es) ≡ []
-judged_is_known k [] h = refl
-judged_is_known k (entry.Judged x ask number answer ∷ es) h = at (same_socket k x) refl h (judged_is_known k es)
-  where
-    at : (b : Bool) → same_socket k x ≡ b → b || knows es k ≡ false → (knows es k ≡ false → judged_on k (judgements_in es) ≡ []) → judged_on k (judgements_in (entry.Judged x ask number answer ∷ es)) ≡ []
-    at true q e later = differ (sym e)
-    at false q e later = rw q (later e)
-judged_is_known k (entry.Opened x ∷ es) h = at (same_socket k x) h (judged_is_known k es)
-  where
-    at : (b : Bool) → b || knows es k ≡ false → (knows es k ≡ false → judged_on k (judgements_in es) ≡ []) → judged_on k (judgements_in es) ≡ []
-    at true e later = differ (sym e)
-    at false e later = later e
-judged_is_known k (e ∷ es) h = judged_is_known k es h
-
-known_is_judged : (k : SocketId) (es : List Entry) → has_opened (journal_of es) k ≡ false → judged_on k (judgements_in es) ≡ [] → knows es k ≡ false
-known_is_judged k [] o h = refl
-known_is_judged k (entry.Judged x ask number answer ∷ es) o h = at (same_socket k x) refl (known_is_judged k es o)
-  where
-    at : (b : Bool) → same_socket k x ≡ b → (judged_on k (judgements_in es) ≡ [] → knows es k ≡ false) → b || knows es k ≡ false
-    at true q later = not_nil (rw q at h)
-    at false q later = later (rw q at h)
-known_is_judged k (entry.Opened x ∷ es) o h = at (same_socket k x) o (λ p. known_is_judged k es p h)
-  where
-    at : (b : Bool) → b || has_opened (journal_of es) k ≡ false → (has_opened (journal_of es) k ≡ false → knows es k ≡ false) → b || knows es k ≡ false
-    at true e later = differ (sym e)
-    at false e later = later e
-known_is_judged k (e ∷ es) o h = known_is_judged k es o h
-
 -- ---- whose a half is that neither took
 
-record IsNearHalf (a b : List Entry) (k : SocketId) : Type 0 where
-  closed : has_opened (journal_of a) k ≡ false
-  known : (has_opened (journal_of b) k ≡ true) ⊎ (knows a k ≡ true)
-
-near_half_is : (a b : List Entry) (k : SocketId) → is_near a b k ≡ true → IsNearHalf a b k
-near_half_is a b k e = at (has_opened (journal_of a) k) (has_opened (journal_of b) k) refl refl e
+near_half_is : (a b : List Entry) (k : SocketId) → is_near a b k ≡ true → has_opened (journal_of a) k ≡ false
+near_half_is a b k e = at (has_opened (journal_of a) k) refl e
   where
-    at : (c d : Bool) → has_opened (journal_of a) k ≡ c → has_opened (journal_of b) k ≡ d → (not c && (d || knows a k)) ≡ true → IsNearHalf a b k
-    at true d p q h = differ h
-    at false true p q h = record { closed = p; known = inl q }
-    at false false p q h = record { closed = p; known = inr h }
+    at : (c : Bool) → has_opened (journal_of a) k ≡ c → (not c && (has_opened (journal_of b) k || knows a k)) ≡ true → has_opened (journal_of a) k ≡ false
+    at true p h = differ h
+    at false p h = p
 
--- the near side opened it, or neither did and the near side knows nothing of it
-far_half_is : (a b : List Entry) (k : SocketId) → is_near a b k ≡ false → (has_opened (journal_of a) k ≡ true) ⊎ ((has_opened (journal_of b) k ≡ false) × (knows a k ≡ false))
+-- the near side opened it, or the far side didn't
+far_half_is : (a b : List Entry) (k : SocketId) → is_near a b k ≡ false → (has_opened (journal_of a) k ≡ true) ⊎ (has_opened (journal_of b) k ≡ false)
 far_half_is a b k e = at (has_opened (journal_of a) k) (has_opened (journal_of b) k) refl refl e
   where
-    at : (c d : Bool) → has_opened (journal_of a) k ≡ c → has_opened (journal_of b) k ≡ d → (not c && (d || knows a k)) ≡ false → (has_opened (journal_of a) k ≡ true) ⊎ ((has_opened (journal_of b) k ≡ false) × (knows a k ≡ false))
+    at : (c d : Bool) → has_opened (journal_of a) k ≡ c → has_opened (journal_of b) k ≡ d → (not c && (d || knows a k)) ≡ false → (has_opened (journal_of a) k ≡ true) ⊎ (has_opened (journal_of b) k ≡ false)
     at true d p q h = inl p
     at false true p q h = differ (sym h)
-    at false false p q h = inr (q, h)
+    at false false p q h = inr q
 
 loose_member : (a b : List Entry) (ls : List LooseNow) (l : LooseNow) → IsOf l ls → is_of_link a b l ≡ true → IsOf (half_end l) (loose_ends a b ls)
 loose_member a b [] l h e = absurd h
@@ -320,10 +284,6 @@ module _ (l : LinkNow) (link : IsLink l) (sockets : List SocketBytes) (rows : ma
   pub opened_judges_none : (s : Bool) (k : SocketId) → opens_in x s k ≡ true → judged_on k (judgements_in (journal s)) ≡ []
   opened_judges_none s k o = opened_unjudged (l.facts s) (sources s) (journal s) at_start k (link.sides s).lawful o
 
-  one_judges : (s : Bool) (k : SocketId) → (judged_on k (judgements_in (journal s)) ≡ []) ⊎ (judged_on k (judgements_in (journal (not s))) ≡ [])
-  one_judges true k = link.joined.apart.judged k
-  one_judges false k = by_either (link.joined.apart.judged k) inr inl
-
   never_both : (s : Bool) (k : SocketId) → opens_in x s k ≡ true → (b : Bool) → opens_in x (not s) k ≡ b → opens_in x (not s) k ≡ false
   never_both s k o false e = e
   never_both s k o true e = at s o e
@@ -354,7 +314,6 @@ module _ (l : LinkNow) (link : IsLink l) (sockets : List SocketBytes) (rows : ma
     seen = seen;
     unopened = unopened (opens_in x s t.socket) refl;
     judged = kept.judged;
-    others = others (one_judges s t.socket);
     got = ap (λ o. (bytes_of sockets).got (record { socket = t.socket; opener = o })) (sym (unopened (opens_in x s t.socket) refl)) ∙ bytes.got;
     put = ap (λ o. (bytes_of sockets).put (record { socket = t.socket; opener = o })) (sym (unopened (opens_in x s t.socket) refl)) ∙ bytes.put;
   }
@@ -369,10 +328,6 @@ module _ (l : LinkNow) (link : IsLink l) (sockets : List SocketBytes) (rows : ma
       unopened false e = e
       unopened true e = absurd (never (opened_judges_none s t.socket e))
 
-      others : (judged_on t.socket (judgements_in (journal s)) ≡ []) ⊎ (judged_on t.socket (judgements_in (journal (not s))) ≡ []) → judged_on t.socket (judgements_in (journal (not s))) ≡ []
-      others (inl e) = absurd (never e)
-      others (inr e) = e
-
       bytes : HasBytes sockets t.socket (opens_in x s t.socket) (log_at (part s).ends t.socket).got (log_at (part s).ends t.socket).put
       bytes = side_bytes s t.socket (feed_taken (λ k. is_among k (ids_of (part s).ends) ≡ true) (journal s) t.socket (link.sides s).ends taken)
 
@@ -385,7 +340,6 @@ module _ (l : LinkNow) (link : IsLink l) (sockets : List SocketBytes) (rows : ma
     seen = seen;
     unopened = unopened (is_near a b k) refl;
     judged = beside.judged ∙ ap (λ es. judged_on k (judgements_in es)) (whose (is_near a b k));
-    others = others (is_near a b k) refl;
     got = ap (λ j. (bytes_of sockets).got (record { socket = j; opener = false })) beside.whole.socket ∙ bytes.got;
     put = ap (λ j. (bytes_of sockets).put (record { socket = j; opener = false })) beside.whole.socket ∙ bytes.put;
   }
@@ -404,18 +358,8 @@ module _ (l : LinkNow) (link : IsLink l) (sockets : List SocketBytes) (rows : ma
       whose false = refl
 
       unopened : (s : Bool) → is_near a b k ≡ s → opens_in x s k ≡ false
-      unopened true e = (near_half_is a b k e).closed
-      unopened false e = by_either (far_half_is a b k e) (λ o. sides_apart true k o) (λ n. n.0)
-
-      judges_some : has_opened (journal_of a) k ≡ false → knows a k ≡ true → judged_on k (judgements_in a) ≡ [] → ⊥
-      judges_some o e n = differ (sym (known_is_judged k a o n) ∙ e)
-
-      others : (s : Bool) → is_near a b k ≡ s → judged_on k (judgements_in (journal (not s))) ≡ []
-      others true e =
-          let n = near_half_is a b k e in
-          by_either n.known (λ o. opened_judges_none false k o)
-          (λ m. by_either (link.joined.apart.judged k) (λ none. absurd (judges_some n.closed m none)) (λ none. none))
-      others false e = by_either (far_half_is a b k e) (λ o. opened_judges_none true k o) (λ n. judged_is_known k a n.1)
+      unopened true e = near_half_is a b k e
+      unopened false e = by_either (far_half_is a b k e) (λ o. sides_apart true k o) (λ n. n)
 
       bytes : HasBytes sockets h.end.id false h.end.log.got h.end.log.put
       bytes =

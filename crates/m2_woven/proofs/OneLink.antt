@@ -1,6 +1,6 @@
 -- A link that is woven: one side has opened a socket and written its banner, and a half of the other side has read it.
 use Rattle.std.specs.Prelude.{◌≡◌, ◌≢◌, ℕ, zero, suc, ◌<◌, ◌^◌, ◌==◌, ◌&&◌, Bool, true, false, List, [], ◌∷◌, length, take, Some, None, refl}
-use Rattle.std.proofs.Common.{inl, arith}
+use Rattle.std.proofs.Common.{arith}
 use Rattle.std.specs.List.{IsDistinct}
 use Rattle.std.specs.Borrow.{Bor}
 use Rattle.m2_crc.specs.Crc.{after_byte, shifted, shifted_by}
@@ -192,7 +192,7 @@ quiet false = record { up = tt; posts = tt }
 
 apart : AreApart it.both
 unfolding IsDistinct
-apart = record { ends = ((refl, tt), (tt, tt)); halves = (tt, tt); judged = λ j. inl refl }
+apart = record { ends = ((refl, tt), (tt, tt)); halves = (tt, tt) }
 
 link_is : IsLink it
 link_is = record {

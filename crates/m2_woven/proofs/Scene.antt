@@ -49,7 +49,7 @@ end_at k opener = record { socket = k; opener = opener }
 
 -- ---- what is known of it
 
--- a half: its trail beside its log, that its side hasn't opened the socket, and has judged what it was told, and the other nothing
+-- a half: its trail beside its log, that its side hasn't opened the socket, and has judged what it was told
 pub record IsHalfIn (x : Setting) (s : Bool) (t : TrailNow) (log : Log) : Type 0 where
   pub trail : IsTrailOf t log
   pub own : AreOwn t.socket t.entries
@@ -57,7 +57,6 @@ pub record IsHalfIn (x : Setting) (s : Bool) (t : TrailNow) (log : Log) : Type 0
   pub seen : HasAddrRanges (opener_of t.socket)
   pub unopened : opens_in x s t.socket ≡ false
   pub judged : t.judged ≡ judged_on t.socket (judgements_in (x.journals s))
-  pub others : judged_on t.socket (judgements_in (x.journals (not s))) ≡ []
   pub got : x.bytes.got (end_at t.socket false) ≡ log.got
   pub put : x.bytes.put (end_at t.socket false) ≡ log.put
 

@@ -1,5 +1,5 @@
 -- A link that is woven into one order: its sides and halves are a scene, and bytes fit throughout.
-use Rattle.std.proofs.Common.{◌≡◌, ℕ, zero, suc, ◌+◌, ◌≤◌, inl, inr, Bool, true, false, ◌||◌, if◌then◌else◌, List, [], ◌∷◌, ◌++◌, length, map, take, drop, Some, None, refl, sym, ap, ◌∙◌, subst, arith, append_assoc, take_all}
+use Rattle.std.proofs.Common.{◌≡◌, ℕ, zero, suc, ◌+◌, ◌≤◌, inl, inr, Bool, true, false, not, ◌||◌, if◌then◌else◌, List, [], ◌∷◌, ◌++◌, length, map, take, drop, Some, None, refl, sym, ap, ◌∙◌, subst, arith, append_assoc, take_all}
 use Rattle.std.specs.Prelude.{slice_get, slice_index}
 use Rattle.std.specs.List.{AllByRecursion, flat_map}
 use Rattle.std.proofs.lemmas.List.{length-map, map-append}
@@ -41,12 +41,13 @@ use Rattle.m2_weave.specs.Table.{bytes_of}
 use Rattle.m2_woven.specs.Actors.{Actor, of_record, of_half, actors_of, actors_of_side, is_near, journal_by, loose_actor, loose_actors, part_of, strand_by, taken_half}
 use Rattle.m2_woven.specs.Laws.{RecordsAreSides, WovenBytesFit, WovenIsDelivered, WovenIsNeverReset, kept_by}
 use Rattle.m2_woven.specs.Link.{IsLink, IsLooseBeside, IsOrderOf, LinkNow, items_by, order_of}
-use Rattle.m2_woven.proofs.Along.{at_first, begins_there, cut_of, fits_there, front, items_so}
+use Rattle.m2_woven.proofs.Alone.{alone_there}
+use Rattle.m2_woven.proofs.Along.{asked_there, at_first, begins_there, fits_there, front, items_so, read_there}
 use Rattle.m2_woven.proofs.Bytes.{HasBytes, IsOf, of_left, of_right}
 use Rattle.m2_woven.proofs.Journals.{judged_count}
 use Rattle.m2_woven.proofs.Linked.{FoundTrail, IsKnownActor, all_at, all_join, all_with, feed_opened, find_trail, get_left, get_map, get_right, loose_halves, loose_known, members, no_trail, one_record, places_of, record_between, setting_of, side_bytes, sides_apart, opened_judges_none, taken_halves, taken_known, trail_at_half}
 use Rattle.m2_woven.proofs.Moved.{unjudged_untaken}
-use Rattle.m2_woven.proofs.Scene.{IsHalfAt, IsHalfIn, IsOpenedIn, IsScene, IsTakenIn, Setting, items_in, opens_in, strand_is, woven_in}
+use Rattle.m2_woven.proofs.Scene.{IsHalfAt, IsHalfIn, IsOpenedIn, IsScene, IsTakenIn, Setting, items_in, opens_in, strand_is, strands_in, woven_in}
 use Rattle.m2_woven.proofs.Sums.{all_map, all_of, strand_in}
 use Rattle.m2_woven.proofs.Walk.{far_entries, item_in, near_entries, part_of_order}
 
@@ -277,17 +278,23 @@ module _ (read : ReadWasWritten) (asked : AsksComeFirst) (points : OrdersGivePoi
   sc : IsScene y
   sc = scene_is l link sockets rows
 
+  abbrev at_end : Cut
+  at_end = come_all order (at_first y.actors)
+
+  all_come : (j : ℕ) → slice_index at_end j ≡ length (strand_in (strands_in y) j).items
+  all_come j = ap (λ at. slice_index (come_all order at) j) (sym (begins_there y)) ∙ ap (λ at. slice_index at j) woven.whole ∙ index_size (woven_in y) j
+
   -- all of a journal has come at the end
-  whole_journal : (s : Bool) → flat_map (item_in s) (order_of l order) ≡ items_by l s
+  pub whole_journal : (s : Bool) → flat_map (item_in s) (order_of l order) ≡ items_by l s
   whole_journal s =
       items_so y sc order s
-      ∙ ap (items_of (y.sources s)) (take_whole (slice_index (come_all order (at_first y.actors)) (sc.place s)) (y.journals s) count)
+      ∙ ap (items_of (y.sources s)) (take_whole (slice_index at_end (sc.place s)) (y.journals s) count)
     where
-      count : slice_index (come_all order (at_first y.actors)) (sc.place s) ≡ length (y.journals s)
-      count =
-          ap (λ at. slice_index (come_all order at) (sc.place s)) (sym (begins_there y)) ∙ ap (λ at. slice_index at (sc.place s)) woven.whole
-          ∙ index_size (woven_in y) (sc.place s) ∙ ap (λ (r : StrandNow). length r.items) (strand_is y sc (sc.place s) (of_record s) (sc.there s))
-          ∙ length-map (y.journals s) Noted
+      count : slice_index at_end (sc.place s) ≡ length (y.journals s)
+      count = all_come (sc.place s) ∙ ap (λ (r : StrandNow). length r.items) (strand_is y sc (sc.place s) (of_record s) (sc.there s)) ∙ length-map (y.journals s) Noted
+
+  alone : (j : ℕ) (s : Bool) (t : TrailNow) (log : Log) → IsHalfAt y j s t log → judged_on t.socket (judgements_in (y.journals (not s))) ≡ []
+  alone = alone_there y sc link.joined.named at_end (read_there y read order woven.lawful) (asked_there y asked order woven.lawful) all_come
 
   throughout : (front back : List OrderEntry) → order_of l order ≡ front ++ back → BytesFit (near_side (l.facts true) front) (far_side (l.facts false) front)
   throughout front back e =
@@ -295,7 +302,7 @@ module _ (read : ReadWasWritten) (asked : AsksComeFirst) (points : OrdersGivePoi
       let lawful = lawful_first (by_bytes (woven_in y)) (sizes (woven_in y)) (nothing (sizes (woven_in y))) p.first p.more
       (subst (λ o. merge.AreLawful (by_bytes (woven_in y)) (sizes (woven_in y)) (nothing (sizes (woven_in y))) o) p.parts woven.lawful) in
       subst (λ m. BytesFit (near_side (l.facts true) m) (far_side (l.facts false) m)) p.entries
-      (fits_there y sc p.first points tell (cut_of y read asked p.first lawful) link.joined.named)
+      (fits_there y sc p.first points tell (record { read = read_there y read p.first lawful; asked = asked_there y asked p.first lawful; alone = alone }) link.joined.named)
 
   byte_history : IsByteHistory (l.facts true) (l.facts false) (order_of l order)
   byte_history = record {

@@ -1,5 +1,5 @@
 -- Two sides of a link that are woven, as records and halves keep them. This project's own.
-use Rattle.std.specs.Prelude.{◌≡◌, ℕ, ◌<◌, ◌^◌, ◌⊎◌, Bool, true, false, if◌then◌else◌, List, [], map}
+use Rattle.std.specs.Prelude.{◌≡◌, ℕ, ◌<◌, ◌^◌, Bool, true, false, if◌then◌else◌, List, map}
 use Rattle.std.specs.List.{AllByRecursion, IsDistinct, flat_map}
 use Rattle.m2_control.specs.Laws.{HasAddrRanges}
 use Rattle.m2_fabric.specs.declared.socket.SocketId.{SocketId}
@@ -72,11 +72,10 @@ trails_of x = flat_map trail_by (actors_of x)
 abbrev pub same_end : EndNow → EndNow → Bool
 same_end e other = is_end e.socket e.opener other
 
--- of each socket there is one end of either kind and one half, and one side alone judges the asks on it
+-- of each socket there is one end of either kind, and one half
 pub record AreApart (x : BothNow) : Type 0 where
   pub ends : IsDistinct same_end (ends_of x)
   pub halves : IsDistinct same_socket (map (λ (t : TrailNow). t.socket) (trails_of x))
-  pub judged : (k : SocketId) → (judged_on k (judgements_in x.a.journal) ≡ []) ⊎ (judged_on k (judgements_in x.b.journal) ≡ [])
 
 -- What is asked of two sides and of the halves that neither took, beside what records keep: they dial different places, and what
 -- nodes and sockets are named by keeps the ranges of its types.
