@@ -1,27 +1,35 @@
-"""Runs the program on each example and on each stored run of its own, and compares standard output, standard
+"""Runs the programs on each example and on each stored run of their own, and compares standard output, standard
 error and the exit status with what is expected.
 
 What is expected stands beside the file, as NAME.stdout, NAME.stderr and NAME.status: a missing one says that nothing
 is written there, and that the status is 0. A file of examples/bad names in its first line the complaint that it gets.
-A file without any of these fails. The stored runs are those of crates/msgr2/runs; NAME.args has their words, one a
+A file without any of these fails. The stored runs are those of crates/PROGRAM/runs; NAME.args has their words, one a
 line, in which {} stands for the file.
 
-The kit builds the program once, without a proof (rt ci proves it), and runs it on all in one go. Among them are copies
+The kit builds each program once, without a proof (rt ci proves it), and runs it on all in one go. Among them are copies
 of an example with a wrong expectation, and one with none: the comparison must object to each.
+
+The traces of examples/traces are replayed besides, by tools/replay_trace.py, which knows nothing of the crates. It must
+object to each of them once a line of a journal is left out, a byte is changed, or the session is another.
 """
 import os, re, shutil, subprocess, sys, tempfile
 
 TOP = os.path.dirname(os.path.dirname(os.path.abspath(__file__)))
-PROGRAM = os.path.join(TOP, "crates", "msgr2")
+sys.path.insert(0, os.path.join(TOP, "tools"))
+import replay_trace
+
 PARTS = ("stdout", "stderr", "status")
 SIDE = re.compile(r"\.(stdout|stderr|status|args)$")
 COMPLAINT = re.compile(r"# (bad scenario: line [0-9]+ kind [0-9]+):")
 BAD_SCENARIO = 2
-FOLDERS = {  # the words that the program gets for a file of the folder; of a stored run they stand beside it
-    "examples": ["sim", "{}"],
-    "examples/bad": ["sim", "{}"],
-    "examples/frames": ["frames", "{}"],
-    "crates/msgr2/runs": None,
+TRACES = "examples/traces"
+FOLDERS = {  # the program, and the words that it gets for a file of the folder; of a stored run they stand beside it
+    "examples": ("msgr2", ["sim", "{}"]),
+    "examples/bad": ("msgr2", ["sim", "{}"]),
+    "examples/frames": ("msgr2", ["frames", "{}"]),
+    "crates/msgr2/runs": ("msgr2", None),
+    TRACES: ("record_trace", ["{}"]),
+    "crates/record_trace/runs": ("record_trace", None),
 }
 # Copies of this example get a wrong expectation each: the part, and what is wrong about it.
 SAMPLE, SAMPLE_WORDS = "examples/frames/bad_crc.frames", ["frames", "{}"]
@@ -85,14 +93,14 @@ def wrong_ones(room):
     return files
 
 
-def run_all(files):
-    """Runs the program on each file with its words, and returns what each run gave."""
+def run_all(program, files):
+    """Runs a program on each file with its words, and returns what each run gave."""
     with tempfile.TemporaryDirectory() as room:
         for at, (file, words) in enumerate(files):
             shutil.copy(file, f"{room}/case_{at:04}")
             with open(f"{room}/case_{at:04}.args", "w", encoding="utf-8") as out:
                 out.write("".join(f"{word}\n" for word in words))
-        ran = subprocess.run(["rt", "try", "--cases", room], cwd=PROGRAM, capture_output=True)
+        ran = subprocess.run(["rt", "try", "--cases", room], cwd=os.path.join(TOP, "crates", program), capture_output=True)
     pieces = re.split(rb"^== case_([0-9]{4})\n", ran.stdout, flags=re.M)
     written = dict(zip(pieces[1::2], pieces[2::2]))
     got, at = {}, 0
@@ -101,28 +109,68 @@ def run_all(files):
         at = end.end()
     if len(got) != len(files):
         sys.stderr.buffer.write(ran.stdout + ran.stderr)
-        sys.exit(f"the program was run on {len(got)} of {len(files)} files")
+        sys.exit(f"{program} was run on {len(got)} of {len(files)} files")
     return [got[at] for at in range(len(files))]
 
 
-def main():
+def replayed(trace):
+    """What the replay says against a trace, if anything."""
+    try:
+        replay_trace.check(trace)
+    except replay_trace.Wrong as wrong:
+        return str(wrong)
+    return None
+
+
+def wrong_traces(trace):
+    """The trace with a read left out, with a byte of a log changed, and with another session."""
+    read = re.search(r"^b journal (read|wrote) .*\n", trace, re.M)
+    got = re.search(r"^b feed got .*[0-9a-f](?=\n)", trace, re.M)
+    return {
+        "an entry left out": trace[: read.start()] + trace[read.end() :],
+        "a byte changed": trace[: got.end() - 1] + ("1" if trace[got.end() - 1] == "0" else "0") + trace[got.end() :],
+        "another session": re.sub(r"^a session ([a-z_]+) ([0-9]+)", r"a session \1 1\2", trace, flags=re.M),
+    }
+
+
+def replays():
+    """Whether each stored trace is replayed, and each wrong one objected to."""
     good = True
-    runs, counts = [], {}
-    for folder, words in FOLDERS.items():
+    for name in sorted(os.listdir(os.path.join(TOP, TRACES))):
+        if not name.endswith(".stdout"):
+            continue
+        trace = text_of(os.path.join(TOP, TRACES, name)).decode()
+        said = replayed(trace)
+        if said:
+            good = False
+            print(f"{TRACES}/{name}: {said}")
+        for part, wrong in wrong_traces(trace).items():
+            if not replayed(wrong):
+                good = False
+                print(f"{TRACES}/{name}: the replay doesn't object to {part}")
+    return good
+
+
+def main():
+    good = replays()
+    runs, counts = {}, {}
+    for folder, (program, words) in FOLDERS.items():
         cases, stray = cases_of(folder, words)
         counts[folder] = len(cases)
-        runs += [(os.path.join(TOP, name), its) for name, its in cases.items()]
+        runs.setdefault(program, []).extend((os.path.join(TOP, name), its) for name, its in cases.items())
         for name in stray:
             good = False
             print(f"{name}: stands beside no file")
     with tempfile.TemporaryDirectory() as room:
         wrong = wrong_ones(room)
-        got = run_all(runs + [(file, SAMPLE_WORDS) for file in wrong.values()])
-        for (file, _), it in zip(runs, got):
-            for said in objections(file, it):
-                good = False
-                print(f"{os.path.relpath(file, TOP)}: {said}")
-        for (part, file), it in zip(wrong.items(), got[len(runs) :]):
+        of_wrong = [(file, SAMPLE_WORDS) for file in wrong.values()]
+        got = {program: run_all(program, its + (of_wrong if program == "msgr2" else [])) for program, its in runs.items()}
+        for program, its in runs.items():
+            for (file, _), it in zip(its, got[program]):
+                for said in objections(file, it):
+                    good = False
+                    print(f"{os.path.relpath(file, TOP)}: {said}")
+        for (part, file), it in zip(wrong.items(), got["msgr2"][len(runs["msgr2"]) :]):
             said = objections(file, it)
             if len(said) != 1 or not said[0].startswith(part):
                 good = False

@@ -1,0 +1,4 @@
+pub mod Trace
+pub mod Tracing
+pub mod Status
+pub mod Top
