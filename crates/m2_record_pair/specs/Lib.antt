@@ -3,4 +3,5 @@ pub mod Steps
 pub mod Sockets
 pub mod Judging
 pub mod Hearing
+pub mod Wires
 pub mod PairNow

@@ -63,3 +63,7 @@ ConnectsAs connecting.NoMemory opener old new = IsSameButRoom old.from new.from 
 abbrev pub hears_on : Option Wire → News → List ℕ → SideNow → SideNow
 hears_on (Some w) news bytes s = side_hears w.socket news bytes s
 hears_on None news bytes s = s
+
+-- neither side has a half of its peer any more
+abbrev pub without_halves : PairNow → PairNow
+without_halves p = record p { first = record p.first { halves = []; loose = [] }; second = record p.second { halves = []; loose = [] } }

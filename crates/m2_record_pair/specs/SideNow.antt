@@ -1,7 +1,8 @@
 -- What contracts see of a side of a pair, and what its type keeps. This project's own.
-use Rattle.std.specs.Prelude.{◌≡◌, ℕ, ◌<◌, ◌≤◌, List, [], ◌∷◌, ◌++◌}
+use Rattle.std.specs.Prelude.{◌≡◌, ℕ, ◌-◌, ◌<◌, ◌≤◌, List, [], ◌∷◌, ◌++◌}
 use Rattle.m2_dispatch.specs.declared.logged.Logged.{Logged}
 use Rattle.m2_fabric.specs.End.{SeenEnd}
+use Rattle.m2_live.specs.LiveNow.{held}
 use Rattle.m2_journal.specs.SideFacts.{SideFacts}
 use Rattle.m2_shared.specs.declared.limits.TheConstants.{MOST_TAKEN}
 use Rattle.m2_shared.specs.Numbers.{SeenNumberPass, SeenNumbers}
@@ -9,7 +10,7 @@ use Rattle.m2_shared.specs.Place.{IsAlone}
 use Rattle.m2_shared.specs.Throttle.{SeenTakePass, SeenThrottle}
 use Rattle.m2_trail.specs.Arrivals.{LooseNow}
 use Rattle.m2_trail.specs.Incoming.{IncomingNow, accepted}
-use Rattle.m2_record.specs.Calls.{Connects, Owns}
+use Rattle.m2_record.specs.Calls.{Connects, Owns, all_granted}
 use Rattle.m2_record.specs.IsRecord.{new_record}
 use Rattle.m2_record.specs.RecordNow.{RecordNow, Rooms}
 
@@ -67,6 +68,10 @@ pub record IsSide (m : Means) (limit : ℕ) (r : RecordNow) : Type 0 where
   pub supplied : IsSupplied m r
 
 -- ---- what its calls do
+
+-- how many bytes are out once its record has given back what it holds
+abbrev pub left_out : SideNow → ℕ
+left_out s = s.out - held s.kept.core.live.granted - all_granted s.kept.parcels
 
 -- all but the room of its record is the same
 abbrev pub IsSameButRoom : SideNow → SideNow → Type 0

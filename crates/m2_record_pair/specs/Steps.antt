@@ -1,6 +1,6 @@
 -- What a step of a side does: a step of its record, and where that hands out a parcel, what its dispatchers are called with.
 -- This project's own.
-use Rattle.std.specs.Prelude.{◌≡◌, ℕ, ◌-◌, List, [], ◌∷◌, ◌++◌}
+use Rattle.std.specs.Prelude.{◌≡◌, ℕ, ◌-◌, Bool, true, false, List, [], ◌∷◌, ◌++◌}
 use Rattle.m2_dispatch.specs.declared.logged.Logged.{Logged}
 use Rattle.m2_dispatch.specs.declared.logged.Logged.TheVariants as logged
 use Rattle.m2_dispatcher.specs.declared.letter.Letter.{Letter}
@@ -67,6 +67,13 @@ fast_at answer = []
 abbrev pub given_back : Stepped → ℕ
 given_back (stepped.Hand x) = granted_in x
 given_back answer = 0
+
+-- something was done
+abbrev pub has_moved : SideStep → Bool
+has_moved side.Moved = true
+has_moved side.Handed = true
+has_moved (side.Faulted cause) = true
+has_moved _ = false
 
 -- ---- a step
 

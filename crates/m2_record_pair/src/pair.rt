@@ -3,8 +3,10 @@
 ghost use Rattle.std.specs.Prelude.{◌≡◌, ◌+◌, ◌≤◌, [], slice_get, OnOk, OnErr};
 ghost use Rattle.std.specs.Bool.{OnTrue, OnFalse};
 ghost use Rattle.m2_record.specs.Calls.{AddsStep, after_missing};
-ghost use Rattle.m2_record_pair.specs.PairNow.{ConnectsAs, OnlyAt, between, hears_on, other, side_at, with_side};
+ghost use Rattle.m2_record_pair.specs.PairNow.{ConnectsAs, OnlyAt, between, hears_on, other, side_at, with_side, without_halves};
+ghost use Rattle.m2_record_pair.specs.SideNow.{left_out};
 ghost use Rattle.m2_record_pair.specs.Steps.{TakesStep};
+ghost use Rattle.m2_record_pair.specs.Wires.{after_flow};
 ghost use Rattle.m2_record_pair.specs.Hearing.{side_hears};
 
 use crate::side::Side;
@@ -162,6 +164,7 @@ impl Pair {
     pub fn flow(&mut self, from: Which, wire: usize, most: usize) -> usize
         ensures most { result ≤ most }
         ensures writer { side_at from self.new ≡ side_at from self.old }
+        ensures wires { self.new.wires ≡ after_flow from wire result self.old.wires }
     {
         if wire >= self.wires.len() {
             return 0;
@@ -200,7 +203,10 @@ impl Pair {
 
     /// Takes all sockets of both sides that no record has taken, those that are open as they are. The sides have none then. Err
     /// for want of memory changes nothing.
-    pub fn take_loose(&mut self) -> Result<LooseList<SimEnd>, NoMemory> {
+    pub fn take_loose(&mut self) -> Result<LooseList<SimEnd>, NoMemory>
+        ensures ok { OnOk result (self.new ≡ without_halves self.old) }
+        ensures err { OnErr result (self.new ≡ self.old) }
+    {
         let mut loose = Items::empty(self.alloc);
         loose.reserve(self.first.count().saturating_add(self.second.count()))?;
         self.first.leave_all(&mut loose);
@@ -209,7 +215,10 @@ impl Pair {
     }
 
     /// Ends both records. How many bytes the throttle of each has granted that aren't back.
-    pub fn finish(self) -> (u64, u64) {
+    pub fn finish(self) -> (u64, u64)
+        ensures first { result.0 ≡ left_out self.first }
+        ensures second { result.1 ≡ left_out self.second }
+    {
         let Pair {
             alloc: _,
             first,

@@ -1,18 +1,17 @@
 //! A side of a pair.
 
-ghost use Rattle.std.specs.Prelude.{◌≡◌, ◌-◌, ◌<◌, ◌≤◌, [], OnOk, OnErr};
+ghost use Rattle.std.specs.Prelude.{◌≡◌, ◌<◌, ◌≤◌, [], OnOk, OnErr};
 ghost use Rattle.std.specs.Bool.{OnTrue};
 ghost use Rattle.std.specs.List.{list_any};
 ghost use Rattle.m2_answers.specs.declared.cookie.TheConstants.{MOST_PLACES};
-ghost use Rattle.m2_live.specs.LiveNow.{held};
 ghost use Rattle.m2_fabric.specs.Sockets.{same_socket};
 ghost use Rattle.m2_message.specs.Message.{IsSendable};
 ghost use Rattle.m2_shared.specs.declared.limits.TheConstants.{MOST_TAKEN};
-ghost use Rattle.m2_record.specs.Calls.{AddsStep, all_granted};
+ghost use Rattle.m2_record.specs.Calls.{AddsStep};
 ghost use Rattle.m2_record.specs.IsRecord.{CanBePlanned};
 ghost use Rattle.m2_live.specs.Waits.{AreWaits};
 ghost use Rattle.m2_record_pair.specs.Hearing.{side_hears, half_hears};
-ghost use Rattle.m2_record_pair.specs.SideNow.{new_side};
+ghost use Rattle.m2_record_pair.specs.SideNow.{left_out, new_side};
 ghost use Rattle.m2_record_pair.specs.Steps.{TakesStep};
 
 use crate::dispatching::{dispatch, step_record};
@@ -249,7 +248,9 @@ impl Side {
 
     /// Leaves all sockets of the peer that aren't taken as they are, and moves them, with those that were closed, to the end of
     /// a list that has room for them.
-    pub(crate) fn leave_all(&mut self, loose: &mut LooseList<SimEnd>) {
+    pub(crate) fn leave_all(&mut self, loose: &mut LooseList<SimEnd>)
+        ensures { self.new ≡ record self.old { halves = []; loose = [] } }
+    {
         let closed = std::mem::replace(&mut self.loose, Items::empty(self.alloc));
         'closed: for half in closed.into_vec() {
             put(loose, half);
@@ -262,7 +263,7 @@ impl Side {
 
     /// Ends the record, which gives back what it holds. How many bytes its throttle has granted that aren't back.
     pub(crate) fn finish(self) -> u64
-        ensures { result ≡ self.out - held self.kept.core.live.granted - all_granted self.kept.parcels }
+        ensures { result ≡ left_out self }
     {
         let Side {
             alloc: _,

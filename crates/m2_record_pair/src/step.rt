@@ -1,5 +1,8 @@
 //! What calls of a side answered.
 
+ghost use Rattle.std.specs.Prelude.{◌≡◌};
+ghost use Rattle.m2_record_pair.specs.Steps.{has_moved};
+
 use m2_fabric::SocketId;
 use m2_heard::WireFault;
 
@@ -26,7 +29,9 @@ pub enum SideStep {
 
 impl SideStep {
     /// Whether something was done, so that another step may follow at once.
-    pub fn has_moved(self) -> bool {
+    pub fn has_moved(self) -> bool
+        ensures { result ≡ has_moved self }
+    {
         matches!(
             self,
             SideStep::Moved | SideStep::Handed | SideStep::Faulted(_)

@@ -1,5 +1,8 @@
 //! A socket between two sides.
 
+ghost use Rattle.std.specs.Prelude.{◌≡◌};
+ghost use Rattle.m2_record_pair.specs.Wires.{flowed_from, with_flowed};
+
 use crate::which::Which;
 use m2_fabric::SocketId;
 
@@ -14,26 +17,24 @@ pub struct Wire {
 
 impl Wire {
     /// How many bytes have flowed from this side.
-    pub fn flowed(&self, from: Which) -> usize {
-        if from == self.opener {
-            self.ahead
-        } else {
-            self.back
+    pub fn flowed(&self, from: Which) -> usize
+        ensures { result ≡ flowed_from from self.now }
+    {
+        match (from, self.opener) {
+            (Which::First, Which::First) | (Which::Second, Which::Second) => self.ahead,
+            (Which::First, Which::Second) | (Which::Second, Which::First) => self.back,
         }
     }
 
     /// The same socket, where so many bytes have flowed from this side.
-    pub(crate) fn with_flowed(self, from: Which, flowed: usize) -> Wire {
-        if from == self.opener {
-            Wire {
-                ahead: flowed,
-                ..self
-            }
-        } else {
-            Wire {
-                back: flowed,
-                ..self
-            }
+    pub(crate) fn with_flowed(self, from: Which, flowed: usize) -> Wire
+        ensures { result ≡ with_flowed from flowed self }
+    {
+        let mut wire = self;
+        match (from, self.opener) {
+            (Which::First, Which::First) | (Which::Second, Which::Second) => wire.ahead = flowed,
+            (Which::First, Which::Second) | (Which::Second, Which::First) => wire.back = flowed,
         }
+        wire
     }
 }
