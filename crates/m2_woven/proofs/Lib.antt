@@ -11,6 +11,7 @@ pub mod Along
 pub mod Bytes
 pub mod Alone
 pub mod Linked
+pub mod Halfway
 pub mod Whole
 pub mod Woven
 pub mod OneLink

@@ -174,7 +174,7 @@ no_trail (t ∷ ts) k h = at (same_socket k t.socket) refl h (no_trail ts k)
     at true q none later = differ (sym none)
     at false q none later = ap (λ b. if b then Some t else trail_at ts k) q ∙ later none
 
-among_of : (ts : List TrailNow) (t : TrailNow) → IsOf t ts → is_among t.socket (map (λ (t : TrailNow). t.socket) ts) ≡ true
+pub among_of : (ts : List TrailNow) (t : TrailNow) → IsOf t ts → is_among t.socket (map (λ (t : TrailNow). t.socket) ts) ≡ true
 among_of [] t h = absurd h
 among_of (u ∷ ts) t (inl e) = ap (λ b. b || is_among t.socket (map (λ (t : TrailNow). t.socket) ts)) (ap (λ (w : TrailNow). same_socket t.socket w.socket) e ∙ same_refl t.socket)
 among_of (u ∷ ts) t (inr h) = at (same_socket t.socket u.socket) (among_of ts t h)
@@ -265,7 +265,7 @@ module _ (l : LinkNow) (link : IsLink l) (sockets : List SocketBytes) (rows : ma
   pub side_bytes : (s : Bool) (k : SocketId) → is_among k (ids_of (part s).ends) ≡ true → HasBytes sockets k (opens_in x s k) (log_at (part s).ends k).got (log_at (part s).ends k).put
   side_bytes s k h =
       let e = end_there (journal s) (part s).ends k h in
-      let has = bytes_there (ends_of l.both) sockets e.end link.joined.apart.ends rows (member s e.end e.there) in
+      let has = bytes_there (ends_of l.both) sockets e.end link.joined.apart rows (member s e.end e.there) in
       record {
         got = ap (λ j. (bytes_of sockets).got (record { socket = j; opener = opens_in x s k })) (sym e.socket)
             ∙ ap (λ o. (bytes_of sockets).got (record { socket = e.end.socket; opener = o })) (sym e.opener) ∙ has.got ∙ e.got;
@@ -363,5 +363,5 @@ module _ (l : LinkNow) (link : IsLink l) (sockets : List SocketBytes) (rows : ma
 
       bytes : HasBytes sockets h.end.id false h.end.log.got h.end.log.put
       bytes =
-          bytes_there (ends_of l.both) sockets (half_end h) link.joined.apart.ends rows
+          bytes_there (ends_of l.both) sockets (half_end h) link.joined.apart rows
           (of_right (half_end h) (map (end_of a) l.both.a.ends ++ map (end_of b) l.both.b.ends) (loose_ends a b l.both.loose) (loose_member a b l.both.loose h member of_link))

@@ -27,6 +27,7 @@ use Rattle.m2_handshake.specs.Course as course
 use Rattle.m2_handshake.specs.Course.{course_of, no_exchange}
 use Rattle.m2_handshake.specs.Standing.{fed}
 use Rattle.m2_history.specs.Parts.{PartsNow}
+use Rattle.m2_history.specs.Woven.{ends_of}
 use Rattle.m2_journal.specs.declared.entry.Entry.TheVariants as entry
 use Rattle.m2_journal.specs.declared.facts.PlanStep.{PlanStep}
 use Rattle.m2_journal.specs.declared.facts.PlanStep.TheVariants as step
@@ -42,7 +43,7 @@ use Rattle.m2_trail.specs.Trails.{ComesToWrite, begins, got_by, opener_of, put_b
 use Rattle.m2_weave.specs.declared.table.SocketBytes.{SocketBytes}
 use Rattle.m2_woven.specs.Laws.{ALinkIsWoven}
 use Rattle.m2_woven.specs.Actors.{part_of}
-use Rattle.m2_woven.specs.Link.{AreApart, IsLink, IsLooseBeside, IsOrderOf, IsQuietSide, IsSideOf, LinkNow, items_by, order_of}
+use Rattle.m2_woven.specs.Link.{IsLink, IsLooseBeside, IsOrderOf, IsQuietSide, IsSideOf, LinkNow, items_by, order_of, same_end}
 
 abbrev k : SocketId
 k = socket 1
@@ -190,9 +191,9 @@ quiet : (s : Bool) → IsQuietSide (plan_by s) (part_of it.both s)
 quiet true = record { up = (tt, (tt, (tt, tt))); posts = (tt, (tt, (tt, tt))) }
 quiet false = record { up = tt; posts = tt }
 
-apart : AreApart it.both
+apart : IsDistinct same_end (ends_of it.both)
 unfolding IsDistinct
-apart = record { ends = ((refl, tt), (tt, tt)); halves = (tt, tt) }
+apart = ((refl, tt), (tt, tt))
 
 link_is : IsLink it
 link_is = record {

@@ -1,7 +1,8 @@
 -- A link that is woven into one order: its sides and halves are a scene, and bytes fit throughout.
 use Rattle.std.proofs.Common.{◌≡◌, ℕ, zero, suc, ◌+◌, ◌≤◌, inl, inr, Bool, true, false, not, ◌||◌, if◌then◌else◌, List, [], ◌∷◌, ◌++◌, length, map, take, drop, Some, None, refl, sym, ap, ◌∙◌, subst, arith, append_assoc, take_all}
 use Rattle.std.specs.Prelude.{slice_get, slice_index}
-use Rattle.std.specs.List.{AllByRecursion, flat_map}
+use Rattle.std.specs.List.{AllByRecursion, IsDistinct, flat_map}
+use Rattle.std.proofs.lemmas.Grind.{flat_map-append}
 use Rattle.std.proofs.lemmas.List.{length-map, map-append}
 use Rattle.m2_control.specs.Laws.{HasAddrRanges}
 use Rattle.m2_fabric.specs.declared.socket.SocketId.{SocketId}
@@ -15,9 +16,9 @@ use Rattle.m2_fitting.specs.Trails.{TrailsTellEachPoint}
 use Rattle.m2_history.specs.Delivered.{PostedIsDelivered}
 use Rattle.m2_history.specs.HalfStrands.{OrdersGivePoints, strand_of}
 use Rattle.m2_history.specs.Parts.{PartsNow}
-use Rattle.m2_history.specs.Woven.{BothNow, as_judged, is_of_link, judged_times, loose_strand, loose_strands, row_now, rows_of, ends_of, strands_of, strands_of_side}
+use Rattle.m2_history.specs.Woven.{BothNow, EndNow, as_judged, end_of, is_of_link, judged_times, loose_ends, loose_strand, loose_strands, row_now, rows_of, ends_of, strands_of, strands_of_side}
 use Rattle.m2_journal.specs.declared.entry.Entry.{Entry}
-use Rattle.m2_journal.specs.Items.{items_of}
+use Rattle.m2_journal.specs.Items.{at_start, items_of}
 use Rattle.m2_journal.specs.Lawful.{judged_on}
 use Rattle.m2_journal.specs.Replay.{AreLawful}
 use Rattle.m2_journal.specs.State.{start}
@@ -25,7 +26,7 @@ use Rattle.m2_merge.specs.Order as merge
 use Rattle.m2_merge.specs.Order.{Cut, Rule, come, come_all, nothing}
 use Rattle.m2_paired.specs.Laws.{IsNoDown}
 use Rattle.m2_paired.specs.Orders.{far_items, near_items}
-use Rattle.m2_paired.proofs.Sockets.{same_refl}
+use Rattle.m2_paired.proofs.Sockets.{differ, same_refl}
 use Rattle.m2_record.specs.RecordNow.{feed_end, ids_of, ends_of as ends_of_record}
 use Rattle.m2_record.specs.Sources.{log_at, read_before, trail_at, unread_of, written_before}
 use Rattle.m2_record.specs.TakenTrails.{IsKeptTrail, judgements_in, taken_in}
@@ -38,14 +39,15 @@ use Rattle.m2_weave.specs.Rule.{Woven, by_bytes}
 use Rattle.m2_weave.specs.Stops.{IsWoven, sizes}
 use Rattle.m2_weave.specs.Strands.{StrandNow, journal_of}
 use Rattle.m2_weave.specs.Table.{bytes_of}
-use Rattle.m2_woven.specs.Actors.{Actor, of_record, of_half, actors_of, actors_of_side, is_near, journal_by, loose_actor, loose_actors, part_of, strand_by, taken_half}
+use Rattle.m2_woven.specs.Actors.{Actor, of_record, of_half, actors_of, actors_of_side, is_near, journal_by, loose_actor, loose_actors, part_of, strand_by, taken_half, trail_by}
 use Rattle.m2_woven.specs.Laws.{RecordsAreSides, WovenBytesFit, WovenIsDelivered, WovenIsNeverReset, kept_by}
-use Rattle.m2_woven.specs.Link.{IsLink, IsLooseBeside, IsOrderOf, LinkNow, items_by, order_of}
+use Rattle.m2_woven.specs.Link.{IsLink, IsLooseBeside, IsOrderOf, LinkNow, items_by, order_of, same_end, sources_in, trails_of}
 use Rattle.m2_woven.proofs.Alone.{alone_there}
 use Rattle.m2_woven.proofs.Along.{asked_there, at_first, begins_there, fits_there, front, items_so, read_there}
-use Rattle.m2_woven.proofs.Bytes.{HasBytes, IsOf, of_left, of_right}
+use Rattle.m2_woven.proofs.Bytes.{HasBytes, HasEnd, IsOf, end_there, of_left, of_right}
+use Rattle.m2_woven.proofs.Halfway.{IsNamedSo, acceptors_apart, apart_named, distinct_first, distinct_join, distinct_last, distinct_parts, from_loose, loose_once, loose_trails, sockets_of, taken_once, trails_loose, trails_taken}
 use Rattle.m2_woven.proofs.Journals.{judged_count}
-use Rattle.m2_woven.proofs.Linked.{FoundTrail, IsKnownActor, all_at, all_join, all_with, feed_opened, find_trail, get_left, get_map, get_right, loose_halves, loose_known, members, no_trail, one_record, places_of, record_between, setting_of, side_bytes, sides_apart, opened_judges_none, taken_halves, taken_known, trail_at_half}
+use Rattle.m2_woven.proofs.Linked.{FoundTrail, IsKnownActor, all_at, all_join, all_with, among_of, feed_opened, feed_taken, find_trail, get_left, get_map, get_right, loose_halves, loose_known, members, no_trail, one_record, places_of, record_between, setting_of, side_bytes, sides_apart, opened_judges_none, taken_halves, taken_known, trail_at_half}
 use Rattle.m2_woven.proofs.Moved.{unjudged_untaken}
 use Rattle.m2_woven.proofs.Scene.{IsHalfAt, IsHalfIn, IsOpenedIn, IsScene, IsTakenIn, Setting, items_in, opens_in, strand_is, strands_in, woven_in}
 use Rattle.m2_woven.proofs.Sums.{all_map, all_of, strand_in}
@@ -235,13 +237,91 @@ module _ (l : LinkNow) (link : IsLink l) (sockets : List SocketBytes) (rows : ma
       bytes : HasBytes sockets k (opens_in x s k) (log_at ends k).got (log_at ends k).put
       bytes = side_bytes l link sockets rows s k (feed_opened (λ k. is_among k (ids_of ends) ≡ true) (journal_by l.both s) k (link.sides s).ends o)
 
+  -- ---- one half on each socket
+
+  abbrev ends_by : Bool → List EndNow
+  ends_by s = map (end_of (journal_by l.both s)) (part s).ends
+
+  abbrev loose_now : List EndNow
+  loose_now = loose_ends l.both.a.journal l.both.b.journal l.both.loose
+
+  abbrev loose_ts : List TrailNow
+  loose_ts = loose_trails l.both.a.journal l.both.b.journal l.both.loose
+
+  its_taking : (s : Bool) (t : TrailNow) → IsOf t (part s).trails → is_among t.socket (taken_in (journal_by l.both s)) ≡ true
+  its_taking s t m = ap (is_among t.socket) (sym (link.sides s).trails.sockets) ∙ among_of (part s).trails t m
+
+  its_end : (s : Bool) (t : TrailNow) → IsOf t (part s).trails → HasEnd (journal_by l.both s) (part s).ends t.socket
+  its_end s t m = end_there (journal_by l.both s) (part s).ends t.socket (feed_taken (λ k. is_among k (ids_of (part s).ends) ≡ true) (journal_by l.both s) t.socket (link.sides s).ends (its_taking s t m))
+
+  closed_half : (s : Bool) (t : TrailNow) → IsOf t (part s).trails → opens_in x s t.socket ≡ false
+  closed_half s t m = at (opens_in x s t.socket) refl
+    where
+      at : (b : Bool) → opens_in x s t.socket ≡ b → opens_in x s t.socket ≡ false
+      at false o = o
+      at true o = differ (sym (unjudged_untaken t.socket (journal_by l.both s) (opened_judges_none l link sockets rows s t.socket o)) ∙ its_taking s t m)
+
+  its_opener : (s : Bool) (t : TrailNow) (m : IsOf t (part s).trails) → (its_end s t m).end.opener ≡ false
+  its_opener s t m = (its_end s t m).opener ∙ closed_half s t m
+
+  sides_differ : (t : TrailNow) → IsOf t (part true).trails → (u : TrailNow) → IsOf u (part false).trails → same_socket t.socket u.socket ≡ false
+  sides_differ t m u n =
+      let d = its_end true t m in
+      let e = its_end false u n in
+      ap (λ j. same_socket j u.socket) (sym d.socket) ∙ ap (same_socket d.end.socket) (sym e.socket)
+      ∙ acceptors_apart d.end e.end (its_opener true t m) (its_opener false u n)
+      (distinct_parts same_end (ends_by true) (ends_by false) d.end e.end (distinct_first same_end (ends_by true ++ ends_by false) loose_now link.joined.apart) d.there e.there)
+
+  names : AllByRecursion (IsNamedSo l.both.a.journal l.both.b.journal) l.both.loose
+  names =
+      all_of (λ (h : LooseNow). is_of_link l.both.a.journal l.both.b.journal h ≡ true → IsLooseBeside l.both.a.journal l.both.b.journal h) (IsNamedSo l.both.a.journal l.both.b.journal) l.both.loose
+      (λ h f e. (f e).whole.socket) link.joined.loose
+
+  side_member : (s : Bool) (e : EndNow) → IsOf e (ends_by s) → IsOf e (ends_by true ++ ends_by false)
+  side_member true e h = of_left e (ends_by true) (ends_by false) h
+  side_member false e h = of_right e (ends_by true) (ends_by false) h
+
+  loose_differ : (s : Bool) (t : TrailNow) → IsOf t (part s).trails → AllByRecursion (λ (u : TrailNow). same_socket t.socket u.socket ≡ false) loose_ts
+  loose_differ s t m =
+      let d = its_end s t m in
+      subst (λ j. AllByRecursion (λ (u : TrailNow). same_socket j u.socket ≡ false) loose_ts) d.socket
+      (from_loose l.both.a.journal l.both.b.journal d.end (its_opener s t m) l.both.loose names
+      (all_of (λ y. IsOf y loose_now) (λ y. same_end d.end y ≡ false) loose_now
+      (λ y h. distinct_parts same_end (ends_by true ++ ends_by false) loose_now d.end y link.joined.apart (side_member s d.end d.there) h) (members loose_now)))
+
+  own_once : (s : Bool) → IsDistinct same_socket (sockets_of (part s).trails)
+  own_once s = subst (IsDistinct same_socket) (sym (link.sides s).trails.sockets) (taken_once (l.facts s) (sources_in (l.plans s) (part s)) at_start (journal_by l.both s) (link.sides s).lawful)
+
+  halves_once : IsDistinct same_socket (sockets_of (trails_of l.both))
+  halves_once =
+      let t = (part true).trails in
+      let u = (part false).trails in
+      let sides_once = distinct_join same_socket (sockets_of t) (sockets_of u) (own_once true) (own_once false)
+      (apart_named t u (all_of (λ a. IsOf a t) (λ a. AllByRecursion (λ b. same_socket a.socket b.socket ≡ false) u) t
+      (λ a m. all_of (λ b. IsOf b u) (λ b. same_socket a.socket b.socket ≡ false) u (λ b n. sides_differ a m b n) (members u)) (members t))) in
+      let away = all_join (λ a. AllByRecursion (λ (b : TrailNow). same_socket a.socket b.socket ≡ false) loose_ts) t u
+      (all_of (λ a. IsOf a t) (λ a. AllByRecursion (λ (b : TrailNow). same_socket a.socket b.socket ≡ false) loose_ts) t (λ a m. loose_differ true a m) (members t))
+      (all_of (λ a. IsOf a u) (λ a. AllByRecursion (λ (b : TrailNow). same_socket a.socket b.socket ≡ false) loose_ts) u (λ a m. loose_differ false a m) (members u)) in
+      let whole = distinct_join same_socket (sockets_of (t ++ u)) (sockets_of loose_ts) (subst (IsDistinct same_socket) (sym (map-append (λ (a : TrailNow). a.socket) t u)) sides_once)
+      (loose_once l.both.a.journal l.both.b.journal l.both.loose names (distinct_last same_end (ends_by true ++ ends_by false) loose_now link.joined.apart))
+      (apart_named (t ++ u) loose_ts away) in
+      subst (λ ts. IsDistinct same_socket (sockets_of ts)) (sym in_parts) (subst (IsDistinct same_socket) (sym (map-append (λ (a : TrailNow). a.socket) (t ++ u) loose_ts)) whole)
+    where
+      in_parts : trails_of l.both ≡ ((part true).trails ++ (part false).trails) ++ loose_ts
+      in_parts =
+          flat_map-append trail_by (actors_of_side true (part true) ++ actors_of_side false (part false)) loose
+          ∙ ap (λ m. m ++ flat_map trail_by loose) (flat_map-append trail_by (actors_of_side true (part true)) (actors_of_side false (part false))
+          ∙ ap (λ m. m ++ flat_map trail_by (halves false)) (trails_taken true (part true).ends (part true).trails)
+          ∙ ap (λ m. (part true).trails ++ m) (trails_taken false (part false).ends (part false).trails))
+          ∙ ap (λ m. ((part true).trails ++ (part false).trails) ++ m) (trails_loose l.both.a.journal l.both.b.journal l.both.loose)
+
   pub scene_is : IsScene x
   scene_is = record {
     lawful = λ s. (link.sides s).lawful;
     place = place;
     there = there;
     once = once;
-    halves_once = λ i j s r t u log other e g q. places_of (actors_of l.both) link.joined.apart.halves i j s r t u log other e g q;
+    halves_once = λ i j s r t u log other e g q. places_of (actors_of l.both) halves_once i j s r t u log other e g q;
     half = half_known;
     taken = taken_so;
     opened = opened_so;

@@ -3,7 +3,7 @@ use Rattle.std.specs.Prelude.{◌≡◌, ℕ, ◌<◌, ◌^◌, Bool, true, fals
 use Rattle.std.specs.List.{AllByRecursion, IsDistinct, flat_map}
 use Rattle.m2_control.specs.Laws.{HasAddrRanges}
 use Rattle.m2_fabric.specs.declared.socket.SocketId.{SocketId}
-use Rattle.m2_fabric.specs.Sockets.{goes_to, is_among, same_socket}
+use Rattle.m2_fabric.specs.Sockets.{goes_to, is_among}
 use Rattle.m2_fitting.specs.Halves.{KeepsRanges}
 use Rattle.m2_fitting.specs.Orders.{OrderEntry}
 use Rattle.m2_fitting.specs.Texts.{CanBePosted}
@@ -72,17 +72,13 @@ trails_of x = flat_map trail_by (actors_of x)
 abbrev pub same_end : EndNow → EndNow → Bool
 same_end e other = is_end e.socket e.opener other
 
--- of each socket there is one end of either kind, and one half
-pub record AreApart (x : BothNow) : Type 0 where
-  pub ends : IsDistinct same_end (ends_of x)
-  pub halves : IsDistinct same_socket (map (λ (t : TrailNow). t.socket) (trails_of x))
-
 -- What is asked of two sides and of the halves that neither took, beside what records keep: they dial different places, and what
 -- nodes and sockets are named by keeps the ranges of its types.
 pub record AreJoined (l : LinkNow) : Type 0 where
   pub quiet : (near : Bool) → IsQuietSide (l.plans near) (part_of l.both near)
   pub loose : AllByRecursion (λ (h : LooseNow). is_of_link l.both.a.journal l.both.b.journal h ≡ true → IsLooseBeside l.both.a.journal l.both.b.journal h) l.both.loose
-  pub apart : AreApart l.both
+  -- of each socket there is one end of either kind
+  pub apart : IsDistinct same_end (ends_of l.both)
   pub named : (near : Bool) → KeepsRanges (l.facts near)
   pub seen : AllByRecursion (λ (t : TrailNow). HasAddrRanges (opener_of t.socket)) (trails_of l.both)
   pub peers : (k : SocketId) → goes_to (l.facts true).peer k ≡ true → goes_to (l.facts false).peer k ≡ false
