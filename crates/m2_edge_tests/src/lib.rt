@@ -1,7 +1,9 @@
-//! Tests of the edge and the program: sources and sinks over real files, listings, and scenarios from the manual.
+//! Tests of scenarios, of the edge and of the program: what is read of files, the report of made-up logs, runs
+//! whose outcome the rules tell, sources and sinks over real files, listings, and scenarios from the manual.
 //!
 //! What it is: a file for each crate. They stand apart from the crates, since a crate with tests is proved
-//! twice. What it isn't: what a clause says already.
+//! twice, and together, since each crate of tests loads its libraries again. What it isn't: what a clause says
+//! already, or the examples, which the gate runs.
 #![tactic(auto)]
 
 #[cfg(test)]
@@ -11,4 +13,14 @@ mod edge;
 #[cfg(test)]
 mod listing;
 #[cfg(test)]
+mod load;
+#[cfg(test)]
+mod reader;
+#[cfg(test)]
+mod report;
+#[cfg(test)]
+mod sim;
+#[cfg(test)]
 mod texts;
+#[cfg(test)]
+mod words;

@@ -1,7 +1,7 @@
 -- The pass and the letters that wait belong to the throttle.
 use Rattle.std.proofs.Common.{◌≡◌}
 use Rattle.m2_dispatcher.specs.Letters.{AreOwned}
-use Rattle.m2_dispatch_tests.proofs.dispatch.puts_all.Given as goal
+use Rattle.m2_shared_tests.proofs.dispatch.puts_all.Given as goal
 
 abbrev pub invariant-letters : goal.invariant-letters
 invariant-letters g l = record {
