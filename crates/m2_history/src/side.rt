@@ -9,6 +9,7 @@ use m2_fabric::End;
 use m2_record::Record;
 
 /// One side of a link: its record, and what the dispatchers of its node were called with.
+#[derive(Drop)]
 pub struct Side<'a, E: End> {
     pub record: &'a Record<E>,
     /// What the dispatcher was called with that takes a message at once, by the thread that has read it.
