@@ -1,6 +1,6 @@
 -- Where the parcels of a center's records go, and how each call changes that. Letters of fast kinds are dispatched at once, the
 -- other parcels wait in the mail; that a letter can be held is this project's own.
-use Rattle.std.specs.Prelude.{◌≡◌, ℕ, ◌&&◌, nat_lt, Bool, List, [], ◌∷◌, ◌++◌, length, Option, Some, None}
+use Rattle.std.specs.Prelude.{◌+◌, ◌≡◌, ℕ, ◌&&◌, nat_lt, Bool, List, [], ◌∷◌, ◌++◌, length, Option, Some, None}
 use Rattle.std.specs.List.{AllByRecursion}
 use Rattle.std.specs.Option.{is_none}
 use Rattle.m2_dispatch.specs.Heard.{Heard}
@@ -11,6 +11,7 @@ use Rattle.m2_dispatcher.specs.Parcel.{IsOwned}
 use Rattle.m2_dispatcher.specs.Letters.{IsOwnedLetter, heard_in}
 use Rattle.m2_policy.specs.declared.path.Path.{Path}
 use Rattle.m2_policy.specs.declared.path.Path.TheVariants.{Fast, Queued}
+use Rattle.m2_record.specs.Calls.{all_granted}
 use Rattle.m2_shared.specs.Place.{Place}
 use Rattle.m2_center.specs.declared.outbox.TheConstants.{MOST_MAIL}
 
@@ -35,6 +36,14 @@ OwnsHeld place None = Unit {0}
 pub record OwnsAll {D : Type 0} (place : Place) (o : OutboxNow D) : Type 0 where
   pub held : OwnsHeld place o.held
   pub mail : AllByRecursion (IsOwned place) o.mail
+
+-- how many bytes were granted for all of it
+abbrev pub held_in : Option Letter → ℕ
+held_in (Some l) = l.grant.n
+held_in None = 0
+
+abbrev pub granted_in : {D : Type 0} → OutboxNow D → ℕ
+granted_in o = all_granted o.mail + held_in o.held
 
 -- a parcel may be put
 abbrev pub is_free : {D : Type 0} → OutboxNow D → Bool

@@ -1,6 +1,8 @@
 //! A connect that is due.
 
 ghost use Rattle.std.specs.Prelude.{◌≡◌};
+ghost use Rattle.m2_record.specs.Calls.{Owns};
+ghost use Rattle.m2_shared.specs.Place.{Place};
 ghost use Rattle.m2_center.specs.Connecting.{DialsIfDue, IsMadeBy};
 
 use m2_bytes::NoMemory;
@@ -18,6 +20,8 @@ pub fn connect_if_due<P: Port>(
     requires made { IsMadeBy (P.seen port.old).made side.old }
     ensures dials { DialsIfDue result now (record { side = side.old; port = P.seen port.old }) (record { side = side.new; port = P.seen port.new }) }
     ensures made { IsMadeBy (P.seen port.new).made side.new }
+    ensures owned { (place : Place) → Owns place side.old → Owns place side.new }
+    ensures top { side.new.core.top ≡ side.old.core.top }
 {
     let Due::Connect { at: _ } = side.due(now) else {
         return Ok(());

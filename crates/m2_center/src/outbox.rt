@@ -1,10 +1,11 @@
 //! Where the parcels of a center's records go.
 
 ghost use Rattle.std.specs.Prelude.{◌≡◌, ◌-◌, [], None, true, IfOk, IfErr, IfSome};
+ghost use Rattle.m2_record.specs.Calls as calls;
 ghost use Rattle.m2_dispatcher.specs.Letters.{IsOwnedLetter};
 ghost use Rattle.m2_dispatcher.specs.Parcel.{IsOwned};
 ghost use Rattle.m2_shared.specs.Place.{IsAlone, Place};
-ghost use Rattle.m2_center.specs.Outbox.{Dispatches, IsFast, OwnsAll, Puts, Retries, Takes, is_free, returned, returned_again, returned_for};
+ghost use Rattle.m2_center.specs.Outbox.{Dispatches, IsFast, OwnsAll, Puts, Retries, Takes, granted_in, is_free, returned, returned_again, returned_for};
 
 use m2_dispatcher::{Dispatcher, Letter, Parcel};
 use m2_policy::Path;
@@ -22,7 +23,8 @@ pub const MOST_MAIL: usize = 1024;
 ///
 /// Maker: [`new`](Outbox::new). Looks: [`is_free`](Outbox::is_free), [`fast`](Outbox::fast). In:
 /// [`put`](Outbox::put), and [`retry`](Outbox::retry) for the letter that is held. Out:
-/// [`take`](Outbox::take). The end: [`finish`](Outbox::finish).
+/// [`take`](Outbox::take). The ends: [`finish`](Outbox::finish), which hands all on, and
+/// [`clear`](Outbox::clear), which gives all grants back.
 pub struct Outbox<D> {
     fast: D,
     mail: VecDeque<Parcel>,
@@ -91,6 +93,53 @@ impl<D> Outbox<D> {
     {
         let Outbox { fast, mail, held } = self;
         (fast, mail, held)
+    }
+
+    /// Gives back what was granted for all that is held and in the mail, throws that away, and gives the
+    /// dispatcher of fast kinds.
+    pub fn clear(self, throttle: &Throttle, pass: &mut TakePass) -> D
+        requires pass { pass.old.place ≡ throttle.now.place }
+        requires all { OwnsAll throttle.now.place self }
+        ensures fast { result ≡ self.fast }
+        ensures place { pass.new.place ≡ pass.old.place }
+        ensures word { IsAlone throttle.now.place → pass.new.word ≡ pass.old.word - granted_in self }
+    {
+        let Outbox {
+            fast,
+            mut mail,
+            held,
+        } = self;
+        'giving: while let Some(parcel) = mail.pop_front() {
+            give_back(parcel, throttle, pass);
+        }
+        mail.destroy_empty();
+        if let Some(letter) = held {
+            give_back(Parcel::Letter(letter), throttle, pass);
+        }
+        fast
+    }
+}
+
+/// Gives back what was granted for a parcel, and throws it away.
+fn give_back(parcel: Parcel, throttle: &Throttle, pass: &mut TakePass)
+    requires pass { pass.old.place ≡ throttle.now.place }
+    requires owned { IsOwned throttle.now.place parcel }
+    ensures place { pass.new.place ≡ pass.old.place }
+    ensures word { IsAlone throttle.now.place → pass.new.word ≡ pass.old.word - calls.granted_in parcel }
+{
+    match parcel {
+        Parcel::Letter(letter) => {
+            let Letter {
+                peer: _,
+                key: _,
+                number: _,
+                message: _,
+                grant,
+            } = letter;
+            throttle.give(pass, grant);
+        }
+        Parcel::Discard { peer: _ } => {}
+        Parcel::RemoteReset { peer: _ } => {}
     }
 }
 

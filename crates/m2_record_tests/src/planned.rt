@@ -23,7 +23,7 @@ use std::alloc::Global;
 use std::process::Abort;
 
 /// An address of msgr2 at this ip.
-fn at(ip: u32) -> Addr
+pub(crate) fn at(ip: u32) -> Addr
     ensures { result ≡ record { kind = MSGR2; nonce = 0; ip = ip; port = 7000 } }
 {
     Addr {
@@ -48,7 +48,7 @@ fn socket() -> SocketId
 }
 
 /// What the node at the first ip knows.
-fn facts() -> NodeFacts
+pub(crate) fn facts() -> NodeFacts
     ensures number { result.number < MOST_PLACES }
     ensures waits { AreWaits result }
 {
@@ -89,7 +89,7 @@ fn message(alloc: Global) -> Message
 }
 
 /// Adds a step to the plan.
-fn plans(rt: &impl Abort, side: &mut Record<SimEnd>, step: PlanStep)
+pub(crate) fn plans(rt: &impl Abort, side: &mut Record<SimEnd>, step: PlanStep)
     requires { CanBePlanned step }
     ensures { side.new ≡ planned_too step side.old }
 {

@@ -1,0 +1,113 @@
+//! A record in a thread's turn: its steps, and its connect at a port.
+
+ghost use Rattle.std.specs.Prelude.{◌≡◌, ◌≤◌};
+ghost use Rattle.m2_center.specs.Answering.{StaysBeside};
+ghost use Rattle.m2_center.specs.Connecting.{IsMadeBy};
+ghost use Rattle.m2_center.specs.Outbox.{OwnsAll};
+ghost use Rattle.m2_record.specs.Calls.{Owns};
+
+use crate::planned::{at, facts, plans};
+use m2_center::{Outbox, RecordTurn, connect_if_due, turn_record};
+use m2_dispatcher::LogDispatcher;
+use m2_fabric::{End, Port};
+use m2_journal::PlanStep;
+use m2_policy::lossless_peer;
+use m2_record::{Record, Work};
+use m2_shared::{NumberPass, Numbers, TakePass, Throttle};
+use m2_sim_fabric::{SimEnd, SimPort};
+use std::alloc::Global;
+use std::process::Abort;
+
+/// An outbox before a log.
+fn outbox(rt: &impl Abort, alloc: Global, throttle: &Throttle) -> Outbox<LogDispatcher>
+    ensures { OwnsAll throttle.now.place result }
+{
+    let _ = throttle;
+    match Outbox::new(alloc, LogDispatcher::new(alloc)) {
+        Ok(out) => out,
+        Err(_fast) => panic!(rt; "no memory for the mail"),
+    }
+}
+
+/// A record's turn, with all that it works with.
+fn turns(
+    side: &mut Record<SimEnd>,
+    out: &mut Outbox<LogDispatcher>,
+    numbers: &Numbers,
+    number_pass: &mut NumberPass,
+    throttle: &Throttle,
+    take_pass: &mut TakePass,
+) -> RecordTurn
+    requires numbers { number_pass.old.place ≡ numbers.now.place }
+    requires top { side.old.core.top ≤ number_pass.old.least }
+    requires takes { take_pass.old.place ≡ throttle.now.place }
+    requires owned { Owns throttle.now.place side.old }
+    requires out { OwnsAll throttle.now.place out.old }
+    ensures stays { StaysBeside side.old side.new }
+    ensures top { side.new.core.top ≤ number_pass.new.least }
+    ensures owned { Owns throttle.now.place side.new }
+    ensures out { OwnsAll throttle.now.place out.new }
+    ensures number_place { number_pass.new.place ≡ number_pass.old.place }
+    ensures take_place { take_pass.new.place ≡ take_pass.old.place }
+{
+    let mut work = Work {
+        numbers,
+        number_pass,
+        throttle,
+        take_pass,
+    };
+    turn_record(side, out, &mut work, 0)
+}
+
+/// Makes the connect that is due, of a record that no socket came to.
+fn connects(rt: &impl Abort, side: &mut Record<SimEnd>, port: &mut SimPort, throttle: &Throttle)
+    requires made { IsMadeBy port.old.made side.old }
+    requires owned { Owns throttle.now.place side.old }
+    ensures owned { Owns throttle.now.place side.new }
+    ensures top { side.new.core.top ≡ side.old.core.top }
+{
+    let _ = throttle;
+    if connect_if_due(side, port, 0).is_err() {
+        panic!(rt; "no memory for a socket");
+    }
+}
+
+/// A dial is taken from the plan, then the connect is made at the port, and behind it the banner is written.
+#[test]
+fn a_record_connects_in_its_turn_and_writes_its_banner(rt: HostRuntime) {
+    let alloc = rt.alloc();
+    let (numbers, mut number_pass) = Numbers::alone();
+    let (throttle, mut take_pass) = Throttle::alone(0);
+    let mut port = SimPort::new(alloc, at(1));
+    let mut out = outbox(&rt, alloc, &throttle);
+    let mut side = Record::new(alloc, at(1), at(2), 1, lossless_peer(), facts());
+    plans(&rt, &mut side, PlanStep::Dial);
+    let first = turns(
+        &mut side,
+        &mut out,
+        &numbers,
+        &mut number_pass,
+        &throttle,
+        &mut take_pass,
+    );
+    assert!(rt; first == RecordTurn::Dry);
+    connects(&rt, &mut side, &mut port, &throttle);
+    assert_eq!(rt; port.made().len(), 1);
+    let second = turns(
+        &mut side,
+        &mut out,
+        &numbers,
+        &mut number_pass,
+        &throttle,
+        &mut take_pass,
+    );
+    assert!(rt; second == RecordTurn::Dry);
+    let put = match side.feed() {
+        Some(end) => end.log().put.len(),
+        None => 0,
+    };
+    // "ceph v2", a line feed, a length of two bytes and two words of features
+    assert_eq!(rt; put, 26);
+    let _fast = out.clear(&throttle, &mut take_pass);
+    let _ends = side.ends(&throttle, &mut take_pass);
+}
