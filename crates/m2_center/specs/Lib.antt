@@ -4,4 +4,5 @@ pub mod Judging
 pub mod Laws
 pub mod Outbox
 pub mod RecordTurn
+pub mod Sessions
 pub mod Steps

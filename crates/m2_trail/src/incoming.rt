@@ -28,7 +28,7 @@ use m2_bytes::{Items, NoMemory};
 use m2_control::{Control, IdentMissingFeatures};
 use m2_fabric::{End, EndRead, EndWrite, News, SocketId};
 use m2_handshake::{Ask, AskStep, Half, HalfStep};
-use m2_journal::{Entry, JudgedItem};
+use m2_journal::{Entry, EntryList, JudgedItem};
 use m2_session::Answer;
 use std::alloc::Global;
 use std::marker::Model;
@@ -39,7 +39,7 @@ pub const MOST_READ: usize = 65_536;
 /// A socket of the peer that no record took: its end, the half that reads and answers there, what the
 /// half has written and isn't put, and the trail. Its end is open.
 ///
-/// Maker: [`new`](Incoming::new). Readers: [`id`](Incoming::id), [`end`](Incoming::end),
+/// Makers: [`new`](Incoming::new), [`begin`](Incoming::begin). Readers: [`id`](Incoming::id), [`end`](Incoming::end),
 /// [`trail`](Incoming::trail), [`ask`](Incoming::ask), [`has_text`](Incoming::has_text),
 /// [`rests`](Incoming::rests). Calls: [`read`](Incoming::read) and [`write`](Incoming::write) move bytes,
 /// [`step`](Incoming::step) is one answer of the half. Ends: [`Arrival::of`](crate::Arrival::of) where it was asked,
@@ -98,13 +98,23 @@ impl<E: End> Incoming<E> {
         ensures ok { IfOk result (λ i. i ≡ accepted entity (E.seen end) i.room) }
         ensures err { IfErr result (λ back. E.seen back ≡ E.seen end) }
     {
-        let socket = end.id();
         let mut entries = Items::empty(alloc);
-        // The entry of a close always has its room.
         if entries.reserve(1).is_err() {
             return Err(end);
         }
-        Ok(Incoming {
+        Ok(Incoming::begin(alloc, end, entity, entries))
+    }
+
+    /// The same with a list for its entries, in which that of a close has its room: takes no memory, so it
+    /// can't fail where the end was just accepted.
+    pub fn begin(alloc: Global, end: E, entity: u8, entries: EntryList) -> Incoming<E>
+        requires unused { (E.seen end).log ≡ nothing_done }
+        requires none { entries.items ≡ [] }
+        requires room { 1 ≤ entries.room }
+        ensures { result ≡ accepted entity (E.seen end) result.room }
+    {
+        let socket = end.id();
+        Incoming {
             alloc,
             end,
             half: Half::server(alloc, entity, opener_of(&socket)),
@@ -119,7 +129,7 @@ impl<E: End> Incoming<E> {
             ask: None,
             is_judged: false,
             refused: None,
-        })
+        }
     }
 
     /// The socket's name.

@@ -2,11 +2,11 @@
 use Rattle.std.proofs.Common.{ap, ◌∙◌, rules}
 use Rattle.m2_handshake.specs.Standing.{acceptor_at_start}
 use Rattle.m2_trail.proofs.Whole.{begun_left}
-use Rattle.m2_trail.proofs.incoming.Incoming.new.Goals as goal
+use Rattle.m2_trail.proofs.incoming.Incoming.begin.Goals as goal
 
 pub invariant_of-result : goal.invariant_of-result
 invariant_of-result g c = (
-  begun_left _ _ _ _ _ c.requires c.id-socket.ensures (c.reserve.ensures.items ∙ c.empty-entries.ensures) c.empty.ensures c.empty-2.ensures
-      (c.server.ensures.standing ∙ ap (acceptor_at_start c.args.entity) c.opener_of.ensures) c.empty-3.ensures,
+  begun_left _ _ _ _ _ c.requires.unused c.id-socket.ensures c.requires.none c.empty.ensures
+      (c.server.ensures.standing ∙ ap (acceptor_at_start c.args.entity) c.opener_of.ensures) c.empty-2.ensures,
   search rules,
 )
