@@ -43,6 +43,13 @@ impl LogDispatcher {
     {
         &self.log
     }
+
+    /// The same, where no more calls are to come.
+    pub fn into_log(self) -> LoggedList
+        ensures { result.items ≡ self }
+    {
+        self.log
+    }
 }
 
 impl Dispatcher for LogDispatcher {
