@@ -32,3 +32,4 @@ pub mod TakenOver
 pub mod Arriving
 pub mod Handed
 pub mod Remembered
+pub mod Reached

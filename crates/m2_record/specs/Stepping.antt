@@ -1,6 +1,6 @@
 -- One step of a record: the first that is due, what it leaves, and what it answers. Which step is due is a table, and this is
 -- its other half: for each of its rows what the step does. This project's own.
-use Rattle.std.specs.Prelude.{◌≡◌, ℕ, ◌-◌, false, Option, Some, None, Result, Ok, Err, IfSome}
+use Rattle.std.specs.Prelude.{◌≡◌, ℕ, ◌-◌, ◌≤◌, false, Option, Some, None, Result, Ok, Err, IfSome}
 use Rattle.m2_bytes.specs.declared.memory.NoMemory as memory
 use Rattle.m2_live.specs.LiveNow as live
 use Rattle.m2_live.specs.Hearing.{raised_by}
@@ -13,6 +13,7 @@ use Rattle.m2_feed.specs.declared.answers.FeedWrite.TheVariants as put
 use Rattle.m2_handshake.specs.declared.answer.HalfStep.TheVariants as half
 use Rattle.m2_heard.specs.declared.fault.WireFault.TheVariants as fault
 use Rattle.m2_journal.specs.declared.facts.PlanStep.{PlanStep}
+use Rattle.m2_shared.specs.declared.limits.TheConstants.{LAST_NUMBER}
 use Rattle.m2_shared.specs.Numbers.{SeenNumberPass}
 use Rattle.m2_shared.specs.Place.{IsAlone, Place}
 use Rattle.m2_record.specs.declared.composing.Composed.{Composed}
@@ -63,6 +64,10 @@ TakesNothing t = t.behind ≡ t.before
 
 abbrev pub DrawsNothing : Counted → Type 0
 DrawsNothing n = n.behind ≡ n.before
+
+-- each number that the pass knew the counter to have come to, it knows so still
+abbrev pub KeepsReached : (before behind : SeenNumberPass) → Type 0
+KeepsReached before behind = (n : ℕ) → n ≤ LAST_NUMBER → n ≤ before.least → n ≤ behind.least
 
 -- a work has the same counter and the same throttle still
 pub record IsSameWork (old new : Work) : Type 0 where

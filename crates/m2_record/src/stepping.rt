@@ -6,7 +6,7 @@ ghost use Rattle.m2_shared.specs.Place.{IsAlone};
 ghost use Rattle.m2_record.specs.Calls.{HasRoomFor, Owns};
 ghost use Rattle.m2_record.specs.Due.{has_parcel, has_plan, next_step};
 ghost use Rattle.m2_record.specs.declared.stepped.Stepped.TheVariants as stepped;
-ghost use Rattle.m2_record.specs.Stepping.{HandsAs, IfMemory, IsHandedOwned, IsSameWork, NothingDone, PlansAs, StepsAs, TakesDue, answer_composed, answer_framed, answer_planned, answer_put, returned_planned, worked};
+ghost use Rattle.m2_record.specs.Stepping.{HandsAs, IfMemory, IsHandedOwned, IsSameWork, KeepsReached, NothingDone, PlansAs, StepsAs, TakesDue, answer_composed, answer_framed, answer_planned, answer_put, returned_planned, worked};
 
 use crate::composing::Composed;
 use crate::due::Due;
@@ -37,6 +37,7 @@ impl<E: End> Record<E> {
         requires owned { Owns work.old.throttle.now.place self.old }
         ensures steps { StepsAs result (worked now result work.old work.new) self.old self.new }
         ensures top { self.new.core.top ≤ work.new.number_pass.now.least }
+        ensures reached { KeepsReached work.old.number_pass.now work.new.number_pass.now }
         ensures owned { Owns work.old.throttle.now.place self.new }
         ensures handed { IsHandedOwned work.old.throttle.now.place result }
         ensures number_place { work.new.number_pass.now.place ≡ work.old.number_pass.now.place }
