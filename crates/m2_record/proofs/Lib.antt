@@ -33,3 +33,4 @@ pub mod Arriving
 pub mod Handed
 pub mod Remembered
 pub mod Reached
+pub mod AsksJudged

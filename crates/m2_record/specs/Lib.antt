@@ -9,3 +9,4 @@ pub mod Reading
 pub mod Framing
 pub mod Stepping
 pub mod Judging
+pub mod AsksJudged

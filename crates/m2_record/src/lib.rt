@@ -10,6 +10,7 @@
 //! `specs/RecordNow.antt` says what contracts see of a record, `specs/Sources.antt` what its journal speaks of.
 #![tactic(auto)]
 
+mod asks_judged;
 mod composing;
 mod connecting;
 mod due;
@@ -28,6 +29,7 @@ mod stepped;
 mod stepping;
 mod work;
 
+pub use asks_judged::behind_judged;
 pub use composing::Composed;
 pub use due::Due;
 pub use framing::Framed;
