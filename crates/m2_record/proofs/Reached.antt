@@ -24,10 +24,10 @@ drawn : (c : Composed) (place : Place) (before behind : SeenNumberPass) → Draw
 drawn (composed.Asked by_ident number) place before behind d n fits h = let l = d.least in let a = d.above in omega (arith, l, a, h)
 drawn composed.Spent place before behind d n fits h = let l = d.least in omega (arith, l, fits)
 drawn (composed.Again seen now) place before behind d n fits h = let l = d.least in let a = d.again in omega (arith, l, a.0, a.1, h)
-drawn composed.NoMemory place before behind d = stays before behind d
-drawn (composed.Numbered number) place before behind d = stays before behind d
-drawn composed.Answered place before behind d = stays before behind d
-drawn composed.Acknowledged place before behind d = stays before behind d
+drawn composed.NoMemory place before behind d n fits h = stays before behind d n fits h
+drawn (composed.Numbered number) place before behind d n fits h = stays before behind d n fits h
+drawn composed.Answered place before behind d n fits h = stays before behind d n fits h
+drawn composed.Acknowledged place before behind d n fits h = stays before behind d n fits h
 
 by_due : (d : Due) (w : Worked) (old new : RecordNow) → StepsBy d w old new → KeepsReached w.numbers.before w.numbers.behind
 by_due due.Nothing w old new r = stays w.numbers.before w.numbers.behind r.numbers
