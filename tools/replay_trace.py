@@ -120,6 +120,7 @@ def frames_of(stream):
         head = stream[at : at + PREAMBLE]
         must(crc32c(0, head[:28]) == number(head, 28, 4), "the checksum of a preamble")
         tag, count = head[0], head[1]
+        must(1 <= count <= 4, "the number of segments")
         lengths = [number(head, 2 + 6 * i, 4) for i in range(count)]
         end = at + PREAMBLE + lengths[0] + (4 if lengths[0] else 0)
         sums = []
@@ -160,6 +161,7 @@ class Trail:
 class Side:
     def __init__(self):
         self.plan, self.journal, self.trails, self.ends, self.handed = [], [], {}, {}, []
+        self.fast = ()  # the kinds that are dispatched at once
         self.address = self.policy = self.node = self.session = self.state = self.composed = None
 
     def end(self, socket):
@@ -468,16 +470,17 @@ class Replay:
     def acked(self, n):
         self.passed()
         must(int(n) in self.told, f"{n} is acknowledged by nothing that was read")
-        must(self.base < int(n) <= self.base + self.cursor, f"{n} is acknowledged, and wasn't written or was counted before")
+        must(self.base < int(n) <= self.base + len(self.kept), f"{n} is acknowledged, and wasn't written or was counted before")
         gone = int(n) - self.base
-        self.kept, self.cursor, self.base = self.kept[gone:], self.cursor - gone, int(n)
+        self.kept, self.cursor, self.base = self.kept[gone:], max(0, self.cursor - gone), int(n)
 
     def message(self, n, priority, path):
         frame = self.passed()
         must(frame is not None, f"message {n} is accepted before it was read")
         header = frame.header()
         must((header["seq"], self.last + 1) == (int(n), int(n)), f"message {n} isn't the next one")
-        must((header["priority"], path) == (int(priority), "queued"), f"message {n} has another key")
+        due = "fast" if header["kind"] in self.side.fast else "queued"
+        must((header["priority"], path) == (int(priority), due), f"message {n} has another key")
         self.accepted.append(["message", n, priority, path, str(header["kind"]), *frame.parts()])
         self.last, self.feed.next = int(n), self.feed.next + 1
 
@@ -584,7 +587,8 @@ class Replay:
                 raise Wrong(f"entry {at}, {name}: {wrong}") from None
             must((self.feed is not None) == (self.phase in WITH_FEED), f"entry {at}: a feed in {self.phase}, or none")
         now = [self.phase, *map(str, (self.client, self.server_cookie, self.peer_global, self.connect)), "yes" if self.lost else "no"]
-        must(now == self.side.session, f"the session is {' '.join(self.side.session)}, and by the journal {' '.join(now)}")
+        if self.side.session:
+            must(now == self.side.session, f"the session is {' '.join(self.side.session)}, and by the journal {' '.join(now)}")
         must(self.side.handed[: len(self.accepted)] == self.accepted[: len(self.side.handed)], "other messages are handed out than were accepted")
         feeds = [socket for socket, end in self.side.ends.items() if end.kind == "feed"]
         must(feeds == ([self.feed.socket] if self.feed else []), "another socket is the feed")
@@ -606,15 +610,20 @@ def check_order(sender, receiver):
 
 def check(text):
     """Raises Wrong where the trace isn't what its own bytes and docs/PROTOCOL.md say."""
-    if not text:
-        return
-    sides, wires = read_trace(text)
+    if text:
+        sides, wires = read_trace(text)
+        for side in sides.values():
+            check_state(side)
+        check_sides(sides, wires)
+
+
+def check_sides(sides, wires):
+    """Lays the replay beside two sides and their sockets, and gives both replays. Where a side has no session, none is compared."""
     for name, side in sides.items():
         for socket, end in side.ends.items():
             check_end(side, socket, end)
         for socket, trail in side.trails.items():
             check_trail(side, socket, trail, side.end(socket))
-        check_state(side)
         must({wire[1] for wire in wires} >= set(side.ends), f"side {name}: an end of a socket that wasn't opened")
     for wire in wires:
         check_wire(sides, *wire)
@@ -628,6 +637,7 @@ def check(text):
     if all(replay.lossless for replay in replays):
         check_order(sides["a"], sides["b"])
         check_order(sides["b"], sides["a"])
+    return replays
 
 
 if __name__ == "__main__":

@@ -1,0 +1,118 @@
+"""Draws each trace of examples/pictures and compares the picture with the one that stands beside it.
+
+The replay is laid beside each trace: what it says has to follow from its own bytes and from the rules of docs/PROTOCOL.md.
+Traces with one thing changed must be objected to: bad lines by tools/draw with their number and why, a trace whose lines are
+all well formed by the replay, and another picture by the comparison.
+"""
+import os, re, subprocess, sys, tempfile
+
+TOP = os.path.dirname(os.path.dirname(os.path.abspath(__file__)))
+sys.path.insert(0, os.path.join(TOP, "tools"))
+import replay_trace
+import run_trace
+
+PICTURES = "examples/pictures"
+SAMPLE = "crossing.trace"
+BAD = [  # what is changed in the sample, at its first place; and what is said of which line
+    (r"^settle 1$", "walk a", 11, "`walk` begins no line"),
+    (r"^turn b 1$", "turn b 2", 15, "a turn's moment is one more than that of the turn before"),
+    (r"^turn b 1$", "turn z 1", 15, "no node z above"),
+    (r"^link .*$", "# no link", 7, "no link of a and b above"),
+    (r"^post a b 1 127 61", "post a b 1 127 6", 7, "`6` is no bytes"),
+    (r"opened a-b/1$", "opened a-b/2", 13, "a-b/2 isn't the next socket that a opens to b"),
+    (r"  a journal b wrote a-b/1 26", "  b journal a wrote a-b/1 26", 14, "b does something, and it isn't its turn or its line"),
+    (r"wrote a-b/1 26", "wrote a-b/1 27", 14, "27 bytes were written, and 26 stand here"),
+    (r"wrote a-b/1 26 63", "wrote a-b/1 26 64", 14, "what a wrote to a-b/1 isn't msgr2: a stream begins with no banner"),
+    (r"read a-b/1 26$", "read a-b/1 99", 26, "more is read than was written"),
+    (r"accepted a-b/1$", "accepted a-b/1 1", 16, "`accepted` has another number of words"),
+    (r"(?<= )asked ident", "asks ident", 51, "`asks` is no entry"),
+    (r"  b from a", "   b from a", 86, "words have one space between them, and a node's line begins with two"),
+]
+UNTRUE = [  # what is changed in the sample so that the lines are well formed, and the replay must object
+    (r"accept_race$", "accept_again"),
+    (r"^  b trail read a-b/1 227\n", ""),
+    (r"^  a journal b acked 1\n", "  a journal b acked 2\n"),
+    (r"^  a from b 127 queued 1 62", "  a from b 127 queued 1 63"),
+    (r"^  a node 4 0 1 ", "  a node 4 0 2 "),
+]
+
+
+def drawn(file):
+    ran = subprocess.run([sys.executable, os.path.join(TOP, "tools", "draw"), file], capture_output=True)
+    return ran.returncode, ran.stdout, ran.stderr.decode()
+
+
+def replayed(text):
+    """What the replay says against a trace, if anything."""
+    try:
+        run_trace.check(run_trace.read_run(text))
+    except (replay_trace.Wrong, run_trace.BadTrace) as wrong:
+        return str(wrong)
+    return None
+
+
+def pictures(folder):
+    """What is wrong with the stored traces and pictures."""
+    names = sorted(os.listdir(folder))
+    for name in names:
+        file = os.path.join(folder, name)
+        if name.endswith(".svg"):
+            if name.removesuffix(".svg") + ".trace" not in names:
+                yield f"{name}: stands beside no trace"
+            continue
+        status, picture, said = drawn(file)
+        if (status, said) != (0, ""):
+            yield f"{name}: status {status}: {said}"
+        elif differs(picture, file.removesuffix(".trace") + ".svg"):
+            yield f"{name}: another picture is drawn than the one that stands beside it (tools/draw {PICTURES}/{name})"
+        with open(file, encoding="ascii") as text:
+            said = replayed(text.read())
+        if said:
+            yield f"{name}: {said}"
+
+
+def differs(picture, file):
+    if not os.path.exists(file):
+        return True
+    with open(file, "rb") as stored:
+        return stored.read() != picture
+
+
+def changed(text, old, new):
+    wrong, count = re.subn(old, new, text, count=1, flags=re.M)
+    return wrong if count else None
+
+
+def objections(folder, room):
+    """What isn't objected to, or otherwise than it should be."""
+    with open(os.path.join(folder, SAMPLE), encoding="ascii") as file:
+        sample = file.read()
+    wrong = os.path.join(room, "wrong.trace")
+    for old, new, line, why in BAD:
+        with open(wrong, "w", encoding="ascii") as file:
+            file.write(changed(sample, old, new) or "")
+        status, picture, said = drawn(wrong)
+        told = re.fullmatch(r"bad trace: line ([0-9]+): (.*)\n", said)
+        if (status, picture) != (2, b"") or not told or told[2] != why or int(told[1]) != line:
+            yield f"{new}: status {status}, {said!r}, and expected line {line}: {why}"
+    for old, new in UNTRUE:
+        text = changed(sample, old, new)
+        if text is None or not replayed(text):
+            yield f"the replay doesn't object to {old!r} as {new!r}"
+    with open(wrong, "w", encoding="ascii") as file:
+        file.write(sample.replace("accept_race", "accept_again"))
+    if not differs(drawn(wrong)[1], os.path.join(folder, SAMPLE.replace(".trace", ".svg"))):
+        yield "the comparison doesn't object to another picture"
+
+
+def main():
+    folder = os.path.join(TOP, PICTURES)
+    with tempfile.TemporaryDirectory() as room:
+        said = [*pictures(folder), *objections(folder, room)]
+    for line in said:
+        print(line)
+    print("not all as expected" if said else f"{PICTURES}: all as drawn, each replayed, and each wrong one objected to")
+    sys.exit(1 if said else 0)
+
+
+main()
