@@ -15,7 +15,7 @@ PICTURES = "examples/pictures"
 SAMPLE = "crossing.trace"
 BAD = [  # what is changed in the sample, at its first place; and what is said of which line
     (r"^settle 1$", "walk a", 11, "`walk` begins no line"),
-    (r"^turn b 1$", "turn b 2", 15, "a turn's moment is one more than that of the turn before"),
+    (r"^turn b 1$", "turn b 2", 15, "the moment of this turn is 1"),
     (r"^turn b 1$", "turn z 1", 15, "no node z above"),
     (r"^link .*$", "# no link", 7, "no link of a and b above"),
     (r"^post a b 1 127 61", "post a b 1 127 6", 7, "`6` is no bytes"),

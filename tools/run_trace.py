@@ -9,6 +9,7 @@ sides of each link: what each entry says has to follow from the bytes that were 
 and what was dispatched from what was accepted. The first thing that isn't so is said on standard error, and the status is 1;
 where a line is bad it is 2.
 """
+import bisect
 import re
 import sys
 
@@ -39,8 +40,6 @@ JOURNAL = MOVED | {
     "obeyed": "full", "down": "word",
 }
 TRAIL = MOVED | {"accepted": "socket"}
-
-
 POLICIES = {  # lossy, server, standby, resetcheck
     "lossy_client": (True, False, False, False), "lossless_client": (False, False, False, True), "lossless_peer": (False, False, True, False),
     "stateless_server": (True, True, False, False), "stateful_server": (False, True, True, True),
@@ -70,12 +69,28 @@ class Event:
         row.events.append(self)
 
 
+class Moves:
+    """The events in which bytes moved, and how many had moved by then."""
+
+    def __init__(self):
+        self.events, self.counts = [], []
+
+    def add(self, event, count):
+        self.events.append(event)
+        self.counts.append(count)
+
+    def at(self, place):
+        """The event with which so many bytes had moved, or None."""
+        found = bisect.bisect_left(self.counts, place)
+        return self.events[found] if found < len(self.events) else None
+
+
 class End:
     """One side of a socket: what it put, how much it got, and in which event each byte moved."""
 
     def __init__(self, node):
-        self.node, self.put, self.got = node, b"", 0
-        self.writes, self.reads = [], []  # (how many bytes by then, the event)
+        self.node, self.put, self.got = node, bytearray(), 0
+        self.writes, self.reads = Moves(), Moves()
         self.opened = self.taken = self.failed = self.closed = self.cut = None
         self.left = None  # how many bytes pass before the cut
 
@@ -84,7 +99,7 @@ class Socket:
     def __init__(self, name, opener, acceptor, number):
         self.name, self.opener, self.acceptor, self.number = name, opener, acceptor, number
         self.ends = {opener: End(opener), acceptor: End(acceptor)}
-        self.flights = []
+        self.flights, self.judged, self.accepted = [], [], []  # the frames, and the events in which asks were judged and messages accepted
 
     def other(self, node):
         return self.ends[self.acceptor if node == self.opener else self.opener]
@@ -117,7 +132,7 @@ class Flight:
 class Run:
     def __init__(self):
         self.caption, self.nodes, self.links, self.sockets, self.rows, self.cuts = [], {}, [], {}, [], {}
-        self.feeds, self.moment = {}, None
+        self.feeds, self.moment = {}, 0
         self.facts, self.policies, self.plans, self.journals, self.trails = {}, {}, {}, {}, {}
 
     def is_linked(self, a, b):
@@ -167,8 +182,8 @@ class Reader:
             run.links.append((rest[0], rest[1]))
             run.policies |= {(rest[0], rest[1]): rest[2], (rest[1], rest[0]): rest[3]}
         elif what == "turn":
-            self.must(run.moment is None or self.row.moment == run.moment + 1, "a turn's moment is one more than that of the turn before")
-            run.moment = self.row.moment
+            self.must(self.row.moment == run.moment, f"the moment of this turn is {run.moment}")
+            run.moment += 1
         elif what == "cut":
             run.cuts.setdefault((rest[0], rest[1]), []).append(int(rest[2]))
         elif what == "fault":
@@ -262,7 +277,7 @@ class Reader:
         self.must(end.opened, f"{event.socket.name} isn't accepted")
         self.must(count == len(data), f"{count} bytes were written, and {len(data)} stand here")
         end.put += data
-        end.writes.append((len(end.put), event))
+        end.writes.add(event, len(end.put))
         self.pass_bytes(end, event, count)
 
     def on_read(self, event):
@@ -270,7 +285,7 @@ class Reader:
         self.must(end.opened, f"{event.socket.name} isn't accepted")
         end.got += count
         self.must(end.got <= len(event.socket.other(event.node).put), "more is read than was written")
-        end.reads.append((end.got, event))
+        end.reads.add(event, end.got)
         self.pass_bytes(end, event, count)
 
     def on_closed(self, event):
@@ -281,6 +296,7 @@ class Reader:
     def on_judged(self, event):
         trail = self.run.trails.get((event.node, event.socket.name), [])
         event.trail = len([entry for entry in trail if entry[0] != "accepted"])
+        event.socket.judged.append(event)
         if event.words[8] in TAKES:
             event.socket.ends[event.node].taken = event
             self.run.feeds[event.node, event.peer] = event.socket
@@ -288,6 +304,7 @@ class Reader:
     def on_accepted(self, event):
         event.socket = self.run.feeds.get((event.node, event.peer))
         self.must(event.socket, f"{event.node} accepts a message of {event.peer} without a socket")
+        event.socket.accepted.append(event)
 
     def pass_bytes(self, end, event, count):
         """A cut end is cut by the event with which the last byte passes."""
@@ -318,28 +335,22 @@ class Reader:
         try:
             return flights_of(end.node, end.put)
         except replay_trace.Wrong as wrong:
-            self.line = next(event.line for count, event in end.writes if is_wrong(end.node, end.put[:count]))
-            raise BadTrace(self.line, f"what {end.node} wrote to {socket.name} isn't msgr2: {wrong}") from None
+            line = next(event.line for event, count in zip(end.writes.events, end.writes.counts) if is_wrong(end.node, end.put[:count]))
+            raise BadTrace(line, f"what {end.node} wrote to {socket.name} isn't msgr2: {wrong}") from None
 
     def flights(self, socket):
         for end in socket.ends.values():
             flights = self.flights_of(socket, end)
             for flight in flights:
                 flight.put, flight.got = (max(0, min(moved, flight.end) - flight.start) for moved in (len(end.put), socket.other(end.node).got))
-                flight.written, flight.read = event_at(end.writes, flight.end), event_at(socket.other(end.node).reads, flight.end)
+                flight.written, flight.read = end.writes.at(flight.end), socket.other(end.node).reads.at(flight.end)
             socket.flights += flights
-        for row in self.run.rows:
-            for event in row.events:
-                if event.what == "accepted" and event.socket is socket:
-                    self.line = event.line
-                    found = [f for f in socket.flights if f.writer == event.peer and f.says.get("seq") == int(event.words[0]) and f.read]
-                    self.must(found, f"message {event.words[0]} isn't on {socket.name}")
-                    found[0].accepted = True
-
-
-def event_at(moves, place):
-    """The event with which so many bytes had moved."""
-    return next((event for count, event in moves if count >= place), None)
+        messages = {(flight.writer, flight.says["seq"]): flight for flight in socket.flights if "seq" in flight.says and flight.read}
+        for event in socket.accepted:
+            found = messages.get((event.peer, int(event.words[0])))
+            self.line = event.line
+            self.must(found, f"message {event.words[0]} isn't on {socket.name}")
+            found.accepted = True
 
 
 def is_wrong(writer, put):
@@ -393,9 +404,9 @@ def side_of(run, node, peer):
         if mine.opened:
             end = side.end(socket.name)
             end.kind = "feed" if run.feeds.get((node, peer)) is socket else "spent"
-            end.flags, end.got, end.put = [mine.closed is not None, False, False, False], other.put[: mine.got], mine.put
-            moves = [event for _, event in mine.writes + mine.reads]
-            end.runs = [(event.what, int(event.words[1])) for event in sorted(moves, key=lambda event: event.line)]
+            end.flags, end.got, end.put = [mine.closed is not None, False, False, False], bytes(other.put[: mine.got]), bytes(mine.put)
+            moves = sorted(mine.writes.events + mine.reads.events, key=lambda event: event.line)
+            end.runs = [(event.what, int(event.words[1])) for event in moves]
         if mine.opened and node == socket.acceptor:
             trail_of(run, side, node, socket)
     return side
@@ -405,11 +416,7 @@ def trail_of(run, side, node, socket):
     trail = side.trail(socket.name)
     trail.named = side.node[0] if side.node else None
     trail.entries = [(what, *map(int, words[1:])) for what, *words in run.trails[node, socket.name] if what != "accepted"]
-    for row in run.rows:
-        for event in row.events:
-            if event.what == "judged" and event.socket is socket:
-                trail.judged.append(event.words[2:])
-                trail.after.append(event.trail)
+    trail.judged, trail.after = [event.words[2:] for event in socket.judged], [event.trail for event in socket.judged]
 
 
 def check_dispatches(run, node, peer, replay):
@@ -438,6 +445,8 @@ def read_run(text):
 
 
 if __name__ == "__main__":
+    if len(sys.argv) != 2:
+        sys.exit(__doc__.split("\n\n")[1])
     with open(sys.argv[1], encoding="ascii") as file:
         try:
             check(read_run(file.read()))
