@@ -14,7 +14,7 @@ Left out are moments and waits, which no entry tells, and why a socket was close
 import sys
 
 PREAMBLE, EPILOGUE, SIGNATURE = 32, 13, 7
-CLIENT_IDENT, SERVER_IDENT, RECONNECT, RESET, RETRY, RETRY_GLOBAL, RECONNECT_OK, WAIT = 8, 9, 11, 12, 13, 14, 15, 16
+CLIENT_IDENT, SERVER_IDENT, MISSING_FEATURES, RECONNECT, RESET, RETRY, RETRY_GLOBAL, RECONNECT_OK, WAIT = 8, 9, 10, 11, 12, 13, 14, 15, 16
 MESSAGE, KEEPALIVE2, KEEPALIVE2_ACK, ACK = 17, 18, 19, 20
 UNNAMED = (KEEPALIVE2_ACK, ACK)  # frames that no entry names
 TAKES = ("accept", "accept_over", "accept_reset", "accept_again", "accept_replace", "accept_race", "resume")
@@ -93,6 +93,8 @@ class Frame:
             values |= {name: self.take(8) for name in names.split()}
         elif self.tag == RESET:
             values = {"full": self.take(1)}
+        elif self.tag == MISSING_FEATURES:
+            values = {"bits": self.take(8)}
         elif self.tag in (RETRY, RETRY_GLOBAL, RECONNECT_OK, ACK):
             values = {"number": self.take(8)}
         else:

@@ -14,9 +14,10 @@ import re
 import sys
 
 import replay_trace
-from replay_trace import ACK, CLIENT_IDENT, MESSAGE, RECONNECT, RECONNECT_OK, RESET, RETRY, RETRY_GLOBAL, SERVER_IDENT, TAKES, WAIT
+from replay_trace import ACK, CLIENT_IDENT, MESSAGE, MISSING_FEATURES, RECONNECT, RECONNECT_OK, RESET, RETRY, RETRY_GLOBAL, SERVER_IDENT
+from replay_trace import PREAMBLE, TAKES, WAIT
 
-BANNER, MISSING_FEATURES = 0, 10
+BANNER = 0
 NAMES = {
     BANNER: "banner", 1: "HELLO", 2: "AUTH_REQUEST", 3: "AUTH_BAD_METHOD", 6: "AUTH_DONE", 7: "AUTH_SIGNATURE", CLIENT_IDENT: "IDENT",
     SERVER_IDENT: "SERVER_IDENT", MISSING_FEATURES: "MISSING_FEATURES", RECONNECT: "RECONNECT", RESET: "RESET", RETRY: "RETRY",
@@ -115,8 +116,14 @@ class Flight:
         self.says = {}
         if frame and tag == MESSAGE:
             self.says = frame.header()
-        elif frame and tag in (CLIENT_IDENT, SERVER_IDENT, RECONNECT, RESET, RETRY, RETRY_GLOBAL, RECONNECT_OK, ACK):
+        elif frame and (tag == ACK or CLIENT_IDENT <= tag < WAIT):
             self.says = frame.control()
+
+    def moved(self):
+        """How much of a frame that isn't whole at the reader was written or read."""
+        if self.written:
+            return f"{self.got} of {self.put} bytes" if self.got else ""
+        return f"{self.put} of {self.end - self.start} bytes" if self.put >= PREAMBLE else f"{self.put} bytes"
 
     def label(self):
         name = NAMES.get(self.tag, f"TAG {self.tag}")
@@ -378,10 +385,10 @@ def flights_of(writer, put):
 
 def end_of(text):
     """How long a frame is that begins so; 0 where that isn't known yet."""
-    if len(text) < replay_trace.PREAMBLE:
+    if len(text) < PREAMBLE:
         return 0
     lengths = [replay_trace.number(text, 2 + 6 * i, 4) for i in range(text[1])]
-    return replay_trace.PREAMBLE + sum(lengths) + 4 * bool(lengths[0]) + replay_trace.EPILOGUE * (text[1] > 1)
+    return PREAMBLE + sum(lengths) + 4 * bool(lengths[0]) + replay_trace.EPILOGUE * (text[1] > 1)
 
 
 def sides_of(run, a, b):
