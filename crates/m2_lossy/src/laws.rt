@@ -1,0 +1,11 @@
+//! What is promised of lossy links. These functions do nothing: each stands for the law that its contract
+//! names.
+
+ghost use Rattle.m2_lossy.specs.Lossy as lossy;
+
+/// In every order of two journals of a lossy link without a mark-down in which each byte was written before
+/// it is read at the other end: of each key what either side accepts, and what its dispatchers are called
+/// with, is some of what the other side posted, in order, each message once.
+pub fn lossy_comes_in_order()
+    ensures { lossy.LossyComesInOrder }
+{}
