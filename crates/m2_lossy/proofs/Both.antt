@@ -18,7 +18,7 @@ use Rattle.m2_session.specs.declared.session.Phase.{Phase}
 use Rattle.m2_session.specs.declared.session.Phase.TheVariants as phase
 use Rattle.m2_lossy.proofs.Frames.{IsMute, mail_of, mails_on, mails_same, mails_elsewhere, messages_on, plain, accepted_not_mute, mute_no_mails}
 use Rattle.m2_lossy.proofs.Moves.{Spot, View, Move, rests, posts, opens, leaves, refuses, takes_on, asks, settles, numbers, accepts, moved, May, OnSpot, IfSpot, judgement, on_socket, sent_on}
-use Rattle.m2_lossy.proofs.Reads.{IsFresh, Reads, reads_after, reads_more}
+use Rattle.m2_lossy.proofs.Readers.{IsFresh, Reads, reads_after, reads_more}
 use Rattle.m2_lossy.proofs.Sides.{SideIs, StandsIn, fewer, judged_in, side_after, taken_more, taken_same}
 
 -- ---- what was sent goes on

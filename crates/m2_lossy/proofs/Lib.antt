@@ -3,5 +3,7 @@ pub mod Frames
 pub mod Moves
 pub mod Sides
 pub mod Posted
-pub mod Reads
+pub mod Readers
 pub mod Both
+pub mod Named
+pub mod Entries

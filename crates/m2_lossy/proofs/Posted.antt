@@ -56,12 +56,12 @@ module _ (f : SideFacts) (theirs : List SentFrame) (posted : List Content) (v : 
       let W = of_priority p v.queue.waiting in
       let M = of_priority p (m ∷ []) in
       subst (λ l. IsSublist (C ++ l) (of_priority p (posted ++ m ∷ []))) (sym (rank-put_behind priority_of p v.queue.waiting m h.queue.falls))
-      (subst (IsSublist (C ++ W ++ M)) (sym (filter-append (λ (x : Content). priority_of x == p) posted (m ∷ [])))
+      (subst (IsSublist (C ++ (W ++ M))) (sym (filter-append (λ (x : Content). priority_of x == p) posted (m ∷ [])))
       (subst (λ l. IsSublist l (of_priority p posted ++ M)) (append_assoc C W M)
       (some_both (C ++ W) (of_priority p posted) M M (is p) (some_itself M))))
 
   left : (q : Phase) (thrown : Bool) → IsPosted (posted ++ []) (moved (leaves q thrown) v)
-  left q true p =
+  left q true = λ p.
       subst (λ l. IsSublist (of_priority p (composed v.sent) ++ []) (of_priority p l)) (sym (append-nil posted))
       (subst (λ l. IsSublist l (of_priority p posted)) (sym (append-nil (of_priority p (composed v.sent))))
       (some_front (of_priority p (composed v.sent)) (of_priority p v.queue.waiting) (of_priority p posted) (is p)))
@@ -72,7 +72,7 @@ module _ (f : SideFacts) (theirs : List SentFrame) (posted : List Content) (v : 
     where
       at : (o : Option Spot) → StandsIn v phase.Ready o → IsPosted (posted ++ []) (moved (numbers n m) (record v { feed = o }))
       at None s = absurd s
-      at (Some spot) s p =
+      at (Some spot) s = λ p.
           let C = of_priority p (composed v.sent) in
           let M = of_priority p (m ∷ []) in
           let W = of_priority p (drop 1 v.queue.waiting) in

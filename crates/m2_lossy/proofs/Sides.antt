@@ -5,6 +5,7 @@ use Rattle.std.proofs.lemmas.Bool.{false_from_ne_true}
 use Rattle.std.proofs.lemmas.List.{map-append}
 use Rattle.std.proofs.lemmas.List.Elements.{filter-append}
 use Rattle.m2_channel.specs.Channel.{KeyedMessage}
+use Rattle.m2_crossing.specs.Asks.{by_ident}
 use Rattle.m2_fabric.specs.declared.socket.SocketId.{SocketId}
 use Rattle.m2_fabric.specs.Sockets.{is_among, same_socket}
 use Rattle.m2_fitting.proofs.Lists.{all-both}
@@ -86,9 +87,10 @@ frames_ask opened js sent k cookie global there none h = record {
     once : (j : SocketId) (b : Bool) → same_socket j k ≡ b → length (asks_on j (sent ++ x ∷ [])) ≤ 1
     once j true e =
         let before : asks_on j sent ≡ [] = subst (λ z. asks_on z sent ≡ []) (sym (same_equal j k e)) none in
-        let all = ap length (asks_here j sent x _ refl e) in
-        let parts = ap (λ l. length (l ++ _ ∷ [])) before in
-        omega (arith, all, parts)
+        let all = ap length (asks_here j sent x (by_ident (record { cookie = cookie; global = global })) refl e) in
+        let parts = length-append (asks_on j sent) (by_ident (record { cookie = cookie; global = global }) ∷ []) in
+        let none_yet = ap length before in
+        omega (arith, all, parts, none_yet)
     once j false e = subst (λ l. length l ≤ 1) (sym (asks_elsewhere j sent x e)) (h.asked_once j)
 
 -- a socket that is opened or was taken
