@@ -560,12 +560,12 @@ module _ (f : SideFacts) (s : State) (theirs : List SentFrame) (h : IsLossySide 
             may = k.may;
             posted = refl;
             got = tt;
-            composed = subst (AreComposed f) (sym k.sent) (all-both (λ x. IsComposed f x.frame) s.sent (sent_on (spot_of s.feed) (out.message n s.last k.message)) h.composed (on_feed_sent (spot_of s.feed) k.composed));
+            composed = subst (AreComposed f) (sym k.sent) (all-both (λ x. IsComposed f x.frame) s.sent (sent_on (spot_of s.feed) (out.message n s.last k.message)) h.composed (on_feed_sent (spot_of s.feed) (out.message n s.last k.message) k.composed));
           }
         where
-          on_feed_sent : (o : Option Spot) {w : OutFrame} → IsComposed f w → AreComposed f (sent_on o w)
-          on_feed_sent None c = tt
-          on_feed_sent (Some p) c = (c, tt)
+          on_feed_sent : (o : Option Spot) (w : OutFrame) → IsComposed f w → AreComposed f (sent_on o w)
+          on_feed_sent None w c = tt
+          on_feed_sent (Some p) w c = (c, tt)
 
   -- ---- a message is accepted
 

@@ -7,3 +7,4 @@ pub mod Readers
 pub mod Both
 pub mod Named
 pub mod Entries
+pub mod Points
