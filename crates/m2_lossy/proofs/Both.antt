@@ -1,8 +1,7 @@
 -- What holds of the two sides of a lossy link together. The client opens all sockets, and the server judges on them. A socket
 -- carries messages only once the server has taken it, which it does once: so the reader that comes to a socket comes before the
 -- writer composes anything there.
-use Rattle.std.proofs.Common.{◌≡◌, ℕ, Bool, true, false, List, [], ◌∷◌, ◌++◌, drop, map, Option, Some, None, refl, sym, ap, ◌∙◌, subst}
-use Rattle.std.specs.List.{AllByRecursion, filter_map}
+use Rattle.std.proofs.Common.{◌≡◌, ℕ, true, false, List, [], ◌∷◌, ◌++◌, drop, map, Option, Some, None, refl, sym, ap, ◌∙◌, subst}
 use Rattle.std.proofs.lemmas.Bool.{false_from_ne_true, true_from_ne_false}
 use Rattle.m2_fabric.specs.declared.socket.SocketId.{SocketId}
 use Rattle.m2_fabric.specs.Sockets.{is_among, same_socket}
@@ -10,14 +9,13 @@ use Rattle.m2_journal.specs.Laws.{taken_among}
 use Rattle.m2_journal.specs.OutFrames as out
 use Rattle.m2_journal.specs.OutFrames.{OutFrame}
 use Rattle.m2_journal.specs.SideFacts.{SideFacts}
-use Rattle.m2_journal.specs.State.{Judgement, SentFrame}
+use Rattle.m2_journal.specs.State.{SentFrame}
 use Rattle.m2_message.specs.Message.{Content}
 use Rattle.m2_paired.specs.Frames.{answers_on}
 use Rattle.m2_paired.proofs.Sockets.{differ, same_equal, taken_is_judged}
-use Rattle.m2_session.specs.declared.session.Phase.{Phase}
 use Rattle.m2_session.specs.declared.session.Phase.TheVariants as phase
-use Rattle.m2_lossy.proofs.Frames.{IsMute, mail_of, mails_on, mails_same, mails_elsewhere, messages_on, plain, accepted_not_mute, mute_no_mails}
-use Rattle.m2_lossy.proofs.Moves.{Spot, View, Move, rests, posts, opens, leaves, refuses, takes_on, asks, settles, numbers, accepts, moved, May, OnSpot, IfSpot, judgement, on_socket, sent_on}
+use Rattle.m2_lossy.proofs.Frames.{mails_on, mails_same, mails_elsewhere, messages_on, plain, accepted_not_mute, mute_no_mails}
+use Rattle.m2_lossy.proofs.Moves.{Spot, View, Move, rests, posts, opens, leaves, refuses, takes_on, asks, settles, numbers, accepts, moved, May, IfSpot, judgement, on_socket, sent_on}
 use Rattle.m2_lossy.proofs.Readers.{IsFresh, Reads, reads_after, reads_more}
 use Rattle.m2_lossy.proofs.Sides.{SideIs, StandsIn, fewer, judged_in, side_after, taken_more, taken_same}
 

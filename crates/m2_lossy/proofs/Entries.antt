@@ -1,6 +1,6 @@
 -- Each lawful entry of a lossy side is one of the moves, and what it composes can be sent.
-use Rattle.std.proofs.Common.{◌≡◌, ◌≢◌, ℕ, zero, suc, ◌+◌, ◌-◌, ◌<◌, ◌≤◌, ◌^◌, ◌⊎◌, inl, inr, max, Bool, true, false, not, ◌&&◌, ◌||◌, ◌==◌, if◌then◌else◌, List, [], ◌∷◌, ◌++◌, drop, length, map, Option, Some, None, refl, sym, ap, ◌∙◌, subst, arith}
-use Rattle.std.specs.Prelude.{IfSome, nat_lt, slice_get}
+use Rattle.std.proofs.Common.{◌≡◌, ◌≢◌, ℕ, ◌+◌, ◌-◌, ◌<◌, ◌≤◌, ◌^◌, inl, Bool, true, false, not, ◌&&◌, ◌||◌, ◌==◌, if◌then◌else◌, List, [], ◌∷◌, ◌++◌, drop, length, Option, Some, None, refl, sym, ap, ◌∙◌, subst, arith}
+use Rattle.std.specs.Prelude.{IfSome, nat_lt}
 use Rattle.std.specs.List.{AllByRecursion}
 use Rattle.std.proofs.lemmas.Bool.{and_parts, eq-eqb, eqb-true, lt-ltb}
 use Rattle.m2_answers.specs.declared.ask.AskFacts.{AskFacts}
@@ -11,15 +11,11 @@ use Rattle.m2_channel.specs.Observed.{handed}
 use Rattle.m2_control.specs.declared.control.Control.TheVariants as control
 use Rattle.m2_control.specs.declared.fields.TheConstants.{GREATEST_NUMBER}
 use Rattle.m2_control.specs.declared.server_ident.ServerIdent.{ServerIdent}
-use Rattle.m2_control.specs.declared.session_reconnect_ok.SessionReconnectOk.{SessionReconnectOk}
-use Rattle.m2_control.specs.declared.session_retry.SessionRetry.{SessionRetry}
-use Rattle.m2_control.specs.declared.session_retry_global.SessionRetryGlobal.{SessionRetryGlobal}
-use Rattle.m2_control.specs.declared.wait.Wait.{Wait}
 use Rattle.m2_fabric.specs.declared.socket.SocketId.{SocketId}
 use Rattle.m2_fabric.specs.Sockets.{is_among, same_socket}
 use Rattle.m2_fitting.specs.Halves.{KeepsRanges}
-use Rattle.m2_fitting.specs.Texts.{CanBeSent, KeepsFields}
-use Rattle.m2_fitting.proofs.Bounded.{RestIsBounded, IsUnasked, message_keeps, queues_rest}
+use Rattle.m2_fitting.specs.Texts.{KeepsFields}
+use Rattle.m2_fitting.proofs.Bounded.{RestIsBounded, IsUnasked}
 use Rattle.m2_fitting.proofs.Composed.{AreComposed, IsComposed, unasked_so}
 use Rattle.m2_fitting.proofs.Formats.{client_ident_keeps, numbered_keeps, reset_keeps, server_ident_keeps}
 use Rattle.m2_fitting.proofs.Lists.{all-both}
@@ -37,8 +33,8 @@ use Rattle.m2_journal.specs.Said.{Said, says, brings, aborts, garbles}
 use Rattle.m2_journal.specs.SideFacts.{SideFacts, cookie_of}
 use Rattle.m2_journal.specs.State as state
 use Rattle.m2_journal.specs.State.{PartText, Delivery, Feed, Judgement, SentFrame, State}
-use Rattle.m2_journal.specs.Steps.{accepts, after, answer_to, asks_peer, breaks, composes, event_heard, event_of, forgets, heeds, is_on, is_waiting, judges, kept_of, puts_on, queues, with_feed, writes_message}
-use Rattle.m2_message.specs.Message.{Content, unnumbered, with_numbers}
+use Rattle.m2_journal.specs.Steps.{accepts, after, answer_to, breaks, event_heard, forgets, heeds, is_on, is_waiting, puts_on, queues, writes_message}
+use Rattle.m2_message.specs.Message.{Content, unnumbered}
 use Rattle.m2_paired.specs.Fits.{Says, HearsAt}
 use Rattle.m2_paired.specs.Frames.{answers_on}
 use Rattle.m2_paired.specs.Laws.{IsNoDown}
@@ -48,15 +44,13 @@ use Rattle.m2_paired.proofs.Feeds.{hears_hears, opened_hears}
 use Rattle.m2_paired.proofs.Read.{by_answer}
 use Rattle.m2_paired.proofs.Sockets.{differ}
 use Rattle.m2_policy.specs.declared.path.Key.{Key}
-use Rattle.m2_queues.specs.Laws.{Next, Sent}
+use Rattle.m2_queues.specs.Laws.{Next}
 use Rattle.m2_queues.specs.OutQueues.{Queue, after_next, message_at, next_number}
 use Rattle.m2_session.specs.declared.answer.Answer.{Answer}
 use Rattle.m2_session.specs.declared.answer.Answer.TheVariants as answer
 use Rattle.m2_session.specs.declared.event.Event.{Event}
-use Rattle.m2_session.specs.declared.event.Event.TheVariants as event
 use Rattle.m2_session.specs.declared.session.Phase.{Phase}
 use Rattle.m2_session.specs.declared.session.Phase.TheVariants as phase
-use Rattle.m2_session.specs.declared.session.Session.{Session}
 use Rattle.m2_session.specs.Conditions.{differs, is_above, is_kept}
 use Rattle.m2_session.specs.Ident.{ident_answer}
 use Rattle.m2_session.specs.Laws as session

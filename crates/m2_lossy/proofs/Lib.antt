@@ -8,3 +8,4 @@ pub mod Both
 pub mod Named
 pub mod Entries
 pub mod Points
+pub mod Orders

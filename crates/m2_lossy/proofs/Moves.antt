@@ -1,5 +1,5 @@
 -- What an entry of a lossy side changes of what matters to the messages of its link: one of ten moves.
-use Rattle.std.proofs.Common.{◌≡◌, ℕ, ◌+◌, ◌≤◌, max, Bool, true, false, if◌then◌else◌, List, [], ◌∷◌, ◌++◌, drop, map, Option, Some, None}
+use Rattle.std.proofs.Common.{◌≡◌, ℕ, ◌+◌, max, Bool, true, false, if◌then◌else◌, List, [], ◌∷◌, ◌++◌, drop, map, Option, Some, None}
 use Rattle.std.specs.List.{AllByRecursion}
 use Rattle.m2_channel.specs.Channel.{KeyedMessage}
 use Rattle.m2_channel.specs.Observed.{handed}

@@ -1,5 +1,5 @@
 -- What a lossy side has begun to write is named by an entry: it owes no acknowledgement, and no keepalive asks it.
-use Rattle.std.proofs.Common.{◌≡◌, ℕ, ◌+◌, Bool, true, false, not, ◌&&◌, ◌==◌, if◌then◌else◌, List, [], ◌∷◌, ◌++◌, length, take, map, Option, Some, None, refl, sym, ap, ◌∙◌, subst}
+use Rattle.std.proofs.Common.{◌≡◌, ℕ, ◌+◌, Bool, true, false, not, ◌&&◌, ◌==◌, if◌then◌else◌, List, [], ◌∷◌, ◌++◌, length, map, Option, Some, None, refl, sym, ap, ◌∙◌, subst}
 use Rattle.std.specs.Prelude.{IfSome, slice_get}
 use Rattle.std.specs.List.{AllByRecursion, filter}
 use Rattle.std.specs.Option.{option_to_list}
@@ -7,7 +7,7 @@ use Rattle.m2_control.specs.Banner.{begins}
 use Rattle.m2_fitting.proofs.Bounded.{IsUnasked}
 use Rattle.m2_fitting.proofs.Entries.{posts_less, heeds_less, accepts_less}
 use Rattle.m2_fitting.proofs.Kept.{IsNamed}
-use Rattle.m2_fitting.proofs.Less.{Less, FeedLess, less_trans, tells_less, tells_if_less, untouched}
+use Rattle.m2_fitting.proofs.Less.{Less, FeedLess, tells_less, tells_if_less}
 use Rattle.m2_handshake.specs.Course as hand
 use Rattle.m2_handshake.specs.Course.{Course, course_of}
 use Rattle.m2_handshake.specs.Moves.{is_authed}
@@ -21,7 +21,7 @@ use Rattle.m2_journal.specs.OutFrames.{OutFrame, is_unnamed, replies_of}
 use Rattle.m2_journal.specs.Said.{split}
 use Rattle.m2_journal.specs.SideFacts.{SideFacts, cookie_of}
 use Rattle.m2_journal.specs.State.{PartText, Feed, State}
-use Rattle.m2_journal.specs.Steps.{acceptance, after, breaks, composes, event_heard, event_of, forgets, is_on, is_waiting, notes, on_feed_at, accepts, posts, puts, puts_on, queues, reads, sends, takes_answer, takes_socket, tells, tells_if, with_feed, writes_message}
+use Rattle.m2_journal.specs.Steps.{after, breaks, composes, event_heard, event_of, forgets, is_on, is_waiting, notes, on_feed_at, accepts, posts, puts, puts_on, queues, reads, sends, takes_answer, takes_socket, tells, tells_if, with_feed, writes_message}
 use Rattle.m2_message.specs.Message.{Content}
 use Rattle.m2_paired.specs.Laws.{IsNoDown}
 use Rattle.m2_queues.specs.Laws.{Next}

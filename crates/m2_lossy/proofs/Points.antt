@@ -1,12 +1,11 @@
 -- At every point of an order of two journals of a lossy link in which bytes fit: what each side has heard are the first frames
 -- that the other has sent there, and what it has accepted is some of what the other has composed.
-use Rattle.std.proofs.Common.{◌≡◌, ℕ, suc, ◌+◌, ◌≤◌, ◌⊎◌, inl, inr, Bool, true, false, if◌then◌else◌, List, [], ◌∷◌, ◌++◌, drop, length, map, Option, Some, None, refl, sym, ap, ◌∙◌, subst, arith, append_assoc, append-nil}
+use Rattle.std.proofs.Common.{◌≡◌, ℕ, ◌+◌, ◌≤◌, ◌⊎◌, inl, inr, Bool, true, false, if◌then◌else◌, List, [], ◌∷◌, ◌++◌, drop, length, map, Option, Some, None, refl, sym, ap, ◌∙◌, subst, arith, append_assoc, append-nil}
 use Rattle.std.specs.List.{AllByRecursion}
-use Rattle.std.proofs.lemmas.Bool.{or_cases}
 use Rattle.m2_control.specs.declared.control.Control.TheVariants as control
 use Rattle.m2_fabric.specs.declared.socket.SocketId.{SocketId}
 use Rattle.m2_fabric.specs.Sockets.{is_among, same_socket}
-use Rattle.m2_fitting.specs.Ends.{Side, state_of}
+use Rattle.m2_fitting.specs.Ends.{Side}
 use Rattle.m2_fitting.specs.Halves.{BytesFit, KeepsRanges}
 use Rattle.m2_fitting.specs.Texts.{CanBePosted}
 use Rattle.m2_trail.specs.Trails.{HalfBytes}
@@ -20,15 +19,12 @@ use Rattle.m2_fitting.proofs.Steps.{AllKept}
 use Rattle.m2_journal.specs.Items.{JournalItem}
 use Rattle.m2_journal.specs.Lawful.{Lawful, judged_on, judged_sockets}
 use Rattle.m2_journal.specs.Laws.{IfFed, ReplaysAreSound, taken_among}
-use Rattle.m2_journal.specs.OutFrames as out
-use Rattle.m2_journal.specs.OutFrames.{OutFrame}
 use Rattle.m2_journal.specs.Replay.{AreLawful, after_items}
 use Rattle.m2_journal.specs.Said.{says}
 use Rattle.m2_journal.specs.SideFacts.{SideFacts}
 use Rattle.m2_journal.specs.State.{Feed, Judgement, SentFrame, State, start}
 use Rattle.m2_journal.specs.Steps.{after}
 use Rattle.m2_journal.proofs.Growing.{after-append}
-use Rattle.m2_message.specs.Message.{Content}
 use Rattle.m2_paired.specs.Fits.{AreItsAsks, HearsAt}
 use Rattle.m2_paired.specs.Frames.{answers_on, asks_on}
 use Rattle.m2_paired.specs.Laws.{IsNoDown}
@@ -41,11 +37,11 @@ use Rattle.m2_session.specs.declared.session.Phase.{Phase}
 use Rattle.m2_session.specs.declared.session.Phase.TheVariants as phase
 use Rattle.m2_fitting.proofs.Orders.{lawful-front}
 use Rattle.m2_lossy.proofs.Both.{Both, HasAcceptance, HasHeard, client_moves, server_moves}
-use Rattle.m2_lossy.proofs.Entries.{HasGot, HasGotFor, IsLossySide, IsMoveOf, entry_moves}
+use Rattle.m2_lossy.proofs.Entries.{HasGotFor, IsLossySide, IsMoveOf, entry_moves}
 use Rattle.m2_lossy.proofs.Moves.{Spot, View, Move, rests, posts, opens, leaves, refuses, takes_on, asks, settles, numbers, accepts, moved, posted_by, May, IfSpot, spot_of, view}
 use Rattle.m2_lossy.proofs.Named.{NamedKept, named_after}
 use Rattle.m2_lossy.proofs.Posted.{IsPosted, posted_after}
-use Rattle.m2_lossy.proofs.Sides.{SideIs, StandsIn, judged_in, side_after}
+use Rattle.m2_lossy.proofs.Sides.{SideIs, StandsIn, side_after}
 
 -- ---- a side by itself
 
@@ -160,7 +156,7 @@ ones_apart : (a b : State) → OnesOpened a b → (k : SocketId) → is_among k 
 ones_apart a b (inl e) k h = differ (sym (none_opened k a.opened e) ∙ h)
 ones_apart a b (inr e) k h = none_opened k b.opened e
 
-abbrev side_at : SideFacts → List JournalItem → (SocketId → HalfBytes) → Side
+abbrev pub side_at : SideFacts → List JournalItem → (SocketId → HalfBytes) → Side
 side_at f is halves = record { facts = f; entries = is; halves = halves }
 
 known_at : (f g : SideFacts) (is js : List JournalItem) (p q : SocketId → HalfBytes) → KeepsRanges f → KeepsRanges g → AllKept f is (state_at f is) → AllKept g js (state_at g js) →
@@ -312,13 +308,19 @@ module _ (sound : ReplaysAreSound) (f g : SideFacts) (n : AreNamed f g) (is js :
   both' (inl (server, k)) =
       let opened : OnesOpened t b = inr k.opened in
       let unjudged : t.judgements ≡ [] = none_judged b.opened b.sent t.judgements t.judgements k.opened (judges' opened) in
-      inl (server, subst (λ v. Both f g v (view b)) (sym move.is)
-      (client_moves f g (view a) (view b) k move.move move.may (sym (ap (λ (v : View). v.judgements) move.is) ∙ unjudged)
-      (heard_for move.move (view a) t b.sent move.is (hears' opened) move.got)
-      (λ j e. (at_among (AreItsAsks a.opened a.sent b.judgements) (judged_sockets b) j (near_judges (side_at g js q) (side_at f is p) (turn (side_at f is p) (side_at g js q) known)) e).opened)))
+      inl (
+        server,
+        subst (λ v. Both f g v (view b)) (sym move.is)
+            (client_moves f g (view a) (view b) k move.move move.may (sym (ap (λ (v : View). v.judgements) move.is) ∙ unjudged)
+            (heard_for move.move (view a) t b.sent move.is (hears' opened) move.got)
+            (λ j e. (at_among (AreItsAsks a.opened a.sent b.judgements) (judged_sockets b) j (near_judges (side_at g js q) (side_at f is p) (turn (side_at f is p) (side_at g js q) known)) e).opened)),
+      )
   both' (inr (server, k)) =
-      inr (server, subst (λ v. Both g f (view b) v) (sym move.is)
-      (server_moves g f (view b) (view a) k move.move move.may (still_unopened f b.sent move.move (view a) server move.may k.opened)))
+      inr (
+        server,
+        subst (λ v. Both g f (view b) v) (sym move.is)
+            (server_moves g f (view b) (view a) k move.move move.may (still_unopened f b.sent move.move (view a) server move.may k.opened)),
+      )
 
   pub one_more : PointKept f g (is ++ i ∷ []) js
   one_more = record {

@@ -1,6 +1,6 @@
 -- What a side has composed, and behind that what waits, is of each priority some of what it has posted, in order.
 use Rattle.std.proofs.Common.{◌≡◌, ℕ, ◌==◌, Bool, true, false, List, [], ◌∷◌, ◌++◌, drop, map, Option, Some, None, refl, sym, ap, ◌∙◌, subst, append-nil, append_assoc}
-use Rattle.std.specs.List.{AllByRecursion, filter, filter_map}
+use Rattle.std.specs.List.{AllByRecursion}
 use Rattle.std.proofs.lemmas.List.{map-append}
 use Rattle.std.proofs.lemmas.List.Elements.{filter-append, filter_map-append}
 use Rattle.m2_dispatcher.specs.Laws.{IsSublist}
@@ -16,7 +16,7 @@ use Rattle.m2_session.specs.declared.session.Phase.{Phase}
 use Rattle.m2_session.specs.declared.session.Phase.TheVariants as phase
 use Rattle.m2_lossy.proofs.Frames.{IsMute, Mail, mail_of, mails_in, mute_says_nothing}
 use Rattle.m2_lossy.proofs.Moves.{Spot, View, Move, rests, posts, opens, leaves, refuses, takes_on, asks, settles, numbers, accepts, moved, posted_by, May, on_socket, sent_on}
-use Rattle.m2_lossy.proofs.Sides.{IsReady, SideIs, StandsIn}
+use Rattle.m2_lossy.proofs.Sides.{SideIs, StandsIn}
 use Rattle.m2_lossy.proofs.Sublists.{some_both, some_front, some_itself}
 
 abbrev pub composed : List SentFrame → List Content

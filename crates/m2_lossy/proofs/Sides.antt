@@ -1,5 +1,5 @@
 -- What holds of one side of a lossy link, wherever its moves have led.
-use Rattle.std.proofs.Common.{◌≡◌, ℕ, ◌+◌, ◌≤◌, ◌⊎◌, inl, inr, max, Bool, true, false, if◌then◌else◌, List, [], ◌∷◌, ◌++◌, length, drop, map, Option, Some, None, refl, sym, ap, ◌∙◌, subst, arith, append-nil, append_assoc, length-append}
+use Rattle.std.proofs.Common.{◌≡◌, ℕ, ◌+◌, ◌≤◌, ◌⊎◌, inl, inr, Bool, true, false, if◌then◌else◌, List, [], ◌∷◌, ◌++◌, length, drop, map, Option, Some, None, refl, sym, ap, ◌∙◌, subst, arith, append-nil, append_assoc, length-append}
 use Rattle.std.specs.List.{AllByRecursion, filter, filter_map}
 use Rattle.std.proofs.lemmas.Bool.{false_from_ne_true}
 use Rattle.std.proofs.lemmas.List.{map-append}
@@ -17,7 +17,7 @@ use Rattle.m2_journal.specs.OutFrames.{OutFrame}
 use Rattle.m2_journal.specs.SideFacts.{SideFacts}
 use Rattle.m2_journal.specs.State.{Judgement, SentFrame}
 use Rattle.m2_message.specs.Message.{Content, priority_of}
-use Rattle.m2_paired.specs.Frames.{ask_of, asks_on, answers_on}
+use Rattle.m2_paired.specs.Frames.{asks_on, answers_on}
 use Rattle.m2_paired.proofs.Sent.{answers_here, answers_same, answers_elsewhere, asks_here, asks_same, asks_elsewhere}
 use Rattle.m2_paired.proofs.Sockets.{differ, same_equal, same_refl, among-last, among-more, taken_is_judged}
 use Rattle.m2_priority.proofs.ByRank.{Falls}
@@ -26,8 +26,8 @@ use Rattle.m2_queues.specs.OutQueues.{Queue}
 use Rattle.m2_session.specs.Laws as session
 use Rattle.m2_session.specs.declared.session.Phase.{Phase}
 use Rattle.m2_session.specs.declared.session.Phase.TheVariants as phase
-use Rattle.m2_lossy.proofs.Frames.{AreNumbered, IsMute, Mail, mail_of, mails_on, mails_here, mails_elsewhere, mails_same, mute_no_mails, mute_says_nothing, SaysNothing, numbered_more}
-use Rattle.m2_lossy.proofs.Moves.{Spot, View, Move, rests, posts, opens, leaves, refuses, takes_on, asks, settles, numbers, accepts, moved, May, IsAway, LeavesSo, judgement, on_socket, sent_first, sent_on, thrown_away}
+use Rattle.m2_lossy.proofs.Frames.{AreNumbered, IsMute, mail_of, mails_on, mails_here, mails_elsewhere, mails_same, mute_no_mails, mute_says_nothing, SaysNothing, numbered_more}
+use Rattle.m2_lossy.proofs.Moves.{Spot, View, Move, rests, posts, opens, leaves, refuses, takes_on, asks, settles, numbers, accepts, moved, May, IsAway, LeavesSo, judgement, on_socket, sent_first, thrown_away}
 
 -- ---- sockets
 
