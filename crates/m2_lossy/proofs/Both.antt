@@ -15,7 +15,7 @@ use Rattle.m2_paired.specs.Frames.{answers_on}
 use Rattle.m2_paired.proofs.Sockets.{differ, same_equal, taken_is_judged}
 use Rattle.m2_session.specs.declared.session.Phase.TheVariants as phase
 use Rattle.m2_lossy.proofs.Frames.{mails_on, mails_same, mails_elsewhere, messages_on, plain, accepted_not_mute, mute_no_mails}
-use Rattle.m2_lossy.proofs.Moves.{Spot, View, Move, rests, posts, opens, leaves, refuses, takes_on, asks, settles, numbers, accepts, moved, May, IfSpot, judgement, on_socket, sent_on}
+use Rattle.m2_lossy.proofs.Moves.{Spot, View, Move, rests, posts, opens, leaves, gives_up, refuses, takes_on, asks, settles, numbers, accepts, moved, May, IfSpot, judgement, on_socket, sent_on}
 use Rattle.m2_lossy.proofs.Readers.{IsFresh, Reads, reads_after, reads_more}
 use Rattle.m2_lossy.proofs.Sides.{SideIs, StandsIn, fewer, judged_in, side_after, taken_more, taken_same}
 
@@ -37,6 +37,7 @@ sends_more rests v = no_more v (moved rests v) refl
 sends_more (posts m) v = no_more v (moved (posts m) v) refl
 sends_more (opens k) v = no_more v (moved (opens k) v) refl
 sends_more (leaves p thrown) v = no_more v (moved (leaves p thrown) v) refl
+sends_more gives_up v = no_more v (moved gives_up v) refl
 sends_more (refuses k ws item) v = record { more = on_socket k ws; all = refl }
 sends_more (takes_on k c g item) v = record { more = record { socket = k; frame = out.server_ident c g } ∷ []; all = refl }
 sends_more (asks c g) v = record { more = sent_on v.feed (out.ident c g); all = refl }
@@ -115,6 +116,7 @@ module _ (f g : SideFacts) (c s : View) (h : Both f g c s) where
   client_fresh rests may unjudged judged = tt
   client_fresh (posts m) may unjudged judged = tt
   client_fresh (leaves p thrown) may unjudged judged = tt
+  client_fresh gives_up may unjudged judged = tt
   client_fresh (refuses k ws item) may unjudged judged = tt
   client_fresh (asks cookie global) may unjudged judged = tt
   client_fresh (settles cookie) may unjudged judged = tt
@@ -154,6 +156,7 @@ module _ (f g : SideFacts) (c s : View) (h : Both f g c s) where
   client_met (posts m) may unjudged heard = h.met
   client_met (opens k) may unjudged heard = λ j e. ((h.met j e).0, λ r. absurd (connecting_apart r))
   client_met (leaves p thrown) may unjudged heard = λ j e. ((h.met j e).0, tt)
+  client_met gives_up may unjudged heard = λ j e. ((h.met j e).0, tt)
   client_met (refuses k ws item) may unjudged heard = absurd (no_more_of c.judgements (judgement k item) unjudged)
   client_met (takes_on k cookie global item) may unjudged heard = absurd (no_more_of c.judgements (judgement k item) unjudged)
   client_met (asks cookie global) may unjudged heard = met_asking cookie global
@@ -181,6 +184,7 @@ module _ (f g : SideFacts) (c s : View) (h : Both f g c s) where
   server_fresh rests may opened = tt
   server_fresh (posts m) may opened = tt
   server_fresh (leaves p thrown) may opened = tt
+  server_fresh gives_up may opened = tt
   server_fresh (refuses k ws item) may opened = tt
   server_fresh (asks cookie global) may opened = tt
   server_fresh (settles cookie) may opened = tt
@@ -195,6 +199,7 @@ module _ (f g : SideFacts) (c s : View) (h : Both f g c s) where
   server_met (posts m) may = h.met
   server_met (opens k) may = h.met
   server_met (leaves p thrown) may = h.met
+  server_met gives_up may = h.met
   server_met (asks cookie global) may = h.met
   server_met (settles cookie) may = h.met
   server_met (numbers n m) may = h.met

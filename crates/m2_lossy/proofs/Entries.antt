@@ -37,7 +37,6 @@ use Rattle.m2_journal.specs.Steps.{accepts, after, answer_to, breaks, event_hear
 use Rattle.m2_message.specs.Message.{Content, unnumbered}
 use Rattle.m2_paired.specs.Fits.{Says, HearsAt}
 use Rattle.m2_paired.specs.Frames.{answers_on}
-use Rattle.m2_paired.specs.Laws.{IsNoDown}
 use Rattle.m2_paired.specs.Orders.{posted_in}
 use Rattle.m2_paired.proofs.Answered.{IsNext as IsNextThere, next_of}
 use Rattle.m2_paired.proofs.Feeds.{hears_hears, opened_hears}
@@ -56,7 +55,7 @@ use Rattle.m2_session.specs.Ident.{ident_answer}
 use Rattle.m2_session.specs.Laws as session
 use Rattle.m2_session.specs.Phases as phases
 use Rattle.m2_session.specs.Reconnect.{Reconnect, reconnect_answer}
-use Rattle.m2_lossy.proofs.Moves.{Spot, View, Move, rests, posts, opens, leaves, refuses, takes_on, asks as asks_on_feed, settles, numbers, accepts as accepts_one, moved, posted_by, May, IsAway, IsBrought, spot_of, view, on_socket, sent_on}
+use Rattle.m2_lossy.proofs.Moves.{Spot, View, Move, rests, posts, opens, leaves, gives_up, refuses, takes_on, asks as asks_on_feed, settles, numbers, accepts as accepts_one, moved, posted_by, May, IsAway, IsBrought, spot_of, view, on_socket, sent_on}
 use Rattle.m2_lossy.proofs.Frames.{IsMute}
 use Rattle.m2_lossy.proofs.Named.{AreNamed, NamedKept, put_named}
 use Rattle.m2_lossy.proofs.Sides.{IsPlain, SideIs, StandsIn}
@@ -624,27 +623,47 @@ module _ (f : SideFacts) (s : State) (theirs : List SentFrame) (h : IsLossySide 
           subst (λ z. IsMoveTo f theirs (item.accepted number key) z (after f (item.accepted number key) z)) it
           (brought d e g.phase heard (next_said s.last d) refl g.next)
 
+  -- ---- the side is marked down
+
+  down_move : (planned : Bool) (step : Option Planned) → IsMoveOf f theirs (item.down planned step) s
+  down_move planned step = record {
+    move = gives_up;
+    is = given_up s.feed ∙ ap (λ l. record (moved gives_up v) { accepted = l }) (thrown_handed s.deliveries);
+    may = tt;
+    posted = refl;
+    got = tt;
+    composed = subst (AreComposed f) (sym (same s.feed)) h.composed;
+  }
+    where
+      given_up : (o : Option Feed) → view (after f (item.down planned step) (record s { feed = o })) ≡ record (moved gives_up (view (record s { feed = o }))) { accepted = handed (s.deliveries ++ state.discarded ∷ []) }
+      given_up (Some d) = refl
+      given_up None = refl
+
+      same : (o : Option Feed) → (after f (item.down planned step) (record s { feed = o })).sent ≡ s.sent
+      same (Some d) = refl
+      same None = refl
+
   -- ---- every kind
 
-  pub entry_moves : (i : JournalItem) → IsNoDown i → Lawful f i s → IsMoveOf f theirs i s
-  entry_moves (item.post place planned) up l = posts_move place planned l.1
-  entry_moves (item.dial planned) up l = quietly (item.dial planned) (after f (item.dial planned) s) refl refl refl
-  entry_moves (item.opened k) up l = opens_move k l
-  entry_moves (item.read k bytes) up l = read_move k bytes l
-  entry_moves (item.wrote k bytes) up l = wrote_move k bytes l
-  entry_moves (item.closed k broken) up l = closed_move k broken
-  entry_moves (item.judged k ask number given unread trail) up l = judged_move k ask number given unread trail l
-  entry_moves (item.asked ident number) up l = asked_move ident number l
-  entry_moves (item.numbered n) up l = numbered_move n l
-  entry_moves (item.accepted number key) up l = accepted_move number key l
-  entry_moves (item.acked number) up l = absurd (nothing_acked s.feed l)
+  pub entry_moves : (i : JournalItem) → Lawful f i s → IsMoveOf f theirs i s
+  entry_moves (item.post place planned) l = posts_move place planned l.1
+  entry_moves (item.dial planned) l = quietly (item.dial planned) (after f (item.dial planned) s) refl refl refl
+  entry_moves (item.opened k) l = opens_move k l
+  entry_moves (item.read k bytes) l = read_move k bytes l
+  entry_moves (item.wrote k bytes) l = wrote_move k bytes l
+  entry_moves (item.closed k broken) l = closed_move k broken
+  entry_moves (item.judged k ask number given unread trail) l = judged_move k ask number given unread trail l
+  entry_moves (item.asked ident number) l = asked_move ident number l
+  entry_moves (item.numbered n) l = numbered_move n l
+  entry_moves (item.accepted number key) l = accepted_move number key l
+  entry_moves (item.acked number) l = absurd (nothing_acked s.feed l)
     where
       nothing_acked : (o : Option Feed) → OnFeedAt o (MayAcknowledge s number) → ⊥
       nothing_acked None g = g
       nothing_acked (Some d) g = omega (arith, g.above, g.written, h.side.queue.written)
-  entry_moves (item.obeyed full) up l = absurd (not_obeyed s.feed l)
+  entry_moves (item.obeyed full) l = absurd (not_obeyed s.feed l)
     where
       not_obeyed : (o : Option Feed) → OnFeedAt o (MayObey s full) → ⊥
       not_obeyed None g = g
       not_obeyed (Some d) g = elim (subst (λ p. StandsIn v p (spot_of s.feed)) g.phase h.side.stands) [ ]
-  entry_moves (item.down planned step) up l = absurd up
+  entry_moves (item.down planned step) l = down_move planned step

@@ -1,4 +1,4 @@
--- What an entry of a lossy side changes of what matters to the messages of its link: one of ten moves.
+-- What an entry of a lossy side changes of what matters to the messages of its link: one of eleven moves.
 use Rattle.std.proofs.Common.{◌≡◌, ℕ, ◌+◌, max, Bool, true, false, if◌then◌else◌, List, [], ◌∷◌, ◌++◌, drop, map, Option, Some, None}
 use Rattle.std.specs.List.{AllByRecursion}
 use Rattle.m2_channel.specs.Channel.{KeyedMessage}
@@ -63,6 +63,8 @@ pub data Move : Type 0 where
   opens : SocketId → Move
   -- the feed is left, and where that throws messages away nothing waits any more
   leaves : Phase → (thrown : Bool) → Move
+  -- the side is marked down
+  gives_up : Move
   -- an ask is judged and not accepted
   refuses : SocketId → List OutFrame → JudgedItem → Move
   -- an ask is accepted, by this frame
@@ -96,6 +98,7 @@ moved rests v = v
 moved (posts m) v = record v { queue = after_post v.queue m }
 moved (opens k) v = record v { phase = phase.Connecting; feed = Some (record { socket = k; opened = true }); opened = v.opened ++ k ∷ [] }
 moved (leaves p thrown) v = record v { phase = p; cookie = (if thrown then 0 else v.cookie); feed = None; queue = thrown_away thrown v.queue }
+moved gives_up v = record v { phase = phase.Absent; cookie = 0; feed = None; queue = thrown_away true v.queue; last = 0 }
 moved (refuses k ws item) v = record v { judgements = v.judgements ++ judgement k item ∷ []; sent = v.sent ++ on_socket k ws }
 moved (takes_on k cookie global item) v = record v {
   phase = phase.Ready;
@@ -176,6 +179,7 @@ May f theirs rests v = Unit {0}
 May f theirs (posts m) v = Unit {0}
 May f theirs (opens k) v = MayOpen f v k
 May f theirs (leaves p thrown) v = IsAway p × LeavesSo thrown v.phase
+May f theirs gives_up v = Unit {0}
 May f theirs (refuses k ws item) v = MayRefuse v k ws item
 May f theirs (takes_on k cookie global item) v = MayTake v k item
 May f theirs (asks c g) v = v.phase ≡ phase.Connecting

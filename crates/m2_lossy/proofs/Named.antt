@@ -23,7 +23,6 @@ use Rattle.m2_journal.specs.SideFacts.{SideFacts, cookie_of}
 use Rattle.m2_journal.specs.State.{PartText, Feed, State}
 use Rattle.m2_journal.specs.Steps.{after, breaks, composes, event_heard, event_of, forgets, is_on, is_waiting, notes, on_feed_at, accepts, posts, puts, puts_on, queues, reads, sends, takes_answer, takes_socket, tells, tells_if, with_feed, writes_message}
 use Rattle.m2_message.specs.Message.{Content}
-use Rattle.m2_paired.specs.Laws.{IsNoDown}
 use Rattle.m2_queues.specs.Laws.{Next}
 use Rattle.m2_queues.specs.OutQueues.{message_at}
 use Rattle.m2_session.specs.declared.event.Event.TheVariants as event
@@ -139,32 +138,32 @@ writes_named : (f : SideFacts) (n : ℕ) (o : Option Content) (s : State) → Na
 writes_named f n (Some m) s h = composes_named f (out.message n s.last m) s refl
 writes_named f n None s h = h
 
-pub named_after : (f : SideFacts) (i : JournalItem) (s : State) → f.policy.lossy ≡ true → IsNoDown i → IfFed s.feed IsUnasked → NamedKept s → NamedKept (after f i s)
-named_after f (item.post place planned) s lossy up u h = kept_less s (posts planned (record s { steps = s.steps + 1 })) (posts_less planned s) h
-named_after f (item.dial planned) s lossy up u h = h
-named_after f (item.opened k) s lossy up u h =
+pub named_after : (f : SideFacts) (i : JournalItem) (s : State) → f.policy.lossy ≡ true → IfFed s.feed IsUnasked → NamedKept s → NamedKept (after f i s)
+named_after f (item.post place planned) s lossy u h = kept_less s (posts planned (record s { steps = s.steps + 1 })) (posts_less planned s) h
+named_after f (item.dial planned) s lossy u h = h
+named_after f (item.opened k) s lossy u h =
     let t = tells event.Dialled s in
     goes_on_named (course_of (opener_at_start f.node.entity f.peer) []) (silent_feed k true t.last t.owes) tt
-named_after f (item.read k bytes) s lossy up u h = at s.feed h
+named_after f (item.read k bytes) s lossy u h = at s.feed h
   where
     at : (o : Option Feed) → IfFed o (λ d. AreNamed d.texts) → NamedKept (on_feed_at o (λ d. reads f (hears bytes d)) s)
     at (Some d) texts =
         let e = hears bytes d in
         kept_less (with_feed e s) _ (heeds_less (event_heard f s.session.phase e) e s) (hears_named bytes d texts)
     at None texts = h
-named_after f (item.wrote k bytes) s lossy up u h = at s.feed u h
+named_after f (item.wrote k bytes) s lossy u h = at s.feed u h
   where
     at : (o : Option Feed) → IfFed o IsUnasked → IfFed o (λ d. AreNamed d.texts) → NamedKept (on_feed_at o (puts f bytes) s)
     at (Some d) u texts =
         let all = narrowed bytes (texts_at f s d) in
         puts_named (finished all) all d s (put_named f s d bytes lossy u texts) (narrowed_named bytes (texts_at f s d) (texts_named f s d lossy u texts))
     at None u texts = h
-named_after f (item.closed k broken) s lossy up u h = at (is_on k s.feed)
+named_after f (item.closed k broken) s lossy u h = at (is_on k s.feed)
   where
     at : (b : Bool) → NamedKept (if b then breaks s else forgets k s)
     at true = kept_less s (tells (event.Faulted (is_waiting s)) s) (tells_less (event.Faulted (is_waiting s)) s) h
     at false = h
-named_after f (item.judged k a n given unread trail) s lossy up u h = at (takes given)
+named_after f (item.judged k a n given unread trail) s lossy u h = at (takes given)
   where
     t : State
     t = tells_if (event_of f a n given) (notes k a n given s)
@@ -176,22 +175,22 @@ named_after f (item.judged k a n given unread trail) s lossy up u h = at (takes 
         named true = refl
         named false = refl
     at false = kept_less (notes k a n given s) t (tells_if_less (event_of f a n given) (notes k a n given s)) h
-named_after f (item.asked true n) s lossy up u h =
+named_after f (item.asked true n) s lossy u h =
     let t = tells (event.AskedIdent (cookie_of f n)) (record s { top = n }) in
     composes_named f (out.ident t.session.client_cookie n) t refl
-named_after f (item.asked false n) s lossy up u h =
+named_after f (item.asked false n) s lossy u h =
     let t = tells event.AskedReconnect (record s { top = n }) in
     composes_named f (out.reconnect t.session.client_cookie t.session.server_cookie n t.session.connect t.last) t refl
-named_after f (item.numbered n) s lossy up u h = writes_named f n (message_at (queues Next s).out.queue n) (queues Next s) h
-named_after f (item.accepted n key) s lossy up u h = at s.feed refl
+named_after f (item.numbered n) s lossy u h = writes_named f n (message_at (queues Next s).out.queue n) (queues Next s) h
+named_after f (item.accepted n key) s lossy u h = at s.feed refl
   where
     at : (o : Option Feed) → s.feed ≡ o → NamedKept (on_feed_at o (λ d. accepts n key (next_said s.last d) d) s)
     at None e = h
     at (Some d) e = kept_less s _ (accepts_less n key (next_said s.last d) d s e) h
-named_after f (item.acked n) s lossy up u h = h
-named_after f (item.obeyed full) s lossy up u h = at s.feed h
+named_after f (item.acked n) s lossy u h = h
+named_after f (item.obeyed full) s lossy u h = at s.feed h
   where
     at : (o : Option Feed) → IfFed o (λ d. AreNamed d.texts) → NamedKept (on_feed_at o (λ d t. tells (event.GotReset full) (with_feed (takes_answer d) t)) s)
     at (Some d) texts = kept_less (with_feed (takes_answer d) s) _ (tells_less (event.GotReset full) (with_feed (takes_answer d) s)) texts
     at None texts = h
-named_after f (item.down planned step) s lossy up u h = absurd up
+named_after f (item.down planned step) s lossy u h = kept_less s (tells event.MarkedDown s) (tells_less event.MarkedDown s) h

@@ -9,7 +9,7 @@ use Rattle.m2_channel.specs.Observed.{handed}
 use Rattle.m2_channel.proofs.Orders.{near-append, far-append}
 use Rattle.m2_dispatch.specs.Heard.{is_key, is_path}
 use Rattle.m2_dispatcher.specs.Laws.{IsSublist}
-use Rattle.m2_fitting.specs.Orders.{OrderEntry, near_entry, far_entry, near_half, far_half, entry_in, entries_of, near_side, far_side, IsByteHistory}
+use Rattle.m2_fitting.specs.Orders.{OrderEntry, near_entry, far_entry, near_half, far_half, entry_in, entries_of, near_side, far_side}
 use Rattle.m2_fitting.specs.Texts.{CanBePosted}
 use Rattle.m2_fitting.proofs.Lists.{all-front, all-back}
 use Rattle.m2_fitting.proofs.Orders.{lawful-front}
@@ -21,7 +21,6 @@ use Rattle.m2_journal.specs.Replay.{AreLawful}
 use Rattle.m2_journal.specs.SideFacts.{SideFacts}
 use Rattle.m2_journal.specs.State.{SentFrame, State, start}
 use Rattle.m2_message.specs.Message.{Content, priority_of, unnumbered}
-use Rattle.m2_paired.specs.Laws.{IsNoDown}
 use Rattle.m2_paired.specs.Orders as orders
 use Rattle.m2_paired.specs.Orders.{SideItem, near_item, far_item, near_items, far_items, near_after, far_after, posts_in}
 use Rattle.m2_paired.proofs.Sockets.{by_either, differ}
@@ -30,7 +29,7 @@ use Rattle.m2_policy.specs.declared.policy.Policy.{Policy}
 use Rattle.m2_policy.specs.Policy as policy
 use Rattle.m2_policy.specs.Policy.{allows, is_pair, same, lossless_client, lossless_peer, lossy_client, stateful_server, stateless_server}
 use Rattle.m2_queues.specs.Laws.{of_priority}
-use Rattle.m2_lossy.specs.Lossy.{BothComeOver, ComeOver, LossyComesInOrder}
+use Rattle.m2_lossy.specs.Lossy.{BothComeOver, ComeOver, IsByteOrder, LossyComesInOrder}
 use Rattle.m2_lossy.proofs.Both.{Both}
 use Rattle.m2_lossy.proofs.Frames.{Mail, messages_in, mails_in, plain}
 use Rattle.m2_lossy.proofs.Moves.{view}
@@ -139,7 +138,7 @@ named_turned f g n = record { near_lossy = n.far_lossy; far_lossy = n.near_lossy
 abbrev PointAt : (f g : SideFacts) → List OrderEntry → Type 0
 PointAt f g front = PointKept f g (near_items (entries_of front)) (far_items (entries_of front))
 
-module _ (sound : ReplaysAreSound) (f g : SideFacts) (n : AreNamed f g) (order : List OrderEntry) (h : IsByteHistory f g order) where
+module _ (sound : ReplaysAreSound) (f g : SideFacts) (n : AreNamed f g) (order : List OrderEntry) (h : IsByteOrder f g order) where
   abbrev nears : List OrderEntry → List JournalItem
   nears front = near_items (entries_of front)
 
@@ -159,7 +158,6 @@ module _ (sound : ReplaysAreSound) (f g : SideFacts) (n : AreNamed f g) (order :
       (h.bytes front (near_entry i ∷ back) (e ∙ append_assoc front (near_entry i ∷ []) back))
       (subst₂ (λ xs ys. BytesFit (side_at f xs (near_side f now).halves) (side_at g ys (far_side g now).halves)) near far (h.bytes now back e))
       (lawful-front f (nears front ++ i ∷ []) (nears back) (start f) (subst (λ xs. AreLawful f xs (start f)) whole h.near_lawful)).0
-      (all-back IsNoDown (nears front) (i ∷ []) (all-front IsNoDown (nears front ++ i ∷ []) (nears back) (subst (AllByRecursion IsNoDown) whole h.near_not_down))).0
       (all-back CanBePosted (nears front) (i ∷ []) (all-front CanBePosted (nears front ++ i ∷ []) (nears back) (subst (AllByRecursion CanBePosted) whole h.near_posts))).0)
     where
       subst₂ : {X Y : Type 0} (P : X → Y → Type 0) {x x' : X} {y y' : Y} → x ≡ x' → y ≡ y' → P x y → P x' y'
@@ -184,7 +182,6 @@ module _ (sound : ReplaysAreSound) (f g : SideFacts) (n : AreNamed f g) (order :
       (bytes_turned (side_at f (nears front) (near_side f now).halves) (side_at g (fars front ++ i ∷ []) (far_side g now).halves)
       (subst₂ (λ xs ys. BytesFit (side_at f xs (near_side f now).halves) (side_at g ys (far_side g now).halves)) near far (h.bytes now back e)))
       (lawful-front g (fars front ++ i ∷ []) (fars back) (start g) (subst (λ xs. AreLawful g xs (start g)) whole h.far_lawful)).0
-      (all-back IsNoDown (fars front) (i ∷ []) (all-front IsNoDown (fars front ++ i ∷ []) (fars back) (subst (AllByRecursion IsNoDown) whole h.far_not_down))).0
       (all-back CanBePosted (fars front) (i ∷ []) (all-front CanBePosted (fars front ++ i ∷ []) (fars back) (subst (AllByRecursion CanBePosted) whole h.far_posts))).0))
     where
       subst₂ : {X Y : Type 0} (P : X → Y → Type 0) {x x' : X} {y y' : Y} → x ≡ x' → y ≡ y' → P x y → P x' y'

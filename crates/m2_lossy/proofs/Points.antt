@@ -12,18 +12,21 @@ use Rattle.m2_trail.specs.Trails.{HalfBytes}
 use Rattle.m2_fitting.proofs.Bounded.{RestIsBounded, rest_after}
 use Rattle.m2_fitting.proofs.Composed.{AreComposed, can_be_sent, taken_in, unasked_so}
 use Rattle.m2_fitting.proofs.Entries.{FeedSo, entry_keeps}
-use Rattle.m2_fitting.proofs.Hands.{HandKept, hand_keeps}
+use Rattle.m2_fitting.proofs.Hands.{HandKept, HandSo, closing, hand_keeps}
+use Rattle.m2_fitting.proofs.Less.{less_trans, tells_less, untouched}
 use Rattle.m2_fitting.proofs.Hears.{NoAskBehind, near_hears}
 use Rattle.m2_fitting.proofs.Points.{Known, turn, near_judges}
-use Rattle.m2_fitting.proofs.Steps.{AllKept}
+use Rattle.m2_fitting.proofs.Steps.{AllKept, kept_in_less, kept_quietly}
+use Rattle.m2_journal.specs.Items as item
 use Rattle.m2_journal.specs.Items.{JournalItem}
+use Rattle.m2_journal.specs.Plan.{Planned}
 use Rattle.m2_journal.specs.Lawful.{Lawful, judged_on, judged_sockets}
 use Rattle.m2_journal.specs.Laws.{IfFed, ReplaysAreSound, taken_among}
 use Rattle.m2_journal.specs.Replay.{AreLawful, after_items}
 use Rattle.m2_journal.specs.Said.{says}
 use Rattle.m2_journal.specs.SideFacts.{SideFacts}
 use Rattle.m2_journal.specs.State.{Feed, Judgement, SentFrame, State, start}
-use Rattle.m2_journal.specs.Steps.{after}
+use Rattle.m2_journal.specs.Steps.{after, tells}
 use Rattle.m2_journal.proofs.Growing.{after-append}
 use Rattle.m2_paired.specs.Fits.{AreItsAsks, HearsAt}
 use Rattle.m2_paired.specs.Frames.{answers_on, asks_on}
@@ -33,12 +36,13 @@ use Rattle.m2_paired.proofs.Answered.{next_of}
 use Rattle.m2_paired.proofs.Read.{is_ident}
 use Rattle.m2_paired.proofs.Sockets.{differ, at_among}
 use Rattle.m2_session.specs.Laws as session
+use Rattle.m2_session.specs.declared.event.Event.TheVariants as event
 use Rattle.m2_session.specs.declared.session.Phase.{Phase}
 use Rattle.m2_session.specs.declared.session.Phase.TheVariants as phase
 use Rattle.m2_fitting.proofs.Orders.{lawful-front}
 use Rattle.m2_lossy.proofs.Both.{Both, HasAcceptance, HasHeard, client_moves, server_moves}
 use Rattle.m2_lossy.proofs.Entries.{HasGotFor, IsLossySide, IsMoveOf, entry_moves}
-use Rattle.m2_lossy.proofs.Moves.{Spot, View, Move, rests, posts, opens, leaves, refuses, takes_on, asks, settles, numbers, accepts, moved, posted_by, May, IfSpot, spot_of, view}
+use Rattle.m2_lossy.proofs.Moves.{Spot, View, Move, rests, posts, opens, leaves, gives_up, refuses, takes_on, asks, settles, numbers, accepts, moved, posted_by, May, IfSpot, spot_of, view}
 use Rattle.m2_lossy.proofs.Named.{NamedKept, named_after}
 use Rattle.m2_lossy.proofs.Posted.{IsPosted, posted_after}
 use Rattle.m2_lossy.proofs.Sides.{SideIs, StandsIn, side_after}
@@ -201,6 +205,7 @@ heard_for rests v t theirs e heard got = tt
 heard_for (posts m) v t theirs e heard got = tt
 heard_for (opens k) v t theirs e heard got = tt
 heard_for (leaves p thrown) v t theirs e heard got = tt
+heard_for gives_up v t theirs e heard got = tt
 heard_for (refuses k ws item) v t theirs e heard got = tt
 heard_for (takes_on k c g item) v t theirs e heard got = tt
 heard_for (asks c g) v t theirs e heard got = tt
@@ -213,6 +218,7 @@ still_unopened f theirs (opens k) v server may e = differ (sym may.client ∙ se
 still_unopened f theirs rests v server may e = e
 still_unopened f theirs (posts m) v server may e = e
 still_unopened f theirs (leaves p thrown) v server may e = e
+still_unopened f theirs gives_up v server may e = e
 still_unopened f theirs (refuses k ws item) v server may e = e
 still_unopened f theirs (takes_on k c g item) v server may e = e
 still_unopened f theirs (asks c g) v server may e = e
@@ -224,6 +230,51 @@ posts_more : (is js : List JournalItem) → posts_in (is ++ js) ≡ posts_in is 
 posts_more [] js = refl
 posts_more (i ∷ is) js = ap (λ l. posted_in i ++ l) (posts_more is js) ∙ sym (append_assoc (posted_in i) (posts_in is) (posts_in js))
 
+-- ---- an entry that marks the side down, and any other
+
+record IsDown (i : JournalItem) : Type 0 where
+  planned : Bool
+  step : Option Planned
+  is : i ≡ item.down planned step
+
+down_or_not : (i : JournalItem) → IsNoDown i ⊎ IsDown i
+down_or_not (item.post place planned) = inl tt
+down_or_not (item.dial planned) = inl tt
+down_or_not (item.opened k) = inl tt
+down_or_not (item.read k bytes) = inl tt
+down_or_not (item.wrote k bytes) = inl tt
+down_or_not (item.closed k broken) = inl tt
+down_or_not (item.judged k ask number given unread trail) = inl tt
+down_or_not (item.asked ident number) = inl tt
+down_or_not (item.numbered number) = inl tt
+down_or_not (item.accepted number key) = inl tt
+down_or_not (item.acked number) = inl tt
+down_or_not (item.obeyed full) = inl tt
+down_or_not (item.down planned step) = inr record { planned = planned; step = step; is = refl }
+
+down_keeps : (f : SideFacts) (is : List JournalItem) (planned : Bool) (step : Option Planned) (s : State) → AllKept f is s → AllKept f (is ++ item.down planned step ∷ []) (after f (item.down planned step) s)
+down_keeps f is planned step s h =
+    let t = tells event.MarkedDown s in
+    kept_quietly f is (item.down planned step) (after f (item.down planned step) s) (λ k. record { read = refl; wrote = refl; taken = refl })
+    (kept_in_less f is s (after f (item.down planned step) s) (less_trans s t (after f (item.down planned step) s) (tells_less event.MarkedDown s) (untouched t (after f (item.down planned step) s) refl refl refl refl)) h)
+
+any_keeps : (f : SideFacts) (is : List JournalItem) (i : JournalItem) (s : State) → Lawful f i s → HandKept s → IfFed s.feed (FeedSo s) → AllKept f is s → AllKept f (is ++ i ∷ []) (after f i s)
+any_keeps f is i s l hand so h = at (down_or_not i)
+  where
+    at : IsNoDown i ⊎ IsDown i → AllKept f (is ++ i ∷ []) (after f i s)
+    at (inl up) = entry_keeps f is i s up l hand so h
+    at (inr d) = subst (λ j. AllKept f (is ++ j ∷ []) (after f j s)) (sym d.is) (down_keeps f is d.planned d.step s h)
+
+any_hand : (f : SideFacts) (i : JournalItem) (s : State) → Lawful f i s → HandKept s → HandKept (after f i s)
+any_hand f i s l h = at (down_or_not i)
+  where
+    fed_nothing : (planned : Bool) (step : Option Planned) → HandKept (after f (item.down planned step) s)
+    fed_nothing planned step = subst (λ o. IfFed o (HandSo (after f (item.down planned step) s))) (sym (closing event.MarkedDown s refl)) tt
+
+    at : IsNoDown i ⊎ IsDown i → HandKept (after f i s)
+    at (inl up) = hand_keeps f i s up l h
+    at (inr d) = subst (λ j. HandKept (after f j s)) (sym d.is) (fed_nothing d.planned d.step)
+
 -- ---- an entry more
 
 pub record AreNamed (f g : SideFacts) : Type 0 where
@@ -234,7 +285,7 @@ pub record AreNamed (f g : SideFacts) : Type 0 where
 
 module _ (sound : ReplaysAreSound) (f g : SideFacts) (n : AreNamed f g) (is js : List JournalItem) (i : JournalItem) (p q p' q' : SocketId → HalfBytes) (h : PointKept f g is js)
     (bytes : BytesFit (side_at f is p) (side_at g js q)) (bytes' : BytesFit (side_at f (is ++ i ∷ []) p') (side_at g js q')) (all_lawful : AreLawful f (is ++ i ∷ []) (start f))
-    (up : IsNoDown i) (can : CanBePosted i) where
+    (can : CanBePosted i) where
   abbrev a : State
   a = state_at f is
 
@@ -266,13 +317,13 @@ module _ (sound : ReplaysAreSound) (f g : SideFacts) (n : AreNamed f g) (is js :
   }
 
   move : IsMoveOf f b.sent i a
-  move = entry_moves f a b.sent its i up l
+  move = entry_moves f a b.sent its i l
 
   side' : SideIs f (view t)
   side' = subst (SideIs f) (sym move.is) (side_after f b.sent (view a) its.side move.move move.may)
 
   kept' : AllKept f (is ++ i ∷ []) t
-  kept' = entry_keeps f is i a up l h.near.hand (feed_so f a its.side) h.near.kept
+  kept' = any_keeps f is i a l h.near.hand (feed_so f a its.side) h.near.kept
 
   state_is : state_at f (is ++ i ∷ []) ≡ t
   state_is = after-append f is (i ∷ []) (start f)
@@ -281,9 +332,9 @@ module _ (sound : ReplaysAreSound) (f g : SideFacts) (n : AreNamed f g) (is js :
   near' = record {
     kept = kept';
     lawful = all_lawful;
-    hand = hand_keeps f i a up l h.near.hand;
+    hand = any_hand f i a l h.near.hand;
     rest = rest_after f i a can (taken_in f g i a b.sent l h.far.composed hears) (unasked_so a.feed b.sent hears) h.near.rest;
-    named = named_after f i a n.near_lossy up (unasked_so a.feed b.sent hears) h.near.named;
+    named = named_after f i a n.near_lossy (unasked_so a.feed b.sent hears) h.near.named;
     composed = move.composed;
     posted =
         subst (λ ms. IsPosted ms (view t)) (sym (posts_more is (i ∷ []) ∙ ap (λ l. posts_in is ++ l) (append-nil (posted_in i) ∙ move.posted)))

@@ -15,7 +15,7 @@ use Rattle.m2_queues.specs.Laws.{of_priority}
 use Rattle.m2_session.specs.declared.session.Phase.{Phase}
 use Rattle.m2_session.specs.declared.session.Phase.TheVariants as phase
 use Rattle.m2_lossy.proofs.Frames.{IsMute, Mail, mail_of, mails_in, mute_says_nothing}
-use Rattle.m2_lossy.proofs.Moves.{Spot, View, Move, rests, posts, opens, leaves, refuses, takes_on, asks, settles, numbers, accepts, moved, posted_by, May, on_socket, sent_on}
+use Rattle.m2_lossy.proofs.Moves.{Spot, View, Move, rests, posts, opens, leaves, gives_up, refuses, takes_on, asks, settles, numbers, accepts, moved, posted_by, May, on_socket, sent_on}
 use Rattle.m2_lossy.proofs.Sides.{SideIs, StandsIn}
 use Rattle.m2_lossy.proofs.Sublists.{some_both, some_front, some_itself}
 
@@ -60,11 +60,16 @@ module _ (f : SideFacts) (theirs : List SentFrame) (posted : List Content) (v : 
       (subst (λ l. IsSublist l (of_priority p posted ++ M)) (append_assoc C W M)
       (some_both (C ++ W) (of_priority p posted) M M (is p) (some_itself M))))
 
-  left : (q : Phase) (thrown : Bool) → IsPosted (posted ++ []) (moved (leaves q thrown) v)
-  left q true = λ p.
-      subst (λ l. IsSublist (of_priority p (composed v.sent) ++ []) (of_priority p l)) (sym (append-nil posted))
+  all_thrown : (w : View) → w.sent ≡ v.sent → w.queue.waiting ≡ [] → IsPosted (posted ++ []) w
+  all_thrown w e q p =
+      subst (λ l. IsSublist (of_priority p (composed l) ++ of_priority p w.queue.waiting) (of_priority p (posted ++ []))) (sym e)
+      (subst (λ l. IsSublist (of_priority p (composed v.sent) ++ of_priority p l) (of_priority p (posted ++ []))) (sym q)
+      (subst (λ l. IsSublist (of_priority p (composed v.sent) ++ []) (of_priority p l)) (sym (append-nil posted))
       (subst (λ l. IsSublist l (of_priority p posted)) (sym (append-nil (of_priority p (composed v.sent))))
-      (some_front (of_priority p (composed v.sent)) (of_priority p v.queue.waiting) (of_priority p posted) (is p)))
+      (some_front (of_priority p (composed v.sent)) (of_priority p v.queue.waiting) (of_priority p posted) (is p)))))
+
+  left : (q : Phase) (thrown : Bool) → IsPosted (posted ++ []) (moved (leaves q thrown) v)
+  left q true = all_thrown (moved (leaves q true) v) refl refl
   left q false = unposted (moved (leaves q false) v) refl refl
 
   one_numbered : (n : ℕ) (m : Content) → May f theirs (numbers n m) v → IsPosted (posted ++ []) (moved (numbers n m) v)
@@ -91,6 +96,7 @@ module _ (f : SideFacts) (theirs : List SentFrame) (posted : List Content) (v : 
   posted_after (posts m) may = one_posted m
   posted_after (opens k) may = unposted (moved (opens k) v) refl refl
   posted_after (leaves q thrown) may = left q thrown
+  posted_after gives_up may = all_thrown (moved gives_up v) refl refl
   posted_after (refuses k ws item) may = unposted (moved (refuses k ws item) v) (nothing_more v.sent (on_socket k ws) (none_muted k ws may.mute)) refl
   posted_after (takes_on k c g item) may = unposted (moved (takes_on k c g item) v) (nothing_more v.sent (record { socket = k; frame = out.server_ident c g } ∷ []) refl) refl
   posted_after (asks c g) may = unposted (moved (asks c g) v) (nothing_more v.sent (sent_on v.feed (out.ident c g)) (none_asked v.feed c g)) refl

@@ -18,7 +18,7 @@ use Rattle.m2_paired.specs.Frames.{is_ask, answers_on}
 use Rattle.m2_session.specs.declared.session.Phase.{Phase}
 use Rattle.m2_session.specs.declared.session.Phase.TheVariants as phase
 use Rattle.m2_lossy.proofs.Frames.{AreNumbered, Mail, mail_of, mails_on, mails_in, plain, messages_on, messages_in, numbered_at, on_is_some, stands_on}
-use Rattle.m2_lossy.proofs.Moves.{Spot, View, Move, rests, posts, opens, leaves, refuses, takes_on, asks, settles, numbers, accepts, moved, May, IsBrought, OnSpot}
+use Rattle.m2_lossy.proofs.Moves.{Spot, View, Move, rests, posts, opens, leaves, gives_up, refuses, takes_on, asks, settles, numbers, accepts, moved, May, IsBrought, OnSpot}
 use Rattle.m2_lossy.proofs.Sublists.{some_both, some_first, some_of_some}
 
 -- ---- frames in two parts
@@ -190,6 +190,7 @@ module _ (f : SideFacts) (sent : List SentFrame) (r : View) (h : Reads r sent) w
   reads_after (posts m) numbered may fresh = still (moved (posts m) r) refl h.feed
   reads_after (opens k) numbered may fresh = anew (moved (opens k) r) refl (record { fresh = fresh; first = (messages_on k sent, refl); count = refl })
   reads_after (leaves p thrown) numbered may fresh = anew (moved (leaves p thrown) r) refl refl
+  reads_after gives_up numbered may fresh = anew (moved gives_up r) refl refl
   reads_after (refuses k ws item) numbered may fresh = still (moved (refuses k ws item) r) refl h.feed
   reads_after (takes_on k c g item) numbered may fresh = anew (moved (takes_on k c g item) r) refl (record { fresh = fresh; first = (messages_on k sent, refl); count = refl })
   reads_after (asks c g) numbered may fresh = asked c g may

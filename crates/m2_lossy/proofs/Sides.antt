@@ -27,7 +27,7 @@ use Rattle.m2_session.specs.Laws as session
 use Rattle.m2_session.specs.declared.session.Phase.{Phase}
 use Rattle.m2_session.specs.declared.session.Phase.TheVariants as phase
 use Rattle.m2_lossy.proofs.Frames.{AreNumbered, IsMute, mail_of, mails_on, mails_here, mails_elsewhere, mails_same, mute_no_mails, mute_says_nothing, SaysNothing, numbered_more}
-use Rattle.m2_lossy.proofs.Moves.{Spot, View, Move, rests, posts, opens, leaves, refuses, takes_on, asks, settles, numbers, accepts, moved, May, IsAway, LeavesSo, judgement, on_socket, sent_first, thrown_away}
+use Rattle.m2_lossy.proofs.Moves.{Spot, View, Move, rests, posts, opens, leaves, gives_up, refuses, takes_on, asks, settles, numbers, accepts, moved, May, IsAway, LeavesSo, judgement, on_socket, sent_first, thrown_away}
 
 -- ---- sockets
 
@@ -371,6 +371,9 @@ module _ (f : SideFacts) (theirs : List SentFrame) (v : View) (h : SideIs f v) w
       none true l = refl
       none false l = cookie_in v v.feed (subst (λ q. StandsIn v q v.feed) l h.stands)
 
+  after_giving_up : SideIs f (moved gives_up v)
+  after_giving_up = record { stands = refl; queue = plain_thrown true v.queue h.queue; frames = h.frames; keys = h.keys }
+
   after_refusal : (k : SocketId) (ws : List OutFrame) (item : JudgedItem) → May f theirs (refuses k ws item) v → SideIs f (moved (refuses k ws item) v)
   after_refusal k ws item may = record {
     stands = stands_still v (moved (refuses k ws item) v) (record {
@@ -466,6 +469,7 @@ module _ (f : SideFacts) (theirs : List SentFrame) (v : View) (h : SideIs f v) w
   side_after (posts m) may = after_post_move m
   side_after (opens k) may = after_open k may
   side_after (leaves p thrown) may = after_leave p thrown may
+  side_after gives_up may = after_giving_up
   side_after (refuses k ws item) may = after_refusal k ws item may
   side_after (takes_on k cookie global item) may = after_taking k cookie global item may
   side_after (asks cookie global) may = after_ask cookie global may
