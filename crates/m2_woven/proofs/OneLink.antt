@@ -1,7 +1,7 @@
 -- A link that is woven: one side has opened a socket and written its banner, and a half of the other side has read it.
 use Rattle.std.specs.Prelude.{◌≡◌, ◌≢◌, ℕ, zero, suc, ◌<◌, ◌^◌, ◌==◌, ◌&&◌, Bool, true, false, List, [], ◌∷◌, length, take, Some, None, refl}
 use Rattle.std.proofs.Common.{arith}
-use Rattle.std.specs.List.{IsDistinct}
+use Rattle.std.specs.List.{AllByRecursion, IsDistinct}
 use Rattle.std.specs.Borrow.{Bor}
 use Rattle.m2_crc.specs.Crc.{after_byte, shifted, shifted_by}
 use Rattle.m2_frame.specs.Reading.{judge, judge_first, judge_later, judge_epilogue}
@@ -43,7 +43,8 @@ use Rattle.m2_trail.specs.Trails.{ComesToWrite, begins, got_by, opener_of, put_b
 use Rattle.m2_weave.specs.declared.table.SocketBytes.{SocketBytes}
 use Rattle.m2_woven.specs.Laws.{ALinkIsWoven}
 use Rattle.m2_woven.specs.Actors.{part_of}
-use Rattle.m2_woven.specs.Link.{IsLink, IsLooseBeside, IsOrderOf, IsQuietSide, IsSideOf, LinkNow, items_by, order_of, same_end}
+use Rattle.m2_fitting.specs.Texts.{CanBePosted}
+use Rattle.m2_woven.specs.Link.{IsLink, IsLooseBeside, IsOrderOf, IsSideOf, LinkNow, AreUp, items_by, items_in, order_of, same_end}
 
 abbrev k : SocketId
 k = socket 1
@@ -187,9 +188,13 @@ sides : (s : Bool) → IsSideOf (facts_by s) (plan_by s) (part_of it.both s)
 sides true = record { lawful = lawful_near; ends = (holds, tt); trails = record { sockets = refl; each = tt } }
 sides false = record { lawful = tt; ends = tt; trails = record { sockets = refl; each = tt } }
 
-quiet : (s : Bool) → IsQuietSide (plan_by s) (part_of it.both s)
-quiet true = record { up = (tt, (tt, (tt, tt))); posts = (tt, (tt, (tt, tt))) }
-quiet false = record { up = tt; posts = tt }
+are_up : AreUp it
+are_up true = (tt, (tt, (tt, tt)))
+are_up false = tt
+
+can_post : (s : Bool) → AllByRecursion CanBePosted (items_in (plan_by s) (part_of it.both s))
+can_post true = (tt, (tt, (tt, tt)))
+can_post false = tt
 
 apart : IsDistinct same_end (ends_of it.both)
 unfolding IsDistinct
@@ -199,7 +204,7 @@ link_is : IsLink it
 link_is = record {
   sides = sides;
   joined = record {
-    quiet = quiet;
+    posts = can_post;
     loose = (λ e. half_whole, tt);
     apart = apart;
     named = named;
@@ -255,6 +260,7 @@ one_link = record {
   order = order;
   nodes = record { allowed = refl; near_keeps = refl; far_keeps = refl; places = apart_places; near_salt = ltb-true 5 (2 ^ 16) refl; far_salt = ltb-true 6 (2 ^ 16) refl };
   is_link = link_is;
+  up = are_up;
   is_order = order_is;
   socket = k;
   read = some_read;

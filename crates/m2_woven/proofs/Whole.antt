@@ -13,20 +13,29 @@ use Rattle.m2_fitting.specs.Orders.{BytesGiveFits, IsByteHistory, LosslessBytesA
 use Rattle.m2_fitting.specs.Halves.{BytesFit}
 use Rattle.m2_fitting.specs.Texts.{CanBePosted}
 use Rattle.m2_fitting.specs.Trails.{TrailsTellEachPoint}
-use Rattle.m2_history.specs.Delivered.{PostedIsDelivered}
+use Rattle.m2_channel.specs.Observed.{all_of as dispatched_by}
+use Rattle.m2_dispatch.specs.Heard as heard
+use Rattle.m2_dispatcher.specs.Laws.{IsSublist}
+use Rattle.m2_history.specs.Counted.{posted}
+use Rattle.m2_history.specs.Delivered.{CountsAreOfTheItems, PostedIsDelivered}
 use Rattle.m2_history.specs.HalfStrands.{OrdersGivePoints, strand_of}
 use Rattle.m2_history.specs.Parts.{PartsNow}
 use Rattle.m2_history.specs.Woven.{BothNow, EndNow, as_judged, end_of, is_of_link, judged_times, loose_ends, loose_strand, loose_strands, row_now, rows_of, ends_of, strands_of, strands_of_side}
 use Rattle.m2_journal.specs.declared.entry.Entry.{Entry}
-use Rattle.m2_journal.specs.Items.{at_start, items_of}
+use Rattle.m2_journal.specs.Items.{JournalItem, at_start, items_of}
 use Rattle.m2_journal.specs.Lawful.{judged_on}
 use Rattle.m2_journal.specs.Replay.{AreLawful}
+use Rattle.m2_journal.specs.SideFacts.{SideFacts}
 use Rattle.m2_journal.specs.State.{start}
+use Rattle.m2_lossy.specs.Lossy.{BothComeOver, IsByteOrder, LossyComesInOrder}
 use Rattle.m2_merge.specs.Order as merge
 use Rattle.m2_merge.specs.Order.{Cut, Rule, come, come_all, nothing}
 use Rattle.m2_paired.specs.Laws.{IsNoDown}
-use Rattle.m2_paired.specs.Orders.{far_items, near_items}
+use Rattle.m2_message.specs.Message.{unnumbered}
+use Rattle.m2_paired.specs.Orders as orders
+use Rattle.m2_paired.specs.Orders.{far_items, near_items, posts_in}
 use Rattle.m2_paired.proofs.Sockets.{differ, same_refl}
+use Rattle.m2_policy.specs.declared.path.Key.{Key}
 use Rattle.m2_record.specs.RecordNow.{feed_end, ids_of, ends_of as ends_of_record}
 use Rattle.m2_record.specs.Sources.{log_at, read_before, trail_at, unread_of, written_before}
 use Rattle.m2_record.specs.TakenTrails.{IsKeptTrail, judgements_in, taken_in}
@@ -41,7 +50,8 @@ use Rattle.m2_weave.specs.Strands.{StrandNow, journal_of}
 use Rattle.m2_weave.specs.Table.{bytes_of}
 use Rattle.m2_woven.specs.Actors.{Actor, of_record, of_half, actors_of, actors_of_side, is_near, journal_by, loose_actor, loose_actors, part_of, strand_by, taken_half, trail_by}
 use Rattle.m2_woven.specs.Laws.{RecordsAreSides, WovenBytesFit, WovenIsDelivered, WovenIsNeverReset, kept_by}
-use Rattle.m2_woven.specs.Link.{IsLink, IsLooseBeside, IsOrderOf, LinkNow, items_by, order_of, same_end, sources_in, trails_of}
+use Rattle.m2_woven.specs.Lossy.{ComesInOrder, WovenComesInOrder}
+use Rattle.m2_woven.specs.Link.{AreUp, IsLink, IsLooseBeside, IsOrderOf, LinkNow, items_by, order_of, same_end, sources_in, trails_of}
 use Rattle.m2_woven.proofs.Alone.{alone_there}
 use Rattle.m2_woven.proofs.Along.{asked_there, at_first, begins_there, fits_there, front, items_so, read_there}
 use Rattle.m2_woven.proofs.Bytes.{HasBytes, HasEnd, IsOf, end_there, of_left, of_right}
@@ -384,25 +394,36 @@ module _ (read : ReadWasWritten) (asked : AsksComeFirst) (points : OrdersGivePoi
       subst (λ m. BytesFit (near_side (l.facts true) m) (far_side (l.facts false) m)) p.entries
       (fits_there y sc p.first points tell (record { read = read_there y read p.first lawful; asked = asked_there y asked p.first lawful; alone = alone }) link.joined.named)
 
-  byte_history : IsByteHistory (l.facts true) (l.facts false) (order_of l order)
-  byte_history = record {
+  pub near_whole : near_items (entries_of (order_of l order)) ≡ items_by l true
+  near_whole = near_entries (order_of l order) ∙ whole_journal true
+
+  pub far_whole : far_items (entries_of (order_of l order)) ≡ items_by l false
+  far_whole = far_entries (order_of l order) ∙ whole_journal false
+
+  byte_order : IsByteOrder (l.facts true) (l.facts false) (order_of l order)
+  byte_order = record {
     near_named = link.joined.named true;
     far_named = link.joined.named false;
-    peers = link.joined.peers;
-    near_lawful = subst (λ is. AreLawful (l.facts true) is (start (l.facts true))) (sym near) (link.sides true).lawful;
-    far_lawful = subst (λ is. AreLawful (l.facts false) is (start (l.facts false))) (sym far) (link.sides false).lawful;
-    near_not_down = subst (AllByRecursion IsNoDown) (sym near) (link.joined.quiet true).up;
-    far_not_down = subst (AllByRecursion IsNoDown) (sym far) (link.joined.quiet false).up;
-    near_posts = subst (AllByRecursion CanBePosted) (sym near) (link.joined.quiet true).posts;
-    far_posts = subst (AllByRecursion CanBePosted) (sym far) (link.joined.quiet false).posts;
+    near_lawful = subst (λ is. AreLawful (l.facts true) is (start (l.facts true))) (sym near_whole) (link.sides true).lawful;
+    far_lawful = subst (λ is. AreLawful (l.facts false) is (start (l.facts false))) (sym far_whole) (link.sides false).lawful;
+    near_posts = subst (AllByRecursion CanBePosted) (sym near_whole) (link.joined.posts true);
+    far_posts = subst (AllByRecursion CanBePosted) (sym far_whole) (link.joined.posts false);
     bytes = throughout;
   }
-    where
-      near : near_items (entries_of (order_of l order)) ≡ items_by l true
-      near = near_entries (order_of l order) ∙ whole_journal true
 
-      far : far_items (entries_of (order_of l order)) ≡ items_by l false
-      far = far_entries (order_of l order) ∙ whole_journal false
+  byte_history : AreUp l → IsByteHistory (l.facts true) (l.facts false) (order_of l order)
+  byte_history up = record {
+    near_named = byte_order.near_named;
+    far_named = byte_order.far_named;
+    peers = link.joined.peers;
+    near_lawful = byte_order.near_lawful;
+    far_lawful = byte_order.far_lawful;
+    near_not_down = subst (AllByRecursion IsNoDown) (sym near_whole) (up true);
+    far_not_down = subst (AllByRecursion IsNoDown) (sym far_whole) (up false);
+    near_posts = byte_order.near_posts;
+    far_posts = byte_order.far_posts;
+    bytes = throughout;
+  }
 
 -- ---- the laws
 
@@ -410,28 +431,50 @@ by_actors : (l : LinkNow) (order : List ℕ) → IsLink l → (o : IsOrderOf l o
 by_actors l order link o = subst (λ ss. IsWoven (record { strands = ss; bytes = bytes_of o.sockets }) order) (sym (strands_are l.both link.joined.loose)) o.woven
 
 pub bytes_fit_throughout : ReadWasWritten → AsksComeFirst → OrdersGivePoints → TrailsTellEachPoint → WovenBytesFit
-bytes_fit_throughout read asked points tell l order link o = byte_history read asked points tell l o.sockets link o.rows order (by_actors l order link o)
+bytes_fit_throughout read asked points tell l order link o = record {
+  order = byte_order read asked points tell l o.sockets link o.rows order (by_actors l order link o);
+  history = byte_history read asked points tell l o.sockets link o.rows order (by_actors l order link o);
+}
 
 pub never_reset : WovenBytesFit → BytesGiveFits → LosslessBytesAreNeverReset → WovenIsNeverReset
-never_reset fit gives never l order nodes link o =
-    let bytes = fit l order link o in
+never_reset fit gives never l order nodes link up o =
+    let bytes = (fit l order link o).history up in
     record {
       history = gives (l.facts true) (l.facts false) (order_of l order) nodes bytes;
       never_reset = never (l.facts true) (l.facts false) (order_of l order) nodes bytes;
     }
 
 pub delivered : ReadWasWritten → AsksComeFirst → OrdersGivePoints → TrailsTellEachPoint → WovenIsNeverReset → PostedIsDelivered → WovenIsDelivered
-delivered read asked points tell so posted l order near_logs far_logs nodes link o logs =
-    posted (l.facts true) (l.facts false) (entries_of (order_of l order)) (kept_by l true) (kept_by l false) near_logs far_logs nodes (so l order nodes link o).history
+delivered read asked points tell so posted l order near_logs far_logs nodes link up o logs =
+    posted (l.facts true) (l.facts false) (entries_of (order_of l order)) (kept_by l true) (kept_by l false) near_logs far_logs nodes (so l order nodes link up o).history
     (record {
       near_plan = refl;
       far_plan = refl;
-      near_items = near_entries (order_of l order) ∙ all true;
-      far_items = far_entries (order_of l order) ∙ all false;
+      near_items = near_whole read asked points tell l o.sockets link o.rows order (by_actors l order link o);
+      far_items = far_whole read asked points tell l o.sockets link o.rows order (by_actors l order link o);
     }) logs
+
+-- what is dispatched of a lossy link is some of what was posted
+pub comes_in_order : ReadWasWritten → AsksComeFirst → OrdersGivePoints → TrailsTellEachPoint → WovenBytesFit → LossyComesInOrder → CountsAreOfTheItems → WovenComesInOrder
+comes_in_order read asked points tell fit comes counts l order near_logs far_logs nodes link o logs = record { near = near; far = far }
   where
-    all : (s : Bool) → flat_map (item_in s) (order_of l order) ≡ items_by l s
-    all s = whole_journal read asked points tell l o.sockets link o.rows order (by_actors l order link o) s
+    come : BothComeOver (l.facts true) (l.facts false) (entries_of (order_of l order))
+    come = comes (l.facts true) (l.facts false) (order_of l order) nodes (fit l order link o).order
+
+    -- of each key what a side has posted
+    posts : (s : Bool) (g : SideFacts) (entries : List JournalItem) → entries ≡ items_by l s → (key : Key) →
+        orders.of_key g key (map unnumbered (posts_in entries)) ≡ map unnumbered (posted (kept_by l s).plan g.node.fast key (kept_by l s).journal)
+    posts s g entries e key = ap (λ is. orders.of_key g key (map unnumbered (posts_in is))) e ∙ sym ((counts (l.facts s) (kept_by l s) refl (link.sides s).lawful).posted g key)
+
+    near : ComesInOrder (l.facts true) (l.facts false) (kept_by l true) far_logs
+    near key =
+        subst (IsSublist (map unnumbered (heard.of_key (l.facts true).node.number key (dispatched_by far_logs)))) (posts true (l.facts false) (near_items (entries_of (order_of l order))) (near_whole read asked points tell l o.sockets link o.rows order (by_actors l order link o)) key)
+        (come.far.dispatched far_logs logs.far key)
+
+    far : ComesInOrder (l.facts false) (l.facts true) (kept_by l false) near_logs
+    far key =
+        subst (IsSublist (map unnumbered (heard.of_key (l.facts false).node.number key (dispatched_by near_logs)))) (posts false (l.facts true) (far_items (entries_of (order_of l order))) (far_whole read asked points tell l o.sockets link o.rows order (by_actors l order link o)) key)
+        (come.near.dispatched near_logs logs.near key)
 
 -- ---- records
 

@@ -16,6 +16,7 @@ use Rattle.m2_weave.specs.Stops.{IsWoven}
 use Rattle.m2_weave.specs.Table.{bytes_of}
 use Rattle.m2_woven.specs.Actors.{part_of}
 use Rattle.m2_woven.specs.Laws.{AreLossless, IsDeliveredIn, IsUnreset, RecordsAreSides, WovenIsDelivered, WovenIsNeverReset, link_of, strands_in}
+use Rattle.m2_woven.specs.Lossy.{AreOfLossy, IsInOrderIn, WovenComesInOrder}
 use Rattle.m2_woven.specs.Link.{AreJoined, IsLink, IsOrderOf, IsSideOf, LinkNow}
 
 steps_named : (at : Cut) (order : List ℕ) → map (λ (s : HistoryStep). s.strand) (steps_from at order) ≡ order
@@ -42,9 +43,13 @@ module _ (a b : RecordNow) (loose : List LooseNow) (sides : RecordsAreSides) (of
   }
 
   pub unreset : (result : Result History WeaveFault) → WovenIsNeverReset → WeavesRecords result (both_of a b loose) → IfOk result (IsUnreset l)
-  unreset (Ok h) never w = λ (lossless : AreLossless l). (never l (strands_in h) lossless.nodes (link_is lossless.joined) (order_is h w)).never_reset
+  unreset (Ok h) never w = λ (lossless : AreLossless l). (never l (strands_in h) lossless.nodes (link_is lossless.joined) lossless.up (order_is h w)).never_reset
   unreset (Err e) never w = tt
 
   pub delivered_in : (near_logs far_logs : Logs) (result : Result History WeaveFault) → WovenIsDelivered → WeavesRecords result (both_of a b loose) → IfOk result (IsDeliveredIn l near_logs far_logs)
-  delivered_in near_logs far_logs (Ok h) so w = λ (lossless : AreLossless l). so l (strands_in h) near_logs far_logs lossless.nodes (link_is lossless.joined) (order_is h w)
+  delivered_in near_logs far_logs (Ok h) so w = λ (lossless : AreLossless l). so l (strands_in h) near_logs far_logs lossless.nodes (link_is lossless.joined) lossless.up (order_is h w)
   delivered_in near_logs far_logs (Err e) so w = tt
+
+  pub in_order_in : (near_logs far_logs : Logs) (result : Result History WeaveFault) → WovenComesInOrder → WeavesRecords result (both_of a b loose) → IfOk result (IsInOrderIn l near_logs far_logs)
+  in_order_in near_logs far_logs (Ok h) so w = λ (lossy : AreOfLossy l). so l (strands_in h) near_logs far_logs lossy.nodes (link_is lossy.joined) (order_is h w)
+  in_order_in near_logs far_logs (Err e) so w = tt

@@ -8,12 +8,13 @@ use Rattle.m2_fitting.specs.Orders.{IsByteHistory, entries_of, far_side}
 use Rattle.m2_history.specs.declared.history.History.{History}
 use Rattle.m2_history.specs.Delivered.{AreDelivered, Kept}
 use Rattle.m2_history.specs.Link.{both_of, parts_of}
+use Rattle.m2_lossy.specs.Lossy.{IsByteOrder}
 use Rattle.m2_paired.specs.Orders.{AreNodes, IsHistory, IsNeverReset}
 use Rattle.m2_record.specs.IsRecord.{IsRecord}
 use Rattle.m2_record.specs.RecordNow.{RecordNow}
 use Rattle.m2_trail.specs.Arrivals.{LooseNow}
 use Rattle.m2_woven.specs.Actors.{part_of}
-use Rattle.m2_woven.specs.Link.{LinkNow, AreJoined, IsLink, IsOrderOf, IsSideOf, order_of, sources_in}
+use Rattle.m2_woven.specs.Link.{LinkNow, AreJoined, AreUp, IsLink, IsOrderOf, IsSideOf, order_of, sources_in}
 
 -- ---- sides
 
@@ -31,9 +32,14 @@ link_of a b loose = record {
 
 -- ---- an order that was found
 
--- throughout an order of all that two sides and their halves did, by the rule of weaving, bytes fit
+-- Throughout an order of all that two sides and their halves did, by the rule of weaving, bytes fit; and where no node marks its
+-- side down, the two journals in it are a history of bytes.
+pub record BytesFitIn (l : LinkNow) (order : List ℕ) : Type 0 where
+  pub order : IsByteOrder (l.facts true) (l.facts false) (order_of l order)
+  pub history : AreUp l → IsByteHistory (l.facts true) (l.facts false) (order_of l order)
+
 abbrev pub WovenBytesFit : Type 0
-WovenBytesFit = (l : LinkNow) (order : List ℕ) → IsLink l → IsOrderOf l order → IsByteHistory (l.facts true) (l.facts false) (order_of l order)
+WovenBytesFit = (l : LinkNow) (order : List ℕ) → IsLink l → IsOrderOf l order → BytesFitIn l order
 
 -- so the two journals in it are a history, and where neither policy is lossy nothing was reset
 pub record IsWovenSo (l : LinkNow) (order : List ℕ) : Type 0 where
@@ -41,7 +47,7 @@ pub record IsWovenSo (l : LinkNow) (order : List ℕ) : Type 0 where
   pub never_reset : IsNeverReset (l.facts true) (l.facts false) (entries_of (order_of l order))
 
 abbrev pub WovenIsNeverReset : Type 0
-WovenIsNeverReset = (l : LinkNow) (order : List ℕ) → AreNodes (l.facts true) (l.facts false) → IsLink l → IsOrderOf l order → IsWovenSo l order
+WovenIsNeverReset = (l : LinkNow) (order : List ℕ) → AreNodes (l.facts true) (l.facts false) → IsLink l → AreUp l → IsOrderOf l order → IsWovenSo l order
 
 -- ---- what was posted and dispatched
 
@@ -59,7 +65,7 @@ IsWovenDelivered l order near_logs far_logs =
     AreDelivered (l.facts true) (l.facts false) (kept_by l true) (kept_by l false) near_logs far_logs
 
 abbrev pub WovenIsDelivered : Type 0
-WovenIsDelivered = (l : LinkNow) (order : List ℕ) (near_logs far_logs : Logs) → AreNodes (l.facts true) (l.facts false) → IsLink l → IsOrderOf l order →
+WovenIsDelivered = (l : LinkNow) (order : List ℕ) (near_logs far_logs : Logs) → AreNodes (l.facts true) (l.facts false) → IsLink l → AreUp l → IsOrderOf l order →
     IsWovenDelivered l order near_logs far_logs
 
 -- ---- what weaving gives of two records
@@ -68,10 +74,11 @@ WovenIsDelivered = (l : LinkNow) (order : List ℕ) (near_logs far_logs : Logs) 
 abbrev pub strands_in : History → List ℕ
 strands_in h = map (λ s. s.strand) h.steps.items
 
--- of two lossless nodes
+-- of two lossless nodes that mark nothing down
 pub record AreLossless (l : LinkNow) : Type 0 where
   pub nodes : AreNodes (l.facts true) (l.facts false)
   pub joined : AreJoined l
+  pub up : AreUp l
 
 abbrev pub IsUnreset : LinkNow → History → Type 0
 IsUnreset l h = AreLossless l → IsNeverReset (l.facts true) (l.facts false) (entries_of (order_of l (strands_in h)))
@@ -87,6 +94,7 @@ pub record ALinkIsWoven : Type 0 where
   pub order : List ℕ
   pub nodes : AreNodes (link.facts true) (link.facts false)
   pub is_link : IsLink link
+  pub up : AreUp link
   pub is_order : IsOrderOf link order
   pub socket : SocketId
   pub read : got_at (far_side (link.facts false) (order_of link order)) socket ≢ []

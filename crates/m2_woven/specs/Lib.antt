@@ -2,3 +2,4 @@ pub mod Actors
 pub mod Order
 pub mod Link
 pub mod Laws
+pub mod Lossy

@@ -51,11 +51,6 @@ pub record IsSideOf (f : SideFacts) (plan : List PlanStep) (p : PartsNow) : Type
   pub ends : AllByRecursion (λ k. is_among k (ids_of p.ends) ≡ true) (feeds_in p.journal)
   pub trails : HaveTrails f.node.entity p.ends p.journal p.trails
 
--- its node marks it down at no time, and what its plan posts keeps the bounds of its frames
-pub record IsQuietSide (plan : List PlanStep) (p : PartsNow) : Type 0 where
-  pub up : AllByRecursion IsNoDown (items_in plan p)
-  pub posts : AllByRecursion CanBePosted (items_in plan p)
-
 -- ---- halves that neither took
 
 -- it is whole, names a kind of node, and was told what the side has judged whose half it is
@@ -72,16 +67,20 @@ trails_of x = flat_map trail_by (actors_of x)
 abbrev pub same_end : EndNow → EndNow → Bool
 same_end e other = is_end e.socket e.opener other
 
--- What is asked of two sides and of the halves that neither took, beside what records keep: they dial different places, and what
--- nodes and sockets are named by keeps the ranges of its types.
+-- What is asked of two sides and of the halves that neither took, beside what records keep: they dial different places, what
+-- nodes and sockets are named by keeps the ranges of its types, and what the plans post the bounds of its frames.
 pub record AreJoined (l : LinkNow) : Type 0 where
-  pub quiet : (near : Bool) → IsQuietSide (l.plans near) (part_of l.both near)
+  pub posts : (near : Bool) → AllByRecursion CanBePosted (items_in (l.plans near) (part_of l.both near))
   pub loose : AllByRecursion (λ (h : LooseNow). is_of_link l.both.a.journal l.both.b.journal h ≡ true → IsLooseBeside l.both.a.journal l.both.b.journal h) l.both.loose
   -- of each socket there is one end of either kind
   pub apart : IsDistinct same_end (ends_of l.both)
   pub named : (near : Bool) → KeepsRanges (l.facts near)
   pub seen : AllByRecursion (λ (t : TrailNow). HasAddrRanges (opener_of t.socket)) (trails_of l.both)
   pub peers : (k : SocketId) → goes_to (l.facts true).peer k ≡ true → goes_to (l.facts false).peer k ≡ false
+
+-- no node marks its side down at any time
+abbrev pub AreUp : LinkNow → Type 0
+AreUp l = (near : Bool) → AllByRecursion IsNoDown (items_in (l.plans near) (part_of l.both near))
 
 pub record IsLink (l : LinkNow) : Type 0 where
   pub sides : (near : Bool) → IsSideOf (l.facts near) (l.plans near) (part_of l.both near)

@@ -1,11 +1,14 @@
-//! Two records woven, and what that says of a lossless link.
+//! Two records woven, and what that says of a link, lossless or lossy.
 
 ghost use Rattle.std.specs.Prelude.{IfOk};
 ghost use Rattle.m2_history.specs.Counted.{logs_of};
 ghost use Rattle.m2_history.specs.Link.{AreOfLink, WeavesRecords, both_of};
 ghost use Rattle.m2_woven.specs.Laws.{IsDeliveredIn, IsUnreset, link_of};
+ghost use Rattle.m2_woven.specs.Lossy.{IsInOrderIn};
 
-use crate::laws::{records_are_sides, woven_is_delivered, woven_is_never_reset};
+use crate::laws::{
+    records_are_sides, woven_comes_in_order, woven_is_delivered, woven_is_never_reset,
+};
 use m2_fabric::End;
 use m2_history::{History, Side, WeaveFault};
 use m2_trail::LooseList;
@@ -15,7 +18,8 @@ use std::alloc::Global;
 /// two lossless nodes that mark nothing down, nothing was reset in the history that it gives: no message was
 /// thrown away, and no number set back behind an acceptance. And where the dispatchers' logs are logs of what
 /// both records handed on, of each key what either side's dispatchers were called with is the first of what the
-/// other side posted, in order, each once.
+/// other side posted, in order, each once. Of a lossy link, with mark-downs or without, what either side's
+/// dispatchers were called with is of each key some of what the other side posted, in order, each once.
 pub fn weave<E: End>(
     alloc: Global,
     a: &Side<'_, E>,
@@ -27,11 +31,14 @@ pub fn weave<E: End>(
     ensures never_reset { IfOk result (IsUnreset (link_of a.now.record.now b.now.record.now loose.now.items)) }
     ensures delivered { IfOk result (IsDeliveredIn (link_of a.now.record.now b.now.record.now loose.now.items)
         (logs_of a.now.fast.now.items a.now.log.now.items) (logs_of b.now.fast.now.items b.now.log.now.items)) }
+    ensures lossy { IfOk result (IsInOrderIn (link_of a.now.record.now b.now.record.now loose.now.items)
+        (logs_of a.now.fast.now.items a.now.log.now.items) (logs_of b.now.fast.now.items b.now.log.now.items)) }
 {
     a.record.is_record();
     b.record.is_record();
     records_are_sides();
     woven_is_never_reset();
     woven_is_delivered();
+    woven_comes_in_order();
     m2_history::weave(alloc, a, b, loose)
 }

@@ -1,5 +1,5 @@
 use Rattle.m2_history.specs.Counted.{logs_of}
-use Rattle.m2_woven.proofs.Woven.{delivered_in, unreset}
+use Rattle.m2_woven.proofs.Woven.{delivered_in, in_order_in, unreset}
 use Rattle.m2_woven.proofs.weaving.weave.Goals as goal
 
 pub returns-clause-never_reset : goal.returns-clause-never_reset
@@ -12,3 +12,9 @@ returns-clause-delivered g c =
     delivered_in c.args.a.now.record.now c.args.b.now.record.now c.args.loose.now.items c.records_are_sides.ensures c.is_record.ensures c.is_record-2.ensures
     (logs_of c.args.a.now.fast.now.items c.args.a.now.log.now.items) (logs_of c.args.b.now.fast.now.items c.args.b.now.log.now.items) c.weave.result
     c.woven_is_delivered.ensures c.weave.ensures
+
+pub returns-clause-lossy : goal.returns-clause-lossy
+returns-clause-lossy g c =
+    in_order_in c.args.a.now.record.now c.args.b.now.record.now c.args.loose.now.items c.records_are_sides.ensures c.is_record.ensures c.is_record-2.ensures
+    (logs_of c.args.a.now.fast.now.items c.args.a.now.log.now.items) (logs_of c.args.b.now.fast.now.items c.args.b.now.log.now.items) c.weave.result
+    c.woven_comes_in_order.ensures c.weave.ensures
