@@ -432,7 +432,7 @@ by_actors l order link o = subst (λ ss. IsWoven (record { strands = ss; bytes =
 
 pub bytes_fit_throughout : ReadWasWritten → AsksComeFirst → OrdersGivePoints → TrailsTellEachPoint → WovenBytesFit
 bytes_fit_throughout read asked points tell l order link o = record {
-  order = byte_order read asked points tell l o.sockets link o.rows order (by_actors l order link o);
+  fits = byte_order read asked points tell l o.sockets link o.rows order (by_actors l order link o);
   history = byte_history read asked points tell l o.sockets link o.rows order (by_actors l order link o);
 }
 
@@ -459,7 +459,7 @@ pub comes_in_order : ReadWasWritten → AsksComeFirst → OrdersGivePoints → T
 comes_in_order read asked points tell fit comes counts l order near_logs far_logs nodes link o logs = record { near = near; far = far }
   where
     come : BothComeOver (l.facts true) (l.facts false) (entries_of (order_of l order))
-    come = comes (l.facts true) (l.facts false) (order_of l order) nodes (fit l order link o).order
+    come = comes (l.facts true) (l.facts false) (order_of l order) nodes (fit l order link o).fits
 
     -- of each key what a side has posted
     posts : (s : Bool) (g : SideFacts) (entries : List JournalItem) → entries ≡ items_by l s → (key : Key) →

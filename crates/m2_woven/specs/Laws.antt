@@ -35,7 +35,7 @@ link_of a b loose = record {
 -- Throughout an order of all that two sides and their halves did, by the rule of weaving, bytes fit; and where no node marks its
 -- side down, the two journals in it are a history of bytes.
 pub record BytesFitIn (l : LinkNow) (order : List ℕ) : Type 0 where
-  pub order : IsByteOrder (l.facts true) (l.facts false) (order_of l order)
+  pub fits : IsByteOrder (l.facts true) (l.facts false) (order_of l order)
   pub history : AreUp l → IsByteHistory (l.facts true) (l.facts false) (order_of l order)
 
 abbrev pub WovenBytesFit : Type 0
