@@ -52,7 +52,7 @@ both k (x ∷ xs) ys e f = at (same_socket k x) (λ h. both k xs ys h f) e
     at false rest h = rest h
 
 -- a socket that isn't one of others is none of them
-alone : (k x : SocketId) → (same_socket k x ≡ true → ⊥) → is_among k (x ∷ []) ≡ false
+pub alone : (k x : SocketId) → (same_socket k x ≡ true → ⊥) → is_among k (x ∷ []) ≡ false
 alone k x other = at (same_socket k x) refl
   where
     at : (b : Bool) → same_socket k x ≡ b → b || false ≡ false
@@ -178,7 +178,7 @@ walk f src (e ∷ es) p was k l u =
 
 -- ---- records
 
-came_names : (k : SocketId) (es : List Entry) → IsNewTo (came_in es) k → (is_among k (opened_in es) ≡ false) × (is_among k (map (λ (j : Judgement). j.socket) (judgements_in es)) ≡ false)
+pub came_names : (k : SocketId) (es : List Entry) → IsNewTo (came_in es) k → (is_among k (opened_in es) ≡ false) × (is_among k (map (λ (j : Judgement). j.socket) (judgements_in es)) ≡ false)
 came_names k [] new = (refl, refl)
 came_names k (entry.Opened x ∷ es) new =
     let rest = came_names k es (back k (x ∷ []) (came_in es) new) in

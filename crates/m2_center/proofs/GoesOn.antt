@@ -47,7 +47,7 @@ use Rattle.m2_center.specs.Steps.{BringsNoSocket, GoesOn}
 
 -- ---- journals that grow
 
-same : (old new : RecordNow) → new.journal ≡ old.journal → new.core.facts ≡ old.core.facts → GoesOn old new
+pub same : (old new : RecordNow) → new.journal ≡ old.journal → new.core.facts ≡ old.core.facts → GoesOn old new
 same old new e f = record { more = []; journal = e ∙ sym (append-nil old.journal); facts = f; no_socket = tt }
 
 by_these : (old new : RecordNow) (more : List Entry) → new.journal ≡ old.journal ++ more → new.core.facts ≡ old.core.facts → AllByRecursion BringsNoSocket more → GoesOn old new
@@ -57,7 +57,7 @@ both : (xs ys : List Entry) → AllByRecursion BringsNoSocket xs → AllByRecurs
 both [] ys _ none = none
 both (x ∷ xs) ys (first, rest) none = (first, both xs ys rest none)
 
-chain : (a b c : RecordNow) → GoesOn a b → GoesOn b c → GoesOn a c
+pub chain : (a b c : RecordNow) → GoesOn a b → GoesOn b c → GoesOn a c
 chain a b c first second = record {
   more = first.more ++ second.more;
   journal = second.journal ∙ ap (λ j. j ++ second.more) first.journal ∙ append_assoc a.journal first.more second.more;
@@ -144,7 +144,7 @@ core_alone old new e f = same old new (ap (λ r. r.journal) e) f
 gets : (entries : List Entry) (old new : RecordNow) → AllByRecursion BringsNoSocket entries → GetsEntries entries old new → new.core.facts ≡ old.core.facts → GoesOn old new
 gets entries old new none e f = by_these old new entries (ap (λ r. r.journal) e) f none
 
-plans : (next : Option PlanStep) (answer : Result (Unit {0}) memory.NoMemory) (now : ℕ) (old new : RecordNow) → PlansAs next answer now old new → GoesOn old new
+pub plans : (next : Option PlanStep) (answer : Result (Unit {0}) memory.NoMemory) (now : ℕ) (old new : RecordNow) → PlansAs next answer now old new → GoesOn old new
 plans (Some (step.Post m)) (Ok _) now old new e = by_these old new _ (ap (λ r. r.journal) e) (ap (λ r. r.core.facts) e) (tt, tt)
 plans (Some (step.Post m)) (Err _) now old new e = same old new (ap (λ r. r.journal) e) (ap (λ r. r.core.facts) e)
 plans (Some step.Dial) (Ok _) now old new e = by_these old new _ (ap (λ r. r.journal) e) (ap (λ r. r.core.facts) e) (tt, tt)

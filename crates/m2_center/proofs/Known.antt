@@ -38,10 +38,10 @@ use Rattle.m2_center.proofs.Opened.{filtered, still_made}
 
 -- ---- ends and the sockets that became the feed
 
-fed_by : (r : RecordNow) → IsRecord r → (k : SocketId) → IsNewTo (ids_of (ends_of r)) k → IsNewTo (feeds_in r.journal) k
+pub fed_by : (r : RecordNow) → IsRecord r → (k : SocketId) → IsNewTo (ids_of (ends_of r)) k → IsNewTo (feeds_in r.journal) k
 fed_by r kept k new = sym (ap (is_among k) kept.kept.ends) ∙ turned k r.spent (feed_end r.core.live.feed) new
 
-ends_by : (r : RecordNow) → IsRecord r → (k : SocketId) → IsNewTo (feeds_in r.journal) k → IsNewTo (ids_of (ends_of r)) k
+pub ends_by : (r : RecordNow) → IsRecord r → (k : SocketId) → IsNewTo (feeds_in r.journal) k → IsNewTo (ids_of (ends_of r)) k
 ends_by r kept k new = turned k (feed_end r.core.live.feed) r.spent (ap (is_among k) kept.kept.ends ∙ new)
 
 -- ---- entries that bring no socket
@@ -107,7 +107,7 @@ judged_here k i = rw (same_refl k) refl
 judged_elsewhere : (k x : SocketId) (i : JudgedItem) → same_socket k x ≡ false → judged_on k (record { socket = x; item = i } ∷ []) ≡ []
 judged_elsewhere k x i other = rw other refl
 
-closed_none : (end : Option SeenEnd) → AllByRecursion BringsNoSocket (closed_entries end)
+pub closed_none : (end : Option SeenEnd) → AllByRecursion BringsNoSocket (closed_entries end)
 closed_none (Some e) = (tt, tt)
 closed_none None = tt
 
@@ -209,10 +209,11 @@ others_known {E} j a b m old new some was is other known h = at a.ask h.judges s
 
 -- ---- what stays beside a record
 
+pub goes_on_stays : (old new : RecordNow) → GoesOn old new → IsRecord old → IsRecord new → StaysBeside old new
+goes_on_stays old new on was is = record { facts = on.facts; made = (λ made known. still_made made old new on known); known = (λ a known. steps_known a old new on was is known) }
+
 pub step_stays : (answer : Stepped) (w : Worked) (old new : RecordNow) → StepsAs answer w old new → IsRecord old → IsRecord new → StaysBeside old new
-step_stays answer w old new step was is =
-    let on = steps answer w old new step in
-    record { facts = on.facts; made = (λ made known. still_made made old new on known); known = (λ a known. steps_known a old new on was is known) }
+step_stays answer w old new step was is = goes_on_stays old new (steps answer w old new step) was is
 
 pub nothing_moved : (r : RecordNow) → StaysBeside r r
 nothing_moved r = record { facts = refl; made = (λ made known. known); known = (λ a known. known) }

@@ -56,7 +56,7 @@ filtered {X} p (x ∷ xs) ys = at (p x) refl (filtered p xs ys)
     at (Some k) h rest = rw h (ap (λ l. k ∷ l) rest)
     at None h rest = rw h rest
 
-none_came : (es : List Entry) → AllByRecursion BringsNoSocket es → came_in es ≡ []
+pub none_came : (es : List Entry) → AllByRecursion BringsNoSocket es → came_in es ≡ []
 none_came [] none = refl
 none_came (entry.Opened k ∷ es) none = absurd none.0
 none_came (entry.Judged k ask number answer ∷ es) none = absurd none.0
@@ -92,9 +92,13 @@ is_new to made e s mid kept of_peer is known fresh =
       ends = names.1;
     }
 
-opened_entry : (e : SeenEnd) (old new : RecordNow) (o : Option FeedNow) → IfSome o (λ v. IsOpening old.core.facts e v × (new ≡ record (with_opened v e.id old) { room = new.room })) → IsSome o → new.journal ≡ old.journal ++ entry.Opened e.id ∷ []
+pub opened_entry : (e : SeenEnd) (old new : RecordNow) (o : Option FeedNow) → IfSome o (λ v. IsOpening old.core.facts e v × (new ≡ record (with_opened v e.id old) { room = new.room })) → IsSome o → new.journal ≡ old.journal ++ entry.Opened e.id ∷ []
 opened_entry e old new (Some v) (_, h) some = ap (λ (r : RecordNow). r.journal) h
 opened_entry e old new None h some = absurd (differ some)
+
+pub opened_facts : (e : SeenEnd) (old new : RecordNow) (o : Option FeedNow) → IfSome o (λ v. IsOpening old.core.facts e v × (new ≡ record (with_opened v e.id old) { room = new.room })) → IsSome o → new.core.facts ≡ old.core.facts
+opened_facts e old new (Some v) (_, h) some = ap (λ (r : RecordNow). r.core.facts) h
+opened_facts e old new None h some = absurd (differ some)
 
 pub opened_made : (made : List SocketId) (e : SeenEnd) (old new : RecordNow) → IsMadeBy made old → Connects e old new → IsMadeBy (made ++ e.id ∷ []) new
 opened_made made e old new known opens k fresh =

@@ -2,7 +2,7 @@
 -- replies. The order is that of a center's turn; the rest is this project's own.
 use Rattle.std.specs.Prelude.{◌≡◌, ℕ, ◌⊎◌, Bool, true, false, List, IfSome}
 use Rattle.m2_fabric.specs.declared.socket.SocketId.{SocketId}
-use Rattle.m2_fabric.specs.Sockets.{IsNewTo}
+use Rattle.m2_fabric.specs.Sockets.{IsNewTo, is_among, same_socket}
 use Rattle.m2_handshake.specs.declared.ident.IdentCheck.{IdentCheck}
 use Rattle.m2_handshake.specs.declared.ident.IdentCheck.TheVariants.{Fine, Missing, Fault}
 use Rattle.m2_journal.specs.Lawful.{judged_on}
@@ -72,7 +72,29 @@ AnswersBy false result a m old new = (found : IdentCheck) × IsFound found a old
 abbrev pub AnswersHalf : {E : Type 0} → HalfAnswered E → IncomingNow → Means → Judging → Judging → Type 0
 AnswersHalf result a m old new = AnswersBy a.is_judged result a m old new
 
--- ---- what stays beside a record
+-- ---- what stays beside a record that answers
+
+-- the same socket, of which the record knows all
+pub record IsStill (b a : IncomingNow) (r : RecordNow) : Type 0 where
+  pub id : b.end.id ≡ a.end.id
+  pub known : IsKnown b r
+
+-- of the half itself, where its socket wasn't taken
+abbrev pub StaysKnown : {E : Type 0} → HalfAnswered E → IncomingNow → RecordNow → Type 0
+StaysKnown (half.Taken answer) a r = Unit {0}
+StaysKnown (half.Open goes_on) a r = IsStill goes_on a r
+StaysKnown (half.Closed loose) a r = (b : IncomingNow) × IsStill b a r × (loose ≡ closed_of b)
+StaysKnown (half.Asked back) a r = IsStill back a r
+
+-- what never changes of it; the sockets that came to it, where that of the half is one of those that were made; and what it
+-- knows of the sockets of other halves, and of this one
+pub record StaysAnswered {E : Type 0} (result : HalfAnswered E) (a : IncomingNow) (old new : RecordNow) : Type 0 where
+  pub facts : new.core.facts ≡ old.core.facts
+  pub made : (made : List SocketId) → is_among a.end.id made ≡ true → IsMadeBy made old → IsMadeBy made new
+  pub others : (b : IncomingNow) → same_socket b.end.id a.end.id ≡ false → IsKnown b old → IsKnown b new
+  pub itself : StaysKnown result a new
+
+-- ---- what stays beside a record in its steps
 
 -- what never changes of it, the sockets that came to it, and what it knows of the sockets of halves
 pub record StaysBeside (old new : RecordNow) : Type 0 where

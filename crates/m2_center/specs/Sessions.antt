@@ -8,6 +8,7 @@ use Rattle.m2_fabric.specs.Sockets.{IsNewTo, is_among, same_socket}
 use Rattle.m2_handshake.specs.Asks.{same_addr}
 use Rattle.m2_journal.specs.declared.entry.JudgedItem.{JudgedItem}
 use Rattle.m2_journal.specs.Lawful.{judged_on}
+use Rattle.m2_record.specs.declared.work.Work.{Work}
 use Rattle.m2_record.specs.Calls.{Owns}
 use Rattle.m2_record.specs.RecordNow.{RecordNow, ends_of, ids_of}
 use Rattle.m2_record.specs.TakenTrails.{judgements_in}
@@ -63,8 +64,8 @@ pub record IsTold (c : Caller) (r : RecordNow) : Type 0 where
   pub judged : told_by r c ≡ judged_on c.socket (judgements_in r.journal)
 
 -- Its socket is one of those that the port made; each record knows it; and where none is that of its asker nothing was judged.
-pub record IsCaller (made : List SocketId) (records : List RecordNow) (c : Caller) : Type 0 where
-  pub made : is_among c.socket made ≡ true
+pub record IsCaller (at_port : List SocketId) (records : List RecordNow) (c : Caller) : Type 0 where
+  pub made : is_among c.socket at_port ≡ true
   pub told : AllByRecursion (IsTold c) records
   pub unheard : list_any (λ r. is_asker c.asker (peer_of r)) records ≡ false → c.judged ≡ []
 
@@ -82,10 +83,14 @@ pub record Supply : Type 0 where
 
 -- What the record holds was granted by the node's throttle, it has used no global number above those drawn, and each socket that
 -- came to it is one of those that the port made.
-pub record IsSupplied (s : Supply) (made : List SocketId) (r : RecordNow) : Type 0 where
+pub record IsSupplied (s : Supply) (at_port : List SocketId) (r : RecordNow) : Type 0 where
   pub owned : Owns s.place r
   pub top : r.core.top ≤ s.least
-  pub made : IsMadeBy made r
+  pub made : IsMadeBy at_port r
+
+-- those of a thread's work
+abbrev pub supply_of : Work → Supply
+supply_of w = record { place = w.throttle.now.place; least = w.number_pass.now.least }
 
 abbrev pub sockets_of : Sessions → List SocketId
 sockets_of s = map (λ (p : PendingNow). p.half.end.id) s.halves ++ map (λ (l : LooseNow). l.end.id) s.loose

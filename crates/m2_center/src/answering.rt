@@ -2,9 +2,9 @@
 
 ghost use Rattle.std.specs.Prelude.{◌≡◌, ◌≤◌, true, false, IfSome};
 ghost use Rattle.m2_record.specs.Calls.{Owns};
-ghost use Rattle.m2_record.specs.Stepping.{IsSameWork};
+ghost use Rattle.m2_record.specs.Stepping.{IsSameWork, KeepsReached};
 ghost use Rattle.m2_trail.specs.Asks.{is_ident};
-ghost use Rattle.m2_center.specs.Answering.{AnswersHalf, IsKnown, RefusesHalf, RepliesHalf};
+ghost use Rattle.m2_center.specs.Answering.{AnswersHalf, IsKnown, RefusesHalf, RepliesHalf, StaysAnswered};
 ghost use Rattle.m2_center.specs.Judging.{judging};
 ghost use Rattle.m2_center.specs.RecordTurn.{means_of};
 
@@ -43,7 +43,38 @@ pub fn answer_half<E: End>(
     requires takes { work.old.take_pass.now.place ≡ work.old.throttle.now.place }
     requires owned { Owns work.old.throttle.now.place side.old }
     ensures answers { AnswersHalf result a (means_of now work.old) (judging side.old work.old) (judging side.new work.new) }
+    ensures stays { StaysAnswered result a side.old side.new }
     ensures top { side.new.core.top ≤ work.new.number_pass.now.least }
+    ensures reached { KeepsReached work.old.number_pass.now work.new.number_pass.now }
+    ensures owned { Owns work.old.throttle.now.place side.new }
+    ensures number_place { work.new.number_pass.now.place ≡ work.old.number_pass.now.place }
+    ensures take_place { work.new.take_pass.now.place ≡ work.old.take_pass.now.place }
+    ensures same { IsSameWork work.old work.new }
+    ensures number_pass { work.new.number_pass.ghost_name ≡ work.old.number_pass.ghost_name }
+    ensures take_pass { work.new.take_pass.ghost_name ≡ work.old.take_pass.ghost_name }
+{
+    a.is_arrival();
+    side.is_record();
+    let answered = look_and_answer(side, a, work, now);
+    side.is_record();
+    answered
+}
+
+/// The same, without what stays.
+fn look_and_answer<E: End>(
+    side: &mut Record<E>,
+    a: Arrival<E>,
+    work: &mut Work<'_>,
+    now: u64,
+) -> HalfAnswered<E>
+    requires known { IsKnown a side.old }
+    requires numbers { work.old.number_pass.now.place ≡ work.old.numbers.now.place }
+    requires top { side.old.core.top ≤ work.old.number_pass.now.least }
+    requires takes { work.old.take_pass.now.place ≡ work.old.throttle.now.place }
+    requires owned { Owns work.old.throttle.now.place side.old }
+    ensures answers { AnswersHalf result a (means_of now work.old) (judging side.old work.old) (judging side.new work.new) }
+    ensures top { side.new.core.top ≤ work.new.number_pass.now.least }
+    ensures reached { KeepsReached work.old.number_pass.now work.new.number_pass.now }
     ensures owned { Owns work.old.throttle.now.place side.new }
     ensures number_place { work.new.number_pass.now.place ≡ work.old.number_pass.now.place }
     ensures take_place { work.new.take_pass.now.place ≡ work.old.take_pass.now.place }

@@ -3,6 +3,7 @@
 ghost use Rattle.std.specs.Prelude.{◌≡◌};
 ghost use Rattle.m2_record.specs.Calls.{Owns};
 ghost use Rattle.m2_shared.specs.Place.{Place};
+ghost use Rattle.m2_center.specs.Beside.{KeepsCallers, MadeOn};
 ghost use Rattle.m2_center.specs.Connecting.{DialsIfDue, IsMadeBy};
 
 use m2_bytes::NoMemory;
@@ -20,6 +21,8 @@ pub fn connect_if_due<P: Port>(
     requires made { IsMadeBy (P.seen port.old).made side.old }
     ensures dials { DialsIfDue result now (record { side = side.old; port = P.seen port.old }) (record { side = side.new; port = P.seen port.new }) }
     ensures made { IsMadeBy (P.seen port.new).made side.new }
+    ensures grows { MadeOn (P.seen port.old).made (P.seen port.new).made }
+    ensures keeps { KeepsCallers (P.seen port.old).made side.old side.new }
     ensures owned { (place : Place) → Owns place side.old → Owns place side.new }
     ensures top { side.new.core.top ≡ side.old.core.top }
 {
@@ -31,7 +34,10 @@ pub fn connect_if_due<P: Port>(
     let to = side.session().peer;
     match port.connect(&to) {
         Connect::Made(end) => match side.connected(end, now) {
-            Ok(()) => Ok(()),
+            Ok(()) => {
+                side.is_record();
+                Ok(())
+            }
             Err(_) => unreachable!(),
         },
         Connect::Failed => {

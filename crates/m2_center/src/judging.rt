@@ -2,7 +2,7 @@
 
 ghost use Rattle.std.specs.Prelude.{◌≡◌, ◌≤◌, true};
 ghost use Rattle.m2_record.specs.Calls.{Owns};
-ghost use Rattle.m2_record.specs.Stepping.{IsSameWork};
+ghost use Rattle.m2_record.specs.Stepping.{IsSameWork, KeepsReached};
 ghost use Rattle.m2_trail.specs.Incoming.{IsAnswered};
 ghost use Rattle.m2_center.specs.Judging.{CanBeHeard, JudgesAsk, RepliesAs, judging};
 ghost use Rattle.m2_center.specs.RecordTurn.{means_of};
@@ -52,6 +52,7 @@ pub fn judge_ask<E: End>(
     requires owned { Owns work.old.throttle.now.place side.old }
     ensures judges { JudgesAsk result a (means_of now work.old) (judging side.old work.old) (judging side.new work.new) }
     ensures top { side.new.core.top ≤ work.new.number_pass.now.least }
+    ensures reached { KeepsReached work.old.number_pass.now work.new.number_pass.now }
     ensures owned { Owns work.old.throttle.now.place side.new }
     ensures number_place { work.new.number_pass.now.place ≡ work.old.number_pass.now.place }
     ensures take_place { work.new.take_pass.now.place ≡ work.old.take_pass.now.place }

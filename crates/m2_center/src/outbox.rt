@@ -1,10 +1,12 @@
 //! Where the parcels of a center's records go.
 
-ghost use Rattle.std.specs.Prelude.{◌≡◌, ◌-◌, [], None, true, IfOk, IfErr, IfSome};
+ghost use Rattle.std.specs.Prelude.{◌≡◌, ◌<◌, ◌-◌, not, [], None, length, true, IfOk, IfErr, IfSome};
 ghost use Rattle.m2_record.specs.Calls as calls;
 ghost use Rattle.m2_dispatcher.specs.Letters.{IsOwnedLetter};
 ghost use Rattle.m2_dispatcher.specs.Parcel.{IsOwned};
 ghost use Rattle.m2_shared.specs.Place.{IsAlone, Place};
+ghost use Rattle.m2_center.specs.declared.outbox.TheConstants.{MOST_MAIL};
+ghost use Rattle.m2_center.specs.Mailing.{back_in_mail, is_none};
 ghost use Rattle.m2_center.specs.Outbox.{Dispatches, IsFast, OwnsAll, Puts, Retries, Takes, granted_in, is_free, returned, returned_again, returned_for};
 
 use m2_dispatcher::{Dispatcher, Letter, Parcel};
@@ -21,9 +23,9 @@ pub const MOST_MAIL: usize = 1024;
 /// parcel goes into the mail. A letter that the dispatcher couldn't take for want of memory is held, and
 /// nothing more is put before it has gone. It can't be dropped, since letters can't.
 ///
-/// Maker: [`new`](Outbox::new). Looks: [`is_free`](Outbox::is_free), [`fast`](Outbox::fast). In:
+/// Maker: [`new`](Outbox::new). Looks: [`is_free`](Outbox::is_free), [`has_mail`](Outbox::has_mail), [`fast`](Outbox::fast). In:
 /// [`put`](Outbox::put), and [`retry`](Outbox::retry) for the letter that is held. Out:
-/// [`take`](Outbox::take). The ends: [`finish`](Outbox::finish), which hands all on, and
+/// [`take`](Outbox::take), and [`put_back`](Outbox::put_back) for what was taken. The ends: [`finish`](Outbox::finish), which hands all on, and
 /// [`clear`](Outbox::clear), which gives all grants back.
 pub struct Outbox<D> {
     fast: D,
@@ -32,7 +34,7 @@ pub struct Outbox<D> {
 }
 
 impl<D> Model for Outbox<D> {
-    ghost use Rattle.std.specs.Prelude.{◌≤◌};
+    ghost use Rattle.std.specs.Prelude.{◌≤◌, length};
     ghost use Rattle.std.specs.VecDeque.{deque_capacity};
     ghost use Rattle.m2_center.specs.Outbox.{OutboxNow, IsFastHeld};
     ghost use Rattle.m2_center.specs.declared.outbox.TheConstants.{MOST_MAIL};
@@ -41,7 +43,7 @@ impl<D> Model for Outbox<D> {
 
     ghost view = { λ o. record { fast = o.fast; mail = o.mail.items; held = o.held } };
 
-    ghost invariant = { λ o. (MOST_MAIL ≤ deque_capacity o.mail) × IsFastHeld o.held };
+    ghost invariant = { λ o. (MOST_MAIL ≤ deque_capacity o.mail) × IsFastHeld o.held × (length o.mail.items ≤ MOST_MAIL) };
 }
 
 impl<D> Outbox<D> {
@@ -76,12 +78,29 @@ impl<D> Outbox<D> {
         self.held.is_none() && self.mail.len() < MOST_MAIL
     }
 
+    /// Whether a parcel is in the mail.
+    pub fn has_mail(&self) -> bool
+        ensures { result ≡ not (is_none self.now.mail) }
+    {
+        !self.mail.is_empty()
+    }
+
     /// The parcel that is first in the mail goes; none exactly where the mail is empty.
     pub fn take(&mut self) -> Option<Parcel>
         ensures takes { Takes result self.old self.new }
+        ensures room { IfSome result (λ x. length self.new.mail < MOST_MAIL) }
         ensures owned { (place : Place) → OwnsAll place self.old → IfSome result (IsOwned place) × OwnsAll place self.new }
     {
         self.mail.pop_front()
+    }
+
+    /// Puts a parcel first in the mail, which isn't full. Takes no memory.
+    pub fn put_back(&mut self, parcel: Parcel)
+        requires { length self.old.mail < MOST_MAIL }
+        ensures back { self.new ≡ back_in_mail parcel self.old }
+        ensures owned { (place : Place) → IsOwned place parcel → OwnsAll place self.old → OwnsAll place self.new }
+    {
+        self.mail.push_front_reserved(parcel);
     }
 
     /// The dispatcher of fast kinds, and all parcels that it wasn't called with: those of the mail in order,

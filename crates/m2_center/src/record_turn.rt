@@ -2,7 +2,7 @@
 
 ghost use Rattle.std.specs.Prelude.{◌≡◌, ◌≤◌, true};
 ghost use Rattle.m2_record.specs.Calls.{Owns};
-ghost use Rattle.m2_record.specs.Stepping.{IsSameWork};
+ghost use Rattle.m2_record.specs.Stepping.{IsSameWork, KeepsReached};
 ghost use Rattle.m2_center.specs.Answering.{StaysBeside};
 ghost use Rattle.m2_center.specs.Outbox.{OwnsAll, is_free};
 ghost use Rattle.m2_center.specs.RecordTurn.{StepsOnce, TurnsAs, means_of, turning};
@@ -54,6 +54,7 @@ pub fn turn_record<E: End, D: Dispatcher>(
     ensures turns { TurnsAs D.heard (means_of now work.old) result (turning side.old out.old work.old) (turning side.new out.new work.new) }
     ensures stays { StaysBeside side.old side.new }
     ensures top { side.new.core.top ≤ work.new.number_pass.now.least }
+    ensures reached { KeepsReached work.old.number_pass.now work.new.number_pass.now }
     ensures owned { Owns work.old.throttle.now.place side.new }
     ensures out { OwnsAll work.old.throttle.now.place out.new }
     ensures number_place { work.new.number_pass.now.place ≡ work.old.number_pass.now.place }
@@ -89,6 +90,7 @@ fn step_once<E: End, D: Dispatcher>(
     ensures steps { StepsOnce D.heard (means_of now work.old) result (turning side.old out.old work.old) (turning side.new out.new work.new) }
     ensures stays { StaysBeside side.old side.new }
     ensures top { side.new.core.top ≤ work.new.number_pass.now.least }
+    ensures reached { KeepsReached work.old.number_pass.now work.new.number_pass.now }
     ensures owned { Owns work.old.throttle.now.place side.new }
     ensures out { OwnsAll work.old.throttle.now.place out.new }
     ensures number_place { work.new.number_pass.now.place ≡ work.old.number_pass.now.place }

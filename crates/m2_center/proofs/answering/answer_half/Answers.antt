@@ -1,9 +1,8 @@
-use Rattle.std.proofs.Common.{sym, ◌∙◌}
-use Rattle.m2_center.proofs.Heard.{answered}
+use Rattle.std.proofs.Common.{IsSome, refl, subst, sym}
+use Rattle.m2_center.proofs.Answered.{answer_stays}
 use Rattle.m2_center.proofs.answering.answer_half.Goals as goal
 
-pub returns-in-Owes-clause-answers : goal.returns-in-Owes-clause-answers
-returns-in-Owes-clause-answers g c =
-    answered c.replied-in-Owes.result c.in-Owes.a c.args.a _ _ _ c.session-session.result.now c.facts.result.now
-    (sym c.is_judged.ensures ∙ c.if-is_judged.false) c.session-session.ensures.facts c.facts.ensures c.in-Fine.ensures.exact
-    c.in-Owes.ensures.judges c.replied-in-Owes.ensures
+pub returns-clause-stays : goal.returns-clause-stays
+returns-clause-stays g c =
+    answer_stays c.look_and_answer-answered.result c.args.a _ _ _ (subst IsSome (sym c.is_arrival.ensures.in_hand) refl) c.is_record.ensures c.is_record-2.ensures c.requires.known
+    c.look_and_answer-answered.ensures.answers

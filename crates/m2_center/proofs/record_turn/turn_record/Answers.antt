@@ -13,6 +13,9 @@ returns-in-Some-clause-turns g c =
     (subst (λ m. StepsOnce g.D.Dispatcher.heard m (Some c.in-Some.end) (turning c.steps.side c.steps.out c.steps.work) (turning c.step_once.new.side c.step_once.new.out c.step_once.new.work))
     (same_means c.args.now c.args.work.now c.steps.work c.steps.invariant.same) c.in-Some.ensures.steps)
 
+pub returns-in-Some-clause-reached : goal.returns-in-Some-clause-reached
+returns-in-Some-clause-reached g c n fits h = c.step_once.ensures.reached n fits (c.steps.invariant.reached n fits h)
+
 pub returns-in-Some-clause-owned : goal.returns-in-Some-clause-owned
 returns-in-Some-clause-owned g c = subst (λ p. Owns p c.step_once.new.side) (ap (λ t. t.place) c.steps.invariant.same.throttle) c.step_once.ensures.owned
 
@@ -25,6 +28,7 @@ steps-preserved g c = record {
   count = omega (arith, one_more c.steps.invariant.stood (turning c.step_once.new.side c.step_once.new.out c.step_once.new.work), c.steps.invariant.count);
   stays = stays_on _ _ _ c.steps.invariant.stays c.step_once.ensures.stays;
   top = c.step_once.ensures.top;
+  reached = (λ n fits h. c.step_once.ensures.reached n fits (c.steps.invariant.reached n fits h));
   owned = subst (λ p. Owns p c.step_once.new.side) (ap (λ t. t.place) c.steps.invariant.same.throttle) c.step_once.ensures.owned;
   out = subst (λ p. OwnsAll p c.step_once.new.out) (ap (λ t. t.place) c.steps.invariant.same.throttle) c.step_once.ensures.out;
   number_place = c.step_once.ensures.number_place ∙ c.steps.invariant.number_place;

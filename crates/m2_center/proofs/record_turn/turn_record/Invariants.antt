@@ -1,6 +1,6 @@
 use Rattle.std.proofs.Common.{◌≡◌, ◌≤◌, List, length}
 use Rattle.m2_record.specs.Calls.{Owns}
-use Rattle.m2_record.specs.Stepping.{IsSameWork}
+use Rattle.m2_record.specs.Stepping.{IsSameWork, KeepsReached}
 use Rattle.m2_center.specs.Answering.{StaysBeside}
 use Rattle.m2_center.specs.Outbox.{OwnsAll}
 use Rattle.m2_center.specs.RecordTurn.{Steps, Turning, means_of, turning}
@@ -13,6 +13,7 @@ invariant-steps g l = record {
   count : length stood ≡ l.counter;
   stays : StaysBeside l.fn.side l.side;
   top : l.side.core.top ≤ l.work.number_pass.now.least;
+  reached : KeepsReached l.fn.work.number_pass.now l.work.number_pass.now;
   owned : Owns l.fn.work.throttle.now.place l.side;
   out : OwnsAll l.fn.work.throttle.now.place l.out;
   number_place : l.work.number_pass.now.place ≡ l.fn.work.number_pass.now.place;

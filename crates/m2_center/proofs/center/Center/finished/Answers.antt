@@ -1,0 +1,18 @@
+-- What is left of a center was granted by its throttle.
+use Rattle.std.proofs.Common.{ap, subst}
+use Rattle.m2_dispatcher.specs.Letters.{AreOwned}
+use Rattle.m2_center.specs.Finishing.{AllOwn}
+use Rattle.m2_center.specs.Outbox.{OwnsAll}
+use Rattle.m2_center.proofs.Granted.{all_own}
+use Rattle.m2_center.proofs.center.Center.finished.Goals as goal
+
+pub returns-clause-granted : goal.returns-clause-granted
+returns-clause-granted g c =
+    let is = c.self.invariant.0 in
+    let place = ap (λ v. v.bytes.place) c.self.view_is in
+    record {
+      records = subst (λ p. AllOwn p c.self.inside.records.items) place
+          (all_own (record { place = c.self.inside.passes.throttle.place; least = c.self.inside.passes.numbers.least }) _ c.self.inside.records.items is.consistent.records);
+      out = subst (λ p. OwnsAll p c.self.inside.out) place is.out;
+      queued = subst (λ p. AreOwned p c.self.inside.queued.waiting) place is.queued;
+    }

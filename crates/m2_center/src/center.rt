@@ -1,0 +1,88 @@
+//! A center: an event thread of a node.
+
+ghost use Rattle.std.specs.Prelude.{◌≡◌};
+
+use crate::outbox::Outbox;
+use crate::pending::Pendings;
+use crate::roster::Roster;
+use m2_dispatcher::Dispatch;
+use m2_fabric::Port;
+use m2_record::Record;
+use m2_shared::{NumberPass, Numbers, TakePass, Throttle};
+use m2_trail::Loose;
+use std::alloc::Global;
+use std::marker::Model;
+
+/// What the threads of a node share: the counter of global numbers, and the throttle of the bytes of
+/// messages that are out. It can't be dropped, since a throttle can't.
+pub struct NodeShared {
+    pub numbers: Numbers,
+    pub throttle: Throttle,
+}
+
+/// A thread's passes to what its node shares.
+pub struct Passes {
+    pub numbers: NumberPass,
+    pub throttle: TakePass,
+}
+
+/// An event thread of a node: a port, the records that are at home here, the sockets of peers that no record
+/// took, and where the parcels of the records go.
+///
+/// Maker: [`new`](Center::new). Looks: [`records`](Center::records). The end:
+/// [`finished`](Center::finished). It can't be dropped, since records can't.
+pub struct Center<P: Port, D> {
+    pub(crate) alloc: Global,
+    pub(crate) entity: u8,
+    pub(crate) port: P,
+    pub(crate) records: Vec<Record<P::End>>,
+    pub(crate) roster: Roster,
+    pub(crate) halves: Pendings<P::End>,
+    pub(crate) loose: Vec<Loose<P::End>>,
+    pub(crate) out: Outbox<D>,
+    pub(crate) queued: Dispatch<D>,
+    pub(crate) passes: Passes,
+    /// What halves read into.
+    pub(crate) piece: Vec<u8>,
+}
+
+impl<P: Port, D> Model for Center<P, D> {
+    ghost use Rattle.std.specs.Prelude.{◌≡◌, ◌<◌, ◌≤◌, ◌-◌, length, map, vec_capacity, vec_len};
+    ghost use Rattle.m2_center.specs.Center.{CenterNow, IsCenter};
+    ghost use Rattle.m2_center.specs.Sessions.{peer_of};
+    ghost use Rattle.m2_trail.specs.declared.incoming.TheConstants.{MOST_READ};
+
+    ghost Value = { CenterNow D };
+
+    ghost view = { λ c. record {
+      entity = c.entity;
+      port = P.seen c.port;
+      halves = record { pending = c.halves; loose = c.loose.items };
+      records = c.records.items;
+      out = c.out;
+      queued = c.queued;
+      bytes = c.passes.throttle;
+      numbers = c.passes.numbers;
+    } };
+
+    ghost invariant = { λ c. IsCenter (record {
+      entity = c.entity;
+      port = P.seen c.port;
+      halves = record { pending = c.halves; loose = c.loose.items };
+      records = c.records.items;
+      out = c.out;
+      queued = c.queued;
+      bytes = c.passes.throttle;
+      numbers = c.passes.numbers;
+    }) × (c.roster ≡ map peer_of c.records.items) × (length c.halves ≤ vec_capacity c.loose - vec_len c.loose)
+        × (0 < length c.piece.items) × (length c.piece.items ≤ MOST_READ) };
+}
+
+impl<P: Port, D> Center<P, D> {
+    /// Its records, in the order of the links.
+    pub fn records(&self) -> &[Record<P::End>]
+        ensures { result.now ≡ self.now.records }
+    {
+        self.records.as_slice()
+    }
+}
