@@ -1,0 +1,5 @@
+pub mod Greedy
+pub mod Sums
+pub mod Turn
+pub mod Runs
+pub mod Example
