@@ -3,3 +3,4 @@ pub mod Sums
 pub mod Turn
 pub mod Runs
 pub mod Example
+pub mod Flowed

@@ -3,7 +3,7 @@ use Rattle.std.specs.Prelude.{◌≡◌, ℕ, ◌+◌, ◌<◌, ◌≤◌, List,
 use Rattle.m2_fabric.specs.declared.socket.SocketId.{SocketId}
 use Rattle.m2_journal.specs.declared.entry.Entry.TheVariants as entry
 use Rattle.m2_weave.specs.declared.strand.StrandItem.TheVariants.{Noted}
-use Rattle.m2_weave.specs.Strands.{EndOf, StrandNow, other, end_in, has_opened, begun_at, place_of}
+use Rattle.m2_weave.specs.Strands.{EndOf, StrandNow, other, end_in, has_opened, begun_at, place_of, written_at}
 use Rattle.m2_weave.specs.Rule.{Woven, AreThere, byte_at, strand_at}
 use Rattle.m2_weave.specs.Stops.{sizes}
 use Rattle.m2_weave.specs.Tidy.{AreTidy}
@@ -69,6 +69,25 @@ pub record IsTurn (old new : Woven) : Type 0 where
   pub got : HaveGot old
   pub read : WasWrittenBefore old new later.place
   pub tidy : AreTidy new
+
+-- ---- a turn by the bytes of its ends
+
+-- all that ends have put strands have written
+abbrev pub HaveWritten : Woven → Type 0
+HaveWritten w = (e : EndOf) → length (w.bytes.put e) ≤ written_at w.strands (sizes w) e
+
+-- all that an end has got by the end of the turn the other end had put before it
+abbrev pub HadFlowed : (old new : Woven) → Type 0
+HadFlowed old new = (e : EndOf) → GoesOn (new.bytes.got e) (old.bytes.put (other e))
+
+pub record IsTurnOfBytes (old new : Woven) : Type 0 where
+  pub later : IsLater old new
+  pub got : HaveGot old
+  pub written : HaveWritten old
+  pub flowed : HadFlowed old new
+  pub tidy : AreTidy new
+
+-- ---- many turns
 
 -- turns one after the other
 abbrev pub AreTurns : Woven → List Woven → Type 0

@@ -5,7 +5,7 @@ use Rattle.m2_fabric.specs.declared.socket.SocketId.{SocketId}
 use Rattle.m2_weave.specs.Rule.{Woven, strand_at}
 use Rattle.m2_weave.specs.Stops.{IsWoven}
 use Rattle.m2_weave.specs.Strands.{StrandNow}
-use Rattle.m2_turns.specs.Later.{AreTurns, IsOfTurn, IsTurn, ReadsAt, behind}
+use Rattle.m2_turns.specs.Later.{AreTurns, IsOfTurn, IsTurn, IsTurnOfBytes, ReadsAt, behind}
 
 -- all that happened has an order
 abbrev pub HasOrder : Woven → Type 0
@@ -14,6 +14,10 @@ HasOrder w = (order : List ℕ) × IsWoven w order
 -- where there is one before a turn, there is one behind it
 abbrev pub TurnsAreWoven : Type 0
 TurnsAreWoven = (old new : Woven) → IsTurn old new → HasOrder old → HasOrder new
+
+-- where bytes had flowed before the turn, what is read in it had been written before it
+abbrev pub FlowedWasWritten : Type 0
+FlowedWasWritten = (old new : Woven) → IsTurnOfBytes old new → IsTurn old new
 
 -- nothing has happened yet
 abbrev pub IsAtStart : Woven → Type 0

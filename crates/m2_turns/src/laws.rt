@@ -12,6 +12,12 @@ pub fn turns_are_woven()
     tidy_stops_are_reads();
 }
 
+/// Where all that ends have got behind a turn was put by the other ends before it, and strands tell of all that
+/// ends have put, what is read in the turn had been written before it.
+pub fn flowed_was_written()
+    ensures { laws.FlowedWasWritten }
+{}
+
 /// So strands to which everything has happened in turns have an order.
 pub fn runs_are_woven()
     ensures { laws.RunsAreWoven }

@@ -11,4 +11,4 @@
 
 mod laws;
 
-pub use laws::{a_turn_is_read_in, runs_are_woven, turns_are_woven};
+pub use laws::{a_turn_is_read_in, flowed_was_written, runs_are_woven, turns_are_woven};
