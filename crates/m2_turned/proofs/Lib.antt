@@ -1,0 +1,5 @@
+pub mod Halves
+pub mod HalfReads
+pub mod Whose
+pub mod Sides
+pub mod Tables

@@ -1,0 +1,27 @@
+//! What is promised of two sides in turns. These functions do nothing: each stands for the law that its
+//! contract names.
+
+ghost use Rattle.m2_turned.specs.Laws as laws;
+
+use m2_history::strands_are_tidy;
+use m2_turns::{flowed_was_written, turns_are_woven};
+
+/// Where journals and halves go on, their strands are later ones.
+pub fn sides_are_later()
+    ensures { laws.SidesAreLater }
+{}
+
+/// Where two sides have an order of all that they did before a turn, they have one behind it.
+pub fn sides_in_turns_are_woven()
+    ensures { laws.SidesInTurnsAreWoven }
+{
+    sides_are_later();
+    strands_are_tidy();
+    flowed_was_written();
+    turns_are_woven();
+}
+
+/// Of two sides that have an order weaving finds no byte that doesn't fit.
+pub fn an_order_is_found()
+    ensures { laws.AnOrderIsFound }
+{}
