@@ -14,22 +14,13 @@ use Rattle.m2_turned.specs.Laws.{SidesAreLater, SidesInTurnsAreWoven}
 use Rattle.m2_turned.specs.Sides.{HalfGoesOn, HasGoneOn, IsHalf, IsTurnOfSides, JournalGoesOn, SidesGoOn, done_on, half_on, halves_of, loose_halves, woven_now}
 use Rattle.m2_turned.proofs.Halves.{half_on_goes, never_opens}
 use Rattle.m2_turned.proofs.HalfReads.{reads_of_sides}
+use Rattle.m2_turned.proofs.Lists.{all_left, all_right}
 use Rattle.m2_turned.proofs.Whose.{HasLater, Told, far, later_by_who, look_far, look_half, near, strand_in, strands_told, told_apart, told_half, told_journal, told_of}
 use Rattle.m2_turns.specs.Laws.{FlowedWasWritten, TurnsAreWoven}
-use Rattle.m2_turns.specs.Later.{ReadsAt, StrandGoesOn}
+use Rattle.m2_turns.specs.Later.{StrandGoesOn}
 use Rattle.m2_weave.specs.declared.strand.StrandItem.TheVariants.{Noted}
 use Rattle.m2_weave.specs.Strands.{StrandNow, begun_at, has_opened, journal_of, read_by, read_by_halves, total}
 use Rattle.m2_weave.proofs.SameSocket.{one_socket}
-
--- ---- lists
-
-all-left : {X : Type 0} (P : X → Type 0) (xs ys : List X) → AllByRecursion P (xs ++ ys) → AllByRecursion P xs
-all-left P [] ys all = tt
-all-left P (x ∷ xs) ys all = (all.0, all-left P xs ys all.1)
-
-all-right : {X : Type 0} (P : X → Type 0) (xs ys : List X) → AllByRecursion P (xs ++ ys) → AllByRecursion P ys
-all-right P [] ys all = all
-all-right P (x ∷ xs) ys all = all-right P xs ys all.1
 
 -- ---- the half on a socket
 
@@ -65,7 +56,7 @@ module _ (old new : BothNow) (on : SidesGoOn old new) where
     items = (map Noted goes.entries.0, ap (map Noted) goes.entries.1 ∙ map-append Noted js goes.entries.0);
     reads = goes.reads;
     writes = goes.writes;
-    begun = λ n count k is. begun-if js ks k (has_opened (journal_of js) k) refl (goes.reads n count k is) (goes.behind n count k is);
+    begun = λ k is. begun-if js ks k (has_opened (journal_of js) k) refl (goes.reads k is) (goes.behind k is);
   }
 
   -- ---- halves
@@ -77,9 +68,9 @@ module _ (old new : BothNow) (on : SidesGoOn old new) where
         look_half new t.socket ∙ ap strand_in gone.1,
         record {
           items = half_on_goes t gone.0 is its.socket gone.2;
-          reads = λ n count k at. never_opens gone.0 k its.holds ∙ sym (never_opens t k is);
-          writes = λ n count k at. never_opens gone.0 k its.holds ∙ sym (never_opens t k is);
-          begun = λ n count k at. refl;
+          reads = λ k at. never_opens gone.0 k its.holds ∙ sym (never_opens t k is);
+          writes = λ k at. never_opens gone.0 k its.holds ∙ sym (never_opens t k is);
+          begun = λ k at. refl;
         },
       )
 
@@ -95,21 +86,21 @@ module _ (old new : BothNow) (on : SidesGoOn old new) where
       let P : Told → Type 0 = HasLater (woven_now old) (woven_now new) (told_of new) in
       let taken = old.a.trails ++ old.b.trails in
       let loose = loose_halves old.a.journal old.b.journal old.loose in
-      let is_half = all-left IsHalf taken loose on.before.each in
-      let has_gone = all-left (HasGoneOn (halves_of new)) taken loose on.halves in
+      let is_half = all_left IsHalf taken loose on.before.each in
+      let has_gone = all_left (HasGoneOn (halves_of new)) taken loose on.halves in
       let near_ones = told_journal near old.a.journal ∷ map told_half old.a.trails in
       let far_ones = told_journal far old.b.journal ∷ map told_half old.b.trails in
       all_append P (near_ones ++ far_ones) (map told_half loose)
       (all_append P near_ones far_ones (
         (journal_of new.a.journal, refl, journal-on old.a.journal new.a.journal on.near),
-        halves-later old.a.trails (all-left IsHalf old.a.trails old.b.trails is_half)
-            (all-left (HasGoneOn (halves_of new)) old.a.trails old.b.trails has_gone),
+        halves-later old.a.trails (all_left IsHalf old.a.trails old.b.trails is_half)
+            (all_left (HasGoneOn (halves_of new)) old.a.trails old.b.trails has_gone),
       ) (
         (journal_of new.b.journal, look_far new, journal-on old.b.journal new.b.journal on.far),
-        halves-later old.b.trails (all-right IsHalf old.a.trails old.b.trails is_half)
-            (all-right (HasGoneOn (halves_of new)) old.a.trails old.b.trails has_gone),
+        halves-later old.b.trails (all_right IsHalf old.a.trails old.b.trails is_half)
+            (all_right (HasGoneOn (halves_of new)) old.a.trails old.b.trails has_gone),
       ))
-      (halves-later loose (all-right IsHalf taken loose on.before.each) (all-right (HasGoneOn (halves_of new)) taken loose on.halves))
+      (halves-later loose (all_right IsHalf taken loose on.before.each) (all_right (HasGoneOn (halves_of new)) taken loose on.halves))
 
 pub sides_are_later : SidesAreLater
 sides_are_later old new on =

@@ -257,7 +257,7 @@ look_far x =
 
 -- ---- no one twice among them
 
-turned : (a b : SocketId) → same_socket a b ≡ false → same_socket b a ≡ false
+pub turned : (a b : SocketId) → same_socket a b ≡ false → same_socket b a ≡ false
 turned a b e = at (same_socket b a) refl
   where
     at : (c : Bool) → same_socket b a ≡ c → same_socket b a ≡ false

@@ -5,6 +5,7 @@ use Rattle.m2_history.specs.declared.history.WeaveFault.{WeaveFault}
 use Rattle.m2_history.specs.declared.history.WeaveFault.TheVariants as fault
 use Rattle.m2_history.specs.Link.{WeavesRecords}
 use Rattle.m2_history.specs.Woven.{BothNow}
+use Rattle.m2_turned.specs.Records.{RecordsGoOn}
 use Rattle.m2_turned.specs.Sides.{IsTurnOfSides, SidesGoOn, woven_now}
 use Rattle.m2_turns.specs.Laws.{HasOrder}
 use Rattle.m2_turns.specs.Later.{IsLater}
@@ -12,6 +13,10 @@ use Rattle.m2_turns.specs.Later.{IsLater}
 -- where sides go on, their strands do
 abbrev pub SidesAreLater : Type 0
 SidesAreLater = (old new : BothNow) → SidesGoOn old new → IsLater (woven_now old) (woven_now new)
+
+-- where records go on, the sides that they keep do
+abbrev pub RecordsAreSidesThatGoOn : Type 0
+RecordsAreSidesThatGoOn = (old new : BothNow) → RecordsGoOn old new → SidesGoOn old new
 
 -- where there is an order of all before a turn, there is one behind it
 abbrev pub SidesInTurnsAreWoven : Type 0

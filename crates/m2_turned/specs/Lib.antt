@@ -1,2 +1,3 @@
 pub mod Sides
+pub mod Records
 pub mod Laws

@@ -8,7 +8,7 @@ use Rattle.m2_history.specs.Woven.{BothNow, BytesNow, as_judged, bytes_at, ends_
 use Rattle.m2_journal.specs.declared.entry.Entry.{Entry}
 use Rattle.m2_trail.specs.Arrivals.{LooseNow}
 use Rattle.m2_trail.specs.Trails.{TrailNow, RisesWithin}
-use Rattle.m2_turns.specs.Later.{GoesOn, HaveGot, HaveWritten, HadFlowed, ReadsAt, WritesAt}
+use Rattle.m2_turns.specs.Later.{GoesOn, HasRead, HasWritten, HaveGot, HaveWritten, HadFlowed}
 use Rattle.m2_weave.specs.Rule.{Woven}
 use Rattle.m2_weave.specs.Strands.{EndOf, has_opened, journal_of}
 
@@ -77,9 +77,9 @@ HasGoneOn now t = (u : TrailNow) × (half_on t.socket now ≡ Some u) × HalfGoe
 -- socket of the peer, has done nothing more.
 pub record JournalGoesOn (before now : List TrailNow) (js ks : List Entry) : Type 0 where
   pub entries : GoesOn js ks
-  pub reads : (n count : ℕ) (k : SocketId) → ReadsAt (journal_of js) n k count → has_opened (journal_of ks) k ≡ has_opened (journal_of js) k
-  pub writes : (n count : ℕ) (k : SocketId) → WritesAt (journal_of js) n k count → has_opened (journal_of ks) k ≡ has_opened (journal_of js) k
-  pub behind : (n count : ℕ) (k : SocketId) → ReadsAt (journal_of js) n k count → has_opened (journal_of js) k ≡ false → done_on k now ≡ done_on k before
+  pub reads : (k : SocketId) → HasRead (journal_of js) k → has_opened (journal_of ks) k ≡ has_opened (journal_of js) k
+  pub writes : (k : SocketId) → HasWritten (journal_of js) k → has_opened (journal_of ks) k ≡ has_opened (journal_of js) k
+  pub behind : (k : SocketId) → HasRead (journal_of js) k → has_opened (journal_of js) k ≡ false → done_on k now ≡ done_on k before
 
 -- Both journals go on, each half does, and what ends have got and put; there may be more halves.
 pub record SidesGoOn (old new : BothNow) : Type 0 where

@@ -6,6 +6,12 @@ ghost use Rattle.m2_turned.specs.Laws as laws;
 use m2_history::strands_are_tidy;
 use m2_turns::{flowed_was_written, turns_are_woven};
 
+/// Where two records go on, so do the sides that they keep: what a record has read or written on a socket it
+/// had opened or taken, so it doesn't open that later, and the half that it took there does nothing more.
+pub fn records_go_on()
+    ensures { laws.RecordsAreSidesThatGoOn }
+{}
+
 /// Where journals and halves go on, their strands are later ones.
 pub fn sides_are_later()
     ensures { laws.SidesAreLater }

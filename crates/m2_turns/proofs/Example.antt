@@ -78,17 +78,17 @@ is-later = record {
       let first : 0 ≡ i = omega (arith, h) in
       subst (λ x. StrandGoesOn before later_on (strand_at before x) (strand_at later_on x)) first (record {
         items = ([], refl);
-        reads = λ n count k e. refl;
-        writes = λ n count k e. refl;
-        begun = λ n count k e. absurd (unread n count k e);
+        reads = λ k e. refl;
+        writes = λ k e. refl;
+        begun = λ k e. absurd (omega (arith, e));
       });
   got = λ e. (got_by e.opener, refl);
   put = λ e. puts-on e.opener;
 }
 
 have-got : HaveGot before
-have-got zero n count k e = absurd (unread n count k e)
-have-got (suc j) n count k e = absurd (cc)
+have-got zero k e = absurd (omega (arith, e))
+have-got (suc j) k e = absurd (omega (arith, e))
 
 was-written : WasWritten before later_on half 0 socket 1
 was-written zero h = refl

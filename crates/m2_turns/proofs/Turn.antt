@@ -19,8 +19,8 @@ use Rattle.m2_weave.specs.Rule.{Woven, AreThere, MayCome, by_bytes, byte_at, com
 use Rattle.m2_weave.specs.Stops.{IsWoven, StopsAt, first_stop, sizes}
 use Rattle.m2_weave.specs.Tidy.{IsAtRead, TidyStopsAreReads}
 use Rattle.m2_weave.specs.Laws.{RuleDecides}
-use Rattle.m2_weave.proofs.SameSocket.{one_socket}
-use Rattle.m2_turns.specs.Later.{GoesOn, HaveGot, IsLater, IsOfTurn, IsTurn, StrandGoesOn, ReadsAt}
+use Rattle.m2_weave.proofs.SameSocket.{one_socket, same_refl}
+use Rattle.m2_turns.specs.Later.{GoesOn, HasRead, HasWritten, HaveGot, IsLater, IsOfTurn, IsTurn, StrandGoesOn, ReadsAt}
 use Rattle.m2_turns.specs.Laws.{HasOrder}
 use Rattle.m2_turns.proofs.Greedy.{greedy_of}
 use Rattle.m2_turns.proofs.Sums.{sum_over, total_on}
@@ -88,18 +88,25 @@ there-on t u p xs on there i h =
 
 -- ---- what is written
 
+-- what an item counts behind the first ones
+up-to : (f : StrandItem → ℕ) (n : ℕ) (is : List StrandItem) (i : StrandItem) → slice_get is n ≡ Some i → total f (take n is) + f i ≤ total f is
+up-to f n [] i e = absurd (cc)
+up-to f zero (x ∷ is) i e = let same : x ≡ i = cc in omega (arith, ap f same)
+up-to f (suc n) (x ∷ is) i e = let rest : total f (take n is) + f i ≤ total f is = up-to f n is i e in omega (arith, rest)
+
 none-if : (a b : Bool) → (if a then 0 else 0) ≤ (if b then 0 else 0)
 none-if true true = omega arith
 none-if true false = omega arith
 none-if false true = omega arith
 none-if false false = omega arith
 
--- of an end that is the same, where an item writes on its socket
-wrote-if : (e : EndOf) (s t : StrandNow) (k : SocketId) (count : ℕ) (b : Bool) → same_socket e.socket k ≡ b → has_opened t k ≡ has_opened s k →
+-- of an end that is the same, where an item writes something on its socket
+wrote-if : (e : EndOf) (s t : StrandNow) (k : SocketId) (count : ℕ) (b : Bool) → same_socket e.socket k ≡ b → (0 < count → has_opened t k ≡ has_opened s k) →
     (if same_side (has_opened s e.socket) e.opener then (if b then count else 0) else 0) ≤ (if same_side (has_opened t e.socket) e.opener then (if b then count else 0) else 0)
-wrote-if e s t k count true is same =
-    let here : has_opened t e.socket ≡ has_opened s e.socket = subst (λ x. has_opened t x ≡ has_opened s x) (sym (one_socket e.socket k is)) same in
-    omega (arith, ap (λ b. if same_side b e.opener then count else 0) here)
+wrote-if e s t k zero true is same = none-if _ _
+wrote-if e s t k (suc count) true is same =
+    let here : has_opened t e.socket ≡ has_opened s e.socket = subst (λ x. has_opened t x ≡ has_opened s x) (sym (one_socket e.socket k is)) (same (omega arith)) in
+    omega (arith, ap (λ b. if same_side b e.opener then suc count else 0) here)
 wrote-if e s t k count false is same = none-if _ _
 
 -- ---- before a turn and behind it
@@ -131,9 +138,14 @@ module _ (old new : Woven) (later : IsLater old new) (got : HaveGot old) where
       (λ i h. part-most (λ s i. f i) (λ s i. f i) c at w i h (λ n x e. omega arith))
 
   -- what an end had written it has written
+  some-written : (j n count : ℕ) (k : SocketId) → slice_get (mine j).items n ≡ Some (Noted (entry.Wrote k count)) → 0 < count → HasWritten (mine j) k
+  some-written j n count k is h =
+      let own : written_by k (Noted (entry.Wrote k count)) ≡ count = ap (λ b. if b then count else 0) (same_refl k) in
+      omega (arith, own, h, up-to (written_by k) n (mine j).items (Noted (entry.Wrote k count)) is)
+
   written-each : (e : EndOf) (i : ℕ) → i < length old.strands → (n : ℕ) (x : StrandItem) → slice_get (mine i).items n ≡ Some x → written_in e (mine i) x ≤ written_in e (its i) x
   written-each e i h n (Noted (entry.Wrote k count)) is =
-      wrote-if e (mine i) (its i) k count (same_socket e.socket k) refl ((later.strands i h).writes n count k is)
+      wrote-if e (mine i) (its i) k count (same_socket e.socket k) refl (λ some. (later.strands i h).writes k (some-written i n count k is some))
   written-each e i h n (Noted _) is = none-if _ _
   written-each e i h n (Handed _) is = none-if _ _
 
@@ -150,18 +162,28 @@ module _ (old new : Woven) (later : IsLater old new) (got : HaveGot old) where
 
   -- ---- one item
 
+  some-read : (j n count : ℕ) (k : SocketId) → ReadsAt (mine j) n k count → 0 < count → HasRead (mine j) k
+  some-read j n count k is h =
+      let own : read_by k (Noted (entry.Read k count)) ≡ count = ap (λ b. if b then count else 0) (same_refl k) in
+      omega (arith, own, h, up-to (read_by k) n (mine j).items (Noted (entry.Read k count)) is)
+
   read-on : (c at : Cut) → AreWithin c at → (j : ℕ) → j < length old.strands → (n count : ℕ) (k : SocketId) → ReadsAt (mine j) n k count →
       MayCome old c (mine j) n (Noted (entry.Read k count)) → MayCome new at (its j) n (Noted (entry.Read k count))
-  read-on c at w j h n count k is may =
+  read-on c at w j h n zero k is may = λ i l. absurd (omega (arith, l))
+  read-on c at w j h n (suc least) k is may =
+      let count = suc least in
+      let some : HasRead (mine j) k = some-read j n count k is (omega arith) in
       let strand = later.strands j h in
       let e = end_in (mine j) k in
       let p = place_of old.strands (mine j) n k in
       let within : n < length (mine j).items = slice_get_within (mine j).items n (Noted (entry.Read k count)) is in
       let first : take n (its j).items ≡ take n (mine j).items = first-on (mine j) (its j) n strand.items (omega (arith, within)) in
-      let end : end_in (its j) k ≡ e = ap (λ b. record { socket = k; opener = b }) (strand.reads n count k is) in
-      let place : place_of new.strands (its j) n k ≡ p = omega (arith, strand.begun n count k is, ap (total (read_by k)) first) in
+      let end : end_in (its j) k ≡ e = ap (λ b. record { socket = k; opener = b }) (strand.reads k some) in
+      let place : place_of new.strands (its j) n k ≡ p = omega (arith, strand.begun k some, ap (total (read_by k)) first) in
+      let own : read_by k (Noted (entry.Read k count)) ≡ count = ap (λ b. if b then count else 0) (same_refl k) in
+      let got_all : p + count ≤ length (old.bytes.got e) = omega (arith, own, up-to (read_by k) n (mine j).items (Noted (entry.Read k count)) is, got j k some) in
       let piece : take count (drop p (new.bytes.got e)) ≡ take count (drop p (old.bytes.got e)) =
-      ap (λ l. take count (drop p l)) (later.got e).1 ∙ piece-on p count (old.bytes.got e) (later.got e).0 (got j n count k is) in
+      ap (λ l. take count (drop p l)) (later.got e).1 ∙ piece-on p count (old.bytes.got e) (later.got e).0 got_all in
       subst (λ x. AreThere (byte_at new at (other x)) (place_of new.strands (its j) n k) (take count (drop (place_of new.strands (its j) n k) (new.bytes.got x)))) (sym end)
       (subst (λ q. AreThere (byte_at new at (other e)) q (take count (drop q (new.bytes.got e)))) (sym place)
       (subst (λ l. AreThere (byte_at new at (other e)) p l) (sym piece)

@@ -3,7 +3,7 @@ use Rattle.std.specs.Prelude.{◌≡◌, ℕ, ◌+◌, ◌<◌, ◌≤◌, List,
 use Rattle.m2_fabric.specs.declared.socket.SocketId.{SocketId}
 use Rattle.m2_journal.specs.declared.entry.Entry.TheVariants as entry
 use Rattle.m2_weave.specs.declared.strand.StrandItem.TheVariants.{Noted}
-use Rattle.m2_weave.specs.Strands.{EndOf, StrandNow, other, end_in, has_opened, begun_at, place_of, written_at}
+use Rattle.m2_weave.specs.Strands.{EndOf, StrandNow, other, end_in, has_opened, begun_at, place_of, read_by, total, written_at, written_by}
 use Rattle.m2_weave.specs.Rule.{Woven, AreThere, byte_at, strand_at}
 use Rattle.m2_weave.specs.Stops.{sizes}
 use Rattle.m2_weave.specs.Tidy.{AreTidy}
@@ -14,21 +14,21 @@ use Rattle.m2_weave.specs.Tidy.{AreTidy}
 abbrev pub GoesOn : {X : Type 0} → (old new : List X) → Type 0
 GoesOn {X} old new = (more : List X) × (new ≡ old ++ more)
 
--- behind so many items a strand reads, or writes, so many bytes on a socket
-abbrev pub ReadsAt : StrandNow → ℕ → SocketId → (count : ℕ) → Type 0
-ReadsAt s n k count = slice_get s.items n ≡ Some (Noted (entry.Read k count))
+-- a strand has read, or written, on a socket
+abbrev pub HasRead : StrandNow → SocketId → Type 0
+HasRead s k = 0 < total (read_by k) s.items
 
-abbrev pub WritesAt : StrandNow → ℕ → SocketId → (count : ℕ) → Type 0
-WritesAt s n k count = slice_get s.items n ≡ Some (Noted (entry.Wrote k count))
+abbrev pub HasWritten : StrandNow → SocketId → Type 0
+HasWritten s k = 0 < total (written_by k) s.items
 
 -- A strand goes on with further items. What it had read and written is still of the same ends, since it hasn't opened a socket
 -- on which it had read or written; and its bytes are still counted from the same place, since no half has read more on a socket
 -- on which a journal has read behind it.
 pub record StrandGoesOn (old new : Woven) (s t : StrandNow) : Type 0 where
   pub items : GoesOn s.items t.items
-  pub reads : (n count : ℕ) (k : SocketId) → ReadsAt s n k count → has_opened t k ≡ has_opened s k
-  pub writes : (n count : ℕ) (k : SocketId) → WritesAt s n k count → has_opened t k ≡ has_opened s k
-  pub begun : (n count : ℕ) (k : SocketId) → ReadsAt s n k count → begun_at new.strands t k ≡ begun_at old.strands s k
+  pub reads : (k : SocketId) → HasRead s k → has_opened t k ≡ has_opened s k
+  pub writes : (k : SocketId) → HasWritten s k → has_opened t k ≡ has_opened s k
+  pub begun : (k : SocketId) → HasRead s k → begun_at new.strands t k ≡ begun_at old.strands s k
 
 -- Each strand has its place among the new ones, no two the same, and goes on there; there may be others besides. And what ends
 -- have got and put goes on.
@@ -41,10 +41,14 @@ pub record IsLater (old new : Woven) : Type 0 where
 
 -- ---- what is read
 
--- all that strands read their ends have got
+-- all that a strand has read on a socket its end has got
 abbrev pub HaveGot : Woven → Type 0
-HaveGot w = (j n count : ℕ) (k : SocketId) → ReadsAt (strand_at w j) n k count →
-    place_of w.strands (strand_at w j) n k + count ≤ length (w.bytes.got (end_in (strand_at w j) k))
+HaveGot w = (j : ℕ) (k : SocketId) → HasRead (strand_at w j) k →
+    begun_at w.strands (strand_at w j) k + total (read_by k) (strand_at w j).items ≤ length (w.bytes.got (end_in (strand_at w j) k))
+
+-- behind so many items a strand reads so many bytes on a socket
+abbrev pub ReadsAt : StrandNow → ℕ → SocketId → (count : ℕ) → Type 0
+ReadsAt s n k count = slice_get s.items n ≡ Some (Noted (entry.Read k count))
 
 -- an item of a new strand is of the turn: it stands behind all that the strand was before
 abbrev pub IsOfTurn : Woven → (place : ℕ → ℕ) → (j n : ℕ) → Type 0
