@@ -6,6 +6,7 @@ use Rattle.m2_fabric.specs.Sockets.{same_socket}
 use Rattle.m2_history.specs.Link.{AreKept, IsOnSocket}
 use Rattle.m2_history.specs.Woven.{BothNow, BytesNow, as_judged, bytes_at, ends_of, is_of_link, strands_of}
 use Rattle.m2_journal.specs.declared.entry.Entry.{Entry}
+use Rattle.m2_record.specs.Sources.{trail_at}
 use Rattle.m2_trail.specs.Arrivals.{LooseNow}
 use Rattle.m2_trail.specs.Trails.{TrailNow, RisesWithin}
 use Rattle.m2_turns.specs.Later.{GoesOn, HasRead, HasWritten, HaveGot, HaveWritten, HadFlowed}
@@ -40,8 +41,7 @@ halves_of x = (x.a.trails ++ x.b.trails) ++ loose_halves x.a.journal x.b.journal
 
 -- the half on a socket: the first there is
 abbrev pub half_on : SocketId → List TrailNow → Option TrailNow
-half_on k [] = None
-half_on k (t ∷ ts) = if same_socket k t.socket then Some t else half_on k ts
+half_on k ts = trail_at ts k
 
 -- what it did
 abbrev pub entries_in : Option TrailNow → List Entry
