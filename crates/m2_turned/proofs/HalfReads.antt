@@ -28,16 +28,20 @@ parts f zero es = omega arith
 parts f (suc n) [] = omega arith
 parts f (suc n) (e ∷ es) = omega (arith, parts f n es)
 
--- handing on reads nothing
-reads-of : (k x : SocketId) (ns : List ℕ) (place : ℕ) (es : List Entry) → total (read_by k) (half_items x place es ns) ≡ total (read_by k) (map Noted es)
-reads-of k x [] place es = refl
-reads-of k x (n ∷ ns) place es =
+-- what counts nothing where an ask is handed on counts a half's entries
+pub items_count : (f : StrandItem → ℕ) (x : SocketId) → f (Handed x) ≡ 0 → (ns : List ℕ) (place : ℕ) (es : List Entry) → total f (half_items x place es ns) ≡ total f (map Noted es)
+items_count f x none [] place es = refl
+items_count f x none (n ∷ ns) place es =
     omega (
       arith,
-      total-both (read_by k) (map Noted (take (n - place) es)) (Handed x ∷ half_items x (max n place) (drop (n - place) es) ns),
-      reads-of k x ns (max n place) (drop (n - place) es),
-      parts (read_by k) (n - place) es,
+      none,
+      total-both f (map Noted (take (n - place) es)) (Handed x ∷ half_items x (max n place) (drop (n - place) es) ns),
+      items_count f x none ns (max n place) (drop (n - place) es),
+      parts f (n - place) es,
     )
+
+reads-of : (k x : SocketId) (ns : List ℕ) (place : ℕ) (es : List Entry) → total (read_by k) (half_items x place es ns) ≡ total (read_by k) (map Noted es)
+reads-of k x ns place es = items_count (read_by k) x refl ns place es
 
 -- a half on another socket reads nothing there
 other-read : (k x : SocketId) (e : Entry) → same_socket k x ≡ false → IsOnSocket x e → read_by k (Noted e) ≡ 0
@@ -55,9 +59,9 @@ other-read k x (entry.Acked number) apart h = absurd h
 other-read k x (entry.Obeyed full) apart h = absurd h
 other-read k x (entry.Down planned) apart h = absurd h
 
-none-there : (k x : SocketId) (es : List Entry) → same_socket k x ≡ false → AllByRecursion (IsOnSocket x) es → total (read_by k) (map Noted es) ≡ 0
-none-there k x [] apart h = refl
-none-there k x (e ∷ es) apart h = omega (arith, other-read k x e apart h.0, none-there k x es apart h.1)
+pub none_there : (k x : SocketId) (es : List Entry) → same_socket k x ≡ false → AllByRecursion (IsOnSocket x) es → total (read_by k) (map Noted es) ≡ 0
+none_there k x [] apart h = refl
+none_there k x (e ∷ es) apart h = omega (arith, other-read k x e apart h.0, none_there k x es apart h.1)
 
 -- ---- all halves
 
@@ -65,7 +69,7 @@ none-of : (k : SocketId) (ts : List TrailNow) → AllByRecursion IsHalf ts → A
     read_by_halves (map strand_of ts) k ≡ 0
 none-of k [] each apart = refl
 none-of k (t ∷ ts) each apart =
-    omega (arith, reads-of k t.socket t.judged_after 0 t.entries, none-there k t.socket t.entries apart.0 each.0.entries, none-of k ts each.1 apart.1)
+    omega (arith, reads-of k t.socket t.judged_after 0 t.entries, none_there k t.socket t.entries apart.0 each.0.entries, none-of k ts each.1 apart.1)
 
 pub reads_are : (k : SocketId) (ts : List TrailNow) → AreHalves ts → read_by_halves (map strand_of ts) k ≡ total (read_by k) (map Noted (done_on k ts))
 unfolding IsDistinct
@@ -83,7 +87,7 @@ reads_are k (t ∷ ts) are = at (same_socket k t.socket) refl (reads_are k ts (r
     at false differ rest =
         let there : half_on k (t ∷ ts) ≡ half_on k ts = ap (λ b. if b then Some t else half_on k ts) differ in
         let done : total (read_by k) (map Noted (done_on k (t ∷ ts))) ≡ total (read_by k) (map Noted (done_on k ts)) = ap (λ o. total (read_by k) (map Noted (entries_in o))) there in
-        omega (arith, reads-of k t.socket t.judged_after 0 t.entries, none-there k t.socket t.entries differ are.each.0.entries, rest, done)
+        omega (arith, reads-of k t.socket t.judged_after 0 t.entries, none_there k t.socket t.entries differ are.each.0.entries, rest, done)
 
 -- ---- all strands
 

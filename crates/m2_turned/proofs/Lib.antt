@@ -5,3 +5,6 @@ pub mod Whose
 pub mod Sides
 pub mod Tables
 pub mod Records
+pub mod Moving
+pub mod Told
+pub mod Telling

@@ -33,7 +33,7 @@ use Rattle.m2_woven.proofs.Journals.{IsQuietOn, Unknown, judged_are, opened_are,
 use Rattle.m2_woven.proofs.Moved.{unjudged_untaken}
 use Rattle.m2_woven.proofs.Names.{items_add}
 
-clash : {X : Type 0} (b : Bool) → b ≡ true → b ≡ false → X
+pub clash : {X : Type 0} (b : Bool) → b ≡ true → b ≡ false → X
 clash true e f = absurd (cc)
 clash false e f = absurd (cc)
 
@@ -48,10 +48,10 @@ skipped t all (u ∷ us) apart own = (
 )
 
 -- each is the one on its socket
-own-half : (ts : List TrailNow) → IsDistinct same_socket (map (λ (t : TrailNow). t.socket) ts) → AllByRecursion (λ (t : TrailNow). half_on t.socket ts ≡ Some t) ts
+pub own_half : (ts : List TrailNow) → IsDistinct same_socket (map (λ (t : TrailNow). t.socket) ts) → AllByRecursion (λ (t : TrailNow). half_on t.socket ts ≡ Some t) ts
 unfolding IsDistinct
-own-half [] d = tt
-own-half (t ∷ ts) d = (ap (λ b. if b then Some t else half_on t.socket ts) (same_refl t.socket), skipped t ts ts d.0 (own-half ts d.1))
+own_half [] d = tt
+own_half (t ∷ ts) d = (ap (λ b. if b then Some t else half_on t.socket ts) (same_refl t.socket), skipped t ts ts d.0 (own_half ts d.1))
 
 -- ---- one side
 
@@ -105,9 +105,9 @@ moved-none p side k closed untaken =
       taken = ap (λ js. is_among k (taken_among js)) (adds.judgements ∙ judged_are src at_start p.journal) ∙ sym (ap (is_among k) (taken_are p.journal)) ∙ untaken;
     })
 
-taken-or : (p : PartsNow) → IsSide p → (k : SocketId) → HasRead (journal_of p.journal) k ⊎ HasWritten (journal_of p.journal) k → has_opened (journal_of p.journal) k ≡ false →
+pub taken_or : (p : PartsNow) → IsSide p → (k : SocketId) → HasRead (journal_of p.journal) k ⊎ HasWritten (journal_of p.journal) k → has_opened (journal_of p.journal) k ≡ false →
     is_among k (taken_in p.journal) ≡ true
-taken-or p side k moved closed = at (is_among k (taken_in p.journal)) refl moved
+taken_or p side k moved closed = at (is_among k (taken_in p.journal)) refl moved
   where
     at : (b : Bool) → is_among k (taken_in p.journal) ≡ b → HasRead (journal_of p.journal) k ⊎ HasWritten (journal_of p.journal) k → is_among k (taken_in p.journal) ≡ true
     at true is moved = is
@@ -144,7 +144,7 @@ module _ (p q : PartsNow) (on : PartsGoOn p q) where
     where
       at : (b : Bool) → has_opened (journal_of p.journal) k ≡ b → has_opened (journal_of q.journal) k ≡ has_opened (journal_of p.journal) k
       at true is = opened-on k is ∙ sym is
-      at false is = not-opened k (taken-or p on.before k moved is) ∙ sym is
+      at false is = not-opened k (taken_or p on.before k moved is) ∙ sym is
 
   journal-goes-on : (before now : List TrailNow) → AllByRecursion (Stays before now) p.trails → JournalGoesOn before now p.journal q.journal
   journal-goes-on before now stay = record {
@@ -152,7 +152,7 @@ module _ (p q : PartsNow) (on : PartsGoOn p q) where
     reads = λ k read. same-end k (inl read);
     writes = λ k wrote. same-end k (inr wrote);
     behind = λ k read closed.
-        done-same before now k p.trails stay (ap (is_among k) on.before.2.trails.sockets ∙ taken-or p on.before k (inl read) closed);
+        done-same before now k p.trails stay (ap (is_among k) on.before.2.trails.sockets ∙ taken_or p on.before k (inl read) closed);
   }
 
 -- ---- both sides
@@ -162,10 +162,10 @@ module _ (old new : BothNow) (on : RecordsGoOn old new) where
   Own all t = half_on t.socket all ≡ Some t
 
   olds : AllByRecursion (Own (halves_of old)) (halves_of old)
-  olds = own-half (halves_of old) on.before.apart
+  olds = own_half (halves_of old) on.before.apart
 
   news : AllByRecursion (Own (halves_of new)) (halves_of new)
-  news = own-half (halves_of new) on.now.apart
+  news = own_half (halves_of new) on.now.apart
 
   abbrev loose_of : BothNow → List TrailNow
   loose_of x = loose_halves x.a.journal x.b.journal x.loose

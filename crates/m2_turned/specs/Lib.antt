@@ -1,3 +1,4 @@
 pub mod Sides
 pub mod Records
+pub mod Told
 pub mod Laws

@@ -12,6 +12,17 @@ pub fn records_go_on()
     ensures { laws.RecordsAreSidesThatGoOn }
 {}
 
+/// A record's journal, with the halves that it took, tells of all bytes that its ends have got and put.
+pub fn records_tell_all()
+    ensures { laws.RecordsTellAll }
+{}
+
+/// Where two sides and the loose halves beside them tell so, strands have written all that was put, and ends
+/// have got all that was read.
+pub fn told_is_moved()
+    ensures { laws.ToldIsMoved }
+{}
+
 /// Where journals and halves go on, their strands are later ones.
 pub fn sides_are_later()
     ensures { laws.SidesAreLater }

@@ -3,7 +3,7 @@
 //! What it is: definitions and laws. `specs/Sides.antt` says what two sides of a link and the halves beside
 //! them are behind a turn, beside what they were before it: journals go on, halves go on or come, or a side
 //! takes them, and all that an end has got the other end had put before the turn; `specs/Records.antt` what
-//! that is of sides that records keep. `specs/Laws.antt` has the laws: where the sides had an order before the turn they have one behind it, by `m2_turns`; and of sides
+//! that is of sides that records keep, and `specs/Told.antt` what they tell of their bytes. `specs/Laws.antt` has the laws: where the sides had an order before the turn they have one behind it, by `m2_turns`; and of sides
 //! that have one `weave` of `m2_history` finds it.
 //!
 //! What it isn't: anything that runs. It says of no node that it acts so.
@@ -11,4 +11,7 @@
 
 mod laws;
 
-pub use laws::{an_order_is_found, records_go_on, sides_are_later, sides_in_turns_are_woven};
+pub use laws::{
+    an_order_is_found, records_go_on, records_tell_all, sides_are_later, sides_in_turns_are_woven,
+    told_is_moved,
+};
