@@ -38,9 +38,9 @@ behind-on first x old new on = (on.0, ap (λ l. first ++ x ∷ l) on.1 ∙ sym (
 
 -- ---- its items
 
-rises-most : (least : ℕ) (ns : List ℕ) (most : ℕ) → RisesWithin least ns most → least ≤ most
-rises-most least [] most h = h
-rises-most least (n ∷ ns) most h = omega (arith, h.0, rises-most n ns most h.1)
+pub rises_most : (least : ℕ) (ns : List ℕ) (most : ℕ) → RisesWithin least ns most → least ≤ most
+rises_most least [] most h = h
+rises_most least (n ∷ ns) most h = omega (arith, h.0, rises_most n ns most h.1)
 
 max-of : (n place : ℕ) → place ≤ n → max n place ≡ n
 max-of n place h = omega (arith, h)
@@ -59,7 +59,7 @@ pub items_on : (k : SocketId) (ns : List ℕ) (place : ℕ) (es more : List Entr
     AllByRecursion (λ (n : ℕ). place + length es ≤ n) ms → GoesOn (half_items k place es ns) (half_items k place (es ++ more) (ns ++ ms))
 items_on k [] place es more ms rises h = no-more-asks k place es more ms h
 items_on k (n ∷ ns) place es more ms rises h =
-    let most : n ≤ place + length es = rises-most n ns (place + length es) rises.1 in
+    let most : n ≤ place + length es = rises_most n ns (place + length es) rises.1 in
     let short : n - place ≤ length es = omega (arith, most) in
     let same : n + length (drop (n - place) es) ≡ place + length es = omega (arith, length-drop (n - place) es, rises.0, most) in
     let rest = items_on k ns n (drop (n - place) es) more ms (subst (RisesWithin n ns) (sym same) rises.1)

@@ -8,3 +8,4 @@ pub mod Records
 pub mod Moving
 pub mod Told
 pub mod Telling
+pub mod KeptHalves

@@ -1,15 +1,16 @@
 -- What is promised of two sides whose nodes act in turns.
 use Rattle.std.specs.Prelude.{Result, Ok, Err}
+use Rattle.std.specs.List.{AllByRecursion}
 use Rattle.m2_history.specs.declared.history.History.{History}
 use Rattle.m2_history.specs.declared.history.WeaveFault.{WeaveFault}
 use Rattle.m2_history.specs.declared.history.WeaveFault.TheVariants as fault
-use Rattle.m2_history.specs.Link.{WeavesRecords, parts_of}
+use Rattle.m2_history.specs.Link.{AreKept, WeavesRecords, parts_of}
 use Rattle.m2_history.specs.Woven.{BothNow}
 use Rattle.m2_record.specs.IsRecord.{IsRecord}
 use Rattle.m2_record.specs.RecordNow.{RecordNow}
-use Rattle.m2_turned.specs.Records.{RecordsGoOn}
-use Rattle.m2_turned.specs.Sides.{IsTurnOfSides, SidesGoOn, woven_now}
-use Rattle.m2_turned.specs.Told.{AreTold, TellsAll}
+use Rattle.m2_turned.specs.Records.{IsSide, RecordsGoOn}
+use Rattle.m2_turned.specs.Sides.{IsHalf, IsTurnOfSides, SidesGoOn, halves_of, woven_now}
+use Rattle.m2_turned.specs.Told.{AreTold, IsTurnOfRecords, TellsAll}
 use Rattle.m2_turns.specs.Laws.{HasOrder}
 use Rattle.m2_turns.specs.Later.{HaveGot, HaveWritten, IsLater}
 
@@ -36,6 +37,14 @@ ToldIsMoved = (x : BothNow) → AreTold x → IsMoved x
 -- each record does
 abbrev pub RecordsTellAll : Type 0
 RecordsTellAll = (r : RecordNow) → IsRecord r → TellsAll (parts_of r)
+
+-- what kept sides have taken, and whole halves beside them, are halves
+abbrev pub KeptAreHalves : Type 0
+KeptAreHalves = (x : BothNow) → AreKept x → IsSide x.a → IsSide x.b → AllByRecursion IsHalf (halves_of x)
+
+-- so where two records have an order of all before a turn, they have one behind it
+abbrev pub RecordsInTurnsAreWoven : Type 0
+RecordsInTurnsAreWoven = (old new : BothNow) → IsTurnOfRecords old new → HasOrder (woven_now old) → HasOrder (woven_now new)
 
 -- weaving gives an order, or wants memory
 abbrev pub IsFoundOrFull : Result History WeaveFault → Type 0

@@ -2,12 +2,13 @@
 use Rattle.std.specs.Prelude.{◌≡◌, ℕ, ◌+◌, length, map}
 use Rattle.std.specs.List.{AllByRecursion, IsDistinct}
 use Rattle.m2_fabric.specs.declared.socket.SocketId.{SocketId}
-use Rattle.m2_history.specs.Link.{IsWholeHalf}
+use Rattle.m2_history.specs.Link.{AreKept, IsWholeHalf}
 use Rattle.m2_history.specs.Parts.{PartsNow}
 use Rattle.m2_history.specs.Woven.{BothNow, ends_of}
 use Rattle.m2_record.specs.Sources.{log_at}
-use Rattle.m2_turned.specs.Records.{IsSide}
-use Rattle.m2_turned.specs.Sides.{AreHalves, done_on, halves_of}
+use Rattle.m2_turned.specs.Records.{IsSide, RecordsGoOn}
+use Rattle.m2_turned.specs.Sides.{AreHalves, done_on, halves_of, woven_now}
+use Rattle.m2_turns.specs.Later.{HadFlowed}
 use Rattle.m2_weave.specs.declared.strand.StrandItem.TheVariants.{Noted}
 use Rattle.m2_weave.specs.Strands.{read_by, total, written_by}
 use Rattle.m2_woven.specs.Link.{same_end}
@@ -27,3 +28,13 @@ pub record AreTold (x : BothNow) : Type 0 where
   pub halves : AreHalves (halves_of x)
   pub whole : AllByRecursion IsWholeHalf x.loose
   pub apart : IsDistinct same_end (ends_of x)
+
+-- ---- a turn
+
+-- Both records go on. Before the turn all that was got and put was told; and all that an end has got by the end of the turn the
+-- other end had put before it. Behind the turn sides and halves are what records and halves keep.
+pub record IsTurnOfRecords (old new : BothNow) : Type 0 where
+  pub go_on : RecordsGoOn old new
+  pub told : AreTold old
+  pub flowed : HadFlowed (woven_now old) (woven_now new)
+  pub kept : AreKept new

@@ -38,6 +38,22 @@ pub fn sides_in_turns_are_woven()
     turns_are_woven();
 }
 
+/// The halves that kept sides have taken, and whole ones beside them, are on their sockets, and their asks were
+/// judged behind entries that are there.
+pub fn kept_are_halves()
+    ensures { laws.KeptAreHalves }
+{}
+
+/// So where two records with the halves beside them have an order of all that they did before a turn, they have
+/// one behind it.
+pub fn records_in_turns_are_woven()
+    ensures { laws.RecordsInTurnsAreWoven }
+{
+    records_go_on();
+    told_is_moved();
+    sides_in_turns_are_woven();
+}
+
 /// Of two sides that have an order weaving finds no byte that doesn't fit.
 pub fn an_order_is_found()
     ensures { laws.AnOrderIsFound }

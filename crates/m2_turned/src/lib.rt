@@ -12,6 +12,6 @@
 mod laws;
 
 pub use laws::{
-    an_order_is_found, records_go_on, records_tell_all, sides_are_later, sides_in_turns_are_woven,
-    told_is_moved,
+    an_order_is_found, kept_are_halves, records_go_on, records_in_turns_are_woven,
+    records_tell_all, sides_are_later, sides_in_turns_are_woven, told_is_moved,
 };

@@ -1,16 +1,14 @@
 -- A turn in which something is read: a side has opened a socket and put a byte there; in the turn a half at the other end reads
 -- it.
-use Rattle.std.proofs.Common.{◌≡◌, ℕ, zero, suc, ◌+◌, ◌<◌, ◌≤◌, Bool, true, false, if◌then◌else◌, List, [], ◌∷◌, ◌++◌, length, take, refl, sym, ap, ◌∙◌, subst, arith, Option, Some, None}
-use Rattle.std.specs.Prelude.{slice_get}
+use Rattle.std.proofs.Common.{◌≡◌, ℕ, zero, suc, Bool, true, false, List, [], ◌∷◌, take, refl, sym, subst, arith}
 use Rattle.m2_fabric.specs.declared.socket.SocketId.{SocketId}
 use Rattle.m2_journal.specs.declared.entry.Entry.TheVariants as entry
-use Rattle.m2_weave.specs.declared.strand.StrandItem.{StrandItem}
 use Rattle.m2_weave.specs.declared.strand.StrandItem.TheVariants.{Noted}
-use Rattle.m2_weave.specs.Strands.{Bytes, EndOf, StrandNow, handed_by, judged_by, total}
+use Rattle.m2_weave.specs.Strands.{StrandNow, handed_by, judged_by, total}
 use Rattle.m2_weave.specs.Rule.{Woven, strand_at}
 use Rattle.m2_weave.specs.Tidy.{AreTidy}
-use Rattle.m2_turns.specs.Later.{GoesOn, HaveGot, IsLater, IsOfTurn, IsTurn, ReadsAt, StrandGoesOn, WasWritten, WasWrittenBefore}
-use Rattle.m2_turns.specs.Laws.{ATurnIsReadIn, HasOrder}
+use Rattle.m2_turns.specs.Later.{GoesOn, HaveGot, IsLater, ReadsAt, StrandGoesOn, WasWritten, WasWrittenBefore}
+use Rattle.m2_turns.specs.Laws.{ATurnIsReadIn}
 
 abbrev socket : SocketId
 socket = record { from_ip = 1; from_port = 1; to_ip = 2; to_port = 2; turn = 0 }

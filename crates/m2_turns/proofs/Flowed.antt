@@ -1,13 +1,13 @@
 -- What had flowed before a turn had been written before it.
-use Rattle.std.proofs.Common.{◌≡◌, ℕ, zero, suc, ◌+◌, ◌<◌, ◌≤◌, Bool, true, List, [], ◌∷◌, ◌++◌, length, length-append, take, drop, refl, sym, ap, ◌∙◌, arith, Option, Some, None}
+use Rattle.std.proofs.Common.{◌≡◌, ℕ, zero, suc, ◌+◌, ◌<◌, ◌≤◌, true, List, [], ◌∷◌, ◌++◌, length, length-append, take, drop, refl, sym, ap, ◌∙◌, arith, None}
 use Rattle.std.specs.Prelude.{nat_lt, if◌then◌else◌, slice_get}
 use Rattle.std.proofs.lemmas.List.{length-drop, length-take}
 use Rattle.std.proofs.lemmas.Bool.Decides.{nat_tests}
-use Rattle.m2_weave.specs.Rule.{Woven, AreThere, byte_at, strand_at}
+use Rattle.m2_weave.specs.Rule.{AreThere, strand_at}
 use Rattle.m2_weave.specs.Stops.{sizes}
-use Rattle.m2_weave.specs.Strands.{EndOf, other, end_in, place_of, written_at}
+use Rattle.m2_weave.specs.Strands.{other, end_in, place_of, written_at}
 use Rattle.m2_weave.proofs.Written.{get_drop, get_take}
-use Rattle.m2_turns.specs.Later.{GoesOn, HaveWritten, HadFlowed, IsTurnOfBytes, IsTurn, WasWrittenBefore}
+use Rattle.m2_turns.specs.Later.{GoesOn}
 use Rattle.m2_turns.specs.Laws.{FlowedWasWritten}
 
 -- a place within a list is the same in one that goes on

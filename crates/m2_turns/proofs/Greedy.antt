@@ -1,9 +1,9 @@
 -- By every rule there is a greedy order: one takes whatever may come until nothing may.
-use Rattle.std.proofs.Common.{◌≡◌, ℕ, zero, suc, ◌+◌, ◌<◌, ◌≤◌, ◌⊎◌, inl, inr, Bool, true, false, List, [], ◌∷◌, length, refl, sym, ap, ◌∙◌, subst, arith}
+use Rattle.std.proofs.Common.{◌≡◌, ℕ, zero, suc, ◌+◌, ◌<◌, ◌≤◌, ◌⊎◌, inl, inr, Bool, true, false, List, [], ◌∷◌, length, refl, subst, arith}
 use Rattle.std.specs.Prelude.{slice_index}
 use Rattle.m2_merge.specs.Merging.{even}
-use Rattle.m2_merge.specs.Order.{Cut, Rule, AtMost, AreNext, IsGreedy, IsStuck, MayCome, come, come_all, nothing, reached}
-use Rattle.m2_merge.proofs.Furthest.{begins, come-length, in-range, step-within}
+use Rattle.m2_merge.specs.Order.{Cut, Rule, AtMost, AreNext, IsGreedy, IsStuck, MayCome, come, come_all, nothing}
+use Rattle.m2_merge.proofs.Furthest.{begins, in-range, step-within}
 
 -- ---- whether a strand may go on
 

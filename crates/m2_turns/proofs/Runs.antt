@@ -3,7 +3,6 @@ use Rattle.std.proofs.Common.{◌≡◌, ℕ, List, [], ◌∷◌, length, map, 
 use Rattle.std.specs.List.{AllByRecursion}
 use Rattle.m2_merge.specs.Order.{nothing}
 use Rattle.m2_weave.specs.Rule.{Woven}
-use Rattle.m2_weave.specs.Stops.{sizes}
 use Rattle.m2_weave.specs.Strands.{StrandNow}
 use Rattle.m2_turns.specs.Later.{AreTurns, behind}
 use Rattle.m2_turns.specs.Laws.{HasOrder, IsAtStart, RunsAreWoven, TurnsAreWoven}

@@ -13,14 +13,13 @@ use Rattle.m2_merge.specs.Order.{Cut, AreLawful, IsGreedy, IsStuck, come, come_a
 use Rattle.m2_merge.proofs.Furthest.{are-lawful, come-length, come-other, come-same, in-range, reached-count, zero-at}
 use Rattle.m2_weave.specs.declared.strand.StrandItem.{StrandItem}
 use Rattle.m2_weave.specs.declared.strand.StrandItem.TheVariants.{Noted, Handed}
-use Rattle.m2_weave.specs.declared.unfit.Unfit.{Unfit}
-use Rattle.m2_weave.specs.Strands.{EndOf, StrandNow, other, end_in, handed_at, handed_by, has_opened, judged_at, judged_by, place_of, same_side, total, total_at, written_at, written_by, written_in, read_by}
+use Rattle.m2_weave.specs.Strands.{EndOf, StrandNow, other, end_in, handed_by, has_opened, judged_by, place_of, same_side, total, total_at, written_at, written_by, written_in, read_by}
 use Rattle.m2_weave.specs.Rule.{Woven, AreThere, MayCome, by_bytes, byte_at, comes, nothing_at_all, strand_at}
 use Rattle.m2_weave.specs.Stops.{IsWoven, StopsAt, first_stop, sizes}
-use Rattle.m2_weave.specs.Tidy.{IsAtRead, TidyStopsAreReads}
+use Rattle.m2_weave.specs.Tidy.{TidyStopsAreReads}
 use Rattle.m2_weave.specs.Laws.{RuleDecides}
 use Rattle.m2_weave.proofs.SameSocket.{one_socket, same_refl}
-use Rattle.m2_turns.specs.Later.{GoesOn, HasRead, HasWritten, HaveGot, IsLater, IsOfTurn, IsTurn, StrandGoesOn, ReadsAt}
+use Rattle.m2_turns.specs.Later.{GoesOn, HasRead, HasWritten, HaveGot, IsLater, IsOfTurn, IsTurn, ReadsAt}
 use Rattle.m2_turns.specs.Laws.{HasOrder}
 use Rattle.m2_turns.proofs.Greedy.{greedy_of}
 use Rattle.m2_turns.proofs.Sums.{sum_over, total_on}
