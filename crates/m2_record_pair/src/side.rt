@@ -199,6 +199,7 @@ impl Side {
     }
 
     /// What its end of a socket did; none where it has no such end.
+<<<<<<< HEAD
     pub(crate) fn log_at(&self, socket: &SocketId) -> Option<&EndLog> {
         if let Some(end) = self.record.feed() {
             if socket.is_same(&end.id()) {
@@ -221,6 +222,16 @@ impl Side {
             }
         }
         None
+=======
+    pub(crate) fn log_at(&self, socket: &SocketId) -> Option<&EndLog>
+        ensures { option_map (λ l. log_of l.now) result ≡ log_in (ends_seen self.now) socket.now }
+    {
+        let feed = log_of_feed(self.record.feed(), socket);
+        let open = log_of_half(self.halves.as_slice(), socket);
+        let spent = log_of_end(self.record.spent(), socket);
+        let loose = log_of_loose(self.loose.as_slice(), socket);
+        feed.or(open).or(spent).or(loose)
+>>>>>>> 142090c (m2_record_pair: calls say what they do to a side, and what is left)
     }
 
     /// Tells its end of a socket of the other side, where it has it and the end isn't one that it left. Err for want of memory
