@@ -2,7 +2,6 @@
 //! judges an ask; and what comes where a byte or an ask isn't what it should be.
 
 ghost use Rattle.std.specs.Prelude.{◌≡◌, false, IfOk};
-ghost use Rattle.m2_fabric.specs.Log.{nothing_done};
 
 use m2_answers::AskFacts;
 use m2_bytes::{Items, NoMemory};

@@ -1,25 +1,18 @@
 -- A record stays supplied by what it works with.
 use Rattle.std.proofs.Common.{◌≡◌, ℕ, Bool, true, false, List, Option, Some, None, Ok, Err, sym, subst, cond}
 use Rattle.std.specs.Prelude.{IfSome, IsSome, Result}
-use Rattle.m2_live.specs.LiveNow.{LiveNow}
-use Rattle.m2_live.specs.LiveNow as live
-use Rattle.m2_live.specs.Effects as effects
 use Rattle.m2_fabric.specs.declared.end.News.{News}
 use Rattle.m2_fabric.specs.declared.socket.SocketId.{SocketId}
 use Rattle.m2_fabric.specs.End.{SeenEnd}
 use Rattle.m2_feed.specs.FeedNow.{FeedNow}
 use Rattle.m2_journal.specs.declared.facts.PlanStep.{PlanStep}
-use Rattle.m2_session.specs.declared.event.Event.{Event}
 use Rattle.m2_session.specs.declared.event.Event.TheVariants as event
-use Rattle.m2_session.specs.Steps.{step_of}
-use Rattle.m2_shared.specs.Place.{Place}
 use Rattle.m2_record.specs.Calls.{AddsStep, Connects, after_missing, after_news, is_feed, with_opened}
 use Rattle.m2_core.specs.Calls.{IsOpening}
 use Rattle.m2_record.specs.RecordNow.{RecordNow}
+use Rattle.m2_record.proofs.Names.{differ}
+use Rattle.m2_record.proofs.Owning.{tells-owned}
 use Rattle.m2_record_pair.specs.SideNow.{IsSupplied, Means}
-
-differ : false ≡ true → ⊥
-differ e = subst (λ b. elim b as (λ _. Type 0) [ false ↦ Unit {0} | true ↦ ⊥ ]) e tt
 
 pub supplied_same : (m : Means) (old new : RecordNow) → new ≡ old → IsSupplied m old → IsSupplied m new
 supplied_same m old new e h = subst (IsSupplied m) (sym e) h
@@ -44,29 +37,8 @@ supplied_room m old new e h = subst (IsSupplied m) (sym e) (record { owned = rec
 
 -- ---- a socket that was opened
 
-closing : (b : Bool) (place : Place) (l : LiveNow) → live.IsOwned place l.granted → live.IsOwned place (effects.where_true b effects.closes l).granted
-closing true place l h = tt
-closing false place l h = h
-
-requeueing : (b : Bool) (place : Place) (l : LiveNow) → live.IsOwned place l.granted → live.IsOwned place (effects.where_true b effects.requeues l).granted
-requeueing true place l h = h
-requeueing false place l h = h
-
-setting : (b : Bool) (place : Place) (l : LiveNow) → live.IsOwned place l.granted → live.IsOwned place (effects.where_true b effects.sets_back l).granted
-setting true place l h = h
-setting false place l h = h
-
-discarding : (b : Bool) (place : Place) (l : LiveNow) → live.IsOwned place l.granted → live.IsOwned place (effects.where_true b effects.discards l).granted
-discarding true place l h = h
-discarding false place l h = h
-
-tells_owned : (v : Event) (place : Place) (l : LiveNow) → live.IsOwned place l.granted → live.IsOwned place (effects.tells v l).granted
-tells_owned v place l h =
-    let e = (step_of l.session v).effects in
-    discarding e.discard place _ (setting e.set_back place _ (requeueing e.requeue place _ (closing e.close place (record l { session = (step_of l.session v).session }) h)))
-
 opened_at : (o : Option FeedNow) (end : SeenEnd) (m : Means) (old new : RecordNow) → IfSome o (λ v. IsOpening old.core.facts end v × (new ≡ record (with_opened v end.id old) { room = new.room })) → IsSome o → IsSupplied m old → IsSupplied m new
-opened_at (Some v) end m old new h s k = subst (IsSupplied m) (sym h.1) (record { owned = record { feed = tells_owned event.Dialled m.throttle.place old.core.live k.owned.feed; parcels = k.owned.parcels }; top = k.top })
+opened_at (Some v) end m old new h s k = subst (IsSupplied m) (sym h.1) (record { owned = record { feed = tells-owned event.Dialled m.throttle.place old.core.live k.owned.feed; parcels = k.owned.parcels }; top = k.top })
 opened_at None end m old new h s k = absurd (differ s)
 
 pub supplied_opened : (end : SeenEnd) (m : Means) (old new : RecordNow) → Connects end old new → IsSupplied m old → IsSupplied m new

@@ -1,18 +1,22 @@
 -- What contracts see of a side of a pair, and what its type keeps. This project's own.
-use Rattle.std.specs.Prelude.{◌≡◌, ℕ, ◌-◌, ◌<◌, ◌≤◌, List, [], ◌∷◌, ◌++◌}
+use Rattle.std.specs.Prelude.{◌≡◌, ℕ, ◌-◌, ◌<◌, ◌≤◌, List, [], ◌∷◌, ◌++◌, Option, map}
+use Rattle.std.specs.Option.{option_map}
 use Rattle.m2_dispatch.specs.declared.logged.Logged.{Logged}
+use Rattle.m2_fabric.specs.declared.socket.SocketId.{SocketId}
 use Rattle.m2_fabric.specs.End.{SeenEnd}
+use Rattle.m2_fabric.specs.Log.{Log}
 use Rattle.m2_live.specs.LiveNow.{held}
 use Rattle.m2_journal.specs.SideFacts.{SideFacts}
 use Rattle.m2_shared.specs.declared.limits.TheConstants.{MOST_TAKEN}
 use Rattle.m2_shared.specs.Numbers.{SeenNumberPass, SeenNumbers}
 use Rattle.m2_shared.specs.Place.{IsAlone}
 use Rattle.m2_shared.specs.Throttle.{SeenTakePass, SeenThrottle}
-use Rattle.m2_trail.specs.Arrivals.{LooseNow}
+use Rattle.m2_trail.specs.Arrivals.{LooseNow, left_of}
 use Rattle.m2_trail.specs.Incoming.{IncomingNow, accepted}
 use Rattle.m2_record.specs.Calls.{Connects, Owns, all_granted}
 use Rattle.m2_record.specs.IsRecord.{new_record}
-use Rattle.m2_record.specs.RecordNow.{RecordNow, Rooms}
+use Rattle.m2_record.specs.RecordNow.{RecordNow, Rooms, feed_end}
+use Rattle.m2_record.specs.Sources.{end_at}
 
 pub record SideNow : Type 0 where
   -- its record
@@ -86,3 +90,29 @@ pub record Opens (end : SeenEnd) (old new : SideNow) : Type 0 where
 pub record Accepts (end : SeenEnd) (old new : SideNow) : Type 0 where
   pub room : ℕ
   pub only : new ≡ record old { halves = old.halves ++ accepted old.kept.core.facts.node.entity end room ∷ [] }
+
+-- an ask is judged: what its halves are, and what was dispatched, is as it was
+abbrev pub OnlyJudges : SideNow → SideNow → Type 0
+OnlyJudges old new = new ≡ record old { kept = new.kept; out = new.out }
+
+-- its halves go on, and asks are judged: nothing is dispatched
+abbrev pub OnlyArrives : SideNow → SideNow → Type 0
+OnlyArrives old new = new ≡ record old { kept = new.kept; out = new.out; halves = new.halves; loose = new.loose }
+
+-- nothing is done but that sockets of the peer are accepted
+abbrev pub OnlyAccepts : SideNow → SideNow → Type 0
+OnlyAccepts old new = new ≡ record old { halves = new.halves }
+
+-- the sockets of the peer that were never taken: those that were closed, and then those that are open, as they are
+abbrev pub untaken : SideNow → List LooseNow
+untaken s = s.loose ++ map left_of s.halves
+
+-- ---- its ends
+
+-- the feed's, those of the open sockets of the peer, those that were the feed, and those of the sockets that were left
+abbrev pub ends_seen : SideNow → List SeenEnd
+ends_seen s = feed_end s.kept.core.live.feed ++ map (λ (h : IncomingNow). h.end) s.halves ++ s.kept.spent ++ map (λ (l : LooseNow). l.end) s.loose
+
+-- what the first end of a socket did, where there is one
+abbrev pub log_in : List SeenEnd → SocketId → Option Log
+log_in ends k = option_map (λ (e : SeenEnd). e.log) (end_at ends k)

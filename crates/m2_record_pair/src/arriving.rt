@@ -1,6 +1,7 @@
 //! The sockets of the peer that a side has accepted and not taken.
 
 ghost use Rattle.std.specs.Prelude.{◌≡◌, OnErr};
+ghost use Rattle.m2_record_pair.specs.SideNow.{OnlyArrives, OnlyJudges};
 
 use crate::judging::HalfLeft;
 use crate::side::{Side, put};
@@ -19,7 +20,8 @@ impl Side {
     /// Each half reads, answers and writes until it rests, and where it is asked, its ask is judged. Err is want of memory
     /// before anything was done.
     pub(crate) fn arrivals(&mut self, now: u64) -> Result<(), NoMemory>
-        ensures { OnErr result (self.new ≡ self.old) }
+        ensures only { OnlyArrives self.old self.new }
+        ensures err { OnErr result (self.new ≡ self.old) }
     {
         self.loose.reserve(self.halves.len())?;
         let mut none = Vec::new(self.alloc);
@@ -33,7 +35,9 @@ impl Side {
     }
 
     /// Keeps what is left of a half, where memory lasts.
-    fn keep(&mut self, left: HalfLeft) {
+    fn keep(&mut self, left: HalfLeft)
+        ensures { OnlyArrives self.old self.new }
+    {
         match left {
             HalfLeft::Open(half) => match self.halves.push(half) {
                 Ok(()) => {}
@@ -45,7 +49,9 @@ impl Side {
     }
 
     /// A half goes on until it rests, is closed or is taken.
-    fn half_goes(&mut self, half: Incoming<SimEnd>, now: u64) -> HalfLeft {
+    fn half_goes(&mut self, half: Incoming<SimEnd>, now: u64) -> HalfLeft
+        ensures { OnlyJudges self.old self.new }
+    {
         let mut piece = [0; PIECE];
         let mut half = half;
         'asks: for _ in 0..MOST_ASKS {

@@ -5,7 +5,7 @@ ghost use Rattle.std.specs.Bool.{OnTrue, OnFalse};
 ghost use Rattle.std.specs.Option.{option_to_list};
 ghost use Rattle.m2_fabric.specs.End.{fresh_end};
 ghost use Rattle.m2_fabric.specs.Sockets.{is_among};
-ghost use Rattle.m2_record.specs.Calls.{ConnectIsDue, Connects, IsNewSocket, after_missing};
+ghost use Rattle.m2_record.specs.Calls.{ConnectIsDue, IsNewSocket, after_missing};
 ghost use Rattle.m2_record.specs.IsRecord.{named_in, socket_of};
 ghost use Rattle.m2_record.specs.RecordNow.{ends_of, ids_of};
 ghost use Rattle.m2_record_pair.specs.SideNow.{Accepts, Opens, IsSameButRoom};

@@ -1,6 +1,6 @@
 //! How a side judges the asks of its peer.
 
-ghost use Rattle.std.specs.Prelude.{◌≡◌, ◌++◌, true, false, IfSome};
+ghost use Rattle.std.specs.Prelude.{◌≡◌, true, false, IfSome};
 ghost use Rattle.std.specs.Bool.{OnTrue};
 ghost use Rattle.m2_handshake.specs.declared.ident.IdentCheck.TheVariants as checks;
 ghost use Rattle.m2_trail.specs.Asks.{AgreesWith, is_ident};
@@ -8,15 +8,14 @@ ghost use Rattle.m2_trail.specs.Incoming.{IsAnswered};
 ghost use Rattle.m2_journal.specs.Lawful.{judged_on};
 ghost use Rattle.m2_record.specs.TakenTrails.{judgements_in};
 ghost use Rattle.m2_record_pair.specs.Judging.{IfMissing, IsKnown};
-ghost use Rattle.m2_record_pair.specs.Sockets.{judged_by};
+ghost use Rattle.m2_record_pair.specs.SideNow.{OnlyJudges};
 
 use crate::connecting::has_end;
 use crate::side::Side;
-use m2_answers::AskFacts;
 use m2_fabric::SocketId;
 use m2_handshake::IdentCheck;
 use m2_journal::{Entry, JudgedItem};
-use m2_record::{Judged, Record};
+use m2_record::{Judged, behind_judged};
 use m2_session::Answer;
 use m2_shared::Draw;
 use m2_sim_fabric::SimEnd;
@@ -35,7 +34,9 @@ pub(crate) enum HalfLeft {
 impl Side {
     /// Judges an ask, and replies where the socket isn't taken. What isn't meant for this side is closed, and so is what can't be
     /// judged.
-    pub(crate) fn judge(&mut self, arrival: Arrival<SimEnd>, now: u64) -> HalfLeft {
+    pub(crate) fn judge(&mut self, arrival: Arrival<SimEnd>, now: u64) -> HalfLeft
+        ensures { OnlyJudges self.old self.new }
+    {
         if arrival.is_judged() {
             return HalfLeft::Loose(arrival.close());
         }
@@ -120,45 +121,11 @@ fn refused(arrival: Arrival<SimEnd>, bits: u64) -> HalfLeft
 }
 
 /// Whether a journal has judged just these asks on a socket, in this order. Where it says so, it has.
-#[tactic(auto, using(crate::proofs::Sockets::judged_more))]
 fn has_judged(journal: &[Entry], socket: &SocketId, judged: &[JudgedItem]) -> bool
     ensures { OnTrue result (judged.now ≡ judged_on socket.now (judgements_in journal.now)) }
 {
-    let mut left = judged;
-    for e in journal {
-        let Some(rest) = behind(e, socket, left) else {
-            return false;
-        };
-        left = rest;
+    match behind_judged(journal, socket, judged) {
+        Some(rest) => rest.is_empty(),
+        None => false,
     }
-    left.is_empty()
-}
-
-/// What is left of asks behind the one that an entry has judged on a socket, if it has one; none where the first isn't that.
-fn behind<'a>(e: &Entry, socket: &SocketId, left: &'a [JudgedItem]) -> Option<&'a [JudgedItem]>
-    ensures { IfSome result (λ rest. left.now ≡ judged_by socket.now e.now ++ rest.now) }
-{
-    let Entry::Judged {
-        socket: its,
-        ask,
-        number: _,
-        answer,
-    } = e
-    else {
-        return Some(left);
-    };
-    if !socket.is_same(its) {
-        return Some(left);
-    }
-    match left.split_first() {
-        Some((first, rest)) if is_item(first, ask, answer) => Some(rest),
-        _ => None,
-    }
-}
-
-/// Whether a judged ask is this one.
-fn is_item(item: &JudgedItem, ask: &AskFacts, answer: &Answer) -> bool
-    ensures { OnTrue result (item.now ≡ record { ask = ask.now; answer = answer.now }) }
-{
-    item.ask == *ask && item.answer == *answer
 }

@@ -1,13 +1,12 @@
 //! Two sides, and the sockets between them.
 
-ghost use Rattle.std.specs.Prelude.{◌≡◌, ◌+◌, ◌≤◌, [], slice_get, OnOk, OnErr};
+ghost use Rattle.std.specs.Prelude.{◌≡◌, ◌+◌, ◌≤◌, ◌++◌, [], length, slice_get, IfOk, OnOk, OnErr};
 ghost use Rattle.std.specs.Bool.{OnTrue, OnFalse};
 ghost use Rattle.m2_record.specs.Calls.{AddsStep, after_missing};
 ghost use Rattle.m2_record_pair.specs.PairNow.{ConnectsAs, OnlyAt, between, hears_on, other, side_at, with_side, without_halves};
-ghost use Rattle.m2_record_pair.specs.SideNow.{left_out};
+ghost use Rattle.m2_record_pair.specs.SideNow.{OnlyAccepts, OnlyArrives, left_out, untaken};
 ghost use Rattle.m2_record_pair.specs.Steps.{TakesStep};
 ghost use Rattle.m2_record_pair.specs.Wires.{after_flow};
-ghost use Rattle.m2_record_pair.specs.Hearing.{side_hears};
 
 use crate::side::Side;
 use crate::step::{Connecting, SideStep};
@@ -132,6 +131,7 @@ impl Pair {
     /// Each half of a side reads, answers and writes until it rests, and where it is asked, its ask is judged. Err is want of
     /// memory before anything was done.
     pub fn arrivals(&mut self, at: Which, now: u64) -> Result<(), NoMemory>
+        ensures arrives { OnlyArrives (side_at at self.old) (side_at at self.new) }
         ensures only { OnlyAt at self.old self.new }
         ensures err { OnErr result (self.new ≡ self.old) }
     {
@@ -142,9 +142,10 @@ impl Pair {
     }
 
     /// A side's turn: it connects where that is due, and takes steps until none moves, or so many; then its halves go on. How
-    /// many steps moved.
+    /// many steps moved. The other side accepts the sockets that are opened, and does nothing else.
     pub fn turn(&mut self, at: Which, now: u64, most: u32) -> u32
         ensures most { result ≤ most }
+        ensures other { OnlyAccepts (side_at (other at) self.old) (side_at (other at) self.new) }
     {
         let mut moved = 0;
         'steps: for taken in 0..most {
@@ -204,14 +205,24 @@ impl Pair {
     /// Takes all sockets of both sides that no record has taken, those that are open as they are. The sides have none then. Err
     /// for want of memory changes nothing.
     pub fn take_loose(&mut self) -> Result<LooseList<SimEnd>, NoMemory>
+        ensures taken { IfOk result (λ l. l.items ≡ untaken self.old.first ++ untaken self.old.second) }
         ensures ok { OnOk result (self.new ≡ without_halves self.old) }
         ensures err { OnErr result (self.new ≡ self.old) }
     {
         let mut loose = Items::empty(self.alloc);
-        loose.reserve(self.first.count().saturating_add(self.second.count()))?;
+        loose.reserve(self.untaken()?)?;
         self.first.leave_all(&mut loose);
         self.second.leave_all(&mut loose);
         Ok(loose)
+    }
+
+    /// How many sockets no record has taken. Err where that is no number.
+    fn untaken(&self) -> Result<usize, NoMemory>
+        ensures { IfOk result (λ n. n ≡ length (untaken self.now.first) + length (untaken self.now.second)) }
+    {
+        let first = self.first.count()?;
+        let second = self.second.count()?;
+        first.checked_add(second).ok_or(NoMemory)
     }
 
     /// Ends both records. How many bytes the throttle of each has granted that aren't back.

@@ -1,17 +1,20 @@
 //! A side of a pair.
 
-ghost use Rattle.std.specs.Prelude.{◌≡◌, ◌<◌, ◌≤◌, [], OnOk, OnErr};
+ghost use Rattle.std.specs.Prelude.{◌≡◌, ◌-◌, ◌<◌, ◌≤◌, ◌⊎◌, ◌∷◌, ◌++◌, [], length, map, option_map, IfOk, OnOk, OnErr};
 ghost use Rattle.std.specs.Bool.{OnTrue};
 ghost use Rattle.std.specs.List.{list_any};
+ghost use Rattle.std.specs.Option.{option_to_list};
 ghost use Rattle.m2_answers.specs.declared.cookie.TheConstants.{MOST_PLACES};
+ghost use Rattle.m2_fabric.specs.Log.{log_of};
 ghost use Rattle.m2_fabric.specs.Sockets.{same_socket};
 ghost use Rattle.m2_message.specs.Message.{IsSendable};
 ghost use Rattle.m2_shared.specs.declared.limits.TheConstants.{MOST_TAKEN};
 ghost use Rattle.m2_record.specs.Calls.{AddsStep};
 ghost use Rattle.m2_record.specs.IsRecord.{CanBePlanned};
 ghost use Rattle.m2_live.specs.Waits.{AreWaits};
+ghost use Rattle.m2_trail.specs.Arrivals.{left_of};
 ghost use Rattle.m2_record_pair.specs.Hearing.{side_hears, half_hears};
-ghost use Rattle.m2_record_pair.specs.SideNow.{left_out, new_side};
+ghost use Rattle.m2_record_pair.specs.SideNow.{ends_seen, left_out, log_in, new_side, untaken};
 ghost use Rattle.m2_record_pair.specs.Steps.{TakesStep};
 
 use crate::dispatching::{dispatch, step_record};
@@ -199,30 +202,6 @@ impl Side {
     }
 
     /// What its end of a socket did; none where it has no such end.
-<<<<<<< HEAD
-    pub(crate) fn log_at(&self, socket: &SocketId) -> Option<&EndLog> {
-        if let Some(end) = self.record.feed() {
-            if socket.is_same(&end.id()) {
-                return Some(end.log());
-            }
-        }
-        'halves: for half in self.halves.iter() {
-            if socket.is_same(&half.id()) {
-                return Some(half.end().log());
-            }
-        }
-        'spent: for end in self.record.spent() {
-            if socket.is_same(&end.id()) {
-                return Some(end.log());
-            }
-        }
-        'loose: for half in self.loose.as_slice() {
-            if socket.is_same(&half.id()) {
-                return Some(half.end().log());
-            }
-        }
-        None
-=======
     pub(crate) fn log_at(&self, socket: &SocketId) -> Option<&EndLog>
         ensures { option_map (λ l. log_of l.now) result ≡ log_in (ends_seen self.now) socket.now }
     {
@@ -231,7 +210,6 @@ impl Side {
         let spent = log_of_end(self.record.spent(), socket);
         let loose = log_of_loose(self.loose.as_slice(), socket);
         feed.or(open).or(spent).or(loose)
->>>>>>> 142090c (m2_record_pair: calls say what they do to a side, and what is left)
     }
 
     /// Tells its end of a socket of the other side, where it has it and the end isn't one that it left. Err for want of memory
@@ -252,24 +230,28 @@ impl Side {
         }
     }
 
-    /// How many sockets of the peer it has accepted and not taken.
-    pub(crate) fn count(&self) -> usize {
-        self.loose.len().saturating_add(self.halves.len())
+    /// How many sockets of the peer it has accepted and not taken. Err where that is no number.
+    pub(crate) fn count(&self) -> Result<usize, NoMemory>
+        ensures { IfOk result (λ n. n ≡ length (untaken self.now)) }
+    {
+        self.loose
+            .len()
+            .checked_add(self.halves.len())
+            .ok_or(NoMemory)
     }
 
     /// Leaves all sockets of the peer that aren't taken as they are, and moves them, with those that were closed, to the end of
     /// a list that has room for them.
     pub(crate) fn leave_all(&mut self, loose: &mut LooseList<SimEnd>)
-        ensures { self.new ≡ record self.old { halves = []; loose = [] } }
+        requires room { length (untaken self.old) ≤ loose.old.room }
+        ensures left { loose.new.items ≡ loose.old.items ++ untaken self.old }
+        ensures room { loose.new.room ≡ loose.old.room - length (untaken self.old) }
+        ensures none { self.new ≡ record self.old { halves = []; loose = [] } }
     {
         let closed = std::mem::replace(&mut self.loose, Items::empty(self.alloc));
-        'closed: for half in closed.into_vec() {
-            put(loose, half);
-        }
+        move_all(closed.into_vec(), loose);
         let halves = std::mem::replace(&mut self.halves, Vec::new(self.alloc));
-        'open: for half in halves {
-            put(loose, half.leave());
-        }
+        leave_all(halves, loose);
     }
 
     /// Ends the record, which gives back what it holds. How many bytes its throttle has granted that aren't back.
@@ -295,8 +277,78 @@ impl Side {
     }
 }
 
+/// What the feed's end did, where it is one of this socket.
+fn log_of_feed<'a>(feed: Option<&'a SimEnd>, socket: &SocketId) -> Option<&'a EndLog>
+    ensures { option_map (λ l. log_of l.now) result ≡ log_in (option_to_list (option_map (λ e. e.now) feed.entry)) socket.now }
+{
+    match feed {
+        Some(end) if socket.is_same(&end.id()) => Some(end.log()),
+        _ => None,
+    }
+}
+
+/// What the first of these ends did that is one of this socket.
+fn log_of_end<'a>(ends: &'a [SimEnd], socket: &SocketId) -> Option<&'a EndLog>
+    ensures { option_map (λ l. log_of l.now) result ≡ log_in ends.now socket.now }
+{
+    for end in ends {
+        if socket.is_same(&end.id()) {
+            return Some(end.log());
+        }
+    }
+    None
+}
+
+/// The same of these halves.
+fn log_of_half<'a>(halves: &'a [Incoming<SimEnd>], socket: &SocketId) -> Option<&'a EndLog>
+    ensures { option_map (λ l. log_of l.now) result ≡ log_in (map (λ h. h.end) halves.now) socket.now }
+{
+    for half in halves {
+        if socket.is_same(&half.id()) {
+            return Some(half.end().log());
+        }
+    }
+    None
+}
+
+/// The same of those that were left.
+fn log_of_loose<'a>(loose: &'a [Loose<SimEnd>], socket: &SocketId) -> Option<&'a EndLog>
+    ensures { option_map (λ l. log_of l.now) result ≡ log_in (map (λ l. l.end) loose.now) socket.now }
+{
+    for half in loose {
+        if socket.is_same(&half.id()) {
+            return Some(half.end().log());
+        }
+    }
+    None
+}
+
+/// Moves sockets to the end of a list that has room for them.
+fn move_all(closed: Vec<Loose<SimEnd>>, loose: &mut LooseList<SimEnd>)
+    requires room { length closed.items ≤ loose.old.room }
+    ensures items { loose.new.items ≡ loose.old.items ++ closed.items }
+    ensures room { loose.new.room ≡ loose.old.room - length closed.items }
+{
+    'closed: for half in closed {
+        loose.push_reserved(half);
+    }
+}
+
+/// Leaves halves as they are, and moves them so.
+fn leave_all(halves: Vec<Incoming<SimEnd>>, loose: &mut LooseList<SimEnd>)
+    requires room { length halves.items ≤ loose.old.room }
+    ensures items { loose.new.items ≡ loose.old.items ++ map left_of halves.items }
+    ensures room { loose.new.room ≡ loose.old.room - length halves.items }
+{
+    'open: for half in halves {
+        loose.push_reserved(half.leave());
+    }
+}
+
 /// Puts a socket at the end of a list, where memory lasts.
-pub(crate) fn put(loose: &mut LooseList<SimEnd>, half: Loose<SimEnd>) {
+pub(crate) fn put(loose: &mut LooseList<SimEnd>, half: Loose<SimEnd>)
+    ensures { (loose.new.items ≡ loose.old.items ++ half ∷ []) ⊎ (loose.new.items ≡ loose.old.items) }
+{
     match loose.push(half) {
         Ok(()) => {}
         Err(_half) => {}

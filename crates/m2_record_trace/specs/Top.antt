@@ -1,12 +1,10 @@
 -- What the program read and printed. This project's own.
-use Rattle.std.specs.Prelude.{◌≡◌, ◌⊎◌, ℕ, ◌+◌, ◌≤◌, List, [], ◌∷◌, Result, Ok, Err}
-use Rattle.m2_bytes.specs.Blob.{Contents}
-use Rattle.m2_edge.specs.Faults.{HasRisen}
+use Rattle.std.specs.Prelude.{◌≡◌, ℕ, ◌+◌, List}
 use Rattle.m2_edge.specs.Sink.{SeenSink, TakesBytes, IsFlushed}
 use Rattle.m2_edge.specs.Source.{SeenSource}
 use Rattle.m2_edge.specs.Whole.{IsReadUpTo}
 use Rattle.m2_record_trace.specs.declared.status.TraceStatus.{TraceStatus}
-use Rattle.m2_record_trace.specs.declared.status.TraceStatus.TheVariants.{Done, ReadFault, WriteFault}
+use Rattle.m2_record_trace.specs.declared.status.TraceStatus.TheVariants.{Done, WriteFault}
 use Rattle.m2_record_trace.specs.Tracing.{HasTrace}
 use Rattle.m2_schedule.specs.declared.reading.TheConstants.{MOST_BYTES}
 

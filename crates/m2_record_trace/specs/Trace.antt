@@ -1,6 +1,6 @@
 -- The trace of two records: what each side knows, planned, did and handed on, and where it stands; and the sockets between
 -- them. docs/PROTOCOL.md has the lines in this order. This project's own.
-use Rattle.std.specs.Prelude.{ℕ, List, ◌++◌, codes}
+use Rattle.std.specs.Prelude.{◌++◌, codes}
 use Rattle.std.specs.List.{flat_map}
 use Rattle.m2_dispatch.specs.Heard.{heard_by}
 use Rattle.m2_record.specs.Due.{on_feed}

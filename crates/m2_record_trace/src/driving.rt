@@ -4,14 +4,14 @@ use m2_bytes::NoMemory;
 use m2_fabric::News;
 use m2_journal::PlanStep;
 use m2_record_pair::{Connecting, Pair, Which};
-use m2_schedule::{Instruction, Order, SideName};
+use m2_schedule::{Instruction, SideName};
 
 /// How many steps a turn takes at most.
-pub const MOST_STEPS_OF_A_TURN: u32 = 10_000;
+pub(crate) const MOST_STEPS_OF_A_TURN: u32 = 10_000;
 
 /// Why an instruction wasn't done.
 #[derive(Clone, Copy, Debug, PartialEq, Eq)]
-pub enum Undone {
+pub(crate) enum Undone {
     /// No such socket was opened by then.
     NoSocket,
     NoMemory,

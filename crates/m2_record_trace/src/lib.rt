@@ -14,7 +14,6 @@ mod text;
 mod top;
 mod tracing;
 
-pub use driving::Undone;
 pub use program::{Ended, run_program};
 pub use status::TraceStatus;
 pub use text::put_trace;

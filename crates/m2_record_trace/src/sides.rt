@@ -1,6 +1,6 @@
 //! The two sides of a trace, before anything is done.
 
-ghost use Rattle.std.specs.Prelude.{◌≡◌, ◌≤◌, ◌<◌};
+ghost use Rattle.std.specs.Prelude.{◌≤◌};
 ghost use Rattle.m2_shared.specs.declared.limits.TheConstants.{MOST_TAKEN};
 
 use m2_addr::Addr;

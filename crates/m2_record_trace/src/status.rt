@@ -1,6 +1,6 @@
 //! How the program ended: the exit code, and the line on standard error.
 
-ghost use Rattle.std.specs.Prelude.{◌≡◌, ◌++◌, codes, IfOk, OnOk};
+ghost use Rattle.std.specs.Prelude.{◌≡◌, ◌++◌, IfOk, OnOk};
 ghost use Rattle.m2_record_trace.specs.Status.{bad_line, bad_number, bad_place, code_of, fixed_line_of, line_of, no_socket, reason_of};
 
 use crate::tracing::Untraced;

@@ -3,7 +3,6 @@
 ghost use Rattle.std.specs.Prelude.{◌≡◌, ◌++◌, codes, map, OnOk};
 ghost use Rattle.std.specs.List.{flat_map};
 ghost use Rattle.std.specs.Option.{option_map, option_to_list};
-ghost use Rattle.m2_record_pair.specs.SideNow.{SideNow};
 ghost use Rattle.m2_record_trace.specs.Trace.{composed_line, did_lines, ends_lines, flags_words, half_lines, handed_lines, loose_lines, moments_words, name_of, record_lines, side_lines, stands_lines, state_line, trace_of, untaken_lines, wire_line, wire_words};
 ghost use Rattle.m2_trace_text.specs.Ends.{end_lines, trail_lines};
 ghost use Rattle.m2_trail.specs.Trails.{trail_now};

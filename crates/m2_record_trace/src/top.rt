@@ -1,6 +1,6 @@
 //! The whole work of the program.
 
-ghost use Rattle.std.specs.Prelude.{◌≡◌, ◌≤◌, IfOk, IfErr, OnOk};
+ghost use Rattle.std.specs.Prelude.{IfOk, IfErr, OnOk};
 ghost use Rattle.m2_edge.specs.Faults.{HasCause};
 ghost use Rattle.m2_record_trace.specs.Top.{IsPrinted, IsRefusal, IsTraceOfFile, Prints, PrintsAs};
 

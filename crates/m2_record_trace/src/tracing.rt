@@ -1,7 +1,6 @@
 //! The trace of a schedule.
 
-ghost use Rattle.std.specs.Prelude.{◌≡◌, ◌++◌, [], IfOk, OnOk};
-ghost use Rattle.m2_record_trace.specs.Trace.{trace_of};
+ghost use Rattle.std.specs.Prelude.{IfOk};
 ghost use Rattle.m2_record_trace.specs.Tracing.{AreRecords, IsTraceOfRecords, Traces};
 
 use crate::driving::{Undone, drive};
