@@ -31,11 +31,7 @@ pub fn behind_judged<'a>(
 }
 
 /// The same of one entry.
-fn behind_one<'a>(
-    e: &Entry,
-    socket: &SocketId,
-    asks: &'a [JudgedItem],
-) -> Option<&'a [JudgedItem]>
+fn behind_one<'a>(e: &Entry, socket: &SocketId, asks: &'a [JudgedItem]) -> Option<&'a [JudgedItem]>
     ensures { IfSome result (λ rest. asks.now ≡ judged_by socket.now e.now ++ rest.now) }
 {
     let Entry::Judged {
