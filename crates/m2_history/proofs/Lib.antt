@@ -11,3 +11,4 @@ pub mod Kept
 pub mod Known
 pub mod Sides
 pub mod BothRecords
+pub mod Halves

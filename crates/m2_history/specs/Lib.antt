@@ -7,3 +7,4 @@ pub mod Ends
 pub mod Link
 pub mod Sockets
 pub mod Steps
+pub mod Halves

@@ -14,6 +14,7 @@ mod dispatching;
 mod history;
 mod keys;
 mod laws;
+mod link;
 mod parts;
 mod posting;
 mod records;
@@ -31,6 +32,7 @@ pub use laws::{
     counts_are_of_the_items, orders_give_points, posted_is_delivered, records_are_kept,
     strands_are_tidy,
 };
+pub use link::are_of_link;
 pub use parts::Parts;
 pub use posting::posted;
 pub use records::weave;
