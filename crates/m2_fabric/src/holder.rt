@@ -14,8 +14,13 @@ use m2_bytes::NoMemory;
 /// Whoever has the ports and ends of all nodes in memory. Whoever drives them makes sockets known at
 /// the other node and moves the bytes through these calls. Nodes are numbered from 0.
 pub trait Holder {
-    /// What contracts see.
+    /// What contracts see of its ports and ends.
     ghost seen: { Self → SeenHolder };
+
+    ghost Rest: { Type 0 };
+
+    /// What it has besides, which none of these calls changes.
+    ghost rest: { Self → Rest };
 
     /// The sockets that the node's ports made, in order.
     fn made(&self, node: u32) -> &SocketIdList
@@ -33,11 +38,13 @@ pub trait Holder {
     fn incoming(&mut self, node: u32, id: SocketId) -> Result<(), NoMemory>
         requires { node < (seen self.old).nodes }
         ensures ok { OnOk result (ComesTo (record { node = node; id = id }) (seen self.old) (seen self.new)) }
-        ensures err { OnErr result (IsAsBefore (record { node = node; id = id }) (seen self.old) (seen self.new)) };
+        ensures err { OnErr result (IsAsBefore (record { node = node; id = id }) (seen self.old) (seen self.new)) }
+        ensures rest { rest self.new ≡ rest self.old };
 
     /// Tells the node's end of that socket of the other side, also while it waits; all else stays.
     fn hear(&mut self, node: u32, id: &SocketId, bytes: &[u8], news: News) -> Result<(), NoMemory>
         requires { node < (seen self.old).nodes }
         ensures ok { OnOk result (OneEndHears (record { node = node; id = id.now }) (after_news news bytes.now) (seen self.old) (seen self.new)) }
-        ensures err { OnErr result (IsAsBefore (record { node = node; id = id.now }) (seen self.old) (seen self.new)) };
+        ensures err { OnErr result (IsAsBefore (record { node = node; id = id.now }) (seen self.old) (seen self.new)) }
+        ensures rest { rest self.new ≡ rest self.old };
 }

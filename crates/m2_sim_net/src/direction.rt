@@ -93,7 +93,8 @@ fn load<H: Holder>(h: &H, d: &Direction, most: u64, piece: &mut Blob) -> Result<
 #[tactic(auto, using(crate::proofs::Told::one_told))]
 fn tell<H: Holder>(h: &mut H, d: &Direction, bytes: &[u8], news: News) -> Result<(), NoMemory>
     requires { d.now.to < (H.seen h.old).nodes }
-    ensures { OnOk result (AreTold (only (reader d.now) (record { news = news; bytes = bytes.now } ∷ [])) (H.seen h.old) (H.seen h.new)) }
+    ensures told { OnOk result (AreTold (only (reader d.now) (record { news = news; bytes = bytes.now } ∷ [])) (H.seen h.old) (H.seen h.new)) }
+    ensures rest { H.rest h.new ≡ H.rest h.old }
 {
     h.hear(d.to, &d.id, bytes, news)
 }
@@ -102,7 +103,8 @@ fn tell<H: Holder>(h: &mut H, d: &Direction, bytes: &[u8], news: News) -> Result
 #[tactic(auto, using(crate::proofs::Told::only_nothing))]
 fn tell_flow<H: Holder>(h: &mut H, d: &Direction, bytes: &[u8]) -> Result<(), NoMemory>
     requires { d.now.to < (H.seen h.old).nodes }
-    ensures { OnOk result (AreTold (only (reader d.now) (flow_told bytes.now)) (H.seen h.old) (H.seen h.new)) }
+    ensures told { OnOk result (AreTold (only (reader d.now) (flow_told bytes.now)) (H.seen h.old) (H.seen h.new)) }
+    ensures rest { H.rest h.new ≡ H.rest h.old }
 {
     if bytes.is_empty() {
         return Ok(());
@@ -119,7 +121,8 @@ fn tell_closing<H: Holder>(
     all: bool,
 ) -> Result<(), NoMemory>
     requires { d.now.to < (H.seen h.old).nodes }
-    ensures { OnOk result (AreTold (only (reader d.now) (closing_told closed all)) (H.seen h.old) (H.seen h.new)) }
+    ensures told { OnOk result (AreTold (only (reader d.now) (closing_told closed all)) (H.seen h.old) (H.seen h.new)) }
+    ensures rest { H.rest h.new ≡ H.rest h.old }
 {
     if !closed {
         return Ok(());
@@ -145,6 +148,7 @@ impl Direction {
         requires to { self.now.to < (H.seen h.old).nodes }
         ensures progress { IfOk result (λ p. p ≡ progress_after most (logs_of (H.seen h.old)) self.now) }
         ensures told { OnOk result (AreTold (only (reader self.now) (passed_on most (logs_of (H.seen h.old)) self.now)) (H.seen h.old) (H.seen h.new)) }
+        ensures rest { H.rest h.new ≡ H.rest h.old }
     {
         if self.progress.over {
             return Ok(self.progress);
@@ -168,7 +172,8 @@ impl Direction {
 /// A node's end of a socket fails from now on, unless it is closed.
 pub(crate) fn fail<H: Holder>(h: &mut H, node: u32, id: &SocketId) -> Result<(), NoMemory>
     requires { node < (H.seen h.old).nodes }
-    ensures { OnOk result (AreTold (failing node (logs_of (H.seen h.old)) id.now) (H.seen h.old) (H.seen h.new)) }
+    ensures told { OnOk result (AreTold (failing node (logs_of (H.seen h.old)) id.now) (H.seen h.old) (H.seen h.new)) }
+    ensures rest { H.rest h.new ≡ H.rest h.old }
 {
     if is_closed(h, node, id) {
         return Ok(());

@@ -73,6 +73,7 @@ impl Kept {
         ensures same { cleared self.new ≡ cleared self.old }
         ensures kept { OnOk result (self.new ≡ kept_after what.now (logs_of (H.seen h.old)) first second self.old) }
         ensures told { OnOk result (AreTold (told_to what.now (logs_of (H.seen h.old)) (both first second self.old)) (H.seen h.old) (H.seen h.new)) }
+        ensures rest { H.rest h.new ≡ H.rest h.old }
     {
         let there = what.pass(h, piece, &self.there(first, second))?;
         let back = what.pass(h, piece, &self.back(first, second))?;

@@ -43,6 +43,7 @@ fn pass_sockets<H: Holder>(
     ensures same { map cleared sockets.new ≡ map cleared sockets.old }
     ensures sockets { OnOk result (sockets.new ≡ map (kept_after what.now (logs_of (H.seen h.old)) first second) sockets.old) }
     ensures told { OnOk result (AreTold (told_to what.now (logs_of (H.seen h.old)) (of_sockets first second sockets.old)) (H.seen h.old) (H.seen h.new)) }
+    ensures rest { H.rest h.new ≡ H.rest h.old }
 {
     for kept in sockets {
         kept.pass(h, piece, first, second, what)?;
@@ -106,6 +107,7 @@ impl Pair {
         ensures same { cleared_pair self.new ≡ cleared_pair self.old }
         ensures pair { OnOk result (self.new ≡ pair_after what.now (logs_of (H.seen h.old)) self.old) }
         ensures told { OnOk result (AreTold (told_to what.now (logs_of (H.seen h.old)) (of_pair self.old)) (H.seen h.old) (H.seen h.new)) }
+        ensures rest { H.rest h.new ≡ H.rest h.old }
     {
         pass_sockets(&mut self.sockets, h, piece, self.first, self.second, what)
     }
@@ -201,6 +203,7 @@ fn pass_each<H: Holder>(
     ensures same { map cleared_pair pairs.new ≡ map cleared_pair pairs.old }
     ensures pairs { OnOk result (pairs.new ≡ map (pair_after what.now (logs_of (H.seen h.old))) pairs.old) }
     ensures told { OnOk result (AreTold (told_to what.now (logs_of (H.seen h.old)) (directions pairs.old)) (H.seen h.old) (H.seen h.new)) }
+    ensures rest { H.rest h.new ≡ H.rest h.old }
 {
     for pair in pairs {
         pair.pass(h, piece, what)?;
@@ -220,6 +223,7 @@ pub(crate) fn pass_all<H: Holder>(
     ensures same { map cleared_pair pairs.new.items ≡ map cleared_pair pairs.old.items }
     ensures pairs { OnOk result (pairs.new.items ≡ map (pair_after what.now (logs_of (H.seen h.old))) pairs.old.items) }
     ensures told { OnOk result (AreTold (told_to what.now (logs_of (H.seen h.old)) (directions pairs.old.items)) (H.seen h.old) (H.seen h.new)) }
+    ensures rest { H.rest h.new ≡ H.rest h.old }
 {
     pass_each(pairs.as_mut_slice(), h, piece, what)
 }

@@ -61,6 +61,7 @@ impl Passing {
         requires to { d.now.to < (H.seen h.old).nodes }
         ensures progress { IfOk result (λ p. p ≡ progress_by self.now (logs_of (H.seen h.old)) d.now) }
         ensures told { OnOk result (AreTold (told_to self.now (logs_of (H.seen h.old)) (d.now ∷ [])) (H.seen h.old) (H.seen h.new)) }
+        ensures rest { H.rest h.new ≡ H.rest h.old }
     {
         if !self.is_about(d) {
             return Ok(d.progress);

@@ -73,6 +73,7 @@ impl SimFabric {
         ensures in_step { OnOk result (IsInStep (record { fabric = self.new; holder = H.seen h.new })) }
         ensures meets { OnOk result (Meets node (record { fabric = self.old; holder = H.seen h.old })
             (record { fabric = self.new; holder = H.seen h.new })) }
+        ensures rest { H.rest h.new ≡ H.rest h.old }
     {
         self.enter_made(h, node)?;
         self.pass(
@@ -103,6 +104,7 @@ impl SimFabric {
         ensures in_step { OnOk result (IsInStep (record { fabric = self.new; holder = H.seen h.new })) }
         ensures flows { OnOk result (Flows a b socket most (record { fabric = self.old; holder = H.seen h.old })
             (record { fabric = self.new; holder = H.seen h.new })) }
+        ensures rest { H.rest h.new ≡ H.rest h.old }
     {
         let what = Passing {
             from: a,
@@ -141,6 +143,7 @@ impl SimFabric {
         ensures in_step { OnOk result (IsInStep (record { fabric = self.new; holder = H.seen h.new })) }
         ensures faults { OnOk result (Faults a b socket (record { fabric = self.old; holder = H.seen h.old })
             (record { fabric = self.new; holder = H.seen h.new })) }
+        ensures rest { H.rest h.new ≡ H.rest h.old }
     {
         let Some(kept) = chosen(socket, between(self.pairs.as_slice(), a, b)) else {
             return Ok(());
@@ -154,6 +157,7 @@ impl SimFabric {
         ensures in_step { OnOk result (IsInStep (record { fabric = self.new; holder = H.seen h.new })) }
         ensures passed { OnOk result (IsPassedOn what.now (record { fabric = self.old; holder = H.seen h.old })
             (record { fabric = self.new; holder = H.seen h.new })) }
+        ensures rest { H.rest h.new ≡ H.rest h.old }
     {
         pass_all(&mut self.pairs, h, &mut self.piece, what)
     }
@@ -165,6 +169,7 @@ impl SimFabric {
         ensures in_step { OnOk result (IsInStep (record { fabric = self.new; holder = H.seen h.new })) }
         ensures fabric { OnOk result (self.new ≡ record self.old { pairs = entered self.old.nodes node id.now self.old.pairs }) }
         ensures arrive { OnOk result (Arrive (arrivals_at id.now self.old.pairs (acceptor self.old.nodes node id.now)) (H.seen h.old) (H.seen h.new)) }
+        ensures rest { H.rest h.new ≡ H.rest h.old }
     {
         let Some(other) = acceptor(self.nodes.as_slice(), node, id) else {
             return Ok(());
@@ -188,6 +193,7 @@ impl SimFabric {
         ensures in_step { OnOk result (IsInStep (record { fabric = self.new; holder = H.seen h.new })) }
         ensures fabric { OnOk result (self.new ≡ record self.old { pairs = all_entered self.old.nodes node ids.now self.old.pairs }) }
         ensures arrive { OnOk result (Arrive (arrivals self.old.nodes node ids.now self.old.pairs) (H.seen h.old) (H.seen h.new)) }
+        ensures rest { H.rest h.new ≡ H.rest h.old }
     {
         match ids.split_first() {
             None => Ok(()),
@@ -205,6 +211,7 @@ impl SimFabric {
         ensures in_step { OnOk result (IsInStep (record { fabric = self.new; holder = H.seen h.new })) }
         ensures enters { OnOk result (Enters node (record { fabric = self.old; holder = H.seen h.old })
             (record { fabric = self.new; holder = H.seen h.new })) }
+        ensures rest { H.rest h.new ≡ H.rest h.old }
     {
         let looked = looked_at(self.looked.as_slice(), node as usize);
         let made = h.made(node);

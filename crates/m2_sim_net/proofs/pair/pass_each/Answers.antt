@@ -1,4 +1,4 @@
-use Rattle.std.proofs.Common.{◌≡◌, ◌<◌, length, arith}
+use Rattle.std.proofs.Common.{◌≡◌, ◌<◌, length, arith, ◌∙◌}
 use Rattle.m2_sim_net.specs.Kept.{cleared_pair, of_pair}
 use Rattle.m2_sim_net.specs.News.{pair_after}
 use Rattle.m2_sim_net.proofs.Loops.{loop_step, same_set}
@@ -23,4 +23,5 @@ loop-pair-preserved g c =
       same = same_set cleared_pair c.args.pairs.now l.pair-items l.pair-index c.pair-item.result c.pass.new.self (omega (arith, below, long)) l.invariant.same c.pass.ensures.same;
       pairs = more.items;
       told = more.told;
+      rest = c.in_ok-pass.ensures.rest ∙ l.invariant.rest;
     }

@@ -10,4 +10,5 @@ invariant-loop-pair g l = record {
   pairs : l.pair-items ≡ map (pair_after l.what (logs_of (g.H.Holder.seen l.initial.h))) (take l.pair-index l.initial.pair-items) ++ drop l.pair-index l.initial.pair-items;
   told : AreTold (told_to l.what (logs_of (g.H.Holder.seen l.initial.h)) (directions (take l.pair-index l.initial.pair-items)))
       (g.H.Holder.seen l.initial.h) (g.H.Holder.seen l.h);
+  rest : g.H.Holder.rest l.h ≡ g.H.Holder.rest l.initial.h;
 }

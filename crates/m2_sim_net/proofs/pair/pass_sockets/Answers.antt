@@ -1,4 +1,4 @@
-use Rattle.std.proofs.Common.{◌≡◌, ◌<◌, length, false, arith}
+use Rattle.std.proofs.Common.{◌≡◌, ◌<◌, length, false, arith, ◌∙◌}
 use Rattle.m2_sim_net.specs.Kept.{both, cleared}
 use Rattle.m2_sim_net.specs.News.{kept_after}
 use Rattle.m2_sim_net.specs.declared.kept.Kept.{Kept}
@@ -23,6 +23,7 @@ loop-kept-preserved g c =
       same = same_set cleared c.args.sockets.now l.kept-items l.kept-index zero c.pass.new.self (omega (arith, below, long)) l.invariant.same c.in_ok-pass.ensures.same;
       sockets = more.items;
       told = more.told;
+      rest = c.in_ok-pass.ensures.rest ∙ l.invariant.rest;
     }
 
 pub returns-in_err-pass-clause-same : goal.returns-in_err-pass-clause-same

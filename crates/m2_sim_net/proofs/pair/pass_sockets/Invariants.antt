@@ -11,4 +11,5 @@ invariant-loop-kept g l = record {
       ≡ map (kept_after l.what (logs_of (g.H.Holder.seen l.initial.h)) l.first l.second) (take l.kept-index l.initial.kept-items) ++ drop l.kept-index l.initial.kept-items;
   told : AreTold (told_to l.what (logs_of (g.H.Holder.seen l.initial.h)) (of_sockets l.first l.second (take l.kept-index l.initial.kept-items)))
       (g.H.Holder.seen l.initial.h) (g.H.Holder.seen l.h);
+  rest : g.H.Holder.rest l.h ≡ g.H.Holder.rest l.initial.h;
 }
