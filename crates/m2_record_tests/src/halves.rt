@@ -3,9 +3,10 @@
 ghost use Rattle.std.specs.Prelude.{◌≡◌, []};
 
 use crate::planned::at;
-use m2_center::{Accepted, MOST_HALVES, Pendings, accept_all, half_log, leave_all};
+use m2_center::leave_all;
 use m2_fabric::{Port, SocketId};
 use m2_sim_fabric::{SimEnd, SimPort};
+use m2_stages::{Accepted, MOST_HALVES, Pendings, accept_all, half_log};
 use m2_trail::Loose;
 use std::alloc::Global;
 use std::process::Abort;
