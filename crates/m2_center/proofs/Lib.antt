@@ -1,2 +1,9 @@
 pub mod Granted
+pub mod Had
 pub mod Left
+pub mod Lent
+pub mod Places
+pub mod Reached
+pub mod RecordsHear
+pub mod Stages
+pub mod TurnParts

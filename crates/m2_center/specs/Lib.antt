@@ -1,3 +1,7 @@
 pub mod Center
+pub mod CenterTurn
 pub mod Finishing
 pub mod Making
+pub mod Plans
+pub mod Reaching
+pub mod RecordEnds

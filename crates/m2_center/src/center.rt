@@ -27,7 +27,8 @@ pub struct Passes {
 /// An event thread of a node: a port, the records that are at home here, the sockets of peers that no record
 /// took, and where the parcels of the records go.
 ///
-/// Maker: [`new`](Center::new). Looks: [`records`](Center::records). The end:
+/// Maker: [`new`](Center::new). Looks: [`records`](Center::records), [`parts`](Center::parts). Calls:
+/// [`turn`](Center::turn), and [`plan`](Center::plan) for what a record is to do. The end:
 /// [`finished`](Center::finished). It can't be dropped, since records can't.
 pub struct Center<P: Port, D> {
     pub(crate) alloc: Global,

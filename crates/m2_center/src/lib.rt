@@ -1,15 +1,20 @@
 //! A center: an event thread of a node.
 //!
 //! What it is: [`Center`], which holds the records of a thread, the halves on sockets of peers and the port, and
-//! acts by the stages of `m2_stages`. Maker: [`Center::new`], of [`Unmade`]. The end: [`Center::finished`], which
-//! gives [`CenterRest`]. To come: its turn, its plans, and its ends by their sockets. What it isn't: a thread. Who
-//! calls its turns is the caller's.
+//! acts by the stages of `m2_stages`. Maker: [`Center::new`], of [`Unmade`]. [`Center::turn`] is one turn of all
+//! that it holds, [`Center::plan`] has a record do something, and [`Center::parts`] lends what a record is. The
+//! end: [`Center::finished`], which gives [`CenterRest`]. What it isn't: a thread. Who calls its turns is the
+//! caller's.
 #![tactic(auto)]
 
 mod center;
 mod finishing;
 mod leaving;
 mod making;
+mod plans;
+mod reaching;
+mod record_ends;
+mod turning;
 
 pub use center::{Center, NodeShared, Passes};
 pub use finishing::{CenterRest, Cleared};

@@ -1,0 +1,34 @@
+-- What a center keeps where its records take their turns.
+use Rattle.std.proofs.Common.{refl, ap, sym, subst, ◌∙◌}
+use Rattle.m2_dispatcher.specs.Letters.{AreOwned}
+use Rattle.m2_stages.specs.Outbox.{OwnsAll}
+use Rattle.m2_center.proofs.Stages.{consistent_at, same_peers, turns_records}
+use Rattle.m2_center.proofs.center.Center.step.Goals as goal
+
+pub step_all-requires-clause-out : goal.step_all-requires-clause-out
+step_all-requires-clause-out g c = subst (λ p. OwnsAll p c.self.inside.out) (ap (λ v. v.bytes.place) c.self.view_is ∙ c.requires.throttle) c.self.invariant.0.out
+
+pub invariant_of-self : goal.invariant_of-self
+invariant_of-self g c =
+    let was = c.self.invariant in
+    let there = ap (λ v. v.bytes.place) c.self.view_is ∙ c.requires.throttle in
+    let back = sym (c.step_all.ensures.take_place ∙ there) in (
+      record {
+        consistent = consistent_at _ _ _ _ _ _ _ _ (ap (λ t. t.place) c.step_all.ensures.same.throttle ∙ back) refl
+            (c.step_all.ensures.consistent c.self.inside.entity c.self.inside.halves c.self.inside.loose.items
+            (consistent_at _ _ _ _ _ _ _ _ there refl was.0.consistent));
+        out = subst (λ p. OwnsAll p c.step_all.new.out) back c.step_all.ensures.out;
+        queued = subst (λ p. AreOwned p c.self.inside.queued.waiting) (sym c.step_all.ensures.take_place) was.0.queued;
+      },
+      was.1 ∙ sym (same_peers _ _ _ c.step_all.ensures.keeps),
+      was.2,
+      was.3,
+      was.4,
+    )
+
+pub returns : goal.returns
+returns g c = record {
+  steps = (c.step_all.result, c.stepped_so.ensures, turns_records _ _ c.self.view_is _ _ c.step_all.result _ refl _ _ _ _ _ c.step_all.ensures.turns);
+  numbers = c.step_all.ensures.number_place ∙ ap (λ v. v.numbers.place) c.self.view_is;
+  throttle = c.step_all.ensures.take_place ∙ ap (λ v. v.bytes.place) c.self.view_is;
+}

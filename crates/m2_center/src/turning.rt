@@ -1,0 +1,223 @@
+//! A center's turn.
+
+ghost use Rattle.m2_stages.specs.Beside.{AllKeepCallers, MadeOn, StayConsistent, served};
+ghost use Rattle.m2_center.specs.CenterTurn.{AcceptsSo, AnswersSo, DeliversSo, StepsSo, TakesTurn, accepted_so, answered_so, delivered_so, means_at, stepped_so};
+ghost use Rattle.m2_stages.specs.HalfTurn.{homes};
+ghost use Rattle.m2_stages.specs.HalvesTurn.{TurnsHalves, callers, sessions_of};
+ghost use Rattle.m2_stages.specs.Outbox.{OwnsAll};
+ghost use Rattle.m2_stages.specs.RecordTurn.{means_of};
+ghost use Rattle.m2_stages.specs.RecordsTurn.{TurnsEach, all_amid, around};
+ghost use Rattle.m2_stages.specs.Sessions.{AreConsistent, IsSupplied, peer_of, supply_of};
+ghost use Rattle.m2_fabric.specs.declared.socket.SocketId.{SocketId};
+ghost use Rattle.m2_record.specs.Stepping.{IsSameWork, KeepsReached};
+ghost use Rattle.std.specs.List.{AllByRecursion};
+ghost use Rattle.std.specs.Prelude.{List, length, map, take, vec_capacity, vec_len, ℕ, ◌-◌, ◌<◌, ◌≡◌, ◌≤◌};
+
+use crate::center::{Center, NodeShared};
+use m2_bytes::NoMemory;
+use m2_dispatcher::Dispatcher;
+use m2_fabric::{End, Port};
+use m2_record::{Record, Work};
+use m2_stages::{
+    Accepted, HalvesTurn, Mailed, Outbox, Pendings, RecordsTurn, Roster, accept_all, are_records,
+    empty_mail, turn_each, turn_halves,
+};
+use m2_trail::{Loose, MOST_READ};
+
+impl<P: Port, D: Dispatcher> Center<P, D> {
+    /// One turn at this moment: the sockets that wait are accepted, each half goes on and is answered, each
+    /// record makes the connect that is due and takes its steps, and the mail is emptied. Err is want of memory:
+    /// what was done stays, and the center may go on.
+    pub fn turn(&mut self, shared: &NodeShared, now: u64) -> Result<(), NoMemory>
+        requires numbers { self.old.numbers.place ≡ shared.now.numbers.place }
+        requires throttle { self.old.bytes.place ≡ shared.now.throttle.place }
+        ensures turns { TakesTurn P.End D.heard (means_at now shared.now.numbers shared.now.throttle) result self.old self.new }
+        ensures numbers { self.new.numbers.place ≡ self.old.numbers.place }
+        ensures throttle { self.new.bytes.place ≡ self.old.bytes.place }
+    {
+        self.accept()?;
+        self.answer(shared, now)?;
+        self.step(shared, now)?;
+        self.deliver(shared, now)
+    }
+
+    /// The sockets that wait are accepted.
+    fn accept(&mut self) -> Result<(), NoMemory>
+        ensures accepts { AcceptsSo result self.old self.new }
+    {
+        are_records(self.records.as_slice());
+        accepted_so(accept_all(
+            self.alloc,
+            &mut self.port,
+            &mut self.halves,
+            &mut self.loose,
+            self.entity,
+        ))
+    }
+
+    /// The halves take their turns.
+    fn answer(&mut self, shared: &NodeShared, now: u64) -> Result<(), NoMemory>
+        requires numbers { self.old.numbers.place ≡ shared.now.numbers.place }
+        requires throttle { self.old.bytes.place ≡ shared.now.throttle.place }
+        ensures answers { AnswersSo P.End (means_at now shared.now.numbers shared.now.throttle) result self.old self.new }
+        ensures numbers { self.new.numbers.place ≡ self.old.numbers.place }
+        ensures throttle { self.new.bytes.place ≡ self.old.bytes.place }
+    {
+        let mut work = Work {
+            numbers: &shared.numbers,
+            number_pass: &mut self.passes.numbers,
+            throttle: &shared.throttle,
+            take_pass: &mut self.passes.throttle,
+        };
+        answered_so(answer_all(
+            &mut self.halves,
+            &mut self.loose,
+            &self.roster,
+            &mut self.records,
+            &mut work,
+            &mut self.piece,
+            now,
+        ))
+    }
+
+    /// The records take theirs.
+    fn step(&mut self, shared: &NodeShared, now: u64) -> Result<(), NoMemory>
+        requires numbers { self.old.numbers.place ≡ shared.now.numbers.place }
+        requires throttle { self.old.bytes.place ≡ shared.now.throttle.place }
+        ensures steps { StepsSo D.heard (means_at now shared.now.numbers shared.now.throttle) result self.old self.new }
+        ensures numbers { self.new.numbers.place ≡ self.old.numbers.place }
+        ensures throttle { self.new.bytes.place ≡ self.old.bytes.place }
+    {
+        let mut work = Work {
+            numbers: &shared.numbers,
+            number_pass: &mut self.passes.numbers,
+            throttle: &shared.throttle,
+            take_pass: &mut self.passes.throttle,
+        };
+        stepped_so(step_all(
+            &mut self.records,
+            &mut self.port,
+            &mut self.out,
+            &mut work,
+            now,
+        ))
+    }
+
+    /// The mail is emptied.
+    fn deliver(&mut self, shared: &NodeShared, now: u64) -> Result<(), NoMemory>
+        requires throttle { self.old.bytes.place ≡ shared.now.throttle.place }
+        ensures delivers { DeliversSo D.heard (means_at now shared.now.numbers shared.now.throttle) result self.old self.new }
+        ensures numbers { self.new.numbers ≡ self.old.numbers }
+        ensures throttle { self.new.bytes.place ≡ self.old.bytes.place }
+    {
+        delivered_so(empty_mail(
+            &mut self.out,
+            &mut self.queued,
+            &shared.throttle,
+            &mut self.passes.throttle,
+        ))
+    }
+}
+
+fn accepted_so(accepted: Accepted) -> Result<(), NoMemory>
+    ensures { result ≡ accepted_so accepted }
+{
+    match accepted {
+        Accepted::All | Accepted::Busy => Ok(()),
+        Accepted::NoMemory => Err(NoMemory),
+    }
+}
+
+fn answered_so(turn: HalvesTurn) -> Result<(), NoMemory>
+    ensures { result ≡ answered_so turn }
+{
+    match turn {
+        HalvesTurn::Done => Ok(()),
+        HalvesTurn::NoMemory => Err(NoMemory),
+    }
+}
+
+fn stepped_so(turn: RecordsTurn) -> Result<(), NoMemory>
+    ensures { result ≡ stepped_so turn }
+{
+    match turn {
+        RecordsTurn::Done => Ok(()),
+        RecordsTurn::NoMemory => Err(NoMemory),
+    }
+}
+
+fn delivered_so(mailed: Mailed) -> Result<(), NoMemory>
+    ensures { result ≡ delivered_so mailed }
+{
+    match mailed {
+        Mailed::Moved | Mailed::Dry => Ok(()),
+        Mailed::NoMemory => Err(NoMemory),
+    }
+}
+
+/// [`turn_halves`] over the records of a center, and into its piece.
+fn answer_all<E: End>(
+    halves: &mut Pendings<E>,
+    loose: &mut Vec<Loose<E>>,
+    roster: &Roster,
+    records: &mut Vec<Record<E>>,
+    work: &mut Work<'_>,
+    piece: &mut Vec<u8>,
+    now: u64,
+) -> HalvesTurn
+    requires roster { roster.now ≡ map peer_of records.old.items }
+    requires consistent { (made : List SocketId) × ((entity : ℕ) × AreConsistent (supply_of work.old) entity (sessions_of made (callers halves.old loose.old.items (homes records.old.items work.old)))) }
+    requires room { length halves.old ≤ vec_capacity loose.old - vec_len loose.old }
+    requires numbers { work.old.number_pass.now.place ≡ work.old.numbers.now.place }
+    requires takes { work.old.take_pass.now.place ≡ work.old.throttle.now.place }
+    requires some { 0 < length piece.old.items }
+    requires most { length piece.old.items ≤ MOST_READ }
+    ensures turns { TurnsHalves E result (means_of now work.old) (callers halves.old loose.old.items (homes records.old.items work.old)) (callers halves.new loose.new.items (homes records.new.items work.new)) }
+    ensures consistent { (made : List SocketId) (entity : ℕ) → AreConsistent (supply_of work.old) entity (sessions_of made (callers halves.old loose.old.items (homes records.old.items work.old))) → AreConsistent (supply_of work.new) entity (sessions_of made (callers halves.new loose.new.items (homes records.new.items work.new))) }
+    ensures peers { map peer_of records.new.items ≡ map peer_of records.old.items }
+    ensures room { length halves.new ≤ vec_capacity loose.new - vec_len loose.new }
+    ensures number_place { work.new.number_pass.now.place ≡ work.old.number_pass.now.place }
+    ensures take_place { work.new.take_pass.now.place ≡ work.old.take_pass.now.place }
+    ensures same { IsSameWork work.old work.new }
+    ensures number_pass { work.new.number_pass.ghost_name ≡ work.old.number_pass.ghost_name }
+    ensures take_pass { work.new.take_pass.ghost_name ≡ work.old.take_pass.ghost_name }
+    ensures piece { length piece.new.items ≡ length piece.old.items }
+{
+    turn_halves(
+        halves,
+        loose,
+        roster,
+        records.as_mut_slice(),
+        work,
+        piece.as_mut_slice(),
+        now,
+    )
+}
+
+/// [`turn_each`] over the records of a center.
+fn step_all<P: Port, D: Dispatcher>(
+    records: &mut Vec<Record<P::End>>,
+    port: &mut P,
+    out: &mut Outbox<D>,
+    work: &mut Work<'_>,
+    now: u64,
+) -> RecordsTurn
+    requires numbers { work.old.number_pass.now.place ≡ work.old.numbers.now.place }
+    requires takes { work.old.take_pass.now.place ≡ work.old.throttle.now.place }
+    requires supplied { AllByRecursion (IsSupplied (supply_of work.old) (P.seen port.old).made) records.old.items }
+    requires out { OwnsAll work.old.throttle.now.place out.old }
+    ensures turns { TurnsEach D.heard (means_of now work.old) result (all_amid records.old.items (around (P.seen port.old) out.old work.old)) (all_amid records.new.items (around (P.seen port.new) out.new work.new)) }
+    ensures supplied { AllByRecursion (IsSupplied (supply_of work.new) (P.seen port.new).made) records.new.items }
+    ensures consistent { StayConsistent (served work.old (P.seen port.old).made records.old.items) (served work.new (P.seen port.new).made records.new.items) }
+    ensures keeps { AllKeepCallers (P.seen port.old).made records.old.items records.new.items }
+    ensures made { MadeOn (P.seen port.old).made (P.seen port.new).made }
+    ensures reached { KeepsReached work.old.number_pass.now work.new.number_pass.now }
+    ensures out { OwnsAll work.old.throttle.now.place out.new }
+    ensures number_place { work.new.number_pass.now.place ≡ work.old.number_pass.now.place }
+    ensures take_place { work.new.take_pass.now.place ≡ work.old.take_pass.now.place }
+    ensures same { IsSameWork work.old work.new }
+    ensures number_pass { work.new.number_pass.ghost_name ≡ work.old.number_pass.ghost_name }
+    ensures take_pass { work.new.take_pass.ghost_name ≡ work.old.take_pass.ghost_name }
+{
+    turn_each(records.as_mut_slice(), port, out, work, now)
+}

@@ -1,0 +1,2 @@
+pub mod OneCenter
+pub mod OneNode

@@ -1,0 +1,83 @@
+-- What contracts see of a node in memory, and what a node shows of its sockets. This project's own.
+use Rattle.std.specs.Prelude.{◌≡◌, ◌&&◌, not, Bool, true, false, List, Option, Some, IsSome}
+use Rattle.std.specs.Option.{option_map}
+use Rattle.m2_fabric.specs.declared.socket.SocketId.{SocketId}
+use Rattle.m2_fabric.specs.End.{SeenEnd, fresh_end}
+use Rattle.m2_fabric.specs.Sockets.{goes_to, is_among, same_socket}
+use Rattle.m2_record.specs.RecordNow.{ids_of}
+use Rattle.m2_record.specs.Sources.{end_at}
+use Rattle.m2_shared.specs.Numbers.{SeenNumbers}
+use Rattle.m2_shared.specs.Throttle.{SeenThrottle}
+use Rattle.m2_center.specs.Center.{CenterNow}
+use Rattle.m2_center.specs.Reaching.{all_ends_in, ends_in, rest_in, waiting_at}
+
+-- its center, its counter of global numbers and its throttle
+pub record NodeNow (D : Type 0) : Type 0 where
+  pub center : CenterNow D
+  pub numbers : SeenNumbers
+  pub throttle : SeenThrottle
+
+-- Its port is in memory, and the passes of its center are to what it shares.
+pub record IsNode {D : Type 0} (n : NodeNow D) : Type 0 where
+  pub memory : IsSome n.center.port.waiting
+  pub numbers : n.center.numbers.place ≡ n.numbers.place
+  pub throttle : n.center.bytes.place ≡ n.throttle.place
+
+-- ---- its ends
+
+-- the first end of a socket, of those that it has and then of those that wait
+abbrev pub end_in : {D : Type 0} → CenterNow D → SocketId → Option SeenEnd
+end_in c id = end_at (all_ends_in c) id
+
+-- it has an end of the socket that doesn't wait
+abbrev pub has_in : {D : Type 0} → CenterNow D → SocketId → Bool
+has_in c id = is_among id (ids_of (ends_in c))
+
+-- an end of the socket waits for an accept, and it has no other
+abbrev pub waits_in : {D : Type 0} → CenterNow D → SocketId → Bool
+waits_in c id = is_among id (ids_of (waiting_at c.port)) && not (has_in c id)
+
+-- ---- how they change
+
+-- ends of other sockets, and whether they wait, are as before
+pub record KeepsOthers {D : Type 0} (id : SocketId) (old new : CenterNow D) : Type 0 where
+  pub ends : (k : SocketId) → same_socket id k ≡ false → end_in new k ≡ end_in old k
+  pub waits : (k : SocketId) → same_socket id k ≡ false → waits_in new k ≡ waits_in old k
+
+-- it listens where it did, and its port made the same sockets
+pub record KeepsPort {D : Type 0} (old new : CenterNow D) : Type 0 where
+  pub at : new.port.at ≡ old.port.at
+  pub made : new.port.made ≡ old.port.made
+
+-- the socket goes there, and the port neither made it nor has it waiting
+abbrev pub may_come_in : {D : Type 0} → SocketId → CenterNow D → Bool
+may_come_in id c = goes_to c.port.at id && (not (is_among id c.port.made) && not (waits_in c id))
+
+-- the end of a socket is this, and waits or not
+pub record Shows {D : Type 0} (id : SocketId) (what : Option SeenEnd) (waiting : Bool) (c : CenterNow D) : Type 0 where
+  pub shows : end_in c id ≡ what
+  pub waits : waits_in c id ≡ waiting
+
+-- a socket comes: where it may, a fresh end of it waits
+pub record ComesIn {D : Type 0} (id : SocketId) (old new : CenterNow D) : Type 0 where
+  pub comes : may_come_in id old ≡ true → Shows id (Some (fresh_end id)) true new
+  pub refused : may_come_in id old ≡ false → Shows id (end_in old id) (waits_in old id) new
+  pub others : KeepsOthers id old new
+  pub port : KeepsPort old new
+
+-- the end of a socket is told something, whether it waits or not
+pub record HearsIn {D : Type 0} (id : SocketId) (hears : SeenEnd → SeenEnd) (old new : CenterNow D) : Type 0 where
+  pub there : Shows id (option_map hears (end_in old id)) (waits_in old id) new
+  pub others : KeepsOthers id old new
+  pub port : KeepsPort old new
+
+-- ---- the rest
+
+-- the node, without what its ends were told and without those that wait at its port
+abbrev pub rest_of_node : {D : Type 0} → NodeNow D → NodeNow D
+rest_of_node n = record n { center = rest_in n.center }
+
+-- what it shares is the same
+pub record KeepsShared {D : Type 0} (old new : NodeNow D) : Type 0 where
+  pub numbers : new.numbers ≡ old.numbers
+  pub throttle : new.throttle ≡ old.throttle

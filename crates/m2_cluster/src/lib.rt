@@ -1,0 +1,13 @@
+//! All nodes of a cluster in memory.
+//!
+//! What it is: [`Cluster`], the nodes in order, each a [`Node`] with its center and what its threads share. It is
+//! the holder of all ends for whoever passes on what flows between the nodes (`m2_sim_net`). What it isn't: what
+//! flows between nodes, or a script of turns.
+#![tactic(auto)]
+
+mod cluster;
+mod holding;
+mod node;
+
+pub use cluster::Cluster;
+pub use node::Node;

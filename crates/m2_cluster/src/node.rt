@@ -1,0 +1,109 @@
+//! A node in memory: its center, and what its threads share.
+
+ghost use Rattle.std.specs.Prelude.{◌≡◌, IsSome, OnErr, OnOk};
+ghost use Rattle.std.specs.Option.{option_map};
+ghost use Rattle.m2_center.specs.Reaching.{ends_in};
+ghost use Rattle.m2_cluster.specs.Node.{ComesIn, HearsIn, KeepsShared, rest_of_node};
+ghost use Rattle.m2_fabric.specs.End.{SeenEnd, after_news};
+ghost use Rattle.m2_fabric.specs.Log.{log_of};
+ghost use Rattle.m2_record.specs.Sources.{end_at};
+
+use m2_bytes::NoMemory;
+use m2_center::{Center, NodeShared};
+use m2_fabric::{EndLog, News, Port, SocketId, SocketIdList};
+use std::marker::Model;
+
+/// A node in memory with one center, and its counter of global numbers and its throttle. Its port is one in memory.
+///
+/// Maker: [`new`](Node::new). Looks: [`center`](Node::center), [`shared`](Node::shared). The end:
+/// [`into_parts`](Node::into_parts). It can't be dropped, since a center can't.
+pub struct Node<P: Port, D> {
+    center: Center<P, D>,
+    shared: NodeShared,
+}
+
+impl<P: Port, D> Model for Node<P, D> {
+    ghost use Rattle.m2_cluster.specs.Node.{IsNode, NodeNow};
+
+    ghost Value = { NodeNow D };
+
+    ghost view = { λ n. record { center = n.center; numbers = n.shared.numbers; throttle = n.shared.throttle } };
+
+    ghost invariant = { λ n. IsNode (record { center = n.center; numbers = n.shared.numbers; throttle = n.shared.throttle }) };
+}
+
+impl<P: Port, D> Node<P, D> {
+    /// A node of a center over a port in memory, whose passes are to what its threads share.
+    pub fn new(center: Center<P, D>, shared: NodeShared) -> Node<P, D>
+        requires memory { IsSome center.port.waiting }
+        requires numbers { center.numbers.place ≡ shared.numbers.place }
+        requires throttle { center.bytes.place ≡ shared.throttle.place }
+        ensures { result ≡ record { center = center; numbers = shared.numbers; throttle = shared.throttle } }
+    {
+        Node { center, shared }
+    }
+
+    /// Its center.
+    pub fn center(&self) -> &Center<P, D>
+        ensures { result.now ≡ self.now.center }
+    {
+        &self.center
+    }
+
+    /// What its threads share.
+    pub fn shared(&self) -> &NodeShared
+        ensures numbers { result.now.numbers ≡ self.now.numbers }
+        ensures throttle { result.now.throttle ≡ self.now.throttle }
+    {
+        &self.shared
+    }
+
+    /// Its center and what its threads share; the passes of the one are to the other.
+    pub fn into_parts(self) -> (Center<P, D>, NodeShared)
+        ensures center { result.0 ≡ self.center }
+        ensures shared_numbers { result.1.numbers ≡ self.numbers }
+        ensures shared_throttle { result.1.throttle ≡ self.throttle }
+        ensures numbers { self.center.numbers.place ≡ self.numbers.place }
+        ensures throttle { self.center.bytes.place ≡ self.throttle.place }
+    {
+        let Node { center, shared } = self;
+        (center, shared)
+    }
+
+    /// The sockets that its port made, in order.
+    pub(crate) fn made(&self) -> &SocketIdList
+        ensures { result.now.items ≡ self.now.center.port.made }
+    {
+        self.center.made()
+    }
+
+    /// What its end of that socket did; none exactly where it has none, also where the socket still waits.
+    pub(crate) fn log(&self, id: &SocketId) -> Option<&EndLog>
+        ensures { option_map (λ log. log_of log.now) result ≡ option_map (λ (e : SeenEnd). e.log) (end_at (ends_in self.now.center) id.now) }
+    {
+        self.center.log(id)
+    }
+
+    /// A socket waits for its accept from now on, where it may.
+    pub(crate) fn incoming(&mut self, id: SocketId) -> Result<(), NoMemory>
+        ensures ok { OnOk result (ComesIn id self.old.center self.new.center) }
+        ensures err { OnErr result (self.new ≡ self.old) }
+        ensures rest { rest_of_node self.new ≡ rest_of_node self.old }
+    {
+        self.center.incoming(id)
+    }
+
+    /// Tells its end of that socket of the other side, also one that still waits.
+    pub(crate) fn hear(
+        &mut self,
+        id: &SocketId,
+        bytes: &[u8],
+        news: News,
+    ) -> Result<(), NoMemory>
+        ensures ok { OnOk result (HearsIn id.now (after_news news bytes.now) self.old.center self.new.center) }
+        ensures err { OnErr result (self.new ≡ self.old) }
+        ensures rest { rest_of_node self.new ≡ rest_of_node self.old }
+    {
+        self.center.hear(id, bytes, news)
+    }
+}

@@ -1,0 +1,129 @@
+-- What a session is told of an answer: where it takes the socket the old feed is closed and the session has one, and else it is
+-- told nothing, or that it is to wait.
+use Rattle.std.proofs.Common.{◌≡◌, ℕ, Bool, true, false, if◌then◌else◌, List, [], ◌++◌, Option, Some, None, refl, sym, ap, subst, ◌∙◌, append-nil}
+use Rattle.std.specs.Option.{option_to_list}
+use Rattle.m2_answers.specs.declared.ask.AskFacts.{AskFacts}
+use Rattle.m2_answers.specs.Asks.{reconnect_of, told_of_ident, told_of_reconnect}
+use Rattle.m2_core.specs.Judging.{told_of, verdict_on}
+use Rattle.m2_fabric.specs.End.{SeenEnd}
+use Rattle.m2_journal.specs.SideFacts.{SideFacts, cookie_of}
+use Rattle.m2_journal.specs.Steps.{kept_of}
+use Rattle.m2_live.specs.Calls.{tells_if}
+use Rattle.m2_live.specs.Effects.{closed_if, effects_of}
+use Rattle.m2_live.specs.LiveNow.{LiveNow}
+use Rattle.m2_record.proofs.Names.{differ}
+use Rattle.m2_session.specs.declared.answer.Answer.{Answer}
+use Rattle.m2_session.specs.declared.answer.Answer.TheVariants as answer
+use Rattle.m2_session.specs.declared.event.Event.{Event}
+use Rattle.m2_session.specs.declared.event.Event.TheVariants as event
+use Rattle.m2_session.specs.declared.session.Phase.TheVariants as phase
+use Rattle.m2_session.specs.declared.session.Session.{Session}
+use Rattle.m2_session.specs.Ident.{ident_answer}
+use Rattle.m2_session.specs.Laws.{ident_event, reconnect_event, takes}
+use Rattle.m2_session.specs.Phases.{is, is_among, with_feed}
+use Rattle.m2_session.specs.Reconnect.{Reconnect, reconnect_answer, reconnect_rows}
+use Rattle.m2_session.proofs.Rows.{each_answer}
+use Rattle.m2_growth.proofs.Standing.{StandsOn, stands_by, stands_left}
+
+-- ---- by the answer
+
+-- the socket is taken
+abbrev pub IsTaking : Option Event → Type 0
+IsTaking (Some (event.TookIdent full client server global)) = Unit {0}
+IsTaking (Some (event.TookReconnect global connect)) = Unit {0}
+IsTaking _ = ⊥
+
+-- it isn't
+abbrev pub IsQuiet : Option Event → Type 0
+IsQuiet None = Unit {0}
+IsQuiet (Some event.Pending) = Unit {0}
+IsQuiet _ = ⊥
+
+ident_taking : (a : Answer) (client server global : ℕ) → takes a ≡ true → IsTaking (ident_event a client server global)
+ident_taking answer.Accept client server global e = tt
+ident_taking answer.AcceptOver client server global e = tt
+ident_taking (answer.AcceptReset full) client server global e = tt
+ident_taking answer.AcceptAgain client server global e = tt
+ident_taking answer.AcceptReplace client server global e = tt
+ident_taking answer.AcceptRace client server global e = tt
+ident_taking answer.Resume client server global e = tt
+ident_taking _ client server global e = absurd (differ e)
+
+ident_quiet : (a : Answer) (client server global : ℕ) → takes a ≡ false → IsQuiet (ident_event a client server global)
+ident_quiet answer.Accept client server global e = absurd (differ (sym e))
+ident_quiet answer.AcceptOver client server global e = absurd (differ (sym e))
+ident_quiet (answer.AcceptReset full) client server global e = absurd (differ (sym e))
+ident_quiet answer.AcceptAgain client server global e = absurd (differ (sym e))
+ident_quiet answer.AcceptReplace client server global e = absurd (differ (sym e))
+ident_quiet answer.AcceptRace client server global e = absurd (differ (sym e))
+ident_quiet answer.Resume client server global e = absurd (differ (sym e))
+ident_quiet _ client server global e = tt
+
+reconnect_quiet : (a : Answer) (ask : Reconnect) → takes a ≡ false → IsQuiet (reconnect_event a ask)
+reconnect_quiet answer.Resume ask e = absurd (differ (sym e))
+reconnect_quiet _ ask e = tt
+
+reconnect_takes : (s : Session) (ask : Reconnect) (written : ℕ) → takes (reconnect_answer s ask written) ≡ true → reconnect_answer s ask written ≡ answer.Resume
+reconnect_takes s ask written =
+    each_answer (λ a. takes a ≡ true → a ≡ answer.Resume) (reconnect_rows s ask written) answer.Resume
+    (λ h. cc, (λ h. cc, (λ h. cc, (λ h. cc, (λ h. cc, (λ h. cc, (λ h. cc, (λ h. cc, tt))))))))
+    (λ h. refl)
+
+-- the answer by the tables to an ask of this kind, and what is told of one
+abbrev answered_by : Bool → Session → AskFacts → (written : ℕ) → Answer
+answered_by b s a written = if b then ident_answer s a.client a.global else reconnect_answer s (reconnect_of a) written
+
+abbrev told_by : Bool → AskFacts → Answer → (server : ℕ) → Option Event
+told_by b a given server = if b then told_of_ident a given server else told_of_reconnect a given
+
+taking_by : (b : Bool) (s : Session) (a k : AskFacts) (given : Answer) (written server : ℕ) → given ≡ answered_by b s a written → takes given ≡ true → IsTaking (told_by b k given server)
+taking_by true s a k given written server e t = ident_taking given k.client server k.global t
+taking_by false s a k given written server e t =
+    let resumes : given ≡ answer.Resume = e ∙ reconnect_takes s (reconnect_of a) written (ap takes (sym e) ∙ t) in
+    subst (λ (x : Answer). IsTaking (reconnect_event x (reconnect_of k))) (sym resumes) tt
+
+quiet_by : (b : Bool) (k : AskFacts) (given : Answer) (server : ℕ) → takes given ≡ false → IsQuiet (told_by b k given server)
+quiet_by true k given server t = ident_quiet given k.client server k.global t
+quiet_by false k given server t = reconnect_quiet given (reconnect_of k) t
+
+pub told_taking : (f : SideFacts) (ask : AskFacts) (number : ℕ) (l : LiveNow) → takes (verdict_on ask number l).answer ≡ true → IsTaking (told_of f (verdict_on ask number l))
+told_taking f ask number l t = taking_by ask.ident l.session ask (kept_of f ask) (verdict_on ask number l).answer l.out.queue.written (cookie_of f number) refl t
+
+pub told_quiet : (f : SideFacts) (ask : AskFacts) (number : ℕ) (l : LiveNow) → takes (verdict_on ask number l).answer ≡ false → IsQuiet (told_of f (verdict_on ask number l))
+told_quiet f ask number l t = quiet_by ask.ident (kept_of f ask) (verdict_on ask number l).answer (cookie_of f number) t
+
+-- ---- what is left by it
+
+-- the feed is left where it is to wait, and else nothing changes
+waits_unfed : (b : Bool) → is_among (if b then phase.Standby else phase.Wait) with_feed ≡ false
+waits_unfed true = refl
+waits_unfed false = refl
+
+pub quiet_stands : (o : Option Event) (l : LiveNow) (spent : List SeenEnd) → IsQuiet o →
+    StandsOn (record { phase = l.session.phase; feed = l.feed; spent = spent })
+    (record { phase = (tells_if o l).session.phase; feed = (tells_if o l).feed; spent = spent ++ option_to_list (closed_if (effects_of o l.session).close l.feed) })
+quiet_stands None l spent quiet =
+    stands_by (record { phase = l.session.phase; feed = l.feed; spent = spent }) (record { phase = l.session.phase; feed = l.feed; spent = spent ++ [] })
+    (ap (λ es. record { phase = l.session.phase; feed = l.feed; spent = es }) (append-nil spent))
+quiet_stands (Some event.Pending) l spent quiet =
+    stands_left (record { phase = l.session.phase; feed = l.feed; spent = spent })
+    (record { phase = (if is l.session.phase phase.Standby then phase.Standby else phase.Wait); feed = None; spent = spent ++ option_to_list (closed_if true l.feed) })
+    refl (waits_unfed (is l.session.phase phase.Standby)) refl
+quiet_stands (Some _) l spent quiet = absurd quiet
+
+-- where the socket is taken the old feed is closed, and the phase is one that has a feed
+pub taking_closes : (o : Option Event) (s : Session) → IsTaking o → (effects_of o s).close ≡ true
+taking_closes (Some (event.TookIdent full client server global)) s t = refl
+taking_closes (Some (event.TookReconnect global connect)) s t = refl
+taking_closes (Some _) s t = absurd t
+taking_closes None s t = absurd t
+
+ident_feeds : (full : Bool) (client server global : ℕ) (l : LiveNow) → is_among (tells_if (Some (event.TookIdent full client server global)) l).session.phase with_feed ≡ true
+ident_feeds true client server global l = refl
+ident_feeds false client server global l = refl
+
+pub taking_feeds : (o : Option Event) (l : LiveNow) → IsTaking o → is_among (tells_if o l).session.phase with_feed ≡ true
+taking_feeds (Some (event.TookIdent full client server global)) l t = ident_feeds full client server global l
+taking_feeds (Some (event.TookReconnect global connect)) l t = refl
+taking_feeds (Some _) l t = absurd t
+taking_feeds None l t = absurd t
