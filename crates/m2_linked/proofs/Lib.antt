@@ -1,0 +1,12 @@
+pub mod Lists
+pub mod Standing
+pub mod Both
+pub mod Going
+pub mod Ends
+pub mod LinkGoes
+pub mod Records
+pub mod Callers
+pub mod Nodes
+pub mod Turns
+pub mod Staying
+pub mod Linked
