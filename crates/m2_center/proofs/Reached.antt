@@ -17,7 +17,7 @@ use Rattle.m2_stages.specs.Hearing as halves
 use Rattle.m2_stages.specs.Sessions.{PendingNow, peer_of}
 use Rattle.m2_stages.proofs.EndsHear.{hearing_stays}
 use Rattle.m2_stages.proofs.Lending.{first_part, second_part}
-use Rattle.m2_center.specs.Center.{CenterNow, IsCenter, sessions_in, supply_in}
+use Rattle.m2_center.specs.Center.{CenterNow, IsCenter, supply_in}
 use Rattle.m2_center.specs.Reaching.{after_hearing, all_ends_in, ends_in, has_half, rest_in}
 use Rattle.m2_center.specs.RecordEnds.{has_end, records_hear}
 use Rattle.m2_center.proofs.Had.{had_made}
@@ -177,22 +177,20 @@ module _ {D E : Type 0} (was old : CenterNow D) (same : was ≡ old) (r : Result
   pub by_half : (ps : List PendingNow) (ls ms : List LooseNow) (ss : List RecordNow) → ss ≡ was.records → list_any (has_end id) ss ≡ false → ms ≡ was.halves.loose →
       has_half id (halves_of was.halves.pending ms) ≡ true →
       OnOk r (halves_of ps ls ≡ halves.after_hearing id news bytes was.halves) → OnErr r ((ps ≡ was.halves.pending) × (ls ≡ was.halves.loose)) → Hears (record was { halves = halves_of ps ls })
-  by_half ps ls ms ss these any those half ok err =
-      (
-        half_told id news bytes was r (halves_of ps ls) (ap (list_any (has_end id)) (sym these) ∙ any)
+  by_half ps ls ms ss these any those half ok err = (
+    half_told id news bytes was r (halves_of ps ls) (ap (list_any (has_end id)) (sym these) ∙ any)
         (ap (λ (m : List LooseNow). has_half id (halves_of was.halves.pending m)) (sym those) ∙ half) ok,
-        half_untold id news bytes was r ps ls err,
-      )
+    half_untold id news bytes was r ps ls err,
+  )
 
   pub by_port : (p : SeenPort) (ms : List LooseNow) (ss : List RecordNow) → ss ≡ was.records → list_any (has_end id) ss ≡ false → ms ≡ was.halves.loose →
       has_half id (halves_of was.halves.pending ms) ≡ false →
       OnOk r (p ≡ with_news id news bytes was.port) → OnErr r (p ≡ was.port) → Hears (record was { port = p })
-  by_port p ms ss these any those half ok err =
-      (
-        port_told id news bytes was r p (ap (list_any (has_end id)) (sym these) ∙ any)
+  by_port p ms ss these any those half ok err = (
+    port_told id news bytes was r p (ap (list_any (has_end id)) (sym these) ∙ any)
         (ap (λ (m : List LooseNow). has_half id (halves_of was.halves.pending m)) (sym those) ∙ half) ok,
-        port_untold id news bytes was r p err,
-      )
+    port_untold id news bytes was r p err,
+  )
 
 -- the peers of the records stay
 pub peers_stay : {E : Type 0} (r : Result (Unit {0}) E) (id : SocketId) (news : News) (bytes : List ℕ) (rs ss : List RecordNow) → OnOk r (ss ≡ records_hear id news bytes rs) → OnErr r (ss ≡ rs) →

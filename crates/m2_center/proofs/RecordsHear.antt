@@ -1,7 +1,6 @@
 -- Where an end of a record hears of the other side, all else of the record stays, and so do the sessions; and the ends are those with
 -- one told.
-use Rattle.std.proofs.Common.{◌≡◌, ℕ, Bool, true, false, ◌||◌, if◌then◌else◌, List, [], ◌∷◌, ◌++◌, map, Option, Some, None, Result, Ok, Err, OnOk, OnErr, is_some, refl, sym, ap, subst, ◌∙◌, append_assoc}
-use Rattle.std.proofs.lemmas.List.{map-append}
+use Rattle.std.proofs.Common.{◌≡◌, ℕ, Bool, true, false, ◌||◌, if◌then◌else◌, List, [], ◌∷◌, ◌++◌, map, Option, Some, None, Result, Ok, Err, OnOk, OnErr, refl, sym, ap, ◌∙◌, append_assoc}
 use Rattle.std.specs.List.{AllByRecursion, flat_map, list_any}
 use Rattle.std.specs.Option.{option_map}
 use Rattle.m2_addr.specs.declared.addr.Addr.{Addr}
@@ -21,7 +20,7 @@ use Rattle.m2_record.specs.Due.{on_feed}
 use Rattle.m2_record.specs.RecordNow.{RecordNow, ends_of, feed_end, ids_of}
 use Rattle.m2_record.specs.TakenTrails.{judgements_in}
 use Rattle.m2_record.proofs.Names.{differ}
-use Rattle.m2_stages.specs.Beside.{AllKeepCallers, KeepsCallers, Served}
+use Rattle.m2_stages.specs.Beside.{AllKeepCallers, KeepsCallers}
 use Rattle.m2_center.specs.Center.{CenterNow}
 use Rattle.m2_stages.specs.Halves.{AllHalves, sessions_with}
 use Rattle.m2_stages.specs.Hearing as halves

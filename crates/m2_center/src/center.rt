@@ -27,9 +27,11 @@ pub struct Passes {
 /// An event thread of a node: a port, the records that are at home here, the sockets of peers that no record
 /// took, and where the parcels of the records go.
 ///
-/// Maker: [`new`](Center::new). Looks: [`records`](Center::records), [`parts`](Center::parts). Calls:
-/// [`turn`](Center::turn), and [`plan`](Center::plan) for what a record is to do. The end:
-/// [`finished`](Center::finished). It can't be dropped, since records can't.
+/// Maker: [`new`](Center::new). Looks: [`records`](Center::records), [`parts`](Center::parts),
+/// [`made`](Center::made), [`refused`](Center::refused), [`log`](Center::log). Calls: [`turn`](Center::turn), and
+/// [`plan`](Center::plan) for what a record is to do; of whoever passes on what flows in memory,
+/// [`incoming`](Center::incoming) and [`hear`](Center::hear). The end: [`finished`](Center::finished). It can't be
+/// dropped, since records can't.
 pub struct Center<P: Port, D> {
     pub(crate) alloc: Global,
     pub(crate) entity: u8,

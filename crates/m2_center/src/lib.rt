@@ -2,7 +2,8 @@
 //!
 //! What it is: [`Center`], which holds the records of a thread, the halves on sockets of peers and the port, and
 //! acts by the stages of `m2_stages`. Maker: [`Center::new`], of [`Unmade`]. [`Center::turn`] is one turn of all
-//! that it holds, [`Center::plan`] has a record do something, and [`Center::parts`] lends what a record is. The
+//! that it holds, [`Center::plan`] has a record do something, and [`Center::parts`] lends what a record is.
+//! [`Center::log`], [`Center::incoming`] and [`Center::hear`] are for whoever passes on what flows in memory. The
 //! end: [`Center::finished`], which gives [`CenterRest`]. What it isn't: a thread. Who calls its turns is the
 //! caller's.
 #![tactic(auto)]

@@ -1,2 +1,4 @@
+pub mod Doing
 pub mod OneCenter
 pub mod OneNode
+pub mod TurnsInMemory

@@ -1,12 +1,12 @@
 -- How the ends of one center, those that wait among them, change where a socket comes and where an end is told something.
-use Rattle.std.proofs.Common.{◌≡◌, ℕ, ◌&&◌, not, Bool, true, false, ◌||◌, if◌then◌else◌, List, [], ◌∷◌, ◌++◌, map, Option, Some, None, Result, Ok, Err, OnOk, refl, sym, ap, subst, ◌∙◌}
+use Rattle.std.proofs.Common.{◌≡◌, ℕ, ◌&&◌, not, Bool, true, false, ◌||◌, if◌then◌else◌, List, [], ◌∷◌, ◌++◌, Option, Some, None, Result, Ok, Err, OnOk, refl, sym, ap, subst, ◌∙◌}
 use Rattle.std.specs.Prelude.{IsSome}
-use Rattle.std.specs.List.{flat_map, list_any}
+use Rattle.std.specs.List.{list_any}
 use Rattle.std.specs.Option.{option_map}
 use Rattle.m2_fabric.specs.declared.end.News.{News}
 use Rattle.m2_fabric.specs.declared.socket.SocketId.{SocketId}
 use Rattle.m2_fabric.specs.End.{SeenEnd, after_news, fresh_end}
-use Rattle.m2_fabric.specs.Port.{SeenPort, may_wait, one_hears, with_incoming, with_news, with_waiting}
+use Rattle.m2_fabric.specs.Port.{may_wait, one_hears, with_incoming, with_news, with_waiting}
 use Rattle.m2_fabric.specs.Sockets.{goes_to, is_among, same_socket}
 use Rattle.m2_record.specs.RecordNow.{ids_of}
 use Rattle.m2_record.specs.Sources.{end_at}
@@ -16,7 +16,7 @@ use Rattle.m2_center.specs.Reaching.{after_hearing, all_ends_in, ends_in, ends_o
 use Rattle.m2_center.specs.RecordEnds.{has_end, records_hear}
 use Rattle.m2_center.proofs.RecordsHear.{all_center_ends, among_both, among_ends, center_ends}
 use Rattle.m2_stages.specs.Hearing as halves
-use Rattle.m2_cluster.specs.Node.{ComesIn, HearsIn, KeepsOthers, KeepsPort, NodeNow, Shows, end_in, has_in, may_come_in, waits_in}
+use Rattle.m2_cluster.specs.Node.{ComesIn, HearsIn, KeepsPort, NodeNow, Shows, end_in, has_in, waits_in}
 
 -- ---- the first end of a socket in a list
 

@@ -9,7 +9,6 @@ use Rattle.m2_fabric.specs.Log.{Log}
 use Rattle.m2_fabric.specs.Sockets.{goes_to, is_among, same_socket}
 use Rattle.m2_record.proofs.Names.{differ}
 use Rattle.m2_record.specs.Sources.{end_at}
-use Rattle.m2_center.specs.Center.{CenterNow}
 use Rattle.m2_center.specs.Reaching.{ends_in}
 use Rattle.m2_cluster.proofs.OneCenter.{had_in}
 use Rattle.m2_cluster.specs.Cluster.{ClusterNow, address_of, end_of, held_by, made_by, rest_of, waits_at}
@@ -70,7 +69,7 @@ module _ {D : Type 0} (n : ℕ) (id : SocketId) (before behind : NodeNow D) (xs 
   of_other : {U : Type 0} (f : SocketId → Option (NodeNow D) → U) → ((k : SocketId) → same_socket id k ≡ false → f k (Some behind) ≡ f k (Some before)) →
       (other : EndName) → IsOther name other → f other.id (slice_get ys other.node) ≡ f other.id (slice_get xs other.node)
   of_other f same other is = elim (each xs n before behind other.node was) [
-      inl h ↦ ap (f other.id) h.1 ∙ same other.id (is h.0) ∙ sym (ap (f other.id) h.2)
+    | inl h ↦ ap (f other.id) h.1 ∙ same other.id (is h.0) ∙ sym (ap (f other.id) h.2)
     | inr h ↦ ap (f other.id) h
   ]
 

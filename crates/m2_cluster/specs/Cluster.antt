@@ -1,5 +1,5 @@
 -- What contracts see of a cluster: its nodes in order; and what it is as the holder of all ends. This project's own.
-use Rattle.std.specs.Prelude.{ℕ, Bool, false, List, [], length, map, slice_get, Option, Some, None}
+use Rattle.std.specs.Prelude.{◌≡◌, ℕ, Bool, false, List, [], length, map, slice_get, slice_set, Option, Some, None}
 use Rattle.m2_addr.specs.declared.addr.Addr.{Addr}
 use Rattle.m2_fabric.specs.declared.socket.SocketId.{SocketId}
 use Rattle.m2_fabric.specs.End.{SeenEnd}
@@ -44,3 +44,13 @@ held_by nodes = record {
 -- what it has besides
 abbrev pub rest_of : {D : Type 0} → ClusterNow D → ClusterNow D
 rest_of c = record c { nodes = map rest_of_node c.nodes }
+
+-- ---- one node does something
+
+-- The node with this number does so; all others are as they were.
+pub record OneDoes {D : Type 0} (k : ℕ) (how : NodeNow D → NodeNow D → Type 0) (old new : ClusterNow D) : Type 0 where
+  pub before : NodeNow D
+  pub behind : NodeNow D
+  pub was : slice_get old.nodes k ≡ Some before
+  pub does : how before behind
+  pub only : new ≡ record old { nodes = slice_set old.nodes k behind }

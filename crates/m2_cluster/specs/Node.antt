@@ -1,14 +1,18 @@
 -- What contracts see of a node in memory, and what a node shows of its sockets. This project's own.
-use Rattle.std.specs.Prelude.{◌≡◌, ◌&&◌, not, Bool, true, false, List, Option, Some, IsSome}
+use Rattle.std.specs.Prelude.{◌≡◌, ℕ, ◌&&◌, not, Bool, true, false, List, Option, Some, IsSome}
 use Rattle.std.specs.Option.{option_map}
 use Rattle.m2_fabric.specs.declared.socket.SocketId.{SocketId}
 use Rattle.m2_fabric.specs.End.{SeenEnd, fresh_end}
 use Rattle.m2_fabric.specs.Sockets.{goes_to, is_among, same_socket}
+use Rattle.m2_dispatch.specs.Heard.{Heard}
+use Rattle.m2_journal.specs.declared.facts.PlanStep.{PlanStep}
 use Rattle.m2_record.specs.RecordNow.{ids_of}
 use Rattle.m2_record.specs.Sources.{end_at}
 use Rattle.m2_shared.specs.Numbers.{SeenNumbers}
 use Rattle.m2_shared.specs.Throttle.{SeenThrottle}
 use Rattle.m2_center.specs.Center.{CenterNow}
+use Rattle.m2_center.specs.CenterTurn.{Answer, TakesTurn, means_at}
+use Rattle.m2_center.specs.Plans.{PlansIn}
 use Rattle.m2_center.specs.Reaching.{all_ends_in, ends_in, rest_in, waiting_at}
 
 -- its center, its counter of global numbers and its throttle
@@ -81,3 +85,15 @@ rest_of_node n = record n { center = rest_in n.center }
 pub record KeepsShared {D : Type 0} (old new : NodeNow D) : Type 0 where
   pub numbers : new.numbers ≡ old.numbers
   pub throttle : new.throttle ≡ old.throttle
+
+-- ---- a turn, and a step that is planned
+
+-- its center takes a turn; what it shares is the same
+pub record NodeTurns {D : Type 0} (E : Type 0) (heard : D → List Heard) (now : ℕ) (answer : Answer) (old new : NodeNow D) : Type 0 where
+  pub turns : TakesTurn E heard (means_at now old.numbers old.throttle) answer old.center new.center
+  pub shared : KeepsShared old new
+
+-- its center's first record towards the peer plans the step and takes it; what it shares is the same
+pub record NodePlans {D : Type 0} (answer : Answer) (peer : ℕ) (step : PlanStep) (now : ℕ) (old new : NodeNow D) : Type 0 where
+  pub plans : PlansIn answer peer step now old.throttle.place old.center new.center
+  pub shared : KeepsShared old new

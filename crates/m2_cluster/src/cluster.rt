@@ -1,17 +1,23 @@
 //! All nodes.
 
-ghost use Rattle.std.specs.Prelude.{◌≡◌, ◌++◌, ◌-◌, ◌<◌, ◌≤◌, [], ◌∷◌, IfOk, IfNone, MatchOption};
+ghost use Rattle.std.specs.Prelude.{◌≡◌, ◌++◌, ◌-◌, ◌<◌, ◌≤◌, [], ◌∷◌, length, slice_get, IfOk, IfNone, IfSome, MatchOption};
+ghost use Rattle.m2_center.specs.Plans.{IsReadyFor};
+ghost use Rattle.m2_cluster.specs.Cluster.{OneDoes};
+ghost use Rattle.m2_cluster.specs.Node.{NodePlans, NodeTurns};
+ghost use Rattle.m2_record.specs.IsRecord.{CanBePlanned};
 
 use crate::node::Node;
 use m2_bytes::NoMemory;
+use m2_dispatcher::Dispatcher;
 use m2_fabric::Port;
+use m2_journal::PlanStep;
 use std::alloc::Global;
 use std::marker::Model;
 
 /// All nodes, from 0 in the order in which they were added. As a [`Holder`] it has the ports and ends of all of them.
 ///
 /// Maker: [`with_room`](Cluster::with_room). Looks: [`nodes`](Cluster::nodes). Calls: [`add`](Cluster::add),
-/// [`pop`](Cluster::pop). The end: [`destroy_empty`](Cluster::destroy_empty). It can't be dropped, since nodes
+/// [`turn`](Cluster::turn), [`plan`](Cluster::plan), [`pop`](Cluster::pop). The end: [`destroy_empty`](Cluster::destroy_empty). It can't be dropped, since nodes
 /// can't.
 pub struct Cluster<P: Port, D> {
     pub(crate) nodes: Vec<Node<P, D>>,
@@ -51,6 +57,17 @@ impl<P: Port, D> Cluster<P, D> {
         self.nodes.push_reserved(node);
     }
 
+    /// The step is the last of the plan of the node's first record towards that peer, and is taken. There is
+    /// such a node and such a record, and each step of the record's plan was taken.
+    pub fn plan(&mut self, node: u32, peer: u32, step: PlanStep, now: u64) -> Result<(), NoMemory>
+        requires node { node < length self.old.nodes }
+        requires ready { IfSome (slice_get self.old.nodes node) (λ n. IsReadyFor peer n.center.records) }
+        requires step { CanBePlanned step }
+        ensures { OneDoes node (NodePlans result peer step now) self.old self.new }
+    {
+        self.nodes[node as usize].plan(peer, step, now)
+    }
+
     /// The nodes, in order.
     pub fn nodes(&self) -> &[Node<P, D>]
         ensures { result.now ≡ self.now.nodes }
@@ -72,5 +89,15 @@ impl<P: Port, D> Cluster<P, D> {
     {
         let Cluster { nodes } = self;
         nodes.destroy_empty();
+    }
+}
+
+impl<P: Port, D: Dispatcher> Cluster<P, D> {
+    /// One turn of a node's center at this moment. There is such a node.
+    pub fn turn(&mut self, node: u32, now: u64) -> Result<(), NoMemory>
+        requires { node < length self.old.nodes }
+        ensures { OneDoes node (NodeTurns P.End D.heard now result) self.old self.new }
+    {
+        self.nodes[node as usize].turn(now)
     }
 }

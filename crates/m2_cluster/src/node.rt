@@ -3,14 +3,18 @@
 ghost use Rattle.std.specs.Prelude.{◌≡◌, IsSome, OnErr, OnOk};
 ghost use Rattle.std.specs.Option.{option_map};
 ghost use Rattle.m2_center.specs.Reaching.{ends_in};
-ghost use Rattle.m2_cluster.specs.Node.{ComesIn, HearsIn, KeepsShared, rest_of_node};
+ghost use Rattle.m2_center.specs.Plans.{IsReadyFor};
+ghost use Rattle.m2_cluster.specs.Node.{ComesIn, HearsIn, NodePlans, NodeTurns, rest_of_node};
 ghost use Rattle.m2_fabric.specs.End.{SeenEnd, after_news};
 ghost use Rattle.m2_fabric.specs.Log.{log_of};
+ghost use Rattle.m2_record.specs.IsRecord.{CanBePlanned};
 ghost use Rattle.m2_record.specs.Sources.{end_at};
 
 use m2_bytes::NoMemory;
 use m2_center::{Center, NodeShared};
+use m2_dispatcher::Dispatcher;
 use m2_fabric::{EndLog, News, Port, SocketId, SocketIdList};
+use m2_journal::PlanStep;
 use std::marker::Model;
 
 /// A node in memory with one center, and its counter of global numbers and its throttle. Its port is one in memory.
@@ -70,6 +74,15 @@ impl<P: Port, D> Node<P, D> {
         (center, shared)
     }
 
+    /// The step is the last of the plan of its center's first record towards that peer, and is taken.
+    pub(crate) fn plan(&mut self, peer: u32, step: PlanStep, now: u64) -> Result<(), NoMemory>
+        requires ready { IsReadyFor peer self.old.center.records }
+        requires step { CanBePlanned step }
+        ensures { NodePlans result peer step now self.old self.new }
+    {
+        self.center.plan(&self.shared, peer, step, now)
+    }
+
     /// The sockets that its port made, in order.
     pub(crate) fn made(&self) -> &SocketIdList
         ensures { result.now.items ≡ self.now.center.port.made }
@@ -94,16 +107,20 @@ impl<P: Port, D> Node<P, D> {
     }
 
     /// Tells its end of that socket of the other side, also one that still waits.
-    pub(crate) fn hear(
-        &mut self,
-        id: &SocketId,
-        bytes: &[u8],
-        news: News,
-    ) -> Result<(), NoMemory>
+    pub(crate) fn hear(&mut self, id: &SocketId, bytes: &[u8], news: News) -> Result<(), NoMemory>
         ensures ok { OnOk result (HearsIn id.now (after_news news bytes.now) self.old.center self.new.center) }
         ensures err { OnErr result (self.new ≡ self.old) }
         ensures rest { rest_of_node self.new ≡ rest_of_node self.old }
     {
         self.center.hear(id, bytes, news)
+    }
+}
+
+impl<P: Port, D: Dispatcher> Node<P, D> {
+    /// One turn of its center at this moment.
+    pub(crate) fn turn(&mut self, now: u64) -> Result<(), NoMemory>
+        ensures { NodeTurns P.End D.heard now result self.old self.new }
+    {
+        self.center.turn(&self.shared, now)
     }
 }

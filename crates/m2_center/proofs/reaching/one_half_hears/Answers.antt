@@ -15,6 +15,6 @@ returns g c =
       err = by_both (λ was is. OnErr c.half_hears.result ((c.half_hears.new.halves ≡ c.args.halves.now) × (is ≡ was))) _ _ _ _ c.as_mut_slice.ensures.value (sym back) c.half_hears.ensures.err;
       room = subst (λ n. n ≤ c.args.loose.now.cap - c.args.loose.now.len)
           (sym (half_count c.half_hears.result c.args.id.now c.args.news c.args.bytes.now (halves_of c.args.halves.now c.as_mut_slice.result.now) (halves_of c.half_hears.new.halves c.half_hears.new.loose)
-              c.half_hears.ensures.ok c.half_hears.ensures.err))
+          c.half_hears.ensures.ok c.half_hears.ensures.err))
           c.requires;
     }

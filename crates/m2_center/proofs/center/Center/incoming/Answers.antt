@@ -7,8 +7,7 @@ use Rattle.m2_center.proofs.center.Center.incoming.Goals as goal
 
 pub invariant_of-self : goal.invariant_of-self
 invariant_of-self g c =
-    let was = c.self.invariant in
-    (
+    let was = c.self.invariant in (
       came_center _ _ c.self.view_is c.incoming.result c.args.id _ c.incoming.ensures.ok c.incoming.ensures.err was.0,
       was.1,
       was.2,
