@@ -1,6 +1,6 @@
 -- What a half reads on a socket that a record opened is the front of its greeting and of frames of which the first asks, or is
 -- one that no entry names; so it is asked under the record's address alone.
-use Rattle.std.proofs.Common.{◌≡◌, ℕ, inl, inr, Bool, true, false, List, [], ◌∷◌, ◌++◌, drop, None, refl, sym, ap, ◌∙◌, subst, append_assoc}
+use Rattle.std.proofs.Common.{◌≡◌, ℕ, inl, inr, Bool, true, false, List, [], ◌∷◌, ◌++◌, drop, Option, None, refl, sym, ap, ◌∙◌, subst, append_assoc}
 use Rattle.std.specs.Prelude.{IfSome, Result, Ok}
 use Rattle.std.specs.List.{AllByRecursion}
 use Rattle.m2_addr.specs.declared.addr.Addr.{Addr}
@@ -32,7 +32,7 @@ use Rattle.m2_fitting.proofs.Kept.{KeptBy, OpenedKept, greeting_of, view}
 use Rattle.m2_fitting.proofs.Lists.{all-back}
 use Rattle.m2_fitting.proofs.Puts.{IsLate}
 use Rattle.m2_fitting.proofs.Steps.{AllKept}
-use Rattle.m2_asks.specs.Laws.{ArePut, ArrivalsAreTheOpeners, AskedBy, AsksAreTheOpeners}
+use Rattle.m2_asks.specs.Laws.{ArePut, ArrivalsAreTheOpeners, AskedBy, AskersAreTheOpeners, AsksAreTheOpeners}
 use Rattle.m2_asks.proofs.Entries.{IsKept, lawful_kept}
 use Rattle.m2_asks.proofs.Feeds.{BeginsAsking}
 use Rattle.m2_asks.proofs.Halves.{BeginSo, asked_by}
@@ -99,7 +99,7 @@ asks_are r k own seen x half is ranges o comes prefix =
 -- ---- an ask that is handed on
 
 -- an ask is under one main address
-pub one_main : (ask : Ask) (a b : Addr) → IsMain ask a → IsMain ask b → a ≡ b
+one_main : (ask : Ask) (a b : Addr) → IsMain ask a → IsMain ask b → a ≡ b
 one_main ask a b h k = ok_is a b (sym h ∙ k)
   where
     ok_is : (a b : Addr) → (let r : Result Addr AddrFault = Ok a in r) ≡ Ok b → a ≡ b
@@ -111,3 +111,9 @@ arrivals_are r k v is ranges o arrived put =
     let asks = asks_are r k v.trail.entity (opener_of v.trail.socket) owes.exchange v.half is ranges o owes.comes (subst (ArePut r k) (sym owes.bytes) put) in
     let last = all-back (λ ask. IsMain ask r.core.facts.mine) owes.earlier (bare_ask arrived.ask ∷ []) (subst (AllByRecursion (λ ask. IsMain ask r.core.facts.mine)) owes.last asks) in
     subst (λ a. IfSome a (λ ask. IsMain ask r.core.facts.mine)) (sym arrived.in_hand) (main_stays_of arrived.ask r.core.facts.mine last.0)
+
+pub askers_are : AskersAreTheOpeners
+askers_are r k v asker is ranges o arrived put main =
+    let P = λ (a : Option Ask). (main : Addr) → IfSome a (λ ask. IsMain ask main) → IfSome a (λ ask. IsMain ask r.core.facts.mine) → main ≡ r.core.facts.mine in
+    let one : P v.ask = subst P (sym arrived.in_hand) (λ main h m. one_main arrived.ask main r.core.facts.mine h m) in
+    one asker main (arrivals_are r k v is ranges o arrived put)

@@ -1,5 +1,4 @@
--- Whose asks come on a socket that a record has opened: the record's own, so no other record of the other node takes it or judges
--- on it. This project's own.
+-- Whose asks come on a socket that a record has opened: its own. This project's own.
 use Rattle.std.specs.Prelude.{◌≡◌, ℕ, true, List, IfSome}
 use Rattle.std.specs.List.{AllByRecursion}
 use Rattle.m2_addr.specs.declared.addr.Addr.{Addr}
@@ -40,3 +39,9 @@ abbrev pub ArrivalsAreTheOpeners : Type 0
 ArrivalsAreTheOpeners = (r : RecordNow) (k : SocketId) (v : IncomingNow) →
     IsRecord r → KeepsRanges r.core.facts → IsOpenedBy r k →
     IsArrival v → ArePut r k v.end.log.got → IfSome v.ask (λ ask. IsMain ask r.core.facts.mine)
+
+-- So whoever it is that asks there is the record.
+abbrev pub AskersAreTheOpeners : Type 0
+AskersAreTheOpeners = (r : RecordNow) (k : SocketId) (v : IncomingNow) (asker : Addr) →
+    IsRecord r → KeepsRanges r.core.facts → IsOpenedBy r k →
+    IsArrival v → ArePut r k v.end.log.got → IfSome v.ask (λ ask. IsMain ask asker) → asker ≡ r.core.facts.mine

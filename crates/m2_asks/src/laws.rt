@@ -15,3 +15,8 @@ pub fn asks_are_the_openers()
 pub fn arrivals_are_the_openers()
     ensures { laws.ArrivalsAreTheOpeners }
 {}
+
+/// Whoever asks there by such a half is that record.
+pub fn askers_are_the_openers()
+    ensures { laws.AskersAreTheOpeners }
+{}

@@ -1,8 +1,8 @@
 //! Whose asks come on a socket that a record has opened.
 //!
-//! What it is: definitions and laws. A center gives a socket of a peer to the record towards the address that
-//! asks on it. `specs/Laws.antt` says that on a socket which a record has opened nobody asks but that record:
-//! so no other record of the other node takes the socket, or judges an ask on it.
+//! What it is: definitions and laws. `specs/Laws.antt` says that on a socket which a record has opened nobody
+//! asks but that record, so that where each half is given to the record towards the address that asks, it is
+//! given to no other.
 //!
 //! What it isn't: a law of two journals in one order. It says nothing of the numbers in asks, nor that a half
 //! comes to any.
@@ -16,4 +16,4 @@
 
 mod laws;
 
-pub use laws::{arrivals_are_the_openers, asks_are_the_openers};
+pub use laws::{arrivals_are_the_openers, askers_are_the_openers, asks_are_the_openers};
