@@ -14,7 +14,7 @@ use Rattle.m2_in_step.specs.Turn.{AllEndsGrow, CameOfPut}
 
 -- ---- lists
 
-empty_front : (xs ys : List ℕ) → xs ++ ys ≡ [] → (xs ≡ []) × (ys ≡ [])
+pub empty_front : (xs ys : List ℕ) → xs ++ ys ≡ [] → (xs ≡ []) × (ys ≡ [])
 empty_front [] ys e = (refl, e)
 empty_front (x ∷ xs) ys e = absurd (omega (arith, ap length e))
 
@@ -37,7 +37,7 @@ put_grows (Some e) None g = absurd g
 put_grows None (Some f) g = (f.log.put, refl)
 put_grows None None g = ([], refl)
 
-still_there : (o p : Option SeenEnd) → EndGrowsTo o p → IsSome o → IsSome p
+pub still_there : (o p : Option SeenEnd) → EndGrowsTo o p → IsSome o → IsSome p
 still_there (Some e) (Some f) g s = refl
 still_there (Some e) None g s = absurd g
 still_there None p g s = absurd (differ s)
@@ -56,7 +56,7 @@ has_first n put more e f same h = at e.inflow f.inflow h same
 
 -- ---- in step
 
-by_closed : {P : Type 0} → (b : Bool) → (b ≡ true → P) → (b ≡ false → P) → P
+pub by_closed : {P : Type 0} → (b : Bool) → (b ≡ true → P) → (b ≡ false → P) → P
 by_closed {P} true shut apart = shut refl
 by_closed {P} false shut apart = apart refl
 
@@ -85,7 +85,7 @@ nothing_came e (Some i) is s n =
     let none = empty_front e.log.got i.readable (subst (λ o. IfSome (option_map (λ (i : Inflow). e.log.got ++ i.readable) o) (λ bytes. bytes ≡ [])) is n) in
     record { got = none.0; readable = subst (λ o. MatchOption o ⊥ (λ (i : Inflow). i.readable ≡ [])) (sym is) none.1 }
 
-unread_came : (e : SeenEnd) (i : Option Inflow) → e.inflow ≡ i → IsUnread e → come_to e ≡ Some []
+pub unread_came : (e : SeenEnd) (i : Option Inflow) → e.inflow ≡ i → IsUnread e → come_to e ≡ Some []
 unread_came e None is u = absurd (subst (λ o. MatchOption o ⊥ (λ (i : Inflow). i.readable ≡ [])) is u.readable)
 unread_came e (Some i) is u =
     ap (option_map (λ (i : Inflow). e.log.got ++ i.readable)) is

@@ -1,2 +1,4 @@
 pub mod Turn
+pub mod Passed
+pub mod Ports
 pub mod Laws

@@ -43,7 +43,7 @@ one_arrives end a b p = record {
 
 -- ---- some ends, and then others
 
-any-append : (e : EndName) (xs ys : List EndName) → is_one_of (xs ++ ys) e ≡ (is_one_of xs e || is_one_of ys e)
+pub any-append : (e : EndName) (xs ys : List EndName) → is_one_of (xs ++ ys) e ≡ (is_one_of xs e || is_one_of ys e)
 any-append e [] ys = refl
 any-append e (x ∷ xs) ys = ap (λ (r : Bool). same_end x e || r) (any-append e xs ys) ∙ assoc (same_end x e) (is_one_of xs e) (is_one_of ys e)
   where

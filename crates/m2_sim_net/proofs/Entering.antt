@@ -41,7 +41,7 @@ round a b p h = by_first ((p.first == a) && (p.second == b)) refl h
         let two = both_true (p.first == b) (p.second == a) h in
         Turned (eqb-true p.first b two.0) (eqb-true p.second a two.1)
 
-added : (a b : ℕ) (k : Kept) (p : SeenPair) → of_pair (record p { sockets = p.sockets ++ k ∷ [] }) ≡ of_pair p ++ both p.first p.second k
+pub added : (a b : ℕ) (k : Kept) (p : SeenPair) → of_pair (record p { sockets = p.sockets ++ k ∷ [] }) ≡ of_pair p ++ both p.first p.second k
 added a b k p = flat_map-append (both p.first p.second) p.sockets (k ∷ [])
 
 -- ---- no two directions lead to one end
@@ -118,7 +118,7 @@ fresh_is_unread : (id : SocketId) → IsUnread (fresh_end id)
 fresh_is_unread id = record { got = refl; readable = refl }
 
 -- an end at which nothing was read stays so, or is a fresh one
-unread_arrives : (es : List EndName) (a b : SeenHolder) (e : EndName) → Arrive es a b → IfSome (end_of a e) IsUnread → IfSome (end_of b e) IsUnread
+pub unread_arrives : (es : List EndName) (a b : SeenHolder) (e : EndName) → Arrive es a b → IfSome (end_of a e) IsUnread → IfSome (end_of b e) IsUnread
 unread_arrives es a b e p u = rw (p.ends e) (by_coming (comes es a e))
   where
     by_coming : (c : Bool) → IfSome (if c then Some (fresh_end e.id) else end_of a e) IsUnread
@@ -218,7 +218,7 @@ any_of_more e k (x ∷ ks) h =
     let parts = either (same_socket x.id e) (list_any (λ (k : Kept). same_socket k.id e) (ks ++ k ∷ [])) h in
     rw parts.0 (any_of_more e k ks parts.1)
 
-unkept_before : (a b : ℕ) (k : Kept) (e : SocketId) (ps : List SeenPair) → is_kept e (with_kept a b k ps) ≡ false → is_kept e ps ≡ false
+pub unkept_before : (a b : ℕ) (k : Kept) (e : SocketId) (ps : List SeenPair) → is_kept e (with_kept a b k ps) ≡ false → is_kept e ps ≡ false
 unkept_before a b k e [] h = refl
 unkept_before a b k e (p ∷ ps) h = by_pair (joins a b p) (unkept_before a b k e ps) h
   where

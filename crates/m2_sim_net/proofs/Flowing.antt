@@ -43,7 +43,7 @@ bytes_in-append [] ys = refl
 bytes_in-append (x ∷ xs) ys =
     ap (λ bs. flow_in x.news x.bytes ++ bs) (bytes_in-append xs ys) ∙ sym (append_assoc (flow_in x.news x.bytes) (bytes_in xs) (bytes_in ys))
 
-abbrev tells : List Told → Inflow → Inflow
+abbrev pub tells : List Told → Inflow → Inflow
 tells [] i = i
 tells (t ∷ ts) i = tells ts (told t.news t.bytes i)
 
@@ -53,7 +53,7 @@ tells_after news.Closed bytes i = sym (append-nil i.readable)
 tells_after news.Ended bytes i = sym (append-nil i.readable)
 tells_after news.Failed bytes i = sym (append-nil i.readable)
 
-tells_readable : (ts : List Told) (i : Inflow) → (tells ts i).readable ≡ i.readable ++ bytes_in ts
+pub tells_readable : (ts : List Told) (i : Inflow) → (tells ts i).readable ≡ i.readable ++ bytes_in ts
 tells_readable [] i = sym (append-nil i.readable)
 tells_readable (t ∷ ts) i =
     tells_readable ts (told t.news t.bytes i) ∙ ap (λ bs. bs ++ bytes_in ts) (tells_after t.news t.bytes i)
@@ -67,7 +67,7 @@ no_map : (o : Option Inflow) → o ≡ option_map (λ i. i) o
 no_map None = refl
 no_map (Some i) = refl
 
-hears_is : (ts : List Told) (s : SeenEnd) → hears ts s ≡ record s { inflow = option_map (tells ts) s.inflow }
+pub hears_is : (ts : List Told) (s : SeenEnd) → hears ts s ≡ record s { inflow = option_map (tells ts) s.inflow }
 hears_is [] s = ap (λ (o : Option Inflow). record s { inflow = o }) (no_map s.inflow)
 hears_is (t ∷ ts) s =
     hears_is ts (after_news t.news t.bytes s)
@@ -101,10 +101,10 @@ has_more n m put ts e has next is =
         let P : List ℕ → Type 0 = λ xs. AreFirst (n + length (bytes_in ts)) put xs in
         subst P (append_assoc e.log.got i.readable (bytes_in ts) ∙ ap (λ xs. e.log.got ++ xs) (sym (tells_readable ts i))) (first_more n put (e.log.got ++ i.readable) (bytes_in ts) f next)
 
-closed_stays : (ts : List Told) (e : SeenEnd) → (hears ts e).log.closed ≡ e.log.closed
+pub closed_stays : (ts : List Told) (e : SeenEnd) → (hears ts e).log.closed ≡ e.log.closed
 closed_stays ts e = ap (λ (s : SeenEnd). s.log.closed) (hears_is ts e)
 
-put_stays : (ts : List Told) (o : Option SeenEnd) → put_by (option_map (hears ts) o) ≡ put_by o
+pub put_stays : (ts : List Told) (o : Option SeenEnd) → put_by (option_map (hears ts) o) ≡ put_by o
 put_stays ts None = refl
 put_stays ts (Some e) = ap (λ (s : SeenEnd). s.log.put) (hears_is ts e)
 
@@ -206,7 +206,7 @@ unread_is_untold what l (d ∷ ds) e none = by_name (same_end (reader d) e) none
     by_name true none rest = absurd (omega (arith, none))
     by_name false none rest = rest (omega (arith, none))
 
-end_refl : (e : EndName) → same_end e e ≡ true
+pub end_refl : (e : EndName) → same_end e e ≡ true
 end_refl e = rw (same_number e.node, same_socket_refl e.id) refl
 
 told_alone : (what : Passing) (l : Logs) (pre : List Direction) (d : Direction) (ds : List Direction) → IsReadOnce (pre ++ d ∷ ds)
@@ -221,7 +221,7 @@ told_alone what l pre d ds once =
     flat_map-append (λ (x : Direction). if same_end (reader x) e then told_by what l x else []) pre (d ∷ ds)
     ∙ ap (λ ts. ts ++ told_to what l (d ∷ ds) e) before ∙ here ∙ ap (λ ts. told_by what l d ++ ts) after ∙ append-nil (told_by what l d)
 
-abbrev after_by : Passing → Logs → Direction → Direction
+abbrev pub after_by : Passing → Logs → Direction → Direction
 after_by what l d = record d { progress = progress_by what l d }
 
 all_have : (what : Passing) (a b : SeenHolder) (pre ds : List Direction) → IsReadOnce (pre ++ ds) → AreTold (told_to what (logs_of a) (pre ++ ds)) a b
@@ -243,7 +243,7 @@ sockets_after what l a b [] = refl
 sockets_after what l a b (k ∷ ks) =
     ap (λ (ds : List Direction). record { from = a; to = b; id = k.id; progress = (kept_after what l a b k).there } ∷ record { from = b; to = a; id = k.id; progress = (kept_after what l a b k).back } ∷ ds) (sockets_after what l a b ks)
 
-directions_after : (what : Passing) (l : Logs) (ps : List SeenPair) → directions (map (pair_after what l) ps) ≡ map (after_by what l) (directions ps)
+pub directions_after : (what : Passing) (l : Logs) (ps : List SeenPair) → directions (map (pair_after what l) ps) ≡ map (after_by what l) (directions ps)
 directions_after what l [] = refl
 directions_after what l (p ∷ ps) =
     ap (λ (ds : List Direction). ds ++ directions (map (pair_after what l) ps)) (sockets_after what l p.first p.second p.sockets)
@@ -335,7 +335,7 @@ passing_stays_in_step (Ok _) what f qs a b once s pairs told =
     passed_in_step what (record { fabric = f; holder = a }) (record { fabric = record f { pairs = qs }; holder = b }) once s (record { told = told; pairs = pairs; nodes = refl; looked = refl })
 passing_stays_in_step (Err _) what f qs a b once s pairs told = tt
 
-failing_is_quiet : (node : ℕ) (l : Logs) (id : SocketId) (e : EndName) → bytes_in (failing node l id e) ≡ []
+pub failing_is_quiet : (node : ℕ) (l : Logs) (id : SocketId) (e : EndName) → bytes_in (failing node l id e) ≡ []
 failing_is_quiet node l id e = by_closed (is_closed (l (record { node = node; id = id })))
   where
     fails : List Told
