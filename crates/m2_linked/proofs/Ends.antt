@@ -49,15 +49,15 @@ its_bytes e (x ∷ es) d (inr h) =
 
 -- ---- the end whose bytes they are
 
-abbrev nothing : BytesNow
+abbrev pub nothing : BytesNow
 nothing = record { got = []; put = [] }
 
-record IsFrom (k : SocketId) (o : Bool) (all es : List EndNow) : Type 0 where
-  end : EndNow
-  there : IsOneOf end es
-  socket : end.socket ≡ k
-  opener : end.opener ≡ o
-  bytes : bytes_at k o all ≡ record { got = end.got; put = end.put }
+pub record IsFrom (k : SocketId) (o : Bool) (all es : List EndNow) : Type 0 where
+  pub end : EndNow
+  pub there : IsOneOf end es
+  pub socket : end.socket ≡ k
+  pub opener : end.opener ≡ o
+  pub bytes : bytes_at k o all ≡ record { got = end.got; put = end.put }
 
 both_true : (a b : Bool) → (a && b) ≡ true → (a ≡ true) × (b ≡ true)
 both_true true b h = (refl, h)
@@ -69,7 +69,7 @@ one_side true false h = absurd cc
 one_side false true h = absurd cc
 one_side false false h = refl
 
-from_end : (k : SocketId) (o : Bool) (es : List EndNow) → IsFrom k o es es ⊎ (bytes_at k o es ≡ nothing)
+pub from_end : (k : SocketId) (o : Bool) (es : List EndNow) → IsFrom k o es es ⊎ (bytes_at k o es ≡ nothing)
 from_end k o [] = inr refl
 from_end k o (x ∷ es) = at (same_socket k x.socket && same_side o x.opener) refl (from_end k o es)
   where

@@ -9,5 +9,4 @@ pub mod Callers
 pub mod Nodes
 pub mod Turns
 pub mod Staying
-pub mod Example
 pub mod Linked

@@ -39,7 +39,7 @@ turn (inr b) = inl b
 known : (a b : List Entry) (l : LooseNow) → is_of_link a b l ≡ true → IsKnown a b l
 known a b l h = split _ _ h
 
-of_link : (a b : List Entry) (l : LooseNow) → IsKnown a b l → is_of_link a b l ≡ true
+pub of_link : (a b : List Entry) (l : LooseNow) → IsKnown a b l → is_of_link a b l ≡ true
 of_link a b l h = join _ _ h
 
 -- what holds of each of them
@@ -51,7 +51,7 @@ each_loose P a b (l ∷ ls) h = at (is_of_link a b l) refl (each_loose P a b ls 
     at true is rest = (h l (inl refl) (known a b l is), rest)
     at false is rest = rest
 
-each_end : (P : EndNow → Type 0) (a b : List Entry) (ls : List LooseNow) → ((l : LooseNow) → IsOneOf l ls → IsKnown a b l → P (half_end l)) → AllByRecursion P (loose_ends a b ls)
+pub each_end : (P : EndNow → Type 0) (a b : List Entry) (ls : List LooseNow) → ((l : LooseNow) → IsOneOf l ls → IsKnown a b l → P (half_end l)) → AllByRecursion P (loose_ends a b ls)
 each_end P a b [] h = tt
 each_end P a b (l ∷ ls) h = at (is_of_link a b l) refl (each_end P a b ls (λ x i k. h x (inr i) k))
   where
@@ -73,7 +73,7 @@ one_loose a b l (x ∷ ls) (inr i) h = at (is_of_link a b x) (one_loose a b l ls
     at true rest = inr rest
     at false rest = rest
 
-one_end : (a b : List Entry) (l : LooseNow) (ls : List LooseNow) → IsOneOf l ls → is_of_link a b l ≡ true → IsOneOf (half_end l) (loose_ends a b ls)
+pub one_end : (a b : List Entry) (l : LooseNow) (ls : List LooseNow) → IsOneOf l ls → is_of_link a b l ≡ true → IsOneOf (half_end l) (loose_ends a b ls)
 one_end a b l [] i h = absurd i
 one_end a b l (x ∷ ls) (inl e) h = at (is_of_link a b x) (ap (is_of_link a b) (sym e) ∙ h)
   where

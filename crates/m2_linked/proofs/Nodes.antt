@@ -37,7 +37,7 @@ use Rattle.m2_linked.proofs.Standing.{StandsAt, ids_left, judged_sockets}
 
 -- ---- the ends of halves
 
-ends_of_left : (ps : List PendingNow) (ls : List LooseNow) → map (λ (l : LooseNow). l.end) (map (λ (p : PendingNow). left_of p.half) ps ++ ls) ≡ map (λ (p : PendingNow). p.half.end) ps ++ map (λ (l : LooseNow). l.end) ls
+pub ends_of_left : (ps : List PendingNow) (ls : List LooseNow) → map (λ (l : LooseNow). l.end) (map (λ (p : PendingNow). left_of p.half) ps ++ ls) ≡ map (λ (p : PendingNow). p.half.end) ps ++ map (λ (l : LooseNow). l.end) ls
 ends_of_left [] ls = refl
 ends_of_left (p ∷ ps) ls = ap (λ es. p.half.end ∷ es) (ends_of_left ps ls)
 

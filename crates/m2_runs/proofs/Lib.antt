@@ -1,0 +1,10 @@
+pub mod Lists
+pub mod Places
+pub mod Kept
+pub mod Openers
+pub mod BothEnds
+pub mod Asking
+pub mod Acting
+pub mod Towards
+pub mod Flowing
+pub mod Orders

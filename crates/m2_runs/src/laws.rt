@@ -5,7 +5,7 @@ ghost use Rattle.m2_runs.specs.Laws as laws;
 
 use m2_asks::arrivals_are_the_openers;
 use m2_in_step::{turns_stay_in_step, turns_stay_met};
-use m2_linked::{links_are_woven, staying_goes_on};
+use m2_linked::{links_are_woven, links_go_on, staying_goes_on};
 
 /// Where a node acts, what holds always holds still: each ask that was judged came of the record's peer, since what
 /// a half reads on a socket that a record has opened is that record's.
@@ -23,5 +23,6 @@ pub fn acting_keeps_orders()
 {
     acting_keeps_running();
     staying_goes_on();
+    links_go_on();
     links_are_woven();
 }

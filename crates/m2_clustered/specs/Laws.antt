@@ -1,0 +1,34 @@
+-- What is promised of a center's turn and of a step that is planned there, and of the cluster of which it is a node.
+use Rattle.std.specs.Prelude.{ℕ, List}
+use Rattle.m2_dispatch.specs.Heard.{Heard}
+use Rattle.m2_journal.specs.declared.facts.PlanStep.{PlanStep}
+use Rattle.m2_shared.specs.Place.{Place}
+use Rattle.m2_center.specs.Center.{CenterNow}
+use Rattle.m2_center.specs.CenterTurn.{Answer, TakesTurn}
+use Rattle.m2_center.specs.Plans.{PlansIn}
+use Rattle.m2_cluster.specs.Cluster.{ClusterNow, OneDoes}
+use Rattle.m2_cluster.specs.Node.{NodePlans, NodeTurns}
+use Rattle.m2_growth.specs.Holding.{AreOwn, Grows}
+use Rattle.m2_stages.specs.RecordTurn.{Means}
+use Rattle.m2_clustered.specs.Center.{holding_of}
+use Rattle.m2_clustered.specs.Cluster.{GrowsInMemory}
+
+-- ---- a center
+
+abbrev pub TurnGrows : (D E : Type 0) → Type 0
+TurnGrows D E = (heard : D → List Heard) (m : Means) (answer : Answer) (old new : CenterNow D) → TakesTurn E heard m answer old new →
+    AreOwn (holding_of old) → Grows (holding_of old) (holding_of new)
+
+abbrev pub PlanGrows : Type 0 → Type 0
+PlanGrows D = (answer : Answer) (peer : ℕ) (step : PlanStep) (now : ℕ) (throttle : Place) (old new : CenterNow D) → PlansIn answer peer step now throttle old new →
+    AreOwn (holding_of old) → Grows (holding_of old) (holding_of new)
+
+-- ---- a cluster of which one node acts
+
+abbrev pub NodeTurnGrows : (D E : Type 0) → Type 0
+NodeTurnGrows D E = (heard : D → List Heard) (now : ℕ) (answer : Answer) (node : ℕ) (old new : ClusterNow D) (turns : OneDoes node (NodeTurns E heard now answer) old new) →
+    AreOwn (holding_of turns.before.center) → GrowsInMemory old new
+
+abbrev pub NodePlanGrows : Type 0 → Type 0
+NodePlanGrows D = (answer : Answer) (peer : ℕ) (step : PlanStep) (now : ℕ) (node : ℕ) (old new : ClusterNow D) (plans : OneDoes node (NodePlans answer peer step now) old new) →
+    AreOwn (holding_of plans.before.center) → GrowsInMemory old new

@@ -1,0 +1,5 @@
+pub mod Center
+pub mod Cluster
+pub mod Laws
+pub mod Told
+pub mod ToldLaws

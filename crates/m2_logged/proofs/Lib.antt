@@ -1,0 +1,11 @@
+pub mod Deliveries
+pub mod Speaking
+pub mod Handed
+pub mod Puts
+pub mod Later
+pub mod Turns
+pub mod RecordTurns
+pub mod Mailed
+pub mod AreHeard
+pub mod Judged
+pub mod Halves

@@ -1,0 +1,66 @@
+-- What is promised of the stages of a turn: what the dispatchers were called with is what the records handed on.
+use Rattle.std.specs.Prelude.{◌≡◌, ℕ, List, [], None, Result}
+use Rattle.std.specs.List.{AllByRecursion}
+use Rattle.m2_bytes.specs.declared.memory.NoMemory as memory
+use Rattle.m2_channel.specs.Handing.{IsHeardOf}
+use Rattle.m2_channel.specs.Observed.{all_of}
+use Rattle.m2_dispatch.specs.Heard.{Heard}
+use Rattle.m2_dispatcher.specs.Dispatch.{Queued}
+use Rattle.m2_fabric.specs.Port.{SeenPort}
+use Rattle.m2_journal.specs.declared.facts.PlanStep.{PlanStep}
+use Rattle.m2_journal.specs.State.{State}
+use Rattle.m2_record.specs.IsRecord.{IsRecord, IsReplayedTo}
+use Rattle.m2_record.specs.RecordNow.{RecordNow}
+use Rattle.m2_shared.specs.Place.{Place}
+use Rattle.m2_stages.specs.declared.halves_turn.HalvesTurn.{HalvesTurn}
+use Rattle.m2_stages.specs.declared.mailing.Mailed.{Mailed}
+use Rattle.m2_stages.specs.declared.records_turn.RecordsTurn.{RecordsTurn}
+use Rattle.m2_stages.specs.Halves.{AllHalves}
+use Rattle.m2_stages.specs.HalvesTurn.{Callers, TurnsHalves}
+use Rattle.m2_stages.specs.Mailing.{Mailing, Mails}
+use Rattle.m2_stages.specs.Outbox.{OutboxNow}
+use Rattle.m2_stages.specs.RecordTurn.{Means}
+use Rattle.m2_stages.specs.RecordsTurn.{AllAmid, TurnsEach}
+use Rattle.m2_growth.specs.Holding.{AreOwn}
+use Rattle.m2_growth.specs.Laws.{PlansAt, at_halves, at_plans, at_records}
+use Rattle.m2_logged.specs.Logged.{AreOfTheirPeers, IsLogged, logging, logs_in}
+
+-- ---- at first
+
+-- nothing was handed on, the dispatchers weren't called, and nothing is on its way to them
+abbrev pub BeginLogged : Type 0 → Type 0
+BeginLogged D = (heard : D → List Heard) (records : List RecordNow) (fast queued : D) → AreOfTheirPeers records → AllByRecursion (λ (r : RecordNow). r.handed ≡ 0) records →
+    heard fast ≡ [] → heard queued ≡ [] →
+    IsLogged heard (logging records (record { fast = fast; mail = []; held = None }) (record { waiting = []; inner = queued }))
+
+-- ---- the stages of a turn
+
+-- halves: records that judge hand nothing on
+abbrev pub HalvesStayLogged : Type 0 → Type 0 → Type 0
+HalvesStayLogged D E = (heard : D → List Heard) (result : HalvesTurn) (m : Means) (port : SeenPort) (out : OutboxNow D) (queued : Queued D) (old new : Callers) → TurnsHalves E result m old new →
+    AreOwn (at_halves port old) → AllByRecursion IsRecord old.homes.records → AllByRecursion IsRecord new.homes.records →
+    IsLogged heard (logging old.homes.records out queued) → IsLogged heard (logging new.homes.records out queued)
+
+-- records: what they hand on is dispatched, or held, or goes to the mail
+abbrev pub RecordsStayLogged : Type 0 → Type 0
+RecordsStayLogged D = (heard : D → List Heard) (m : Means) (result : RecordsTurn) (halves : AllHalves) (queued : Queued D) (old new : AllAmid D) → TurnsEach heard m result old new →
+    AreOwn (at_records halves old) → AllByRecursion IsRecord old.records →
+    IsLogged heard (logging old.records old.around.out queued) → IsLogged heard (logging new.records new.around.out queued)
+
+-- the mail is emptied into the queue, and that dispatches
+abbrev pub MailStaysLogged : Type 0 → Type 0
+MailStaysLogged D = (heard : D → List Heard) (place : Place) (answer : Mailed) (records : List RecordNow) (old new : Mailing D) → Mails heard place answer old new →
+    IsLogged heard (logging records old.out old.queue.queued) → IsLogged heard (logging records new.out new.queue.queued)
+
+-- and where a step is planned and taken
+abbrev pub PlansStayLogged : Type 0 → Type 0
+PlansStayLogged D = (heard : D → List Heard) (result : Result (Unit {0}) memory.NoMemory) (x : PlanStep) (now : ℕ) (port : SeenPort) (halves : AllHalves) (out : OutboxNow D) (queued : Queued D) (old new : List RecordNow) →
+    PlansAt result x now old new → AreOwn (at_plans port halves old) → AllByRecursion IsRecord old → AllByRecursion IsRecord new →
+    IsLogged heard (logging old out queued) → IsLogged heard (logging new out queued)
+
+-- ---- what is heard
+
+-- of each record, what its peer was heard to send by both dispatchers
+abbrev pub LoggedAreHeard : Type 0 → Type 0
+LoggedAreHeard D = (heard : D → List Heard) (records : List RecordNow) (out : OutboxNow D) (queued : Queued D) → IsLogged heard (logging records out queued) →
+    AllByRecursion (λ (r : RecordNow). (s : State) → IsReplayedTo s r → IsHeardOf r.place (all_of (logs_in heard (logging records out queued))) s) records

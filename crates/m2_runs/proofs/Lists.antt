@@ -1,0 +1,60 @@
+-- Items of lists by their places, and among others.
+use Rattle.std.proofs.Common.{◌≡◌, ℕ, zero, suc, Bool, true, false, ◌||◌, List, [], ◌∷◌, ◌++◌, map, Some, refl, sym, ap, subst, ◌⊎◌, inl, inr}
+use Rattle.std.specs.Prelude.{slice_get, slice_set}
+use Rattle.std.specs.List.{AllByRecursion, flat_map, list_any}
+use Rattle.m2_fabric.specs.declared.socket.SocketId.{SocketId}
+use Rattle.m2_fabric.specs.Sockets.{is_among, same_socket}
+use Rattle.m2_growth.specs.Halves.{IsOneOf}
+use Rattle.m2_growth.proofs.Among.{of_each, one_back, one_front}
+use Rattle.m2_record.proofs.Names.{differ, same_equal}
+
+-- ---- by places
+
+pub get_set : {X : Type 0} (xs : List X) (i : ℕ) (x y : X) → slice_get xs i ≡ Some x → slice_get (slice_set xs i y) i ≡ Some y
+get_set [] i x y h = absurd cc
+get_set (z ∷ xs) zero x y h = refl
+get_set (z ∷ xs) (suc i) x y h = get_set xs i x y h
+
+pub get_other : {X : Type 0} (xs : List X) (i j : ℕ) (y : X) → (j ≡ i → ⊥) → slice_get (slice_set xs i y) j ≡ slice_get xs j
+get_other [] i j y n = refl
+get_other (z ∷ xs) zero zero y n = absurd (n refl)
+get_other (z ∷ xs) zero (suc j) y n = refl
+get_other (z ∷ xs) (suc i) zero y n = refl
+get_other (z ∷ xs) (suc i) (suc j) y n = get_other xs i j y (λ e. n (ap suc e))
+
+-- ---- one of a list
+
+-- one that passes
+pub record Passes {X : Type 0} (p : X → Bool) (xs : List X) : Type 0 where
+  pub item : X
+  pub there : IsOneOf item xs
+  pub is : p item ≡ true
+
+pub any_passes : {X : Type 0} (p : X → Bool) (xs : List X) → list_any p xs ≡ true → Passes p xs
+any_passes p [] h = absurd (differ h)
+any_passes {X} p (x ∷ xs) h = at (p x) refl h (any_passes p xs)
+  where
+    at : (b : Bool) → p x ≡ b → b || list_any p xs ≡ true → (list_any p xs ≡ true → Passes p xs) → Passes p (x ∷ xs)
+    at true is h rest = record { item = x; there = inl refl; is = is }
+    at false is h rest = let found = rest h in record { item = found.item; there = inr found.there; is = found.is }
+
+pub flat_one : {X Y : Type 0} (f : X → List Y) (x : X) (y : Y) (xs : List X) → IsOneOf x xs → IsOneOf y (f x) → IsOneOf y (flat_map f xs)
+flat_one f x y [] i j = absurd i
+flat_one f x y (z ∷ xs) (inl e) j = one_front y (f z) (flat_map f xs) (subst (λ w. IsOneOf y (f w)) e j)
+flat_one f x y (z ∷ xs) (inr i) j = one_back y (f z) (flat_map f xs) (flat_one f x y xs i j)
+
+pub record IsImage {X Y : Type 0} (f : X → Y) (y : Y) (xs : List X) : Type 0 where
+  pub item : X
+  pub there : IsOneOf item xs
+  pub is : y ≡ f item
+
+pub image_of : {X Y : Type 0} (f : X → Y) (y : Y) (xs : List X) → IsOneOf y (map f xs) → IsImage f y xs
+image_of f y [] h = absurd h
+image_of f y (x ∷ xs) (inl e) = record { item = x; there = inl refl; is = e }
+image_of f y (x ∷ xs) (inr h) = let found = image_of f y xs h in record { item = found.item; there = inr found.there; is = found.is }
+
+-- what holds of all sockets of a list holds of one that is among them
+pub of_among : (P : SocketId → Type 0) (k : SocketId) (ks : List SocketId) → AllByRecursion P ks → is_among k ks ≡ true → P k
+of_among P k ks all h =
+    let found = any_passes (same_socket k) ks h in
+    subst P (sym (same_equal k found.item found.is)) (of_each P found.item ks all found.there)
