@@ -178,14 +178,14 @@ begins_running = runs
 
 -- ---- links
 
-parts : List Entry → List TrailNow → List SeenEnd → PartsNow
+abbrev parts : List Entry → List TrailNow → List SeenEnd → PartsNow
 parts j t e = record { journal = j; trails = t; ends = e }
 
 none_done : (r : RecordNow) → IsUnused r → parts_of r ≡ record { journal = []; trails = []; ends = [] }
 none_done r u =
     ap (λ j. parts j r.trails (ends_of r)) u.journal ∙ ap (λ t. parts [] t (ends_of r)) u.trails ∙ ap (λ e. parts [] [] e) u.ends
 
-both : PartsNow → PartsNow → List LooseNow → BothNow
+abbrev both : PartsNow → PartsNow → List LooseNow → BothNow
 both a b l = record { a = a; b = b; loose = l }
 
 abbrev nothing : PartsNow
