@@ -31,25 +31,18 @@ use Rattle.m2_begun.proofs.Elsewhere.{GoesSo, brings_none}
 
 joined_none : (half : IncomingNow) (h : AllHalves) (k : SocketId) → end_at (ends_in h) k ≡ None → same_socket k half.end.id ≡ false → end_at (ends_in (joined half h)) k ≡ None
 joined_none half h k none other = at (nat_lt (length h.pending) MOST_HALVES)
+    (none_parts (map (λ (p : PendingNow). p.half.end) h.pending) (map (λ (l : LooseNow). l.end) h.loose) k none)
   where
-    abbrev pends : List SeenEnd
-    pends = map (λ (p : PendingNow). p.half.end) h.pending
-
-    abbrev overs : List SeenEnd
-    overs = map (λ (l : LooseNow). l.end) h.loose
-
-    parts : (end_at pends k ≡ None) × (end_at overs k ≡ None)
-    parts = none_parts pends overs k none
-
-    at : (b : Bool) → end_at (ends_in (if b then record h { pending = h.pending ++ unasked half ∷ [] } else record h { loose = h.loose ++ closed_of half ∷ [] })) k ≡ None
-    at true =
-        none_join (map (λ (p : PendingNow). p.half.end) (h.pending ++ unasked half ∷ [])) overs k
+    at : (b : Bool) → (end_at (map (λ (p : PendingNow). p.half.end) h.pending) k ≡ None) × (end_at (map (λ (l : LooseNow). l.end) h.loose) k ≡ None) →
+        end_at (ends_in (if b then record h { pending = h.pending ++ unasked half ∷ [] } else record h { loose = h.loose ++ closed_of half ∷ [] })) k ≡ None
+    at true parts =
+        none_join (map (λ (p : PendingNow). p.half.end) (h.pending ++ unasked half ∷ [])) (map (λ (l : LooseNow). l.end) h.loose) k
         (ap (λ es. end_at es k) (map-append (λ (p : PendingNow). p.half.end) h.pending (unasked half ∷ []))
-        ∙ none_join pends (half.end ∷ []) k parts.0 (none_cons half.end [] k other refl)) parts.1
-    at false =
-        none_join pends (map (λ (l : LooseNow). l.end) (h.loose ++ closed_of half ∷ [])) k parts.0
+        ∙ none_join (map (λ (p : PendingNow). p.half.end) h.pending) (half.end ∷ []) k parts.0 (none_cons half.end [] k other refl)) parts.1
+    at false parts =
+        none_join (map (λ (p : PendingNow). p.half.end) h.pending) (map (λ (l : LooseNow). l.end) (h.loose ++ closed_of half ∷ [])) k parts.0
         (ap (λ es. end_at es k) (map-append (λ (l : LooseNow). l.end) h.loose (closed_of half ∷ []))
-        ∙ none_join overs ((closed_of half).end ∷ []) k parts.1 (none_cons (closed_of half).end [] k other refl))
+        ∙ none_join (map (λ (l : LooseNow). l.end) h.loose) ((closed_of half).end ∷ []) k parts.1 (none_cons (closed_of half).end [] k other refl))
 
 -- no end comes, and the port is in memory still
 record Keeps (rs : List RecordNow) (a b : Accepting) : Type 0 where

@@ -55,7 +55,8 @@ module _ (before rest : List RecordNow) (halves : AllHalves) where
       (end_at (ends_of_all before) k ≡ None) × (end_at (ends_of r) k ≡ None) × (end_at (ends_behind rest halves ++ waiting_at p) k ≡ None)
   none_with p r k none =
       let two = none_parts (ends_of_all before) (ends_of r ++ (ends_behind rest halves ++ waiting_at p)) k (ap (λ es. end_at es k) (sym (all_around p before rest r halves)) ∙ none) in
-      (two.0, none_parts (ends_of r) (ends_behind rest halves ++ waiting_at p) k two.1)
+      let own = none_parts (ends_of r) (ends_behind rest halves ++ waiting_at p) k two.1 in
+      (two.0, own.0, own.1)
 
   none_there : (p : SeenPort) (r : RecordNow) (k : SocketId) → end_at (ends_of_all before) k ≡ None → end_at (ends_of r) k ≡ None → end_at (ends_behind rest halves ++ waiting_at p) k ≡ None →
       end_at (all_ends (at_it p r)) k ≡ None
@@ -66,25 +67,28 @@ module _ (before rest : List RecordNow) (halves : AllHalves) where
   none_alike : (p q : SeenPort) (r s : RecordNow) → q.waiting ≡ p.waiting → ends_of s ≡ ends_of r → BringsElsewhere (at_it p r) (at_it q s)
   none_alike p q r s waiting ends = brings_none (at_it p r) (at_it q s) (λ k none.
       let parts = none_with p r k none in
-      none_there q s k parts.0 (ap (λ es. end_at es k) ends ∙ parts.1.0) (ap (λ o. end_at (ends_behind rest halves ++ waiting_at (record p { waiting = o })) k) waiting ∙ parts.1.1))
+      none_there q s k parts.0 (ap (λ es. end_at es k) ends ∙ parts.1) (ap (λ o. end_at (ends_behind rest halves ++ waiting_at (record p { waiting = o })) k) waiting ∙ parts.2))
 
   takes_so : (made : Connect SeenEnd) (now : ℕ) (p q : SeenPort) (r s : RecordNow) → port.Connects made r.core.facts.peer p q → Takes made now r s → LeadsElsewhere p r →
       BringsElsewhere (at_it p r) (at_it q s)
-  takes_so (connect.Made e) now p q r s (new, told, h) (mid, room, opened) away k none is = by (same_socket k e.id) refl
+  takes_so connect.Failed now p q r s (_, e) (mid, room, missed) away = none_alike p q r s (ap (λ (x : SeenPort). x.waiting) e) (ap ends_of missed ∙ ap ends_of room)
+  takes_so connect.NoMemory now p q r s e room away = none_alike p q r s (ap (λ (x : SeenPort). x.waiting) e) (ap ends_of room)
+  takes_so (connect.Made e) now p q r s (new, told, h) (mid, room, opened) away = made_so
     where
       mine : ends_of s ≡ e ∷ r.spent
       mine = opened_so e mid s s.core.live.feed refl opened.0 opened.1 ∙ ap (λ (x : RecordNow). e ∷ x.spent) room
 
-      by : (b : Bool) → same_socket k e.id ≡ b → goes_to p.at k ≡ false
-      by true same = ap (goes_to p.at) (same_equal k e.id same) ∙ away e.id new.towards
-      by false other =
+      by : (k : SocketId) → end_at (all_ends (at_it p r)) k ≡ None → IsSome (end_at (all_ends (at_it q s)) k) → (b : Bool) → same_socket k e.id ≡ b → goes_to p.at k ≡ false
+      by k none is true same = ap (goes_to p.at) (same_equal k e.id same) ∙ away e.id new.towards
+      by k none is false other =
           let parts = none_with p r k none in
-          let spent = (none_parts (feed_end r.core.live.feed) r.spent k parts.1.0).1 in
+          let spent = (none_parts (feed_end r.core.live.feed) r.spent k parts.1).1 in
           let gone = none_there q s k parts.0 (ap (λ es. end_at es k) mine ∙ none_cons e r.spent k other spent)
-              (ap (λ o. end_at (ends_behind rest halves ++ waiting_at (record p { waiting = o })) k) (ap (λ (x : SeenPort). x.waiting) h) ∙ parts.1.1) in
+              (ap (λ o. end_at (ends_behind rest halves ++ waiting_at (record p { waiting = o })) k) (ap (λ (x : SeenPort). x.waiting) h) ∙ parts.2) in
           absurd (differ (sym (ap is_some gone) ∙ is))
-  takes_so connect.Failed now p q r s (_, e) (mid, room, missed) away = none_alike p q r s (ap (λ (x : SeenPort). x.waiting) e) (ap ends_of missed ∙ ap ends_of room)
-  takes_so connect.NoMemory now p q r s e room away = none_alike p q r s (ap (λ (x : SeenPort). x.waiting) e) (ap ends_of room)
+
+      made_so : BringsElsewhere (at_it p r) (at_it q s)
+      made_so k none is = by k none is (same_socket k e.id) refl
 
   rests : (old new : AtPort) → new ≡ old → BringsElsewhere (at_it old.port old.side) (at_it new.port new.side)
   rests old new e = none_alike old.port new.port old.side new.side (ap (λ (a : AtPort). a.port.waiting) e) (ap (λ (a : AtPort). ends_of a.side) e)
