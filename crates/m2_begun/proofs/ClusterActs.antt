@@ -38,11 +38,11 @@ set_of f (z ∷ zs) (suc i) y = ap (λ l. f z ∷ l) (set_of f zs i y)
 
 -- ---- the ends of a center, and those that it holds
 
-module _ {D : Type 0} where
-  same_waiting : (o : Option (List SeenEnd)) → unwrap_or o [] ≡ ends_or_none o
-  same_waiting (Some es) = refl
-  same_waiting None = refl
+same_waiting : (o : Option (List SeenEnd)) → unwrap_or o [] ≡ ends_or_none o
+same_waiting (Some es) = refl
+same_waiting None = refl
 
+module _ {D : Type 0} where
   same_ends : (c : CenterNow D) (k : SocketId) → end_at (all_ends (holding_of c)) k ≡ end_in c k
   same_ends c k = ap (λ w. end_at (ends_in c ++ w) k) (same_waiting c.port.waiting)
 
