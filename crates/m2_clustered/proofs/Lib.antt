@@ -3,3 +3,6 @@ pub mod OneGrows
 pub mod Untold
 pub mod ToCome
 pub mod Telling
+pub mod Unused
+pub mod Brings
+pub mod Bringing

@@ -165,7 +165,7 @@ module _ (p : SeenPort) where
       let rest = each_is es two.1 in
       ((record { here = parts.0; new = parts.1 }, rest.0), (unused_so e.log parts.2, rest.1))
 
-among_none : (es : List SeenEnd) (k : SocketId) → end_at es k ≡ None → is_among k (ids_of es) ≡ false
+pub among_none : (es : List SeenEnd) (k : SocketId) → end_at es k ≡ None → is_among k (ids_of es) ≡ false
 among_none [] k none = refl
 among_none (e ∷ es) k none = at (same_socket k e.id) none (among_none es k)
   where

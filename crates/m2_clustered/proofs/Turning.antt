@@ -34,22 +34,22 @@ module _ {D : Type 0} where
   and_then first second f s (Err e) old new h =
       elim h [ inl g ↦ f (Err e) old new g | inr g ↦ chain old g.0 new (f (Ok tt) old g.0 g.1) (s (Err e) g.0 new g.2) ]
 
-  accepts : AllGrow AcceptsSo
+  pub accepts : AllGrow AcceptsSo
   accepts a old new h = λ own.
       subst (λ rs. Grows (holding_of old) (record { port = new.port; records = rs; halves = new.halves })) (sym (ap (λ (c : CenterNow D). c.records) h.2.only))
       (accepts_grow old.entity h.0 old.records (accepting_in old) (accepting_in new) h.2.accepts own)
 
-  answers : (E : Type 0) (m : Means) → AllGrow (AnswersSo E m)
+  pub answers : (E : Type 0) (m : Means) → AllGrow (AnswersSo E m)
   answers E m a old new h = λ own.
       subst (λ p. Grows (holding_of old) (record { port = p; records = new.records; halves = new.halves })) (sym (ap (λ (c : CenterNow D). c.port) h.2.only))
       (halves_grow E h.0 m old.port (callers_of old) (callers_of new) h.2.turns own)
 
-  steps : (heard : D → List Heard) (m : Means) → AllGrow (StepsSo heard m)
+  pub steps : (heard : D → List Heard) (m : Means) → AllGrow (StepsSo heard m)
   steps heard m a old new h = λ own.
       subst (λ g. Grows (holding_of old) (record { port = new.port; records = new.records; halves = g })) (sym (ap (λ (c : CenterNow D). c.halves) h.2.only))
       (record_turns heard m h.0 old.halves (all_amid_in old) (all_amid_in new) h.2.turns own)
 
-  delivers : (heard : D → List Heard) (m : Means) → AllGrow (DeliversSo heard m)
+  pub delivers : (heard : D → List Heard) (m : Means) → AllGrow (DeliversSo heard m)
   delivers heard m a old new h = λ own. grows_by (holding_of old) (holding_of new) (ap holding_of h.2.only) own
 
 pub turn_grows : (D E : Type 0) → TurnGrows D E

@@ -1,16 +1,22 @@
--- What is promised of centers, and of a cluster, where ends are told of the other side.
+-- What is promised of centers, and of a cluster, where ends are told of the other side; and of the ends that wait, in a turn too.
 use Rattle.std.specs.Prelude.{◌≡◌, ℕ, List}
 use Rattle.std.specs.List.{AllByRecursion}
+use Rattle.m2_dispatch.specs.Heard.{Heard}
 use Rattle.m2_fabric.specs.declared.end.News.{News}
 use Rattle.m2_fabric.specs.declared.socket.SocketId.{SocketId}
 use Rattle.m2_fabric.specs.Port.{SeenPort, with_incoming, with_news}
+use Rattle.m2_journal.specs.declared.facts.PlanStep.{PlanStep}
+use Rattle.m2_shared.specs.Place.{Place}
+use Rattle.m2_stages.specs.RecordTurn.{Means}
 use Rattle.m2_center.specs.Center.{CenterNow}
+use Rattle.m2_center.specs.CenterTurn.{Answer, TakesTurn}
+use Rattle.m2_center.specs.Plans.{PlansIn}
 use Rattle.m2_center.specs.Reaching.{after_hearing, rest_in}
 use Rattle.m2_cluster.specs.Cluster.{ClusterNow, rest_of}
 use Rattle.m2_growth.specs.Holding.{AreOwn, HaveTheirHalves}
 use Rattle.m2_clustered.specs.Center.{holding_of}
 use Rattle.m2_clustered.specs.Cluster.{AllHaveHalves}
-use Rattle.m2_clustered.specs.Told.{KeepsSockets, OneByOne, SameCenter, SameNode, StayToCome}
+use Rattle.m2_clustered.specs.Told.{AreUnused, KeepsSockets, OneByOne, SameCenter, SameNode, StayToCome}
 
 -- ---- a center
 
@@ -38,6 +44,15 @@ IncomingStaysOwn D = (id : SocketId) (c : CenterNow D) → AreOwn (holding_of c)
 
 abbrev pub HearingStaysOwn : Type 0 → Type 0
 HearingStaysOwn D = (id : SocketId) (news : News) (bytes : List ℕ) (c : CenterNow D) → AreOwn (holding_of c) → AreOwn (holding_of (after_hearing id news bytes c))
+
+-- ---- a turn, and a step that is planned
+
+abbrev pub TurnStaysUnused : (D E : Type 0) → Type 0
+TurnStaysUnused D E = (heard : D → List Heard) (m : Means) (answer : Answer) (old new : CenterNow D) → TakesTurn E heard m answer old new → AreUnused old.port → AreUnused new.port
+
+abbrev pub PlanStaysUnused : Type 0 → Type 0
+PlanStaysUnused D = (answer : Answer) (peer : ℕ) (step : PlanStep) (now : ℕ) (throttle : Place) (old new : CenterNow D) → PlansIn answer peer step now throttle old new →
+    AreUnused old.port → AreUnused new.port
 
 -- ---- a cluster
 

@@ -17,6 +17,16 @@ pub fn plan_grows<D>()
     ensures { laws.PlanGrows D }
 {}
 
+/// Behind a turn of a center only sockets that go elsewhere have an end and had none.
+pub fn turn_brings_elsewhere<D: Dispatcher, E: End>()
+    ensures { laws.TurnBringsElsewhere D E }
+{}
+
+/// Where one of its records plans a step it is so too.
+pub fn plan_brings_elsewhere<D>()
+    ensures { laws.PlanBringsElsewhere D }
+{}
+
 /// Where one node of a cluster takes a turn, all ends of the cluster grow.
 pub fn node_turn_grows<D: Dispatcher, E: End>()
     ensures { laws.NodeTurnGrows D E }

@@ -12,9 +12,12 @@
 mod laws;
 mod told;
 
-pub use laws::{node_plan_grows, node_turn_grows, plan_grows, turn_grows};
+pub use laws::{
+    node_plan_grows, node_turn_grows, plan_brings_elsewhere, plan_grows, turn_brings_elsewhere,
+    turn_grows,
+};
 pub use told::{
     hearing_stays_own, incoming_is_to_come, incoming_stays_own, news_are_to_come,
-    told_center_is_same, told_cluster_is_same, told_cluster_stays_judged, told_cluster_stays_own,
-    told_stays_judged, told_stays_own,
+    plan_stays_unused, told_center_is_same, told_cluster_is_same, told_cluster_stays_judged,
+    told_cluster_stays_own, told_stays_judged, told_stays_own, turn_stays_unused,
 };

@@ -3,6 +3,9 @@
 
 ghost use Rattle.m2_clustered.specs.ToldLaws as laws;
 
+use m2_dispatcher::Dispatcher;
+use m2_fabric::End;
+
 /// A center with the same rest has the same records and halves, but for what their ends were told.
 pub fn told_center_is_same<D>()
     ensures { laws.ToldCenterIsSame D }
@@ -51,4 +54,14 @@ pub fn told_cluster_stays_own<D>()
 /// And the half of each ask that was judged is there still.
 pub fn told_cluster_stays_judged<D>()
     ensures { laws.ToldClusterStaysJudged D }
+{}
+
+/// Behind a turn of a center the ends that wait at its port did nothing yet, where they had done nothing before.
+pub fn turn_stays_unused<D: Dispatcher, E: End>()
+    ensures { laws.TurnStaysUnused D E }
+{}
+
+/// And so it is where one of its records plans a step.
+pub fn plan_stays_unused<D>()
+    ensures { laws.PlanStaysUnused D }
 {}

@@ -1,5 +1,5 @@
 -- Two nodes, each with a new record of the other, that stay as they are.
-use Rattle.std.proofs.Common.{◌≡◌, inl, Bool, true, false, [], ◌∷◌, None, refl, ap, ◌∙◌, arith}
+use Rattle.std.proofs.Common.{◌≡◌, ℕ, inl, Bool, true, false, [], ◌∷◌, None, refl, ap, ◌∙◌, arith}
 use Rattle.std.specs.Prelude.{◌==◌, ◌&&◌}
 use Rattle.std.specs.List.{IsDistinct}
 use Rattle.std.proofs.lemmas.Bool.{eqb-true}
@@ -20,11 +20,12 @@ use Rattle.m2_linked.specs.Laws.{ALinkGoesOn}
 use Rattle.m2_linked.specs.Linked.{IsNode, NodeNow, Nodes}
 use Rattle.m2_linked.proofs.Staying.{staying_goes_on}
 
-abbrev side : SideFacts → RecordNow
-side f = new_record f 0
+-- a new record of the node at this place
+abbrev pub side : SideFacts → (place : ℕ) → RecordNow
+side f place = new_record f place
 
-abbrev node : SideFacts → NodeNow
-node f = record { holding = record { port = fresh_port f.mine; records = side f ∷ []; halves = record { pending = []; loose = [] } }; side = side f }
+abbrev pub node : SideFacts → (place : ℕ) → NodeNow
+node f place = record { holding = record { port = fresh_port f.mine; records = side f place ∷ []; halves = record { pending = []; loose = [] } }; side = side f place }
 
 agrees : (f : SideFacts) → Agrees (at_start f) (start f)
 agrees f = record { session = refl; queue = refl; last = refl; owes = refl; dials = refl; top = refl; feed = tt; resumed = inl refl }
@@ -44,9 +45,9 @@ from_there k h =
     let port : k.to_port ≡ 7001 = eqb-true k.to_port 7001 (both (k.to_ip == here.ip) (k.to_port == 7001) h).1 in
     ap (λ n. (k.to_ip == there.ip) && (n == 7002)) port ∙ never_and (k.to_ip == there.ip)
 
-is_node : (f : SideFacts) → IsRecord (side f) → ((k : SocketId) → goes_to f.peer k ≡ true → goes_to f.mine k ≡ false) → IsNode (node f).holding
+with_record : (f : SideFacts) (place : ℕ) → IsRecord (side f place) → ((k : SocketId) → goes_to f.peer k ≡ true → goes_to f.mine k ≡ false) → IsNode (node f place).holding
 unfolding IsDistinct
-is_node f is apart = record {
+with_record f place is apart = record {
   records = (is, tt);
   whole = tt;
   own = record { in_memory = refl; held = own_none; made = tt; waiting = own_none; to_come = tt; elsewhere = (apart, tt); fed = (refl, tt); on_socket = tt; here = tt };
@@ -63,16 +64,22 @@ is_node f is apart = record {
   };
 }
 
+pub is_node_of_a : IsNode (node facts_of_a 1).holding
+is_node_of_a = with_record facts_of_a 1 (new-is-record facts_of_a 1 no_room (omega arith) (agrees facts_of_a)) from_here
+
+pub is_node_of_b : IsNode (node facts_of_b 0).holding
+is_node_of_b = with_record facts_of_b 0 (new-is-record facts_of_b 0 no_room (omega arith) (agrees facts_of_b)) from_there
+
 abbrev nodes : Nodes
-nodes = record { near = node facts_of_a; far = node facts_of_b }
+nodes = record { near = node facts_of_a 1; far = node facts_of_b 0 }
 
 pub a_link_goes_on : ALinkGoesOn
 a_link_goes_on = record {
   old = nodes;
   new = nodes;
   goes = record {
-    near = staying_goes_on (node facts_of_a) 0 (is_node facts_of_a (new-is-record facts_of_a 0 no_room (omega arith) (agrees facts_of_a)) from_here) refl;
-    far = staying_goes_on (node facts_of_b) 0 (is_node facts_of_b (new-is-record facts_of_b 0 no_room (omega arith) (agrees facts_of_b)) from_there) refl;
+    near = staying_goes_on (node facts_of_a 1) 0 is_node_of_a refl;
+    far = staying_goes_on (node facts_of_b 0) 0 is_node_of_b refl;
     near_peer = λ k. refl;
     far_peer = λ k. refl;
     near_alone = λ k o h. absurd (differ o);

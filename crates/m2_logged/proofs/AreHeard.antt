@@ -1,5 +1,5 @@
 -- At first nothing was handed on and nothing was heard; and what is heard is of each record what it accepted.
-use Rattle.std.proofs.Common.{◌≡◌, ℕ, ◌==◌, List, [], ◌∷◌, ◌++◌, map, take, drop, None, refl, sym, ap, subst, ◌∙◌, append-nil, append_assoc, take-append-drop}
+use Rattle.std.proofs.Common.{◌≡◌, ℕ, ◌==◌, List, [], ◌∷◌, ◌++◌, map, take, drop, None, refl, sym, ap, subst, ◌∙◌, append_assoc, take-append-drop}
 use Rattle.std.specs.List.{AllByRecursion}
 use Rattle.std.proofs.lemmas.List.{map-append}
 use Rattle.std.proofs.lemmas.List.Elements.{filter-append}
@@ -16,7 +16,7 @@ use Rattle.m2_record.specs.IsRecord.{IsReplayedTo}
 use Rattle.m2_record.specs.RecordNow.{RecordNow, delivery_of}
 use Rattle.m2_stages.specs.Outbox.{OutboxNow}
 use Rattle.m2_logged.specs.Laws.{BeginLogged, LoggedAreHeard}
-use Rattle.m2_logged.specs.Logged.{IsLogged, IsLoggedOf, all_put, deliveries_of, fast_calls, handed_of, heard_held, logging, logs_in}
+use Rattle.m2_logged.specs.Logged.{IsLoggedOf, all_put, deliveries_of, handed_of, heard_held}
 use Rattle.m2_logged.proofs.Puts.{once-append, parcels-append, queued-append}
 
 -- ---- at first

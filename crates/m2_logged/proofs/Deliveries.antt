@@ -1,7 +1,6 @@
 -- What a journal delivers goes on where the journal does, and what it speaks of.
-use Rattle.std.proofs.Common.{◌≡◌, ℕ, ◌+◌, ◌≤◌, Bool, true, false, if◌then◌else◌, List, [], ◌∷◌, ◌++◌, length, Option, Some, None, refl, sym, ap, subst, ◌∙◌, append-nil}
+use Rattle.std.proofs.Common.{◌≡◌, ℕ, ◌+◌, Bool, true, false, if◌then◌else◌, List, [], ◌∷◌, ◌++◌, Option, Some, None, refl, sym, ap, subst, ◌∙◌}
 use Rattle.std.specs.List.{AllByRecursion}
-use Rattle.m2_fabric.specs.declared.socket.SocketId.{SocketId}
 use Rattle.m2_journal.specs.declared.entry.Entry.{Entry}
 use Rattle.m2_journal.specs.declared.entry.Entry.TheVariants as entry
 use Rattle.m2_journal.specs.Feeds.{finished, hears, narrowed, next_said, texts_at}
@@ -14,13 +13,13 @@ use Rattle.m2_journal.specs.Plan.{Planned, to_dial, to_go_down, to_post}
 use Rattle.m2_journal.specs.Replay.{after_items, replay}
 use Rattle.m2_journal.specs.Said.{Said, aborts, brings, garbles, says}
 use Rattle.m2_journal.specs.SideFacts.{SideFacts, cookie_of}
-use Rattle.m2_journal.specs.State.{Delivery, Feed, PartText, State, letter, start}
-use Rattle.m2_journal.specs.Steps.{accepts, acceptance, after, breaks, composes, event_heard, event_of, forgets, goes_down, heeds, is_on, is_waiting, notes, opens, posts, puts_on, queues, sends, sends_late, takes_answer, takes_socket, tells, tells_if, with_feed, writes_message}
+use Rattle.m2_journal.specs.State.{Feed, PartText, State, letter, start}
+use Rattle.m2_journal.specs.Steps.{accepts, after, breaks, composes, event_heard, event_of, forgets, heeds, is_on, is_waiting, notes, posts, puts_on, queues, sends, takes_answer, takes_socket, tells, tells_if, with_feed, writes_message}
 use Rattle.m2_journal.proofs.Growing.{after-append, items-append, items-grow}
 use Rattle.m2_message.specs.Message.{Content}
 use Rattle.m2_queues.specs.Laws.{Next}
 use Rattle.m2_queues.specs.OutQueues.{message_at}
-use Rattle.m2_record.proofs.Telling.{Beside, beside, tells-beside, told_by}
+use Rattle.m2_record.proofs.Telling.{Beside, tells-beside, told_by}
 use Rattle.m2_session.specs.declared.event.Event.{Event}
 use Rattle.m2_session.specs.declared.event.Event.TheVariants as event
 use Rattle.m2_session.specs.Laws.{takes}

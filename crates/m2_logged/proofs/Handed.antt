@@ -1,5 +1,5 @@
 -- How many parcels a record has handed on: one more where a step hands one on, and else as many.
-use Rattle.std.proofs.Common.{◌≡◌, ◌⊎◌, inl, inr, ℕ, ◌+◌, true, false, List, [], ◌∷◌, Option, Some, None, Result, Ok, Err, IfSome, IsSome, true≢false, refl, sym, ap, subst, ◌∙◌}
+use Rattle.std.proofs.Common.{◌≡◌, ℕ, ◌+◌, ◌∷◌, Option, Some, None, Result, Ok, Err, IfSome, IsSome, true≢false, refl, sym, ap, subst, ◌∙◌}
 use Rattle.m2_bytes.specs.declared.memory.NoMemory as memory
 use Rattle.m2_core.specs.declared.to_compose.CoreText.{CoreText}
 use Rattle.m2_core.specs.declared.to_compose.CoreText.TheVariants as text
@@ -28,9 +28,9 @@ use Rattle.m2_record.specs.declared.stepped.Stepped.TheVariants as stepped
 use Rattle.m2_record.specs.Calls.{ClosesFor, ComposesAs, HandsOut, IsSameButRoom, Writes, fault_put}
 use Rattle.m2_record.specs.Due.{due_step, next_step}
 use Rattle.m2_record.specs.Framing.{Frames, Greets}
-use Rattle.m2_record.specs.Reading.{Reads, answer_by, answer_heard, answer_read, fault_by, fault_read, faulted_or}
+use Rattle.m2_record.specs.Reading.{Reads, answer_by, answer_heard, answer_read, fault_read, faulted_or}
 use Rattle.m2_record.specs.RecordNow.{RecordNow}
-use Rattle.m2_record.specs.Stepping.{HandsAs, NothingDone, PlansAs, StepsAs, StepsBy, TakesDue, Worked, answer_composed, answer_framed, answer_planned, answer_put}
+use Rattle.m2_record.specs.Stepping.{HandsAs, PlansAs, StepsAs, StepsBy, TakesDue, Worked, answer_composed, answer_framed, answer_planned, answer_put}
 use Rattle.m2_growth.proofs.Due.{to_be_composed}
 use Rattle.m2_logged.specs.Logged.{deliveries_of}
 

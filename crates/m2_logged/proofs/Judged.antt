@@ -1,5 +1,5 @@
 -- Records that judge asks hand nothing on, in the turns of all halves.
-use Rattle.std.proofs.Common.{◌≡◌, ◌⊎◌, inl, inr, ℕ, zero, suc, Bool, true, false, List, [], ◌∷◌, Option, Some, None, IfSome, IsSome, refl, sym, ap, subst, ◌∙◌}
+use Rattle.std.proofs.Common.{◌≡◌, inl, inr, ℕ, zero, suc, Bool, true, false, List, [], ◌∷◌, Option, Some, None, IfSome, IsSome, refl, sym, ap, subst, ◌∙◌}
 use Rattle.std.specs.Prelude.{slice_get, slice_set}
 use Rattle.m2_addr.specs.declared.addr.Addr.{Addr}
 use Rattle.m2_core.specs.declared.verdict.Verdict.{Verdict}
@@ -23,7 +23,7 @@ use Rattle.m2_stages.specs.declared.half_turn.HalfTurned.TheVariants as turned
 use Rattle.m2_stages.specs.declared.halves_turn.HalvesTurn.{HalvesTurn}
 use Rattle.m2_stages.specs.declared.halves_turn.HalvesTurn.TheVariants as all_turned
 use Rattle.m2_stages.specs.Answering.{AnswersBy, AnswersHalf, FindsSo, HearsHalf, OwesThen}
-use Rattle.m2_stages.specs.HalfTurn.{AnswersFrom, ComesTo, HalfTurning, Homes, Replies, TurnsHalf, TurnsOnce, home_of_ask, judging_in}
+use Rattle.m2_stages.specs.HalfTurn.{AnswersFrom, ComesTo, HalfTurning, Homes, Replies, TurnsHalf, TurnsOnce, judging_in}
 use Rattle.m2_stages.specs.HalvesTurn.{Callers, HalfTurns, HalvesTurning, OldestTurns, TurnHalves, TurnsHalves, all_wait}
 use Rattle.m2_stages.specs.Judging.{Judges, Judging}
 use Rattle.m2_stages.specs.RecordTurn.{Means}
@@ -41,7 +41,7 @@ HandNone [] [] = Unit {0}
 HandNone (r ∷ rs) (s ∷ ss) = HandsNone r s × HandNone rs ss
 HandNone _ _ = ⊥
 
-none_same : (rs : List RecordNow) → HandNone rs rs
+pub none_same : (rs : List RecordNow) → HandNone rs rs
 none_same [] = tt
 none_same (r ∷ rs) = (refl, none_same rs)
 

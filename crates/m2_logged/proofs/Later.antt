@@ -1,23 +1,26 @@
 -- A record that grows, and whose ends grow among all those of its center, goes further: also where it takes a half.
-use Rattle.std.proofs.Common.{◌≡◌, ◌⊎◌, inl, inr, ℕ, Bool, true, false, ◌||◌, if◌then◌else◌, List, [], ◌∷◌, ◌++◌, map, Option, Some, None, refl, sym, ap, subst, ◌∙◌}
+use Rattle.std.proofs.Common.{◌≡◌, ◌⊎◌, inl, inr, Bool, true, false, ◌||◌, if◌then◌else◌, List, [], ◌∷◌, ◌++◌, map, Option, Some, None, refl, sym, ap, subst, ◌∙◌}
 use Rattle.std.specs.List.{AllByRecursion, IsDistinct}
 use Rattle.std.proofs.lemmas.List.{map-append}
 use Rattle.m2_fabric.specs.declared.socket.SocketId.{SocketId}
 use Rattle.m2_fabric.specs.End.{SeenEnd}
+use Rattle.m2_fabric.specs.Port.{SeenPort}
 use Rattle.m2_fabric.specs.Sockets.{is_among, same_socket}
-use Rattle.m2_journal.specs.declared.entry.Entry.{Entry}
 use Rattle.m2_record.specs.IsRecord.{IsRecord, became_feed, feeds_in}
 use Rattle.m2_record.specs.RecordNow.{RecordNow, ends_of, feed_end, ids_of}
 use Rattle.m2_record.specs.Sources.{end_at, trail_at}
 use Rattle.m2_record.specs.TakenTrails.{taken_by, taken_in}
 use Rattle.m2_record.proofs.Names.{differ, same_equal}
+use Rattle.m2_stages.specs.Halves.{AllHalves}
 use Rattle.m2_stages.proofs.Opened.{filtered}
 use Rattle.m2_trail.specs.Trails.{TrailNow}
-use Rattle.m2_turns.specs.Later.{GoesOn}
 use Rattle.m2_growth.specs.Ends.{AreOfTheirOwn, EndGrows, EndGrowsTo, EndsGrow}
-use Rattle.m2_growth.specs.Records.{RecordGrows}
+use Rattle.m2_growth.specs.Holding.{AreOwn, all_ends, waiting_at}
+use Rattle.m2_growth.specs.Records.{RecordGrows, ends_of_all}
 use Rattle.m2_growth.proofs.Among.{among_front}
-use Rattle.m2_growth.proofs.Ends.{end_append, first_of, later_swapped, own_apart}
+use Rattle.m2_growth.proofs.Ends.{end_append, first_of, later_swapped, own_apart, own_first, own_last}
+use Rattle.m2_growth.proofs.OneRecord.{all_around, ends_behind, held_around, holding}
+use Rattle.m2_growth.proofs.Owned.{own_all}
 use Rattle.m2_logged.proofs.Speaking.{GoesFurther, IsEndOf, IsStillAt, feed_has_end, swapped_among, taken_feed}
 
 -- ---- sockets
@@ -126,3 +129,14 @@ module _ (r s : RecordNow) (is : IsRecord r) (later : IsRecord s) (grows : Recor
           let grown : EndGrows e found.end =
           subst (λ (o : Option SeenEnd). EndGrowsTo o (Some found.end)) (here k e h) (subst (EndGrowsTo (end_at before k)) (there k found.end found.there) (grow k)) in
           record { later = found.end; there = found.there; got = grown.got; put = grown.put; trail = trail_still k e h }
+
+-- ---- in a holding
+
+pub its_own : (p : SeenPort) (before rest : List RecordNow) (r : RecordNow) (halves : AllHalves) → AreOwn (holding p (before ++ r ∷ rest) halves) → AreOfTheirOwn (ends_of r)
+its_own p before rest r halves own =
+    own_first (ends_of r) (ends_behind rest halves) (own_last (ends_of_all before) (ends_of r ++ ends_behind rest halves) (subst AreOfTheirOwn (held_around before rest r halves) own.held))
+
+pub its_ends : (p : SeenPort) (before rest : List RecordNow) (r : RecordNow) (halves : AllHalves) → AreOwn (holding p (before ++ r ∷ rest) halves) → HasIts r (all_ends (holding p (before ++ r ∷ rest) halves))
+its_ends p before rest r halves own =
+    let around = all_around p before rest r halves in
+    subst (HasIts r) (sym around) (has_its r (ends_of_all before) (ends_behind rest halves ++ waiting_at p) (subst AreOfTheirOwn around (own_all (holding p (before ++ r ∷ rest) halves) own)))

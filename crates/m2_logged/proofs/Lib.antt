@@ -3,9 +3,12 @@ pub mod Speaking
 pub mod Handed
 pub mod Puts
 pub mod Later
+pub mod Lagging
 pub mod Turns
 pub mod RecordTurns
 pub mod Mailed
 pub mod AreHeard
 pub mod Judged
 pub mod Halves
+pub mod CenterTurns
+pub mod Rest

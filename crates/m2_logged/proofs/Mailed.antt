@@ -1,23 +1,21 @@
 -- The mail is put into the queue, and letters that wait there are dispatched: these are calls of the queue, behind those before.
-use Rattle.std.proofs.Common.{◌≡◌, ◌⊎◌, inl, inr, ℕ, ◌==◌, true, false, List, [], ◌∷◌, ◌++◌, map, take, drop, refl, sym, ap, subst, ◌∙◌, append-nil, append_assoc}
+use Rattle.std.proofs.Common.{◌≡◌, inl, inr, ℕ, List, [], ◌∷◌, ◌++◌, map, take, drop, refl, sym, ap, ◌∙◌, append-nil, append_assoc}
 use Rattle.std.specs.List.{AllByRecursion}
 use Rattle.std.proofs.lemmas.List.{map-append}
 use Rattle.m2_channel.specs.Handing.{heard_by_calls, parcels_of, calls_of}
 use Rattle.m2_dispatch.specs.Heard.{Heard}
 use Rattle.m2_dispatcher.specs.declared.letter.Letter.{Letter}
 use Rattle.m2_dispatcher.specs.declared.parcel.Parcel.{Parcel}
-use Rattle.m2_dispatcher.specs.Dispatch.{Queued}
 use Rattle.m2_dispatcher.specs.Laws.{Call, History, Put, Turn, after_call, after_calls, history_of, start}
 use Rattle.m2_dispatcher.specs.Letters.{heard_in}
-use Rattle.m2_dispatcher.specs.Parcel.{after_put, heard_at_put}
+use Rattle.m2_dispatcher.specs.Parcel.{heard_at_put}
 use Rattle.m2_record.specs.RecordNow.{RecordNow, delivery_of}
 use Rattle.m2_shared.specs.Place.{Place}
-use Rattle.m2_stages.specs.declared.mailing.Mailed.{Mailed}
 use Rattle.m2_stages.specs.declared.mailing.Mailed.TheVariants as mailed
-use Rattle.m2_stages.specs.Mailing.{DispatchesSome, LacksMemory, Mailing, Mails, MailsSome, PutsSome, Queueing, after_puts, heard_at_puts}
+use Rattle.m2_stages.specs.Mailing.{DispatchesSome, LacksMemory, Mailing, MailsSome, PutsSome, Queueing, after_puts, heard_at_puts}
 use Rattle.m2_stages.specs.Outbox.{OutboxNow}
 use Rattle.m2_logged.specs.Laws.{MailStaysLogged}
-use Rattle.m2_logged.specs.Logged.{IsCalled, IsLogged, IsLoggedOf, all_put, fast_calls, logging}
+use Rattle.m2_logged.specs.Logged.{IsLogged, IsLoggedOf, all_put, fast_calls, logging}
 use Rattle.m2_logged.proofs.Puts.{parcels-append}
 
 -- ---- calls one after another

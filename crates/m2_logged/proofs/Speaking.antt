@@ -1,5 +1,5 @@
 -- What a record has delivered goes on as its journal does and its ends grow; so those that it handed on stay.
-use Rattle.std.proofs.Common.{◌≡◌, ◌⊎◌, inl, inr, ℕ, zero, suc, ◌+◌, ◌≤◌, Bool, true, false, ◌||◌, if◌then◌else◌, List, [], ◌∷◌, ◌++◌, map, length, take, drop, Option, Some, None, refl, sym, ap, subst, ◌∙◌, arith, length-append, append-nil, append_assoc}
+use Rattle.std.proofs.Common.{◌≡◌, ◌⊎◌, inl, inr, ℕ, zero, suc, ◌+◌, Bool, true, false, ◌||◌, if◌then◌else◌, List, [], ◌∷◌, ◌++◌, map, length, take, drop, Option, Some, None, refl, sym, ap, subst, ◌∙◌, arith, length-append, append_assoc}
 use Rattle.std.specs.List.{AllByRecursion, cons_option}
 use Rattle.std.proofs.lemmas.List.{map-append, take-append-le}
 use Rattle.m2_dispatcher.specs.declared.parcel.Parcel.{Parcel}
@@ -11,8 +11,8 @@ use Rattle.m2_journal.specs.declared.entry.Entry.{Entry}
 use Rattle.m2_journal.specs.declared.entry.Entry.TheVariants as entry
 use Rattle.m2_journal.specs.declared.facts.PlanStep.{PlanStep}
 use Rattle.m2_journal.specs.Growth.{AreThere, Grow, IsSettled}
-use Rattle.m2_journal.specs.Items.{Sources, reach_of}
-use Rattle.m2_journal.specs.Plan.{Planned, planned}
+use Rattle.m2_journal.specs.Items.{reach_of}
+use Rattle.m2_journal.specs.Plan.{planned}
 use Rattle.m2_journal.specs.Replay.{replay}
 use Rattle.m2_journal.specs.SideFacts.{SideFacts}
 use Rattle.m2_journal.specs.State.{Delivery, State}
@@ -27,9 +27,7 @@ use Rattle.m2_session.specs.Laws.{takes}
 use Rattle.m2_trail.specs.Trails.{TrailNow}
 use Rattle.m2_trail.proofs.Staying.{trails_stay}
 use Rattle.m2_turns.specs.Later.{GoesOn}
-use Rattle.m2_growth.specs.Records.{RecordGrows}
 use Rattle.m2_growth.proofs.Among.{among_back, among_front, among_part}
-use Rattle.m2_growth.proofs.Ends.{on_by}
 use Rattle.m2_logged.specs.Logged.{deliveries_of, handed_of}
 use Rattle.m2_logged.proofs.Deliveries.{replay_delivers, unfailed}
 

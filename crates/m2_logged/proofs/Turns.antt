@@ -1,15 +1,10 @@
 -- The turns of records: what they hand on is put, one parcel after another.
-use Rattle.std.proofs.Common.{◌≡◌, ◌⊎◌, inl, inr, ℕ, suc, ◌==◌, ◌<◌, ◌≤◌, Bool, true, false, List, [], ◌∷◌, ◌++◌, map, length, Option, Some, None, Ok, Err, refl, sym, ap, subst, ◌∙◌, append-nil, append_assoc, arith}
-use Rattle.std.specs.List.{AllByRecursion, IsDistinct}
-use Rattle.std.proofs.lemmas.Bool.{eq-eqb}
+use Rattle.std.proofs.Common.{◌≡◌, true, List, [], ◌∷◌, length, Option, Some, None, refl, sym, ap, subst, ◌∙◌, arith}
+use Rattle.std.specs.List.{AllByRecursion}
 use Rattle.m2_dispatch.specs.Heard.{Heard}
-use Rattle.m2_dispatcher.specs.declared.parcel.Parcel.{Parcel}
-use Rattle.m2_dispatcher.specs.Dispatch.{Queued}
 use Rattle.m2_dispatcher.specs.Laws.{Call}
 use Rattle.m2_fabric.specs.declared.socket.SocketId.{SocketId}
 use Rattle.m2_fabric.specs.End.{SeenEnd}
-use Rattle.m2_record.specs.declared.due.Due.{Due}
-use Rattle.m2_record.specs.declared.due.Due.TheVariants as due
 use Rattle.m2_record.specs.declared.stepped.Stepped.{Stepped}
 use Rattle.m2_record.specs.declared.stepped.Stepped.TheVariants as stepped
 use Rattle.m2_record.specs.IsRecord.{IsFrom, IsRecord}
@@ -18,19 +13,16 @@ use Rattle.m2_record.specs.Sources.{end_at, trail_at}
 use Rattle.m2_record.proofs.Names.{differ}
 use Rattle.m2_stages.specs.declared.record_turn.RecordTurn.{RecordTurn}
 use Rattle.m2_stages.specs.declared.record_turn.RecordTurn.TheVariants as one
-use Rattle.m2_stages.specs.declared.records_turn.RecordsTurn.{RecordsTurn}
-use Rattle.m2_stages.specs.declared.records_turn.RecordsTurn.TheVariants as turn
-use Rattle.m2_stages.specs.Halves.{AllHalves}
-use Rattle.m2_stages.specs.Outbox.{OutboxNow, Puts, is_free}
+use Rattle.m2_stages.specs.Outbox.{is_free}
 use Rattle.m2_stages.specs.RecordTurn.{EndsBy, Means, PutsHanded, Steps, TakesStep, Turning, TurnsAs, worked_by}
 use Rattle.m2_stages.specs.Steps as journal
 use Rattle.m2_stages.proofs.GoesOn as journals
-use Rattle.m2_growth.specs.Ends.{AreOfTheirOwn, EndGrows, EndGrowsTo, EndsGrow}
+use Rattle.m2_growth.specs.Ends.{AreOfTheirOwn, EndGrowsTo, EndsGrow}
 use Rattle.m2_growth.proofs.Ends.{on_by}
 use Rattle.m2_growth.proofs.Standing.{MovesOn}
 use Rattle.m2_growth.proofs.Steps as growth
-use Rattle.m2_logged.specs.Logged.{IsLoggedOf, fast_calls, handed_of}
-use Rattle.m2_logged.proofs.Handed.{HandsNone, StepHands, first_delivers, steps}
+use Rattle.m2_logged.specs.Logged.{fast_calls}
+use Rattle.m2_logged.proofs.Handed.{StepHands, first_delivers, steps}
 use Rattle.m2_logged.proofs.Puts.{StaysLogged, free_holds_none, puts, stays_chain, stays_handed, stays_still}
 use Rattle.m2_logged.proofs.Speaking.{GoesFurther, IsStillAt, handed_next, handed_still}
 

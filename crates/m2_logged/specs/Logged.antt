@@ -49,12 +49,12 @@ pub record IsLoggedOf {D : Type 0} (heard : D → List Heard) (calls : List Call
 -- ---- all of it
 
 -- a center's records, where their parcels go, and the queue of the node
-pub record Logging (D : Type 0) : Type 0 where
+pub record LoggingNow (D : Type 0) : Type 0 where
   pub records : List RecordNow
   pub out : OutboxNow D
   pub queued : Queued D
 
-abbrev pub logging : {D : Type 0} → List RecordNow → OutboxNow D → Queued D → Logging D
+abbrev pub logging : {D : Type 0} → List RecordNow → OutboxNow D → Queued D → LoggingNow D
 logging records out queued = record { records = records; out = out; queued = queued }
 
 -- no two records are of one peer
@@ -67,12 +67,12 @@ pub record IsCalled {D : Type 0} (heard : D → List Heard) (calls : List Call) 
   pub waiting : (peer : ℕ) → q.waiting ≡ (history_of peer calls).waiting
   pub heard_so : (peer : ℕ) → heard q.inner ≡ heard_by_calls peer start calls
 
-pub record IsLogged {D : Type 0} (heard : D → List Heard) (l : Logging D) : Type 0 where
+pub record IsLogged {D : Type 0} (heard : D → List Heard) (l : LoggingNow D) : Type 0 where
   pub peers : AreOfTheirPeers l.records
   pub calls : List Call
   pub queue : IsCalled heard calls l.queued
   pub each : AllByRecursion (IsLoggedOf heard calls l.out) l.records
 
 -- what both dispatchers were called with
-abbrev pub logs_in : {D : Type 0} → (heard : D → List Heard) → Logging D → Logs
+abbrev pub logs_in : {D : Type 0} → (heard : D → List Heard) → LoggingNow D → Logs
 logs_in heard l = record { fast = heard l.out.fast; queued = heard l.queued.inner }

@@ -27,12 +27,23 @@ pub fn mail_stays_logged<D: Dispatcher>()
     ensures { laws.MailStaysLogged D }
 {}
 
+/// So it is behind all of a center's turn.
+pub fn turns_stay_logged<D: Dispatcher, E: End>()
+    ensures { laws.TurnsStayLogged D E }
+{}
+
+/// And where ends are told of the other side, or a socket comes to the port.
+pub fn rest_stays_logged<D: Dispatcher>()
+    ensures { laws.RestStaysLogged D }
+{}
+
 /// And where a step is planned and taken.
 pub fn plans_stay_logged<D: Dispatcher>()
     ensures { laws.PlansStayLogged D }
 {}
 
-/// Of each record its peer is heard to send what the record accepted, of each key in order and each once.
+/// So of each record its peer is heard to send of each key some of what the record accepted, in order, each
+/// once, and the first ones of it as long as nothing was thrown away.
 pub fn logged_are_heard<D: Dispatcher>()
     ensures { laws.LoggedAreHeard D }
 {

@@ -8,3 +8,4 @@ pub mod Acting
 pub mod Towards
 pub mod Flowing
 pub mod Orders
+pub mod Example

@@ -26,3 +26,8 @@ pub fn acting_keeps_orders()
     links_go_on();
     links_are_woven();
 }
+
+/// There are nodes of which all that holds, with a link between them, and one that acts.
+pub fn a_node_acts()
+    ensures { laws.ANodeActs }
+{}

@@ -11,4 +11,4 @@
 
 mod laws;
 
-pub use laws::{acting_keeps_orders, acting_keeps_running};
+pub use laws::{a_node_acts, acting_keeps_orders, acting_keeps_running};

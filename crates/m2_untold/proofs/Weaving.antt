@@ -19,7 +19,7 @@ use Rattle.m2_history.specs.Woven.{EndNow, bytes_at, loose_end, loose_ends, loos
 use Rattle.m2_turned.specs.Sides.{woven_now}
 use Rattle.m2_weave.specs.Rule.{Woven}
 use Rattle.m2_weave.specs.Strands.{EndOf, StrandNow}
-use Rattle.m2_untold.specs.Sides.{SideName, SideNow, side_at, side_in, woven_of}
+use Rattle.m2_untold.specs.Sides.{SideName, OneSide, side_at, side_in, woven_of}
 use Rattle.m2_untold.specs.Laws.{SameSide, ToldStaysWoven, WovenStays}
 
 -- ---- two sides
@@ -103,7 +103,7 @@ side_same place (Some m) (Some n) same = at (slice_get m.center.records place) (
     at (Some r) None h = absurd h
     at (Some r) (Some s) h = record { side = h; halves = same.center.halves }
 
-woven_same : (a b c d : Option SideNow) → IfEither SameSide a c → IfEither SameSide b d → woven_of c d ≡ woven_of a b
+woven_same : (a b c d : Option OneSide) → IfEither SameSide a c → IfEither SameSide b d → woven_of c d ≡ woven_of a b
 woven_same None b None d s t = refl
 woven_same None b (Some c) d s t = absurd s
 woven_same (Some a) b None d s t = absurd s

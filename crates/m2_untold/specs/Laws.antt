@@ -3,17 +3,17 @@ use Rattle.std.specs.Prelude.{◌≡◌}
 use Rattle.m2_cluster.specs.Cluster.{ClusterNow, rest_of}
 use Rattle.m2_clustered.specs.Told.{SameHalves, SameRecord}
 use Rattle.m2_turned.specs.Sides.{woven_now}
-use Rattle.m2_untold.specs.Sides.{SideName, SideNow, both_sides, side_at, woven_of}
+use Rattle.m2_untold.specs.Sides.{SideName, OneSide, both_sides, side_at, woven_of}
 
 -- ---- two sides
 
 -- a record and the halves of its node are the same but for what their ends were told
-pub record SameSide (old new : SideNow) : Type 0 where
+pub record SameSide (old new : OneSide) : Type 0 where
   pub side : SameRecord old.side new.side
   pub halves : SameHalves old.halves new.halves
 
 abbrev pub WovenStays : Type 0
-WovenStays = (a b c d : SideNow) → SameSide a c → SameSide b d → woven_now (both_sides c d) ≡ woven_now (both_sides a b)
+WovenStays = (a b c d : OneSide) → SameSide a c → SameSide b d → woven_now (both_sides c d) ≡ woven_now (both_sides a b)
 
 -- ---- a cluster
 

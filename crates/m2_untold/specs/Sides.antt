@@ -11,12 +11,12 @@ use Rattle.m2_turned.specs.Sides.{woven_now}
 use Rattle.m2_weave.specs.Rule.{Woven}
 
 -- a record, and all halves of its node
-pub record SideNow : Type 0 where
+pub record OneSide : Type 0 where
   pub side : RecordNow
   pub halves : AllHalves
 
 -- two of them, with the halves that no record of either node took
-abbrev pub both_sides : SideNow → SideNow → BothNow
+abbrev pub both_sides : OneSide → OneSide → BothNow
 both_sides a b = both_of a.side b.side (all_left a.halves ++ all_left b.halves)
 
 -- ---- of a cluster
@@ -26,14 +26,14 @@ pub record SideName : Type 0 where
   pub node : ℕ
   pub place : ℕ
 
-abbrev pub side_in : {D : Type 0} → (place : ℕ) → Option (NodeNow D) → Option SideNow
+abbrev pub side_in : {D : Type 0} → (place : ℕ) → Option (NodeNow D) → Option OneSide
 side_in place (Some n) = option_map (λ (r : RecordNow). record { side = r; halves = n.center.halves }) (slice_get n.center.records place)
 side_in place None = None
 
-abbrev pub side_at : {D : Type 0} → List (NodeNow D) → SideName → Option SideNow
+abbrev pub side_at : {D : Type 0} → List (NodeNow D) → SideName → Option OneSide
 side_at nodes s = side_in s.place (slice_get nodes s.node)
 
 -- what is woven of two, where both are there
-abbrev pub woven_of : Option SideNow → Option SideNow → Option Woven
+abbrev pub woven_of : Option OneSide → Option OneSide → Option Woven
 woven_of (Some a) (Some b) = Some (woven_now (both_sides a b))
 woven_of _ _ = None

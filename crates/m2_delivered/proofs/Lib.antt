@@ -1,0 +1,5 @@
+pub mod Tables
+pub mod Strands
+pub mod Beside
+pub mod Links
+pub mod Logs
