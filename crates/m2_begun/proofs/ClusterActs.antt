@@ -1,6 +1,6 @@
 -- Where one node of a cluster acts, one node of the run does.
 use Rattle.std.proofs.Common.{◌≡◌, ℕ, zero, suc, List, [], ◌∷◌, ◌++◌, length, map, slice_get, slice_set, Option, Some, None, refl, sym, ap, subst, ◌∙◌}
-use Rattle.std.specs.Prelude.{IsSome, unwrap_or}
+use Rattle.std.specs.Prelude.{unwrap_or}
 use Rattle.m2_addr.specs.declared.addr.Addr.{Addr}
 use Rattle.m2_fabric.specs.declared.socket.SocketId.{SocketId}
 use Rattle.m2_fabric.specs.End.{SeenEnd}
@@ -16,7 +16,7 @@ use Rattle.m2_clustered.specs.Laws.{BringsElsewhere}
 use Rattle.m2_clustered.proofs.Bringing.{plan_brings, turn_brings}
 use Rattle.m2_clustered.proofs.Turning.{node_plan_grows, node_turn_grows, plan_grows, turn_grows}
 use Rattle.m2_growth.specs.Holding.{Grows, Holding, all_ends}
-use Rattle.m2_runs.specs.Running.{HoldsAll, IsNodeAt, NodeActs}
+use Rattle.m2_runs.specs.Running.{IsNodeAt, NodeActs}
 use Rattle.m2_sim_net.specs.InStep.{SeenFabric}
 use Rattle.m2_sim_net.specs.SimFabric.{fresh_fabric}
 use Rattle.m2_begun.specs.Acting.{holdings_of, run_of}

@@ -1,5 +1,5 @@
 -- What is promised of runs of nodes in memory before their first deed, and where one node acts.
-use Rattle.std.specs.Prelude.{◌≡◌, ℕ, List, [], length, slice_get, Some}
+use Rattle.std.specs.Prelude.{◌≡◌, ℕ, List, length, slice_get, Some}
 use Rattle.std.specs.List.{AllByRecursion}
 use Rattle.m2_addr.specs.declared.addr.Addr.{Addr}
 use Rattle.m2_dispatch.specs.Heard.{Heard}
