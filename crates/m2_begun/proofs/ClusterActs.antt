@@ -1,6 +1,7 @@
 -- Where one node of a cluster acts, one node of the run does.
 use Rattle.std.proofs.Common.{◌≡◌, ℕ, zero, suc, List, [], ◌∷◌, ◌++◌, length, map, slice_get, slice_set, Option, Some, None, refl, sym, ap, subst, ◌∙◌}
-use Rattle.std.specs.Prelude.{IsSome, unwrap_or}
+use Rattle.std.specs.Prelude.{unwrap_or}
+use Rattle.m2_addr.specs.declared.addr.Addr.{Addr}
 use Rattle.m2_fabric.specs.declared.socket.SocketId.{SocketId}
 use Rattle.m2_fabric.specs.End.{SeenEnd}
 use Rattle.m2_record.specs.Sources.{end_at}
@@ -11,14 +12,16 @@ use Rattle.m2_cluster.specs.Cluster.{ClusterNow, OneDoes, end_of}
 use Rattle.m2_cluster.specs.Node.{NodeNow, NodePlans, NodeTurns, end_in}
 use Rattle.m2_clustered.specs.Center.{holding_of}
 use Rattle.m2_clustered.specs.Cluster.{ClusterGrows}
+use Rattle.m2_clustered.specs.Laws.{BringsElsewhere}
+use Rattle.m2_clustered.proofs.Bringing.{plan_brings, turn_brings}
 use Rattle.m2_clustered.proofs.Turning.{node_plan_grows, node_turn_grows, plan_grows, turn_grows}
 use Rattle.m2_growth.specs.Holding.{Grows, Holding, all_ends}
-use Rattle.m2_runs.specs.Running.{HoldsAll, IsNodeAt, NodeActs}
+use Rattle.m2_runs.specs.Running.{IsNodeAt, NodeActs}
 use Rattle.m2_sim_net.specs.InStep.{SeenFabric}
-use Rattle.m2_begun.specs.Acting.{BringsElsewhere, holdings_of, run_of}
-use Rattle.m2_begun.specs.Laws.{ClustersHoldAll, OnePlanActs, OneTurnActs}
-use Rattle.m2_begun.proofs.Elsewhere.{brings_none}
-use Rattle.m2_begun.proofs.Turned.{plans_bring, turns_bring}
+use Rattle.m2_sim_net.specs.SimFabric.{fresh_fabric}
+use Rattle.m2_begun.specs.Acting.{holdings_of, run_of}
+use Rattle.m2_begun.specs.Beginning.{IsNewAt}
+use Rattle.m2_begun.specs.Laws.{ClustersHoldAll, NewCentersAreNew, NewClustersBegin, OnePlanActs, OneTurnActs}
 
 -- ---- lists
 
@@ -31,6 +34,17 @@ get_of f [] i x e = absurd cc
 get_of f (z ∷ zs) zero x e = let same : z ≡ x = cc in ap (λ y. Some (f y)) same
 get_of f (z ∷ zs) (suc i) x e = get_of f zs i x e
 
+get_none : {X Y : Type 0} (f : X → Y) (xs : List X) (i : ℕ) → slice_get xs i ≡ None → slice_get (map f xs) i ≡ None
+get_none f [] i e = refl
+get_none f (z ∷ zs) zero e = absurd cc
+get_none f (z ∷ zs) (suc i) e = get_none f zs i e
+
+nothing_there : {X : Type 0} {x : X} → None ≡ Some x → ⊥
+nothing_there e = absurd cc
+
+one_there : {X : Type 0} {x y : X} → Some x ≡ Some y → x ≡ y
+one_there e = cc
+
 set_of : {X Y : Type 0} (f : X → Y) (xs : List X) (i : ℕ) (y : X) → map f (slice_set xs i y) ≡ slice_set (map f xs) i (f y)
 set_of f [] i y = refl
 set_of f (z ∷ zs) zero y = refl
@@ -38,11 +52,11 @@ set_of f (z ∷ zs) (suc i) y = ap (λ l. f z ∷ l) (set_of f zs i y)
 
 -- ---- the ends of a center, and those that it holds
 
-module _ {D : Type 0} where
-  same_waiting : (o : Option (List SeenEnd)) → unwrap_or o [] ≡ ends_or_none o
-  same_waiting (Some es) = refl
-  same_waiting None = refl
+same_waiting : (o : Option (List SeenEnd)) → unwrap_or o [] ≡ ends_or_none o
+same_waiting (Some es) = refl
+same_waiting None = refl
 
+module _ {D : Type 0} where
   same_ends : (c : CenterNow D) (k : SocketId) → end_at (all_ends (holding_of c)) k ≡ end_in c k
   same_ends c k = ap (λ w. end_at (ends_in c ++ w) k) (same_waiting c.port.waiting)
 
@@ -63,10 +77,40 @@ module _ {D : Type 0} where
     none = none_there nodes;
   }
 
+  -- ---- new ones
+
+  pub new_centers : NewCentersAreNew D
+  new_centers addrs i entity at records fast queued bytes numbers there unused sides consistent = record {
+    at = there;
+    made = refl;
+    waiting = refl;
+    halves = refl;
+    records = unused;
+    sides = sides;
+    supply = record { place = bytes.place; least = numbers.least };
+    entity = entity;
+    consistent = consistent;
+  }
+
+  -- the node of which it is the holding
+  new_there : (addrs : List Addr) (nodes : List (NodeNow D)) (i : ℕ) (h : Holding) (o : Option (NodeNow D)) → slice_get nodes i ≡ o → slice_get (holdings_of nodes) i ≡ Some h →
+      ((n : NodeNow D) → o ≡ Some n → IsNewAt addrs i (holding_of n.center)) → IsNewAt addrs i h
+  new_there addrs nodes i h None is e new = absurd (nothing_there (sym (get_none (λ (n : NodeNow D). holding_of n.center) nodes i is) ∙ e))
+  new_there addrs nodes i h (Some n) is e new = subst (IsNewAt addrs i) (one_there (sym (get_of (λ (n : NodeNow D). holding_of n.center) nodes i n is) ∙ e)) (new n refl)
+
+  pub new_clusters : NewClustersBegin D
+  new_clusters addrs nodes apart many new = record {
+    fabric = refl;
+    apart = apart;
+    nodes = many;
+    holds = holds_all nodes (fresh_fabric addrs);
+    each = λ i h e. new_there addrs nodes i h (slice_get nodes i) refl e (new i);
+  }
+
   -- ---- one node acts
 
   acts_so : (i : ℕ) (how : NodeNow D → NodeNow D → Type 0) (fabric : SeenFabric) (old new : ClusterNow D) (does : OneDoes i how old new) →
-      Grows (holding_of does.before.center) (holding_of does.behind.center) → BringsElsewhere (holding_of does.before.center) (holding_of does.behind.center) →
+      Grows (holding_of does.before.center) (holding_of does.behind.center) → BringsElsewhere does.before.center does.behind.center →
       IsNodeAt fabric.nodes i (holding_of does.behind.center) → ClusterGrows old new → NodeActs i (run_of old.nodes fabric) (run_of new.nodes fabric)
   acts_so i how fabric old new does grows brings node all = record {
     before = holding_of does.before.center;
@@ -85,12 +129,12 @@ pub one_turn : (D E : Type 0) → OneTurnActs D E
 one_turn D E heard now answer i fabric old new does own node memory brought =
     acts_so i (NodeTurns E heard now answer) fabric old new does
     (turn_grows D E heard (means_at now does.before.numbers does.before.throttle) answer does.before.center does.behind.center does.does.turns own)
-    (turns_bring D E heard (means_at now does.before.numbers does.before.throttle) answer does.before.center does.behind.center does.does.turns own)
+    (turn_brings D E heard (means_at now does.before.numbers does.before.throttle) answer does.before.center does.behind.center does.does.turns own)
     node (node_turn_grows D E heard now answer i old new does own memory brought)
 
 pub one_plan : (D : Type 0) → OnePlanActs D
 one_plan D answer peer step now i fabric old new does own node memory brought =
     acts_so i (NodePlans answer peer step now) fabric old new does
     (plan_grows D answer peer step now does.before.throttle.place does.before.center does.behind.center does.does.plans own)
-    (brings_none (holding_of does.before.center) (holding_of does.behind.center) (plans_bring D answer peer step now does.before.throttle.place does.before.center does.behind.center does.does.plans own))
+    (plan_brings D answer peer step now does.before.throttle.place does.before.center does.behind.center does.does.plans own)
     node (node_plan_grows D answer peer step now i old new does own memory brought)

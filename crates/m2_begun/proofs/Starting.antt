@@ -1,15 +1,13 @@
 -- Nodes in memory before the first deed of a run: nothing has an end, and nothing was asked.
-use Rattle.std.proofs.Common.{◌≡◌, ◌||◌, ℕ, zero, suc, Bool, true, false, List, [], ◌∷◌, ◌++◌, length, map, Option, Some, None, IfSome, refl, sym, ap, subst, ◌∙◌}
-use Rattle.std.specs.Prelude.{◌==◌, IsSome, slice_get, unwrap_or}
+use Rattle.std.proofs.Common.{◌≡◌, ℕ, zero, suc, Bool, true, false, List, [], ◌∷◌, ◌++◌, map, Option, Some, None, IfSome, refl, sym, ap, subst, ◌∙◌}
+use Rattle.std.specs.Prelude.{slice_get, unwrap_or}
 use Rattle.std.specs.Option.{is_some}
 use Rattle.std.specs.List.{AllByRecursion}
 use Rattle.std.proofs.lemmas.Bool.{eq-eqb}
 use Rattle.m2_addr.specs.declared.addr.Addr.{Addr}
 use Rattle.m2_fabric.specs.declared.socket.SocketId.{SocketId}
 use Rattle.m2_fabric.specs.End.{SeenEnd}
-use Rattle.m2_fabric.specs.Holder.{EndName, SeenHolder}
 use Rattle.m2_fabric.specs.Log.{nothing_done}
-use Rattle.m2_fabric.specs.Port.{SeenPort}
 use Rattle.m2_fabric.specs.Sockets.{goes_to, is_among}
 use Rattle.m2_growth.specs.Ends.{AreOfTheirOwn}
 use Rattle.m2_growth.specs.Halves.{AskedOnMade, AskedTowards, HasItsHalves, IsHeardBy, JudgeApart, OneJudge, all_left, asked_on}
@@ -21,24 +19,23 @@ use Rattle.m2_growth.proofs.Going.{all_so}
 use Rattle.m2_history.specs.Link.{IsWholeHalf, both_of, parts_of}
 use Rattle.m2_history.specs.Parts.{PartsNow}
 use Rattle.m2_history.specs.Woven.{BothNow}
-use Rattle.m2_in_step.specs.Laws.{StayMet}
 use Rattle.m2_in_step.specs.Turn.{AllCameOfPut, HaveEnds}
 use Rattle.m2_journal.specs.declared.entry.Entry.{Entry}
 use Rattle.m2_journal.specs.State.{Judgement}
 use Rattle.m2_linked.specs.Linked.{IsNode}
-use Rattle.m2_record.specs.IsRecord.{IsRecord, new_record}
-use Rattle.m2_record.specs.RecordNow.{RecordNow, Rooms, ends_of}
+use Rattle.m2_record.specs.IsRecord.{IsRecord}
+use Rattle.m2_record.specs.RecordNow.{RecordNow, ends_of}
 use Rattle.m2_record.specs.Sources.{end_at}
 use Rattle.m2_record.specs.TakenTrails.{judgements_in}
 use Rattle.m2_record.proofs.Names.{differ}
-use Rattle.m2_runs.specs.Running.{AreBetween, HasAskedPeer, HaveOrders, HoldsAll, IsLinkOf, IsNodeAt, IsOfPort, IsRecordAt, IsRunning, RunNow}
+use Rattle.m2_runs.specs.Running.{HasAskedPeer, IsNodeAt, IsOfPort, IsRecordAt, IsRunning, RunNow}
 use Rattle.m2_runs.proofs.Places.{goes_one}
-use Rattle.m2_sim_net.specs.InStep.{HaveWhatFlowed, IsInStep, IsUnread, SeenFabric}
+use Rattle.m2_sim_net.specs.InStep.{HaveWhatFlowed, IsUnread, SeenFabric}
 use Rattle.m2_sim_net.specs.Kept.{SeenPair, directions}
 use Rattle.m2_sim_net.specs.SimFabric.{AreApart}
 use Rattle.m2_stages.specs.Halves.{AllHalves, sessions_with}
 use Rattle.m2_stages.specs.Hearing.{ends_in}
-use Rattle.m2_stages.specs.Sessions.{AreConsistent, PendingNow}
+use Rattle.m2_stages.specs.Sessions.{AreConsistent}
 use Rattle.m2_trail.specs.Arrivals.{LooseNow}
 use Rattle.m2_trail.specs.Trails.{TrailNow}
 use Rattle.m2_turned.specs.Sides.{woven_now}
@@ -203,7 +200,7 @@ begins_ordered x s h g a b l =
     let near = s.each l.i h l.near in
     let far = s.each l.j g l.far in
     let left : all_left h.halves ++ all_left g.halves ≡ [] =
-        ap (λ o. o ++ all_left g.halves) (none_left x.fabric.nodes s.apart l.i h near) ∙ none_left x.fabric.nodes s.apart l.j g far in
+    ap (λ o. o ++ all_left g.halves) (none_left x.fabric.nodes s.apart l.i h near) ∙ none_left x.fabric.nodes s.apart l.j g far in
     subst (λ y. HasOrder (woven_now y))
     (sym (none_on_link a b (all_left h.halves ++ all_left g.halves) (of_get IsUnused h.records l.a_at a l.a_there near.records) (of_get IsUnused g.records l.b_at b l.b_there far.records) left))
     at_start

@@ -1,25 +1,27 @@
 -- What is promised of runs of nodes in memory before their first deed, and where one node acts.
-use Rattle.std.specs.Prelude.{ℕ, List}
+use Rattle.std.specs.Prelude.{◌≡◌, ℕ, List, length, slice_get, Some}
+use Rattle.std.specs.List.{AllByRecursion}
+use Rattle.m2_addr.specs.declared.addr.Addr.{Addr}
 use Rattle.m2_dispatch.specs.Heard.{Heard}
+use Rattle.m2_fabric.specs.Port.{fresh_port}
 use Rattle.m2_journal.specs.declared.facts.PlanStep.{PlanStep}
 use Rattle.m2_journal.specs.SideFacts.{SideFacts}
-use Rattle.m2_shared.specs.Place.{Place}
-use Rattle.m2_center.specs.Center.{CenterNow}
-use Rattle.m2_center.specs.CenterTurn.{Answer, TakesTurn}
-use Rattle.m2_center.specs.Plans.{PlansIn}
+use Rattle.m2_center.specs.CenterTurn.{Answer}
+use Rattle.m2_center.specs.Making.{CanBegin, new_center}
 use Rattle.m2_cluster.specs.Cluster.{ClusterNow, OneDoes, held_by}
 use Rattle.m2_cluster.specs.Node.{NodeNow, NodePlans, NodeTurns}
 use Rattle.m2_clustered.specs.Center.{holding_of}
 use Rattle.m2_clustered.specs.Cluster.{AllInMemory, BringInMemory}
-use Rattle.m2_growth.specs.Ends.{BringNone}
-use Rattle.m2_growth.specs.Holding.{AreOwn, all_ends}
+use Rattle.m2_growth.specs.Holding.{AreOwn}
 use Rattle.m2_record.specs.IsRecord.{IsRecord, new_record}
-use Rattle.m2_record.specs.RecordNow.{Rooms}
-use Rattle.m2_runs.specs.Running.{HaveOrders, HoldsAll, IsNodeAt, IsRunning, NodeActs, RunNow}
+use Rattle.m2_record.specs.RecordNow.{RecordNow, Rooms}
+use Rattle.m2_runs.specs.Running.{HaveOrders, HoldsAll, IsNodeAt, IsRecordAt, IsRunning, NodeActs, RunNow}
+use Rattle.m2_shared.specs.Numbers.{SeenNumberPass}
+use Rattle.m2_shared.specs.Throttle.{SeenTakePass}
 use Rattle.m2_sim_net.specs.InStep.{SeenFabric}
-use Rattle.m2_stages.specs.RecordTurn.{Means}
-use Rattle.m2_begun.specs.Acting.{BringsElsewhere, run_of}
-use Rattle.m2_begun.specs.Beginning.{IsBeginning, IsUnused}
+use Rattle.m2_sim_net.specs.SimFabric.{AreApart, fresh_fabric}
+use Rattle.m2_begun.specs.Acting.{run_of}
+use Rattle.m2_begun.specs.Beginning.{IsBeginning, IsNewAt, IsUnused}
 
 -- ---- before the first deed
 
@@ -36,19 +38,20 @@ NewRecordsAreUnused = (f : SideFacts) (place : ℕ) (room : Rooms) → IsRecord 
 
 -- ---- a cluster
 
+-- A center that is new has a new port in memory and new records, each between its node and another.
+abbrev pub NewCentersAreNew : Type 0 → Type 0
+NewCentersAreNew D = (addrs : List Addr) (i : ℕ) (entity : ℕ) (at : Addr) (records : List RecordNow) (fast queued : D) (bytes : SeenTakePass) (numbers : SeenNumberPass) →
+    slice_get addrs i ≡ Some at → AllByRecursion IsUnused records → AllByRecursion (IsRecordAt addrs i) records → CanBegin entity (fresh_port at) records bytes numbers →
+    IsNewAt addrs i (holding_of (new_center entity (fresh_port at) records fast queued bytes numbers))
+
+-- Nodes of new centers, as many as there are addresses, begin beside a fabric that had no call yet.
+abbrev pub NewClustersBegin : Type 0 → Type 0
+NewClustersBegin D = (addrs : List Addr) (nodes : List (NodeNow D)) → AreApart addrs → length nodes ≡ length addrs →
+    ((i : ℕ) (n : NodeNow D) → slice_get nodes i ≡ Some n → IsNewAt addrs i (holding_of n.center)) → IsBeginning (run_of nodes (fresh_fabric addrs))
+
 -- As the holder of all ends it has those that its nodes hold.
 abbrev pub ClustersHoldAll : Type 0 → Type 0
 ClustersHoldAll D = (nodes : List (NodeNow D)) (fabric : SeenFabric) → HoldsAll (run_of nodes fabric)
-
--- ---- a center
-
-abbrev pub TurnsBringElsewhere : (D E : Type 0) → Type 0
-TurnsBringElsewhere D E = (heard : D → List Heard) (m : Means) (answer : Answer) (old new : CenterNow D) → TakesTurn E heard m answer old new →
-    AreOwn (holding_of old) → BringsElsewhere (holding_of old) (holding_of new)
-
-abbrev pub PlansBringNone : Type 0 → Type 0
-PlansBringNone D = (answer : Answer) (peer : ℕ) (step : PlanStep) (now : ℕ) (throttle : Place) (old new : CenterNow D) → PlansIn answer peer step now throttle old new →
-    AreOwn (holding_of old) → BringNone (all_ends (holding_of old)) (all_ends (holding_of new))
 
 -- ---- a cluster of which one node acts
 

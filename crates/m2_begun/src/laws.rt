@@ -21,19 +21,19 @@ pub fn new_records_are_unused()
     ensures { laws.NewRecordsAreUnused }
 {}
 
+/// A center that is made over a new port has done nothing.
+pub fn new_centers_are_new<D>()
+    ensures { laws.NewCentersAreNew D }
+{}
+
+/// Nodes of such centers are a run before its first deed.
+pub fn new_clusters_begin<D>()
+    ensures { laws.NewClustersBegin D }
+{}
+
 /// A cluster, as the holder of all ends, has the ends that its nodes hold.
 pub fn clusters_hold_all<D>()
     ensures { laws.ClustersHoldAll D }
-{}
-
-/// A center's turn brings ends only of sockets that don't go to its port.
-pub fn turns_bring_elsewhere<D: Dispatcher, E: End>()
-    ensures { laws.TurnsBringElsewhere D E }
-{}
-
-/// A step that is planned brings no end.
-pub fn plans_bring_none<D>()
-    ensures { laws.PlansBringNone D }
 {}
 
 /// Where one node of a cluster takes a turn, one node of the run acts.
