@@ -3,9 +3,11 @@
 
 ghost use Rattle.m2_delivered.specs.Laws as laws;
 
+use m2_dispatcher::Dispatcher;
 use m2_fitting::{posts_can_be_sent, trails_tell_each_point};
 use m2_history::orders_give_points;
 use m2_linked::{links_go_on, staying_goes_on};
+use m2_logged::logged_are_heard;
 use m2_weave::{all_read_was_written, asks_come_first};
 use m2_woven::{records_are_sides, woven_is_delivered, woven_is_never_reset};
 
@@ -39,4 +41,12 @@ pub fn links_are_delivered()
     asks_come_first();
     orders_give_points();
     trails_tell_each_point();
+}
+
+/// Where a node's dispatchers were called with what its records handed on, by their logs each record's peer is
+/// heard to send what the record accepted.
+pub fn logged_have_heard<D: Dispatcher>()
+    ensures { laws.LoggedHaveHeard D }
+{
+    logged_are_heard::<D>();
 }
