@@ -3,3 +3,4 @@ pub mod Strands
 pub mod Beside
 pub mod Links
 pub mod Logs
+pub mod Lossy

@@ -11,6 +11,7 @@ use Rattle.m2_history.specs.Link.{parts_of}
 use Rattle.m2_journal.specs.Items.{JournalItem}
 use Rattle.m2_journal.specs.Replay.{after_items, replay}
 use Rattle.m2_journal.specs.State.{State, start}
+use Rattle.m2_lossy.specs.Lossy.{AreSomeOf}
 use Rattle.m2_paired.specs.LinkOf.{letters}
 use Rattle.m2_paired.specs.Orders.{IsBroughtOver, IsNeverReset, SideItem, far_after, far_items, near_after, near_items}
 use Rattle.m2_queues.specs.OutQueues.{Queue}
@@ -43,6 +44,11 @@ module _ (r : RecordNow) (is : IsRecord r) (items : List JournalItem) (same : it
   pub heard_there : (logs : Logs) (number : ℕ) → HasHeardPeer logs r → number ≡ r.place → AreLogsOf number logs then_at
   heard_there logs number heard same_number =
       subst (λ n. IsLogOf n (all_of logs) then_at) (sym same_number) (subst (IsLogOf r.place (all_of logs)) stands (heard is.state is.at_state).first)
+
+  -- or some of it
+  pub some_there : (logs : Logs) (number : ℕ) → HasHeardPeer logs r → number ≡ r.place → AreSomeOf number logs then_at
+  some_there logs number heard same_number =
+      subst (λ n. AreSomeOf n logs then_at) (sym same_number) (subst (λ s. AreSomeOf r.place logs s) stands (heard is.state is.at_state).some)
 
   pub base_there : then_at.out.queue.base ≡ r.core.live.out.queue.base
   base_there = ap (λ (s : State). s.out.queue.base) (sym stands) ∙ ap (λ (q : Queue). q.base) (sym is.at_state.core.queue)

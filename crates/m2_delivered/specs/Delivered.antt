@@ -38,7 +38,7 @@ MarksNoneDown _ = Unit {0}
 abbrev pub HasHeardPeer : Logs → RecordNow → Type 0
 HasHeardPeer logs r = (s : State) → IsReplayedTo s r → IsHeardOf r.place (all_of logs) s
 
--- a record that was never marked down, with the logs of its node's dispatchers
+-- A record that was never marked down. Its plan keeps the ranges of types, and its peer is heard by the logs of its node.
 pub record IsHeardUp (logs : Logs) (r : RecordNow) : Type 0 where
   pub plan : AllByRecursion PostsInRanges r.plan
   pub up : AllByRecursion MarksNoneDown r.journal
@@ -55,7 +55,7 @@ pub record BothLogs : Type 0 where
   pub near : Logs
   pub far : Logs
 
--- Neither side is lossy or was marked down, and the number of either node is the place by which the other knows it.
+-- Neither side is lossy, neither was marked down, and the number of either node is the place by which the other knows it.
 pub record AreLosslessUp (logs : BothLogs) (a b : RecordNow) : Type 0 where
   pub nodes : AreNodes a.core.facts b.core.facts
   pub near_number : a.core.facts.node.number ≡ b.place
@@ -68,8 +68,7 @@ abbrev pub HasAccepted : (sender reader : RecordNow) → Type 0
 HasAccepted sender reader = sender.core.live.out.queue.base ≤ length (letters (replay reader.core.facts (speaks_of reader) reader.journal).deliveries)
 
 -- Both journals stand whole in an order of the link, in which nothing was reset. Of each key what either node's dispatchers were
--- called with is the first of what the other posted, in order, each once, and no more than was accepted; and what a sender counts
--- as acknowledged was accepted.
+-- called with is the first of what the other posted, in order, each once, and no more than was accepted.
 pub record IsDeliveredOn (l : LinkNow) (logs : BothLogs) : Type 0 where
   pub order : List ℕ
   pub is_order : IsOrderOf l order
@@ -77,6 +76,7 @@ pub record IsDeliveredOn (l : LinkNow) (logs : BothLogs) : Type 0 where
   pub never_reset : IsNeverReset (l.facts true) (l.facts false) (entries_of (order_of l order))
   pub delivered : AreDelivered (l.facts true) (l.facts false) (kept_by l true) (kept_by l false) logs.near logs.far
 
+-- and what a sender counts as acknowledged was accepted
 pub record AreDeliveredOn (logs : BothLogs) (l : LinkNow) (a b : RecordNow) : Type 0 where
   pub both : IsDeliveredOn l logs
   pub near_acknowledged : HasAccepted a b

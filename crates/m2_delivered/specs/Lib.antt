@@ -1,2 +1,3 @@
 pub mod Delivered
 pub mod Laws
+pub mod Lossy

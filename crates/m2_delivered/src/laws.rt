@@ -2,12 +2,15 @@
 //! names.
 
 ghost use Rattle.m2_delivered.specs.Laws as laws;
+ghost use Rattle.m2_delivered.specs.Lossy as lossy;
 
+use m2_dispatcher::Dispatcher;
 use m2_fitting::{posts_can_be_sent, trails_tell_each_point};
 use m2_history::orders_give_points;
 use m2_linked::{links_go_on, staying_goes_on};
+use m2_logged::logged_are_heard;
 use m2_weave::{all_read_was_written, asks_come_first};
-use m2_woven::{records_are_sides, woven_is_delivered, woven_is_never_reset};
+use m2_woven::{records_are_sides, woven_comes_in_order, woven_is_delivered, woven_is_never_reset};
 
 /// Two records of two nodes of a run that are towards each other are a link, with the halves of either node that no
 /// record took: each half was told what the record beside it has judged, and no two ends are one.
@@ -39,4 +42,26 @@ pub fn links_are_delivered()
     asks_come_first();
     orders_give_points();
     trails_tell_each_point();
+}
+
+/// Of a lossy link of a run, of each key what either node's dispatchers were called with is some of what the other
+/// posted, in order, each message once, whether a side was marked down or not.
+pub fn lossy_links_come_in_order()
+    ensures { lossy.LossyLinksComeInOrder }
+{
+    runs_have_links();
+    links_have_orders();
+    woven_comes_in_order();
+    all_read_was_written();
+    asks_come_first();
+    orders_give_points();
+    trails_tell_each_point();
+}
+
+/// Where a node's dispatchers were called with what its records handed on, by their logs each record's peer is
+/// heard to send what the record accepted.
+pub fn logged_have_heard<D: Dispatcher>()
+    ensures { laws.LoggedHaveHeard D }
+{
+    logged_are_heard::<D>();
 }
