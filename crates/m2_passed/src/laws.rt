@@ -1,0 +1,36 @@
+//! What is promised of a run of nodes in memory where something passes between them. These functions do nothing: each
+//! stands for the law that its contract names.
+
+ghost use Rattle.m2_passed.specs.Laws as laws;
+
+use m2_in_step::{faults_stay_met, flows_stay_met, meetings_stay_met};
+use m2_untold::woven_stays;
+
+/// What ends are told changes nothing of what is woven of a link, so each link has an order still.
+pub fn hearing_keeps_orders()
+    ensures { laws.HearingKeepsOrders }
+{
+    woven_stays();
+}
+
+/// Behind a meeting of a node what holds always holds still: an end comes only of a socket that is kept from then on,
+/// between the node that opened it and the one at which it arrives.
+pub fn meeting_keeps_running()
+    ensures { laws.MeetingKeepsRunning }
+{
+    meetings_stay_met();
+}
+
+/// So it does behind a flow.
+pub fn flow_keeps_running()
+    ensures { laws.FlowKeepsRunning }
+{
+    flows_stay_met();
+}
+
+/// So it does behind a fault.
+pub fn fault_keeps_running()
+    ensures { laws.FaultKeepsRunning }
+{
+    faults_stay_met();
+}
