@@ -146,9 +146,6 @@ module _ (here away : SocketId → Bool) (opposed : AreOpposed here away) (p q :
     pub half_goes : (l : LooseNow) → IsOneOf l ls → IsKnown p.journal theirs l → HasLater now (cut (before l.trail.socket) l.trail)
     half_goes l i known = by (on.halves l i known)
       where
-        k : SocketId
-        k = l.trail.socket
-
         comes : here l.trail.socket ≡ true
         comes = ap here (of_each IsWholeHalf l ls was.whole i).socket ∙ of_each (λ (x : LooseNow). here x.end.id ≡ true) l ls was.comes i
 

@@ -9,4 +9,5 @@ pub mod Callers
 pub mod Nodes
 pub mod Turns
 pub mod Staying
+pub mod Example
 pub mod Linked

@@ -83,7 +83,7 @@ module _ (old new : NodeNow) (on : NodeGoesOn old new) where
             (ap (end_at (all_ends new.holding)) (sym same) ∙ node.half_at new.holding on.now m left.there) (on.grows.grows.ends l.end.id);
       }
 
-  -- one that a record has taken: that record is the one of the link, if it has an end of the socket, or has judged asks there
+  -- one that the record of the link has taken
   taken_by : (l : LooseNow) → IsOneOf l (left_at old) → (t : IsTakenBy new.holding.records l.trail) → (t.side ≡ b) → IsLaterTaken (parts_of b) l
   taken_by l i t same =
       let its : IsOneOf t.trail b.trails = subst (λ (r : RecordNow). IsOneOf t.trail r.trails) same t.taken in

@@ -17,3 +17,9 @@ StayingGoesOn = (n : NodeNow) (place : ℕ) → IsNode n.holding → slice_get n
 -- turn had been put before it.
 abbrev pub LinksAreWoven : Type 0
 LinksAreWoven = (old new : Nodes) → NodesGoOn old new → HadFlowed (woven_now (link_at old)) (woven_now (link_at new)) → HasOrder (woven_now (link_at old)) → HasOrder (woven_now (link_at new))
+
+-- There are such nodes.
+pub record ALinkGoesOn : Type 0 where
+  pub old : Nodes
+  pub new : Nodes
+  pub goes : NodesGoOn old new

@@ -23,3 +23,8 @@ pub fn links_are_woven()
     links_go_on();
     records_in_turns_are_woven();
 }
+
+/// There are two nodes with a link that goes on.
+pub fn a_link_goes_on()
+    ensures { laws.ALinkGoesOn }
+{}

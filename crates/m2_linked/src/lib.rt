@@ -10,4 +10,4 @@
 
 mod laws;
 
-pub use laws::{links_are_woven, links_go_on, staying_goes_on};
+pub use laws::{a_link_goes_on, links_are_woven, links_go_on, staying_goes_on};

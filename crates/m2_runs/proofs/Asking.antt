@@ -1,6 +1,6 @@
 -- Where a node acts, each ask that its records judge came on a socket from the record's peer.
-use Rattle.std.proofs.Common.{◌≡◌, ℕ, Bool, true, false, List, [], ◌∷◌, ◌++◌, length, drop, map, Option, Some, None, refl, sym, ap, subst, ◌∙◌, ◌⊎◌, inl, inr}
-use Rattle.std.specs.Prelude.{IfSome, IsSome, slice_get}
+use Rattle.std.proofs.Common.{◌≡◌, ℕ, true, false, List, [], ◌∷◌, ◌++◌, length, drop, map, Option, Some, None, refl, sym, ap, subst, ◌∙◌, ◌⊎◌, inl, inr}
+use Rattle.std.specs.Prelude.{IfSome, IsSome}
 use Rattle.std.specs.List.{AllByRecursion}
 use Rattle.std.proofs.Math.Seq.{drop-append_seam}
 use Rattle.std.proofs.lemmas.List.{map-append}
@@ -14,13 +14,13 @@ use Rattle.m2_growth.specs.Ends.{come_to}
 use Rattle.m2_growth.specs.Halves.{AreAskedByPeers, IsAskedByPeer, IsOneOf, asked_on, judged_since}
 use Rattle.m2_growth.specs.Holding.{Holding, all_ends}
 use Rattle.m2_growth.specs.Records.{RecordGrows, RecordsGrow}
-use Rattle.m2_growth.proofs.Among.{among_mapped, among_part, of_each, whose}
+use Rattle.m2_growth.proofs.Among.{among_part, of_each, whose}
 use Rattle.m2_handshake.specs.declared.ask.Ask.{Ask}
 use Rattle.m2_journal.specs.declared.entry.Entry.{Entry}
 use Rattle.m2_journal.specs.State.{Judgement}
 use Rattle.m2_journal.specs.SideFacts.{SideFacts}
 use Rattle.m2_record.proofs.Names.{differ}
-use Rattle.m2_record.specs.RecordNow.{RecordNow, ends_of}
+use Rattle.m2_record.specs.RecordNow.{RecordNow}
 use Rattle.m2_record.specs.Sources.{end_at, put_of}
 use Rattle.m2_record.specs.TakenTrails.{judgement_of, judgements_in}
 use Rattle.m2_sim_net.specs.Kept.{is_kept}

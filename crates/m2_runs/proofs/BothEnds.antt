@@ -1,5 +1,5 @@
 -- The two ends of a kept socket, by the nodes that have them: the one's record opened it, and what came to either the other had put.
-use Rattle.std.proofs.Common.{◌≡◌, ℕ, Bool, true, false, List, ◌++◌, Option, Some, None, refl, sym, ap, subst, ◌∙◌, append_assoc}
+use Rattle.std.proofs.Common.{◌≡◌, ℕ, true, false, List, ◌++◌, Option, Some, None, refl, sym, ap, subst, ◌∙◌, append_assoc}
 use Rattle.std.specs.Prelude.{IfSome, IsSome, is_some, slice_get}
 use Rattle.std.specs.Option.{option_map}
 use Rattle.m2_addr.specs.declared.addr.Addr.{Addr}

@@ -1,19 +1,19 @@
 -- What an end of a link got by the end of a turn, the other end of the link had put before it.
 use Rattle.std.proofs.Common.{◌≡◌, ℕ, Bool, true, false, not, List, [], ◌∷◌, ◌++◌, map, Option, Some, None, refl, sym, ap, subst, ◌∙◌, ◌⊎◌, inl, inr}
-use Rattle.std.specs.Prelude.{◌||◌, IfSome, IsSome, is_some, slice_get}
+use Rattle.std.specs.Prelude.{◌||◌, IfSome, IsSome, slice_get}
 use Rattle.std.specs.List.{AllByRecursion, IsDistinct}
 use Rattle.std.specs.Option.{option_map}
 use Rattle.m2_fabric.specs.declared.socket.SocketId.{SocketId}
 use Rattle.m2_fabric.specs.End.{Inflow, SeenEnd}
 use Rattle.m2_fabric.specs.Log.{Log, nothing_done}
 use Rattle.m2_fabric.specs.Sockets.{goes_to, is_among, same_socket}
-use Rattle.m2_growth.specs.Ends.{EndGrows, EndGrowsTo, IsNewborn, come_to}
+use Rattle.m2_growth.specs.Ends.{EndGrowsTo, IsNewborn, come_to}
 use Rattle.m2_growth.specs.Halves.{IsOneOf, all_left, asked_on}
 use Rattle.m2_growth.specs.Holding.{Holding, all_ends, waiting_at}
 use Rattle.m2_growth.proofs.Among.{each_by, of_each}
 use Rattle.m2_history.proofs.Tidiness.{all_map}
-use Rattle.m2_history.specs.Woven.{EndNow, bytes_at, end_of, half_end, is_about, knows}
-use Rattle.m2_in_step.specs.Turn.{AllEndsGrow, CameOfPut}
+use Rattle.m2_history.specs.Woven.{EndNow, bytes_at, end_of, half_end, knows}
+use Rattle.m2_in_step.specs.Turn.{AllEndsGrow}
 use Rattle.m2_journal.specs.declared.entry.Entry.{Entry}
 use Rattle.m2_journal.specs.declared.entry.Entry.TheVariants as entry
 use Rattle.m2_linked.proofs.Ends.{its_bytes}
@@ -132,6 +132,31 @@ module _ (old new : RunNow) (run : IsRunning old) (now : IsRunning new) (fabric 
       ∙ ap (λ c. (bytes_at f.id c ends).put) (sym opened ∙ ap (has_opened (journal_of b0.journal)) found.socket)
       ∙ ap (λ bytes. bytes.put) (its_bytes (end_of b0.journal f) ends apart (of_side f found.there))
 
+  -- where a record is the other one
+  opener_put : (k : SocketId) (f : SeenEnd) (r : RecordNow) → r ≡ b0 → end_at (ends_of r) k ≡ Some f → has_opened (journal_of r.journal) k ≡ true → (bytes_at k true ends).put ≡ f.log.put
+  opener_put k f r same at opened =
+      side_put k true f (ap (λ (s : RecordNow). end_at (ends_of s) k) (sym same) ∙ at) (ap (λ (s : RecordNow). has_opened (journal_of s.journal) k) (sym same) ∙ opened)
+
+  asker_put : (k : SocketId) (f : SeenEnd) (r : RecordNow) → r ≡ b0 → end_at (ends_of r) k ≡ Some f → goes_to g0.port.at k ≡ true → (bytes_at k false ends).put ≡ f.log.put
+  asker_put k f r same at goes =
+      side_put k false f (ap (λ (s : RecordNow). end_at (ends_of s) k) (sym same) ∙ at)
+      (not_true (has_opened (journal_of b0.journal) k) (λ o. differ (sym (node.opened_away old.fabric.nodes j g0 (run.nodes j g0 was.far) b0 was.theirs k o) ∙ goes)))
+
+  half_put : (k : SocketId) (f : SeenEnd) (l : LooseNow) → k ≡ f.id → IsOneOf l (all_left g0.halves) → f ≡ l.end → (r : RecordNow) → r ≡ a0 → has_opened (journal_of r.journal) k ≡ true →
+      (bytes_at k false ends).put ≡ f.log.put
+  half_put k f l named one end r is_a opened =
+      let same : k ≡ l.end.id = named ∙ ap (λ (x : SeenEnd). x.id) end in
+      let opened_there : has_opened (journal_of a0.journal) k ≡ true = ap (λ (s : RecordNow). has_opened (journal_of s.journal) k) (sym is_a) ∙ opened in
+      ap (λ n. (bytes_at n false ends).put) same
+      ∙ ap (λ bytes. bytes.put) (its_bytes (half_end l) ends apart (of_half l one (ap (knows a0.journal) (sym same) ∙ opened_knows a0.journal k opened_there))) ∙ ap (λ (x : SeenEnd). x.log.put) (sym end)
+
+  -- what is at the other node's place is the other node
+  far_is : (n : ℕ) (x : Holding) → slice_get old.holdings n ≡ Some x → n ≡ j → x ≡ g0
+  far_is n x there same =
+      let here : slice_get old.holdings j ≡ Some x = ap (slice_get old.holdings) (sym same) ∙ there in
+      let far_there : slice_get old.holdings j ≡ Some g0 = was.far in
+      cc
+
   -- ---- a socket that comes from the other node
 
   arrived : (k : SocketId) (e : SeenEnd) → end_at (all_ends h) k ≡ Some e → goes_to h.port.at k ≡ true → comes_from k (Some g.port.at) ≡ true → GoesOn e.log.got (bytes_at k true ends).put
@@ -143,21 +168,18 @@ module _ (old new : RunNow) (run : IsRunning old) (now : IsRunning new) (fabric 
       comes_thence : comes_from k (Some g0.port.at) ≡ true
       comes_thence = ap (λ p. comes_from k (Some p)) (sym far_at) ∙ comes
 
-      of_opener : (d : SeenEnd) → come_to e ≡ come_to d → IsSome (come_to d) → (c : IsCome old k d) → GoesOn e.log.got (bytes_at k true ends).put
-      of_opener d same memory c =
-          let from_is : c.from ≡ j = comes_one old.fabric.nodes c.from j c.near.port.at g0.port.at k run.apart (run.nodes c.from c.near c.there).at (run.nodes j g0 was.far).at c.comes comes_thence in
-          let near_there : slice_get old.holdings j ≡ Some c.near = ap (slice_get old.holdings) (sym from_is) ∙ c.there in
-          let far_there : slice_get old.holdings j ≡ Some g0 = was.far in
-          let near_is : c.near ≡ g0 = cc in
+      of_opener : (d : SeenEnd) → come_to e ≡ come_to d → IsSome (come_to d) → (c : IsCome old k d) → c.near ≡ g0 → GoesOn e.log.got (bytes_at k true ends).put
+      of_opener d same memory c near_is =
           let opener : IsOpener g0 k c.end = subst (λ n. IsOpener n k c.end) near_is c.opener in
           let side_is : opener.side ≡ b0 = link.opener_is old run j i g0 h0 b0 a0 (turned old i j h0 g0 a0 b0 was) k opener.side opener.there opener.opened goes_there in
-          let its : end_at (ends_of b0) k ≡ Some c.end = ap (λ (r : RecordNow). end_at (ends_of r) k) (sym side_is) ∙ opener.end in
-          let opened : has_opened (journal_of b0.journal) k ≡ true = ap (λ (r : RecordNow). has_opened (journal_of r.journal) k) (sym side_is) ∙ opener.opened in
-          subst (GoesOn e.log.got) (sym (side_put k true c.end its opened)) (came_first e d c.end.log.put same memory c.came)
+          subst (GoesOn e.log.got) (sym (opener_put k c.end opener.side side_is opener.end opener.opened)) (came_first e d c.end.log.put same memory c.came)
 
       by : (e.log.got ≡ []) ⊎ IsEndLater old new i h0 h k e → GoesOn e.log.got (bytes_at k true ends).put
       by (inl none) = none_goes e.log.got (bytes_at k true ends).put none
-      by (inr d) = of_opener d.end d.come d.memory (come old run i h0 was.near k d.kept d.end d.was goes_there)
+      by (inr d) =
+          let c = come old run i h0 was.near k d.kept d.end d.was goes_there in
+          of_opener d.end d.come d.memory c
+          (far_is c.from c.near c.there (comes_one old.fabric.nodes c.from j c.near.port.at g0.port.at k run.apart (run.nodes c.from c.near c.there).at (run.nodes j g0 was.far).at c.comes comes_thence))
 
   -- ---- a socket that this record opened
 
@@ -177,20 +199,11 @@ module _ (old new : RunNow) (run : IsRunning old) (now : IsRunning new) (fabric 
       of_other d here f named on (inl held) =
           let asked = node.end_asked old.fabric.nodes j g0 (run.nodes j g0 was.far) held.side held.there k f held.end goes_there in
           let side_is : held.side ≡ b0 = link.asker_is old run j i g0 h0 b0 a0 (turned old i j h0 g0 a0 b0 was) k held.side held.there asked comes_thence in
-          let its : end_at (ends_of b0) k ≡ Some f = ap (λ (r : RecordNow). end_at (ends_of r) k) (sym side_is) ∙ held.end in
-          let unopened : has_opened (journal_of b0.journal) k ≡ false =
-          not_true (has_opened (journal_of b0.journal) k) (λ o. differ (sym (node.opened_away old.fabric.nodes j g0 (run.nodes j g0 was.far) b0 was.theirs k o) ∙ goes_there)) in
-          subst (GoesOn e.log.got) (sym (side_put k false f its unopened)) on
+          subst (GoesOn e.log.got) (sym (asker_put k f held.side side_is held.end goes_there)) on
       of_other d here f named on (inr (inl half)) =
           let opener : IsOpener h0 k d = node.opener_of old.fabric.nodes i h0 (run.nodes i h0 was.near) k d here away_then in
           let side_is : opener.side ≡ a0 = link.opener_is old run i j h0 g0 a0 b0 was k opener.side opener.there opener.opened goes_there in
-          let same : k ≡ half.half.end.id = named ∙ ap (λ (x : SeenEnd). x.id) half.end in
-          let opened : has_opened (journal_of a0.journal) k ≡ true = ap (λ (r : RecordNow). has_opened (journal_of r.journal) k) (sym side_is) ∙ opener.opened in
-          let its : (bytes_at k false ends).put ≡ f.log.put =
-          ap (λ n. (bytes_at n false ends).put) same
-          ∙ ap (λ bytes. bytes.put) (its_bytes (half_end half.half) ends apart (of_half half.half half.there (ap (knows a0.journal) (sym same) ∙ opened_knows a0.journal k opened)))
-          ∙ ap (λ (x : SeenEnd). x.log.put) (sym half.end) in
-          subst (GoesOn e.log.got) (sym its) on
+          subst (GoesOn e.log.got) (sym (half_put k f half.half named half.there half.end opener.side side_is opener.opened)) on
       of_other d here f named on (inr (inr waits)) =
           let none : f.log ≡ nothing_done = of_each (λ (x : SeenEnd). x.log ≡ nothing_done) f (waiting_at g0.port) (run.nodes j g0 was.far).waiting waits.there in
           let empty : e.log.got ≡ [] = empty_first e.log.got on.0 (sym on.1 ∙ ap (λ (l : Log). l.put) none) in
@@ -199,10 +212,8 @@ module _ (old new : RunNow) (run : IsRunning old) (now : IsRunning new) (fabric 
       of_gone : (d : SeenEnd) → end_at (all_ends h0) k ≡ Some d → come_to e ≡ come_to d → IsSome (come_to d) → (c : IsGone old k d) → GoesOn e.log.got (bytes_at k false ends).put
       of_gone d here same memory c =
           let to_is : c.to ≡ j = goes_one old.fabric.nodes c.to j c.far.port.at g0.port.at k run.apart (run.nodes c.to c.far c.there).at (run.nodes j g0 was.far).at c.goes goes_there in
-          let near_there : slice_get old.holdings j ≡ Some c.far = ap (slice_get old.holdings) (sym to_is) ∙ c.there in
-          let far_there : slice_get old.holdings j ≡ Some g0 = was.far in
-          let far_is : c.far ≡ g0 = cc in
-          let at_far : end_at (all_ends g0) k ≡ Some c.end = ap (λ (n : Holding). end_at (all_ends n) k) (sym far_is) ∙ c.at in
+          let same_far : c.far ≡ g0 = far_is c.to c.far c.there to_is in
+          let at_far : end_at (all_ends g0) k ≡ Some c.end = ap (λ (n : Holding). end_at (all_ends n) k) (sym same_far) ∙ c.at in
           of_other d here c.end (end_found (all_ends g0) k c.end at_far).socket (came_first e d c.end.log.put same memory c.came) (whose_end g0 k c.end at_far)
 
       by : (e.log.got ≡ []) ⊎ IsEndLater old new i h0 h k e → GoesOn e.log.got (bytes_at k false ends).put

@@ -1,7 +1,7 @@
 -- Whose the ends of a node are: a record's that opened the socket or has judged asks on it, a half's, or ends that wait.
-use Rattle.std.proofs.Common.{◌≡◌, ℕ, Bool, true, false, if◌then◌else◌, List, [], ◌∷◌, ◌++◌, map, Option, Some, None, refl, sym, ap, subst, ◌∙◌, ◌⊎◌, inl, inr}
+use Rattle.std.proofs.Common.{◌≡◌, ℕ, Bool, true, false, if◌then◌else◌, List, [], ◌∷◌, map, Option, Some, None, refl, sym, ap, subst, ◌∙◌, ◌⊎◌, inl, inr}
 use Rattle.std.specs.Prelude.{◌||◌, slice_get, IsSome}
-use Rattle.std.specs.List.{AllByRecursion, IsDistinct, list_any}
+use Rattle.std.specs.List.{IsDistinct}
 use Rattle.std.proofs.lemmas.Bool.{eq-eqb}
 use Rattle.std.proofs.lemmas.Map.Keys.{IsDistinct-head, IsDistinct-tail}
 use Rattle.m2_addr.specs.declared.addr.Addr.{Addr}
@@ -11,7 +11,7 @@ use Rattle.m2_fabric.specs.Sockets.{goes_to, is_among, same_socket}
 use Rattle.m2_growth.specs.Halves.{AskedTowards, HasItsHalves, IsOneOf, all_left, asked_on, sockets_left, sockets_taken}
 use Rattle.m2_growth.specs.Holding.{Holding, IsToCome, LeadsElsewhere, all_ends, ends_held, waiting_at}
 use Rattle.m2_growth.specs.Records.{ends_of_all}
-use Rattle.m2_growth.proofs.Among.{among_mapped, among_part, each_by, of_each, one_front, whose}
+use Rattle.m2_growth.proofs.Among.{among_mapped, among_part, of_each, one_front, whose}
 use Rattle.m2_growth.proofs.Ends.{end_append, first_of}
 use Rattle.m2_handshake.specs.Asks.{same_addr}
 use Rattle.m2_history.proofs.Kept.{records_are_kept}
@@ -27,9 +27,7 @@ use Rattle.m2_record.specs.Sources.{end_at}
 use Rattle.m2_record.specs.TakenTrails.{taken_in}
 use Rattle.m2_session.specs.Laws.{takes}
 use Rattle.m2_sim_net.specs.Meeting.{comes_from}
-use Rattle.m2_sim_net.specs.SimFabric.{AreApart}
 use Rattle.m2_stages.proofs.Peers.{mapped}
-use Rattle.m2_stages.specs.Halves.{AllHalves}
 use Rattle.m2_stages.specs.Hearing.{ends_in}
 use Rattle.m2_stages.specs.Sessions.{peer_of}
 use Rattle.m2_trail.specs.Arrivals.{LooseNow}
@@ -41,9 +39,9 @@ use Rattle.m2_woven.proofs.Whole.{records_are_sides}
 use Rattle.m2_linked.proofs.Nodes as node
 use Rattle.m2_linked.proofs.Nodes.{ends_of_left}
 use Rattle.m2_linked.proofs.Records.{HasOne, ends_feeds, feed_kind, has_one}
-use Rattle.m2_linked.proofs.Standing.{not_true, taken_asked}
+use Rattle.m2_linked.proofs.Standing.{taken_asked}
 use Rattle.m2_runs.specs.Running.{IsNodeAt, IsOfPort, IsRecordAt}
-use Rattle.m2_runs.proofs.Lists.{IsImage, flat_one, image_of, of_among}
+use Rattle.m2_runs.proofs.Lists.{flat_one, image_of, of_among}
 
 -- ---- ends
 

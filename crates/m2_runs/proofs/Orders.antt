@@ -23,7 +23,6 @@ use Rattle.m2_trail.specs.Arrivals.{LooseNow}
 use Rattle.m2_turned.specs.Sides.{woven_now}
 use Rattle.m2_turns.specs.Laws.{HasOrder}
 use Rattle.m2_turns.specs.Later.{GoesOn, HadFlowed}
-use Rattle.m2_weave.specs.Strands.{EndOf}
 use Rattle.m2_woven.specs.Link.{same_end}
 use Rattle.m2_runs.specs.Running.{HaveOrders, IsLinkOf, IsRunning, NodeActs, RunNow}
 use Rattle.m2_runs.proofs.Acting.{by_place}

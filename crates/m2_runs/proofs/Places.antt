@@ -1,6 +1,6 @@
 -- Which node is at an address. Of nodes that are apart one at most is where a socket goes, or where it comes from.
 use Rattle.std.proofs.Common.{◌≡◌, ℕ, ◌<◌, Bool, true, false, ◌||◌, if◌then◌else◌, List, Option, Some, None, refl, sym, ap, subst, ◌∙◌, arith}
-use Rattle.std.specs.Prelude.{◌==◌, ◌&&◌, slice_get, get_or}
+use Rattle.std.specs.Prelude.{◌==◌, slice_get, get_or}
 use Rattle.std.specs.List.{position}
 use Rattle.std.proofs.lemmas.Bool.{eq-eqb, eqb-true}
 use Rattle.std.proofs.lemmas.List.Quantifiers.{position-Some}

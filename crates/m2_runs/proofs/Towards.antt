@@ -1,9 +1,8 @@
 -- Two records of two nodes that are towards each other: on a socket between the nodes none but these two act.
-use Rattle.std.proofs.Common.{◌≡◌, ℕ, Bool, true, false, Some, refl, sym, ap, subst, ◌∙◌}
-use Rattle.std.specs.Prelude.{◌==◌, slice_get}
+use Rattle.std.proofs.Common.{◌≡◌, ℕ, true, Some, sym, ap, ◌∙◌}
+use Rattle.std.specs.Prelude.{slice_get}
 use Rattle.std.proofs.lemmas.Bool.{eq-eqb}
 use Rattle.m2_fabric.specs.declared.socket.SocketId.{SocketId}
-use Rattle.m2_fabric.specs.End.{SeenEnd}
 use Rattle.m2_fabric.specs.Sockets.{goes_to, is_among}
 use Rattle.m2_growth.specs.Halves.{IsOneOf, asked_on}
 use Rattle.m2_growth.specs.Holding.{Holding}
@@ -13,7 +12,6 @@ use Rattle.m2_linked.specs.Linked.{IsPeerAt}
 use Rattle.m2_linked.proofs.Records.{has_one}
 use Rattle.m2_record.proofs.Names.{differ}
 use Rattle.m2_record.specs.RecordNow.{RecordNow, ends_of, ids_of}
-use Rattle.m2_record.specs.Sources.{end_at}
 use Rattle.m2_sim_net.specs.Meeting.{comes_from}
 use Rattle.m2_stages.specs.Sessions.{peer_of}
 use Rattle.m2_weave.specs.Strands.{has_opened, journal_of}
