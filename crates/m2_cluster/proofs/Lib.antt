@@ -2,3 +2,4 @@ pub mod Doing
 pub mod OneCenter
 pub mod OneNode
 pub mod TurnsInMemory
+pub mod RestOfPort

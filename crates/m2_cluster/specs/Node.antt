@@ -1,8 +1,11 @@
 -- What contracts see of a node in memory, and what a node shows of its sockets. This project's own.
-use Rattle.std.specs.Prelude.{◌≡◌, ℕ, ◌&&◌, not, Bool, true, false, List, Option, Some, IsSome}
+use Rattle.std.specs.Prelude.{◌≡◌, ◌==◌, ℕ, ◌&&◌, ◌||◌, not, if◌then◌else◌, Bool, true, false, List, [], ◌∷◌, length, Option, Some, None, IsSome}
+use Rattle.std.specs.List.{list_all}
 use Rattle.std.specs.Option.{option_map}
 use Rattle.m2_fabric.specs.declared.socket.SocketId.{SocketId}
 use Rattle.m2_fabric.specs.End.{SeenEnd, fresh_end}
+use Rattle.m2_fabric.specs.Log.{Log}
+use Rattle.m2_fabric.specs.Port.{SeenPort}
 use Rattle.m2_fabric.specs.Sockets.{goes_to, is_among, same_socket}
 use Rattle.m2_dispatch.specs.Heard.{Heard}
 use Rattle.m2_journal.specs.declared.facts.PlanStep.{PlanStep}
@@ -77,9 +80,31 @@ pub record HearsIn {D : Type 0} (id : SocketId) (hears : SeenEnd → SeenEnd) (o
 
 -- ---- the rest
 
--- the node, without what its ends were told and without those that wait at its port
+-- an end did nothing yet
+abbrev pub is_unused : Log → Bool
+is_unused l = (length l.got == 0) && ((length l.put == 0) && ((length l.runs == 0) && not (l.closed || (l.dry || (l.blocked || l.ended)))))
+
+-- and its socket goes to the port, which didn't make it
+abbrev pub is_to_come : SeenPort → SeenEnd → Bool
+is_to_come p e = goes_to p.at e.id && (not (is_among e.id p.made) && is_unused e.log)
+
+-- no two of them are the same
+abbrev pub are_apart : List SocketId → Bool
+are_apart [] = true
+are_apart (k ∷ ks) = not (is_among k ks) && are_apart ks
+
+-- so are all that wait at a port in memory, each of a socket of its own
+abbrev pub all_to_come : SeenPort → Option (List SeenEnd) → Bool
+all_to_come p (Some es) = list_all (is_to_come p) es && are_apart (ids_of es)
+all_to_come p None = false
+
+-- of those that wait only whether all are to come
+abbrev pub rest_at : SeenPort → SeenPort
+rest_at p = record p { waiting = if all_to_come p p.waiting then Some [] else None }
+
+-- the node, without what its ends were told, and without those that wait at its port but for whether all are to come
 abbrev pub rest_of_node : {D : Type 0} → NodeNow D → NodeNow D
-rest_of_node n = record n { center = rest_in n.center }
+rest_of_node n = record n { center = record (rest_in n.center) { port = rest_at n.center.port } }
 
 -- what it shares is the same
 pub record KeepsShared {D : Type 0} (old new : NodeNow D) : Type 0 where
