@@ -32,8 +32,8 @@ keeps_orders woven old new same orders h g a b l =
     let s = before SameRecord far.item.records g.records far.same.records l.b_at b l.b_there in
     subst HasOrder
     (sym (woven (record { side = r.item; halves = near.item.halves }) (record { side = s.item; halves = far.item.halves })
-        (record { side = a; halves = h.halves }) (record { side = b; halves = g.halves })
-        (record { side = r.same; halves = near.same.halves }) (record { side = s.same; halves = far.same.halves })))
+    (record { side = a; halves = h.halves }) (record { side = b; halves = g.halves })
+    (record { side = r.same; halves = near.same.halves }) (record { side = s.same; halves = far.same.halves })))
     (orders near.item far.item r.item s.item (record {
       i = l.i;
       j = l.j;

@@ -156,10 +156,15 @@ pub arriving_keeps : (nodes : List Addr) (node : ℕ) (ids : List SocketId) (ps 
     is_kept e.id (all_entered nodes node ids ps) ≡ true
 arriving_keeps nodes node [] ps e is = absurd (differ is)
 arriving_keeps nodes node (id ∷ ids) ps e is =
-    at (is_one_of (arrivals_at id ps (acceptor nodes node id)) e) refl
+    at (is_one_of (arrivals_at id ps (acceptor nodes node id)) e) refl (λ one. arriving_keeps nodes node ids (entered nodes node id ps) e one)
     (sym (any-append e (arrivals_at id ps (acceptor nodes node id)) (arrivals nodes node ids (entered nodes node id ps))) ∙ is)
   where
-    at : (b : Bool) → is_one_of (arrivals_at id ps (acceptor nodes node id)) e ≡ b → (b || is_one_of (arrivals nodes node ids (entered nodes node id ps)) e) ≡ true →
-        is_kept e.id (all_entered nodes node ids (entered nodes node id ps)) ≡ true
-    at true one is = all_kept nodes node ids (entered nodes node id ps) e.id (one_keeps node id ps e (acceptor nodes node id) one)
-    at false one is = arriving_keeps nodes node ids (entered nodes node id ps) e is
+    later : Bool
+    later = is_one_of (arrivals nodes node ids (entered nodes node id ps)) e
+
+    kept : Type 0
+    kept = is_kept e.id (all_entered nodes node ids (entered nodes node id ps)) ≡ true
+
+    at : (b : Bool) → is_one_of (arrivals_at id ps (acceptor nodes node id)) e ≡ b → (later ≡ true → kept) → (b || later) ≡ true → kept
+    at true one rest is = all_kept nodes node ids (entered nodes node id ps) e.id (one_keeps node id ps e (acceptor nodes node id) one)
+    at false one rest is = rest is

@@ -1,27 +1,25 @@
 -- Behind a meeting, a flow and a fault what holds always holds still.
-use Rattle.std.proofs.Common.{◌≡◌, ℕ, ◌&&◌, Bool, true, false, if◌then◌else◌, List, [], ◌∷◌, map, Option, Some, None, is_some, refl, sym, ap, subst, ◌∙◌, ◌⊎◌, inl, inr}
+use Rattle.std.proofs.Common.{◌≡◌, ℕ, ◌&&◌, Bool, true, false, if◌then◌else◌, List, [], ◌∷◌, map, Some, None, is_some, refl, sym, ap, subst, ◌∙◌, ◌⊎◌, inl, inr}
 use Rattle.std.specs.Prelude.{IsSome, slice_get}
 use Rattle.std.specs.List.{AllByRecursion}
 use Rattle.m2_addr.specs.declared.addr.Addr.{Addr}
 use Rattle.m2_clustered.specs.Told.{OneByOne, SameRecord}
 use Rattle.m2_clustered.proofs.Untold.{mapped_some}
 use Rattle.m2_fabric.specs.declared.socket.SocketId.{SocketId}
-use Rattle.m2_fabric.specs.End.{SeenEnd, fresh_end}
+use Rattle.m2_fabric.specs.End.{fresh_end}
 use Rattle.m2_fabric.specs.Holder.{EndName, SeenHolder, may_come}
 use Rattle.m2_fabric.specs.Sockets.{goes_to, is_among}
-use Rattle.m2_growth.specs.Halves.{asked_on}
 use Rattle.m2_growth.specs.Holding.{Holding, all_ends}
 use Rattle.m2_in_step.specs.Laws.{AreMet, FaultsStayMet, FlowsStayMet, MeetingsStayMet}
 use Rattle.m2_in_step.proofs.Entering.{AllSo}
 use Rattle.m2_journal.specs.State.{Judgement}
 use Rattle.m2_journal.specs.SideFacts.{SideFacts}
-use Rattle.m2_record.proofs.Names.{differ}
 use Rattle.m2_record.specs.RecordNow.{RecordNow}
 use Rattle.m2_record.specs.Sources.{end_at}
 use Rattle.m2_record.specs.TakenTrails.{judgements_in}
 use Rattle.m2_sim_net.specs.InStep.{Network, SeenFabric, end_of}
 use Rattle.m2_sim_net.specs.Kept.{SeenPair, between, chosen, directions, is_kept}
-use Rattle.m2_sim_net.specs.Meeting.{Arrive, all_entered, arrivals, comes, comes_from, is_one_of}
+use Rattle.m2_sim_net.specs.Meeting.{Arrive, arrivals, comes_from, is_one_of}
 use Rattle.m2_sim_net.specs.News.{AreTold, Told, hears, logs_of, told_to}
 use Rattle.m2_sim_net.specs.SimFabric.{AreApart, Enters, IsPassedOn, IsTold, Passes, closings_of, fault_at, flow_of, new_made}
 use Rattle.m2_runs.specs.Running.{HasAskedPeer, IsRunning, RunNow}
@@ -136,8 +134,8 @@ keeps_running old new grow hear met run = record {
   };
   nodes = hear.nodes;
   asked = λ i h there.
-    let was = before SameHolding old.holdings new.holdings hear.same i h there in
-    all_asked was.item.records h.records was.same.records (run.asked i was.item was.there);
+      let was = before SameHolding old.holdings new.holdings hear.same i h there in
+      all_asked was.item.records h.records was.same.records (run.asked i was.item was.there);
 }
   where
     arrived : (i : ℕ) (h : Holding) → slice_get new.holdings i ≡ Some h → (k : SocketId) → goes_to h.port.at k ≡ true → IsSome (end_at (all_ends h) k) → is_kept k new.fabric.pairs ≡ true
