@@ -1,3 +1,4 @@
 pub mod Hearing
+pub mod Same
 pub mod Pairs
 pub mod Passing

@@ -1,10 +1,26 @@
 -- What is promised of a run of nodes in memory where something passes between them.
-use Rattle.std.specs.Prelude.{ℕ}
-use Rattle.m2_clustered.specs.Told.{OneByOne}
+use Rattle.std.specs.Prelude.{◌≡◌, ℕ, List}
+use Rattle.m2_addr.specs.declared.addr.Addr.{Addr}
+use Rattle.m2_cluster.specs.Cluster.{ClusterNow, rest_of}
+use Rattle.m2_clustered.specs.Told.{AreUnused, OneByOne}
+use Rattle.m2_growth.specs.Holding.{Holding}
 use Rattle.m2_in_step.specs.Passed.{HasItsEnds, WaitingAreOpen}
-use Rattle.m2_runs.specs.Running.{HaveOrders, IsRunning, RunNow}
+use Rattle.m2_linked.specs.Linked.{IsNode}
+use Rattle.m2_runs.specs.Running.{HaveOrders, IsNodeAt, IsRunning, RunNow}
 use Rattle.m2_sim_net.specs.SimFabric.{Faults, Flows, Meets}
-use Rattle.m2_passed.specs.Passed.{NodesHear, SameHolding, network_of}
+use Rattle.m2_passed.specs.Passed.{NodesHear, SameHolding, all_held, network_of}
+
+-- ---- what nodes hold
+
+-- A cluster with the same rest holds the same but for what ends were told.
+abbrev pub ToldNodesHear : Type 0 → Type 0
+ToldNodesHear D = (old new : ClusterNow D) → rest_of new ≡ rest_of old → OneByOne SameHolding (all_held old.nodes) (all_held new.nodes)
+
+-- Each is a node at its place still, where it is a node and the ends that wait there did nothing yet.
+abbrev pub HearingStaysAt : Type 0
+HearingStaysAt = (addrs : List Addr) (i : ℕ) (old new : Holding) → SameHolding old new → IsNode new → AreUnused new.port → IsNodeAt addrs i old → IsNodeAt addrs i new
+
+-- ---- runs
 
 -- Where nodes hold the same but for what their ends were told, and all that was done on each link had an order, it has one still.
 abbrev pub HearingKeepsOrders : Type 0

@@ -3,8 +3,21 @@
 
 ghost use Rattle.m2_passed.specs.Laws as laws;
 
+use m2_clustered::told_cluster_is_same;
 use m2_in_step::{faults_stay_met, flows_stay_met, meetings_stay_met};
 use m2_untold::woven_stays;
+
+/// Nodes of a cluster with the same rest hold the same, but for what their ends were told.
+pub fn told_nodes_hear<D>()
+    ensures { laws.ToldNodesHear D }
+{
+    told_cluster_is_same::<D>();
+}
+
+/// And each is a node at its place still.
+pub fn hearing_stays_at()
+    ensures { laws.HearingStaysAt }
+{}
 
 /// What ends are told changes nothing of what is woven of a link, so each link has an order still.
 pub fn hearing_keeps_orders()

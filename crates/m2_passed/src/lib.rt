@@ -1,7 +1,7 @@
 //! Runs of nodes in memory where something passes between them: a meeting, a flow or a fault keeps what holds always.
 //!
 //! What it is: definitions and laws. `specs/Passed.antt` says what nodes hold where their ends are told of one another:
-//! the same but for what they were told. `specs/Laws.antt` has the laws: each link has an order still of all that was
+//! the same but for what they were told. `specs/Laws.antt` has the laws: the nodes of a cluster do so; each link has an order still of all that was
 //! done on it, and behind a meeting, a flow and a fault what holds always of a run holds still.
 //!
 //! What it isn't: anything that runs.
@@ -10,5 +10,6 @@
 mod laws;
 
 pub use laws::{
-    fault_keeps_running, flow_keeps_running, hearing_keeps_orders, meeting_keeps_running,
+    fault_keeps_running, flow_keeps_running, hearing_keeps_orders, hearing_stays_at,
+    meeting_keeps_running, told_nodes_hear,
 };
