@@ -2,3 +2,4 @@ pub mod Hearing
 pub mod Same
 pub mod Pairs
 pub mod Passing
+pub mod Resting

@@ -4,11 +4,11 @@ use Rattle.m2_addr.specs.declared.addr.Addr.{Addr}
 use Rattle.m2_cluster.specs.Cluster.{ClusterNow, rest_of}
 use Rattle.m2_clustered.specs.Told.{AreUnused, OneByOne}
 use Rattle.m2_growth.specs.Holding.{Holding}
-use Rattle.m2_in_step.specs.Passed.{HasItsEnds, WaitingAreOpen}
+use Rattle.m2_in_step.specs.Passed.{AllPortsStand, HasItsEnds, WaitingAreOpen}
 use Rattle.m2_linked.specs.Linked.{IsNode}
-use Rattle.m2_runs.specs.Running.{HaveOrders, IsNodeAt, IsRunning, RunNow}
+use Rattle.m2_runs.specs.Running.{HaveOrders, IsNodeAt, IsRunning, NodeActs, RunNow}
 use Rattle.m2_sim_net.specs.SimFabric.{Faults, Flows, Meets}
-use Rattle.m2_passed.specs.Passed.{NodesHear, SameHolding, all_held, network_of}
+use Rattle.m2_passed.specs.Passed.{IsAtRest, NodesHear, SameHolding, all_held, network_of}
 
 -- ---- what nodes hold
 
@@ -40,3 +40,12 @@ FlowKeepsRunning = (a b socket most : ℕ) (old new : RunNow) → Flows a b sock
 -- and behind a fault.
 abbrev pub FaultKeepsRunning : Type 0
 FaultKeepsRunning = (a b socket : ℕ) (old new : RunNow) → Faults a b socket (network_of old) (network_of new) → NodesHear old new → IsRunning old → IsRunning new
+
+-- ---- deeds one after another
+
+-- So a run stays at rest behind each deed: a node acts, or something passes.
+pub record RestStays : Type 0 where
+  pub turns : (i : ℕ) (old new : RunNow) → NodeActs i old new → AllPortsStand old.holder new.holder → IsAtRest old → IsAtRest new
+  pub meetings : (node : ℕ) (old new : RunNow) → Meets node (network_of old) (network_of new) → NodesHear old new → IsAtRest old → IsAtRest new
+  pub flows : (a b socket most : ℕ) (old new : RunNow) → Flows a b socket most (network_of old) (network_of new) → NodesHear old new → IsAtRest old → IsAtRest new
+  pub faults : (a b socket : ℕ) (old new : RunNow) → Faults a b socket (network_of old) (network_of new) → NodesHear old new → IsAtRest old → IsAtRest new

@@ -4,7 +4,8 @@ use Rattle.m2_cluster.specs.Node.{NodeNow}
 use Rattle.m2_clustered.specs.Center.{holding_of}
 use Rattle.m2_clustered.specs.Told.{OneByOne, SameHalves, SameRecord}
 use Rattle.m2_growth.specs.Holding.{Holding}
-use Rattle.m2_runs.specs.Running.{HoldsAll, IsNodeAt, RunNow}
+use Rattle.m2_in_step.specs.Passed.{HasItsEnds}
+use Rattle.m2_runs.specs.Running.{HaveOrders, HoldsAll, IsNodeAt, IsRunning, RunNow}
 use Rattle.m2_sim_net.specs.InStep.{IsInStep, Network}
 
 -- Records and halves are the same but for what their ends were told; of the port its address is, and the sockets that it made.
@@ -29,3 +30,10 @@ pub record NodesHear (old new : RunNow) : Type 0 where
   pub nodes : (i : ℕ) (h : Holding) → slice_get new.holdings i ≡ Some h → IsNodeAt new.fabric.nodes i h
   pub holds : HoldsAll new
   pub in_step : IsInStep (network_of new)
+
+-- What holds always holds, each socket that a port made has its end and those that wait are open, and all that was done on each
+-- link has an order.
+pub record IsAtRest (x : RunNow) : Type 0 where
+  pub running : IsRunning x
+  pub ends : HasItsEnds (network_of x)
+  pub orders : HaveOrders x
