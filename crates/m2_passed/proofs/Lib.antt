@@ -3,3 +3,4 @@ pub mod Same
 pub mod Pairs
 pub mod Passing
 pub mod Resting
+pub mod Nothing

@@ -1,5 +1,5 @@
 -- What is promised of a run of nodes in memory where something passes between them.
-use Rattle.std.specs.Prelude.{◌≡◌, ℕ, List}
+use Rattle.std.specs.Prelude.{◌≡◌, ℕ, List, None}
 use Rattle.m2_addr.specs.declared.addr.Addr.{Addr}
 use Rattle.m2_cluster.specs.Cluster.{ClusterNow, rest_of}
 use Rattle.m2_clustered.specs.Told.{AreUnused, OneByOne}
@@ -7,7 +7,7 @@ use Rattle.m2_growth.specs.Holding.{Holding}
 use Rattle.m2_in_step.specs.Passed.{AllPortsStand, HasItsEnds, WaitingAreOpen}
 use Rattle.m2_linked.specs.Linked.{IsNode}
 use Rattle.m2_runs.specs.Running.{HaveOrders, IsNodeAt, IsRunning, NodeActs, RunNow}
-use Rattle.m2_sim_net.specs.SimFabric.{Faults, Flows, Meets}
+use Rattle.m2_sim_net.specs.SimFabric.{Faults, Flows, Meets, flow_of}
 use Rattle.m2_passed.specs.Passed.{IsAtRest, NodesHear, SameHolding, all_held, network_of}
 
 -- ---- what nodes hold
@@ -19,6 +19,12 @@ ToldNodesHear D = (old new : ClusterNow D) → rest_of new ≡ rest_of old → O
 -- Each is a node at its place still, where it is a node and the ends that wait there did nothing yet.
 abbrev pub HearingStaysAt : Type 0
 HearingStaysAt = (addrs : List Addr) (i : ℕ) (old new : Holding) → SameHolding old new → IsNode new → AreUnused new.port → IsNodeAt addrs i old → IsNodeAt addrs i new
+
+-- Where nothing is told, what each node holds is the same: each run that holds what holds always hears so, and a flow on a socket
+-- that isn't there passes nothing.
+pub record NothingIsHeard : Type 0 where
+  pub hears : (x : RunNow) → IsRunning x → NodesHear x x
+  pub flows : (a b socket most : ℕ) (x : RunNow) → flow_of a b socket most x.fabric.pairs ≡ None → Flows a b socket most (network_of x) (network_of x)
 
 -- ---- runs
 

@@ -22,6 +22,11 @@ pub fn hearing_stays_at()
     ensures { laws.HearingStaysAt }
 {}
 
+/// Where nothing is told all is the same.
+pub fn nothing_is_heard()
+    ensures { laws.NothingIsHeard }
+{}
+
 /// What ends are told changes nothing of what is woven of a link, so each link has an order still.
 pub fn hearing_keeps_orders()
     ensures { laws.HearingKeepsOrders }

@@ -12,5 +12,5 @@ mod laws;
 
 pub use laws::{
     fault_keeps_running, flow_keeps_running, hearing_keeps_orders, hearing_stays_at,
-    meeting_keeps_running, rest_stays, told_nodes_hear,
+    meeting_keeps_running, nothing_is_heard, rest_stays, told_nodes_hear,
 };
