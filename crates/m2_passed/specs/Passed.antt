@@ -1,8 +1,11 @@
 -- What nodes hold where their ends are told of one another. This project's own.
-use Rattle.std.specs.Prelude.{◌≡◌, ℕ, slice_get, Some}
+use Rattle.std.specs.Prelude.{◌≡◌, ℕ, List, map, slice_get, Some}
+use Rattle.m2_cluster.specs.Node.{NodeNow}
+use Rattle.m2_clustered.specs.Center.{holding_of}
 use Rattle.m2_clustered.specs.Told.{OneByOne, SameHalves, SameRecord}
 use Rattle.m2_growth.specs.Holding.{Holding}
-use Rattle.m2_runs.specs.Running.{HoldsAll, IsNodeAt, RunNow}
+use Rattle.m2_in_step.specs.Passed.{HasItsEnds}
+use Rattle.m2_runs.specs.Running.{HaveOrders, HoldsAll, IsNodeAt, IsRunning, RunNow}
 use Rattle.m2_sim_net.specs.InStep.{IsInStep, Network}
 
 -- Records and halves are the same but for what their ends were told; of the port its address is, and the sockets that it made.
@@ -11,6 +14,10 @@ pub record SameHolding (old new : Holding) : Type 0 where
   pub made : new.port.made ≡ old.port.made
   pub records : OneByOne SameRecord old.records new.records
   pub halves : SameHalves old.halves new.halves
+
+-- what each node of a cluster holds
+abbrev pub all_held : {D : Type 0} → List (NodeNow D) → List Holding
+all_held {D} nodes = map (λ (n : NodeNow D). holding_of n.center) nodes
 
 -- the fabric of a run, and the holder of all its ends
 abbrev pub network_of : RunNow → Network
@@ -23,3 +30,10 @@ pub record NodesHear (old new : RunNow) : Type 0 where
   pub nodes : (i : ℕ) (h : Holding) → slice_get new.holdings i ≡ Some h → IsNodeAt new.fabric.nodes i h
   pub holds : HoldsAll new
   pub in_step : IsInStep (network_of new)
+
+-- What holds always holds, each socket that a port made has its end and those that wait are open, and all that was done on each
+-- link has an order.
+pub record IsAtRest (x : RunNow) : Type 0 where
+  pub running : IsRunning x
+  pub ends : HasItsEnds (network_of x)
+  pub orders : HaveOrders x

@@ -3,8 +3,29 @@
 
 ghost use Rattle.m2_passed.specs.Laws as laws;
 
-use m2_in_step::{faults_stay_met, flows_stay_met, meetings_stay_met};
+use m2_clustered::told_cluster_is_same;
+use m2_in_step::{
+    calls_keep_ends, faults_stay_met, flows_stay_met, meetings_stay_met, turns_keep_ends,
+};
+use m2_runs::{acting_keeps_orders, acting_keeps_running};
 use m2_untold::woven_stays;
+
+/// Nodes of a cluster with the same rest hold the same, but for what their ends were told.
+pub fn told_nodes_hear<D>()
+    ensures { laws.ToldNodesHear D }
+{
+    told_cluster_is_same::<D>();
+}
+
+/// And each is a node at its place still.
+pub fn hearing_stays_at()
+    ensures { laws.HearingStaysAt }
+{}
+
+/// Where nothing is told all is the same.
+pub fn nothing_is_heard()
+    ensures { laws.NothingIsHeard }
+{}
 
 /// What ends are told changes nothing of what is woven of a link, so each link has an order still.
 pub fn hearing_keeps_orders()
@@ -33,4 +54,18 @@ pub fn fault_keeps_running()
     ensures { laws.FaultKeepsRunning }
 {
     faults_stay_met();
+}
+
+/// So a run stays at rest behind each of its deeds, where each link has its order.
+pub fn rest_stays()
+    ensures { laws.RestStays }
+{
+    acting_keeps_running();
+    acting_keeps_orders();
+    meeting_keeps_running();
+    flow_keeps_running();
+    fault_keeps_running();
+    hearing_keeps_orders();
+    turns_keep_ends();
+    calls_keep_ends();
 }
