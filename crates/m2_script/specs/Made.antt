@@ -1,0 +1,49 @@
+-- What the nodes of a scenario have before its first line. This project's own.
+use Rattle.std.specs.Prelude.{ℕ, ◌%◌, ◌==◌, if◌then◌else◌, List, flat_map, Option, Some, None, slice_get}
+use Rattle.std.specs.Option.{option_to_list}
+use Rattle.m2_journal.specs.declared.facts.NodeFacts.{NodeFacts}
+use Rattle.m2_record.specs.IsRecord.{new_record, no_room}
+use Rattle.m2_record.specs.RecordNow.{RecordNow}
+use Rattle.m2_scenario.specs.declared.link.Link.{Link}
+use Rattle.m2_scenario.specs.declared.node.Node.{Node}
+use Rattle.m2_script.specs.declared.made.Towards.{Towards}
+use Rattle.m2_script.specs.declared.made.TheConstants.{WAIT}
+
+-- what a node of this number tells its records; of a word drawn for it the low 16 bits are its salt
+abbrev pub facts_of : Node → (number word : ℕ) → NodeFacts
+facts_of n number word = record {
+  entity = n.entity;
+  number = number;
+  supports = n.supports;
+  requires_ = n.requires_;
+  fast = n.fast;
+  first_wait = WAIT;
+  most_wait = WAIT;
+  salt = word % 65536;
+}
+
+-- the other node of a link of the node of this number, and the policy towards it, if that is one of its two
+abbrev pub other_of : ℕ → Link → Option Towards
+other_of number l =
+    if l.a == number then Some (record { place = l.b; policy = l.of_a })
+    else if l.b == number then Some (record { place = l.a; policy = l.of_b })
+    else None
+
+-- a new record of one node towards another, where there are both
+abbrev pub new_towards : (mine peer : Option Node) → (number word : ℕ) → Towards → Option RecordNow
+new_towards (Some mine) (Some peer) number word t =
+    Some (new_record (record { mine = mine.at; peer = peer.at; policy = t.policy; node = facts_of mine number word }) t.place)
+new_towards _ _ number word t = None
+
+-- the record of the node of this number over a link, if it is one of its two
+abbrev pub over : List Node → (number word : ℕ) → Option Towards → Option RecordNow
+over nodes number word None = None
+over nodes number word (Some t) = new_towards (slice_get nodes number) (slice_get nodes t.place) number word t
+
+-- all of a record but its room
+abbrev pub roomless : RecordNow → RecordNow
+roomless r = record r { room = no_room }
+
+-- the records of the node of this number, in the order of its links
+abbrev pub records_of : List Node → List Link → (number word : ℕ) → List RecordNow
+records_of nodes links number word = flat_map (λ (l : Link). option_to_list (over nodes number word (other_of number l))) links
