@@ -33,7 +33,7 @@ or_first : (p q : Bool) → p ≡ true → (p || q) ≡ true
 or_first true q is = refl
 or_first false q is = absurd (differ is)
 
-or_second : (p q : Bool) → q ≡ true → (p || q) ≡ true
+pub or_second : (p q : Bool) → q ≡ true → (p || q) ≡ true
 or_second true q is = refl
 or_second false q is = is
 
@@ -47,11 +47,11 @@ or_none true q p_is is = absurd (differ (sym p_is))
 
 -- ---- all of some directions
 
-all_front : {X : Type 0} (P : X → Type 0) (xs ys : List X) → AllByRecursion P (xs ++ ys) → AllByRecursion P xs
+pub all_front : {X : Type 0} (P : X → Type 0) (xs ys : List X) → AllByRecursion P (xs ++ ys) → AllByRecursion P xs
 all_front P [] ys all = tt
 all_front P (x ∷ xs) ys all = (all.0, all_front P xs ys all.1)
 
-all_back : {X : Type 0} (P : X → Type 0) (xs ys : List X) → AllByRecursion P (xs ++ ys) → AllByRecursion P ys
+pub all_back : {X : Type 0} (P : X → Type 0) (xs ys : List X) → AllByRecursion P (xs ++ ys) → AllByRecursion P ys
 all_back P [] ys all = all
 all_back P (x ∷ xs) ys all = all_back P xs ys all.1
 
@@ -91,11 +91,11 @@ pairs_stay P so a b (p ∷ ps) same all =
 -- ---- a socket that comes to be kept
 
 -- so it is of both its directions
-abbrev BothSo : (EndName → EndName → Type 0) → (x y : ℕ) → SocketId → Type 0
+abbrev pub BothSo : (EndName → EndName → Type 0) → (x y : ℕ) → SocketId → Type 0
 BothSo P x y id = P (record { node = y; id = id }) (record { node = x; id = id }) × P (record { node = x; id = id }) (record { node = y; id = id })
 
 -- whichever way round the pair of its nodes is
-round_so : (P : EndName → EndName → Type 0) (a b : ℕ) (id : SocketId) (p : SeenPair) → joins a b p ≡ true → BothSo P a b id → BothSo P p.first p.second id
+pub round_so : (P : EndName → EndName → Type 0) (a b : ℕ) (id : SocketId) (p : SeenPair) → joins a b p ≡ true → BothSo P a b id → BothSo P p.first p.second id
 round_so P a b id p is so = by_first ((p.first == a) && (p.second == b)) refl is
   where
     by_first : (s : Bool) → ((p.first == a) && (p.second == b)) ≡ s → (s || ((p.first == b) && (p.second == a))) ≡ true → BothSo P p.first p.second id
@@ -106,7 +106,7 @@ round_so P a b id p is so = by_first ((p.first == a) && (p.second == b)) refl is
         let two = both_true (p.first == b) (p.second == a) is in
         rw (eqb-true p.first b two.0, eqb-true p.second a two.1) (so.1, so.0)
 
-with_so : (P : EndName → EndName → Type 0) (a b : ℕ) (id : SocketId) (ps : List SeenPair) → BothSo P a b id → AllSo P ps → AllSo P (with_kept a b (fresh_kept id) ps)
+pub with_so : (P : EndName → EndName → Type 0) (a b : ℕ) (id : SocketId) (ps : List SeenPair) → BothSo P a b id → AllSo P ps → AllSo P (with_kept a b (fresh_kept id) ps)
 with_so P a b id [] so all = (so.0, (so.1, tt))
 with_so P a b id (p ∷ ps) so all =
     by_pair (joins a b p) refl (with_so P a b id ps so (all_back (λ d. P (reader d) (writer d)) (of_pair p) (directions ps) all))

@@ -1,74 +1,25 @@
 -- The sockets that come to be kept are between the node that opened them and the one at which they arrive.
 use Rattle.std.proofs.Common.{◌≡◌, ℕ, ◌||◌, Bool, true, false, if◌then◌else◌, List, [], ◌∷◌, ◌++◌, map, Option, Some, None, refl, sym, ap, subst, ◌∙◌, ◌⊎◌, inl, inr}
-use Rattle.std.specs.Prelude.{◌==◌, ◌&&◌}
 use Rattle.std.specs.List.{AllByRecursion, list_any}
-use Rattle.std.proofs.lemmas.Bool.{eqb-true}
 use Rattle.m2_addr.specs.declared.addr.Addr.{Addr}
 use Rattle.m2_fabric.specs.declared.socket.SocketId.{SocketId}
 use Rattle.m2_fabric.specs.Holder.{EndName}
 use Rattle.m2_fabric.specs.Sockets.{same_socket}
-use Rattle.m2_growth.proofs.Going.{all_join}
-use Rattle.m2_in_step.proofs.Entering.{AllSo}
+use Rattle.m2_in_step.proofs.Entering.{AllSo, or_second, with_so}
 use Rattle.m2_record.proofs.Names.{differ, same_refl}
-use Rattle.m2_sim_net.specs.Kept.{SeenPair, both, directions, fresh_kept, is_kept, joins, of_pair, reader, same_end, with_kept, writer}
+use Rattle.m2_sim_net.specs.Kept.{SeenPair, directions, fresh_kept, is_kept, joins, reader, same_end, with_kept, writer}
 use Rattle.m2_sim_net.specs.Meeting.{acceptor, all_entered, arrivals, arrivals_at, entered, is_one_of, kept_towards}
 use Rattle.m2_sim_net.specs.News.{Logs, kept_after, pair_after}
 use Rattle.m2_sim_net.proofs.Arriving.{any-append}
-use Rattle.m2_sim_net.proofs.Entering.{added, unkept_before}
+use Rattle.m2_sim_net.proofs.Entering.{unkept_before}
 use Rattle.m2_sim_net.proofs.Flowing.{after_by, directions_after}
-use Rattle.m2_sim_net.proofs.Told.{both_true, end_equal}
-
--- ---- tests
-
-or_second : (p q : Bool) → q ≡ true → (p || q) ≡ true
-or_second true q is = refl
-or_second false q is = is
+use Rattle.m2_sim_net.proofs.Told.{end_equal}
 
 -- ---- between two nodes
-
-all_front : {X : Type 0} (P : X → Type 0) (xs ys : List X) → AllByRecursion P (xs ++ ys) → AllByRecursion P xs
-all_front P [] ys all = tt
-all_front P (x ∷ xs) ys all = (all.0, all_front P xs ys all.1)
-
-all_back : {X : Type 0} (P : X → Type 0) (xs ys : List X) → AllByRecursion P (xs ++ ys) → AllByRecursion P ys
-all_back P [] ys all = all
-all_back P (x ∷ xs) ys all = all_back P xs ys all.1
 
 -- the node of the one end opened the socket towards that of the other
 abbrev pub Between : List Addr → EndName → EndName → Type 0
 Between nodes r w = (acceptor nodes w.node w.id ≡ Some r.node) ⊎ (acceptor nodes r.node r.id ≡ Some w.node)
-
--- of both directions of a socket
-abbrev BothSo : (EndName → EndName → Type 0) → (x y : ℕ) → SocketId → Type 0
-BothSo P x y id = P (record { node = y; id = id }) (record { node = x; id = id }) × P (record { node = x; id = id }) (record { node = y; id = id })
-
--- whichever way round the pair of its nodes is
-round_so : (P : EndName → EndName → Type 0) (a b : ℕ) (id : SocketId) (p : SeenPair) → joins a b p ≡ true → BothSo P a b id → BothSo P p.first p.second id
-round_so P a b id p is so = by_first ((p.first == a) && (p.second == b)) refl is
-  where
-    by_first : (s : Bool) → ((p.first == a) && (p.second == b)) ≡ s → (s || ((p.first == b) && (p.second == a))) ≡ true → BothSo P p.first p.second id
-    by_first true same is =
-        let two = both_true (p.first == a) (p.second == b) same in
-        rw (eqb-true p.first a two.0, eqb-true p.second b two.1) so
-    by_first false same is =
-        let two = both_true (p.first == b) (p.second == a) is in
-        rw (eqb-true p.first b two.0, eqb-true p.second a two.1) (so.1, so.0)
-
-with_so : (P : EndName → EndName → Type 0) (a b : ℕ) (id : SocketId) (ps : List SeenPair) → BothSo P a b id → AllSo P ps → AllSo P (with_kept a b (fresh_kept id) ps)
-with_so P a b id [] so all = (so.0, (so.1, tt))
-with_so P a b id (p ∷ ps) so all =
-    by_pair (joins a b p) refl (with_so P a b id ps so (all_back (λ d. P (reader d) (writer d)) (of_pair p) (directions ps) all))
-  where
-    by_pair : (j : Bool) → joins a b p ≡ j → AllSo P (with_kept a b (fresh_kept id) ps) →
-        AllSo P (if j then record p { sockets = p.sockets ++ fresh_kept id ∷ [] } ∷ ps else p ∷ with_kept a b (fresh_kept id) ps)
-    by_pair true is rest =
-        let here = round_so P a b id p is so in
-        all_join (λ d. P (reader d) (writer d)) (of_pair (record p { sockets = p.sockets ++ fresh_kept id ∷ [] })) (directions ps)
-        (subst (λ ds. AllByRecursion (λ d. P (reader d) (writer d)) ds) (sym (added a b (fresh_kept id) p))
-        (all_join (λ d. P (reader d) (writer d)) (of_pair p) (both p.first p.second (fresh_kept id)) (all_front (λ d. P (reader d) (writer d)) (of_pair p) (directions ps) all) (here.0, (here.1, tt))))
-        (all_back (λ d. P (reader d) (writer d)) (of_pair p) (directions ps) all)
-    by_pair false is rest =
-        all_join (λ d. P (reader d) (writer d)) (of_pair p) (directions (with_kept a b (fresh_kept id) ps)) (all_front (λ d. P (reader d) (writer d)) (of_pair p) (directions ps) all) rest
 
 -- a socket that the node opened is between it and the node at which it arrives
 one_between : (nodes : List Addr) (node : ℕ) (id : SocketId) (ps : List SeenPair) (o : Option ℕ) → acceptor nodes node id ≡ o → AllSo (Between nodes) ps →

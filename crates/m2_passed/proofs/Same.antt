@@ -11,11 +11,12 @@ use Rattle.m2_journal.specs.SideFacts.{SideFacts}
 use Rattle.m2_record.specs.RecordNow.{RecordNow}
 use Rattle.m2_runs.specs.Running.{IsOfPort, IsRecordAt}
 use Rattle.m2_passed.specs.Laws.{HearingStaysAt, ToldNodesHear}
-use Rattle.m2_passed.specs.Passed.{SameHolding, all_held}
+use Rattle.m2_begun.specs.Acting.{holdings_of}
+use Rattle.m2_passed.specs.Passed.{SameHolding}
 
 -- ---- a cluster
 
-all_hear : {D : Type 0} (ms ns : List (NodeNow D)) → OneByOne SameNode ms ns → OneByOne SameHolding (all_held ms) (all_held ns)
+all_hear : {D : Type 0} (ms ns : List (NodeNow D)) → OneByOne SameNode ms ns → OneByOne SameHolding (holdings_of ms) (holdings_of ns)
 all_hear [] [] same = tt
 all_hear [] (n ∷ ns) same = absurd same
 all_hear (m ∷ ms) [] same = absurd same

@@ -8,13 +8,14 @@ use Rattle.m2_in_step.specs.Passed.{AllPortsStand, HasItsEnds, WaitingAreOpen}
 use Rattle.m2_linked.specs.Linked.{IsNode}
 use Rattle.m2_runs.specs.Running.{HaveOrders, IsNodeAt, IsRunning, NodeActs, RunNow}
 use Rattle.m2_sim_net.specs.SimFabric.{Faults, Flows, Meets, flow_of}
-use Rattle.m2_passed.specs.Passed.{IsAtRest, NodesHear, SameHolding, all_held, network_of}
+use Rattle.m2_begun.specs.Acting.{holdings_of}
+use Rattle.m2_passed.specs.Passed.{IsAtRest, NodesHear, SameHolding, network_of}
 
 -- ---- what nodes hold
 
 -- A cluster with the same rest holds the same but for what ends were told.
 abbrev pub ToldNodesHear : Type 0 → Type 0
-ToldNodesHear D = (old new : ClusterNow D) → rest_of new ≡ rest_of old → OneByOne SameHolding (all_held old.nodes) (all_held new.nodes)
+ToldNodesHear D = (old new : ClusterNow D) → rest_of new ≡ rest_of old → OneByOne SameHolding (holdings_of old.nodes) (holdings_of new.nodes)
 
 -- Each is a node at its place still, where it is a node and the ends that wait there did nothing yet.
 abbrev pub HearingStaysAt : Type 0

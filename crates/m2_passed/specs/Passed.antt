@@ -1,7 +1,5 @@
 -- What nodes hold where their ends are told of one another. This project's own.
-use Rattle.std.specs.Prelude.{◌≡◌, ℕ, List, map, slice_get, Some}
-use Rattle.m2_cluster.specs.Node.{NodeNow}
-use Rattle.m2_clustered.specs.Center.{holding_of}
+use Rattle.std.specs.Prelude.{◌≡◌, ℕ, slice_get, Some}
 use Rattle.m2_clustered.specs.Told.{OneByOne, SameHalves, SameRecord}
 use Rattle.m2_growth.specs.Holding.{Holding}
 use Rattle.m2_in_step.specs.Passed.{HasItsEnds}
@@ -14,10 +12,6 @@ pub record SameHolding (old new : Holding) : Type 0 where
   pub made : new.port.made ≡ old.port.made
   pub records : OneByOne SameRecord old.records new.records
   pub halves : SameHalves old.halves new.halves
-
--- what each node of a cluster holds
-abbrev pub all_held : {D : Type 0} → List (NodeNow D) → List Holding
-all_held {D} nodes = map (λ (n : NodeNow D). holding_of n.center) nodes
 
 -- the fabric of a run, and the holder of all its ends
 abbrev pub network_of : RunNow → Network
