@@ -11,7 +11,7 @@ use Rattle.m2_stages.specs.Sessions.{AreConsistent, IsCaller, PendingNow, Supply
 use Rattle.m2_stages.proofs.Came.{back, both, front}
 use Rattle.m2_stages.proofs.Joined.{distinct_between}
 
-all_join : {T : Type 0} (P : T → Type 0) (xs ys : List T) → AllByRecursion P xs → AllByRecursion P ys → AllByRecursion P (xs ++ ys)
+pub all_join : {T : Type 0} (P : T → Type 0) (xs ys : List T) → AllByRecursion P xs → AllByRecursion P ys → AllByRecursion P (xs ++ ys)
 all_join P [] ys first second = second
 all_join P (x ∷ xs) ys first second = (first.0, all_join P xs ys first.1 second)
 

@@ -2,6 +2,7 @@ pub mod Granted
 pub mod Had
 pub mod Left
 pub mod Lent
+pub mod Passing
 pub mod Places
 pub mod Reached
 pub mod RecordsHear

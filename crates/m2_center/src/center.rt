@@ -28,10 +28,10 @@ pub struct Passes {
 /// took, and where the parcels of the records go.
 ///
 /// Maker: [`new`](Center::new). Looks: [`records`](Center::records), [`parts`](Center::parts),
-/// [`made`](Center::made), [`refused`](Center::refused), [`log`](Center::log). Calls: [`turn`](Center::turn), and
-/// [`plan`](Center::plan) for what a record is to do; of whoever passes on what flows in memory,
-/// [`incoming`](Center::incoming) and [`hear`](Center::hear). The end: [`finished`](Center::finished). It can't be
-/// dropped, since records can't.
+/// [`fast`](Center::fast), [`queued`](Center::queued), [`is_holding`](Center::is_holding), [`idle`](Center::idle),
+/// [`made`](Center::made), [`refused`](Center::refused), [`log`](Center::log). Calls: [`turn`](Center::turn), and [`plan`](Center::plan) for
+/// what a record is to do; of whoever passes on what flows in memory, [`incoming`](Center::incoming) and
+/// [`hear`](Center::hear). The end: [`finished`](Center::finished). It can't be dropped, since records can't.
 pub struct Center<P: Port, D> {
     pub(crate) alloc: Global,
     pub(crate) entity: u8,
@@ -85,5 +85,19 @@ impl<P: Port, D> Center<P, D> {
         ensures { result.now ≡ self.now.records }
     {
         self.records.as_slice()
+    }
+
+    /// The dispatcher of fast kinds.
+    pub fn fast(&self) -> &D
+        ensures { result.now ≡ self.now.out.fast }
+    {
+        self.out.fast()
+    }
+
+    /// The queue before the other dispatcher.
+    pub fn queued(&self) -> &Dispatch<D>
+        ensures { result.now ≡ self.now.queued }
+    {
+        &self.queued
     }
 }

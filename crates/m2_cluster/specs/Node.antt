@@ -1,22 +1,25 @@
 -- What contracts see of a node in memory, and what a node shows of its sockets. This project's own.
 use Rattle.std.specs.Prelude.{◌≡◌, ◌==◌, ℕ, ◌&&◌, ◌||◌, not, if◌then◌else◌, Bool, true, false, List, [], ◌∷◌, length, Option, Some, None, IsSome}
-use Rattle.std.specs.List.{list_all}
+use Rattle.std.specs.List.{AllByRecursion, list_all}
 use Rattle.std.specs.Option.{option_map}
 use Rattle.m2_fabric.specs.declared.socket.SocketId.{SocketId}
 use Rattle.m2_fabric.specs.End.{SeenEnd, fresh_end}
+use Rattle.m2_fabric.specs.Kinds.{IsInMemory}
 use Rattle.m2_fabric.specs.Log.{Log}
 use Rattle.m2_fabric.specs.Port.{SeenPort}
-use Rattle.m2_fabric.specs.Sockets.{goes_to, is_among, same_socket}
+use Rattle.m2_fabric.specs.Sockets.{IsOfHome, goes_to, is_among, same_socket}
 use Rattle.m2_dispatch.specs.Heard.{Heard}
 use Rattle.m2_journal.specs.declared.facts.PlanStep.{PlanStep}
+use Rattle.m2_record.specs.IsRecord.{IsRecord}
 use Rattle.m2_record.specs.RecordNow.{ids_of}
 use Rattle.m2_record.specs.Sources.{end_at}
 use Rattle.m2_shared.specs.Numbers.{SeenNumbers}
 use Rattle.m2_shared.specs.Throttle.{SeenThrottle}
-use Rattle.m2_center.specs.Center.{CenterNow}
+use Rattle.m2_center.specs.Center.{CenterNow, IsCenter}
 use Rattle.m2_center.specs.CenterTurn.{Answer, TakesTurn, means_at}
 use Rattle.m2_center.specs.Plans.{PlansIn}
 use Rattle.m2_center.specs.Reaching.{all_ends_in, ends_in, rest_in, waiting_at}
+use Rattle.m2_stages.specs.Halves.{AreWhole}
 
 -- its center, its counter of global numbers and its throttle
 pub record NodeNow (D : Type 0) : Type 0 where
@@ -29,6 +32,16 @@ pub record IsNode {D : Type 0} (n : NodeNow D) : Type 0 where
   pub memory : IsSome n.center.port.waiting
   pub numbers : n.center.numbers.place ≡ n.numbers.place
   pub throttle : n.center.bytes.place ≡ n.throttle.place
+
+-- What a node in memory keeps: its center is one, each of its records is one, and the trail of each half tells all that its end
+-- did; each socket that its port made comes from the port's address or goes to it; and all its ends are in memory.
+pub record IsWholeNode {D : Type 0} (n : NodeNow D) : Type 0 where
+  pub node : IsNode n
+  pub center : IsCenter n.center
+  pub records : AllByRecursion IsRecord n.center.records
+  pub halves : AreWhole n.center.halves
+  pub home : AllByRecursion (IsOfHome n.center.port.at) n.center.port.made
+  pub memory : AllByRecursion IsInMemory (all_ends_in n.center)
 
 -- ---- its ends
 

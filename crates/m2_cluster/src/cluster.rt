@@ -1,24 +1,26 @@
 //! All nodes.
 
 ghost use Rattle.std.specs.Prelude.{◌≡◌, ◌++◌, ◌-◌, ◌<◌, ◌≤◌, [], ◌∷◌, length, slice_get, IfOk, IfNone, IfSome, MatchOption};
+ghost use Rattle.std.specs.List.{AllByRecursion};
 ghost use Rattle.m2_center.specs.Plans.{IsReadyFor};
 ghost use Rattle.m2_cluster.specs.Cluster.{OneDoes};
-ghost use Rattle.m2_cluster.specs.Node.{NodePlans, NodeTurns};
+ghost use Rattle.m2_cluster.specs.Node.{IsWholeNode, NodePlans, NodeTurns};
 ghost use Rattle.m2_record.specs.IsRecord.{CanBePlanned};
 
 use crate::node::Node;
 use m2_bytes::NoMemory;
 use m2_dispatcher::Dispatcher;
-use m2_fabric::Port;
+use m2_fabric::{MemoryEnd, MemoryPort, Port};
 use m2_journal::PlanStep;
 use std::alloc::Global;
 use std::marker::Model;
 
 /// All nodes, from 0 in the order in which they were added. As a [`Holder`] it has the ports and ends of all of them.
 ///
-/// Maker: [`with_room`](Cluster::with_room). Looks: [`nodes`](Cluster::nodes). Calls: [`add`](Cluster::add),
-/// [`turn`](Cluster::turn), [`plan`](Cluster::plan), [`pop`](Cluster::pop). The end: [`destroy_empty`](Cluster::destroy_empty). It can't be dropped, since nodes
-/// can't.
+/// Maker: [`with_room`](Cluster::with_room). Looks: [`nodes`](Cluster::nodes);
+/// [`is_whole`](Cluster::is_whole) says what its nodes keep. Calls: [`add`](Cluster::add),
+/// [`turn`](Cluster::turn), [`plan`](Cluster::plan), [`pop`](Cluster::pop). The end:
+/// [`destroy_empty`](Cluster::destroy_empty). It can't be dropped, since nodes can't.
 pub struct Cluster<P: Port, D> {
     pub(crate) nodes: Vec<Node<P, D>>,
 }
@@ -99,5 +101,26 @@ impl<P: Port, D: Dispatcher> Cluster<P, D> {
         ensures { OneDoes node (NodeTurns P.End D.heard now result) self.old self.new }
     {
         self.nodes[node as usize].turn(now)
+    }
+}
+
+impl<P: MemoryPort, D> Cluster<P, D>
+where
+    P::End: MemoryEnd,
+{
+    /// What each node in memory keeps, for contracts alone.
+    pub fn is_whole(&self)
+        ensures { AllByRecursion IsWholeNode self.now.nodes }
+    {
+        Self::each_is_whole(self.nodes.as_slice());
+    }
+
+    /// The same of these nodes.
+    fn each_is_whole(nodes: &[Node<P, D>])
+        ensures { AllByRecursion IsWholeNode nodes.now }
+    {
+        'nodes: for node in nodes {
+            node.is_whole();
+        }
     }
 }

@@ -4,7 +4,7 @@ ghost use Rattle.std.specs.Prelude.{◌≡◌, IsSome, OnErr, OnOk};
 ghost use Rattle.std.specs.Option.{option_map};
 ghost use Rattle.m2_center.specs.Reaching.{ends_in};
 ghost use Rattle.m2_center.specs.Plans.{IsReadyFor};
-ghost use Rattle.m2_cluster.specs.Node.{ComesIn, HearsIn, NodePlans, NodeTurns, rest_of_node};
+ghost use Rattle.m2_cluster.specs.Node.{ComesIn, HearsIn, IsWholeNode, NodePlans, NodeTurns, rest_of_node};
 ghost use Rattle.m2_fabric.specs.End.{SeenEnd, after_news};
 ghost use Rattle.m2_fabric.specs.Log.{log_of};
 ghost use Rattle.m2_record.specs.IsRecord.{CanBePlanned};
@@ -13,14 +13,14 @@ ghost use Rattle.m2_record.specs.Sources.{end_at};
 use m2_bytes::NoMemory;
 use m2_center::{Center, NodeShared};
 use m2_dispatcher::Dispatcher;
-use m2_fabric::{EndLog, News, Port, SocketId, SocketIdList};
+use m2_fabric::{EndLog, MemoryEnd, MemoryPort, News, Port, SocketId, SocketIdList};
 use m2_journal::PlanStep;
 use std::marker::Model;
 
 /// A node in memory with one center, and its counter of global numbers and its throttle. Its port is one in memory.
 ///
-/// Maker: [`new`](Node::new). Looks: [`center`](Node::center), [`shared`](Node::shared). The end:
-/// [`into_parts`](Node::into_parts). It can't be dropped, since a center can't.
+/// Maker: [`new`](Node::new). Looks: [`center`](Node::center), [`shared`](Node::shared); what it keeps says
+/// [`is_whole`](Node::is_whole). The end: [`into_parts`](Node::into_parts). It can't be dropped, since a center can't.
 pub struct Node<P: Port, D> {
     center: Center<P, D>,
     shared: NodeShared,
@@ -122,5 +122,19 @@ impl<P: Port, D: Dispatcher> Node<P, D> {
         ensures { NodeTurns P.End D.heard now result self.old self.new }
     {
         self.center.turn(&self.shared, now)
+    }
+}
+
+impl<P: MemoryPort, D> Node<P, D>
+where
+    P::End: MemoryEnd,
+{
+    /// What a node in memory keeps, for contracts alone.
+    pub fn is_whole(&self)
+        ensures { IsWholeNode self.now }
+    {
+        self.center.is_center();
+        self.center.comes_from_home();
+        self.center.is_in_memory();
     }
 }

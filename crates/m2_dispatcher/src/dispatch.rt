@@ -1,6 +1,6 @@
 //! The queue before a dispatcher.
 
-ghost use Rattle.std.specs.Prelude.{◌≡◌, ◌-◌, [], ◌++◌, map, OnOk, OnErr, IfErr};
+ghost use Rattle.std.specs.Prelude.{◌≡◌, ◌-◌, ◌==◌, [], ◌++◌, length, map, OnOk, OnErr, IfErr};
 ghost use Rattle.m2_priority.specs.ByRank.{IsFalling};
 ghost use Rattle.m2_shared.specs.Place.{IsAlone};
 ghost use Rattle.m2_dispatcher.specs.Letters.{AreOwned, granted, heard_in, letter_priority};
@@ -21,9 +21,10 @@ use std::marker::Model;
 /// which they will be dispatched: the greatest priority first, and inside one the oldest first. It can't be
 /// dropped, since letters can't: it ends by [`finish`](Dispatch::finish).
 ///
-/// In: [`put`](Dispatch::put). Out: [`turn`](Dispatch::turn). Looks: [`inner`](Dispatch::inner). The end:
-/// [`finish`](Dispatch::finish). Each call that takes a throttle and a pass has the condition that the pass
-/// and the grants of all letters were made from this throttle, and leaves it so.
+/// In: [`put`](Dispatch::put). Out: [`turn`](Dispatch::turn). Looks: [`inner`](Dispatch::inner),
+/// [`is_empty`](Dispatch::is_empty). The end: [`finish`](Dispatch::finish). Each call that takes a throttle
+/// and a pass has the condition that the pass and the grants of all letters were made from this throttle, and
+/// leaves it so.
 pub struct Dispatch<D> {
     waiting: Waiting,
     inner: D,
@@ -58,6 +59,13 @@ impl<D> Dispatch<D> {
         ensures { result.now ≡ self.now.inner }
     {
         &self.inner
+    }
+
+    /// Whether no letter waits.
+    pub fn is_empty(&self) -> bool
+        ensures { result ≡ (length self.now.waiting == 0) }
+    {
+        self.waiting.is_empty()
     }
 
     /// Gives back the grants of the letters that wait, throws them away, and gives the dispatcher.

@@ -1,5 +1,5 @@
 -- Sockets by their names. This project's own.
-use Rattle.std.specs.Prelude.{◌≡◌, ◌==◌, ◌&&◌, Bool, false, List}
+use Rattle.std.specs.Prelude.{◌≡◌, ◌==◌, ◌&&◌, ◌||◌, Bool, true, false, List}
 use Rattle.std.specs.List.{list_any}
 use Rattle.m2_addr.specs.declared.addr.Addr.{Addr}
 use Rattle.m2_fabric.specs.declared.socket.SocketId.{SocketId}
@@ -19,3 +19,11 @@ IsNewTo sockets socket = is_among socket sockets ≡ false
 -- a socket goes to the ip and port of an address
 abbrev pub goes_to : Addr → SocketId → Bool
 goes_to at socket = (socket.to_ip == at.ip) && (socket.to_port == at.port)
+
+-- a socket comes from the ip and port of an address
+abbrev pub comes_from : Addr → SocketId → Bool
+comes_from at socket = (socket.from_ip == at.ip) && (socket.from_port == at.port)
+
+-- a socket comes from an address or goes to it
+abbrev pub IsOfHome : Addr → SocketId → Type 0
+IsOfHome at socket = (comes_from at socket || goes_to at socket) ≡ true

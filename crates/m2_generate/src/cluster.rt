@@ -4,7 +4,7 @@ ghost use Rattle.std.specs.Prelude.{◌≡◌, ◌<◌, ◌∷◌, [], true, fal
 ghost use Rattle.std.specs.List.{list_any};
 ghost use Rattle.m2_words.specs.Word.{is_name};
 ghost use Rattle.m2_scenario.specs.Draft.{is_named, is_at, are_joined, with_node, with_link};
-ghost use Rattle.m2_scenario.specs.Valid.{IsLink, HasCenters};
+ghost use Rattle.m2_scenario.specs.Valid.{IsLink, HasCenters, HasMsgr2};
 ghost use Rattle.m2_generate.specs.Cluster.{osd, osds, peers, all_pairs};
 
 use m2_addr::Addr;
@@ -66,6 +66,7 @@ fn osd(alloc: Global, name: &[u8], port: u16, nonce: u32) -> Result<Node, NoMemo
     requires { is_name name.now ≡ true }
     ensures value { IfOk result (λ n. n ≡ osd name.now port nonce) }
     ensures centers { IfOk result HasCenters }
+    ensures msgr2 { IfOk result HasMsgr2 }
 {
     let at = Addr {
         kind: Addr::MSGR2,

@@ -37,7 +37,7 @@ use Rattle.m2_growth.proofs.OneRecord.{holding}
 use Rattle.m2_growth.proofs.RecordTurns as growth
 use Rattle.m2_logged.specs.Laws.{RecordsStayLogged}
 use Rattle.m2_logged.specs.Logged.{AreOfTheirPeers, IsCalled, IsLogged, all_put, logging}
-use Rattle.m2_logged.proofs.Judged.{none_same}
+use Rattle.m2_logged.proofs.Judged.{StaysSteady, none_same, steady_of}
 use Rattle.m2_logged.proofs.Lagging.{Follows, Lags, all_follow, all_followed, all_lag, caught_up, follows_still, lags_on, lags_still, place_of}
 use Rattle.m2_logged.proofs.Later.{its_own}
 use Rattle.m2_logged.proofs.Puts.{HaveTheSame, retries}
@@ -85,24 +85,24 @@ all_with P (x ∷ xs) ys p q = (p.0, all_with P xs ys p.1 q)
 
 -- ---- a connect
 
-takes_none : (made : Connect SeenEnd) (now : ℕ) (r s : RecordNow) → Takes made now r s → s.handed ≡ r.handed
-takes_none (connect.Made e) now r s (mid, room, (opened, some)) = at s.core.live.feed opened some ∙ ap (λ x. x.handed) room
+takes_steady : (made : Connect SeenEnd) (now : ℕ) (r s : RecordNow) → Takes made now r s → StaysSteady r s
+takes_steady (connect.Made e) now r s (mid, room, (opened, some)) = at s.core.live.feed opened some ∙ ap steady_of room
   where
-    at : (o : Option FeedNow) → IfSome o (λ v. IsOpening mid.core.facts e v × (s ≡ record (with_opened v e.id mid) { room = s.room })) → IsSome o → s.handed ≡ mid.handed
-    at (Some v) (_, h) some = ap (λ x. x.handed) h
+    at : (o : Option FeedNow) → IfSome o (λ v. IsOpening mid.core.facts e v × (s ≡ record (with_opened v e.id mid) { room = s.room })) → IsSome o → StaysSteady mid s
+    at (Some v) (_, h) some = ap steady_of h
     at None h some = absurd (differ some)
-takes_none connect.Failed now r s (mid, room, missed) = ap (λ x. x.handed) missed ∙ ap (λ x. x.handed) room
-takes_none connect.NoMemory now r s room = ap (λ x. x.handed) room
+takes_steady connect.Failed now r s (mid, room, missed) = ap steady_of missed ∙ ap steady_of room
+takes_steady connect.NoMemory now r s room = ap steady_of room
 
-dialled_none : (d : Due) (result : Result (Unit {0}) memory.NoMemory) (now : ℕ) (old new : AtPort) → DialsFor d result now old new → new.side.handed ≡ old.side.handed
-dialled_none (due.Connect at) result now old new d = takes_none d.made now old.side new.side d.takes
-dialled_none due.Nothing result now old new (_, e) = ap (λ a. a.side.handed) e
-dialled_none due.Plan result now old new (_, e) = ap (λ a. a.side.handed) e
-dialled_none due.Hand result now old new (_, e) = ap (λ a. a.side.handed) e
-dialled_none due.Write result now old new (_, e) = ap (λ a. a.side.handed) e
-dialled_none due.Frame result now old new (_, e) = ap (λ a. a.side.handed) e
-dialled_none due.Read result now old new (_, e) = ap (λ a. a.side.handed) e
-dialled_none due.Compose result now old new (_, e) = ap (λ a. a.side.handed) e
+pub dialled_steady : (d : Due) (result : Result (Unit {0}) memory.NoMemory) (now : ℕ) (old new : AtPort) → DialsFor d result now old new → StaysSteady old.side new.side
+dialled_steady (due.Connect at) result now old new d = takes_steady d.made now old.side new.side d.takes
+dialled_steady due.Nothing result now old new (_, e) = ap (λ (a : AtPort). steady_of a.side) e
+dialled_steady due.Plan result now old new (_, e) = ap (λ (a : AtPort). steady_of a.side) e
+dialled_steady due.Hand result now old new (_, e) = ap (λ (a : AtPort). steady_of a.side) e
+dialled_steady due.Write result now old new (_, e) = ap (λ (a : AtPort). steady_of a.side) e
+dialled_steady due.Frame result now old new (_, e) = ap (λ (a : AtPort). steady_of a.side) e
+dialled_steady due.Read result now old new (_, e) = ap (λ (a : AtPort). steady_of a.side) e
+dialled_steady due.Compose result now old new (_, e) = ap (λ (a : AtPort). steady_of a.side) e
 
 abbrev IsErr : Result (Unit {0}) memory.NoMemory → Type 0
 IsErr (Ok u) = ⊥
@@ -145,10 +145,11 @@ module _ {D : Type 0} (heard : D → List Heard) (calls : List Call) (m : Means)
   dials_and_steps result old new before rest halves free d grown l =
       let dialled = dials (Ok tt) m.now (at_port old) d.mid before rest halves d.dials grown.own in
       let grows = one_grows old.side d.mid.side before rest dialled.grows.records in
+      let steady = dialled_steady (due_step m.now old.side) (Ok tt) m.now (at_port old) d.mid d.dials in
       let is : IsRecord d.mid.side = begins heard calls m d.ended (turning_amid d.mid.side old.around) (turning_amid new.side new.around) free d.turns in
       let logged = caught_up heard calls first d.mid.port before rest d.mid.side halves old.around.out
       (grows_then first (with_one before rest halves old) (holding d.mid.port (before ++ d.mid.side ∷ rest) halves) grown dialled)
-      (lags_on heard calls first old.around.out old.side d.mid.side grows (dialled_none (due_step m.now old.side) (Ok tt) m.now (at_port old) d.mid d.dials) l) is in
+      (lags_on heard calls first old.around.out old.side d.mid.side grows (ap (λ x. x.2) steady) l) is in
       let stepped = turns heard calls m d.ended (turning_amid d.mid.side old.around) (turning_amid new.side new.around) (its_own d.mid.port before rest d.mid.side halves dialled.own) d.turns in
       record {
         place = stepped.stays.place ∙ grows.place;

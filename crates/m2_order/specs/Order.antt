@@ -2,7 +2,8 @@
 -- the other is a prefix of what the other posted, in order, each once. Said of a scenario's lines and of the calls
 -- of dispatchers alone. This is the project's promise; a message is the same whatever numbers the runtime wrote
 -- into it.
-use Rattle.std.specs.Prelude.{◌≡◌, ℕ, zero, suc, ◌+◌, ◌==◌, ◌&&◌, ◌<◌, ◌≤◌, true, if◌then◌else◌, List, [], ◌∷◌, length, take, All, sum_by, count_by}
+use Rattle.std.specs.Prelude.{◌≡◌, ℕ, zero, suc, ◌+◌, ◌==◌, ◌&&◌, ◌<◌, ◌≤◌, Bool, true, false, if◌then◌else◌, List, [], ◌∷◌, length, take, All, sum_by, count_by}
+use Rattle.std.specs.List.{AllByRecursion}
 use Rattle.m2_message.specs.Message.{Content, IsSameMessage}
 use Rattle.m2_policy.specs.Path.{path_of}
 use Rattle.m2_policy.specs.declared.path.Key.{Key}
@@ -77,3 +78,54 @@ pub record HearsPeers (nodes : ℕ) (links : List Link) (heard : List (List Hear
   pub places : length heard ≡ nodes
   pub messages : (y : ℕ) → All IsMessage (at y heard)
   pub peers : (y : ℕ) → All (λ h. IsPeer nodes links y (peer_of h)) (at y heard)
+
+-- ---- over links of which it is promised
+
+-- of each key, what y heard from x is a prefix of what x posted to y, in order, each once
+abbrev pub HearsPrefix : List (List ℕ) → List DraftLine → List (List Heard) → (x y : ℕ) → Type 0
+HearsPrefix fast lines heard x y = (key : Key) → IsPrefixOf (of_key x key (at y heard)) (posts_of x y (at y fast) key lines)
+
+-- and all of it
+abbrev pub HearsWhole : List (List ℕ) → List DraftLine → List (List Heard) → (x y : ℕ) → Type 0
+HearsWhole fast lines heard x y = (key : Key) → AreSame (of_key x key (at y heard)) (posts_of x y (at y fast) key lines)
+
+-- no call is a reset by this node
+abbrev pub IsNoResetBy : ℕ → Heard → Type 0
+IsNoResetBy x (message peer key number m) = Unit {0}
+IsNoResetBy x (reset peer) = (peer == x) ≡ false
+
+abbrev pub HearsNoReset : List (List Heard) → (x y : ℕ) → Type 0
+HearsNoReset heard x y = AllByRecursion (IsNoResetBy x) (at y heard)
+
+-- either way over each of these links that is so
+abbrev pub OverEach : (Link → Bool) → List Link → (ℕ → ℕ → Type 0) → Type 0
+OverEach is_so links how = AllByRecursion (λ (l : Link). is_so l ≡ true → how l.a l.b × how l.b l.a) links
+
+-- how many of something there are, either way over all of these links that are so
+abbrev pub count_over : (Link → Bool) → List Link → (ℕ → ℕ → ℕ) → ℕ
+count_over is_so links count = sum_by (λ (l : Link). if is_so l then count l.a l.b + count l.b l.a else 0) links
+
+-- how many posts of x to y there are, and how many messages of x the node at y heard
+abbrev pub is_post_between : (x y : ℕ) → DraftLine → Bool
+is_post_between x y (post a b m) = (a == x) && (b == y)
+is_post_between x y _ = false
+
+abbrev pub posts_between : List DraftLine → (x y : ℕ) → ℕ
+posts_between lines x y = count_by (is_post_between x y) lines
+
+abbrev pub is_message_from : ℕ → Heard → Bool
+is_message_from x (message peer key number m) = peer == x
+is_message_from x (reset peer) = false
+
+abbrev pub messages_between : List (List Heard) → (x y : ℕ) → ℕ
+messages_between heard x y = count_by (is_message_from x) (at y heard)
+
+-- the messages that were heard over these links, and so many posts that are left, are the posts over them
+abbrev pub AreCounted : (Link → Bool) → List Link → List DraftLine → List (List Heard) → (left : ℕ) → Type 0
+AreCounted is_so links lines heard left =
+    count_over is_so links (messages_between heard) + left ≡ count_over is_so links (posts_between lines)
+
+-- there is a list for each node, and all calls of a node's dispatchers are of nodes that links join with it
+pub record AreOfJoined (nodes : ℕ) (links : List Link) (heard : List (List Heard)) : Type 0 where
+  pub places : length heard ≡ nodes
+  pub peers : (y : ℕ) → AllByRecursion (λ (h : Heard). IsPeer nodes links y (peer_of h)) (at y heard)

@@ -15,7 +15,7 @@ use Rattle.m2_scenario.specs.declared.counts.Counts.{Counts}
 use Rattle.m2_scenario.specs.Counts.{counts_of, with_one_more, AreWithin, Permit}
 use Rattle.m2_scenario.specs.Plan.{IsAmong}
 use Rattle.m2_scenario.proofs.Counted.{counts_more}
-use Rattle.m2_scenario.specs.Valid.{IsSound, IsLine, IsLink, JoinOthers, HasCenters, AreApart}
+use Rattle.m2_scenario.specs.Valid.{IsSound, IsLine, IsLink, JoinOthers, HasCenters, HasMsgr2, AreApart}
 
 -- counts stay within the limits with a line that these permit
 permitted : (c : Counts) (l : DraftLine) → AreWithin c → Permit c l → AreWithin (with_one_more c l)
@@ -33,6 +33,7 @@ line_kept nodes links lines l s fits room = record {
   few_nodes = s.few_nodes;
   few_links = s.few_links;
   centers = s.centers;
+  msgr2 = s.msgr2;
   apart = s.apart;
   joined = s.joined;
   joined_once = s.joined_once;
@@ -72,6 +73,7 @@ link_kept nodes links lines l s room fits first = record {
   few_nodes = s.few_nodes;
   few_links = omega (arith, length-append links (l ∷ []), room);
   centers = s.centers;
+  msgr2 = s.msgr2;
   apart = s.apart;
   joined = All-push (IsLink (length nodes)) links l s.joined fits;
   joined_once = all_pairs_push JoinOthers links l s.joined_once (none_at (joins l.a l.b) links first);
@@ -104,14 +106,15 @@ apart_from new n name socket = record {
   sockets = λ e. let same : is_at new.at n ≡ true = both (n.at.ip == new.at.ip) (n.at.port == new.at.port) (same_number n.at.ip new.at.ip e.0) (same_number n.at.port new.at.port e.1) in cc;
 }
 
-pub node_kept : (nodes : List Node) (links : List Link) (lines : List DraftLine) (n : Node) → IsSound nodes links lines → length nodes < MOST_NODES → HasCenters n
+pub node_kept : (nodes : List Node) (links : List Link) (lines : List DraftLine) (n : Node) → IsSound nodes links lines → length nodes < MOST_NODES → HasCenters n → HasMsgr2 n
     → list_any (is_named n.name) nodes ≡ false → list_any (is_at n.at) nodes ≡ false → IsSound (nodes ++ n ∷ []) links lines
-node_kept nodes links lines n s room centers names sockets =
+node_kept nodes links lines n s room centers msgr2 names sockets =
     let more : length nodes ≤ length (nodes ++ n ∷ []) = omega (arith, length-append nodes (n ∷ [])) in
     record {
       few_nodes = omega (arith, length-append nodes (n ∷ []), room);
       few_links = s.few_links;
       centers = All-push HasCenters nodes n s.centers centers;
+      msgr2 = All-push HasMsgr2 nodes n s.msgr2 msgr2;
       apart = all_pairs_push AreApart nodes n s.apart (λ k d h. apart_from n (get_or nodes k d) (none_at (is_named n.name) nodes names k d h) (none_at (is_at n.at) nodes sockets k d h));
       joined = All-weaker (IsLink (length nodes)) (IsLink (length (nodes ++ n ∷ []))) (link_among_more (length nodes) (length (nodes ++ n ∷ [])) more) links s.joined;
       joined_once = s.joined_once;
@@ -153,6 +156,7 @@ start_kept nodes links lines a s =
       few_nodes = omega (arith, same, s.few_nodes);
       few_links = s.few_links;
       centers = λ k d h. has_centers (get_or (without a nodes) k d) (get_or nodes k d) (alike nodes a k d) (s.centers k d (omega (arith, same, h)));
+      msgr2 = λ k d h. ap (λ at. at.kind) (alike nodes a k d).at ∙ s.msgr2 k d (omega (arith, same, h));
       apart = λ i j d h k. are_apart (get_or (without a nodes) i d) (get_or (without a nodes) j d) (get_or nodes i d) (get_or nodes j d) (alike nodes a i d) (alike nodes a j d) (s.apart i j d h (omega (arith, same, k)));
       joined = rw same s.joined;
       joined_once = s.joined_once;
@@ -190,6 +194,7 @@ nothing_sound nodes links lines e f g = rw (e, f, g) (record {
   few_nodes = omega arith;
   few_links = omega arith;
   centers = λ k d h. absurd (omega (arith, h));
+  msgr2 = λ k d h. absurd (omega (arith, h));
   apart = λ i j d h k. absurd (omega (arith, k));
   joined = λ k d h. absurd (omega (arith, h));
   joined_once = λ i j d h k. absurd (omega (arith, k));

@@ -1,5 +1,6 @@
 -- When a scenario is valid.
 use Rattle.std.specs.Prelude.{◌≡◌, ◌≢◌, ℕ, ◌<◌, ◌≤◌, nat_le, Bool, ◌&&◌, true, false, List, length, map, All, AllPairs}
+use Rattle.m2_addr.specs.declared.addr.TheConstants.Addr.{MSGR2}
 use Rattle.m2_policy.specs.Policy.{allows}
 use Rattle.m2_scenario.specs.declared.node.Node.{Node}
 use Rattle.m2_scenario.specs.declared.link.Link.{Link}
@@ -18,6 +19,10 @@ pub record AreApart (m n : Node) : Type 0 where
 pub record HasCenters (n : Node) : Type 0 where
   pub one : 1 ≤ n.centers
   pub most : n.centers ≤ MOST_CENTERS
+
+-- its address is one of msgr2
+abbrev pub HasMsgr2 : Node → Type 0
+HasMsgr2 n = n.at.kind ≡ MSGR2
 
 -- a link joins two different nodes of so many by an allowed pair of policies
 pub record IsLink (nodes : ℕ) (l : Link) : Type 0 where
@@ -54,6 +59,7 @@ pub record IsSound (nodes : List Node) (links : List Link) (lines : List DraftLi
   pub few_nodes : length nodes ≤ MOST_NODES
   pub few_links : length links ≤ MOST_LINKS
   pub centers : All HasCenters nodes
+  pub msgr2 : All HasMsgr2 nodes
   pub apart : AllPairs AreApart nodes
   pub joined : All (IsLink (length nodes)) links
   pub joined_once : AllPairs JoinOthers links

@@ -5,7 +5,7 @@ ghost use Rattle.std.specs.List.{list_any};
 ghost use Rattle.m2_scenario.specs.Draft.{draft_line, is_named, is_at, are_joined, is_step_of};
 ghost use Rattle.m2_scenario.specs.Draft.{no_lines, with_node, with_link, with_line, without_start, with_limit, IsMade};
 ghost use Rattle.m2_scenario.specs.Counts.{counts_of, with_one_more, Permit};
-ghost use Rattle.m2_scenario.specs.Valid.{IsLine, IsLink, HasCenters, IsValid};
+ghost use Rattle.m2_scenario.specs.Valid.{IsLine, IsLink, HasCenters, HasMsgr2, IsValid};
 
 use crate::counts::Counts;
 use crate::limits::{MOST_LINKS, MOST_NODES, USUAL_LIMIT};
@@ -135,6 +135,7 @@ impl Draft {
     pub fn push_node(&mut self, alloc: Global, node: Node) -> Result<(), NoMemory>
         requires room { length self.old.nodes < MOST_NODES }
         requires centers { HasCenters node }
+        requires msgr2 { HasMsgr2 node }
         requires names { list_any (is_named node.name) self.old.nodes ≡ false }
         requires sockets { list_any (is_at node.at) self.old.nodes ≡ false }
         ensures { MatchResult result (λ _. self.new ≡ with_node self.old node) (λ _. self.new ≡ self.old) }

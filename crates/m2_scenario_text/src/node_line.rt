@@ -1,7 +1,7 @@
 //! `node NAME ENTITY IP:PORT/NONCE` and options.
 
 ghost use Rattle.std.specs.Prelude.{IfOk};
-ghost use Rattle.m2_scenario.specs.Valid.{HasCenters};
+ghost use Rattle.m2_scenario.specs.Valid.{HasCenters, HasMsgr2};
 ghost use Rattle.m2_scenario_text.specs.Taking.{NodeRead, Takes};
 ghost use Rattle.m2_scenario_text.specs.NodeLine.{node_of, node_line};
 
@@ -16,6 +16,7 @@ use std::alloc::Global;
 fn node_of(alloc: Global, mut words: Words<'_>) -> Result<Node, LineFault>
     ensures value { NodeRead result (node_of words.entry) }
     ensures centers { IfOk result HasCenters }
+    ensures msgr2 { IfOk result HasMsgr2 }
 {
     check(Kind::Words, 3 <= words.len())?;
     let name = words.take();

@@ -172,6 +172,7 @@ fn set_option(node: &mut Node, given: &GivenOption<'_>) -> Result<(), Kind>
     requires { HasCenters node.old }
     ensures set { MatchResult result (λ _. set_option given.now node.old ≡ Ok node.new) (λ k. set_option given.now node.old ≡ Err k) }
     ensures centers { OnOk result (HasCenters node.new) }
+    ensures at { OnOk result (node.new.at ≡ node.old.at) }
 {
     let word = given.word();
     match given.row.option {
@@ -193,6 +194,7 @@ pub(crate) fn set_options(node: &mut Node, given: &[GivenOption<'_>]) -> Result<
     requires { HasCenters node.old }
     ensures set { MatchResult result (λ _. set_options given.now node.old ≡ Ok node.new) (λ k. set_options given.now node.old ≡ Err k) }
     ensures centers { OnOk result (HasCenters node.new) }
+    ensures at { OnOk result (node.new.at ≡ node.old.at) }
 {
     'options: for option in given {
         set_option(node, option)?;

@@ -3,24 +3,16 @@ use Rattle.std.proofs.Common.{◌≡◌, ℕ, inl, inr, List, [], ◌∷◌, ◌
 use Rattle.m2_bytes.specs.declared.memory.NoMemory as memory
 use Rattle.m2_dispatch.specs.Heard.{Heard}
 use Rattle.m2_center.specs.CenterTurn.{Answer}
-use Rattle.m2_cluster.specs.Cluster.{ClusterNow, OneDoes}
-use Rattle.m2_cluster.specs.Node.{NodeTurns}
-use Rattle.m2_script.specs.Script.{CanAllBeDone, Deed, Does, Ends, RunNow, next_moment, turn}
+use Rattle.m2_script.specs.Script.{CanAllBeDone, Deed, Ends, Happens, RunNow}
 
 module _ {D : Type 0} (E : Type 0) (heard : D → List Heard) where
-  -- a turn, and then the clock
-  pub turned : (was old : RunNow D) → was ≡ old → (a : ℕ) (new : ClusterNow D) (now : ℕ) → OneDoes a (NodeTurns E heard was.now (Ok tt)) was.cluster new →
-      now ≡ next_moment was.now → Does E heard (Ok tt) (turn a) old (record { cluster = new; fabric = was.fabric; now = now })
-  turned was old same a new now h e =
-      subst (λ (o : RunNow D). Does E heard (Ok tt) (turn a) o (record { cluster = new; fabric = was.fabric; now = now })) same (record { acts = h; fabric = refl; now = e })
-
   -- ---- one deed
 
-  pub one_ends : (r : Answer) (d : Deed) (s u : RunNow D) → Does E heard r d s u → Ends E heard r (d ∷ []) s u
+  pub one_ends : (r : Answer) (d : Deed) (s u : RunNow D) → Happens E heard r d s u → Ends E heard r (d ∷ []) s u
   one_ends (Ok done) d s u h = record { between = u; first = h; behind = refl }
   one_ends (Err e) d s u h = inl h
 
-  pub then_one : (r : Answer) (d : Deed) (ds : List Deed) (s t u : RunNow D) → Does E heard (Ok tt) d s t → Ends E heard r ds t u → Ends E heard r (d ∷ ds) s u
+  pub then_one : (r : Answer) (d : Deed) (ds : List Deed) (s t u : RunNow D) → Happens E heard (Ok tt) d s t → Ends E heard r ds t u → Ends E heard r (d ∷ ds) s u
   then_one (Ok done) d ds s t u h k = record { between = t; first = h; behind = k }
   then_one (Err e) d ds s t u h k = inr (record { between = t; first = h; behind = k })
 

@@ -1,3 +1,4 @@
 pub mod Deeds
 pub mod Needs
 pub mod Splits
+pub mod Turning

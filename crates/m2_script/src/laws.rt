@@ -2,11 +2,7 @@
 
 ghost use Rattle.m2_script.specs.Laws as laws;
 
-use m2_dispatcher::Dispatcher;
-use m2_fabric::End;
-
-/// Each deed of a valid scenario's lines is of nodes that there are, and flows, faults and meetings leave the network in
-/// step. So all lines can be done, where the records are ready and plans and turns leave the network in step.
-pub fn script_can_be_done<D: Dispatcher, E: End>()
-    ensures { laws.ScriptCanBeDone D E }
+/// Each deed of a valid scenario's lines is of nodes that there are, and each step that is planned is of a link.
+pub fn scripts_are_within()
+    ensures { laws.ScriptsAreWithin }
 {}

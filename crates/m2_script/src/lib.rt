@@ -6,10 +6,12 @@
 //! before its first line, its text (`m2_scenario_text`) or its report (`m2_report`).
 #![tactic(auto)]
 
+mod calls;
 mod laws;
 mod lines;
 mod made;
 
-pub use laws::script_can_be_done;
+pub use calls::{TurnCalls, TurnCallsList};
+pub use laws::scripts_are_within;
 pub use lines::Run;
 pub use made::{Towards, other_of, record_over, records};

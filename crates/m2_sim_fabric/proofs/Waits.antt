@@ -3,12 +3,12 @@ use Rattle.std.proofs.Common.{◌≡◌, ℕ, ◌+◌, Bool, true, false, if◌t
 use Rattle.std.proofs.Common.{◌||◌}
 use Rattle.std.specs.Prelude.{remove, Result, Ok, Err, OnOk, OnErr}
 use Rattle.m2_bytes.specs.declared.memory.NoMemory.{NoMemory}
-use Rattle.std.specs.List.{list_any}
+use Rattle.std.specs.List.{AllByRecursion, list_any}
 use Rattle.std.proofs.lemmas.List.{map-append}
 use Rattle.m2_addr.specs.declared.addr.Addr.{Addr}
 use Rattle.m2_fabric.specs.End.{SeenEnd, after_news, fresh_end}
 use Rattle.m2_fabric.specs.Port.{IsNewEnd, one_hears}
-use Rattle.m2_fabric.specs.Sockets.{goes_to, is_among, same_socket}
+use Rattle.m2_fabric.specs.Sockets.{IsOfHome, comes_from, goes_to, is_among, same_socket}
 use Rattle.m2_fabric.specs.declared.end.News.{News}
 use Rattle.m2_fabric.specs.declared.socket.SocketId.{SocketId}
 use Rattle.m2_sim_fabric.specs.SimPort.{AreWaiting, IsSimPort, IsWaiting, ids, socket_after, times}
@@ -19,12 +19,27 @@ pub first_removed : (xs : List SeenEnd) (e : SeenEnd) → 0 < length xs → e �
 first_removed [] e h i = absurd (omega arith)
 first_removed (x ∷ xs) e h i = ap (λ (y : SeenEnd). y ∷ xs) (sym i)
 
--- a socket that is opened
+-- ---- where sockets come from and go to
+
+made_more : (at : Addr) (made : List SocketId) (id : SocketId) → AllByRecursion (IsOfHome at) made → IsOfHome at id → AllByRecursion (IsOfHome at) (made ++ id ∷ [])
+made_more at [] id all here = (here, tt)
+made_more at (k ∷ ks) id all here = (all.0, made_more at ks id all.1 here)
+
+opened_here : (xs : List SocketId) (at to : Addr) → IsOfHome at (socket_after xs at to)
+opened_here xs at to = rw (same_number at.ip, same_number at.port) refl
+
+either : (b c : Bool) → c ≡ true → (b || c) ≡ true
+either true c h = refl
+either false c h = h
+
+-- ---- a socket that is opened
+
 pub opened_stays : (at to : Addr) (made : List SocketId) (waiting : List SeenEnd) (id : SocketId) → IsSimPort at made waiting
     → id ≡ socket_after (made ++ ids waiting) at to → IsSimPort at (made ++ id ∷ []) waiting
 opened_stays at to made waiting id p next = record {
   once = λ s. once_between id s made (ids waiting) p.once (rw next (next_is_new (made ++ ids waiting) at to));
   waits = p.waits;
+  home = made_more at made id p.home (rw next (opened_here (made ++ ids waiting) at to));
 }
 
 pub opened_is_new : (at to : Addr) (made : List SocketId) (waiting : List SeenEnd) (e : SeenEnd)
@@ -54,6 +69,7 @@ accepted_stays at made waiting e rest p first =
     let q : IsSimPort at made (e ∷ rest) = rw (← first) p in record {
       once = λ s. rw (append_assoc made (e.id ∷ []) (ids rest)) (q.once s);
       waits = q.waits.1;
+      home = made_more at made e.id p.home (either (comes_from at e.id) (goes_to at e.id) q.waits.0.towards);
     }
 
 ids-append : (xs ys : List SeenEnd) → ids (xs ++ ys) ≡ ids xs ++ ids ys
@@ -79,6 +95,7 @@ pub incoming_stays : (at : Addr) (made : List SocketId) (waiting : List SeenEnd)
 incoming_stays at made waiting id p towards new apart = record {
   once = λ s. rw (ids-append waiting (fresh_end id ∷ []), ← append_assoc made (ids waiting) (id ∷ [])) (once_at_end id s (made ++ ids waiting) p.once nowhere);
   waits = waits-append at waiting (fresh_end id) p.waits (record { towards = towards; unused = refl });
+  home = p.home;
 }
   where
     nowhere : times id (made ++ ids waiting) ≡ 0
@@ -113,5 +130,6 @@ heard_stays at made old new id n bytes (Ok _) p ok err =
     rw ok (record {
       once = λ s. rw (hears_by_name id (after_news n bytes) old l) (p.once s);
       waits = hears_waiting at id (after_news n bytes) old l p.waits;
+      home = p.home;
     })
 heard_stays at made old new id n bytes (Err _) p ok err = rw err p

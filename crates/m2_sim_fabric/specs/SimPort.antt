@@ -1,10 +1,11 @@
 -- How a port in memory names its sockets, and what holds of those that it made and those that wait.
 use Rattle.std.specs.Prelude.{◌≡◌, ℕ, ◌+◌, ◌≤◌, max, true, if◌then◌else◌, List, [], ◌∷◌, ◌++◌, map, fold, Option, Some, None}
+use Rattle.std.specs.List.{AllByRecursion}
 use Rattle.m2_addr.specs.declared.addr.Addr.{Addr}
 use Rattle.m2_fabric.specs.End.{SeenEnd, fresh_end}
 use Rattle.m2_fabric.specs.Log.{nothing_done}
 use Rattle.m2_fabric.specs.Port.{SeenPort}
-use Rattle.m2_fabric.specs.Sockets.{goes_to, same_socket}
+use Rattle.m2_fabric.specs.Sockets.{IsOfHome, goes_to, same_socket}
 use Rattle.m2_fabric.specs.declared.port.Connect.{Connect}
 use Rattle.m2_fabric.specs.declared.port.Connect.TheVariants as connect
 use Rattle.m2_fabric.specs.declared.port.Taken.{Taken}
@@ -32,10 +33,12 @@ abbrev pub AreWaiting : Addr → List SeenEnd → Type 0
 AreWaiting at [] = Unit {0}
 AreWaiting at (e ∷ es) = IsWaiting at e × AreWaiting at es
 
--- No socket stands twice among those that a port made and those that wait there.
+-- No socket stands twice among those that a port made and those that wait there, and each that it made comes from its
+-- address or goes to it.
 pub record IsSimPort (at : Addr) (made : List SocketId) (waiting : List SeenEnd) : Type 0 where
   pub once : (socket : SocketId) → times socket (made ++ ids waiting) ≤ 1
   pub waits : AreWaiting at waiting
+  pub home : AllByRecursion (IsOfHome at) made
 
 -- ---- the name of the next socket
 

@@ -5,7 +5,7 @@ ghost use Rattle.m2_fabric.specs.End.{LeavesPiece, Reads, Writes};
 ghost use Rattle.m2_sim_fabric.specs.CutEnd.{Bounded, ReadsBounded, WritesBounded, allowance, allowed, counted_read, counted_write, is_cut, left_after_read, left_after_write, passed, shown};
 
 use m2_bytes::NoMemory;
-use m2_fabric::{End, EndLog, EndRead, EndWrite, News, SocketId};
+use m2_fabric::{End, EndLog, EndRead, EndWrite, MemoryEnd, News, SocketId};
 use std::marker::Model;
 
 /// An end that passes on what another end does, until so many bytes passed, read and written together:
@@ -188,5 +188,11 @@ impl<E: End> End for CutEnd<E> {
 
     fn hear(&mut self, bytes: &[u8], news: News) -> Result<(), NoMemory> {
         self.end.hear(bytes, news)
+    }
+}
+
+impl<E: MemoryEnd> MemoryEnd for CutEnd<E> {
+    fn is_in_memory(&self) {
+        self.end.is_in_memory();
     }
 }

@@ -8,7 +8,7 @@ use crate::cut_end::CutEnd;
 use m2_addr::Addr;
 use m2_bytes::{Items, NoMemory};
 use m2_edge::Failed;
-use m2_fabric::{Connect, End, News, Port, SocketId, SocketIdList, Taken};
+use m2_fabric::{Connect, End, MemoryPort, News, Port, SocketId, SocketIdList, Taken};
 use std::marker::Model;
 
 /// After how many bytes a socket that is opened to an address breaks.
@@ -145,5 +145,15 @@ impl<P: Port> Port for CutPort<P> {
 
     fn hear(&mut self, id: &SocketId, bytes: &[u8], news: News) -> Result<(), NoMemory> {
         self.port.hear(id, bytes, news)
+    }
+}
+
+impl<P: MemoryPort> MemoryPort for CutPort<P> {
+    fn comes_from_home(&self) {
+        self.port.comes_from_home();
+    }
+
+    fn waits_in_memory(&self) {
+        self.port.waits_in_memory();
     }
 }

@@ -9,7 +9,7 @@ ghost use Rattle.m2_sim_fabric.specs.SimEnd.{ReadsAll, WritesAll};
 use bytes::BytesMut;
 use m2_bytes::NoMemory;
 use m2_edge::Count;
-use m2_fabric::{End, EndLog, EndRead, EndWrite, MOST_MOVED, News, SocketId};
+use m2_fabric::{End, EndLog, EndRead, EndWrite, MOST_MOVED, MemoryEnd, News, SocketId};
 use std::alloc::Global;
 use std::marker::Model;
 
@@ -150,5 +150,11 @@ impl End for SimEnd {
             News::Failed => self.failed = true,
         }
         Ok(())
+    }
+}
+
+impl MemoryEnd for SimEnd {
+    fn is_in_memory(&self) {
+        let _ = &self.readable;
     }
 }

@@ -11,7 +11,10 @@ use crate::sim_end::SimEnd;
 use m2_addr::Addr;
 use m2_bytes::{Items, NoMemory};
 use m2_edge::Failed;
-use m2_fabric::{Connect, End, News, Port, SocketId, SocketIdList, Taken, is_among};
+use m2_fabric::{
+    Connect, End, MemoryPort, News, Port, SocketId, SocketIdList, Taken, are_in_memory,
+    is_among,
+};
 use std::alloc::Global;
 use std::marker::Model;
 
@@ -247,5 +250,15 @@ impl Port for SimPort {
 
     fn hear(&mut self, id: &SocketId, bytes: &[u8], news: News) -> Result<(), NoMemory> {
         first_hears(&mut self.waiting, id, bytes, news)
+    }
+}
+
+impl MemoryPort for SimPort {
+    fn comes_from_home(&self) {
+        let _ = &self.made;
+    }
+
+    fn waits_in_memory(&self) {
+        are_in_memory(self.waiting.as_slice());
     }
 }

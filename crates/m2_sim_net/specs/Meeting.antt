@@ -4,15 +4,16 @@ use Rattle.std.specs.List.{list_any, position}
 use Rattle.m2_addr.specs.declared.addr.Addr.{Addr}
 use Rattle.m2_fabric.specs.End.{fresh_end}
 use Rattle.m2_fabric.specs.Holder.{EndName, SeenHolder, may_come}
+use Rattle.m2_fabric.specs.Sockets as sockets
 use Rattle.m2_fabric.specs.Sockets.{goes_to}
 use Rattle.m2_fabric.specs.declared.socket.SocketId.{SocketId}
 use Rattle.m2_sim_net.specs.declared.meeting.TheConstants.{MOST_NODES}
 use Rattle.m2_sim_net.specs.Kept.{SeenPair, fresh_kept, is_kept, same_end, with_kept}
 
--- a socket comes from the ip and port of an address
+-- a socket comes from a node's address
 abbrev pub comes_from : SocketId → Option Addr → Bool
 comes_from id None = false
-comes_from id (Some at) = (id.from_ip == at.ip) && (id.from_port == at.port)
+comes_from id (Some at) = sockets.comes_from at id
 
 -- the node to which a socket goes, if it is another than the given one, and has a number
 abbrev pub other_than : ℕ → Option ℕ → Option ℕ

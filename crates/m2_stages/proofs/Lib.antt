@@ -17,3 +17,4 @@ pub mod Rosters
 pub mod Told
 pub mod Turned
 pub mod Waiting
+pub mod Wholes

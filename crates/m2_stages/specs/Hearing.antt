@@ -4,6 +4,7 @@ use Rattle.std.specs.List.{list_any}
 use Rattle.m2_fabric.specs.declared.end.News.{News}
 use Rattle.m2_fabric.specs.declared.socket.SocketId.{SocketId}
 use Rattle.m2_fabric.specs.End.{SeenEnd, after_news}
+use Rattle.m2_fabric.specs.Kinds.{IsInMemory}
 use Rattle.m2_fabric.specs.Sockets.{same_socket}
 use Rattle.m2_trail.specs.Arrivals.{LooseNow}
 use Rattle.m2_stages.specs.Halves.{AllHalves}
@@ -35,6 +36,13 @@ loose_told news bytes l = record l { end = after_news news bytes l.end }
 -- their ends
 abbrev pub ends_in : AllHalves → List SeenEnd
 ends_in h = map (λ (p : PendingNow). p.half.end) h.pending ++ map (λ (l : LooseNow). l.end) h.loose
+
+-- they are in memory
+abbrev pub IsHalfInMemory : PendingNow → Type 0
+IsHalfInMemory p = IsInMemory p.half.end
+
+abbrev pub IsLooseInMemory : LooseNow → Type 0
+IsLooseInMemory l = IsInMemory l.end
 
 -- the first end of a socket is told of the other side
 abbrev pub after_hearing : SocketId → News → List ℕ → AllHalves → AllHalves

@@ -1,6 +1,7 @@
 pub mod Accepting
 pub mod Answering
 pub mod Beside
+pub mod Busy
 pub mod Connecting
 pub mod HalfTurn
 pub mod Halves

@@ -6,8 +6,8 @@
 //! [`turn_halves`] all do. [`connect_if_due`] makes a record's connect at the port, [`turn_record`] takes the steps
 //! of a record that are due, and [`turn_each`] does both of all records. Their parcels go to the [`Outbox`]:
 //! letters of fast kinds are dispatched at once, all other parcels wait in the mail, which [`empty_mail`] puts into
-//! the node's queue. [`plan_at`] has a record do something, and [`half_log`] and [`half_hears`] reach the ends of
-//! halves. What it isn't: the thread itself, which is `m2_center`.
+//! the node's queue. [`plan_at`] has a record do something, [`half_log`] and [`half_hears`] reach the ends of
+//! halves, and [`are_whole`] and [`halves_are_in_memory`] say what these keep. What it isn't: the thread itself, which is `m2_center`.
 #![tactic(auto)]
 
 mod accepting;
@@ -19,12 +19,14 @@ mod hearing;
 mod judging;
 mod laws;
 mod mailing;
+mod memory;
 mod outbox;
 mod pending;
 mod planning;
 mod record_turn;
 mod records_turn;
 mod roster;
+mod whole;
 
 pub use accepting::{Accepted, MOST_ACCEPTS, accept_all};
 pub use answering::{HalfAnswered, answer_half};
@@ -38,9 +40,11 @@ pub use laws::{
     steps_bring_no_socket, steps_keep_what_is_known,
 };
 pub use mailing::{Mailed, empty_mail};
+pub use memory::halves_are_in_memory;
 pub use outbox::{MOST_MAIL, Outbox};
 pub use pending::{MOST_HALVES, Pending, Pendings};
 pub use planning::plan_at;
 pub use record_turn::{MOST_STEPS, RecordTurn, turn_record};
 pub use records_turn::{RecordsTurn, is_idle, turn_each};
 pub use roster::Roster;
+pub use whole::are_whole;

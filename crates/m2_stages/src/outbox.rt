@@ -1,6 +1,7 @@
 //! Where the parcels of a center's records go.
 
 ghost use Rattle.std.specs.Prelude.{◌≡◌, ◌<◌, ◌-◌, not, [], None, length, true, IfOk, IfErr, IfSome};
+ghost use Rattle.std.specs.Option.{is_some};
 ghost use Rattle.m2_record.specs.Calls as calls;
 ghost use Rattle.m2_dispatcher.specs.Letters.{IsOwnedLetter};
 ghost use Rattle.m2_dispatcher.specs.Parcel.{IsOwned};
@@ -23,9 +24,10 @@ pub const MOST_MAIL: usize = 1024;
 /// parcel goes into the mail. A letter that the dispatcher couldn't take for want of memory is held, and
 /// nothing more is put before it has gone. It can't be dropped, since letters can't.
 ///
-/// Maker: [`new`](Outbox::new). Looks: [`is_free`](Outbox::is_free), [`has_mail`](Outbox::has_mail), [`fast`](Outbox::fast). In:
-/// [`put`](Outbox::put), and [`retry`](Outbox::retry) for the letter that is held. Out:
-/// [`take`](Outbox::take), and [`put_back`](Outbox::put_back) for what was taken. The ends: [`finish`](Outbox::finish), which hands all on, and
+/// Maker: [`new`](Outbox::new). Looks: [`is_free`](Outbox::is_free), [`has_mail`](Outbox::has_mail),
+/// [`is_holding`](Outbox::is_holding), [`fast`](Outbox::fast). In: [`put`](Outbox::put), and
+/// [`retry`](Outbox::retry) for the letter that is held. Out: [`take`](Outbox::take), and
+/// [`put_back`](Outbox::put_back) for what was taken. The ends: [`finish`](Outbox::finish), which hands all on, and
 /// [`clear`](Outbox::clear), which gives all grants back.
 pub struct Outbox<D> {
     fast: D,
@@ -83,6 +85,13 @@ impl<D> Outbox<D> {
         ensures { result ≡ not (is_none self.now.mail) }
     {
         !self.mail.is_empty()
+    }
+
+    /// Whether a letter is held.
+    pub fn is_holding(&self) -> bool
+        ensures { result ≡ is_some self.now.held }
+    {
+        self.held.is_some()
     }
 
     /// The parcel that is first in the mail goes; none exactly where the mail is empty.

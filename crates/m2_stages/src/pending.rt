@@ -1,19 +1,21 @@
 //! Sockets of peers that no record took, in the order of acceptance.
 
-ghost use Rattle.std.specs.Prelude.{◌≡◌, ◌<◌, ◌≤◌, [], ◌∷◌, ◌++◌, length, map, IfOk, MatchOption, OnErr, OnOk};
-ghost use Rattle.std.specs.List.{list_any};
+ghost use Rattle.std.specs.Prelude.{◌≡◌, ◌<◌, ◌≤◌, [], ◌∷◌, ◌++◌, length, map, IfOk, IfSome, MatchOption, OnErr, OnOk};
+ghost use Rattle.std.specs.List.{All, AllByRecursion, list_any};
 ghost use Rattle.std.specs.Option.{option_map};
 ghost use Rattle.slab.specs.Slab.{ContainsKey, get};
 ghost use Rattle.m2_fabric.specs.End.{SeenEnd};
 ghost use Rattle.m2_fabric.specs.Log.{log_of};
 ghost use Rattle.m2_record.specs.Sources.{end_at};
-ghost use Rattle.m2_stages.specs.Hearing.{first_told, is_on, pending_told};
+ghost use Rattle.m2_stages.specs.Busy.{is_busy};
+ghost use Rattle.m2_stages.specs.Halves.{IsWholeHere};
+ghost use Rattle.m2_stages.specs.Hearing.{IsHalfInMemory, first_told, is_on, pending_told};
 ghost use Rattle.m2_stages.specs.Pending.{IsToldAt, first_key, is_found};
 ghost use Rattle.m2_stages.specs.Sessions.{PendingNow};
 
 use m2_addr::Addr;
 use m2_bytes::NoMemory;
-use m2_fabric::{End, EndLog, News, SocketId};
+use m2_fabric::{End, EndLog, MemoryEnd, News, SocketId};
 use m2_trail::Incoming;
 use slab::Slab;
 use std::alloc::Global;
@@ -42,8 +44,9 @@ impl<E: End> Model for Pending<E> {
 /// it goes; the order of their places stands beside it.
 ///
 /// Maker: [`new`](Pendings::new), which makes the room of all. Looks: [`len`](Pendings::len),
-/// [`has`](Pendings::has), [`log`](Pendings::log). In: [`push`](Pendings::push). Out:
-/// [`pop`](Pendings::pop). [`hear`](Pendings::hear) is for the driver of ends in memory.
+/// [`any_busy`](Pendings::any_busy), [`has`](Pendings::has), [`log`](Pendings::log); what each half keeps says
+/// [`are_whole`](Pendings::are_whole). In: [`push`](Pendings::push). Out: [`pop`](Pendings::pop).
+/// [`hear`](Pendings::hear) is for the driver of ends in memory.
 #[derive(Drop)]
 pub struct Pendings<E: End> {
     slots: Slab<Pending<E>>,
@@ -102,6 +105,21 @@ impl<E: End> Pendings<E> {
 }
 
 impl<E: End> Pendings<E> {
+    /// Whether one of the halves has something to do, or may have: it has something in hand, or its end may
+    /// have something to be read.
+    pub fn any_busy(&self) -> bool
+        ensures { result ≡ list_any is_busy self.now }
+    {
+        first_busy(&self.slots, &self.order).is_some()
+    }
+
+    /// That the trail of each half tells all that its end did, for contracts alone.
+    pub fn are_whole(&self)
+        ensures { AllByRecursion IsWholeHere self.now }
+    {
+        each_is_whole(&self.slots, &self.order);
+    }
+
     /// Whether there is a half on that socket.
     pub fn has(&self, id: &SocketId) -> bool
         ensures { result ≡ list_any (is_on id.now) self.now }
@@ -129,6 +147,84 @@ impl<E: End> Pendings<E> {
             None => Ok(()),
         }
     }
+}
+
+impl<E: MemoryEnd> Pendings<E> {
+    /// That the end of each half is in memory, for contracts alone.
+    pub fn are_in_memory(&self)
+        ensures { AllByRecursion IsHalfInMemory self.now }
+    {
+        each_in_memory(&self.slots, &self.order);
+    }
+}
+
+/// That the end of the half at each place is in memory, for contracts alone.
+fn each_in_memory<E: MemoryEnd>(slots: &Slab<Pending<E>>, order: &VecDeque<usize>)
+    ensures { All (λ key. IfSome (get slots.now key) IsHalfInMemory) order.now.items }
+{
+    'places: for place in 0..order.len() {
+        let key = order[place];
+        in_memory_at(slots, key);
+    }
+}
+
+/// That the end of the half at a place is in memory, for contracts alone.
+fn in_memory_at<E: MemoryEnd>(slots: &Slab<Pending<E>>, key: usize)
+    ensures { IfSome (get slots.now key) IsHalfInMemory }
+{
+    if let Some(pending) = slots.get(key) {
+        pending.half.end().is_in_memory();
+    }
+}
+
+/// That the trail of the half at each place is whole, for contracts alone.
+fn each_is_whole<E: End>(slots: &Slab<Pending<E>>, order: &VecDeque<usize>)
+    ensures { All (λ key. IfSome (get slots.now key) IsWholeHere) order.now.items }
+{
+    'places: for place in 0..order.len() {
+        let key = order[place];
+        is_whole_at(slots, key);
+    }
+}
+
+/// That the trail of the half at a place is whole, for contracts alone.
+fn is_whole_at<E: End>(slots: &Slab<Pending<E>>, key: usize)
+    ensures { IfSome (get slots.now key) IsWholeHere }
+{
+    if let Some(pending) = slots.get(key) {
+        pending.half.is_whole();
+    }
+}
+
+/// The place of the first half that is busy.
+fn first_busy<E: End>(slots: &Slab<Pending<E>>, order: &VecDeque<usize>) -> Option<usize>
+    ensures { result ≡ first_key is_busy slots.now order.now.items }
+{
+    'places: for place in 0..order.len() {
+        let key = order[place];
+        if is_busy_at(slots, key) {
+            return Some(key);
+        }
+    }
+    None
+}
+
+/// Whether the half at a place is busy.
+fn is_busy_at<E: End>(slots: &Slab<Pending<E>>, key: usize) -> bool
+    ensures { result ≡ is_found is_busy (get slots.now key) }
+{
+    match slots.get(key) {
+        Some(pending) => is_busy(pending),
+        None => false,
+    }
+}
+
+/// Whether a half has something in hand, or may have something to be read.
+fn is_busy<E: End>(pending: &Pending<E>) -> bool
+    ensures { result ≡ is_busy pending.now }
+{
+    let half = &pending.half;
+    half.has_text() || half.ask().is_some() || !half.rests() || !half.end().log().dry
 }
 
 /// The place of the first half on that socket.

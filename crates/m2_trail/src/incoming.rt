@@ -41,7 +41,7 @@ pub const MOST_READ: usize = 65_536;
 ///
 /// Makers: [`new`](Incoming::new), [`begin`](Incoming::begin). Readers: [`id`](Incoming::id), [`end`](Incoming::end),
 /// [`trail`](Incoming::trail), [`ask`](Incoming::ask), [`has_text`](Incoming::has_text),
-/// [`rests`](Incoming::rests). Calls: [`read`](Incoming::read) and [`write`](Incoming::write) move bytes,
+/// [`rests`](Incoming::rests); [`is_whole`](Incoming::is_whole) says what is kept. Calls: [`read`](Incoming::read) and [`write`](Incoming::write) move bytes,
 /// [`step`](Incoming::step) is one answer of the half. Ends: [`Arrival::of`](crate::Arrival::of) where it was asked,
 /// [`close`](Incoming::close), [`leave`](Incoming::leave).
 ///
@@ -273,6 +273,15 @@ impl<E: End> Incoming<E> {
             AskStep::Fault(fault) => IncomingStep::Fault(fault),
             AskStep::NoMemory => IncomingStep::NoMemory,
         }
+    }
+
+    /// What a socket of the peer is, for contracts alone: its end is open, and its trail is of that socket and tells
+    /// all that the end did, with the two facts of a trail.
+    pub fn is_whole(&self)
+        ensures unclosed { self.now.end.log.closed ≡ false }
+        ensures whole { IsWholeTrail self.now.trail self.now.end }
+    {
+        let _ = &self.end;
     }
 
     /// What is known of a socket that was asked, for contracts alone.

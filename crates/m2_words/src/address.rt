@@ -1,6 +1,7 @@
 //! A node's address as it is written, IP:PORT/NONCE.
 
 ghost use Rattle.std.specs.Prelude.{◌≡◌, ◌≤◌, Ok, Err, MatchResult, IfOk};
+ghost use Rattle.m2_addr.specs.declared.addr.TheConstants.Addr.{MSGR2};
 ghost use Rattle.m2_words.specs.Address.{parts, octet_of, ip_of, address_of};
 
 use crate::kind::Kind;
@@ -37,7 +38,8 @@ fn ip(word: &[u8]) -> Result<u32, Kind>
 /// The address of msgr2 that a word spells; a word that spells none is of kind `Address`.
 #[tactic(auto, unfolding(crate::specs::Address::address_of))]
 pub fn read_address(word: &[u8]) -> Result<Addr, Kind>
-    ensures { result ≡ address_of word.now }
+    ensures value { result ≡ address_of word.now }
+    ensures kind { IfOk result (λ at. at.kind ≡ MSGR2) }
 {
     let (socket, nonce) = parts(word, b'/')?;
     let (host, port) = parts(socket, b':')?;
@@ -45,7 +47,7 @@ pub fn read_address(word: &[u8]) -> Result<Addr, Kind>
     let port = read_number(Kind::Address, 1, 65535, port)? as u16;
     let nonce = read_number(Kind::Address, 0, 4294967295, nonce)? as u32;
     Ok(Addr {
-        kind: 2,
+        kind: Addr::MSGR2,
         nonce,
         ip,
         port,

@@ -8,4 +8,5 @@ abbrev pub invariant-options : goal.invariant-options
 invariant-options l = record {
   set : set_options (drop l.option-index l.given) l.node ≡ set_options l.fn.given l.fn.node;
   centers : HasCenters l.node;
+  at : l.node.at ≡ l.fn.node.at;
 }

@@ -1,0 +1,4 @@
+pub mod Apart
+pub mod CutsMore
+pub mod Over
+pub mod SoFar

@@ -1,0 +1,10 @@
+mod Lists
+mod Taken
+mod Further
+mod Planned
+mod Outboxes
+mod RecordTurns
+mod CenterTurns
+mod Nodes
+mod Plans
+mod Deeds

@@ -1,0 +1,14 @@
+pub mod Turns
+pub mod Ways
+pub mod Sides
+pub mod Plans
+pub mod Prefixes
+pub mod Marks
+pub mod Before
+pub mod Hears
+pub mod Ends
+pub mod Towards
+pub mod Joined
+pub mod Promised
+pub mod Calls
+pub mod Noted
