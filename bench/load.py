@@ -8,9 +8,8 @@ RUNS = 7
 
 
 def scenario(posts, seed):
-    """The generated scenario as a file has it (docs/SCENARIOS.md, "Generated load"), but for the option `throttle`, which
-    a file can't have in `sim` yet."""
-    lines = [f"node n{k} osd 127.0.0.1:{7000 + k}/{k + 1} fast 1" for k in range(4)]
+    """The generated scenario as a file has it (docs/SCENARIOS.md, "Generated load")."""
+    lines = [f"node n{k} osd 127.0.0.1:{7000 + k}/{k + 1} fast 1 throttle 65536" for k in range(4)]
     lines += [f"link n{a} n{b} lossless_peer lossless_peer" for a in range(4) for b in range(a + 1, 4)]
     state, faults = seed, 0
 

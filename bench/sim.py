@@ -18,7 +18,7 @@ def scenario(posts):
         lines.append(f"post {pair} 1 127 {i:064x} - -")
         if i % every == every // 2:
             lines += ["turn a", "fault a b", "turn b"]
-    lines += ["settle 16", ""]
+    lines += ["settle 64", ""]
     return "\n".join(lines)
 
 

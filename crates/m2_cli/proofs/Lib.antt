@@ -1,4 +1,5 @@
 pub mod Listings
+pub mod LoadLinks
 pub mod Loads
 pub mod Memory
 pub mod Orders

@@ -1,40 +1,39 @@
--- What a load leaves, by what its work came to, and that what it prints keeps the order of the posts, since the model
--- does.
+-- What a load leaves, by what its work came to, and that what it prints keeps the order of the posts, since a run keeps its promise.
 use Rattle.std.proofs.Common.{◌≡◌, ◌∙◌, ℕ, ◌==◌, Bool, true, false, cond, List, refl, sym, subst, inl, inr}
 use Rattle.std.specs.Prelude.{count_by}
 use Rattle.std.proofs.lemmas.Bool.{eqb-true}
 use Rattle.m2_edge.specs.Sink.{TakesBytes, TakesPrefix}
+use Rattle.m2_order.specs.Laws.{CallsAndLeftArePosts}
 use Rattle.m2_scenario.specs.Draft.{is_post}
 use Rattle.m2_generate.specs.Generated.{generated}
-use Rattle.m2_sim.specs.Model.{left}
 use Rattle.m2_cli.specs.declared.printout.Printout.{Printout}
 use Rattle.m2_cli.specs.declared.status.Status.{Status}
 use Rattle.m2_cli.specs.declared.status.Status.TheVariants as status
 use Rattle.m2_cli.specs.Edge.{Edge, IsCause}
-use Rattle.m2_cli.specs.Load.{load_net, load_status, load_text, IsSoundLoad, RunsLoad, CountsPrefixes, CountsAll, KeepsLoad}
+use Rattle.m2_cli.specs.Load.{CountsPrefixes, KeepsLoad, LoadComesTo, RunsLoad, load_left}
 use Rattle.m2_cli.specs.Print.{Delivers, PrintsReport, SaysStatus, unsaid}
-use Rattle.m2_cli.specs.Printout.{IsPrintout}
-use Rattle.m2_cli.proofs.Orders.{Laws}
+use Rattle.m2_cli.specs.Printout.{IsPrintoutBy}
+use Rattle.m2_cli.proofs.LoadLinks.{load_is_up}
+use Rattle.m2_cli.proofs.Orders.{heard_all, keeps_sessions}
 use Rattle.m2_cli.proofs.Says.{prefix_whole}
 
 -- all was written, by the count of what is left
-left_runs : (b : Bool) (n posts seed : ℕ) (before after : Edge) → after.source ≡ before.source → Delivers (load_text posts seed) before.out after.out
-    → load_status posts seed ≡ cond b status.Done (status.Left n) → RunsLoad posts seed (cond b status.Done (status.Left n)) before after
-left_runs true n posts seed before after u d e = record { unread = u; status = e; printed = d }
-left_runs false n posts seed before after u d e = record { unread = u; status = e; printed = d }
+left_runs : (b : Bool) (n posts seed : ℕ) (text : List ℕ) (before after : Edge) → after.source ≡ before.source → Delivers text before.out after.out
+    → LoadComesTo posts seed (cond b status.Done (status.Left n)) text → RunsLoad posts seed (cond b status.Done (status.Left n)) before after
+left_runs true n posts seed text before after u d c = record { unread = u; text = text; comes = c; printed = d }
+left_runs false n posts seed text before after u d c = record { unread = u; text = text; comes = c; printed = d }
 
 -- what runs, however printing went
-pub load_printed : (p : Printout) (work : Status) (posts seed : ℕ) (before after : Edge) → IsPrintout p (load_status posts seed) (load_text posts seed)
+pub load_printed : (p : Printout) (work : Status) (posts seed : ℕ) (before after : Edge) → IsPrintoutBy (LoadComesTo posts seed) p
     → after.source ≡ before.source → PrintsReport p work before.out after.out → RunsLoad posts seed work before after
 load_printed p work posts seed before after o unread (inl (same, d)) =
-    let n = left (load_net posts seed) in
+    let n = load_left posts seed o.comes.last in
     let P : Status → Type 0 = λ x. RunsLoad posts seed x before after in
-    let Q : List ℕ → Type 0 = λ t. Delivers t before.out after.out in
-    subst P (sym (same ∙ o.status)) (left_runs (n == 0) n posts seed before after unread (subst Q o.report d) refl)
+    let Q : Status → Type 0 = λ x. LoadComesTo posts seed x p.report.bytes in
+    subst P (sym (same ∙ o.comes.counted)) (left_runs (n == 0) n posts seed p.report.bytes before after unread d (subst Q o.comes.counted o.comes))
 load_printed p work posts seed before after o unread (inr (same, failed, some)) =
     let P : Status → Type 0 = λ x. RunsLoad posts seed x before after in
-    let Q : List ℕ → Type 0 = λ t. TakesPrefix t before.out after.out in
-    subst P (sym same) (record { unread = unread; failed = failed; printed = subst Q o.report some })
+    subst P (sym same) (record { unread = unread; failed = failed; status = p.status; text = p.report.bytes; comes = o.comes; printed = some })
 
 -- its cause
 pub load_caused : (work : Status) (posts seed : ℕ) (before after : Edge) → RunsLoad posts seed work before after → IsCause work before after
@@ -53,38 +52,41 @@ load_caused (status.BadFrames place fault) posts seed before after h = tt
 abbrev pub HasAsked : Type 0
 HasAsked = (n seed : ℕ) → count_by is_post (generated n seed).lines ≡ n
 
-counts : Laws → HasAsked → (posts seed : ℕ) → IsSoundLoad posts seed
-    → CountsPrefixes posts seed (load_net posts seed).heard (left (load_net posts seed)) (load_text posts seed)
-counts laws asked posts seed sound =
-    let d = generated posts seed in
+-- the laws on which it stands
+pub record Laws : Type 0 where
+  pub together : CallsAndLeftArePosts
+  pub asked : HasAsked
+
+counts : Laws → (posts seed count : ℕ) (work : Status) (text : List ℕ) (c : LoadComesTo posts seed work text) → load_left posts seed c.last ≡ count
+    → CountsPrefixes posts seed c.last count text
+counts laws posts seed count work text c left =
+    let sessions = keeps_sessions laws.together (generated posts seed) c.last count c.run left in
     record {
-      lines = refl;
-      counted = laws.counted d.nodes d.links d.lines sound ∙ asked posts seed;
-      peers = laws.peers d.nodes d.links d.lines sound;
-      prefixes = laws.prefixes d.nodes d.links d.lines sound;
+      sessions = sessions;
+      lines = c.lines ∙ rw left refl;
+      together = λ none. sessions.together (load_is_up posts seed c.last sessions.marked none) ∙ laws.asked posts seed;
     }
 
-counts_all : Laws → HasAsked → (posts seed : ℕ) → IsSoundLoad posts seed → left (load_net posts seed) ≡ 0
-    → CountsAll posts seed (load_net posts seed).heard (load_text posts seed)
-counts_all laws asked posts seed sound none =
-    let d = generated posts seed in
-    let P : ℕ → Type 0 = λ n. CountsPrefixes posts seed (load_net posts seed).heard n (load_text posts seed) in
-    record { counts = subst P none (counts laws asked posts seed sound); all = laws.all d.nodes d.links d.lines sound none }
-
 -- a load keeps the order, where its lines were written whole
-load_order : Laws → HasAsked → (posts seed : ℕ) (before after : Edge) → IsSoundLoad posts seed → TakesBytes (load_text posts seed) before.out after.out
-    → KeepsLoad posts seed (load_status posts seed) before after
-load_order laws asked posts seed before after sound h = by_count (left (load_net posts seed) == 0) refl
+load_order : Laws → (posts seed : ℕ) (work : Status) (text : List ℕ) (before after : Edge) → LoadComesTo posts seed work text
+    → TakesBytes text before.out after.out → KeepsLoad posts seed work before after
+load_order laws posts seed work text before after c h =
+    let P : Status → Type 0 = λ x. KeepsLoad posts seed x before after in subst P (sym c.counted) (by_count (n == 0) refl)
   where
-    by_count : (b : Bool) → (left (load_net posts seed) == 0) ≡ b → KeepsLoad posts seed (cond b status.Done (status.Left (left (load_net posts seed)))) before after
-    by_count true none = (load_text posts seed, (load_net posts seed).heard, counts_all laws asked posts seed sound (eqb-true _ 0 none), h)
-    by_count false some = (load_text posts seed, (load_net posts seed).heard, counts laws asked posts seed sound, h)
+    n : ℕ
+    n = load_left posts seed c.last
+
+    by_count : (b : Bool) → (n == 0) ≡ b → KeepsLoad posts seed (cond b status.Done (status.Left n)) before after
+    by_count true none =
+        let left : n ≡ 0 = eqb-true n 0 none in
+        (text, c.last, record { counts = counts laws posts seed 0 work text c left; all = heard_all (generated posts seed) c.last c.run left }, h)
+    by_count false some = (text, c.last, counts laws posts seed n work text c refl, h)
 
 -- and where a prefix of them was written
-load_prefix : Laws → HasAsked → (posts seed : ℕ) (before after : Edge) → IsSoundLoad posts seed → TakesPrefix (load_text posts seed) before.out after.out
-    → KeepsLoad posts seed status.WriteFault before after
-load_prefix laws asked posts seed before after sound h =
-    inr (load_text posts seed, (load_net posts seed).heard, left (load_net posts seed), counts laws asked posts seed sound, h)
+load_prefix : Laws → (posts seed : ℕ) (work : Status) (text : List ℕ) (before after : Edge) → LoadComesTo posts seed work text
+    → TakesPrefix text before.out after.out → KeepsLoad posts seed status.WriteFault before after
+load_prefix laws posts seed work text before after c h =
+    let n = load_left posts seed c.last in inr (text, c.last, n, counts laws posts seed n work text c refl, h)
 
 -- what is answered where standard error refused a line is a write fault, or want of memory
 refused : (work : Status) (posts seed : ℕ) (before after : Edge) → KeepsLoad posts seed status.WriteFault before after → KeepsLoad posts seed (unsaid work) before after
@@ -104,20 +106,15 @@ order_said work answered posts seed before after h fault (inr s) =
     let P : Status → Type 0 = λ x. KeepsLoad posts seed x before after in subst P (sym s.answer) (refused work posts seed before after fault)
 
 -- a printout that was printed, and what was answered
-pub load_order_printed : Laws → HasAsked → (p : Printout) (posts seed : ℕ) (answered : Status) (before after : Edge)
-    → IsPrintout p (load_status posts seed) (load_text posts seed) → IsSoundLoad posts seed
+pub load_order_printed : Laws → (p : Printout) (posts seed : ℕ) (answered : Status) (before after : Edge) → IsPrintoutBy (LoadComesTo posts seed) p
     → (work : Status) × PrintsReport p work before.out after.out × SaysStatus work answered before.err after.err → KeepsLoad posts seed answered before after
-load_order_printed laws asked p posts seed answered before after o sound (work, inl (same, d), said) =
+load_order_printed laws p posts seed answered before after o (work, inl (same, d), said) =
     let P : Status → Type 0 = λ x. KeepsLoad posts seed x before after in
-    let Q : List ℕ → Type 0 = λ t. TakesBytes t before.out after.out in
-    let all : TakesBytes (load_text posts seed) before.out after.out = subst Q o.report d.taken in
+    let text = p.report.bytes in
     order_said work answered posts seed before after
-    (subst P (sym (same ∙ o.status)) (load_order laws asked posts seed before after sound all))
-    (load_prefix laws asked posts seed before after sound (prefix_whole (load_text posts seed) before.out after.out all)) said
-load_order_printed laws asked p posts seed answered before after o sound (work, inr (same, failed, some), said) =
+    (subst P (sym same) (load_order laws posts seed p.status text before after o.comes d.taken))
+    (load_prefix laws posts seed p.status text before after o.comes (prefix_whole text before.out after.out d.taken)) said
+load_order_printed laws p posts seed answered before after o (work, inr (same, failed, some), said) =
     let P : Status → Type 0 = λ x. KeepsLoad posts seed x before after in
-    let Q : List ℕ → Type 0 = λ t. TakesPrefix t before.out after.out in
-    let part : KeepsLoad posts seed status.WriteFault before after =
-    load_prefix laws asked posts seed before after sound (subst Q o.report some)
-    in
+    let part : KeepsLoad posts seed status.WriteFault before after = load_prefix laws posts seed p.status p.report.bytes before after o.comes some in
     order_said work answered posts seed before after (subst P (sym same) part) part said

@@ -6,9 +6,9 @@ use Rattle.m2_cli.specs.declared.status.Status.TheVariants as status
 use Rattle.m2_cli.specs.Edge.{Edge}
 use Rattle.m2_cli.specs.Print.{Delivers, SaysStatus, unsaid}
 use Rattle.m2_cli.specs.Program.{PrintsTheReport, PrintsTheLoad, PrintsWhereDone}
-use Rattle.m2_cli.specs.Load.{load_text, IsLoadRun, RunsLoad}
+use Rattle.m2_cli.specs.Load.{IsLoadRun, LoadComesTo, RunsLoad}
 use Rattle.m2_cli.specs.Top.{Ends, IsRunToEnd, RunsFile}
-use Rattle.m2_cli.specs.Verdict.{report_in}
+use Rattle.m2_cli.specs.Verdict.{ComesTo}
 use Rattle.m2_command.specs.Form.{Form, sim_of, frames_of, load_of}
 
 -- all that was taken is flushed, where nothing lay in the sink before
@@ -26,22 +26,27 @@ never_done (status.Left count) e = absurd cc
 never_done status.NoMemory e = absurd cc
 never_done (status.BadFrames place fault) e = absurd cc
 
+-- what was taken is the text, where nothing was taken before
+taken_whole : (text : List ℕ) (old new : SeenSink) → Delivers text old new → old.taken ≡ [] → new.taken ≡ text
+taken_whole text old new d taken = d.taken ∙ ap (λ (t : List ℕ). t ++ text) taken
+
 prints_report : (file : List ℕ) (before after : Edge) → IsRunToEnd file status.Done before after → before.out.taken ≡ [] → before.out.flushed ≡ []
     → PrintsTheReport after.source after.out
-prints_report file before after run taken flushed = record {
-  whole = run.read.whole;
-  done = run.status;
-  printed = run.printed.taken ∙ ap (λ (t : List ℕ). t ++ report_in after.source.given) taken;
-  flushed = flushed_whole (report_in after.source.given) before.out after.out run.printed taken flushed;
-}
+prints_report file before after run taken flushed =
+    let all : after.out.taken ≡ run.text = taken_whole run.text before.out after.out run.printed taken in
+    let P : List ℕ → Type 0 = λ t. ComesTo after.source.given status.Done t in
+    record {
+      whole = run.read.whole;
+      comes = subst P (sym all) run.comes;
+      flushed = flushed_whole run.text before.out after.out run.printed taken flushed ∙ sym all;
+    }
 
 prints_load : (posts seed : ℕ) (before after : Edge) → IsLoadRun posts seed status.Done before after → before.out.taken ≡ [] → before.out.flushed ≡ []
     → PrintsTheLoad posts seed after.out
-prints_load posts seed before after run taken flushed = record {
-  done = run.status;
-  printed = run.printed.taken ∙ ap (λ (t : List ℕ). t ++ load_text posts seed) taken;
-  flushed = flushed_whole (load_text posts seed) before.out after.out run.printed taken flushed;
-}
+prints_load posts seed before after run taken flushed =
+    let all : after.out.taken ≡ run.text = taken_whole run.text before.out after.out run.printed taken in
+    let P : List ℕ → Type 0 = λ t. LoadComesTo posts seed status.Done t in
+    record { comes = subst P (sym all) run.comes; flushed = flushed_whole run.text before.out after.out run.printed taken flushed ∙ sym all }
 
 -- where Done is answered, the work came to it
 said_done : (Leaves : Status → Type 0) (work answered : Status) (before after : Edge) → SaysStatus work answered before.err after.err → Leaves work

@@ -1,7 +1,6 @@
 pub mod Edge
 pub mod Frames
 pub mod Order
-pub mod Outside
 pub mod Print
 pub mod Printout
 pub mod Program

@@ -1,52 +1,68 @@
--- What `load N SEED` comes to: a status and three lines. Both are functions of the two numbers, by the value model of
--- links.
-use Rattle.std.specs.Prelude.{◌≡◌, ◌⊎◌, ℕ, ◌+◌, List, [], ◌∷◌, ◌++◌, codes, length, map, sum_by}
+-- What `load N SEED` comes to: a status and three lines, by a run of the generated scenario.
+use Rattle.std.specs.Prelude.{◌≡◌, ◌⊎◌, ℕ, ◌+◌, false, List, [], ◌∷◌, ◌++◌, codes, length, sum_by}
 use Rattle.std.specs.Fmt.{decimal}
-use Rattle.m2_dispatch.specs.Heard.{Heard}
+use Rattle.std.specs.List.{AllByRecursion}
+use Rattle.m2_dispatch.specs.declared.logged.Logged.{Logged}
+use Rattle.m2_dispatch.specs.Heard.{heard_by}
 use Rattle.m2_edge.specs.Sink.{TakesBytes, TakesPrefix}
-use Rattle.m2_scenario.specs.Valid.{IsSound}
 use Rattle.m2_generate.specs.Generated.{generated}
-use Rattle.m2_order.specs.Order.{fast_of, HearsPrefixes, HearsAll, HearsPeers}
-use Rattle.m2_sim.specs.Model.{Net, left}
+use Rattle.m2_sim.specs.Run.{gave_up_at}
+use Rattle.m2_scenario.specs.declared.link.Link.{Link}
+use Rattle.m2_script.specs.Outcome.{all_heard, left_in}
+use Rattle.m2_script.specs.Script.{RunNow}
+use Rattle.m2_cli.specs.declared.load.LoadCounts.{LoadCounts}
 use Rattle.m2_cli.specs.declared.status.Status.{Status}
 use Rattle.m2_cli.specs.declared.status.Status.TheVariants.{Done, Usage, BadScenario, ReadFault, WriteFault, Left, NoMemory, BadFrames}
 use Rattle.m2_cli.specs.Edge.{Edge, OutFailed}
+use Rattle.m2_cli.specs.Order.{HeardAll, KeepsSessions}
 use Rattle.m2_cli.specs.Print.{Delivers}
-use Rattle.m2_cli.specs.Verdict.{net_for, status_by_count}
+use Rattle.m2_cli.specs.Verdict.{IsRunOf, status_by_count}
 
 -- how many messages were posted, dispatched and left
 abbrev pub load_lines : ℕ → ℕ → ℕ → List ℕ
 load_lines posted dispatched left =
     codes "posted " ++ decimal posted ++ 10 ∷ codes "dispatched " ++ decimal dispatched ++ 10 ∷ codes "left " ++ decimal left ++ 10 ∷ []
 
--- what the generated lines lead to
-abbrev pub load_net : ℕ → ℕ → Net
-load_net posts seed = net_for (generated posts seed)
+-- how many calls the dispatchers of all nodes together had
+abbrev pub dispatched_in : RunNow (List Logged) → ℕ
+dispatched_in last = sum_by length (all_heard heard_by last)
 
-abbrev pub load_status : ℕ → ℕ → Status
-load_status posts seed = status_by_count (left (load_net posts seed))
+-- how many posts of the generated scenario are left
+abbrev pub load_left : (posts seed : ℕ) → RunNow (List Logged) → ℕ
+load_left posts seed last = left_in heard_by (generated posts seed).links last
 
--- dispatched is what dispatchers were called with, of all nodes together
-abbrev pub load_text : ℕ → ℕ → List ℕ
-load_text posts seed = load_lines posts (sum_by length (load_net posts seed).heard) (left (load_net posts seed))
+-- The status goes by how many posts are left where a run of the generated scenario leads, and the three lines tell how many were posted,
+-- dispatched and left.
+pub record LoadComesTo (posts seed : ℕ) (status : Status) (text : List ℕ) : Type 0 where
+  pub last : RunNow (List Logged)
+  pub run : IsRunOf (generated posts seed) last
+  pub counted : status ≡ status_by_count (load_left posts seed last)
+  pub lines : text ≡ load_lines posts (dispatched_in last) (load_left posts seed last)
 
--- the generated scenario is a valid one
-abbrev pub IsSoundLoad : ℕ → ℕ → Type 0
-IsSoundLoad posts seed = IsSound (generated posts seed).nodes (generated posts seed).links (generated posts seed).lines
+-- the two numbers that a run of the generated scenario leads to
+pub record IsCounted (posts seed : ℕ) (c : LoadCounts) : Type 0 where
+  pub last : RunNow (List Logged)
+  pub run : IsRunOf (generated posts seed) last
+  pub dispatched : c.dispatched ≡ dispatched_in last
+  pub left : c.left ≡ load_left posts seed last
 
 -- ---- what is left
 
--- nothing was read, this is what the load comes to, and standard output took exactly its three lines, flushed
+-- nothing was read, the load comes to this status and three lines, and standard output took exactly these, flushed
 pub record IsLoadRun (posts seed : ℕ) (work : Status) (before after : Edge) : Type 0 where
   pub unread : after.source ≡ before.source
-  pub status : load_status posts seed ≡ work
-  pub printed : Delivers (load_text posts seed) before.out after.out
+  pub text : List ℕ
+  pub comes : LoadComesTo posts seed work text
+  pub printed : Delivers text before.out after.out
 
--- nothing was read, standard output failed, and took a prefix of the three lines
+-- nothing was read, the load comes to a status and three lines, standard output failed, and took a prefix of these
 pub record IsLoadInPart (posts seed : ℕ) (before after : Edge) : Type 0 where
   pub unread : after.source ≡ before.source
   pub failed : OutFailed before after
-  pub printed : TakesPrefix (load_text posts seed) before.out after.out
+  pub status : Status
+  pub text : List ℕ
+  pub comes : LoadComesTo posts seed status text
+  pub printed : TakesPrefix text before.out after.out
 
 -- nothing was read or printed
 pub record IsUntouched (before after : Edge) : Type 0 where
@@ -68,30 +84,33 @@ RunsLoad posts seed (BadFrames place fault) before after = ⊥
 
 -- ---- the headline
 
--- The text is three lines, that so many messages were posted, so many of them dispatched, and so many are left. What
--- each node heard are messages of its peers alone, and from each peer, of each key, a prefix of what that peer posts
--- to it; these are together the dispatched ones.
-pub record CountsPrefixes (posts seed : ℕ) (heard : List (List Heard)) (count : ℕ) (text : List ℕ) : Type 0 where
-  pub lines : text ≡ load_lines posts (sum_by length heard) count
-  pub counted : sum_by length heard + count ≡ posts
-  pub peers : HearsPeers (length (generated posts seed).nodes) (generated posts seed).links heard
-  pub prefixes : HearsPrefixes (map fast_of (generated posts seed).nodes) (generated posts seed).lines heard
+-- no record gave its session up, since a number that it needed next was above the greatest
+abbrev pub NoneGaveUp : List Link → RunNow (List Logged) → Type 0
+NoneGaveUp links last = AllByRecursion (λ (l : Link). (gave_up_at last l.a l.b ≡ false) × (gave_up_at last l.b l.a ≡ false)) links
+
+-- A run of the generated scenario keeps the sessions, and so many posts are left. The text is three lines, that so many messages were
+-- posted, so many calls of dispatchers made, and so many posts are left. The second and the third are together the first, where no
+-- record gave its session up.
+pub record CountsPrefixes (posts seed : ℕ) (last : RunNow (List Logged)) (count : ℕ) (text : List ℕ) : Type 0 where
+  pub sessions : KeepsSessions (generated posts seed) last count
+  pub lines : text ≡ load_lines posts (dispatched_in last) count
+  pub together : NoneGaveUp (generated posts seed).links last → dispatched_in last + count ≡ posts
 
 -- the same, where all that is posted is dispatched
-pub record CountsAll (posts seed : ℕ) (heard : List (List Heard)) (text : List ℕ) : Type 0 where
-  pub counts : CountsPrefixes posts seed heard 0 text
-  pub all : HearsAll (map fast_of (generated posts seed).nodes) (generated posts seed).lines heard
+pub record CountsAll (posts seed : ℕ) (last : RunNow (List Logged)) (text : List ℕ) : Type 0 where
+  pub counts : CountsPrefixes posts seed last 0 text
+  pub all : HeardAll (generated posts seed) last
 
--- By what is answered. Done: all that is posted was dispatched. Left: all but so many. WriteFault: a prefix of such
--- lines was printed, or nothing.
+-- By what is answered. Done: all that is posted was dispatched, of links that are up. Left: all but so many. WriteFault: a prefix of
+-- such lines was printed, or nothing.
 abbrev pub KeepsLoad : ℕ → ℕ → Status → Edge → Edge → Type 0
 KeepsLoad posts seed Done before after =
-    (text : List ℕ) × (heard : List (List Heard)) × CountsAll posts seed heard text × TakesBytes text before.out after.out
+    (text : List ℕ) × (last : RunNow (List Logged)) × CountsAll posts seed last text × TakesBytes text before.out after.out
 KeepsLoad posts seed (Left count) before after =
-    (text : List ℕ) × (heard : List (List Heard)) × CountsPrefixes posts seed heard count text × TakesBytes text before.out after.out
+    (text : List ℕ) × (last : RunNow (List Logged)) × CountsPrefixes posts seed last count text × TakesBytes text before.out after.out
 KeepsLoad posts seed WriteFault before after =
     (after.out.taken ≡ before.out.taken)
-    ⊎ ((text : List ℕ) × (heard : List (List Heard)) × (count : ℕ) × CountsPrefixes posts seed heard count text × TakesPrefix text before.out after.out)
+    ⊎ ((text : List ℕ) × (last : RunNow (List Logged)) × (count : ℕ) × CountsPrefixes posts seed last count text × TakesPrefix text before.out after.out)
 KeepsLoad posts seed Usage before after = Unit {0}
 KeepsLoad posts seed (BadScenario line kind) before after = Unit {0}
 KeepsLoad posts seed ReadFault before after = Unit {0}

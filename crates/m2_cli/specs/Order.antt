@@ -1,44 +1,77 @@
--- The headline, said of the bytes that were given and of those that were printed, and of nothing between: of
--- each two nodes and each key (a priority with a dispatch path), what is printed as dispatched at the one from
--- the other is a prefix of what the file posts, in order, each once; where the work is done it is all of it.
--- Where some are left, the printed ones and the count are together the posts. Where a write failed, what was
--- printed is a prefix of such lines.
-use Rattle.std.specs.Prelude.{◌≡◌, ◌⊎◌, ℕ, false, List, length, map, Ok}
-use Rattle.m2_dispatch.specs.Heard.{Heard}
+-- The headline. For every scenario, cut, crossing of connects and schedule of turns, a lossless session that neither end marks down is
+-- never reset; in it, of each priority and dispatch path, what a node dispatches from its peer is a prefix of what that peer posted, in
+-- order, each message once; what a sender counts acknowledged was accepted; and Done means that every post of such a session was
+-- dispatched. In a lossy session, what a node dispatches is some of what its peer posted, in order, each once. It is said of the bytes
+-- that were given, of those that were printed, and of a run of the scenario that leads from the one to the other. Where some posts are
+-- left, the dispatched ones and the count are together the posts. Where a write failed, what was printed is a prefix of such a report.
+use Rattle.std.specs.Prelude.{◌≡◌, ◌⊎◌, ◌+◌, ℕ, false, List, length, map, sum_by, count_by, Ok}
+use Rattle.std.specs.List.{AllByRecursion}
+use Rattle.m2_dispatch.specs.declared.logged.Logged.{Logged}
+use Rattle.m2_dispatch.specs.Heard.{heard_by}
 use Rattle.m2_edge.specs.Sink.{TakesBytes, TakesPrefix}
-use Rattle.m2_scenario.specs.Draft.{Draft}
+use Rattle.m2_order.specs.Laws.{AreAll}
+use Rattle.m2_order.specs.Order.{AreCounted, AreOfJoined, HearsNoReset, HearsPrefix, HearsWhole, OverEach, fast_of}
+use Rattle.m2_sim.specs.Run.{HearsSome, IsAccountedOver, IsMarkedSo, is_lossy}
 use Rattle.m2_report.specs.Report.{report_of}
-use Rattle.m2_order.specs.Order.{fast_of, AreThePosts, HearsPrefixes, HearsAll, HearsPeers}
+use Rattle.m2_scenario.specs.declared.link.Link.{Link}
+use Rattle.m2_scenario.specs.Draft.{Draft, is_post}
+use Rattle.m2_script.specs.Outcome.{all_heard, is_up, left_in}
+use Rattle.m2_script.specs.Script.{RunNow}
 use Rattle.m2_cli.specs.declared.status.Status.{Status}
 use Rattle.m2_cli.specs.declared.status.Status.TheVariants.{Done, Usage, BadScenario, ReadFault, WriteFault, Left, NoMemory, BadFrames}
 use Rattle.m2_cli.specs.Edge.{Edge}
-use Rattle.m2_cli.specs.Verdict.{scenario_in}
+use Rattle.m2_cli.specs.Verdict.{IsRunOf, scenario_in}
 
--- the text tells for each node what it heard: messages of its peers alone, and from each peer, of each key, a
--- prefix of what that peer posts to it
-pub record PrintsPrefixes (d : Draft) (heard : List (List Heard)) (text : List ℕ) : Type 0 where
-  pub lines : text ≡ report_of false d.nodes heard
-  pub peers : HearsPeers (length d.nodes) d.links heard
-  pub prefixes : HearsPrefixes (map fast_of d.nodes) d.lines heard
+-- ---- a run
 
--- the text is the lines of all that was dispatched, which is all that the scenario posts
-pub record KeepsAll (given : List ℕ) (text : List ℕ) : Type 0 where
+-- either end of a link is marked down exactly where a line of the scenario does so, or where its record gave the session up, since a
+-- number that it needed next was above the greatest
+abbrev pub EndsAreMarkedSo : Draft → RunNow (List Logged) → Link → Type 0
+EndsAreMarkedSo d last l = IsMarkedSo d.lines last l.a l.b × IsMarkedSo d.lines last l.b l.a
+
+-- A run of the scenario leads to `last`. A link is up there where it is lossless and neither end was marked down.
+-- prefixes, no_reset: of each node and each other over a link that is up, of each key, what it heard from the other is a prefix of what
+-- the other's lines post to it, in order, each once; and it heard no reset by the other.
+-- accounts: both journals of each link have an order of all that was done on it. Of a link that is up nothing was reset in it, and what
+-- an entry counts as acknowledged had been accepted by then.
+-- marked: which ends were marked down is told by the scenario's lines, but for records that gave up.
+-- some: over a lossy link what is heard is some of the posts, in order, each once.
+-- counted, together: the messages that were heard over links that are up and the count are together the posts over them; where all
+-- links are up, all calls of dispatchers and the count are all posts.
+-- joined: no node heard anything of a node with which no link joins it.
+pub record KeepsSessions (d : Draft) (last : RunNow (List Logged)) (count : ℕ) : Type 0 where
+  pub run : IsRunOf d last
+  pub left : left_in heard_by d.links last ≡ count
+  pub prefixes : OverEach (is_up last) d.links (HearsPrefix (map fast_of d.nodes) d.lines (all_heard heard_by last))
+  pub no_reset : OverEach (is_up last) d.links (HearsNoReset (all_heard heard_by last))
+  pub accounts : AllByRecursion (IsAccountedOver last) d.links
+  pub marked : AllByRecursion (EndsAreMarkedSo d last) d.links
+  pub some : OverEach is_lossy d.links (HearsSome (map fast_of d.nodes) d.lines (all_heard heard_by last))
+  pub counted : AreCounted (is_up last) d.links d.lines (all_heard heard_by last) count
+  pub together : AreAll (is_up last) d.links → sum_by length (all_heard heard_by last) + count ≡ count_by is_post d.lines
+  pub joined : AreOfJoined (length d.nodes) d.links (all_heard heard_by last)
+
+-- of each node and each other over a link that is up: it heard all that the other posts to it, in order, each once
+abbrev pub HeardAll : Draft → RunNow (List Logged) → Type 0
+HeardAll d last = OverEach (is_up last) d.links (HearsWhole (map fast_of d.nodes) d.lines (all_heard heard_by last))
+
+-- ---- what is given and what is printed
+
+-- the text is the report of a run of the scenario that the bytes make, and so many posts are left
+pub record KeepsPrefixes (given text : List ℕ) (count : ℕ) : Type 0 where
   pub scenario : Draft
   pub read : scenario_in given ≡ Ok scenario
-  pub heard : List (List Heard)
-  pub prints : PrintsPrefixes scenario heard text
-  pub all : HearsAll (map fast_of scenario.nodes) scenario.lines heard
+  pub last : RunNow (List Logged)
+  pub sessions : KeepsSessions scenario last count
+  pub report : text ≡ report_of false scenario.nodes (all_heard heard_by last)
 
--- the text is the lines of all that was dispatched, and so many posts are left
-pub record KeepsPrefixes (given : List ℕ) (text : List ℕ) (count : ℕ) : Type 0 where
-  pub scenario : Draft
-  pub read : scenario_in given ≡ Ok scenario
-  pub heard : List (List Heard)
-  pub prints : PrintsPrefixes scenario heard text
-  pub counted : AreThePosts scenario.lines heard count
+-- no post is left, and all were dispatched
+pub record KeepsAll (given text : List ℕ) : Type 0 where
+  pub prefixes : KeepsPrefixes given text 0
+  pub all : HeardAll prefixes.scenario prefixes.last
 
--- By what is answered. Done: all that the file posts is printed. Left: all but so many. WriteFault: a prefix of such
--- lines, or nothing. The others are not about order: with them nothing is printed, as `RunsFile` says.
+-- By what is answered. Done: all that the file posts is printed, of links that are up. Left: all but so many. WriteFault: a prefix of
+-- such a report, or nothing. The others are not about order: with them nothing is printed, as `RunsFile` says.
 abbrev pub KeepsOrder : Status → Edge → Edge → Type 0
 KeepsOrder Done before after = (text : List ℕ) × KeepsAll after.source.given text × TakesBytes text before.out after.out
 KeepsOrder (Left count) before after =

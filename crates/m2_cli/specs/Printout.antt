@@ -6,9 +6,7 @@ use Rattle.m2_cli.specs.declared.printout.Printout.{Printout}
 use Rattle.m2_cli.specs.declared.status.Status.{Status}
 use Rattle.m2_cli.specs.Edge.{IsReadWhole, StandsSomewhere}
 use Rattle.m2_cli.specs.Status.{line_of}
-use Rattle.m2_cli.specs.Verdict.{status_in, report_in, scenario_in}
-use Rattle.m2_scenario.specs.Draft.{Draft}
-use Rattle.m2_scenario.specs.Valid.{IsSound}
+use Rattle.m2_cli.specs.Verdict.{ComesTo}
 
 -- a printout of this status and report, with the status's line
 pub record IsPrintout (p : Printout) (s : Status) (text : List ℕ) : Type 0 where
@@ -16,15 +14,15 @@ pub record IsPrintout (p : Printout) (s : Status) (text : List ℕ) : Type 0 whe
   pub report : p.report.bytes ≡ text
   pub line : p.line.bytes ≡ line_of p.status
 
--- what the bytes make, if they make a scenario, is a valid one
-abbrev pub IsSoundIn : List ℕ → Type 0
-IsSoundIn bytes = (d : Draft) → scenario_in bytes ≡ Ok d → IsSound d.nodes d.links d.lines
+-- a printout of a status and a report to which the work comes, with the status's line
+pub record IsPrintoutBy (Comes : Status → List ℕ → Type 0) (p : Printout) : Type 0 where
+  pub comes : Comes p.status p.report.bytes
+  pub line : p.line.bytes ≡ line_of p.status
 
 -- the printout of all that the source gave of a file
 pub record IsPrintoutOf (p : Printout) (file : List ℕ) (old new : SeenSource) : Type 0 where
   pub read : IsReadWhole file old new
-  pub printout : IsPrintout p (status_in new.given) (report_in new.given)
-  pub sound : IsSoundIn new.given
+  pub printout : IsPrintoutBy (ComesTo new.given) p
 
 -- The printout of a file. Err: the file was read in part, or not at all.
 abbrev pub PreparesFile : Result Printout ReadFault → List ℕ → SeenSource → SeenSource → Type 0

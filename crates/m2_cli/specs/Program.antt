@@ -6,23 +6,21 @@ use Rattle.m2_edge.specs.Whole.{IsReadUpTo}
 use Rattle.m2_cli.specs.declared.status.Status.{Status}
 use Rattle.m2_cli.specs.declared.status.Status.TheVariants.{Done}
 use Rattle.m2_cli.specs.Edge.{read_limit}
-use Rattle.m2_cli.specs.Verdict.{status_in, report_in}
+use Rattle.m2_cli.specs.Verdict.{ComesTo}
 use Rattle.m2_command.specs.Form.{Form, MatchForm}
-use Rattle.m2_cli.specs.Load.{load_status, load_text}
+use Rattle.m2_cli.specs.Load.{LoadComesTo}
 
--- the file was read whole and its scenario leaves nothing undelivered; standard output took exactly the report of
--- what the file gave, and flushed it
+-- The file was read whole, and what the source gave of it comes to Done: a run of its scenario leaves nothing undelivered. Standard
+-- output took exactly the report of that run, and flushed it.
 pub record PrintsTheReport (source : SeenSource) (out : SeenSink) : Type 0 where
   pub whole : IsReadUpTo read_limit source.given source
-  pub done : status_in source.given ≡ Done
-  pub printed : out.taken ≡ report_in source.given
-  pub flushed : out.flushed ≡ report_in source.given
+  pub comes : ComesTo source.given Done out.taken
+  pub flushed : out.flushed ≡ out.taken
 
--- the load leaves nothing undelivered; standard output took exactly its three lines, and flushed them
+-- The load comes to Done. Standard output took exactly its three lines, and flushed them.
 pub record PrintsTheLoad (posts seed : ℕ) (out : SeenSink) : Type 0 where
-  pub done : load_status posts seed ≡ Done
-  pub printed : out.taken ≡ load_text posts seed
-  pub flushed : out.flushed ≡ load_text posts seed
+  pub comes : LoadComesTo posts seed Done out.taken
+  pub flushed : out.flushed ≡ out.taken
 
 -- the program's promise: with Done, `sim FILE` printed exactly the report of what the file gave, and `load N SEED`
 -- its three lines

@@ -1,12 +1,12 @@
 //! `load N SEED`: generated load, and how much of it was dispatched.
 
-ghost use Rattle.std.specs.Prelude.{◌≡◌, ◌+◌, ◌-◌, ◌≤◌, IfOk, OnOk, length, sum_by};
+ghost use Rattle.std.specs.Prelude.{◌≡◌, ◌≤◌, IfOk, length, map, sum_by};
 ghost use Rattle.m2_edge.specs.Source.{SeenSource};
+ghost use Rattle.m2_report.specs.Report.{heard_in};
 ghost use Rattle.m2_scenario.specs.declared.limits.TheConstants.{MOST_POSTS};
-ghost use Rattle.m2_sim.specs.Model.{left};
 ghost use Rattle.m2_cli.specs.Edge.{edge};
-ghost use Rattle.m2_cli.specs.Load.{load_lines, load_net, load_status, load_text, IsSoundLoad, RunsLoad, KeepsLoad};
-ghost use Rattle.m2_cli.specs.Printout.{IsPrintout};
+ghost use Rattle.m2_cli.specs.Load.{load_lines, IsCounted, KeepsLoad, LoadComesTo, RunsLoad};
+ghost use Rattle.m2_cli.specs.Printout.{IsPrintout, IsPrintoutBy};
 ghost use Rattle.m2_cli.specs.Verdict.{status_by_count};
 ghost use Rattle.m2_cli.specs.Work.{Works};
 
@@ -16,11 +16,11 @@ use crate::status::Status;
 use m2_bytes::{Blob, NoMemory, put_decimal};
 use m2_edge::Sink;
 use m2_generate::{generate, posts_are_as_many_as_asked};
+use m2_order::calls_and_left_are_posts;
+use m2_outcome::Outcome;
+use m2_report::LogsList;
 use m2_scenario::Scenario;
-use m2_sim::{
-    each_key_keeps_its_order, each_post_is_heard_or_left, nothing_left_is_all_heard,
-    only_peers_are_heard, run,
-};
+use m2_sim::run;
 use std::alloc::Global;
 
 /// Runs generated load, and prints how many messages were posted, dispatched and left. It touches no source.
@@ -38,10 +38,7 @@ pub(crate) fn load<O: Sink, E: Sink>(
     ensures order { (source : SeenSource) → KeepsLoad posts seed result (edge source (O.seen out.old) (E.seen err.old))
         (edge source (O.seen out.new) (E.seen err.new)) }
 {
-    each_key_keeps_its_order();
-    each_post_is_heard_or_left();
-    nothing_left_is_all_heard();
-    only_peers_are_heard();
+    calls_and_left_are_posts();
     posts_are_as_many_as_asked();
     match prepare_load(alloc, posts, seed) {
         Ok(printout) => print(&printout, out, err),
@@ -53,41 +50,50 @@ pub(crate) fn load<O: Sink, E: Sink>(
 fn prepare_load(alloc: Global, posts: u32, seed: u64) -> Result<Printout, NoMemory>
     requires least { 1 ≤ posts }
     requires most { posts ≤ MOST_POSTS }
-    ensures printout { IfOk result (λ p. IsPrintout p (load_status posts seed) (load_text posts seed)) }
-    ensures sound { OnOk result (IsSoundLoad posts seed) }
+    ensures { IfOk result (IsPrintoutBy (LoadComesTo posts seed)) }
 {
-    let left = run_load(alloc, posts, seed)?;
-    prepare_lines(alloc, posts, left)
+    let counts = run_load(alloc, posts, seed)?;
+    let text = lines(alloc, u64::from(posts), counts.dispatched, counts.left)?;
+    with_line(alloc, status_by_count(counts.left), text)
 }
 
-/// Runs the load; how many posts are left.
-fn run_load(alloc: Global, posts: u32, seed: u64) -> Result<u64, NoMemory>
+/// What came of a load.
+#[derive(Debug, Drop)]
+struct LoadCounts {
+    dispatched: u64,
+    left: u64,
+}
+
+/// Runs the load; how many calls dispatchers had, and how many posts are left.
+fn run_load(alloc: Global, posts: u32, seed: u64) -> Result<LoadCounts, NoMemory>
     requires least { 1 ≤ posts }
     requires most { posts ≤ MOST_POSTS }
-    ensures left { IfOk result (λ l. l ≡ left (load_net posts seed)) }
-    ensures counted { IfOk result (λ l. sum_by length (load_net posts seed).heard + l ≡ posts) }
-    ensures sound { OnOk result (IsSoundLoad posts seed) }
+    ensures { IfOk result (IsCounted posts seed) }
 {
-    each_post_is_heard_or_left();
-    posts_are_as_many_as_asked();
     let Scenario {
         nodes,
         links,
         lines,
         limit: _,
     } = generate(alloc, posts, seed)?;
-    let outcome = run(alloc, &nodes, &links, lines)?;
-    Ok(outcome.left)
+    let Outcome { logs, left } = run(alloc, &nodes, &links, lines)?;
+    let dispatched = calls_in(&logs)?;
+    Ok(LoadCounts { dispatched, left })
 }
 
-/// The printout of a load of which so many posts are left.
-fn prepare_lines(alloc: Global, posts: u32, left: u64) -> Result<Printout, NoMemory>
-    requires { left ≤ posts }
-    ensures { IfOk result (λ p. IsPrintout p (status_by_count left) (load_lines posts (posts - left) left)) }
+/// How many calls these logs have together. Err where they are more than a `u64` counts, for which there
+/// is no memory.
+fn calls_in(logs: &LogsList) -> Result<u64, NoMemory>
+    ensures { IfOk result (λ n. n ≡ sum_by length (map heard_in logs.now.items)) }
 {
-    let posted = u64::from(posts);
-    let text = lines(alloc, posted, posted - left, left)?;
-    with_line(alloc, status_by_count(left), text)
+    let mut count: u64 = 0;
+    'logs: for log in logs.as_slice() {
+        count = match count.checked_add(log.len() as u64) {
+            Some(sum) => sum,
+            None => return Err(NoMemory),
+        };
+    }
+    Ok(count)
 }
 
 /// The three lines.

@@ -1,24 +1,22 @@
 //! What is to be printed, made before anything is written.
 
-ghost use Rattle.std.specs.Prelude.{◌≡◌, IfOk, OnOk, false, map, []};
+ghost use Rattle.std.specs.Prelude.{◌≡◌, IfOk, map, []};
 ghost use Rattle.m2_cli.specs.declared.status.Status.TheVariants as statuses;
-ghost use Rattle.m2_cli.specs.Verdict.{status_in, report_in, status_by_count};
-ghost use Rattle.m2_cli.specs.Printout.{IsPrintout, IsSoundIn, PreparesFile};
+ghost use Rattle.m2_cli.specs.Verdict.{ComesTo, RunComesTo, status_by_count};
+ghost use Rattle.m2_cli.specs.Printout.{IsPrintout, IsPrintoutBy, PreparesFile};
 ghost use Rattle.m2_edge.specs.Whole.{HasReadCause};
-ghost use Rattle.m2_scenario.specs.Draft.{draft_line};
 ghost use Rattle.m2_report.specs.Report.{report_of};
+ghost use Rattle.m2_scenario.specs.Draft.{Draft, IsMade};
 ghost use Rattle.m2_scenario.specs.Valid.{IsValid};
-ghost use Rattle.m2_sim.specs.Model.{left};
-ghost use Rattle.m2_sim.specs.Lines.{net_after};
 
-use crate::outside::{NOT_RUN, first_outside};
 use crate::status::{Status, line};
 use m2_bytes::{Blob, Items, NoMemory};
 use m2_edge::{ReadFault, Source, read_whole};
+use m2_outcome::Outcome;
 use m2_report::report;
 use m2_scenario::Scenario;
 use m2_scenario_text::{BadScenario, MOST_BYTES, read};
-use m2_sim::{Outcome, run};
+use m2_sim::run;
 use std::alloc::Global;
 
 /// How a scenario ends, its report, and the line that standard error is to get.
@@ -46,14 +44,10 @@ pub(crate) fn prepare_file<S: Source>(
 
 /// Runs the scenario that the bytes spell.
 fn prepare_bytes(alloc: Global, bytes: &[u8]) -> Result<Printout, NoMemory>
-    ensures printout { IfOk result (λ p. IsPrintout p (status_in bytes.now) (report_in bytes.now)) }
-    ensures sound { OnOk result (IsSoundIn bytes.now) }
+    ensures { IfOk result (IsPrintoutBy (ComesTo bytes.now)) }
 {
     match read(alloc, bytes, false) {
-        Ok(scenario) => match first_outside(bytes) {
-            Some(line) => refuse(alloc, line, NOT_RUN),
-            None => prepare_scenario(alloc, scenario),
-        },
+        Ok(scenario) => prepare_scenario(alloc, scenario),
         Err(BadScenario::BadLine { line, kind }) => refuse(alloc, line, kind.number()),
         Err(BadScenario::NoMemory) => Err(NoMemory),
     }
@@ -70,11 +64,10 @@ fn refuse(alloc: Global, line: u32, kind: u8) -> Result<Printout, NoMemory>
     )
 }
 
-/// Runs a scenario over links of its own.
+/// Runs a scenario over nodes and sockets of its own.
 fn prepare_scenario(alloc: Global, scenario: Scenario) -> Result<Printout, NoMemory>
     requires { IsValid scenario }
-    ensures { IfOk result (λ p. let n = net_after scenario.nodes.items scenario.links.items (map draft_line scenario.lines.items) in
-        IsPrintout p (status_by_count (left n)) (report_of false scenario.nodes.items n.heard)) }
+    ensures { IfOk result (λ p. (d : Draft) → IsMade scenario d → IsPrintoutBy (RunComesTo d) p) }
 {
     let Scenario {
         nodes,

@@ -28,10 +28,10 @@ pub fn run_program<'a, R: Files, O: Write, E: Write>(
     out: O,
     err: E,
 ) -> Ended<'a, R, O, E>
-    // Where `sim FILE` answers Done, `out` took exactly the report of what the file gave, and flushed it; the file was
-    // read to its end, or to the byte past the limit of a scenario. Where `load N SEED` answers Done, `out` took exactly
-    // its three lines, and flushed them. Nothing is said here of other statuses, nor of `frames`: that is in the contract
-    // of `msgr2`.
+    // Where `sim FILE` answers Done, `out` took exactly the report of a run of the scenario that the file gave, which
+    // leaves nothing undelivered, and flushed it; the file was read to its end, or to the byte past the limit of a
+    // scenario. Where `load N SEED` answers Done, `out` took exactly its three lines, and flushed them. Nothing is said
+    // here of other statuses, nor of `frames`: that is in the contract of `msgr2`.
     ensures done { PrintsWhereDone (form_in (map string_bytes words.now)) result.status
         (⟦<StdSource<'a, R> as Source>⟧.seen result.source) (⟦<StdSink<O> as Sink>⟧.seen result.out) }
 {

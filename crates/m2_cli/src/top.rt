@@ -15,10 +15,7 @@ use crate::status::Status;
 use m2_bytes::NoMemory;
 use m2_command::{Command, command_of};
 use m2_edge::{ReadFault, Sink, Source};
-use m2_sim::{
-    each_key_keeps_its_order, each_post_is_heard_or_left, nothing_left_is_all_heard,
-    only_peers_are_heard,
-};
+use m2_order::calls_and_left_are_posts;
 use std::alloc::Global;
 
 /// Runs the command that the words name, prints its report on `out`, says on `err` how it ended, and
@@ -49,11 +46,12 @@ pub fn msgr2<S: Source, O: Sink, E: Sink>(
     // for each of `frames`, and `RunsLoad` for each of `load`.
     ensures ends { Ends (form_in (map string_bytes args.now)) result
         (edge (S.seen src.old) (O.seen out.old) (E.seen err.old)) (edge (S.seen src.new) (O.seen out.new) (E.seen err.new)) }
-    // The headline of `sim`, of what the file gave and what was printed. For each two nodes, each priority and each
-    // dispatch path: the messages printed as dispatched at the one from the other are a prefix of those that the
-    // file posts, in order, each once. With Done they are all of them; with Left so many are missing. With WriteFault
-    // a prefix of such lines was printed, or nothing. Of `load` the same of the generated posts and of what was
-    // dispatched, and the three lines tell how many these are.
+    // The headline. For every scenario, cut, crossing of connects and schedule of turns, a lossless session that
+    // neither end marks down is never reset; in it, of each priority and dispatch path, the messages that are printed
+    // as dispatched at a node from its peer are a prefix of those that the file has that peer post, in order, each
+    // once; what a sender counts acknowledged was accepted; and Done means that every post of such a session was
+    // dispatched. With Left so many are missing. With WriteFault a prefix of such lines was printed, or nothing. Of
+    // `load` the same of the generated posts and of what was dispatched, and the three lines tell how many these are.
     ensures order { KeepsItsOrder (form_in (map string_bytes args.now)) result
         (edge (S.seen src.old) (O.seen out.old) (E.seen err.old)) (edge (S.seen src.new) (O.seen out.new) (E.seen err.new)) }
 {
@@ -101,10 +99,7 @@ fn sim<S: Source, O: Sink, E: Sink>(
     ensures order { KeepsOrder result (edge (S.seen src.old) (O.seen out.old) (E.seen err.old))
         (edge (S.seen src.new) (O.seen out.new) (E.seen err.new)) }
 {
-    each_key_keeps_its_order();
-    each_post_is_heard_or_left();
-    nothing_left_is_all_heard();
-    only_peers_are_heard();
+    calls_and_left_are_posts();
     match prepare_file(alloc, src, file) {
         Ok(printout) => print(&printout, out, err),
         Err(ReadFault::Failed) => say_fixed(err, Status::ReadFault),

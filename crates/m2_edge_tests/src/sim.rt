@@ -1,119 +1,179 @@
-//! Scenarios whose outcome the rules tell.
+//! Scenarios whose outcome the rules tell, each worked by hand.
 
-use m2_dispatch::{Logged, LoggedList};
-use m2_policy::Path;
+use m2_bytes::{Blob, Items};
+use m2_report::report;
 use m2_scenario::Scenario;
 use m2_scenario_text::read;
-use m2_sim::{Outcome, run};
+use m2_sim::run;
 use std::alloc::Global;
 use std::process::Abort;
 use std::test::Fail;
 
-fn played(alloc: Global, text: &[u8]) -> Result<Outcome, Fail> {
+/// Two lossless peers; to the second messages of kind 9 are fast.
+const PAIR: &[u8] = b"node a osd 127.0.0.1:7001/1\n\
+                      node b osd 127.0.0.1:7002/2 fast 9\n\
+                      link a b lossless_peer lossless_peer\n";
+
+/// A scenario, what its nodes dispatch, and how many posts are left.
+struct Row {
+    nodes: &'static [u8],
+    lines: &'static [u8],
+    dispatched: &'static [u8],
+    left: u64,
+}
+
+// What the nodes of a row dispatch, and how many posts are left.
+fn played(alloc: Global, row: &Row) -> Result<(Blob, u64), Fail> {
+    let mut text = Vec::from_slice(alloc, row.nodes)?;
+    text.extend_from_slice(row.lines)?;
     let Scenario {
         nodes,
         links,
         lines,
-        ..
-    } = read(alloc, text, false)?;
-    Ok(run(alloc, &nodes, &links, lines)?)
-}
-
-// What was dispatched, in order: `f` for a fast message and `q` for another, the last digit of its number, and
-// then its front.
-fn calls(alloc: Global, log: Option<&LoggedList>) -> Result<Vec<u8>, Fail> {
-    let mut text = Vec::new(alloc);
-    let Some(log) = log else {
-        return Ok(text);
+        limit,
+    } = read(alloc, text.as_slice(), false)?;
+    let outcome = run(alloc, &nodes, &links, lines)?;
+    let scenario = Scenario {
+        nodes,
+        links,
+        lines: Items::empty(alloc),
+        limit,
     };
-    for call in log.as_slice() {
-        if let Logged::Message {
-            key,
-            number,
-            message,
-            ..
-        } = call
-        {
-            text.push(if key.path == Path::Fast { b'f' } else { b'q' })?;
-            text.push(b'0' + (*number % 10) as u8)?;
-            text.extend_from_slice(message.front.as_slice())?;
-        }
+    let mut printed = Blob::empty(alloc);
+    report(alloc, &scenario, &outcome.logs, false, &mut printed)?;
+    Ok((printed, outcome.left))
+}
+
+/// Each of these rows comes out so.
+fn assert_rows(rt: &impl Abort, alloc: Global, rows: &[Row]) -> Result<(), Fail> {
+    for row in rows {
+        let (printed, left) = played(alloc, row)?;
+        assert_eq!(rt; printed.as_slice(), row.dispatched);
+        assert_eq!(rt; left, row.left);
     }
-    Ok(text)
-}
-
-/// Two joined nodes; to the second messages of kind 1 are fast.
-const PAIR: &[u8] = b"node a osd 127.0.0.1:7001/1\n\
-                      node b osd 127.0.0.1:7002/2 fast 1\n\
-                      link a b lossless_peer lossless_peer\n";
-
-// Plays these steps of the pair, after which nothing is left, a has heard nothing, and b these calls.
-fn assert_heard(rt: &impl Abort, alloc: Global, steps: &[u8], of_b: &[u8]) -> Result<(), Fail> {
-    let mut text = Vec::from_slice(alloc, PAIR)?;
-    text.extend_from_slice(steps)?;
-    let o = played(alloc, text.as_slice())?;
-    assert_eq!(rt; o.left, 0);
-    assert_eq!(rt; calls(alloc, o.logs.get(0))?.as_slice(), b"".as_slice());
-    assert_eq!(rt; calls(alloc, o.logs.get(1))?.as_slice(), of_b);
     Ok(())
 }
 
+/// One session, and what breaks it.
+const OF_A_SESSION: &[Row] = &[
+    // A post, and rounds enough.
+    Row {
+        nodes: PAIR,
+        lines: b"post a b 7 127 616263 - -\nsettle 12\n",
+        dispatched: b"b from a 127 queued 7 616263 - -\n",
+        left: 0,
+    },
+    // Without rounds nothing flows.
+    Row {
+        nodes: PAIR,
+        lines: b"post a b 7 127 616263 - -\n",
+        dispatched: b"",
+        left: 1,
+    },
+    // A fault behind two of three messages of 91 bytes: the third is sent again.
+    Row {
+        nodes: PAIR,
+        lines: b"dial a b\nsettle 12\npost a b 1 127 61 - -\npost a b 1 127 62 - -\npost a b 1 127 63 - -\n\
+                 turn a\nflow a b 1 182\nturn b\nfault a b 1\nfault b a 1\nturn a\nturn b\nsettle 16\n",
+        dispatched: b"b from a 127 queued 1 61 - -\nb from a 127 queued 1 62 - -\nb from a 127 queued 1 63 - -\n",
+        left: 0,
+    },
+    // The same, where b may hold no two of them at once.
+    Row {
+        nodes: b"node a osd 127.0.0.1:7001/1\nnode b osd 127.0.0.1:7002/2 throttle 100\nlink a b lossless_peer lossless_peer\n",
+        lines: b"dial a b\nsettle 12\npost a b 1 127 61 - -\npost a b 1 127 62 - -\npost a b 1 127 63 - -\n\
+                 turn a\nflow a b 1 182\nturn b\nfault a b 1\nfault b a 1\nturn a\nturn b\nsettle 16\n",
+        dispatched: b"b from a 127 queued 1 61 - -\nb from a 127 queued 1 62 - -\nb from a 127 queued 1 63 - -\n",
+        left: 0,
+    },
+    // What was written before a fault stays in front of a greater priority that is posted behind it.
+    Row {
+        nodes: PAIR,
+        lines: b"dial a b\nsettle 12\npost a b 9 64 61 - -\nturn a\nfault a b 1\nfault b a 1\nturn a\nturn b\n\
+                 post a b 9 255 62 - -\nsettle 16\n",
+        dispatched: b"b from a 64 fast 9 61 - -\nb from a 255 fast 9 62 - -\n",
+        left: 0,
+    },
+];
+
+/// Connects that cross.
+const CROSSING: &[Row] = &[
+    // a's address is the lower one, so its socket is kept.
+    Row {
+        nodes: PAIR,
+        lines: b"post a b 1 127 61 - -\npost b a 1 127 62 - -\nsettle 24\n",
+        dispatched: b"a from b 127 queued 1 62 - -\nb from a 127 queued 1 61 - -\n",
+        left: 0,
+    },
+    // A reconnect before the first SERVER_IDENT was read.
+    Row {
+        nodes: PAIR,
+        lines: b"post a b 1 127 61 - -\nturn a\nflow a b\nturn b\nflow b a\nturn a\nflow a b\nturn b\nflow b a\nturn a\n\
+                 post b a 1 127 6d31 - -\nflow a b\nturn b\nfault b a 1\nturn b\nturn b\n\
+                 flow b a 2 1000000\nturn a\nflow a b 2 1000000\nturn b\n\
+                 flow b a 2 1000000\nturn a\nflow a b 2 1000000\nturn b\n\
+                 flow b a 2 1000000\nturn a\nflow a b 2 1000000\nturn b\n\
+                 flow b a 2 1000000\nturn a\nsettle 16\n",
+        dispatched: b"a from b 127 queued 1 6d31 - -\nb from a 127 queued 1 61 - -\n",
+        left: 0,
+    },
+    // Idents that cross over Standby.
+    Row {
+        nodes: PAIR,
+        lines: b"dial a b\nturn a\nflow a b\nturn b\nflow b a\nturn a\nflow a b\nturn b\nflow b a\nturn a\n\
+                 fault a b 1\nturn a\npost b a 1 127 6d31 - -\nturn b\n\
+                 flow b a 2 1000000\nturn a\nflow a b 2 0\nflow a b 2 1000000\nturn b\n\
+                 flow b a 2 1000000\nturn a\nflow a b 2 0\nflow a b 2 1000000\nturn b\n\
+                 flow b a 2 1000000\nturn a\nflow a b 2 0\n\
+                 flow a b 1 1000000\nturn b\npost a b 1 127 61 - -\nsettle 24\n",
+        dispatched: b"a from b 127 queued 1 6d31 - -\nb from a 127 queued 1 61 - -\n",
+        left: 0,
+    },
+    // Both dial again in the same round, and again: two lossless peers can repeat one exchange for ever.
+    Row {
+        nodes: PAIR,
+        lines: b"cut a b 600\npost a b 1 127 61 - -\npost b a 1 127 62 - -\nsettle 1000\n",
+        dispatched: b"",
+        left: 2,
+    },
+];
+
+/// Sessions that end or never begin.
+const WITHOUT_A_SESSION: &[Row] = &[
+    // A server marks its client down, which is reset and connects again.
+    Row {
+        nodes: b"node c client 127.0.0.1:7003/3\nnode s mds 127.0.0.1:7004/4\nlink c s lossless_client stateful_server\n",
+        lines: b"post c s 1 127 61 - -\nsettle 12\ndown s c\nsettle 12\npost c s 1 127 62 - -\nsettle 6\n",
+        dispatched: b"c reset s\ns from c 127 queued 1 61 - -\ns from c 127 queued 1 62 - -\n",
+        left: 0,
+    },
+    // A post of a session that is marked down before its first turn is thrown away, and isn't counted as left.
+    Row {
+        nodes: PAIR,
+        lines: b"post a b 1 127 61 - -\ndown a b\nsettle 12\n",
+        dispatched: b"",
+        left: 0,
+    },
+    // Features that a node requires are missing.
+    Row {
+        nodes: b"node a osd 127.0.0.1:7001/1 supports 3\nnode b osd 127.0.0.1:7002/2 requires 4\nlink a b lossless_peer lossless_peer\n",
+        lines: b"post a b 1 127 61 - -\nsettle 40\n",
+        dispatched: b"",
+        left: 1,
+    },
+];
+
 #[test]
-fn the_greater_priority_goes_first(rt: HostRuntime) -> Result<(), Fail> {
-    let steps = b"post a b 1 64 61 - -\npost a b 1 255 62 - -\nsettle 2\n";
-    assert_heard(&rt, rt.alloc(), steps, b"f1bf2a")
+fn a_session_comes_out_as_the_rules_tell(rt: HostRuntime) -> Result<(), Fail> {
+    assert_rows(&rt, rt.alloc(), OF_A_SESSION)
 }
 
 #[test]
-fn what_was_sent_before_a_fault_keeps_its_place(rt: HostRuntime) -> Result<(), Fail> {
-    let steps = b"post a b 1 64 61 - -\n\
-                  turn a\n\
-                  fault b a\n\
-                  post a b 1 255 62 - -\n\
-                  settle 2\n";
-    assert_heard(&rt, rt.alloc(), steps, b"f1af2b")
+fn crossing_connects_come_out_as_the_rules_tell(rt: HostRuntime) -> Result<(), Fail> {
+    assert_rows(&rt, rt.alloc(), CROSSING)
 }
 
 #[test]
-fn in_one_turn_fast_messages_go_first_and_the_others_by_priority(
-    rt: HostRuntime,
-) -> Result<(), Fail> {
-    let steps = b"post a b 2 64 61 - -\n\
-                  post a b 2 64 62 - -\n\
-                  turn a\n\
-                  post a b 2 255 63 - -\n\
-                  turn a\n\
-                  post a b 1 64 64 - -\n\
-                  turn a\n\
-                  settle 1\n";
-    assert_heard(&rt, rt.alloc(), steps, b"f4dq3cq1aq2b")
-}
-
-#[test]
-fn a_node_takes_from_its_links_in_their_order(rt: HostRuntime) -> Result<(), Fail> {
-    let o = played(
-        rt.alloc(),
-        b"node a osd 127.0.0.1:7001/1\n\
-          node b osd 127.0.0.1:7002/2\n\
-          node c osd 127.0.0.1:7003/3 fast 1\n\
-          link b c lossless_peer lossless_peer\n\
-          link c a lossless_peer lossless_peer\n\
-          post a c 1 127 61 - -\n\
-          post a c 2 200 62 - -\n\
-          post b c 1 127 63 - -\n\
-          post b c 2 64 64 - -\n\
-          post c a 1 64 65 - -\n\
-          turn a\n\
-          turn b\n\
-          settle 1\n\
-          post c b 1 64 66 - -\n",
-    )?;
-    // What c posted to a is written, and what it posted to b waits.
-    assert_eq!(rt; o.left, 2);
-    assert_eq!(rt;
-        calls(rt.alloc(), o.logs.get(2))?.as_slice(),
-        b"f1cf2aq1bq2d".as_slice()
-    );
-    assert_eq!(rt; o.logs.len(), 3);
-    Ok(())
+fn what_has_no_session_comes_out_as_the_rules_tell(rt: HostRuntime) -> Result<(), Fail> {
+    assert_rows(&rt, rt.alloc(), WITHOUT_A_SESSION)
 }

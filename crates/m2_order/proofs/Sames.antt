@@ -1,5 +1,5 @@
 -- The same messages, one for one.
-use Rattle.std.proofs.Common.{◌≡◌, ℕ, suc, ◌≤◌, List, [], ◌∷◌, length, take, refl, sym, ap, subst, arith}
+use Rattle.std.proofs.Common.{◌≡◌, suc, List, [], ◌∷◌, length, take, refl, sym, ap, subst, arith}
 use Rattle.std.proofs.Math.Seq.{take-length}
 use Rattle.m2_message.specs.Message.{Content}
 use Rattle.m2_order.specs.Order.{AreSame, IsPrefixOf}
@@ -22,4 +22,4 @@ same_prefix ms ns h =
     record { few = omega (arith, e); same = subst (λ ks. AreSame ms ks) (sym (subst (λ k. take k ns ≡ ns) (sym e) (take-length ns))) h }
 
 pub all_prefix : AllIsAPrefix
-all_prefix fast lines heard h x y key = same_prefix _ _ (h x y key)
+all_prefix fast lines heard x y h key = same_prefix _ _ (h key)

@@ -1,8 +1,8 @@
--- The order of messages: of each two nodes and each key (a priority with a dispatch path), what a node heard from
--- the other is a prefix of what the other posted, in order, each once. Said of a scenario's lines and of the calls
--- of dispatchers alone. This is the project's promise; a message is the same whatever numbers the runtime wrote
--- into it.
-use Rattle.std.specs.Prelude.{◌≡◌, ℕ, zero, suc, ◌+◌, ◌==◌, ◌&&◌, ◌<◌, ◌≤◌, Bool, true, false, if◌then◌else◌, List, [], ◌∷◌, length, take, All, sum_by, count_by}
+-- The order of messages: over a link of which it is promised, what a node heard from the other of each key (a priority
+-- with a dispatch path) is a prefix of what the other posted to it, in order, each once. Said of a scenario's lines and
+-- of the calls of dispatchers alone. This is the project's promise; a message is the same whatever numbers the runtime
+-- wrote into it.
+use Rattle.std.specs.Prelude.{◌≡◌, ℕ, zero, suc, ◌+◌, ◌==◌, ◌&&◌, ◌<◌, ◌≤◌, Bool, true, false, if◌then◌else◌, List, [], ◌∷◌, length, take, sum_by, count_by}
 use Rattle.std.specs.List.{AllByRecursion}
 use Rattle.m2_message.specs.Message.{Content, IsSameMessage}
 use Rattle.m2_policy.specs.Path.{path_of}
@@ -10,7 +10,7 @@ use Rattle.m2_policy.specs.declared.path.Key.{Key}
 use Rattle.m2_dispatch.specs.Heard.{Heard, message, reset, peer_of, is_key, of_key}
 use Rattle.m2_scenario.specs.declared.link.Link.{Link}
 use Rattle.m2_scenario.specs.declared.node.Node.{Node}
-use Rattle.m2_scenario.specs.Draft.{DraftLine, post, is_post, are_joined}
+use Rattle.m2_scenario.specs.Draft.{DraftLine, post, are_joined}
 
 -- ---- what was posted
 
@@ -48,40 +48,8 @@ pub record IsPrefixOf (heard posted : List Content) : Type 0 where
   pub few : length heard ≤ length posted
   pub same : AreSame heard (take (length heard) posted)
 
--- Of each two nodes x and y and each key: what y heard from x is a prefix of what x posted to y, in order, each
--- once. By the kinds that each node dispatches at once, the scenario's lines, and what each node heard.
-abbrev pub HearsPrefixes : List (List ℕ) → List DraftLine → List (List Heard) → Type 0
-HearsPrefixes fast lines heard = (x y : ℕ) (key : Key) → IsPrefixOf (of_key x key (at y heard)) (posts_of x y (at y fast) key lines)
-
--- Of each two nodes x and y and each key: y heard all that x posted to y, in order, each once.
-abbrev pub HearsAll : List (List ℕ) → List DraftLine → List (List Heard) → Type 0
-HearsAll fast lines heard = (x y : ℕ) (key : Key) → AreSame (of_key x key (at y heard)) (posts_of x y (at y fast) key lines)
-
--- ---- how many, and from whom
-
--- so many calls of dispatchers, of all nodes together, and so many posts that are left, are the posts
-abbrev pub AreThePosts : List DraftLine → List (List Heard) → (left : ℕ) → Type 0
-AreThePosts lines heard left = sum_by length heard + left ≡ count_by is_post lines
-
--- a node of so many that a link joins with the node at y
-pub record IsPeer (nodes : ℕ) (links : List Link) (y x : ℕ) : Type 0 where
-  pub within : x < nodes
-  pub joined : are_joined links x y ≡ true
-
--- no reset
-abbrev pub IsMessage : Heard → Type 0
-IsMessage (message peer key number m) = Unit {0}
-IsMessage (reset peer) = ⊥
-
--- There is a list for each node, and all that a node heard are messages, and come from its peers.
-pub record HearsPeers (nodes : ℕ) (links : List Link) (heard : List (List Heard)) : Type 0 where
-  pub places : length heard ≡ nodes
-  pub messages : (y : ℕ) → All IsMessage (at y heard)
-  pub peers : (y : ℕ) → All (λ h. IsPeer nodes links y (peer_of h)) (at y heard)
-
--- ---- over links of which it is promised
-
--- of each key, what y heard from x is a prefix of what x posted to y, in order, each once
+-- of each key, what y heard from x is a prefix of what x posted to y, in order, each once: by the kinds that each node
+-- dispatches at once, the scenario's lines, and what each node heard
 abbrev pub HearsPrefix : List (List ℕ) → List DraftLine → List (List Heard) → (x y : ℕ) → Type 0
 HearsPrefix fast lines heard x y = (key : Key) → IsPrefixOf (of_key x key (at y heard)) (posts_of x y (at y fast) key lines)
 
@@ -96,6 +64,8 @@ IsNoResetBy x (reset peer) = (peer == x) ≡ false
 
 abbrev pub HearsNoReset : List (List Heard) → (x y : ℕ) → Type 0
 HearsNoReset heard x y = AllByRecursion (IsNoResetBy x) (at y heard)
+
+-- ---- over links
 
 -- either way over each of these links that is so
 abbrev pub OverEach : (Link → Bool) → List Link → (ℕ → ℕ → Type 0) → Type 0
@@ -124,6 +94,13 @@ messages_between heard x y = count_by (is_message_from x) (at y heard)
 abbrev pub AreCounted : (Link → Bool) → List Link → List DraftLine → List (List Heard) → (left : ℕ) → Type 0
 AreCounted is_so links lines heard left =
     count_over is_so links (messages_between heard) + left ≡ count_over is_so links (posts_between lines)
+
+-- ---- from whom
+
+-- a node of so many that a link joins with the node at y
+pub record IsPeer (nodes : ℕ) (links : List Link) (y x : ℕ) : Type 0 where
+  pub within : x < nodes
+  pub joined : are_joined links x y ≡ true
 
 -- there is a list for each node, and all calls of a node's dispatchers are of nodes that links join with it
 pub record AreOfJoined (nodes : ℕ) (links : List Link) (heard : List (List Heard)) : Type 0 where

@@ -1,7 +1,7 @@
 //! What holds of the words. These functions do nothing: each stands for the law that its contract
 //! names.
 
-ghost use Rattle.m2_order.specs.Laws.{EqualMessagesAreTheSame, AllIsAPrefix};
+ghost use Rattle.m2_order.specs.Laws.{AllIsAPrefix, CallsAndLeftArePosts, EqualMessagesAreTheSame};
 
 /// Equal messages are the same, one for one.
 #[tactic(auto, using(crate::proofs::Sames::equal_are_same))]
@@ -12,4 +12,9 @@ pub fn equal_messages_are_the_same()
 /// Who dispatched all has dispatched a prefix.
 pub fn all_is_a_prefix()
     ensures { AllIsAPrefix }
+{}
+
+/// Where what is counted is counted over all links, all calls and what is left are all posts.
+pub fn calls_and_left_are_posts()
+    ensures { CallsAndLeftArePosts }
 {}

@@ -4,7 +4,6 @@ use m2_bytes::{Blob, NoMemory};
 use m2_message::{Header, Message};
 use std::alloc::Global;
 
-mod link;
 mod priority;
 mod queues;
 

@@ -1,12 +1,2 @@
-pub mod Linked
-pub mod Hearing
-pub mod Nets
-pub mod Turns
-pub mod Runs
-pub mod Keys
-pub mod Joints
-pub mod Takes
-pub mod Holds
-pub mod Heard
-pub mod Counted
-pub mod Numbered
+pub mod Leaving
+pub mod Told

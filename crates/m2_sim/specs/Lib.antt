@@ -1,7 +1,1 @@
-pub mod Model
-pub mod Topology
-pub mod Joint
-pub mod Dispatcher
-pub mod Net
-pub mod Turn
-pub mod Lines
+pub mod Run

@@ -1,8 +1,7 @@
 use Rattle.std.proofs.Common.{refl, arith}
 use Rattle.m2_edge.specs.Source.{SeenSource}
 use Rattle.m2_cli.specs.Edge.{Edge, edge}
-use Rattle.m2_cli.proofs.Loads.{load_printed, load_caused, load_order_printed}
-use Rattle.m2_cli.proofs.Orders.{Laws}
+use Rattle.m2_cli.proofs.Loads.{Laws, load_printed, load_caused, load_order_printed}
 use Rattle.m2_cli.proofs.Says.{said_caused}
 use Rattle.m2_cli.proofs.load.load.Goals as goal
 
@@ -11,7 +10,7 @@ returns-in-Ok-clause-works g c = λ (source : SeenSource).
     let before : Edge = edge source (g.O.Sink.seen c.args.out.now) (g.E.Sink.seen c.args.err.now) in
     let after : Edge = edge source (g.O.Sink.seen c.print.new.out) (g.E.Sink.seen c.print.new.err) in
     let prints = c.print.ensures.prints in
-    let runs = load_printed c.in-Ok.printout prints.0 c.args.posts c.args.seed before after c.in-Ok.ensures.printout (refl {a = source}) prints.1 in
+    let runs = load_printed c.in-Ok.printout prints.0 c.args.posts c.args.seed before after c.in-Ok.ensures (refl {a = source}) prints.1 in
     record {
       causes = record {
         source_never_falls = omega arith;
@@ -29,11 +28,5 @@ pub returns-in-Ok-clause-order : goal.returns-in-Ok-clause-order
 returns-in-Ok-clause-order g c = λ (source : SeenSource).
     let before : Edge = edge source (g.O.Sink.seen c.args.out.now) (g.E.Sink.seen c.args.err.now) in
     let after : Edge = edge source (g.O.Sink.seen c.print.new.out) (g.E.Sink.seen c.print.new.err) in
-    let laws : Laws = record {
-      prefixes = c.each_key_keeps_its_order.ensures;
-      all = c.nothing_left_is_all_heard.ensures;
-      counted = c.each_post_is_heard_or_left.ensures;
-      peers = c.only_peers_are_heard.ensures;
-    } in
-    load_order_printed laws c.posts_are_as_many_as_asked.ensures c.in-Ok.printout c.args.posts c.args.seed c.print.result before after c.in-Ok.ensures.printout
-    c.in-Ok.ensures.sound c.print.ensures.prints
+    let laws : Laws = record { together = c.calls_and_left_are_posts.ensures; asked = c.posts_are_as_many_as_asked.ensures } in
+    load_order_printed laws c.in-Ok.printout c.args.posts c.args.seed c.print.result before after c.in-Ok.ensures c.print.ensures.prints

@@ -3,8 +3,8 @@ use Rattle.std.proofs.lemmas.Result.{err_from_is_err_and}
 use Rattle.m2_edge.specs.Source.{SeenSource}
 use Rattle.m2_edge.specs.Whole.{IsReadUpTo}
 use Rattle.m2_cli.specs.Edge.{read_limit}
-use Rattle.m2_cli.specs.Printout.{IsPrintout, IsSoundIn}
-use Rattle.m2_cli.specs.Verdict.{status_in, report_in}
+use Rattle.m2_cli.specs.Printout.{IsPrintoutBy}
+use Rattle.m2_cli.specs.Verdict.{ComesTo}
 use Rattle.m2_cli.proofs.printout.prepare_file.Goals as goal
 
 pub returns-in_err-printout-clause-prepares : goal.returns-in_err-printout-clause-prepares
@@ -17,11 +17,9 @@ returns-clause-prepares g c =
     let src : SeenSource = g.S.Source.seen c.read_whole.new.src in
     let read = c.in_ok-bytes.ensures.reads in
     let same = c.as_slice.ensures ∙ read.0.given in
-    let P : List ℕ → Type 0 = λ bytes. IsPrintout c.in_ok-printout.printout (status_in bytes) (report_in bytes) in
-    let Q : List ℕ → Type 0 = λ bytes. IsSoundIn bytes in
+    let P : List ℕ → Type 0 = λ bytes. IsPrintoutBy (ComesTo bytes) c.in_ok-printout.printout in
     let R : List ℕ → Type 0 = λ bytes. IsReadUpTo read_limit bytes src in
     record {
       read = record { stands = read.1; whole = subst R read.0.given read.0 };
-      printout = subst P same c.in_ok-printout.ensures.printout;
-      sound = subst Q same c.in_ok-printout.ensures.sound;
+      printout = subst P same c.in_ok-printout.ensures;
     }

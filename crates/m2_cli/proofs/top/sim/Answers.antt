@@ -1,5 +1,5 @@
 use Rattle.m2_cli.specs.Edge.{Edge, edge}
-use Rattle.m2_cli.proofs.Orders.{Laws, order_printed}
+use Rattle.m2_cli.proofs.Orders.{order_printed}
 use Rattle.m2_cli.proofs.Says.{said_caused}
 use Rattle.m2_cli.proofs.Tops.{runs_printed, run_caused}
 use Rattle.m2_cli.proofs.top.sim.Goals as goal
@@ -27,10 +27,4 @@ pub returns-in-Ok-clause-order : goal.returns-in-Ok-clause-order
 returns-in-Ok-clause-order g c =
     let before : Edge = edge (g.S.Source.seen c.args.src.now) (g.O.Sink.seen c.args.out.now) (g.E.Sink.seen c.args.err.now) in
     let after : Edge = edge (g.S.Source.seen c.prepare_file.new.src) (g.O.Sink.seen c.print.new.out) (g.E.Sink.seen c.print.new.err) in
-    let laws : Laws = record {
-      prefixes = c.each_key_keeps_its_order.ensures;
-      all = c.nothing_left_is_all_heard.ensures;
-      counted = c.each_post_is_heard_or_left.ensures;
-      peers = c.only_peers_are_heard.ensures;
-    } in
-    order_printed laws c.in-Ok.printout c.args.file.now c.print.result before after c.in-Ok.ensures.prepares c.print.ensures.prints
+    order_printed c.calls_and_left_are_posts.ensures c.in-Ok.printout c.args.file.now c.print.result before after c.in-Ok.ensures.prepares c.print.ensures.prints

@@ -1,4 +1,0 @@
-pub mod Senders
-pub mod Frames
-pub mod Places
-pub mod Moves
