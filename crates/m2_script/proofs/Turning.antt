@@ -33,9 +33,9 @@ module _ {D : Type 0} (E : Type 0) (heard : D → List Heard) (was old : RunNow 
       ap (λ (x : ℕ). noted (record { node = a; fast = x - f; queued = r - q })) (of_it new.nodes a h.behind (λ (n : NodeNow D). g ≡ fast_calls heard n) there g_is)
       ∙ ap (λ (x : ℕ). noted (record { node = a; fast = fast_calls heard h.behind - x; queued = r - q })) (of_it was.cluster.nodes a h.before (λ (n : NodeNow D). f ≡ fast_calls heard n) h.was f_is)
       ∙ ap (λ (x : ℕ). noted (record { node = a; fast = fast_calls heard h.behind - fast_calls heard h.before; queued = x - q }))
-          (of_it new.nodes a h.behind (λ (n : NodeNow D). r ≡ queued_calls heard n) there r_is)
+      (of_it new.nodes a h.behind (λ (n : NodeNow D). r ≡ queued_calls heard n) there r_is)
       ∙ ap (λ (x : ℕ). noted (record { node = a; fast = fast_calls heard h.behind - fast_calls heard h.before; queued = queued_calls heard h.behind - x }))
-          (of_it was.cluster.nodes a h.before (λ (n : NodeNow D). q ≡ queued_calls heard n) h.was q_is)
+      (of_it was.cluster.nodes a h.before (λ (n : NodeNow D). q ≡ queued_calls heard n) h.was q_is)
 
   none_held : (held : Bool) → held ≡ false → IfSome (slice_get new.nodes a) (λ (n : NodeNow D). held ≡ is_some n.center.out.held) → h.behind.center.out.held ≡ None
   none_held held free is =
@@ -70,7 +70,10 @@ module _ {D : Type 0} (E : Type 0) (heard : D → List Heard) (was old : RunNow 
         before = h.before;
         behind = h.behind;
         was = h.was;
-        does = inr (h.does, sym (of_it new.nodes a h.behind (λ (n : NodeNow D). held ≡ is_some n.center.out.held)
-            (ap (λ (c : ClusterNow D). slice_get c.nodes a) h.only ∙ here was.cluster.nodes a h.before h.behind h.was) is) ∙ so);
+        does = inr (
+          h.does,
+          sym (of_it new.nodes a h.behind (λ (n : NodeNow D). held ≡ is_some n.center.out.held)
+              (ap (λ (c : ClusterNow D). slice_get c.nodes a) h.only ∙ here was.cluster.nodes a h.before h.behind h.was) is) ∙ so,
+        );
         only = h.only;
       })

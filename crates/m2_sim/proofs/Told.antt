@@ -20,9 +20,10 @@ module _ (n : ℕ) (links : List Link) where
       AllByRecursion (IsLogOf n) logs
   logs_within first [] all = tt
   logs_within first (log ∷ logs) all =
-      let later : (y : ℕ) → y + suc first ≡ suc y + first = λ y. omega arith in
-      (All-from_recursion (IsOfNodes n) log.items (log_within (0 + first) log.items (all 0)),
-       logs_within (suc first) logs (λ y. subst (λ (k : ℕ). AllByRecursion (λ (h : Heard). IsPeer n links k (peer_of h)) (at y (map heard_in logs))) (sym (later y)) (all (suc y))))
+      let later : (y : ℕ) → y + suc first ≡ suc y + first = λ y. omega arith in (
+        All-from_recursion (IsOfNodes n) log.items (log_within (0 + first) log.items (all 0)),
+        logs_within (suc first) logs (λ y. subst (λ (k : ℕ). AllByRecursion (λ (h : Heard). IsPeer n links k (peer_of h)) (at y (map heard_in logs))) (sym (later y)) (all (suc y))),
+      )
 
 pub logs_are_of_nodes : (nodes : List Node) (links : List Link) (logs : List (Holding Logged)) (heard : List (List Heard)) → map heard_in logs ≡ heard →
     AreOfJoined (length nodes) links heard → AreLogsOf nodes logs

@@ -12,8 +12,7 @@ use m2_addr::Addr;
 use m2_bytes::{Items, NoMemory};
 use m2_edge::Failed;
 use m2_fabric::{
-    Connect, End, MemoryPort, News, Port, SocketId, SocketIdList, Taken, are_in_memory,
-    is_among,
+    Connect, End, MemoryPort, News, Port, SocketId, SocketIdList, Taken, are_in_memory, is_among,
 };
 use std::alloc::Global;
 use std::marker::Model;

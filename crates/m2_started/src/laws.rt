@@ -5,9 +5,9 @@ ghost use Rattle.m2_started.specs.Laws as laws;
 
 use m2_begun::{beginnings_have_orders, beginnings_run, new_centers_are_new, new_clusters_begin};
 use m2_dispatcher::LogDispatcher;
+use m2_fabric::Port;
 use m2_kept::{scripts_can_be_done, scripts_stay_kept};
 use m2_logged::begin_logged;
-use m2_fabric::Port;
 
 /// The nodes of a valid scenario before its first line keep all that a script's run keeps.
 pub fn first_is_kept()

@@ -21,7 +21,7 @@ lines-requires c =
     let links : List Link = c.args.links.now.items in
     let run = c.in_ok-run.run' in
     let first : IsFirst nodes links run =
-        subst (λ (ns : List Node). IsFirst ns links run) c.as_slice-2.ensures (subst (λ (ls : List Link). IsFirst c.as_slice-2.result.now ls run) c.as_slice-3.ensures c.in_ok-run.ensures) in
+    subst (λ (ns : List Node). IsFirst ns links run) c.as_slice-2.ensures (subst (λ (ls : List Link). IsFirst c.as_slice-2.result.now ls run) c.as_slice-3.ensures c.in_ok-run.ensures) in
     subst (λ (ls : List Link). CanAllBeDone (CutEnd SimEnd) heard_by (script_of ls c.len.result c.args.lines.items) run) (sym c.as_slice-5.ensures)
     (subst (λ (n : ℕ). CanAllBeDone (CutEnd SimEnd) heard_by (script_of links n c.args.lines.items) run) (sym c.len.ensures) (c.first_can_be_done.ensures nodes links c.args.lines.items run c.requires first))
 
@@ -33,10 +33,10 @@ returns-in-Ok c =
     let run = c.in_ok-run.run' in
     let last = c.lines-2.new.self in
     let first : IsFirst nodes links run =
-        subst (λ (ns : List Node). IsFirst ns links run) c.as_slice-2.ensures (subst (λ (ls : List Link). IsFirst c.as_slice-2.result.now ls run) c.as_slice-3.ensures c.in_ok-run.ensures) in
+    subst (λ (ns : List Node). IsFirst ns links run) c.as_slice-2.ensures (subst (λ (ls : List Link). IsFirst c.as_slice-2.result.now ls run) c.as_slice-3.ensures c.in_ok-run.ensures) in
     let ends : Ends (CutEnd SimEnd) heard_by (Ok tt) (script_of links (length nodes) lines) run last =
-        subst (λ (n : ℕ). Ends (CutEnd SimEnd) heard_by (Ok tt) (script_of links n lines) run last) c.len.ensures
-        (subst (λ (ls : List Link). Ends (CutEnd SimEnd) heard_by (Ok tt) (script_of ls c.len.result lines) run last) c.as_slice-5.ensures c.in-Ok.ensures) in
+    subst (λ (n : ℕ). Ends (CutEnd SimEnd) heard_by (Ok tt) (script_of links n lines) run last) c.len.ensures
+    (subst (λ (ls : List Link). Ends (CutEnd SimEnd) heard_by (Ok tt) (script_of ls c.len.result lines) run last) c.as_slice-5.ensures c.in-Ok.ensures) in
     let script : IsScriptRun nodes links lines run last = record { begins = first; ends = ends } in
     let types : AllByRecursion PostsOfTypes lines = subst (AllByRecursion PostsOfTypes) c.as_slice.ensures c.lines_fit.ensures in
     is_outcome nodes links lines run last script (c.promises_are_kept.ensures nodes links lines run last c.requires types script) c.end.result c.end.ensures.heard

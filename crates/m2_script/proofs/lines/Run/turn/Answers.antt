@@ -21,12 +21,13 @@ returns g c =
     let before = c.counts-fast.result in
     let behind = c.counts-fast_now.result in
     let a = c.args.node in
-    let was : List TurnCalls = c.self.inside.calls.items in
-    (turned g.row.P-End.Denot heard_by _ _ c.self.view_is a c.turn.new.self c.in_ok-turn.ensures before.0 before.1 behind.0 behind.1
-        c.counts-fast.ensures.fast c.counts-fast.ensures.queued c.counts-fast_now.ensures.fast c.counts-fast_now.ensures.queued
-        c.is_holding.result c.if-is_holding.false c.is_holding.ensures _ c.saturating_add-self-inside.ensures _
-        (c.note.ensures
-            ∙ ap (λ (l : List TurnCalls). l ++ noted (record { node = a; fast = c.saturating_sub.result; queued = c.saturating_sub-2.result })) c.in_ok-reserve.ensures.items
-            ∙ ap (λ (n : ℕ). was ++ noted (record { node = a; fast = n; queued = c.saturating_sub-2.result })) c.saturating_sub.ensures
-            ∙ ap (λ (n : ℕ). was ++ noted (record { node = a; fast = behind.0 - before.0; queued = n })) c.saturating_sub-2.ensures),
-    c.is_whole.ensures)
+    let was : List TurnCalls = c.self.inside.calls.items in (
+      turned g.row.P-End.Denot heard_by _ _ c.self.view_is a c.turn.new.self c.in_ok-turn.ensures before.0 before.1 behind.0 behind.1
+          c.counts-fast.ensures.fast c.counts-fast.ensures.queued c.counts-fast_now.ensures.fast c.counts-fast_now.ensures.queued
+          c.is_holding.result c.if-is_holding.false c.is_holding.ensures _ c.saturating_add-self-inside.ensures _
+          (c.note.ensures
+          ∙ ap (λ (l : List TurnCalls). l ++ noted (record { node = a; fast = c.saturating_sub.result; queued = c.saturating_sub-2.result })) c.in_ok-reserve.ensures.items
+          ∙ ap (λ (n : ℕ). was ++ noted (record { node = a; fast = n; queued = c.saturating_sub-2.result })) c.saturating_sub.ensures
+          ∙ ap (λ (n : ℕ). was ++ noted (record { node = a; fast = behind.0 - before.0; queued = n })) c.saturating_sub-2.ensures),
+      c.is_whole.ensures,
+    )
