@@ -2,10 +2,12 @@
 use Rattle.std.proofs.Common.{◌≡◌, ℕ, suc, Bool, true, false, ◌||◌, if◌then◌else◌, is_some, List, [], ◌∷◌, ◌++◌, length, map, Option, Some, None, Result, Ok, Err, OnOk, OnErr, refl, sym, ap, subst, ◌∙◌}
 use Rattle.std.specs.List.{AllByRecursion, flat_map, list_any}
 use Rattle.std.specs.Option.{option_map}
+use Rattle.m2_edge.specs.declared.failed.Failed.{Failed}
+use Rattle.m2_edge.specs.Faults.{HasCause}
 use Rattle.m2_fabric.specs.declared.end.News.{News}
 use Rattle.m2_fabric.specs.declared.socket.SocketId.{SocketId}
 use Rattle.m2_fabric.specs.End.{SeenEnd, after_news}
-use Rattle.m2_fabric.specs.Port.{SeenPort, one_hears, with_incoming, with_news}
+use Rattle.m2_fabric.specs.Port.{SeenPort, one_hears, with_incoming, with_news, with_poll}
 use Rattle.m2_fabric.specs.Log.{Log}
 use Rattle.m2_fabric.specs.Sockets.{is_among, same_socket}
 use Rattle.m2_record.specs.Sources.{end_at}
@@ -63,6 +65,23 @@ pub known_made : {D : Type 0} (was old : CenterNow D) (same : was ≡ old) (id :
 known_made {D} was old same id are is =
     subst (λ (o : CenterNow D). is_among id (ids_of (ends_in o)) ≡ true → is_among id o.port.made ≡ true) same
     (had_made id was.port.made (supply_in was) was.entity was.records was.halves are is.consistent)
+
+-- ---- its port is polled
+
+module _ {D : Type 0} (was old : CenterNow D) (same : was ≡ old) (new : SeenPort) (stays : new ≡ with_poll new.faults was.port) where
+  abbrev polled : CenterNow D
+  polled = record was { port = new }
+
+  pub polled_center : IsCenter was → IsCenter polled
+  polled_center is =
+      subst (λ (p : SeenPort). IsCenter (record was { port = p })) (sym stays) (record { consistent = is.consistent; out = is.out; queued = is.queued })
+
+  pub polled_stays : polled ≡ record old { port = with_poll new.faults old.port }
+  polled_stays = subst (λ (o : CenterNow D). polled ≡ record o { port = with_poll new.faults o.port }) same (ap (λ (p : SeenPort). record was { port = p }) stays)
+
+pub polled_causes : {D : Type 0} (was old : CenterNow D) (same : was ≡ old) (r : Result (Unit {0}) Failed) (n : ℕ) → HasCause r was.port.faults n →
+    HasCause r old.port.faults n
+polled_causes {D} was old same r n = subst (λ (o : CenterNow D). HasCause r o.port.faults n) same
 
 -- ---- an end is told something
 

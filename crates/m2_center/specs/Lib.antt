@@ -1,6 +1,7 @@
 pub mod Center
 pub mod CenterTurn
 pub mod Finishing
+pub mod Home
 pub mod Idle
 pub mod Making
 pub mod Plans

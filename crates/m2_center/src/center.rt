@@ -29,9 +29,9 @@ pub struct Passes {
 ///
 /// Maker: [`new`](Center::new). Looks: [`records`](Center::records), [`parts`](Center::parts),
 /// [`fast`](Center::fast), [`queued`](Center::queued), [`is_holding`](Center::is_holding), [`idle`](Center::idle),
-/// [`made`](Center::made), [`refused`](Center::refused), [`log`](Center::log). Calls: [`turn`](Center::turn), and [`plan`](Center::plan) for
-/// what a record is to do; of whoever passes on what flows in memory, [`incoming`](Center::incoming) and
-/// [`hear`](Center::hear). The end: [`finished`](Center::finished). It can't be dropped, since records can't.
+/// [`made`](Center::made), [`refused`](Center::refused), [`log`](Center::log). Calls: [`turn`](Center::turn),
+/// [`poll`](Center::poll) to wait for the next one, and [`plan`](Center::plan) for what a record is to do; of whoever
+/// passes on what flows in memory, [`incoming`](Center::incoming) and [`hear`](Center::hear). The end: [`finished`](Center::finished). It can't be dropped, since records can't.
 pub struct Center<P: Port, D> {
     pub(crate) alloc: Global,
     pub(crate) entity: u8,

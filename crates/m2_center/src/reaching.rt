@@ -2,9 +2,10 @@
 
 ghost use Rattle.std.specs.Prelude.{◌≡◌, ◌≤◌, ◌-◌, true, length, vec_capacity, vec_len, OnErr, OnOk};
 ghost use Rattle.std.specs.Option.{option_map};
+ghost use Rattle.m2_edge.specs.Faults.{HasCause};
 ghost use Rattle.m2_fabric.specs.End.{SeenEnd, after_news};
 ghost use Rattle.m2_fabric.specs.Log.{log_of};
-ghost use Rattle.m2_fabric.specs.Port.{one_hears, with_incoming};
+ghost use Rattle.m2_fabric.specs.Port.{one_hears, with_incoming, with_poll};
 ghost use Rattle.m2_fabric.specs.Sockets.{is_among};
 ghost use Rattle.m2_record.specs.RecordNow.{ids_of};
 ghost use Rattle.m2_record.specs.Sources.{end_at};
@@ -16,6 +17,7 @@ ghost use Rattle.m2_stages.specs.Hearing as hearing;
 use crate::center::Center;
 use crate::record_ends::{any_has_end, record_log, records_hear};
 use m2_bytes::NoMemory;
+use m2_edge::Failed;
 use m2_fabric::{End, EndLog, News, Port, SocketId, SocketIdList};
 use m2_record::Record;
 use m2_stages::{Pendings, are_records, half_hears, half_log};
@@ -34,6 +36,15 @@ impl<P: Port, D> Center<P, D> {
         ensures { result ≡ self.now.port.refused }
     {
         self.port.refused()
+    }
+
+    /// Waits at its port at most so many milliseconds for something to do, or not at all. Failed comes only where the
+    /// port's count of faults rose.
+    pub fn poll(&mut self, most: u32) -> Result<(), Failed>
+        ensures causes { HasCause result self.old.port.faults self.new.port.faults }
+        ensures stays { self.new ≡ record self.old { port = with_poll self.new.port.faults self.old.port } }
+    {
+        self.port.poll(most)
     }
 
     /// What its end of that socket did; none exactly where it has none, also where the socket still waits for

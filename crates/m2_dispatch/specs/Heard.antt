@@ -24,6 +24,11 @@ abbrev pub peer_of : Heard → ℕ
 peer_of (message peer key number m) = peer
 peer_of (reset peer) = peer
 
+-- a message of this peer
+abbrev pub is_message_from : ℕ → Heard → Bool
+is_message_from x (message peer key number m) = peer == x
+is_message_from x (reset peer) = false
+
 abbrev pub is_path : Path → Path → Bool
 is_path Fast Fast = true
 is_path Queued Queued = true

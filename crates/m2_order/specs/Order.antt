@@ -7,7 +7,7 @@ use Rattle.std.specs.List.{AllByRecursion}
 use Rattle.m2_message.specs.Message.{Content, IsSameMessage}
 use Rattle.m2_policy.specs.Path.{path_of}
 use Rattle.m2_policy.specs.declared.path.Key.{Key}
-use Rattle.m2_dispatch.specs.Heard.{Heard, message, reset, peer_of, is_key, of_key}
+use Rattle.m2_dispatch.specs.Heard.{Heard, message, reset, is_message_from, peer_of, is_key, of_key}
 use Rattle.m2_scenario.specs.declared.link.Link.{Link}
 use Rattle.m2_scenario.specs.declared.node.Node.{Node}
 use Rattle.m2_scenario.specs.Draft.{DraftLine, post, are_joined}
@@ -82,10 +82,6 @@ is_post_between x y _ = false
 
 abbrev pub posts_between : List DraftLine → (x y : ℕ) → ℕ
 posts_between lines x y = count_by (is_post_between x y) lines
-
-abbrev pub is_message_from : ℕ → Heard → Bool
-is_message_from x (message peer key number m) = peer == x
-is_message_from x (reset peer) = false
 
 abbrev pub messages_between : List (List Heard) → (x y : ℕ) → ℕ
 messages_between heard x y = count_by (is_message_from x) (at y heard)

@@ -7,12 +7,12 @@ use Rattle.std.proofs.lemmas.List.Sums.{sum_by-append, sum_by-cons}
 use Rattle.std.proofs.lemmas.Option.{slice_get-map, slice_get_past}
 use Rattle.m2_bytes.specs.Items.{Holding}
 use Rattle.m2_dispatch.specs.declared.logged.Logged.{Logged}
-use Rattle.m2_dispatch.specs.Heard.{Heard, heard_by}
+use Rattle.m2_dispatch.specs.Heard.{Heard, heard_by, is_message_from}
 use Rattle.m2_outcome.specs.declared.ways.Way.{Way}
 use Rattle.m2_outcome.specs.Ways.{heard_if, left_of, way_of, ways_over}
 use Rattle.m2_report.specs.Report.{heard_in}
 use Rattle.m2_scenario.specs.declared.link.Link.{Link}
-use Rattle.m2_script.specs.Outcome.{all_heard, heard_at, heard_of_node, is_message_of, is_up, left_from, left_in, left_over, posts_at}
+use Rattle.m2_script.specs.Outcome.{all_heard, heard_at, heard_of_node, is_up, left_from, left_in, left_over, posts_at}
 use Rattle.m2_script.specs.Script.{RunNow}
 
 -- ---- what a node heard
@@ -43,7 +43,7 @@ heard_of_log logs s y h =
 -- ---- what is left
 
 left_of_way : (logs : List (Holding Logged)) (s : RunNow (List Logged)) (x y : ℕ) → map heard_in logs ≡ all_heard heard_by s → left_of logs (way_of s x y) ≡ left_from heard_by s x y
-left_of_way logs s x y h = ap (λ (hs : List Heard). posts_at s x y - count_by (is_message_of x) hs) (heard_of_log logs s y h)
+left_of_way logs s x y h = ap (λ (hs : List Heard). posts_at s x y - count_by (is_message_from x) hs) (heard_of_log logs s y h)
 
 two : (f : Way → ℕ) (v w : Way) → sum_by f (v ∷ w ∷ []) ≡ f v + f w
 two f v w = sum_by-cons f v (w ∷ []) ∙ ap (λ n. f v + n) (sum_by-cons f w [] ∙ omega arith)

@@ -1,12 +1,12 @@
 -- Links that are up, as their two ways. This project's own.
 use Rattle.std.specs.Prelude.{ℕ, ◌-◌, ◌==◌, ◌&&◌, Bool, if◌then◌else◌, List, [], ◌∷◌, count_by, slice_get, Option, Some, None}
 use Rattle.m2_bytes.specs.Items.{Holding}
-use Rattle.m2_dispatch.specs.Heard.{Heard}
+use Rattle.m2_dispatch.specs.Heard.{Heard, is_message_from}
 use Rattle.m2_dispatch.specs.declared.logged.Logged.{Logged}
 use Rattle.m2_record.specs.RecordNow.{RecordNow}
 use Rattle.m2_report.specs.Report.{heard_in}
 use Rattle.m2_scenario.specs.declared.link.Link.{Link}
-use Rattle.m2_script.specs.Outcome.{is_down, is_message_of, is_post_step, is_up, posts_at}
+use Rattle.m2_script.specs.Outcome.{is_down, is_post_step, is_up, posts_at}
 use Rattle.m2_script.specs.Script.{RunNow}
 use Rattle.m2_outcome.specs.declared.ways.Way.{Way}
 
@@ -36,4 +36,4 @@ heard_if (Some log) = heard_in log
 
 -- how many posts of a way weren't dispatched, where these are the logs of all nodes
 abbrev pub left_of : List (Holding Logged) → Way → ℕ
-left_of logs w = w.posts - count_by (is_message_of w.from) (heard_if (slice_get logs w.to))
+left_of logs w = w.posts - count_by (is_message_from w.from) (heard_if (slice_get logs w.to))

@@ -1,8 +1,7 @@
 //! How many posts are left.
 
 ghost use Rattle.std.specs.Prelude.{◌≡◌, IfOk, count_by, sum_by};
-ghost use Rattle.m2_dispatch.specs.Heard.{heard_by, heard_of};
-ghost use Rattle.m2_script.specs.Outcome.{is_message_of};
+ghost use Rattle.m2_dispatch.specs.Heard.{heard_by, heard_of, is_message_from};
 ghost use Rattle.m2_outcome.specs.Ways.{left_of};
 
 use crate::ways::{Way, sum};
@@ -35,11 +34,11 @@ fn left_of(way: &Way, logs: &[LoggedList]) -> u64
 
 /// How many messages of a node are among these calls.
 fn messages_of(node: u32, log: &[Logged]) -> u64
-    ensures { result ≡ count_by (is_message_of node) (heard_by log.now) }
+    ensures { result ≡ count_by (is_message_from node) (heard_by log.now) }
 {
     let mut count = 0;
     for call in log {
-        if is_message_of(node, call) {
+        if is_message_from(node, call) {
             count += 1;
         }
     }
@@ -47,8 +46,8 @@ fn messages_of(node: u32, log: &[Logged]) -> u64
 }
 
 /// Whether a call is of a message of this node.
-fn is_message_of(node: u32, call: &Logged) -> bool
-    ensures { result ≡ is_message_of node (heard_of call.now) }
+fn is_message_from(node: u32, call: &Logged) -> bool
+    ensures { result ≡ is_message_from node (heard_of call.now) }
 {
     match call {
         Logged::Message { peer, .. } => *peer == node,

@@ -6,12 +6,12 @@ use Rattle.m2_channel.specs.Handing.{IsNoResetOf}
 use Rattle.m2_channel.specs.Observed.{Logs, all_of, heard_from}
 use Rattle.m2_channel.specs.ObservedLaws.{ComeAsPosted}
 use Rattle.m2_crossing.specs.Order.{AreFirstOf}
-use Rattle.m2_dispatch.specs.Heard.{Heard, message, of_key, reset}
+use Rattle.m2_dispatch.specs.Heard.{Heard, is_message_from, message, of_key, reset}
 use Rattle.m2_dispatcher.specs.Laws.{IsSublist}
 use Rattle.m2_history.proofs.Tidiness.{all_so}
 use Rattle.m2_journal.specs.SideFacts.{SideFacts}
 use Rattle.m2_message.specs.Message.{Content, unnumbered}
-use Rattle.m2_order.specs.Order.{AreSame, IsNoResetBy, IsPrefixOf, is_message_from, posts_between, posts_of}
+use Rattle.m2_order.specs.Order.{AreSame, IsNoResetBy, IsPrefixOf, posts_between, posts_of}
 use Rattle.m2_paired.specs.Orders as orders
 use Rattle.m2_policy.specs.declared.path.Key.{Key}
 use Rattle.m2_posted.specs.Posted.{AreSomeOf}

@@ -5,14 +5,13 @@ use Rattle.std.proofs.lemmas.List.Sums.{sum_by-cons}
 use Rattle.m2_channel.specs.Channel as channel
 use Rattle.m2_channel.specs.Observed.{heard_from}
 use Rattle.m2_crossing.specs.Order.{AreFirstOf}
-use Rattle.m2_dispatch.specs.Heard.{Heard, message, reset}
+use Rattle.m2_dispatch.specs.Heard.{Heard, is_message_from, message, reset}
 use Rattle.m2_journal.specs.SideFacts.{SideFacts}
 use Rattle.m2_message.specs.Message.{Content, unnumbered}
-use Rattle.m2_order.specs.Order.{AreSame, IsPrefixOf, is_message_from}
+use Rattle.m2_order.specs.Order.{AreSame, IsPrefixOf}
 use Rattle.m2_paired.specs.Orders as orders
 use Rattle.m2_policy.specs.declared.path.Key.{Key}
 use Rattle.m2_posted.proofs.Plans.{has_key}
-use Rattle.m2_script.specs.Outcome.{is_message_of}
 
 -- ---- one for one
 
@@ -59,13 +58,3 @@ count_heard peer (message p k n m ∷ log) = sum_by-cons (λ (h : Heard). cond (
     at true same = omega (arith, same)
     at false same = omega (arith, same)
 count_heard peer (reset p ∷ log) = sum_by-cons (λ (h : Heard). cond (is_message_from peer h) 1 0) (reset p) log ∙ omega (arith, count_heard peer log)
-
-pub count_both : (peer : ℕ) (log : List Heard) → count_by (is_message_of peer) log ≡ count_by (is_message_from peer) log
-count_both peer [] = refl
-count_both peer (h ∷ log) =
-    sum_by-cons (λ (x : Heard). cond (is_message_of peer x) 1 0) h log ∙ ap (λ n. n + count_by (is_message_of peer) log) (one h) ∙ ap (λ n. cond (is_message_from peer h) 1 0 + n) (count_both peer log)
-    ∙ sym (sum_by-cons (λ (x : Heard). cond (is_message_from peer x) 1 0) h log)
-  where
-    one : (x : Heard) → (let n : ℕ = cond (is_message_of peer x) 1 0 in n) ≡ cond (is_message_from peer x) 1 0
-    one (message p k n m) = refl
-    one (reset p) = refl

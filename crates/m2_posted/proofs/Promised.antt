@@ -11,19 +11,18 @@ use Rattle.std.proofs.lemmas.Option.{slice_get_past, none-some, same_Some}
 use Rattle.m2_channel.proofs.Keys.{differ}
 use Rattle.m2_cluster.specs.Node.{NodeNow}
 use Rattle.m2_dispatch.specs.declared.logged.Logged.{Logged}
-use Rattle.m2_dispatch.specs.Heard.{Heard, heard_by, of_key, peer_of}
+use Rattle.m2_dispatch.specs.Heard.{Heard, heard_by, is_message_from, of_key, peer_of}
 use Rattle.m2_growth.specs.Halves.{IsOneOf}
 use Rattle.m2_growth.proofs.Among.{each_by, of_each}
 use Rattle.m2_history.proofs.Tidiness.{all_so}
 use Rattle.m2_started.specs.Started.{IsKept}
-use Rattle.m2_order.specs.Order.{AreOfJoined, HearsNoReset, HearsPrefix, HearsWhole, IsPeer, at, fast_of, is_message_from, messages_between, posts_between, posts_of}
+use Rattle.m2_order.specs.Order.{AreOfJoined, HearsNoReset, HearsPrefix, HearsWhole, IsPeer, at, fast_of, messages_between, posts_between, posts_of}
 use Rattle.m2_planned.specs.Planned.{IsKeptNode, IsPeerOf}
 use Rattle.m2_policy.specs.declared.path.Key.{Key}
 use Rattle.m2_posted.specs.Posted.{AllNoted, AreSomeOf, HearsSome, IsAccountedOver, IsMarkedSo, KeepsPromise, PostsOfTypes, is_lossy, link_between}
 use Rattle.m2_posted.proofs.Ends.{all_at, not_so}
 use Rattle.m2_posted.proofs.Hears.{HearsOf}
 use Rattle.m2_posted.proofs.Joined.{AreLaws, KeepsAll, StaysUp, a_hears, a_hears_some, a_marked, accepted, b_hears, b_hears_some, b_marked, come_in, journals, marked_in, of_a, of_b, ordered, records, up_in}
-use Rattle.m2_posted.proofs.Prefixes.{count_both}
 use Rattle.m2_posted.proofs.Sides.{from_a, from_b, peer_joined}
 use Rattle.m2_posted.proofs.Towards.{IsTowards, is_towards, posts_counted}
 use Rattle.m2_posted.proofs.Turns.{all_turns}
@@ -182,7 +181,7 @@ module _ (laws : AreLaws) (nodes : List Node) (links : List Link) (lines : List 
   -- ---- how many are left
 
   count_is : (x y : ℕ) → messages_at heard_by s x y ≡ messages_between all x y
-  count_is x y = count_both x (heard_at heard_by s y) ∙ ap (count_by (is_message_from x)) (sym (heard_is y))
+  count_is x y = ap (count_by (is_message_from x)) (sym (heard_is y))
 
   -- one way
   counted_from : (x y : ℕ) → posts_at s x y ≡ posts_between posted x y → messages_between all x y ≤ posts_between posted x y → messages_between all x y + left_from heard_by s x y ≡ posts_between posted x y

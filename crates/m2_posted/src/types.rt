@@ -1,5 +1,4 @@
-//! That a scenario's lines post messages of their types. Nothing of this is done when it runs: it says what every such
-//! value keeps.
+//! What every list of lines keeps, for contracts alone: that it posts messages of their types.
 
 ghost use Rattle.std.specs.Prelude.{◌<◌};
 ghost use Rattle.std.specs.List.{All, AllByRecursion};

@@ -4,10 +4,10 @@ use Rattle.std.proofs.lemmas.List.{length-map}
 use Rattle.std.proofs.lemmas.List.Elements.{All-nil, All-append, All-filter, All-map}
 use Rattle.std.specs.List.{flat_map, range_with_len}
 use Rattle.m2_priority.proofs.ByRank.{all-by_rank}
-use Rattle.m2_dispatch.specs.Heard.{Heard}
+use Rattle.m2_dispatch.specs.Heard.{Heard, is_message_from}
 use Rattle.m2_scenario.specs.declared.node.Node.{Node}
 use Rattle.m2_words.specs.Text.{Word}
-use Rattle.m2_report.specs.Report.{name_of, node_lines, in_order, sorted_of, rank_of, is_message_from, is_reset_by}
+use Rattle.m2_report.specs.Report.{name_of, node_lines, in_order, sorted_of, rank_of, is_reset_by}
 use Rattle.m2_report.specs.Printed.{AreReportable, IsReportable, printed_of}
 use Rattle.m2_report.specs.Laws.{SortedReportsAreReadInOneWay, printed_sorted}
 use Rattle.m2_report.proofs.HexWords.{HexIsReadAgain}

@@ -11,7 +11,7 @@ use Rattle.m2_policy.specs.declared.path.Key.{Key}
 use Rattle.m2_policy.specs.declared.path.Path.{Path}
 use Rattle.m2_policy.specs.declared.path.Path.TheVariants.{Fast, Queued}
 use Rattle.m2_priority.specs.ByRank.{by_rank}
-use Rattle.m2_dispatch.specs.Heard.{Heard, message, reset, heard_of, heard_by, peer_of}
+use Rattle.m2_dispatch.specs.Heard.{Heard, message, reset, heard_of, heard_by, is_message_from, peer_of}
 use Rattle.m2_dispatch.specs.declared.logged.Logged.{Logged}
 use Rattle.m2_scenario.specs.declared.node.Node.{Node}
 use Rattle.m2_words.specs.Text.{Word, word}
@@ -39,10 +39,6 @@ line_of names node (message peer key number m) = dispatch_line node (word names 
 line_of names node (reset peer) = reset_line node (word names peer)
 
 -- ---- their order
-
-abbrev pub is_message_from : ℕ → Heard → Bool
-is_message_from peer (message p key number m) = p == peer
-is_message_from peer (reset p) = false
 
 abbrev pub is_reset_by : ℕ → Heard → Bool
 is_reset_by peer (message p key number m) = false

@@ -5,10 +5,10 @@ ghost use Rattle.std.specs.List.{flat_map};
 ghost use Rattle.m2_bytes.specs.Hexadecimal.{hex_text};
 ghost use Rattle.m2_message.specs.Message.{content_of};
 ghost use Rattle.m2_priority.specs.ByRank.{by_rank};
-ghost use Rattle.m2_dispatch.specs.Heard.{heard_of, heard_by};
+ghost use Rattle.m2_dispatch.specs.Heard.{heard_of, heard_by, is_message_from};
 ghost use Rattle.m2_words.specs.Text.{word};
 ghost use Rattle.m2_scenario.specs.Valid.{IsValid};
-ghost use Rattle.m2_report.specs.Report.{path_word, dispatch_line, reset_line, line_of, is_message_from, is_reset_by, path_rank, rank_of, sorted_of};
+ghost use Rattle.m2_report.specs.Report.{path_word, dispatch_line, reset_line, line_of, is_reset_by, path_rank, rank_of, sorted_of};
 ghost use Rattle.m2_report.specs.Report.{name_of, node_lines, report_of, told_by, heard_in, IsPeerAmong, IsOfNodes, AreLogsOf};
 
 use m2_bytes::{Blob, Items, NoMemory, put_decimal, put_hex};

@@ -3,7 +3,7 @@
 -- runtime; the rest is this project's own.
 use Rattle.std.specs.Prelude.{ℕ, ◌+◌, ◌-◌, ◌==◌, ◌&&◌, ◌||◌, not, Bool, true, false, if◌then◌else◌, List, [], ◌∷◌, ◌++◌, length, filter, map, take, drop, slice_get, Option, Some, None, sum_by, count_by}
 use Rattle.std.specs.List.{list_any, range_with_len}
-use Rattle.m2_dispatch.specs.Heard.{Heard, message, reset}
+use Rattle.m2_dispatch.specs.Heard.{Heard, is_message_from}
 use Rattle.m2_journal.specs.declared.entry.Entry.{Entry}
 use Rattle.m2_journal.specs.declared.entry.Entry.TheVariants as entry
 use Rattle.m2_journal.specs.declared.facts.PlanStep.{PlanStep}
@@ -73,13 +73,9 @@ is_post_step _ = false
 abbrev pub posts_at : {D : Type 0} → RunNow D → (x y : ℕ) → ℕ
 posts_at s x y = sum_by (λ (r : RecordNow). if r.place == y then count_by is_post_step r.plan else 0) (records_at (slice_get s.cluster.nodes x))
 
-abbrev pub is_message_of : ℕ → Heard → Bool
-is_message_of x (message peer key number m) = peer == x
-is_message_of x (reset peer) = false
-
 -- how many messages of node x the dispatchers of node y were called with
 abbrev pub messages_at : {D : Type 0} → (D → List Heard) → RunNow D → (x y : ℕ) → ℕ
-messages_at heard s x y = count_by (is_message_of x) (heard_at heard s y)
+messages_at heard s x y = count_by (is_message_from x) (heard_at heard s y)
 
 -- how many posts of x to y weren't dispatched
 abbrev pub left_from : {D : Type 0} → (D → List Heard) → RunNow D → (x y : ℕ) → ℕ

@@ -1,7 +1,7 @@
 -- with the messages and the resets that are left they are all
 use Rattle.std.proofs.Common.{◌≡◌, ◌++◌, drop, filter}
-use Rattle.m2_dispatch.specs.Heard.{heard_by}
-use Rattle.m2_report.specs.Report.{is_message_from, is_reset_by, told_by}
+use Rattle.m2_dispatch.specs.Heard.{heard_by, is_message_from}
+use Rattle.m2_report.specs.Report.{is_reset_by, told_by}
 use Rattle.m2_report.proofs.reports.gather.Given as goal
 
 abbrev pub invariant-loop-call : goal.invariant-loop-call

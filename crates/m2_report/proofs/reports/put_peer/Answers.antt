@@ -1,8 +1,8 @@
 use Rattle.std.proofs.Common.{◌≡◌, ◌∙◌, ap, length, map, filter}
 use Rattle.std.proofs.lemmas.Result.{on_ok_weaker}
 use Rattle.m2_priority.specs.ByRank.{by_rank}
-use Rattle.m2_dispatch.specs.Heard.{heard_by}
-use Rattle.m2_report.specs.Report.{line_of, name_of, rank_of, is_message_from, is_reset_by, told_by}
+use Rattle.m2_dispatch.specs.Heard.{heard_by, is_message_from}
+use Rattle.m2_report.specs.Report.{line_of, name_of, rank_of, is_reset_by, told_by}
 use Rattle.m2_report.proofs.Ranked.{picked_among, sorted_among, peer_lines}
 use Rattle.m2_report.proofs.reports.put_peer.Goals as goal
 
