@@ -51,6 +51,13 @@ impl<P: Port> Run<P> {
         }
     }
 
+    /// The nodes where the lines so far have led them.
+    pub fn cluster(&self) -> &Cluster<P, LogDispatcher>
+        ensures { result.now ≡ self.entry.now.cluster }
+    {
+        &self.cluster
+    }
+
     /// The nodes, and how many calls their dispatchers had in each turn, in the order of the turns, without turns in
     /// which they had none.
     pub fn into_parts(self) -> (Cluster<P, LogDispatcher>, TurnCallsList)

@@ -109,6 +109,17 @@ pub(crate) fn put_judged(
     ensures { OnOk result (out.new.bytes ≡ out.old.bytes ++ judged_words socket.now ask.now answer.now) }
 {
     put_socket(out, socket)?;
+    put_ask_and_answer(out, ask, answer)
+}
+
+/// Appends the words of an ask, and those of its answer.
+pub fn put_ask_and_answer(
+    out: &mut Blob,
+    ask: &AskFacts,
+    answer: &Answer,
+) -> Result<(), NoMemory>
+    ensures { OnOk result (out.new.bytes ≡ out.old.bytes ++ (ask_words ask.now ++ answer_words answer.now)) }
+{
     put_ask(out, ask)?;
     put_answer(out, answer)
 }
