@@ -1,0 +1,61 @@
+"""Runs the program on scenarios near the limits of a file: 16 nodes, 120 links, 20,000 posts and some 4 MB. What it
+prints is compared with the posts, which this script made: of each two nodes, priority and path all of them, in order,
+each once.
+
+The program gets a stack of 256 KB, in which it runs with many sockets and turns as with few: a call that went one
+deeper with each socket, message or turn would end it. Nothing fails but the sockets: 64 of them are cut and 64 faulted,
+each at a client that dials again.
+"""
+import os, resource, subprocess, sys, tempfile
+
+TOP = os.path.dirname(os.path.dirname(os.path.abspath(__file__)))
+PROGRAM = os.path.join(TOP, "crates/msgr2/out/msgr2")
+NODES, POSTS, CUTS, FAULTS = 16, 20_000, 64, 64
+FILE, STACK = 4_194_304, 256 * 1024
+PRIORITIES, KINDS, FAST = (64, 127, 196, 255), (1, 2, 3), (2,)
+
+
+def scenario():
+    """The lines, and of each (reader, writer, priority, path) the fronts in order."""
+    pairs = [(a, b) for a in range(NODES) for b in range(a + 1, NODES)]
+    lines = [f"node n{i} osd 127.0.0.1:{7000 + i}/{i} fast {FAST[0]}" for i in range(NODES)]
+    lines += [f"link n{a} n{b} lossless_client stateful_server" for a, b in pairs]
+    lines += [f"cut n{a} n{b} {1000 + 97 * k}" for k, (a, b) in enumerate(pairs[:CUTS])]
+    lines += [f"dial n{a} n{b}" for a, b in pairs] + ["settle 12"]
+    digits = (FILE - 64 * 1024) // POSTS - 28
+    wanted = {}
+    for i in range(POSTS):
+        a, b = pairs[i // 2 % len(pairs)][:: 1 if i % 2 else -1]
+        priority, kind = PRIORITIES[i // 7 % 4], KINDS[i // 11 % 3]
+        front = f"{i:0{digits & ~1}x}"
+        lines.append(f"post n{a} n{b} {kind} {priority} {front} - -")
+        path = "fast" if kind in FAST else "queued"
+        wanted.setdefault((f"n{b}", f"n{a}", str(priority), path), []).append(front)
+        if i % (POSTS // FAULTS) == 100:
+            a, b = pairs[i // 100 % len(pairs)]
+            lines += [f"turn n{a}", f"fault n{a} n{b}", "settle 2"]
+    return "\n".join([*lines, "settle 60", ""]), wanted
+
+
+def main():
+    text, wanted = scenario()
+    if not 0.95 * FILE < len(text) <= FILE:
+        sys.exit(f"the scenario has {len(text)} bytes")
+    with tempfile.TemporaryDirectory() as folder:
+        name = os.path.join(folder, "large.scenario")
+        with open(name, "w") as file:
+            file.write(text)
+        limit = lambda: resource.setrlimit(resource.RLIMIT_STACK, (STACK, STACK))
+        ended = subprocess.run([PROGRAM, "sim", name], capture_output=True, preexec_fn=limit, text=True)
+    if ended.returncode or ended.stderr:
+        sys.exit(f"large: status {ended.returncode}, {ended.stderr.strip()}")
+    seen = {}
+    for line in ended.stdout.splitlines():
+        reader, _, writer, priority, path, _, front, _, _ = line.split()
+        seen.setdefault((reader, writer, priority, path), []).append(front)
+    if seen != wanted:
+        sys.exit("large: what was dispatched is not what was posted")
+    print(f"large: {POSTS} posts in {len(text)} bytes came in order, each once, in a stack of {STACK} bytes")
+
+
+main()
