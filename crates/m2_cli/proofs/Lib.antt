@@ -1,6 +1,7 @@
 pub mod Listings
 pub mod LoadLinks
 pub mod Loads
+pub mod Made
 pub mod Memory
 pub mod Orders
 pub mod Programs
