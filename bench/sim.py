@@ -7,7 +7,8 @@ FAULTS = 64
 RUNS = 7
 NODES = [2, 4, 8, 16]
 POSTS = 20000
-TURNS = 16000
+TURNS = 20000
+LAST = 16  # rounds, in which all that was posted comes over
 STEPS = [1250, 2500, 5000, 10000]
 
 
@@ -29,12 +30,12 @@ def mesh(nodes):
     lines += [f"link n{i} n{j} lossless_peer lossless_peer" for i in range(nodes) for j in range(i + 1, nodes)]
     pairs = [(i, j) for i in range(nodes) for j in range(nodes) if i != j]
     rounds = TURNS // nodes
-    every = POSTS // (rounds - 2)
+    every = POSTS // (rounds - LAST)
     for i in range(POSTS):
         a, b = pairs[i % len(pairs)]
         priority = (64, 127, 196, 255)[i % 4]
         lines.append(f"post n{a} n{b} {1 + i // 4 % 2} {priority} {i:064x} - -")
-        if i % every == every - 1 and rounds > 2:
+        if i % every == every - 1 and rounds > LAST:
             lines.append("settle 1")
             rounds -= 1
     lines += [f"settle {rounds}", ""]
@@ -42,12 +43,12 @@ def mesh(nodes):
 
 
 def steps(posts):
-    """So many posts over one socket, each dispatched and acknowledged before the next one: four turns for each."""
+    """So many posts over one socket, one in a round: two turns for each."""
     lines = ["node a osd 127.0.0.1:7001/1", "node b osd 127.0.0.1:7002/2", "link a b lossless_peer lossless_peer"]
     lines += ["dial a b", "settle 12"]
     for i in range(posts):
-        lines += [f"post a b 1 127 {i:064x} - -", "settle 2"]
-    return "\n".join([*lines, ""])
+        lines += [f"post a b 1 127 {i:064x} - -", "settle 1"]
+    return "\n".join([*lines, "settle 2", ""])
 
 
 def run(words, want):
@@ -93,7 +94,7 @@ def main():
         for nodes in NODES:
             times[nodes], most, _ = timed(program, folder, f"mesh{nodes}", mesh(nodes))
             print(f"{nodes:5d}  {times[nodes]:7.4f}  {POSTS / times[nodes]:7.0f}  {nodes * (nodes - 1) // 2:5d}  {most:10.1f}")
-        print("messages of one session, one at a time  seconds  microseconds a message")
+        print("messages of one session, one in a round  seconds  microseconds a message")
         for posts in STEPS:
             took, _, _ = timed(program, folder, f"steps{posts}", steps(posts))
             turns[posts] = took / posts
@@ -106,4 +107,5 @@ def main():
     print(f"a message's time in a session of {STEPS[-1]} over one of {STEPS[0]}: {turns[STEPS[-1]] / turns[STEPS[0]]:.2f} (wanted: no more than 1.25)")
 
 
-main()
+if __name__ == "__main__":
+    main()
