@@ -3,6 +3,7 @@
 ghost use Rattle.std.specs.Prelude.{◌≡◌, ◌<◌, OnOk};
 ghost use Rattle.m2_sim_net.specs.Kept.{back, both, cleared, fresh_kept, there};
 ghost use Rattle.m2_sim_net.specs.News.{AreTold, kept_after, logs_of, told_to};
+ghost use Rattle.m2_sim_net.specs.Over.{is_over};
 
 use crate::direction::{Direction, Progress};
 use crate::passing::Passing;
@@ -33,6 +34,13 @@ impl Kept {
             there: none,
             back: none,
         }
+    }
+
+    /// Whether nothing is passed on any more, either way.
+    pub(crate) fn is_over(&self) -> bool
+        ensures { result ≡ is_over self.now }
+    {
+        self.there.over && self.back.over
     }
 
     /// The direction from the first node to the second.

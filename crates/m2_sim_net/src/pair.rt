@@ -5,6 +5,7 @@ ghost use Rattle.std.specs.List.{list_any};
 ghost use Rattle.m2_fabric.specs.Sockets.{same_socket};
 ghost use Rattle.m2_sim_net.specs.Kept.{AreWithin, IsWithin, SeenPair, between, chosen, cleared, cleared_pair, directions, is_kept, joins, numbered, of_pair, of_sockets, pairs_after_add, with_kept};
 ghost use Rattle.m2_sim_net.specs.News.{AreTold, kept_after, logs_of, pair_after, told_to};
+ghost use Rattle.m2_sim_net.specs.Over.{AreOver};
 
 use crate::kept::Kept;
 use crate::passing::Passing;
@@ -19,14 +20,31 @@ pub(crate) struct Pair {
     first: u32,
     second: u32,
     sockets: Vec<Kept>,
+    /// So many of the first sockets are over both ways: a call passes nothing on there.
+    over: usize,
 }
 
 impl Model for Pair {
     ghost use Rattle.m2_sim_net.specs.Kept.{SeenPair};
+    ghost use Rattle.m2_sim_net.specs.Over.{AreOver};
 
     ghost Value = { SeenPair };
 
     ghost view = { λ p. record { first = p.first; second = p.second; sockets = p.sockets.items } };
+
+    ghost invariant = { λ p. AreOver p.over p.sockets.items };
+}
+
+/// How many of the first sockets are over both ways, where so many are known to be.
+fn count_over(sockets: &[Kept], known: usize) -> usize
+    requires { AreOver known sockets.now }
+    ensures { AreOver result sockets.now }
+{
+    let mut over = known;
+    while over < sockets.len() && sockets[over].is_over() {
+        over += 1;
+    }
+    over
 }
 
 /// Passes on what each socket does, as far as `what` is about it.
@@ -51,6 +69,29 @@ fn pass_sockets<H: Holder>(
     Ok(())
 }
 
+/// The same, where the first `over` sockets are over both ways.
+fn pass_behind<H: Holder>(
+    sockets: &mut [Kept],
+    over: usize,
+    h: &mut H,
+    piece: &mut Blob,
+    first: u32,
+    second: u32,
+    what: &Passing,
+) -> Result<(), NoMemory>
+    requires over { AreOver over sockets.old }
+    requires first { first < (H.seen h.old).nodes }
+    requires second { second < (H.seen h.old).nodes }
+    ensures over { AreOver over sockets.new }
+    ensures same { map cleared sockets.new ≡ map cleared sockets.old }
+    ensures sockets { OnOk result (sockets.new ≡ map (kept_after what.now (logs_of (H.seen h.old)) first second) sockets.old) }
+    ensures told { OnOk result (AreTold (told_to what.now (logs_of (H.seen h.old)) (of_sockets first second sockets.old)) (H.seen h.old) (H.seen h.new)) }
+    ensures rest { H.rest h.new ≡ H.rest h.old }
+{
+    let (_, live) = sockets.split_at_mut(over);
+    pass_sockets(live, h, piece, first, second, what)
+}
+
 impl Pair {
     /// Two nodes with one socket between them. Err comes for want of memory.
     fn of(alloc: Global, first: u32, second: u32, kept: Kept) -> Result<Pair, NoMemory>
@@ -62,6 +103,7 @@ impl Pair {
             first,
             second,
             sockets,
+            over: 0,
         })
     }
 
@@ -109,7 +151,19 @@ impl Pair {
         ensures told { OnOk result (AreTold (told_to what.now (logs_of (H.seen h.old)) (of_pair self.old)) (H.seen h.old) (H.seen h.new)) }
         ensures rest { H.rest h.new ≡ H.rest h.old }
     {
-        pass_sockets(&mut self.sockets, h, piece, self.first, self.second, what)
+        if !what.is_between(self.first, self.second) {
+            return Ok(());
+        }
+        self.over = count_over(self.sockets.as_slice(), self.over);
+        pass_behind(
+            self.sockets.as_mut_slice(),
+            self.over,
+            h,
+            piece,
+            self.first,
+            self.second,
+            what,
+        )
     }
 }
 

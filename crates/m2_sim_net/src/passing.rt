@@ -2,6 +2,7 @@
 
 ghost use Rattle.std.specs.Prelude.{◌≡◌, ◌<◌, [], ◌∷◌, IfOk, OnOk, None};
 ghost use Rattle.m2_sim_net.specs.News.{AreTold, is_about, is_any_or, is_any_socket_or, logs_of, progress_by, told_to};
+ghost use Rattle.m2_sim_net.specs.Over.{is_between, leads};
 
 use crate::direction::{Direction, Progress};
 use m2_bytes::{Blob, NoMemory};
@@ -41,11 +42,25 @@ fn is_any_socket_or(socket: Option<SocketId>, id: &SocketId) -> bool
 }
 
 impl Passing {
+    /// Whether this is about what leads from one node to another.
+    fn leads(&self, from: u32, to: u32) -> bool
+        ensures { result ≡ leads self.now from to }
+    {
+        self.from == from && is_any_or(self.to, to)
+    }
+
+    /// Whether this is about what leads between two nodes, one way or the other.
+    pub(crate) fn is_between(&self, first: u32, second: u32) -> bool
+        ensures { result ≡ is_between self.now first second }
+    {
+        self.leads(first, second) || self.leads(second, first)
+    }
+
     /// Whether this is about a direction.
     fn is_about(&self, d: &Direction) -> bool
         ensures { result ≡ is_about self.now d.now }
     {
-        self.from == d.from && is_any_or(self.to, d.to) && is_any_socket_or(self.socket, &d.id)
+        self.leads(d.from, d.to) && is_any_socket_or(self.socket, &d.id)
     }
 
     /// Passes on what a direction does, if this is about it. How far the direction has come then. `piece` is room for
