@@ -1,0 +1,4 @@
+pub mod Status
+pub mod Playing
+pub mod Tracing
+pub mod Top

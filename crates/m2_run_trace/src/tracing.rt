@@ -1,0 +1,131 @@
+//! The trace of a scenario.
+
+ghost use Rattle.std.specs.Prelude.{IfOk, map};
+ghost use Rattle.std.specs.List.{AllByRecursion};
+ghost use Rattle.m2_run_trace.specs.Playing.{CanBeDoneBy, IsReady};
+ghost use Rattle.m2_run_trace.specs.Tracing.{Traces};
+ghost use Rattle.m2_scenario.specs.Draft.{draft_line};
+ghost use Rattle.m2_scenario.specs.Valid.{IsSound, IsValid};
+ghost use Rattle.m2_started.specs.Started.{IsFirst};
+
+use crate::playing::{MemoryRun, Played, Scene, finish, play_all};
+use m2_bytes::{Blob, Items, NoMemory};
+use m2_nodes::{addresses, clear_all, cluster_of};
+use m2_scenario::{Line, LineList, Link, Node, Scenario};
+use m2_scenario_text::{BadScenario, read};
+use m2_script::{Run, scripts_are_within};
+use m2_sim_net::SimFabric;
+use m2_started::first_is_kept;
+use m2_words::Kind;
+use std::alloc::Global;
+
+/// Why a text has no trace.
+#[derive(Clone, Copy, Debug, PartialEq, Eq)]
+pub enum Untraced {
+    /// Its first bad line, in this way.
+    BadLine { line: u32, kind: Kind },
+    NoMemory,
+}
+
+/// The trace of the scenario that a text says: each line of its script as it is played, and under it what the nodes
+/// did.
+pub fn trace(alloc: Global, bytes: &[u8]) -> Result<Blob, Untraced>
+    ensures { Traces result bytes.now }
+{
+    match read(alloc, bytes, false) {
+        Ok(scenario) => match trace_scenario(alloc, bytes, scenario) {
+            Ok(text) => Ok(text),
+            Err(NoMemory) => Err(Untraced::NoMemory),
+        },
+        Err(BadScenario::BadLine { line, kind }) => Err(Untraced::BadLine { line, kind }),
+        Err(BadScenario::NoMemory) => Err(Untraced::NoMemory),
+    }
+}
+
+/// The same of a scenario with its text.
+fn trace_scenario(alloc: Global, text: &[u8], scenario: Scenario) -> Result<Blob, NoMemory>
+    requires { IsValid scenario }
+{
+    let Scenario {
+        nodes,
+        links,
+        lines,
+        limit: _,
+    } = scenario;
+    let scene = Scene {
+        nodes: nodes.as_slice(),
+        links: links.as_slice(),
+    };
+    trace_lines(alloc, text, &scene, lines)
+}
+
+/// The same of its lines.
+fn trace_lines(
+    alloc: Global,
+    text: &[u8],
+    scene: &Scene<'_>,
+    lines: LineList,
+) -> Result<Blob, NoMemory>
+    requires { IsSound scene.now.nodes.now scene.now.links.now (map draft_line lines.items) }
+{
+    let mut run = begin(alloc, scene.nodes, scene.links, lines.as_slice())?;
+    is_ready(scene, lines.as_slice(), &run);
+    let traced = trace_run(alloc, text, scene, &mut run, lines);
+    let (cluster, _calls) = run.into_parts();
+    clear_all(cluster);
+    traced
+}
+
+/// The run before its first line.
+fn begin(
+    alloc: Global,
+    nodes: &[Node],
+    links: &[Link],
+    lines: &[Line],
+) -> Result<MemoryRun, NoMemory>
+    requires { IsSound nodes.now links.now (map draft_line lines.now) }
+    ensures { IfOk result (IsFirst nodes.now links.now) }
+{
+    let addrs = addresses(alloc, nodes)?;
+    let cluster = cluster_of(alloc, nodes, links, lines)?;
+    Ok(Run::new(alloc, cluster, SimFabric::new(alloc, addrs)))
+}
+
+/// Before its first line a run is ready for all of them. For contracts alone.
+fn is_ready(scene: &Scene<'_>, lines: &[Line], run: &MemoryRun)
+    requires sound { IsSound scene.now.nodes.now scene.now.links.now (map draft_line lines.now) }
+    requires first { IsFirst scene.now.nodes.now scene.now.links.now run.entry.now }
+    ensures ready { IsReady scene.now.nodes.now scene.now.links.now run.entry.now }
+    ensures lines { AllByRecursion (CanBeDoneBy scene.now.nodes.now scene.now.links.now) lines.now }
+{
+    first_is_kept();
+    scripts_are_within();
+}
+
+/// Plays all lines.
+fn trace_run(
+    alloc: Global,
+    text: &[u8],
+    scene: &Scene<'_>,
+    run: &mut MemoryRun,
+    lines: LineList,
+) -> Result<Blob, NoMemory>
+    requires ready { IsReady scene.now.nodes.now scene.now.links.now run.old }
+    requires lines { AllByRecursion (CanBeDoneBy scene.now.nodes.now scene.now.links.now) lines.items }
+{
+    let mut played = Played {
+        text,
+        sockets: Items::empty(alloc),
+        out: Blob::empty(alloc),
+        moment: 0,
+    };
+    play_all(alloc, scene, &mut played, run, lines)?;
+    finish(scene, &mut played, run)?;
+    let Played {
+        text: _,
+        sockets: _,
+        out,
+        moment: _,
+    } = played;
+    Ok(out)
+}
