@@ -262,8 +262,9 @@ fn path_word(path: Path) -> &'static [u8]
     }
 }
 
-// `NODE from PEER PRIORITY PATH KIND FRONT MIDDLE DATA` and a line feed.
-fn put_dispatch(
+/// Appends `NODE from PEER PRIORITY PATH KIND FRONT MIDDLE DATA` and a line feed, with these names of the node and the
+/// peer.
+pub fn put_dispatch(
     out: &mut Blob,
     node: &[u8],
     peer: &[u8],
@@ -296,8 +297,8 @@ fn put_part(out: &mut Blob, part: &[u8]) -> Result<(), NoMemory>
     put_hex(out, part)
 }
 
-// `NODE reset PEER` and a line feed.
-fn put_reset(out: &mut Blob, node: &[u8], peer: &[u8]) -> Result<(), NoMemory>
+/// Appends `NODE reset PEER` and a line feed.
+pub fn put_reset(out: &mut Blob, node: &[u8], peer: &[u8]) -> Result<(), NoMemory>
     ensures { OnOk result (out.new.bytes ≡ out.old.bytes ++ reset_line node.now peer.now) }
 {
     out.push_all(node)?;

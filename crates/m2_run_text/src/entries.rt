@@ -1,192 +1,229 @@
 //! What a record did, as lines.
 
+ghost use Rattle.std.specs.Prelude.{◌≡◌, ◌∷◌, ◌++◌, ◌-◌, [], if◌then◌else◌, OnOk, drop, length, slice_get};
+ghost use Rattle.std.specs.Option.{option_copied};
+ghost use Rattle.m2_journal.specs.Items.{runs_on};
+ghost use Rattle.m2_run_text.specs.Entries.{calls_behind, calls_left, entry_before, entry_lines, is_fast, judged_words, lines_of, put_of, start_on, told_by, told_line};
+ghost use Rattle.m2_run_text.specs.Ends.{opened_words, wrote_words};
+ghost use Rattle.m2_run_text.specs.Dispatches.{first_line};
+ghost use Rattle.m2_run_text.specs.Telling.{log_in, seen_log};
+ghost use Rattle.m2_trail.specs.Trails.{written_by};
+
 use crate::cause::cause_in_journal;
-use crate::dispatches::put_next_fast;
+use crate::dispatches::put_next;
 use crate::ends::{put_closed, put_read, put_wrote};
-use crate::marks::MemoryCenter;
-use crate::words::{name_of, put_socket};
+use crate::lists::behind;
+use crate::telling::{Calls, Teller};
+use crate::words::{begin_journal, put_with_socket};
+use m2_answers::AskFacts;
 use m2_bytes::{Blob, NoMemory};
 use m2_fabric::{EndLog, SocketId};
-use m2_journal::Entry;
+use m2_journal::{Entry, EntryList};
 use m2_policy::Path;
 use m2_scenario::Node;
-use m2_trace_text::{put_ask_and_answer, put_journal, put_number};
+use m2_session::Answer;
+use m2_trace_text::{put_ask_and_answer, put_entry_words, put_number};
 
-/// What lines of a node are made from.
-#[derive(Drop)]
-pub(crate) struct Teller<'a> {
-    pub nodes: &'a [Node],
-    pub center: &'a MemoryCenter,
-    /// The node's name.
-    pub name: &'a [u8],
-    /// What a line begins with that tells what a record did: two spaces, the name, and `journal`.
-    pub head: &'a [u8],
-}
-
-/// Appends the entries of the record at this place, from one to another. With an accepted message of a fast kind goes
-/// its dispatch; `fast` counts those that are told.
+/// Appends the entries of a journal from one place to another, each with the dispatch of a fast kind that goes with it.
 pub(crate) fn put_entries(
     out: &mut Blob,
     teller: &Teller<'_>,
-    record: usize,
+    peer: &[u8],
+    journal: &EntryList,
     from: usize,
     to: usize,
-    fast: &mut usize,
-) -> Result<(), NoMemory> {
-    let Some(record) = teller.center.records().get(record) else {
-        return Ok(());
-    };
-    let peer = name_of(teller.nodes, record.place());
-    let journal = record.journal().as_slice();
+    calls: &mut Calls<'_>,
+) -> Result<(), NoMemory>
+    ensures text { OnOk result (out.new.bytes ≡ out.old.bytes ++ lines_of teller.now peer.now journal.now.items from (to - from) calls.old) }
+    ensures calls { OnOk result (calls.new ≡ calls_left journal.now.items from (to - from) calls.old) }
+{
     'entries: for at in from..to {
-        put_entry(out, teller, peer, journal, at, fast)?;
+        put_entry(out, teller, peer, journal, at, calls)?;
     }
     Ok(())
 }
 
-/// Appends the entry at this place.
+/// Appends the entry at this place, if there is one.
 fn put_entry(
     out: &mut Blob,
     teller: &Teller<'_>,
     peer: &[u8],
-    journal: &[Entry],
-    at: usize,
-    fast: &mut usize,
-) -> Result<(), NoMemory> {
-    let Some(entry) = journal.get(at) else {
-        return Ok(());
-    };
-    if let Some(socket) = socket_in(entry) {
-        put_entry_head(out, teller, peer)?;
-        return put_at_socket(out, teller, journal, at, entry, &socket);
+    journal: &EntryList,
+    place: usize,
+    calls: &mut Calls<'_>,
+) -> Result<(), NoMemory>
+    ensures text { OnOk result (out.new.bytes ≡ out.old.bytes ++ entry_lines teller.now peer.now journal.now.items place calls.old (slice_get journal.now.items place)) }
+    ensures calls { OnOk result (calls.new ≡ calls_behind calls.old (slice_get journal.now.items place)) }
+{
+    match journal.get(place) {
+        None => Ok(()),
+        Some(entry) => {
+            put_line(out, teller, peer, journal, place, entry)?;
+            put_its_dispatch(out, teller, entry, calls)
+        }
     }
-    put_plain(out, teller, peer, journal, at)?;
+}
+
+/// Appends the dispatch that goes with an entry, if one does.
+fn put_its_dispatch(
+    out: &mut Blob,
+    teller: &Teller<'_>,
+    entry: &Entry,
+    calls: &mut Calls<'_>,
+) -> Result<(), NoMemory>
+    ensures text { OnOk result (out.new.bytes ≡ out.old.bytes ++ (if is_fast entry.now then first_line teller.now calls.old else [])) }
+    ensures calls { OnOk result (calls.new ≡ (if is_fast entry.now then drop 1 calls.old else calls.old)) }
+{
+    if is_fast(entry) {
+        put_next(out, teller, calls)
+    } else {
+        Ok(())
+    }
+}
+
+/// Whether a message was accepted that is dispatched at once.
+fn is_fast(entry: &Entry) -> bool
+    ensures { result ≡ is_fast entry.now }
+{
     match entry {
         Entry::Accepted { number: _, key } => match key.path {
-            Path::Fast => put_next_fast(out, teller, fast),
-            Path::Queued => Ok(()),
+            Path::Fast => true,
+            Path::Queued => false,
         },
-        _ => Ok(()),
+        _ => false,
     }
 }
 
-/// The socket of an entry, if it is of one.
-fn socket_in(entry: &Entry) -> Option<SocketId> {
-    match entry {
-        Entry::Opened { socket } => Some(*socket),
-        Entry::Read { socket, count: _ } => Some(*socket),
-        Entry::Wrote { socket, count: _ } => Some(*socket),
-        Entry::Closed { socket } => Some(*socket),
-        Entry::Judged { socket, .. } => Some(*socket),
-        _ => None,
-    }
-}
-
-/// Appends what a line begins with that tells what the record towards this peer did.
-fn put_entry_head(out: &mut Blob, teller: &Teller<'_>, peer: &[u8]) -> Result<(), NoMemory> {
-    out.push_all(teller.head)?;
-    out.push_all(b" ")?;
-    out.push_all(peer)
-}
-
-/// Appends an entry that is of no socket.
-fn put_plain(
+/// Appends the line of the entry at this place.
+#[tactic(auto, unfolding(crate::specs::Entries::told_line))]
+fn put_line(
     out: &mut Blob,
     teller: &Teller<'_>,
     peer: &[u8],
-    journal: &[Entry],
-    at: usize,
-) -> Result<(), NoMemory> {
-    match journal.get(at..) {
-        None => Ok(()),
-        Some(rest) => match rest.get(..1) {
-            None => Ok(()),
-            Some(one) => put_journal(out, teller.head, peer, one),
-        },
-    }
+    journal: &EntryList,
+    place: usize,
+    entry: &Entry,
+) -> Result<(), NoMemory>
+    ensures { OnOk result (out.new.bytes ≡ out.old.bytes ++ told_line teller.now peer.now journal.now.items place entry.now) }
+{
+    begin_journal(out, teller.own.name.as_slice(), peer)?;
+    put_told(out, teller, journal, place, entry)?;
+    out.push_all(b"\n")
 }
 
-/// Appends an entry that is of a socket, and ends the line.
-fn put_at_socket(
+/// Appends what the entry at this place tells.
+#[tactic(auto, unfolding(crate::specs::Ends::opened_words))]
+fn put_told(
     out: &mut Blob,
     teller: &Teller<'_>,
-    journal: &[Entry],
-    at: usize,
+    journal: &EntryList,
+    place: usize,
     entry: &Entry,
-    socket: &SocketId,
-) -> Result<(), NoMemory> {
+) -> Result<(), NoMemory>
+    ensures { OnOk result (out.new.bytes ≡ out.old.bytes ++ told_by teller.now journal.now.items place entry.now) }
+{
+    let nodes = teller.nodes;
     match entry {
-        Entry::Opened { socket: _ } => {
-            out.push_all(b" opened ")?;
-            put_socket(out, teller.nodes, socket)?;
-            out.push_all(b"\n")
+        Entry::Opened { socket } => put_with_socket(out, b" opened ", nodes, socket),
+        Entry::Read { socket, count } => put_read(out, nodes, socket, *count),
+        Entry::Wrote { socket, count } => {
+            let log = teller.log(socket);
+            put_written(out, nodes, socket, *count, behind(journal.as_slice(), place), log)
         }
-        Entry::Read { socket: _, count } => put_read(out, teller.nodes, socket, *count),
-        Entry::Wrote { socket: _, count } => {
-            let behind = written_from(journal, at, socket);
-            let written = written_at(teller.center.log(socket));
-            put_wrote(out, teller.nodes, socket, *count, written, behind)
+        Entry::Closed { socket } => {
+            let cause = cause_in_journal(before(journal, place), socket, teller.log(socket));
+            put_closed(out, nodes, socket, cause)
         }
         Entry::Judged {
-            socket: _,
+            socket,
             ask,
             number,
             answer,
-        } => {
-            out.push_all(b" judged")?;
-            put_number(out, *number)?;
-            out.push_all(b" ")?;
-            put_socket(out, teller.nodes, socket)?;
-            put_ask_and_answer(out, ask, answer)?;
-            out.push_all(b"\n")
-        }
-        _ => {
-            let cause = cause_in_journal(before(journal, at), socket, teller.center.log(socket));
-            put_closed(out, teller.nodes, socket, cause)
-        }
+        } => put_judged(out, nodes, socket, ask, *number, answer),
+        _ => put_entry_words(out, entry),
     }
 }
 
-/// All bytes that an end wrote.
-fn written_at(log: Option<&EndLog>) -> &[u8] {
+/// Appends that the first of these entries wrote to a socket.
+fn put_written(
+    out: &mut Blob,
+    nodes: &[Node],
+    socket: &SocketId,
+    count: u32,
+    entries: &[Entry],
+    log: Option<&EndLog>,
+) -> Result<(), NoMemory>
+    ensures { OnOk result (out.new.bytes ≡ out.old.bytes ++ wrote_words nodes.now socket.now count (start_on socket.now entries.now (seen_log log)) (put_of (seen_log log))) }
+{
+    let put = put_of(log);
+    put_wrote(out, nodes, socket, count, start_on(socket, entries, put.len()), put)
+}
+
+/// All that an end put; nothing where there is none.
+fn put_of(log: Option<&EndLog>) -> &[u8]
+    ensures { result.now ≡ put_of (seen_log log) }
+{
     match log {
         None => &[],
         Some(log) => log.put.as_slice(),
     }
 }
 
-/// The entry in front of this one.
-fn before(journal: &[Entry], at: usize) -> Option<&Entry> {
-    if at == 0 {
-        return None;
+/// Where what these entries put on a socket begins, if all that its end put ends with it.
+fn start_on(socket: &SocketId, entries: &[Entry], put: usize) -> usize
+    ensures { result ≡ put - written_by (runs_on socket.now entries.now) }
+{
+    let mut start = put;
+    for entry in entries {
+        start = start.saturating_sub(written_in(entry, socket));
     }
-    journal.get(at - 1)
+    start
 }
 
-/// How many bytes were written to the socket from this entry on.
-fn written_from(journal: &[Entry], at: usize, socket: &SocketId) -> u64 {
-    let mut sum: u64 = 0;
-    'entries: for place in at..journal.len() {
-        if let Some(entry) = journal.get(place) {
-            sum = sum.saturating_add(written_in(entry, socket));
-        }
-    }
-    sum
-}
-
-/// How many bytes were written to the socket by this entry.
-fn written_in(entry: &Entry, socket: &SocketId) -> u64 {
+/// How many bytes the entry put on the socket.
+fn written_in(entry: &Entry, socket: &SocketId) -> usize
+    ensures { result ≡ written_by (runs_on socket.now (entry.now ∷ [])) }
+{
     match entry {
         Entry::Wrote {
             socket: other,
             count,
         } => {
-            if other.is_same(socket) {
-                *count as u64
+            if socket.is_same(other) {
+                *count as usize
             } else {
                 0
             }
         }
         _ => 0,
     }
+}
+
+/// The entry in front of the one at this place.
+fn before(journal: &EntryList, place: usize) -> Option<&Entry>
+    ensures { option_copied result ≡ entry_before journal.now.items place }
+{
+    if place == 0 {
+        None
+    } else {
+        journal.get(place - 1)
+    }
+}
+
+/// Appends that an ask on a socket of the peer was judged.
+#[tactic(auto, unfolding(crate::specs::Entries::judged_words))]
+fn put_judged(
+    out: &mut Blob,
+    nodes: &[Node],
+    socket: &SocketId,
+    ask: &AskFacts,
+    number: u64,
+    answer: &Answer,
+) -> Result<(), NoMemory>
+    ensures { OnOk result (out.new.bytes ≡ out.old.bytes ++ judged_words nodes.now socket.now ask.now number answer.now) }
+{
+    out.push_all(b" judged")?;
+    put_number(out, number)?;
+    put_with_socket(out, b" ", nodes, socket)?;
+    put_ask_and_answer(out, ask, answer)
 }

@@ -1,72 +1,90 @@
 //! Where a node stood before it did something.
 
+ghost use Rattle.std.specs.Prelude.{◌≡◌, IfOk, length, map};
+ghost use Rattle.m2_record.specs.RecordNow.{RecordNow};
+ghost use Rattle.m2_run_text.specs.Marks.{end_mark, marks_in, marks_of};
+ghost use Rattle.m2_run_text.specs.Telling.{log_in, seen_log, telling_at};
+
+use crate::telling::{MemoryCenter, MemoryCluster, Teller};
 use m2_bytes::{Items, NoMemory};
-use m2_center::Center;
-use m2_cluster::Cluster;
-use m2_dispatcher::LogDispatcher;
 use m2_fabric::{EndLog, SocketId};
-use m2_sim_fabric::{CutPort, SimPort};
+use m2_scenario::Node;
 use std::alloc::Global;
+use std::marker::Model;
 
-/// Nodes in memory.
-pub(crate) type MemoryCluster = Cluster<CutPort<SimPort>, LogDispatcher>;
-
-/// The center of one.
-pub(crate) type MemoryCenter = Center<CutPort<SimPort>, LogDispatcher>;
-
-/// What an end had done.
+/// What the end of a socket had done.
 #[derive(Clone, Copy, Debug)]
-pub(crate) struct EndMark {
+pub struct EndMark {
+    pub socket: SocketId,
     /// The socket was accepted, or opened by the node.
     pub there: bool,
-    /// How many reads and writes it had made.
+    /// How many reads and writes its end had made.
     pub runs: usize,
     pub closed: bool,
 }
 
-/// Where a node stood: of each socket what its end had done, and how much there was of the rest.
+/// Where a node stood: of sockets what its ends had done, and how much there was of the rest.
+///
+/// Maker: [`of`](Marks::of). [`put_news`](crate::put_news) tells what the node did since, and
+/// [`sockets_left`](crate::sockets_left) of which sockets there is more to tell.
 #[derive(Drop)]
-pub(crate) struct Marks {
-    pub ends: Items<EndMark>,
+pub struct Marks {
+    pub(crate) ends: Items<EndMark>,
     /// Of each record how many entries its journal had.
-    pub journals: Items<usize>,
-    pub fast: usize,
-    pub queued: usize,
-    /// How many sockets it had opened.
-    pub made: usize,
+    pub(crate) journals: Items<usize>,
+    pub(crate) fast: usize,
+    pub(crate) queued: usize,
+    /// How many sockets its port had made.
+    pub(crate) made: usize,
 }
 
-/// The center of the node at this place.
-pub(crate) fn center_at(cluster: &MemoryCluster, node: u32) -> Option<&MemoryCenter> {
-    match cluster.nodes().get(node as usize) {
-        Some(node) => Some(node.center()),
-        None => None,
+impl Model for Marks {
+    ghost use Rattle.m2_run_text.specs.Marks.{MarksNow};
+
+    ghost Value = { MarksNow };
+
+    ghost view = { λ m. record { ends = m.ends.items; journals = m.journals.items; fast = m.fast; queued = m.queued; made = m.made } };
+}
+
+impl Marks {
+    /// Where the node at this place stands, with its ends of these sockets.
+    pub fn of(
+        alloc: Global,
+        nodes: &[Node],
+        cluster: &MemoryCluster,
+        node: u32,
+        sockets: &[SocketId],
+    ) -> Result<Marks, NoMemory>
+        ensures { IfOk result (λ m. m ≡ marks_of (telling_at nodes.now cluster.now.nodes node) sockets.now) }
+    {
+        match Teller::of(nodes, cluster, node) {
+            None => Ok(Marks {
+                ends: Items::empty(alloc),
+                journals: Items::empty(alloc),
+                fast: 0,
+                queued: 0,
+                made: 0,
+            }),
+            Some(teller) => marks_in(alloc, teller.center, sockets),
+        }
     }
 }
 
-/// Where the node stands.
-pub(crate) fn marks_of(
+/// Where the node of this center stands.
+fn marks_in(
     alloc: Global,
-    cluster: &MemoryCluster,
-    node: u32,
+    center: &MemoryCenter,
     sockets: &[SocketId],
-) -> Result<Marks, NoMemory> {
-    match center_at(cluster, node) {
-        None => Ok(Marks {
-            ends: Items::empty(alloc),
-            journals: Items::empty(alloc),
-            fast: 0,
-            queued: 0,
-            made: 0,
-        }),
-        Some(center) => Ok(Marks {
-            ends: end_marks(alloc, center, sockets)?,
-            journals: journal_marks(alloc, center)?,
-            fast: center.fast().log().len(),
-            queued: center.queued().inner().log().len(),
-            made: center.made().len(),
-        }),
-    }
+) -> Result<Marks, NoMemory>
+    ensures { IfOk result (λ m. m ≡ marks_in center.now sockets.now) }
+{
+    Ok(Marks {
+        ends: end_marks(alloc, center, sockets)?,
+        journals: journal_marks(alloc, center)?,
+        fast: center.fast().log().len(),
+        queued: center.queued().inner().log().len(),
+        made: center.made().len(),
+    })
 }
 
 /// Of each socket what the node's end of it has done.
@@ -74,10 +92,12 @@ fn end_marks(
     alloc: Global,
     center: &MemoryCenter,
     sockets: &[SocketId],
-) -> Result<Items<EndMark>, NoMemory> {
+) -> Result<Items<EndMark>, NoMemory>
+    ensures { IfOk result (λ m. m.items ≡ map (λ s. end_mark s (log_in center.now s)) sockets.now) }
+{
     let mut marks = Items::empty(alloc);
     for socket in sockets {
-        let mark = mark_of(center.log(socket));
+        let mark = end_mark(socket, center.log(socket));
         if marks.push(mark).is_err() {
             return Err(NoMemory);
         }
@@ -86,14 +106,18 @@ fn end_marks(
 }
 
 /// What an end has done.
-fn mark_of(log: Option<&EndLog>) -> EndMark {
+fn end_mark(socket: &SocketId, log: Option<&EndLog>) -> EndMark
+    ensures { result ≡ end_mark socket.now (seen_log log) }
+{
     match log {
         None => EndMark {
+            socket: *socket,
             there: false,
             runs: 0,
             closed: false,
         },
         Some(log) => EndMark {
+            socket: *socket,
             there: true,
             runs: log.runs.len(),
             closed: log.closed,
@@ -102,7 +126,9 @@ fn mark_of(log: Option<&EndLog>) -> EndMark {
 }
 
 /// Of each record how many entries its journal has.
-fn journal_marks(alloc: Global, center: &MemoryCenter) -> Result<Items<usize>, NoMemory> {
+fn journal_marks(alloc: Global, center: &MemoryCenter) -> Result<Items<usize>, NoMemory>
+    ensures { IfOk result (λ m. m.items ≡ map (λ (r : RecordNow). length r.journal) center.now.records) }
+{
     let mut marks = Items::empty(alloc);
     for record in center.records() {
         if marks.push(record.journal().len()).is_err() {
@@ -110,12 +136,4 @@ fn journal_marks(alloc: Global, center: &MemoryCenter) -> Result<Items<usize>, N
         }
     }
     Ok(marks)
-}
-
-/// The items behind the first so many.
-pub(crate) fn behind<T>(items: &[T], count: usize) -> &[T] {
-    match items.get(count..) {
-        Some(rest) => rest,
-        None => &[],
-    }
 }

@@ -1,217 +1,413 @@
 //! What a node did since it was marked, as lines.
 
+ghost use Rattle.std.specs.Prelude.{◌≡◌, ◌++◌, IfOk, None, OnOk, count_by, drop, length, slice_get};
+ghost use Rattle.std.specs.List.{flat_map};
+ghost use Rattle.std.specs.Option.{option_map};
+ghost use Rattle.m2_fabric.specs.Log.{log_of};
+ghost use Rattle.m2_run_text.specs.Marks.{MarksNow};
+ghost use Rattle.m2_run_text.specs.News.{accepted_line, asked_behind, behind_closing, closing_of, doings, half_in, half_said, halves_said, is_judged_on, is_move, journal_length, journal_up_to, journals_said, judged_by, judgement_at, judgement_from, judgement_said, moves_of, moves_said, news, news_of, said_of, told_at, with_calls};
+ghost use Rattle.m2_run_text.specs.Telling.{log_in, seen_log, telling_at};
+ghost use Rattle.m2_trail.specs.Trails.{trail_now};
+
 use crate::cause::cause_of_half;
 use crate::dispatches::put_calls;
-use crate::ends::{behind_last_read, put_accepted, put_closed, put_runs, put_trail_head};
-use crate::entries::{Teller, put_entries};
-use crate::marks::{EndMark, Marks, MemoryCenter, MemoryCluster, behind, center_at};
-use crate::sockets::{goes_to, trail_at};
+use crate::ends::{behind_last_read, put_accepted, put_half_closed, put_runs};
+use crate::entries::put_entries;
+use crate::lists::{at, behind};
+use crate::marks::{EndMark, Marks};
+use crate::sockets::{comes_to, trail_in};
+use crate::telling::{Calls, MemoryCluster, Teller};
 use crate::words::name_of;
 use m2_bytes::{Blob, NoMemory};
 use m2_fabric::{EndLog, SocketId};
-use m2_journal::Entry;
+use m2_journal::{Entry, EntryList};
 use m2_scenario::Node;
 use m2_trail::Trail;
 use std::alloc::Global;
+use std::marker::Model;
 
 /// Up to where a node's doings are told.
 #[derive(Drop)]
-struct Told {
+struct Told<'a> {
     /// Of each record, how many entries of its journal.
     journals: Vec<usize>,
-    /// How many calls of the dispatcher of fast kinds.
-    fast: usize,
+    /// The calls of the dispatcher of fast kinds that are left.
+    fast: Calls<'a>,
 }
 
-/// Where an ask was judged: by which of the records, and by which entry of its journal.
+impl<'a> Model for Told<'a> {
+    ghost use Rattle.m2_run_text.specs.News.{ToldNow};
+
+    ghost Value = { ToldNow };
+
+    ghost view = { λ t. record { journals = t.journals.items; fast = t.fast } };
+}
+
+/// Where an ask was judged: by which of the records, and behind which entry of its journal.
 #[derive(Clone, Copy, Debug)]
-struct Judgement {
-    record: usize,
-    entry: usize,
+pub(crate) struct Judgement {
+    pub record_place: usize,
+    pub behind: usize,
 }
 
-/// Appends what the node did since it was marked. `sockets` are all that had been opened by then, in the order in which
-/// they were.
-pub(crate) fn put_news(
+/// A half of a marked socket, and where its ask was judged, if it was.
+#[derive(Drop)]
+struct Half<'a> {
+    mark: &'a EndMark,
+    log: &'a EndLog,
+    trail: Option<&'a Trail>,
+    judged: Option<Judgement>,
+}
+
+impl<'a> Model for Half<'a> {
+    ghost use Rattle.std.specs.Option.{option_map};
+    ghost use Rattle.m2_fabric.specs.Log.{log_of};
+    ghost use Rattle.m2_trail.specs.Trails.{trail_now};
+    ghost use Rattle.m2_run_text.specs.News.{HalfNow};
+
+    ghost Value = { HalfNow };
+
+    ghost view = { λ h. record { mark = h.mark.now; log = log_of h.log.now; trail = option_map (λ t. trail_now t.now) h.trail; judged = h.judged } };
+}
+
+/// Appends what the node at this place did since it was marked.
+pub fn put_news(
     alloc: Global,
     out: &mut Blob,
     nodes: &[Node],
     cluster: &MemoryCluster,
     node: u32,
-    sockets: &[SocketId],
     marks: &Marks,
-) -> Result<(), NoMemory> {
-    let Some(center) = center_at(cluster, node) else {
-        return Ok(());
-    };
-    let name = name_of(nodes, node);
-    let mut head = Blob::of(alloc, b"  ")?;
-    head.push_all(name)?;
-    head.push_all(b" journal")?;
-    let teller = Teller {
-        nodes,
-        center,
-        name,
-        head: head.as_slice(),
-    };
-    let mut told = Told {
+) -> Result<(), NoMemory>
+    ensures { OnOk result (out.new.bytes ≡ out.old.bytes ++ news_of (telling_at nodes.now cluster.now.nodes node) marks.now) }
+{
+    match Teller::of(nodes, cluster, node) {
+        None => Ok(()),
+        Some(teller) => put_all(alloc, out, &teller, marks),
+    }
+}
+
+/// Appends what the node did since it was marked.
+fn put_all(
+    alloc: Global,
+    out: &mut Blob,
+    teller: &Teller<'_>,
+    marks: &Marks,
+) -> Result<(), NoMemory>
+    ensures { OnOk result (out.new.bytes ≡ out.old.bytes ++ news teller.now marks.now) }
+{
+    put_all_accepted(out, teller, marks.ends.as_slice())?;
+    let mut told = told_at(alloc, teller, marks)?;
+    put_with_calls(out, teller, marks, &mut told)
+}
+
+/// What was told where the node was marked.
+fn told_at<'a>(alloc: Global, teller: &Teller<'a>, marks: &Marks) -> Result<Told<'a>, NoMemory>
+    ensures { IfOk result (λ t. t ≡ told_at teller.now.center marks.now) }
+{
+    let fast = teller.center.fast().log();
+    Ok(Told {
         journals: Vec::from_slice(alloc, marks.journals.as_slice())?,
-        fast: marks.fast,
-    };
-    put_all_accepted(out, &teller, sockets, marks)?;
-    put_halves(out, &teller, node, sockets, marks, &mut told)?;
-    put_journals(out, &teller, &mut told)?;
-    put_calls(out, &teller, behind(center.fast().log().as_slice(), told.fast))?;
-    put_calls(
-        out,
-        &teller,
-        behind(center.queued().inner().log().as_slice(), marks.queued),
-    )
+        fast: Calls::of(behind(fast.as_slice(), marks.fast)),
+    })
+}
+
+/// Appends what the halves and the records did, and the dispatches that are left.
+fn put_with_calls(
+    out: &mut Blob,
+    teller: &Teller<'_>,
+    marks: &Marks,
+    told: &mut Told<'_>,
+) -> Result<(), NoMemory>
+    ensures { OnOk result (out.new.bytes ≡ out.old.bytes ++ with_calls teller.now marks.now.queued (doings teller.now marks.now.ends told.old)) }
+{
+    put_doings(out, teller, marks.ends.as_slice(), told)?;
+    put_calls(out, teller, told.fast.as_slice())?;
+    let queued = teller.center.queued().inner().log();
+    put_calls(out, teller, behind(queued.as_slice(), marks.queued))
+}
+
+/// Appends what the halves and the records did.
+fn put_doings(
+    out: &mut Blob,
+    teller: &Teller<'_>,
+    marks: &[EndMark],
+    told: &mut Told<'_>,
+) -> Result<(), NoMemory>
+    ensures text { OnOk result (out.new.bytes ≡ out.old.bytes ++ (doings teller.now marks.now told.old).text) }
+    ensures told { OnOk result (told.new ≡ (doings teller.now marks.now told.old).told) }
+{
+    put_halves(out, teller, marks, told)?;
+    put_journals(out, teller, told)
 }
 
 /// Appends which sockets were accepted.
 fn put_all_accepted(
     out: &mut Blob,
     teller: &Teller<'_>,
-    sockets: &[SocketId],
-    marks: &Marks,
-) -> Result<(), NoMemory> {
-    for (socket, mark) in sockets.iter().zip(marks.ends.as_slice()) {
-        if !mark.there && teller.center.log(socket).is_some() {
-            put_accepted(out, teller.nodes, teller.name, socket)?;
-        }
+    marks: &[EndMark],
+) -> Result<(), NoMemory>
+    ensures { OnOk result (out.new.bytes ≡ out.old.bytes ++ flat_map (accepted_line teller.now) marks.now) }
+{
+    for mark in marks {
+        put_if_accepted(out, teller, mark)?;
     }
     Ok(())
+}
+
+/// Appends that the socket was accepted, if it was.
+fn put_if_accepted(
+    out: &mut Blob,
+    teller: &Teller<'_>,
+    mark: &EndMark,
+) -> Result<(), NoMemory>
+    ensures { OnOk result (out.new.bytes ≡ out.old.bytes ++ accepted_line teller.now mark.now) }
+{
+    if !mark.there && teller.log(&mark.socket).is_some() {
+        put_accepted(out, teller, &mark.socket)
+    } else {
+        Ok(())
+    }
 }
 
 /// Appends what the halves did, each in its turn, with what the records did by their asks.
 fn put_halves(
     out: &mut Blob,
     teller: &Teller<'_>,
-    node: u32,
-    sockets: &[SocketId],
-    marks: &Marks,
-    told: &mut Told,
-) -> Result<(), NoMemory> {
-    for (socket, mark) in sockets.iter().zip(marks.ends.as_slice()) {
-        if goes_to(teller.nodes, node, socket) {
-            if let Some(log) = teller.center.log(socket) {
-                put_half(out, teller, socket, mark, log, told)?;
+    marks: &[EndMark],
+    told: &mut Told<'_>,
+) -> Result<(), NoMemory>
+    ensures text { OnOk result (out.new.bytes ≡ out.old.bytes ++ (halves_said teller.now marks.now told.old).text) }
+    ensures told { OnOk result (told.new ≡ (halves_said teller.now marks.now told.old).told) }
+{
+    for mark in marks {
+        put_if_half(out, teller, mark, teller.log(&mark.socket), told)?;
+    }
+    Ok(())
+}
+
+/// Appends what the half on the socket did, if the node has one.
+fn put_if_half(
+    out: &mut Blob,
+    teller: &Teller<'_>,
+    mark: &EndMark,
+    log: Option<&EndLog>,
+    told: &mut Told<'_>,
+) -> Result<(), NoMemory>
+    ensures text { OnOk result (out.new.bytes ≡ out.old.bytes ++ (said_of teller.now mark.now told.old (seen_log log)).text) }
+    ensures told { OnOk result (told.new ≡ (said_of teller.now mark.now told.old (seen_log log)).told) }
+{
+    match log {
+        None => Ok(()),
+        Some(log) => {
+            if comes_to(teller, &mark.socket) {
+                let half = half_in(teller, mark, log, told);
+                put_half(out, teller, &half, told)
+            } else {
+                Ok(())
             }
         }
     }
-    Ok(())
 }
 
-/// Appends what one half did.
+/// The half of a marked socket.
+fn half_in<'a>(
+    teller: &Teller<'a>,
+    mark: &'a EndMark,
+    log: &'a EndLog,
+    told: &Told<'_>,
+) -> Half<'a>
+    ensures { result ≡ half_in teller.now mark.now (log_of log.now) told.now }
+{
+    Half {
+        mark,
+        log,
+        trail: trail_in(teller.center.records(), &mark.socket),
+        judged: judgement_on(teller, told.journals.as_slice(), &mark.socket),
+    }
+}
+
+/// Appends what a half did.
 fn put_half(
     out: &mut Blob,
     teller: &Teller<'_>,
-    socket: &SocketId,
-    mark: &EndMark,
-    log: &EndLog,
-    told: &mut Told,
-) -> Result<(), NoMemory> {
-    let trail = trail_at(teller.center, socket);
-    let limit = match trail {
-        Some(trail) => moves_in(trail),
-        None => log.runs.len(),
-    };
-    let judged = judgement_on(teller.center, told.journals.as_slice(), socket);
-    let asked = match trail {
-        Some(_) => limit,
-        None => behind_last_read(log.runs.as_slice(), mark.runs),
-    };
-    let (nodes, name) = (teller.nodes, teller.name);
-    if let Some(judgement) = judged {
-        put_runs(out, nodes, name, socket, log, mark.runs, asked)?;
-        put_judgement(out, teller, socket, judgement, told)?;
-        put_runs(out, nodes, name, socket, log, asked, limit)?;
-    } else {
-        put_runs(out, nodes, name, socket, log, mark.runs, limit)?;
-    }
-    if trail.is_none() && log.closed && !mark.closed {
-        put_trail_head(out, name)?;
-        put_closed(out, nodes, socket, cause_of_half(judged.is_some(), log))?;
-    }
-    Ok(())
+    half: &Half<'_>,
+    told: &mut Told<'_>,
+) -> Result<(), NoMemory>
+    ensures text { OnOk result (out.new.bytes ≡ out.old.bytes ++ (half_said teller.now half.now told.old).text) }
+    ensures told { OnOk result (told.new ≡ (half_said teller.now half.now told.old).told) }
+{
+    put_moves(out, teller, half, told)?;
+    put_closing(out, teller, half)
 }
 
-/// How many reads and writes a half made.
-fn moves_in(trail: &Trail) -> usize {
+/// Appends its reads and writes since the mark, and between them what was done by its ask.
+fn put_moves(
+    out: &mut Blob,
+    teller: &Teller<'_>,
+    half: &Half<'_>,
+    told: &mut Told<'_>,
+) -> Result<(), NoMemory>
+    ensures text { OnOk result (out.new.bytes ≡ out.old.bytes ++ (moves_said teller.now half.now told.old half.now.judged).text) }
+    ensures told { OnOk result (told.new ≡ (moves_said teller.now half.now told.old half.now.judged).told) }
+{
+    let (socket, from) = (&half.mark.socket, half.mark.runs);
+    let all = moves_of(half.trail, half.log);
+    match half.judged {
+        None => put_runs(out, teller, socket, half.log, from, all),
+        Some(judgement) => {
+            let asked = asked_behind(half.trail, half.log, from);
+            put_runs(out, teller, socket, half.log, from, asked)?;
+            put_judgement(out, teller, socket, judgement, told)?;
+            put_runs(out, teller, socket, half.log, asked, all)
+        }
+    }
+}
+
+/// Appends that its end was closed since the mark, where no record took it.
+fn put_closing(out: &mut Blob, teller: &Teller<'_>, half: &Half<'_>) -> Result<(), NoMemory>
+    ensures { OnOk result (out.new.bytes ≡ out.old.bytes ++ closing_of teller.now half.now) }
+{
+    if half.trail.is_none() && half.log.closed && !half.mark.closed {
+        let cause = cause_of_half(half.judged.is_some(), half.log);
+        put_half_closed(out, teller, &half.mark.socket, cause)
+    } else {
+        Ok(())
+    }
+}
+
+/// How many reads and writes a half made: those of its trail, or all of its end.
+fn moves_of(trail: Option<&Trail>, log: &EndLog) -> usize
+    ensures { result ≡ moves_of (option_map (λ t. trail_now t.now) trail) (log_of log.now) }
+{
+    match trail {
+        None => log.runs.len(),
+        Some(trail) => moves_in(trail.entries.as_slice()),
+    }
+}
+
+/// How many of these entries are reads and writes.
+fn moves_in(entries: &[Entry]) -> usize
+    ensures { result ≡ count_by is_move entries.now }
+{
     let mut count: usize = 0;
-    'entries: for entry in trail.entries.as_slice() {
+    for entry in entries {
         if is_move(entry) {
-            count = count.saturating_add(1);
+            count += 1;
         }
     }
     count
 }
 
-fn is_move(entry: &Entry) -> bool {
+fn is_move(entry: &Entry) -> bool
+    ensures { result ≡ is_move entry.now }
+{
     match entry {
         Entry::Read { .. } | Entry::Wrote { .. } => true,
         _ => false,
     }
 }
 
-/// Where the last ask on the socket was judged that isn't told yet.
-fn judgement_on(center: &MemoryCenter, journals: &[usize], socket: &SocketId) -> Option<Judgement> {
-    let records = center.records();
-    'records: for place in 0..records.len() {
-        if let Some(record) = records.get(place) {
-            if let Some(from) = journals.get(place) {
-                if let Some(entry) = judged_in(record.journal().as_slice(), *from, socket) {
-                    return Some(Judgement {
-                        record: place,
-                        entry,
-                    });
-                }
-            }
+/// Behind which of a half's reads and writes its ask was judged: the last of its trail, or the last read since the mark.
+fn asked_behind(trail: Option<&Trail>, log: &EndLog, from: usize) -> usize
+    ensures { result ≡ asked_behind (option_map (λ t. trail_now t.now) trail) (log_of log.now) from }
+{
+    match trail {
+        None => behind_last_read(log.runs.as_slice(), from),
+        Some(trail) => moves_in(trail.entries.as_slice()),
+    }
+}
+
+/// Where an ask on the socket was judged of which isn't told yet: by the first record that did.
+fn judgement_on(teller: &Teller<'_>, journals: &[usize], socket: &SocketId) -> Option<Judgement>
+    ensures { result ≡ judgement_from socket.now journals.now teller.now.center.records 0 (length teller.now.center.records) }
+{
+    'records: for place in 0..teller.center.records().len() {
+        let judged = judgement_at(teller, journals, place, socket);
+        if judged.is_some() {
+            return judged;
         }
     }
     None
 }
 
-/// The last entry from this place on by which an ask on the socket was judged.
-fn judged_in(journal: &[Entry], from: usize, socket: &SocketId) -> Option<usize> {
+/// The same of the record at this place.
+fn judgement_at(
+    teller: &Teller<'_>,
+    journals: &[usize],
+    place: usize,
+    socket: &SocketId,
+) -> Option<Judgement>
+    ensures { result ≡ judgement_at socket.now place (slice_get journals.now place) (slice_get teller.now.center.records place) }
+{
+    let Some(from) = at(journals, place) else {
+        return None;
+    };
+    let Some(record) = at(teller.center.records(), place) else {
+        return None;
+    };
+    match judged_from(record.journal().as_slice(), *from, socket) {
+        None => None,
+        Some(behind) => Some(Judgement {
+            record_place: place,
+            behind,
+        }),
+    }
+}
+
+/// Behind the last entry from a place on by which an ask on the socket was judged.
+fn judged_from(journal: &[Entry], from: usize, socket: &SocketId) -> Option<usize>
+    ensures { result ≡ judged_by socket.now (drop from journal.now) from None }
+{
     let mut found = None;
     'entries: for place in from..journal.len() {
-        if let Some(Entry::Judged { socket: other, .. }) = journal.get(place) {
-            if other.is_same(socket) {
-                found = Some(place);
-            }
+        if is_judged_on(&journal[place], socket) {
+            found = Some(place + 1);
         }
     }
     found
 }
 
-/// Appends the entries of a record up to a judgement, and what it closed by that.
+fn is_judged_on(entry: &Entry, socket: &SocketId) -> bool
+    ensures { result ≡ is_judged_on socket.now entry.now }
+{
+    match entry {
+        Entry::Judged { socket: other, .. } => socket.is_same(other),
+        _ => false,
+    }
+}
+
+/// Appends the entries of a record up to a judgement, with what it closed by that.
 fn put_judgement(
     out: &mut Blob,
     teller: &Teller<'_>,
     socket: &SocketId,
-    at: Judgement,
-    told: &mut Told,
-) -> Result<(), NoMemory> {
-    let Some(record) = teller.center.records().get(at.record) else {
-        return Ok(());
+    judgement: Judgement,
+    told: &mut Told<'_>,
+) -> Result<(), NoMemory>
+    ensures text { OnOk result (out.new.bytes ≡ out.old.bytes ++ (judgement_said teller.now socket.now judgement told.old).text) }
+    ensures told { OnOk result (told.new ≡ (judgement_said teller.now socket.now judgement told.old).told) }
+{
+    let to = match at(teller.center.records(), judgement.record_place) {
+        None => judgement.behind,
+        Some(record) => behind_closing(record.journal(), judgement.behind, socket),
     };
-    let to = behind_closed(record.journal().as_slice(), at.entry.saturating_add(1), socket);
-    put_up_to(out, teller, at.record, to, told)
+    put_up_to(out, teller, judgement.record_place, to, told)
 }
 
-/// Behind this entry where by it another socket is closed.
-fn behind_closed(journal: &[Entry], at: usize, socket: &SocketId) -> usize {
-    match journal.get(at) {
+/// Behind the entry at this place where by it another socket is closed.
+fn behind_closing(journal: &EntryList, place: usize, socket: &SocketId) -> usize
+    ensures { result ≡ behind_closing socket.now place (slice_get journal.now.items place) }
+{
+    match journal.get(place) {
         Some(Entry::Closed { socket: other }) => {
-            if other.is_same(socket) {
-                at
+            if socket.is_same(other) {
+                place
             } else {
-                at.saturating_add(1)
+                place + 1
             }
         }
-        _ => at,
+        _ => place,
     }
 }
 
@@ -219,28 +415,43 @@ fn behind_closed(journal: &[Entry], at: usize, socket: &SocketId) -> usize {
 fn put_up_to(
     out: &mut Blob,
     teller: &Teller<'_>,
-    record: usize,
+    place: usize,
     to: usize,
-    told: &mut Told,
-) -> Result<(), NoMemory> {
-    let from = match told.journals.get(record) {
-        None => return Ok(()),
-        Some(from) => *from,
+    told: &mut Told<'_>,
+) -> Result<(), NoMemory>
+    ensures text { OnOk result (out.new.bytes ≡ out.old.bytes ++ (journal_up_to teller.now place to told.old).text) }
+    ensures told { OnOk result (told.new ≡ (journal_up_to teller.now place to told.old).told) }
+{
+    let Some(from) = at(told.journals.as_slice(), place) else {
+        return Ok(());
     };
-    put_entries(out, teller, record, from, to, &mut told.fast)?;
-    if let Some(place) = told.journals.get_mut(record) {
-        *place = to;
-    }
+    let from = *from;
+    let Some(record) = at(teller.center.records(), place) else {
+        return Ok(());
+    };
+    let peer = name_of(teller.nodes, record.place());
+    put_entries(out, teller, peer, record.journal(), from, to, &mut told.fast)?;
+    told.journals[place] = to;
     Ok(())
 }
 
 /// Appends what else the records did, one after the other.
-fn put_journals(out: &mut Blob, teller: &Teller<'_>, told: &mut Told) -> Result<(), NoMemory> {
-    let records = teller.center.records();
-    'records: for place in 0..records.len() {
-        if let Some(record) = records.get(place) {
-            put_up_to(out, teller, place, record.journal().len(), told)?;
-        }
+fn put_journals(out: &mut Blob, teller: &Teller<'_>, told: &mut Told<'_>) -> Result<(), NoMemory>
+    ensures text { OnOk result (out.new.bytes ≡ out.old.bytes ++ (journals_said teller.now 0 (length teller.now.center.records) told.old).text) }
+    ensures told { OnOk result (told.new ≡ (journals_said teller.now 0 (length teller.now.center.records) told.old).told) }
+{
+    'records: for place in 0..teller.center.records().len() {
+        put_up_to(out, teller, place, journal_length(teller, place), told)?;
     }
     Ok(())
+}
+
+/// How many entries the journal of the record at this place has.
+fn journal_length(teller: &Teller<'_>, place: usize) -> usize
+    ensures { result ≡ journal_length (slice_get teller.now.center.records place) }
+{
+    match at(teller.center.records(), place) {
+        None => 0,
+        Some(record) => record.journal().len(),
+    }
 }

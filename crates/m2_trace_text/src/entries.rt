@@ -196,8 +196,9 @@ fn put_planned(out: &mut Blob, planned: bool) -> Result<(), NoMemory>
     }
 }
 
+/// Appends what an entry tells, each word behind a space.
 #[tactic(auto, unfolding(crate::specs::Entries::entry_words))]
-fn put_entry_words(out: &mut Blob, e: &Entry) -> Result<(), NoMemory>
+pub fn put_entry_words(out: &mut Blob, e: &Entry) -> Result<(), NoMemory>
     ensures { OnOk result (out.new.bytes ≡ out.old.bytes ++ entry_words e.now) }
 {
     match e {

@@ -16,7 +16,7 @@ mod trails;
 mod words;
 
 pub use ends::put_end;
-pub use entries::{put_ask_and_answer, put_journal};
-pub use sides::{put_handed, put_plan, put_session, put_start};
+pub use entries::{put_ask_and_answer, put_entry_words, put_journal};
+pub use sides::{put_handed, put_node, put_plan, put_session, put_start};
 pub use trails::put_trail;
 pub use words::{put_bytes, put_flag, put_head, put_number, put_socket};

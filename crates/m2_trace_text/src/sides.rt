@@ -69,8 +69,9 @@ fn put_node_words(out: &mut Blob, f: &NodeFacts) -> Result<(), NoMemory>
     put_waits(out, f)
 }
 
+/// Appends the line of what a node tells its records.
 #[tactic(auto, unfolding(crate::specs::Sides::node_line, crate::specs::Words::line))]
-fn put_node_line(out: &mut Blob, side: &[u8], f: &NodeFacts) -> Result<(), NoMemory>
+pub fn put_node(out: &mut Blob, side: &[u8], f: &NodeFacts) -> Result<(), NoMemory>
     ensures { OnOk result (out.new.bytes ≡ out.old.bytes ++ node_line side.now f.now) }
 {
     put_head(out, side, b"node")?;
@@ -84,7 +85,7 @@ pub fn put_start(out: &mut Blob, side: &[u8], s: &Session, f: &NodeFacts) -> Res
     ensures { OnOk result (out.new.bytes ≡ out.old.bytes ++ start_lines side.now s.now f.now) }
 {
     put_address_line(out, side, s)?;
-    put_node_line(out, side, f)
+    put_node(out, side, f)
 }
 
 #[tactic(auto, unfolding(crate::specs::Sides::parts_words))]
