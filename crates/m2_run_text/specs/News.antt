@@ -108,10 +108,15 @@ abbrev pub asked_behind : Option TrailNow → Log → (from : ℕ) → ℕ
 asked_behind (Some t) log from = moves_of (Some t) log
 asked_behind None log from = behind_read (drop from log.runs) from from
 
--- behind an entry by which another socket is closed
+-- by the entry another socket is closed
+abbrev pub closes_another : SocketId → Entry → Bool
+closes_another s (entry.Closed other) = not (same_socket s other)
+closes_another s e = false
+
+-- behind the entry at a place by which another socket is closed; else that place
 abbrev pub behind_closing : SocketId → (place : ℕ) → Option Entry → ℕ
-behind_closing s place (Some (entry.Closed other)) = if same_socket s other then place else place + 1
-behind_closing s place _ = place
+behind_closing s place (Some e) = if closes_another s e then place + 1 else place
+behind_closing s place None = place
 
 abbrev pub entry_of : Option RecordNow → (place : ℕ) → Option Entry
 entry_of (Some r) place = slice_get r.journal place

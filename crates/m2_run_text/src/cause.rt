@@ -26,7 +26,7 @@ pub(crate) fn cause_in_journal(
     socket: &SocketId,
     log: Option<&EndLog>,
 ) -> &'static [u8]
-    ensures { result.now ≡ cause_in_journal (option_copied before) socket.now (seen_log log) }
+    ensures { result.now ≡ cause_in_journal (option_copied before.entry) socket.now (seen_log log.entry) }
 {
     match before {
         Some(Entry::Down { planned: _ }) => b" down",
@@ -50,7 +50,7 @@ pub(crate) fn cause_of_half(judged: bool, log: &EndLog) -> &'static [u8]
 
 /// Why an end was closed, by what it did; nothing where there is none.
 fn cause_at(log: Option<&EndLog>) -> &'static [u8]
-    ensures { result.now ≡ cause_at (seen_log log) }
+    ensures { result.now ≡ cause_at (seen_log log.entry) }
 {
     match log {
         None => b"",

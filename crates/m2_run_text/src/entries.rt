@@ -153,7 +153,7 @@ fn put_written(
     entries: &[Entry],
     log: Option<&EndLog>,
 ) -> Result<(), NoMemory>
-    ensures { OnOk result (out.new.bytes ≡ out.old.bytes ++ wrote_words nodes.now socket.now count (start_on socket.now entries.now (seen_log log)) (put_of (seen_log log))) }
+    ensures { OnOk result (out.new.bytes ≡ out.old.bytes ++ wrote_words nodes.now socket.now count (start_on socket.now entries.now (seen_log log.entry)) (put_of (seen_log log.entry))) }
 {
     let put = put_of(log);
     put_wrote(out, nodes, socket, count, start_on(socket, entries, put.len()), put)
@@ -161,7 +161,7 @@ fn put_written(
 
 /// All that an end put; nothing where there is none.
 fn put_of(log: Option<&EndLog>) -> &[u8]
-    ensures { result.now ≡ put_of (seen_log log) }
+    ensures { result.now ≡ put_of (seen_log log.entry) }
 {
     match log {
         None => &[],

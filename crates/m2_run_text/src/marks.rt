@@ -107,7 +107,7 @@ fn end_marks(
 
 /// What an end has done.
 fn end_mark(socket: &SocketId, log: Option<&EndLog>) -> EndMark
-    ensures { result ≡ end_mark socket.now (seen_log log) }
+    ensures { result ≡ end_mark socket.now (seen_log log.entry) }
 {
     match log {
         None => EndMark {

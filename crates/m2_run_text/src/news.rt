@@ -5,7 +5,7 @@ ghost use Rattle.std.specs.List.{flat_map};
 ghost use Rattle.std.specs.Option.{option_map};
 ghost use Rattle.m2_fabric.specs.Log.{log_of};
 ghost use Rattle.m2_run_text.specs.Marks.{MarksNow};
-ghost use Rattle.m2_run_text.specs.News.{accepted_line, asked_behind, behind_closing, closing_of, doings, half_in, half_said, halves_said, is_judged_on, is_move, journal_length, journal_up_to, journals_said, judged_by, judgement_at, judgement_from, judgement_said, moves_of, moves_said, news, news_of, said_of, told_at, with_calls};
+ghost use Rattle.m2_run_text.specs.News.{accepted_line, asked_behind, behind_closing, closes_another, closing_of, doings, half_in, half_said, halves_said, is_judged_on, is_move, journal_length, journal_up_to, journals_said, judged_by, judgement_at, judgement_from, judgement_said, moves_of, moves_said, news, news_of, said_of, told_at, with_calls};
 ghost use Rattle.m2_run_text.specs.Telling.{log_in, seen_log, telling_at};
 ghost use Rattle.m2_trail.specs.Trails.{trail_now};
 
@@ -20,7 +20,7 @@ use crate::telling::{Calls, MemoryCluster, Teller};
 use crate::words::name_of;
 use m2_bytes::{Blob, NoMemory};
 use m2_fabric::{EndLog, SocketId};
-use m2_journal::{Entry, EntryList};
+use m2_journal::Entry;
 use m2_scenario::Node;
 use m2_trail::Trail;
 use std::alloc::Global;
@@ -194,8 +194,8 @@ fn put_if_half(
     log: Option<&EndLog>,
     told: &mut Told<'_>,
 ) -> Result<(), NoMemory>
-    ensures text { OnOk result (out.new.bytes ≡ out.old.bytes ++ (said_of teller.now mark.now told.old (seen_log log)).text) }
-    ensures told { OnOk result (told.new ≡ (said_of teller.now mark.now told.old (seen_log log)).told) }
+    ensures text { OnOk result (out.new.bytes ≡ out.old.bytes ++ (said_of teller.now mark.now told.old (seen_log log.entry)).text) }
+    ensures told { OnOk result (told.new ≡ (said_of teller.now mark.now told.old (seen_log log.entry)).told) }
 {
     match log {
         None => Ok(()),
@@ -278,7 +278,7 @@ fn put_closing(out: &mut Blob, teller: &Teller<'_>, half: &Half<'_>) -> Result<(
 
 /// How many reads and writes a half made: those of its trail, or all of its end.
 fn moves_of(trail: Option<&Trail>, log: &EndLog) -> usize
-    ensures { result ≡ moves_of (option_map (λ t. trail_now t.now) trail) (log_of log.now) }
+    ensures { result ≡ moves_of (option_map (λ t. trail_now t.now) trail.entry) (log_of log.now) }
 {
     match trail {
         None => log.runs.len(),
@@ -310,7 +310,7 @@ fn is_move(entry: &Entry) -> bool
 
 /// Behind which of a half's reads and writes its ask was judged: the last of its trail, or the last read since the mark.
 fn asked_behind(trail: Option<&Trail>, log: &EndLog, from: usize) -> usize
-    ensures { result ≡ asked_behind (option_map (λ t. trail_now t.now) trail) (log_of log.now) from }
+    ensures { result ≡ asked_behind (option_map (λ t. trail_now t.now) trail.entry) (log_of log.now) from }
 {
     match trail {
         None => behind_last_read(log.runs.as_slice(), from),
@@ -390,24 +390,29 @@ fn put_judgement(
 {
     let to = match at(teller.center.records(), judgement.record_place) {
         None => judgement.behind,
-        Some(record) => behind_closing(record.journal(), judgement.behind, socket),
+        Some(record) => behind_closing(record.journal().as_slice(), judgement.behind, socket),
     };
     put_up_to(out, teller, judgement.record_place, to, told)
 }
 
 /// Behind the entry at this place where by it another socket is closed.
-fn behind_closing(journal: &EntryList, place: usize, socket: &SocketId) -> usize
-    ensures { result ≡ behind_closing socket.now place (slice_get journal.now.items place) }
+fn behind_closing(journal: &[Entry], place: usize, socket: &SocketId) -> usize
+    ensures { result ≡ behind_closing socket.now place (slice_get journal.now place) }
 {
-    match journal.get(place) {
-        Some(Entry::Closed { socket: other }) => {
-            if socket.is_same(other) {
-                place
-            } else {
-                place + 1
-            }
-        }
-        _ => place,
+    if place < journal.len() && closes_another(&journal[place], socket) {
+        place + 1
+    } else {
+        place
+    }
+}
+
+/// Whether another socket is closed by the entry.
+fn closes_another(entry: &Entry, socket: &SocketId) -> bool
+    ensures { result ≡ closes_another socket.now entry.now }
+{
+    match entry {
+        Entry::Closed { socket: other } => !socket.is_same(other),
+        _ => false,
     }
 }
 

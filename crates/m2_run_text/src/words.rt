@@ -4,6 +4,7 @@ ghost use Rattle.std.specs.Prelude.{◌≡◌, ◌++◌, OnOk};
 ghost use Rattle.m2_run_text.specs.Words.{journal_head, name_at, name_in, settle_line, socket_name, trail_head, turn_line};
 ghost use Rattle.m2_trace_text.specs.Words.{number_word};
 
+use crate::lists::at;
 use m2_bytes::{Blob, NoMemory, put_decimal};
 use m2_fabric::SocketId;
 use m2_scenario::Node;
@@ -13,7 +14,7 @@ use m2_trace_text::{put_head, put_number};
 pub(crate) fn name_of(nodes: &[Node], place: u32) -> &[u8]
     ensures { result.now ≡ name_in nodes.now place }
 {
-    match nodes.get(place as usize) {
+    match at(nodes, place as usize) {
         Some(node) => node.name.as_slice(),
         None => b"",
     }

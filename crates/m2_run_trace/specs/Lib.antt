@@ -1,4 +1,6 @@
-pub mod Status
+pub mod Script
+pub mod Acts
 pub mod Playing
+pub mod Status
 pub mod Tracing
 pub mod Top

@@ -1,12 +1,11 @@
 -- What the program read and printed. This project's own.
-use Rattle.std.specs.Prelude.{◌≡◌, ℕ, ◌+◌, List, false, Ok}
+use Rattle.std.specs.Prelude.{◌≡◌, ℕ, ◌+◌, List}
 use Rattle.m2_edge.specs.Sink.{SeenSink, TakesBytes, IsFlushed}
 use Rattle.m2_edge.specs.Source.{SeenSource}
 use Rattle.m2_edge.specs.Whole.{IsReadUpTo}
 use Rattle.m2_run_trace.specs.declared.status.TraceStatus.{TraceStatus}
 use Rattle.m2_run_trace.specs.declared.status.TraceStatus.TheVariants.{Done, WriteFault}
-use Rattle.m2_scenario.specs.Draft.{Draft}
-use Rattle.m2_scenario_text.specs.Reading.{text_read}
+use Rattle.m2_run_trace.specs.Tracing.{IsTraceOf}
 use Rattle.m2_scenario_text.specs.declared.reading.TheConstants.{MOST_BYTES}
 
 -- a text was taken whole, and all is flushed
@@ -14,18 +13,17 @@ pub record Prints (text : List ℕ) (old new : SeenSink) : Type 0 where
   pub taken : TakesBytes text old new
   pub flushed : IsFlushed new
 
--- what the source gave of the one file, to its end or to the byte past the limit, is a scenario
-pub record IsOfScenario (source : SeenSource) : Type 0 where
+-- this is the trace of a run of the scenario that the source gave of the one file, to its end or to the byte past the limit
+pub record IsOfFile (source : SeenSource) (trace : List ℕ) : Type 0 where
   pub bytes : List ℕ
   pub read : IsReadUpTo (MOST_BYTES + 1) bytes source
-  pub draft : Draft
-  pub scenario : text_read false bytes ≡ Ok draft
+  pub traced : IsTraceOf bytes trace
 
--- a text was printed that was made of such a file
+-- such a trace was printed
 pub record PrintsTrace (source : SeenSource) (old new : SeenSink) : Type 0 where
-  pub text : List ℕ
-  pub traced : IsOfScenario source
-  pub printed : Prints text old new
+  pub trace : List ℕ
+  pub traced : IsOfFile source trace
+  pub printed : Prints trace old new
 
 -- something was wrong, and nothing has to do with standard output
 abbrev pub IsRefusal : TraceStatus → Type 0
@@ -38,7 +36,7 @@ IsPrinted Done text old new = Prints text old new
 IsPrinted WriteFault text old new = Unit {0}
 IsPrinted _ text old new = ⊥
 
--- With Done a text was printed; with WriteFault some of it may have been; else nothing was.
+-- With Done such a trace was printed; with WriteFault some of it may have been; else nothing was.
 abbrev pub PrintsAs : TraceStatus → SeenSource → SeenSink → SeenSink → Type 0
 PrintsAs Done source old new = PrintsTrace source old new
 PrintsAs WriteFault source old new = Unit {0}

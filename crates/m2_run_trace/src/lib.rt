@@ -2,23 +2,16 @@
 //!
 //! What it is: [`run_trace`], the whole work of the program of that name: it reads a scenario, plays its lines one by
 //! one over nodes in memory (`m2_script`), and prints what was done by it (docs/SCENARIOS.md, "The trace of a run").
-//! What it isn't: the run (`m2_script`), the words of an entry (`m2_trace_text`), or the picture (`tools/draw`).
+//! What it isn't: the run (`m2_script`), the lines of what a node did (`m2_run_text`), or the picture (`tools/draw`).
 #![tactic(auto)]
 
-mod cause;
-mod dispatches;
-mod ends;
-mod entries;
-mod marks;
-mod news;
 mod playing;
 mod program;
 mod script;
-mod sockets;
+mod stage;
 mod status;
 mod top;
 mod tracing;
-mod words;
 
 pub use program::{Ended, run_program};
 pub use status::TraceStatus;

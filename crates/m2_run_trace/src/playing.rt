@@ -1,127 +1,121 @@
 //! The lines of a script, played one by one.
 
-ghost use Rattle.std.specs.Prelude.{◌<◌, OnOk, length};
-ghost use Rattle.std.specs.List.{AllByRecursion};
+ghost use Rattle.std.specs.Prelude.{◌≡◌, ◌∷◌, ◌<◌, [], IfOk, OnOk, length};
+ghost use Rattle.std.specs.List.{AllByRecursion, flat_map};
+ghost use Rattle.m2_run_trace.specs.Acts.{Does, Plays, PlaysAll, actor_of, acts_of, acts_to, line_acts, quiet_act, round_acts, rounds_acts, silent_act, step_act, turn_act, turn_acts};
 ghost use Rattle.m2_run_trace.specs.Playing.{CanBeDoneBy, IsReady};
+ghost use Rattle.m2_run_trace.specs.Script.{lines_above, lines_behind, next_step};
+ghost use Rattle.m2_script.specs.Script.{MOST, both_flow, deeds_of};
+ghost use Rattle.m2_script.specs.Script as deed;
+ghost use Rattle.m2_words.specs.Text.{pieces};
 
-use crate::marks::marks_of;
-use crate::news::put_news;
-use crate::script::{put_rest, put_step, put_until_step};
-use crate::sockets::sockets_left;
-use crate::words::{name_of, put_settle, put_turn};
-use m2_bytes::{Blob, NoMemory};
+use crate::script::{put_step, put_until_step};
+use crate::stage::{MemoryRun, Scene, Stage};
+use m2_bytes::NoMemory;
 use m2_dispatcher::LogDispatcher;
-use m2_fabric::SocketIdList;
-use m2_kept::{deeds_stay_kept, kept_can_be_done};
-use m2_scenario::{Line, LineList, Link, Node};
-use m2_script::Run;
-use m2_sim_fabric::{CutEnd, CutPort, SimEnd, SimPort};
+use m2_run_text::{Marks, put_news, put_settle, put_turn, sockets_left};
+use m2_scenario::{Line, LineList, Link};
+use m2_sim_fabric::{CutEnd, SimEnd};
+use m2_started::{deeds_stay_kept, kept_can_be_done};
 use std::alloc::Global;
 
-/// Where a script is played.
-#[derive(Drop)]
-pub(crate) struct Scene<'a> {
-    pub nodes: &'a [Node],
-    pub links: &'a [Link],
-}
-
-/// What is played so far.
-#[derive(Drop)]
-pub(crate) struct Played<'a> {
-    /// What of the scenario's text isn't played yet.
-    pub text: &'a [u8],
-    /// The sockets on which a half may still do something, in the order in which they were opened.
-    pub sockets: SocketIdList,
-    pub out: Blob,
-    /// How many turns were taken.
-    pub moment: u64,
-}
-
-/// The run that is traced.
-pub(crate) type MemoryRun = Run<CutPort<SimPort>>;
-
-/// Plays all lines, in order.
+/// Plays all lines, in order, and prints the text with what was done by them.
 pub(crate) fn play_all(
     alloc: Global,
     scene: &Scene<'_>,
-    played: &mut Played<'_>,
-    run: &mut MemoryRun,
+    stage: &mut Stage,
+    text: &[u8],
     lines: LineList,
 ) -> Result<(), NoMemory>
-    requires ready { IsReady scene.now.nodes.now scene.now.links.now run.old }
+    requires ready { IsReady scene.now.nodes.now scene.now.links.now stage.old.run }
     requires lines { AllByRecursion (CanBeDoneBy scene.now.nodes.now scene.now.links.now) lines.items }
+    ensures { OnOk result (PlaysAll scene.now.nodes.now (acts_of scene.now.nodes.now scene.now.links.now (pieces 10 text.now) lines.items) stage.old stage.new) }
 {
+    let mut rest = text;
     for line in lines.into_vec() {
-        play(alloc, scene, played, run, line)?;
+        rest = play(alloc, scene, stage, rest, line)?;
     }
+    let (_step, _rest) = put_above(scene, stage, rest)?;
     Ok(())
 }
 
-/// Prints what stands behind the last line.
-pub(crate) fn finish(
-    scene: &Scene<'_>,
-    played: &mut Played<'_>,
-    run: &MemoryRun,
-) -> Result<(), NoMemory> {
-    let text = played.text;
-    put_rest(&mut played.out, text, scene.nodes, run.cluster())
-}
-
-/// Plays the next line, and prints it with what was done by it.
-fn play(
+/// Plays the next line, and prints it with the text above it and with what was done by it; the text behind it.
+fn play<'a>(
     alloc: Global,
     scene: &Scene<'_>,
-    played: &mut Played<'_>,
-    run: &mut MemoryRun,
+    stage: &mut Stage,
+    text: &'a [u8],
     line: Line,
-) -> Result<(), NoMemory>
-    requires ready { IsReady scene.now.nodes.now scene.now.links.now run.old }
+) -> Result<&'a [u8], NoMemory>
+    requires ready { IsReady scene.now.nodes.now scene.now.links.now stage.old.run }
     requires line { CanBeDoneBy scene.now.nodes.now scene.now.links.now line }
-    ensures { OnOk result (IsReady scene.now.nodes.now scene.now.links.now run.new) }
+    ensures plays { OnOk result (PlaysAll scene.now.nodes.now (acts_to scene.now.nodes.now scene.now.links.now (pieces 10 text.now) line) stage.old stage.new) }
+    ensures rest { IfOk result (λ rest. pieces 10 rest.now ≡ lines_behind (pieces 10 text.now)) }
+    ensures ready { OnOk result (IsReady scene.now.nodes.now scene.now.links.now stage.new.run) }
 {
-    let text = played.text;
-    let (step, rest) = put_until_step(&mut played.out, text, scene.nodes, run.cluster())?;
-    played.text = rest;
-    match line {
-        Line::Settle { rounds } => play_rounds(alloc, scene, played, run, rounds),
-        Line::Turn { a } => play_turn(alloc, scene, played, run, a),
-        _ => play_step(alloc, scene, played, run, step, line),
-    }
+    let (step, rest) = put_above(scene, stage, text)?;
+    play_line(alloc, scene, stage, step, line)?;
+    Ok(rest)
 }
 
-/// Plays a line that is no turn, and prints it.
-fn play_step(
+/// Prints the lines of the text above the next one that is played; that one, and the text behind it.
+fn put_above<'a>(
+    scene: &Scene<'_>,
+    stage: &mut Stage,
+    text: &'a [u8],
+) -> Result<(&'a [u8], &'a [u8]), NoMemory>
+    ensures plays { OnOk result (Plays scene.now.nodes.now (quiet_act scene.now.nodes.now (lines_above (pieces 10 text.now))) stage.old stage.new) }
+    ensures step { IfOk result (λ r. r.0.now ≡ next_step (pieces 10 text.now)) }
+    ensures rest { IfOk result (λ r. pieces 10 r.1.now ≡ lines_behind (pieces 10 text.now)) }
+    ensures run { stage.new.run ≡ stage.old.run }
+{
+    put_until_step(&mut stage.out, text, scene.nodes, stage.run.cluster())
+}
+
+/// Plays a line, and prints it with what was done by it.
+fn play_line(
     alloc: Global,
     scene: &Scene<'_>,
-    played: &mut Played<'_>,
-    run: &mut MemoryRun,
+    stage: &mut Stage,
     step: &[u8],
     line: Line,
 ) -> Result<(), NoMemory>
-    requires ready { IsReady scene.now.nodes.now scene.now.links.now run.old }
+    requires ready { IsReady scene.now.nodes.now scene.now.links.now stage.old.run }
     requires line { CanBeDoneBy scene.now.nodes.now scene.now.links.now line }
-    ensures { OnOk result (IsReady scene.now.nodes.now scene.now.links.now run.new) }
+    ensures plays { OnOk result (PlaysAll scene.now.nodes.now (line_acts scene.now.nodes.now scene.now.links.now step.now line) stage.old stage.new) }
+    ensures ready { OnOk result (IsReady scene.now.nodes.now scene.now.links.now stage.new.run) }
 {
-    put_step(&mut played.out, step)?;
-    match actor(&line) {
-        Some(node) => act(alloc, scene, played, run, node, line),
-        None => do_line(scene, run, line),
+    match line {
+        Line::Settle { rounds } => play_rounds(alloc, scene, stage, rounds),
+        Line::Turn { a } => play_turn(alloc, scene, stage, a),
+        _ => play_step(alloc, scene, stage, step, line),
     }
 }
 
-/// Does what a line says.
-fn do_line(scene: &Scene<'_>, run: &mut MemoryRun, line: Line) -> Result<(), NoMemory>
-    requires ready { IsReady scene.now.nodes.now scene.now.links.now run.old }
+/// Plays a line that stands in the text, and prints it with what was done by it.
+fn play_step(
+    alloc: Global,
+    scene: &Scene<'_>,
+    stage: &mut Stage,
+    step: &[u8],
+    line: Line,
+) -> Result<(), NoMemory>
+    requires ready { IsReady scene.now.nodes.now scene.now.links.now stage.old.run }
     requires line { CanBeDoneBy scene.now.nodes.now scene.now.links.now line }
-    ensures { OnOk result (IsReady scene.now.nodes.now scene.now.links.now run.new) }
+    ensures plays { OnOk result (Plays scene.now.nodes.now (step_act scene.now.links.now (length scene.now.nodes.now) step.now line) stage.old stage.new) }
+    ensures ready { OnOk result (IsReady scene.now.nodes.now scene.now.links.now stage.new.run) }
 {
-    deeds_stay_kept::<LogDispatcher, CutEnd<SimEnd>>();
-    kept_can_be_done::<LogDispatcher>();
-    run.line(scene.links, scene.nodes.len() as u32, line)
+    put_step(&mut stage.out, step)?;
+    match actor(&line) {
+        Some(node) => act(alloc, scene, stage, node, line),
+        None => do_line(scene, &mut stage.run, line),
+    }
 }
 
 /// The node that does something by a line, if there is one.
-fn actor(line: &Line) -> Option<u32> {
+fn actor(line: &Line) -> Option<u32>
+    ensures { result ≡ actor_of line.now }
+{
     match line {
         Line::Post { a, .. } | Line::Dial { a, .. } | Line::Down { a, .. } | Line::Turn { a } => {
             Some(*a)
@@ -130,38 +124,36 @@ fn actor(line: &Line) -> Option<u32> {
     }
 }
 
-/// Plays a line by which this node does something, and prints what that is.
+/// Does what a line says.
+fn do_line(scene: &Scene<'_>, run: &mut MemoryRun, line: Line) -> Result<(), NoMemory>
+    requires ready { IsReady scene.now.nodes.now scene.now.links.now run.old }
+    requires line { CanBeDoneBy scene.now.nodes.now scene.now.links.now line }
+    ensures does { OnOk result (Does (deeds_of scene.now.links.now (length scene.now.nodes.now) line) run.old run.new) }
+    ensures ready { OnOk result (IsReady scene.now.nodes.now scene.now.links.now run.new) }
+{
+    deeds_stay_kept::<LogDispatcher, CutEnd<SimEnd>>();
+    kept_can_be_done::<LogDispatcher>();
+    run.line(scene.links, scene.nodes.len() as u32, line)
+}
+
+/// Does what a line says, by which this node does something, and prints what that is.
 fn act(
     alloc: Global,
     scene: &Scene<'_>,
-    played: &mut Played<'_>,
-    run: &mut MemoryRun,
+    stage: &mut Stage,
     node: u32,
     line: Line,
 ) -> Result<(), NoMemory>
-    requires ready { IsReady scene.now.nodes.now scene.now.links.now run.old }
+    requires ready { IsReady scene.now.nodes.now scene.now.links.now stage.old.run }
     requires line { CanBeDoneBy scene.now.nodes.now scene.now.links.now line }
-    ensures { OnOk result (IsReady scene.now.nodes.now scene.now.links.now run.new) }
+    ensures plays { OnOk result (Plays scene.now.nodes.now (silent_act (deeds_of scene.now.links.now (length scene.now.nodes.now) line) node) stage.old stage.new) }
+    ensures ready { OnOk result (IsReady scene.now.nodes.now scene.now.links.now stage.new.run) }
 {
-    let marks = marks_of(alloc, run.cluster(), node, played.sockets.as_slice())?;
-    do_line(scene, run, line)?;
-    put_news(
-        alloc,
-        &mut played.out,
-        scene.nodes,
-        run.cluster(),
-        node,
-        played.sockets.as_slice(),
-        &marks,
-    )?;
-    played.sockets = sockets_left(
-        alloc,
-        played.sockets.as_slice(),
-        scene.nodes,
-        run.cluster(),
-        node,
-        &marks,
-    )?;
+    let nodes = scene.nodes;
+    let marks = Marks::of(alloc, nodes, stage.run.cluster(), node, stage.sockets.as_slice())?;
+    do_line(scene, &mut stage.run, line)?;
+    put_news(alloc, &mut stage.out, nodes, stage.run.cluster(), node, &marks)?;
+    stage.sockets = sockets_left(alloc, nodes, stage.run.cluster(), node, &marks)?;
     Ok(())
 }
 
@@ -169,57 +161,52 @@ fn act(
 fn play_rounds(
     alloc: Global,
     scene: &Scene<'_>,
-    played: &mut Played<'_>,
-    run: &mut MemoryRun,
+    stage: &mut Stage,
     rounds: u32,
 ) -> Result<(), NoMemory>
-    requires { IsReady scene.now.nodes.now scene.now.links.now run.old }
-    ensures { OnOk result (IsReady scene.now.nodes.now scene.now.links.now run.new) }
+    requires { IsReady scene.now.nodes.now scene.now.links.now stage.old.run }
+    ensures plays { OnOk result (PlaysAll scene.now.nodes.now (rounds_acts scene.now.nodes.now scene.now.links.now rounds) stage.old stage.new) }
+    ensures ready { OnOk result (IsReady scene.now.nodes.now scene.now.links.now stage.new.run) }
 {
     'rounds: for _ in 0..rounds {
-        play_round(alloc, scene, played, run)?;
+        play_round(alloc, scene, stage)?;
     }
     Ok(())
 }
 
 /// One round: everything flows, and then each node takes a turn.
-fn play_round(
-    alloc: Global,
-    scene: &Scene<'_>,
-    played: &mut Played<'_>,
-    run: &mut MemoryRun,
-) -> Result<(), NoMemory>
-    requires { IsReady scene.now.nodes.now scene.now.links.now run.old }
-    ensures { OnOk result (IsReady scene.now.nodes.now scene.now.links.now run.new) }
+fn play_round(alloc: Global, scene: &Scene<'_>, stage: &mut Stage) -> Result<(), NoMemory>
+    requires { IsReady scene.now.nodes.now scene.now.links.now stage.old.run }
+    ensures plays { OnOk result (PlaysAll scene.now.nodes.now (round_acts scene.now.nodes.now scene.now.links.now) stage.old stage.new) }
+    ensures ready { OnOk result (IsReady scene.now.nodes.now scene.now.links.now stage.new.run) }
 {
-    put_settle(&mut played.out)?;
-    flow_all(scene, run)?;
-    turn_all(alloc, scene, played, run)
+    put_settle(&mut stage.out)?;
+    flow_all(scene, &mut stage.run)?;
+    turn_all(alloc, scene, stage)
 }
 
 /// Everything flows over all links.
 fn flow_all(scene: &Scene<'_>, run: &mut MemoryRun) -> Result<(), NoMemory>
     requires { IsReady scene.now.nodes.now scene.now.links.now run.old }
-    ensures { OnOk result (IsReady scene.now.nodes.now scene.now.links.now run.new) }
+    ensures does { OnOk result (Does (flat_map both_flow scene.now.links.now) run.old run.new) }
+    ensures ready { OnOk result (IsReady scene.now.nodes.now scene.now.links.now run.new) }
 {
     'links: for place in 0..scene.links.len() {
-        flow_over(scene, run, place)?;
+        flow_over(scene, run, &scene.links[place])?;
     }
     Ok(())
 }
 
-/// Everything flows over the link at this place, in both directions.
-fn flow_over(scene: &Scene<'_>, run: &mut MemoryRun, place: usize) -> Result<(), NoMemory>
-    requires { IsReady scene.now.nodes.now scene.now.links.now run.old }
-    ensures { OnOk result (IsReady scene.now.nodes.now scene.now.links.now run.new) }
+/// Everything flows over a link, in both directions.
+fn flow_over(scene: &Scene<'_>, run: &mut MemoryRun, link: &Link) -> Result<(), NoMemory>
+    requires ready { IsReady scene.now.nodes.now scene.now.links.now run.old }
+    requires one { link.now.a < length scene.now.nodes.now }
+    requires other { link.now.b < length scene.now.nodes.now }
+    ensures does { OnOk result (Does (both_flow link.now) run.old run.new) }
+    ensures ready { OnOk result (IsReady scene.now.nodes.now scene.now.links.now run.new) }
 {
-    match scene.links.get(place) {
-        None => Ok(()),
-        Some(link) => {
-            flow(scene, run, link.a, link.b)?;
-            flow(scene, run, link.b, link.a)
-        }
-    }
+    flow(scene, run, link.a, link.b)?;
+    flow(scene, run, link.b, link.a)
 }
 
 /// Everything flows from a node to another.
@@ -227,7 +214,8 @@ fn flow(scene: &Scene<'_>, run: &mut MemoryRun, a: u32, b: u32) -> Result<(), No
     requires ready { IsReady scene.now.nodes.now scene.now.links.now run.old }
     requires one { a < length scene.now.nodes.now }
     requires other { b < length scene.now.nodes.now }
-    ensures { OnOk result (IsReady scene.now.nodes.now scene.now.links.now run.new) }
+    ensures does { OnOk result (Does (deed.flow a b 0 MOST ∷ []) run.old run.new) }
+    ensures ready { OnOk result (IsReady scene.now.nodes.now scene.now.links.now run.new) }
 {
     do_line(
         scene,
@@ -242,17 +230,13 @@ fn flow(scene: &Scene<'_>, run: &mut MemoryRun, a: u32, b: u32) -> Result<(), No
 }
 
 /// Each node takes a turn, in order.
-fn turn_all(
-    alloc: Global,
-    scene: &Scene<'_>,
-    played: &mut Played<'_>,
-    run: &mut MemoryRun,
-) -> Result<(), NoMemory>
-    requires { IsReady scene.now.nodes.now scene.now.links.now run.old }
-    ensures { OnOk result (IsReady scene.now.nodes.now scene.now.links.now run.new) }
+fn turn_all(alloc: Global, scene: &Scene<'_>, stage: &mut Stage) -> Result<(), NoMemory>
+    requires { IsReady scene.now.nodes.now scene.now.links.now stage.old.run }
+    ensures plays { OnOk result (PlaysAll scene.now.nodes.now (turn_acts scene.now.nodes.now 0 (length scene.now.nodes.now)) stage.old stage.new) }
+    ensures ready { OnOk result (IsReady scene.now.nodes.now scene.now.links.now stage.new.run) }
 {
     'nodes: for node in 0..scene.nodes.len() {
-        play_turn(alloc, scene, played, run, node as u32)?;
+        play_turn(alloc, scene, stage, node as u32)?;
     }
     Ok(())
 }
@@ -261,16 +245,15 @@ fn turn_all(
 fn play_turn(
     alloc: Global,
     scene: &Scene<'_>,
-    played: &mut Played<'_>,
-    run: &mut MemoryRun,
+    stage: &mut Stage,
     node: u32,
 ) -> Result<(), NoMemory>
-    requires ready { IsReady scene.now.nodes.now scene.now.links.now run.old }
+    requires ready { IsReady scene.now.nodes.now scene.now.links.now stage.old.run }
     requires node { node < length scene.now.nodes.now }
-    ensures { OnOk result (IsReady scene.now.nodes.now scene.now.links.now run.new) }
+    ensures plays { OnOk result (Plays scene.now.nodes.now (turn_act scene.now.nodes.now node) stage.old stage.new) }
+    ensures ready { OnOk result (IsReady scene.now.nodes.now scene.now.links.now stage.new.run) }
 {
-    let moment = played.moment;
-    put_turn(&mut played.out, name_of(scene.nodes, node), moment)?;
-    played.moment = moment.saturating_add(1);
-    act(alloc, scene, played, run, node, Line::Turn { a: node })
+    let moment = stage.run.now();
+    put_turn(&mut stage.out, scene.nodes, node, moment)?;
+    act(alloc, scene, stage, node, Line::Turn { a: node })
 }

@@ -2,7 +2,7 @@
 
 ghost use Rattle.std.specs.Prelude.{IfOk, IfErr, OnOk};
 ghost use Rattle.m2_edge.specs.Faults.{HasCause};
-ghost use Rattle.m2_run_trace.specs.Top.{IsOfScenario, IsPrinted, IsRefusal, Prints, PrintsAs};
+ghost use Rattle.m2_run_trace.specs.Top.{IsOfFile, IsPrinted, IsRefusal, Prints, PrintsAs};
 
 use crate::status::{TraceStatus, fixed_line, line};
 use crate::tracing::{Untraced, trace};
@@ -31,7 +31,7 @@ pub fn run_trace<S: Source, O: Sink, E: Sink>(
 
 /// The trace of the file, or how the program ends.
 fn prepare<S: Source>(alloc: Global, args: &[String], src: &mut S) -> Result<Blob, TraceStatus>
-    ensures traced { IfOk result (λ _. IsOfScenario (S.seen src.new)) }
+    ensures traced { IfOk result (λ t. IsOfFile (S.seen src.new) t.bytes) }
     ensures refused { IfErr result IsRefusal }
 {
     let [file] = args else {

@@ -1,15 +1,16 @@
 //! The trace of a scenario.
 
-ghost use Rattle.std.specs.Prelude.{IfOk, map};
+ghost use Rattle.std.specs.Prelude.{◌≡◌, IfOk, map};
 ghost use Rattle.std.specs.List.{AllByRecursion};
 ghost use Rattle.m2_run_trace.specs.Playing.{CanBeDoneBy, IsReady};
-ghost use Rattle.m2_run_trace.specs.Tracing.{Traces};
+ghost use Rattle.m2_run_trace.specs.Tracing.{IsTrace, Traces};
 ghost use Rattle.m2_scenario.specs.Draft.{draft_line};
 ghost use Rattle.m2_scenario.specs.Valid.{IsSound, IsValid};
 ghost use Rattle.m2_started.specs.Started.{IsFirst};
 
-use crate::playing::{MemoryRun, Played, Scene, finish, play_all};
-use m2_bytes::{Blob, Items, NoMemory};
+use crate::playing::play_all;
+use crate::stage::{MemoryRun, Scene, Stage};
+use m2_bytes::{Blob, NoMemory};
 use m2_nodes::{addresses, clear_all, cluster_of};
 use m2_scenario::{Line, LineList, Link, Node, Scenario};
 use m2_scenario_text::{BadScenario, read};
@@ -27,8 +28,8 @@ pub enum Untraced {
     NoMemory,
 }
 
-/// The trace of the scenario that a text says: each line of its script as it is played, and under it what the nodes
-/// did.
+/// The trace of a run of the scenario that a text says: each line of its script as it is played, and under it what the
+/// nodes did.
 pub fn trace(alloc: Global, bytes: &[u8]) -> Result<Blob, Untraced>
     ensures { Traces result bytes.now }
 {
@@ -45,6 +46,7 @@ pub fn trace(alloc: Global, bytes: &[u8]) -> Result<Blob, Untraced>
 /// The same of a scenario with its text.
 fn trace_scenario(alloc: Global, text: &[u8], scenario: Scenario) -> Result<Blob, NoMemory>
     requires { IsValid scenario }
+    ensures { IfOk result (λ t. IsTrace scenario.nodes.items scenario.links.items scenario.lines.items text.now t.bytes) }
 {
     let Scenario {
         nodes,
@@ -67,13 +69,17 @@ fn trace_lines(
     lines: LineList,
 ) -> Result<Blob, NoMemory>
     requires { IsSound scene.now.nodes.now scene.now.links.now (map draft_line lines.items) }
+    ensures { IfOk result (λ t. IsTrace scene.now.nodes.now scene.now.links.now lines.items text.now t.bytes) }
 {
-    let mut run = begin(alloc, scene.nodes, scene.links, lines.as_slice())?;
+    let run = begin(alloc, scene.nodes, scene.links, lines.as_slice())?;
     is_ready(scene, lines.as_slice(), &run);
-    let traced = trace_run(alloc, text, scene, &mut run, lines);
-    let (cluster, _calls) = run.into_parts();
-    clear_all(cluster);
-    traced
+    let mut stage = Stage::new(alloc, run);
+    let played = play_all(alloc, scene, &mut stage, text, lines);
+    let out = end(stage);
+    match played {
+        Ok(()) => Ok(out),
+        Err(NoMemory) => Err(NoMemory),
+    }
 }
 
 /// The run before its first line.
@@ -102,30 +108,16 @@ fn is_ready(scene: &Scene<'_>, lines: &[Line], run: &MemoryRun)
     scripts_are_within();
 }
 
-/// Plays all lines.
-fn trace_run(
-    alloc: Global,
-    text: &[u8],
-    scene: &Scene<'_>,
-    run: &mut MemoryRun,
-    lines: LineList,
-) -> Result<Blob, NoMemory>
-    requires ready { IsReady scene.now.nodes.now scene.now.links.now run.old }
-    requires lines { AllByRecursion (CanBeDoneBy scene.now.nodes.now scene.now.links.now) lines.items }
+/// What is told at last; the nodes are dropped.
+fn end(stage: Stage) -> Blob
+    ensures { result.bytes ≡ stage.text }
 {
-    let mut played = Played {
-        text,
-        sockets: Items::empty(alloc),
-        out: Blob::empty(alloc),
-        moment: 0,
-    };
-    play_all(alloc, scene, &mut played, run, lines)?;
-    finish(scene, &mut played, run)?;
-    let Played {
-        text: _,
+    let Stage {
+        run,
         sockets: _,
         out,
-        moment: _,
-    } = played;
-    Ok(out)
+    } = stage;
+    let (cluster, _calls) = run.into_parts();
+    clear_all(cluster);
+    out
 }

@@ -1,0 +1,54 @@
+-- What a record did, as lines. This project's own.
+use Rattle.std.specs.Prelude.{ℕ, zero, suc, ◌+◌, ◌-◌, Bool, true, false, if◌then◌else◌, List, [], ◌∷◌, ◌++◌, codes, drop, length, slice_get, Option, Some, None}
+use Rattle.m2_answers.specs.declared.ask.AskFacts.{AskFacts}
+use Rattle.m2_dispatch.specs.Heard.{is_path}
+use Rattle.m2_dispatch.specs.declared.logged.Logged.{Logged}
+use Rattle.m2_fabric.specs.declared.socket.SocketId.{SocketId}
+use Rattle.m2_fabric.specs.Log.{Log}
+use Rattle.m2_journal.specs.declared.entry.Entry.{Entry}
+use Rattle.m2_journal.specs.declared.entry.Entry.TheVariants as entry
+use Rattle.m2_journal.specs.Items.{runs_on}
+use Rattle.m2_policy.specs.declared.path.Path.TheVariants.{Fast}
+use Rattle.m2_scenario.specs.declared.node.Node.{Node}
+use Rattle.m2_session.specs.declared.answer.Answer.{Answer}
+use Rattle.m2_trace_text.specs.Entries.{answer_words, ask_words, entry_words}
+use Rattle.m2_trace_text.specs.Words.{Text, number_word}
+use Rattle.m2_trail.specs.Trails.{written_by}
+use Rattle.m2_tmp.specs.Cause.{cause_in_journal}
+use Rattle.m2_tmp.specs.Ends.{closed_words, opened_words, read_words, wrote_words}
+use Rattle.m2_tmp.specs.Words.{journal_head, socket_name}
+
+-- an ask on a socket of the peer that was judged, with its global number and its answer
+unfoldable pub judged_words : List Node → SocketId → AskFacts → (number : ℕ) → Answer → Text
+judged_words nodes s ask number answer = codes " judged" ++ number_word number ++ codes " " ++ socket_name nodes s ++ (ask_words ask ++ answer_words answer)
+
+-- all that an end put
+abbrev pub put_of : Option Log → Text
+put_of (Some log) = log.put
+put_of None = []
+
+-- the entry in front of the one at a place
+abbrev pub entry_before : List Entry → (place : ℕ) → Option Entry
+entry_before journal zero = None
+entry_before journal (suc n) = slice_get journal n
+
+-- where what an entry and those behind it put on a socket begins, of all that the end put
+abbrev pub start_on : SocketId → List Entry → Option Log → ℕ
+start_on s entries log = length (put_of log) - written_by (runs_on s entries)
+
+-- ---- with the dispatches of fast kinds
+
+-- a message was accepted that is dispatched at once
+abbrev pub is_fast : Entry → Bool
+is_fast (entry.Accepted number key) = is_path key.path Fast
+is_fast e = false
+
+-- the calls that are left behind it
+abbrev pub calls_behind : (calls : List Logged) → Option Entry → List Logged
+calls_behind calls (Some e) = if is_fast e then drop 1 calls else calls
+calls_behind calls None = calls
+
+abbrev pub calls_left : (journal : List Entry) → (from count : ℕ) → (calls : List Logged) → List Logged
+calls_left journal from zero calls = calls
+calls_left journal from (suc n) calls = calls_left journal (from + 1) n (calls_behind calls (slice_get journal from))
+
