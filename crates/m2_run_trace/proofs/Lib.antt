@@ -1,2 +1,4 @@
+pub mod Acts
 pub mod Appended
+pub mod Deeds
 pub mod Kept
