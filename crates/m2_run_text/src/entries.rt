@@ -128,7 +128,14 @@ fn put_told(
         Entry::Read { socket, count } => put_read(out, nodes, socket, *count),
         Entry::Wrote { socket, count } => {
             let log = teller.log(socket);
-            put_written(out, nodes, socket, *count, behind(journal.as_slice(), place), log)
+            put_written(
+                out,
+                nodes,
+                socket,
+                *count,
+                behind(journal.as_slice(), place),
+                log,
+            )
         }
         Entry::Closed { socket } => {
             let cause = cause_in_journal(before(journal, place), socket, teller.log(socket));
@@ -156,7 +163,14 @@ fn put_written(
     ensures { OnOk result (out.new.bytes ≡ out.old.bytes ++ wrote_words nodes.now socket.now count (start_on socket.now entries.now (seen_log log.entry)) (put_of (seen_log log.entry))) }
 {
     let put = put_of(log);
-    put_wrote(out, nodes, socket, count, start_on(socket, entries, put.len()), put)
+    put_wrote(
+        out,
+        nodes,
+        socket,
+        count,
+        start_on(socket, entries, put.len()),
+        put,
+    )
 }
 
 /// All that an end put; nothing where there is none.

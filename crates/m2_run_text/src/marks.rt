@@ -71,11 +71,7 @@ impl Marks {
 }
 
 /// Where the node of this center stands.
-fn marks_in(
-    alloc: Global,
-    center: &MemoryCenter,
-    sockets: &[SocketId],
-) -> Result<Marks, NoMemory>
+fn marks_in(alloc: Global, center: &MemoryCenter, sockets: &[SocketId]) -> Result<Marks, NoMemory>
     ensures { IfOk result (λ m. m ≡ marks_in center.now sockets.now) }
 {
     Ok(Marks {

@@ -142,11 +142,7 @@ fn put_doings(
 }
 
 /// Appends which sockets were accepted.
-fn put_all_accepted(
-    out: &mut Blob,
-    teller: &Teller<'_>,
-    marks: &[EndMark],
-) -> Result<(), NoMemory>
+fn put_all_accepted(out: &mut Blob, teller: &Teller<'_>, marks: &[EndMark]) -> Result<(), NoMemory>
     ensures { OnOk result (out.new.bytes ≡ out.old.bytes ++ flat_map (accepted_line teller.now) marks.now) }
 {
     for mark in marks {
@@ -156,11 +152,7 @@ fn put_all_accepted(
 }
 
 /// Appends that the socket was accepted, if it was.
-fn put_if_accepted(
-    out: &mut Blob,
-    teller: &Teller<'_>,
-    mark: &EndMark,
-) -> Result<(), NoMemory>
+fn put_if_accepted(out: &mut Blob, teller: &Teller<'_>, mark: &EndMark) -> Result<(), NoMemory>
     ensures { OnOk result (out.new.bytes ≡ out.old.bytes ++ accepted_line teller.now mark.now) }
 {
     if !mark.there && teller.log(&mark.socket).is_some() {
@@ -211,12 +203,7 @@ fn put_if_half(
 }
 
 /// The half of a marked socket.
-fn half_in<'a>(
-    teller: &Teller<'a>,
-    mark: &'a EndMark,
-    log: &'a EndLog,
-    told: &Told<'_>,
-) -> Half<'a>
+fn half_in<'a>(teller: &Teller<'a>, mark: &'a EndMark, log: &'a EndLog, told: &Told<'_>) -> Half<'a>
     ensures { result ≡ half_in teller.now mark.now (log_of log.now) told.now }
 {
     Half {
@@ -435,7 +422,15 @@ fn put_up_to(
         return Ok(());
     };
     let peer = name_of(teller.nodes, record.place());
-    put_entries(out, teller, peer, record.journal(), from, to, &mut told.fast)?;
+    put_entries(
+        out,
+        teller,
+        peer,
+        record.journal(),
+        from,
+        to,
+        &mut told.fast,
+    )?;
     told.journals[place] = to;
     Ok(())
 }

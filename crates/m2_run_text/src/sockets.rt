@@ -6,7 +6,7 @@ ghost use Rattle.std.specs.Option.{option_map};
 ghost use Rattle.m2_record.specs.RecordNow.{RecordNow};
 ghost use Rattle.m2_record.specs.Sources.{trail_at};
 ghost use Rattle.m2_run_text.specs.declared.marks.EndMark.{EndMark};
-ghost use Rattle.m2_run_text.specs.Sockets.{comes_to, is_over, left_of, trail_in};
+ghost use Rattle.m2_run_text.specs.Sockets.{comes_to, is_over, left_of, sockets_left, trail_in};
 ghost use Rattle.m2_run_text.specs.Telling.{telling_at};
 ghost use Rattle.m2_trail.specs.Trails.{trail_now};
 
@@ -76,11 +76,20 @@ pub fn sockets_left(
 ) -> Result<SocketIdList, NoMemory>
     ensures { IfOk result (λ l. l.items ≡ left_of (telling_at nodes.now cluster.now.nodes node) marks.now) }
 {
-    let mut left = Items::empty(alloc);
-    if let Some(teller) = Teller::of(nodes, cluster, node) {
-        add_going(&mut left, &teller, marks.ends.as_slice())?;
-        add_opened(&mut left, &teller, behind(teller.center.made().as_slice(), marks.made))?;
+    match Teller::of(nodes, cluster, node) {
+        None => Ok(Items::empty(alloc)),
+        Some(teller) => left_at(alloc, &teller, marks),
     }
+}
+
+/// The same of a node.
+fn left_at(alloc: Global, teller: &Teller<'_>, marks: &Marks) -> Result<SocketIdList, NoMemory>
+    ensures { IfOk result (λ l. l.items ≡ sockets_left teller.now marks.now) }
+{
+    let mut left = Items::empty(alloc);
+    add_going(&mut left, teller, marks.ends.as_slice())?;
+    let made = teller.center.made();
+    add_opened(&mut left, teller, behind(made.as_slice(), marks.made))?;
     Ok(left)
 }
 

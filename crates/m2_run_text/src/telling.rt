@@ -37,11 +37,7 @@ impl<'a> Model for Teller<'a> {
 
 impl<'a> Teller<'a> {
     /// Of the node at this place; none exactly where there is none.
-    pub(crate) fn of(
-        nodes: &'a [Node],
-        cluster: &'a MemoryCluster,
-        node: u32,
-    ) -> Option<Teller<'a>>
+    pub(crate) fn of(nodes: &'a [Node], cluster: &'a MemoryCluster, node: u32) -> Option<Teller<'a>>
         ensures { result ≡ telling_at nodes.now cluster.now.nodes node }
     {
         let Some(own) = at(nodes, node as usize) else {

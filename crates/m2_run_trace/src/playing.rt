@@ -150,9 +150,22 @@ fn act(
     ensures ready { OnOk result (IsReady scene.now.nodes.now scene.now.links.now stage.new.run) }
 {
     let nodes = scene.nodes;
-    let marks = Marks::of(alloc, nodes, stage.run.cluster(), node, stage.sockets.as_slice())?;
+    let marks = Marks::of(
+        alloc,
+        nodes,
+        stage.run.cluster(),
+        node,
+        stage.sockets.as_slice(),
+    )?;
     do_line(scene, &mut stage.run, line)?;
-    put_news(alloc, &mut stage.out, nodes, stage.run.cluster(), node, &marks)?;
+    put_news(
+        alloc,
+        &mut stage.out,
+        nodes,
+        stage.run.cluster(),
+        node,
+        &marks,
+    )?;
     stage.sockets = sockets_left(alloc, nodes, stage.run.cluster(), node, &marks)?;
     Ok(())
 }
@@ -242,12 +255,7 @@ fn turn_all(alloc: Global, scene: &Scene<'_>, stage: &mut Stage) -> Result<(), N
 }
 
 /// One turn of a node.
-fn play_turn(
-    alloc: Global,
-    scene: &Scene<'_>,
-    stage: &mut Stage,
-    node: u32,
-) -> Result<(), NoMemory>
+fn play_turn(alloc: Global, scene: &Scene<'_>, stage: &mut Stage, node: u32) -> Result<(), NoMemory>
     requires ready { IsReady scene.now.nodes.now scene.now.links.now stage.old.run }
     requires node { node < length scene.now.nodes.now }
     ensures plays { OnOk result (Plays scene.now.nodes.now (turn_act scene.now.nodes.now node) stage.old stage.new) }

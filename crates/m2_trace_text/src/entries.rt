@@ -113,11 +113,7 @@ pub(crate) fn put_judged(
 }
 
 /// Appends the words of an ask, and those of its answer.
-pub fn put_ask_and_answer(
-    out: &mut Blob,
-    ask: &AskFacts,
-    answer: &Answer,
-) -> Result<(), NoMemory>
+pub fn put_ask_and_answer(out: &mut Blob, ask: &AskFacts, answer: &Answer) -> Result<(), NoMemory>
     ensures { OnOk result (out.new.bytes ≡ out.old.bytes ++ (ask_words ask.now ++ answer_words answer.now)) }
 {
     put_ask(out, ask)?;
