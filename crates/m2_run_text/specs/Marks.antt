@@ -4,7 +4,7 @@ use Rattle.m2_fabric.specs.declared.socket.SocketId.{SocketId}
 use Rattle.m2_fabric.specs.Log.{Log}
 use Rattle.m2_record.specs.RecordNow.{RecordNow}
 use Rattle.m2_run_text.specs.declared.marks.EndMark.{EndMark}
-use Rattle.m2_run_text.specs.Telling.{MemoryCenter, Telling, log_in}
+use Rattle.m2_run_text.specs.Telling.{TracedCenter, Telling, log_in}
 
 -- of sockets what their ends had done; and how much there was of the rest: of each record how many entries its journal had, how
 -- many calls the dispatchers of fast and of other kinds had, and how many sockets its port had made
@@ -20,7 +20,7 @@ abbrev pub end_mark : SocketId → Option Log → EndMark
 end_mark s (Some log) = record { socket = s; there = true; runs = length log.runs; closed = log.closed }
 end_mark s None = record { socket = s; there = false; runs = 0; closed = false }
 
-abbrev pub marks_in : MemoryCenter → List SocketId → MarksNow
+abbrev pub marks_in : TracedCenter → List SocketId → MarksNow
 marks_in c sockets = record {
   ends = map (λ s. end_mark s (log_in c s)) sockets;
   journals = map (λ (r : RecordNow). length r.journal) c.records;

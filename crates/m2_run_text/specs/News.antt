@@ -17,7 +17,7 @@ use Rattle.m2_run_text.specs.Ends.{accepted_words, behind_read, closed_words, ru
 use Rattle.m2_run_text.specs.Entries.{calls_left, lines_of}
 use Rattle.m2_run_text.specs.Marks.{MarksNow}
 use Rattle.m2_run_text.specs.Sockets.{comes_to, trail_in}
-use Rattle.m2_run_text.specs.Telling.{MemoryCenter, Telling, log_in}
+use Rattle.m2_run_text.specs.Telling.{TracedCenter, Telling, log_in}
 use Rattle.m2_run_text.specs.Words.{name_in}
 use Rattle.m2_trace_text.specs.Words.{Text}
 use Rattle.m2_trail.specs.Trails.{TrailNow}
@@ -178,7 +178,7 @@ journals_said t place zero told = silence told
 journals_said t place (suc n) told =
     and_then (journal_up_to t place (journal_length (slice_get t.center.records place)) told) (journals_said t (place + 1) n)
 
-abbrev pub told_at : MemoryCenter → MarksNow → ToldNow
+abbrev pub told_at : TracedCenter → MarksNow → ToldNow
 told_at c m = record { journals = m.journals; fast = drop m.fast c.out.fast }
 
 abbrev pub doings : Telling → List EndMark → ToldNow → Said

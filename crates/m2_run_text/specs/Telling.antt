@@ -14,14 +14,14 @@ use Rattle.m2_record.specs.Sources.{end_at}
 use Rattle.m2_scenario.specs.declared.node.Node.{Node}
 
 -- the center of a node in memory, whose dispatchers keep logs
-abbrev pub MemoryCenter : Type 0
-MemoryCenter = CenterNow (List Logged)
+abbrev pub TracedCenter : Type 0
+TracedCenter = CenterNow (List Logged)
 
 -- all nodes of the scenario, the one whose lines they are, and its center
 pub record Telling : Type 0 where
   pub nodes : List Node
   pub own : Node
-  pub center : MemoryCenter
+  pub center : TracedCenter
 
 abbrev pub with_center : List Node → Node → Option (NodeNow (List Logged)) → Option Telling
 with_center nodes own (Some n) = Some (record { nodes = nodes; own = own; center = n.center })
@@ -42,5 +42,5 @@ abbrev pub seen_log : Option (Bor EndLog) → Option Log
 seen_log found = option_map (λ (l : Bor EndLog). log_of l.now) found
 
 -- what its end of a socket did; none where it has none
-abbrev pub log_in : MemoryCenter → SocketId → Option Log
+abbrev pub log_in : TracedCenter → SocketId → Option Log
 log_in center socket = option_map (λ (e : SeenEnd). e.log) (end_at (ends_in center) socket)

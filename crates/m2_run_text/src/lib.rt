@@ -23,5 +23,4 @@ mod words;
 pub use marks::{EndMark, Marks};
 pub use news::put_news;
 pub use sockets::sockets_left;
-pub use telling::MemoryCluster;
 pub use words::{put_settle, put_turn};

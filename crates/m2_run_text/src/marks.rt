@@ -5,7 +5,7 @@ ghost use Rattle.m2_record.specs.RecordNow.{RecordNow};
 ghost use Rattle.m2_run_text.specs.Marks.{end_mark, marks_in, marks_of};
 ghost use Rattle.m2_run_text.specs.Telling.{log_in, seen_log, telling_at};
 
-use crate::telling::{MemoryCenter, MemoryCluster, Teller};
+use crate::telling::{TracedCenter, TracedCluster, Teller};
 use m2_bytes::{Items, NoMemory};
 use m2_fabric::{EndLog, SocketId};
 use m2_scenario::Node;
@@ -51,7 +51,7 @@ impl Marks {
     pub fn of(
         alloc: Global,
         nodes: &[Node],
-        cluster: &MemoryCluster,
+        cluster: &TracedCluster,
         node: u32,
         sockets: &[SocketId],
     ) -> Result<Marks, NoMemory>
@@ -71,7 +71,7 @@ impl Marks {
 }
 
 /// Where the node of this center stands.
-fn marks_in(alloc: Global, center: &MemoryCenter, sockets: &[SocketId]) -> Result<Marks, NoMemory>
+fn marks_in(alloc: Global, center: &TracedCenter, sockets: &[SocketId]) -> Result<Marks, NoMemory>
     ensures { IfOk result (λ m. m ≡ marks_in center.now sockets.now) }
 {
     Ok(Marks {
@@ -86,7 +86,7 @@ fn marks_in(alloc: Global, center: &MemoryCenter, sockets: &[SocketId]) -> Resul
 /// Of each socket what the node's end of it has done.
 fn end_marks(
     alloc: Global,
-    center: &MemoryCenter,
+    center: &TracedCenter,
     sockets: &[SocketId],
 ) -> Result<Items<EndMark>, NoMemory>
     ensures { IfOk result (λ m. m.items ≡ map (λ s. end_mark s (log_in center.now s)) sockets.now) }
@@ -122,7 +122,7 @@ fn end_mark(socket: &SocketId, log: Option<&EndLog>) -> EndMark
 }
 
 /// Of each record how many entries its journal has.
-fn journal_marks(alloc: Global, center: &MemoryCenter) -> Result<Items<usize>, NoMemory>
+fn journal_marks(alloc: Global, center: &TracedCenter) -> Result<Items<usize>, NoMemory>
     ensures { IfOk result (λ m. m.items ≡ map (λ (r : RecordNow). length r.journal) center.now.records) }
 {
     let mut marks = Items::empty(alloc);

@@ -16,7 +16,7 @@ use crate::entries::put_entries;
 use crate::lists::{at, behind};
 use crate::marks::{EndMark, Marks};
 use crate::sockets::{comes_to, trail_in};
-use crate::telling::{Calls, MemoryCluster, Teller};
+use crate::telling::{Calls, TracedCluster, Teller};
 use crate::words::name_of;
 use m2_bytes::{Blob, NoMemory};
 use m2_fabric::{EndLog, SocketId};
@@ -75,7 +75,7 @@ pub fn put_news(
     alloc: Global,
     out: &mut Blob,
     nodes: &[Node],
-    cluster: &MemoryCluster,
+    cluster: &TracedCluster,
     node: u32,
     marks: &Marks,
 ) -> Result<(), NoMemory>

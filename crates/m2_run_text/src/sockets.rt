@@ -12,7 +12,7 @@ ghost use Rattle.m2_trail.specs.Trails.{trail_now};
 
 use crate::lists::behind;
 use crate::marks::{EndMark, Marks};
-use crate::telling::{MemoryCluster, Teller};
+use crate::telling::{TracedCluster, Teller};
 use m2_bytes::{Items, NoMemory};
 use m2_fabric::{End, SocketId, SocketIdList};
 use m2_record::Record;
@@ -70,7 +70,7 @@ fn is_over(teller: &Teller<'_>, socket: &SocketId) -> bool
 pub fn sockets_left(
     alloc: Global,
     nodes: &[Node],
-    cluster: &MemoryCluster,
+    cluster: &TracedCluster,
     node: u32,
     marks: &Marks,
 ) -> Result<SocketIdList, NoMemory>

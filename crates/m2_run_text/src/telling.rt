@@ -14,17 +14,17 @@ use m2_sim_fabric::{CutPort, SimPort};
 use std::marker::Model;
 
 /// Nodes in memory.
-pub type MemoryCluster = Cluster<CutPort<SimPort>, LogDispatcher>;
+pub(crate) type TracedCluster = Cluster<CutPort<SimPort>, LogDispatcher>;
 
 /// The center of one.
-pub(crate) type MemoryCenter = Center<CutPort<SimPort>, LogDispatcher>;
+pub(crate) type TracedCenter = Center<CutPort<SimPort>, LogDispatcher>;
 
 /// What the lines of a node are made from: all nodes of the scenario, the node, and its center.
 #[derive(Drop)]
 pub(crate) struct Teller<'a> {
     pub nodes: &'a [Node],
     pub own: &'a Node,
-    pub center: &'a MemoryCenter,
+    pub center: &'a TracedCenter,
 }
 
 impl<'a> Model for Teller<'a> {
@@ -37,7 +37,7 @@ impl<'a> Model for Teller<'a> {
 
 impl<'a> Teller<'a> {
     /// Of the node at this place; none exactly where there is none.
-    pub(crate) fn of(nodes: &'a [Node], cluster: &'a MemoryCluster, node: u32) -> Option<Teller<'a>>
+    pub(crate) fn of(nodes: &'a [Node], cluster: &'a TracedCluster, node: u32) -> Option<Teller<'a>>
         ensures { result ≡ telling_at nodes.now cluster.now.nodes node }
     {
         let Some(own) = at(nodes, node as usize) else {

@@ -9,8 +9,8 @@ use Rattle.m2_scenario.specs.declared.node.Node.{Node}
 use Rattle.m2_scenario.specs.Valid.{IsLink}
 use Rattle.m2_center.specs.CenterTurn.{Answer}
 use Rattle.m2_script.specs.Script.{CanAllBeDone, Deed, Ends, IsWithin, RunNow, deeds_of, script_of}
-use Rattle.m2_kept.specs.Kept.{IsKept}
-use Rattle.m2_kept.specs.Laws.{DeedsStayKept, KeptCanBeDone}
+use Rattle.m2_started.specs.Laws.{DeedsStayKept, KeptCanBeDone}
+use Rattle.m2_started.specs.Started.{IsKept}
 use Rattle.m2_run_trace.specs.Playing.{CanBeDoneBy, IsReady}
 
 module _ (D E : Type 0) (stay : DeedsStayKept D E) (heard : D → List Heard) (nodes : List Node) (links : List Link) where

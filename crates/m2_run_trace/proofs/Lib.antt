@@ -2,3 +2,4 @@ pub mod Acts
 pub mod Appended
 pub mod Deeds
 pub mod Kept
+pub mod TextLines

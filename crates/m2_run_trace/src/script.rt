@@ -8,12 +8,9 @@ ghost use Rattle.m2_words.specs.Line.{is_comment};
 ghost use Rattle.m2_words.specs.Text.{pieces};
 
 use m2_bytes::{Blob, NoMemory};
-use m2_cluster::Node as ClusterNode;
-use m2_dispatcher::LogDispatcher;
 use m2_journal::NodeFacts;
-use m2_run_text::MemoryCluster;
+use m2_nodes::{MemoryCluster, MemoryNode};
 use m2_scenario::Node;
-use m2_sim_fabric::{CutPort, SimPort};
 use m2_trace_text::put_node;
 use m2_words::{Words, cut, words_in};
 
@@ -47,7 +44,7 @@ fn is_comment(line: &[u8]) -> bool
 }
 
 fn sort_of_words(words: Words<'_>) -> Sort
-    ensures { result ≡ sort_of_words words }
+    ensures { result ≡ sort_of_words words.entry }
 {
     let mut words = words;
     match words.next() {
@@ -138,7 +135,7 @@ pub(crate) fn put_step(out: &mut Blob, line: &[u8]) -> Result<(), NoMemory>
 
 /// Prints words with one space between them.
 fn put_joined(out: &mut Blob, words: Words<'_>) -> Result<(), NoMemory>
-    ensures { OnOk result (out.new.bytes ≡ out.old.bytes ++ joined words) }
+    ensures { OnOk result (out.new.bytes ≡ out.old.bytes ++ joined words.entry) }
 {
     let mut words = words;
     match words.next() {
@@ -152,7 +149,7 @@ fn put_joined(out: &mut Blob, words: Words<'_>) -> Result<(), NoMemory>
 
 /// Prints words, each behind a space.
 fn put_spaced(out: &mut Blob, words: Words<'_>) -> Result<(), NoMemory>
-    ensures { OnOk result (out.new.bytes ≡ out.old.bytes ++ flat_map spaced words) }
+    ensures { OnOk result (out.new.bytes ≡ out.old.bytes ++ flat_map spaced words.entry) }
 {
     let mut words = words;
     'words: while let Some(word) = words.next() {
@@ -169,7 +166,7 @@ fn put_told(
     nodes: &[Node],
     cluster: &MemoryCluster,
 ) -> Result<(), NoMemory>
-    ensures { OnOk result (out.new.bytes ≡ out.old.bytes ++ told_under nodes.now cluster.now.nodes words) }
+    ensures { OnOk result (out.new.bytes ≡ out.old.bytes ++ told_under nodes.now cluster.now.nodes words.entry) }
 {
     let mut words = words;
     let Some(_node) = words.next() else {
@@ -197,7 +194,7 @@ fn put_facts(out: &mut Blob, name: &[u8], facts: Option<&NodeFacts>) -> Result<(
 /// What the node of this name tells its records.
 fn facts_of<'a>(
     nodes: &[Node],
-    cluster: &'a [ClusterNode<CutPort<SimPort>, LogDispatcher>],
+    cluster: &'a [MemoryNode],
     name: &[u8],
 ) -> Option<&'a NodeFacts>
     ensures { option_copied result ≡ facts_of nodes.now cluster.now name.now }
