@@ -1,13 +1,14 @@
 """Times `msgr2 sim`: the rate at growing numbers of posts, the peak of memory, and a reference in the same run; then
-the rate at growing numbers of nodes, with the same posts and turns."""
+the rate at growing numbers of nodes, with the same posts and turns; then what a turn takes in growing sessions."""
 import os, sys, tempfile, time
 
 SIZES = [2500, 5000, 10000, 20000]
 FAULTS = 64
 RUNS = 7
 NODES = [2, 4, 8, 16]
-POSTS = 16000
+POSTS = 20000
 TURNS = 16000
+STEPS = [1250, 2500, 5000, 10000]
 
 
 def scenario(posts):
@@ -40,6 +41,15 @@ def mesh(nodes):
     return "\n".join(lines)
 
 
+def steps(posts):
+    """So many posts over one socket, each dispatched and acknowledged before the next one: four turns for each."""
+    lines = ["node a osd 127.0.0.1:7001/1", "node b osd 127.0.0.1:7002/2", "link a b lossless_peer lossless_peer"]
+    lines += ["dial a b", "settle 12"]
+    for i in range(posts):
+        lines += [f"post a b 1 127 {i:064x} - -", "settle 2"]
+    return "\n".join([*lines, ""])
+
+
 def run(words, want):
     """Seconds and megabytes at peak of one run."""
     start = time.perf_counter()
@@ -60,34 +70,40 @@ def best(words, want=0):
     return min(t for t, _ in runs), max(m for _, m in runs)
 
 
+def timed(program, folder, name, text):
+    """The best time and the peak of memory of a run of this scenario, whose file stays in the folder."""
+    file = os.path.join(folder, f"{name}.scenario")
+    with open(file, "w") as it:
+        it.write(text)
+    return (*best([program, "sim", file]), file)
+
+
 def main():
     program = os.path.abspath(sys.argv[1])
     here = os.path.dirname(os.path.abspath(__file__))
-    rates = {}
+    rates, times, turns = {}, {}, {}
     with tempfile.TemporaryDirectory() as folder:
         print("posts  seconds  posts/s  MB at peak")
         for posts in SIZES:
-            name = os.path.join(folder, f"{posts}.scenario")
-            with open(name, "w") as file:
-                file.write(scenario(posts))
-            seconds, megabytes = best([program, "sim", name])
+            seconds, megabytes, file = timed(program, folder, posts, scenario(posts))
             rates[posts] = posts / seconds
             print(f"{posts:5d}  {seconds:7.4f}  {rates[posts]:7.0f}  {megabytes:10.1f}")
-        print("nodes  seconds  posts/s  links visited")
-        times = {}
+        reference, _ = best([sys.executable, os.path.join(here, "split_words.py"), file])
+        print("nodes  seconds  posts/s  links  MB at peak")
         for nodes in NODES:
-            other = os.path.join(folder, f"mesh{nodes}.scenario")
-            with open(other, "w") as file:
-                file.write(mesh(nodes))
-            times[nodes], _ = best([program, "sim", other])
-            print(f"{nodes:5d}  {times[nodes]:7.4f}  {POSTS / times[nodes]:7.0f}  {TURNS * (nodes - 1):13d}")
-        reference, _ = best([sys.executable, os.path.join(here, "split_words.py"), name])
+            times[nodes], most, _ = timed(program, folder, f"mesh{nodes}", mesh(nodes))
+            print(f"{nodes:5d}  {times[nodes]:7.4f}  {POSTS / times[nodes]:7.0f}  {nodes * (nodes - 1) // 2:5d}  {most:10.1f}")
+        print("messages of one session, one at a time  seconds  microseconds a message")
+        for posts in STEPS:
+            took, _, _ = timed(program, folder, f"steps{posts}", steps(posts))
+            turns[posts] = took / posts
+            print(f"{posts:39d}  {took:7.4f}  {turns[posts] * 1e6:22.1f}")
+    print(f"seconds at {SIZES[-1]}: {seconds:.2f} (wanted: less than 2); over splitting alone in Python: {seconds / reference:.1f}")
+    print(f"megabytes at {SIZES[-1]}: {megabytes:.1f} (wanted: less than 300)")
     print(f"rate at {SIZES[-1]} over rate at {SIZES[0]}: {rates[SIZES[-1]] / rates[SIZES[0]]:.2f} (wanted: 0.8 or more)")
-    print(f"time at {SIZES[-1]} over splitting alone in Python: {seconds / reference:.2f} (wanted: 2 or less)")
-    print(f"megabytes at {SIZES[-1]}: {megabytes:.1f} (wanted: less than 200)")
     for nodes in NODES[1:]:
-        more = (times[nodes] - times[2]) / (TURNS * (nodes - 2))
-        print(f"time at {nodes} nodes over 2: {times[nodes] / times[2]:.2f} (wanted: {nodes - 1} or less); {more * 1e9:.0f} ns a link visited more")
+        print(f"time at {nodes} nodes over 2: {times[nodes] / times[2]:.2f}")
+    print(f"a message's time in a session of {STEPS[-1]} over one of {STEPS[0]}: {turns[STEPS[-1]] / turns[STEPS[0]]:.2f} (wanted: no more than 1.25)")
 
 
 main()

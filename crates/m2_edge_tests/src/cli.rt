@@ -1,7 +1,7 @@
 //! Scenarios from the manual, and what no clause says: that calls succeed with ample memory.
 
 use crate::texts::WAIT;
-use m2_bytes::{Blob, Items};
+use m2_bytes::{Blob, Items, put_decimal};
 use m2_cli::{Status, msgr2};
 use m2_edge::{CallList, Input, InputList, MemSink, MemSource};
 use std::alloc::Global;
@@ -106,6 +106,27 @@ fn a_fault_between_two_posts_loses_and_doubles_nothing(rt: HostRuntime) -> Resul
     let both = sim(rt.alloc(), &[PAIR, steps])?;
     let lines = b"b from a 127 queued 1 61 - -\nb from a 127 queued 1 62 - -\n";
     expect(&rt, both, Status::Done, lines, b"");
+    Ok(())
+}
+
+/// At the opener 719 bytes pass before the message, which has 91, and its acknowledgement 44.
+#[test]
+fn a_post_comes_once_wherever_its_first_socket_is_cut(rt: HostRuntime) -> Result<(), Fail> {
+    let alloc = rt.alloc();
+    for bytes in 0..900 {
+        let mut file = Blob::of(alloc, PAIR.as_bytes())?;
+        file.push_all(b"cut a b ")?;
+        put_decimal(&mut file, bytes)?;
+        file.push_all(b"\npost a b 1 127 61 - -\nsettle 60\n")?;
+        let seen = run_on(alloc, &["sim", "f"], file, &[], &[])?;
+        expect(
+            &rt,
+            seen,
+            Status::Done,
+            b"b from a 127 queued 1 61 - -\n",
+            b"",
+        );
+    }
     Ok(())
 }
 

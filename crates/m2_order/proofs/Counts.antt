@@ -4,12 +4,12 @@ use Rattle.std.specs.List.{AllByRecursion, AllPairs}
 use Rattle.std.proofs.lemmas.List.Elements.{recursion_from_All, All-from_get_or}
 use Rattle.std.proofs.lemmas.List.Sums.{sum_by-cons}
 use Rattle.std.proofs.lemmas.Bool.Decides.{nat_tests}
-use Rattle.m2_dispatch.specs.Heard.{Heard, message, reset, peer_of}
+use Rattle.m2_dispatch.specs.Heard.{Heard, is_message_from, message, reset, peer_of}
 use Rattle.m2_scenario.specs.declared.link.Link.{Link}
 use Rattle.m2_scenario.specs.Draft.{DraftLine, post, dial, down, cut, turn, flow, fault, settle, is_post, joins, are_joined}
 use Rattle.m2_scenario.specs.Valid.{IsLine, IsLink, JoinOthers}
 use Rattle.m2_order.specs.Laws.{AreAll, CallsAndLeftArePosts}
-use Rattle.m2_order.specs.Order.{HearsNoReset, IsNoResetBy, IsPeer, OverEach, at, count_over, is_message_from, is_post_between, messages_between, posts_between}
+use Rattle.m2_order.specs.Order.{HearsNoReset, IsNoResetBy, IsPeer, OverEach, at, count_over, is_post_between, messages_between, posts_between}
 
 -- ---- sums over links
 

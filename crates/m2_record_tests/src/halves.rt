@@ -1,9 +1,10 @@
-//! Halves of a center: how many there are, and what comes of sockets beyond them.
+//! Halves of a center: how many there are, and what comes of sockets beyond them; and at which thread a peer is at home.
 
 ghost use Rattle.std.specs.Prelude.{◌≡◌, []};
 
 use crate::planned::at;
-use m2_center::leave_all;
+use m2_addr::Addr;
+use m2_center::{home, leave_all};
 use m2_fabric::{Port, SocketId};
 use m2_sim_fabric::{SimEnd, SimPort};
 use m2_stages::{Accepted, MOST_HALVES, Pendings, accept_all, half_log};
@@ -71,4 +72,17 @@ fn sockets_beyond_the_halves_are_closed_at_once(rt: HostRuntime) {
     leave_all(&mut halves, &mut loose);
     assert_eq!(rt; halves.len(), 0);
     assert_eq!(rt; loose.len(), MOST_HALVES + 2);
+}
+
+/// Of two event threads.
+#[test]
+fn a_peer_is_at_home_by_its_port_and_nonce(rt: HostRuntime) {
+    for (port, nonce, place) in [(17001, 1, 0), (17002, 3, 1), (17003, 5, 0)] {
+        let peer = Addr {
+            port,
+            nonce,
+            ..at(1)
+        };
+        assert_eq!(rt; home(&peer, 2), place);
+    }
 }
