@@ -1,5 +1,5 @@
 -- What a record did, as lines. This project's own.
-use Rattle.std.specs.Prelude.{ℕ, zero, suc, ◌+◌, ◌-◌, Bool, true, false, if◌then◌else◌, List, [], ◌∷◌, ◌++◌, codes, drop, length, slice_get, Option, Some, None}
+use Rattle.std.specs.Prelude.{ℕ, zero, suc, ◌+◌, ◌-◌, Bool, false, if◌then◌else◌, List, [], ◌++◌, codes, drop, length, slice_get, Option, Some, None}
 use Rattle.m2_answers.specs.declared.ask.AskFacts.{AskFacts}
 use Rattle.m2_dispatch.specs.Heard.{is_path}
 use Rattle.m2_dispatch.specs.declared.logged.Logged.{Logged}

@@ -1,5 +1,5 @@
 -- Where a node stood before it did something. This project's own.
-use Rattle.std.specs.Prelude.{ℕ, Bool, true, false, List, [], length, map, Option, Some, None}
+use Rattle.std.specs.Prelude.{ℕ, true, false, List, [], length, map, Option, Some, None}
 use Rattle.m2_fabric.specs.declared.socket.SocketId.{SocketId}
 use Rattle.m2_fabric.specs.Log.{Log}
 use Rattle.m2_record.specs.RecordNow.{RecordNow}

@@ -1,5 +1,5 @@
 -- Sockets on which a node may still have a half. This project's own.
-use Rattle.std.specs.Prelude.{ℕ, ◌||◌, ◌&&◌, not, Bool, false, List, [], ◌++◌, drop, filter, map, Option, Some, None}
+use Rattle.std.specs.Prelude.{◌||◌, ◌&&◌, not, Bool, false, List, [], ◌++◌, drop, filter, map, Option, Some, None}
 use Rattle.std.specs.List.{flat_map}
 use Rattle.std.specs.Option.{is_some}
 use Rattle.m2_fabric.specs.declared.socket.SocketId.{SocketId}

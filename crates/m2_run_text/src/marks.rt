@@ -5,7 +5,7 @@ ghost use Rattle.m2_record.specs.RecordNow.{RecordNow};
 ghost use Rattle.m2_run_text.specs.Marks.{end_mark, marks_in, marks_of};
 ghost use Rattle.m2_run_text.specs.Telling.{log_in, seen_log, telling_at};
 
-use crate::telling::{TracedCenter, TracedCluster, Teller};
+use crate::telling::{Teller, TracedCenter, TracedCluster};
 use m2_bytes::{Items, NoMemory};
 use m2_fabric::{EndLog, SocketId};
 use m2_scenario::Node;

@@ -16,7 +16,7 @@ use crate::entries::put_entries;
 use crate::lists::{at, behind};
 use crate::marks::{EndMark, Marks};
 use crate::sockets::{comes_to, trail_in};
-use crate::telling::{Calls, TracedCluster, Teller};
+use crate::telling::{Calls, Teller, TracedCluster};
 use crate::words::name_of;
 use m2_bytes::{Blob, NoMemory};
 use m2_fabric::{EndLog, SocketId};

@@ -12,7 +12,7 @@ ghost use Rattle.m2_trail.specs.Trails.{trail_now};
 
 use crate::lists::behind;
 use crate::marks::{EndMark, Marks};
-use crate::telling::{TracedCluster, Teller};
+use crate::telling::{Teller, TracedCluster};
 use m2_bytes::{Items, NoMemory};
 use m2_fabric::{End, SocketId, SocketIdList};
 use m2_record::Record;

@@ -1,6 +1,5 @@
 pub mod Script
 pub mod Acts
-pub mod Playing
 pub mod Status
 pub mod Tracing
 pub mod Top

@@ -1,22 +1,18 @@
 //! The lines of a script, played one by one.
 
 ghost use Rattle.std.specs.Prelude.{◌≡◌, ◌∷◌, ◌<◌, [], IfOk, OnOk, length};
-ghost use Rattle.std.specs.List.{AllByRecursion, flat_map};
-ghost use Rattle.m2_run_trace.specs.Acts.{Does, Plays, PlaysAll, actor_of, acts_of, acts_to, line_acts, quiet_act, round_acts, rounds_acts, silent_act, step_act, turn_act, turn_acts};
-ghost use Rattle.m2_run_trace.specs.Playing.{CanBeDoneBy, IsReady};
+ghost use Rattle.std.specs.List.{flat_map};
+ghost use Rattle.m2_run_trace.specs.Acts.{CanDo, CanPlay, Does, Plays, PlaysAll, actor_of, acts_of, acts_to, line_acts, quiet_act, round_acts, rounds_acts, silent_act, step_act, turn_act, turn_acts};
 ghost use Rattle.m2_run_trace.specs.Script.{lines_above, lines_behind, next_step};
-ghost use Rattle.m2_script.specs.Script.{MOST, both_flow, deeds_of};
+ghost use Rattle.m2_script.specs.Script.{MOST, both_flow, deeds_of, turn_and_meet};
 ghost use Rattle.m2_script.specs.Script as deed;
 ghost use Rattle.m2_words.specs.Text.{pieces};
 
 use crate::script::{put_step, put_until_step};
 use crate::stage::{MemoryRun, Scene, Stage};
 use m2_bytes::NoMemory;
-use m2_dispatcher::LogDispatcher;
 use m2_run_text::{Marks, put_news, put_settle, put_turn, sockets_left};
 use m2_scenario::{Line, LineList, Link};
-use m2_sim_fabric::{CutEnd, SimEnd};
-use m2_started::{deeds_stay_kept, kept_can_be_done};
 use std::alloc::Global;
 
 /// Plays all lines, in order, and prints the text with what was done by them.
@@ -27,8 +23,7 @@ pub(crate) fn play_all(
     text: &[u8],
     lines: LineList,
 ) -> Result<(), NoMemory>
-    requires ready { IsReady scene.now.nodes.now scene.now.links.now stage.old.run }
-    requires lines { AllByRecursion (CanBeDoneBy scene.now.nodes.now scene.now.links.now) lines.items }
+    requires { CanPlay (acts_of scene.now.nodes.now scene.now.links.now (pieces 10 text.now) lines.items) stage.old.run }
     ensures { OnOk result (PlaysAll scene.now.nodes.now (acts_of scene.now.nodes.now scene.now.links.now (pieces 10 text.now) lines.items) stage.old stage.new) }
 {
     let mut rest = text;
@@ -47,11 +42,9 @@ fn play<'a>(
     text: &'a [u8],
     line: Line,
 ) -> Result<&'a [u8], NoMemory>
-    requires ready { IsReady scene.now.nodes.now scene.now.links.now stage.old.run }
-    requires line { CanBeDoneBy scene.now.nodes.now scene.now.links.now line }
+    requires { CanPlay (acts_to scene.now.nodes.now scene.now.links.now (pieces 10 text.now) line) stage.old.run }
     ensures plays { OnOk result (PlaysAll scene.now.nodes.now (acts_to scene.now.nodes.now scene.now.links.now (pieces 10 text.now) line) stage.old stage.new) }
     ensures rest { IfOk result (λ rest. pieces 10 rest.now ≡ lines_behind (pieces 10 text.now)) }
-    ensures ready { OnOk result (IsReady scene.now.nodes.now scene.now.links.now stage.new.run) }
 {
     let (step, rest) = put_above(scene, stage, text)?;
     play_line(alloc, scene, stage, step, line)?;
@@ -80,10 +73,8 @@ fn play_line(
     step: &[u8],
     line: Line,
 ) -> Result<(), NoMemory>
-    requires ready { IsReady scene.now.nodes.now scene.now.links.now stage.old.run }
-    requires line { CanBeDoneBy scene.now.nodes.now scene.now.links.now line }
-    ensures plays { OnOk result (PlaysAll scene.now.nodes.now (line_acts scene.now.nodes.now scene.now.links.now step.now line) stage.old stage.new) }
-    ensures ready { OnOk result (IsReady scene.now.nodes.now scene.now.links.now stage.new.run) }
+    requires { CanPlay (line_acts scene.now.nodes.now scene.now.links.now step.now line) stage.old.run }
+    ensures { OnOk result (PlaysAll scene.now.nodes.now (line_acts scene.now.nodes.now scene.now.links.now step.now line) stage.old stage.new) }
 {
     match line {
         Line::Settle { rounds } => play_rounds(alloc, scene, stage, rounds),
@@ -100,10 +91,8 @@ fn play_step(
     step: &[u8],
     line: Line,
 ) -> Result<(), NoMemory>
-    requires ready { IsReady scene.now.nodes.now scene.now.links.now stage.old.run }
-    requires line { CanBeDoneBy scene.now.nodes.now scene.now.links.now line }
-    ensures plays { OnOk result (Plays scene.now.nodes.now (step_act scene.now.links.now (length scene.now.nodes.now) step.now line) stage.old stage.new) }
-    ensures ready { OnOk result (IsReady scene.now.nodes.now scene.now.links.now stage.new.run) }
+    requires { CanDo (deeds_of scene.now.links.now (length scene.now.nodes.now) line) stage.old.run }
+    ensures { OnOk result (Plays scene.now.nodes.now (step_act scene.now.links.now (length scene.now.nodes.now) step.now line) stage.old stage.new) }
 {
     put_step(&mut stage.out, step)?;
     match actor(&line) {
@@ -126,14 +115,10 @@ fn actor(line: &Line) -> Option<u32>
 
 /// Does what a line says.
 fn do_line(scene: &Scene<'_>, run: &mut MemoryRun, line: Line) -> Result<(), NoMemory>
-    requires ready { IsReady scene.now.nodes.now scene.now.links.now run.old }
-    requires line { CanBeDoneBy scene.now.nodes.now scene.now.links.now line }
-    ensures does { OnOk result (Does (deeds_of scene.now.links.now (length scene.now.nodes.now) line) run.old run.new) }
-    ensures ready { OnOk result (IsReady scene.now.nodes.now scene.now.links.now run.new) }
+    requires { CanDo (deeds_of scene.now.links.now (length scene.now.nodes.now) line) run.old }
+    ensures { OnOk result (Does (deeds_of scene.now.links.now (length scene.now.nodes.now) line) run.old run.new) }
 {
-    deeds_stay_kept::<LogDispatcher, CutEnd<SimEnd>>();
-    kept_can_be_done::<LogDispatcher>();
-    run.line(scene.links, scene.nodes.len() as u32, line)
+    run.line(scene.links, scene.count, line)
 }
 
 /// Does what a line says, by which this node does something, and prints what that is.
@@ -144,10 +129,8 @@ fn act(
     node: u32,
     line: Line,
 ) -> Result<(), NoMemory>
-    requires ready { IsReady scene.now.nodes.now scene.now.links.now stage.old.run }
-    requires line { CanBeDoneBy scene.now.nodes.now scene.now.links.now line }
-    ensures plays { OnOk result (Plays scene.now.nodes.now (silent_act (deeds_of scene.now.links.now (length scene.now.nodes.now) line) node) stage.old stage.new) }
-    ensures ready { OnOk result (IsReady scene.now.nodes.now scene.now.links.now stage.new.run) }
+    requires { CanDo (deeds_of scene.now.links.now (length scene.now.nodes.now) line) stage.old.run }
+    ensures { OnOk result (Plays scene.now.nodes.now (silent_act (deeds_of scene.now.links.now (length scene.now.nodes.now) line) node) stage.old stage.new) }
 {
     let nodes = scene.nodes;
     let marks = Marks::of(
@@ -177,9 +160,8 @@ fn play_rounds(
     stage: &mut Stage,
     rounds: u32,
 ) -> Result<(), NoMemory>
-    requires { IsReady scene.now.nodes.now scene.now.links.now stage.old.run }
-    ensures plays { OnOk result (PlaysAll scene.now.nodes.now (rounds_acts scene.now.nodes.now scene.now.links.now rounds) stage.old stage.new) }
-    ensures ready { OnOk result (IsReady scene.now.nodes.now scene.now.links.now stage.new.run) }
+    requires { CanPlay (rounds_acts scene.now.nodes.now scene.now.links.now rounds) stage.old.run }
+    ensures { OnOk result (PlaysAll scene.now.nodes.now (rounds_acts scene.now.nodes.now scene.now.links.now rounds) stage.old stage.new) }
 {
     'rounds: for _ in 0..rounds {
         play_round(alloc, scene, stage)?;
@@ -189,9 +171,8 @@ fn play_rounds(
 
 /// One round: everything flows, and then each node takes a turn.
 fn play_round(alloc: Global, scene: &Scene<'_>, stage: &mut Stage) -> Result<(), NoMemory>
-    requires { IsReady scene.now.nodes.now scene.now.links.now stage.old.run }
-    ensures plays { OnOk result (PlaysAll scene.now.nodes.now (round_acts scene.now.nodes.now scene.now.links.now) stage.old stage.new) }
-    ensures ready { OnOk result (IsReady scene.now.nodes.now scene.now.links.now stage.new.run) }
+    requires { CanPlay (round_acts scene.now.nodes.now scene.now.links.now) stage.old.run }
+    ensures { OnOk result (PlaysAll scene.now.nodes.now (round_acts scene.now.nodes.now scene.now.links.now) stage.old stage.new) }
 {
     put_settle(&mut stage.out)?;
     flow_all(scene, &mut stage.run)?;
@@ -200,9 +181,8 @@ fn play_round(alloc: Global, scene: &Scene<'_>, stage: &mut Stage) -> Result<(),
 
 /// Everything flows over all links.
 fn flow_all(scene: &Scene<'_>, run: &mut MemoryRun) -> Result<(), NoMemory>
-    requires { IsReady scene.now.nodes.now scene.now.links.now run.old }
-    ensures does { OnOk result (Does (flat_map both_flow scene.now.links.now) run.old run.new) }
-    ensures ready { OnOk result (IsReady scene.now.nodes.now scene.now.links.now run.new) }
+    requires { CanDo (flat_map both_flow scene.now.links.now) run.old }
+    ensures { OnOk result (Does (flat_map both_flow scene.now.links.now) run.old run.new) }
 {
     'links: for place in 0..scene.links.len() {
         flow_over(scene, run, &scene.links[place])?;
@@ -212,11 +192,8 @@ fn flow_all(scene: &Scene<'_>, run: &mut MemoryRun) -> Result<(), NoMemory>
 
 /// Everything flows over a link, in both directions.
 fn flow_over(scene: &Scene<'_>, run: &mut MemoryRun, link: &Link) -> Result<(), NoMemory>
-    requires ready { IsReady scene.now.nodes.now scene.now.links.now run.old }
-    requires one { link.now.a < length scene.now.nodes.now }
-    requires other { link.now.b < length scene.now.nodes.now }
-    ensures does { OnOk result (Does (both_flow link.now) run.old run.new) }
-    ensures ready { OnOk result (IsReady scene.now.nodes.now scene.now.links.now run.new) }
+    requires { CanDo (both_flow link.now) run.old }
+    ensures { OnOk result (Does (both_flow link.now) run.old run.new) }
 {
     flow(scene, run, link.a, link.b)?;
     flow(scene, run, link.b, link.a)
@@ -224,11 +201,8 @@ fn flow_over(scene: &Scene<'_>, run: &mut MemoryRun, link: &Link) -> Result<(), 
 
 /// Everything flows from a node to another.
 fn flow(scene: &Scene<'_>, run: &mut MemoryRun, a: u32, b: u32) -> Result<(), NoMemory>
-    requires ready { IsReady scene.now.nodes.now scene.now.links.now run.old }
-    requires one { a < length scene.now.nodes.now }
-    requires other { b < length scene.now.nodes.now }
-    ensures does { OnOk result (Does (deed.flow a b 0 MOST ∷ []) run.old run.new) }
-    ensures ready { OnOk result (IsReady scene.now.nodes.now scene.now.links.now run.new) }
+    requires { CanDo (deed.flow a b 0 MOST ∷ []) run.old }
+    ensures { OnOk result (Does (deed.flow a b 0 MOST ∷ []) run.old run.new) }
 {
     do_line(
         scene,
@@ -244,24 +218,21 @@ fn flow(scene: &Scene<'_>, run: &mut MemoryRun, a: u32, b: u32) -> Result<(), No
 
 /// Each node takes a turn, in order.
 fn turn_all(alloc: Global, scene: &Scene<'_>, stage: &mut Stage) -> Result<(), NoMemory>
-    requires { IsReady scene.now.nodes.now scene.now.links.now stage.old.run }
-    ensures plays { OnOk result (PlaysAll scene.now.nodes.now (turn_acts scene.now.nodes.now 0 (length scene.now.nodes.now)) stage.old stage.new) }
-    ensures ready { OnOk result (IsReady scene.now.nodes.now scene.now.links.now stage.new.run) }
+    requires { CanPlay (turn_acts scene.now.nodes.now 0 (length scene.now.nodes.now)) stage.old.run }
+    ensures { OnOk result (PlaysAll scene.now.nodes.now (turn_acts scene.now.nodes.now 0 (length scene.now.nodes.now)) stage.old stage.new) }
 {
-    'nodes: for node in 0..scene.nodes.len() {
-        play_turn(alloc, scene, stage, node as u32)?;
+    'nodes: for node in 0..scene.count {
+        play_turn(alloc, scene, stage, node)?;
     }
     Ok(())
 }
 
 /// One turn of a node.
 fn play_turn(alloc: Global, scene: &Scene<'_>, stage: &mut Stage, node: u32) -> Result<(), NoMemory>
-    requires ready { IsReady scene.now.nodes.now scene.now.links.now stage.old.run }
-    requires node { node < length scene.now.nodes.now }
-    ensures plays { OnOk result (Plays scene.now.nodes.now (turn_act scene.now.nodes.now node) stage.old stage.new) }
-    ensures ready { OnOk result (IsReady scene.now.nodes.now scene.now.links.now stage.new.run) }
+    requires { CanDo (turn_and_meet node) stage.old.run }
+    ensures { OnOk result (Plays scene.now.nodes.now (turn_act scene.now.nodes.now node) stage.old stage.new) }
 {
-    let moment = stage.run.now();
-    put_turn(&mut stage.out, scene.nodes, node, moment)?;
+    put_turn(&mut stage.out, scene.nodes, node, stage.moment)?;
+    stage.moment = stage.moment.saturating_add(1);
     act(alloc, scene, stage, node, Line::Turn { a: node })
 }

@@ -192,11 +192,7 @@ fn put_facts(out: &mut Blob, name: &[u8], facts: Option<&NodeFacts>) -> Result<(
 }
 
 /// What the node of this name tells its records.
-fn facts_of<'a>(
-    nodes: &[Node],
-    cluster: &'a [MemoryNode],
-    name: &[u8],
-) -> Option<&'a NodeFacts>
+fn facts_of<'a>(nodes: &[Node], cluster: &'a [MemoryNode], name: &[u8]) -> Option<&'a NodeFacts>
     ensures { option_copied result ≡ facts_of nodes.now cluster.now name.now }
 {
     match (nodes.split_first(), cluster.split_first()) {

@@ -1,6 +1,6 @@
 //! Where a trace stands.
 
-ghost use Rattle.std.specs.Prelude.{◌≡◌};
+ghost use Rattle.std.specs.Prelude.{◌≡◌, length};
 ghost use Rattle.m2_run_trace.specs.Acts.{first_stage};
 
 use m2_bytes::{Blob, Items};
@@ -19,6 +19,9 @@ pub(crate) type MemoryRun = Run<CutPort<SimPort>>;
 pub(crate) struct Scene<'a> {
     pub nodes: &'a [Node],
     pub links: &'a [Link],
+    /// How many nodes.
+    pub count: u32,
+    ghost counted: { count ≡ length nodes.now },
 }
 
 /// Where a trace stands. It can't be dropped, since a run can't.
@@ -26,6 +29,8 @@ pub(crate) struct Stage {
     pub run: MemoryRun,
     /// The sockets of which there may be more to tell, in the order in which they were opened.
     pub sockets: SocketIdList,
+    /// The moment of the next turn: how many there were.
+    pub moment: u64,
     /// What is told so far.
     pub out: Blob,
 }
@@ -35,7 +40,7 @@ impl Model for Stage {
 
     ghost Value = { StageNow };
 
-    ghost view = { λ s. record { run = s.run; sockets = s.sockets.items; text = s.out.bytes } };
+    ghost view = { λ s. record { run = s.run; sockets = s.sockets.items; moment = s.moment; text = s.out.bytes } };
 }
 
 impl Stage {
@@ -46,6 +51,7 @@ impl Stage {
         Stage {
             run,
             sockets: Items::empty(alloc),
+            moment: 0,
             out: Blob::empty(alloc),
         }
     }

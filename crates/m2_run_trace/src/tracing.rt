@@ -1,12 +1,12 @@
 //! The trace of a scenario.
 
 ghost use Rattle.std.specs.Prelude.{◌≡◌, IfOk, map};
-ghost use Rattle.std.specs.List.{AllByRecursion};
-ghost use Rattle.m2_run_trace.specs.Playing.{CanBeDoneBy, IsReady};
+ghost use Rattle.m2_run_trace.specs.Acts.{CanPlay, acts_of};
 ghost use Rattle.m2_run_trace.specs.Tracing.{IsTrace, Traces};
 ghost use Rattle.m2_scenario.specs.Draft.{draft_line};
 ghost use Rattle.m2_scenario.specs.Valid.{IsSound, IsValid};
 ghost use Rattle.m2_started.specs.Started.{IsFirst};
+ghost use Rattle.m2_words.specs.Text.{pieces};
 
 use crate::playing::play_all;
 use crate::stage::{MemoryRun, Scene, Stage};
@@ -14,9 +14,10 @@ use m2_bytes::{Blob, NoMemory};
 use m2_nodes::{addresses, clear_all, cluster_of};
 use m2_scenario::{Line, LineList, Link, Node, Scenario};
 use m2_scenario_text::{BadScenario, read};
-use m2_script::{Run, scripts_are_within};
+use m2_script::Run;
+use m2_sim_fabric::{CutPort, SimPort};
 use m2_sim_net::SimFabric;
-use m2_started::first_is_kept;
+use m2_started::first_can_be_done;
 use m2_words::Kind;
 use std::alloc::Global;
 
@@ -57,6 +58,7 @@ fn trace_scenario(alloc: Global, text: &[u8], scenario: Scenario) -> Result<Blob
     let scene = Scene {
         nodes: nodes.as_slice(),
         links: links.as_slice(),
+        count: nodes.len() as u32,
     };
     trace_lines(alloc, text, &scene, lines)
 }
@@ -72,7 +74,7 @@ fn trace_lines(
     ensures { IfOk result (λ t. IsTrace scene.now.nodes.now scene.now.links.now lines.items text.now t.bytes) }
 {
     let run = begin(alloc, scene.nodes, scene.links, lines.as_slice())?;
-    is_ready(scene, lines.as_slice(), &run);
+    can_be_played(scene, text, lines.as_slice(), &run);
     let mut stage = Stage::new(alloc, run);
     let played = play_all(alloc, scene, &mut stage, text, lines);
     let out = end(stage);
@@ -97,15 +99,13 @@ fn begin(
     Ok(Run::new(alloc, cluster, SimFabric::new(alloc, addrs)))
 }
 
-/// Before its first line a run is ready for all of them. For contracts alone.
-fn is_ready(scene: &Scene<'_>, lines: &[Line], run: &MemoryRun)
+/// All lines of a valid scenario can be played by a run before its first line. For contracts alone.
+fn can_be_played(scene: &Scene<'_>, text: &[u8], lines: &[Line], run: &MemoryRun)
     requires sound { IsSound scene.now.nodes.now scene.now.links.now (map draft_line lines.now) }
     requires first { IsFirst scene.now.nodes.now scene.now.links.now run.entry.now }
-    ensures ready { IsReady scene.now.nodes.now scene.now.links.now run.entry.now }
-    ensures lines { AllByRecursion (CanBeDoneBy scene.now.nodes.now scene.now.links.now) lines.now }
+    ensures { CanPlay (acts_of scene.now.nodes.now scene.now.links.now (pieces 10 text.now) lines.now) run.entry.now }
 {
-    first_is_kept();
-    scripts_are_within();
+    first_can_be_done::<CutPort<SimPort>>();
 }
 
 /// What is told at last; the nodes are dropped.

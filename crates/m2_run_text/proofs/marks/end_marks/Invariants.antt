@@ -1,7 +1,6 @@
 -- With the marks of the sockets that are left they are all.
-use Rattle.std.proofs.Common.{◌≡◌, List, ◌++◌, drop, map}
+use Rattle.std.proofs.Common.{◌≡◌, ◌++◌, drop, map}
 use Rattle.m2_fabric.specs.declared.socket.SocketId.{SocketId}
-use Rattle.m2_run_text.specs.declared.marks.EndMark.{EndMark}
 use Rattle.m2_run_text.specs.Marks.{end_mark}
 use Rattle.m2_run_text.specs.Telling.{log_in}
 use Rattle.m2_run_text.proofs.marks.end_marks.Given as goal
