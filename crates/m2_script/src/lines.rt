@@ -19,8 +19,9 @@ use std::marker::Model;
 /// The nodes of a cluster in memory with the sockets between them, the moment of the next deed, in milliseconds, and
 /// how many calls the nodes' dispatchers had in the turns so far.
 ///
-/// Maker: [`new`](Run::new). Calls: [`line`](Run::line), [`lines`](Run::lines). After want of memory the run
-/// ends. The end: [`into_parts`](Run::into_parts). It can't be dropped, since nodes can't.
+/// Maker: [`new`](Run::new). Looks: [`cluster`](Run::cluster), [`now`](Run::now). Calls: [`line`](Run::line),
+/// [`lines`](Run::lines). After want of memory the run ends. The end: [`into_parts`](Run::into_parts). It can't be
+/// dropped, since nodes can't.
 pub struct Run<P: Port> {
     cluster: Cluster<P, LogDispatcher>,
     fabric: SimFabric,
@@ -56,6 +57,13 @@ impl<P: Port> Run<P> {
         ensures { result.now ≡ self.entry.now.cluster }
     {
         &self.cluster
+    }
+
+    /// The moment of the next deed, in milliseconds.
+    pub fn now(&self) -> u64
+        ensures { result ≡ self.entry.now.now }
+    {
+        self.now
     }
 
     /// The nodes, and how many calls their dispatchers had in each turn, in the order of the turns, without turns in

@@ -5,6 +5,7 @@ use Rattle.m2_cluster.specs.Node.{NodeNow}
 use Rattle.m2_dispatch.specs.declared.logged.Logged.{Logged}
 use Rattle.m2_dispatch.specs.Heard.{heard_by}
 use Rattle.m2_kept.specs.Kept.{IsKept}
+pub use Rattle.m2_kept.specs.Laws.{DeedsStayKept, KeptCanBeDone}
 use Rattle.m2_planned.specs.Planned.{steps_for}
 use Rattle.m2_record.specs.RecordNow.{RecordNow}
 use Rattle.m2_scenario.specs.declared.line.Line.{Line}
