@@ -1,7 +1,8 @@
 -- Acts of one list and then of another are those of both; and what is known in the midst of a list.
-use Rattle.std.proofs.Common.{◌≡◌, ℕ, Bool, false, List, [], ◌∷◌, ◌++◌, Some, refl, sym, ap, ◌∙◌, subst, append_assoc, append-nil}
+use Rattle.std.proofs.Common.{◌≡◌, ℕ, List, [], ◌∷◌, ◌++◌, Some, Ok, Err, OnOk, refl, sym, ap, ◌∙◌, subst, append_assoc, append-nil}
 use Rattle.std.proofs.lemmas.Grind.{flat_map-append}
-use Rattle.m2_run_trace.specs.Acts.{Act, CanDo, CanPlay, Does, MemoryRun, Plays, PlaysAll, StageNow, deeds_in, moment_by, news_by, silent_act}
+use Rattle.m2_center.specs.CenterTurn.{Answer}
+use Rattle.m2_run_trace.specs.Acts.{Act, CanDo, CanPlay, Does, MemoryRun, Plays, PlaysAll, StageNow, deeds_in, news_by, silent_act}
 use Rattle.m2_run_trace.proofs.Deeds.{can_behind, can_first, does_both}
 use Rattle.m2_scenario.specs.declared.node.Node.{Node}
 use Rattle.m2_script.specs.Script.{Deed}
@@ -15,6 +16,10 @@ module _ (nodes : List Node) where
 
   pub one_plays : (a : Act) (s u : StageNow) → Plays nodes a s u → PlaysAll nodes (a ∷ []) s u
   one_plays a s u h = record { between = u; first = h; behind = refl }
+
+  pub plays_then : (result : Answer) (a : Act) (acts : List Act) (s t u : StageNow) → Plays nodes a s t → OnOk result (PlaysAll nodes acts t u) → OnOk result (PlaysAll nodes (a ∷ acts) s u)
+  plays_then (Ok done) a acts s t u h k = record { between = t; first = h; behind = k }
+  plays_then (Err e) a acts s t u h k = tt
 
   pub then_all : (xs ys : List Act) (s t u : StageNow) → PlaysAll nodes xs s t → PlaysAll nodes ys t u → PlaysAll nodes (xs ++ ys) s u
   then_all [] ys s t u h k = subst (λ (v : StageNow). PlaysAll nodes ys v u) h k
@@ -58,13 +63,11 @@ module _ (nodes : List Node) where
 
   -- ---- what is printed before deeds
 
-  -- where deeds of a node were done, and before them the text of an act was printed and the moment set, that act was played
-  pub said_before : (says : StageNow → Word) (deeds : List Deed) (node : ℕ) (turns : Bool) (old new : StageNow) (text : Word) (moment : ℕ) →
-      text ≡ old.text ++ says old → moment ≡ moment_by turns old.moment → Plays nodes (silent_act deeds node) (record old { text = text; moment = moment }) new →
-      Plays nodes (record { says = says; deeds = deeds; node = Some node; turns = turns }) old new
-  said_before says deeds node turns old new text moment said set plays = record {
+  -- where deeds of a node were done, and the text of an act had been printed before them, that act was played
+  pub said_before : (says : MemoryRun → Word) (deeds : List Deed) (node : ℕ) (old new : StageNow) (text : Word) → text ≡ old.text ++ says old.run →
+      Plays nodes (silent_act deeds node) (record old { text = text }) new → Plays nodes (record { says = says; deeds = deeds; node = Some node }) old new
+  said_before says deeds node old new text said plays = record {
     does = plays.does;
-    text = plays.text ∙ ap (λ (t : Word). t ++ news_by nodes (Some node) old new.run) said ∙ append_assoc old.text (says old) (news_by nodes (Some node) old new.run);
+    text = plays.text ∙ ap (λ (t : Word). t ++ news_by nodes (Some node) old new.run) said ∙ append_assoc old.text (says old.run) (news_by nodes (Some node) old new.run);
     sockets = plays.sockets;
-    moment = plays.moment ∙ set;
   }

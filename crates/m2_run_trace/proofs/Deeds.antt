@@ -16,6 +16,10 @@ does_if (Err e) ds old new h = tt
 pub does_both : (xs ys : List Deed) (s t u : MemoryRun) → Does xs s t → Does ys t u → Does (xs ++ ys) s u
 does_both xs ys s t u h k = deeds.then_all (CutEnd SimEnd) heard_by (Ok tt) xs ys s t u h k
 
+pub does_then : (result : Answer) (xs ys : List Deed) (s t u : MemoryRun) → Does xs s t → OnOk result (Does ys t u) → OnOk result (Does (xs ++ ys) s u)
+does_then (Ok done) xs ys s t u h k = does_both xs ys s t u h k
+does_then (Err e) xs ys s t u h k = tt
+
 pub can_first : (xs ys : List Deed) (s : MemoryRun) → CanDo (xs ++ ys) s → CanDo xs s
 can_first xs ys s can = deeds.can_first (CutEnd SimEnd) heard_by xs ys s can
 

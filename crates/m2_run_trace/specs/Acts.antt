@@ -1,5 +1,5 @@
 -- What a trace is made of: one thing after another that is printed and played. This project's own.
-use Rattle.std.specs.Prelude.{◌≡◌, ℕ, zero, suc, ◌+◌, Bool, true, false, List, [], ◌∷◌, ◌++◌, length, Option, Some, None, Ok}
+use Rattle.std.specs.Prelude.{◌≡◌, ℕ, zero, suc, ◌+◌, List, [], ◌∷◌, ◌++◌, length, Option, Some, None, Ok}
 use Rattle.std.specs.List.{flat_map}
 use Rattle.m2_dispatch.specs.declared.logged.Logged.{Logged}
 use Rattle.m2_dispatch.specs.Heard.{heard_by}
@@ -14,7 +14,7 @@ use Rattle.m2_scenario.specs.declared.line.Line.{Line}
 use Rattle.m2_scenario.specs.declared.line.Line.TheVariants as line
 use Rattle.m2_scenario.specs.declared.link.Link.{Link}
 use Rattle.m2_scenario.specs.declared.node.Node.{Node}
-use Rattle.m2_script.specs.Script.{CanAllBeDone, Deed, Ends, RunNow, both_flow, deeds_of, next_moment, turn_and_meet}
+use Rattle.m2_script.specs.Script.{CanAllBeDone, Deed, Ends, RunNow, both_flow, deeds_of, turn_and_meet}
 use Rattle.m2_sim_fabric.specs.declared.cut_end.CutEnd.{CutEnd}
 use Rattle.m2_sim_fabric.specs.declared.sim_end.SimEnd.{SimEnd}
 use Rattle.m2_words.specs.Text.{Word}
@@ -23,24 +23,21 @@ use Rattle.m2_words.specs.Text.{Word}
 abbrev pub MemoryRun : Type 0
 MemoryRun = RunNow (List Logged)
 
--- where a trace stands: the run, the sockets of which there may be more to tell, the moment of the next turn, and what is told so far
+-- where a trace stands: the run, the sockets of which there may be more to tell, and what is told so far
 pub record StageNow : Type 0 where
   pub run : MemoryRun
   pub sockets : List SocketId
-  pub moment : ℕ
   pub text : Word
 
 -- nothing is told yet
 abbrev pub first_stage : MemoryRun → StageNow
-first_stage run = record { run = run; sockets = []; moment = 0; text = [] }
+first_stage run = record { run = run; sockets = []; text = [] }
 
--- What is printed before it, by where the trace stands; its deeds; the node, if there is one, of which is told what it did by them;
--- and whether it is a turn.
+-- what is printed before it, by where the run stands; its deeds; and the node, if there is one, of which is told what it did by them
 pub record Act : Type 0 where
-  pub says : StageNow → Word
+  pub says : MemoryRun → Word
   pub deeds : List Deed
   pub node : Option ℕ
-  pub turns : Bool
 
 -- ---- what an act leaves
 
@@ -57,10 +54,6 @@ abbrev pub sockets_by : List Node → Option ℕ → StageNow → MemoryRun → 
 sockets_by nodes (Some node) old run = left_of (telling_at nodes run.cluster.nodes node) (marks_at nodes node old)
 sockets_by nodes None old run = old.sockets
 
-abbrev pub moment_by : (turns : Bool) → ℕ → ℕ
-moment_by true moment = next_moment moment
-moment_by false moment = moment
-
 -- deeds that are done one after another, each in full, over sockets in memory that may be cut
 abbrev pub Does : List Deed → MemoryRun → MemoryRun → Type 0
 Does deeds old new = Ends (CutEnd SimEnd) heard_by (Ok tt) deeds old new
@@ -68,9 +61,8 @@ Does deeds old new = Ends (CutEnd SimEnd) heard_by (Ok tt) deeds old new
 -- what it says is printed, its deeds are done, and what its node did by them is told
 pub record Plays (nodes : List Node) (a : Act) (old new : StageNow) : Type 0 where
   pub does : Does a.deeds old.run new.run
-  pub text : new.text ≡ old.text ++ (a.says old ++ news_by nodes a.node old new.run)
+  pub text : new.text ≡ old.text ++ (a.says old.run ++ news_by nodes a.node old new.run)
   pub sockets : new.sockets ≡ sockets_by nodes a.node old new.run
-  pub moment : new.moment ≡ moment_by a.turns old.moment
 
 -- the one act, and then the others
 pub record PlaysBoth (one others : StageNow → StageNow → Type 0) (old new : StageNow) : Type 0 where
@@ -98,7 +90,7 @@ CanPlay acts run = CanDo (deeds_in acts) run
 
 -- lines that aren't played
 abbrev pub quiet_act : List Node → List Word → Act
-quiet_act nodes lines = record { says = λ s. flat_map (quiet_text nodes s.run.cluster.nodes) lines; deeds = []; node = None; turns = false }
+quiet_act nodes lines = record { says = λ s. flat_map (quiet_text nodes s.cluster.nodes) lines; deeds = []; node = None }
 
 -- the node that does something by a line, if there is one
 abbrev pub actor_of : Line → Option ℕ
@@ -110,15 +102,15 @@ actor_of _ = None
 
 -- deeds by which a node does something, with nothing printed before them
 abbrev pub silent_act : List Deed → (node : ℕ) → Act
-silent_act deeds node = record { says = λ s. []; deeds = deeds; node = Some node; turns = false }
+silent_act deeds node = record { says = λ s. []; deeds = deeds; node = Some node }
 
 -- a line of the text as it is
 abbrev pub step_act : List Link → (count : ℕ) → Word → Line → Act
-step_act links count step l = record { says = λ s. step_line step; deeds = deeds_of links count l; node = actor_of l; turns = false }
+step_act links count step l = record { says = λ s. step_line step; deeds = deeds_of links count l; node = actor_of l }
 
 -- a turn at its moment
 abbrev pub turn_act : List Node → (node : ℕ) → Act
-turn_act nodes node = record { says = λ s. turn_line (name_in nodes node) s.moment; deeds = turn_and_meet node; node = Some node; turns = true }
+turn_act nodes node = record { says = λ s. turn_line (name_in nodes node) s.now; deeds = turn_and_meet node; node = Some node }
 
 -- the turns of so many nodes, from one on
 abbrev pub turn_acts : List Node → (from count : ℕ) → List Act
@@ -127,7 +119,7 @@ turn_acts nodes from (suc n) = turn_act nodes from ∷ turn_acts nodes (from + 1
 
 -- a round begins, and everything flows
 abbrev pub flow_act : List Link → Act
-flow_act links = record { says = λ s. settle_line; deeds = flat_map both_flow links; node = None; turns = false }
+flow_act links = record { says = λ s. settle_line; deeds = flat_map both_flow links; node = None }
 
 abbrev pub round_acts : List Node → List Link → List Act
 round_acts nodes links = flow_act links ∷ turn_acts nodes 0 (length nodes)

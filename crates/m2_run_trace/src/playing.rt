@@ -232,7 +232,6 @@ fn play_turn(alloc: Global, scene: &Scene<'_>, stage: &mut Stage, node: u32) -> 
     requires { CanDo (turn_and_meet node) stage.old.run }
     ensures { OnOk result (Plays scene.now.nodes.now (turn_act scene.now.nodes.now node) stage.old stage.new) }
 {
-    put_turn(&mut stage.out, scene.nodes, node, stage.moment)?;
-    stage.moment = stage.moment.saturating_add(1);
+    put_turn(&mut stage.out, scene.nodes, node, stage.run.now())?;
     act(alloc, scene, stage, node, Line::Turn { a: node })
 }

@@ -29,8 +29,6 @@ pub(crate) struct Stage {
     pub run: MemoryRun,
     /// The sockets of which there may be more to tell, in the order in which they were opened.
     pub sockets: SocketIdList,
-    /// The moment of the next turn: how many there were.
-    pub moment: u64,
     /// What is told so far.
     pub out: Blob,
 }
@@ -40,7 +38,7 @@ impl Model for Stage {
 
     ghost Value = { StageNow };
 
-    ghost view = { λ s. record { run = s.run; sockets = s.sockets.items; moment = s.moment; text = s.out.bytes } };
+    ghost view = { λ s. record { run = s.run; sockets = s.sockets.items; text = s.out.bytes } };
 }
 
 impl Stage {
@@ -51,7 +49,6 @@ impl Stage {
         Stage {
             run,
             sockets: Items::empty(alloc),
-            moment: 0,
             out: Blob::empty(alloc),
         }
     }
