@@ -1,9 +1,9 @@
 -- What is left of a script's acts is what comes next, and what is left behind it; and their deeds are those of the script.
-use Rattle.std.proofs.Common.{◌≡◌, ℕ, zero, suc, ◌+◌, ◌-◌, ◌<◌, List, [], ◌∷◌, ◌++◌, length, drop, get_or, refl, sym, ap, ◌∙◌, append-nil, arith}
+use Rattle.std.proofs.Common.{◌≡◌, ℕ, zero, suc, ◌+◌, ◌-◌, ◌<◌, List, [], ◌∷◌, ◌++◌, length, refl, ap, ◌∙◌, arith}
 use Rattle.std.proofs.lemmas.Grind.{flat_map-append}
 use Rattle.std.specs.List.{flat_map}
-use Rattle.m2_run_trace.specs.Acts.{Act, CanDo, MemoryRun, acts_of, acts_to, deeds_in, line_acts, quiet_act, round_acts, rounds_acts, step_act, turn_act, turn_acts}
-use Rattle.m2_run_trace.specs.Script.{lines_above, lines_behind, next_step}
+use Rattle.m2_run_trace.specs.Acts.{Act, acts_of, acts_to, deeds_in, line_acts, round_acts, rounds_acts, step_act, turn_act, turn_acts}
+use Rattle.m2_run_trace.specs.Script.{lines_behind, next_step}
 use Rattle.m2_scenario.specs.declared.line.Line.{Line}
 use Rattle.m2_scenario.specs.declared.line.Line.TheVariants as line
 use Rattle.m2_scenario.specs.declared.link.Link.{Link}
