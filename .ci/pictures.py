@@ -1,9 +1,9 @@
 """Draws each scenario of examples/pictures and compares the picture with the one that stands beside it.
 
 The trace of a scenario's run is what the built program crates/run_trace/out/run_trace prints. The replay is laid beside
-each trace: what it says has to follow from its own bytes and from the rules of docs/PROTOCOL.md. Traces with one thing
-changed must be objected to: bad lines by tools/draw with their number and why, a trace whose lines are all well formed by
-the replay, and another picture by the comparison.
+each trace, those of the scenarios of examples too: what it says has to follow from its own bytes and from the rules of
+docs/PROTOCOL.md. Traces with one thing changed must be objected to: bad lines by tools/draw with their number and why, a
+trace whose lines are all well formed by the replay, and another picture by the comparison.
 """
 import os, re, subprocess, sys, tempfile
 
@@ -13,6 +13,7 @@ import replay_trace
 import run_trace
 
 PICTURES = "examples/pictures"
+EXAMPLES = "examples"
 PROGRAM = "crates/run_trace/out/run_trace"
 SAMPLE = "crossing"
 BAD = [  # what is changed in the sample, at its first place; and what is said of which line
@@ -66,6 +67,26 @@ def replayed(text):
     return None
 
 
+def untrue(file, trace):
+    """What is wrong with what a run of the program on this file gave."""
+    name = os.path.relpath(file, TOP)
+    status, text, said = trace
+    if (status, said) != (0, ""):
+        return f"{name}: {PROGRAM}: status {status}: {said}"
+    said = replayed(text.decode("ascii"))
+    return said and f"{name}: {said}"
+
+
+def examples(folder):
+    """What is wrong with the traces of the examples, of which no picture is stored."""
+    for name in sorted(os.listdir(folder)):
+        if name.endswith(".scenario"):
+            file = os.path.join(folder, name)
+            said = untrue(file, traced(file))
+            if said:
+                yield said
+
+
 def pictures(folder, room):
     """What is wrong with the pictures, or with the traces of which they are drawn."""
     names = sorted(os.listdir(folder))
@@ -75,18 +96,17 @@ def pictures(folder, room):
             if f"{stem}.scenario" not in names:
                 yield f"{name}: stands beside no scenario"
             continue
-        status, trace, said = traced(os.path.join(folder, name))
-        if (status, said) != (0, ""):
-            yield f"{name}: {PROGRAM}: status {status}: {said}"
+        file = os.path.join(folder, name)
+        trace = traced(file)
+        said = untrue(file, trace)
+        if said:
+            yield said
             continue
-        status, picture, said = drawn(trace, room)
+        status, picture, said = drawn(trace[1], room)
         if (status, said) != (0, ""):
             yield f"{name}: tools/draw: status {status}: {said}"
         elif differs(picture, os.path.join(folder, f"{stem}.svg")):
             yield f"{name}: another picture is drawn than the one that stands beside it ({PROGRAM}, tools/draw)"
-        said = replayed(trace.decode("ascii"))
-        if said:
-            yield f"{name}: {said}"
 
 
 def differs(picture, file):
@@ -123,10 +143,10 @@ def main():
         sys.exit(f"{PROGRAM} isn't built")
     folder = os.path.join(TOP, PICTURES)
     with tempfile.TemporaryDirectory() as room:
-        said = [*pictures(folder, room), *objections(folder, room)]
+        said = [*pictures(folder, room), *objections(folder, room), *examples(os.path.join(TOP, EXAMPLES))]
     for line in said:
         print(line)
-    print("not all as expected" if said else f"{PICTURES}: all as drawn, each replayed, and each wrong one objected to")
+    print("not all as expected" if said else f"{PICTURES}: all as drawn, each trace replayed, and each wrong one objected to")
     sys.exit(1 if said else 0)
 
 
