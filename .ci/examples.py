@@ -30,6 +30,7 @@ FOLDERS = {  # the program, and the words that it gets for a file of the folder;
     "crates/msgr2/runs": ("msgr2", None),
     TRACES: ("record_trace", ["{}"]),
     "crates/record_trace/runs": ("record_trace", None),
+    "crates/run_trace/runs": ("run_trace", None),
 }
 # Copies of this example get a wrong expectation each: the part, and what is wrong about it.
 SAMPLE, SAMPLE_WORDS = "examples/frames/bad_crc.frames", ["frames", "{}"]

@@ -1,8 +1,9 @@
-"""Draws each trace of examples/pictures and compares the picture with the one that stands beside it.
+"""Draws each scenario of examples/pictures and compares the picture with the one that stands beside it.
 
-The replay is laid beside each trace: what it says has to follow from its own bytes and from the rules of docs/PROTOCOL.md.
-Traces with one thing changed must be objected to: bad lines by tools/draw with their number and why, a trace whose lines are
-all well formed by the replay, and another picture by the comparison.
+The trace of a scenario's run is what the built program crates/run_trace/out/run_trace prints. The replay is laid beside
+each trace, those of the scenarios of examples too: what it says has to follow from its own bytes and from the rules of
+docs/PROTOCOL.md. Traces with one thing changed must be objected to: bad lines by tools/draw with their number and why, a
+trace whose lines are all well formed by the replay, and another picture by the comparison.
 """
 import os, re, subprocess, sys, tempfile
 
@@ -12,7 +13,9 @@ import replay_trace
 import run_trace
 
 PICTURES = "examples/pictures"
-SAMPLE = "crossing.trace"
+EXAMPLES = "examples"
+PROGRAM = "crates/run_trace/out/run_trace"
+SAMPLE = "crossing"
 BAD = [  # what is changed in the sample, at its first place; and what is said of which line
     (r"^settle 1$", "walk a", 11, "`walk` begins no line"),
     (r"^turn b 1$", "turn b 2", 15, "the moment of this turn is 1"),
@@ -37,9 +40,22 @@ UNTRUE = [  # what is changed in the sample so that the lines are well formed, a
 ]
 
 
-def drawn(file):
-    ran = subprocess.run([sys.executable, os.path.join(TOP, "tools", "draw"), file], capture_output=True)
-    return ran.returncode, ran.stdout, ran.stderr.decode()
+def ran(words):
+    """The status, standard output and standard error of a program."""
+    done = subprocess.run(words, capture_output=True)
+    return done.returncode, done.stdout, done.stderr.decode()
+
+
+def traced(file):
+    return ran([os.path.join(TOP, PROGRAM), file])
+
+
+def drawn(trace, room):
+    """What tools/draw makes of a trace."""
+    file = os.path.join(room, "a.trace")
+    with open(file, "wb") as out:
+        out.write(trace)
+    return ran([sys.executable, os.path.join(TOP, "tools", "draw"), file])
 
 
 def replayed(text):
@@ -51,24 +67,46 @@ def replayed(text):
     return None
 
 
-def pictures(folder):
-    """What is wrong with the stored traces and pictures."""
+def untrue(file, trace):
+    """What is wrong with what a run of the program on this file gave."""
+    name = os.path.relpath(file, TOP)
+    status, text, said = trace
+    if (status, said) != (0, ""):
+        return f"{name}: {PROGRAM}: status {status}: {said}"
+    said = replayed(text.decode("ascii"))
+    return said and f"{name}: {said}"
+
+
+def examples(folder):
+    """What is wrong with the traces of the examples, of which no picture is stored."""
+    for name in sorted(os.listdir(folder)):
+        if name.endswith(".scenario"):
+            file = os.path.join(folder, name)
+            said = untrue(file, traced(file))
+            if said:
+                yield said
+
+
+def pictures(folder, room):
+    """What is wrong with the pictures, or with the traces of which they are drawn."""
     names = sorted(os.listdir(folder))
     for name in names:
-        file = os.path.join(folder, name)
-        if name.endswith(".svg"):
-            if name.removesuffix(".svg") + ".trace" not in names:
-                yield f"{name}: stands beside no trace"
+        stem, kind = os.path.splitext(name)
+        if kind != ".scenario":
+            if f"{stem}.scenario" not in names:
+                yield f"{name}: stands beside no scenario"
             continue
-        status, picture, said = drawn(file)
-        if (status, said) != (0, ""):
-            yield f"{name}: status {status}: {said}"
-        elif differs(picture, file.removesuffix(".trace") + ".svg"):
-            yield f"{name}: another picture is drawn than the one that stands beside it (tools/draw {PICTURES}/{name})"
-        with open(file, encoding="ascii") as text:
-            said = replayed(text.read())
+        file = os.path.join(folder, name)
+        trace = traced(file)
+        said = untrue(file, trace)
         if said:
-            yield f"{name}: {said}"
+            yield said
+            continue
+        status, picture, said = drawn(trace[1], room)
+        if (status, said) != (0, ""):
+            yield f"{name}: tools/draw: status {status}: {said}"
+        elif differs(picture, os.path.join(folder, f"{stem}.svg")):
+            yield f"{name}: another picture is drawn than the one that stands beside it ({PROGRAM}, tools/draw)"
 
 
 def differs(picture, file):
@@ -85,13 +123,9 @@ def changed(text, old, new):
 
 def objections(folder, room):
     """What isn't objected to, or otherwise than it should be."""
-    with open(os.path.join(folder, SAMPLE), encoding="ascii") as file:
-        sample = file.read()
-    wrong = os.path.join(room, "wrong.trace")
+    sample = traced(os.path.join(folder, f"{SAMPLE}.scenario"))[1].decode("ascii")
     for old, new, line, why in BAD:
-        with open(wrong, "w", encoding="ascii") as file:
-            file.write(changed(sample, old, new) or "")
-        status, picture, said = drawn(wrong)
+        status, picture, said = drawn((changed(sample, old, new) or "").encode(), room)
         told = re.fullmatch(r"bad trace: line ([0-9]+): (.*)\n", said)
         if (status, picture) != (2, b"") or not told or told[2] != why or int(told[1]) != line:
             yield f"{new}: status {status}, {said!r}, and expected line {line}: {why}"
@@ -99,19 +133,20 @@ def objections(folder, room):
         text = changed(sample, old, new)
         if text is None or not replayed(text):
             yield f"the replay doesn't object to {old!r} as {new!r}"
-    with open(wrong, "w", encoding="ascii") as file:
-        file.write(sample.replace("accept_race", "accept_again"))
-    if not differs(drawn(wrong)[1], os.path.join(folder, SAMPLE.replace(".trace", ".svg"))):
+    other = sample.replace("accept_race", "accept_again").encode()
+    if not differs(drawn(other, room)[1], os.path.join(folder, f"{SAMPLE}.svg")):
         yield "the comparison doesn't object to another picture"
 
 
 def main():
+    if not os.path.exists(os.path.join(TOP, PROGRAM)):
+        sys.exit(f"{PROGRAM} isn't built")
     folder = os.path.join(TOP, PICTURES)
     with tempfile.TemporaryDirectory() as room:
-        said = [*pictures(folder), *objections(folder, room)]
+        said = [*pictures(folder, room), *objections(folder, room), *examples(os.path.join(TOP, EXAMPLES))]
     for line in said:
         print(line)
-    print("not all as expected" if said else f"{PICTURES}: all as drawn, each replayed, and each wrong one objected to")
+    print("not all as expected" if said else f"{PICTURES}: all as drawn, each trace replayed, and each wrong one objected to")
     sys.exit(1 if said else 0)
 
 

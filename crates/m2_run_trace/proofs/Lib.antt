@@ -1,0 +1,5 @@
+pub mod Acts
+pub mod Appended
+pub mod Deeds
+pub mod LineActs
+pub mod TextLines

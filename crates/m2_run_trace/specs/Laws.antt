@@ -1,0 +1,16 @@
+-- What is promised of traces.
+use Rattle.std.specs.Prelude.{List}
+use Rattle.m2_run_trace.specs.Tracing.{IsTrace}
+use Rattle.m2_scenario.specs.declared.line.Line.{Line}
+use Rattle.m2_scenario.specs.declared.link.Link.{Link}
+use Rattle.m2_scenario.specs.declared.node.Node.{Node}
+use Rattle.m2_sim_fabric.specs.declared.cut_end.CutEnd.{CutEnd}
+use Rattle.m2_sim_fabric.specs.declared.sim_end.SimEnd.{SimEnd}
+use Rattle.m2_started.specs.Started.{IsScriptRun}
+use Rattle.m2_words.specs.Text.{Word}
+
+-- The run of a trace is one of the scenario's lines, done one after another, as that of `sim` is; so what is promised of such a run
+-- holds of it.
+abbrev pub TracesAreOfRuns : Type 0
+TracesAreOfRuns = (nodes : List Node) (links : List Link) (lines : List Line) (text trace : Word) (t : IsTrace nodes links lines text trace) →
+    IsScriptRun (CutEnd SimEnd) nodes links lines t.run t.last.run
