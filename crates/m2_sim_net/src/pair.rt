@@ -137,8 +137,7 @@ impl Pair {
         Ok(())
     }
 
-    /// Passes on what each socket does, as far as `what` is about it. `piece` is room for what flows. A pair that `what`
-    /// isn't about is left as it is, and so are the first sockets that are over both ways: nothing is passed on there.
+    /// Passes on what each socket does, as far as `what` is about it. `piece` is room for what flows.
     pub(crate) fn pass<H: Holder>(
         &mut self,
         h: &mut H,
