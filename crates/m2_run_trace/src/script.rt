@@ -70,8 +70,8 @@ fn is_played(sort: Sort) -> bool
     }
 }
 
-/// Prints the lines above the next one that is played; that one, and the text behind it. Where none is played, it has no
-/// bytes, and nor has the text.
+/// Prints the lines above the next one that is played; that one, and the text behind it. Where none is played, neither has
+/// any bytes.
 pub(crate) fn put_until_step<'a>(
     out: &mut Blob,
     text: &'a [u8],

@@ -11,9 +11,9 @@ use m2_edge::{Failed, ReadFault, Sink, Source, read_whole, write_whole};
 use m2_scenario_text::MOST_BYTES;
 use std::alloc::Global;
 
-/// Prints the trace of the scenario in the file that the one word names on `out`, says on `err` how it ended,
-/// and answers that. The file is read whole, then its scenario is run, and only then is anything written; of a text that
-/// has no trace nothing is printed.
+/// Prints the trace of the scenario in the file that the one word names on `out`, says on `err` how it ended, and
+/// answers that. The file is read whole, then its scenario is run, and only then is anything written; of a text that has
+/// no trace nothing is printed.
 pub fn run_trace<S: Source, O: Sink, E: Sink>(
     alloc: Global,
     args: &[String],
