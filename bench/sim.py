@@ -103,7 +103,7 @@ def main():
     print(f"megabytes at {SIZES[-1]}: {megabytes:.1f} (wanted: less than 300)")
     print(f"rate at {SIZES[-1]} over rate at {SIZES[0]}: {rates[SIZES[-1]] / rates[SIZES[0]]:.2f} (wanted: 0.8 or more)")
     for nodes in NODES[1:]:
-        print(f"time at {nodes} nodes over 2: {times[nodes] / times[2]:.2f}")
+        print(f"time at {nodes} nodes over 2: {times[nodes] / times[2]:.2f} (wanted: less than {nodes // 2})")
     print(f"a message's time in a session of {STEPS[-1]} over one of {STEPS[0]}: {turns[STEPS[-1]] / turns[STEPS[0]]:.2f} (wanted: no more than 1.25)")
 
 
