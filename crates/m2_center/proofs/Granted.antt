@@ -6,8 +6,8 @@ use Rattle.m2_record.specs.Calls.{Owns}
 use Rattle.m2_record.specs.RecordNow.{RecordNow}
 use Rattle.m2_center.specs.Center.{CenterNow, IsCenter}
 use Rattle.m2_center.specs.Finishing.{AllOwn, IsGranted, rest_of}
-use Rattle.m2_stages.specs.Sessions.{IsSupplied, Supply}
-use Rattle.m2_stages.proofs.Peers.{each}
+use Rattle.m2_center.specs.Sessions.{IsSupplied, Supply}
+use Rattle.m2_center.proofs.Peers.{each}
 
 pub all_own : (s : Supply) (made : List SocketId) (rs : List RecordNow) → AllByRecursion (IsSupplied s made) rs → AllOwn s.place rs
 all_own s made rs all = each (IsSupplied s made) (Owns s.place) (λ r is. is.owned) rs all

@@ -8,10 +8,10 @@ use Rattle.m2_record.specs.IsRecord.{IsRecord}
 use Rattle.m2_record.specs.RecordNow.{RecordNow, ends_of, ids_of}
 use Rattle.m2_record.proofs.Names.{differ, same_equal}
 use Rattle.m2_trail.specs.Arrivals.{LooseNow}
-use Rattle.m2_stages.specs.Halves.{AllHalves, sessions_with}
-use Rattle.m2_stages.specs.Hearing as halves
-use Rattle.m2_stages.specs.Sessions.{AreConsistent, IsCaller, IsSupplied, PendingNow, Supply, WasCaller, caller_in}
-use Rattle.m2_stages.proofs.Came.{are_known}
+use Rattle.m2_center.specs.Halves.{AllHalves, sessions_with}
+use Rattle.m2_center.specs.Hearing as halves
+use Rattle.m2_center.specs.Sessions.{AreConsistent, IsCaller, IsSupplied, PendingNow, Supply, WasCaller, caller_in}
+use Rattle.m2_center.proofs.Came.{are_known}
 use Rattle.m2_center.proofs.RecordsHear.{among_both}
 
 module _ (id : SocketId) (made : List SocketId) (fresh : IsNewTo made id) where

@@ -6,10 +6,10 @@ use Rattle.m2_fabric.specs.declared.socket.SocketId.{SocketId}
 use Rattle.m2_fabric.specs.Sockets.{is_among, same_socket}
 use Rattle.m2_record.specs.RecordNow.{RecordNow}
 use Rattle.m2_trail.specs.Arrivals.{LooseNow, left_of}
-use Rattle.m2_stages.specs.Halves.{AllHalves, after_leaving, sessions_with}
-use Rattle.m2_stages.specs.Sessions.{AreConsistent, IsCaller, PendingNow, Supply, WasCaller, caller_in}
-use Rattle.m2_stages.proofs.Came.{back, both, front}
-use Rattle.m2_stages.proofs.Joined.{distinct_between}
+use Rattle.m2_center.specs.Halves.{AllHalves, after_leaving, sessions_with}
+use Rattle.m2_center.specs.Sessions.{AreConsistent, IsCaller, PendingNow, Supply, WasCaller, caller_in}
+use Rattle.m2_center.proofs.Came.{back, both, front}
+use Rattle.m2_center.proofs.Joined.{distinct_between}
 
 pub all_join : {T : Type 0} (P : T → Type 0) (xs ys : List T) → AllByRecursion P xs → AllByRecursion P ys → AllByRecursion P (xs ++ ys)
 all_join P [] ys first second = second

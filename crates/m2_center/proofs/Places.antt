@@ -20,11 +20,11 @@ use Rattle.m2_session.specs.declared.session.Session.{Session}
 use Rattle.m2_trail.specs.Trails.{TrailNow}
 use Rattle.m2_record.proofs.Names.{differ}
 use Rattle.m2_center.specs.Plans.{is_towards, parts_of, place_towards, side_towards}
-use Rattle.m2_stages.specs.Answering.{StaysBeside}
-use Rattle.m2_stages.specs.Beside.{AllKeepCallers, KeepsCallers}
-use Rattle.m2_stages.specs.Halves.{AllHalves, sessions_with}
-use Rattle.m2_stages.specs.Sessions.{AreConsistent, IsSupplied, Supply}
-use Rattle.m2_stages.proofs.Told.{all_the_same, beside, none_made, nothing_told_on, stay}
+use Rattle.m2_center.specs.Answering.{StaysBeside}
+use Rattle.m2_center.specs.Beside.{AllKeepCallers, KeepsCallers}
+use Rattle.m2_center.specs.Halves.{AllHalves, sessions_with}
+use Rattle.m2_center.specs.Sessions.{AreConsistent, IsSupplied, Supply}
+use Rattle.m2_center.proofs.Told.{all_the_same, beside, none_made, nothing_told_on, stay}
 
 -- ---- the first that passes
 

@@ -4,8 +4,8 @@ use Rattle.std.proofs.Common.{◌≡◌, ℕ, Bool, true, false, ◌||◌, if◌
 use Rattle.std.specs.List.{AllByRecursion, flat_map, list_any}
 use Rattle.std.specs.Option.{option_map}
 use Rattle.m2_addr.specs.declared.addr.Addr.{Addr}
-use Rattle.m2_live.specs.Calls.{live_with}
-use Rattle.m2_live.specs.OnFeed.{feed_after_news}
+use Rattle.m2_core.specs.LiveCalls.{live_with}
+use Rattle.m2_core.specs.OnFeed.{feed_after_news}
 use Rattle.m2_fabric.specs.declared.end.News.{News}
 use Rattle.m2_fabric.specs.declared.socket.SocketId.{SocketId}
 use Rattle.m2_fabric.specs.End.{SeenEnd, after_news}
@@ -20,16 +20,16 @@ use Rattle.m2_record.specs.Due.{on_feed}
 use Rattle.m2_record.specs.RecordNow.{RecordNow, ends_of, feed_end, ids_of}
 use Rattle.m2_record.specs.TakenTrails.{judgements_in}
 use Rattle.m2_record.proofs.Names.{differ}
-use Rattle.m2_stages.specs.Beside.{AllKeepCallers, KeepsCallers}
+use Rattle.m2_center.specs.Beside.{AllKeepCallers, KeepsCallers}
 use Rattle.m2_center.specs.Center.{CenterNow}
-use Rattle.m2_stages.specs.Halves.{AllHalves, sessions_with}
-use Rattle.m2_stages.specs.Hearing as halves
+use Rattle.m2_center.specs.Halves.{AllHalves, sessions_with}
+use Rattle.m2_center.specs.Hearing as halves
 use Rattle.m2_center.specs.Reaching.{after_hearing, all_ends_in, ends_in, ends_or_none, has_half, rest_in, untold, untold_feed, untold_half, untold_loose, untold_record}
 use Rattle.m2_center.specs.RecordEnds.{has_end, records_hear}
 use Rattle.m2_trail.specs.Arrivals.{LooseNow}
-use Rattle.m2_stages.specs.Sessions.{PendingNow, AreConsistent, IsSupplied, Supply, is_asker, peer_of}
-use Rattle.m2_stages.proofs.EndsHear.{heard_ends}
-use Rattle.m2_stages.proofs.Told.{all_the_same, none_made, nothing_told_on, stay}
+use Rattle.m2_center.specs.Sessions.{PendingNow, AreConsistent, IsSupplied, Supply, is_asker, peer_of}
+use Rattle.m2_center.proofs.EndsHear.{heard_ends}
+use Rattle.m2_center.proofs.Told.{all_the_same, none_made, nothing_told_on, stay}
 
 or_assoc : (a b c : Bool) → (a || b) || c ≡ a || (b || c)
 or_assoc true b c = refl

@@ -2,7 +2,7 @@
 use Rattle.std.proofs.Common.{◌≡◌, ℕ, ◌-◌, List, [], ◌∷◌, map, Some, OnOk, refl, ap, subst, sym, ◌∙◌}
 use Rattle.std.specs.Prelude.{slice_get, slice_set}
 use Rattle.m2_dispatch.specs.Heard.{Heard}
-use Rattle.m2_dispatcher.specs.Dispatch.{Queued}
+use Rattle.m2_dispatch.specs.Dispatch.{Queued}
 use Rattle.m2_fabric.specs.declared.socket.SocketId.{SocketId}
 use Rattle.m2_fabric.specs.Port.{SeenPort}
 use Rattle.m2_journal.specs.declared.facts.PlanStep.{PlanStep}
@@ -11,23 +11,23 @@ use Rattle.m2_record.specs.RecordNow.{RecordNow}
 use Rattle.m2_shared.specs.Numbers.{SeenNumberPass}
 use Rattle.m2_shared.specs.Place.{IsAlone, Place}
 use Rattle.m2_shared.specs.Throttle.{SeenTakePass}
-use Rattle.m2_stages.specs.declared.accepting.Accepted.{Accepted}
-use Rattle.m2_stages.specs.declared.halves_turn.HalvesTurn.{HalvesTurn}
-use Rattle.m2_stages.specs.declared.mailing.Mailed.{Mailed}
-use Rattle.m2_stages.specs.declared.records_turn.RecordsTurn.{RecordsTurn}
-use Rattle.m2_stages.specs.Accepting.{AcceptsAll}
-use Rattle.m2_stages.specs.Beside.{AllKeepCallers}
+use Rattle.m2_center.specs.declared.accepting.Accepted.{Accepted}
+use Rattle.m2_center.specs.declared.halves_turn.HalvesTurn.{HalvesTurn}
+use Rattle.m2_center.specs.declared.mailing.Mailed.{Mailed}
+use Rattle.m2_center.specs.declared.records_turn.RecordsTurn.{RecordsTurn}
+use Rattle.m2_center.specs.Accepting.{AcceptsAll}
+use Rattle.m2_center.specs.Beside.{AllKeepCallers}
 use Rattle.m2_center.specs.Center.{CenterNow}
 use Rattle.m2_center.specs.CenterTurn.{Accepts, Answer, EmptiesMail, TurnsHalves, TurnsRecords, accepting_in, around_in, mailing_in}
 use Rattle.m2_center.specs.Plans.{PlansIn, place_towards}
-use Rattle.m2_stages.specs.Halves.{AllHalves, sessions_with}
-use Rattle.m2_stages.specs.HalvesTurn as halves
-use Rattle.m2_stages.specs.Mailing.{Mails, mailing}
-use Rattle.m2_stages.specs.Outbox.{OutboxNow}
-use Rattle.m2_stages.specs.Planning.{PlansNow}
-use Rattle.m2_stages.specs.RecordTurn.{Means}
-use Rattle.m2_stages.specs.RecordsTurn.{TurnsEach, all_amid}
-use Rattle.m2_stages.specs.Sessions.{AreConsistent, Sessions, Supply, peer_of}
+use Rattle.m2_center.specs.Halves.{AllHalves, sessions_with}
+use Rattle.m2_center.specs.HalvesTurn as halves
+use Rattle.m2_center.specs.Mailing.{Mails, mailing}
+use Rattle.m2_center.specs.Outbox.{OutboxNow}
+use Rattle.m2_center.specs.Planning.{PlansNow}
+use Rattle.m2_center.specs.RecordTurn.{Means}
+use Rattle.m2_center.specs.RecordsTurn.{TurnsEach, all_amid}
+use Rattle.m2_center.specs.Sessions.{AreConsistent, Sessions, Supply, peer_of}
 
 module _ {D : Type 0} (was old : CenterNow D) (same : was ≡ old) where
   pub accepts : (result : Accepted) (port : SeenPort) (halves : AllHalves) →

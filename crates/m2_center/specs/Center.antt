@@ -1,14 +1,14 @@
 -- What contracts see of a center, and what its type keeps. This project's own.
 use Rattle.std.specs.Prelude.{ℕ, List}
-use Rattle.m2_dispatcher.specs.Dispatch.{Queued}
-use Rattle.m2_dispatcher.specs.Letters.{AreOwned}
+use Rattle.m2_dispatch.specs.Dispatch.{Queued}
+use Rattle.m2_dispatch.specs.Letters.{AreOwned}
 use Rattle.m2_fabric.specs.Port.{SeenPort}
 use Rattle.m2_record.specs.RecordNow.{RecordNow}
 use Rattle.m2_shared.specs.Numbers.{SeenNumberPass}
 use Rattle.m2_shared.specs.Throttle.{SeenTakePass}
-use Rattle.m2_stages.specs.Halves.{AllHalves, sessions_with}
-use Rattle.m2_stages.specs.Outbox.{OutboxNow, OwnsAll}
-use Rattle.m2_stages.specs.Sessions.{AreConsistent, Sessions, Supply}
+use Rattle.m2_center.specs.Halves.{AllHalves, sessions_with}
+use Rattle.m2_center.specs.Outbox.{OutboxNow, OwnsAll}
+use Rattle.m2_center.specs.Sessions.{AreConsistent, Sessions, Supply}
 
 pub record CenterNow (D : Type 0) : Type 0 where
   -- the kind of its node

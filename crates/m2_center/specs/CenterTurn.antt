@@ -5,21 +5,21 @@ use Rattle.m2_bytes.specs.declared.memory.NoMemory as memory
 use Rattle.m2_dispatch.specs.Heard.{Heard}
 use Rattle.m2_shared.specs.Numbers.{SeenNumbers}
 use Rattle.m2_shared.specs.Throttle.{SeenThrottle}
-use Rattle.m2_stages.specs.declared.accepting.Accepted.{Accepted}
-use Rattle.m2_stages.specs.declared.accepting.Accepted.TheVariants as accepted
-use Rattle.m2_stages.specs.declared.halves_turn.HalvesTurn.{HalvesTurn}
-use Rattle.m2_stages.specs.declared.halves_turn.HalvesTurn.TheVariants as halves
-use Rattle.m2_stages.specs.declared.mailing.Mailed.{Mailed}
-use Rattle.m2_stages.specs.declared.mailing.Mailed.TheVariants as mailed
-use Rattle.m2_stages.specs.declared.records_turn.RecordsTurn.{RecordsTurn}
-use Rattle.m2_stages.specs.declared.records_turn.RecordsTurn.TheVariants as records
-use Rattle.m2_stages.specs.Accepting.{Accepting, AcceptsAll}
-use Rattle.m2_stages.specs.HalfTurn.{Homes}
-use Rattle.m2_stages.specs.HalvesTurn as turns
-use Rattle.m2_stages.specs.HalvesTurn.{Callers}
-use Rattle.m2_stages.specs.Mailing.{Mailing, Mails, mailing}
-use Rattle.m2_stages.specs.RecordTurn.{Means}
-use Rattle.m2_stages.specs.RecordsTurn.{AllAmid, Around, TurnsEach}
+use Rattle.m2_center.specs.declared.accepting.Accepted.{Accepted}
+use Rattle.m2_center.specs.declared.accepting.Accepted.TheVariants as accepted
+use Rattle.m2_center.specs.declared.halves_turn.HalvesTurn.{HalvesTurn}
+use Rattle.m2_center.specs.declared.halves_turn.HalvesTurn.TheVariants as halves
+use Rattle.m2_center.specs.declared.mailing.Mailed.{Mailed}
+use Rattle.m2_center.specs.declared.mailing.Mailed.TheVariants as mailed
+use Rattle.m2_center.specs.declared.records_turn.RecordsTurn.{RecordsTurn}
+use Rattle.m2_center.specs.declared.records_turn.RecordsTurn.TheVariants as records
+use Rattle.m2_center.specs.Accepting.{Accepting, AcceptsAll}
+use Rattle.m2_center.specs.HalfTurn.{Homes}
+use Rattle.m2_center.specs.HalvesTurn as turns
+use Rattle.m2_center.specs.HalvesTurn.{Callers}
+use Rattle.m2_center.specs.Mailing.{Mailing, Mails, mailing}
+use Rattle.m2_center.specs.RecordTurn.{Means}
+use Rattle.m2_center.specs.RecordsTurn.{AllAmid, Around, TurnsEach}
 use Rattle.m2_center.specs.Center.{CenterNow}
 
 -- ---- the parts of a turn

@@ -1,8 +1,8 @@
 -- The end of a center, and what is left of it. This project's own.
 use Rattle.std.specs.Prelude.{List}
 use Rattle.std.specs.List.{AllByRecursion}
-use Rattle.m2_dispatcher.specs.Dispatch.{Queued}
-use Rattle.m2_dispatcher.specs.Letters.{AreOwned}
+use Rattle.m2_dispatch.specs.Dispatch.{Queued}
+use Rattle.m2_dispatch.specs.Letters.{AreOwned}
 use Rattle.m2_fabric.specs.Port.{SeenPort}
 use Rattle.m2_record.specs.Calls.{Owns}
 use Rattle.m2_record.specs.RecordNow.{RecordNow}
@@ -11,8 +11,8 @@ use Rattle.m2_shared.specs.Place.{Place}
 use Rattle.m2_shared.specs.Throttle.{SeenTakePass}
 use Rattle.m2_trail.specs.Arrivals.{LooseNow}
 use Rattle.m2_center.specs.Center.{CenterNow}
-use Rattle.m2_stages.specs.Halves.{after_leaving}
-use Rattle.m2_stages.specs.Outbox.{OutboxNow, OwnsAll}
+use Rattle.m2_center.specs.Halves.{after_leaving}
+use Rattle.m2_center.specs.Outbox.{OutboxNow, OwnsAll}
 
 pub record RestNow (D : Type 0) : Type 0 where
   pub port : SeenPort

@@ -13,7 +13,7 @@ use Rattle.m2_shared.specs.Place.{IsAlone, Place}
 use Rattle.m2_trail.specs.Trails.{TrailNow}
 use Rattle.m2_center.specs.Center.{CenterNow}
 use Rattle.m2_center.specs.CenterTurn.{Answer}
-use Rattle.m2_stages.specs.Planning.{PlansNow}
+use Rattle.m2_center.specs.Planning.{PlansNow}
 
 -- its peer has this place among the nodes
 abbrev pub is_towards : (peer : ℕ) → RecordNow → Bool

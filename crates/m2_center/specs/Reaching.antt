@@ -8,12 +8,12 @@ use Rattle.m2_fabric.specs.End.{SeenEnd}
 use Rattle.m2_fabric.specs.Port.{SeenPort, with_news}
 use Rattle.m2_fabric.specs.Sockets.{same_socket}
 use Rattle.m2_feed.specs.FeedNow.{FeedNow}
-use Rattle.m2_live.specs.Calls.{live_with}
+use Rattle.m2_core.specs.LiveCalls.{live_with}
 use Rattle.m2_record.specs.RecordNow.{RecordNow, ends_of}
 use Rattle.m2_trail.specs.Arrivals.{LooseNow}
-use Rattle.m2_stages.specs.Halves.{AllHalves}
-use Rattle.m2_stages.specs.Hearing as halves
-use Rattle.m2_stages.specs.Sessions.{PendingNow}
+use Rattle.m2_center.specs.Halves.{AllHalves}
+use Rattle.m2_center.specs.Hearing as halves
+use Rattle.m2_center.specs.Sessions.{PendingNow}
 use Rattle.m2_center.specs.Center.{CenterNow}
 use Rattle.m2_center.specs.RecordEnds.{has_end, records_hear}
 

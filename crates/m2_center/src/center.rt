@@ -2,11 +2,11 @@
 
 ghost use Rattle.std.specs.Prelude.{◌≡◌};
 
-use m2_dispatcher::Dispatch;
+use m2_dispatch::Dispatch;
 use m2_fabric::Port;
 use m2_record::Record;
 use m2_shared::{NumberPass, Numbers, TakePass, Throttle};
-use m2_stages::{Outbox, Pendings, Roster};
+use crate::{Outbox, Pendings, Roster};
 use m2_trail::Loose;
 use std::alloc::Global;
 use std::marker::Model;
@@ -50,7 +50,7 @@ pub struct Center<P: Port, D> {
 impl<P: Port, D> Model for Center<P, D> {
     ghost use Rattle.std.specs.Prelude.{◌≡◌, ◌<◌, ◌≤◌, ◌-◌, length, map, vec_capacity, vec_len};
     ghost use Rattle.m2_center.specs.Center.{CenterNow, IsCenter};
-    ghost use Rattle.m2_stages.specs.Sessions.{peer_of};
+    ghost use Rattle.m2_center.specs.Sessions.{peer_of};
     ghost use Rattle.m2_trail.specs.declared.incoming.TheConstants.{MOST_READ};
 
     ghost Value = { CenterNow D };

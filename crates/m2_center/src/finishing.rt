@@ -7,11 +7,11 @@ use crate::center::{Center, NodeShared, Passes};
 use crate::leaving::leave_all;
 use crate::making::Unmade;
 use m2_bytes::Items;
-use m2_dispatcher::Dispatch;
+use m2_dispatch::Dispatch;
 use m2_fabric::{End, Port};
 use m2_record::Record;
 use m2_shared::{TakePass, Throttle};
-use m2_stages::Outbox;
+use crate::Outbox;
 use m2_trail::LooseList;
 use std::marker::Model;
 

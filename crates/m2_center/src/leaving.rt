@@ -3,11 +3,11 @@
 ghost use Rattle.std.specs.Prelude.{◌≡◌, ℕ, ◌-◌, ◌≤◌, List, length, vec_capacity, vec_len};
 ghost use Rattle.m2_fabric.specs.declared.socket.SocketId.{SocketId};
 ghost use Rattle.m2_record.specs.RecordNow.{RecordNow};
-ghost use Rattle.m2_stages.specs.Halves.{after_leaving, halves_of, sessions_with};
-ghost use Rattle.m2_stages.specs.Sessions.{AreConsistent, Supply};
+ghost use Rattle.m2_center.specs.Halves.{after_leaving, halves_of, sessions_with};
+ghost use Rattle.m2_center.specs.Sessions.{AreConsistent, Supply};
 
 use m2_fabric::End;
-use m2_stages::Pendings;
+use crate::Pendings;
 use m2_trail::Loose;
 
 /// Leaves all halves as they are, in order, behind those that are over. Takes no memory.

@@ -8,7 +8,7 @@ ghost use Rattle.m2_record.specs.RecordNow.{ends_of, feed_end};
 use crate::center::Center;
 use m2_fabric::{End, MemoryEnd, MemoryPort, Port, are_in_memory};
 use m2_record::Record;
-use m2_stages::halves_are_in_memory;
+use crate::halves_are_in_memory;
 
 impl<P: MemoryPort, D> Center<P, D>
 where

@@ -11,7 +11,7 @@ use m2_bytes::NoMemory;
 use m2_fabric::{End, Port};
 use m2_journal::PlanStep;
 use m2_record::{Record, RecordParts, Work};
-use m2_stages::plan_at;
+use crate::plan_at;
 
 impl<P: Port, D> Center<P, D> {
     /// The step is the last of the plan of the first record towards the peer at this place among the nodes,

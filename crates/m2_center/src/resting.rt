@@ -4,12 +4,12 @@ ghost use Rattle.std.specs.Prelude.{◌≡◌};
 ghost use Rattle.std.specs.List.{list_all};
 ghost use Rattle.std.specs.Option.{is_some};
 ghost use Rattle.m2_center.specs.Idle.{are_idle, is_delivered, is_idle, is_unheard};
-ghost use Rattle.m2_stages.specs.RecordsTurn as turns;
+ghost use Rattle.m2_center.specs.RecordsTurn as turns;
 
 use crate::center::Center;
 use m2_fabric::{End, Port};
 use m2_record::Record;
-use m2_stages::is_idle;
+use crate::is_idle;
 
 impl<P: Port, D> Center<P, D> {
     /// Whether the center has nothing to do at this moment: the port's last accept found no socket, no half has

@@ -1,13 +1,13 @@
 //! A center's turn.
 
-ghost use Rattle.m2_stages.specs.Beside.{AllKeepCallers, MadeOn, StayConsistent, served};
+ghost use Rattle.m2_center.specs.Beside.{AllKeepCallers, MadeOn, StayConsistent, served};
 ghost use Rattle.m2_center.specs.CenterTurn.{AcceptsSo, AnswersSo, DeliversSo, StepsSo, TakesTurn, accepted_so, answered_so, delivered_so, means_at, stepped_so};
-ghost use Rattle.m2_stages.specs.HalfTurn.{homes};
-ghost use Rattle.m2_stages.specs.HalvesTurn.{TurnsHalves, callers, sessions_of};
-ghost use Rattle.m2_stages.specs.Outbox.{OwnsAll};
-ghost use Rattle.m2_stages.specs.RecordTurn.{means_of};
-ghost use Rattle.m2_stages.specs.RecordsTurn.{TurnsEach, all_amid, around};
-ghost use Rattle.m2_stages.specs.Sessions.{AreConsistent, IsSupplied, peer_of, supply_of};
+ghost use Rattle.m2_center.specs.HalfTurn.{homes};
+ghost use Rattle.m2_center.specs.HalvesTurn.{TurnsHalves, callers, sessions_of};
+ghost use Rattle.m2_center.specs.Outbox.{OwnsAll};
+ghost use Rattle.m2_center.specs.RecordTurn.{means_of};
+ghost use Rattle.m2_center.specs.RecordsTurn.{TurnsEach, all_amid, around};
+ghost use Rattle.m2_center.specs.Sessions.{AreConsistent, IsSupplied, peer_of, supply_of};
 ghost use Rattle.m2_fabric.specs.declared.socket.SocketId.{SocketId};
 ghost use Rattle.m2_record.specs.Stepping.{IsSameWork, KeepsReached};
 ghost use Rattle.std.specs.List.{AllByRecursion};
@@ -15,10 +15,10 @@ ghost use Rattle.std.specs.Prelude.{List, length, map, take, vec_capacity, vec_l
 
 use crate::center::{Center, NodeShared};
 use m2_bytes::NoMemory;
-use m2_dispatcher::Dispatcher;
+use m2_dispatch::Dispatcher;
 use m2_fabric::{End, Port};
 use m2_record::{Record, Work};
-use m2_stages::{
+use crate::{
     Accepted, HalvesTurn, Mailed, Outbox, Pendings, RecordsTurn, Roster, accept_all, are_records,
     empty_mail, turn_each, turn_halves,
 };

@@ -7,8 +7,8 @@ use Rattle.m2_journal.specs.Replay.{AreLawful, after_items}
 use Rattle.m2_journal.specs.SideFacts.{SideFacts}
 use Rattle.m2_journal.specs.State.{State, start}
 use Rattle.m2_journal.specs.Steps.{after}
-use Rattle.m2_paired.specs.LinkOf.{letters}
-use Rattle.m2_paired.specs.Orders.{SideItem, near_item, far_item, near_items, far_items, near_after, far_after, AreNodes, IsHistory, LosslessIsNeverReset}
+use Rattle.m2_never_reset.specs.LinkOf.{letters}
+use Rattle.m2_never_reset.specs.Orders.{SideItem, near_item, far_item, near_items, far_items, near_after, far_after, AreNodes, IsHistory, LosslessIsNeverReset}
 use Rattle.m2_channel.specs.ObservedLaws.{AcknowledgedIsAccepted}
 use Rattle.m2_channel.proofs.Quiet.{acked-leads}
 use Rattle.m2_channel.proofs.Orders.{near-append, far-append, near_on, far_on}

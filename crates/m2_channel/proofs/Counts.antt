@@ -3,7 +3,7 @@ use Rattle.std.proofs.Common.{◌≡◌, ℕ, suc, ◌+◌, ◌≤◌, Bool, tru
 use Rattle.m2_dispatch.specs.Heard.{is_key}
 use Rattle.m2_message.specs.Message.{Content}
 use Rattle.m2_policy.specs.declared.path.Key.{Key}
-use Rattle.m2_crossing.specs.Order.{AreFirstOf}
+use Rattle.m2_never_reset.specs.Order.{AreFirstOf}
 use Rattle.m2_channel.specs.Channel.{KeyedMessage, of_key}
 use Rattle.m2_channel.specs.ChannelLaws.{ComeInOrder, DoneIsAllDispatched}
 use Rattle.m2_channel.proofs.Keys.{same_key, key_self}

@@ -5,15 +5,15 @@ use Rattle.std.proofs.lemmas.List.{map-append}
 use Rattle.std.proofs.lemmas.List.Elements.{filter-append}
 use Rattle.m2_dispatch.specs.Heard as heard
 use Rattle.m2_dispatch.specs.Heard.{Heard, is_key}
-use Rattle.m2_dispatcher.specs.declared.letter.Letter.{Letter}
-use Rattle.m2_dispatcher.specs.declared.parcel.Parcel.{Parcel}
-use Rattle.m2_dispatcher.specs.declared.parcel.Parcel.TheVariants as parcel
-use Rattle.m2_dispatcher.specs.Laws.{Call, Put, Turn, History, start, since, letters_of, after_call, after_calls, EachKeyKeepsItsOrder, DispatchedInOrder, IsSublist}
-use Rattle.m2_dispatcher.specs.Letters.{heard_in, letters_of_key, is_of_key}
-use Rattle.m2_dispatcher.specs.Parcel.{heard_at_put}
+use Rattle.m2_dispatch.specs.declared.letter.Letter.{Letter}
+use Rattle.m2_dispatch.specs.declared.parcel.Parcel.{Parcel}
+use Rattle.m2_dispatch.specs.declared.parcel.Parcel.TheVariants as parcel
+use Rattle.m2_dispatch.specs.Laws.{Call, Put, Turn, History, start, since, letters_of, after_call, after_calls, EachKeyKeepsItsOrder, DispatchedInOrder, IsSublist}
+use Rattle.m2_dispatch.specs.Letters.{heard_in, letters_of_key, is_of_key}
+use Rattle.m2_dispatch.specs.Parcel.{heard_at_put}
 use Rattle.m2_message.specs.Message.{Content, content_of, unnumbered}
 use Rattle.m2_policy.specs.declared.path.Key.{Key}
-use Rattle.m2_crossing.specs.Order.{AreFirstOf}
+use Rattle.m2_never_reset.specs.Order.{AreFirstOf}
 use Rattle.m2_journal.specs.State as state
 use Rattle.m2_journal.specs.State.{Delivery, State}
 use Rattle.m2_channel.specs.Channel as channel

@@ -7,7 +7,7 @@ use Rattle.m2_message.specs.Message.{Content, unnumbered}
 use Rattle.m2_policy.specs.declared.path.Key.{Key}
 use Rattle.m2_policy.specs.declared.path.Path.{Path}
 use Rattle.m2_policy.specs.declared.path.Path.TheVariants.{Fast, Queued}
-use Rattle.m2_crossing.specs.Order.{AreFirstOf}
+use Rattle.m2_never_reset.specs.Order.{AreFirstOf}
 use Rattle.m2_channel.specs.Channel.{KeyedMessage, of_key, keyed, IsNextOf}
 use Rattle.m2_channel.specs.ChannelLaws.{ComeInOrder}
 

@@ -7,8 +7,8 @@ use Rattle.m2_journal.specs.Replay.{AreLawful, after_items}
 use Rattle.m2_journal.specs.SideFacts.{SideFacts}
 use Rattle.m2_journal.specs.State.{State, start}
 use Rattle.m2_journal.specs.Steps.{after}
-use Rattle.m2_paired.specs.Laws.{IsNoDown}
-use Rattle.m2_paired.specs.Orders.{SideItem, near_item, far_item, near_items, far_items, FitThroughout, IsHistory, near_after, far_after, AreNodes, posts_in, LosslessIsNeverReset}
+use Rattle.m2_never_reset.specs.PairLaws.{IsNoDown}
+use Rattle.m2_never_reset.specs.Orders.{SideItem, near_item, far_item, near_items, far_items, FitThroughout, IsHistory, near_after, far_after, AreNodes, posts_in, LosslessIsNeverReset}
 use Rattle.m2_channel.specs.Channel.{Channel, ChannelStep, mark, new_channel, changed, after_step, after_steps, IsRun}
 use Rattle.m2_channel.specs.Observed.{Logs, all_of, is_reset, shown_reset, shown_near, shown_far, shown_from, dispatched_from, observed, turned, marks_down, before_down}
 use Rattle.m2_channel.specs.ObservedLaws.{AreLogsOf, IsLogOf, IsLawfulOrder, IsBroughtToAMark, ObservedIsARunToAMark}

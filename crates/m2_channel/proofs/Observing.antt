@@ -5,12 +5,12 @@ use Rattle.m2_dispatch.specs.Heard as heard
 use Rattle.m2_dispatch.specs.Heard.{Heard, is_key}
 use Rattle.m2_message.specs.Message.{Content, unnumbered}
 use Rattle.m2_policy.specs.declared.path.Key.{Key}
-use Rattle.m2_crossing.specs.Order.{AreFirstOf}
+use Rattle.m2_never_reset.specs.Order.{AreFirstOf}
 use Rattle.m2_journal.specs.SideFacts.{SideFacts}
 use Rattle.m2_journal.specs.State as state
 use Rattle.m2_journal.specs.State.{Delivery, State, start}
-use Rattle.m2_paired.specs.Orders as orders
-use Rattle.m2_paired.specs.Orders.{SideItem, near_items, IsHistory, near_after, far_after, AreNodes, posts_in, LosslessIsNeverReset}
+use Rattle.m2_never_reset.specs.Orders as orders
+use Rattle.m2_never_reset.specs.Orders.{SideItem, near_items, IsHistory, near_after, far_after, AreNodes, posts_in, LosslessIsNeverReset}
 use Rattle.m2_channel.specs.Channel as channel
 use Rattle.m2_channel.specs.Channel.{KeyedMessage, keyed, Channel, ChannelStep, dispatch, new_channel, IsLawful, changed, after_step, after_steps, IsRun, IsNoMark, posts, acceptances, dispatches}
 use Rattle.m2_channel.specs.ChannelLaws.{ComeInOrder}

@@ -8,8 +8,8 @@ use Rattle.m2_message.specs.Message.{Content, unnumbered}
 use Rattle.m2_policy.specs.declared.path.Key.{Key}
 use Rattle.m2_journal.specs.State as state
 use Rattle.m2_journal.specs.State.{Delivery, State}
-use Rattle.m2_paired.specs.LinkOf.{letters}
-use Rattle.m2_paired.specs.Orders.{near_after, far_after, AMessageComesOver, LosslessIsNeverReset}
+use Rattle.m2_never_reset.specs.LinkOf.{letters}
+use Rattle.m2_never_reset.specs.Orders.{near_after, far_after, AMessageComesOver, LosslessIsNeverReset}
 use Rattle.m2_channel.specs.Channel as channel
 use Rattle.m2_channel.specs.Channel.{KeyedMessage, keyed, posts, dispatches}
 use Rattle.m2_channel.specs.Observed.{Logs, observed, heard_from, handed}

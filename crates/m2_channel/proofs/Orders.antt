@@ -10,9 +10,9 @@ use Rattle.m2_journal.specs.Replay.{AreLawful, after_items}
 use Rattle.m2_journal.specs.SideFacts.{SideFacts}
 use Rattle.m2_journal.specs.State.{State, start}
 use Rattle.m2_journal.specs.Steps.{after}
-use Rattle.m2_paired.specs.Fits.{Fits}
-use Rattle.m2_paired.specs.Laws.{IsNoDown}
-use Rattle.m2_paired.specs.Orders.{SideItem, near_item, far_item, near_items, far_items, FitThroughout, IsHistory, near_after, far_after, AreNodes, posted_in, posts_in}
+use Rattle.m2_never_reset.specs.Fits.{Fits}
+use Rattle.m2_never_reset.specs.PairLaws.{IsNoDown}
+use Rattle.m2_never_reset.specs.Orders.{SideItem, near_item, far_item, near_items, far_items, FitThroughout, IsHistory, near_after, far_after, AreNodes, posted_in, posts_in}
 use Rattle.m2_channel.specs.Observed.{turned}
 use Rattle.m2_channel.proofs.Keys.{differ}
 use Rattle.m2_channel.proofs.Runs.{all_first}

@@ -7,16 +7,16 @@ use Rattle.m2_policy.specs.declared.path.Key.{Key}
 use Rattle.m2_session.specs.declared.event.Event.{Event}
 use Rattle.m2_session.specs.declared.session.Session.{Session}
 use Rattle.m2_session.specs.Steps.{step_of}
-use Rattle.m2_crossing.specs.Steps.{times}
+use Rattle.m2_never_reset.specs.Steps.{times}
 use Rattle.m2_journal.specs.Items as item
 use Rattle.m2_journal.specs.Items.{JournalItem}
 use Rattle.m2_journal.specs.Plan.{Planned, to_post, to_dial, to_go_down}
 use Rattle.m2_journal.specs.SideFacts.{SideFacts}
 use Rattle.m2_journal.specs.State.{State}
 use Rattle.m2_journal.specs.Steps.{after, event_at}
-use Rattle.m2_paired.specs.LinkOf.{letters}
-use Rattle.m2_paired.specs.Orders.{SideItem, near_item, far_item, near_items, far_items, trouble_in, IsNoFullReset}
-use Rattle.m2_paired.specs.Trouble.{trouble_at, trouble_told}
+use Rattle.m2_never_reset.specs.LinkOf.{letters}
+use Rattle.m2_never_reset.specs.Orders.{SideItem, near_item, far_item, near_items, far_items, trouble_in, IsNoFullReset}
+use Rattle.m2_never_reset.specs.Trouble.{trouble_at, trouble_told}
 use Rattle.m2_channel.specs.Channel.{ChannelStep, accept, IsNoReset}
 use Rattle.m2_channel.specs.Observed.{brought_on, shown_by_sender, shown_by_reader, shown_down, shown_reset, resets_told, obeys_in_full, is_reset, shown_near, shown_far, shown_from}
 use Rattle.m2_channel.specs.ObservedLaws.{ResetsAreObserved}

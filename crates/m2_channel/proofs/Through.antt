@@ -10,8 +10,8 @@ use Rattle.m2_policy.specs.declared.path.Key.{Key}
 use Rattle.m2_session.specs.declared.event.Event.{Event}
 use Rattle.m2_session.specs.declared.session.Session.{Session}
 use Rattle.m2_session.specs.Steps.{step_of}
-use Rattle.m2_crossing.specs.Order.{AreFirstOf}
-use Rattle.m2_crossing.specs.Steps.{times}
+use Rattle.m2_never_reset.specs.Order.{AreFirstOf}
+use Rattle.m2_never_reset.specs.Steps.{times}
 use Rattle.m2_journal.specs.Feeds.{next_said}
 use Rattle.m2_journal.specs.Items as item
 use Rattle.m2_journal.specs.Items.{JournalItem}
@@ -23,11 +23,11 @@ use Rattle.m2_journal.specs.SideFacts.{SideFacts}
 use Rattle.m2_journal.specs.State as state
 use Rattle.m2_journal.specs.State.{Feed, Delivery, State, start}
 use Rattle.m2_journal.specs.Steps.{after, event_at}
-use Rattle.m2_paired.specs.Laws.{IsNoDown}
-use Rattle.m2_paired.specs.LinkOf.{letters}
-use Rattle.m2_paired.specs.Orders as orders
-use Rattle.m2_paired.specs.Orders.{SideItem, near_item, far_item, near_items, far_items, IsHistory, near_after, far_after, trouble_in, AreNodes, posted_in, posts_in, IsNoFullReset, IsNeverReset, LosslessIsNeverReset}
-use Rattle.m2_paired.specs.Trouble.{trouble_at, trouble_told}
+use Rattle.m2_never_reset.specs.PairLaws.{IsNoDown}
+use Rattle.m2_never_reset.specs.LinkOf.{letters}
+use Rattle.m2_never_reset.specs.Orders as orders
+use Rattle.m2_never_reset.specs.Orders.{SideItem, near_item, far_item, near_items, far_items, IsHistory, near_after, far_after, trouble_in, AreNodes, posted_in, posts_in, IsNoFullReset, IsNeverReset, LosslessIsNeverReset}
+use Rattle.m2_never_reset.specs.Trouble.{trouble_at, trouble_told}
 use Rattle.m2_channel.specs.Channel as channel
 use Rattle.m2_channel.specs.Channel.{KeyedMessage, keyed, Channel, ChannelStep, post, accept, dispatch, acknowledge, mark, reset, new_channel, IsLawful, changed, after_step, after_steps, IsRun, IsNoMark}
 use Rattle.m2_channel.specs.Observed.{shown_by_sender, shown_by_reader, shown_down, shown_reset, brought_on, brought_by, resets_told, obeys_in_full, is_reset, shown_near, shown_far, shown_from, handed, IsLetter}

@@ -5,12 +5,12 @@ use Rattle.std.proofs.lemmas.Bool.{eq-eqb}
 use Rattle.std.proofs.lemmas.List.{map-append}
 use Rattle.m2_dispatch.specs.Heard as heard
 use Rattle.m2_dispatch.specs.Heard.{Heard, is_key, is_path}
-use Rattle.m2_dispatcher.specs.Laws.{Call, IsSublist, start}
+use Rattle.m2_dispatch.specs.Laws.{Call, IsSublist, start}
 use Rattle.m2_message.specs.Message.{Content, unnumbered}
 use Rattle.m2_policy.specs.declared.path.Key.{Key}
 use Rattle.m2_policy.specs.declared.path.Path.{Path}
 use Rattle.m2_policy.specs.declared.path.Path.TheVariants.{Fast, Queued}
-use Rattle.m2_crossing.specs.Order.{AreFirstOf}
+use Rattle.m2_never_reset.specs.Order.{AreFirstOf}
 use Rattle.m2_journal.specs.State as state
 use Rattle.m2_journal.specs.State.{Delivery, State}
 use Rattle.m2_channel.specs.Channel as channel

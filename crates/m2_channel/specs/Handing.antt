@@ -4,12 +4,12 @@ use Rattle.std.specs.Prelude.{◌≡◌, ℕ, ◌==◌, if◌then◌else◌, Lis
 use Rattle.std.specs.List.{AllByRecursion, filter}
 use Rattle.m2_dispatch.specs.Heard as heard
 use Rattle.m2_dispatch.specs.Heard.{Heard, is_path}
-use Rattle.m2_dispatcher.specs.declared.letter.Letter.{Letter}
-use Rattle.m2_dispatcher.specs.declared.parcel.Parcel.{Parcel}
-use Rattle.m2_dispatcher.specs.declared.parcel.Parcel.TheVariants as parcel
-use Rattle.m2_dispatcher.specs.Laws.{Call, Put, Turn, History, IsSublist, start, after_call}
-use Rattle.m2_dispatcher.specs.Letters.{heard_in}
-use Rattle.m2_dispatcher.specs.Parcel.{heard_at_put}
+use Rattle.m2_dispatch.specs.declared.letter.Letter.{Letter}
+use Rattle.m2_dispatch.specs.declared.parcel.Parcel.{Parcel}
+use Rattle.m2_dispatch.specs.declared.parcel.Parcel.TheVariants as parcel
+use Rattle.m2_dispatch.specs.Laws.{Call, Put, Turn, History, IsSublist, start, after_call}
+use Rattle.m2_dispatch.specs.Letters.{heard_in}
+use Rattle.m2_dispatch.specs.Parcel.{heard_at_put}
 use Rattle.m2_message.specs.Message.{content_of, unnumbered}
 use Rattle.m2_policy.specs.declared.path.Key.{Key}
 use Rattle.m2_policy.specs.declared.path.Path.TheVariants.{Fast}

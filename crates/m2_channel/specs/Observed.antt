@@ -18,8 +18,8 @@ use Rattle.m2_journal.specs.SideFacts.{SideFacts}
 use Rattle.m2_journal.specs.State as state
 use Rattle.m2_journal.specs.State.{Feed, Delivery, State, start}
 use Rattle.m2_journal.specs.Steps.{after, event_at}
-use Rattle.m2_paired.specs.LinkOf.{letters}
-use Rattle.m2_paired.specs.Orders.{SideItem, near_item, far_item}
+use Rattle.m2_never_reset.specs.LinkOf.{letters}
+use Rattle.m2_never_reset.specs.Orders.{SideItem, near_item, far_item}
 use Rattle.m2_channel.specs.Channel.{KeyedMessage, keyed, ChannelStep, post, accept, dispatch, acknowledge, mark, reset}
 
 -- ---- what an entry shows

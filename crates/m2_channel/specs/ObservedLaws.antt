@@ -11,10 +11,10 @@ use Rattle.m2_journal.specs.Lawful.{key_of}
 use Rattle.m2_journal.specs.Replay.{AreLawful}
 use Rattle.m2_journal.specs.SideFacts.{SideFacts}
 use Rattle.m2_journal.specs.State.{State, start}
-use Rattle.m2_crossing.specs.Order.{AreFirstOf}
-use Rattle.m2_paired.specs.LinkOf.{letters}
-use Rattle.m2_paired.specs.Orders as orders
-use Rattle.m2_paired.specs.Orders.{SideItem, near_item, far_item, near_items, far_items, near_after, far_after, posts_in, trouble_in, AreNodes, FitThroughout, IsHistory, IsNoFullReset}
+use Rattle.m2_never_reset.specs.Order.{AreFirstOf}
+use Rattle.m2_never_reset.specs.LinkOf.{letters}
+use Rattle.m2_never_reset.specs.Orders as orders
+use Rattle.m2_never_reset.specs.Orders.{SideItem, near_item, far_item, near_items, far_items, near_after, far_after, posts_in, trouble_in, AreNodes, FitThroughout, IsHistory, IsNoFullReset}
 use Rattle.m2_channel.specs.Channel as channel
 use Rattle.m2_channel.specs.Channel.{KeyedMessage, keyed, new_channel, after_steps, IsRun, IsNoMark, IsNoReset, unmarked, posts, acceptances, dispatches}
 use Rattle.m2_channel.specs.ChannelLaws.{IsDelivered}

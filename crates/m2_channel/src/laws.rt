@@ -5,8 +5,8 @@ ghost use Rattle.m2_channel.specs.ChannelLaws as laws;
 ghost use Rattle.m2_channel.specs.Handing as handing;
 ghost use Rattle.m2_channel.specs.ObservedLaws as observed;
 
-use m2_dispatcher::each_key_keeps_its_order;
-use m2_paired::{a_message_comes_over, lossless_is_never_reset};
+use m2_dispatch::each_key_keeps_its_order;
+use m2_never_reset::{a_message_comes_over, lossless_is_never_reset};
 
 /// Wherever a run of the channel leads, of each key what is dispatched is the first ones of what is
 /// accepted, and that of what is posted, in order, each once; and what is acknowledged was accepted.

@@ -1,9 +1,15 @@
+pub mod Cuts
+pub mod Leaving
 pub mod Listings
 pub mod LoadLinks
 pub mod Loads
 pub mod Made
 pub mod Memory
 pub mod Orders
+pub mod Parses
+pub mod Pieces
 pub mod Programs
 pub mod Says
+pub mod Steps
+pub mod Told
 pub mod Tops

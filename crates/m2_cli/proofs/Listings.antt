@@ -5,11 +5,11 @@ use Rattle.std.proofs.Math.Seq.{take-length}
 use Rattle.m2_edge.specs.Faults.{HasRisen}
 use Rattle.m2_edge.specs.Sink.{SeenSink, IsFlushed}
 use Rattle.m2_edge.specs.Source.{SeenSource, IsPrefixOf}
-use Rattle.m2_listing.specs.Lines.{lines_of}
-use Rattle.m2_listing.specs.declared.listing.TheConstants.{LIMIT}
-use Rattle.m2_listing.specs.Listing.{Lists, ListsPrefix, Listed, Broken, IsAll, IsFaultCause, StandsBy}
-use Rattle.m2_listing.specs.declared.listing.Listing.{Listing}
-use Rattle.m2_listing.specs.declared.listing.Listing.TheVariants as listing
+use Rattle.m2_cli.specs.Lines.{lines_of}
+use Rattle.m2_cli.specs.declared.listing.TheConstants.{LIMIT}
+use Rattle.m2_cli.specs.Listing.{Lists, ListsPrefix, Listed, Broken, IsAll, IsFaultCause, StandsBy}
+use Rattle.m2_cli.specs.declared.listing.Listing.{Listing}
+use Rattle.m2_cli.specs.declared.listing.Listing.TheVariants as listing
 use Rattle.m2_cli.specs.declared.status.Status.{Status}
 use Rattle.m2_cli.specs.declared.status.Status.TheVariants as status
 use Rattle.m2_cli.specs.Edge.{Edge, IsCause, StandsSomewhere}

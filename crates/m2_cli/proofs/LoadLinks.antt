@@ -3,10 +3,10 @@ use Rattle.std.proofs.Common.{◌≡◌, ℕ, zero, suc, ◌==◌, ◌%◌, Bool
 use Rattle.std.specs.List.{AllByRecursion, list_any}
 use Rattle.std.proofs.lemmas.List.Folds.{list_any-append}
 use Rattle.m2_dispatch.specs.declared.logged.Logged.{Logged}
-use Rattle.m2_generate.specs.Cluster.{all_pairs}
-use Rattle.m2_generate.specs.Generated.{draws_of, fault_after, first_lines, generated, lines_by, settle_by}
-use Rattle.m2_order.specs.Laws.{AreAll}
-use Rattle.m2_sim.specs.Run.{IsMarkedSo, gave_up_at, is_down_of}
+use Rattle.m2_scenario.specs.Cluster.{all_pairs}
+use Rattle.m2_scenario.specs.Generated.{draws_of, fault_after, first_lines, generated, lines_by, settle_by}
+use Rattle.m2_scenario.specs.OrderLaws.{AreAll}
+use Rattle.m2_cli.specs.Run.{IsMarkedSo, gave_up_at, is_down_of}
 use Rattle.m2_scenario.specs.declared.link.Link.{Link}
 use Rattle.m2_scenario.specs.Draft.{DraftLine, settle}
 use Rattle.m2_script.specs.Outcome.{is_down_at, is_lossless, is_up}

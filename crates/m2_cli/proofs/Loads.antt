@@ -3,9 +3,9 @@ use Rattle.std.proofs.Common.{◌≡◌, ◌∙◌, ℕ, ◌==◌, Bool, true, f
 use Rattle.std.specs.Prelude.{count_by}
 use Rattle.std.proofs.lemmas.Bool.{eqb-true}
 use Rattle.m2_edge.specs.Sink.{TakesBytes, TakesPrefix}
-use Rattle.m2_order.specs.Laws.{CallsAndLeftArePosts}
+use Rattle.m2_scenario.specs.OrderLaws.{CallsAndLeftArePosts}
 use Rattle.m2_scenario.specs.Draft.{is_post}
-use Rattle.m2_generate.specs.Generated.{generated}
+use Rattle.m2_scenario.specs.Generated.{generated}
 use Rattle.m2_cli.specs.declared.printout.Printout.{Printout}
 use Rattle.m2_cli.specs.declared.status.Status.{Status}
 use Rattle.m2_cli.specs.declared.status.Status.TheVariants as status

@@ -1,12 +1,12 @@
 -- A run of a scenario that a draft makes is a run of the draft.
 use Rattle.std.proofs.Common.{◌≡◌, List, map, subst}
-use Rattle.m2_outcome.specs.declared.outcome.Outcome.{Outcome}
+use Rattle.m2_script.specs.declared.outcome.Outcome.{Outcome}
 use Rattle.m2_scenario.specs.declared.line.Line.{Line}
 use Rattle.m2_scenario.specs.declared.link.Link.{Link}
 use Rattle.m2_scenario.specs.declared.node.Node.{Node}
 use Rattle.m2_scenario.specs.Draft.{Draft, DraftLine, draft_line}
 use Rattle.m2_scenario.specs.Valid.{IsSound}
-use Rattle.m2_sim.specs.Run.{IsOutcome, IsScriptRun, KeepsPromise}
+use Rattle.m2_cli.specs.Run.{IsOutcome, IsScriptRun, KeepsPromise}
 use Rattle.m2_cli.specs.Verdict.{IsRunOf}
 
 pub run_of_made : (d : Draft) (nodes : List Node) (links : List Link) (lines : List Line) (o : Outcome) → nodes ≡ d.nodes → links ≡ d.links

@@ -2,7 +2,7 @@
 use Rattle.std.proofs.Common.{◌≡◌, ◌∙◌, [], Option, None, Some, refl, sym, ap, append-nil, inl, inr}
 use Rattle.m2_edge.specs.Sink.{SeenSink}
 use Rattle.m2_edge.specs.Source.{SeenSource, IsWhereItWas}
-use Rattle.m2_command.specs.Form.{Form, sim_of, frames_of, load_of, MatchForm}
+use Rattle.m2_cli.specs.Form.{Form, sim_of, frames_of, load_of, MatchForm}
 use Rattle.m2_cli.specs.declared.status.Status.{Status}
 use Rattle.m2_cli.specs.declared.status.Status.TheVariants.{NoMemory}
 use Rattle.m2_cli.specs.Edge.{Edge}

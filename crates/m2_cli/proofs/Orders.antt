@@ -6,10 +6,10 @@ use Rattle.std.proofs.lemmas.Bool.{eqb-true}
 use Rattle.m2_dispatch.specs.declared.logged.Logged.{Logged}
 use Rattle.m2_dispatch.specs.Heard.{heard_by}
 use Rattle.m2_edge.specs.Sink.{SeenSink, TakesBytes, TakesPrefix}
-use Rattle.m2_order.specs.Laws.{CallsAndLeftArePosts}
-use Rattle.m2_order.specs.Order.{AreCounted, HearsPrefix, HearsWhole, OverEach, fast_of}
-use Rattle.m2_sim.specs.Run.{HearsSome, IsMarkedSo, is_lossy}
-use Rattle.m2_report.specs.Report.{report_of}
+use Rattle.m2_scenario.specs.OrderLaws.{CallsAndLeftArePosts}
+use Rattle.m2_scenario.specs.Order.{AreCounted, HearsPrefix, HearsWhole, OverEach, fast_of}
+use Rattle.m2_cli.specs.Run.{HearsSome, IsMarkedSo, is_lossy}
+use Rattle.m2_scenario.specs.Report.{report_of}
 use Rattle.m2_scenario.specs.declared.link.Link.{Link}
 use Rattle.m2_scenario.specs.Draft.{Draft, DraftLine}
 use Rattle.m2_script.specs.Outcome.{all_heard, is_up, left_in}

@@ -9,7 +9,7 @@ use Rattle.m2_cli.specs.Program.{PrintsTheReport, PrintsTheLoad, PrintsWhereDone
 use Rattle.m2_cli.specs.Load.{IsLoadRun, LoadComesTo, RunsLoad}
 use Rattle.m2_cli.specs.Top.{Ends, IsRunToEnd, RunsFile}
 use Rattle.m2_cli.specs.Verdict.{ComesTo}
-use Rattle.m2_command.specs.Form.{Form, sim_of, frames_of, load_of}
+use Rattle.m2_cli.specs.Form.{Form, sim_of, frames_of, load_of}
 
 -- all that was taken is flushed, where nothing lay in the sink before
 flushed_whole : (text : List ℕ) (old new : SeenSink) → Delivers text old new → old.taken ≡ [] → old.flushed ≡ [] → new.flushed ≡ text

@@ -5,9 +5,9 @@ use Rattle.m2_edge.specs.Sink.{SeenSink, IsFlushed}
 use Rattle.m2_edge.specs.Whole.{StandsIn}
 use Rattle.m2_frame.specs.declared.fault.FrameFault.{FrameFault}
 use Rattle.m2_frame.specs.declared.fault.FrameFault.TheVariants as fault
-use Rattle.m2_listing.specs.Listing.{Lists, ListsPrefix}
-use Rattle.m2_listing.specs.declared.listing.Listing.{Listing}
-use Rattle.m2_listing.specs.declared.listing.Listing.TheVariants as listing
+use Rattle.m2_cli.specs.Listing.{Lists, ListsPrefix}
+use Rattle.m2_cli.specs.declared.listing.Listing.{Listing}
+use Rattle.m2_cli.specs.declared.listing.Listing.TheVariants as listing
 use Rattle.m2_cli.specs.Edge.{Edge, SourceFailed, OutFailed, StandsSomewhere}
 use Rattle.m2_cli.specs.declared.status.Status.{Status}
 use Rattle.m2_cli.specs.declared.status.Status.TheVariants.{Done, Usage, BadScenario, ReadFault, WriteFault, Left, NoMemory, BadFrames}

@@ -5,8 +5,8 @@ use Rattle.std.specs.List.{AllByRecursion}
 use Rattle.m2_dispatch.specs.declared.logged.Logged.{Logged}
 use Rattle.m2_dispatch.specs.Heard.{heard_by}
 use Rattle.m2_edge.specs.Sink.{TakesBytes, TakesPrefix}
-use Rattle.m2_generate.specs.Generated.{generated}
-use Rattle.m2_sim.specs.Run.{gave_up_at}
+use Rattle.m2_scenario.specs.Generated.{generated}
+use Rattle.m2_cli.specs.Run.{gave_up_at}
 use Rattle.m2_scenario.specs.declared.link.Link.{Link}
 use Rattle.m2_script.specs.Outcome.{all_heard, left_in}
 use Rattle.m2_script.specs.Script.{RunNow}

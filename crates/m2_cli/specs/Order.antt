@@ -9,10 +9,10 @@ use Rattle.std.specs.List.{AllByRecursion}
 use Rattle.m2_dispatch.specs.declared.logged.Logged.{Logged}
 use Rattle.m2_dispatch.specs.Heard.{heard_by}
 use Rattle.m2_edge.specs.Sink.{TakesBytes, TakesPrefix}
-use Rattle.m2_order.specs.Laws.{AreAll}
-use Rattle.m2_order.specs.Order.{AreCounted, AreOfJoined, HearsNoReset, HearsPrefix, HearsWhole, OverEach, fast_of}
-use Rattle.m2_sim.specs.Run.{HearsSome, IsAccountedOver, IsMarkedSo, is_lossy}
-use Rattle.m2_report.specs.Report.{report_of}
+use Rattle.m2_scenario.specs.OrderLaws.{AreAll}
+use Rattle.m2_scenario.specs.Order.{AreCounted, AreOfJoined, HearsNoReset, HearsPrefix, HearsWhole, OverEach, fast_of}
+use Rattle.m2_cli.specs.Run.{HearsSome, IsAccountedOver, IsMarkedSo, is_lossy}
+use Rattle.m2_scenario.specs.Report.{report_of}
 use Rattle.m2_scenario.specs.declared.link.Link.{Link}
 use Rattle.m2_scenario.specs.Draft.{Draft, is_post}
 use Rattle.m2_script.specs.Outcome.{all_heard, is_up, left_in}

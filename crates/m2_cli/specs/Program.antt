@@ -7,7 +7,7 @@ use Rattle.m2_cli.specs.declared.status.Status.{Status}
 use Rattle.m2_cli.specs.declared.status.Status.TheVariants.{Done}
 use Rattle.m2_cli.specs.Edge.{read_limit}
 use Rattle.m2_cli.specs.Verdict.{ComesTo}
-use Rattle.m2_command.specs.Form.{Form, MatchForm}
+use Rattle.m2_cli.specs.Form.{Form, MatchForm}
 use Rattle.m2_cli.specs.Load.{LoadComesTo}
 
 -- The file was read whole, and what the source gave of it comes to Done: a run of its scenario leaves nothing undelivered. Standard

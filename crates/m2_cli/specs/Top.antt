@@ -7,7 +7,7 @@ use Rattle.m2_cli.specs.Edge.{Edge, SourceFailed, OutFailed, StandsSomewhere, Is
 use Rattle.m2_cli.specs.Frames.{ListsFile}
 use Rattle.m2_cli.specs.Print.{Delivers, SaysStatus}
 use Rattle.m2_cli.specs.Verdict.{ComesTo}
-use Rattle.m2_command.specs.Form.{Form, MatchForm}
+use Rattle.m2_cli.specs.Form.{Form, MatchForm}
 use Rattle.m2_cli.specs.Load.{RunsLoad, KeepsLoad, IsUntouched}
 use Rattle.m2_cli.specs.Order.{KeepsOrder}
 

@@ -4,15 +4,15 @@ use Rattle.m2_dispatch.specs.declared.logged.Logged.{Logged}
 use Rattle.m2_dispatch.specs.Heard.{heard_by}
 use Rattle.m2_cli.specs.declared.status.Status.{Status}
 use Rattle.m2_cli.specs.declared.status.Status.TheVariants.{Done, BadScenario, Left}
-use Rattle.m2_sim.specs.Run.{IsScriptRun, KeepsPromise}
-use Rattle.m2_report.specs.Report.{report_of}
+use Rattle.m2_cli.specs.Run.{IsScriptRun, KeepsPromise}
+use Rattle.m2_scenario.specs.Report.{report_of}
 use Rattle.m2_scenario.specs.declared.line.Line.{Line}
 use Rattle.m2_scenario.specs.Draft.{Draft, draft_line}
 use Rattle.m2_scenario.specs.Valid.{IsSound}
 use Rattle.m2_scenario_text.specs.Reading.{At, text_read}
 use Rattle.m2_script.specs.Outcome.{all_heard, left_in}
 use Rattle.m2_script.specs.Script.{RunNow}
-use Rattle.m2_words.specs.Kind.{number_of_kind}
+use Rattle.m2_scenario.specs.Kind.{number_of_kind}
 
 -- ---- the scenario
 

@@ -9,7 +9,7 @@ use crate::print::say_made;
 use crate::status::Status;
 use m2_edge::{Failed, Sink, Source};
 use m2_frame::FrameFault;
-use m2_listing::{Listing, list_frames};
+use crate::{Listing, list_frames};
 use std::alloc::Global;
 
 /// Lists the frames of a file.

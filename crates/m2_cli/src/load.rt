@@ -2,7 +2,7 @@
 
 ghost use Rattle.std.specs.Prelude.{◌≡◌, ◌≤◌, IfOk, length, map, sum_by};
 ghost use Rattle.m2_edge.specs.Source.{SeenSource};
-ghost use Rattle.m2_report.specs.Report.{heard_in};
+ghost use Rattle.m2_scenario.specs.Report.{heard_in};
 ghost use Rattle.m2_scenario.specs.declared.limits.TheConstants.{MOST_POSTS};
 ghost use Rattle.m2_cli.specs.Edge.{edge};
 ghost use Rattle.m2_cli.specs.Load.{load_lines, IsCounted, KeepsLoad, LoadComesTo, RunsLoad};
@@ -15,12 +15,12 @@ use crate::printout::{Printout, status_by_count, with_line};
 use crate::status::Status;
 use m2_bytes::{Blob, NoMemory, put_decimal};
 use m2_edge::Sink;
-use m2_generate::{generate, posts_are_as_many_as_asked};
-use m2_order::calls_and_left_are_posts;
-use m2_outcome::Outcome;
-use m2_report::LogsList;
+use m2_scenario::{generate, posts_are_as_many_as_asked};
+use m2_scenario::calls_and_left_are_posts;
+use m2_script::Outcome;
+use m2_scenario::LogsList;
 use m2_scenario::Scenario;
-use m2_sim::run;
+use crate::run;
 use std::alloc::Global;
 
 /// Runs generated load, and prints how many messages were posted, dispatched and left. It touches no source.

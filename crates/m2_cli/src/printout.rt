@@ -5,18 +5,18 @@ ghost use Rattle.m2_cli.specs.declared.status.Status.TheVariants as statuses;
 ghost use Rattle.m2_cli.specs.Verdict.{ComesTo, RunComesTo, status_by_count};
 ghost use Rattle.m2_cli.specs.Printout.{IsPrintout, IsPrintoutBy, PreparesFile};
 ghost use Rattle.m2_edge.specs.Whole.{HasReadCause};
-ghost use Rattle.m2_report.specs.Report.{report_of};
+ghost use Rattle.m2_scenario.specs.Report.{report_of};
 ghost use Rattle.m2_scenario.specs.Draft.{Draft, IsMade};
 ghost use Rattle.m2_scenario.specs.Valid.{IsValid};
 
 use crate::status::{Status, line};
 use m2_bytes::{Blob, Items, NoMemory};
 use m2_edge::{ReadFault, Source, read_whole};
-use m2_outcome::Outcome;
-use m2_report::report;
+use m2_script::Outcome;
+use m2_scenario::report;
 use m2_scenario::Scenario;
 use m2_scenario_text::{BadScenario, MOST_BYTES, read};
-use m2_sim::run;
+use crate::run;
 use std::alloc::Global;
 
 /// How a scenario ends, its report, and the line that standard error is to get.

@@ -2,7 +2,7 @@
 
 ghost use Rattle.std.specs.Prelude.{map, string_bytes};
 ghost use Rattle.m2_cli.specs.Program.{PrintsWhereDone};
-ghost use Rattle.m2_command.specs.Form.{form_in};
+ghost use Rattle.m2_cli.specs.Form.{form_in};
 
 use crate::status::Status;
 use crate::top::msgr2;

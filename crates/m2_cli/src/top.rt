@@ -4,7 +4,7 @@ ghost use Rattle.std.specs.Prelude.{◌≡◌, Some, map, string_bytes};
 ghost use Rattle.m2_cli.specs.Edge.{HasCauses, edge};
 ghost use Rattle.m2_cli.specs.Order.{KeepsOrder};
 ghost use Rattle.m2_cli.specs.Top.{Ends, KeepsItsOrder, RunsFile};
-ghost use Rattle.m2_command.specs.Form.{form_in, form_of, IsWithin, MatchForm};
+ghost use Rattle.m2_cli.specs.Form.{form_in, form_of, IsWithin, MatchForm};
 ghost use Rattle.m2_cli.specs.Work.{Works};
 
 use crate::frames::frames;
@@ -13,9 +13,9 @@ use crate::print::{print, say_fixed};
 use crate::printout::prepare_file;
 use crate::status::Status;
 use m2_bytes::NoMemory;
-use m2_command::{Command, command_of};
+use crate::{Command, command_of};
 use m2_edge::{ReadFault, Sink, Source};
-use m2_order::calls_and_left_are_posts;
+use m2_scenario::calls_and_left_are_posts;
 use std::alloc::Global;
 
 /// Runs the command that the words name, prints its report on `out`, says on `err` how it ended, and

@@ -13,7 +13,7 @@ use Rattle.m2_center.specs.Center.{CenterNow}
 use Rattle.m2_center.specs.Reaching.{after_hearing, has_half, rest_in}
 use Rattle.m2_center.specs.RecordEnds.{has_end, records_hear}
 use Rattle.m2_center.proofs.RecordsHear.{among_both, center_rest}
-use Rattle.m2_stages.specs.Hearing as halves
+use Rattle.m2_center.specs.Hearing as halves
 use Rattle.m2_cluster.specs.Node.{NodeNow, all_to_come, are_apart, is_to_come, rest_at, rest_of_node}
 
 -- ---- a socket comes

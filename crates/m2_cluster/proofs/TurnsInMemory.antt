@@ -13,15 +13,15 @@ use Rattle.m2_record.specs.declared.due.Due.{Due}
 use Rattle.m2_record.specs.declared.due.Due.TheVariants as due
 use Rattle.m2_record.specs.Due.{due_step}
 use Rattle.m2_record.specs.RecordNow.{RecordNow}
-use Rattle.m2_stages.specs.declared.accepting.Accepted.{Accepted}
-use Rattle.m2_stages.specs.declared.accepting.Accepted.TheVariants as accepted
-use Rattle.m2_stages.specs.declared.records_turn.RecordsTurn.{RecordsTurn}
-use Rattle.m2_stages.specs.declared.records_turn.RecordsTurn.TheVariants as turn
-use Rattle.m2_stages.specs.Accepting.{Accepting, AcceptsAll, EndsWith, TakesAll}
-use Rattle.m2_stages.specs.Connecting.{AtPort, DialsFor, DialsIfDue}
-use Rattle.m2_stages.specs.Outbox.{is_free}
-use Rattle.m2_stages.specs.RecordTurn.{Means}
-use Rattle.m2_stages.specs.RecordsTurn.{AllAmid, Amid, Around, DialsAndSteps, EachTurns, TurnsEach, TurnsIf, TurnsInOrder, TurnsOne, amid, at_port}
+use Rattle.m2_center.specs.declared.accepting.Accepted.{Accepted}
+use Rattle.m2_center.specs.declared.accepting.Accepted.TheVariants as accepted
+use Rattle.m2_center.specs.declared.records_turn.RecordsTurn.{RecordsTurn}
+use Rattle.m2_center.specs.declared.records_turn.RecordsTurn.TheVariants as turn
+use Rattle.m2_center.specs.Accepting.{Accepting, AcceptsAll, EndsWith, TakesAll}
+use Rattle.m2_center.specs.Connecting.{AtPort, DialsFor, DialsIfDue}
+use Rattle.m2_center.specs.Outbox.{is_free}
+use Rattle.m2_center.specs.RecordTurn.{Means}
+use Rattle.m2_center.specs.RecordsTurn.{AllAmid, Amid, Around, DialsAndSteps, EachTurns, TurnsEach, TurnsIf, TurnsInOrder, TurnsOne, amid, at_port}
 use Rattle.m2_center.specs.Center.{CenterNow}
 use Rattle.m2_center.specs.CenterTurn.{AndThen, Answer, AnswersSo, AcceptsSo, DeliversSo, Part, StepsSo, TakesTurn}
 

@@ -9,7 +9,7 @@ ghost use Rattle.m2_record.specs.IsRecord.{CanBePlanned};
 
 use crate::node::Node;
 use m2_bytes::NoMemory;
-use m2_dispatcher::Dispatcher;
+use m2_dispatch::Dispatcher;
 use m2_fabric::{MemoryEnd, MemoryPort, Port};
 use m2_journal::PlanStep;
 use std::alloc::Global;

@@ -1,7 +1,7 @@
 //! All nodes of a cluster in memory.
 //!
 //! What it is: [`Cluster`], the nodes in order, each a [`Node`] with its center and what its threads share. It is
-//! the holder of all ends for whoever passes on what flows between the nodes (`m2_sim_net`). What it isn't: what
+//! the holder of all ends for whoever passes on what flows between the nodes (`m2_fabric`). What it isn't: what
 //! flows between nodes, or a script of turns.
 #![tactic(auto)]
 

@@ -12,7 +12,7 @@ ghost use Rattle.m2_record.specs.Sources.{end_at};
 
 use m2_bytes::NoMemory;
 use m2_center::{Center, NodeShared};
-use m2_dispatcher::Dispatcher;
+use m2_dispatch::Dispatcher;
 use m2_fabric::{EndLog, MemoryEnd, MemoryPort, News, Port, SocketId, SocketIdList};
 use m2_journal::PlanStep;
 use std::marker::Model;

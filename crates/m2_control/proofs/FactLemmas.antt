@@ -10,7 +10,7 @@ use Rattle.m2_addr.specs.Reading.{◌>>=◌}
 use Rattle.m2_addr.specs.Vector.{vector_at, main_of, main_at}
 use Rattle.m2_addr.proofs.Exact.{ok_is}
 use Rattle.m2_addr.proofs.Mains.{main_then, main_in}
-use Rattle.m2_tag.specs.declared.tag.Tag.TheVariants as tag
+use Rattle.m2_frame.specs.declared.tag.Tag.TheVariants as tag
 use Rattle.m2_control.specs.declared.fault.ControlFault.{ControlFault}
 use Rattle.m2_control.specs.declared.fault.ControlFault.TheVariants.{Extra, Address}
 use Rattle.m2_control.specs.declared.ident.Tail.{Tail}

@@ -2,8 +2,8 @@
 use Rattle.std.proofs.Common.{◌≡◌, ◌≢◌, ℕ, Bool, true, false, if◌then◌else◌, List, Result, Ok, Err, refl}
 use Rattle.std.specs.Int.{Width, w8, w32, w64}
 use Rattle.m2_addr.specs.Reading.{◌>>=◌, number, checked, ◌⊳◌, made}
-use Rattle.m2_tag.specs.declared.tag.Tag.{Tag}
-use Rattle.m2_tag.specs.declared.tag.Tag.TheVariants as tag
+use Rattle.m2_frame.specs.declared.tag.Tag.{Tag}
+use Rattle.m2_frame.specs.declared.tag.Tag.TheVariants as tag
 use Rattle.m2_control.specs.declared.fault.ControlFault.{ControlFault}
 use Rattle.m2_control.specs.declared.fault.ControlFault.TheVariants.{Short, BadValue, NoMemory}
 use Rattle.m2_control.specs.Fields.{bounded_at, flag_at}

@@ -1,8 +1,8 @@
 -- No two tags have one number.
 use Rattle.std.proofs.Common.{◌≡◌, ℕ, eqb, cond, refl, sym, ap, ◌∙◌}
-use Rattle.m2_tag.specs.declared.tag.Tag.{Tag}
-use Rattle.m2_tag.specs.declared.tag.Tag.TheVariants as tag
-use Rattle.m2_tag.specs.Tags.{tag_number}
+use Rattle.m2_frame.specs.declared.tag.Tag.{Tag}
+use Rattle.m2_frame.specs.declared.tag.Tag.TheVariants as tag
+use Rattle.m2_frame.specs.Tags.{tag_number}
 
 numbered : ℕ → Tag
 numbered n = cond (eqb n 1) tag.Hello (cond (eqb n 2) tag.AuthRequest (cond (eqb n 3) tag.AuthBadMethod (cond (eqb n 4) tag.AuthReplyMore (cond (eqb n 5) tag.AuthRequestMore (cond (eqb n 6) tag.AuthDone (cond (eqb n 7) tag.AuthSignature (cond (eqb n 8) tag.ClientIdent (cond (eqb n 9) tag.ServerIdent (cond (eqb n 10) tag.IdentMissingFeatures (cond (eqb n 11) tag.SessionReconnect (cond (eqb n 12) tag.SessionReset (cond (eqb n 13) tag.SessionRetry (cond (eqb n 14) tag.SessionRetryGlobal (cond (eqb n 15) tag.SessionReconnectOk (cond (eqb n 16) tag.Wait (cond (eqb n 17) tag.Message (cond (eqb n 18) tag.Keepalive (cond (eqb n 19) tag.KeepaliveAck (cond (eqb n 20) tag.Ack (cond (eqb n 21) tag.CompressionRequest (tag.CompressionDone)))))))))))))))))))))

@@ -18,8 +18,8 @@ use Rattle.m2_control.specs.declared.fault.ControlFault.{ControlFault}
 use Rattle.m2_control.specs.declared.fault.ControlFault.TheVariants.{Short, Extra, BadValue, Address}
 use Rattle.m2_control.specs.declared.control.Control.{Control}
 use Rattle.m2_control.specs.declared.control.Control.TheVariants as control
-use Rattle.m2_tag.specs.declared.tag.Tag.{Tag}
-use Rattle.m2_tag.specs.declared.tag.Tag.TheVariants as tag
+use Rattle.m2_frame.specs.declared.tag.Tag.{Tag}
+use Rattle.m2_frame.specs.declared.tag.Tag.TheVariants as tag
 use Rattle.m2_control.specs.Fields.{IsSigned, IsBounded, IsCookie, IsFlag, AreNumbers, IsList, IsShortString, has_main, IsMainVector, signed, bounded_at, cookie_at, flag_at, numbers_at, list_at, string_at, raise, lifted, vector_field}
 use Rattle.m2_control.specs.Ident.{make_tail, tail_parts, keeps_cookie, IsTail, tail_at}
 use Rattle.m2_control.specs.Control.{Spells, bare, tag_of, fields_at, whole, payload_of}

@@ -1,6 +1,6 @@
 -- Tags that aren't negotiated have no fields.
 use Rattle.std.proofs.Common.{refl}
-use Rattle.m2_tag.specs.declared.tag.Tag.TheVariants as tag
+use Rattle.m2_frame.specs.declared.tag.Tag.TheVariants as tag
 use Rattle.m2_control.specs.Laws.{OthersAreRefused}
 
 pub others_are_refused : OthersAreRefused

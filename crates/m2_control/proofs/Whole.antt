@@ -3,7 +3,7 @@ use Rattle.std.proofs.Common.{◌≡◌, ℕ, List, Result, Ok, Err, ap, subst, 
 use Rattle.std.specs.Prelude.{IfOk}
 use Rattle.m2_addr.specs.Grammar.{IsBytes}
 use Rattle.m2_control.specs.declared.control.Control.{Control}
-use Rattle.m2_tag.specs.declared.tag.Tag.{Tag}
+use Rattle.m2_frame.specs.declared.tag.Tag.{Tag}
 use Rattle.m2_control.specs.declared.fault.ControlFault.{ControlFault}
 use Rattle.m2_control.specs.Outcome.{Gives}
 use Rattle.m2_control.specs.Control.{Spells, IsWritable, bare, tag_of, payload_of}

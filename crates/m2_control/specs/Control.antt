@@ -4,8 +4,8 @@ use Rattle.m2_addr.specs.Reading.{◌>>=◌, made}
 use Rattle.m2_addr.specs.Addr.{IsWellFormed}
 use Rattle.m2_control.specs.declared.control.Control.{Control}
 use Rattle.m2_control.specs.declared.control.Control.TheVariants as control
-use Rattle.m2_tag.specs.declared.tag.Tag.{Tag}
-use Rattle.m2_tag.specs.declared.tag.Tag.TheVariants as tag
+use Rattle.m2_frame.specs.declared.tag.Tag.{Tag}
+use Rattle.m2_frame.specs.declared.tag.Tag.TheVariants as tag
 use Rattle.m2_control.specs.declared.fields.TheConstants.{MOST_LISTED, MOST_BYTES, SIGNATURE_BYTES}
 use Rattle.m2_control.specs.declared.fault.ControlFault.{ControlFault}
 use Rattle.m2_control.specs.declared.fault.ControlFault.TheVariants.{Extra, NotNegotiated}

@@ -14,8 +14,8 @@ use Rattle.m2_control.specs.declared.banner.BannerStep.TheVariants.{Got}
 use Rattle.m2_control.specs.declared.client_ident.ClientIdent.{ClientIdent}
 use Rattle.m2_control.specs.declared.server_ident.ServerIdent.{ServerIdent}
 use Rattle.m2_control.specs.declared.ident.Tail.{Tail}
-use Rattle.m2_tag.specs.declared.tag.Tag.{Tag}
-use Rattle.m2_tag.specs.Tags.{is_negotiated}
+use Rattle.m2_frame.specs.declared.tag.Tag.{Tag}
+use Rattle.m2_frame.specs.Tags.{is_negotiated}
 use Rattle.m2_control.specs.declared.fault.ControlFault.TheVariants.{NotNegotiated}
 use Rattle.m2_control.specs.declared.control.Control.{Control}
 use Rattle.m2_control.specs.declared.control.Control.TheVariants as control

@@ -3,11 +3,11 @@
 ghost use Rattle.std.specs.Prelude.{◌≡◌, ◌≢◌, ◌≤◌, ℕ, List, false, IfOk, Ok, Err};
 ghost use Rattle.m2_bytes.specs.Blob.{Appends};
 ghost use Rattle.m2_addr.specs.Grammar.{IsBytes};
-ghost use Rattle.m2_tag.specs.declared.tag.Tag.{Tag};
-ghost use Rattle.m2_tag.specs.declared.tag.TheConstants.{FIRST_TAG, LAST_TAG};
+ghost use Rattle.m2_frame.specs.declared.tag.Tag.{Tag};
+ghost use Rattle.m2_frame.specs.declared.tag.TheConstants.{FIRST_TAG, LAST_TAG};
 ghost use Rattle.m2_control.specs.declared.control.Control.{Control};
 ghost use Rattle.m2_control.specs.Outcome.{Gives, GivesFront, GivesRest};
-ghost use Rattle.m2_tag.specs.Tags.{tag_number};
+ghost use Rattle.m2_frame.specs.Tags.{tag_number};
 ghost use Rattle.m2_control.specs.Control.{Spells, IsWritable, bare, tag_of, text_of, fields_at, payload_of, takes_memory};
 
 use crate::ack::Ack;
@@ -29,7 +29,7 @@ use crate::session_retry::SessionRetry;
 use crate::session_retry_global::SessionRetryGlobal;
 use crate::wait::Wait;
 use m2_bytes::{Blob, NoMemory, Reader};
-use m2_tag::Tag;
+use m2_frame::Tag;
 use std::alloc::Global;
 
 /// The payload of a control frame, by its tag.

@@ -1,7 +1,7 @@
 //! What a SERVER_IDENT says, read without memory.
 
 ghost use Rattle.std.specs.Prelude.{◌≡◌};
-ghost use Rattle.m2_tag.specs.declared.tag.Tag.{Tag};
+ghost use Rattle.m2_frame.specs.declared.tag.Tag.{Tag};
 ghost use Rattle.m2_control.specs.Control.{payload_of};
 ghost use Rattle.m2_control.specs.ServerFacts.{GivesFacts, GivesFactsRest, facts_with};
 ghost use Rattle.m2_control.specs.ServerIdent.{server_ident_at};
@@ -11,7 +11,7 @@ use crate::fields::main_address;
 use crate::ident::Tail;
 use m2_addr::Addr;
 use m2_bytes::Reader;
-use m2_tag::Tag;
+use m2_frame::Tag;
 
 /// What a SERVER_IDENT says, with its main address in place of all its addresses.
 #[derive(Clone, Copy, Debug, PartialEq, Eq)]

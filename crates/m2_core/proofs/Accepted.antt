@@ -4,13 +4,13 @@ use Rattle.std.specs.Option.{is_some}
 use Rattle.std.proofs.lemmas.Bool.{lt-leb}
 use Rattle.m2_feed.specs.Calls.{IsFront}
 use Rattle.m2_feed.specs.FeedNow.{FeedNow, Reading, framing, shaking}
-use Rattle.m2_feed.specs.Laws.{ChangesBeside, TakesBeside}
+use Rattle.m2_feed.specs.FeedLaws.{ChangesBeside, TakesBeside}
 use Rattle.m2_frame.specs.Frame.{Parts, message_tag}
 use Rattle.m2_frame.specs.Reading.{Item, whole}
-use Rattle.m2_heard.specs.declared.heard.FrameHeard.{FrameHeard}
-use Rattle.m2_heard.specs.declared.heard.FrameHeard.TheVariants.{Brings}
-use Rattle.m2_heard.specs.declared.hearer.Hearer.{Hearer}
-use Rattle.m2_heard.specs.Laws.{AsksForItsSize, BringsMessages, IsAsReplayed, IsHeardAsReplayed, IsNextMessage}
+use Rattle.m2_feed.specs.declared.frame_heard.FrameHeard.{FrameHeard}
+use Rattle.m2_feed.specs.declared.frame_heard.FrameHeard.TheVariants.{Brings}
+use Rattle.m2_feed.specs.declared.hearer.Hearer.{Hearer}
+use Rattle.m2_feed.specs.FrameLaws.{AsksForItsSize, BringsMessages, IsAsReplayed, IsHeardAsReplayed, IsNextMessage}
 use Rattle.m2_journal.specs.Feeds.{is_passed, next_place, next_said}
 use Rattle.m2_journal.specs.Lawful.{IsNext, MayAccept, OnFeedAt, key_of}
 use Rattle.m2_journal.specs.Said.{Said, brings, said}
@@ -23,10 +23,10 @@ use Rattle.m2_policy.specs.declared.path.Key.{Key}
 use Rattle.m2_session.specs.declared.session.Phase.TheVariants.{Ready}
 use Rattle.m2_session.specs.Phases as phase
 use Rattle.m2_shared.specs.Throttle.{SeenGrant}
-use Rattle.m2_live.specs.LiveNow.{LiveNow, OnFeedNow, granted_in, granted_on, size_granted}
-use Rattle.m2_live.specs.OnFeed.{Hears, PassesItem}
-use Rattle.m2_live.specs.Calls.{passed_live}
-use Rattle.m2_live.specs.Accepting.{LiveAccepts, MovesMessage, accepted_live}
+use Rattle.m2_core.specs.LiveNow.{LiveNow, OnFeedNow, granted_in, granted_on, size_granted}
+use Rattle.m2_core.specs.OnFeed.{Hears, PassesItem}
+use Rattle.m2_core.specs.LiveCalls.{passed_live}
+use Rattle.m2_core.specs.LiveAccepting.{LiveAccepts, MovesMessage, accepted_live}
 use Rattle.m2_core.specs.declared.accepting.CoreAccepted.{CoreAccepted}
 use Rattle.m2_core.specs.Accepting.{Accepts, HasAccepted}
 use Rattle.m2_core.specs.Agrees.{Agrees, FeedsAgree}

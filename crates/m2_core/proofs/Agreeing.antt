@@ -2,7 +2,7 @@
 use Rattle.std.proofs.Common.{◌≡◌, ℕ, Bool, true, false, Option, Some, None, refl, subst, ◌∙◌, arith}
 use Rattle.std.specs.Prelude.{◌⊎◌}
 use Rattle.m2_feed.specs.FeedNow.{FeedNow}
-use Rattle.m2_feed.specs.Laws.{ChangesBeside}
+use Rattle.m2_feed.specs.FeedLaws.{ChangesBeside}
 use Rattle.m2_feed.specs.Stands.{Stands, is_ready}
 use Rattle.m2_journal.specs.Items as item
 use Rattle.m2_journal.specs.Items.{JournalItem}
@@ -14,7 +14,7 @@ use Rattle.m2_message.specs.Message.{Content}
 use Rattle.m2_queues.specs.OutQueues.{Queue}
 use Rattle.m2_session.specs.declared.session.Session.{Session}
 use Rattle.m2_shared.specs.Throttle.{SeenGrant}
-use Rattle.m2_live.specs.Calls.{after_posted}
+use Rattle.m2_core.specs.LiveCalls.{after_posted}
 use Rattle.m2_core.specs.Agrees.{Agrees, FeedsAgree, IsTold, LeadsOn}
 use Rattle.m2_core.specs.CoreNow.{CoreNow}
 

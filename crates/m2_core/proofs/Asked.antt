@@ -9,7 +9,7 @@ use Rattle.m2_control.specs.declared.fields.TheConstants.{GREATEST_NUMBER}
 use Rattle.m2_feed.specs.Calls as feed
 use Rattle.m2_feed.specs.Calls.{Rests}
 use Rattle.m2_feed.specs.FeedNow.{FeedNow, Reading, framing, shaking, is_framing}
-use Rattle.m2_feed.specs.Laws.{ChangesBeside, ComposesBeside, StaysBeside}
+use Rattle.m2_feed.specs.FeedLaws.{ChangesBeside, ComposesBeside, StaysBeside}
 use Rattle.m2_feed.specs.Stands.{ReadsAs, is_ready, passes_over}
 use Rattle.m2_frame.specs.Reading.{Front, Item, judge, start}
 use Rattle.m2_handshake.specs.Texts.{frame_text}
@@ -29,9 +29,9 @@ use Rattle.m2_session.specs.declared.event.Event.{Event}
 use Rattle.m2_session.specs.Phases as phase
 use Rattle.m2_session.specs.Steps.{step_of}
 use Rattle.m2_shared.specs.Throttle.{SeenGrant}
-use Rattle.m2_live.specs.LiveNow.{LiveNow, OnFeedNow}
-use Rattle.m2_live.specs.OnFeed.{CanAsk, ChangesRoom, ComposesAsk}
-use Rattle.m2_live.specs.Asking.{AsksNow, IsAsk, ask_len, asked_event, filled}
+use Rattle.m2_core.specs.LiveNow.{LiveNow, OnFeedNow}
+use Rattle.m2_core.specs.OnFeed.{CanAsk, ChangesRoom, ComposesAsk}
+use Rattle.m2_core.specs.LiveAsking.{AsksNow, IsAsk, ask_len, asked_event, filled}
 use Rattle.m2_core.proofs.Agreeing.{IsResumed, agreed, core_of}
 use Rattle.m2_core.proofs.Numbered.{has_text, room_on}
 use Rattle.m2_core.specs.declared.asking.CoreAsk.TheVariants as ask

@@ -3,7 +3,7 @@ use Rattle.std.proofs.Common.{◌≡◌, ℕ, ◌-◌, ◌<◌, ◌≤◌, true,
 use Rattle.std.specs.Prelude.{nat_le}
 use Rattle.std.proofs.lemmas.Bool.{le-leb}
 use Rattle.std.proofs.lemmas.List.{length-drop}
-use Rattle.m2_feed.specs.Laws.{ChangesBeside}
+use Rattle.m2_feed.specs.FeedLaws.{ChangesBeside}
 use Rattle.m2_journal.specs.Items as item
 use Rattle.m2_journal.specs.Lawful.{MayAcknowledge, OnFeedAt}
 use Rattle.m2_journal.specs.State.{Feed, State}
@@ -12,8 +12,8 @@ use Rattle.m2_queues.specs.OutQueues.{IsNumbered, Queue, after_acked, last_numbe
 use Rattle.m2_session.specs.declared.session.Phase.{Phase}
 use Rattle.m2_session.specs.declared.session.Phase.TheVariants.{Absent, Connecting, IdentSent, ReconnectSent, Ready, Standby, Wait}
 use Rattle.m2_session.specs.Phases as phase
-use Rattle.m2_live.specs.LiveNow.{LiveNow, is_ready}
-use Rattle.m2_live.specs.Calls.{after_counted}
+use Rattle.m2_core.specs.LiveNow.{LiveNow, is_ready}
+use Rattle.m2_core.specs.LiveCalls.{after_counted}
 use Rattle.m2_core.proofs.Agreeing.{feeds_as}
 use Rattle.m2_core.specs.Agrees.{IsTold, IsToldTo, LeadsOn, MayCome}
 use Rattle.m2_core.specs.CoreNow.{CoreNow, Holds}

@@ -14,9 +14,9 @@ use Rattle.m2_session.specs.declared.event.Event.TheVariants as event
 use Rattle.m2_session.specs.declared.session.Phase.TheVariants.{Ready}
 use Rattle.m2_session.specs.Phases as phase
 use Rattle.m2_shared.specs.Throttle.{SeenGrant}
-use Rattle.m2_live.specs.LiveNow.{LiveNow, OnFeedNow, is_waiting}
-use Rattle.m2_live.specs.Effects.{has_effects, tells}
-use Rattle.m2_live.specs.Calls.{after_fault}
+use Rattle.m2_core.specs.LiveNow.{LiveNow, OnFeedNow, is_waiting}
+use Rattle.m2_core.specs.Effects.{has_effects, tells}
+use Rattle.m2_core.specs.LiveCalls.{after_fault}
 use Rattle.m2_core.proofs.Agreeing.{core_of, leads_by}
 use Rattle.m2_core.proofs.Sound.{fault_by}
 use Rattle.m2_core.specs.Agrees.{Agrees, FeedsAgree, LeadsOn}

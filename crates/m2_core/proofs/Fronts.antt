@@ -1,10 +1,10 @@
 -- What stands at the front of a feed, beside its replay.
 use Rattle.std.proofs.Common.{◌≡◌, ℕ, refl, subst}
 use Rattle.m2_frame.specs.Reading.{Item}
-use Rattle.m2_heard.specs.declared.heard.FrameHeard.{FrameHeard}
-use Rattle.m2_heard.specs.declared.hearer.Hearer.{Hearer}
-use Rattle.m2_heard.specs.Heard.{heard_of}
-use Rattle.m2_heard.specs.Laws.{IsAsReplayed, IsHeardAsReplayed}
+use Rattle.m2_feed.specs.declared.frame_heard.FrameHeard.{FrameHeard}
+use Rattle.m2_feed.specs.declared.hearer.Hearer.{Hearer}
+use Rattle.m2_feed.specs.FrameHeard.{heard_of}
+use Rattle.m2_feed.specs.FrameLaws.{IsAsReplayed, IsHeardAsReplayed}
 use Rattle.m2_journal.specs.SideFacts.{SideFacts}
 use Rattle.m2_journal.specs.Said.{said}
 use Rattle.m2_journal.specs.State.{State}

@@ -13,8 +13,8 @@ use Rattle.m2_session.specs.declared.session.Session.{Session}
 use Rattle.m2_session.specs.Phases as phase
 use Rattle.m2_shared.specs.Place.{Place}
 use Rattle.m2_shared.specs.Throttle.{SeenGrant, SeenThrottle}
-use Rattle.m2_live.specs.LiveNow.{LiveNow, OnFeedNow, granted_in, granted_on, is_ready, size_granted}
-use Rattle.m2_live.specs.OnFeed.{granted_feed}
+use Rattle.m2_core.specs.LiveNow.{LiveNow, OnFeedNow, granted_in, granted_on, is_ready, size_granted}
+use Rattle.m2_core.specs.OnFeed.{granted_feed}
 use Rattle.m2_core.specs.Agrees.{FeedsAgree, Stays}
 use Rattle.m2_core.specs.CoreNow.{CoreNow, Holds, IsSound}
 use Rattle.m2_core.specs.Granting.{Grants, after_granted}

@@ -2,15 +2,15 @@
 use Rattle.std.proofs.Common.{◌≡◌, true, false, Option, Some, None, refl, sym, ap, ◌∙◌}
 use Rattle.m2_feed.specs.Calls.{GreetsOn}
 use Rattle.m2_feed.specs.FeedNow.{FeedNow, is_framing}
-use Rattle.m2_feed.specs.Laws.{FindsFaults, GreetsBeside}
+use Rattle.m2_feed.specs.FeedLaws.{FindsFaults, GreetsBeside}
 use Rattle.m2_handshake.specs.declared.answer.HalfStep.{HalfStep}
 use Rattle.m2_handshake.specs.declared.answer.HalfStep.TheVariants as half
 use Rattle.m2_journal.specs.Lawful.{OnFeedAt, is_broken}
 use Rattle.m2_journal.specs.SideFacts.{SideFacts}
 use Rattle.m2_journal.specs.State.{Feed, State}
-use Rattle.m2_live.specs.LiveNow.{LiveNow, granted_in, is_granted_in}
-use Rattle.m2_live.specs.OnFeed.{GreetsFeed}
-use Rattle.m2_live.specs.Calls.{live_with}
+use Rattle.m2_core.specs.LiveNow.{LiveNow, granted_in, is_granted_in}
+use Rattle.m2_core.specs.OnFeed.{GreetsFeed}
+use Rattle.m2_core.specs.LiveCalls.{live_with}
 use Rattle.m2_core.specs.Agrees.{FeedsAgree}
 use Rattle.m2_core.specs.CoreNow.{CoreNow, Holds, IsSound}
 use Rattle.m2_core.specs.Shaken.{HasShaken, IsHalfFault}

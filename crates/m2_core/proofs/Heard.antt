@@ -2,12 +2,12 @@
 use Rattle.std.proofs.Common.{ℕ, List, Option, Some, None, refl}
 use Rattle.m2_fabric.specs.declared.end.News.{News}
 use Rattle.m2_feed.specs.FeedNow.{FeedNow}
-use Rattle.m2_feed.specs.Laws.{StaysBeside}
+use Rattle.m2_feed.specs.FeedLaws.{StaysBeside}
 use Rattle.m2_journal.specs.SideFacts.{SideFacts}
 use Rattle.m2_journal.specs.State.{Feed, State}
-use Rattle.m2_live.specs.LiveNow.{LiveNow}
-use Rattle.m2_live.specs.OnFeed.{feed_after_news}
-use Rattle.m2_live.specs.Calls.{live_with}
+use Rattle.m2_core.specs.LiveNow.{LiveNow}
+use Rattle.m2_core.specs.OnFeed.{feed_after_news}
+use Rattle.m2_core.specs.LiveCalls.{live_with}
 use Rattle.m2_core.specs.Agrees.{FeedsAgree, Stays}
 use Rattle.m2_core.specs.CoreNow.{CoreNow, Holds, IsSound}
 

@@ -10,9 +10,9 @@ use Rattle.m2_feed.specs.FeedNow.{FeedNow, Reading, framing, shaking, is_framing
 use Rattle.m2_frame.proofs.Judge.{size_of-settled, size_of-short}
 use Rattle.m2_frame.specs.Reading.{size_of}
 use Rattle.m2_shared.specs.Throttle.{SeenGrant}
-use Rattle.m2_live.specs.LiveNow.{LiveNow, granted_in, is_granted_in, size_granted}
-use Rattle.m2_live.specs.OnFeed.{ReadsFeed}
-use Rattle.m2_live.specs.Calls.{live_with}
+use Rattle.m2_core.specs.LiveNow.{LiveNow, granted_in, is_granted_in, size_granted}
+use Rattle.m2_core.specs.OnFeed.{ReadsFeed}
+use Rattle.m2_core.specs.LiveCalls.{live_with}
 use Rattle.m2_core.specs.CoreNow.{CoreNow, Holds, IsSound}
 
 heard_framing : (bytes : List ℕ) (r : Reading) → is_framing (heard bytes r) ≡ is_framing r

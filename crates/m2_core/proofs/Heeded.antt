@@ -6,16 +6,16 @@ use Rattle.std.specs.Option.{is_some}
 use Rattle.std.proofs.lemmas.Bool.{eqb-true, lt-ltb}
 use Rattle.m2_feed.specs.Calls.{IsBad, IsFront, Owes}
 use Rattle.m2_feed.specs.FeedNow.{FeedNow}
-use Rattle.m2_feed.specs.Laws.{FindsFaults, HearsTold}
+use Rattle.m2_feed.specs.FeedLaws.{FindsFaults, HearsTold}
 use Rattle.m2_frame.specs.declared.fault.FrameFault.{FrameFault}
 use Rattle.m2_fabric.specs.Sockets.{same_socket}
 use Rattle.m2_frame.specs.Reading.{Item, judge, whole}
-use Rattle.m2_heard.specs.declared.fault.WireFault.{WireFault}
-use Rattle.m2_heard.specs.declared.heard.FrameHeard.{FrameHeard}
-use Rattle.m2_heard.specs.declared.heard.FrameHeard.TheVariants.{Nothing, Stamp, Acknowledges, Brings, Resets, Fault}
-use Rattle.m2_heard.specs.declared.hearer.Hearer.{Hearer}
-use Rattle.m2_heard.specs.Heard.{heard_of}
-use Rattle.m2_heard.specs.Laws.{IsAcknowledging, IsAsReplayed, IsBeyond, IsHeardAsReplayed, IsRefused}
+use Rattle.m2_feed.specs.declared.wire_fault.WireFault.{WireFault}
+use Rattle.m2_feed.specs.declared.frame_heard.FrameHeard.{FrameHeard}
+use Rattle.m2_feed.specs.declared.frame_heard.FrameHeard.TheVariants.{Nothing, Stamp, Acknowledges, Brings, Resets, Fault}
+use Rattle.m2_feed.specs.declared.hearer.Hearer.{Hearer}
+use Rattle.m2_feed.specs.FrameHeard.{heard_of}
+use Rattle.m2_feed.specs.FrameLaws.{IsAcknowledging, IsAsReplayed, IsBeyond, IsHeardAsReplayed, IsRefused}
 use Rattle.m2_journal.specs.Feeds.{is_passed, told, told_by}
 use Rattle.m2_journal.specs.Items as item
 use Rattle.m2_journal.specs.Lawful.{MayClose, OnFeedAt, acknowledges_too_much, has_failed, is_bad, is_broken, is_early_message, is_refused, said_next}
@@ -26,8 +26,8 @@ use Rattle.m2_queues.specs.OutQueues.{Queue}
 use Rattle.m2_session.specs.declared.session.Phase.TheVariants.{Ready}
 use Rattle.m2_session.specs.declared.session.Session.{Session}
 use Rattle.m2_session.specs.Phases as phase
-use Rattle.m2_live.specs.LiveNow.{OnFeedNow, is_ready}
-use Rattle.m2_live.specs.OnFeed.{Hears}
+use Rattle.m2_core.specs.LiveNow.{OnFeedNow, is_ready}
+use Rattle.m2_core.specs.OnFeed.{Hears}
 use Rattle.m2_core.specs.Agrees.{Agrees, FeedsAgree, IsBroken, IsTold, MayCome}
 use Rattle.m2_core.specs.CoreNow.{CoreNow}
 use Rattle.m2_core.specs.Front.{HearsOn, hearer_at, hearer_of}

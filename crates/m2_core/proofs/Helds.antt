@@ -3,13 +3,13 @@ use Rattle.std.proofs.Common.{◌≡◌, ℕ, ◌+◌, Bool, true, false, ◌&&�
 use Rattle.m2_feed.specs.Calls.{IsBad, Owes}
 use Rattle.m2_feed.specs.FeedNow.{FeedNow}
 use Rattle.m2_frame.specs.declared.fault.FrameFault.{FrameFault}
-use Rattle.m2_heard.specs.declared.heard.FrameHeard.TheVariants as heard
+use Rattle.m2_feed.specs.declared.frame_heard.FrameHeard.TheVariants as heard
 use Rattle.m2_session.specs.declared.session.Phase.TheVariants.{Ready}
 use Rattle.m2_session.specs.Phases as phase
 use Rattle.m2_shared.specs.Throttle.{SeenGrant}
-use Rattle.m2_live.specs.LiveNow.{IsOwned, LiveNow, OnFeedNow, held, is_waiting}
-use Rattle.m2_live.specs.Effects.{has_effects}
-use Rattle.m2_live.specs.Calls.{after_fault}
+use Rattle.m2_core.specs.LiveNow.{IsOwned, LiveNow, OnFeedNow, held, is_waiting}
+use Rattle.m2_core.specs.Effects.{has_effects}
+use Rattle.m2_core.specs.LiveCalls.{after_fault}
 use Rattle.m2_core.specs.declared.granting.CoreGrant.{CoreGrant}
 use Rattle.m2_core.specs.declared.granting.CoreGrant.TheVariants as grant
 use Rattle.m2_core.specs.declared.next.CoreNext.{CoreNext}

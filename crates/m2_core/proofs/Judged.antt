@@ -3,10 +3,10 @@ use Rattle.std.proofs.Common.{◌≡◌, ◌≢◌, ℕ, ◌-◌, ◌<◌, ◌�
 use Rattle.std.specs.Prelude.{◌==◌, if◌then◌else◌, IsTrue, IfSome}
 use Rattle.std.specs.List.{list_any}
 use Rattle.std.proofs.lemmas.Bool.{eq-eqb}
-use Rattle.m2_answers.specs.declared.ask.AskFacts.{AskFacts}
-use Rattle.m2_answers.specs.declared.frame.Carried.{Carried}
-use Rattle.m2_answers.specs.Asks.{reconnect_of, told_of_ident, told_of_reconnect}
-use Rattle.m2_answers.specs.Frames.{accepts, frame_of}
+use Rattle.m2_session.specs.declared.ask.AskFacts.{AskFacts}
+use Rattle.m2_session.specs.declared.frame.Carried.{Carried}
+use Rattle.m2_session.specs.Asks.{reconnect_of, told_of_ident, told_of_reconnect}
+use Rattle.m2_session.specs.Frames.{accepts, frame_of}
 use Rattle.m2_control.specs.declared.control.Control.{Control}
 use Rattle.m2_control.specs.declared.control.Control.TheVariants as control
 use Rattle.m2_control.specs.Control.{IsWritable, text_of}
@@ -15,7 +15,7 @@ use Rattle.m2_fabric.specs.End.{SeenEnd}
 use Rattle.m2_fabric.specs.declared.socket.SocketId.{SocketId}
 use Rattle.m2_feed.specs.Calls.{at_acceptance}
 use Rattle.m2_feed.specs.FeedNow.{FeedNow, framing}
-use Rattle.m2_feed.specs.Laws.{ChangesBeside, IsAcceptance, TakesOverBeside}
+use Rattle.m2_feed.specs.FeedLaws.{ChangesBeside, IsAcceptance, TakesOverBeside}
 use Rattle.m2_frame.specs.declared.frame.TheConstants.{CONTROL_LIMIT}
 use Rattle.m2_handshake.specs.Texts.{frame_text}
 use Rattle.m2_journal.specs.Feeds.{told}
@@ -35,17 +35,17 @@ use Rattle.m2_session.specs.declared.session.Phase.TheVariants as phase
 use Rattle.m2_session.specs.declared.session.Session.{Session}
 use Rattle.m2_session.specs.Conditions.{differs, is_kept}
 use Rattle.m2_session.specs.Ident.{ident_answer, ident_rows}
-use Rattle.m2_session.specs.Laws as sessions
-use Rattle.m2_session.specs.Laws.{ident_event, reconnect_event, takes}
+use Rattle.m2_session.specs.SessionLaws as sessions
+use Rattle.m2_session.specs.SessionLaws.{ident_event, reconnect_event, takes}
 use Rattle.m2_session.specs.Phases as phases
 use Rattle.m2_session.specs.Reconnect.{Reconnect, reconnect_answer, reconnect_rows}
 use Rattle.m2_session.specs.Steps.{HasFollower, is_lawful}
 use Rattle.m2_session.proofs.Answers.{answers_are_lawful_lem}
 use Rattle.m2_session.proofs.Rows.{each_answer}
 use Rattle.m2_shared.specs.Throttle.{SeenGrant}
-use Rattle.m2_live.specs.LiveNow.{LiveNow, held}
-use Rattle.m2_live.specs.Effects.{closed_if, closed_of, effects_of}
-use Rattle.m2_live.specs.Calls.{resumed_by_ask, tells_if, with_taken}
+use Rattle.m2_core.specs.LiveNow.{LiveNow, held}
+use Rattle.m2_core.specs.Effects.{closed_if, closed_of, effects_of}
+use Rattle.m2_core.specs.LiveCalls.{resumed_by_ask, tells_if, with_taken}
 use Rattle.m2_core.proofs.Agreeing.{IsResumed, agreed, core_of, feeds_as, leads_by}
 use Rattle.m2_core.proofs.Counted.{is_the_phase}
 use Rattle.m2_core.proofs.Numbered.{has_text}

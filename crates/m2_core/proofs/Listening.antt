@@ -12,15 +12,15 @@ use Rattle.m2_fabric.specs.declared.end.EndRead.{EndRead}
 use Rattle.m2_fabric.specs.declared.end.EndRead.TheVariants as read
 use Rattle.m2_feed.specs.Calls.{IsFront, OnlyReads, PassesFrame, ReadsOn}
 use Rattle.m2_feed.specs.FeedNow.{FeedNow}
-use Rattle.m2_feed.specs.Laws.{ChangesBeside, HearsBeside, HearsTold, ReadsBeside, StaysBeside, TakesBeside, gives}
+use Rattle.m2_feed.specs.FeedLaws.{ChangesBeside, HearsBeside, HearsTold, ReadsBeside, StaysBeside, TakesBeside, gives}
 use Rattle.m2_feed.specs.Stands.{Stands, is_ready}
 use Rattle.m2_frame.specs.Frame.{Parts}
 use Rattle.m2_frame.specs.Reading.{whole}
-use Rattle.m2_hearing.specs.declared.heard.Heard.{Heard}
-use Rattle.m2_hearing.specs.declared.heard.Heard.TheVariants as heard
-use Rattle.m2_hearing.specs.Front.{event_in, heard_at}
-use Rattle.m2_hearing.specs.Heard.{event_of}
-use Rattle.m2_hearing.specs.Laws.{FramesAreHeard, FrontsAreHeard, IsHeard}
+use Rattle.m2_feed.specs.declared.heard.Heard.{Heard}
+use Rattle.m2_feed.specs.declared.heard.Heard.TheVariants as heard
+use Rattle.m2_feed.specs.Front.{event_in, heard_at}
+use Rattle.m2_feed.specs.Heard.{event_of}
+use Rattle.m2_feed.specs.AnswerLaws.{FramesAreHeard, FrontsAreHeard, IsHeard}
 use Rattle.m2_journal.specs.Feeds.{answer_said, hears, stamp_of, told_by}
 use Rattle.m2_journal.specs.Items as item
 use Rattle.m2_journal.specs.Lawful.{AreSome, OnFeedAt}
@@ -35,11 +35,11 @@ use Rattle.m2_session.specs.declared.session.Phase.TheVariants.{IdentSent, Recon
 use Rattle.m2_session.specs.declared.session.Session.{Session}
 use Rattle.m2_session.specs.Phases as phase
 use Rattle.m2_shared.specs.Throttle.{SeenGrant}
-use Rattle.m2_live.specs.LiveNow.{LiveNow}
-use Rattle.m2_live.specs.Effects.{closed_if}
-use Rattle.m2_live.specs.OnFeed.{PassesFeed, ReadsFeed}
-use Rattle.m2_live.specs.Calls.{live_with}
-use Rattle.m2_live.specs.Hearing.{TakesAnswer, after_answer, heard_on}
+use Rattle.m2_core.specs.LiveNow.{LiveNow}
+use Rattle.m2_core.specs.Effects.{closed_if}
+use Rattle.m2_core.specs.OnFeed.{PassesFeed, ReadsFeed}
+use Rattle.m2_core.specs.LiveCalls.{live_with}
+use Rattle.m2_core.specs.LiveHearing.{TakesAnswer, after_answer, heard_on}
 use Rattle.m2_core.proofs.Agreeing.{IsResumed, agreed, core_of, stands_as}
 use Rattle.m2_core.proofs.Counted.{is_the_phase}
 use Rattle.m2_core.proofs.Faulting.{is_on_feed}

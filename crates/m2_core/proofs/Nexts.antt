@@ -5,24 +5,24 @@ use Rattle.std.specs.Option.{is_some}
 use Rattle.std.proofs.lemmas.Bool.{ltb-true, ltb-false}
 use Rattle.m2_feed.specs.Calls.{IsBad, IsFront, Owes, Rests}
 use Rattle.m2_feed.specs.FeedNow.{FeedNow, Reading, framing, shaking, is_framing}
-use Rattle.m2_feed.specs.Laws.{FindsFaults}
+use Rattle.m2_feed.specs.FeedLaws.{FindsFaults}
 use Rattle.m2_frame.specs.declared.fault.FrameFault.{FrameFault}
 use Rattle.m2_frame.specs.Frame.{message_tag}
 use Rattle.m2_frame.specs.Reading.{Item, judge, whole}
-use Rattle.m2_heard.specs.declared.fault.WireFault.TheVariants as fault
-use Rattle.m2_heard.specs.declared.heard.FrameHeard.{FrameHeard}
-use Rattle.m2_heard.specs.declared.heard.FrameHeard.TheVariants.{Nothing, Acknowledges, Fault, Resets}
-use Rattle.m2_heard.specs.declared.hearer.Hearer.{Hearer}
-use Rattle.m2_heard.specs.Heard.{heard_of}
-use Rattle.m2_heard.specs.Laws.{AsksForItsSize}
+use Rattle.m2_feed.specs.declared.wire_fault.WireFault.TheVariants as fault
+use Rattle.m2_feed.specs.declared.frame_heard.FrameHeard.{FrameHeard}
+use Rattle.m2_feed.specs.declared.frame_heard.FrameHeard.TheVariants.{Nothing, Acknowledges, Fault, Resets}
+use Rattle.m2_feed.specs.declared.hearer.Hearer.{Hearer}
+use Rattle.m2_feed.specs.FrameHeard.{heard_of}
+use Rattle.m2_feed.specs.FrameLaws.{AsksForItsSize}
 use Rattle.m2_journal.specs.Items as item
 use Rattle.m2_session.specs.declared.session.Phase.TheVariants.{Ready}
 use Rattle.m2_session.specs.Phases as phase
 use Rattle.m2_shared.specs.declared.limits.TheConstants.{MOST_TAKEN}
 use Rattle.m2_shared.specs.Throttle.{SeenTakePass, SeenThrottle}
-use Rattle.m2_live.specs.LiveNow.{OnFeedNow, is_ready}
-use Rattle.m2_live.specs.OnFeed.{Hears, PassesItem}
-use Rattle.m2_live.specs.Calls.{after_fault}
+use Rattle.m2_core.specs.LiveNow.{OnFeedNow, is_ready}
+use Rattle.m2_core.specs.OnFeed.{Hears, PassesItem}
+use Rattle.m2_core.specs.LiveCalls.{after_fault}
 use Rattle.m2_core.specs.declared.granting.CoreGrant.{CoreGrant}
 use Rattle.m2_core.specs.declared.granting.CoreGrant.TheVariants as grant
 use Rattle.m2_core.specs.declared.next.CoreNext.{CoreNext}

@@ -7,7 +7,7 @@ use Rattle.std.proofs.lemmas.List.{length-drop, length-take, length-append}
 use Rattle.m2_bytes.specs.declared.memory.NoMemory as memory
 use Rattle.m2_control.specs.declared.fields.TheConstants.{GREATEST_NUMBER}
 use Rattle.m2_feed.specs.FeedNow.{FeedNow}
-use Rattle.m2_feed.specs.Laws.{ChangesBeside, ComposesBeside, StaysBeside}
+use Rattle.m2_feed.specs.FeedLaws.{ChangesBeside, ComposesBeside, StaysBeside}
 use Rattle.m2_frame.proofs.Lengths.{length-text_of}
 use Rattle.m2_frame.specs.Frame.{Parts}
 use Rattle.m2_frame.specs.Text as frame
@@ -19,13 +19,13 @@ use Rattle.m2_journal.specs.State.{Feed, State}
 use Rattle.m2_journal.specs.Steps.{after, queues, writes_message}
 use Rattle.m2_message.specs.Message.{Content}
 use Rattle.m2_queues.proofs.Unsent.{next-is_at_cursor}
-use Rattle.m2_queues.specs.Laws.{Next}
+use Rattle.m2_queues.specs.QueueLaws.{Next}
 use Rattle.m2_queues.specs.OutQueues.{Outgoing, Queue, after_next, after_sent, last_number, message_at, next_number}
 use Rattle.m2_session.specs.declared.session.Phase.TheVariants.{Ready}
 use Rattle.m2_shared.specs.Throttle.{SeenGrant}
-use Rattle.m2_live.specs.LiveNow.{LiveNow, OnFeedNow, is_ready}
-use Rattle.m2_live.specs.OnFeed.{CanWrite, ChangesRoom, ComposesMessage}
-use Rattle.m2_live.specs.Numbering.{Numbers, NumbersOn}
+use Rattle.m2_core.specs.LiveNow.{LiveNow, OnFeedNow, is_ready}
+use Rattle.m2_core.specs.OnFeed.{CanWrite, ChangesRoom, ComposesMessage}
+use Rattle.m2_core.specs.LiveNumbering.{Numbers, NumbersOn}
 use Rattle.m2_core.proofs.Agreeing.{IsResumed, agreed, core_of, stands_as}
 use Rattle.m2_core.proofs.Counted.{is_the_phase}
 use Rattle.m2_core.specs.Agrees.{Agrees, FeedsAgree, LeadsOn, MayCome}

@@ -3,11 +3,11 @@ use Rattle.std.proofs.Common.{◌≡◌, ℕ, Bool, true, false, [], ◌∷◌, 
 use Rattle.std.specs.Prelude.{IsTrue}
 use Rattle.m2_control.specs.declared.control.Control.TheVariants as control
 use Rattle.m2_feed.specs.FeedNow.{FeedNow}
-use Rattle.m2_feed.specs.Laws.{ChangesBeside, TakesBeside}
+use Rattle.m2_feed.specs.FeedLaws.{ChangesBeside, TakesBeside}
 use Rattle.m2_feed.specs.Stands.{Stands}
 use Rattle.m2_frame.specs.Reading.{whole}
-use Rattle.m2_hearing.specs.declared.heard.Heard.TheVariants as heard
-use Rattle.m2_hearing.specs.Laws.{FramesAreHeard, IsHeard}
+use Rattle.m2_feed.specs.declared.heard.Heard.TheVariants as heard
+use Rattle.m2_feed.specs.AnswerLaws.{FramesAreHeard, IsHeard}
 use Rattle.m2_journal.specs.Feeds.{stamp_of}
 use Rattle.m2_journal.specs.Items as item
 use Rattle.m2_journal.specs.Lawful.{IsReset, MayObey, OnFeedAt}
@@ -21,11 +21,11 @@ use Rattle.m2_session.specs.declared.session.Session.{Session}
 use Rattle.m2_session.specs.Phases.{is_among}
 use Rattle.m2_session.specs.Steps.{is_lawful}
 use Rattle.m2_shared.specs.Throttle.{SeenGrant}
-use Rattle.m2_live.specs.LiveNow.{LiveNow}
-use Rattle.m2_live.specs.Effects.{tells}
-use Rattle.m2_live.specs.OnFeed.{PassesFeed}
-use Rattle.m2_live.specs.Calls.{live_with}
-use Rattle.m2_live.specs.Hearing.{ObeysReset}
+use Rattle.m2_core.specs.LiveNow.{LiveNow}
+use Rattle.m2_core.specs.Effects.{tells}
+use Rattle.m2_core.specs.OnFeed.{PassesFeed}
+use Rattle.m2_core.specs.LiveCalls.{live_with}
+use Rattle.m2_core.specs.LiveHearing.{ObeysReset}
 use Rattle.m2_core.proofs.Agreeing.{IsResumed, core_of, agreed}
 use Rattle.m2_core.proofs.Taken.{Fronted, IsFronted, fronted, keeps_reset}
 use Rattle.m2_core.specs.Agrees.{Agrees, FeedsAgree, LeadsOn, MayCome}

@@ -5,22 +5,22 @@ use Rattle.m2_bytes.specs.declared.memory.NoMemory as memory
 use Rattle.m2_control.specs.declared.keepalive.Keepalive.{Keepalive}
 use Rattle.m2_feed.specs.Calls.{HasFrame, IsFront, passed}
 use Rattle.m2_feed.specs.FeedNow.{FeedNow, Reading, framing, shaking, is_framing}
-use Rattle.m2_feed.specs.Laws.{PassesBeside, PassesThe}
+use Rattle.m2_feed.specs.FeedLaws.{PassesBeside, PassesThe}
 use Rattle.m2_feed.specs.Stands.{passes_over}
 use Rattle.m2_frame.specs.Reading.{Item, whole}
-use Rattle.m2_heard.specs.declared.heard.FrameHeard.{FrameHeard}
-use Rattle.m2_heard.specs.declared.heard.FrameHeard.TheVariants.{Nothing, Stamp}
-use Rattle.m2_heard.specs.declared.hearer.Hearer.{Hearer}
-use Rattle.m2_heard.specs.Laws.{IsHeardAsReplayed, IsPassed}
+use Rattle.m2_feed.specs.declared.frame_heard.FrameHeard.{FrameHeard}
+use Rattle.m2_feed.specs.declared.frame_heard.FrameHeard.TheVariants.{Nothing, Stamp}
+use Rattle.m2_feed.specs.declared.hearer.Hearer.{Hearer}
+use Rattle.m2_feed.specs.FrameLaws.{IsHeardAsReplayed, IsPassed}
 use Rattle.m2_journal.specs.Feeds.{is_passed, stamp_of}
 use Rattle.m2_journal.specs.Said.{said}
 use Rattle.m2_journal.specs.SideFacts.{SideFacts}
 use Rattle.m2_journal.specs.State.{Feed, State}
 use Rattle.m2_session.specs.declared.session.Phase.TheVariants.{Ready}
 use Rattle.m2_session.specs.Phases as phase
-use Rattle.m2_live.specs.LiveNow.{LiveNow, OnFeedNow, granted_in, is_granted_in}
-use Rattle.m2_live.specs.OnFeed.{Hears, NotesFeed, PassesFeed, PassesItem}
-use Rattle.m2_live.specs.Calls.{LiveNotes, LivePasses, passed_live}
+use Rattle.m2_core.specs.LiveNow.{LiveNow, OnFeedNow, granted_in, is_granted_in}
+use Rattle.m2_core.specs.OnFeed.{Hears, NotesFeed, PassesFeed, PassesItem}
+use Rattle.m2_core.specs.LiveCalls.{LiveNotes, LivePasses, passed_live}
 use Rattle.m2_core.specs.Agrees.{FeedsAgree, Stays}
 use Rattle.m2_core.specs.CoreNow.{CoreNow, Holds, IsSound}
 use Rattle.m2_core.specs.Front.{HearsOn, hearer_at, hearer_of}

@@ -9,25 +9,25 @@ use Rattle.m2_feed.specs.Calls.{IsFront}
 use Rattle.m2_feed.specs.FeedNow.{FeedNow, Reading, framing, shaking}
 use Rattle.m2_frame.specs.Frame.{Parts}
 use Rattle.m2_frame.specs.Reading.{judge, whole}
-use Rattle.m2_heard.specs.declared.heard.FrameHeard.{FrameHeard}
-use Rattle.m2_heard.specs.declared.heard.FrameHeard.TheVariants.{Resets}
-use Rattle.m2_heard.specs.declared.hearer.Hearer.{Hearer}
-use Rattle.m2_heard.specs.Heard.{heard_as_answer, heard_if, heard_of, heard_payload}
-use Rattle.m2_heard.specs.Laws.{IsAsReplayed, IsHeardAsReplayed, IsReset}
-use Rattle.m2_hearing.specs.declared.heard.Heard.{Heard}
-use Rattle.m2_hearing.specs.declared.heard.Heard.TheVariants as answer
-use Rattle.m2_hearing.specs.Front.{frame_at, frame_of, heard_at}
-use Rattle.m2_hearing.specs.Heard.{heard_in, of_control, of_payload, of_tag}
+use Rattle.m2_feed.specs.declared.frame_heard.FrameHeard.{FrameHeard}
+use Rattle.m2_feed.specs.declared.frame_heard.FrameHeard.TheVariants.{Resets}
+use Rattle.m2_feed.specs.declared.hearer.Hearer.{Hearer}
+use Rattle.m2_feed.specs.FrameHeard.{heard_as_answer, heard_if, heard_of, heard_payload}
+use Rattle.m2_feed.specs.FrameLaws.{IsAsReplayed, IsHeardAsReplayed, IsReset}
+use Rattle.m2_feed.specs.declared.heard.Heard.{Heard}
+use Rattle.m2_feed.specs.declared.heard.Heard.TheVariants as answer
+use Rattle.m2_feed.specs.Front.{frame_at, frame_of, heard_at}
+use Rattle.m2_feed.specs.Heard.{heard_in, of_control, of_payload, of_tag}
 use Rattle.m2_journal.specs.Said.{said}
 use Rattle.m2_session.specs.declared.session.Phase.{Phase}
 use Rattle.m2_session.specs.declared.session.Phase.TheVariants.{ReconnectSent, Ready}
 use Rattle.m2_session.specs.Phases as phase
-use Rattle.m2_tag.specs.declared.tag.Tag.{Tag}
-use Rattle.m2_tag.specs.declared.tag.Tag.TheVariants as tag
-use Rattle.m2_tag.specs.Tags.{tag_in}
-use Rattle.m2_live.specs.LiveNow.{OnFeedNow}
-use Rattle.m2_live.specs.OnFeed.{Hears}
-use Rattle.m2_live.specs.Hearing.{heard_on}
+use Rattle.m2_frame.specs.declared.tag.Tag.{Tag}
+use Rattle.m2_frame.specs.declared.tag.Tag.TheVariants as tag
+use Rattle.m2_frame.specs.Tags.{tag_in}
+use Rattle.m2_core.specs.LiveNow.{OnFeedNow}
+use Rattle.m2_core.specs.OnFeed.{Hears}
+use Rattle.m2_core.specs.LiveHearing.{heard_on}
 use Rattle.m2_core.specs.CoreNow.{CoreNow}
 use Rattle.m2_core.specs.Front.{HearsOn, hearer_of}
 use Rattle.m2_core.specs.Next.{IsResetHeard}

@@ -3,19 +3,19 @@ use Rattle.std.proofs.Common.{◌≡◌, ◌≢◌, ℕ, Bool, true, false, Opti
 use Rattle.std.specs.Prelude.{if◌then◌else◌}
 use Rattle.m2_feed.specs.Calls.{IsBad, IsFront, OnlyReads, Owes, Rests}
 use Rattle.m2_feed.specs.FeedNow.{FeedNow, Reading, framing, shaking}
-use Rattle.m2_feed.specs.Laws.{PassesBeside}
+use Rattle.m2_feed.specs.FeedLaws.{PassesBeside}
 use Rattle.m2_frame.specs.declared.fault.FrameFault.{FrameFault}
 use Rattle.m2_frame.specs.declared.frame.Frame.{Frame}
 use Rattle.m2_frame.specs.declared.got.Got.{Got}
 use Rattle.m2_frame.specs.declared.got.Got.TheVariants as got
 use Rattle.m2_frame.specs.Frame.{parts}
 use Rattle.m2_frame.specs.Reading.{dropped}
-use Rattle.m2_heard.specs.declared.fault.WireFault.TheVariants as fault
-use Rattle.m2_heard.specs.declared.heard.FrameHeard.TheVariants.{Nothing, Fault}
-use Rattle.m2_heard.specs.Laws.{AsksForItsSize, IsHeardAsReplayed}
-use Rattle.m2_live.specs.LiveNow.{OnFeedNow, granted_in, granted_on, is_ready, size_granted}
-use Rattle.m2_live.specs.OnFeed.{GivesFeed, HasNoFrame, PassesItem}
-use Rattle.m2_live.specs.Calls.{live_with, passed_live}
+use Rattle.m2_feed.specs.declared.wire_fault.WireFault.TheVariants as fault
+use Rattle.m2_feed.specs.declared.frame_heard.FrameHeard.TheVariants.{Nothing, Fault}
+use Rattle.m2_feed.specs.FrameLaws.{AsksForItsSize, IsHeardAsReplayed}
+use Rattle.m2_core.specs.LiveNow.{OnFeedNow, granted_in, granted_on, is_ready, size_granted}
+use Rattle.m2_core.specs.OnFeed.{GivesFeed, HasNoFrame, PassesItem}
+use Rattle.m2_core.specs.LiveCalls.{live_with, passed_live}
 use Rattle.m2_core.specs.declared.resting.CoreRest.TheVariants as rest
 use Rattle.m2_core.specs.CoreNow.{CoreNow, Holds}
 use Rattle.m2_core.specs.Front.{hearer_of}

@@ -6,9 +6,9 @@ use Rattle.m2_session.specs.declared.event.Event.TheVariants as event
 use Rattle.m2_session.specs.declared.session.Phase.TheVariants.{Absent, Standby, Wait}
 use Rattle.m2_session.specs.declared.session.Session.{Session}
 use Rattle.m2_session.specs.Steps.{closes}
-use Rattle.m2_live.specs.LiveNow.{LiveNow, is_waiting}
-use Rattle.m2_live.specs.Effects.{has_effects, tells}
-use Rattle.m2_live.specs.Calls.{after_fault}
+use Rattle.m2_core.specs.LiveNow.{LiveNow, is_waiting}
+use Rattle.m2_core.specs.Effects.{has_effects, tells}
+use Rattle.m2_core.specs.LiveCalls.{after_fault}
 use Rattle.m2_core.specs.CoreNow.{CoreNow, Holds, IsSound}
 
 abbrev pub fault_by : (lossy server idle : Bool) → Session → Session × Effects

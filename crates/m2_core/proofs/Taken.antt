@@ -6,15 +6,15 @@ use Rattle.m2_addr.specs.declared.addr.Addr.{Addr}
 use Rattle.m2_control.specs.declared.fields.TheConstants.{GREATEST_NUMBER}
 use Rattle.m2_feed.specs.Calls.{HasFrame, IsFront, PassesFrame}
 use Rattle.m2_feed.specs.FeedNow.{FeedNow, Reading, framing, shaking, is_framing}
-use Rattle.m2_feed.specs.Laws.{FindsFaults}
+use Rattle.m2_feed.specs.FeedLaws.{FindsFaults}
 use Rattle.m2_frame.specs.Frame.{Parts}
 use Rattle.m2_frame.specs.Reading.{Front, whole, dropped, start, bad, text, judge, owed_at}
-use Rattle.m2_hearing.specs.declared.fault.AnswerFault.{AnswerFault}
-use Rattle.m2_hearing.specs.declared.heard.Heard.{Heard}
-use Rattle.m2_hearing.specs.declared.heard.Heard.TheVariants as heard
-use Rattle.m2_hearing.specs.Front.{frame_at, frame_of, heard_at}
-use Rattle.m2_hearing.specs.Heard.{IsBounded, event_of, heard_in}
-use Rattle.m2_hearing.specs.Laws.{FramesAreHeard, IsHeard}
+use Rattle.m2_feed.specs.declared.answer_fault.AnswerFault.{AnswerFault}
+use Rattle.m2_feed.specs.declared.heard.Heard.{Heard}
+use Rattle.m2_feed.specs.declared.heard.Heard.TheVariants as heard
+use Rattle.m2_feed.specs.Front.{frame_at, frame_of, heard_at}
+use Rattle.m2_feed.specs.Heard.{IsBounded, event_of, heard_in}
+use Rattle.m2_feed.specs.AnswerLaws.{FramesAreHeard, IsHeard}
 use Rattle.m2_journal.specs.Lawful.{OnFeedAt, is_broken}
 use Rattle.m2_journal.specs.Said.{said}
 use Rattle.m2_journal.specs.SideFacts.{SideFacts}
@@ -28,11 +28,11 @@ use Rattle.m2_session.specs.declared.session.Phase.TheVariants.{Ready}
 use Rattle.m2_session.specs.declared.session.Session.{Session}
 use Rattle.m2_session.specs.Phases as phase
 use Rattle.m2_session.specs.Steps.{HasFollower, is_lawful, step_of}
-use Rattle.m2_live.specs.LiveNow.{LiveNow, OnFeedNow, granted_in, is_granted_in, is_ready, size_granted}
-use Rattle.m2_live.specs.Effects.{tells}
-use Rattle.m2_live.specs.OnFeed.{PassesFeed}
-use Rattle.m2_live.specs.Calls.{live_with}
-use Rattle.m2_live.specs.Hearing.{TakesAnswer, after_answer, heard_on}
+use Rattle.m2_core.specs.LiveNow.{LiveNow, OnFeedNow, granted_in, is_granted_in, is_ready, size_granted}
+use Rattle.m2_core.specs.Effects.{tells}
+use Rattle.m2_core.specs.OnFeed.{PassesFeed}
+use Rattle.m2_core.specs.LiveCalls.{live_with}
+use Rattle.m2_core.specs.LiveHearing.{TakesAnswer, after_answer, heard_on}
 use Rattle.m2_core.specs.Agrees.{FeedsAgree, IsBroken}
 use Rattle.m2_core.specs.CoreNow.{CoreNow, Holds, IsSound}
 use Rattle.m2_core.specs.Hearing.{Heeds, IsFaultHeard, effects_heard, hearing}

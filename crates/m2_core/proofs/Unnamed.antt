@@ -4,7 +4,7 @@ use Rattle.m2_bytes.specs.declared.memory.NoMemory as memory
 use Rattle.m2_control.specs.declared.keepalive.Keepalive.{Keepalive}
 use Rattle.m2_feed.specs.Calls.{ComposesIfOk, answer_text}
 use Rattle.m2_feed.specs.FeedNow.{FeedNow}
-use Rattle.m2_feed.specs.Laws.{ComposesBeside, StaysBeside}
+use Rattle.m2_feed.specs.FeedLaws.{ComposesBeside, StaysBeside}
 use Rattle.m2_feed.specs.Stands.{Stands}
 use Rattle.m2_feed.specs.declared.writing.Writing.{Writing}
 use Rattle.m2_feed.specs.declared.writing.Writing.TheVariants as writing
@@ -14,9 +14,9 @@ use Rattle.m2_journal.specs.SideFacts.{SideFacts}
 use Rattle.m2_journal.specs.State.{Feed, State}
 use Rattle.m2_session.specs.declared.session.Phase.TheVariants.{Ready}
 use Rattle.m2_session.specs.Phases as phase
-use Rattle.m2_live.specs.LiveNow.{LiveNow, OnFeedNow, is_ready}
-use Rattle.m2_live.specs.OnFeed.{AnswersStamp, CanWrite, ComposesFeed, HasStamp}
-use Rattle.m2_live.specs.Calls.{live_with}
+use Rattle.m2_core.specs.LiveNow.{LiveNow, OnFeedNow, is_ready}
+use Rattle.m2_core.specs.OnFeed.{AnswersStamp, CanWrite, ComposesFeed, HasStamp}
+use Rattle.m2_core.specs.LiveCalls.{live_with}
 use Rattle.m2_core.specs.Agrees.{FeedsAgree}
 use Rattle.m2_core.specs.Composing.{HasAcknowledged, HasAnswered, OwesOne}
 use Rattle.m2_core.specs.CoreNow.{CoreNow, Holds, IsSound}

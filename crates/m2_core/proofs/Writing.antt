@@ -4,7 +4,7 @@ use Rattle.std.specs.Prelude.{if◌then◌else◌}
 use Rattle.m2_fabric.specs.declared.socket.SocketId.{SocketId}
 use Rattle.m2_feed.specs.Calls.{WritesOn}
 use Rattle.m2_feed.specs.FeedNow.{FeedNow}
-use Rattle.m2_feed.specs.Laws.{PutsBeside, PutsKeep, StaysBeside, takes}
+use Rattle.m2_feed.specs.FeedLaws.{PutsBeside, PutsKeep, StaysBeside, takes}
 use Rattle.m2_feed.specs.Stands.{Stands}
 use Rattle.m2_feed.specs.declared.answers.FeedWrite.{FeedWrite}
 use Rattle.m2_feed.specs.declared.answers.FeedWrite.TheVariants as put
@@ -17,9 +17,9 @@ use Rattle.m2_journal.specs.State.{Feed, PartText, State}
 use Rattle.m2_journal.specs.Steps as replay
 use Rattle.m2_journal.specs.Steps.{after, puts, puts_on, puts_whole, sends_late}
 use Rattle.m2_shared.specs.Throttle.{SeenGrant}
-use Rattle.m2_live.specs.LiveNow.{LiveNow}
-use Rattle.m2_live.specs.OnFeed.{WritesFeed}
-use Rattle.m2_live.specs.Calls.{live_with}
+use Rattle.m2_core.specs.LiveNow.{LiveNow}
+use Rattle.m2_core.specs.OnFeed.{WritesFeed}
+use Rattle.m2_core.specs.LiveCalls.{live_with}
 use Rattle.m2_core.proofs.Agreeing.{IsResumed, core_of, leads_by}
 use Rattle.m2_core.proofs.Faulting.{is_on_feed}
 use Rattle.m2_core.specs.Agrees.{Agrees, FeedsAgree, IsTold, Stays}

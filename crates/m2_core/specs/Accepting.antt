@@ -5,7 +5,7 @@ use Rattle.m2_journal.specs.Items as item
 use Rattle.m2_journal.specs.Lawful.{key_of}
 use Rattle.m2_journal.specs.State.{letter}
 use Rattle.m2_message.specs.Message.{content_of, size_of}
-use Rattle.m2_live.specs.Accepting.{MovesMessage, accepted_live}
+use Rattle.m2_core.specs.LiveAccepting.{MovesMessage, accepted_live}
 use Rattle.m2_core.specs.declared.accepting.CoreAccepted.{CoreAccepted}
 use Rattle.m2_core.specs.Agrees.{HandsOut, LeadsOn, MayCome}
 use Rattle.m2_core.specs.CoreNow.{CoreNow}

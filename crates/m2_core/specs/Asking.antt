@@ -9,8 +9,8 @@ use Rattle.m2_journal.specs.OutFrames as out
 use Rattle.m2_journal.specs.OutFrames.{client_ident_of}
 use Rattle.m2_journal.specs.SideFacts.{SideFacts}
 use Rattle.m2_session.specs.declared.session.Phase.TheVariants.{Connecting}
-use Rattle.m2_live.specs.LiveNow.{LiveNow, OnFeedNow}
-use Rattle.m2_live.specs.OnFeed.{CanAsk, ChangesRoom, ComposesAsk}
+use Rattle.m2_core.specs.LiveNow.{LiveNow, OnFeedNow}
+use Rattle.m2_core.specs.OnFeed.{CanAsk, ChangesRoom, ComposesAsk}
 use Rattle.m2_core.specs.declared.asking.CoreAsk.{CoreAsk}
 use Rattle.m2_core.specs.declared.asking.CoreAsk.TheVariants as ask
 use Rattle.m2_core.specs.Agrees.{LeadsOn, MayCome, Stays}

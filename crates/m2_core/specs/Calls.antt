@@ -2,9 +2,9 @@
 use Rattle.std.specs.Prelude.{◌≡◌, ℕ, ◌==◌, ◌||◌, Bool, true, false, List, ◌++◌, nat_lt, Option, Some}
 use Rattle.std.specs.List.{list_any}
 use Rattle.std.specs.Option.{option_to_list}
-use Rattle.m2_answers.specs.declared.ask.AskFacts.{AskFacts}
-use Rattle.m2_answers.specs.Asks as asks
-use Rattle.m2_answers.specs.Dials.{at_rest}
+use Rattle.m2_session.specs.declared.ask.AskFacts.{AskFacts}
+use Rattle.m2_session.specs.Asks as asks
+use Rattle.m2_session.specs.Dials.{at_rest}
 use Rattle.m2_control.specs.declared.fields.TheConstants.{GREATEST_NUMBER}
 use Rattle.m2_fabric.specs.End.{SeenEnd}
 use Rattle.m2_feed.specs.Calls.{at_opening}
@@ -21,8 +21,8 @@ use Rattle.m2_session.specs.declared.event.Event.{Event}
 use Rattle.m2_session.specs.declared.event.Event.TheVariants as event
 use Rattle.m2_session.specs.declared.session.Phase.TheVariants.{Connecting}
 use Rattle.m2_session.specs.Phases as phase
-use Rattle.m2_live.specs.LiveNow.{LiveNow}
-use Rattle.m2_live.specs.Effects.{tells}
+use Rattle.m2_core.specs.LiveNow.{LiveNow}
+use Rattle.m2_core.specs.Effects.{tells}
 use Rattle.m2_core.specs.CoreNow.{CoreNow, may_dial}
 
 -- ---- the plan

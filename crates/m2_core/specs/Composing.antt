@@ -5,9 +5,9 @@ use Rattle.m2_feed.specs.declared.writing.Writing.TheVariants as writing
 use Rattle.m2_journal.specs.Laws.{CanBePaid, IfFed}
 use Rattle.m2_journal.specs.OutFrames as out
 use Rattle.m2_journal.specs.State.{State}
-use Rattle.m2_live.specs.LiveNow.{is_ready}
-use Rattle.m2_live.specs.OnFeed.{AnswersStamp, ComposesFeed}
-use Rattle.m2_live.specs.Calls.{live_with}
+use Rattle.m2_core.specs.LiveNow.{is_ready}
+use Rattle.m2_core.specs.OnFeed.{AnswersStamp, ComposesFeed}
+use Rattle.m2_core.specs.LiveCalls.{live_with}
 use Rattle.m2_core.specs.Agrees.{Agrees, Stays}
 use Rattle.m2_core.specs.CoreNow.{CoreNow}
 

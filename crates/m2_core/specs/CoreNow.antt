@@ -1,8 +1,8 @@
 -- What contracts see of a core: a record without its journal, plan and parcels. This project's own.
 use Rattle.std.specs.Prelude.{◌≡◌, ℕ, ◌+◌, ◌<◌, ◌≤◌, Bool, false, not, Option, Some, None}
 use Rattle.std.specs.Option.{is_some}
-use Rattle.m2_answers.specs.declared.cookie.TheConstants.{MOST_PLACES}
-use Rattle.m2_answers.specs.Dials as dials
+use Rattle.m2_session.specs.declared.cookie.TheConstants.{MOST_PLACES}
+use Rattle.m2_session.specs.Dials as dials
 use Rattle.m2_control.specs.declared.fields.TheConstants.{GREATEST_NUMBER}
 use Rattle.m2_feed.specs.FeedNow.{FeedNow, is_framing}
 use Rattle.m2_journal.specs.SideFacts.{SideFacts, absent}
@@ -10,7 +10,7 @@ use Rattle.m2_queues.specs.OutQueues.{last_number, new_queue}
 use Rattle.m2_session.specs.declared.session.Phase.{Phase}
 use Rattle.m2_session.specs.declared.session.Phase.TheVariants.{Connecting}
 use Rattle.m2_session.specs.Phases as phase
-use Rattle.m2_live.specs.LiveNow.{LiveNow, granted_on, is_granted_on, is_ready, is_waiting, size_granted}
+use Rattle.m2_core.specs.LiveNow.{LiveNow, granted_on, is_granted_on, is_ready, is_waiting, size_granted}
 
 pub record CoreNow : Type 0 where
   -- what never changes

@@ -3,19 +3,19 @@ use Rattle.std.specs.Prelude.{ℕ, nat_lt, if◌then◌else◌, Option, Some, No
 use Rattle.m2_feed.specs.FeedNow.{Reading, framing, shaking}
 use Rattle.m2_frame.specs.Frame.{message_tag}
 use Rattle.m2_frame.specs.Reading.{Front, start, bad, text, judge, owed_at}
-use Rattle.m2_heard.specs.declared.fault.WireFault.TheVariants as fault
-use Rattle.m2_heard.specs.declared.heard.FrameHeard.{FrameHeard}
-use Rattle.m2_heard.specs.declared.heard.FrameHeard.TheVariants.{Acknowledges, Fault}
-use Rattle.m2_heard.specs.declared.hearer.Hearer.{Hearer}
-use Rattle.m2_heard.specs.Heard.{heard_of}
+use Rattle.m2_feed.specs.declared.wire_fault.WireFault.TheVariants as fault
+use Rattle.m2_feed.specs.declared.frame_heard.FrameHeard.{FrameHeard}
+use Rattle.m2_feed.specs.declared.frame_heard.FrameHeard.TheVariants.{Acknowledges, Fault}
+use Rattle.m2_feed.specs.declared.hearer.Hearer.{Hearer}
+use Rattle.m2_feed.specs.FrameHeard.{heard_of}
 use Rattle.m2_journal.specs.SideFacts.{SideFacts}
 use Rattle.m2_journal.specs.State.{State}
 use Rattle.m2_queues.specs.OutQueues.{Queue}
 use Rattle.m2_session.specs.declared.session.Phase.TheVariants.{Ready}
 use Rattle.m2_session.specs.declared.session.Session.{Session}
 use Rattle.m2_session.specs.Phases as phase
-use Rattle.m2_live.specs.LiveNow.{OnFeedNow, is_ready}
-use Rattle.m2_live.specs.OnFeed.{Hears}
+use Rattle.m2_core.specs.LiveNow.{OnFeedNow, is_ready}
+use Rattle.m2_core.specs.OnFeed.{Hears}
 use Rattle.m2_core.specs.CoreNow.{CoreNow}
 
 -- ---- who hears

@@ -6,8 +6,8 @@ use Rattle.m2_shared.specs.Changes.{IsLook, IsMissed, IsRoom}
 use Rattle.m2_shared.specs.Place.{IsAlone, IsShared, Place}
 use Rattle.m2_shared.specs.Take.{IfFull, IfGranted, IfTakeAgain, IsAnswerAlone}
 use Rattle.m2_shared.specs.Throttle.{SeenTakePass, SeenThrottle, Waits}
-use Rattle.m2_live.specs.LiveNow.{LiveNow}
-use Rattle.m2_live.specs.OnFeed.{granted_feed}
+use Rattle.m2_core.specs.LiveNow.{LiveNow}
+use Rattle.m2_core.specs.OnFeed.{granted_feed}
 use Rattle.m2_core.specs.declared.granting.CoreGrant.{CoreGrant}
 use Rattle.m2_core.specs.declared.granting.CoreGrant.TheVariants as grant
 use Rattle.m2_core.specs.Agrees.{Stays}

@@ -4,19 +4,19 @@ use Rattle.m2_fabric.specs.End.{SeenEnd}
 use Rattle.m2_fabric.specs.declared.end.EndRead.{EndRead}
 use Rattle.m2_fabric.specs.declared.end.EndRead.TheVariants as read
 use Rattle.m2_feed.specs.FeedNow.{FeedNow}
-use Rattle.m2_hearing.specs.declared.heard.Heard.{Heard}
-use Rattle.m2_hearing.specs.declared.heard.Heard.TheVariants as heard
-use Rattle.m2_hearing.specs.Heard.{event_of}
+use Rattle.m2_feed.specs.declared.heard.Heard.{Heard}
+use Rattle.m2_feed.specs.declared.heard.Heard.TheVariants as heard
+use Rattle.m2_feed.specs.Heard.{event_of}
 use Rattle.m2_journal.specs.Items as item
 use Rattle.m2_journal.specs.SideFacts.{SideFacts}
 use Rattle.m2_session.specs.declared.event.Effects.{Effects}
 use Rattle.m2_session.specs.declared.session.Session.{Session}
 use Rattle.m2_session.specs.Steps.{nothing}
-use Rattle.m2_live.specs.LiveNow.{LiveNow, is_ready}
-use Rattle.m2_live.specs.Effects.{closed_if, effects_of}
-use Rattle.m2_live.specs.OnFeed.{ReadsFeed}
-use Rattle.m2_live.specs.Calls.{live_with}
-use Rattle.m2_live.specs.Hearing.{ObeysReset, TakesAnswer, heard_on}
+use Rattle.m2_core.specs.LiveNow.{LiveNow, is_ready}
+use Rattle.m2_core.specs.Effects.{closed_if, effects_of}
+use Rattle.m2_core.specs.OnFeed.{ReadsFeed}
+use Rattle.m2_core.specs.LiveCalls.{live_with}
+use Rattle.m2_core.specs.LiveHearing.{ObeysReset, TakesAnswer, heard_on}
 use Rattle.m2_core.specs.Agrees.{IsBroken, LeadsOn, MayCome, Stays}
 use Rattle.m2_core.specs.CoreNow.{CoreNow}
 

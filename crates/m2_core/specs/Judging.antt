@@ -2,9 +2,9 @@
 -- those of the session (docs/PROTOCOL.md); the rest is this project's own.
 use Rattle.std.specs.Prelude.{◌≡◌, ℕ, ◌<◌, ◌≤◌, true, false, if◌then◌else◌, List, Option, Some}
 use Rattle.std.specs.List.{AllByRecursion}
-use Rattle.m2_answers.specs.declared.ask.AskFacts.{AskFacts}
-use Rattle.m2_answers.specs.declared.frame.Carried.{Carried}
-use Rattle.m2_answers.specs.Frames.{frame_of}
+use Rattle.m2_session.specs.declared.ask.AskFacts.{AskFacts}
+use Rattle.m2_session.specs.declared.frame.Carried.{Carried}
+use Rattle.m2_session.specs.Frames.{frame_of}
 use Rattle.m2_control.specs.declared.control.Control.{Control}
 use Rattle.m2_control.specs.declared.fields.TheConstants.{GREATEST_NUMBER}
 use Rattle.m2_fabric.specs.declared.socket.SocketId.{SocketId}
@@ -19,8 +19,8 @@ use Rattle.m2_journal.specs.OutFrames.{OutFrame}
 use Rattle.m2_journal.specs.SideFacts.{SideFacts, cookie_of, speaker_of}
 use Rattle.m2_journal.specs.State.{State}
 use Rattle.m2_session.specs.declared.event.Event.{Event}
-use Rattle.m2_session.specs.Laws.{takes}
-use Rattle.m2_live.specs.LiveNow.{LiveNow}
+use Rattle.m2_session.specs.SessionLaws.{takes}
+use Rattle.m2_core.specs.LiveNow.{LiveNow}
 use Rattle.m2_core.specs.declared.verdict.Verdict.{Verdict}
 use Rattle.m2_core.specs.Agrees.{Agrees}
 use Rattle.m2_core.specs.Calls.{answer_to, event_of}

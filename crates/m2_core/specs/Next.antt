@@ -3,18 +3,18 @@ use Rattle.std.specs.Prelude.{◌≡◌, ℕ, ◌-◌, ◌+◌, ◌<◌, ◌≤�
 use Rattle.m2_feed.specs.Calls.{IsBad, Owes, Rests}
 use Rattle.m2_feed.specs.FeedNow.{Reading}
 use Rattle.m2_frame.specs.Frame.{message_tag}
-use Rattle.m2_heard.specs.declared.fault.WireFault.TheVariants as fault
-use Rattle.m2_heard.specs.declared.heard.FrameHeard.{FrameHeard}
-use Rattle.m2_heard.specs.declared.heard.FrameHeard.TheVariants as heard
-use Rattle.m2_hearing.specs.declared.heard.Heard.TheVariants as answer
+use Rattle.m2_feed.specs.declared.wire_fault.WireFault.TheVariants as fault
+use Rattle.m2_feed.specs.declared.frame_heard.FrameHeard.{FrameHeard}
+use Rattle.m2_feed.specs.declared.frame_heard.FrameHeard.TheVariants as heard
+use Rattle.m2_feed.specs.declared.heard.Heard.TheVariants as answer
 use Rattle.m2_journal.specs.Items as item
 use Rattle.m2_session.specs.declared.event.Effects.{Effects}
 use Rattle.m2_session.specs.declared.event.Event.TheVariants as event
 use Rattle.m2_session.specs.Steps.{nothing, step_of}
 use Rattle.m2_shared.specs.declared.take.Take.TheVariants as take
 use Rattle.m2_shared.specs.Throttle.{SeenTakePass}
-use Rattle.m2_live.specs.LiveNow.{LiveNow, OnFeedNow, is_ready, is_waiting}
-use Rattle.m2_live.specs.Calls.{after_counted, after_fault}
+use Rattle.m2_core.specs.LiveNow.{LiveNow, OnFeedNow, is_ready, is_waiting}
+use Rattle.m2_core.specs.LiveCalls.{after_counted, after_fault}
 use Rattle.m2_core.specs.declared.next.CoreNext.{CoreNext}
 use Rattle.m2_core.specs.declared.next.CoreNext.TheVariants as next
 use Rattle.m2_core.specs.declared.resting.CoreRest.{CoreRest}

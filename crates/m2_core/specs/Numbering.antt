@@ -2,7 +2,7 @@
 use Rattle.std.specs.Prelude.{◌≡◌, ℕ, Result, Ok, Err}
 use Rattle.m2_bytes.specs.declared.memory.NoMemory as memory
 use Rattle.m2_journal.specs.Items as item
-use Rattle.m2_live.specs.Numbering.{NumbersOn}
+use Rattle.m2_core.specs.LiveNumbering.{NumbersOn}
 use Rattle.m2_core.specs.Agrees.{LeadsOn, MayCome, Stays}
 use Rattle.m2_core.specs.CoreNow.{CoreNow}
 

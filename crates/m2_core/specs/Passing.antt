@@ -5,12 +5,12 @@ use Rattle.m2_control.specs.declared.keepalive.Keepalive.{Keepalive}
 use Rattle.m2_feed.specs.Calls.{NotesStamp}
 use Rattle.m2_feed.specs.FeedNow.{FeedNow}
 use Rattle.m2_frame.specs.Reading.{Item}
-use Rattle.m2_heard.specs.declared.heard.FrameHeard.{FrameHeard}
-use Rattle.m2_heard.specs.declared.heard.FrameHeard.TheVariants.{Nothing, Stamp}
-use Rattle.m2_heard.specs.declared.hearer.Hearer.{Hearer}
-use Rattle.m2_heard.specs.Heard.{heard_of}
-use Rattle.m2_live.specs.OnFeed.{Hears, PassesItem}
-use Rattle.m2_live.specs.Calls.{passed_live}
+use Rattle.m2_feed.specs.declared.frame_heard.FrameHeard.{FrameHeard}
+use Rattle.m2_feed.specs.declared.frame_heard.FrameHeard.TheVariants.{Nothing, Stamp}
+use Rattle.m2_feed.specs.declared.hearer.Hearer.{Hearer}
+use Rattle.m2_feed.specs.FrameHeard.{heard_of}
+use Rattle.m2_core.specs.OnFeed.{Hears, PassesItem}
+use Rattle.m2_core.specs.LiveCalls.{passed_live}
 use Rattle.m2_core.specs.Agrees.{Stays}
 use Rattle.m2_core.specs.CoreNow.{CoreNow}
 use Rattle.m2_core.specs.Front.{hearer_of}

@@ -2,8 +2,8 @@
 use Rattle.std.specs.Prelude.{◌≡◌}
 use Rattle.m2_handshake.specs.declared.answer.HalfStep.{HalfStep}
 use Rattle.m2_handshake.specs.declared.answer.HalfStep.TheVariants as half
-use Rattle.m2_live.specs.OnFeed.{GreetsFeed}
-use Rattle.m2_live.specs.Calls.{live_with}
+use Rattle.m2_core.specs.OnFeed.{GreetsFeed}
+use Rattle.m2_core.specs.LiveCalls.{live_with}
 use Rattle.m2_core.specs.Agrees.{IsBroken, Stays}
 use Rattle.m2_core.specs.CoreNow.{CoreNow}
 

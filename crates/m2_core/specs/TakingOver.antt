@@ -5,7 +5,7 @@ use Rattle.m2_fabric.specs.End.{SeenEnd}
 use Rattle.m2_feed.specs.Calls.{at_acceptance}
 use Rattle.m2_feed.specs.FeedNow.{FeedNow}
 use Rattle.m2_journal.specs.declared.entry.JudgedItem.{JudgedItem}
-use Rattle.m2_live.specs.Calls.{resumed_by_ask, tells_if, with_taken}
+use Rattle.m2_core.specs.LiveCalls.{resumed_by_ask, tells_if, with_taken}
 use Rattle.m2_core.specs.declared.verdict.Verdict.{Verdict}
 use Rattle.m2_core.specs.Agrees.{LeadsOn}
 use Rattle.m2_core.specs.CoreNow.{CoreNow}

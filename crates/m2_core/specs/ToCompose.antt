@@ -8,7 +8,7 @@ use Rattle.m2_queues.specs.OutQueues.{next_number}
 use Rattle.m2_session.specs.Phases as phase
 use Rattle.m2_session.specs.Table.{Row, row, first_that_holds}
 use Rattle.m2_session.specs.declared.session.Phase.TheVariants.{Connecting}
-use Rattle.m2_live.specs.LiveNow.{is_ready}
+use Rattle.m2_core.specs.LiveNow.{is_ready}
 use Rattle.m2_core.specs.CoreNow.{CoreNow}
 use Rattle.m2_core.specs.declared.to_compose.CoreText.{CoreText}
 use Rattle.m2_core.specs.declared.to_compose.CoreText.TheVariants as text

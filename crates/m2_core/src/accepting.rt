@@ -1,7 +1,7 @@
 //! Messages that are accepted.
 
 ghost use Rattle.std.specs.Prelude.{◌≡◌};
-ghost use Rattle.m2_heard.specs.declared.heard.FrameHeard.TheVariants as heard;
+ghost use Rattle.m2_feed.specs.declared.frame_heard.FrameHeard.TheVariants as heard;
 ghost use Rattle.m2_journal.specs.Lawful.{key_of};
 ghost use Rattle.m2_journal.specs.SideFacts.{SideFacts};
 ghost use Rattle.m2_message.specs.Message.{Content};

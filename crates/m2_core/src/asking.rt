@@ -1,7 +1,7 @@
 //! Asks.
 
 ghost use Rattle.std.specs.Prelude.{◌≡◌, ◌≤◌, ◌<◌, IfOk};
-ghost use Rattle.m2_live.specs.Asking.{IsAsk, ask_len};
+ghost use Rattle.m2_core.specs.LiveAsking.{IsAsk, ask_len};
 ghost use Rattle.m2_core.specs.Asking.{HasAsked, LeavesAsk, LeavesPass, MayAskNow, ask_of};
 
 use crate::feed_laws::feed_laws;
@@ -10,7 +10,7 @@ use m2_addr::AddrVec;
 use m2_bytes::NoMemory;
 use m2_control::{ClientIdent, Control, SessionReconnect};
 use m2_fabric::End;
-use m2_live::{ask_len, cookie_at};
+use crate::{ask_len, cookie_at};
 use m2_shared::{Draw, NumberPass, Numbers};
 
 /// What an ask answered.

@@ -1,15 +1,15 @@
 //! Texts that no entry names.
 
 ghost use Rattle.std.specs.Prelude.{◌≡◌, true};
-ghost use Rattle.m2_live.specs.LiveNow.{OnFeedNow, is_ready};
-ghost use Rattle.m2_live.specs.OnFeed.{CanWrite, HasStamp};
+ghost use Rattle.m2_core.specs.LiveNow.{OnFeedNow, is_ready};
+ghost use Rattle.m2_core.specs.OnFeed.{CanWrite, HasStamp};
 ghost use Rattle.m2_core.specs.Composing.{HasAcknowledged, HasAnswered, OwesOne};
 
 use crate::feed_laws::feed_laws;
 use crate::side::Core;
 use m2_bytes::NoMemory;
 use m2_fabric::End;
-use m2_live::{acknowledge_on, answer_on};
+use crate::{acknowledge_on, answer_on};
 
 impl<E: End> Core<E> {
     /// Composes an acknowledgement up to the last accepted number, where one is owed. No entry names it.

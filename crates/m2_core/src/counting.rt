@@ -2,8 +2,8 @@
 
 ghost use Rattle.std.specs.Prelude.{◌≡◌, ◌<◌, ◌≤◌, true};
 ghost use Rattle.m2_journal.specs.Items as item;
-ghost use Rattle.m2_live.specs.LiveNow.{is_ready};
-ghost use Rattle.m2_live.specs.Calls.{after_counted};
+ghost use Rattle.m2_core.specs.LiveNow.{is_ready};
+ghost use Rattle.m2_core.specs.LiveCalls.{after_counted};
 ghost use Rattle.m2_core.specs.Agrees.{IsToldTo, LeadsOn, MayCome};
 
 use crate::feed_laws::feed_laws;

@@ -1,6 +1,6 @@
 //! What is known of feeds beside their replay, in one place.
 
-ghost use Rattle.m2_feed.specs.Laws as laws;
+ghost use Rattle.m2_feed.specs.FeedLaws as laws;
 
 /// The laws of feeds that the calls of a core rest on. It does nothing.
 pub(crate) fn feed_laws()

@@ -1,7 +1,7 @@
 //! What is known of the front of a feed beside its replay, in one place.
 
-ghost use Rattle.m2_feed.specs.Laws as laws;
-ghost use Rattle.m2_heard.specs.Laws as heard;
+ghost use Rattle.m2_feed.specs.FeedLaws as laws;
+ghost use Rattle.m2_feed.specs.FrameLaws as heard;
 
 /// The laws of fronts that the calls of a core rest on. It does nothing.
 pub(crate) fn front_laws()
@@ -19,7 +19,7 @@ pub(crate) fn front_laws()
     m2_feed::another_state_stays_beside_the_feed();
     m2_feed::faults_are_faults_of_the_replay();
     m2_feed::what_is_acknowledged_was_told();
-    m2_heard::what_is_heard_is_what_the_replay_says();
-    m2_heard::what_brings_a_message_is_one();
-    m2_heard::a_message_asks_for_its_size();
+    m2_feed::what_is_heard_is_what_the_replay_says();
+    m2_feed::what_brings_a_message_is_one();
+    m2_feed::a_message_asks_for_its_size();
 }

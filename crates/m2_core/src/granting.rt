@@ -4,13 +4,13 @@ ghost use Rattle.std.specs.Prelude.{◌≡◌, ◌≤◌, None, true};
 ghost use Rattle.m2_feed.specs.Calls.{Owes};
 ghost use Rattle.m2_shared.specs.declared.limits.TheConstants.{MOST_TAKEN};
 ghost use Rattle.m2_shared.specs.Place.{IsAlone};
-ghost use Rattle.m2_live.specs.LiveNow.{OnFeedNow, is_ready};
+ghost use Rattle.m2_core.specs.LiveNow.{OnFeedNow, is_ready};
 ghost use Rattle.m2_core.specs.Granting.{HasGranted, word_after};
 
 use crate::feed_laws::feed_laws;
 use crate::side::Core;
 use m2_fabric::End;
-use m2_live::grant_on;
+use crate::grant_on;
 use m2_shared::{Take, TakePass, Throttle};
 
 /// What asking a throttle for the size of a MESSAGE answered.

@@ -2,11 +2,11 @@
 
 ghost use Rattle.std.specs.Prelude.{◌≡◌, ℕ, List, ◌-◌, ◌<◌, ◌≤◌, true, false, length, option_map, IfSome, IsSome};
 ghost use Rattle.m2_fabric.specs.declared.socket.SocketId.{SocketId};
-ghost use Rattle.m2_session.specs.Laws.{takes};
+ghost use Rattle.m2_session.specs.SessionLaws.{takes};
 ghost use Rattle.m2_shared.specs.Place.{IsAlone};
-ghost use Rattle.m2_live.specs.LiveNow.{IsOwned, held};
-ghost use Rattle.m2_live.specs.Effects.{IsAftermath, closed_of, effects_of};
-ghost use Rattle.m2_live.specs.Calls.{resumed_by_ask};
+ghost use Rattle.m2_core.specs.LiveNow.{IsOwned, held};
+ghost use Rattle.m2_core.specs.Effects.{IsAftermath, closed_of, effects_of};
+ghost use Rattle.m2_core.specs.LiveCalls.{resumed_by_ask};
 ghost use Rattle.m2_core.specs.Judging.{IsVerdict, acceptance_text, told_of};
 ghost use Rattle.m2_core.specs.TakingOver.{MakesJudgement, IsTakenFeed, after_answering, after_taking};
 
@@ -17,7 +17,7 @@ use m2_bytes::Blob;
 use m2_fabric::End;
 use m2_feed::Feed;
 use m2_frame::Decoder;
-use m2_live::{Aftermath, resumed_by_ask};
+use crate::{Aftermath, resumed_by_ask};
 use m2_shared::{TakePass, Throttle};
 
 impl<E: End> Core<E> {

@@ -1,8 +1,20 @@
+//! What a step of a session can change, and the calls that change it.
+//!
+//! What it is: [`Live`], the session with its outgoing queue, the last accepted number, and the feed with what
+//! a throttle granted for it. [`Live::tell`] tells the session of an event and does what the table of steps
+//! says then; [`Aftermath`] has what that leaves for the caller. The functions that end in `_on` are one call
+//! of a feed each, where there is one. [`Waits`] says when a side may dial again.
+//! What it isn't: sound by itself. It knows no replay, no facts of its side and no rule of when an event may
+//! come; `m2_core` does, and says of each call what the replay of a journal makes of it.
+//!
+//! `specs/LiveNow.antt` says what contracts see of it, `specs/Effects.antt` what a step leaves, and
+//! `specs/OnFeed.antt` what each call of a feed leaves.
+//!
 //! One side of a session without its journal: the session, the outgoing queue and the feed.
 //!
 //! What it is: [`Core`], what a record is beside its journal, its plan and its trails; and its calls, of
 //! which each says by the replay of journals what it does. Most are one entry, and behind that entry the core
-//! stands where the replay does, wherever it did so before (`Aftermath` of `m2_live` has what the entry leaves for the
+//! stands where the replay does, wherever it did so before (`Aftermath` of `m2_core` has what the entry leaves for the
 //! record). The others make none, and the core stands where it stood: what the opener's half answers, news of
 //! the other side, a size that is granted, a text that is passed, and the two texts that no entry names.
 //! What it isn't: a record. It writes no journal, knows no plan and no clock, and does nothing by itself.
@@ -12,6 +24,7 @@
 #![tactic(auto)]
 
 mod accepting;
+mod aftermath;
 mod asking;
 mod composing;
 mod counting;
@@ -19,11 +32,19 @@ mod facts;
 mod feed_laws;
 mod front_laws;
 mod granting;
+mod hearing;
 mod judging;
+mod laws;
+mod live;
+mod live_accepting;
+mod live_asking;
+mod live_numbering;
+mod live_passing;
 mod news;
 mod next;
 mod numbering;
 mod obeying;
+mod on_feed;
 mod passing;
 mod plan;
 mod reading;
@@ -31,14 +52,26 @@ mod resting;
 mod shaking;
 mod side;
 mod sockets;
+mod taking;
 mod to_compose;
 mod verdict;
+mod waits;
 
 pub use accepting::CoreAccepted;
+pub use aftermath::Aftermath;
 pub use asking::CoreAsk;
 pub use granting::CoreGrant;
+pub use hearing::raise;
+pub use laws::waits_double;
+pub use live::{Live, give_back};
+pub use live_asking::{ask_len, cookie_at};
 pub use next::{CoreFront, CoreNext};
+pub use on_feed::{
+    acknowledge_on, answer_on, front_on, grant_on, greet_on, hear_on, next_on, read_on, write_on,
+};
 pub use reading::CoreRead;
 pub use side::Core;
+pub use taking::resumed_by_ask;
 pub use to_compose::CoreText;
 pub use verdict::Verdict;
+pub use waits::Waits;

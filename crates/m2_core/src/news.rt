@@ -1,15 +1,15 @@
 //! What the feed's end is told of the other side.
 
 ghost use Rattle.std.specs.Prelude.{◌≡◌, OnErr, OnOk};
-ghost use Rattle.m2_live.specs.OnFeed.{feed_after_news};
-ghost use Rattle.m2_live.specs.Calls.{live_with};
+ghost use Rattle.m2_core.specs.OnFeed.{feed_after_news};
+ghost use Rattle.m2_core.specs.LiveCalls.{live_with};
 ghost use Rattle.m2_core.specs.Agrees.{Stays};
 
 use crate::feed_laws::feed_laws;
 use crate::side::Core;
 use m2_bytes::NoMemory;
 use m2_fabric::{End, News};
-use m2_live::hear_on;
+use crate::hear_on;
 
 impl<E: End> Core<E> {
     /// Tells the feed's end, where there is one and it is in memory, of the other side. Nothing else

@@ -4,11 +4,11 @@ ghost use Rattle.std.specs.Prelude.{◌≡◌, IfSome, IsNone, None, true, false
 ghost use Rattle.std.specs.Option.{is_some};
 ghost use Rattle.m2_feed.specs.Calls.{Owes};
 ghost use Rattle.m2_feed.specs.FeedNow.{is_framing};
-ghost use Rattle.m2_heard.specs.declared.heard.FrameHeard.TheVariants as heard;
+ghost use Rattle.m2_feed.specs.declared.frame_heard.FrameHeard.TheVariants as heard;
 ghost use Rattle.m2_shared.specs.Place.{IsAlone};
-ghost use Rattle.m2_live.specs.LiveNow.{IsOwned, OnFeedNow, held, is_ready};
-ghost use Rattle.m2_live.specs.Effects.{IsAftermath};
-ghost use Rattle.m2_live.specs.OnFeed.{HasNoFrame};
+ghost use Rattle.m2_core.specs.LiveNow.{IsOwned, OnFeedNow, held, is_ready};
+ghost use Rattle.m2_core.specs.Effects.{IsAftermath};
+ghost use Rattle.m2_core.specs.OnFeed.{HasNoFrame};
 ghost use Rattle.m2_core.specs.Agrees.{IsBroken};
 ghost use Rattle.m2_core.specs.Front.{HearsOn, front_of, heard_by, hearer_of, resumption_at, resumption_of, tells};
 ghost use Rattle.m2_core.specs.Next.{CanHeed, IsNext, MayObeyIfReset, effects_next, granted_next, size_front, word_next};
@@ -20,11 +20,11 @@ use crate::resting::CoreRest;
 use crate::side::Core;
 use m2_bytes::NoMemory;
 use m2_fabric::End;
-use m2_heard::{FrameHeard, Hearer, WireFault};
-use m2_live::{Aftermath, front_on};
+use m2_feed::{FrameHeard, Hearer, WireFault};
+use crate::{Aftermath, front_on};
 use m2_session::Phase;
 use m2_shared::{TakePass, Throttle};
-use m2_tag::Tag;
+use m2_frame::Tag;
 
 /// What was done with the front of the feed. It may hold a grant, so it can't be dropped.
 pub enum CoreNext {

@@ -1,9 +1,9 @@
 //! The next message.
 
 ghost use Rattle.std.specs.Prelude.{◌≡◌, true};
-ghost use Rattle.m2_live.specs.LiveNow.{OnFeedNow, is_ready};
-ghost use Rattle.m2_live.specs.OnFeed.{CanWrite};
-ghost use Rattle.m2_live.specs.Numbering.{HasNumber, IsNextSendable};
+ghost use Rattle.m2_core.specs.LiveNow.{OnFeedNow, is_ready};
+ghost use Rattle.m2_core.specs.OnFeed.{CanWrite};
+ghost use Rattle.m2_core.specs.LiveNumbering.{HasNumber, IsNextSendable};
 ghost use Rattle.m2_core.specs.Numbering.{HasNumbered};
 
 use crate::feed_laws::feed_laws;

@@ -1,16 +1,16 @@
 //! A reset that is obeyed.
 
 ghost use Rattle.std.specs.Prelude.{◌≡◌, Some, option_map};
-ghost use Rattle.m2_hearing.specs.declared.heard.Heard.TheVariants as heard;
+ghost use Rattle.m2_feed.specs.declared.heard.Heard.TheVariants as heard;
 ghost use Rattle.m2_session.specs.declared.event.Event.TheVariants as event;
 ghost use Rattle.m2_session.specs.Steps.{step_of};
-ghost use Rattle.m2_live.specs.Effects.{IsAftermath};
+ghost use Rattle.m2_core.specs.Effects.{IsAftermath};
 ghost use Rattle.m2_core.specs.Hearing.{HasObeyed, hearing};
 
 use crate::reading::laws_of_hearing;
 use crate::side::Core;
 use m2_fabric::End;
-use m2_live::Aftermath;
+use crate::Aftermath;
 
 impl<E: End> Core<E> {
     /// Obeys the SESSION_RESET that is heard at the front, with this mark: the entry Obeyed. Its frame is

@@ -1,9 +1,9 @@
 //! Texts at the front that are passed without an entry.
 
 ghost use Rattle.std.specs.Prelude.{◌≡◌, ◌-◌, IsErr, IsOk};
-ghost use Rattle.m2_heard.specs.declared.heard.FrameHeard.TheVariants as heard;
+ghost use Rattle.m2_feed.specs.declared.frame_heard.FrameHeard.TheVariants as heard;
 ghost use Rattle.m2_shared.specs.Place.{IsAlone};
-ghost use Rattle.m2_live.specs.LiveNow.{IsOwned, held};
+ghost use Rattle.m2_core.specs.LiveNow.{IsOwned, held};
 ghost use Rattle.m2_core.specs.Front.{HearsOn};
 ghost use Rattle.m2_core.specs.Passing.{HasNoted, HasPassed};
 

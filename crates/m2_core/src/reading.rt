@@ -2,19 +2,19 @@
 
 ghost use Rattle.std.specs.Prelude.{◌≡◌, false, true, None, Some, IfSome, option_map};
 ghost use Rattle.std.specs.Option.{is_some};
-ghost use Rattle.m2_hearing.specs.Heard.{IsBounded};
-ghost use Rattle.m2_hearing.specs.Laws as hearing_laws;
-ghost use Rattle.m2_feed.specs.Laws as feed_laws;
-ghost use Rattle.m2_live.specs.Effects.{closed_if};
-ghost use Rattle.m2_live.specs.OnFeed.{ReadsFeed};
-ghost use Rattle.m2_live.specs.Calls.{live_with};
-ghost use Rattle.m2_live.specs.Hearing.{raised_by};
+ghost use Rattle.m2_feed.specs.Heard.{IsBounded};
+ghost use Rattle.m2_feed.specs.AnswerLaws as hearing_laws;
+ghost use Rattle.m2_feed.specs.FeedLaws as feed_laws;
+ghost use Rattle.m2_core.specs.Effects.{closed_if};
+ghost use Rattle.m2_core.specs.OnFeed.{ReadsFeed};
+ghost use Rattle.m2_core.specs.LiveCalls.{live_with};
+ghost use Rattle.m2_core.specs.LiveHearing.{raised_by};
 ghost use Rattle.m2_core.specs.Hearing.{HasRead, Heeds, IsFaultHeard, effects_heard, hearing};
 
 use crate::side::Core;
 use m2_fabric::{End, EndRead};
-use m2_hearing::Heard;
-use m2_live::{Aftermath, raise, read_on};
+use m2_feed::Heard;
+use crate::{Aftermath, raise, read_on};
 use m2_shared::{NumberPass, Numbers};
 
 /// What a read answered.
@@ -124,6 +124,6 @@ pub(crate) fn laws_of_hearing()
     m2_feed::another_state_stays_beside_the_feed();
     m2_feed::faults_are_faults_of_the_replay();
     m2_feed::what_is_acknowledged_was_told();
-    m2_hearing::frames_are_heard_as_in_the_replay();
-    m2_hearing::fronts_are_heard_as_in_the_replay();
+    m2_feed::frames_are_heard_as_in_the_replay();
+    m2_feed::fronts_are_heard_as_in_the_replay();
 }

@@ -3,15 +3,15 @@
 ghost use Rattle.std.specs.Prelude.{◌≡◌, true};
 ghost use Rattle.m2_feed.specs.FeedNow.{is_framing};
 ghost use Rattle.m2_shared.specs.Place.{IsAlone};
-ghost use Rattle.m2_live.specs.LiveNow.{IsOwned, OnFeedNow, held};
-ghost use Rattle.m2_live.specs.OnFeed.{HasNoFrame};
+ghost use Rattle.m2_core.specs.LiveNow.{IsOwned, OnFeedNow, held};
+ghost use Rattle.m2_core.specs.OnFeed.{HasNoFrame};
 ghost use Rattle.m2_core.specs.Next.{LeavesRest, RestSays, word_rest};
 
 use crate::front_laws::front_laws;
 use crate::side::Core;
 use m2_fabric::End;
 use m2_frame::{FrameFault, Got};
-use m2_live::{give_back, next_on};
+use crate::{give_back, next_on};
 use m2_shared::{TakePass, Throttle};
 
 /// What stands at the front where no whole frame does.

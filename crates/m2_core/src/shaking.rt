@@ -2,14 +2,14 @@
 
 ghost use Rattle.std.specs.Prelude.{◌≡◌, false};
 ghost use Rattle.m2_feed.specs.FeedNow.{is_framing};
-ghost use Rattle.m2_live.specs.LiveNow.{OnFeedNow};
+ghost use Rattle.m2_core.specs.LiveNow.{OnFeedNow};
 ghost use Rattle.m2_core.specs.Shaken.{HasShaken};
 
 use crate::feed_laws::feed_laws;
 use crate::side::Core;
 use m2_fabric::End;
 use m2_handshake::HalfStep;
-use m2_live::greet_on;
+use crate::greet_on;
 
 impl<E: End> Core<E> {
     /// One answer of the opener's half, which makes no entry; what it writes is composed. A fault that it

@@ -1,10 +1,10 @@
 //! One side of a session.
 
 ghost use Rattle.std.specs.Prelude.{◌≡◌, ◌<◌, ◌-◌, option_map};
-ghost use Rattle.m2_answers.specs.declared.cookie.TheConstants.{MOST_PLACES};
+ghost use Rattle.m2_session.specs.declared.cookie.TheConstants.{MOST_PLACES};
 ghost use Rattle.m2_journal.specs.State.{start};
 ghost use Rattle.m2_shared.specs.Place.{IsAlone};
-ghost use Rattle.m2_live.specs.LiveNow.{IsOwned, held, is_waiting};
+ghost use Rattle.m2_core.specs.LiveNow.{IsOwned, held, is_waiting};
 ghost use Rattle.m2_core.specs.Agrees.{Agrees};
 ghost use Rattle.m2_core.specs.Calls.{is_exhausted, lacks_connect_number, lacks_message_number};
 ghost use Rattle.m2_core.specs.CoreNow.{at_start, may_dial};
@@ -14,7 +14,7 @@ use m2_control::GREATEST_NUMBER;
 use m2_fabric::End;
 use m2_feed::Feed;
 use m2_journal::NodeFacts;
-use m2_live::Live;
+use crate::Live;
 use m2_policy::Policy;
 use m2_queues::OutQueues;
 use m2_session::{Phase, Session};
@@ -141,7 +141,7 @@ impl<E: End> Core<E> {
     pub fn may_dial(&self) -> bool
         ensures { result ≡ may_dial self.now }
     {
-        m2_answers::dials(&self.live.session, self.live.out.waits(), self.dials)
+        m2_session::dials(&self.live.session, self.live.out.waits(), self.dials)
     }
 
     /// Whether a number that is needed next is above the greatest: that of the next message, of a dial

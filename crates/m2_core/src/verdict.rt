@@ -2,16 +2,16 @@
 
 ghost use Rattle.std.specs.Prelude.{◌≡◌, IfOk, true};
 ghost use Rattle.m2_journal.specs.SideFacts.{cookie_of};
-ghost use Rattle.m2_session.specs.Laws.{takes};
+ghost use Rattle.m2_session.specs.SessionLaws.{takes};
 ghost use Rattle.m2_core.specs.Calls as calls;
 ghost use Rattle.m2_core.specs.Judging.{CanJudge, IsAnswerFrame, IsVerdict, MayBeJudged, acceptance_text, told_of, verdict_on};
 
 use crate::side::Core;
-use m2_answers::{AskFacts, Carried, Speaker, event_of, judge};
+use m2_session::{AskFacts, Carried, Speaker, event_of, judge};
 use m2_bytes::{Blob, NoMemory};
 use m2_control::Control;
 use m2_fabric::End;
-use m2_live::cookie_at;
+use crate::cookie_at;
 use m2_session::{Answer, Event};
 
 /// The answer of this side to an ask on a socket of its peer's.
@@ -98,7 +98,7 @@ impl<E: End> Core<E> {
             global: v.number,
             last: self.live.last,
         };
-        match m2_answers::frame_of(self.alloc, &v.answer, &speaker, &carried)? {
+        match m2_session::frame_of(self.alloc, &v.answer, &speaker, &carried)? {
             Some(frame) => Ok(frame),
             None => unreachable!(),
         }

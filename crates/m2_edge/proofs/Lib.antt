@@ -1,3 +1,4 @@
+pub mod Counted
 pub mod Known
 pub mod Places
 pub mod Wholes

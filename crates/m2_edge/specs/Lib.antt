@@ -1,7 +1,10 @@
 pub mod Adapters
 pub mod Calls
+pub mod Clock
 pub mod Faults
+pub mod Laws
 pub mod Memory
 pub mod Sink
 pub mod Source
 pub mod Whole
+pub mod Words

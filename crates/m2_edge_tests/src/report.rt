@@ -2,13 +2,13 @@
 
 ghost use Rattle.std.specs.Prelude.{◌≡◌, ◌+◌, All, length, IfOk, OnOk};
 ghost use Rattle.m2_dispatch.specs.Heard.{peer_of, heard_of};
-ghost use Rattle.m2_report.specs.Report.{IsOfNodes, IsLogOf, AreLogsOf};
+ghost use Rattle.m2_scenario.specs.Report.{IsOfNodes, IsLogOf, AreLogsOf};
 
 use m2_bytes::{Blob, Items};
 use m2_dispatch::{Logged, LoggedList};
 use m2_message::{Header, Message};
 use m2_policy::{Key, Path};
-use m2_report::{LogsList, report};
+use m2_scenario::{LogsList, report};
 use m2_scenario::Line;
 use m2_scenario_text::read;
 use std::alloc::Global;

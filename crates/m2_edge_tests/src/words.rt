@@ -1,6 +1,6 @@
 //! A line's words.
 
-use m2_words::{cut, words_in};
+use m2_scenario::{cut, words_in};
 use std::process::Abort;
 
 #[test]

@@ -1,7 +1,17 @@
+pub mod CutEnd
+pub mod CutPort
 pub mod End
 pub mod Fabric
 pub mod Holder
+pub mod InStep
+pub mod Kept
 pub mod Kinds
 pub mod Log
+pub mod Meeting
+pub mod News
+pub mod Over
 pub mod Port
+pub mod SimEnd
+pub mod SimFabric
+pub mod SimPort
 pub mod Sockets

@@ -4,26 +4,49 @@
 //! What it is: [`SocketId`], a socket's name; [`EndLog`], all that an end did; the traits [`End`] (one
 //! end of a socket), [`Port`] (what opens and accepts sockets for one event thread) and [`Fabric`] (what
 //! gives a node its ports and tells of them afterwards). What it isn't: a network. Ends in memory stand
-//! in `m2_sim_fabric`. [`MemoryPort`] and [`MemoryEnd`] say more of ports and ends in memory, and [`Holder`] is
+//! in `m2_fabric`. [`MemoryPort`] and [`MemoryEnd`] say more of ports and ends in memory, and [`Holder`] is
 //! whoever has the ports and ends of all nodes in memory.
 //!
 //! Each end, port and fabric has a count of faults, and answers `Failed` only where it rose. Contracts
 //! see of an end its socket, its log and its faults, and each call by one relation by cases on its
 //! answer.
+//!
+//! Ends and ports in memory, and ends that break after so many bytes.
+//!
+//! What it is: [`SimEnd`] and [`SimPort`], an end and a port as plain values that share nothing: what
+//! flows between them is told by whoever drives them; [`CutEnd`] and [`CutPort`], any end and port, of
+//! which an end fails once so many bytes passed. What it isn't: threads, or a real network.
+//!
+//! The sockets between nodes in memory, and what flows on them.
 #![tactic(auto)]
 
+mod cut_end;
+mod cut_port;
+mod direction;
 mod end;
 mod fabric;
 mod holder;
+mod kept;
 mod kinds;
 mod log;
+mod meeting;
+mod pair;
+mod passing;
 mod port;
+mod sim_end;
+mod sim_fabric;
+mod sim_port;
 mod socket;
 
+pub use cut_end::CutEnd;
+pub use cut_port::{Cut, CutList, CutPort};
 pub use end::{End, EndRead, EndWrite, News};
 pub use fabric::Fabric;
 pub use holder::Holder;
 pub use kinds::{MemoryEnd, MemoryPort, are_in_memory};
 pub use log::{EndLog, MOST_MOVED, Run, RunList};
 pub use port::{Connect, EndList, Port, PortList, Taken};
+pub use sim_end::SimEnd;
+pub use sim_fabric::{AddrList, SimFabric};
+pub use sim_port::SimPort;
 pub use socket::{SocketId, SocketIdList, is_among};

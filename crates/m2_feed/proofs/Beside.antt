@@ -28,7 +28,7 @@ use Rattle.m2_feed.specs.declared.writing.Writing.TheVariants.{Nothing, Named, A
 use Rattle.m2_feed.specs.Calls as calls
 use Rattle.m2_feed.specs.Calls.{GreetsOn, HalfWrites, IsFront, NotesStamp, OnlyReads, Passes, after_greeting, after_put, at_acceptance, at_opening, greeting_left, heard, is_empty, is_signing, passed, pays, writing_left, stamps_left}
 use Rattle.m2_feed.specs.FeedNow.{FeedNow, Reading, shaking, framing, is_framing}
-use Rattle.m2_feed.specs.Laws.{ChangesBeside, ComposesBeside, GreetsBeside, HearsBeside, IsAcceptance, OpensBeside, PassesBeside, PassesThe, PutsBeside, PutsKeep, ReadsBeside, StaysBeside, TakesBeside, TakesOverBeside, gives, takes}
+use Rattle.m2_feed.specs.FeedLaws.{ChangesBeside, ComposesBeside, GreetsBeside, HearsBeside, IsAcceptance, OpensBeside, PassesBeside, PassesThe, PutsBeside, PutsKeep, ReadsBeside, StaysBeside, TakesBeside, TakesOverBeside, gives, takes}
 use Rattle.m2_feed.specs.Stands.{Frames, IsNextStamp, MayAcknowledge, ReadsAs, Shakes, Stands, WritesAs, is_ready, passes_over}
 use Rattle.m2_feed.proofs.Begun.{greeting-put}
 use Rattle.m2_feed.proofs.Framing.{frames-hear, frames-idle, frames-pass, frames-ready, idle-next, idle-takes, ready-place, ready-takes, same, writes-same}

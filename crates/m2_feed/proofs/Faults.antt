@@ -23,15 +23,15 @@ use Rattle.m2_journal.specs.Said.{Said, says, brings, aborts, garbles, Split, sp
 use Rattle.m2_journal.specs.SideFacts.{SideFacts}
 use Rattle.m2_journal.specs.State.{Feed, State}
 use Rattle.m2_journal.proofs.Splitting.{split-open}
-use Rattle.m2_message_frame.specs.declared.header_text.TheConstants.{HEADER_BYTES}
-use Rattle.m2_message_frame.specs.MessageFrame.{message_in}
+use Rattle.m2_message.specs.declared.header_text.TheConstants.{HEADER_BYTES}
+use Rattle.m2_message.specs.MessageFrame.{message_in}
 use Rattle.m2_session.specs.declared.session.Phase.{Phase}
 use Rattle.m2_session.specs.declared.session.Phase.TheVariants.{Absent, Connecting, IdentSent, ReconnectSent, Ready, Standby, Wait}
 use Rattle.m2_session.specs.Phases as phase
-use Rattle.m2_tag.specs.Tags.{tag_in}
+use Rattle.m2_frame.specs.Tags.{tag_in}
 use Rattle.m2_feed.specs.Calls.{GreetsOn, IsBad, IsFront, Owes}
 use Rattle.m2_feed.specs.FeedNow.{FeedNow, Reading, shaking, framing}
-use Rattle.m2_feed.specs.Laws.{FindsFaults, HearsTold}
+use Rattle.m2_feed.specs.FeedLaws.{FindsFaults, HearsTold}
 use Rattle.m2_feed.specs.Stands.{Frames, ReadsAs, Shakes, Stands, is_ready, passes_over}
 use Rattle.m2_feed.proofs.Framing.{at-front, idle-next, idle-place, ready-place}
 use Rattle.m2_feed.proofs.Shaking.{fails-there}

@@ -10,8 +10,8 @@ use Rattle.m2_journal.specs.OutFrames as out
 use Rattle.m2_journal.specs.OutFrames.{OutFrame, greeting, ident, reconnect, server_ident, reconnect_ok, reset, retry, retry_global, wait, message, acknowledgement, keepalive_answer}
 use Rattle.m2_journal.specs.SideFacts.{SideFacts}
 use Rattle.m2_message.specs.Message.{with_numbers}
-use Rattle.m2_message_frame.specs.MessageFrame.{parts_of}
-use Rattle.m2_feed.specs.Laws.{TextsAreKnown, reconnect_of}
+use Rattle.m2_message.specs.MessageFrame.{parts_of}
+use Rattle.m2_feed.specs.FeedLaws.{TextsAreKnown, reconnect_of}
 
 text-some : (p : Parts) → frame.text_of p ≢ []
 text-some p e = omega (arith, length-text_of p, ap length e)

@@ -22,7 +22,7 @@ use Rattle.m2_journal.specs.OutFrames.{OutFrame, acknowledgement, keepalive_answ
 use Rattle.m2_journal.specs.SideFacts.{SideFacts}
 use Rattle.m2_journal.specs.State.{PartText, Feed, State}
 use Rattle.m2_journal.specs.Steps.{puts_on, puts_whole, with_feed}
-use Rattle.m2_tag.specs.Tags.{tag_number}
+use Rattle.m2_frame.specs.Tags.{tag_number}
 use Rattle.m2_feed.specs.Stands.{HasText, IsOfKind, IsAcknowledgement, IsKeepaliveAnswer}
 
 -- ---- bytes that a text begins with

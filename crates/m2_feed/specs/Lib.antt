@@ -1,4 +1,9 @@
-pub mod FeedNow
+pub mod AnswerLaws
 pub mod Calls
+pub mod FeedLaws
+pub mod FeedNow
+pub mod FrameHeard
+pub mod FrameLaws
+pub mod Front
+pub mod Heard
 pub mod Stands
-pub mod Laws

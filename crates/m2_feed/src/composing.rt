@@ -8,14 +8,14 @@ ghost use Rattle.m2_frame.specs.declared.preamble.TheConstants.{PREAMBLE_BYTES};
 ghost use Rattle.m2_frame.specs.Text as frame;
 ghost use Rattle.m2_handshake.specs.Texts.{Adds, frame_text};
 ghost use Rattle.m2_message.specs.Message.{IsSendable, content_of, with_numbers};
-ghost use Rattle.m2_message_frame.specs.MessageFrame.{parts_of};
+ghost use Rattle.m2_message.specs.MessageFrame.{parts_of};
 
 use crate::outgoing::Outgoing;
 use m2_bytes::{Blob, NoMemory};
 use m2_control::Control;
 use m2_frame::{CRC_BYTES, Frame, PREAMBLE_BYTES, encode};
 use m2_message::Message;
-use m2_message_frame::to_frame;
+use m2_message::to_frame;
 use std::alloc::Global;
 
 /// How many bytes the payload of a record's CLIENT_IDENT has.

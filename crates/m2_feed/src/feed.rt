@@ -11,7 +11,7 @@ ghost use Rattle.m2_frame.specs.View.{parts_seen};
 ghost use Rattle.m2_handshake.specs.Standing.{opener_at_start};
 ghost use Rattle.m2_handshake.specs.Texts.{frame_text};
 ghost use Rattle.m2_message.specs.Message.{IsSendable, content_of, with_numbers};
-ghost use Rattle.m2_message_frame.specs.MessageFrame.{parts_of};
+ghost use Rattle.m2_message.specs.MessageFrame.{parts_of};
 ghost use Rattle.m2_feed.specs.declared.writing.Writing.TheVariants as writing;
 ghost use Rattle.m2_feed.specs.Calls.{Composes, ComposesIfOk, GivesNext, GreetsOn, HasFrame, IsFront, IsSameButRoom, NotesStamp, OnlyReads, Owes, PassesFrame, ReadsOn, Rests, WritesOn, acknowledgement, answer_text, at_acceptance, at_opening, is_empty, with_grant};
 ghost use Rattle.m2_feed.specs.FeedNow.{CanCompose, is_framing};

@@ -3,7 +3,7 @@
 -- of several segments in a control frame and of long segments, and the order of the rows after the preamble,
 -- are this project's profile.
 use Rattle.std.specs.Prelude.{◌≡◌, ◌≢◌, ℕ, zero, suc, ◌+◌, ◌%◌, ◌<◌, ◌≤◌, ◌⊎◌, List, length, take, slice_index}
-use Rattle.m2_tag.specs.declared.tag.TheConstants.{FIRST_TAG, LAST_TAG}
+use Rattle.m2_frame.specs.declared.tag.TheConstants.{FIRST_TAG, LAST_TAG}
 use Rattle.m2_crc.specs.Crc.{crc_of}
 use Rattle.m2_frame.specs.declared.encoding.TheConstants.{ABORTED, COMPLETE}
 use Rattle.m2_frame.specs.declared.fault.FrameFault.{FrameFault}

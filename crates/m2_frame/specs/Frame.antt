@@ -1,9 +1,9 @@
 -- A frame without where its bytes lie, and which frames can be written: Ceph's msgr2 documentation,
 -- frame format, with the bounds on lengths of this project's profile.
 use Rattle.std.specs.Prelude.{◌==◌, ℕ, ◌≤◌, List, length, nat_lt, if◌then◌else◌}
-use Rattle.m2_tag.specs.declared.tag.Tag.TheVariants as tag
-use Rattle.m2_tag.specs.declared.tag.TheConstants.{FIRST_TAG, LAST_TAG}
-use Rattle.m2_tag.specs.Tags.{tag_number}
+use Rattle.m2_frame.specs.declared.tag.Tag.TheVariants as tag
+use Rattle.m2_frame.specs.declared.tag.TheConstants.{FIRST_TAG, LAST_TAG}
+use Rattle.m2_frame.specs.Tags.{tag_number}
 use Rattle.m2_frame.specs.declared.frame.Frame.{Frame}
 use Rattle.m2_frame.specs.declared.frame.TheConstants.{CONTROL_LIMIT, MESSAGE_LIMIT, MOST_SEGMENTS}
 

@@ -8,5 +8,6 @@ pub mod Position
 pub mod Preamble
 pub mod Reading
 pub mod Stream
+pub mod Tags
 pub mod Text
 pub mod View

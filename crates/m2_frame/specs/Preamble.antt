@@ -6,7 +6,7 @@ use Rattle.std.specs.Int.{w16, w32, to_le_bytes, from_le_bytes}
 use Rattle.m2_crc.specs.Crc.{crc_of}
 use Rattle.m2_frame.specs.declared.fault.FrameFault.{FrameFault}
 use Rattle.m2_frame.specs.declared.fault.FrameFault.TheVariants.{BadPreambleCrc, BadCount, LastEmpty, Compressed, BadTag, BadSegments, TooLong}
-use Rattle.m2_tag.specs.declared.tag.TheConstants.{FIRST_TAG, LAST_TAG}
+use Rattle.m2_frame.specs.declared.tag.TheConstants.{FIRST_TAG, LAST_TAG}
 use Rattle.m2_frame.specs.declared.frame.TheConstants.{MOST_SEGMENTS}
 use Rattle.m2_frame.specs.declared.preamble.Preamble.{Preamble}
 use Rattle.m2_frame.specs.declared.preamble.TheConstants.{COVERED_BYTES, DATA_ALIGNMENT, DATA_SEGMENT, PREAMBLE_BYTES, SEGMENT_ALIGNMENT}

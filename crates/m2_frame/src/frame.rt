@@ -4,7 +4,7 @@ ghost use Rattle.std.specs.Prelude.{◌≡◌, ◌==◌, ◌↔◌, IsTrue};
 ghost use Rattle.m2_frame.specs.Frame.{parts, count_of, message_tag, segment_limit, Fits};
 
 use m2_bytes::Blob;
-use m2_tag::{FIRST_TAG, LAST_TAG, Tag};
+use crate::{FIRST_TAG, LAST_TAG, Tag};
 
 /// The most segments in a frame.
 pub const MOST_SEGMENTS: u8 = 4;

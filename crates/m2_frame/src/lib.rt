@@ -1,3 +1,8 @@
+//! The tags of frames: what a frame is, as Ceph's msgr2 documentation numbers and names it.
+//!
+//! What it is: [`Tag`], with its number, its name, whether it is that of a control frame and whether this
+//! profile negotiates it. What it isn't: what stands in a frame. A new tag is a row of each table here.
+//!
 //! Frames of msgr2.1 in crc mode: their text, and a decoder for streams that come in any pieces.
 //!
 //! What it is: [`Frame`], a tag with up to four segments of bytes; [`Preamble`], the 32 bytes that a
@@ -16,6 +21,7 @@ mod got;
 mod judging;
 mod laws;
 mod preamble;
+mod tag;
 mod view;
 
 pub use decoder::Decoder;
@@ -28,4 +34,5 @@ pub use laws::{
     one_reading,
 };
 pub use preamble::{PREAMBLE_BYTES, Preamble};
+pub use tag::{FIRST_TAG, LAST_TAG, Tag};
 pub use view::FrameView;

@@ -7,7 +7,7 @@ use crate::fault::FrameFault;
 use crate::frame::{Frame, MOST_SEGMENTS, is_message, limit_of};
 use byteorder::{ByteOrder, LittleEndian};
 use m2_crc::crc32c;
-use m2_tag::{FIRST_TAG, LAST_TAG};
+use crate::{FIRST_TAG, LAST_TAG};
 
 /// How many bytes a preamble has.
 pub const PREAMBLE_BYTES: usize = 32;

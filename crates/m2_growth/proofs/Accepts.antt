@@ -9,21 +9,21 @@ use Rattle.m2_fabric.specs.Port.{Accepts, SeenPort}
 use Rattle.m2_fabric.specs.Sockets.{goes_to, is_among, same_socket}
 use Rattle.m2_record.specs.RecordNow.{RecordNow, ids_of}
 use Rattle.m2_record.proofs.Names.{apart, differ, same_refl}
-use Rattle.m2_stages.specs.declared.accepting.Accepted.{Accepted}
-use Rattle.m2_stages.specs.declared.accepting.Accepted.TheVariants as accepts
-use Rattle.m2_stages.specs.declared.pending.TheConstants.{MOST_HALVES}
-use Rattle.m2_stages.specs.Accepting.{Accepting, AcceptsAll, EndsWith, IsEnded, TakesAll, TakesIn, joined, unasked}
-use Rattle.m2_stages.specs.Halves.{AllHalves}
-use Rattle.m2_stages.specs.Hearing.{ends_in}
-use Rattle.m2_stages.specs.Sessions.{PendingNow, is_asker, peer_of}
-use Rattle.m2_stages.proofs.Came.{alone, both}
-use Rattle.m2_stages.proofs.Peers.{each}
+use Rattle.m2_center.specs.declared.accepting.Accepted.{Accepted}
+use Rattle.m2_center.specs.declared.accepting.Accepted.TheVariants as accepts
+use Rattle.m2_center.specs.declared.pending.TheConstants.{MOST_HALVES}
+use Rattle.m2_center.specs.Accepting.{Accepting, AcceptsAll, EndsWith, IsEnded, TakesAll, TakesIn, joined, unasked}
+use Rattle.m2_center.specs.Halves.{AllHalves}
+use Rattle.m2_center.specs.Hearing.{ends_in}
+use Rattle.m2_center.specs.Sessions.{PendingNow, is_asker, peer_of}
+use Rattle.m2_center.proofs.Came.{alone, both}
+use Rattle.m2_center.proofs.Peers.{each}
 use Rattle.m2_trail.specs.Arrivals.{LooseNow, closed_of}
 use Rattle.m2_trail.specs.Incoming.{IncomingNow, accepted}
 use Rattle.m2_growth.specs.Ends.{AreOfTheirOwn}
 use Rattle.m2_growth.specs.Halves.{AskedOnMade, HasItsHalves, IsHeardBy, IsOneOf, all_left, asked_on}
 use Rattle.m2_growth.specs.Holding.{AreOwn, Grows, Holding, IsToCome, all_ends, waiting_at}
-use Rattle.m2_growth.specs.Laws.{at_accepts}
+use Rattle.m2_growth.specs.GrowthLaws.{at_accepts}
 use Rattle.m2_growth.specs.Records.{ends_of_all}
 use Rattle.m2_growth.proofs.Among.{among_back, among_front, each_by, in_part, mid_in, of_each, one_back, one_front}
 use Rattle.m2_growth.proofs.Asked.{asked_same}

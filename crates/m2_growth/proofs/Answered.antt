@@ -2,7 +2,7 @@
 use Rattle.std.proofs.Common.{◌≡◌, ◌⊎◌, inl, inr, ℕ, ◌≤◌, Bool, true, false, List, [], ◌∷◌, ◌++◌, map, length, Option, Some, None, IfSome, IsSome, refl, sym, ap, subst, ◌∙◌, append-nil, append_assoc, arith}
 use Rattle.std.specs.List.{AllByRecursion}
 use Rattle.std.specs.Option.{option_to_list}
-use Rattle.m2_answers.specs.declared.ask.AskFacts.{AskFacts}
+use Rattle.m2_session.specs.declared.ask.AskFacts.{AskFacts}
 use Rattle.m2_control.specs.declared.control.Control.{Control}
 use Rattle.m2_core.specs.declared.verdict.Verdict.{Verdict}
 use Rattle.m2_core.specs.Judging.{told_of, verdict_on}
@@ -18,7 +18,7 @@ use Rattle.m2_journal.specs.declared.entry.Entry.{Entry}
 use Rattle.m2_journal.specs.declared.entry.Entry.TheVariants as entry
 use Rattle.m2_journal.specs.declared.entry.JudgedItem.{JudgedItem}
 use Rattle.m2_journal.specs.State.{Judgement}
-use Rattle.m2_live.specs.Effects.{closed_if}
+use Rattle.m2_core.specs.Effects.{closed_if}
 use Rattle.m2_record.specs.Calls.{closed_entries}
 use Rattle.m2_record.specs.declared.judging.Judged.{Judged}
 use Rattle.m2_record.specs.declared.judging.Judged.TheVariants as judged
@@ -27,13 +27,13 @@ use Rattle.m2_record.specs.RecordNow.{RecordNow, ends_of, feed_end}
 use Rattle.m2_record.specs.TakenTrails.{judgement_of, judgements_in}
 use Rattle.m2_record.proofs.Names.{differ}
 use Rattle.m2_session.specs.declared.answer.Answer.{Answer}
-use Rattle.m2_session.specs.Laws.{takes}
-use Rattle.m2_stages.specs.declared.answering.HalfAnswered.{HalfAnswered}
-use Rattle.m2_stages.specs.declared.answering.HalfAnswered.TheVariants as half
-use Rattle.m2_stages.specs.Answering.{AnswersBy, AnswersHalf, FindsSo, HearsHalf, OwesThen, RefusesHalf, RejectsHalf, RepliesHalf}
-use Rattle.m2_stages.specs.Judging.{Judges, Judging}
-use Rattle.m2_stages.specs.RecordTurn.{Means}
-use Rattle.m2_stages.proofs.Opened.{filtered}
+use Rattle.m2_session.specs.SessionLaws.{takes}
+use Rattle.m2_center.specs.declared.answering.HalfAnswered.{HalfAnswered}
+use Rattle.m2_center.specs.declared.answering.HalfAnswered.TheVariants as half
+use Rattle.m2_center.specs.Answering.{AnswersBy, AnswersHalf, FindsSo, HearsHalf, OwesThen, RefusesHalf, RejectsHalf, RepliesHalf}
+use Rattle.m2_center.specs.Judging.{Judges, Judging}
+use Rattle.m2_center.specs.RecordTurn.{Means}
+use Rattle.m2_center.proofs.Opened.{filtered}
 use Rattle.m2_trail.specs.Arrivals.{LooseNow, closed_of}
 use Rattle.m2_trail.specs.Asks.{facts_of_ask}
 use Rattle.m2_trail.specs.Incoming.{IncomingNow, after_judging, after_replying, items_of, with_entry, with_judged}

@@ -11,10 +11,10 @@ use Rattle.m2_record.specs.RecordNow.{RecordNow}
 use Rattle.m2_record.specs.Sources.{end_at}
 use Rattle.m2_record.specs.TakenTrails.{judgement_of, judgements_in}
 use Rattle.m2_record.proofs.Names.{differ, same_equal, same_refl}
-use Rattle.m2_stages.specs.Sessions.{peer_of}
-use Rattle.m2_stages.proofs.Opened.{filtered}
+use Rattle.m2_center.specs.Sessions.{peer_of}
+use Rattle.m2_center.proofs.Opened.{filtered}
 use Rattle.m2_trail.specs.Asks.{IsMain}
-use Rattle.m2_turns.specs.Later.{GoesOn}
+use Rattle.m2_weave.specs.Later.{GoesOn}
 use Rattle.m2_growth.specs.Ends.{AreOfTheirOwn, EndGrowsTo, EndsGrow, come_to}
 use Rattle.m2_growth.specs.Halves.{AreAskedByPeers, IsAskedByPeer, IsOneOf, judged_since}
 use Rattle.m2_growth.specs.Records.{RecordGrows, RecordsGrow}

@@ -3,7 +3,7 @@ use Rattle.std.proofs.Common.{◌≡◌, ℕ, ◌&&◌, ◌||◌, Bool, true, fa
 use Rattle.std.specs.List.{AllByRecursion}
 use Rattle.std.specs.Option.{is_some, option_map}
 use Rattle.std.proofs.lemmas.List.Elements.{filter_map-append}
-use Rattle.m2_answers.specs.Dials.{at_rest}
+use Rattle.m2_session.specs.Dials.{at_rest}
 use Rattle.m2_bytes.specs.declared.memory.NoMemory as memory
 use Rattle.m2_core.specs.Calls.{IsOpening}
 use Rattle.m2_core.specs.CoreNow.{may_dial}
@@ -29,8 +29,8 @@ use Rattle.m2_session.specs.declared.session.Phase.{Phase}
 use Rattle.m2_session.specs.declared.session.Phase.TheVariants.{Absent, Connecting, IdentSent, ReconnectSent, Ready, Standby, Wait}
 use Rattle.m2_session.specs.Phases as phase
 use Rattle.m2_session.specs.Phases.{with_feed}
-use Rattle.m2_stages.specs.Connecting.{AtPort, DialsFor, DialsIfDue, Takes}
-use Rattle.m2_stages.specs.Halves.{AllHalves}
+use Rattle.m2_center.specs.Connecting.{AtPort, DialsFor, DialsIfDue, Takes}
+use Rattle.m2_center.specs.Halves.{AllHalves}
 use Rattle.m2_growth.specs.Ends.{AreOfTheirOwn, IsNewborn}
 use Rattle.m2_growth.specs.Holding.{AreOwn, Grows, Holding, IsToCome, LeadsElsewhere, all_ends, ends_held, waiting_at}
 use Rattle.m2_growth.specs.Records.{IsFed, ends_of_all}

@@ -7,7 +7,7 @@ use Rattle.m2_fabric.specs.Sockets.{is_among, same_socket}
 use Rattle.m2_record.specs.RecordNow.{ids_of}
 use Rattle.m2_record.specs.Sources.{end_at}
 use Rattle.m2_record.proofs.Names.{differ, same_equal, same_refl}
-use Rattle.m2_turns.specs.Later.{GoesOn}
+use Rattle.m2_weave.specs.Later.{GoesOn}
 use Rattle.m2_growth.specs.Ends.{AreOfTheirOwn, BringNone, EndGrows, EndGrowsTo, EndsGrow, IsNewborn}
 
 -- ---- lists that go on

@@ -2,10 +2,10 @@
 use Rattle.std.proofs.Common.{◌≡◌, ◌⊎◌, inl, inr, ℕ, ◌≤◌, List, [], ◌∷◌, ◌++◌, length, refl, sym, ap, subst, ◌∙◌, append-nil, append_assoc, length-append, arith}
 use Rattle.std.specs.List.{AllByRecursion}
 use Rattle.m2_record.specs.RecordNow.{RecordNow}
-use Rattle.m2_stages.specs.Halves.{AllHalves}
+use Rattle.m2_center.specs.Halves.{AllHalves}
 use Rattle.m2_trail.specs.Arrivals.{LooseNow}
 use Rattle.m2_trail.specs.Trails.{TrailNow}
-use Rattle.m2_turns.specs.Later.{GoesOn}
+use Rattle.m2_weave.specs.Later.{GoesOn}
 use Rattle.m2_growth.specs.Halves.{HalvesStay, IsLeft, IsOneOf, IsTakenBy, JudgesMore, TrailGrows, all_left}
 use Rattle.m2_growth.specs.Holding.{AreOwn, Grows, Holding, HoldingGrows, all_ends}
 use Rattle.m2_growth.specs.Records.{RecordGrows, RecordsGrow}

@@ -6,30 +6,30 @@ use Rattle.m2_addr.specs.declared.addr.Addr.{Addr}
 use Rattle.m2_fabric.specs.End.{SeenEnd}
 use Rattle.m2_fabric.specs.Port.{SeenPort}
 use Rattle.m2_fabric.specs.Sockets.{is_among}
-use Rattle.m2_halves.specs.declared.turn.HalfTurn.{HalfTurn}
-use Rattle.m2_halves.specs.declared.turn.HalfTurn.TheVariants as turn
-use Rattle.m2_halves.specs.Laws.{IsLaterTrail}
-use Rattle.m2_halves.specs.Moving.{Makes, MakesMove, Move, answers, reads, writes}
-use Rattle.m2_halves.specs.Turn.{AdvancesAs, Moves}
-use Rattle.m2_halves.proofs.Later.{by_turn}
+use Rattle.m2_trail.specs.declared.turn.HalfTurn.{HalfTurn}
+use Rattle.m2_trail.specs.declared.turn.HalfTurn.TheVariants as turn
+use Rattle.m2_trail.specs.HalfLaws.{IsLaterTrail}
+use Rattle.m2_trail.specs.TurnMoves.{Makes, MakesMove, Move, answers, reads, writes}
+use Rattle.m2_trail.specs.Turn.{AdvancesAs, Moves}
+use Rattle.m2_trail.proofs.Later.{by_turn}
 use Rattle.m2_handshake.specs.Asks.{is_known, same_addr}
 use Rattle.m2_journal.specs.State.{Judgement}
 use Rattle.m2_record.specs.RecordNow.{RecordNow}
 use Rattle.m2_record.specs.Sources.{end_at}
 use Rattle.m2_record.proofs.Names.{differ}
-use Rattle.m2_stages.specs.declared.answering.HalfAnswered.{HalfAnswered}
-use Rattle.m2_stages.specs.declared.answering.HalfAnswered.TheVariants as half
-use Rattle.m2_stages.specs.declared.half_turn.HalfTurned.{HalfTurned}
-use Rattle.m2_stages.specs.declared.half_turn.HalfTurned.TheVariants as turned
-use Rattle.m2_stages.specs.declared.halves_turn.HalvesTurn.{HalvesTurn}
-use Rattle.m2_stages.specs.declared.halves_turn.HalvesTurn.TheVariants as all_turned
-use Rattle.m2_stages.specs.Halves.{halves_of}
-use Rattle.m2_stages.specs.HalfTurn.{AnswersFrom, ComesTo, HalfTurning, Homes, Others, Replies, TurnsHalf, TurnsOnce, asked_by, home_of_ask, judging_in, moved_by, with_moved, with_turned}
-use Rattle.m2_stages.specs.HalvesTurn.{Callers, HalfTurns, HalvesTurning, OldestTurns, TurnHalves, TurnsHalves, all_wait, over_by, stays_by}
-use Rattle.m2_stages.specs.RecordTurn.{Means}
-use Rattle.m2_stages.specs.Sessions.{PendingNow, Sessions, is_asker, peer_of}
-use Rattle.m2_stages.proofs.Peers.{addr_equal}
-use Rattle.m2_stages.proofs.Turned.{IsHome, found_home, may_ask}
+use Rattle.m2_center.specs.declared.answering.HalfAnswered.{HalfAnswered}
+use Rattle.m2_center.specs.declared.answering.HalfAnswered.TheVariants as half
+use Rattle.m2_center.specs.declared.half_turn.HalfTurned.{HalfTurned}
+use Rattle.m2_center.specs.declared.half_turn.HalfTurned.TheVariants as turned
+use Rattle.m2_center.specs.declared.halves_turn.HalvesTurn.{HalvesTurn}
+use Rattle.m2_center.specs.declared.halves_turn.HalvesTurn.TheVariants as all_turned
+use Rattle.m2_center.specs.Halves.{halves_of}
+use Rattle.m2_center.specs.HalfTurn.{AnswersFrom, ComesTo, HalfTurning, Homes, Others, Replies, TurnsHalf, TurnsOnce, asked_by, home_of_ask, judging_in, moved_by, with_moved, with_turned}
+use Rattle.m2_center.specs.HalvesTurn.{Callers, HalfTurns, HalvesTurning, OldestTurns, TurnHalves, TurnsHalves, all_wait, over_by, stays_by}
+use Rattle.m2_center.specs.RecordTurn.{Means}
+use Rattle.m2_center.specs.Sessions.{PendingNow, Sessions, is_asker, peer_of}
+use Rattle.m2_center.proofs.Peers.{addr_equal}
+use Rattle.m2_center.proofs.Turned.{IsHome, found_home, may_ask}
 use Rattle.m2_trail.specs.declared.step.IncomingStep.{IncomingStep}
 use Rattle.m2_trail.specs.declared.step.IncomingStep.TheVariants as step
 use Rattle.m2_trail.specs.Arrivals.{IsArrival, closed_of}
@@ -39,7 +39,7 @@ use Rattle.m2_trail.specs.Trails.{TrailNow}
 use Rattle.m2_growth.specs.Ends.{EndGrows, come_to}
 use Rattle.m2_growth.specs.Halves.{IsAskedByPeer, IsHeardBy, TrailGrows, asked_on, judged_since}
 use Rattle.m2_growth.specs.Holding.{AreOwn, Grows, Holding, all_ends, ends_held, waiting_at}
-use Rattle.m2_growth.specs.Laws.{at_halves}
+use Rattle.m2_growth.specs.GrowthLaws.{at_halves}
 use Rattle.m2_growth.specs.Records.{RecordGrows}
 use Rattle.m2_growth.proofs.Answered.{Answered, HalfGoes, SideKeeps, SideTakes, answered, half_closed, half_same}
 use Rattle.m2_growth.proofs.Among.{one_front}

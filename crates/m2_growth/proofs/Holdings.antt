@@ -9,10 +9,10 @@ use Rattle.m2_fabric.specs.Sockets.{goes_to, is_among}
 use Rattle.m2_journal.specs.SideFacts.{SideFacts}
 use Rattle.m2_record.specs.RecordNow.{RecordNow}
 use Rattle.m2_record.specs.Sources.{end_at}
-use Rattle.m2_stages.specs.Halves.{AllHalves, halves_of}
-use Rattle.m2_stages.specs.Hearing.{ends_in}
-use Rattle.m2_stages.specs.Sessions.{PendingNow, peer_of}
-use Rattle.m2_stages.proofs.Peers.{each}
+use Rattle.m2_center.specs.Halves.{AllHalves, halves_of}
+use Rattle.m2_center.specs.Hearing.{ends_in}
+use Rattle.m2_center.specs.Sessions.{PendingNow, peer_of}
+use Rattle.m2_center.proofs.Peers.{each}
 use Rattle.m2_trail.specs.Arrivals.{LooseNow, left_of}
 use Rattle.m2_growth.specs.Ends.{BringNone, EndGrows, EndGrowsTo, EndsGrow}
 use Rattle.m2_growth.specs.Halves.{AreAskedByPeers, HalvesStay, HasItsHalves, IsHeardBy, IsLeft, IsOneOf, IsTakenBy, TrailGrows, all_left, sockets_left, sockets_taken}

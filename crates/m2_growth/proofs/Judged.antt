@@ -9,10 +9,10 @@ use Rattle.m2_fabric.specs.Sockets.{goes_to, is_among}
 use Rattle.m2_handshake.specs.Asks.{same_addr}
 use Rattle.m2_record.specs.RecordNow.{RecordNow, ends_of}
 use Rattle.m2_record.proofs.Names.{differ}
-use Rattle.m2_stages.specs.Hearing.{ends_in}
-use Rattle.m2_stages.specs.Sessions.{PendingNow, is_asker, peer_of}
-use Rattle.m2_stages.proofs.Peers.{each, each_of_two, same_peers, with_one}
-use Rattle.m2_stages.proofs.Turned.{IsHome}
+use Rattle.m2_center.specs.Hearing.{ends_in}
+use Rattle.m2_center.specs.Sessions.{PendingNow, is_asker, peer_of}
+use Rattle.m2_center.proofs.Peers.{each, each_of_two, same_peers, with_one}
+use Rattle.m2_center.proofs.Turned.{IsHome}
 use Rattle.m2_trail.specs.Arrivals.{LooseNow}
 use Rattle.m2_trail.specs.Trails.{TrailNow}
 use Rattle.m2_growth.specs.Halves.{AskedOnMade, IsAskedByPeer, judged_since, HasItsHalves, IsHeardBy, IsLeft, IsOneOf, IsTakenBy, TrailGrows, all_left, asked_on, sockets_left, sockets_taken, AskedTowards, OneJudge}

@@ -8,9 +8,9 @@ use Rattle.m2_fabric.specs.Sockets.{is_among}
 use Rattle.m2_handshake.specs.Asks.{same_addr}
 use Rattle.m2_record.specs.RecordNow.{RecordNow}
 use Rattle.m2_record.proofs.Names.{differ}
-use Rattle.m2_stages.specs.Sessions.{peer_of}
-use Rattle.m2_stages.proofs.Peers.{addr_equal, each, each_of_two, mapped, with_one}
-use Rattle.m2_stages.proofs.Turned.{IsHome}
+use Rattle.m2_center.specs.Sessions.{peer_of}
+use Rattle.m2_center.proofs.Peers.{addr_equal, each, each_of_two, mapped, with_one}
+use Rattle.m2_center.proofs.Turned.{IsHome}
 use Rattle.m2_growth.specs.Halves.{JudgeApart, OneJudge, asked_on}
 
 -- ---- no record judges

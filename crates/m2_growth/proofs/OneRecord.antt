@@ -11,13 +11,13 @@ use Rattle.m2_journal.specs.State.{Judgement}
 use Rattle.m2_record.specs.Calls.{IsSameButRoom}
 use Rattle.m2_record.specs.RecordNow.{RecordNow, ends_of}
 use Rattle.m2_record.specs.TakenTrails.{judgements_in}
-use Rattle.m2_stages.specs.Beside.{MadeOn}
-use Rattle.m2_stages.specs.Halves.{AllHalves}
-use Rattle.m2_stages.specs.Hearing.{ends_in}
-use Rattle.m2_stages.specs.Sessions.{PendingNow, is_asker, peer_of}
+use Rattle.m2_center.specs.Beside.{MadeOn}
+use Rattle.m2_center.specs.Halves.{AllHalves}
+use Rattle.m2_center.specs.Hearing.{ends_in}
+use Rattle.m2_center.specs.Sessions.{PendingNow, is_asker, peer_of}
 use Rattle.m2_trail.specs.Arrivals.{LooseNow}
 use Rattle.m2_trail.specs.Trails.{TrailNow}
-use Rattle.m2_turns.specs.Later.{GoesOn}
+use Rattle.m2_weave.specs.Later.{GoesOn}
 use Rattle.m2_growth.specs.Ends.{AreOfTheirOwn, EndsGrow}
 use Rattle.m2_growth.specs.Halves.{AskedOnMade, AskedTowards, HasItsHalves, IsHeardBy, all_left, asked_on, sockets_left}
 use Rattle.m2_growth.specs.Holding.{AreOwn, Grows, Holding, IsToCome, LeadsElsewhere, all_ends, ends_held, waiting_at}

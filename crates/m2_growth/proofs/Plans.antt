@@ -5,10 +5,10 @@ use Rattle.m2_bytes.specs.declared.memory.NoMemory as memory
 use Rattle.m2_journal.specs.declared.facts.PlanStep.{PlanStep}
 use Rattle.m2_record.specs.Calls.{planned_too}
 use Rattle.m2_record.specs.RecordNow.{RecordNow, ends_of}
-use Rattle.m2_stages.specs.Planning.{PlansNow, TakesNew}
-use Rattle.m2_stages.proofs.GoesOn as journals
+use Rattle.m2_center.specs.Planning.{PlansNow, TakesNew}
+use Rattle.m2_center.proofs.GoesOn as journals
 use Rattle.m2_growth.specs.Holding.{AreOwn, Grows}
-use Rattle.m2_growth.specs.Laws.{PlansGrow, at_plans}
+use Rattle.m2_growth.specs.GrowthLaws.{PlansGrow, at_plans}
 use Rattle.m2_growth.proofs.Ends.{AreLater, later_by}
 use Rattle.m2_growth.proofs.OneRecord.{Advances, advances_alike, advances_chain, advances_room, one_advances}
 use Rattle.m2_growth.proofs.RecordTurns.{StepsOn, advances_on}

@@ -7,19 +7,19 @@ use Rattle.m2_journal.specs.declared.entry.Entry.{Entry}
 use Rattle.m2_journal.specs.declared.entry.Entry.TheVariants as entry
 use Rattle.m2_record.specs.RecordNow.{RecordNow}
 use Rattle.m2_record.specs.TakenTrails.{judgement_of, judgements_in}
-use Rattle.m2_stages.specs.declared.record_turn.RecordTurn.{RecordTurn}
-use Rattle.m2_stages.specs.declared.record_turn.RecordTurn.TheVariants as one
-use Rattle.m2_stages.specs.declared.records_turn.RecordsTurn.{RecordsTurn}
-use Rattle.m2_stages.specs.declared.records_turn.RecordsTurn.TheVariants as turn
-use Rattle.m2_stages.specs.Halves.{AllHalves}
-use Rattle.m2_stages.specs.Outbox.{is_free}
-use Rattle.m2_stages.specs.RecordTurn.{EndsBy, Means, Steps, TakesStep, Turning, TurnsAs}
-use Rattle.m2_stages.specs.RecordsTurn.{AllAmid, Amid, Around, DialsAndSteps, EachTurns, TurnsIf, TurnsInOrder, TurnsOne, all_amid, amid, at_port, sides_of, turning_amid}
-use Rattle.m2_stages.specs.Steps.{BringsNoSocket}
-use Rattle.m2_stages.specs.Steps as journal
-use Rattle.m2_stages.proofs.GoesOn as journals
+use Rattle.m2_center.specs.declared.record_turn.RecordTurn.{RecordTurn}
+use Rattle.m2_center.specs.declared.record_turn.RecordTurn.TheVariants as one
+use Rattle.m2_center.specs.declared.records_turn.RecordsTurn.{RecordsTurn}
+use Rattle.m2_center.specs.declared.records_turn.RecordsTurn.TheVariants as turn
+use Rattle.m2_center.specs.Halves.{AllHalves}
+use Rattle.m2_center.specs.Outbox.{is_free}
+use Rattle.m2_center.specs.RecordTurn.{EndsBy, Means, Steps, TakesStep, Turning, TurnsAs}
+use Rattle.m2_center.specs.RecordsTurn.{AllAmid, Amid, Around, DialsAndSteps, EachTurns, TurnsIf, TurnsInOrder, TurnsOne, all_amid, amid, at_port, sides_of, turning_amid}
+use Rattle.m2_center.specs.Steps.{BringsNoSocket}
+use Rattle.m2_center.specs.Steps as journal
+use Rattle.m2_center.proofs.GoesOn as journals
 use Rattle.m2_growth.specs.Holding.{AreOwn, Grows, Holding}
-use Rattle.m2_growth.specs.Laws.{RecordTurnsGrow, at_records}
+use Rattle.m2_growth.specs.GrowthLaws.{RecordTurnsGrow, at_records}
 use Rattle.m2_growth.proofs.Dials.{dials}
 use Rattle.m2_growth.proofs.Ends.{on_by}
 use Rattle.m2_growth.proofs.Going.{grows_by, grows_then}

@@ -5,7 +5,7 @@ use Rattle.std.specs.Option.{is_some, option_to_list}
 use Rattle.m2_fabric.specs.End.{SeenEnd, after_closing}
 use Rattle.m2_feed.specs.FeedNow.{FeedNow}
 use Rattle.m2_journal.specs.declared.facts.PlanStep.{PlanStep}
-use Rattle.m2_live.specs.Effects.{closed_if}
+use Rattle.m2_core.specs.Effects.{closed_if}
 use Rattle.m2_session.specs.declared.session.Phase.{Phase}
 use Rattle.m2_session.specs.Phases.{is_among, with_feed}
 use Rattle.m2_trail.specs.Trails.{TrailNow}

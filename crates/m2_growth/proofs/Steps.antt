@@ -32,21 +32,21 @@ use Rattle.m2_frame.specs.Reading.{Item}
 use Rattle.m2_handshake.specs.declared.answer.HalfStep.{HalfStep}
 use Rattle.m2_handshake.specs.declared.answer.HalfStep.TheVariants as half
 use Rattle.m2_handshake.specs.Standing.{Standing}
-use Rattle.m2_heard.specs.declared.fault.WireFault.{WireFault}
-use Rattle.m2_heard.specs.declared.heard.FrameHeard.TheVariants as heard
-use Rattle.m2_heard.specs.declared.hearer.Hearer.{Hearer}
-use Rattle.m2_hearing.specs.declared.heard.Heard.{Heard}
-use Rattle.m2_hearing.specs.declared.heard.Heard.TheVariants as answer
+use Rattle.m2_feed.specs.declared.wire_fault.WireFault.{WireFault}
+use Rattle.m2_feed.specs.declared.frame_heard.FrameHeard.TheVariants as heard
+use Rattle.m2_feed.specs.declared.hearer.Hearer.{Hearer}
+use Rattle.m2_feed.specs.declared.heard.Heard.{Heard}
+use Rattle.m2_feed.specs.declared.heard.Heard.TheVariants as answer
 use Rattle.m2_journal.specs.declared.entry.Entry.{Entry}
 use Rattle.m2_journal.specs.declared.facts.PlanStep.{PlanStep}
 use Rattle.m2_journal.specs.declared.facts.PlanStep.TheVariants as step
 use Rattle.m2_journal.specs.OutFrames as out
 use Rattle.m2_journal.specs.SideFacts.{SideFacts}
-use Rattle.m2_live.specs.Calls.{live_with}
-use Rattle.m2_live.specs.Effects.{closed_if, has_effects}
-use Rattle.m2_live.specs.Hearing.{ObeysReset}
-use Rattle.m2_live.specs.LiveNow.{LiveNow, OnFeedNow, is_waiting}
-use Rattle.m2_live.specs.OnFeed.{AnswersStamp, ChangesRoom, ComposesAsk, ComposesFeed, ComposesMessage, GreetsFeed, PassesFeed, PassesItem, ReadsFeed, WritesFeed, granted_feed}
+use Rattle.m2_core.specs.LiveCalls.{live_with}
+use Rattle.m2_core.specs.Effects.{closed_if, has_effects}
+use Rattle.m2_core.specs.LiveHearing.{ObeysReset}
+use Rattle.m2_core.specs.LiveNow.{LiveNow, OnFeedNow, is_waiting}
+use Rattle.m2_core.specs.OnFeed.{AnswersStamp, ChangesRoom, ComposesAsk, ComposesFeed, ComposesMessage, GreetsFeed, PassesFeed, PassesItem, ReadsFeed, WritesFeed, granted_feed}
 use Rattle.m2_core.specs.Passing.{StampsFeed}
 use Rattle.m2_session.specs.declared.event.Effects.{Effects}
 use Rattle.m2_session.specs.declared.session.Session.{Session}

@@ -2,15 +2,15 @@
 -- told nothing, or that it is to wait.
 use Rattle.std.proofs.Common.{◌≡◌, ℕ, Bool, true, false, if◌then◌else◌, List, [], ◌++◌, Option, Some, None, refl, sym, ap, subst, ◌∙◌, append-nil}
 use Rattle.std.specs.Option.{option_to_list}
-use Rattle.m2_answers.specs.declared.ask.AskFacts.{AskFacts}
-use Rattle.m2_answers.specs.Asks.{reconnect_of, told_of_ident, told_of_reconnect}
+use Rattle.m2_session.specs.declared.ask.AskFacts.{AskFacts}
+use Rattle.m2_session.specs.Asks.{reconnect_of, told_of_ident, told_of_reconnect}
 use Rattle.m2_core.specs.Judging.{told_of, verdict_on}
 use Rattle.m2_fabric.specs.End.{SeenEnd}
 use Rattle.m2_journal.specs.SideFacts.{SideFacts, cookie_of}
 use Rattle.m2_journal.specs.Steps.{kept_of}
-use Rattle.m2_live.specs.Calls.{tells_if}
-use Rattle.m2_live.specs.Effects.{closed_if, effects_of}
-use Rattle.m2_live.specs.LiveNow.{LiveNow}
+use Rattle.m2_core.specs.LiveCalls.{tells_if}
+use Rattle.m2_core.specs.Effects.{closed_if, effects_of}
+use Rattle.m2_core.specs.LiveNow.{LiveNow}
 use Rattle.m2_record.proofs.Names.{differ}
 use Rattle.m2_session.specs.declared.answer.Answer.{Answer}
 use Rattle.m2_session.specs.declared.answer.Answer.TheVariants as answer
@@ -19,7 +19,7 @@ use Rattle.m2_session.specs.declared.event.Event.TheVariants as event
 use Rattle.m2_session.specs.declared.session.Phase.TheVariants as phase
 use Rattle.m2_session.specs.declared.session.Session.{Session}
 use Rattle.m2_session.specs.Ident.{ident_answer}
-use Rattle.m2_session.specs.Laws.{ident_event, reconnect_event, takes}
+use Rattle.m2_session.specs.SessionLaws.{ident_event, reconnect_event, takes}
 use Rattle.m2_session.specs.Phases.{is, is_among, with_feed}
 use Rattle.m2_session.specs.Reconnect.{Reconnect, reconnect_answer, reconnect_rows}
 use Rattle.m2_session.proofs.Rows.{each_answer}

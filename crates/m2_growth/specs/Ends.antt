@@ -7,7 +7,7 @@ use Rattle.m2_fabric.specs.End.{Inflow, SeenEnd}
 use Rattle.m2_fabric.specs.Sockets.{same_socket}
 use Rattle.m2_record.specs.RecordNow.{ids_of}
 use Rattle.m2_record.specs.Sources.{end_at}
-use Rattle.m2_turns.specs.Later.{GoesOn}
+use Rattle.m2_weave.specs.Later.{GoesOn}
 
 -- all that has come to an end in memory: what it got, and then what is readable there
 abbrev pub come_to : SeenEnd → Option (List ℕ)

@@ -9,13 +9,13 @@ use Rattle.m2_journal.specs.State.{Judgement}
 use Rattle.m2_record.specs.RecordNow.{RecordNow}
 use Rattle.m2_record.specs.Sources.{end_at}
 use Rattle.m2_record.specs.TakenTrails.{judgements_in}
-use Rattle.m2_stages.specs.Halves.{AllHalves}
-use Rattle.m2_stages.specs.Sessions.{PendingNow, is_asker, peer_of}
+use Rattle.m2_center.specs.Halves.{AllHalves}
+use Rattle.m2_center.specs.Sessions.{PendingNow, is_asker, peer_of}
 use Rattle.m2_trail.specs.Arrivals.{IsArrival, LooseNow, left_of}
 use Rattle.m2_trail.specs.Asks.{IsMain}
 use Rattle.m2_trail.specs.Incoming.{IncomingNow}
 use Rattle.m2_trail.specs.Trails.{TrailNow}
-use Rattle.m2_turns.specs.Later.{GoesOn}
+use Rattle.m2_weave.specs.Later.{GoesOn}
 use Rattle.m2_growth.specs.Ends.{come_to}
 
 -- all that no record took, as those that are over would be left

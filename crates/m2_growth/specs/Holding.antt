@@ -7,10 +7,10 @@ use Rattle.m2_fabric.specs.Port.{SeenPort}
 use Rattle.m2_fabric.specs.Sockets.{IsNewTo, goes_to, is_among}
 use Rattle.m2_handshake.specs.Asks.{same_addr}
 use Rattle.m2_record.specs.RecordNow.{RecordNow}
-use Rattle.m2_stages.specs.Beside.{MadeOn}
-use Rattle.m2_stages.specs.Halves.{AllHalves}
-use Rattle.m2_stages.specs.Hearing.{ends_in}
-use Rattle.m2_stages.specs.Sessions.{peer_of}
+use Rattle.m2_center.specs.Beside.{MadeOn}
+use Rattle.m2_center.specs.Halves.{AllHalves}
+use Rattle.m2_center.specs.Hearing.{ends_in}
+use Rattle.m2_center.specs.Sessions.{peer_of}
 use Rattle.m2_trail.specs.Arrivals.{LooseNow}
 use Rattle.m2_growth.specs.Ends.{AreOfTheirOwn, EndsGrow}
 use Rattle.m2_growth.specs.Halves.{AreAskedByPeers, AskedOnMade, HalvesStay, HasItsHalves, IsHeardBy, all_left, AskedTowards, OneJudge}

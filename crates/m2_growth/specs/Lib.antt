@@ -1,5 +1,10 @@
+pub mod AskLaws
 pub mod Ends
-pub mod Records
+pub mod GrowthLaws
 pub mod Halves
 pub mod Holding
-pub mod Laws
+pub mod InStepLaws
+pub mod Passed
+pub mod Ports
+pub mod Records
+pub mod Turn

@@ -5,7 +5,7 @@ use Rattle.std.specs.Option.{is_some}
 use Rattle.m2_fabric.specs.End.{SeenEnd}
 use Rattle.m2_record.specs.RecordNow.{RecordNow, ends_of}
 use Rattle.m2_session.specs.Phases as phase
-use Rattle.m2_turns.specs.Later.{GoesOn}
+use Rattle.m2_weave.specs.Later.{GoesOn}
 
 -- The same record, later: of what it planned, did and took nothing is undone.
 pub record RecordGrows (old new : RecordNow) : Type 0 where

@@ -8,8 +8,8 @@ use Rattle.m2_control.specs.declared.banner.BannerStep.TheVariants.{Got, NotYet,
 use Rattle.m2_control.specs.declared.control.Control.{Control}
 use Rattle.m2_control.specs.declared.control.Control.TheVariants as control
 use Rattle.m2_control.specs.declared.fault.ControlFault.{ControlFault}
-use Rattle.m2_tag.specs.declared.tag.Tag.TheVariants as tag
-use Rattle.m2_tag.specs.Tags.{tag_number}
+use Rattle.m2_frame.specs.declared.tag.Tag.TheVariants as tag
+use Rattle.m2_frame.specs.Tags.{tag_number}
 use Rattle.m2_frame.specs.Frame.{Parts}
 use Rattle.m2_frame.specs.Reading.{whole, dropped, Front, start, bad, text, judge}
 use Rattle.m2_handshake.specs.declared.ask.Ask.{Ask}

@@ -16,7 +16,7 @@ use Rattle.m2_control.specs.declared.control.Control.{Control}
 use Rattle.m2_control.specs.declared.control.Control.TheVariants as control
 use Rattle.m2_control.specs.declared.fault.ControlFault.{ControlFault}
 use Rattle.m2_control.specs.declared.fault.ControlFault.TheVariants.{Short, Extra, BadValue, Address}
-use Rattle.m2_tag.specs.declared.tag.Tag.TheVariants as tag
+use Rattle.m2_frame.specs.declared.tag.Tag.TheVariants as tag
 use Rattle.m2_control.specs.AuthDone.{make_auth_done, auth_done_at}
 use Rattle.m2_control.specs.AuthRequest.{make_auth_request, auth_request_at}
 use Rattle.m2_control.specs.AuthSignature.{make_auth_signature, auth_signature_at}

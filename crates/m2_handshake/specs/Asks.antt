@@ -7,11 +7,11 @@ use Rattle.m2_addr.specs.Vector.{main_of}
 use Rattle.m2_control.specs.declared.control.Control.{Control}
 use Rattle.m2_control.specs.declared.control.Control.TheVariants as control
 use Rattle.m2_control.specs.declared.fault.ControlFault.TheVariants.{Address}
-use Rattle.m2_tag.specs.declared.tag.Tag.TheVariants as tag
+use Rattle.m2_frame.specs.declared.tag.Tag.TheVariants as tag
 use Rattle.m2_control.specs.ClientIdent.{bare_client_ident}
 use Rattle.m2_control.specs.SessionReconnect.{bare_session_reconnect}
 use Rattle.m2_control.specs.Control.{tag_of}
-use Rattle.m2_tag.specs.Tags.{tag_number}
+use Rattle.m2_frame.specs.Tags.{tag_number}
 use Rattle.m2_frame.specs.Frame.{Parts}
 use Rattle.m2_handshake.specs.declared.ask.Ask.{Ask}
 use Rattle.m2_handshake.specs.declared.ask.Ask.TheVariants.{Ident, Reconnect}

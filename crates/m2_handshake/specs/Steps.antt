@@ -7,10 +7,10 @@ use Rattle.m2_control.specs.declared.auth_request.AuthRequest.{AuthRequest}
 use Rattle.m2_control.specs.declared.control.Control.{Control}
 use Rattle.m2_control.specs.declared.fields.TheConstants.{SIGNATURE_BYTES}
 use Rattle.m2_control.specs.declared.control.Control.TheVariants as control
-use Rattle.m2_tag.specs.declared.tag.Tag.{Tag}
-use Rattle.m2_tag.specs.declared.tag.Tag.TheVariants as tag
+use Rattle.m2_frame.specs.declared.tag.Tag.{Tag}
+use Rattle.m2_frame.specs.declared.tag.Tag.TheVariants as tag
 use Rattle.m2_control.specs.Control.{tag_of}
-use Rattle.m2_tag.specs.Tags.{tag_number}
+use Rattle.m2_frame.specs.Tags.{tag_number}
 use Rattle.m2_frame.specs.Frame.{Parts}
 use Rattle.m2_handshake.specs.declared.fault.HalfFault.{HalfFault}
 use Rattle.m2_handshake.specs.declared.fault.HalfFault.TheVariants.{Unexpected, BadAuth, BadSignature}

@@ -8,7 +8,7 @@ use Rattle.m2_bytes.specs.Blob.{Contents}
 use Rattle.m2_control.specs.declared.control.Control.{Control}
 use Rattle.m2_control.specs.declared.fields.TheConstants.{SIGNATURE_BYTES}
 use Rattle.m2_control.specs.declared.control.Control.TheVariants as control
-use Rattle.m2_tag.specs.Tags.{tag_number}
+use Rattle.m2_frame.specs.Tags.{tag_number}
 use Rattle.m2_control.specs.Control as payload
 use Rattle.m2_control.specs.Fields.{blob, listed}
 use Rattle.m2_frame.specs.Frame.{Parts}

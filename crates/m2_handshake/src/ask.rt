@@ -4,7 +4,7 @@ ghost use Rattle.std.specs.Prelude.{◌≡◌};
 ghost use Rattle.m2_control.specs.Control.{bare, tag_of};
 ghost use Rattle.m2_control.specs.ClientIdent.{bare_client_ident};
 ghost use Rattle.m2_control.specs.SessionReconnect.{bare_session_reconnect};
-ghost use Rattle.m2_tag.specs.Tags.{tag_number};
+ghost use Rattle.m2_frame.specs.Tags.{tag_number};
 ghost use Rattle.m2_control.specs.declared.control.Control.TheVariants as controls;
 ghost use Rattle.m2_frame.specs.Frame.{parts};
 ghost use Rattle.m2_handshake.specs.declared.fault.HalfFault.TheVariants as faults;
@@ -17,7 +17,7 @@ use crate::reaction::read_control;
 use m2_addr::{Addr, AddrFault};
 use m2_control::{ClientIdent, Control, ControlFault, SessionReconnect};
 use m2_frame::Frame;
-use m2_tag::Tag;
+use m2_frame::Tag;
 use std::alloc::Global;
 
 /// What an opener asks for once both sides have signed.

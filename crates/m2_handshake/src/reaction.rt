@@ -3,7 +3,7 @@
 ghost use Rattle.std.specs.Prelude.{◌≡◌, ◌==◌, IfOk};
 ghost use Rattle.std.specs.List.{list_all};
 ghost use Rattle.m2_control.specs.Control.{bare, tag_of};
-ghost use Rattle.m2_tag.specs.Tags.{tag_number};
+ghost use Rattle.m2_frame.specs.Tags.{tag_number};
 ghost use Rattle.m2_frame.specs.Frame.{parts};
 ghost use Rattle.m2_handshake.specs.Half.{GivesTurn};
 ghost use Rattle.m2_handshake.specs.Reading.{GivesControl, IsControlTag, payload_in};
@@ -19,7 +19,7 @@ use crate::texts::{CRC, NONE, put_bad_method, put_done, put_request, put_signatu
 use m2_bytes::Blob;
 use m2_control::{AuthRequest, Control, ControlFault, SIGNATURE_BYTES};
 use m2_frame::Frame;
-use m2_tag::Tag;
+use m2_frame::Tag;
 use std::alloc::Global;
 
 /// What a half does with an awaited frame.

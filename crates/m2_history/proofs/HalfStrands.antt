@@ -5,10 +5,10 @@ use Rattle.std.proofs.lemmas.Bool.{cases_lt, eq-eqb, le-ltb, lt-ltb}
 use Rattle.std.proofs.lemmas.Option.{same_Some}
 use Rattle.m2_fabric.specs.declared.socket.SocketId.{SocketId}
 use Rattle.m2_fabric.specs.Sockets.{same_socket}
-use Rattle.m2_fitting.specs.Trails.{IsWrote}
+use Rattle.m2_bytes_fit.specs.Trails.{IsWrote}
 use Rattle.m2_journal.specs.declared.entry.Entry.{Entry}
 use Rattle.m2_journal.specs.declared.entry.Entry.TheVariants as entry
-use Rattle.m2_merge.specs.Order.{Cut}
+use Rattle.m2_weave.specs.Order.{Cut}
 use Rattle.m2_trail.specs.Trails.{TrailNow, RisesWithin, how_many_below, judged_by}
 use Rattle.m2_trail.proofs.Judged.{least_first}
 use Rattle.m2_weave.specs.declared.strand.StrandItem.{StrandItem}

@@ -16,7 +16,7 @@ use Rattle.m2_journal.specs.Replay.{AreLawful}
 use Rattle.m2_journal.specs.SideFacts.{SideFacts}
 use Rattle.m2_journal.specs.State.{Feed, State, start}
 use Rattle.m2_journal.specs.Steps.{after}
-use Rattle.m2_session.specs.Laws.{takes}
+use Rattle.m2_session.specs.SessionLaws.{takes}
 use Rattle.m2_record.specs.IsRecord.{feeds_in}
 use Rattle.m2_record.specs.RecordNow.{ends_of, feed_end, grounds_of, ids_of}
 use Rattle.m2_record.specs.Sources.{Grounds, end_at, got_of, put_of, sources_of}

@@ -2,13 +2,13 @@
 use Rattle.std.proofs.Common.{◌≡◌, ℕ, ◌+◌, Bool, true, false, true≢false, Decides, List, [], ◌∷◌, length, map, Option, Result, Ok, Err, refl, sym, ap, ◌∙◌, subst}
 use Rattle.std.proofs.lemmas.List.{length-map, length-set}
 use Rattle.std.specs.Prelude.{replicate, slice_index}
-use Rattle.m2_merge.specs.Merging.{even}
-use Rattle.m2_merge.specs.Order.{IsGreedy, come, come_all, nothing, reached}
-use Rattle.m2_merge.proofs.Furthest.{are-lawful}
+use Rattle.m2_weave.specs.Merging.{even}
+use Rattle.m2_weave.specs.Order.{IsGreedy, come, come_all, nothing, reached}
+use Rattle.m2_weave.proofs.Furthest.{are-lawful}
 use Rattle.m2_weave.specs.declared.strand.Strand.{Strand}
 use Rattle.m2_weave.specs.declared.table.SocketBytes.{SocketBytes}
 use Rattle.m2_weave.specs.declared.unfit.Unfit.{Unfit}
-use Rattle.m2_weave.specs.Laws.{StopIsNoOrder}
+use Rattle.m2_weave.specs.WeaveLaws.{StopIsNoOrder}
 use Rattle.m2_weave.specs.Rule.{Woven, by_bytes}
 use Rattle.m2_weave.specs.Stops.{IsWoven, StopsAt, first_stop, sizes}
 use Rattle.m2_weave.specs.Strands.{StrandNow, strand_now}

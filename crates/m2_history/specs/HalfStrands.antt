@@ -2,14 +2,14 @@
 use Rattle.std.specs.Prelude.{◌≡◌, ℕ, ◌≤◌, List, [], ◌∷◌, length, take}
 use Rattle.std.specs.List.{AllByRecursion}
 use Rattle.m2_fabric.specs.declared.socket.SocketId.{SocketId}
-use Rattle.m2_fitting.specs.Trails.{IsPointOf}
+use Rattle.m2_bytes_fit.specs.Trails.{IsPointOf}
 use Rattle.m2_journal.specs.declared.entry.Entry.{Entry}
 use Rattle.m2_journal.specs.declared.entry.Entry.TheVariants as entry
-use Rattle.m2_merge.specs.Order.{Cut}
+use Rattle.m2_weave.specs.Order.{Cut}
 use Rattle.m2_trail.specs.Trails.{TrailNow, RisesWithin}
 use Rattle.m2_weave.specs.declared.strand.StrandItem.{StrandItem}
 use Rattle.m2_weave.specs.declared.strand.StrandItem.TheVariants.{Noted, Handed}
-use Rattle.m2_weave.specs.Laws.{IsAsked}
+use Rattle.m2_weave.specs.WeaveLaws.{IsAsked}
 use Rattle.m2_weave.specs.Rule.{Woven}
 use Rattle.m2_weave.specs.Strands.{StrandNow, half_of, handed_by, judged_at, total}
 

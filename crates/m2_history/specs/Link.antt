@@ -7,7 +7,7 @@ use Rattle.m2_journal.specs.declared.entry.Entry.{Entry}
 use Rattle.m2_journal.specs.declared.entry.Entry.TheVariants as entry
 use Rattle.m2_journal.specs.Lawful.{judged_on}
 use Rattle.m2_journal.specs.State.{Judgement}
-use Rattle.m2_merge.specs.Order.{reached}
+use Rattle.m2_weave.specs.Order.{reached}
 use Rattle.m2_record.specs.IsRecord.{IsRecord}
 use Rattle.m2_record.specs.RecordNow.{RecordNow, ends_of}
 use Rattle.m2_record.specs.TakenTrails.{judgements_in}

@@ -1,6 +1,6 @@
 -- An order as steps: which strand each entry is of, and which of its items.
 use Rattle.std.specs.Prelude.{◌≡◌, ℕ, List, [], ◌∷◌, slice_index}
-use Rattle.m2_merge.specs.Order.{Cut, come}
+use Rattle.m2_weave.specs.Order.{Cut, come}
 use Rattle.m2_history.specs.declared.history.HistoryStep.{HistoryStep}
 
 -- from where so many items of each strand have come

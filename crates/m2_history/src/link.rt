@@ -15,7 +15,7 @@ use m2_journal::Entry;
 use m2_record::behind_judged;
 use m2_trail::{Loose, LooseList, Trail};
 
-/// Whether these are two sides of a link with the halves that neither took, as [`weave`](crate::weave) asks
+/// Whether these are two sides of a link with the halves that neither took, as [`weave_sides`](crate::weave_sides) asks
 /// for them: the half of each ask that a side has judged is there, and a half that neither took was told just
 /// what the sides have judged on its socket. It looks at all halves for each judged ask.
 pub fn are_of_link<E: End>(a: &Side<'_, E>, b: &Side<'_, E>, loose: &LooseList<E>) -> bool

@@ -4,7 +4,7 @@ ghost use Rattle.std.specs.List.{AllByRecursion};
 ghost use Rattle.m2_history.specs.Link.{AreOfLink, IsWholeHalf, WeavesRecords, both_of};
 
 use crate::history::{History, PartsFault, WeaveFault};
-use crate::laws::{records_are_kept, strands_are_tidy};
+use crate::history_laws::{records_are_kept, strands_are_tidy};
 use crate::side::Side;
 use crate::weaving::weave_parts;
 use m2_fabric::End;
@@ -28,7 +28,7 @@ fn all_whole<E: End>(loose: &[Loose<E>])
 /// by then, or has written another. The half of each ask that a side has judged is one that it took or one of
 /// these, and a half of these on whose socket a side has judged asks has judged just those. It takes time in
 /// proportion to the bytes and the entries.
-pub fn weave<E: End>(
+pub fn weave_sides<E: End>(
     alloc: Global,
     a: &Side<'_, E>,
     b: &Side<'_, E>,

@@ -3,8 +3,8 @@
 //! or end; then all flows.
 
 ghost use Rattle.std.specs.Prelude.{◌<◌};
-ghost use Rattle.m2_answers.specs.declared.cookie.TheConstants.{MOST_PLACES};
-ghost use Rattle.m2_live.specs.Waits.{AreWaits};
+ghost use Rattle.m2_session.specs.declared.cookie.TheConstants.{MOST_PLACES};
+ghost use Rattle.m2_core.specs.Waits.{AreWaits};
 
 use m2_addr::Addr;
 use m2_bytes::{Blob, NoMemory};
@@ -12,7 +12,7 @@ use m2_fabric::News;
 use m2_journal::{NodeFacts, PlanStep};
 use m2_message::{Header, Message};
 use m2_policy::{FastSet, lossless_peer};
-use m2_record_pair::{Pair, Side, Which};
+use m2_record_trace::{Pair, Side, Which};
 use std::alloc::Global;
 
 /// How many things happen before all flows, and how many rounds that goes on.

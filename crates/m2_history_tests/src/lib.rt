@@ -1,3 +1,8 @@
+//! Tests of weaving: the journals of two sides, woven by hand, and generated ones.
+//!
+//! What it is: a file for each kind of thing. They stand apart from the crate, since a crate with tests is
+//! proved twice. What it isn't: what a clause says already.
+//!
 //! Tests of histories: sides made by hand, one that fits and ones that don't, and records that were driven
 //! against each other.
 //!
@@ -13,4 +18,10 @@ mod driven;
 #[cfg(test)]
 mod driving;
 #[cfg(test)]
+mod generated;
+#[cfg(test)]
+mod pairs;
+#[cfg(test)]
 mod walking;
+
+

@@ -11,8 +11,8 @@ use m2_journal::{Entry, PlanStep};
 use m2_message::Message;
 use m2_policy::{FastSet, Key, Path};
 use m2_record::Record;
-use m2_record_pair::{Which, Wire};
-use m2_sim_fabric::SimEnd;
+use m2_record_trace::{Which, Wire};
+use m2_fabric::SimEnd;
 use m2_trail::LooseList;
 use std::alloc::Global;
 

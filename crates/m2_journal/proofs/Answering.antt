@@ -1,13 +1,13 @@
 -- The frames of answers are the ones that are written for them.
 use Rattle.std.proofs.Common.{◌≡◌, true, false, map, Some, refl, sym}
 use Rattle.std.specs.Option.{option_to_list}
-use Rattle.m2_answers.specs.declared.frame.Carried.{Carried}
-use Rattle.m2_answers.specs.Frames as answers
-use Rattle.m2_answers.specs.Frames.{frame_of}
+use Rattle.m2_session.specs.declared.frame.Carried.{Carried}
+use Rattle.m2_session.specs.Frames as answers
+use Rattle.m2_session.specs.Frames.{frame_of}
 use Rattle.m2_handshake.specs.Texts.{frame_text}
 use Rattle.m2_session.specs.declared.answer.Answer.{Answer}
 use Rattle.m2_session.specs.declared.answer.Answer.TheVariants as answer
-use Rattle.m2_session.specs.Laws as session
+use Rattle.m2_session.specs.SessionLaws as session
 use Rattle.m2_journal.specs.Laws.{AnswersAreWritten}
 use Rattle.m2_journal.specs.OutFrames.{replies_of, server_ident_of, text_of}
 use Rattle.m2_journal.specs.SideFacts.{SideFacts, speaker_of}

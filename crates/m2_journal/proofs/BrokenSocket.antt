@@ -10,12 +10,12 @@ use Rattle.m2_addr.specs.Addr.{head_at, socket_at, body_of, shape_at}
 use Rattle.m2_addr.specs.Vector.{addresses_at, vector_at}
 use Rattle.m2_handshake.specs.Standing.{Standing}
 use Rattle.m2_message.specs.Message.{with_numbers}
-use Rattle.m2_message_frame.specs.HeaderText.{header_text}
+use Rattle.m2_message.specs.HeaderText.{header_text}
 use Rattle.m2_policy.specs.declared.path.Key.{Key}
 use Rattle.m2_policy.specs.declared.path.Path.TheVariants.{Queued}
 use Rattle.m2_session.specs.declared.answer.Answer.TheVariants.{Accept, Resume}
 use Rattle.m2_session.specs.declared.session.Phase.TheVariants.{Connecting, Ready, Standby, Wait}
-use Rattle.m2_answers.specs.declared.ask.AskFacts.{AskFacts}
+use Rattle.m2_session.specs.declared.ask.AskFacts.{AskFacts}
 use Rattle.m2_journal.specs.declared.entry.JudgedItem.{JudgedItem}
 use Rattle.m2_journal.specs.Plan.{to_post}
 use Rattle.m2_control.specs.declared.fields.TheConstants.{GREATEST_NUMBER}
@@ -31,7 +31,7 @@ use Rattle.std.proofs.lemmas.Bool.{ltb-true, leb-true}
 use Rattle.m2_journal.specs.State.{PartText, State, start, letter}
 use Rattle.m2_journal.proofs.OneMessage.{established, first_ask, can_be_read, key}
 use Rattle.m2_journal.specs.OutFrames.{ident, server_ident, message}
-use Rattle.m2_queues.specs.Laws.{History}
+use Rattle.m2_queues.specs.QueueLaws.{History}
 use Rattle.m2_journal.proofs.Written.{differ, not_zero, same_state, is_new, holds, fails, same, unopened, all_put}
 use Rattle.m2_journal.proofs.Pair.{World, before_all, a_does, b_does, a_writes, b_writes, a_reads, b_reads, half_goes_on, shakes_hands, socket, hello_message, facts_of_a, facts_of_b}
 

@@ -9,7 +9,7 @@ use Rattle.m2_session.specs.declared.session.Phase.TheVariants as phase
 use Rattle.m2_session.specs.declared.session.Phase.TheVariants.{Absent, Connecting, IdentSent, ReconnectSent, Ready, Standby}
 use Rattle.m2_session.specs.declared.session.Session.{Session}
 use Rattle.m2_session.specs.Conditions.{differs, is_kept}
-use Rattle.m2_session.specs.Laws.{IsSound, told}
+use Rattle.m2_session.specs.SessionLaws.{IsSound, told}
 use Rattle.m2_session.specs.Phases.{is}
 use Rattle.m2_session.specs.Reconnect.{Reconnect}
 use Rattle.m2_session.specs.Steps.{step_of, fault_rows, closes}

@@ -2,12 +2,12 @@
 use Rattle.std.proofs.Common.{◌≡◌, ◌≢◌, ℕ, Bool, true, false, if◌then◌else◌, Option, Some, None, refl, sym, subst}
 use Rattle.std.specs.Option.{is_some}
 use Rattle.std.specs.Prelude.{IsTrue, IfSome, slice_get}
-use Rattle.m2_answers.specs.declared.ask.AskFacts.{AskFacts}
-use Rattle.m2_answers.specs.declared.cookie.CookieParts.{CookieParts}
-use Rattle.m2_answers.specs.Asks.{reconnect_of, told_of_ident, told_of_reconnect}
-use Rattle.m2_answers.specs.Cookies as cookies
-use Rattle.m2_answers.proofs.Dialling as dialling
-use Rattle.m2_answers.proofs.Draws.{tell_apart}
+use Rattle.m2_session.specs.declared.ask.AskFacts.{AskFacts}
+use Rattle.m2_session.specs.declared.cookie.CookieParts.{CookieParts}
+use Rattle.m2_session.specs.Asks.{reconnect_of, told_of_ident, told_of_reconnect}
+use Rattle.m2_session.specs.Cookies as cookies
+use Rattle.m2_session.proofs.Dialling as dialling
+use Rattle.m2_session.proofs.Draws.{tell_apart}
 use Rattle.m2_control.specs.declared.control.Control.TheVariants as control
 use Rattle.m2_control.specs.declared.server_ident.ServerIdent.{ServerIdent}
 use Rattle.m2_fabric.specs.declared.socket.SocketId.{SocketId}
@@ -19,7 +19,7 @@ use Rattle.m2_session.specs.declared.session.Phase.{Phase}
 use Rattle.m2_session.specs.declared.session.Phase.TheVariants as phase
 use Rattle.m2_session.specs.declared.session.Session.{Session}
 use Rattle.m2_session.specs.Ident.{ident_answer}
-use Rattle.m2_session.specs.Laws.{brings_feed, ident_event, reconnect_event}
+use Rattle.m2_session.specs.SessionLaws.{brings_feed, ident_event, reconnect_event}
 use Rattle.m2_session.specs.Phases.{is_among, all_phases, with_feed}
 use Rattle.m2_session.specs.Reconnect.{Reconnect, reconnect_answer}
 use Rattle.m2_session.specs.Steps.{is_lawful, step_of}

@@ -3,8 +3,8 @@
 use Rattle.std.proofs.Common.{◌≡◌, ℕ, ◌+◌, Bool, true, false, if◌then◌else◌, List, [], ◌∷◌, Option, Some, None, refl, sym, subst, ap, ◌∙◌}
 use Rattle.std.specs.Option.{is_some}
 use Rattle.std.specs.Prelude.{IsTrue, IfSome}
-use Rattle.m2_answers.specs.declared.ask.AskFacts.{AskFacts}
-use Rattle.m2_answers.specs.Asks.{reconnect_of, told_of_ident, told_of_reconnect}
+use Rattle.m2_session.specs.declared.ask.AskFacts.{AskFacts}
+use Rattle.m2_session.specs.Asks.{reconnect_of, told_of_ident, told_of_reconnect}
 use Rattle.m2_fabric.specs.declared.socket.SocketId.{SocketId}
 use Rattle.m2_message.specs.Message.{Content}
 use Rattle.m2_policy.specs.declared.path.Key.{Key}
@@ -16,14 +16,14 @@ use Rattle.m2_session.specs.declared.session.Phase.{Phase}
 use Rattle.m2_session.specs.declared.session.Phase.TheVariants.{Ready}
 use Rattle.m2_session.specs.declared.session.Session.{Session}
 use Rattle.m2_session.specs.Ident.{ident_answer}
-use Rattle.m2_session.specs.Laws as session
-use Rattle.m2_session.specs.Laws.{brings_feed, count_of, has_feed, ident_event, reconnect_event}
+use Rattle.m2_session.specs.SessionLaws as session
+use Rattle.m2_session.specs.SessionLaws.{brings_feed, count_of, has_feed, ident_event, reconnect_event}
 use Rattle.m2_session.specs.Phases as phases
 use Rattle.m2_session.specs.Reconnect.{Reconnect, reconnect_answer}
 use Rattle.m2_session.specs.Steps.{is_lawful, step_of}
 use Rattle.m2_session.proofs.Answers.{taken_is_ready_lem}
 use Rattle.m2_session.proofs.Feeds.{one_feed}
-use Rattle.m2_queues.specs.Laws.{Requeue}
+use Rattle.m2_queues.specs.QueueLaws.{Requeue}
 use Rattle.m2_journal.specs.Feeds.{hears, next_said}
 use Rattle.m2_journal.specs.Items as items
 use Rattle.m2_journal.specs.Items.{JournalItem}

@@ -2,7 +2,7 @@
 use Rattle.std.proofs.Common.{◌≡◌, ℕ, ◌+◌, Bool, true, false, not, if◌then◌else◌, List, [], ◌∷◌, ◌++◌, Option, Some, None, refl, sym, ap, subst, ◌∙◌}
 use Rattle.std.specs.List.{AllByRecursion, IsDistinct}
 use Rattle.m2_addr.proofs.Addresses.{all_push}
-use Rattle.m2_answers.specs.declared.ask.AskFacts.{AskFacts}
+use Rattle.m2_session.specs.declared.ask.AskFacts.{AskFacts}
 use Rattle.m2_fabric.specs.declared.socket.SocketId.{SocketId}
 use Rattle.m2_fabric.specs.Sockets.{is_among, same_socket}
 use Rattle.m2_handshake.specs.Course.{Course, course_of, text_of}
@@ -11,11 +11,11 @@ use Rattle.m2_handshake.specs.Standing.{Standing, fed, opener_at_start}
 use Rattle.m2_message.specs.Message.{Content}
 use Rattle.m2_policy.specs.declared.path.Key.{Key}
 use Rattle.m2_queues.specs.OutQueues.{message_at}
-use Rattle.m2_queues.specs.Laws.{Next, Requeue}
+use Rattle.m2_queues.specs.QueueLaws.{Next, Requeue}
 use Rattle.m2_session.specs.declared.answer.Answer.{Answer}
 use Rattle.m2_session.specs.declared.event.Event.{Event}
 use Rattle.m2_session.specs.declared.event.Event.TheVariants as event
-use Rattle.m2_session.specs.Laws as session
+use Rattle.m2_session.specs.SessionLaws as session
 use Rattle.m2_session.specs.Steps.{step_of}
 use Rattle.m2_journal.specs.declared.entry.JudgedItem.{JudgedItem}
 use Rattle.m2_journal.specs.Feeds.{goes_on, greets, hears, hears_at, next_said, signs, silent_feed, split_into}

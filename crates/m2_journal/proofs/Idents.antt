@@ -13,7 +13,7 @@ use Rattle.m2_control.specs.declared.control.Control.{Control}
 use Rattle.m2_control.specs.declared.control.Control.TheVariants as control
 use Rattle.m2_control.specs.declared.fault.ControlFault.{ControlFault}
 use Rattle.m2_control.specs.declared.fault.ControlFault.TheVariants.{BadValue, Extra, Short}
-use Rattle.m2_message_frame.specs.MessageFrame.{message_in}
+use Rattle.m2_message.specs.MessageFrame.{message_in}
 use Rattle.m2_control.specs.declared.server_ident.ServerIdent.{ServerIdent}
 use Rattle.m2_control.specs.Ack.{ack_at}
 use Rattle.m2_control.specs.Control.{whole}
@@ -33,10 +33,10 @@ use Rattle.m2_frame.specs.Reading.{Item}
 use Rattle.m2_handshake.specs.Asks.{same_addr}
 use Rattle.m2_handshake.specs.declared.fault.HalfFault.TheVariants.{WrongAddress, FlagDisagrees}
 use Rattle.m2_handshake.specs.Ident.{is_lossy, same_flag}
-use Rattle.m2_message_frame.specs.declared.header_text.TheConstants.{HEADER_BYTES}
-use Rattle.m2_tag.specs.declared.tag.Tag.{Tag}
-use Rattle.m2_tag.specs.declared.tag.Tag.TheVariants as tag
-use Rattle.m2_tag.specs.Tags.{tag_in}
+use Rattle.m2_message.specs.declared.header_text.TheConstants.{HEADER_BYTES}
+use Rattle.m2_frame.specs.declared.tag.Tag.{Tag}
+use Rattle.m2_frame.specs.declared.tag.Tag.TheVariants as tag
+use Rattle.m2_frame.specs.Tags.{tag_in}
 use Rattle.m2_journal.specs.Said.{Said, says, brings, garbles, said, said_by, said_of_message, said_of_payload}
 use Rattle.m2_journal.specs.SideFacts.{SideFacts}
 use Rattle.m2_journal.specs.Steps.{agrees, is_agreed}

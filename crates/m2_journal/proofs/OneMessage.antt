@@ -10,12 +10,12 @@ use Rattle.m2_addr.specs.Addr.{head_at, socket_at, body_of, shape_at}
 use Rattle.m2_addr.specs.Vector.{addresses_at, vector_at}
 use Rattle.m2_handshake.specs.Standing.{Standing}
 use Rattle.m2_message.specs.Message.{with_numbers}
-use Rattle.m2_message_frame.specs.HeaderText.{header_text}
+use Rattle.m2_message.specs.HeaderText.{header_text}
 use Rattle.m2_policy.specs.declared.path.Key.{Key}
 use Rattle.m2_policy.specs.declared.path.Path.TheVariants.{Queued}
 use Rattle.m2_session.specs.declared.answer.Answer.TheVariants.{Accept, Resume}
 use Rattle.m2_session.specs.declared.session.Phase.TheVariants.{Connecting, Ready, Standby, Wait}
-use Rattle.m2_answers.specs.declared.ask.AskFacts.{AskFacts}
+use Rattle.m2_session.specs.declared.ask.AskFacts.{AskFacts}
 use Rattle.m2_journal.specs.declared.entry.JudgedItem.{JudgedItem}
 use Rattle.m2_journal.specs.Plan.{to_post}
 use Rattle.m2_control.specs.declared.fields.TheConstants.{GREATEST_NUMBER}

@@ -1,7 +1,7 @@
 -- Where an acknowledgement is owed on a feed, one of the last accepted number may be put there.
 use Rattle.std.proofs.Common.{◌≡◌, ℕ, ◌+◌, ◌≤◌, Bool, true, false, not, List, [], ◌∷◌, Option, Some, None, refl, subst, arith}
 use Rattle.std.specs.Prelude.{if◌then◌else◌, ◌&&◌}
-use Rattle.m2_answers.specs.declared.ask.AskFacts.{AskFacts}
+use Rattle.m2_session.specs.declared.ask.AskFacts.{AskFacts}
 use Rattle.m2_fabric.specs.declared.socket.SocketId.{SocketId}
 use Rattle.m2_handshake.specs.Course.{Course, course_of, text_of}
 use Rattle.m2_handshake.specs.Moves.{is_authed}
@@ -11,7 +11,7 @@ use Rattle.m2_policy.specs.declared.path.Key.{Key}
 use Rattle.m2_session.specs.declared.answer.Answer.{Answer}
 use Rattle.m2_session.specs.declared.event.Event.{Event}
 use Rattle.m2_session.specs.declared.event.Event.TheVariants as event
-use Rattle.m2_session.specs.Laws as session
+use Rattle.m2_session.specs.SessionLaws as session
 use Rattle.m2_session.specs.Steps.{step_of}
 use Rattle.m2_journal.specs.Feeds.{greets, signs, goes_on, hears, hears_at, split_into, silent_feed, taken_feed, first_owed, next_said}
 use Rattle.m2_journal.specs.Items as items
@@ -22,7 +22,7 @@ use Rattle.m2_journal.specs.OutFrames as out
 use Rattle.m2_journal.specs.OutFrames.{OutFrame, acknowledges, is_unnamed, keepalives_answered, replies_of}
 use Rattle.m2_journal.specs.Plan.{Planned, to_post, to_dial, to_go_down}
 use Rattle.m2_journal.specs.Replay.{AreLawful, after_items}
-use Rattle.m2_queues.specs.Laws.{Requeue}
+use Rattle.m2_queues.specs.QueueLaws.{Requeue}
 use Rattle.m2_journal.specs.Said.{split, Said, says, brings, aborts, garbles}
 use Rattle.m2_journal.specs.SideFacts.{SideFacts, cookie_of}
 use Rattle.m2_journal.specs.State.{PartText, Feed, State, start}

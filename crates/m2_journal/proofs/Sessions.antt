@@ -1,14 +1,14 @@
 -- The replayed session goes by the table of steps.
 use Rattle.std.proofs.Common.{◌≡◌, ℕ, ◌+◌, Bool, true, false, List, [], ◌∷◌, Option, Some, None, refl, ◌∙◌}
 use Rattle.std.specs.Prelude.{if◌then◌else◌}
-use Rattle.m2_answers.specs.declared.ask.AskFacts.{AskFacts}
+use Rattle.m2_session.specs.declared.ask.AskFacts.{AskFacts}
 use Rattle.m2_fabric.specs.declared.socket.SocketId.{SocketId}
 use Rattle.m2_message.specs.Message.{Content}
 use Rattle.m2_policy.specs.declared.path.Key.{Key}
 use Rattle.m2_session.specs.declared.answer.Answer.{Answer}
 use Rattle.m2_session.specs.declared.event.Event.{Event}
 use Rattle.m2_session.specs.declared.event.Event.TheVariants as event
-use Rattle.m2_session.specs.Laws as session
+use Rattle.m2_session.specs.SessionLaws as session
 use Rattle.m2_session.specs.Steps.{step_of}
 use Rattle.m2_journal.specs.Feeds.{hears, next_said}
 use Rattle.m2_journal.specs.Items as items

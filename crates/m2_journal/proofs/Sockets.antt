@@ -7,7 +7,7 @@ use Rattle.m2_fabric.specs.declared.socket.SocketId.{SocketId}
 use Rattle.m2_fabric.specs.Sockets.{is_among, same_socket}
 use Rattle.m2_session.specs.declared.answer.Answer.{Answer}
 use Rattle.m2_session.specs.declared.answer.Answer.TheVariants as answer
-use Rattle.m2_session.specs.Laws as session
+use Rattle.m2_session.specs.SessionLaws as session
 use Rattle.m2_journal.specs.declared.entry.JudgedItem.{JudgedItem}
 use Rattle.m2_journal.specs.Laws.{taken_among}
 use Rattle.m2_journal.specs.Lawful.{judged_on, may_ask_again}

@@ -2,9 +2,9 @@
 use Rattle.std.specs.Prelude.{◌≡◌, ◌≢◌, if◌then◌else◌, not, Bool, ℕ, ◌≤◌, ◌⊎◌, true, false, IsTrue, IfSome, List, [], ◌∷◌, ◌++◌, length, take, drop, map, Option, Some, None}
 use Rattle.std.specs.List.{AllByRecursion, IsDistinct, filter, flat_map}
 use Rattle.std.specs.Option.{is_some, option_to_list}
-use Rattle.m2_answers.specs.declared.frame.Carried.{Carried}
-use Rattle.m2_answers.specs.Frames as answers
-use Rattle.m2_answers.specs.Frames.{frame_of}
+use Rattle.m2_session.specs.declared.frame.Carried.{Carried}
+use Rattle.m2_session.specs.Frames as answers
+use Rattle.m2_session.specs.Frames.{frame_of}
 use Rattle.m2_fabric.specs.declared.socket.SocketId.{SocketId}
 use Rattle.m2_fabric.specs.Sockets as sockets
 use Rattle.m2_fabric.specs.Sockets.{same_socket}
@@ -14,12 +14,12 @@ use Rattle.m2_frame.specs.Reading.{Item, whole, text, judge}
 use Rattle.m2_frame.specs.Stream.{Splits, IsOpen}
 use Rattle.m2_frame.specs.Text as frame
 use Rattle.m2_handshake.specs.Texts.{frame_text}
-use Rattle.m2_queues.specs.Laws.{Call, History, history_of}
+use Rattle.m2_queues.specs.QueueLaws.{Call, History, history_of}
 use Rattle.m2_session.specs.declared.answer.Answer.{Answer}
 use Rattle.m2_session.specs.declared.answer.Answer.TheVariants.{Resume}
 use Rattle.m2_session.specs.declared.session.Phase.TheVariants.{Ready}
 use Rattle.m2_session.specs.declared.session.Session.{Session}
-use Rattle.m2_session.specs.Laws as session
+use Rattle.m2_session.specs.SessionLaws as session
 use Rattle.m2_session.specs.Phases.{is_among, with_feed}
 use Rattle.m2_session.specs.Steps.{is_lawful}
 use Rattle.m2_journal.specs.declared.entry.Entry.{Entry}

@@ -2,14 +2,14 @@
 -- are chosen are this project's profile.
 use Rattle.std.specs.Prelude.{ℕ, pos, Bool, true, false, if◌then◌else◌, List, [], ◌∷◌}
 use Rattle.m2_addr.specs.declared.addr.AnyAddr.TheVariants.{V4}
-use Rattle.m2_answers.specs.Frames as answers
+use Rattle.m2_session.specs.Frames as answers
 use Rattle.m2_control.specs.declared.control.Control.{Control}
 use Rattle.m2_control.specs.declared.control.Control.TheVariants as control
 use Rattle.m2_control.specs.declared.keepalive.Keepalive.{Keepalive}
 use Rattle.m2_frame.specs.Text as frame
 use Rattle.m2_handshake.specs.Texts.{frame_text}
 use Rattle.m2_message.specs.Message.{Content, with_numbers}
-use Rattle.m2_message_frame.specs.MessageFrame.{parts_of}
+use Rattle.m2_message.specs.MessageFrame.{parts_of}
 use Rattle.m2_session.specs.declared.answer.Answer.{Answer}
 use Rattle.m2_session.specs.declared.answer.Answer.TheVariants as answer
 use Rattle.m2_journal.specs.SideFacts.{SideFacts, speaker_of}

@@ -7,11 +7,11 @@ use Rattle.m2_control.specs.Control.{payload_of}
 use Rattle.m2_frame.specs.Frame.{Parts}
 use Rattle.m2_frame.specs.Reading.{Front, Item, whole, dropped, text, judge}
 use Rattle.m2_message.specs.Message.{Content}
-use Rattle.m2_message_frame.specs.declared.header_text.TheConstants.{HEADER_BYTES}
-use Rattle.m2_message_frame.specs.MessageFrame.{message_in}
-use Rattle.m2_tag.specs.declared.tag.Tag.{Tag}
-use Rattle.m2_tag.specs.declared.tag.Tag.TheVariants as tag
-use Rattle.m2_tag.specs.Tags.{tag_in}
+use Rattle.m2_message.specs.declared.header_text.TheConstants.{HEADER_BYTES}
+use Rattle.m2_message.specs.MessageFrame.{message_in}
+use Rattle.m2_frame.specs.declared.tag.Tag.{Tag}
+use Rattle.m2_frame.specs.declared.tag.Tag.TheVariants as tag
+use Rattle.m2_frame.specs.Tags.{tag_in}
 
 -- ---- the texts at the front of a stream, and what is left of it
 

@@ -2,8 +2,8 @@
 -- and what its idents say of its node.
 use Rattle.std.specs.Prelude.{ℕ, false}
 use Rattle.m2_addr.specs.declared.addr.Addr.{Addr}
-use Rattle.m2_answers.specs.declared.frame.Speaker.{Speaker}
-use Rattle.m2_answers.specs.Cookies as cookies
+use Rattle.m2_session.specs.declared.frame.Speaker.{Speaker}
+use Rattle.m2_session.specs.Cookies as cookies
 use Rattle.m2_policy.specs.declared.policy.Policy.{Policy}
 use Rattle.m2_session.specs.declared.session.Session.{Session}
 use Rattle.m2_session.specs.declared.session.Phase.TheVariants.{Absent}

@@ -5,7 +5,7 @@ use Rattle.m2_frame.specs.Reading.{Item}
 use Rattle.m2_handshake.specs.Standing.{Standing}
 use Rattle.m2_message.specs.Message.{Content}
 use Rattle.m2_policy.specs.declared.path.Key.{Key}
-use Rattle.m2_queues.specs.Laws.{History, start_of}
+use Rattle.m2_queues.specs.QueueLaws.{History, start_of}
 use Rattle.m2_session.specs.declared.session.Session.{Session}
 use Rattle.m2_journal.specs.declared.entry.JudgedItem.{JudgedItem}
 use Rattle.m2_journal.specs.OutFrames.{OutFrame}

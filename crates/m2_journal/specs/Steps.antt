@@ -5,9 +5,9 @@ use Rattle.std.specs.Result.{is_ok}
 use Rattle.m2_addr.specs.declared.addr.Addr.{Addr}
 use Rattle.m2_addr.specs.declared.fault.AddrFault.{AddrFault}
 use Rattle.m2_addr.specs.Vector.{main_of}
-use Rattle.m2_answers.specs.declared.ask.AskFacts.{AskFacts}
-use Rattle.m2_answers.specs.Asks as asks
-use Rattle.m2_answers.specs.Dials.{at_rest}
+use Rattle.m2_session.specs.declared.ask.AskFacts.{AskFacts}
+use Rattle.m2_session.specs.Asks as asks
+use Rattle.m2_session.specs.Dials.{at_rest}
 use Rattle.m2_control.specs.declared.control.Control.TheVariants as control
 use Rattle.m2_control.specs.declared.server_ident.ServerIdent.{ServerIdent}
 use Rattle.m2_control.specs.ServerFacts.{facts_of}
@@ -17,14 +17,14 @@ use Rattle.m2_handshake.specs.Ident.{server_check}
 use Rattle.m2_message.specs.Message.{Content}
 use Rattle.m2_policy.specs.declared.path.Key.{Key}
 use Rattle.m2_queues.specs.OutQueues.{message_at, waits}
-use Rattle.m2_queues.specs.Laws.{Call, Post, Next, Sent, Acked, Requeue, Renumber, Discard, after_call}
+use Rattle.m2_queues.specs.QueueLaws.{Call, Post, Next, Sent, Acked, Requeue, Renumber, Discard, after_call}
 use Rattle.m2_session.specs.declared.answer.Answer.{Answer}
 use Rattle.m2_session.specs.declared.event.Effects.{Effects}
 use Rattle.m2_session.specs.declared.event.Event.{Event}
 use Rattle.m2_session.specs.declared.event.Event.TheVariants as event
 use Rattle.m2_session.specs.declared.session.Phase.{Phase}
 use Rattle.m2_session.specs.declared.session.Phase.TheVariants.{IdentSent, ReconnectSent}
-use Rattle.m2_session.specs.Laws.{takes}
+use Rattle.m2_session.specs.SessionLaws.{takes}
 use Rattle.m2_session.specs.Phases as phase
 use Rattle.m2_session.specs.Steps.{step_of}
 use Rattle.m2_journal.specs.declared.entry.JudgedItem.{JudgedItem}

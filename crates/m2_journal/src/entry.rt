@@ -1,6 +1,6 @@
 //! What a record writes into its journal.
 
-use m2_answers::AskFacts;
+use m2_session::AskFacts;
 use m2_bytes::Items;
 use m2_fabric::SocketId;
 use m2_policy::Key;

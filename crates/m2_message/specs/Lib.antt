@@ -1,2 +1,4 @@
-pub mod Message
+pub mod HeaderText
 pub mod Laws
+pub mod Message
+pub mod MessageFrame

@@ -2,12 +2,27 @@
 //!
 //! What it is: [`Header`] and [`Message`] as the daemons above the messenger see them. What it
 //! isn't: an encoding of what the parts mean; front, middle and data are bytes here.
+//!
+//! How a message and a MESSAGE frame name each other.
+//!
+//! What it is: [`to_frame`], the frame that carries a message, and [`from_frame`], the message that a
+//! frame carries. The first segment is the header, [`HEADER_BYTES`] bytes; front, middle and data are the other
+//! three. What it isn't: the text of frames, or the session that numbers messages. It stands above
+//! both [`Message`](crate::Message) and [`Frame`](m2_frame::Frame), so that neither knows the other.
 #![tactic(auto)]
 
+mod fault;
+mod frame_laws;
 mod header;
-mod laws;
+mod header_text;
 mod message;
+mod message_frame;
+mod message_laws;
 
+pub use fault::MessageFault;
+pub use frame_laws::{a_header_is_its_fields, one_message};
 pub use header::Header;
-pub use laws::being_the_same_is_an_equivalence;
+pub use header_text::HEADER_BYTES;
 pub use message::{MOST_PART, Message};
+pub use message_frame::{from_frame, to_frame};
+pub use message_laws::being_the_same_is_an_equivalence;

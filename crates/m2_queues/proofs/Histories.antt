@@ -4,10 +4,10 @@ use Rattle.std.proofs.lemmas.List.{append-nil, take-append-drop, drop-append-le,
 use Rattle.std.proofs.lemmas.List.Elements.{filter-append}
 use Rattle.std.proofs.lemmas.Bool.Decides.{nat_tests}
 use Rattle.m2_message.specs.Message.{Content, priority_of}
-use Rattle.m2_priority.proofs.ByRank.{Falls}
-use Rattle.m2_priority.proofs.Joining.{falls-put_behind, rank-put_behind}
+use Rattle.m2_queues.proofs.ByRank.{Falls}
+use Rattle.m2_queues.proofs.Joining.{falls-put_behind, rank-put_behind}
 use Rattle.m2_queues.specs.OutQueues.{message_at, newly_numbered}
-use Rattle.m2_queues.specs.Laws.{Call, Post, Next, Sent, Acked, Requeue, Renumber, Discard, History, start_of, after_call, after_calls, history_of, of_priority, SetsBack}
+use Rattle.m2_queues.specs.QueueLaws.{Call, Post, Next, Sent, Acked, Requeue, Renumber, Discard, History, start_of, after_call, after_calls, history_of, of_priority, SetsBack}
 
 falls-rest : (ms : List Content) → Falls priority_of ms → Falls priority_of (drop 1 ms)
 falls-rest [] h = tt

@@ -1,2 +1,6 @@
+pub mod ByRank
 pub mod Histories
+pub mod InOrder
+pub mod Joining
+pub mod Permuted
 pub mod Unsent

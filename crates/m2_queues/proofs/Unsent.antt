@@ -2,7 +2,7 @@
 use Rattle.std.proofs.Common.{◌≡◌, ℕ, ◌+◌, ◌-◌, zero, suc, ◌<◌, ◌≤◌, Bool, true, false, List, [], ◌∷◌, ◌++◌, length, take, drop, slice_get, Some, None, ltb, cond, refl, sym, ap, ◌∙◌, arith, append_assoc, add-one}
 use Rattle.std.proofs.lemmas.List.{append-nil, take-append-drop, drop-append-le, drop-drop}
 use Rattle.m2_queues.specs.OutQueues.{Queue, IsNumbered, after_next, after_sent, after_acked, next_number, cursor_number, due, unsent}
-use Rattle.m2_queues.specs.Laws.{KeepsNumbers}
+use Rattle.m2_queues.specs.QueueLaws.{KeepsNumbers}
 
 -- the first past the n-th
 pub first_behind : {X : Type 0} (n : ℕ) (xs ys : List X) → n < length xs → slice_get (drop n xs ++ ys) 0 ≡ slice_get xs n

@@ -1,5 +1,9 @@
-pub mod OutQueues
-pub mod OutQueuesFields
+pub mod ByRank
 pub mod Due
 pub mod InNumbers
-pub mod Laws
+pub mod OutQueues
+pub mod OutQueuesFields
+pub mod PriorityLaws
+pub mod PriorityQueue
+pub mod PriorityQueueFields
+pub mod QueueLaws

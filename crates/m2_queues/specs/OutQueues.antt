@@ -4,7 +4,7 @@
 -- rules are ProtocolV2's for out_seq and the sent list of a policy that isn't lossy.
 use Rattle.std.specs.Prelude.{◌≡◌, ℕ, ◌+◌, ◌-◌, ◌<◌, ◌≤◌, ◌^◌, Bool, false, ◌||◌, List, [], ◌++◌, length, take, drop, max, nat_lt, slice_get, Option, Some, None, if◌then◌else◌}
 use Rattle.m2_message.specs.Message.{Content, priority_of}
-use Rattle.m2_priority.specs.ByRank.{put_behind}
+use Rattle.m2_queues.specs.ByRank.{put_behind}
 
 pub record Queue : Type 0 where
   -- whether a sent message is kept until it is acknowledged; a lossy policy doesn't keep

@@ -4,7 +4,7 @@ use Rattle.std.specs.List.{AllByRecursion}
 use Rattle.std.specs.VecDeque.{deque_len, deque_capacity}
 use Rattle.m2_message.specs.Message.{Content, content_of}
 use Rattle.m2_message.specs.declared.message.Message.{Message}
-use Rattle.m2_priority.specs.PriorityQueue.{Ranked}
+use Rattle.m2_queues.specs.PriorityQueue.{Ranked}
 use Rattle.m2_queues.specs.declared.out_queues.OutQueues.TheInside.{Inside}
 use Rattle.m2_queues.specs.OutQueues.{Queue, Outgoing, IsNumbered}
 

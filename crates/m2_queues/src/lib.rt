@@ -1,3 +1,9 @@
+//! The order of ranks: the greatest rank first, and inside one rank the oldest first.
+//!
+//! What it is: [`PriorityQueue`], which gives its items out in that order, and [`sort_by_rank`], which
+//! puts a list into it. Both are one order: a law says that a queue holds what the stable sort makes of
+//! its items. What it isn't: a rule of what an item's rank is; that is the caller's.
+//!
 //! Numbered queues: what one side of a session sends, and which numbers it takes.
 //!
 //! What it is: [`OutQueues`], the messages of one record that are to be sent, sent or not yet
@@ -9,14 +15,20 @@
 
 mod due;
 mod in_numbers;
-mod laws;
 mod out_queues;
+mod priority_laws;
+mod priority_queue;
+mod queue_laws;
+mod sort;
 
 pub use due::Due;
 pub use in_numbers::{InNumbers, Judge};
-pub use laws::{
+pub use out_queues::{BadAck, OutQueues};
+pub use priority_laws::{by_rank_is_the_stable_sort, joining_behind_is_the_stable_sort};
+pub use priority_queue::PriorityQueue;
+pub use queue_laws::{
     acknowledgements_commute, calls_go_on, each_number_is_a_place, each_priority_keeps_its_order,
     greatest_priority_waits_first, kept_messages_are_the_numbered, next_is_at_the_cursor,
     numbered_messages_stay, renumber_from_zero_keeps_the_numbers, the_unsent_go_one_by_one,
 };
-pub use out_queues::{BadAck, OutQueues};
+pub use sort::sort_by_rank;

@@ -9,7 +9,7 @@ ghost use Rattle.m2_queues.specs.OutQueues.{new_queue, after_post, next_number, 
 use crate::due::Due;
 use m2_bytes::NoMemory;
 use m2_message::Message;
-use m2_priority::PriorityQueue;
+use crate::PriorityQueue;
 use std::alloc::Global;
 use std::collections::VecDeque;
 use std::marker::Model;

@@ -3,17 +3,17 @@ use Rattle.std.proofs.Common.{◌≡◌, ℕ, ◌&&◌, if◌then◌else◌, Boo
 use Rattle.std.specs.List.{AllByRecursion}
 use Rattle.std.specs.Option.{is_none, option_to_list}
 use Rattle.std.proofs.lemmas.List.{append-nil}
-use Rattle.m2_answers.specs.declared.ask.AskFacts.{AskFacts}
-use Rattle.m2_live.specs.LiveNow.{LiveNow, OnFeedNow}
-use Rattle.m2_live.specs.Effects.{IsAftermath, closed_if, effects_of}
-use Rattle.m2_live.specs.Calls as live
-use Rattle.m2_live.specs.Waits.{stepped}
-use Rattle.m2_live.specs.declared.waits.Waits.{Waits}
+use Rattle.m2_session.specs.declared.ask.AskFacts.{AskFacts}
+use Rattle.m2_core.specs.LiveNow.{LiveNow, OnFeedNow}
+use Rattle.m2_core.specs.Effects.{IsAftermath, closed_if, effects_of}
+use Rattle.m2_core.specs.LiveCalls as live
+use Rattle.m2_core.specs.Waits.{stepped}
+use Rattle.m2_core.specs.declared.waits.Waits.{Waits}
 use Rattle.m2_core.specs.CoreNow.{CoreNow}
 use Rattle.m2_core.specs.Judging.{MayBeJudged, judgement_of, told_of}
 use Rattle.m2_core.specs.TakingOver.{MakesJudgement, after_answering}
 use Rattle.m2_core.specs.declared.verdict.Verdict.{Verdict}
-use Rattle.m2_dispatcher.specs.declared.parcel.Parcel.{Parcel}
+use Rattle.m2_dispatch.specs.declared.parcel.Parcel.{Parcel}
 use Rattle.m2_fabric.specs.declared.socket.SocketId.{SocketId}
 use Rattle.m2_fabric.specs.End.{SeenEnd}
 use Rattle.m2_feed.specs.FeedNow.{FeedNow}
@@ -32,7 +32,7 @@ use Rattle.m2_session.specs.declared.answer.Answer.{Answer}
 use Rattle.m2_session.specs.declared.event.Effects.{Effects}
 use Rattle.m2_session.specs.declared.event.Event.{Event}
 use Rattle.m2_session.specs.declared.session.Session.{Session}
-use Rattle.m2_session.specs.Laws.{takes}
+use Rattle.m2_session.specs.SessionLaws.{takes}
 use Rattle.m2_record.specs.Calls.{KeepsEnds, closed_entries, told_parcels}
 use Rattle.m2_record.specs.IsRecord.{FeedHasRoom, FeedIsOpen, FeedIsWhole, FitFrames, IsRecord, IsReplayedTo, IsWellKept, became_feed, feeds_in}
 use Rattle.m2_record.specs.Judging.{CanAskOn, after_answer, effects_at, judged_entry}

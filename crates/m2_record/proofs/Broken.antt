@@ -2,14 +2,14 @@
 use Rattle.std.specs.Prelude.{◌⊎◌}
 use Rattle.std.proofs.Common.{◌≡◌, ℕ, ◌&&◌, ◌||◌, not, if◌then◌else◌, Bool, true, false, List, [], ◌∷◌, ◌++◌, map, Option, Some, None, inl, inr, refl, sym, ap, subst, ◌∙◌}
 use Rattle.std.specs.Option.{option_to_list}
-use Rattle.m2_live.specs.LiveNow.{OnFeedNow, is_waiting}
-use Rattle.m2_live.specs.Effects.{IsAftermath, closed_if}
-use Rattle.m2_live.specs.Calls.{after_fault}
-use Rattle.m2_live.specs.Waits.{stepped}
-use Rattle.m2_live.specs.declared.waits.Waits.{Waits}
+use Rattle.m2_core.specs.LiveNow.{OnFeedNow, is_waiting}
+use Rattle.m2_core.specs.Effects.{IsAftermath, closed_if}
+use Rattle.m2_core.specs.LiveCalls.{after_fault}
+use Rattle.m2_core.specs.Waits.{stepped}
+use Rattle.m2_core.specs.declared.waits.Waits.{Waits}
 use Rattle.m2_core.specs.Agrees.{Agrees, FeedsAgree, LeadsOn}
 use Rattle.m2_core.specs.CoreNow.{CoreNow}
-use Rattle.m2_dispatcher.specs.declared.parcel.Parcel.{Parcel}
+use Rattle.m2_dispatch.specs.declared.parcel.Parcel.{Parcel}
 use Rattle.m2_fabric.specs.declared.socket.SocketId.{SocketId}
 use Rattle.m2_fabric.specs.End.{SeenEnd, after_closing}
 use Rattle.m2_fabric.specs.Sockets.{same_socket}

@@ -4,10 +4,10 @@ use Rattle.std.specs.List.{AllByRecursion}
 use Rattle.std.proofs.Common.{◌≡◌, ℕ, ◌≤◌, ◌&&◌, ◌||◌, not, if◌then◌else◌, Bool, true, false, List, [], ◌++◌, Option, Some, None, Result, Ok, Err, refl, sym, ap, subst, ◌∙◌, arith, IfSome}
 use Rattle.std.proofs.lemmas.List.{append-nil}
 use Rattle.m2_bytes.specs.declared.memory.NoMemory as memory
-use Rattle.m2_live.specs.LiveNow.{IsOwned as IsOwnedGrant, LiveNow, OnFeedNow}
-use Rattle.m2_live.specs.OnFeed.{AnswersStamp, ChangesRoom, ComposesFeed, GreetsFeed, ReadsFeed, WritesFeed}
-use Rattle.m2_live.specs.Calls.{live_with}
-use Rattle.m2_live.specs.Hearing.{raised_by}
+use Rattle.m2_core.specs.LiveNow.{IsOwned as IsOwnedGrant, LiveNow, OnFeedNow}
+use Rattle.m2_core.specs.OnFeed.{AnswersStamp, ChangesRoom, ComposesFeed, GreetsFeed, ReadsFeed, WritesFeed}
+use Rattle.m2_core.specs.LiveCalls.{live_with}
+use Rattle.m2_core.specs.LiveHearing.{raised_by}
 use Rattle.m2_core.specs.Calls.{is_exhausted}
 use Rattle.m2_control.specs.declared.fields.TheConstants.{GREATEST_NUMBER}
 use Rattle.m2_core.specs.Asking.{LeavesPass}
@@ -18,8 +18,8 @@ use Rattle.m2_core.specs.declared.asking.CoreAsk.{CoreAsk}
 use Rattle.m2_core.specs.declared.asking.CoreAsk.TheVariants as ask
 use Rattle.m2_core.specs.declared.next.CoreNext.{CoreNext}
 use Rattle.m2_core.specs.declared.next.CoreNext.TheVariants as next
-use Rattle.m2_dispatcher.specs.Parcel.{IsOwned}
-use Rattle.m2_heard.specs.declared.heard.FrameHeard.TheVariants as frame
+use Rattle.m2_dispatch.specs.Parcel.{IsOwned}
+use Rattle.m2_feed.specs.declared.frame_heard.FrameHeard.TheVariants as frame
 use Rattle.m2_shared.specs.Place.{Place}
 use Rattle.m2_core.specs.Hearing.{HasRead, ReadNow, heard_after}
 use Rattle.m2_core.specs.ToCompose.{to_compose}
@@ -36,10 +36,10 @@ use Rattle.m2_feed.specs.declared.writing.Writing.TheVariants as writing
 use Rattle.m2_handshake.specs.Half.{Writer}
 use Rattle.m2_handshake.specs.declared.answer.HalfStep.{HalfStep}
 use Rattle.m2_handshake.specs.declared.answer.HalfStep.TheVariants as half
-use Rattle.m2_heard.specs.declared.fault.WireFault.{WireFault}
-use Rattle.m2_hearing.specs.declared.fault.AnswerFault.TheVariants as refusal
-use Rattle.m2_hearing.specs.declared.heard.Heard.{Heard}
-use Rattle.m2_hearing.specs.declared.heard.Heard.TheVariants as heard
+use Rattle.m2_feed.specs.declared.wire_fault.WireFault.{WireFault}
+use Rattle.m2_feed.specs.declared.answer_fault.AnswerFault.TheVariants as refusal
+use Rattle.m2_feed.specs.declared.heard.Heard.{Heard}
+use Rattle.m2_feed.specs.declared.heard.Heard.TheVariants as heard
 use Rattle.m2_journal.specs.declared.entry.Entry.{Entry}
 use Rattle.m2_journal.specs.declared.facts.PlanStep.{PlanStep}
 use Rattle.m2_journal.specs.declared.facts.PlanStep.TheVariants as step

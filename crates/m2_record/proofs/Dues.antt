@@ -6,9 +6,9 @@ use Rattle.std.specs.Option.{is_none, is_some, option_to_list}
 use Rattle.std.proofs.lemmas.Bool.{ltb-false, ltb-true}
 use Rattle.std.proofs.lemmas.List.Folds.{list_any-append}
 use Rattle.m2_control.specs.declared.fields.TheConstants.{GREATEST_NUMBER}
-use Rattle.m2_live.specs.LiveNow.{OnFeedNow, is_ready}
-use Rattle.m2_live.specs.OnFeed.{CanAsk, CanWrite, HasStamp}
-use Rattle.m2_live.specs.Numbering.{HasNumber}
+use Rattle.m2_core.specs.LiveNow.{OnFeedNow, is_ready}
+use Rattle.m2_core.specs.OnFeed.{CanAsk, CanWrite, HasStamp}
+use Rattle.m2_core.specs.LiveNumbering.{HasNumber}
 use Rattle.m2_core.specs.Asking.{MayAskNow}
 use Rattle.m2_core.specs.Calls.{is_exhausted}
 use Rattle.m2_core.specs.Composing.{OwesOne}

@@ -1,8 +1,8 @@
 -- What the core's answer of the front of its feed says of a record.
 use Rattle.std.proofs.Common.{◌≡◌, ℕ, ◌&&◌, ◌||◌, not, if◌then◌else◌, Bool, true, false, Option, Some, None, refl, sym, ap, subst, ◌∙◌}
 use Rattle.std.specs.Option.{is_none, is_some}
-use Rattle.m2_live.specs.LiveNow.{OnFeedNow}
-use Rattle.m2_live.specs.OnFeed.{PassesItem, granted_feed}
+use Rattle.m2_core.specs.LiveNow.{OnFeedNow}
+use Rattle.m2_core.specs.OnFeed.{PassesItem, granted_feed}
 use Rattle.m2_core.specs.declared.accepting.CoreAccepted.{CoreAccepted}
 use Rattle.m2_core.specs.declared.next.CoreNext.{CoreNext}
 use Rattle.m2_core.specs.declared.next.CoreNext.TheVariants as next
@@ -16,10 +16,10 @@ use Rattle.m2_core.specs.Passing.{HasPassed, HasStamped, StampsFeed}
 use Rattle.m2_control.specs.declared.keepalive.Keepalive.{Keepalive}
 use Rattle.m2_feed.specs.FeedNow.{FeedNow, Reading, framing, is_framing, shaking}
 use Rattle.m2_frame.specs.Reading.{Front, Item, bad, judge, owed_at, start, text}
-use Rattle.m2_heard.specs.declared.fault.WireFault.{WireFault}
-use Rattle.m2_heard.specs.declared.heard.FrameHeard.{FrameHeard}
-use Rattle.m2_heard.specs.declared.heard.FrameHeard.TheVariants as heard
-use Rattle.m2_heard.specs.declared.hearer.Hearer.{Hearer}
+use Rattle.m2_feed.specs.declared.wire_fault.WireFault.{WireFault}
+use Rattle.m2_feed.specs.declared.frame_heard.FrameHeard.{FrameHeard}
+use Rattle.m2_feed.specs.declared.frame_heard.FrameHeard.TheVariants as heard
+use Rattle.m2_feed.specs.declared.hearer.Hearer.{Hearer}
 use Rattle.m2_session.specs.declared.session.Phase.TheVariants.{Ready}
 use Rattle.m2_session.specs.Phases as phase
 use Rattle.m2_shared.specs.Throttle.{SeenThrottle}

@@ -2,11 +2,11 @@
 use Rattle.std.proofs.Common.{◌≡◌, ℕ, ◌+◌, ◌<◌, ◌^◌, if◌then◌else◌, Bool, true, false, List, [], ◌∷◌, ◌++◌, map, Option, Some, None, refl, sym, ap, subst, ◌∙◌, arith}
 use Rattle.std.specs.Option.{option_to_list}
 use Rattle.std.proofs.lemmas.Option.{slice_get_within}
-use Rattle.m2_live.specs.Effects.{IsAftermath, closed_if}
+use Rattle.m2_core.specs.Effects.{IsAftermath, closed_if}
 use Rattle.m2_core.specs.Agrees.{Agrees, LeadsOn, MayCome}
 use Rattle.m2_core.specs.Calls.{after_down, is_exhausted}
 use Rattle.m2_core.specs.CoreNow.{CoreNow}
-use Rattle.m2_dispatcher.specs.declared.parcel.Parcel.{Parcel}
+use Rattle.m2_dispatch.specs.declared.parcel.Parcel.{Parcel}
 use Rattle.m2_fabric.specs.declared.socket.SocketId.{SocketId}
 use Rattle.m2_fabric.specs.End.{SeenEnd}
 use Rattle.m2_feed.specs.FeedNow.{FeedNow}

@@ -6,18 +6,18 @@ use Rattle.std.proofs.Math.Seq.{drop-append_seam, take-length}
 use Rattle.std.proofs.lemmas.Bool.Decides.{nat_tests}
 use Rattle.std.proofs.lemmas.List.{append-nil}
 use Rattle.std.specs.List.{AllByRecursion}
-use Rattle.m2_live.specs.LiveNow as live
-use Rattle.m2_live.specs.LiveNow.{LiveNow, OnFeedNow}
-use Rattle.m2_live.specs.Effects.{closed_if, tells}
-use Rattle.m2_live.specs.OnFeed.{PassesFeed, ReadsFeed}
-use Rattle.m2_live.specs.Calls.{live_with, tells_if}
-use Rattle.m2_live.specs.Hearing.{TakesAnswer, resumed_by_answer}
-use Rattle.m2_live.specs.Waits.{IsWithin}
-use Rattle.m2_live.specs.declared.waits.Waits.{Waits}
+use Rattle.m2_core.specs.LiveNow as live
+use Rattle.m2_core.specs.LiveNow.{LiveNow, OnFeedNow}
+use Rattle.m2_core.specs.Effects.{closed_if, tells}
+use Rattle.m2_core.specs.OnFeed.{PassesFeed, ReadsFeed}
+use Rattle.m2_core.specs.LiveCalls.{live_with, tells_if}
+use Rattle.m2_core.specs.LiveHearing.{TakesAnswer, resumed_by_answer}
+use Rattle.m2_core.specs.Waits.{IsWithin}
+use Rattle.m2_core.specs.declared.waits.Waits.{Waits}
 use Rattle.m2_core.specs.Agrees.{Agrees, FeedsAgree, LeadsOn, MayCome, Stays}
 use Rattle.m2_core.specs.CoreNow.{CoreNow}
 use Rattle.m2_core.specs.Hearing.{HasRead, Heeds, IsFaultHeard, IsRead, IsReadEntry, ReadNow, effects_heard, heard_after}
-use Rattle.m2_dispatcher.specs.Parcel.{IsOwned}
+use Rattle.m2_dispatch.specs.Parcel.{IsOwned}
 use Rattle.m2_edge.specs.Faults.{HasRisen}
 use Rattle.m2_fabric.specs.declared.end.EndRead.{EndRead}
 use Rattle.m2_fabric.specs.declared.end.EndRead.TheVariants as read
@@ -32,11 +32,11 @@ use Rattle.m2_handshake.specs.Course.{Course, course_of}
 use Rattle.m2_handshake.specs.Moves.{is_authed}
 use Rattle.m2_handshake.specs.Standing.{Standing, fed}
 use Rattle.m2_control.specs.declared.control.Control.TheVariants as control
-use Rattle.m2_heard.specs.declared.fault.WireFault.{WireFault}
-use Rattle.m2_hearing.specs.declared.fault.AnswerFault.TheVariants as refusal
-use Rattle.m2_hearing.specs.declared.heard.Heard.{Heard}
-use Rattle.m2_hearing.specs.declared.heard.Heard.TheVariants as heard
-use Rattle.m2_hearing.specs.Heard.{event_of}
+use Rattle.m2_feed.specs.declared.wire_fault.WireFault.{WireFault}
+use Rattle.m2_feed.specs.declared.answer_fault.AnswerFault.TheVariants as refusal
+use Rattle.m2_feed.specs.declared.heard.Heard.{Heard}
+use Rattle.m2_feed.specs.declared.heard.Heard.TheVariants as heard
+use Rattle.m2_feed.specs.Heard.{event_of}
 use Rattle.m2_journal.specs.declared.entry.Entry.{Entry}
 use Rattle.m2_journal.specs.declared.entry.Entry.TheVariants as entry
 use Rattle.m2_journal.specs.declared.facts.NodeFacts.{NodeFacts}

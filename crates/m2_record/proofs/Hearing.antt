@@ -4,9 +4,9 @@ use Rattle.std.specs.Prelude.{if◌then◌else◌}
 use Rattle.std.specs.List.{AllByRecursion}
 use Rattle.std.proofs.lemmas.List.{map-append}
 use Rattle.m2_bytes.specs.declared.memory.NoMemory as memory
-use Rattle.m2_live.specs.LiveNow.{OnFeedNow}
-use Rattle.m2_live.specs.OnFeed.{feed_after_news}
-use Rattle.m2_live.specs.Calls.{live_with}
+use Rattle.m2_core.specs.LiveNow.{OnFeedNow}
+use Rattle.m2_core.specs.OnFeed.{feed_after_news}
+use Rattle.m2_core.specs.LiveCalls.{live_with}
 use Rattle.m2_core.specs.Agrees.{Stays}
 use Rattle.m2_core.specs.CoreNow.{CoreNow}
 use Rattle.m2_fabric.specs.declared.end.News.{News}

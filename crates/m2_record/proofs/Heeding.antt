@@ -6,14 +6,14 @@ use Rattle.std.specs.Option.{is_some, option_to_list}
 use Rattle.std.proofs.lemmas.Bool.{ltb-true}
 use Rattle.std.proofs.lemmas.List.{append-nil}
 use Rattle.m2_bytes.specs.Items.{Holding}
-use Rattle.m2_live.specs.LiveNow as live
-use Rattle.m2_live.specs.LiveNow.{LiveNow, OnFeedNow, is_ready}
-use Rattle.m2_live.specs.Effects.{IsAftermath, closed_if}
-use Rattle.m2_live.specs.OnFeed.{PassesFeed}
-use Rattle.m2_live.specs.Calls.{live_with}
-use Rattle.m2_live.specs.Accepting.{MovesMessage}
-use Rattle.m2_live.specs.Waits.{stepped}
-use Rattle.m2_live.specs.declared.waits.Waits.{Waits}
+use Rattle.m2_core.specs.LiveNow as live
+use Rattle.m2_core.specs.LiveNow.{LiveNow, OnFeedNow, is_ready}
+use Rattle.m2_core.specs.Effects.{IsAftermath, closed_if}
+use Rattle.m2_core.specs.OnFeed.{PassesFeed}
+use Rattle.m2_core.specs.LiveCalls.{live_with}
+use Rattle.m2_core.specs.LiveAccepting.{MovesMessage}
+use Rattle.m2_core.specs.Waits.{stepped}
+use Rattle.m2_core.specs.declared.waits.Waits.{Waits}
 use Rattle.m2_core.specs.Accepting.{Accepts}
 use Rattle.m2_core.specs.CoreNow.{CoreNow}
 use Rattle.m2_core.specs.Agrees.{FeedsAgree, IsTold}
@@ -24,15 +24,15 @@ use Rattle.m2_core.specs.Next.{Closes, Counts, IsResetHeard, effects_next, word_
 use Rattle.m2_core.specs.declared.accepting.CoreAccepted.{CoreAccepted}
 use Rattle.m2_core.specs.declared.next.CoreNext.{CoreNext}
 use Rattle.m2_core.specs.declared.next.CoreNext.TheVariants as next
-use Rattle.m2_dispatcher.specs.declared.parcel.Parcel.{Parcel}
-use Rattle.m2_dispatcher.specs.Parcel.{IsOwned}
+use Rattle.m2_dispatch.specs.declared.parcel.Parcel.{Parcel}
+use Rattle.m2_dispatch.specs.Parcel.{IsOwned}
 use Rattle.m2_fabric.specs.End.{SeenEnd}
 use Rattle.m2_feed.specs.FeedNow.{FeedNow, is_framing}
 use Rattle.m2_frame.specs.Reading.{whole}
 use Rattle.m2_handshake.specs.declared.answer.HalfStep.{HalfStep}
-use Rattle.m2_heard.specs.declared.fault.WireFault.{WireFault}
-use Rattle.m2_heard.specs.declared.heard.FrameHeard.{FrameHeard}
-use Rattle.m2_heard.specs.declared.hearer.Hearer.{Hearer}
+use Rattle.m2_feed.specs.declared.wire_fault.WireFault.{WireFault}
+use Rattle.m2_feed.specs.declared.frame_heard.FrameHeard.{FrameHeard}
+use Rattle.m2_feed.specs.declared.hearer.Hearer.{Hearer}
 use Rattle.m2_journal.specs.declared.entry.Entry.{Entry}
 use Rattle.m2_journal.specs.declared.entry.Entry.TheVariants as entry
 use Rattle.m2_journal.specs.declared.facts.NodeFacts.{NodeFacts}

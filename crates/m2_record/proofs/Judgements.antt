@@ -14,7 +14,7 @@ use Rattle.m2_journal.specs.declared.entry.JudgedItem.{JudgedItem}
 use Rattle.m2_journal.specs.Lawful.{judged_on}
 use Rattle.m2_journal.specs.State.{Judgement, State}
 use Rattle.m2_journal.proofs.Sockets.{Names, judgement}
-use Rattle.m2_session.specs.Laws.{takes}
+use Rattle.m2_session.specs.SessionLaws.{takes}
 use Rattle.m2_trail.specs.Trails.{TrailNow}
 use Rattle.m2_record.specs.IsRecord.{IsReplayedTo, IsWellKept, closed_in, feeds_in}
 use Rattle.m2_record.specs.Judging.{judged_entry}

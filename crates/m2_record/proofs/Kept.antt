@@ -4,8 +4,8 @@ use Rattle.std.specs.List.{AllByRecursion}
 use Rattle.std.specs.Option.{option_to_list}
 use Rattle.std.proofs.lemmas.List.{append-nil, map-append}
 use Rattle.std.proofs.lemmas.List.Elements.{filter_map-append}
-use Rattle.m2_dispatcher.specs.declared.parcel.Parcel.{Parcel}
-use Rattle.m2_dispatcher.specs.declared.parcel.Parcel.TheVariants as parcel
+use Rattle.m2_dispatch.specs.declared.parcel.Parcel.{Parcel}
+use Rattle.m2_dispatch.specs.declared.parcel.Parcel.TheVariants as parcel
 use Rattle.m2_fabric.specs.declared.socket.SocketId.{SocketId}
 use Rattle.m2_fabric.specs.End.{SeenEnd, after_closing}
 use Rattle.m2_feed.specs.FeedNow.{FeedNow}
@@ -13,7 +13,7 @@ use Rattle.m2_journal.specs.declared.entry.Entry.{Entry}
 use Rattle.m2_journal.specs.declared.entry.Entry.TheVariants as entry
 use Rattle.m2_journal.specs.declared.facts.NodeFacts.{NodeFacts}
 use Rattle.m2_message.specs.Message.{Content, priority_of}
-use Rattle.m2_priority.specs.ByRank.{put_behind}
+use Rattle.m2_queues.specs.ByRank.{put_behind}
 use Rattle.m2_queues.specs.OutQueues.{Queue, after_acked, after_next, after_post, after_sent, cursor_number}
 use Rattle.m2_session.specs.declared.event.Event.{Event}
 use Rattle.m2_session.specs.declared.session.Phase.{Phase}
@@ -21,12 +21,12 @@ use Rattle.m2_session.specs.declared.session.Phase.TheVariants.{Ready, Wait}
 use Rattle.m2_session.specs.Phases as phase
 use Rattle.m2_session.specs.Steps.{step_of}
 use Rattle.std.specs.Prelude.{nat_lt, slice_get}
-use Rattle.m2_live.specs.LiveNow.{LiveNow}
-use Rattle.m2_live.specs.Effects as live
-use Rattle.m2_live.specs.Effects.{closed_if}
-use Rattle.m2_live.specs.Numbering.{FitsFrame}
-use Rattle.m2_live.specs.Waits.{IsWithin, AreWaits, begun, over, stepped}
-use Rattle.m2_live.specs.declared.waits.Waits.{Waits}
+use Rattle.m2_core.specs.LiveNow.{LiveNow}
+use Rattle.m2_core.specs.Effects as live
+use Rattle.m2_core.specs.Effects.{closed_if}
+use Rattle.m2_core.specs.LiveNumbering.{FitsFrame}
+use Rattle.m2_core.specs.Waits.{IsWithin, AreWaits, begun, over, stepped}
+use Rattle.m2_core.specs.declared.waits.Waits.{Waits}
 use Rattle.m2_record.specs.Calls.{closed_entries, one_if, told_parcels}
 use Rattle.m2_record.specs.IsRecord.{FeedIsWhole, FitFrames, IsFrom, IsWellKept, became_feed, feeds_in}
 use Rattle.m2_record.specs.RecordNow.{RecordNow, Rooms, feed_end, ids_of}

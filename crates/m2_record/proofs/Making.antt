@@ -1,6 +1,6 @@
 -- A new record is the replay of no entries.
 use Rattle.std.proofs.Common.{ℕ, [], refl, arith}
-use Rattle.m2_live.specs.Waits.{AreWaits}
+use Rattle.m2_core.specs.Waits.{AreWaits}
 use Rattle.m2_core.specs.Agrees.{Agrees}
 use Rattle.m2_core.specs.CoreNow.{at_start}
 use Rattle.m2_journal.specs.SideFacts.{SideFacts}

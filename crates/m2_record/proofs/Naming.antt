@@ -3,16 +3,16 @@ use Rattle.std.proofs.Common.{◌≡◌, ℕ, ◌+◌, Bool, true, false, if◌t
 use Rattle.std.specs.List.{filter_map}
 use Rattle.std.specs.Option.{option_map, option_to_list}
 use Rattle.std.proofs.lemmas.List.{append-nil}
-use Rattle.m2_answers.specs.declared.ask.AskFacts.{AskFacts}
+use Rattle.m2_session.specs.declared.ask.AskFacts.{AskFacts}
 use Rattle.m2_fabric.specs.declared.socket.SocketId.{SocketId}
 use Rattle.m2_fabric.specs.Sockets.{IsNewTo, is_among, same_socket}
 use Rattle.m2_message.specs.Message.{Content}
 use Rattle.m2_policy.specs.declared.path.Key.{Key}
-use Rattle.m2_queues.specs.Laws.{Next}
+use Rattle.m2_queues.specs.QueueLaws.{Next}
 use Rattle.m2_session.specs.declared.answer.Answer.{Answer}
 use Rattle.m2_session.specs.declared.event.Event.{Event}
 use Rattle.m2_session.specs.declared.event.Event.TheVariants as event
-use Rattle.m2_session.specs.Laws.{takes}
+use Rattle.m2_session.specs.SessionLaws.{takes}
 use Rattle.m2_journal.specs.declared.entry.Entry.{Entry}
 use Rattle.m2_journal.specs.declared.entry.Entry.TheVariants as entry
 use Rattle.m2_journal.specs.Feeds.{finished, hears, narrowed, next_said, texts_at}

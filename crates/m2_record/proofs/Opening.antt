@@ -6,11 +6,11 @@ use Rattle.std.specs.Option.{is_some, option_to_list}
 use Rattle.std.proofs.lemmas.Bool.{ltb-false}
 use Rattle.std.proofs.lemmas.List.Folds.{list_any-append}
 use Rattle.m2_control.specs.declared.fields.TheConstants.{GREATEST_NUMBER}
-use Rattle.m2_live.specs.LiveNow.{OnFeedNow}
+use Rattle.m2_core.specs.LiveNow.{OnFeedNow}
 use Rattle.m2_core.specs.Agrees.{FeedsAgree, LeadsOn}
 use Rattle.m2_core.specs.Calls.{IsOpening, after_opened, is_exhausted}
 use Rattle.m2_core.specs.CoreNow.{CoreNow, may_dial}
-use Rattle.m2_answers.specs.Dials.{at_rest}
+use Rattle.m2_session.specs.Dials.{at_rest}
 use Rattle.m2_bytes.specs.Items.{Holding}
 use Rattle.m2_fabric.specs.declared.socket.SocketId.{SocketId}
 use Rattle.m2_fabric.specs.End.{SeenEnd}

@@ -2,18 +2,18 @@
 use Rattle.std.proofs.Common.{◌≡◌, ℕ, Bool, true, false, List, [], ◌∷◌, ◌++◌, Option, Some, None, sym, ap, subst}
 use Rattle.std.specs.Prelude.{IfSome, IsSome}
 use Rattle.std.specs.List.{AllByRecursion}
-use Rattle.m2_live.specs.LiveNow as live
-use Rattle.m2_live.specs.LiveNow.{LiveNow}
-use Rattle.m2_live.specs.Effects as effects
-use Rattle.m2_live.specs.Calls.{after_fault, tells_if}
+use Rattle.m2_core.specs.LiveNow as live
+use Rattle.m2_core.specs.LiveNow.{LiveNow}
+use Rattle.m2_core.specs.Effects as effects
+use Rattle.m2_core.specs.LiveCalls.{after_fault, tells_if}
 use Rattle.m2_core.specs.Calls.{after_down}
 use Rattle.m2_core.specs.CoreNow.{CoreNow}
 use Rattle.m2_core.specs.Judging.{told_of}
 use Rattle.m2_core.specs.TakingOver.{IsTakenFeed, after_answering, after_taking}
 use Rattle.m2_core.specs.declared.verdict.Verdict.{Verdict}
-use Rattle.m2_dispatcher.specs.declared.parcel.Parcel.{Parcel}
-use Rattle.m2_dispatcher.specs.declared.parcel.Parcel.TheVariants as parcel
-use Rattle.m2_dispatcher.specs.Parcel.{IsOwned}
+use Rattle.m2_dispatch.specs.declared.parcel.Parcel.{Parcel}
+use Rattle.m2_dispatch.specs.declared.parcel.Parcel.TheVariants as parcel
+use Rattle.m2_dispatch.specs.Parcel.{IsOwned}
 use Rattle.m2_fabric.specs.End.{SeenEnd}
 use Rattle.m2_feed.specs.FeedNow.{FeedNow}
 use Rattle.m2_session.specs.declared.event.Event.{Event}

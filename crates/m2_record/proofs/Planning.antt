@@ -7,7 +7,7 @@ use Rattle.m2_bytes.specs.Items.{Holding, Pushes}
 use Rattle.m2_journal.specs.declared.facts.PlanStep.{PlanStep}
 use Rattle.m2_journal.specs.Plan.{Planned, planned}
 use Rattle.m2_journal.specs.Replay.{IsReplay}
-use Rattle.m2_dispatcher.specs.declared.parcel.Parcel.{Parcel}
+use Rattle.m2_dispatch.specs.declared.parcel.Parcel.{Parcel}
 use Rattle.m2_record.specs.Calls.{planned_too}
 use Rattle.m2_record.specs.IsRecord.{CanBePlanned, IsFrom, IsRecord}
 use Rattle.m2_record.specs.RecordNow.{RecordNow, delivery_of, ends_of}

@@ -7,17 +7,17 @@ use Rattle.std.proofs.Math.Seq.{drop-length}
 use Rattle.std.proofs.lemmas.List.{append-nil, map-append}
 use Rattle.std.proofs.lemmas.List.Elements.{filter_map-append}
 use Rattle.m2_addr.proofs.Addresses.{all_push}
-use Rattle.m2_answers.specs.declared.ask.AskFacts.{AskFacts}
-use Rattle.m2_live.specs.Effects.{IsAftermath, closed_if, effects_of}
-use Rattle.m2_live.specs.Waits.{stepped}
-use Rattle.m2_live.specs.declared.waits.Waits.{Waits}
+use Rattle.m2_session.specs.declared.ask.AskFacts.{AskFacts}
+use Rattle.m2_core.specs.Effects.{IsAftermath, closed_if, effects_of}
+use Rattle.m2_core.specs.Waits.{stepped}
+use Rattle.m2_core.specs.declared.waits.Waits.{Waits}
 use Rattle.m2_core.specs.Agrees.{Agrees}
 use Rattle.m2_core.specs.CoreNow.{CoreNow}
 use Rattle.m2_core.specs.Judging.{IsVerdict, MayBeJudged, judgement_of, told_of}
 use Rattle.m2_core.specs.TakingOver.{IsTakenFeed, MakesJudgement, after_taking}
 use Rattle.m2_core.specs.declared.verdict.Verdict.{Verdict}
 use Rattle.m2_core.proofs.Judged.{closes_all}
-use Rattle.m2_dispatcher.specs.declared.parcel.Parcel.{Parcel}
+use Rattle.m2_dispatch.specs.declared.parcel.Parcel.{Parcel}
 use Rattle.m2_fabric.specs.declared.log.Run.{Run}
 use Rattle.m2_fabric.specs.declared.socket.SocketId.{SocketId}
 use Rattle.m2_fabric.specs.End.{SeenEnd}
@@ -42,7 +42,7 @@ use Rattle.m2_journal.proofs.Sockets.{judgement}
 use Rattle.m2_session.specs.declared.answer.Answer.{Answer}
 use Rattle.m2_session.specs.declared.event.Effects.{Effects}
 use Rattle.m2_session.specs.declared.session.Session.{Session}
-use Rattle.m2_session.specs.Laws.{takes}
+use Rattle.m2_session.specs.SessionLaws.{takes}
 use Rattle.m2_trail.specs.Trails as trail
 use Rattle.m2_trail.specs.Trails.{IsTakenTrail, IsWholeTrail, TrailNow, closing, entry_of, read_by, unread_of, written_by}
 use Rattle.m2_trail.proofs.Points.{prefix_trans}

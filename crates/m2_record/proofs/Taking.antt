@@ -3,7 +3,7 @@ use Rattle.std.proofs.Common.{◌≡◌, ℕ, ◌+◌, ◌<◌, [], ◌∷◌, �
 use Rattle.std.specs.Prelude.{slice_get}
 use Rattle.std.specs.Option.{option_map}
 use Rattle.std.proofs.lemmas.Option.{slice_get-map, slice_get_within}
-use Rattle.m2_live.specs.Calls.{after_posted}
+use Rattle.m2_core.specs.LiveCalls.{after_posted}
 use Rattle.m2_core.specs.Agrees.{LeadsOn}
 use Rattle.m2_core.specs.Calls.{after_dial}
 use Rattle.m2_core.specs.CoreNow.{CoreNow}

@@ -1,13 +1,13 @@
 -- What a session's step leaves of a state beside what a core has, and what it leaves of a core's feed.
 use Rattle.std.proofs.Common.{◌≡◌, ℕ, Bool, true, false, List, [], ◌∷◌, ◌++◌, Option, Some, None, refl, sym, ap, ◌∙◌, append_assoc}
 use Rattle.std.proofs.lemmas.List.{append-nil}
-use Rattle.m2_live.specs.LiveNow.{LiveNow}
-use Rattle.m2_live.specs.Effects as live
+use Rattle.m2_core.specs.LiveNow.{LiveNow}
+use Rattle.m2_core.specs.Effects as live
 use Rattle.m2_fabric.specs.declared.socket.SocketId.{SocketId}
 use Rattle.m2_feed.specs.FeedNow.{FeedNow}
 use Rattle.m2_journal.specs.State.{Delivery, Feed, Judgement, State, discarded, remote_reset}
 use Rattle.m2_journal.specs.Steps as journal
-use Rattle.m2_queues.specs.Laws.{Requeue, Renumber}
+use Rattle.m2_queues.specs.QueueLaws.{Requeue, Renumber}
 use Rattle.m2_session.specs.declared.event.Effects.{Effects}
 use Rattle.m2_session.specs.declared.event.Event.{Event}
 use Rattle.m2_session.specs.Steps.{step_of}

@@ -5,9 +5,9 @@ use Rattle.std.specs.Prelude.{slice_get, nat_lt, if◌then◌else◌}
 use Rattle.std.proofs.lemmas.List.{append-nil}
 use Rattle.std.specs.List.{AllByRecursion}
 use Rattle.m2_bytes.specs.declared.memory.NoMemory as memory
-use Rattle.m2_live.specs.LiveNow.{OnFeedNow}
-use Rattle.m2_live.specs.OnFeed.{AnswersStamp, ChangesRoom, ComposesAsk, ComposesFeed, ComposesMessage, GreetsFeed}
-use Rattle.m2_live.specs.Numbering.{FitsFrame, IsNextSendable}
+use Rattle.m2_core.specs.LiveNow.{OnFeedNow}
+use Rattle.m2_core.specs.OnFeed.{AnswersStamp, ChangesRoom, ComposesAsk, ComposesFeed, ComposesMessage, GreetsFeed}
+use Rattle.m2_core.specs.LiveNumbering.{FitsFrame, IsNextSendable}
 use Rattle.m2_core.specs.Agrees.{Stays}
 use Rattle.m2_core.specs.Asking.{HasAsked, LeavesAsk}
 use Rattle.m2_core.specs.Composing.{HasAcknowledged, HasAnswered}
@@ -38,7 +38,7 @@ use Rattle.m2_journal.specs.Steps.{after}
 use Rattle.m2_journal.proofs.Paying.{can_be_paid}
 use Rattle.m2_message.specs.Message.{Content}
 use Rattle.m2_queues.specs.OutQueues.{Outgoing, Queue, after_next, message_at}
-use Rattle.m2_queues.specs.Laws.{Next}
+use Rattle.m2_queues.specs.QueueLaws.{Next}
 use Rattle.m2_session.specs.declared.event.Event.TheVariants as event
 use Rattle.m2_record.specs.Calls.{BytesAreBroken, IsFaultOf, asked_entries, numbered_entries}
 use Rattle.m2_record.specs.Sources.{is_broken_end, sources_of}

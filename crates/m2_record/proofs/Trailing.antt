@@ -16,7 +16,7 @@ use Rattle.m2_journal.specs.declared.entry.Entry.{Entry}
 use Rattle.m2_journal.specs.declared.entry.Entry.TheVariants as entry
 use Rattle.m2_journal.specs.Lawful.{judged_on}
 use Rattle.m2_journal.specs.State.{Judgement}
-use Rattle.m2_trail.specs.Laws.{GoesOn}
+use Rattle.m2_trail.specs.TrailLaws.{GoesOn}
 use Rattle.m2_trail.specs.Replies.{replies_to}
 use Rattle.m2_trail.specs.Trails as trail
 use Rattle.m2_trail.specs.Trails.{TrailNow, opener_of, read_by, unread_of}

@@ -3,11 +3,11 @@ use Rattle.std.specs.Prelude.{◌≡◌, ◌⊎◌, ℕ, ◌+◌, ◌-◌, ◌^�
 use Rattle.std.specs.List.{AllByRecursion}
 use Rattle.std.specs.Option.{option_to_list}
 use Rattle.m2_bytes.specs.declared.memory.NoMemory as memory
-use Rattle.m2_live.specs.LiveNow as live
-use Rattle.m2_live.specs.Effects.{closed_if}
-use Rattle.m2_live.specs.OnFeed.{feed_after_news}
-use Rattle.m2_live.specs.Calls.{after_fault, after_posted, live_with}
-use Rattle.m2_live.specs.Waits.{begun, not_above, stepped}
+use Rattle.m2_core.specs.LiveNow as live
+use Rattle.m2_core.specs.Effects.{closed_if}
+use Rattle.m2_core.specs.OnFeed.{feed_after_news}
+use Rattle.m2_core.specs.LiveCalls.{after_fault, after_posted, live_with}
+use Rattle.m2_core.specs.Waits.{begun, not_above, stepped}
 use Rattle.m2_core.specs.Asking.{HasAsked, LeavesAsk, LeavesPass}
 use Rattle.m2_core.specs.Calls.{IsOpening, after_dial, after_down, after_opened, is_exhausted}
 use Rattle.m2_core.specs.Composing.{HasAcknowledged, HasAnswered}
@@ -18,9 +18,9 @@ use Rattle.m2_core.specs.declared.asking.CoreAsk.{CoreAsk}
 use Rattle.m2_core.specs.declared.asking.CoreAsk.TheVariants as ask
 use Rattle.m2_core.specs.declared.to_compose.CoreText.{CoreText}
 use Rattle.m2_core.specs.declared.to_compose.CoreText.TheVariants as text
-use Rattle.m2_dispatcher.specs.declared.parcel.Parcel.{Parcel}
-use Rattle.m2_dispatcher.specs.declared.parcel.Parcel.TheVariants as parcel
-use Rattle.m2_dispatcher.specs.Parcel.{IsOwned}
+use Rattle.m2_dispatch.specs.declared.parcel.Parcel.{Parcel}
+use Rattle.m2_dispatch.specs.declared.parcel.Parcel.TheVariants as parcel
+use Rattle.m2_dispatch.specs.Parcel.{IsOwned}
 use Rattle.m2_fabric.specs.declared.socket.SocketId.{SocketId}
 use Rattle.m2_fabric.specs.End.{SeenEnd}
 use Rattle.m2_fabric.specs.End as end
@@ -31,8 +31,8 @@ use Rattle.m2_fabric.specs.Sockets.{IsNewTo, goes_to, same_socket}
 use Rattle.m2_feed.specs.FeedNow.{FeedNow}
 use Rattle.m2_feed.specs.declared.answers.FeedWrite.{FeedWrite}
 use Rattle.m2_feed.specs.declared.answers.FeedWrite.TheVariants as put
-use Rattle.m2_heard.specs.declared.fault.WireFault.{WireFault}
-use Rattle.m2_heard.specs.declared.fault.WireFault.TheVariants as fault
+use Rattle.m2_feed.specs.declared.wire_fault.WireFault.{WireFault}
+use Rattle.m2_feed.specs.declared.wire_fault.WireFault.TheVariants as fault
 use Rattle.m2_handshake.specs.declared.answer.HalfStep.{HalfStep}
 use Rattle.m2_handshake.specs.declared.answer.HalfStep.TheVariants as half
 use Rattle.m2_journal.specs.declared.entry.Entry.{Entry}

@@ -6,7 +6,7 @@ use Rattle.m2_core.specs.Calls.{is_exhausted}
 use Rattle.m2_core.specs.CoreNow.{may_dial}
 use Rattle.m2_core.specs.Front.{resumption_at}
 use Rattle.m2_core.specs.ToCompose.{to_compose}
-use Rattle.m2_dispatcher.specs.declared.parcel.Parcel.{Parcel}
+use Rattle.m2_dispatch.specs.declared.parcel.Parcel.{Parcel}
 use Rattle.m2_feed.specs.Calls.{is_empty}
 use Rattle.m2_feed.specs.FeedNow.{FeedNow, Reading, shaking, framing}
 use Rattle.m2_frame.specs.Reading.{Front, judge, owed_at, start}

@@ -1,7 +1,7 @@
 -- What the step Frame leaves of a record: one answer of the opener's half, or what stands at the front of the feed. This
 -- project's own.
 use Rattle.std.specs.Prelude.{◌≡◌, ℕ, ◌+◌, ◌-◌, Bool, true, false, List, [], ◌∷◌, ◌++◌, Option, Some, None}
-use Rattle.m2_live.specs.LiveNow.{OnFeedNow}
+use Rattle.m2_core.specs.LiveNow.{OnFeedNow}
 use Rattle.m2_core.specs.declared.accepting.CoreAccepted.{CoreAccepted}
 use Rattle.m2_core.specs.declared.next.CoreNext.{CoreNext}
 use Rattle.m2_core.specs.declared.next.CoreNext.TheVariants as next
@@ -10,8 +10,8 @@ use Rattle.m2_core.specs.Front.{heard_by}
 use Rattle.m2_core.specs.Granting.{Throttled}
 use Rattle.m2_core.specs.Hearing.{HasObeyed}
 use Rattle.m2_core.specs.Next.{IsNext, IsResetHeard}
-use Rattle.m2_dispatcher.specs.declared.parcel.Parcel.{Parcel}
-use Rattle.m2_dispatcher.specs.declared.parcel.Parcel.TheVariants as parcel
+use Rattle.m2_dispatch.specs.declared.parcel.Parcel.{Parcel}
+use Rattle.m2_dispatch.specs.declared.parcel.Parcel.TheVariants as parcel
 use Rattle.m2_feed.specs.FeedNow.{is_framing}
 use Rattle.m2_handshake.specs.declared.answer.HalfStep.{HalfStep}
 use Rattle.m2_handshake.specs.declared.answer.HalfStep.TheVariants as half

@@ -1,13 +1,13 @@
 -- A record is the replay of its journal. This project's own.
 use Rattle.std.specs.Prelude.{◌≡◌, ℕ, ◌<◌, ◌^◌, true, false, if◌then◌else◌, List, [], ◌++◌, length, map, Option, Some, None}
 use Rattle.std.specs.List.{AllByRecursion, filter_map}
-use Rattle.m2_live.specs.LiveNow.{OnFeedNow}
-use Rattle.m2_live.specs.Numbering.{FitsFrame}
-use Rattle.m2_live.specs.Waits.{IsWithin, at_first}
+use Rattle.m2_core.specs.LiveNow.{OnFeedNow}
+use Rattle.m2_core.specs.LiveNumbering.{FitsFrame}
+use Rattle.m2_core.specs.Waits.{IsWithin, at_first}
 use Rattle.m2_core.specs.Agrees.{Agrees}
 use Rattle.m2_core.specs.CoreNow.{at_start}
-use Rattle.m2_dispatcher.specs.declared.parcel.Parcel.{Parcel}
-use Rattle.m2_dispatcher.specs.declared.parcel.Parcel.TheVariants as parcel
+use Rattle.m2_dispatch.specs.declared.parcel.Parcel.{Parcel}
+use Rattle.m2_dispatch.specs.declared.parcel.Parcel.TheVariants as parcel
 use Rattle.m2_fabric.specs.declared.socket.SocketId.{SocketId}
 use Rattle.m2_fabric.specs.End.{SeenEnd}
 use Rattle.m2_fabric.specs.Sockets.{IsNewTo}
@@ -22,7 +22,7 @@ use Rattle.m2_journal.specs.SideFacts.{SideFacts}
 use Rattle.m2_journal.specs.State.{State}
 use Rattle.m2_message.specs.Message.{IsSendable, size_of}
 use Rattle.m2_queues.specs.OutQueues.{Queue}
-use Rattle.m2_session.specs.Laws.{takes}
+use Rattle.m2_session.specs.SessionLaws.{takes}
 use Rattle.m2_record.specs.RecordNow.{RecordNow, Rooms, delivery_of, ends_of, feed_end, ids_of, speaks_of}
 use Rattle.m2_record.specs.TakenTrails.{HaveTrails}
 

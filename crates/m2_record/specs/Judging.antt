@@ -4,9 +4,9 @@ use Rattle.std.specs.Prelude.{◌≡◌, ℕ, ◌<◌, ◌≤◌, ◌&&◌, true
 use Rattle.std.specs.List.{AllByRecursion}
 use Rattle.std.specs.Option.{is_none}
 use Rattle.m2_control.specs.declared.fields.TheConstants.{GREATEST_NUMBER}
-use Rattle.m2_live.specs.LiveNow as live
-use Rattle.m2_live.specs.Effects.{closed_if, effects_of}
-use Rattle.m2_live.specs.Waits.{stepped}
+use Rattle.m2_core.specs.LiveNow as live
+use Rattle.m2_core.specs.Effects.{closed_if, effects_of}
+use Rattle.m2_core.specs.Waits.{stepped}
 use Rattle.m2_core.specs.Judging.{judgement_of, told_of}
 use Rattle.m2_core.specs.TakingOver.{IsTakenFeed, after_answering, after_taking}
 use Rattle.m2_core.specs.declared.verdict.Verdict.{Verdict}
@@ -19,7 +19,7 @@ use Rattle.m2_journal.specs.declared.entry.Entry.TheVariants as entry
 use Rattle.m2_journal.specs.Lawful.{judged_on, may_ask_again}
 use Rattle.m2_session.specs.declared.answer.Answer.{Answer}
 use Rattle.m2_session.specs.declared.event.Effects.{Effects}
-use Rattle.m2_session.specs.Laws.{takes}
+use Rattle.m2_session.specs.SessionLaws.{takes}
 use Rattle.m2_shared.specs.Throttle.{SeenGrant}
 use Rattle.m2_trail.specs.Asks.{AgreesWith}
 use Rattle.m2_trail.specs.Incoming.{IncomingNow, after_judging}

@@ -1,19 +1,19 @@
 -- What reading the feed's end leaves of a record, and what the read answers. This project's own.
 use Rattle.std.specs.Prelude.{◌≡◌, ℕ, ◌<◌, ◌^◌, Bool, true, false, List, [], ◌∷◌, ◌++◌, Option, Some, None}
 use Rattle.std.specs.Option.{is_some, option_to_list}
-use Rattle.m2_live.specs.Waits as waits
-use Rattle.m2_live.specs.declared.waits.Waits.{Waits}
+use Rattle.m2_core.specs.Waits as waits
+use Rattle.m2_core.specs.declared.waits.Waits.{Waits}
 use Rattle.m2_core.specs.Hearing.{HasRead}
 use Rattle.m2_fabric.specs.declared.end.EndRead.{EndRead}
 use Rattle.m2_fabric.specs.declared.end.EndRead.TheVariants as read
 use Rattle.m2_fabric.specs.declared.socket.SocketId.{SocketId}
 use Rattle.m2_fabric.specs.End.{SeenEnd}
 use Rattle.m2_feed.specs.FeedNow.{FeedNow}
-use Rattle.m2_heard.specs.declared.fault.WireFault.{WireFault}
-use Rattle.m2_heard.specs.declared.fault.WireFault.TheVariants as fault
-use Rattle.m2_hearing.specs.declared.fault.AnswerFault.TheVariants as refusal
-use Rattle.m2_hearing.specs.declared.heard.Heard.{Heard}
-use Rattle.m2_hearing.specs.declared.heard.Heard.TheVariants as heard
+use Rattle.m2_feed.specs.declared.wire_fault.WireFault.{WireFault}
+use Rattle.m2_feed.specs.declared.wire_fault.WireFault.TheVariants as fault
+use Rattle.m2_feed.specs.declared.answer_fault.AnswerFault.TheVariants as refusal
+use Rattle.m2_feed.specs.declared.heard.Heard.{Heard}
+use Rattle.m2_feed.specs.declared.heard.Heard.TheVariants as heard
 use Rattle.m2_journal.specs.declared.entry.Entry.{Entry}
 use Rattle.m2_journal.specs.declared.entry.Entry.TheVariants as entry
 use Rattle.m2_journal.specs.declared.facts.NodeFacts.{NodeFacts}

@@ -2,16 +2,16 @@
 -- its other half: for each of its rows what the step does. This project's own.
 use Rattle.std.specs.Prelude.{◌≡◌, ℕ, ◌-◌, ◌≤◌, false, Option, Some, None, Result, Ok, Err, IfSome}
 use Rattle.m2_bytes.specs.declared.memory.NoMemory as memory
-use Rattle.m2_live.specs.LiveNow as live
-use Rattle.m2_live.specs.Hearing.{raised_by}
+use Rattle.m2_core.specs.LiveNow as live
+use Rattle.m2_core.specs.LiveHearing.{raised_by}
 use Rattle.m2_core.specs.Granting.{Throttled}
 use Rattle.m2_core.specs.ToCompose.{to_compose}
-use Rattle.m2_dispatcher.specs.Parcel.{IsOwned}
+use Rattle.m2_dispatch.specs.Parcel.{IsOwned}
 use Rattle.m2_feed.specs.FeedNow.{FeedNow}
 use Rattle.m2_feed.specs.declared.answers.FeedWrite.{FeedWrite}
 use Rattle.m2_feed.specs.declared.answers.FeedWrite.TheVariants as put
 use Rattle.m2_handshake.specs.declared.answer.HalfStep.TheVariants as half
-use Rattle.m2_heard.specs.declared.fault.WireFault.TheVariants as fault
+use Rattle.m2_feed.specs.declared.wire_fault.WireFault.TheVariants as fault
 use Rattle.m2_journal.specs.declared.facts.PlanStep.{PlanStep}
 use Rattle.m2_shared.specs.declared.limits.TheConstants.{LAST_NUMBER}
 use Rattle.m2_shared.specs.Numbers.{SeenNumberPass}

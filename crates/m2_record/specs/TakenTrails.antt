@@ -9,8 +9,8 @@ use Rattle.m2_journal.specs.declared.entry.Entry.{Entry}
 use Rattle.m2_journal.specs.declared.entry.Entry.TheVariants as entry
 use Rattle.m2_journal.specs.Lawful.{judged_on}
 use Rattle.m2_journal.specs.State.{Judgement}
-use Rattle.m2_session.specs.Laws.{takes}
-use Rattle.m2_trail.specs.Laws.{IsWithin}
+use Rattle.m2_session.specs.SessionLaws.{takes}
+use Rattle.m2_trail.specs.TrailLaws.{IsWithin}
 use Rattle.m2_trail.specs.Trails.{TrailNow, IsTakenTrail, IsTrailOf, entry_of, runs_of}
 use Rattle.m2_record.specs.Sources.{log_at}
 

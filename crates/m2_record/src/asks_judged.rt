@@ -6,7 +6,7 @@ ghost use Rattle.m2_journal.specs.Lawful.{judged_on};
 ghost use Rattle.m2_record.specs.AsksJudged.{judged_by};
 ghost use Rattle.m2_record.specs.TakenTrails.{judgements_in};
 
-use m2_answers::AskFacts;
+use m2_session::AskFacts;
 use m2_fabric::SocketId;
 use m2_journal::{Entry, JudgedItem};
 use m2_session::Answer;

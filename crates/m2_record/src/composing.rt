@@ -1,7 +1,7 @@
 //! What a record composes.
 
 ghost use Rattle.std.specs.Prelude.{◌≡◌, ◌<◌, ◌≤◌, ◌++◌, IfSome, IsSome, Some, false};
-ghost use Rattle.m2_live.specs.LiveNow.{OnFeedNow};
+ghost use Rattle.m2_core.specs.LiveNow.{OnFeedNow};
 ghost use Rattle.m2_core.specs.Calls.{is_exhausted};
 ghost use Rattle.m2_core.specs.Asking.{LeavesPass};
 ghost use Rattle.m2_core.specs.ToCompose.{to_compose};

@@ -4,16 +4,16 @@ ghost use Rattle.std.specs.Prelude.{◌≡◌, ◌-◌, ◌++◌, [], vec_capaci
 ghost use Rattle.std.specs.List.{AllByRecursion};
 ghost use Rattle.std.specs.VecDeque.{deque_len};
 ghost use Rattle.std.specs.Prelude.{map};
-ghost use Rattle.m2_dispatcher.specs.Parcel.{IsOwned};
+ghost use Rattle.m2_dispatch.specs.Parcel.{IsOwned};
 ghost use Rattle.m2_shared.specs.Place.{IsAlone};
-ghost use Rattle.m2_live.specs.LiveNow.{held};
+ghost use Rattle.m2_core.specs.LiveNow.{held};
 ghost use Rattle.m2_record.specs.Calls.{Owns, all_granted, granted_in};
 ghost use Rattle.m2_record.specs.IsRecord.{FeedHasRoom};
 ghost use Rattle.m2_record.specs.RecordNow.{feed_end};
 
 use crate::record::Record;
 use m2_bytes::Items;
-use m2_dispatcher::{Letter, Parcel};
+use m2_dispatch::{Letter, Parcel};
 use m2_fabric::End;
 use m2_feed::Feed;
 use m2_shared::{TakePass, Throttle};

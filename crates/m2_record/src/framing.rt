@@ -2,7 +2,7 @@
 
 ghost use Rattle.std.specs.Prelude.{◌≡◌, ◌+◌, ◌-◌, ◌<◌, ◌≤◌, ◌++◌, length, true, false};
 ghost use Rattle.std.specs.VecDeque.{deque_capacity, deque_len};
-ghost use Rattle.m2_live.specs.LiveNow.{OnFeedNow, held};
+ghost use Rattle.m2_core.specs.LiveNow.{OnFeedNow, held};
 ghost use Rattle.m2_core.specs.Next.{IsResetHeard};
 ghost use Rattle.m2_feed.specs.FeedNow.{is_framing};
 ghost use Rattle.m2_handshake.specs.declared.answer.HalfStep.TheVariants as half;
@@ -16,10 +16,10 @@ ghost use Rattle.m2_record.specs.Framing.{Frames, Greets, Heeds, IsDone, IsReset
 use crate::leaving::{put_closed, put_told};
 use crate::record::Record;
 use m2_core::{CoreAccepted, CoreFront, CoreNext};
-use m2_dispatcher::{Letter, Parcel};
+use m2_dispatch::{Letter, Parcel};
 use m2_fabric::End;
 use m2_handshake::HalfStep;
-use m2_heard::WireFault;
+use m2_feed::WireFault;
 use m2_journal::{Entry, EntryList};
 use m2_shared::{TakePass, Throttle};
 use std::collections::VecDeque;

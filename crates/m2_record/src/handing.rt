@@ -4,7 +4,7 @@ ghost use Rattle.m2_record.specs.Calls.{HandsOut};
 
 use crate::record::Record;
 use m2_bytes::Told;
-use m2_dispatcher::Parcel;
+use m2_dispatch::Parcel;
 use m2_fabric::End;
 
 impl<E: End> Record<E> {

@@ -2,9 +2,9 @@
 
 ghost use Rattle.std.specs.Prelude.{◌≡◌, ◌-◌, ◌<◌, ◌≤◌, ◌&&◌, ◌++◌, true, false, option_map, vec_capacity, vec_len, IfSome, OnOk};
 ghost use Rattle.std.specs.Option.{is_none};
-ghost use Rattle.m2_live.specs.LiveNow.{held};
+ghost use Rattle.m2_core.specs.LiveNow.{held};
 ghost use Rattle.m2_core.specs.Judging.{IsVerdict, MayBeJudged, acceptance_text, verdict_on};
-ghost use Rattle.m2_session.specs.Laws.{takes};
+ghost use Rattle.m2_session.specs.SessionLaws.{takes};
 ghost use Rattle.m2_shared.specs.Place.{IsAlone};
 ghost use Rattle.m2_trail.specs.Asks.{facts_of_ask};
 ghost use Rattle.m2_trail.specs.Trails.{trail_now};

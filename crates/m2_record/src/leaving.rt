@@ -5,7 +5,7 @@ ghost use Rattle.std.specs.Option.{option_to_list};
 ghost use Rattle.std.specs.VecDeque.{deque_len, deque_capacity};
 ghost use Rattle.m2_record.specs.Calls.{FitsClosed, KeepsEnds, closed_entries, told_parcels};
 
-use m2_dispatcher::Parcel;
+use m2_dispatch::Parcel;
 use m2_fabric::End;
 use m2_journal::{Entry, EntryList};
 use std::collections::VecDeque;

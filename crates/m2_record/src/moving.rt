@@ -3,7 +3,7 @@
 ghost use Rattle.std.specs.Prelude.{◌≡◌, ◌-◌, ◌<◌, ◌++◌, false};
 ghost use Rattle.m2_feed.specs.Calls.{is_empty};
 ghost use Rattle.m2_shared.specs.Place.{IsAlone};
-ghost use Rattle.m2_live.specs.LiveNow.{OnFeedNow, held};
+ghost use Rattle.m2_core.specs.LiveNow.{OnFeedNow, held};
 ghost use Rattle.m2_record.specs.Calls.{Breaks, FeedIsBroken, HasRoomFor, HasRoomToClose, IsBrokenFor, IsCounted, KeepsRoomFor, Owns, Writes, WritesFeedOnce, entries_put, fault_put, held_after, moment_after, returned_for, room_put};
 
 use crate::leaving::{put_closed, put_told};

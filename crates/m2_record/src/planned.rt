@@ -2,7 +2,7 @@
 
 ghost use Rattle.std.specs.Prelude.{◌≡◌, ◌+◌, ◌-◌, ◌^◌, ◌<◌, ◌≤◌, true, false, if◌then◌else◌, OnOk, OnErr};
 ghost use Rattle.m2_shared.specs.Place.{IsAlone};
-ghost use Rattle.m2_live.specs.LiveNow.{held};
+ghost use Rattle.m2_core.specs.LiveNow.{held};
 ghost use Rattle.m2_record.specs.Calls.{GoesDown, HasRoomFor, IsDialNext, IsPostNext, MayGoDown, Owns, PostsNext, TakesNext, is_down_next, returned_by, with_dial};
 ghost use Rattle.m2_record.specs.Due.{next_step};
 

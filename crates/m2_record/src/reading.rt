@@ -3,7 +3,7 @@
 ghost use Rattle.std.specs.Prelude.{◌≡◌, ◌-◌, ◌+◌, ◌<◌, ◌≤◌, ◌++◌, true};
 ghost use Rattle.std.specs.Option.{is_some};
 ghost use Rattle.m2_shared.specs.Place.{IsAlone, Place};
-ghost use Rattle.m2_live.specs.Hearing.{raised_by};
+ghost use Rattle.m2_core.specs.LiveHearing.{raised_by};
 ghost use Rattle.m2_record.specs.Calls.{FitsClosing, HasRoomFor, IsBrokenFor, Owns, returned_for};
 ghost use Rattle.m2_record.specs.Reading.{IsReadCounted, Reads, ReadsFeedOnce, answer_heard, answer_read, entries_read, fault_heard, fault_read, held_read, moment_read, waits_read};
 
@@ -12,10 +12,10 @@ use crate::record::Record;
 use crate::stepped::Stepped;
 use m2_core::CoreRead;
 use m2_fabric::{End, EndRead, SocketId};
-use m2_heard::WireFault;
-use m2_hearing::{AnswerFault, Heard};
+use m2_feed::WireFault;
+use m2_feed::{AnswerFault, Heard};
 use m2_journal::{Entry, EntryList, NodeFacts};
-use m2_live::{Aftermath, Waits};
+use m2_core::{Aftermath, Waits};
 use m2_session::Phase;
 use m2_shared::{NumberPass, Numbers, TakePass, Throttle};
 

@@ -1,8 +1,8 @@
 //! A record: what it holds, how it begins, and its plan.
 
 ghost use Rattle.std.specs.Prelude.{◌≡◌, ◌<◌, ◌≤◌, ◌++◌, ◌∷◌, [], OnOk};
-ghost use Rattle.m2_answers.specs.declared.cookie.TheConstants.{MOST_PLACES};
-ghost use Rattle.m2_live.specs.Waits.{AreWaits};
+ghost use Rattle.m2_session.specs.declared.cookie.TheConstants.{MOST_PLACES};
+ghost use Rattle.m2_core.specs.Waits.{AreWaits};
 ghost use Rattle.m2_record.specs.Calls.{AddsStep, FitsSocket, HasNoLess, HasRoomFor, IsSameButRoom};
 ghost use Rattle.m2_record.specs.IsRecord.{CanBePlanned, new_record};
 
@@ -10,10 +10,10 @@ use crate::connecting::room_for_socket;
 use m2_addr::Addr;
 use m2_bytes::{Items, NoMemory, Told};
 use m2_core::Core;
-use m2_dispatcher::Parcel;
+use m2_dispatch::Parcel;
 use m2_fabric::End;
 use m2_journal::{EntryList, NodeFacts, PlanList, PlanStep};
-use m2_live::Waits;
+use m2_core::Waits;
 use m2_policy::Policy;
 use m2_trail::TrailList;
 use std::alloc::Global;

@@ -1,7 +1,7 @@
 //! What a step answered.
 
-use m2_dispatcher::Parcel;
-use m2_heard::WireFault;
+use m2_dispatch::Parcel;
+use m2_feed::WireFault;
 
 /// What a step answered. It may hold a parcel, so it can't be dropped.
 pub enum Stepped {

@@ -4,7 +4,7 @@ use crate::driving::{message, outcome_of, pair, rounds};
 use m2_bytes::NoMemory;
 use m2_journal::PlanStep;
 use m2_message::Message;
-use m2_record_pair::{Pair, Which};
+use m2_record_trace::{Pair, Which};
 use std::alloc::Global;
 
 /// How many bytes each part of the message has.

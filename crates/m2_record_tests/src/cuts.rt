@@ -2,7 +2,7 @@
 
 use crate::driving::{ALL, Outcome, outcome_of, pair, post, round, rounds};
 use m2_fabric::News;
-use m2_record_pair::{Pair, Which};
+use m2_record_trace::{Pair, Which};
 use std::alloc::Global;
 
 /// How many bytes have flowed from the first side on the first socket.

@@ -1,9 +1,9 @@
 //! Two records of a pair, and what tests look at.
 
 ghost use Rattle.std.specs.Prelude.{◌<◌, ◌≤◌};
-ghost use Rattle.m2_answers.specs.declared.cookie.TheConstants.{MOST_PLACES};
+ghost use Rattle.m2_session.specs.declared.cookie.TheConstants.{MOST_PLACES};
 ghost use Rattle.m2_shared.specs.declared.limits.TheConstants.{MOST_TAKEN};
-ghost use Rattle.m2_live.specs.Waits.{AreWaits};
+ghost use Rattle.m2_core.specs.Waits.{AreWaits};
 
 use m2_addr::Addr;
 use m2_bytes::{Blob, NoMemory};
@@ -11,7 +11,7 @@ use m2_dispatch::Logged;
 use m2_journal::{Entry, NodeFacts, PlanStep};
 use m2_message::{Header, Message};
 use m2_policy::{FastSet, lossless_peer};
-use m2_record_pair::{Pair, Side, Which};
+use m2_record_trace::{Pair, Side, Which};
 use m2_session::Phase;
 use std::alloc::Global;
 

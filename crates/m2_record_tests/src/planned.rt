@@ -2,9 +2,9 @@
 
 ghost use Rattle.std.specs.Prelude.{◌≡◌, ◌<◌, Ok};
 ghost use Rattle.m2_addr.specs.declared.addr.TheConstants.Addr.{MSGR2};
-ghost use Rattle.m2_answers.specs.declared.cookie.TheConstants.{MOST_PLACES};
+ghost use Rattle.m2_session.specs.declared.cookie.TheConstants.{MOST_PLACES};
 ghost use Rattle.m2_message.specs.Message.{IsSendable};
-ghost use Rattle.m2_live.specs.Waits.{AreWaits};
+ghost use Rattle.m2_core.specs.Waits.{AreWaits};
 ghost use Rattle.m2_record.specs.Calls.{HasRoomFor, IsSameButRoom, Owns, TakesNext, planned_too};
 ghost use Rattle.m2_record.specs.Due.{next_step};
 ghost use Rattle.m2_record.specs.IsRecord.{CanBePlanned};
@@ -18,7 +18,7 @@ use m2_message::{Header, Message};
 use m2_policy::{FastSet, lossless_peer};
 use m2_record::{Due, Framed, Record};
 use m2_shared::{TakePass, Throttle};
-use m2_sim_fabric::SimEnd;
+use m2_fabric::SimEnd;
 use std::alloc::Global;
 use std::process::Abort;
 

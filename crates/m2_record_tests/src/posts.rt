@@ -3,7 +3,7 @@
 use crate::driving::{ALL, one_over, outcome_of, post, ready, round, rounds};
 use m2_fabric::{End, SocketId};
 use m2_journal::Entry;
-use m2_record_pair::{Pair, Which};
+use m2_record_trace::{Pair, Which};
 use std::test::Fail;
 
 /// Two sides that have done nothing come to Ready, and a post is dispatched once and acknowledged.

@@ -1,20 +1,20 @@
 //! A record in a thread's turn: its steps, and its connect at a port.
 
 ghost use Rattle.std.specs.Prelude.{◌≡◌, ◌≤◌};
-ghost use Rattle.m2_stages.specs.Answering.{StaysBeside};
-ghost use Rattle.m2_stages.specs.Connecting.{IsMadeBy};
-ghost use Rattle.m2_stages.specs.Outbox.{OwnsAll};
+ghost use Rattle.m2_center.specs.Answering.{StaysBeside};
+ghost use Rattle.m2_center.specs.Connecting.{IsMadeBy};
+ghost use Rattle.m2_center.specs.Outbox.{OwnsAll};
 ghost use Rattle.m2_record.specs.Calls.{Owns};
 
 use crate::planned::{at, facts, plans};
-use m2_dispatcher::LogDispatcher;
+use m2_dispatch::LogDispatcher;
 use m2_fabric::{End, Port};
 use m2_journal::PlanStep;
 use m2_policy::lossless_peer;
 use m2_record::{Record, Work};
 use m2_shared::{NumberPass, Numbers, TakePass, Throttle};
-use m2_sim_fabric::{SimEnd, SimPort};
-use m2_stages::{Outbox, RecordTurn, connect_if_due, turn_record};
+use m2_fabric::{SimEnd, SimPort};
+use m2_center::{Outbox, RecordTurn, connect_if_due, turn_record};
 use std::alloc::Global;
 use std::process::Abort;
 

@@ -1,1 +1,7 @@
+pub mod Accepting
 pub mod Appended
+pub mod Asked
+pub mod Logs
+pub mod Sockets
+pub mod Stepping
+pub mod Supplied

@@ -6,7 +6,7 @@ use Rattle.m2_edge.specs.Whole.{IsReadUpTo}
 use Rattle.m2_record_trace.specs.declared.status.TraceStatus.{TraceStatus}
 use Rattle.m2_record_trace.specs.declared.status.TraceStatus.TheVariants.{Done, WriteFault}
 use Rattle.m2_record_trace.specs.Tracing.{HasTrace}
-use Rattle.m2_schedule.specs.declared.reading.TheConstants.{MOST_BYTES}
+use Rattle.m2_scenario_text.specs.declared.reading.TheConstants.{MOST_BYTES}
 
 -- a text was taken whole, and all is flushed
 pub record Prints (text : List ℕ) (old new : SeenSink) : Type 0 where

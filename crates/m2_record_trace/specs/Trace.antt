@@ -5,15 +5,15 @@ use Rattle.std.specs.List.{flat_map}
 use Rattle.m2_dispatch.specs.Heard.{heard_by}
 use Rattle.m2_record.specs.Due.{on_feed}
 use Rattle.m2_record.specs.RecordNow.{RecordNow, composed_on, feed_end}
-use Rattle.m2_record_pair.specs.declared.which.Which.{Which}
-use Rattle.m2_record_pair.specs.declared.which.Which.TheVariants.{First, Second}
-use Rattle.m2_record_pair.specs.declared.wire.Wire.{Wire}
-use Rattle.m2_record_pair.specs.PairNow.{PairNow}
-use Rattle.m2_record_pair.specs.SideNow.{SideNow}
-use Rattle.m2_trace_text.specs.Ends.{end_lines, trail_lines}
-use Rattle.m2_trace_text.specs.Entries.{entry_line}
-use Rattle.m2_trace_text.specs.Sides.{heard_line, session_line, start_lines, step_line}
-use Rattle.m2_trace_text.specs.Words.{Text, bytes_word, flag_word, line, number_word, socket_word}
+use Rattle.m2_record_trace.specs.declared.which.Which.{Which}
+use Rattle.m2_record_trace.specs.declared.which.Which.TheVariants.{First, Second}
+use Rattle.m2_record_trace.specs.declared.wire.Wire.{Wire}
+use Rattle.m2_record_trace.specs.PairNow.{PairNow}
+use Rattle.m2_record_trace.specs.SideNow.{SideNow}
+use Rattle.m2_trace.specs.Ends.{end_lines, trail_lines}
+use Rattle.m2_trace.specs.Entries.{entry_line}
+use Rattle.m2_trace.specs.Sides.{heard_line, session_line, start_lines, step_line}
+use Rattle.m2_trace.specs.Words.{Text, bytes_word, flag_word, line, number_word, socket_word}
 use Rattle.m2_trail.specs.Arrivals.{LooseNow}
 use Rattle.m2_trail.specs.Incoming.{IncomingNow}
 

@@ -2,13 +2,13 @@
 use Rattle.std.specs.Prelude.{◌≡◌, ℕ, List, [], Option, Some, None, Result, Ok, Err}
 use Rattle.m2_bytes.specs.Blob.{Contents}
 use Rattle.m2_record.specs.IsRecord.{IsRecord}
-use Rattle.m2_record_pair.specs.PairNow.{PairNow}
+use Rattle.m2_record_trace.specs.PairNow.{PairNow}
 use Rattle.m2_record_trace.specs.declared.tracing.Untraced.{Untraced}
 use Rattle.m2_record_trace.specs.declared.tracing.Untraced.TheVariants as untraced
 use Rattle.m2_record_trace.specs.Trace.{trace_of}
-use Rattle.m2_schedule.specs.declared.schedule.PairFacts.{PairFacts}
-use Rattle.m2_schedule.specs.Reading.{text_read}
-use Rattle.m2_schedule.specs.Schedule.{Draft}
+use Rattle.m2_scenario_text.specs.declared.schedule.PairFacts.{PairFacts}
+use Rattle.m2_scenario_text.specs.ScheduleReading.{text_read}
+use Rattle.m2_scenario_text.specs.Schedule.{Draft}
 
 -- both sides are records: each is the replay of its journal
 pub record AreRecords (p : PairNow) : Type 0 where

@@ -3,8 +3,8 @@
 use m2_bytes::NoMemory;
 use m2_fabric::News;
 use m2_journal::PlanStep;
-use m2_record_pair::{Connecting, Pair, Which};
-use m2_schedule::{Instruction, SideName};
+use crate::{Connecting, Pair, Which};
+use m2_scenario_text::{Instruction, SideName};
 
 /// How many steps a turn takes at most.
 pub(crate) const MOST_STEPS_OF_A_TURN: u32 = 10_000;

@@ -6,8 +6,8 @@ ghost use Rattle.m2_shared.specs.declared.limits.TheConstants.{MOST_TAKEN};
 use m2_addr::Addr;
 use m2_journal::NodeFacts;
 use m2_policy::{FastSet, Policy};
-use m2_record_pair::{Pair, Side};
-use m2_schedule::PairFacts;
+use crate::{Pair, Side};
+use m2_scenario_text::PairFacts;
 use m2_shared::MOST_TAKEN;
 use std::alloc::Global;
 

@@ -5,7 +5,7 @@ ghost use Rattle.m2_record_trace.specs.Status.{bad_line, bad_number, bad_place, 
 
 use crate::tracing::Untraced;
 use m2_bytes::{Blob, NoMemory, put_decimal};
-use m2_words::Kind;
+use m2_scenario::Kind;
 use std::alloc::Global;
 
 /// How the program ended.

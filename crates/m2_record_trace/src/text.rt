@@ -4,14 +4,14 @@ ghost use Rattle.std.specs.Prelude.{◌≡◌, ◌++◌, codes, map, OnOk};
 ghost use Rattle.std.specs.List.{flat_map};
 ghost use Rattle.std.specs.Option.{option_map, option_to_list};
 ghost use Rattle.m2_record_trace.specs.Trace.{composed_line, did_lines, ends_lines, flags_words, half_lines, handed_lines, loose_lines, moments_words, name_of, record_lines, side_lines, stands_lines, state_line, trace_of, untaken_lines, wire_line, wire_words};
-ghost use Rattle.m2_trace_text.specs.Ends.{end_lines, trail_lines};
+ghost use Rattle.m2_trace.specs.Ends.{end_lines, trail_lines};
 ghost use Rattle.m2_trail.specs.Trails.{trail_now};
 
 use m2_bytes::{Blob, NoMemory};
 use m2_record::Record;
-use m2_record_pair::{Pair, Side, Which, Wire};
-use m2_sim_fabric::SimEnd;
-use m2_trace_text::{
+use crate::{Pair, Side, Which, Wire};
+use m2_fabric::SimEnd;
+use m2_trace::{
     put_bytes, put_end, put_flag, put_handed, put_head, put_journal, put_number, put_plan,
     put_session, put_socket, put_start, put_trail,
 };
@@ -79,7 +79,7 @@ fn put_moments(out: &mut Blob, record: &Record<SimEnd>) -> Result<(), NoMemory>
     put_number(out, record.last())
 }
 
-#[tactic(auto, unfolding(crate::specs::Trace::state_line, m2_trace_text::specs::Words::line))]
+#[tactic(auto, unfolding(crate::specs::Trace::state_line, m2_trace::specs::Words::line))]
 fn put_state(out: &mut Blob, side: &[u8], record: &Record<SimEnd>) -> Result<(), NoMemory>
     ensures { OnOk result (out.new.bytes ≡ out.old.bytes ++ state_line side.now record.now) }
 {
@@ -89,7 +89,7 @@ fn put_state(out: &mut Blob, side: &[u8], record: &Record<SimEnd>) -> Result<(),
     out.push_all(b"\n")
 }
 
-#[tactic(auto, unfolding(crate::specs::Trace::composed_line, m2_trace_text::specs::Words::line))]
+#[tactic(auto, unfolding(crate::specs::Trace::composed_line, m2_trace::specs::Words::line))]
 fn put_composed(out: &mut Blob, side: &[u8], record: &Record<SimEnd>) -> Result<(), NoMemory>
     ensures { OnOk result (out.new.bytes ≡ out.old.bytes ++ composed_line side.now record.now) }
 {
@@ -195,7 +195,7 @@ fn put_wire_words(out: &mut Blob, wire: &Wire) -> Result<(), NoMemory>
     put_number(out, wire.back as u64)
 }
 
-#[tactic(auto, unfolding(crate::specs::Trace::wire_line, m2_trace_text::specs::Words::line))]
+#[tactic(auto, unfolding(crate::specs::Trace::wire_line, m2_trace::specs::Words::line))]
 fn put_wire(out: &mut Blob, wire: &Wire) -> Result<(), NoMemory>
     ensures { OnOk result (out.new.bytes ≡ out.old.bytes ++ wire_line wire.now) }
 {

@@ -8,7 +8,7 @@ use crate::status::{TraceStatus, fixed_line, line};
 use crate::tracing::{Untraced, trace};
 use m2_bytes::{Blob, NoMemory};
 use m2_edge::{Failed, ReadFault, Sink, Source, read_whole, write_whole};
-use m2_schedule::MOST_BYTES;
+use m2_scenario_text::MOST_BYTES;
 use std::alloc::Global;
 
 /// Prints the trace of the schedule in the file that the one word names on `out`, says on `err` how it ended,

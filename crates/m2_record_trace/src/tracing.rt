@@ -7,9 +7,9 @@ use crate::driving::{Undone, drive};
 use crate::sides::pair_of;
 use crate::text::put_trace;
 use m2_bytes::{Blob, NoMemory};
-use m2_record_pair::{Pair, Which};
-use m2_schedule::{BadSchedule, Order, OrderList, PairFacts, Schedule, read};
-use m2_words::Kind;
+use crate::{Pair, Which};
+use m2_scenario_text::{BadSchedule, Order, OrderList, PairFacts, Schedule, read_schedule};
+use m2_scenario::Kind;
 use std::alloc::Global;
 
 /// Why a text has no trace.
@@ -45,7 +45,7 @@ impl From<NoMemory> for Undriven {
 pub fn trace(alloc: Global, bytes: &[u8]) -> Result<Blob, Untraced>
     ensures { Traces result bytes.now }
 {
-    match read(alloc, bytes) {
+    match read_schedule(alloc, bytes) {
         Ok(
             Schedule {
                 pair: None,

@@ -6,7 +6,7 @@ use Rattle.m2_run_trace.specs.Acts.{Act, CanDo, CanPlay, Does, MemoryRun, Plays,
 use Rattle.m2_run_trace.proofs.Deeds.{can_behind, can_first, does_both}
 use Rattle.m2_scenario.specs.declared.node.Node.{Node}
 use Rattle.m2_script.specs.Script.{Deed}
-use Rattle.m2_words.specs.Text.{Word}
+use Rattle.m2_scenario.specs.Text.{Word}
 
 both_deeds : (xs ys : List Act) → deeds_in (xs ++ ys) ≡ deeds_in xs ++ deeds_in ys
 both_deeds xs ys = flat_map-append (λ (a : Act). a.deeds) xs ys

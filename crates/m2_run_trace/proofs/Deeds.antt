@@ -5,8 +5,8 @@ use Rattle.m2_dispatch.specs.Heard.{heard_by}
 use Rattle.m2_run_trace.specs.Acts.{CanDo, Does, MemoryRun}
 use Rattle.m2_script.specs.Script.{Deed, Ends}
 use Rattle.m2_script.proofs.Deeds as deeds
-use Rattle.m2_sim_fabric.specs.declared.cut_end.CutEnd.{CutEnd}
-use Rattle.m2_sim_fabric.specs.declared.sim_end.SimEnd.{SimEnd}
+use Rattle.m2_fabric.specs.declared.cut_end.CutEnd.{CutEnd}
+use Rattle.m2_fabric.specs.declared.sim_end.SimEnd.{SimEnd}
 
 -- in full where it succeeds
 pub does_if : (result : Answer) (ds : List Deed) (old new : MemoryRun) → Ends (CutEnd SimEnd) heard_by result ds old new → OnOk result (Does ds old new)

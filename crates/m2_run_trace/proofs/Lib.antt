@@ -2,4 +2,7 @@ pub mod Acts
 pub mod Appended
 pub mod Deeds
 pub mod LineActs
+pub mod Lines
+pub mod Names
 pub mod TextLines
+pub mod Trails

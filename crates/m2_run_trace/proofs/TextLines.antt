@@ -1,7 +1,7 @@
 -- Texts in lines.
 use Rattle.std.proofs.Common.{◌≡◌, ℕ, ◌==◌, Bool, true, false, List, [], ◌∷◌, if◌then◌else◌, refl, sym, ap, ◌∙◌}
 use Rattle.m2_run_trace.specs.Script.{is_played, lines_behind, or_empty, sort_of}
-use Rattle.m2_words.specs.Text.{Word, glued, pieces}
+use Rattle.m2_scenario.specs.Text.{Word, glued, pieces}
 
 some_by : (c : Bool) (b : ℕ) (ps : List Word) → or_empty (if c then [] ∷ ps else glued b ps) ≡ (if c then [] ∷ ps else glued b ps)
 some_by true b ps = refl

@@ -4,20 +4,20 @@ use Rattle.std.specs.List.{flat_map}
 use Rattle.m2_dispatch.specs.declared.logged.Logged.{Logged}
 use Rattle.m2_dispatch.specs.Heard.{heard_by}
 use Rattle.m2_fabric.specs.declared.socket.SocketId.{SocketId}
-use Rattle.m2_run_text.specs.Marks.{MarksNow, marks_of}
-use Rattle.m2_run_text.specs.News.{news_of}
-use Rattle.m2_run_text.specs.Sockets.{left_of}
-use Rattle.m2_run_text.specs.Telling.{telling_at}
-use Rattle.m2_run_text.specs.Words.{name_in, settle_line, turn_line}
+use Rattle.m2_run_trace.specs.Marks.{MarksNow, marks_of}
+use Rattle.m2_run_trace.specs.News.{news_of}
+use Rattle.m2_run_trace.specs.Sockets.{left_of}
+use Rattle.m2_run_trace.specs.Telling.{telling_at}
+use Rattle.m2_run_trace.specs.Words.{name_in, settle_line, turn_line}
 use Rattle.m2_run_trace.specs.Script.{lines_above, lines_behind, next_step, quiet_text, step_line}
 use Rattle.m2_scenario.specs.declared.line.Line.{Line}
 use Rattle.m2_scenario.specs.declared.line.Line.TheVariants as line
 use Rattle.m2_scenario.specs.declared.link.Link.{Link}
 use Rattle.m2_scenario.specs.declared.node.Node.{Node}
 use Rattle.m2_script.specs.Script.{CanAllBeDone, Deed, Ends, RunNow, both_flow, deeds_of, turn_and_meet}
-use Rattle.m2_sim_fabric.specs.declared.cut_end.CutEnd.{CutEnd}
-use Rattle.m2_sim_fabric.specs.declared.sim_end.SimEnd.{SimEnd}
-use Rattle.m2_words.specs.Text.{Word}
+use Rattle.m2_fabric.specs.declared.cut_end.CutEnd.{CutEnd}
+use Rattle.m2_fabric.specs.declared.sim_end.SimEnd.{SimEnd}
+use Rattle.m2_scenario.specs.Text.{Word}
 
 -- a run of nodes in memory, whose dispatchers keep logs
 abbrev pub MemoryRun : Type 0

@@ -4,10 +4,10 @@ use Rattle.m2_run_trace.specs.Tracing.{IsTrace}
 use Rattle.m2_scenario.specs.declared.line.Line.{Line}
 use Rattle.m2_scenario.specs.declared.link.Link.{Link}
 use Rattle.m2_scenario.specs.declared.node.Node.{Node}
-use Rattle.m2_sim_fabric.specs.declared.cut_end.CutEnd.{CutEnd}
-use Rattle.m2_sim_fabric.specs.declared.sim_end.SimEnd.{SimEnd}
-use Rattle.m2_started.specs.Started.{IsScriptRun}
-use Rattle.m2_words.specs.Text.{Word}
+use Rattle.m2_fabric.specs.declared.cut_end.CutEnd.{CutEnd}
+use Rattle.m2_fabric.specs.declared.sim_end.SimEnd.{SimEnd}
+use Rattle.m2_promise.specs.Started.{IsScriptRun}
+use Rattle.m2_scenario.specs.Text.{Word}
 
 -- The run of a trace is one of the scenario's lines, done one after another, as that of `sim` is; so what is promised of such a run
 -- holds of it.

@@ -10,9 +10,9 @@ use Rattle.m2_run_trace.specs.declared.script.Sort.{Sort}
 use Rattle.m2_run_trace.specs.declared.script.Sort.TheVariants as sort
 use Rattle.m2_scenario.specs.declared.node.Node.{Node}
 use Rattle.m2_scenario.specs.Draft.{is_named}
-use Rattle.m2_trace_text.specs.Sides.{node_line}
-use Rattle.m2_words.specs.Line.{is_comment, line_words}
-use Rattle.m2_words.specs.Text.{Word}
+use Rattle.m2_trace.specs.Sides.{node_line}
+use Rattle.m2_scenario.specs.Line.{is_comment, line_words}
+use Rattle.m2_scenario.specs.Text.{Word}
 
 -- ---- sorts of lines
 

@@ -5,8 +5,8 @@ use Rattle.m2_run_trace.specs.declared.status.TraceStatus.{TraceStatus}
 use Rattle.m2_run_trace.specs.declared.status.TraceStatus.TheVariants as statuses
 use Rattle.m2_run_trace.specs.declared.tracing.Untraced.{Untraced}
 use Rattle.m2_run_trace.specs.declared.tracing.Untraced.TheVariants as untraced
-use Rattle.m2_words.specs.declared.kind.Kind.{Kind}
-use Rattle.m2_words.specs.Kind.{number_of_kind}
+use Rattle.m2_scenario.specs.declared.kind.Kind.{Kind}
+use Rattle.m2_scenario.specs.Kind.{number_of_kind}
 
 abbrev pub code_of_untraced : Untraced → ℕ
 code_of_untraced (untraced.BadLine line k) = 2

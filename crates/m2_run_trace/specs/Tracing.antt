@@ -10,8 +10,8 @@ use Rattle.m2_scenario.specs.declared.node.Node.{Node}
 use Rattle.m2_scenario.specs.declared.scenario.Scenario.{Scenario}
 use Rattle.m2_scenario.specs.Draft.{Draft, IsMade}
 use Rattle.m2_scenario_text.specs.Reading.{text_read}
-use Rattle.m2_started.specs.Started.{IsFirst}
-use Rattle.m2_words.specs.Text.{Word, pieces}
+use Rattle.m2_promise.specs.Started.{IsFirst}
+use Rattle.m2_scenario.specs.Text.{Word, pieces}
 
 -- From new nodes the acts of the lines are played one after another, and this is what they print.
 pub record IsTrace (nodes : List Node) (links : List Link) (lines : List Line) (text trace : Word) : Type 0 where

@@ -6,12 +6,12 @@ ghost use Rattle.m2_run_trace.specs.Acts.{CanDo, CanPlay, Does, Plays, PlaysAll,
 ghost use Rattle.m2_run_trace.specs.Script.{lines_above, lines_behind, next_step};
 ghost use Rattle.m2_script.specs.Script.{MOST, both_flow, deeds_of, turn_and_meet};
 ghost use Rattle.m2_script.specs.Script as deed;
-ghost use Rattle.m2_words.specs.Text.{pieces};
+ghost use Rattle.m2_scenario.specs.Text.{pieces};
 
 use crate::script::{put_step, put_until_step};
 use crate::stage::{MemoryRun, Scene, Stage};
 use m2_bytes::NoMemory;
-use m2_run_text::{Marks, put_news, put_settle, put_turn, sockets_left};
+use crate::{Marks, put_news, put_settle, put_turn, sockets_left};
 use m2_scenario::{Line, LineList, Link};
 use std::alloc::Global;
 

@@ -4,15 +4,15 @@ ghost use Rattle.std.specs.Prelude.{◌≡◌, ◌++◌, IfOk, OnOk, codes};
 ghost use Rattle.std.specs.List.{flat_map};
 ghost use Rattle.std.specs.Option.{option_copied};
 ghost use Rattle.m2_run_trace.specs.Script.{facts_in, facts_line, facts_of, is_played, joined, lines_above, lines_behind, next_step, quiet_by, quiet_text, sort_of, sort_of_words, spaced, step_line, told_under};
-ghost use Rattle.m2_words.specs.Line.{is_comment};
-ghost use Rattle.m2_words.specs.Text.{pieces};
+ghost use Rattle.m2_scenario.specs.Line.{is_comment};
+ghost use Rattle.m2_scenario.specs.Text.{pieces};
 
 use m2_bytes::{Blob, NoMemory};
 use m2_journal::NodeFacts;
-use m2_nodes::{MemoryCluster, MemoryNode};
+use m2_script::{MemoryCluster, MemoryNode};
 use m2_scenario::Node;
-use m2_trace_text::put_node;
-use m2_words::{Words, cut, words_in};
+use m2_trace::put_node;
+use m2_scenario::{Words, cut, words_in};
 
 /// What a line of the text is.
 #[derive(Clone, Copy, Debug, PartialEq, Eq)]

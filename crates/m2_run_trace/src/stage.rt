@@ -7,7 +7,7 @@ use m2_bytes::{Blob, Items};
 use m2_fabric::SocketIdList;
 use m2_scenario::{Link, Node};
 use m2_script::Run;
-use m2_sim_fabric::{CutPort, SimPort};
+use m2_fabric::{CutPort, SimPort};
 use std::alloc::Global;
 use std::marker::Model;
 

@@ -5,20 +5,20 @@ ghost use Rattle.m2_run_trace.specs.Acts.{CanPlay, acts_of};
 ghost use Rattle.m2_run_trace.specs.Tracing.{IsTrace, Traces};
 ghost use Rattle.m2_scenario.specs.Draft.{draft_line};
 ghost use Rattle.m2_scenario.specs.Valid.{IsSound, IsValid};
-ghost use Rattle.m2_started.specs.Started.{IsFirst};
-ghost use Rattle.m2_words.specs.Text.{pieces};
+ghost use Rattle.m2_promise.specs.Started.{IsFirst};
+ghost use Rattle.m2_scenario.specs.Text.{pieces};
 
 use crate::playing::play_all;
 use crate::stage::{MemoryRun, Scene, Stage};
 use m2_bytes::{Blob, NoMemory};
-use m2_nodes::{addresses, clear_all, cluster_of};
+use m2_script::{addresses, clear_all, cluster_of};
 use m2_scenario::{Line, LineList, Link, Node, Scenario};
 use m2_scenario_text::{BadScenario, read};
 use m2_script::Run;
-use m2_sim_fabric::{CutPort, SimPort};
-use m2_sim_net::SimFabric;
-use m2_started::first_can_be_done;
-use m2_words::Kind;
+use m2_fabric::{CutPort, SimPort};
+use m2_fabric::SimFabric;
+use m2_promise::first_can_be_done;
+use m2_scenario::Kind;
 use std::alloc::Global;
 
 /// Why a text has no trace.

@@ -11,7 +11,7 @@ use Rattle.std.proofs.lemmas.Iterator.Adapters.{position_from-zero}
 use Rattle.std.proofs.lemmas.List.Folds.{list_any-append}
 use Rattle.m2_addr.specs.declared.addr.Addr.{Addr}
 use Rattle.m2_scenario.specs.declared.node.Node.{Node}
-use Rattle.m2_words.specs.Text.{Word}
+use Rattle.m2_scenario.specs.Text.{Word}
 use Rattle.m2_scenario.specs.Draft.{is_named, is_at, without}
 use Rattle.m2_scenario.specs.NodeTable.{AreLookUps}
 use Rattle.m2_scenario.proofs.Counted.{stopped}

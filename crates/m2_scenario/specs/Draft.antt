@@ -5,7 +5,7 @@ use Rattle.std.specs.List.{list_any}
 use Rattle.std.specs.Str.{bytes_eq}
 use Rattle.m2_addr.specs.declared.addr.Addr.{Addr}
 use Rattle.m2_message.specs.Message.{Content, content_of}
-use Rattle.m2_words.specs.Text.{Word}
+use Rattle.m2_scenario.specs.Text.{Word}
 use Rattle.m2_scenario.specs.declared.node.Node.{Node}
 use Rattle.m2_scenario.specs.declared.link.Link.{Link}
 use Rattle.m2_scenario.specs.declared.line.Line.{Line}

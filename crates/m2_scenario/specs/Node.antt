@@ -1,7 +1,7 @@
 -- The node of a line that has no options.
 use Rattle.std.specs.Prelude.{ℕ, [], true}
 use Rattle.m2_addr.specs.declared.addr.Addr.{Addr}
-use Rattle.m2_words.specs.Text.{Word}
+use Rattle.m2_scenario.specs.Text.{Word}
 use Rattle.m2_scenario.specs.declared.node.Node.{Node}
 
 -- one center, no kind that is dispatched at once, no limit on the bytes that it holds, all features supported and

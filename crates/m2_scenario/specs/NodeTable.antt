@@ -6,7 +6,7 @@ use Rattle.std.specs.Str.{bytes_eq}
 use Rattle.std.specs.declared.vec.Vec.{Vec}
 use Rattle.m2_addr.specs.declared.addr.Addr.{Addr}
 use Rattle.m2_scenario.specs.declared.node.Node.{Node}
-use Rattle.m2_words.specs.Text.{Word}
+use Rattle.m2_scenario.specs.Text.{Word}
 use Rattle.m2_scenario.specs.Draft.{is_named, is_at}
 
 -- each name leads to the place of its node, and the ips and ports that are taken are those of the nodes

@@ -1,7 +1,7 @@
 //! Names of nodes.
 
 ghost use Rattle.std.specs.Prelude.{◌≡◌, true, IfOk};
-ghost use Rattle.m2_words.specs.Word.{is_name};
+ghost use Rattle.m2_scenario.specs.Word.{is_name};
 
 use m2_bytes::NoMemory;
 use std::alloc::Global;
@@ -15,7 +15,7 @@ pub struct Name {
 
 impl Model for Name {
     ghost use Rattle.std.specs.Prelude.{◌≡◌, ℕ, List, true};
-    ghost use Rattle.m2_words.specs.Word.{is_name};
+    ghost use Rattle.m2_scenario.specs.Word.{is_name};
 
     ghost Value = { List ℕ };
 

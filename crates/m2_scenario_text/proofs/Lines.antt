@@ -1,9 +1,9 @@
 -- Lines one after another.
 use Rattle.std.proofs.Common.{◌≡◌, ◌==◌, ◌+◌, ◌<◌, ℕ, Bool, true, false, if◌then◌else◌, List, [], ◌∷◌, length, Result, Ok, Err, IsErrAnd, refl, sym, ◌∙◌, ap, arith}
-use Rattle.m2_words.specs.declared.kind.Kind.TheVariants as kind
+use Rattle.m2_scenario.specs.declared.kind.Kind.TheVariants as kind
 use Rattle.m2_scenario_text.specs.declared.bad_scenario.BadScenario.{BadScenario}
 use Rattle.m2_scenario_text.specs.declared.bad_scenario.BadScenario.TheVariants as bad
-use Rattle.m2_words.specs.Text.{Word, pieces, glued}
+use Rattle.m2_scenario.specs.Text.{Word, pieces, glued}
 use Rattle.m2_scenario.specs.Draft.{Draft}
 use Rattle.m2_scenario_text.specs.declared.form.Form.{Form}
 use Rattle.m2_scenario_text.specs.Reading.{line_step, lines_from, at, At, LineRead, DraftRead}

@@ -1,9 +1,9 @@
 -- Options one after another.
 use Rattle.std.proofs.Common.{◌≡◌, ◌≤◌, ◌<◌, ℕ, zero, suc, List, [], ◌∷◌, ◌++◌, length, drop, Option, Some, None, Result, Ok, Err, refl, sym, ap, ◌∙◌, arith, append_assoc}
-use Rattle.m2_words.specs.declared.kind.Kind.{Kind}
-use Rattle.m2_words.specs.declared.kind.Kind.TheVariants as kind
-use Rattle.m2_words.specs.Steps.{◌>>=◌, or_kind}
-use Rattle.m2_words.specs.Text.{Word}
+use Rattle.m2_scenario.specs.declared.kind.Kind.{Kind}
+use Rattle.m2_scenario.specs.declared.kind.Kind.TheVariants as kind
+use Rattle.m2_scenario.specs.Steps.{◌>>=◌, or_kind}
+use Rattle.m2_scenario.specs.Text.{Word}
 use Rattle.m2_scenario_text.specs.declared.node_option.OptionRow.{OptionRow}
 use Rattle.m2_scenario_text.specs.declared.node_option.GivenOption.{GivenOption}
 use Rattle.m2_scenario_text.specs.NodeOption.{row_of, options_behind, options_in, with_option}

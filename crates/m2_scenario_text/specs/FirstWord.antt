@@ -3,7 +3,7 @@ use Rattle.std.specs.Prelude.{ℕ, ◌==◌, Bool, if◌then◌else◌, Option, 
 use Rattle.std.specs.Str.{bytes_eq}
 use Rattle.m2_scenario_text.specs.declared.first_word.FirstWord.{FirstWord}
 use Rattle.m2_scenario_text.specs.declared.first_word.FirstWord.TheVariants as first
-use Rattle.m2_words.specs.Text.{Word}
+use Rattle.m2_scenario.specs.Text.{Word}
 
 -- the first words of lines
 unfoldable pub first_word_of : Word → Option FirstWord

@@ -1,10 +1,10 @@
 -- `link A B POLICY POLICY`: A's policy, then B's.
 use Rattle.std.specs.Prelude.{◌==◌, nat_lt, not, List, length, Result, Ok}
 use Rattle.m2_policy.specs.Policy.{allows}
-use Rattle.m2_words.specs.declared.kind.Kind.{Kind}
-use Rattle.m2_words.specs.declared.kind.Kind.TheVariants as kind
-use Rattle.m2_words.specs.Steps.{◌>>=◌, check}
-use Rattle.m2_words.specs.Text.{Word, word}
+use Rattle.m2_scenario.specs.declared.kind.Kind.{Kind}
+use Rattle.m2_scenario.specs.declared.kind.Kind.TheVariants as kind
+use Rattle.m2_scenario.specs.Steps.{◌>>=◌, check}
+use Rattle.m2_scenario.specs.Text.{Word, word}
 use Rattle.m2_scenario.specs.declared.limits.TheConstants.{MOST_LINKS}
 use Rattle.m2_scenario.specs.Draft.{Draft, with_link, are_joined}
 use Rattle.m2_scenario_text.specs.Vocabulary.{policy_of}

@@ -1,12 +1,12 @@
 -- `node NAME ENTITY IP:PORT/NONCE` and options.
 use Rattle.std.specs.Prelude.{nat_le, nat_lt, not, List, length, drop, Result, Ok}
 use Rattle.std.specs.List.{list_any}
-use Rattle.m2_words.specs.declared.kind.Kind.{Kind}
-use Rattle.m2_words.specs.declared.kind.Kind.TheVariants as kind
-use Rattle.m2_words.specs.Steps.{◌>>=◌, check}
-use Rattle.m2_words.specs.Text.{Word, word}
-use Rattle.m2_words.specs.Word.{is_name}
-use Rattle.m2_words.specs.Address.{address_of}
+use Rattle.m2_scenario.specs.declared.kind.Kind.{Kind}
+use Rattle.m2_scenario.specs.declared.kind.Kind.TheVariants as kind
+use Rattle.m2_scenario.specs.Steps.{◌>>=◌, check}
+use Rattle.m2_scenario.specs.Text.{Word, word}
+use Rattle.m2_scenario.specs.Word.{is_name}
+use Rattle.m2_scenario.specs.Address.{address_of}
 use Rattle.m2_scenario.specs.declared.limits.TheConstants.{MOST_NODES}
 use Rattle.m2_scenario.specs.declared.node.Node.{Node}
 use Rattle.m2_scenario.specs.Node.{plain_node}

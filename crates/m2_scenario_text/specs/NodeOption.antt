@@ -3,13 +3,13 @@ use Rattle.std.specs.Prelude.{◌≡◌, ℕ, zero, suc, ◌==◌, Bool, true, �
 use Rattle.std.specs.Global.{Global}
 use Rattle.std.specs.List.{list_any}
 use Rattle.std.specs.Str.{bytes_eq}
-use Rattle.m2_words.specs.declared.kind.Kind.{Kind}
-use Rattle.m2_words.specs.declared.kind.Kind.TheVariants as kind
-use Rattle.m2_words.specs.declared.kind.LineFault.{LineFault}
-use Rattle.m2_words.specs.declared.kind.LineFault.TheVariants as flaw
-use Rattle.m2_words.specs.Steps.{◌>>=◌, or_kind}
-use Rattle.m2_words.specs.Text.{Word, word}
-use Rattle.m2_words.specs.Word.{number_of}
+use Rattle.m2_scenario.specs.declared.kind.Kind.{Kind}
+use Rattle.m2_scenario.specs.declared.kind.Kind.TheVariants as kind
+use Rattle.m2_scenario.specs.declared.kind.LineFault.{LineFault}
+use Rattle.m2_scenario.specs.declared.kind.LineFault.TheVariants as flaw
+use Rattle.m2_scenario.specs.Steps.{◌>>=◌, or_kind}
+use Rattle.m2_scenario.specs.Text.{Word, word}
+use Rattle.m2_scenario.specs.Word.{number_of}
 use Rattle.m2_scenario.specs.declared.limits.TheConstants.{MOST_CENTERS}
 use Rattle.m2_scenario.specs.declared.node.Node.{Node}
 use Rattle.m2_scenario_text.specs.declared.node_option.NodeOption.{NodeOption}

@@ -1,9 +1,9 @@
 -- The nodes that a line names, by their places among the nodes above, from 0.
 use Rattle.std.specs.Prelude.{◌≡◌, ℕ, ◌<◌, true, List, length, position, Result, Ok}
-use Rattle.m2_words.specs.declared.kind.Kind.{Kind}
-use Rattle.m2_words.specs.declared.kind.Kind.TheVariants as kind
-use Rattle.m2_words.specs.Steps.{◌>>=◌, check, or_kind}
-use Rattle.m2_words.specs.Text.{Word}
+use Rattle.m2_scenario.specs.declared.kind.Kind.{Kind}
+use Rattle.m2_scenario.specs.declared.kind.Kind.TheVariants as kind
+use Rattle.m2_scenario.specs.Steps.{◌>>=◌, check, or_kind}
+use Rattle.m2_scenario.specs.Text.{Word}
 use Rattle.m2_scenario.specs.declared.node.Node.{Node}
 use Rattle.m2_scenario.specs.Draft.{Draft, is_named, are_joined}
 

@@ -1,12 +1,12 @@
 -- The steps of a node's plan: `post A B KIND PRIORITY FRONT MIDDLE DATA`, `dial A B` and `down A B`.
 use Rattle.std.specs.Prelude.{ℕ, ◌==◌, nat_le, nat_lt, Bool, true, ◌&&◌, List, length, drop, count_by, Option, Some, None, Result, Ok}
 use Rattle.m2_message.specs.Message.{Content}
-use Rattle.m2_words.specs.declared.kind.Kind.{Kind}
-use Rattle.m2_words.specs.declared.kind.Kind.TheVariants as kind
+use Rattle.m2_scenario.specs.declared.kind.Kind.{Kind}
+use Rattle.m2_scenario.specs.declared.kind.Kind.TheVariants as kind
 use Rattle.m2_scenario.specs.declared.node.Node.{Node}
-use Rattle.m2_words.specs.Steps.{◌>>=◌, check}
-use Rattle.m2_words.specs.Text.{Word, word}
-use Rattle.m2_words.specs.Word.{number_of, bytes_of}
+use Rattle.m2_scenario.specs.Steps.{◌>>=◌, check}
+use Rattle.m2_scenario.specs.Text.{Word, word}
+use Rattle.m2_scenario.specs.Word.{number_of, bytes_of}
 use Rattle.m2_scenario.specs.declared.limits.TheConstants.{MOST_POSTS}
 use Rattle.m2_scenario_text.specs.declared.plan_lines.TheConstants.{LEAST_PRIORITY, MOST_PRIORITY}
 use Rattle.m2_scenario.specs.Draft.{Draft, with_line, is_post, post, dial, down}

@@ -1,15 +1,15 @@
 -- A scenario's text: lines ended by a line feed, of which the last may lack it.
 use Rattle.std.specs.Prelude.{◌≡◌, ℕ, ◌+◌, nat_lt, Bool, if◌then◌else◌, List, [], ◌∷◌, length, take, Result, Ok, Err}
-use Rattle.m2_words.specs.declared.kind.Kind.{Kind}
-use Rattle.m2_words.specs.declared.kind.Kind.TheVariants as kind
+use Rattle.m2_scenario.specs.declared.kind.Kind.{Kind}
+use Rattle.m2_scenario.specs.declared.kind.Kind.TheVariants as kind
 use Rattle.m2_scenario_text.specs.declared.first_word.FirstWord.{FirstWord}
 use Rattle.m2_scenario_text.specs.declared.first_word.FirstWord.TheVariants as first
 use Rattle.m2_scenario_text.specs.declared.bad_scenario.BadScenario.{BadScenario}
 use Rattle.m2_scenario_text.specs.declared.bad_scenario.BadScenario.TheVariants as bad
 use Rattle.m2_scenario.specs.declared.scenario.Scenario.{Scenario}
-use Rattle.m2_words.specs.Steps.{◌>>=◌, check, or_kind}
-use Rattle.m2_words.specs.Text.{Word, pieces}
-use Rattle.m2_words.specs.Line.{is_clean, without_return, line_words}
+use Rattle.m2_scenario.specs.Steps.{◌>>=◌, check, or_kind}
+use Rattle.m2_scenario.specs.Text.{Word, pieces}
+use Rattle.m2_scenario.specs.Line.{is_clean, without_return, line_words}
 use Rattle.m2_scenario_text.specs.declared.form.Form.{Form}
 use Rattle.m2_scenario_text.specs.declared.reading.TheConstants.{MOST_BYTES}
 use Rattle.m2_scenario_text.specs.FirstWord.{first_word_of}

@@ -1,11 +1,11 @@
 -- The lines of `run` alone: `off A` and `limit MS`.
 use Rattle.std.specs.Prelude.{◌==◌, not, List, length, is_none, Result, Ok}
 use Rattle.std.specs.List.{list_any}
-use Rattle.m2_words.specs.declared.kind.Kind.{Kind}
-use Rattle.m2_words.specs.declared.kind.Kind.TheVariants as kind
-use Rattle.m2_words.specs.Steps.{◌>>=◌, check}
-use Rattle.m2_words.specs.Text.{Word, word}
-use Rattle.m2_words.specs.Word.{number_of}
+use Rattle.m2_scenario.specs.declared.kind.Kind.{Kind}
+use Rattle.m2_scenario.specs.declared.kind.Kind.TheVariants as kind
+use Rattle.m2_scenario.specs.Steps.{◌>>=◌, check}
+use Rattle.m2_scenario.specs.Text.{Word, word}
+use Rattle.m2_scenario.specs.Word.{number_of}
 use Rattle.m2_scenario_text.specs.declared.run_lines.TheConstants.{MOST_LIMIT}
 use Rattle.m2_scenario.specs.Draft.{Draft, without_start, with_limit, is_step_of}
 use Rattle.m2_scenario_text.specs.Pair.{place_of}

@@ -1,11 +1,11 @@
 -- `cut A B BYTES`, and the lines of `sim` alone: `turn A`, `flow A B` or `flow A B SOCKET BYTES`,
 -- `fault A B` or `fault A B SOCKET`, and `settle N`.
 use Rattle.std.specs.Prelude.{ℕ, ◌+◌, ◌==◌, nat_le, nat_lt, ◌||◌, List, [], ◌∷◌, length, drop, count_by, sum_by, Result, Ok}
-use Rattle.m2_words.specs.declared.kind.Kind.{Kind}
-use Rattle.m2_words.specs.declared.kind.Kind.TheVariants as kind
-use Rattle.m2_words.specs.Steps.{◌>>=◌, check}
-use Rattle.m2_words.specs.Text.{Word, word}
-use Rattle.m2_words.specs.Word.{number_of}
+use Rattle.m2_scenario.specs.declared.kind.Kind.{Kind}
+use Rattle.m2_scenario.specs.declared.kind.Kind.TheVariants as kind
+use Rattle.m2_scenario.specs.Steps.{◌>>=◌, check}
+use Rattle.m2_scenario.specs.Text.{Word, word}
+use Rattle.m2_scenario.specs.Word.{number_of}
 use Rattle.m2_scenario_text.specs.Pair.{place_of, pair_of}
 use Rattle.m2_scenario.specs.declared.limits.TheConstants.{MOST_CUTS, MOST_BYTES_BEFORE_CUT, MOST_FAULTS, MOST_ROUNDS}
 use Rattle.m2_scenario_text.specs.declared.sim_lines.TheConstants.{MOST_ROUNDS_OF_A_LINE}

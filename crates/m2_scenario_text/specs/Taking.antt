@@ -3,9 +3,9 @@
 use Rattle.std.specs.Prelude.{◌≡◌, Result, Ok, Err}
 use Rattle.m2_message.specs.declared.message.Message.{Message}
 use Rattle.m2_message.specs.Message.{Content, content_of}
-use Rattle.m2_words.specs.declared.kind.Kind.{Kind}
-use Rattle.m2_words.specs.declared.kind.LineFault.{LineFault}
-use Rattle.m2_words.specs.declared.kind.LineFault.TheVariants as flaw
+use Rattle.m2_scenario.specs.declared.kind.Kind.{Kind}
+use Rattle.m2_scenario.specs.declared.kind.LineFault.{LineFault}
+use Rattle.m2_scenario.specs.declared.kind.LineFault.TheVariants as flaw
 use Rattle.m2_scenario.specs.declared.node.Node.{Node}
 use Rattle.m2_scenario.specs.Draft.{Draft}
 

@@ -3,11 +3,11 @@ use Rattle.std.specs.Prelude.{ℕ, nat_lt, if◌then◌else◌, List, [], ◌∷
 use Rattle.std.specs.Str.{bytes_eq}
 use Rattle.m2_policy.specs.declared.policy.Policy.{Policy}
 use Rattle.m2_policy.specs.Policy.{lossy_client, lossless_client, lossless_peer, stateless_server, stateful_server}
-use Rattle.m2_words.specs.declared.kind.Kind.{Kind}
-use Rattle.m2_words.specs.declared.kind.Kind.TheVariants as kind
-use Rattle.m2_words.specs.Steps.{◌>>=◌, check}
-use Rattle.m2_words.specs.Text.{Word, pieces}
-use Rattle.m2_words.specs.Word.{number_of}
+use Rattle.m2_scenario.specs.declared.kind.Kind.{Kind}
+use Rattle.m2_scenario.specs.declared.kind.Kind.TheVariants as kind
+use Rattle.m2_scenario.specs.Steps.{◌>>=◌, check}
+use Rattle.m2_scenario.specs.Text.{Word, pieces}
+use Rattle.m2_scenario.specs.Word.{number_of}
 
 -- the types of entity, with Ceph's numbers
 unfoldable pub entity_of : Word → Result ℕ Kind

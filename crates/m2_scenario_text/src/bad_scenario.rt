@@ -1,6 +1,6 @@
 //! Why a text is no scenario.
 
-use m2_words::Kind;
+use m2_scenario::Kind;
 use thiserror::Error;
 
 /// Why a text is no scenario.

@@ -4,12 +4,21 @@
 //! (docs/SCENARIOS.md has every form of line); [`FirstWord`], what a line is about, and [`Form`],
 //! which lines a file may have, for callers that look at a text themselves. Each form of line has a
 //! reader, which judges the line's words in the order of the kinds and pushes what they say onto a
-//! draft. What it isn't: words (`m2_words`), scenarios (`m2_scenario`), or a run of one.
+//! draft. What it isn't: words (`m2_scenario`), scenarios (`m2_scenario`), or a run of one.
+//!
+//! The readers of schedules, by which two records of a pair are driven for a trace.
+//!
+//! What it is: [`Schedule`], the two sides' policies and what is to be done, line by line, and [`read`], the
+//! schedule of a text or its first bad line with its kind (docs/PROTOCOL.md has every form of line). Each
+//! form of line has a reader, which judges the line's words in the order of the kinds. What it isn't: words
+//! (`m2_scenario`), or the driving (`m2_record_trace`).
 #![tactic(auto)]
 
 mod bad_scenario;
+mod bad_schedule;
 mod first_word;
 mod form;
+mod lines;
 mod link_line;
 mod node_line;
 mod node_option;
@@ -17,13 +26,20 @@ mod pair;
 mod plan_lines;
 mod reading;
 mod run_lines;
+mod schedule;
+mod schedule_reading;
 mod sim_lines;
+mod verb;
 mod vocabulary;
 
 pub use bad_scenario::BadScenario;
+pub use bad_schedule::BadSchedule;
 pub use first_word::FirstWord;
 pub use form::Form;
 pub use plan_lines::{LEAST_PRIORITY, MOST_PRIORITY};
 pub use reading::{MOST_BYTES, read};
 pub use run_lines::MOST_LIMIT;
+pub use schedule::{Instruction, Order, OrderList, PairFacts, Schedule, SideName};
+pub use schedule_reading::read_schedule;
 pub use sim_lines::MOST_ROUNDS_OF_A_LINE;
+pub use verb::Verb;

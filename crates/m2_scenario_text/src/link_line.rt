@@ -8,7 +8,7 @@ use crate::pair::place;
 use crate::vocabulary::policy;
 use m2_policy::is_allowed;
 use m2_scenario::{Draft, Link, MOST_LINKS};
-use m2_words::{Kind, LineFault, Words, check};
+use m2_scenario::{Kind, LineFault, Words, check};
 
 #[tactic(auto, unfolding(crate::specs::LinkLine::link_line))]
 pub(crate) fn link_line(draft: &mut Draft, mut words: Words<'_>) -> Result<(), LineFault>

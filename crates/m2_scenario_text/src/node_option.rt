@@ -2,13 +2,13 @@
 
 ghost use Rattle.std.specs.Prelude.{◌≡◌, ◌≤◌, ◌∷◌, true, Ok, Err, OnOk, MatchResult, length};
 ghost use Rattle.std.specs.List.{list_any};
-ghost use Rattle.m2_words.specs.Text.{word};
+ghost use Rattle.m2_scenario.specs.Text.{word};
 ghost use Rattle.m2_scenario.specs.Valid.{HasCenters};
 ghost use Rattle.m2_scenario_text.specs.NodeOption.{row_of, number_of_option, repeats, are_once, options_in, with_option, set_option, set_options, OptionsRead};
 
 use crate::vocabulary::kinds;
 use m2_scenario::{MOST_CENTERS, Node};
-use m2_words::{Kind, LineFault, Words, read_number};
+use m2_scenario::{Kind, LineFault, Words, read_number};
 use std::alloc::Global;
 
 /// What an option sets.

@@ -1,11 +1,11 @@
 //! Nodes that a line names.
 
 ghost use Rattle.std.specs.Prelude.{◌≡◌, ◌<◌, ◌≤◌, IfOk, length, drop};
-ghost use Rattle.m2_words.specs.Text.{word};
+ghost use Rattle.m2_scenario.specs.Text.{word};
 ghost use Rattle.m2_scenario_text.specs.Pair.{place_of, pair_of, AreJoined};
 
 use m2_scenario::Draft;
-use m2_words::{Kind, Words, check};
+use m2_scenario::{Kind, Words, check};
 
 /// The place of the node of this name.
 pub(crate) fn place(draft: &Draft, name: &[u8]) -> Result<u32, Kind>

@@ -1,7 +1,7 @@
 //! The steps of a node's plan: `post`, `dial` and `down`.
 
 ghost use Rattle.std.specs.Prelude.{◌≡◌, ◌≤◌, IfOk, OnOk, length, drop};
-ghost use Rattle.m2_words.specs.Text.{word};
+ghost use Rattle.m2_scenario.specs.Text.{word};
 ghost use Rattle.m2_message.specs.Message.{content_of};
 ghost use Rattle.m2_scenario_text.specs.Taking.{MessageRead, Takes};
 ghost use Rattle.m2_scenario_text.specs.PlanLines.{planned_pair, nodes_alone, message_of, post_line, dial_line, down_line};
@@ -11,7 +11,7 @@ ghost use Rattle.m2_scenario_text.specs.Pair.{AreJoined};
 use crate::pair::pair;
 use m2_message::Message;
 use m2_scenario::{Draft, Line, MOST_PART_BYTES, MOST_POSTS, posted};
-use m2_words::{Kind, LineFault, Words, check, read_bytes, read_number};
+use m2_scenario::{Kind, LineFault, Words, check, read_bytes, read_number};
 use std::alloc::Global;
 
 /// The least priority that a post may have.

@@ -4,7 +4,7 @@ ghost use Rattle.std.specs.Prelude.{◌≡◌, ◌≤◌, length, IfOk};
 ghost use Rattle.m2_scenario.specs.Draft.{no_lines};
 ghost use Rattle.m2_scenario_text.specs.Taking.{Takes};
 ghost use Rattle.m2_scenario_text.specs.Reading.{by_first_word, words_line, line_step, lines_from, Reads, DraftRead, LineRead};
-ghost use Rattle.m2_words.specs.Text.{pieces};
+ghost use Rattle.m2_scenario.specs.Text.{pieces};
 ghost use Rattle.m2_scenario.specs.Valid.{IsValid};
 
 use crate::bad_scenario::BadScenario;
@@ -16,7 +16,7 @@ use crate::plan_lines::{dial_line, down_line, post_line};
 use crate::run_lines::{limit_line, off_line};
 use crate::sim_lines::{cut_line, fault_line, flow_line, settle_line, turn_line};
 use m2_scenario::{Draft, Scenario};
-use m2_words::{Kind, LineFault, Words, check, cut, is_clean, prefix, words_in};
+use m2_scenario::{Kind, LineFault, Words, check, cut, is_clean, prefix, words_in};
 use std::alloc::Global;
 
 /// A scenario's text has at most so many bytes; [`read`] refuses the line in which the next stands.

@@ -4,7 +4,7 @@ ghost use Rattle.std.specs.Prelude.{◌≡◌, [], MatchResult};
 ghost use Rattle.m2_scenario_text.specs.Vocabulary.{entity_of, policy_of, kinds_of, kind_added};
 
 use m2_policy::{FastSet, Policy};
-use m2_words::{Kind, cut, read_number};
+use m2_scenario::{Kind, cut, read_number};
 
 // The number of an entity's type.
 #[tactic(auto, unfolding(crate::specs::Vocabulary::entity_of))]

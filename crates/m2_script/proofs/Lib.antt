@@ -1,4 +1,14 @@
+pub mod Apart
+pub mod CutsMore
 pub mod Deeds
+pub mod Lefts
+pub mod Logs
+pub mod Moving
 pub mod Needs
+pub mod Nodes
+pub mod Over
+pub mod Places
+pub mod SoFar
 pub mod Splits
+pub mod Steps
 pub mod Turning

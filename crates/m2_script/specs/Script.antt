@@ -13,8 +13,8 @@ use Rattle.m2_scenario.specs.declared.line.Line.TheVariants as line
 use Rattle.m2_scenario.specs.declared.link.Link.{Link}
 use Rattle.m2_scenario.specs.Draft.{are_joined}
 use Rattle.m2_script.specs.declared.calls.TurnCalls.{TurnCalls}
-use Rattle.m2_sim_net.specs.InStep.{IsInStep, Network, SeenFabric}
-use Rattle.m2_sim_net.specs.SimFabric.{Faults, Flows, Meets}
+use Rattle.m2_fabric.specs.InStep.{IsInStep, Network, SeenFabric}
+use Rattle.m2_fabric.specs.SimFabric.{Faults, Flows, Meets}
 use Rattle.m2_cluster.specs.Cluster.{ClusterNow, OneDoes, held_by, rest_of}
 use Rattle.m2_cluster.specs.Node.{IsWholeNode, NodeNow, NodePlans, NodeTurns}
 

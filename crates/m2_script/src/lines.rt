@@ -8,11 +8,11 @@ ghost use Rattle.m2_script.specs.Script.{CanAllBeDone, CanBeDone, Ends, Happens,
 use crate::calls::{TurnCalls, TurnCallsList};
 use m2_bytes::NoMemory;
 use m2_cluster::Cluster;
-use m2_dispatcher::LogDispatcher;
+use m2_dispatch::LogDispatcher;
 use m2_fabric::{MemoryEnd, MemoryPort, Port};
 use m2_journal::PlanStep;
 use m2_scenario::{Line, LineList, Link};
-use m2_sim_net::SimFabric;
+use m2_fabric::SimFabric;
 use std::alloc::Global;
 use std::marker::Model;
 

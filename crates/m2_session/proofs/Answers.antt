@@ -15,7 +15,7 @@ use Rattle.m2_session.specs.Conditions.{differs, is_above, is_kept}
 use Rattle.m2_session.specs.Ident.{ident_rows}
 use Rattle.m2_session.specs.Reconnect.{reconnect_rows}
 use Rattle.m2_session.specs.Steps.{step_of, is_lawful, fault_rows, closes}
-use Rattle.m2_session.specs.Laws.{takes, told, is_resumption, ident_event, reconnect_event, TakenIsReady, AnswersAreLawful, PeerGlobalNeverFalls, ResumedOnlyWithItsCookies}
+use Rattle.m2_session.specs.SessionLaws.{takes, told, is_resumption, ident_event, reconnect_event, TakenIsReady, AnswersAreLawful, PeerGlobalNeverFalls, ResumedOnlyWithItsCookies}
 use Rattle.m2_session.proofs.Rows.{each_answer, each_in_order, none_holds}
 
 -- ---- the socket is taken

@@ -6,7 +6,7 @@ use Rattle.m2_session.specs.declared.event.Event.TheVariants.{Dialled, AskedIden
 use Rattle.m2_session.specs.declared.event.Effects.{Effects}
 use Rattle.m2_session.specs.Phases.{is, is_among, with_feed}
 use Rattle.m2_session.specs.Steps.{closes}
-use Rattle.m2_session.specs.Laws.{PendingLeavesNothingPending, LostOnlySo, loss_of, thrown_away, nothing_lost, MarkDownForgets, ConnectRisesByOne}
+use Rattle.m2_session.specs.SessionLaws.{PendingLeavesNothingPending, LostOnlySo, loss_of, thrown_away, nothing_lost, MarkDownForgets, ConnectRisesByOne}
 
 standby_or_wait : (b : Bool) → ((if b then Standby else Wait) ≡ Standby) ⊎ ((if b then Standby else Wait) ≡ Wait)
 standby_or_wait true = inl refl

@@ -11,7 +11,7 @@ use Rattle.m2_session.specs.declared.event.Event.TheVariants.{Dialled, AskedIden
 use Rattle.m2_session.specs.declared.event.Effects.{Effects}
 use Rattle.m2_session.specs.Phases.{is, is_among, phase_number, with_feed}
 use Rattle.m2_session.specs.Steps.{step_of, is_lawful, closes}
-use Rattle.m2_session.specs.Laws.{AtMostOneFeed, has_feed, brings_feed, count_of}
+use Rattle.m2_session.specs.SessionLaws.{AtMostOneFeed, has_feed, brings_feed, count_of}
 
 -- where an event is lawful only in these phases, all of which have a feed or none of which has
 with_no_feed : (p : Phase) → IsTrue (is_among p (Absent ∷ Standby ∷ Wait ∷ [])) → is_among p with_feed ≡ false

@@ -1,4 +1,7 @@
-pub mod Rows
 pub mod Answers
+pub mod Bounds
+pub mod Dialling
+pub mod Draws
 pub mod Events
 pub mod Feeds
+pub mod Rows

@@ -2,7 +2,7 @@
 use Rattle.std.proofs.Common.{◌≡◌, ◌≢◌, Bool, true, false, if◌then◌else◌, List, [], ◌∷◌, ◌++◌, refl}
 use Rattle.std.specs.List.{AllByRecursion}
 use Rattle.m2_session.specs.Table.{Row, first_that_holds, NoneHolds}
-use Rattle.m2_session.specs.Laws.{AreReadInOrder}
+use Rattle.m2_session.specs.SessionLaws.{AreReadInOrder}
 
 gives : {N A : Type 0} (before : List (Row N A)) (r : Row N A) (after : List (Row N A)) (otherwise : A) → NoneHolds before → r.holds ≡ true → first_that_holds (before ++ r ∷ after) otherwise ≡ r.answer
 gives [] r after otherwise none holds = rw holds refl

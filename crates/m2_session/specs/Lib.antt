@@ -1,7 +1,12 @@
-pub mod Table
-pub mod Phases
+pub mod AnswerLaws
+pub mod Asks
 pub mod Conditions
+pub mod Cookies
+pub mod Dials
+pub mod Frames
 pub mod Ident
+pub mod Phases
 pub mod Reconnect
+pub mod SessionLaws
 pub mod Steps
-pub mod Laws
+pub mod Table

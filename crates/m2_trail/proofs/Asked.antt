@@ -23,8 +23,8 @@ use Rattle.m2_handshake.specs.Moves.{Move, asks, take_frame, after_asking, read_
 use Rattle.m2_handshake.specs.Reading.{of_payload}
 use Rattle.m2_handshake.specs.Standing.{Standing}
 use Rattle.m2_handshake.proofs.Asks.{main_same}
-use Rattle.m2_tag.specs.declared.tag.Tag.TheVariants as tag
-use Rattle.m2_tag.specs.Tags.{tag_number}
+use Rattle.m2_frame.specs.declared.tag.Tag.TheVariants as tag
+use Rattle.m2_frame.specs.Tags.{tag_number}
 use Rattle.m2_trail.specs.Asks.{IsMain}
 use Rattle.m2_trail.proofs.Reading.{read_ident, read_reconnect}
 

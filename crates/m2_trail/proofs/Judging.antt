@@ -4,7 +4,7 @@ use Rattle.std.proofs.lemmas.Bool.{cases_lt}
 use Rattle.std.proofs.lemmas.List.{map-append, take-append-le, take_all, length-append, get_or_append_left}
 use Rattle.std.proofs.Math.Seq.{get_or-append_seam}
 use Rattle.m2_addr.proofs.Addresses.{all_push}
-use Rattle.m2_answers.specs.declared.ask.AskFacts.{AskFacts}
+use Rattle.m2_session.specs.declared.ask.AskFacts.{AskFacts}
 use Rattle.m2_control.specs.declared.control.Control.{Control}
 use Rattle.m2_fabric.specs.declared.log.Run.{Run}
 use Rattle.m2_fabric.specs.Log.{Log}

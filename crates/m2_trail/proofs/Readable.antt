@@ -4,7 +4,7 @@ use Rattle.std.proofs.lemmas.Bool.{eq-eqb}
 use Rattle.std.proofs.lemmas.List.{take_all}
 use Rattle.std.specs.List.{AllByRecursion}
 use Rattle.std.specs.Option.{IfSome}
-use Rattle.m2_answers.specs.declared.ask.AskFacts.{AskFacts}
+use Rattle.m2_session.specs.declared.ask.AskFacts.{AskFacts}
 use Rattle.m2_control.specs.declared.banner.BannerStep.{BannerStep}
 use Rattle.m2_control.specs.declared.banner.BannerStep.TheVariants.{Got, NotYet, BadBanner}
 use Rattle.m2_control.specs.declared.fields.TheConstants.{GREATEST_NUMBER}
@@ -31,7 +31,7 @@ use Rattle.m2_journal.specs.declared.entry.JudgedItem.{JudgedItem}
 use Rattle.m2_journal.specs.Lawful.{IsReadable}
 use Rattle.m2_journal.specs.SideFacts.{SideFacts}
 use Rattle.m2_trail.specs.Asks.{facts_of_ask, AgreesWith}
-use Rattle.m2_trail.specs.Laws.{HasNumbers, AsksCanBeRead}
+use Rattle.m2_trail.specs.TrailLaws.{HasNumbers, AsksCanBeRead}
 use Rattle.m2_trail.specs.Trails.{TrailNow, begins, ComesToAsk, IsTrailOf}
 use Rattle.m2_trail.proofs.Asked.{AsksWell, move_well, take_well}
 

@@ -18,7 +18,7 @@ use Rattle.m2_control.specs.Fields.{has_main, lifted, signed, bounded_at, cookie
 use Rattle.m2_control.specs.Ident.{make_tail, tail_parts, keeps_cookie, tail_at}
 use Rattle.m2_control.specs.Laws.{IsInBounds}
 use Rattle.m2_control.specs.SessionReconnect.{make_session_reconnect, session_reconnect_at}
-use Rattle.m2_tag.specs.declared.tag.Tag.TheVariants as tag
+use Rattle.m2_frame.specs.declared.tag.Tag.TheVariants as tag
 
 differ : false ≡ true → ⊥
 differ e = cc

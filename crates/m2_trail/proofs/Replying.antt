@@ -8,7 +8,7 @@ use Rattle.m2_journal.specs.declared.entry.JudgedItem.{JudgedItem}
 use Rattle.m2_journal.specs.Lawful.{may_ask_again}
 use Rattle.m2_session.specs.declared.answer.Answer.{Answer}
 use Rattle.m2_session.specs.declared.answer.Answer.TheVariants as answer
-use Rattle.m2_session.specs.Laws.{takes}
+use Rattle.m2_session.specs.SessionLaws.{takes}
 use Rattle.m2_trail.specs.Incoming.{is_over}
 use Rattle.m2_trail.specs.Replies.{reply_to, replies_to}
 

@@ -9,7 +9,7 @@ use Rattle.m2_handshake.specs.Course.{course_of}
 use Rattle.m2_handshake.specs.Standing.{fed}
 use Rattle.m2_journal.specs.declared.entry.Entry.{Entry}
 use Rattle.m2_journal.specs.Items.{run_of, runs_on}
-use Rattle.m2_trail.specs.Laws.{GoesOn, IsWithin, TrailsStay, TrailsCover}
+use Rattle.m2_trail.specs.TrailLaws.{GoesOn, IsWithin, TrailsStay, TrailsCover}
 use Rattle.m2_trail.specs.Replies.{replies_to}
 use Rattle.m2_trail.specs.Trails.{TrailNow, half_bytes, IsAsked, IsTaken, IsTakenTrail, IsTrailOf, IsWholeTrail, ComesToAsk, begins, replies_by, runs_of, read_by, written_by, unread_of}
 use Rattle.m2_trail.proofs.Points.{Longer, Within, got_stays, put_stays, point_stays}

@@ -14,7 +14,7 @@ use Rattle.m2_handshake.proofs.Reaching.{at_its_course}
 use Rattle.m2_journal.specs.declared.entry.JudgedItem.{JudgedItem}
 use Rattle.m2_journal.specs.Items.{runs_on}
 use Rattle.m2_session.specs.declared.answer.Answer.{Answer}
-use Rattle.m2_session.specs.Laws.{takes}
+use Rattle.m2_session.specs.SessionLaws.{takes}
 use Rattle.m2_trail.specs.Arrivals.{IsEndOf}
 use Rattle.m2_trail.specs.Incoming.{IncomingNow, Keeps, IsAnswered, exchange_of, facts_judged, given_by, item_of, items_of, with_judged}
 use Rattle.m2_trail.specs.Replies.{reply_to, replies_to, all_replies}

@@ -1,6 +1,6 @@
 -- The trail of an incoming socket tells all that its end did.
 use Rattle.std.proofs.Common.{◌≡◌, ℕ, zero, suc, Bool, true, false, is_some, List, [], ◌∷◌, ◌++◌, length, map, take, slice_index, Option, Some, None, refl, sym, ap, ◌∙◌, subst, append-nil, arith}
-use Rattle.m2_answers.specs.declared.ask.AskFacts.{AskFacts}
+use Rattle.m2_session.specs.declared.ask.AskFacts.{AskFacts}
 use Rattle.m2_control.specs.declared.control.Control.{Control}
 use Rattle.m2_fabric.specs.End.{SeenEnd, after_closing}
 use Rattle.m2_fabric.specs.Log.{Log, nothing_done}

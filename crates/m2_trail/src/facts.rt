@@ -3,7 +3,7 @@
 ghost use Rattle.std.specs.Prelude.{◌≡◌};
 ghost use Rattle.m2_trail.specs.Asks as asks;
 
-use m2_answers::{AskFacts, facts_of_ident, facts_of_reconnect};
+use m2_session::{AskFacts, facts_of_ident, facts_of_reconnect};
 use m2_handshake::Ask;
 
 /// The numbers of an ask, as the judges take them.

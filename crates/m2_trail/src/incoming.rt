@@ -8,7 +8,7 @@ ghost use Rattle.m2_handshake.specs.Moves.{can_ask, is_at_rest};
 ghost use Rattle.m2_addr.specs.declared.addr.Addr.{Addr};
 ghost use Rattle.m2_control.specs.Laws.{IsInBounds};
 ghost use Rattle.m2_handshake.specs.Greeting.{control_of};
-ghost use Rattle.m2_session.specs.Laws.{takes};
+ghost use Rattle.m2_session.specs.SessionLaws.{takes};
 ghost use Rattle.m2_trail.specs.Arrivals.{IsArrival, IsEndOf, closed_of, left_of};
 ghost use Rattle.m2_trail.specs.Asks.{IsMain};
 ghost use Rattle.m2_trail.specs.Incoming.{IsAnswered, ReadsOn, StepsOn, WritesOn, accepted, after_judging, after_refusing, after_replying};

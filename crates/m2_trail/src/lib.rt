@@ -13,26 +13,37 @@
 //! by the answers judged by then, where its replies are the frames of the answers and at most one refusal
 //! behind them. They are kept by the types here, so whoever holds one knows them, and so does a record that
 //! takes a half, which is then known to owe one reply and to have put all that it wrote.
+//!
+//! Sockets of the peer in a node's turn: each half goes on until nothing more is there to be done.
+//!
+//! What it is: [`advance`], which puts what a half has written, answers what it has read, and reads on
+//! where that gives no further answer, until the half is asked, waits, is over or has made its moves for
+//! this turn. What it isn't: a judge. Whoever calls hands an asked half on, and closes one that is over.
 #![tactic(auto)]
 
 mod arrival;
 mod facts;
+mod half_laws;
 mod home;
 mod incoming;
-mod laws;
 mod loose;
 mod moving;
 mod replies;
 mod step;
 mod trail;
+mod trail_laws;
+mod turn;
+mod turn_moves;
 mod unput;
 
 pub use arrival::{Arrival, Takeover};
 pub use facts::facts_of_ask;
+pub use half_laws::turns_leave_the_half;
 pub use home::HomeOf;
 pub use incoming::{Incoming, MOST_READ};
-pub use laws::{asks_can_be_read, replies_are_frames, trails_cover, trails_stay};
 pub use loose::{Loose, LooseList};
 pub use replies::reply_to;
 pub use step::IncomingStep;
 pub use trail::{Trail, TrailList};
+pub use trail_laws::{asks_can_be_read, replies_are_frames, trails_cover, trails_stay};
+pub use turn::{HalfTurn, MOST_MOVES, advance};

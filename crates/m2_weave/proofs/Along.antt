@@ -7,13 +7,13 @@ use Rattle.std.proofs.lemmas.Bool.Decides.{nat_tests}
 use Rattle.m2_fabric.specs.declared.socket.SocketId.{SocketId}
 use Rattle.m2_fabric.specs.Sockets.{same_socket}
 use Rattle.m2_journal.specs.declared.entry.Entry.TheVariants as entry
-use Rattle.m2_merge.specs.Order.{Cut, AtMost, AreLawful, come, come_all, nothing}
+use Rattle.m2_weave.specs.Order.{Cut, AtMost, AreLawful, come, come_all, nothing}
 use Rattle.m2_weave.specs.declared.strand.StrandItem.{StrandItem}
 use Rattle.m2_weave.specs.declared.strand.StrandItem.TheVariants.{Noted, Handed}
 use Rattle.m2_weave.specs.Strands.{StrandNow, handed_at, handed_by, judged_at, judged_by, total}
 use Rattle.m2_weave.specs.Rule.{Woven, by_bytes, comes, strand_at}
 use Rattle.m2_weave.specs.Stops.{sizes}
-use Rattle.m2_weave.specs.Laws.{IsAsked, AsksComeFirst}
+use Rattle.m2_weave.specs.WeaveLaws.{IsAsked, AsksComeFirst}
 use Rattle.m2_weave.proofs.SameSocket.{one_socket}
 use Rattle.m2_weave.proofs.Staying.{total-at-rises}
 use Rattle.m2_weave.proofs.Written.{total-more, in-range, come-most, zero-at}

@@ -6,14 +6,14 @@ use Rattle.std.specs.Option.{option_map}
 use Rattle.m2_fabric.specs.declared.socket.SocketId.{SocketId}
 use Rattle.m2_fabric.specs.Sockets.{is_among}
 use Rattle.m2_journal.specs.declared.entry.Entry.TheVariants as entry
-use Rattle.m2_merge.specs.Order.{Cut}
-use Rattle.m2_merge.specs.Counted.{adds, sum_added, value_at, is_met, may_come, next_of, by_counters, lengths}
+use Rattle.m2_weave.specs.Order.{Cut}
+use Rattle.m2_weave.specs.Counted.{adds, sum_added, value_at, is_met, may_come, next_of, by_counters, lengths}
 use Rattle.m2_weave.specs.declared.strand.StrandItem.{StrandItem}
 use Rattle.m2_weave.specs.declared.strand.StrandItem.TheVariants.{Noted, Handed}
 use Rattle.m2_weave.specs.Strands.{EndOf, StrandNow, other, end_in, has_opened, same_side, written_in, written_at, handed_by, handed_at, judged_by, judged_at, total, total_at, place_of}
 use Rattle.m2_weave.specs.Rule.{Woven, by_bytes, comes, strand_at, nothing_at_all}
 use Rattle.m2_weave.specs.Counting.{place_in, writes, hands, judges, counted_item, counted_items, counted, IsNamed, AreNamed}
-use Rattle.m2_weave.specs.Laws.{CountersDecide}
+use Rattle.m2_weave.specs.WeaveLaws.{CountersDecide}
 use Rattle.m2_weave.proofs.Fitting.{fits_by_count}
 use Rattle.m2_weave.proofs.Numbering.{zero_if, wrote_adds, counts_add, side_hand, side_judge, hand_side, judge_side, hand_judge, judge_hand}
 

@@ -4,13 +4,13 @@ use Rattle.std.specs.Prelude.{◌==◌, nat_le, nat_lt, if◌then◌else◌}
 use Rattle.std.specs.Option.{is_none}
 use Rattle.std.proofs.lemmas.Bool.Decides.{nat_tests}
 use Rattle.m2_journal.specs.declared.entry.Entry.TheVariants as entry
-use Rattle.m2_merge.specs.Order.{Cut}
+use Rattle.m2_weave.specs.Order.{Cut}
 use Rattle.m2_weave.specs.declared.unfit.Unfit.{Unfit}
 use Rattle.m2_weave.specs.declared.strand.StrandItem.{StrandItem}
 use Rattle.m2_weave.specs.declared.strand.StrandItem.TheVariants.{Noted, Handed}
 use Rattle.m2_weave.specs.Strands.{EndOf, StrandNow, other, end_in, total, handed_by, handed_at, judged_by, judged_at, place_of}
 use Rattle.m2_weave.specs.Rule.{Woven, MayCome, AreThere, byte_at, unfit_byte, first_unfit, comes}
-use Rattle.m2_weave.specs.Laws.{RuleDecides}
+use Rattle.m2_weave.specs.WeaveLaws.{RuleDecides}
 
 -- ---- reads
 

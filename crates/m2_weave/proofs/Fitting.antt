@@ -5,7 +5,7 @@ use Rattle.std.specs.Prelude.{nat_lt, if◌then◌else◌, slice_get, slice_inde
 use Rattle.std.specs.Option.{is_none}
 use Rattle.std.proofs.lemmas.Option.{slice_get-get_or}
 use Rattle.std.proofs.lemmas.Bool.Decides.{nat_tests}
-use Rattle.m2_merge.specs.Counted.{is_met}
+use Rattle.m2_weave.specs.Counted.{is_met}
 use Rattle.m2_weave.specs.Strands.{EndOf}
 use Rattle.m2_weave.specs.Rule.{AreThere, first_unfit}
 use Rattle.m2_weave.specs.Counting.{fit_need}

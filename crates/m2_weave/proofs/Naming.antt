@@ -7,7 +7,7 @@ use Rattle.m2_weave.specs.declared.unfit.Why.{Why}
 use Rattle.m2_weave.specs.declared.unfit.Why.TheVariants.{Beyond, Differs}
 use Rattle.m2_weave.specs.Strands.{EndOf}
 use Rattle.m2_weave.specs.Rule.{unfit, unfit_byte, first_unfit}
-use Rattle.m2_weave.specs.Laws.{IsWrong, IsFirstUnfit, UnfitIsTheFirst}
+use Rattle.m2_weave.specs.WeaveLaws.{IsWrong, IsFirstUnfit, UnfitIsTheFirst}
 
 -- the byte at the first place is wrong
 wrong-here : (e : EndOf) (there : ℕ → Option ℕ) (from x : ℕ) (xs : List ℕ) (why : Why) → IsWrong why (Some x) (there from) →

@@ -4,14 +4,14 @@ use Rattle.std.specs.Prelude.{◌==◌, nat_le, nat_lt, if◌then◌else◌, sli
 use Rattle.std.specs.Option.{is_none}
 use Rattle.std.proofs.lemmas.Bool.Decides.{nat_tests}
 use Rattle.m2_journal.specs.declared.entry.Entry.TheVariants as entry
-use Rattle.m2_merge.specs.Order.{Cut, AtMost}
+use Rattle.m2_weave.specs.Order.{Cut, AtMost}
 use Rattle.m2_weave.specs.declared.unfit.Unfit.{Unfit}
 use Rattle.m2_weave.specs.declared.unfit.Why.TheVariants.{Differs}
 use Rattle.m2_weave.specs.declared.strand.StrandItem.{StrandItem}
 use Rattle.m2_weave.specs.declared.strand.StrandItem.TheVariants.{Noted, Handed}
 use Rattle.m2_weave.specs.Strands.{EndOf, StrandNow, other, end_in, total, total_at, written_in, written_at, handed_by, handed_at, judged_by, judged_at, place_of}
 use Rattle.m2_weave.specs.Rule.{Woven, byte_at, unfit, unfit_byte, first_unfit, comes, strand_at}
-use Rattle.m2_weave.specs.Laws.{RuleStaysMet}
+use Rattle.m2_weave.specs.WeaveLaws.{RuleStaysMet}
 
 -- ---- sums rise
 

@@ -5,8 +5,8 @@ use Rattle.std.specs.Option.{is_none}
 use Rattle.std.proofs.lemmas.List.{drop_more, get_or-set_same, get_or-set_other, length-map}
 use Rattle.m2_fabric.specs.declared.socket.SocketId.{SocketId}
 use Rattle.m2_fabric.specs.Sockets.{same_socket, is_among}
-use Rattle.m2_merge.specs.declared.counted.Need.{Need}
-use Rattle.m2_merge.specs.declared.counted.Need.TheVariants.{Nothing, AtLeast, Never}
+use Rattle.m2_weave.specs.declared.counted.Need.{Need}
+use Rattle.m2_weave.specs.declared.counted.Need.TheVariants.{Nothing, AtLeast, Never}
 use Rattle.m2_weave.specs.declared.strand.Strand.{Strand}
 use Rattle.m2_weave.specs.declared.strand.StrandItem.{StrandItem}
 use Rattle.m2_weave.specs.declared.table.SocketBytes.{SocketBytes}

@@ -7,8 +7,8 @@ use Rattle.std.proofs.lemmas.Bool.{leb-false, ltb-false}
 use Rattle.m2_fabric.specs.declared.socket.SocketId.{SocketId}
 use Rattle.m2_fabric.specs.Sockets.{same_socket}
 use Rattle.m2_journal.specs.declared.entry.Entry.TheVariants as entry
-use Rattle.m2_merge.specs.Order.{Cut, AtMost, nothing, reached}
-use Rattle.m2_merge.proofs.Furthest.{are-lawful, begins, reached-count, within}
+use Rattle.m2_weave.specs.Order.{Cut, AtMost, nothing, reached}
+use Rattle.m2_weave.proofs.Furthest.{are-lawful, begins, reached-count, within}
 use Rattle.m2_weave.specs.declared.strand.StrandItem.{StrandItem}
 use Rattle.m2_weave.specs.declared.strand.StrandItem.TheVariants.{Noted, Handed}
 use Rattle.m2_weave.specs.declared.unfit.Unfit.{Unfit}

@@ -6,12 +6,12 @@ use Rattle.std.proofs.lemmas.List.{length-map, drop_more, take_more, take_all}
 use Rattle.m2_fabric.specs.declared.socket.SocketId.{SocketId}
 use Rattle.m2_fabric.specs.Sockets.{is_among, same_socket}
 use Rattle.m2_journal.specs.declared.entry.Entry.TheVariants as entry
-use Rattle.m2_merge.specs.declared.counted.CountedEntry.{CountedEntry}
-use Rattle.m2_merge.specs.declared.counted.CountedStrand.{CountedStrand}
-use Rattle.m2_merge.specs.declared.counted.Need.TheVariants.{AtLeast}
-use Rattle.m2_merge.specs.Order.{Cut, Rule, MayCome, AreNext, IsGreedy, come, nothing, reached}
-use Rattle.m2_merge.specs.Counted.{Strands, entries_of}
-use Rattle.m2_merge.specs.Users.{IsNeedWithin, IsWithin, AreWithin}
+use Rattle.m2_weave.specs.declared.counted.CountedEntry.{CountedEntry}
+use Rattle.m2_weave.specs.declared.counted.CountedStrand.{CountedStrand}
+use Rattle.m2_weave.specs.declared.counted.Need.TheVariants.{AtLeast}
+use Rattle.m2_weave.specs.Order.{Cut, Rule, MayCome, AreNext, IsGreedy, come, nothing, reached}
+use Rattle.m2_weave.specs.Counted.{Strands, entries_of}
+use Rattle.m2_weave.specs.Users.{IsNeedWithin, IsWithin, AreWithin}
 use Rattle.m2_weave.specs.declared.counts.Counts.{Counts}
 use Rattle.m2_weave.specs.declared.strand.Strand.{Strand}
 use Rattle.m2_weave.specs.declared.strand.StrandItem.{StrandItem}

@@ -7,13 +7,13 @@ use Rattle.std.proofs.lemmas.Bool.{cases_eq}
 use Rattle.m2_fabric.specs.declared.socket.SocketId.{SocketId}
 use Rattle.m2_fabric.specs.Sockets.{same_socket}
 use Rattle.m2_journal.specs.declared.entry.Entry.TheVariants as entry
-use Rattle.m2_merge.specs.Order.{Cut, AtMost, AreLawful, come, come_all, nothing}
+use Rattle.m2_weave.specs.Order.{Cut, AtMost, AreLawful, come, come_all, nothing}
 use Rattle.m2_weave.specs.declared.strand.StrandItem.{StrandItem}
 use Rattle.m2_weave.specs.declared.strand.StrandItem.TheVariants.{Noted, Handed}
 use Rattle.m2_weave.specs.Strands.{StrandNow, other, end_in, read_by, total, place_of}
 use Rattle.m2_weave.specs.Rule.{Woven, byte_at, by_bytes, comes, strand_at}
 use Rattle.m2_weave.specs.Stops.{sizes}
-use Rattle.m2_weave.specs.Laws.{IsRead, ReadWasWritten}
+use Rattle.m2_weave.specs.WeaveLaws.{IsRead, ReadWasWritten}
 use Rattle.m2_weave.proofs.SameSocket.{one_socket}
 use Rattle.m2_weave.proofs.Staying.{byte-stays}
 use Rattle.m2_weave.proofs.Deciding.{read-sound}

@@ -6,10 +6,10 @@ use Rattle.std.specs.Option.{is_none}
 use Rattle.m2_fabric.specs.declared.socket.SocketId.{SocketId}
 use Rattle.m2_fabric.specs.Sockets.{same_socket, is_among}
 use Rattle.m2_journal.specs.declared.entry.Entry.TheVariants as entry
-use Rattle.m2_merge.specs.declared.counted.CountedEntry.{CountedEntry}
-use Rattle.m2_merge.specs.declared.counted.Need.{Need}
-use Rattle.m2_merge.specs.declared.counted.Need.TheVariants.{Nothing, AtLeast, Never}
-use Rattle.m2_merge.specs.Counted.{Strands}
+use Rattle.m2_weave.specs.declared.counted.CountedEntry.{CountedEntry}
+use Rattle.m2_weave.specs.declared.counted.Need.{Need}
+use Rattle.m2_weave.specs.declared.counted.Need.TheVariants.{Nothing, AtLeast, Never}
+use Rattle.m2_weave.specs.Counted.{Strands}
 use Rattle.m2_weave.specs.declared.strand.StrandItem.{StrandItem}
 use Rattle.m2_weave.specs.declared.strand.StrandItem.TheVariants.{Noted, Handed}
 use Rattle.m2_weave.specs.Strands.{EndOf, StrandNow, other, end_in, handed_by, judged_by, total, place_of}

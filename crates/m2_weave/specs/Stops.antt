@@ -1,7 +1,7 @@
 -- An order of all that is woven; and where the greedy one stops, a byte that the other end hasn't written by then.
 use Rattle.std.specs.Prelude.{◌≡◌, ℕ, List, [], ◌∷◌, length, map, slice_get, Option, Some, None}
 use Rattle.m2_journal.specs.declared.entry.Entry.TheVariants as entry
-use Rattle.m2_merge.specs.Order.{Cut, IsGreedy, IsOrder, reached}
+use Rattle.m2_weave.specs.Order.{Cut, IsGreedy, IsOrder, reached}
 use Rattle.m2_weave.specs.declared.unfit.Unfit.{Unfit}
 use Rattle.m2_weave.specs.declared.strand.StrandItem.{StrandItem}
 use Rattle.m2_weave.specs.declared.strand.StrandItem.TheVariants.{Noted}

@@ -9,7 +9,7 @@ use Rattle.m2_journal.specs.declared.entry.Entry.TheVariants as entry
 use Rattle.m2_weave.specs.declared.strand.Strand.{Strand}
 use Rattle.m2_weave.specs.declared.strand.StrandItem.{StrandItem}
 use Rattle.m2_weave.specs.declared.strand.StrandItem.TheVariants.{Noted, Handed}
-use Rattle.m2_merge.specs.Order.{Cut}
+use Rattle.m2_weave.specs.Order.{Cut}
 
 -- ---- ends
 

@@ -3,8 +3,8 @@ use Rattle.std.specs.Prelude.{◌≡◌, ℕ, ◌+◌, ◌||◌, Bool, false, if
 use Rattle.m2_fabric.specs.declared.socket.SocketId.{SocketId}
 use Rattle.m2_fabric.specs.Sockets.{same_socket}
 use Rattle.m2_journal.specs.declared.entry.Entry.TheVariants as entry
-use Rattle.m2_merge.specs.declared.counted.CountedEntry.{CountedEntry}
-use Rattle.m2_merge.specs.declared.counted.Need.TheVariants.{Nothing, AtLeast}
+use Rattle.m2_weave.specs.declared.counted.CountedEntry.{CountedEntry}
+use Rattle.m2_weave.specs.declared.counted.Need.TheVariants.{Nothing, AtLeast}
 use Rattle.m2_weave.specs.declared.counts.Counts.{Counts}
 use Rattle.m2_weave.specs.declared.strand.StrandItem.{StrandItem}
 use Rattle.m2_weave.specs.declared.strand.StrandItem.TheVariants.{Noted, Handed}

@@ -5,14 +5,14 @@ use Rattle.std.specs.List.{AllByRecursion}
 use Rattle.m2_fabric.specs.declared.socket.SocketId.{SocketId}
 use Rattle.m2_fabric.specs.Sockets.{same_socket}
 use Rattle.m2_journal.specs.declared.entry.Entry.TheVariants as entry
-use Rattle.m2_merge.specs.Order.{Cut, reached}
+use Rattle.m2_weave.specs.Order.{Cut, reached}
 use Rattle.m2_weave.specs.declared.unfit.Unfit.{Unfit}
 use Rattle.m2_weave.specs.declared.strand.StrandItem.{StrandItem}
 use Rattle.m2_weave.specs.declared.strand.StrandItem.TheVariants.{Noted, Handed}
 use Rattle.m2_weave.specs.Strands.{StrandNow, other, end_in, handed_at, handed_by, judged_at, judged_by, place_of, total}
 use Rattle.m2_weave.specs.Rule.{Woven, byte_at, strand_at}
 use Rattle.m2_weave.specs.Stops.{StopsAt, sizes}
-use Rattle.m2_weave.specs.Laws.{IsFirstUnfit}
+use Rattle.m2_weave.specs.WeaveLaws.{IsFirstUnfit}
 
 -- ---- one strand
 

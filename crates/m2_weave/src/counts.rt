@@ -18,7 +18,7 @@ use crate::tally::{read_by_halves, read_need, set_opened, unset, writes, zeros};
 use m2_bytes::NoMemory;
 use m2_fabric::SocketId;
 use m2_journal::Entry;
-use m2_merge::{CountedEntry, Need};
+use crate::{CountedEntry, Need};
 use std::alloc::Global;
 
 /// What is counted of one strand after the other, of each socket of a table.

@@ -13,7 +13,7 @@ use crate::table::{SocketTable, got_at, named_place, piece, place_in, put_at, ra
 use m2_bytes::NoMemory;
 use m2_fabric::SocketId;
 use m2_journal::Entry;
-use m2_merge::Need;
+use crate::Need;
 use std::alloc::Global;
 
 /// Adds what an item has read.

@@ -2,9 +2,9 @@
 
 ghost use Rattle.std.specs.Prelude.{◌≡◌, ◌<◌, ◌^◌, length, map, IfOk, OnOk, Decides};
 ghost use Rattle.std.specs.List.{AllByRecursion};
-ghost use Rattle.m2_merge.specs.Counted.{entries_of};
-ghost use Rattle.m2_merge.specs.Merging.{even};
-ghost use Rattle.m2_merge.specs.Order.{IsGreedy, reached};
+ghost use Rattle.m2_weave.specs.Counted.{entries_of};
+ghost use Rattle.m2_weave.specs.Merging.{even};
+ghost use Rattle.m2_weave.specs.Order.{IsGreedy, reached};
 ghost use Rattle.m2_weave.specs.Counting.{AreNamed, IsNamed, counted, counted_items};
 ghost use Rattle.m2_weave.specs.Rule.{by_bytes, strand_at};
 ghost use Rattle.m2_weave.specs.Stops.{sizes};
@@ -17,7 +17,7 @@ use crate::strand::{Strand, StrandItem};
 use crate::table::SocketTable;
 use m2_bytes::{Items, NoMemory};
 use m2_journal::Entry;
-use m2_merge::{CountedStrand, merge};
+use crate::{CountedStrand, merge};
 use std::alloc::Global;
 
 /// What a weaving found: the strands of the items, in the order in which they come; how many items of each

@@ -1,6 +1,6 @@
 use Rattle.std.proofs.Common.{rules, subst, sym}
-use Rattle.m2_stages.specs.Halves.{halves_of, sessions_with}
-use Rattle.m2_stages.specs.Sessions.{AreConsistent}
+use Rattle.m2_center.specs.Halves.{halves_of, sessions_with}
+use Rattle.m2_center.specs.Sessions.{AreConsistent}
 use Rattle.m2_center.proofs.Left.{leaving_stays}
 use Rattle.m2_center.proofs.leaving.leave_all.Goals as goal
 

@@ -1,6 +1,6 @@
 use Rattle.std.proofs.Common.{◌≡◌, ◌-◌, ◌≤◌, ◌++◌, length, map, vec_capacity, vec_len}
 use Rattle.m2_trail.specs.Arrivals.{left_of}
-use Rattle.m2_stages.specs.Sessions.{PendingNow}
+use Rattle.m2_center.specs.Sessions.{PendingNow}
 use Rattle.m2_center.proofs.leaving.leave_all.Given as goal
 
 abbrev pub invariant-leaving : goal.invariant-leaving

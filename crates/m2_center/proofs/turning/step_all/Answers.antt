@@ -1,10 +1,10 @@
 -- The records that were lent come back as many as they were.
 use Rattle.std.proofs.Common.{sym, ◌∙◌}
 use Rattle.std.specs.List.{AllByRecursion}
-use Rattle.m2_stages.specs.Beside.{AllKeepCallers, StayConsistent, served}
-use Rattle.m2_stages.specs.RecordTurn.{means_of}
-use Rattle.m2_stages.specs.RecordsTurn.{TurnsEach, all_amid, around}
-use Rattle.m2_stages.specs.Sessions.{IsSupplied, supply_of}
+use Rattle.m2_center.specs.Beside.{AllKeepCallers, StayConsistent, served}
+use Rattle.m2_center.specs.RecordTurn.{means_of}
+use Rattle.m2_center.specs.RecordsTurn.{TurnsEach, all_amid, around}
+use Rattle.m2_center.specs.Sessions.{IsSupplied, supply_of}
 use Rattle.m2_center.proofs.Lent.{came_back, of_both}
 use Rattle.m2_center.proofs.turning.step_all.Goals as goal
 

@@ -1,6 +1,6 @@
 -- with the calls of what is left it is the whole sum
 use Rattle.std.proofs.Common.{◌≡◌, ◌+◌, length, map, drop, sum_by}
-use Rattle.m2_report.specs.Report.{heard_in}
+use Rattle.m2_scenario.specs.Report.{heard_in}
 use Rattle.m2_cli.proofs.load.calls_in.Given as goal
 
 abbrev pub invariant-logs : goal.invariant-logs

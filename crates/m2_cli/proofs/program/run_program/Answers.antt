@@ -1,6 +1,6 @@
 use Rattle.std.proofs.Common.{ap, map, string_bytes}
 use Rattle.m2_edge.specs.Sink.{SeenSink}
-use Rattle.m2_command.specs.Form.{form_in}
+use Rattle.m2_cli.specs.Form.{form_in}
 use Rattle.m2_cli.proofs.Programs.{program_done}
 use Rattle.m2_cli.proofs.program.run_program.Goals as goal
 

@@ -1,5 +1,5 @@
 use Rattle.std.proofs.Common.{map, refl, string_bytes}
-use Rattle.m2_command.specs.Form.{form_in}
+use Rattle.m2_cli.specs.Form.{form_in}
 use Rattle.m2_cli.specs.Edge.{Edge, edge}
 use Rattle.m2_cli.proofs.Memory.{memory_ends}
 use Rattle.m2_cli.proofs.top.msgr2.Goals as goal

@@ -1,6 +1,6 @@
 use Rattle.std.proofs.Common.{◌≡◌, Option, Some, ap, subst, sym}
-use Rattle.m2_command.specs.Form.{Form, form_of, load_of}
-use Rattle.m2_command.specs.declared.command.Command.{Command}
+use Rattle.m2_cli.specs.Form.{Form, form_of, load_of}
+use Rattle.m2_cli.specs.declared.command.Command.{Command}
 use Rattle.m2_cli.specs.Edge.{Edge, edge}
 use Rattle.m2_cli.specs.Top.{Ends}
 use Rattle.m2_cli.proofs.top.run_command.Goals as goal

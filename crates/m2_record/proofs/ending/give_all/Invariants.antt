@@ -1,7 +1,7 @@
 use Rattle.std.proofs.Common.{◌≡◌, ◌-◌}
 use Rattle.std.specs.List.{AllByRecursion}
 use Rattle.std.specs.VecDeque.{deque_len}
-use Rattle.m2_dispatcher.specs.Parcel.{IsOwned}
+use Rattle.m2_dispatch.specs.Parcel.{IsOwned}
 use Rattle.m2_record.specs.Calls.{all_granted}
 use Rattle.m2_shared.specs.Place.{IsAlone}
 use Rattle.m2_record.proofs.ending.give_all.Given as goal

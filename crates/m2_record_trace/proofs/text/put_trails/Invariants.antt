@@ -1,7 +1,7 @@
 -- with the lines of what is left it is the whole text
 use Rattle.std.proofs.Common.{◌≡◌, ◌++◌, codes, drop, map}
 use Rattle.std.specs.List.{flat_map}
-use Rattle.m2_trace_text.specs.Ends.{trail_lines}
+use Rattle.m2_trace.specs.Ends.{trail_lines}
 use Rattle.m2_trail.specs.Trails.{trail_now}
 use Rattle.m2_record_trace.proofs.text.put_trails.Given as goal
 

@@ -5,7 +5,7 @@ use Rattle.m2_run_trace.proofs.Acts.{plays_does}
 use Rattle.m2_run_trace.proofs.LineActs.{deeds_of_script}
 use Rattle.m2_run_trace.proofs.laws.traces_are_of_runs.Goals as goal
 use Rattle.m2_script.specs.Script.{Deed}
-use Rattle.m2_words.specs.Text.{pieces}
+use Rattle.m2_scenario.specs.Text.{pieces}
 
 pub returns : goal.returns
 returns c = λ nodes links lines text trace t. record {

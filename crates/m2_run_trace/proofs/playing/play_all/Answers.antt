@@ -6,7 +6,7 @@ use Rattle.m2_run_trace.specs.Script.{lines_above, lines_behind}
 use Rattle.m2_run_trace.proofs.Acts.{IsAmid, amid_first, amid_last, amid_next, can_next, one_plays}
 use Rattle.m2_run_trace.proofs.playing.play_all.Goals as goal
 use Rattle.m2_scenario.specs.declared.line.Line.{Line}
-use Rattle.m2_words.specs.Text.{Word, pieces}
+use Rattle.m2_scenario.specs.Text.{Word, pieces}
 
 pub loop-line-init : goal.loop-line-init
 loop-line-init c =

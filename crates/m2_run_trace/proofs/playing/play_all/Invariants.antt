@@ -2,7 +2,7 @@
 use Rattle.m2_run_trace.specs.Acts.{acts_of}
 use Rattle.m2_run_trace.proofs.Acts.{IsAmid}
 use Rattle.m2_run_trace.proofs.playing.play_all.Given as goal
-use Rattle.m2_words.specs.Text.{pieces}
+use Rattle.m2_scenario.specs.Text.{pieces}
 
 abbrev pub invariant-loop-line : goal.invariant-loop-line
 invariant-loop-line l =

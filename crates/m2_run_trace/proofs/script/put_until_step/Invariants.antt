@@ -2,7 +2,7 @@
 use Rattle.std.proofs.Common.{◌≡◌, ◌++◌, length}
 use Rattle.std.specs.List.{flat_map}
 use Rattle.m2_run_trace.specs.Script.{lines_above, lines_behind, next_step, quiet_text}
-use Rattle.m2_words.specs.Text.{pieces}
+use Rattle.m2_scenario.specs.Text.{pieces}
 use Rattle.m2_run_trace.proofs.script.put_until_step.Given as goal
 
 abbrev pub invariant-lines : goal.invariant-lines

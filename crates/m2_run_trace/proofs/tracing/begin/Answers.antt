@@ -1,8 +1,8 @@
 -- The nodes listen apart.
 use Rattle.std.proofs.Common.{List, sym, subst}
 use Rattle.m2_addr.specs.declared.addr.Addr.{Addr}
-use Rattle.m2_nodes.proofs.Apart.{addresses_apart}
-use Rattle.m2_sim_net.specs.SimFabric as net
+use Rattle.m2_script.proofs.Apart.{addresses_apart}
+use Rattle.m2_fabric.specs.SimFabric as net
 use Rattle.m2_run_trace.proofs.tracing.begin.Goals as goal
 
 pub new-requires : goal.new-requires

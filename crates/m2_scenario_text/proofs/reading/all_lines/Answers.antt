@@ -1,5 +1,5 @@
 use Rattle.std.proofs.Common.{Err, ◌∙◌, arith}
-use Rattle.m2_words.specs.Text.{pieces}
+use Rattle.m2_scenario.specs.Text.{pieces}
 use Rattle.m2_scenario.specs.Draft.{no_lines}
 use Rattle.m2_scenario_text.specs.Reading.{lines_from}
 use Rattle.m2_scenario_text.proofs.Lines.{line_taken, bad_before, handed_on, same_answer}

@@ -1,6 +1,6 @@
 -- the lines so far have made the draft, and what is left makes of it what all make
 use Rattle.std.proofs.Common.{◌≡◌, ◌+◌, ◌≤◌, length}
-use Rattle.m2_words.specs.Text.{pieces}
+use Rattle.m2_scenario.specs.Text.{pieces}
 use Rattle.m2_scenario.specs.Draft.{no_lines}
 use Rattle.m2_scenario_text.specs.declared.reading.TheConstants.{MOST_BYTES}
 use Rattle.m2_scenario_text.specs.Reading.{lines_from}

@@ -1,6 +1,6 @@
 -- the kinds so far and those of the rest are those of the word
 use Rattle.std.proofs.Common.{◌≡◌, length}
-use Rattle.m2_words.specs.Text.{pieces}
+use Rattle.m2_scenario.specs.Text.{pieces}
 use Rattle.m2_scenario_text.specs.Vocabulary.{kinds_from}
 use Rattle.m2_scenario_text.proofs.vocabulary.kinds.Given as goal
 

@@ -1,7 +1,7 @@
 -- By whether the two pieces are the same.
 use Rattle.std.proofs.Common.{◌≡◌, ◌+◌, ◌∙◌, length, not, refl, sym, ap, true≢false, arith}
 use Rattle.std.proofs.lemmas.Bool.Decides.{nat_tests}
-use Rattle.m2_merge.specs.declared.counted.Need.TheVariants.{AtLeast}
+use Rattle.m2_weave.specs.declared.counted.Need.TheVariants.{AtLeast}
 use Rattle.m2_weave.specs.Counting.{side_number}
 use Rattle.m2_weave.proofs.Tallies.{Found, need_never, need_least}
 use Rattle.m2_weave.proofs.tally.read_need.Goals as goal

@@ -1,6 +1,6 @@
 -- One strand more is counted.
 use Rattle.std.proofs.Common.{◌∙◌, ap}
-use Rattle.m2_merge.specs.Counted.{entries_of}
+use Rattle.m2_weave.specs.Counted.{entries_of}
 use Rattle.m2_weave.proofs.Whole.{all_more, all_counted}
 use Rattle.m2_weave.proofs.weaving.count_all.Goals as goal
 

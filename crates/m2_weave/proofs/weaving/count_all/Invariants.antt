@@ -1,5 +1,5 @@
 use Rattle.std.proofs.Common.{◌≡◌, map, take}
-use Rattle.m2_merge.specs.Counted.{entries_of}
+use Rattle.m2_weave.specs.Counted.{entries_of}
 use Rattle.m2_weave.specs.Counting.{counted}
 use Rattle.m2_weave.specs.Strands.{strand_now}
 use Rattle.m2_weave.specs.Table.{names_of, woven_of}

@@ -1,9 +1,9 @@
 -- The merge by counters is the weaving by bytes.
 use Rattle.std.proofs.Common.{◌≡◌, ◌+◌, ◌*◌, ◌∙◌, length, sym, ap, subst}
-use Rattle.m2_merge.specs.Counted.{Strands, by_counters, entries_of, lengths}
-use Rattle.m2_merge.specs.Merging.{even}
-use Rattle.m2_merge.specs.Order.{Cut, IsGreedy, reached}
-use Rattle.m2_merge.proofs.Furthest.{reached-count}
+use Rattle.m2_weave.specs.Counted.{Strands, by_counters, entries_of, lengths}
+use Rattle.m2_weave.specs.Merging.{even}
+use Rattle.m2_weave.specs.Order.{Cut, IsGreedy, reached}
+use Rattle.m2_weave.proofs.Furthest.{reached-count}
 use Rattle.m2_weave.specs.Counting.{counted}
 use Rattle.m2_weave.specs.Rule.{by_bytes}
 use Rattle.m2_weave.specs.Stops.{sizes}

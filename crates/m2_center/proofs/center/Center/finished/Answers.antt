@@ -1,8 +1,8 @@
 -- What is left of a center was granted by its throttle.
 use Rattle.std.proofs.Common.{ap, subst}
-use Rattle.m2_dispatcher.specs.Letters.{AreOwned}
+use Rattle.m2_dispatch.specs.Letters.{AreOwned}
 use Rattle.m2_center.specs.Finishing.{AllOwn}
-use Rattle.m2_stages.specs.Outbox.{OwnsAll}
+use Rattle.m2_center.specs.Outbox.{OwnsAll}
 use Rattle.m2_center.proofs.Granted.{all_own}
 use Rattle.m2_center.proofs.center.Center.finished.Goals as goal
 

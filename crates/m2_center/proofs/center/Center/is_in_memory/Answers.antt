@@ -5,8 +5,8 @@ use Rattle.m2_center.specs.Reaching.{all_ends_in, ends_or_none}
 use Rattle.m2_fabric.specs.End.{SeenEnd}
 use Rattle.m2_fabric.specs.Kinds.{IsInMemory}
 use Rattle.m2_record.specs.RecordNow.{ends_of}
-use Rattle.m2_stages.specs.Halves.{halves_of}
-use Rattle.m2_stages.specs.Hearing.{ends_in}
+use Rattle.m2_center.specs.Halves.{halves_of}
+use Rattle.m2_center.specs.Hearing.{ends_in}
 use Rattle.m2_center.proofs.Left.{all_join}
 use Rattle.m2_center.proofs.center.Center.is_in_memory.Goals as goal
 

@@ -1,5 +1,5 @@
 use Rattle.std.proofs.Common.{sym, subst}
-use Rattle.m2_heard.specs.declared.heard.FrameHeard.TheVariants.{Nothing}
+use Rattle.m2_feed.specs.declared.frame_heard.FrameHeard.TheVariants.{Nothing}
 use Rattle.m2_core.specs.CoreNow.{CoreNow}
 use Rattle.m2_core.specs.Front.{HearsOn}
 use Rattle.m2_core.proofs.Passed.{passed_to}

@@ -1,5 +1,5 @@
 use Rattle.std.proofs.Common.{◌≡◌, ℕ, sym, subst}
-use Rattle.m2_live.specs.Calls.{with_taken}
+use Rattle.m2_core.specs.LiveCalls.{with_taken}
 use Rattle.m2_core.specs.CoreNow.{CoreNow}
 use Rattle.m2_core.specs.Judging.{IsVerdict, acceptance_text, told_of}
 use Rattle.m2_core.proofs.Judged as judged

@@ -1,8 +1,8 @@
 -- The message takes one place of the room that was promised.
 use Rattle.std.proofs.Common.{◌<◌, arith}
 use Rattle.m2_message.specs.Message.{priority_of}
-use Rattle.m2_priority.specs.PriorityQueue.{rank_of}
-use Rattle.m2_priority.proofs.Joining.{length-put_behind, all-put_behind, map-put_behind}
+use Rattle.m2_queues.specs.PriorityQueue.{rank_of}
+use Rattle.m2_queues.proofs.Joining.{length-put_behind, all-put_behind, map-put_behind}
 use Rattle.m2_queues.specs.OutQueuesFields.{content_ranked, IsRanked}
 use Rattle.m2_queues.proofs.out_queues.OutQueues.place.Goals as goal
 

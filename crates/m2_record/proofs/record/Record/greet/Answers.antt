@@ -1,6 +1,6 @@
 use Rattle.std.proofs.Common.{◌-◌, ◌∙◌, ap, arith, subst, sym}
 use Rattle.m2_handshake.specs.declared.answer.HalfStep.TheVariants as half
-use Rattle.m2_live.specs.LiveNow.{held}
+use Rattle.m2_core.specs.LiveNow.{held}
 use Rattle.m2_record.specs.Calls.{HasRoomToClose}
 use Rattle.m2_record.proofs.Heeding.{broken-top, shaken-held, shaken-owned, shaken-top}
 use Rattle.m2_record.proofs.record.Record.greet.Goals as goal

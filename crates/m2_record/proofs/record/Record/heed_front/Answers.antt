@@ -1,5 +1,5 @@
 use Rattle.std.proofs.Common.{◌∙◌, ap, arith, map, option_map, refl}
-use Rattle.m2_live.specs.LiveNow.{held}
+use Rattle.m2_core.specs.LiveNow.{held}
 use Rattle.m2_record.specs.RecordNow.{RecordNow}
 use Rattle.m2_record.proofs.Heeding.{closed-fits, done-so, heeds-left, heeds-noted, no-reset, noted-none, owned-closed, owned-left, owned-so, record-closed, record-noted, reset-left, room-so, signed-so, tested, word-so}
 use Rattle.m2_record.proofs.Fronts.{top-so}

@@ -1,6 +1,0 @@
--- The law is proved of every record.
-use Rattle.m2_asks.proofs.Records.{arrivals_are}
-use Rattle.m2_asks.proofs.laws.arrivals_are_the_openers.Goals as goal
-
-pub returns : goal.returns
-returns c = arrivals_are

@@ -1,3 +1,0 @@
-pub mod Beginning
-pub mod Acting
-pub mod Laws

@@ -1,0 +1,11 @@
+-- What a half of a center still has to do. This project's own.
+use Rattle.std.specs.Prelude.{◌||◌, not, Bool}
+use Rattle.std.specs.Option.{is_some}
+use Rattle.m2_handshake.specs.Moves.{is_at_rest}
+use Rattle.m2_trail.specs.Unput as unput
+use Rattle.m2_center.specs.Sessions.{PendingNow}
+
+-- It has written something that isn't put, owes a reply, or may take a step; or the last read of its end hasn't found that nothing
+-- is there.
+abbrev pub is_busy : PendingNow → Bool
+is_busy p = unput.is_some p.half.left || is_some p.half.ask || not (is_at_rest p.half.half) || not p.half.end.log.dry

@@ -1,5 +1,0 @@
-use Rattle.m2_clustered.proofs.Unused.{plan_unused}
-use Rattle.m2_clustered.proofs.told.plan_stays_unused.Goals as goal
-
-pub returns : goal.returns
-returns g c = plan_unused

@@ -1,5 +1,0 @@
-use Rattle.m2_clustered.proofs.Unused.{turn_unused}
-use Rattle.m2_clustered.proofs.told.turn_stays_unused.Goals as goal
-
-pub returns : goal.returns
-returns g c = turn_unused _

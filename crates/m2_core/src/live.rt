@@ -1,0 +1,190 @@
+//! What a session's step can change.
+
+ghost use Rattle.std.specs.Prelude.{◌≡◌, ◌-◌, ◌<◌, ◌≤◌, ◌^◌, None, true, false, IsTrue, option_map};
+ghost use Rattle.m2_queues.specs.OutQueues.{IsNumbered};
+ghost use Rattle.m2_session.specs.Steps as table;
+ghost use Rattle.m2_session.specs.Steps.{HasFollower, step_of};
+ghost use Rattle.m2_shared.specs.Place.{IsAlone};
+ghost use Rattle.m2_core.specs.LiveNow.{IsOwned, held, is_waiting};
+ghost use Rattle.m2_core.specs.Effects.{IsAftermath, moved, moved_last, tells};
+ghost use Rattle.m2_core.specs.LiveCalls.{after_counted};
+
+use crate::aftermath::Aftermath;
+use crate::on_feed::close_on;
+use m2_fabric::End;
+use m2_feed::Feed;
+use m2_queues::OutQueues;
+use m2_session::{Effects, Event, Session, step};
+use m2_shared::{Grant, TakePass, Throttle};
+use std::marker::Model;
+
+/// What a session's step can change: the session, the outgoing queue, the last accepted number, and the
+/// feed with what was granted for it. It can't be dropped, since a grant can't: it ends by
+/// [`end`](Live::end). Whoever holds it keeps its parts in step with each other.
+///
+/// Of a step: [`tell`](Live::tell), [`heed`](Live::heed), [`tell_if`](Live::tell_if), [`take`](Live::take).
+/// Of the front of the feed: [`pass_front`](Live::pass_front), [`note_front`](Live::note_front),
+/// [`accept_front`](Live::accept_front), [`hearing`](Live::hearing), [`take_answer`](Live::take_answer),
+/// [`obey`](Live::obey). Of what is composed: [`reserve_ask`](Live::reserve_ask),
+/// [`compose_ask`](Live::compose_ask), [`number`](Live::number). Of the queue: [`count`](Live::count),
+/// [`waits`](Live::waits).
+///
+/// A call that takes a throttle has the condition that the pass and what is granted were made from it.
+pub struct Live<E: End> {
+    /// What is remembered of the peer.
+    pub session: Session,
+    /// What is kept and what waits to be sent.
+    pub out: OutQueues,
+    /// The last accepted number.
+    pub last: u64,
+    /// Up to where a resumption on the feed acknowledges, 0 where none does.
+    pub resumed: u64,
+    /// The one open socket.
+    pub feed: Option<Feed<E>>,
+    /// What a throttle has granted for the MESSAGE that isn't finished.
+    pub granted: Option<Grant>,
+}
+
+impl<E: End> Model for Live<E> {
+    ghost use Rattle.m2_core.specs.LiveNow.{LiveNow};
+
+    ghost Value = { LiveNow };
+
+    ghost view = { λ l. record {
+      session = l.session;
+      out = l.out;
+      last = l.last;
+      resumed = l.resumed;
+      feed = l.feed;
+      granted = l.granted;
+    } };
+}
+
+/// Gives back what was granted, where something was.
+pub fn give_back(granted: &mut Option<Grant>, throttle: &Throttle, pass: &mut TakePass)
+    requires pass { pass.old.place ≡ throttle.now.place }
+    requires owned { IsOwned throttle.now.place granted.old }
+    ensures granted { granted.new ≡ None }
+    ensures place { pass.new.place ≡ pass.old.place }
+    ensures word { IsAlone throttle.now.place → pass.new.word ≡ pass.old.word - held granted.old }
+{
+    match granted.take() {
+        Some(grant) => throttle.give(pass, grant),
+        None => {}
+    }
+}
+
+/// What effects do to the queue, and to the last accepted number.
+fn move_numbers(effects: &Effects, out: &mut OutQueues, last: &mut u64)
+    ensures queue { out.new ≡ moved effects.now out.old }
+    ensures last { last.new ≡ moved_last effects.now last.old }
+{
+    if effects.requeue {
+        out.requeue();
+    }
+    if effects.set_back {
+        out.renumber();
+        *last = 0;
+    }
+    if effects.discard {
+        out.discard();
+    }
+}
+
+impl<E: End> Live<E> {
+    /// Whether a message is kept or waits to be written.
+    pub fn waits(&self) -> bool
+        ensures { result ≡ is_waiting self.now }
+    {
+        self.out.waits()
+    }
+
+    /// Tells the session of an event, and does what it owes then. What was granted for a feed that is
+    /// closed is given back.
+    pub fn tell(&mut self, event: Event, throttle: &Throttle, pass: &mut TakePass) -> Aftermath<E>
+        requires lawful { IsTrue (table.is_lawful self.old.session event) }
+        requires connect { self.old.session.connect < 2 ^ 64 - 1 }
+        requires follower { HasFollower event }
+        requires pass { pass.old.place ≡ throttle.now.place }
+        requires owned { IsOwned throttle.now.place self.old.granted }
+        ensures live { self.new ≡ tells event self.old }
+        ensures aftermath { IsAftermath (step_of self.old.session event).effects self.old.feed (option_map E.seen result.closed) result.discarded result.remote_reset }
+        ensures place { pass.new.place ≡ pass.old.place }
+        ensures word { IsAlone throttle.now.place → (step_of self.old.session event).effects.close ≡ true → pass.new.word ≡ pass.old.word - held self.old.granted }
+        ensures kept { (step_of self.old.session event).effects.close ≡ false → pass.new ≡ pass.old }
+    {
+        let (session, effects) = step(self.session, event);
+        self.session = session;
+        move_numbers(&effects, &mut self.out, &mut self.last);
+        let mut closed = None;
+        if effects.close {
+            give_back(&mut self.granted, throttle, pass);
+            self.resumed = 0;
+            closed = close_on(&mut self.feed);
+        }
+        Aftermath {
+            closed,
+            discarded: effects.discard,
+            remote_reset: effects.remote_reset,
+        }
+    }
+
+    /// Tells the session of an event where nothing is granted, and does what it owes then.
+    pub fn heed(&mut self, event: Event) -> Aftermath<E>
+        requires lawful { IsTrue (table.is_lawful self.old.session event) }
+        requires connect { self.old.session.connect < 2 ^ 64 - 1 }
+        requires follower { HasFollower event }
+        requires ungranted { self.old.granted ≡ None }
+        ensures live { self.new ≡ tells event self.old }
+        ensures aftermath { IsAftermath (step_of self.old.session event).effects self.old.feed (option_map E.seen result.closed) result.discarded result.remote_reset }
+    {
+        let (session, effects) = step(self.session, event);
+        self.session = session;
+        move_numbers(&effects, &mut self.out, &mut self.last);
+        let mut closed = None;
+        if effects.close {
+            self.resumed = 0;
+            closed = close_on(&mut self.feed);
+        }
+        Aftermath {
+            closed,
+            discarded: effects.discard,
+            remote_reset: effects.remote_reset,
+        }
+    }
+
+    /// The messages up to this number go.
+    pub fn count(&mut self, number: u64)
+        requires { number ≤ self.old.out.queue.written }
+        ensures live { self.new ≡ after_counted number self.old }
+        ensures numbers { IsNumbered self.old.out.queue }
+    {
+        let _last = self.out.last();
+        match self.out.acked(number) {
+            Ok(()) => {}
+            Err(_) => unreachable!(),
+        }
+    }
+
+    /// Gives back what is held, and gives the feed.
+    pub fn end(self, throttle: &Throttle, pass: &mut TakePass) -> Option<Feed<E>>
+        requires pass { pass.old.place ≡ throttle.now.place }
+        requires owned { IsOwned throttle.now.place self.granted }
+        ensures feed { result ≡ self.feed }
+        ensures place { pass.new.place ≡ pass.old.place }
+        ensures word { IsAlone throttle.now.place → pass.new.word ≡ pass.old.word - held self.granted }
+    {
+        let Live {
+            session: _,
+            out: _,
+            last: _,
+            resumed: _,
+            feed,
+            granted,
+        } = self;
+        if let Some(grant) = granted {
+            throttle.give(pass, grant);
+        }
+        feed
+    }
+}

@@ -1,6 +1,0 @@
--- The lemma.
-use Rattle.m2_delivered.proofs.Tables.{order_is}
-use Rattle.m2_delivered.proofs.laws.links_have_orders.Goals as goal
-
-pub returns : goal.returns
-returns c = λ l o. (o.0, order_is l o)

@@ -1,7 +1,0 @@
--- The lemma, by what is promised of nodes that stay.
-use Rattle.m2_delivered.proofs.Links.{is_link}
-use Rattle.m2_delivered.proofs.laws.runs_have_links.Goals as goal
-
-pub returns : goal.returns
-returns c = λ x h g a b run l near far.
-    is_link x run h g a b l c.records_are_sides.ensures c.posts_can_be_sent.ensures c.staying_goes_on.ensures c.links_go_on.ensures near far

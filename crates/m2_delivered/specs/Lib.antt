@@ -1,3 +1,0 @@
-pub mod Delivered
-pub mod Laws
-pub mod Lossy

@@ -1,3 +1,0 @@
-pub mod Ordered
-pub mod Letters
-pub mod Histories

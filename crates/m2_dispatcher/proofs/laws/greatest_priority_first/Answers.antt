@@ -1,8 +1,0 @@
-use Rattle.m2_priority.proofs.Joining.{falling}
-use Rattle.m2_dispatcher.specs.Letters.{letter_priority}
-use Rattle.m2_dispatcher.specs.Laws.{history_of}
-use Rattle.m2_dispatcher.proofs.Histories.{holds}
-use Rattle.m2_dispatcher.proofs.laws.greatest_priority_first.Goals as goal
-
-pub returns : goal.returns
-returns c peer calls = falling letter_priority (history_of peer calls).waiting (holds peer calls).falls

@@ -1,0 +1,11 @@
+pub mod Arriving
+pub mod Bounds
+pub mod Entering
+pub mod Flowing
+pub mod Loops
+pub mod Over
+pub mod Pairs
+pub mod Passes
+pub mod Told
+pub mod Turns
+pub mod Waits

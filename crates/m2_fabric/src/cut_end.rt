@@ -1,0 +1,198 @@
+//! An end that breaks after so many bytes.
+
+ghost use Rattle.std.specs.Prelude.{◌≡◌, ◌<◌, ◌≤◌, false, length, take};
+ghost use Rattle.m2_fabric.specs.End.{LeavesPiece, Reads, Writes};
+ghost use Rattle.m2_fabric.specs.CutEnd.{Bounded, ReadsBounded, WritesBounded, allowance, allowed, counted_read, counted_write, is_cut, left_after_read, left_after_write, passed, shown};
+
+use m2_bytes::NoMemory;
+use crate::{End, EndLog, EndRead, EndWrite, MemoryEnd, News, SocketId};
+use std::marker::Model;
+
+/// An end that passes on what another end does, until so many bytes passed, read and written together:
+/// from then on it fails at every call by itself, and counts it.
+///
+/// Its log is that of the end inside. Its count of faults begins with that of the end inside, and goes
+/// on with each call that failed. Contracts see the end inside, how many more bytes pass, and the count.
+#[derive(Debug, Drop)]
+pub struct CutEnd<E: End> {
+    end: E,
+    left: Option<u64>,
+    faults: u64,
+}
+
+impl<E: End> Model for CutEnd<E> {
+    ghost Value = { Bounded };
+
+    ghost view = { λ c. record { inner = E.seen c.end; left = c.left; faults = c.faults } };
+}
+
+impl<E: End> CutEnd<E> {
+    /// An end that passes so many bytes, or all where there is no bound.
+    pub fn new(end: E, bytes: Option<u64>) -> CutEnd<E>
+        ensures { result ≡ record { inner = E.seen end; left = bytes; faults = (E.seen end).faults } }
+    {
+        let faults = end.faults();
+        CutEnd {
+            end,
+            left: bytes,
+            faults,
+        }
+    }
+
+    /// The end inside.
+    pub fn into_end(self) -> E
+        ensures { E.seen result ≡ self.inner }
+    {
+        self.end
+    }
+}
+
+// Whether nothing more may pass.
+fn is_cut(left: Option<u64>) -> bool
+    ensures { result ≡ is_cut left }
+{
+    left == Some(0)
+}
+
+// How many of so many bytes may pass.
+fn allowance(left: Option<u64>, n: usize) -> usize
+    ensures { result ≡ allowance left n }
+{
+    match left {
+        None => n,
+        Some(left) => left.min(n as u64) as usize,
+    }
+}
+
+// How many more may pass after so many.
+fn passed(left: Option<u64>, n: usize) -> Option<u64>
+    ensures { result ≡ passed n left }
+{
+    left.map(|l| l.saturating_sub(n as u64))
+}
+
+fn left_after_read(answer: EndRead, left: Option<u64>) -> Option<u64>
+    ensures { result ≡ left_after_read answer left }
+{
+    match answer {
+        EndRead::Got(n) => passed(left, n),
+        _ => left,
+    }
+}
+
+fn left_after_write(answer: EndWrite, left: Option<u64>) -> Option<u64>
+    ensures { result ≡ left_after_write answer left }
+{
+    match answer {
+        EndWrite::Put(n) => passed(left, n),
+        _ => left,
+    }
+}
+
+fn counted_read(answer: EndRead, faults: u64) -> u64
+    ensures { result ≡ counted_read answer faults }
+{
+    match answer {
+        EndRead::Failed => faults.saturating_add(1),
+        _ => faults,
+    }
+}
+
+fn counted_write(answer: EndWrite, faults: u64) -> u64
+    ensures { result ≡ counted_write answer faults }
+{
+    match answer {
+        EndWrite::Failed => faults.saturating_add(1),
+        _ => faults,
+    }
+}
+
+// Reads the end inside into as much of a piece as may pass.
+fn read_within<E: End>(end: &mut E, left: Option<u64>, into: &mut [u8]) -> EndRead
+    requires piece { 0 < length into.old }
+    requires whole { (E.seen end.old).log.closed ≡ false }
+    requires passes { is_cut left ≡ false }
+    ensures reads { Reads result (allowed left into.new) (E.seen end.old) (E.seen end.new) }
+    ensures piece { LeavesPiece result into.old into.new }
+{
+    let most = allowance(left, into.len());
+    let (first, _) = into.split_at_mut(most);
+    end.read(first)
+}
+
+// Writes as much of a piece as may pass to the end inside.
+fn write_within<E: End>(end: &mut E, left: Option<u64>, bytes: &[u8]) -> EndWrite
+    requires piece { 0 < length bytes.now }
+    requires whole { (E.seen end.old).log.closed ≡ false }
+    requires passes { is_cut left ≡ false }
+    ensures { Writes result (allowed left bytes.now) (E.seen end.old) (E.seen end.new) }
+{
+    let most = allowance(left, bytes.len());
+    let (first, _) = bytes.split_at(most);
+    end.write(first)
+}
+
+impl<E: End> End for CutEnd<E> {
+    ghost seen = { shown };
+
+    fn id(&self) -> SocketId {
+        self.end.id()
+    }
+
+    fn log(&self) -> &EndLog {
+        self.end.log()
+    }
+
+    fn faults(&self) -> u64 {
+        self.faults
+    }
+
+    #[tactic(auto, using(crate::proofs::Bounds::reads_outside))]
+    fn read(&mut self, into: &mut [u8]) -> EndRead
+        requires piece { 0 < length into.old }
+        requires open { self.old.inner.log.closed ≡ false }
+        ensures reads { Reads result into.new (shown self.old) (shown self.new) }
+        ensures piece { LeavesPiece result into.old into.new }
+        ensures exact { ReadsBounded result into.new self.old self.new }
+    {
+        if is_cut(self.left) {
+            self.faults = self.faults.saturating_add(1);
+            return EndRead::Failed;
+        }
+        let answer = read_within(&mut self.end, self.left, into);
+        self.left = left_after_read(answer, self.left);
+        self.faults = counted_read(answer, self.faults);
+        answer
+    }
+
+    #[tactic(auto, using(crate::proofs::Bounds::writes_outside))]
+    fn write(&mut self, bytes: &[u8]) -> EndWrite
+        requires piece { 0 < length bytes.now }
+        requires open { self.old.inner.log.closed ≡ false }
+        ensures writes { Writes result bytes.now (shown self.old) (shown self.new) }
+        ensures exact { WritesBounded result bytes.now self.old self.new }
+    {
+        if is_cut(self.left) {
+            self.faults = self.faults.saturating_add(1);
+            return EndWrite::Failed;
+        }
+        let answer = write_within(&mut self.end, self.left, bytes);
+        self.left = left_after_write(answer, self.left);
+        self.faults = counted_write(answer, self.faults);
+        answer
+    }
+
+    fn close(&mut self) {
+        self.end.close();
+    }
+
+    fn hear(&mut self, bytes: &[u8], news: News) -> Result<(), NoMemory> {
+        self.end.hear(bytes, news)
+    }
+}
+
+impl<E: MemoryEnd> MemoryEnd for CutEnd<E> {
+    fn is_in_memory(&self) {
+        self.end.is_in_memory();
+    }
+}

@@ -1,5 +1,0 @@
-use Rattle.m2_feed.proofs.Lengths.{texts_are_known}
-use Rattle.m2_feed.proofs.laws.an_asks_text_is_known.Goals as goal
-
-pub returns : goal.returns
-returns c = texts_are_known

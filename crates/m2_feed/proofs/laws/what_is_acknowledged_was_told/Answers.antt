@@ -1,5 +1,0 @@
-use Rattle.m2_feed.proofs.Faults.{hears_told}
-use Rattle.m2_feed.proofs.laws.what_is_acknowledged_was_told.Goals as goal
-
-pub returns : goal.returns
-returns c = hears_told

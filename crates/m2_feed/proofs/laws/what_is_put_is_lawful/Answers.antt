@@ -1,5 +1,0 @@
-use Rattle.m2_feed.proofs.Beside.{puts_on}
-use Rattle.m2_feed.proofs.laws.what_is_put_is_lawful.Goals as goal
-
-pub returns : goal.returns
-returns c = puts_on

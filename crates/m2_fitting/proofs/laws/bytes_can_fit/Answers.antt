@@ -1,5 +1,0 @@
-use Rattle.m2_fitting.proofs.OnePoint.{can_fit}
-use Rattle.m2_fitting.proofs.laws.bytes_can_fit.Goals as goal
-
-pub returns : goal.returns
-returns c = can_fit

@@ -1,6 +1,0 @@
--- The lemma.
-use Rattle.m2_fitting.proofs.Posts.{sendable_keeps}
-use Rattle.m2_fitting.proofs.laws.posts_can_be_sent.Goals as goal
-
-pub returns : goal.returns
-returns c = sendable_keeps

@@ -1,5 +1,0 @@
-use Rattle.m2_fitting.proofs.Trails.{tell_each_point}
-use Rattle.m2_fitting.proofs.laws.trails_tell_each_point.Goals as goal
-
-pub returns : goal.returns
-returns c = tell_each_point

@@ -1,4 +1,0 @@
-pub mod Wrapped
-pub mod Streams
-pub mod Short
-pub mod Posts

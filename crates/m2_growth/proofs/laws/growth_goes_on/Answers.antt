@@ -1,5 +1,0 @@
-use Rattle.m2_growth.proofs.Going.{grows_then}
-use Rattle.m2_growth.proofs.laws.growth_goes_on.Goals as goal
-
-pub returns : goal.returns
-returns c = grows_then

@@ -1,5 +1,0 @@
-use Rattle.m2_growth.proofs.Plans.{plans_grow}
-use Rattle.m2_growth.proofs.laws.plans_grow.Goals as goal
-
-pub returns : goal.returns
-returns c = plans_grow

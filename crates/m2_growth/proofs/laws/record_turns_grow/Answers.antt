@@ -1,5 +1,0 @@
-use Rattle.m2_growth.proofs.RecordTurns.{record_turns}
-use Rattle.m2_growth.proofs.laws.record_turns_grow.Goals as goal
-
-pub returns : goal.returns
-returns g c = record_turns

@@ -1,5 +1,0 @@
-use Rattle.m2_growth.proofs.Fed.{record_fed}
-use Rattle.m2_growth.proofs.laws.records_are_fed.Goals as goal
-
-pub returns : goal.returns
-returns c = record_fed

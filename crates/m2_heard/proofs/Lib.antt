@@ -1,4 +1,0 @@
-pub mod Tags
-pub mod Heeding
-pub mod Sizes
-pub mod Bringing

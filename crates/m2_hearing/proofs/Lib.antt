@@ -1,4 +1,0 @@
-pub mod Payloads
-pub mod Answers
-pub mod Sizes
-pub mod Fronts

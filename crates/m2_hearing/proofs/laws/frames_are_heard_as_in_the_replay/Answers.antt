@@ -1,5 +1,0 @@
-use Rattle.m2_hearing.proofs.Answers.{are_heard}
-use Rattle.m2_hearing.proofs.laws.frames_are_heard_as_in_the_replay.Goals as goal
-
-pub returns : goal.returns
-returns c = are_heard

@@ -1,5 +1,0 @@
-use Rattle.m2_history.proofs.Counting.{counts_are}
-use Rattle.m2_history.proofs.laws.counts_are_of_the_items.Goals as goal
-
-pub returns : goal.returns
-returns c = counts_are

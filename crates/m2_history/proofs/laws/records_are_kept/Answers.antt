@@ -1,5 +1,0 @@
-use Rattle.m2_history.proofs.Kept.{records_are_kept}
-use Rattle.m2_history.proofs.laws.records_are_kept.Goals as goal
-
-pub returns : goal.returns
-returns c = records_are_kept

@@ -1,5 +1,0 @@
-use Rattle.m2_history.proofs.Linked.{strands_are_tidy}
-use Rattle.m2_history.proofs.laws.strands_are_tidy.Goals as goal
-
-pub returns : goal.returns
-returns c = strands_are_tidy

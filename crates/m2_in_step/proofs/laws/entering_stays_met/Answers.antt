@@ -1,5 +1,0 @@
-use Rattle.m2_in_step.proofs.Entering.{entered_met}
-use Rattle.m2_in_step.proofs.laws.entering_stays_met.Goals as goal
-
-pub returns : goal.returns
-returns c = λ node old new enters step has met. entered_met node old new enters step has met

@@ -1,6 +1,0 @@
-use Rattle.m2_in_step.proofs.Telling.{passes_met}
-use Rattle.m2_sim_net.specs.SimFabric.{flow_of}
-use Rattle.m2_in_step.proofs.laws.flows_stay_met.Goals as goal
-
-pub returns : goal.returns
-returns c = λ a b socket most old new flows step opens met. passes_met (flow_of a b socket most old.fabric.pairs) old new flows step opens met

@@ -1,5 +1,0 @@
-use Rattle.m2_in_step.proofs.Telling.{passed_met}
-use Rattle.m2_in_step.proofs.laws.passing_stays_met.Goals as goal
-
-pub returns : goal.returns
-returns c = λ what old new passed step opens met. passed_met what old new passed step opens met

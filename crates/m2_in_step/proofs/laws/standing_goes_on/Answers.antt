@@ -1,5 +1,0 @@
-use Rattle.m2_in_step.proofs.Standing.{stands_same, stands_then, waits_still}
-use Rattle.m2_in_step.proofs.laws.standing_goes_on.Goals as goal
-
-pub returns : goal.returns
-returns c = record { same = stands_same; goes_on = stands_then; waits = waits_still }

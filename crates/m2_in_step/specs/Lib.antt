@@ -1,4 +1,0 @@
-pub mod Turn
-pub mod Passed
-pub mod Ports
-pub mod Laws

@@ -1,6 +1,0 @@
--- The example.
-use Rattle.m2_linked.proofs.Example.{a_link_goes_on}
-use Rattle.m2_linked.proofs.laws.a_link_goes_on.Goals as goal
-
-pub returns : goal.returns
-returns c = a_link_goes_on

@@ -1,0 +1,15 @@
+pub mod Center
+pub mod Cluster
+pub mod ClusterLaws
+pub mod ClusterTold
+pub mod LinkLaws
+pub mod Linked
+pub mod LogLaws
+pub mod Logged
+pub mod Records
+pub mod Sides
+pub mod TellingLaws
+pub mod Told
+pub mod ToldLaws
+pub mod ToldSides
+pub mod TurnLaws

@@ -1,0 +1,74 @@
+//! Two sides of a link whose nodes act in turns can be woven.
+//!
+//! What it is: definitions and laws. `specs/Sides.antt` says what two sides of a link and the halves beside
+//! them are behind a turn, beside what they were before it: journals go on, halves go on or come, or a side
+//! takes them, and all that an end has got the other end had put before the turn; `specs/Records.antt` what
+//! that is of sides that records keep, and `specs/Told.antt` what they tell of their bytes. `specs/Laws.antt` has the laws: where the sides had an order before the turn they have one behind it, by `m2_weave`; and of sides
+//! that have one `weave` of `m2_history` finds it.
+//!
+//! What it isn't: anything that runs. It says of no node that it acts so.
+//!
+//! What a node's turn does to a link.
+//!
+//! What it is: definitions and laws. `specs/Linked.antt` says what two nodes with a link between them are, and that
+//! in a turn either acts or stays as it is; `specs/Laws.antt` has the laws: so do the two records of the link and
+//! the halves beside them go on, as `m2_links_go_on` asks; and where all that was done on the link had an order before
+//! the turn, it has one behind it.
+//!
+//! What it isn't: anything that runs. That what an end got in the turn the other end had put before it is a premise.
+//!
+//! What a cluster's calls leave of its nodes.
+//!
+//! What it is: definitions and laws. `specs/Center.antt` says what a center has of the sockets of its port, and
+//! `specs/Cluster.antt` what is known of all nodes; `specs/Laws.antt` has the laws: behind a center's turn, and where
+//! one of its records plans a step, nothing that was done is undone; and so all ends of its cluster grow.
+//! `specs/Told.antt` says what is the same where ends are told of the other side, and `specs/ToldLaws.antt` that it
+//! is all but what they were told.
+//!
+//! What it isn't: anything that runs.
+//!
+//! What is woven of two records of a cluster where ends are told of the other side: it is the same.
+//!
+//! What it is: definitions and laws. `specs/Sides.antt` says what is woven of two records with the halves of their
+//! nodes, and `specs/Laws.antt` that what is told changes nothing of it.
+//!
+//! What it isn't: anything that runs.
+//!
+//! What a node's dispatchers were called with, beside what the records of a center handed on.
+//!
+//! What it is: definitions and laws. `specs/Logged.antt` says where each parcel went that a record handed on: to the
+//! dispatcher of fast keys at once, or it is held for it; or it was put into the queue before the other dispatcher, or
+//! is in the mail; each once and in order. `specs/Laws.antt` has the laws: so it is at first; it stays so behind a
+//! center's turn and each stage of it, behind a step that is planned, and behind what ends are told of the other side;
+//! and so of each record its peer is heard to send, of each key, some of what the record accepted, in order, each once.
+//! The accepts of a turn change nothing of this.
+//!
+//! What it isn't: anything that runs.
+#![tactic(auto)]
+
+mod cluster_laws;
+mod link_laws;
+mod log_laws;
+mod telling_laws;
+mod told;
+mod turn_laws;
+
+pub use cluster_laws::{
+    node_plan_grows, node_turn_grows, plan_brings_elsewhere, plan_grows, turn_brings_elsewhere,
+    turn_grows,
+};
+pub use link_laws::{a_link_goes_on, links_are_woven, links_go_on, staying_goes_on};
+pub use log_laws::{
+    begin_logged, halves_stay_logged, logged_are_heard, mail_stays_logged, plans_stay_logged,
+    records_stay_logged, rest_stays_logged, turns_stay_logged,
+};
+pub use telling_laws::{told_stays_woven, woven_stays};
+pub use told::{
+    hearing_stays_own, incoming_is_to_come, incoming_stays_own, news_are_to_come,
+    plan_stays_unused, told_center_is_same, told_cluster_is_same, told_cluster_stays_judged,
+    told_cluster_stays_own, told_stays_judged, told_stays_own, turn_stays_unused,
+};
+pub use turn_laws::{
+    an_order_is_found, kept_are_halves, records_go_on, records_in_turns_are_woven,
+    records_tell_all, sides_are_later, sides_in_turns_are_woven, told_is_moved,
+};

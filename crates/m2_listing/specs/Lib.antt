@@ -1,5 +1,0 @@
-pub mod Lines
-pub mod Listing
-pub mod Passing
-pub mod Reading
-pub mod SoFar

@@ -1,5 +1,0 @@
-use Rattle.m2_logged.proofs.AreHeard.{logged_are_heard}
-use Rattle.m2_logged.proofs.laws.logged_are_heard.Goals as goal
-
-pub returns : goal.returns
-returns g c = logged_are_heard c.logs_are_logs_of_what_is_handed_on.ensures

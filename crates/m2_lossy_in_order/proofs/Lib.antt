@@ -1,0 +1,11 @@
+pub mod Both
+pub mod Entries
+pub mod Frames
+pub mod Moves
+pub mod Named
+pub mod Orders
+pub mod Points
+pub mod Posted
+pub mod Readers
+pub mod Sides
+pub mod Sublists

@@ -1,6 +1,0 @@
--- The lemma.
-use Rattle.m2_merge.proofs.Named.{names_all}
-use Rattle.m2_merge.proofs.laws.an_order_names_all.Goals as goal
-
-pub returns : goal.returns
-returns c = names_all

@@ -1,6 +1,0 @@
--- The lemma of the same name.
-use Rattle.m2_merge.proofs.Furthest.{greedy_is_an_order}
-use Rattle.m2_merge.proofs.laws.greedy_is_an_order.Goals as goal
-
-pub returns : goal.returns
-returns c = greedy_is_an_order

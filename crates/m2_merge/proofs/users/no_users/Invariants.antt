@@ -1,5 +1,0 @@
-use Rattle.std.proofs.Common.{◌≡◌, length}
-use Rattle.m2_merge.proofs.users.no_users.Given as goal
-
-abbrev pub invariant-loop : goal.invariant-loop
-invariant-loop l = length l.users.items ≡ l.counter

@@ -1,0 +1,15 @@
+pub mod Asks
+pub mod CrossingLaws
+pub mod Fits
+pub mod Frames
+pub mod Link
+pub mod LinkOf
+pub mod Mails
+pub mod Order
+pub mod Orders
+pub mod PairLaws
+pub mod Paired
+pub mod Roles
+pub mod Sessions
+pub mod Steps
+pub mod Trouble

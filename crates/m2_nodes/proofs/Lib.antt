@@ -1,4 +1,0 @@
-pub mod Apart
-pub mod CutsMore
-pub mod Over
-pub mod SoFar

@@ -1,0 +1,97 @@
+//! The runtime's clock, over readings that are listed and over real ones.
+
+use m2_edge::{Clock, FixedClock, StdClock, next_moment};
+use std::sync::atomic::{AtomicUsize, Ordering};
+use std::test::Fail;
+use std::thread::{Threads, join};
+use std::time::Duration;
+use std::{io, thread, time};
+
+/// A runtime's clock with a list of readings in milliseconds; where it has none, the reading fails.
+#[derive(Drop)]
+struct Listed {
+    readings: [Option<u64>; 5],
+    next: AtomicUsize,
+}
+
+impl time::Clock for Listed {
+    fn monotonic(&self) -> io::Result<Duration> {
+        let next = self.next.fetch_add(1, Ordering::SeqCst);
+        match self.readings.get(next) {
+            Some(Some(millis)) => Ok(Duration::from_millis(*millis)),
+            _ => Err(io::ErrorKind::Other.into()),
+        }
+    }
+
+    fn since_1970(&self) -> io::Result<Duration> {
+        Err(io::ErrorKind::Unsupported.into())
+    }
+}
+
+impl Listed {
+    fn new(readings: [Option<u64>; 5]) -> Listed {
+        Listed {
+            readings,
+            next: AtomicUsize::new(0),
+        }
+    }
+}
+
+#[test]
+fn moments_are_milliseconds_from_the_start(rt: HostRuntime) {
+    let readings = Listed::new([Some(1_000), Some(1_007), None, Some(900), Some(3_500)]);
+    let clock = StdClock::new(&readings);
+    assert_eq!(rt; clock.now(), 7);
+    assert_eq!(rt; clock.faults(), 0);
+    assert_eq!(rt; clock.now(), 0);
+    assert_eq!(rt; clock.faults(), 1);
+    assert_eq!(rt; clock.now(), 0);
+    assert_eq!(rt; clock.now(), 2_500);
+    assert_eq!(rt; clock.faults(), 1);
+}
+
+#[test]
+fn a_start_that_cannot_be_read_is_a_fault(rt: HostRuntime) {
+    let readings = Listed::new([None, Some(5), None, None, None]);
+    let clock = StdClock::new(&readings);
+    assert_eq!(rt; clock.faults(), 1);
+    assert_eq!(rt; clock.now(), 5);
+}
+
+/// Three moments, taken as rising.
+fn three_moments<C: Clock>(clock: &C) -> (u64, u64, u64) {
+    let first = next_moment(clock, 0);
+    let second = next_moment(clock, first);
+    let third = next_moment(clock, second);
+    (first, second, third)
+}
+
+#[test]
+fn an_answer_below_an_earlier_one_counts_as_that_one(rt: HostRuntime) {
+    let readings = Listed::new([Some(1_000), Some(1_007), None, Some(1_009), None]);
+    assert_eq!(rt; three_moments(&StdClock::new(&readings)), (7, 7, 9));
+    assert_eq!(rt; three_moments(&FixedClock::new(4)), (4, 4, 4));
+}
+
+/// The moment after a sleep of 2 milliseconds on each of two threads.
+fn after_sleeps<R: time::Clock + Threads + Sync>(rt: &R) -> (u64, u64) {
+    let clock = StdClock::new(rt);
+    join(
+        rt,
+        || {
+            thread::sleep(rt, Duration::from_millis(2));
+            clock.now()
+        },
+        || {
+            thread::sleep(rt, Duration::from_millis(2));
+            clock.now()
+        },
+    )
+}
+
+#[test]
+fn two_threads_see_time_pass(rt: HostRuntime) -> Result<(), Fail> {
+    let (first, second) = after_sleeps(&rt);
+    assert!(rt; first >= 2 && second >= 2);
+    Ok(())
+}

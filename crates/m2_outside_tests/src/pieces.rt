@@ -1,0 +1,111 @@
+//! Bytes without a pattern, passed in pieces of any length.
+
+use crate::socket_ends::{A_WHILE, Linked, ROUNDS, read, write};
+use m2_fabric::{End, EndRead, EndWrite, Port};
+use std::alloc::Global;
+use std::test::Fail;
+use std::thread;
+use std::thread::Threads;
+
+/// The longest piece, in bytes.
+const LONGEST_PIECE: u64 = 70_000;
+
+/// The next of some numbers without a pattern.
+fn next_number(state: &mut u64) -> u64 {
+    *state = state
+        .wrapping_mul(6_364_136_223_846_793_005)
+        .wrapping_add(1_442_695_040_888_963_407);
+    *state >> 33
+}
+
+/// The next length of a piece.
+fn next_length(state: &mut u64) -> usize {
+    (next_number(state) % LONGEST_PIECE) as usize + 1
+}
+
+/// So many words of bytes without a pattern.
+pub(crate) fn noise(alloc: Global, words: usize, seed: u64) -> Result<Vec<u8>, Fail> {
+    let mut state = seed;
+    let mut bytes = Vec::new(alloc);
+    for _ in 0..words {
+        let _ = next_number(&mut state);
+        bytes.extend_from_slice(&state.to_le_bytes())?;
+    }
+    Ok(bytes)
+}
+
+/// The bytes from a place on, at most so many.
+fn part(bytes: &[u8], at: usize, most: usize) -> &[u8] {
+    let (_, rest) = bytes.split_at(at.min(bytes.len()));
+    let (piece, _) = rest.split_at(most.min(rest.len()));
+    piece
+}
+
+/// Writes once from a place on, at most so many bytes. How many were written.
+pub(crate) fn write_from<E: End>(end: &mut E, bytes: &[u8], at: usize, most: usize) -> usize {
+    match write(end, part(bytes, at, most)) {
+        EndWrite::Put(n) => n,
+        _ => 0,
+    }
+}
+
+/// Reads once, at most so many bytes. How many were read; none where the end is done or broken.
+fn read_some<E: End>(end: &mut E, piece: &mut [u8], most: usize) -> Option<usize> {
+    let (piece, _) = piece.split_at_mut(most.min(piece.len()));
+    match read(end, piece) {
+        EndRead::Got(n) => Some(n),
+        EndRead::NotYet => Some(0),
+        _ => None,
+    }
+}
+
+/// Writes all these bytes in pieces of any length, and reads as many. Whether it was done.
+fn exchange<P: Port>(
+    port: &mut P,
+    end: &mut P::End,
+    bytes: &[u8],
+    piece: &mut [u8],
+    seed: u64,
+) -> bool {
+    let mut state = seed;
+    let (mut put, mut got) = (0usize, 0usize);
+    for _ in 0..ROUNDS {
+        if put >= bytes.len() && got >= bytes.len() {
+            return true;
+        }
+        let wrote = write_from(end, bytes, put, next_length(&mut state));
+        let Some(read) = read_some(end, piece, next_length(&mut state)) else {
+            return false;
+        };
+        put = put.saturating_add(wrote);
+        got = got.saturating_add(read);
+        if wrote == 0 && read == 0 && port.poll(A_WHILE).is_err() {
+            return false;
+        }
+    }
+    false
+}
+
+/// Passes bytes both ways at once, each side on a thread of its own. Whether it was done.
+pub(crate) fn exchange_at_once<P: Port + Send, T: Threads>(
+    threads: &T,
+    alloc: Global,
+    link: &mut Linked<P>,
+    there: &[u8],
+    back: &[u8],
+) -> Result<bool, Fail>
+where
+    P::End: Send,
+{
+    let mut piece = Vec::from_elem(alloc, 0u8, LONGEST_PIECE as usize)?;
+    let mut other = Vec::from_elem(alloc, 0u8, LONGEST_PIECE as usize)?;
+    let (mut done, mut other_done) = (false, false);
+    thread::join_mut(
+        threads,
+        &mut || done = exchange(&mut link.opening, &mut link.opener, there, &mut piece, 3),
+        &mut || {
+            other_done = exchange(&mut link.accepting, &mut link.acceptor, back, &mut other, 4)
+        },
+    );
+    Ok(done && other_done)
+}

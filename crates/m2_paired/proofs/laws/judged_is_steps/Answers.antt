@@ -1,5 +1,0 @@
-use Rattle.m2_paired.proofs.Judged.{judged_is}
-use Rattle.m2_paired.proofs.laws.judged_is_steps.Goals as goal
-
-pub returns : goal.returns
-returns c = judged_is c.answers_are_steps.ensures

@@ -1,5 +1,0 @@
-use Rattle.m2_paired.proofs.Staying.{paired_stays}
-use Rattle.m2_paired.proofs.laws.paired_stays.Goals as goal
-
-pub returns : goal.returns
-returns c = paired_stays c.answers_are_steps.ensures

@@ -1,5 +1,0 @@
-use Rattle.m2_passed.proofs.Passing.{faults_running}
-use Rattle.m2_passed.proofs.laws.fault_keeps_running.Goals as goal
-
-pub returns : goal.returns
-returns c = faults_running c.faults_stay_met.ensures

@@ -1,5 +1,0 @@
-use Rattle.m2_passed.proofs.Passing.{meets_running}
-use Rattle.m2_passed.proofs.laws.meeting_keeps_running.Goals as goal
-
-pub returns : goal.returns
-returns c = meets_running c.meetings_stay_met.ensures

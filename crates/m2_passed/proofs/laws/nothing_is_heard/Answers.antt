@@ -1,5 +1,0 @@
-use Rattle.m2_passed.proofs.Nothing.{flows_nothing, hears_nothing}
-use Rattle.m2_passed.proofs.laws.nothing_is_heard.Goals as goal
-
-pub returns : goal.returns
-returns c = record { hears = hears_nothing; flows = flows_nothing }

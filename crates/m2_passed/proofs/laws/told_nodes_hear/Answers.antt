@@ -1,5 +1,0 @@
-use Rattle.m2_passed.proofs.Same.{told_hear}
-use Rattle.m2_passed.proofs.laws.told_nodes_hear.Goals as goal
-
-pub returns : goal.returns
-returns g c = told_hear _ c.told_cluster_is_same.ensures

@@ -1,4 +1,0 @@
-pub mod ByRank
-pub mod Joining
-pub mod Permuted
-pub mod InOrder

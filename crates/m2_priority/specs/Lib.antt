@@ -1,4 +1,0 @@
-pub mod ByRank
-pub mod PriorityQueue
-pub mod PriorityQueueFields
-pub mod Laws

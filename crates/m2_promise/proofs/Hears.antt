@@ -1,0 +1,92 @@
+-- One direction of a link: what the one node heard of the other comes as the lines of a scenario post it.
+use Rattle.std.proofs.Common.{◌≡◌, ℕ, ◌+◌, ◌≤◌, ◌⊎◌, cond, List, [], length, map, sym, ap, subst, ◌∙◌, arith, count_by}
+use Rattle.std.specs.List.{AllByRecursion}
+use Rattle.std.proofs.lemmas.List.Sums.{sum_by-append}
+use Rattle.m2_channel.specs.Handing.{IsNoResetOf}
+use Rattle.m2_channel.specs.Observed.{Logs, all_of, heard_from}
+use Rattle.m2_channel.specs.ObservedLaws.{ComeAsPosted}
+use Rattle.m2_never_reset.specs.Order.{AreFirstOf}
+use Rattle.m2_dispatch.specs.Heard.{Heard, is_message_from, message, of_key, reset}
+use Rattle.m2_dispatch.specs.Laws.{IsSublist}
+use Rattle.m2_history.proofs.Tidiness.{all_so}
+use Rattle.m2_journal.specs.SideFacts.{SideFacts}
+use Rattle.m2_message.specs.Message.{Content, unnumbered}
+use Rattle.m2_scenario.specs.Order.{AreSame, IsNoResetBy, IsPrefixOf, posts_between, posts_of}
+use Rattle.m2_never_reset.specs.Orders as orders
+use Rattle.m2_policy.specs.declared.path.Key.{Key}
+use Rattle.m2_promise.specs.Posted.{AreSomeOf}
+use Rattle.m2_promise.proofs.PostedPlans.{count_posts, key_posts, posts_to}
+use Rattle.m2_promise.proofs.Prefixes.{are_same, count_heard, is_prefix, key_unnumbered}
+use Rattle.m2_promise.proofs.Turns.{all_turns, count_turns, key_turns}
+use Rattle.m2_scenario.specs.Draft.{DraftLine}
+use Rattle.m2_script.specs.declared.calls.TurnCalls.{TurnCalls}
+use Rattle.m2_script.specs.Outcome.{in_turns}
+
+-- what the node at y, which dispatches these kinds at once, heard of the node at x
+pub record HearsOf (x y : ℕ) (fast : List ℕ) (lines : List DraftLine) (heard : List Heard) : Type 0 where
+  pub prefix : (key : Key) → IsPrefixOf (of_key x key heard) (posts_of x y fast key lines)
+  pub whole : count_by (is_message_from x) heard ≡ posts_between lines x y → (key : Key) → AreSame (of_key x key heard) (posts_of x y fast key lines)
+  pub few : count_by (is_message_from x) heard ≤ posts_between lines x y
+  pub no_reset : AllByRecursion (IsNoResetBy x) heard
+
+no_reset_by : (x : ℕ) (h : Heard) → IsNoResetOf x h → IsNoResetBy x h
+no_reset_by x (message p k n m) none = tt
+no_reset_by x (reset p) none = none
+
+-- the messages of each key are in one of the logs
+abbrev pub GoOneWay : ℕ → Logs → Type 0
+GoOneWay x logs = (key : Key) → (of_key x key logs.fast ≡ []) ⊎ (of_key x key logs.queued ≡ [])
+
+posts_of_key : (g : SideFacts) (x y : ℕ) (lines : List DraftLine) (key : Key) → orders.of_key g key (map unnumbered (posts_to x y lines)) ≡ map unnumbered (posts_of x y g.node.fast key lines)
+posts_of_key g x y lines key = key_unnumbered g key (posts_to x y lines) ∙ ap (map unnumbered) (sym (key_posts x y g.node.fast key lines))
+
+-- ---- all of it, in order
+
+module _ (f g : SideFacts) (y : ℕ) (lines : List DraftLine) (logs : Logs) (cs : List TurnCalls) (posted : ComeAsPosted f g (posts_to f.node.number y lines) logs) (one_way : GoOneWay f.node.number logs)
+    (unreset : AllByRecursion (IsNoResetOf f.node.number) logs.fast × AllByRecursion (IsNoResetOf f.node.number) logs.queued) where
+  abbrev x : ℕ
+  x = f.node.number
+
+  abbrev hs : List Heard
+  hs = in_turns cs logs.fast logs.queued
+
+  abbrev ps : List Content
+  ps = posts_to x y lines
+
+  of_it : (key : Key) → of_key x key hs ≡ of_key x key (all_of logs)
+  of_it key = key_turns x key cs logs.fast logs.queued (one_way key)
+
+  posts : (key : Key) → orders.of_key g key (map unnumbered ps) ≡ map unnumbered (posts_of x y g.node.fast key lines)
+  posts key = posts_of_key g x y lines key
+
+  count : count_by (is_message_from x) hs ≡ length (heard_from x (all_of logs))
+  count =
+      let both : count_by (is_message_from x) (all_of logs) ≡ count_by (is_message_from x) logs.fast + count_by (is_message_from x) logs.queued =
+      sum_by-append (λ (h : Heard). cond (is_message_from x h) 1 0) logs.fast logs.queued in
+      count_turns (is_message_from x) cs logs.fast logs.queued ∙ sym both ∙ count_heard x (all_of logs)
+
+  all : posts_between lines x y ≡ length ps
+  all = count_posts x y lines
+
+  pub hears_of : HearsOf f.node.number y g.node.fast lines (in_turns cs logs.fast logs.queued)
+  hears_of = record {
+    prefix = λ key. is_prefix (of_key x key hs) (posts_of x y g.node.fast key lines)
+        (subst (AreFirstOf (map unnumbered (of_key x key hs))) (posts key)
+        (subst (λ l. AreFirstOf (map unnumbered l) (orders.of_key g key (map unnumbered ps))) (sym (of_it key)) (posted.in_order key)));
+    whole = λ e key. are_same (of_key x key hs) (posts_of x y g.node.fast key lines)
+        (ap (map unnumbered) (of_it key) ∙ posted.done (sym count ∙ e ∙ all) key ∙ posts key);
+    few = let n = posted.few in omega (arith, n, count, all);
+    no_reset = all_turns (IsNoResetBy x) cs logs.fast logs.queued
+        (all_so (IsNoResetOf x) (IsNoResetBy x) (no_reset_by x) logs.fast unreset.0)
+        (all_so (IsNoResetOf x) (IsNoResetBy x) (no_reset_by x) logs.queued unreset.1);
+  }
+
+-- ---- some of it, in order
+
+pub hears_some : (f g : SideFacts) (y : ℕ) (lines : List DraftLine) (logs : Logs) (cs : List TurnCalls) → GoOneWay f.node.number logs →
+    ((key : Key) → IsSublist (map unnumbered (of_key f.node.number key (all_of logs))) (orders.of_key g key (map unnumbered (posts_to f.node.number y lines)))) →
+    (key : Key) → AreSomeOf (of_key f.node.number key (in_turns cs logs.fast logs.queued)) (posts_of f.node.number y g.node.fast key lines)
+hears_some f g y lines logs cs one_way some key =
+    let x = f.node.number in
+    subst (IsSublist (map unnumbered (of_key x key (in_turns cs logs.fast logs.queued)))) (posts_of_key g x y lines key)
+    (subst (λ l. IsSublist (map unnumbered l) (orders.of_key g key (map unnumbered (posts_to x y lines)))) (sym (key_turns x key cs logs.fast logs.queued (one_way key))) (some key))

@@ -1,0 +1,60 @@
+mod CenterTurns
+mod Deeds
+mod First
+mod Further
+mod Going
+mod Nodes
+mod Outboxes
+mod PlanLists
+mod Planned
+mod Plans
+mod RecordTurns
+mod Records
+mod Taken
+pub mod Acting
+pub mod Asking
+pub mod Before
+pub mod Beside
+pub mod BothEnds
+pub mod Calls
+pub mod ClusterActs
+pub mod Doing
+pub mod Ends
+pub mod Example
+pub mod Flowing
+pub mod Hearing
+pub mod Hears
+pub mod Joined
+pub mod Kept
+pub mod KeptActing
+pub mod KeptHearing
+pub mod KeptLists
+pub mod Links
+pub mod Lists
+pub mod Logs
+pub mod Lossy
+pub mod Marks
+pub mod Needs
+pub mod Noted
+pub mod Nothing
+pub mod Openers
+pub mod Orders
+pub mod Pairs
+pub mod Passing
+pub mod Places
+pub mod Ports
+pub mod PostedPlans
+pub mod PostsTowards
+pub mod Prefixes
+pub mod Promised
+pub mod Resting
+pub mod Same
+pub mod Scripts
+pub mod Sides
+pub mod Starting
+pub mod Strands
+pub mod Tables
+pub mod Towards
+pub mod Turns
+pub mod Ways
+pub mod Whole

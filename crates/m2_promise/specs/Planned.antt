@@ -1,0 +1,70 @@
+-- What a node keeps along the deeds of a script, and what becomes of its plans. This project's own.
+use Rattle.std.specs.Prelude.{◌≡◌, ℕ, ◌==◌, ◌&&◌, true, if◌then◌else◌, List, [], ◌∷◌, ◌++◌, length, slice_get, Some, None, IfSome}
+use Rattle.std.specs.List.{AllByRecursion, list_any}
+use Rattle.m2_channel.specs.Handing as handing
+use Rattle.m2_dispatch.specs.Heard.{Heard, peer_of}
+use Rattle.m2_dispatch.specs.declared.letter.Letter.{Letter}
+use Rattle.m2_dispatch.specs.declared.parcel.Parcel.{Parcel}
+use Rattle.m2_dispatch.specs.Dispatch.{Queued}
+use Rattle.m2_journal.specs.declared.facts.PlanStep.{PlanStep}
+use Rattle.m2_record.specs.Due.{next_step}
+use Rattle.m2_record.specs.RecordNow.{RecordNow}
+use Rattle.m2_center.specs.Outbox.{OutboxNow}
+use Rattle.m2_cluster.specs.Node.{NodeNow}
+use Rattle.m2_links_go_on.specs.ClusterTold.{OneByOne}
+use Rattle.m2_links_go_on.specs.LogLaws.{logging_in}
+use Rattle.m2_links_go_on.specs.Logged.{IsLogged}
+use Rattle.m2_script.specs.Made.{side_of}
+use Rattle.m2_script.specs.Script.{Deed, RunNow, plan}
+
+-- ---- plans
+
+-- each step of the record's plan was taken
+abbrev pub IsTaken : RecordNow → Type 0
+IsTaken r = next_step r ≡ None
+
+-- the steps that these deeds plan for the record of node i towards node b, in order
+abbrev pub steps_for : (i b : ℕ) → List Deed → List PlanStep
+steps_for i b [] = []
+steps_for i b (plan a c x ∷ ds) = if (a == i) && (c == b) then x ∷ steps_for i b ds else steps_for i b ds
+steps_for i b (_ ∷ ds) = steps_for i b ds
+
+-- ---- of whom calls are
+
+-- one of these records is towards this node
+abbrev pub IsPeerOf : List RecordNow → ℕ → Type 0
+IsPeerOf records peer = list_any (λ (r : RecordNow). r.place == peer) records ≡ true
+
+-- All calls that both dispatchers had are of peers of these records, and all that is on its way to them: the letter that is held, the
+-- mail, and the letters that wait.
+pub record AreOfPeers {D : Type 0} (heard : D → List Heard) (records : List RecordNow) (out : OutboxNow D) (queue : Queued D) : Type 0 where
+  pub fast : AllByRecursion (λ (h : Heard). IsPeerOf records (peer_of h)) (heard out.fast)
+  pub held : IfSome out.held (λ (l : Letter). IsPeerOf records l.peer)
+  pub mail : AllByRecursion (λ (p : Parcel). IsPeerOf records (handing.peer_of p)) out.mail
+  pub waiting : AllByRecursion (λ (l : Letter). IsPeerOf records l.peer) queue.waiting
+  pub queued : AllByRecursion (λ (h : Heard). IsPeerOf records (peer_of h)) (heard queue.inner)
+
+-- ---- a node
+
+-- Its dispatchers were called with what its records handed on, each step of its records' plans was taken, and all calls are of peers
+-- of its records.
+pub record IsKeptNode {D : Type 0} (heard : D → List Heard) (n : NodeNow D) : Type 0 where
+  pub logged : IsLogged heard (logging_in n.center)
+  pub taken : AllByRecursion IsTaken n.center.records
+  pub peers : AreOfPeers heard n.center.records n.center.out n.center.queued
+
+abbrev pub AllKept : {D : Type 0} → (D → List Heard) → RunNow D → Type 0
+AllKept heard s = AllByRecursion (IsKeptNode heard) s.cluster.nodes
+
+-- ---- deeds
+
+-- Behind these deeds a record of node i has its peer and its facts, and its plan goes on by the steps that they plan for it.
+pub record GoesOnBy (i : ℕ) (ds : List Deed) (old new : RecordNow) : Type 0 where
+  pub side : side_of new ≡ side_of old
+  pub plan : new.plan ≡ old.plan ++ steps_for i old.place ds
+
+-- so do all records of all nodes
+pub record PlansGoOn {D : Type 0} (ds : List Deed) (old new : RunNow D) : Type 0 where
+  pub count : length new.cluster.nodes ≡ length old.cluster.nodes
+  pub each : (i : ℕ) (n m : NodeNow D) → slice_get old.cluster.nodes i ≡ Some n → slice_get new.cluster.nodes i ≡ Some m →
+      OneByOne (GoesOnBy i ds) n.center.records m.center.records

@@ -1,0 +1,166 @@
+-- What is promised of a script's run: over each lossless link of which neither end was marked down, messages come in order, each once;
+-- over a lossy one some of them come, in order. This is the project's promise.
+use Rattle.std.specs.Prelude.{◌≡◌, ◌==◌, ◌&&◌, ◌||◌, not, ℕ, ◌≤◌, Bool, true, false, List, ◌∷◌, ◌++◌, length, map, slice_get, Some, sum_by}
+use Rattle.std.specs.List.{AllByRecursion, list_any}
+use Rattle.m2_channel.specs.ObservedLaws.{AreBrought, AreBroughtToAMark}
+use Rattle.m2_cluster.specs.Node.{NodeNow}
+use Rattle.m2_links_go_on.specs.Center.{holding_of}
+use Rattle.m2_promise.specs.Delivered.{BothLogs, HasAccepted, link_in}
+use Rattle.m2_promise.specs.Lossy.{ComeInOrderOn}
+use Rattle.m2_dispatch.specs.declared.logged.Logged.{Logged}
+use Rattle.m2_dispatch.specs.Heard.{Heard, heard_by, of_key}
+use Rattle.m2_dispatch.specs.Laws.{IsSublist}
+use Rattle.m2_bytes_fit.specs.Orders.{entries_of}
+use Rattle.m2_bytes_fit.specs.Posts.{IsOfTypes}
+use Rattle.m2_history.specs.Delivered.{AreDelivered, AreOfOrder}
+use Rattle.m2_journal.specs.declared.entry.Entry.{Entry}
+use Rattle.m2_journal.specs.declared.entry.Entry.TheVariants as entry
+use Rattle.m2_journal.specs.Items as item
+use Rattle.m2_journal.specs.SideFacts.{SideFacts}
+use Rattle.m2_links_go_on.specs.LogLaws.{logging_in}
+use Rattle.m2_links_go_on.specs.Logged.{logs_in}
+use Rattle.m2_message.specs.Message.{Content, unnumbered}
+use Rattle.m2_scenario.specs.Order.{AreCounted, AreOfJoined, HearsNoReset, HearsPrefix, HearsWhole, OverEach, at, fast_of, posts_of}
+use Rattle.m2_never_reset.specs.LinkOf.{letters}
+use Rattle.m2_never_reset.specs.Orders.{IsHistory, IsNeverReset, SideItem, far_after, far_item, near_after, near_item}
+use Rattle.m2_policy.specs.declared.path.Key.{Key}
+use Rattle.m2_record.specs.RecordNow.{RecordNow}
+use Rattle.m2_scenario.specs.declared.line.Line.{Line}
+use Rattle.m2_scenario.specs.declared.line.Line.TheVariants as line
+use Rattle.m2_scenario.specs.declared.link.Link.{Link}
+use Rattle.m2_scenario.specs.declared.node.Node.{Node}
+use Rattle.m2_scenario.specs.Draft.{DraftLine, down, draft_line}
+use Rattle.m2_script.specs.declared.calls.TurnCalls.{TurnCalls}
+use Rattle.m2_script.specs.Outcome.{all_heard, is_down_at, is_lossless, is_up, left_in, of_node, records_at}
+use Rattle.m2_script.specs.Script.{RunNow, fast_calls, queued_calls}
+pub use Rattle.m2_promise.specs.Started.{IsFirst, IsScriptRun}
+use Rattle.m2_history.specs.WovenLaws.{kept_by}
+use Rattle.m2_history.specs.WovenLink.{IsOrderOf, LinkNow, order_of}
+
+-- ---- what lines post
+
+-- header and bytes of a message that a line posts keep the ranges of their types, as every line of a program does
+abbrev pub PostsOfTypes : Line → Type 0
+PostsOfTypes (line.Post a b message) = IsOfTypes message
+PostsOfTypes _ = Unit {0}
+
+-- some of them, in order, each once; a message is the same whatever numbers the runtime wrote into it
+abbrev pub AreSomeOf : (heard posted : List Content) → Type 0
+AreSomeOf heard posted = IsSublist (map unnumbered heard) (map unnumbered posted)
+
+-- of each key, what y heard from x is some of what x posted to y, in order, each once
+abbrev pub HearsSome : List (List ℕ) → List DraftLine → List (List Heard) → (x y : ℕ) → Type 0
+HearsSome fast lines heard x y = (key : Key) → AreSomeOf (of_key x key (at y heard)) (posts_of x y (at y fast) key lines)
+
+abbrev pub is_lossy : Link → Bool
+is_lossy l = not (is_lossless l)
+
+-- ---- who is marked down
+
+-- a line marks x's record towards y down
+abbrev pub is_down_of : (x y : ℕ) → DraftLine → Bool
+is_down_of x y (down a b) = (a == x) && (b == y)
+is_down_of x y _ = false
+
+-- a record gave its session up, since a number that it needed next was above the greatest
+abbrev pub is_given_up : Entry → Bool
+is_given_up (entry.Down false) = true
+is_given_up _ = false
+
+abbrev pub gave_up_at : {D : Type 0} → RunNow D → (x y : ℕ) → Bool
+gave_up_at s x y = list_any (λ (r : RecordNow). (r.place == y) && list_any is_given_up r.journal) (records_at (slice_get s.cluster.nodes x))
+
+-- it was marked down exactly where a line does so, or it gave up
+abbrev pub IsMarkedSo : {D : Type 0} → List DraftLine → RunNow D → (x y : ℕ) → Type 0
+IsMarkedSo lines s x y = is_down_at s x y ≡ (list_any (is_down_of x y) lines || gave_up_at s x y)
+
+-- ---- turn by turn
+
+-- the turns of the node at place k that were noted had all the calls of its dispatchers
+pub record AreNoted {D : Type 0} (heard : D → List Heard) (s : RunNow D) (k : ℕ) (n : NodeNow D) : Type 0 where
+  pub fast : sum_by (λ (c : TurnCalls). c.fast) (of_node k s.calls) ≡ fast_calls heard n
+  pub queued : sum_by (λ (c : TurnCalls). c.queued) (of_node k s.calls) ≡ queued_calls heard n
+
+-- so it is of each node
+abbrev pub AllNoted : {D : Type 0} → (D → List Heard) → RunNow D → Type 0
+AllNoted {D} heard s = (k : ℕ) (n : NodeNow D) → slice_get s.cluster.nodes k ≡ Some n → AreNoted heard s k n
+
+-- ---- the runtime's own accounts
+
+-- what both nodes of a link were called with
+abbrev pub logs_of : (n m : NodeNow (List Logged)) → BothLogs
+logs_of n m = record { near = logs_in heard_by (logging_in n.center); far = logs_in heard_by (logging_in m.center) }
+
+-- a record of either node of a link, towards each other
+pub record AreRecordsOver (s : RunNow (List Logged)) (l : Link) : Type 0 where
+  pub near : NodeNow (List Logged)
+  pub far : NodeNow (List Logged)
+  pub near_there : slice_get s.cluster.nodes l.a ≡ Some near
+  pub far_there : slice_get s.cluster.nodes l.b ≡ Some far
+  pub a_at : ℕ
+  pub b_at : ℕ
+  pub a : RecordNow
+  pub b : RecordNow
+  pub a_there : slice_get near.center.records a_at ≡ Some a
+  pub b_there : slice_get far.center.records b_at ≡ Some b
+  pub a_towards : a.place ≡ l.b
+  pub b_towards : b.place ≡ l.a
+
+-- the two with the halves that no record of either node took, and what both nodes were called with
+abbrev pub link_between : {s : RunNow (List Logged)} {l : Link} → AreRecordsOver s l → LinkNow
+link_between r = link_in (holding_of r.near.center) (holding_of r.far.center) r.a r.b
+
+abbrev pub logs_between : {s : RunNow (List Logged)} {l : Link} → AreRecordsOver s l → BothLogs
+logs_between r = logs_of r.near r.far
+
+-- what an entry counts as acknowledged the other side has accepted by then
+pub record AreAcknowledged (f g : SideFacts) (order : List SideItem) : Type 0 where
+  pub near : (before more : List SideItem) (number : ℕ) → order ≡ before ++ near_item (item.acked number) ∷ more → number ≤ length (letters (far_after g before).deliveries)
+  pub far : (before more : List SideItem) (number : ℕ) → order ≡ before ++ far_item (item.acked number) ∷ more → number ≤ length (letters (near_after f before).deliveries)
+
+-- Two lossless sides that weren't marked down, by both journals in an order: they are a history in which nothing was reset, and a run
+-- of the ordered channel; what was dispatched is the first of what was posted; what was acknowledged was accepted.
+pub record AreUpIn (l : LinkNow) (logs : BothLogs) (order : List SideItem) : Type 0 where
+  pub history : IsHistory (l.facts true) (l.facts false) order
+  pub never_reset : IsNeverReset (l.facts true) (l.facts false) order
+  pub observed : AreBrought (l.facts true) (l.facts false) order logs.near logs.far
+  pub delivered : AreDelivered (l.facts true) (l.facts false) (kept_by l true) (kept_by l false) logs.near logs.far
+  pub acknowledged : AreAcknowledged (l.facts true) (l.facts false) order
+
+-- Two lossless sides, whether marked down or not: what is observed is a run of the ordered channel, in which no reset comes before a
+-- mark, and all that came before it is as above.
+abbrev pub AreMarkedIn : LinkNow → BothLogs → List SideItem → Type 0
+AreMarkedIn l logs order = AreBroughtToAMark (l.facts true) (l.facts false) order logs.near logs.far
+
+-- Both journals stand whole in an order of all that was done on a link, and in it they are as its policies say.
+pub record IsAccountedBy (s : RunNow (List Logged)) (l : Link) (x : LinkNow) (logs : BothLogs) (order : List ℕ) : Type 0 where
+  pub is_order : IsOrderOf x order
+  pub journals : AreOfOrder (entries_of (order_of x order)) (kept_by x true) (kept_by x false)
+  pub up : is_up s l ≡ true → AreUpIn x logs (entries_of (order_of x order))
+  pub lossless : is_lossless l ≡ true → AreMarkedIn x logs (entries_of (order_of x order))
+  pub lossy : is_lossless l ≡ false → ComeInOrderOn x logs
+
+pub record IsAccountedOver (s : RunNow (List Logged)) (l : Link) : Type 0 where
+  pub records : AreRecordsOver s l
+  pub order : List ℕ
+  pub accounted : IsAccountedBy s l (link_between records) (logs_between records) order
+  pub near_acknowledged : is_up s l ≡ true → HasAccepted records.a records.b
+  pub far_acknowledged : is_up s l ≡ true → HasAccepted records.b records.a
+
+-- ---- of a script's run
+
+-- Over each link that is up: of each key what either node heard from the other is a prefix of what the other's lines post to it, in
+-- order, each once, and neither heard a reset by the other. With the posts that are left these are all posts over such links, and where
+-- none is left they are all. Over a lossy link it is some of the posts, in order, each once. All that a node heard is of nodes that
+-- links join with it, in turns that were noted. A record is marked down exactly where a line does so, or it gave up. And both records
+-- of each link say so.
+pub record KeepsPromise (nodes : List Node) (links : List Link) (lines : List Line) (s : RunNow (List Logged)) : Type 0 where
+  pub prefixes : OverEach (is_up s) links (HearsPrefix (map fast_of nodes) (map draft_line lines) (all_heard heard_by s))
+  pub whole : left_in heard_by links s ≡ 0 → OverEach (is_up s) links (HearsWhole (map fast_of nodes) (map draft_line lines) (all_heard heard_by s))
+  pub no_reset : OverEach (is_up s) links (HearsNoReset (all_heard heard_by s))
+  pub counted : AreCounted (is_up s) links (map draft_line lines) (all_heard heard_by s) (left_in heard_by links s)
+  pub some : OverEach is_lossy links (HearsSome (map fast_of nodes) (map draft_line lines) (all_heard heard_by s))
+  pub joined : AreOfJoined (length nodes) links (all_heard heard_by s)
+  pub noted : AllNoted heard_by s
+  pub marked : AllByRecursion (λ (l : Link). IsMarkedSo (map draft_line lines) s l.a l.b × IsMarkedSo (map draft_line lines) s l.b l.a) links
+  pub accounts : AllByRecursion (IsAccountedOver s) links

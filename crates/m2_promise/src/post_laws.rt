@@ -1,0 +1,62 @@
+//! What is promised of a script's run. These functions do nothing: each stands for the law that its contract names.
+
+ghost use Rattle.m2_promise.specs.PostLaws as laws;
+
+use m2_channel::{
+    acknowledged_is_accepted, logs_are_logs_of_what_is_handed_on, observed_is_a_run,
+    observed_is_a_run_to_a_mark,
+};
+use crate::{links_are_delivered, links_have_orders, runs_have_links};
+use m2_dispatch::Dispatcher;
+use m2_fabric::{End, Port};
+use m2_bytes_fit::{bytes_give_fits, trails_tell_each_point};
+use m2_history::{counts_are_of_the_items, orders_give_points};
+use crate::script_run_is_kept;
+use m2_weave::{all_read_was_written, asks_come_first};
+use m2_history::{woven_bytes_fit, woven_comes_in_order, woven_is_delivered, woven_is_never_reset};
+
+/// Deeds note the turns in which a node's dispatchers are called, so where all calls were noted before them they are
+/// behind them.
+pub fn deeds_note_calls<D: Dispatcher, E: End>()
+    ensures { laws.DeedsNoteCalls D E }
+{}
+
+/// So all calls that dispatchers had in a script's run were noted, turn by turn.
+pub fn calls_are_noted<P: Port>()
+    ensures { laws.CallsAreNoted P.End }
+{}
+
+/// Where a run keeps what holds between any two deeds, each record's plan is what the lines of a valid scenario
+/// planned for it, and all calls were noted, the promise is kept.
+pub fn kept_is_promised()
+    ensures { laws.KeptIsPromised }
+{
+    runs_have_links();
+    links_have_orders();
+    links_are_delivered();
+    all_read_was_written();
+    asks_come_first();
+    orders_give_points();
+    trails_tell_each_point();
+    woven_bytes_fit();
+    bytes_give_fits();
+    woven_is_never_reset();
+    woven_is_delivered();
+    woven_comes_in_order();
+    observed_is_a_run();
+    observed_is_a_run_to_a_mark();
+    acknowledged_is_accepted();
+    counts_are_of_the_items();
+    logs_are_logs_of_what_is_handed_on();
+}
+
+/// So wherever the lines of a valid scenario lead, the promise is kept: over each link that is up, of each key what
+/// either node heard from the other is a prefix of what the other's lines post to it, in order, each once, and all of it
+/// where nothing is left.
+pub fn promises_are_kept<P: Port>()
+    ensures { laws.PromisesAreKept P.End }
+{
+    kept_is_promised();
+    calls_are_noted::<P>();
+    script_run_is_kept::<P>();
+}

@@ -1,7 +1,0 @@
-use Rattle.std.proofs.Common.{◌≤◌}
-use Rattle.m2_record_pair.specs.PairNow.{other, side_at}
-use Rattle.m2_record_pair.specs.SideNow.{OnlyAccepts}
-use Rattle.m2_record_pair.proofs.pair.Pair.turn.Given as goal
-
-abbrev pub invariant-steps : goal.invariant-steps
-invariant-steps l = (l.moved ≤ l.most) × OnlyAccepts (side_at (other l.at) l.initial.self) (side_at (other l.at) l.self)

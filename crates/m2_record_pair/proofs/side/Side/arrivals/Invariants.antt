@@ -1,5 +1,0 @@
-use Rattle.m2_record_pair.specs.SideNow.{OnlyArrives}
-use Rattle.m2_record_pair.proofs.side.Side.arrivals.Given as goal
-
-abbrev pub invariant-halves : goal.invariant-halves
-invariant-halves l = OnlyArrives l.initial.self l.self

@@ -1,5 +1,0 @@
-use Rattle.m2_record_pair.specs.SideNow.{OnlyJudges}
-use Rattle.m2_record_pair.proofs.side.Side.half_goes.Given as goal
-
-abbrev pub invariant-asks : goal.invariant-asks
-invariant-asks l = OnlyJudges l.initial.self l.self

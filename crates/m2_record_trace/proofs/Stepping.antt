@@ -1,0 +1,31 @@
+-- A step of a side for which there is no room: nothing is done.
+use Rattle.std.proofs.Common.{◌≡◌, ℕ, ◌-◌, Option, Some, None, refl, sym, subst, arith, append-nil}
+use Rattle.m2_core.specs.Granting.{Throttled}
+use Rattle.m2_feed.specs.FeedNow.{FeedNow}
+use Rattle.m2_record.specs.declared.stepped.Stepped.TheVariants as stepped
+use Rattle.m2_record.specs.RecordNow.{RecordNow}
+use Rattle.m2_record.specs.Stepping.{Counted, FeedStays, NothingDone}
+use Rattle.m2_record_trace.specs.declared.step.SideStep.TheVariants as side
+use Rattle.m2_record_trace.specs.SideNow.{SideNow}
+use Rattle.m2_record_trace.specs.Steps.{TakesStep}
+
+feed_stays : (o : Option FeedNow) → FeedStays o o
+feed_stays (Some v) = refl
+feed_stays None = tt
+
+nothing_done : (r : RecordNow) → NothingDone r r
+nothing_done r = record { feed = feed_stays r.core.live.feed; only = refl }
+
+pub no_step : (now : ℕ) (bytes : Throttled) (numbers : Counted) (s new : SideNow) → bytes.before.word ≡ s.out → bytes.behind.word ≡ s.out → new ≡ s → TakesStep side.NoMemory now s new
+no_step now bytes numbers s new before behind same =
+    let out : bytes.behind.word - 0 ≡ s.out = omega (arith, behind) in
+    subst (TakesStep side.NoMemory now s) (sym same) (record {
+      stepped = stepped.NoMemory;
+      worked = record { now = now; answer = stepped.NoMemory; bytes = bytes; numbers = numbers };
+      moment = refl;
+      same = refl;
+      answers = refl;
+      steps = nothing_done s.kept;
+      before = before;
+      only = rw (out, append-nil s.log, append-nil s.fast) refl;
+    })

@@ -1,9 +1,0 @@
-pub mod Words
-pub mod Telling
-pub mod Cause
-pub mod Ends
-pub mod Entries
-pub mod Dispatches
-pub mod Marks
-pub mod Sockets
-pub mod News

@@ -1,0 +1,15 @@
+//! Why a text is no schedule.
+
+use m2_scenario::Kind;
+use thiserror::Error;
+
+/// Why a text is no schedule.
+#[derive(Clone, Copy, Debug, PartialEq, Eq, Error)]
+pub enum BadSchedule {
+    /// The first bad line, counted from 1.
+    #[error("line {line} is bad")]
+    BadLine { line: u32, kind: Kind },
+    /// Memory ran out.
+    #[error("no memory")]
+    NoMemory,
+}

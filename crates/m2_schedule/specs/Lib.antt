@@ -1,4 +1,0 @@
-pub mod Schedule
-pub mod Verb
-pub mod Lines
-pub mod Reading

@@ -1,5 +1,0 @@
-use Rattle.m2_mailbox.specs.Passes.{IsGetPassOf}
-use Rattle.m2_shared_tests.proofs.threads.take_all.Given as goal
-
-abbrev pub invariant-loop : goal.invariant-loop
-invariant-loop g l = IsGetPassOf l.inbox l.pass

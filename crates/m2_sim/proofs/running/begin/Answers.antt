@@ -1,9 +1,0 @@
--- The nodes listen apart.
-use Rattle.std.proofs.Common.{List, sym, subst}
-use Rattle.m2_addr.specs.declared.addr.Addr.{Addr}
-use Rattle.m2_nodes.proofs.Apart.{addresses_apart}
-use Rattle.m2_sim_net.specs.SimFabric as net
-use Rattle.m2_sim.proofs.running.begin.Goals as goal
-
-pub new-requires : goal.new-requires
-new-requires c = subst (λ (addrs : List Addr). net.AreApart addrs) (sym c.in_ok-addrs.ensures) (addresses_apart c.args.nodes.now c.requires.apart)

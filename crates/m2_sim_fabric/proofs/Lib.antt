@@ -1,3 +1,0 @@
-pub mod Bounds
-pub mod Turns
-pub mod Waits

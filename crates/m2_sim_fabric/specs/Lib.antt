@@ -1,4 +1,0 @@
-pub mod CutEnd
-pub mod CutPort
-pub mod SimEnd
-pub mod SimPort

@@ -1,5 +1,0 @@
-use Rattle.std.proofs.Common.{length}
-use Rattle.m2_sim_net.proofs.pair.+add.Given as goal
-
-abbrev pub decreases-add : goal.decreases-add
-decreases-add l = length l.pairs.now

@@ -1,5 +1,0 @@
-use Rattle.m2_stages.proofs.Known.{others_known}
-use Rattle.m2_stages.proofs.laws.judging_keeps_others.Goals as goal
-
-pub returns : goal.returns
-returns g c = others_known

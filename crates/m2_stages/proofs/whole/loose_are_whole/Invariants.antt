@@ -1,8 +1,0 @@
-use Rattle.std.specs.Prelude.{take}
-use Rattle.std.specs.List.{All}
-use Rattle.m2_stages.specs.Halves.{IsWhole}
-use Rattle.m2_stages.proofs.whole.loose_are_whole.Given as goal
-
--- so far
-abbrev pub invariant-halves : goal.invariant-halves
-invariant-halves g l = All IsWhole (take l.half-index l.loose)

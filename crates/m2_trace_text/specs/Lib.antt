@@ -1,4 +1,0 @@
-pub mod Words
-pub mod Entries
-pub mod Sides
-pub mod Ends

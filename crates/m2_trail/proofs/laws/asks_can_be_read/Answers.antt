@@ -1,6 +1,0 @@
--- The law.
-use Rattle.m2_trail.proofs.Readable.{asks_can_be_read}
-use Rattle.m2_trail.proofs.laws.asks_can_be_read.Goals as goal
-
-pub returns : goal.returns
-returns c = asks_can_be_read

@@ -1,4 +1,0 @@
-pub mod Sides
-pub mod Records
-pub mod Told
-pub mod Laws

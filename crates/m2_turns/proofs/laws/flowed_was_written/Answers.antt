@@ -1,6 +1,0 @@
--- Byte by byte.
-use Rattle.m2_turns.proofs.Flowed.{flowed_was_written}
-use Rattle.m2_turns.proofs.laws.flowed_was_written.Goals as goal
-
-pub returns : goal.returns
-returns c = flowed_was_written

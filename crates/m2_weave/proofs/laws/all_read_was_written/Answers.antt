@@ -1,6 +1,0 @@
--- The lemma.
-use Rattle.m2_weave.proofs.Written.{all_read}
-use Rattle.m2_weave.proofs.laws.all_read_was_written.Goals as goal
-
-pub returns : goal.returns
-returns c = all_read

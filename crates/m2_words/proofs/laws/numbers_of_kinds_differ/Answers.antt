@@ -1,5 +1,0 @@
-use Rattle.m2_words.proofs.KindNumbers.{numbers_differ}
-use Rattle.m2_words.proofs.laws.numbers_of_kinds_differ.Goals as goal
-
-pub returns : goal.returns
-returns c = numbers_differ

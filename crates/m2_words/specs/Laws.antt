@@ -1,8 +1,0 @@
--- What holds of kinds.
-use Rattle.std.specs.Prelude.{◌≡◌}
-use Rattle.m2_words.specs.declared.kind.Kind.{Kind}
-use Rattle.m2_words.specs.Kind.{number_of_kind}
-
--- a number names one kind
-abbrev pub NumbersDiffer : Type 0
-NumbersDiffer = (j k : Kind) → number_of_kind j ≡ number_of_kind k → j ≡ k

@@ -1,9 +1,0 @@
-//! What the definitions promise. These functions do nothing: each stands for the law that its contract
-//! names.
-
-ghost use Rattle.m2_words.specs.Laws.{NumbersDiffer};
-
-/// No two kinds have one number.
-pub fn numbers_of_kinds_differ()
-    ensures { NumbersDiffer }
-{}

@@ -1,5 +1,0 @@
-use Rattle.m2_woven.proofs.Whole.{records_are_sides}
-use Rattle.m2_woven.proofs.laws.records_are_sides.Goals as goal
-
-pub returns : goal.returns
-returns c = records_are_sides

@@ -1,5 +1,0 @@
-use Rattle.m2_woven.proofs.Whole.{bytes_fit_throughout}
-use Rattle.m2_woven.proofs.laws.woven_bytes_fit.Goals as goal
-
-pub returns : goal.returns
-returns c = bytes_fit_throughout c.all_read_was_written.ensures c.asks_come_first.ensures c.orders_give_points.ensures c.trails_tell_each_point.ensures
