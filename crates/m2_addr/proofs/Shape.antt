@@ -15,11 +15,9 @@ use Rattle.m2_addr.specs.Grammar.{IsBytes, ◌▹◌, IsByte, IsNumber, IsText, 
 use Rattle.m2_addr.specs.Addr.{Shape, IsShape, TakesShape, TakesAddress, IsSound, IsWellFormed, bare, any_text, head_text, text_of, is_ipv4, ipv4_of, seen, IsAddress, head_at, socket_at, body_at, body_of, shape_at, address_at, ipv4_at}
 use Rattle.m2_addr.specs.Outcome.{Fails, GivesFront}
 use Rattle.m2_addr.proofs.Exact.{bind_ok, ok_is, Took, IsExact, wide32, number_exact, byte_exact, prefix_exact, bind_exact, checked_exact, marked_exact, seq_exact, image_exact, same_exact}
+use Rattle.m2_lemmas.proofs.Numbers.{tested_isnt_zero, not_zero_is_tested}
 
 -- ---- tests
-
-is_some_number : (n : ℕ) → not (eqb n 0) ≡ true → n ≢ 0
-is_some_number n e is = let t = eq-eqb n 0 is in absurd (cc (e, t))
 
 not_one : (n : ℕ) → not (eqb n 1) ≡ true → n ≢ 1
 not_one n e is = let t = eq-eqb n 1 is in absurd (cc (e, t))
@@ -54,9 +52,6 @@ bounds n e = grind (arith, nat_tests)
 tests_bounds : (n : ℕ) → 12 ≤ n → n ≤ 4096 → (leb 12 n && leb n 4096) ≡ true
 tests_bounds n low high = grind (arith, nat_tests)
 
-zero_fails : (n : ℕ) → n ≢ 0 → not (eqb n 0) ≡ true
-zero_fails n h = rw (ne_eqb n 0 h) refl
-
 one_fails : (n : ℕ) → n ≢ 1 → not (eqb n 1) ≡ true
 one_fails n h = rw (ne_eqb n 1 h) refl
 
@@ -64,11 +59,11 @@ one_fails n h = rw (ne_eqb n 1 h) refl
 head_is : (h : ℕ × ℕ) (text : List ℕ) → Head h text → (text ≡ 1 ∷ h.0 ∷ 1 ∷ to_le_bytes w32 h.1) × (h.0 ≢ 0) × (h.0 < 256) × (12 ≤ h.1) × (h.1 ≤ 4096)
 head_is h text (back, (x, y, p, (z, q, e3), e2), e1) =
     let b = bounds h.1 q.1 in
-    (e1 ∙ ap (λ (t : List ℕ). 1 ∷ t) (e2 ∙ ap (λ (t : List ℕ). t ++ y) p.0.0) ∙ ap (λ (t : List ℕ). 1 ∷ h.0 ∷ t) (e3 ∙ ap (λ (t : List ℕ). 1 ∷ t) q.0.0), is_some_number h.0 p.1, p.0.1, b.0, b.1)
+    (e1 ∙ ap (λ (t : List ℕ). 1 ∷ t) (e2 ∙ ap (λ (t : List ℕ). t ++ y) p.0.0) ∙ ap (λ (t : List ℕ). 1 ∷ h.0 ∷ t) (e3 ∙ ap (λ (t : List ℕ). 1 ∷ t) q.0.0), tested_isnt_zero h.0 p.1, p.0.1, b.0, b.1)
 
 text_head : (version length : ℕ) → version ≢ 0 → version < 256 → 12 ≤ length → length ≤ 4096 → Head (version, length) (1 ∷ version ∷ 1 ∷ to_le_bytes w32 length)
 text_head version length some small low high =
-    (version ∷ 1 ∷ to_le_bytes w32 length, (version ∷ [], 1 ∷ to_le_bytes w32 length, ((refl, small), zero_fails version some), (to_le_bytes w32 length, ((refl, omega arith), tests_bounds length low high), refl), refl), refl)
+    (version ∷ 1 ∷ to_le_bytes w32 length, (version ∷ [], 1 ∷ to_le_bytes w32 length, ((refl, small), not_zero_is_tested version some), (to_le_bytes w32 length, ((refl, omega arith), tests_bounds length low high), refl), refl), refl)
 
 body_text : (b : ℕ × (ℕ × List ℕ)) (text more : List ℕ) → Body b text → (text ++ more ≡ to_le_bytes w32 b.0 ++ (to_le_bytes w32 b.1.0 ++ (to_le_bytes w32 (length b.1.1) ++ (b.1.1 ++ more)))) × (b.0 < 2 ^ 32) × (b.1.0 < 2 ^ 32) × (length b.1.1 ≢ 1)
 body_text b text more (x1, y1, p1, (x2, y2, p2, (n, (x3, y3, p3, p4, e3)), e2), e1) =

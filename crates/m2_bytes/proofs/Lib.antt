@@ -1,2 +1,3 @@
 mod Decimals
 mod HexText
+pub mod Appending

@@ -40,8 +40,8 @@ use Rattle.m2_never_reset.specs.Frames.{ask_of}
 use Rattle.m2_trail.specs.Asks.{facts_of_ask}
 use Rattle.m2_bytes_fit.specs.Texts.{texts_of}
 use Rattle.m2_bytes_fit.proofs.Fronts.{is_judged}
-use Rattle.m2_bytes_fit.proofs.Lists.{all-back, nothing_before}
 use Rattle.m2_bytes_fit.proofs.Says.{CanBeWritten, part, text_made, writable}
+use Rattle.m2_lemmas.proofs.Lists.{all_back, empty_front}
 
 -- an ask, as the frame that asks it
 abbrev pub as_asked : Ask → Option crossing.Ask
@@ -230,7 +230,7 @@ runs_so : (f : SideFacts) (ws : List OutFrame) (es : List Event) (a b : Standing
 runs_so f ws [] a b k i r = record { used = []; left = ws; all = refl; asks = refl; text = refl; stands = subst (λ (s : Standing). StandsBefore f s ws) r i }
 runs_so f ws (e ∷ es) a b k i (m, g, r) =
     let one = step_so f ws e a m k i g in
-    let more = runs_so f one.left es m b (all-back (CanBeWritten f) one.used one.left (subst (AllByRecursion (CanBeWritten f)) one.all k)) one.stands r in
+    let more = runs_so f one.left es m b (all_back (CanBeWritten f) one.used one.left (subst (AllByRecursion (CanBeWritten f)) one.all k)) one.stands r in
     let first_asks : asks_of (e ∷ []) ≡ asks_in e = alone (asks_in e) in
     let first_text : text_of (e ∷ []) ≡ text_in e = alone (text_in e) in
     let first_replies : replies_of (e ∷ []) ≡ replies_in e = alone (replies_in e) in
@@ -339,6 +339,6 @@ accepts f own seen ws bytes more x s small ranges k e r given =
     by_way (inr (es, is_all, on)) =
         inl (record {
           text = (text_of es, sym first_text ∙ ap text_of is_all ∙ flat_map-append text_in r.events es ∙ ap (λ l. l ++ text_of es) r.text);
-          asks = sym r.asks ∙ nothing_before (asks_of r.events) (asks_of es) (sym (flat_map-append asks_in r.events es) ∙ ap asks_of (sym is_all) ∙ first_asks);
-          replies = sym r.replies ∙ nothing_before (replies_of r.events) (replies_of es) (sym (flat_map-append replies_in r.events es) ∙ ap replies_of (sym is_all) ∙ first_replies);
+          asks = sym r.asks ∙ empty_front (asks_of r.events) (asks_of es) (sym (flat_map-append asks_in r.events es) ∙ ap asks_of (sym is_all) ∙ first_asks);
+          replies = sym r.replies ∙ empty_front (replies_of r.events) (replies_of es) (sym (flat_map-append replies_in r.events es) ∙ ap replies_of (sym is_all) ∙ first_replies);
         })

@@ -30,7 +30,6 @@ use Rattle.m2_never_reset.specs.LinkOf.{judged_count}
 use Rattle.m2_never_reset.specs.Paired.{IsAccepted, FeedIsPaired, beside, Paired}
 use Rattle.m2_never_reset.proofs.Feeds.{hears_hears, opened_hears}
 use Rattle.m2_never_reset.proofs.Sent.{asks_same, asks_elsewhere}
-use Rattle.m2_never_reset.proofs.Sockets.{differ, same_refl, turned_same}
 use Rattle.m2_bytes_fit.proofs.Entries.{acceptance_named, posts_less, heeds_less, accepts_less}
 use Rattle.m2_bytes_fit.proofs.Hands.{ready_apart}
 use Rattle.m2_bytes_fit.proofs.Hears.{NoAskBehind}
@@ -38,13 +37,15 @@ use Rattle.m2_bytes_fit.proofs.Judges.{replies_no_asks, judged_here}
 use Rattle.m2_bytes_fit.proofs.Less.{Less, FeedLess, less_top, tells_less, tells_if_less}
 use Rattle.m2_bytes_fit.proofs.Lists.{none_not_some}
 use Rattle.m2_bytes_fit.proofs.Says.{NoAsk}
+use Rattle.m2_lemmas.proofs.Booleans.{from_false_true}
+use Rattle.m2_fabric.proofs.Sockets.{same_refl, same_turned}
 
 -- ---- which asks are sent
 
 no_ask_of : (w : OutFrame) → is_ask w ≡ false → ask_of w ≡ None
 no_ask_of out.greeting e = refl
-no_ask_of (out.ident c g) e = differ (sym e)
-no_ask_of (out.reconnect p q r s t) e = differ (sym e)
+no_ask_of (out.ident c g) e = from_false_true (sym e)
+no_ask_of (out.reconnect p q r s t) e = from_false_true (sym e)
 no_ask_of (out.server_ident c g) e = refl
 no_ask_of (out.reconnect_ok n) e = refl
 no_ask_of (out.reset b) e = refl
@@ -76,8 +77,8 @@ unnamed_asks : (w : OutFrame) → is_unnamed w ≡ true → ask_of w ≡ None
 unnamed_asks (out.acknowledgement n) e = refl
 unnamed_asks (out.keepalive_answer n) e = refl
 unnamed_asks out.greeting e = refl
-unnamed_asks (out.ident c g) e = differ e
-unnamed_asks (out.reconnect p q r s t) e = differ e
+unnamed_asks (out.ident c g) e = from_false_true e
+unnamed_asks (out.reconnect p q r s t) e = from_false_true e
 unnamed_asks (out.server_ident c g) e = refl
 unnamed_asks (out.reconnect_ok n) e = refl
 unnamed_asks (out.reset b) e = refl
@@ -370,8 +371,8 @@ near_behind f i a b up paired h = by_names (names_after f i a up)
   where
     stays : (o p : Option Feed) → o ≡ a.feed → GoOn a (after f i a) → NamesLess o p → IfFed p (λ d. d.opened ≡ false → length (asks_on d.socket b.sent) ≤ length (judged_on d.socket (after f i a).judgements))
     stays o None e g n = tt
-    stays None (Some d) e g n = λ q. differ (sym q ∙ n)
-    stays (Some c) (Some d) e g (inl n) = λ q. differ (sym q ∙ n)
+    stays None (Some d) e g n = λ q. from_false_true (sym q ∙ n)
+    stays (Some c) (Some d) e g (inl n) = λ q. from_false_true (sym q ∙ n)
     stays (Some c) (Some d) e g (inr n) = λ q.
         let was : IfFed (Some c) (λ d. d.opened ≡ false → length (asks_on d.socket b.sent) ≤ length (judged_on d.socket a.judgements)) = subst (λ o. IfFed o (λ d. d.opened ≡ false → length (asks_on d.socket b.sent) ≤ length (judged_on d.socket a.judgements))) (sym e) h in
         let old = was (sym n.1 ∙ q) in
@@ -426,7 +427,7 @@ far_behind g i a b up lawful paired h = at a.feed refl h
         by_asks q (inl same) = subst (λ l. length l ≤ length (judged_on d.socket a.judgements)) (sym same) (k q)
         by_asks q (inr asks) =
             let its : FeedIsPaired (beside b a) asks.feed = subst (λ o. IfFed o (FeedIsPaired (beside b a))) asks.there paired.far.feed in
-            absurd (never asks.feed asks.phase its (opener asks.feed asks.phase its asks.feed.opened refl) (turned_same asks.feed.socket d.socket ∙ asks.socket))
+            absurd (never asks.feed asks.phase its (opener asks.feed asks.phase its asks.feed.opened refl) (same_turned asks.feed.socket d.socket ∙ asks.socket))
           where
             opener : (x : Feed) → b.session.phase ≡ phase.Connecting → FeedIsPaired (beside b a) x → (t : Bool) → x.opened ≡ t → x.opened ≡ true
             opener x p f true o = o
@@ -436,4 +437,4 @@ far_behind g i a b up lawful paired h = at a.feed refl h
             never x p f o same =
                 let accepted : IfFed (Some d) (λ y. same_socket y.socket x.socket ≡ true → IsAccepted b.session.phase (to_come x a.sent)) =
                 subst (λ z. IfFed z (λ y. same_socket y.socket x.socket ≡ true → IsAccepted b.session.phase (to_come x a.sent))) e (f.accepted o) in
-                subst (λ z. IsAccepted z (to_come x a.sent)) p (accepted (turned_same d.socket x.socket ∙ same))
+                subst (λ z. IsAccepted z (to_come x a.sent)) p (accepted (same_turned d.socket x.socket ∙ same))

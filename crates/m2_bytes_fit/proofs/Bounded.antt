@@ -44,9 +44,9 @@ use Rattle.m2_journal.specs.State.{PartText, Feed, State}
 use Rattle.m2_journal.specs.Steps as steps
 use Rattle.m2_journal.specs.Steps.{accepts, after, answers, breaks, composes, discards, event_heard, event_of, forgets, has_effects, is_on, is_waiting, notes, on_feed_at, posts, puts, puts_on, queues, reads, sends, sends_late, sets_back, takes_answer, takes_answer_if, takes_socket, tells, tells_if, tells_of_reset, where_true, with_feed, writes_message}
 use Rattle.m2_never_reset.specs.Fits.{Says, IsRefusal, AreSaid}
-use Rattle.m2_never_reset.proofs.Sockets.{differ}
 use Rattle.m2_bytes_fit.specs.Texts.{KeepsFields, CanBePosted}
-use Rattle.m2_bytes_fit.proofs.Lists.{all-both}
+use Rattle.m2_lemmas.proofs.Booleans.{from_false_true}
+use Rattle.m2_lemmas.proofs.Lists.{all_append}
 
 -- ---- the session
 
@@ -74,7 +74,7 @@ chosen c cookie h k some = at (c == 0) refl
   where
     at : (t : Bool) → (c == 0) ≡ t → ((if not t then c else cookie) < 2 ^ 64) × ((if not t then c else cookie) ≢ 0)
     at true e = (k, some)
-    at false e = (h, λ z. differ (sym e ∙ eq-eqb c 0 z))
+    at false e = (h, λ z. from_false_true (sym e ∙ eq-eqb c 0 z))
 
 rests : (b : Bool) → (if b then phase.Standby else phase.Wait) ≡ phase.IdentSent → ⊥
 rests true e = cc
@@ -175,7 +175,7 @@ next_bounded q h = at (nat_lt q.cursor (length q.kept))
   where
     at : (t : Bool) → QueueIsBounded (if t then q else record q { kept = q.kept ++ take 1 q.waiting; waiting = drop 1 q.waiting })
     at true = h
-    at false = record { kept = all-both KeepsFields q.kept (take 1 q.waiting) h.kept (all-take 1 q.waiting h.waiting); waiting = all-drop 1 q.waiting h.waiting }
+    at false = record { kept = all_append KeepsFields q.kept (take 1 q.waiting) h.kept (all-take 1 q.waiting h.waiting); waiting = all-drop 1 q.waiting h.waiting }
 
 sent_bounded : (q : Queue) → QueueIsBounded q → QueueIsBounded (after_sent q)
 sent_bounded q h = at q.keeps
@@ -306,7 +306,7 @@ texts_none f s d u h = at (length d.texts == 0)
     none = ap (λ l. map (λ k. begun f (out.keepalive_answer k)) (option_to_list (slice_get l d.answered))) (u (next_place s.last d))
 
     some : (b : Bool) → AreNoStamps (if b then acknowledgements f s d ++ keepalive_answers f s d else [])
-    some true = all-both (λ t. IsNoStamp t.frame) (acknowledgements f s d) (keepalive_answers f s d) (owed (s.owes && not f.policy.lossy)) (subst AreNoStamps (sym none) tt)
+    some true = all_append (λ t. IsNoStamp t.frame) (acknowledgements f s d) (keepalive_answers f s d) (owed (s.owes && not f.policy.lossy)) (subst AreNoStamps (sym none) tt)
     some false = tt
 
     at : (b : Bool) → AreNoStamps (if b then unnamed f s d else d.texts)

@@ -49,7 +49,7 @@ use Rattle.m2_never_reset.specs.Paired.{MayBeWritten}
 use Rattle.m2_never_reset.proofs.Answered.{next_of}
 use Rattle.m2_never_reset.proofs.Judging.{asked_more}
 use Rattle.m2_never_reset.proofs.Read.{by_answer, is_ident}
-use Rattle.m2_never_reset.proofs.Sockets.{differ, at_among, among-last}
+use Rattle.m2_never_reset.proofs.Sockets.{at_among}
 use Rattle.m2_never_reset.proofs.Stable.{judgement, judged_after}
 use Rattle.m2_never_reset.proofs.Written.{AreWritten, are_narrowed, found, texts_fit}
 use Rattle.m2_bytes_fit.specs.Halves.{KeepsRanges}
@@ -58,7 +58,9 @@ use Rattle.m2_bytes_fit.proofs.Bounded.{SessionIsBounded, EventIsBounded, RestIs
 use Rattle.m2_bytes_fit.proofs.Entries.{posts_less, heeds_less, accepts_less}
 use Rattle.m2_bytes_fit.proofs.Formats.{ack_keeps, client_ident_keeps, drawn_below, drawn_some, numbered_keeps, reconnect_keeps, reconnect_ok_keeps, reset_keeps, retry_keeps, retry_global_keeps, server_ident_keeps, wait_keeps}
 use Rattle.m2_bytes_fit.proofs.Less.{tells_less, tells_if_less}
-use Rattle.m2_bytes_fit.proofs.Lists.{all-both}
+use Rattle.m2_lemmas.proofs.Booleans.{from_false_true}
+use Rattle.m2_fabric.proofs.Sockets.{among_last}
+use Rattle.m2_lemmas.proofs.Lists.{all_append}
 
 -- a node of a lossless link, whose facts keep the ranges of their types
 pub record IsNode (f : SideFacts) : Type 0 where
@@ -92,13 +94,13 @@ on_socket f k [] h = tt
 on_socket f k (w ∷ ws) h = (h.0, on_socket f k ws h.1)
 
 sends_sent : (f : SideFacts) (k : SocketId) (ws : List OutFrame) (s : State) → AllByRecursion (IsComposed f) ws → AreComposed f s.sent → AreComposed f (sends k ws s).sent
-sends_sent f k ws s new h = all-both (λ x. IsComposed f x.frame) s.sent _ h (on_socket f k ws new)
+sends_sent f k ws s new h = all_append (λ x. IsComposed f x.frame) s.sent _ h (on_socket f k ws new)
 
 composes_sent : (f : SideFacts) (w : OutFrame) (s : State) → IsComposed f w → AreComposed f s.sent → AreComposed f (composes f w s).sent
 composes_sent f w s new h = at s.feed
   where
     at : (o : Option Feed) → AreComposed f (composes f w (record s { feed = o })).sent
-    at (Some d) = all-both (λ x. IsComposed f x.frame) s.sent _ h (new, tt)
+    at (Some d) = all_append (λ x. IsComposed f x.frame) s.sent _ h (new, tt)
     at None = h
 
 -- ---- what no entry names
@@ -106,16 +108,16 @@ composes_sent f w s new h = at s.feed
 late_composed : (f : SideFacts) (p : Phase) (last : ℕ) (w : OutFrame) → last ≤ GREATEST_NUMBER → is_unnamed w ≡ true → MayBeWritten p last w → IsNoStamp w → IsComposed f w
 late_composed f p last (out.acknowledgement n) l e m k = (ack_keeps n (omega (arith, m.1, l)), tt)
 late_composed f p last (out.keepalive_answer s) l e m k = absurd k
-late_composed f p last out.greeting l e m k = differ e
-late_composed f p last (out.ident c g) l e m k = differ e
-late_composed f p last (out.reconnect c s g n v) l e m k = differ e
-late_composed f p last (out.server_ident c g) l e m k = differ e
-late_composed f p last (out.reconnect_ok n) l e m k = differ e
-late_composed f p last (out.reset full) l e m k = differ e
-late_composed f p last (out.retry n) l e m k = differ e
-late_composed f p last (out.retry_global n) l e m k = differ e
-late_composed f p last out.wait l e m k = differ e
-late_composed f p last (out.message n a m) l e w k = differ e
+late_composed f p last out.greeting l e m k = from_false_true e
+late_composed f p last (out.ident c g) l e m k = from_false_true e
+late_composed f p last (out.reconnect c s g n v) l e m k = from_false_true e
+late_composed f p last (out.server_ident c g) l e m k = from_false_true e
+late_composed f p last (out.reconnect_ok n) l e m k = from_false_true e
+late_composed f p last (out.reset full) l e m k = from_false_true e
+late_composed f p last (out.retry n) l e m k = from_false_true e
+late_composed f p last (out.retry_global n) l e m k = from_false_true e
+late_composed f p last out.wait l e m k = from_false_true e
+late_composed f p last (out.message n a m) l e w k = from_false_true e
 
 puts_sent : (f : SideFacts) (bytes : List ℕ) (d : Feed) (s : State) → s.last ≤ GREATEST_NUMBER → AreWritten s.session.phase s.last d.texts → IsUnasked d → AreNoStamps d.texts →
     AreComposed f s.sent → AreComposed f (puts f bytes d s).sent
@@ -132,7 +134,7 @@ puts_sent f bytes d s last written unasked none h = at (finished all) refl (fini
     at (Some t) e n = named (is_unnamed t.frame) refl
       where
         named : (b : Bool) → is_unnamed t.frame ≡ b → AreComposed f (puts_on (Some t) all d s).sent
-        named true q = rw q (all-both (λ x. IsComposed f x.frame) s.sent _ h (late_composed f s.session.phase s.last t.frame last q (found s.session.phase s.last all t may e) n, tt))
+        named true q = rw q (all_append (λ x. IsComposed f x.frame) s.sent _ h (late_composed f s.session.phase s.last t.frame last q (found s.session.phase s.last all t may e) n, tt))
         named false q = rw q h
 
 -- ---- answers
@@ -177,12 +179,12 @@ drawn_kept s client server global answer.AcceptAgain e = refl
 drawn_kept s client server global answer.AcceptReplace e = refl
 drawn_kept s client server global answer.AcceptRace e = refl
 drawn_kept s client server global answer.Resume e = refl
-drawn_kept s client server global answer.Close e = differ e
-drawn_kept s client server global answer.Wait e = differ e
-drawn_kept s client server global (answer.Reset full) e = differ e
-drawn_kept s client server global answer.ResetPending e = differ e
-drawn_kept s client server global (answer.RetryGlobal n) e = differ e
-drawn_kept s client server global (answer.Retry n) e = differ e
+drawn_kept s client server global answer.Close e = from_false_true e
+drawn_kept s client server global answer.Wait e = from_false_true e
+drawn_kept s client server global (answer.Reset full) e = from_false_true e
+drawn_kept s client server global answer.ResetPending e = from_false_true e
+drawn_kept s client server global (answer.RetryGlobal n) e = from_false_true e
+drawn_kept s client server global (answer.Retry n) e = from_false_true e
 
 acceptance_composed : (f : SideFacts) → IsNode f → (a : AskFacts) (number : ℕ) (given : Answer) (s t : State) → takes given ≡ true → number ≤ GREATEST_NUMBER →
     t.session ≡ session.told s.session (event_of f a number given) → t.last ≤ GREATEST_NUMBER → IsComposed f (acceptance a number t)
@@ -258,7 +260,7 @@ entry_sent f (item.judged k a number given unread trail) s node up l known h = a
 
     at : (b : Bool) → takes given ≡ b → AreComposed f (if b then takes_socket f k a number unread t else sends k (replies_of given) t).sent
     at true e =
-        all-both (λ x. IsComposed f x.frame) t.sent _ old
+        all_append (λ x. IsComposed f x.frame) t.sent _ old
         (acceptance_composed f node a number given s t e l.unused.to (told-session (event_of f a number given) n) rest.last, tt)
     at false e = sends_sent f k (replies_of given) t (replies_composed f given (subst AnswerIsBounded (sym l.by_the_tables) (by_tables s a h.session))) old
 entry_sent f (item.asked true number) s node up l known h = at s.feed l
@@ -293,7 +295,7 @@ entry_sent f (item.asked false number) s node up l known h = at s.feed l
     rest = tells_rest event.AskedReconnect r (record { last = h.rest.last; queue = h.rest.queue; texts = h.rest.texts })
 
     some : (false ≡ (s.session.server_cookie == 0)) → s.session.server_cookie ≢ 0
-    some e z = differ (e ∙ eq-eqb s.session.server_cookie 0 z)
+    some e z = from_false_true (e ∙ eq-eqb s.session.server_cookie 0 z)
 
     at : (o : Option Feed) → OnFeedAt o (MayAsk s false number) →
         AreComposed f (composes f (out.reconnect t.session.client_cookie t.session.server_cookie number t.session.connect t.last) t).sent
@@ -467,7 +469,7 @@ ask_fits : (g : SideFacts) (k : SocketId) (a : AskFacts) (given : Answer) (js : 
 ask_fits g k a given js opened theirs composed all =
     let new = js ++ judgement k a given ∷ [] in
     let among : is_among k (map (λ (j : Judgement). j.socket) new) ≡ true =
-    subst (λ l. is_among k l ≡ true) (sym (map-append (λ (j : Judgement). j.socket) js (judgement k a given ∷ []))) (among-last k (map (λ (j : Judgement). j.socket) js)) in
+    subst (λ l. is_among k l ≡ true) (sym (map-append (λ (j : Judgement). j.socket) js (judgement k a given ∷ []))) (among_last k (map (λ (j : Judgement). j.socket) js)) in
     let its = at_among (AreItsAsks opened theirs new) (map (λ (j : Judgement). j.socket) new) k all among in
     let qs = map (λ (i : JudgedItem). ask_by i.ask) (judged_on k js) in
     let whole : asks_on k theirs ≡ (qs ++ ask_by a ∷ []) ++ its.more = its.first ∙ ap (λ l. l ++ its.more) (asked_more k js a given) in
@@ -487,7 +489,7 @@ judged_bounded f s node k a number given r fits = at a.ident refl
     some e = either (r.ident e)
       where
         either : (f.policy.lossy ≡ true) ⊎ (a.client ≢ 0) → a.client ≢ 0
-        either (inl l) = differ (sym node.keeps ∙ l)
+        either (inl l) = from_false_true (sym node.keeps ∙ l)
         either (inr n) = n
 
     told : (given : Answer) (c : ℕ) → c < 2 ^ 64 → c ≢ 0 → IfSome (ident_event given c (cookie_of f number) a.global) (EventIsBounded s)

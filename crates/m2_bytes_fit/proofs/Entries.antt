@@ -24,12 +24,12 @@ use Rattle.m2_journal.specs.State.{Feed, State}
 use Rattle.m2_journal.specs.Steps.{acceptance, acknowledged_by, accepts, after, breaks, composes, event_heard, event_of, forgets, heeds, is_on, is_waiting, notes, posts, puts, queues, sends, takes_answer, takes_socket, tells, tells_if, wants_dial, with_feed, writes_message}
 use Rattle.m2_never_reset.specs.Frames.{is_ask, answers_on}
 use Rattle.m2_never_reset.specs.PairLaws.{IsNoDown}
-use Rattle.m2_never_reset.proofs.Sockets.{differ}
 use Rattle.m2_bytes_fit.proofs.Hands.{HandSo, HandKept, begun_so, signed_in, ready_apart}
 use Rattle.m2_bytes_fit.proofs.Judges.{kept_opens, MayBeJudged, kept_replies, kept_takes}
 use Rattle.m2_bytes_fit.proofs.Less.{Less, FeedLess, untouched, less_trans, tells_less, tells_if_less}
 use Rattle.m2_bytes_fit.proofs.Moves.{kept_reads, kept_puts}
 use Rattle.m2_bytes_fit.proofs.Steps.{AllKept, kept_quietly, kept_in_less, feed_on_less, MayCompose, kept_composes}
+use Rattle.m2_lemmas.proofs.Booleans.{from_false_true}
 
 -- what is known of a feed besides: before Ready nothing but asks was sent there, and one that was taken is in Ready
 pub record FeedSo (s : State) (d : Feed) : Type 0 where
@@ -86,7 +86,7 @@ writes_message_kept f is n (Some m) s may h =
   where
     at : (o : Option Feed) → IfFed o (λ d. (d.texts ≡ []) × (d.hand ≡ None)) → IfFed o (MayCompose s (out.message n s.last m))
     at None g = tt
-    at (Some d) g = record { put = g.0; hand = g.1; opener = λ q. differ q; asks = λ q. differ q }
+    at (Some d) g = record { put = g.0; hand = g.1; opener = λ q. from_false_true q; asks = λ q. from_false_true q }
 
 pub acceptance_named : (a : AskFacts) (n : ℕ) (s : State) → (is_unnamed (acceptance a n s) ≡ false) × (is_ask (acceptance a n s) ≡ false)
 acceptance_named a n s = at a.ident

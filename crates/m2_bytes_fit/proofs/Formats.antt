@@ -18,7 +18,7 @@ use Rattle.m2_control.specs.Fields.{flag_byte}
 use Rattle.m2_control.specs.Laws.{HasRanges, IsInBounds}
 use Rattle.m2_frame.specs.Frame.{Fits, message_tag}
 use Rattle.m2_frame.specs.declared.tag.TheConstants.{FIRST_TAG, LAST_TAG}
-use Rattle.m2_handshake.proofs.Greeting.{no_bytes}
+use Rattle.m2_handshake.proofs.Greeting.{no_bytes, address_bytes}
 use Rattle.m2_message.specs.declared.header.Header.{Header}
 use Rattle.m2_message.specs.Message.{Content, with_numbers}
 use Rattle.m2_message.specs.HeaderText.{header_text}
@@ -30,7 +30,8 @@ use Rattle.m2_journal.specs.SideFacts.{SideFacts, cookie_of, speaker_of}
 use Rattle.m2_feed.specs.FeedLaws.{reconnect_of}
 use Rattle.m2_bytes_fit.specs.Halves.{KeepsRanges}
 use Rattle.m2_bytes_fit.specs.Texts.{KeepsFields, KeepsFormat}
-use Rattle.m2_bytes_fit.proofs.Sent.{IsByte, eight_bytes, four_bytes, two_bytes, address_bytes, ack_writable}
+use Rattle.m2_bytes_fit.proofs.Sent.{IsByte, eight_bytes, ack_writable}
+use Rattle.m2_lemmas.proofs.Bytes.{four_bytes, two_bytes}
 
 -- ---- what is written
 

@@ -31,8 +31,8 @@ use Rattle.m2_journal.specs.SideFacts.{SideFacts, cookie_of}
 use Rattle.m2_journal.specs.State.{PartText, Feed, State}
 use Rattle.m2_journal.specs.Steps.{accepts, after, breaks, closes, composes, event_of, forgets, heeds, event_heard, is_on, is_waiting, kept_of, notes, posts, puts_on, queues, sends, takes_answer, takes_answer_if, takes_socket, tells, tells_if, with_feed, writes_message, where_true}
 use Rattle.m2_never_reset.specs.PairLaws.{IsNoDown}
-use Rattle.m2_never_reset.proofs.Sockets.{differ}
 use Rattle.m2_bytes_fit.proofs.Less.{FeedLess, tells_less, tells_if_less, has_effects_less}
+use Rattle.m2_lemmas.proofs.Booleans.{from_false_true}
 
 abbrev pub HandSo : State → Feed → Type 0
 HandSo s d = (d.hand ≡ None) ⊎ (s.session.phase ≡ phase.Connecting)
@@ -77,16 +77,16 @@ closing e s q =
     let first : (where_true o.close closes t).feed ≡ None = subst (λ b. (where_true b closes t).feed ≡ None) (sym q) (closed_none t) in
     none_less (tells e s).feed (subst (λ p. FeedLess p (tells e s).feed) first (has_effects_less o (where_true o.close closes t)).feed)
 
-either : (P : (Session × Effects) → Type 0) (b : Bool) (x y : Session × Effects) → P x → P y → P (if b then x else y)
+pub either : (P : (Session × Effects) → Type 0) (b : Bool) (x y : Session × Effects) → P x → P y → P (if b then x else y)
 either P true x y h k = h
 either P false x y h k = k
 
-fault_closes : (s : Session) (w : Bool) → (step_of s (event.Faulted w)).effects.close ≡ true
+pub fault_closes : (s : Session) (w : Bool) → (step_of s (event.Faulted w)).effects.close ≡ true
 fault_closes s w =
     either (λ x. x.1.close ≡ true) s.policy.lossy _ _ refl
     (either (λ x. x.1.close ≡ true) s.policy.server _ _ refl (either (λ x. x.1.close ≡ true) (s.policy.standby && not w) _ _ refl refl))
 
-none_kept : (s : State) → s.feed ≡ None → HandKept s
+pub none_kept : (s : State) → s.feed ≡ None → HandKept s
 none_kept s e = subst (λ o. IfFed o (HandSo s)) (sym e) tt
 
 -- ---- what a side is told of an answer that takes no socket
@@ -103,7 +103,7 @@ ident_told a (answer.Reset full) c t = tt
 ident_told a answer.ResetPending c t = tt
 ident_told a (answer.RetryGlobal number) c t = tt
 ident_told a (answer.Retry number) c t = tt
-ident_told a n c t = differ (sym t)
+ident_told a n c t = from_false_true (sym t)
 
 reconnect_told : (a : AskFacts) (n : Answer) → takes n ≡ false → IsPendingOrNone (asks.told_of_reconnect a n)
 reconnect_told a answer.Close t = tt
@@ -112,7 +112,7 @@ reconnect_told a (answer.Reset full) t = tt
 reconnect_told a answer.ResetPending t = tt
 reconnect_told a (answer.RetryGlobal number) t = tt
 reconnect_told a (answer.Retry number) t = tt
-reconnect_told a n t = differ (sym t)
+reconnect_told a n t = from_false_true (sym t)
 
 told_so : (a : AskFacts) (n : Answer) (c : ℕ) → takes n ≡ false → IsPendingOrNone (asks.event_of a n c)
 told_so a n c t = at a.ident
@@ -178,7 +178,7 @@ signed_in s d p e n h = is_signed s d (λ c. n (sym e ∙ c)) h
 pub ready_apart : phase.Ready ≢ phase.Connecting
 ready_apart e = cc
 
-reconnect_apart : phase.ReconnectSent ≢ phase.Connecting
+pub reconnect_apart : phase.ReconnectSent ≢ phase.Connecting
 reconnect_apart e = cc
 
 pub hand_keeps : (f : SideFacts) (i : JournalItem) (s : State) → IsNoDown i → Lawful f i s → HandKept s → HandKept (after f i s)

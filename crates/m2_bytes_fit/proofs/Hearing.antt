@@ -16,12 +16,12 @@ use Rattle.m2_journal.specs.SideFacts.{SideFacts}
 use Rattle.m2_journal.specs.State.{PartText, Feed}
 use Rattle.m2_journal.proofs.Splitting.{split-feed}
 use Rattle.m2_feed.proofs.Courses.{ran, goes-on, going_on, rested-course, texts-append, runs-side}
-use Rattle.m2_never_reset.proofs.Sockets.{differ}
 use Rattle.m2_bytes_fit.specs.Texts.{texts_of}
 use Rattle.m2_bytes_fit.proofs.Kept.{course_at, heard_of, IsNamed, OpenedFeed, TakenFeed}
 use Rattle.m2_bytes_fit.proofs.Lists.{not_nil, some_not_none}
 use Rattle.m2_bytes_fit.proofs.Openers.{fed_rest}
 use Rattle.m2_bytes_fit.proofs.Puts.{HasPut, late_text}
+use Rattle.m2_lemmas.proofs.Booleans.{from_false_true}
 
 -- ---- what signs
 
@@ -94,7 +94,7 @@ pub greets_so : (f : SideFacts) (wrote all words : List ℕ) (texts : List PartT
 greets_so f wrote all [] texts p n = record { put = subst (λ l. HasPut f wrote l texts) (sym (append-nil all)) p; named = n }
 greets_so f wrote all (b ∷ bs) [] p n = record {
   put = record {
-    each = ((ap (λ l. l ++ b ∷ bs) (p.none refl) ∙ sym (append-nil (all ++ b ∷ bs)), λ u. differ u), tt);
+    each = ((ap (λ l. l ++ b ∷ bs) (p.none refl) ∙ sym (append-nil (all ++ b ∷ bs)), λ u. from_false_true u), tt);
     none = λ q. not_nil q;
   };
   named = (refl, tt);
@@ -107,7 +107,7 @@ greets_so f wrote all (b ∷ bs) (t ∷ ts) p n =
           (
             sym (append_assoc wrote t.left (b ∷ bs)) ∙ ap (λ l. l ++ b ∷ bs) (p.each.0.0 ∙ ap (λ l. all ++ l) late ∙ append-nil all)
                 ∙ sym (append-nil (all ++ b ∷ bs)) ∙ ap (λ l. (all ++ b ∷ bs) ++ l) (sym late),
-            λ u. differ (sym n.0 ∙ u),
+            λ u. from_false_true (sym n.0 ∙ u),
           ),
           tt,
         );

@@ -25,7 +25,6 @@ use Rattle.m2_journal.specs.State.{Feed, State}
 use Rattle.m2_feed.proofs.Courses.{ran, runs-side}
 use Rattle.m2_never_reset.specs.Fits.{AreSaid, HearsAt}
 use Rattle.m2_never_reset.specs.Frames.{is_ask, ask_of, frames_on, asks_on, answers_on}
-use Rattle.m2_never_reset.proofs.Sockets.{differ, same_refl}
 use Rattle.m2_trail.specs.Asks.{facts_of_ask}
 use Rattle.m2_trail.specs.Replies.{reply_to, replies_to, refusal, refusal_of, all_replies}
 use Rattle.m2_trail.specs.Trails.{ComesToWrite, IsTaken}
@@ -36,13 +35,16 @@ use Rattle.m2_bytes_fit.proofs.Acceptors.{as_asked, HasWelcomed, IsAsked}
 use Rattle.m2_bytes_fit.proofs.Fronts.{AreFirst, front_items}
 use Rattle.m2_bytes_fit.proofs.Judges.{replied_no_asks}
 use Rattle.m2_bytes_fit.proofs.Kept.{feed_on, view, replied, course_at, heard_of, OpenedFeed, AsksComeFirst, UntakenKept, TakenFeed, TakenKept, KeptBy}
-use Rattle.m2_bytes_fit.proofs.Lists.{all-both, all-back, cons_same, not_nil, nil_not, none_not_some}
+use Rattle.m2_bytes_fit.proofs.Lists.{cons_same, not_nil, nil_not, none_not_some}
 use Rattle.m2_bytes_fit.proofs.Openers.{signs_behind}
 use Rattle.m2_bytes_fit.proofs.Points.{Known, turn, all_frames, no_asks_stay, asks_go, nothing_of_nothing, put_first, ReadsFrames, opened_kept, reads_frames, half_asked, opened_by_other, no_map}
 use Rattle.m2_bytes_fit.proofs.Puts.{IsLate, texts_both}
 use Rattle.m2_bytes_fit.proofs.Says.{NoAsk, parts_all, all_written, texts_made, all_writable, said_first, said_refused}
 use Rattle.m2_bytes_fit.proofs.Sent.{refusal_readable}
 use Rattle.m2_bytes_fit.proofs.Steps.{if_some, here_feed, none_isnt}
+use Rattle.m2_lemmas.proofs.Booleans.{from_false_true}
+use Rattle.m2_fabric.proofs.Sockets.{same_refl}
+use Rattle.m2_lemmas.proofs.Lists.{all_append, all_back}
 
 -- ---- the texts of replies are those of their frames
 
@@ -101,7 +103,7 @@ refused_said g ws bytes more None n k r e =
 refused_said g ws bytes more (Some bits) n k r e =
     let readable = refusal_readable bits r in
     let fs = parts_all g ws ++ control_parts (refusal bits) ∷ [] in
-    let all : AllByRecursion IsWritable fs = all-both IsWritable (parts_all g ws) (control_parts (refusal bits) ∷ []) (all_writable g ws (all_written g ws k)) (readable.writable, tt) in
+    let all : AllByRecursion IsWritable fs = all_append IsWritable (parts_all g ws) (control_parts (refusal bits) ∷ []) (all_writable g ws (all_written g ws k)) (readable.writable, tt) in
     let texts : flat_map frame.text_of fs ≡ texts_of g ws ++ flat_map frame_text (refusal bits ∷ []) =
     flat_map-append frame.text_of (parts_all g ws) (control_parts (refusal bits) ∷ []) ∙ ap (λ t. t ++ flat_map frame.text_of (control_parts (refusal bits) ∷ [])) (sym (texts_made g ws (all_written g ws k))) in
     let first = front_items fs [] bytes more all (λ b q. nothing_of_nothing b more q) (e ∙ sym texts ∙ sym (append-nil (flat_map frame.text_of fs))) in
@@ -256,7 +258,7 @@ module _ (a b : Side) (h : Known a b) (d : Feed) (fed_is : (state_of a).feed ≡
 
           by_taking : (t : Bool) (ts : List (List ℕ)) → t ≡ false → takings_on d.socket b.entries ≡ ts → KeptBy b.facts t ts (view b.entries (state_of b) d.socket) →
               AreSaid (split unread).items (answers_on d.socket (state_of b).sent)
-          by_taking true ts e z g = differ (sym e)
+          by_taking true ts e z g = from_false_true (sym e)
           by_taking false [] e z g =
               let js = judged_on d.socket (state_of b).judgements in
               let f = untaken_follows opened g z in
@@ -298,7 +300,7 @@ module _ (a b : Side) (h : Known a b) (d : Feed) (fed_is : (state_of a).feed ≡
   same_left (v ∷ vs) left [] [] e u n l = not_nil e
   same_left (v ∷ vs) left [] (m ∷ ms) e u n l =
       let same = cons_same v m (vs ++ left) ms e in
-      differ (sym n.0 ∙ (ap is_ask (sym same.0) ∙ u.0))
+      from_false_true (sym n.0 ∙ (ap is_ask (sym same.0) ∙ u.0))
   same_left (v ∷ vs) left (w ∷ ws) mails e u n l =
       same_left vs left ws mails (cons_same v w (vs ++ left) (ws ++ mails) e).1 u.1 n (omega (arith, l))
 
@@ -306,32 +308,32 @@ module _ (a b : Side) (h : Known a b) (d : Feed) (fed_is : (state_of a).feed ≡
   late_no_asks [] left l = tt
   late_no_asks (out.acknowledgement n ∷ []) left l = (refl, tt)
   late_no_asks (out.keepalive_answer n ∷ []) left l = (refl, tt)
-  late_no_asks (out.greeting ∷ []) left l = differ l.0
-  late_no_asks (out.ident c g ∷ []) left l = differ l.0
-  late_no_asks (out.reconnect p q r s t ∷ []) left l = differ l.0
-  late_no_asks (out.server_ident c g ∷ []) left l = differ l.0
-  late_no_asks (out.reconnect_ok n ∷ []) left l = differ l.0
-  late_no_asks (out.reset b ∷ []) left l = differ l.0
-  late_no_asks (out.retry n ∷ []) left l = differ l.0
-  late_no_asks (out.retry_global n ∷ []) left l = differ l.0
-  late_no_asks (out.wait ∷ []) left l = differ l.0
-  late_no_asks (out.message p q m ∷ []) left l = differ l.0
+  late_no_asks (out.greeting ∷ []) left l = from_false_true l.0
+  late_no_asks (out.ident c g ∷ []) left l = from_false_true l.0
+  late_no_asks (out.reconnect p q r s t ∷ []) left l = from_false_true l.0
+  late_no_asks (out.server_ident c g ∷ []) left l = from_false_true l.0
+  late_no_asks (out.reconnect_ok n ∷ []) left l = from_false_true l.0
+  late_no_asks (out.reset b ∷ []) left l = from_false_true l.0
+  late_no_asks (out.retry n ∷ []) left l = from_false_true l.0
+  late_no_asks (out.retry_global n ∷ []) left l = from_false_true l.0
+  late_no_asks (out.wait ∷ []) left l = from_false_true l.0
+  late_no_asks (out.message p q m ∷ []) left l = from_false_true l.0
   late_no_asks (w ∷ v ∷ ws) left l = absurd l
 
   asks_are : (ws : List OutFrame) → AllByRecursion (λ w. is_ask w ≡ true) ws → length (filter_map ask_of ws) ≡ length ws
   asks_are [] h = refl
   asks_are (out.ident c g ∷ ws) h = let n = asks_are ws h.1 in omega (arith, n)
   asks_are (out.reconnect p q r s t ∷ ws) h = let n = asks_are ws h.1 in omega (arith, n)
-  asks_are (out.greeting ∷ ws) h = differ h.0
-  asks_are (out.server_ident c g ∷ ws) h = differ h.0
-  asks_are (out.reconnect_ok n ∷ ws) h = differ h.0
-  asks_are (out.reset b ∷ ws) h = differ h.0
-  asks_are (out.retry n ∷ ws) h = differ h.0
-  asks_are (out.retry_global n ∷ ws) h = differ h.0
-  asks_are (out.wait ∷ ws) h = differ h.0
-  asks_are (out.message p q m ∷ ws) h = differ h.0
-  asks_are (out.acknowledgement n ∷ ws) h = differ h.0
-  asks_are (out.keepalive_answer n ∷ ws) h = differ h.0
+  asks_are (out.greeting ∷ ws) h = from_false_true h.0
+  asks_are (out.server_ident c g ∷ ws) h = from_false_true h.0
+  asks_are (out.reconnect_ok n ∷ ws) h = from_false_true h.0
+  asks_are (out.reset b ∷ ws) h = from_false_true h.0
+  asks_are (out.retry n ∷ ws) h = from_false_true h.0
+  asks_are (out.retry_global n ∷ ws) h = from_false_true h.0
+  asks_are (out.wait ∷ ws) h = from_false_true h.0
+  asks_are (out.message p q m ∷ ws) h = from_false_true h.0
+  asks_are (out.acknowledgement n ∷ ws) h = from_false_true h.0
+  asks_are (out.keepalive_answer n ∷ ws) h = from_false_true h.0
 
   taken_heard : (unread : List ℕ) → TakenKept a.facts unread (view a.entries (state_of a) d.socket) → takings_on d.socket a.entries ≡ unread ∷ [] →
       length (asks_on d.socket (state_of b).sent) ≤ length (judged_on d.socket (state_of a).judgements) → (after : List OutFrame) → TakenFeed a.facts unread got (wrote_on d.socket a.entries) after d →
@@ -376,11 +378,11 @@ module _ (a b : Side) (h : Known a b) (d : Feed) (fed_is : (state_of a).feed ≡
           omega (arith, n, m, p, r, count) in
           let whole : x.used ++ x.left ≡ order.asks ++ (order.mails ++ reads.late) = sym x.all ∙ ap (λ l. l ++ reads.late) order.all ∙ append_assoc order.asks order.mails reads.late in
           let left : x.left ≡ order.mails ++ reads.late =
-          same_left x.used x.left order.asks (order.mails ++ reads.late) whole are.0 (all-both NoAsk order.mails reads.late order.none (late_no_asks reads.late reads.left reads.late_is)) few in
+          same_left x.used x.left order.asks (order.mails ++ reads.late) whole are.0 (all_append NoAsk order.mails reads.late order.none (late_no_asks reads.late reads.left reads.late_is)) few in
           let mails : answers_on d.socket (state_of b).sent ≡ order.mails =
           ap (filter (λ w. not (is_ask w))) order.all ∙ filter-append (λ w. not (is_ask w)) order.asks order.mails
           ∙ ap (λ l. l ++ filter (λ w. not (is_ask w)) order.mails) (asks_go order.asks order.are) ∙ no_asks_stay order.mails order.none in
-          let can_mails : AllByRecursion (CanBeSent b.facts) order.mails = all-back (CanBeSent b.facts) order.asks order.mails (subst (AllByRecursion (CanBeSent b.facts)) order.all can) in
+          let can_mails : AllByRecursion (CanBeSent b.facts) order.mails = all_back (CanBeSent b.facts) order.asks order.mails (subst (AllByRecursion (CanBeSent b.facts)) order.all can) in
           let rest : unread ++ ((got ++ read_more) ++ reads.left) ≡ texts_of b.facts (order.mails ++ reads.late) =
           ap (λ l. l ++ ((got ++ read_more) ++ reads.left)) (sym t.unread) ∙ x.rest t.stage ∙ ap (texts_of b.facts) left in
           let behind : (unread ++ got) ++ (read_more ++ reads.left) ≡ texts_of b.facts (order.mails ++ reads.late) =

@@ -24,16 +24,18 @@ use Rattle.m2_journal.specs.State.{Feed, Judgement, SentFrame, State}
 use Rattle.m2_journal.specs.Steps.{opens}
 use Rattle.m2_never_reset.specs.Frames.{is_ask, frames_on}
 use Rattle.m2_never_reset.proofs.Sent.{frames_here, frames_elsewhere}
-use Rattle.m2_never_reset.proofs.Sockets.{differ, same_equal, among-last}
 use Rattle.m2_bytes_fit.specs.Ends.{taken_in, read_on, wrote_on, takings_on}
 use Rattle.m2_bytes_fit.specs.Texts.{texts_of}
 use Rattle.m2_bytes_fit.proofs.Hearing.{Greets, greets_so}
 use Rattle.m2_bytes_fit.proofs.Kept.{View, feed_on, view, replied, course_at, heard_of, IsNamed, OpenedFeed, UntakenKept, KeptBy, Kept, with_feed, kept_less, opened_put}
 use Rattle.m2_bytes_fit.proofs.Less.{FeedLess}
-use Rattle.m2_bytes_fit.proofs.Lists.{all-both, nil_not, some_not_none}
+use Rattle.m2_bytes_fit.proofs.Lists.{nil_not, some_not_none}
 use Rattle.m2_bytes_fit.proofs.Puts.{HasPut, is_put, composed_put}
 use Rattle.m2_bytes_fit.proofs.Says.{NoAsk}
 use Rattle.m2_bytes_fit.proofs.Steps.{AllKept, read_next, wrote_next, takings_next, here_feed, other_feed}
+use Rattle.m2_fabric.proofs.Sockets.{among_other, same_equal, among_last}
+use Rattle.m2_lemmas.proofs.Booleans.{from_false_true}
+use Rattle.m2_lemmas.proofs.Lists.{all_append}
 
 -- ---- a socket is opened
 
@@ -66,11 +68,7 @@ opened_there f k last owes =
       unsigned = inr (refl, subst (AllByRecursion IsNamed) (sym keeps.2) greeted.named);
     }
 
-among_other : (k x : SocketId) (xs : List SocketId) → same_socket k x ≡ false → is_among k (xs ++ x ∷ []) ≡ is_among k xs
-among_other k x [] e = rw e refl
-among_other k x (y ∷ ys) e = ap (λ b. same_socket k y || b) (among_other k x ys e)
-
-no_last : (xs : List JudgedItem) (x : JudgedItem) → [] ≡ xs ++ x ∷ [] → ⊥
+pub no_last : (xs : List JudgedItem) (x : JudgedItem) → [] ≡ xs ++ x ∷ [] → ⊥
 no_last [] x e = nil_not e
 no_last (y ∷ ys) x e = nil_not e
 
@@ -79,7 +77,7 @@ opens_here : (f : SideFacts) (v : View) (k : SocketId) (last : ℕ) (owes : Bool
 opens_here f v k last owes closed none h = at v.opened v.takings closed refl h
   where
     at : (b : Bool) (ts : List (List ℕ)) → b ≡ false → v.takings ≡ ts → KeptBy f b ts v → (v.takings ≡ []) × KeptBy f true v.takings (record v { opened = true; feed = Some (opened_feed f k last owes) })
-    at true ts q e g = differ (sym q)
+    at true ts q e g = from_false_true (sym q)
     at false [] q e g =
         let no_frames : v.frames ≡ [] = g.frames ∙ ap replied none in
         let feed : OpenedFeed f v.read v.wrote v.frames (opened_feed f k last owes) = rw (g.read, g.wrote, no_frames) (opened_there f k last owes) in (
@@ -99,7 +97,7 @@ not_judged_on k [] e = refl
 not_judged_on k (j ∷ js) e = at (same_socket k j.socket) refl (not_judged_on k js)
   where
     at : (b : Bool) → same_socket k j.socket ≡ b → (is_among k (map (λ j. j.socket) js) ≡ false → judged_on k js ≡ []) → judged_on k (j ∷ js) ≡ []
-    at true q later = differ (sym (rw q at e))
+    at true q later = from_false_true (sym (rw q at e))
     at false q later = rw q (later (rw q at e))
 
 pub kept_opens : (f : SideFacts) (is : List JournalItem) (k' : SocketId) (s : State) → is_among k' s.opened ≡ false → is_among k' (judged_sockets s) ≡ false →
@@ -127,7 +125,7 @@ kept_opens f is k' s closed unjudged h k = by_socket (same_socket k k') refl
     by_socket : (b : Bool) → same_socket k k' ≡ b → Kept f (view (is ++ i ∷ []) (opens f k' s) k)
     by_socket true e =
         let one = same_equal k k' e in
-        let among : is_among k (s.opened ++ k' ∷ []) ≡ true = ap (λ j. is_among j (s.opened ++ k' ∷ [])) one ∙ among-last k' s.opened in
+        let among : is_among k (s.opened ++ k' ∷ []) ≡ true = ap (λ j. is_among j (s.opened ++ k' ∷ [])) one ∙ among_last k' s.opened in
         let feed : feed_on k (Some d) ≡ Some d = here_feed k d (ap (same_socket k) socket ∙ e) in
         let it : view (is ++ i ∷ []) (opens f k' s) k ≡ record (view is s k) { opened = true; feed = Some d } = rw (read, wrote, takings, among, feed) refl in
         subst (Kept f) (sym it)
@@ -141,14 +139,14 @@ kept_opens f is k' s closed unjudged h k = by_socket (same_socket k k') refl
 -- ---- an ask is judged
 
 takes_ends : (a : Answer) → takes a ≡ true → may_ask_again a ≡ true → ⊥
-takes_ends answer.Accept t m = differ m
-takes_ends answer.AcceptOver t m = differ m
-takes_ends (answer.AcceptReset full) t m = differ m
-takes_ends answer.AcceptAgain t m = differ m
-takes_ends answer.AcceptReplace t m = differ m
-takes_ends answer.AcceptRace t m = differ m
-takes_ends answer.Resume t m = differ m
-takes_ends a t m = differ t
+takes_ends answer.Accept t m = from_false_true m
+takes_ends answer.AcceptOver t m = from_false_true m
+takes_ends (answer.AcceptReset full) t m = from_false_true m
+takes_ends answer.AcceptAgain t m = from_false_true m
+takes_ends answer.AcceptReplace t m = from_false_true m
+takes_ends answer.AcceptRace t m = from_false_true m
+takes_ends answer.Resume t m = from_false_true m
+takes_ends a t m = from_false_true t
 
 takes_no_reply : (a : Answer) → takes a ≡ true → replies_of a ≡ []
 takes_no_reply answer.Accept t = refl
@@ -158,7 +156,7 @@ takes_no_reply answer.AcceptAgain t = refl
 takes_no_reply answer.AcceptReplace t = refl
 takes_no_reply answer.AcceptRace t = refl
 takes_no_reply answer.Resume t = refl
-takes_no_reply a t = differ t
+takes_no_reply a t = from_false_true t
 
 pub replies_no_asks : (a : Answer) → AllByRecursion NoAsk (replies_of a)
 replies_no_asks answer.Wait = (refl, tt)
@@ -170,7 +168,7 @@ replies_no_asks a = tt
 
 pub replied_no_asks : (js : List JudgedItem) → AllByRecursion NoAsk (replied js)
 replied_no_asks [] = tt
-replied_no_asks (j ∷ js) = all-both NoAsk (replies_of j.answer) (replied js) (replies_no_asks j.answer) (replied_no_asks js)
+replied_no_asks (j ∷ js) = all_append NoAsk (replies_of j.answer) (replied js) (replies_no_asks j.answer) (replied_no_asks js)
 
 pub replied_on : (js : List JudgedItem) (j : JudgedItem) → replied (js ++ j ∷ []) ≡ replied js ++ replies_of j.answer
 replied_on js j = flat_map-append (λ (i : JudgedItem). replies_of i.answer) js (j ∷ []) ∙ ap (λ l. replied js ++ l) (append-nil (replies_of j.answer))
@@ -184,7 +182,7 @@ untaken_here : (f : SideFacts) (v : View) → v.opened ≡ false → AllByRecurs
 untaken_here f v closed again h = at v.opened v.takings closed refl h
   where
     at : (b : Bool) (ts : List (List ℕ)) → b ≡ false → v.takings ≡ ts → KeptBy f b ts v → (v.takings ≡ []) × UntakenKept v
-    at true ts q e g = differ (sym q)
+    at true ts q e g = from_false_true (sym q)
     at false [] q e g = (e, g)
     at false (u ∷ []) q e g = absurd (takes_ends g.last.answer g.took (last_again g.before g.last (subst (AllByRecursion (λ (i : JudgedItem). may_ask_again i.answer ≡ true)) g.judged again)))
     at false (u ∷ u' ∷ us) q e g = absurd g
@@ -311,7 +309,7 @@ module _ (f : SideFacts) (is : List JournalItem) (k' : SocketId) (ask : AskFacts
             after = w ∷ [];
             frames =
                 ap (λ l. l ++ w ∷ []) (old.1.frames ∙ sym (append-nil (replied (judged_on k s.judgements))) ∙ ap (λ l. replied (judged_on k s.judgements) ++ l) (sym (takes_no_reply given taken)) ∙ sym (replied_on (judged_on k s.judgements) j.item));
-            no_asks = all-both NoAsk (frames_on k s.sent) (w ∷ []) (subst (AllByRecursion NoAsk) (sym old.1.frames) (replied_no_asks (judged_on k s.judgements))) (no_ask, tt);
+            no_asks = all_append NoAsk (frames_on k s.sent) (w ∷ []) (subst (AllByRecursion NoAsk) (sym old.1.frames) (replied_no_asks (judged_on k s.judgements))) (no_ask, tt);
             put = is_put f [] [] (w ∷ []) (begun f w ∷ []) put;
             feed = record {
               opened = opened;

@@ -15,18 +15,21 @@ use Rattle.m2_journal.specs.SideFacts.{SideFacts}
 use Rattle.m2_journal.specs.State.{PartText, Feed, SentFrame, State}
 use Rattle.m2_journal.specs.Steps.{puts, puts_on, sends}
 use Rattle.m2_never_reset.specs.Frames.{is_ask, frames_on}
-use Rattle.m2_never_reset.proofs.Answered.{nothing_isnt_some, some_same}
+use Rattle.m2_never_reset.proofs.Answered.{nothing_isnt_some}
 use Rattle.m2_never_reset.proofs.Feeds.{hears_hears}
 use Rattle.m2_never_reset.proofs.Sent.{frames_here, frames_elsewhere}
-use Rattle.m2_never_reset.proofs.Sockets.{differ, same_equal}
 use Rattle.m2_bytes_fit.specs.Ends.{read_in, wrote_in, read_on, wrote_on, takings_on}
 use Rattle.m2_bytes_fit.specs.Texts.{texts_of}
 use Rattle.m2_bytes_fit.proofs.Hearing.{opened_hears, taken_hears}
 use Rattle.m2_bytes_fit.proofs.Kept.{View, feed_on, view, course_at, heard_of, IsNamed, OpenedFeed, AsksComeFirst, TakenFeed, KeptBy, Kept, opened_put}
-use Rattle.m2_bytes_fit.proofs.Lists.{all-both, not_nil, same_behind}
+use Rattle.m2_bytes_fit.proofs.Lists.{not_nil}
 use Rattle.m2_bytes_fit.proofs.Puts.{HasPut, GoesOnHere, GoesOnSo, is_put, narrowed_here, found_whole, none_whole, texts_here, all_more, late_text, texts_both}
 use Rattle.m2_bytes_fit.proofs.Says.{NoAsk}
 use Rattle.m2_bytes_fit.proofs.Steps.{AllKept, read_next, wrote_next, takings_next, if_some, none_isnt, here_feed, other_feed}
+use Rattle.m2_lemmas.proofs.Options.{some_same}
+use Rattle.m2_lemmas.proofs.Booleans.{from_false_true}
+use Rattle.m2_fabric.proofs.Sockets.{same_equal}
+use Rattle.m2_lemmas.proofs.Lists.{all_append, same_behind}
 
 -- ---- bytes are read on the feed
 
@@ -106,16 +109,16 @@ pub record PutSo (f : SideFacts) (wrote front : List ℕ) (frames : List OutFram
 unnamed_no_ask : (w : OutFrame) → is_unnamed w ≡ true → is_ask w ≡ false
 unnamed_no_ask (out.acknowledgement n) e = refl
 unnamed_no_ask (out.keepalive_answer n) e = refl
-unnamed_no_ask out.greeting e = differ e
-unnamed_no_ask (out.ident c g) e = differ e
-unnamed_no_ask (out.reconnect a b c d e) q = differ q
-unnamed_no_ask (out.server_ident c g) e = differ e
-unnamed_no_ask (out.reconnect_ok n) e = differ e
-unnamed_no_ask (out.reset b) e = differ e
-unnamed_no_ask (out.retry n) e = differ e
-unnamed_no_ask (out.retry_global n) e = differ e
-unnamed_no_ask out.wait e = differ e
-unnamed_no_ask (out.message a b m) e = differ e
+unnamed_no_ask out.greeting e = from_false_true e
+unnamed_no_ask (out.ident c g) e = from_false_true e
+unnamed_no_ask (out.reconnect a b c d e) q = from_false_true q
+unnamed_no_ask (out.server_ident c g) e = from_false_true e
+unnamed_no_ask (out.reconnect_ok n) e = from_false_true e
+unnamed_no_ask (out.reset b) e = from_false_true e
+unnamed_no_ask (out.retry n) e = from_false_true e
+unnamed_no_ask (out.retry_global n) e = from_false_true e
+unnamed_no_ask out.wait e = from_false_true e
+unnamed_no_ask (out.message a b m) e = from_false_true e
 
 whole_so : (f : SideFacts) (wrote front : List ℕ) (frames : List OutFrame) (w : OutFrame) → wrote ≡ (front ++ texts_of f frames) ++ late_text f w →
     PutSo f wrote front frames [] (frames ++ (if is_unnamed w then w ∷ [] else []))
@@ -154,7 +157,7 @@ more_after (Some t) = if is_unnamed t.frame then t.frame ∷ [] else []
 more_after None = []
 
 some_there : (texts : List PartText) → nat_lt 0 (length texts) ≡ true → texts ≢ []
-some_there [] e q = differ e
+some_there [] e q = from_false_true e
 some_there (t ∷ ts) e q = not_nil q
 
 puts_so : (f : SideFacts) (wrote front : List ℕ) (frames : List OutFrame) (texts : List PartText) (o : Option PartText) → finished texts ≡ o → nat_lt 0 (length texts) ≡ true →
@@ -207,7 +210,7 @@ orders_on ws vs n h = record {
   mails = h.mails ++ vs;
   all = ap (λ l. l ++ vs) h.all ∙ append_assoc h.asks h.mails vs;
   are = h.are;
-  none = all-both NoAsk h.mails vs h.none n;
+  none = all_append NoAsk h.mails vs h.none n;
 }
 
 -- before both sides have signed nothing is put but what is begun
@@ -281,7 +284,7 @@ puts_here f bytes s d e v begun some is same h = at v.opened v.takings h
         more_same more q = same_behind k.after (more_after o) more q
 
         no_asks_so : (more : List OutFrame) → more_after o ≡ more → AllByRecursion NoAsk more → AllByRecursion NoAsk (v.frames ++ more_after o)
-        no_asks_so more q n = all-both NoAsk v.frames (more_after o) k.no_asks (subst (AllByRecursion NoAsk) (sym q) n)
+        no_asks_so more q n = all_append NoAsk v.frames (more_after o) k.no_asks (subst (AllByRecursion NoAsk) (sym q) n)
     at false (u ∷ u' ∷ us) k = absurd k
 
 put_where : (f : SideFacts) (is : List JournalItem) (k' : SocketId) (bytes : List ℕ) (s t : State) (d e : Feed) → s.feed ≡ Some d → same_socket k' d.socket ≡ true →

@@ -31,7 +31,6 @@ use Rattle.m2_session.specs.declared.answer.Answer.TheVariants.{Accept}
 use Rattle.m2_journal.proofs.OneMessage.{first_ask, of_first, delivered, lawful_at_a, lawful_at_b}
 use Rattle.m2_journal.proofs.Pair.{socket, here, facts_of_a, facts_of_b}
 use Rattle.m2_feed.proofs.Courses.{ran}
-use Rattle.m2_never_reset.proofs.Sockets.{differ, same_equal}
 use Rattle.m2_trail.specs.Asks.{facts_of_ask}
 use Rattle.m2_trail.specs.Replies.{all_replies}
 use Rattle.m2_trail.specs.Trails.{ComesToAsk, ComesToWrite, HalfBytes, IsTaken}
@@ -39,7 +38,9 @@ use Rattle.m2_bytes_fit.specs.Ends.{Side, state_of, judged_at, read_on, wrote_on
 use Rattle.m2_bytes_fit.specs.Halves.{HalfName, begins, HalfFits, BytesFit}
 use Rattle.m2_bytes_fit.specs.Orders.{BytesCanFit}
 use Rattle.m2_bytes_fit.proofs.Lists.{not_nil}
-use Rattle.m2_bytes_fit.proofs.Orders.{lawful-front}
+use Rattle.m2_lemmas.proofs.Booleans.{from_false_true}
+use Rattle.m2_fabric.proofs.Sockets.{same_equal}
+use Rattle.m2_journal.proofs.JudgedOn.{lawful_front}
 
 -- ---- the two sides
 
@@ -245,7 +246,7 @@ not_judged k e = rw e refl
 taken_fits : HalfFits far one
 unfolding far exchange
 taken_fits = record {
-  opened = λ o. differ (sym far_unopened ∙ o);
+  opened = λ o. from_false_true (sym far_unopened ∙ o);
   name = name;
   refused = None;
   refused_fits = tt;
@@ -287,7 +288,7 @@ fit = record {
   near_got = λ k. either_socket (λ k. IsPrefix (got_at near k) (put_at far k)) k near_has_got (λ e. no_more (got_at near k) (put_at far k) (near_got_elsewhere k e));
   far_got = λ k. either_socket (λ k. IsPrefix (got_at far k) (put_at near k)) k far_has_got (λ e. no_more (got_at far k) (put_at near k) (far_got_elsewhere k e));
   strange = λ k. either_socket (λ k. is_among k (state_of near).opened ≡ false → is_among k (state_of far).opened ≡ false → (got_at near k ≡ []) × (got_at far k ≡ [])) k
-      (λ p q. differ (sym p ∙ opened_one)) (λ e p q. (near_got_elsewhere k e, far_got_elsewhere k e));
+      (λ p q. from_false_true (sym p ∙ opened_one)) (λ e p q. (near_got_elsewhere k e, far_got_elsewhere k e));
   near_halves = near_half_fits;
   far_halves = far_half_fits;
 }
@@ -299,13 +300,13 @@ both_ready = (refl, refl)
 lawful_near : AreLawful near.facts near.entries (start near.facts)
 unfolding near
 lawful_near =
-    (lawful-front facts_of_a of_opener (drop 10 delivered.of_a) (start facts_of_a)
+    (lawful_front facts_of_a of_opener (drop 10 delivered.of_a) (start facts_of_a)
     (subst (λ is. AreLawful facts_of_a is (start facts_of_a)) (sym (take-append-drop 10 delivered.of_a)) lawful_at_a)).0
 
 lawful_far : AreLawful far.facts far.entries (start far.facts)
 unfolding far
 lawful_far =
-    (lawful-front facts_of_b of_taker (drop 2 delivered.of_b) (start facts_of_b)
+    (lawful_front facts_of_b of_taker (drop 2 delivered.of_b) (start facts_of_b)
     (subst (λ is. AreLawful facts_of_b is (start facts_of_b)) (sym (take-append-drop 2 delivered.of_b)) lawful_at_b)).0
 
 pub can_fit : BytesCanFit

@@ -29,9 +29,9 @@ use Rattle.m2_handshake.specs.Steps.{Reaction, says, signed, after_payload, afte
 use Rattle.m2_handshake.specs.Texts.{control_parts, frame_text, hello, request, done, signature}
 use Rattle.m2_handshake.proofs.Banners.{is_step}
 use Rattle.m2_handshake.proofs.Course.{feeds, ways, stands, rests_there}
-use Rattle.m2_handshake.proofs.Greeting.{IsSent}
+use Rattle.m2_handshake.proofs.Greeting.{IsSent, hello_sent}
 use Rattle.m2_handshake.proofs.Reaching.{fed_twice}
-use Rattle.m2_bytes_fit.proofs.Sent.{hello_sent, done_sent, signature_sent}
+use Rattle.m2_bytes_fit.proofs.Sent.{done_sent, signature_sent}
 
 -- ---- its steps
 

@@ -14,9 +14,9 @@ use Rattle.m2_journal.specs.Steps.{after}
 use Rattle.m2_journal.proofs.Growing.{after-append}
 use Rattle.m2_never_reset.specs.Fits.{Fits, HearsAt}
 use Rattle.m2_never_reset.specs.PairLaws.{IsNoDown}
-use Rattle.m2_never_reset.specs.Orders.{SideItem, near_item, far_item, near_items, far_items, near_after, far_after, FitThroughout, IsHistory, AreNodes, LeadsTo, HistoriesAreRuns, LosslessIsNeverReset}
-use Rattle.m2_never_reset.specs.Paired.{FeedIsPaired, beside, Paired}
-use Rattle.m2_never_reset.proofs.Sockets.{differ, at_among}
+use Rattle.m2_never_reset.specs.Orders.{SideItem, near_item, far_item, near_items, far_items, near_after, far_after, IsHistory, AreNodes, LeadsTo, HistoriesAreRuns, LosslessIsNeverReset}
+use Rattle.m2_never_reset.specs.Paired.{FeedIsPaired, beside}
+use Rattle.m2_never_reset.proofs.Sockets.{at_among}
 use Rattle.m2_bytes_fit.specs.Ends.{Side, state_of}
 use Rattle.m2_bytes_fit.specs.Orders.{OrderEntry, near_entry, far_entry, near_half, far_half, entry_in, entries_of, near_side, far_side, IsByteHistory, BytesGiveFits, LosslessBytesAreNeverReset}
 use Rattle.m2_bytes_fit.proofs.Asking.{near_behind, far_behind}
@@ -27,33 +27,18 @@ use Rattle.m2_bytes_fit.proofs.Entries.{FeedSo, entry_keeps}
 use Rattle.m2_bytes_fit.proofs.Growing.{Leads, entry_grows}
 use Rattle.m2_bytes_fit.proofs.Hands.{HandKept, hand_keeps}
 use Rattle.m2_bytes_fit.proofs.Hears.{NoAskBehind, near_hears}
-use Rattle.m2_bytes_fit.proofs.Lists.{all-front, all-back, all-both}
 use Rattle.m2_bytes_fit.proofs.Points.{Known, turn, near_judges}
 use Rattle.m2_bytes_fit.proofs.Steps.{AllKept}
+use Rattle.m2_journal.proofs.JudgedOn.{lawful_front}
+use Rattle.m2_never_reset.proofs.Sided.{near_append, far_append}
+use Rattle.m2_never_reset.proofs.OneHistory.{fit-append}
+use Rattle.m2_never_reset.proofs.Orders.{paired_turn}
+use Rattle.m2_lemmas.proofs.Booleans.{from_false_true}
+use Rattle.m2_lemmas.proofs.Lists.{all_front, all_back, all_append}
 
 -- ---- lists
 
-pub lawful-front : (f : SideFacts) (is js : List JournalItem) (s : State) → AreLawful f (is ++ js) s → AreLawful f is s × AreLawful f js (after_items f is s)
-lawful-front f [] js s h = (tt, h)
-lawful-front f (i ∷ is) js s h = let more = lawful-front f is js (after f i s) h.1 in ((h.0, more.0), more.1)
-
-near-append : (xs ys : List SideItem) → near_items (xs ++ ys) ≡ near_items xs ++ near_items ys
-near-append [] ys = refl
-near-append (near_item i ∷ xs) ys = ap (λ l. i ∷ l) (near-append xs ys)
-near-append (far_item i ∷ xs) ys = near-append xs ys
-
-far-append : (xs ys : List SideItem) → far_items (xs ++ ys) ≡ far_items xs ++ far_items ys
-far-append [] ys = refl
-far-append (near_item i ∷ xs) ys = far-append xs ys
-far-append (far_item i ∷ xs) ys = ap (λ l. i ∷ l) (far-append xs ys)
-
-fits-append : (f g : SideFacts) (xs ys : List SideItem) (a b : State) → FitThroughout f g xs a b →
-    FitThroughout f g ys (after_items f (near_items xs) a) (after_items g (far_items xs) b) → FitThroughout f g (xs ++ ys) a b
-fits-append f g [] ys a b h k = k
-fits-append f g (near_item i ∷ xs) ys a b h k = (h.0, fits-append f g xs ys (after f i a) b h.1 k)
-fits-append f g (far_item i ∷ xs) ys a b h k = (h.0, fits-append f g xs ys a (after g i b) h.1 k)
-
-entries-append : (xs ys : List OrderEntry) → entries_of (xs ++ ys) ≡ entries_of xs ++ entries_of ys
+pub entries-append : (xs ys : List OrderEntry) → entries_of (xs ++ ys) ≡ entries_of xs ++ entries_of ys
 entries-append xs ys = flat_map-append entry_in xs ys
 
 -- ---- what was opened
@@ -61,7 +46,7 @@ entries-append xs ys = flat_map-append entry_in xs ys
 leads_on : (f : SideFacts) (i : JournalItem) (s : State) → IsNoDown i → Lawful f i s → AllByRecursion (Leads f) s.opened → AllByRecursion (Leads f) (after f i s).opened
 leads_on f i s up l h =
     let grows = entry_grows f i s up l in
-    subst (AllByRecursion (Leads f)) (sym grows.opened) (all-both (Leads f) s.opened grows.more_opened h grows.leads)
+    subst (AllByRecursion (Leads f)) (sym grows.opened) (all_append (Leads f) s.opened grows.more_opened h grows.leads)
 
 opened_apart : (f g : SideFacts) (near far : List SocketId) → ((k : SocketId) → goes_to f.peer k ≡ true → goes_to g.peer k ≡ false) →
     AllByRecursion (Leads f) near → AllByRecursion (Leads g) far → (k : SocketId) → is_among k near ≡ true → is_among k far ≡ false
@@ -69,7 +54,7 @@ opened_apart f g near far peers h l k o = at (is_among k far) refl
   where
     at : (t : Bool) → is_among k far ≡ t → is_among k far ≡ false
     at false e = e
-    at true e = differ (sym (peers k (at_among (Leads f) near k h o)) ∙ at_among (Leads g) far k l e)
+    at true e = from_false_true (sym (peers k (at_among (Leads f) near k h o)) ∙ at_among (Leads g) far k l e)
 
 -- ---- where the first moves lead
 
@@ -119,9 +104,6 @@ feed_known a b heard h = at a.feed heard (unasked_so a.feed b.sent heard) h
     at None heard u g = tt
     at (Some d) heard u g = record { written = g.texts; unasked = u }
 
-paired_turn : (a b : State) → Paired a b → Paired b a
-paired_turn a b paired = record { near = paired.far; far = paired.near }
-
 -- the two sides fit where bytes do
 fits_so : (a b : Side) → Known a b → NoAskBehind (state_of a) (state_of b) → NoAskBehind (state_of b) (state_of a) → Fits (state_of a) (state_of b)
 fits_so a b h near far = record {
@@ -166,9 +148,9 @@ module _ (runs : HistoriesAreRuns) (f g : SideFacts) (order : List OrderEntry) (
         history = record {
           near_lawful = subst (λ is. AreLawful f is (start f)) (sym list_near) lawful_now;
           far_lawful = subst (λ is. AreLawful g is (start g)) (sym list_far) old.history.far_lawful;
-          near_not_down = subst (AllByRecursion IsNoDown) (sym list_near) (all-both IsNoDown (near_items xs) (i ∷ []) old.history.near_not_down (up, tt));
+          near_not_down = subst (AllByRecursion IsNoDown) (sym list_near) (all_append IsNoDown (near_items xs) (i ∷ []) old.history.near_not_down (up, tt));
           far_not_down = subst (AllByRecursion IsNoDown) (sym list_far) old.history.far_not_down;
-          fits = fits-append f g xs (near_item i ∷ []) (start f) (start g) old.history.fits (fits, tt);
+          fits = fit-append f g xs (near_item i ∷ []) (start f) (start g) old.history.fits (fits, tt);
         };
         near = subst₂ (λ is s. AllKept f is s) (sym list_near) (sym state_near) near_kept;
         far = subst₂ (λ is s. AllKept g is s) (sym list_far) (sym state_far) old.far;
@@ -202,10 +184,10 @@ module _ (runs : HistoriesAreRuns) (f g : SideFacts) (order : List OrderEntry) (
       entries = entries-append front (near_entry i ∷ [])
 
       list_near : near_items (xs ++ near_item i ∷ []) ≡ near_items xs ++ i ∷ []
-      list_near = near-append xs (near_item i ∷ [])
+      list_near = near_append xs (near_item i ∷ [])
 
       list_far : far_items (xs ++ near_item i ∷ []) ≡ far_items xs
-      list_far = far-append xs (near_item i ∷ []) ∙ append-nil (far_items xs)
+      list_far = far_append xs (near_item i ∷ []) ∙ append-nil (far_items xs)
 
       state_near : near_after f (xs ++ near_item i ∷ []) ≡ after f i a
       state_near = ap (λ is. after_items f is (start f)) list_near ∙ after-append f (near_items xs) (i ∷ []) (start f)
@@ -227,20 +209,20 @@ module _ (runs : HistoriesAreRuns) (f g : SideFacts) (order : List OrderEntry) (
 
       whole : near_items (entries_of order) ≡ (near_items xs ++ i ∷ []) ++ near_items (entries_of back)
       whole =
-          ap (λ l. near_items (entries_of l)) e ∙ ap near_items (entries-append now back) ∙ near-append (entries_of now) (entries_of back)
+          ap (λ l. near_items (entries_of l)) e ∙ ap near_items (entries-append now back) ∙ near_append (entries_of now) (entries_of back)
           ∙ ap (λ l. l ++ near_items (entries_of back)) near_list
 
       lawful_now : AreLawful f (near_items xs ++ i ∷ []) (start f)
-      lawful_now = (lawful-front f (near_items xs ++ i ∷ []) (near_items (entries_of back)) (start f) (subst (λ is. AreLawful f is (start f)) whole h.near_lawful)).0
+      lawful_now = (lawful_front f (near_items xs ++ i ∷ []) (near_items (entries_of back)) (start f) (subst (λ is. AreLawful f is (start f)) whole h.near_lawful)).0
 
       lawful : Lawful f i a
-      lawful = (lawful-front f (near_items xs) (i ∷ []) (start f) lawful_now).1.0
+      lawful = (lawful_front f (near_items xs) (i ∷ []) (start f) lawful_now).1.0
 
       up : IsNoDown i
-      up = (all-back IsNoDown (near_items xs) (i ∷ []) (all-front IsNoDown (near_items xs ++ i ∷ []) (near_items (entries_of back)) (subst (AllByRecursion IsNoDown) whole h.near_not_down))).0
+      up = (all_back IsNoDown (near_items xs) (i ∷ []) (all_front IsNoDown (near_items xs ++ i ∷ []) (near_items (entries_of back)) (subst (AllByRecursion IsNoDown) whole h.near_not_down))).0
 
       posted : CanBePosted i
-      posted = (all-back CanBePosted (near_items xs) (i ∷ []) (all-front CanBePosted (near_items xs ++ i ∷ []) (near_items (entries_of back)) (subst (AllByRecursion CanBePosted) whole h.near_posts))).0
+      posted = (all_back CanBePosted (near_items xs) (i ∷ []) (all_front CanBePosted (near_items xs ++ i ∷ []) (near_items (entries_of back)) (subst (AllByRecursion CanBePosted) whole h.near_posts))).0
 
       leads : LeadsTo f g xs
       leads = runs f g xs nodes.near_keeps nodes.far_keeps old.history
@@ -277,8 +259,8 @@ module _ (runs : HistoriesAreRuns) (f g : SideFacts) (order : List OrderEntry) (
           near_lawful = subst (λ is. AreLawful f is (start f)) (sym list_near) old.history.near_lawful;
           far_lawful = subst (λ is. AreLawful g is (start g)) (sym list_far) lawful_now;
           near_not_down = subst (AllByRecursion IsNoDown) (sym list_near) old.history.near_not_down;
-          far_not_down = subst (AllByRecursion IsNoDown) (sym list_far) (all-both IsNoDown (far_items xs) (i ∷ []) old.history.far_not_down (up, tt));
-          fits = fits-append f g xs (far_item i ∷ []) (start f) (start g) old.history.fits (fits, tt);
+          far_not_down = subst (AllByRecursion IsNoDown) (sym list_far) (all_append IsNoDown (far_items xs) (i ∷ []) old.history.far_not_down (up, tt));
+          fits = fit-append f g xs (far_item i ∷ []) (start f) (start g) old.history.fits (fits, tt);
         };
         near = subst₂ (λ is s. AllKept f is s) (sym list_near) (sym state_near) old.near;
         far = subst₂ (λ is s. AllKept g is s) (sym list_far) (sym state_far) far_kept;
@@ -312,10 +294,10 @@ module _ (runs : HistoriesAreRuns) (f g : SideFacts) (order : List OrderEntry) (
       entries = entries-append front (far_entry i ∷ [])
 
       list_near : near_items (xs ++ far_item i ∷ []) ≡ near_items xs
-      list_near = near-append xs (far_item i ∷ []) ∙ append-nil (near_items xs)
+      list_near = near_append xs (far_item i ∷ []) ∙ append-nil (near_items xs)
 
       list_far : far_items (xs ++ far_item i ∷ []) ≡ far_items xs ++ i ∷ []
-      list_far = far-append xs (far_item i ∷ [])
+      list_far = far_append xs (far_item i ∷ [])
 
       state_near : near_after f (xs ++ far_item i ∷ []) ≡ a
       state_near = ap (λ is. after_items f is (start f)) list_near
@@ -337,20 +319,20 @@ module _ (runs : HistoriesAreRuns) (f g : SideFacts) (order : List OrderEntry) (
 
       whole : far_items (entries_of order) ≡ (far_items xs ++ i ∷ []) ++ far_items (entries_of back)
       whole =
-          ap (λ l. far_items (entries_of l)) e ∙ ap far_items (entries-append now back) ∙ far-append (entries_of now) (entries_of back)
+          ap (λ l. far_items (entries_of l)) e ∙ ap far_items (entries-append now back) ∙ far_append (entries_of now) (entries_of back)
           ∙ ap (λ l. l ++ far_items (entries_of back)) far_list
 
       lawful_now : AreLawful g (far_items xs ++ i ∷ []) (start g)
-      lawful_now = (lawful-front g (far_items xs ++ i ∷ []) (far_items (entries_of back)) (start g) (subst (λ is. AreLawful g is (start g)) whole h.far_lawful)).0
+      lawful_now = (lawful_front g (far_items xs ++ i ∷ []) (far_items (entries_of back)) (start g) (subst (λ is. AreLawful g is (start g)) whole h.far_lawful)).0
 
       lawful : Lawful g i b
-      lawful = (lawful-front g (far_items xs) (i ∷ []) (start g) lawful_now).1.0
+      lawful = (lawful_front g (far_items xs) (i ∷ []) (start g) lawful_now).1.0
 
       up : IsNoDown i
-      up = (all-back IsNoDown (far_items xs) (i ∷ []) (all-front IsNoDown (far_items xs ++ i ∷ []) (far_items (entries_of back)) (subst (AllByRecursion IsNoDown) whole h.far_not_down))).0
+      up = (all_back IsNoDown (far_items xs) (i ∷ []) (all_front IsNoDown (far_items xs ++ i ∷ []) (far_items (entries_of back)) (subst (AllByRecursion IsNoDown) whole h.far_not_down))).0
 
       posted : CanBePosted i
-      posted = (all-back CanBePosted (far_items xs) (i ∷ []) (all-front CanBePosted (far_items xs ++ i ∷ []) (far_items (entries_of back)) (subst (AllByRecursion CanBePosted) whole h.far_posts))).0
+      posted = (all_back CanBePosted (far_items xs) (i ∷ []) (all_front CanBePosted (far_items xs ++ i ∷ []) (far_items (entries_of back)) (subst (AllByRecursion CanBePosted) whole h.far_posts))).0
 
       leads : LeadsTo f g xs
       leads = runs f g xs nodes.near_keeps nodes.far_keeps old.history

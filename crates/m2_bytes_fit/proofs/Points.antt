@@ -14,13 +14,12 @@ use Rattle.m2_handshake.specs.Standing.{Standing}
 use Rattle.m2_journal.specs.declared.entry.JudgedItem.{JudgedItem}
 use Rattle.m2_journal.specs.Lawful.{judged_on, judged_sockets}
 use Rattle.m2_journal.specs.OutFrames as out
-use Rattle.m2_journal.specs.OutFrames.{OutFrame, is_unnamed, replies_of}
+use Rattle.m2_journal.specs.OutFrames.{OutFrame}
 use Rattle.m2_journal.specs.Said.{split}
 use Rattle.m2_journal.specs.SideFacts.{SideFacts}
 use Rattle.m2_journal.specs.State.{Judgement, SentFrame}
 use Rattle.m2_never_reset.specs.Fits.{ask_by, AreItsAsks}
 use Rattle.m2_never_reset.specs.Frames.{is_ask, ask_of, frames_on}
-use Rattle.m2_never_reset.proofs.Sockets.{differ, same_refl}
 use Rattle.m2_trail.specs.Asks.{facts_of_ask}
 use Rattle.m2_trail.specs.Replies.{all_replies}
 use Rattle.m2_trail.specs.Trails.{ComesToAsk}
@@ -30,10 +29,13 @@ use Rattle.m2_bytes_fit.specs.Texts.{CanBeSent, CanAllBeSent, texts_of}
 use Rattle.m2_bytes_fit.proofs.Acceptors.{as_asked, HasWelcomed, IsAsked, accepts}
 use Rattle.m2_bytes_fit.proofs.Fronts.{AreFirst, front_items, nothing_split, begun_is_open}
 use Rattle.m2_bytes_fit.proofs.Kept.{view, greeting_of, OpenedKept, KeptBy}
-use Rattle.m2_bytes_fit.proofs.Lists.{all-both, cons_is_some, cons_same, nothing_before, not_nil, nil_not}
+use Rattle.m2_bytes_fit.proofs.Lists.{cons_is_some, cons_same, not_nil, nil_not}
 use Rattle.m2_bytes_fit.proofs.Puts.{IsLate, texts_both, text_alone}
 use Rattle.m2_bytes_fit.proofs.Says.{NoAsk, CanBeWritten, part, parts_all, unnamed_written, writable, text_made, all_written, texts_made, all_writable}
 use Rattle.m2_bytes_fit.proofs.Steps.{AllKept}
+use Rattle.m2_lemmas.proofs.Booleans.{from_false_true}
+use Rattle.m2_fabric.proofs.Sockets.{same_refl}
+use Rattle.m2_lemmas.proofs.Lists.{all_append, empty_front}
 
 -- ---- what is known at a point
 
@@ -48,7 +50,7 @@ pub record Known (a b : Side) : Type 0 where
   pub near_named : KeepsRanges a.facts
   pub far_named : KeepsRanges b.facts
 
-bytes_turn : (a b : Side) → BytesFit a b → BytesFit b a
+pub bytes_turn : (a b : Side) → BytesFit a b → BytesFit b a
 bytes_turn a b h = record {
   near_got = h.far_got;
   far_got = h.near_got;
@@ -70,7 +72,7 @@ turn a b h = record {
 }
   where
     far_apart : (k : SocketId) → is_among k (state_of b).opened ≡ true → (t : Bool) → is_among k (state_of a).opened ≡ t → is_among k (state_of a).opened ≡ false
-    far_apart k p true e = differ (sym (h.apart k e) ∙ p)
+    far_apart k p true e = from_false_true (sym (h.apart k e) ∙ p)
     far_apart k p false e = e
 
 -- ---- the frames of a socket
@@ -103,7 +105,7 @@ some_behind [] ys n e = n e
 some_behind (x ∷ xs) ys n e = cons_is_some x (xs ++ ys) e
 
 pub nothing_of_nothing : (bytes more : List ℕ) → bytes ++ more ≡ [] → (split bytes).items ≡ []
-nothing_of_nothing bytes more e = ap (λ l. (split l).items) (nothing_before bytes more e)
+nothing_of_nothing bytes more e = ap (λ l. (split l).items) (empty_front bytes more e)
 
 -- of the front of the texts of these frames, and maybe of one that isn't wholly put, the texts are the first of the frames
 pub put_first : (f : SideFacts) (frames late : List OutFrame) (bytes more left : List ℕ) → AllByRecursion (CanBeWritten f) frames → IsLate late left →
@@ -133,7 +135,7 @@ pub record ReadsFrames (b : Side) (k : SocketId) (bytes more : List ℕ) : Type 
 
 can_write : (a b : Side) → Known a b → (k : SocketId) (late : List OutFrame) (left : List ℕ) → IsLate late left → AllByRecursion (CanBeWritten b.facts) (frames_on k (state_of b).sent ++ late)
 can_write a b h k late left l =
-    all-both (CanBeWritten b.facts) (frames_on k (state_of b).sent) late (all_written b.facts (frames_on k (state_of b).sent) (all_frames b.facts k (state_of b).sent h.far_sent)) (late_written b.facts late left l)
+    all_append (CanBeWritten b.facts) (frames_on k (state_of b).sent) late (all_written b.facts (frames_on k (state_of b).sent) (all_frames b.facts k (state_of b).sent h.far_sent)) (late_written b.facts late left l)
 
 -- the other side opened the socket
 pub opened_kept : (b : Side) (k : SocketId) → AllKept b.facts b.entries (state_of b) → is_among k (state_of b).opened ≡ true → OpenedKept b.facts (view b.entries (state_of b) k)
@@ -142,7 +144,7 @@ opened_kept b k h o = at (is_among k (state_of b).opened) (takings_on k b.entrie
     at : (t : Bool) (ts : List (List ℕ)) → t ≡ true → KeptBy b.facts t ts (view b.entries (state_of b) k) → OpenedKept b.facts (view b.entries (state_of b) k)
     at true [] e g = g
     at true (u ∷ us) e g = absurd g
-    at false ts e g = differ e
+    at false ts e g = from_false_true e
 
 pub reads_frames : (a b : Side) (h : Known a b) (k : SocketId) (front rest : List ℕ) → is_among k (state_of b).opened ≡ true → front ++ rest ≡ got_at a k → ReadsFrames b k front (rest ++ (h.bytes.near_got k).0)
 reads_frames a b h k front rest o e =
@@ -179,13 +181,13 @@ none_asked a b h k name x s comes given =
   where
     at : HasWelcomed name.entity name.seen x ⊎ IsAsked b.facts name.entity name.seen [] (greeting b.facts.node.entity b.facts.peer []) x s → x.asks ≡ []
     at (inl w) = w.asks
-    at (inr i) = no_map as_asked x.asks (i.asks ∙ ap (map ask_of) (nothing_before i.used i.left (sym i.all)))
+    at (inr i) = no_map as_asked x.asks (i.asks ∙ ap (map ask_of) (empty_front i.used i.left (sym i.all)))
 
 -- ---- what was judged
 
 facts_nothing : (js : List JudgedItem) (asks : List Ask) → IsPrefix (map (λ (i : JudgedItem). i.ask) js) (map facts_of_ask asks) → asks ≡ [] → js ≡ []
 facts_nothing js asks p e =
-    no_map (λ (i : JudgedItem). i.ask) js (nothing_before (map (λ (i : JudgedItem). i.ask) js) p.0 (sym p.1 ∙ ap (map facts_of_ask) e))
+    no_map (λ (i : JudgedItem). i.ask) js (empty_front (map (λ (i : JudgedItem). i.ask) js) p.0 (sym p.1 ∙ ap (map facts_of_ask) e))
 
 unopened : (a : Side) (k : SocketId) → AllKept a.facts a.entries (state_of a) → judged_on k (state_of a).judgements ≢ [] → is_among k (state_of a).opened ≡ false
 unopened a k h n = at (is_among k (state_of a).opened) (takings_on k a.entries) refl (h k)
@@ -203,7 +205,7 @@ opened_by_other a b h k n = at (is_among k (state_of b).opened) refl
     at true e = e
     at false e =
         let half = h.bytes.near_halves k in
-        let nothing = nothing_before (a.halves k).got (read_on k a.entries) (h.bytes.strange k (unopened a k h.near_kept n) e).0 in
+        let nothing = empty_front (a.halves k).got (read_on k a.entries) (h.bytes.strange k (unopened a k h.near_kept n) e).0 in
         let asked = half.asks in
         absurd (n (facts_nothing (judged_on k (state_of a).judgements) asked.exchange.asks asked.first
         (none_asked a b h k half.name asked.exchange asked.standing asked.comes (asked.fed ∙ nothing))))
@@ -220,16 +222,16 @@ late_no_ask : (late : List OutFrame) (left : List ℕ) → IsLate late left → 
 late_no_ask [] left l = refl
 late_no_ask (out.acknowledgement n ∷ []) left l = refl
 late_no_ask (out.keepalive_answer n ∷ []) left l = refl
-late_no_ask (out.greeting ∷ []) left l = differ l.0
-late_no_ask (out.ident c g ∷ []) left l = differ l.0
-late_no_ask (out.reconnect p q r s t ∷ []) left l = differ l.0
-late_no_ask (out.server_ident c g ∷ []) left l = differ l.0
-late_no_ask (out.reconnect_ok n ∷ []) left l = differ l.0
-late_no_ask (out.reset b ∷ []) left l = differ l.0
-late_no_ask (out.retry n ∷ []) left l = differ l.0
-late_no_ask (out.retry_global n ∷ []) left l = differ l.0
-late_no_ask (out.wait ∷ []) left l = differ l.0
-late_no_ask (out.message p q m ∷ []) left l = differ l.0
+late_no_ask (out.greeting ∷ []) left l = from_false_true l.0
+late_no_ask (out.ident c g ∷ []) left l = from_false_true l.0
+late_no_ask (out.reconnect p q r s t ∷ []) left l = from_false_true l.0
+late_no_ask (out.server_ident c g ∷ []) left l = from_false_true l.0
+late_no_ask (out.reconnect_ok n ∷ []) left l = from_false_true l.0
+late_no_ask (out.reset b ∷ []) left l = from_false_true l.0
+late_no_ask (out.retry n ∷ []) left l = from_false_true l.0
+late_no_ask (out.retry_global n ∷ []) left l = from_false_true l.0
+late_no_ask (out.wait ∷ []) left l = from_false_true l.0
+late_no_ask (out.message p q m ∷ []) left l = from_false_true l.0
 late_no_ask (w ∷ v ∷ ws) left l = absurd l
 
 map_twice : {X Y Z : Type 0} (f : Y → Z) (g : X → Y) (xs : List X) → map (λ x. f (g x)) xs ≡ map f (map g xs)

@@ -1,6 +1,6 @@
 -- What a journal's entries have put on a socket, beside the frames that were sent there: the texts of these frames, as far as
 -- they are put, and maybe the front of one that no entry names.
-use Rattle.std.proofs.Common.{◌≡◌, ◌≢◌, ℕ, Bool, true, false, if◌then◌else◌, List, [], ◌∷◌, ◌++◌, length, drop, map, Option, Some, None, refl, sym, ap, ◌∙◌, subst, append_assoc, append-nil, arith}
+use Rattle.std.proofs.Common.{◌≡◌, ◌≢◌, ℕ, Bool, true, false, if◌then◌else◌, List, [], ◌∷◌, ◌++◌, length, drop, map, Option, Some, None, refl, sym, ap, ◌∙◌, subst, append_assoc, append-nil}
 use Rattle.std.specs.Prelude.{◌==◌, ◌&&◌, not}
 use Rattle.std.specs.List.{AllByRecursion, filter}
 use Rattle.std.specs.Option.{option_to_list}
@@ -15,10 +15,12 @@ use Rattle.m2_journal.specs.OutFrames as out
 use Rattle.m2_journal.specs.OutFrames.{OutFrame, is_unnamed}
 use Rattle.m2_journal.specs.SideFacts.{SideFacts}
 use Rattle.m2_journal.specs.State.{PartText, Feed, State}
-use Rattle.m2_never_reset.proofs.Answered.{nothing_isnt_some, some_same}
-use Rattle.m2_never_reset.proofs.Sockets.{differ}
-use Rattle.m2_bytes_fit.proofs.Lists.{all-both, not_nil}
+use Rattle.m2_never_reset.proofs.Answered.{nothing_isnt_some}
+use Rattle.m2_bytes_fit.proofs.Lists.{not_nil}
 use Rattle.m2_bytes_fit.specs.Texts.{texts_of}
+use Rattle.m2_lemmas.proofs.Lists.{empty_of_length, all_append}
+use Rattle.m2_lemmas.proofs.Options.{some_same}
+use Rattle.m2_lemmas.proofs.Booleans.{from_false_true}
 
 -- a frame that no entry names isn't among those sent before it is wholly put
 abbrev pub late_text : SideFacts → OutFrame → List ℕ
@@ -82,7 +84,7 @@ is_put f wrote front frames (t ∷ ts) h = put_first f wrote front frames t h.ea
 -- ---- a frame is composed
 
 named_text : (f : SideFacts) (b : Bool) (xs : List ℕ) → b ≡ false → (if b then xs else []) ≡ []
-named_text f true xs e = differ (sym e)
+named_text f true xs e = from_false_true (sym e)
 named_text f false xs e = refl
 
 pub composed_put : (f : SideFacts) (wrote front : List ℕ) (frames : List OutFrame) (w : OutFrame) → is_unnamed w ≡ false → wrote ≡ front ++ texts_of f frames →
@@ -93,7 +95,7 @@ composed_put f wrote front frames w named e = record {
       ap (λ l. l ++ out.text_of f w) e ∙ append_assoc front (texts_of f frames) (out.text_of f w)
           ∙ ap (λ l. front ++ l) (ap (λ l. texts_of f frames ++ l) (sym (text_alone f w)) ∙ sym (texts_both f frames (w ∷ [])))
           ∙ sym (ap (λ l. (front ++ texts_of f (frames ++ w ∷ [])) ++ l) (named_text f (is_unnamed w) (out.text_of f w) named) ∙ append-nil _),
-      λ u. differ (sym named ∙ u),
+      λ u. from_false_true (sym named ∙ u),
     ),
     tt,
   );
@@ -104,7 +106,7 @@ composed_put f wrote front frames w named e = record {
 
 begins_is : (bytes left : List ℕ) → begins bytes left ≡ true → left ≡ bytes ++ drop (length bytes) left
 begins_is [] left e = refl
-begins_is (b ∷ bs) [] e = differ e
+begins_is (b ∷ bs) [] e = from_false_true e
 begins_is (b ∷ bs) (c ∷ cs) e =
     let parts = and_parts (b == c) (begins bs cs) e in
     ap (λ l. c ∷ l) (begins_is bs cs parts.1) ∙ ap (λ x. x ∷ (bs ++ drop (length bs) cs)) (sym (eqb-true b c parts.0))
@@ -141,12 +143,8 @@ narrowed_here f wrote all bytes texts h =
     shortened f wrote all bytes (filter (λ t. begins bytes t.left) texts)
     (filtered (GoesOnHere f wrote all) (λ t. begins bytes t.left) texts h)
 
-no_length : {X : Type 0} (xs : List X) → (length xs == 0) ≡ true → xs ≡ []
-no_length [] e = refl
-no_length (x ∷ xs) e = let n = eqb-true (length (x ∷ xs)) 0 e in absurd (omega (arith, n))
-
 some_length : {X : Type 0} (xs : List X) → (length xs == 0) ≡ false → xs ≢ []
-some_length [] e q = differ (sym e)
+some_length [] e q = from_false_true (sym e)
 some_length (x ∷ xs) e q = not_nil q
 
 -- where a text is whole all of it was put
@@ -158,7 +156,7 @@ found_whole f wrote all (x ∷ xs) t h e = at (length x.left == 0) refl (found_w
     at : (b : Bool) → (length x.left == 0) ≡ b → (finished xs ≡ Some t → wrote ≡ all ++ late_text f t.frame) → wrote ≡ all ++ late_text f t.frame
     at true k later =
         subst (λ z. wrote ≡ all ++ late_text f z.frame) (some_same x t (rw k at e))
-        (sym (append-nil wrote) ∙ ap (λ l. wrote ++ l) (sym (no_length x.left k)) ∙ h.0)
+        (sym (append-nil wrote) ∙ ap (λ l. wrote ++ l) (sym (empty_of_length x.left k)) ∙ h.0)
     at false k later = later (rw k at e)
 
 some_isnt_none : {X Y : Type 0} (x : X) → Some x ≡ None → Y
@@ -191,14 +189,14 @@ unnamed_here f s d wrote all e = at (phases.is s.session.phase phase.Ready)
     acks false = tt
 
     at : (b : Bool) → AllByRecursion (GoesOnHere f wrote all) (if b then acknowledgements f s d ++ keepalive_answers f s d else [])
-    at true = all-both (GoesOnHere f wrote all) (acknowledgements f s d) (keepalive_answers f s d) (acks (s.owes && not f.policy.lossy)) (stamps_here f wrote all (next_stamp s.last d) e)
+    at true = all_append (GoesOnHere f wrote all) (acknowledgements f s d) (keepalive_answers f s d) (acks (s.owes && not f.policy.lossy)) (stamps_here f wrote all (next_stamp s.last d) e)
     at false = tt
 
 pub texts_here : (f : SideFacts) (s : State) (d : Feed) (wrote all : List ℕ) → HasPut f wrote all d.texts → AllByRecursion (GoesOnHere f wrote all) (texts_at f s d)
 texts_here f s d wrote all h = at (length d.texts == 0) refl
   where
     at : (b : Bool) → (length d.texts == 0) ≡ b → AllByRecursion (GoesOnHere f wrote all) (if b then unnamed f s d else d.texts)
-    at true e = unnamed_here f s d wrote all (h.none (no_length d.texts e))
+    at true e = unnamed_here f s d wrote all (h.none (empty_of_length d.texts e))
     at false e = here f wrote all d.texts h.each
 
 -- ---- what was put stays so where more is to be put behind it
@@ -208,4 +206,4 @@ all_more f wrote all w e u = at (is_unnamed w) u e
   where
     at : (b : Bool) → b ≡ true → wrote ≡ all ++ (if b then out.text_of f w else []) → wrote ≡ all ++ texts_of f (w ∷ [])
     at true q g = g ∙ ap (λ l. all ++ l) (sym (text_alone f w))
-    at false q g = differ q
+    at false q g = from_false_true q

@@ -28,11 +28,11 @@ use Rattle.m2_journal.specs.Said.{Said, says, brings, garbles, said, said_of_pay
 use Rattle.m2_journal.specs.SideFacts.{SideFacts}
 use Rattle.m2_never_reset.specs.Fits.{Says, IsRefusal, AreSaid}
 use Rattle.m2_never_reset.specs.Frames.{is_ask}
-use Rattle.m2_never_reset.proofs.Sockets.{differ}
 use Rattle.m2_frame.specs.declared.tag.Tag.TheVariants as tag
 use Rattle.m2_trail.specs.Replies.{refusal}
 use Rattle.m2_bytes_fit.proofs.Sent.{ack_writable, stamp_writable}
 use Rattle.m2_bytes_fit.specs.Texts.{Made, of_message, of_payload, of_none, made, KeepsFormat, CanBeSent, texts_of}
+use Rattle.m2_lemmas.proofs.Booleans.{from_false_true}
 
 -- ---- the parts of a frame
 
@@ -70,16 +70,16 @@ written f (out.keepalive_answer s) k = tt
 pub unnamed_written : (f : SideFacts) (w : OutFrame) → is_unnamed w ≡ true → CanBeWritten f w
 unnamed_written f (out.acknowledgement number) e = tt
 unnamed_written f (out.keepalive_answer s) e = tt
-unnamed_written f out.greeting e = differ e
-unnamed_written f (out.ident cookie global) e = differ e
-unnamed_written f (out.reconnect client server global connect seen) e = differ e
-unnamed_written f (out.server_ident cookie global) e = differ e
-unnamed_written f (out.reconnect_ok seen) e = differ e
-unnamed_written f (out.reset full) e = differ e
-unnamed_written f (out.retry connect) e = differ e
-unnamed_written f (out.retry_global global) e = differ e
-unnamed_written f out.wait e = differ e
-unnamed_written f (out.message number acked m) e = differ e
+unnamed_written f out.greeting e = from_false_true e
+unnamed_written f (out.ident cookie global) e = from_false_true e
+unnamed_written f (out.reconnect client server global connect seen) e = from_false_true e
+unnamed_written f (out.server_ident cookie global) e = from_false_true e
+unnamed_written f (out.reconnect_ok seen) e = from_false_true e
+unnamed_written f (out.reset full) e = from_false_true e
+unnamed_written f (out.retry connect) e = from_false_true e
+unnamed_written f (out.retry_global global) e = from_false_true e
+unnamed_written f out.wait e = from_false_true e
+unnamed_written f (out.message number acked m) e = from_false_true e
 
 pub writable : (f : SideFacts) (w : OutFrame) → CanBeWritten f w → IsWritable (part f w)
 writable f out.greeting k = absurd k
@@ -128,7 +128,7 @@ all_writable f (w ∷ ws) k = (writable f w k.0, all_writable f ws k.1)
 
 brought : (b : Bool) (m : Said) → b ≡ true → (if b then m else garbles) ≡ m
 brought true m e = refl
-brought false m e = differ e
+brought false m e = from_false_true e
 
 -- a SESSION_RETRY with a greater number is refused
 retry_refused : (n : ℕ) → n < 2 ^ 64 → nat_le n GREATEST_NUMBER ≡ false → payload.payload_of tag.SessionRetry (to_le_bytes w64 n) ≡ Err (BadValue 1)
@@ -137,8 +137,8 @@ retry_refused n h e = rw (from_le_bytes-to_le_bytes_8 n h, e) refl
 
 pub says_sent : (f : SideFacts) (w : OutFrame) → is_ask w ≡ false → CanBeSent f w → Says (said (whole (part f w))) w
 says_sent f out.greeting n k = absurd k
-says_sent f (out.ident cookie global) n k = differ (sym n)
-says_sent f (out.reconnect client server global connect seen) n k = differ (sym n)
+says_sent f (out.ident cookie global) n k = from_false_true (sym n)
+says_sent f (out.reconnect client server global connect seen) n k = from_false_true (sym n)
 says_sent f (out.server_ident cookie global) n k =
     let both : Says (says (bare (server_ident_of f cookie global))) (out.server_ident cookie global) = (refl, refl) in
     subst (λ s. Says s (out.server_ident cookie global)) (sym (ap said_of_payload (written_is_read (server_ident_of f cookie global) k.ranges k.bounds).read)) both

@@ -15,14 +15,16 @@ use Rattle.m2_journal.specs.State.{Feed, SentFrame, State}
 use Rattle.m2_journal.specs.Steps.{composes}
 use Rattle.m2_never_reset.specs.Frames.{is_ask, frames_on, answers_on}
 use Rattle.m2_never_reset.proofs.Sent.{frames_here, frames_elsewhere}
-use Rattle.m2_never_reset.proofs.Sockets.{differ, same_equal}
 use Rattle.m2_bytes_fit.specs.Ends.{read_in, wrote_in, taken_in, read_on, wrote_on, takings_on}
 use Rattle.m2_bytes_fit.specs.Texts.{texts_of}
 use Rattle.m2_bytes_fit.proofs.Kept.{View, feed_on, view, course_at, OpenedFeed, AsksComeFirst, TakenFeed, KeptBy, Kept, with_feed, kept_less, opened_put}
 use Rattle.m2_bytes_fit.proofs.Less.{FeedLess, Less}
-use Rattle.m2_bytes_fit.proofs.Lists.{all-both, not_nil, none_not_some}
+use Rattle.m2_bytes_fit.proofs.Lists.{not_nil, none_not_some}
 use Rattle.m2_bytes_fit.proofs.Puts.{HasPut, is_put, composed_put}
 use Rattle.m2_bytes_fit.proofs.Says.{NoAsk}
+use Rattle.m2_lemmas.proofs.Booleans.{from_false_true}
+use Rattle.m2_fabric.proofs.Sockets.{same_equal}
+use Rattle.m2_lemmas.proofs.Lists.{all_append}
 
 -- what is kept of every socket, where these entries have led here
 abbrev pub AllKept : SideFacts → List JournalItem → State → Type 0
@@ -66,7 +68,7 @@ feed_on_less k (Some d) (Some e) l = at (same_socket k d.socket) (same_socket k 
     at true true q = l
     at false false q = tt
     at true false q = tt
-    at false true q = differ (sym q)
+    at false true q = from_false_true (sym q)
 
 pub kept_in_less : (f : SideFacts) (is : List JournalItem) (s t : State) → Less s t → AllKept f is s → AllKept f is t
 kept_in_less f is s t less h k =
@@ -117,7 +119,7 @@ order_on ws w alone h = at (is_ask w) refl
       asks = ws ++ w ∷ [];
       mails = [];
       all = sym (append-nil (ws ++ w ∷ []));
-      are = all-both (λ w. is_ask w ≡ true) ws (w ∷ []) (only_asks ws (alone q)) (q, tt);
+      are = all_append (λ w. is_ask w ≡ true) ws (w ∷ []) (only_asks ws (alone q)) (q, tt);
       none = tt;
     }
     at false q = record {
@@ -125,7 +127,7 @@ order_on ws w alone h = at (is_ask w) refl
       mails = h.mails ++ w ∷ [];
       all = ap (λ l. l ++ w ∷ []) h.all ∙ append_assoc h.asks h.mails (w ∷ []);
       are = h.are;
-      none = all-both NoAsk h.mails (w ∷ []) h.none (q, tt);
+      none = all_append NoAsk h.mails (w ∷ []) h.none (q, tt);
     }
 
 abbrev composed_on : SideFacts → OutFrame → Feed → Feed
@@ -167,13 +169,13 @@ composes_here f w s d v named may is frames h = at v.opened v.takings h
           took = k.took;
           after = k.after ++ w ∷ [];
           frames = ap (λ l. l ++ w ∷ []) k.frames ∙ append_assoc _ k.after (w ∷ []);
-          no_asks = all-both NoAsk v.frames (w ∷ []) k.no_asks (no_ask (is_ask w) refl old.opened, tt);
+          no_asks = all_append NoAsk v.frames (w ∷ []) k.no_asks (no_ask (is_ask w) refl old.opened, tt);
           put = is_put f v.wrote [] (k.after ++ w ∷ []) (begun f w ∷ []) put;
           feed = record { opened = old.opened; hand = old.hand; got = old.got; rest = old.rest; put = put };
         }
       where
         no_ask : (b : Bool) → is_ask w ≡ b → d.opened ≡ false → is_ask w ≡ false
-        no_ask true q o = differ (sym o ∙ may.opener q)
+        no_ask true q o = from_false_true (sym o ∙ may.opener q)
         no_ask false q o = q
     at false (u ∷ u' ∷ us) k = absurd k
 

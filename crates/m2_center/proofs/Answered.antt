@@ -20,7 +20,6 @@ use Rattle.m2_record.specs.declared.judging.Judged.TheVariants as judged
 use Rattle.m2_record.specs.Judging.{JudgesAs, after_taking_over, half_of, judged_entry}
 use Rattle.m2_record.specs.RecordNow.{RecordNow, ends_of, ids_of}
 use Rattle.m2_record.specs.TakenTrails.{judgements_in}
-use Rattle.m2_record.proofs.Names.{differ, same_equal}
 use Rattle.m2_session.specs.declared.answer.Answer.{Answer}
 use Rattle.m2_trail.specs.Asks.{facts_of_ask}
 use Rattle.m2_trail.specs.Incoming.{IncomingNow, after_replying}
@@ -32,10 +31,12 @@ use Rattle.m2_center.specs.Connecting.{IsMadeBy}
 use Rattle.m2_center.specs.Judging.{Judges, Judging}
 use Rattle.m2_center.specs.RecordTurn.{Means}
 use Rattle.m2_center.specs.Steps.{came_by, came_in}
-use Rattle.m2_center.proofs.Came.{alone, both}
-use Rattle.m2_center.proofs.GoesOn.{room_alone}
-use Rattle.m2_center.proofs.Known.{back_known, closed_none, others_known, steps_known}
+use Rattle.m2_center.proofs.Came.{alone}
+use Rattle.m2_center.proofs.GoesOn.{room_alone, closed as closed_none}
+use Rattle.m2_center.proofs.Known.{back_known, others_known, steps_known}
 use Rattle.m2_center.proofs.Opened.{filtered, none_came, room_made}
+use Rattle.m2_lemmas.proofs.Booleans.{false_isnt_true}
+use Rattle.m2_fabric.proofs.Sockets.{same_equal, among_neither}
 
 -- ---- the sockets that came
 
@@ -50,13 +51,13 @@ came_behind journal v x closed =
 
 -- a socket that wasn't made isn't one that was
 another : (made : List SocketId) (k x : SocketId) → is_among x made ≡ true → IsNewTo made k → is_among k (x ∷ []) ≡ false
-another made k x among fresh = alone k x (λ same. differ (sym fresh ∙ ap (λ j. is_among j made) (same_equal k x same) ∙ among))
+another made k x among fresh = alone k x (λ same. false_isnt_true (sym fresh ∙ ap (λ j. is_among j made) (same_equal k x same) ∙ among))
 
 judged_made : (made : List SocketId) (old new : RecordNow) (v : Verdict) (x : SocketId) (closed : Option SeenEnd) → is_among x made ≡ true →
     new.journal ≡ (old.journal ++ judged_entry v x ∷ []) ++ closed_entries closed → IsMadeBy made old → IsMadeBy made new
 judged_made made old new v x closed among journal known k fresh =
     ap (is_among k) (ap came_in journal ∙ came_behind old.journal v x closed)
-    ∙ both k (came_in old.journal) (x ∷ []) (known k fresh) (another made k x among fresh)
+    ∙ among_neither k (came_in old.journal) (x ∷ []) (known k fresh) (another made k x among fresh)
 
 -- ---- what a judgement leaves beside the half
 
@@ -70,7 +71,7 @@ unmoved a old new e = record { facts = ap (λ r. r.core.facts) e; made = (λ mad
 taken_beside : (v : Verdict) (answer : Answer) (a : IncomingNow) (now : _) (old new : RecordNow) (o : Option FeedNow) →
     IfSome o (λ d. IsTakenFeed v (half_of answer a).end (half_of answer a).unread old.core d × (new ≡ record (after_taking_over v (half_of answer a) d now old) { room = new.room })) → IsSome o →
     IsBeside a old new
-taken_beside v answer a now old new None e none = absurd (differ none)
+taken_beside v answer a now old new None e none = absurd (false_isnt_true none)
 taken_beside v answer a now old new (Some d) (_, e) _ =
     record { facts = ap (λ r. r.core.facts) e; made = (λ made among known. judged_made made old new v a.end.id _ among (ap (λ r. r.journal) e) known) }
 
@@ -84,7 +85,7 @@ judged_beside {E} j a m old new some h = at a.ask h.judges some
     by_answer (judged.NoMemory arrival) v (_, room) = record { facts = ap (λ r. r.core.facts) room; made = (λ made among known. room_made made old.side new.side room known) }
 
     at : (o : Option Ask) → IfSome o (λ ask. JudgesAs j (verdict_on (facts_of_ask ask) h.number old.side.core.live) a m.now old.side new.side) → IsSome o → IsBeside a old.side new.side
-    at None e none = absurd (differ none)
+    at None e none = absurd (false_isnt_true none)
     at (Some ask) e _ = by_answer j (verdict_on (facts_of_ask ask) h.number old.side.core.live) e
 
 -- ---- the half itself
@@ -100,7 +101,7 @@ like b c a r id entity judged s = record {
 }
 
 given : (o : Option Control) (goes_on c a : IncomingNow) (r : RecordNow) → IsSome o → IfSome o (λ reply. goes_on ≡ after_replying reply c) → IsStill c a r → IsStill goes_on a r
-given None goes_on c a r none e s = absurd (differ none)
+given None goes_on c a r none e s = absurd (false_isnt_true none)
 given (Some reply) goes_on c a r _ e s = like goes_on c a r (ap (λ i. i.end.id) e) (ap (λ i. i.trail.entity) e) (ap (λ i. i.trail.judged) e) s
 
 replied : {E : Type 0} (result : HalfAnswered E) (c a : IncomingNow) (r : RecordNow) → RepliesHalf result c → IsStill c a r → StaysKnown result a r
@@ -150,14 +151,14 @@ back_still : {E : Type 0} (answer : Answer) (arrival a : IncomingNow) (m : Means
 back_still {E} answer arrival a m old new b h = record { id = at a.ask h.judges b.some; known = back_known {E = E} answer arrival a m old new b.some b.was b.is b.known h }
   where
     at : (o : Option Ask) → IfSome o (λ ask. JudgesAs {E = E} (judged.Back answer arrival) (verdict_on (facts_of_ask ask) h.number old.side.core.live) a m.now old.side new.side) → IsSome o → arrival.end.id ≡ a.end.id
-    at None e none = absurd (differ none)
+    at None e none = absurd (false_isnt_true none)
     at (Some ask) (_, _, back, _) _ = ap (λ i. i.end.id) back
 
 lacking_still : {E : Type 0} (arrival a : IncomingNow) (m : Means) (old new : Judging) → Before a old.side new.side → Judges {E = E} (judged.NoMemory arrival) a m old new → IsStill arrival a new.side
 lacking_still {E} arrival a m old new b h = at a.ask h.judges b.some
   where
     at : (o : Option Ask) → IfSome o (λ ask. JudgesAs {E = E} (judged.NoMemory arrival) (verdict_on (facts_of_ask ask) h.number old.side.core.live) a m.now old.side new.side) → IsSome o → IsStill arrival a new.side
-    at None e none = absurd (differ none)
+    at None e none = absurd (false_isnt_true none)
     at (Some ask) (same, room) _ =
         like arrival a a new.side (ap (λ i. i.end.id) same) (ap (λ i. i.trail.entity) same) (ap (λ i. i.trail.judged) same)
         (record { id = refl; known = steps_known a old.side new.side (room_alone old.side new.side room) b.was b.is b.known })

@@ -1,6 +1,6 @@
 -- The sockets that entries name are those that entries have opened or judged.
 use Rattle.std.proofs.Common.{◌≡◌, ◌⊎◌, inl, inr, Bool, true, false, ◌||◌, if◌then◌else◌, List, [], ◌∷◌, ◌++◌, map, Option, Some, None, IsTrue, refl, sym, ap, subst, ◌∙◌, append_assoc}
-use Rattle.std.specs.List.{AllByRecursion, filter_map}
+use Rattle.std.specs.List.{AllByRecursion}
 use Rattle.std.specs.Option.{option_to_list}
 use Rattle.m2_fabric.specs.declared.socket.SocketId.{SocketId}
 use Rattle.m2_fabric.specs.End.{SeenEnd}
@@ -21,34 +21,21 @@ use Rattle.m2_session.specs.SessionLaws.{takes}
 use Rattle.m2_record.specs.IsRecord.{IsRecord, became_feed, feeds_in, named_in, socket_of}
 use Rattle.m2_record.specs.RecordNow.{RecordNow, ends_of, feed_end, ids_of, speaks_of}
 use Rattle.m2_record.specs.TakenTrails.{judgements_in}
-use Rattle.m2_record.proofs.Names.{differ, same_equal}
-use Rattle.m2_record.proofs.Naming.{after-names, named_by, named_too, one-named, opened_in}
+use Rattle.m2_record.proofs.Naming.{after-names, named_by, named_too, one-named, opened_in, with-head}
 use Rattle.m2_center.specs.Steps.{came_by, came_in}
+use Rattle.m2_journal.proofs.JudgedOn.{lawful_front}
+use Rattle.m2_fabric.proofs.Sockets.{not_among_front, among_neither, same_equal}
+use Rattle.m2_record.proofs.Kept.{ids-append}
+use Rattle.m2_lemmas.proofs.Booleans.{false_isnt_true}
 
 -- ---- lists of sockets
-
-pub front : (k : SocketId) (xs ys : List SocketId) → is_among k (xs ++ ys) ≡ false → is_among k xs ≡ false
-front k [] ys e = refl
-front k (x ∷ xs) ys e = at (same_socket k x) (front k xs ys) e
-  where
-    at : (b : Bool) → (is_among k (xs ++ ys) ≡ false → is_among k xs ≡ false) → b || is_among k (xs ++ ys) ≡ false → b || is_among k xs ≡ false
-    at true rest h = h
-    at false rest h = rest h
 
 pub back : (k : SocketId) (xs ys : List SocketId) → is_among k (xs ++ ys) ≡ false → is_among k ys ≡ false
 back k [] ys e = e
 back k (x ∷ xs) ys e = at (same_socket k x) (back k xs ys) e
   where
     at : (b : Bool) → (is_among k (xs ++ ys) ≡ false → is_among k ys ≡ false) → b || is_among k (xs ++ ys) ≡ false → is_among k ys ≡ false
-    at true rest h = absurd (differ (sym h))
-    at false rest h = rest h
-
-pub both : (k : SocketId) (xs ys : List SocketId) → is_among k xs ≡ false → is_among k ys ≡ false → is_among k (xs ++ ys) ≡ false
-both k [] ys _ e = e
-both k (x ∷ xs) ys e f = at (same_socket k x) (λ h. both k xs ys h f) e
-  where
-    at : (b : Bool) → (is_among k xs ≡ false → is_among k (xs ++ ys) ≡ false) → b || is_among k xs ≡ false → b || is_among k (xs ++ ys) ≡ false
-    at true rest h = h
+    at true rest h = absurd (false_isnt_true (sym h))
     at false rest h = rest h
 
 -- a socket that isn't one of others is none of them
@@ -58,13 +45,6 @@ alone k x other = at (same_socket k x) refl
     at : (b : Bool) → same_socket k x ≡ b → b || false ≡ false
     at true e = absurd (other e)
     at false e = refl
-
-pub with_head : (p : Entry → Option SocketId) (e : Entry) (es : List Entry) → filter_map p (e ∷ es) ≡ option_to_list (p e) ++ filter_map p es
-with_head p e es = at (p e) refl
-  where
-    at : (o : Option SocketId) → p e ≡ o → filter_map p (e ∷ es) ≡ option_to_list o ++ filter_map p es
-    at (Some k) h = rw h refl
-    at None h = rw h refl
 
 -- ---- names
 
@@ -81,8 +61,8 @@ map_append (j ∷ js) is = ap (λ (l : List SocketId). j.socket ∷ l) (map_appe
 
 before : (k : SocketId) (n : Names) (es : List Entry) → IsUnnamed k (named_too n es) → IsUnnamed k n
 before k n es u = record {
-  opened = front k n.opened (opened_in es) u.opened;
-  judged = front k (map (λ (j : Judgement). j.socket) n.judgements) (map (λ (j : Judgement). j.socket) (judgements_in es))
+  opened = not_among_front k n.opened (opened_in es) u.opened;
+  judged = not_among_front k (map (λ (j : Judgement). j.socket) n.judgements) (map (λ (j : Judgement). j.socket) (judgements_in es))
       (sym (ap (is_among k) (map_append n.judgements (judgements_in es))) ∙ u.judged);
 }
 
@@ -98,18 +78,18 @@ not_fed k x s (Some d) u known on e = at d.opened known
     same = same_equal k x e ∙ same_equal x d.socket on
 
     at : (b : Bool) → is_among d.socket (if b then s.opened else taken_among s.judgements) ≡ true → ⊥
-    at true h = differ (sym u.opened ∙ ap (λ j. is_among j s.opened) same ∙ h)
-    at false h = differ (sym (not_judged k s.judgements u.judged) ∙ ap (λ j. is_among j (taken_among s.judgements)) same ∙ h)
+    at true h = false_isnt_true (sym u.opened ∙ ap (λ j. is_among j s.opened) same ∙ h)
+    at false h = false_isnt_true (sym (not_judged k s.judgements u.judged) ∙ ap (λ j. is_among j (taken_among s.judgements)) same ∙ h)
 
 not_spent : (k x : SocketId) (s : State) (spent : List SocketId) → IsUnnamed k (names_of s) →
     AllByRecursion (λ j. IsTrue (is_among j s.opened) ⊎ IsTrue (is_among j (taken_among s.judgements))) spent →
     is_among x spent ≡ true → same_socket k x ≡ true → ⊥
-not_spent k x s [] u known on e = differ on
+not_spent k x s [] u known on e = false_isnt_true on
 not_spent k x s (y ∷ ys) u known on e = at (same_socket x y) refl (λ h. not_spent k x s ys u known.1 h e) on
   where
     one : k ≡ y → IsTrue (is_among y s.opened) ⊎ IsTrue (is_among y (taken_among s.judgements)) → ⊥
-    one same (inl h) = differ (sym u.opened ∙ ap (λ j. is_among j s.opened) same ∙ h)
-    one same (inr h) = differ (sym (not_judged k s.judgements u.judged) ∙ ap (λ j. is_among j (taken_among s.judgements)) same ∙ h)
+    one same (inl h) = false_isnt_true (sym u.opened ∙ ap (λ j. is_among j s.opened) same ∙ h)
+    one same (inr h) = false_isnt_true (sym (not_judged k s.judgements u.judged) ∙ ap (λ j. is_among j (taken_among s.judgements)) same ∙ h)
 
     at : (b : Bool) → same_socket x y ≡ b → (is_among x ys ≡ true → ⊥) → b || is_among x ys ≡ true → ⊥
     at true same rest h = one (same_equal k x e ∙ same_equal x y same) known.0
@@ -146,16 +126,12 @@ one_more : (f : SideFacts) (src : Sources) (p : Places) (e : Entry) (es : List E
     named_too (names_of (after f (item_of src p e) s)) es ≡ named_too (names_of s) (e ∷ es)
 one_more f src p e es s = ap (λ (n : Names). named_too n es) (after-names f (item_of src p e) s) ∙ one-named src p e es (names_of s)
 
-lawful_parts : (f : SideFacts) (is js : List JournalItem) (s : State) → AreLawful f (is ++ js) s → AreLawful f is s × AreLawful f js (after_items f is s)
-lawful_parts f [] js s l = (tt, l)
-lawful_parts f (i ∷ is) js s l = let rest = lawful_parts f is js (after f i s) l.1 in ((l.0, rest.0), rest.1)
-
 walk : (f : SideFacts) (src : Sources) (es : List Entry) (p : Places) (was : List JournalItem) (k : SocketId) →
     AreLawful f (was ++ items_from src p es) (start f) → IsUnnamed k (named_too (names_of (after_items f was (start f))) es) → is_among k (named_in es) ≡ false
 walk f src [] p was k l u = refl
 walk f src (e ∷ es) p was k l u =
-    ap (is_among k) (with_head socket_of e es)
-    ∙ both k (option_to_list (socket_of e)) (named_in es)
+    ap (is_among k) (with-head socket_of e es)
+    ∙ among_neither k (option_to_list (socket_of e)) (named_in es)
     (unnamed_here f src p s k e (before k (names_of s) (e ∷ es) u) (subst (IsUnnamed k) (after-names f i s) (before k (names_of (after f i s)) es later)) (are_sound f was parts.0) parts.1.0)
     (walk f src es (passed e p) (was ++ i ∷ []) k
     (subst (λ is. AreLawful f is (start f)) (sym one) l)
@@ -168,7 +144,7 @@ walk f src (e ∷ es) p was k l u =
     s = after_items f was (start f)
 
     parts : AreLawful f was (start f) × AreLawful f (i ∷ items_from src (passed e p) es) s
-    parts = lawful_parts f was (i ∷ items_from src (passed e p) es) (start f) l
+    parts = lawful_front f was (i ∷ items_from src (passed e p) es) (start f) l
 
     later : IsUnnamed k (named_too (names_of (after f i s)) es)
     later = subst (IsUnnamed k) (sym (one_more f src p e es s)) u
@@ -182,10 +158,10 @@ pub came_names : (k : SocketId) (es : List Entry) → IsNewTo (came_in es) k →
 came_names k [] new = (refl, refl)
 came_names k (entry.Opened x ∷ es) new =
     let rest = came_names k es (back k (x ∷ []) (came_in es) new) in
-    (both k (x ∷ []) (opened_in es) (front k (x ∷ []) (came_in es) new) rest.0, rest.1)
+    (among_neither k (x ∷ []) (opened_in es) (not_among_front k (x ∷ []) (came_in es) new) rest.0, rest.1)
 came_names k (entry.Judged x ask number answer ∷ es) new =
     let rest = came_names k es (back k (x ∷ []) (came_in es) new) in
-    (rest.0, both k (x ∷ []) (map (λ (j : Judgement). j.socket) (judgements_in es)) (front k (x ∷ []) (came_in es) new) rest.1)
+    (rest.0, among_neither k (x ∷ []) (map (λ (j : Judgement). j.socket) (judgements_in es)) (not_among_front k (x ∷ []) (came_in es) new) rest.1)
 came_names k (entry.Post place ∷ es) new = came_names k es new
 came_names k (entry.Dial ∷ es) new = came_names k es new
 came_names k (entry.Read x count ∷ es) new = came_names k es new
@@ -221,19 +197,15 @@ fed_here k (entry.Down planned) h = refl
 fed_came : (k : SocketId) (es : List Entry) → IsNewTo (came_in es) k → IsNewTo (feeds_in es) k
 fed_came k [] new = refl
 fed_came k (e ∷ es) new =
-    let parts = sym (ap (is_among k) (with_head came_by e es)) ∙ new in
-    ap (is_among k) (with_head became_feed e es)
-    ∙ both k (option_to_list (became_feed e)) (feeds_in es) (fed_here k e (front k (option_to_list (came_by e)) (came_in es) parts)) (fed_came k es (back k (option_to_list (came_by e)) (came_in es) parts))
-
-ids_append : (xs ys : List SeenEnd) → ids_of (xs ++ ys) ≡ ids_of xs ++ ids_of ys
-ids_append [] ys = refl
-ids_append (x ∷ xs) ys = ap (λ (l : List SocketId). x.id ∷ l) (ids_append xs ys)
+    let parts = sym (ap (is_among k) (with-head came_by e es)) ∙ new in
+    ap (is_among k) (with-head became_feed e es)
+    ∙ among_neither k (option_to_list (became_feed e)) (feeds_in es) (fed_here k e (not_among_front k (option_to_list (came_by e)) (came_in es) parts)) (fed_came k es (back k (option_to_list (came_by e)) (came_in es) parts))
 
 -- the feed's end stands last there and first here
 pub turned : (k : SocketId) (feed spent : List SeenEnd) → IsNewTo (ids_of (spent ++ feed)) k → IsNewTo (ids_of (feed ++ spent)) k
 turned k feed spent new =
-    let parts = sym (ap (is_among k) (ids_append spent feed)) ∙ new in
-    ap (is_among k) (ids_append feed spent) ∙ both k (ids_of feed) (ids_of spent) (back k (ids_of spent) (ids_of feed) parts) (front k (ids_of spent) (ids_of feed) parts)
+    let parts = sym (ap (is_among k) (ids-append spent feed)) ∙ new in
+    ap (is_among k) (ids-append feed spent) ∙ among_neither k (ids_of feed) (ids_of spent) (back k (ids_of spent) (ids_of feed) parts) (not_among_front k (ids_of spent) (ids_of feed) parts)
 
 -- a socket that didn't come is named by no entry, and no end is its
 pub are_known : (r : RecordNow) → IsRecord r → (k : SocketId) → IsNewTo (came_in r.journal) k → (IsNewTo (named_in r.journal) k) × (IsNewTo (ids_of (ends_of r)) k)

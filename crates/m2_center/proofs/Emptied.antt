@@ -10,12 +10,12 @@ use Rattle.m2_dispatch.specs.declared.turn.DispatchTurn.TheVariants as turn
 use Rattle.m2_dispatch.specs.Letters.{granted, granted_for, heard_in}
 use Rattle.m2_dispatch.specs.Parcel.{after_put, heard_at_put, thrown_away}
 use Rattle.m2_dispatch.specs.Turn.{IsTurn, dispatched}
-use Rattle.m2_record.proofs.Names.{differ}
 use Rattle.m2_shared.specs.Place.{IsAlone, Place}
 use Rattle.m2_shared.specs.Throttle.{SeenTakePass}
 use Rattle.m2_center.specs.declared.mailing.Mailed.TheVariants as mailed
 use Rattle.m2_center.specs.Mailing.{DispatchesSome, Mailing, Mails, MailsSome, PutsSome, Queueing, after_puts, all_thrown_away, back_in_mail, heard_at_puts, is_mailed, is_none}
 use Rattle.m2_center.specs.Outbox.{OutboxNow, Takes}
+use Rattle.m2_lemmas.proofs.Booleans.{false_isnt_true}
 
 -- ---- one parcel more
 
@@ -121,7 +121,7 @@ none_same (d ∷ ds) old behind e none = ap is_none e
 
 none_put_then : (put mail : List Parcel) (ls : List Letter) → [] ≡ put ++ mail → after_puts put ls ≡ ls
 none_put_then [] mail ls e = refl
-none_put_then (x ∷ xs) mail ls e = absurd (differ (sym (ap is_none e)))
+none_put_then (x ∷ xs) mail ls e = absurd (false_isnt_true (sym (ap is_none e)))
 
 was_mailed : (mail put rest : List Parcel) (before mid : List Letter) → mail ≡ put ++ rest → mid ≡ after_puts put before → is_none mail && is_none before ≡ is_none mail && is_none mid
 was_mailed (x ∷ xs) put rest before mid e w = refl

@@ -7,11 +7,11 @@ use Rattle.m2_fabric.specs.End.{SeenEnd, after_news}
 use Rattle.m2_fabric.specs.Port.{one_hears}
 use Rattle.m2_fabric.specs.Sockets.{same_socket}
 use Rattle.m2_record.specs.RecordNow.{RecordNow}
-use Rattle.m2_record.proofs.Names.{differ}
 use Rattle.m2_trail.specs.Arrivals.{LooseNow}
 use Rattle.m2_center.specs.Halves.{AllHalves, halves_of, sessions_with}
 use Rattle.m2_center.specs.Hearing.{after_hearing, ends_in, first_told, is_loose_on, is_on, loose_told, pending_told}
 use Rattle.m2_center.specs.Sessions.{AreConsistent, IsCaller, PendingNow, Supply, WasCaller, caller_in}
+use Rattle.m2_lemmas.proofs.Booleans.{false_isnt_true}
 
 -- ---- the first that is told
 
@@ -36,7 +36,7 @@ same_told {T} {X} f passes tells (x ∷ xs) so = at (passes x) (same_told f pass
 -- these have one on that socket, so it is told
 told_ends : {T : Type 0} (end : T → SeenEnd) (id : SocketId) (hears : SeenEnd → SeenEnd) (tells : T → T) (xs : List T) (ys : List SeenEnd) → ((x : T) → end (tells x) ≡ hears (end x)) →
     list_any (λ x. same_socket id (end x).id) xs ≡ true → map end (first_told (λ x. same_socket id (end x).id) tells xs) ++ ys ≡ one_hears id hears (map end xs ++ ys)
-told_ends end id hears tells [] ys so any = absurd (differ any)
+told_ends end id hears tells [] ys so any = absurd (false_isnt_true any)
 told_ends {T} end id hears tells (x ∷ xs) ys so any = at (same_socket id (end x).id) any (λ h. told_ends end id hears tells xs ys so h)
   where
     at : (b : Bool) → b || list_any (λ x. same_socket id (end x).id) xs ≡ true →
@@ -55,7 +55,7 @@ passed_ends {T} end id hears (x ∷ xs) ys none = at (same_socket id (end x).id)
     at : (b : Bool) → b || list_any (λ x. same_socket id (end x).id) xs ≡ false →
         (list_any (λ x. same_socket id (end x).id) xs ≡ false → map end xs ++ one_hears id hears ys ≡ one_hears id hears (map end xs ++ ys)) →
         end x ∷ (map end xs ++ one_hears id hears ys) ≡ (if b then hears (end x) ∷ (map end xs ++ ys) else end x ∷ one_hears id hears (map end xs ++ ys))
-    at true h rest = absurd (differ (sym h))
+    at true h rest = absurd (false_isnt_true (sym h))
     at false h rest = ap (λ l. end x ∷ l) (rest h)
 
 last_ends : {T : Type 0} (end : T → SeenEnd) (id : SocketId) (hears : SeenEnd → SeenEnd) (tells : T → T) (xs : List T) → ((x : T) → end (tells x) ≡ hears (end x)) →

@@ -67,7 +67,7 @@ chain a b c first second = record {
 
 -- ---- entries that bring no socket
 
-closed : (end : Option SeenEnd) → AllByRecursion BringsNoSocket (closed_entries end)
+pub closed : (end : Option SeenEnd) → AllByRecursion BringsNoSocket (closed_entries end)
 closed (Some e) = (tt, tt)
 closed None = tt
 
@@ -244,7 +244,7 @@ composes_last false false false false false true g at h = absurd (true≢false (
 composes_last false false false false false false true at h = refl
 composes_last false false false false false false false at h = absurd (true≢false (sym h))
 
-to_be_composed : (now : ℕ) (r : RecordNow) → due_step now r ≡ due.Compose → IsSome (to_compose r.core)
+pub to_be_composed : (now : ℕ) (r : RecordNow) → due_step now r ≡ due.Compose → IsSome (to_compose r.core)
 to_be_composed now r e =
     composes_last (has_plan r) (has_parcel r.parcels) (may_connect now r) (may_write r) (has_frame r) (may_read r) (may_compose r) r.waits.next_dial (ap is_compose e)
 

@@ -7,10 +7,10 @@ use Rattle.m2_record.specs.RecordNow.{RecordNow}
 use Rattle.m2_center.specs.Center.{CenterNow, IsCenter}
 use Rattle.m2_center.specs.Finishing.{AllOwn, IsGranted, rest_of}
 use Rattle.m2_center.specs.Sessions.{IsSupplied, Supply}
-use Rattle.m2_center.proofs.Peers.{each}
+use Rattle.m2_lemmas.proofs.Lists.{all_so}
 
 pub all_own : (s : Supply) (made : List SocketId) (rs : List RecordNow) → AllByRecursion (IsSupplied s made) rs → AllOwn s.place rs
-all_own s made rs all = each (IsSupplied s made) (Owns s.place) (λ r is. is.owned) rs all
+all_own s made rs all = all_so (IsSupplied s made) (Owns s.place) (λ r is. is.owned) rs all
 
 pub rest_granted : {D : Type 0} (c : CenterNow D) → IsCenter c → IsGranted c.bytes.place (rest_of c)
 rest_granted c is = record {

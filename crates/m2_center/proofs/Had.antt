@@ -6,13 +6,14 @@ use Rattle.m2_fabric.specs.End.{SeenEnd}
 use Rattle.m2_fabric.specs.Sockets.{IsNewTo, is_among, same_socket}
 use Rattle.m2_record.specs.IsRecord.{IsRecord}
 use Rattle.m2_record.specs.RecordNow.{RecordNow, ends_of, ids_of}
-use Rattle.m2_record.proofs.Names.{differ, same_equal}
 use Rattle.m2_trail.specs.Arrivals.{LooseNow}
 use Rattle.m2_center.specs.Halves.{AllHalves, sessions_with}
 use Rattle.m2_center.specs.Hearing as halves
 use Rattle.m2_center.specs.Sessions.{AreConsistent, IsCaller, IsSupplied, PendingNow, Supply, WasCaller, caller_in}
 use Rattle.m2_center.proofs.Came.{are_known}
 use Rattle.m2_center.proofs.RecordsHear.{among_both}
+use Rattle.m2_lemmas.proofs.Booleans.{false_isnt_true}
+use Rattle.m2_fabric.proofs.Sockets.{same_equal}
 
 module _ (id : SocketId) (made : List SocketId) (fresh : IsNewTo made id) where
   -- none of these lists has it, so both together don't
@@ -28,7 +29,7 @@ module _ (id : SocketId) (made : List SocketId) (fresh : IsNewTo made id) where
   not_made k among = at (same_socket id k) refl
     where
       at : (b : Bool) → same_socket id k ≡ b → b ≡ false
-      at true e = absurd (differ (sym fresh ∙ (ap (λ x. is_among x made) (same_equal id k e) ∙ among)))
+      at true e = absurd (false_isnt_true (sym fresh ∙ (ap (λ x. is_among x made) (same_equal id k e) ∙ among)))
       at false e = refl
 
   not_of_halves : (rs : List RecordNow) (ps : List PendingNow) → AllByRecursion (λ (p : PendingNow). IsCaller made rs (caller_in p)) ps →
@@ -54,4 +55,4 @@ had_made id made s entity rs h are c had = at (is_among id made) refl
   where
     at : (b : Bool) → is_among id made ≡ b → b ≡ true
     at true e = refl
-    at false e = absurd (differ (sym (not_had id made e s entity rs h are c) ∙ had))
+    at false e = absurd (false_isnt_true (sym (not_had id made e s entity rs h are c) ∙ had))

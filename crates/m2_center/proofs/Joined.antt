@@ -1,7 +1,7 @@
 -- A socket that a port has just given is new to all that a center keeps, which stays consistent with a half on it.
 use Rattle.std.proofs.Common.{◌≡◌, ℕ, nat_lt, Bool, true, false, ◌||◌, if◌then◌else◌, List, [], ◌∷◌, ◌++◌, length, map, None, refl, sym, ap, subst, ◌∙◌, inl, inr, append_assoc}
 use Rattle.std.proofs.lemmas.List.{map-append}
-use Rattle.std.specs.List.{AllByRecursion, IsDistinct, filter}
+use Rattle.std.specs.List.{AllByRecursion, IsDistinct}
 use Rattle.m2_addr.proofs.Addresses.{all_push}
 use Rattle.m2_fabric.specs.declared.port.Taken.{Taken}
 use Rattle.m2_fabric.specs.declared.port.Taken.TheVariants as taken
@@ -9,13 +9,10 @@ use Rattle.m2_fabric.specs.declared.socket.SocketId.{SocketId}
 use Rattle.m2_fabric.specs.End.{SeenEnd}
 use Rattle.m2_fabric.specs.Port.{Accepts, SeenPort}
 use Rattle.m2_fabric.specs.Sockets.{IsNewTo, is_among, same_socket}
-use Rattle.m2_journal.specs.Lawful.{judged_on}
-use Rattle.m2_journal.specs.State.{Judgement}
-use Rattle.m2_journal.proofs.Sockets.{among-last, among-more, distinct-push}
+use Rattle.m2_journal.proofs.Sockets.{distinct-push}
 use Rattle.m2_record.specs.IsRecord.{IsRecord}
 use Rattle.m2_record.specs.RecordNow.{RecordNow}
 use Rattle.m2_record.specs.TakenTrails.{judgements_in}
-use Rattle.m2_record.proofs.Names.{apart, differ, same_equal}
 use Rattle.m2_trail.specs.Arrivals.{LooseNow, closed_of}
 use Rattle.m2_trail.specs.Incoming.{accepted}
 use Rattle.m2_center.specs.declared.accepting.Accepted.{Accepted}
@@ -25,7 +22,10 @@ use Rattle.m2_center.specs.declared.pending.TheConstants.{MOST_HALVES}
 use Rattle.m2_center.specs.Accepting.{Accepting, AcceptsAll, EndsWith, GivesNone, IsEnded, TakenWithin, TakesAll, TakesIn, joined, sessions_at, unasked}
 use Rattle.m2_center.specs.Halves.{AllHalves, sessions_with}
 use Rattle.m2_center.specs.Sessions.{AreConsistent, Caller, IsCaller, IsSupplied, IsTold, PendingNow, Supply, WasCaller, caller_in, caller_of, sockets_of}
-use Rattle.m2_center.proofs.Came.{are_known, both, came_names, front}
+use Rattle.m2_center.proofs.Came.{are_known, came_names}
+use Rattle.m2_journal.proofs.JudgedOn.{unjudged}
+use Rattle.m2_fabric.proofs.Sockets.{among_last, among_front, apart_turned, same_equal, among_neither, not_among_front}
+use Rattle.m2_lemmas.proofs.Booleans.{false_isnt_true}
 
 -- ---- lists
 
@@ -43,7 +43,7 @@ not_these k made [] new all = refl
 not_these k made (x ∷ xs) new all = at (same_socket k x) refl (not_these k made xs new all.1)
   where
     at : (b : Bool) → same_socket k x ≡ b → is_among k xs ≡ false → b || is_among k xs ≡ false
-    at true same rest = absurd (differ (sym new ∙ ap (λ j. is_among j made) (same_equal k x same) ∙ all.0))
+    at true same rest = absurd (false_isnt_true (sym new ∙ ap (λ j. is_among j made) (same_equal k x same) ∙ all.0))
     at false other rest = rest
 
 all_apart : (k : SocketId) (xs : List SocketId) → is_among k xs ≡ false → AllByRecursion (λ y. same_socket k y ≡ false) xs
@@ -52,7 +52,7 @@ all_apart k (x ∷ xs) new = at (same_socket k x) refl new (λ h. all_apart k xs
   where
     at : (b : Bool) → same_socket k x ≡ b → b || is_among k xs ≡ false → (is_among k xs ≡ false → AllByRecursion (λ y. same_socket k y ≡ false) xs) →
         (same_socket k x ≡ false) × AllByRecursion (λ y. same_socket k y ≡ false) xs
-    at true same h rest = absurd (differ (sym h))
+    at true same h rest = absurd (false_isnt_true (sym h))
     at false other h rest = (other, rest h)
 
 all_between : (x k : SocketId) (xs ys : List SocketId) → same_socket x k ≡ false → AllByRecursion (λ y. same_socket x y ≡ false) (xs ++ ys) →
@@ -60,7 +60,7 @@ all_between : (x k : SocketId) (xs ys : List SocketId) → same_socket x k ≡ f
 all_between x k [] ys other all = (other, all)
 all_between x k (z ∷ zs) ys other all = (all.0, all_between x k zs ys other all.1)
 
--- a new socket between others is apart from them
+-- a new socket between others is apart_turned from them
 pub distinct_between : (k : SocketId) (xs ys : List SocketId) → IsDistinct same_socket (xs ++ ys) → is_among k (xs ++ ys) ≡ false → IsDistinct same_socket (xs ++ k ∷ ys)
 unfolding IsDistinct
 distinct_between k [] ys once new = (all_apart k ys new, once)
@@ -68,20 +68,10 @@ distinct_between k (x ∷ xs) ys once new = at (same_socket k x) refl new (λ h.
   where
     at : (b : Bool) → same_socket k x ≡ b → b || is_among k (xs ++ ys) ≡ false → (is_among k (xs ++ ys) ≡ false → IsDistinct same_socket (xs ++ k ∷ ys)) →
         AllByRecursion (λ y. same_socket x y ≡ false) (xs ++ k ∷ ys) × IsDistinct same_socket (xs ++ k ∷ ys)
-    at true same h rest = absurd (differ (sym h))
-    at false other h rest = (all_between x k xs ys (apart k x other) once.0, rest h)
+    at true same h rest = absurd (false_isnt_true (sym h))
+    at false other h rest = (all_between x k xs ys (apart_turned k x other) once.0, rest h)
 
 -- ---- callers
-
-unjudged : (k : SocketId) (js : List Judgement) → is_among k (map (λ (j : Judgement). j.socket) js) ≡ false → judged_on k js ≡ []
-unjudged k [] new = refl
-unjudged k (j ∷ js) new = at (same_socket k j.socket) new (λ h. unjudged k js h)
-  where
-    at : (b : Bool) → b || is_among k (map (λ (j : Judgement). j.socket) js) ≡ false →
-        (is_among k (map (λ (j : Judgement). j.socket) js) ≡ false → judged_on k js ≡ []) →
-        map (λ (j : Judgement). j.item) (if b then j ∷ filter (λ j. same_socket k j.socket) js else filter (λ j. same_socket k j.socket) js) ≡ []
-    at true h rest = absurd (differ (sym h))
-    at false h rest = rest h
 
 -- one that asked nothing yet, on a socket
 abbrev newcomer : (entity : ℕ) → SocketId → Caller
@@ -103,13 +93,13 @@ told_newcomer supply made entity k (r ∷ rs) new are supplied kind =
 
 -- a caller stays one when more sockets are made
 calls_on : (made more : List SocketId) (records : List RecordNow) (c : Caller) → IsCaller made records c → IsCaller (made ++ more) records c
-calls_on made more records c is = record { made = among-more c.socket made more is.made; told = is.told; unheard = is.unheard }
+calls_on made more records c is = record { made = among_front c.socket made more is.made; told = is.told; unheard = is.unheard }
 
 called_on : (made more : List SocketId) (records : List RecordNow) (l : LooseNow) → WasCaller made records l → WasCaller (made ++ more) records l
 called_on made more records l was = record { asker = was.asker; caller = calls_on made more records (caller_of was.asker l) was.caller }
 
 supplied_on : (supply : Supply) (made more : List SocketId) (r : RecordNow) → IsSupplied supply made r → IsSupplied supply (made ++ more) r
-supplied_on supply made more r is = record { owned = is.owned; top = is.top; made = (λ k new. is.made k (front k made more new)) }
+supplied_on supply made more r is = record { owned = is.owned; top = is.top; made = (λ k new. is.made k (not_among_front k made more new)) }
 
 -- the sockets of callers are among those that were made
 pending_made : (made : List SocketId) (records : List RecordNow) (ps : List PendingNow) → AllByRecursion (λ (p : PendingNow). IsCaller made records (caller_in p)) ps →
@@ -128,13 +118,13 @@ module _ (supply : Supply) (entity : ℕ) (made : List SocketId) (records : List
     (was : AreConsistent supply entity (sessions_with made records h)) (e : SeenEnd) (room : ℕ) (new : IsNewTo made e.id) where
   is_caller : IsCaller (made ++ e.id ∷ []) records (newcomer entity e.id)
   is_caller = record {
-    made = among-last e.id made;
+    made = among_last e.id made;
     told = told_newcomer supply made entity e.id records new are was.records was.kind;
     unheard = (λ _. refl);
   }
 
   new_to_all : is_among e.id (sockets_of (sessions_with made records h)) ≡ false
-  new_to_all = both e.id (map (λ (p : PendingNow). p.half.end.id) h.pending) (map (λ (l : LooseNow). l.end.id) h.loose)
+  new_to_all = among_neither e.id (map (λ (p : PendingNow). p.half.end.id) h.pending) (map (λ (l : LooseNow). l.end.id) h.loose)
       (not_these e.id made _ new (pending_made made records h.pending was.halves))
       (not_these e.id made _ new (loose_made made records h.loose was.loose))
 
@@ -154,7 +144,7 @@ module _ (supply : Supply) (entity : ℕ) (made : List SocketId) (records : List
     peers = was.peers;
     halves = all_push (λ (p : PendingNow). IsCaller (made ++ e.id ∷ []) records (caller_in p)) h.pending (unasked (accepted entity e room)) pending_still is_caller;
     loose = loose_still;
-    apart = subst (IsDistinct same_socket)
+    apart_turned = subst (IsDistinct same_socket)
         (sym (ap (λ l. l ++ map (λ (l : LooseNow). l.end.id) h.loose) (map-append (λ (p : PendingNow). p.half.end.id) h.pending (unasked (accepted entity e room) ∷ []))
         ∙ append_assoc (map (λ (p : PendingNow). p.half.end.id) h.pending) (e.id ∷ []) (map (λ (l : LooseNow). l.end.id) h.loose)))
         (distinct_between e.id (map (λ (p : PendingNow). p.half.end.id) h.pending) (map (λ (l : LooseNow). l.end.id) h.loose) was.apart new_to_all);
@@ -167,7 +157,7 @@ module _ (supply : Supply) (entity : ℕ) (made : List SocketId) (records : List
     peers = was.peers;
     halves = pending_still;
     loose = all_push (WasCaller (made ++ e.id ∷ []) records) h.loose (closed_of (accepted entity e room)) loose_still (record { asker = None; caller = is_caller });
-    apart = subst (IsDistinct same_socket)
+    apart_turned = subst (IsDistinct same_socket)
         (append_assoc (map (λ (p : PendingNow). p.half.end.id) h.pending) (map (λ (l : LooseNow). l.end.id) h.loose) (e.id ∷ [])
         ∙ ap (λ l. map (λ (p : PendingNow). p.half.end.id) h.pending ++ l) (sym (map-append (λ (l : LooseNow). l.end.id) h.loose (closed_of (accepted entity e room) ∷ []))))
         (distinct-push (sockets_of (sessions_with made records h)) e.id was.apart new_to_all);

@@ -1,6 +1,6 @@
 -- What a record knows of a half's socket stays so.
-use Rattle.std.proofs.Common.{◌≡◌, ℕ, Bool, true, false, if◌then◌else◌, List, [], ◌∷◌, ◌++◌, map, Option, Some, None, IfSome, IsSome, refl, sym, ap, subst, ◌∙◌, append-nil}
-use Rattle.std.specs.List.{AllByRecursion, filter}
+use Rattle.std.proofs.Common.{◌≡◌, ℕ, Bool, true, false, if◌then◌else◌, List, [], ◌∷◌, ◌++◌, Option, Some, None, IfSome, IsSome, refl, sym, ap, subst, ◌∙◌, append-nil}
+use Rattle.std.specs.List.{AllByRecursion}
 use Rattle.m2_core.specs.declared.verdict.Verdict.{Verdict}
 use Rattle.m2_core.specs.Judging.{verdict_on}
 use Rattle.m2_core.specs.TakingOver.{IsTakenFeed}
@@ -12,7 +12,6 @@ use Rattle.m2_journal.specs.declared.entry.Entry.{Entry}
 use Rattle.m2_journal.specs.declared.entry.Entry.TheVariants as entry
 use Rattle.m2_journal.specs.declared.entry.JudgedItem.{JudgedItem}
 use Rattle.m2_journal.specs.Lawful.{judged_on}
-use Rattle.m2_journal.specs.State.{Judgement}
 use Rattle.m2_session.specs.declared.answer.Answer.{Answer}
 use Rattle.m2_session.specs.SessionLaws.{takes}
 use Rattle.m2_handshake.specs.declared.ask.Ask.{Ask}
@@ -27,14 +26,16 @@ use Rattle.m2_record.specs.declared.stepped.Stepped.{Stepped}
 use Rattle.m2_record.specs.RecordNow.{RecordNow, ends_of, feed_end, ids_of}
 use Rattle.m2_record.specs.Stepping.{StepsAs, Worked}
 use Rattle.m2_record.specs.TakenTrails.{judgement_of, judgements_in}
-use Rattle.m2_record.proofs.Names.{differ, same_refl}
 use Rattle.m2_center.specs.Answering.{IsKnown, StaysBeside}
 use Rattle.m2_center.specs.Judging.{Judges, Judging}
 use Rattle.m2_center.specs.RecordTurn.{Means}
 use Rattle.m2_center.specs.Steps.{BringsNoSocket, GoesOn}
-use Rattle.m2_center.proofs.Came.{both, turned}
-use Rattle.m2_center.proofs.GoesOn.{room_alone, steps}
+use Rattle.m2_center.proofs.Came.{turned}
+use Rattle.m2_center.proofs.GoesOn.{room_alone, steps, closed as closed_none}
 use Rattle.m2_center.proofs.Opened.{filtered, still_made}
+use Rattle.m2_record.proofs.AsksJudged.{judged_append}
+use Rattle.m2_lemmas.proofs.Booleans.{false_isnt_true}
+use Rattle.m2_fabric.proofs.Sockets.{same_refl, among_neither}
 
 -- ---- ends and the sockets that became the feed
 
@@ -62,7 +63,7 @@ none_fed (entry.Acked number ∷ es) none = none_fed es none.1
 none_fed (entry.Obeyed full ∷ es) none = none_fed es none.1
 none_fed (entry.Down planned ∷ es) none = none_fed es none.1
 
-none_judged : (es : List Entry) → AllByRecursion BringsNoSocket es → judgements_in es ≡ []
+pub none_judged : (es : List Entry) → AllByRecursion BringsNoSocket es → judgements_in es ≡ []
 none_judged [] none = refl
 none_judged (entry.Opened k ∷ es) none = absurd none.0
 none_judged (entry.Judged k ask number answer ∷ es) none = absurd none.0
@@ -85,31 +86,17 @@ steps_known a old new on was is known = record {
   entity = known.entity ∙ sym (ap (λ f. f.node.entity) on.facts);
   new = ends_by new is a.end.id
       (ap (is_among a.end.id) (ap feeds_in on.journal ∙ filtered became_feed old.journal on.more)
-      ∙ both a.end.id (feeds_in old.journal) (feeds_in on.more) (fed_by old was a.end.id known.new) (ap (is_among a.end.id) (none_fed on.more on.no_socket)));
+      ∙ among_neither a.end.id (feeds_in old.journal) (feeds_in on.more) (fed_by old was a.end.id known.new) (ap (is_among a.end.id) (none_fed on.more on.no_socket)));
   judged = known.judged ∙ sym (ap (judged_on a.end.id) (ap judgements_in on.journal ∙ filtered judgement_of old.journal on.more ∙ ap (λ l. judgements_in old.journal ++ l) (none_judged on.more on.no_socket) ∙ append-nil (judgements_in old.journal)));
 }
 
 -- ---- an ask that is judged and takes no socket
-
-judged_append : (k : SocketId) (xs ys : List Judgement) → judged_on k (xs ++ ys) ≡ judged_on k xs ++ judged_on k ys
-judged_append k [] ys = refl
-judged_append k (x ∷ xs) ys = at (same_socket k x.socket) (judged_append k xs ys)
-  where
-    at : (b : Bool) → judged_on k (xs ++ ys) ≡ judged_on k xs ++ judged_on k ys →
-        map (λ (j : Judgement). j.item) (if b then x ∷ filter (λ j. same_socket k j.socket) (xs ++ ys) else filter (λ j. same_socket k j.socket) (xs ++ ys))
-        ≡ map (λ (j : Judgement). j.item) (if b then x ∷ filter (λ j. same_socket k j.socket) xs else filter (λ j. same_socket k j.socket) xs) ++ judged_on k ys
-    at true rest = ap (λ (l : List JudgedItem). x.item ∷ l) rest
-    at false rest = rest
 
 judged_here : (k : SocketId) (i : JudgedItem) → judged_on k (record { socket = k; item = i } ∷ []) ≡ i ∷ []
 judged_here k i = rw (same_refl k) refl
 
 judged_elsewhere : (k x : SocketId) (i : JudgedItem) → same_socket k x ≡ false → judged_on k (record { socket = x; item = i } ∷ []) ≡ []
 judged_elsewhere k x i other = rw other refl
-
-pub closed_none : (end : Option SeenEnd) → AllByRecursion BringsNoSocket (closed_entries end)
-closed_none (Some e) = (tt, tt)
-closed_none None = tt
 
 -- the judgements behind the entry of an ask, and of a feed that its answer closed
 judged_behind : (journal : List Entry) (v : Verdict) (x : SocketId) (closed : Option SeenEnd) (k : SocketId) →
@@ -132,7 +119,7 @@ fed_behind journal v x closed k here new =
     ∙ ap (λ l. feeds_in (journal ++ judged_entry v x ∷ []) ++ l) (none_fed (closed_entries closed) (closed_none closed))
     ∙ append-nil (feeds_in (journal ++ judged_entry v x ∷ []))
     ∙ filtered became_feed journal (judged_entry v x ∷ []))
-    ∙ both k (feeds_in journal) (feeds_in (judged_entry v x ∷ [])) new here
+    ∙ among_neither k (feeds_in journal) (feeds_in (judged_entry v x ∷ [])) new here
 
 untaken : (v : Verdict) (x k : SocketId) → takes v.answer ≡ false → is_among k (feeds_in (judged_entry v x ∷ [])) ≡ false
 untaken v x k e = rw e refl
@@ -178,7 +165,7 @@ pub back_known : {E : Type 0} (answer : Answer) (arrival a : IncomingNow) (m : M
 back_known {E} answer arrival a m old new some was is known j = at a.ask refl j.judges some
   where
     at : (o : Option Ask) → a.ask ≡ o → IfSome o (λ ask. JudgesAs {E = E} (judged.Back answer arrival) (verdict_on (facts_of_ask ask) j.number old.side.core.live) a m.now old.side new.side) → IsSome o → IsKnown arrival new.side
-    at None e h none = absurd (differ none)
+    at None e h none = absurd (false_isnt_true none)
     at (Some ask) e (same, no_taking, back, answers) _ =
         let v = verdict_on (facts_of_ask ask) j.number old.side.core.live in
         same_known a arrival old.side new.side v _ was is (ap takes (sym same) ∙ no_taking)
@@ -189,7 +176,7 @@ back_known {E} answer arrival a m old new some was is known j = at a.ask refl j.
 taken_known : (v : Verdict) (h : TakenHalf) (now : ℕ) (b : IncomingNow) (old new : RecordNow) (o : Option FeedNow) →
     IfSome o (λ d. IsTakenFeed v h.end h.unread old.core d × (new ≡ record (after_taking_over v h d now old) { room = new.room })) → IsSome o →
     IsRecord old → IsRecord new → same_socket b.end.id h.end.id ≡ false → IsKnown b old → IsKnown b new
-taken_known v h now b old new None e none was is other known = absurd (differ none)
+taken_known v h now b old new None e none was is other known = absurd (false_isnt_true none)
 taken_known v h now b old new (Some d) (_, e) _ was is other known =
     other_known b old new v h.end.id _ was is other (ap (λ r. r.core.facts) e) (ap (λ r. r.journal) e) known
 
@@ -204,7 +191,7 @@ others_known {E} j a b m old new some was is other known h = at a.ask h.judges s
     by_answer (judged.NoMemory arrival) v (_, room) = steps_known b old.side new.side (room_alone old.side new.side room) was is known
 
     at : (o : Option Ask) → IfSome o (λ ask. JudgesAs j (verdict_on (facts_of_ask ask) h.number old.side.core.live) a m.now old.side new.side) → IsSome o → IsKnown b new.side
-    at None e none = absurd (differ none)
+    at None e none = absurd (false_isnt_true none)
     at (Some ask) e _ = by_answer j (verdict_on (facts_of_ask ask) h.number old.side.core.live) e
 
 -- ---- what stays beside a record

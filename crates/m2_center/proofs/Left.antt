@@ -8,8 +8,9 @@ use Rattle.m2_record.specs.RecordNow.{RecordNow}
 use Rattle.m2_trail.specs.Arrivals.{LooseNow, left_of}
 use Rattle.m2_center.specs.Halves.{AllHalves, after_leaving, sessions_with}
 use Rattle.m2_center.specs.Sessions.{AreConsistent, IsCaller, PendingNow, Supply, WasCaller, caller_in}
-use Rattle.m2_center.proofs.Came.{back, both, front}
+use Rattle.m2_center.proofs.Came.{back}
 use Rattle.m2_center.proofs.Joined.{distinct_between}
+use Rattle.m2_fabric.proofs.Sockets.{among_neither, not_among_front}
 
 pub all_join : {T : Type 0} (P : T → Type 0) (xs ys : List T) → AllByRecursion P xs → AllByRecursion P ys → AllByRecursion P (xs ++ ys)
 all_join P [] ys first second = second
@@ -34,7 +35,7 @@ unfolding IsDistinct
 turned_around [] ys once = subst (IsDistinct same_socket) (sym (append-nil ys)) once
 turned_around (x ∷ xs) ys once =
     let others = none_of x (xs ++ ys) once.0 in
-    distinct_between x ys xs (turned_around xs ys once.1) (both x ys xs (back x xs ys others) (front x xs ys others))
+    distinct_between x ys xs (turned_around xs ys once.1) (among_neither x ys xs (back x xs ys others) (not_among_front x xs ys others))
 
 pub leaving_stays : (supply : Supply) (entity : ℕ) (made : List SocketId) (records : List RecordNow) (h : AllHalves) →
     AreConsistent supply entity (sessions_with made records h) → AreConsistent supply entity (sessions_with made records (after_leaving h))

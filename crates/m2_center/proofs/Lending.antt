@@ -8,10 +8,10 @@ use Rattle.m2_fabric.specs.End.{SeenEnd}
 use Rattle.m2_fabric.specs.Log.{Log}
 use Rattle.m2_fabric.specs.Sockets.{same_socket}
 use Rattle.m2_record.specs.Sources.{end_at}
-use Rattle.m2_record.proofs.Names.{differ}
 use Rattle.m2_center.specs.Hearing.{is_on}
 use Rattle.m2_center.specs.Pending.{first_key, in_order, is_found}
 use Rattle.m2_center.specs.Sessions.{PendingNow}
+use Rattle.m2_lemmas.proofs.Booleans.{false_isnt_true}
 
 abbrev value_under : Slab PendingNow → Option ℕ → Option PendingNow
 value_under s None = None
@@ -53,7 +53,7 @@ abbrev log_at : List SeenEnd → SocketId → Option Log
 log_at es k = option_map (λ (e : SeenEnd). e.log) (end_at es k)
 
 pub first_part : (xs ys : List SeenEnd) (k : SocketId) (l : Log) → Some l ≡ log_at xs k → Some l ≡ log_at (xs ++ ys) k
-first_part [] ys k l h = absurd (differ (sym (ap is_some h)))
+first_part [] ys k l h = absurd (false_isnt_true (sym (ap is_some h)))
 first_part (x ∷ xs) ys k l h = at (same_socket k x.id) h (λ g. first_part xs ys k l g)
   where
     at : (b : Bool) → Some l ≡ option_map (λ (e : SeenEnd). e.log) (if b then Some x else end_at xs k) → (Some l ≡ log_at xs k → Some l ≡ log_at (xs ++ ys) k) →
@@ -67,5 +67,5 @@ second_part (x ∷ xs) ys k h = at (same_socket k x.id) h (λ g. second_part xs 
   where
     at : (b : Bool) → None ≡ option_map (λ (e : SeenEnd). e.log) (if b then Some x else end_at xs k) → (None ≡ log_at xs k → log_at ys k ≡ log_at (xs ++ ys) k) →
         log_at ys k ≡ option_map (λ (e : SeenEnd). e.log) (if b then Some x else end_at (xs ++ ys) k)
-    at true g rest = absurd (differ (ap is_some g))
+    at true g rest = absurd (false_isnt_true (ap is_some g))
     at false g rest = rest g

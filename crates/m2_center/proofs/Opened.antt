@@ -17,10 +17,11 @@ use Rattle.m2_record.specs.Calls.{ConnectIsDue, Connects, IsNewSocket, IsSameBut
 use Rattle.m2_record.specs.Due.{due_step, has_frame, has_parcel, has_plan, may_compose, may_connect, may_read, may_write}
 use Rattle.m2_record.specs.IsRecord.{IsRecord}
 use Rattle.m2_record.specs.RecordNow.{IsSessionOf, RecordNow}
-use Rattle.m2_record.proofs.Names.{differ}
 use Rattle.m2_center.specs.Connecting.{IsMadeBy}
 use Rattle.m2_center.specs.Steps.{BringsNoSocket, GoesOn, came_by, came_in}
-use Rattle.m2_center.proofs.Came.{are_known, back, both, front}
+use Rattle.m2_center.proofs.Came.{are_known, back}
+use Rattle.m2_lemmas.proofs.Booleans.{false_isnt_true}
+use Rattle.m2_fabric.proofs.Sockets.{among_neither, not_among_front}
 
 -- ---- the connect that is due
 
@@ -32,14 +33,14 @@ abbrev chain : (plan hand connect write frame read compose : Bool) → ℕ → D
 chain a b c d e f g n = if a then due.Plan else (if b then due.Hand else (if c then due.Connect n else (if d then due.Write else (if e then due.Frame else (if f then due.Read else (if g then due.Compose else due.Nothing))))))
 
 at_its_moment : (a b c d e f g : Bool) (n : ℕ) → is_connect (chain a b c d e f g n) ≡ true → chain a b c d e f g n ≡ due.Connect n
-at_its_moment true b c d e f g n h = absurd (differ h)
-at_its_moment false true c d e f g n h = absurd (differ h)
+at_its_moment true b c d e f g n h = absurd (false_isnt_true h)
+at_its_moment false true c d e f g n h = absurd (false_isnt_true h)
 at_its_moment false false true d e f g n h = refl
-at_its_moment false false false true e f g n h = absurd (differ h)
-at_its_moment false false false false true f g n h = absurd (differ h)
-at_its_moment false false false false false true g n h = absurd (differ h)
-at_its_moment false false false false false false true n h = absurd (differ h)
-at_its_moment false false false false false false false n h = absurd (differ h)
+at_its_moment false false false true e f g n h = absurd (false_isnt_true h)
+at_its_moment false false false false true f g n h = absurd (false_isnt_true h)
+at_its_moment false false false false false true g n h = absurd (false_isnt_true h)
+at_its_moment false false false false false false true n h = absurd (false_isnt_true h)
+at_its_moment false false false false false false false n h = absurd (false_isnt_true h)
 
 pub is_due : (now at : ℕ) (d : Due) (old mid : RecordNow) → d ≡ due_step now old → d ≡ due.Connect at → IsSameButRoom old mid → ConnectIsDue now mid
 is_due now at d old mid e is room =
@@ -76,7 +77,7 @@ none_came (entry.Down planned ∷ es) none = none_came es none.1
 pub still_made : (made : List SocketId) (old new : RecordNow) → GoesOn old new → IsMadeBy made old → IsMadeBy made new
 still_made made old new on known k fresh =
     ap (is_among k) (ap came_in on.journal ∙ filtered came_by old.journal on.more)
-    ∙ both k (came_in old.journal) (came_in on.more) (known k fresh) (ap (is_among k) (none_came on.more on.no_socket))
+    ∙ among_neither k (came_in old.journal) (came_in on.more) (known k fresh) (ap (is_among k) (none_came on.more on.no_socket))
 
 pub room_made : (made : List SocketId) (old mid : RecordNow) → IsSameButRoom old mid → IsMadeBy made old → IsMadeBy made mid
 room_made made old mid room known k fresh = ap (λ (r : RecordNow). is_among k (came_in r.journal)) room ∙ known k fresh
@@ -94,13 +95,13 @@ is_new to made e s mid kept of_peer is known fresh =
 
 pub opened_entry : (e : SeenEnd) (old new : RecordNow) (o : Option FeedNow) → IfSome o (λ v. IsOpening old.core.facts e v × (new ≡ record (with_opened v e.id old) { room = new.room })) → IsSome o → new.journal ≡ old.journal ++ entry.Opened e.id ∷ []
 opened_entry e old new (Some v) (_, h) some = ap (λ (r : RecordNow). r.journal) h
-opened_entry e old new None h some = absurd (differ some)
+opened_entry e old new None h some = absurd (false_isnt_true some)
 
 pub opened_facts : (e : SeenEnd) (old new : RecordNow) (o : Option FeedNow) → IfSome o (λ v. IsOpening old.core.facts e v × (new ≡ record (with_opened v e.id old) { room = new.room })) → IsSome o → new.core.facts ≡ old.core.facts
 opened_facts e old new (Some v) (_, h) some = ap (λ (r : RecordNow). r.core.facts) h
-opened_facts e old new None h some = absurd (differ some)
+opened_facts e old new None h some = absurd (false_isnt_true some)
 
 pub opened_made : (made : List SocketId) (e : SeenEnd) (old new : RecordNow) → IsMadeBy made old → Connects e old new → IsMadeBy (made ++ e.id ∷ []) new
 opened_made made e old new known opens k fresh =
     ap (is_among k) (ap came_in (opened_entry e old new new.core.live.feed opens.0 opens.1) ∙ filtered came_by old.journal (entry.Opened e.id ∷ []))
-    ∙ both k (came_in old.journal) (e.id ∷ []) (known k (front k made (e.id ∷ []) fresh)) (back k made (e.id ∷ []) fresh)
+    ∙ among_neither k (came_in old.journal) (e.id ∷ []) (known k (not_among_front k made (e.id ∷ []) fresh)) (back k made (e.id ∷ []) fresh)

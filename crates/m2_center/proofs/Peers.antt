@@ -2,41 +2,24 @@
 use Rattle.std.proofs.Common.{◌≡◌, ℕ, zero, suc, ◌<◌, Bool, true, false, List, [], ◌∷◌, map, length, refl, sym, ap, subst, ◌∙◌, arith}
 use Rattle.std.specs.Prelude.{◌==◌, ◌&&◌, slice_index_or, slice_set}
 use Rattle.std.specs.List.{AllByRecursion, IsDistinct}
-use Rattle.std.proofs.lemmas.Bool.{eqb-true}
 use Rattle.std.proofs.lemmas.Map.Keys.{IsDistinct-head, IsDistinct-tail}
 use Rattle.m2_addr.specs.declared.addr.Addr.{Addr}
 use Rattle.m2_handshake.specs.Asks.{same_addr}
 use Rattle.m2_record.specs.RecordNow.{RecordNow}
-use Rattle.m2_record.proofs.Names.{both, differ}
 use Rattle.m2_center.specs.Sessions.{peer_of}
-
-pub addr_equal : (a b : Addr) → same_addr a b ≡ true → a ≡ b
-addr_equal a b h =
-    let kind = a.kind == b.kind in
-    let nonce = a.nonce == b.nonce in
-    let ip = a.ip == b.ip in
-    let three = both ((kind && nonce) && ip) (a.port == b.port) h in
-    let two = both (kind && nonce) ip three.0 in
-    let one = both kind nonce two.0 in
-    rw (eqb-true a.kind b.kind one.0, eqb-true a.nonce b.nonce one.1, eqb-true a.ip b.ip two.1, eqb-true a.port b.port three.1) refl
+use Rattle.m2_lemmas.proofs.Lists.{all_of_map}
+use Rattle.m2_handshake.proofs.Idents.{same_means}
+use Rattle.m2_lemmas.proofs.Booleans.{false_isnt_true}
 
 -- what is not the second isn't the first, where they are the same
 pub differs_too : (a b c : Addr) → same_addr a b ≡ true → same_addr b c ≡ false → same_addr a c ≡ false
-differs_too a b c same other = ap (λ x. same_addr x c) (addr_equal a b same) ∙ other
+differs_too a b c same other = ap (λ x. same_addr x c) (same_means a b same) ∙ other
 
 -- ---- facts of all records
-
-pub each : {X : Type 0} (P Q : X → Type 0) → ((x : X) → P x → Q x) → (xs : List X) → AllByRecursion P xs → AllByRecursion Q xs
-each P Q f [] all = tt
-each P Q f (x ∷ xs) all = (f x all.0, each P Q f xs all.1)
 
 pub each_of_two : {X : Type 0} (P R Q : X → Type 0) → ((x : X) → P x → R x → Q x) → (xs : List X) → AllByRecursion P xs → AllByRecursion R xs → AllByRecursion Q xs
 each_of_two P R Q f [] all too = tt
 each_of_two P R Q f (x ∷ xs) all too = (f x all.0 too.0, each_of_two P R Q f xs all.1 too.1)
-
-pub mapped : {X Y : Type 0} (P : Y → Type 0) (f : X → Y) (xs : List X) → AllByRecursion P (map f xs) → AllByRecursion (λ x. P (f x)) xs
-mapped P f [] all = tt
-mapped P f (x ∷ xs) all = (all.0, mapped P f xs all.1)
 
 -- that of the record at a place
 pub at_place : (P : RecordNow → Type 0) (side : RecordNow) (rs : List RecordNow) (place : ℕ) → place < length rs → slice_index_or rs place side ≡ side → AllByRecursion P rs → P side
@@ -53,7 +36,7 @@ with_one P Q peer side behind (r ∷ rs) zero apart within here same others one 
   one (subst P here all.0),
   each_of_two P (λ s. same_addr (peer_of r) (peer_of s) ≡ false) Q
       (λ s p other. others s (differs_too peer (peer_of r) (peer_of s) (subst (λ t. same_addr peer (peer_of t) ≡ true) (sym here) same) other) p) rs all.1
-      (mapped (λ a. same_addr (peer_of r) a ≡ false) peer_of rs (IsDistinct-head same_addr (peer_of r) (map peer_of rs) apart)),
+      (all_of_map (λ a. same_addr (peer_of r) a ≡ false) peer_of rs (IsDistinct-head same_addr (peer_of r) (map peer_of rs) apart)),
 )
 with_one P Q peer side behind (r ∷ rs) (suc n) apart within here same others one all = (
   others r (before (same_addr peer (peer_of r)) refl) all.0,
@@ -62,10 +45,10 @@ with_one P Q peer side behind (r ∷ rs) (suc n) apart within here same others o
   where
     far : same_addr (peer_of r) (peer_of side) ≡ false
     far = at_place (λ s. same_addr (peer_of r) (peer_of s) ≡ false) side rs n (omega (arith, within)) here
-        (mapped (λ a. same_addr (peer_of r) a ≡ false) peer_of rs (IsDistinct-head same_addr (peer_of r) (map peer_of rs) apart))
+        (all_of_map (λ a. same_addr (peer_of r) a ≡ false) peer_of rs (IsDistinct-head same_addr (peer_of r) (map peer_of rs) apart))
 
     before : (b : Bool) → same_addr peer (peer_of r) ≡ b → b ≡ false
-    before true e = absurd (differ (sym far ∙ ap (λ a. same_addr a (peer_of side)) (sym (addr_equal peer (peer_of r) e)) ∙ same))
+    before true e = absurd (false_isnt_true (sym far ∙ ap (λ a. same_addr a (peer_of side)) (sym (same_means peer (peer_of r) e)) ∙ same))
     before false e = refl
 
 -- ---- the peers stay

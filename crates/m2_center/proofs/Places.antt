@@ -18,13 +18,13 @@ use Rattle.m2_record.specs.Calls.{Owns}
 use Rattle.m2_record.specs.RecordNow.{RecordNow, composed_on, feed_end}
 use Rattle.m2_session.specs.declared.session.Session.{Session}
 use Rattle.m2_trail.specs.Trails.{TrailNow}
-use Rattle.m2_record.proofs.Names.{differ}
 use Rattle.m2_center.specs.Plans.{is_towards, parts_of, place_towards, side_towards}
 use Rattle.m2_center.specs.Answering.{StaysBeside}
 use Rattle.m2_center.specs.Beside.{AllKeepCallers, KeepsCallers}
 use Rattle.m2_center.specs.Halves.{AllHalves, sessions_with}
 use Rattle.m2_center.specs.Sessions.{AreConsistent, IsSupplied, Supply}
 use Rattle.m2_center.proofs.Told.{all_the_same, beside, none_made, nothing_told_on, stay}
+use Rattle.m2_lemmas.proofs.Booleans.{false_isnt_true}
 
 -- ---- the first that passes
 
@@ -65,7 +65,7 @@ pub found_nowhere : {X : Type 0} (p : X → Bool) (xs : List X) → position p x
 found_nowhere p xs e = find_at p xs ∙ slice_get_past xs (position_or_len p xs) (at (nat_lt (position_or_len p xs) (length xs)) refl e)
   where
     at : (b : Bool) → nat_lt (position_or_len p xs) (length xs) ≡ b → cond b (Some (position_or_len p xs)) None ≡ None → length xs ≤ position_or_len p xs
-    at true t h = absurd (differ (sym (ap is_some h)))
+    at true t h = absurd (false_isnt_true (sym (ap is_some h)))
     at false t h = ltb-false (position_or_len p xs) (length xs) t
 
 -- ---- the first towards a peer, as the code finds it

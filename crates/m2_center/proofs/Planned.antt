@@ -12,19 +12,19 @@ use Rattle.m2_record.specs.Calls.{IsSameButRoom, TakesNext, planned_too, returne
 use Rattle.m2_record.specs.Due.{next_step}
 use Rattle.m2_record.specs.IsRecord.{IsRecord}
 use Rattle.m2_record.specs.RecordNow.{RecordNow}
-use Rattle.m2_record.proofs.Names.{differ}
 use Rattle.m2_center.specs.Answering.{StaysBeside}
 use Rattle.m2_center.specs.Planning.{PlansNow}
 use Rattle.m2_center.specs.Steps.{GoesOn}
 use Rattle.m2_center.proofs.GoesOn.{chain, plans, room_alone, same}
 use Rattle.m2_center.proofs.Known.{goes_on_stays}
+use Rattle.m2_lemmas.proofs.Booleans.{false_isnt_true}
 
 -- ---- the new step is the next one
 
 behind_all : (xs : List PlanStep) (n : ℕ) (x : PlanStep) → n ≤ length xs → slice_get xs n ≡ None → slice_get (xs ++ x ∷ []) n ≡ Some x
 behind_all [] zero x within none = refl
 behind_all [] (suc n) x within none = absurd (omega (arith, within))
-behind_all (y ∷ ys) zero x within none = absurd (differ (sym (ap is_some none)))
+behind_all (y ∷ ys) zero x within none = absurd (false_isnt_true (sym (ap is_some none)))
 behind_all (y ∷ ys) (suc n) x within none = behind_all ys n x (omega (arith, within)) none
 
 within_plan : (r : RecordNow) → IsRecord r → r.steps ≤ length r.plan

@@ -19,7 +19,7 @@ use Rattle.m2_center.specs.HalfTurn.{Others, TurnsHalf, with_turned}
 use Rattle.m2_center.specs.HalvesTurn.{Callers, HalfTurns, HalvesTurning, OldestTurns, OneLacked, TurnLeadsOn, TurnsHalves, TurnsOldest, all_wait, memory_in, over_by, stays_by}
 use Rattle.m2_center.specs.RecordTurn.{Means}
 use Rattle.m2_center.specs.Sessions.{AreConsistent, IsCaller, PendingNow, Sessions, Supply, caller_in}
-use Rattle.m2_center.proofs.Turned.{flips}
+use Rattle.m2_fabric.proofs.Sockets.{same_turned}
 
 -- ---- halves in another order
 
@@ -35,7 +35,7 @@ permuted s e made rs hs gs ls moves all = record {
   halves = recursion_from_All (λ (p : PendingNow). IsCaller made rs (caller_in p)) gs
       (All-permutation (λ (p : PendingNow). IsCaller made rs (caller_in p)) hs gs moves (All-from_recursion (λ (p : PendingNow). IsCaller made rs (caller_in p)) hs all.halves));
   loose = all.loose;
-  apart = IsDistinct-IsPermutation same_socket flips _ _
+  apart = IsDistinct-IsPermutation same_socket same_turned _ _
       (IsPermutation-append_left (map (λ (l : LooseNow). l.end.id) ls) (map (λ (p : PendingNow). p.half.end.id) hs) (map (λ (p : PendingNow). p.half.end.id) gs)
       (IsPermutation-map (λ (p : PendingNow). p.half.end.id) hs gs moves)) all.apart;
 }

@@ -19,7 +19,6 @@ use Rattle.m2_record.specs.Calls as record_
 use Rattle.m2_record.specs.Due.{on_feed}
 use Rattle.m2_record.specs.RecordNow.{RecordNow, ends_of, feed_end, ids_of}
 use Rattle.m2_record.specs.TakenTrails.{judgements_in}
-use Rattle.m2_record.proofs.Names.{differ}
 use Rattle.m2_center.specs.Beside.{AllKeepCallers, KeepsCallers}
 use Rattle.m2_center.specs.Center.{CenterNow}
 use Rattle.m2_center.specs.Halves.{AllHalves, sessions_with}
@@ -30,6 +29,7 @@ use Rattle.m2_trail.specs.Arrivals.{LooseNow}
 use Rattle.m2_center.specs.Sessions.{PendingNow, AreConsistent, IsSupplied, Supply, is_asker, peer_of}
 use Rattle.m2_center.proofs.EndsHear.{heard_ends}
 use Rattle.m2_center.proofs.Told.{all_the_same, none_made, nothing_told_on, stay}
+use Rattle.m2_lemmas.proofs.Booleans.{false_isnt_true}
 
 or_assoc : (a b c : Bool) → (a || b) || c ≡ a || (b || c)
 or_assoc true b c = refl
@@ -40,7 +40,7 @@ or_assoc false b c = refl
 module _ (id : SocketId) (hears : SeenEnd → SeenEnd) where
   -- the one that hears is among the first
   pub hears_first : (xs ys : List SeenEnd) → is_among id (ids_of xs) ≡ true → one_hears id hears (xs ++ ys) ≡ one_hears id hears xs ++ ys
-  hears_first [] ys any = absurd (differ any)
+  hears_first [] ys any = absurd (false_isnt_true any)
   hears_first (x ∷ xs) ys any = at (same_socket id x.id) any (λ h. hears_first xs ys h)
     where
       at : (b : Bool) → b || is_among id (ids_of xs) ≡ true → (is_among id (ids_of xs) ≡ true → one_hears id hears (xs ++ ys) ≡ one_hears id hears xs ++ ys) →
@@ -55,7 +55,7 @@ module _ (id : SocketId) (hears : SeenEnd → SeenEnd) where
     where
       at : (b : Bool) → b || is_among id (ids_of xs) ≡ false → (is_among id (ids_of xs) ≡ false → one_hears id hears (xs ++ ys) ≡ xs ++ one_hears id hears ys) →
           (if b then hears x ∷ (xs ++ ys) else x ∷ one_hears id hears (xs ++ ys)) ≡ x ∷ (xs ++ one_hears id hears ys)
-      at true h rest = absurd (differ (sym h))
+      at true h rest = absurd (false_isnt_true (sym h))
       at false h rest = ap (λ l. x ∷ l) (rest h)
 
   -- none hears
@@ -65,7 +65,7 @@ module _ (id : SocketId) (hears : SeenEnd → SeenEnd) where
     where
       at : (b : Bool) → b || list_any (λ (e : SeenEnd). same_socket id e.id) xs ≡ false → (list_any (λ (e : SeenEnd). same_socket id e.id) xs ≡ false → one_hears id hears xs ≡ xs) →
           (if b then hears x ∷ xs else x ∷ one_hears id hears xs) ≡ x ∷ xs
-      at true h rest = absurd (differ (sym h))
+      at true h rest = absurd (false_isnt_true (sym h))
       at false h rest = ap (λ l. x ∷ l) (rest h)
 
   ids_hear : ((e : SeenEnd) → (hears e).id ≡ e.id) → (xs : List SeenEnd) → ids_of (one_hears id hears xs) ≡ ids_of xs
@@ -225,7 +225,7 @@ module _ (id : SocketId) (news : News) (bytes : List ℕ) where
   -- ---- the ends of all
 
   ends_told : (rs : List RecordNow) (ys : List SeenEnd) → list_any (has_end id) rs ≡ true → flat_map ends_of (records_hear id news bytes rs) ++ ys ≡ one_hears id hears (flat_map ends_of rs ++ ys)
-  ends_told [] ys any = absurd (differ any)
+  ends_told [] ys any = absurd (false_isnt_true any)
   ends_told (r ∷ rs) ys any = at (has_end id r) refl any (λ h. ends_told rs ys h)
     where
       parts : (xs zs : List SeenEnd) → (xs ++ zs) ++ ys ≡ xs ++ (zs ++ ys)
@@ -252,7 +252,7 @@ module _ (id : SocketId) (news : News) (bytes : List ℕ) where
       at : (b : Bool) → has_end id r ≡ b → b || list_any (has_end id) rs ≡ false →
           (list_any (has_end id) rs ≡ false → flat_map ends_of rs ++ one_hears id hears ys ≡ one_hears id hears (flat_map ends_of rs ++ ys)) →
           (ends_of r ++ flat_map ends_of rs) ++ one_hears id hears ys ≡ one_hears id hears ((ends_of r ++ flat_map ends_of rs) ++ ys)
-      at true has h rest = absurd (differ (sym h))
+      at true has h rest = absurd (false_isnt_true (sym h))
       at false has h rest =
           append_assoc (ends_of r) (flat_map ends_of rs) (one_hears id hears ys)
           ∙ ap (λ l. ends_of r ++ l) (rest h)

@@ -1,22 +1,21 @@
--- Addresses that differ from all before them.
+-- Addresses that false_isnt_true from all before them.
 use Rattle.std.proofs.Common.{◌≡◌, ℕ, zero, suc, ◌<◌, Bool, true, false, List, [], ◌∷◌, ◌++◌, length, map, take, drop, refl, sym, ap, subst, ◌∙◌, arith}
 use Rattle.std.specs.Prelude.{slice_index_or}
 use Rattle.std.specs.List.{AllByRecursion, IsDistinct, list_any}
 use Rattle.std.proofs.lemmas.Map.Keys.{IsDistinct-head, IsDistinct-tail}
 use Rattle.m2_addr.specs.declared.addr.Addr.{Addr}
 use Rattle.m2_handshake.specs.Asks.{same_addr}
-use Rattle.m2_handshake.proofs.Idents.{same_is}
+use Rattle.m2_handshake.proofs.Idents.{same_is, same_means}
 use Rattle.m2_record.specs.RecordNow.{RecordNow}
-use Rattle.m2_record.proofs.Names.{differ}
 use Rattle.m2_center.specs.Sessions.{peer_of}
-use Rattle.m2_center.proofs.Peers.{addr_equal}
+use Rattle.m2_lemmas.proofs.Booleans.{false_isnt_true}
 
 -- what isn't the same one way isn't the other way
 turned_too : (a b : Addr) → same_addr a b ≡ false → same_addr b a ≡ false
 turned_too a b other = at (same_addr b a) refl
   where
     at : (x : Bool) → same_addr b a ≡ x → x ≡ false
-    at true same = absurd (differ (sym other ∙ same_is a b (sym (addr_equal b a same))))
+    at true same = absurd (false_isnt_true (sym other ∙ same_is a b (sym (same_means b a same))))
     at false e = refl
 
 of_middle : (P : Addr → Type 0) (x : Addr) (xs ys : List Addr) → AllByRecursion P (xs ++ x ∷ ys) → P x

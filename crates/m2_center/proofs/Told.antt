@@ -1,5 +1,5 @@
 -- What records have told halves stays so, and so the sessions stay consistent.
-use Rattle.std.proofs.Common.{◌≡◌, ℕ, Bool, true, false, ◌||◌, if◌then◌else◌, List, [], ◌∷◌, ◌++◌, map, Option, refl, sym, ap, subst, ◌∙◌, append-nil, append_assoc}
+use Rattle.std.proofs.Common.{◌≡◌, ℕ, Bool, true, false, ◌||◌, if◌then◌else◌, List, [], ◌∷◌, ◌++◌, Option, refl, sym, ap, subst, ◌∙◌, append-nil, append_assoc}
 use Rattle.std.specs.List.{AllByRecursion, IsDistinct, list_any}
 use Rattle.m2_addr.specs.declared.addr.Addr.{Addr}
 use Rattle.m2_core.specs.CoreNow.{CoreNow}
@@ -17,31 +17,24 @@ use Rattle.m2_record.specs.IsRecord.{IsRecord, became_feed, feeds_in}
 use Rattle.m2_record.specs.RecordNow.{RecordNow, feed_end, ids_of}
 use Rattle.m2_record.specs.Stepping.{IsSameWork, KeepsReached}
 use Rattle.m2_record.specs.TakenTrails.{judgement_of, judgements_in}
-use Rattle.m2_record.proofs.Names.{differ, same_equal}
 use Rattle.m2_trail.specs.Arrivals.{LooseNow}
 use Rattle.m2_trail.specs.Incoming.{IncomingNow, accepted}
 use Rattle.m2_center.specs.Answering.{StaysBeside}
 use Rattle.m2_center.specs.Beside.{AllKeepCallers, KeepsCallers, MadeOn, Served, StayConsistent, TopFits}
 use Rattle.m2_center.specs.Sessions.{Caller, IsCaller, IsSupplied, IsTold, PendingNow, WasCaller, caller_in, caller_of, is_asker, peer_of, told_by, supply_of}
-use Rattle.m2_center.proofs.Came.{both, front}
 use Rattle.m2_center.proofs.Known.{ends_by, fed_by}
 use Rattle.m2_center.proofs.Opened.{filtered, opened_entry, opened_facts}
+use Rattle.m2_fabric.proofs.Sockets.{among_front, same_equal, among_neither, not_among_front}
+use Rattle.m2_center.proofs.Stages.{same_peers}
+use Rattle.m2_lemmas.proofs.Booleans.{false_isnt_true}
 
 -- ---- sockets that were made
-
-among_front : (k : SocketId) (xs ys : List SocketId) → is_among k xs ≡ true → is_among k (xs ++ ys) ≡ true
-among_front k [] ys e = absurd (differ e)
-among_front k (x ∷ xs) ys e = at (same_socket k x) (among_front k xs ys) e
-  where
-    at : (b : Bool) → (is_among k xs ≡ true → is_among k (xs ++ ys) ≡ true) → b || is_among k xs ≡ true → b || is_among k (xs ++ ys) ≡ true
-    at true rest h = refl
-    at false rest h = rest h
 
 pub among_on : (k : SocketId) (old new : List SocketId) → MadeOn old new → is_among k old ≡ true → is_among k new ≡ true
 among_on k old new (more, e) h = ap (is_among k) e ∙ among_front k old more h
 
 new_before : (k : SocketId) (old new : List SocketId) → MadeOn old new → IsNewTo new k → IsNewTo old k
-new_before k old new (more, e) h = front k old more (sym (ap (is_among k) e) ∙ h)
+new_before k old new (more, e) h = not_among_front k old more (sym (ap (is_among k) e) ∙ h)
 
 pub none_made : (made : List SocketId) → MadeOn made made
 none_made made = ([], sym (append-nil made))
@@ -54,7 +47,7 @@ apart : (k x : SocketId) (made : List SocketId) → is_among k made ≡ true →
 apart k x made among new = at (same_socket k x) refl
   where
     at : (b : Bool) → same_socket k x ≡ b → same_socket k x ≡ false
-    at true e = absurd (differ (sym new ∙ ap (λ j. is_among j made) (sym (same_equal k x e)) ∙ among))
+    at true e = absurd (false_isnt_true (sym new ∙ ap (λ j. is_among j made) (sym (same_equal k x e)) ∙ among))
     at false e = e
 
 -- ---- one record
@@ -111,7 +104,7 @@ opened_told made e old new was is fresh opens =
         entity = t.entity ∙ sym (ap (λ (f : SideFacts). f.node.entity) facts);
         new = ends_by new is c.socket
             (ap (is_among c.socket) (ap feeds_in journal ∙ filtered became_feed old.journal (entry.Opened e.id ∷ []))
-            ∙ both c.socket (feeds_in old.journal) (e.id ∷ []) (fed_by old was c.socket t.new) (one_other c.socket (apart c.socket e.id made among fresh)));
+            ∙ among_neither c.socket (feeds_in old.journal) (e.id ∷ []) (fed_by old was c.socket t.new) (one_other c.socket (apart c.socket e.id made among fresh)));
         judged = told_same c old new facts ∙ t.judged
             ∙ sym (ap (judged_on c.socket) (ap judgements_in journal ∙ filtered judgement_of old.journal (entry.Opened e.id ∷ []) ∙ append-nil (judgements_in old.journal)));
       });
@@ -158,12 +151,6 @@ told_all made c (r ∷ rs) (s ∷ ss) among (k, ks) (t, ts) = (k.told c among t,
 told_all made c [] (s ∷ ss) among keep told = absurd keep
 told_all made c (r ∷ rs) [] among keep told = absurd keep
 
-peers_same : (made : List SocketId) (rs ss : List RecordNow) → AllKeepCallers made rs ss → map peer_of ss ≡ map peer_of rs
-peers_same made [] [] keep = refl
-peers_same made (r ∷ rs) (s ∷ ss) (k, ks) = ap (λ (f : SideFacts). f.peer ∷ map peer_of ss) k.facts ∙ ap (λ (l : List Addr). peer_of r ∷ l) (peers_same made rs ss ks)
-peers_same made [] (s ∷ ss) keep = absurd keep
-peers_same made (r ∷ rs) [] keep = absurd keep
-
 asked_same : (made : List SocketId) (asker : Option Addr) (rs ss : List RecordNow) → AllKeepCallers made rs ss →
     list_any (λ r. is_asker asker (peer_of r)) ss ≡ list_any (λ r. is_asker asker (peer_of r)) rs
 asked_same made asker [] [] keep = refl
@@ -204,7 +191,7 @@ pub stay : (old new : Served) → MadeOn old.made new.made → AllByRecursion (I
 stay old new on supplied keep entity halves loose c = record {
   records = supplied;
   kind = kinds_same old.made entity old.records new.records keep c.kind;
-  peers = subst (IsDistinct same_addr) (sym (peers_same old.made old.records new.records keep)) c.peers;
+  peers = subst (IsDistinct same_addr) (sym (same_peers old.made old.records new.records keep)) c.peers;
   halves = halves_kept old new halves on keep c.halves;
   loose = loose_kept old new loose on keep c.loose;
   apart = c.apart;

@@ -17,7 +17,6 @@ use Rattle.m2_record.specs.Calls.{Owns}
 use Rattle.m2_record.specs.IsRecord.{IsRecord}
 use Rattle.m2_record.specs.RecordNow.{RecordNow, ends_of, ids_of}
 use Rattle.m2_record.specs.TakenTrails.{judgements_in}
-use Rattle.m2_record.proofs.Names.{apart, differ, same_equal, same_refl}
 use Rattle.m2_record.proofs.Topmost.{top-fits}
 use Rattle.m2_shared.specs.declared.limits.TheConstants.{LAST_NUMBER}
 use Rattle.m2_trail.specs.Arrivals.{LooseNow, closed_of}
@@ -30,28 +29,21 @@ use Rattle.m2_center.specs.declared.half_turn.HalfMoved.{HalfMoved}
 use Rattle.m2_center.specs.HalfTurn.{AnswersAt, AnswersFrom, HalfTurning, Homes, Others, Replies, RepliesOnce, asked_by, home_of_ask, moved_by, with_half, with_moved, with_turned}
 use Rattle.m2_center.specs.RecordTurn.{Means}
 use Rattle.m2_center.specs.Sessions.{AreConsistent, Caller, IsCaller, IsSupplied, IsTold, PendingNow, Sessions, Supply, WasCaller, caller_in, caller_of, is_asker, peer_of, sockets_of, told_by}
-use Rattle.m2_center.proofs.Peers.{addr_equal, at_place, each, each_of_two, same_peers, with_one}
+use Rattle.m2_center.proofs.Peers.{at_place, each_of_two, same_peers, with_one}
+use Rattle.m2_lemmas.proofs.Lists.{all_last, all_so}
+use Rattle.m2_fabric.proofs.Sockets.{same_turned, apart_turned}
+use Rattle.m2_lemmas.proofs.Booleans.{false_isnt_true}
+use Rattle.m2_handshake.proofs.Idents.{same_means}
 
 -- ---- lists
-
-last_too : {X : Type 0} (P : X → Type 0) (xs : List X) (x : X) → AllByRecursion P xs → P x → AllByRecursion P (xs ++ x ∷ [])
-last_too P [] x all p = (p, tt)
-last_too P (y ∷ ys) x all p = (all.0, last_too P ys x all.1 p)
 
 replaced : {X : Type 0} (P : X → Type 0) (xs : List X) (place : ℕ) (x : X) → AllByRecursion P xs → P x → AllByRecursion P (slice_set xs place x)
 replaced P [] place x all p = tt
 replaced P (y ∷ ys) zero x all p = (p, all.1)
 replaced P (y ∷ ys) (suc n) x all p = (all.0, replaced P ys n x all.1 p)
 
-pub flips : (a b : SocketId) → same_socket a b ≡ same_socket b a
-flips a b = at (same_socket a b) refl
-  where
-    at : (c : Bool) → same_socket a b ≡ c → same_socket a b ≡ same_socket b a
-    at true e = e ∙ sym (ap (same_socket b) (same_equal a b e) ∙ same_refl b)
-    at false e = e ∙ sym (apart a b e)
-
 distinct_last : (ks : List SocketId) (k : SocketId) → IsDistinct same_socket (k ∷ ks) → IsDistinct same_socket (ks ++ k ∷ [])
-distinct_last ks k = IsDistinct-IsPermutation same_socket flips (k ∷ ks) (ks ++ k ∷ []) (IsPermutation-sym (ks ++ k ∷ []) (k ∷ ks) (IsPermutation-to_front ks k))
+distinct_last ks k = IsDistinct-IsPermutation same_socket same_turned (k ∷ ks) (ks ++ k ∷ []) (IsPermutation-sym (ks ++ k ∷ []) (k ∷ ks) (IsPermutation-to_front ks k))
 
 -- ---- a half, and the sessions without it
 
@@ -75,7 +67,7 @@ taken_apart s e p c records all = record {
     peers = all.peers;
     halves = all.halves.1;
     loose = all.loose;
-    apart = IsDistinct-tail same_socket p.half.end.id (sockets_of (without c records)) all.apart;
+    apart_turned = IsDistinct-tail same_socket p.half.end.id (sockets_of (without c records)) all.apart;
   };
   caller = all.halves.0;
   own = (λ _. IsDistinct-head same_socket p.half.end.id (sockets_of (without c records)) all.apart);
@@ -88,7 +80,7 @@ before_others s e p c records all = record {
   peers = all.rest.peers;
   halves = (all.caller, all.rest.halves);
   loose = all.rest.loose;
-  apart = IsDistinct-cons same_socket p.half.end.id (sockets_of (without c records)) (all.own records) all.rest.apart;
+  apart_turned = IsDistinct-cons same_socket p.half.end.id (sockets_of (without c records)) (all.own records) all.rest.apart;
 }
 
 ids_last : (ls : List LooseNow) (l : LooseNow) → map (λ (x : LooseNow). x.end.id) (ls ++ l ∷ []) ≡ map (λ (x : LooseNow). x.end.id) ls ++ l.end.id ∷ []
@@ -107,8 +99,8 @@ over s e asker l c records all = record {
   kind = all.rest.kind;
   peers = all.rest.peers;
   halves = all.rest.halves;
-  loose = last_too (WasCaller c.made records) c.loose l all.rest.loose (record { asker = asker; caller = all.caller });
-  apart = subst (IsDistinct same_socket)
+  loose = all_last (WasCaller c.made records) c.loose l all.rest.loose (record { asker = asker; caller = all.caller });
+  apart_turned = subst (IsDistinct same_socket)
       (append_assoc (map (λ (p : PendingNow). p.half.end.id) c.halves) (map (λ (x : LooseNow). x.end.id) c.loose) (l.end.id ∷ [])
       ∙ ap (λ t. map (λ (p : PendingNow). p.half.end.id) c.halves ++ t) (sym (ids_last c.loose l)))
       (distinct_last (sockets_of (without c records)) l.end.id
@@ -129,7 +121,7 @@ told_nothing false judged e = refl
 first_noted : (made : List SocketId) (rs : List RecordNow) (a : IncomingNow) (peer : Addr) → IsCaller made rs (caller_in (record { half = a; asker = None })) → IsCaller made rs (caller_in (asked_by a peer))
 first_noted made rs a peer all = record {
   made = all.made;
-  told = each (IsTold (caller_in (record { half = a; asker = None }))) (IsTold (caller_in (asked_by a peer)))
+  told = all_so (IsTold (caller_in (record { half = a; asker = None }))) (IsTold (caller_in (asked_by a peer)))
       (λ r t. record { entity = t.entity; new = t.new; judged = told_nothing (same_addr peer (peer_of r)) a.trail.judged none ∙ t.judged }) rs all.told;
   unheard = (λ _. none);
 }
@@ -140,7 +132,7 @@ first_noted made rs a peer all = record {
 pub noted : (made : List SocketId) (rs : List RecordNow) (a : IncomingNow) (asker : Option Addr) (peer : Addr) → is_known asker peer ≡ true →
     IsCaller made rs (caller_in (record { half = a; asker = asker })) → IsCaller made rs (caller_in (asked_by a peer))
 noted made rs a None peer known all = first_noted made rs a peer all
-noted made rs a (Some first) peer known all = subst (λ p. IsCaller made rs (caller_in (asked_by a p))) (addr_equal first peer known) all
+noted made rs a (Some first) peer known all = subst (λ p. IsCaller made rs (caller_in (asked_by a p))) (same_means first peer known) all
 
 -- ---- the record that answers
 
@@ -208,11 +200,11 @@ all_fail test [] e = tt
 all_fail test (r ∷ rs) e = at (test r) refl e (all_fail test rs)
   where
     at : (b : Bool) → test r ≡ b → b || list_any test rs ≡ false → (list_any test rs ≡ false → AllByRecursion (λ r. test r ≡ false) rs) → AllByRecursion (λ r. test r ≡ false) (r ∷ rs)
-    at true f e rest = absurd (differ (sym e))
+    at true f e rest = absurd (false_isnt_true (sym e))
     at false f e rest = (f, rest e)
 
 heard_here : (test : RecordNow → Bool) (rs : List RecordNow) (place : ℕ) (side : RecordNow) → place < length rs → slice_index_or rs place side ≡ side → test side ≡ true → list_any test rs ≡ false → ⊥
-heard_here test rs place side within here passes none = differ (sym (at_place (λ r. test r ≡ false) side rs place within here (all_fail test rs none)) ∙ passes)
+heard_here test rs place side within here passes none = false_isnt_true (sym (at_place (λ r. test r ≡ false) side rs place within here (all_fail test rs none)) ∙ passes)
 
 own_caller : {E : Type 0} (answer : HalfAnswered E) (made : List SocketId) (entity : ℕ) (rs : List RecordNow) (place : ℕ) (peer : Addr) (a b : IncomingNow) (side behind : RecordNow) →
     IsDistinct same_addr (map peer_of rs) → AllByRecursion (λ (r : RecordNow). r.core.facts.node.entity ≡ entity) rs → IsHome rs place peer side → StaysAnswered answer a side behind → IsStill b a behind →
@@ -275,11 +267,11 @@ rest_answered answer old new e place peer a side behind c rs fits home is all = 
   loose = each_of_two (WasCaller c.made rs) (λ (l : LooseNow). same_socket a.end.id l.end.id ≡ false) (WasCaller c.made (slice_set rs place behind))
       (λ l was other. record { asker = was.asker; caller = beside (caller_of was.asker l) other was.caller }) c.loose all.rest.loose
       (by_id (λ j. same_socket a.end.id j ≡ false) (λ (l : LooseNow). l.end.id) c.loose (back_of a.end.id (map (λ (p : PendingNow). p.half.end.id) c.halves) (map (λ (l : LooseNow). l.end.id) c.loose) (all.own rs)));
-  apart = all.rest.apart;
+  apart_turned = all.rest.apart;
 }
   where
     beside : (d : Caller) → same_socket a.end.id d.socket ≡ false → IsCaller c.made rs d → IsCaller c.made (slice_set rs place behind) d
-    beside d other = other_caller answer c.made rs place peer a side behind d all.rest.peers home is.stays (apart a.end.id d.socket other)
+    beside d other = other_caller answer c.made rs place peer a side behind d all.rest.peers home is.stays (apart_turned a.end.id d.socket other)
 
 -- what the half came to by the answer
 pub answered_consistent : {E : Type 0} (answer : HalfAnswered E) (old new : Supply) (e : ℕ) (place : ℕ) (peer : Addr) (a : IncomingNow) (side behind : RecordNow) (c : Others) (rs : List RecordNow) →
@@ -373,7 +365,7 @@ pub answered_from : {E : Type 0} (result : HalfMoved E) (answer : HalfAnswered E
 answered_from result answer o place a peer m old new e at is = subst (λ x. AnswersFrom x result a peer m old new) (sym e) (answer, at, is)
 
 pub all_fit : (rs : List RecordNow) → AllByRecursion IsRecord rs → AllByRecursion (λ (r : RecordNow). r.core.top ≤ LAST_NUMBER) rs
-all_fit = each IsRecord (λ (r : RecordNow). r.core.top ≤ LAST_NUMBER) (λ r kept. omega (arith, top-fits r kept))
+all_fit = all_so IsRecord (λ (r : RecordNow). r.core.top ≤ LAST_NUMBER) (λ r kept. omega (arith, top-fits r kept))
 
 -- a half that moved on is the same caller
 pub later_caller : (old new : IncomingNow) (asker : Option Addr) → IsLater old new → caller_in (record { half = new; asker = asker }) ≡ caller_in (record { half = old; asker = asker })

@@ -6,13 +6,13 @@ use Rattle.std.proofs.lemmas.List.Elements.{filter_map-append}
 use Rattle.std.proofs.lemmas.List.Sums.{sum_by-set}
 use Rattle.std.specs.List.{AllByRecursion, IsDistinct, cons_option, list_any}
 use Rattle.m2_addr.proofs.Addresses.{all_push}
-use Rattle.m2_record.proofs.Names.{differ}
 use Rattle.slab.specs.Slab.{Slab, ContainsKey, Updates, get, slab_len, with_value}
 use Rattle.slab.proofs.SlabLemmas.{ContainsKey-within, Updates-with_value}
 use Rattle.m2_center.specs.Hearing.{first_told}
 use Rattle.m2_center.specs.Pending.{IsOrderOf, IsToldAt, first_key, in_order, is_found}
+use Rattle.m2_lemmas.proofs.Booleans.{false_isnt_true}
 
--- ---- keys that differ from one
+-- ---- keys that false_isnt_true from one
 
 abbrev AreOthers : (key : ℕ) → List ℕ → Type 0
 AreOthers key keys = AllByRecursion (λ k. k ≢ key) keys
@@ -46,7 +46,7 @@ module _ {T : Type 0} where
 
   vacant_differs : (s : Slab T) (key : ℕ) (keys : List ℕ) → get s key ≡ None → AllByRecursion (ContainsKey s) keys → AreOthers key keys
   vacant_differs s key [] none held = tt
-  vacant_differs s key (k ∷ ks) none held = ((λ e. differ (subst IsSome (ap (get s) e ∙ none) held.0)), vacant_differs s key ks none held.1)
+  vacant_differs s key (k ∷ ks) none held = ((λ e. false_isnt_true (subst IsSome (ap (get s) e ∙ none) held.0)), vacant_differs s key ks none held.1)
 
   still_held : (old new : Slab T) (key : ℕ) (slot : Option T) (keys : List ℕ) → Updates old new key slot → AreOthers key keys → AllByRecursion (ContainsKey old) keys → AllByRecursion (ContainsKey new) keys
   still_held old new key slot [] updates others held = tt
@@ -66,7 +66,7 @@ module _ {T : Type 0} where
     where
       at : (o : Option T) → IsSome o → length (in_order s ks) ≡ length ks → length (cons_option o (in_order s ks)) ≡ suc (length ks)
       at (Some x) some rest = ap suc rest
-      at None none rest = absurd (differ none)
+      at None none rest = absurd (false_isnt_true none)
 
   -- ---- none
 
@@ -123,7 +123,7 @@ module _ {T : Type 0} where
   -- ---- the first that passes
 
   pub first_passes : (passes : T → Bool) (s : Slab T) (key : ℕ) (keys : List ℕ) → first_key passes s keys ≡ Some key → is_found passes (get s key) ≡ true
-  first_passes passes s key [] e = absurd (differ (ap is_some e))
+  first_passes passes s key [] e = absurd (false_isnt_true (ap is_some e))
   first_passes passes s key (k ∷ ks) e = at (is_found passes (get s k)) refl e (λ h. first_passes passes s key ks h)
     where
       at : (b : Bool) → is_found passes (get s k) ≡ b → (if b then Some k else first_key passes s ks) ≡ Some key →
@@ -136,7 +136,7 @@ module _ {T : Type 0} where
     where
       at : (o : Option T) → is_found passes o ≡ true → IsSome o
       at (Some x) h = refl
-      at None h = absurd (differ h)
+      at None h = absurd (false_isnt_true h)
 
   pub any_first : (passes : T → Bool) (s : Slab T) (keys : List ℕ) → is_some (first_key passes s keys) ≡ list_any passes (in_order s keys)
   any_first passes s [] = refl
@@ -159,7 +159,7 @@ module _ {T : Type 0} where
       Rest = first_key passes s ks ≡ None → in_order s ks ≡ first_told passes tells (in_order s ks)
 
       by : (x : T) (b : Bool) → (if b then Some k else first_key passes s ks) ≡ None → Rest → x ∷ in_order s ks ≡ (if b then tells x ∷ in_order s ks else x ∷ first_told passes tells (in_order s ks))
-      by x true none rest = absurd (differ (sym (ap is_some none)))
+      by x true none rest = absurd (false_isnt_true (sym (ap is_some none)))
       by x false none rest = ap (λ l. x ∷ l) (rest none)
 
       at : (o : Option T) → (if is_found passes o then Some k else first_key passes s ks) ≡ None → Rest → cons_option o (in_order s ks) ≡ first_told passes tells (cons_option o (in_order s ks))
@@ -168,7 +168,7 @@ module _ {T : Type 0} where
 
   first_changed : (passes : T → Bool) (tells : T → T) (old new : Slab T) (key : ℕ) (x : T) (keys : List ℕ) → IsDistinct (λ (a b : ℕ). a == b) keys → get old key ≡ Some x →
       Updates old new key (Some (tells x)) → first_key passes old keys ≡ Some key → in_order new keys ≡ first_told passes tells (in_order old keys)
-  first_changed passes tells old new key x [] once found updates e = absurd (differ (ap is_some e))
+  first_changed passes tells old new key x [] once found updates e = absurd (false_isnt_true (ap is_some e))
   first_changed passes tells old new key x (k ∷ ks) once found updates e =
       at (is_found passes (get old k)) refl e (λ once h. first_changed passes tells old new key x ks once found updates h)
     where
@@ -189,7 +189,7 @@ module _ {T : Type 0} where
       further None h rest = rest
 
       other : is_found passes (get old k) ≡ false → first_key passes old ks ≡ Some key → k ≢ key
-      other h rest same = differ (sym h ∙ ap (λ j. is_found passes (get old j)) same ∙ first_passes passes old key ks rest)
+      other h rest same = false_isnt_true (sym h ∙ ap (λ j. is_found passes (get old j)) same ∙ first_passes passes old key ks rest)
 
       at : (b : Bool) → is_found passes (get old k) ≡ b → (if b then Some k else first_key passes old ks) ≡ Some key →
           (IsDistinct (λ (a b : ℕ). a == b) ks → first_key passes old ks ≡ Some key → in_order new ks ≡ first_told passes tells (in_order old ks)) →
@@ -206,7 +206,7 @@ module _ {T : Type 0} where
     where
       at : (o : Option T) → IsSome o → IfSome o (λ x. new ≡ with_value old key (tells x)) → (x : T) × (o ≡ Some x) × (new ≡ with_value old key (tells x))
       at (Some x) some told = (x, refl, told)
-      at None some told = absurd (differ some)
+      at None some told = absurd (false_isnt_true some)
 
   pub first_is_told : (passes : T → Bool) (tells : T → T) (old new : Slab T) (most key : ℕ) (keys : List ℕ) → IsOrderOf old most keys → first_key passes old keys ≡ Some key →
       IsToldAt old new key tells → in_order new keys ≡ first_told passes tells (in_order old keys)
@@ -221,7 +221,7 @@ module _ {T : Type 0} where
 
   counts_one : (o : Option T) → IsSome o → one_for o ≡ 1
   counts_one (Some x) some = refl
-  counts_one None some = absurd (differ some)
+  counts_one None some = absurd (false_isnt_true some)
 
   same_count : (old : Slab T) (key : ℕ) (x : T) → ContainsKey old key → slab_len (with_value old key x) ≡ slab_len old
   same_count old key x held =

@@ -17,12 +17,12 @@ use Rattle.m2_never_reset.specs.Order.{AreFirstOf}
 use Rattle.m2_journal.specs.State as state
 use Rattle.m2_journal.specs.State.{Delivery, State}
 use Rattle.m2_channel.specs.Channel as channel
-use Rattle.m2_channel.specs.Channel.{keyed}
 use Rattle.m2_channel.specs.Observed.{handed, IsNoDiscard, IsLetter}
 use Rattle.m2_channel.specs.ObservedLaws.{IsLogOf}
 use Rattle.m2_channel.specs.Handing.{IsNoResetOf, peer_of, parcels_of, IsParcelOf, AreParcelsOf, heard_by_calls, IsHeardOf}
-use Rattle.m2_channel.proofs.Keys.{differ, first_of_first}
-use Rattle.m2_channel.proofs.Runs.{all_append}
+use Rattle.m2_channel.proofs.Keys.{first_of_first}
+use Rattle.m2_lemmas.proofs.Booleans.{from_false_true}
+use Rattle.m2_lemmas.proofs.Lists.{all_append}
 
 -- what the law of the queue says
 pub record DispatchesInOrder : Type 0 where
@@ -73,7 +73,7 @@ none_discards peer (Put p ∷ calls) h = at (peer_of p == peer) refl h (λ g. no
     at : (b : Bool) → (peer_of p == peer) ≡ b → AllByRecursion IsNoDiscardAtAll (if b then p ∷ parcels_of peer calls else parcels_of peer calls) →
         (AllByRecursion IsNoDiscardAtAll (parcels_of peer calls) → NoneDiscards peer calls) → IsNoDiscardOf peer p × NoneDiscards peer calls
     at true e g on = (none_put peer p true e (λ x. g.0), on g.1)
-    at false e g on = (none_put peer p false e (λ x. differ x), on g)
+    at false e g on = (none_put peer p false e (λ x. from_false_true x), on g)
 
 since_all : (peer : ℕ) (p : Parcel) (ls : List Letter) → IsNoDiscardOf peer p → since peer p ls ≡ ls
 since_all peer (parcel.Letter l) ls h = refl
@@ -140,7 +140,7 @@ of_another : (peer : ℕ) (key : Key) (p : Parcel) → (peer_of p == peer) ≡ f
 of_another peer key (parcel.Letter l) e = at (l.peer == peer) (is_key l.key key) e
   where
     at : (b c : Bool) → b ≡ false → map content (if b && c then l ∷ [] else []) ≡ []
-    at true c g = differ (sym g)
+    at true c g = from_false_true (sym g)
     at false c g = refl
 of_another peer key (parcel.Discard q) e = refl
 of_another peer key (parcel.RemoteReset q) e = refl
@@ -183,7 +183,7 @@ one_first peer key l k m ls hs own same e (more, g) =
     at : (b c : Bool) → b ≡ true → AreFirstOf (map unnumbered (map content (if b && c then l ∷ [] else [])) ++ ls) (if c then unnumbered (content l) ∷ hs else hs)
     at true true o = (more, ap (λ x. unnumbered (content l) ∷ x) g)
     at true false o = (more, g)
-    at false c o = differ o
+    at false c o = from_false_true o
 
 handed_first : (peer : ℕ) (key : Key) (ps : List Parcel) (ds : List Delivery) → AllByRecursion (λ p. (peer_of p == peer) ≡ true) ps → AreParcelsOf ps ds →
     AreFirstOf (map unnumbered (of_it peer key (letters_in ps))) (channel.of_key key (handed ds))
@@ -219,7 +219,7 @@ since_ever peer (Turn ∷ calls) h none d p = since_ever peer calls (after_call 
 
 -- ---- some of a list, in order
 
-some_of_map : {X Y : Type 0} (f : X → Y) (xs ys : List X) → IsSublist xs ys → IsSublist (map f xs) (map f ys)
+pub some_of_map : {X Y : Type 0} (f : X → Y) (xs ys : List X) → IsSublist xs ys → IsSublist (map f xs) (map f ys)
 some_of_map f [] ys h = tt
 some_of_map f (x ∷ xs) [] h = absurd h
 some_of_map f (x ∷ xs) (y ∷ ys) (inl h) = inl (ap f h.0, some_of_map f xs ys h.1)
@@ -273,7 +273,7 @@ none_heard peer (Put p ∷ calls) h only =
     at : (b : Bool) → (peer_of p == peer) ≡ b → AllByRecursion IsLetterParcel (if b then p ∷ parcels_of peer calls else parcels_of peer calls) →
         AllByRecursion (IsNoResetOf peer) (heard_at_put p) × AllByRecursion IsLetterParcel (parcels_of peer calls)
     at true e g = (none_at_put peer p true e (λ x. g.0), g.1)
-    at false e g = (none_at_put peer p false e (λ x. differ x), g)
+    at false e g = (none_at_put peer p false e (λ x. from_false_true x), g)
 
 -- ---- all of it
 

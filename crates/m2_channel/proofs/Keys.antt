@@ -1,5 +1,5 @@
 -- Keys, the messages of a key, and the first ones of a list.
-use Rattle.std.proofs.Common.{◌≡◌, Bool, true, false, ◌==◌, if◌then◌else◌, List, [], ◌∷◌, ◌++◌, length, slice_get, Some, true≢false, refl, sym, ap, subst, ◌∙◌, append-nil, append_assoc}
+use Rattle.std.proofs.Common.{◌≡◌, Bool, true, false, ◌==◌, if◌then◌else◌, List, [], ◌∷◌, ◌++◌, length, slice_get, Some, refl, sym, ap, subst, ◌∙◌, append-nil, append_assoc}
 use Rattle.std.proofs.lemmas.Bool.{eqb-true, eq-eqb, and_parts}
 use Rattle.std.proofs.lemmas.Option.{none-some, same_Some}
 use Rattle.m2_dispatch.specs.Heard.{is_key, is_path}
@@ -10,17 +10,15 @@ use Rattle.m2_policy.specs.declared.path.Path.TheVariants.{Fast, Queued}
 use Rattle.m2_never_reset.specs.Order.{AreFirstOf}
 use Rattle.m2_channel.specs.Channel.{KeyedMessage, of_key, keyed, IsNextOf}
 use Rattle.m2_channel.specs.ChannelLaws.{ComeInOrder}
-
-pub differ : {X : Type 0} → false ≡ true → X
-differ e = absurd (true≢false (sym e))
+use Rattle.m2_lemmas.proofs.Booleans.{from_false_true}
 
 -- ---- keys
 
 same_path : (p q : Path) → is_path p q ≡ true → p ≡ q
 same_path Fast Fast e = refl
 same_path Queued Queued e = refl
-same_path Fast Queued e = differ e
-same_path Queued Fast e = differ e
+same_path Fast Queued e = from_false_true e
+same_path Queued Fast e = from_false_true e
 
 path_self : (p : Path) → is_path p p ≡ true
 path_self Fast = refl

@@ -13,9 +13,10 @@ use Rattle.m2_channel.specs.Channel.{Channel, ChannelStep, mark, new_channel, ch
 use Rattle.m2_channel.specs.Observed.{Logs, all_of, is_reset, shown_reset, shown_near, shown_far, shown_from, dispatched_from, observed, turned, marks_down, before_down}
 use Rattle.m2_channel.specs.ObservedLaws.{AreLogsOf, IsLogOf, IsLawfulOrder, IsBroughtToAMark, ObservedIsARunToAMark}
 use Rattle.m2_channel.proofs.Runs.{run_append, deliver}
-use Rattle.m2_channel.proofs.Orders.{near-append, far-append, lawful_first, fit_turned, near_turned, far_turned, far_after_turned, nodes_turned}
+use Rattle.m2_channel.proofs.Orders.{lawful_first, fit_turned, near_turned, far_turned, far_after_turned, nodes_turned}
 use Rattle.m2_channel.proofs.Through.{shows_all}
 use Rattle.m2_channel.proofs.Observing.{dispatch_run, follows, observed_is}
+use Rattle.m2_never_reset.proofs.Sided.{near_append, far_append}
 
 -- ---- up to the first mark-down
 
@@ -165,9 +166,9 @@ shown_append f g (far_item i ∷ xs) ys a b =
 history_before : (f g : SideFacts) (order : List SideItem) (it : ToADown order) → IsLawfulOrder f g order → IsHistory f g it.before
 history_before f g order it h = record {
   near_lawful = lawful_first f (near_items it.before) (near_items it.rest) (start f)
-      (subst (λ is. AreLawful f is (start f)) (ap near_items it.whole ∙ near-append it.before it.rest) h.near_lawful);
+      (subst (λ is. AreLawful f is (start f)) (ap near_items it.whole ∙ near_append it.before it.rest) h.near_lawful);
   far_lawful = lawful_first g (far_items it.before) (far_items it.rest) (start g)
-      (subst (λ is. AreLawful g is (start g)) (ap far_items it.whole ∙ far-append it.before it.rest) h.far_lawful);
+      (subst (λ is. AreLawful g is (start g)) (ap far_items it.whole ∙ far_append it.before it.rest) h.far_lawful);
   near_not_down = it.near_up;
   far_not_down = it.far_up;
   fits = subst (λ l. FitThroughout f g l (start f) (start g)) (sym it.first) h.fits;

@@ -12,15 +12,16 @@ use Rattle.m2_journal.specs.State.{Delivery, State, start}
 use Rattle.m2_never_reset.specs.Orders as orders
 use Rattle.m2_never_reset.specs.Orders.{SideItem, near_items, IsHistory, near_after, far_after, AreNodes, posts_in, LosslessIsNeverReset}
 use Rattle.m2_channel.specs.Channel as channel
-use Rattle.m2_channel.specs.Channel.{KeyedMessage, keyed, Channel, ChannelStep, dispatch, new_channel, IsLawful, changed, after_step, after_steps, IsRun, IsNoMark, posts, acceptances, dispatches}
+use Rattle.m2_channel.specs.Channel.{KeyedMessage, keyed, Channel, ChannelStep, dispatch, new_channel, changed, after_step, after_steps, IsRun, IsNoMark, posts, acceptances, dispatches}
 use Rattle.m2_channel.specs.ChannelLaws.{ComeInOrder}
 use Rattle.m2_channel.specs.Observed.{Logs, all_of, shown_from, observed, heard_from, dispatched_from, turned, handed, IsLetter, IsNoDiscard}
 use Rattle.m2_channel.specs.ObservedLaws.{AreLogsOf, IsLogOf, posted_to, IsBrought, ObservedIsARun}
 use Rattle.m2_channel.proofs.Keys.{key_self, next_is, of_key-append}
-use Rattle.m2_channel.proofs.Runs.{unmarked_step, leaves, run_append, after_append, all_append, unmarked_deliver}
+use Rattle.m2_channel.proofs.Runs.{unmarked_step, leaves, run_append, after_append, unmarked_deliver}
 use Rattle.m2_channel.proofs.Counts.{done_is_all}
 use Rattle.m2_channel.proofs.Orders.{history_turned, nodes_turned, far_after_turned}
 use Rattle.m2_channel.proofs.Through.{Stands, posted_keys, shows_all}
+use Rattle.m2_lemmas.proofs.Lists.{all_append}
 
 -- ---- what a log has of a peer
 

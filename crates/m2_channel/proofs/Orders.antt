@@ -2,38 +2,23 @@
 -- it.
 use Rattle.std.proofs.Common.{◌≡◌, Bool, true, false, ◌||◌, List, [], ◌∷◌, ◌++◌, refl, sym, ap, subst, ◌∙◌, append-nil, append_assoc}
 use Rattle.std.specs.List.{AllByRecursion}
-use Rattle.m2_fabric.specs.declared.socket.SocketId.{SocketId}
-use Rattle.m2_fabric.specs.Sockets.{is_among}
 use Rattle.m2_policy.specs.Policy.{is_pair}
 use Rattle.m2_journal.specs.Items.{JournalItem}
 use Rattle.m2_journal.specs.Replay.{AreLawful, after_items}
 use Rattle.m2_journal.specs.SideFacts.{SideFacts}
 use Rattle.m2_journal.specs.State.{State, start}
 use Rattle.m2_journal.specs.Steps.{after}
-use Rattle.m2_never_reset.specs.Fits.{Fits}
 use Rattle.m2_never_reset.specs.PairLaws.{IsNoDown}
 use Rattle.m2_never_reset.specs.Orders.{SideItem, near_item, far_item, near_items, far_items, FitThroughout, IsHistory, near_after, far_after, AreNodes, posted_in, posts_in}
 use Rattle.m2_channel.specs.Observed.{turned}
-use Rattle.m2_channel.proofs.Keys.{differ}
-use Rattle.m2_channel.proofs.Runs.{all_first}
+use Rattle.m2_never_reset.proofs.Sided.{near_append, far_append}
+use Rattle.m2_journal.proofs.Growing.{after-append}
+use Rattle.m2_never_reset.proofs.Entries.{fits_turn}
+use Rattle.m2_lemmas.proofs.Lists.{all_front}
 
 -- ---- one after the other
 
-pub near-append : (xs ys : List SideItem) → near_items (xs ++ ys) ≡ near_items xs ++ near_items ys
-near-append [] ys = refl
-near-append (near_item i ∷ xs) ys = ap (λ is. i ∷ is) (near-append xs ys)
-near-append (far_item i ∷ xs) ys = near-append xs ys
-
-pub far-append : (xs ys : List SideItem) → far_items (xs ++ ys) ≡ far_items xs ++ far_items ys
-far-append [] ys = refl
-far-append (near_item i ∷ xs) ys = far-append xs ys
-far-append (far_item i ∷ xs) ys = ap (λ is. i ∷ is) (far-append xs ys)
-
-after-append : (f : SideFacts) (is js : List JournalItem) (s : State) → after_items f (is ++ js) s ≡ after_items f js (after_items f is s)
-after-append f [] js s = refl
-after-append f (i ∷ is) js s = after-append f is js (after f i s)
-
-posts-append : (is js : List JournalItem) → posts_in (is ++ js) ≡ posts_in is ++ posts_in js
+pub posts-append : (is js : List JournalItem) → posts_in (is ++ js) ≡ posts_in is ++ posts_in js
 posts-append [] js = refl
 posts-append (i ∷ is) js = ap (λ l. posted_in i ++ l) (posts-append is js) ∙ sym (append_assoc (posted_in i) (posts_in is) (posts_in js))
 
@@ -41,19 +26,19 @@ posts-append (i ∷ is) js = ap (λ l. posted_in i ++ l) (posts-append is js) �
 
 pub near_on : (f : SideFacts) (order more : List SideItem) → near_after f (order ++ more) ≡ after_items f (near_items more) (near_after f order)
 near_on f order more =
-    ap (λ is. after_items f is (start f)) (near-append order more) ∙ after-append f (near_items order) (near_items more) (start f)
+    ap (λ is. after_items f is (start f)) (near_append order more) ∙ after-append f (near_items order) (near_items more) (start f)
 
 pub far_on : (g : SideFacts) (order more : List SideItem) → far_after g (order ++ more) ≡ after_items g (far_items more) (far_after g order)
 far_on g order more =
-    ap (λ is. after_items g is (start g)) (far-append order more) ∙ after-append g (far_items order) (far_items more) (start g)
+    ap (λ is. after_items g is (start g)) (far_append order more) ∙ after-append g (far_items order) (far_items more) (start g)
 
 pub posts_on : (order : List SideItem) (i : JournalItem) → posts_in (near_items (order ++ near_item i ∷ [])) ≡ posts_in (near_items order) ++ posted_in i
 posts_on order i =
-    ap posts_in (near-append order (near_item i ∷ [])) ∙ posts-append (near_items order) (i ∷ [])
+    ap posts_in (near_append order (near_item i ∷ [])) ∙ posts-append (near_items order) (i ∷ [])
     ∙ ap (λ l. posts_in (near_items order) ++ l) (append-nil (posted_in i))
 
 pub posts_beside : (order : List SideItem) (i : JournalItem) → posts_in (near_items (order ++ far_item i ∷ [])) ≡ posts_in (near_items order)
-posts_beside order i = ap posts_in (near-append order (far_item i ∷ []) ∙ append-nil (near_items order))
+posts_beside order i = ap posts_in (near_append order (far_item i ∷ []) ∙ append-nil (near_items order))
 
 -- ---- the first entries
 
@@ -69,10 +54,10 @@ fit_first f g (far_item i ∷ xs) ys a b h = (h.0, fit_first f g xs ys a (after 
 -- the first entries of a history are one
 pub history_first : (f g : SideFacts) (order more : List SideItem) → IsHistory f g (order ++ more) → IsHistory f g order
 history_first f g order more h = record {
-  near_lawful = lawful_first f (near_items order) (near_items more) (start f) (subst (λ is. AreLawful f is (start f)) (near-append order more) h.near_lawful);
-  far_lawful = lawful_first g (far_items order) (far_items more) (start g) (subst (λ is. AreLawful g is (start g)) (far-append order more) h.far_lawful);
-  near_not_down = all_first IsNoDown (near_items order) (near_items more) (subst (AllByRecursion IsNoDown) (near-append order more) h.near_not_down);
-  far_not_down = all_first IsNoDown (far_items order) (far_items more) (subst (AllByRecursion IsNoDown) (far-append order more) h.far_not_down);
+  near_lawful = lawful_first f (near_items order) (near_items more) (start f) (subst (λ is. AreLawful f is (start f)) (near_append order more) h.near_lawful);
+  far_lawful = lawful_first g (far_items order) (far_items more) (start g) (subst (λ is. AreLawful g is (start g)) (far_append order more) h.far_lawful);
+  near_not_down = all_front IsNoDown (near_items order) (near_items more) (subst (AllByRecursion IsNoDown) (near_append order more) h.near_not_down);
+  far_not_down = all_front IsNoDown (far_items order) (far_items more) (subst (AllByRecursion IsNoDown) (far_append order more) h.far_not_down);
   fits = fit_first f g order more (start f) (start g) h.fits;
 }
 
@@ -88,23 +73,10 @@ far_turned [] = refl
 far_turned (near_item i ∷ order) = ap (λ is. i ∷ is) (far_turned order)
 far_turned (far_item i ∷ order) = far_turned order
 
-fits_turned : (a b : State) → Fits a b → Fits b a
-fits_turned a b h = record {
-  near_hears = h.far_hears;
-  far_hears = h.near_hears;
-  near_judges = h.far_judges;
-  far_judges = h.near_judges;
-  opened_apart = λ k e. apart k (is_among k a.opened) refl e;
-}
-  where
-    apart : (k : SocketId) (x : Bool) → is_among k a.opened ≡ x → is_among k b.opened ≡ true → is_among k a.opened ≡ false
-    apart k true e g = differ (sym (h.opened_apart k e) ∙ g)
-    apart k false e g = e
-
 pub fit_turned : (f g : SideFacts) (order : List SideItem) (a b : State) → FitThroughout f g order a b → FitThroughout g f (turned order) b a
 fit_turned f g [] a b h = tt
-fit_turned f g (near_item i ∷ order) a b h = (fits_turned (after f i a) b h.0, fit_turned f g order (after f i a) b h.1)
-fit_turned f g (far_item i ∷ order) a b h = (fits_turned a (after g i b) h.0, fit_turned f g order a (after g i b) h.1)
+fit_turned f g (near_item i ∷ order) a b h = (fits_turn (after f i a) b h.0, fit_turned f g order (after f i a) b h.1)
+fit_turned f g (far_item i ∷ order) a b h = (fits_turn a (after g i b) h.0, fit_turned f g order a (after g i b) h.1)
 
 pub history_turned : (f g : SideFacts) (order : List SideItem) → IsHistory f g order → IsHistory g f (turned order)
 history_turned f g order h = record {

@@ -36,7 +36,8 @@ use Rattle.m2_never_reset.specs.LinkOf.{letters}
 use Rattle.m2_never_reset.specs.Trouble.{trouble_at, trouble_told}
 use Rattle.m2_channel.specs.Channel.{KeyedMessage, keyed}
 use Rattle.m2_channel.specs.Observed.{handed, brought_by, brought_on, IsLetter}
-use Rattle.m2_channel.proofs.Keys.{differ}
+use Rattle.m2_lemmas.proofs.Numbers.{none_back}
+use Rattle.m2_lemmas.proofs.Booleans.{from_false_true}
 
 -- ---- what stays
 
@@ -99,7 +100,7 @@ tells_none s (event.AskedIdent cookie) h = refl
 tells_none s event.AskedReconnect h = refl
 tells_none s (event.GotServerIdent cookie global) h = refl
 tells_none s event.GotReconnectOk h = refl
-tells_none s (event.GotReset true) h = differ (sym h)
+tells_none s (event.GotReset true) h = from_false_true (sym h)
 tells_none s (event.GotReset false) h = refl
 tells_none s (event.GotRetry number) h = refl
 tells_none s (event.GotRetryGlobal number) h = refl
@@ -114,10 +115,6 @@ none_thrown : (discard : Bool) (m : ℕ) → times discard + m ≡ 0 → discard
 none_thrown true m e = absurd (omega (arith, e))
 none_thrown false m e = refl
 
-none_back : (back : Bool) (k n : ℕ) → k + (if back then n else 0) ≡ 0 → back ≡ true → n ≡ 0
-none_back true k n e b = omega (arith, e)
-none_back false k n e b = differ b
-
 -- an event without trouble
 tells-quiet : (e : Event) (s : State) (n : ℕ) → trouble_told (Some e) s.session n ≡ 0 → (n ≡ 0 → s.out.queue.base ≡ 0) → Quiet s (tells e s)
 tells-quiet e s n none base =
@@ -129,8 +126,8 @@ tells-quiet e s n none base =
     at : (close requeue back discard remote_reset : Bool) (t : State) → discard ≡ false → remote_reset ≡ false → (back ≡ true → t.out.queue.base ≡ 0) →
         Quiet t (has_effects (record { close = close; requeue = requeue; set_back = back; discard = discard; remote_reset = remote_reset }) t)
     at close requeue back false false t z y h = has_effects-quiet close requeue back t h
-    at close requeue back true remote_reset t z y h = differ (sym z)
-    at close requeue back false true t z y h = differ (sym y)
+    at close requeue back true remote_reset t z y h = from_false_true (sym z)
+    at close requeue back false true t z y h = from_false_true (sym y)
 
 tells_if-quiet : (o : Option Event) (s : State) (n : ℕ) → trouble_told o s.session n ≡ 0 → (n ≡ 0 → s.out.queue.base ≡ 0) → Quiet s (tells_if o s)
 tells_if-quiet (Some e) s n none base = tells-quiet e s n none base
@@ -190,7 +187,7 @@ sent_keeps q e = at q.keeps e
         else record q { written = max q.written (cursor_number q); base = q.base + 1; kept = drop 1 q.kept } in
         (r.base ≡ q.base) × (r.keeps ≡ q.keeps)
     at true g = (refl, refl)
-    at false g = differ g
+    at false g = from_false_true g
 
 sent-quiet : (s : State) → s.out.queue.keeps ≡ true → Quiet s (queues Sent s)
 sent-quiet s keeps =
@@ -215,11 +212,11 @@ acked_raises q n h = at (nat_le n q.written) (le-leb n q.written h)
   where
     at : (b : Bool) → b ≡ true → let r = if b then after_acked q n else q in (r.base ≡ max q.base n) × (r.keeps ≡ q.keeps)
     at true e = (refl, refl)
-    at false e = differ e
+    at false e = from_false_true e
 
 -- ---- a letter
 
-handed_letter : (ds : List Delivery) (n : ℕ) (k : Key) (m : Content) → handed (ds ++ state.letter n k m ∷ []) ≡ handed ds ++ keyed k m ∷ []
+pub handed_letter : (ds : List Delivery) (n : ℕ) (k : Key) (m : Content) → handed (ds ++ state.letter n k m ∷ []) ≡ handed ds ++ keyed k m ∷ []
 handed_letter [] n k m = refl
 handed_letter (state.letter i l c ∷ ds) n k m = ap (λ x. keyed l c ∷ x) (handed_letter ds n k m)
 handed_letter (state.discarded ∷ ds) n k m = handed_letter ds n k m

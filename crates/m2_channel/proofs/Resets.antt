@@ -20,13 +20,9 @@ use Rattle.m2_never_reset.specs.Trouble.{trouble_at, trouble_told}
 use Rattle.m2_channel.specs.Channel.{ChannelStep, accept, IsNoReset}
 use Rattle.m2_channel.specs.Observed.{brought_on, shown_by_sender, shown_by_reader, shown_down, shown_reset, resets_told, obeys_in_full, is_reset, shown_near, shown_far, shown_from}
 use Rattle.m2_channel.specs.ObservedLaws.{ResetsAreObserved}
-use Rattle.m2_channel.proofs.Keys.{differ}
-use Rattle.m2_channel.proofs.Runs.{all_first, all_append}
 use Rattle.m2_channel.proofs.Through.{no_reset_at}
-
-all_behind : {X : Type 0} (P : X → Type 0) (xs ys : List X) → AllByRecursion P (xs ++ ys) → AllByRecursion P ys
-all_behind P [] ys h = h
-all_behind P (x ∷ xs) ys h = all_behind P xs ys h.1
+use Rattle.m2_lemmas.proofs.Lists.{all_back, all_front, all_append}
+use Rattle.m2_lemmas.proofs.Booleans.{from_false_true}
 
 none_shown : (b : Bool) → AllByRecursion IsNoReset (shown_reset b) → b ≡ false
 none_shown true h = absurd h.0
@@ -36,10 +32,10 @@ none_shown false h = refl
 
 none_accepted : (n : ℕ) → nat_lt 0 n ≡ false → n ≡ 0
 none_accepted zero e = refl
-none_accepted (suc n) e = differ (sym e ∙ lt-ltb 0 (suc n) (omega arith))
+none_accepted (suc n) e = from_false_true (sym e ∙ lt-ltb 0 (suc n) (omega arith))
 
 none_by : (discard back : Bool) (n : ℕ) → (discard || (back && nat_lt 0 n)) ≡ false → times discard + (if back then n else 0) ≡ 0
-none_by true back n e = differ (sym e)
+none_by true back n e = from_false_true (sym e)
 none_by false true n e = let z = none_accepted n e in omega (arith, z)
 none_by false false n e = refl
 
@@ -48,11 +44,11 @@ none_told (Some e) s n h = none_by (step_of s e).effects.discard (step_of s e).e
 none_told None s n h = refl
 
 neither : (x y : Bool) → (x || y) ≡ false → (x ≡ false) × (y ≡ false)
-neither true y e = differ (sym e)
+neither true y e = from_false_true (sym e)
 neither false y e = (refl, e)
 
 obeys_none : (i : JournalItem) → obeys_in_full i ≡ false → IsNoFullReset i
-obeys_none (item.obeyed true) e = differ (sym e)
+obeys_none (item.obeyed true) e = from_false_true (sym e)
 obeys_none (item.obeyed false) e = tt
 obeys_none (item.post place planned) e = tt
 obeys_none (item.dial planned) e = tt
@@ -84,14 +80,14 @@ NoneIn f g order a b = (trouble_in f g order a b ≡ 0) × AllByRecursion IsNoFu
 none_in : (f g : SideFacts) (order : List SideItem) (a b : State) → AllByRecursion IsNoReset (shown_from f g order a b) → NoneIn f g order a b
 none_in f g [] a b h = (refl, tt, tt)
 none_in f g (near_item i ∷ order) a b h =
-    let own = all_first IsNoReset (shown_near f g i a b) (shown_from f g order (after f i a) b) h in
-    let it = no_trouble_at f i a b (none_shown (is_reset f i a b) (all_behind IsNoReset (shown_by_sender g i ++ shown_down i) (shown_reset (is_reset f i a b)) own)) in
-    let rest = none_in f g order (after f i a) b (all_behind IsNoReset (shown_near f g i a b) (shown_from f g order (after f i a) b) h) in
+    let own = all_front IsNoReset (shown_near f g i a b) (shown_from f g order (after f i a) b) h in
+    let it = no_trouble_at f i a b (none_shown (is_reset f i a b) (all_back IsNoReset (shown_by_sender g i ++ shown_down i) (shown_reset (is_reset f i a b)) own)) in
+    let rest = none_in f g order (after f i a) b (all_back IsNoReset (shown_near f g i a b) (shown_from f g order (after f i a) b) h) in
     (no_sum (trouble_at f i a b) (trouble_in f g order (after f i a) b) it.0 rest.0, (it.1, rest.1), rest.2)
 none_in f g (far_item i ∷ order) a b h =
-    let own = all_first IsNoReset (shown_far g i a b) (shown_from f g order a (after g i b)) h in
-    let it = no_trouble_at g i b a (none_shown (is_reset g i b a) (all_behind IsNoReset (shown_by_reader i b ++ shown_down i) (shown_reset (is_reset g i b a)) own)) in
-    let rest = none_in f g order a (after g i b) (all_behind IsNoReset (shown_far g i a b) (shown_from f g order a (after g i b)) h) in
+    let own = all_front IsNoReset (shown_far g i a b) (shown_from f g order a (after g i b)) h in
+    let it = no_trouble_at g i b a (none_shown (is_reset g i b a) (all_back IsNoReset (shown_by_reader i b ++ shown_down i) (shown_reset (is_reset g i b a)) own)) in
+    let rest = none_in f g order a (after g i b) (all_back IsNoReset (shown_far g i a b) (shown_from f g order a (after g i b)) h) in
     (no_sum (trouble_at g i b a) (trouble_in f g order a (after g i b)) it.0 rest.0, rest.1, (it.1, rest.2))
 
 -- ---- no trouble, no reset
@@ -152,7 +148,7 @@ down_none (item.acked n) = tt
 down_none (item.obeyed full) = tt
 
 reset_none : (b : Bool) → b ≡ false → AllByRecursion IsNoReset (shown_reset b)
-reset_none true e = differ (sym e)
+reset_none true e = from_false_true (sym e)
 reset_none false e = tt
 
 entry_none : (xs : List ChannelStep) (i : JournalItem) (b : Bool) → AllByRecursion IsNoReset xs → b ≡ false → AllByRecursion IsNoReset (xs ++ shown_down i ++ shown_reset b)

@@ -4,7 +4,9 @@ use Rattle.std.specs.List.{AllByRecursion}
 use Rattle.m2_channel.specs.Channel.{Channel, ChannelStep, post, accept, dispatch, acknowledge, mark, reset, new_channel, keyed}
 use Rattle.m2_channel.specs.Channel.{IsLawful, MayTake, changed, after_step, after_steps, IsRun, IsNoMark, IsNoReset, unmarked, posts, acceptances, dispatches}
 use Rattle.m2_channel.specs.ChannelLaws.{ComeInOrder, IsOrdered, RunsKeepOrder, RunsDeliver, UnmarkedRunsDeliver}
-use Rattle.m2_channel.proofs.Keys.{differ, in_order_over, in_order_behind, in_order_next}
+use Rattle.m2_channel.proofs.Keys.{in_order_over, in_order_behind, in_order_next}
+use Rattle.m2_lemmas.proofs.Lists.{all_front}
+use Rattle.m2_lemmas.proofs.Booleans.{from_false_true}
 
 -- ---- one step
 
@@ -43,7 +45,7 @@ steps_on x c h may = at c.marked may
   where
     at : (b : Bool) → (b ≡ true) ⊎ IsLawful x c → IsOrdered (if b then c else changed x c)
     at true so = h
-    at false (inl e) = differ e
+    at false (inl e) = from_false_true e
     at false (inr lawful) = changes x c h lawful
 
 -- ---- many
@@ -135,14 +137,6 @@ pub after_append : (xs ys : List ChannelStep) (c : Channel) → after_steps (xs 
 after_append [] ys c = refl
 after_append (x ∷ xs) ys c = after_append xs ys (after_step x c)
 
-pub all_append : {X : Type 0} (P : X → Type 0) (xs ys : List X) → AllByRecursion P xs → AllByRecursion P ys → AllByRecursion P (xs ++ ys)
-all_append P [] ys h k = k
-all_append P (x ∷ xs) ys h k = (h.0, all_append P xs ys h.1 k)
-
-pub all_first : {X : Type 0} (P : X → Type 0) (xs ys : List X) → AllByRecursion P (xs ++ ys) → AllByRecursion P xs
-all_first P [] ys h = tt
-all_first P (x ∷ xs) ys h = (h.0, all_first P xs ys h.1)
-
 unmarked_run : (xs : List ChannelStep) (c : Channel) → IsRun xs c → IsRun (unmarked xs) c
 unmarked_run [] c run = tt
 unmarked_run (mark ∷ xs) c run = tt
@@ -164,7 +158,7 @@ unmarked_none (reset ∷ xs) = (tt, unmarked_none xs)
 -- ---- what is delivered
 
 lawful_there : (x : ChannelStep) (c : Channel) → c.marked ≡ false → MayTake x c → IsLawful x c
-lawful_there x c e (inl m) = differ (sym e ∙ m)
+lawful_there x c e (inl m) = from_false_true (sym e ∙ m)
 lawful_there x c e (inr l) = l
 
 is_no_reset : (x : ChannelStep) (c : Channel) → IsLawful x c → IsNoReset x
@@ -186,7 +180,7 @@ acknowledged_before : (xs before after : List ChannelStep) (count : ℕ) → IsR
     xs ≡ before ++ acknowledge count ∷ after → count ≤ length (acceptances before)
 acknowledged_before xs before after count run none e =
     let run_so : IsRun (before ++ acknowledge count ∷ after) new_channel = subst (λ ys. IsRun ys new_channel) e run in
-    let none_so = all_first IsNoMark before (acknowledge count ∷ after) (subst (AllByRecursion IsNoMark) e none) in
+    let none_so = all_front IsNoMark before (acknowledge count ∷ after) (subst (AllByRecursion IsNoMark) e none) in
     let there = leaves before new_channel refl none_so in
     let may = (run_behind before (acknowledge count ∷ after) new_channel run_so).0 in
     subst (λ l. count ≤ length l) there.accepted (lawful_there (acknowledge count) (after_steps before new_channel) there.marked may)

@@ -26,16 +26,18 @@ use Rattle.m2_journal.specs.Steps.{after, event_at}
 use Rattle.m2_never_reset.specs.PairLaws.{IsNoDown}
 use Rattle.m2_never_reset.specs.LinkOf.{letters}
 use Rattle.m2_never_reset.specs.Orders as orders
-use Rattle.m2_never_reset.specs.Orders.{SideItem, near_item, far_item, near_items, far_items, IsHistory, near_after, far_after, trouble_in, AreNodes, posted_in, posts_in, IsNoFullReset, IsNeverReset, LosslessIsNeverReset}
+use Rattle.m2_never_reset.specs.Orders.{SideItem, near_item, far_item, near_items, far_items, IsHistory, near_after, far_after, trouble_in, AreNodes, posted_in, posts_in, IsNoFullReset, LosslessIsNeverReset}
 use Rattle.m2_never_reset.specs.Trouble.{trouble_at, trouble_told}
 use Rattle.m2_channel.specs.Channel as channel
-use Rattle.m2_channel.specs.Channel.{KeyedMessage, keyed, Channel, ChannelStep, post, accept, dispatch, acknowledge, mark, reset, new_channel, IsLawful, changed, after_step, after_steps, IsRun, IsNoMark}
+use Rattle.m2_channel.specs.Channel.{keyed, Channel, ChannelStep, post, accept, acknowledge, new_channel, IsLawful, changed, after_steps, IsRun, IsNoMark}
 use Rattle.m2_channel.specs.Observed.{shown_by_sender, shown_by_reader, shown_down, shown_reset, brought_on, brought_by, resets_told, obeys_in_full, is_reset, shown_near, shown_far, shown_from, handed, IsLetter}
 use Rattle.m2_channel.specs.ObservedLaws.{posted_to}
-use Rattle.m2_channel.proofs.Keys.{differ, key_self, next_is, of_key-append}
-use Rattle.m2_channel.proofs.Runs.{unmarked_step, run_append, after_append, all_append}
+use Rattle.m2_channel.proofs.Keys.{key_self, next_is, of_key-append}
+use Rattle.m2_channel.proofs.Runs.{unmarked_step, run_append, after_append}
 use Rattle.m2_channel.proofs.Quiet.{Leads, entry_leads}
 use Rattle.m2_channel.proofs.Orders.{near_on, far_on, posts_on, posts_beside, history_first}
+use Rattle.m2_lemmas.proofs.Booleans.{from_false_true}
+use Rattle.m2_lemmas.proofs.Lists.{all_append}
 
 -- ---- messages and their keys
 
@@ -59,7 +61,7 @@ handed_count (state.remote_reset ∷ ds) = handed_count ds
 
 no_reset_by : (obeys discard back : Bool) (n : ℕ) → obeys ≡ false → times discard + (if back then n else 0) ≡ 0 →
     (obeys || (discard || (back && nat_lt 0 n))) ≡ false
-no_reset_by true discard back n o e = differ (sym o)
+no_reset_by true discard back n o e = from_false_true (sym o)
 no_reset_by false true back n o e = absurd (at (if back then n else 0) e)
   where
     at : (m : ℕ) → 1 + m ≡ 0 → ⊥

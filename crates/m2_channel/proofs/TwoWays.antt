@@ -1,6 +1,6 @@
 -- What two dispatchers are called with together: messages of fast keys at once, and all else through the queue.
-use Rattle.std.proofs.Common.{◌≡◌, ℕ, inl, inr, Bool, true, false, ◌&&◌, ◌==◌, if◌then◌else◌, List, [], ◌∷◌, ◌++◌, map, refl, sym, ap, subst, ◌∙◌, append-nil}
-use Rattle.std.specs.List.{AllByRecursion, filter}
+use Rattle.std.proofs.Common.{◌≡◌, ℕ, inl, Bool, true, false, ◌&&◌, ◌==◌, if◌then◌else◌, List, [], ◌∷◌, ◌++◌, map, refl, sym, ap, subst, ◌∙◌, append-nil}
+use Rattle.std.specs.List.{AllByRecursion}
 use Rattle.std.proofs.lemmas.Bool.{eq-eqb}
 use Rattle.std.proofs.lemmas.List.{map-append}
 use Rattle.m2_dispatch.specs.Heard as heard
@@ -17,22 +17,18 @@ use Rattle.m2_channel.specs.Channel as channel
 use Rattle.m2_channel.specs.Observed.{handed, IsLetter, IsNoDiscard}
 use Rattle.m2_channel.specs.Handing.{heard_at_once, queued_of, calls_of, AreFirstCalls, AreParcelsOf, IsNoResetOf, parcels_of, heard_by_calls, IsHeardOf, LogsAreLogs}
 use Rattle.m2_channel.proofs.Handing.{DispatchesInOrder, heard-append, queue_logs, some_of_more}
-use Rattle.m2_channel.proofs.Keys.{differ}
-use Rattle.m2_channel.proofs.Runs.{all_append}
+use Rattle.m2_lemmas.proofs.Booleans.{if_false, from_false_true}
+use Rattle.m2_lemmas.proofs.Lists.{all_append}
 
 -- ---- keys
 
--- keys of two paths differ
+-- keys of two paths from_false_true
 apart : (k key : Key) → is_path k.path key.path ≡ false → is_key k key ≡ false
 apart k key e = at (k.priority == key.priority) (is_path k.path key.path) e
   where
     at : (b c : Bool) → c ≡ false → (b && c) ≡ false
     at true c e = e
     at false c e = refl
-
-skip : {X : Type 0} (b : Bool) (x y : X) → b ≡ false → (if b then x else y) ≡ y
-skip true x y e = absurd (differ (sym e))
-skip false x y e = refl
 
 -- one that is heard of its peer, or isn't of the key
 one_heard : (peer : ℕ) (k key : Key) (m : Content) (hs ms : List Content) → map unnumbered hs ≡ ms →
@@ -42,7 +38,7 @@ one_heard peer k key m hs ms e = at (peer == peer) (eq-eqb peer peer refl) (is_k
     at : (b : Bool) → b ≡ true → (c : Bool) → map unnumbered (if b && c then m ∷ hs else hs) ≡ (if c then unnumbered m ∷ ms else ms)
     at true p true = ap (λ l. unnumbered m ∷ l) e
     at true p false = e
-    at false p c = absurd (differ p)
+    at false p c = absurd (from_false_true p)
 
 -- ---- of a fast key: all is dispatched at once
 
@@ -66,9 +62,9 @@ at_once peer key (state.letter n k m ∷ ds) e = by_path (at_once peer key ds e)
         let other : is_key k key ≡ false = apart k key (ap (λ (p : Path). is_path p key.path) f ∙ ap (is_path Queued) e) in
         record {
           heard = ap (λ (p : Path). map unnumbered (heard.of_key peer key (if is_path p Fast then heard.message peer k n m ∷ heard_at_once peer ds else heard_at_once peer ds))) f
-              ∙ (it.heard ∙ sym (skip (is_key k key) (unnumbered m ∷ channel.of_key key (handed ds)) (channel.of_key key (handed ds)) other));
+              ∙ (it.heard ∙ sym (if_false (is_key k key) (unnumbered m ∷ channel.of_key key (handed ds)) (channel.of_key key (handed ds)) other));
           queued = ap (λ (p : Path). channel.of_key key (handed (if is_path p Fast then queued_of ds else state.letter n k m ∷ queued_of ds))) f
-              ∙ (skip (is_key k key) (unnumbered m ∷ channel.of_key key (handed (queued_of ds))) (channel.of_key key (handed (queued_of ds))) other ∙ it.queued);
+              ∙ (if_false (is_key k key) (unnumbered m ∷ channel.of_key key (handed (queued_of ds))) (channel.of_key key (handed (queued_of ds))) other ∙ it.queued);
         }
 
 -- ---- of another key: all goes through the queue
@@ -92,10 +88,10 @@ through peer key (state.letter n k m ∷ ds) e = by_path (through peer key ds e)
         let other : is_key k key ≡ false = apart k key (ap (λ (p : Path). is_path p key.path) f ∙ ap (is_path Fast) e) in
         record {
           heard = ap (λ (p : Path). heard.of_key peer key (if is_path p Fast then heard.message peer k n m ∷ heard_at_once peer ds else heard_at_once peer ds)) f
-              ∙ (skip ((peer == peer) && is_key k key) (m ∷ heard.of_key peer key (heard_at_once peer ds)) (heard.of_key peer key (heard_at_once peer ds))
+              ∙ (if_false ((peer == peer) && is_key k key) (m ∷ heard.of_key peer key (heard_at_once peer ds)) (heard.of_key peer key (heard_at_once peer ds))
               (both (peer == peer) (is_key k key) other) ∙ it.heard);
           queued = ap (λ (p : Path). channel.of_key key (handed (if is_path p Fast then queued_of ds else state.letter n k m ∷ queued_of ds))) f
-              ∙ (it.queued ∙ sym (skip (is_key k key) (unnumbered m ∷ channel.of_key key (handed ds)) (channel.of_key key (handed ds)) other));
+              ∙ (it.queued ∙ sym (if_false (is_key k key) (unnumbered m ∷ channel.of_key key (handed ds)) (channel.of_key key (handed ds)) other));
         }
     by_path it Queued f = record {
       heard = ap (λ (p : Path). heard.of_key peer key (if is_path p Fast then heard.message peer k n m ∷ heard_at_once peer ds else heard_at_once peer ds)) f ∙ it.heard;
@@ -157,15 +153,15 @@ first_of_none : {X : Type 0} (xs more : List X) → (let none : List X = [] in n
 first_of_none [] more e = refl
 first_of_none (x ∷ xs) more e = absurd cc
 
-some_of_none : {X : Type 0} (xs : List X) → IsSublist xs [] → xs ≡ []
+pub some_of_none : {X : Type 0} (xs : List X) → IsSublist xs [] → xs ≡ []
 some_of_none [] h = refl
 some_of_none (x ∷ xs) h = absurd h
 
-unmapped : (ms : List Content) → map unnumbered ms ≡ [] → ms ≡ []
+pub unmapped : (ms : List Content) → map unnumbered ms ≡ [] → ms ≡ []
 unmapped [] e = refl
 unmapped (m ∷ ms) e = absurd cc
 
-some_of_itself : {X : Type 0} (xs : List X) → IsSublist xs xs
+pub some_of_itself : {X : Type 0} (xs : List X) → IsSublist xs xs
 some_of_itself [] = tt
 some_of_itself (x ∷ xs) = inl (refl, some_of_itself xs)
 

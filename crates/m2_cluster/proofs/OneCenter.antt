@@ -10,13 +10,14 @@ use Rattle.m2_fabric.specs.Port.{may_wait, one_hears, with_incoming, with_news, 
 use Rattle.m2_fabric.specs.Sockets.{goes_to, is_among, same_socket}
 use Rattle.m2_record.specs.RecordNow.{ids_of}
 use Rattle.m2_record.specs.Sources.{end_at}
-use Rattle.m2_record.proofs.Names.{apart, differ, same_equal, same_refl}
 use Rattle.m2_center.specs.Center.{CenterNow}
 use Rattle.m2_center.specs.Reaching.{after_hearing, all_ends_in, ends_in, ends_or_none, has_half, waiting_at}
 use Rattle.m2_center.specs.RecordEnds.{has_end, records_hear}
 use Rattle.m2_center.proofs.RecordsHear.{all_center_ends, among_both, among_ends, center_ends}
 use Rattle.m2_center.specs.Hearing as halves
 use Rattle.m2_cluster.specs.Node.{ComesIn, HearsIn, KeepsPort, NodeNow, Shows, end_in, has_in, waits_in}
+use Rattle.m2_lemmas.proofs.Booleans.{or_false, false_isnt_true}
+use Rattle.m2_fabric.proofs.Sockets.{apart_turned, same_equal, same_refl}
 
 -- ---- the first end of a socket in a list
 
@@ -35,7 +36,7 @@ none_at [] k none = refl
 none_at (x ∷ xs) k none = at (same_socket k x.id) none (λ h. none_at xs k h)
   where
     at : (b : Bool) → b || is_among k (ids_of xs) ≡ false → (is_among k (ids_of xs) ≡ false → end_at xs k ≡ None) → (if b then Some x else end_at xs k) ≡ None
-    at true h rest = absurd (differ (sym h))
+    at true h rest = absurd (false_isnt_true (sym h))
     at false h rest = rest h
 
 -- none of the first list, so of the second
@@ -51,10 +52,6 @@ behind_same (x ∷ xs) ys zs k same = ap (λ r. if same_socket k x.id then Some 
 last_other : (xs : List SeenEnd) (e : SeenEnd) (k : SocketId) → same_socket k e.id ≡ false → end_at (xs ++ e ∷ []) k ≡ end_at xs k
 last_other [] e k other = ap (λ b. if b then Some e else None) other
 last_other (x ∷ xs) e k other = ap (λ r. if same_socket k x.id then Some x else r) (last_other xs e k other)
-
-or_false : (b : Bool) → b || false ≡ b
-or_false true = refl
-or_false false = refl
 
 or_true : (b : Bool) → b || true ≡ true
 or_true true = refl
@@ -94,7 +91,7 @@ module _ (id : SocketId) (news : News) (bytes : List ℕ) where
   hears_other (x ∷ xs) k other = at (same_socket id x.id) refl (hears_other xs k other)
     where
       not_it : same_socket id x.id ≡ true → same_socket k x.id ≡ false
-      not_it e = subst (λ j. same_socket k j ≡ false) (same_equal id x.id e) (apart id k other)
+      not_it e = subst (λ j. same_socket k j ≡ false) (same_equal id x.id e) (apart_turned id k other)
 
       at : (b : Bool) → same_socket id x.id ≡ b → end_at (one_hears id hears xs) k ≡ end_at xs k →
           end_at (if b then hears x ∷ xs else x ∷ one_hears id hears xs) k ≡ (if same_socket k x.id then Some x else end_at xs k)
@@ -167,10 +164,10 @@ heard_so (Err e) was old same id news bytes new ok = tt
 comes_so : (goes made waits had : Bool) → (had ≡ true → made ≡ true) → goes && (not made && not (waits && not had)) ≡ true →
     (goes && (not made && not waits) ≡ true) × (waits ≡ false) × (had ≡ false)
 comes_so true false false false known may = (refl, refl, refl)
-comes_so true false true false known may = absurd (differ may)
-comes_so true false waits true known may = absurd (differ (known refl))
-comes_so true true waits had known may = absurd (differ may)
-comes_so false made waits had known may = absurd (differ may)
+comes_so true false true false known may = absurd (false_isnt_true may)
+comes_so true false waits true known may = absurd (false_isnt_true (known refl))
+comes_so true true waits had known may = absurd (false_isnt_true may)
+comes_so false made waits had known may = absurd (false_isnt_true may)
 
 refused_so : (goes made waits had : Bool) → goes && (not made && not (waits && not had)) ≡ false → goes && (not made && not waits) ≡ false
 refused_so true false false had may = may
@@ -196,13 +193,13 @@ module _ {D : Type 0} (id : SocketId) (c : CenterNow D) (known : has_in c id ≡
   came b = if b then es ++ fresh ∷ [] else es
 
   other_ends : (b : Bool) (k : SocketId) → same_socket id k ≡ false → end_in (over (if b then es ++ fresh ∷ [] else es)) k ≡ end_in (over es) k
-  other_ends true k other = behind_same (ends_in c) (es ++ fresh ∷ []) es k (last_other es fresh k (apart id k other))
+  other_ends true k other = behind_same (ends_in c) (es ++ fresh ∷ []) es k (last_other es fresh k (apart_turned id k other))
   other_ends false k other = refl
 
   other_waits : (b : Bool) (k : SocketId) → same_socket id k ≡ false → waits_in (over (if b then es ++ fresh ∷ [] else es)) k ≡ waits_in (over es) k
   other_waits true k other =
       ap (λ w. w && not (has_in c k))
-      (among_last es fresh k ∙ ap (λ x. is_among k (ids_of es) || (x || false)) (apart id k other) ∙ or_false (is_among k (ids_of es)))
+      (among_last es fresh k ∙ ap (λ x. is_among k (ids_of es) || (x || false)) (apart_turned id k other) ∙ or_false (is_among k (ids_of es)))
   other_waits false k other = refl
 
   it_shows : (b : Bool) → b ≡ true → waits_now ≡ false → has_in c id ≡ false → Shows id (Some fresh) true (over (if b then es ++ fresh ∷ [] else es))
@@ -212,10 +209,10 @@ module _ {D : Type 0} (id : SocketId) (c : CenterNow D) (known : has_in c id ≡
         ap (λ w. w && not (has_in c id)) (among_last es fresh id ∙ ap (λ x. waits_now || (x || false)) (same_refl id) ∙ or_true waits_now)
         ∙ ap not had;
   }
-  it_shows false it none had = absurd (differ it)
+  it_shows false it none had = absurd (false_isnt_true it)
 
   it_stays : (b : Bool) → b ≡ false → Shows id (end_in (over es) id) (waits_in (over es) id) (over (if b then es ++ fresh ∷ [] else es))
-  it_stays true it = absurd (differ (sym it))
+  it_stays true it = absurd (false_isnt_true (sym it))
   it_stays false it = record { shows = refl; waits = refl }
 
   comes_over : ComesIn id (over es) (over (with_waiting id c.port es))
@@ -235,7 +232,7 @@ comes_in {D} id c memory known = at c.port.waiting memory
     at : (w : Option (List SeenEnd)) → IsSome w →
         ComesIn id (record c { port = record c.port { waiting = w } }) (record c { port = record c.port { waiting = option_map (with_waiting id c.port) w } })
     at (Some es) is = comes_over id c known es
-    at None is = absurd (differ is)
+    at None is = absurd (false_isnt_true is)
 
 -- it comes to a node by its center
 pub came_so : {D E : Type 0} (r : Result (Unit {0}) E) (was old : NodeNow D) (same : was ≡ old) (id : SocketId) (new : CenterNow D) → IsSome was.center.port.waiting →

@@ -1,5 +1,5 @@
 -- What a holder shows where one of its nodes changes.
-use Rattle.std.proofs.Common.{◌≡◌, ℕ, zero, suc, ◌⊎◌, inl, inr, ◌&&◌, not, if◌then◌else◌, Bool, true, false, List, [], ◌∷◌, ◌<◌, length, map, get_or, slice_get, slice_set, Option, Some, None, Result, Ok, Err, OnOk, is_some, refl, sym, ap, subst, ◌∙◌}
+use Rattle.std.proofs.Common.{◌≡◌, ℕ, zero, suc, ◌⊎◌, inl, inr, ◌&&◌, not, if◌then◌else◌, Bool, true, false, List, [], ◌∷◌, ◌<◌, length, map, get_or, slice_get, slice_set, Option, Some, None, Result, Ok, Err, OnOk, refl, sym, ap, subst, ◌∙◌}
 use Rattle.std.specs.Option.{option_map}
 use Rattle.std.proofs.lemmas.Option.{slice_get_read}
 use Rattle.m2_fabric.specs.declared.socket.SocketId.{SocketId}
@@ -7,17 +7,15 @@ use Rattle.m2_fabric.specs.End.{SeenEnd, fresh_end}
 use Rattle.m2_fabric.specs.Holder.{ChangesOneEnd, ComesTo, EndName, IsAsBefore, IsOther, IsThere, OneEndHears, end_had, may_come}
 use Rattle.m2_fabric.specs.Log.{Log}
 use Rattle.m2_fabric.specs.Sockets.{goes_to, is_among, same_socket}
-use Rattle.m2_record.proofs.Names.{differ}
 use Rattle.m2_record.specs.Sources.{end_at}
 use Rattle.m2_center.specs.Reaching.{ends_in}
 use Rattle.m2_cluster.proofs.OneCenter.{had_in}
 use Rattle.m2_cluster.specs.Cluster.{ClusterNow, address_of, end_of, held_by, made_by, rest_of, waits_at}
 use Rattle.m2_cluster.specs.Node.{ComesIn, HearsIn, KeepsOthers, KeepsPort, NodeNow, Shows, may_come_in, rest_of_node}
+use Rattle.m2_lemmas.proofs.Options.{none_isnt_some}
+use Rattle.m2_lemmas.proofs.Lists.{set_keeps_length}
 
 -- ---- one of a list is set
-
-nothing : {T : Type 0} (x : T) → None ≡ Some x → ⊥
-nothing x e = differ (ap is_some e)
 
 -- the place is the one that was set, or it has what it had
 abbrev Either : {T : Type 0} → (xs : List T) (n : ℕ) (x y : T) (k : ℕ) → Type 0
@@ -25,24 +23,19 @@ Either xs n x y k =
     ((k ≡ n) × (slice_get (slice_set xs n y) k ≡ Some y) × (slice_get xs k ≡ Some x)) ⊎ (slice_get (slice_set xs n y) k ≡ slice_get xs k)
 
 each : {T : Type 0} (xs : List T) (n : ℕ) (x y : T) (k : ℕ) → slice_get xs n ≡ Some x → Either xs n x y k
-each [] n x y k was = absurd (nothing x was)
+each [] n x y k was = absurd (none_isnt_some x was)
 each (z ∷ zs) zero x y zero was = inl (refl, refl, was)
 each (z ∷ zs) zero x y (suc k) was = inr refl
 each (z ∷ zs) (suc n) x y zero was = inr refl
 each (z ∷ zs) (suc n) x y (suc k) was = elim (each zs n x y k was) [ inl h ↦ inl (ap (λ i. suc i) h.0, h.1, h.2) | inr h ↦ inr h ]
 
 here : {T : Type 0} (xs : List T) (n : ℕ) (x y : T) → slice_get xs n ≡ Some x → slice_get (slice_set xs n y) n ≡ Some y
-here [] n x y was = absurd (nothing x was)
+here [] n x y was = absurd (none_isnt_some x was)
 here (z ∷ zs) zero x y was = refl
 here (z ∷ zs) (suc n) x y was = here zs n x y was
 
-same_length : {T : Type 0} (xs : List T) (n : ℕ) (x y : T) → slice_get xs n ≡ Some x → length (slice_set xs n y) ≡ length xs
-same_length [] n x y was = absurd (nothing x was)
-same_length (z ∷ zs) zero x y was = refl
-same_length (z ∷ zs) (suc n) x y was = ap (λ i. suc i) (same_length zs n x y was)
-
 mapped_same : {T U : Type 0} (f : T → U) (xs : List T) (n : ℕ) (x y : T) → slice_get xs n ≡ Some x → f y ≡ f x → map f (slice_set xs n y) ≡ map f xs
-mapped_same f [] n x y was same = absurd (nothing x was)
+mapped_same f [] n x y was same = absurd (none_isnt_some x was)
 mapped_same f (z ∷ zs) zero x y was same = ap (λ u. u ∷ map f zs) (same ∙ sym (ap f (got z x was)))
   where
     got : {T : Type 0} (a b : T) → Some a ≡ Some b → a ≡ b
@@ -75,7 +68,7 @@ module _ {D : Type 0} (n : ℕ) (id : SocketId) (before behind : NodeNow D) (xs 
 
   changes_one : KeepsOthers id before.center behind.center → KeepsPort before.center behind.center → ChangesOneEnd name (held_by xs) (held_by ys)
   changes_one others port = record {
-    nodes = same_length xs n before behind was;
+    nodes = set_keeps_length xs n before behind was;
     at = of_each address_of port.at;
     made = of_each made_by port.made;
     ends = of_other (λ k o. end_of o k) others.ends;
@@ -128,7 +121,7 @@ pub had_by : {D : Type 0} (n : ℕ) (id : SocketId) (node : NodeNow D) (xs : Lis
     end_had (held_by xs) (record { node = n; id = id }) ≡ end_at (ends_in node.center) id
 had_by n id node xs was = ap (λ o. if waits_at o id then None else end_of o id) was ∙ had_in node.center id
 
--- nothing changes
+-- none_isnt_some changes
 pub as_before : {D : Type 0} (e : EndName) (xs ys : List (NodeNow D)) → ys ≡ xs → IsAsBefore e (held_by xs) (held_by ys)
 as_before e xs zs same = subst (λ l. IsAsBefore e (held_by xs) (held_by l)) (sym same) (record {
   there = record { shows = refl; waits = refl };

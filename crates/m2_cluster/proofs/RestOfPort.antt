@@ -1,5 +1,5 @@
 -- Whether all that wait at a port are to come is the same where a socket comes there, and where one of them is told something.
-use Rattle.std.proofs.Common.{◌≡◌, ℕ, ◌&&◌, ◌||◌, not, Bool, true, false, if◌then◌else◌, List, [], ◌∷◌, ◌++◌, Option, Some, None, Result, Ok, Err, OnOk, OnErr, refl, sym, ap, ◌∙◌}
+use Rattle.std.proofs.Common.{◌≡◌, ℕ, ◌&&◌, ◌||◌, not, Bool, true, false, if◌then◌else◌, List, [], ◌∷◌, ◌++◌, Option, Some, None, Result, Ok, Err, OnOk, OnErr, refl, ap, ◌∙◌}
 use Rattle.std.specs.List.{list_all, list_any}
 use Rattle.std.specs.Option.{option_map}
 use Rattle.m2_fabric.specs.declared.end.News.{News}
@@ -8,29 +8,16 @@ use Rattle.m2_fabric.specs.End.{SeenEnd, after_news, fresh_end}
 use Rattle.m2_fabric.specs.Port.{SeenPort, may_wait, one_hears, with_incoming, with_news, with_waiting}
 use Rattle.m2_fabric.specs.Sockets.{goes_to, is_among, same_socket}
 use Rattle.m2_record.specs.RecordNow.{ids_of}
-use Rattle.m2_record.proofs.Names.{apart, differ}
 use Rattle.m2_center.specs.Center.{CenterNow}
 use Rattle.m2_center.specs.Reaching.{after_hearing, has_half, rest_in}
 use Rattle.m2_center.specs.RecordEnds.{has_end, records_hear}
 use Rattle.m2_center.proofs.RecordsHear.{among_both, center_rest}
 use Rattle.m2_center.specs.Hearing as halves
 use Rattle.m2_cluster.specs.Node.{NodeNow, all_to_come, are_apart, is_to_come, rest_at, rest_of_node}
+use Rattle.m2_lemmas.proofs.Booleans.{or_false, one_of_three, neither_of_or}
+use Rattle.m2_fabric.proofs.Sockets.{apart_turned}
 
 -- ---- a socket comes
-
-parts_of : (goes made waits : Bool) → goes && (not made && not waits) ≡ true → (goes ≡ true) × (made ≡ false) × (waits ≡ false)
-parts_of true false false h = (refl, refl, refl)
-parts_of true false true h = absurd (differ h)
-parts_of true true waits h = absurd (differ h)
-parts_of false made waits h = absurd (differ h)
-
-neither : (a b : Bool) → a || b ≡ false → (a ≡ false) × (b ≡ false)
-neither true b h = absurd (differ (sym h))
-neither false b h = (refl, h)
-
-or_false : (b : Bool) → b || false ≡ b
-or_false true = refl
-or_false false = refl
 
 all_last : (f : SeenEnd → Bool) (es : List SeenEnd) (x : SeenEnd) → f x ≡ true → list_all f (es ++ x ∷ []) ≡ list_all f es
 all_last f [] x this = ap (λ b. b && true) this
@@ -40,9 +27,9 @@ apart_last : (id : SocketId) (es : List SeenEnd) → list_any (λ (e : SeenEnd).
     are_apart (ids_of (es ++ fresh_end id ∷ [])) ≡ are_apart (ids_of es)
 apart_last id [] none = refl
 apart_last id (e ∷ es) none =
-    let two = neither (same_socket id e.id) (list_any (λ (e : SeenEnd). same_socket id e.id) es) none in
+    let two = neither_of_or (same_socket id e.id) (list_any (λ (e : SeenEnd). same_socket id e.id) es) none in
     ap (λ b. not b && are_apart (ids_of (es ++ fresh_end id ∷ [])))
-    (among_both e.id es (fresh_end id ∷ []) ∙ ap (λ b. is_among e.id (ids_of es) || (b || false)) (apart id e.id two.0) ∙ or_false (is_among e.id (ids_of es)))
+    (among_both e.id es (fresh_end id ∷ []) ∙ ap (λ b. is_among e.id (ids_of es) || (b || false)) (apart_turned id e.id two.0) ∙ or_false (is_among e.id (ids_of es)))
     ∙ ap (λ b. not (is_among e.id (ids_of es)) && b) (apart_last id es two.1)
 
 incoming_same : (id : SocketId) (p : SeenPort) (w : Option (List SeenEnd)) → all_to_come p (option_map (with_waiting id p) w) ≡ all_to_come p w
@@ -51,7 +38,7 @@ incoming_same id p (Some es) = at (may_wait id p es) refl
   where
     at : (b : Bool) → may_wait id p es ≡ b → all_to_come p (Some (if b then es ++ fresh_end id ∷ [] else es)) ≡ all_to_come p (Some es)
     at true may =
-        let parts = parts_of (goes_to p.at id) (is_among id p.made) (list_any (λ (e : SeenEnd). same_socket id e.id) es) may in
+        let parts = one_of_three (goes_to p.at id) (is_among id p.made) (list_any (λ (e : SeenEnd). same_socket id e.id) es) may in
         ap (λ b. b && are_apart (ids_of (es ++ fresh_end id ∷ [])))
         (all_last (is_to_come p) es (fresh_end id) (ap (λ b. b && (not (is_among id p.made) && true)) parts.0 ∙ ap (λ b. not b && true) parts.1))
         ∙ ap (λ b. list_all (is_to_come p) es && b) (apart_last id es parts.2)

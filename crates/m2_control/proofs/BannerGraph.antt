@@ -9,6 +9,7 @@ use Rattle.m2_control.specs.declared.banner.BannerStep.TheVariants.{Got, NotYet,
 use Rattle.m2_control.specs.declared.banner.TheConstants.{LEAST_BANNER, MOST_BANNER}
 use Rattle.m2_control.specs.Banner.{magic, Agrees, Differs, payload_length, IsAllowed, IsStep, begins, features_in, sized_banner_in, banner_in}
 use Rattle.m2_control.specs.Laws.{BannerIsAFunction}
+use Rattle.m2_lemmas.proofs.Booleans.{or_true}
 
 -- ---- the first 8 bytes
 
@@ -105,10 +106,6 @@ too_short have need features long few =
     let head : ltb have 10 ≡ false = le-ltb _ _ long in
     let least : ltb need LEAST_BANNER ≡ true = lt-ltb _ _ few in
     rw (head, least) refl
-
-or_true : (b : Bool) → (b || true) ≡ true
-or_true true = refl
-or_true false = refl
 
 too_long : (have need : ℕ) (features : Banner) → 10 ≤ have → MOST_BANNER < need → sized have need features ≡ BadBanner
 too_long have need features long many =

@@ -1,7 +1,7 @@
 -- Each payload is read exactly: what is read is spelled so, and what is spelled so is read.
 use Rattle.std.proofs.Common.{◌≡◌, ◌≢◌, ℕ, zero, suc, ◌+◌, ◌^◌, ◌≤◌, Bool, true, false, cond, not, eqb, leb, List, [], ◌∷◌, ◌++◌, length, Result, Ok, Err, refl, sym, ap, subst, ◌∙◌, arith}
 use Rattle.std.specs.Int.{Width, w32, w64, cast_signed}
-use Rattle.std.proofs.lemmas.Bool.{eqb-true, eq-eqb, ne_eqb}
+use Rattle.std.proofs.lemmas.Bool.{eqb-true}
 use Rattle.std.proofs.lemmas.Bool.Decides.{nat_tests}
 use Rattle.std.proofs.lemmas.List.{append-nil, nil_from_length}
 use Rattle.m2_addr.specs.declared.addr.Addr.{Addr}
@@ -39,6 +39,7 @@ use Rattle.m2_control.specs.SessionReconnectOk.{make_session_reconnect_ok, sessi
 use Rattle.m2_control.specs.Keepalive.{make_keepalive, keepalive_parts, bare_keepalive, IsKeepalive, keepalive_at}
 use Rattle.m2_control.specs.KeepaliveAck.{make_keepalive_ack, keepalive_ack_parts, bare_keepalive_ack, IsKeepaliveAck, keepalive_ack_at}
 use Rattle.m2_control.specs.Ack.{make_ack, ack_parts, bare_ack, IsAck, ack_at}
+use Rattle.m2_lemmas.proofs.Numbers.{tested_isnt_zero, not_zero_is_tested}
 
 -- ---- fields
 
@@ -55,15 +56,9 @@ bounded_exact : (field : ℕ) → IsExact (bounded_at field) IsBounded
 unfolding bounded_at
 bounded_exact field = same_exact IsBounded (checked_exact (λ n. leb n (2 ^ 40)) (BadValue field) (number_exact w64 wide64 Short)) (λ n text h. (h.0, within n (2 ^ 40) h.1)) (λ n text h. (h.0, tests_within n (2 ^ 40) h.1))
 
-some_number : (n : ℕ) → not (eqb n 0) ≡ true → n ≢ 0
-some_number n e is = let t = eq-eqb n 0 is in absurd (cc (e, t))
-
-tests_some : (n : ℕ) → n ≢ 0 → not (eqb n 0) ≡ true
-tests_some n h = rw (ne_eqb n 0 h) refl
-
 cookie_exact : (field : ℕ) → IsExact (cookie_at field) IsCookie
 unfolding cookie_at
-cookie_exact field = same_exact IsCookie (checked_exact (λ n. not (eqb n 0)) (BadValue field) (number_exact w64 wide64 Short)) (λ n text h. (h.0, some_number n h.1)) (λ n text h. (h.0, tests_some n h.1))
+cookie_exact field = same_exact IsCookie (checked_exact (λ n. not (eqb n 0)) (BadValue field) (number_exact w64 wide64 Short)) (λ n text h. (h.0, tested_isnt_zero n h.1)) (λ n text h. (h.0, not_zero_is_tested n h.1))
 
 flag_there : (b : Bool) (text : List ℕ) → (n : ℕ) × (IsByte n text × (leb n 1 ≡ true)) × (b ≡ eqb n 1) → IsFlag b text
 flag_there b text (zero, (is, small), e) = rw e is.0

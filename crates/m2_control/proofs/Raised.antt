@@ -18,7 +18,7 @@ raised_fails NoMsgr2 read h = ap raise h
 raised_fails TooMany read h = ap raise h
 raised_fails NoMemory read h = tt
 
-main_same : (addrs : List AnyAddr) → main_of (bares addrs) ≡ main_of addrs
+pub main_same : (addrs : List AnyAddr) → main_of (bares addrs) ≡ main_of addrs
 main_same [] = refl
 main_same (V4 a ∷ addrs) = rw (main_same addrs) refl
 main_same (Other b ∷ addrs) = main_same addrs

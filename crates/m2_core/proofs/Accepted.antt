@@ -33,14 +33,12 @@ use Rattle.m2_core.specs.Agrees.{Agrees, FeedsAgree}
 use Rattle.m2_core.specs.CoreNow.{CoreNow, Holds, IsSound}
 use Rattle.m2_core.specs.Front.{HearsOn, hearer_at, hearer_of}
 use Rattle.m2_core.proofs.Agreeing.{IsResumed}
-use Rattle.m2_core.proofs.Counted.{is_the_phase}
 use Rattle.m2_core.proofs.Fronts.{as_replayed}
 use Rattle.m2_core.proofs.Passed.{sound_on}
+use Rattle.m2_lemmas.proofs.Options.{none_isnt_some}
+use Rattle.m2_feed.proofs.Heeding.{is_ready}
 
 -- ---- what was granted
-
-none_is_some : (n : ℕ) → None ≡ Some n → ⊥
-none_is_some n e = cc
 
 some_is_none : (n : ℕ) → Some n ≡ None → ⊥
 some_is_none n e = cc
@@ -55,7 +53,7 @@ granted_there law (shaking s) f len tag i = absurd i
 
 granted_to : (g : Option SeenGrant) (n : ℕ) → size_granted g ≡ Some n → (k : SeenGrant) × (g ≡ Some k) × (k.n ≡ n)
 granted_to (Some k) n e = (k, refl, cc)
-granted_to None n e = absurd (none_is_some n e)
+granted_to None n e = absurd (none_isnt_some n e)
 
 granted_front : AsksForItsSize → (f : Parts) (x y : Option FeedNow) → f.tag ≡ message_tag → PassesItem (whole f) x y → granted_on x ≡ Some (bytes_of f)
 granted_front law f (Some v) (Some new) tag p = granted_there law v.reading f p.0.len tag p.0.front
@@ -76,7 +74,7 @@ granted_at law sizes h n None k = absurd k
 
 some_of_size : (g : Option SeenGrant) (n : ℕ) → size_granted g ≡ Some n → is_some g ≡ true
 some_of_size (Some k) n e = refl
-some_of_size None n e = absurd (none_is_some n e)
+some_of_size None n e = absurd (none_isnt_some n e)
 
 pub is_granted : BringsMessages → AsksForItsSize → (c : CoreNow) (n : ℕ) → Holds c → HearsOn c (Brings n) → is_some c.live.granted ≡ true
 is_granted law sizes c n h a = let k = granted_at law sizes (hearer_of c) n c.live.feed a in some_of_size c.live.granted k.0 (h.sound.grant ∙ k.1)
@@ -113,7 +111,7 @@ may_on : TakesBeside → (f : SideFacts) (s : State) (n : ℕ) (key : Key) (m : 
 may_on law f s n key m i (Some v) (Some new) (Some d) k e p st =
     let next : next_said s.last d ≡ Some (brings m) = law.text_next f s i p.0.len v d st k.ready (stops s n m i k) p.0.front ∙ ap (λ (x : Said). Some x) k.says in
     record {
-      phase = is_the_phase s.session.phase k.ready;
+      phase = is_ready s.session.phase k.ready;
       next = subst (λ (o : Option Said). IsNext f s n key o) (sym next) (k.next, k.seq, e);
     }
 may_on law f s n key m i (Some v) (Some new) None k e p st = absurd st

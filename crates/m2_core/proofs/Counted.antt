@@ -9,23 +9,14 @@ use Rattle.m2_journal.specs.Lawful.{MayAcknowledge, OnFeedAt}
 use Rattle.m2_journal.specs.State.{Feed, State}
 use Rattle.m2_journal.specs.Steps.{after}
 use Rattle.m2_queues.specs.OutQueues.{IsNumbered, Queue, after_acked, last_number}
-use Rattle.m2_session.specs.declared.session.Phase.{Phase}
-use Rattle.m2_session.specs.declared.session.Phase.TheVariants.{Absent, Connecting, IdentSent, ReconnectSent, Ready, Standby, Wait}
+use Rattle.m2_session.specs.declared.session.Phase.TheVariants.{Ready}
 use Rattle.m2_session.specs.Phases as phase
 use Rattle.m2_core.specs.LiveNow.{LiveNow, is_ready}
 use Rattle.m2_core.specs.LiveCalls.{after_counted}
 use Rattle.m2_core.proofs.Agreeing.{feeds_as}
 use Rattle.m2_core.specs.Agrees.{IsTold, IsToldTo, LeadsOn, MayCome}
 use Rattle.m2_core.specs.CoreNow.{CoreNow, Holds}
-
-pub is_the_phase : (p : Phase) → phase.is p Ready ≡ true → p ≡ Ready
-is_the_phase Ready e = refl
-is_the_phase Absent e = cc
-is_the_phase Connecting e = cc
-is_the_phase IdentSent e = cc
-is_the_phase ReconnectSent e = cc
-is_the_phase Standby e = cc
-is_the_phase Wait e = cc
+use Rattle.m2_feed.proofs.Heeding.{is_ready as is_the_phase}
 
 pub counted : ChangesBeside → (c : CoreNow) (number : ℕ) → number ≤ c.live.out.queue.written →
     LeadsOn (item.acked number) c (record c { live = after_counted number c.live })

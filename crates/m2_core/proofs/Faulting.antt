@@ -4,7 +4,6 @@ use Rattle.std.specs.Option.{is_some}
 use Rattle.m2_fabric.specs.Sockets.{same_socket}
 use Rattle.m2_feed.specs.FeedNow.{FeedNow}
 use Rattle.m2_feed.specs.Stands.{Stands}
-use Rattle.m2_journal.proofs.Growing.{same_socket-self}
 use Rattle.m2_journal.specs.Items as item
 use Rattle.m2_journal.specs.SideFacts.{SideFacts}
 use Rattle.m2_journal.specs.State.{Feed, State}
@@ -21,6 +20,7 @@ use Rattle.m2_core.proofs.Agreeing.{core_of, leads_by}
 use Rattle.m2_core.proofs.Sound.{fault_by}
 use Rattle.m2_core.specs.Agrees.{Agrees, FeedsAgree, LeadsOn}
 use Rattle.m2_core.specs.CoreNow.{CoreNow}
+use Rattle.m2_fabric.proofs.Sockets.{same_refl}
 
 abbrev faulty_live : (lossy server idle lost : Bool) → LiveNow → LiveNow
 faulty_live lossy server idle lost l =
@@ -39,7 +39,7 @@ faulted_at false false true lost f s n r v g d = record { session = refl; queue 
 faulted_at false false false lost f s n r v g d = record { session = refl; queue = refl; last = refl; owes = refl; dials = refl; top = refl; feed = tt; resumed = inl refl }
 
 pub is_on_feed : (f : SideFacts) (s : State) (v : FeedNow) (d : Feed) → Stands f s v d → same_socket v.end.id d.socket ≡ true
-is_on_feed f s v d st = subst (λ k. same_socket v.end.id k ≡ true) st.socket (same_socket-self v.end.id)
+is_on_feed f s v d st = subst (λ k. same_socket v.end.id k ≡ true) st.socket (same_refl v.end.id)
 
 closing : (f : SideFacts) (s : State) (n r : ℕ) (v : FeedNow) (g : Option SeenGrant) (y : Option Feed) → FeedsAgree f (record s { feed = y }) (Some v) y →
     Agrees (record (core_of f s n r (Some v) g) { live = after_fault (core_of f s n r (Some v) g).live })

@@ -18,13 +18,11 @@ use Rattle.m2_core.specs.OnFeed.{granted_feed}
 use Rattle.m2_core.specs.Agrees.{FeedsAgree, Stays}
 use Rattle.m2_core.specs.CoreNow.{CoreNow, Holds, IsSound}
 use Rattle.m2_core.specs.Granting.{Grants, after_granted}
-
-none_is_some : (n : ℕ) → None ≡ Some n → ⊥
-none_is_some n e = cc
+use Rattle.m2_lemmas.proofs.Options.{none_isnt_some}
 
 -- a size that is owed is the one that is asked for, and isn't granted
 owed_size : (rest : List ℕ) (granted : Bool) (n : ℕ) → Owes (framing rest granted) n → (granted ≡ false) × (size_of rest ≡ Some n)
-owed_size rest true n o = absurd (none_is_some n o)
+owed_size rest true n o = absurd (none_isnt_some n o)
 owed_size rest false n o = (refl, o)
 
 -- ---- the feed stands where it did

@@ -14,6 +14,7 @@ use Rattle.m2_core.specs.LiveNow.{LiveNow, granted_in, is_granted_in, size_grant
 use Rattle.m2_core.specs.OnFeed.{ReadsFeed}
 use Rattle.m2_core.specs.LiveCalls.{live_with}
 use Rattle.m2_core.specs.CoreNow.{CoreNow, Holds, IsSound}
+use Rattle.m2_lemmas.proofs.Options.{none_isnt_some}
 
 heard_framing : (bytes : List ℕ) (r : Reading) → is_framing (heard bytes r) ≡ is_framing r
 heard_framing bytes (shaking s) = refl
@@ -22,9 +23,6 @@ heard_framing bytes (framing rest granted) = refl
 heard_told : (bytes : List ℕ) (r : Reading) → is_granted_in (heard bytes r) ≡ is_granted_in r
 heard_told bytes (shaking s) = refl
 heard_told bytes (framing rest granted) = refl
-
-none_isnt_some : (n : ℕ) → None ≡ Some n → ⊥
-none_isnt_some n e = cc
 
 -- a size that is asked for stays asked for
 size_stays : (rest bytes : List ℕ) (n : ℕ) → size_of rest ≡ Some n → size_of (rest ++ bytes) ≡ size_of rest

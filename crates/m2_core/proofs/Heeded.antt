@@ -35,6 +35,7 @@ use Rattle.m2_core.specs.Next.{CanCount, CanHeed}
 use Rattle.m2_core.proofs.Faulting.{is_on_feed}
 use Rattle.m2_core.proofs.Fronts.{as_replayed}
 use Rattle.m2_core.proofs.Resetting.{reset_heard}
+use Rattle.m2_lemmas.proofs.Booleans.{or_right, or_left, fifth_of_five}
 
 -- ---- a fault is one of the replay
 
@@ -113,14 +114,6 @@ early_breaks law c n q k s a = early_on law c.facts s n c.live.feed s.feed (ap (
 
 -- ---- a resumption
 
-or_right : (a b : Bool) → b ≡ true → (a || b) ≡ true
-or_right true b h = refl
-or_right false b h = h
-
-or_left : (a b : Bool) → a ≡ true → (a || b) ≡ true
-or_left true b h = refl
-or_left false b h = cc
-
 any_above : (w n : ℕ) (xs : List ℕ) → w < n → list_any (λ k. k == n) xs ≡ true → list_any (nat_lt w) xs ≡ true
 any_above w n [] lt e = e
 any_above w n (x ∷ xs) lt e = at (x == n) refl (any_above w n xs lt) e
@@ -130,16 +123,9 @@ any_above w n (x ∷ xs) lt e = at (x == n) refl (any_above w n xs lt) e
     at true q rest h = or_left (nat_lt w x) (list_any (nat_lt w) xs) (lt-ltb w x (let same = eqb-true x n q in omega (arith, same, lt)))
     at false q rest h = or_right (nat_lt w x) (list_any (nat_lt w) xs) (rest h)
 
-last_of : (a b c d e : Bool) → e ≡ true → (a || b || c || d || e) ≡ true
-last_of true b c d e h = refl
-last_of false true c d e h = refl
-last_of false false true d e h = refl
-last_of false false false true e h = refl
-last_of false false false false e h = ap (λ x. false || false || false || false || x) h
-
 beyond_on : (s : State) (n : ℕ) (d : Option Feed) → s.out.queue.written < n → IsTold n d → OnFeedAt d (λ z. is_broken s z ≡ true)
 beyond_on s n (Some d) lt t =
-    last_of (has_failed d.hand) (is_bad (judge d.rest)) (is_refused s.session.phase s.last (said_next s d)) (is_early_message s d) (acknowledges_too_much s d)
+    fifth_of_five (has_failed d.hand) (is_bad (judge d.rest)) (is_refused s.session.phase s.last (said_next s d)) (is_early_message s d) (acknowledges_too_much s d)
     (any_above s.out.queue.written n (told d) lt t)
 beyond_on s n None lt t = absurd t
 

@@ -80,7 +80,7 @@ word_granted t (grant.Full out) c new n w u h e = e
 word_granted t (grant.Again seen now) c new n w u h e = e
 
 -- where the core was left as it was before
-same_mid : (c mid : CoreNow) (x : Option FeedNow) (P : FeedNow → Type 0) → OnFeedNow x (λ v. P v × (mid ≡ c)) → mid ≡ c
+pub same_mid : (c mid : CoreNow) (x : Option FeedNow) (P : FeedNow → Type 0) → OnFeedNow x (λ v. P v × (mid ≡ c)) → mid ≡ c
 same_mid c mid (Some v) P r = r.1
 same_mid c mid None P r = absurd r
 

@@ -47,13 +47,13 @@ use Rattle.m2_core.specs.LiveNow.{LiveNow, held}
 use Rattle.m2_core.specs.Effects.{closed_if, closed_of, effects_of}
 use Rattle.m2_core.specs.LiveCalls.{resumed_by_ask, tells_if, with_taken}
 use Rattle.m2_core.proofs.Agreeing.{IsResumed, agreed, core_of, feeds_as, leads_by}
-use Rattle.m2_core.proofs.Counted.{is_the_phase}
 use Rattle.m2_core.proofs.Numbered.{has_text}
 use Rattle.m2_core.specs.declared.verdict.Verdict.{Verdict}
 use Rattle.m2_core.specs.Agrees.{Agrees, FeedsAgree}
 use Rattle.m2_core.specs.CoreNow.{CoreNow, Holds, IsSound}
 use Rattle.m2_core.specs.Judging.{CanJudge, IsAnswerFrame, IsVerdict, MayBeJudged, acceptance_text, carried_by, entry_of, told_of, verdict_on}
 use Rattle.m2_core.specs.TakingOver.{MakesJudgement, IsTakenFeed, after_answering, after_taking}
+use Rattle.m2_feed.proofs.Heeding.{is_ready}
 
 -- ---- the entry may come
 
@@ -133,7 +133,7 @@ reconnect_refuses (answer.RetryGlobal number) ask e = tt
 reconnect_refuses (answer.Retry number) ask e = tt
 reconnect_refuses answer.Resume ask e = cc
 
-reconnect_takes : (s : Session) (ask : Reconnect) (written : ℕ) → takes (reconnect_answer s ask written) ≡ true → reconnect_answer s ask written ≡ answer.Resume
+pub reconnect_takes : (s : Session) (ask : Reconnect) (written : ℕ) → takes (reconnect_answer s ask written) ≡ true → reconnect_answer s ask written ≡ answer.Resume
 reconnect_takes s ask written =
     each_answer (λ a. takes a ≡ true → a ≡ answer.Resume) (reconnect_rows s ask written) answer.Resume
     (λ h. cc, (λ h. cc, (λ h. cc, (λ h. cc, (λ h. cc, (λ h. cc, (λ h. cc, (λ h. cc, tt))))))))
@@ -195,7 +195,7 @@ kept_or_differs ready false server client asked none some other is = rw (ne_eqb 
 sound_ask : (f : SideFacts) (s : Session) (ask : Reconnect) → SessionIsSound f s → ask.client ≢ 0 → sessions.IsSound s ask
 sound_ask f s ask h other =
     kept_or_differs (phases.is s.phase phase.Ready) f.policy.lossy s.server_cookie s.client_cookie ask.client h.client
-    (λ e ready. h.server e (is_the_phase s.phase ready)) other
+    (λ e ready. h.server e (is_ready s.phase ready)) other
 
 -- what is told of a reconnect doesn't hang on its cookies
 reconnect_row : (s : Session) (given : Answer) (ask told : Reconnect) → told.global ≡ ask.global → told.connect ≡ ask.connect →

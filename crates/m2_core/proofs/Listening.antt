@@ -41,14 +41,14 @@ use Rattle.m2_core.specs.OnFeed.{PassesFeed, ReadsFeed}
 use Rattle.m2_core.specs.LiveCalls.{live_with}
 use Rattle.m2_core.specs.LiveHearing.{TakesAnswer, after_answer, heard_on}
 use Rattle.m2_core.proofs.Agreeing.{IsResumed, agreed, core_of, stands_as}
-use Rattle.m2_core.proofs.Counted.{is_the_phase}
 use Rattle.m2_core.proofs.Faulting.{is_on_feed}
 use Rattle.m2_core.proofs.HeardBytes.{keeps}
-use Rattle.m2_core.proofs.Taken.{Fronted, fronted_by}
+use Rattle.m2_core.proofs.Taken.{Fronted, fronted_by, none_isnt_event}
 use Rattle.m2_core.proofs.Telling.{resumed_still}
 use Rattle.m2_core.specs.Agrees.{Agrees, FeedsAgree, Stays}
 use Rattle.m2_core.specs.CoreNow.{CoreNow, Holds, IsAskedIfSigned}
 use Rattle.m2_core.specs.Hearing.{HasRead, Heeds, IsRead, IsReadEntry, effects_heard, heard_after, hearing}
+use Rattle.m2_feed.proofs.Heeding.{is_ready as is_the_phase}
 
 -- ---- what a read gave
 
@@ -71,16 +71,13 @@ got n old new w = record {
 
 -- ---- an answer is no keepalive
 
-none_isnt_some : (e : Event) → None ≡ Some e → ⊥
-none_isnt_some e q = cc
-
 keepalive_unheard : (f : SideFacts) (p : Phase) (k : Keepalive) → answer_event f p (Some (says (control.Keepalive k))) ≡ None
 keepalive_unheard f IdentSent k = refl
 keepalive_unheard f ReconnectSent k = refl
 keepalive_unheard f _ k = refl
 
 no_stamp : (f : SideFacts) (p : Phase) (y : Said) (e : Event) → answer_event f p (Some y) ≡ Some e → stamp_of y ≡ None
-no_stamp f p (says (control.Keepalive k)) e q = absurd (none_isnt_some e (sym (keepalive_unheard f p k) ∙ q))
+no_stamp f p (says (control.Keepalive k)) e q = absurd (none_isnt_event e (sym (keepalive_unheard f p k) ∙ q))
 no_stamp f p _ e q = refl
 
 -- ---- an answer is taken
@@ -150,8 +147,8 @@ module _ (takes : TakesBeside) (changes : ChangesBeside) (tells : HearsTold) (f 
     feed = tt;
     resumed = inl refl;
   }
-  answered (heard.Reset full) e is told = absurd (none_isnt_some e is)
-  answered (heard.Refused z) e is told = absurd (none_isnt_some e is)
+  answered (heard.Reset full) e is told = absurd (none_isnt_event e is)
+  answered (heard.Refused z) e is told = absurd (none_isnt_event e is)
 
 -- ---- the replay behind the bytes, and what the core makes of what it heard
 

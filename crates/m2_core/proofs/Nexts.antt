@@ -34,7 +34,9 @@ use Rattle.m2_core.specs.Front.{FrontHeard, HearsOn, asks, before_front, front_i
 use Rattle.m2_core.specs.Granting.{HasGranted, Throttled}
 use Rattle.m2_core.specs.Next.{CanHeed, Closes, IsNext, IsResetHeard, MayObeyIfReset, RestSays, granted_next, size_front}
 use Rattle.m2_core.specs.Passing.{HasPassed, PassesHeard}
-use Rattle.m2_core.proofs.Heeded.{bad_breaks, early_breaks, may_close, resumed_breaks, resumed_counts}
+use Rattle.m2_core.proofs.Heeded.{bad_breaks, may_close, resumed_breaks, resumed_counts}
+use Rattle.m2_lemmas.proofs.Options.{none_isnt_some}
+use Rattle.m2_core.proofs.Helds.{same_mid}
 
 pub is_fed : (x : Option FeedNow) → OnFeedNow x (λ v. is_framing v.reading ≡ true) → is_some x ≡ true
 is_fed (Some v) h = refl
@@ -163,18 +165,13 @@ pub next_passed : (t : Throttled) (c new : CoreNow) → OnFeedNow c.live.feed (�
     OnFeedNow c.live.feed (λ v. IsNext t next.Passed (front_of (hearer_of c) v.reading) c new)
 next_passed t c new r = let p = the_passed c new c.live.feed r in passed_on t c new c.live.feed p.passes p
 
--- what leaves the core as it was
-unchanged : (c mid : CoreNow) (x : Option FeedNow) (P : FeedNow → Type 0) → OnFeedNow x (λ v. P v × (mid ≡ c)) → mid ≡ c
-unchanged c mid (Some v) P r = r.1
-unchanged c mid None P r = absurd r
-
 first_on : (c mid : CoreNow) (x : Option FeedNow) (P : FeedNow → Type 0) → OnFeedNow x (λ v. P v × (mid ≡ c)) → OnFeedNow x P
 first_on c mid (Some v) P r = r.0
 first_on c mid None P r = absurd r
 
 pub rest_breaks : FindsFaults → (c mid : CoreNow) (e : FrameFault) → OnFeedNow c.live.feed (λ v. RestSays (rest.Fault e) v.reading c mid) → IsBroken mid
 rest_breaks law c mid e r =
-    subst (λ (k : CoreNow). IsBroken k) (sym (unchanged c mid c.live.feed (λ v. IsBad v.reading e) r)) (bad_breaks law c e (first_on c mid c.live.feed (λ v. IsBad v.reading e) r))
+    subst (λ (k : CoreNow). IsBroken k) (sym (same_mid c mid c.live.feed (λ v. IsBad v.reading e) r)) (bad_breaks law c e (first_on c mid c.live.feed (λ v. IsBad v.reading e) r))
 
 -- the pass is as it was then, too
 abbrev with_passes : SeenThrottle → (before behind : SeenTakePass) → Throttled
@@ -184,7 +181,7 @@ pub next_faulted : (p : SeenThrottle) (u m w : SeenTakePass) (a : CoreNext) (c m
     IsNext (with_passes p m w) a (tells (Fault (fault.Frame e))) mid new → OnFeedNow c.live.feed (λ v. IsNext (with_passes p u w) a (front_of (hearer_of c) v.reading) c new)
 next_faulted p u m w a c mid new e r q n =
     let t = with_passes p u w in
-    let same = unchanged c mid c.live.feed (λ v. IsBad v.reading e) r in
+    let same = same_mid c mid c.live.feed (λ v. IsBad v.reading e) r in
     let from_u : IsNext t a (tells (Fault (fault.Frame e))) mid new = subst (λ (k : SeenTakePass). IsNext (with_passes p k w) a (tells (Fault (fault.Frame e))) mid new) q n in
     let from_c : IsNext t a (tells (Fault (fault.Frame e))) c new = subst (λ (k : CoreNow). IsNext t a (tells (Fault (fault.Frame e))) k new) same from_u in
     map_on c.live.feed (λ v. IsBad v.reading e) (λ v. IsNext t a (front_of (hearer_of c) v.reading) c new)
@@ -195,7 +192,7 @@ pub next_sized : (p : SeenThrottle) (u m w : SeenTakePass) (a : CoreNext) (c mid
     IsNext (with_passes p m w) a (size_front (is_ready mid.live) n) mid new → OnFeedNow c.live.feed (λ v. IsNext (with_passes p u w) a (front_of (hearer_of c) v.reading) c new)
 next_sized p u m w a c mid new n r q x =
     let t = with_passes p u w in
-    let same = unchanged c mid c.live.feed (λ v. Owes v.reading n) r in
+    let same = same_mid c mid c.live.feed (λ v. Owes v.reading n) r in
     let from_u : IsNext t a (size_front (is_ready mid.live) n) mid new = subst (λ (k : SeenTakePass). IsNext (with_passes p k w) a (size_front (is_ready mid.live) n) mid new) q x in
     let from_c : IsNext t a (size_front (is_ready c.live) n) c new = subst (λ (k : CoreNow). IsNext t a (size_front (is_ready k.live) n) k new) same from_u in
     map_on c.live.feed (λ v. Owes v.reading n) (λ v. IsNext t a (front_of (hearer_of c) v.reading) c new)
@@ -204,24 +201,18 @@ next_sized p u m w a c mid new n r q x =
 
 pub rest_owes : (c mid : CoreNow) (n : ℕ) → OnFeedNow c.live.feed (λ v. RestSays (rest.Asks n) v.reading c mid) → OnFeedNow mid.live.feed (λ v. Owes v.reading n)
 rest_owes c mid n r =
-    subst (λ (k : CoreNow). OnFeedNow k.live.feed (λ v. Owes v.reading n)) (sym (unchanged c mid c.live.feed (λ v. Owes v.reading n) r)) (first_on c mid c.live.feed (λ v. Owes v.reading n) r)
+    subst (λ (k : CoreNow). OnFeedNow k.live.feed (λ v. Owes v.reading n)) (sym (same_mid c mid c.live.feed (λ v. Owes v.reading n) r)) (first_on c mid c.live.feed (λ v. Owes v.reading n) r)
 
 -- ---- a size
 
-none_is_some : (n : ℕ) → None ≡ Some n → ⊥
-none_is_some n e = cc
-
 bounded : AsksForItsSize → (r : Reading) (n : ℕ) → Owes r n → n ≤ MOST_TAKEN
-bounded law (framing rest true) n o = absurd (none_is_some n o)
+bounded law (framing rest true) n o = absurd (none_isnt_some n o)
 bounded law (framing rest false) n o = let most = law.bound rest n o in omega (arith, most)
 bounded law (shaking s) n o = absurd o
 
 pub is_bounded : AsksForItsSize → (x : Option FeedNow) (n : ℕ) → OnFeedNow x (λ v. Owes v.reading n) → n ≤ MOST_TAKEN
 is_bounded law (Some v) n o = bounded law v.reading n o
 is_bounded law None n o = absurd o
-
-pub size_breaks : FindsFaults → (c : CoreNow) (n : ℕ) → is_ready c.live ≡ false → OnFeedNow c.live.feed (λ v. Owes v.reading n) → IsBroken c
-size_breaks law c n q o = early_breaks law c n q o
 
 pub size_fed : (x : Option FeedNow) (n : ℕ) → OnFeedNow x (λ v. Owes v.reading n) → is_some x ≡ true
 size_fed (Some v) n o = refl

@@ -27,10 +27,10 @@ use Rattle.m2_core.specs.LiveNow.{LiveNow, OnFeedNow, is_ready}
 use Rattle.m2_core.specs.OnFeed.{CanWrite, ChangesRoom, ComposesMessage}
 use Rattle.m2_core.specs.LiveNumbering.{Numbers, NumbersOn}
 use Rattle.m2_core.proofs.Agreeing.{IsResumed, agreed, core_of, stands_as}
-use Rattle.m2_core.proofs.Counted.{is_the_phase}
 use Rattle.m2_core.specs.Agrees.{Agrees, FeedsAgree, LeadsOn, MayCome}
 use Rattle.m2_core.specs.CoreNow.{CoreNow, Holds, IsSound}
 use Rattle.m2_core.specs.Numbering.{HasNumbered}
+use Rattle.m2_feed.proofs.Heeding.{is_ready as is_the_phase}
 
 abbrev Answer : Type 0
 Answer = Result ℕ memory.NoMemory

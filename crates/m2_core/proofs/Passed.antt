@@ -1,5 +1,5 @@
 -- A text that is passed without an entry: the replay passes it over.
-use Rattle.std.proofs.Common.{◌≡◌, ℕ, Bool, true, false, ◌&&◌, Option, Some, None, Result, Ok, Err, refl, sym, ap, subst, ◌∙◌}
+use Rattle.std.proofs.Common.{◌≡◌, ℕ, true, false, ◌&&◌, Option, Some, None, Result, Ok, Err, refl, sym, ap, subst, ◌∙◌}
 use Rattle.std.proofs.lemmas.Bool.{true≢false}
 use Rattle.m2_bytes.specs.declared.memory.NoMemory as memory
 use Rattle.m2_control.specs.declared.keepalive.Keepalive.{Keepalive}
@@ -26,15 +26,11 @@ use Rattle.m2_core.specs.CoreNow.{CoreNow, Holds, IsSound}
 use Rattle.m2_core.specs.Front.{HearsOn, hearer_at, hearer_of}
 use Rattle.m2_core.specs.Passing.{HasNoted, HasPassed, PassesHeard, StampsFeed}
 use Rattle.m2_core.proofs.Fronts.{as_replayed}
-
-both : (a b : Bool) → a ≡ true → b ≡ true → (a && b) ≡ true
-both true true p q = refl
-both true false p q = cc
-both false b p q = cc
+use Rattle.m2_lemmas.proofs.Booleans.{both_true}
 
 -- where it is passed over
 pub over : (f : SideFacts) (s : State) (item : Item) → IsPassed (hearer_at f s) (said item) → passes_over s item ≡ true
-over f s item k = both (phase.is s.session.phase Ready) (is_passed s.last (said item)) k.ready k.passed
+over f s item k = both_true (phase.is s.session.phase Ready) (is_passed s.last (said item)) k.ready k.passed
 
 -- ---- the feed
 

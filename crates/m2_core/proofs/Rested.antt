@@ -22,6 +22,7 @@ use Rattle.m2_core.specs.Front.{hearer_of}
 use Rattle.m2_core.specs.Next.{RestSays}
 use Rattle.m2_core.specs.Passing.{HasPassed, PassesHeard}
 use Rattle.m2_core.proofs.Passed.{passed_stays, sound_on}
+use Rattle.m2_lemmas.proofs.Options.{none_isnt_some}
 
 -- ---- what isn't answered
 
@@ -74,9 +75,6 @@ faults c f y a = let k = fault_on f c.live.feed y a in with_same c c.live.feed y
 
 -- ---- a message that the peer gave up
 
-none_is_some : (n : ℕ) → None ≡ Some n → ⊥
-none_is_some n e = cc
-
 aborted_item : (tag : ℕ) (x y : Option FeedNow) → GivesFeed (got.Aborted tag) x y → PassesItem (dropped tag) x y
 aborted_item tag (Some v) (Some new) a = (record { len = a.0.0; front = a.0.1; other = dropped tag; passes = a.0 }, a.1)
 aborted_item tag (Some v) None a = absurd a
@@ -84,8 +82,8 @@ aborted_item tag None y a = absurd a
 
 -- its size was granted
 granted_text : AsksForItsSize → (r : Reading) (tag len : ℕ) → IsFront r (dropped tag) len → granted_in r ≢ None
-granted_text law (framing rest true) tag len i e = let s = law.aborted rest tag len i.1 in none_is_some s.0 (sym e ∙ s.1)
-granted_text law (framing rest false) tag len i e = let s = law.aborted rest tag len i.1 in none_is_some s.0 (sym i.0 ∙ s.1)
+granted_text law (framing rest true) tag len i e = let s = law.aborted rest tag len i.1 in none_isnt_some s.0 (sym e ∙ s.1)
+granted_text law (framing rest false) tag len i e = let s = law.aborted rest tag len i.1 in none_isnt_some s.0 (sym i.0 ∙ s.1)
 granted_text law (shaking s) tag len i e = absurd i
 
 granted_item : AsksForItsSize → (tag : ℕ) (x y : Option FeedNow) → PassesItem (dropped tag) x y → granted_on x ≢ None

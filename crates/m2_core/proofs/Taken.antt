@@ -42,7 +42,7 @@ use Rattle.m2_core.specs.Hearing.{Heeds, IsFaultHeard, effects_heard, hearing}
 none_isnt_some : (h : Heard) → None ≡ Some h → ⊥
 none_isnt_some h e = cc
 
-none_isnt_event : (e : Event) → None ≡ Some e → ⊥
+pub none_isnt_event : (e : Event) → None ≡ Some e → ⊥
 none_isnt_event e q = cc
 
 abbrev heard_or : Heard → Option Heard → Heard

@@ -10,23 +10,20 @@ use Rattle.m2_fabric.specs.Kept.{same_end}
 use Rattle.m2_fabric.specs.InStep.{SeenFabric}
 use Rattle.m2_fabric.specs.Meeting.{Arrive, acceptor, arrivals, arrivals_at, comes, entered, is_one_of}
 use Rattle.m2_fabric.proofs.Told.{end_equal, is_other}
+use Rattle.m2_lemmas.proofs.Booleans.{or_false}
 
 pub arrive_nothing : (h : SeenHolder) → Arrive [] h h
 arrive_nothing h = record { nodes = refl; at = λ node. refl; made = λ node. refl; ends = λ e. refl; waits = λ e. refl }
 
 -- ---- one end
 
-alone : (b : Bool) → (b || false) ≡ b
-alone true = refl
-alone false = refl
-
 pub one_arrives : (end : EndName) (a b : SeenHolder) → ComesTo end a b → Arrive (end ∷ []) a b
 one_arrives end a b p = record {
   nodes = p.others.nodes;
   at = p.others.at;
   made = p.others.made;
-  ends = λ e. rw (alone (same_end end e)) (ends e (same_end end e) refl);
-  waits = λ e. rw (alone (same_end end e)) (waits e (same_end end e) refl);
+  ends = λ e. rw (or_false (same_end end e)) (ends e (same_end end e) refl);
+  waits = λ e. rw (or_false (same_end end e)) (waits e (same_end end e) refl);
 }
   where
     here : (may : Bool) → may_come end a ≡ may → IsThere end (if may then Some (fresh_end end.id) else a.ends end.node end.id) (may || a.waits end.node end.id) b

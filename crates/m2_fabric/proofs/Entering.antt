@@ -17,11 +17,8 @@ use Rattle.m2_fabric.specs.declared.kept.Kept.{Kept}
 use Rattle.m2_fabric.proofs.Arriving.{one_arrives}
 use Rattle.m2_fabric.proofs.Flowing.{unkept_is_unread}
 use Rattle.m2_fabric.proofs.Pairs.{times-append}
-use Rattle.m2_fabric.proofs.Told.{both_true, same_equal, same_socket_refl}
-
-either : (a b : Bool) → (a || b) ≡ false → (a ≡ false) × (b ≡ false)
-either false b h = (refl, h)
-either true b h = absurd (cc)
+use Rattle.m2_lemmas.proofs.Booleans.{neither_of_or, both_of_and}
+use Rattle.m2_fabric.proofs.Sockets.{same_equal, same_socket_refl}
 
 -- ---- which pair a socket is added to
 
@@ -35,10 +32,10 @@ round a b p h = by_first ((p.first == a) && (p.second == b)) refl h
   where
     by_first : (s : Bool) → ((p.first == a) && (p.second == b)) ≡ s → (s || ((p.first == b) && (p.second == a))) ≡ true → Round a b p
     by_first true e h =
-        let two = both_true (p.first == a) (p.second == b) e in
+        let two = both_of_and (p.first == a) (p.second == b) e in
         Same (eqb-true p.first a two.0) (eqb-true p.second b two.1)
     by_first false e h =
-        let two = both_true (p.first == b) (p.second == a) h in
+        let two = both_of_and (p.first == b) (p.second == a) h in
         Turned (eqb-true p.first b two.0) (eqb-true p.second a two.1)
 
 pub added : (a b : ℕ) (k : Kept) (p : SeenPair) → of_pair (record p { sockets = p.sockets ++ k ∷ [] }) ≡ of_pair p ++ both p.first p.second k
@@ -162,7 +159,7 @@ sockets_stay : (end : EndName) (a b : SeenHolder) (x y : ℕ) (ks : List Kept) �
     → HaveWhatFlowed a (of_sockets x y ks) → HaveWhatFlowed b (of_sockets x y ks)
 sockets_stay end a b x y [] p unkept have = tt
 sockets_stay end a b x y (k ∷ ks) p unkept have =
-    let parts = either (same_socket k.id end.id) (list_any (λ (k : Kept). same_socket k.id end.id) ks) unkept in
+    let parts = neither_of_or (same_socket k.id end.id) (list_any (λ (k : Kept). same_socket k.id end.id) ks) unkept in
     let other = same_comes_back k.id end.id parts.0 in
     let there_to = stays end (record { node = y; id = k.id }) a b p other in
     let back_to = stays end (record { node = x; id = k.id }) a b p other in
@@ -184,7 +181,7 @@ pairs_stay : (end : EndName) (a b : SeenHolder) (ps : List SeenPair) → Arrive 
     → HaveWhatFlowed a (directions ps) → HaveWhatFlowed b (directions ps)
 pairs_stay end a b [] p unkept have = tt
 pairs_stay end a b (q ∷ qs) p unkept have =
-    let parts = either (list_any (λ (k : Kept). same_socket k.id end.id) q.sockets) (is_kept end.id qs) unkept in
+    let parts = neither_of_or (list_any (λ (k : Kept). same_socket k.id end.id) q.sockets) (is_kept end.id qs) unkept in
     have-append b (of_pair q) (directions qs) (sockets_stay end a b q.first q.second q.sockets p parts.0 (have_first a (of_pair q) (directions qs) have))
     (pairs_stay end a b qs p parts.1 (have_rest a (of_pair q) (directions qs) have))
 
@@ -215,7 +212,7 @@ have_with h a b id ps unread have = go ps have
 any_of_more : (e : SocketId) (k : Kept) (ks : List Kept) → list_any (λ (k : Kept). same_socket k.id e) (ks ++ k ∷ []) ≡ false → list_any (λ (k : Kept). same_socket k.id e) ks ≡ false
 any_of_more e k [] h = refl
 any_of_more e k (x ∷ ks) h =
-    let parts = either (same_socket x.id e) (list_any (λ (k : Kept). same_socket k.id e) (ks ++ k ∷ [])) h in
+    let parts = neither_of_or (same_socket x.id e) (list_any (λ (k : Kept). same_socket k.id e) (ks ++ k ∷ [])) h in
     rw parts.0 (any_of_more e k ks parts.1)
 
 pub unkept_before : (a b : ℕ) (k : Kept) (e : SocketId) (ps : List SeenPair) → is_kept e (with_kept a b k ps) ≡ false → is_kept e ps ≡ false
@@ -225,10 +222,10 @@ unkept_before a b k e (p ∷ ps) h = by_pair (joins a b p) (unkept_before a b k 
     by_pair : (j : Bool) → (is_kept e (with_kept a b k ps) ≡ false → is_kept e ps ≡ false)
         → is_kept e (if j then record p { sockets = p.sockets ++ k ∷ [] } ∷ ps else p ∷ with_kept a b k ps) ≡ false → is_kept e (p ∷ ps) ≡ false
     by_pair true rest h =
-        let parts = either (list_any (λ (k : Kept). same_socket k.id e) (p.sockets ++ k ∷ [])) (is_kept e ps) h in
+        let parts = neither_of_or (list_any (λ (k : Kept). same_socket k.id e) (p.sockets ++ k ∷ [])) (is_kept e ps) h in
         rw (any_of_more e k p.sockets parts.0) parts.1
     by_pair false rest h =
-        let parts = either (list_any (λ (k : Kept). same_socket k.id e) p.sockets) (is_kept e (with_kept a b k ps)) h in
+        let parts = neither_of_or (list_any (λ (k : Kept). same_socket k.id e) p.sockets) (is_kept e (with_kept a b k ps)) h in
         rw parts.0 (rest parts.1)
 
 -- ---- all of it

@@ -23,7 +23,9 @@ use Rattle.m2_fabric.specs.declared.direction.Progress.{Progress}
 use Rattle.m2_fabric.specs.declared.kept.Kept.{Kept}
 use Rattle.m2_fabric.specs.declared.passing.Passing.{Passing}
 use Rattle.m2_fabric.proofs.Pairs.{times-append}
-use Rattle.m2_fabric.proofs.Told.{same_number, same_socket_refl}
+use Rattle.m2_fabric.proofs.Told.{same_number}
+use Rattle.m2_lemmas.proofs.Booleans.{neither_of_or}
+use Rattle.m2_fabric.proofs.Sockets.{same_socket_refl}
 
 -- ---- what an end hears
 
@@ -263,10 +265,6 @@ kept_same what l id (p ∷ ps) =
 
 -- ---- ends of other sockets
 
-either : (a b : Bool) → (a || b) ≡ false → (a ≡ false) × (b ≡ false)
-either false b h = (refl, h)
-either true b h = absurd (cc)
-
 unlike : (a b : Bool) → b ≡ false → (a && b) ≡ false
 unlike true b h = h
 unlike false b h = refl
@@ -274,14 +272,14 @@ unlike false b h = refl
 none_of_sockets : (a b : ℕ) (e : EndName) (ks : List Kept) → list_any (λ (k : Kept). same_socket k.id e.id) ks ≡ false → times_read e (of_sockets a b ks) ≡ 0
 none_of_sockets a b e [] h = refl
 none_of_sockets a b e (k ∷ ks) h =
-    let both = either (same_socket k.id e.id) (list_any (λ (k : Kept). same_socket k.id e.id) ks) h in
+    let both = neither_of_or (same_socket k.id e.id) (list_any (λ (k : Kept). same_socket k.id e.id) ks) h in
     let rest = none_of_sockets a b e ks both.1 in
     rw (unlike (b == e.node) (same_socket k.id e.id) both.0, unlike (a == e.node) (same_socket k.id e.id) both.0) (omega (arith, rest))
 
 pub unkept_is_unread : (e : EndName) (ps : List SeenPair) → is_kept e.id ps ≡ false → times_read e (directions ps) ≡ 0
 unkept_is_unread e [] h = refl
 unkept_is_unread e (p ∷ ps) h =
-    let both = either (list_any (λ (k : Kept). same_socket k.id e.id) p.sockets) (is_kept e.id ps) h in
+    let both = neither_of_or (list_any (λ (k : Kept). same_socket k.id e.id) p.sockets) (is_kept e.id ps) h in
     omega (arith, times-append e (of_pair p) (directions ps), none_of_sockets p.first p.second e p.sockets both.0, unkept_is_unread e ps both.1)
 
 unread_hears : (ts : List Told) (o : Option SeenEnd) → bytes_in ts ≡ [] → IfSome o IsUnread → IfSome (option_map (hears ts) o) IsUnread

@@ -9,3 +9,4 @@ pub mod Passes
 pub mod Told
 pub mod Turns
 pub mod Waits
+pub mod Sockets

@@ -10,7 +10,8 @@ use Rattle.m2_fabric.specs.declared.direction.Direction.{Direction}
 use Rattle.m2_fabric.specs.declared.direction.Progress.{Progress}
 use Rattle.m2_fabric.specs.declared.kept.Kept.{Kept}
 use Rattle.m2_fabric.specs.declared.passing.Passing.{Passing}
-use Rattle.m2_fabric.proofs.Told.{both_true, told_nothing, told_same}
+use Rattle.m2_fabric.proofs.Told.{told_nothing, told_same}
+use Rattle.m2_lemmas.proofs.Booleans.{neither_of_or, both_of_and}
 
 -- ---- the first sockets
 
@@ -75,16 +76,12 @@ pub record AreQuiet (what : Passing) (l : Logs) (a b : ℕ) (k : Kept) : Type 0 
 
 over_are_quiet : (what : Passing) (l : Logs) (a b : ℕ) (k : Kept) → is_over k ≡ true → AreQuiet what l a b k
 over_are_quiet what l a b k over =
-    let both = both_true k.there.over k.back.over over in
+    let both = both_of_and k.there.over k.back.over over in
     record { there = over_is_quiet what l (there a b k) both.0; back = over_is_quiet what l (back a b k) both.1 }
-
-either : (a b : Bool) → (a || b) ≡ false → (a ≡ false) × (b ≡ false)
-either false b h = (refl, h)
-either true b h = absurd (cc)
 
 others_are_quiet : (what : Passing) (l : Logs) (a b : ℕ) (k : Kept) → is_between what a b ≡ false → AreQuiet what l a b k
 others_are_quiet what l a b k other =
-    let both = either (leads what a b) (leads what b a) other in
+    let both = neither_of_or (leads what a b) (leads what b a) other in
     record { there = other_is_quiet what l (there a b k) both.0; back = other_is_quiet what l (back a b k) both.1 }
 
 quiet_stays : (what : Passing) (l : Logs) (a b : ℕ) (k : Kept) → AreQuiet what l a b k → kept_after what l a b k ≡ k

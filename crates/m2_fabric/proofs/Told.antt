@@ -10,38 +10,17 @@ use Rattle.m2_fabric.specs.declared.end.News.{News}
 use Rattle.m2_fabric.specs.declared.socket.SocketId.{SocketId}
 use Rattle.m2_fabric.specs.Kept.{same_end}
 use Rattle.m2_fabric.specs.News.{AreTold, Told, hears, logs_of, only}
+use Rattle.m2_lemmas.proofs.Booleans.{both_of_and}
+use Rattle.m2_fabric.proofs.Sockets.{same_equal}
 
 -- ---- equal names
-
-pub both_true : (a b : Bool) → (a && b) ≡ true → (a ≡ true) × (b ≡ true)
-both_true true b h = (refl, h)
-both_true false b h = absurd (cc)
-
-pub same_equal : (a b : SocketId) → same_socket a b ≡ true → a ≡ b
-same_equal a b h =
-    let ip = a.from_ip == b.from_ip in
-    let port = a.from_port == b.from_port in
-    let to_ip = a.to_ip == b.to_ip in
-    let to_port = a.to_port == b.to_port in
-    let five = both_true (((ip && port) && to_ip) && to_port) (a.turn == b.turn) h in
-    let four = both_true ((ip && port) && to_ip) to_port five.0 in
-    let three = both_true (ip && port) to_ip four.0 in
-    let two = both_true ip port three.0 in
-    ap (λ (n : ℕ). record a { from_ip = n }) (eqb-true a.from_ip b.from_ip two.0)
-    ∙ ap (λ (n : ℕ). record a { from_ip = b.from_ip; from_port = n }) (eqb-true a.from_port b.from_port two.1)
-    ∙ ap (λ (n : ℕ). record a { from_ip = b.from_ip; from_port = b.from_port; to_ip = n }) (eqb-true a.to_ip b.to_ip three.1)
-    ∙ ap (λ (n : ℕ). record b { to_port = n; turn = a.turn }) (eqb-true a.to_port b.to_port four.1)
-    ∙ ap (λ (n : ℕ). record b { turn = n }) (eqb-true a.turn b.turn five.1)
 
 pub same_number : (n : ℕ) → (n == n) ≡ true
 same_number n = eq-eqb n n refl
 
-pub same_socket_refl : (s : SocketId) → same_socket s s ≡ true
-same_socket_refl s = rw (same_number s.from_ip, same_number s.from_port, same_number s.to_ip, same_number s.to_port, same_number s.turn) refl
-
 pub end_equal : (a b : EndName) → same_end a b ≡ true → a ≡ b
 end_equal a b h =
-    let two = both_true (a.node == b.node) (same_socket a.id b.id) h in
+    let two = both_of_and (a.node == b.node) (same_socket a.id b.id) h in
     ap (λ (n : ℕ). record a { node = n }) (eqb-true a.node b.node two.0) ∙ ap (λ (s : SocketId). record b { id = s }) (same_equal a.id b.id two.1)
 
 -- an end of another name is another end

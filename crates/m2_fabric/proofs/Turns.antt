@@ -1,7 +1,7 @@
 -- How often sockets stand in lists, and that a socket of the next turn stands in none.
-use Rattle.std.proofs.Common.{◌≡◌, ℕ, ◌+◌, ◌≤◌, ◌<◌, max, Bool, true, false, if◌then◌else◌, List, [], ◌∷◌, ◌++◌, fold, refl, ◌∙◌, ap, arith, ◌==◌, ◌&&◌, ◌||◌}
+use Rattle.std.proofs.Common.{◌≡◌, ℕ, ◌+◌, ◌≤◌, ◌<◌, max, Bool, true, false, if◌then◌else◌, List, [], ◌∷◌, ◌++◌, fold, refl, ◌∙◌, arith, ◌==◌, ◌&&◌, ◌||◌}
 use Rattle.std.proofs.Common.{append-nil}
-use Rattle.std.proofs.lemmas.Bool.{eq-eqb, eqb-true}
+use Rattle.std.proofs.lemmas.Bool.{eq-eqb}
 use Rattle.std.proofs.lemmas.List.Sums.{fold-append}
 use Rattle.std.proofs.lemmas.List.Folds.{fold-map}
 use Rattle.m2_addr.specs.declared.addr.Addr.{Addr}
@@ -9,34 +9,12 @@ use Rattle.m2_fabric.specs.End.{SeenEnd}
 use Rattle.m2_fabric.specs.Sockets.{is_among, same_socket}
 use Rattle.m2_fabric.specs.declared.socket.SocketId.{SocketId}
 use Rattle.m2_fabric.specs.SimPort.{times, turn_on, greatest, ids, path, socket_after}
+use Rattle.m2_fabric.proofs.Sockets.{same_equal, same_socket_refl}
 
 -- ---- equal names
 
 pub same_number : (n : ℕ) → (n == n) ≡ true
 same_number n = eq-eqb n n refl
-
-both : (a b : Bool) → (a && b) ≡ true → (a ≡ true) × (b ≡ true)
-both true b h = (refl, h)
-both false b h = absurd (cc)
-
-pub same_refl : (s : SocketId) → same_socket s s ≡ true
-same_refl s = rw (same_number s.from_ip, same_number s.from_port, same_number s.to_ip, same_number s.to_port, same_number s.turn) refl
-
-pub same_equal : (a b : SocketId) → same_socket a b ≡ true → a ≡ b
-same_equal a b h =
-    let ip = a.from_ip == b.from_ip in
-    let port = a.from_port == b.from_port in
-    let to_ip = a.to_ip == b.to_ip in
-    let to_port = a.to_port == b.to_port in
-    let five = both (((ip && port) && to_ip) && to_port) (a.turn == b.turn) h in
-    let four = both ((ip && port) && to_ip) to_port five.0 in
-    let three = both (ip && port) to_ip four.0 in
-    let two = both ip port three.0 in
-    ap (λ (n : ℕ). record a { from_ip = n }) (eqb-true a.from_ip b.from_ip two.0)
-    ∙ ap (λ (n : ℕ). record a { from_ip = b.from_ip; from_port = n }) (eqb-true a.from_port b.from_port two.1)
-    ∙ ap (λ (n : ℕ). record a { from_ip = b.from_ip; from_port = b.from_port; to_ip = n }) (eqb-true a.to_ip b.to_ip three.1)
-    ∙ ap (λ (n : ℕ). record b { to_port = n; turn = a.turn }) (eqb-true a.to_port b.to_port four.1)
-    ∙ ap (λ (n : ℕ). record b { turn = n }) (eqb-true a.turn b.turn five.1)
 
 -- ---- how often
 
@@ -106,7 +84,7 @@ above_all path s most (x ∷ xs) on above = by_first (same_socket s x) refl (abo
 
 -- the next socket is none of these
 pub next_is_new : (xs : List SocketId) (from to : Addr) → times (socket_after xs from to) xs ≡ 0
-next_is_new xs from to = above_all (path from to) (socket_after xs from to) 0 xs (same_refl (path from to)) (omega arith)
+next_is_new xs from to = above_all (path from to) (socket_after xs from to) 0 xs (same_socket_refl (path from to)) (omega arith)
 
 -- the greatest turn among those that were made, and then among those that wait
 pub greatest_of_both : (path : SocketId) (made : List SocketId) (ends : List SeenEnd)

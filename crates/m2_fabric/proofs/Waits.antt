@@ -12,7 +12,8 @@ use Rattle.m2_fabric.specs.Sockets.{IsOfHome, comes_from, goes_to, is_among, sam
 use Rattle.m2_fabric.specs.declared.end.News.{News}
 use Rattle.m2_fabric.specs.declared.socket.SocketId.{SocketId}
 use Rattle.m2_fabric.specs.SimPort.{AreWaiting, IsSimPort, IsWaiting, ids, socket_after, times}
-use Rattle.m2_fabric.proofs.Turns.{among_none, next_is_new, none_among, once_at_end, once_between, same_number, same_refl, times-append}
+use Rattle.m2_fabric.proofs.Turns.{among_none, next_is_new, none_among, once_at_end, once_between, same_number, times-append}
+use Rattle.m2_fabric.proofs.Sockets.{same_socket_refl}
 
 -- the first item, and the rest
 pub first_removed : (xs : List SeenEnd) (e : SeenEnd) → 0 < length xs → e ≡ get_or xs 0 e → xs ≡ e ∷ remove xs 0
@@ -57,7 +58,7 @@ pub accepted_is_new : (at : Addr) (made : List SocketId) (waiting : List SeenEnd
     → waiting ≡ e ∷ rest → IsNewEnd at made e
 accepted_is_new at made waiting e rest p first =
     let q : IsSimPort at made (e ∷ rest) = rw (← first) p in
-    let one : times e.id (e.id ∷ ids rest) ≡ 1 + times e.id (ids rest) = rw (same_refl e.id) refl in record {
+    let one : times e.id (e.id ∷ ids rest) ≡ 1 + times e.id (ids rest) = rw (same_socket_refl e.id) refl in record {
       towards = q.waits.0.towards;
       first = among_none e.id made (omega (arith, one, q.once e.id, times-append e.id made (e.id ∷ ids rest)));
       unused = q.waits.0.unused;

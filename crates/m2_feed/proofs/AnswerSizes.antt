@@ -22,6 +22,7 @@ use Rattle.m2_journal.specs.State.{Feed, State}
 use Rattle.m2_message.specs.declared.header_text.TheConstants.{HEADER_BYTES}
 use Rattle.m2_message.specs.MessageFrame.{message_in}
 use Rattle.m2_frame.specs.Tags.{tag_in}
+use Rattle.m2_lemmas.proofs.Options.{none_isnt_some}
 
 -- ---- a size that is asked for is that of a MESSAGE
 
@@ -60,10 +61,7 @@ judge-tag rest p i n read =
 abbrev pub Asks : List ℕ → Type 0
 Asks rest = (p : Preamble) × (read_preamble (take PREAMBLE_BYTES rest) ≡ Ok p) × (p.tag ≡ message_tag)
 
-none_isnt_some : (n : ℕ) → None ≡ Some n → ⊥
-none_isnt_some n e = cc
-
-size-in : (p : Preamble) (n : ℕ) → size_in p ≡ Some n → p.tag ≡ message_tag
+pub size-in : (p : Preamble) (n : ℕ) → size_in p ≡ Some n → p.tag ≡ message_tag
 size-in p n e = eqb-true p.tag message_tag (at (p.tag == message_tag) e)
   where
     at : (b : Bool) → (if b then Some (asked_by p) else None) ≡ Some n → b ≡ true

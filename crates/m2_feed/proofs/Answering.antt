@@ -1,5 +1,5 @@
 -- An answer of a half: what it writes stands behind, it signs by one answer alone, and what is unread gets no longer.
-use Rattle.std.proofs.Common.{◌≡◌, ℕ, ◌+◌, ◌≤◌, Bool, true, false, Option, Some, None, List, [], ◌∷◌, ◌++◌, length, drop, refl, sym, ap, ◌∙◌, subst, arith, append-nil}
+use Rattle.std.proofs.Common.{◌≡◌, ℕ, ◌+◌, ◌≤◌, true, false, Option, Some, None, List, [], ◌∷◌, ◌++◌, length, drop, refl, sym, ap, ◌∙◌, subst, arith, append-nil}
 use Rattle.std.proofs.lemmas.List.{drop-append-le, length-append}
 use Rattle.m2_bytes.specs.Blob.{Contents}
 use Rattle.m2_frame.specs.Frame.{Parts}
@@ -16,15 +16,15 @@ use Rattle.m2_handshake.specs.declared.stage.Awaited.TheVariants.{Hello}
 use Rattle.m2_handshake.specs.declared.stage.Stage.{Stage}
 use Rattle.m2_handshake.specs.declared.stage.Stage.TheVariants.{Opening, Banner, Waits, Authed, Asked, Ended, Faulty}
 use Rattle.m2_handshake.specs.Asking.{is_ready}
-use Rattle.m2_handshake.specs.Course.{course_move}
 use Rattle.m2_handshake.specs.Half.{Answers, Ends, Writer, writer}
-use Rattle.m2_handshake.specs.Moves.{Move, stays, quiet, writes, signs, fails, is_agreed, after_banner, take_frame, after_reaction, answer_held, move_at, move_of, is_authed, Quietly}
+use Rattle.m2_handshake.specs.Moves.{Move, quiet, writes, signs, fails, is_agreed, after_banner, take_frame, after_reaction, answer_held, move_at, move_of, is_authed, Quietly}
 use Rattle.m2_handshake.specs.Standing.{Standing, HalfState, faulted, faulted_at}
 use Rattle.m2_handshake.specs.Steps.{Reaction, says, listens, signed, refuses, after_frame}
 use Rattle.m2_handshake.specs.Texts.{frame_text, hello}
-use Rattle.m2_handshake.proofs.Leading.{is_over, Lead, Leads, leads, either, true_isnt_false}
-use Rattle.m2_handshake.proofs.Reaching.{same_move, unover, handshake_on}
+use Rattle.m2_handshake.proofs.Leading.{Lead, Leads, leads, either, true_isnt_false}
+use Rattle.m2_handshake.proofs.Reaching.{unover, handshake_on, same_signs}
 use Rattle.m2_feed.specs.Calls.{HalfWrites, SignsOnlyAs, is_signing}
+use Rattle.m2_handshake.proofs.Signing.{unover_unauthed}
 
 -- ---- what it writes
 
@@ -55,15 +55,6 @@ still_within a old new o n put within h =
 
 -- ---- where it stands
 
-unover_unsigned : (stage : Stage) → is_over stage ≡ false → is_authed stage ≡ false
-unover_unsigned Opening o = refl
-unover_unsigned Banner o = refl
-unover_unsigned (Waits awaited) o = refl
-unover_unsigned Authed o = absurd (true_isnt_false o)
-unover_unsigned Asked o = absurd (true_isnt_false o)
-unover_unsigned Ended o = absurd (true_isnt_false o)
-unover_unsigned (Faulty f) o = absurd (true_isnt_false o)
-
 shorter : (a b : Standing) → Lead a b → length b.rest ≤ length a.rest
 shorter a b l = let n = length-append l.used b.rest in omega (arith, ap length l.before, n)
 
@@ -75,7 +66,7 @@ quiet_step a b e =
     let on = handshake_on a (quiet b) e tt in
     let over = unover a (quiet b) e tt in
     let l : Leads a (quiet b) = subst (Leads a) on (leads a) in
-    (shorter a b l.0, unover_unsigned b.stage (l.2 ∙ over))
+    (shorter a b l.0, unover_unauthed b.stage (l.2 ∙ over))
 
 abbrev Quieter : Standing → Standing → Type 0
 Quieter a b = (length b.rest ≤ length a.rest) × (is_authed a.stage ≡ false → is_authed b.stage ≡ false)
@@ -125,9 +116,6 @@ signs_at (Faulty f) s t q e = absurd cc
 signs_ready : (s t : Standing) → is_authed s.stage ≡ false → move_of s ≡ signs t → is_ready t ≡ true
 signs_ready s t q e = ap is_ready (sym (signs_at s.stage s t q e))
 
-same_signs : (a b : Standing) → signs a ≡ signs b → a ≡ b
-same_signs a b e = cc
-
 signed_shorter_at : (stage : Stage) (s t : Standing) → move_at stage s ≡ signs t → length t.rest ≤ length s.rest
 signed_shorter_at Opening s t e = absurd cc
 signed_shorter_at Banner s t e = absurd (banner_signs s t (banner_in s.rest) e)
@@ -173,7 +161,7 @@ ends_shorter half.NotYet mid t o n e = same_shorter half.NotYet mid t refl (ap (
 ends_shorter half.Wrote mid t o n e =
     let on = handshake_on mid (writes e.0 t) e.1 tt in
     let l : Leads mid (writes e.0 t) = subst (Leads mid) on (leads mid) in
-    (shorter mid t l.0, λ q. (λ y. absurd (true_isnt_false (sym y)), λ y. unover_unsigned t.stage l.3))
+    (shorter mid t l.0, λ q. (λ y. absurd (true_isnt_false (sym y)), λ y. unover_unauthed t.stage l.3))
 ends_shorter half.Authed mid t o n e =
     (signed_shorter_at mid.stage mid t e.0, λ q. (λ y. signs_ready mid t q e.0, λ y. absurd (true_isnt_false y)))
 ends_shorter (half.Fault f) mid t o n e =

@@ -1,9 +1,9 @@
 -- What the code finds wrong is a fault of the replay; what it finds acknowledged the replay was told.
-use Rattle.std.proofs.Common.{◌≡◌, ◌≢◌, ℕ, ◌+◌, ◌≤◌, ◌<◌, ◌==◌, Bool, true, false, cond, not, List, [], ◌∷◌, ◌++◌, length, take, drop, Option, Some, None, Result, Ok, Err, refl, sym, ap, ◌∙◌, subst, arith, append-nil}
-use Rattle.std.specs.Prelude.{◌&&◌, ◌||◌, if◌then◌else◌, nat_lt, slice_get, option_map}
+use Rattle.std.proofs.Common.{◌≡◌, ◌≢◌, ℕ, ◌+◌, ◌≤◌, ◌<◌, ◌==◌, Bool, true, false, not, List, [], ◌∷◌, ◌++◌, length, take, drop, Option, Some, None, Result, Ok, Err, refl, sym, ap, ◌∙◌, subst, append-nil}
+use Rattle.std.specs.Prelude.{◌&&◌, ◌||◌, if◌then◌else◌, nat_lt, option_map}
 use Rattle.std.specs.List.{cons_option, filter_map, list_any}
 use Rattle.std.specs.Option.{is_some, option_to_list}
-use Rattle.std.proofs.lemmas.Bool.{true≢false, eq-eqb, eqb-true, lt-ltb}
+use Rattle.std.proofs.lemmas.Bool.{true≢false, eq-eqb, lt-ltb}
 use Rattle.m2_frame.specs.declared.epilogue.Late.{Late}
 use Rattle.m2_frame.specs.declared.epilogue.Late.TheVariants.{Complete, Aborted}
 use Rattle.m2_frame.specs.declared.fault.FrameFault.{FrameFault}
@@ -12,17 +12,16 @@ use Rattle.m2_frame.specs.declared.preamble.Preamble.{Preamble}
 use Rattle.m2_frame.specs.declared.preamble.TheConstants.{PREAMBLE_BYTES}
 use Rattle.m2_frame.specs.Frame.{Parts, message_tag}
 use Rattle.m2_frame.specs.Preamble.{read_preamble}
-use Rattle.m2_frame.specs.Reading.{Item, whole, dropped, Front, start, bad, text, asked_by, first_is_right, first_len, later_len, frame_in, front_of, judge, judge_body, judge_first, judge_later, judge_rest, owed_at, size_asked, size_in, size_of, text_len}
+use Rattle.m2_frame.specs.Reading.{Item, whole, dropped, Front, start, bad, text, first_is_right, first_len, later_len, frame_in, front_of, judge, judge_body, judge_first, judge_later, judge_rest, owed_at, size_asked, size_of, text_len}
 use Rattle.m2_frame.proofs.Cutting.{bad_isnt_text, same_text, start_isnt_text}
 use Rattle.m2_handshake.specs.declared.answer.HalfStep.TheVariants as half
 use Rattle.m2_handshake.specs.declared.fault.HalfFault.{HalfFault}
 use Rattle.m2_handshake.proofs.Leading.{either}
 use Rattle.m2_journal.specs.Feeds.{answer_said, next_said, is_passed, said_at, told, told_by}
 use Rattle.m2_journal.specs.Lawful.{acknowledges_too_much, begins_message, has_failed, is_bad, is_broken, is_early_message, is_refused, said_next}
-use Rattle.m2_journal.specs.Said.{Said, says, brings, aborts, garbles, Split, split, said, said_by, said_of_message}
+use Rattle.m2_journal.specs.Said.{Said, says, brings, aborts, garbles, said, said_by, said_of_message}
 use Rattle.m2_journal.specs.SideFacts.{SideFacts}
 use Rattle.m2_journal.specs.State.{Feed, State}
-use Rattle.m2_journal.proofs.Splitting.{split-open}
 use Rattle.m2_message.specs.declared.header_text.TheConstants.{HEADER_BYTES}
 use Rattle.m2_message.specs.MessageFrame.{message_in}
 use Rattle.m2_session.specs.declared.session.Phase.{Phase}
@@ -35,6 +34,9 @@ use Rattle.m2_feed.specs.FeedLaws.{FindsFaults, HearsTold}
 use Rattle.m2_feed.specs.Stands.{Frames, ReadsAs, Shakes, Stands, is_ready, passes_over}
 use Rattle.m2_feed.proofs.Framing.{at-front, idle-next, idle-place, ready-place}
 use Rattle.m2_feed.proofs.Shaking.{fails-there}
+use Rattle.m2_lemmas.proofs.Options.{none_isnt_some}
+use Rattle.m2_lemmas.proofs.Booleans.{fifth_of_five}
+use Rattle.m2_feed.proofs.AnswerSizes.{size-in, get-past, open-there}
 
 -- ---- one fault of several
 
@@ -53,13 +55,6 @@ or4 false true c d e h = refl
 or4 false false true d e h = refl
 or4 false false false d e h = ap (λ x. false || false || false || x || e) h
 
-or5 : (a b c d e : Bool) → e ≡ true → (a || b || c || d || e) ≡ true
-or5 true b c d e h = refl
-or5 false true c d e h = refl
-or5 false false true d e h = refl
-or5 false false false true e h = refl
-or5 false false false false e h = ap (λ x. false || false || false || false || x) h
-
 module _ (s : State) (d : Feed) where
   broken-bad : is_bad (judge d.rest) ≡ true → is_broken s d ≡ true
   broken-bad h = or2 (has_failed d.hand) (is_bad (judge d.rest)) (is_refused s.session.phase s.last (said_next s d)) (is_early_message s d) (acknowledges_too_much s d) h
@@ -71,7 +66,7 @@ module _ (s : State) (d : Feed) where
   broken-early h = or4 (has_failed d.hand) (is_bad (judge d.rest)) (is_refused s.session.phase s.last (said_next s d)) (is_early_message s d) (acknowledges_too_much s d) h
 
   broken-told : acknowledges_too_much s d ≡ true → is_broken s d ≡ true
-  broken-told h = or5 (has_failed d.hand) (is_bad (judge d.rest)) (is_refused s.session.phase s.last (said_next s d)) (is_early_message s d) (acknowledges_too_much s d) h
+  broken-told h = fifth_of_five (has_failed d.hand) (is_bad (judge d.rest)) (is_refused s.session.phase s.last (said_next s d)) (is_early_message s d) (acknowledges_too_much s d) h
 
 -- ---- the text at the front is the one that is said next
 
@@ -127,16 +122,6 @@ judge-tag rest p i n read =
 abbrev Asks : List ℕ → Type 0
 Asks rest = (p : Preamble) × (read_preamble (take PREAMBLE_BYTES rest) ≡ Ok p) × (p.tag ≡ message_tag)
 
-none_isnt_some : (n : ℕ) → None ≡ Some n → ⊥
-none_isnt_some n e = cc
-
-size-in : (p : Preamble) (n : ℕ) → size_in p ≡ Some n → p.tag ≡ message_tag
-size-in p n e = eqb-true p.tag message_tag (at (p.tag == message_tag) e)
-  where
-    at : (b : Bool) → (if b then Some (asked_by p) else None) ≡ Some n → b ≡ true
-    at true e = refl
-    at false e = absurd (none_isnt_some n e)
-
 size-asks : (rest : List ℕ) (n : ℕ) → size_of rest ≡ Some n → Asks rest
 unfolding size_of
 size-asks rest n =
@@ -190,17 +175,6 @@ message-refused Wait last (brings m) q h = refl
 message-refused Wait last aborts q h = refl
 message-refused Wait last garbles q h = refl
 message-refused Wait last (says c) q h = absurd h
-
-get-past : (xs : List Item) → slice_get xs (length xs) ≡ None
-get-past [] = refl
-get-past (x ∷ xs) = get-past xs
-
--- no whole text is there: nothing is left, and the bytes are the replay's
-open-there : (f : SideFacts) (s : State) (v : FeedNow) (d : Feed) (rest : List ℕ) (granted : Bool) → ((i : Item) (n : ℕ) → judge rest ≢ text i n) → (k : Frames f s v d rest granted) →
-    (k.left ≡ []) × (d.rest ≡ rest)
-open-there f s v d rest granted none k =
-    let both : record { items = k.left; rest = d.rest } ≡ record { items = []; rest = rest } = sym k.splits ∙ split-open rest none in
-    (ap (λ (c : Split). c.items) both, ap (λ (c : Split). c.rest) both)
 
 early-open : (f : SideFacts) (s : State) (n : ℕ) (v : FeedNow) (d : Feed) (rest : List ℕ) (granted : Bool) → is_ready s ≡ false → size_of rest ≡ Some n →
     ((i : Item) (n : ℕ) → judge rest ≢ text i n) → Frames f s v d rest granted → is_broken s d ≡ true

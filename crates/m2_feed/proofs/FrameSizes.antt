@@ -1,5 +1,5 @@
 -- What texts ask for: by the format's tables a text begins with the preamble of its frame.
-use Rattle.std.proofs.Common.{◌≡◌, ℕ, ◌+◌, ◌*◌, ◌≤◌, ◌<◌, ◌==◌, Bool, true, false, List, ◌++◌, length, take, drop, Option, Some, None, Result, Ok, Err, refl, sym, ap, ◌∙◌, subst, arith, append_assoc}
+use Rattle.std.proofs.Common.{◌≡◌, ℕ, ◌+◌, ◌*◌, ◌≤◌, ◌<◌, ◌==◌, Bool, true, false, List, ◌++◌, length, take, drop, Some, None, Result, Ok, Err, refl, sym, ap, ◌∙◌, arith, append_assoc}
 use Rattle.std.specs.Prelude.{nat_lt, if◌then◌else◌}
 use Rattle.std.proofs.lemmas.Bool.{eqb-true, eq-eqb, ltb-false}
 use Rattle.std.proofs.lemmas.List.{take-append-drop, length-append, length-take-le}
@@ -12,11 +12,12 @@ use Rattle.m2_frame.specs.declared.preamble.TheConstants.{PREAMBLE_BYTES}
 use Rattle.m2_frame.specs.Frame.{Parts, count_of, message_tag, most_segments, segment_limit}
 use Rattle.m2_frame.specs.Grammar.{IsText}
 use Rattle.m2_frame.specs.Preamble.{preamble_of, read_preamble}
-use Rattle.m2_frame.specs.Reading.{whole, dropped, text, asked_by, judge, size_asked, size_in, size_of}
+use Rattle.m2_frame.specs.Reading.{whole, dropped, text, asked_by, size_asked, size_in, size_of}
 use Rattle.m2_frame.proofs.Judge.{size_of-begins}
 use Rattle.m2_frame.proofs.Parsed.{judged-item_text}
 use Rattle.m2_frame.proofs.Preambles.{IsAllowed, allowed-fits, preamble_text-read, read_preamble-text}
 use Rattle.m2_feed.specs.FrameLaws.{AsksForItsSize}
+use Rattle.m2_lemmas.proofs.Options.{none_isnt_some}
 
 take_first : (n : ℕ) (xs ys : List ℕ) → length xs ≡ n → take n (xs ++ ys) ≡ xs
 take_first n xs ys e = ap (λ (k : ℕ). take k (xs ++ ys)) (sym e) ∙ take-append_seam xs ys
@@ -49,9 +50,6 @@ several tag n more most = at (tag == message_tag) refl most
 
 -- ---- the bound
 
-none_is_some : (n : ℕ) → None ≡ Some n → ⊥
-none_is_some n e = cc
-
 bounded : (p : Preamble) (n : ℕ) → IsAllowed p → size_in p ≡ Some n → n ≤ 3 * MESSAGE_LIMIT
 bounded p n a = at (p.tag == message_tag) refl a.second a.third a.fourth
   where
@@ -64,7 +62,7 @@ bounded p n a = at (p.tag == message_tag) refl a.second a.third a.fourth
         let most : segment_limit p.tag ≡ MESSAGE_LIMIT = ap segment_limit (eqb-true p.tag message_tag q) in
         let s = same (asked_by p) e in
         omega (arith, most, s, second, third, fourth)
-    at false q second third fourth e = absurd (none_is_some n e)
+    at false q second third fourth e = absurd (none_isnt_some n e)
 
 size_bounded : (rest : List ℕ) (n : ℕ) → size_of rest ≡ Some n → n ≤ 3 * MESSAGE_LIMIT
 unfolding size_of
@@ -72,10 +70,10 @@ size_bounded rest n = at (nat_lt (length rest) PREAMBLE_BYTES) refl
   where
     read : PREAMBLE_BYTES ≤ length rest → (r : Result Preamble FrameFault) → read_preamble (take PREAMBLE_BYTES rest) ≡ r → size_asked r ≡ Some n → n ≤ 3 * MESSAGE_LIMIT
     read long (Ok p) q e = bounded p n (preamble_text-read p (take PREAMBLE_BYTES rest) (length-take-le PREAMBLE_BYTES rest long) q).1 e
-    read long (Err f) q e = absurd (none_is_some n e)
+    read long (Err f) q e = absurd (none_isnt_some n e)
 
     at : (b : Bool) → nat_lt (length rest) PREAMBLE_BYTES ≡ b → (if b then None else size_asked (read_preamble (take PREAMBLE_BYTES rest))) ≡ Some n → n ≤ 3 * MESSAGE_LIMIT
-    at true q e = absurd (none_is_some n e)
+    at true q e = absurd (none_isnt_some n e)
     at false q e = read (ltb-false (length rest) PREAMBLE_BYTES q) (read_preamble (take PREAMBLE_BYTES rest)) refl e
 
 pub asks : AsksForItsSize

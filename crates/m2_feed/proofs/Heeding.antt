@@ -26,8 +26,8 @@ use Rattle.m2_control.specs.SessionReset.{session_reset_at}
 use Rattle.m2_control.specs.SessionRetry.{session_retry_at}
 use Rattle.m2_control.specs.SessionRetryGlobal.{session_retry_global_at}
 use Rattle.m2_frame.specs.Frame.{Parts}
-use Rattle.m2_frame.specs.Reading.{Item, whole, dropped}
-use Rattle.m2_journal.specs.Feeds.{is_passed, stamp_of, told_by}
+use Rattle.m2_frame.specs.Reading.{whole, dropped}
+use Rattle.m2_journal.specs.Feeds.{is_passed, told_by}
 use Rattle.m2_journal.specs.Lawful.{is_refused}
 use Rattle.m2_journal.specs.Said.{Said, says, brings, aborts, garbles, said, said_by, said_of_control, said_of_message, said_of_payload, is_read_at_feed}
 use Rattle.m2_message.specs.Message.{Content}
@@ -40,23 +40,21 @@ use Rattle.m2_session.specs.declared.session.Phase.TheVariants.{Absent, Connecti
 use Rattle.m2_session.specs.Phases as phase
 use Rattle.m2_frame.specs.declared.tag.Tag.{Tag}
 use Rattle.m2_frame.specs.declared.tag.Tag.TheVariants as tag
-use Rattle.m2_frame.specs.Tags.{tag_in, tag_number}
+use Rattle.m2_frame.specs.Tags.{tag_in}
 use Rattle.m2_feed.specs.declared.wire_fault.WireFault.TheVariants as fault
 use Rattle.m2_feed.specs.declared.frame_heard.FrameHeard.{FrameHeard}
-use Rattle.m2_feed.specs.declared.frame_heard.FrameHeard.TheVariants.{Nothing, Stamp, Acknowledges, Brings, Resets, Fault}
+use Rattle.m2_feed.specs.declared.frame_heard.FrameHeard.TheVariants.{Nothing, Acknowledges, Brings, Fault}
 use Rattle.m2_feed.specs.declared.hearer.Hearer.{Hearer}
-use Rattle.m2_feed.specs.FrameHeard.{answer_cause, heard_aborted, heard_ack, heard_as_answer, heard_control, heard_frame, heard_if, heard_in_ready, heard_message, heard_numbers, heard_of, heard_of_tag, heard_payload, may_come}
-use Rattle.m2_feed.specs.FrameLaws.{IsAsReplayed, IsBeyond, IsHeardAsReplayed, IsPassed, IsRefused}
+use Rattle.m2_feed.specs.FrameHeard.{heard_aborted, heard_ack, heard_as_answer, heard_control, heard_if, heard_in_ready, heard_message, heard_numbers, heard_of_tag, heard_payload, may_come}
+use Rattle.m2_feed.specs.FrameLaws.{IsAsReplayed, IsHeardAsReplayed, IsRefused}
+use Rattle.m2_lemmas.proofs.Options.{none_isnt_some}
 
 -- ---- words
-
-none_is_some : {X : Type 0} (x : X) → None ≡ Some x → ⊥
-none_is_some x e = cc
 
 same_some : (m n : ℕ) → Some m ≡ Some n → m ≡ n
 same_some m n e = cc
 
-is_ready : (p : Phase) → phase.is p Ready ≡ true → p ≡ Ready
+pub is_ready : (p : Phase) → phase.is p Ready ≡ true → p ≡ Ready
 is_ready Ready e = refl
 is_ready Absent e = cc
 is_ready Connecting e = cc
@@ -210,8 +208,8 @@ tag_read t bytes c e = absurd (no_payload NotNegotiated c e)
 -- in Ready
 ready_control : (h : Hearer) (c : Control) → phase.is h.phase Ready ≡ true → IsAsReplayed (heard_in_ready h c) h (says c)
 ready_control h (control.Ack p) r = ack h p.seen Nothing (says (control.Ack p)) refl r (λ counted. (record { ready = r; passed = refl; counted = counted }, refl))
-ready_control h (control.Keepalive p) r = (record { ready = r; passed = refl; counted = λ n e. absurd (none_is_some n e) }, refl)
-ready_control h (control.KeepaliveAck p) r = (record { ready = r; passed = refl; counted = λ n e. absurd (none_is_some n e) }, refl)
+ready_control h (control.Keepalive p) r = (record { ready = r; passed = refl; counted = λ n e. absurd (none_isnt_some n e) }, refl)
+ready_control h (control.KeepaliveAck p) r = (record { ready = r; passed = refl; counted = λ n e. absurd (none_isnt_some n e) }, refl)
 ready_control h c r = inl (record { stops = λ _. refl; refused = ap (λ (p : Phase). is_refused p h.last (Some (says c))) (is_ready h.phase r) })
 
 -- an answer that may come, outside Ready
@@ -323,7 +321,7 @@ aborted_text : (h : Hearer) (tag : ℕ) → IsAsReplayed (heard_aborted h tag) h
 aborted_text h tag = at (phase.is h.phase Ready) refl
   where
     at : (b : Bool) → phase.is h.phase Ready ≡ b → IsAsReplayed (if b then Nothing else Fault (fault.Unexpected tag)) h aborts
-    at true q = (record { ready = q; passed = refl; counted = λ n e. absurd (none_is_some n e) }, refl)
+    at true q = (record { ready = q; passed = refl; counted = λ n e. absurd (none_isnt_some n e) }, refl)
     at false q = inl (early h aborts q tt)
 
 pub heeds : IsHeardAsReplayed

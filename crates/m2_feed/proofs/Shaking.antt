@@ -1,6 +1,6 @@
 -- While the opener's half reads: what is heard, what it answers, and where it signs.
 use Rattle.std.specs.Prelude.{is_none, if◌then◌else◌, ◌&&◌}
-use Rattle.std.proofs.Common.{◌≡◌, ℕ, ◌+◌, ◌≤◌, Bool, true, false, List, [], ◌∷◌, ◌++◌, length, Option, Some, None, refl, sym, ap, ◌∙◌, subst, append_assoc, append-nil}
+use Rattle.std.proofs.Common.{◌≡◌, ℕ, ◌+◌, ◌≤◌, Bool, true, false, List, [], ◌∷◌, ◌++◌, Some, None, refl, sym, ap, ◌∙◌, subst, append_assoc, append-nil}
 use Rattle.std.proofs.lemmas.Bool.{true≢false}
 use Rattle.m2_frame.specs.Reading.{Item}
 use Rattle.m2_handshake.specs.declared.answer.HalfStep.{HalfStep}
@@ -17,11 +17,11 @@ use Rattle.m2_handshake.specs.Moves.{is_authed}
 use Rattle.m2_handshake.specs.Standing.{Standing, fed, fed_at, faulted_at}
 use Rattle.m2_handshake.proofs.Course.{ended, feeds, grows, rests_there}
 use Rattle.m2_handshake.proofs.Leading.{is_faulty}
-use Rattle.m2_handshake.proofs.Reaching.{begins, leads_on}
+use Rattle.m2_handshake.proofs.Reaching.{begins, leads_on, fed_none_at}
 use Rattle.m2_handshake.proofs.Turns.{fed_stage}
 use Rattle.m2_journal.specs.Feeds.{greets, signs, goes_on, hears, hears_at, split_into, silent_feed}
 use Rattle.m2_journal.specs.Said.{Split, split}
-use Rattle.m2_journal.specs.State.{PartText, Feed}
+use Rattle.m2_journal.specs.State.{Feed}
 use Rattle.m2_journal.proofs.Splitting.{split-feed}
 use Rattle.m2_journal.specs.Lawful as journal
 use Rattle.m2_journal.specs.Lawful.{has_failed}
@@ -30,7 +30,7 @@ use Rattle.m2_feed.specs.Calls.{is_signing}
 use Rattle.m2_feed.specs.FeedNow.{FeedNow}
 use Rattle.m2_feed.specs.Stands.{Shakes}
 use Rattle.m2_feed.proofs.Answering.{signs_only_as}
-use Rattle.m2_feed.proofs.Courses.{Ran, ran, goes-on, going_on, rested-course, texts-append, runs-side}
+use Rattle.m2_feed.proofs.Courses.{ran, goes-on, going_on, rested-course, texts-append, runs-side}
 
 -- ---- where the replay's half has come to
 
@@ -219,15 +219,6 @@ hears-on h bytes v x d k composed writing stamps = at (is_authed (course_of h []
 -- the half has done what the replay's half did first
 abbrev LedTo : (h g : Standing) → (words : List ℕ) → Type 0
 LedTo h g words = (ds : List Event) × (course_of h [] ≡ going_on ds (course_of g [])) × (text_of ds ≡ words) × (g.side ≡ h.side)
-
-fed_none_at : (stage : Stage) (s : Standing) → fed_at stage s [] ≡ s
-fed_none_at Opening s = ap (λ (l : List ℕ). record s { rest = l }) (append-nil s.rest)
-fed_none_at Banner s = ap (λ (l : List ℕ). record s { rest = l }) (append-nil s.rest)
-fed_none_at (Waits awaited) s = ap (λ (l : List ℕ). record s { rest = l }) (append-nil s.rest)
-fed_none_at Authed s = ap (λ (l : List ℕ). record s { rest = l }) (append-nil s.rest)
-fed_none_at Asked s = ap (λ (l : List ℕ). record s { rest = l }) (append-nil s.rest)
-fed_none_at Ended s = ap (λ (l : List ℕ). record s { rest = l }) (append-nil s.rest)
-fed_none_at (Faulty f) s = refl
 
 led : (answer : HalfStep) (h g : Standing) (words : List ℕ) → Answers answer (record { standing = h; out = [] }) (record { standing = g; out = words }) → LedTo h g words
 led answer h g words a =

@@ -17,17 +17,12 @@ use Rattle.m2_frame.specs.Text.{segment_crc, crc_field, first_text, epilogue_fie
 use Rattle.m2_frame.specs.Grammar.{IsPreambleText, IsChecksumText, IsFirstText, IsEpilogueText, IsLaterText, IsFrameText, AreBytes}
 use Rattle.m2_frame.proofs.Checksums.{crc_of-below, segment_crc-below}
 use Rattle.m2_frame.proofs.Preambles.{IsAllowed, allowed-fits}
+use Rattle.m2_lemmas.proofs.Bytes.{four_bytes, two_bytes}
 
 abbrev IsByte : ℕ → Type 0
 IsByte b = b < 256
 
 -- ---- the preamble
-
-four_bytes : (n : ℕ) → All (λ b. b < 256) (to_le_bytes w32 n)
-four_bytes n = All-from_recursion IsByte (to_le_bytes w32 n) (omega arith, (omega arith, (omega arith, (omega arith, tt))))
-
-two_bytes : (n : ℕ) → All (λ b. b < 256) (to_le_bytes w16 n)
-two_bytes n = All-from_recursion IsByte (to_le_bytes w16 n) (omega arith, (omega arith, tt))
 
 descriptor_bytes : (len aligned : ℕ) → All (λ b. b < 256) (descriptor len aligned)
 descriptor_bytes len aligned = All-append IsByte (to_le_bytes w32 len) (to_le_bytes w16 aligned) (four_bytes len) (two_bytes aligned)

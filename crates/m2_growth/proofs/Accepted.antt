@@ -10,17 +10,17 @@ use Rattle.m2_fabric.specs.Port.{Accepts, SeenPort}
 use Rattle.m2_fabric.specs.Sockets.{is_among}
 use Rattle.m2_record.specs.RecordNow.{RecordNow, ids_of}
 use Rattle.m2_record.specs.Sources.{end_at}
-use Rattle.m2_record.proofs.Names.{differ}
 use Rattle.m2_center.specs.declared.accepting.Accepted.{Accepted}
 use Rattle.m2_center.specs.declared.accepting.Accepted.TheVariants as accepts
 use Rattle.m2_center.specs.Accepting.{Accepting, AcceptsAll, EndsWith, IsEnded, TakesAll, TakesIn}
 use Rattle.m2_growth.specs.Holding.{AreOwn, Grows, Holding, all_ends, ends_held, waiting_at}
 use Rattle.m2_growth.specs.GrowthLaws.{at_accepts}
 use Rattle.m2_growth.proofs.Accepts.{accepts_grow}
-use Rattle.m2_growth.proofs.Among.{among_part}
 use Rattle.m2_growth.specs.Ports.{PortStands}
 use Rattle.m2_growth.proofs.Growing.{still_there}
 use Rattle.m2_growth.proofs.InStepStanding.{some_back, some_end, some_front}
+use Rattle.m2_lemmas.proofs.Booleans.{false_isnt_true}
+use Rattle.m2_fabric.proofs.Sockets.{among_part}
 
 -- these ends were accepted, in order
 record Gives (p q : SeenPort) : Type 0 where
@@ -54,7 +54,7 @@ takes_in entity old new t memory = by t.gives
     end = t.end
 
     by_waiting : (w : Option (List SeenEnd)) → new.port.waiting ≡ w → old.port.waiting ≡ option_map (λ (rest : List SeenEnd). end ∷ rest) w → new.port.made ≡ old.port.made ++ end.id ∷ [] → Gives old.port new.port
-    by_waiting None is was made = absurd (differ (sym (ap is_some was) ∙ memory))
+    by_waiting None is was made = absurd (false_isnt_true (sym (ap is_some was) ∙ memory))
     by_waiting (Some rest) is was made = record {
       gone = end ∷ [];
       made = made;

@@ -1,5 +1,5 @@
 -- What becomes of a holding where its port accepts: an end that waited has a half.
-use Rattle.std.proofs.Common.{◌≡◌, ◌⊎◌, inl, inr, ℕ, nat_lt, Bool, true, false, ◌||◌, if◌then◌else◌, List, [], ◌∷◌, ◌++◌, map, length, Option, Some, None, refl, sym, ap, subst, ◌∙◌, append-nil, append_assoc}
+use Rattle.std.proofs.Common.{◌≡◌, ◌⊎◌, inl, inr, ℕ, nat_lt, Bool, true, false, ◌||◌, if◌then◌else◌, List, [], ◌∷◌, ◌++◌, map, length, Option, Some, None, refl, sym, ap, subst, ◌∙◌, append_assoc}
 use Rattle.std.specs.Option.{is_some, option_map}
 use Rattle.std.specs.List.{AllByRecursion}
 use Rattle.m2_addr.specs.declared.addr.Addr.{Addr}
@@ -8,7 +8,6 @@ use Rattle.m2_fabric.specs.End.{SeenEnd}
 use Rattle.m2_fabric.specs.Port.{Accepts, SeenPort}
 use Rattle.m2_fabric.specs.Sockets.{goes_to, is_among, same_socket}
 use Rattle.m2_record.specs.RecordNow.{RecordNow, ids_of}
-use Rattle.m2_record.proofs.Names.{apart, differ, same_refl}
 use Rattle.m2_center.specs.declared.accepting.Accepted.{Accepted}
 use Rattle.m2_center.specs.declared.accepting.Accepted.TheVariants as accepts
 use Rattle.m2_center.specs.declared.pending.TheConstants.{MOST_HALVES}
@@ -16,8 +15,7 @@ use Rattle.m2_center.specs.Accepting.{Accepting, AcceptsAll, EndsWith, IsEnded, 
 use Rattle.m2_center.specs.Halves.{AllHalves}
 use Rattle.m2_center.specs.Hearing.{ends_in}
 use Rattle.m2_center.specs.Sessions.{PendingNow, is_asker, peer_of}
-use Rattle.m2_center.proofs.Came.{alone, both}
-use Rattle.m2_center.proofs.Peers.{each}
+use Rattle.m2_center.proofs.Came.{alone}
 use Rattle.m2_trail.specs.Arrivals.{LooseNow, closed_of}
 use Rattle.m2_trail.specs.Incoming.{IncomingNow, accepted}
 use Rattle.m2_growth.specs.Ends.{AreOfTheirOwn}
@@ -25,14 +23,17 @@ use Rattle.m2_growth.specs.Halves.{AskedOnMade, HasItsHalves, IsHeardBy, IsOneOf
 use Rattle.m2_growth.specs.Holding.{AreOwn, Grows, Holding, IsToCome, all_ends, waiting_at}
 use Rattle.m2_growth.specs.GrowthLaws.{at_accepts}
 use Rattle.m2_growth.specs.Records.{ends_of_all}
-use Rattle.m2_growth.proofs.Among.{among_back, among_front, each_by, in_part, mid_in, of_each, one_back, one_front}
+use Rattle.m2_growth.proofs.Among.{among_back, each_by, in_part, of_each, one_back, one_front}
 use Rattle.m2_growth.proofs.Asked.{asked_same}
 use Rattle.m2_growth.proofs.Calls.{closing_grows}
 use Rattle.m2_growth.proofs.Ends.{AreLater, AreMade, AreStill, all_none, later_before, later_behind, later_one, later_swapped, made_later, own_first, own_last, own_tail}
-use Rattle.m2_growth.proofs.Going.{grows_then, records_same, trail_same}
-use Rattle.m2_growth.proofs.Holdings.{AllLeft, IsHere, IsOnSocket, end_of, ends_last, left, loose_end, same_grows, stay_left, still_has}
+use Rattle.m2_growth.proofs.Going.{grows_then, records_same, trail_same, grows_same}
+use Rattle.m2_growth.proofs.Holdings.{AllLeft, IsHere, IsOnSocket, end_of, ends_last, left, loose_end, stay_left, still_has}
 use Rattle.m2_growth.proofs.OneRecord.{holding}
 use Rattle.m2_growth.proofs.Owned.{own_all}
+use Rattle.m2_lemmas.proofs.Lists.{all_last, all_so as each}
+use Rattle.m2_fabric.proofs.Sockets.{apart_turned, same_refl, among_neither, among_front}
+use Rattle.m2_lemmas.proofs.Booleans.{false_isnt_true}
 
 -- ---- the halves
 
@@ -43,9 +44,6 @@ record Joins (e : SeenEnd) (h g : AllHalves) : Type 0 where
   on : AllByRecursion IsOnSocket (all_left h) → AllByRecursion IsOnSocket (all_left g)
   here : (at : Addr) → goes_to at e.id ≡ true → AllByRecursion (IsHere at) (all_left h) → AllByRecursion (IsHere at) (all_left g)
   askers : (rs : List RecordNow) → AllByRecursion (λ (r : RecordNow). is_among e.id (asked_on r) ≡ true → ⊥) rs → AllByRecursion (IsHeardBy rs) h.pending → AllByRecursion (IsHeardBy rs) g.pending
-
-last_too : {X : Type 0} (P : X → Type 0) (xs : List X) (x : X) → AllByRecursion P xs → P x → AllByRecursion P (xs ++ x ∷ [])
-last_too P xs x all p = mid_in P x xs [] p (subst (AllByRecursion P) (sym (append-nil xs)) all)
 
 map_last : {X Y : Type 0} (f : X → Y) (xs : List X) (x : X) → map f (xs ++ x ∷ []) ≡ map f xs ++ f x ∷ []
 map_last f [] x = refl
@@ -64,7 +62,7 @@ joins_last entity room e h = record {
       (later_behind pends (overs ++ e ∷ []) (e ∷ overs) (later_swapped overs (e ∷ [])))));
   on = all_so IsOnSocket refl;
   here = (λ at towards. all_so (IsHere at) towards);
-  askers = (λ rs none asked. last_too (IsHeardBy rs) h.pending p asked
+  askers = (λ rs none asked. all_last (IsHeardBy rs) h.pending p asked
       (each (λ (r : RecordNow). is_among e.id (asked_on r) ≡ true → ⊥) (λ (r : RecordNow). is_among e.id (asked_on r) ≡ true → is_asker None (peer_of r) ≡ true) (λ r never asked. absurd (never asked)) rs none));
 }
   where
@@ -166,7 +164,7 @@ still_to_come p q e [] at made all other = tt
 still_to_come p q e (x ∷ xs) at made all other = (
   record {
     here = ap (λ a. goes_to a x.id) at ∙ all.0.here;
-    new = ap (is_among x.id) made ∙ both x.id p.made (e.id ∷ []) all.0.new (alone x.id e.id (λ same. differ (sym (apart e.id x.id other.0) ∙ same)));
+    new = ap (is_among x.id) made ∙ among_neither x.id p.made (e.id ∷ []) all.0.new (alone x.id e.id (λ same. false_isnt_true (sym (apart_turned e.id x.id other.0) ∙ same)));
   },
   still_to_come p q e xs at made all.1 other.1,
 )
@@ -203,7 +201,7 @@ takes_one rs port h g e rest own j = record {
     made = each (AskedOnMade port.made) (AskedOnMade (port.made ++ e.id ∷ [])) (λ r had k asked. among_front k port.made (e.id ∷ []) (had k asked)) rs was.made;
     here = was.here;
     one_judge = was.one_judge;
-    askers = j.askers rs (each (AskedOnMade port.made) (λ (r : RecordNow). is_among e.id (asked_on r) ≡ true → ⊥) (λ r had asked. differ (sym own.to_come.0.new ∙ had e.id asked)) rs was.made) was.askers;
+    askers = j.askers rs (each (AskedOnMade port.made) (λ (r : RecordNow). is_among e.id (asked_on r) ≡ true → ⊥) (λ r had asked. false_isnt_true (sym own.to_come.0.new ∙ had e.id asked)) rs was.made) was.askers;
     peers = was.peers;
   });
 }
@@ -228,7 +226,7 @@ takes_one rs port h g e rest own j = record {
     still = later (own_all old own)
 
     made : AreMade (port.made ++ e.id ∷ []) ((held ++ ends_in h) ++ e ∷ [])
-    made = last_too (λ (x : SeenEnd). is_among x.id (port.made ++ e.id ∷ []) ≡ true) (held ++ ends_in h) e
+    made = all_last (λ (x : SeenEnd). is_among x.id (port.made ++ e.id ∷ []) ≡ true) (held ++ ends_in h) e
         (each (λ (x : SeenEnd). is_among x.id port.made ≡ true) (λ (x : SeenEnd). is_among x.id (port.made ++ e.id ∷ []) ≡ true) (λ x m. among_front x.id port.made (e.id ∷ []) m) (held ++ ends_in h) own.made)
         (among_back e.id port.made (e.id ∷ []) (ap (λ b. b || false) (same_refl e.id)))
 
@@ -236,7 +234,7 @@ takes_one rs port h g e rest own j = record {
 unmoved : (rs : List RecordNow) (h : AllHalves) (port : SeenPort) (refused faults : ℕ) (quiet : Bool) → AreOwn (holding port rs h) →
     Grows (holding port rs h) (holding (record port { refused = refused; quiet = quiet; faults = faults }) rs h)
 unmoved rs h port refused faults quiet own =
-    let same = same_grows (holding port rs h) own in
+    let same = grows_same (holding port rs h) own in
     record {
       grows = record { at = refl; made = same.grows.made; records = same.grows.records; halves = same.grows.halves; ends = same.grows.ends; asked = same.grows.asked };
       own = record {
@@ -263,7 +261,7 @@ takes_in entity rs old new t own = by t.gives
 
     by_waiting : (w : Option (List SeenEnd)) → new.port.waiting ≡ w → old.port.waiting ≡ option_map (λ (rest : List SeenEnd). end ∷ rest) new.port.waiting →
         new.port ≡ record old.port { made = old.port.made ++ end.id ∷ []; quiet = false; waiting = new.port.waiting } → Grows (at_accepts rs old) (at_accepts rs new)
-    by_waiting None none was same = absurd (differ (sym (ap is_some (was ∙ ap (option_map (λ (rest : List SeenEnd). end ∷ rest)) none)) ∙ own.in_memory))
+    by_waiting None none was same = absurd (false_isnt_true (sym (ap is_some (was ∙ ap (option_map (λ (rest : List SeenEnd). end ∷ rest)) none)) ∙ own.in_memory))
     by_waiting (Some rest) some was same =
         let here : old.port ≡ record old.port { waiting = Some (end ∷ rest) } =
         ap (λ (w : Option (List SeenEnd)). record old.port { waiting = w }) (was ∙ ap (option_map (λ (r : List SeenEnd). end ∷ r)) some) in
@@ -287,7 +285,7 @@ gives_none rs old new refused faults quiet port halves own =
 -- ---- all accepts
 
 takes_all : (entity : ℕ) (rs : List RecordNow) (stood : List Accepting) (old new : Accepting) → TakesAll entity stood old new → AreOwn (at_accepts rs old) → Grows (at_accepts rs old) (at_accepts rs new)
-takes_all entity rs [] old new same own = subst (λ a. Grows (at_accepts rs old) (at_accepts rs a)) same (same_grows (at_accepts rs old) own)
+takes_all entity rs [] old new same own = subst (λ a. Grows (at_accepts rs old) (at_accepts rs a)) same (grows_same (at_accepts rs old) own)
 takes_all entity rs (a ∷ rest) old new (once, later) own =
     let first = takes_in entity rs old a once own in
     grows_then (at_accepts rs old) (at_accepts rs a) (at_accepts rs new) first (takes_all entity rs rest a new later first.own)

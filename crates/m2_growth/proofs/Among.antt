@@ -3,8 +3,9 @@ use Rattle.std.proofs.Common.{◌≡◌, ◌⊎◌, inl, inr, Bool, true, false,
 use Rattle.std.specs.List.{AllByRecursion}
 use Rattle.m2_fabric.specs.declared.socket.SocketId.{SocketId}
 use Rattle.m2_fabric.specs.Sockets.{is_among, same_socket}
-use Rattle.m2_record.proofs.Names.{differ, same_equal, same_refl}
 use Rattle.m2_growth.specs.Halves.{IsOneOf}
+use Rattle.m2_lemmas.proofs.Booleans.{false_isnt_true}
+use Rattle.m2_fabric.proofs.Sockets.{same_equal, same_refl}
 
 -- ---- one of a list
 
@@ -67,14 +68,6 @@ mid_in P p (x ∷ xs) ys this all = (all.0, mid_in P p xs ys this all.1)
 
 -- ---- sockets
 
-pub among_front : (k : SocketId) (xs ys : List SocketId) → is_among k xs ≡ true → is_among k (xs ++ ys) ≡ true
-among_front k [] ys e = absurd (differ e)
-among_front k (x ∷ xs) ys e = at (same_socket k x) e (among_front k xs ys)
-  where
-    at : (b : Bool) → b || is_among k xs ≡ true → (is_among k xs ≡ true → is_among k (xs ++ ys) ≡ true) → b || is_among k (xs ++ ys) ≡ true
-    at true h rest = refl
-    at false h rest = rest h
-
 pub among_back : (k : SocketId) (xs ys : List SocketId) → is_among k ys ≡ true → is_among k (xs ++ ys) ≡ true
 among_back k [] ys e = e
 among_back k (x ∷ xs) ys e = at (same_socket k x) (among_back k xs ys e)
@@ -83,20 +76,12 @@ among_back k (x ∷ xs) ys e = at (same_socket k x) (among_back k xs ys e)
     at true rest = refl
     at false rest = rest
 
-pub among_part : (k : SocketId) (xs ys : List SocketId) → is_among k (xs ++ ys) ≡ true → (is_among k xs ≡ true) ⊎ (is_among k ys ≡ true)
-among_part k [] ys e = inr e
-among_part k (x ∷ xs) ys e = at (same_socket k x) e (among_part k xs ys)
-  where
-    at : (b : Bool) → b || is_among k (xs ++ ys) ≡ true → (is_among k (xs ++ ys) ≡ true → (is_among k xs ≡ true) ⊎ (is_among k ys ≡ true)) → (b || is_among k xs ≡ true) ⊎ (is_among k ys ≡ true)
-    at true h rest = inl refl
-    at false h rest = rest h
-
 pub among_one : (k x : SocketId) → is_among k (x ∷ []) ≡ true → k ≡ x
 among_one k x e = at (same_socket k x) refl e
   where
     at : (b : Bool) → same_socket k x ≡ b → b || false ≡ true → k ≡ x
     at true same h = same_equal k x same
-    at false same h = absurd (differ h)
+    at false same h = absurd (false_isnt_true h)
 
 -- whose socket it is
 pub record IsOf {X : Type 0} (f : X → SocketId) (k : SocketId) (xs : List X) : Type 0 where
@@ -105,7 +90,7 @@ pub record IsOf {X : Type 0} (f : X → SocketId) (k : SocketId) (xs : List X) :
   pub is : k ≡ f item
 
 pub whose : {X : Type 0} (f : X → SocketId) (k : SocketId) (xs : List X) → is_among k (map f xs) ≡ true → IsOf f k xs
-whose f k [] e = absurd (differ e)
+whose f k [] e = absurd (false_isnt_true e)
 whose {X} f k (x ∷ xs) e = at (same_socket k (f x)) refl e (whose f k xs)
   where
     at : (b : Bool) → same_socket k (f x) ≡ b → b || is_among k (map f xs) ≡ true → (is_among k (map f xs) ≡ true → IsOf f k xs) → IsOf f k (x ∷ xs)

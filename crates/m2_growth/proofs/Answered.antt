@@ -25,7 +25,6 @@ use Rattle.m2_record.specs.declared.judging.Judged.TheVariants as judged
 use Rattle.m2_record.specs.Judging.{Answers, JudgesAs, after_taking_over, effects_at, half_of, judged_entry}
 use Rattle.m2_record.specs.RecordNow.{RecordNow, ends_of, feed_end}
 use Rattle.m2_record.specs.TakenTrails.{judgement_of, judgements_in}
-use Rattle.m2_record.proofs.Names.{differ}
 use Rattle.m2_session.specs.declared.answer.Answer.{Answer}
 use Rattle.m2_session.specs.SessionLaws.{takes}
 use Rattle.m2_center.specs.declared.answering.HalfAnswered.{HalfAnswered}
@@ -49,6 +48,7 @@ use Rattle.m2_growth.proofs.Going.{record_same, trail_chain, trail_same}
 use Rattle.m2_growth.proofs.Judged.{JudgesOn}
 use Rattle.m2_growth.proofs.Standing.{ends_left}
 use Rattle.m2_growth.proofs.Told.{quiet_stands, taking_closes, taking_feeds, told_quiet, told_taking}
+use Rattle.m2_lemmas.proofs.Booleans.{false_isnt_true}
 
 -- ---- halves
 
@@ -211,7 +211,7 @@ ends_taken o spent e d is =
 takes_over : (ask : AskFacts) (number now : ℕ) (answer : Answer) (a : IncomingNow) (old new : RecordNow) → takes (verdict_on ask number old.core.live).answer ≡ true → (o : Option FeedNow) →
     IfSome o (λ d. IsTakenFeed (verdict_on ask number old.core.live) (half_of answer a).end (half_of answer a).unread old.core d × (new ≡ record (after_taking_over (verdict_on ask number old.core.live) (half_of answer a) d now old) { room = new.room })) →
     IsSome o → SideTakes a old new
-takes_over ask number now answer a old new taken None h none = absurd (differ none)
+takes_over ask number now answer a old new taken None h none = absurd (false_isnt_true none)
 takes_over ask number now answer a old new taken (Some d) (feed, e) _ =
     let v = verdict_on ask number old.core.live in
     let told = told_of old.core.facts v in
@@ -269,7 +269,7 @@ judges : {E : Type 0} (j : Judged E) (a : IncomingNow) (m : Means) (old new : Ju
 judges {E} j a m old new some h = at a.ask h.judges some
   where
     at : (o : Option Ask) → IfSome o (λ ask. JudgesAs j (verdict_on (facts_of_ask ask) h.number old.side.core.live) a m.now old.side new.side) → IsSome o → JudgedSo j a old.side new.side
-    at None e none = absurd (differ none)
+    at None e none = absurd (false_isnt_true none)
     at (Some ask) e _ = judges_so j (facts_of_ask ask) h.number m.now a old.side new.side e
 
 -- ---- by what came of the half
@@ -281,7 +281,7 @@ Answered (half.Closed l) a old new = SideKeeps a.end.id old new × HalfEnds a l
 Answered (half.Asked b) a old new = SideKeeps a.end.id old new × HalfGoes a b
 
 given : (o : Option Control) (a c b : IncomingNow) → IsSome o → IfSome o (λ reply. b ≡ after_replying reply c) → HalfGoes a c → HalfGoes a b
-given None a c b none e g = absurd (differ none)
+given None a c b none e g = absurd (false_isnt_true none)
 given (Some reply) a c b _ e g = like a c b (ap (λ i. i.end) e) (ap (λ i. i.trail) e) g
 
 replied : {E : Type 0} (result : HalfAnswered E) (a c : IncomingNow) (old new : RecordNow) → SideKeeps a.end.id old new → HalfGoes a c → RepliesHalf result c → Answered result a old new

@@ -10,7 +10,6 @@ use Rattle.m2_journal.specs.State.{Judgement}
 use Rattle.m2_record.specs.RecordNow.{RecordNow}
 use Rattle.m2_record.specs.Sources.{end_at}
 use Rattle.m2_record.specs.TakenTrails.{judgement_of, judgements_in}
-use Rattle.m2_record.proofs.Names.{differ, same_equal, same_refl}
 use Rattle.m2_center.specs.Sessions.{peer_of}
 use Rattle.m2_center.proofs.Opened.{filtered}
 use Rattle.m2_trail.specs.Asks.{IsMain}
@@ -20,12 +19,14 @@ use Rattle.m2_growth.specs.Halves.{AreAskedByPeers, IsAskedByPeer, IsOneOf, judg
 use Rattle.m2_growth.specs.Records.{RecordGrows, RecordsGrow}
 use Rattle.m2_growth.proofs.Among.{each_by, in_part, of_each}
 use Rattle.m2_growth.proofs.Ends.{end_first, none_tail, own_tail}
+use Rattle.m2_lemmas.proofs.Booleans.{false_isnt_true}
+use Rattle.m2_fabric.proofs.Sockets.{same_equal, same_refl}
 
 -- ---- the end of a socket
 
 pub end_there : (k : SocketId) (e : SeenEnd) (es : List SeenEnd) → IsOneOf e es → k ≡ e.id → end_at es k ≡ None → ⊥
 end_there k e [] i same none = i
-end_there k e (x ∷ xs) (inl h) same none = differ (sym (none_tail x xs k none).0 ∙ ap (λ (y : SeenEnd). same_socket k y.id) (sym h) ∙ ap (same_socket k) (sym same) ∙ same_refl k)
+end_there k e (x ∷ xs) (inl h) same none = false_isnt_true (sym (none_tail x xs k none).0 ∙ ap (λ (y : SeenEnd). same_socket k y.id) (sym h) ∙ ap (same_socket k) (sym same) ∙ same_refl k)
 end_there k e (x ∷ xs) (inr h) same none = end_there k e xs h same (none_tail x xs k none).1
 
 -- each of them is the end of its socket

@@ -18,7 +18,6 @@ use Rattle.m2_record.specs.Calls.{with_opened}
 use Rattle.m2_record.specs.Due.{due_step}
 use Rattle.m2_record.specs.RecordNow.{RecordNow, ends_of, feed_end}
 use Rattle.m2_record.specs.Sources.{end_at}
-use Rattle.m2_record.proofs.Names.{differ}
 use Rattle.m2_center.specs.declared.records_turn.RecordsTurn.{RecordsTurn}
 use Rattle.m2_center.specs.declared.records_turn.RecordsTurn.TheVariants as turn
 use Rattle.m2_center.specs.Connecting.{AtPort, DialsFor, Takes}
@@ -29,20 +28,22 @@ use Rattle.m2_center.specs.RecordsTurn.{AllAmid, Amid, Around, DialsAndSteps, Ea
 use Rattle.m2_growth.specs.Holding.{AreOwn, Holding, all_ends, waiting_at}
 use Rattle.m2_growth.specs.GrowthLaws.{at_records}
 use Rattle.m2_growth.specs.Records.{ends_of_all}
-use Rattle.m2_growth.proofs.Among.{among_one, among_part}
+use Rattle.m2_growth.proofs.Among.{among_one}
 use Rattle.m2_growth.proofs.Dials.{dials}
 use Rattle.m2_growth.proofs.Ends.{end_first}
 use Rattle.m2_growth.proofs.OneRecord.{all_around, ends_behind, holding, one_advances}
 use Rattle.m2_growth.proofs.RecordTurns.{advances_on, turns, turns_one}
 use Rattle.m2_growth.specs.Ports.{PortStands}
 use Rattle.m2_growth.proofs.InStepStanding.{Stands, both_by, both_then, some_back, some_front, stands_alike, stands_same, stands_then}
+use Rattle.m2_lemmas.proofs.Booleans.{false_isnt_true}
+use Rattle.m2_fabric.proofs.Sockets.{among_part}
 
 -- ---- a dial
 
 -- the end that was opened is the record's
 opened_there : (e : SeenEnd) (r s : RecordNow) (o : Option FeedNow) → s.core.live.feed ≡ o → IfSome o (λ v. IsOpening r.core.facts e v × (s ≡ record (with_opened v e.id r) { room = s.room })) → IsSome o →
     IsSome (end_at (ends_of s) e.id)
-opened_there e r s None is opening some = absurd (differ some)
+opened_there e r s None is opening some = absurd (false_isnt_true some)
 opened_there e r s (Some v) is (opening, _) some =
     let first : ends_of s ≡ e ∷ s.spent = ap (λ x. feed_end x ++ s.spent) is ∙ ap (λ (x : SeenEnd). x ∷ s.spent) (ap (λ (x : FeedNow). x.end) opening) in
     ap (λ es. is_some (end_at es e.id)) first ∙ ap is_some (end_first e s.spent)

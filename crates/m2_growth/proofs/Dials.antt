@@ -24,7 +24,6 @@ use Rattle.m2_record.specs.Due.{due_step}
 use Rattle.m2_record.specs.RecordNow.{RecordNow, ends_of, feed_end}
 use Rattle.m2_record.specs.Sources.{end_at}
 use Rattle.m2_record.specs.TakenTrails.{judgement_of, judgements_in}
-use Rattle.m2_record.proofs.Names.{both, differ, same_equal}
 use Rattle.m2_session.specs.declared.session.Phase.{Phase}
 use Rattle.m2_session.specs.declared.session.Phase.TheVariants.{Absent, Connecting, IdentSent, ReconnectSent, Ready, Standby, Wait}
 use Rattle.m2_session.specs.Phases as phase
@@ -39,7 +38,10 @@ use Rattle.m2_growth.proofs.Due.{to_be_connected}
 use Rattle.m2_growth.proofs.Ends.{AreMade, AreWith, later_by, made_none, made_so, none_cons, none_join, none_parts, on_by, with_between}
 use Rattle.m2_growth.proofs.OneRecord.{Advances, advances_alike, advances_chain, advances_room, PortGoes, all_around, ends_behind, held_around, holding, one_advances, one_goes}
 use Rattle.m2_growth.proofs.Owned.{own_all, waiting_here}
-use Rattle.m2_growth.proofs.Going.{all_so, grows_by}
+use Rattle.m2_growth.proofs.Going.{grows_by}
+use Rattle.m2_fabric.proofs.Sockets.{among_neither, same_equal}
+use Rattle.m2_lemmas.proofs.Booleans.{both_of_and, false_isnt_true}
+use Rattle.m2_lemmas.proofs.Lists.{all_so_of}
 
 -- ---- a record may dial only where it has no feed
 
@@ -47,24 +49,24 @@ resting : (p : Phase) (server wants : Bool) → not server && ((phase.is_among p
 resting Absent server wants h = refl
 resting Standby server wants h = refl
 resting Wait server wants h = refl
-resting Connecting true wants h = absurd (differ h)
-resting Connecting false wants h = absurd (differ h)
-resting IdentSent true wants h = absurd (differ h)
-resting IdentSent false wants h = absurd (differ h)
-resting ReconnectSent true wants h = absurd (differ h)
-resting ReconnectSent false wants h = absurd (differ h)
-resting Ready true wants h = absurd (differ h)
-resting Ready false wants h = absurd (differ h)
+resting Connecting true wants h = absurd (false_isnt_true h)
+resting Connecting false wants h = absurd (false_isnt_true h)
+resting IdentSent true wants h = absurd (false_isnt_true h)
+resting IdentSent false wants h = absurd (false_isnt_true h)
+resting ReconnectSent true wants h = absurd (false_isnt_true h)
+resting ReconnectSent false wants h = absurd (false_isnt_true h)
+resting Ready true wants h = absurd (false_isnt_true h)
+resting Ready false wants h = absurd (false_isnt_true h)
 
 no_feed : (o : Option FeedNow) → is_some o ≡ false → o ≡ None
-no_feed (Some v) h = absurd (differ (sym h))
+no_feed (Some v) h = absurd (false_isnt_true (sym h))
 no_feed None h = refl
 
 pub unfed : (now at : ℕ) (r : RecordNow) → due_step now r ≡ due.Connect at → IsFed r → r.core.live.feed ≡ None
 unfed now at r e fed = no_feed r.core.live.feed (fed ∙ resting r.core.live.session.phase r.core.live.session.policy.server _ may)
   where
     may : may_dial r.core ≡ true
-    may = (both (may_dial r.core) (nat_le r.waits.next_dial now) (to_be_connected now at r e)).0
+    may = (both_of_and (may_dial r.core) (nat_le r.waits.next_dial now) (to_be_connected now at r e)).0
 
 -- ---- where no socket is made
 
@@ -96,7 +98,7 @@ opened_at e r s (Some v) none is (opening, h) _ = record {
   };
   ends = ap (λ x. feed_end x ++ s.spent) is ∙ ap (λ (x : SeenEnd). x ∷ s.spent) (ap (λ (x : FeedNow). x.end) opening) ∙ ap (λ l. e ∷ l) (ap (λ x. x.spent) h) ∙ ap (λ x. e ∷ (feed_end x ++ r.spent)) (sym none);
 }
-opened_at e r s None none is h some = absurd (differ some)
+opened_at e r s None none is h some = absurd (false_isnt_true some)
 
 opens : (e : SeenEnd) (r mid s : RecordNow) → r.core.live.feed ≡ None → IsSameButRoom r mid → record_calls.Connects e mid s → Opens e r s
 opens e r mid s none room h =
@@ -116,28 +118,19 @@ newborn e made at new told = at_inflow e.inflow told
     at_inflow (Some i) h = rw (new.unused, h) refl
     at_inflow None h = tt
 
--- a socket of neither list is among neither
-neither : (k : SocketId) (xs ys : List SocketId) → is_among k xs ≡ false → is_among k ys ≡ false → is_among k (xs ++ ys) ≡ false
-neither k [] ys p q = q
-neither k (x ∷ xs) ys p q = at (same_socket k x) p (neither k xs ys)
-  where
-    at : (b : Bool) → b || is_among k xs ≡ false → (is_among k xs ≡ false → is_among k ys ≡ false → is_among k (xs ++ ys) ≡ false) → b || is_among k (xs ++ ys) ≡ false
-    at true h rest = absurd (differ (sym h))
-    at false h rest = rest h q
-
 not_before : (k : SocketId) (xs ys : List SocketId) → is_among k (xs ++ ys) ≡ false → (is_among k xs ≡ false) × (is_among k ys ≡ false)
 not_before k [] ys h = (refl, h)
 not_before k (x ∷ xs) ys h = at (same_socket k x) h (not_before k xs ys)
   where
     at : (b : Bool) → b || is_among k (xs ++ ys) ≡ false → (is_among k (xs ++ ys) ≡ false → (is_among k xs ≡ false) × (is_among k ys ≡ false)) → (b || is_among k xs ≡ false) × (is_among k ys ≡ false)
-    at true h rest = absurd (differ (sym h))
+    at true h rest = absurd (false_isnt_true (sym h))
     at false h rest = rest h
 
 not_one : (k x : SocketId) → is_among k (x ∷ []) ≡ false → same_socket k x ≡ false
 not_one k x h = at (same_socket k x) h
   where
     at : (b : Bool) → b || false ≡ false → b ≡ false
-    at true h = absurd (differ (sym h))
+    at true h = absurd (false_isnt_true (sym h))
     at false h = refl
 
 -- ---- in a holding
@@ -213,17 +206,17 @@ connects p q before rest r s halves e none opened (new, told, h) away own =
     other w come = at (same_socket w.id e.id) refl
       where
         at : (b : Bool) → same_socket w.id e.id ≡ b → b ≡ false
-        at true same = absurd (differ (sym (away e.id new.towards) ∙ ap (goes_to p.at) (sym (same_equal w.id e.id same)) ∙ come.here))
+        at true same = absurd (false_isnt_true (sym (away e.id new.towards) ∙ ap (goes_to p.at) (sym (same_equal w.id e.id same)) ∙ come.here))
         at false same = refl
 
     come_still : (w : SeenEnd) → IsToCome p w → IsToCome q w
     come_still w come = record {
       here = ap (λ x. goes_to x.at w.id) h ∙ come.here;
-      new = ap (λ x. is_among w.id x.made) h ∙ neither w.id p.made (e.id ∷ []) come.new (ap (λ b. b || false) (other w come));
+      new = ap (λ x. is_among w.id x.made) h ∙ among_neither w.id p.made (e.id ∷ []) come.new (ap (λ b. b || false) (other w come));
     }
 
     comes : AllByRecursion (IsToCome q) (waiting_at q)
-    comes = subst (AllByRecursion (IsToCome q)) (sym waits) (all_so (IsToCome p) (IsToCome q) (waiting_at p) come_still own.to_come)
+    comes = subst (AllByRecursion (IsToCome q)) (sym waits) (all_so_of (IsToCome p) (IsToCome q) (waiting_at p) come_still own.to_come)
 
 -- ---- a dial
 

@@ -1,6 +1,5 @@
 -- A text is composed only where there is one to be composed.
-use Rattle.std.proofs.Common.{◌≡◌, ℕ, Bool, true, false, IsSome, if◌then◌else◌, true≢false, refl, sym, ap}
-use Rattle.m2_core.specs.ToCompose.{to_compose}
+use Rattle.std.proofs.Common.{◌≡◌, ℕ, Bool, true, false, if◌then◌else◌, true≢false, refl, sym, ap}
 use Rattle.m2_record.specs.declared.due.Due.{Due}
 use Rattle.m2_record.specs.declared.due.Due.TheVariants as due
 use Rattle.m2_record.specs.Due.{due_step, has_frame, has_parcel, has_plan, may_compose, may_connect, may_read, may_write}
@@ -23,10 +22,6 @@ composes_last false false false false true f g at h = absurd (true≢false (sym 
 composes_last false false false false false true g at h = absurd (true≢false (sym h))
 composes_last false false false false false false true at h = refl
 composes_last false false false false false false false at h = absurd (true≢false (sym h))
-
-pub to_be_composed : (now : ℕ) (r : RecordNow) → due_step now r ≡ due.Compose → IsSome (to_compose r.core)
-to_be_composed now r e =
-    composes_last (has_plan r) (has_parcel r.parcels) (may_connect now r) (may_write r) (has_frame r) (may_read r) (may_compose r) r.waits.next_dial (ap is_compose e)
 
 abbrev is_connect : Due → Bool
 is_connect (due.Connect at) = true

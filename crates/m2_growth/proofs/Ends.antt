@@ -6,9 +6,10 @@ use Rattle.m2_fabric.specs.End.{SeenEnd}
 use Rattle.m2_fabric.specs.Sockets.{is_among, same_socket}
 use Rattle.m2_record.specs.RecordNow.{ids_of}
 use Rattle.m2_record.specs.Sources.{end_at}
-use Rattle.m2_record.proofs.Names.{differ, same_equal, same_refl}
 use Rattle.m2_weave.specs.Later.{GoesOn}
 use Rattle.m2_growth.specs.Ends.{AreOfTheirOwn, BringNone, EndGrows, EndGrowsTo, EndsGrow, IsNewborn}
+use Rattle.m2_lemmas.proofs.Booleans.{false_isnt_true}
+use Rattle.m2_fabric.proofs.Sockets.{same_equal, same_refl}
 
 -- ---- lists that go on
 
@@ -23,7 +24,7 @@ on_by xs ys e = ([], e ∙ sym (append-nil xs))
 
 -- ---- the end of a socket
 
-none_some : (e : SeenEnd) → Some e ≡ None → ⊥
+pub none_some : (e : SeenEnd) → Some e ≡ None → ⊥
 none_some e h = subst (λ (o : Option SeenEnd). elim o as (λ _. Type 0) [ None ↦ ⊥ | Some x ↦ Unit {0} ]) h tt
 
 -- the first of two that is there
@@ -270,7 +271,7 @@ made_none made [] k all new = refl
 made_none made (e ∷ es) k all new = at (same_socket k e.id) refl (made_none made es k all.1 new)
   where
     at : (b : Bool) → same_socket k e.id ≡ b → end_at es k ≡ None → end_at (e ∷ es) k ≡ None
-    at true same rest = absurd (differ (sym new ∙ ap (λ j. is_among j made) (same_equal k e.id same) ∙ all.0))
+    at true same rest = absurd (false_isnt_true (sym new ∙ ap (λ j. is_among j made) (same_equal k e.id same) ∙ all.0))
     at false other rest = none_cons e es k other rest
 
 pub made_so : (made : List SocketId) (ends : List SeenEnd) → ((k : SocketId) → is_among k made ≡ false → end_at ends k ≡ None) → AreMade made ends

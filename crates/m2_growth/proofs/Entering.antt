@@ -18,20 +18,21 @@ use Rattle.m2_fabric.specs.SimFabric.{Enters, looked_at, new_made}
 use Rattle.m2_fabric.proofs.Arriving.{any-append}
 use Rattle.m2_fabric.proofs.Entering.{added, unkept_before, unread_arrives}
 use Rattle.m2_fabric.proofs.Flowing.{end_refl}
-use Rattle.m2_fabric.proofs.Told.{both_true, end_equal}
-use Rattle.m2_record.proofs.Names.{differ, same_refl}
-use Rattle.m2_growth.proofs.Going.{all_join}
+use Rattle.m2_fabric.proofs.Told.{end_equal}
 use Rattle.m2_weave.specs.Later.{GoesOn}
 use Rattle.m2_growth.specs.InStepLaws.{AreMet}
 use Rattle.m2_growth.specs.Passed.{HasItsEnds, MadeHaveEnds, WaitingAreOpen}
 use Rattle.m2_growth.specs.Turn.{AllCameOfPut, CameOfPut, HaveEnds}
 use Rattle.m2_growth.proofs.Growing.{unread_came}
+use Rattle.m2_lemmas.proofs.Lists.{all_front, all_back, all_append}
+use Rattle.m2_lemmas.proofs.Booleans.{both_of_and, false_isnt_true}
+use Rattle.m2_fabric.proofs.Sockets.{same_refl}
 
 -- ---- tests
 
 or_first : (p q : Bool) → p ≡ true → (p || q) ≡ true
 or_first true q is = refl
-or_first false q is = absurd (differ is)
+or_first false q is = absurd (false_isnt_true is)
 
 pub or_second : (p q : Bool) → q ≡ true → (p || q) ≡ true
 or_second true q is = refl
@@ -43,17 +44,9 @@ or_more false p q is = is
 
 or_none : (p q : Bool) → p ≡ false → q ≡ false → (p || q) ≡ false
 or_none false q p_is is = is
-or_none true q p_is is = absurd (differ (sym p_is))
+or_none true q p_is is = absurd (false_isnt_true (sym p_is))
 
 -- ---- all of some directions
-
-pub all_front : {X : Type 0} (P : X → Type 0) (xs ys : List X) → AllByRecursion P (xs ++ ys) → AllByRecursion P xs
-all_front P [] ys all = tt
-all_front P (x ∷ xs) ys all = (all.0, all_front P xs ys all.1)
-
-pub all_back : {X : Type 0} (P : X → Type 0) (xs ys : List X) → AllByRecursion P (xs ++ ys) → AllByRecursion P ys
-all_back P [] ys all = all
-all_back P (x ∷ xs) ys all = all_back P xs ys all.1
 
 -- something is so of the ends that read and write, in each direction of these sockets
 abbrev pub AllSo : (EndName → EndName → Type 0) → List SeenPair → Type 0
@@ -84,7 +77,7 @@ pairs_stay : (P : SeenHolder → EndName → EndName → Type 0) → Holds P →
     ((e : EndName) → is_kept e.id ps ≡ true → end_of b e ≡ end_of a e) → AllSo (P a) ps → AllSo (P b) ps
 pairs_stay P so a b [] same all = tt
 pairs_stay P so a b (p ∷ ps) same all =
-    all_join (λ d. P b (reader d) (writer d)) (of_pair p) (directions ps)
+    all_append (λ d. P b (reader d) (writer d)) (of_pair p) (directions ps)
     (sockets_stay P so a b p.first p.second p.sockets ps same (all_front (λ d. P a (reader d) (writer d)) (of_pair p) (directions ps) all))
     (pairs_stay P so a b ps (λ e is. same e (or_second _ (is_kept e.id ps) is)) (all_back (λ d. P a (reader d) (writer d)) (of_pair p) (directions ps) all))
 
@@ -100,10 +93,10 @@ round_so P a b id p is so = by_first ((p.first == a) && (p.second == b)) refl is
   where
     by_first : (s : Bool) → ((p.first == a) && (p.second == b)) ≡ s → (s || ((p.first == b) && (p.second == a))) ≡ true → BothSo P p.first p.second id
     by_first true same is =
-        let two = both_true (p.first == a) (p.second == b) same in
+        let two = both_of_and (p.first == a) (p.second == b) same in
         rw (eqb-true p.first a two.0, eqb-true p.second b two.1) so
     by_first false same is =
-        let two = both_true (p.first == b) (p.second == a) is in
+        let two = both_of_and (p.first == b) (p.second == a) is in
         rw (eqb-true p.first b two.0, eqb-true p.second a two.1) (so.1, so.0)
 
 pub with_so : (P : EndName → EndName → Type 0) (a b : ℕ) (id : SocketId) (ps : List SeenPair) → BothSo P a b id → AllSo P ps → AllSo P (with_kept a b (fresh_kept id) ps)
@@ -115,12 +108,12 @@ with_so P a b id (p ∷ ps) so all =
         AllSo P (if j then record p { sockets = p.sockets ++ fresh_kept id ∷ [] } ∷ ps else p ∷ with_kept a b (fresh_kept id) ps)
     by_pair true is rest =
         let here = round_so P a b id p is so in
-        all_join (λ d. P (reader d) (writer d)) (of_pair (record p { sockets = p.sockets ++ fresh_kept id ∷ [] })) (directions ps)
+        all_append (λ d. P (reader d) (writer d)) (of_pair (record p { sockets = p.sockets ++ fresh_kept id ∷ [] })) (directions ps)
         (subst (λ ds. AllByRecursion (λ d. P (reader d) (writer d)) ds) (sym (added a b (fresh_kept id) p))
-        (all_join (λ d. P (reader d) (writer d)) (of_pair p) (both p.first p.second (fresh_kept id)) (all_front (λ d. P (reader d) (writer d)) (of_pair p) (directions ps) all) (here.0, (here.1, tt))))
+        (all_append (λ d. P (reader d) (writer d)) (of_pair p) (both p.first p.second (fresh_kept id)) (all_front (λ d. P (reader d) (writer d)) (of_pair p) (directions ps) all) (here.0, (here.1, tt))))
         (all_back (λ d. P (reader d) (writer d)) (of_pair p) (directions ps) all)
     by_pair false is rest =
-        all_join (λ d. P (reader d) (writer d)) (of_pair p) (directions (with_kept a b (fresh_kept id) ps)) (all_front (λ d. P (reader d) (writer d)) (of_pair p) (directions ps) all) rest
+        all_append (λ d. P (reader d) (writer d)) (of_pair p) (directions (with_kept a b (fresh_kept id) ps)) (all_front (λ d. P (reader d) (writer d)) (of_pair p) (directions ps) all) rest
 
 -- ---- all that a node opened
 
@@ -188,7 +181,7 @@ kept_still nodes node id k ps kept = at (is_kept k (entered nodes node id ps)) r
   where
     at : (b : Bool) → is_kept k (entered nodes node id ps) ≡ b → b ≡ true
     at true is = refl
-    at false is = absurd (differ (sym (unkept_then node id k ps (acceptor nodes node id) is) ∙ kept))
+    at false is = absurd (false_isnt_true (sym (unkept_then node id k ps (acceptor nodes node id) is) ∙ kept))
 
 unarrived : (nodes : List Addr) (node : ℕ) (ids : List SocketId) (ps : List SeenPair) (e : EndName) → is_kept e.id ps ≡ true → is_one_of (arrivals nodes node ids ps) e ≡ false
 unarrived nodes node [] ps e kept = refl
@@ -203,7 +196,7 @@ unarrived nodes node (id ∷ ids) ps e kept =
       where
         by_name : (s : Bool) → same_end (record { node = other; id = id }) e ≡ s → is_kept id ps ≡ false → (s || false) ≡ false
         by_name false same unkept = refl
-        by_name true same unkept = absurd (differ (sym unkept ∙ (ap (λ (x : EndName). is_kept x.id ps) (end_equal (record { node = other; id = id }) e same) ∙ kept)))
+        by_name true same unkept = absurd (false_isnt_true (sym unkept ∙ (ap (λ (x : EndName). is_kept x.id ps) (end_equal (record { node = other; id = id }) e same) ∙ kept)))
 
         by_kept : (b : Bool) → is_kept id ps ≡ b → is_one_of (if b then [] else record { node = other; id = id } ∷ []) e ≡ false
         by_kept true is = refl
@@ -251,15 +244,15 @@ goes_there nodes node id other h places is = by_from (comes_from id (slice_get n
         ap (λ (x : Addr). goes_to x id) (places other (get_or nodes other d) (slice_get-get_or nodes other d where_it_is.0)) ∙ where_it_is.1
 
     by_other : (o : Option ℕ) → position (λ (at : Addr). goes_to at id) nodes ≡ o → other_than node o ≡ Some other → goes_to (h.at other) id ≡ true
-    by_other None at is = absurd (differ (ap is_some is))
+    by_other None at is = absurd (false_isnt_true (ap is_some is))
     by_other (Some n) at is = by_number _ is
       where
         by_number : (b : Bool) → (if b then None else Some n) ≡ Some other → goes_to (h.at other) id ≡ true
-        by_number true is = absurd (differ (ap is_some is))
+        by_number true is = absurd (false_isnt_true (ap is_some is))
         by_number false is = found (at ∙ is)
 
     by_from : (b : Bool) → (if b then other_than node (position (λ (at : Addr). goes_to at id) nodes) else None) ≡ Some other → goes_to (h.at other) id ≡ true
-    by_from false is = absurd (differ (ap is_some is))
+    by_from false is = absurd (false_isnt_true (ap is_some is))
     by_from true is = by_other (position (λ (at : Addr). goes_to at id) nodes) refl is
 
 -- ---- nothing came to them

@@ -14,7 +14,6 @@ use Rattle.m2_queues.specs.OutQueues.{message_at}
 use Rattle.m2_queues.specs.QueueLaws.{Next}
 use Rattle.m2_session.specs.declared.answer.Answer.{Answer}
 use Rattle.m2_session.specs.declared.answer.Answer.TheVariants as answer
-use Rattle.m2_session.specs.declared.event.Effects.{Effects}
 use Rattle.m2_session.specs.declared.event.Event.{Event}
 use Rattle.m2_session.specs.declared.event.Event.TheVariants as event
 use Rattle.m2_session.specs.declared.session.Phase.{Phase}
@@ -26,14 +25,13 @@ use Rattle.m2_session.specs.SessionLaws.{ident_event, reconnect_event, takes}
 use Rattle.m2_session.specs.Reconnect.{Reconnect, reconnect_answer}
 use Rattle.m2_session.specs.Steps.{step_of}
 use Rattle.m2_session.proofs.Answers.{taken_is_ready_lem}
-use Rattle.m2_journal.specs.declared.entry.JudgedItem.{JudgedItem}
 use Rattle.m2_journal.specs.Feeds.{answer_said, begun, finished, hears, narrowed, next_said, texts_at}
 use Rattle.m2_journal.specs.Items as item
 use Rattle.m2_journal.specs.Items.{JournalItem}
 use Rattle.m2_journal.specs.Lawful.{Lawful, MayAsk, MayNumber, MayObey, OnFeedAt, judged_on}
 use Rattle.m2_journal.specs.Laws.{IfFed}
 use Rattle.m2_journal.specs.OutFrames as out
-use Rattle.m2_journal.specs.OutFrames.{OutFrame, is_unnamed, replies_of}
+use Rattle.m2_journal.specs.OutFrames.{is_unnamed, replies_of}
 use Rattle.m2_journal.specs.Plan.{Planned, to_post, to_dial, to_go_down}
 use Rattle.m2_journal.specs.Said.{Said, says, brings, aborts, garbles}
 use Rattle.m2_journal.specs.Replay.{AreLawful, after_items}
@@ -43,16 +41,16 @@ use Rattle.m2_journal.specs.Steps.{acceptance, accepts, after, answer_event, ans
 use Rattle.m2_journal.proofs.Sessions.{tells-session, told-session}
 use Rattle.m2_never_reset.specs.Frames.{frames_on, is_ask}
 use Rattle.m2_never_reset.proofs.Feeds.{hears_hears, opened_hears}
-use Rattle.m2_never_reset.proofs.Sockets.{among-last, differ, same_equal}
 use Rattle.m2_bytes_fit.specs.Ends.{takings_on}
 use Rattle.m2_bytes_fit.proofs.Entries.{entry_keeps, FeedSo}
-use Rattle.m2_bytes_fit.proofs.Hands.{HandKept, HandSo, closing, hand_keeps}
-use Rattle.m2_bytes_fit.proofs.Judges.{not_judged_on}
+use Rattle.m2_bytes_fit.proofs.Hands.{HandKept, closing, hand_keeps, fault_closes, none_kept, reconnect_apart}
+use Rattle.m2_bytes_fit.proofs.Judges.{not_judged_on, no_last}
 use Rattle.m2_bytes_fit.proofs.Kept.{KeptBy, replied, view}
 use Rattle.m2_bytes_fit.proofs.Less.{Less, less_trans, tells_less, tells_if_less, untouched}
-use Rattle.m2_bytes_fit.proofs.Lists.{nil_not}
 use Rattle.m2_bytes_fit.proofs.Steps.{AllKept, kept_in_less, kept_quietly}
 use Rattle.m2_growth.proofs.Feeds.{AskFirst, AsksFirst, BeginsAsking, FeedIs, MayPut, all_ready, fine_asks, fine_back, fine_mails, fine_ready, fine_replies, first_asks, first_mails, first_replies, found_so, hears_may, less_feed, may_at, may_narrow, on_feed_all, opened_may, sent_all}
+use Rattle.m2_fabric.proofs.Sockets.{among_other, among_last, same_equal}
+use Rattle.m2_lemmas.proofs.Booleans.{from_false_true}
 
 -- ---- where less is left
 
@@ -95,9 +93,6 @@ heard_in f p o = tt
 
 ident_apart : phase.IdentSent ≢ phase.Connecting
 ident_apart e = cc
-
-reconnect_apart : phase.ReconnectSent ≢ phase.Connecting
-reconnect_apart e = cc
 
 reconnect_unready : phase.ReconnectSent ≢ phase.Ready
 reconnect_unready e = cc
@@ -165,10 +160,10 @@ ident_quiet (answer.Reset full) client server global e = tt
 ident_quiet answer.ResetPending client server global e = tt
 ident_quiet (answer.RetryGlobal number) client server global e = tt
 ident_quiet (answer.Retry number) client server global e = tt
-ident_quiet given client server global e = differ (sym e)
+ident_quiet given client server global e = from_false_true (sym e)
 
 reconnect_quiet : (given : Answer) (ask : Reconnect) → takes given ≡ false → IsPendingOrNone (reconnect_event given ask)
-reconnect_quiet answer.Resume ask e = differ (sym e)
+reconnect_quiet answer.Resume ask e = from_false_true (sym e)
 reconnect_quiet given ask e = tt
 
 quiet_answer : (f : SideFacts) (a : AskFacts) (number : ℕ) (given : Answer) → takes given ≡ false → IsPendingOrNone (event_of f a number given)
@@ -185,18 +180,18 @@ pending_first (Some e) s p h = elim p [ ]
 
 -- an answer that takes the socket leads to Ready
 ident_ready : (s : Session) (given : Answer) (client server global : ℕ) → takes given ≡ true → (session.told s (ident_event given client server global)).phase ≡ phase.Ready
-ident_ready s answer.Close client server global e = differ e
-ident_ready s answer.Wait client server global e = differ e
-ident_ready s (answer.Reset full) client server global e = differ e
-ident_ready s answer.ResetPending client server global e = differ e
-ident_ready s (answer.RetryGlobal number) client server global e = differ e
-ident_ready s (answer.Retry number) client server global e = differ e
+ident_ready s answer.Close client server global e = from_false_true e
+ident_ready s answer.Wait client server global e = from_false_true e
+ident_ready s (answer.Reset full) client server global e = from_false_true e
+ident_ready s answer.ResetPending client server global e = from_false_true e
+ident_ready s (answer.RetryGlobal number) client server global e = from_false_true e
+ident_ready s (answer.Retry number) client server global e = from_false_true e
 ident_ready s given client server global e = refl
 
 reconnect_ready : (s : Session) (given : Answer) (ask kept : Reconnect) → takes given ≡ true → (session.told s (reconnect_event given ask)).phase ≡ phase.Ready →
     (session.told s (reconnect_event given kept)).phase ≡ phase.Ready
 reconnect_ready s answer.Resume ask kept e ready = refl
-reconnect_ready s answer.ResetPending ask kept e ready = differ e
+reconnect_ready s answer.ResetPending ask kept e ready = from_false_true e
 reconnect_ready s given ask kept e ready = ready
 
 ready_answer : (f : SideFacts) (s : State) (a : AskFacts) (number : ℕ) (given : Answer) → takes given ≡ true → given ≡ answer_to a s → (session.told s.session (event_of f a number given)).phase ≡ phase.Ready
@@ -212,14 +207,6 @@ ready_answer f s a number given t e = at a.ident e
 
 -- ---- where a socket is opened nothing was sent
 
-among_other : (k x : SocketId) (xs : List SocketId) → same_socket k x ≡ false → is_among k (xs ++ x ∷ []) ≡ is_among k xs
-among_other k x [] e = rw e refl
-among_other k x (y ∷ ys) e = ap (λ b. same_socket k y || b) (among_other k x ys e)
-
-no_last : (xs : List JudgedItem) (x : JudgedItem) → [] ≡ xs ++ x ∷ [] → ⊥
-no_last [] x e = nil_not e
-no_last (y ∷ ys) x e = nil_not e
-
 nothing_sent : (f : SideFacts) (is : List JournalItem) (s : State) (k : SocketId) → AllKept f is s → is_among k s.opened ≡ false → is_among k (map (λ j. j.socket) s.judgements) ≡ false → frames_on k s.sent ≡ []
 nothing_sent f is s k h o j = at (is_among k s.opened) (takings_on k is) o (h k)
   where
@@ -227,7 +214,7 @@ nothing_sent f is s k h o j = at (is_among k s.opened) (takings_on k is) o (h k)
     unjudged = not_judged_on k s.judgements j
 
     at : (b : Bool) (ts : List (List ℕ)) → b ≡ false → KeptBy f b ts (view is s k) → frames_on k s.sent ≡ []
-    at true ts e g = differ (sym e)
+    at true ts e g = from_false_true (sym e)
     at false [] e g = g.frames ∙ ap replied unjudged
     at false (u ∷ []) e g = absurd (no_last g.before g.last (sym unjudged ∙ g.judged))
     at false (u ∷ v ∷ us) e g = absurd g
@@ -246,8 +233,8 @@ opened_first f k s none h =
     record {
       feed = rw (same.socket, same.opened) (record {
         asks_alone = inr (ap (filter (λ w. not (is_ask w))) none);
-        taken = λ e. differ (sym e);
-        there = λ e. among-last k s.opened;
+        taken = λ e. from_false_true (sym e);
+        there = λ e. among_last k s.opened;
         asked = λ e. inl refl;
         puts = opened_may phase.Connecting f k s.last s.owes;
       });
@@ -261,7 +248,7 @@ opened_first f k s none h =
 messages_first : (f : SideFacts) (number : ℕ) (o : Option Content) (d : Feed) (s : State) → s.session.phase ≡ phase.Ready → AsksFirst (with_feed d s) → AsksFirst (writes_message f number o (with_feed d s))
 messages_first f number None d s e h = h
 messages_first f number (Some m) d s e h = record {
-  feed = fine_mails s.session.phase s.sent s.opened d.socket d.opened d.texts (begun f (out.message number s.last m) ∷ []) (out.message number s.last m) e (λ u. differ u, tt) h.feed;
+  feed = fine_mails s.session.phase s.sent s.opened d.socket d.opened d.texts (begun f (out.message number s.last m) ∷ []) (out.message number s.last m) e (λ u. from_false_true u, tt) h.feed;
   first = first_mails s.session.phase s.sent s.opened d.socket d.opened d.texts (out.message number s.last m) e h.feed h.first;
 }
 
@@ -275,15 +262,6 @@ accepts_first number key None d s h = h
 obeys : (s : Session) (full : Bool) → (step_of s (event.GotReset full)).session.phase ≡ phase.Connecting
 obeys s true = refl
 obeys s false = refl
-
-either : (P : (Session × Effects) → Type 0) (b : Bool) (x y : Session × Effects) → P x → P y → P (if b then x else y)
-either P true x y h k = h
-either P false x y h k = k
-
-fault_closes : (s : Session) (w : Bool) → (step_of s (event.Faulted w)).effects.close ≡ true
-fault_closes s w =
-    either (λ x. x.1.close ≡ true) s.policy.lossy _ _ refl
-    (either (λ x. x.1.close ≡ true) s.policy.server _ _ refl (either (λ x. x.1.close ≡ true) (s.policy.standby && not w) _ _ refl refl))
 
 down_less : (f : SideFacts) (planned : Bool) (step : Option Planned) (s : State) → Less s (after f (item.down planned step) s)
 down_less f planned step s =
@@ -343,7 +321,7 @@ entry_first f is (item.judged socket ask number given unread trail) s l kept h =
         let w = acceptance ask number t in
         let ready : t.session.phase ≡ phase.Ready = ap (λ (x : Session). x.phase) (told-session o n) ∙ ready_answer f s ask number given e l.by_the_tables in
         record {
-          feed = record { asks_alone = inl ready; taken = λ z. (ready, not_opened); there = λ z. differ z; asked = λ z. differ z; puts = all_ready t.session.phase ready (begun f w ∷ []) };
+          feed = record { asks_alone = inl ready; taken = λ z. (ready, not_opened); there = λ z. from_false_true z; asked = λ z. from_false_true z; puts = all_ready t.session.phase ready (begun f w ∷ []) };
           first = first_replies t.sent t.opened socket (w ∷ []) not_opened (first_less n t less h.first);
         }
     at false e =
@@ -359,7 +337,7 @@ entry_first f is (item.asked true number) s l kept h = at s.feed l h.feed
     at (Some d) m g =
         let w = out.ident (tells (event.AskedIdent (cookie_of f number)) (record s { top = number; feed = Some d })).session.client_cookie number in
         record {
-          feed = fine_asks s.session.phase phase.IdentSent s.sent s.opened d.socket d.opened d.texts (begun f w ∷ []) w m.phase refl (λ u. differ u, tt) g;
+          feed = fine_asks s.session.phase phase.IdentSent s.sent s.opened d.socket d.opened d.texts (begun f w ∷ []) w m.phase refl (λ u. from_false_true u, tt) g;
           first = first_asks s.sent s.opened d.socket w refl h.first;
         }
 entry_first f is (item.asked false number) s l kept h = at s.feed l h.feed
@@ -369,7 +347,7 @@ entry_first f is (item.asked false number) s l kept h = at s.feed l h.feed
     at (Some d) m g =
         let w = out.reconnect s.session.client_cookie s.session.server_cookie number s.session.connect s.last in
         record {
-          feed = fine_asks s.session.phase phase.ReconnectSent s.sent s.opened d.socket d.opened d.texts (begun f w ∷ []) w m.phase refl (λ u. differ u, tt) g;
+          feed = fine_asks s.session.phase phase.ReconnectSent s.sent s.opened d.socket d.opened d.texts (begun f w ∷ []) w m.phase refl (λ u. from_false_true u, tt) g;
           first = first_asks s.sent s.opened d.socket w refl h.first;
         }
 entry_first f is (item.numbered number) s l kept h = at s.feed l h.feed
@@ -410,9 +388,6 @@ feed_so s h = at s.feed h.feed
     at None g = tt
     at (Some d) g = record { asks_alone = g.asks_alone; taken = λ e. (g.taken e).0 }
 
-none_kept : (s : State) → s.feed ≡ None → HandKept s
-none_kept s e = subst (λ o. IfFed o (HandSo s)) (sym e) tt
-
 -- also where the side is marked down
 bytes_kept : (f : SideFacts) (is : List JournalItem) (i : JournalItem) (s : State) → Lawful f i s → IsKept f is s → AllKept f (is ++ i ∷ []) (after f i s) × HandKept (after f i s)
 bytes_kept f is (item.down planned step) s l h = (
@@ -433,7 +408,7 @@ along f is (j ∷ js) s l h =
     subst (λ l. IsKept f l (after_items f js (after f j s))) (append_assoc is (j ∷ []) js) (along f (is ++ j ∷ []) js (after f j s) l.1 (entry_kept f is j s l.0 h))
 
 at_start : (f : SideFacts) → IsKept f [] (start f)
-at_start f = record { kept = λ k. record { read = refl; wrote = refl; feed = refl; frames = refl }; hand = tt; asks = record { feed = tt; first = λ k o. differ o } }
+at_start f = record { kept = λ k. record { read = refl; wrote = refl; feed = refl; frames = refl }; hand = tt; asks = record { feed = tt; first = λ k o. from_false_true o } }
 
 pub lawful_kept : (f : SideFacts) (is : List JournalItem) → AreLawful f is (start f) → IsKept f is (after_items f is (start f))
 lawful_kept f is l = along f [] is (start f) l (at_start f)

@@ -17,13 +17,15 @@ use Rattle.m2_journal.specs.Said.{split}
 use Rattle.m2_journal.specs.SideFacts.{SideFacts}
 use Rattle.m2_journal.specs.State.{Feed, PartText, SentFrame, State}
 use Rattle.m2_never_reset.specs.Frames.{answers_on, frames_on, is_ask}
-use Rattle.m2_never_reset.proofs.Answered.{nothing_isnt_some, some_same}
+use Rattle.m2_never_reset.proofs.Answered.{nothing_isnt_some}
 use Rattle.m2_never_reset.proofs.Sent.{answers_same, frames_elsewhere, frames_here}
-use Rattle.m2_never_reset.proofs.Sockets.{differ, same_equal, same_refl}
 use Rattle.m2_never_reset.proofs.Written.{is_ready}
 use Rattle.m2_bytes_fit.proofs.Hands.{ready_apart}
 use Rattle.m2_bytes_fit.proofs.Less.{FeedLess}
 use Rattle.m2_bytes_fit.proofs.Lists.{not_nil}
+use Rattle.m2_lemmas.proofs.Options.{some_same}
+use Rattle.m2_lemmas.proofs.Booleans.{from_false_true}
+use Rattle.m2_fabric.proofs.Sockets.{same_equal, same_refl}
 
 -- ---- what begins with an ask
 
@@ -119,7 +121,7 @@ may_at f s d h = at (length d.texts == 0)
 
 greets_may : (p : Phase) (words : List ℕ) (texts : List PartText) → AllByRecursion (MayPut p) texts → AllByRecursion (MayPut p) (greets words texts)
 greets_may p [] texts h = h
-greets_may p (b ∷ bs) [] h = (λ u. differ u, tt)
+greets_may p (b ∷ bs) [] h = (λ u. from_false_true u, tt)
 greets_may p (b ∷ bs) (t ∷ ts) h = (h.0, tt)
 
 signs_texts : (s : Standing) (d : Feed) → (signs s d).texts ≡ d.texts
@@ -230,7 +232,7 @@ first_mails p sent opened k mine texts w ready h first j o = at (same_socket j k
 
     by_opener : (b : Bool) → mine ≡ b → j ≡ k → frames_on k sent ≢ []
     by_opener true e same = has_asked (h.asked e)
-    by_opener false e same = differ (sym (h.taken e).1 ∙ ap (λ i. is_among i opened) (sym same) ∙ o)
+    by_opener false e same = from_false_true (sym (h.taken e).1 ∙ ap (λ i. is_among i opened) (sym same) ∙ o)
 
     at : (b : Bool) → same_socket j k ≡ b → BeginsAsking (frames_on j (sent ++ sent_on k w ∷ []))
     at true e =
@@ -252,7 +254,7 @@ pub apart_from : (j k : SocketId) (opened : List SocketId) → is_among j opened
 apart_from j k opened o n = at (same_socket j k) refl
   where
     at : (b : Bool) → same_socket j k ≡ b → same_socket j k ≡ false
-    at true e = differ (sym n ∙ ap (λ i. is_among i opened) (sym (same_equal j k e)) ∙ o)
+    at true e = from_false_true (sym n ∙ ap (λ i. is_among i opened) (sym (same_equal j k e)) ∙ o)
     at false e = e
 
 pub first_replies : (sent : List SentFrame) (opened : List SocketId) (k : SocketId) (ws : List OutFrame) → is_among k opened ≡ false → AskFirst sent opened → AskFirst (sent ++ sent_all k ws) opened
@@ -275,4 +277,4 @@ fine_replies p sent opened d k ws n h = by_opener d.opened refl
 
     by_opener : (b : Bool) → d.opened ≡ b → FeedIs p (sent ++ sent_all k ws) opened d
     by_opener true e = record { asks_alone = alone e h.asks_alone; taken = h.taken; there = h.there; asked = λ z. some z (h.asked z); puts = h.puts }
-    by_opener false e = record { asks_alone = inl (h.taken e).0; taken = h.taken; there = h.there; asked = λ z. differ (sym e ∙ z); puts = h.puts }
+    by_opener false e = record { asks_alone = inl (h.taken e).0; taken = h.taken; there = h.there; asked = λ z. from_false_true (sym e ∙ z); puts = h.puts }

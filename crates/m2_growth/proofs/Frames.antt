@@ -35,17 +35,18 @@ use Rattle.m2_handshake.specs.declared.fault.HalfFault.TheVariants as fault
 use Rattle.m2_handshake.specs.Asks.{is_known, known_main, under, asked, asked_of, ask_in}
 use Rattle.m2_handshake.specs.Greeting.{addrs_of}
 use Rattle.m2_handshake.specs.Reading.{of_payload, payload_in}
-use Rattle.m2_handshake.proofs.Greeting.{no_bytes}
+use Rattle.m2_handshake.proofs.Greeting.{no_bytes, address_bytes}
 use Rattle.m2_journal.specs.Laws.{IsWritable}
 use Rattle.m2_journal.specs.OutFrames as out
-use Rattle.m2_journal.specs.OutFrames.{OutFrame, client_ident_of, is_unnamed}
+use Rattle.m2_journal.specs.OutFrames.{OutFrame, is_unnamed}
 use Rattle.m2_journal.specs.SideFacts.{SideFacts}
 use Rattle.m2_never_reset.specs.Frames.{is_ask}
-use Rattle.m2_never_reset.proofs.Sockets.{differ}
 use Rattle.m2_trail.specs.Asks.{IsMain}
 use Rattle.m2_bytes_fit.specs.Halves.{KeepsRanges}
 use Rattle.m2_bytes_fit.proofs.Says.{part}
-use Rattle.m2_bytes_fit.proofs.Sent.{IsByte, ack_writable, address_bytes, eight_bytes, four_bytes, stamp_writable}
+use Rattle.m2_bytes_fit.proofs.Sent.{IsByte, ack_writable, eight_bytes, stamp_writable}
+use Rattle.m2_lemmas.proofs.Booleans.{from_false_true}
+use Rattle.m2_lemmas.proofs.Bytes.{four_bytes}
 
 -- ---- whose ask a frame is
 
@@ -223,8 +224,8 @@ IsBeginning (out.keepalive_answer s) = Unit {0}
 IsBeginning w = ⊥
 
 neither : {X : Type 0} → (false ≡ true) ⊎ (false ≡ true) → X
-neither (inl e) = differ e
-neither (inr e) = differ e
+neither (inl e) = from_false_true e
+neither (inr e) = from_false_true e
 
 beginning : (w : OutFrame) → MayBegin w → IsBeginning w
 beginning (out.ident cookie global) h = tt

@@ -1,6 +1,5 @@
 -- What grows, and grows further, grows.
 use Rattle.std.proofs.Common.{◌≡◌, ◌⊎◌, inl, inr, ℕ, ◌≤◌, List, [], ◌∷◌, ◌++◌, length, refl, sym, ap, subst, ◌∙◌, append-nil, append_assoc, length-append, arith}
-use Rattle.std.specs.List.{AllByRecursion}
 use Rattle.m2_record.specs.RecordNow.{RecordNow}
 use Rattle.m2_center.specs.Halves.{AllHalves}
 use Rattle.m2_trail.specs.Arrivals.{LooseNow}
@@ -12,14 +11,7 @@ use Rattle.m2_growth.specs.Records.{RecordGrows, RecordsGrow}
 use Rattle.m2_growth.proofs.Among.{each_by, of_each, one_front}
 use Rattle.m2_growth.proofs.Asked.{asked_chain, asked_same}
 use Rattle.m2_growth.proofs.Ends.{grow_chain, grow_same, on_chain, on_same}
-
-pub all_join : {X : Type 0} (P : X → Type 0) (xs ys : List X) → AllByRecursion P xs → AllByRecursion P ys → AllByRecursion P (xs ++ ys)
-all_join P [] ys p q = q
-all_join P (x ∷ xs) ys p q = (p.0, all_join P xs ys p.1 q)
-
-pub all_so : {X : Type 0} (P Q : X → Type 0) (xs : List X) → ((x : X) → P x → Q x) → AllByRecursion P xs → AllByRecursion Q xs
-all_so P Q [] so all = tt
-all_so P Q (x ∷ xs) so all = (so x all.0, all_so P Q xs so all.1)
+use Rattle.m2_lemmas.proofs.Lists.{all_append, all_so_of}
 
 -- ---- trails
 
@@ -36,7 +28,7 @@ asks_chain : (n m : ℕ) (xs ys zs : List ℕ) → n ≤ m → JudgesMore n xs y
 asks_chain n m xs ys zs le p q = record {
   more = p.more ++ q.more;
   all = q.all ∙ ap (λ l. l ++ q.more) p.all ∙ append_assoc xs p.more q.more;
-  behind = all_join (λ (k : ℕ). n ≤ k) p.more q.more p.behind (all_so (λ (k : ℕ). m ≤ k) (λ (k : ℕ). n ≤ k) q.more (λ k h. omega arith) q.behind);
+  behind = all_append (λ (k : ℕ). n ≤ k) p.more q.more p.behind (all_so_of (λ (k : ℕ). m ≤ k) (λ (k : ℕ). n ≤ k) q.more (λ k h. omega arith) q.behind);
 }
 
 pub trail_chain : (t u v : TrailNow) → TrailGrows t u → TrailGrows u v → TrailGrows t v
@@ -114,7 +106,7 @@ left_then a b rs ss t g stay (inr k) = inr (taken_still rs ss t g k)
 
 pub halves_chain : (a b c : AllHalves) (rs ss : List RecordNow) → RecordsGrow rs ss → HalvesStay a b rs → HalvesStay b c ss → HalvesStay a c ss
 halves_chain a b c rs ss g p q =
-    all_so (λ (l : LooseNow). IsLeft b l.trail ⊎ IsTakenBy rs l.trail) (λ (l : LooseNow). IsLeft c l.trail ⊎ IsTakenBy ss l.trail) (all_left a)
+    all_so_of (λ (l : LooseNow). IsLeft b l.trail ⊎ IsTakenBy rs l.trail) (λ (l : LooseNow). IsLeft c l.trail ⊎ IsTakenBy ss l.trail) (all_left a)
     (λ l h. left_then b c rs ss l.trail g q h) p
 
 -- ---- all of them

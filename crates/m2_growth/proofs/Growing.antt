@@ -7,10 +7,10 @@ use Rattle.m2_fabric.specs.End.{Inflow, SeenEnd}
 use Rattle.m2_fabric.specs.Holder.{SeenHolder}
 use Rattle.m2_fabric.specs.InStep.{AreFirst, HasFirst, HaveWhatFlowed, IsUnread, end_of, put_by}
 use Rattle.m2_fabric.specs.Kept.{reader, writer}
-use Rattle.m2_record.proofs.Names.{differ}
 use Rattle.m2_weave.specs.Later.{GoesOn}
 use Rattle.m2_growth.specs.Ends.{EndGrowsTo, IsNewborn, come_to}
 use Rattle.m2_growth.specs.Turn.{AllEndsGrow, CameOfPut}
+use Rattle.m2_lemmas.proofs.Booleans.{false_isnt_true}
 
 -- ---- lists
 
@@ -40,7 +40,7 @@ put_grows None None g = ([], refl)
 pub still_there : (o p : Option SeenEnd) → EndGrowsTo o p → IsSome o → IsSome p
 still_there (Some e) (Some f) g s = refl
 still_there (Some e) None g s = absurd g
-still_there None p g s = absurd (differ s)
+still_there None p g s = absurd (false_isnt_true s)
 
 -- what came to it in memory
 has_first : (n : ℕ) (put more : List ℕ) (e f : SeenEnd) → come_to f ≡ come_to e → HasFirst n put e → HasFirst n (put ++ more) f
@@ -50,7 +50,7 @@ has_first n put more e f same h = at e.inflow f.inflow h same
         option_map (λ (i : Inflow). f.log.got ++ i.readable) j ≡ option_map (λ (i : Inflow). e.log.got ++ i.readable) i →
         MatchOption j ⊥ (λ (j : Inflow). AreFirst n (put ++ more) (f.log.got ++ j.readable))
     at None j h same = absurd h
-    at (Some i) None h same = absurd (differ (ap is_some same))
+    at (Some i) None h same = absurd (false_isnt_true (ap is_some same))
     at (Some i) (Some j) h same =
         subst (λ l. AreFirst n (put ++ more) l) (sym (ap (λ o. unwrap_or o []) same)) (first_of_more n put more (e.log.got ++ i.readable) h)
 
@@ -63,11 +63,11 @@ by_closed {P} false shut apart = apart refl
 -- what flowed to an open end
 flowed_to : (n : ℕ) (put : List ℕ) (o p : Option SeenEnd) (put_then : List ℕ) → EndGrowsTo o p → IsSome o → GoesOn put put_then →
     IfSome o (λ e. e.log.closed ≡ false → HasFirst n put e) → IfSome p (λ f. f.log.closed ≡ false → HasFirst n put_then f)
-flowed_to n put None p put_then g s more h = absurd (differ s)
+flowed_to n put None p put_then g s more h = absurd (false_isnt_true s)
 flowed_to n put (Some e) None put_then g s more h = absurd g
 flowed_to n put (Some e) (Some f) put_then g s more h =
     λ open_now. by_closed e.log.closed
-    (λ closed. absurd (differ (sym open_now ∙ g.closed closed)))
+    (λ closed. absurd (false_isnt_true (sym open_now ∙ g.closed closed)))
     (λ open_then. subst (λ l. HasFirst n l f) (sym more.1) (has_first n put more.0 e f g.come (h open_then)))
 
 pub all_flowed : (old new : SeenHolder) (ds : _) → AllEndsGrow old new → AllByRecursion (λ d. IsSome (end_of old (reader d))) ds → HaveWhatFlowed old ds → HaveWhatFlowed new ds
@@ -80,7 +80,7 @@ all_flowed old new (d ∷ ds) g there flowed = (
 
 -- an end to which nothing flows
 nothing_came : (e : SeenEnd) (i : Option Inflow) → e.inflow ≡ i → IsSome i → IsNewborn e → IsUnread e
-nothing_came e None is s n = absurd (differ s)
+nothing_came e None is s n = absurd (false_isnt_true s)
 nothing_came e (Some i) is s n =
     let none = empty_front e.log.got i.readable (subst (λ o. IfSome (option_map (λ (i : Inflow). e.log.got ++ i.readable) o) (λ bytes. bytes ≡ [])) is n) in
     record { got = none.0; readable = subst (λ o. MatchOption o ⊥ (λ (i : Inflow). i.readable ≡ [])) (sym is) none.1 }
@@ -106,7 +106,7 @@ all_there old new (d ∷ ds) g there =
 
 came_so : (o p : Option SeenEnd) (put put_then : List ℕ) → EndGrowsTo o p → IsSome o → GoesOn put put_then →
     IfSome o (λ e. IfSome (come_to e) (λ bytes. GoesOn bytes put)) → IfSome p (λ e. IfSome (come_to e) (λ bytes. GoesOn bytes put_then))
-came_so None p put put_then g s more h = absurd (differ s)
+came_so None p put put_then g s more h = absurd (false_isnt_true s)
 came_so (Some e) None put put_then g s more h = absurd g
 came_so (Some e) (Some f) put put_then g s more h =
     subst (λ o. IfSome o (λ bytes. GoesOn bytes put_then)) (sym g.come) (at (come_to e) h)

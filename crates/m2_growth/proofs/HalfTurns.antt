@@ -16,7 +16,6 @@ use Rattle.m2_handshake.specs.Asks.{is_known, same_addr}
 use Rattle.m2_journal.specs.State.{Judgement}
 use Rattle.m2_record.specs.RecordNow.{RecordNow}
 use Rattle.m2_record.specs.Sources.{end_at}
-use Rattle.m2_record.proofs.Names.{differ}
 use Rattle.m2_center.specs.declared.answering.HalfAnswered.{HalfAnswered}
 use Rattle.m2_center.specs.declared.answering.HalfAnswered.TheVariants as half
 use Rattle.m2_center.specs.declared.half_turn.HalfTurned.{HalfTurned}
@@ -28,7 +27,6 @@ use Rattle.m2_center.specs.HalfTurn.{AnswersFrom, ComesTo, HalfTurning, Homes, O
 use Rattle.m2_center.specs.HalvesTurn.{Callers, HalfTurns, HalvesTurning, OldestTurns, TurnHalves, TurnsHalves, all_wait, over_by, stays_by}
 use Rattle.m2_center.specs.RecordTurn.{Means}
 use Rattle.m2_center.specs.Sessions.{PendingNow, Sessions, is_asker, peer_of}
-use Rattle.m2_center.proofs.Peers.{addr_equal}
 use Rattle.m2_center.proofs.Turned.{IsHome, found_home, may_ask}
 use Rattle.m2_trail.specs.declared.step.IncomingStep.{IncomingStep}
 use Rattle.m2_trail.specs.declared.step.IncomingStep.TheVariants as step
@@ -46,11 +44,14 @@ use Rattle.m2_growth.proofs.Among.{one_front}
 use Rattle.m2_growth.proofs.Asked.{end_own}
 use Rattle.m2_growth.proofs.Calls.{grows_equal, read_grows, write_grows}
 use Rattle.m2_growth.proofs.Ends.{grows_chain, grows_same, on_by}
-use Rattle.m2_growth.proofs.Going.{all_so, grows_then}
-use Rattle.m2_growth.proofs.Holdings.{Around, half_changes, half_over, held_over, held_with, same_grows, this_on}
+use Rattle.m2_growth.proofs.Going.{grows_then, grows_same as same_grows}
+use Rattle.m2_growth.proofs.Holdings.{Around, half_changes, half_over, held_over, held_with, this_on}
 use Rattle.m2_growth.proofs.Judged.{this_held, JudgesAlone, JudgesOn, Takes, record_judges, record_takes}
 use Rattle.m2_growth.proofs.OneRecord.{holding}
 use Rattle.m2_growth.proofs.Owned.{own_all}
+use Rattle.m2_lemmas.proofs.Booleans.{false_isnt_true}
+use Rattle.m2_handshake.proofs.Idents.{same_means}
+use Rattle.m2_lemmas.proofs.Lists.{all_so_of}
 
 -- ---- a half moves on
 
@@ -96,7 +97,7 @@ half_advances t old new a = record { end = end_advances t old new a; trail = tra
 -- a half that goes on is heard by whom it was
 still_heard : (rs : List RecordNow) (asker : Option Addr) (a b : IncomingNow) → HalfGoes a b → IsHeardBy rs (record { half = a; asker = asker }) → IsHeardBy rs (record { half = b; asker = asker })
 still_heard rs asker a b g heard =
-    all_so (λ (r : RecordNow). is_among a.trail.socket (asked_on r) ≡ true → is_asker asker (peer_of r) ≡ true)
+    all_so_of (λ (r : RecordNow). is_among a.trail.socket (asked_on r) ≡ true → is_asker asker (peer_of r) ≡ true)
     (λ (r : RecordNow). is_among b.trail.socket (asked_on r) ≡ true → is_asker asker (peer_of r) ≡ true) rs
     (λ r h asked. h (ap (λ k. is_among k (asked_on r)) (sym g.trail.socket) ∙ asked)) heard
 
@@ -107,8 +108,8 @@ goes_on c rs asker a b own g = half_changes c rs (record { half = a; asker = ask
 -- ---- its asker is noted
 
 noted_so : (asker : Option Addr) (peer : Addr) (r : RecordNow) → is_known asker peer ≡ true → is_asker asker (peer_of r) ≡ true → same_addr peer (peer_of r) ≡ true
-noted_so None peer r known h = absurd (differ h)
-noted_so (Some first) peer r known h = ap (λ a. same_addr a (peer_of r)) (sym (addr_equal first peer known)) ∙ h
+noted_so None peer r known h = absurd (false_isnt_true h)
+noted_so (Some first) peer r known h = ap (λ a. same_addr a (peer_of r)) (sym (same_means first peer known)) ∙ h
 
 noted : (c : Around) (rs : List RecordNow) (a : IncomingNow) (asker : Option Addr) (peer : Addr) → is_known asker peer ≡ true → AreOwn (held_with c rs (record { half = a; asker = asker })) →
     Grows (held_with c rs (record { half = a; asker = asker })) (held_with c rs (asked_by a peer))
@@ -117,7 +118,7 @@ noted c rs a asker peer known own =
     (record {
       end = grows_same a.end;
       trail = (half_same a).trail;
-      heard = (λ heard. all_so (λ (r : RecordNow). is_among a.trail.socket (asked_on r) ≡ true → is_asker asker (peer_of r) ≡ true)
+      heard = (λ heard. all_so_of (λ (r : RecordNow). is_among a.trail.socket (asked_on r) ≡ true → is_asker asker (peer_of r) ≡ true)
           (λ (r : RecordNow). is_among a.trail.socket (asked_on r) ≡ true → same_addr peer (peer_of r) ≡ true) rs
           (λ r h asked. noted_so asker peer r known (h asked)) heard);
     })
@@ -143,12 +144,12 @@ record IsAskOf (a : IncomingNow) (peer : Addr) : Type 0 where
 asked_by_peer : (c : Around) (rs : List RecordNow) (a : IncomingNow) (place : ℕ) (peer : Addr) (side behind : RecordNow) → IsHome rs place peer side → RecordGrows side behind → AreOwn (held_with c rs (asked_by a peer)) →
     IsAskOf a peer → (js : List Judgement) → AllByRecursion (λ (j : Judgement). j.socket ≡ a.end.id) js → AllByRecursion (IsAskedByPeer (all_ends (held_with c rs (asked_by a peer))) behind) js
 asked_by_peer c rs a place peer side behind home grows own by js since =
-    all_so (λ (j : Judgement). j.socket ≡ a.end.id) (IsAskedByPeer ends behind) js
+    all_so_of (λ (j : Judgement). j.socket ≡ a.end.id) (IsAskedByPeer ends behind) js
     (λ j on. record {
       arrival = a;
       arrived = by.arrived;
       socket = sym on;
-      main = subst (λ p. IfSome a.ask (λ ask. IsMain ask p)) (addr_equal peer (peer_of side) home.same ∙ ap (λ f. f.peer) (sym grows.facts)) by.main;
+      main = subst (λ p. IfSome a.ask (λ ask. IsMain ask p)) (same_means peer (peer_of side) home.same ∙ ap (λ f. f.peer) (sym grows.facts)) by.main;
       come = subst (λ (o : Option SeenEnd). IfSome o (λ e. come_to a.end ≡ come_to e)) (sym (ap (end_at ends) on ∙ here)) refl;
     }) since
   where

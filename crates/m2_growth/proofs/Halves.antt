@@ -1,8 +1,7 @@
 -- A half that reads what a side writes on a socket that it opened is asked under that side's address alone: its first ask is the
 -- first frame behind the greeting, and later ones are taken under the address of the first.
-use Rattle.std.proofs.Common.{◌≡◌, ℕ, ◌⊎◌, inl, inr, true, ◌==◌, ◌&&◌, List, [], ◌∷◌, ◌++◌, length, drop, map, Option, Some, None, Result, Ok, Err, refl, sym, ap, ◌∙◌, subst}
+use Rattle.std.proofs.Common.{◌≡◌, ℕ, ◌⊎◌, inl, inr, ◌==◌, ◌&&◌, List, [], ◌∷◌, ◌++◌, length, drop, map, Option, Some, None, Result, Ok, Err, refl, sym, ap, ◌∙◌, subst}
 use Rattle.std.specs.List.{AllByRecursion}
-use Rattle.std.proofs.lemmas.Bool.{and_parts, eqb-true}
 use Rattle.std.proofs.lemmas.Grind.{flat_map-append}
 use Rattle.m2_addr.specs.declared.addr.Addr.{Addr}
 use Rattle.m2_control.specs.declared.control.Control.{Control}
@@ -17,9 +16,9 @@ use Rattle.m2_handshake.specs.declared.stage.HalfSide.TheVariants.{Acceptor}
 use Rattle.m2_handshake.specs.declared.stage.Stage.{Stage}
 use Rattle.m2_handshake.specs.declared.stage.Stage.TheVariants.{Opening, Banner, Waits, Authed, Asked, Ended, Faulty}
 use Rattle.m2_handshake.specs.Asking.{after_reply}
-use Rattle.m2_handshake.specs.Asks.{ask_in, same_addr}
+use Rattle.m2_handshake.specs.Asks.{ask_in}
 use Rattle.m2_handshake.specs.Course as course
-use Rattle.m2_handshake.specs.Course.{course_move_at, course_move, signed_move, Event, silent, wrote, failed, replied, Step, rests, goes, step_by, step_of, answered, Goes, Runs, asks_in, replies_in, asks_of, replies_of, Exchange, Reaches, Signs}
+use Rattle.m2_handshake.specs.Course.{course_move_at, course_move, signed_move, Event, silent, wrote, failed, replied, Step, rests, goes, step_by, step_of, answered, Goes, Runs, asks_in, replies_in, asks_of, replies_of, Exchange, Reaches}
 use Rattle.m2_handshake.specs.Greeting.{greeting}
 use Rattle.m2_handshake.specs.Laws.{GoesOnTo}
 use Rattle.m2_handshake.specs.Moves.{Move, stays, quiet, writes, signs, asks, fails, take_frame, after_asking, read_held, refuse_held}
@@ -35,20 +34,13 @@ use Rattle.m2_bytes_fit.specs.Halves.{KeepsRanges}
 use Rattle.m2_bytes_fit.specs.Texts.{texts_of}
 use Rattle.m2_bytes_fit.proofs.Acceptors.{HasWelcomed, IsAsked, accepts, as_asked}
 use Rattle.m2_bytes_fit.proofs.Fronts.{is_judged}
-use Rattle.m2_bytes_fit.proofs.Lists.{all-both, nothing_before, not_nil}
+use Rattle.m2_bytes_fit.proofs.Lists.{not_nil}
 use Rattle.m2_bytes_fit.proofs.Says.{part}
 use Rattle.m2_never_reset.specs.Frames.{ask_of}
 use Rattle.m2_growth.specs.AskLaws.{AskedBy}
 use Rattle.m2_growth.proofs.Frames.{BeginsAs, IsMine, IsUnder, MayBegin, asks_under, begins_as}
-
--- ---- addresses
-
-same_means : (a b : Addr) → same_addr a b ≡ true → a ≡ b
-same_means a b e =
-    let three = and_parts ((a.kind == b.kind) && (a.nonce == b.nonce) && (a.ip == b.ip)) (a.port == b.port) e in
-    let two = and_parts ((a.kind == b.kind) && (a.nonce == b.nonce)) (a.ip == b.ip) three.0 in
-    let one = and_parts (a.kind == b.kind) (a.nonce == b.nonce) two.0 in
-    rw (eqb-true a.kind b.kind one.0, eqb-true a.nonce b.nonce one.1, eqb-true a.ip b.ip two.1, eqb-true a.port b.port three.1) refl
+use Rattle.m2_handshake.proofs.Idents.{same_means}
+use Rattle.m2_lemmas.proofs.Lists.{all_append, empty_front}
 
 -- ---- where it stands
 
@@ -187,7 +179,7 @@ module _ (f : SideFacts) (w : OutFrame) (k : BeginsAs f w) (behind : List ℕ) w
   runs_so [] a b i r = tt
   runs_so (e ∷ es) a b i (m, g, r) =
       let one = step_so e a m i g in
-      all-both IsMineToo (asks_in e) (asks_of es) one.0 (runs_so es m b one.1 r)
+      all_append IsMineToo (asks_in e) (asks_of es) one.0 (runs_so es m b one.1 r)
 
 -- ---- from the start
 
@@ -244,7 +236,7 @@ asked_first f k own seen w ws more x s may e r =
         let asks_are : x.asks ≡ asks_of es = sym r.asks ∙ ap asks_of is_all ∙ flat_map-append asks_in first.events es ∙ ap (λ l. l ++ asks_of es) first.asks in
         subst (AllByRecursion (λ a. IsMain a f.mine)) (sym asks_are) (runs_so f w its (texts_of f ws) es signed (fed s more) stands on)
     by_way (inr (es, is_all, on)) =
-        let none : x.asks ≡ [] = sym r.asks ∙ nothing_before (asks_of r.events) (asks_of es) (sym (flat_map-append asks_in r.events es) ∙ ap asks_of (sym is_all) ∙ first.asks) in
+        let none : x.asks ≡ [] = sym r.asks ∙ empty_front (asks_of r.events) (asks_of es) (sym (flat_map-append asks_in r.events es) ∙ ap asks_of (sym is_all) ∙ first.asks) in
         subst (AllByRecursion (λ a. IsMain a f.mine)) (sym none) tt
 
 no_map : {X Y : Type 0} (g : X → Y) (xs : List X) → map g xs ≡ [] → xs ≡ []
@@ -258,7 +250,7 @@ asked_nothing f k own seen more x s e r = by (accepts f own seen [] x.bytes more
     by : HasWelcomed own seen x ⊎ IsAsked f own seen [] more x s → AskedBy f.mine x
     by (inl h) = subst (AllByRecursion (λ a. IsMain a f.mine)) (sym h.asks) tt
     by (inr h) =
-        let none : x.asks ≡ [] = no_map as_asked x.asks (h.asks ∙ ap (map ask_of) (nothing_before h.used h.left (sym h.all))) in
+        let none : x.asks ≡ [] = no_map as_asked x.asks (h.asks ∙ ap (map ask_of) (empty_front h.used h.left (sym h.all))) in
         subst (AllByRecursion (λ a. IsMain a f.mine)) (sym none) tt
 
 -- the first of them asks, or is one that no entry names

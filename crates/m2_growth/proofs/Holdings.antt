@@ -12,17 +12,18 @@ use Rattle.m2_record.specs.Sources.{end_at}
 use Rattle.m2_center.specs.Halves.{AllHalves, halves_of}
 use Rattle.m2_center.specs.Hearing.{ends_in}
 use Rattle.m2_center.specs.Sessions.{PendingNow, peer_of}
-use Rattle.m2_center.proofs.Peers.{each}
 use Rattle.m2_trail.specs.Arrivals.{LooseNow, left_of}
 use Rattle.m2_growth.specs.Ends.{BringNone, EndGrows, EndGrowsTo, EndsGrow}
 use Rattle.m2_growth.specs.Halves.{AreAskedByPeers, HalvesStay, HasItsHalves, IsHeardBy, IsLeft, IsOneOf, IsTakenBy, TrailGrows, all_left, sockets_left, sockets_taken}
 use Rattle.m2_growth.specs.Holding.{AreOwn, Grows, HaveTheirHalves, Holding, all_ends, ends_held, waiting_at}
 use Rattle.m2_growth.specs.Records.{IsFed, RecordsGrow, ends_of_all}
-use Rattle.m2_growth.proofs.Among.{among_back, among_front, among_mapped, among_part, each_by, in_part, mid_here, mid_in, mid_other, mid_out, mid_split, of_each, one_back, one_front, whose}
+use Rattle.m2_growth.proofs.Among.{among_back, among_mapped, each_by, in_part, mid_here, mid_in, mid_other, mid_out, mid_split, of_each, one_back, one_front, whose}
 use Rattle.m2_growth.proofs.Asked.{asked_same}
 use Rattle.m2_growth.proofs.Ends.{AreLater, end_append, first_of, later_before, later_behind, later_chain, later_one, later_same, later_swapped, made_later, to_same}
-use Rattle.m2_growth.proofs.Going.{halves_same, records_same, trail_same}
+use Rattle.m2_growth.proofs.Going.{records_same, trail_same}
 use Rattle.m2_growth.proofs.OneRecord.{holding}
+use Rattle.m2_lemmas.proofs.Lists.{all_so}
+use Rattle.m2_fabric.proofs.Sockets.{among_front, among_part}
 
 -- ---- records
 
@@ -98,21 +99,6 @@ parts_grow port rs ss h g own p =
       };
       judged = p.judged;
     }
-
--- nothing changes
-pub same_grows : (h : Holding) → AreOwn h → Grows h h
-same_grows h own =
-    parts_grow h.port h.records h.records h.halves h.halves own
-    (record {
-      records = records_same h.records;
-      fed = own.fed;
-      halves = halves_same h.halves h.records;
-      ends = later_same (ends_held h);
-      on = own.on_socket;
-      here = own.here;
-      asked = asked_same (all_ends h) h.records;
-      judged = (λ j. j);
-    })
 
 -- ---- the halves beside one
 
@@ -229,7 +215,7 @@ end_over p l xs ys ls h =
 
 -- ---- the asks that records have judged
 
--- each half is there still
+-- all_so half is there still
 abbrev pub AllLeft : AllHalves → AllHalves → Type 0
 AllLeft h g = (l : LooseNow) → IsOneOf l (all_left h) → IsLeft g l.trail
 
@@ -269,7 +255,7 @@ changed_left c p q trail l i = at (whose_left c p l i)
     at (inl e) = record { half = left q; there = this_left c q; grows = subst (λ (x : LooseNow). TrailGrows x.trail q.half.trail) (sym e) trail }
     at (inr j) = record { half = l; there = other_left c q l j; grows = trail_same l.trail }
 
--- what is known of all is known of each of the others
+-- what is known of all is known of all_so of the others
 pub of_others : (P : LooseNow → Type 0) (c : Around) (p : PendingNow) → AllByRecursion P (all_left (halves_with c p)) → (l : LooseNow) → IsOneOf l (all_left (halves_without c)) → P l
 of_others P c p all l i = of_each P l (all_left (halves_with c p)) all (other_left c p l i)
 
@@ -305,7 +291,7 @@ half_changes c rs p q own g =
       here = changed_all (IsHere c.port.at) c p q own.here (ap (goes_to c.port.at) g.end.id ∙ of_this (IsHere c.port.at) c p own.here);
       asked = asked_same (all_ends (held_with c rs p)) rs;
       judged = (λ j. record {
-        each = each (HasItsHalves (all_left (halves_with c p))) (HasItsHalves (all_left (halves_with c q))) (still_has (halves_with c p) (halves_with c q) stay) rs j.each;
+        all_so = all_so (HasItsHalves (all_left (halves_with c p))) (HasItsHalves (all_left (halves_with c q))) (still_has (halves_with c p) (halves_with c q) stay) rs j.each;
         made = j.made;
         here = j.here;
         one_judge = j.one_judge;
@@ -344,7 +330,7 @@ half_over c rs p l own end trail =
       here = over_all (IsHere c.port.at) c p l own.here (ap (goes_to c.port.at) end.id ∙ of_this (IsHere c.port.at) c p own.here);
       asked = asked_same (all_ends (held_with c rs p)) rs;
       judged = (λ j. record {
-        each = each (HasItsHalves (all_left (halves_with c p))) (HasItsHalves (all_left (halves_over c l))) (still_has (halves_with c p) (halves_over c l) stay) rs j.each;
+        all_so = all_so (HasItsHalves (all_left (halves_with c p))) (HasItsHalves (all_left (halves_over c l))) (still_has (halves_with c p) (halves_over c l) stay) rs j.each;
         made = j.made;
         here = j.here;
         one_judge = j.one_judge;

@@ -7,7 +7,6 @@ use Rattle.m2_fabric.specs.End.{SeenEnd}
 use Rattle.m2_fabric.specs.Sockets.{is_among, same_socket}
 use Rattle.m2_record.specs.RecordNow.{ids_of}
 use Rattle.m2_record.specs.Sources.{end_at}
-use Rattle.m2_record.proofs.Names.{both, differ}
 use Rattle.m2_growth.specs.Ends.{AreOfTheirOwn}
 use Rattle.m2_growth.specs.Holding.{AreOwn, Grows, Holding, all_ends, ends_held, waiting_at}
 use Rattle.m2_growth.proofs.Ends.{end_append, first_of, own_apart}
@@ -15,12 +14,13 @@ use Rattle.m2_growth.proofs.Going.{grows_by, grows_then}
 use Rattle.m2_growth.proofs.Owned.{held_apart}
 use Rattle.m2_growth.specs.Ports.{PortStands, waits_there}
 use Rattle.m2_growth.proofs.Growing.{still_there}
+use Rattle.m2_lemmas.proofs.Booleans.{both_of_and, false_isnt_true}
 
 -- ---- the end of a socket among others
 
 some_first : (o p : Option SeenEnd) → IsSome o → IsSome (first_of o p)
 some_first (Some e) p is = refl
-some_first None p is = absurd (differ is)
+some_first None p is = absurd (false_isnt_true is)
 
 some_second : (o p : Option SeenEnd) → IsSome p → IsSome (first_of o p)
 some_second (Some e) p is = refl
@@ -33,7 +33,7 @@ pub some_back : (xs ys : List SeenEnd) (k : SocketId) → IsSome (end_at ys k) �
 some_back xs ys k is = ap is_some (end_append xs ys k) ∙ some_second (end_at xs k) (end_at ys k) is
 
 pub some_end : (k : SocketId) (es : List SeenEnd) → is_among k (ids_of es) ≡ true → IsSome (end_at es k)
-some_end k [] is = absurd (differ is)
+some_end k [] is = absurd (false_isnt_true is)
 some_end k (e ∷ es) is = at (same_socket k e.id) is (some_end k es)
   where
     at : (b : Bool) → (b || is_among k (ids_of es)) ≡ true → (is_among k (ids_of es) ≡ true → IsSome (end_at es k)) → IsSome (if b then Some e else end_at es k)
@@ -41,7 +41,7 @@ some_end k (e ∷ es) is = at (same_socket k e.id) is (some_end k es)
     at false is rest = rest is
 
 is_end : (k : SocketId) (es : List SeenEnd) → IsSome (end_at es k) → is_among k (ids_of es) ≡ true
-is_end k [] is = absurd (differ is)
+is_end k [] is = absurd (false_isnt_true is)
 is_end k (e ∷ es) is = at (same_socket k e.id) is (is_end k es)
   where
     at : (b : Bool) → IsSome (if b then Some e else end_at es k) → (IsSome (end_at es k) → is_among k (ids_of es) ≡ true) → (b || is_among k (ids_of es)) ≡ true
@@ -53,14 +53,14 @@ none_end k es none = at (end_at es k) refl
   where
     at : (o : Option SeenEnd) → end_at es k ≡ o → o ≡ None
     at None is = refl
-    at (Some e) is = absurd (differ (sym none ∙ is_end k es (ap is_some is)))
+    at (Some e) is = absurd (false_isnt_true (sym none ∙ is_end k es (ap is_some is)))
 
 no_end : (k : SocketId) (es : List SeenEnd) → end_at es k ≡ None → is_among k (ids_of es) ≡ false
 no_end k es none = at (is_among k (ids_of es)) refl
   where
     at : (b : Bool) → is_among k (ids_of es) ≡ b → b ≡ false
     at false is = refl
-    at true is = absurd (differ (sym (ap is_some none) ∙ some_end k es is))
+    at true is = absurd (false_isnt_true (sym (ap is_some none) ∙ some_end k es is))
 
 -- ---- a port
 
@@ -113,14 +113,14 @@ waits_still old new own port k waits = (
     still = waiting_at new.port
 
     here : (is_among k (ids_of still) ≡ true) × (not (is_among k (ids_of (ends_held new))) ≡ true)
-    here = both (is_among k (ids_of still)) (not (is_among k (ids_of (ends_held new)))) waits
+    here = both_of_and (is_among k (ids_of still)) (not (is_among k (ids_of (ends_held new)))) waits
 
     waited : IsSome (end_at (waiting_at old.port) k)
     waited = subst (λ es. IsSome (end_at es k)) (sym port.waiting) (some_back port.gone still k (some_end k still here.0))
 
     by_parts : (xs ys : List SeenEnd) → IsSome (end_at ys k) → (end_at xs k ≡ None) ⊎ (end_at ys k ≡ None) → end_at xs k ≡ None
     by_parts xs ys is (inl none) = none
-    by_parts xs ys is (inr none) = absurd (differ (sym (ap is_some none) ∙ is))
+    by_parts xs ys is (inr none) = absurd (false_isnt_true (sym (ap is_some none) ∙ is))
 
     unheld : end_at (ends_held old) k ≡ None
     unheld = by_parts (ends_held old) (waiting_at old.port) waited (held_apart old own k)
@@ -130,7 +130,7 @@ waits_still old new own port k waits = (
 
     by_not : (b : Bool) → not b ≡ true → b ≡ false
     by_not false is = refl
-    by_not true is = absurd (differ is)
+    by_not true is = absurd (false_isnt_true is)
 
     behind : (xs ys : List SeenEnd) → end_at xs k ≡ None → end_at (xs ++ ys) k ≡ end_at ys k
     behind xs ys none = end_append xs ys k ∙ ap (λ o. first_of o (end_at ys k)) none

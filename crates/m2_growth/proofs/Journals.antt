@@ -1,6 +1,6 @@
 -- What the entries of a journal say of a socket that it opened: the items have opened it, no half was taken there, and what was
 -- written there is all that its end has put.
-use Rattle.std.proofs.Common.{◌≡◌, ℕ, ◌+◌, ◌⊎◌, inl, inr, Bool, true, false, ◌||◌, if◌then◌else◌, List, [], ◌∷◌, ◌++◌, length, map, take, drop, drop-drop, Some, None, refl, sym, ap, ◌∙◌, append_assoc, append-nil, arith}
+use Rattle.std.proofs.Common.{◌≡◌, ℕ, ◌+◌, ◌⊎◌, inl, inr, Bool, true, false, ◌||◌, if◌then◌else◌, List, [], ◌∷◌, ◌++◌, length, map, take, drop, drop-drop, None, refl, sym, ap, ◌∙◌, append_assoc, append-nil, arith}
 use Rattle.std.proofs.lemmas.Bool.{or_cases}
 use Rattle.std.proofs.lemmas.List.{drop_all, take-append-drop}
 use Rattle.m2_fabric.specs.declared.socket.SocketId.{SocketId}
@@ -16,7 +16,7 @@ use Rattle.m2_journal.specs.Replay.{AreLawful, after_items}
 use Rattle.m2_journal.specs.SideFacts.{SideFacts}
 use Rattle.m2_journal.specs.State.{State}
 use Rattle.m2_journal.specs.Steps.{after}
-use Rattle.m2_never_reset.proofs.Sockets.{among-last, among-more, by_either, differ, same_equal, turned_same}
+use Rattle.m2_never_reset.proofs.Sockets.{by_either}
 use Rattle.m2_record.specs.Sources.{trail_at}
 use Rattle.m2_record.specs.TakenTrails.{taken_in}
 use Rattle.m2_trail.specs.Trails.{TrailNow}
@@ -26,6 +26,10 @@ use Rattle.m2_bytes_fit.specs.Ends.{takings_on, wrote_on}
 use Rattle.m2_bytes_fit.proofs.Growing.{entry_grows}
 use Rattle.m2_bytes_fit.proofs.Less.{tells_less}
 use Rattle.m2_bytes_fit.proofs.Lists.{not_nil}
+use Rattle.m2_record.proofs.TrailsAt.{no_trail}
+use Rattle.m2_journal.proofs.JudgedOn.{raised_here}
+use Rattle.m2_fabric.proofs.Sockets.{among_last, among_front, same_equal}
+use Rattle.m2_lemmas.proofs.Booleans.{from_false_true}
 
 -- ---- what was opened
 
@@ -34,18 +38,18 @@ still_opened : (f : SideFacts) (i : JournalItem) (s : State) (k : SocketId) → 
 still_opened f (item.down planned step) s k l h = ap (is_among k) (tells_less event.MarkedDown s).opened ∙ h
 still_opened f i s k l h =
     let grows = entry_grows f i s tt l in
-    ap (is_among k) grows.opened ∙ among-more k s.opened grows.more_opened h
+    ap (is_among k) grows.opened ∙ among_front k s.opened grows.more_opened h
 
 opens_now : (f : SideFacts) (src : Sources) (p : Places) (e : Entry) (s : State) (k : SocketId) → opens k (Noted e) ≡ true → is_among k (after f (item_of src p e) s).opened ≡ true
-opens_now f src p (entry.Opened x) s k e = ap (λ j. is_among j (after f (item.opened x) s).opened) (same_equal k x e) ∙ among-last x (tells_so)
+opens_now f src p (entry.Opened x) s k e = ap (λ j. is_among j (after f (item.opened x) s).opened) (same_equal k x e) ∙ among_last x (tells_so)
   where
     tells_so : List SocketId
     tells_so = s.opened
-opens_now f src p e s k q = differ q
+opens_now f src p e s k q = from_false_true q
 
 opened_along : (f : SideFacts) (src : Sources) (p : Places) (es : List Entry) (s : State) (k : SocketId) → AreLawful f (items_from src p es) s →
     (is_among k s.opened ≡ true) ⊎ (has_opened (journal_of es) k ≡ true) → is_among k (after_items f (items_from src p es) s).opened ≡ true
-opened_along f src p [] s k l h = by_either h (λ o. o) (λ e. differ e)
+opened_along f src p [] s k l h = by_either h (λ o. o) (λ e. from_false_true e)
 opened_along f src p (e ∷ es) s k l h =
     opened_along f src (passed e p) es (after f (item_of src p e) s) k l.1
     (by_either h (λ o. inl (still_opened f (item_of src p e) s k l.0 o))
@@ -73,22 +77,10 @@ none_taken k src p (entry.Down true ∷ es) h = none_taken k src (passed (entry.
 none_taken k src p (entry.Down false ∷ es) h = none_taken k src (passed (entry.Down false) p) es h
 none_taken k src p (e ∷ es) h = none_taken k src (passed e p) es h
 
-no_trail : (ts : List TrailNow) (k : SocketId) → is_among k (map (λ (t : TrailNow). t.socket) ts) ≡ false → trail_at ts k ≡ None
-no_trail [] k h = refl
-no_trail (t ∷ ts) k h = at (same_socket k t.socket) h (no_trail ts k)
-  where
-    at : (b : Bool) → b || is_among k (map (λ (t : TrailNow). t.socket) ts) ≡ false → (is_among k (map (λ (t : TrailNow). t.socket) ts) ≡ false → trail_at ts k ≡ None) →
-        (if b then Some t else trail_at ts k) ≡ None
-    at true e later = differ (sym e)
-    at false e later = later e
-
 pub untaken : (k : SocketId) (src : Sources) (es : List Entry) (ts : List TrailNow) → map (λ (t : TrailNow). t.socket) ts ≡ taken_in es → takings_on k (items_of src es) ≡ [] → trail_at ts k ≡ None
 untaken k src es ts sockets none = no_trail ts k (ap (is_among k) sockets ∙ none_taken k src at_start es none)
 
 -- ---- what was written
-
-raised_here : (x k : SocketId) (c : ℕ) (counts : SocketId → ℕ) (b : Bool) → same_socket k x ≡ b → raised x c counts k ≡ (if b then counts k + c else counts k)
-raised_here x k c counts b e = ap (λ t. if t then counts k + c else counts k) (turned_same x k ∙ e)
 
 -- the next bytes, and what is behind them
 next_bytes : (x k : SocketId) (c n : ℕ) (counts : SocketId → ℕ) (log : SocketId → List ℕ) (rest : List ℕ) → rest ++ drop n (log k) ≡ drop (raised x c counts k) (log k) → (b : Bool) → same_socket k x ≡ b →

@@ -8,22 +8,24 @@ use Rattle.m2_fabric.specs.End.{SeenEnd}
 use Rattle.m2_fabric.specs.Sockets.{goes_to, is_among}
 use Rattle.m2_handshake.specs.Asks.{same_addr}
 use Rattle.m2_record.specs.RecordNow.{RecordNow, ends_of}
-use Rattle.m2_record.proofs.Names.{differ}
 use Rattle.m2_center.specs.Hearing.{ends_in}
 use Rattle.m2_center.specs.Sessions.{PendingNow, is_asker, peer_of}
-use Rattle.m2_center.proofs.Peers.{each, each_of_two, same_peers, with_one}
+use Rattle.m2_center.proofs.Peers.{each_of_two, same_peers, with_one}
 use Rattle.m2_center.proofs.Turned.{IsHome}
 use Rattle.m2_trail.specs.Arrivals.{LooseNow}
 use Rattle.m2_trail.specs.Trails.{TrailNow}
 use Rattle.m2_growth.specs.Halves.{AskedOnMade, IsAskedByPeer, judged_since, HasItsHalves, IsHeardBy, IsLeft, IsOneOf, IsTakenBy, TrailGrows, all_left, asked_on, sockets_left, sockets_taken, AskedTowards, OneJudge}
 use Rattle.m2_growth.specs.Holding.{AreOwn, Grows, HaveTheirHalves, all_ends, ends_held}
 use Rattle.m2_growth.specs.Records.{IsFed, RecordGrows, RecordsGrow, ends_of_all}
-use Rattle.m2_growth.proofs.Among.{among_back, among_front, among_mapped, among_part, each_by, mapped_one, mid_here, mid_in, mid_out, of_each, one_back, one_front, whose}
+use Rattle.m2_growth.proofs.Among.{among_back, among_mapped, each_by, mapped_one, mid_here, mid_in, mid_out, of_each, one_back, one_front, whose}
 use Rattle.m2_growth.proofs.Asked.{asked_at, end_there}
 use Rattle.m2_growth.proofs.Ends.{AreLater, later_before, later_behind, later_chain, later_swapped, own_first, own_last, own_tail}
 use Rattle.m2_growth.proofs.Going.{halves_same, record_same, records_same, trail_same}
 use Rattle.m2_growth.proofs.OneJudge.{one_judges}
 use Rattle.m2_growth.proofs.Holdings.{Around, IsHere, IsOnSocket, end_first, end_of, halves_with, halves_without, held_with, held_without, left, loose_end, of_others, of_this, others_on, parts_grow, socket_of, this_left, this_on, whose_left}
+use Rattle.m2_lemmas.proofs.Booleans.{false_isnt_true}
+use Rattle.m2_lemmas.proofs.Lists.{all_so}
+use Rattle.m2_fabric.proofs.Sockets.{among_front, among_part}
 
 -- ---- one record of all
 
@@ -31,7 +33,7 @@ use Rattle.m2_growth.proofs.Holdings.{Around, IsHere, IsOnSocket, end_first, end
 pub all_but_one : (P Q : RecordNow → Type 0) (rs : List RecordNow) (place : ℕ) (side behind : RecordNow) → place < length rs → slice_index_or rs place side ≡ side →
     ((r : RecordNow) → P r → Q r) → (P side → Q behind) → AllByRecursion P rs → AllByRecursion Q (slice_set rs place behind)
 all_but_one P Q [] place side behind within here others one all = absurd (omega (arith, within))
-all_but_one P Q (r ∷ rs) zero side behind within here others one all = (one (subst P here all.0), each P Q others rs all.1)
+all_but_one P Q (r ∷ rs) zero side behind within here others one all = (one (subst P here all.0), all_so P Q others rs all.1)
 all_but_one P Q (r ∷ rs) (suc n) side behind within here others one all = (others r all.0, all_but_one P Q rs n side behind (omega (arith, within)) here others one all.1)
 
 one_grows : (rs : List RecordNow) (place : ℕ) (side behind : RecordNow) → place < length rs → slice_index_or rs place side ≡ side → RecordGrows side behind → RecordsGrow rs (slice_set rs place behind)
@@ -195,7 +197,7 @@ record_judges c rs p place peer side behind own x =
       here = own.here;
       asked = asked_at (all_ends (held_with c rs p)) rs place side behind home.within home.here x.judges.since;
       judged = (λ j. record {
-        each = all_but_one (HasItsHalves (all_left h)) (HasItsHalves (all_left h)) rs place side behind home.within home.here (λ r f. f) (has_still c rs p place peer side behind x) j.each;
+        all_so = all_but_one (HasItsHalves (all_left h)) (HasItsHalves (all_left h)) rs place side behind home.within home.here (λ r f. f) (has_still c rs p place peer side behind x) j.each;
         made = all_but_one (AskedOnMade c.port.made) (AskedOnMade c.port.made) rs place side behind home.within home.here (λ r f. f) (made_still c rs p place peer side behind own x.judges) j.made;
         here = all_but_one (AskedTowards c.port.at) (AskedTowards c.port.at) rs place side behind home.within home.here (λ r f. f) (towards_still c rs p place peer side behind own x.judges) j.here;
         one_judge = one_still c rs p place peer side behind x.judges j.peers (mid_out (IsHeardBy rs) p c.before c.behind j.askers).0 j.one_judge;
@@ -230,7 +232,7 @@ others_have : (c : Around) (p : PendingNow) (peer : Addr) (r : RecordNow) → p.
 others_have c p peer r asker other (has, heard) k asked = at (among_part k (sockets_taken r) (sockets_left (all_left (halves_with c p))) (has k asked))
   where
     by : (k ≡ p.half.trail.socket) ⊎ (is_among k (sockets_left (all_left (halves_without c))) ≡ true) → is_among k (sockets_taken r ++ sockets_left (all_left (halves_without c))) ≡ true
-    by (inl e) = absurd (differ (sym other ∙ ap (λ o. is_asker o (peer_of r)) (sym asker) ∙ heard (ap (λ j. is_among j (asked_on r)) (sym e) ∙ asked)))
+    by (inl e) = absurd (false_isnt_true (sym other ∙ ap (λ o. is_asker o (peer_of r)) (sym asker) ∙ heard (ap (λ j. is_among j (asked_on r)) (sym e) ∙ asked)))
     by (inr h) = among_back k (sockets_taken r) (sockets_left (all_left (halves_without c))) h
 
     at : (is_among k (sockets_taken r) ≡ true) ⊎ (is_among k (sockets_left (all_left (halves_with c p))) ≡ true) → is_among k (sockets_taken r ++ sockets_left (all_left (halves_without c))) ≡ true
@@ -316,7 +318,7 @@ record_takes c rs p place peer side behind own x =
     judged j =
         let two = mid_out (IsHeardBy rs) p c.before c.behind j.askers in
         record {
-          each = with_one
+          all_so = with_one
               (λ r. HasItsHalves (all_left (halves_with c p)) r × (is_among p.half.trail.socket (asked_on r) ≡ true → is_asker p.asker (peer_of r) ≡ true))
               (HasItsHalves (all_left (halves_without c))) peer side behind rs place j.peers x.judges.home.within x.judges.home.here x.judges.home.same
               (λ r other both. others_have c p peer r x.judges.asker other both)

@@ -22,17 +22,18 @@ use Rattle.m2_growth.specs.Ends.{AreOfTheirOwn, EndsGrow}
 use Rattle.m2_growth.specs.Halves.{AskedOnMade, AskedTowards, HasItsHalves, IsHeardBy, all_left, asked_on, sockets_left}
 use Rattle.m2_growth.specs.Holding.{AreOwn, Grows, Holding, IsToCome, LeadsElsewhere, all_ends, ends_held, waiting_at}
 use Rattle.m2_growth.specs.Records.{IsFed, RecordGrows, RecordsGrow, ends_of_all}
-use Rattle.m2_growth.proofs.Among.{among_front}
 use Rattle.m2_growth.proofs.Asked.{asked_but_one, none_since}
 use Rattle.m2_growth.proofs.Ends.{AreLater, AreMade, AreStill, later_between, made_later, on_by}
-use Rattle.m2_growth.proofs.Going.{all_so, halves_same, record_chain, record_same, records_same}
+use Rattle.m2_growth.proofs.Going.{halves_same, record_chain, record_same, records_same}
 use Rattle.m2_growth.proofs.OneJudge.{one_same}
 use Rattle.m2_growth.proofs.Owned.{own_all}
+use Rattle.m2_fabric.proofs.Sockets.{among_front}
+use Rattle.m2_lemmas.proofs.Lists.{all_so_of}
 
 -- ---- lists with one item changed
 
 pub all_but_one : {X : Type 0} (P Q : X → Type 0) (x y : X) (xs ys : List X) → ((z : X) → P z → Q z) → (P x → Q y) → AllByRecursion P (xs ++ x ∷ ys) → AllByRecursion Q (xs ++ y ∷ ys)
-all_but_one P Q x y [] ys so one all = (one all.0, all_so P Q ys so all.1)
+all_but_one P Q x y [] ys so one all = (one all.0, all_so_of P Q ys so all.1)
 all_but_one P Q x y (z ∷ xs) ys so one all = (so z all.0, all_but_one P Q x y xs ys so one all.1)
 
 map_but_one : {X Y : Type 0} (f : X → Y) (x y : X) (xs ys : List X) → f y ≡ f x → map f (xs ++ y ∷ ys) ≡ map f (xs ++ x ∷ ys)
@@ -141,7 +142,7 @@ one_goes p q before rest r s halves port a ends own = record {
         own.elsewhere;
     fed = all_but_one IsFed IsFed r s before rest (λ x h. h) a.fed own.fed;
     on_socket = own.on_socket;
-    here = all_so (λ (l : LooseNow). goes_to p.at l.end.id ≡ true) (λ (l : LooseNow). goes_to q.at l.end.id ≡ true) (all_left halves) (λ l h. ap (λ at. goes_to at l.end.id) port.at ∙ h) own.here;
+    here = all_so_of (λ (l : LooseNow). goes_to p.at l.end.id ≡ true) (λ (l : LooseNow). goes_to q.at l.end.id ≡ true) (all_left halves) (λ l h. ap (λ at. goes_to at l.end.id) port.at ∙ h) own.here;
   };
   judged = λ was. record {
     each = all_but_one (HasItsHalves (all_left halves)) (HasItsHalves (all_left halves)) r s before rest (λ x h. h)
@@ -156,7 +157,7 @@ one_goes p q before rest r s halves port a ends own = record {
         (λ has k h. ap (λ at. goes_to at k) port.at ∙ has k (subst (λ l. is_among k l ≡ true) (still_asked r s a) h))
         was.here;
     one_judge = one_same r s before rest (still_asked r s a) was.one_judge;
-    askers = all_so (IsHeardBy (before ++ r ∷ rest)) (IsHeardBy (before ++ s ∷ rest)) halves.pending
+    askers = all_so_of (IsHeardBy (before ++ r ∷ rest)) (IsHeardBy (before ++ s ∷ rest)) halves.pending
         (λ x. heard_by_one x)
         was.askers;
     peers = subst (IsDistinct same_addr) (sym (map_but_one peer_of r s before rest (ap (λ f. f.peer) a.grows.facts))) was.peers;
@@ -207,4 +208,4 @@ one_advances p q before rest r s halves port a later own =
         (own_all old own)
 
     comes : AllByRecursion (IsToCome q) (waiting_at q)
-    comes = subst (AllByRecursion (IsToCome q)) (sym waits) (all_so (IsToCome p) (IsToCome q) (waiting_at p) (λ e h. record { here = ap (λ at. goes_to at e.id) port.at ∙ h.here; new = ap (is_among e.id) port.made ∙ h.new }) own.to_come)
+    comes = subst (AllByRecursion (IsToCome q)) (sym waits) (all_so_of (IsToCome p) (IsToCome q) (waiting_at p) (λ e h. record { here = ap (λ at. goes_to at e.id) port.at ∙ h.here; new = ap (is_among e.id) port.made ∙ h.new }) own.to_come)

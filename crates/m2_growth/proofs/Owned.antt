@@ -6,10 +6,11 @@ use Rattle.m2_fabric.specs.End.{SeenEnd}
 use Rattle.m2_fabric.specs.Port.{SeenPort}
 use Rattle.m2_fabric.specs.Sockets.{goes_to, is_among, same_socket}
 use Rattle.m2_record.specs.Sources.{end_at}
-use Rattle.m2_record.proofs.Names.{differ, same_equal}
 use Rattle.m2_growth.specs.Ends.{AreOfTheirOwn}
 use Rattle.m2_growth.specs.Holding.{AreOwn, Holding, IsToCome, all_ends, ends_held, waiting_at}
 use Rattle.m2_growth.proofs.Ends.{AreApart, among_or_not, made_none, none_cons, own_join}
+use Rattle.m2_lemmas.proofs.Booleans.{false_isnt_true}
+use Rattle.m2_fabric.proofs.Sockets.{same_equal}
 
 -- none of those that wait is of a socket that was made
 pub waiting_unmade : (p : SeenPort) (ends : List SeenEnd) (k : SocketId) → AllByRecursion (IsToCome p) ends → is_among k p.made ≡ true → end_at ends k ≡ None
@@ -17,7 +18,7 @@ waiting_unmade p [] k all made = refl
 waiting_unmade p (e ∷ es) k all made = at (same_socket k e.id) refl (waiting_unmade p es k all.1 made)
   where
     at : (b : Bool) → same_socket k e.id ≡ b → end_at es k ≡ None → end_at (e ∷ es) k ≡ None
-    at true same rest = absurd (differ (sym all.0.new ∙ ap (λ j. is_among j p.made) (sym (same_equal k e.id same)) ∙ made))
+    at true same rest = absurd (false_isnt_true (sym all.0.new ∙ ap (λ j. is_among j p.made) (sym (same_equal k e.id same)) ∙ made))
     at false other rest = none_cons e es k other rest
 
 -- nor of one that goes elsewhere
@@ -26,7 +27,7 @@ waiting_here p [] k all away = refl
 waiting_here p (e ∷ es) k all away = at (same_socket k e.id) refl (waiting_here p es k all.1 away)
   where
     at : (b : Bool) → same_socket k e.id ≡ b → end_at es k ≡ None → end_at (e ∷ es) k ≡ None
-    at true same rest = absurd (differ (sym away ∙ ap (goes_to p.at) (same_equal k e.id same) ∙ all.0.here))
+    at true same rest = absurd (false_isnt_true (sym away ∙ ap (goes_to p.at) (same_equal k e.id same) ∙ all.0.here))
     at false other rest = none_cons e es k other rest
 
 pub held_apart : (h : Holding) → AreOwn h → AreApart (ends_held h) (waiting_at h.port)

@@ -1,6 +1,5 @@
 -- The turns of records, one after another.
 use Rattle.std.proofs.Common.{◌≡◌, inl, inr, Bool, true, false, List, [], ◌∷◌, ◌++◌, None, Ok, Err, refl, sym, ap, subst, ◌∙◌, append-nil, append_assoc}
-use Rattle.std.specs.List.{AllByRecursion}
 use Rattle.std.proofs.lemmas.List.Elements.{filter_map-append}
 use Rattle.m2_dispatch.specs.Heard.{Heard}
 use Rattle.m2_journal.specs.declared.entry.Entry.{Entry}
@@ -26,6 +25,7 @@ use Rattle.m2_growth.proofs.Going.{grows_by, grows_then}
 use Rattle.m2_growth.proofs.OneRecord.{Advances, holding, one_advances}
 use Rattle.m2_growth.proofs.Standing.{MovesOn, moves_chain, moves_same}
 use Rattle.m2_growth.proofs.Steps.{steps}
+use Rattle.m2_center.proofs.Known.{none_judged}
 
 -- ---- what steps one after another do to a record
 
@@ -44,10 +44,6 @@ judges_none : (e : Entry) → BringsNoSocket e → judgement_of e ≡ None
 judges_none (entry.Opened socket) none = absurd none
 judges_none (entry.Judged socket ask number answer) none = absurd none
 judges_none _ none = refl
-
-none_judged : (es : List Entry) → AllByRecursion BringsNoSocket es → judgements_in es ≡ []
-none_judged [] none = refl
-none_judged (e ∷ es) none = rw (judges_none e none.0) (none_judged es none.1)
 
 pub advances_on : (r s : RecordNow) → StepsOn r s → Advances r s
 advances_on r s on = record {

@@ -19,7 +19,6 @@ use Rattle.m2_journal.specs.Replay.{after_items}
 use Rattle.m2_journal.specs.SideFacts.{SideFacts}
 use Rattle.m2_journal.specs.State.{State, start}
 use Rattle.m2_never_reset.specs.Frames.{frames_on}
-use Rattle.m2_never_reset.proofs.Sockets.{differ}
 use Rattle.m2_record.specs.RecordNow.{ends_of, speaks_of}
 use Rattle.m2_trail.specs.Asks.{IsMain}
 use Rattle.m2_trail.specs.Trails.{opener_of}
@@ -29,7 +28,6 @@ use Rattle.m2_bytes_fit.specs.Ends.{takings_on, wrote_on}
 use Rattle.m2_bytes_fit.specs.Halves.{KeepsRanges}
 use Rattle.m2_bytes_fit.specs.Texts.{texts_of}
 use Rattle.m2_bytes_fit.proofs.Kept.{KeptBy, OpenedKept, greeting_of, view}
-use Rattle.m2_bytes_fit.proofs.Lists.{all-back}
 use Rattle.m2_bytes_fit.proofs.Puts.{IsLate}
 use Rattle.m2_bytes_fit.proofs.Steps.{AllKept}
 use Rattle.m2_growth.specs.AskLaws.{ArePut, ArrivalsAreTheOpeners, AskedBy, AskersAreTheOpeners, AsksAreTheOpeners}
@@ -37,6 +35,8 @@ use Rattle.m2_growth.proofs.Entries.{IsKept, lawful_kept}
 use Rattle.m2_growth.proofs.Feeds.{BeginsAsking}
 use Rattle.m2_growth.proofs.Halves.{BeginSo, asked_by}
 use Rattle.m2_growth.proofs.Journals.{opened_in, untaken, wrote_all}
+use Rattle.m2_lemmas.proofs.Booleans.{from_false_true}
+use Rattle.m2_lemmas.proofs.Lists.{all_back}
 
 -- ---- of one journal
 
@@ -50,7 +50,7 @@ opened_at f is s k h o = at (is_among k s.opened) (takings_on k is) o refl (h k)
     at : (b : Bool) (ts : List (List ℕ)) → b ≡ true → takings_on k is ≡ ts → KeptBy f b ts (view is s k) → OpenedAt f is s k
     at true [] e q g = record { kept = g; untaken = q }
     at true (u ∷ us) e q g = absurd g
-    at false ts e q g = differ e
+    at false ts e q g = from_false_true e
 
 begin_so : (ws late : List OutFrame) (left : List ℕ) → BeginsAsking ws → IsLate late left → BeginSo (ws ++ late)
 begin_so (w ∷ ws) late left h l = inl h
@@ -109,7 +109,7 @@ pub arrivals_are : ArrivalsAreTheOpeners
 arrivals_are r k v is ranges o arrived put =
     let owes = arrived.owes in
     let asks = asks_are r k v.trail.entity (opener_of v.trail.socket) owes.exchange v.half is ranges o owes.comes (subst (ArePut r k) (sym owes.bytes) put) in
-    let last = all-back (λ ask. IsMain ask r.core.facts.mine) owes.earlier (bare_ask arrived.ask ∷ []) (subst (AllByRecursion (λ ask. IsMain ask r.core.facts.mine)) owes.last asks) in
+    let last = all_back (λ ask. IsMain ask r.core.facts.mine) owes.earlier (bare_ask arrived.ask ∷ []) (subst (AllByRecursion (λ ask. IsMain ask r.core.facts.mine)) owes.last asks) in
     subst (λ a. IfSome a (λ ask. IsMain ask r.core.facts.mine)) (sym arrived.in_hand) (main_stays_of arrived.ask r.core.facts.mine last.0)
 
 pub askers_are : AskersAreTheOpeners

@@ -68,10 +68,10 @@ use Rattle.m2_record.specs.RecordNow.{RecordNow}
 use Rattle.m2_record.specs.Stepping.{FeedStays, HandsAs, NothingDone, PlansAs, StepsAs, StepsBy, TakesDue, Worked}
 use Rattle.m2_growth.specs.Ends.{EndGrows}
 use Rattle.m2_growth.proofs.Calls.{grows_equal, read_grows, write_grows}
-use Rattle.m2_growth.proofs.Due.{to_be_composed}
 use Rattle.m2_growth.proofs.Ends.{grows_same}
 use Rattle.m2_growth.proofs.Standing.{FeedGrows, MovesOn, Stand, StandsOn, fixed_of, moves_chain, moves_same, stand_of, stands_chain, stands_entered, stands_grown, stands_left}
 use Rattle.m2_growth.proofs.Standing as stand
+use Rattle.m2_center.proofs.GoesOn.{to_be_composed}
 
 -- ---- feeds whose end is as it was, or was read or written
 

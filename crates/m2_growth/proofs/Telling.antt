@@ -13,13 +13,13 @@ use Rattle.m2_fabric.specs.News.{AreTold, Logs, Told, hears, is_about, is_closed
 use Rattle.m2_fabric.specs.SimFabric.{IsPassedOn, IsTold, Passes, fault_at}
 use Rattle.m2_fabric.proofs.Flowing.{after_by, bytes_in, closed_stays, directions_after, failing_is_quiet, hears_is, put_stays, tells, tells_readable}
 use Rattle.m2_fabric.proofs.Told.{end_equal}
-use Rattle.m2_record.proofs.Names.{differ}
 use Rattle.m2_weave.specs.Later.{GoesOn}
 use Rattle.m2_growth.specs.Ends.{come_to}
 use Rattle.m2_growth.specs.InStepLaws.{AreMet, StayMet}
 use Rattle.m2_growth.specs.Passed.{HasItsEnds, MadeHaveEnds, WaitingAreOpen}
 use Rattle.m2_growth.specs.Turn.{CameOfPut}
 use Rattle.m2_growth.proofs.Growing.{by_closed}
+use Rattle.m2_lemmas.proofs.Booleans.{false_isnt_true}
 
 -- ---- one end
 
@@ -72,7 +72,7 @@ told_none : (about over shut : Bool) (ts : List Told) → shut ≡ true → (if 
 told_none false over shut ts is = refl
 told_none true true shut ts is = refl
 told_none true false true ts is = refl
-told_none true false false ts is = absurd (differ is)
+told_none true false false ts is = absurd (false_isnt_true is)
 
 closed_told : (what : _) (l : Logs) (ds : _) (e : EndName) → is_closed (l e) ≡ true → told_to what l ds e ≡ []
 closed_told what l [] e shut = refl
@@ -90,7 +90,7 @@ log_closed : (h : SeenHolder) (e : EndName) (s : SeenEnd) → WaitingAreOpen h �
 log_closed h e s opens is shut = at (h.waits e.node e.id) refl
   where
     at : (w : Bool) → h.waits e.node e.id ≡ w → is_closed (option_map (λ (s : SeenEnd). s.log) (if w then None else h.ends e.node e.id)) ≡ true
-    at true waits = absurd (differ (sym (subst (λ o. MatchOption o ⊥ (λ (e : SeenEnd). e.log.closed ≡ false)) is (opens e.node e.id waits)) ∙ shut))
+    at true waits = absurd (false_isnt_true (sym (subst (λ o. MatchOption o ⊥ (λ (e : SeenEnd). e.log.closed ≡ false)) is (opens e.node e.id waits)) ∙ shut))
     at false waits = ap (λ o. is_closed (option_map (λ (s : SeenEnd). s.log) o)) is ∙ shut
 
 quiet_end : (what : _) (ds : _) (h : SeenHolder) (e : EndName) (o : Option SeenEnd) → WaitingAreOpen h → h.ends e.node e.id ≡ o → IsQuiet (told_to what (logs_of h) ds e) o
@@ -100,12 +100,12 @@ quiet_end what ds h e (Some s) opens is = λ shut. ap bytes_in (closed_told what
 -- ---- all directions
 
 -- what is said of their ends, whatever flowed
-behind : (P : EndName → EndName → Type 0) (what : _) (l : Logs) (ds : _) → AllByRecursion (λ d. P (reader d) (writer d)) ds → AllByRecursion (λ d. P (reader d) (writer d)) (map (after_by what l) ds)
+pub behind : (P : EndName → EndName → Type 0) (what : _) (l : Logs) (ds : _) → AllByRecursion (λ d. P (reader d) (writer d)) ds → AllByRecursion (λ d. P (reader d) (writer d)) (map (after_by what l) ds)
 behind P what l [] all = tt
 behind P what l (d ∷ ds) all = (all.0, behind P what l ds all.1)
 
 there_told : (ts : List Told) (o p : Option SeenEnd) → p ≡ option_map (hears ts) o → IsSome o → IsSome p
-there_told ts None p is there = absurd (differ there)
+there_told ts None p is there = absurd (false_isnt_true there)
 there_told ts (Some e) p is there = ap is_some is
 
 pub ends_told : (f : EndName → List Told) (a b : SeenHolder) (ds : _) → AreTold f a b → AllByRecursion (λ d. IsSome (end_of a (reader d))) ds → AllByRecursion (λ d. IsSome (end_of b (reader d))) ds

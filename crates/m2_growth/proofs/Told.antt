@@ -11,7 +11,6 @@ use Rattle.m2_journal.specs.Steps.{kept_of}
 use Rattle.m2_core.specs.LiveCalls.{tells_if}
 use Rattle.m2_core.specs.Effects.{closed_if, effects_of}
 use Rattle.m2_core.specs.LiveNow.{LiveNow}
-use Rattle.m2_record.proofs.Names.{differ}
 use Rattle.m2_session.specs.declared.answer.Answer.{Answer}
 use Rattle.m2_session.specs.declared.answer.Answer.TheVariants as answer
 use Rattle.m2_session.specs.declared.event.Event.{Event}
@@ -21,9 +20,10 @@ use Rattle.m2_session.specs.declared.session.Session.{Session}
 use Rattle.m2_session.specs.Ident.{ident_answer}
 use Rattle.m2_session.specs.SessionLaws.{ident_event, reconnect_event, takes}
 use Rattle.m2_session.specs.Phases.{is, is_among, with_feed}
-use Rattle.m2_session.specs.Reconnect.{Reconnect, reconnect_answer, reconnect_rows}
-use Rattle.m2_session.proofs.Rows.{each_answer}
+use Rattle.m2_session.specs.Reconnect.{Reconnect, reconnect_answer}
 use Rattle.m2_growth.proofs.Standing.{StandsOn, stands_by, stands_left}
+use Rattle.m2_core.proofs.Judged.{reconnect_takes}
+use Rattle.m2_lemmas.proofs.Booleans.{false_isnt_true}
 
 -- ---- by the answer
 
@@ -47,27 +47,21 @@ ident_taking answer.AcceptAgain client server global e = tt
 ident_taking answer.AcceptReplace client server global e = tt
 ident_taking answer.AcceptRace client server global e = tt
 ident_taking answer.Resume client server global e = tt
-ident_taking _ client server global e = absurd (differ e)
+ident_taking _ client server global e = absurd (false_isnt_true e)
 
 ident_quiet : (a : Answer) (client server global : ℕ) → takes a ≡ false → IsQuiet (ident_event a client server global)
-ident_quiet answer.Accept client server global e = absurd (differ (sym e))
-ident_quiet answer.AcceptOver client server global e = absurd (differ (sym e))
-ident_quiet (answer.AcceptReset full) client server global e = absurd (differ (sym e))
-ident_quiet answer.AcceptAgain client server global e = absurd (differ (sym e))
-ident_quiet answer.AcceptReplace client server global e = absurd (differ (sym e))
-ident_quiet answer.AcceptRace client server global e = absurd (differ (sym e))
-ident_quiet answer.Resume client server global e = absurd (differ (sym e))
+ident_quiet answer.Accept client server global e = absurd (false_isnt_true (sym e))
+ident_quiet answer.AcceptOver client server global e = absurd (false_isnt_true (sym e))
+ident_quiet (answer.AcceptReset full) client server global e = absurd (false_isnt_true (sym e))
+ident_quiet answer.AcceptAgain client server global e = absurd (false_isnt_true (sym e))
+ident_quiet answer.AcceptReplace client server global e = absurd (false_isnt_true (sym e))
+ident_quiet answer.AcceptRace client server global e = absurd (false_isnt_true (sym e))
+ident_quiet answer.Resume client server global e = absurd (false_isnt_true (sym e))
 ident_quiet _ client server global e = tt
 
 reconnect_quiet : (a : Answer) (ask : Reconnect) → takes a ≡ false → IsQuiet (reconnect_event a ask)
-reconnect_quiet answer.Resume ask e = absurd (differ (sym e))
+reconnect_quiet answer.Resume ask e = absurd (false_isnt_true (sym e))
 reconnect_quiet _ ask e = tt
-
-reconnect_takes : (s : Session) (ask : Reconnect) (written : ℕ) → takes (reconnect_answer s ask written) ≡ true → reconnect_answer s ask written ≡ answer.Resume
-reconnect_takes s ask written =
-    each_answer (λ a. takes a ≡ true → a ≡ answer.Resume) (reconnect_rows s ask written) answer.Resume
-    (λ h. cc, (λ h. cc, (λ h. cc, (λ h. cc, (λ h. cc, (λ h. cc, (λ h. cc, (λ h. cc, tt))))))))
-    (λ h. refl)
 
 -- the answer by the tables to an ask of this kind, and what is told of one
 abbrev answered_by : Bool → Session → AskFacts → (written : ℕ) → Answer

@@ -1,5 +1,5 @@
 -- An acceptor that has read a greeting reads the ask behind it.
-use Rattle.std.proofs.Common.{◌≡◌, ℕ, ◌+◌, ◌*◌, ◌≤◌, ◌<◌, ◌^◌, ◌⊎◌, inl, inr, true, List, [], ◌∷◌, ◌++◌, length, Option, Some, None, Result, Ok, Err, is_ok, refl, sym, ap, ◌∙◌, subst, arith, append_assoc, length-append}
+use Rattle.std.proofs.Common.{◌≡◌, ℕ, ◌+◌, ◌*◌, ◌≤◌, ◌<◌, ◌^◌, ◌⊎◌, inl, inr, true, List, [], ◌∷◌, ◌++◌, length, Some, None, Result, Ok, Err, is_ok, refl, sym, ap, ◌∙◌, subst, arith, append_assoc, length-append}
 use Rattle.std.specs.Int.{w64, to_le_bytes}
 use Rattle.std.specs.List.{AllByRecursion, flat_map}
 use Rattle.std.proofs.lemmas.List.Concat.{flat_map-cons}
@@ -18,8 +18,7 @@ use Rattle.m2_control.specs.ClientIdent.{bare_client_ident, client_ident_text}
 use Rattle.m2_control.specs.Ident.{tail_text}
 use Rattle.m2_control.specs.SessionReconnect.{bare_session_reconnect, session_reconnect_text}
 use Rattle.m2_control.specs.Laws.{HasAddrRanges, client_tail}
-use Rattle.m2_frame.specs.Frame.{Parts, Fits}
-use Rattle.m2_frame.specs.Reading.{Front, whole, text, judge}
+use Rattle.m2_frame.specs.Reading.{whole, text, judge}
 use Rattle.m2_frame.specs.Text as frame
 use Rattle.m2_frame.proofs.Spelled.{item_text-judged}
 use Rattle.m2_frame.proofs.Written.{text_of-written}
@@ -30,7 +29,7 @@ use Rattle.m2_handshake.specs.declared.ask.AskStep.TheVariants as step
 use Rattle.m2_handshake.specs.declared.fault.HalfFault.{HalfFault}
 use Rattle.m2_handshake.specs.declared.stage.HalfSide.TheVariants.{Acceptor}
 use Rattle.m2_handshake.specs.declared.stage.Stage.TheVariants.{Authed, Asked}
-use Rattle.m2_handshake.specs.Asking.{AskAnswers, AskEnds}
+use Rattle.m2_handshake.specs.Asking.{AskEnds}
 use Rattle.m2_handshake.specs.Asks.{bare_ask, known_main, under, asked_of, ask_in}
 use Rattle.m2_handshake.specs.Course.{Exchange, Reaches}
 use Rattle.m2_handshake.specs.Greeting.{greeting, welcome, control_of, addrs_of, KeepsBounds, Behind, text_behind, HasAsked, AskGives, AsksNext, IsGreeted, GreetingIsAsked}
@@ -39,11 +38,11 @@ use Rattle.m2_handshake.specs.Standing.{Standing, acceptor_at_start}
 use Rattle.m2_handshake.specs.Texts.{control_parts, frame_text, hello, request, signature}
 use Rattle.m2_handshake.specs.Moves.{features}
 use Rattle.m2_control.specs.Banner.{banner_text}
-use Rattle.m2_handshake.proofs.Asks.{main_same}
 use Rattle.m2_handshake.proofs.Greeting.{IsSent, payload_read, no_bytes, at, signs_there}
 use Rattle.m2_handshake.proofs.Leading.{true_isnt_false}
 use Rattle.m2_handshake.proofs.Reaching.{by_move, silently, asking}
 use Rattle.m2_handshake.proofs.Speaking.{authed_greets}
+use Rattle.m2_control.proofs.Raised.{main_same}
 
 -- ---- how long its text is
 

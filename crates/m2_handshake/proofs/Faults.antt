@@ -31,7 +31,7 @@ IsSound _ = Unit {0}
 isnt_fails : (f : HalfFault) (m : Move) → IsSound m → m ≡ fails f → ⊥
 isnt_fails f m h e = subst IsSound e h
 
-same_fault : (f g : HalfFault) → fails g ≡ fails f → g ≡ f
+pub same_fault : (f g : HalfFault) → fails g ≡ fails f → g ≡ f
 same_fault f g e = cc
 
 no_quiet : (move : Standing → Move) (f : HalfFault) (ms : List Standing) (a b : Standing) → move a ≡ fails f → Quietly move ms a b → a ≡ b

@@ -32,29 +32,15 @@ use Rattle.m2_handshake.specs.Standing.{Standing, fed, acceptor_at_start}
 use Rattle.m2_handshake.specs.Steps.{Reaction, says, listens, signed, after_payload, after_frame}
 use Rattle.m2_handshake.specs.Texts.{control_parts, frame_text, hello, request, done, signature}
 use Rattle.m2_handshake.proofs.Banners.{is_step}
+use Rattle.m2_lemmas.proofs.Bytes.{four_bytes, two_bytes, four_bytes_turned, two_bytes_turned, eight_zeros as zeros, eight_zeros_before}
 
 abbrev IsByte : ℕ → Type 0
 IsByte b = b < 256
 
-four_bytes : (n : ℕ) → All (λ b. b < 256) (to_le_bytes w32 n)
-four_bytes n = All-from_recursion IsByte (to_le_bytes w32 n) (omega arith, (omega arith, (omega arith, (omega arith, tt))))
-
-two_bytes : (n : ℕ) → All (λ b. b < 256) (to_le_bytes w16 n)
-two_bytes n = All-from_recursion IsByte (to_le_bytes w16 n) (omega arith, (omega arith, tt))
-
-four_first : (n : ℕ) → All (λ b. b < 256) (to_be_bytes w32 n)
-four_first n = All-from_recursion IsByte (to_be_bytes w32 n) (omega arith, (omega arith, (omega arith, (omega arith, tt))))
-
-two_first : (n : ℕ) → All (λ b. b < 256) (to_be_bytes w16 n)
-two_first n = All-from_recursion IsByte (to_be_bytes w16 n) (omega arith, (omega arith, tt))
-
 pub no_bytes : All (λ b. b < 256) []
 no_bytes = All-from_recursion IsByte [] tt
 
-zeros : All (λ b. b < 256) (0 ∷ 0 ∷ 0 ∷ 0 ∷ 0 ∷ 0 ∷ 0 ∷ 0 ∷ [])
-zeros = All-from_recursion IsByte (0 ∷ 0 ∷ 0 ∷ 0 ∷ 0 ∷ 0 ∷ 0 ∷ 0 ∷ []) (omega arith, (omega arith, (omega arith, (omega arith, (omega arith, (omega arith, (omega arith, (omega arith, tt))))))))
-
-address_bytes : (a : Addr) → All (λ b. b < 256) (ipv4_text a)
+pub address_bytes : (a : Addr) → All (λ b. b < 256) (ipv4_text a)
 address_bytes a =
     let ip = to_be_bytes w32 a.ip ++ 0 ∷ 0 ∷ 0 ∷ 0 ∷ 0 ∷ 0 ∷ 0 ∷ 0 ∷ [] in
     let port = to_be_bytes w16 a.port ++ ip in
@@ -66,8 +52,8 @@ address_bytes a =
     All-cons IsByte 1 (1 ∷ 1 ∷ body) (omega arith) (All-cons IsByte 1 (1 ∷ body) (omega arith) (All-cons IsByte 1 body (omega arith)
     (All-append IsByte (to_le_bytes w32 28) kind (four_bytes 28) (All-append IsByte (to_le_bytes w32 a.kind) nonce (four_bytes a.kind)
     (All-append IsByte (to_le_bytes w32 a.nonce) size (four_bytes a.nonce) (All-append IsByte (to_le_bytes w32 16) family (four_bytes 16)
-    (All-append IsByte (to_le_bytes w16 2) port (two_bytes 2) (All-append IsByte (to_be_bytes w16 a.port) ip (two_first a.port)
-    (All-append IsByte (to_be_bytes w32 a.ip) (0 ∷ 0 ∷ 0 ∷ 0 ∷ 0 ∷ 0 ∷ 0 ∷ 0 ∷ []) (four_first a.ip) zeros)))))))))
+    (All-append IsByte (to_le_bytes w16 2) port (two_bytes 2) (All-append IsByte (to_be_bytes w16 a.port) ip (two_bytes_turned a.port)
+    (All-append IsByte (to_be_bytes w32 a.ip) (0 ∷ 0 ∷ 0 ∷ 0 ∷ 0 ∷ 0 ∷ 0 ∷ 0 ∷ []) (four_bytes_turned a.ip) zeros)))))))))
 
 -- a payload whose frame is read as it was written
 pub record IsSent (c : Control) : Type 0 where
@@ -78,7 +64,7 @@ pub record IsSent (c : Control) : Type 0 where
 pub payload_read : (c : Control) → HasRanges c → IsInBounds c → payload_in (payload.tag_of c) (payload.text_of c) ≡ Ok (payload.bare c)
 payload_read c r b = ap of_payload (written_is_read c r b).read
 
-hello_sent : (entity : ℕ) (a : Addr) → entity < 2 ^ 8 → HasAddrRanges a → IsSent (hello entity a)
+pub hello_sent : (entity : ℕ) (a : Addr) → entity < 2 ^ 8 → HasAddrRanges a → IsSent (hello entity a)
 hello_sent entity a e h = record {
   fits = record { tag_from = omega arith; tag_to = omega arith; count = omega arith; first = omega arith; second = omega arith; third = omega arith; fourth = omega arith };
   bytes = record { first = All-cons IsByte entity (ipv4_text a) (omega (arith, e)) (address_bytes a); second = no_bytes; third = no_bytes; fourth = no_bytes };
@@ -119,15 +105,12 @@ request_sent = record {
   read = payload_read request (omega arith, (omega arith, tt)) (omega arith, omega arith);
 }
 
-eight_zeros : (more : List ℕ) → All (λ b. b < 256) more → All (λ b. b < 256) (0 ∷ 0 ∷ 0 ∷ 0 ∷ 0 ∷ 0 ∷ 0 ∷ 0 ∷ more)
-eight_zeros more h = All-append IsByte (0 ∷ 0 ∷ 0 ∷ 0 ∷ 0 ∷ 0 ∷ 0 ∷ 0 ∷ []) more zeros h
-
 signature_bytes : All (λ b. b < 256) (payload.text_of signature)
 signature_bytes =
     let eight = 0 ∷ 0 ∷ 0 ∷ 0 ∷ 0 ∷ 0 ∷ 0 ∷ 0 ∷ [] in
     let sixteen = 0 ∷ 0 ∷ 0 ∷ 0 ∷ 0 ∷ 0 ∷ 0 ∷ 0 ∷ eight in
     let most = 0 ∷ 0 ∷ 0 ∷ 0 ∷ 0 ∷ 0 ∷ 0 ∷ 0 ∷ sixteen in
-    eight_zeros most (eight_zeros sixteen (eight_zeros eight zeros))
+    eight_zeros_before most (eight_zeros_before sixteen (eight_zeros_before eight zeros))
 
 signature_sent : IsSent signature
 signature_sent = record {

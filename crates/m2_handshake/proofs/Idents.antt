@@ -5,7 +5,7 @@ use Rattle.m2_addr.specs.declared.addr.Addr.{Addr}
 use Rattle.m2_handshake.specs.Asks.{same_addr}
 use Rattle.m2_handshake.specs.Ident.{same_flag}
 
-same_self : (a : Addr) → same_addr a a ≡ true
+pub same_self : (a : Addr) → same_addr a a ≡ true
 same_self a =
     let two = and_from (a.kind == a.kind) (a.nonce == a.nonce) (eq-eqb a.kind a.kind refl) (eq-eqb a.nonce a.nonce refl) in
     let three = and_from ((a.kind == a.kind) && (a.nonce == a.nonce)) (a.ip == a.ip) two (eq-eqb a.ip a.ip refl) in
@@ -19,7 +19,7 @@ same_fields a b k n i p =
     ap (λ (x : ℕ). record a { kind = x }) k ∙ ap (λ (x : ℕ). record { kind = b.kind; nonce = x; ip = a.ip; port = a.port }) n
     ∙ ap (λ (x : ℕ). record { kind = b.kind; nonce = b.nonce; ip = x; port = a.port }) i ∙ ap (λ (x : ℕ). record b { port = x }) p
 
-same_means : (a b : Addr) → same_addr a b ≡ true → a ≡ b
+pub same_means : (a b : Addr) → same_addr a b ≡ true → a ≡ b
 same_means a b e =
     let all = and_parts (((a.kind == b.kind) && (a.nonce == b.nonce)) && (a.ip == b.ip)) (a.port == b.port) e in
     let three = and_parts ((a.kind == b.kind) && (a.nonce == b.nonce)) (a.ip == b.ip) all.0 in

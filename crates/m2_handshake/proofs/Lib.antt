@@ -1,5 +1,4 @@
 pub mod Asked
-pub mod Asks
 pub mod Banners
 pub mod Course
 pub mod Faults

@@ -46,7 +46,7 @@ more_writes_more begin s other x y r k o (more, b) (later, c) =
 
 -- ---- what is unread
 
-faulty_isnt_asked : (f : HalfFault) → Asked ≡ Faulty f → ⊥
+pub faulty_isnt_asked : (f : HalfFault) → Asked ≡ Faulty f → ⊥
 faulty_isnt_asked f e = cc
 
 -- from a fault nothing is done

@@ -22,6 +22,7 @@ use Rattle.m2_handshake.specs.Standing.{Standing, grown, fed, fed_at, fallen, fa
 use Rattle.m2_handshake.specs.Texts.{IsReply}
 use Rattle.m2_handshake.proofs.Course.{waiting, ended, feeds, next, come}
 use Rattle.m2_handshake.proofs.Leading.{is_faulty, is_over, tells, true_isnt_false}
+use Rattle.m2_handshake.proofs.Faults.{same_fault}
 
 -- ---- a move of the handshake, and one towards an ask, as one of the course
 
@@ -59,10 +60,10 @@ unover s m e h = unover_at s.stage s m e h
 pub handshake_on : (s : Standing) (m : Move) → move_of s ≡ m → IsOn m → course_move s ≡ m
 handshake_on s m e h = same_move s (unover s m e h) ∙ e
 
-same_signs : (a b : Standing) → signs a ≡ signs b → a ≡ b
+pub same_signs : (a b : Standing) → signs a ≡ signs b → a ≡ b
 same_signs a b e = cc
 
-fails_isnt_signs : (f : HalfFault) (s : Standing) → fails f ≡ signs s → ⊥
+pub fails_isnt_signs : (f : HalfFault) (s : Standing) → fails f ≡ signs s → ⊥
 fails_isnt_signs f s e = cc
 
 signs_isnt_fails : (f : HalfFault) (s : Standing) → signs s ≡ fails f → ⊥
@@ -265,7 +266,7 @@ was_asked result begin old new x r c a =
 was_replied : (c : Control) (begin : Standing) (old new : Writer) (x : Exchange) → Reaches begin x old.standing → old.standing.stage ≡ Asked → IsReply c → Replies (Ok tt) c old new → Reaches begin (with_reply c x) new.standing
 was_replied c begin old new x r q i h = replying begin old.standing new.standing x c r (q, i, h.0)
 
-fed_none_at : (stage : Stage) (s : Standing) → fed_at stage s [] ≡ s
+pub fed_none_at : (stage : Stage) (s : Standing) → fed_at stage s [] ≡ s
 fed_none_at Opening s = ap (λ (l : List ℕ). record s { rest = l }) (append-nil s.rest)
 fed_none_at Banner s = ap (λ (l : List ℕ). record s { rest = l }) (append-nil s.rest)
 fed_none_at (Waits awaited) s = ap (λ (l : List ℕ). record s { rest = l }) (append-nil s.rest)
@@ -318,9 +319,6 @@ at_its_course begin s x r o =
 
 rests_next : (old new : Writer) → Answers answer.NotYet old new → IsRested new.standing
 rests_next old new a = subst (λ (w : Writer). IsRested w.standing) (sym a.ends.1) (waiting a.mid (handshake_on a.mid stays a.ends.0 tt))
-
-same_fault : (f g : HalfFault) → fails g ≡ fails f → g ≡ f
-same_fault f g e = cc
 
 fault_kept_at : (stage : Stage) (f : HalfFault) (s : Standing) → s.stage ≡ stage → (stage ≡ Faulty f) ⊎ (is_faulty stage ≡ false) → (faulted_at stage f s).stage ≡ Faulty f
 fault_kept_at Opening f s q h = refl

@@ -5,18 +5,17 @@ use Rattle.std.proofs.lemmas.List.{append_cancel_left}
 use Rattle.m2_control.specs.declared.control.Control.{Control}
 use Rattle.m2_control.specs.declared.control.Control.TheVariants as control
 use Rattle.m2_handshake.specs.declared.answer.HalfStep.TheVariants as answer
-use Rattle.m2_handshake.specs.declared.fault.HalfFault.{HalfFault}
 use Rattle.m2_handshake.specs.declared.stage.Stage.{Stage}
 use Rattle.m2_handshake.specs.declared.stage.Stage.TheVariants.{Opening, Banner, Waits, Authed, Asked, Ended, Faulty}
 use Rattle.m2_handshake.specs.Asking.{after_reply}
 use Rattle.m2_handshake.specs.Course.{course_move, Event, silent, wrote, asked, failed, replied, goes, Goes, Runs, text_in, replies_in, text_of, replies_of, Exchange, Reaches, Signs}
 use Rattle.m2_handshake.specs.Half.{Writer, Answers}
 use Rattle.m2_handshake.specs.Laws.{GoesOnTo, SignsOnce}
-use Rattle.m2_handshake.specs.Moves.{quiet, signs, fails, move_at, move_of, is_authed, Quietly}
+use Rattle.m2_handshake.specs.Moves.{quiet, signs, move_at, move_of, is_authed, Quietly}
 use Rattle.m2_handshake.specs.Standing.{Standing, fed}
 use Rattle.m2_handshake.proofs.Course.{owing, ways, rests_isnt_goes}
 use Rattle.m2_handshake.proofs.Leading.{is_over, Leads, leads, tells, true_isnt_false}
-use Rattle.m2_handshake.proofs.Reaching.{same_move, unover, by_move, handshake_on, quietly_reaches}
+use Rattle.m2_handshake.proofs.Reaching.{same_move, unover, by_move, handshake_on, quietly_reaches, same_signs, fails_isnt_signs}
 
 -- ---- once it is over only replies are written
 
@@ -29,7 +28,7 @@ authed_over Asked q = refl
 authed_over Ended q = refl
 authed_over (Faulty f) q = refl
 
-unover_unauthed : (stage : Stage) → is_over stage ≡ false → is_authed stage ≡ false
+pub unover_unauthed : (stage : Stage) → is_over stage ≡ false → is_authed stage ≡ false
 unover_unauthed Opening o = refl
 unover_unauthed Banner o = refl
 unover_unauthed (Waits awaited) o = refl
@@ -87,9 +86,6 @@ signed begin s other x y b c r q k p =
 
 -- ---- a half signs once
 
-fails_isnt_signs : (f : HalfFault) (s : Standing) → fails f ≡ signs s → ⊥
-fails_isnt_signs f s e = cc
-
 signing_at : (stage : Stage) (s t : Standing) → is_authed stage ≡ false → move_at stage s ≡ signs t → is_over stage ≡ false
 signing_at Opening s t q e = refl
 signing_at Banner s t q e = refl
@@ -145,9 +141,6 @@ same_signature ds es a b t u h i (inl w) =
 same_signature ds es a b t u h i (inr w) =
     let none = no_further w.0 b a u t i h w.2 in
     (w.1 ∙ ap (λ l. es ++ l) none.0 ∙ append-nil es, sym none.1)
-
-same_signs : (a b : Standing) → signs a ≡ signs b → a ≡ b
-same_signs a b e = cc
 
 one : (begin s other : Standing) (x y : Exchange) → x.bytes ≡ y.bytes → x.replies ≡ y.replies → Signs begin x s → Signs begin y other → (x.text ≡ y.text) × (s ≡ other)
 one begin s other x y b c (mid, r, h) (end, k, i) =

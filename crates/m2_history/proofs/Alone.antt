@@ -10,7 +10,7 @@ use Rattle.m2_fabric.specs.Log.{Log}
 use Rattle.m2_session.specs.declared.ask.AskFacts.{AskFacts}
 use Rattle.m2_bytes_fit.specs.Halves.{KeepsRanges}
 use Rattle.m2_bytes_fit.proofs.Acceptors.{as_asked, HasWelcomed, IsAsked as IsAskedSo, accepts}
-use Rattle.m2_bytes_fit.proofs.Lists.{not_nil, nothing_before}
+use Rattle.m2_bytes_fit.proofs.Lists.{not_nil}
 use Rattle.m2_bytes_fit.proofs.Points.{no_map}
 use Rattle.m2_handshake.specs.Course.{Exchange, Reaches}
 use Rattle.m2_handshake.specs.Greeting.{greeting}
@@ -22,7 +22,6 @@ use Rattle.m2_journal.specs.Items.{at_start, run_of, runs_on}
 use Rattle.m2_journal.specs.Lawful.{judged_on}
 use Rattle.m2_journal.specs.SideFacts.{SideFacts}
 use Rattle.m2_weave.specs.Order.{Cut}
-use Rattle.m2_never_reset.proofs.Sockets.{same_refl}
 use Rattle.m2_never_reset.specs.Frames.{ask_of}
 use Rattle.m2_record.specs.TakenTrails.{judgements_in}
 use Rattle.m2_trail.specs.Asks.{facts_of_ask}
@@ -40,6 +39,9 @@ use Rattle.m2_history.proofs.WovenHalves.{half_opens_none, half_reads}
 use Rattle.m2_history.proofs.Journals.{judged_count, opened_unjudged}
 use Rattle.m2_history.proofs.Scene.{IsHalfAt, IsHalfIn, IsScene, Setting, adds_none, end_at, handed_is, opens_in, strand_is, strands_in, woven_in}
 use Rattle.m2_history.proofs.Sums.{none_adds, strand_in}
+use Rattle.m2_history.proofs.Moved.{total_never}
+use Rattle.m2_lemmas.proofs.Lists.{empty_front}
+use Rattle.m2_fabric.proofs.Sockets.{same_refl}
 
 -- ---- a half that has read nothing
 
@@ -49,7 +51,7 @@ none_asked f named t x s comes given =
   where
     at : HasWelcomed t.entity (trail.opener_of t.socket) x ⊎ IsAskedSo f t.entity (trail.opener_of t.socket) [] (greeting f.node.entity f.peer []) x s → x.asks ≡ []
     at (inl w) = w.asks
-    at (inr i) = no_map as_asked x.asks (i.asks ∙ ap (map ask_of) (nothing_before i.used i.left (sym i.all)))
+    at (inr i) = no_map as_asked x.asks (i.asks ∙ ap (map ask_of) (empty_front i.used i.left (sym i.all)))
 
 -- ---- lists
 
@@ -70,15 +72,11 @@ first_reads k n es =
     let sum = read_by-append (runs_on k (take n es)) (runs_on k (drop n es)) in
     omega (arith, parts, sum)
 
-total_never : (f : StrandItem → ℕ) (is : List StrandItem) → ((i : StrandItem) → f i ≡ 0) → total f is ≡ 0
-total_never f [] h = refl
-total_never f (i ∷ is) h = omega (arith, h i, total_never f is h)
-
 handed_noted : (k : SocketId) (es : List Entry) (is : List StrandItem) → total (handed_by k) (map Noted es) ≡ 0
 handed_noted k [] is = refl
 handed_noted k (e ∷ es) is = omega (arith, handed_noted k es is)
 
-total_joined : (f : StrandItem → ℕ) (xs ys : List StrandItem) → total f (xs ++ ys) ≡ total f xs + total f ys
+pub total_joined : (f : StrandItem → ℕ) (xs ys : List StrandItem) → total f (xs ++ ys) ≡ total f xs + total f ys
 total_joined f [] ys = omega arith
 total_joined f (x ∷ xs) ys = omega (arith, total_joined f xs ys)
 
@@ -143,7 +141,7 @@ module _ (x : Setting) (sc : IsScene x) (named : (s : Bool) → KeepsRanges (x.f
         let bytes : it.exchange.bytes ≡ [] = it.fed ∙ take_fewer (trail.read_by runs) (trail.read_by (runs_of t)) log.got (first_reads t.socket (slice_index t.judged_after 0) t.entries) (reads_none closed) in
         let asks = none_asked (x.facts s) (named s) t it.exchange it.standing it.comes bytes in
         some_first (λ (i : JudgedItem). i.ask) t.judged some
-        (nothing_before (map (λ (i : JudgedItem). i.ask) (take 1 t.judged)) it.first.0 (sym it.first.1 ∙ ap (map facts_of_ask) asks))
+        (empty_front (map (λ (i : JudgedItem). i.ask) (take 1 t.judged)) it.first.0 (sym it.first.1 ∙ ap (map facts_of_ask) asks))
 
     other_judges : (js : List JudgedItem) → judged_on t.socket (judgements_in (x.journals (not s))) ≡ js → js ≡ []
     other_judges [] e = refl

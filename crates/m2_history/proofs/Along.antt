@@ -12,7 +12,6 @@ use Rattle.m2_bytes_fit.specs.Trails.{TrailsTellEachPoint}
 use Rattle.m2_history.specs.HalfStrands.{OrdersGivePoints, strand_of}
 use Rattle.m2_journal.specs.Items.{at_start, items_of}
 use Rattle.m2_weave.specs.Order.{AreLawful, Cut, come_all, nothing}
-use Rattle.m2_never_reset.proofs.Sockets.{same_refl}
 use Rattle.m2_trail.specs.Trails.{HalfBytes, TrailNow}
 use Rattle.m2_weave.specs.WeaveLaws.{AsksComeFirst, IsAsked, IsRead, ReadWasWritten}
 use Rattle.m2_weave.specs.Rule.{by_bytes, strand_at}
@@ -27,6 +26,7 @@ use Rattle.m2_history.proofs.Moved.{HalvesAre}
 use Rattle.m2_history.proofs.Scene as scene
 use Rattle.m2_history.proofs.Scene.{IsHalfAt, IsScene, Setting, actor_within, items_in, other_half, woven_in}
 use Rattle.m2_history.proofs.Walk.{added_at, far_entries, gathered, gathered_items, got_gathered, item_in, items_here, items_of_half, items_there, moves_elsewhere, moves_here, moves_in, moves_of_other, moves_of_record, near_entries, none_picked, picked, put_gathered}
+use Rattle.m2_fabric.proofs.Sockets.{same_refl}
 
 -- ---- where an order begins
 

@@ -8,7 +8,6 @@ use Rattle.m2_fabric.specs.Sockets.{is_among, same_socket}
 use Rattle.m2_bytes_fit.proofs.Lists.{cons_same, nil_not}
 use Rattle.m2_history.specs.Woven.{BytesNow, EndNow, RowNow, bytes_at, end_of, row_in, row_now, rows_of}
 use Rattle.m2_journal.specs.declared.entry.Entry.{Entry}
-use Rattle.m2_never_reset.proofs.Sockets.{differ, same_equal, same_refl, turned_same}
 use Rattle.m2_record.specs.RecordNow.{ids_of}
 use Rattle.m2_record.specs.Sources.{log_at}
 use Rattle.m2_weave.specs.Counting.{place_in}
@@ -16,6 +15,8 @@ use Rattle.m2_weave.specs.declared.table.SocketBytes.{SocketBytes}
 use Rattle.m2_weave.specs.Strands.{has_opened, journal_of, same_side}
 use Rattle.m2_weave.specs.Table.{bytes_of, got_at, names_of, put_at}
 use Rattle.m2_history.specs.WovenLink.{same_end}
+use Rattle.m2_lemmas.proofs.Booleans.{from_false_true}
+use Rattle.m2_fabric.proofs.Sockets.{same_equal, same_refl, same_turned}
 
 -- ---- one of a list
 
@@ -32,7 +33,7 @@ pub of_right : {X : Type 0} (x : X) (xs ys : List X) → IsOf x ys → IsOf x (x
 of_right x [] ys h = h
 of_right x (y ∷ xs) ys h = inr (of_right x xs ys h)
 
-all_is : {X : Type 0} (P : X → Type 0) (x : X) (xs : List X) → AllByRecursion P xs → IsOf x xs → P x
+pub all_is : {X : Type 0} (P : X → Type 0) (x : X) (xs : List X) → AllByRecursion P xs → IsOf x xs → P x
 all_is P x [] all h = absurd h
 all_is P x (y ∷ xs) all (inl e) = subst P e all.0
 all_is P x (y ∷ xs) all (inr h) = all_is P x xs all.1 h
@@ -64,7 +65,7 @@ Told sockets all k o =
 
 told_at : (all : List EndNow) (es : List EndNow) (sockets : List SocketBytes) (k : SocketId) (o : Bool) → map row_now sockets ≡ map (row_in all) es → is_among k (map (λ (e : EndNow). e.socket) es) ≡ true →
     Told sockets all k o
-told_at all [] sockets k o e h = differ h
+told_at all [] sockets k o e h = from_false_true h
 told_at all (x ∷ es) [] k o e h = nil_not e
 told_at all (x ∷ es) (s ∷ sockets) k o e h =
     let both = cons_same (row_now s) (row_in all x) (map row_now sockets) (map (row_in all) es) e in
@@ -89,20 +90,20 @@ told_at all (x ∷ es) (s ∷ sockets) k o e h =
 
 -- ---- an end
 
-same_side_refl : (b : Bool) → same_side b b ≡ true
+pub same_side_refl : (b : Bool) → same_side b b ≡ true
 same_side_refl true = refl
 same_side_refl false = refl
 
-same_side_turned : (a b : Bool) → same_side a b ≡ same_side b a
+pub same_side_turned : (a b : Bool) → same_side a b ≡ same_side b a
 same_side_turned true true = refl
 same_side_turned true false = refl
 same_side_turned false true = refl
 same_side_turned false false = refl
 
-same_end_turned : (d e : EndNow) → same_end d e ≡ same_end e d
-same_end_turned d e = ap (λ b. b && same_side d.opener e.opener) (turned_same d.socket e.socket) ∙ ap (λ b. same_socket e.socket d.socket && b) (same_side_turned d.opener e.opener)
+pub same_end_turned : (d e : EndNow) → same_end d e ≡ same_end e d
+same_end_turned d e = ap (λ b. b && same_side d.opener e.opener) (same_turned d.socket e.socket) ∙ ap (λ b. same_socket e.socket d.socket && b) (same_side_turned d.opener e.opener)
 
-own_end : (e : EndNow) → same_end e e ≡ true
+pub own_end : (e : EndNow) → same_end e e ≡ true
 own_end e = ap (λ b. b && same_side e.opener e.opener) (same_refl e.socket) ∙ same_side_refl e.opener
 
 its_bytes : (e : EndNow) (ends : List EndNow) → IsDistinct same_end ends → IsOf e ends → bytes_at e.socket e.opener ends ≡ record { got = e.got; put = e.put }
@@ -145,7 +146,7 @@ pub record HasEnd (journal : List Entry) (ends : List SeenEnd) (k : SocketId) : 
   pub put : end.put ≡ (log_at ends k).put
 
 pub end_there : (journal : List Entry) (ends : List SeenEnd) (k : SocketId) → is_among k (ids_of ends) ≡ true → HasEnd journal ends k
-end_there journal [] k h = differ h
+end_there journal [] k h = from_false_true h
 end_there journal (e ∷ ends) k h = at (same_socket k e.id) refl (end_there journal ends k)
   where
     at : (b : Bool) → same_socket k e.id ≡ b → (is_among k (ids_of ends) ≡ true → HasEnd journal ends k) → HasEnd journal (e ∷ ends) k

@@ -8,7 +8,6 @@ use Rattle.m2_fabric.specs.declared.socket.SocketId.{SocketId}
 use Rattle.m2_fabric.specs.Log.{Log}
 use Rattle.m2_fabric.specs.Sockets.{is_among}
 use Rattle.m2_bytes_fit.specs.Trails.{IsHalfAt, TrailsTellEachPoint, bytes_after}
-use Rattle.m2_bytes_fit.proofs.Orders.{lawful-front}
 use Rattle.m2_history.specs.HalfStrands.{IsOrdered, IsWovenTo, OrdersGivePoints, noted_in, strand_of}
 use Rattle.m2_journal.specs.declared.entry.Entry.{Entry}
 use Rattle.m2_journal.specs.declared.entry.JudgedItem.{JudgedItem}
@@ -18,7 +17,6 @@ use Rattle.m2_journal.specs.Lawful.{judged_on}
 use Rattle.m2_journal.specs.Replay.{AreLawful, after_items}
 use Rattle.m2_journal.specs.State.{State, start}
 use Rattle.m2_journal.proofs.Growing.{items-append}
-use Rattle.m2_journal.proofs.Sockets.{among-more}
 use Rattle.m2_weave.specs.Order.{Cut}
 use Rattle.m2_record.specs.TakenTrails.{judgement_of, judgements_in, taken_by, taken_in}
 use Rattle.m2_trail.specs.Trails as trail
@@ -29,10 +27,14 @@ use Rattle.m2_weave.specs.Rule.{strand_at}
 use Rattle.m2_weave.specs.Strands.{handed_at, judged_at, judged_by, read_by, total, written_by}
 use Rattle.m2_history.specs.Actors.{of_record, of_half}
 use Rattle.m2_history.proofs.WovenHalves.{half_is_tidy, read_as_noted, written_as_noted}
-use Rattle.m2_history.proofs.Journals.{items_take, judged_append, judged_are, judged_count, judged_no_more, lawful_take, taken_are}
+use Rattle.m2_history.proofs.Journals.{items_take, judged_are, judged_count, judged_no_more, lawful_take, taken_are}
 use Rattle.m2_history.proofs.Names.{items_add}
 use Rattle.m2_history.proofs.Scene as scene
-use Rattle.m2_history.proofs.Scene.{IsHalfIn, IsScene, IsTakenIn, Setting, come, handed_is, items_in, judged_is, opens_in, strand_is, strands_in, taken_map, woven_in}
+use Rattle.m2_history.proofs.Scene.{IsHalfIn, IsScene, IsTakenIn, Setting, come, handed_is, items_in, judged_is, strand_is, strands_in, taken_map, woven_in}
+use Rattle.m2_lemmas.proofs.Lists.{empty_front}
+use Rattle.m2_journal.proofs.JudgedOn.{lawful_front}
+use Rattle.m2_fabric.proofs.Sockets.{among_front}
+use Rattle.m2_record.proofs.AsksJudged.{judged_append}
 
 -- what was read there was written, what was judged was handed on, and of a half its side alone has judged the asks
 pub record IsCut (x : Setting) (at : Cut) : Type 0 where
@@ -52,11 +54,7 @@ pub taken_parts : (n : ℕ) (es : List Entry) → taken_in es ≡ taken_in (take
 taken_parts n es = ap taken_in (sym (take-append-drop n es)) ∙ filter_map-append taken_by (take n es) (drop n es)
 
 pub taken_still : (k : SocketId) (n : ℕ) (es : List Entry) → is_among k (taken_in (take n es)) ≡ true → is_among k (taken_in es) ≡ true
-taken_still k n es h = ap (is_among k) (taken_parts n es) ∙ among-more k (taken_in (take n es)) (taken_in (drop n es)) h
-
-pub no_front : {X : Type 0} (xs ys : List X) → xs ++ ys ≡ [] → xs ≡ []
-no_front [] ys e = refl
-no_front (x ∷ xs) ys e = absurd (cc)
+taken_still k n es h = ap (is_among k) (taken_parts n es) ∙ among_front k (taken_in (take n es)) (taken_in (drop n es)) h
 
 last_index : (xs : List ℕ) (n : ℕ) → slice_index (xs ++ n ∷ []) (length xs) ≡ n
 last_index [] n = refl
@@ -93,7 +91,7 @@ module _ (x : Setting) (sc : IsScene x) (points : OrdersGivePoints) (tell : Trai
 
       lawful : AreLawful (x.facts s) (items_from (x.sources s) (passed_by (first s) at_start) (drop n es)) state
       lawful =
-          (lawful-front (x.facts s) (items_of (x.sources s) (first s)) (items_from (x.sources s) (passed_by (first s) at_start) (drop n es)) (start (x.facts s))
+          (lawful_front (x.facts s) (items_of (x.sources s) (first s)) (items_from (x.sources s) (passed_by (first s) at_start) (drop n es)) (start (x.facts s))
           (subst (λ is. AreLawful (x.facts s) is (start (x.facts s))) whole (sc.lawful s))).1
 
       there : is_among k (taken_among state.judgements) ≡ true
@@ -122,7 +120,7 @@ module _ (x : Setting) (sc : IsScene x) (points : OrdersGivePoints) (tell : Trai
     others_none : total (judged_by t.socket) (map Noted (first (not s))) ≡ 0
     others_none =
         judged_count t.socket (first (not s))
-        ∙ ap length (no_front (judged_now (not s) t.socket) (judged_on t.socket (judgements_in (drop (slice_index at (sc.place (not s))) (x.journals (not s)))))
+        ∙ ap length (empty_front (judged_now (not s) t.socket) (judged_on t.socket (judgements_in (drop (slice_index at (sc.place (not s))) (x.journals (not s)))))
         (sym (judged_parts t.socket (slice_index at (sc.place (not s))) (x.journals (not s))) ∙ cut.alone j s t log there))
 
     pub judged_so : judged_at (strands_in x) at t.socket ≡ length (judged_now s t.socket)

@@ -10,7 +10,6 @@ use Rattle.m2_fabric.specs.Sockets.{is_among, same_socket}
 use Rattle.m2_bytes_fit.specs.Ends.{Side, got_at, judged_at, put_at, state_of, takings_on}
 use Rattle.m2_bytes_fit.specs.Halves.{BytesFit, HalfFits, HalfName, KeepsRanges, begins}
 use Rattle.m2_bytes_fit.specs.Trails.{IsHalfAt as HalfIsAt, TrailsTellEachPoint, bytes_after}
-use Rattle.m2_bytes_fit.proofs.Lists.{nothing_before}
 use Rattle.m2_handshake.specs.Course.{no_exchange}
 use Rattle.m2_handshake.specs.Laws.{IsPrefix}
 use Rattle.m2_handshake.proofs.Reaching.{begins as nothing_done}
@@ -20,7 +19,6 @@ use Rattle.m2_journal.specs.Items.{at_start, items_of}
 use Rattle.m2_journal.specs.Lawful.{judged_on}
 use Rattle.m2_journal.specs.State.{start}
 use Rattle.m2_weave.specs.Order.{Cut}
-use Rattle.m2_never_reset.proofs.Sockets.{differ, same_equal}
 use Rattle.m2_record.specs.TakenTrails.{judgements_in, taken_in}
 use Rattle.m2_trail.specs.Replies.{all_replies}
 use Rattle.m2_trail.specs.Trails as trail
@@ -28,11 +26,14 @@ use Rattle.m2_trail.specs.Trails.{ComesToAsk, ComesToWrite, HalfBytes, IsTaken, 
 use Rattle.m2_weave.specs.declared.strand.StrandItem.TheVariants.{Noted}
 use Rattle.m2_weave.specs.Strands.{has_opened, journal_of, read_by, total, written_at, written_by}
 use Rattle.m2_history.specs.Actors.{of_half}
-use Rattle.m2_history.proofs.Cuts.{IsCut, got_as, half_there, judged_all, judged_parts, no_front, own_judged, put_as, read_whole, taken_still, written_whole}
+use Rattle.m2_history.proofs.Cuts.{IsCut, got_as, half_there, judged_all, judged_parts, own_judged, put_as, read_whole, taken_still, written_whole}
 use Rattle.m2_history.proofs.Journals.{judged_are, no_takings, opened_are, takings_left}
 use Rattle.m2_history.proofs.Moved.{Found, GotSo, HalvesAre, IsBareOf, PutSo, apart_back, find, got_so, none_written, opened_got, opened_still, opened_untaken, opener_put, opener_written, other_put, quiet_first, side_at, taken_by_now}
 use Rattle.m2_history.proofs.Names.{items_add}
 use Rattle.m2_history.proofs.Scene.{IsBare, IsHalfAt, IsHalfIn, IsScene, IsTakenIn, Setting, come, end_at, none_handed, opens_in, strands_in}
+use Rattle.m2_lemmas.proofs.Lists.{empty_front, empty_front as no_front}
+use Rattle.m2_lemmas.proofs.Booleans.{from_false_true}
+use Rattle.m2_fabric.proofs.Sockets.{same_equal}
 
 -- ---- first bytes of two lists
 
@@ -72,7 +73,7 @@ module _ (x : Setting) (at : Cut) (k : SocketId) where
   got_none o got g none =
       let first = first_of g.count 0 (x.bytes.got (end_at k o)) (x.bytes.put (end_at k (not o)))
       (λ p low within. let t = was_there o got g p low within in (omega (arith, t.0, none), t.1)) in
-      g.bytes ∙ nothing_before (take g.count (x.bytes.got (end_at k o))) first.0 (sym first.1)
+      g.bytes ∙ empty_front (take g.count (x.bytes.got (end_at k o))) first.0 (sym first.1)
 
 same_half : (h : HalfBytes) (got put : List ℕ) → h.got ≡ got → h.put ≡ put → h ≡ record { got = got; put = put }
 same_half h got put e g = ap₂ (λ a b. record { got = a; put = b }) e g
@@ -121,7 +122,7 @@ module _ (x : Setting) (sc : IsScene x) (points : OrdersGivePoints) (tell : Trai
   -- ---- halves
 
   closed_now : (s : Bool) (h : SocketId → HalfBytes) (k : SocketId) → opens_in x s k ≡ false → is_among k (state_of (side_at x sc at s h)).opened ≡ true → ⊥
-  closed_now s h k closed o = differ (sym closed ∙ opened_still k (slice_index at (sc.place s)) (x.journals s) (sym (opened_now s h k) ∙ o))
+  closed_now s h k closed o = from_false_true (sym closed ∙ opened_still k (slice_index at (sc.place s)) (x.journals s) (sym (opened_now s h k) ∙ o))
 
   name_of : (s : Bool) (t : TrailNow) (log : Log) → IsHalfIn x s t log → HalfName
   name_of s t log known = record { entity = t.entity; seen = opener_of t.socket; entity_fits = known.entity; seen_fits = known.seen }

@@ -1,7 +1,7 @@
 -- The strand of a trail has its entries in order, and hands on each ask behind the entries that were there when it was judged.
-use Rattle.std.proofs.Common.{◌≡◌, ℕ, zero, suc, ◌+◌, ◌-◌, ◌≤◌, ◌<◌, max, if◌then◌else◌, ◌⊎◌, inl, inr, true, List, [], ◌∷◌, ◌++◌, length, map, take, drop, slice_get, slice_index, Option, Some, None, refl, sym, ap, ◌∙◌, subst, arith}
+use Rattle.std.proofs.Common.{◌≡◌, ℕ, zero, suc, ◌+◌, ◌-◌, ◌≤◌, ◌<◌, max, if◌then◌else◌, ◌⊎◌, inl, inr, List, [], ◌∷◌, ◌++◌, length, map, take, drop, slice_get, slice_index, Option, Some, None, refl, sym, ap, ◌∙◌, subst, arith}
 use Rattle.std.specs.List.{AllByRecursion}
-use Rattle.std.proofs.lemmas.Bool.{cases_lt, eq-eqb, le-ltb, lt-ltb}
+use Rattle.std.proofs.lemmas.Bool.{cases_lt, le-ltb, lt-ltb}
 use Rattle.std.proofs.lemmas.Option.{same_Some}
 use Rattle.m2_fabric.specs.declared.socket.SocketId.{SocketId}
 use Rattle.m2_fabric.specs.Sockets.{same_socket}
@@ -16,9 +16,7 @@ use Rattle.m2_weave.specs.declared.strand.StrandItem.TheVariants.{Noted, Handed}
 use Rattle.m2_weave.specs.Rule.{Woven}
 use Rattle.m2_weave.specs.Strands.{half_items, handed_by, judged_at, total}
 use Rattle.m2_history.specs.HalfStrands.{noted_in, strand_of, WritesOn, IsTidy, IsWovenTo, IsOrdered, OrdersGivePoints}
-
-same_refl : (k : SocketId) → same_socket k k ≡ true
-same_refl k = rw (eq-eqb k.from_ip k.from_ip refl, eq-eqb k.from_port k.from_port refl, eq-eqb k.to_ip k.to_ip refl, eq-eqb k.to_port k.to_port refl, eq-eqb k.turn k.turn refl) refl
+use Rattle.m2_fabric.proofs.Sockets.{same_refl}
 
 -- ---- the strand as a path
 

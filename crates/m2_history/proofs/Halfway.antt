@@ -22,31 +22,20 @@ use Rattle.m2_trail.specs.Trails.{TrailNow}
 use Rattle.m2_weave.specs.Strands.{same_side}
 use Rattle.m2_history.specs.Actors.{of_half, loose_actors, is_near, taken_half, trail_by}
 use Rattle.m2_history.specs.WovenLink.{same_end}
-use Rattle.m2_history.proofs.Bytes.{IsOf}
+use Rattle.m2_history.proofs.Bytes.{IsOf, all_is}
 use Rattle.m2_history.proofs.Journals.{judged_are, taken_are}
 use Rattle.m2_history.proofs.Names.{entry_adds, items_add, judged_in}
+use Rattle.m2_lemmas.proofs.Lists.{all_front, all_back, all_append}
 
 -- ---- lists
 
 abbrev pub apart_from : {X : Type 0} (e : X → X → Bool) → List X → List X → Type 0
 apart_from e xs ys = AllByRecursion (λ x. AllByRecursion (λ y. e x y ≡ false) ys) xs
 
-all_join : {X : Type 0} (P : X → Type 0) (xs ys : List X) → AllByRecursion P xs → AllByRecursion P ys → AllByRecursion P (xs ++ ys)
-all_join P [] ys p q = q
-all_join P (x ∷ xs) ys p q = (p.0, all_join P xs ys p.1 q)
-
-all_first : {X : Type 0} (P : X → Type 0) (xs ys : List X) → AllByRecursion P (xs ++ ys) → AllByRecursion P xs
-all_first P [] ys h = tt
-all_first P (x ∷ xs) ys h = (h.0, all_first P xs ys h.1)
-
-all_last : {X : Type 0} (P : X → Type 0) (xs ys : List X) → AllByRecursion P (xs ++ ys) → AllByRecursion P ys
-all_last P [] ys h = h
-all_last P (x ∷ xs) ys h = all_last P xs ys h.1
-
 pub distinct_join : {X : Type 0} (e : X → X → Bool) (xs ys : List X) → IsDistinct e xs → IsDistinct e ys → apart_from e xs ys → IsDistinct e (xs ++ ys)
 unfolding IsDistinct
 distinct_join e [] ys d c a = c
-distinct_join e (x ∷ xs) ys d c a = (all_join (λ y. e x y ≡ false) xs ys d.0 a.0, distinct_join e xs ys d.1 c a.1)
+distinct_join e (x ∷ xs) ys d c a = (all_append (λ y. e x y ≡ false) xs ys d.0 a.0, distinct_join e xs ys d.1 c a.1)
 
 pub distinct_last : {X : Type 0} (e : X → X → Bool) (xs ys : List X) → IsDistinct e (xs ++ ys) → IsDistinct e ys
 unfolding IsDistinct
@@ -56,18 +45,13 @@ distinct_last e (x ∷ xs) ys d = distinct_last e xs ys d.1
 pub distinct_first : {X : Type 0} (e : X → X → Bool) (xs ys : List X) → IsDistinct e (xs ++ ys) → IsDistinct e xs
 unfolding IsDistinct
 distinct_first e [] ys d = tt
-distinct_first e (x ∷ xs) ys d = (all_first (λ y. e x y ≡ false) xs ys d.0, distinct_first e xs ys d.1)
-
-all_is : {X : Type 0} (P : X → Type 0) (x : X) (xs : List X) → AllByRecursion P xs → IsOf x xs → P x
-all_is P x [] all h = absurd h
-all_is P x (y ∷ xs) all (inl e) = subst P e all.0
-all_is P x (y ∷ xs) all (inr h) = all_is P x xs all.1 h
+distinct_first e (x ∷ xs) ys d = (all_front (λ y. e x y ≡ false) xs ys d.0, distinct_first e xs ys d.1)
 
 -- one of the first list and one of the second are apart
 pub distinct_parts : {X : Type 0} (e : X → X → Bool) (xs ys : List X) (x y : X) → IsDistinct e (xs ++ ys) → IsOf x xs → IsOf y ys → e x y ≡ false
 unfolding IsDistinct
 distinct_parts e [] ys x y d h k = absurd h
-distinct_parts e (z ∷ xs) ys x y d (inl q) k = subst (λ w. e w y ≡ false) q (all_is (λ w. e z w ≡ false) y ys (all_last (λ w. e z w ≡ false) xs ys d.0) k)
+distinct_parts e (z ∷ xs) ys x y d (inl q) k = subst (λ w. e w y ≡ false) q (all_is (λ w. e z w ≡ false) y ys (all_back (λ w. e z w ≡ false) xs ys d.0) k)
 distinct_parts e (z ∷ xs) ys x y d (inr h) k = distinct_parts e xs ys x y d.1 h k
 
 -- ---- no socket is taken twice

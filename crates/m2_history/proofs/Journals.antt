@@ -1,14 +1,13 @@
 -- What entries that are lawful one after the other have opened, judged, read and written, socket by socket.
-use Rattle.std.proofs.Common.{◌≡◌, ℕ, zero, suc, ◌+◌, ◌⊎◌, inl, inr, Bool, true, false, ◌||◌, if◌then◌else◌, List, [], ◌∷◌, ◌++◌, length, map, take, drop, Option, Some, None, refl, sym, ap, ◌∙◌, subst, arith, append-nil, append_assoc, take-add, drop-drop}
+use Rattle.std.proofs.Common.{◌≡◌, ℕ, zero, suc, ◌+◌, ◌⊎◌, Bool, true, false, ◌||◌, if◌then◌else◌, List, [], ◌∷◌, ◌++◌, length, map, take, drop, Option, Some, None, refl, sym, ap, ◌∙◌, subst, arith, append-nil, append_assoc, take-add, drop-drop}
 use Rattle.std.specs.List.{AllByRecursion, filter}
 use Rattle.m2_fabric.specs.declared.socket.SocketId.{SocketId}
 use Rattle.m2_fabric.specs.Sockets.{goes_to, is_among, same_socket}
 use Rattle.m2_session.specs.SessionLaws.{takes}
 use Rattle.m2_journal.specs.declared.entry.Entry.{Entry}
 use Rattle.m2_journal.specs.declared.entry.Entry.TheVariants as entry
-use Rattle.m2_journal.specs.declared.entry.JudgedItem.{JudgedItem}
 use Rattle.m2_journal.specs.Items as item
-use Rattle.m2_journal.specs.Items.{JournalItem, Places, Sources, item_of, items_from, passed, passed_by, raised, where_taken}
+use Rattle.m2_journal.specs.Items.{JournalItem, Places, Sources, item_of, items_from, passed, raised}
 use Rattle.m2_journal.specs.Laws.{IfFed, taken_among}
 use Rattle.m2_journal.specs.Lawful.{Lawful, OnFeedAt, judged_on}
 use Rattle.m2_journal.specs.Replay.{AreLawful, after_items}
@@ -16,56 +15,24 @@ use Rattle.m2_journal.specs.SideFacts.{SideFacts}
 use Rattle.m2_journal.specs.State.{Feed, Judgement, State, start}
 use Rattle.m2_journal.specs.Steps.{after}
 use Rattle.m2_journal.proofs.Growing.{after-append}
-use Rattle.m2_journal.proofs.Sockets.{among-more, not_taken, taken-append}
+use Rattle.m2_journal.proofs.Sockets.{not_taken, taken-append}
 use Rattle.m2_journal.proofs.Sound.{are_sound}
-use Rattle.m2_never_reset.proofs.Sockets.{by_either, differ, same_equal, turned_same}
+use Rattle.m2_never_reset.proofs.Sockets.{by_either}
 use Rattle.m2_record.specs.TakenTrails.{judgements_in, taken_in}
 use Rattle.m2_bytes_fit.specs.Ends.{read_on, wrote_on, takings_on}
-use Rattle.m2_bytes_fit.proofs.Orders.{lawful-front}
 use Rattle.m2_weave.specs.declared.strand.StrandItem.TheVariants.{Noted}
 use Rattle.m2_weave.specs.Strands as weave
 use Rattle.m2_weave.specs.Strands.{has_opened, journal_of, total}
 use Rattle.m2_history.proofs.Names.{Adds, entry_adds, items_add, judged_by, judged_in, opened_by, opened_in}
+use Rattle.m2_fabric.proofs.Sockets.{not_among_front, among_part, among_front, same_equal}
+use Rattle.m2_journal.proofs.JudgedOn.{unjudged, raised_here, lawful_front}
+use Rattle.m2_record.proofs.AsksJudged.{judged_append}
+use Rattle.m2_lemmas.proofs.Booleans.{from_false_true}
 
 -- ---- lists of sockets and judgements
 
-pub among_front : (k : SocketId) (xs ys : List SocketId) → is_among k (xs ++ ys) ≡ false → is_among k xs ≡ false
-among_front k [] ys h = refl
-among_front k (x ∷ xs) ys h = at (same_socket k x) h (among_front k xs ys)
-  where
-    at : (b : Bool) → b || is_among k (xs ++ ys) ≡ false → (is_among k (xs ++ ys) ≡ false → is_among k xs ≡ false) → b || is_among k xs ≡ false
-    at true e on = e
-    at false e on = on e
-
-among_either : (k : SocketId) (xs ys : List SocketId) → is_among k (xs ++ ys) ≡ true → (is_among k xs ≡ true) ⊎ (is_among k ys ≡ true)
-among_either k [] ys h = inr h
-among_either k (x ∷ xs) ys h = at (same_socket k x) h (among_either k xs ys)
-  where
-    at : (b : Bool) → b || is_among k (xs ++ ys) ≡ true → (is_among k (xs ++ ys) ≡ true → (is_among k xs ≡ true) ⊎ (is_among k ys ≡ true)) → (b || is_among k xs ≡ true) ⊎ (is_among k ys ≡ true)
-    at true e on = inl refl
-    at false e on = on e
-
-pub judged_append : (k : SocketId) (xs ys : List Judgement) → judged_on k (xs ++ ys) ≡ judged_on k xs ++ judged_on k ys
-judged_append k [] ys = refl
-judged_append k (x ∷ xs) ys = at (same_socket k x.socket) (judged_append k xs ys)
-  where
-    at : (b : Bool) → judged_on k (xs ++ ys) ≡ judged_on k xs ++ judged_on k ys →
-        map (λ (j : Judgement). j.item) (if b then x ∷ filter (λ j. same_socket k j.socket) (xs ++ ys) else filter (λ j. same_socket k j.socket) (xs ++ ys))
-        ≡ map (λ (j : Judgement). j.item) (if b then x ∷ filter (λ j. same_socket k j.socket) xs else filter (λ j. same_socket k j.socket) xs) ++ judged_on k ys
-    at true rest = ap (λ (l : List JudgedItem). x.item ∷ l) rest
-    at false rest = rest
-
 judged_other : (k : SocketId) (x : Judgement) (js : List Judgement) → same_socket k x.socket ≡ false → judged_on k (x ∷ js) ≡ judged_on k js
 judged_other k x js e = rw e refl
-
-none_judged : (k : SocketId) (js : List Judgement) → is_among k (map (λ (j : Judgement). j.socket) js) ≡ false → judged_on k js ≡ []
-none_judged k [] h = refl
-none_judged k (j ∷ js) h = at (same_socket k j.socket) h (none_judged k js)
-  where
-    at : (b : Bool) → b || is_among k (map (λ (j : Judgement). j.socket) js) ≡ false → (is_among k (map (λ (j : Judgement). j.socket) js) ≡ false → judged_on k js ≡ []) →
-        map (λ (j : Judgement). j.item) (if b then j ∷ filter (λ j. same_socket k j.socket) js else filter (λ j. same_socket k j.socket) js) ≡ []
-    at true e on = differ (sym e)
-    at false e on = on e
 
 -- ---- entries and their items
 
@@ -121,8 +88,8 @@ IsQuietOn k e = (weave.read_by k (Noted e) ≡ 0) × (weave.written_by k (Noted 
 
 unknown_before : (k : SocketId) (s t : State) (sockets : List SocketId) (js : List Judgement) → Adds s t sockets js → Unknown k t → Unknown k s
 unknown_before k s t sockets js a u = record {
-  opened = among_front k s.opened sockets (sym (ap (is_among k) a.opened) ∙ u.opened);
-  taken = among_front k (taken_among s.judgements) (taken_among js) (sym (ap (is_among k) (ap taken_among a.judgements ∙ taken-append s.judgements js)) ∙ u.taken);
+  opened = not_among_front k s.opened sockets (sym (ap (is_among k) a.opened) ∙ u.opened);
+  taken = not_among_front k (taken_among s.judgements) (taken_among js) (sym (ap (is_among k) (ap taken_among a.judgements ∙ taken-append s.judgements js)) ∙ u.taken);
 }
 
 not_on_feed : (k x : SocketId) (s : State) (o : Option Feed) → Unknown k s → IfFed o (λ d. is_among d.socket (if d.opened then s.opened else taken_among s.judgements) ≡ true) →
@@ -134,8 +101,8 @@ not_on_feed k x s (Some d) u known on e = at d.opened known
     same = same_equal k x e ∙ same_equal x d.socket on
 
     at : (b : Bool) → is_among d.socket (if b then s.opened else taken_among s.judgements) ≡ true → ⊥
-    at true h = differ (sym u.opened ∙ ap (λ j. is_among j s.opened) same ∙ h)
-    at false h = differ (sym u.taken ∙ ap (λ j. is_among j (taken_among s.judgements)) same ∙ h)
+    at true h = from_false_true (sym u.opened ∙ ap (λ j. is_among j s.opened) same ∙ h)
+    at false h = from_false_true (sym u.taken ∙ ap (λ j. is_among j (taken_among s.judgements)) same ∙ h)
 
 moved_none : (k x : SocketId) (count : ℕ) → (same_socket k x ≡ true → ⊥) → (if same_socket k x then count else 0) ≡ 0
 moved_none k x count n = at (same_socket k x) n
@@ -179,7 +146,7 @@ unknown_quiet f src (e ∷ es) p before k l u = (
     s = after_items f before (start f)
 
     parts : AreLawful f before (start f) × AreLawful f (i ∷ rest) s
-    parts = lawful-front f before (i ∷ rest) (start f) l
+    parts = lawful_front f before (i ∷ rest) (start f) l
 
     one : (before ++ i ∷ []) ++ rest ≡ before ++ i ∷ rest
     one = append_assoc before (i ∷ []) rest
@@ -197,10 +164,10 @@ judged_no_more f src (e ∷ es) p s k l t = at e l.0 (judged_no_more f src es (p
     still : is_among k (taken_among (after f (item_of src p e) s).judgements) ≡ true
     still =
         ap (is_among k) (ap taken_among adds.judgements ∙ taken-append s.judgements (judged_in (item_of src p e)))
-        ∙ among-more k (taken_among s.judgements) (taken_among (judged_in (item_of src p e))) t
+        ∙ among_front k (taken_among s.judgements) (taken_among (judged_in (item_of src p e))) t
 
     apart : (x : SocketId) → is_among x (taken_among s.judgements) ≡ false → (b : Bool) → same_socket k x ≡ b → same_socket k x ≡ false
-    apart x n true g = differ (sym n ∙ (ap (λ j. is_among j (taken_among s.judgements)) (sym (same_equal k x g)) ∙ t))
+    apart x n true g = from_false_true (sym n ∙ (ap (λ j. is_among j (taken_among s.judgements)) (sym (same_equal k x g)) ∙ t))
     apart x n false g = g
 
     at : (e : Entry) → Lawful f (item_of src p e) s → judged_on k (judgements_in es) ≡ [] → judged_on k (judgements_in (e ∷ es)) ≡ []
@@ -223,11 +190,11 @@ one_still k s t a h =
 
 one_stays : (f : SideFacts) (i : JournalItem) (s : State) (k : SocketId) → Lawful f i s → IsOne k s → IsOne k (after f i s)
 one_stays f (item.opened x) s k l h = one_here k s (after f (item.opened x) s) (x ∷ []) [] (entry_adds f (item.opened x) s) (λ o.
-    ap (judged_on k) (append-nil s.judgements) ∙ by_either (among_either k s.opened (x ∷ []) o) h (λ e. here (same_socket k x) refl e))
+    ap (judged_on k) (append-nil s.judgements) ∙ by_either (among_part k s.opened (x ∷ []) o) h (λ e. here (same_socket k x) refl e))
   where
     here : (b : Bool) → same_socket k x ≡ b → b || false ≡ true → judged_on k s.judgements ≡ []
-    here true q e = none_judged k s.judgements (ap (λ j. is_among j (map (λ (j : Judgement). j.socket) s.judgements)) (same_equal k x q) ∙ l.not_judged)
-    here false q e = differ e
+    here true q e = unjudged k s.judgements (ap (λ j. is_among j (map (λ (j : Judgement). j.socket) s.judgements)) (same_equal k x q) ∙ l.not_judged)
+    here false q e = from_false_true e
 one_stays f (item.judged x ask number given unread trail) s k l h =
     one_here k s (after f (item.judged x ask number given unread trail) s) [] (j ∷ []) (entry_adds f (item.judged x ask number given unread trail) s) (λ o.
     by_opened (sym (ap (is_among k) (append-nil s.opened)) ∙ o))
@@ -236,7 +203,7 @@ one_stays f (item.judged x ask number given unread trail) s k l h =
     j = record { socket = x; item = record { ask = ask; answer = given } }
 
     apart : is_among k s.opened ≡ true → (b : Bool) → same_socket k x ≡ b → same_socket k x ≡ false
-    apart o true q = differ (sym l.not_opened ∙ (ap (λ j. is_among j s.opened) (sym (same_equal k x q)) ∙ o))
+    apart o true q = from_false_true (sym l.not_opened ∙ (ap (λ j. is_among j s.opened) (sym (same_equal k x q)) ∙ o))
     apart o false q = q
 
     by_opened : is_among k s.opened ≡ true → judged_on k (s.judgements ++ j ∷ []) ≡ []
@@ -262,13 +229,13 @@ pub opened_unjudged : (f : SideFacts) (src : Sources) (es : List Entry) (p : Pla
 opened_unjudged f src es p k l o =
     let is = items_from src p es in
     let adds = items_add f is (start f) in
-    let one = one_along f is (start f) k l (λ e. differ e) in
+    let one = one_along f is (start f) k l (λ e. from_false_true e) in
     sym (ap (judged_on k) (adds.judgements ∙ judged_are src p es)) ∙ one (ap (is_among k) adds.opened ∙ opened_are src p es k ∙ o)
 
 -- a socket that was opened leads to the peer
 pub opened_leads : (f : SideFacts) (src : Sources) (es : List Entry) (p : Places) (s : State) (k : SocketId) → AreLawful f (items_from src p es) s → has_opened (journal_of es) k ≡ true →
     goes_to f.peer k ≡ true
-opened_leads f src [] p s k l o = differ o
+opened_leads f src [] p s k l o = from_false_true o
 opened_leads f src (entry.Opened x ∷ es) p s k l o =
     at (same_socket k x) refl o (λ e. opened_leads f src es (passed (entry.Opened x) p) (after f (item_of src p (entry.Opened x)) s) k l.1 e)
   where
@@ -284,9 +251,6 @@ take_on c n at xs = ap (λ l. take c (drop at xs) ++ take n l) (sym (drop-drop c
 
 none_more : (n : ℕ) (xs : List ℕ) → take n xs ≡ take (0 + n) xs
 none_more n xs = ap (λ m. take m xs) (let e : n ≡ 0 + n = omega arith in e)
-
-raised_here : (x k : SocketId) (c : ℕ) (counts : SocketId → ℕ) (b : Bool) → same_socket k x ≡ b → raised x c counts k ≡ (if b then counts k + c else counts k)
-raised_here x k c counts b e = ap (λ t. if t then counts k + c else counts k) (turned_same x k ∙ e)
 
 -- of a read or a write, as of its socket or another
 next_bytes : (x k : SocketId) (c n : ℕ) (counts : SocketId → ℕ) (log : SocketId → List ℕ) (rest : List ℕ) → rest ≡ take n (drop (raised x c counts k) (log k)) → (b : Bool) → same_socket k x ≡ b →
@@ -353,7 +317,7 @@ no_takings k src p (entry.Judged x ask number answer ∷ es) h =
     rest = items_from src (passed (entry.Judged x ask number answer) p) es
 
     at : (b c : Bool) → same_socket k x ≡ b → takes answer ≡ c → is_among k (taken_in (entry.Judged x ask number answer ∷ es)) ≡ false → (is_among k (taken_in es) ≡ false → takings_on k rest ≡ []) → takings_on k (i ∷ rest) ≡ []
-    at true true e g none more = differ (sym (rw (g, e) at none))
+    at true true e g none more = from_false_true (sym (rw (g, e) at none))
     at true false e g none more = rw (e, g) (more (rw g at none))
     at false true e g none more = rw e (more (rw (g, e) at none))
     at false false e g none more = rw e (more (rw g at none))

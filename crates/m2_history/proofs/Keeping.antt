@@ -25,6 +25,7 @@ use Rattle.m2_session.specs.declared.event.Event.{Event}
 use Rattle.m2_session.specs.declared.event.Event.TheVariants as event
 use Rattle.m2_session.specs.SessionLaws.{takes}
 use Rattle.m2_session.specs.Steps.{step_of}
+use Rattle.m2_channel.proofs.Quiet.{handed_letter}
 
 -- no step of the plan is taken, and no message handed on
 pub record Stays (s t : State) : Type 0 where
@@ -173,15 +174,9 @@ posts-leads (Some to_dial) s = (refl, refl)
 posts-leads (Some to_go_down) s = (refl, refl)
 posts-leads None s = (refl, refl)
 
-handed-letter : (ds : List Delivery) (n : ℕ) (k : Key) (m : Content) → handed (ds ++ state.letter n k m ∷ []) ≡ handed ds ++ keyed k m ∷ []
-handed-letter [] n k m = refl
-handed-letter (state.letter i l c ∷ ds) n k m = ap (λ x. keyed l c ∷ x) (handed-letter ds n k m)
-handed-letter (state.discarded ∷ ds) n k m = handed-letter ds n k m
-handed-letter (state.remote_reset ∷ ds) n k m = handed-letter ds n k m
-
 accepts-leads : (number : ℕ) (key : Key) (x : Option Said) (d : Feed) (s : State) → let t = accepts number key x d s in
     (t.steps ≡ s.steps) × (handed t.deliveries ≡ handed s.deliveries ++ map (keyed key) (brought_by x))
-accepts-leads number key (Some (brings m)) d s = (refl, handed-letter s.deliveries number key m)
+accepts-leads number key (Some (brings m)) d s = (refl, handed_letter s.deliveries number key m)
 accepts-leads number key (Some (says c)) d s = (refl, sym (append-nil (handed s.deliveries)))
 accepts-leads number key (Some aborts) d s = (refl, sym (append-nil (handed s.deliveries)))
 accepts-leads number key (Some garbles) d s = (refl, sym (append-nil (handed s.deliveries)))

@@ -23,13 +23,14 @@ use Rattle.m2_record.specs.Sources.{Grounds, end_at, got_of, put_of, sources_of}
 use Rattle.m2_record.specs.TakenTrails.{IsKeptTrail, taken_in}
 use Rattle.m2_trail.specs.Trails as trail
 use Rattle.m2_trail.specs.Trails.{TrailNow}
-use Rattle.m2_weave.proofs.SameSocket.{same_refl}
 use Rattle.m2_history.specs.Link.{HasEnd, IsKeptHalf, IsOnSocket, RecordsAreKept}
-use Rattle.m2_history.proofs.Tidiness.{all_so, or-left, or-right}
+use Rattle.m2_fabric.proofs.Sockets.{same_refl}
+use Rattle.m2_lemmas.proofs.Lists.{all_so}
+use Rattle.m2_lemmas.proofs.Booleans.{or_left, or_right}
 
 -- ---- an end that something was read or written at
 
-end-among : (ends : List SeenEnd) (k : SocketId) (e : SeenEnd) → end_at ends k ≡ Some e → is_among k (ids_of ends) ≡ true
+pub end-among : (ends : List SeenEnd) (k : SocketId) (e : SeenEnd) → end_at ends k ≡ Some e → is_among k (ids_of ends) ≡ true
 end-among [] k e h = absurd cc
 end-among (x ∷ ends) k e h = at (same_socket k x.id) refl h (end-among ends k e)
   where
@@ -79,21 +80,21 @@ all-named f g p (e ∷ es) s lawful = (tt, all-named f g (passed e p) es (after 
 
 -- ---- the halves that it took
 
-of-run : (k : SocketId) (r : Run) → IsOnSocket k (trail.entry_of k r)
+pub of-run : (k : SocketId) (r : Run) → IsOnSocket k (trail.entry_of k r)
 of-run k (run.Read count) = refl
 of-run k (run.Wrote count) = refl
 
-of-runs : (k : SocketId) (rs : List Run) → AllByRecursion (IsOnSocket k) (map (trail.entry_of k) rs)
+pub of-runs : (k : SocketId) (rs : List Run) → AllByRecursion (IsOnSocket k) (map (trail.entry_of k) rs)
 of-runs k [] = tt
 of-runs k (r ∷ rs) = (of-run k r, of-runs k rs)
 
 -- the socket of each was the feed
 first-taken : (e : Entry) (es : List Entry) → AllByRecursion (λ k. is_among k (feeds_in es) ≡ true) (taken_in es) → AllByRecursion (λ k. is_among k (feeds_in (e ∷ es)) ≡ true) (taken_in (e ∷ es))
-first-taken (entry.Opened k) es all = all_so (λ x. is_among x (feeds_in es) ≡ true) (λ x. (same_socket x k || is_among x (feeds_in es)) ≡ true) (λ x h. or-right _ _ h) (taken_in es) all
+first-taken (entry.Opened k) es all = all_so (λ x. is_among x (feeds_in es) ≡ true) (λ x. (same_socket x k || is_among x (feeds_in es)) ≡ true) (λ x h. or_right _ _ h) (taken_in es) all
 first-taken (entry.Judged k ask number answer) es all = at (takes answer) refl
   where
     at : (b : Bool) → takes answer ≡ b → AllByRecursion (λ x. is_among x (feeds_in (entry.Judged k ask number answer ∷ es)) ≡ true) (taken_in (entry.Judged k ask number answer ∷ es))
-    at true e = rw e (or-left _ _ (same_refl k), all_so (λ x. is_among x (feeds_in es) ≡ true) (λ x. (same_socket x k || is_among x (feeds_in es)) ≡ true) (λ x h. or-right _ _ h) (taken_in es) all)
+    at true e = rw e (or_left _ _ (same_refl k), all_so (λ x. is_among x (feeds_in es) ≡ true) (λ x. (same_socket x k || is_among x (feeds_in es)) ≡ true) (λ x h. or_right _ _ h) (taken_in es) all)
     at false e = rw e all
 first-taken (entry.Post place) es all = all
 first-taken entry.Dial es all = all
@@ -111,7 +112,7 @@ all-taken : (es : List Entry) → AllByRecursion (λ k. is_among k (feeds_in es)
 all-taken [] = tt
 all-taken (e ∷ es) = first-taken e es (all-taken es)
 
-map-all : {X : Type 0} (P : SocketId → Type 0) (f : X → SocketId) (xs : List X) → AllByRecursion P (map f xs) → AllByRecursion (λ x. P (f x)) xs
+pub map-all : {X : Type 0} (P : SocketId → Type 0) (f : X → SocketId) (xs : List X) → AllByRecursion P (map f xs) → AllByRecursion (λ x. P (f x)) xs
 map-all P f [] a = tt
 map-all P f (x ∷ xs) a = (a.0, map-all P f xs a.1)
 
@@ -120,7 +121,7 @@ both-all P Q R h [] a b = tt
 both-all P Q R h (x ∷ xs) a b = (h x a.0 b.0, both-all P Q R h xs a.1 b.1)
 
 -- the feed's end may stand first or last
-turned : (k : SocketId) (xs ys : List SeenEnd) → is_among k (ids_of (xs ++ ys)) ≡ true → is_among k (ids_of (ys ++ xs)) ≡ true
+pub turned : (k : SocketId) (xs ys : List SeenEnd) → is_among k (ids_of (xs ++ ys)) ≡ true → is_among k (ids_of (ys ++ xs)) ≡ true
 turned k xs ys h =
     ap (is_among k) (map-append (λ (e : SeenEnd). e.id) ys xs) ∙ list_any-append (same_socket k) (ids_of ys) (ids_of xs)
     ∙ or-turned (is_among k (ids_of ys)) (is_among k (ids_of xs))

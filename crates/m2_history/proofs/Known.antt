@@ -1,5 +1,5 @@
 -- Sockets that journals speak of, by their names.
-use Rattle.std.proofs.Common.{◌≡◌, ℕ, suc, ◌+◌, ◌<◌, ◌≤◌, if◌then◌else◌, ◌||◌, Bool, true, false, List, [], ◌∷◌, ◌++◌, length, map, drop, refl, sym, ap, ◌∙◌, arith, append_assoc}
+use Rattle.std.proofs.Common.{◌≡◌, ℕ, ◌+◌, ◌<◌, ◌≤◌, if◌then◌else◌, ◌||◌, Bool, true, false, List, [], ◌∷◌, ◌++◌, length, map, drop, refl, sym, ap, ◌∙◌, arith, append_assoc}
 use Rattle.std.specs.Prelude.{replicate, slice_index, slice_index_or}
 use Rattle.std.proofs.lemmas.List.{drop_more, map-append, get_or_past, get_or-replicate}
 use Rattle.std.proofs.lemmas.List.Folds.{list_any-append}
@@ -15,6 +15,7 @@ use Rattle.m2_weave.specs.Table.{KeepsNumbers}
 use Rattle.m2_weave.proofs.Tallies.{place_within}
 use Rattle.m2_history.specs.Sockets.{AreKnown, JournalsNow, end_by, known_in, opened_in}
 use Rattle.m2_history.specs.Woven.{EndNow, end_of, judged_times, knows}
+use Rattle.m2_weave.proofs.Places.{past}
 
 -- ---- which they are
 
@@ -92,15 +93,6 @@ none-known k (entry.Accepted number key ∷ es) h = omega (arith, none-known k e
 none-known k (entry.Acked number ∷ es) h = omega (arith, none-known k es h)
 none-known k (entry.Obeyed full ∷ es) h = omega (arith, none-known k es h)
 none-known k (entry.Down planned ∷ es) h = omega (arith, none-known k es h)
-
--- one that is none of them
-past-at : (b rest : Bool) (n m : ℕ) → (b || rest) ≡ false → (rest ≡ false → n ≡ m) → suc n ≡ (if b then 0 else suc m)
-past-at true rest n m e h = absurd cc
-past-at false rest n m e h = ap suc (h e)
-
-past : (names : List SocketId) (k : SocketId) → is_among k names ≡ false → length names ≡ place_in names k
-past [] k e = refl
-past (x ∷ xs) k e = past-at (same_socket k x) (is_among k xs) (length xs) (place_in xs k) e (past xs k)
 
 -- the number at a socket's place; 0 where it has none
 pub times_at : (names : List SocketId) (judged : List ℕ) (js : JournalsNow) (k : SocketId) → AreKnown names judged js → slice_index judged (place_in names k) ≡ judged_times js.a js.b k

@@ -13,33 +13,26 @@ use Rattle.m2_record.specs.TakenTrails.{judgements_in}
 use Rattle.m2_trail.specs.Arrivals.{LooseNow}
 use Rattle.m2_trail.specs.Trails as trail
 use Rattle.m2_trail.specs.Trails.{TrailNow, IsWholeTrail}
-use Rattle.m2_fabric.specs.declared.log.Run.{Run}
-use Rattle.m2_fabric.specs.declared.log.Run.TheVariants as run
 use Rattle.m2_weave.specs.declared.strand.StrandItem.{StrandItem}
 use Rattle.m2_weave.specs.declared.strand.StrandItem.TheVariants.{Noted}
 use Rattle.m2_weave.specs.Counting.{AreNamed, IsNamed}
 use Rattle.m2_weave.specs.Rule.{Woven, strand_at}
 use Rattle.m2_weave.specs.Strands.{Bytes, StrandNow, handed_by, judged_by, journal_of, total}
 use Rattle.m2_weave.specs.Tidy.{AreTidy, IsTidyStrand}
-use Rattle.m2_weave.proofs.SameSocket.{one_socket, same_refl}
 use Rattle.m2_history.specs.HalfStrands.{strand_of}
 use Rattle.m2_history.specs.Link.{AreKept, HasEnd, HaveHalves, IsKeptHalf, IsOnSocket, IsWholeHalf, StrandsAreTidy, end_ids, half_sockets}
 use Rattle.m2_history.specs.Parts.{PartsNow}
 use Rattle.m2_history.specs.Woven as woven
-use Rattle.m2_history.specs.Woven.{BothNow, EndNow, as_judged, end_of, half_end, is_of_link, judged_times, knows, loose_end, loose_ends, loose_strands, strands_of, strands_of_side}
-use Rattle.m2_history.proofs.Tidiness.{all_append, all_at, all_handed, all_in, all_map, all_so, at_whole, first_few, half_tidy, handed_in, journal_tidy, judged_noted, none_handed, or-left, or-right, whole_append, whole_of}
+use Rattle.m2_history.specs.Woven.{BothNow, EndNow, as_judged, end_of, half_end, is_of_link, judged_times, knows, loose_ends, loose_strands, strands_of, strands_of_side}
+use Rattle.m2_history.proofs.Tidiness.{all_at, all_handed, all_in, at_whole, first_few, half_tidy, handed_in, journal_tidy, judged_noted, none_handed, whole_append, whole_of}
+use Rattle.m2_history.proofs.Kept.{of-runs}
+use Rattle.m2_fabric.proofs.Sockets.{same_equal, same_refl}
+use Rattle.m2_lemmas.proofs.Lists.{all_append, all_map, all_so}
+use Rattle.m2_lemmas.proofs.Booleans.{or_left, or_right}
 
 -- ---- the entries of a loose half
 
-of-run : (k : SocketId) (r : Run) → IsOnSocket k (trail.entry_of k r)
-of-run k (run.Read count) = refl
-of-run k (run.Wrote count) = refl
-
-of-runs : (k : SocketId) (rs : List Run) → AllByRecursion (IsOnSocket k) (map (trail.entry_of k) rs)
-of-runs k [] = tt
-of-runs k (r ∷ rs) = (of-run k r, of-runs k rs)
-
-of-close : (k : SocketId) (closed : Bool) → AllByRecursion (IsOnSocket k) (trail.closing k closed)
+pub of-close : (k : SocketId) (closed : Bool) → AllByRecursion (IsOnSocket k) (trail.closing k closed)
 of-close k true = (refl, tt)
 of-close k false = tt
 
@@ -156,7 +149,7 @@ module _ (x : BothNow) (bytes : Bytes) (kept : AreKept x) where
         arith,
         sum-of (handed_by k) x,
         all_handed k (end_ids x.a) near near far x.a.trails x.loose kept.near.halves kept.whole kept.link.loose kept.link.near (omega arith)
-            (λ h. among-either k (or-left _ _ h)) (λ h. or-left _ _ h),
+            (λ h. among-either k (or_left _ _ h)) (λ h. or_left _ _ h),
       )
 
   far-handed : (k : SocketId) → total (judged_by k) (journal_of far).items ≤ handed k
@@ -165,7 +158,7 @@ module _ (x : BothNow) (bytes : Bytes) (kept : AreKept x) where
         arith,
         sum-of (handed_by k) x,
         all_handed k (end_ids x.b) far near far x.b.trails x.loose kept.far.halves kept.whole kept.link.loose kept.link.far (omega arith)
-            (λ h. among-either k (or-right _ _ h)) (λ h. or-right _ _ h),
+            (λ h. among-either k (or_right _ _ h)) (λ h. or_right _ _ h),
       )
 
   judged-strands : (k : SocketId) → AllByRecursion (λ (s : StrandNow). total (judged_by k) s.items ≤ handed k) (strands_of x)
@@ -189,7 +182,7 @@ module _ (x : BothNow) (bytes : Bytes) (kept : AreKept x) where
       no-more k t (judged k) (handed_in k t.socket t.judged_after 0 t.entries) (λ is. omega (arith, mine is, fewer, both-judged k))
     where
       mine : same_socket k t.socket ≡ true → length t.judged_after ≡ total (judged_by k) (map Noted journal)
-      mine is = h.many ∙ ap length h.judged ∙ sym (judged_noted t.socket journal) ∙ ap (λ y. total (judged_by y) (map Noted journal)) (sym (one_socket k t.socket is))
+      mine is = h.many ∙ ap length h.judged ∙ sym (judged_noted t.socket journal) ∙ ap (λ y. total (judged_by y) (map Noted journal)) (sym (same_equal k t.socket is))
 
   take-few : (n : ℕ) (ns : List ℕ) → length (take n ns) ≤ n
   take-few zero ns = omega arith
@@ -199,7 +192,7 @@ module _ (x : BothNow) (bytes : Bytes) (kept : AreKept x) where
   loose-judged : (k : SocketId) (l : LooseNow) → total (handed_by k) (strand_of (as_judged near far l.trail)).items ≤ judged k
   loose-judged k l =
       no-more k (as_judged near far l.trail) (judged k) (handed_in k l.trail.socket (as_judged near far l.trail).judged_after 0 l.trail.entries)
-      (λ is. omega (arith, take-few (judged_times near far l.trail.socket) l.trail.judged_after, ap (judged_times near far) (one_socket k l.trail.socket is), both-judged k))
+      (λ is. omega (arith, take-few (judged_times near far l.trail.socket) l.trail.judged_after, ap (judged_times near far) (same_equal k l.trail.socket is), both-judged k))
 
   handed-strands : (k : SocketId) → AllByRecursion (λ (s : StrandNow). total (handed_by k) s.items ≤ judged k) (strands_of x)
   handed-strands k =
@@ -243,10 +236,10 @@ module _ (x : BothNow) (bytes : Bytes) (kept : AreKept x) where
       ∙ ap (λ c. c || is_among k (map (λ (e : EndNow). e.socket) (loose_ends near far x.loose))) (list_any-append (same_socket k) (end_ids x.a) (end_ids x.b)) ∙ h
 
   near-named : (k : SocketId) → is_among k (end_ids x.a) ≡ true → is_among k names ≡ true
-  near-named k h = among-names k (or-left _ _ (or-left _ _ h))
+  near-named k h = among-names k (or_left _ _ (or_left _ _ h))
 
   far-named : (k : SocketId) → is_among k (end_ids x.b) ≡ true → is_among k names ≡ true
-  far-named k h = among-names k (or-left _ _ (or-right _ _ h))
+  far-named k h = among-names k (or_left _ _ (or_right _ _ h))
 
   loose-there : (k : SocketId) (ls : List LooseNow) → AllByRecursion IsWholeHalf ls → is_among k (map (λ (l : LooseNow). l.trail.socket) ls) ≡ true →
       (knows near k || knows far k) ≡ true → is_among k (map (λ (e : EndNow). e.socket) (loose_ends near far ls)) ≡ true
@@ -255,17 +248,17 @@ module _ (x : BothNow) (bytes : Bytes) (kept : AreKept x) where
     where
       among-more : (c : Bool) → is_among k (map (λ (e : EndNow). e.socket) (loose_ends near far ls)) ≡ true →
           is_among k (map (λ (e : EndNow). e.socket) ((if c then half_end l ∷ [] else []) ++ loose_ends near far ls)) ≡ true
-      among-more true h = or-right _ _ h
+      among-more true h = or_right _ _ h
       among-more false h = h
 
       at : (c : Bool) → same_socket k l.trail.socket ≡ c → (c || is_among k (map (λ (l : LooseNow). l.trail.socket) ls)) ≡ true →
           (is_among k (map (λ (l : LooseNow). l.trail.socket) ls) ≡ true → is_among k (map (λ (e : EndNow). e.socket) (loose_ends near far ls)) ≡ true) →
           is_among k (map (λ (e : EndNow). e.socket) ((if is_of_link near far l then half_end l ∷ [] else []) ++ loose_ends near far ls)) ≡ true
       at true e h rest =
-          let same : k ≡ l.end.id = one_socket k l.trail.socket e ∙ whole.0.socket in
+          let same : k ≡ l.end.id = same_equal k l.trail.socket e ∙ whole.0.socket in
           let here : is_of_link near far l ≡ true = subst (λ y. (knows near y || knows far y) ≡ true) same of in
           let yes : same_socket k l.end.id ≡ true = subst (λ y. same_socket k y ≡ true) same (same_refl k) in
-          rw here (or-left _ _ yes)
+          rw here (or_left _ _ yes)
       at false e h rest = among-more (is_of_link near far l) (rest h)
 
   -- a half that has judged asks is there
@@ -281,12 +274,12 @@ module _ (x : BothNow) (bytes : Bytes) (kept : AreKept x) where
         where
           at : (c : Bool) → same_socket k t.socket ≡ c → (c || is_among k (map (λ (t : TrailNow). t.socket) ts)) ≡ true →
               (is_among k (map (λ (t : TrailNow). t.socket) ts) ≡ true → is_among k (end_ids p) ≡ true) → is_among k (end_ids p) ≡ true
-          at true e h rest = subst (λ y. is_among y (end_ids p) ≡ true) (sym (one_socket k t.socket e)) all.0.end
+          at true e h rest = subst (λ y. is_among y (end_ids p) ≡ true) (sym (same_equal k t.socket e)) all.0.end
           at false e h rest = rest h
 
       by_where : (c d : Bool) → is_among k (map (λ (t : TrailNow). t.socket) p.trails) ≡ c → is_among k (map (λ (l : LooseNow). l.trail.socket) x.loose) ≡ d → (c || d) ≡ true → is_among k names ≡ true
       by_where true d e f h = ends (taken-there p.trails halves e)
-      by_where false d e f h = among-names k (or-right _ _ (loose-there k x.loose kept.whole (f ∙ h) of))
+      by_where false d e f h = among-names k (or_right _ _ (loose-there k x.loose kept.whole (f ∙ h) of))
 
   -- the entries of a journal
 
@@ -297,8 +290,8 @@ module _ (x : BothNow) (bytes : Bytes) (kept : AreKept x) where
   journal-named p ends halves (entry.Read k count ∷ es) of named have = (ends k named.0, journal-named p ends halves es of named.1 have)
   journal-named p ends halves (entry.Wrote k count ∷ es) of named have = (ends k named.0, journal-named p ends halves es of named.1 have)
   journal-named p ends halves (entry.Judged k ask number answer ∷ es) of named have =
-      (half-named k p (ends k) halves (of k (or-left _ _ (same_refl k))) have.0, journal-named p ends halves es (λ y h. of y (or-right _ _ h)) named.1 have.1)
-  journal-named p ends halves (entry.Opened k ∷ es) of named have = (tt, journal-named p ends halves es (λ y h. of y (or-right _ _ h)) named.1 have)
+      (half-named k p (ends k) halves (of k (or_left _ _ (same_refl k))) have.0, journal-named p ends halves es (λ y h. of y (or_right _ _ h)) named.1 have.1)
+  journal-named p ends halves (entry.Opened k ∷ es) of named have = (tt, journal-named p ends halves es (λ y h. of y (or_right _ _ h)) named.1 have)
   journal-named p ends halves (entry.Post place ∷ es) of named have = (tt, journal-named p ends halves es of named.1 have)
   journal-named p ends halves (entry.Dial ∷ es) of named have = (tt, journal-named p ends halves es of named.1 have)
   journal-named p ends halves (entry.Closed k ∷ es) of named have = (tt, journal-named p ends halves es of named.1 have)
@@ -335,13 +328,13 @@ module _ (x : BothNow) (bytes : Bytes) (kept : AreKept x) where
     where
       among-more : (c : Bool) (k : SocketId) → is_among k (map (λ (e : EndNow). e.socket) (loose_ends near far ls)) ≡ true →
           is_among k (map (λ (e : EndNow). e.socket) ((if c then half_end l ∷ [] else []) ++ loose_ends near far ls)) ≡ true
-      among-more true k h = or-right _ _ h
+      among-more true k h = or_right _ _ h
       among-more false k h = h
 
       here : is_of_link near far l ≡ true → is_among l.trail.socket (map (λ (e : EndNow). e.socket) ((if is_of_link near far l then half_end l ∷ [] else []) ++ loose_ends near far ls)) ≡ true
       here e =
           let yes : same_socket l.trail.socket l.end.id ≡ true = subst (λ y. same_socket l.trail.socket y ≡ true) whole.0.socket (same_refl l.trail.socket) in
-          rw e (or-left _ _ yes)
+          rw e (or_left _ _ yes)
 
       first : is_of_link near far l ≡ true → AllByRecursion (IsNamed names) (strand_of (as_judged near far l.trail)).items
       first e = strand-named (as_judged near far l.trail) (h l.trail.socket (here e)) (loose-entries l whole.0)
@@ -349,11 +342,11 @@ module _ (x : BothNow) (bytes : Bytes) (kept : AreKept x) where
   named : AreNamed names w
   named =
       all-strands (λ (s : StrandNow). AllByRecursion (IsNamed names) s.items) x
-      (journal-named x.a near-named kept.near.halves near (λ k h. or-left _ _ h) kept.near.named kept.link.near)
-      (journal-named x.b far-named kept.far.halves far (λ k h. or-right _ _ h) kept.far.named kept.link.far)
+      (journal-named x.a near-named kept.near.halves near (λ k h. or_left _ _ h) kept.near.named kept.link.near)
+      (journal-named x.b far-named kept.far.halves far (λ k h. or_right _ _ h) kept.far.named kept.link.far)
       (all_so (IsKeptHalf (end_ids x.a) near) (λ t. AllByRecursion (IsNamed names) (strand_of t).items) (λ t h. strand-named t (near-named t.socket h.end) h.entries) x.a.trails kept.near.halves)
       (all_so (IsKeptHalf (end_ids x.b) far) (λ t. AllByRecursion (IsNamed names) (strand_of t).items) (λ t h. strand-named t (far-named t.socket h.end) h.entries) x.b.trails kept.far.halves)
-      (all-loose (λ (s : StrandNow). AllByRecursion (IsNamed names) s.items) near far x.loose (loose-name x.loose kept.whole (λ k h. among-names k (or-right _ _ h))))
+      (all-loose (λ (s : StrandNow). AllByRecursion (IsNamed names) s.items) near far x.loose (loose-name x.loose kept.whole (λ k h. among-names k (or_right _ _ h))))
 
 pub strands_are_tidy : StrandsAreTidy
 strands_are_tidy = record { tidy = λ x bytes kept. tidy x bytes kept; named = λ x bytes kept. named x bytes kept }

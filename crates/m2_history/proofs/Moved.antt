@@ -18,7 +18,6 @@ use Rattle.m2_journal.specs.Replay.{after_items}
 use Rattle.m2_journal.specs.State.{start}
 use Rattle.m2_journal.proofs.Sockets.{not_taken}
 use Rattle.m2_weave.specs.Order.{Cut}
-use Rattle.m2_never_reset.proofs.Sockets.{differ, same_equal}
 use Rattle.m2_record.specs.TakenTrails.{judgements_in, taken_in}
 use Rattle.m2_trail.specs.Trails as trail
 use Rattle.m2_trail.specs.Trails.{HalfBytes, TrailNow, runs_of}
@@ -33,7 +32,10 @@ use Rattle.m2_history.proofs.WovenHalves.{AreOwn, IsOwnItem, elsewhere, half_ope
 use Rattle.m2_history.proofs.Journals.{IsQuietOn, Unknown, judged_are, opened_are, opened_unjudged, reads_are, taken_are, unknown_quiet, writes_are}
 use Rattle.m2_history.proofs.Names.{items_add}
 use Rattle.m2_history.proofs.Scene.{IsHalfAt, IsHalfIn, IsScene, IsTakenIn, Setting, adds_none, come, end_at, opens_in, other_half, part_is, record_part, strand_is, strands_in, taken_map, woven_in}
-use Rattle.m2_history.proofs.Sums.{all_of, all_zero, half_read, none_adds, one_adds, one_reads, part_at, strand_in, two_add, whole_zero}
+use Rattle.m2_history.proofs.Sums.{all_zero, half_read, none_adds, one_adds, one_reads, part_at, strand_in, two_add, whole_zero}
+use Rattle.m2_lemmas.proofs.Booleans.{from_false_true}
+use Rattle.m2_fabric.proofs.Sockets.{same_equal}
+use Rattle.m2_lemmas.proofs.Lists.{all_so_of}
 
 -- ---- halves of a side
 
@@ -79,8 +81,8 @@ find_in (a ∷ actors) s k = first a (find_in actors s k)
     same_or_not : (s r : Bool) → (s ≡ r) ⊎ (s ≡ r → ⊥)
     same_or_not true true = inl refl
     same_or_not false false = inl refl
-    same_or_not true false = inr (λ e. differ (sym e))
-    same_or_not false true = inr (λ e. differ e)
+    same_or_not true false = inr (λ e. from_false_true (sym e))
+    same_or_not false true = inr (λ e. from_false_true e)
 
     first : (a : Actor) → Found actors s k ⊎ ((j : ℕ) (t : TrailNow) (log : Log) → slice_get actors j ≡ Some (of_half s t log) → same_socket k t.socket ≡ false) →
         Found (a ∷ actors) s k ⊎ ((j : ℕ) (t : TrailNow) (log : Log) → slice_get (a ∷ actors) j ≡ Some (of_half s t log) → same_socket k t.socket ≡ false)
@@ -113,17 +115,17 @@ opened_still k n es h = at (has_opened (journal_of es) k) refl
   where
     at : (b : Bool) → has_opened (journal_of es) k ≡ b → has_opened (journal_of es) k ≡ true
     at true e = e
-    at false e = differ (sym (opened_front k n es e) ∙ h)
+    at false e = from_false_true (sym (opened_front k n es e) ∙ h)
 
 pub unjudged_untaken : (k : SocketId) (es : List Entry) → judged_on k (judgements_in es) ≡ [] → is_among k (taken_in es) ≡ false
 unjudged_untaken k es e =
     ap (is_among k) (taken_are es) ∙ not_taken k (judgements_in es) (subst (AllByRecursion (λ i. may_ask_again i.answer ≡ true)) (sym e) tt)
 
-quiet_reads : (k : SocketId) (es : List Entry) → AllByRecursion (IsQuietOn k) es → total (read_by k) (map Noted es) ≡ 0
+pub quiet_reads : (k : SocketId) (es : List Entry) → AllByRecursion (IsQuietOn k) es → total (read_by k) (map Noted es) ≡ 0
 quiet_reads k [] h = refl
 quiet_reads k (e ∷ es) h = omega (arith, h.0.0, quiet_reads k es h.1)
 
-quiet_writes : (k : SocketId) (es : List Entry) → AllByRecursion (IsQuietOn k) es → total (written_by k) (map Noted es) ≡ 0
+pub quiet_writes : (k : SocketId) (es : List Entry) → AllByRecursion (IsQuietOn k) es → total (written_by k) (map Noted es) ≡ 0
 quiet_writes k [] h = refl
 quiet_writes k (e ∷ es) h = omega (arith, h.0.1, quiet_writes k es h.1)
 
@@ -131,7 +133,7 @@ total_as : (f g : StrandItem → ℕ) (is : List StrandItem) → ((i : StrandIte
 total_as f g [] h = refl
 total_as f g (i ∷ is) h = omega (arith, h i, total_as f g is h)
 
-total_never : (f : StrandItem → ℕ) (is : List StrandItem) → ((i : StrandItem) → f i ≡ 0) → total f is ≡ 0
+pub total_never : (f : StrandItem → ℕ) (is : List StrandItem) → ((i : StrandItem) → f i ≡ 0) → total f is ≡ 0
 total_never f [] h = refl
 total_never f (i ∷ is) h = omega (arith, h i, total_never f is h)
 
@@ -196,7 +198,7 @@ module _ (x : Setting) (sc : IsScene x) (points : OrdersGivePoints) (tell : Trai
   opened_bare s k o j t log there = by (same_socket k t.socket) refl
     where
       by : (b : Bool) → same_socket k t.socket ≡ b → b ≡ false
-      by true e = differ (sym (sc.half j s t log there).unopened ∙ ap (opens_in x s) (sym (same_equal k t.socket e)) ∙ o)
+      by true e = from_false_true (sym (sc.half j s t log there).unopened ∙ ap (opens_in x s) (sym (same_equal k t.socket e)) ∙ o)
       by false e = refl
 
   pub opened_untaken : (s : Bool) (k : SocketId) → opens_in x s k ≡ true → is_among k (taken_in (x.journals s)) ≡ false
@@ -206,7 +208,7 @@ module _ (x : Setting) (sc : IsScene x) (points : OrdersGivePoints) (tell : Trai
   taken_by_now s k h = by (is_among k (taken_in (come x sc at s))) refl
     where
       by : (b : Bool) → is_among k (taken_in (come x sc at s)) ≡ b → is_among k (taken_in (come x sc at s)) ≡ false
-      by true e = differ (sym h ∙ taken_still k (slice_index at (sc.place s)) (x.journals s) e)
+      by true e = from_false_true (sym h ∙ taken_still k (slice_index at (sc.place s)) (x.journals s) e)
       by false e = e
 
   -- ---- what was read was written
@@ -249,7 +251,7 @@ module _ (x : Setting) (sc : IsScene x) (points : OrdersGivePoints) (tell : Trai
       other i d (Some (of_half r u log')) e =
           ap (half_read t.socket) (strand_is x sc i (of_half r u log') e)
           ∙ whole_zero (read_by t.socket) (strand_of u).items
-          (all_of (IsOwnItem u.socket) (λ m. read_by t.socket m ≡ 0) (strand_of u).items (λ m o. (elsewhere t.socket u.socket (other_half x sc i j r s u t log' log e there d) m o).read) (strand_own u (sc.half i r u log' e).own))
+          (all_so_of (IsOwnItem u.socket) (λ m. read_by t.socket m ≡ 0) (strand_of u).items (λ m o. (elsewhere t.socket u.socket (other_half x sc i j r s u t log' log e there d) m o).read) (strand_own u (sc.half i r u log' e).own))
 
   -- ---- what a side has got
 
@@ -385,7 +387,7 @@ module _ (x : Setting) (sc : IsScene x) (points : OrdersGivePoints) (tell : Trai
   half_elsewhere : (t : TrailNow) → AreOwn t.socket t.entries → (k : SocketId) (n : ℕ) → same_socket k t.socket ≡ false → total (written_in (end_at k false) (strand_of t)) (take n (strand_of t).items) ≡ 0
   half_elsewhere t own k n e =
       half_ever t own k n
-      ∙ all_zero (written_by k) n (strand_of t).items (all_of (IsOwnItem t.socket) (λ m. written_by k m ≡ 0) (strand_of t).items (λ m o. (elsewhere k t.socket e m o).written) (strand_own t own))
+      ∙ all_zero (written_by k) n (strand_of t).items (all_so_of (IsOwnItem t.socket) (λ m. written_by k m ≡ 0) (strand_of t).items (λ m o. (elsewhere k t.socket e m o).written) (strand_own t own))
 
   -- at the end of a side that opens the socket: what its journal has written
   pub opener_written : (s : Bool) (k : SocketId) → opens_in x s k ≡ true → written_at (strands_in x) at (end_at k true) ≡ writes_by s k

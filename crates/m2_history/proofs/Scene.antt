@@ -13,7 +13,6 @@ use Rattle.m2_journal.specs.Replay.{AreLawful}
 use Rattle.m2_journal.specs.SideFacts.{SideFacts}
 use Rattle.m2_journal.specs.State.{start}
 use Rattle.m2_weave.specs.Order.{Cut}
-use Rattle.m2_never_reset.proofs.Sockets.{differ, same_equal}
 use Rattle.m2_record.specs.TakenTrails.{judgements_in, taken_in}
 use Rattle.m2_trail.specs.Trails as tr
 use Rattle.m2_trail.specs.Trails.{TrailNow, IsTakenTrail, IsTrailOf, opener_of, runs_of, unread_of}
@@ -23,7 +22,10 @@ use Rattle.m2_weave.specs.Rule.{Woven, nothing_at_all}
 use Rattle.m2_weave.specs.Strands.{Bytes, EndOf, StrandNow, handed_at, handed_by, has_opened, journal_of, judged_at, judged_by, total}
 use Rattle.m2_history.specs.Actors.{Actor, of_record, of_half, strand_by}
 use Rattle.m2_history.proofs.WovenHalves.{AreOwn, IsOwnItem, elsewhere, judges_none, strand_own}
-use Rattle.m2_history.proofs.Sums.{all_of, all_zero, none_adds, one_adds, part_at, strand_in, two_add}
+use Rattle.m2_history.proofs.Sums.{all_zero, none_adds, one_adds, part_at, strand_in, two_add, nothing_taken}
+use Rattle.m2_lemmas.proofs.Booleans.{from_false_true}
+use Rattle.m2_fabric.proofs.Sockets.{same_equal}
+use Rattle.m2_lemmas.proofs.Lists.{all_so_of}
 
 pub record Setting : Type 0 where
   pub facts : (near : Bool) → SideFacts
@@ -110,10 +112,6 @@ actor_within [] j a e = absurd (cc)
 actor_within (b ∷ actors) zero a e = omega arith
 actor_within (b ∷ actors) (suc j) a e = let r : j < length actors = actor_within actors j a e in omega arith
 
-nothing_taken : (f : StrandItem → ℕ) (n : ℕ) → total f (take n (let none : List StrandItem = [] in none)) ≡ 0
-nothing_taken f zero = refl
-nothing_taken f (suc n) = refl
-
 pub taken_map : {X Y : Type 0} (f : X → Y) (n : ℕ) (xs : List X) → take n (map f xs) ≡ map f (take n xs)
 taken_map f zero xs = refl
 taken_map f (suc n) [] = refl
@@ -171,7 +169,7 @@ module _ (x : Setting) (sc : IsScene x) where
 
   elsewhere_handed : (k : SocketId) (n : ℕ) (t : TrailNow) → AreOwn t.socket t.entries → same_socket k t.socket ≡ false → total (handed_by k) (take n (strand_of t).items) ≡ 0
   elsewhere_handed k n t own e =
-      all_zero (handed_by k) n (strand_of t).items (all_of (IsOwnItem t.socket) (λ i. handed_by k i ≡ 0) (strand_of t).items (λ i o. (elsewhere k t.socket e i o).handed) (strand_own t own))
+      all_zero (handed_by k) n (strand_of t).items (all_so_of (IsOwnItem t.socket) (λ i. handed_by k i ≡ 0) (strand_of t).items (λ i o. (elsewhere k t.socket e i o).handed) (strand_own t own))
 
   pub handed_is : (at : Cut) (j : ℕ) (s : Bool) (t : TrailNow) (log : Log) → IsHalfAt x j s t log →
       handed_at (strands_in x) at t.socket ≡ total (handed_by t.socket) (take (slice_index at j) (strand_of t).items)
@@ -195,14 +193,14 @@ module _ (x : Setting) (sc : IsScene x) where
 
   half_judges_none : (k : SocketId) (n : ℕ) (t : TrailNow) → AreOwn t.socket t.entries → total (judged_by k) (take n (strand_of t).items) ≡ 0
   half_judges_none k n t own =
-      all_zero (judged_by k) n (strand_of t).items (all_of (IsOwnItem t.socket) (λ i. judged_by k i ≡ 0) (strand_of t).items (λ i o. judges_none k t.socket i o) (strand_own t own))
+      all_zero (judged_by k) n (strand_of t).items (all_so_of (IsOwnItem t.socket) (λ i. judged_by k i ≡ 0) (strand_of t).items (λ i o. judges_none k t.socket i o) (strand_own t own))
 
   places_apart : (s : Bool) → sc.place s ≡ sc.place (not s) → ⊥
   places_apart s e = at s (some_same (of_record s) (of_record (not s)) (slice_get x.actors (sc.place s)) (sc.there s) (ap (slice_get x.actors) e ∙ sc.there (not s)))
     where
       at : (s : Bool) → of_record s ≡ of_record (not s) → ⊥
-      at true h = let same : true ≡ false = cc in differ (sym same)
-      at false h = let same : false ≡ true = cc in differ same
+      at true h = let same : true ≡ false = cc in from_false_true (sym same)
+      at false h = let same : false ≡ true = cc in from_false_true same
 
   by_record_of : (s r : Bool) → (r ≡ s) ⊎ (r ≡ not s)
   by_record_of true true = inl refl

@@ -1,5 +1,5 @@
 -- A total over strands is that of the one strand that adds to it, or of the two.
-use Rattle.std.proofs.Common.{◌≡◌, ℕ, zero, suc, ◌+◌, List, [], ◌∷◌, map, take, drop, refl, sym, arith}
+use Rattle.std.proofs.Common.{◌≡◌, ℕ, zero, suc, ◌+◌, List, [], ◌∷◌, take, drop, refl, sym, arith}
 use Rattle.std.specs.Prelude.{if◌then◌else◌, slice_index, slice_index_or}
 use Rattle.std.specs.List.{AllByRecursion}
 use Rattle.m2_fabric.specs.declared.socket.SocketId.{SocketId}
@@ -15,7 +15,7 @@ strand_in ss j = slice_index_or ss j nothing_at_all
 abbrev pub part_at : (StrandNow → StrandItem → ℕ) → List StrandNow → Cut → ℕ → ℕ
 part_at f ss at j = total (f (strand_in ss j)) (take (slice_index at j) (strand_in ss j).items)
 
-nothing_taken : (f : StrandItem → ℕ) (n : ℕ) → total f (take n (let none : List StrandItem = [] in none)) ≡ 0
+pub nothing_taken : (f : StrandItem → ℕ) (n : ℕ) → total f (take n (let none : List StrandItem = [] in none)) ≡ 0
 nothing_taken f zero = refl
 nothing_taken f (suc n) = refl
 
@@ -72,27 +72,9 @@ pub whole_zero : (f : StrandItem → ℕ) (is : List StrandItem) → AllByRecurs
 whole_zero f [] h = refl
 whole_zero f (i ∷ is) h = omega (arith, h.0, whole_zero f is h.1)
 
-pub all_of : {X : Type 0} (P Q : X → Type 0) (xs : List X) → ((x : X) → P x → Q x) → AllByRecursion P xs → AllByRecursion Q xs
-all_of P Q [] f h = tt
-all_of P Q (x ∷ xs) f h = (f x h.0, all_of P Q xs f h.1)
-
 pub all_each : {X : Type 0} (P : X → Type 0) (xs : List X) → ((x : X) → P x) → AllByRecursion P xs
 all_each P [] f = tt
 all_each P (x ∷ xs) f = (f x, all_each P xs f)
-
-pub all_take : {X : Type 0} (P : X → Type 0) (n : ℕ) (xs : List X) → AllByRecursion P xs → AllByRecursion P (take n xs)
-all_take P zero xs h = tt
-all_take P (suc n) [] h = tt
-all_take P (suc n) (x ∷ xs) h = (h.0, all_take P n xs h.1)
-
-pub all_drop : {X : Type 0} (P : X → Type 0) (n : ℕ) (xs : List X) → AllByRecursion P xs → AllByRecursion P (drop n xs)
-all_drop P zero xs h = h
-all_drop P (suc n) [] h = tt
-all_drop P (suc n) (x ∷ xs) h = all_drop P n xs h.1
-
-pub all_map : {X Y : Type 0} (P : Y → Type 0) (f : X → Y) (xs : List X) → AllByRecursion (λ x. P (f x)) xs → AllByRecursion P (map f xs)
-all_map P f [] h = tt
-all_map P f (x ∷ xs) h = (h.0, all_map P f xs h.1)
 
 pub total_more : (f : StrandItem → ℕ) (m n : ℕ) (is : List StrandItem) → total f (take m is) ≡ total f (take n (take m is)) + total f (drop n (take m is))
 total_more f m n is = at n (take m is)

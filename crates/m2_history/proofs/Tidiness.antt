@@ -19,34 +19,15 @@ use Rattle.m2_weave.specs.declared.strand.StrandItem.TheVariants.{Noted, Handed}
 use Rattle.m2_weave.specs.Rule.{nothing_at_all}
 use Rattle.m2_weave.specs.Strands.{StrandNow, half_items, handed_by, judged_by, total, total_at}
 use Rattle.m2_weave.specs.Tidy.{IsOfHalf, IsOfJournal, IsTidyStrand}
-use Rattle.m2_weave.proofs.SameSocket.{one_socket, same_refl}
 use Rattle.m2_history.specs.HalfStrands.{strand_of}
 use Rattle.m2_history.specs.Link.{HaveHalves, IsJudgedSo, IsKeptHalf, IsOnSocket, IsWholeHalf, half_sockets}
 use Rattle.m2_history.specs.Woven.{as_judged, is_of_link, judged_times, knows, loose_strands}
+use Rattle.m2_lemmas.proofs.Lists.{all_append, all_so, all_map, all_take, all_drop}
+use Rattle.m2_lemmas.proofs.Booleans.{or_right, one_of_or}
+use Rattle.m2_history.proofs.Alone.{total_joined}
+use Rattle.m2_fabric.proofs.Sockets.{same_equal, same_refl}
 
 -- ---- lists
-
-pub all_append : {X : Type 0} (P : X → Type 0) (xs ys : List X) → AllByRecursion P xs → AllByRecursion P ys → AllByRecursion P (xs ++ ys)
-all_append P [] ys a b = b
-all_append P (x ∷ xs) ys a b = (a.0, all_append P xs ys a.1 b)
-
-pub all_map : {X Y : Type 0} (P : Y → Type 0) (f : X → Y) (xs : List X) → AllByRecursion (λ x. P (f x)) xs → AllByRecursion P (map f xs)
-all_map P f [] a = tt
-all_map P f (x ∷ xs) a = (a.0, all_map P f xs a.1)
-
-pub all_so : {X : Type 0} (P Q : X → Type 0) → ((x : X) → P x → Q x) → (xs : List X) → AllByRecursion P xs → AllByRecursion Q xs
-all_so P Q h [] a = tt
-all_so P Q h (x ∷ xs) a = (h x a.0, all_so P Q h xs a.1)
-
-all-take : {X : Type 0} (P : X → Type 0) (n : ℕ) (xs : List X) → AllByRecursion P xs → AllByRecursion P (take n xs)
-all-take P zero xs a = tt
-all-take P (suc n) [] a = tt
-all-take P (suc n) (x ∷ xs) a = (a.0, all-take P n xs a.1)
-
-all-drop : {X : Type 0} (P : X → Type 0) (n : ℕ) (xs : List X) → AllByRecursion P xs → AllByRecursion P (drop n xs)
-all-drop P zero xs a = a
-all-drop P (suc n) [] a = tt
-all-drop P (suc n) (x ∷ xs) a = all-drop P n xs a.1
 
 pub all_at : (P : StrandNow → Type 0) → P nothing_at_all → (ss : List StrandNow) → AllByRecursion P ss → (j : ℕ) → P (slice_index_or ss j nothing_at_all)
 all_at P none [] a j = none
@@ -67,10 +48,6 @@ at_whole f (s ∷ ss) = omega (arith, ap (total f) (take_all (length s.items) s.
 pub whole_append : (f : StrandItem → ℕ) (xs ys : List StrandNow) → whole_of f (xs ++ ys) ≡ whole_of f xs + whole_of f ys
 whole_append f [] ys = omega arith
 whole_append f (x ∷ xs) ys = omega (arith, whole_append f xs ys)
-
-total-append : (f : StrandItem → ℕ) (xs ys : List StrandItem) → total f (xs ++ ys) ≡ total f xs + total f ys
-total-append f [] ys = omega arith
-total-append f (x ∷ xs) ys = omega (arith, total-append f xs ys)
 
 pub first_few : (f : StrandItem → ℕ) (n : ℕ) (is : List StrandItem) → total f (take n is) ≤ total f is
 first_few f zero is = omega arith
@@ -96,7 +73,7 @@ pub handed_in : (k x : SocketId) (ns : List ℕ) (place : ℕ) (es : List Entry)
 handed_in k x [] place es = none_handed k es ∙ where-none (same_socket k x)
 handed_in k x (n ∷ ns) place es =
     let rest = half_items x (max n place) (drop (n - place) es) ns in
-    let split = total-append (handed_by k) (map Noted (take (n - place) es)) (Handed x ∷ rest) in
+    let split = total_joined (handed_by k) (map Noted (take (n - place) es)) (Handed x ∷ rest) in
     omega (arith, split, none_handed k (take (n - place) es), handed_in k x ns (max n place) (drop (n - place) es), where-so (same_socket k x) (length ns))
 
 pub all_in : (P : StrandItem → Type 0) (x : SocketId) → P (Handed x) → (ns : List ℕ) (place : ℕ) (es : List Entry) → AllByRecursion (λ e. P (Noted e)) es →
@@ -104,8 +81,8 @@ pub all_in : (P : StrandItem → Type 0) (x : SocketId) → P (Handed x) → (ns
 all_in P x h [] place es a = all_map P Noted es a
 all_in P x h (n ∷ ns) place es a =
     all_append P (map Noted (take (n - place) es)) (Handed x ∷ half_items x (max n place) (drop (n - place) es) ns)
-    (all_map P Noted (take (n - place) es) (all-take (λ e. P (Noted e)) (n - place) es a))
-    (h, all_in P x h ns (max n place) (drop (n - place) es) (all-drop (λ e. P (Noted e)) (n - place) es a))
+    (all_map P Noted (take (n - place) es) (all_take (λ e. P (Noted e)) (n - place) es a))
+    (h, all_in P x h ns (max n place) (drop (n - place) es) (all_drop (λ e. P (Noted e)) (n - place) es a))
 
 -- what is on one socket alone
 on-half : (k : SocketId) (e : Entry) → IsOnSocket k e → IsOfHalf k (Noted e)
@@ -161,14 +138,6 @@ pub judged_append : (k : SocketId) (xs ys : List Judgement) → length (judged_o
 judged_append k [] ys = omega arith
 judged_append k (x ∷ xs) ys = omega (arith, judged-more k x (xs ++ ys), judged-more k x xs, judged_append k xs ys)
 
-pub or-left : (a b : Bool) → a ≡ true → (a || b) ≡ true
-or-left true b e = refl
-or-left false b e = absurd cc
-
-pub or-right : (a b : Bool) → b ≡ true → (a || b) ≡ true
-or-right true b e = refl
-or-right false b e = e
-
 -- a socket on which something was judged
 some-judged : (k : SocketId) (js : List Judgement) → 0 < length (judged_on k js) → is_among k (map (λ (j : Judgement). j.socket) js) ≡ true
 some-judged k [] h = absurd (omega (arith, h))
@@ -186,7 +155,7 @@ known k (entry.Judged x ask number answer ∷ es) h = at (same_socket k x) refl 
     at : (b : Bool) → same_socket k x ≡ b → (0 < total (judged_by k) (map Noted es) → knows es k ≡ true) → (same_socket k x || knows es k) ≡ true
     at true e rest = rw e refl
     at false e rest = rw e (rest (omega (arith, h, ap {B = ℕ} (λ b. if b then 1 else 0) e)))
-known k (entry.Opened x ∷ es) h = or-right (same_socket k x) (knows es k) (known k es (omega (arith, h)))
+known k (entry.Opened x ∷ es) h = or_right (same_socket k x) (knows es k) (known k es (omega (arith, h)))
 known k (entry.Post place ∷ es) h = known k es (omega (arith, h))
 known k (entry.Dial ∷ es) h = known k es (omega (arith, h))
 known k (entry.Read x count ∷ es) h = known k es (omega (arith, h))
@@ -208,12 +177,8 @@ have-half k hs (j ∷ js) all h = at (same_socket k j.socket) refl h (have-half 
   where
     at : (b : Bool) → same_socket k j.socket ≡ b → (b || is_among k (map (λ (j : Judgement). j.socket) js)) ≡ true →
         (is_among k (map (λ (j : Judgement). j.socket) js) ≡ true → is_among k hs ≡ true) → is_among k hs ≡ true
-    at true e h rest = subst (λ x. is_among x hs ≡ true) (sym (one_socket k j.socket e)) all.0
+    at true e h rest = subst (λ x. is_among x hs ≡ true) (sym (same_equal k j.socket e)) all.0
     at false e h rest = rest h
-
-either-true : (a b : Bool) → (a || b) ≡ true → (a ≡ true) ⊎ (b ≡ true)
-either-true true b h = inl refl
-either-true false b h = inr h
 
 -- a half that the side took hands on all that was judged
 taken-handed : (k : SocketId) (ids : List SocketId) (journal : List Entry) (ts : List TrailNow) → AllByRecursion (IsKeptHalf ids journal) ts →
@@ -225,7 +190,7 @@ taken-handed k ids journal (t ∷ ts) all h = at (same_socket k t.socket) refl h
         (is_among k (map (λ (t : TrailNow). t.socket) ts) ≡ true → total (judged_by k) (map Noted journal) ≤ whole_of (handed_by k) (map strand_of ts)) →
         total (judged_by k) (map Noted journal) ≤ total (handed_by k) (strand_of t).items + whole_of (handed_by k) (map strand_of ts)
     at true e h rest =
-        let same : k ≡ t.socket = one_socket k t.socket e in
+        let same : k ≡ t.socket = same_equal k t.socket e in
         let mine : length t.judged_after ≡ length (judged_on k (judgements_in journal)) =
         all.0.many ∙ ap length all.0.judged ∙ ap (λ x. length (judged_on x (judgements_in journal))) (sym same) in
         omega (arith, handed_in k t.socket t.judged_after 0 t.entries, ap (λ b. if b then length t.judged_after else 0) e, mine, judged_noted k journal)
@@ -249,7 +214,7 @@ loose-handed k a b (l ∷ ls) whole all h judged of = at (same_socket k l.trail.
         (is_among k (map (λ (l : LooseNow). l.trail.socket) ls) ≡ true → judged_times a b k ≤ whole_of (handed_by k) (loose_strands a b ls)) →
         judged_times a b k ≤ whole_of (handed_by k) (loose_strands a b (l ∷ ls))
     at true e h rest =
-        let same : k ≡ l.trail.socket = one_socket k l.trail.socket e in
+        let same : k ≡ l.trail.socket = same_equal k l.trail.socket e in
         let its : l.trail.judged ≡ judged_on l.trail.socket js =
         all.0 (subst (λ x. is_among x (map (λ (j : Judgement). j.socket) js) ≡ true) same judged) in
         let here : is_of_link a b l ≡ true = subst (λ x. (knows a x || knows b x) ≡ true) (same ∙ whole.0.socket) of in
@@ -289,7 +254,7 @@ all_handed k ids journal a b ts ls kept whole told have fewer among of = at (tot
     half judged knows =
         let one = have-half k (half_sockets ts ls) (judgements_in journal) have judged in
         let split = list_any-append (same_socket k) (map (λ (t : TrailNow). t.socket) ts) (map (λ (l : LooseNow). l.trail.socket) ls) in
-        elim (either-true (is_among k (map (λ (t : TrailNow). t.socket) ts)) (is_among k (map (λ (l : LooseNow). l.trail.socket) ls)) (sym split ∙ one)) [
+        elim (one_of_or (is_among k (map (λ (t : TrailNow). t.socket) ts)) (is_among k (map (λ (l : LooseNow). l.trail.socket) ls)) (sym split ∙ one)) [
           | inl taken ↦ omega (arith, taken-handed k ids journal ts kept taken)
           | inr loose ↦ omega (arith, fewer, loose-handed k a b ls whole told loose (among judged) (of knows))
         ]

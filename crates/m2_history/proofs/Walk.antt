@@ -14,16 +14,16 @@ use Rattle.m2_history.specs.HalfStrands.{strand_of}
 use Rattle.m2_journal.specs.declared.entry.Entry.TheVariants as entry
 use Rattle.m2_journal.specs.Items.{JournalItem}
 use Rattle.m2_weave.specs.Order.{Cut, come, come_all}
-use Rattle.m2_never_reset.proofs.Sockets.{same_refl}
 use Rattle.m2_never_reset.specs.Orders.{near_items, far_items}
 use Rattle.m2_trail.specs.Trails.{TrailNow}
 use Rattle.m2_weave.specs.declared.strand.StrandItem.{StrandItem}
 use Rattle.m2_weave.specs.declared.strand.StrandItem.TheVariants.{Noted, Handed}
 use Rattle.m2_weave.specs.Strands.{read_by, total, written_by}
-use Rattle.m2_weave.proofs.Written.{total-more}
+use Rattle.m2_weave.proofs.Written.{total-suc}
 use Rattle.m2_history.specs.Actors.{Actor, of_record, of_half}
 use Rattle.m2_history.proofs.WovenHalves.{AreOwn, IsOwnItem, strand_own}
 use Rattle.m2_history.specs.Order.{by_half, by_halves, by_record, done_by, entries_from, half_bytes}
+use Rattle.m2_fabric.proofs.Sockets.{same_refl}
 
 -- ---- what comes of one strand
 
@@ -120,9 +120,6 @@ total_past f (suc n) [] e = refl
 total_past f zero (i ∷ is) e = absurd (cc)
 total_past f (suc n) (i ∷ is) e = let r : total f (take (suc n) is) ≡ total f (take n is) = total_past f n is e in omega (arith, r)
 
-total_next : (f : StrandItem → ℕ) (n : ℕ) (is : List StrandItem) (i : StrandItem) → slice_get is n ≡ Some i → total f (take (suc n) is) ≡ total f (take n is) + f i
-total_next f n is i e = ap (λ m. total f (take m is)) (sym (add-one n)) ∙ total-more f n is i e
-
 first_more : (c m n : ℕ) (log : List ℕ) → n ≡ m + c → take m log ++ take c (drop m log) ≡ take n log
 first_more c m n log e = sym (take-add m c log) ∙ ap (λ x. take x log) (sym e)
 
@@ -148,19 +145,19 @@ module _ (t : TrailNow) (log : Log) (own : AreOwn t.socket t.entries) where
       take (total (read_by t.socket) (take n is)) log.got ++ flat_map got_by (half_bytes t log n o) ≡ take (total (read_by t.socket) (take (suc n) is)) log.got
   got_step n None e = first_same (total (read_by t.socket) (take n is)) (total (read_by t.socket) (take (suc n) is)) log.got (total_past (read_by t.socket) n is e)
   got_step n (Some (Noted (entry.Read x c))) e =
-      let more = total_next (read_by t.socket) n is (Noted (entry.Read x c)) e in
+      let more = total-suc (read_by t.socket) n is (Noted (entry.Read x c)) e in
       let count = open_read t x c (all_get (IsOwnItem t.socket) is n (Noted (entry.Read x c)) (strand_own t own) e) in
       ap (λ l. take (total (read_by t.socket) (take n is)) log.got ++ l) (append-nil (take c (drop (total (read_by t.socket) (take n is)) log.got)))
       ∙ first_more c (total (read_by t.socket) (take n is)) (total (read_by t.socket) (take (suc n) is)) log.got (omega (arith, more, count))
   got_step n (Some (Noted (entry.Wrote x c))) e =
       first_same (total (read_by t.socket) (take n is)) (total (read_by t.socket) (take (suc n) is)) log.got
-      (let more = total_next (read_by t.socket) n is (Noted (entry.Wrote x c)) e in omega (arith, more))
+      (let more = total-suc (read_by t.socket) n is (Noted (entry.Wrote x c)) e in omega (arith, more))
   got_step n (Some (Noted y)) e =
       first_same (total (read_by t.socket) (take n is)) (total (read_by t.socket) (take (suc n) is)) log.got
-      (let more = total_next (read_by t.socket) n is (Noted y) e in omega (arith, more))
+      (let more = total-suc (read_by t.socket) n is (Noted y) e in omega (arith, more))
   got_step n (Some (Handed y)) e =
       first_same (total (read_by t.socket) (take n is)) (total (read_by t.socket) (take (suc n) is)) log.got
-      (let more = total_next (read_by t.socket) n is (Handed y) e in omega (arith, more))
+      (let more = total-suc (read_by t.socket) n is (Handed y) e in omega (arith, more))
 
   pub got_gathered : (each : ℕ → List ℕ) → ((n : ℕ) → each n ≡ bytes_in got_by t log n) → (n : ℕ) → gathered each n ≡ take (total (read_by t.socket) (take n is)) log.got
   got_gathered each h zero = refl
@@ -171,19 +168,19 @@ module _ (t : TrailNow) (log : Log) (own : AreOwn t.socket t.entries) where
       take (total (written_by t.socket) (take n is)) log.put ++ flat_map put_by (half_bytes t log n o) ≡ take (total (written_by t.socket) (take (suc n) is)) log.put
   put_step n None e = first_same (total (written_by t.socket) (take n is)) (total (written_by t.socket) (take (suc n) is)) log.put (total_past (written_by t.socket) n is e)
   put_step n (Some (Noted (entry.Wrote x c))) e =
-      let more = total_next (written_by t.socket) n is (Noted (entry.Wrote x c)) e in
+      let more = total-suc (written_by t.socket) n is (Noted (entry.Wrote x c)) e in
       let count = open_wrote t x c (all_get (IsOwnItem t.socket) is n (Noted (entry.Wrote x c)) (strand_own t own) e) in
       ap (λ l. take (total (written_by t.socket) (take n is)) log.put ++ l) (append-nil (take c (drop (total (written_by t.socket) (take n is)) log.put)))
       ∙ first_more c (total (written_by t.socket) (take n is)) (total (written_by t.socket) (take (suc n) is)) log.put (omega (arith, more, count))
   put_step n (Some (Noted (entry.Read x c))) e =
       first_same (total (written_by t.socket) (take n is)) (total (written_by t.socket) (take (suc n) is)) log.put
-      (let more = total_next (written_by t.socket) n is (Noted (entry.Read x c)) e in omega (arith, more))
+      (let more = total-suc (written_by t.socket) n is (Noted (entry.Read x c)) e in omega (arith, more))
   put_step n (Some (Noted y)) e =
       first_same (total (written_by t.socket) (take n is)) (total (written_by t.socket) (take (suc n) is)) log.put
-      (let more = total_next (written_by t.socket) n is (Noted y) e in omega (arith, more))
+      (let more = total-suc (written_by t.socket) n is (Noted y) e in omega (arith, more))
   put_step n (Some (Handed y)) e =
       first_same (total (written_by t.socket) (take n is)) (total (written_by t.socket) (take (suc n) is)) log.put
-      (let more = total_next (written_by t.socket) n is (Handed y) e in omega (arith, more))
+      (let more = total-suc (written_by t.socket) n is (Handed y) e in omega (arith, more))
 
   pub put_gathered : (each : ℕ → List ℕ) → ((n : ℕ) → each n ≡ bytes_in put_by t log n) → (n : ℕ) → gathered each n ≡ take (total (written_by t.socket) (take n is)) log.put
   put_gathered each h zero = refl

@@ -34,7 +34,6 @@ use Rattle.m2_never_reset.specs.PairLaws.{IsNoDown}
 use Rattle.m2_message.specs.Message.{unnumbered}
 use Rattle.m2_never_reset.specs.Orders as orders
 use Rattle.m2_never_reset.specs.Orders.{far_items, near_items, posts_in}
-use Rattle.m2_never_reset.proofs.Sockets.{differ, same_refl}
 use Rattle.m2_policy.specs.declared.path.Key.{Key}
 use Rattle.m2_record.specs.RecordNow.{feed_end, ids_of, ends_of as ends_of_record}
 use Rattle.m2_record.specs.Sources.{log_at, read_before, trail_at, unread_of, written_before}
@@ -57,23 +56,27 @@ use Rattle.m2_history.proofs.Along.{asked_there, at_first, begins_there, fits_th
 use Rattle.m2_history.proofs.Bytes.{HasBytes, HasEnd, IsOf, end_there, of_left, of_right}
 use Rattle.m2_history.proofs.Halfway.{IsNamedSo, acceptors_apart, apart_named, distinct_first, distinct_join, distinct_last, distinct_parts, from_loose, loose_once, loose_trails, sockets_of, taken_once, trails_loose, trails_taken}
 use Rattle.m2_history.proofs.Journals.{judged_count}
-use Rattle.m2_history.proofs.WovenLinks.{FoundTrail, IsKnownActor, all_at, all_join, all_with, among_of, feed_opened, feed_taken, find_trail, get_left, get_map, get_right, loose_halves, loose_known, members, no_trail, one_record, places_of, record_between, setting_of, side_bytes, sides_apart, opened_judges_none, taken_halves, taken_known, trail_at_half}
+use Rattle.m2_history.proofs.WovenLinks.{FoundTrail, IsKnownActor, all_at, all_with, among_of, feed_opened, feed_taken, find_trail, get_left, get_right, loose_halves, loose_known, members, one_record, places_of, record_between, setting_of, side_bytes, sides_apart, opened_judges_none, taken_halves, taken_known, trail_at_half}
 use Rattle.m2_history.proofs.Moved.{unjudged_untaken}
 use Rattle.m2_history.proofs.Scene.{IsHalfAt, IsHalfIn, IsOpenedIn, IsScene, IsTakenIn, Setting, items_in, opens_in, strand_is, strands_in, woven_in}
-use Rattle.m2_history.proofs.Sums.{all_map, all_of, strand_in}
+use Rattle.m2_history.proofs.Sums.{strand_in}
 use Rattle.m2_history.proofs.Walk.{far_entries, item_in, near_entries, part_of_order}
+use Rattle.m2_lemmas.proofs.Booleans.{from_false_true}
+use Rattle.m2_fabric.proofs.Sockets.{same_refl}
+use Rattle.m2_lemmas.proofs.Lists.{all_append, get_map, all_map, all_so_of}
+use Rattle.m2_record.proofs.TrailsAt.{no_trail}
 
 -- ---- the strands of the actors
 
-taken_strands : (journals : Bool → List Entry) (s : Bool) (ends : List SeenEnd) (ts : List TrailNow) → map (strand_by journals) (map (taken_half s ends) ts) ≡ map strand_of ts
+pub taken_strands : (journals : Bool → List Entry) (s : Bool) (ends : List SeenEnd) (ts : List TrailNow) → map (strand_by journals) (map (taken_half s ends) ts) ≡ map strand_of ts
 taken_strands journals s ends [] = refl
 taken_strands journals s ends (t ∷ ts) = ap (λ (l : List StrandNow). strand_of t ∷ l) (taken_strands journals s ends ts)
 
-side_strands : (x : BothNow) (s : Bool) → map (strand_by (λ r. journal_by x r)) (actors_of_side s (part_of x s)) ≡ strands_of_side (journal_by x s) (part_of x s).trails
+pub side_strands : (x : BothNow) (s : Bool) → map (strand_by (λ r. journal_by x r)) (actors_of_side s (part_of x s)) ≡ strands_of_side (journal_by x s) (part_of x s).trails
 side_strands x s = ap (λ (l : List StrandNow). journal_of (journal_by x s) ∷ l) (taken_strands (λ r. journal_by x r) s (part_of x s).ends (part_of x s).trails)
 
 -- of a half that neither took all asks count, since its side has judged them
-as_it_is : (a b : List Entry) (h : LooseNow) → IsLooseBeside a b h → as_judged a b h.trail ≡ h.trail
+pub as_it_is : (a b : List Entry) (h : LooseNow) → IsLooseBeside a b h → as_judged a b h.trail ≡ h.trail
 as_it_is a b h beside = ap (λ (ns : List ℕ). record h.trail { judged_after = ns }) (take_all (judged_times a b h.trail.socket) h.trail.judged_after (all (is_near a b h.trail.socket) refl))
   where
     k : SocketId
@@ -87,21 +90,21 @@ as_it_is a b h beside = ap (λ (ns : List ℕ). record h.trail { judged_after = 
         let told = ap length (beside.judged ∙ ap (λ s. judged_on k (judgements_in (if s then a else b))) e) in
         omega (arith, told, beside.whole.facts.many, judged_count k b)
 
-one_loose : (journals : Bool → List Entry) (a b : List Entry) (h : LooseNow) → (is_of_link a b h ≡ true → IsLooseBeside a b h) → map (strand_by journals) (loose_actor a b h) ≡ loose_strand a b h
+pub one_loose : (journals : Bool → List Entry) (a b : List Entry) (h : LooseNow) → (is_of_link a b h ≡ true → IsLooseBeside a b h) → map (strand_by journals) (loose_actor a b h) ≡ loose_strand a b h
 one_loose journals a b h beside = at (is_of_link a b h) refl
   where
     at : (c : Bool) → is_of_link a b h ≡ c → map (strand_by journals) (if c then of_half (is_near a b h.trail.socket) h.trail h.end.log ∷ [] else []) ≡ (if c then strand_of (as_judged a b h.trail) ∷ [] else [])
     at true e = ap (λ t. strand_of t ∷ []) (sym (as_it_is a b h (beside e)))
     at false e = refl
 
-all_loose : (journals : Bool → List Entry) (a b : List Entry) (hs : List LooseNow) → AllByRecursion (λ (h : LooseNow). is_of_link a b h ≡ true → IsLooseBeside a b h) hs →
+pub all_loose : (journals : Bool → List Entry) (a b : List Entry) (hs : List LooseNow) → AllByRecursion (λ (h : LooseNow). is_of_link a b h ≡ true → IsLooseBeside a b h) hs →
     map (strand_by journals) (loose_actors a b hs) ≡ loose_strands a b hs
 all_loose journals a b [] beside = refl
 all_loose journals a b (h ∷ hs) beside =
     map-append (strand_by journals) (loose_actor a b h) (loose_actors a b hs)
     ∙ ap (λ m. m ++ map (strand_by journals) (loose_actors a b hs)) (one_loose journals a b h beside.0) ∙ ap (λ m. loose_strand a b h ++ m) (all_loose journals a b hs beside.1)
 
-strands_are : (x : BothNow) → AllByRecursion (λ (h : LooseNow). is_of_link x.a.journal x.b.journal h ≡ true → IsLooseBeside x.a.journal x.b.journal h) x.loose → map (strand_by (λ s. journal_by x s)) (actors_of x) ≡ strands_of x
+pub strands_are : (x : BothNow) → AllByRecursion (λ (h : LooseNow). is_of_link x.a.journal x.b.journal h ≡ true → IsLooseBeside x.a.journal x.b.journal h) x.loose → map (strand_by (λ s. journal_by x s)) (actors_of x) ≡ strands_of x
 strands_are x beside =
     map-append strand (near ++ far) loose
     ∙ ap (λ m. m ++ map strand loose) (map-append strand near far ∙ ap (λ m. m ++ map strand far) (side_strands x true) ∙ ap (λ m. strands_of_side x.a.journal x.a.trails ++ m) (side_strands x false))
@@ -159,7 +162,7 @@ module _ (l : LinkNow) (link : IsLink l) (sockets : List SocketBytes) (rows : ma
       at false zero e = absurd (let same : of_record true ≡ of_record false = cc in let bad : ⊥ = cc in bad)
       at s (suc j) e =
           let r = record_between (halves true) (halves false ++ loose) (of_record false) j s (taken_halves true (part true).ends (part true).trails)
-          (all_join _ (halves false) loose (taken_halves false (part false).ends (part false).trails) (loose_halves l.both.a.journal l.both.b.journal l.both.loose)) e in
+          (all_append _ (halves false) loose (taken_halves false (part false).ends (part false).trails) (loose_halves l.both.a.journal l.both.b.journal l.both.loose)) e in
           ap suc r.0 ∙ ap place (one_record false s r.1)
 
   -- ---- halves
@@ -184,8 +187,8 @@ module _ (l : LinkNow) (link : IsLink l) (sockets : List SocketBytes) (rows : ma
 
   known_actors : AllByRecursion (IsKnownActor l link sockets rows) (actors_of l.both)
   known_actors =
-      all_join (IsKnownActor l link sockets rows) (actors_of_side true (part true) ++ actors_of_side false (part false)) loose
-      (all_join (IsKnownActor l link sockets rows) (actors_of_side true (part true)) (actors_of_side false (part false)) (tt, known_side true) (tt, known_side false))
+      all_append (IsKnownActor l link sockets rows) (actors_of_side true (part true) ++ actors_of_side false (part false)) loose
+      (all_append (IsKnownActor l link sockets rows) (actors_of_side true (part true)) (actors_of_side false (part false)) (tt, known_side true) (tt, known_side false))
       (known_loose l.both.loose (members l.both.loose) link.joined.loose)
 
   half_known : (j : ℕ) (s : Bool) (t : TrailNow) (log : Log) → IsHalfAt x j s t log → IsHalfIn x s t log
@@ -269,7 +272,7 @@ module _ (l : LinkNow) (link : IsLink l) (sockets : List SocketBytes) (rows : ma
     where
       at : (b : Bool) → opens_in x s t.socket ≡ b → opens_in x s t.socket ≡ false
       at false o = o
-      at true o = differ (sym (unjudged_untaken t.socket (journal_by l.both s) (opened_judges_none l link sockets rows s t.socket o)) ∙ its_taking s t m)
+      at true o = from_false_true (sym (unjudged_untaken t.socket (journal_by l.both s) (opened_judges_none l link sockets rows s t.socket o)) ∙ its_taking s t m)
 
   its_opener : (s : Bool) (t : TrailNow) (m : IsOf t (part s).trails) → (its_end s t m).end.opener ≡ false
   its_opener s t m = (its_end s t m).opener ∙ closed_half s t m
@@ -284,7 +287,7 @@ module _ (l : LinkNow) (link : IsLink l) (sockets : List SocketBytes) (rows : ma
 
   names : AllByRecursion (IsNamedSo l.both.a.journal l.both.b.journal) l.both.loose
   names =
-      all_of (λ (h : LooseNow). is_of_link l.both.a.journal l.both.b.journal h ≡ true → IsLooseBeside l.both.a.journal l.both.b.journal h) (IsNamedSo l.both.a.journal l.both.b.journal) l.both.loose
+      all_so_of (λ (h : LooseNow). is_of_link l.both.a.journal l.both.b.journal h ≡ true → IsLooseBeside l.both.a.journal l.both.b.journal h) (IsNamedSo l.both.a.journal l.both.b.journal) l.both.loose
       (λ h f e. (f e).whole.socket) link.joined.loose
 
   side_member : (s : Bool) (e : EndNow) → IsOf e (ends_by s) → IsOf e (ends_by true ++ ends_by false)
@@ -296,7 +299,7 @@ module _ (l : LinkNow) (link : IsLink l) (sockets : List SocketBytes) (rows : ma
       let d = its_end s t m in
       subst (λ j. AllByRecursion (λ (u : TrailNow). same_socket j u.socket ≡ false) loose_ts) d.socket
       (from_loose l.both.a.journal l.both.b.journal d.end (its_opener s t m) l.both.loose names
-      (all_of (λ y. IsOf y loose_now) (λ y. same_end d.end y ≡ false) loose_now
+      (all_so_of (λ y. IsOf y loose_now) (λ y. same_end d.end y ≡ false) loose_now
       (λ y h. distinct_parts same_end (ends_by true ++ ends_by false) loose_now d.end y link.joined.apart (side_member s d.end d.there) h) (members loose_now)))
 
   own_once : (s : Bool) → IsDistinct same_socket (sockets_of (part s).trails)
@@ -307,11 +310,11 @@ module _ (l : LinkNow) (link : IsLink l) (sockets : List SocketBytes) (rows : ma
       let t = (part true).trails in
       let u = (part false).trails in
       let sides_once = distinct_join same_socket (sockets_of t) (sockets_of u) (own_once true) (own_once false)
-      (apart_named t u (all_of (λ a. IsOf a t) (λ a. AllByRecursion (λ b. same_socket a.socket b.socket ≡ false) u) t
-      (λ a m. all_of (λ b. IsOf b u) (λ b. same_socket a.socket b.socket ≡ false) u (λ b n. sides_differ a m b n) (members u)) (members t))) in
-      let away = all_join (λ a. AllByRecursion (λ (b : TrailNow). same_socket a.socket b.socket ≡ false) loose_ts) t u
-      (all_of (λ a. IsOf a t) (λ a. AllByRecursion (λ (b : TrailNow). same_socket a.socket b.socket ≡ false) loose_ts) t (λ a m. loose_differ true a m) (members t))
-      (all_of (λ a. IsOf a u) (λ a. AllByRecursion (λ (b : TrailNow). same_socket a.socket b.socket ≡ false) loose_ts) u (λ a m. loose_differ false a m) (members u)) in
+      (apart_named t u (all_so_of (λ a. IsOf a t) (λ a. AllByRecursion (λ b. same_socket a.socket b.socket ≡ false) u) t
+      (λ a m. all_so_of (λ b. IsOf b u) (λ b. same_socket a.socket b.socket ≡ false) u (λ b n. sides_differ a m b n) (members u)) (members t))) in
+      let away = all_append (λ a. AllByRecursion (λ (b : TrailNow). same_socket a.socket b.socket ≡ false) loose_ts) t u
+      (all_so_of (λ a. IsOf a t) (λ a. AllByRecursion (λ (b : TrailNow). same_socket a.socket b.socket ≡ false) loose_ts) t (λ a m. loose_differ true a m) (members t))
+      (all_so_of (λ a. IsOf a u) (λ a. AllByRecursion (λ (b : TrailNow). same_socket a.socket b.socket ≡ false) loose_ts) u (λ a m. loose_differ false a m) (members u)) in
       let whole = distinct_join same_socket (sockets_of (t ++ u)) (sockets_of loose_ts) (subst (IsDistinct same_socket) (sym (map-append (λ (a : TrailNow). a.socket) t u)) sides_once)
       (loose_once l.both.a.journal l.both.b.journal l.both.loose names (distinct_last same_end (ends_by true ++ ends_by false) loose_now link.joined.apart))
       (apart_named (t ++ u) loose_ts away) in
@@ -427,7 +430,7 @@ module _ (read : ReadWasWritten) (asked : AsksComeFirst) (points : OrdersGivePoi
 
 -- ---- the laws
 
-by_actors : (l : LinkNow) (order : List ℕ) → IsLink l → (o : IsOrderOf l order) → IsWoven (woven_in (setting_of l o.sockets)) order
+pub by_actors : (l : LinkNow) (order : List ℕ) → IsLink l → (o : IsOrderOf l order) → IsWoven (woven_in (setting_of l o.sockets)) order
 by_actors l order link o = subst (λ ss. IsWoven (record { strands = ss; bytes = bytes_of o.sockets }) order) (sym (strands_are l.both link.joined.loose)) o.woven
 
 pub bytes_fit_throughout : ReadWasWritten → AsksComeFirst → OrdersGivePoints → TrailsTellEachPoint → WovenBytesFit
@@ -495,9 +498,9 @@ all_ids P (e ∷ es) h = (h.0, all_ids P es h.1)
 turned_ids : (xs ys : List SeenEnd) → AllByRecursion (λ k. is_among k (ids_of (ys ++ xs)) ≡ true) (ids_of (xs ++ ys))
 turned_ids xs ys =
     all_ids (λ k. is_among k (ids_of (ys ++ xs)) ≡ true) (xs ++ ys)
-    (all_join (λ (e : SeenEnd). is_among e.id (ids_of (ys ++ xs)) ≡ true) xs ys
-    (all_of (λ e. IsOf e xs) (λ e. is_among e.id (ids_of (ys ++ xs)) ≡ true) xs (λ e h. among_ids e (ys ++ xs) (of_right e ys xs h)) (members xs))
-    (all_of (λ e. IsOf e ys) (λ e. is_among e.id (ids_of (ys ++ xs)) ≡ true) ys (λ e h. among_ids e (ys ++ xs) (of_left e ys xs h)) (members ys)))
+    (all_append (λ (e : SeenEnd). is_among e.id (ids_of (ys ++ xs)) ≡ true) xs ys
+    (all_so_of (λ e. IsOf e xs) (λ e. is_among e.id (ids_of (ys ++ xs)) ≡ true) xs (λ e h. among_ids e (ys ++ xs) (of_right e ys xs h)) (members xs))
+    (all_so_of (λ e. IsOf e ys) (λ e. is_among e.id (ids_of (ys ++ xs)) ≡ true) ys (λ e h. among_ids e (ys ++ xs) (of_left e ys xs h)) (members ys)))
 
 pub records_are_sides : RecordsAreSides
 records_are_sides r h = record {

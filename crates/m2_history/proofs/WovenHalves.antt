@@ -7,7 +7,6 @@ use Rattle.m2_fabric.specs.declared.log.Run.TheVariants as run
 use Rattle.m2_fabric.specs.declared.socket.SocketId.{SocketId}
 use Rattle.m2_fabric.specs.Log.{Log}
 use Rattle.m2_fabric.specs.Sockets.{same_socket}
-use Rattle.m2_bytes_fit.proofs.Lists.{all-both}
 use Rattle.m2_history.specs.HalfStrands.{noted_in, strand_of, WritesOn, IsTidy}
 use Rattle.m2_journal.specs.declared.entry.Entry.{Entry}
 use Rattle.m2_journal.specs.declared.entry.Entry.TheVariants as entry
@@ -17,7 +16,7 @@ use Rattle.m2_trail.specs.Trails.{TrailNow, IsTrailOf, closing, entries_of, entr
 use Rattle.m2_weave.specs.declared.strand.StrandItem.{StrandItem}
 use Rattle.m2_weave.specs.declared.strand.StrandItem.TheVariants.{Noted, Handed}
 use Rattle.m2_weave.specs.Strands.{half_items, handed_by, has_opened, judged_by, opens, read_by, total, written_by}
-use Rattle.m2_history.proofs.Sums.{all_drop, all_map, all_take}
+use Rattle.m2_lemmas.proofs.Lists.{all_append, all_drop, all_map, all_take}
 
 -- ---- its own socket
 
@@ -46,13 +45,13 @@ taken_own t e = subst (AreOwn t.socket) (sym e) (runs_own t.socket (runs_of t))
 pub whole_own : (t : TrailNow) (log : Log) → t.entries ≡ entries_of t.socket log → AreOwn t.socket t.entries
 whole_own t log e =
     subst (AreOwn t.socket) (sym e)
-    (all-both (λ e. IsOwnItem t.socket (Noted e)) (map (entry_of t.socket) log.runs) (closing t.socket log.closed) (runs_own t.socket log.runs) (closing_own t.socket log.closed))
+    (all_append (λ e. IsOwnItem t.socket (Noted e)) (map (entry_of t.socket) log.runs) (closing t.socket log.closed) (runs_own t.socket log.runs) (closing_own t.socket log.closed))
 
 half_items_all : (P : StrandItem → Type 0) (k : SocketId) → P (Handed k) → (ns : List ℕ) (place : ℕ) (es : List Entry) → AllByRecursion (λ e. P (Noted e)) es →
     AllByRecursion P (half_items k place es ns)
 half_items_all P k one [] place es h = all_map P Noted es h
 half_items_all P k one (n ∷ ns) place es h =
-    all-both P (map Noted (take (n - place) es)) (Handed k ∷ half_items k (max n place) (drop (n - place) es) ns)
+    all_append P (map Noted (take (n - place) es)) (Handed k ∷ half_items k (max n place) (drop (n - place) es) ns)
     (all_map P Noted (take (n - place) es) (all_take (λ e. P (Noted e)) (n - place) es h))
     (one, half_items_all P k one ns (max n place) (drop (n - place) es) (all_drop (λ e. P (Noted e)) (n - place) es h))
 

@@ -1,5 +1,5 @@
 -- Two sides of a link with their halves, as records keep them, are a scene.
-use Rattle.std.proofs.Common.{◌≡◌, ℕ, zero, suc, ◌+◌, ◌<◌, ◌^◌, ◌⊎◌, inl, inr, Bool, true, false, not, ◌&&◌, ◌||◌, if◌then◌else◌, List, [], ◌∷◌, ◌++◌, length, map, Some, None, refl, sym, ap, ◌∙◌, subst, arith}
+use Rattle.std.proofs.Common.{◌≡◌, ℕ, zero, suc, ◌+◌, ◌<◌, ◌^◌, ◌⊎◌, inl, inr, Bool, true, false, not, ◌&&◌, ◌||◌, if◌then◌else◌, List, [], ◌∷◌, ◌++◌, length, map, Some, refl, sym, ap, ◌∙◌, subst, arith}
 use Rattle.std.specs.Prelude.{slice_get}
 use Rattle.std.specs.List.{AllByRecursion, IsDistinct, flat_map}
 use Rattle.m2_control.specs.Laws.{HasAddrRanges}
@@ -14,7 +14,7 @@ use Rattle.m2_journal.specs.declared.entry.Entry.TheVariants as entry
 use Rattle.m2_journal.specs.Items.{Sources, at_start}
 use Rattle.m2_journal.specs.Lawful.{judged_on}
 use Rattle.m2_journal.specs.State.{start}
-use Rattle.m2_never_reset.proofs.Sockets.{by_either, differ, same_equal, same_refl, same_of_equal}
+use Rattle.m2_never_reset.proofs.Sockets.{by_either, same_of_equal}
 use Rattle.m2_record.specs.IsRecord.{feeds_in}
 use Rattle.m2_record.specs.RecordNow.{ids_of}
 use Rattle.m2_record.specs.Sources.{log_at, trail_at}
@@ -32,7 +32,9 @@ use Rattle.m2_history.proofs.WovenHalves.{taken_own, whole_own}
 use Rattle.m2_history.proofs.Journals.{opened_leads, opened_unjudged}
 use Rattle.m2_history.proofs.Moved.{unjudged_untaken}
 use Rattle.m2_history.proofs.Scene.{IsHalfIn, Setting, opens_in}
-use Rattle.m2_history.proofs.Sums.{all_of}
+use Rattle.m2_lemmas.proofs.Booleans.{from_false_true}
+use Rattle.m2_fabric.proofs.Sockets.{same_equal, same_refl}
+use Rattle.m2_lemmas.proofs.Lists.{all_so_of}
 
 abbrev pub setting_of : LinkNow → List SocketBytes → Setting
 setting_of l sockets = record {
@@ -54,11 +56,6 @@ pub get_right : {X : Type 0} (xs ys : List X) (i : ℕ) (a : X) → slice_get ys
 get_right [] ys i a e = ap (slice_get ys) (let n : 0 + i ≡ i = omega arith in n) ∙ e
 get_right (x ∷ xs) ys i a e = ap (slice_get (x ∷ (xs ++ ys))) (let n : suc (length xs) + i ≡ suc (length xs + i) = omega arith in n) ∙ get_right xs ys i a e
 
-pub get_map : {X Y : Type 0} (f : X → Y) (xs : List X) (i : ℕ) (x : X) → slice_get xs i ≡ Some x → slice_get (map f xs) i ≡ Some (f x)
-get_map f [] i x e = absurd (cc)
-get_map f (y ∷ xs) zero x e = ap (λ z. Some (f z)) (let same : y ≡ x = cc in same)
-get_map f (y ∷ xs) (suc i) x e = get_map f xs i x e
-
 pub all_at : {X : Type 0} (P : X → Type 0) (xs : List X) (i : ℕ) (x : X) → AllByRecursion P xs → slice_get xs i ≡ Some x → P x
 all_at P [] i x h e = absurd (cc)
 all_at P (y ∷ xs) zero x h e = subst P (let same : y ≡ x = cc in same) h.0
@@ -68,13 +65,9 @@ pub all_with : {X : Type 0} (P Q R : X → Type 0) (xs : List X) → ((x : X) �
 all_with P Q R [] f p q = tt
 all_with P Q R (x ∷ xs) f p q = (f x p.0 q.0, all_with P Q R xs f p.1 q.1)
 
-pub all_join : {X : Type 0} (P : X → Type 0) (xs ys : List X) → AllByRecursion P xs → AllByRecursion P ys → AllByRecursion P (xs ++ ys)
-all_join P [] ys p q = q
-all_join P (x ∷ xs) ys p q = (p.0, all_join P xs ys p.1 q)
-
 pub members : {X : Type 0} (xs : List X) → AllByRecursion (λ x. IsOf x xs) xs
 members [] = tt
-members (x ∷ xs) = (inl refl, all_of (λ y. IsOf y xs) (λ y. IsOf y (x ∷ xs)) xs (λ y h. inr h) (members xs))
+members (x ∷ xs) = (inl refl, all_so_of (λ y. IsOf y xs) (λ y. IsOf y (x ∷ xs)) xs (λ y h. inr h) (members xs))
 
 -- ---- actors
 
@@ -126,7 +119,7 @@ all_named P [] h = tt
 all_named P (t ∷ ts) h = (h.0, all_named P ts h.1)
 
 never_same : (t u : TrailNow) → same_socket t.socket u.socket ≡ false → t.socket ≡ u.socket → ⊥
-never_same t u e q = differ (sym e ∙ same_of_equal t.socket u.socket q)
+never_same t u e q = from_false_true (sym e ∙ same_of_equal t.socket u.socket q)
 
 -- sockets that are apart tell the places of halves apart
 pub places_of : (actors : List Actor) → IsDistinct same_socket (map (λ (t : TrailNow). t.socket) (flat_map trail_by actors)) → (i j : ℕ) (s r : Bool) (t u : TrailNow) (log other : Log) →
@@ -157,7 +150,7 @@ pub record FoundTrail (ts : List TrailNow) (k : SocketId) : Type 0 where
   pub first : trail_at ts k ≡ Some trail
 
 pub find_trail : (ts : List TrailNow) (k : SocketId) → is_among k (map (λ (t : TrailNow). t.socket) ts) ≡ true → FoundTrail ts k
-find_trail [] k h = differ h
+find_trail [] k h = from_false_true h
 find_trail (t ∷ ts) k h = at (same_socket k t.socket) refl (find_trail ts k)
   where
     at : (b : Bool) → same_socket k t.socket ≡ b → (is_among k (map (λ (t : TrailNow). t.socket) ts) ≡ true → FoundTrail ts k) → FoundTrail (t ∷ ts) k
@@ -165,14 +158,6 @@ find_trail (t ∷ ts) k h = at (same_socket k t.socket) refl (find_trail ts k)
     at false q later =
         let rest = later (sym (ap (λ b. b || is_among k (map (λ (t : TrailNow). t.socket) ts)) q) ∙ h) in
         record { place = suc rest.place; trail = rest.trail; there = rest.there; socket = rest.socket; first = ap (λ b. if b then Some t else trail_at ts k) q ∙ rest.first }
-
-pub no_trail : (ts : List TrailNow) (k : SocketId) → is_among k (map (λ (t : TrailNow). t.socket) ts) ≡ false → trail_at ts k ≡ None
-no_trail [] k h = refl
-no_trail (t ∷ ts) k h = at (same_socket k t.socket) refl h (no_trail ts k)
-  where
-    at : (b : Bool) → same_socket k t.socket ≡ b → b || is_among k (map (λ (t : TrailNow). t.socket) ts) ≡ false → (is_among k (map (λ (t : TrailNow). t.socket) ts) ≡ false → trail_at ts k ≡ None) → trail_at (t ∷ ts) k ≡ None
-    at true q none later = differ (sym none)
-    at false q none later = ap (λ b. if b then Some t else trail_at ts k) q ∙ later none
 
 pub among_of : (ts : List TrailNow) (t : TrailNow) → IsOf t ts → is_among t.socket (map (λ (t : TrailNow). t.socket) ts) ≡ true
 among_of [] t h = absurd h
@@ -186,7 +171,7 @@ among_of (u ∷ ts) t (inr h) = at (same_socket t.socket u.socket) (among_of ts 
 -- ---- sockets that became the feed
 
 pub feed_taken : (P : SocketId → Type 0) (es : List Entry) (k : SocketId) → AllByRecursion P (feeds_in es) → is_among k (taken_in es) ≡ true → P k
-feed_taken P [] k h o = differ o
+feed_taken P [] k h o = from_false_true o
 feed_taken P (entry.Opened x ∷ es) k h o = feed_taken P es k h.1 o
 feed_taken P (entry.Judged x ask number answer ∷ es) k h o = at (takes answer) refl (feed_taken P es k)
   where
@@ -203,7 +188,7 @@ feed_taken P (entry.Judged x ask number answer ∷ es) k h o = at (takes answer)
 feed_taken P (e ∷ es) k h o = feed_taken P es k h o
 
 pub feed_opened : (P : SocketId → Type 0) (es : List Entry) (k : SocketId) → AllByRecursion P (feeds_in es) → has_opened (journal_of es) k ≡ true → P k
-feed_opened P [] k h o = differ o
+feed_opened P [] k h o = from_false_true o
 feed_opened P (entry.Opened x ∷ es) k h o = at (same_socket k x) refl o (feed_opened P es k h.1)
   where
     at : (b : Bool) → same_socket k x ≡ b → b || has_opened (journal_of es) k ≡ true → (has_opened (journal_of es) k ≡ true → P k) → P k
@@ -222,7 +207,7 @@ near_half_is : (a b : List Entry) (k : SocketId) → is_near a b k ≡ true → 
 near_half_is a b k e = at (has_opened (journal_of a) k) refl e
   where
     at : (c : Bool) → has_opened (journal_of a) k ≡ c → (not c && (has_opened (journal_of b) k || knows a k)) ≡ true → has_opened (journal_of a) k ≡ false
-    at true p h = differ h
+    at true p h = from_false_true h
     at false p h = p
 
 -- the near side opened it, or the far side didn't
@@ -231,7 +216,7 @@ far_half_is a b k e = at (has_opened (journal_of a) k) (has_opened (journal_of b
   where
     at : (c d : Bool) → has_opened (journal_of a) k ≡ c → has_opened (journal_of b) k ≡ d → (not c && (d || knows a k)) ≡ false → (has_opened (journal_of a) k ≡ true) ⊎ (has_opened (journal_of b) k ≡ false)
     at true d p q h = inl p
-    at false true p q h = differ (sym h)
+    at false true p q h = from_false_true (sym h)
     at false false p q h = inr q
 
 loose_member : (a b : List Entry) (ls : List LooseNow) (l : LooseNow) → IsOf l ls → is_of_link a b l ≡ true → IsOf (half_end l) (loose_ends a b ls)
@@ -292,8 +277,8 @@ module _ (l : LinkNow) (link : IsLink l) (sockets : List SocketBytes) (rows : ma
       leads s o = opened_leads (l.facts s) (sources s) (journal s) at_start (start (l.facts s)) k (link.sides s).lawful o
 
       at : (s : Bool) → opens_in x s k ≡ true → opens_in x (not s) k ≡ true → opens_in x (not s) k ≡ false
-      at true o e = differ (sym (link.joined.peers k (leads true o)) ∙ leads false e)
-      at false o e = differ (sym (link.joined.peers k (leads true e)) ∙ leads false o)
+      at true o e = from_false_true (sym (link.joined.peers k (leads true o)) ∙ leads false e)
+      at false o e = from_false_true (sym (link.joined.peers k (leads true e)) ∙ leads false o)
 
   pub sides_apart : (s : Bool) (k : SocketId) → opens_in x s k ≡ true → opens_in x (not s) k ≡ false
   sides_apart s k o = never_both s k o (opens_in x (not s) k) refl
@@ -322,7 +307,7 @@ module _ (l : LinkNow) (link : IsLink l) (sockets : List SocketBytes) (rows : ma
       taken = ap (is_among t.socket) (sym (link.sides s).trails.sockets) ∙ among_of (part s).trails t member
 
       never : judged_on t.socket (judgements_in (journal s)) ≡ [] → ⊥
-      never e = differ (sym (unjudged_untaken t.socket (journal s) e) ∙ taken)
+      never e = from_false_true (sym (unjudged_untaken t.socket (journal s) e) ∙ taken)
 
       unopened : (b : Bool) → opens_in x s t.socket ≡ b → opens_in x s t.socket ≡ false
       unopened false e = e

@@ -15,7 +15,7 @@ use Rattle.m2_session.specs.Reconnect.{Reconnect}
 use Rattle.m2_session.specs.Steps.{step_of, fault_rows, closes}
 use Rattle.m2_session.proofs.Rows.{each_answer}
 use Rattle.m2_journal.specs.SideFacts.{SideFacts, absent}
-use Rattle.m2_journal.proofs.Written.{differ}
+use Rattle.m2_lemmas.proofs.Booleans.{false_isnt_true}
 
 -- a session that is reconnecting has a server cookie, and so has one in Ready that isn't lossy
 abbrev pub HasServer : Phase → Bool → ℕ → Type 0
@@ -113,12 +113,12 @@ kept_or_differs Ready true server client other h none some ready = rw none (ther
     there true = refl
     there false = rw (ne_eqb 0 other (λ e. some (sym e))) refl
 kept_or_differs Ready false server client other h none some ready = rw (ne_eqb server 0 h) refl
-kept_or_differs Absent lossy server client other h none some ready = absurd (differ ready)
-kept_or_differs Connecting lossy server client other h none some ready = absurd (differ ready)
-kept_or_differs IdentSent lossy server client other h none some ready = absurd (differ ready)
-kept_or_differs ReconnectSent lossy server client other h none some ready = absurd (differ ready)
-kept_or_differs Standby lossy server client other h none some ready = absurd (differ ready)
-kept_or_differs phase.Wait lossy server client other h none some ready = absurd (differ ready)
+kept_or_differs Absent lossy server client other h none some ready = absurd (false_isnt_true ready)
+kept_or_differs Connecting lossy server client other h none some ready = absurd (false_isnt_true ready)
+kept_or_differs IdentSent lossy server client other h none some ready = absurd (false_isnt_true ready)
+kept_or_differs ReconnectSent lossy server client other h none some ready = absurd (false_isnt_true ready)
+kept_or_differs Standby lossy server client other h none some ready = absurd (false_isnt_true ready)
+kept_or_differs phase.Wait lossy server client other h none some ready = absurd (false_isnt_true ready)
 
 -- an ask that can be read names no client cookie that a lossy session keeps
 pub is_sound : (f : SideFacts) (s : Session) (ask : Reconnect) → Keeps f s → ask.client ≢ 0 → IsSound s ask

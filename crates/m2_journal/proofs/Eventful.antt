@@ -20,10 +20,10 @@ use Rattle.m2_session.specs.declared.session.Phase.TheVariants as phase
 use Rattle.m2_session.specs.declared.session.Session.{Session}
 use Rattle.m2_session.specs.Ident.{ident_answer}
 use Rattle.m2_session.specs.SessionLaws.{brings_feed, ident_event, reconnect_event}
-use Rattle.m2_session.specs.Phases.{is_among, all_phases, with_feed}
+use Rattle.m2_session.specs.Phases.{is_among, with_feed}
 use Rattle.m2_session.specs.Reconnect.{Reconnect, reconnect_answer}
 use Rattle.m2_session.specs.Steps.{is_lawful, step_of}
-use Rattle.m2_session.proofs.Answers.{answers_are_lawful_lem, resumed_only}
+use Rattle.m2_session.proofs.Answers.{answers_are_lawful_lem, resumed_only, every_phase}
 use Rattle.m2_journal.specs.Feeds.{answer_said, hears}
 use Rattle.m2_journal.specs.Items as items
 use Rattle.m2_journal.specs.Items.{JournalItem}
@@ -35,7 +35,8 @@ use Rattle.m2_journal.specs.State.{Feed, State}
 use Rattle.m2_journal.specs.Steps.{answer_event, event_at, event_heard, event_on, is_agreed, is_on, is_waiting, kept_of}
 use Rattle.m2_journal.proofs.Cookies.{HasNoClient, HasServer, IsFit, Keeps, is_sound}
 use Rattle.m2_journal.proofs.Idents.{MayKeep, SaysKept, brings_cookie, read_keeps}
-use Rattle.m2_journal.proofs.Written.{differ, not_zero}
+use Rattle.m2_journal.proofs.Written.{not_zero}
+use Rattle.m2_lemmas.proofs.Booleans.{false_isnt_true}
 
 -- ---- words
 
@@ -46,15 +47,6 @@ pub record IsFine (f : SideFacts) (s : Session) (e : Event) : Type 0 where
 
 abbrev pub EventIsFine : SideFacts → Session → Option Event → Type 0
 EventIsFine f s o = IfSome o (IsFine f s)
-
-every_phase : (p : Phase) → IsTrue (is_among p all_phases)
-every_phase phase.Absent = refl
-every_phase phase.Connecting = refl
-every_phase phase.IdentSent = refl
-every_phase phase.ReconnectSent = refl
-every_phase phase.Ready = refl
-every_phase phase.Standby = refl
-every_phase phase.Wait = refl
 
 pub on_feed : {P : Feed → Type 0} (o : Option Feed) → OnFeedAt o P → (d : Feed) × P d
 on_feed (Some d) h = (d, h)
@@ -248,7 +240,7 @@ faulted f s waits false fed = tt
 
 is_fed_on : (k : SocketId) (o : Option Feed) (b : Bool) → is_some o ≡ b → is_on k o ≡ true → b ≡ true
 is_fed_on k (Some d) b fed e = sym fed
-is_fed_on k None b fed e = absurd (differ e)
+is_fed_on k None b fed e = absurd (false_isnt_true e)
 
 reset : (f : SideFacts) (s : Session) (full : Bool) → s.phase ≡ phase.ReconnectSent → IsFine f s (event.GotReset full)
 reset f s true e = record { lawful = rw e refl; fit = tt }

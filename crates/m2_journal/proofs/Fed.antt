@@ -40,7 +40,7 @@ use Rattle.m2_journal.specs.Steps.{accepts, after, answers, breaks, closes, comp
 use Rattle.m2_journal.proofs.Cookies.{IsFit, Keeps, starts, told_keeps}
 use Rattle.m2_journal.proofs.Eventful.{EventIsFine, IsHeard, each_is_fine, heard, same_event}
 use Rattle.m2_journal.proofs.Sessions.{goes, tells-session, told-session}
-use Rattle.m2_journal.proofs.Written.{differ}
+use Rattle.m2_lemmas.proofs.Booleans.{false_isnt_true}
 
 -- ---- effects
 
@@ -84,7 +84,7 @@ effects-feed close requeue back discard remote_reset s =
 left_by : (before after close brings : Bool) →
     count_of after ≡ (if close then 0 else count_of before) + count_of brings → brings ≡ false →
     (if close then false else before) ≡ after
-left_by before after close true e none = absurd (differ (sym none))
+left_by before after close true e none = absurd (false_isnt_true (sym none))
 left_by before false true false e none = refl
 left_by before true true false e none = cc
 left_by true true false false e none = refl
@@ -158,19 +158,19 @@ accepts-fed n key None d s e fed = fed
 -- an answer that takes no socket tells of nothing, or that an ask is pending
 ident_quiet : (s : Session) (a : Answer) (client server global : ℕ) → session.takes a ≡ false →
     IfSome (ident_event a client server global) (λ e. brings_feed e ≡ false)
-ident_quiet s answer.Accept client server global e = absurd (differ (sym e))
-ident_quiet s answer.AcceptOver client server global e = absurd (differ (sym e))
-ident_quiet s (answer.AcceptReset full) client server global e = absurd (differ (sym e))
-ident_quiet s answer.AcceptAgain client server global e = absurd (differ (sym e))
-ident_quiet s answer.AcceptReplace client server global e = absurd (differ (sym e))
-ident_quiet s answer.AcceptRace client server global e = absurd (differ (sym e))
+ident_quiet s answer.Accept client server global e = absurd (false_isnt_true (sym e))
+ident_quiet s answer.AcceptOver client server global e = absurd (false_isnt_true (sym e))
+ident_quiet s (answer.AcceptReset full) client server global e = absurd (false_isnt_true (sym e))
+ident_quiet s answer.AcceptAgain client server global e = absurd (false_isnt_true (sym e))
+ident_quiet s answer.AcceptReplace client server global e = absurd (false_isnt_true (sym e))
+ident_quiet s answer.AcceptRace client server global e = absurd (false_isnt_true (sym e))
 ident_quiet s answer.Close client server global e = tt
 ident_quiet s answer.Wait client server global e = tt
 ident_quiet s (answer.Reset full) client server global e = tt
 ident_quiet s answer.ResetPending client server global e = tt
 ident_quiet s (answer.RetryGlobal number) client server global e = tt
 ident_quiet s (answer.Retry number) client server global e = tt
-ident_quiet s answer.Resume client server global e = absurd (differ (sym e))
+ident_quiet s answer.Resume client server global e = absurd (false_isnt_true (sym e))
 
 reconnect_quiet : (a : Answer) (ask : Reconnect) → session.takes a ≡ false →
     IfSome (reconnect_event a ask) (λ e. brings_feed e ≡ false)
@@ -186,7 +186,7 @@ reconnect_quiet (answer.Reset full) ask e = tt
 reconnect_quiet answer.ResetPending ask e = refl
 reconnect_quiet (answer.RetryGlobal number) ask e = tt
 reconnect_quiet (answer.Retry number) ask e = tt
-reconnect_quiet answer.Resume ask e = absurd (differ (sym e))
+reconnect_quiet answer.Resume ask e = absurd (false_isnt_true (sym e))
 
 judged_quiet : (f : SideFacts) (s : Session) (a : AskFacts) (b : Bool) (given : Answer) (server : ℕ) →
     session.takes given ≡ false →
@@ -208,12 +208,12 @@ ident_taken s (answer.AcceptReset full) client server global e = refl
 ident_taken s answer.AcceptAgain client server global e = refl
 ident_taken s answer.AcceptReplace client server global e = refl
 ident_taken s answer.AcceptRace client server global e = refl
-ident_taken s answer.Close client server global e = absurd (differ e)
-ident_taken s answer.Wait client server global e = absurd (differ e)
-ident_taken s (answer.Reset full) client server global e = absurd (differ e)
-ident_taken s answer.ResetPending client server global e = absurd (differ e)
-ident_taken s (answer.RetryGlobal number) client server global e = absurd (differ e)
-ident_taken s (answer.Retry number) client server global e = absurd (differ e)
+ident_taken s answer.Close client server global e = absurd (false_isnt_true e)
+ident_taken s answer.Wait client server global e = absurd (false_isnt_true e)
+ident_taken s (answer.Reset full) client server global e = absurd (false_isnt_true e)
+ident_taken s answer.ResetPending client server global e = absurd (false_isnt_true e)
+ident_taken s (answer.RetryGlobal number) client server global e = absurd (false_isnt_true e)
+ident_taken s (answer.Retry number) client server global e = absurd (false_isnt_true e)
 ident_taken s answer.Resume client server global e = refl
 
 ready_has_feed : (p : Phase) → p ≡ Ready → phases.is_among p phases.with_feed ≡ true

@@ -3,7 +3,6 @@ use Rattle.std.proofs.Common.{◌≡◌, ℕ, zero, suc, ◌+◌, ◌<◌, ◌�
 use Rattle.std.specs.List.{AllByRecursion}
 use Rattle.std.specs.Prelude.{if◌then◌else◌, slice_get, ◌==◌}
 use Rattle.std.proofs.lemmas.Bool.{eq-eqb}
-use Rattle.std.proofs.Math.Seq.{drop-append_seam, take-length}
 use Rattle.std.proofs.lemmas.List.{drop-append-le, take-append-le}
 use Rattle.m2_session.specs.SessionLaws.{takes}
 use Rattle.m2_journal.specs.declared.entry.Entry.{Entry}
@@ -12,12 +11,13 @@ use Rattle.m2_fabric.specs.declared.socket.SocketId.{SocketId}
 use Rattle.m2_journal.specs.Plan.{Planned}
 use Rattle.m2_journal.specs.SideFacts.{SideFacts}
 use Rattle.m2_journal.specs.Growth.{IsExtended, Grow, AreThere, IsSettled, Continues}
-use Rattle.m2_journal.specs.Items.{reach_of, JournalItem, Sources, Places, Counts, raised, where_taken, post, dial, down, closed, judged, read, wrote, item_of, passed, at_start, items_from, items_of, passed_by}
+use Rattle.m2_journal.specs.Items.{reach_of, JournalItem, Sources, Places, Counts, raised, post, dial, down, closed, judged, read, wrote, item_of, passed, at_start, items_from, items_of, passed_by}
 use Rattle.m2_journal.specs.Laws.{ReplaysStay, OneMoreLeadsOn}
-use Rattle.m2_journal.specs.Replay.{after_items, AreLawful, IsReplay}
+use Rattle.m2_journal.specs.Replay.{after_items, AreLawful}
 use Rattle.m2_fabric.specs.Sockets.{same_socket}
 use Rattle.m2_journal.specs.State.{State, start}
 use Rattle.m2_journal.specs.Steps.{after}
+use Rattle.m2_fabric.proofs.Sockets.{same_refl}
 
 -- ---- a journal that grows
 
@@ -38,9 +38,6 @@ lawful-append f (i ∷ is) js s h k = (h.0, lawful-append f is js (after f i s) 
 same_number : (n : ℕ) → (n == n) ≡ true
 same_number n = eq-eqb n n refl
 
-pub same_socket-self : (k : SocketId) → same_socket k k ≡ true
-same_socket-self k = rw (same_number k.from_ip, same_number k.from_port, same_number k.to_ip, same_number k.to_port, same_number k.turn) refl
-
 raised-above : (k other : SocketId) (n : ℕ) (c : Counts) → c other ≤ raised k n c other
 raised-above k other n c = by_place (same_socket k other)
   where
@@ -49,7 +46,7 @@ raised-above k other n c = by_place (same_socket k other)
     by_place false = omega arith
 
 raised-at : (k : SocketId) (n : ℕ) (c : Counts) → raised k n c k ≡ c k + n
-raised-at k n c = rw (same_socket-self k) refl
+raised-at k n c = rw (same_refl k) refl
 
 -- a piece of what was there is the same piece of what is there
 piece : (n m : ℕ) (old new : List ℕ) → IsExtended old new → n + m ≤ length old → take m (drop n new) ≡ take m (drop n old)

@@ -31,7 +31,8 @@ use Rattle.m2_journal.specs.Said.{split, Said, says, brings, aborts, garbles}
 use Rattle.m2_journal.specs.SideFacts.{SideFacts, cookie_of}
 use Rattle.m2_journal.specs.State.{PartText, Feed, State, start}
 use Rattle.m2_journal.specs.Steps.{accepts, after, answers, breaks, closes, composes, discards, event_heard, event_of, forgets, has_effects, is_on, is_waiting, notes, on_feed_at, posts, puts, puts_on, queues, reads, sends, sends_late, sets_back, takes_answer, takes_answer_if, takes_socket, tells, tells_if, tells_of_reset, where_true, with_feed, without, writes_message}
-use Rattle.m2_journal.proofs.Sockets.{Came, CameSo, Grows, Names, all-kept, all-weaker, among-kept, among-last, among-more, came_so, distinct-kept, distinct-none, distinct-push, fresh, judgement, more_so, names_of, not_judged, not_taken, taken-append, taken-last}
+use Rattle.m2_journal.proofs.Sockets.{Came, CameSo, Grows, Names, all-kept, all-weaker, among-kept, came_so, distinct-kept, distinct-none, distinct-push, fresh, judgement, more_so, names_of, not_judged, not_taken, taken-append, taken-last}
+use Rattle.m2_fabric.proofs.Sockets.{among_last, among_front}
 
 -- Of those that came so, where the record's names are now these: the feed came, in its own way; so did all that was spent,
 -- which is nothing twice and not the feed.
@@ -175,7 +176,7 @@ noted n k i = record n { judgements = n.judgements ++ judgement k i ∷ [] }
 notes-grow : (n : Names) (k : SocketId) (i : JudgedItem) → Grows n (noted n k i)
 notes-grow n k i x true h = h
 notes-grow n k i x false h =
-    ap (is_among x) (taken-append n.judgements (judgement k i ∷ [])) ∙ among-more x (taken_among n.judgements) (taken_among (judgement k i ∷ [])) h
+    ap (is_among x) (taken-append n.judgements (judgement k i ∷ [])) ∙ among_front x (taken_among n.judgements) (taken_among (judgement k i ∷ [])) h
 
 weaker : (m n now : Names) (s : State) → Grows m n → Holds m now s → Holds n now s
 weaker m n now s grows h = (h.0, at s.feed h.1, all-weaker (CameSo m) (CameSo n) s.spent (more_so m n grows) h.2, h.3, h.4)
@@ -256,7 +257,7 @@ forgets-held k s h = (refl, h.1, all-kept (CameSo (names_of s)) (is_other k) s.s
 -- ---- each entry
 
 opened-grow : (n : Names) (k : SocketId) → Grows n (record n { opened = n.opened ++ k ∷ [] })
-opened-grow n k x true h = among-more x n.opened (k ∷ []) h
+opened-grow n k x true h = among_front x n.opened (k ∷ []) h
 opened-grow n k x false h = h
 
 after-held : (f : SideFacts) (i : JournalItem) (s : State) → Lawful f i s → Held s → Held (after f i s)
@@ -273,7 +274,7 @@ after-held f (items.opened k) s law h =
     let c = course_of (opener_at_start f.node.entity f.peer) [] in
     let new = fresh n k t.spent g.2 law.not_opened (not_judged k s.judgements law.not_judged) in
     stays m m d (goes_on c d) (record t { opened = t.opened ++ k ∷ [] }) (goes_on-same c d)
-    (refl, among-last k s.opened, all-weaker (CameSo n) (CameSo m) t.spent (more_so n m (opened-grow n k)) g.2, g.3, new)
+    (refl, among_last k s.opened, all-weaker (CameSo n) (CameSo m) t.spent (more_so n m (opened-grow n k)) g.2, g.3, new)
 after-held f (items.read k bytes) s law h = settles (names_of s) (after f (items.read k bytes) s) (at s.feed h)
   where
     at : (o : Option Feed) → HoldsOn (names_of s) (names_of s) o s →

@@ -15,3 +15,4 @@ pub mod Drawn
 pub mod Sockets
 pub mod Held
 pub mod Sound
+pub mod JudgedOn

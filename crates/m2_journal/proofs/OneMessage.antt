@@ -1,5 +1,5 @@
 -- A run, computed: a message between two records that were absent, from the banners on.
-use Rattle.std.specs.Prelude.{◌≡◌, ℕ, true, false, List, [], ◌∷◌, length, nat_lt, nat_le, refl, Option, Some, None}
+use Rattle.std.specs.Prelude.{◌≡◌, ℕ, true, false, List, [], ◌∷◌, refl, Some}
 use Rattle.m2_crc.specs.Crc.{after_byte, shifted, shifted_by}
 use Rattle.m2_frame.specs.Reading.{judge, judge_first, judge_later, judge_epilogue}
 use Rattle.m2_frame.specs.Preamble.{read_preamble, preamble_text}
@@ -8,13 +8,12 @@ use Rattle.m2_control.specs.Fields.{bounded_at, cookie_at, flag_at, numbers_at, 
 use Rattle.m2_control.specs.Ident.{tail_at}
 use Rattle.m2_addr.specs.Addr.{head_at, socket_at, body_of, shape_at}
 use Rattle.m2_addr.specs.Vector.{addresses_at, vector_at}
-use Rattle.m2_handshake.specs.Standing.{Standing}
 use Rattle.m2_message.specs.Message.{with_numbers}
 use Rattle.m2_message.specs.HeaderText.{header_text}
 use Rattle.m2_policy.specs.declared.path.Key.{Key}
 use Rattle.m2_policy.specs.declared.path.Path.TheVariants.{Queued}
-use Rattle.m2_session.specs.declared.answer.Answer.TheVariants.{Accept, Resume}
-use Rattle.m2_session.specs.declared.session.Phase.TheVariants.{Connecting, Ready, Standby, Wait}
+use Rattle.m2_session.specs.declared.answer.Answer.TheVariants.{Accept}
+use Rattle.m2_session.specs.declared.session.Phase.TheVariants.{Connecting, Ready}
 use Rattle.m2_session.specs.declared.ask.AskFacts.{AskFacts}
 use Rattle.m2_journal.specs.declared.entry.JudgedItem.{JudgedItem}
 use Rattle.m2_journal.specs.Plan.{to_post}
@@ -23,14 +22,15 @@ use Rattle.m2_journal.specs.SideFacts.{cookie_of}
 use Rattle.std.specs.List.{flat_map}
 use Rattle.m2_journal.specs.declared.entry.Entry.{Entry}
 use Rattle.m2_journal.specs.declared.entry.Entry.TheVariants as entry
-use Rattle.m2_journal.specs.Items.{JournalItem, Sources, runs_on, read, wrote, post, opened, judged, asked, numbered, accepted, acked, closed}
+use Rattle.m2_journal.specs.Items.{JournalItem, Sources, runs_on, read, wrote, post, opened, judged, asked, numbered, accepted, acked}
 use Rattle.m2_journal.specs.Replay.{AreLawful, replay}
 use Rattle.m2_journal.specs.Lawful.{IsReadable, MayJudge}
-use Rattle.std.proofs.Common.{inl, inr, sym, subst}
+use Rattle.std.proofs.Common.{inr, sym, subst}
 use Rattle.std.proofs.lemmas.Bool.{ltb-true, leb-true}
-use Rattle.m2_journal.specs.State.{PartText, State, start, letter}
-use Rattle.m2_journal.proofs.Written.{differ, not_zero, is_new, holds, fails, same, unopened, all_put}
+use Rattle.m2_journal.specs.State.{start, letter}
+use Rattle.m2_journal.proofs.Written.{not_zero, is_new, holds, fails, same, unopened, all_put}
 use Rattle.m2_journal.proofs.Pair.{World, before_all, a_does, b_does, a_writes, b_writes, a_reads, b_reads, half_goes_on, shakes_hands, socket, hello_message, facts_of_a, facts_of_b}
+use Rattle.m2_lemmas.proofs.Booleans.{false_isnt_true}
 
 -- ---- from Absent to Ready, and one message
 
@@ -46,7 +46,7 @@ can_be_read = record {
   connect = leb-true 0 GREATEST_NUMBER holds;
   seen = leb-true 0 GREATEST_NUMBER holds;
   ident = λ e. inr (not_zero (cookie_of facts_of_a 1) refl);
-  reconnect = λ e. absurd (differ (sym e));
+  reconnect = λ e. absurd (false_isnt_true (sym e));
 }
 
 abbrev pub of_first : List JudgedItem

@@ -1,6 +1,5 @@
 -- Lists of sockets, and which of them were opened or taken by an answer.
 use Rattle.std.proofs.Common.{◌≡◌, Bool, true, false, ◌&&◌, ◌||◌, ◌⊎◌, inl, inr, ◌==◌, if◌then◌else◌, List, [], ◌∷◌, ◌++◌, map, refl, sym, ap, ◌∙◌}
-use Rattle.std.proofs.lemmas.Bool.{eqb-true, eq-eqb}
 use Rattle.std.specs.List.{AllByRecursion, IsDistinct, filter}
 use Rattle.m2_addr.proofs.Addresses.{all_push}
 use Rattle.m2_fabric.specs.declared.socket.SocketId.{SocketId}
@@ -12,41 +11,10 @@ use Rattle.m2_journal.specs.declared.entry.JudgedItem.{JudgedItem}
 use Rattle.m2_journal.specs.Laws.{taken_among}
 use Rattle.m2_journal.specs.Lawful.{judged_on, may_ask_again}
 use Rattle.m2_journal.specs.State.{Judgement, State}
-use Rattle.m2_journal.proofs.Written.{differ}
-
--- ---- sockets by their names
-
-both : (a b : Bool) → (a && b) ≡ true → (a ≡ true) × (b ≡ true)
-both true b h = (refl, h)
-both false b h = absurd (differ h)
-
-same_refl : (k : SocketId) → same_socket k k ≡ true
-same_refl k = rw (eq-eqb k.from_ip k.from_ip refl, eq-eqb k.from_port k.from_port refl, eq-eqb k.to_ip k.to_ip refl, eq-eqb k.to_port k.to_port refl, eq-eqb k.turn k.turn refl) refl
-
-same_equal : (a b : SocketId) → same_socket a b ≡ true → a ≡ b
-same_equal a b h =
-    let ip = a.from_ip == b.from_ip in
-    let port = a.from_port == b.from_port in
-    let to_ip = a.to_ip == b.to_ip in
-    let to_port = a.to_port == b.to_port in
-    let five = both (((ip && port) && to_ip) && to_port) (a.turn == b.turn) h in
-    let four = both ((ip && port) && to_ip) to_port five.0 in
-    let three = both (ip && port) to_ip four.0 in
-    let two = both ip port three.0 in
-    rw (eqb-true a.from_ip b.from_ip two.0, eqb-true a.from_port b.from_port two.1, eqb-true a.to_ip b.to_ip three.1, eqb-true a.to_port b.to_port four.1, eqb-true a.turn b.turn five.1) refl
-
-apart : (a b : SocketId) → same_socket a b ≡ false → same_socket b a ≡ false
-apart a b e = at (same_socket b a) refl
-  where
-    at : (c : Bool) → same_socket b a ≡ c → c ≡ false
-    at true g = absurd (differ (sym e ∙ (ap (same_socket a) (same_equal b a g) ∙ same_refl a)))
-    at false g = refl
+use Rattle.m2_lemmas.proofs.Booleans.{neither_of_or, false_isnt_true}
+use Rattle.m2_fabric.proofs.Sockets.{same_equal, apart_turned, among_last}
 
 -- ---- among
-
-neither : (a b : Bool) → a || b ≡ false → (a ≡ false) × (b ≡ false)
-neither true b h = absurd (differ (sym h))
-neither false b h = (refl, h)
 
 either : (a b : Bool) → b ≡ true → a || b ≡ true
 either true b h = refl
@@ -56,18 +24,10 @@ raised : (a b c : Bool) → (b ≡ true → c ≡ true) → a || b ≡ true → 
 raised true b c more h = refl
 raised false b c more h = more h
 
-pub among-last : (k : SocketId) (xs : List SocketId) → is_among k (xs ++ k ∷ []) ≡ true
-among-last k [] = rw (same_refl k) refl
-among-last k (x ∷ xs) = either (same_socket k x) _ (among-last k xs)
-
-pub among-more : (k : SocketId) (xs ys : List SocketId) → is_among k xs ≡ true → is_among k (xs ++ ys) ≡ true
-among-more k [] ys h = absurd (differ h)
-among-more k (x ∷ xs) ys h = raised (same_socket k x) (is_among k xs) (is_among k (xs ++ ys)) (among-more k xs ys) h
-
 pub among-kept : (p : SocketId → Bool) (k : SocketId) (xs : List SocketId) → is_among k xs ≡ false →
     is_among k (filter p xs) ≡ false
 among-kept p k [] h = refl
-among-kept p k (x ∷ xs) h = let others = neither (same_socket k x) (is_among k xs) h in at (p x) others.0 (among-kept p k xs others.1)
+among-kept p k (x ∷ xs) h = let others = neither_of_or (same_socket k x) (is_among k xs) h in at (p x) others.0 (among-kept p k xs others.1)
   where
     at : (b : Bool) → same_socket k x ≡ false → is_among k (filter p xs) ≡ false →
         is_among k (if b then x ∷ filter p xs else filter p xs) ≡ false
@@ -97,8 +57,8 @@ pub distinct-push : (xs : List SocketId) (k : SocketId) → IsDistinct same_sock
 unfolding IsDistinct
 distinct-push [] k h none = (tt, tt)
 distinct-push (x ∷ xs) k h none =
-    let not_these = neither (same_socket k x) (is_among k xs) none in
-    (all_push (λ y. same_socket x y ≡ false) xs k h.0 (apart k x not_these.0), distinct-push xs k h.1 not_these.1)
+    let not_these = neither_of_or (same_socket k x) (is_among k xs) none in
+    (all_push (λ y. same_socket x y ≡ false) xs k h.0 (apart_turned k x not_these.0), distinct-push xs k h.1 not_these.1)
 
 one_kept : (b : Bool) (xs : List SocketId) (x : SocketId) → AllByRecursion (λ y. same_socket x y ≡ false) xs →
     IsDistinct same_socket xs → IsDistinct same_socket (if b then x ∷ xs else xs)
@@ -146,8 +106,8 @@ fresh n k [] all no_open no_take = refl
 fresh n k (x ∷ xs) all no_open no_take = at (same_socket k x) refl all.0 (fresh n k xs all.1 no_open no_take)
   where
     at : (c : Bool) → same_socket k x ≡ c → CameSo n x → is_among k xs ≡ false → c || is_among k xs ≡ false
-    at true e (inl h) rest = absurd (differ (sym no_open ∙ (ap (λ (z : SocketId). is_among z n.opened) (same_equal k x e) ∙ h)))
-    at true e (inr h) rest = absurd (differ (sym no_take ∙ (ap (λ (z : SocketId). is_among z (taken_among n.judgements)) (same_equal k x e) ∙ h)))
+    at true e (inl h) rest = absurd (false_isnt_true (sym no_open ∙ (ap (λ (z : SocketId). is_among z n.opened) (same_equal k x e) ∙ h)))
+    at true e (inr h) rest = absurd (false_isnt_true (sym no_take ∙ (ap (λ (z : SocketId). is_among z (taken_among n.judgements)) (same_equal k x e) ∙ h)))
     at false e h rest = rest
 
 pub taken-append : (js is : List Judgement) → taken_among (js ++ is) ≡ taken_among js ++ taken_among is
@@ -170,22 +130,22 @@ pub taken-last : (k : SocketId) (i : JudgedItem) (js : List Judgement) → sessi
     is_among k (taken_among (js ++ judgement k i ∷ [])) ≡ true
 taken-last k i js e =
     ap (is_among k) (taken-append js (judgement k i ∷ []) ∙ ap (λ (l : List SocketId). taken_among js ++ l) (taken-one k i e))
-    ∙ among-last k (taken_among js)
+    ∙ among_last k (taken_among js)
 
-no_more_asks : (a : Answer) → session.takes a ≡ true → may_ask_again a ≡ true → ⊥
-no_more_asks answer.Accept e h = differ h
-no_more_asks answer.AcceptOver e h = differ h
-no_more_asks (answer.AcceptReset full) e h = differ h
-no_more_asks answer.AcceptAgain e h = differ h
-no_more_asks answer.AcceptReplace e h = differ h
-no_more_asks answer.AcceptRace e h = differ h
-no_more_asks answer.Close e h = differ e
-no_more_asks answer.Wait e h = differ e
-no_more_asks (answer.Reset full) e h = differ e
-no_more_asks answer.ResetPending e h = differ e
-no_more_asks (answer.RetryGlobal n) e h = differ e
-no_more_asks (answer.Retry n) e h = differ e
-no_more_asks answer.Resume e h = differ h
+pub no_more_asks : (a : Answer) → session.takes a ≡ true → may_ask_again a ≡ true → ⊥
+no_more_asks answer.Accept e h = false_isnt_true h
+no_more_asks answer.AcceptOver e h = false_isnt_true h
+no_more_asks (answer.AcceptReset full) e h = false_isnt_true h
+no_more_asks answer.AcceptAgain e h = false_isnt_true h
+no_more_asks answer.AcceptReplace e h = false_isnt_true h
+no_more_asks answer.AcceptRace e h = false_isnt_true h
+no_more_asks answer.Close e h = false_isnt_true e
+no_more_asks answer.Wait e h = false_isnt_true e
+no_more_asks (answer.Reset full) e h = false_isnt_true e
+no_more_asks answer.ResetPending e h = false_isnt_true e
+no_more_asks (answer.RetryGlobal n) e h = false_isnt_true e
+no_more_asks (answer.Retry n) e h = false_isnt_true e
+no_more_asks answer.Resume e h = false_isnt_true h
 
 -- a socket on which no answer was the last wasn't taken
 pub not_taken : (k : SocketId) (js : List Judgement) →
@@ -207,7 +167,7 @@ pub not_judged : (k : SocketId) (js : List Judgement) → is_among k (map (λ j.
     is_among k (taken_among js) ≡ false
 not_judged k [] h = refl
 not_judged k (j ∷ js) h =
-    let others = neither (same_socket k j.socket) (is_among k (map (λ i. i.socket) js)) h in
+    let others = neither_of_or (same_socket k j.socket) (is_among k (map (λ i. i.socket) js)) h in
     at (session.takes j.item.answer) others.0 (not_judged k js others.1)
   where
     at : (c : Bool) → same_socket k j.socket ≡ false → is_among k (taken_among js) ≡ false →

@@ -5,14 +5,12 @@ use Rattle.std.proofs.lemmas.List.{map-append}
 use Rattle.m2_fabric.specs.declared.socket.SocketId.{SocketId}
 use Rattle.m2_fabric.specs.Sockets.{is_among, same_socket}
 use Rattle.m2_bytes_fit.proofs.Judges.{not_judged_on}
-use Rattle.m2_growth.proofs.Among.{among_back, among_front, among_mapped, among_part, each_by}
-use Rattle.m2_history.proofs.Tidiness.{all_append}
+use Rattle.m2_growth.proofs.Among.{among_back, among_mapped, each_by}
 use Rattle.m2_history.specs.Link.{AreKept, AreOfLink, HaveHalves, IsJudgedSo, IsWholeHalf, half_sockets}
 use Rattle.m2_history.specs.Parts.{PartsNow}
 use Rattle.m2_history.specs.Woven.{BothNow, EndNow, end_of, ends_of, loose_ends}
 use Rattle.m2_journal.specs.Lawful.{judged_on}
 use Rattle.m2_journal.specs.State.{Judgement}
-use Rattle.m2_record.proofs.Names.{differ, same_equal}
 use Rattle.m2_record.specs.TakenTrails.{judgements_in}
 use Rattle.m2_trail.specs.Arrivals.{LooseNow}
 use Rattle.m2_trail.specs.Trails.{TrailNow}
@@ -21,27 +19,26 @@ use Rattle.m2_links_go_on.specs.Told.{AreTold}
 use Rattle.m2_links_go_on.proofs.KeptHalves.{kept_are_halves}
 use Rattle.m2_weave.specs.Strands.{same_side}
 use Rattle.m2_history.specs.WovenLink.{same_end}
-use Rattle.m2_history.proofs.Journals.{judged_append}
 use Rattle.m2_links_go_on.proofs.LinkLists.{four_apart}
 use Rattle.m2_links_go_on.proofs.Standing as one
-use Rattle.m2_links_go_on.proofs.Standing.{AreOpposed, StandsAt, ends_both, ends_from_loose, ends_single, judged_sockets, loose_both, loose_ends_single, loose_named, loose_single, not_true, opposed_too, sockets_left, trail_sockets}
+use Rattle.m2_links_go_on.proofs.Standing.{AreOpposed, StandsAt, ends_both, ends_from_loose, ends_single, judged_sockets, loose_both, loose_ends_single, loose_named, loose_single, opposed_too, sockets_left, trail_sockets}
+use Rattle.m2_lemmas.proofs.Booleans.{and_false, false_isnt_true, not_true_is_false}
+use Rattle.m2_fabric.proofs.Sockets.{among_front, among_part, same_equal}
+use Rattle.m2_lemmas.proofs.Lists.{all_append}
+use Rattle.m2_record.proofs.AsksJudged.{judged_append}
 
 -- ---- apart
 
 sockets_apart : (here away : SocketId → Bool) → AreOpposed here away → (j k : SocketId) → here j ≡ true → away k ≡ true → same_socket j k ≡ false
-sockets_apart here away opposed j k h a = not_true (same_socket j k) (λ same. opposed k (ap here (sym (same_equal j k same)) ∙ h) a)
-
-never_and : (b : Bool) → (b && false) ≡ false
-never_and true = refl
-never_and false = refl
+sockets_apart here away opposed j k h a = not_true_is_false (same_socket j k) (λ same. opposed k (ap here (sym (same_equal j k same)) ∙ h) a)
 
 ends_apart : (here away : SocketId → Bool) → AreOpposed here away → (d e : EndNow) → one.IsEndAt here away d → one.IsEndAt away here e → same_end d e ≡ false
 ends_apart here away opposed d e (inl (o, a)) (inl (q, h)) = ap (λ b. b && same_side d.opener e.opener) (sockets_apart away here (opposed_too here away opposed) d.socket e.socket a h)
 ends_apart here away opposed d e (inr (o, h)) (inr (q, a)) = ap (λ b. b && same_side d.opener e.opener) (sockets_apart here away opposed d.socket e.socket h a)
 ends_apart here away opposed d e (inl (o, a)) (inr (q, b)) =
-    ap (λ c. same_socket d.socket e.socket && same_side c e.opener) o ∙ ap (λ c. same_socket d.socket e.socket && c) q ∙ never_and (same_socket d.socket e.socket)
+    ap (λ c. same_socket d.socket e.socket && same_side c e.opener) o ∙ ap (λ c. same_socket d.socket e.socket && c) q ∙ and_false (same_socket d.socket e.socket)
 ends_apart here away opposed d e (inr (o, h)) (inl (q, b)) =
-    ap (λ c. same_socket d.socket e.socket && same_side c e.opener) o ∙ ap (λ c. same_socket d.socket e.socket && same_side false c) q ∙ never_and (same_socket d.socket e.socket)
+    ap (λ c. same_socket d.socket e.socket && same_side c e.opener) o ∙ ap (λ c. same_socket d.socket e.socket && same_side false c) q ∙ and_false (same_socket d.socket e.socket)
 
 -- ---- halves of what a side has judged
 
@@ -81,13 +78,13 @@ other_part k xs ys h none = by (among_part k xs ys h)
   where
     by : (is_among k xs ≡ true) ⊎ (is_among k ys ≡ true) → is_among k xs ≡ true
     by (inl i) = i
-    by (inr i) = absurd (differ (sym none ∙ i))
+    by (inr i) = absurd (false_isnt_true (sym none ∙ i))
 
 last_part : (k : SocketId) (xs ys : List SocketId) → is_among k (xs ++ ys) ≡ true → is_among k xs ≡ false → is_among k ys ≡ true
 last_part k xs ys h none = by (among_part k xs ys h)
   where
     by : (is_among k xs ≡ true) ⊎ (is_among k ys ≡ true) → is_among k ys ≡ true
-    by (inl i) = absurd (differ (sym none ∙ i))
+    by (inl i) = absurd (false_isnt_true (sym none ∙ i))
     by (inr i) = i
 
 -- ---- both sides

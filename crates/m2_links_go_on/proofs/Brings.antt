@@ -20,7 +20,6 @@ use Rattle.m2_record.specs.Calls as record_calls
 use Rattle.m2_record.specs.Due.{due_step}
 use Rattle.m2_record.specs.RecordNow.{RecordNow, ends_of, feed_end, ids_of}
 use Rattle.m2_record.specs.Sources.{end_at}
-use Rattle.m2_record.proofs.Names.{differ, same_equal}
 use Rattle.m2_trail.specs.Arrivals.{LooseNow, closed_of}
 use Rattle.m2_trail.specs.Incoming.{IncomingNow, accepted}
 use Rattle.m2_center.specs.declared.accepting.Accepted.{Accepted}
@@ -47,12 +46,15 @@ use Rattle.m2_growth.specs.Records.{ends_of_all}
 use Rattle.m2_growth.proofs.Among.{mid_out}
 use Rattle.m2_growth.proofs.Dials.{dials}
 use Rattle.m2_growth.proofs.Ends.{AreMade, later_between, made_none, made_so, none_cons, none_join, none_parts, none_tail}
-use Rattle.m2_growth.proofs.Going.{all_so, grows_by, grows_then}
+use Rattle.m2_growth.proofs.Going.{grows_by, grows_then}
 use Rattle.m2_growth.proofs.HalfTurns.{halves_grow}
 use Rattle.m2_growth.proofs.OneRecord.{all_around, ends_behind, holding}
 use Rattle.m2_growth.proofs.Owned.{own_all}
 use Rattle.m2_growth.proofs.RecordTurns.{turns, turns_one}
 use Rattle.m2_links_go_on.proofs.ToCome.{among_none}
+use Rattle.m2_lemmas.proofs.Booleans.{false_isnt_true}
+use Rattle.m2_fabric.proofs.Sockets.{same_equal}
+use Rattle.m2_lemmas.proofs.Lists.{all_so_of}
 
 -- a socket that has an end now and had none goes elsewhere
 abbrev pub Brings : (old new : Holding) → Type 0
@@ -66,7 +68,7 @@ chain a b c same p q k none some = at (end_at (all_ends b) k) refl
     at (Some y) e = p k none (ap is_some e)
 
 pub by_none : (a b : Holding) → BringNone (all_ends a) (all_ends b) → Brings a b
-by_none a b n k none some = absurd (differ (sym (ap is_some (n k none)) ∙ some))
+by_none a b n k none some = absurd (false_isnt_true (sym (ap is_some (n k none)) ∙ some))
 
 pub by_same : (a b : Holding) → all_ends b ≡ all_ends a → Brings a b
 by_same a b e = by_none a b (λ k h. ap (λ l. end_at l k) e ∙ h)
@@ -98,7 +100,7 @@ takes_in rs entity old new memory t = at old.port.waiting new.port.waiting memor
   where
     at : (w v : Option (List SeenEnd)) → IsSome w → w ≡ option_map (λ rest. t.end ∷ rest) v →
         ((k : SocketId) → end_at ((ends_of_all rs ++ ends_in old.halves) ++ unwrap_or w []) k ≡ None → end_at ((ends_of_all rs ++ ends_in new.halves) ++ unwrap_or v []) k ≡ None) × IsSome v
-    at w None memory same = absurd (differ (sym (ap is_some same) ∙ memory))
+    at w None memory same = absurd (false_isnt_true (sym (ap is_some same) ∙ memory))
     at w (Some ws) memory same = (
       (λ k none.
           let parts = none_parts (ends_of_all rs ++ ends_in old.halves) (unwrap_or w []) k none in
@@ -159,7 +161,7 @@ module _ (h : Holding) where
     held = own.held;
     made = all_made;
     waiting = own.waiting;
-    to_come = all_so (IsToCome h.port) (IsToCome just) (waiting_at h.port) (λ e c. record { here = c.here; new = new_still own e.id c.new }) own.to_come;
+    to_come = all_so_of (IsToCome h.port) (IsToCome just) (waiting_at h.port) (λ e c. record { here = c.here; new = new_still own e.id c.new }) own.to_come;
     elsewhere = own.elsewhere;
     fed = own.fed;
     on_socket = own.on_socket;
@@ -190,7 +192,7 @@ opened_ends e r mid s room h = at s.core.live.feed refl h.0 h.1
     at (Some v) is (opening, h) some =
         ap (λ x. feed_end x ++ s.spent) is ∙ ap (λ (x : SeenEnd). x ∷ s.spent) (ap (λ (x : FeedNow). x.end) opening)
         ∙ ap (λ l. e ∷ l) (ap (λ (x : RecordNow). x.spent) h ∙ ap (λ (x : RecordNow). x.spent) room)
-    at None is h some = absurd (differ some)
+    at None is h some = absurd (false_isnt_true some)
 
 module _ (before rest : List RecordNow) (halves : AllHalves) where
   abbrev with_it : SeenPort → RecordNow → Holding
@@ -218,7 +220,7 @@ module _ (before rest : List RecordNow) (halves : AllHalves) where
           (none_join (e ∷ r.spent) (ends_behind rest halves ++ waiting_at p) k (none_cons e r.spent k other third.1) second.1) in
           let all : all_ends (with_it q s) ≡ spread (e ∷ r.spent) (waiting_at p) =
           all_around q before rest s halves ∙ ap (λ w. spread (ends_of s) (unwrap_or w [])) waiting ∙ ap (λ es. spread es (waiting_at p)) ends in
-          absurd (differ (sym (ap is_some (ap (λ l. end_at l k) all ∙ now)) ∙ some))
+          absurd (false_isnt_true (sym (ap is_some (ap (λ l. end_at l k) all ∙ now)) ∙ some))
 
   takes : (made : Connect SeenEnd) (now : ℕ) (p q : SeenPort) (r s : RecordNow) → port.Connects made r.core.facts.peer p q → Takes made now r s → LeadsElsewhere p r → Brings (with_it p r) (with_it q s)
   takes (connect.Made e) now p q r s c (mid, room, opened) away =

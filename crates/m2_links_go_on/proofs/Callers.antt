@@ -6,10 +6,8 @@ use Rattle.m2_fabric.specs.Sockets.{is_among}
 use Rattle.m2_bytes_fit.proofs.Judges.{not_judged_on}
 use Rattle.m2_growth.specs.Halves.{IsOneOf, all_left}
 use Rattle.m2_growth.proofs.Among.{of_each}
-use Rattle.m2_history.proofs.Tidiness.{all_append, all_map, all_so}
 use Rattle.m2_journal.specs.declared.entry.JudgedItem.{JudgedItem}
 use Rattle.m2_journal.specs.Lawful.{judged_on}
-use Rattle.m2_record.proofs.Names.{differ}
 use Rattle.m2_record.specs.RecordNow.{RecordNow}
 use Rattle.m2_record.specs.TakenTrails.{judgements_in}
 use Rattle.m2_center.specs.Halves.{AllHalves, sessions_with}
@@ -17,6 +15,8 @@ use Rattle.m2_center.specs.Sessions.{AreConsistent, Caller, IsCaller, IsTold, Pe
 use Rattle.m2_trail.specs.Arrivals.{LooseNow, left_of}
 use Rattle.m2_links_go_on.proofs.LinkRecords.{asked_some}
 use Rattle.m2_links_go_on.proofs.Standing.{judged_sockets}
+use Rattle.m2_lemmas.proofs.Lists.{all_append, all_map, all_so}
+use Rattle.m2_lemmas.proofs.Booleans.{false_isnt_true}
 
 -- a half as records see it
 pub record IsCalled (made : List SocketId) (records : List RecordNow) (l : LooseNow) : Type 0 where
@@ -48,7 +48,7 @@ record OneWhere (f : RecordNow → Bool) (rs : List RecordNow) : Type 0 where
   so : f one ≡ true
 
 one_where : (f : RecordNow → Bool) (rs : List RecordNow) → list_any f rs ≡ true → OneWhere f rs
-one_where f [] h = absurd (differ h)
+one_where f [] h = absurd (false_isnt_true h)
 one_where f (r ∷ rs) h = at (f r) refl h (one_where f rs)
   where
     at : (b : Bool) → f r ≡ b → b || list_any f rs ≡ true → (list_any f rs ≡ true → OneWhere f rs) → OneWhere f (r ∷ rs)

@@ -16,9 +16,8 @@ use Rattle.m2_center.specs.CenterTurn.{Accepts, Answer, EmptiesMail, TakesTurn, 
 use Rattle.m2_growth.specs.Holding.{Grows, Holding}
 use Rattle.m2_growth.specs.Records.{RecordsGrow}
 use Rattle.m2_growth.proofs.Accepts.{accepts_grow}
-use Rattle.m2_growth.proofs.Going.{grows_then, records_same}
+use Rattle.m2_growth.proofs.Going.{grows_then, records_same, grows_same}
 use Rattle.m2_growth.proofs.HalfTurns.{halves_grow}
-use Rattle.m2_growth.proofs.Holdings.{same_grows}
 use Rattle.m2_growth.proofs.OneRecord.{holding}
 use Rattle.m2_links_go_on.specs.LogLaws.{TurnsStayLogged, holding_in, logging_in}
 use Rattle.m2_links_go_on.specs.Logged.{AreOfTheirPeers, IsCalled, IsLogged, logging}
@@ -101,7 +100,7 @@ pub turns_stay_logged : {D : Type 0} (E : Type 0) → TurnsStayLogged D E
 turns_stay_logged E heard m answer old new t own are later l =
     turned E heard l.calls m (holding_in old) answer old new t later
     (record {
-      grown = same_grows (holding_in old) own;
+      grown = grows_same (holding_in old) own;
       peers = l.peers;
       queue = l.queue;
       lag = all_lag heard l.calls old.port old.records old.records old.halves old.out own are l.each (records_same old.records) (none_same old.records);

@@ -6,34 +6,20 @@ use Rattle.m2_fabric.specs.Sockets.{same_socket}
 use Rattle.m2_growth.specs.Halves.{IsOneOf}
 use Rattle.m2_growth.proofs.Among.{of_each}
 use Rattle.m2_history.specs.Woven.{BytesNow, EndNow, bytes_at}
-use Rattle.m2_record.proofs.Names.{apart, same_equal, same_refl}
 use Rattle.m2_weave.specs.Later.{GoesOn}
 use Rattle.m2_weave.specs.Strands.{same_side}
 use Rattle.m2_history.specs.WovenLink.{same_end}
 use Rattle.m2_links_go_on.proofs.Going.{LaterEnd}
-
-side_refl : (b : Bool) → same_side b b ≡ true
-side_refl true = refl
-side_refl false = refl
-
-side_turned : (a b : Bool) → same_side a b ≡ same_side b a
-side_turned true true = refl
-side_turned true false = refl
-side_turned false true = refl
-side_turned false false = refl
+use Rattle.m2_lemmas.proofs.Booleans.{both_of_and}
+use Rattle.m2_history.proofs.Bytes.{same_end_turned, own_end}
+use Rattle.m2_fabric.proofs.Sockets.{apart_turned, same_equal, same_refl}
 
 socket_turned : (j k : SocketId) → same_socket j k ≡ same_socket k j
 socket_turned j k = at (same_socket k j) refl
   where
     at : (b : Bool) → same_socket k j ≡ b → same_socket j k ≡ same_socket k j
     at true h = ap (same_socket j) (same_equal k j h) ∙ same_refl j ∙ sym h
-    at false h = apart k j h ∙ sym h
-
-end_turned : (d e : EndNow) → same_end d e ≡ same_end e d
-end_turned d e = ap (λ b. b && same_side d.opener e.opener) (socket_turned d.socket e.socket) ∙ ap (λ b. same_socket e.socket d.socket && b) (side_turned d.opener e.opener)
-
-end_refl : (e : EndNow) → same_end e e ≡ true
-end_refl e = ap (λ b. b && same_side e.opener e.opener) (same_refl e.socket) ∙ side_refl e.opener
+    at false h = apart_turned k j h ∙ sym h
 
 -- ---- the bytes of an end that is there
 
@@ -41,10 +27,10 @@ pub its_bytes : (e : EndNow) (es : List EndNow) → IsDistinct same_end es → I
 unfolding IsDistinct
 its_bytes e [] d h = absurd h
 its_bytes e (x ∷ es) d (inl q) =
-    let here : same_end e x ≡ true = ap (same_end e) (sym q) ∙ end_refl e in
+    let here : same_end e x ≡ true = ap (same_end e) (sym q) ∙ own_end e in
     ap (λ b. if b then record { got = x.got; put = x.put } else bytes_at e.socket e.opener es) here ∙ ap (λ (y : EndNow). record { got = y.got; put = y.put }) (sym q)
 its_bytes e (x ∷ es) d (inr h) =
-    let there : same_end e x ≡ false = end_turned e x ∙ of_each (λ y. same_end x y ≡ false) e es d.0 h in
+    let there : same_end e x ≡ false = same_end_turned e x ∙ of_each (λ y. same_end x y ≡ false) e es d.0 h in
     ap (λ b. if b then record { got = x.got; put = x.put } else bytes_at e.socket e.opener es) there ∙ its_bytes e es d.1 h
 
 -- ---- the end whose bytes they are
@@ -59,10 +45,6 @@ pub record IsFrom (k : SocketId) (o : Bool) (all es : List EndNow) : Type 0 wher
   pub opener : end.opener ≡ o
   pub bytes : bytes_at k o all ≡ record { got = end.got; put = end.put }
 
-both_true : (a b : Bool) → (a && b) ≡ true → (a ≡ true) × (b ≡ true)
-both_true true b h = (refl, h)
-both_true false b h = absurd cc
-
 one_side : (a b : Bool) → same_side a b ≡ true → b ≡ a
 one_side true true h = refl
 one_side true false h = absurd cc
@@ -75,7 +57,7 @@ from_end k o (x ∷ es) = at (same_socket k x.socket && same_side o x.opener) re
   where
     at : (b : Bool) → (same_socket k x.socket && same_side o x.opener) ≡ b → IsFrom k o es es ⊎ (bytes_at k o es ≡ nothing) → IsFrom k o (x ∷ es) (x ∷ es) ⊎ (bytes_at k o (x ∷ es) ≡ nothing)
     at true h rest =
-        let two = both_true (same_socket k x.socket) (same_side o x.opener) h in
+        let two = both_of_and (same_socket k x.socket) (same_side o x.opener) h in
         inl (record {
           end = x;
           there = inl refl;

@@ -1,5 +1,5 @@
 -- Two nodes, each with a new record of the other, that stay as they are.
-use Rattle.std.proofs.Common.{◌≡◌, ℕ, inl, Bool, true, false, [], ◌∷◌, None, refl, ap, ◌∙◌, arith}
+use Rattle.std.proofs.Common.{◌≡◌, ℕ, inl, true, false, [], ◌∷◌, None, refl, ap, ◌∙◌, arith}
 use Rattle.std.specs.Prelude.{◌==◌, ◌&&◌}
 use Rattle.std.specs.List.{IsDistinct}
 use Rattle.std.proofs.lemmas.Bool.{eqb-true}
@@ -15,10 +15,10 @@ use Rattle.m2_journal.proofs.Pair.{facts_of_a, facts_of_b, here, there}
 use Rattle.m2_record.specs.IsRecord.{IsRecord, new_record, no_room}
 use Rattle.m2_record.specs.RecordNow.{RecordNow}
 use Rattle.m2_record.proofs.Making.{new-is-record}
-use Rattle.m2_record.proofs.Names.{both, differ}
 use Rattle.m2_links_go_on.specs.LinkLaws.{ALinkGoesOn}
 use Rattle.m2_links_go_on.specs.Linked.{IsNode, NodeNow, Nodes}
 use Rattle.m2_links_go_on.proofs.Staying.{staying_goes_on}
+use Rattle.m2_lemmas.proofs.Booleans.{and_false, both_of_and, false_isnt_true}
 
 -- a new record of the node at this place
 abbrev pub side : SideFacts → (place : ℕ) → RecordNow
@@ -30,20 +30,15 @@ node f place = record { holding = record { port = fresh_port f.mine; records = s
 agrees : (f : SideFacts) → Agrees (at_start f) (start f)
 agrees f = record { session = refl; queue = refl; last = refl; owes = refl; dials = refl; top = refl; feed = tt; resumed = inl refl }
 
--- a socket to one doesn't go to the other
-never_and : (b : Bool) → (b && false) ≡ false
-never_and true = refl
-never_and false = refl
-
 from_here : (k : SocketId) → goes_to there k ≡ true → goes_to here k ≡ false
 from_here k h =
-    let port : k.to_port ≡ 7002 = eqb-true k.to_port 7002 (both (k.to_ip == there.ip) (k.to_port == 7002) h).1 in
-    ap (λ n. (k.to_ip == here.ip) && (n == 7001)) port ∙ never_and (k.to_ip == here.ip)
+    let port : k.to_port ≡ 7002 = eqb-true k.to_port 7002 (both_of_and (k.to_ip == there.ip) (k.to_port == 7002) h).1 in
+    ap (λ n. (k.to_ip == here.ip) && (n == 7001)) port ∙ and_false (k.to_ip == here.ip)
 
 from_there : (k : SocketId) → goes_to here k ≡ true → goes_to there k ≡ false
 from_there k h =
-    let port : k.to_port ≡ 7001 = eqb-true k.to_port 7001 (both (k.to_ip == here.ip) (k.to_port == 7001) h).1 in
-    ap (λ n. (k.to_ip == there.ip) && (n == 7002)) port ∙ never_and (k.to_ip == there.ip)
+    let port : k.to_port ≡ 7001 = eqb-true k.to_port 7001 (both_of_and (k.to_ip == here.ip) (k.to_port == 7001) h).1 in
+    ap (λ n. (k.to_ip == there.ip) && (n == 7002)) port ∙ and_false (k.to_ip == there.ip)
 
 with_record : (f : SideFacts) (place : ℕ) → IsRecord (side f place) → ((k : SocketId) → goes_to f.peer k ≡ true → goes_to f.mine k ≡ false) → IsNode (node f place).holding
 unfolding IsDistinct
@@ -51,7 +46,7 @@ with_record f place is apart = record {
   records = (is, tt);
   whole = tt;
   own = record { in_memory = refl; held = own_none; made = tt; waiting = own_none; to_come = tt; elsewhere = (apart, tt); fed = (refl, tt); on_socket = tt; here = tt };
-  halves = record { each = (λ k h. absurd (differ h), tt); made = (λ k h. absurd (differ h), tt); here = (λ k h. absurd (differ h), tt); one_judge = (tt, tt); askers = tt; peers = (tt, tt) };
+  halves = record { each = (λ k h. absurd (false_isnt_true h), tt); made = (λ k h. absurd (false_isnt_true h), tt); here = (λ k h. absurd (false_isnt_true h), tt); one_judge = (tt, tt); askers = tt; peers = (tt, tt) };
   supply = record { place = None; least = 0 };
   entity = f.node.entity;
   sessions = record {
@@ -82,7 +77,7 @@ a_link_goes_on = record {
     far = staying_goes_on (node facts_of_b 0) 0 is_node_of_b refl;
     near_peer = λ k. refl;
     far_peer = λ k. refl;
-    near_alone = λ k o h. absurd (differ o);
-    far_alone = λ k o h. absurd (differ o);
+    near_alone = λ k o h. absurd (false_isnt_true o);
+    far_alone = λ k o h. absurd (false_isnt_true o);
   };
 }

@@ -17,7 +17,6 @@ use Rattle.m2_history.specs.Parts.{PartsNow}
 use Rattle.m2_history.specs.Woven.{EndNow, end_of, half_end, is_about, judged_times, knows}
 use Rattle.m2_journal.specs.declared.entry.Entry.{Entry}
 use Rattle.m2_journal.specs.Lawful.{judged_on}
-use Rattle.m2_record.proofs.Names.{differ}
 use Rattle.m2_record.specs.RecordNow.{ids_of}
 use Rattle.m2_record.specs.TakenTrails.{judgement_of, judgements_in, taken_in}
 use Rattle.m2_trail.specs.Arrivals.{LooseNow}
@@ -26,10 +25,11 @@ use Rattle.m2_links_go_on.specs.Sides.{HalfGoesOn}
 use Rattle.m2_weave.specs.Later.{GoesOn}
 use Rattle.m2_weave.specs.declared.strand.StrandItem.TheVariants.{Noted}
 use Rattle.m2_weave.specs.Strands.{has_opened, journal_of, opens}
-use Rattle.m2_history.proofs.Journals.{judged_append}
 use Rattle.m2_links_go_on.proofs.LinkLists.{take_all_of, take_more}
 use Rattle.m2_links_go_on.proofs.Standing as one
 use Rattle.m2_links_go_on.proofs.Standing.{AreOpposed, StandsAt, judged_sockets}
+use Rattle.m2_lemmas.proofs.Booleans.{or_left}
+use Rattle.m2_record.proofs.AsksJudged.{judged_append}
 
 -- ---- one half
 
@@ -89,17 +89,13 @@ pub record StandsOn (p q : PartsNow) (ls ms : List LooseNow) (theirs : List Entr
 
 -- ---- journals that go on
 
-or-first : (a b : Bool) → a ≡ true → (a || b) ≡ true
-or-first true b e = refl
-or-first false b e = absurd (differ e)
-
 pub knows_on : (es fs : List Entry) (k : SocketId) → GoesOn es fs → knows es k ≡ true → knows fs k ≡ true
-knows_on es fs k on h = ap (λ l. knows l k) on.1 ∙ list_any-append (is_about k) es on.0 ∙ or-first (knows es k) (knows on.0 k) h
+knows_on es fs k on h = ap (λ l. knows l k) on.1 ∙ list_any-append (is_about k) es on.0 ∙ or_left (knows es k) (knows on.0 k) h
 
 pub opened_on : (es fs : List Entry) (k : SocketId) → GoesOn es fs → has_opened (journal_of es) k ≡ true → has_opened (journal_of fs) k ≡ true
 opened_on es fs k on h =
     ap (λ l. has_opened (journal_of l) k) on.1 ∙ ap (list_any (opens k)) (map-append Noted es on.0)
-    ∙ list_any-append (opens k) (map Noted es) (map Noted on.0) ∙ or-first (has_opened (journal_of es) k) (list_any (opens k) (map Noted on.0)) h
+    ∙ list_any-append (opens k) (map Noted es) (map Noted on.0) ∙ or_left (has_opened (journal_of es) k) (list_any (opens k) (map Noted on.0)) h
 
 -- how many asks on a socket were judged
 abbrev pub times : List Entry → SocketId → ℕ

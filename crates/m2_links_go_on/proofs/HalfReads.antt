@@ -1,5 +1,5 @@
 -- What halves read on a socket is what the one half there has read.
-use Rattle.std.proofs.Common.{◌≡◌, ℕ, zero, suc, ◌+◌, ◌-◌, ◌≤◌, max, Bool, true, false, if◌then◌else◌, List, [], ◌∷◌, ◌++◌, length, map, take, drop, refl, sym, ap, ◌∙◌, subst, arith, Some}
+use Rattle.std.proofs.Common.{◌≡◌, ℕ, zero, suc, ◌+◌, ◌-◌, ◌≤◌, max, Bool, true, false, if◌then◌else◌, List, [], ◌∷◌, ◌++◌, map, take, drop, refl, sym, ap, ◌∙◌, subst, arith, Some}
 use Rattle.std.specs.List.{AllByRecursion, IsDistinct}
 use Rattle.std.proofs.lemmas.List.{map-append}
 use Rattle.m2_fabric.specs.declared.socket.SocketId.{SocketId}
@@ -15,13 +15,10 @@ use Rattle.m2_links_go_on.specs.Sides.{AreHalves, IsHalf, done_on, entries_in, h
 use Rattle.m2_weave.specs.declared.strand.StrandItem.{StrandItem}
 use Rattle.m2_weave.specs.declared.strand.StrandItem.TheVariants.{Noted, Handed}
 use Rattle.m2_weave.specs.Strands.{StrandNow, half_items, journal_of, read_by, read_by_halves, total}
-use Rattle.m2_weave.proofs.SameSocket.{one_socket, same_refl}
+use Rattle.m2_history.proofs.Alone.{total_joined}
+use Rattle.m2_fabric.proofs.Sockets.{same_equal}
 
 -- ---- one half
-
-total-both : (f : StrandItem → ℕ) (xs ys : List StrandItem) → total f (xs ++ ys) ≡ total f xs + total f ys
-total-both f [] ys = omega arith
-total-both f (x ∷ xs) ys = omega (arith, total-both f xs ys)
 
 parts : (f : StrandItem → ℕ) (n : ℕ) (es : List Entry) → total f (map Noted (take n es)) + total f (map Noted (drop n es)) ≡ total f (map Noted es)
 parts f zero es = omega arith
@@ -35,7 +32,7 @@ items_count f x none (n ∷ ns) place es =
     omega (
       arith,
       none,
-      total-both f (map Noted (take (n - place) es)) (Handed x ∷ half_items x (max n place) (drop (n - place) es) ns),
+      total_joined f (map Noted (take (n - place) es)) (Handed x ∷ half_items x (max n place) (drop (n - place) es) ns),
       items_count f x none ns (max n place) (drop (n - place) es),
       parts f (n - place) es,
     )
@@ -81,7 +78,7 @@ reads_are k (t ∷ ts) are = at (same_socket k t.socket) refl (reads_are k ts (r
     at true same rest =
         let here : half_on k (t ∷ ts) ≡ Some t = ap (λ b. if b then Some t else half_on k ts) same in
         let apart : AllByRecursion (λ (x : SocketId). same_socket k x ≡ false) (map (λ (t : TrailNow). t.socket) ts) =
-        subst (λ y. AllByRecursion (λ (x : SocketId). same_socket y x ≡ false) (map (λ (t : TrailNow). t.socket) ts)) (sym (one_socket k t.socket same)) are.apart.0 in
+        subst (λ y. AllByRecursion (λ (x : SocketId). same_socket y x ≡ false) (map (λ (t : TrailNow). t.socket) ts)) (sym (same_equal k t.socket same)) are.apart.0 in
         let done : total (read_by k) (map Noted (done_on k (t ∷ ts))) ≡ total (read_by k) (map Noted t.entries) = ap (λ o. total (read_by k) (map Noted (entries_in o))) here in
         omega (arith, reads-of k t.socket t.judged_after 0 t.entries, none-of k ts are.each.1 apart, done)
     at false differ rest =

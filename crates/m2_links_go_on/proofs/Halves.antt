@@ -1,9 +1,9 @@
 -- The strand of a half that goes on goes on.
-use Rattle.std.proofs.Common.{◌≡◌, ℕ, zero, suc, ◌+◌, ◌-◌, ◌<◌, ◌≤◌, max, Bool, true, false, ◌||◌, if◌then◌else◌, List, [], ◌∷◌, ◌++◌, length, map, take, drop, refl, sym, ap, ◌∙◌, subst, arith, append_assoc}
+use Rattle.std.proofs.Common.{◌≡◌, ℕ, zero, suc, ◌+◌, ◌-◌, ◌<◌, ◌≤◌, max, Bool, false, ◌||◌, if◌then◌else◌, List, [], ◌∷◌, ◌++◌, length, map, take, drop, refl, sym, ap, ◌∙◌, subst, arith, append_assoc}
 use Rattle.std.specs.List.{AllByRecursion, list_any}
 use Rattle.std.proofs.lemmas.List.{length-drop, map-append}
 use Rattle.m2_fabric.specs.declared.socket.SocketId.{SocketId}
-use Rattle.m2_history.proofs.Tidiness.{all_in, all_so}
+use Rattle.m2_history.proofs.Tidiness.{all_in}
 use Rattle.m2_history.specs.HalfStrands.{strand_of}
 use Rattle.m2_history.specs.Link.{IsOnSocket}
 use Rattle.m2_journal.specs.declared.entry.Entry.{Entry}
@@ -11,9 +11,10 @@ use Rattle.m2_journal.specs.declared.entry.Entry.TheVariants as entry
 use Rattle.m2_trail.specs.Trails.{TrailNow, RisesWithin}
 use Rattle.m2_links_go_on.specs.Sides.{HalfGoesOn, IsHalf}
 use Rattle.m2_weave.specs.Later.{GoesOn}
-use Rattle.m2_weave.specs.declared.strand.StrandItem.{StrandItem}
 use Rattle.m2_weave.specs.declared.strand.StrandItem.TheVariants.{Noted, Handed}
 use Rattle.m2_weave.specs.Strands.{half_items, has_opened, opens}
+use Rattle.m2_trail.proofs.Judged.{least_first}
+use Rattle.m2_lemmas.proofs.Lists.{all_so}
 
 -- ---- lists that go on
 
@@ -38,10 +39,6 @@ behind-on first x old new on = (on.0, ap (λ l. first ++ x ∷ l) on.1 ∙ sym (
 
 -- ---- its items
 
-pub rises_most : (least : ℕ) (ns : List ℕ) (most : ℕ) → RisesWithin least ns most → least ≤ most
-rises_most least [] most h = h
-rises_most least (n ∷ ns) most h = omega (arith, h.0, rises_most n ns most h.1)
-
 max-of : (n place : ℕ) → place ≤ n → max n place ≡ n
 max-of n place h = omega (arith, h)
 
@@ -59,7 +56,7 @@ pub items_on : (k : SocketId) (ns : List ℕ) (place : ℕ) (es more : List Entr
     AllByRecursion (λ (n : ℕ). place + length es ≤ n) ms → GoesOn (half_items k place es ns) (half_items k place (es ++ more) (ns ++ ms))
 items_on k [] place es more ms rises h = no-more-asks k place es more ms h
 items_on k (n ∷ ns) place es more ms rises h =
-    let most : n ≤ place + length es = rises_most n ns (place + length es) rises.1 in
+    let most : n ≤ place + length es = least_first n ns (place + length es) rises.1 in
     let short : n - place ≤ length es = omega (arith, most) in
     let same : n + length (drop (n - place) es) ≡ place + length es = omega (arith, length-drop (n - place) es, rises.0, most) in
     let rest = items_on k ns n (drop (n - place) es) more ms (subst (RisesWithin n ns) (sym same) rises.1)

@@ -31,8 +31,8 @@ use Rattle.m2_record.specs.Framing.{Frames, Greets}
 use Rattle.m2_record.specs.Reading.{Reads, answer_by, answer_heard, answer_read, fault_read, faulted_or}
 use Rattle.m2_record.specs.RecordNow.{RecordNow}
 use Rattle.m2_record.specs.Stepping.{HandsAs, PlansAs, StepsAs, StepsBy, TakesDue, Worked, answer_composed, answer_framed, answer_planned, answer_put}
-use Rattle.m2_growth.proofs.Due.{to_be_composed}
 use Rattle.m2_links_go_on.specs.Logged.{deliveries_of}
+use Rattle.m2_center.proofs.GoesOn.{to_be_composed}
 
 -- it has handed on as many
 abbrev pub HandsNone : RecordNow → RecordNow → Type 0

@@ -16,7 +16,6 @@ use Rattle.m2_record.specs.declared.judging.Judged.{Judged}
 use Rattle.m2_record.specs.declared.judging.Judged.TheVariants as judged
 use Rattle.m2_record.specs.Judging.{JudgesAs, TakenHalf, TakesOver, after_taking_over, half_of}
 use Rattle.m2_record.specs.RecordNow.{RecordNow}
-use Rattle.m2_record.proofs.Names.{differ}
 use Rattle.m2_center.specs.declared.answering.HalfAnswered.{HalfAnswered}
 use Rattle.m2_center.specs.declared.answering.HalfAnswered.TheVariants as half
 use Rattle.m2_center.specs.declared.half_turn.HalfTurned.{HalfTurned}
@@ -33,6 +32,7 @@ use Rattle.m2_trail.specs.Arrivals.{IsArrival}
 use Rattle.m2_trail.specs.Asks.{facts_of_ask}
 use Rattle.m2_trail.specs.Incoming.{IncomingNow}
 use Rattle.m2_links_go_on.proofs.Handed.{HandsNone}
+use Rattle.m2_lemmas.proofs.Booleans.{false_isnt_true}
 
 -- ---- what asks leave alone
 
@@ -84,7 +84,7 @@ taken_over v h now old new (is, some) = at new.core.live.feed is some
     at : (o : Option FeedNow) → IfSome o (λ d. IsTakenFeed v h.end h.unread old.core d × (new ≡ record (after_taking_over v h d now old) { room = new.room })) →
         IsSome o → StaysSteady old new
     at (Some d) (_, e) some = ap steady_of e
-    at None e some = absurd (differ some)
+    at None e some = absurd (false_isnt_true some)
 
 judged_by : {E : Type 0} (j : Judged E) (v : Verdict) (a : IncomingNow) (now : ℕ) (old new : RecordNow) → JudgesAs j v a now old new → StaysSteady old new
 judged_by (judged.Taken answer) v a now old new (_, _, over) = taken_over v (half_of answer a) now old new over

@@ -1,12 +1,9 @@
 -- The halves of kept sides, and whole ones beside them, are on their sockets, and their asks were judged behind entries that are
 -- there.
-use Rattle.std.proofs.Common.{◌≡◌, ℕ, zero, suc, ◌≤◌, Bool, true, false, if◌then◌else◌, List, [], ◌∷◌, ◌++◌, length, map, take, refl, sym, subst, arith}
+use Rattle.std.proofs.Common.{◌≡◌, ℕ, zero, suc, ◌≤◌, Bool, true, false, if◌then◌else◌, List, [], ◌∷◌, ◌++◌, length, map, take, sym, subst}
 use Rattle.std.specs.List.{AllByRecursion}
-use Rattle.m2_fabric.specs.declared.log.Run.{Run}
-use Rattle.m2_fabric.specs.declared.log.Run.TheVariants as run
 use Rattle.m2_fabric.specs.declared.socket.SocketId.{SocketId}
 use Rattle.m2_fabric.specs.End.{SeenEnd}
-use Rattle.m2_history.proofs.Tidiness.{all_append}
 use Rattle.m2_history.specs.Link.{IsKeptHalf, IsOnSocket, IsWholeHalf}
 use Rattle.m2_history.specs.Woven.{as_judged, is_of_link}
 use Rattle.m2_journal.specs.declared.entry.Entry.{Entry}
@@ -16,7 +13,10 @@ use Rattle.m2_trail.specs.Trails as trail
 use Rattle.m2_trail.specs.Trails.{TrailNow, RisesWithin}
 use Rattle.m2_links_go_on.specs.TurnLaws.{KeptAreHalves}
 use Rattle.m2_links_go_on.specs.Sides.{IsHalf, loose_halves}
-use Rattle.m2_links_go_on.proofs.Halves.{rises_most}
+use Rattle.m2_history.proofs.Kept.{of-runs}
+use Rattle.m2_history.proofs.Linked.{of-close}
+use Rattle.m2_lemmas.proofs.Lists.{all_append}
+use Rattle.m2_trail.proofs.Judged.{least_first}
 
 -- ---- halves that were taken
 
@@ -28,20 +28,8 @@ taken-are kind ids ends journal (t ∷ ts) kept trails =
 
 -- ---- loose halves
 
-of-run : (k : SocketId) (r : Run) → IsOnSocket k (trail.entry_of k r)
-of-run k (run.Read count) = refl
-of-run k (run.Wrote count) = refl
-
-of-runs : (k : SocketId) (rs : List Run) → AllByRecursion (IsOnSocket k) (map (trail.entry_of k) rs)
-of-runs k [] = tt
-of-runs k (r ∷ rs) = (of-run k r, of-runs k rs)
-
-of-close : (k : SocketId) (closed : Bool) → AllByRecursion (IsOnSocket k) (trail.closing k closed)
-of-close k true = (refl, tt)
-of-close k false = tt
-
 rises-first : (n least : ℕ) (ns : List ℕ) (most : ℕ) → RisesWithin least ns most → RisesWithin least (take n ns) most
-rises-first zero least ns most h = rises_most least ns most h
+rises-first zero least ns most h = least_first least ns most h
 rises-first (suc n) least [] most h = h
 rises-first (suc n) least (m ∷ ns) most h = (h.0, rises-first n m ns most h.1)
 

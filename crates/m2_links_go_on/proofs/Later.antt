@@ -7,70 +7,42 @@ use Rattle.m2_fabric.specs.End.{SeenEnd}
 use Rattle.m2_fabric.specs.Port.{SeenPort}
 use Rattle.m2_fabric.specs.Sockets.{is_among, same_socket}
 use Rattle.m2_record.specs.IsRecord.{IsRecord, became_feed, feeds_in}
-use Rattle.m2_record.specs.RecordNow.{RecordNow, ends_of, feed_end, ids_of}
+use Rattle.m2_record.specs.RecordNow.{RecordNow, ends_of, feed_end}
 use Rattle.m2_record.specs.Sources.{end_at, trail_at}
 use Rattle.m2_record.specs.TakenTrails.{taken_by, taken_in}
-use Rattle.m2_record.proofs.Names.{differ, same_equal}
 use Rattle.m2_center.specs.Halves.{AllHalves}
 use Rattle.m2_center.proofs.Opened.{filtered}
 use Rattle.m2_trail.specs.Trails.{TrailNow}
 use Rattle.m2_growth.specs.Ends.{AreOfTheirOwn, EndGrows, EndGrowsTo, EndsGrow}
 use Rattle.m2_growth.specs.Holding.{AreOwn, all_ends, waiting_at}
 use Rattle.m2_growth.specs.Records.{RecordGrows, ends_of_all}
-use Rattle.m2_growth.proofs.Among.{among_front}
-use Rattle.m2_growth.proofs.Ends.{end_append, first_of, later_swapped, own_apart, own_first, own_last}
+use Rattle.m2_growth.proofs.Ends.{end_append, first_of, later_swapped, own_apart, own_first, own_last, none_some}
 use Rattle.m2_growth.proofs.OneRecord.{all_around, ends_behind, held_around, holding}
 use Rattle.m2_growth.proofs.Owned.{own_all}
-use Rattle.m2_links_go_on.proofs.Speaking.{GoesFurther, IsEndOf, IsStillAt, feed_has_end, swapped_among, taken_feed}
+use Rattle.m2_links_go_on.proofs.Speaking.{GoesFurther, IsEndOf, IsStillAt, feed_has_end, taken_feed}
+use Rattle.m2_lemmas.proofs.Lists.{all_back, same_behind}
+use Rattle.m2_record.proofs.TrailsAt.{no_trail}
+use Rattle.m2_lemmas.proofs.Booleans.{not_true_is_false, false_isnt_true}
+use Rattle.m2_history.proofs.Kept.{end-among, turned}
+use Rattle.m2_fabric.proofs.Sockets.{same_equal, among_front}
 
 -- ---- sockets
-
-some_none : (e : SeenEnd) → Some e ≡ None → ⊥
-some_none e h = subst (λ (o : Option SeenEnd). elim o as (λ _. Type 0) [ None ↦ ⊥ | Some x ↦ Unit {0} ]) h tt
-
-among_end : (ends : List SeenEnd) (k : SocketId) (e : SeenEnd) → end_at ends k ≡ Some e → is_among k (ids_of ends) ≡ true
-among_end [] k e h = absurd (some_none e (sym h))
-among_end (x ∷ xs) k e h = at (same_socket k x.id) h (among_end xs k e)
-  where
-    at : (b : Bool) → (if b then Some x else end_at xs k) ≡ Some e → (end_at xs k ≡ Some e → is_among k (ids_of xs) ≡ true) → b || is_among k (ids_of xs) ≡ true
-    at true g rest = refl
-    at false g rest = rest g
 
 not_among : (x : SocketId) (ys : List SocketId) → AllByRecursion (λ y. same_socket x y ≡ false) ys → is_among x ys ≡ false
 not_among x [] all = refl
 not_among x (y ∷ ys) all = ap (λ b. b || is_among x ys) all.0 ∙ not_among x ys all.1
 
-all_behind : {X : Type 0} (P : X → Type 0) (xs ys : List X) → AllByRecursion P (xs ++ ys) → AllByRecursion P ys
-all_behind P [] ys all = all
-all_behind P (x ∷ xs) ys all = all_behind P xs ys all.1
-
--- of sockets that differ, one in front isn't behind
+-- of sockets that false_isnt_true, one in front isn't behind
 not_behind : (k : SocketId) (xs ys : List SocketId) → IsDistinct same_socket (xs ++ ys) → is_among k xs ≡ true → is_among k ys ≡ false
 unfolding IsDistinct
-not_behind k [] ys d h = absurd (differ h)
+not_behind k [] ys d h = absurd (false_isnt_true h)
 not_behind k (x ∷ xs) ys d h = at (same_socket k x) refl h (not_behind k xs ys d.1)
   where
     at : (b : Bool) → same_socket k x ≡ b → b || is_among k xs ≡ true → (is_among k xs ≡ true → is_among k ys ≡ false) → is_among k ys ≡ false
-    at true same g rest = subst (λ j. is_among j ys ≡ false) (sym (same_equal k x same)) (not_among x ys (all_behind (λ y. same_socket x y ≡ false) xs ys d.0))
+    at true same g rest = subst (λ j. is_among j ys ≡ false) (sym (same_equal k x same)) (not_among x ys (all_back (λ y. same_socket x y ≡ false) xs ys d.0))
     at false other g rest = rest g
 
-not_so : (b : Bool) → (b ≡ true → ⊥) → b ≡ false
-not_so true h = absurd (h refl)
-not_so false h = refl
-
 -- ---- trails
-
-rest_same : {X : Type 0} (xs ys zs : List X) → xs ++ ys ≡ xs ++ zs → ys ≡ zs
-rest_same [] ys zs e = e
-rest_same (x ∷ xs) ys zs e = rest_same xs ys zs cc
-
-no_trail : (ts : List TrailNow) (k : SocketId) → is_among k (map (λ (t : TrailNow). t.socket) ts) ≡ false → trail_at ts k ≡ None
-no_trail [] k h = refl
-no_trail (t ∷ ts) k h = at (same_socket k t.socket) h (no_trail ts k)
-  where
-    at : (b : Bool) → b || is_among k (map (λ (t : TrailNow). t.socket) ts) ≡ false → (is_among k (map (λ (t : TrailNow). t.socket) ts) ≡ false → trail_at ts k ≡ None) → (if b then Some t else trail_at ts k) ≡ None
-    at true g rest = absurd (differ (sym g))
-    at false g rest = rest g
 
 trail_front : (ts more : List TrailNow) (k : SocketId) → trail_at more k ≡ None → trail_at (ts ++ more) k ≡ trail_at ts k
 trail_front [] more k h = h
@@ -94,11 +66,11 @@ has_its r xs zs own k e h = end_append xs (ends_of r ++ zs) k ∙ ap (first_of (
 
     before : (end_at xs k ≡ None) ⊎ (end_at (ends_of r ++ zs) k ≡ None) → first_of (end_at xs k) (Some e) ≡ Some e
     before (inl none) = ap (λ o. first_of o (Some e)) none
-    before (inr none) = absurd (some_none e (sym here ∙ none))
+    before (inr none) = absurd (none_some e (sym here ∙ none))
 
 module _ (r s : RecordNow) (is : IsRecord r) (later : IsRecord s) (grows : RecordGrows r s) (own : AreOfTheirOwn (ends_of s)) where
   was_feed : (k : SocketId) (e : SeenEnd) → end_at (ends_of r) k ≡ Some e → is_among k (feeds_in r.journal) ≡ true
-  was_feed k e h = subst (λ l. is_among k l ≡ true) is.kept.ends (swapped_among k (feed_end r.core.live.feed) r.spent (among_end (ends_of r) k e h))
+  was_feed k e h = subst (λ l. is_among k l ≡ true) is.kept.ends (turned k (feed_end r.core.live.feed) r.spent (end-among (ends_of r) k e h))
 
   feeds_apart : IsDistinct same_socket (feeds_in r.journal ++ feeds_in grows.journal.0)
   feeds_apart = subst (IsDistinct same_socket) (later.kept.ends ∙ ap feeds_in grows.journal.1 ∙ filtered became_feed r.journal grows.journal.0)
@@ -106,11 +78,11 @@ module _ (r s : RecordNow) (is : IsRecord r) (later : IsRecord s) (grows : Recor
 
   -- no further half was taken on it
   taken_no_more : (k : SocketId) (e : SeenEnd) → end_at (ends_of r) k ≡ Some e → is_among k (taken_in grows.journal.0) ≡ false
-  taken_no_more k e h = not_so (is_among k (taken_in grows.journal.0))
-      (λ taken. differ (sym (not_behind k (feeds_in r.journal) (feeds_in grows.journal.0) feeds_apart (was_feed k e h)) ∙ taken_feed k grows.journal.0 taken))
+  taken_no_more k e h = not_true_is_false (is_among k (taken_in grows.journal.0))
+      (λ taken. false_isnt_true (sym (not_behind k (feeds_in r.journal) (feeds_in grows.journal.0) feeds_apart (was_feed k e h)) ∙ taken_feed k grows.journal.0 taken))
 
   more_trails : map (λ (t : TrailNow). t.socket) grows.trails.0 ≡ taken_in grows.journal.0
-  more_trails = rest_same (taken_in r.journal) _ _
+  more_trails = same_behind (taken_in r.journal) _ _
       (ap (λ l. l ++ map (λ (t : TrailNow). t.socket) grows.trails.0) (sym is.trails.sockets) ∙ sym (map-append (λ (t : TrailNow). t.socket) r.trails grows.trails.0)
       ∙ ap (map (λ (t : TrailNow). t.socket)) (sym grows.trails.1) ∙ later.trails.sockets ∙ ap taken_in grows.journal.1 ∙ filtered taken_by r.journal grows.journal.0)
 

@@ -22,7 +22,6 @@ pub mod LinkLists
 pub mod LinkRecords
 pub mod LinkTurns
 pub mod Linked
-pub mod Lists
 pub mod LogTurns
 pub mod Mailed
 pub mod Moving

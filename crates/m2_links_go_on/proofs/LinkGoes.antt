@@ -5,11 +5,9 @@ use Rattle.m2_fabric.specs.declared.socket.SocketId.{SocketId}
 use Rattle.m2_fabric.specs.End.{SeenEnd}
 use Rattle.m2_growth.specs.Halves.{IsOneOf}
 use Rattle.m2_growth.proofs.Among.{each_by, mapped_one, of_each, one_back, one_front}
-use Rattle.m2_history.proofs.Tidiness.{all_append, all_map}
 use Rattle.m2_history.specs.Parts.{PartsNow}
 use Rattle.m2_history.specs.Woven.{BothNow, EndNow, as_judged, end_of, ends_of, half_end, is_of_link, judged_times, loose_ends}
 use Rattle.m2_journal.specs.declared.entry.Entry.{Entry}
-use Rattle.m2_record.proofs.Names.{differ}
 use Rattle.m2_trail.specs.Arrivals.{LooseNow}
 use Rattle.m2_trail.specs.Trails.{TrailNow}
 use Rattle.m2_links_go_on.specs.Records.{RecordsGoOn}
@@ -20,24 +18,18 @@ use Rattle.m2_links_go_on.proofs.Ends.{bytes_go_on}
 use Rattle.m2_links_go_on.proofs.Going.{HasLater, IsKnown, LaterEnd, StandsOn, cut, end_goes, half_end_goes, half_goes, none_times, times, times_of}
 use Rattle.m2_links_go_on.proofs.Standing as one
 use Rattle.m2_links_go_on.proofs.Standing.{AreOpposed, StandsAt, ends_both, loose_both, opposed_too}
+use Rattle.m2_lemmas.proofs.Booleans.{one_of_or, either_turned, false_isnt_true}
+use Rattle.m2_lemmas.proofs.Lists.{all_append, all_map}
 
 -- ---- the halves of the link
 
-split : (a b : Bool) → (a || b) ≡ true → (a ≡ true) ⊎ (b ≡ true)
-split true b h = inl refl
-split false b h = inr h
-
 join : (a b : Bool) → (a ≡ true) ⊎ (b ≡ true) → (a || b) ≡ true
 join true b h = refl
-join false b (inl h) = absurd (differ h)
+join false b (inl h) = absurd (false_isnt_true h)
 join false b (inr h) = h
 
-turn : {A B : Type 0} → A ⊎ B → B ⊎ A
-turn (inl a) = inr a
-turn (inr b) = inl b
-
 known : (a b : List Entry) (l : LooseNow) → is_of_link a b l ≡ true → IsKnown a b l
-known a b l h = split _ _ h
+known a b l h = one_of_or _ _ h
 
 pub of_link : (a b : List Entry) (l : LooseNow) → IsKnown a b l → is_of_link a b l ≡ true
 of_link a b l h = join _ _ h
@@ -66,7 +58,7 @@ one_loose a b l (x ∷ ls) (inl e) h = at (is_of_link a b x) (ap (is_of_link a b
   where
     at : (c : Bool) → c ≡ true → IsOneOf (as_judged a b l.trail) ((if c then as_judged a b x.trail ∷ [] else []) ++ loose_halves a b ls)
     at true is = inl (ap (λ (y : LooseNow). as_judged a b y.trail) e)
-    at false is = absurd (differ is)
+    at false is = absurd (false_isnt_true is)
 one_loose a b l (x ∷ ls) (inr i) h = at (is_of_link a b x) (one_loose a b l ls i h)
   where
     at : (c : Bool) → IsOneOf (as_judged a b l.trail) (loose_halves a b ls) → IsOneOf (as_judged a b l.trail) ((if c then as_judged a b x.trail ∷ [] else []) ++ loose_halves a b ls)
@@ -79,7 +71,7 @@ one_end a b l (x ∷ ls) (inl e) h = at (is_of_link a b x) (ap (is_of_link a b) 
   where
     at : (c : Bool) → c ≡ true → IsOneOf (half_end l) ((if c then half_end x ∷ [] else []) ++ loose_ends a b ls)
     at true is = inl (ap half_end e)
-    at false is = absurd (differ is)
+    at false is = absurd (false_isnt_true is)
 one_end a b l (x ∷ ls) (inr i) h = at (is_of_link a b x) (one_end a b l ls i h)
   where
     at : (c : Bool) → IsOneOf (half_end l) (loose_ends a b ls) → IsOneOf (half_end l) ((if c then half_end x ∷ [] else []) ++ loose_ends a b ls)
@@ -134,7 +126,7 @@ module _ (here away : SocketId → Bool) (opposed : AreOpposed here away) (p p' 
   near_left l i k = one_back (as_judged p'.journal q'.journal l.trail) taken_now left_now (one_loose p'.journal q'.journal l (ls' ++ ms') (one_front l ls' ms' i) (of_link p'.journal q'.journal l k))
 
   far_left : (l : LooseNow) → IsOneOf l ms' → IsKnown q'.journal p'.journal l → IsOneOf (cut (after l.trail.socket) l.trail) now
-  far_left l i k = one_back (as_judged p'.journal q'.journal l.trail) taken_now left_now (one_loose p'.journal q'.journal l (ls' ++ ms') (one_back l ls' ms' i) (of_link p'.journal q'.journal l (turn k)))
+  far_left l i k = one_back (as_judged p'.journal q'.journal l.trail) taken_now left_now (one_loose p'.journal q'.journal l (ls' ++ ms') (one_back l ls' ms' i) (of_link p'.journal q'.journal l (either_turned k)))
 
   -- among halves of which no two are on one socket
   gone : (t : TrailNow) → HasLater now t → HasGoneOn now t
@@ -155,7 +147,7 @@ module _ (here away : SocketId → Bool) (opposed : AreOpposed here away) (p p' 
       (λ t j. one_front t taken_now left_now (one_front t p'.trails q'.trails j)) near_left l i k)))
       (each_loose (HasGoneOn now) p.journal q.journal ms (λ l i k. gone (as_judged p.journal q.journal l.trail)
       (half_goes away here back q q' ms ms' far far' p.journal p'.journal to on.journal before after far_before far_after now
-      (λ t j. one_front t taken_now left_now (one_back t p'.trails q'.trails j)) far_left l i (turn k)))))
+      (λ t j. one_front t taken_now left_now (one_back t p'.trails q'.trails j)) far_left l i (either_turned k)))))
 
   -- ---- ends
 
@@ -181,7 +173,7 @@ module _ (here away : SocketId → Bool) (opposed : AreOpposed here away) (p p' 
   near_half l i k = one_back (half_end l) (near_ends ++ far_ends) half_ends (one_end p'.journal q'.journal l (ls' ++ ms') (one_front l ls' ms' i) (of_link p'.journal q'.journal l k))
 
   far_half : (l : LooseNow) → IsOneOf l ms' → IsKnown q'.journal p'.journal l → IsOneOf (half_end l) ends_now
-  far_half l i k = one_back (half_end l) (near_ends ++ far_ends) half_ends (one_end p'.journal q'.journal l (ls' ++ ms') (one_back l ls' ms' i) (of_link p'.journal q'.journal l (turn k)))
+  far_half l i k = one_back (half_end l) (near_ends ++ far_ends) half_ends (one_end p'.journal q'.journal l (ls' ++ ms') (one_back l ls' ms' i) (of_link p'.journal q'.journal l (either_turned k)))
 
   ends_on : AllByRecursion (LaterEnd ends_now) (ends_of old)
   ends_on =
@@ -194,7 +186,7 @@ module _ (here away : SocketId → Bool) (opposed : AreOpposed here away) (p p' 
       (subst (AllByRecursion (LaterEnd ends_now)) (sym (ends_both p.journal q.journal ls ms))
       (all_append (LaterEnd ends_now) (loose_ends p.journal q.journal ls) (loose_ends p.journal q.journal ms)
       (each_end (LaterEnd ends_now) p.journal q.journal ls (half_end_goes here away opposed p p' ls ls' near near' q.journal q'.journal on to.journal ends_now near_end near_half))
-      (each_end (LaterEnd ends_now) p.journal q.journal ms (λ l i k. half_end_goes away here back q q' ms ms' far far' p.journal p'.journal to on.journal ends_now far_end far_half l i (turn k)))))
+      (each_end (LaterEnd ends_now) p.journal q.journal ms (λ l i k. half_end_goes away here back q q' ms ms' far far' p.journal p'.journal to on.journal ends_now far_end far_half l i (either_turned k)))))
 
   -- ---- all of it
 

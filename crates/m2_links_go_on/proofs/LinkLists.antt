@@ -1,8 +1,8 @@
 -- Lists of which no two are the same, put together of parts; and lists that go on.
 use Rattle.std.proofs.Common.{◌≡◌, ℕ, zero, suc, ◌≤◌, ◌⊎◌, inl, inr, Bool, false, List, [], ◌∷◌, ◌++◌, length, take, refl, ap, arith}
 use Rattle.std.specs.List.{AllByRecursion, IsDistinct}
-use Rattle.m2_history.proofs.Tidiness.{all_append, all_so}
 use Rattle.m2_history.proofs.Halfway.{apart_from, distinct_join}
+use Rattle.m2_lemmas.proofs.Lists.{all_take, all_append, all_so}
 
 -- ---- no two the same
 
@@ -32,11 +32,6 @@ take_all_of [] (suc n) h = refl
 take_all_of (x ∷ xs) zero h = absurd (omega (arith, h))
 take_all_of (x ∷ xs) (suc n) h = ap (λ l. x ∷ l) (take_all_of xs n (omega (arith, h)))
 
-all_first : {X : Type 0} (P : X → Type 0) (n : ℕ) (xs : List X) → AllByRecursion P xs → AllByRecursion P (take n xs)
-all_first P zero xs all = tt
-all_first P (suc n) [] all = tt
-all_first P (suc n) (x ∷ xs) all = (all.0, all_first P n xs all.1)
-
 -- where it was counted to its end, or is not counted at all, it goes on by some of what came
 pub record TakesMore {X : Type 0} (P : X → Type 0) (first now : List X) : Type 0 where
   pub more : List X
@@ -46,8 +41,8 @@ pub record TakesMore {X : Type 0} (P : X → Type 0) (first now : List X) : Type
 pub take_more : {X : Type 0} (P : X → Type 0) (xs more : List X) (n m : ℕ) → n ≤ m → (m ≡ 0) ⊎ (length xs ≤ n) → AllByRecursion P more → TakesMore P (take n xs) (take m (xs ++ more))
 take_more P xs more zero zero h c all = record { more = []; is = refl; each = tt }
 take_more P xs more (suc n) zero h c all = absurd (omega (arith, h))
-take_more P [] more zero (suc m) h c all = record { more = take (suc m) more; is = refl; each = all_first P (suc m) more all }
-take_more P [] more (suc n) (suc m) h c all = record { more = take (suc m) more; is = refl; each = all_first P (suc m) more all }
+take_more P [] more zero (suc m) h c all = record { more = take (suc m) more; is = refl; each = all_take P (suc m) more all }
+take_more P [] more (suc n) (suc m) h c all = record { more = take (suc m) more; is = refl; each = all_take P (suc m) more all }
 take_more P (x ∷ xs) more zero (suc m) h (inl e) all = absurd (omega (arith, e))
 take_more P (x ∷ xs) more zero (suc m) h (inr e) all = absurd (omega (arith, e))
 take_more P (x ∷ xs) more (suc n) (suc m) h (inl e) all = absurd (omega (arith, e))

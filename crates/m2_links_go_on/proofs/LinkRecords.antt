@@ -11,13 +11,12 @@ use Rattle.m2_growth.specs.Ends.{AreOfTheirOwn}
 use Rattle.m2_growth.specs.Halves.{IsOneOf, JudgeApart, OneJudge, asked_on}
 use Rattle.m2_growth.specs.Records.{RecordGrows, RecordsGrow, ends_of_all}
 use Rattle.m2_growth.proofs.Among.{of_each}
-use Rattle.m2_growth.proofs.Ends.{end_append, end_first, first_of, own_apart, own_first, own_last, own_tail}
+use Rattle.m2_growth.proofs.Ends.{end_append, first_of, own_apart, own_first, own_last}
 use Rattle.m2_history.specs.Woven.{knows}
 use Rattle.m2_journal.specs.declared.entry.Entry.{Entry}
 use Rattle.m2_journal.specs.declared.entry.Entry.TheVariants as entry
 use Rattle.m2_journal.specs.Lawful.{judged_on}
 use Rattle.m2_journal.specs.State.{Judgement}
-use Rattle.m2_record.proofs.Names.{differ, same_equal}
 use Rattle.m2_record.specs.IsRecord.{IsRecord, became_feed, feeds_in}
 use Rattle.m2_record.specs.RecordNow.{RecordNow, ends_of, feed_end, ids_of}
 use Rattle.m2_record.specs.Sources.{end_at}
@@ -26,12 +25,13 @@ use Rattle.m2_session.specs.SessionLaws.{takes}
 use Rattle.m2_weave.specs.Later.{GoesOn}
 use Rattle.m2_weave.specs.Strands.{has_opened, journal_of}
 use Rattle.m2_links_go_on.proofs.Standing.{judged_sockets}
+use Rattle.m2_lemmas.proofs.Booleans.{or_left, false_isnt_true}
 
 -- ---- its ends are those of the sockets that became the feed
 
 -- a socket that became the feed was opened or taken
 pub feed_kind : (k : SocketId) (es : List Entry) → is_among k (feeds_in es) ≡ true → (has_opened (journal_of es) k ≡ true) ⊎ (is_among k (taken_in es) ≡ true)
-feed_kind k [] h = absurd (differ h)
+feed_kind k [] h = absurd (false_isnt_true h)
 feed_kind k (entry.Opened x ∷ es) h = at (same_socket k x) h (feed_kind k es)
   where
     at : (b : Bool) → b || is_among k (feeds_in es) ≡ true → (is_among k (feeds_in es) ≡ true → (has_opened (journal_of es) k ≡ true) ⊎ (is_among k (taken_in es) ≡ true)) →
@@ -67,21 +67,17 @@ ends_feeds r is k = turned (feed_end r.core.live.feed) r.spent ∙ ap (is_among 
         ∙ or-turned (is_among k (ids_of xs)) (is_among k (ids_of ys))
         ∙ sym (ap (is_among k) (map-append (λ (e : SeenEnd). e.id) ys xs) ∙ list_any-append (same_socket k) (ids_of ys) (ids_of xs))
 
-or-first : (a b : Bool) → a ≡ true → (a || b) ≡ true
-or-first true b e = refl
-or-first false b e = absurd (differ e)
-
 -- so a record that goes on has an end of each socket of which it had one
 pub ends_stay : (r s : RecordNow) → IsRecord r → IsRecord s → GoesOn r.journal s.journal → (k : SocketId) → is_among k (ids_of (ends_of r)) ≡ true → is_among k (ids_of (ends_of s)) ≡ true
 ends_stay r s is are on k h =
     ends_feeds s are k ∙ ap (λ l. is_among k (feeds_in l)) on.1 ∙ ap (is_among k) (filter_map-append became_feed r.journal on.0)
-    ∙ list_any-append (same_socket k) (feeds_in r.journal) (feeds_in on.0) ∙ or-first (is_among k (feeds_in r.journal)) (is_among k (feeds_in on.0)) (sym (ends_feeds r is k) ∙ h)
+    ∙ list_any-append (same_socket k) (feeds_in r.journal) (feeds_in on.0) ∙ or_left (is_among k (feeds_in r.journal)) (is_among k (feeds_in on.0)) (sym (ends_feeds r is k) ∙ h)
 
 -- ---- what a journal knows
 
 -- it has opened the socket, or judged an ask on it
 pub knows_kind : (k : SocketId) (es : List Entry) → knows es k ≡ true → (has_opened (journal_of es) k ≡ true) ⊎ (is_among k (judged_sockets es) ≡ true)
-knows_kind k [] h = absurd (differ h)
+knows_kind k [] h = absurd (false_isnt_true h)
 knows_kind k (entry.Opened x ∷ es) h = at (same_socket k x) h (knows_kind k es)
   where
     at : (b : Bool) → b || knows es k ≡ true → (knows es k ≡ true → (has_opened (journal_of es) k ≡ true) ⊎ (is_among k (judged_sockets es) ≡ true)) →
@@ -101,11 +97,11 @@ asked_on_still es fs k on h =
     ap (λ l. is_among k (judged_sockets l)) on.1
     ∙ ap (λ js. is_among k (map (λ (j : Judgement). j.socket) js)) (filter_map-append judgement_of es on.0)
     ∙ ap (is_among k) (map-append (λ (j : Judgement). j.socket) (judgements_in es) (judgements_in on.0))
-    ∙ list_any-append (same_socket k) (judged_sockets es) (judged_sockets on.0) ∙ or-first (is_among k (judged_sockets es)) (is_among k (judged_sockets on.0)) h
+    ∙ list_any-append (same_socket k) (judged_sockets es) (judged_sockets on.0) ∙ or_left (is_among k (judged_sockets es)) (is_among k (judged_sockets on.0)) h
 
 -- of a socket on which an ask was judged there are judgements
 pub asked_some : (k : SocketId) (js : List Judgement) → is_among k (map (λ (j : Judgement). j.socket) js) ≡ true → judged_on k js ≡ [] → ⊥
-asked_some k [] h none = differ h
+asked_some k [] h none = false_isnt_true h
 asked_some k (j ∷ js) h none = at (same_socket k j.socket) refl h none (asked_some k js)
   where
     at : (b : Bool) → same_socket k j.socket ≡ b → is_among k (map (λ (j : Judgement). j.socket) (j ∷ js)) ≡ true → judged_on k (j ∷ js) ≡ [] →
@@ -121,7 +117,7 @@ pub record HasOne (es : List SeenEnd) (k : SocketId) : Type 0 where
   pub there : IsOneOf end es
 
 pub has_one : (es : List SeenEnd) (k : SocketId) → is_among k (ids_of es) ≡ true → HasOne es k
-has_one [] k h = absurd (differ h)
+has_one [] k h = absurd (false_isnt_true h)
 has_one (e ∷ es) k h = by (same_socket k e.id) refl h (has_one es k)
   where
     by : (b : Bool) → same_socket k e.id ≡ b → b || is_among k (ids_of es) ≡ true → (is_among k (ids_of es) ≡ true → HasOne es k) → HasOne (e ∷ es) k
@@ -132,15 +128,6 @@ has_one (e ∷ es) k h = by (same_socket k e.id) refl h (has_one es k)
 
 pub none_some : {X : Type 0} (e : SeenEnd) (o : Option SeenEnd) → o ≡ Some e → o ≡ None → X
 none_some e o p q = absurd cc
-
-pub at_own : (e : SeenEnd) (es : List SeenEnd) → AreOfTheirOwn es → IsOneOf e es → end_at es e.id ≡ Some e
-at_own e [] own i = absurd i
-at_own e (x ∷ es) own (inl q) = subst (λ y. end_at (x ∷ es) y.id ≡ Some y) (sym q) (end_first x es)
-at_own e (x ∷ es) own (inr i) = by (same_socket e.id x.id) refl (at_own e es (own_tail x es own).1 i)
-  where
-    by : (b : Bool) → same_socket e.id x.id ≡ b → end_at es e.id ≡ Some e → end_at (x ∷ es) e.id ≡ Some e
-    by true same rest = none_some e (end_at es e.id) rest (ap (end_at es) (same_equal e.id x.id same) ∙ (own_tail x es own).0)
-    by false other rest = ap (λ b. if b then Some x else end_at es e.id) other ∙ rest
 
 -- ---- one record among all
 
@@ -180,9 +167,9 @@ pub one_judge : (r s : RecordNow) (rs : List RecordNow) → IsOneOf r rs → IsO
 one_judge r s [] i j one k h g = absurd i
 one_judge r s (x ∷ rs) (inl p) (inl q) one k h g = p ∙ sym q
 one_judge r s (x ∷ rs) (inl p) (inr j) one k h g =
-    absurd (differ (sym (of_each (JudgeApart x) s rs one.0 j k (ap (λ (y : RecordNow). is_among k (asked_on y)) (sym p) ∙ h)) ∙ g))
+    absurd (false_isnt_true (sym (of_each (JudgeApart x) s rs one.0 j k (ap (λ (y : RecordNow). is_among k (asked_on y)) (sym p) ∙ h)) ∙ g))
 one_judge r s (x ∷ rs) (inr i) (inl q) one k h g =
-    absurd (differ (sym (of_each (JudgeApart x) r rs one.0 i k (ap (λ (y : RecordNow). is_among k (asked_on y)) (sym q) ∙ g)) ∙ h))
+    absurd (false_isnt_true (sym (of_each (JudgeApart x) r rs one.0 i k (ap (λ (y : RecordNow). is_among k (asked_on y)) (sym q) ∙ g)) ∙ h))
 one_judge r s (x ∷ rs) (inr i) (inr j) one k h g = one_judge r s rs i j one.1 k h g
 
 -- ---- a record at a place
@@ -219,8 +206,8 @@ judge_before a b r (x ∷ rs) (y ∷ ss) zero h g grow one k (inl e) p q = let x
 judge_before a b r (x ∷ rs) (y ∷ ss) zero h g grow one k (inr i) p q =
     let later = becomes r rs ss i grow.1 in
     let y_is : y ≡ b = cc in
-    absurd (differ (sym (of_each (JudgeApart y) later.later ss one.0 later.there k (ap (λ (z : RecordNow). is_among k (asked_on z)) y_is ∙ q))
+    absurd (false_isnt_true (sym (of_each (JudgeApart y) later.later ss one.0 later.there k (ap (λ (z : RecordNow). is_among k (asked_on z)) y_is ∙ q))
     ∙ asked_on_still r.journal later.later.journal k later.grows.journal p))
 judge_before a b r (x ∷ rs) (y ∷ ss) (suc n) h g grow one k (inl e) p q =
-    absurd (differ (sym (of_each (JudgeApart y) b ss one.0 (at_place b ss n g) k (asked_on_still x.journal y.journal k grow.0.journal (ap (λ (z : RecordNow). is_among k (asked_on z)) (sym e) ∙ p))) ∙ q))
+    absurd (false_isnt_true (sym (of_each (JudgeApart y) b ss one.0 (at_place b ss n g) k (asked_on_still x.journal y.journal k grow.0.journal (ap (λ (z : RecordNow). is_among k (asked_on z)) (sym e) ∙ p))) ∙ q))
 judge_before a b r (x ∷ rs) (y ∷ ss) (suc n) h g grow one k (inr i) p q = judge_before a b r rs ss n h g grow.1 one.1 k i p q

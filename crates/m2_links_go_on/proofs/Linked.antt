@@ -7,7 +7,6 @@ use Rattle.m2_growth.specs.Holding.{LeadsElsewhere}
 use Rattle.m2_growth.proofs.Among.{of_each}
 use Rattle.m2_history.specs.Link.{parts_of}
 use Rattle.m2_journal.specs.SideFacts.{SideFacts}
-use Rattle.m2_record.proofs.Names.{differ}
 use Rattle.m2_links_go_on.specs.LinkLaws.{LinksGoOn}
 use Rattle.m2_links_go_on.specs.Linked.{NodeGoesOn, NodeNow, Nodes, NodesGoOn, left_at}
 use Rattle.m2_links_go_on.proofs.Both.{are_kept, are_told}
@@ -16,6 +15,7 @@ use Rattle.m2_links_go_on.proofs.LinkGoes.{go_on}
 use Rattle.m2_links_go_on.proofs.Nodes.{stands}
 use Rattle.m2_links_go_on.proofs.Standing.{AreOpposed, StandsAt, opposed_too}
 use Rattle.m2_links_go_on.proofs.LinkTurns as turns
+use Rattle.m2_lemmas.proofs.Booleans.{false_isnt_true}
 
 -- a node before and behind, where sockets to it come here and its record dials away
 module _ (old new : NodeNow) (on : NodeGoesOn old new) (away : Addr) (peer : (k : SocketId) → goes_to old.side.core.facts.peer k ≡ goes_to away k) where
@@ -29,7 +29,7 @@ module _ (old new : NodeNow) (on : NodeGoesOn old new) (away : Addr) (peer : (k 
 
   -- no socket does both
   opposed : AreOpposed (goes_to old.holding.port.at) (goes_to away)
-  opposed k h a = differ (sym (of_each (LeadsElsewhere old.holding.port) old.side old.holding.records on.before.own.elsewhere (turns.was_there old new on) k (peer k ∙ a)) ∙ h)
+  opposed k h a = false_isnt_true (sym (of_each (LeadsElsewhere old.holding.port) old.side old.holding.records on.before.own.elsewhere (turns.was_there old new on) k (peer k ∙ a)) ∙ h)
 
 module _ (old new : Nodes) (on : NodesGoOn old new) where
   abbrev near_at : Addr

@@ -10,7 +10,6 @@ use Rattle.m2_record.specs.declared.stepped.Stepped.TheVariants as stepped
 use Rattle.m2_record.specs.IsRecord.{IsFrom, IsRecord}
 use Rattle.m2_record.specs.RecordNow.{RecordNow, ends_of}
 use Rattle.m2_record.specs.Sources.{end_at, trail_at}
-use Rattle.m2_record.proofs.Names.{differ}
 use Rattle.m2_center.specs.declared.record_turn.RecordTurn.{RecordTurn}
 use Rattle.m2_center.specs.declared.record_turn.RecordTurn.TheVariants as one
 use Rattle.m2_center.specs.Outbox.{is_free}
@@ -25,6 +24,7 @@ use Rattle.m2_links_go_on.specs.Logged.{fast_calls}
 use Rattle.m2_links_go_on.proofs.Handed.{StepHands, first_delivers, steps}
 use Rattle.m2_links_go_on.proofs.Puts.{StaysLogged, free_holds_none, puts, stays_chain, stays_handed, stays_still}
 use Rattle.m2_links_go_on.proofs.Speaking.{GoesFurther, IsStillAt, handed_next, handed_still}
+use Rattle.m2_lemmas.proofs.Booleans.{false_isnt_true}
 
 -- ---- where no half is taken
 
@@ -122,7 +122,7 @@ module _ {D : Type 0} (heard : D → List Heard) (calls : List Call) (m : Means)
   begins one.Stuck old new free t = by_some t.led.stood old new t.led.steps (λ e. stuck t.led.stood e t.led.steps)
     where
       stuck : (ts : List (Turning D)) → ts ≡ [] → Steps heard m ts old new → ⊥
-      stuck ts e s = differ (sym t.full ∙ ap (λ (x : Turning D). is_free x.out) (sym (subst (λ l. Steps heard m l old new) e s)) ∙ free)
+      stuck ts e s = false_isnt_true (sym t.full ∙ ap (λ (x : Turning D). is_free x.out) (sym (subst (λ l. Steps heard m l old new) e s)) ∙ free)
   begins one.Dry old new free t = by_first t.led.stood old t.mid t.led.steps t.takes.before
   begins (one.Full held) old new free t = by_first t.led.stood old t.mid t.led.steps t.takes.before
   begins (one.Again seen at) old new free t = by_first t.led.stood old t.mid t.led.steps t.takes.before

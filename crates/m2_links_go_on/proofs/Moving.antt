@@ -1,7 +1,6 @@
 -- How many bytes strands have written at an end, and halves have moved on their sockets.
-use Rattle.std.proofs.Common.{◌≡◌, ℕ, zero, suc, ◌+◌, ◌≤◌, Bool, true, false, ◌||◌, if◌then◌else◌, List, [], ◌∷◌, ◌++◌, length, map, take, refl, sym, ap, ◌∙◌, subst, arith, Option, Some, None}
+use Rattle.std.proofs.Common.{◌≡◌, ℕ, ◌+◌, ◌≤◌, Bool, true, false, ◌||◌, if◌then◌else◌, List, [], ◌∷◌, ◌++◌, length, map, refl, ap, ◌∙◌, arith, Some, None}
 use Rattle.std.specs.List.{AllByRecursion, cons_option}
-use Rattle.m2_fabric.specs.declared.log.Run.{Run}
 use Rattle.m2_fabric.specs.declared.log.Run.TheVariants as run
 use Rattle.m2_fabric.specs.declared.socket.SocketId.{SocketId}
 use Rattle.m2_fabric.specs.Sockets.{is_among, same_socket}
@@ -17,6 +16,7 @@ use Rattle.m2_links_go_on.proofs.Halves.{never_opens}
 use Rattle.m2_weave.specs.declared.strand.StrandItem.{StrandItem}
 use Rattle.m2_weave.specs.declared.strand.StrandItem.TheVariants.{Noted}
 use Rattle.m2_weave.specs.Strands.{EndOf, StrandNow, has_opened, read_by, same_side, total, written_at, written_by, written_in}
+use Rattle.m2_weave.proofs.Tidy.{all-taken}
 
 -- ---- runs, as the entries of a socket list them
 
@@ -68,10 +68,6 @@ none_on k (t ∷ ts) h = at (same_socket k t.socket) h (none_on k ts)
 abbrev pub wrote_all : EndOf → List StrandNow → ℕ
 wrote_all e [] = 0
 wrote_all e (s ∷ ss) = total (written_in e s) s.items + wrote_all e ss
-
-all-taken : (f : StrandItem → ℕ) (is : List StrandItem) → total f (take (length is) is) ≡ total f is
-all-taken f [] = refl
-all-taken f (i ∷ is) = omega (arith, all-taken f is)
 
 pub written_is : (e : EndOf) (ss : List StrandNow) → written_at ss (map (λ (s : StrandNow). length s.items) ss) e ≡ wrote_all e ss
 written_is e [] = refl

@@ -11,12 +11,10 @@ use Rattle.m2_growth.specs.Records.{ends_of_all}
 use Rattle.m2_growth.proofs.Among.{each_by, mapped_one, of_each}
 use Rattle.m2_growth.proofs.Ends.{all_none, end_append, first_of, own_apart, own_first, own_last}
 use Rattle.m2_history.proofs.Kept.{records_are_kept}
-use Rattle.m2_history.proofs.Tidiness.{all_map}
 use Rattle.m2_history.specs.Link.{parts_of}
 use Rattle.m2_journal.specs.Items.{at_start}
 use Rattle.m2_journal.specs.Lawful.{judged_on}
 use Rattle.m2_journal.specs.State.{start}
-use Rattle.m2_record.proofs.Names.{differ}
 use Rattle.m2_record.specs.IsRecord.{IsRecord}
 use Rattle.m2_record.specs.RecordNow.{RecordNow, ends_of, ids_of}
 use Rattle.m2_record.specs.Sources.{end_at}
@@ -32,8 +30,11 @@ use Rattle.m2_history.proofs.Journals.{opened_leads}
 use Rattle.m2_history.proofs.Whole.{records_are_sides}
 use Rattle.m2_links_go_on.specs.Linked.{IsNode}
 use Rattle.m2_links_go_on.proofs.Callers.{IsCalled, are_called, told_all}
-use Rattle.m2_links_go_on.proofs.LinkRecords.{at_own, ends_feeds, feed_kind, none_some, one_at, one_own}
+use Rattle.m2_links_go_on.proofs.LinkRecords.{ends_feeds, feed_kind, none_some, one_at, one_own}
 use Rattle.m2_links_go_on.proofs.Standing.{StandsAt, ids_left, judged_sockets}
+use Rattle.m2_lemmas.proofs.Lists.{all_map}
+use Rattle.m2_lemmas.proofs.Booleans.{false_isnt_true}
+use Rattle.m2_growth.proofs.Asked.{end_own}
 
 -- ---- the ends of halves
 
@@ -51,7 +52,7 @@ ids_in h = ids_of_left (all_left h) ∙ ap ids_of (ends_of_left h.pending h.loos
 end_in_halves : (h : AllHalves) (l : LooseNow) → IsOneOf l (all_left h) → IsOneOf l.end (ends_in h)
 end_in_halves h l i = subst (IsOneOf l.end) (ends_of_left h.pending h.loose) (mapped_one (λ (x : LooseNow). x.end) l (all_left h) i)
 
-end_among : (es : List SeenEnd) (k : SocketId) (e : SeenEnd) → end_at es k ≡ Some e → is_among k (ids_of es) ≡ true
+pub end_among : (es : List SeenEnd) (k : SocketId) (e : SeenEnd) → end_at es k ≡ Some e → is_among k (ids_of es) ≡ true
 end_among es k e at = by (is_among k (ids_of es)) refl
   where
     none : (es : List SeenEnd) → is_among k (ids_of es) ≡ false → end_at es k ≡ None
@@ -59,7 +60,7 @@ end_among es k e at = by (is_among k (ids_of es)) refl
     none (x ∷ es) h = by (same_socket k x.id) refl h (none es)
       where
         by : (b : Bool) → same_socket k x.id ≡ b → b || is_among k (ids_of es) ≡ false → (is_among k (ids_of es) ≡ false → end_at es k ≡ None) → end_at (x ∷ es) k ≡ None
-        by true same h rest = absurd (differ (sym h))
+        by true same h rest = absurd (false_isnt_true (sym h))
         by false other h rest = ap (λ b. if b then Some x else end_at es k) other ∙ rest h
 
     by : (b : Bool) → is_among k (ids_of es) ≡ b → is_among k (ids_of es) ≡ true
@@ -98,7 +99,7 @@ module _ (h : Holding) (node : IsNode h) where
       ∙ by (own_apart (ends_of_all h.records) (ends_in h.halves) node.own.held l.end.id))
     where
       there : end_at (ends_in h.halves) l.end.id ≡ Some l.end
-      there = at_own l.end (ends_in h.halves) halves_own (end_in_halves h.halves l i)
+      there = end_own l.end (ends_in h.halves) halves_own (end_in_halves h.halves l i)
 
       by : (end_at (ends_of_all h.records) l.end.id ≡ None) ⊎ (end_at (ends_in h.halves) l.end.id ≡ None) → first_of (end_at (ends_of_all h.records) l.end.id) (end_at (ends_in h.halves) l.end.id) ≡ Some l.end
       by (inl none) = ap (λ o. first_of o (end_at (ends_in h.halves) l.end.id)) none ∙ there
@@ -114,7 +115,7 @@ module _ (h : Holding) (node : IsNode h) where
     ends_own = one_own r h.records i records_own
 
     pub own_at : (e : SeenEnd) → IsOneOf e (ends_of r) → end_at (ends_of r) e.id ≡ Some e
-    own_at e j = at_own e (ends_of r) ends_own j
+    own_at e j = end_own e (ends_of r) ends_own j
 
     -- so all records together have an end of its sockets
     pub among_all : (k : SocketId) (e : SeenEnd) → end_at (ends_of r) k ≡ Some e → is_among k (ids_of (ends_of_all h.records)) ≡ true
@@ -124,7 +125,7 @@ module _ (h : Holding) (node : IsNode h) where
     apart_ends =
         all_map (λ k. AllByRecursion (λ y. same_socket k y ≡ false) (ids_left (all_left h.halves))) (λ (e : SeenEnd). e.id) (ends_of r)
         (each_by (λ (e : SeenEnd). AllByRecursion (λ y. same_socket e.id y ≡ false) (ids_left (all_left h.halves))) (ends_of r)
-        (λ e j. subst (AllByRecursion (λ y. same_socket e.id y ≡ false)) (sym (ids_in h.halves)) (all_none e.id (ends_in h.halves) (no_half r i e.id e (at_own e (ends_of r) ends_own j)))))
+        (λ e j. subst (AllByRecursion (λ y. same_socket e.id y ≡ false)) (sym (ids_in h.halves)) (all_none e.id (ends_in h.halves) (no_half r i e.id e (end_own e (ends_of r) ends_own j)))))
 
     pub called : (l : LooseNow) → IsOneOf l (all_left h.halves) → IsCalled h.port.made h.records l
     called l j = of_each (IsCalled h.port.made h.records) l (all_left h.halves) (are_called node.supply node.entity h.port.made h.records h.halves node.sessions) j

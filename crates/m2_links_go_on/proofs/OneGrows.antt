@@ -1,11 +1,9 @@
 -- A cluster of which one node grows.
-use Rattle.std.proofs.Common.{◌≡◌, ℕ, zero, suc, List, [], ◌∷◌, ◌++◌, length, slice_get, slice_set, Option, Some, None, is_some, refl, sym, ap, subst, ◌∙◌}
+use Rattle.std.proofs.Common.{◌≡◌, ℕ, zero, suc, List, [], ◌∷◌, ◌++◌, slice_get, slice_set, Option, Some, None, is_some, refl, sym, ap, subst, ◌∙◌}
 use Rattle.std.specs.Prelude.{IfSome, IsSome, unwrap_or}
 use Rattle.std.specs.List.{AllByRecursion}
-use Rattle.std.specs.Option.{option_map}
 use Rattle.m2_fabric.specs.declared.socket.SocketId.{SocketId}
 use Rattle.m2_fabric.specs.End.{Inflow, SeenEnd}
-use Rattle.m2_record.proofs.Names.{differ}
 use Rattle.m2_record.specs.Sources.{end_at}
 use Rattle.m2_center.specs.Center.{CenterNow}
 use Rattle.m2_center.specs.Reaching.{ends_in, ends_or_none}
@@ -16,24 +14,18 @@ use Rattle.m2_growth.specs.Holding.{AreOwn, Grows, HaveTheirHalves, all_ends}
 use Rattle.m2_growth.proofs.Ends.{to_same}
 use Rattle.m2_links_go_on.specs.Center.{holding_of}
 use Rattle.m2_links_go_on.specs.Cluster.{GrowsInMemory}
+use Rattle.m2_lemmas.proofs.Options.{none_isnt_some, mapped_is_some}
+use Rattle.m2_lemmas.proofs.Lists.{set_keeps_length}
 
 -- ---- one of a list is set
-
-nothing : {T : Type 0} (x : T) → None ≡ Some x → ⊥
-nothing x e = differ (ap is_some e)
 
 same_one : {T : Type 0} (x y : T) → Some x ≡ Some y → x ≡ y
 same_one x y e = cc
 
-same_length : {T : Type 0} (xs : List T) (n : ℕ) (x y : T) → slice_get xs n ≡ Some x → length (slice_set xs n y) ≡ length xs
-same_length [] n x y was = absurd (nothing x was)
-same_length (z ∷ zs) zero x y was = refl
-same_length (z ∷ zs) (suc n) x y was = ap (λ i. suc i) (same_length zs n x y was)
-
 -- what holds of what was there and what is there now, of the one and of all others
 of_set : {T : Type 0} (P : Option T → Option T → Type 0) (xs : List T) (n : ℕ) (x y : T) → slice_get xs n ≡ Some x → P (Some x) (Some y) → ((o : Option T) → P o o) →
     (k : ℕ) → P (slice_get xs k) (slice_get (slice_set xs n y) k)
-of_set P [] n x y was this others k = absurd (nothing x was)
+of_set P [] n x y was this others k = absurd (none_isnt_some x was)
 of_set P (z ∷ zs) zero x y was this others zero = subst (λ o. P o (Some y)) (sym was) this
 of_set P (z ∷ zs) zero x y was this others (suc k) = others (slice_get zs k)
 of_set P (z ∷ zs) (suc n) x y was this others zero = others (Some z)
@@ -41,18 +33,14 @@ of_set P (z ∷ zs) (suc n) x y was this others (suc k) = of_set P zs n x y was 
 
 -- what holds of all
 all_set : {T : Type 0} (P : T → Type 0) (xs : List T) (n : ℕ) (x y : T) → slice_get xs n ≡ Some x → (P x → P y) → AllByRecursion P xs → AllByRecursion P (slice_set xs n y)
-all_set P [] n x y was this all = absurd (nothing x was)
+all_set P [] n x y was this all = absurd (none_isnt_some x was)
 all_set P (z ∷ zs) zero x y was this all = (this (subst P (same_one z x was) all.0), all.1)
 all_set P (z ∷ zs) (suc n) x y was this all = (all.0, all_set P zs n x y was this all.1)
 
 -- ---- one end
 
-mapped : {T U : Type 0} (f : T → U) (o : Option T) → is_some (option_map f o) ≡ is_some o
-mapped f (Some x) = refl
-mapped f None = refl
-
 comes_in_memory : (e : SeenEnd) → is_some (come_to e) ≡ is_some e.inflow
-comes_in_memory e = mapped (λ (i : Inflow). e.log.got ++ i.readable) e.inflow
+comes_in_memory e = mapped_is_some (λ (i : Inflow). e.log.got ++ i.readable) e.inflow
 
 memory_stays : (o p : Option SeenEnd) → EndGrowsTo o p → (o ≡ None → IfSome p (λ e. IsSome e.inflow)) → IfSome o (λ e. IsSome e.inflow) → IfSome p (λ e. IsSome e.inflow)
 memory_stays o None grows brought was = tt
@@ -61,7 +49,7 @@ memory_stays (Some e) (Some f) grows brought was = sym (comes_in_memory f) ∙ a
 
 -- ---- the ends of a center, and those that it holds
 
-same_waiting : (o : Option (List SeenEnd)) → unwrap_or o [] ≡ ends_or_none o
+pub same_waiting : (o : Option (List SeenEnd)) → unwrap_or o [] ≡ ends_or_none o
 same_waiting (Some es) = refl
 same_waiting None = refl
 
@@ -86,7 +74,7 @@ module _ {D : Type 0} (node : ℕ) (before behind : NodeNow D) (nodes : List (No
   pub one_grows : (room : ℕ) → GrowsInMemory (record { nodes = nodes; room = room }) (record { nodes = now; room = room })
   one_grows room memory brought = record {
     ends = record {
-      nodes = same_length nodes node before behind was;
+      nodes = set_keeps_length nodes node before behind was;
       ends = grow_all;
       memory = (λ at k. memory_stays ((held_by nodes).ends at k) ((held_by now).ends at k) (grow_all at k) (brought at k) (memory at k));
     };

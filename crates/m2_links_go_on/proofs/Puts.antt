@@ -20,9 +20,9 @@ use Rattle.m2_journal.specs.State.{Delivery}
 use Rattle.m2_channel.specs.Handing.{calls_of, heard_at_once, parcels_of, peer_of, queued_of}
 use Rattle.m2_record.specs.IsRecord.{IsFrom}
 use Rattle.m2_record.specs.RecordNow.{RecordNow, delivery_of}
-use Rattle.m2_record.proofs.Names.{both, differ}
 use Rattle.m2_center.specs.Outbox.{Dispatches, DispatchesOr, OutboxNow, Puts, PutsLetter, Retries, RetriesFor, is_free}
 use Rattle.m2_links_go_on.specs.Logged.{IsLoggedOf, all_put, fast_calls, handed_of, heard_held}
+use Rattle.m2_lemmas.proofs.Booleans.{both_of_and, false_isnt_true}
 
 -- ---- lists
 
@@ -137,10 +137,10 @@ queued_of_other place q (parcel.RemoteReset peer) h other = other_put place q (p
 
 none_held : (o : Option Letter) → is_none o ≡ true → o ≡ None
 none_held None h = refl
-none_held (Some l) h = absurd (differ h)
+none_held (Some l) h = absurd (false_isnt_true h)
 
 pub free_holds_none : {D : Type 0} (o : OutboxNow D) → is_free o ≡ true → o.held ≡ None
-free_holds_none o h = none_held o.held (both (is_none o.held) _ h).0
+free_holds_none o h = none_held o.held (both_of_and (is_none o.held) _ h).0
 
 module _ {D : Type 0} (heard : D → List Heard) where
   dispatched : (l : Letter) (old new : OutboxNow D) → Dispatches heard l old new → (fast_calls heard new ≡ heard old.fast ++ heard_in l ∷ []) × (new.mail ≡ old.mail)

@@ -1,7 +1,6 @@
 -- The turns of all records, one after another: of the peer of each the dispatchers have what that record hands on still.
 use Rattle.std.proofs.Common.{◌≡◌, inl, inr, ℕ, ◌==◌, Bool, true, false, List, [], ◌∷◌, ◌++◌, map, Option, Some, None, Result, Ok, Err, IfSome, IsSome, refl, sym, ap, subst, ◌∙◌, append-nil, append_assoc}
 use Rattle.std.specs.List.{AllByRecursion, IsDistinct}
-use Rattle.std.proofs.lemmas.Bool.{eq-eqb, eqb-true}
 use Rattle.m2_bytes.specs.declared.memory.NoMemory as memory
 use Rattle.m2_channel.specs.Handing.{calls_of, parcels_of}
 use Rattle.m2_core.specs.Calls.{IsOpening}
@@ -19,7 +18,6 @@ use Rattle.m2_record.specs.Calls.{IsSameButRoom, with_opened}
 use Rattle.m2_record.specs.Due.{due_step}
 use Rattle.m2_record.specs.IsRecord.{IsRecord}
 use Rattle.m2_record.specs.RecordNow.{RecordNow}
-use Rattle.m2_record.proofs.Names.{differ}
 use Rattle.m2_center.specs.declared.records_turn.RecordsTurn.{RecordsTurn}
 use Rattle.m2_center.specs.declared.records_turn.RecordsTurn.TheVariants as turn
 use Rattle.m2_center.specs.Connecting.{AtPort, DialsFor, Takes, answer_of}
@@ -31,8 +29,7 @@ use Rattle.m2_growth.specs.Holding.{Grows, Holding}
 use Rattle.m2_growth.specs.GrowthLaws.{at_records}
 use Rattle.m2_growth.specs.Records.{RecordGrows, RecordsGrow}
 use Rattle.m2_growth.proofs.Dials.{dials}
-use Rattle.m2_growth.proofs.Going.{grows_then, records_same}
-use Rattle.m2_growth.proofs.Holdings.{same_grows}
+use Rattle.m2_growth.proofs.Going.{grows_then, records_same, grows_same}
 use Rattle.m2_growth.proofs.OneRecord.{holding}
 use Rattle.m2_growth.proofs.RecordTurns as growth
 use Rattle.m2_links_go_on.specs.LogLaws.{RecordsStayLogged}
@@ -42,15 +39,10 @@ use Rattle.m2_links_go_on.proofs.Lagging.{Follows, Lags, all_follow, all_followe
 use Rattle.m2_links_go_on.proofs.Later.{its_own}
 use Rattle.m2_links_go_on.proofs.Puts.{HaveTheSame, retries}
 use Rattle.m2_links_go_on.proofs.LogTurns.{begins, turns}
+use Rattle.m2_lemmas.proofs.Numbers.{unlike_turned}
+use Rattle.m2_lemmas.proofs.Booleans.{false_isnt_true}
 
 -- ---- one record among others
-
-swapped : (a b : ℕ) → (a == b) ≡ false → (b == a) ≡ false
-swapped a b h = at (b == a) refl
-  where
-    at : (c : Bool) → (b == a) ≡ c → c ≡ false
-    at true e = absurd (differ (sym h ∙ eq-eqb a b (sym (eqb-true b a e))))
-    at false e = refl
 
 same_places : (r s : RecordNow) (before rest : List RecordNow) → s.place ≡ r.place → map place_of (before ++ s ∷ rest) ≡ map place_of (before ++ r ∷ rest)
 same_places r s [] rest e = ap (λ p. p ∷ map place_of rest) e
@@ -72,7 +64,7 @@ one_of P (x ∷ xs) rest r all = one_of P xs rest r all.1
 apart : (before rest : List RecordNow) (r : RecordNow) → AreOfTheirPeers (before ++ r ∷ rest) → AllByRecursion (IsApart r) before × AllByRecursion (IsApart r) rest
 unfolding IsDistinct
 apart [] rest r d = (tt, all_apart r rest d.0)
-apart (x ∷ xs) rest r d = let two = apart xs rest r d.1 in ((swapped x.place r.place (one_of (λ y. (x.place == y) ≡ false) xs rest r d.0), two.0), two.1)
+apart (x ∷ xs) rest r d = let two = apart xs rest r d.1 in ((unlike_turned x.place r.place (one_of (λ y. (x.place == y) ≡ false) xs rest r d.0), two.0), two.1)
 
 all_still : (r : RecordNow) (P Q : RecordNow → Type 0) (xs : List RecordNow) → ((x : RecordNow) → IsApart r x → P x → Q x) → AllByRecursion (IsApart r) xs → AllByRecursion P xs → AllByRecursion Q xs
 all_still r P Q [] so away all = tt
@@ -90,7 +82,7 @@ takes_steady (connect.Made e) now r s (mid, room, (opened, some)) = at s.core.li
   where
     at : (o : Option FeedNow) → IfSome o (λ v. IsOpening mid.core.facts e v × (s ≡ record (with_opened v e.id mid) { room = s.room })) → IsSome o → StaysSteady mid s
     at (Some v) (_, h) some = ap steady_of h
-    at None h some = absurd (differ some)
+    at None h some = absurd (false_isnt_true some)
 takes_steady connect.Failed now r s (mid, room, missed) = ap steady_of missed ∙ ap steady_of room
 takes_steady connect.NoMemory now r s room = ap steady_of room
 
@@ -263,5 +255,5 @@ all_logged heard calls m first records a halves queued called are all = record {
 pub records_stay_logged : {D : Type 0} → RecordsStayLogged D
 records_stay_logged {D} heard m result halves queued old new t own are later l =
     all_logged heard l.calls m (at_records halves old) new.records new.around halves queued l.queue later
-    (turns_each heard l.calls m (at_records halves old) result old new halves t (same_grows (at_records halves old) own) l.peers
+    (turns_each heard l.calls m (at_records halves old) result old new halves t (grows_same (at_records halves old) own) l.peers
     (all_lag heard l.calls old.around.port old.records old.records halves old.around.out own are l.each (records_same old.records) (none_same old.records)))

@@ -1,37 +1,32 @@
 -- Two sides that records keep go on where their records do: what a record has read on a socket it had opened or taken, and then it
 -- neither opens it nor does its half more.
-use Rattle.std.proofs.Common.{◌≡◌, ℕ, ◌+◌, ◌<◌, ◌≤◌, ◌⊎◌, inl, inr, Bool, true, false, ◌||◌, if◌then◌else◌, List, [], ◌∷◌, ◌++◌, length, map, refl, sym, ap, ◌∙◌, subst, arith, append-nil, Option, Some, None}
+use Rattle.std.proofs.Common.{◌≡◌, ◌+◌, ◌<◌, ◌≤◌, ◌⊎◌, inl, inr, Bool, true, false, ◌||◌, if◌then◌else◌, List, [], ◌∷◌, ◌++◌, map, refl, sym, ap, ◌∙◌, subst, arith, append-nil, Some}
 use Rattle.std.specs.List.{AllByRecursion, IsDistinct, list_any}
 use Rattle.std.proofs.lemmas.List.{map-append}
 use Rattle.std.proofs.lemmas.List.Elements.{filter_map-append}
 use Rattle.std.proofs.lemmas.List.Folds.{list_any-append}
 use Rattle.m2_fabric.specs.declared.socket.SocketId.{SocketId}
 use Rattle.m2_fabric.specs.Sockets.{is_among, same_socket}
-use Rattle.m2_history.proofs.Tidiness.{all_append}
 use Rattle.m2_history.specs.Parts.{PartsNow}
 use Rattle.m2_history.specs.Woven.{BothNow}
-use Rattle.m2_journal.specs.declared.entry.Entry.{Entry}
-use Rattle.m2_journal.specs.declared.facts.PlanStep.{PlanStep}
-use Rattle.m2_journal.specs.Items.{JournalItem, Sources, at_start, items_from}
+use Rattle.m2_journal.specs.Items.{at_start, items_from}
 use Rattle.m2_journal.specs.Laws.{taken_among}
-use Rattle.m2_journal.specs.Replay.{AreLawful}
-use Rattle.m2_journal.specs.SideFacts.{SideFacts}
 use Rattle.m2_journal.specs.State.{start}
 use Rattle.m2_record.specs.TakenTrails.{taken_by, taken_in}
 use Rattle.m2_trail.specs.Trails.{TrailNow}
 use Rattle.m2_links_go_on.specs.TurnLaws.{RecordsAreSidesThatGoOn}
 use Rattle.m2_links_go_on.specs.Records.{IsSide, PartsGoOn, RecordsGoOn}
-use Rattle.m2_links_go_on.specs.Sides.{AreHalves, HalfGoesOn, HasGoneOn, JournalGoesOn, SidesGoOn, done_on, entries_in, half_on, halves_of, loose_halves}
-use Rattle.m2_links_go_on.proofs.Lists.{all_left, all_right}
-use Rattle.m2_links_go_on.proofs.Whose.{turned}
-use Rattle.m2_weave.specs.Later.{GoesOn, HasRead, HasWritten}
+use Rattle.m2_links_go_on.specs.Sides.{HalfGoesOn, HasGoneOn, JournalGoesOn, SidesGoOn, done_on, entries_in, half_on, halves_of, loose_halves}
+use Rattle.m2_weave.specs.Later.{HasRead, HasWritten}
 use Rattle.m2_weave.specs.declared.strand.StrandItem.TheVariants.{Noted}
-use Rattle.m2_weave.specs.Strands.{has_opened, journal_of, opens, read_by, total, written_by}
-use Rattle.m2_weave.proofs.SameSocket.{one_socket, same_refl}
-use Rattle.m2_history.specs.WovenLink.{IsSideOf, items_in, sources_in}
-use Rattle.m2_history.proofs.Journals.{IsQuietOn, Unknown, judged_are, opened_are, opened_unjudged, taken_are, unknown_quiet}
-use Rattle.m2_history.proofs.Moved.{unjudged_untaken}
+use Rattle.m2_weave.specs.Strands.{has_opened, journal_of, opens}
+use Rattle.m2_history.specs.WovenLink.{sources_in}
+use Rattle.m2_history.proofs.Journals.{IsQuietOn, judged_are, opened_are, opened_unjudged, taken_are, unknown_quiet}
+use Rattle.m2_history.proofs.Moved.{unjudged_untaken, quiet_reads, quiet_writes}
 use Rattle.m2_history.proofs.Names.{items_add}
+use Rattle.m2_lemmas.proofs.Booleans.{or_left}
+use Rattle.m2_lemmas.proofs.Lists.{all_append, all_front, all_back}
+use Rattle.m2_fabric.proofs.Sockets.{apart_turned, same_equal, same_refl}
 
 pub clash : {X : Type 0} (b : Bool) → b ≡ true → b ≡ false → X
 clash true e f = absurd (cc)
@@ -43,7 +38,7 @@ skipped : (t : TrailNow) (all us : List TrailNow) → AllByRecursion (λ (k : So
     AllByRecursion (λ (u : TrailNow). half_on u.socket all ≡ Some u) us → AllByRecursion (λ (u : TrailNow). half_on u.socket (t ∷ all) ≡ Some u) us
 skipped t all [] apart own = tt
 skipped t all (u ∷ us) apart own = (
-  ap (λ b. if b then Some t else half_on u.socket all) (turned t.socket u.socket apart.0) ∙ own.0,
+  ap (λ b. if b then Some t else half_on u.socket all) (apart_turned t.socket u.socket apart.0) ∙ own.0,
   skipped t all us apart.1 own.1,
 )
 
@@ -81,18 +76,10 @@ done-same before now k (t ∷ ts) stay h = at (same_socket k t.socket) refl h (d
     at : (b : Bool) → same_socket k t.socket ≡ b → (b || is_among k (map (λ (t : TrailNow). t.socket) ts)) ≡ true →
         (is_among k (map (λ (t : TrailNow). t.socket) ts) ≡ true → done_on k now ≡ done_on k before) → done_on k now ≡ done_on k before
     at true same h later =
-        subst (λ x. done_on x now ≡ done_on x before) (sym (one_socket k t.socket same)) (ap entries_in stay.0.is ∙ sym (ap entries_in stay.0.was))
+        subst (λ x. done_on x now ≡ done_on x before) (sym (same_equal k t.socket same)) (ap entries_in stay.0.is ∙ sym (ap entries_in stay.0.was))
     at false differ h later = later h
 
 -- ---- one journal
-
-quiet-reads : (k : SocketId) (es : List Entry) → AllByRecursion (IsQuietOn k) es → total (read_by k) (map Noted es) ≡ 0
-quiet-reads k [] h = refl
-quiet-reads k (e ∷ es) h = omega (arith, h.0.0, quiet-reads k es h.1)
-
-quiet-writes : (k : SocketId) (es : List Entry) → AllByRecursion (IsQuietOn k) es → total (written_by k) (map Noted es) ≡ 0
-quiet-writes k [] h = refl
-quiet-writes k (e ∷ es) h = omega (arith, h.0.1, quiet-writes k es h.1)
 
 -- it has moved nothing on a socket that it had neither opened nor taken
 moved-none : (p : PartsNow) → IsSide p → (k : SocketId) → has_opened (journal_of p.journal) k ≡ false → is_among k (taken_in p.journal) ≡ false → AllByRecursion (IsQuietOn k) p.journal
@@ -111,23 +98,19 @@ taken_or p side k moved closed = at (is_among k (taken_in p.journal)) refl moved
   where
     at : (b : Bool) → is_among k (taken_in p.journal) ≡ b → HasRead (journal_of p.journal) k ⊎ HasWritten (journal_of p.journal) k → is_among k (taken_in p.journal) ≡ true
     at true is moved = is
-    at false is (inl read) = absurd (omega (arith, read, quiet-reads k p.journal (moved-none p side k closed is)))
-    at false is (inr wrote) = absurd (omega (arith, wrote, quiet-writes k p.journal (moved-none p side k closed is)))
-
-or-first : (a b : Bool) → a ≡ true → (a || b) ≡ true
-or-first true b e = refl
-or-first false b e = absurd (cc)
+    at false is (inl read) = absurd (omega (arith, read, quiet_reads k p.journal (moved-none p side k closed is)))
+    at false is (inr wrote) = absurd (omega (arith, wrote, quiet_writes k p.journal (moved-none p side k closed is)))
 
 module _ (p q : PartsNow) (on : PartsGoOn p q) where
   opened-on : (k : SocketId) → has_opened (journal_of p.journal) k ≡ true → has_opened (journal_of q.journal) k ≡ true
   opened-on k h =
       ap (λ es. has_opened (journal_of es) k) on.journal.1 ∙ ap (list_any (opens k)) (map-append Noted p.journal on.journal.0)
-      ∙ list_any-append (opens k) (map Noted p.journal) (map Noted on.journal.0) ∙ or-first (list_any (opens k) (map Noted p.journal)) _ h
+      ∙ list_any-append (opens k) (map Noted p.journal) (map Noted on.journal.0) ∙ or_left (list_any (opens k) (map Noted p.journal)) _ h
 
   taken-on : (k : SocketId) → is_among k (taken_in p.journal) ≡ true → is_among k (taken_in q.journal) ≡ true
   taken-on k h =
       ap (λ es. is_among k (taken_in es)) on.journal.1 ∙ ap (is_among k) (filter_map-append taken_by p.journal on.journal.0)
-      ∙ list_any-append (same_socket k) (taken_in p.journal) (taken_in on.journal.0) ∙ or-first (is_among k (taken_in p.journal)) _ h
+      ∙ list_any-append (same_socket k) (taken_in p.journal) (taken_in on.journal.0) ∙ or_left (is_among k (taken_in p.journal)) _ h
 
   -- a socket that it had taken it doesn't open
   not-opened : (k : SocketId) → is_among k (taken_in p.journal) ≡ true → has_opened (journal_of q.journal) k ≡ false
@@ -173,16 +156,16 @@ module _ (old new : BothNow) (on : RecordsGoOn old new) where
   near-stay : AllByRecursion (Stays (halves_of old) (halves_of new)) old.a.trails
   near-stay =
       both-stay (halves_of old) (halves_of new) old.a.trails
-      (all_left (Own (halves_of old)) old.a.trails old.b.trails (all_left (Own (halves_of old)) (old.a.trails ++ old.b.trails) (loose_of old) olds))
-      (all_left (Own (halves_of new)) old.a.trails on.near.trails.0 (subst (AllByRecursion (Own (halves_of new))) on.near.trails.1
-      (all_left (Own (halves_of new)) new.a.trails new.b.trails (all_left (Own (halves_of new)) (new.a.trails ++ new.b.trails) (loose_of new) news))))
+      (all_front (Own (halves_of old)) old.a.trails old.b.trails (all_front (Own (halves_of old)) (old.a.trails ++ old.b.trails) (loose_of old) olds))
+      (all_front (Own (halves_of new)) old.a.trails on.near.trails.0 (subst (AllByRecursion (Own (halves_of new))) on.near.trails.1
+      (all_front (Own (halves_of new)) new.a.trails new.b.trails (all_front (Own (halves_of new)) (new.a.trails ++ new.b.trails) (loose_of new) news))))
 
   far-stay : AllByRecursion (Stays (halves_of old) (halves_of new)) old.b.trails
   far-stay =
       both-stay (halves_of old) (halves_of new) old.b.trails
-      (all_right (Own (halves_of old)) old.a.trails old.b.trails (all_left (Own (halves_of old)) (old.a.trails ++ old.b.trails) (loose_of old) olds))
-      (all_left (Own (halves_of new)) old.b.trails on.far.trails.0 (subst (AllByRecursion (Own (halves_of new))) on.far.trails.1
-      (all_right (Own (halves_of new)) new.a.trails new.b.trails (all_left (Own (halves_of new)) (new.a.trails ++ new.b.trails) (loose_of new) news))))
+      (all_back (Own (halves_of old)) old.a.trails old.b.trails (all_front (Own (halves_of old)) (old.a.trails ++ old.b.trails) (loose_of old) olds))
+      (all_front (Own (halves_of new)) old.b.trails on.far.trails.0 (subst (AllByRecursion (Own (halves_of new))) on.far.trails.1
+      (all_back (Own (halves_of new)) new.a.trails new.b.trails (all_front (Own (halves_of new)) (new.a.trails ++ new.b.trails) (loose_of new) news))))
 
   pub go_on : SidesGoOn old new
   go_on = record {

@@ -2,7 +2,6 @@
 use Rattle.std.proofs.Common.{◌≡◌, ℕ, ◌==◌, Bool, true, false, if◌then◌else◌, List, [], ◌∷◌, ◌++◌, map, take, drop, Option, Some, None, refl, sym, ap, subst, ◌∙◌}
 use Rattle.std.specs.List.{AllByRecursion, IsDistinct}
 use Rattle.std.specs.Option.{option_map}
-use Rattle.std.proofs.lemmas.List.{map-append}
 use Rattle.m2_dispatch.specs.Heard.{Heard}
 use Rattle.m2_dispatch.specs.Laws.{Call}
 use Rattle.m2_fabric.specs.declared.socket.SocketId.{SocketId}
@@ -12,12 +11,12 @@ use Rattle.m2_feed.specs.FeedNow.{FeedNow}
 use Rattle.m2_journal.specs.declared.entry.Entry.{Entry}
 use Rattle.m2_journal.specs.declared.entry.Entry.TheVariants as entry
 use Rattle.m2_journal.specs.Items as item
-use Rattle.m2_journal.specs.Items.{JournalItem, Places, Sources, at_start, item_of, items_from, passed, where_taken}
+use Rattle.m2_journal.specs.Items.{Places, Sources, at_start, item_of, items_from, passed, where_taken}
 use Rattle.m2_journal.specs.Replay.{after_items}
 use Rattle.m2_journal.specs.State.{start}
 use Rattle.m2_record.specs.RecordNow.{RecordNow, ends_of, feed_end, speaks_of}
 use Rattle.m2_record.specs.Sources as source
-use Rattle.m2_record.specs.Sources.{broken_of, end_at, got_of, log_of, put_of, read_before, trail_at, written_before}
+use Rattle.m2_record.specs.Sources.{broken_of, end_at, log_of, read_before, trail_at, written_before}
 use Rattle.m2_center.specs.Outbox.{OutboxNow}
 use Rattle.m2_center.specs.Center.{CenterNow}
 use Rattle.m2_center.specs.Reaching.{untold, untold_feed, untold_record}
@@ -25,6 +24,7 @@ use Rattle.m2_links_go_on.specs.LogLaws.{RestStaysLogged}
 use Rattle.m2_links_go_on.specs.Logged.{IsCalled, IsLoggedOf, fast_calls, handed_of}
 use Rattle.m2_links_go_on.proofs.Lagging.{place_of}
 use Rattle.m2_links_go_on.proofs.Puts.{stays_still}
+use Rattle.m2_links_go_on.proofs.Untold.{ends_untold}
 
 -- ---- entries that speak of the same
 
@@ -63,9 +63,6 @@ same_items s t p (e ∷ es) h = ap (λ i. i ∷ items_from t (passed e p) es) (s
 feed_untold : (o : Option FeedNow) → feed_end (option_map untold_feed o) ≡ map untold (feed_end o)
 feed_untold (Some v) = refl
 feed_untold None = refl
-
-ends_untold : (r : RecordNow) → ends_of (untold_record r) ≡ map untold (ends_of r)
-ends_untold r = ap (λ l. l ++ map untold r.spent) (feed_untold r.core.live.feed) ∙ sym (map-append untold (feed_end r.core.live.feed) r.spent)
 
 end_untold : (es : List SeenEnd) (k : SocketId) → end_at (map untold es) k ≡ option_map untold (end_at es k)
 end_untold [] k = refl

@@ -1,26 +1,25 @@
 -- Where journals and halves go on, their strands are later ones.
-use Rattle.std.proofs.Common.{◌≡◌, ℕ, ◌+◌, Bool, true, false, if◌then◌else◌, List, [], ◌∷◌, ◌++◌, map, refl, sym, ap, ◌∙◌, subst, arith, Option, Some, None}
+use Rattle.std.proofs.Common.{◌≡◌, ◌+◌, Bool, true, false, if◌then◌else◌, List, [], ◌∷◌, ◌++◌, map, refl, sym, ap, ◌∙◌, subst, Some}
 use Rattle.std.specs.List.{AllByRecursion}
 use Rattle.std.proofs.lemmas.List.{map-append}
 use Rattle.m2_fabric.specs.declared.socket.SocketId.{SocketId}
 use Rattle.m2_fabric.specs.Sockets.{same_socket}
-use Rattle.m2_history.proofs.Tidiness.{all_append}
 use Rattle.m2_history.specs.HalfStrands.{strand_of}
 use Rattle.m2_history.specs.Link.{StrandsAreTidy}
 use Rattle.m2_history.specs.Woven.{BothNow, strands_of}
 use Rattle.m2_journal.specs.declared.entry.Entry.{Entry}
 use Rattle.m2_trail.specs.Trails.{TrailNow}
 use Rattle.m2_links_go_on.specs.TurnLaws.{SidesAreLater, SidesInTurnsAreWoven}
-use Rattle.m2_links_go_on.specs.Sides.{HalfGoesOn, HasGoneOn, IsHalf, IsTurnOfSides, JournalGoesOn, SidesGoOn, done_on, half_on, halves_of, loose_halves, woven_now}
+use Rattle.m2_links_go_on.specs.Sides.{HasGoneOn, IsHalf, JournalGoesOn, SidesGoOn, done_on, half_on, halves_of, loose_halves, woven_now}
 use Rattle.m2_links_go_on.proofs.Halves.{half_on_goes, never_opens}
 use Rattle.m2_links_go_on.proofs.HalfReads.{reads_of_sides}
-use Rattle.m2_links_go_on.proofs.Lists.{all_left, all_right}
 use Rattle.m2_links_go_on.proofs.Whose.{HasLater, Told, far, later_by_who, look_far, look_half, near, strand_in, strands_told, told_apart, told_half, told_journal, told_of}
 use Rattle.m2_weave.specs.TurnLaws.{FlowedWasWritten, TurnsAreWoven}
 use Rattle.m2_weave.specs.Later.{StrandGoesOn}
 use Rattle.m2_weave.specs.declared.strand.StrandItem.TheVariants.{Noted}
-use Rattle.m2_weave.specs.Strands.{StrandNow, begun_at, has_opened, journal_of, read_by, read_by_halves, total}
-use Rattle.m2_weave.proofs.SameSocket.{one_socket}
+use Rattle.m2_weave.specs.Strands.{begun_at, has_opened, journal_of, read_by, read_by_halves, total}
+use Rattle.m2_lemmas.proofs.Lists.{all_append, all_front, all_back}
+use Rattle.m2_fabric.proofs.Sockets.{same_equal}
 
 -- ---- the half on a socket
 
@@ -36,7 +35,7 @@ half-found P k [] u all e = absurd cc
 half-found P k (t ∷ ts) u all e = at (same_socket k t.socket) refl e (half-found P k ts u all.1)
   where
     at : (b : Bool) → same_socket k t.socket ≡ b → (if b then Some t else half_on k ts) ≡ Some u → (half_on k ts ≡ Some u → IsFound k P u) → IsFound k P u
-    at true is e later = subst (IsFound k P) (some-one t u e) (record { socket = sym (one_socket k t.socket is); holds = all.0 })
+    at true is e later = subst (IsFound k P) (some-one t u e) (record { socket = sym (same_equal k t.socket is); holds = all.0 })
     at false is e later = later e
 
 module _ (old new : BothNow) (on : SidesGoOn old new) where
@@ -86,21 +85,21 @@ module _ (old new : BothNow) (on : SidesGoOn old new) where
       let P : Told → Type 0 = HasLater (woven_now old) (woven_now new) (told_of new) in
       let taken = old.a.trails ++ old.b.trails in
       let loose = loose_halves old.a.journal old.b.journal old.loose in
-      let is_half = all_left IsHalf taken loose on.before.each in
-      let has_gone = all_left (HasGoneOn (halves_of new)) taken loose on.halves in
+      let is_half = all_front IsHalf taken loose on.before.each in
+      let has_gone = all_front (HasGoneOn (halves_of new)) taken loose on.halves in
       let near_ones = told_journal near old.a.journal ∷ map told_half old.a.trails in
       let far_ones = told_journal far old.b.journal ∷ map told_half old.b.trails in
       all_append P (near_ones ++ far_ones) (map told_half loose)
       (all_append P near_ones far_ones (
         (journal_of new.a.journal, refl, journal-on old.a.journal new.a.journal on.near),
-        halves-later old.a.trails (all_left IsHalf old.a.trails old.b.trails is_half)
-            (all_left (HasGoneOn (halves_of new)) old.a.trails old.b.trails has_gone),
+        halves-later old.a.trails (all_front IsHalf old.a.trails old.b.trails is_half)
+            (all_front (HasGoneOn (halves_of new)) old.a.trails old.b.trails has_gone),
       ) (
         (journal_of new.b.journal, look_far new, journal-on old.b.journal new.b.journal on.far),
-        halves-later old.b.trails (all_right IsHalf old.a.trails old.b.trails is_half)
-            (all_right (HasGoneOn (halves_of new)) old.a.trails old.b.trails has_gone),
+        halves-later old.b.trails (all_back IsHalf old.a.trails old.b.trails is_half)
+            (all_back (HasGoneOn (halves_of new)) old.a.trails old.b.trails has_gone),
       ))
-      (halves-later loose (all_right IsHalf taken loose on.before.each) (all_right (HasGoneOn (halves_of new)) taken loose on.halves))
+      (halves-later loose (all_back IsHalf taken loose on.before.each) (all_back (HasGoneOn (halves_of new)) taken loose on.halves))
 
 pub sides_are_later : SidesAreLater
 sides_are_later old new on =

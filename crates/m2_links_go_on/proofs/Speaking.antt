@@ -1,5 +1,5 @@
 -- What a record has delivered goes on as its journal does and its ends grow; so those that it handed on stay.
-use Rattle.std.proofs.Common.{◌≡◌, ◌⊎◌, inl, inr, ℕ, zero, suc, ◌+◌, Bool, true, false, ◌||◌, if◌then◌else◌, List, [], ◌∷◌, ◌++◌, map, length, take, drop, Option, Some, None, refl, sym, ap, subst, ◌∙◌, arith, length-append, append_assoc}
+use Rattle.std.proofs.Common.{◌≡◌, ◌⊎◌, ℕ, zero, suc, ◌+◌, Bool, true, false, ◌||◌, if◌then◌else◌, List, [], ◌∷◌, ◌++◌, map, length, take, drop, Option, Some, None, refl, sym, ap, subst, ◌∙◌, arith, length-append, append_assoc}
 use Rattle.std.specs.List.{AllByRecursion, cons_option}
 use Rattle.std.proofs.lemmas.List.{map-append, take-append-le}
 use Rattle.m2_dispatch.specs.declared.parcel.Parcel.{Parcel}
@@ -21,15 +21,17 @@ use Rattle.m2_record.specs.RecordNow.{RecordNow, delivery_of, ends_of, feed_end,
 use Rattle.m2_record.specs.Sources as source
 use Rattle.m2_record.specs.Sources.{end_at, got_of, log_at, log_of, put_of, read_before, trail_at, written_before}
 use Rattle.m2_record.specs.TakenTrails.{taken_in}
-use Rattle.m2_record.proofs.Names.{differ, same_refl}
 use Rattle.m2_record.proofs.Trailing.{Beside, trail-there}
 use Rattle.m2_session.specs.SessionLaws.{takes}
 use Rattle.m2_trail.specs.Trails.{TrailNow}
 use Rattle.m2_trail.proofs.Staying.{trails_stay}
 use Rattle.m2_weave.specs.Later.{GoesOn}
-use Rattle.m2_growth.proofs.Among.{among_back, among_front, among_part}
+use Rattle.m2_growth.proofs.Among.{among_back}
 use Rattle.m2_links_go_on.specs.Logged.{deliveries_of, handed_of}
 use Rattle.m2_links_go_on.proofs.Deliveries.{replay_delivers, unfailed}
+use Rattle.m2_history.proofs.Kept.{turned}
+use Rattle.m2_lemmas.proofs.Booleans.{false_isnt_true}
+use Rattle.m2_fabric.proofs.Sockets.{same_refl}
 
 -- ---- lists
 
@@ -82,26 +84,17 @@ pub record IsEndOf (ends : List SeenEnd) (k : SocketId) : Type 0 where
   pub there : end_at ends k ≡ Some end
 
 pub end_among : (ends : List SeenEnd) (k : SocketId) → is_among k (ids_of ends) ≡ true → IsEndOf ends k
-end_among [] k h = absurd (differ h)
+end_among [] k h = absurd (false_isnt_true h)
 end_among (e ∷ es) k h = at (same_socket k e.id) refl h (end_among es k)
   where
     at : (b : Bool) → same_socket k e.id ≡ b → b || is_among k (ids_of es) ≡ true → (is_among k (ids_of es) ≡ true → IsEndOf es k) → IsEndOf (e ∷ es) k
     at true same g rest = record { end = e; there = rw same refl }
     at false other g rest = let found = rest g in record { end = found.end; there = rw other found.there }
 
--- those of a list of ends in another order
-pub swapped_among : (k : SocketId) (xs ys : List SeenEnd) → is_among k (ids_of (xs ++ ys)) ≡ true → is_among k (ids_of (ys ++ xs)) ≡ true
-swapped_among k xs ys h = subst (λ l. is_among k l ≡ true) (sym (map-append (λ (e : SeenEnd). e.id) ys xs))
-    (at (among_part k (ids_of xs) (ids_of ys) (subst (λ l. is_among k l ≡ true) (map-append (λ (e : SeenEnd). e.id) xs ys) h)))
-  where
-    at : (is_among k (ids_of xs) ≡ true) ⊎ (is_among k (ids_of ys) ≡ true) → is_among k (ids_of ys ++ ids_of xs) ≡ true
-    at (inl g) = among_back k (ids_of ys) (ids_of xs) g
-    at (inr g) = among_front k (ids_of ys) (ids_of xs) g
-
 -- each socket that became a record's feed has its end there
 pub feed_has_end : (r : RecordNow) (k : SocketId) → IsRecord r → is_among k (feeds_in r.journal) ≡ true → IsEndOf (ends_of r) k
 feed_has_end r k is h =
-    end_among (ends_of r) k (swapped_among k r.spent (feed_end r.core.live.feed) (subst (λ l. is_among k l ≡ true) (sym is.kept.ends) h))
+    end_among (ends_of r) k (turned k r.spent (feed_end r.core.live.feed) (subst (λ l. is_among k l ≡ true) (sym is.kept.ends) h))
 
 -- ---- what a record has of a socket
 
@@ -178,7 +171,7 @@ module _ (r s : RecordNow) (is : IsRecord r) (further : GoesFurther r s) where
     where
       at : (b : Bool) → b ≡ true → is_among socket (cons_option (if b then Some socket else None) (taken_in es)) ≡ true
       at true t = ap (λ b. b || is_among socket (taken_in es)) (same_refl socket)
-      at false t = absurd (differ t)
+      at false t = absurd (false_isnt_true t)
 
       behind : (b : Bool) (k : SocketId) → is_among k (taken_in es) ≡ true → is_among k (cons_option (if b then Some socket else None) (taken_in es)) ≡ true
       behind true k h = among_back k (socket ∷ []) (taken_in es) h

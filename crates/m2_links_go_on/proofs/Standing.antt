@@ -1,4 +1,4 @@
--- Two sides of a link, each with the halves of its node that no record took: their halves and their ends are apart, and they are
+-- Two sides of a link, each with the halves of its node that no record took: their halves and their ends are apart_turned, and they are
 -- kept and told.
 use Rattle.std.proofs.Common.{◌≡◌, ◌⊎◌, inl, inr, Bool, true, false, ◌&&◌, ◌||◌, if◌then◌else◌, List, [], ◌∷◌, ◌++◌, map, refl, sym, ap, subst, ◌∙◌}
 use Rattle.std.specs.List.{AllByRecursion, IsDistinct}
@@ -7,7 +7,6 @@ use Rattle.m2_fabric.specs.End.{SeenEnd}
 use Rattle.m2_fabric.specs.Sockets.{is_among, same_socket}
 use Rattle.m2_bytes_fit.proofs.Judges.{not_judged_on}
 use Rattle.m2_growth.proofs.Among.{among_mapped, each_by}
-use Rattle.m2_history.proofs.Tidiness.{all_map, all_so}
 use Rattle.m2_history.specs.Link.{IsKeptHalf, IsKeptSide, IsWholeHalf, end_ids}
 use Rattle.m2_history.specs.Parts.{PartsNow}
 use Rattle.m2_history.specs.Woven.{EndNow, as_judged, end_of, half_end, is_of_link, loose_ends}
@@ -15,7 +14,6 @@ use Rattle.m2_journal.specs.declared.entry.Entry.{Entry}
 use Rattle.m2_journal.specs.Items.{at_start}
 use Rattle.m2_journal.specs.Lawful.{judged_on}
 use Rattle.m2_journal.specs.State.{Judgement}
-use Rattle.m2_record.proofs.Names.{apart, differ, same_equal}
 use Rattle.m2_record.specs.RecordNow.{ids_of}
 use Rattle.m2_record.specs.TakenTrails.{judgements_in, taken_in}
 use Rattle.m2_trail.specs.Arrivals.{LooseNow}
@@ -27,6 +25,10 @@ use Rattle.m2_weave.specs.Strands.{has_opened, journal_of, same_side}
 use Rattle.m2_history.specs.WovenLink.{same_end, sources_in}
 use Rattle.m2_history.proofs.Halfway.{apart_from, taken_once}
 use Rattle.m2_history.proofs.Moved.{unjudged_untaken}
+use Rattle.m2_lemmas.proofs.Booleans.{not_true_is_false, false_isnt_true}
+use Rattle.m2_history.proofs.Kept.{map-all}
+use Rattle.m2_lemmas.proofs.Lists.{all_map, all_so}
+use Rattle.m2_fabric.proofs.Sockets.{apart_turned, same_equal}
 
 -- ---- words
 
@@ -67,11 +69,7 @@ abbrev pub AreOpposed : (here away : SocketId → Bool) → Type 0
 AreOpposed here away = (k : SocketId) → here k ≡ true → away k ≡ true → ⊥
 
 pub opposed_too : (here away : SocketId → Bool) → AreOpposed here away → AreOpposed away here
-opposed_too here away apart k a h = apart k h a
-
-pub not_true : (b : Bool) → (b ≡ true → ⊥) → b ≡ false
-not_true true h = absurd (h refl)
-not_true false h = refl
+opposed_too here away apart_turned k a h = apart_turned k h a
 
 -- ---- what a side has taken it has judged
 
@@ -80,7 +78,7 @@ taken_asked k es taken = at (is_among k (judged_sockets es)) refl
   where
     at : (b : Bool) → is_among k (judged_sockets es) ≡ b → is_among k (judged_sockets es) ≡ true
     at true is = is
-    at false is = absurd (differ (sym (unjudged_untaken k es (not_judged_on k (judgements_in es) is)) ∙ taken))
+    at false is = absurd (false_isnt_true (sym (unjudged_untaken k es (not_judged_on k (judgements_in es) is)) ∙ taken))
 
 -- ---- loose halves that are the link's
 
@@ -134,17 +132,13 @@ ends_both a b (l ∷ ls) ms = at (is_of_link a b l) (ends_both a b ls ms)
 two_ends : (d e : EndNow) → same_socket d.socket e.socket ≡ false → same_end d e ≡ false
 two_ends d e h = ap (λ b. b && same_side d.opener e.opener) h
 
-unmapped : {X : Type 0} (P : SocketId → Type 0) (f : X → SocketId) (xs : List X) → AllByRecursion P (map f xs) → AllByRecursion (λ x. P (f x)) xs
-unmapped P f [] all = tt
-unmapped P f (x ∷ xs) all = (all.0, unmapped P f xs all.1)
-
 pub ends_single : (js : List Entry) (ends : List SeenEnd) → IsDistinct same_socket (ids_of ends) → IsDistinct same_end (map (end_of js) ends)
 unfolding IsDistinct
 ends_single js [] d = tt
 ends_single js (e ∷ ends) d = (
   all_map (λ x. same_end (end_of js e) x ≡ false) (end_of js) ends
       (all_so (λ (y : SeenEnd). same_socket e.id y.id ≡ false) (λ (y : SeenEnd). same_end (end_of js e) (end_of js y) ≡ false) (λ y h. two_ends (end_of js e) (end_of js y) h) ends
-      (unmapped (λ k. same_socket e.id k ≡ false) (λ (y : SeenEnd). y.id) ends d.0)),
+      (map-all (λ k. same_socket e.id k ≡ false) (λ (y : SeenEnd). y.id) ends d.0)),
   ends_single js ends d.1,
 )
 
@@ -153,7 +147,7 @@ end_from_loose : (d : EndNow) (a b : List Entry) (ls : List LooseNow) → AllByR
 end_from_loose d a b ls all =
     loose_ends_are (λ x. same_end d x ≡ false) a b ls
     (all_so (λ (l : LooseNow). same_socket d.socket l.end.id ≡ false) (λ (l : LooseNow). same_end d (half_end l) ≡ false) (λ l h. two_ends d (half_end l) h) ls
-    (unmapped (λ k. same_socket d.socket k ≡ false) (λ (l : LooseNow). l.end.id) ls all))
+    (map-all (λ k. same_socket d.socket k ≡ false) (λ (l : LooseNow). l.end.id) ls all))
 
 pub loose_ends_single : (a b : List Entry) (ls : List LooseNow) → IsDistinct same_socket (ids_left ls) → IsDistinct same_end (loose_ends a b ls)
 unfolding IsDistinct
@@ -177,13 +171,13 @@ IsEndAt here away d = ((d.opener ≡ true) × (away d.socket ≡ true)) ⊎ ((d.
 module _ (here away : SocketId → Bool) (opposed : AreOpposed here away) (p : PartsNow) (ls : List LooseNow) (st : StandsAt here away p ls) where
   -- what comes here it hasn't opened
   pub here_closed : (k : SocketId) → here k ≡ true → has_opened (journal_of p.journal) k ≡ false
-  here_closed k h = not_true (has_opened (journal_of p.journal) k) (λ o. opposed k h (st.opened k o))
+  here_closed k h = not_true_is_false (has_opened (journal_of p.journal) k) (λ o. opposed k h (st.opened k o))
 
   pub taken_here : (k : SocketId) → is_among k (taken_in p.journal) ≡ true → here k ≡ true
   taken_here k h = st.asked k (taken_asked k p.journal h)
 
   pub unasked : (k : SocketId) → away k ≡ true → is_among k (judged_sockets p.journal) ≡ false
-  unasked k a = not_true (is_among k (judged_sockets p.journal)) (λ h. opposed k (st.asked k h) a)
+  unasked k a = not_true_is_false (is_among k (judged_sockets p.journal)) (λ h. opposed k (st.asked k h) a)
 
   -- the sockets of its halves
   pub trails_single : IsDistinct same_socket (trail_sockets p.trails)
@@ -227,7 +221,7 @@ module _ (here away : SocketId → Bool) (opposed : AreOpposed here away) (p : P
       (all_so (IsKeptHalf (end_ids p) p.journal) (λ (t : TrailNow). is_among t.socket (ids_of p.ends) ≡ true) (λ t h. h.end) p.trails st.kept.halves))
     where
       end_from : (k : SocketId) (ids : List SocketId) → apart_from same_socket ids (ids_left ls) → is_among k ids ≡ true → AllByRecursion (λ y. same_socket k y ≡ false) (ids_left ls)
-      end_from k [] all h = absurd (differ h)
+      end_from k [] all h = absurd (false_isnt_true h)
       end_from k (i ∷ ids) all h = at (same_socket k i) refl h (end_from k ids all.1)
         where
           at : (b : Bool) → same_socket k i ≡ b → b || is_among k ids ≡ true → (is_among k ids ≡ true → AllByRecursion (λ y. same_socket k y ≡ false) (ids_left ls)) → AllByRecursion (λ y. same_socket k y ≡ false) (ids_left ls)

@@ -1,24 +1,20 @@
 -- The bytes of ends in a table of sockets are those of the ends themselves; so an order by the ones is an order by the others.
-use Rattle.std.proofs.Common.{◌≡◌, ℕ, zero, suc, Bool, true, false, ◌||◌, ◌&&◌, if◌then◌else◌, List, [], ◌∷◌, map, refl, sym, ap, ◌∙◌, subst, Option, Some, None, Result, Ok, Err}
+use Rattle.std.proofs.Common.{◌≡◌, suc, Bool, true, false, ◌||◌, ◌&&◌, if◌then◌else◌, List, [], ◌∷◌, map, refl, sym, ap, ◌∙◌, subst, Option, Some, Ok, Err}
 use Rattle.std.specs.Prelude.{slice_get}
 use Rattle.m2_fabric.specs.declared.socket.SocketId.{SocketId}
 use Rattle.m2_fabric.specs.Sockets.{is_among, same_socket}
 use Rattle.m2_bytes_fit.proofs.Lists.{cons_same, nil_not}
-use Rattle.m2_history.specs.declared.history.History.{History}
-use Rattle.m2_history.specs.declared.history.WeaveFault.{WeaveFault}
 use Rattle.m2_history.specs.declared.history.WeaveFault.TheVariants as fault
-use Rattle.m2_history.specs.Link.{WeavesRecords}
-use Rattle.m2_history.specs.Woven.{BothNow, BytesNow, EndNow, RowNow, bytes_at, ends_of, is_end, row_in, row_now, rows_of, strands_of}
-use Rattle.m2_links_go_on.specs.TurnLaws.{AnOrderIsFound, IsFoundOrFull}
-use Rattle.m2_links_go_on.specs.Sides.{bytes_of_end, woven_now}
-use Rattle.m2_weave.specs.TurnLaws.{HasOrder}
+use Rattle.m2_history.specs.Woven.{BothNow, BytesNow, EndNow, RowNow, bytes_at, ends_of, row_in, row_now, rows_of, strands_of}
+use Rattle.m2_links_go_on.specs.TurnLaws.{AnOrderIsFound}
+use Rattle.m2_links_go_on.specs.Sides.{woven_now}
 use Rattle.m2_weave.specs.Counting.{place_in}
 use Rattle.m2_weave.specs.declared.table.SocketBytes.{SocketBytes}
 use Rattle.m2_weave.specs.Rule.{Woven}
 use Rattle.m2_weave.specs.Stops.{IsWoven}
 use Rattle.m2_weave.specs.Strands.{Bytes, EndOf, same_side}
 use Rattle.m2_weave.specs.Table.{bytes_of, got_at, names_of, put_at}
-use Rattle.m2_weave.proofs.SameSocket.{one_socket}
+use Rattle.m2_fabric.proofs.Sockets.{same_equal}
 
 -- ---- one end in a table
 
@@ -60,7 +56,7 @@ table-has all (x ∷ es) (s ∷ sockets) k o e =
         let named : s.socket ≡ x.socket = ap (λ (r : RowNow). r.socket) row in
         let here : same_socket k s.socket ≡ true = ap (same_socket k) named ∙ q in
         ap (λ b. in_table (slice_get (s ∷ sockets) (if b then 0 else suc (place_in (names_of sockets) k))) o) here
-        ∙ row-has s o ∙ ap (λ r. in_row r o) row ∙ row-of all x o ∙ ap (λ j. bytes_at j o all) (sym (one_socket k x.socket q))
+        ∙ row-has s o ∙ ap (λ r. in_row r o) row ∙ row-of all x o ∙ ap (λ j. bytes_at j o all) (sym (same_equal k x.socket q))
         ∙ sym (ap (λ b. if b || is_among k (sockets_of es) then bytes_at k o all else record { got = []; put = [] }) q)
     at row false q later =
         let named : s.socket ≡ x.socket = ap (λ (r : RowNow). r.socket) row in

@@ -1,6 +1,6 @@
 -- A record's journal, with the halves that it took, tells of all that its ends have got and put: its entries cover what its ends
 -- have behind the trails of these halves.
-use Rattle.std.proofs.Common.{◌≡◌, ℕ, zero, suc, ◌+◌, ◌-◌, ◌≤◌, Bool, true, false, if◌then◌else◌, List, [], ◌∷◌, length, map, refl, sym, ap, ◌∙◌, subst, arith, Option, Some, None}
+use Rattle.std.proofs.Common.{◌≡◌, ℕ, ◌+◌, ◌-◌, ◌≤◌, Bool, true, false, if◌then◌else◌, List, [], ◌∷◌, length, map, refl, sym, ap, ◌∙◌, subst, arith, Option, Some}
 use Rattle.std.specs.List.{AllByRecursion}
 use Rattle.std.proofs.lemmas.List.{length-drop}
 use Rattle.m2_fabric.specs.declared.socket.SocketId.{SocketId}
@@ -9,8 +9,6 @@ use Rattle.m2_fabric.specs.Sockets.{same_socket}
 use Rattle.m2_journal.specs.declared.entry.Entry.{Entry}
 use Rattle.m2_journal.specs.declared.entry.Entry.TheVariants as entry
 use Rattle.m2_journal.specs.Items.{Places, at_start, passed, passed_by, raised}
-use Rattle.m2_never_reset.proofs.Sockets.{turned_same}
-use Rattle.m2_record.specs.IsRecord.{IsRecord}
 use Rattle.m2_record.specs.RecordNow.{ends_of}
 use Rattle.m2_record.specs.Sources.{log_at, read_before, trail_at, written_before}
 use Rattle.m2_record.specs.TakenTrails.{IsKeptTrail}
@@ -20,12 +18,12 @@ use Rattle.m2_links_go_on.specs.Sides.{entries_in}
 use Rattle.m2_links_go_on.proofs.Moving.{runs_read, runs_written}
 use Rattle.m2_weave.specs.declared.strand.StrandItem.TheVariants.{Noted}
 use Rattle.m2_weave.specs.Strands.{read_by, total, written_by}
-use Rattle.m2_weave.proofs.SameSocket.{one_socket}
+use Rattle.m2_fabric.proofs.Sockets.{same_turned, same_equal}
 
 -- ---- how far entries come
 
 raised-by : (x k : SocketId) (c : ℕ) (counts : SocketId → ℕ) → raised x c counts k ≡ counts k + (if same_socket k x then c else 0)
-raised-by x k c counts = ap (λ b. if b then counts k + c else counts k) (turned_same x k) ∙ at (same_socket k x)
+raised-by x k c counts = ap (λ b. if b then counts k + c else counts k) (same_turned x k) ∙ at (same_socket k x)
   where
     at : (b : Bool) → (if b then counts k + c else counts k) ≡ counts k + (if b then c else 0)
     at true = refl
@@ -59,7 +57,7 @@ before-of kind ends journal k [] kept = record { read = refl; written = refl; go
 before-of kind ends journal k (t ∷ ts) kept = at (same_socket k t.socket) refl (before-of kind ends journal k ts kept.1)
   where
     at : (b : Bool) → same_socket k t.socket ≡ b → BeforeOf ends k (trail_at ts k) → BeforeOf ends k (if b then Some t else trail_at ts k)
-    at true same rest = subst (λ x. BeforeOf ends x (Some t)) (sym (one_socket k t.socket same)) (record {
+    at true same rest = subst (λ x. BeforeOf ends x (Some t)) (sym (same_equal k t.socket same)) (record {
       read = runs_read t.socket t.entries;
       written = runs_written t.socket t.entries;
       got = kept.0.beside.within.got;

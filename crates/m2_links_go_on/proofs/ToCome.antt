@@ -1,6 +1,5 @@
 -- The ends that wait at a port where a socket comes there, and where one of them is told something.
-use Rattle.std.proofs.Common.{◌≡◌, ◌⊎◌, inl, inr, ℕ, ◌&&◌, ◌||◌, not, if◌then◌else◌, Bool, true, false, List, [], ◌∷◌, ◌++◌, Option, Some, None, refl, sym, ap, subst, is_some, ◌∙◌, length, ◌==◌, arith}
-use Rattle.std.proofs.lemmas.Bool.{eqb-true}
+use Rattle.std.proofs.Common.{◌≡◌, ◌⊎◌, inl, inr, ℕ, ◌&&◌, ◌||◌, not, if◌then◌else◌, Bool, true, false, List, [], ◌∷◌, ◌++◌, Option, Some, None, refl, sym, ap, subst, is_some, ◌∙◌, length, ◌==◌}
 use Rattle.std.specs.Prelude.{IsSome, unwrap_or}
 use Rattle.std.specs.List.{AllByRecursion, IsDistinct, list_any, list_all}
 use Rattle.std.specs.Option.{option_map}
@@ -12,29 +11,24 @@ use Rattle.m2_fabric.specs.Sockets.{goes_to, is_among, same_socket}
 use Rattle.m2_fabric.specs.Log.{Log, nothing_done}
 use Rattle.m2_cluster.specs.Node.{all_to_come, are_apart, is_to_come, is_unused}
 use Rattle.m2_cluster.proofs.OneCenter.{none_at}
-use Rattle.m2_record.proofs.Names.{differ, same_equal}
 use Rattle.m2_record.specs.RecordNow.{ids_of}
 use Rattle.m2_record.specs.Sources.{end_at}
 use Rattle.m2_growth.specs.Ends.{AreOfTheirOwn}
 use Rattle.m2_growth.specs.Holding.{IsToCome}
 use Rattle.m2_growth.proofs.Ends.{AreApart, own_cons, own_join, own_none, own_tail}
-use Rattle.m2_growth.proofs.Going.{all_join, all_so}
 use Rattle.m2_links_go_on.specs.ClusterTold.{AreToCome, StayToCome, AreUnused}
+use Rattle.m2_lemmas.proofs.Lists.{empty_of_length, all_append, all_so_of}
+use Rattle.m2_lemmas.proofs.Booleans.{one_of_three, negated_is_false, false_isnt_true}
+use Rattle.m2_fabric.proofs.Sockets.{same_equal}
 
 -- the same port, with these waiting
 abbrev over : SeenPort → Option (List SeenEnd) → SeenPort
 over p w = record p { waiting = w }
 
 come_there : (p : SeenPort) (w : Option (List SeenEnd)) (es : List SeenEnd) → AllByRecursion (IsToCome p) es → AllByRecursion (IsToCome (over p w)) es
-come_there p w es all = all_so (IsToCome p) (IsToCome (over p w)) es (λ e h. record { here = h.here; new = h.new }) all
+come_there p w es all = all_so_of (IsToCome p) (IsToCome (over p w)) es (λ e h. record { here = h.here; new = h.new }) all
 
 -- ---- a socket comes
-
-parts_of : (goes made waits : Bool) → goes && (not made && not waits) ≡ true → (goes ≡ true) × (made ≡ false) × (waits ≡ false)
-parts_of true false false h = (refl, refl, refl)
-parts_of true false true h = absurd (differ h)
-parts_of true true waits h = absurd (differ h)
-parts_of false made waits h = absurd (differ h)
 
 none_there : (id : SocketId) (es : List SeenEnd) → list_any (λ (e : SeenEnd). same_socket id e.id) es ≡ false → end_at es id ≡ None
 none_there id [] none = refl
@@ -42,7 +36,7 @@ none_there id (e ∷ es) none = at (same_socket id e.id) none (none_there id es)
   where
     at : (b : Bool) → b || list_any (λ (e : SeenEnd). same_socket id e.id) es ≡ false → (list_any (λ (e : SeenEnd). same_socket id e.id) es ≡ false → end_at es id ≡ None) →
         (if b then Some e else end_at es id) ≡ None
-    at true h rest = absurd (differ (sym h))
+    at true h rest = absurd (false_isnt_true (sym h))
     at false h rest = rest h
 
 -- of no socket one that waits and the one that comes
@@ -56,12 +50,12 @@ apart_from id es none k = at (same_socket k id) refl
 came : (id : SocketId) (p : SeenPort) (es : List SeenEnd) → AreOfTheirOwn es → AllByRecursion (IsToCome p) es → (b : Bool) → may_wait id p es ≡ b →
     AreToCome (over p (Some (if b then es ++ fresh_end id ∷ [] else es)))
 came id p es own come true may =
-    let parts = parts_of (goes_to p.at id) (is_among id p.made) (list_any (λ (e : SeenEnd). same_socket id e.id) es) may in
+    let parts = one_of_three (goes_to p.at id) (is_among id p.made) (list_any (λ (e : SeenEnd). same_socket id e.id) es) may in
     record {
       in_memory = refl;
       waiting = own_join es (fresh_end id ∷ []) own (own_cons (fresh_end id) [] refl own_none) (apart_from id es (none_there id es parts.2));
       to_come = come_there p (Some (es ++ fresh_end id ∷ [])) (es ++ fresh_end id ∷ [])
-          (all_join (IsToCome p) es (fresh_end id ∷ []) come (record { here = parts.0; new = parts.1 }, tt));
+          (all_append (IsToCome p) es (fresh_end id ∷ []) come (record { here = parts.0; new = parts.1 }, tt));
     }
 came id p es own come false may = record { in_memory = refl; waiting = own; to_come = come_there p (Some es) es come }
 
@@ -70,7 +64,7 @@ incoming_to_come id p a = at p.waiting a.in_memory a.waiting a.to_come
   where
     at : (w : Option (List SeenEnd)) → IsSome w → AreOfTheirOwn (unwrap_or w []) → AllByRecursion (IsToCome p) (unwrap_or w []) → AreToCome (over p (option_map (with_waiting id p) w))
     at (Some es) some own come = came id p es own come (may_wait id p es) refl
-    at None some own come = absurd (differ some)
+    at None some own come = absurd (false_isnt_true some)
 
 -- ---- one of them is told
 
@@ -103,25 +97,21 @@ module _ (id : SocketId) (news : News) (bytes : List ℕ) where
         waiting = subst (IsDistinct same_socket) (sym (same_ids es)) own;
         to_come = come_there p (Some (one_hears id hears es)) (one_hears id hears es) (still_to_come p es come);
       }
-      at None some own come = absurd (differ some)
+      at None some own come = absurd (false_isnt_true some)
 
 -- ---- whether all are to come
 
 both : (a b : Bool) → a && b ≡ true → (a ≡ true) × (b ≡ true)
 both true true h = (refl, refl)
-both true false h = absurd (differ h)
-both false b h = absurd (differ h)
-
-no_length : {X : Type 0} (xs : List X) → (length xs == 0) ≡ true → xs ≡ []
-no_length [] e = refl
-no_length (x ∷ xs) e = absurd (omega (arith, eqb-true (length (x ∷ xs)) 0 e))
+both true false h = absurd (false_isnt_true h)
+both false b h = absurd (false_isnt_true h)
 
 none_of : (a b c d : Bool) → not (a || (b || (c || d))) ≡ true → (a ≡ false) × (b ≡ false) × (c ≡ false) × (d ≡ false)
 none_of false false false false h = (refl, refl, refl, refl)
-none_of false false false true h = absurd (differ h)
-none_of false false true d h = absurd (differ h)
-none_of false true c d h = absurd (differ h)
-none_of true b c d h = absurd (differ h)
+none_of false false false true h = absurd (false_isnt_true h)
+none_of false false true d h = absurd (false_isnt_true h)
+none_of false true c d h = absurd (false_isnt_true h)
+none_of true b c d h = absurd (false_isnt_true h)
 
 unused_so : (l : Log) → is_unused l ≡ true → l ≡ nothing_done
 unused_so l h =
@@ -130,8 +120,8 @@ unused_so l h =
     let second = both (length l.put == 0) ((length l.runs == 0) && flags) first.1 in
     let third = both (length l.runs == 0) flags second.1 in
     let rest = none_of l.closed l.dry l.blocked l.ended third.1 in
-    ap (λ x. record l { got = x }) (no_length l.got first.0) ∙ ap (λ x. record l { got = []; put = x }) (no_length l.put second.0)
-    ∙ ap (λ x. record l { got = []; put = []; runs = x }) (no_length l.runs third.0)
+    ap (λ x. record l { got = x }) (empty_of_length l.got first.0) ∙ ap (λ x. record l { got = []; put = x }) (empty_of_length l.put second.0)
+    ∙ ap (λ x. record l { got = []; put = []; runs = x }) (empty_of_length l.runs third.0)
     ∙ ap (λ x. record l { got = []; put = []; runs = []; closed = x }) rest.0
     ∙ ap (λ x. record l { got = []; put = []; runs = []; closed = false; dry = x }) rest.1
     ∙ ap (λ x. record l { got = []; put = []; runs = []; closed = false; dry = false; blocked = x }) rest.2
@@ -139,13 +129,9 @@ unused_so l h =
 
 three : (a b c : Bool) → a && (not b && c) ≡ true → (a ≡ true) × (b ≡ false) × (c ≡ true)
 three true false true h = (refl, refl, refl)
-three true false false h = absurd (differ h)
-three true true c h = absurd (differ h)
-three false b c h = absurd (differ h)
-
-negated : (b : Bool) → not b ≡ true → b ≡ false
-negated true h = absurd (differ h)
-negated false h = refl
+three true false false h = absurd (false_isnt_true h)
+three true true c h = absurd (false_isnt_true h)
+three false b c h = absurd (false_isnt_true h)
 
 module _ (p : SeenPort) where
   abbrev IsUnused : SeenEnd → Type 0
@@ -170,7 +156,7 @@ among_none [] k none = refl
 among_none (e ∷ es) k none = at (same_socket k e.id) none (among_none es k)
   where
     at : (b : Bool) → (if b then Some e else end_at es k) ≡ None → (end_at es k ≡ None → is_among k (ids_of es) ≡ false) → b || is_among k (ids_of es) ≡ false
-    at true h rest = absurd (differ (sym (ap is_some h)))
+    at true h rest = absurd (false_isnt_true (sym (ap is_some h)))
     at false h rest = rest h
 
 apart_so : (es : List SeenEnd) → AreOfTheirOwn es → are_apart (ids_of es) ≡ true
@@ -183,7 +169,7 @@ apart_is : (es : List SeenEnd) → are_apart (ids_of es) ≡ true → AreOfTheir
 apart_is [] h = own_none
 apart_is (e ∷ es) h =
     let two = both (not (is_among e.id (ids_of es))) (are_apart (ids_of es)) h in
-    own_cons e es (none_at es e.id (negated (is_among e.id (ids_of es)) two.0)) (apart_is es two.1)
+    own_cons e es (none_at es e.id (negated_is_false (is_among e.id (ids_of es)) two.0)) (apart_is es two.1)
 
 pub are_to_come_so : (p : SeenPort) → AreToCome p → AreUnused p → all_to_come p p.waiting ≡ true
 are_to_come_so p a unused = at p.waiting a.in_memory a.waiting a.to_come unused
@@ -191,7 +177,7 @@ are_to_come_so p a unused = at p.waiting a.in_memory a.waiting a.to_come unused
     at : (w : Option (List SeenEnd)) → IsSome w → AreOfTheirOwn (unwrap_or w []) → AllByRecursion (IsToCome p) (unwrap_or w []) →
         AllByRecursion (λ (e : SeenEnd). e.log ≡ nothing_done) (unwrap_or w []) → all_to_come p w ≡ true
     at (Some es) some own come unused = ap (λ b. b && are_apart (ids_of es)) (each_so p es come unused) ∙ apart_so es own
-    at None some own come unused = absurd (differ some)
+    at None some own come unused = absurd (false_isnt_true some)
 
 pub are_to_come : (p : SeenPort) → all_to_come p p.waiting ≡ true → AreToCome p × AreUnused p
 are_to_come p all = at p.waiting all
@@ -201,4 +187,4 @@ are_to_come p all = at p.waiting all
         let two = both (list_all (is_to_come p) es) (are_apart (ids_of es)) all in
         let each = each_is p es two.0 in
         (record { in_memory = refl; waiting = apart_is es two.1; to_come = come_there p (Some es) es each.0 }, each.1)
-    at None all = absurd (differ all)
+    at None all = absurd (false_isnt_true all)

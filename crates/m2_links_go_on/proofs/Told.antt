@@ -1,13 +1,12 @@
 -- Where two sides and the halves beside them tell of all that their ends have got and put, strands have written all that was put,
 -- and ends have got all that was read.
-use Rattle.std.proofs.Common.{◌≡◌, ℕ, zero, suc, ◌+◌, ◌<◌, ◌≤◌, ◌⊎◌, inl, inr, Bool, true, false, ◌&&◌, ◌||◌, if◌then◌else◌, List, [], ◌∷◌, ◌++◌, length, map, refl, sym, ap, ◌∙◌, subst, arith, Option, Some, None}
+use Rattle.std.proofs.Common.{◌≡◌, ℕ, zero, suc, ◌+◌, ◌<◌, ◌≤◌, ◌⊎◌, inl, inr, Bool, true, false, ◌&&◌, ◌||◌, if◌then◌else◌, List, [], ◌∷◌, ◌++◌, length, map, refl, sym, ap, ◌∙◌, subst, arith, Some}
 use Rattle.std.specs.Prelude.{slice_index_or}
 use Rattle.std.specs.List.{AllByRecursion, IsDistinct}
 use Rattle.m2_fabric.specs.declared.socket.SocketId.{SocketId}
 use Rattle.m2_fabric.specs.End.{SeenEnd}
 use Rattle.m2_fabric.specs.Log.{Log}
 use Rattle.m2_fabric.specs.Sockets.{is_among, same_socket}
-use Rattle.m2_history.proofs.Tidiness.{all_append}
 use Rattle.m2_history.specs.HalfStrands.{strand_of}
 use Rattle.m2_history.specs.Link.{IsWholeHalf}
 use Rattle.m2_history.specs.Parts.{PartsNow}
@@ -16,29 +15,28 @@ use Rattle.m2_journal.specs.declared.entry.Entry.{Entry}
 use Rattle.m2_journal.specs.Items.{at_start, runs_on}
 use Rattle.m2_record.specs.RecordNow.{ids_of}
 use Rattle.m2_record.specs.Sources.{end_at, log_at, log_of}
-use Rattle.m2_record.specs.TakenTrails.{taken_in}
 use Rattle.m2_trail.proofs.Runs.{runs_on-all}
 use Rattle.m2_trail.specs.Arrivals.{LooseNow}
 use Rattle.m2_trail.specs.Trails as trail
 use Rattle.m2_trail.specs.Trails.{TrailNow}
 use Rattle.m2_links_go_on.specs.TurnLaws.{ToldIsMoved}
 use Rattle.m2_links_go_on.specs.Records.{IsSide}
-use Rattle.m2_links_go_on.specs.Sides.{AreHalves, IsHalf, done_on, entries_in, half_on, halves_of, loose_halves, woven_now}
+use Rattle.m2_links_go_on.specs.Sides.{IsHalf, done_on, entries_in, half_on, halves_of, loose_halves, woven_now}
 use Rattle.m2_links_go_on.specs.Told.{AreTold, TellsAll}
 use Rattle.m2_links_go_on.proofs.HalfReads.{items_count, loose_as, none_there, reads_of_sides}
 use Rattle.m2_links_go_on.proofs.Halves.{never_opens}
-use Rattle.m2_links_go_on.proofs.Lists.{all_left, all_right}
 use Rattle.m2_links_go_on.proofs.Moving.{half_wrote, halves_wrote, none_on, runs_read, runs_written, written_is, wrote_all, wrote_both, wrote_own}
 use Rattle.m2_links_go_on.proofs.Records.{clash, own_half, taken_or}
 use Rattle.m2_weave.specs.Later.{HasRead, HaveGot, HaveWritten}
 use Rattle.m2_weave.specs.declared.strand.StrandItem.TheVariants.{Noted}
 use Rattle.m2_weave.specs.Rule.{nothing_at_all}
-use Rattle.m2_weave.specs.Strands.{EndOf, StrandNow, begun_at, has_opened, journal_of, read_by, read_by_halves, same_side, total, written_at, written_by, written_in}
-use Rattle.m2_weave.proofs.SameSocket.{one_socket, same_refl}
+use Rattle.m2_weave.specs.Strands.{StrandNow, begun_at, has_opened, journal_of, read_by, read_by_halves, same_side, total, written_at, written_by, written_in}
 use Rattle.m2_history.specs.WovenLink.{same_end, sources_in}
-use Rattle.m2_history.proofs.Bytes.{HasEnd, IsOf, end_there, of_left, of_right}
+use Rattle.m2_history.proofs.Bytes.{IsOf, end_there, of_left, of_right, same_side_refl, same_side_turned}
 use Rattle.m2_history.proofs.Journals.{opened_unjudged}
 use Rattle.m2_history.proofs.Moved.{unjudged_untaken}
+use Rattle.m2_lemmas.proofs.Lists.{all_append, all_front, all_back}
+use Rattle.m2_fabric.proofs.Sockets.{same_equal, same_refl}
 
 abbrev none_at_all : BytesNow
 none_at_all = record { got = []; put = [] }
@@ -95,7 +93,7 @@ side-bytes k o js (e ∷ ends) = at (same_socket k e.id) refl (side-bytes k o js
         let mine : BytesNow = record { got = e.log.got; put = e.log.put } in
         let its : bytes_in (e ∷ ends) k ≡ mine = ap (λ b. bytes_of_log (log_of (if b then Some e else end_at ends k))) same in
         ap (λ b. if b && same_side o (has_opened (journal_of js) e.id) then mine else bytes_at k o (map (end_of js) ends)) same
-        ∙ ap (λ x. if same_side o (has_opened (journal_of js) x) then mine else bytes_at k o (map (end_of js) ends)) (sym (one_socket k e.id same))
+        ∙ ap (λ x. if same_side o (has_opened (journal_of js) x) then mine else bytes_at k o (map (end_of js) ends)) (sym (same_equal k e.id same))
         ∙ choose (same_side o (has_opened (journal_of js) k)) mine (bytes_at k o (map (end_of js) ends)) rest
         ∙ ap (λ x. if same_side o (has_opened (journal_of js) k) then x else none_at_all) (sym its)
     at false differ rest =
@@ -171,7 +169,7 @@ loose-wrote a b (l ∷ ls) whole halves k o = by_link (is_of_link a b l) halves 
         by_end false true same rest =
             let bytes : bytes_at k false (half_end l ∷ loose_ends a b ls) ≡ record { got = l.end.log.got; put = l.end.log.put } =
             ap (λ c. if c && true then record { got = l.end.log.got; put = l.end.log.put } else bytes_at k false (loose_ends a b ls)) same in
-            omega (arith, ap (λ (b : BytesNow). length b.put) bytes, loose-put a b l whole.0 halves.0 k (one_socket k l.end.id same))
+            omega (arith, ap (λ (b : BytesNow). length b.put) bytes, loose-put a b l whole.0 halves.0 k (same_equal k l.end.id same))
         by_end o false differ rest =
             let bytes : bytes_at k o (half_end l ∷ loose_ends a b ls) ≡ bytes_at k o (loose_ends a b ls) =
             ap (λ c. if c && same_side o false then record { got = l.end.log.got; put = l.end.log.put } else bytes_at k o (loose_ends a b ls)) differ in
@@ -183,16 +181,6 @@ loose-wrote a b (l ∷ ls) whole halves k o = by_link (is_of_link a b l) halves 
 
 -- ---- an end found
 
-same-side-refl : (b : Bool) → same_side b b ≡ true
-same-side-refl true = refl
-same-side-refl false = refl
-
-same-side-turned : (a b : Bool) → same_side a b ≡ same_side b a
-same-side-turned true true = refl
-same-side-turned true false = refl
-same-side-turned false true = refl
-same-side-turned false false = refl
-
 all-at-end : (P : EndNow → Type 0) (e : EndNow) (es : List EndNow) → AllByRecursion P es → IsOf e es → P e
 all-at-end P e [] all h = absurd h
 all-at-end P e (x ∷ es) all (inl q) = subst P q all.0
@@ -202,7 +190,7 @@ found-end : (e : EndNow) (es : List EndNow) → IsDistinct same_end es → IsOf 
 unfolding IsDistinct
 found-end e [] d h = absurd h
 found-end e (x ∷ es) d (inl q) =
-    let here : same_end e x ≡ true = ap (same_end e) q ∙ ap (λ b. b && same_side e.opener e.opener) (same_refl e.socket) ∙ same-side-refl e.opener in
+    let here : same_end e x ≡ true = ap (same_end e) q ∙ ap (λ b. b && same_side e.opener e.opener) (same_refl e.socket) ∙ same_side_refl e.opener in
     ap (λ b. if b then record { got = x.got; put = x.put } else bytes_at e.socket e.opener es) here ∙ ap (λ (y : EndNow). record { got = y.got; put = y.put }) q
 found-end e (x ∷ es) d (inr h) =
     let apart : same_end x e ≡ false = all-at-end (λ y. same_end x y ≡ false) e es d.0 h in
@@ -214,8 +202,8 @@ found-end e (x ∷ es) d (inr h) =
         at : (b : Bool) → same_socket e.socket x.socket ≡ b → same_end e x ≡ false
         at false is = ap (λ b. b && same_side e.opener x.opener) is
         at true is =
-            let turned : same_socket x.socket e.socket ≡ true = subst (λ y. same_socket x.socket y ≡ true) (sym (one_socket e.socket x.socket is)) (same_refl x.socket) in
-            ap (λ b. b && same_side e.opener x.opener) is ∙ same-side-turned e.opener x.opener ∙ sym (ap (λ b. b && same_side x.opener e.opener) turned) ∙ apart
+            let turned : same_socket x.socket e.socket ≡ true = subst (λ y. same_socket x.socket y ≡ true) (sym (same_equal e.socket x.socket is)) (same_refl x.socket) in
+            ap (λ b. b && same_side e.opener x.opener) is ∙ same_side_turned e.opener x.opener ∙ sym (ap (λ b. b && same_side x.opener e.opener) turned) ∙ apart
 
 some-end : (k : SocketId) (ends : List SeenEnd) → 0 < length (log_at ends k).got → is_among k (ids_of ends) ≡ true
 some-end k [] h = absurd (omega (arith, h))
@@ -267,7 +255,7 @@ module _ (x : BothNow) (told : AreTold x) where
       where
         at : (b : Bool) → same_socket k t.socket ≡ b → (b || is_among k (map (λ (t : TrailNow). t.socket) ts)) ≡ true →
             (is_among k (map (λ (t : TrailNow). t.socket) ts) ≡ true → done_on k (halves_of x) ≡ done_on k p.trails) → done_on k (halves_of x) ≡ done_on k p.trails
-        at true same h later = subst (λ y. done_on y (halves_of x) ≡ done_on y p.trails) (sym (one_socket k t.socket same)) (ap entries_in all.0 ∙ sym (ap entries_in mine.0))
+        at true same h later = subst (λ y. done_on y (halves_of x) ≡ done_on y p.trails) (sym (same_equal k t.socket same)) (ap entries_in all.0 ∙ sym (ap entries_in mine.0))
         at false differ h later = later h
 
     journal-got : (k : SocketId) → HasRead (journal_of p.journal) k →
@@ -297,7 +285,7 @@ module _ (x : BothNow) (told : AreTold x) where
         by_socket : (b : Bool) → same_socket k t.socket ≡ b → 0 + total (read_by k) (strand_of t).items ≤ length (bytes_at k (has_opened (strand_of t) k) all_ends).got
         by_socket false differ = absurd (omega (arith, read, items_count (read_by k) t.socket refl t.judged_after 0 t.entries, none_there k t.socket t.entries differ half.entries))
         by_socket true same =
-            let here : k ≡ t.socket = one_socket k t.socket same in
+            let here : k ≡ t.socket = same_equal k t.socket same in
             let count = items_count (read_by k) t.socket refl t.judged_after 0 t.entries in
             let done : total (read_by k) (map Noted (done_on k p.trails)) ≡ total (read_by k) (map Noted t.entries) =
             ap (λ y. total (read_by k) (map Noted (done_on y p.trails))) here ∙ ap (λ o. total (read_by k) (map Noted (entries_in o))) own in
@@ -342,7 +330,7 @@ module _ (x : BothNow) (told : AreTold x) where
       by_socket false differ =
           absurd (omega (arith, read, items_count (read_by k) l.trail.socket refl (loose_one a b l).judged_after 0 l.trail.entries, none_there k l.trail.socket l.trail.entries differ half.entries))
       by_socket true same =
-          let here : k ≡ l.trail.socket = one_socket k l.trail.socket same in
+          let here : k ≡ l.trail.socket = same_equal k l.trail.socket same in
           let bytes : (bytes_at k (has_opened (strand_of (loose_one a b l)) k) all_ends).got ≡ l.end.log.got =
           ap (λ o. (bytes_at k o all_ends).got) (never_opens (loose_one a b l) k half) ∙ ap (λ y. (bytes_at y false all_ends).got) (here ∙ whole.socket)
           ∙ ap (λ (b : BytesNow). b.got) (found-end (half_end l) all_ends told.apart there) in
@@ -384,13 +372,13 @@ module _ (x : BothNow) (told : AreTold x) where
   Own t = half_on t.socket (halves_of x) ≡ Some t
 
   taken-own : AllByRecursion Own (x.a.trails ++ x.b.trails)
-  taken-own = all_left Own (x.a.trails ++ x.b.trails) loose_of own-all
+  taken-own = all_front Own (x.a.trails ++ x.b.trails) loose_of own-all
 
   taken-halves : AllByRecursion IsHalf (x.a.trails ++ x.b.trails)
-  taken-halves = all_left IsHalf (x.a.trails ++ x.b.trails) loose_of told.halves.each
+  taken-halves = all_front IsHalf (x.a.trails ++ x.b.trails) loose_of told.halves.each
 
   loose-is : AllByRecursion IsHalf loose_of
-  loose-is = all_right IsHalf (x.a.trails ++ x.b.trails) loose_of told.halves.each
+  loose-is = all_back IsHalf (x.a.trails ++ x.b.trails) loose_of told.halves.each
 
   apart-taken : IsDistinct same_socket (map (λ (t : TrailNow). t.socket) (x.a.trails ++ x.b.trails))
   apart-taken = distinct-first (x.a.trails ++ x.b.trails) loose_of told.halves.apart
@@ -398,12 +386,12 @@ module _ (x : BothNow) (told : AreTold x) where
   near-got : AllByRecursion IsGot (strands_of_side x.a.journal x.a.trails)
   near-got =
       side_got x.a told.near told.near_side (λ e h. of_left e (near_ends ++ far_ends) loose_ones (of_left e near_ends far_ends h))
-      (all_left Own x.a.trails x.b.trails taken-own) (own_half x.a.trails (distinct-first x.a.trails x.b.trails apart-taken)) (all_left IsHalf x.a.trails x.b.trails taken-halves)
+      (all_front Own x.a.trails x.b.trails taken-own) (own_half x.a.trails (distinct-first x.a.trails x.b.trails apart-taken)) (all_front IsHalf x.a.trails x.b.trails taken-halves)
 
   far-got : AllByRecursion IsGot (strands_of_side x.b.journal x.b.trails)
   far-got =
       side_got x.b told.far told.far_side (λ e h. of_left e (near_ends ++ far_ends) loose_ones (of_right e near_ends far_ends h))
-      (all_right Own x.a.trails x.b.trails taken-own) (own_half x.b.trails (distinct-last x.a.trails x.b.trails apart-taken)) (all_right IsHalf x.a.trails x.b.trails taken-halves)
+      (all_back Own x.a.trails x.b.trails taken-own) (own_half x.b.trails (distinct-last x.a.trails x.b.trails apart-taken)) (all_back IsHalf x.a.trails x.b.trails taken-halves)
 
   all-got : AllByRecursion IsGot (strands_of x)
   all-got =
@@ -424,8 +412,8 @@ module _ (x : BothNow) (told : AreTold x) where
   have_written e =
       let near_strands = strands_of_side x.a.journal x.a.trails in
       let far_strands = strands_of_side x.b.journal x.b.trails in
-      let near = side-wrote x.a told.near told.near_side (all_left IsHalf x.a.trails x.b.trails taken-halves) e.socket e.opener in
-      let far = side-wrote x.b told.far told.far_side (all_right IsHalf x.a.trails x.b.trails taken-halves) e.socket e.opener in
+      let near = side-wrote x.a told.near told.near_side (all_front IsHalf x.a.trails x.b.trails taken-halves) e.socket e.opener in
+      let far = side-wrote x.b told.far told.far_side (all_back IsHalf x.a.trails x.b.trails taken-halves) e.socket e.opener in
       let loose = loose-wrote x.a.journal x.b.journal x.loose told.whole loose-is e.socket e.opener in
       let sums = wrote_both e (near_strands ++ far_strands) (loose_strands x.a.journal x.b.journal x.loose) in
       let taken = wrote_both e near_strands far_strands in

@@ -19,6 +19,7 @@ use Rattle.m2_growth.specs.Halves.{AskedOnMade, AskedTowards, HasItsHalves, IsHe
 use Rattle.m2_growth.specs.Holding.{AreOwn, HaveTheirHalves, Holding, LeadsElsewhere, ends_held}
 use Rattle.m2_growth.specs.Records.{IsFed, ends_of_all}
 use Rattle.m2_links_go_on.specs.ClusterTold.{AreToCome, OneByOne, SameHalf, SameHalves, SameRecord}
+use Rattle.m2_lemmas.proofs.Options.{mapped_is_some}
 
 -- ---- lists
 
@@ -58,10 +59,6 @@ module _ {X : Type 0} where
   map_same f g so (x ∷ xs) = ap (λ y. y ∷ map g (map f xs)) (so x) ∙ ap (λ l. g x ∷ l) (map_same f g so xs)
 
 -- ---- ends
-
-pub mapped_some : {T U : Type 0} (f : T → U) (o : Option T) → is_some (option_map f o) ≡ is_some o
-mapped_some f (Some x) = refl
-mapped_some f None = refl
 
 pub ends_untold : (r : RecordNow) → ends_of (untold_record r) ≡ map untold (ends_of r)
 ends_untold r = at r.core.live.feed
@@ -156,7 +153,7 @@ module _ (h : Holding) where
   IsHere l = goes_to h.port.at l.end.id ≡ true
 
   fed_same : (r : RecordNow) → is_some (option_map untold_feed r.core.live.feed) ≡ is_some r.core.live.feed
-  fed_same r = mapped_some untold_feed r.core.live.feed
+  fed_same r = mapped_is_some untold_feed r.core.live.feed
 
   pub bare_owns : OwnsHeld h → OwnsHeld bare
   bare_owns o = record {

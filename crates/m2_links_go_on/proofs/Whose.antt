@@ -6,7 +6,6 @@ use Rattle.std.specs.List.{AllByRecursion, IsDistinct}
 use Rattle.std.proofs.lemmas.List.{map-append}
 use Rattle.m2_fabric.specs.declared.socket.SocketId.{SocketId}
 use Rattle.m2_fabric.specs.Sockets.{same_socket}
-use Rattle.m2_history.proofs.Tidiness.{all_append}
 use Rattle.m2_history.specs.HalfStrands.{strand_of}
 use Rattle.m2_history.specs.Woven.{BothNow, strands_of}
 use Rattle.m2_journal.specs.declared.entry.Entry.{Entry}
@@ -17,7 +16,8 @@ use Rattle.m2_weave.specs.Later.{GoesOn, IsLater, StrandGoesOn}
 use Rattle.m2_weave.specs.Rule.{Woven, nothing_at_all, strand_at}
 use Rattle.m2_weave.specs.Stops.{or_else}
 use Rattle.m2_weave.specs.Strands.{EndOf, StrandNow, journal_of}
-use Rattle.m2_weave.proofs.SameSocket.{one_socket, same_refl}
+use Rattle.m2_fabric.proofs.Sockets.{apart_turned, same_equal, same_refl}
+use Rattle.m2_lemmas.proofs.Lists.{all_append}
 
 -- ---- who acts
 
@@ -46,7 +46,7 @@ who-same far far e = refl
 who-same far (half k) e = absurd cc
 who-same (half j) near e = absurd cc
 who-same (half j) far e = absurd cc
-who-same (half j) (half k) e = ap half (one_socket j k e)
+who-same (half j) (half k) e = ap half (same_equal j k e)
 
 who-refl : (a : Who) → same_who a a ≡ true
 who-refl near = refl
@@ -257,13 +257,6 @@ look_far x =
 
 -- ---- no one twice among them
 
-pub turned : (a b : SocketId) → same_socket a b ≡ false → same_socket b a ≡ false
-turned a b e = at (same_socket b a) refl
-  where
-    at : (c : Bool) → same_socket b a ≡ c → same_socket b a ≡ false
-    at false is = is
-    at true is = let yes : same_socket a b ≡ true = subst (λ x. same_socket a x ≡ true) (sym (one_socket b a is)) (same_refl a) in absurd cc
-
 all-halves : (P : Told → Type 0) → ((t : TrailNow) → P (told_half t)) → (ts : List TrailNow) → AllByRecursion P (map told_half ts)
 all-halves P h [] = tt
 all-halves P h (t ∷ ts) = (h t, all-halves P h ts)
@@ -271,7 +264,7 @@ all-halves P h (t ∷ ts) = (h t, all-halves P h ts)
 others : (k : SocketId) (ts : List TrailNow) → AllByRecursion (λ (x : SocketId). same_socket k x ≡ false) (map (λ (t : TrailNow). t.socket) ts) →
     AllByRecursion (λ (x : Told). same_who x.who (half k) ≡ false) (map told_half ts)
 others k [] all = tt
-others k (t ∷ ts) all = (turned k t.socket all.0, others k ts all.1)
+others k (t ∷ ts) all = (apart_turned k t.socket all.0, others k ts all.1)
 
 halves-apart : (ts : List TrailNow) → IsDistinct same_socket (map (λ (t : TrailNow). t.socket) ts) → AreApart (map told_half ts)
 unfolding IsDistinct

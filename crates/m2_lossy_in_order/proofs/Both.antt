@@ -12,12 +12,14 @@ use Rattle.m2_journal.specs.SideFacts.{SideFacts}
 use Rattle.m2_journal.specs.State.{SentFrame}
 use Rattle.m2_message.specs.Message.{Content}
 use Rattle.m2_never_reset.specs.Frames.{answers_on}
-use Rattle.m2_never_reset.proofs.Sockets.{differ, same_equal, taken_is_judged}
+use Rattle.m2_never_reset.proofs.Sockets.{taken_is_judged}
 use Rattle.m2_session.specs.declared.session.Phase.TheVariants as phase
 use Rattle.m2_lossy_in_order.proofs.Frames.{mails_on, mails_same, mails_elsewhere, messages_on, plain, accepted_not_mute, mute_no_mails}
 use Rattle.m2_lossy_in_order.proofs.Moves.{Spot, View, Move, rests, posts, opens, leaves, gives_up, refuses, takes_on, asks, settles, numbers, accepts, moved, May, IfSpot, judgement, on_socket, sent_on}
 use Rattle.m2_lossy_in_order.proofs.Readers.{IsFresh, Reads, reads_after, reads_more}
-use Rattle.m2_lossy_in_order.proofs.Sides.{SideIs, StandsIn, fewer, judged_in, side_after, taken_more, taken_same}
+use Rattle.m2_lossy_in_order.proofs.Sides.{SideIs, StandsIn, judged_in, side_after, taken_more, taken_same}
+use Rattle.m2_fabric.proofs.Sockets.{not_among_none, same_equal, not_among_front}
+use Rattle.m2_lemmas.proofs.Booleans.{from_false_true}
 
 -- ---- what was sent goes on
 
@@ -82,9 +84,6 @@ abbrev pub HasHeard : Move → View → List SentFrame → Type 0
 HasHeard (settles c) v sent = IfSpot v.feed (λ p. HasAcceptance p.socket sent)
 HasHeard m v sent = Unit {0}
 
-none_opened : (k : SocketId) (xs : List SocketId) → xs ≡ [] → is_among k xs ≡ false
-none_opened k xs e = rw e refl
-
 no_more_of : {X : Type 0} (xs : List X) (x : X) → xs ++ x ∷ [] ≡ [] → ⊥
 no_more_of [] x e = cc
 no_more_of (y ∷ ys) x e = cc
@@ -100,13 +99,13 @@ module _ (f g : SideFacts) (c s : View) (h : Both f g c s) where
   accepted_taken : (k : SocketId) → HasAcceptance k s.sent → is_among k (taken_among s.judgements) ≡ true
   accepted_taken k a =
       true_from_ne_false (is_among k (taken_among s.judgements))
-      (λ e. accepted_not_mute a.place a.cookie a.global (answers_on k s.sent) a.more a.first (h.server.frames.mute k (none_opened k s.opened h.opened) e))
+      (λ e. accepted_not_mute a.place a.cookie a.global (answers_on k s.sent) a.more a.first (h.server.frames.mute k (not_among_none k s.opened h.opened) e))
 
   -- the client opens a socket: the server has composed nothing there
   opens_fresh : (k : SocketId) → is_among k c.opened ≡ false → ((j : SocketId) → is_among j (judged_in s.judgements) ≡ true → is_among j c.opened ≡ true) → messages_on k s.sent ≡ []
   opens_fresh k e judged =
-      ap (map plain) (mute_no_mails (answers_on k s.sent) (h.server.frames.mute k (none_opened k s.opened h.opened)
-      (false_from_ne_true (is_among k (taken_among s.judgements)) (λ t. differ (sym e ∙ judged k (taken_is_judged s.judgements k t))))))
+      ap (map plain) (mute_no_mails (answers_on k s.sent) (h.server.frames.mute k (not_among_none k s.opened h.opened)
+      (false_from_ne_true (is_among k (taken_among s.judgements)) (λ t. from_false_true (sym e ∙ judged k (taken_is_judged s.judgements k t))))))
 
   -- ---- the client moves
 
@@ -141,7 +140,7 @@ module _ (f g : SideFacts) (c s : View) (h : Both f g c s) where
       at None a = tt
       at (Some p) a =
           λ r. false_from_ne_true (same_socket k p.socket)
-          (λ q. differ (sym (subst (λ z. is_among z (taken_among s.judgements) ≡ false) (same_equal k p.socket q) e) ∙ accepted_taken p.socket a))
+          (λ q. from_false_true (sym (subst (λ z. is_among z (taken_among s.judgements) ≡ false) (same_equal k p.socket q) e) ∙ accepted_taken p.socket a))
 
   met_numbering : (n : ℕ) (m : Content) → May f s.sent (numbers n m) c → AreMet (moved (numbers n m) c) s
   met_numbering n m may k e = at c.feed (subst (λ p. StandsIn c p c.feed) may.phase h.client.stands) (h.met k e).0 (h.met k e).1
@@ -194,7 +193,7 @@ module _ (f g : SideFacts) (c s : View) (h : Both f g c s) where
   server_met : (m : Move) → May g c.sent m s → AreMet c (moved m s)
   server_met (refuses k ws item) may = λ j e. h.met j (subst (λ l. is_among j l ≡ false) (taken_same s.judgements (judgement k item) may.refused) e)
   server_met (takes_on k cookie global item) may =
-      λ j e. h.met j (fewer j (taken_among s.judgements) (k ∷ []) (subst (λ l. is_among j l ≡ false) (taken_more s.judgements (judgement k item) may.taken) e))
+      λ j e. h.met j (not_among_front j (taken_among s.judgements) (k ∷ []) (subst (λ l. is_among j l ≡ false) (taken_more s.judgements (judgement k item) may.taken) e))
   server_met rests may = h.met
   server_met (posts m) may = h.met
   server_met (opens k) may = h.met

@@ -18,16 +18,15 @@ use Rattle.m2_bytes_fit.specs.Texts.{KeepsFields}
 use Rattle.m2_bytes_fit.proofs.Bounded.{RestIsBounded, IsUnasked}
 use Rattle.m2_bytes_fit.proofs.Composed.{AreComposed, IsComposed, unasked_so}
 use Rattle.m2_bytes_fit.proofs.Formats.{client_ident_keeps, numbered_keeps, reset_keeps, server_ident_keeps}
-use Rattle.m2_bytes_fit.proofs.Lists.{all-both}
 use Rattle.m2_journal.specs.declared.entry.JudgedItem.{JudgedItem}
 use Rattle.m2_journal.specs.Feeds.{answer_said, hears, narrowed, finished, next_place, next_said, opened_feed, said_at, texts_at}
 use Rattle.m2_journal.specs.Items as item
 use Rattle.m2_journal.specs.Items.{JournalItem}
 use Rattle.m2_journal.specs.Lawful as lawful
-use Rattle.m2_journal.specs.Lawful.{IsNext, IsPost, Lawful, OnFeedAt, GoesOn, MayAsk, MayAcknowledge, MayObey, judged_on, key_of, may_ask_again}
+use Rattle.m2_journal.specs.Lawful.{IsNext, IsPost, Lawful, OnFeedAt, MayAsk, MayAcknowledge, MayObey, judged_on, may_ask_again}
 use Rattle.m2_journal.specs.Laws.{IfFed, SessionIsSound, taken_among}
 use Rattle.m2_journal.specs.OutFrames as out
-use Rattle.m2_journal.specs.OutFrames.{OutFrame, is_unnamed, replies_of}
+use Rattle.m2_journal.specs.OutFrames.{OutFrame, is_unnamed}
 use Rattle.m2_journal.specs.Plan.{Planned, to_post, to_dial, to_go_down}
 use Rattle.m2_journal.specs.Said.{Said, says, brings, aborts, garbles}
 use Rattle.m2_journal.specs.SideFacts.{SideFacts, cookie_of}
@@ -41,7 +40,6 @@ use Rattle.m2_never_reset.specs.Orders.{posted_in}
 use Rattle.m2_never_reset.proofs.Answered.{IsNext as IsNextThere, next_of}
 use Rattle.m2_never_reset.proofs.Feeds.{hears_hears, opened_hears}
 use Rattle.m2_never_reset.proofs.Read.{by_answer}
-use Rattle.m2_never_reset.proofs.Sockets.{differ}
 use Rattle.m2_policy.specs.declared.path.Key.{Key}
 use Rattle.m2_queues.specs.QueueLaws.{Next}
 use Rattle.m2_queues.specs.OutQueues.{Queue, after_next, message_at, next_number}
@@ -59,6 +57,9 @@ use Rattle.m2_lossy_in_order.proofs.Moves.{Spot, View, Move, rests, posts, opens
 use Rattle.m2_lossy_in_order.proofs.Frames.{IsMute}
 use Rattle.m2_lossy_in_order.proofs.Named.{AreNamed, NamedKept, put_named}
 use Rattle.m2_lossy_in_order.proofs.Sides.{IsPlain, SideIs, StandsIn}
+use Rattle.m2_journal.proofs.Sockets.{no_more_asks}
+use Rattle.m2_lemmas.proofs.Lists.{all_append}
+use Rattle.m2_lemmas.proofs.Booleans.{from_false_true}
 
 -- ---- what is known of a side, and what is shown of its entry
 
@@ -116,22 +117,6 @@ letter_handed (state.remote_reset ∷ ds) n key m = letter_handed ds n key m
 
 no_cookie : (f : SideFacts) (n : ℕ) → f.policy.lossy ≡ true → cookie_of f n < 2 ^ 64
 no_cookie f n e = rw e (omega arith)
-
--- no answer is both
-not_both : (a : Answer) → session.takes a ≡ true → may_ask_again a ≡ true → ⊥
-not_both answer.Accept t e = differ e
-not_both answer.AcceptOver t e = differ e
-not_both (answer.AcceptReset full) t e = differ e
-not_both answer.AcceptAgain t e = differ e
-not_both answer.AcceptReplace t e = differ e
-not_both answer.AcceptRace t e = differ e
-not_both answer.Resume t e = differ e
-not_both answer.Close t e = differ t
-not_both answer.Wait t e = differ t
-not_both (answer.Reset full) t e = differ t
-not_both answer.ResetPending t e = differ t
-not_both (answer.RetryGlobal n) t e = differ t
-not_both (answer.Retry n) t e = differ t
 
 on_it : (f : SideFacts) (k : SocketId) (ws : List OutFrame) → AllByRecursion (IsComposed f) ws → AreComposed f (on_socket k ws)
 on_it f k [] h = tt
@@ -212,15 +197,15 @@ module _ (f : SideFacts) (s : State) (theirs : List SentFrame) (h : IsLossySide 
   away : (p : Phase) (o : Option Spot) (x : Bool) → StandsIn v p o → ((phases.is_among p at_rest && x) || phases.is p phase.Wait) ≡ true → IsAway p
   away phase.Absent o x st e = tt
   away phase.Wait o x st e = tt
-  away phase.Connecting o x st e = differ e
-  away phase.IdentSent o x st e = differ e
-  away phase.ReconnectSent o x st e = differ e
-  away phase.Ready o x st e = differ e
+  away phase.Connecting o x st e = from_false_true e
+  away phase.IdentSent o x st e = from_false_true e
+  away phase.ReconnectSent o x st e = from_false_true e
+  away phase.Ready o x st e = from_false_true e
   away phase.Standby o x st e = absurd st
 
   not_server : (b : Bool) → not b ≡ true → b ≡ false
   not_server false e = refl
-  not_server true e = differ e
+  not_server true e = from_false_true e
 
   opens_move : (k : SocketId) → Lawful f (item.opened k) s → IsMoveOf f theirs (item.opened k) s
   opens_move k l =
@@ -371,7 +356,7 @@ module _ (f : SideFacts) (s : State) (theirs : List SentFrame) (h : IsLossySide 
     where
       at : (a b : Bool) → same_socket k j.socket ≡ a → session.takes j.item.answer ≡ b → AllByRecursion (λ (i : JudgedItem). may_ask_again i.answer ≡ true) (judged_on k (j ∷ js)) →
           (AllByRecursion (λ (i : JudgedItem). may_ask_again i.answer ≡ true) (judged_on k js) → is_among k (taken_among js) ≡ false) → is_among k (taken_among (j ∷ js)) ≡ false
-      at true true e g again later = let both = rw e at again in absurd (not_both j.item.answer g both.0)
+      at true true e g again later = let both = rw e at again in absurd (no_more_asks j.item.answer g both.0)
       at true false e g again later = let both = rw e at again in rw g (later both.1)
       at false true e g again later = let more = rw e at again in rw (g, e) (later more)
       at false false e g again later = let more = rw e at again in rw g (later more)
@@ -387,7 +372,7 @@ module _ (f : SideFacts) (s : State) (theirs : List SentFrame) (h : IsLossySide 
     may = record { not_opened = not_opened; mute = mute; refused = refused };
     posted = refl;
     got = tt;
-    composed = subst (AreComposed f) (sym sent) (all-both (λ x. IsComposed f x.frame) s.sent (on_socket k ws) h.composed (on_it f k ws new));
+    composed = subst (AreComposed f) (sym sent) (all_append (λ x. IsComposed f x.frame) s.sent (on_socket k ws) h.composed (on_it f k ws new));
   }
 
   module _ (k : SocketId) (ask₀ : AskFacts) (number : ℕ) (unread : List ℕ) (trail : List JudgedItem) (not_opened : is_among k s.opened ≡ false)
@@ -411,7 +396,7 @@ module _ (f : SideFacts) (s : State) (theirs : List SentFrame) (h : IsLossySide 
       may = record { not_opened = not_opened; not_taken = not_taken_yet k s.judgements again; taken = taken };
       posted = refl;
       got = tt;
-      composed = subst (AreComposed f) (sym (sent s.feed)) (all-both (λ x. IsComposed f x.frame) s.sent _ h.composed (new_ident, tt));
+      composed = subst (AreComposed f) (sym (sent s.feed)) (all_append (λ x. IsComposed f x.frame) s.sent _ h.composed (new_ident, tt));
     }
 
     accepted_view : (o : Option Feed) → view (after f (item.judged k identifying number answer.Accept unread trail) (record s { feed = o })) ≡ moved (takes_on k (cookie_of f number) number (record { ask = identifying; answer = answer.Accept })) (view (record s { feed = o }))
@@ -489,9 +474,9 @@ module _ (f : SideFacts) (s : State) (theirs : List SentFrame) (h : IsLossySide 
             may = g.phase;
             posted = refl;
             got = tt;
-            composed = all-both (λ x. IsComposed f x.frame) s.sent _ h.composed (new g.unused.to, tt);
+            composed = all_append (λ x. IsComposed f x.frame) s.sent _ h.composed (new g.unused.to, tt);
           })
-      by_kind false d e g = differ (g.of_kind ∙ eq-eqb s.session.server_cookie 0 (unkept s.session.phase (spot_of s.feed) g.phase h.side.stands))
+      by_kind false d e g = from_false_true (g.of_kind ∙ eq-eqb s.session.server_cookie 0 (unkept s.session.phase (spot_of s.feed) g.phase h.side.stands))
 
       at : (o : Option Feed) → s.feed ≡ o → OnFeedAt o (MayAsk s ident number) → IsMoveTo f theirs (item.asked ident number) s (after f (item.asked ident number) s)
       at None e g = absurd g
@@ -553,7 +538,7 @@ module _ (f : SideFacts) (s : State) (theirs : List SentFrame) (h : IsLossySide 
             may = k.may;
             posted = refl;
             got = tt;
-            composed = subst (AreComposed f) (sym k.sent) (all-both (λ x. IsComposed f x.frame) s.sent (sent_on (spot_of s.feed) (out.message n s.last k.message)) h.composed (on_feed_sent (spot_of s.feed) (out.message n s.last k.message) k.composed));
+            composed = subst (AreComposed f) (sym k.sent) (all_append (λ x. IsComposed f x.frame) s.sent (sent_on (spot_of s.feed) (out.message n s.last k.message)) h.composed (on_feed_sent (spot_of s.feed) (out.message n s.last k.message) k.composed));
           }
         where
           on_feed_sent : (o : Option Spot) (w : OutFrame) → IsComposed f w → AreComposed f (sent_on o w)

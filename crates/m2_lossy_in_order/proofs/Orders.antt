@@ -2,17 +2,14 @@
 use Rattle.std.proofs.Common.{◌≡◌, ℕ, ◌⊎◌, inl, inr, Bool, true, false, not, ◌&&◌, ◌||◌, ◌==◌, if◌then◌else◌, List, [], ◌∷◌, ◌++◌, map, refl, sym, ap, ◌∙◌, subst, arith, append_assoc, append-nil}
 use Rattle.std.specs.List.{AllByRecursion, filter}
 use Rattle.std.proofs.lemmas.Bool.{and_parts, or_cases}
-use Rattle.std.proofs.lemmas.Grind.{flat_map-append}
 use Rattle.m2_channel.specs.Channel as channel
 use Rattle.m2_channel.specs.Channel.{KeyedMessage}
 use Rattle.m2_channel.specs.Observed.{handed}
-use Rattle.m2_channel.proofs.Orders.{near-append, far-append}
-use Rattle.m2_dispatch.specs.Heard.{is_key, is_path}
+use Rattle.m2_dispatch.specs.Heard.{is_key}
 use Rattle.m2_dispatch.specs.Laws.{IsSublist}
-use Rattle.m2_bytes_fit.specs.Orders.{OrderEntry, near_entry, far_entry, near_half, far_half, entry_in, entries_of, near_side, far_side}
+use Rattle.m2_bytes_fit.specs.Orders.{OrderEntry, near_entry, far_entry, near_half, far_half, entries_of, near_side, far_side}
 use Rattle.m2_bytes_fit.specs.Texts.{CanBePosted}
-use Rattle.m2_bytes_fit.proofs.Lists.{all-front, all-back}
-use Rattle.m2_bytes_fit.proofs.Orders.{lawful-front}
+use Rattle.m2_bytes_fit.proofs.Orders.{entries-append}
 use Rattle.m2_bytes_fit.specs.Halves.{BytesFit}
 use Rattle.m2_journal.specs.Items.{JournalItem}
 use Rattle.m2_journal.specs.Lawful.{key_of}
@@ -22,8 +19,8 @@ use Rattle.m2_journal.specs.SideFacts.{SideFacts}
 use Rattle.m2_journal.specs.State.{SentFrame, State, start}
 use Rattle.m2_message.specs.Message.{Content, priority_of, unnumbered}
 use Rattle.m2_never_reset.specs.Orders as orders
-use Rattle.m2_never_reset.specs.Orders.{SideItem, near_item, far_item, near_items, far_items, near_after, far_after, posts_in}
-use Rattle.m2_never_reset.proofs.Sockets.{by_either, differ}
+use Rattle.m2_never_reset.specs.Orders.{near_items, far_items, posts_in}
+use Rattle.m2_never_reset.proofs.Sockets.{by_either}
 use Rattle.m2_policy.specs.declared.path.Key.{Key}
 use Rattle.m2_policy.specs.declared.policy.Policy.{Policy}
 use Rattle.m2_policy.specs.Policy as policy
@@ -33,19 +30,26 @@ use Rattle.m2_lossy_in_order.specs.Lossy.{BothComeOver, ComeOver, IsByteOrder, L
 use Rattle.m2_lossy_in_order.proofs.Both.{Both}
 use Rattle.m2_lossy_in_order.proofs.Frames.{Mail, messages_in, mails_in, plain}
 use Rattle.m2_lossy_in_order.proofs.Moves.{view}
-use Rattle.m2_lossy_in_order.proofs.Points.{AreNamed, AreTwo, OneKept, PointKept, bytes_turned, one_more, point_turned, side_at, state_at}
+use Rattle.m2_lossy_in_order.proofs.Points.{AreNamed, AreTwo, OneKept, PointKept, one_more, point_turned, side_at, state_at}
 use Rattle.m2_lossy_in_order.proofs.Posted.{IsPosted, composed}
 use Rattle.m2_lossy_in_order.proofs.Readers.{Reads, contents, reads_some}
 use Rattle.m2_lossy_in_order.proofs.Sides.{SideIs}
-use Rattle.m2_lossy_in_order.proofs.Sublists.{some_front, some_mapped, some_of_some, some_passing}
+use Rattle.m2_lossy_in_order.proofs.Sublists.{some_front, some_of_some, some_passing}
+use Rattle.m2_lemmas.proofs.Lists.{finer_filter, all_front, all_back}
+use Rattle.m2_never_reset.proofs.Posted.{has_priority}
+use Rattle.m2_never_reset.proofs.Sided.{near_append, far_append}
+use Rattle.m2_journal.proofs.JudgedOn.{lawful_front}
+use Rattle.m2_lemmas.proofs.Booleans.{from_false_true}
+use Rattle.m2_bytes_fit.proofs.Points.{bytes_turn}
+use Rattle.m2_channel.proofs.Handing.{some_of_map}
 
 -- ---- the two policies
 
 same_is : (a b : Bool) → same a b ≡ true → a ≡ b
 same_is true true e = refl
 same_is false false e = refl
-same_is true false e = differ e
-same_is false true e = differ e
+same_is true false e = from_false_true e
+same_is false true e = from_false_true e
 
 record AreSame (p q : Policy) : Type 0 where
   lossy : p.lossy ≡ q.lossy
@@ -68,8 +72,8 @@ record AreOfLossy (p q : Policy) : Type 0 where
   server : q.server ≡ true
 
 lossless_apart : {X : Type 0} (p q : Policy) → p.lossy ≡ false → q.lossy ≡ false → (p.lossy ≡ true) ⊎ (q.lossy ≡ true) → X
-lossless_apart p q e g (inl h) = differ (sym e ∙ h)
-lossless_apart p q e g (inr h) = differ (sym g ∙ h)
+lossless_apart p q e g (inl h) = from_false_true (sym e ∙ h)
+lossless_apart p q e g (inr h) = from_false_true (sym g ∙ h)
 
 pair_is : (p q : Policy) → is_pair p q ≡ true → (p.lossy ≡ true) ⊎ (q.lossy ≡ true) → AreOfLossy p q
 pair_is p q e lossy =
@@ -129,9 +133,6 @@ starts_both f g near far = record {
 
 -- ---- every point
 
-entries-append : (xs ys : List OrderEntry) → entries_of (xs ++ ys) ≡ entries_of xs ++ entries_of ys
-entries-append xs ys = flat_map-append entry_in xs ys
-
 named_turned : (f g : SideFacts) → AreNamed f g → AreNamed g f
 named_turned f g n = record { near_lossy = n.far_lossy; far_lossy = n.near_lossy; near = n.far; far = n.near }
 
@@ -146,10 +147,10 @@ module _ (sound : ReplaysAreSound) (f g : SideFacts) (n : AreNamed f g) (order :
   fars front = far_items (entries_of front)
 
   near_more : (front more : List OrderEntry) → nears (front ++ more) ≡ nears front ++ nears more
-  near_more front more = ap near_items (entries-append front more) ∙ near-append (entries_of front) (entries_of more)
+  near_more front more = ap near_items (entries-append front more) ∙ near_append (entries_of front) (entries_of more)
 
   far_more : (front more : List OrderEntry) → fars (front ++ more) ≡ fars front ++ fars more
-  far_more front more = ap far_items (entries-append front more) ∙ far-append (entries_of front) (entries_of more)
+  far_more front more = ap far_items (entries-append front more) ∙ far_append (entries_of front) (entries_of more)
 
   step : (front back : List OrderEntry) (m : OrderEntry) → order ≡ (front ++ m ∷ []) ++ back → PointAt f g front → PointAt f g (front ++ m ∷ [])
   step front back (near_entry i) e old =
@@ -157,8 +158,8 @@ module _ (sound : ReplaysAreSound) (f g : SideFacts) (n : AreNamed f g) (order :
       (one_more sound f g n (nears front) (fars front) i _ _ _ _ old
       (h.bytes front (near_entry i ∷ back) (e ∙ append_assoc front (near_entry i ∷ []) back))
       (subst₂ (λ xs ys. BytesFit (side_at f xs (near_side f now).halves) (side_at g ys (far_side g now).halves)) near far (h.bytes now back e))
-      (lawful-front f (nears front ++ i ∷ []) (nears back) (start f) (subst (λ xs. AreLawful f xs (start f)) whole h.near_lawful)).0
-      (all-back CanBePosted (nears front) (i ∷ []) (all-front CanBePosted (nears front ++ i ∷ []) (nears back) (subst (AllByRecursion CanBePosted) whole h.near_posts))).0)
+      (lawful_front f (nears front ++ i ∷ []) (nears back) (start f) (subst (λ xs. AreLawful f xs (start f)) whole h.near_lawful)).0
+      (all_back CanBePosted (nears front) (i ∷ []) (all_front CanBePosted (nears front ++ i ∷ []) (nears back) (subst (AllByRecursion CanBePosted) whole h.near_posts))).0)
     where
       subst₂ : {X Y : Type 0} (P : X → Y → Type 0) {x x' : X} {y y' : Y} → x ≡ x' → y ≡ y' → P x y → P x' y'
       subst₂ P {x} {x'} {y} {y'} p q k = subst (λ z. P x' z) q (subst (λ z. P z y) p k)
@@ -178,11 +179,11 @@ module _ (sound : ReplaysAreSound) (f g : SideFacts) (n : AreNamed f g) (order :
       subst₂ (PointKept f g) (sym near) (sym far)
       (point_turned g f (fars front ++ i ∷ []) (nears front)
       (one_more sound g f (named_turned f g n) (fars front) (nears front) i _ _ _ _ (point_turned f g (nears front) (fars front) old)
-      (bytes_turned (near_side f front) (far_side g front) (h.bytes front (far_entry i ∷ back) (e ∙ append_assoc front (far_entry i ∷ []) back)))
-      (bytes_turned (side_at f (nears front) (near_side f now).halves) (side_at g (fars front ++ i ∷ []) (far_side g now).halves)
+      (bytes_turn (near_side f front) (far_side g front) (h.bytes front (far_entry i ∷ back) (e ∙ append_assoc front (far_entry i ∷ []) back)))
+      (bytes_turn (side_at f (nears front) (near_side f now).halves) (side_at g (fars front ++ i ∷ []) (far_side g now).halves)
       (subst₂ (λ xs ys. BytesFit (side_at f xs (near_side f now).halves) (side_at g ys (far_side g now).halves)) near far (h.bytes now back e)))
-      (lawful-front g (fars front ++ i ∷ []) (fars back) (start g) (subst (λ xs. AreLawful g xs (start g)) whole h.far_lawful)).0
-      (all-back CanBePosted (fars front) (i ∷ []) (all-front CanBePosted (fars front ++ i ∷ []) (fars back) (subst (AllByRecursion CanBePosted) whole h.far_posts))).0))
+      (lawful_front g (fars front ++ i ∷ []) (fars back) (start g) (subst (λ xs. AreLawful g xs (start g)) whole h.far_lawful)).0
+      (all_back CanBePosted (fars front) (i ∷ []) (all_front CanBePosted (fars front ++ i ∷ []) (fars back) (subst (AllByRecursion CanBePosted) whole h.far_posts))).0))
     where
       subst₂ : {X Y : Type 0} (P : X → Y → Type 0) {x x' : X} {y y' : Y} → x ≡ x' → y ≡ y' → P x y → P x' y'
       subst₂ P {x} {x'} {y} {y'} p q k = subst (λ z. P x' z) q (subst (λ z. P z y) p k)
@@ -209,17 +210,6 @@ module _ (sound : ReplaysAreSound) (f g : SideFacts) (n : AreNamed f g) (order :
 
 -- ---- of each key
 
--- a test that a message passes, and a finer one
-finer : {X : Type 0} (p q : X → Bool) → ((x : X) → p x ≡ true → q x ≡ true) → (xs : List X) → filter p (filter q xs) ≡ filter p xs
-finer p q h [] = refl
-finer p q h (x ∷ xs) = at (q x) (p x) refl refl (finer p q h xs)
-  where
-    at : (b c : Bool) → q x ≡ b → p x ≡ c → filter p (filter q xs) ≡ filter p xs → filter p (filter q (x ∷ xs)) ≡ filter p (x ∷ xs)
-    at true true e g more = rw (e, g) (ap (λ l. x ∷ l) more)
-    at true false e g more = rw (e, g) more
-    at false true e g more = differ (sym e ∙ h x g)
-    at false false e g more = rw (e, g) more
-
 plain_of_key : (f : SideFacts) (key : Key) (ms : List Content) → orders.of_key f key (map unnumbered ms) ≡ map unnumbered (orders.of_key f key ms)
 plain_of_key f key [] = refl
 plain_of_key f key (m ∷ ms) = at (is_key (key_of f m) key) (plain_of_key f key ms)
@@ -228,9 +218,6 @@ plain_of_key f key (m ∷ ms) = at (is_key (key_of f m) key) (plain_of_key f key
         (if b then unnumbered m ∷ orders.of_key f key (map unnumbered ms) else orders.of_key f key (map unnumbered ms)) ≡ map unnumbered (if b then m ∷ orders.of_key f key ms else orders.of_key f key ms)
     at true more = ap (λ l. unnumbered m ∷ l) more
     at false more = more
-
-has_priority : (f : SideFacts) (key : Key) (m : Content) → is_key (key_of f m) key ≡ true → (priority_of m == key.priority) ≡ true
-has_priority f key m h = (and_parts (priority_of m == key.priority) (is_path (key_of f m).path key.path) h).0
 
 -- with the keys of this side
 accepted_keys : (f : SideFacts) (key : Key) (xs : List KeyedMessage) → AllByRecursion (λ (x : KeyedMessage). x.key ≡ key_of f x.message) xs → channel.of_key key xs ≡ orders.of_key f key (contents xs)
@@ -254,8 +241,8 @@ over f a sent waiting posted side reads is key =
     let test : Content → Bool = λ m. is_key (key_of f m) key in
     let of_p : Content → Bool = λ m. priority_of m == p in
     let some : IsSublist (filter test (composed sent)) (filter test posted) =
-    subst (λ l. IsSublist l (filter test posted)) (finer test of_p (has_priority f key) (composed sent))
-    (subst (IsSublist (filter test (of_priority p (composed sent)))) (finer test of_p (has_priority f key) posted)
+    subst (λ l. IsSublist l (filter test posted)) (finer_filter test of_p (has_priority f key) (composed sent))
+    (subst (IsSublist (filter test (of_priority p (composed sent)))) (finer_filter test of_p (has_priority f key) posted)
     (some_passing test (of_priority p (composed sent)) (of_priority p posted) (some_front (of_priority p (composed sent)) (of_priority p waiting) (of_priority p posted) (is p)))) in
     let read : IsSublist (orders.of_key f key (contents (handed a.deliveries))) (map unnumbered (filter test (composed sent))) =
     subst (IsSublist (orders.of_key f key (contents (handed a.deliveries)))) (ap (orders.of_key f key) (plain_all (mails_in sent)) ∙ plain_of_key f key (composed sent))
@@ -263,7 +250,7 @@ over f a sent waiting posted side reads is key =
     subst (λ l. IsSublist l (orders.of_key f key (map unnumbered posted))) (sym (accepted_keys f key (handed a.deliveries) side.keys))
     (subst (IsSublist (orders.of_key f key (contents (handed a.deliveries)))) (sym (plain_of_key f key posted))
     (some_of_some (orders.of_key f key (contents (handed a.deliveries))) (map unnumbered (filter test (composed sent))) (map unnumbered (filter test posted)) read
-    (some_mapped unnumbered (filter test (composed sent)) (filter test posted) some)))
+    (some_of_map unnumbered (filter test (composed sent)) (filter test posted) some)))
 
 come_over : (f g : SideFacts) (a b : State) (posted : List Content) → SideIs f (view a) → Reads (view a) b.sent → IsPosted posted (view b) → ComeOver f g a posted
 come_over f g a b posted side reads is = record {

@@ -1,6 +1,6 @@
 -- At every point of an order of two journals of a lossy link in which bytes fit: what each side has heard are the first frames
 -- that the other has sent there, and what it has accepted is some of what the other has composed.
-use Rattle.std.proofs.Common.{◌≡◌, ℕ, ◌+◌, ◌≤◌, ◌⊎◌, inl, inr, Bool, true, false, if◌then◌else◌, List, [], ◌∷◌, ◌++◌, drop, length, map, Option, Some, None, refl, sym, ap, ◌∙◌, subst, arith, append_assoc, append-nil}
+use Rattle.std.proofs.Common.{◌≡◌, ℕ, ◌+◌, ◌≤◌, ◌⊎◌, inl, inr, Bool, true, false, if◌then◌else◌, List, [], ◌∷◌, ◌++◌, drop, length, map, Option, Some, None, refl, sym, ap, ◌∙◌, subst, arith, append-nil}
 use Rattle.std.specs.List.{AllByRecursion}
 use Rattle.m2_control.specs.declared.control.Control.TheVariants as control
 use Rattle.m2_fabric.specs.declared.socket.SocketId.{SocketId}
@@ -34,18 +34,21 @@ use Rattle.m2_never_reset.specs.PairLaws.{IsNoDown}
 use Rattle.m2_never_reset.specs.Orders.{posted_in, posts_in}
 use Rattle.m2_never_reset.proofs.Answered.{next_of}
 use Rattle.m2_never_reset.proofs.Read.{is_ident}
-use Rattle.m2_never_reset.proofs.Sockets.{differ, at_among}
+use Rattle.m2_never_reset.proofs.Sockets.{at_among}
 use Rattle.m2_session.specs.SessionLaws as session
 use Rattle.m2_session.specs.declared.event.Event.TheVariants as event
 use Rattle.m2_session.specs.declared.session.Phase.{Phase}
 use Rattle.m2_session.specs.declared.session.Phase.TheVariants as phase
-use Rattle.m2_bytes_fit.proofs.Orders.{lawful-front}
 use Rattle.m2_lossy_in_order.proofs.Both.{Both, HasAcceptance, HasHeard, client_moves, server_moves}
 use Rattle.m2_lossy_in_order.proofs.Entries.{HasGotFor, IsLossySide, IsMoveOf, entry_moves}
 use Rattle.m2_lossy_in_order.proofs.Moves.{Spot, View, Move, rests, posts, opens, leaves, gives_up, refuses, takes_on, asks, settles, numbers, accepts, moved, posted_by, May, IfSpot, spot_of, view}
 use Rattle.m2_lossy_in_order.proofs.Named.{NamedKept, named_after}
 use Rattle.m2_lossy_in_order.proofs.Posted.{IsPosted, posted_after}
 use Rattle.m2_lossy_in_order.proofs.Sides.{SideIs, StandsIn, side_after}
+use Rattle.m2_fabric.proofs.Sockets.{not_among_none}
+use Rattle.m2_channel.proofs.Orders.{posts-append}
+use Rattle.m2_lemmas.proofs.Booleans.{from_false_true}
+use Rattle.m2_journal.proofs.JudgedOn.{lawful_front}
 
 -- ---- a side by itself
 
@@ -79,15 +82,6 @@ two_turned f g a b (inr h) = inl h
 pub point_turned : (f g : SideFacts) (is js : List JournalItem) → PointKept f g is js → PointKept g f js is
 point_turned f g is js h = record { near = h.far; far = h.near; both = two_turned f g (state_at f is) (state_at g js) h.both }
 
-pub bytes_turned : (a b : Side) → BytesFit a b → BytesFit b a
-bytes_turned a b h = record {
-  near_got = h.far_got;
-  far_got = h.near_got;
-  strange = λ k p q. let s = h.strange k q p in (s.1, s.0);
-  near_halves = h.far_halves;
-  far_halves = h.near_halves;
-}
-
 near_is : (f g : SideFacts) (a b : State) → AreTwo f g a b → SideIs f (view a)
 near_is f g a b (inl h) = h.1.client
 near_is f g a b (inr h) = h.1.server
@@ -99,8 +93,8 @@ far_is f g a b (inr h) = h.1.client
 -- ---- what a side's feed is
 
 spot_taken : (v : View) (p : Phase) (k : SocketId) (b : Bool) → b ≡ false → StandsIn v p (Some (record { socket = k; opened = b })) → is_among k (taken_among v.judgements) ≡ true
-spot_taken v phase.Connecting k b e h = differ (sym e ∙ h.opened)
-spot_taken v phase.IdentSent k b e h = differ (sym e ∙ h.opened)
+spot_taken v phase.Connecting k b e h = from_false_true (sym e ∙ h.opened)
+spot_taken v phase.IdentSent k b e h = from_false_true (sym e ∙ h.opened)
 spot_taken v phase.Ready k b e h = subst (λ t. is_among k (if t then v.opened else taken_among v.judgements) ≡ true) e h.there
 spot_taken v phase.Absent k b e h = absurd h
 spot_taken v phase.ReconnectSent k b e h = absurd h
@@ -108,8 +102,8 @@ spot_taken v phase.Standby k b e h = absurd h
 spot_taken v phase.Wait k b e h = absurd h
 
 spot_so : (v : View) (p : Phase) (k : SocketId) (b : Bool) → StandsIn v p (Some (record { socket = k; opened = b })) → ((p ≡ phase.Ready) ⊎ (answers_on k v.sent ≡ [])) × (b ≡ false → p ≡ phase.Ready)
-spot_so v phase.Connecting k b h = (inr h.silent, λ e. differ (sym e ∙ h.opened))
-spot_so v phase.IdentSent k b h = (inr h.silent, λ e. differ (sym e ∙ h.opened))
+spot_so v phase.Connecting k b h = (inr h.silent, λ e. from_false_true (sym e ∙ h.opened))
+spot_so v phase.IdentSent k b h = (inr h.silent, λ e. from_false_true (sym e ∙ h.opened))
 spot_so v phase.Ready k b h = (inl refl, λ e. refl)
 spot_so v phase.Absent k b h = absurd h
 spot_so v phase.ReconnectSent k b h = absurd h
@@ -125,7 +119,7 @@ feed_so f s h = at s.feed h.stands
 
 -- a socket that was taken was judged on
 taken_judged : (k : SocketId) (js : List Judgement) → is_among k (taken_among js) ≡ true → 1 ≤ length (judged_on k js)
-taken_judged k [] h = differ h
+taken_judged k [] h = from_false_true h
 taken_judged k (j ∷ js) h = at (same_socket k j.socket) (session.takes j.item.answer) refl refl h (taken_judged k js)
   where
     at : (a b : Bool) → same_socket k j.socket ≡ a → session.takes j.item.answer ≡ b → is_among k (taken_among (j ∷ js)) ≡ true → (is_among k (taken_among js) ≡ true → 1 ≤ length (judged_on k js)) →
@@ -145,20 +139,17 @@ no_ask_behind f g a b h k = at a.feed h.stands
 
 -- ---- what is known at a point
 
-none_opened : (k : SocketId) (xs : List SocketId) → xs ≡ [] → is_among k xs ≡ false
-none_opened k xs e = rw e refl
-
 opened_apart : (f g : SideFacts) (a b : State) → AreTwo f g a b → (k : SocketId) → is_among k a.opened ≡ true → is_among k b.opened ≡ false
-opened_apart f g a b (inl h) k e = none_opened k b.opened h.1.opened
-opened_apart f g a b (inr h) k e = differ (sym (none_opened k a.opened h.1.opened) ∙ e)
+opened_apart f g a b (inl h) k e = not_among_none k b.opened h.1.opened
+opened_apart f g a b (inr h) k e = from_false_true (sym (not_among_none k a.opened h.1.opened) ∙ e)
 
 -- the same by what the sides opened alone
 abbrev OnesOpened : State → State → Type 0
 OnesOpened a b = (a.opened ≡ []) ⊎ (b.opened ≡ [])
 
 ones_apart : (a b : State) → OnesOpened a b → (k : SocketId) → is_among k a.opened ≡ true → is_among k b.opened ≡ false
-ones_apart a b (inl e) k h = differ (sym (none_opened k a.opened e) ∙ h)
-ones_apart a b (inr e) k h = none_opened k b.opened e
+ones_apart a b (inl e) k h = from_false_true (sym (not_among_none k a.opened e) ∙ h)
+ones_apart a b (inr e) k h = not_among_none k b.opened e
 
 abbrev pub side_at : SideFacts → List JournalItem → (SocketId → HalfBytes) → Side
 side_at f is halves = record { facts = f; entries = is; halves = halves }
@@ -184,7 +175,7 @@ two_opened f g a b (inr h) = inl h.1.opened
 -- nothing was judged where nothing was opened
 none_judged : (sockets : List SocketId) (theirs : List SentFrame) (all js : List Judgement) → sockets ≡ [] → AllByRecursion (AreItsAsks sockets theirs all) (map (λ (j : Judgement). j.socket) js) → js ≡ []
 none_judged sockets theirs all [] e h = refl
-none_judged sockets theirs all (j ∷ js) e h = differ (sym (none_opened j.socket sockets e) ∙ h.0.opened)
+none_judged sockets theirs all (j ∷ js) e h = from_false_true (sym (not_among_none j.socket sockets e) ∙ h.0.opened)
 
 -- an acceptance that was got was sent
 got_accepted : (o : Option Feed) (p : Option Spot) (theirs : List SentFrame) → HearsAt o theirs → (c : ℕ) → HasGotFor (settles c) o → spot_of o ≡ p → IfSpot p (λ q. HasAcceptance q.socket theirs)
@@ -214,7 +205,7 @@ heard_for (accepts x) v t theirs e heard got = tt
 
 -- a server opens nothing
 still_unopened : (f : SideFacts) (theirs : List SentFrame) (m : Move) (v : View) → f.policy.server ≡ true → May f theirs m v → v.opened ≡ [] → (moved m v).opened ≡ []
-still_unopened f theirs (opens k) v server may e = differ (sym may.client ∙ server)
+still_unopened f theirs (opens k) v server may e = from_false_true (sym may.client ∙ server)
 still_unopened f theirs rests v server may e = e
 still_unopened f theirs (posts m) v server may e = e
 still_unopened f theirs (leaves p thrown) v server may e = e
@@ -225,10 +216,6 @@ still_unopened f theirs (asks c g) v server may e = e
 still_unopened f theirs (settles c) v server may e = e
 still_unopened f theirs (numbers n m) v server may e = e
 still_unopened f theirs (accepts x) v server may e = e
-
-posts_more : (is js : List JournalItem) → posts_in (is ++ js) ≡ posts_in is ++ posts_in js
-posts_more [] js = refl
-posts_more (i ∷ is) js = ap (λ l. posted_in i ++ l) (posts_more is js) ∙ sym (append_assoc (posted_in i) (posts_in is) (posts_in js))
 
 -- ---- an entry that marks the side down, and any other
 
@@ -296,7 +283,7 @@ module _ (sound : ReplaysAreSound) (f g : SideFacts) (n : AreNamed f g) (is js :
   t = after f i a
 
   l : Lawful f i a
-  l = (lawful-front f is (i ∷ []) (start f) all_lawful).1.0
+  l = (lawful_front f is (i ∷ []) (start f) all_lawful).1.0
 
   known : Known (side_at f is p) (side_at g js q)
   known = known_at f g is js p q n.near n.far h.near.kept h.far.kept h.near.composed h.far.composed (two_opened f g a b h.both) bytes
@@ -337,7 +324,7 @@ module _ (sound : ReplaysAreSound) (f g : SideFacts) (n : AreNamed f g) (is js :
     named = named_after f i a n.near_lossy (unasked_so a.feed b.sent hears) h.near.named;
     composed = move.composed;
     posted =
-        subst (λ ms. IsPosted ms (view t)) (sym (posts_more is (i ∷ []) ∙ ap (λ l. posts_in is ++ l) (append-nil (posted_in i) ∙ move.posted)))
+        subst (λ ms. IsPosted ms (view t)) (sym (posts-append is (i ∷ []) ∙ ap (λ l. posts_in is ++ l) (append-nil (posted_in i) ∙ move.posted)))
         (subst (IsPosted (posts_in is ++ posted_by move.move)) (sym move.is) (posted_after f b.sent (posts_in is) (view a) its.side h.near.posted move.move move.may));
   }
 

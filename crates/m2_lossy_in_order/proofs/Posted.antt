@@ -17,7 +17,8 @@ use Rattle.m2_session.specs.declared.session.Phase.TheVariants as phase
 use Rattle.m2_lossy_in_order.proofs.Frames.{IsMute, Mail, mail_of, mails_in, mute_says_nothing}
 use Rattle.m2_lossy_in_order.proofs.Moves.{Spot, View, Move, rests, posts, opens, leaves, gives_up, refuses, takes_on, asks, settles, numbers, accepts, moved, posted_by, May, on_socket, sent_on}
 use Rattle.m2_lossy_in_order.proofs.Sides.{SideIs, StandsIn}
-use Rattle.m2_lossy_in_order.proofs.Sublists.{some_both, some_front, some_itself}
+use Rattle.m2_lossy_in_order.proofs.Sublists.{some_both, some_front}
+use Rattle.m2_channel.proofs.TwoWays.{some_of_itself}
 
 abbrev pub composed : List SentFrame → List Content
 composed sent = map (λ (m : Mail). m.content) (mails_in sent)
@@ -58,7 +59,7 @@ module _ (f : SideFacts) (theirs : List SentFrame) (posted : List Content) (v : 
       subst (λ l. IsSublist (C ++ l) (of_priority p (posted ++ m ∷ []))) (sym (rank-put_behind priority_of p v.queue.waiting m h.queue.falls))
       (subst (IsSublist (C ++ (W ++ M))) (sym (filter-append (λ (x : Content). priority_of x == p) posted (m ∷ [])))
       (subst (λ l. IsSublist l (of_priority p posted ++ M)) (append_assoc C W M)
-      (some_both (C ++ W) (of_priority p posted) M M (is p) (some_itself M))))
+      (some_both (C ++ W) (of_priority p posted) M M (is p) (some_of_itself M))))
 
   all_thrown : (w : View) → w.sent ≡ v.sent → w.queue.waiting ≡ [] → IsPosted (posted ++ []) w
   all_thrown w e q p =

@@ -1,5 +1,5 @@
 -- What holds of one side of a lossy link, wherever its moves have led.
-use Rattle.std.proofs.Common.{◌≡◌, ℕ, ◌+◌, ◌≤◌, ◌⊎◌, inl, inr, Bool, true, false, if◌then◌else◌, List, [], ◌∷◌, ◌++◌, length, drop, map, Option, Some, None, refl, sym, ap, ◌∙◌, subst, arith, append-nil, append_assoc, length-append}
+use Rattle.std.proofs.Common.{◌≡◌, ℕ, ◌+◌, ◌≤◌, ◌⊎◌, inl, inr, Bool, true, false, if◌then◌else◌, List, [], ◌∷◌, ◌++◌, length, map, Option, Some, None, refl, sym, ap, ◌∙◌, subst, arith, append-nil, append_assoc, length-append}
 use Rattle.std.specs.List.{AllByRecursion, filter, filter_map}
 use Rattle.std.proofs.lemmas.Bool.{false_from_ne_true}
 use Rattle.std.proofs.lemmas.List.{map-append}
@@ -8,7 +8,6 @@ use Rattle.m2_channel.specs.Channel.{KeyedMessage}
 use Rattle.m2_never_reset.specs.Asks.{by_ident}
 use Rattle.m2_fabric.specs.declared.socket.SocketId.{SocketId}
 use Rattle.m2_fabric.specs.Sockets.{is_among, same_socket}
-use Rattle.m2_bytes_fit.proofs.Lists.{all-both}
 use Rattle.m2_journal.specs.declared.entry.JudgedItem.{JudgedItem}
 use Rattle.m2_journal.specs.Lawful.{key_of}
 use Rattle.m2_journal.specs.Laws.{taken_among}
@@ -19,7 +18,7 @@ use Rattle.m2_journal.specs.State.{Judgement, SentFrame}
 use Rattle.m2_message.specs.Message.{Content, priority_of}
 use Rattle.m2_never_reset.specs.Frames.{asks_on, answers_on}
 use Rattle.m2_never_reset.proofs.Sent.{answers_here, answers_same, answers_elsewhere, asks_here, asks_same, asks_elsewhere}
-use Rattle.m2_never_reset.proofs.Sockets.{differ, same_equal, same_refl, among-last, among-more, taken_is_judged}
+use Rattle.m2_never_reset.proofs.Sockets.{taken_is_judged}
 use Rattle.m2_queues.proofs.ByRank.{Falls}
 use Rattle.m2_queues.proofs.Joining.{falls-put_behind}
 use Rattle.m2_queues.specs.OutQueues.{Queue}
@@ -28,6 +27,10 @@ use Rattle.m2_session.specs.declared.session.Phase.{Phase}
 use Rattle.m2_session.specs.declared.session.Phase.TheVariants as phase
 use Rattle.m2_lossy_in_order.proofs.Frames.{AreNumbered, IsMute, mail_of, mails_on, mails_here, mails_elsewhere, mails_same, mute_no_mails, mute_says_nothing, SaysNothing, numbered_more}
 use Rattle.m2_lossy_in_order.proofs.Moves.{Spot, View, Move, rests, posts, opens, leaves, gives_up, refuses, takes_on, asks, settles, numbers, accepts, moved, May, IsAway, LeavesSo, judgement, on_socket, sent_first, thrown_away}
+use Rattle.m2_fabric.proofs.Sockets.{not_among_front, same_equal, same_refl, among_last}
+use Rattle.m2_queues.proofs.Histories.{falls-rest}
+use Rattle.m2_lemmas.proofs.Lists.{all_append}
+use Rattle.m2_lemmas.proofs.Booleans.{from_false_true}
 
 -- ---- sockets
 
@@ -35,10 +38,7 @@ abbrev pub judged_in : List Judgement → List SocketId
 judged_in js = map (λ (j : Judgement). j.socket) js
 
 pub not_same : (k j : SocketId) (xs : List SocketId) → is_among k xs ≡ false → is_among j xs ≡ true → same_socket k j ≡ false
-not_same k j xs e h = false_from_ne_true (same_socket k j) (λ s. differ (sym e ∙ subst (λ z. is_among z xs ≡ true) (sym (same_equal k j s)) h))
-
-pub fewer : (k : SocketId) (xs ys : List SocketId) → is_among k (xs ++ ys) ≡ false → is_among k xs ≡ false
-fewer k xs ys e = false_from_ne_true (is_among k xs) (λ h. differ (sym e ∙ among-more k xs ys h))
+not_same k j xs e h = false_from_ne_true (same_socket k j) (λ s. from_false_true (sym e ∙ subst (λ z. is_among z xs ≡ true) (sym (same_equal k j s)) h))
 
 pub judged_more : (js : List Judgement) (j : Judgement) → judged_in (js ++ j ∷ []) ≡ judged_in js ++ j.socket ∷ []
 judged_more js j = map-append (λ (i : Judgement). i.socket) js (j ∷ [])
@@ -143,7 +143,7 @@ frames_mute opened js sent k w judged mute h = record {
     its = mute_says_nothing w mute
 
     still : (j : SocketId) (b : Bool) → same_socket j k ≡ b → AllByRecursion IsMute (answers_on j sent) → AllByRecursion IsMute (answers_on j (sent ++ x ∷ []))
-    still j true e old = subst (AllByRecursion IsMute) (sym (answers_here j sent x its.not_ask e)) (all-both IsMute (answers_on j sent) (w ∷ []) old (mute, tt))
+    still j true e old = subst (AllByRecursion IsMute) (sym (answers_here j sent x its.not_ask e)) (all_append IsMute (answers_on j sent) (w ∷ []) old (mute, tt))
     still j false e old = subst (AllByRecursion IsMute) (sym (answers_elsewhere j sent x e)) old
 
 frames_mutes : (opened : List SocketId) (js : List Judgement) (sent : List SentFrame) (k : SocketId) (ws : List OutFrame) → is_among k (judged_in js) ≡ true → AllByRecursion IsMute ws → FramesAre opened js sent →
@@ -171,20 +171,20 @@ frames_accepted opened js sent k cookie global taken h = record {
 -- more was opened, or judged
 frames_opened : (opened more : List SocketId) (js : List Judgement) (sent : List SentFrame) → FramesAre opened js sent → FramesAre (opened ++ more) js sent
 frames_opened opened more js sent h = record {
-  mute = λ j e t. h.mute j (fewer j opened more e) t;
-  silent = λ j e t. h.silent j (fewer j opened more e) t;
-  unasked = λ j e. h.unasked j (fewer j opened more e);
+  mute = λ j e t. h.mute j (not_among_front j opened more e) t;
+  silent = λ j e t. h.silent j (not_among_front j opened more e) t;
+  unasked = λ j e. h.unasked j (not_among_front j opened more e);
   asked_once = h.asked_once;
   numbered = h.numbered;
 }
 
 taken_fewer : (k : SocketId) (js : List Judgement) (j : Judgement) → is_among k (taken_among (js ++ j ∷ [])) ≡ false → is_among k (taken_among js) ≡ false
-taken_fewer k js j e = fewer k (taken_among js) (taken_among (j ∷ [])) (subst (λ l. is_among k l ≡ false) (taken_both js j) e)
+taken_fewer k js j e = not_among_front k (taken_among js) (taken_among (j ∷ [])) (subst (λ l. is_among k l ≡ false) (taken_both js j) e)
 
 frames_judged : (opened : List SocketId) (js : List Judgement) (j : Judgement) (sent : List SentFrame) → FramesAre opened js sent → FramesAre opened (js ++ j ∷ []) sent
 frames_judged opened js j sent h = record {
   mute = λ k e t. h.mute k e (taken_fewer k js j t);
-  silent = λ k e t. h.silent k e (fewer k (judged_in js) (j.socket ∷ []) (subst (λ l. is_among k l ≡ false) (judged_more js j) t));
+  silent = λ k e t. h.silent k e (not_among_front k (judged_in js) (j.socket ∷ []) (subst (λ l. is_among k l ≡ false) (judged_more js j) t));
   unasked = h.unasked;
   asked_once = h.asked_once;
   numbered = h.numbered;
@@ -200,12 +200,8 @@ pub record IsPlain (q : Queue) : Type 0 where
   pub written : q.written ≡ q.base
   pub falls : Falls priority_of q.waiting
 
-falls_rest : (ms : List Content) → Falls priority_of ms → Falls priority_of (drop 1 ms)
-falls_rest [] h = tt
-falls_rest (m ∷ ms) h = h.1
-
 plain_sent : (q : Queue) → IsPlain q → IsPlain (sent_first q)
-plain_sent q h = record { keeps = h.keeps; cursor = h.cursor; kept = h.kept; written = omega (arith, h.written); falls = falls_rest q.waiting h.falls }
+plain_sent q h = record { keeps = h.keeps; cursor = h.cursor; kept = h.kept; written = omega (arith, h.written); falls = falls-rest q.waiting h.falls }
 
 plain_thrown : (b : Bool) (q : Queue) → IsPlain q → IsPlain (thrown_away b q)
 plain_thrown true q h = record { keeps = h.keeps; cursor = refl; kept = refl; written = refl; falls = tt }
@@ -350,7 +346,7 @@ module _ (f : SideFacts) (theirs : List SentFrame) (v : View) (h : SideIs f v) w
     stands = record {
       cookie = away_cookie v v.phase v.feed may.away h.stands;
       opened = refl;
-      there = among-last k v.opened;
+      there = among_last k v.opened;
       unasked = h.frames.unasked k may.not_opened;
       silent = h.frames.silent k may.not_opened may.not_judged;
     };
@@ -388,13 +384,13 @@ module _ (f : SideFacts) (theirs : List SentFrame) (v : View) (h : SideIs f v) w
     queue = h.queue;
     frames =
         frames_mutes v.opened (v.judgements ++ judgement k item ∷ []) v.sent k ws
-        (subst (λ l. is_among k l ≡ true) (sym (judged_more v.judgements (judgement k item))) (among-last k (judged_in v.judgements)))
+        (subst (λ l. is_among k l ≡ true) (sym (judged_more v.judgements (judgement k item))) (among_last k (judged_in v.judgements)))
         may.mute (frames_judged v.opened v.judgements (judgement k item) v.sent h.frames);
     keys = h.keys;
   }
     where
       apart : (j : SocketId) → is_among j v.opened ≡ true → same_socket j k ≡ false
-      apart j e = false_from_ne_true (same_socket j k) (λ s. differ (sym (subst (λ z. is_among z v.opened ≡ false) (sym (same_equal j k s)) may.not_opened) ∙ e))
+      apart j e = false_from_ne_true (same_socket j k) (λ s. from_false_true (sym (subst (λ z. is_among z v.opened ≡ false) (sym (same_equal j k s)) may.not_opened) ∙ e))
 
   after_taking : (k : SocketId) (cookie global : ℕ) (item : JudgedItem) → May f theirs (takes_on k cookie global item) v → SideIs f (moved (takes_on k cookie global item) v)
   after_taking k cookie global item may = record {
@@ -408,7 +404,7 @@ module _ (f : SideFacts) (theirs : List SentFrame) (v : View) (h : SideIs f v) w
   }
     where
       there : is_among k (taken_among (v.judgements ++ judgement k item ∷ [])) ≡ true
-      there = subst (λ l. is_among k l ≡ true) (sym (taken_more v.judgements (judgement k item) may.taken)) (among-last k (taken_among v.judgements))
+      there = subst (λ l. is_among k l ≡ true) (sym (taken_more v.judgements (judgement k item) may.taken)) (among_last k (taken_among v.judgements))
 
   after_ask : (cookie global : ℕ) → May f theirs (asks cookie global) v → SideIs f (moved (asks cookie global) v)
   after_ask cookie global may = at v.feed (subst (λ p. StandsIn v p v.feed) may h.stands)
@@ -461,7 +457,7 @@ module _ (f : SideFacts) (theirs : List SentFrame) (v : View) (h : SideIs f v) w
     stands = stands_still v (moved (accepts x) v) (record { cookie = refl; base = refl; opened = λ k e. e; taken = λ k e. e; asks = λ k. refl; answers = λ k e. refl; mails = λ k. refl }) v.phase v.feed h.stands;
     queue = h.queue;
     frames = h.frames;
-    keys = all-both (λ (x : KeyedMessage). x.key ≡ key_of f x.message) v.accepted (x ∷ []) h.keys (may.key, tt);
+    keys = all_append (λ (x : KeyedMessage). x.key ≡ key_of f x.message) v.accepted (x ∷ []) h.keys (may.key, tt);
   }
 
   pub side_after : (m : Move) → May f theirs m v → SideIs f (moved m v)

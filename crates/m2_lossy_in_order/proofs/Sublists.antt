@@ -1,11 +1,7 @@
 -- Some of a list, in order.
-use Rattle.std.proofs.Common.{inl, inr, Bool, true, false, if◌then◌else◌, List, [], ◌∷◌, ◌++◌, map, refl, ap, ◌∙◌, subst}
+use Rattle.std.proofs.Common.{inl, inr, Bool, true, false, if◌then◌else◌, List, [], ◌∷◌, ◌++◌, refl, ◌∙◌, subst}
 use Rattle.std.specs.List.{filter}
 use Rattle.m2_dispatch.specs.Laws.{IsSublist}
-
-pub some_itself : {X : Type 0} (xs : List X) → IsSublist xs xs
-some_itself [] = tt
-some_itself (x ∷ xs) = inl (refl, some_itself xs)
 
 -- behind other ones
 pub some_behind : {X : Type 0} (xs ys zs : List X) → IsSublist xs zs → IsSublist xs (ys ++ zs)
@@ -38,12 +34,6 @@ some_of_some (x ∷ xs) (y ∷ ys) (z ∷ zs) (inl h) (inl k) = inl (h.0 ∙ k.0
 some_of_some (x ∷ xs) (y ∷ ys) (z ∷ zs) (inr h) (inl k) = inr (some_of_some (x ∷ xs) ys zs h k.1)
 some_of_some (x ∷ xs) (y ∷ ys) (z ∷ zs) (inl h) (inr k) = inr (some_of_some (x ∷ xs) (y ∷ ys) zs (inl h) k)
 some_of_some (x ∷ xs) (y ∷ ys) (z ∷ zs) (inr h) (inr k) = inr (some_of_some (x ∷ xs) (y ∷ ys) zs (inr h) k)
-
-pub some_mapped : {X Y : Type 0} (f : X → Y) (xs ys : List X) → IsSublist xs ys → IsSublist (map f xs) (map f ys)
-some_mapped f [] ys h = tt
-some_mapped f (x ∷ xs) [] h = absurd h
-some_mapped f (x ∷ xs) (y ∷ ys) (inl h) = inl (ap f h.0, some_mapped f xs ys h.1)
-some_mapped f (x ∷ xs) (y ∷ ys) (inr h) = inr (some_mapped f (x ∷ xs) ys h)
 
 some_more : {X : Type 0} (b : Bool) (x : X) (xs ys : List X) → IsSublist xs ys → IsSublist xs (if b then x ∷ ys else ys)
 some_more true x xs ys h = some_behind xs (x ∷ []) ys h

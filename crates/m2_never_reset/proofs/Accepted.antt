@@ -29,17 +29,16 @@ use Rattle.m2_never_reset.specs.Frames.{answers_on, to_come, mail_of, mails}
 use Rattle.m2_never_reset.specs.LinkOf.{role_of, raised_by, heard_in, heard_first, letters, joined_by, node_of, stand_of, link_of}
 use Rattle.m2_never_reset.specs.PairLaws.{AcceptedIsSteps}
 use Rattle.m2_never_reset.specs.Paired.{beside, FeedIsPaired}
-use Rattle.m2_never_reset.proofs.Heard.{false_isnt_true, first_mail, as_list, mails_split, heard_if, heard_as_list, heard-append, heard_in-append, AreSaid-drop, get-drop, drop-behind, take-more}
+use Rattle.m2_never_reset.proofs.Heard.{first_mail, as_list, mails_split, heard_if, heard_as_list, heard-append, heard_in-append, AreSaid-drop, get-drop, drop-behind, take-more}
 use Rattle.m2_never_reset.proofs.Links.{plus_none}
+use Rattle.m2_lemmas.proofs.Options.{none_isnt_some}
+use Rattle.m2_lemmas.proofs.Booleans.{false_isnt_true}
 
 -- ---- what stands before the message
 
 abbrev IsNothing : {X : Type 0} → Option X → Type 0
 IsNothing None = Unit {0}
 IsNothing (Some x) = ⊥
-
-nothing_isnt_some : {X : Type 0} (x : X) → None ≡ Some x → ⊥
-nothing_isnt_some x e = subst IsNothing e tt
 
 same_brought : (c m : Content) → brings c ≡ brings m → c ≡ m
 same_brought c m e = ap content e
@@ -95,7 +94,7 @@ some_same s r e = ap (inside s) e
 
 stands : (last told : ℕ) (m : Content) (is : List Item) (vs : List OutFrame) → AreSaid is vs →
     said_at is (prefix_len (λ i. is_passed last (said i)) is) ≡ Some (brings m) → Stands last told m is vs
-stands last told m [] vs h e = absurd (nothing_isnt_some (brings m) e)
+stands last told m [] vs h e = absurd (none_isnt_some (brings m) e)
 stands last told m (i ∷ is) [] h e = by_said (said i) refl h.0
   where
     -- a refusal is no message, and isn't passed over

@@ -29,8 +29,9 @@ use Rattle.m2_never_reset.specs.Frames.{answers_on, to_come, mail_of, mails}
 use Rattle.m2_never_reset.specs.LinkOf.{role_of, raised_by, heard_in, heard_first, joined_by, node_of, stand_of, link_of}
 use Rattle.m2_never_reset.specs.PairLaws.{AckedIsSteps}
 use Rattle.m2_never_reset.specs.Paired.{IsMail, IsToCome, beside, FeedIsPaired}
-use Rattle.m2_never_reset.proofs.Heard.{false_isnt_true, AreSaid-drop, as_list, heard_if, heard_as_list, heard-append, heard_in-append, mails_split}
+use Rattle.m2_never_reset.proofs.Heard.{AreSaid-drop, as_list, heard_if, heard_as_list, heard-append, heard_in-append, mails_split}
 use Rattle.m2_never_reset.proofs.Links.{plus_none, links, one_step}
+use Rattle.m2_lemmas.proofs.Booleans.{one_of_or, false_isnt_true}
 
 -- ---- what is told
 
@@ -42,10 +43,6 @@ tells n None = false
 abbrev tell : ℕ → List Item → Bool
 tell n [] = false
 tell n (i ∷ is) = tells n (told_by (said i)) || tell n is
-
-either : (p q : Bool) → (p || q) ≡ true → (p ≡ true) ⊎ (q ≡ true)
-either true q e = inl refl
-either false q e = inr e
 
 heard-above : (told : ℕ) (is : List Item) → told ≤ heard_in told is
 heard-above told [] = omega arith
@@ -68,7 +65,7 @@ raised-told n told None h = absurd (false_isnt_true h)
 heard-told : (n told : ℕ) (is : List Item) → tell n is ≡ true → n ≤ heard_in told is
 heard-told n told [] e = absurd (false_isnt_true e)
 heard-told n told (i ∷ is) e =
-    by_place (heard-told n (raised_by told (told_by (said i))) is) (either (tells n (told_by (said i))) (tell n is) e)
+    by_place (heard-told n (raised_by told (told_by (said i))) is) (one_of_or (tells n (told_by (said i))) (tell n is) e)
   where
     by_place : (tell n is ≡ true → n ≤ heard_in (raised_by told (told_by (said i))) is) →
         (tells n (told_by (said i)) ≡ true) ⊎ (tell n is ≡ true) → n ≤ heard_in told (i ∷ is)
@@ -89,7 +86,7 @@ any-tell n (i ∷ is) e = by_told (told_by (said i)) (any-tell n is) e
         (cons_option o (filter_map (λ i. told_by (said i)) is)) ≡ true → (tells n o || tell n is) ≡ true
     by_told None later h = later h
     by_told (Some m) later h =
-        by_place (either (m == n) (list_any (λ m. m == n) (filter_map (λ i. told_by (said i)) is)) h)
+        by_place (one_of_or (m == n) (list_any (λ m. m == n) (filter_map (λ i. told_by (said i)) is)) h)
       where
         or-true : (b : Bool) → (b || true) ≡ true
         or-true true = refl
@@ -106,7 +103,7 @@ told-heard : (n : ℕ) (resumed : Option ℕ) (is : List Item) →
     n ≤ heard_in (heard_first resumed) is
 told-heard n None is e = heard-told n 0 is (any-tell n is e)
 told-heard n (Some m) is e =
-    by_place (either (m == n) (list_any (λ m. m == n) (filter_map (λ i. told_by (said i)) is)) e)
+    by_place (one_of_or (m == n) (list_any (λ m. m == n) (filter_map (λ i. told_by (said i)) is)) e)
   where
     by_place : ((m == n) ≡ true) ⊎ (list_any (λ m. m == n) (filter_map (λ i. told_by (said i)) is) ≡ true) →
         n ≤ heard_in m is

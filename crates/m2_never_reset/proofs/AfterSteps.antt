@@ -165,13 +165,13 @@ mail_settled c v m (resumed seen ms) h = tt
 mail_settled c v m (ready ms) h = tt
 mail_settled c v m t h = h
 
-mail_asks : (m : Mail) (t : Stand) (b : Ask) → IsAskedAt (with_mail m t) b → IsAskedAt t b
+pub mail_asks : (m : Mail) (t : Stand) (b : Ask) → IsAskedAt (with_mail m t) b → IsAskedAt t b
 mail_asks m (offered cookie global ms) b h = h
 mail_asks m (resumed seen ms) b h = h
 mail_asks m (ready ms) b h = h
 mail_asks m t b h = h
 
-mail_fewer : (asks : Asks) (m : Mail) (t : Stand) → Fewer asks t asks (with_mail m t)
+pub mail_fewer : (asks : Asks) (m : Mail) (t : Stand) → Fewer asks t asks (with_mail m t)
 mail_fewer asks m t b (inl h) = inl h
 mail_fewer asks m t b (inr h) = inr (mail_asks m t b h)
 

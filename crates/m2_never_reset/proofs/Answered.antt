@@ -9,6 +9,7 @@ use Rattle.m2_journal.specs.State.{Delivery}
 use Rattle.m2_never_reset.specs.Fits.{Says, IsRefusal, AreSaid}
 use Rattle.m2_never_reset.specs.LinkOf.{raised_by, heard_in, letters}
 use Rattle.m2_message.specs.Message.{unnumbered}
+use Rattle.m2_lemmas.proofs.Options.{some_same}
 
 abbrev IsNothing : {X : Type 0} → Option X → Type 0
 IsNothing None = Unit {0}
@@ -16,13 +17,6 @@ IsNothing (Some x) = ⊥
 
 pub nothing_isnt_some : {X Y : Type 0} (x : X) → None ≡ Some x → Y
 nothing_isnt_some x e = absurd (subst IsNothing e tt)
-
-pub some_same : {X : Type 0} (x y : X) → Some x ≡ Some y → x ≡ y
-some_same x y e = ap (inside x) e
-  where
-    inside : {X : Type 0} → X → Option X → X
-    inside d (Some z) = z
-    inside d None = d
 
 -- the frame that was sent, which says it, and what is behind that
 pub record IsNext (x : Said) (n : ℕ) (vs : List OutFrame) : Type 0 where

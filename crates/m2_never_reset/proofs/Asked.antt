@@ -27,7 +27,7 @@ use Rattle.m2_never_reset.specs.Paired.{IsToCome, beside, FeedIsPaired}
 use Rattle.m2_never_reset.specs.Trouble.{trouble_at}
 use Rattle.m2_never_reset.proofs.Links.{plus_none, links, joined_same, same_asks, stand_same, one_step}
 use Rattle.m2_never_reset.proofs.Sent.{asks_elsewhere, asks_here, last_of, to_come_asked}
-use Rattle.m2_never_reset.proofs.Sockets.{same_refl}
+use Rattle.m2_fabric.proofs.Sockets.{same_refl}
 
 -- ---- the ask is the last one, and no other side sees it yet
 

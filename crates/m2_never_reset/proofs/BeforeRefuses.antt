@@ -11,6 +11,7 @@ use Rattle.m2_never_reset.proofs.Before.{Identity, identity_of, Asked, IsDrawnBy
 use Rattle.m2_never_reset.proofs.CrossingAsked.{at_offer}
 use Rattle.m2_never_reset.proofs.BeforeLeaves.{before_fewer, before_draws}
 use Rattle.m2_never_reset.proofs.BeforeAccepts.{ChecksAsServer}
+use Rattle.m2_lemmas.proofs.Booleans.{not_true_is_false}
 
 -- ---- no reconnect names the session of its judge
 
@@ -28,10 +29,6 @@ never_named p q x y s t r mints near far asked same kept =
 
 -- ---- a reset has no mark
 
-no_mark : (b : Bool) → (b ≡ true → ⊥) → b ≡ false
-no_mark true h = absurd (h refl)
-no_mark false h = refl
-
 module _ (p q : Role) (x y : Node) (s : Stand) (r : Reconnect) (j : Joined) (n : ℕ) (b : Before p q (link x s y (asking (by_reconnect r)) j n)) where
   -- a server's client has no session that it could name, and a server names none
   at_server : (p.policy.server ≡ true) ⊎ (q.policy.server ≡ true) → ⊥
@@ -39,7 +36,7 @@ module _ (p q : Role) (x y : Node) (s : Stand) (r : Reconnect) (j : Joined) (n :
   at_server (inr e) = (b.far.serves e).asks_nothing (by_reconnect r) (inr refl)
 
   not_in_full : (full : Bool) → ChecksAsServer p q → MayReset p x s r full → full ≡ false
-  not_in_full full checks (inl h) = h.1 ∙ no_mark p.policy.resetcheck (λ e. at_server (checks e))
+  not_in_full full checks (inl h) = h.1 ∙ not_true_is_false p.policy.resetcheck (λ e. at_server (checks e))
   not_in_full full checks (inr h) = h.2
 
 -- ---- no offer is on its way to a side that resets

@@ -21,7 +21,7 @@ use Rattle.m2_never_reset.specs.Paired.{beside, FeedIsPaired}
 use Rattle.m2_never_reset.specs.Trouble.{trouble_by, trouble_told}
 use Rattle.m2_never_reset.proofs.Leaving.{WaitsUnjudged, leaves_at}
 use Rattle.m2_never_reset.proofs.Links.{plus_none, stays, one_step}
-use Rattle.m2_never_reset.proofs.Sockets.{differ}
+use Rattle.m2_lemmas.proofs.Booleans.{from_false_true}
 
 -- a lossless session waits, in one way or the other
 pub faulted : (s : Session) (waits : Bool) → s.policy.lossy ≡ false →
@@ -76,7 +76,7 @@ closed_is f g socket broken n a b may = by_on (is_on socket a.feed) refl
     fed : (o : Option Feed) → a.feed ≡ o → is_on socket o ≡ true →
         Run (role_of f) (role_of g) (link_of n a b)
         (link_of (n + trouble_told (Some (event.Faulted (is_waiting a))) a.session accepted) (breaks a) b)
-    fed None e h = differ h
+    fed None e h = from_false_true h
     fed (Some d) e h =
         let it : record a { feed = Some d } ≡ a = ap (λ o. record a { feed = o }) (sym e) in
         let paired = subst (λ o. IfFed o (FeedIsPaired (beside a b))) e may.paired.near.feed in

@@ -4,7 +4,6 @@ use Rattle.m2_fabric.specs.declared.socket.SocketId.{SocketId}
 use Rattle.m2_fabric.specs.Sockets.{is_among, same_socket}
 use Rattle.m2_queues.specs.QueueLaws.{EachNumberIsAPlace, CallsGoOn}
 use Rattle.m2_journal.specs.Items as item
-use Rattle.m2_journal.specs.Items.{JournalItem}
 use Rattle.m2_journal.specs.Lawful.{judged_sockets}
 use Rattle.m2_journal.specs.Laws.{IfFed, taken_among}
 use Rattle.m2_journal.specs.State.{Feed, State}
@@ -28,7 +27,9 @@ use Rattle.m2_never_reset.proofs.Obeyed.{obeyed_is}
 use Rattle.m2_never_reset.proofs.Wrote.{wrote_is}
 use Rattle.m2_never_reset.proofs.Read.{read_is}
 use Rattle.m2_never_reset.proofs.Judged.{judged_is}
-use Rattle.m2_never_reset.proofs.Sockets.{differ, same_equal, turned_same, at_among, taken_is_judged}
+use Rattle.m2_never_reset.proofs.Sockets.{at_among, taken_is_judged}
+use Rattle.m2_lemmas.proofs.Booleans.{from_false_true}
+use Rattle.m2_fabric.proofs.Sockets.{same_equal, same_turned}
 
 pub entries_are : AnswersAreSteps → EachNumberIsAPlace → CallsGoOn → EntriesAreSteps
 entries_are tables places go_on f g (item.post place planned) not_down = posts_are f g place planned
@@ -78,17 +79,17 @@ joined_turn (Some d) (Some e) h = at (same_socket d.socket e.socket) refl
     which : (x y : Bool) → x ≡ not y → turned (if x then by_near else by_far) ≡ (if y then by_near else by_far)
     which true false e = refl
     which false true e = refl
-    which true true e = differ (sym e)
-    which false false e = differ e
+    which true true e = from_false_true (sym e)
+    which false false e = from_false_true e
 
     at : (t : Bool) → same_socket d.socket e.socket ≡ t →
         turned (joined_by (Some d) (Some e)) ≡ joined_by (Some e) (Some d)
     at true s =
-        let other : same_socket e.socket d.socket ≡ true = turned_same e.socket d.socket ∙ s in
+        let other : same_socket e.socket d.socket ≡ true = same_turned e.socket d.socket ∙ s in
         ap (λ b. turned (if b then (if d.opened then by_near else by_far) else apart)) other
         ∙ which d.opened e.opened (h s) ∙ ap (λ b. if b then (if e.opened then by_near else by_far) else apart) (sym s)
     at false s =
-        let other : same_socket e.socket d.socket ≡ false = turned_same e.socket d.socket ∙ s in
+        let other : same_socket e.socket d.socket ≡ false = same_turned e.socket d.socket ∙ s in
         ap (λ b. turned (if b then (if d.opened then by_near else by_far) else apart)) other
         ∙ ap (λ b. if b then (if e.opened then by_near else by_far) else apart) (sym s)
 
@@ -107,13 +108,13 @@ one_opened a b fits (Some d) (Some e) h k = λ s. at d.opened e.opened h k (same
         is_among e.socket (if y then b.opened else taken_among b.judgements) ≡ true → d.socket ≡ e.socket → x ≡ not y
     at true false h k s = refl
     at false true h k s = refl
-    at true true h k s = differ (sym (fits.opened_apart d.socket h) ∙ subst (λ z. is_among z b.opened ≡ true) (sym s) k)
+    at true true h k s = from_false_true (sym (fits.opened_apart d.socket h) ∙ subst (λ z. is_among z b.opened ≡ true) (sym s) k)
     at false false h k s =
         let mine = at_among (AreItsAsks b.opened b.sent a.judgements) (judged_sockets a) d.socket fits.near_judges
         (taken_is_judged a.judgements d.socket h) in
         let theirs = at_among (AreItsAsks a.opened a.sent b.judgements) (judged_sockets b) e.socket fits.far_judges
         (taken_is_judged b.judgements e.socket k) in
-        differ (sym (fits.opened_apart e.socket theirs.opened) ∙ subst (λ z. is_among z b.opened ≡ true) s mine.opened)
+        from_false_true (sym (fits.opened_apart e.socket theirs.opened) ∙ subst (λ z. is_among z b.opened ≡ true) s mine.opened)
 
 pub links_turn : LinksTurn
 links_turn f g n a b near far fits =
@@ -131,7 +132,7 @@ fits_turn a b fits = record {
 }
   where
     at : (k : SocketId) (t : Bool) → is_among k a.opened ≡ t → is_among k b.opened ≡ true → is_among k a.opened ≡ false
-    at k true e h = differ (sym (fits.opened_apart k e) ∙ h)
+    at k true e h = from_false_true (sym (fits.opened_apart k e) ∙ h)
     at k false e h = e
 
 pub either_is : AnswersAreSteps → EachNumberIsAPlace → CallsGoOn → EntriesOfEitherAreSteps

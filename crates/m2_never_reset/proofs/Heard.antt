@@ -1,5 +1,5 @@
 -- What a feed has heard, text for text of what was sent; and what of it acknowledges.
-use Rattle.std.proofs.Common.{◌≡◌, ℕ, zero, suc, ◌+◌, ◌≤◌, true, false, List, [], ◌∷◌, ◌++◌, length, take, drop, max, Option, Some, None, refl, sym, ap, ◌∙◌, subst, arith}
+use Rattle.std.proofs.Common.{◌≡◌, ℕ, zero, suc, ◌+◌, ◌≤◌, List, [], ◌∷◌, ◌++◌, length, take, drop, max, Option, Some, None, refl, sym, ap, ◌∙◌, arith}
 use Rattle.std.specs.Prelude.{slice_get}
 use Rattle.m2_frame.specs.Reading.{Item}
 use Rattle.m2_journal.specs.Feeds.{told_by}
@@ -9,9 +9,6 @@ use Rattle.m2_never_reset.specs.Mails.{Mail, acked_by, heard_with}
 use Rattle.m2_never_reset.specs.Fits.{AreSaid}
 use Rattle.m2_never_reset.specs.Frames.{mail_of, mails}
 use Rattle.m2_never_reset.specs.LinkOf.{raised_by, heard_in}
-
-pub false_isnt_true : false ≡ true → ⊥
-false_isnt_true h = subst (λ b. elim b as (λ _. Type 0) [ false ↦ Unit {0} | true ↦ ⊥ ]) h tt
 
 pub first_mail : (w : OutFrame) (m : Mail) (vs : List OutFrame) → mail_of w ≡ Some m → mails (w ∷ vs) ≡ m ∷ mails vs
 first_mail w m vs e = rw e refl

@@ -37,8 +37,9 @@ use Rattle.m2_never_reset.proofs.Judging.{IsAsked, is_asked, HearsIt, HasLeftIt,
 use Rattle.m2_never_reset.proofs.Leaving.{WaitsUnjudged}
 use Rattle.m2_never_reset.proofs.Refusing.{live_is_refused, left_is_refused, is_closed, live_is_given_up, left_is_given_up}
 use Rattle.m2_never_reset.proofs.Resuming.{live_is_resumed, left_is_resumed}
-use Rattle.m2_never_reset.proofs.Sockets.{among-last, at_among}
+use Rattle.m2_never_reset.proofs.Sockets.{at_among}
 use Rattle.m2_never_reset.proofs.Stable.{judgement, judged_after}
+use Rattle.m2_fabric.proofs.Sockets.{among_last}
 
 -- ---- facts of the entry
 
@@ -186,7 +187,7 @@ its_ask f g k ask number ans unread trail a b may =
     (judged_after f k ask number ans unread a) may.fits_after.near_judges in
     let among : is_among k (map (λ j. j.socket) js) ≡ true =
     subst (λ l. is_among k l ≡ true) (sym (map-append (λ j. j.socket) a.judgements (judgement k ask ans ∷ [])))
-    (among-last k (judged_sockets a)) in
+    (among_last k (judged_sockets a)) in
     is_asked k ask ans a.judgements b.opened b.sent
     (at_among (AreItsAsks b.opened b.sent js) (map (λ j. j.socket) js) k all among)
     (may.paired.far.asks_once k) (may.paired.far.unjudged k)

@@ -17,8 +17,9 @@ use Rattle.m2_never_reset.proofs.Judging.{fewer_unjudged, count-grows}
 use Rattle.m2_never_reset.proofs.Keeping.{ListsArePaired, if_fed, not_accepted, sent_elsewhere}
 use Rattle.m2_never_reset.proofs.Sending.{sent_lists, unjudged_same}
 use Rattle.m2_never_reset.proofs.Sent.{answers_here, answers_elsewhere, to_come_here}
-use Rattle.m2_never_reset.proofs.Sockets.{differ, same_refl, same_equal, turned_same, among-last, among-more}
 use Rattle.m2_never_reset.proofs.Written.{AreWritten}
+use Rattle.m2_lemmas.proofs.Booleans.{from_false_true}
+use Rattle.m2_fabric.proofs.Sockets.{same_refl, same_equal, same_turned, among_last, among_front}
 
 -- ---- lists
 
@@ -27,7 +28,7 @@ pub more_judged : (opened : List SocketId) (mine : List SentFrame) (mj judged mo
     ListsArePaired opened mine mj judged → ListsArePaired opened mine (mj ++ more) judged
 more_judged opened mine mj judged more h = record {
   asks = h.asks;
-  sent = λ k e j. h.sent k e (false_from_ne_true (is_among k mj) (λ i. differ (sym j ∙ among-more k mj more i)));
+  sent = λ k e j. h.sent k e (false_from_ne_true (is_among k mj) (λ i. from_false_true (sym j ∙ among_front k mj more i)));
   asks_once = h.asks_once;
   unjudged = h.unjudged;
 }
@@ -45,7 +46,7 @@ pub near_sent : (opened : List SocketId) (mine : List SentFrame) (mj judged : Li
     ask_of x.frame ≡ None → is_among x.socket opened ≡ false →
     ListsArePaired opened mine mj judged → ListsArePaired opened (mine ++ x ∷ []) (mj ++ x.socket ∷ []) judged
 near_sent opened mine mj judged x n not_opened h =
-    sent_lists opened mine (mj ++ x.socket ∷ []) judged x n (inr (among-last x.socket mj))
+    sent_lists opened mine (mj ++ x.socket ∷ []) judged x n (inr (among_last x.socket mj))
     (unasked_there opened mine mj judged x.socket not_opened h)
     (more_judged opened mine mj judged (x.socket ∷ []) h)
 
@@ -82,7 +83,7 @@ near_refuses s opened x d n not_opened its h = record {
     alone (inl e) t o = inl e
     alone (inr e) false o = inl (h.taken o)
     alone (inr e) true o =
-        inr (answers_elsewhere d.socket s.mine x (false_from_ne_true (same_socket d.socket x.socket) (λ same. differ (sym not_opened ∙ subst (λ k. is_among k opened ≡ true) (same_equal d.socket x.socket same) (its o)))) ∙ e)
+        inr (answers_elsewhere d.socket s.mine x (false_from_ne_true (same_socket d.socket x.socket) (λ same. from_false_true (sym not_opened ∙ subst (λ k. is_among k opened ≡ true) (same_equal d.socket x.socket same) (its o)))) ∙ e)
 
 -- a socket that is taken
 pub near_takes : (s : Beside) (d : Feed) → s.phase ≡ phase.Ready → d.taken ≡ 0 → d.opened ≡ false →
@@ -96,7 +97,7 @@ near_takes s d ready none closed texts judged alone = record {
   asks_alone = inl ready;
   unjudged = λ u. absurd (judged u);
   coming = subst (λ p. IsToCome p (to_come d s.theirs)) (sym ready) (subst (AllByRecursion IsMail) (sym empty) tt);
-  accepted = λ o. differ (sym closed ∙ o);
+  accepted = λ o. from_false_true (sym closed ∙ o);
 }
   where
     drop_none : (n : ℕ) (ws : List OutFrame) → ws ≡ [] → drop n ws ≡ []
@@ -222,4 +223,4 @@ module _ (s : Beside) (k : SocketId) (e : Feed) (h : FeedIsPaired s e)
           far_answered w (Some d) n one here answered (λ o same. as_accepted s.phase (h.unjudged here).0)
       at false apart =
           sent_elsewhere (record s { judged = judged'; other = Some d }) (record { socket = k; frame = w }) e apart
-          (far_unheard (Some d) (λ o same. differ (sym apart ∙ turned_same e.socket k ∙ subst (λ z. same_socket z e.socket ≡ true) is same)))
+          (far_unheard (Some d) (λ o same. from_false_true (sym apart ∙ same_turned e.socket k ∙ subst (λ z. same_socket z e.socket ≡ true) is same)))

@@ -23,8 +23,8 @@ use Rattle.m2_never_reset.specs.Paired.{HasAsked, beside, FeedIsPaired}
 use Rattle.m2_never_reset.proofs.Leaving.{chosen, stands_asking}
 use Rattle.m2_never_reset.proofs.Links.{stand_same}
 use Rattle.m2_never_reset.proofs.Sent.{last_of, to_come_here, to_come_elsewhere}
-use Rattle.m2_never_reset.proofs.Sockets.{same_refl, same_equal, turned_same}
 use Rattle.m2_never_reset.proofs.Stable.{judgement}
+use Rattle.m2_fabric.proofs.Sockets.{same_refl, same_equal, same_turned}
 
 -- ---- counts of judgements
 
@@ -155,10 +155,10 @@ module _ (k : SocketId) (q : Ask) (a b₀ : State) (its : IsAsked k q b₀.sent 
   elsewhere e h = record {
     left = rw (h, its.unjudged) (ap Some its.last);
     deaf = λ w. stand_same b₀.session.phase e b₀.sent a.sent (a.sent ++ record { socket = k; frame = w } ∷ [])
-        (to_come_elsewhere e a.sent (record { socket = k; frame = w }) (turned_same e.socket k ∙ h));
+        (to_come_elsewhere e a.sent (record { socket = k; frame = w }) (same_turned e.socket k ∙ h));
     apart_from =
         λ d s. ap (λ t. if t then (if d.opened then by_near else by_far) else apart)
-        (ap (same_socket e.socket) s ∙ turned_same e.socket k ∙ h);
+        (ap (same_socket e.socket) s ∙ same_turned e.socket k ∙ h);
   }
 
   here : (e : Feed) → same_socket k e.socket ≡ true → FeedIsPaired (beside (with_feed (Some e)) a) e →
@@ -171,9 +171,9 @@ module _ (k : SocketId) (q : Ask) (a b₀ : State) (its : IsAsked k q b₀.sent 
         stands = stands_asking b₀.session.phase e b₀.sent a.sent waits.0 waits.1 ∙ ap asking asked;
         hears =
             λ w n. answered_on b₀.session.phase e b₀.sent (a.sent ++ record { socket = k; frame = w } ∷ []) w waits.0
-            (to_come_here e a.sent (record { socket = k; frame = w }) n (turned_same e.socket k ∙ h) paired.sent ∙ ap (λ l. l ++ w ∷ []) waits.1)
+            (to_come_here e a.sent (record { socket = k; frame = w }) n (same_turned e.socket k ∙ h) paired.sent ∙ ap (λ l. l ++ w ∷ []) waits.1)
             ∙ ap (λ z. stand_asking z (w ∷ [])) asked;
-        joined = λ d s o. rw (s, o, turned_same e.socket k ∙ h) refl;
+        joined = λ d s o. rw (s, o, same_turned e.socket k ∙ h) refl;
       }
 
   pub either : (o : Option Feed) → IfFed o (FeedIsPaired (beside (with_feed o) a)) →

@@ -14,7 +14,8 @@ use Rattle.m2_never_reset.specs.LinkOf.{judged_count, is_unjudged}
 use Rattle.m2_never_reset.specs.Paired.{IsMail, BeginsAccepted, IsToCome, IsAccepted, HasAsked, Beside, beside, FeedIsPaired, SideIsPaired, Paired}
 use Rattle.m2_never_reset.proofs.Feeds.{HasHeard}
 use Rattle.m2_never_reset.proofs.Sent.{answers_same, answers_here, answers_elsewhere, to_come_asked, to_come_here, to_come_elsewhere}
-use Rattle.m2_never_reset.proofs.Written.{AreWritten, all-append}
+use Rattle.m2_never_reset.proofs.Written.{AreWritten}
+use Rattle.m2_lemmas.proofs.Lists.{all_append}
 
 -- ---- the parts
 
@@ -138,11 +139,11 @@ sent_elsewhere s x e is h = record {
 -- mail, where an acceptance has come or is to come
 mail_behind : (p : Phase) (ws : List OutFrame) (w : OutFrame) → IsMail w → IsAccepted p ws → IsToCome p ws →
     IsToCome p (ws ++ w ∷ [])
-mail_behind phase.Ready ws w m a h = all-append IsMail ws (w ∷ []) h (m, tt)
-mail_behind phase.IdentSent (out.server_ident c g ∷ ws) w m a h = all-append IsMail ws (w ∷ []) h (m, tt)
-mail_behind phase.IdentSent (out.reconnect_ok n ∷ ws) w m a h = all-append IsMail ws (w ∷ []) h (m, tt)
-mail_behind phase.ReconnectSent (out.server_ident c g ∷ ws) w m a h = all-append IsMail ws (w ∷ []) h (m, tt)
-mail_behind phase.ReconnectSent (out.reconnect_ok n ∷ ws) w m a h = all-append IsMail ws (w ∷ []) h (m, tt)
+mail_behind phase.Ready ws w m a h = all_append IsMail ws (w ∷ []) h (m, tt)
+mail_behind phase.IdentSent (out.server_ident c g ∷ ws) w m a h = all_append IsMail ws (w ∷ []) h (m, tt)
+mail_behind phase.IdentSent (out.reconnect_ok n ∷ ws) w m a h = all_append IsMail ws (w ∷ []) h (m, tt)
+mail_behind phase.ReconnectSent (out.server_ident c g ∷ ws) w m a h = all_append IsMail ws (w ∷ []) h (m, tt)
+mail_behind phase.ReconnectSent (out.reconnect_ok n ∷ ws) w m a h = all_append IsMail ws (w ∷ []) h (m, tt)
 mail_behind p ws w m a h = elim a [ ]
 
 accepted_behind : (p : Phase) (ws : List OutFrame) (w : OutFrame) → IsAccepted p ws → IsAccepted p (ws ++ w ∷ [])

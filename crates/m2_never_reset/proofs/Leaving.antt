@@ -12,12 +12,13 @@ use Rattle.m2_never_reset.specs.Steps.{LeavesAt}
 use Rattle.m2_never_reset.specs.Frames.{asks_on, no_ask, last_ask, ask_now, to_come}
 use Rattle.m2_never_reset.specs.LinkOf.{is_feed, asks_left, is_unjudged, stand_on, stand_by}
 use Rattle.m2_never_reset.specs.Paired.{HasAsked}
-use Rattle.m2_never_reset.proofs.Sockets.{differ, same_equal}
+use Rattle.m2_lemmas.proofs.Booleans.{from_false_true}
+use Rattle.m2_fabric.proofs.Sockets.{same_equal}
 
 -- a choice that gives something has its test true
 pub chosen : {X : Type 0} (t : Bool) (x y : X) → (if t then Some x else None) ≡ Some y → (t ≡ true) × (Some x ≡ Some y)
 chosen true x y e = (refl, e)
-chosen false x y e = differ (ap is_some e)
+chosen false x y e = from_false_true (ap is_some e)
 
 -- no ask is left where a feed is that wasn't left before
 pub fewer_left : (d : Feed) (sent : List SentFrame) (judged : List SocketId) →
@@ -27,7 +28,7 @@ fewer_left d sent judged k a e = at (is_feed (Some d) k) e
     at : (t : Bool) →
         (if not t && is_unjudged k sent judged then Some (last_ask no_ask (asks_on k sent)) else None) ≡ Some a →
         asks_left None sent judged k ≡ Some a
-    at true h = differ (ap is_some h)
+    at true h = from_false_true (ap is_some h)
     at false h = h
 
 pub stands_asking : (p : Phase) (d : Feed) (mine theirs : List SentFrame) → HasAsked p → to_come d theirs ≡ [] →

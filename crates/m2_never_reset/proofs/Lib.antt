@@ -61,3 +61,4 @@ pub mod Tables
 pub mod Tallies
 pub mod Written
 pub mod Wrote
+pub mod Sided

@@ -30,13 +30,11 @@ use Rattle.m2_never_reset.specs.Paired.{beside, FeedIsPaired}
 use Rattle.m2_never_reset.proofs.Links.{plus_none, links, joined_same, same_asks}
 use Rattle.m2_never_reset.proofs.Mailed.{mail_is_on_its_way}
 use Rattle.m2_never_reset.proofs.Sent.{asks_same}
+use Rattle.m2_lemmas.proofs.Options.{none_isnt_some}
 
 abbrev IsNothing : {X : Type 0} → Option X → Type 0
 IsNothing None = Unit {0}
 IsNothing (Some x) = ⊥
-
-nothing_isnt_some : {X : Type 0} (x : X) → None ≡ Some x → ⊥
-nothing_isnt_some x e = subst IsNothing e tt
 
 -- ---- the queue
 
@@ -92,7 +90,7 @@ calls_keep h (c ∷ cs) = calls_keep (after_call h c) cs ∙ call_keeps h c
 
 get-map : {X Y : Type 0} (g : X → Y) (xs : List X) (k : ℕ) (x : X) → slice_get xs k ≡ Some x →
     slice_get (map g xs) k ≡ Some (g x)
-get-map g [] k x e = absurd (nothing_isnt_some x e)
+get-map g [] k x e = absurd (none_isnt_some x e)
 get-map g (y ∷ xs) zero x e = ap (mapped g) e
   where
     mapped : {X Y : Type 0} (g : X → Y) → Option X → Option Y
@@ -109,7 +107,7 @@ number_at q n e = by_room (nat_lt q.cursor (length q.kept) || nat_lt 0 (length q
 
     by_room : (t : Bool) → (if t then Some (cursor_number q) else None) ≡ Some n → q.base + q.cursor + 1 ≡ n
     by_room true h = ap inside h
-    by_room false h = absurd (nothing_isnt_some n h)
+    by_room false h = absurd (none_isnt_some n h)
 
 module _ (f : SideFacts) (p q : Role) (u n : ℕ) (a₀ b : State) (d : Feed) (m : Content) where
   -- the side that writes: on its feed, in Ready

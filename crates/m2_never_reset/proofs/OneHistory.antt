@@ -60,7 +60,7 @@ far_is = refl
 
 -- ---- it fits
 
-fit-append : (f g : SideFacts) (xs ys : List SideItem) (a b : State) → FitThroughout f g xs a b →
+pub fit-append : (f g : SideFacts) (xs ys : List SideItem) (a b : State) → FitThroughout f g xs a b →
     FitThroughout f g ys (after_items f (near_items xs) a) (after_items g (far_items xs) b) →
     FitThroughout f g (xs ++ ys) a b
 fit-append f g [] ys a b h k = k

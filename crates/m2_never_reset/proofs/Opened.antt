@@ -20,10 +20,13 @@ use Rattle.m2_never_reset.specs.Steps.{IsAtRest, Run, dials}
 use Rattle.m2_never_reset.specs.Fits.{AreItsAsks}
 use Rattle.m2_never_reset.specs.LinkOf.{role_of, asks_left, heard_on, joined_by, node_of, stand_off, stand_by, stand_of, link_of}
 use Rattle.m2_never_reset.specs.PairLaws.{MayCome, OpenedIsSteps}
-use Rattle.m2_never_reset.proofs.Sockets.{differ, same_equal, among-last, at_among, taken_is_judged, no_feed}
+use Rattle.m2_never_reset.proofs.Sockets.{at_among, taken_is_judged}
 use Rattle.m2_never_reset.proofs.Leaving.{fewer_left}
 use Rattle.m2_never_reset.proofs.Links.{plus_none, links, one_step}
 use Rattle.m2_never_reset.proofs.Feeds.{HasHeard, opened_hears, heard_same}
+use Rattle.m2_lemmas.proofs.Booleans.{from_false_true}
+use Rattle.m2_fabric.proofs.Sockets.{same_equal, among_last}
+use Rattle.m2_lemmas.proofs.Options.{none_of_isnt_some}
 
 -- ---- the side is at rest
 
@@ -34,10 +37,10 @@ pub rests : (p : Phase) (x : Bool) → ((phases.is_among p at_rest && x) || phas
 rests phase.Absent x h = (refl, tt)
 rests phase.Standby x h = (refl, tt)
 rests phase.Wait x h = (refl, tt)
-rests phase.Connecting x h = differ h
-rests phase.IdentSent x h = differ h
-rests phase.ReconnectSent x h = differ h
-rests phase.Ready x h = differ h
+rests phase.Connecting x h = from_false_true h
+rests phase.IdentSent x h = from_false_true h
+rests phase.ReconnectSent x h = from_false_true h
+rests phase.Ready x h = from_false_true h
 
 -- ---- it is no feed of the other side
 
@@ -61,12 +64,12 @@ module _ (f g : SideFacts) (socket : SocketId) (n : ℕ) (a b : State) (may : Ma
       at : (t : Bool) → d.socket ≡ socket →
           is_among d.socket (if t then b.opened else taken_among b.judgements) ≡ true → ⊥
       at true e k =
-          differ (sym (may.fits_after.opened_apart socket (among-last socket a.opened)) ∙ subst (λ s. is_among s b.opened ≡ true) e k)
+          from_false_true (sym (may.fits_after.opened_apart socket (among_last socket a.opened)) ∙ subst (λ s. is_among s b.opened ≡ true) e k)
       at false e k =
           let judged = taken_is_judged b.judgements d.socket k in
           let its = at_among (AreItsAsks a.opened a.sent b.judgements)
           (judged_sockets b) d.socket may.fits.far_judges judged in
-          differ (sym may.lawful.not_opened ∙ subst (λ s. is_among s a.opened ≡ true) e its.opened)
+          from_false_true (sym may.lawful.not_opened ∙ subst (λ s. is_among s a.opened ≡ true) e its.opened)
 
   -- the side without a feed, and with one that is just opened
   abbrev before : Link
@@ -93,7 +96,7 @@ module _ (f g : SideFacts) (socket : SocketId) (n : ℕ) (a b : State) (may : Ma
       ∙ not-true _ (and_parts (not a.session.policy.server) _ may.lawful.due).0
 
   pub fed_none : a.feed ≡ None
-  fed_none = no_feed a.feed (may.near_replayed.fed ∙ rested.0)
+  fed_none = none_of_isnt_some a.feed (may.near_replayed.fed ∙ rested.0)
 
   begins : link_of n a b ≡ before
   begins =

@@ -10,9 +10,10 @@ use Rattle.m2_never_reset.specs.Mails.{Mail, letter, acked_by, heard_with}
 use Rattle.m2_never_reset.specs.Link.{Stand, connecting, asking, refused, offered, resumed, ready, Node, Joined, apart, by_near, by_far, link}
 use Rattle.m2_never_reset.specs.Steps.{after_offer, after_letter, HasLeft, LeavesAt, set_back, troubled, after_acceptance, after_resumption, with_mail, mailed}
 use Rattle.m2_never_reset.specs.Order.{AreFirstOf}
-use Rattle.m2_never_reset.proofs.Before.{IsAskedAt, Asked}
+use Rattle.m2_never_reset.proofs.Before.{Asked}
 use Rattle.m2_never_reset.proofs.CrossingAsked.{Fewer, asks_nothing, asks_left, asks_fewer, left_asks_nothing}
 use Rattle.m2_never_reset.proofs.Tallies.{IsTrueMail, AreTrueAt, IsSeen, Tally, tally_of, Reads, Read, first-more, first-append, stand-later, stand-append, with-mail-true, left-true, heard-more, heard-within, seen-more}
+use Rattle.m2_never_reset.proofs.AfterSteps.{mail_fewer}
 
 -- ---- a side whose messages stay
 
@@ -223,16 +224,6 @@ order_numbers x y s t j n more r = record {
     asks = r.far.asks;
   };
 }
-
-mail_asks : (m : Mail) (t : Stand) (b : Ask) → IsAskedAt (with_mail m t) b → IsAskedAt t b
-mail_asks m (offered cookie global ms) b h = h
-mail_asks m (resumed seen ms) b h = h
-mail_asks m (ready ms) b h = h
-mail_asks m t b h = h
-
-mail_fewer : (asks : Asks) (m : Mail) (t : Stand) → Fewer asks t asks (with_mail m t)
-mail_fewer asks m t b (inl h) = inl h
-mail_fewer asks m t b (inr h) = inr (mail_asks m t b h)
 
 with_mail_read : (x y : Node) (s t : Stand) (j : Joined) (n : ℕ) (m : Mail) → IsTrueMail x.last x.numbered m → Read (link x s y t j n) → Read (link x s y (with_mail m t) j n)
 with_mail_read x y s t j n m true_mail r = record {

@@ -19,7 +19,7 @@ use Rattle.m2_never_reset.specs.Orders.{FitThroughout, IsHistory, trouble_in, Hi
 use Rattle.m2_never_reset.specs.Paired.{Paired}
 use Rattle.m2_never_reset.specs.Trouble.{trouble_at}
 use Rattle.m2_never_reset.proofs.Entries.{fits_turn}
-use Rattle.m2_never_reset.proofs.Sockets.{differ}
+use Rattle.m2_lemmas.proofs.Booleans.{from_false_true}
 
 -- ---- an order, entry for entry
 
@@ -74,7 +74,7 @@ pub record IsReached (f g : SideFacts) (a b : State) : Type 0 where
   pub paired : Paired a b
   pub fits : Fits a b
 
-paired_turn : (a b : State) → Paired a b → Paired b a
+pub paired_turn : (a b : State) → Paired a b → Paired b a
 paired_turn a b paired = record { near = paired.far; far = paired.near }
 
 starts_fit : (f g : SideFacts) → Fits (start f) (start g)
@@ -83,7 +83,7 @@ starts_fit f g = record {
   far_hears = tt;
   near_judges = tt;
   far_judges = tt;
-  opened_apart = λ k e. differ e;
+  opened_apart = λ k e. from_false_true e;
 }
 
 -- ---- the laws on which this stands

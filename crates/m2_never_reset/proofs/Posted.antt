@@ -1,6 +1,6 @@
 -- Where nothing is thrown away and numbers are set back only before any acceptance, the queue's history keeps all that was
 -- posted, and drops nothing; so what has a number is, of each priority, a prefix of what was posted.
-use Rattle.std.proofs.Common.{◌≡◌, ℕ, zero, suc, ◌+◌, ◌≤◌, Bool, true, false, not, if◌then◌else◌, List, [], ◌∷◌, ◌++◌, length, map, take, Option, Some, None, refl, sym, ap, subst, ◌∙◌, arith, append-nil, append_assoc}
+use Rattle.std.proofs.Common.{◌≡◌, ℕ, ◌+◌, ◌≤◌, Bool, true, false, if◌then◌else◌, List, [], ◌∷◌, ◌++◌, length, map, take, Option, Some, None, refl, sym, ap, subst, ◌∙◌, arith, append-nil, append_assoc}
 use Rattle.std.specs.List.{filter}
 use Rattle.std.specs.Prelude.{◌==◌, ◌&&◌}
 use Rattle.std.proofs.lemmas.Bool.{and_parts}
@@ -11,7 +11,7 @@ use Rattle.m2_dispatch.specs.Heard.{is_key, is_path}
 use Rattle.m2_fabric.specs.declared.socket.SocketId.{SocketId}
 use Rattle.m2_message.specs.Message.{Content, unnumbered, priority_of}
 use Rattle.m2_policy.specs.declared.path.Key.{Key}
-use Rattle.m2_queues.specs.QueueLaws.{History, start_of, of_priority, history_of, EachPriorityKeepsItsOrder, Next, Renumber, Requeue}
+use Rattle.m2_queues.specs.QueueLaws.{History, start_of, of_priority, EachPriorityKeepsItsOrder, Next, Requeue}
 use Rattle.m2_queues.specs.OutQueues.{message_at}
 use Rattle.m2_session.specs.declared.answer.Answer.{Answer}
 use Rattle.m2_session.specs.declared.event.Event.{Event}
@@ -31,12 +31,14 @@ use Rattle.m2_journal.specs.Plan.{Planned, to_post, to_dial, to_go_down}
 use Rattle.m2_journal.specs.Said.{Said, says, brings, aborts, garbles}
 use Rattle.m2_journal.specs.SideFacts.{SideFacts, cookie_of}
 use Rattle.m2_journal.specs.State.{PartText, Feed, State}
-use Rattle.m2_journal.specs.Steps.{after, where_true, closes, sets_back, discards, tells_of_reset, has_effects, tells, tells_if, on_feed_at, posts, composes, sends, sends_late, puts_on, puts, reads, heeds, event_heard, event_on, takes_answer_if, closes_socket, breaks, forgets, is_on, writes_message, accepts, answers, notes, judges, takes_answer, takes_socket, with_feed, is_waiting, event_of, queues, writes_ident, writes_reconnect}
+use Rattle.m2_journal.specs.Steps.{after, where_true, closes, sets_back, tells_of_reset, has_effects, tells, tells_if, on_feed_at, posts, composes, sends, sends_late, puts_on, puts, reads, event_heard, event_on, takes_answer_if, breaks, forgets, is_on, writes_message, accepts, answers, notes, judges, takes_answer, takes_socket, with_feed, is_waiting, event_of, queues, writes_ident, writes_reconnect}
 use Rattle.m2_never_reset.specs.PairLaws.{IsNoDown}
 use Rattle.m2_never_reset.specs.LinkOf.{letters}
 use Rattle.m2_never_reset.specs.Orders.{posted_in, of_key}
-use Rattle.m2_never_reset.specs.Trouble.{trouble_at, trouble_by, trouble_told}
-use Rattle.m2_never_reset.proofs.Sockets.{differ}
+use Rattle.m2_never_reset.specs.Trouble.{trouble_at, trouble_told}
+use Rattle.m2_lemmas.proofs.Numbers.{none_back}
+use Rattle.m2_lemmas.proofs.Lists.{finer_filter}
+use Rattle.m2_lemmas.proofs.Booleans.{from_false_true}
 
 -- ---- histories to which these posts were added, and nothing was dropped
 
@@ -44,7 +46,7 @@ pub record Goes (old : History) (more : List Content) (new : History) : Type 0 w
   pub posted : new.posted ≡ old.posted ++ more
   pub dropped : new.dropped ≡ old.dropped
 
-same : (h : History) → Goes h [] h
+pub same : (h : History) → Goes h [] h
 same h = record { posted = sym (append-nil h.posted); dropped = refl }
 
 goes_as : (h k : History) → k.posted ≡ h.posted → k.dropped ≡ h.dropped → Goes h [] k
@@ -100,10 +102,6 @@ none_thrown : (discard : Bool) (n m : ℕ) → times discard + m ≡ 0 → disca
 none_thrown true n m e = absurd (omega (arith, e))
 none_thrown false n m e = refl
 
-none_back : (back : Bool) (k n : ℕ) → k + (if back then n else 0) ≡ 0 → back ≡ true → n ≡ 0
-none_back true k n e b = omega (arith, e)
-none_back false k n e b = differ b
-
 -- an event without trouble
 tells-keeps : (e : Event) (s : State) (n : ℕ) → trouble_told (Some e) s.session n ≡ 0 → (n ≡ 0 → s.out.queue.base ≡ 0) → Keeps s (tells e s)
 tells-keeps e s n none base =
@@ -114,7 +112,7 @@ tells-keeps e s n none base =
     at : (close requeue back discard remote_reset : Bool) (t : State) → discard ≡ false → (back ≡ true → t.out.queue.base ≡ 0) →
         Keeps t (has_effects (record { close = close; requeue = requeue; set_back = back; discard = discard; remote_reset = remote_reset }) t)
     at close requeue back false remote_reset t z h = has_effects-keeps close requeue back remote_reset t h
-    at close requeue back true remote_reset t z h = differ (sym z)
+    at close requeue back true remote_reset t z h = from_false_true (sym z)
 
 tells_if-keeps : (o : Option Event) (s : State) (n : ℕ) → trouble_told o s.session n ≡ 0 → (n ≡ 0 → s.out.queue.base ≡ 0) → Keeps s (tells_if o s)
 tells_if-keeps (Some e) s n none base = tells-keeps e s n none base
@@ -248,18 +246,6 @@ entry-goes f i s b not_down none base = each i not_down none
 
 -- ---- of each key
 
--- a test that a number passes, and a finer one
-finer : {X : Type 0} (p q : X → Bool) → ((x : X) → p x ≡ true → q x ≡ true) → (xs : List X) → filter p (filter q xs) ≡ filter p xs
-finer p q h [] = refl
-finer {X} p q h (x ∷ xs) = at (q x) (p x) refl refl (finer p q h xs)
-  where
-    at : (b c : Bool) → q x ≡ b → p x ≡ c → filter p (filter q xs) ≡ filter p xs →
-        filter p (if b then x ∷ filter q xs else filter q xs) ≡ (if c then x ∷ filter p xs else filter p xs)
-    at true true e g more = rw g (ap (λ l. x ∷ l) more)
-    at true false e g more = rw g more
-    at false true e g more = differ (sym e ∙ h x g)
-    at false false e g more = more
-
 plain-filter : (f : SideFacts) (key : Key) (ms : List Content) → of_key f key (map unnumbered ms) ≡ map unnumbered (of_key f key ms)
 plain-filter f key [] = refl
 plain-filter f key (m ∷ ms) = at (is_key (key_of f m) key) (plain-filter f key ms)
@@ -269,7 +255,7 @@ plain-filter f key (m ∷ ms) = at (is_key (key_of f m) key) (plain-filter f key
     at true more = ap (λ l. unnumbered m ∷ l) more
     at false more = more
 
-has_priority : (f : SideFacts) (key : Key) (m : Content) → is_key (key_of f m) key ≡ true → (priority_of m == key.priority) ≡ true
+pub has_priority : (f : SideFacts) (key : Key) (m : Content) → is_key (key_of f m) key ≡ true → (priority_of m == key.priority) ≡ true
 has_priority f key m h = (and_parts (priority_of m == key.priority) (is_path (key_of f m).path key.path) h).0
 
 -- of what has a number, where nothing was dropped
@@ -284,9 +270,9 @@ numbered_first law f key keeps h (calls, e) none =
     let some : of_priority p h.numbered ++ of_priority p h.queue.waiting ≡ of_priority p h.posted =
     sym (ap (λ l. of_priority p l ++ of_priority p h.numbered ++ of_priority p h.queue.waiting) none) ∙ all in (
       filter test (of_priority p h.queue.waiting),
-      sym (finer test of_p (has_priority f key) h.posted) ∙ ap (filter test) (sym some)
+      sym (finer_filter test of_p (has_priority f key) h.posted) ∙ ap (filter test) (sym some)
           ∙ filter-append test (of_priority p h.numbered) (of_priority p h.queue.waiting)
-          ∙ ap (λ l. l ++ filter test (of_priority p h.queue.waiting)) (finer test of_p (has_priority f key) h.numbered),
+          ∙ ap (λ l. l ++ filter test (of_priority p h.queue.waiting)) (finer_filter test of_p (has_priority f key) h.numbered),
     )
 
 pub as_posted : EachPriorityKeepsItsOrder → (f : SideFacts) (key : Key) (keeps : Bool) (h : History) (accepted posts : List Content) → IsOfCalls keeps h →
@@ -311,6 +297,3 @@ goes_on h k l xs ys a b = record {
   posted = b.posted ∙ ap (λ ms. ms ++ ys) a.posted ∙ append_assoc h.posted xs ys;
   dropped = b.dropped ∙ a.dropped;
 }
-
-pub goes_nowhere : (h : History) → Goes h [] h
-goes_nowhere h = same h

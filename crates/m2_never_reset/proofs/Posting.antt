@@ -1,5 +1,5 @@
 -- Through a history of two lossless sides all that was posted stays in their queues' histories, and no full reset is obeyed.
-use Rattle.std.proofs.Common.{◌≡◌, ℕ, ◌+◌, not, true, false, List, [], ◌∷◌, ◌++◌, length, Option, Some, None, refl, sym, subst, arith}
+use Rattle.std.proofs.Common.{◌≡◌, ℕ, ◌+◌, not, true, false, List, [], ◌∷◌, ◌++◌, length, Option, Some, None, sym, subst, arith}
 use Rattle.std.specs.List.{AllByRecursion}
 use Rattle.m2_queues.specs.QueueLaws.{EachPriorityKeepsItsOrder}
 use Rattle.m2_session.specs.declared.event.Event.TheVariants as event
@@ -14,12 +14,12 @@ use Rattle.m2_never_reset.specs.CrossingLaws.{CookiesAreMints, LosslessIsInOrder
 use Rattle.m2_never_reset.specs.Link.{new_link}
 use Rattle.m2_never_reset.specs.Steps.{Run, done}
 use Rattle.m2_never_reset.specs.LinkOf.{role_of, letters, link_of}
-use Rattle.m2_never_reset.specs.Orders.{SideItem, near_item, far_item, near_items, far_items, IsHistory, near_after, far_after, trouble_in}
-use Rattle.m2_never_reset.specs.Orders.{AreNodes, NoTroubleInHistories, MessagesComeInOrder, AcceptedIsSettled, posted_in, posts_in, ComeAsPosted, IsNoFullReset, LosslessIsNeverReset}
+use Rattle.m2_never_reset.specs.Orders.{SideItem, near_item, far_item, near_items, far_items, near_after, far_after, trouble_in}
+use Rattle.m2_never_reset.specs.Orders.{AreNodes, NoTroubleInHistories, MessagesComeInOrder, AcceptedIsSettled, posted_in, posts_in, IsNoFullReset, LosslessIsNeverReset}
 use Rattle.m2_never_reset.specs.Trouble.{trouble_at, trouble_told}
 use Rattle.m2_never_reset.proofs.Lossless.{sides}
 use Rattle.m2_never_reset.proofs.Orders.{Known, IsOrder, order_of, IsReached, replayed, at_start, ends}
-use Rattle.m2_never_reset.proofs.Posted.{Goes, entry-goes, as_posted, goes_on, goes_nowhere}
+use Rattle.m2_never_reset.proofs.Posted.{Goes, entry-goes, as_posted, goes_on, same}
 
 -- ---- resets
 
@@ -52,7 +52,7 @@ module _ (known : Known) (mints : CookiesAreMints) (ordered : LosslessIsInOrder)
 
     through : (n : ℕ) (order : List SideItem) (a b : State) → IsReached f g a b → IsOrder f g order a b → Leads n a b → trouble_in f g order a b ≡ 0 →
         Goes a.out (posts_in (near_items order)) (after_items f (near_items order) a).out × Goes b.out (posts_in (far_items order)) (after_items g (far_items order) b).out
-    through n [] a b reached h run e = (goes_nowhere a.out, goes_nowhere b.out)
+    through n [] a b reached h run e = (same a.out, same b.out)
     through n (near_item i ∷ more) a b reached h run e =
         let base = (ordered (role_of f) (role_of g) (link_of n a b) (sides mints f g nodes) run).far.base in
         let one = ends known f g nodes.near_keeps nodes.far_keeps n (near_item i ∷ []) a b reached (h.0, tt) in

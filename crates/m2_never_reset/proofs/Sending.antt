@@ -11,7 +11,9 @@ use Rattle.m2_never_reset.specs.LinkOf.{judged_count, is_unjudged}
 use Rattle.m2_never_reset.specs.Paired.{IsMail, IsAccepted, HasAsked, Beside, FeedIsPaired}
 use Rattle.m2_never_reset.proofs.Keeping.{ListsArePaired, same_other, sent_elsewhere, mailed_here}
 use Rattle.m2_never_reset.proofs.Sent.{frames_elsewhere, asks_same, answers_elsewhere}
-use Rattle.m2_never_reset.proofs.Sockets.{differ, same_equal, turned_same, taken_is_judged}
+use Rattle.m2_never_reset.proofs.Sockets.{taken_is_judged}
+use Rattle.m2_lemmas.proofs.Booleans.{from_false_true}
+use Rattle.m2_fabric.proofs.Sockets.{same_equal, same_turned}
 
 -- ---- the sender's own facts
 
@@ -54,9 +56,9 @@ sent_lists opened mine mine_judged judged x n found settled h = record {
         at : (is_among x.socket opened ≡ true) ⊎ (is_among x.socket mine_judged ≡ true) → (t : Bool) →
             same_socket k x.socket ≡ t → t ≡ false
         at f false s = refl
-        at (inl o) true s = differ (sym e ∙ subst (λ z. is_among z opened ≡ true) (sym (same_equal k x.socket s)) o)
+        at (inl o) true s = from_false_true (sym e ∙ subst (λ z. is_among z opened ≡ true) (sym (same_equal k x.socket s)) o)
         at (inr o) true s =
-            differ (sym j ∙ subst (λ z. is_among z mine_judged ≡ true) (sym (same_equal k x.socket s)) o)
+            from_false_true (sym j ∙ subst (λ z. is_among z mine_judged ≡ true) (sym (same_equal k x.socket s)) o)
 
     alone : (k : SocketId) → is_unjudged k mine judged ≡ true → (t : Bool) → same_socket k x.socket ≡ t →
         answers_on k (mine ++ x ∷ []) ≡ []
@@ -86,7 +88,7 @@ accepted_of : (s : Beside) (d e : Feed) → FeedIsPaired
 accepted_of s d e h one = at e.opened refl
   where
     at : (t : Bool) → e.opened ≡ t → IsAccepted s.phase (to_come e s.theirs)
-    at true o = h.accepted o (turned_same d.socket e.socket ∙ one)
+    at true o = h.accepted o (same_turned d.socket e.socket ∙ one)
     at false o = subst (λ p. IsAccepted p (to_come e s.theirs)) (sym (h.taken o)) tt
 
 -- mail is sent on the feed

@@ -1,5 +1,5 @@
 -- What the two sides have in common stays where a message is accepted.
-use Rattle.std.proofs.Common.{◌≡◌, ℕ, zero, suc, ◌+◌, inl, true, List, [], ◌∷◌, drop, Option, Some, None, refl, sym, ap, ◌∙◌, subst, arith}
+use Rattle.std.proofs.Common.{◌≡◌, ℕ, ◌+◌, inl, true, ◌∷◌, drop, Option, Some, None, refl, sym, ap, ◌∙◌, subst, arith}
 use Rattle.std.specs.List.{AllByRecursion, prefix_len}
 use Rattle.m2_fabric.specs.Sockets.{same_socket}
 use Rattle.m2_message.specs.Message.{Content}
@@ -22,11 +22,7 @@ use Rattle.m2_never_reset.proofs.Answering.{got_within, raised_fit}
 use Rattle.m2_never_reset.proofs.Heard.{drop-behind}
 use Rattle.m2_never_reset.proofs.Keeping.{lists, paired, if_fed, same_other}
 use Rattle.m2_never_reset.proofs.Sending.{settled_in_ready}
-
-all_dropped : {X : Type 0} (P : X → Type 0) (n : ℕ) (xs : List X) → AllByRecursion P xs → AllByRecursion P (drop n xs)
-all_dropped P zero xs h = h
-all_dropped P (suc n) [] h = tt
-all_dropped P (suc n) (x ∷ xs) h = all_dropped P n xs h.1
+use Rattle.m2_lemmas.proofs.Lists.{all_drop}
 
 module _ (number : ℕ) (key : Key) (a₀ b : State) (d : Feed) (m : Content) where
   abbrev a : State
@@ -50,7 +46,7 @@ module _ (number : ℕ) (key : Key) (a₀ b : State) (d : Feed) (m : Content) wh
       let mail : AllByRecursion IsMail (drop (place + 1) (answers_on d.socket b.sent)) =
       subst (AllByRecursion IsMail)
       (drop-behind d.taken (prefix_len (λ i. is_passed a.last (said i)) (drop d.taken d.got) + 1) (answers_on d.socket b.sent) ∙ ap (λ n. drop n (answers_on d.socket b.sent)) further)
-      (all_dropped IsMail (prefix_len (λ i. is_passed a.last (said i)) (drop d.taken d.got) + 1) (to_come d b.sent) old.coming) in
+      (all_drop IsMail (prefix_len (λ i. is_passed a.last (said i)) (drop d.taken d.got) + 1) (to_come d b.sent) old.coming) in
       paired (accepts number key (Some (brings m)) d a) b
       (record {
         got = got_within place d.got (brings m) next;

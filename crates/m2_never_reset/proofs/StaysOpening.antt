@@ -30,7 +30,9 @@ use Rattle.m2_never_reset.proofs.Keeping.{ListsArePaired, lists, paired, if_fed,
 use Rattle.m2_never_reset.proofs.Opened.{is_new}
 use Rattle.m2_never_reset.proofs.Sent.{frames_elsewhere, asks_elsewhere, asks_here, answers_same}
 use Rattle.m2_never_reset.proofs.Written.{AreWritten}
-use Rattle.m2_never_reset.proofs.Sockets.{differ, same_equal, among-last, among-more, at_among}
+use Rattle.m2_never_reset.proofs.Sockets.{at_among}
+use Rattle.m2_lemmas.proofs.Booleans.{from_false_true}
+use Rattle.m2_fabric.proofs.Sockets.{same_equal, among_last, among_front}
 
 -- ---- a socket is opened
 
@@ -41,10 +43,10 @@ module _ (f g : SideFacts) (socket : SocketId) (a b : State) (may : MayCome f g 
 
   theirs_none : frames_on socket b.sent ≡ []
   theirs_none = may.paired.far.sent socket
-      (may.fits_after.opened_apart socket (among-last socket a.opened))
+      (may.fits_after.opened_apart socket (among_last socket a.opened))
       (false_from_ne_true (is_among socket (judged_sockets b)) (λ e.
       let its = at_among (AreItsAsks a.opened a.sent b.judgements) (judged_sockets b) socket may.fits.far_judges e in
-      differ (sym may.lawful.not_opened ∙ its.opened)))
+      from_false_true (sym may.lawful.not_opened ∙ its.opened)))
 
   abbrev silent : Feed
   silent = silent_feed socket true a.last a.owes
@@ -66,7 +68,7 @@ module _ (f g : SideFacts) (socket : SocketId) (a b : State) (may : MayCome f g 
     got = zero-le;
     sent = zero-le;
     texts = tt;
-    taken = λ e. differ (sym e);
+    taken = λ e. from_false_true (sym e);
     asks_alone = inr (ap (λ l. filter (λ w. not (is_ask w)) l) mine_none);
     unjudged = λ u. nothing_unjudged u;
     coming = ap (λ l. filter (λ w. not (is_ask w)) l) theirs_none;
@@ -89,7 +91,7 @@ module _ (f g : SideFacts) (socket : SocketId) (a b : State) (may : MayCome f g 
     where
       not_before : (k : SocketId) → is_among k (a.opened ++ socket ∷ []) ≡ false → is_among k a.opened ≡ false
       not_before k e =
-          false_from_ne_true (is_among k a.opened) (λ h. differ (sym e ∙ among-more k a.opened (socket ∷ []) h))
+          false_from_ne_true (is_among k a.opened) (λ h. from_false_true (sym e ∙ among_front k a.opened (socket ∷ []) h))
 
       both_fed : (o : Option Feed) (P Q R : Feed → Type 0) → ((d : Feed) → P d → Q d → R d) → IfFed o P → IfFed o Q →
           IfFed o R
@@ -126,7 +128,7 @@ module _ (a₀ b : State) (d : Feed) (w : OutFrame) (q : Ask) (p' : Phase) (text
       apart : (k : SocketId) → is_among k a.opened ≡ false → same_socket k d.socket ≡ false
       apart k e =
           false_from_ne_true (same_socket k d.socket)
-          (λ s. differ (sym e ∙ subst (λ z. is_among z a.opened ≡ true) (sym (same_equal k d.socket s)) opened))
+          (λ s. from_false_true (sym e ∙ subst (λ z. is_among z a.opened ≡ true) (sym (same_equal k d.socket s)) opened))
 
       all_judged : length (asks_on d.socket a.sent) ≤ judged_count d.socket (judged_sockets b)
       all_judged = ltb-false (judged_count d.socket (judged_sockets b)) (length (asks_on d.socket a.sent))

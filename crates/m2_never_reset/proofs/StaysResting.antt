@@ -16,7 +16,7 @@ use Rattle.m2_never_reset.specs.PairLaws.{Stays}
 use Rattle.m2_never_reset.specs.Paired.{beside, FeedIsPaired, Paired}
 use Rattle.m2_never_reset.proofs.Closed.{faulted}
 use Rattle.m2_never_reset.proofs.Keeping.{lists, paired, if_fed, without_other}
-use Rattle.m2_never_reset.proofs.Sockets.{differ}
+use Rattle.m2_lemmas.proofs.Booleans.{from_false_true}
 
 pub posts_stay : (f g : SideFacts) (place : ℕ) (planned : Option Planned) → Stays f g (item.post place planned)
 posts_stay f g place (Some (to_post m)) a b may =
@@ -66,7 +66,7 @@ pub closed_stays : (f g : SideFacts) (socket : SocketId) (broken : Bool) → Sta
 closed_stays f g socket broken a b may = by_on (is_on socket a.feed) refl
   where
     fed : (o : Option Feed) → a.feed ≡ o → is_on socket o ≡ true → Paired (breaks a) b
-    fed None e h = differ h
+    fed None e h = from_false_true h
     fed (Some d) e h =
         let it : record a { feed = Some d } ≡ a = ap (λ o. record a { feed = o }) (sym e) in
         subst (λ z. Paired (breaks z) b) it

@@ -1,7 +1,7 @@
 -- What the judgement tables of a session answer is a step of the link: each answer needs what its row and the rows
 -- before it say.
 use Rattle.std.proofs.Common.{◌≡◌, ◌≢◌, ℕ, ◌≤◌, ◌⊎◌, inl, inr, Bool, true, false, true≢false, not, ◌&&◌, ◌==◌, if◌then◌else◌, List, [], ◌∷◌, refl, sym, ap, ◌∙◌, subst}
-use Rattle.std.proofs.lemmas.Bool.{eqb-true, eq-eqb, ltb-false}
+use Rattle.std.proofs.lemmas.Bool.{eqb-true, eq-eqb}
 use Rattle.m2_session.specs.declared.session.Session.{Session}
 use Rattle.m2_session.specs.declared.session.Phase.{Phase}
 use Rattle.m2_session.specs.declared.session.Phase.TheVariants as phase
@@ -17,6 +17,8 @@ use Rattle.m2_never_reset.specs.Link.{Stand, absent, standby, waiting, Node}
 use Rattle.m2_never_reset.specs.Steps.{IsAtRest, HasLeft, IsAnotherClient, Accepts, Names}
 use Rattle.m2_never_reset.specs.Sessions.{IsKept, IsIdentStep, IsReconnectStep}
 use Rattle.m2_never_reset.specs.CrossingLaws.{AnswersAreSteps}
+use Rattle.m2_lemmas.proofs.Booleans.{negated_is_false, chosen, negated_is_true}
+use Rattle.m2_session.proofs.Answers.{not_above}
 
 -- ---- a table, row by row
 
@@ -24,10 +26,6 @@ use Rattle.m2_never_reset.specs.CrossingLaws.{AnswersAreSteps}
 abbrev EachInOrder : {N A : Type 0} → (A → Type 0) → List (Row N A) → A → Type 0
 EachInOrder P [] otherwise = P otherwise
 EachInOrder P (r ∷ rows) otherwise = (r.holds ≡ true → P r.answer) × (r.holds ≡ false → EachInOrder P rows otherwise)
-
-chosen : {A : Type 0} (P : A → Type 0) (b : Bool) (x y : A) → (b ≡ true → P x) → (b ≡ false → P y) → P (if b then x else y)
-chosen P true x y here later = here refl
-chosen P false x y here later = later refl
 
 each_in_order : {N A : Type 0} (P : A → Type 0) (rows : List (Row N A)) (otherwise : A) → EachInOrder P rows otherwise → P (first_that_holds rows otherwise)
 each_in_order P [] otherwise all = all
@@ -44,36 +42,25 @@ and_right : (a b : Bool) → (a && b) ≡ true → b ≡ true
 and_right true b h = h
 and_right false b h = absurd (true≢false (sym h))
 
-not_true : (b : Bool) → not b ≡ true → b ≡ false
-not_true true h = sym h
-not_true false h = refl
-
-not_false : (b : Bool) → not b ≡ false → b ≡ true
-not_false true h = refl
-not_false false h = sym h
-
 not_not : (b : Bool) → not (not b) ≡ true → b ≡ true
 not_not true h = refl
 not_not false h = h
 
 -- not the same number
 unequal : (a b : ℕ) → differs a b ≡ true → a ≢ b
-unequal a b h e = true≢false (sym (eq-eqb a b e) ∙ not_true (a == b) h)
+unequal a b h e = true≢false (sym (eq-eqb a b e) ∙ negated_is_false (a == b) h)
 
 equal : (a b : ℕ) → differs a b ≡ false → a ≡ b
-equal a b h = eqb-true a b (not_false (a == b) h)
+equal a b h = eqb-true a b (negated_is_true (a == b) h)
 
 kept : (c : ℕ) → is_kept c ≡ true → c ≢ 0
-kept c h e = true≢false (sym (eq-eqb c 0 e) ∙ not_true (c == 0) h)
+kept c h e = true≢false (sym (eq-eqb c 0 e) ∙ negated_is_false (c == 0) h)
 
 unkept : (c : ℕ) → not (is_kept c) ≡ true → c ≡ 0
 unkept c h = eqb-true c 0 (not_not (c == 0) h)
 
 still_kept : (c : ℕ) → not (is_kept c) ≡ false → c ≢ 0
-still_kept c h = kept c (not_false (is_kept c) h)
-
-not_above : (a b : ℕ) → is_above a b ≡ false → a ≤ b
-not_above a b h = ltb-false b a h
+still_kept c h = kept c (negated_is_true (is_kept c) h)
 
 is_absent : (p : Phase) → is p phase.Absent ≡ true → p ≡ phase.Absent
 is_absent phase.Absent h = refl

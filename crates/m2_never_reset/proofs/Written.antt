@@ -14,18 +14,15 @@ use Rattle.m2_journal.specs.OutFrames.{acknowledgement, keepalive_answer}
 use Rattle.m2_journal.specs.SideFacts.{SideFacts}
 use Rattle.m2_journal.specs.State.{PartText, Feed, State}
 use Rattle.m2_never_reset.specs.Paired.{MayBeWritten}
-use Rattle.m2_never_reset.proofs.Answered.{nothing_isnt_some, some_same}
-use Rattle.m2_never_reset.proofs.Sockets.{differ}
+use Rattle.m2_never_reset.proofs.Answered.{nothing_isnt_some}
+use Rattle.m2_lemmas.proofs.Lists.{all_append}
+use Rattle.m2_lemmas.proofs.Options.{some_same}
+use Rattle.m2_lemmas.proofs.Booleans.{from_false_true}
 
 abbrev pub AreWritten : Phase → ℕ → List PartText → Type 0
 AreWritten p last texts = AllByRecursion (λ t. MayBeWritten p last t.frame) texts
 
 -- ---- lists
-
-pub all-append : {X : Type 0} (P : X → Type 0) (xs ys : List X) → AllByRecursion P xs → AllByRecursion P ys →
-    AllByRecursion P (xs ++ ys)
-all-append P [] ys h k = k
-all-append P (x ∷ xs) ys h k = (h.0, all-append P xs ys h.1 k)
 
 kept : (p : Phase) (last : ℕ) (test : PartText → Bool) (texts : List PartText) → AreWritten p last texts →
     AreWritten p last (filter test texts)
@@ -61,12 +58,12 @@ found p last (x ∷ xs) t h e = at (length x.left == 0) refl (found p last xs t 
 
 pub is_ready : (p : Phase) → phases.is p phase.Ready ≡ true → p ≡ phase.Ready
 is_ready phase.Ready e = refl
-is_ready phase.Absent e = differ e
-is_ready phase.Connecting e = differ e
-is_ready phase.IdentSent e = differ e
-is_ready phase.ReconnectSent e = differ e
-is_ready phase.Standby e = differ e
-is_ready phase.Wait e = differ e
+is_ready phase.Absent e = from_false_true e
+is_ready phase.Connecting e = from_false_true e
+is_ready phase.IdentSent e = from_false_true e
+is_ready phase.ReconnectSent e = from_false_true e
+is_ready phase.Standby e = from_false_true e
+is_ready phase.Wait e = from_false_true e
 
 numbers_fit : (f : SideFacts) (last n from : ℕ) → from + n ≤ last + 1 →
     AreWritten phase.Ready last (map (λ k. begun f (acknowledgement k)) (range_with_len from n))
@@ -106,7 +103,7 @@ unnamed_fit f s d = at (phases.is s.session.phase phase.Ready) refl
     at true e =
         subst (λ p. AreWritten p s.last (acknowledgements f s d ++ keepalive_answers f s d))
         (sym (is_ready s.session.phase e))
-        (all-append (λ t. MayBeWritten phase.Ready s.last t.frame) (acknowledgements f s d) (keepalive_answers f s d) (owed_fit f s d) (stamps_fit f s.last (next_stamp s.last d)))
+        (all_append (λ t. MayBeWritten phase.Ready s.last t.frame) (acknowledgements f s d) (keepalive_answers f s d) (owed_fit f s d) (stamps_fit f s.last (next_stamp s.last d)))
     at false e = tt
 
 pub texts_fit : (f : SideFacts) (s : State) (d : Feed) → AreWritten s.session.phase s.last d.texts →

@@ -1,8 +1,7 @@
 -- What is put on a feed is no step of the link, but where it ends an acknowledgement: that is then on its way.
 --
 -- Wrote that ends an ACK: `acknowledges`; any other: no step.
-use Rattle.std.proofs.Common.{◌≡◌, ℕ, ◌+◌, ◌≤◌, Bool, not, ◌&&◌, List, [], ◌∷◌, ◌++◌, length, Option, Some, None, refl, sym, ap, ◌∙◌, subst}
-use Rattle.std.proofs.lemmas.List.{append-nil}
+use Rattle.std.proofs.Common.{◌≡◌, ℕ, ◌+◌, ◌≤◌, not, ◌&&◌, List, [], ◌∷◌, ◌++◌, length, Option, Some, None, refl, sym, ap, ◌∙◌, subst}
 use Rattle.m2_control.specs.declared.keepalive.Keepalive.{Keepalive}
 use Rattle.m2_fabric.specs.declared.socket.SocketId.{SocketId}
 use Rattle.m2_session.specs.declared.session.Phase.{Phase}
@@ -24,17 +23,12 @@ use Rattle.m2_never_reset.specs.Frames.{answers_on, to_come, mails, ask_of}
 use Rattle.m2_never_reset.specs.LinkOf.{role_of, asks_left, joined_by, stand_on, node_of, stand_of, link_of}
 use Rattle.m2_never_reset.specs.PairLaws.{WroteIsSteps}
 use Rattle.m2_never_reset.specs.Paired.{MayBeWritten, beside, FeedIsPaired}
-use Rattle.m2_never_reset.proofs.Feeds.{HasHeard}
 use Rattle.m2_never_reset.proofs.Links.{plus_none, links, joined_same, same_asks, same, one_step}
 use Rattle.m2_never_reset.proofs.Mailed.{mail_is_on_its_way, no_mail_is_on_its_way}
 use Rattle.m2_never_reset.proofs.SameFeed.{same_feed}
 use Rattle.m2_never_reset.proofs.Sent.{asks_same}
 use Rattle.m2_never_reset.proofs.Written.{AreWritten, are_narrowed, found, texts_fit}
-
--- as it was to the link, with other texts to be put
-put : (d : Feed) (texts : List PartText) (floor : ℕ) (owed : Bool) (answered : ℕ) →
-    HasHeard d (record d { texts = texts; floor = floor; owed = owed; answered = answered })
-put d texts floor owed answered = record { socket = refl; opened = refl; taken = refl; resumed = refl; more = []; got = sym (append-nil d.got) }
+use Rattle.m2_never_reset.proofs.StaysWriting.{put}
 
 module _ (f g : SideFacts) (n : ℕ) (a₀ b : State) (d : Feed) where
   abbrev a : State

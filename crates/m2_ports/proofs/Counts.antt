@@ -6,24 +6,22 @@ use Rattle.std.specs.Map.{lookup}
 use Rattle.m2_fabric.specs.Sockets.{is_among, same_socket}
 use Rattle.m2_fabric.specs.declared.socket.SocketId.{SocketId}
 use Rattle.m2_ports.specs.Made.{AreCounted, AreWithin, Four, count_of, four_of, next_socket, same_four}
+use Rattle.m2_lemmas.proofs.Booleans.{both_of_and}
+use Rattle.m2_fabric.proofs.Sockets.{same_equal}
 
 -- ---- equal names
 
 same_number : (n : ℕ) → (n == n) ≡ true
 same_number n = eq-eqb n n refl
 
-both : (a b : Bool) → (a && b) ≡ true → (a ≡ true) × (b ≡ true)
-both true b h = (refl, h)
-both false b h = absurd (cc)
-
 four_refl : (a : Four) → same_four a a ≡ true
 four_refl a = rw (same_number a.0, same_number a.1, same_number a.2, same_number a.3) refl
 
 four_equal : (a b : Four) → same_four a b ≡ true → a ≡ b
 four_equal a b h =
-    let three = both (((a.0 == b.0) && (a.1 == b.1)) && (a.2 == b.2)) (a.3 == b.3) h in
-    let two = both ((a.0 == b.0) && (a.1 == b.1)) (a.2 == b.2) three.0 in
-    let one = both (a.0 == b.0) (a.1 == b.1) two.0 in
+    let three = both_of_and (((a.0 == b.0) && (a.1 == b.1)) && (a.2 == b.2)) (a.3 == b.3) h in
+    let two = both_of_and ((a.0 == b.0) && (a.1 == b.1)) (a.2 == b.2) three.0 in
+    let one = both_of_and (a.0 == b.0) (a.1 == b.1) two.0 in
     ap (λ (n : ℕ). (n, a.1, a.2, a.3)) (eqb-true a.0 b.0 one.0)
     ∙ ap (λ (n : ℕ). (b.0, n, a.2, a.3)) (eqb-true a.1 b.1 one.1)
     ∙ ap (λ (n : ℕ). (b.0, b.1, n, a.3)) (eqb-true a.2 b.2 two.1)
@@ -38,22 +36,6 @@ four_apart a b h = by_other (same_four b a) refl
         let same : a ≡ b = sym (four_equal b a e) in
         let yes_same : same_four a b ≡ true = rw same (four_refl b) in
         absurd (cc)
-
-socket_equal : (a b : SocketId) → same_socket a b ≡ true → a ≡ b
-socket_equal a b h =
-    let ip = a.from_ip == b.from_ip in
-    let port = a.from_port == b.from_port in
-    let to_ip = a.to_ip == b.to_ip in
-    let to_port = a.to_port == b.to_port in
-    let five = both (((ip && port) && to_ip) && to_port) (a.turn == b.turn) h in
-    let four = both ((ip && port) && to_ip) to_port five.0 in
-    let three = both (ip && port) to_ip four.0 in
-    let two = both ip port three.0 in
-    ap (λ (n : ℕ). record a { from_ip = n }) (eqb-true a.from_ip b.from_ip two.0)
-    ∙ ap (λ (n : ℕ). record a { from_ip = b.from_ip; from_port = n }) (eqb-true a.from_port b.from_port two.1)
-    ∙ ap (λ (n : ℕ). record a { from_ip = b.from_ip; from_port = b.from_port; to_ip = n }) (eqb-true a.to_ip b.to_ip three.1)
-    ∙ ap (λ (n : ℕ). record b { to_port = n; turn = a.turn }) (eqb-true a.to_port b.to_port four.1)
-    ∙ ap (λ (n : ℕ). record b { turn = n }) (eqb-true a.turn b.turn five.1)
 
 -- ---- counts
 
@@ -77,7 +59,7 @@ new_among all (x ∷ xs) id w h = by_first (same_socket id x) refl (new_among al
     by_first : (b : Bool) → same_socket id x ≡ b → is_among id xs ≡ false → (b || is_among id xs) ≡ false
     by_first false e rest = rest
     by_first true e rest =
-        let same : x ≡ id = sym (socket_equal id x e) in
+        let same : x ≡ id = sym (same_equal id x e) in
         let low : id.turn ≤ count_of (four_of id) all = rw (← same) w.0 in
         absurd (omega (arith, low, h))
 

@@ -8,7 +8,6 @@ use Rattle.m2_fabric.specs.declared.socket.SocketId.{SocketId}
 use Rattle.m2_fabric.specs.Sockets.{goes_to}
 use Rattle.m2_growth.specs.Holding.{Holding, all_ends}
 use Rattle.m2_growth.specs.InStepLaws.{StayMet, TurnsStayInStep, TurnsStayMet}
-use Rattle.m2_record.proofs.Names.{differ}
 use Rattle.m2_record.specs.Sources.{end_at}
 use Rattle.m2_fabric.specs.InStep.{IsInStep, SeenFabric}
 use Rattle.m2_fabric.specs.Kept.{directions, is_kept}
@@ -18,6 +17,7 @@ use Rattle.m2_promise.specs.Running.{HasAskedPeer, IsNodeAt, IsRunning, NodeActs
 use Rattle.m2_promise.proofs.Asking.{still_asked, was_there}
 use Rattle.m2_promise.proofs.Lists.{get_other, get_set}
 use Rattle.m2_promise.proofs.Openers.{HasEnd, some_end}
+use Rattle.m2_lemmas.proofs.Booleans.{false_isnt_true}
 
 module _ (i : ℕ) (old new : RunNow) (acts : NodeActs i old new) where
   -- what holds of the node that acts, as it is behind it, and of each other holds of all
@@ -32,7 +32,7 @@ module _ (i : ℕ) (old new : RunNow) (acts : NodeActs i old new) where
           let it : acts.behind ≡ h = cc in
           subst (λ g. P n g) it (subst (λ m. P m acts.behind) (sym same) this)
       by false is =
-          others n h (sym (ap (λ l. slice_get l n) acts.is ∙ get_other old.holdings i n acts.behind (λ e. differ (sym is ∙ eq-eqb n i e))) ∙ there)
+          others n h (sym (ap (λ l. slice_get l n) acts.is ∙ get_other old.holdings i n acts.behind (λ e. false_isnt_true (sym is ∙ eq-eqb n i e))) ∙ there)
 
 abbrev HasArrived : SeenFabric → Holding → Type 0
 HasArrived fabric h = (k : SocketId) → goes_to h.port.at k ≡ true → IsSome (end_at (all_ends h) k) → is_kept k fabric.pairs ≡ true

@@ -14,12 +14,11 @@ use Rattle.m2_growth.specs.Ends.{come_to}
 use Rattle.m2_growth.specs.Halves.{AreAskedByPeers, IsAskedByPeer, IsOneOf, asked_on, judged_since}
 use Rattle.m2_growth.specs.Holding.{Holding, all_ends}
 use Rattle.m2_growth.specs.Records.{RecordGrows, RecordsGrow}
-use Rattle.m2_growth.proofs.Among.{among_part, of_each, whose}
+use Rattle.m2_growth.proofs.Among.{of_each, whose}
 use Rattle.m2_handshake.specs.declared.ask.Ask.{Ask}
 use Rattle.m2_journal.specs.declared.entry.Entry.{Entry}
 use Rattle.m2_journal.specs.State.{Judgement}
 use Rattle.m2_journal.specs.SideFacts.{SideFacts}
-use Rattle.m2_record.proofs.Names.{differ}
 use Rattle.m2_record.specs.RecordNow.{RecordNow}
 use Rattle.m2_record.specs.Sources.{end_at, put_of}
 use Rattle.m2_record.specs.TakenTrails.{judgement_of, judgements_in}
@@ -31,6 +30,8 @@ use Rattle.m2_weave.specs.Later.{GoesOn}
 use Rattle.m2_promise.specs.Running.{HasAskedPeer, IsNodeAt, IsRunning, NodeActs, RunNow}
 use Rattle.m2_promise.proofs.BothEnds.{IsCome, address, came_first, come, holds, in_memory}
 use Rattle.m2_promise.proofs.Openers.{HasEnd, asked_end, asked_goes, is_at, is_record}
+use Rattle.m2_fabric.proofs.Sockets.{among_part}
+use Rattle.m2_lemmas.proofs.Booleans.{false_isnt_true}
 
 -- ---- records one after the other
 
@@ -86,7 +87,7 @@ module _ (i : ℕ) (old new : RunNow) (openers : ArrivalsAreTheOpeners) (run : I
       by (Some e) is = record { end = e; at = is }
       by None is =
           let away : goes_to before.port.at k ≡ false = acts.there k is (subst (λ o. IsSome o) (sym now.at) refl) in
-          absurd (differ (sym away ∙ ap (λ a. goes_to a k) (sym acts.grows.grows.at) ∙ goes))
+          absurd (false_isnt_true (sym away ∙ ap (λ a. goes_to a k) (sym acts.grows.grows.at) ∙ goes))
 
   pub came_of_peer : (s : RecordNow) → IsOneOf s behind.records → IsOfPeer (all_ends before) s
   came_of_peer s one j a asked = subst (λ x. comes_from k (Some x) ≡ true) (sym peer_is ∙ mains) c.comes

@@ -4,8 +4,7 @@ use Rattle.std.specs.List.{AllByRecursion}
 use Rattle.std.proofs.lemmas.List.Concat.{flat_map-append}
 use Rattle.m2_channel.specs.Observed.{before_down, marks_down}
 use Rattle.m2_channel.specs.ObservedLaws.{IsLawfulOrder}
-use Rattle.m2_channel.proofs.Keys.{differ}
-use Rattle.m2_channel.proofs.Orders.{far-append, lawful_first, near-append}
+use Rattle.m2_channel.proofs.Orders.{lawful_first}
 use Rattle.m2_fabric.specs.declared.socket.SocketId.{SocketId}
 use Rattle.m2_fabric.specs.Sockets.{goes_to}
 use Rattle.m2_bytes_fit.specs.Orders.{BytesGiveFits, IsByteHistory, OrderEntry, entries_of, entry_in, far_entry, far_half, near_entry, near_half}
@@ -18,7 +17,9 @@ use Rattle.m2_journal.specs.State.{start}
 use Rattle.m2_lossy_in_order.specs.Lossy.{IsByteOrder}
 use Rattle.m2_never_reset.specs.PairLaws.{IsNoDown}
 use Rattle.m2_never_reset.specs.Orders.{AreNodes, FitThroughout, far_item, far_items, near_item, near_items}
-use Rattle.m2_promise.proofs.Ways.{all_first}
+use Rattle.m2_lemmas.proofs.Booleans.{from_false_true}
+use Rattle.m2_never_reset.proofs.Sided.{far_append, near_append}
+use Rattle.m2_lemmas.proofs.Lists.{all_front}
 
 -- ---- up to a mark
 
@@ -69,7 +70,7 @@ no_down (item.numbered number) h = tt
 no_down (item.accepted number key) h = tt
 no_down (item.acked number) h = tt
 no_down (item.obeyed full) h = tt
-no_down (item.down planned step) h = differ (sym h)
+no_down (item.down planned step) h = from_false_true (sym h)
 
 near_none : (es : List OrderEntry) → AllByRecursion IsNoDown (near_items (entries_of (unmarked es)))
 near_none [] = tt
@@ -114,10 +115,10 @@ module _ (gives : BytesGiveFits) (f g : SideFacts) (nodes : AreNodes f g) (es : 
   entries = ap entries_of all ∙ flat_map-append entry_in (unmarked es) rest
 
   near_parts : near_items (entries_of es) ≡ near_items (entries_of (unmarked es)) ++ near_items (entries_of rest)
-  near_parts = ap near_items entries ∙ near-append (entries_of (unmarked es)) (entries_of rest)
+  near_parts = ap near_items entries ∙ near_append (entries_of (unmarked es)) (entries_of rest)
 
   far_parts : far_items (entries_of es) ≡ far_items (entries_of (unmarked es)) ++ far_items (entries_of rest)
-  far_parts = ap far_items entries ∙ far-append (entries_of (unmarked es)) (entries_of rest)
+  far_parts = ap far_items entries ∙ far_append (entries_of (unmarked es)) (entries_of rest)
 
   history : IsByteHistory f g (unmarked es)
   history = record {
@@ -128,8 +129,8 @@ module _ (gives : BytesGiveFits) (f g : SideFacts) (nodes : AreNodes f g) (es : 
     far_lawful = lawful_first g (far_items (entries_of (unmarked es))) (far_items (entries_of rest)) (start g) (subst (λ is. AreLawful g is (start g)) far_parts fits.far_lawful);
     near_not_down = near_none es;
     far_not_down = far_none es;
-    near_posts = all_first CanBePosted (near_items (entries_of (unmarked es))) (near_items (entries_of rest)) (subst (AllByRecursion CanBePosted) near_parts fits.near_posts);
-    far_posts = all_first CanBePosted (far_items (entries_of (unmarked es))) (far_items (entries_of rest)) (subst (AllByRecursion CanBePosted) far_parts fits.far_posts);
+    near_posts = all_front CanBePosted (near_items (entries_of (unmarked es))) (near_items (entries_of rest)) (subst (AllByRecursion CanBePosted) near_parts fits.near_posts);
+    far_posts = all_front CanBePosted (far_items (entries_of (unmarked es))) (far_items (entries_of rest)) (subst (AllByRecursion CanBePosted) far_parts fits.far_posts);
     bytes = λ front back e. fits.bytes front (back ++ rest) (all ∙ ap (λ l. l ++ rest) e ∙ append_assoc front back rest);
   }
 

@@ -12,7 +12,6 @@ use Rattle.m2_bytes_fit.proofs.Judges.{not_judged_on}
 use Rattle.m2_growth.specs.Halves.{IsOneOf, all_left, asked_on}
 use Rattle.m2_growth.specs.Holding.{Holding}
 use Rattle.m2_growth.proofs.Among.{among_mapped, of_each}
-use Rattle.m2_history.proofs.Tidiness.{all_append, all_map, all_so}
 use Rattle.m2_history.specs.Link.{IsWholeHalf}
 use Rattle.m2_history.specs.Woven.{is_of_link, knows}
 use Rattle.m2_journal.specs.declared.entry.Entry.{Entry}
@@ -20,8 +19,7 @@ use Rattle.m2_journal.specs.Lawful.{judged_on}
 use Rattle.m2_links_go_on.proofs.Callers.{IsCalled, IsJudgedBy, judged_by_one, told_all}
 use Rattle.m2_links_go_on.proofs.Nodes as held
 use Rattle.m2_links_go_on.proofs.LinkRecords.{knows_kind}
-use Rattle.m2_links_go_on.proofs.Standing.{judged_sockets, not_true, taken_asked}
-use Rattle.m2_record.proofs.Names.{both, differ}
+use Rattle.m2_links_go_on.proofs.Standing.{judged_sockets, taken_asked}
 use Rattle.m2_record.specs.RecordNow.{RecordNow}
 use Rattle.m2_record.specs.TakenTrails.{judgements_in}
 use Rattle.m2_promise.specs.Running.{HasAskedPeer, IsNodeAt, IsRunning, RunNow}
@@ -37,6 +35,8 @@ use Rattle.m2_weave.specs.Strands.{has_opened, journal_of}
 use Rattle.m2_history.specs.Actors.{is_near}
 use Rattle.m2_history.specs.WovenLink.{IsLooseBeside}
 use Rattle.m2_history.proofs.Whole.{records_are_sides}
+use Rattle.m2_lemmas.proofs.Booleans.{either_turned, not_true_is_false, both_of_and, false_isnt_true}
+use Rattle.m2_lemmas.proofs.Lists.{all_append, all_map, all_so}
 
 -- ---- a half, as records see it
 
@@ -65,17 +65,13 @@ or_last : (c : Bool) → (c || true) ≡ true
 or_last true = refl
 or_last false = refl
 
-turned_round : {A B : Type 0} → A ⊎ B → B ⊎ A
-turned_round (inl a) = inr a
-turned_round (inr b) = inl b
-
 known_by : (a b : List Entry) (l : LooseNow) → l.trail.socket ≡ l.end.id → is_of_link a b l ≡ true → (knows a l.trail.socket ≡ true) ⊎ (knows b l.trail.socket ≡ true)
 known_by a b l same its = or_cases (knows a l.trail.socket) (knows b l.trail.socket) (ap (λ k. knows a k || knows b k) same ∙ its)
 
 -- a socket that comes from an address names it as its opener
 seen_by : (k : SocketId) (at : Addr) → HasAddrRanges at → comes_from k (Some at) ≡ true → HasAddrRanges (opener_of k)
 seen_by k at r comes =
-    let same = both (k.from_ip == at.ip) (k.from_port == at.port) comes in (
+    let same = both_of_and (k.from_ip == at.ip) (k.from_port == at.port) comes in (
       ltb-true 2 (2 ^ 32) refl,
       ltb-true 0 (2 ^ 32) refl,
       subst (λ n. n < 2 ^ 32) (sym (eqb-true k.from_ip at.ip same.0)) r.2,
@@ -93,11 +89,11 @@ module _ (x : RunNow) (run : IsRunning x) (i j : ℕ) (h g : Holding) (a b : Rec
 
   -- its record hasn't opened it
   unopened : (k : SocketId) → goes_to h.port.at k ≡ true → has_opened (journal_of a.journal) k ≡ false
-  unopened k goes = not_true (has_opened (journal_of a.journal) k) (λ o. differ (sym (node.opened_away x.fabric.nodes i h here a t.mine k o) ∙ goes))
+  unopened k goes = not_true_is_false (has_opened (journal_of a.journal) k) (λ o. false_isnt_true (sym (node.opened_away x.fabric.nodes i h here a t.mine k o) ∙ goes))
 
   -- and the other record has judged no ask there
   unasked : (k : SocketId) → goes_to h.port.at k ≡ true → is_among k (judged_sockets b.journal) ≡ false
-  unasked k goes = not_true (is_among k (judged_sockets b.journal)) (λ asked. link.goes_apart x run i j h g a b t k goes (node.asked_goes x.fabric.nodes j g there b t.theirs k asked))
+  unasked k goes = not_true_is_false (is_among k (judged_sockets b.journal)) (λ asked. link.goes_apart x run i j h g a b t k goes (node.asked_goes x.fabric.nodes j g there b t.theirs k asked))
 
   -- so whichever of them knows it, the other has opened it, or its own has judged asks there
   abbrev IsOurs : SocketId → Type 0
@@ -110,20 +106,20 @@ module _ (x : RunNow) (run : IsRunning x) (i j : ℕ) (h g : Holding) (a b : Rec
   ours k goes (inl known) = by (knows_kind k a.journal known)
     where
       by : (has_opened (journal_of a.journal) k ≡ true) ⊎ (is_among k (judged_sockets a.journal) ≡ true) → IsOurs k
-      by (inl o) = absurd (differ (sym (unopened k goes) ∙ o))
+      by (inl o) = absurd (false_isnt_true (sym (unopened k goes) ∙ o))
       by (inr asked) = inr asked
   ours k goes (inr known) = by (knows_kind k b.journal known)
     where
       by : (has_opened (journal_of b.journal) k ≡ true) ⊎ (is_among k (judged_sockets b.journal) ≡ true) → IsOurs k
       by (inl o) = inl o
-      by (inr asked) = absurd (differ (sym (unasked k goes) ∙ asked))
+      by (inr asked) = absurd (false_isnt_true (sym (unasked k goes) ∙ asked))
 
   near_is : (k : SocketId) → goes_to h.port.at k ≡ true → IsKnownTo k → is_near a.journal b.journal k ≡ true
   near_is k goes known = ap (λ o. not o && (has_opened (journal_of b.journal) k || knows a.journal k)) (unopened k goes) ∙ by known
     where
       of_far : (has_opened (journal_of b.journal) k ≡ true) ⊎ (is_among k (judged_sockets b.journal) ≡ true) → (has_opened (journal_of b.journal) k || knows a.journal k) ≡ true
       of_far (inl o) = ap (λ c. c || knows a.journal k) o
-      of_far (inr asked) = absurd (differ (sym (unasked k goes) ∙ asked))
+      of_far (inr asked) = absurd (false_isnt_true (sym (unasked k goes) ∙ asked))
 
       by : IsKnownTo k → (has_opened (journal_of b.journal) k || knows a.journal k) ≡ true
       by (inl mine) = ap (λ c. has_opened (journal_of b.journal) k || c) mine ∙ or_last (has_opened (journal_of b.journal) k)
@@ -133,14 +129,14 @@ module _ (x : RunNow) (run : IsRunning x) (i j : ℕ) (h g : Holding) (a b : Rec
   far_is k goes = by (has_opened (journal_of b.journal) k) refl
     where
       unknown : has_opened (journal_of b.journal) k ≡ false → (has_opened (journal_of b.journal) k ≡ true) ⊎ (is_among k (judged_sockets b.journal) ≡ true) → ⊥
-      unknown closed (inl o) = differ (sym closed ∙ o)
-      unknown closed (inr asked) = differ (sym (unasked k goes) ∙ asked)
+      unknown closed (inl o) = false_isnt_true (sym closed ∙ o)
+      unknown closed (inr asked) = false_isnt_true (sym (unasked k goes) ∙ asked)
 
       by : (c : Bool) → has_opened (journal_of b.journal) k ≡ c → is_near b.journal a.journal k ≡ false
       by true o = ap (λ c. not c && (has_opened (journal_of a.journal) k || knows b.journal k)) o
       by false closed =
           ap (λ c. not c && (has_opened (journal_of a.journal) k || knows b.journal k)) closed ∙ ap (λ c. c || knows b.journal k) (unopened k goes)
-          ∙ not_true (knows b.journal k) (λ known. unknown closed (knows_kind k b.journal known))
+          ∙ not_true_is_false (knows b.journal k) (λ known. unknown closed (knows_kind k b.journal known))
 
   -- it comes from the other node
   comes : (k : SocketId) → IsOurs k → comes_from k (Some (peer_of a)) ≡ true
@@ -183,11 +179,11 @@ module _ (x : RunNow) (run : IsRunning x) (i j : ℕ) (h g : Holding) (a b : Rec
     none_judged our none (inr its) =
         let asked : is_among l.trail.socket (asked_on its.side) ≡ true = ap (λ k. is_among k (judged_sockets its.side.journal)) (sym same) ∙ its.asked in
         let is : its.side ≡ a = link.asker_is x run i j h g a b t l.trail.socket its.side its.there asked (node.opened_comes x.fabric.nodes j g there b t.theirs l.trail.socket (opened our)) in
-        absurd (differ (sym none ∙ ap (λ (r : RecordNow). is_among l.trail.socket (asked_on r)) (sym is) ∙ asked))
+        absurd (false_isnt_true (sym none ∙ ap (λ (r : RecordNow). is_among l.trail.socket (asked_on r)) (sym is) ∙ asked))
       where
         opened : IsOurs l.trail.socket → has_opened (journal_of b.journal) l.trail.socket ≡ true
         opened (inl o) = o
-        opened (inr asked) = absurd (differ (sym none ∙ asked))
+        opened (inr asked) = absurd (false_isnt_true (sym none ∙ asked))
 
     judged : IsOurs l.trail.socket → l.trail.judged ≡ judged_on l.trail.socket (judgements_in a.journal)
     judged our = by (is_among l.trail.socket (judged_sockets a.journal)) refl
@@ -219,7 +215,7 @@ module _ (x : RunNow) (run : IsRunning x) (i j : ℕ) (h g : Holding) (a b : Rec
     -- and of the far one, where this node is the other one's
     pub far_beside : is_of_link b.journal a.journal l ≡ true → IsLooseBeside b.journal a.journal l
     far_beside its =
-        let known = turned_round (known_by b.journal a.journal l on_socket its) in
+        let known = either_turned (known_by b.journal a.journal l on_socket its) in
         record {
           whole = whole;
           entity = entity;
@@ -227,4 +223,4 @@ module _ (x : RunNow) (run : IsRunning x) (i j : ℕ) (h g : Holding) (a b : Rec
         }
 
     pub far_seen : is_of_link b.journal a.journal l ≡ true → HasAddrRanges (opener_of l.trail.socket)
-    far_seen its = seen l.trail.socket (ours l.trail.socket goes (turned_round (known_by b.journal a.journal l on_socket its)))
+    far_seen its = seen l.trail.socket (ours l.trail.socket goes (either_turned (known_by b.journal a.journal l on_socket its)))

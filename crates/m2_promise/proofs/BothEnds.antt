@@ -9,8 +9,6 @@ use Rattle.m2_fabric.specs.Sockets.{goes_to}
 use Rattle.m2_growth.specs.Ends.{EndGrowsTo, come_to}
 use Rattle.m2_growth.specs.Holding.{Holding, all_ends}
 use Rattle.m2_growth.specs.Turn.{CameOfPut}
-use Rattle.m2_links_go_on.proofs.Standing.{not_true}
-use Rattle.m2_record.proofs.Names.{differ}
 use Rattle.m2_record.specs.Sources.{end_at}
 use Rattle.m2_fabric.specs.Kept.{is_kept}
 use Rattle.m2_fabric.specs.Meeting.{comes_from}
@@ -19,6 +17,7 @@ use Rattle.m2_promise.specs.Running.{HoldsAll, IsRunning, RunNow}
 use Rattle.m2_promise.proofs.Kept.{IsMet, are_met}
 use Rattle.m2_promise.proofs.Openers.{IsOpener, opener_of}
 use Rattle.m2_promise.proofs.Places.{IsFromTo, accepted, comes_one, goes_one}
+use Rattle.m2_lemmas.proofs.Booleans.{not_true_is_false, false_isnt_true}
 
 -- ---- what came to an end
 
@@ -27,7 +26,7 @@ pub came_first : (v e : SeenEnd) (put : List ℕ) → come_to v ≡ come_to e �
 came_first v e put same some came = at v.inflow same
   where
     at : (i : Option Inflow) → option_map (λ (i : Inflow). v.log.got ++ i.readable) i ≡ come_to e → GoesOn v.log.got put
-    at None none = absurd (differ (ap is_some none ∙ some))
+    at None none = absurd (false_isnt_true (ap is_some none ∙ some))
     at (Some i) is =
         let on : GoesOn (v.log.got ++ i.readable) put = subst (λ o. IfSome o (λ bytes. GoesOn bytes put)) (sym is) came in
         (i.readable ++ on.0, on.1 ∙ append_assoc v.log.got i.readable on.0)
@@ -57,11 +56,11 @@ pub held_at : (x : RunNow) → HoldsAll x → (n : ℕ) (k : SocketId) → IsSom
 held_at x all n k some = by (slice_get x.holdings n) refl
   where
     within : (h : Holding) → slice_get x.holdings n ≡ Some h → x.holder.ends n k ≡ end_at (all_ends h) k → (o : Option SeenEnd) → end_at (all_ends h) k ≡ o → IsHeldAt x n k
-    within h so is None at = absurd (differ (sym (ap is_some (is ∙ at)) ∙ some))
+    within h so is None at = absurd (false_isnt_true (sym (ap is_some (is ∙ at)) ∙ some))
     within h so is (Some e) at = record { holding = h; there = so; end = e; at = at; is = is ∙ at }
 
     by : (o : Option Holding) → slice_get x.holdings n ≡ o → IsHeldAt x n k
-    by None so = absurd (differ (sym (ap is_some (all.none n so k)) ∙ some))
+    by None so = absurd (false_isnt_true (sym (ap is_some (all.none n so k)) ∙ some))
     by (Some h) so = within h so (all.ends n h so k) (end_at (all_ends h) k) refl
 
 -- ---- both ends
@@ -116,7 +115,7 @@ module _ (x : RunNow) (run : IsRunning x) where
 
     away : goes_to one.holding.port.at k ≡ false
     away =
-        not_true (goes_to one.holding.port.at k)
+        not_true_is_false (goes_to one.holding.port.at k)
         (λ g. way.other (goes_one x.fabric.nodes met.to met.from two.holding.port.at one.holding.port.at k run.apart (run.nodes met.to two.holding two.there).at (run.nodes met.from one.holding one.there).at goes g))
 
     pub come : goes_to h.port.at k ≡ true → IsCome x k e

@@ -8,7 +8,6 @@ use Rattle.std.proofs.lemmas.List.Sums.{sum_by-append}
 use Rattle.std.proofs.lemmas.Option.{none-some, same_Some, slice_get-map}
 use Rattle.m2_center.specs.Center.{CenterNow}
 use Rattle.m2_center.specs.CenterTurn.{TakesTurn, all_amid_in, mailing_in}
-use Rattle.m2_channel.proofs.Keys.{differ}
 use Rattle.m2_cluster.specs.Cluster.{ClusterNow}
 use Rattle.m2_cluster.specs.Node.{NodeNow, rest_of_node}
 use Rattle.m2_dispatch.specs.Heard.{Heard}
@@ -39,6 +38,7 @@ use Rattle.m2_center.specs.Mailing.{Mailing, Mails, MailsSome, PutsSome, heard_a
 use Rattle.m2_center.specs.Outbox.{Dispatches, DispatchesOr, OutboxNow, Puts, PutsLetter, Retries, RetriesFor, is_free}
 use Rattle.m2_center.specs.RecordTurn.{EndsBy, Means, PutsHanded, Steps, Turning, TurnsAs}
 use Rattle.m2_center.specs.RecordsTurn.{AllAmid, Amid, Around, DialsAndSteps, EachTurns, TurnsEach, TurnsIf, TurnsInOrder, all_amid, amid, turning_amid}
+use Rattle.m2_lemmas.proofs.Booleans.{from_false_true}
 
 -- ---- logs only grow
 
@@ -217,7 +217,7 @@ module _ {D : Type 0} (E : Type 0) (heard : D → List Heard) where
     where
       by : (b : Bool) → (a == k) ≡ b → ((a == k) ≡ true) × (n ≡ behind) ⊎ ((a == k) ≡ false) × (slice_get nodes k ≡ Some n)
       by true h = inl (h, same_Some n behind (sym e ∙ ap (slice_get (slice_set nodes a behind)) (sym (eqb-true a k h)) ∙ get_set nodes a before behind was))
-      by false h = inr (h, sym (get_other nodes a k behind (λ same. differ (sym h ∙ eq-eqb a k (sym same)))) ∙ e)
+      by false h = inr (h, sym (get_other nodes a k behind (λ same. from_false_true (sym h ∙ eq-eqb a k (sym same)))) ∙ e)
 
   planned : (a b : ℕ) (x : PlanStep) (old new : RunNow D) → PlansStep (Ok tt) a b x old new → AllNoted heard old → AllNoted heard new
   planned a b x old new p was k n e =

@@ -18,13 +18,13 @@ use Rattle.m2_center.specs.Outbox.{OutboxNow}
 use Rattle.m2_center.specs.RecordTurn.{Means}
 use Rattle.m2_center.specs.Center.{CenterNow}
 use Rattle.m2_center.specs.CenterTurn.{Accepts, Answer, EmptiesMail, TakesTurn, TurnsHalves, TurnsRecords, all_amid_in, callers_of, mailing_in, stepped_so}
-use Rattle.m2_growth.proofs.Going.{all_so}
 use Rattle.m2_links_go_on.proofs.Judged.{halves_stay_steady}
 use Rattle.m2_links_go_on.proofs.Lagging.{place_of}
 use Rattle.m2_promise.specs.Planned.{AreOfPeers, IsPeerOf}
 use Rattle.m2_promise.proofs.Planned.{KeepPlans, planned_of, steady_plans}
 use Rattle.m2_promise.proofs.Outboxes.{AllIsOf, QueueIsOf, mailed_on}
 use Rattle.m2_promise.proofs.RecordTurns.{records_turn}
+use Rattle.m2_lemmas.proofs.Lists.{all_so_of}
 
 -- ---- peers of records
 
@@ -87,11 +87,11 @@ module _ {D : Type 0} (heard : D → List Heard) where
   -- of the peers that records have still
   pub are_of_peers : (rs ss : List RecordNow) (o : OutboxNow D) (q : Queued D) → SamePlaces rs ss → AllIsOf heard (IsPeerOf rs) o q → AreOfPeers heard ss o q
   are_of_peers rs ss o q e a = record {
-    fast = all_so (λ (h : Heard). IsPeerOf rs (peer_of h)) (λ (h : Heard). IsPeerOf ss (peer_of h)) (heard o.fast) (λ h. still (peer_of h)) a.fast.fast;
+    fast = all_so_of (λ (h : Heard). IsPeerOf rs (peer_of h)) (λ (h : Heard). IsPeerOf ss (peer_of h)) (heard o.fast) (λ h. still (peer_of h)) a.fast.fast;
     held = letter o.held a.fast.held;
-    mail = all_so (λ (x : Parcel). IsPeerOf rs (handing.peer_of x)) (λ (x : Parcel). IsPeerOf ss (handing.peer_of x)) o.mail (λ x. still (handing.peer_of x)) a.fast.mail;
-    waiting = all_so (λ (l : Letter). IsPeerOf rs l.peer) (λ (l : Letter). IsPeerOf ss l.peer) q.waiting (λ l. still l.peer) a.queue.waiting;
-    queued = all_so (λ (h : Heard). IsPeerOf rs (peer_of h)) (λ (h : Heard). IsPeerOf ss (peer_of h)) (heard q.inner) (λ h. still (peer_of h)) a.queue.calls;
+    mail = all_so_of (λ (x : Parcel). IsPeerOf rs (handing.peer_of x)) (λ (x : Parcel). IsPeerOf ss (handing.peer_of x)) o.mail (λ x. still (handing.peer_of x)) a.fast.mail;
+    waiting = all_so_of (λ (l : Letter). IsPeerOf rs l.peer) (λ (l : Letter). IsPeerOf ss l.peer) q.waiting (λ l. still l.peer) a.queue.waiting;
+    queued = all_so_of (λ (h : Heard). IsPeerOf rs (peer_of h)) (λ (h : Heard). IsPeerOf ss (peer_of h)) (heard q.inner) (λ h. still (peer_of h)) a.queue.calls;
   }
     where
       still : (peer : ℕ) → IsPeerOf rs peer → IsPeerOf ss peer

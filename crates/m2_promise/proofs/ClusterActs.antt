@@ -1,13 +1,11 @@
 -- Where one node of a cluster acts, one node of the run does.
 use Rattle.std.proofs.Common.{◌≡◌, ℕ, zero, suc, List, [], ◌∷◌, ◌++◌, length, map, slice_get, slice_set, Option, Some, None, refl, sym, ap, subst, ◌∙◌}
-use Rattle.std.specs.Prelude.{unwrap_or}
 use Rattle.m2_addr.specs.declared.addr.Addr.{Addr}
 use Rattle.m2_fabric.specs.declared.socket.SocketId.{SocketId}
-use Rattle.m2_fabric.specs.End.{SeenEnd}
 use Rattle.m2_record.specs.Sources.{end_at}
 use Rattle.m2_center.specs.Center.{CenterNow}
 use Rattle.m2_center.specs.CenterTurn.{means_at}
-use Rattle.m2_center.specs.Reaching.{ends_in, ends_or_none}
+use Rattle.m2_center.specs.Reaching.{ends_in}
 use Rattle.m2_cluster.specs.Cluster.{ClusterNow, OneDoes, end_of}
 use Rattle.m2_cluster.specs.Node.{NodeNow, NodePlans, NodeTurns, end_in}
 use Rattle.m2_links_go_on.specs.Center.{holding_of}
@@ -22,17 +20,14 @@ use Rattle.m2_fabric.specs.SimFabric.{fresh_fabric}
 use Rattle.m2_promise.specs.Acting.{holdings_of, run_of}
 use Rattle.m2_promise.specs.Beginning.{IsNewAt}
 use Rattle.m2_promise.specs.BeginningLaws.{ClustersHoldAll, NewCentersAreNew, NewClustersBegin, OnePlanActs, OneTurnActs}
+use Rattle.m2_lemmas.proofs.Lists.{get_map}
+use Rattle.m2_links_go_on.proofs.OneGrows.{same_waiting}
 
 -- ---- lists
 
 length_of : {X Y : Type 0} (f : X → Y) (xs : List X) → length xs ≡ length (map f xs)
 length_of f [] = refl
 length_of f (x ∷ xs) = ap (λ n. suc n) (length_of f xs)
-
-get_of : {X Y : Type 0} (f : X → Y) (xs : List X) (i : ℕ) (x : X) → slice_get xs i ≡ Some x → slice_get (map f xs) i ≡ Some (f x)
-get_of f [] i x e = absurd cc
-get_of f (z ∷ zs) zero x e = let same : z ≡ x = cc in ap (λ y. Some (f y)) same
-get_of f (z ∷ zs) (suc i) x e = get_of f zs i x e
 
 get_none : {X Y : Type 0} (f : X → Y) (xs : List X) (i : ℕ) → slice_get xs i ≡ None → slice_get (map f xs) i ≡ None
 get_none f [] i e = refl
@@ -51,10 +46,6 @@ set_of f (z ∷ zs) zero y = refl
 set_of f (z ∷ zs) (suc i) y = ap (λ l. f z ∷ l) (set_of f zs i y)
 
 -- ---- the ends of a center, and those that it holds
-
-same_waiting : (o : Option (List SeenEnd)) → unwrap_or o [] ≡ ends_or_none o
-same_waiting (Some es) = refl
-same_waiting None = refl
 
 module _ {D : Type 0} where
   same_ends : (c : CenterNow D) (k : SocketId) → end_at (all_ends (holding_of c)) k ≡ end_in c k
@@ -96,7 +87,7 @@ module _ {D : Type 0} where
   new_there : (addrs : List Addr) (nodes : List (NodeNow D)) (i : ℕ) (h : Holding) (o : Option (NodeNow D)) → slice_get nodes i ≡ o → slice_get (holdings_of nodes) i ≡ Some h →
       ((n : NodeNow D) → o ≡ Some n → IsNewAt addrs i (holding_of n.center)) → IsNewAt addrs i h
   new_there addrs nodes i h None is e new = absurd (nothing_there (sym (get_none (λ (n : NodeNow D). holding_of n.center) nodes i is) ∙ e))
-  new_there addrs nodes i h (Some n) is e new = subst (IsNewAt addrs i) (one_there (sym (get_of (λ (n : NodeNow D). holding_of n.center) nodes i n is) ∙ e)) (new n refl)
+  new_there addrs nodes i h (Some n) is e new = subst (IsNewAt addrs i) (one_there (sym (get_map (λ (n : NodeNow D). holding_of n.center) nodes i n is) ∙ e)) (new n refl)
 
   pub new_clusters : NewClustersBegin D
   new_clusters addrs nodes apart many new = record {
@@ -115,7 +106,7 @@ module _ {D : Type 0} where
   acts_so i how fabric old new does grows brings node all = record {
     before = holding_of does.before.center;
     behind = holding_of does.behind.center;
-    was = get_of (λ (n : NodeNow D). holding_of n.center) old.nodes i does.before does.was;
+    was = get_map (λ (n : NodeNow D). holding_of n.center) old.nodes i does.before does.was;
     is = ap (λ (c : ClusterNow D). holdings_of c.nodes) does.only ∙ set_of (λ (n : NodeNow D). holding_of n.center) old.nodes i does.behind;
     grows = grows;
     node = node;

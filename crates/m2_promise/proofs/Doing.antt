@@ -23,8 +23,9 @@ use Rattle.m2_promise.specs.Kept.{run_in}
 use Rattle.m2_promise.specs.KeepingLaws.{DeedsStayKept}
 use Rattle.m2_promise.proofs.KeptActing.{plan_rests, turn_rests}
 use Rattle.m2_promise.proofs.KeptHearing.{fault_rests, flow_rests, meeting_rests}
-use Rattle.m2_promise.proofs.KeptLists.{all_by, there_too}
+use Rattle.m2_promise.proofs.KeptLists.{there_too}
 use Rattle.m2_promise.proofs.Whole.{holding_at}
+use Rattle.m2_lemmas.proofs.Lists.{all_by_places}
 
 -- records whose plans go on have their sides
 same_sides : (i : ℕ) (ds : List Deed) (rs ss : List RecordNow) → OneByOne (GoesOnBy i ds) rs ss → map side_of ss ≡ map side_of rs
@@ -37,7 +38,7 @@ module _ {D : Type 0} where
   -- each socket has one end at each node of a run
   pub all_own : (s : RunNow D) → IsRunning (run_in s) → AllOwn s.cluster.nodes
   all_own s run =
-      all_by (λ (n : NodeNow D). AreOwn (holding_of n.center)) s.cluster.nodes
+      all_by_places (λ (n : NodeNow D). AreOwn (holding_of n.center)) s.cluster.nodes
       (λ i n there. (run.nodes i (holding_of n.center) (holding_at s.cluster.nodes i n there)).node.own)
 
   -- the records of nodes whose plans go on are over the same links

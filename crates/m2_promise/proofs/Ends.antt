@@ -1,11 +1,10 @@
 -- The two records of a link that is up: neither marked down, and each the only one of its node towards the other.
-use Rattle.std.proofs.Common.{◌≡◌, ℕ, zero, suc, inl, inr, Bool, true, false, not, ◌&&◌, ◌||◌, ◌==◌, if◌then◌else◌, List, [], ◌∷◌, map, sum_by, count_by, refl, sym, ap, subst, ◌∙◌, arith}
+use Rattle.std.proofs.Common.{◌≡◌, ℕ, zero, suc, inl, inr, Bool, true, false, ◌&&◌, ◌||◌, ◌==◌, if◌then◌else◌, List, [], ◌∷◌, map, sum_by, count_by, refl, sym, ap, subst, ◌∙◌, arith}
 use Rattle.std.specs.Prelude.{Some, slice_get}
 use Rattle.std.specs.List.{AllByRecursion, IsDistinct, list_any}
-use Rattle.std.proofs.lemmas.Bool.{eq-eqb, eqb-true, or_parts}
+use Rattle.std.proofs.lemmas.Bool.{eq-eqb, or_parts}
 use Rattle.std.proofs.lemmas.List.Sums.{sum_by-cons}
 use Rattle.std.proofs.lemmas.Option.{none-some, same_Some}
-use Rattle.m2_channel.proofs.Keys.{differ}
 use Rattle.m2_promise.specs.Delivered.{MarksNoneDown}
 use Rattle.m2_growth.specs.Halves.{IsOneOf}
 use Rattle.m2_growth.proofs.Among.{mapped_one, of_each}
@@ -14,6 +13,8 @@ use Rattle.m2_journal.specs.declared.entry.Entry.TheVariants as entry
 use Rattle.m2_links_go_on.specs.Logged.{AreOfTheirPeers}
 use Rattle.m2_record.specs.RecordNow.{RecordNow}
 use Rattle.m2_script.specs.Outcome.{is_down, is_down_entry, is_post_step}
+use Rattle.m2_lemmas.proofs.Booleans.{or_false, from_false_true}
+use Rattle.m2_lemmas.proofs.Numbers.{unlike_turned}
 
 -- ---- lists
 
@@ -26,10 +27,6 @@ none_so : {X : Type 0} (test : X → Bool) (x : X) (xs : List X) → list_any te
 none_so test x [] none one = absurd one
 none_so test x (y ∷ xs) none (inl e) = ap test e ∙ (or_parts (test y) (list_any test xs) none).0
 none_so test x (y ∷ xs) none (inr one) = none_so test x xs (or_parts (test y) (list_any test xs) none).1 one
-
-pub not_so : (b : Bool) → not b ≡ true → b ≡ false
-not_so true e = differ e
-not_so false e = refl
 
 -- ---- marked down
 
@@ -46,7 +43,7 @@ no_mark (entry.Numbered number) h = tt
 no_mark (entry.Accepted number key) h = tt
 no_mark (entry.Acked number) h = tt
 no_mark (entry.Obeyed full) h = tt
-no_mark (entry.Down planned) h = differ (sym h)
+no_mark (entry.Down planned) h = from_false_true (sym h)
 
 no_marks : (es : List Entry) → list_any is_down_entry es ≡ false → AllByRecursion MarksNoneDown es
 no_marks [] h = tt
@@ -54,7 +51,7 @@ no_marks (e ∷ es) h = let parts = or_parts (is_down_entry e) (list_any is_down
 
 and_false : (b c : Bool) → b ≡ true → (b && c) ≡ false → c ≡ false
 and_false true c e h = h
-and_false false c e h = differ e
+and_false false c e h = from_false_true e
 
 -- no record towards y was marked down
 pub never_marked : (y : ℕ) (rs : List RecordNow) (r : RecordNow) → list_any (λ (s : RecordNow). (s.place == y) && is_down s) rs ≡ false → IsOneOf r rs → r.place ≡ y → AllByRecursion MarksNoneDown r.journal
@@ -70,24 +67,17 @@ abbrev posts_if : ℕ → RecordNow → ℕ
 posts_if y r = if r.place == y then count_by is_post_step r.plan else 0
 
 if_not : (b : Bool) (n : ℕ) → b ≡ false → (if b then n else 0) ≡ 0
-if_not true n e = differ (sym e)
+if_not true n e = from_false_true (sym e)
 if_not false n e = refl
 
 if_so : (b : Bool) (n : ℕ) → b ≡ true → (if b then n else 0) ≡ n
 if_so true n e = refl
-if_so false n e = differ e
-
-turned : (a b : ℕ) → (a == b) ≡ false → (b == a) ≡ false
-turned a b e = by (b == a) refl
-  where
-    by : (c : Bool) → (b == a) ≡ c → (b == a) ≡ false
-    by true h = differ (sym e ∙ eq-eqb a b (sym (eqb-true b a h)))
-    by false h = h
+if_so false n e = from_false_true e
 
 none_towards : (y : ℕ) (rs : List RecordNow) → AllByRecursion (λ (q : ℕ). (y == q) ≡ false) (map place_in rs) → sum_by (posts_if y) rs ≡ 0
 none_towards y [] all = refl
 none_towards y (r ∷ rs) all =
-    let here = if_not (r.place == y) (count_by is_post_step r.plan) (turned y r.place all.0) in
+    let here = if_not (r.place == y) (count_by is_post_step r.plan) (unlike_turned y r.place all.0) in
     sum_by-cons (posts_if y) r rs ∙ omega (arith, here, none_towards y rs all.1)
 
 pub only_towards : (y : ℕ) (rs : List RecordNow) (r : RecordNow) → AreOfTheirPeers rs → IsOneOf r rs → r.place ≡ y → sum_by (posts_if y) rs ≡ count_by is_post_step r.plan
@@ -107,11 +97,7 @@ only_towards y (s ∷ rs) r apart (inr one) e =
 -- what is asked of any record towards y is asked of that one
 none_any : (test : RecordNow → Bool) (y : ℕ) (rs : List RecordNow) → AllByRecursion (λ (q : ℕ). (y == q) ≡ false) (map place_in rs) → list_any (λ (q : RecordNow). (q.place == y) && test q) rs ≡ false
 none_any test y [] all = refl
-none_any test y (r ∷ rs) all = ap (λ c. (c && test r) || list_any (λ (q : RecordNow). (q.place == y) && test q) rs) (turned y r.place all.0) ∙ none_any test y rs all.1
-
-or_false : (b : Bool) → (b || false) ≡ b
-or_false true = refl
-or_false false = refl
+none_any test y (r ∷ rs) all = ap (λ c. (c && test r) || list_any (λ (q : RecordNow). (q.place == y) && test q) rs) (unlike_turned y r.place all.0) ∙ none_any test y rs all.1
 
 pub only_any : (test : RecordNow → Bool) (y : ℕ) (rs : List RecordNow) (r : RecordNow) → AreOfTheirPeers rs → IsOneOf r rs → r.place ≡ y → list_any (λ (q : RecordNow). (q.place == y) && test q) rs ≡ test r
 unfolding IsDistinct

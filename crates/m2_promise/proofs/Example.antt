@@ -13,7 +13,6 @@ use Rattle.m2_journal.proofs.Pair.{facts_of_a, facts_of_b, here, there}
 use Rattle.m2_links_go_on.proofs.Example.{is_node_of_a, is_node_of_b, node, side}
 use Rattle.m2_links_go_on.proofs.LinkRecords.{at_place}
 use Rattle.m2_links_go_on.proofs.Staying.{staying_goes_on}
-use Rattle.m2_record.proofs.Names.{differ}
 use Rattle.m2_record.specs.RecordNow.{RecordNow}
 use Rattle.m2_record.specs.Sources.{end_at}
 use Rattle.m2_fabric.specs.InStep.{SeenFabric}
@@ -24,6 +23,7 @@ use Rattle.m2_links_go_on.specs.Sides.{woven_now}
 use Rattle.m2_weave.specs.TurnLaws.{HasOrder}
 use Rattle.m2_promise.specs.RunLaws.{ANodeActs}
 use Rattle.m2_promise.specs.Running.{HasAskedPeer, HaveOrders, HoldsAll, IsNodeAt, IsRunning, RunNow}
+use Rattle.m2_lemmas.proofs.Booleans.{false_isnt_true}
 
 abbrev one : Holding
 one = (node facts_of_a 1).holding
@@ -77,10 +77,10 @@ is_running = record {
   holds = holds;
   between = record {
     kept = tt;
-    arrived = of_both (λ i h. (k : SocketId) → goes_to h.port.at k ≡ true → IsSome (end_at (all_ends h) k) → is_kept k [] ≡ true) (λ k g s. absurd (differ s)) (λ k g s. absurd (differ s));
+    arrived = of_both (λ i h. (k : SocketId) → goes_to h.port.at k ≡ true → IsSome (end_at (all_ends h) k) → is_kept k [] ≡ true) (λ k g s. absurd (false_isnt_true s)) (λ k g s. absurd (false_isnt_true s));
   };
   nodes = of_both (IsNodeAt (here ∷ there ∷ [])) one_at two_at;
-  asked = of_both (λ i h. AllByRecursion HasAskedPeer h.records) (λ k a. absurd (differ a), tt) (λ k a. absurd (differ a), tt);
+  asked = of_both (λ i h. AllByRecursion HasAskedPeer h.records) (λ k a. absurd (false_isnt_true a), tt) (λ k a. absurd (false_isnt_true a), tt);
 }
 
 -- ---- nothing was done
@@ -137,7 +137,7 @@ a_node_acts = record {
     is = refl;
     grows = (staying_goes_on (node facts_of_a 1) 0 is_node_of_a refl).grows;
     node = one_at;
-    there = λ k none some. absurd (differ some);
+    there = λ k none some. absurd (false_isnt_true some);
     fabric = refl;
     holds = holds;
     ends = record { nodes = refl; ends = λ n k. tt; memory = λ n k. tt };

@@ -38,6 +38,7 @@ use Rattle.m2_script.proofs.Apart.{addresses_apart, get_address, get_at}
 use Rattle.m2_script.proofs.Over.{can_begin, map_roomless, places_apart}
 use Rattle.m2_promise.specs.Started.{IsFirst}
 use Rattle.m2_promise.proofs.Records.{all_sides, all_taken, all_unused, no_plans, none_handed}
+use Rattle.m2_lemmas.proofs.Lists.{all_by_places}
 
 -- ---- lists
 
@@ -50,11 +51,6 @@ beside [] ys i x same e = absurd (none-some x e)
 beside (a ∷ xs) [] i x same e = absurd (omega (arith, same))
 beside (a ∷ xs) (b ∷ ys) zero x same e = (b, refl)
 beside (a ∷ xs) (b ∷ ys) (suc i) x same e = beside xs ys i x (omega (arith, same)) e
-
--- what holds at each place holds of all
-by_places : {X : Type 0} (P : X → Type 0) (xs : List X) → ((i : ℕ) (x : X) → slice_get xs i ≡ Some x → P x) → AllByRecursion P xs
-by_places P [] at = tt
-by_places P (x ∷ xs) at = (at 0 x refl, by_places P xs (λ i y e. at (suc i) y e))
 
 true_false : true ≡ false → ⊥
 true_false e = cc
@@ -157,8 +153,8 @@ module _ (begins : BeginningsRun) (ordered : BeginningsHaveOrders) (new_centers 
   pub first_kept : IsKept heard_by nodes links s
   first_kept = record {
     rest = record { running = begins (run_of all s.fabric) starts; ends = its_ends; orders = ordered (run_of all s.fabric) starts };
-    whole = by_places IsWholeNode all (λ i n e. (at_place i n e).whole);
-    kept = by_places (IsKeptNode heard_by) all (λ i n e. kept i (named i n e).0 n (named i n e).1 (at_place i n e));
+    whole = all_by_places IsWholeNode all (λ i n e. (at_place i n e).whole);
+    kept = all_by_places (IsKeptNode heard_by) all (λ i n e. kept i (named i n e).0 n (named i n e).1 (at_place i n e));
     count = first.new.count;
     sides = λ i n e. sides i (named i n e).0 n (named i n e).1 (at_place i n e);
   }

@@ -11,7 +11,6 @@ use Rattle.m2_growth.specs.Ends.{EndGrowsTo, IsNewborn, come_to}
 use Rattle.m2_growth.specs.Halves.{IsOneOf, all_left, asked_on}
 use Rattle.m2_growth.specs.Holding.{Holding, all_ends, waiting_at}
 use Rattle.m2_growth.proofs.Among.{each_by, of_each}
-use Rattle.m2_history.proofs.Tidiness.{all_map}
 use Rattle.m2_history.specs.Woven.{EndNow, bytes_at, end_of, half_end, knows}
 use Rattle.m2_growth.specs.Turn.{AllEndsGrow}
 use Rattle.m2_journal.specs.declared.entry.Entry.{Entry}
@@ -20,8 +19,6 @@ use Rattle.m2_links_go_on.proofs.Ends.{its_bytes}
 use Rattle.m2_links_go_on.proofs.Going.{IsKnown}
 use Rattle.m2_links_go_on.proofs.Nodes as nodes
 use Rattle.m2_links_go_on.proofs.LinkRecords.{knows_kind}
-use Rattle.m2_links_go_on.proofs.Standing.{not_true}
-use Rattle.m2_record.proofs.Names.{differ}
 use Rattle.m2_record.specs.RecordNow.{RecordNow, ends_of}
 use Rattle.m2_record.specs.Sources.{end_at}
 use Rattle.m2_fabric.specs.InStep.{IsUnread}
@@ -34,10 +31,12 @@ use Rattle.m2_history.specs.WovenLink.{same_end}
 use Rattle.m2_promise.specs.Running.{IsNodeAt, IsRunning, RunNow}
 use Rattle.m2_promise.proofs.BothEnds.{IsCome, IsGone, came_first, come, gone, holds, in_memory}
 use Rattle.m2_promise.proofs.Openers as node
-use Rattle.m2_promise.proofs.Openers.{IsFound, IsHeldBy, IsOfHalf, IsOpener, Whose, end_found, whose_end}
+use Rattle.m2_promise.proofs.Openers.{IsOpener, Whose, end_found, whose_end}
 use Rattle.m2_promise.proofs.Places.{comes_one, goes_one}
 use Rattle.m2_promise.proofs.Towards as link
 use Rattle.m2_promise.proofs.Towards.{AreTowards, turned}
+use Rattle.m2_lemmas.proofs.Lists.{all_map}
+use Rattle.m2_lemmas.proofs.Booleans.{not_true_is_false, false_isnt_true}
 
 -- ---- lists
 
@@ -50,7 +49,7 @@ none_goes xs ys e = (ys, ap (λ l. l ++ ys) (sym e))
 
 -- what a journal opened it knows
 opened_knows : (es : List Entry) (k : SocketId) → has_opened (journal_of es) k ≡ true → knows es k ≡ true
-opened_knows [] k h = absurd (differ h)
+opened_knows [] k h = absurd (false_isnt_true h)
 opened_knows (entry.Opened x ∷ es) k h = at (same_socket k x) h (opened_knows es k)
   where
     at : (b : Bool) → b || has_opened (journal_of es) k ≡ true → (has_opened (journal_of es) k ≡ true → knows es k ≡ true) → b || knows es k ≡ true
@@ -69,7 +68,7 @@ newborn_got : (e : SeenEnd) → IsNewborn e → IsSome e.inflow → e.log.got �
 newborn_got e new some = at e.inflow some new
   where
     at : (i : Option Inflow) → IsSome i → IfSome (option_map (λ (i : Inflow). e.log.got ++ i.readable) i) (λ bytes. bytes ≡ []) → e.log.got ≡ []
-    at None some new = absurd (differ some)
+    at None some new = absurd (false_isnt_true some)
     at (Some i) some new = empty_first e.log.got i.readable new
 
 -- of what was there, and what is: the end that was, or nothing came
@@ -140,7 +139,7 @@ module _ (old new : RunNow) (run : IsRunning old) (now : IsRunning new) (fabric 
   asker_put : (k : SocketId) (f : SeenEnd) (r : RecordNow) → r ≡ b0 → end_at (ends_of r) k ≡ Some f → goes_to g0.port.at k ≡ true → (bytes_at k false ends).put ≡ f.log.put
   asker_put k f r same at goes =
       side_put k false f (ap (λ (s : RecordNow). end_at (ends_of s) k) (sym same) ∙ at)
-      (not_true (has_opened (journal_of b0.journal) k) (λ o. differ (sym (node.opened_away old.fabric.nodes j g0 (run.nodes j g0 was.far) b0 was.theirs k o) ∙ goes)))
+      (not_true_is_false (has_opened (journal_of b0.journal) k) (λ o. false_isnt_true (sym (node.opened_away old.fabric.nodes j g0 (run.nodes j g0 was.far) b0 was.theirs k o) ∙ goes)))
 
   half_put : (k : SocketId) (f : SeenEnd) (l : LooseNow) → k ≡ f.id → IsOneOf l (all_left g0.halves) → f ≡ l.end → (r : RecordNow) → r ≡ a0 → has_opened (journal_of r.journal) k ≡ true →
       (bytes_at k false ends).put ≡ f.log.put
@@ -234,7 +233,7 @@ module _ (old new : RunNow) (run : IsRunning old) (now : IsRunning new) (fabric 
   of_kind e one (inr asked) =
       let goes : goes_to h.port.at e.id ≡ true = node.asked_goes new.fabric.nodes i h here a is.mine e.id asked in
       let unopened : has_opened (journal_of a.journal) e.id ≡ false =
-      not_true (has_opened (journal_of a.journal) e.id) (λ o. differ (sym (node.opened_away new.fabric.nodes i h here a is.mine e.id o) ∙ goes)) in
+      not_true_is_false (has_opened (journal_of a.journal) e.id) (λ o. false_isnt_true (sym (node.opened_away new.fabric.nodes i h here a is.mine e.id o) ∙ goes)) in
       subst (λ o. GoesOn e.log.got (bytes_at e.id (not o) ends).put) (sym unopened)
       (arrived e.id e (nodes.held_at h here.node a is.mine e.id e (nodes.own_at h here.node a is.mine e one)) goes (link.asked_comes new now i j h g a b is e.id asked))
 
@@ -251,7 +250,7 @@ module _ (old new : RunNow) (run : IsRunning old) (now : IsRunning new) (fabric 
       goes = of_each (λ (x : LooseNow). goes_to h.port.at x.end.id ≡ true) l (all_left h.halves) here.node.own.here one
 
       mine : (has_opened (journal_of a.journal) l.end.id ≡ true) ⊎ (is_among l.end.id (asked_on a) ≡ true) → comes_from l.end.id (Some g.port.at) ≡ true
-      mine (inl o) = absurd (differ (sym (node.opened_away new.fabric.nodes i h here a is.mine l.end.id o) ∙ goes))
+      mine (inl o) = absurd (false_isnt_true (sym (node.opened_away new.fabric.nodes i h here a is.mine l.end.id o) ∙ goes))
       mine (inr asked) = link.asked_comes new now i j h g a b is l.end.id asked
 
       theirs : (has_opened (journal_of b.journal) l.end.id ≡ true) ⊎ (is_among l.end.id (asked_on b) ≡ true) → comes_from l.end.id (Some g.port.at) ≡ true

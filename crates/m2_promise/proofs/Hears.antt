@@ -8,7 +8,6 @@ use Rattle.m2_channel.specs.ObservedLaws.{ComeAsPosted}
 use Rattle.m2_never_reset.specs.Order.{AreFirstOf}
 use Rattle.m2_dispatch.specs.Heard.{Heard, is_message_from, message, of_key, reset}
 use Rattle.m2_dispatch.specs.Laws.{IsSublist}
-use Rattle.m2_history.proofs.Tidiness.{all_so}
 use Rattle.m2_journal.specs.SideFacts.{SideFacts}
 use Rattle.m2_message.specs.Message.{Content, unnumbered}
 use Rattle.m2_scenario.specs.Order.{AreSame, IsNoResetBy, IsPrefixOf, posts_between, posts_of}
@@ -21,6 +20,7 @@ use Rattle.m2_promise.proofs.Turns.{all_turns, count_turns, key_turns}
 use Rattle.m2_scenario.specs.Draft.{DraftLine}
 use Rattle.m2_script.specs.declared.calls.TurnCalls.{TurnCalls}
 use Rattle.m2_script.specs.Outcome.{in_turns}
+use Rattle.m2_lemmas.proofs.Lists.{all_so}
 
 -- what the node at y, which dispatches these kinds at once, heard of the node at x
 pub record HearsOf (x y : ℕ) (fast : List ℕ) (lines : List DraftLine) (heard : List Heard) : Type 0 where

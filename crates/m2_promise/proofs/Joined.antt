@@ -11,7 +11,6 @@ use Rattle.m2_promise.specs.DeliveryLaws.{LinksAreDelivered, LinksHaveOrders, Ru
 use Rattle.m2_promise.specs.Lossy.{ComeInOrderOn}
 use Rattle.m2_promise.proofs.Links.{far_record, near_record, never_down}
 use Rattle.m2_promise.proofs.Logs.{heard_there, some_there}
-use Rattle.m2_promise.proofs.Strands.{by_actors}
 use Rattle.m2_dispatch.specs.declared.logged.Logged.{Logged}
 use Rattle.m2_dispatch.specs.Heard.{Heard, heard_by, of_key}
 use Rattle.m2_dispatch.specs.Laws.{IsSublist}
@@ -31,7 +30,7 @@ use Rattle.m2_lossy_in_order.specs.Lossy.{AreLossy}
 use Rattle.m2_message.specs.Message.{unnumbered}
 use Rattle.m2_scenario.specs.Order.{posts_of}
 use Rattle.m2_never_reset.specs.Orders as orders
-use Rattle.m2_never_reset.specs.Orders.{AreNodes, IsHistory, SideItem, far_after, far_item, far_items, near_after, near_item, near_items, posts_in}
+use Rattle.m2_never_reset.specs.Orders.{AreNodes, IsHistory, SideItem, far_item, far_items, near_item, near_items, posts_in}
 use Rattle.m2_policy.specs.declared.path.Key.{Key}
 use Rattle.m2_promise.specs.Posted.{AreAcknowledged, AreMarkedIn, AreRecordsOver, AreSomeOf, AreUpIn, IsMarkedSo, PostsOfTypes, logs_of}
 use Rattle.m2_promise.proofs.Before.{lawful_order}
@@ -40,7 +39,6 @@ use Rattle.m2_promise.proofs.PostedPlans.{posts_to}
 use Rattle.m2_promise.proofs.Sides.{told_by}
 use Rattle.m2_promise.proofs.PostsTowards as record_of
 use Rattle.m2_promise.proofs.PostsTowards.{IsTowards}
-use Rattle.m2_promise.proofs.Ways.{all_first, all_last}
 use Rattle.m2_record.specs.IsRecord.{IsRecord}
 use Rattle.m2_record.specs.RecordNow.{RecordNow, speaks_of}
 use Rattle.m2_promise.specs.Running.{IsLinkOf}
@@ -57,7 +55,8 @@ use Rattle.m2_weave.specs.WeaveLaws.{AsksComeFirst, ReadWasWritten}
 use Rattle.m2_history.specs.WovenLaws.{WovenBytesFit, WovenIsDelivered, WovenIsNeverReset, kept_by}
 use Rattle.m2_history.specs.WovenLink.{AreUp, IsLink, IsOrderOf, LinkNow, order_of}
 use Rattle.m2_history.specs.Lossy.{AreSomeLogs, WovenComesInOrder}
-use Rattle.m2_history.proofs.Whole.{far_whole, near_whole}
+use Rattle.m2_history.proofs.Whole.{far_whole, near_whole, by_actors}
+use Rattle.m2_lemmas.proofs.Lists.{all_front, all_back}
 
 -- ---- laws that are used
 
@@ -380,7 +379,7 @@ module _ (laws : AreLaws) (nodes : List Node) (links : List Link) (lines : List 
 
       both_unreset : (x y : ℕ) (log : Logs) → x ≡ y → AllByRecursion (IsNoResetOf x) (all_of log) → AllByRecursion (IsNoResetOf y) log.fast × AllByRecursion (IsNoResetOf y) log.queued
       both_unreset x y log e none =
-          let its = subst (λ n. AllByRecursion (IsNoResetOf n) (all_of log)) e none in (all_first (IsNoResetOf y) log.fast log.queued its, all_last (IsNoResetOf y) log.fast log.queued its)
+          let its = subst (λ n. AllByRecursion (IsNoResetOf n) (all_of log)) e none in (all_front (IsNoResetOf y) log.fast log.queued its, all_back (IsNoResetOf y) log.fast log.queued its)
 
       -- from the near node to the far one
       near_posts : posts_in (near_items all) ≡ posts_to a.core.facts.node.number l.b said

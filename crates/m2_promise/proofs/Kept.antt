@@ -6,12 +6,12 @@ use Rattle.m2_fabric.specs.declared.socket.SocketId.{SocketId}
 use Rattle.m2_growth.proofs.Among.{of_each}
 use Rattle.m2_growth.specs.InStepLaws.{StayMet}
 use Rattle.m2_growth.specs.Turn.{CameOfPut}
-use Rattle.m2_record.proofs.Names.{same_equal}
 use Rattle.m2_fabric.specs.Kept.{SeenPair, back, both, directions, is_kept, of_pair, there}
 use Rattle.m2_fabric.specs.Meeting.{acceptor}
 use Rattle.m2_center.proofs.Peers.{each_of_two}
 use Rattle.m2_promise.specs.Running.{AreBetween, RunNow}
 use Rattle.m2_promise.proofs.Lists.{any_passes, flat_one}
+use Rattle.m2_fabric.proofs.Sockets.{same_equal}
 
 -- what holds of each direction holds of both those of a kept socket
 record HoldsOfBoth (P : ℕ → ℕ → SocketId → Type 0) (k : SocketId) : Type 0 where

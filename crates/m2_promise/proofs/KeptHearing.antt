@@ -20,8 +20,8 @@ use Rattle.m2_promise.specs.Passed.{IsAtRest, NodesHear, SameHolding}
 use Rattle.m2_promise.proofs.Hearing.{before}
 use Rattle.m2_script.specs.Script.{IsPassed, RunNow, network_of}
 use Rattle.m2_promise.specs.Kept.{run_in}
-use Rattle.m2_promise.proofs.KeptLists.{all_at, all_by}
 use Rattle.m2_promise.proofs.Whole.{IsNodeOf, holding_at, is_node, node_of}
+use Rattle.m2_lemmas.proofs.Lists.{all_at, all_by_places}
 
 -- ---- the nodes of a fabric stay
 
@@ -51,13 +51,13 @@ module _ {D : Type 0} (holds : ClustersHoldAll D) (told : ToldNodesHear D) (own 
       keep : AllByRecursion KeepsSockets new.cluster.nodes
       keep =
           own old.cluster new.cluster rest
-          (all_by KeepsSockets old.cluster.nodes
+          (all_by_places KeepsSockets old.cluster.nodes
           (λ i n there. let at = run.nodes i (holding_of n.center) (holding_at old.cluster.nodes i n there) in record { own = at.node.own; unused = at.waiting }))
 
       halves : AllHaveHalves new.cluster.nodes
       halves =
           judged old.cluster new.cluster rest
-          (all_by (λ (n : NodeNow D). HaveTheirHalves (holding_of n.center)) old.cluster.nodes
+          (all_by_places (λ (n : NodeNow D). HaveTheirHalves (holding_of n.center)) old.cluster.nodes
           (λ i n there. (run.nodes i (holding_of n.center) (holding_at old.cluster.nodes i n there)).node.halves))
 
       node : (i : ℕ) (h : Holding) → IsNodeOf new.cluster.nodes i h → IsNode h

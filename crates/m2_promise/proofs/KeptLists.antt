@@ -20,17 +20,6 @@ there_too [] (z ∷ ys) i y same is = absurd (omega (arith, same))
 there_too (x ∷ xs) (z ∷ ys) zero y same is = record { item = x; there = refl }
 there_too (x ∷ xs) (z ∷ ys) (suc i) y same is = let more = there_too xs ys i y (omega (arith, same)) is in record { item = more.item; there = more.there }
 
--- ---- what holds of all
-
-pub all_at : {X : Type 0} (P : X → Type 0) (xs : List X) (i : ℕ) (x : X) → slice_get xs i ≡ Some x → AllByRecursion P xs → P x
-all_at P [] i x is all = absurd cc
-all_at P (z ∷ zs) zero x is all = let same : z ≡ x = cc in subst P same all.0
-all_at P (z ∷ zs) (suc i) x is all = all_at P zs i x is all.1
-
-pub all_by : {X : Type 0} (P : X → Type 0) (xs : List X) → ((i : ℕ) (x : X) → slice_get xs i ≡ Some x → P x) → AllByRecursion P xs
-all_by P [] each = tt
-all_by P (z ∷ zs) each = (each zero z refl, all_by P zs (λ i x is. each (suc i) x is))
-
 -- ---- where one of a list is set
 
 -- of the one that is set

@@ -12,7 +12,6 @@ use Rattle.m2_bytes_fit.specs.Texts.{CanBePosted}
 use Rattle.m2_growth.specs.Halves.{all_left}
 use Rattle.m2_growth.specs.Holding.{Holding}
 use Rattle.m2_growth.proofs.Among.{each_by}
-use Rattle.m2_history.proofs.Tidiness.{all_append}
 use Rattle.m2_history.specs.Link.{parts_of}
 use Rattle.m2_history.specs.Parts.{PartsNow}
 use Rattle.m2_history.specs.Woven.{BothNow, ends_of, is_of_link}
@@ -26,7 +25,6 @@ use Rattle.m2_journal.specs.Plan.{planned}
 use Rattle.m2_links_go_on.specs.LinkLaws.{LinksGoOn, StayingGoesOn}
 use Rattle.m2_links_go_on.specs.Linked.{Nodes, NodesGoOn}
 use Rattle.m2_links_go_on.proofs.LinkRecords.{at_place}
-use Rattle.m2_links_go_on.proofs.Standing.{not_true}
 use Rattle.m2_never_reset.specs.PairLaws.{IsNoDown}
 use Rattle.m2_record.specs.IsRecord.{CanBePlanned, IsRecord}
 use Rattle.m2_record.specs.RecordNow.{RecordNow}
@@ -41,6 +39,8 @@ use Rattle.m2_history.specs.WovenLaws.{RecordsAreSides}
 use Rattle.m2_history.specs.WovenLink.{IsLink, IsLooseBeside, IsSideOf, LinkNow, items_in, same_end, sources_in, trails_of}
 use Rattle.m2_promise.specs.Delivered.{MarksNoneDown, PostsInRanges, link_in}
 use Rattle.m2_promise.proofs.Beside as beside
+use Rattle.m2_lemmas.proofs.Lists.{all_append}
+use Rattle.m2_lemmas.proofs.Booleans.{not_true_is_false}
 
 -- ---- what entries tell
 
@@ -171,7 +171,7 @@ module _ (x : RunNow) (run : IsRunning x) (h g : Holding) (a b : RecordNow) (l :
 
   peers : (k : SocketId) → goes_to a.core.facts.peer k ≡ true → goes_to b.core.facts.peer k ≡ false
   peers k p =
-      not_true (goes_to b.core.facts.peer k)
+      not_true_is_false (goes_to b.core.facts.peer k)
       (λ q. link.goes_apart x run l.i l.j h g a b towards k (ap (λ at. goes_to at k) (sym (link.peer_is x run l.j l.i g h b a back)) ∙ q) (ap (λ at. goes_to at k) (sym (link.peer_is x run l.i l.j h g a b towards)) ∙ p))
 
   abbrev nodes : Nodes

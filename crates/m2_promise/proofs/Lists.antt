@@ -6,7 +6,8 @@ use Rattle.m2_fabric.specs.declared.socket.SocketId.{SocketId}
 use Rattle.m2_fabric.specs.Sockets.{is_among, same_socket}
 use Rattle.m2_growth.specs.Halves.{IsOneOf}
 use Rattle.m2_growth.proofs.Among.{of_each, one_back, one_front}
-use Rattle.m2_record.proofs.Names.{differ, same_equal}
+use Rattle.m2_lemmas.proofs.Booleans.{false_isnt_true}
+use Rattle.m2_fabric.proofs.Sockets.{same_equal}
 
 -- ---- by places
 
@@ -31,7 +32,7 @@ pub record Passes {X : Type 0} (p : X → Bool) (xs : List X) : Type 0 where
   pub is : p item ≡ true
 
 pub any_passes : {X : Type 0} (p : X → Bool) (xs : List X) → list_any p xs ≡ true → Passes p xs
-any_passes p [] h = absurd (differ h)
+any_passes p [] h = absurd (false_isnt_true h)
 any_passes {X} p (x ∷ xs) h = at (p x) refl h (any_passes p xs)
   where
     at : (b : Bool) → p x ≡ b → b || list_any p xs ≡ true → (list_any p xs ≡ true → Passes p xs) → Passes p (x ∷ xs)

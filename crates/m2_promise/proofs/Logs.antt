@@ -21,11 +21,10 @@ use Rattle.m2_promise.specs.Running.{HaveOrders, IsLinkOf, IsRunning, RunNow}
 use Rattle.m2_weave.specs.WeaveLaws.{AsksComeFirst, ReadWasWritten}
 use Rattle.m2_history.specs.WovenLaws.{WovenIsDelivered, WovenIsNeverReset}
 use Rattle.m2_history.specs.WovenLink.{AreUp, IsLink, IsOrderOf, LinkNow, items_by, items_in, order_of}
-use Rattle.m2_history.proofs.Whole.{far_whole, near_whole}
+use Rattle.m2_history.proofs.Whole.{far_whole, near_whole, by_actors}
 use Rattle.m2_promise.specs.Delivered.{AreDeliveredOn, AreLosslessUp, BothLogs, HasAccepted, HasHeardPeer, link_in}
 use Rattle.m2_promise.specs.DeliveryLaws.{LinksHaveOrders, RunsHaveLinks}
 use Rattle.m2_promise.proofs.Links.{far_record, near_record, never_down}
-use Rattle.m2_promise.proofs.Strands.{by_actors}
 
 -- ---- one record
 

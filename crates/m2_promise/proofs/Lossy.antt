@@ -10,13 +10,12 @@ use Rattle.m2_promise.specs.Running.{HaveOrders, IsLinkOf, IsRunning, RunNow}
 use Rattle.m2_weave.specs.WeaveLaws.{AsksComeFirst, ReadWasWritten}
 use Rattle.m2_history.specs.WovenLink.{IsLink, IsOrderOf, LinkNow, items_by, order_of}
 use Rattle.m2_history.specs.Lossy.{AreSomeLogs, WovenComesInOrder}
-use Rattle.m2_history.proofs.Whole.{far_whole, near_whole}
+use Rattle.m2_history.proofs.Whole.{far_whole, near_whole, by_actors}
 use Rattle.m2_promise.specs.Delivered.{BothLogs, link_in}
 use Rattle.m2_promise.specs.DeliveryLaws.{LinksHaveOrders, RunsHaveLinks}
 use Rattle.m2_promise.specs.Lossy.{AreLossyHeard, ComeInOrderOn}
 use Rattle.m2_promise.proofs.Links.{far_record, near_record}
 use Rattle.m2_promise.proofs.Logs.{some_there}
-use Rattle.m2_promise.proofs.Strands.{by_actors}
 
 module _ (x : RunNow) (run : IsRunning x) (h g : Holding) (a b : RecordNow) (logs : BothLogs) (l : IsLinkOf x h g a b) (heard : AreLossyHeard logs a b)
     (read : ReadWasWritten) (asked : AsksComeFirst) (points : OrdersGivePoints) (tell : TrailsTellEachPoint)

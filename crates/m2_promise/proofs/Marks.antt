@@ -25,6 +25,7 @@ use Rattle.m2_scenario.specs.declared.line.Line.TheVariants as line
 use Rattle.m2_scenario.specs.declared.link.Link.{Link}
 use Rattle.m2_scenario.specs.Draft.{draft_line}
 use Rattle.m2_script.specs.Outcome.{is_down, is_down_entry}
+use Rattle.m2_lemmas.proofs.Booleans.{or_false, or_true}
 
 -- ---- a plan's marks
 
@@ -74,14 +75,6 @@ module _ (i b : ℕ) (links : List Link) (nodes : ℕ) where
   lines_mark (line.Settle rounds ∷ lines) = ap (list_any is_down_step) (settled i b links nodes rounds lines) ∙ lines_mark lines
 
 -- ---- a journal's
-
-or_false : (b : Bool) → (b || false) ≡ b
-or_false true = refl
-or_false false = refl
-
-or_true : (b : Bool) → (b || true) ≡ true
-or_true true = refl
-or_true false = refl
 
 module _ (s : Sources) where
   abbrev left_at : ℕ → Bool

@@ -18,7 +18,8 @@ use Rattle.m2_script.specs.Made.{Side, new_towards, other_of, over, records_of, 
 use Rattle.m2_script.specs.Script.{CanBeDone, Deed, IsWithin, RunNow, fault, flow, meet, plan, turn}
 use Rattle.m2_promise.specs.Kept.{IsKept}
 use Rattle.m2_promise.specs.KeepingLaws.{KeptCanBeDone}
-use Rattle.m2_promise.proofs.KeptLists.{all_at, within}
+use Rattle.m2_promise.proofs.KeptLists.{within}
+use Rattle.m2_lemmas.proofs.Lists.{all_at}
 
 -- ---- sides
 

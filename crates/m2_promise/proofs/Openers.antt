@@ -2,7 +2,6 @@
 use Rattle.std.proofs.Common.{◌≡◌, ℕ, Bool, true, false, if◌then◌else◌, List, [], ◌∷◌, map, Option, Some, None, refl, sym, ap, subst, ◌∙◌, ◌⊎◌, inl, inr}
 use Rattle.std.specs.Prelude.{◌||◌, slice_get, IsSome}
 use Rattle.std.specs.List.{IsDistinct}
-use Rattle.std.proofs.lemmas.Bool.{eq-eqb}
 use Rattle.std.proofs.lemmas.Map.Keys.{IsDistinct-head, IsDistinct-tail}
 use Rattle.m2_addr.specs.declared.addr.Addr.{Addr}
 use Rattle.m2_fabric.specs.declared.socket.SocketId.{SocketId}
@@ -11,7 +10,7 @@ use Rattle.m2_fabric.specs.Sockets.{goes_to, is_among, same_socket}
 use Rattle.m2_growth.specs.Halves.{AskedTowards, HasItsHalves, IsOneOf, all_left, asked_on, sockets_left, sockets_taken}
 use Rattle.m2_growth.specs.Holding.{Holding, IsToCome, LeadsElsewhere, all_ends, ends_held, waiting_at}
 use Rattle.m2_growth.specs.Records.{ends_of_all}
-use Rattle.m2_growth.proofs.Among.{among_mapped, among_part, of_each, one_front, whose}
+use Rattle.m2_growth.proofs.Among.{of_each, one_front, whose}
 use Rattle.m2_growth.proofs.Ends.{end_append, first_of}
 use Rattle.m2_handshake.specs.Asks.{same_addr}
 use Rattle.m2_history.proofs.Kept.{records_are_kept}
@@ -20,14 +19,12 @@ use Rattle.m2_journal.specs.declared.entry.Entry.{Entry}
 use Rattle.m2_journal.specs.declared.entry.Entry.TheVariants as entry
 use Rattle.m2_journal.specs.Items.{at_start}
 use Rattle.m2_journal.specs.State.{start}
-use Rattle.m2_record.proofs.Names.{differ, same_equal}
 use Rattle.m2_record.specs.IsRecord.{IsRecord, feeds_in}
 use Rattle.m2_record.specs.RecordNow.{RecordNow, ends_of, ids_of}
 use Rattle.m2_record.specs.Sources.{end_at}
 use Rattle.m2_record.specs.TakenTrails.{taken_in}
 use Rattle.m2_session.specs.SessionLaws.{takes}
 use Rattle.m2_fabric.specs.Meeting.{comes_from}
-use Rattle.m2_center.proofs.Peers.{mapped}
 use Rattle.m2_center.specs.Hearing.{ends_in}
 use Rattle.m2_center.specs.Sessions.{peer_of}
 use Rattle.m2_trail.specs.Arrivals.{LooseNow}
@@ -37,11 +34,15 @@ use Rattle.m2_history.specs.WovenLink.{sources_in}
 use Rattle.m2_history.proofs.Journals.{opened_leads}
 use Rattle.m2_history.proofs.Whole.{records_are_sides}
 use Rattle.m2_links_go_on.proofs.Nodes as node
-use Rattle.m2_links_go_on.proofs.Nodes.{ends_of_left}
+use Rattle.m2_links_go_on.proofs.Nodes.{ends_of_left, end_among}
 use Rattle.m2_links_go_on.proofs.LinkRecords.{HasOne, ends_feeds, feed_kind, has_one}
 use Rattle.m2_links_go_on.proofs.Standing.{taken_asked}
 use Rattle.m2_promise.specs.Running.{IsNodeAt, IsOfPort, IsRecordAt}
 use Rattle.m2_promise.proofs.Lists.{flat_one, image_of, of_among}
+use Rattle.m2_handshake.proofs.Idents.{same_self}
+use Rattle.m2_fabric.proofs.Sockets.{among_part, same_equal}
+use Rattle.m2_lemmas.proofs.Booleans.{false_isnt_true}
+use Rattle.m2_lemmas.proofs.Lists.{all_of_map}
 
 -- ---- ends
 
@@ -57,9 +58,6 @@ end_found (x ∷ es) k e h = by (same_socket k x.id) refl h (end_found es k e)
     by : (b : Bool) → same_socket k x.id ≡ b → (if b then Some x else end_at es k) ≡ Some e → (end_at es k ≡ Some e → IsFound es k e) → IsFound (x ∷ es) k e
     by true same h rest = let is : x ≡ e = cc in record { there = inl (sym is); socket = same_equal k x.id same ∙ ap (λ (y : SeenEnd). y.id) is }
     by false other h rest = let found = rest h in record { there = inr found.there; socket = found.socket }
-
-pub end_among : (es : List SeenEnd) (k : SocketId) (e : SeenEnd) → end_at es k ≡ Some e → is_among k (ids_of es) ≡ true
-end_among es k e h = let found = end_found es k e h in among_mapped (λ (x : SeenEnd). x.id) e k es found.there found.socket
 
 -- a record that has the end of a socket
 pub record IsHeldBy (rs : List RecordNow) (k : SocketId) (e : SeenEnd) : Type 0 where
@@ -77,7 +75,7 @@ held_by (r ∷ rs) k e h = by (end_at (ends_of r) k) refl (sym (end_append (ends
 
 -- a socket that a journal opened became the feed
 opened_feed : (es : List Entry) (k : SocketId) → has_opened (journal_of es) k ≡ true → is_among k (feeds_in es) ≡ true
-opened_feed [] k h = absurd (differ h)
+opened_feed [] k h = absurd (false_isnt_true h)
 opened_feed (entry.Opened x ∷ es) k h = at (same_socket k x) h (opened_feed es k)
   where
     at : (b : Bool) → b || has_opened (journal_of es) k ≡ true → (has_opened (journal_of es) k ≡ true → is_among k (feeds_in es) ≡ true) → b || is_among k (feeds_in es) ≡ true
@@ -96,13 +94,10 @@ opened_feed (e ∷ es) k h = opened_feed es k h
 
 -- ---- records by their peers
 
-addr_same : (a : Addr) → same_addr a a ≡ true
-addr_same a = rw (eq-eqb a.kind a.kind refl, eq-eqb a.nonce a.nonce refl, eq-eqb a.ip a.ip refl, eq-eqb a.port a.port refl) refl
-
 head_differs : (x s : RecordNow) (rs : List RecordNow) → IsOneOf s rs → IsDistinct same_addr (map peer_of (x ∷ rs)) → peer_of x ≡ peer_of s → ⊥
 head_differs x s rs j d h =
-    differ (sym (of_each (λ (y : RecordNow). same_addr (peer_of x) (peer_of y) ≡ false) s rs (mapped (λ b. same_addr (peer_of x) b ≡ false) peer_of rs (IsDistinct-head same_addr (peer_of x) (map peer_of rs) d)) j)
-    ∙ ap (same_addr (peer_of x)) (sym h) ∙ addr_same (peer_of x))
+    false_isnt_true (sym (of_each (λ (y : RecordNow). same_addr (peer_of x) (peer_of y) ≡ false) s rs (all_of_map (λ b. same_addr (peer_of x) b ≡ false) peer_of rs (IsDistinct-head same_addr (peer_of x) (map peer_of rs) d)) j)
+    ∙ ap (same_addr (peer_of x)) (sym h) ∙ same_self (peer_of x))
 
 one_peer : (r s : RecordNow) (rs : List RecordNow) → IsOneOf r rs → IsOneOf s rs → IsDistinct same_addr (map peer_of rs) → peer_of r ≡ peer_of s → r ≡ s
 one_peer r s [] i j d h = absurd i
@@ -152,7 +147,7 @@ pub some_end : (h : Holding) (k : SocketId) → IsSome (end_at (all_ends h) k) �
 some_end h k some = by (end_at (all_ends h) k) refl some
   where
     by : (o : Option SeenEnd) → end_at (all_ends h) k ≡ o → IsSome o → HasEnd h k
-    by None is s = absurd (differ s)
+    by None is s = absurd (false_isnt_true s)
     by (Some e) is s = record { end = e; at = is }
 
 module _ (addrs : List Addr) (i : ℕ) (h : Holding) (at : IsNodeAt addrs i h) where
@@ -227,7 +222,7 @@ module _ (addrs : List Addr) (i : ℕ) (h : Holding) (at : IsNodeAt addrs i h) w
   end_asked r one k e here goes = by (end_kind r one k e here)
     where
       by : (has_opened (journal_of r.journal) k ≡ true) ⊎ (is_among k (asked_on r) ≡ true) → is_among k (asked_on r) ≡ true
-      by (inl o) = absurd (differ (sym (opened_away r one k o) ∙ goes))
+      by (inl o) = absurd (false_isnt_true (sym (opened_away r one k o) ∙ goes))
       by (inr a) = a
 
   -- and of another socket a record that opened it has the end
@@ -239,14 +234,14 @@ module _ (addrs : List Addr) (i : ℕ) (h : Holding) (at : IsNodeAt addrs i h) w
         where
           of_kind : (has_opened (journal_of held.side.journal) k ≡ true) ⊎ (is_among k (asked_on held.side) ≡ true) → IsOpener h k e
           of_kind (inl o) = record { side = held.side; there = held.there; end = held.end; opened = o }
-          of_kind (inr a) = absurd (differ (sym away ∙ asked_goes held.side held.there k a))
+          of_kind (inr a) = absurd (false_isnt_true (sym away ∙ asked_goes held.side held.there k a))
       by (inr (inl half)) =
           let goes = of_each (λ (l : LooseNow). goes_to h.port.at l.end.id ≡ true) half.half (all_left h.halves) at.node.own.here half.there in
           let same : k ≡ e.id = (end_found (all_ends h) k e here).socket in
-          absurd (differ (sym away ∙ ap (goes_to h.port.at) (same ∙ ap (λ (x : SeenEnd). x.id) half.end) ∙ goes))
+          absurd (false_isnt_true (sym away ∙ ap (goes_to h.port.at) (same ∙ ap (λ (x : SeenEnd). x.id) half.end) ∙ goes))
       by (inr (inr waits)) =
           let goes = (of_each (IsToCome h.port) e (waiting_at h.port) at.node.own.to_come waits.there).here in
-          absurd (differ (sym away ∙ ap (goes_to h.port.at) waits.socket ∙ goes))
+          absurd (false_isnt_true (sym away ∙ ap (goes_to h.port.at) waits.socket ∙ goes))
 
   -- ---- by places
 

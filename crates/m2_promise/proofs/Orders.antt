@@ -7,7 +7,6 @@ use Rattle.m2_growth.specs.Halves.{IsOneOf, all_left}
 use Rattle.m2_growth.specs.Holding.{Holding}
 use Rattle.m2_growth.specs.Records.{RecordGrows, RecordsGrow}
 use Rattle.m2_growth.proofs.Among.{mapped_one, of_each, one_back, one_front}
-use Rattle.m2_history.proofs.Tidiness.{all_append}
 use Rattle.m2_history.specs.Link.{both_of}
 use Rattle.m2_history.specs.Woven as woven
 use Rattle.m2_history.specs.Woven.{BothNow, EndNow, bytes_at, end_of, half_end, knows, loose_ends}
@@ -30,6 +29,7 @@ use Rattle.m2_promise.proofs.Flowing as flowing
 use Rattle.m2_promise.proofs.Flowing.{HadCome, none_goes}
 use Rattle.m2_promise.proofs.Towards as link
 use Rattle.m2_promise.proofs.Towards.{AreTowards, turned}
+use Rattle.m2_lemmas.proofs.Lists.{all_append}
 
 -- ---- the ends of a link
 

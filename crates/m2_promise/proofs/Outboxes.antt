@@ -17,7 +17,7 @@ use Rattle.m2_center.specs.declared.mailing.Mailed.{Mailed}
 use Rattle.m2_center.specs.declared.mailing.Mailed.TheVariants as mailed
 use Rattle.m2_center.specs.Mailing.{DispatchesSome, Mailing, Mails, MailsSome, PutsSome, Queueing, after_puts, heard_at_puts}
 use Rattle.m2_center.specs.Outbox.{Dispatches, DispatchesOr, OutboxNow, Puts, PutsLetter, Retries, RetriesFor, in_mail}
-use Rattle.m2_growth.proofs.Going.{all_join}
+use Rattle.m2_lemmas.proofs.Lists.{all_append}
 
 -- ---- lists
 
@@ -66,7 +66,7 @@ module _ {D : Type 0} (heard : D → List Heard) (Allowed : ℕ → Type 0) wher
     where
       at : (o : Option Letter) → new.held ≡ o → DispatchesOr heard l old new o → FastIsOf new
       at None e (fast, mail) = record {
-        fast = subst (AllByRecursion IsCall) (sym fast) (all_join IsCall (heard old.fast) (heard_in l ∷ []) so.fast (one, tt));
+        fast = subst (AllByRecursion IsCall) (sym fast) (all_append IsCall (heard old.fast) (heard_in l ∷ []) so.fast (one, tt));
         held = subst IsHeld (sym e) tt;
         mail = subst (AllByRecursion IsParcel) (sym mail) so.mail;
       }
@@ -78,7 +78,7 @@ module _ {D : Type 0} (heard : D → List Heard) (Allowed : ℕ → Type 0) wher
 
   mail_with : (x : Parcel) (old new : OutboxNow D) → IsParcel x → FastIsOf old → new ≡ in_mail x old → FastIsOf new
   mail_with x old new one so e =
-      subst FastIsOf (sym e) (record { fast = so.fast; held = so.held; mail = all_join IsParcel old.mail (x ∷ []) so.mail (one, tt) })
+      subst FastIsOf (sym e) (record { fast = so.fast; held = so.held; mail = all_append IsParcel old.mail (x ∷ []) so.mail (one, tt) })
 
   letter_put : (l : Letter) (path : Path) (old new : OutboxNow D) → Allowed l.peer → FastIsOf old → PutsLetter heard l path old new → FastIsOf new
   letter_put l Fast old new one so h = dispatched l old new one so h
@@ -116,7 +116,7 @@ module _ {D : Type 0} (heard : D → List Heard) (Allowed : ℕ → Type 0) wher
 
   all_heard : (xs : List Parcel) → AllByRecursion IsParcel xs → AllByRecursion IsCall (heard_at_puts xs)
   all_heard [] some = tt
-  all_heard (x ∷ xs) some = all_join IsCall (heard_at_put x) (heard_at_puts xs) (one_heard x some.0) (all_heard xs some.1)
+  all_heard (x ∷ xs) some = all_append IsCall (heard_at_put x) (heard_at_puts xs) (one_heard x some.0) (all_heard xs some.1)
 
   letters_heard : (ls : List Letter) → AllByRecursion IsLetter ls → AllByRecursion IsCall (map heard_in ls)
   letters_heard [] all = tt
@@ -135,7 +135,7 @@ module _ {D : Type 0} (heard : D → List Heard) (Allowed : ℕ → Type 0) wher
         queue = record {
           waiting = subst (AllByRecursion IsLetter) (sym p.waiting) (all_wait p.put old.queue.queued.waiting parts.0 so.queue.waiting);
           calls = subst (AllByRecursion IsCall) (sym p.heard_more)
-              (all_join IsCall (heard old.queue.queued.inner) (heard_at_puts p.put) so.queue.calls (all_heard p.put parts.0));
+              (all_append IsCall (heard old.queue.queued.inner) (heard_at_puts p.put) so.queue.calls (all_heard p.put parts.0));
         };
       }
 
@@ -145,7 +145,7 @@ module _ {D : Type 0} (heard : D → List Heard) (Allowed : ℕ → Type 0) wher
       record {
         waiting = parts.1;
         calls = subst (AllByRecursion IsCall) (sym d.heard_more)
-            (all_join IsCall (heard old.queued.inner) (map heard_in d.dispatched) so.calls (letters_heard d.dispatched parts.0));
+            (all_append IsCall (heard old.queued.inner) (map heard_in d.dispatched) so.calls (letters_heard d.dispatched parts.0));
       }
 
   mails_some : (place : Place) (old new : Mailing D) → MailsSome heard place old new → AllIsOf old.out old.queue.queued → AllIsOf new.out new.queue.queued

@@ -6,14 +6,16 @@ use Rattle.m2_fabric.specs.declared.socket.SocketId.{SocketId}
 use Rattle.m2_fabric.specs.Holder.{EndName}
 use Rattle.m2_fabric.specs.Sockets.{same_socket}
 use Rattle.m2_growth.proofs.Entering.{AllSo, or_second, with_so}
-use Rattle.m2_record.proofs.Names.{differ, same_refl}
 use Rattle.m2_fabric.specs.Kept.{SeenPair, directions, fresh_kept, is_kept, joins, reader, same_end, with_kept, writer}
 use Rattle.m2_fabric.specs.Meeting.{acceptor, all_entered, arrivals, arrivals_at, entered, is_one_of, kept_towards}
 use Rattle.m2_fabric.specs.News.{Logs, kept_after, pair_after}
 use Rattle.m2_fabric.proofs.Arriving.{any-append}
 use Rattle.m2_fabric.proofs.Entering.{unkept_before}
-use Rattle.m2_fabric.proofs.Flowing.{after_by, directions_after}
+use Rattle.m2_fabric.proofs.Flowing.{directions_after}
 use Rattle.m2_fabric.proofs.Told.{end_equal}
+use Rattle.m2_growth.proofs.Telling.{behind}
+use Rattle.m2_lemmas.proofs.Booleans.{false_isnt_true}
+use Rattle.m2_fabric.proofs.Sockets.{same_refl}
 
 -- ---- between two nodes
 
@@ -36,11 +38,6 @@ entered_between nodes node [] ps all = all
 entered_between nodes node (id ∷ ids) ps all =
     entered_between nodes node ids (entered nodes node id ps) (one_between nodes node id ps (acceptor nodes node id) refl all)
 
--- whatever flowed
-behind : (P : EndName → EndName → Type 0) (what : _) (l : Logs) (ds : _) → AllByRecursion (λ d. P (reader d) (writer d)) ds → AllByRecursion (λ d. P (reader d) (writer d)) (map (after_by what l) ds)
-behind P what l [] all = tt
-behind P what l (d ∷ ds) all = (all.0, behind P what l ds all.1)
-
 pub passed_so : (P : EndName → EndName → Type 0) (what : _) (l : Logs) (ps : List SeenPair) → AllSo P ps → AllSo P (map (pair_after what l) ps)
 passed_so P what l ps all =
     subst (λ ds. AllByRecursion (λ d. P (reader d) (writer d)) ds) (sym (directions_after what l ps)) (behind P what l (directions ps) all)
@@ -54,7 +51,7 @@ kept_then node id k ps (Some other) kept = at (is_kept id ps)
   where
     by : (b : Bool) → is_kept k (with_kept node other (fresh_kept id) ps) ≡ b → b ≡ true
     by true is = refl
-    by false is = absurd (differ (sym (unkept_before node other (fresh_kept id) k ps is) ∙ kept))
+    by false is = absurd (false_isnt_true (sym (unkept_before node other (fresh_kept id) k ps is) ∙ kept))
 
     at : (b : Bool) → is_kept k (if b then ps else with_kept node other (fresh_kept id) ps) ≡ true
     at true = kept
@@ -91,21 +88,21 @@ with_keeps a b id (p ∷ ps) = by_pair (joins a b p) (with_keeps a b id ps)
     by_pair false rest = or_second _ (is_kept id (with_kept a b (fresh_kept id) ps)) rest
 
 one_keeps : (node : ℕ) (id : SocketId) (ps : List SeenPair) (e : EndName) (o : Option ℕ) → is_one_of (arrivals_at id ps o) e ≡ true → is_kept e.id (kept_towards node id ps o) ≡ true
-one_keeps node id ps e None is = absurd (differ is)
+one_keeps node id ps e None is = absurd (false_isnt_true is)
 one_keeps node id ps e (Some other) is = at (is_kept id ps) is
   where
     by_name : (s : Bool) → same_end (record { node = other; id = id }) e ≡ s → (s || false) ≡ true → is_kept e.id (with_kept node other (fresh_kept id) ps) ≡ true
-    by_name false same is = absurd (differ is)
+    by_name false same is = absurd (false_isnt_true is)
     by_name true same is =
         subst (λ (x : EndName). is_kept x.id (with_kept node other (fresh_kept id) ps) ≡ true) (end_equal (record { node = other; id = id }) e same) (with_keeps node other id ps)
 
     at : (b : Bool) → is_one_of (if b then [] else record { node = other; id = id } ∷ []) e ≡ true → is_kept e.id (if b then ps else with_kept node other (fresh_kept id) ps) ≡ true
-    at true is = absurd (differ is)
+    at true is = absurd (false_isnt_true is)
     at false is = by_name (same_end (record { node = other; id = id }) e) refl is
 
 pub arriving_keeps : (nodes : List Addr) (node : ℕ) (ids : List SocketId) (ps : List SeenPair) (e : EndName) → is_one_of (arrivals nodes node ids ps) e ≡ true →
     is_kept e.id (all_entered nodes node ids ps) ≡ true
-arriving_keeps nodes node [] ps e is = absurd (differ is)
+arriving_keeps nodes node [] ps e is = absurd (false_isnt_true is)
 arriving_keeps nodes node (id ∷ ids) ps e is =
     at (is_one_of (arrivals_at id ps (acceptor nodes node id)) e) refl (λ one. arriving_keeps nodes node ids (entered nodes node id ps) e one)
     (sym (any-append e (arrivals_at id ps (acceptor nodes node id)) (arrivals nodes node ids (entered nodes node id ps))) ∙ is)

@@ -4,7 +4,6 @@ use Rattle.std.specs.Prelude.{IsSome, slice_get}
 use Rattle.std.specs.List.{AllByRecursion}
 use Rattle.m2_addr.specs.declared.addr.Addr.{Addr}
 use Rattle.m2_links_go_on.specs.ClusterTold.{OneByOne, SameRecord}
-use Rattle.m2_links_go_on.proofs.Untold.{mapped_some}
 use Rattle.m2_fabric.specs.declared.socket.SocketId.{SocketId}
 use Rattle.m2_fabric.specs.End.{fresh_end}
 use Rattle.m2_fabric.specs.Holder.{EndName, SeenHolder, may_come}
@@ -27,6 +26,7 @@ use Rattle.m2_promise.specs.PassingLaws.{FaultKeepsRunning, FlowKeepsRunning, Me
 use Rattle.m2_promise.specs.Passed.{NodesHear, SameHolding, network_of}
 use Rattle.m2_promise.proofs.Hearing.{before}
 use Rattle.m2_promise.proofs.Pairs.{Between, all_kept, arriving_keeps, entered_between, kept_passed, passed_so}
+use Rattle.m2_lemmas.proofs.Options.{mapped_is_some}
 
 -- ---- networks
 
@@ -56,7 +56,7 @@ grow_then a b c p q = record {
 
 -- an end that was told something was there
 told_was : (f : EndName → List Told) (a b : SeenHolder) → AreTold f a b → (e : EndName) → IsSome (end_of b e) → IsSome (end_of a e)
-told_was f a b t e some = sym (ap is_some (t.ends e) ∙ mapped_some (hears (f e)) (end_of a e)) ∙ some
+told_was f a b t e some = sym (ap is_some (t.ends e) ∙ mapped_is_some (hears (f e)) (end_of a e)) ∙ some
 
 told_grow : (f : EndName → List Told) (old new : Network) → IsTold f old new → PairsGrow old new
 told_grow f old new t = record {

@@ -8,9 +8,9 @@ use Rattle.std.proofs.lemmas.Option.{get_or_from_slice_get, slice_get-get_or, sl
 use Rattle.m2_addr.specs.declared.addr.Addr.{Addr}
 use Rattle.m2_fabric.specs.declared.socket.SocketId.{SocketId}
 use Rattle.m2_fabric.specs.Sockets.{goes_to}
-use Rattle.m2_record.proofs.Names.{both, differ}
 use Rattle.m2_fabric.specs.Meeting.{acceptor, comes_from, other_than}
 use Rattle.m2_fabric.specs.SimFabric.{AreApart, same_place}
+use Rattle.m2_lemmas.proofs.Booleans.{both_of_and, false_isnt_true}
 
 -- ---- one node
 
@@ -19,7 +19,7 @@ place_by a b e f = rw (eq-eqb a.ip b.ip e, eq-eqb a.port b.port f) refl
 
 not_before : (nodes : List Addr) (i j : ℕ) (a b : Addr) → AreApart nodes → slice_get nodes i ≡ Some a → slice_get nodes j ≡ Some b → same_place a b ≡ true → i < j → i ≡ j
 not_before nodes i j a b apart p q same less =
-    absurd (differ (sym (apart i j a less (slice_get_within nodes j b q))
+    absurd (false_isnt_true (sym (apart i j a less (slice_get_within nodes j b q))
     ∙ ap (λ x. same_place x (get_or nodes j a)) (get_or_from_slice_get nodes i a a p)
     ∙ ap (same_place a) (get_or_from_slice_get nodes j b a q) ∙ same))
 
@@ -31,15 +31,15 @@ one_place nodes i j a b apart p q ip port =
 
 pub goes_one : (nodes : List Addr) (i j : ℕ) (a b : Addr) (k : SocketId) → AreApart nodes → slice_get nodes i ≡ Some a → slice_get nodes j ≡ Some b → goes_to a k ≡ true → goes_to b k ≡ true → i ≡ j
 goes_one nodes i j a b k apart p q g h =
-    let here = both (k.to_ip == a.ip) (k.to_port == a.port) g in
-    let there = both (k.to_ip == b.ip) (k.to_port == b.port) h in
+    let here = both_of_and (k.to_ip == a.ip) (k.to_port == a.port) g in
+    let there = both_of_and (k.to_ip == b.ip) (k.to_port == b.port) h in
     one_place nodes i j a b apart p q (sym (eqb-true k.to_ip a.ip here.0) ∙ eqb-true k.to_ip b.ip there.0) (sym (eqb-true k.to_port a.port here.1) ∙ eqb-true k.to_port b.port there.1)
 
 pub comes_one : (nodes : List Addr) (i j : ℕ) (a b : Addr) (k : SocketId) → AreApart nodes → slice_get nodes i ≡ Some a → slice_get nodes j ≡ Some b →
     comes_from k (Some a) ≡ true → comes_from k (Some b) ≡ true → i ≡ j
 comes_one nodes i j a b k apart p q g h =
-    let here = both (k.from_ip == a.ip) (k.from_port == a.port) g in
-    let there = both (k.from_ip == b.ip) (k.from_port == b.port) h in
+    let here = both_of_and (k.from_ip == a.ip) (k.from_port == a.port) g in
+    let there = both_of_and (k.from_ip == b.ip) (k.from_port == b.port) h in
     one_place nodes i j a b apart p q (sym (eqb-true k.from_ip a.ip here.0) ∙ eqb-true k.from_ip b.ip there.0) (sym (eqb-true k.from_port a.port here.1) ∙ eqb-true k.from_port b.port there.1)
 
 -- ---- the two nodes of a socket
@@ -75,7 +75,7 @@ module _ (nodes : List Addr) (from to : ℕ) (k : SocketId) where
             far_at = slice_get-get_or nodes q near there.0;
             comes = comes;
             goes = there.1;
-            other = λ e. differ (sym is ∙ eq-eqb q from e);
+            other = λ e. false_isnt_true (sym is ∙ eq-eqb q from e);
           })
 
   pub accepted : acceptor nodes from k ≡ Some to → IsFromTo nodes from to k

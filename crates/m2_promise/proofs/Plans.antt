@@ -2,7 +2,7 @@
 use Rattle.std.proofs.Common.{◌≡◌, ℕ, ◌==◌, ◌&&◌, ◌+◌, zero, suc, Bool, true, false, if◌then◌else◌, List, [], ◌∷◌, ◌++◌, map, Some, Ok, refl, sym, ap, subst, ◌∙◌}
 use Rattle.std.specs.Prelude.{slice_get, slice_set}
 use Rattle.std.specs.List.{AllByRecursion, IsDistinct}
-use Rattle.std.proofs.lemmas.Bool.{eq-eqb, eqb-false, eqb-true, ne_eqb}
+use Rattle.std.proofs.lemmas.Bool.{eq-eqb, eqb-true}
 use Rattle.std.proofs.lemmas.List.Quantifiers.{position-Some}
 use Rattle.std.proofs.lemmas.Option.{get_or_from_slice_get}
 use Rattle.m2_dispatch.specs.Heard.{Heard}
@@ -29,6 +29,7 @@ use Rattle.m2_promise.proofs.CenterTurns.{SamePlaces, all_is_of, are_of_peers}
 use Rattle.m2_promise.proofs.PlanLists.{all_at, all_set}
 use Rattle.m2_promise.proofs.Nodes.{goes_on_still, same_side}
 use Rattle.m2_promise.proofs.Taken.{taken_further}
+use Rattle.m2_lemmas.proofs.Numbers.{unlike_turned}
 
 -- ---- the record
 
@@ -69,9 +70,6 @@ none_for i b place x e = at (i == i) (b == place) e
 
 -- ---- among the others
 
-swapped : (a b : ℕ) → (a == b) ≡ false → (b == a) ≡ false
-swapped a b h = ne_eqb b a (λ e. eqb-false a b h (sym e))
-
 at_place : (P : ℕ → Type 0) (rs : List RecordNow) (k : ℕ) (side : RecordNow) → slice_get rs k ≡ Some side → AllByRecursion P (map place_of rs) → P side.place
 at_place P [] k side e all = absurd cc
 at_place P (r ∷ rs) zero side e all = let same : r ≡ side = cc in subst (λ (x : RecordNow). P x.place) same all.0
@@ -107,7 +105,7 @@ module _ (i b : ℕ) (x : PlanStep) where
         others_go rs (subst (λ p. AllByRecursion (λ q. (p == q) ≡ false) (map place_of rs)) (sym here) apart.0),
       )
   all_go (r ∷ rs) (suc k) side behind e towards apart t = (
-    other_goes r (ap (λ p. p == r.place) towards ∙ swapped r.place side.place (at_place (λ q. (r.place == q) ≡ false) rs k side e apart.0)),
+    other_goes r (ap (λ p. p == r.place) towards ∙ unlike_turned r.place side.place (at_place (λ q. (r.place == q) ≡ false) rs k side e apart.0)),
     all_go rs k side behind e towards apart.1 t,
   )
 

@@ -1,10 +1,9 @@
 -- Where a node takes its turn, or plans a step, each socket that its port made has its end, and those that wait do so as they did.
 -- So it is for a cluster of which one node does.
-use Rattle.std.proofs.Common.{◌≡◌, ◌⊎◌, inl, inr, ℕ, ◌&&◌, not, true, List, [], ◌++◌, slice_get, slice_set, Option, Some, None, Ok, Err, refl, sym, ap, subst, ◌∙◌}
-use Rattle.std.specs.Prelude.{IsSome, is_some, unwrap_or}
+use Rattle.std.proofs.Common.{◌≡◌, ◌⊎◌, inl, inr, ℕ, ◌&&◌, not, true, List, ◌++◌, slice_get, slice_set, Option, Some, Ok, Err, refl, sym, ap, subst, ◌∙◌}
+use Rattle.std.specs.Prelude.{IsSome, is_some}
 use Rattle.m2_dispatch.specs.Heard.{Heard}
 use Rattle.m2_fabric.specs.declared.socket.SocketId.{SocketId}
-use Rattle.m2_fabric.specs.End.{SeenEnd}
 use Rattle.m2_fabric.specs.Sockets.{is_among}
 use Rattle.m2_journal.specs.declared.facts.PlanStep.{PlanStep}
 use Rattle.m2_record.specs.RecordNow.{ids_of}
@@ -14,7 +13,7 @@ use Rattle.m2_center.specs.RecordTurn.{Means}
 use Rattle.m2_center.specs.Center.{CenterNow}
 use Rattle.m2_center.specs.CenterTurn.{AndThen, Answer, AcceptsSo, AnswersSo, DeliversSo, Part, StepsSo, TakesTurn, accepting_in, all_amid_in}
 use Rattle.m2_center.specs.Plans.{PlansIn}
-use Rattle.m2_center.specs.Reaching.{ends_in, ends_or_none}
+use Rattle.m2_center.specs.Reaching.{ends_in}
 use Rattle.m2_cluster.specs.Cluster.{ClusterNow, OneDoes, address_of, end_of, held_by, made_by, waits_at}
 use Rattle.m2_cluster.specs.Node.{NodeNow, end_in, has_in, waits_in}
 use Rattle.m2_links_go_on.specs.Center.{holding_of}
@@ -26,11 +25,7 @@ use Rattle.m2_growth.proofs.Accepted.{accepts_stand}
 use Rattle.m2_growth.proofs.Dialled.{records_stand}
 use Rattle.m2_growth.proofs.InStepStanding.{Stands, both_by, both_then, stands_same, waits_still}
 use Rattle.m2_promise.proofs.KeptLists.{of_set}
-
--- those that wait
-same_waiting : (o : Option (List SeenEnd)) → unwrap_or o [] ≡ ends_or_none o
-same_waiting (Some es) = refl
-same_waiting None = refl
+use Rattle.m2_links_go_on.proofs.OneGrows.{same_waiting}
 
 module _ {D : Type 0} where
   -- ---- a center

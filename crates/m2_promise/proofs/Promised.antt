@@ -8,19 +8,17 @@ use Rattle.std.proofs.lemmas.List.Elements.{recursion_from_All}
 use Rattle.std.proofs.lemmas.List.FromFn.{length-range_with_len}
 use Rattle.std.proofs.lemmas.List.Sums.{sum_by-cons}
 use Rattle.std.proofs.lemmas.Option.{slice_get_past, none-some, same_Some}
-use Rattle.m2_channel.proofs.Keys.{differ}
 use Rattle.m2_cluster.specs.Node.{NodeNow}
 use Rattle.m2_dispatch.specs.declared.logged.Logged.{Logged}
 use Rattle.m2_dispatch.specs.Heard.{Heard, heard_by, is_message_from, of_key, peer_of}
 use Rattle.m2_growth.specs.Halves.{IsOneOf}
 use Rattle.m2_growth.proofs.Among.{each_by, of_each}
-use Rattle.m2_history.proofs.Tidiness.{all_so}
 use Rattle.m2_promise.specs.Started.{IsKept}
 use Rattle.m2_scenario.specs.Order.{AreOfJoined, HearsNoReset, HearsPrefix, HearsWhole, IsPeer, at, fast_of, messages_between, posts_between, posts_of}
 use Rattle.m2_promise.specs.Planned.{IsKeptNode, IsPeerOf}
 use Rattle.m2_policy.specs.declared.path.Key.{Key}
 use Rattle.m2_promise.specs.Posted.{AllNoted, AreSomeOf, HearsSome, IsAccountedOver, IsMarkedSo, KeepsPromise, PostsOfTypes, is_lossy, link_between}
-use Rattle.m2_promise.proofs.Ends.{all_at, not_so}
+use Rattle.m2_promise.proofs.Ends.{all_at}
 use Rattle.m2_promise.proofs.Hears.{HearsOf}
 use Rattle.m2_promise.proofs.Joined.{AreLaws, KeepsAll, StaysUp, a_hears, a_hears_some, a_marked, accepted, b_hears, b_hears_some, b_marked, come_in, journals, marked_in, of_a, of_b, ordered, records, up_in}
 use Rattle.m2_promise.proofs.Sides.{from_a, from_b, peer_joined}
@@ -35,6 +33,8 @@ use Rattle.m2_script.specs.Outcome.{all_heard, heard_at, heard_of_node, is_down_
 use Rattle.m2_script.specs.Script.{RunNow}
 use Rattle.m2_promise.specs.StartLaws.{PlansAreOfLines}
 use Rattle.m2_history.specs.WovenLink.{IsOrderOf}
+use Rattle.m2_lemmas.proofs.Booleans.{from_false_true, negated_is_false}
+use Rattle.m2_lemmas.proofs.Lists.{all_so}
 
 -- ---- lists
 
@@ -95,7 +95,7 @@ module _ (laws : AreLaws) (nodes : List Node) (links : List Link) (lines : List 
   is_link l one = of_each (IsLink (length nodes)) l links (recursion_from_All (IsLink (length nodes)) links sound.joined) one
 
   keeps_all : (l : Link) → is_lossless l ≡ true → KeepsAll l
-  keeps_all l lossless = let keep = or_parts l.of_a.lossy l.of_b.lossy (not_so (l.of_a.lossy || l.of_b.lossy) lossless) in record { a_keeps = keep.0; b_keeps = keep.1 }
+  keeps_all l lossless = let keep = or_parts l.of_a.lossy l.of_b.lossy (negated_is_false (l.of_a.lossy || l.of_b.lossy) lossless) in record { a_keeps = keep.0; b_keeps = keep.1 }
 
   one_lossy : (l : Link) → is_lossless l ≡ false → (l.of_a.lossy ≡ true) ⊎ (l.of_b.lossy ≡ true)
   one_lossy l lossy = by l.of_a.lossy l.of_b.lossy refl refl lossy
@@ -103,12 +103,12 @@ module _ (laws : AreLaws) (nodes : List Node) (links : List Link) (lines : List 
       by : (c d : Bool) → l.of_a.lossy ≡ c → l.of_b.lossy ≡ d → not (c || d) ≡ false → (l.of_a.lossy ≡ true) ⊎ (l.of_b.lossy ≡ true)
       by true d e f h = inl e
       by false true e f h = inr f
-      by false false e f h = differ (sym h)
+      by false false e f h = from_false_true (sym h)
 
   parts_up : (l : Link) → is_up s l ≡ true → (is_lossless l ≡ true) × StaysUp s l
   parts_up l up =
       let parts = and_parts (is_lossless l) (not (is_down_at s l.a l.b || is_down_at s l.b l.a)) up in
-      let none = or_parts (is_down_at s l.a l.b) (is_down_at s l.b l.a) (not_so (is_down_at s l.a l.b || is_down_at s l.b l.a) parts.1) in
+      let none = or_parts (is_down_at s l.a l.b) (is_down_at s l.b l.a) (negated_is_false (is_down_at s l.a l.b || is_down_at s l.b l.a) parts.1) in
       (parts.0, record { a_up = none.0; b_up = none.1 })
 
   -- by what each node dispatches at once
@@ -156,8 +156,8 @@ module _ (laws : AreLaws) (nodes : List Node) (links : List Link) (lines : List 
 
     hears_some : is_lossy l ≡ true → HearsSome fasts posted all l.a l.b × HearsSome fasts posted all l.b l.a
     hears_some lossy = (
-      some_placed l.a l.b eb.mine eb.mine_there (b_hears_some laws nodes links lines s types kept plans l is ea eb order is_order (one_lossy l (not_so (is_lossless l) lossy))),
-      some_placed l.b l.a ea.mine ea.mine_there (a_hears_some laws nodes links lines s types kept plans l is ea eb order is_order (one_lossy l (not_so (is_lossless l) lossy))),
+      some_placed l.a l.b eb.mine eb.mine_there (b_hears_some laws nodes links lines s types kept plans l is ea eb order is_order (one_lossy l (negated_is_false (is_lossless l) lossy))),
+      some_placed l.b l.a ea.mine ea.mine_there (a_hears_some laws nodes links lines s types kept plans l is ea eb order is_order (one_lossy l (negated_is_false (is_lossless l) lossy))),
     )
 
     marked : IsMarkedSo posted s l.a l.b × IsMarkedSo posted s l.b l.a

@@ -1,5 +1,5 @@
 -- The records of a scenario's node before its first line did nothing, and each is between the node and another.
-use Rattle.std.proofs.Common.{◌≡◌, ◌==◌, ◌<◌, ◌+◌, inl, inr, ℕ, zero, suc, false, List, [], ◌∷◌, length, map, Some, refl, sym, ap, subst, ◌∙◌, arith}
+use Rattle.std.proofs.Common.{◌≡◌, ◌==◌, ◌<◌, ◌+◌, inl, inr, ℕ, false, List, [], ◌∷◌, length, map, Some, refl, sym, ap, subst, ◌∙◌, arith}
 use Rattle.std.specs.Prelude.{slice_get}
 use Rattle.std.specs.List.{AllByRecursion}
 use Rattle.std.proofs.lemmas.Option.{get_or_from_slice_get, slice_get_within}
@@ -18,16 +18,12 @@ use Rattle.m2_script.specs.Made.{records_of, roomless}
 use Rattle.m2_script.specs.Nodes.{HasNodeRanges, address_of}
 use Rattle.m2_script.proofs.Apart.{get_address}
 use Rattle.m2_script.proofs.Over.{IsOver, JoinsSo, all_so, joins_so}
+use Rattle.m2_lemmas.proofs.Lists.{all_at}
 
 -- what two facts of each give
 all_both : (P Q R : RecordNow → Type 0) → ((r : RecordNow) → P r → Q r → R r) → (rs : List RecordNow) → AllByRecursion P rs → AllByRecursion Q rs → AllByRecursion R rs
 all_both P Q R so [] p q = tt
 all_both P Q R so (r ∷ rs) p q = (so r p.0 q.0, all_both P Q R so rs p.1 q.1)
-
-at_place : {X : Type 0} (P : X → Type 0) (xs : List X) (i : ℕ) (x : X) → slice_get xs i ≡ Some x → AllByRecursion P xs → P x
-at_place P [] i x e all = absurd cc
-at_place P (z ∷ zs) zero x e all = let same : z ≡ x = cc in subst P same all.0
-at_place P (z ∷ zs) (suc i) x e all = at_place P zs i x e all.1
 
 -- a record with nothing in it
 record IsEmpty (r : RecordNow) : Type 0 where
@@ -63,8 +59,8 @@ module _ (nodes : List Node) (links : List Link) (lines : List DraftLine) (sound
 
   in_range : (l : Link) (r : RecordNow) → IsOver nodes k (k + 1) l r → KeepsRanges r.core.facts
   in_range l r v =
-      let mine : HasNodeRanges v.mine = at_place HasNodeRanges nodes k v.mine v.mine_there ranges in
-      let peer : HasNodeRanges v.peer = at_place HasNodeRanges nodes r.place v.peer v.peer_there ranges in
+      let mine : HasNodeRanges v.mine = all_at HasNodeRanges nodes k v.mine v.mine_there ranges in
+      let peer : HasNodeRanges v.peer = all_at HasNodeRanges nodes r.place v.peer v.peer_there ranges in
       let few : k < length nodes = slice_get_within nodes k v.mine v.mine_there in
       subst KeepsRanges (sym (ap (λ (s : RecordNow). s.core.facts) v.is)) (record {
         entity = mine.entity;

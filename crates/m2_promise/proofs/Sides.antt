@@ -5,7 +5,6 @@ use Rattle.std.specs.List.{list_any}
 use Rattle.std.specs.Option.{option_to_list}
 use Rattle.std.proofs.lemmas.Bool.{eq-eqb, eqb-true}
 use Rattle.std.proofs.lemmas.Option.{none-some, same_Some, slice_get_within}
-use Rattle.m2_channel.proofs.Keys.{differ}
 use Rattle.m2_growth.specs.Halves.{IsOneOf}
 use Rattle.m2_growth.proofs.Among.{in_part, mapped_one, one_back, one_front}
 use Rattle.m2_journal.specs.SideFacts.{SideFacts}
@@ -17,6 +16,7 @@ use Rattle.m2_scenario.specs.declared.node.Node.{Node}
 use Rattle.m2_scenario.specs.Draft.{joins}
 use Rattle.m2_script.specs.declared.made.Towards.{Towards}
 use Rattle.m2_script.specs.Made.{Side, facts_of, new_towards, other_of, over, records_of, side_of}
+use Rattle.m2_lemmas.proofs.Booleans.{from_false_true}
 
 -- ---- lists
 
@@ -32,7 +32,7 @@ pub record Passes {X : Type 0} (test : X → Bool) (xs : List X) : Type 0 where
   pub passes : test item ≡ true
 
 pub passing : {X : Type 0} (test : X → Bool) (xs : List X) → list_any test xs ≡ true → Passes test xs
-passing test [] h = differ h
+passing test [] h = from_false_true h
 passing {X} test (x ∷ xs) h = at (test x) refl h (passing test xs)
   where
     at : (b : Bool) → test x ≡ b → b || list_any test xs ≡ true → (list_any test xs ≡ true → Passes test xs) → Passes test (x ∷ xs)

@@ -1,5 +1,5 @@
 -- Nodes in memory before the first deed of a run: nothing has an end, and nothing was asked.
-use Rattle.std.proofs.Common.{◌≡◌, ℕ, zero, suc, Bool, true, false, List, [], ◌∷◌, ◌++◌, map, Option, Some, None, IfSome, refl, sym, ap, subst, ◌∙◌}
+use Rattle.std.proofs.Common.{◌≡◌, ℕ, Bool, true, false, List, [], ◌∷◌, ◌++◌, map, Option, Some, None, IfSome, refl, sym, ap, subst, ◌∙◌}
 use Rattle.std.specs.Prelude.{slice_get, unwrap_or}
 use Rattle.std.specs.Option.{is_some}
 use Rattle.std.specs.List.{AllByRecursion}
@@ -15,7 +15,6 @@ use Rattle.m2_growth.specs.Holding.{AreOwn, HaveTheirHalves, Holding, IsToCome, 
 use Rattle.m2_growth.specs.Records.{IsFed, ends_of_all}
 use Rattle.m2_growth.proofs.Ends.{own_none}
 use Rattle.m2_growth.proofs.Fed.{record_fed}
-use Rattle.m2_growth.proofs.Going.{all_so}
 use Rattle.m2_history.specs.Link.{IsWholeHalf, both_of, parts_of}
 use Rattle.m2_history.specs.Parts.{PartsNow}
 use Rattle.m2_history.specs.Woven.{BothNow}
@@ -27,7 +26,6 @@ use Rattle.m2_record.specs.IsRecord.{IsRecord}
 use Rattle.m2_record.specs.RecordNow.{RecordNow, ends_of}
 use Rattle.m2_record.specs.Sources.{end_at}
 use Rattle.m2_record.specs.TakenTrails.{judgements_in}
-use Rattle.m2_record.proofs.Names.{differ}
 use Rattle.m2_promise.specs.Running.{HasAskedPeer, IsNodeAt, IsOfPort, IsRecordAt, IsRunning, RunNow}
 use Rattle.m2_promise.proofs.Places.{goes_one}
 use Rattle.m2_fabric.specs.InStep.{HaveWhatFlowed, IsUnread, SeenFabric}
@@ -43,6 +41,8 @@ use Rattle.m2_weave.specs.TurnLaws.{HasOrder}
 use Rattle.m2_weave.proofs.Runs.{start_has_order}
 use Rattle.m2_promise.specs.Beginning.{IsBeginning, IsNewAt, IsUnused}
 use Rattle.m2_promise.specs.BeginningLaws.{BeginningsHaveOrders, BeginningsRun, NewRecordsAreUnused}
+use Rattle.m2_lemmas.proofs.Lists.{all_at, all_so_of}
+use Rattle.m2_lemmas.proofs.Booleans.{false_isnt_true}
 
 -- ---- records
 
@@ -50,7 +50,7 @@ none_asked : (r : RecordNow) → IsUnused r → asked_on r ≡ []
 none_asked r u = ap (λ (es : List Entry). map (λ (j : Judgement). j.socket) (judgements_in es)) u.journal
 
 never_asked : (r : RecordNow) → IsUnused r → (k : SocketId) → is_among k (asked_on r) ≡ true → ⊥
-never_asked r u k h = differ (sym (ap (is_among k) (none_asked r u)) ∙ h)
+never_asked r u k h = false_isnt_true (sym (ap (is_among k) (none_asked r u)) ∙ h)
 
 none_of_all : (rs : List RecordNow) → AllByRecursion IsUnused rs → ends_of_all rs ≡ []
 none_of_all [] all = refl
@@ -58,12 +58,7 @@ none_of_all (r ∷ rs) all = ap (λ l. l ++ ends_of_all rs) all.0.ends ∙ none_
 
 one_judge : (rs : List RecordNow) → AllByRecursion IsUnused rs → OneJudge rs
 one_judge [] all = tt
-one_judge (r ∷ rs) all = (all_so IsUnused (JudgeApart r) rs (λ s u k h. absurd (never_asked r all.0 k h)) all.1, one_judge rs all.1)
-
-of_get : {X : Type 0} (P : X → Type 0) (xs : List X) (i : ℕ) (x : X) → slice_get xs i ≡ Some x → AllByRecursion P xs → P x
-of_get P [] i x e all = absurd cc
-of_get P (z ∷ zs) zero x e all = let same : z ≡ x = cc in subst P same all.0
-of_get P (z ∷ zs) (suc i) x e all = of_get P zs i x e all.1
+one_judge (r ∷ rs) all = (all_so_of IsUnused (JudgeApart r) rs (λ s u k h. absurd (never_asked r all.0 k h)) all.1, one_judge rs all.1)
 
 pub unused : NewRecordsAreUnused
 unused f place room is = record { is = is; journal = refl; trails = refl; ends = refl }
@@ -88,7 +83,7 @@ module _ (addrs : List Addr) (apart : AreApart addrs) (i : ℕ) (h : Holding) (n
     where
       by : (b : Bool) → goes_to h.port.at k ≡ b → b ≡ false
       by false is = refl
-      by true is = absurd (differ (sym at.other ∙ eq-eqb r.place i (goes_one addrs r.place i r.core.facts.peer h.port.at k apart at.peer n.at g is)))
+      by true is = absurd (false_isnt_true (sym at.other ∙ eq-eqb r.place i (goes_one addrs r.place i r.core.facts.peer h.port.at k apart at.peer n.at g is)))
 
   own : AreOwn h
   own = record {
@@ -97,17 +92,17 @@ module _ (addrs : List Addr) (apart : AreApart addrs) (i : ℕ) (h : Holding) (n
     made = subst (AllByRecursion (λ (e : SeenEnd). is_among e.id h.port.made ≡ true)) (sym none_held) tt;
     waiting = subst AreOfTheirOwn (sym none_wait) own_none;
     to_come = subst (AllByRecursion (IsToCome h.port)) (sym none_wait) tt;
-    elsewhere = all_so (IsRecordAt addrs i) (LeadsElsewhere h.port) h.records elsewhere n.sides;
-    fed = all_so IsUnused IsFed h.records (λ r u. record_fed r u.is) n.records;
+    elsewhere = all_so_of (IsRecordAt addrs i) (LeadsElsewhere h.port) h.records elsewhere n.sides;
+    fed = all_so_of IsUnused IsFed h.records (λ r u. record_fed r u.is) n.records;
     on_socket = subst (AllByRecursion (λ (l : LooseNow). l.trail.socket ≡ l.end.id)) (sym none_left) tt;
     here = subst (AllByRecursion (λ (l : LooseNow). goes_to h.port.at l.end.id ≡ true)) (sym none_left) tt;
   }
 
   halves : HaveTheirHalves h
   halves = record {
-    each = all_so IsUnused (HasItsHalves (all_left h.halves)) h.records (λ r u k a. absurd (never_asked r u k a)) n.records;
-    made = all_so IsUnused (AskedOnMade h.port.made) h.records (λ r u k a. absurd (never_asked r u k a)) n.records;
-    here = all_so IsUnused (AskedTowards h.port.at) h.records (λ r u k a. absurd (never_asked r u k a)) n.records;
+    each = all_so_of IsUnused (HasItsHalves (all_left h.halves)) h.records (λ r u k a. absurd (never_asked r u k a)) n.records;
+    made = all_so_of IsUnused (AskedOnMade h.port.made) h.records (λ r u k a. absurd (never_asked r u k a)) n.records;
+    here = all_so_of IsUnused (AskedTowards h.port.at) h.records (λ r u k a. absurd (never_asked r u k a)) n.records;
     one_judge = one_judge h.records n.records;
     askers = subst (λ (g : AllHalves). AllByRecursion (IsHeardBy h.records) g.pending) (sym n.halves) tt;
     peers = n.consistent.peers;
@@ -115,7 +110,7 @@ module _ (addrs : List Addr) (apart : AreApart addrs) (i : ℕ) (h : Holding) (n
 
   node : IsNode h
   node = record {
-    records = all_so IsUnused IsRecord h.records (λ r u. u.is) n.records;
+    records = all_so_of IsUnused IsRecord h.records (λ r u. u.is) n.records;
     whole = subst (AllByRecursion IsWholeHalf) (sym none_left) tt;
     own = own;
     halves = halves;
@@ -134,7 +129,7 @@ module _ (addrs : List Addr) (apart : AreApart addrs) (i : ℕ) (h : Holding) (n
   }
 
   pub none_asks : AllByRecursion HasAskedPeer h.records
-  none_asks = all_so IsUnused HasAskedPeer h.records (λ r u k a. absurd (never_asked r u k a)) n.records
+  none_asks = all_so_of IsUnused HasAskedPeer h.records (λ r u k a. absurd (never_asked r u k a)) n.records
 
 -- ---- all nodes
 
@@ -164,7 +159,7 @@ module _ (x : RunNow) (b : IsBeginning x) where
     holds = b.holds;
     between = record {
       kept = rw none_kept tt;
-      arrived = λ i h is k goes there. absurd (differ (sym (ap (λ es. is_some (end_at es k)) (no_ends x.fabric.nodes b.apart i h (b.each i h is))) ∙ there));
+      arrived = λ i h is k goes there. absurd (false_isnt_true (sym (ap (λ es. is_some (end_at es k)) (no_ends x.fabric.nodes b.apart i h (b.each i h is))) ∙ there));
     };
     nodes = λ i h is. node_at x.fabric.nodes b.apart i h (b.each i h is);
     asked = λ i h is. none_asks x.fabric.nodes b.apart i h (b.each i h is);
@@ -202,5 +197,5 @@ begins_ordered x s h g a b l =
     let left : all_left h.halves ++ all_left g.halves ≡ [] =
     ap (λ o. o ++ all_left g.halves) (none_left x.fabric.nodes s.apart l.i h near) ∙ none_left x.fabric.nodes s.apart l.j g far in
     subst (λ y. HasOrder (woven_now y))
-    (sym (none_on_link a b (all_left h.halves ++ all_left g.halves) (of_get IsUnused h.records l.a_at a l.a_there near.records) (of_get IsUnused g.records l.b_at b l.b_there far.records) left))
+    (sym (none_on_link a b (all_left h.halves ++ all_left g.halves) (all_at IsUnused h.records l.a_at a l.a_there near.records) (all_at IsUnused g.records l.b_at b l.b_there far.records) left))
     at_start

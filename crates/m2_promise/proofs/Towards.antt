@@ -10,7 +10,6 @@ use Rattle.m2_growth.specs.Records.{ends_of_all}
 use Rattle.m2_growth.proofs.Among.{of_each}
 use Rattle.m2_links_go_on.specs.Linked.{IsPeerAt}
 use Rattle.m2_links_go_on.proofs.LinkRecords.{has_one}
-use Rattle.m2_record.proofs.Names.{differ}
 use Rattle.m2_record.specs.RecordNow.{RecordNow, ends_of, ids_of}
 use Rattle.m2_fabric.specs.Meeting.{comes_from}
 use Rattle.m2_center.specs.Sessions.{peer_of}
@@ -18,8 +17,10 @@ use Rattle.m2_weave.specs.Strands.{has_opened, journal_of}
 use Rattle.m2_promise.specs.Running.{HasAskedPeer, IsNodeAt, IsRecordAt, IsRunning, RunNow}
 use Rattle.m2_promise.proofs.BothEnds.{address}
 use Rattle.m2_promise.proofs.Openers as node
-use Rattle.m2_promise.proofs.Openers.{end_among, held_by}
+use Rattle.m2_promise.proofs.Openers.{held_by}
 use Rattle.m2_promise.proofs.Places.{comes_one, goes_one}
+use Rattle.m2_lemmas.proofs.Booleans.{false_isnt_true}
+use Rattle.m2_links_go_on.proofs.Nodes.{end_among}
 
 pub record AreTowards (x : RunNow) (i j : ℕ) (h g : Holding) (a b : RecordNow) : Type 0 where
   pub near : slice_get x.holdings i ≡ Some h
@@ -68,7 +69,7 @@ module _ (x : RunNow) (run : IsRunning x) (i j : ℕ) (h g : Holding) (a b : Rec
   pub goes_apart : (k : SocketId) → goes_to h.port.at k ≡ true → goes_to g.port.at k ≡ true → ⊥
   goes_apart k p q =
       let same : i ≡ j = goes_one x.fabric.nodes i j h.port.at g.port.at k run.apart here.at there.at p q in
-      differ (sym (is_at a t.mine).other ∙ eq-eqb a.place i (t.a_towards ∙ sym same))
+      false_isnt_true (sym (is_at a t.mine).other ∙ eq-eqb a.place i (t.a_towards ∙ sym same))
 
   -- of a socket that the other record has opened none but this one has an end
   pub alone : (k : SocketId) → has_opened (journal_of b.journal) k ≡ true → is_among k (ids_of (ends_of_all h.records)) ≡ true → is_among k (ids_of (ends_of a)) ≡ true

@@ -1,27 +1,17 @@
 -- The calls of both dispatchers turn by turn are the calls of both logs.
-use Rattle.std.proofs.Common.{◌≡◌, ℕ, zero, suc, ◌+◌, ◌⊎◌, inl, inr, Bool, cond, List, [], ◌∷◌, ◌++◌, take, drop, refl, sym, ap, ◌∙◌, arith, append-nil, count_by}
+use Rattle.std.proofs.Common.{◌≡◌, ℕ, ◌+◌, ◌⊎◌, inl, inr, Bool, cond, List, [], ◌∷◌, ◌++◌, take, drop, refl, sym, ap, ◌∙◌, arith, append-nil, count_by}
 use Rattle.std.specs.List.{AllByRecursion}
 use Rattle.std.proofs.lemmas.List.{take-append-drop}
 use Rattle.std.proofs.lemmas.List.Sums.{sum_by-append, sum_by-take-drop}
 use Rattle.m2_channel.proofs.Handing.{heard-append}
 use Rattle.m2_dispatch.specs.Heard.{Heard, of_key}
-use Rattle.m2_history.proofs.Tidiness.{all_append}
 use Rattle.m2_message.specs.Message.{Content}
 use Rattle.m2_policy.specs.declared.path.Key.{Key}
 use Rattle.m2_script.specs.declared.calls.TurnCalls.{TurnCalls}
 use Rattle.m2_script.specs.Outcome.{in_turns}
+use Rattle.m2_lemmas.proofs.Lists.{all_take, all_drop, all_append}
 
 -- ---- what holds of each
-
-all_take : {X : Type 0} (P : X → Type 0) (n : ℕ) (xs : List X) → AllByRecursion P xs → AllByRecursion P (take n xs)
-all_take P zero xs a = tt
-all_take P (suc n) [] a = tt
-all_take P (suc n) (x ∷ xs) a = (a.0, all_take P n xs a.1)
-
-all_drop : {X : Type 0} (P : X → Type 0) (n : ℕ) (xs : List X) → AllByRecursion P xs → AllByRecursion P (drop n xs)
-all_drop P zero xs a = a
-all_drop P (suc n) [] a = tt
-all_drop P (suc n) (x ∷ xs) a = all_drop P n xs a.1
 
 pub all_turns : {X : Type 0} (P : X → Type 0) (cs : List TurnCalls) (fast queued : List X) → AllByRecursion P fast → AllByRecursion P queued → AllByRecursion P (in_turns cs fast queued)
 all_turns P [] fast queued f q = all_append P fast queued f q

@@ -5,13 +5,11 @@ use Rattle.std.specs.List.{AllByRecursion}
 use Rattle.std.proofs.lemmas.List.{map-append}
 use Rattle.std.proofs.lemmas.List.Elements.{filter-append}
 use Rattle.m2_channel.specs.Channel as channel
-use Rattle.m2_channel.specs.Handing.{AreParcelsOf, IsParcelOf, LogsAreLogs, calls_of, heard_at_once, heard_by_calls, parcels_of, queued_of}
+use Rattle.m2_channel.specs.Handing.{AreParcelsOf, LogsAreLogs, calls_of, heard_at_once, heard_by_calls, parcels_of, queued_of}
 use Rattle.m2_channel.specs.Observed.{handed}
-use Rattle.m2_channel.proofs.Keys.{differ}
 use Rattle.m2_dispatch.specs.Heard as hear
 use Rattle.m2_dispatch.specs.Heard.{Heard, is_key, is_path, message, reset, of_key}
 use Rattle.m2_dispatch.specs.declared.parcel.Parcel.{Parcel}
-use Rattle.m2_dispatch.specs.declared.parcel.Parcel.TheVariants as parcel
 use Rattle.m2_dispatch.specs.Laws.{Call, IsSublist, start}
 use Rattle.m2_growth.specs.Halves.{IsOneOf}
 use Rattle.m2_growth.proofs.Among.{of_each}
@@ -19,29 +17,15 @@ use Rattle.m2_journal.specs.State as state
 use Rattle.m2_journal.specs.State.{Delivery, State}
 use Rattle.m2_links_go_on.specs.Logged.{IsLogged, IsLoggedOf, LoggingNow, all_put, handed_of, heard_held}
 use Rattle.m2_links_go_on.proofs.Puts.{parcels-append}
-use Rattle.m2_message.specs.Message.{Content, unnumbered}
+use Rattle.m2_message.specs.Message.{unnumbered}
 use Rattle.m2_policy.specs.declared.path.Key.{Key}
 use Rattle.m2_policy.specs.declared.path.Path.{Path}
 use Rattle.m2_policy.specs.declared.path.Path.TheVariants.{Fast, Queued}
 use Rattle.m2_record.specs.RecordNow.{RecordNow, delivery_of}
-
--- ---- lists
-
-pub all_first : {X : Type 0} (P : X → Type 0) (xs ys : List X) → AllByRecursion P (xs ++ ys) → AllByRecursion P xs
-all_first P [] ys h = tt
-all_first P (x ∷ xs) ys h = (h.0, all_first P xs ys h.1)
-
-pub all_last : {X : Type 0} (P : X → Type 0) (xs ys : List X) → AllByRecursion P (xs ++ ys) → AllByRecursion P ys
-all_last P [] ys h = h
-all_last P (x ∷ xs) ys h = all_last P xs ys h.1
-
-some_of_none : {X : Type 0} (xs : List X) → IsSublist xs [] → xs ≡ []
-some_of_none [] h = refl
-some_of_none (x ∷ xs) h = absurd h
-
-unmapped : (ms : List Content) → map unnumbered ms ≡ [] → ms ≡ []
-unmapped [] e = refl
-unmapped (m ∷ ms) e = absurd cc
+use Rattle.m2_lemmas.proofs.Lists.{all_front}
+use Rattle.m2_lemmas.proofs.Booleans.{if_false, from_false_true}
+use Rattle.m2_channel.proofs.TwoWays.{some_of_none, unmapped}
+use Rattle.m2_links_go_on.proofs.AreHeard.{is_parcel}
 
 -- ---- keys
 
@@ -49,13 +33,9 @@ last_false : (b c : Bool) → c ≡ false → (b && c) ≡ false
 last_false true c e = e
 last_false false c e = refl
 
-skip : {X : Type 0} (b : Bool) (x y : X) → b ≡ false → (if b then x else y) ≡ y
-skip true x y e = differ (sym e)
-skip false x y e = refl
-
 fast_path : (p : Path) → is_path p Fast ≡ true → p ≡ Fast
 fast_path Fast e = refl
-fast_path Queued e = differ e
+fast_path Queued e = from_false_true e
 
 -- ---- through the queue
 
@@ -78,21 +58,16 @@ queued_same [] all = refl
 queued_same (state.discarded ∷ ds) all = ap (λ l. state.discarded ∷ l) (queued_same ds all.1)
 queued_same (state.remote_reset ∷ ds) all = ap (λ l. state.remote_reset ∷ l) (queued_same ds all.1)
 queued_same (state.letter n k m ∷ ds) all =
-    skip (is_path k.path Fast) (queued_of ds) (state.letter n k m ∷ queued_of ds) all.0 ∙ ap (λ l. state.letter n k m ∷ l) (queued_same ds all.1)
+    if_false (is_path k.path Fast) (queued_of ds) (state.letter n k m ∷ queued_of ds) all.0 ∙ ap (λ l. state.letter n k m ∷ l) (queued_same ds all.1)
 
 none_of_fast : (key : Key) (ds : List Delivery) → key.path ≡ Fast → AllByRecursion IsQueued ds → channel.of_key key (handed ds) ≡ []
 none_of_fast key [] e all = refl
 none_of_fast key (state.discarded ∷ ds) e all = none_of_fast key ds e all.1
 none_of_fast key (state.remote_reset ∷ ds) e all = none_of_fast key ds e all.1
 none_of_fast key (state.letter n k m ∷ ds) e all =
-    skip (is_key k key) (unnumbered m ∷ channel.of_key key (handed ds)) (channel.of_key key (handed ds))
+    if_false (is_key k key) (unnumbered m ∷ channel.of_key key (handed ds)) (channel.of_key key (handed ds))
     (last_false (k.priority == key.priority) (is_path k.path key.path) (ap (is_path k.path) e ∙ all.0))
     ∙ none_of_fast key ds e all.1
-
-is_parcel : (x : Parcel) → IsParcelOf x (delivery_of x)
-is_parcel (parcel.Letter l) = (refl, refl, refl)
-is_parcel (parcel.Discard peer) = tt
-is_parcel (parcel.RemoteReset peer) = tt
 
 are_parcels : (xs : List Parcel) → AreParcelsOf xs (map delivery_of xs)
 are_parcels [] = tt
@@ -139,7 +114,7 @@ fast_none peer key (message p k n m ∷ log) e all = at (p == peer) all (fast_no
 
     at : (b : Bool) → AllByRecursion IsFastCall (if b then message p k n m ∷ calls_of peer log else calls_of peer log) → (AllByRecursion IsFastCall (calls_of peer log) → of_key peer key log ≡ []) →
         (if b && is_key k key then m ∷ of_key peer key log else of_key peer key log) ≡ []
-    at true h rest = skip (is_key k key) (m ∷ of_key peer key log) (of_key peer key log) (another h.0) ∙ rest h.1
+    at true h rest = if_false (is_key k key) (m ∷ of_key peer key log) (of_key peer key log) (another h.0) ∙ rest h.1
     at false h rest = rest h
 
 -- ---- both
@@ -150,14 +125,14 @@ module _ (law : LogsAreLogs) {D : Type 0} (heard : D → List Heard) (l : Loggin
 
   at_once : AllByRecursion IsFastCall (calls_of r.place (heard l.out.fast))
   at_once =
-      all_first IsFastCall (calls_of r.place (heard l.out.fast)) (calls_of r.place (heard_held l.out.held))
+      all_front IsFastCall (calls_of r.place (heard l.out.fast)) (calls_of r.place (heard_held l.out.held))
       (subst (AllByRecursion IsFastCall) (sym its.fast ∙ filter-append (λ h. hear.peer_of h == r.place) (heard l.out.fast) (heard_held l.out.held)) (all_fast r.place (handed_of r)))
 
   through : AllByRecursion IsQueued (map delivery_of (parcels_of r.place is.calls))
   through =
       let put = parcels_of r.place is.calls in
       let mail = parcels_of r.place (all_put l.out.mail) in
-      all_first IsQueued (map delivery_of put) (map delivery_of mail)
+      all_front IsQueued (map delivery_of put) (map delivery_of mail)
       (subst (AllByRecursion IsQueued) (sym its.queued ∙ ap (map delivery_of) (parcels-append r.place is.calls (all_put l.out.mail)) ∙ map-append delivery_of put mail) (all_queued (handed_of r)))
 
   by_path : (key : Key) (p : Path) → key.path ≡ p → (of_key r.place key (heard l.out.fast) ≡ []) ⊎ (of_key r.place key (heard l.queued.inner) ≡ [])

@@ -8,6 +8,7 @@ use Rattle.std.specs.Ordering.{is_lt, nat_cmp}
 use Rattle.std.proofs.lemmas.List.Elements.{All-from_recursion, recursion_from_All}
 use Rattle.std.proofs.lemmas.Bool.Decides.{nat_tests}
 use Rattle.m2_queues.specs.ByRank.{put_before, by_rank, goes_before, IsStableSort}
+use Rattle.m2_lemmas.proofs.Lists.{all_so}
 
 -- the test does not pass at any item
 none : {X : Type 0} (p : X → Bool) (xs : List X) → AllByRecursion (λ x. p x ≡ false) xs → filter p xs ≡ []
@@ -20,10 +21,6 @@ same_tests p q same (x ∷ xs) = rw (same x, same_tests p q same xs)
 
 cons_is_not_nil : {X : Type 0} (x : X) (xs : List X) → [] ≡ x ∷ xs → ⊥
 cons_is_not_nil x xs h = absurd (omega (arith, ap length h))
-
-weaker : {X : Type 0} (P Q : X → Type 0) → ((x : X) → P x → Q x) → (xs : List X) → AllByRecursion P xs → AllByRecursion Q xs
-weaker P Q f [] all = tt
-weaker P Q f (x ∷ xs) all = (f x all.0, weaker P Q f xs all.1)
 
 module _ {X : Type 0} (rank : X → ℕ) where
   abbrev pub has_rank : ℕ → X → Bool
@@ -55,7 +52,7 @@ module _ {X : Type 0} (rank : X → ℕ) where
       go true e more = let under : rank x ≤ rank y = grind (arith, nat_tests) in (all-put (λ z. rank z ≤ rank y) x ys under h.0, more)
       go false e more =
           let over : rank y ≤ rank x = grind (arith, nat_tests) in
-          ((over, weaker (λ z. rank z ≤ rank y) (λ z. rank z ≤ rank x) (λ z le. omega arith) ys h.0), h)
+          ((over, all_so (λ z. rank z ≤ rank y) (λ z. rank z ≤ rank x) (λ z le. omega arith) ys h.0), h)
 
   -- it falls in rank
   pub falls-by_rank : (xs : List X) → Falls (by_rank rank xs)
@@ -96,7 +93,7 @@ module _ {X : Type 0} (rank : X → ℕ) where
       go true e =
           let lt : rank y < rank x = grind (arith, nat_tests) in
           let other : has_rank (rank x) y ≡ false = grind (arith, nat_tests) in
-          let rest : AllByRecursion (λ z. has_rank (rank x) z ≡ false) ys = weaker (λ z. rank z ≤ rank y) _ (λ z le. grind (arith, nat_tests)) ys falls.0 in
+          let rest : AllByRecursion (λ z. has_rank (rank x) z ≡ false) ys = all_so (λ z. rank z ≤ rank y) _ (λ z le. grind (arith, nat_tests)) ys falls.0 in
           let mine : filter (has_rank (rank x)) (x ∷ xs) ≡ x ∷ filter (has_rank (rank x)) xs = rw (own x) in
           absurd (cons_is_not_nil x _ (sym (none (has_rank (rank x)) (y ∷ ys) (other, rest)) ∙ sym h ∙ mine))
 
@@ -138,7 +135,7 @@ module _ {X : Type 0} (rank : X → ℕ) where
       let test : ltb (rank x) (rank y) ≡ false = sym (is y x) ∙ h 0 x (omega arith) (omega arith) in
       let under : rank y ≤ rank x = grind (arith, nat_tests) in
       let rest = falls-sorted lt is (y ∷ ys) tail in
-      ((under, weaker (λ z. rank z ≤ rank y) (λ z. rank z ≤ rank x) (λ z le. omega arith) ys rest.0), rest)
+      ((under, all_so (λ z. rank z ≤ rank y) (λ z. rank z ≤ rank x) (λ z le. omega arith) ys rest.0), rest)
 
   -- a stable sort that puts the greater rank first leaves the list in the order of the rank
   pub by_rank-sorted : (lt : X → X → Bool) → ((x y : X) → lt x y ≡ ltb (rank y) (rank x)) → (xs ys : List X) → IsSortedBy lt ys → IsStableBy lt xs ys → ys ≡ by_rank rank xs

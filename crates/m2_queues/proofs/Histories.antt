@@ -9,7 +9,7 @@ use Rattle.m2_queues.proofs.Joining.{falls-put_behind, rank-put_behind}
 use Rattle.m2_queues.specs.OutQueues.{message_at, newly_numbered}
 use Rattle.m2_queues.specs.QueueLaws.{Call, Post, Next, Sent, Acked, Requeue, Renumber, Discard, History, start_of, after_call, after_calls, history_of, of_priority, SetsBack}
 
-falls-rest : (ms : List Content) → Falls priority_of ms → Falls priority_of (drop 1 ms)
+pub falls-rest : (ms : List Content) → Falls priority_of ms → Falls priority_of (drop 1 ms)
 falls-rest [] h = tt
 falls-rest (m ∷ ms) h = h.1
 

@@ -45,10 +45,10 @@ use Rattle.m2_record.proofs.Going.{keeps-room}
 use Rattle.m2_record.proofs.Judgements.{judged-there, trails-answered, unopened, untaken}
 use Rattle.m2_record.proofs.Keeping.{as-planned, ground, one-more, replay-stays}
 use Rattle.m2_record.proofs.Kept.{feeds-more, ids-left, stepped-within, tells-fits, told-from, whole-left}
-use Rattle.m2_record.proofs.Names.{differ}
 use Rattle.m2_record.proofs.Opens.{closed-more, still-open}
 use Rattle.m2_record.proofs.Telling.{Beside, beside, feed_left, spent_if, tells-beside, tells-feed, told_by}
 use Rattle.m2_record.proofs.Trailing.{closed-behind, ends-go-on, trails-go-on}
+use Rattle.m2_lemmas.proofs.Booleans.{false_isnt_true}
 
 -- ---- what is told, where anything is
 
@@ -86,10 +86,10 @@ judges-beside f v k unread s =
 -- ---- a feed that is held
 
 pub still-held : (held close : Bool) (feed : Option FeedNow) (P : FeedNow → Type 0) → (held ≡ true → OnFeedNow feed P) → (held && is_none (closed_if close feed)) ≡ true → OnFeedNow (feed_left close feed) P
-still-held true true (Some v) P h e = absurd (differ e)
+still-held true true (Some v) P h e = absurd (false_isnt_true e)
 still-held true true None P h e = h refl
 still-held true false feed P h e = h refl
-still-held false close feed P h e = absurd (differ e)
+still-held false close feed P h e = absurd (false_isnt_true e)
 
 module _ (r : RecordNow) (s : State) (h : IsReplayedTo s r) (v : Verdict) (k : SocketId) (refuses : takes v.answer ≡ false) where
   abbrev left : Effects

@@ -24,7 +24,7 @@ use Rattle.m2_record.specs.Judging.{CanAskOn, CanBeJudged, CanBeTaken, JudgesAs,
 use Rattle.m2_record.specs.declared.judging.Judged.{Judged}
 use Rattle.m2_record.specs.declared.judging.Judged.TheVariants as judged
 use Rattle.m2_record.specs.RecordNow.{RecordNow, Rooms, speaks_of}
-use Rattle.m2_record.proofs.Names.{differ}
+use Rattle.m2_lemmas.proofs.Booleans.{false_isnt_true}
 
 -- the session of a record is sound, as that of each replay
 pub session-sound : (r : RecordNow) → IsRecord r → SessionIsSound r.core.facts r.core.live.session
@@ -78,7 +78,7 @@ top-judged (judged.Taken answer) v a now old new from h = at new.core.live.feed 
   where
     at : (o : Option FeedNow) → IfSome o (λ d. IsTakenFeed v (half_of answer a).end (half_of answer a).unread old.core d × (new ≡ record (after_taking_over v (half_of answer a) d now old) { room = new.room })) → IsSome o → new.core.top ≤ v.number
     at (Some d) e f = (let t = ap (λ (r : RecordNow). r.core.top) e.1 in omega (arith, t))
-    at None e f = absurd (differ f)
+    at None e f = absurd (false_isnt_true f)
 top-judged (judged.Back answer arrival) v a now old new from h = (let t = ap (λ (r : RecordNow). r.core.top) h.3 in omega (arith, t))
 top-judged (judged.NoMemory arrival) v a now old new from h = (let t = ap (λ (r : RecordNow). r.core.top) h.1 in omega (arith, t, from))
 

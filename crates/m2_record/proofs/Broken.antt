@@ -43,9 +43,10 @@ use Rattle.m2_record.proofs.Entering.{reach-more}
 use Rattle.m2_record.proofs.FeedLeft.{closed-left, parcels-left}
 use Rattle.m2_record.proofs.Kept.{feeds-more, ids-left, stepped-within, tells-fits, told-from}
 use Rattle.m2_record.proofs.Keeping.{as-planned, ground, one-more, replay-stays}
-use Rattle.m2_record.proofs.Names.{differ, same_refl}
 use Rattle.m2_record.proofs.Telling.{Beside, beside, feed_left, tells-beside, tells-feed, told_by}
 use Rattle.m2_record.proofs.Trailing.{closed-behind, ends-go-on, trails-more}
+use Rattle.m2_lemmas.proofs.Booleans.{or_right, or_left, false_isnt_true}
+use Rattle.m2_fabric.proofs.Sockets.{same_refl}
 
 -- a fault closes the feed, whatever the session is
 abbrev closes-too : Session × Effects → Bool
@@ -64,22 +65,14 @@ fault-closes s waits = rows-close s.policy.lossy s.policy.server (s.policy.stand
 
 -- ---- the entry
 
-either : (a b : Bool) → a ≡ true → (a || b) ≡ true
-either true b h = refl
-either false b h = absurd (differ h)
-
-or-so : (a b : Bool) → b ≡ true → (a || b) ≡ true
-or-so true b h = refl
-or-so false b h = h
-
 -- what the end or the bytes on it show
 abbrev pub Cause : RecordNow → FeedNow → Type 0
 Cause r v = (is_broken_end v.end ≡ true) ⊎ BytesAreBroken r
 
 on-feed : (r : RecordNow) (s : State) (v : FeedNow) (d : Option Feed) (broken : Bool) → FeedsAgree r.core.facts s (Some v) d → (broken ≡ true) ⊎ OnFeedAt d (λ x. is_broken s x ≡ true) →
     OnFeedAt d (λ x. (same_socket v.end.id x.socket ≡ true) × ((broken || is_broken s x) ≡ true))
-on-feed r s v (Some d) broken a (inl b) = (subst (λ (k : SocketId). same_socket v.end.id k ≡ true) a.socket (same_refl v.end.id), either broken (is_broken s d) b)
-on-feed r s v (Some d) broken a (inr b) = (subst (λ (k : SocketId). same_socket v.end.id k ≡ true) a.socket (same_refl v.end.id), or-so broken (is_broken s d) b)
+on-feed r s v (Some d) broken a (inl b) = (subst (λ (k : SocketId). same_socket v.end.id k ≡ true) a.socket (same_refl v.end.id), or_left broken (is_broken s d) b)
+on-feed r s v (Some d) broken a (inr b) = (subst (λ (k : SocketId). same_socket v.end.id k ≡ true) a.socket (same_refl v.end.id), or_right broken (is_broken s d) b)
 on-feed r s v None broken a b = absurd a
 
 is-on-feed : (f : SideFacts) (s : State) (v : FeedNow) (d : Option Feed) → FeedsAgree f s (Some v) d → is_on v.end.id d ≡ true
@@ -88,7 +81,7 @@ is-on-feed f s v None a = absurd a
 
 breaking : (b : Bool) (k : SocketId) (s : State) → b ≡ true → (if b then breaks s else forgets k s) ≡ breaks s
 breaking true k s h = refl
-breaking false k s h = absurd (differ h)
+breaking false k s h = absurd (false_isnt_true h)
 
 module _ (r : RecordNow) (s : State) (h : IsReplayedTo s r) (v : FeedNow) (was : r.core.live.feed ≡ Some v) (cause : Cause r v) where
   abbrev left : Effects
@@ -177,7 +170,7 @@ module _ (r : RecordNow) (s : State) (h : IsReplayedTo s r) (v : FeedNow) (was :
     plan = k.plan;
     queue = tells-fits (event.Faulted (is_waiting r.core.live)) r.core.live k.queue;
     waits = stepped-within r.core.facts.node now r.core.live.session.phase broken_core.live.session.phase r.waits k.waits;
-    held = λ e. absurd (differ e);
+    held = λ e. absurd (false_isnt_true e);
   }
 
 -- ---- as the code comes to it

@@ -63,7 +63,7 @@ use Rattle.m2_record.specs.Reading.{Reads, answer_by, answer_read, fault_by, fau
 use Rattle.m2_record.specs.RecordNow.{RecordNow}
 use Rattle.m2_record.specs.Stepping.{FeedStays, IfMemory, NothingDone, PlansAs, StepsAs, StepsBy, TakesDue, Worked, answer_composed, answer_framed, answer_planned, answer_put}
 use Rattle.m2_record.proofs.HasGot.{none-closed, none-heard}
-use Rattle.m2_record.proofs.Names.{both, differ}
+use Rattle.m2_lemmas.proofs.Booleans.{both_of_and, false_isnt_true}
 
 -- ---- what makes it due
 
@@ -97,19 +97,19 @@ due-holds now r d e = subst (HoldsOf now r) e
     (row-holds (has_plan r) (has_parcel r.parcels) (may_connect now r) (may_write r) (has_frame r) (may_read r) (may_compose r) r.waits.next_dial)
 
 writes-at : (held : Bool) (o : Option FeedNow) → on_feed (λ v. not (is_empty v.composed) && not held) o ≡ true → OnFeedNow o (λ v. is_empty v.composed ≡ false)
-writes-at held (Some v) h = unset (is_empty v.composed) (both (not (is_empty v.composed)) (not held) h).0
+writes-at held (Some v) h = unset (is_empty v.composed) (both_of_and (not (is_empty v.composed)) (not held) h).0
   where
     unset : (b : Bool) → not b ≡ true → b ≡ false
-    unset true e = absurd (differ e)
+    unset true e = absurd (false_isnt_true e)
     unset false e = refl
-writes-at held None h = absurd (differ h)
+writes-at held None h = absurd (false_isnt_true h)
 
 pub writes-due : (now : ℕ) (r : RecordNow) → due_step now r ≡ due.Write → OnFeedNow r.core.live.feed (λ v. is_empty v.composed ≡ false)
 writes-due now r e = writes-at r.held r.core.live.feed (due-holds now r due.Write e)
 
 fed-at : (P : FeedNow → Bool) (o : Option FeedNow) → on_feed P o ≡ true → is_some o ≡ true
 fed-at P (Some v) h = refl
-fed-at P None h = absurd (differ h)
+fed-at P None h = absurd (false_isnt_true h)
 
 pub reads-due : (now : ℕ) (r : RecordNow) → due_step now r ≡ due.Read → is_some r.core.live.feed ≡ true
 reads-due now r e = fed-at _ r.core.live.feed (due-holds now r due.Read e)
@@ -118,7 +118,7 @@ reads-due now r e = fed-at _ r.core.live.feed (due-holds now r due.Read e)
 
 none-left : (o : Option PlanStep) → is_some o ≡ false → o ≡ None
 none-left None h = refl
-none-left (Some x) h = absurd (differ (sym h))
+none-left (Some x) h = absurd (false_isnt_true (sym h))
 
 pub may-go : (r : RecordNow) → is_some (next_step r) ≡ false → has_plan r ≡ true → MayGoDown (is_down_next (next_step r)) r
 may-go r none h = subst (λ (o : Option PlanStep). MayGoDown (is_down_next o) r) (sym (none-left (next_step r) none))
@@ -129,18 +129,18 @@ went-down r new now none h = at (next_step r) none h
   where
     at : (o : Option PlanStep) → is_some o ≡ false → GoesDown (is_down_next o) r new → PlansAs o (Ok tt) now r new
     at None e g = (refl, g)
-    at (Some x) e g = absurd (differ (sym e))
+    at (Some x) e g = absurd (false_isnt_true (sym e))
 
 pub took-step : (r new : RecordNow) (now : ℕ) (answer : Result (Unit {0}) memory.NoMemory) → is_some (next_step r) ≡ true → TakesNext (next_step r) answer now r new → PlansAs (next_step r) answer now r new
 took-step r new now answer some h = at (next_step r) some h
   where
     at : (o : Option PlanStep) → is_some o ≡ true → TakesNext o answer now r new → PlansAs o answer now r new
     at (Some x) e g = g
-    at None e g = absurd (differ e)
+    at None e g = absurd (false_isnt_true e)
 
 -- ---- for want of memory nothing is done
 
-feed-itself : (o : Option FeedNow) → FeedStays o o
+pub feed-itself : (o : Option FeedNow) → FeedStays o o
 feed-itself (Some v) = refl
 feed-itself None = tt
 
@@ -187,8 +187,8 @@ pub planned-nothing : (o : Option PlanStep) (answer : Result (Unit {0}) memory.N
 planned-nothing (Some (step.Post m)) (Err e) now old new p a = same-nothing old new (subst (λ (z : RecordNow). IsSameButRoom old z) (sym p) refl)
 planned-nothing (Some step.Dial) (Err e) now old new p a = absurd p
 planned-nothing (Some step.Down) (Err e) now old new p a = absurd p
-planned-nothing None (Err e) now old new p a = absurd (differ (sym (ap is-err p.0)))
-planned-nothing o (Ok u) now old new p a = absurd (differ (ap is-memory a))
+planned-nothing None (Err e) now old new p a = absurd (false_isnt_true (sym (ap is-err p.0)))
+planned-nothing o (Ok u) now old new p a = absurd (false_isnt_true (ap is-memory a))
 
 wrote-feed : (x y : Option FeedNow) → WritesFeed put.NoMemory x y → FeedStays x y
 wrote-feed (Some v) (Some w) e = feed-same (Some v) (Some w) (ap (λ (z : FeedNow). Some z) e)
@@ -198,27 +198,27 @@ wrote-feed None y e = absurd e
 pub wrote-nothing : (answer : FeedWrite) (now : ℕ) (old new : RecordNow) → Writes answer now old new → answer_put answer ≡ stepped.NoMemory → NothingDone old new
 wrote-nothing put.NoMemory now old new w a = subst (NothingDone old) (sym w.closes)
     (core-nothing old w.mid (wrote-feed old.core.live.feed w.mid.core.live.feed w.once.core.writes) w.once.core.only (no-entries old w.mid w.once.only))
-wrote-nothing (put.Put n acknowledged) now old new w a = absurd (differ (ap is-memory a))
-wrote-nothing put.NotYet now old new w a = absurd (differ (ap is-memory a))
-wrote-nothing put.Failed now old new w a = absurd (differ (ap is-memory a))
+wrote-nothing (put.Put n acknowledged) now old new w a = absurd (false_isnt_true (ap is-memory a))
+wrote-nothing put.NotYet now old new w a = absurd (false_isnt_true (ap is-memory a))
+wrote-nothing put.Failed now old new w a = absurd (false_isnt_true (ap is-memory a))
 
 -- a read that found no memory
 memory-read : (answer : EndRead) (o : Option Heard) → faulted_or (fault_by answer o) (answer_by answer o) ≡ stepped.NoMemory → answer ≡ read.NoMemory
 memory-read read.NoMemory o a = refl
-memory-read read.NotYet o a = absurd (differ (ap is-memory a))
-memory-read read.Ended o a = absurd (differ (ap is-memory a))
-memory-read read.Failed o a = absurd (differ (ap is-memory a))
-memory-read (read.Got n) None a = absurd (differ (ap is-memory a))
-memory-read (read.Got n) (Some heard.Wait) a = absurd (differ (ap is-memory a))
-memory-read (read.Got n) (Some (heard.ServerIdent cookie global)) a = absurd (differ (ap is-memory a))
-memory-read (read.Got n) (Some (heard.ReconnectOk seen)) a = absurd (differ (ap is-memory a))
-memory-read (read.Got n) (Some (heard.Retry number)) a = absurd (differ (ap is-memory a))
-memory-read (read.Got n) (Some (heard.RetryGlobal number)) a = absurd (differ (ap is-memory a))
-memory-read (read.Got n) (Some (heard.Reset full)) a = absurd (differ (ap is-memory a))
-memory-read (read.Got n) (Some (heard.Refused (refusal.Unexpected tag))) a = absurd (differ (ap is-memory a))
-memory-read (read.Got n) (Some (heard.Refused (refusal.Control e))) a = absurd (differ (ap is-memory a))
-memory-read (read.Got n) (Some (heard.Refused (refusal.Half e))) a = absurd (differ (ap is-memory a))
-memory-read (read.Got n) (Some (heard.Refused (refusal.MissingFeatures bits))) a = absurd (differ (ap is-memory a))
+memory-read read.NotYet o a = absurd (false_isnt_true (ap is-memory a))
+memory-read read.Ended o a = absurd (false_isnt_true (ap is-memory a))
+memory-read read.Failed o a = absurd (false_isnt_true (ap is-memory a))
+memory-read (read.Got n) None a = absurd (false_isnt_true (ap is-memory a))
+memory-read (read.Got n) (Some heard.Wait) a = absurd (false_isnt_true (ap is-memory a))
+memory-read (read.Got n) (Some (heard.ServerIdent cookie global)) a = absurd (false_isnt_true (ap is-memory a))
+memory-read (read.Got n) (Some (heard.ReconnectOk seen)) a = absurd (false_isnt_true (ap is-memory a))
+memory-read (read.Got n) (Some (heard.Retry number)) a = absurd (false_isnt_true (ap is-memory a))
+memory-read (read.Got n) (Some (heard.RetryGlobal number)) a = absurd (false_isnt_true (ap is-memory a))
+memory-read (read.Got n) (Some (heard.Reset full)) a = absurd (false_isnt_true (ap is-memory a))
+memory-read (read.Got n) (Some (heard.Refused (refusal.Unexpected tag))) a = absurd (false_isnt_true (ap is-memory a))
+memory-read (read.Got n) (Some (heard.Refused (refusal.Control e))) a = absurd (false_isnt_true (ap is-memory a))
+memory-read (read.Got n) (Some (heard.Refused (refusal.Half e))) a = absurd (false_isnt_true (ap is-memory a))
+memory-read (read.Got n) (Some (heard.Refused (refusal.MissingFeatures bits))) a = absurd (false_isnt_true (ap is-memory a))
 
 read-feed-same : (x y : Option FeedNow) → ReadsFeed read.NoMemory x y → y ≡ x
 read-feed-same (Some v) (Some w) e = ap (λ (z : FeedNow). Some z) e
@@ -260,12 +260,12 @@ read-nothing x now old new w a =
 
 memory-composed : (c : Composed) → answer_composed c ≡ stepped.NoMemory → c ≡ composed.NoMemory
 memory-composed composed.NoMemory a = refl
-memory-composed (composed.Asked by_ident number) a = absurd (differ (ap is-memory a))
-memory-composed (composed.Numbered number) a = absurd (differ (ap is-memory a))
-memory-composed composed.Answered a = absurd (differ (ap is-memory a))
-memory-composed composed.Acknowledged a = absurd (differ (ap is-memory a))
-memory-composed composed.Spent a = absurd (differ (ap is-memory a))
-memory-composed (composed.Again seen now) a = absurd (differ (ap is-memory a))
+memory-composed (composed.Asked by_ident number) a = absurd (false_isnt_true (ap is-memory a))
+memory-composed (composed.Numbered number) a = absurd (false_isnt_true (ap is-memory a))
+memory-composed composed.Answered a = absurd (false_isnt_true (ap is-memory a))
+memory-composed composed.Acknowledged a = absurd (false_isnt_true (ap is-memory a))
+memory-composed composed.Spent a = absurd (false_isnt_true (ap is-memory a))
+memory-composed (composed.Again seen now) a = absurd (false_isnt_true (ap is-memory a))
 
 answered-room : (x y : Option FeedNow) → AnswersStamp (Err (record {})) x y → FeedStays x y
 answered-room (Some v) (Some w) e = roomed v w e
@@ -287,7 +287,7 @@ text-nothing text.Acknowledgement old new c = core-nothing old new (composed-roo
 -- what is to be composed, whatever it is
 composed-at : (o : Option CoreText) (old new : RecordNow) → is_some o ≡ true → IfSome o (λ t. ComposesAs t composed.NoMemory old new) → NothingDone old new
 composed-at (Some t) old new e c = text-nothing t old new c
-composed-at None old new e c = absurd (differ e)
+composed-at None old new e c = absurd (false_isnt_true e)
 
 pub composed-nothing : (c : Composed) (old new : RecordNow) → is_some (to_compose old.core) ≡ true → IfSome (to_compose old.core) (λ t. ComposesAs t c old new) → answer_composed c ≡ stepped.NoMemory → NothingDone old new
 composed-nothing c old new e x a = composed-at (to_compose old.core) old new e
@@ -309,22 +309,22 @@ greeted-feed None y g = absurd g
 
 half-nothing : (answer : HalfStep) (now : ℕ) (old new : RecordNow) → Greets answer now old new → answer_framed (framed.Half answer) ≡ stepped.NoMemory → NothingDone old new
 half-nothing half.NoMemory now old new g a = core-nothing old new (greeted-feed old.core.live.feed new.core.live.feed g.0.greets) g.0.only g.1
-half-nothing half.NotYet now old new g a = absurd (differ (ap is-memory a))
-half-nothing half.Wrote now old new g a = absurd (differ (ap is-memory a))
-half-nothing half.Authed now old new g a = absurd (differ (ap is-memory a))
-half-nothing (half.Fault e) now old new g a = absurd (differ (ap is-memory a))
+half-nothing half.NotYet now old new g a = absurd (false_isnt_true (ap is-memory a))
+half-nothing half.Wrote now old new g a = absurd (false_isnt_true (ap is-memory a))
+half-nothing half.Authed now old new g a = absurd (false_isnt_true (ap is-memory a))
+half-nothing (half.Fault e) now old new g a = absurd (false_isnt_true (ap is-memory a))
 
 pub framed-nothing : (t : Throttled) (f : Framed) (now : ℕ) (old new : RecordNow) → Frames t f now old new → answer_framed f ≡ stepped.NoMemory → NothingDone old new
 framed-nothing t (framed.Half answer) now old new g a = half-nothing answer now old new g a
 framed-nothing t framed.NoMemory now old new g a = same-nothing old new g.1
-framed-nothing t framed.Passed now old new g a = absurd (differ (ap is-memory a))
-framed-nothing t framed.Granted now old new g a = absurd (differ (ap is-memory a))
-framed-nothing t (framed.Acked number) now old new g a = absurd (differ (ap is-memory a))
-framed-nothing t (framed.Accepted number) now old new g a = absurd (differ (ap is-memory a))
-framed-nothing t (framed.Obeyed full) now old new g a = absurd (differ (ap is-memory a))
-framed-nothing t (framed.Faulted cause) now old new g a = absurd (differ (ap is-memory a))
-framed-nothing t (framed.Full held) now old new g a = absurd (differ (ap is-memory a))
-framed-nothing t (framed.Again seen at) now old new g a = absurd (differ (ap is-memory a))
+framed-nothing t framed.Passed now old new g a = absurd (false_isnt_true (ap is-memory a))
+framed-nothing t framed.Granted now old new g a = absurd (false_isnt_true (ap is-memory a))
+framed-nothing t (framed.Acked number) now old new g a = absurd (false_isnt_true (ap is-memory a))
+framed-nothing t (framed.Accepted number) now old new g a = absurd (false_isnt_true (ap is-memory a))
+framed-nothing t (framed.Obeyed full) now old new g a = absurd (false_isnt_true (ap is-memory a))
+framed-nothing t (framed.Faulted cause) now old new g a = absurd (false_isnt_true (ap is-memory a))
+framed-nothing t (framed.Full held) now old new g a = absurd (false_isnt_true (ap is-memory a))
+framed-nothing t (framed.Again seen at) now old new g a = absurd (false_isnt_true (ap is-memory a))
 
 -- ---- the step
 
@@ -440,7 +440,7 @@ module _ (old new : RecordNow) where
 
   of-text : (o : Option CoreText) (c : Composed) (A : Type 0) → is_some o ≡ true → IfSome o (λ t. ComposesAs t c old new) → ((t : CoreText) → ComposesAs t c old new → A) → A
   of-text (Some t) c A some x f = f t x
-  of-text None c A some x f = absurd (differ some)
+  of-text None c A some x f = absurd (false_isnt_true some)
 
   pub composed-top : (c : Composed) (place : Place) (before behind : SeenNumberPass) → is_some (to_compose old.core) ≡ true → IfSome (to_compose old.core) (λ t. ComposesAs t c old new) → DrawsAs c place before behind → old.core.top ≤ before.least → old.core.top ≤ GREATEST_NUMBER → new.core.top ≤ behind.least
   composed-top c place before behind some x p h g = of-text (to_compose old.core) c (new.core.top ≤ behind.least) some x (λ t y. text-top t c place before behind y p h g)

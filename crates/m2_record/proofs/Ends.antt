@@ -8,23 +8,20 @@ use Rattle.m2_journal.specs.declared.entry.Entry.{Entry}
 use Rattle.m2_record.specs.IsRecord.{closed_in}
 use Rattle.m2_record.specs.RecordNow.{ids_of}
 use Rattle.m2_record.specs.Sources.{broken_of, end_at, got_of, put_of, runs_of}
-use Rattle.m2_record.proofs.Names.{differ, same_equal}
+use Rattle.m2_lemmas.proofs.Booleans.{neither_of_or, false_isnt_true}
+use Rattle.m2_fabric.proofs.Sockets.{same_equal}
 
 -- ---- among
-
-pub neither : (a b : Bool) → (a || b) ≡ false → (a ≡ false) × (b ≡ false)
-neither true b h = absurd (differ (sym h))
-neither false b h = (refl, h)
 
 -- a socket that is new to a list of ends has none there
 pub end-new : (ends : List SeenEnd) (k : SocketId) → IsNewTo (ids_of ends) k → end_at ends k ≡ None
 end-new [] k h = refl
-end-new (e ∷ es) k h = let two = neither (same_socket k e.id) (is_among k (ids_of es)) h in rw two.0 (end-new es k two.1)
+end-new (e ∷ es) k h = let two = neither_of_or (same_socket k e.id) (is_among k (ids_of es)) h in rw two.0 (end-new es k two.1)
 
 -- an end more is that of its socket, where it is the first
 pub end-last : (ends : List SeenEnd) (f : SeenEnd) (k : SocketId) → IsNewTo (ids_of ends) k → end_at (ends ++ f ∷ []) k ≡ end_at (f ∷ []) k
 end-last [] f k h = refl
-end-last (e ∷ es) f k h = let two = neither (same_socket k e.id) (is_among k (ids_of es)) h in rw two.0 (end-last es f k two.1)
+end-last (e ∷ es) f k h = let two = neither_of_or (same_socket k e.id) (is_among k (ids_of es)) h in rw two.0 (end-last es f k two.1)
 
 pub end-other : (ends : List SeenEnd) (f : SeenEnd) (k : SocketId) → same_socket k f.id ≡ false → end_at (ends ++ f ∷ []) k ≡ end_at ends k
 end-other [] f k h = rw h refl
@@ -108,5 +105,5 @@ ends-fresh journal e spent h new unclosed = record {
     runs-at k false g = rw g refl
 
     broken-at : (k : SocketId) → is_among k (closed_in journal) ≡ true → (b : Bool) → same_socket k e.id ≡ b → broken_of (end_at (e ∷ spent) k) ≡ broken_of (end_at spent k)
-    broken-at k c true g = absurd (differ (sym (subst (IsNewTo (closed_in journal)) (sym (same_equal k e.id g)) unclosed) ∙ c))
+    broken-at k c true g = absurd (false_isnt_true (sym (subst (IsNewTo (closed_in journal)) (sym (same_equal k e.id g)) unclosed) ∙ c))
     broken-at k c false g = rw g refl

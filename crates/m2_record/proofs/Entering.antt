@@ -11,7 +11,7 @@ use Rattle.m2_journal.specs.declared.entry.Entry.TheVariants as entry
 use Rattle.m2_journal.specs.Growth.{IsExtended, AreThere, Continues}
 use Rattle.m2_journal.specs.Items.{Sources, Places, Counts, raised, AreCovering, passed, passed_by, at_start, reach_of, run_of, runs_on}
 use Rattle.m2_record.specs.Entered.{KeepLogs, HaveRead, HavePut, AreSettled, MovesNothing, StepIsThere}
-use Rattle.m2_record.proofs.Names.{same_refl, same_equal, apart}
+use Rattle.m2_fabric.proofs.Sockets.{same_refl, same_equal, apart_turned}
 
 -- ---- one entry at the end of a journal
 
@@ -148,7 +148,7 @@ module _ (old new : Sources) (journal : List Entry) (socket : SocketId) (bytes :
       counted : (k : SocketId) (b : Bool) → same_socket socket k ≡ b → raised socket (length bytes) (reach_of journal).read k ≡ length (new.got k)
       counted k true h = subst (λ j. raised socket (length bytes) (reach_of journal).read j ≡ length (new.got j)) (same_equal socket k h)
           (raised-there socket socket (length bytes) (reach_of journal).read (same_refl socket) ∙ ap (λ n. n + length bytes) (c.read socket) ∙ sym (length-append (old.got socket) bytes) ∙ sym (ap length g.got))
-      counted k false h = raised-not socket k (length bytes) (reach_of journal).read h ∙ c.read k ∙ sym (ap length (g.other_got k (apart socket k h)))
+      counted k false h = raised-not socket k (length bytes) (reach_of journal).read h ∙ c.read k ∙ sym (ap length (g.other_got k (apart_turned socket k h)))
 
       listed : (k : SocketId) (b : Bool) → same_socket k socket ≡ b → new.runs k ≡ runs_on k (journal ++ entry.Read socket (length bytes) ∷ [])
       listed k true h = subst (λ j. new.runs j ≡ runs_on j (journal ++ entry.Read socket (length bytes) ∷ [])) (sym (same_equal k socket h))
@@ -183,7 +183,7 @@ module _ (old new : Sources) (journal : List Entry) (socket : SocketId) (bytes :
       counted : (k : SocketId) (b : Bool) → same_socket socket k ≡ b → raised socket (length bytes) (reach_of journal).written k ≡ length (new.put k)
       counted k true h = subst (λ j. raised socket (length bytes) (reach_of journal).written j ≡ length (new.put j)) (same_equal socket k h)
           (raised-there socket socket (length bytes) (reach_of journal).written (same_refl socket) ∙ ap (λ n. n + length bytes) (c.written socket) ∙ sym (length-append (old.put socket) bytes) ∙ sym (ap length g.put))
-      counted k false h = raised-not socket k (length bytes) (reach_of journal).written h ∙ c.written k ∙ sym (ap length (g.other_put k (apart socket k h)))
+      counted k false h = raised-not socket k (length bytes) (reach_of journal).written h ∙ c.written k ∙ sym (ap length (g.other_put k (apart_turned socket k h)))
 
       listed : (k : SocketId) (b : Bool) → same_socket k socket ≡ b → new.runs k ≡ runs_on k (journal ++ entry.Wrote socket (length bytes) ∷ [])
       listed k true h = subst (λ j. new.runs j ≡ runs_on j (journal ++ entry.Wrote socket (length bytes) ∷ [])) (sym (same_equal k socket h))

@@ -27,8 +27,8 @@ use Rattle.m2_record.specs.Due.{has_frame, is_start}
 use Rattle.m2_record.specs.Due as due
 use Rattle.m2_record.specs.Framing.{AnswersFront, IsDone}
 use Rattle.m2_record.specs.RecordNow.{RecordNow}
-use Rattle.m2_record.proofs.Names.{differ}
 use Rattle.m2_record.proofs.Standing.{SameEnd}
+use Rattle.m2_lemmas.proofs.Booleans.{false_isnt_true}
 
 -- ---- calls of the core that make no entry
 
@@ -199,22 +199,22 @@ never-rests true n x = refl
 never-rests false n x = refl
 
 in-front : (h : Hearer) (o : Option ℕ) (f : Front) → front_in h o f ≡ rests → (is_none o && is_start f) ≡ true
-in-front h (Some n) f e = absurd (differ (sym (never-rests (phase.is h.phase Ready) n _) ∙ ap is-rests e))
+in-front h (Some n) f e = absurd (false_isnt_true (sym (never-rests (phase.is h.phase Ready) n _) ∙ ap is-rests e))
 in-front h None start e = refl
-in-front h None (bad f) e = absurd (differ (ap is-rests e))
-in-front h None (text i len) e = absurd (differ (ap is-rests e))
+in-front h None (bad f) e = absurd (false_isnt_true (ap is-rests e))
+in-front h None (text i len) e = absurd (false_isnt_true (ap is-rests e))
 
 front-rests : (h : Hearer) (x : Reading) → is_framing x ≡ true → front_of h x ≡ rests → due.rests x ≡ true
 front-rests h (framing rest granted) signed e = in-front h (owed_at rest granted) (judge rest) e
-front-rests h (shaking s) signed e = absurd (differ signed)
+front-rests h (shaking s) signed e = absurd (false_isnt_true signed)
 
 neither-says : (o : Option FrameHeard) (x : FrontHeard) → before_front o x ≡ rests → (is_some o ≡ false) × (x ≡ rests)
-neither-says (Some says) x e = absurd (differ (ap is-rests e))
+neither-says (Some says) x e = absurd (false_isnt_true (ap is-rests e))
 neither-says None x e = (refl, e)
 
 at-rest : (a b : Bool) → a ≡ true → b ≡ false → (not a || b) ≡ true → ⊥
-at-rest true b p q e = differ (sym q ∙ e)
-at-rest false b p q e = differ p
+at-rest true b p q e = false_isnt_true (sym q ∙ e)
+at-rest false b p q e = false_isnt_true p
 
 not-both : (c : CoreNow) (o : Option FeedNow) → (due.on_feed (λ v. not (due.rests v.reading)) o || is_some (resumption_at c)) ≡ true → OnFeedNow o (λ v. is_framing v.reading ≡ true) → OnFeedNow o (λ v. heard_by c v.reading ≡ rests) → ⊥
 not-both c (Some v) frame signed e =

@@ -36,11 +36,11 @@ use Rattle.m2_record.proofs.Entering.{reach-more}
 use Rattle.m2_record.proofs.Keeping.{as-planned, ground, one-more, replay-stays}
 use Rattle.m2_record.proofs.FeedLeft.{KeepsRoom, SpentIs, closed-left, closes-entries, ends-left, open-left, parcels-left, room-left, spent-is}
 use Rattle.m2_record.proofs.Kept.{feeds-more, ids-left, tells-fits, told-from, whole-left}
-use Rattle.m2_record.proofs.Names.{differ}
 use Rattle.m2_record.proofs.Opens.{closed-more, still-open}
 use Rattle.m2_record.proofs.Taking.{planned-next}
 use Rattle.m2_record.proofs.Telling.{Beside, beside, feed_left, spent_if, tells-beside, tells-feed, told_by}
 use Rattle.m2_record.proofs.Trailing.{closed-behind, ends-go-on, trails-more}
+use Rattle.m2_lemmas.proofs.Booleans.{false_isnt_true}
 
 -- a Down may come: it is the plan's next step, or a number that is needed is above the greatest
 abbrev pub MayGo : (planned : Bool) → RecordNow → CoreNow → Type 0
@@ -125,7 +125,7 @@ module _ (r : RecordNow) (s : State) (h : IsReplayedTo s r) where
     plan = k.plan;
     queue = tells-fits event.MarkedDown r.core.live k.queue;
     waits = k.waits;
-    held = λ e. absurd (differ e);
+    held = λ e. absurd (false_isnt_true e);
   }
 
   between-is : (p : Bool) (room : Rooms) → MayGo p r r.core → LeadsDown p r.core (after_down r.core) → KeepsRoom left.close r.room.ends room.ends → IsReplayedTo (goes_down p (tells event.MarkedDown s)) (between p room)
@@ -184,7 +184,7 @@ one-more-step true r h may e =
     let within = slice_get_within r.plan r.steps step.Down (down-next (next_step r) may) in
     let few = h.at_state.few in
     omega (arith, within, few)
-one-more-step false r h may e = absurd (differ e)
+one-more-step false r h may e = absurd (false_isnt_true e)
 
 pub down-after : (p : Bool) (r : RecordNow) (c : CoreNow) (journal : List Entry) (steps : ℕ) (spent : List SeenEnd) (parcels : List Parcel) (room : Rooms) (closed : Option SeenEnd) (discarded remote_reset : Bool) →
     IsRecord r → MayGoDown p r → (is_exhausted r.core ≡ true → (o : Option Planned) → MayCome (item.down false o) r.core) → c ≡ after_down r.core → LeadsDown p r.core c →

@@ -28,9 +28,7 @@ use Rattle.m2_record.specs.Due.{due_step}
 use Rattle.m2_record.specs.Reading.{answer_by, answer_heard, answer_read, fault_read, faulted_or}
 use Rattle.m2_record.specs.RecordNow.{RecordNow}
 use Rattle.m2_record.specs.Stepping.{HandsAs, IsHandedOwned, StepsBy, TakesDue, Worked, answer_composed, answer_framed, answer_planned, answer_put}
-
-differ : false ≡ true → ⊥
-differ e = subst (λ b. elim b as (λ _. Type 0) [ false ↦ Unit {0} | true ↦ ⊥ ]) e tt
+use Rattle.m2_lemmas.proofs.Booleans.{false_isnt_true}
 
 -- ---- which answers hand out a parcel
 
@@ -103,7 +101,7 @@ faulting None answer h = h
 
 not_hand : (place : Place) (answer other : Stepped) → answer ≡ other → is_hand other ≡ false → IsHandedOwned place answer
 unfolding is_hand
-not_hand place (stepped.Hand x) other e h = absurd (differ (sym h ∙ ap is_hand (sym e)))
+not_hand place (stepped.Hand x) other e h = absurd (false_isnt_true (sym h ∙ ap is_hand (sym e)))
 not_hand place stepped.Moved other e h = tt
 not_hand place stepped.Dry other e h = tt
 not_hand place (stepped.Full held) other e h = tt

@@ -69,9 +69,8 @@ use Rattle.m2_record.proofs.Entering.{reach-more, read-continues, read-covers}
 use Rattle.m2_record.proofs.FeedLeft.{KeepsRoom, SpentIs, closed-left, closes-entries, ends-left, open-left, room-left}
 use Rattle.m2_record.proofs.Going.{keeps-room}
 use Rattle.m2_record.proofs.HasPut.{same-ids, src, stayed, unclosed-one}
-use Rattle.m2_record.proofs.Keeping.{as-planned, either, ground, replay-stays, settled}
+use Rattle.m2_record.proofs.Keeping.{as-planned, ground, replay-stays, settled}
 use Rattle.m2_record.proofs.Kept.{feeds-more, ids-left, stepped-within, tells-fits, whole-left}
-use Rattle.m2_record.proofs.Names.{differ, same_refl}
 use Rattle.m2_record.proofs.Opens.{closed-more}
 use Rattle.m2_record.proofs.Owning.{tells-owned}
 use Rattle.m2_record.proofs.Standing.{SameEnd, same-feed_end, same-held, same-open, same-room, same-whole}
@@ -79,6 +78,8 @@ use Rattle.m2_record.proofs.Telling.{Beside, beside, feed_left}
 use Rattle.m2_record.proofs.Trailing as trailing
 use Rattle.m2_record.proofs.Trailing.{LogGoesOn, closed-behind, ends-go-on, first-goes-on, first-here, prefix-same, runs-more, trail-there, trails-go-on, trails-more, unread-stays}
 use Rattle.m2_shared.specs.Place.{Place}
+use Rattle.m2_lemmas.proofs.Booleans.{or_right, false_isnt_true}
+use Rattle.m2_fabric.proofs.Sockets.{same_refl}
 
 -- ---- what it leaves of a state
 
@@ -333,7 +334,7 @@ module _ (r : RecordNow) (s : State) (h : IsReplayedTo s r) (c : CoreNow) (facts
     }
 
     held-at : (a : Bool) → a ≡ b → IsWellKept r → held ≡ held_read (read.Got (length bytes)) a r.held → held ≡ true → OnFeedNow (feed_left a (Some mid)) (λ z. z.end.log.blocked ≡ true)
-    held-at true e k q g = absurd (differ (sym q ∙ g))
+    held-at true e k q g = absurd (false_isnt_true (sym q ∙ g))
     held-at false e k q g = x.blocked ∙ subst (λ (o : Option FeedNow). OnFeedNow o (λ z. z.end.log.blocked ≡ true)) was (k.held (sym q ∙ g))
 
     kept-got : IsWellKept r → FitFrames c.live.out.queue → IsWithin r.core.facts.node waits → held ≡ held_read (read.Got (length bytes)) b r.held → IsWellKept between
@@ -458,7 +459,7 @@ module _ (r : RecordNow) (h : IsRecord r) (c : CoreNow) (facts : c.facts ≡ r.c
   answered-so read.NotYet o closed (Some mid) w e is heeds cl ends =
       let none = none-closed o r.core.live.session closed (Some mid) is cl in
       subst (λ (z : Option SeenEnd). IsRecord (read_as read.NotYet z now c r v room)) (sym none)
-      (flagged mid false (none-heard o (live_with (Some mid) r.core.live) c.live is heeds) (λ q. absurd (differ q)) e (subst (λ (z : Option SeenEnd). KeepsEnds z r.room.ends room.ends) none ends)
+      (flagged mid false (none-heard o (live_with (Some mid) r.core.live) c.live is heeds) (λ q. absurd (false_isnt_true q)) e (subst (λ (z : Option SeenEnd). KeepsEnds z r.room.ends room.ends) none ends)
       (ap (λ (z : SeenEnd). z.id) w.hears.reads.1) (ap (λ (z : SeenEnd). z.log.got) w.hears.reads.1) (ap (λ (z : SeenEnd). z.log.put) w.hears.reads.1) (ap (λ (z : SeenEnd). z.log.runs) w.hears.reads.1) (ap (λ (z : SeenEnd). z.log.closed) w.hears.reads.1))
   answered-so read.Ended o closed (Some mid) w e is heeds cl ends =
       let none = none-closed o r.core.live.session closed (Some mid) is cl in
@@ -552,7 +553,7 @@ ended : (piece : List ℕ) (e f : SeenEnd) → f ≡ with_read read.Ended piece 
 ended piece e f h = subst (λ (z : SeenEnd). is_broken_end z ≡ true) (sym h) refl
 
 failed : (e f : SeenEnd) → HasRisen e.faults f.faults → is_broken_end f ≡ true
-failed e f h = either f.log.ended (not (f.faults == 0)) (by-faults f.faults (omega (arith, h)))
+failed e f h = or_right f.log.ended (not (f.faults == 0)) (by-faults f.faults (omega (arith, h)))
 
 abbrev IsBrokenOn : RecordNow → Option FeedNow → Type 0
 IsBrokenOn r o = OnFeedNow o (λ v. (is_broken_end v.end ≡ true) ⊎ BytesAreBroken r)

@@ -43,12 +43,13 @@ use Rattle.m2_record.proofs.Ends.{EndsStay}
 use Rattle.m2_record.proofs.Entering.{put-continues, put-covers, reach-more}
 use Rattle.m2_record.proofs.Kept.{feeds-more}
 use Rattle.m2_record.proofs.Keeping.{as-planned, ground, replay-stays, settled}
-use Rattle.m2_record.proofs.Names.{differ, same_equal, same_refl}
 use Rattle.m2_record.proofs.Opens.{closed-more}
 use Rattle.m2_record.proofs.Telling.{beside}
 use Rattle.m2_record.proofs.Telling as telling
 use Rattle.m2_record.proofs.Trailing.{Beside, LogGoesOn, first-goes-on, first-there, prefix-same, runs-more, trails-behind, trails-go-on, unread-same}
 use Rattle.m2_record.proofs.Trailing as trailing
+use Rattle.m2_lemmas.proofs.Booleans.{false_isnt_true}
+use Rattle.m2_fabric.proofs.Sockets.{same_equal, same_refl}
 
 -- ---- what it leaves of a state
 
@@ -121,7 +122,7 @@ put-goes-on n piece e = record { got = prefix-same e.log.got e.log.got refl; put
 
 -- a socket that no entry has closed isn't one that was closed
 pub unclosed-one : (journal : List Entry) (k socket : SocketId) (A : Type 0) → IsNewTo (closed_in journal) socket → is_among k (closed_in journal) ≡ true → same_socket k socket ≡ true → A
-unclosed-one journal k socket A new c g = absurd (differ (sym (subst (IsNewTo (closed_in journal)) (sym (same_equal k socket g)) new) ∙ c))
+unclosed-one journal k socket A new c g = absurd (false_isnt_true (sym (subst (IsNewTo (closed_in journal)) (sym (same_equal k socket g)) new) ∙ c))
 
 pub ends-flagged : (journal : List Entry) (e f : SeenEnd) (spent : List SeenEnd) → f.id ≡ e.id → f.log.got ≡ e.log.got → f.log.put ≡ e.log.put → f.log.runs ≡ e.log.runs → IsNewTo (closed_in journal) e.id →
     EndsStay journal (e ∷ spent) (f ∷ spent)
@@ -226,7 +227,7 @@ same-end put.Failed v w x = (ap (λ (z : SeenEnd). z.id) x.0.1, ap (λ (z : Seen
 same-end put.NoMemory v w x = (ap (λ (z : FeedNow). z.end.id) x, ap (λ (z : FeedNow). z.end.log.closed) x)
 
 still-held : (answer : FeedWrite) (held : Bool) (v w : FeedNow) → WritesOn answer v w → (held ≡ true → v.end.log.blocked ≡ true) → held_after answer held ≡ true → w.end.log.blocked ≡ true
-still-held (put.Put n ack) held v w x h e = absurd (differ e)
+still-held (put.Put n ack) held v w x h e = absurd (false_isnt_true e)
 still-held put.NotYet held v w x h e = ap (λ (z : SeenEnd). z.log.blocked) x.0.1
 still-held put.Failed held v w x h e = ap (λ (z : SeenEnd). z.log.blocked) x.0.1 ∙ h e
 still-held put.NoMemory held v w x h e = ap (λ (z : FeedNow). z.end.log.blocked) x ∙ h e

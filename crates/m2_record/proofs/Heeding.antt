@@ -61,11 +61,13 @@ use Rattle.m2_record.specs.IsRecord.{FeedHasRoom, FitFrames, IsRecord}
 use Rattle.m2_record.specs.RecordNow.{RecordNow, Rooms}
 use Rattle.m2_record.proofs.Broken.{Cause, HasBroken, broken-on, waits-as}
 use Rattle.m2_record.proofs.Fronts.{MakesNone, accepted-so, acked-so, again-so, end-passed, end-stays, fault-so, full-so, granted-so, is-done, memory-so, passed-so, reset-so, rests-so, same}
-use Rattle.m2_record.proofs.Kept.{acked-fits, all-append, tells-fits, told-from}
-use Rattle.m2_record.proofs.Names.{differ}
+use Rattle.m2_record.proofs.Kept.{acked-fits, tells-fits, told-from}
 use Rattle.m2_record.proofs.Owning.{tells-owned, told-all}
 use Rattle.m2_record.proofs.Standing.{HandsMore, SameEnd, enters-record, hands-record, stands-record}
 use Rattle.m2_record.proofs.Telling.{beside, feed_left, tells-beside, tells-feed}
+use Rattle.m2_lemmas.proofs.Options.{none_isnt_some, some_same}
+use Rattle.m2_lemmas.proofs.Lists.{all_append}
+use Rattle.m2_lemmas.proofs.Booleans.{false_isnt_true}
 
 -- ---- no entry
 
@@ -180,7 +182,7 @@ module _ {r : RecordNow} (h : IsRecord r) (c : CoreNow) where
       new.parcels ≡ r.parcels ++ told_parcels r.place discarded reset → Owns place new
   obeyed-owns full x discarded reset place old new e o g p = record {
     feed = subst (live.IsOwned place) (sym g) (obeyed-owned full r c x place (subst (Owns place) (sym e) o).feed);
-    parcels = subst (AllByRecursion (IsOwned place)) (sym p) (all-append (IsOwned place) r.parcels (told_parcels r.place discarded reset) (subst (Owns place) (sym e) o).parcels (told-all place r.place discarded reset));
+    parcels = subst (AllByRecursion (IsOwned place)) (sym p) (all_append (IsOwned place) r.parcels (told_parcels r.place discarded reset) (subst (Owns place) (sym e) o).parcels (told-all place r.place discarded reset));
   }
 
 -- ---- a fault
@@ -220,7 +222,7 @@ module _ (t : Throttled) (r : RecordNow) (c : CoreNow) (now : ℕ) (room : Rooms
   noted-plain (next.Resets full) h f ends k = plain r c room (none-made r c room k ends (same r.core c (reset-so t r.core c full h).0))
   noted-plain (next.Full out) h f ends k = plain r c room (none-made r c room k ends (same r.core c (full-so t r.core c out h)))
   noted-plain (next.Again seen at) h f ends k = plain r c room (none-made r c room k ends (same r.core c (again-so t r.core c seen at h)))
-  noted-plain (next.Fault cause) h f ends k = absurd (differ (sym f))
+  noted-plain (next.Fault cause) h f ends k = absurd (false_isnt_true (sym f))
   noted-plain next.NoMemory h f ends k = plain r c room (none-made r c room k ends (same r.core c (memory-so t r.core c h)))
 
   pub noted : (x : CoreNext) (journal : List Entry) (parcels : List Parcel) (last : ℕ) → AnswersFront t x r.core c → is_faulted (framed_next x) ≡ false → room.ends ≡ r.room.ends → IsRecord r →
@@ -244,7 +246,7 @@ module _ (t : Throttled) (r : RecordNow) (c : CoreNow) (now : ℕ) (room : Rooms
   heeds-plain (next.Resets full) d h f = (h, left-all (reset-so t r.core c full h).0)
   heeds-plain (next.Full out) d h f = (h, left-all (full-so t r.core c out h))
   heeds-plain (next.Again seen at) d h f = (h, left-all (again-so t r.core c seen at h))
-  heeds-plain (next.Fault cause) d h f = absurd (differ (sym f))
+  heeds-plain (next.Fault cause) d h f = absurd (false_isnt_true (sym f))
   heeds-plain next.NoMemory d h f = (h, left-all (memory-so t r.core c h))
 
   pub heeds : (x : CoreNext) (journal : List Entry) (parcels : List Parcel) (last : ℕ) → IsDone x → AnswersFront t x r.core c → is_faulted (framed_next x) ≡ false →
@@ -254,16 +256,16 @@ module _ (t : Throttled) (r : RecordNow) (c : CoreNow) (now : ℕ) (room : Rooms
 module _ (t : Throttled) (r : RecordNow) (c : CoreNow) where
   -- what it leaves is owned
   owned-plain : (place : Place) (x : CoreNext) → Owns place r → live.IsOwned place c.live.granted → AnswersFront t x r.core c → AllByRecursion (IsOwned place) (r.parcels ++ parcels_next r.place x)
-  owned-plain place (next.Accepted a) o g h = all-append (IsOwned place) r.parcels (letter_of r.place a ∷ []) o.parcels (subst (live.IsOwned place) (accepted-so t r.core c a h).grant o.feed, tt)
-  owned-plain place next.Rests o g h = all-append (IsOwned place) r.parcels [] o.parcels tt
-  owned-plain place next.Passed o g h = all-append (IsOwned place) r.parcels [] o.parcels tt
-  owned-plain place next.Granted o g h = all-append (IsOwned place) r.parcels [] o.parcels tt
-  owned-plain place (next.Acked number) o g h = all-append (IsOwned place) r.parcels [] o.parcels tt
-  owned-plain place (next.Resets full) o g h = all-append (IsOwned place) r.parcels [] o.parcels tt
-  owned-plain place (next.Full out) o g h = all-append (IsOwned place) r.parcels [] o.parcels tt
-  owned-plain place (next.Again seen at) o g h = all-append (IsOwned place) r.parcels [] o.parcels tt
-  owned-plain place (next.Fault cause) o g h = all-append (IsOwned place) r.parcels [] o.parcels tt
-  owned-plain place next.NoMemory o g h = all-append (IsOwned place) r.parcels [] o.parcels tt
+  owned-plain place (next.Accepted a) o g h = all_append (IsOwned place) r.parcels (letter_of r.place a ∷ []) o.parcels (subst (live.IsOwned place) (accepted-so t r.core c a h).grant o.feed, tt)
+  owned-plain place next.Rests o g h = all_append (IsOwned place) r.parcels [] o.parcels tt
+  owned-plain place next.Passed o g h = all_append (IsOwned place) r.parcels [] o.parcels tt
+  owned-plain place next.Granted o g h = all_append (IsOwned place) r.parcels [] o.parcels tt
+  owned-plain place (next.Acked number) o g h = all_append (IsOwned place) r.parcels [] o.parcels tt
+  owned-plain place (next.Resets full) o g h = all_append (IsOwned place) r.parcels [] o.parcels tt
+  owned-plain place (next.Full out) o g h = all_append (IsOwned place) r.parcels [] o.parcels tt
+  owned-plain place (next.Again seen at) o g h = all_append (IsOwned place) r.parcels [] o.parcels tt
+  owned-plain place (next.Fault cause) o g h = all_append (IsOwned place) r.parcels [] o.parcels tt
+  owned-plain place next.NoMemory o g h = all_append (IsOwned place) r.parcels [] o.parcels tt
 
   pub owned-noted : (place : Place) (x : CoreNext) (new : RecordNow) → Owns place r → live.IsOwned place c.live.granted → AnswersFront t x r.core c → new.core.live.granted ≡ c.live.granted →
       new.parcels ≡ r.parcels ++ parcels_next r.place x → Owns place new
@@ -306,28 +308,28 @@ word-same next.NoMemory word before behind d = refl
 -- nothing was noted but that
 pub faulted-notes : (x : CoreNext) (place : ℕ) → is_faulted (framed_next x) ≡ true → (entries_next x ≡ []) × (parcels_next place x ≡ [])
 faulted-notes (next.Fault cause) place f = (refl, refl)
-faulted-notes next.Rests place f = absurd (differ f)
-faulted-notes next.Passed place f = absurd (differ f)
-faulted-notes next.Granted place f = absurd (differ f)
-faulted-notes (next.Acked number) place f = absurd (differ f)
-faulted-notes (next.Accepted a) place f = absurd (differ f)
-faulted-notes (next.Resets full) place f = absurd (differ f)
-faulted-notes (next.Full out) place f = absurd (differ f)
-faulted-notes (next.Again seen at) place f = absurd (differ f)
-faulted-notes next.NoMemory place f = absurd (differ f)
+faulted-notes next.Rests place f = absurd (false_isnt_true f)
+faulted-notes next.Passed place f = absurd (false_isnt_true f)
+faulted-notes next.Granted place f = absurd (false_isnt_true f)
+faulted-notes (next.Acked number) place f = absurd (false_isnt_true f)
+faulted-notes (next.Accepted a) place f = absurd (false_isnt_true f)
+faulted-notes (next.Resets full) place f = absurd (false_isnt_true f)
+faulted-notes (next.Full out) place f = absurd (false_isnt_true f)
+faulted-notes (next.Again seen at) place f = absurd (false_isnt_true f)
+faulted-notes next.NoMemory place f = absurd (false_isnt_true f)
 
 -- there is a cause
 closed-so : {P : Type 0} (x : CoreNext) → is_faulted (framed_next x) ≡ true → ((cause : WireFault) → x ≡ next.Fault cause → P) → P
 closed-so (next.Fault cause) f k = k cause refl
-closed-so next.Rests f k = absurd (differ f)
-closed-so next.Passed f k = absurd (differ f)
-closed-so next.Granted f k = absurd (differ f)
-closed-so (next.Acked number) f k = absurd (differ f)
-closed-so (next.Accepted a) f k = absurd (differ f)
-closed-so (next.Resets full) f k = absurd (differ f)
-closed-so (next.Full out) f k = absurd (differ f)
-closed-so (next.Again seen at) f k = absurd (differ f)
-closed-so next.NoMemory f k = absurd (differ f)
+closed-so next.Rests f k = absurd (false_isnt_true f)
+closed-so next.Passed f k = absurd (false_isnt_true f)
+closed-so next.Granted f k = absurd (false_isnt_true f)
+closed-so (next.Acked number) f k = absurd (false_isnt_true f)
+closed-so (next.Accepted a) f k = absurd (false_isnt_true f)
+closed-so (next.Resets full) f k = absurd (false_isnt_true f)
+closed-so (next.Full out) f k = absurd (false_isnt_true f)
+closed-so (next.Again seen at) f k = absurd (false_isnt_true f)
+closed-so next.NoMemory f k = absurd (false_isnt_true f)
 
 -- what the code has made of a record then, behind what it noted
 pub record HasClosed (x : CoreNext) (now : ℕ) (r : RecordNow) (c : CoreNow) (journal : List Entry) (spent : List SeenEnd) (parcels : List Parcel) (waits : Waits) (last : ℕ) (closed : Option SeenEnd) (discarded reset : Bool) : Type 0 where
@@ -368,35 +370,29 @@ module _ (t : Throttled) (r : RecordNow) (c : CoreNow) (now : ℕ) (journal : Li
 
 -- ---- a reset behind it
 
-no-some : {X : Type 0} (x : X) → None ≡ Some x → ⊥
-no-some {X} x e = subst (λ (o : Option X). elim o as (λ _. Type 0) [ None ↦ Unit {0} | Some y ↦ ⊥ ]) e tt
-
-same-some : {X : Type 0} (x y : X) → Some x ≡ Some y → x ≡ y
-same-some {X} x y e = ap (λ (o : Option X). elim o as (λ _. X) [ None ↦ x | Some z ↦ z ]) e
-
 pub unreset : (t : Throttled) (f : Framed) (now : ℕ) (old new : RecordNow) → reset_in f ≡ None → Heeds t f now old new → Frames t f now old new
 unreset t (framed.Half answer) now old new e h = absurd h
 unreset t framed.Passed now old new e h = h
 unreset t framed.Granted now old new e h = h
 unreset t (framed.Acked number) now old new e h = h
 unreset t (framed.Accepted number) now old new e h = h
-unreset t (framed.Obeyed full) now old new e h = absurd (no-some full (sym e))
+unreset t (framed.Obeyed full) now old new e h = absurd (none_isnt_some full (sym e))
 unreset t (framed.Faulted cause) now old new e h = h
 unreset t (framed.Full out) now old new e h = h
 unreset t (framed.Again seen at) now old new e h = h
 unreset t framed.NoMemory now old new e h = h
 
 reset-is : (f : Framed) (full : Bool) → reset_in f ≡ Some full → f ≡ framed.Obeyed full
-reset-is (framed.Obeyed m) full e = ap (λ b. framed.Obeyed b) (same-some m full e)
-reset-is (framed.Half answer) full e = absurd (no-some full e)
-reset-is framed.Passed full e = absurd (no-some full e)
-reset-is framed.Granted full e = absurd (no-some full e)
-reset-is (framed.Acked number) full e = absurd (no-some full e)
-reset-is (framed.Accepted number) full e = absurd (no-some full e)
-reset-is (framed.Faulted cause) full e = absurd (no-some full e)
-reset-is (framed.Full out) full e = absurd (no-some full e)
-reset-is (framed.Again seen at) full e = absurd (no-some full e)
-reset-is framed.NoMemory full e = absurd (no-some full e)
+reset-is (framed.Obeyed m) full e = ap (λ b. framed.Obeyed b) (some_same m full e)
+reset-is (framed.Half answer) full e = absurd (none_isnt_some full e)
+reset-is framed.Passed full e = absurd (none_isnt_some full e)
+reset-is framed.Granted full e = absurd (none_isnt_some full e)
+reset-is (framed.Acked number) full e = absurd (none_isnt_some full e)
+reset-is (framed.Accepted number) full e = absurd (none_isnt_some full e)
+reset-is (framed.Faulted cause) full e = absurd (none_isnt_some full e)
+reset-is (framed.Full out) full e = absurd (none_isnt_some full e)
+reset-is (framed.Again seen at) full e = absurd (none_isnt_some full e)
+reset-is framed.NoMemory full e = absurd (none_isnt_some full e)
 
 pub reset-obeyed : (t : Throttled) (f : Framed) (full : Bool) (now : ℕ) (old mid new : RecordNow) → reset_in f ≡ Some full → Heeds t f now old mid → Obeys full mid new → Frames t f now old new
 reset-obeyed t f full now old mid new e h o =
@@ -432,16 +428,16 @@ is_frame due.Frame = true
 is_frame _ = false
 
 frames-only : (a b c d : Bool) → is_frame (if a then due.Write else (if b then due.Frame else (if c then due.Read else (if d then due.Compose else due.Nothing)))) ≡ true → b ≡ true
-frames-only true b c d e = absurd (differ e)
+frames-only true b c d e = absurd (false_isnt_true e)
 frames-only false true c d e = refl
-frames-only false false true d e = absurd (differ e)
-frames-only false false false true e = absurd (differ e)
-frames-only false false false false e = absurd (differ e)
+frames-only false false true d e = absurd (false_isnt_true e)
+frames-only false false false true e = absurd (false_isnt_true e)
+frames-only false false false false e = absurd (false_isnt_true e)
 
 frames-last : (a b c : Bool) (at : ℕ) (rest : Due) → is_frame (if a then due.Plan else (if b then due.Hand else (if c then due.Connect at else rest))) ≡ true → is_frame rest ≡ true
-frames-last true b c at rest e = absurd (differ e)
-frames-last false true c at rest e = absurd (differ e)
-frames-last false false true at rest e = absurd (differ e)
+frames-last true b c at rest e = absurd (false_isnt_true e)
+frames-last false true c at rest e = absurd (false_isnt_true e)
+frames-last false false true at rest e = absurd (false_isnt_true e)
 frames-last false false false at rest e = e
 
 pub frame-due : (now : ℕ) (r : RecordNow) → due_step now r ≡ due.Frame → has_frame r ≡ true
@@ -450,7 +446,7 @@ frame-due now r h = frames-only (may_write r) (has_frame r) (may_read r) (may_co
 
 pub signed-on : (o : Option FeedNow) → on_feed (λ v. is_framing v.reading) o ≡ true → OnFeedNow o (λ v. is_framing v.reading ≡ true)
 signed-on (Some v) e = e
-signed-on None e = absurd (differ e)
+signed-on None e = absurd (false_isnt_true e)
 
 not-below : (n : ℕ) → nat_lt n 0 ≡ false
 not-below n = at (nat_lt n 0) refl
@@ -466,7 +462,7 @@ untold : (f : SideFacts) (s : State) (o : Option FeedNow) (d : Option Feed) (n :
 untold f s o d n a e (inl z) = z
 untold f s None None n a e (inr t) = absurd t
 untold f s None (Some d) n a e (inr t) = absurd a
-untold f s (Some v) d n a e (inr t) = absurd (no-some v (sym e))
+untold f s (Some v) d n a e (inr t) = absurd (none_isnt_some v (sym e))
 
 unready : (b : Bool) (o : Option FrameHeard) → o ≡ None → is_some (if b then o else None) ≡ false
 unready true o e = ap is_some e
@@ -480,7 +476,7 @@ unfed r h e = unready (is_ready r.core.live) _
 unsigned-fed : (r : RecordNow) (o : Option FeedNow) → IsRecord r → r.core.live.feed ≡ o → (on_feed (λ v. not (rests v.reading)) o || is_some (resumption_at r.core)) ≡ true → on_feed (λ v. is_framing v.reading) o ≡ false →
     OnFeedNow o (λ v. is_framing v.reading ≡ false)
 unsigned-fed r (Some v) h was frame e = e
-unsigned-fed r None h was frame e = absurd (differ (sym (unfed r h was) ∙ frame))
+unsigned-fed r None h was frame e = absurd (false_isnt_true (sym (unfed r h was) ∙ frame))
 
 pub unsigned-on : (r old : RecordNow) → IsRecord r → r ≡ old → has_frame old ≡ true → is_signed old ≡ false → OnFeedNow old.core.live.feed (λ v. is_framing v.reading ≡ false)
 unsigned-on r old h e = subst (λ (o : RecordNow). has_frame o ≡ true → is_signed o ≡ false → OnFeedNow o.core.live.feed (λ v. is_framing v.reading ≡ false)) e
@@ -520,7 +516,7 @@ module _ (t : Throttled) (x : CoreNext) (f : Framed) (r : RecordNow) (c : CoreNo
 
 pub no-reset : (f : Framed) (r : RecordNow) → is_faulted f ≡ true → IsResetIf f r
 no-reset (framed.Faulted cause) r b = tt
-no-reset (framed.Obeyed full) r b = absurd (differ b)
+no-reset (framed.Obeyed full) r b = absurd (false_isnt_true b)
 no-reset (framed.Half answer) r b = tt
 no-reset framed.Passed r b = tt
 no-reset framed.Granted r b = tt
@@ -583,7 +579,7 @@ module _ {r : RecordNow} (h : IsRecord r) (t : Throttled) (x : CoreNext) (f : Fr
   pub owned-closed : (place : Place) (old new : RecordNow) → r ≡ old → Owns place old → live.IsOwned place new.core.live.granted → live.IsOwned place c.live.granted → new.parcels ≡ parcels → Owns place new
   owned-closed place old new e o g own same-parcels = record {
     feed = g;
-    parcels = subst (AllByRecursion (IsOwned place)) (sym (same-parcels ∙ made.parcels_are)) (all-append (IsOwned place) (r.parcels ++ parcels_next r.place x) (told_parcels r.place discarded reset)
+    parcels = subst (AllByRecursion (IsOwned place)) (sym (same-parcels ∙ made.parcels_are)) (all_append (IsOwned place) (r.parcels ++ parcels_next r.place x) (told_parcels r.place discarded reset)
         (owned-plain t r c place x (subst (Owns place) (sym e) o) own answers) (told-all place r.place discarded reset));
   }
 

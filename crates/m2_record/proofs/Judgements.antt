@@ -21,30 +21,30 @@ use Rattle.m2_record.specs.Judging.{judged_entry}
 use Rattle.m2_record.specs.RecordNow.{RecordNow, ends_of, feed_end, ids_of, speaks_of}
 use Rattle.m2_record.specs.TakenTrails as trail
 use Rattle.m2_record.specs.TakenTrails.{HaveTrails, IsKeptTrail, judgements_in, taken_by, taken_in}
-use Rattle.m2_record.proofs.Ends.{neither}
-use Rattle.m2_record.proofs.Names.{apart, same_refl}
 use Rattle.m2_record.proofs.Naming.{is-unopened, is-untaken, replayed-names}
 use Rattle.m2_record.proofs.Trailing.{filtered-more}
+use Rattle.m2_lemmas.proofs.Booleans.{neither_of_or}
+use Rattle.m2_fabric.proofs.Sockets.{apart_turned, same_refl}
 
 -- ---- a socket of which the record has no end
 
 none-pushed : (k : SocketId) (xs : List SeenEnd) (x : SeenEnd) → same_socket k x.id ≡ false → IsNewTo (ids_of xs) k → IsNewTo (ids_of (xs ++ x ∷ [])) k
 none-pushed k [] x e h = rw e refl
-none-pushed k (y ∷ ys) x e h = let two = neither (same_socket k y.id) (is_among k (ids_of ys)) h in rw two.0 (none-pushed k ys x e two.1)
+none-pushed k (y ∷ ys) x e h = let two = neither_of_or (same_socket k y.id) (is_among k (ids_of ys)) h in rw two.0 (none-pushed k ys x e two.1)
 
 turned : (o : Option FeedNow) (spent : List SeenEnd) (k : SocketId) → IsNewTo (ids_of (feed_end o ++ spent)) k → IsNewTo (ids_of (spent ++ feed_end o)) k
-turned (Some v) spent k h = let two = neither (same_socket k v.end.id) (is_among k (ids_of spent)) h in none-pushed k spent v.end two.0 two.1
+turned (Some v) spent k h = let two = neither_of_or (same_socket k v.end.id) (is_among k (ids_of spent)) h in none-pushed k spent v.end two.0 two.1
 turned None spent k h = subst (λ (l : List SeenEnd). IsNewTo (ids_of l) k) (sym (append-nil spent)) h
 
 pub is-unspent : (o : Option FeedNow) (spent : List SeenEnd) (k : SocketId) → IsNewTo (ids_of (feed_end o ++ spent)) k → IsNewTo (ids_of spent) k
-is-unspent (Some v) spent k h = (neither (same_socket k v.end.id) (is_among k (ids_of spent)) h).1
+is-unspent (Some v) spent k h = (neither_of_or (same_socket k v.end.id) (is_among k (ids_of spent)) h).1
 is-unspent None spent k h = h
 
 module _ (r : RecordNow) (k : SocketId) (kept : IsWellKept r) (new : IsNewTo (ids_of (ends_of r)) k) where
   pub never-fed : IsNewTo (feeds_in r.journal) k
   never-fed = subst (λ (l : List SocketId). IsNewTo l k) kept.ends (turned r.core.live.feed r.spent k new)
 
-  -- it was neither opened nor taken, and no entry has closed it
+  -- it was neither_of_or opened nor taken, and no entry has closed it
   pub unopened : (s : State) → IsReplayedTo s r → is_among k s.opened ≡ false
   unopened s h = is-unopened r.core.facts (speaks_of r) r.journal s k h.replay never-fed
 
@@ -94,11 +94,11 @@ module _ (kind : ℕ) (ends : List SeenEnd) (journal : List Entry) (v : Verdict)
       AllByRecursion (IsKeptTrail kind ends (journal ++ judged_entry v k ∷ [])) ts
   each-still [] new h = tt
   each-still (t ∷ ts) new h =
-      let two = neither (same_socket k t.socket) (is_among k (map (λ (t : TrailNow). t.socket) ts)) new in (
+      let two = neither_of_or (same_socket k t.socket) (is_among k (map (λ (t : TrailNow). t.socket) ts)) new in (
         record {
           entity = h.0.entity;
           beside = h.0.beside;
-          judged = h.0.judged ∙ sym (ap (judged_on t.socket) one-judged ∙ judged-elsewhere k (judgement_of v) t.socket (judgements_in journal) (apart k t.socket two.0));
+          judged = h.0.judged ∙ sym (ap (judged_on t.socket) one-judged ∙ judged-elsewhere k (judgement_of v) t.socket (judgements_in journal) (apart_turned k t.socket two.0));
         },
         each-still ts two.1 h.1,
       )

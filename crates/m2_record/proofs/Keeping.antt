@@ -1,5 +1,5 @@
 -- What a journal speaks of stays: from the ends, the plan and the trails to the sources, and to the replay.
-use Rattle.std.proofs.Common.{◌≡◌, Bool, true, false, List, [], ◌∷◌, ◌++◌, drop, refl, sym, ap}
+use Rattle.std.proofs.Common.{◌≡◌, true, List, [], ◌∷◌, ◌++◌, drop, refl, sym, ap}
 use Rattle.std.specs.Prelude.{◌||◌}
 use Rattle.std.proofs.lemmas.List.{append-nil}
 use Rattle.m2_fabric.specs.declared.socket.SocketId.{SocketId}
@@ -22,14 +22,11 @@ use Rattle.m2_trail.specs.Trails.{TrailNow}
 use Rattle.m2_record.specs.Sources.{Grounds, log_at, read_before, runs_before, sources_of, trail_at, written_before}
 use Rattle.m2_record.proofs.Ends.{EndsStay}
 use Rattle.m2_record.proofs.Entering.{kept-continues, kept-covers, still-covers}
-use Rattle.m2_record.proofs.Names.{same_refl}
 use Rattle.m2_record.proofs.Trailing.{unread-same}
+use Rattle.m2_lemmas.proofs.Booleans.{or_right}
+use Rattle.m2_fabric.proofs.Sockets.{same_refl}
 
 -- ---- what is settled
-
-pub either : (a b : Bool) → b ≡ true → (a || b) ≡ true
-either true b h = refl
-either false b h = h
 
 among-own : (k : SocketId) (ks : List SocketId) → is_among k (k ∷ ks) ≡ true
 among-own k ks = rw (same_refl k) refl
@@ -39,7 +36,7 @@ pub settled : (old new : Sources) (journal : List Entry) → ((k : SocketId) →
     ((k : SocketId) → new.unread k ≡ old.unread k) → ((k : SocketId) → new.trail k ≡ old.trail k) → AreSettled old new journal
 settled old new [] b u t = tt
 settled old new (entry.Closed k ∷ es) b u t =
-    (b k (among-own k (closed_in es)), settled old new es (λ j c. b j (either (same_socket j k) (is_among j (closed_in es)) c)) u t)
+    (b k (among-own k (closed_in es)), settled old new es (λ j c. b j (or_right (same_socket j k) (is_among j (closed_in es)) c)) u t)
 settled old new (entry.Judged k ask number answer ∷ es) b u t = (λ _. (u k, t k), settled old new es b u t)
 settled old new (entry.Post place ∷ es) b u t = (tt, settled old new es b u t)
 settled old new (entry.Dial ∷ es) b u t = (tt, settled old new es b u t)

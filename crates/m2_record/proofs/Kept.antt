@@ -31,6 +31,7 @@ use Rattle.m2_record.specs.Calls.{closed_entries, one_if, told_parcels}
 use Rattle.m2_record.specs.IsRecord.{FeedIsWhole, FitFrames, IsFrom, IsWellKept, became_feed, feeds_in}
 use Rattle.m2_record.specs.RecordNow.{RecordNow, Rooms, feed_end, ids_of}
 use Rattle.m2_record.proofs.Telling.{feed_left}
+use Rattle.m2_lemmas.proofs.Lists.{all_append, all_take, all_drop}
 
 -- ---- the sockets that became the feed
 
@@ -47,7 +48,7 @@ feeds-closed journal None = ap feeds_in (append-nil journal)
 pub feeds-opened : (journal : List Entry) (k : SocketId) → feeds_in (journal ++ entry.Opened k ∷ []) ≡ feeds_in journal ++ k ∷ []
 feeds-opened journal k = filter_map-append became_feed journal (entry.Opened k ∷ [])
 
-ids-append : (xs ys : List SeenEnd) → ids_of (xs ++ ys) ≡ ids_of xs ++ ids_of ys
+pub ids-append : (xs ys : List SeenEnd) → ids_of (xs ++ ys) ≡ ids_of xs ++ ids_of ys
 ids-append xs ys = map-append (λ (e : SeenEnd). e.id) xs ys
 
 -- the feed's end goes behind those that were the feed, and has its name still
@@ -66,30 +67,16 @@ whole-left false feed h = h
 
 -- ---- parcels
 
-pub all-append : {X : Type 0} (P : X → Type 0) (xs ys : List X) → AllByRecursion P xs → AllByRecursion P ys → AllByRecursion P (xs ++ ys)
-all-append P [] ys h g = g
-all-append P (x ∷ xs) ys h g = (h.0, all-append P xs ys h.1 g)
-
 one-from : (place : ℕ) (b : Bool) (x : Parcel) → IsFrom place x → AllByRecursion (IsFrom place) (one_if b x)
 one-from place true x h = (h, tt)
 one-from place false x h = tt
 
 pub told-from : (place : ℕ) (parcels : List Parcel) (discarded reset : Bool) → AllByRecursion (IsFrom place) parcels → AllByRecursion (IsFrom place) (parcels ++ told_parcels place discarded reset)
-told-from place parcels discarded reset h = all-append (IsFrom place) parcels (told_parcels place discarded reset) h
-    (all-append (IsFrom place) (one_if discarded (parcel.Discard place)) (one_if reset (parcel.RemoteReset place))
+told-from place parcels discarded reset h = all_append (IsFrom place) parcels (told_parcels place discarded reset) h
+    (all_append (IsFrom place) (one_if discarded (parcel.Discard place)) (one_if reset (parcel.RemoteReset place))
     (one-from place discarded (parcel.Discard place) refl) (one-from place reset (parcel.RemoteReset place) refl))
 
 -- ---- the queue
-
-all-take : {X : Type 0} (P : X → Type 0) (n : ℕ) (xs : List X) → AllByRecursion P xs → AllByRecursion P (take n xs)
-all-take P zero xs h = tt
-all-take P (suc n) [] h = tt
-all-take P (suc n) (x ∷ xs) h = (h.0, all-take P n xs h.1)
-
-all-drop : {X : Type 0} (P : X → Type 0) (n : ℕ) (xs : List X) → AllByRecursion P xs → AllByRecursion P (drop n xs)
-all-drop P zero xs h = h
-all-drop P (suc n) [] h = tt
-all-drop P (suc n) (x ∷ xs) h = all-drop P n xs h.1
 
 pub all-get : {X : Type 0} (P : X → Type 0) (n : ℕ) (xs : List X) (x : X) → AllByRecursion P xs → slice_get xs n ≡ Some x → P x
 all-get P n [] x h e = absurd (no-some x e)
@@ -118,17 +105,17 @@ next-fits q h = at (nat_lt q.cursor (length q.kept))
   where
     at : (b : Bool) → FitFrames (if b then q else record q { kept = q.kept ++ take 1 q.waiting; waiting = drop 1 q.waiting })
     at true = h
-    at false = record { kept = all-append FitsFrame q.kept (take 1 q.waiting) h.kept (all-take FitsFrame 1 q.waiting h.waiting); waiting = all-drop FitsFrame 1 q.waiting h.waiting }
+    at false = record { kept = all_append FitsFrame q.kept (take 1 q.waiting) h.kept (all_take FitsFrame 1 q.waiting h.waiting); waiting = all_drop FitsFrame 1 q.waiting h.waiting }
 
 pub sent-fits : (q : Queue) → FitFrames q → FitFrames (after_sent q)
 sent-fits q h = at q.keeps
   where
     at : (b : Bool) → FitFrames (if b then record q { written = max q.written (cursor_number q); cursor = q.cursor + 1 } else record q { written = max q.written (cursor_number q); base = q.base + 1; kept = drop 1 q.kept })
     at true = record { kept = h.kept; waiting = h.waiting }
-    at false = record { kept = all-drop FitsFrame 1 q.kept h.kept; waiting = h.waiting }
+    at false = record { kept = all_drop FitsFrame 1 q.kept h.kept; waiting = h.waiting }
 
 pub acked-fits : (q : Queue) (number : ℕ) → FitFrames q → FitFrames (after_acked q number)
-acked-fits q number h = record { kept = all-drop FitsFrame _ q.kept h.kept; waiting = h.waiting }
+acked-fits q number h = record { kept = all_drop FitsFrame _ q.kept h.kept; waiting = h.waiting }
 
 closes-fits : (b : Bool) (l : LiveNow) → FitFrames l.out.queue → FitFrames (live.where_true b live.closes l).out.queue
 closes-fits true l h = h

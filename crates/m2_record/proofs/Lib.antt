@@ -1,4 +1,3 @@
-pub mod Names
 pub mod Entering
 pub mod Ends
 pub mod Trailing
@@ -34,3 +33,4 @@ pub mod Handed
 pub mod Remembered
 pub mod Reached
 pub mod AsksJudged
+pub mod TrailsAt

@@ -8,7 +8,7 @@ use Rattle.m2_journal.specs.State.{start}
 use Rattle.m2_record.specs.IsRecord.{IsRecord, new_record}
 use Rattle.m2_record.specs.RecordNow.{Rooms}
 use Rattle.m2_record.proofs.Kept.{first-within}
-use Rattle.m2_record.proofs.Names.{differ}
+use Rattle.m2_lemmas.proofs.Booleans.{false_isnt_true}
 
 pub new-is-record : (f : SideFacts) (place : ℕ) (room : Rooms) → AreWaits f.node → Agrees (at_start f) (start f) → IsRecord (record (new_record f place) { room = room })
 new-is-record f place room w a = record {
@@ -38,6 +38,6 @@ new-is-record f place room w a = record {
     plan = tt;
     queue = record { kept = tt; waiting = tt };
     waits = first-within f.node w;
-    held = λ e. absurd (differ e);
+    held = λ e. absurd (false_isnt_true e);
   };
 }

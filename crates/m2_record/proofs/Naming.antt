@@ -17,7 +17,7 @@ use Rattle.m2_journal.specs.declared.entry.Entry.{Entry}
 use Rattle.m2_journal.specs.declared.entry.Entry.TheVariants as entry
 use Rattle.m2_journal.specs.Feeds.{finished, hears, narrowed, next_said, texts_at}
 use Rattle.m2_journal.specs.Items as item
-use Rattle.m2_journal.specs.Items.{JournalItem, Places, Sources, at_start, item_of, items_from, items_of, passed}
+use Rattle.m2_journal.specs.Items.{JournalItem, Places, Sources, at_start, item_of, items_from, passed}
 use Rattle.m2_journal.specs.Lawful.{judged_sockets}
 use Rattle.m2_journal.specs.OutFrames.{OutFrame, is_unnamed, replies_of}
 use Rattle.m2_journal.specs.Plan.{Planned, to_dial, to_go_down, to_post}
@@ -30,8 +30,8 @@ use Rattle.m2_journal.specs.Steps.{after}
 use Rattle.m2_journal.proofs.Sockets.{Names, judgement, names_of}
 use Rattle.m2_record.specs.IsRecord.{became_feed, closed_by, closed_in, feeds_in, named_in, socket_of}
 use Rattle.m2_record.specs.TakenTrails.{judgement_of, judgements_in, taken_by, taken_in}
-use Rattle.m2_record.proofs.Ends.{neither}
 use Rattle.m2_record.proofs.Telling.{Beside, tells-beside}
+use Rattle.m2_lemmas.proofs.Booleans.{neither_of_or}
 
 -- ---- what an entry names
 
@@ -191,9 +191,9 @@ none-within p q within k (e ∷ es) new =
     (at (p e) (q e) (within e) (subst (λ (l : List SocketId). IsNewTo l k) (with-head q e es) new) (none-within p q within k es))
   where
     at : (o x : Option SocketId) → IsWithin o x → IsNewTo (option_to_list x ++ filter_map q es) k → (IsNewTo (filter_map q es) k → IsNewTo (filter_map p es) k) → IsNewTo (option_to_list o ++ filter_map p es) k
-    at (Some j) (Some i) w new rest = let two = neither (same_socket k i) (is_among k (filter_map q es)) new in rw (w, two.0) (rest two.1)
+    at (Some j) (Some i) w new rest = let two = neither_of_or (same_socket k i) (is_among k (filter_map q es)) new in rw (w, two.0) (rest two.1)
     at (Some j) None w new rest = absurd w
-    at None (Some i) w new rest = rest (neither (same_socket k i) (is_among k (filter_map q es)) new).1
+    at None (Some i) w new rest = rest (neither_of_or (same_socket k i) (is_among k (filter_map q es)) new).1
     at None None w new rest = rest new
 
 opened-named : (e : Entry) → IsWithin (opened_by e) (socket_of e)

@@ -19,7 +19,7 @@ use Rattle.m2_feed.specs.FeedNow.{FeedNow}
 use Rattle.m2_journal.specs.declared.entry.Entry.{Entry}
 use Rattle.m2_journal.specs.declared.entry.Entry.TheVariants as entry
 use Rattle.m2_journal.specs.Items as item
-use Rattle.m2_journal.specs.Items.{items_of, reach_of}
+use Rattle.m2_journal.specs.Items.{items_of}
 use Rattle.m2_journal.specs.Laws.{IsFed}
 use Rattle.m2_journal.specs.Lawful.{MayOpen, dial_connect, where_so}
 use Rattle.m2_journal.specs.Lawful as law
@@ -40,20 +40,20 @@ use Rattle.m2_record.specs.IsRecord.{FeedHasRoom, IsRecord, IsReplayedTo, IsWell
 use Rattle.m2_record.specs.RecordNow.{RecordNow, Rooms, feed_end, grounds_of, ids_of, speaks_of}
 use Rattle.m2_record.specs.Sources.{sources_of}
 use Rattle.m2_record.specs.TakenTrails.{HaveTrails}
-use Rattle.m2_record.proofs.Ends.{ends-fresh, neither}
+use Rattle.m2_record.proofs.Ends.{ends-fresh}
 use Rattle.m2_record.proofs.Entering.{reach-more}
 use Rattle.m2_record.proofs.Keeping.{as-planned, ground, one-more, replay-stays}
 use Rattle.m2_record.proofs.Dues.{connects}
 use Rattle.m2_record.proofs.Kept.{feeds-opened, ids-opened, kept-in-room, tells-fits}
-use Rattle.m2_record.proofs.Names.{both, differ}
 use Rattle.m2_record.proofs.Naming.{is-unclosed, is-unnamed}
 use Rattle.m2_record.proofs.Opens.{closed-more}
 use Rattle.m2_record.proofs.Trailing.{ends-go-on, trails-more}
+use Rattle.m2_lemmas.proofs.Booleans.{neither_of_or, both_of_and, false_isnt_true}
 
 -- ---- a record that may dial has no feed
 
 no-dial : (a : Bool) → (a && false) ≡ true → ⊥
-no-dial a h = differ (both a false h).1
+no-dial a h = false_isnt_true (both_of_and a false h).1
 
 unfed-phase : (p : Phase) (server busy : Bool) → (not server && ((is_among p at_rest && busy) || is p Wait)) ≡ true → is_among p with_feed ≡ false
 unfed-phase Absent server busy h = refl
@@ -66,7 +66,7 @@ unfed-phase Wait server busy h = refl
 
 none-too : (f : SideFacts) (s : State) (v : Option FeedNow) (d : Option Feed) → FeedsAgree f s v d → is_some d ≡ false → v ≡ None
 none-too f s None d a e = refl
-none-too f s (Some v) (Some d) a e = absurd (differ (sym e))
+none-too f s (Some v) (Some d) a e = absurd (false_isnt_true (sym e))
 none-too f s (Some v) None a e = absurd a
 
 pub unfed : (r : RecordNow) (s : State) → IsReplayedTo s r → may_dial r.core ≡ true → r.core.live.feed ≡ None
@@ -78,16 +78,16 @@ unfed r s h due =
 -- ---- its connect number fits
 
 one-fits : (b : Bool) (n : ℕ) → b ≡ true → list_any (nat_lt GREATEST_NUMBER) (where_so b n) ≡ false → nat_lt GREATEST_NUMBER n ≡ false
-one-fits true n e h = (neither (nat_lt GREATEST_NUMBER n) false h).0
-one-fits false n e h = absurd (differ e)
+one-fits true n e h = (neither_of_or (nat_lt GREATEST_NUMBER n) false h).0
+one-fits false n e h = absurd (false_isnt_true e)
 
 pub connect-fits : (c : CoreNow) → may_dial c ≡ true → is_exhausted c ≡ false → dial_connect c.live.session ≤ GREATEST_NUMBER
 connect-fits c due h =
     let numbers = option_to_list (next_number c.live.out.queue) in
     let dials = where_so (may_dial c) (dial_connect c.live.session) in
     let asks = where_so (is c.live.session.phase Connecting) c.live.session.connect in
-    let first = neither _ _ (sym (list_any-append (nat_lt GREATEST_NUMBER) (numbers ++ dials) asks) ∙ h) in
-    let second = neither _ _ (sym (list_any-append (nat_lt GREATEST_NUMBER) numbers dials) ∙ first.0) in
+    let first = neither_of_or _ _ (sym (list_any-append (nat_lt GREATEST_NUMBER) (numbers ++ dials) asks) ∙ h) in
+    let second = neither_of_or _ _ (sym (list_any-append (nat_lt GREATEST_NUMBER) numbers dials) ∙ first.0) in
     ltb-false GREATEST_NUMBER (dial_connect c.live.session) (one-fits (may_dial c) (dial_connect c.live.session) due second.1)
 
 -- ---- the entry
@@ -161,7 +161,7 @@ module _ (r : RecordNow) (h : IsRecord r) (v : FeedNow) (due : may_dial r.core �
 module _ (r : RecordNow) (c : CoreNow) (e : SeenEnd) (now : ℕ) (room : Rooms) (h : IsRecord r) (due : ConnectIsDue now r) (fresh : IsUntouched e.log) (new : IsNewSocket r e.id) (more : 0 < room.ends) where
   opened-with : (o : Option FeedNow) → IfSome o (λ v. IsOpening r.core.facts e v × (c ≡ after_opened v r.core)) → IsSome o → LeadsOn (item.opened e.id) r.core c →
       IsRecord (record r { core = c; journal = r.journal ++ entry.Opened e.id ∷ []; room = room })
-  opened-with None value some leads = absurd (differ some)
+  opened-with None value some leads = absurd (false_isnt_true some)
   opened-with (Some v) value some leads =
       let end : v.end ≡ e = ap (λ w. w.end) value.0 in
       subst (λ (d : CoreNow). IsRecord (record r { core = d; journal = r.journal ++ entry.Opened e.id ∷ []; room = room })) (sym value.1)

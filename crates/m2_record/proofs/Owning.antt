@@ -22,7 +22,7 @@ use Rattle.m2_session.specs.Steps.{step_of}
 use Rattle.m2_shared.specs.Place.{Place}
 use Rattle.m2_record.specs.Calls.{Owns, one_if, told_parcels}
 use Rattle.m2_record.specs.RecordNow.{RecordNow}
-use Rattle.m2_record.proofs.Names.{differ}
+use Rattle.m2_lemmas.proofs.Booleans.{false_isnt_true}
 
 closing : (b : Bool) (place : Place) (l : LiveNow) → live.IsOwned place l.granted → live.IsOwned place (effects.where_true b effects.closes l).granted
 closing true place l h = tt
@@ -86,4 +86,4 @@ owned-taken place v end unread r new discarded reset h value some p = owned-as p
   where
     at : (o : Option FeedNow) → IfSome o (λ d. IsTakenFeed v end unread r.core d × (new.core ≡ after_taking v d r.core)) → IsSome o → live.IsOwned place new.core.live.granted
     at (Some d) e f = subst (λ (x : CoreNow). live.IsOwned place x.live.granted) (sym e.1) (tells_if-owned (told_of r.core.facts v) place r.core.live h.feed)
-    at None e f = absurd (differ f)
+    at None e f = absurd (false_isnt_true f)

@@ -14,9 +14,9 @@ use Rattle.m2_record.specs.RecordNow.{RecordNow, delivery_of, ends_of}
 use Rattle.m2_record.specs.Sources.{sources_of}
 use Rattle.m2_record.proofs.Ends.{ends-same}
 use Rattle.m2_record.proofs.Keeping.{ground, replay-stays}
-use Rattle.m2_record.proofs.Kept.{all-append}
-use Rattle.m2_record.proofs.Names.{differ}
 use Rattle.m2_record.proofs.Opens.{in_room}
+use Rattle.m2_lemmas.proofs.Lists.{all_append}
+use Rattle.m2_lemmas.proofs.Booleans.{false_isnt_true}
 
 pub more-planned : (r : RecordNow) (x : PlanStep) → IsRecord r → CanBePlanned x → length r.plan + 1 < 2 ^ 32 → IsRecord (planned_too x r)
 more-planned r x h can few = record {
@@ -40,7 +40,7 @@ more-planned r x h can few = record {
     ends = h.kept.ends;
     whole = h.kept.whole;
     parcels = h.kept.parcels;
-    plan = all-append CanBePlanned r.plan (x ∷ []) h.kept.plan (can, tt);
+    plan = all_append CanBePlanned r.plan (x ∷ []) h.kept.plan (can, tt);
     queue = h.kept.queue;
     waits = h.kept.waits;
     held = h.kept.held;
@@ -96,9 +96,9 @@ pub handed-one : (r : RecordNow) (o : Option Parcel) (rest : List Parcel) (befor
     r.handed ≡ length before → after ≡ before ++ piece → length piece ≡ 1 →
     IsRecord (record r { parcels = rest; handed = length after; room = record r.room { parcels = n } })
 handed-one r (Some x) rest before after piece n h e some was marks one = rw (one-mark before after piece marks one, sym was) (handed-first r x rest n h e)
-handed-one r None rest before after piece n h e some was marks one = absurd (differ some)
+handed-one r None rest before after piece n h e some was marks one = absurd (false_isnt_true some)
 
 pub handed-none : (r : RecordNow) (o : Option Parcel) (rest : List Parcel) (n : ℕ) → IsRecord r → r.parcels ≡ option_to_list o ++ rest → is_some o ≡ false →
     IsRecord (record r { parcels = rest; room = record r.room { parcels = n } })
 handed-none r None rest n h e none = rw (sym e) (in_room r (record r.room { parcels = n }) refl h)
-handed-none r (Some x) rest n h e none = absurd (differ (sym none))
+handed-none r (Some x) rest n h e none = absurd (false_isnt_true (sym none))

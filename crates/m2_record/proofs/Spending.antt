@@ -21,12 +21,13 @@ use Rattle.m2_record.specs.TakenTrails.{HaveTrails}
 use Rattle.m2_record.proofs.Entering.{reach-more}
 use Rattle.m2_record.proofs.Keeping.{one-more}
 use Rattle.m2_record.proofs.Kept.{kept-closed-as}
-use Rattle.m2_record.proofs.Names.{differ, same_refl}
 use Rattle.m2_record.proofs.Trailing.{trails-behind}
+use Rattle.m2_lemmas.proofs.Booleans.{false_isnt_true}
+use Rattle.m2_fabric.proofs.Sockets.{same_refl}
 
 closed-off : (b : Bool) (k : SocketId) (s : State) → b ≡ false → (if b then breaks s else forgets k s) ≡ forgets k s
 closed-off false k s e = refl
-closed-off true k s e = absurd (differ (sym e))
+closed-off true k s e = absurd (false_isnt_true (sym e))
 
 is-own : (k : SocketId) (sockets : List SocketId) → sockets ≡ k ∷ [] → is_among k sockets ≡ true
 is-own k sockets e = rw (e, same_refl k) refl

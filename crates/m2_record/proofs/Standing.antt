@@ -33,10 +33,11 @@ use Rattle.m2_record.specs.Sources.{sources_of}
 use Rattle.m2_record.specs.TakenTrails.{HaveTrails, judgement_of}
 use Rattle.m2_record.proofs.Entering.{reach-more}
 use Rattle.m2_record.proofs.Keeping.{ground, one-more}
-use Rattle.m2_record.proofs.Kept.{all-append, feeds-more}
+use Rattle.m2_record.proofs.Kept.{feeds-more}
 use Rattle.m2_record.proofs.Opens.{closed-more, still-open}
 use Rattle.m2_record.proofs.Telling.{Beside, beside, tells-beside}
 use Rattle.m2_record.proofs.Trailing.{trails-behind}
+use Rattle.m2_lemmas.proofs.Lists.{all_append}
 
 -- these parcels are handed out, and all else beside the core is the same
 abbrev pub HandsMore : List Parcel → State → State → Type 0
@@ -142,7 +143,7 @@ module _ (r : RecordNow) (c : CoreNow) (facts : c.facts ≡ r.core.facts) (same 
 
     pub kept-with : (e : Entry) (more : List Parcel) (last : ℕ) → became_feed e ≡ None → AllByRecursion (IsFrom r.place) more →
         IsWellKept (record r { core = c; journal = r.journal ++ e ∷ []; parcels = r.parcels ++ more; last = last; room = room })
-    kept-with e more last h p = kept-at (r.journal ++ e ∷ []) (r.parcels ++ more) last (feeds-more r.journal e h) (all-append (IsFrom r.place) r.parcels more k.parcels p)
+    kept-with e more last h p = kept-at (r.journal ++ e ∷ []) (r.parcels ++ more) last (feeds-more r.journal e h) (all_append (IsFrom r.place) r.parcels more k.parcels p)
 
 -- ---- an entry that leaves the judgements as they were is none of an ask
 

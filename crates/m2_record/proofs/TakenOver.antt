@@ -56,28 +56,29 @@ use Rattle.m2_record.specs.Sources as source
 use Rattle.m2_record.specs.Sources.{broken_of, end_at, got_of, log_at, log_of, put_of, read_before, runs_before, runs_of, sources_of, trail_at, written_before}
 use Rattle.m2_record.specs.TakenTrails.{HaveTrails, IsKeptTrail, IsTrailBeside, judgements_in, taken_by, taken_in}
 use Rattle.m2_record.proofs.Answered.{judges-beside, tells_if-fits}
-use Rattle.m2_record.proofs.Ends.{EndsStay, end-new, neither}
+use Rattle.m2_record.proofs.Ends.{EndsStay, end-new}
 use Rattle.m2_record.proofs.Entering.{kept-continues, reach-more, still-covers}
 use Rattle.m2_record.proofs.FeedLeft.{SpentIs, closed-left, ends-left, parcels-left, spent-is}
 use Rattle.m2_record.proofs.Judgements.{each-still, judged-now, judged-there, never-fed, unclosed, unopened, untaken}
 use Rattle.m2_record.proofs.Keeping.{as-planned, ground, replay-stays}
 use Rattle.m2_record.proofs.Kept.{ids-left, stepped-within, told-from}
-use Rattle.m2_record.proofs.Names.{apart, differ, same_equal, same_refl}
 use Rattle.m2_record.proofs.Naming.{with-head}
 use Rattle.m2_record.proofs.Opens.{closed-more, still-open}
 use Rattle.m2_record.proofs.Spending.{SpentOff, closes-behind}
 use Rattle.m2_record.proofs.Telling.{Beside, beside, feed_left, spent_if, told_by}
 use Rattle.m2_record.proofs.Trailing.{LogGoesOn, LogsGoOn, closed-behind, ends-go-on, prefix-same, same-log, trails-go-on}
+use Rattle.m2_lemmas.proofs.Booleans.{neither_of_or, false_isnt_true}
+use Rattle.m2_fabric.proofs.Sockets.{apart_turned, same_equal, same_refl}
 
 -- ---- a trail more
 
 trail-last : (ts : List TrailNow) (t : TrailNow) (k : SocketId) → IsNewTo (map (λ (t : TrailNow). t.socket) ts) k → trail_at (ts ++ t ∷ []) k ≡ trail_at (t ∷ []) k
 trail-last [] t k h = refl
-trail-last (x ∷ xs) t k h = let two = neither (same_socket k x.socket) (is_among k (map (λ (t : TrailNow). t.socket) xs)) h in rw two.0 (trail-last xs t k two.1)
+trail-last (x ∷ xs) t k h = let two = neither_of_or (same_socket k x.socket) (is_among k (map (λ (t : TrailNow). t.socket) xs)) h in rw two.0 (trail-last xs t k two.1)
 
 trail-new : (ts : List TrailNow) (k : SocketId) → IsNewTo (map (λ (t : TrailNow). t.socket) ts) k → trail_at ts k ≡ None
 trail-new [] k h = refl
-trail-new (x ∷ xs) k h = let two = neither (same_socket k x.socket) (is_among k (map (λ (t : TrailNow). t.socket) xs)) h in rw two.0 (trail-new xs k two.1)
+trail-new (x ∷ xs) k h = let two = neither_of_or (same_socket k x.socket) (is_among k (map (λ (t : TrailNow). t.socket) xs)) h in rw two.0 (trail-new xs k two.1)
 
 trail-other : (ts : List TrailNow) (t : TrailNow) (k : SocketId) → same_socket k t.socket ≡ false → trail_at (ts ++ t ∷ []) k ≡ trail_at ts k
 trail-other [] t k h = rw h refl
@@ -123,7 +124,7 @@ among-another : (k j : SocketId) (ks : List SocketId) → is_among k ks ≡ true
 among-another k j ks among new = at (same_socket k j) refl
   where
     at : (b : Bool) → same_socket k j ≡ b → b ≡ false
-    at true e = absurd (differ (sym (subst (IsNewTo ks) (sym (same_equal k j e)) new) ∙ among))
+    at true e = absurd (false_isnt_true (sym (subst (IsNewTo ks) (sym (same_equal k j e)) new) ∙ among))
     at false e = refl
 
 -- ---- what the journal speaks of, with one end and its trail more: behind the trail its log has nothing
@@ -147,14 +148,14 @@ module _ (plan : List Planned) (ends : List SeenEnd) (ts : List TrailNow) (x : S
     where
       first : (b : Bool) → b ≡ true → (if b then Some t else None) ≡ Some t
       first true e = refl
-      first false e = absurd (differ e)
+      first false e = absurd (false_isnt_true e)
 
   its-end : end_at (x ∷ ends) x.id ≡ Some x
   its-end = first (same_socket x.id x.id) (same_refl x.id)
     where
       first : (b : Bool) → b ≡ true → (if b then Some x else end_at ends x.id) ≡ Some x
       first true e = refl
-      first false e = absurd (differ e)
+      first false e = absurd (false_isnt_true e)
 
   other-trail : (k : SocketId) → same_socket k x.id ≡ false → trail_at (ts ++ t ∷ []) k ≡ trail_at ts k
   other-trail k e = trail-other ts t k (subst (λ (j : SocketId). same_socket k j ≡ false) (sym whole.socket) e)
@@ -200,7 +201,7 @@ module _ (plan : List Planned) (ends : List SeenEnd) (ts : List TrailNow) (x : S
 taken-on : (b : Bool) (j : SocketId) (f : SideFacts) (k : SocketId) (a : AskFacts) (number : ℕ) (answer : Answer) (unread : List ℕ) (s : State) → b ≡ true →
     is_on j (if b then journal.takes_socket f k a number unread s else journal.sends k (replies_of answer) s).feed ≡ same_socket j k
 taken-on true j f k a number answer unread s e = refl
-taken-on false j f k a number answer unread s e = absurd (differ e)
+taken-on false j f k a number answer unread s e = absurd (false_isnt_true e)
 
 of-trail : (b : Bool) (before : List JudgedItem) (this : JudgedItem) (trail : List JudgedItem) → trail ≡ before ++ this ∷ [] → IsOfTrail b before this (if b then trail else [])
 of-trail true before this trail e = e
@@ -208,7 +209,7 @@ of-trail false before this trail e = tt
 
 where-so : {X : Type 0} (b : Bool) (xs : List X) → b ≡ true → (if b then xs else []) ≡ xs
 where-so true xs e = refl
-where-so false xs e = absurd (differ e)
+where-so false xs e = absurd (false_isnt_true e)
 
 -- the ends that stay, behind one more
 ends-behind : (journal : List Entry) (x : SeenEnd) (old new : List SeenEnd) → EndsStay journal old new → EndsStay journal (x ∷ old) (x ∷ new)
@@ -272,7 +273,7 @@ trails-taken kind ends journal v k ts t takes_it new socket entity beside judged
 
 -- the old feed's socket is another
 closed-other : (close : Bool) (o : Option FeedNow) (spent : List SeenEnd) (k : SocketId) (y : SeenEnd) → closed_if close o ≡ Some y → IsNewTo (ids_of (feed_end o ++ spent)) k → same_socket y.id k ≡ false
-closed-other true (Some w) spent k y e new = subst (λ (j : SocketId). same_socket j k ≡ false) (named e) (apart k w.end.id (neither (same_socket k w.end.id) (is_among k (ids_of spent)) new).0)
+closed-other true (Some w) spent k y e new = subst (λ (j : SocketId). same_socket j k ≡ false) (named e) (apart_turned k w.end.id (neither_of_or (same_socket k w.end.id) (is_among k (ids_of spent)) new).0)
   where
     named : closed_if true (Some w) ≡ Some y → w.end.id ≡ y.id
     named e = ap (λ (o : Option SeenEnd). elim o as (λ _. SocketId) [ None ↦ w.end.id | Some z ↦ z.id ]) e
@@ -425,7 +426,7 @@ module _ (r : RecordNow) (hr : IsRecord r) (v : Verdict) (x : TakenHalf) (takes_
       plan = hr.kept.plan;
       queue = tells_if-fits (told_of r.core.facts v) r.core.live hr.kept.queue;
       waits = stepped-within r.core.facts.node now r.core.live.session.phase (after_taking v d r.core).live.session.phase r.waits hr.kept.waits;
-      held = λ g. absurd (differ g);
+      held = λ g. absurd (false_isnt_true g);
     }
       where
         pushed : {a b : List SocketId} {i j : SocketId} → a ≡ b → i ≡ j → a ++ i ∷ [] ≡ b ++ j ∷ []
@@ -496,7 +497,7 @@ taken-after v x now r c journal trails spent parcels waits room closed discarded
       room = room;
     })
     at (Some d) value some = went-over r v x d now c room h takes_it is may half can value.0 (one-fits closed r.room.ends room.ends two ends) value.1 y.makes
-    at None value some = absurd (differ some)
+    at None value some = absurd (false_isnt_true some)
 
 -- and so the contract has it
 pub took-over : (v : Verdict) (x : TakenHalf) (now : ℕ) (r old : RecordNow) (c : CoreNow) (journal : List Entry) (trails : List TrailNow) (spent : List SeenEnd) (parcels : List Parcel) (waits : Waits) (room : Rooms) (closed : Option SeenEnd) (discarded reset : Bool) →
@@ -517,4 +518,4 @@ facts-stay v end unread old c value some = at c.live.feed value some
   where
     at : (o : Option FeedNow) → IfSome o (λ d. IsTakenFeed v end unread old d × (c ≡ after_taking v d old)) → IsSome o → c.facts ≡ old.facts
     at (Some d) e f = ap (λ (y : CoreNow). y.facts) e.1
-    at None e f = absurd (differ f)
+    at None e f = absurd (false_isnt_true f)

@@ -29,7 +29,7 @@ use Rattle.m2_record.specs.Sources as source
 use Rattle.m2_record.specs.Sources.{end_at, log_at, log_of, read_before, runs_before, trail_at, written_before}
 use Rattle.m2_record.specs.TakenTrails.{HaveTrails, IsKeptTrail, IsTrailBeside, judgement_of, judgements_in, taken_by, taken_in}
 use Rattle.m2_record.proofs.Ends.{EndsStay}
-use Rattle.m2_record.proofs.Names.{same_equal, same_refl}
+use Rattle.m2_fabric.proofs.Sockets.{same_equal, same_refl}
 
 -- ---- one trail
 

@@ -1,5 +1,4 @@
 pub mod Accepting
-pub mod Appended
 pub mod Asked
 pub mod Logs
 pub mod Sockets

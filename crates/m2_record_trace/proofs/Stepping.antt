@@ -1,20 +1,16 @@
 -- A step of a side for which there is no room: nothing is done.
-use Rattle.std.proofs.Common.{◌≡◌, ℕ, ◌-◌, Option, Some, None, refl, sym, subst, arith, append-nil}
+use Rattle.std.proofs.Common.{◌≡◌, ℕ, ◌-◌, refl, sym, subst, arith, append-nil}
 use Rattle.m2_core.specs.Granting.{Throttled}
-use Rattle.m2_feed.specs.FeedNow.{FeedNow}
 use Rattle.m2_record.specs.declared.stepped.Stepped.TheVariants as stepped
 use Rattle.m2_record.specs.RecordNow.{RecordNow}
-use Rattle.m2_record.specs.Stepping.{Counted, FeedStays, NothingDone}
+use Rattle.m2_record.specs.Stepping.{Counted, NothingDone}
 use Rattle.m2_record_trace.specs.declared.step.SideStep.TheVariants as side
 use Rattle.m2_record_trace.specs.SideNow.{SideNow}
 use Rattle.m2_record_trace.specs.Steps.{TakesStep}
-
-feed_stays : (o : Option FeedNow) → FeedStays o o
-feed_stays (Some v) = refl
-feed_stays None = tt
+use Rattle.m2_record.proofs.DueSteps.{feed-itself}
 
 nothing_done : (r : RecordNow) → NothingDone r r
-nothing_done r = record { feed = feed_stays r.core.live.feed; only = refl }
+nothing_done r = record { feed = feed-itself r.core.live.feed; only = refl }
 
 pub no_step : (now : ℕ) (bytes : Throttled) (numbers : Counted) (s new : SideNow) → bytes.before.word ≡ s.out → bytes.behind.word ≡ s.out → new ≡ s → TakesStep side.NoMemory now s new
 no_step now bytes numbers s new before behind same =

@@ -10,9 +10,9 @@ use Rattle.m2_session.specs.declared.event.Event.TheVariants as event
 use Rattle.m2_record.specs.Calls.{AddsStep, Connects, after_missing, after_news, is_feed, with_opened}
 use Rattle.m2_core.specs.Calls.{IsOpening}
 use Rattle.m2_record.specs.RecordNow.{RecordNow}
-use Rattle.m2_record.proofs.Names.{differ}
 use Rattle.m2_record.proofs.Owning.{tells-owned}
 use Rattle.m2_record_trace.specs.SideNow.{IsSupplied, Means}
+use Rattle.m2_lemmas.proofs.Booleans.{false_isnt_true}
 
 pub supplied_same : (m : Means) (old new : RecordNow) → new ≡ old → IsSupplied m old → IsSupplied m new
 supplied_same m old new e h = subst (IsSupplied m) (sym e) h
@@ -39,7 +39,7 @@ supplied_room m old new e h = subst (IsSupplied m) (sym e) (record { owned = rec
 
 opened_at : (o : Option FeedNow) (end : SeenEnd) (m : Means) (old new : RecordNow) → IfSome o (λ v. IsOpening old.core.facts end v × (new ≡ record (with_opened v end.id old) { room = new.room })) → IsSome o → IsSupplied m old → IsSupplied m new
 opened_at (Some v) end m old new h s k = subst (IsSupplied m) (sym h.1) (record { owned = record { feed = tells-owned event.Dialled m.throttle.place old.core.live k.owned.feed; parcels = k.owned.parcels }; top = k.top })
-opened_at None end m old new h s k = absurd (differ s)
+opened_at None end m old new h s k = absurd (false_isnt_true s)
 
 pub supplied_opened : (end : SeenEnd) (m : Means) (old new : RecordNow) → Connects end old new → IsSupplied m old → IsSupplied m new
 supplied_opened end m old new h k = opened_at new.core.live.feed end m old new h.0 h.1 k

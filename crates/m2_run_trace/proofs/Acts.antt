@@ -8,7 +8,7 @@ use Rattle.m2_scenario.specs.declared.node.Node.{Node}
 use Rattle.m2_script.specs.Script.{Deed}
 use Rattle.m2_scenario.specs.Text.{Word}
 
-both_deeds : (xs ys : List Act) → deeds_in (xs ++ ys) ≡ deeds_in xs ++ deeds_in ys
+pub both_deeds : (xs ys : List Act) → deeds_in (xs ++ ys) ≡ deeds_in xs ++ deeds_in ys
 both_deeds xs ys = flat_map-append (λ (a : Act). a.deeds) xs ys
 
 module _ (nodes : List Node) where

@@ -1,5 +1,4 @@
 pub mod Acts
-pub mod Appended
 pub mod Deeds
 pub mod LineActs
 pub mod Lines

@@ -1,8 +1,7 @@
 -- What is left of a script's acts is what comes next, and what is left behind it; and their deeds are those of the script.
 use Rattle.std.proofs.Common.{◌≡◌, ℕ, zero, suc, ◌+◌, ◌-◌, ◌<◌, List, [], ◌∷◌, ◌++◌, length, refl, ap, ◌∙◌, arith}
-use Rattle.std.proofs.lemmas.Grind.{flat_map-append}
 use Rattle.std.specs.List.{flat_map}
-use Rattle.m2_run_trace.specs.Acts.{Act, acts_of, acts_to, deeds_in, line_acts, round_acts, rounds_acts, step_act, turn_act, turn_acts}
+use Rattle.m2_run_trace.specs.Acts.{acts_of, acts_to, deeds_in, line_acts, round_acts, rounds_acts, step_act, turn_act, turn_acts}
 use Rattle.m2_run_trace.specs.Script.{lines_behind, next_step}
 use Rattle.m2_scenario.specs.declared.line.Line.{Line}
 use Rattle.m2_scenario.specs.declared.line.Line.TheVariants as line
@@ -10,6 +9,7 @@ use Rattle.m2_scenario.specs.declared.link.Link.{Link}
 use Rattle.m2_scenario.specs.declared.node.Node.{Node}
 use Rattle.m2_script.specs.Script.{Deed, both_flow, deeds_of, round_of, rounds_of, script_of, turns_from}
 use Rattle.m2_scenario.specs.Text.{Word}
+use Rattle.m2_run_trace.proofs.Acts.{both_deeds}
 
 -- ---- what comes next
 
@@ -37,9 +37,6 @@ plain_line nodes links step (line.Turn a) no_turn no_rounds = absurd (no_turn a 
 plain_line nodes links step (line.Settle n) no_turn no_rounds = absurd (no_rounds n refl)
 
 -- ---- their deeds
-
-both_deeds : (xs ys : List Act) → deeds_in (xs ++ ys) ≡ deeds_in xs ++ deeds_in ys
-both_deeds xs ys = flat_map-append (λ (a : Act). a.deeds) xs ys
 
 deeds_of_turns : (nodes : List Node) (from count : ℕ) → deeds_in (turn_acts nodes from count) ≡ turns_from from count
 deeds_of_turns nodes from zero = refl

@@ -10,6 +10,7 @@ use Rattle.m2_scenario.specs.Draft.{DraftLine, post, dial, down, cut, turn, flow
 use Rattle.m2_scenario.specs.Valid.{IsLine, IsLink, JoinOthers}
 use Rattle.m2_scenario.specs.OrderLaws.{AreAll, CallsAndLeftArePosts}
 use Rattle.m2_scenario.specs.Order.{HearsNoReset, IsNoResetBy, IsPeer, OverEach, at, count_over, is_post_between, messages_between, posts_between}
+use Rattle.m2_lemmas.proofs.Booleans.{one_of_or}
 
 -- ---- sums over links
 
@@ -63,16 +64,12 @@ and_second : (p q : Bool) → (p && q) ≡ true → q ≡ true
 and_second true q h = h
 and_second false q h = absurd cc
 
-either : (p q : Bool) → (p || q) ≡ true → (p ≡ true) ⊎ (q ≡ true)
-either true q h = inl refl
-either false q h = inr h
-
 -- which node of the link is which
 abbrev AreEnds : (a b : ℕ) → Link → Type 0
 AreEnds a b l = ((l.a ≡ a) × (l.b ≡ b)) ⊎ ((l.a ≡ b) × (l.b ≡ a))
 
 pub ends_of : (a b : ℕ) (l : Link) → joins a b l ≡ true → AreEnds a b l
-ends_of a b l h = elim (either ((l.a == a) && (l.b == b)) ((l.a == b) && (l.b == a)) h) as (λ _. AreEnds a b l) [
+ends_of a b l h = elim (one_of_or ((l.a == a) && (l.b == b)) ((l.a == b) && (l.b == a)) h) as (λ _. AreEnds a b l) [
   | inl p ↦ inl (same_from _ _ (and_first _ _ p), same_from _ _ (and_second _ _ p))
   | inr p ↦ inr (same_from _ _ (and_first _ _ p), same_from _ _ (and_second _ _ p))
 ]

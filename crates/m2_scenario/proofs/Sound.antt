@@ -16,6 +16,8 @@ use Rattle.m2_scenario.specs.Counts.{counts_of, with_one_more, AreWithin, Permit
 use Rattle.m2_scenario.specs.Plan.{IsAmong}
 use Rattle.m2_scenario.proofs.Counted.{counts_more}
 use Rattle.m2_scenario.specs.Valid.{IsSound, IsLine, IsLink, JoinOthers, HasCenters, HasMsgr2, AreApart}
+use Rattle.m2_lemmas.proofs.Booleans.{both_true}
+use Rattle.m2_lemmas.proofs.Numbers.{same_number}
 
 -- counts stay within the limits with a line that these permit
 permitted : (c : Counts) (l : DraftLine) → AreWithin c → Permit c l → AreWithin (with_one_more c l)
@@ -94,16 +96,10 @@ line_among_more m n h links (flow a b socket k) fits = fits
 line_among_more m n h links (fault a b socket) fits = fits
 line_among_more m n h links (settle k) fits = fits
 
-same_number : (a b : ℕ) → a ≡ b → (a == b) ≡ true
-same_number a b e = grind (arith, e)
-
-both : (a b : Bool) → a ≡ true → b ≡ true → (a && b) ≡ true
-both a b p q = rw (p, q) refl
-
 apart_from : (at : Node) (n : Node) → is_named at.name n ≡ false → is_at at.at n ≡ false → AreApart n at
 apart_from new n name socket = record {
   names = λ e. let same : bytes_eq n.name new.name ≡ true = (bytes_eq-Decides n.name new.name).1 e in cc;
-  sockets = λ e. let same : is_at new.at n ≡ true = both (n.at.ip == new.at.ip) (n.at.port == new.at.port) (same_number n.at.ip new.at.ip e.0) (same_number n.at.port new.at.port e.1) in cc;
+  sockets = λ e. let same : is_at new.at n ≡ true = both_true (n.at.ip == new.at.ip) (n.at.port == new.at.port) (same_number n.at.ip new.at.ip e.0) (same_number n.at.port new.at.port e.1) in cc;
 }
 
 pub node_kept : (nodes : List Node) (links : List Link) (lines : List DraftLine) (n : Node) → IsSound nodes links lines → length nodes < MOST_NODES → HasCenters n → HasMsgr2 n

@@ -8,11 +8,11 @@ use Rattle.m2_scenario.specs.Draft.{Draft}
 use Rattle.m2_scenario_text.specs.declared.form.Form.{Form}
 use Rattle.m2_scenario_text.specs.Reading.{line_step, lines_from, at, At, LineRead, DraftRead}
 
-some_glued : (b : ℕ) (ps : List Word) → 0 < length (glued b ps)
+pub some_glued : (b : ℕ) (ps : List Word) → 0 < length (glued b ps)
 some_glued b [] = omega arith
 some_glued b (p ∷ ps) = omega arith
 
-some_either : (t : Bool) (ps qs : List Word) → 0 < length ps → 0 < length qs → 0 < length (if t then ps else qs)
+pub some_either : (t : Bool) (ps qs : List Word) → 0 < length ps → 0 < length qs → 0 < length (if t then ps else qs)
 some_either true ps qs h k = h
 some_either false ps qs h k = k
 

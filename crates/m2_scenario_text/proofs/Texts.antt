@@ -3,23 +3,11 @@ use Rattle.std.proofs.Common.{◌≡◌, ◌==◌, ◌+◌, ◌<◌, ℕ, Bool, 
 use Rattle.m2_scenario.specs.declared.kind.Kind.TheVariants as kind
 use Rattle.m2_scenario_text.specs.declared.bad_schedule.BadSchedule.{BadSchedule}
 use Rattle.m2_scenario_text.specs.declared.bad_schedule.BadSchedule.TheVariants as bad
-use Rattle.m2_scenario.specs.Text.{Word, pieces, glued}
+use Rattle.m2_scenario.specs.Text.{Word, pieces}
 use Rattle.m2_scenario_text.specs.Schedule.{Draft}
 use Rattle.m2_scenario_text.specs.declared.schedule.Schedule.{Schedule}
 use Rattle.m2_scenario_text.specs.ScheduleReading.{line_step, lines_from, at, At, LineRead, Reads}
-
-some_glued : (b : ℕ) (ps : List Word) → 0 < length (glued b ps)
-some_glued b [] = omega arith
-some_glued b (p ∷ ps) = omega arith
-
-some_either : (t : Bool) (ps qs : List Word) → 0 < length ps → 0 < length qs → 0 < length (if t then ps else qs)
-some_either true ps qs h k = h
-some_either false ps qs h k = k
-
--- there is always a piece
-pub some_pieces : (mark : ℕ) (bs : Word) → 0 < length (pieces mark bs)
-some_pieces mark [] = omega arith
-some_pieces mark (b ∷ bs) = some_either (b == mark) ([] ∷ pieces mark bs) (glued b (pieces mark bs)) (omega arith) (some_glued b (pieces mark bs))
+use Rattle.m2_scenario_text.proofs.Lines.{some_pieces}
 
 some_more : (past : Bool) (n : ℕ) (d : Draft) (l : Word) (ls : List Word) → 0 < length ls
     → lines_from past n d (l ∷ ls) ≡ at n (line_step n d l) (λ e. lines_from past (n + 1) e ls)

@@ -26,39 +26,24 @@ use Rattle.m2_script.specs.Made.{facts_of, new_towards, other_of, over, records_
 use Rattle.m2_shared.specs.Numbers.{SeenNumberPass}
 use Rattle.m2_shared.specs.Throttle.{SeenTakePass}
 use Rattle.m2_center.specs.Sessions.{IsSupplied, Supply, peer_of}
+use Rattle.m2_lemmas.proofs.Booleans.{or_right, or_left, both_true, one_of_or}
+use Rattle.m2_lemmas.proofs.Numbers.{same_number}
 
 -- ---- links
-
-same_number : (a b : ℕ) → a ≡ b → (a == b) ≡ true
-same_number a b e = grind (arith, e)
-
-both : (a b : Bool) → a ≡ true → b ≡ true → (a && b) ≡ true
-both a b p q = rw (p, q) refl
-
-or_left : (a b : Bool) → a ≡ true → (a || b) ≡ true
-or_left a b p = rw p refl
-
-or_right : (a b : Bool) → b ≡ true → (a || b) ≡ true
-or_right true b p = refl
-or_right false b p = p
-
-either : (a b : Bool) → (a || b) ≡ true → (a ≡ true) ⊎ (b ≡ true)
-either true b h = inl refl
-either false b h = inr h
 
 abbrev pub JoinsSo : (a b : ℕ) → Link → Type 0
 JoinsSo a b l = ((l.a ≡ a) × (l.b ≡ b)) ⊎ ((l.a ≡ b) × (l.b ≡ a))
 
 pub joins_so : (a b : ℕ) (l : Link) → joins a b l ≡ true → JoinsSo a b l
-joins_so a b l h = go (either ((l.a == a) && (l.b == b)) ((l.a == b) && (l.b == a)) h)
+joins_so a b l h = go (one_of_or ((l.a == a) && (l.b == b)) ((l.a == b) && (l.b == a)) h)
   where
     go : (((l.a == a) && (l.b == b)) ≡ true) ⊎ (((l.a == b) && (l.b == a)) ≡ true) → JoinsSo a b l
     go (inl e) = let p = and_parts (l.a == a) (l.b == b) e in inl (eqb-true l.a a p.0, eqb-true l.b b p.1)
     go (inr e) = let p = and_parts (l.a == b) (l.b == a) e in inr (eqb-true l.a b p.0, eqb-true l.b a p.1)
 
 so_joins : (a b : ℕ) (l : Link) → JoinsSo a b l → joins a b l ≡ true
-so_joins a b l (inl e) = or_left ((l.a == a) && (l.b == b)) ((l.a == b) && (l.b == a)) (both (l.a == a) (l.b == b) (same_number l.a a e.0) (same_number l.b b e.1))
-so_joins a b l (inr e) = or_right ((l.a == a) && (l.b == b)) ((l.a == b) && (l.b == a)) (both (l.a == b) (l.b == a) (same_number l.a b e.0) (same_number l.b a e.1))
+so_joins a b l (inl e) = or_left ((l.a == a) && (l.b == b)) ((l.a == b) && (l.b == a)) (both_true (l.a == a) (l.b == b) (same_number l.a a e.0) (same_number l.b b e.1))
+so_joins a b l (inr e) = or_right ((l.a == a) && (l.b == b)) ((l.a == b) && (l.b == a)) (both_true (l.a == b) (l.b == a) (same_number l.a b e.0) (same_number l.b a e.1))
 
 -- two links that join the same two nodes
 join_same : (a b : ℕ) (l m : Link) → joins a b l ≡ true → joins a b m ≡ true → joins m.a m.b l ≡ true

@@ -6,6 +6,7 @@ use Rattle.m2_cluster.specs.Cluster.{ClusterNow, OneDoes}
 use Rattle.m2_cluster.specs.Node.{NodeNow, NodeTurns}
 use Rattle.m2_script.specs.declared.calls.TurnCalls.{TurnCalls}
 use Rattle.m2_script.specs.Script.{LacksMemory, RunNow, StopsTurn, TakesTurn, calls_between, fast_calls, next_moment, noted, queued_calls}
+use Rattle.m2_lemmas.proofs.Options.{none_of_isnt_some}
 
 here : {X : Type 0} (xs : List X) (k : ℕ) (x y : X) → slice_get xs k ≡ Some x → slice_get (slice_set xs k y) k ≡ Some y
 here [] k x y h = absurd (cc)
@@ -14,10 +15,6 @@ here (z ∷ zs) (suc k) x y h = here zs k x y h
 
 of_it : {X : Type 0} (xs : List X) (k : ℕ) (x : X) (P : X → Type 0) → slice_get xs k ≡ Some x → IfSome (slice_get xs k) P → P x
 of_it {X} xs k x P there h = subst (λ (o : Option X). IfSome o P) there h
-
-none_is : {X : Type 0} (o : Option X) → is_some o ≡ false → o ≡ None
-none_is None h = refl
-none_is (Some x) h = absurd (cc)
 
 module _ {D : Type 0} (E : Type 0) (heard : D → List Heard) (was old : RunNow D) (same : was ≡ old) (a : ℕ) (new : ClusterNow D)
     (h : OneDoes a (NodeTurns E heard was.now (Ok tt)) was.cluster new) (f q g r : ℕ)
@@ -39,7 +36,7 @@ module _ {D : Type 0} (E : Type 0) (heard : D → List Heard) (was old : RunNow 
 
   none_held : (held : Bool) → held ≡ false → IfSome (slice_get new.nodes a) (λ (n : NodeNow D). held ≡ is_some n.center.out.held) → h.behind.center.out.held ≡ None
   none_held held free is =
-      none_is h.behind.center.out.held (sym (of_it new.nodes a h.behind (λ (n : NodeNow D). held ≡ is_some n.center.out.held) there is) ∙ free)
+      none_of_isnt_some h.behind.center.out.held (sym (of_it new.nodes a h.behind (λ (n : NodeNow D). held ≡ is_some n.center.out.held) there is) ∙ free)
 
   pub turned : (held : Bool) → held ≡ false → IfSome (slice_get new.nodes a) (λ (n : NodeNow D). held ≡ is_some n.center.out.held) → (now : ℕ) → now ≡ next_moment was.now → (calls : List TurnCalls) → calls ≡ was.calls ++ noted (record { node = a; fast = g - f; queued = r - q }) →
       TakesTurn E heard a old (record { cluster = new; fabric = was.fabric; now = now; calls = calls })

@@ -17,6 +17,7 @@ use Rattle.m2_session.specs.Reconnect.{reconnect_rows}
 use Rattle.m2_session.specs.Steps.{step_of, is_lawful, fault_rows, closes}
 use Rattle.m2_session.specs.SessionLaws.{takes, told, is_resumption, ident_event, reconnect_event, TakenIsReady, AnswersAreLawful, PeerGlobalNeverFalls, ResumedOnlyWithItsCookies}
 use Rattle.m2_session.proofs.Rows.{each_answer, each_in_order, none_holds}
+use Rattle.m2_lemmas.proofs.Booleans.{negated_is_true}
 
 -- ---- the socket is taken
 
@@ -34,12 +35,8 @@ taken_is_ready_lem = record {
 
 -- ---- numbers and cookies
 
-not_false : (b : Bool) → not b ≡ false → b ≡ true
-not_false true h = refl
-not_false false h = cc
-
 same_number : (a b : ℕ) → differs a b ≡ false → b ≡ a
-same_number a b h = sym (eqb-true a b (not_false (a == b) h))
+same_number a b h = sym (eqb-true a b (negated_is_true (a == b) h))
 
 both_ways : (b : Bool) → not (not b) ≡ false → b ≡ true → ⊥
 both_ways true h e = cc
@@ -48,7 +45,7 @@ both_ways false h e = cc
 kept_cookie : (cookie : ℕ) → not (is_kept cookie) ≡ false → cookie ≢ 0
 kept_cookie cookie h zero = both_ways (cookie == 0) h (eq-eqb cookie 0 zero)
 
-not_above : (a b : ℕ) → is_above a b ≡ false → a ≤ b
+pub not_above : (a b : ℕ) → is_above a b ≡ false → a ≤ b
 not_above a b h = ltb-false b a h
 
 pub resumed_only : ResumedOnlyWithItsCookies
@@ -111,7 +108,7 @@ never_falls = record {
 
 -- ---- lawful events
 
-every_phase : (p : Phase) → IsTrue (is_among p all_phases)
+pub every_phase : (p : Phase) → IsTrue (is_among p all_phases)
 every_phase Absent = refl
 every_phase Connecting = refl
 every_phase IdentSent = refl

@@ -3,6 +3,7 @@ use Rattle.std.proofs.Common.{◌≡◌, ◌≢◌, Bool, true, false, if◌then
 use Rattle.std.specs.List.{AllByRecursion}
 use Rattle.m2_session.specs.Table.{Row, first_that_holds, NoneHolds}
 use Rattle.m2_session.specs.SessionLaws.{AreReadInOrder}
+use Rattle.m2_lemmas.proofs.Booleans.{chosen}
 
 gives : {N A : Type 0} (before : List (Row N A)) (r : Row N A) (after : List (Row N A)) (otherwise : A) → NoneHolds before → r.holds ≡ true → first_that_holds (before ++ r ∷ after) otherwise ≡ r.answer
 gives [] r after otherwise none holds = rw holds refl
@@ -43,10 +44,6 @@ none_holds a (r ∷ rows) otherwise all given =
 abbrev pub EachInOrder : {N A : Type 0} → (A → Type 0) → List (Row N A) → A → Type 0
 EachInOrder P [] otherwise = P otherwise
 EachInOrder P (r ∷ rows) otherwise = (r.holds ≡ true → P r.answer) × (r.holds ≡ false → EachInOrder P rows otherwise)
-
-chosen : {A : Type 0} (P : A → Type 0) (b : Bool) (x y : A) → (b ≡ true → P x) → (b ≡ false → P y) → P (if b then x else y)
-chosen P true x y here later = here refl
-chosen P false x y here later = later refl
 
 pub each_in_order : {N A : Type 0} (P : A → Type 0) (rows : List (Row N A)) (otherwise : A) → EachInOrder P rows otherwise → P (first_that_holds rows otherwise)
 each_in_order P [] otherwise all = all

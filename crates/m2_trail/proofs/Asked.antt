@@ -8,7 +8,7 @@ use Rattle.m2_control.specs.declared.control.Control.TheVariants as control
 use Rattle.m2_control.specs.declared.fault.ControlFault.{ControlFault}
 use Rattle.m2_control.specs.Control.{payload_of}
 use Rattle.m2_control.specs.Laws.{IsInBounds}
-use Rattle.m2_control.proofs.Raised.{main_stays}
+use Rattle.m2_control.proofs.Raised.{main_stays, main_same}
 use Rattle.m2_frame.specs.Frame.{Parts}
 use Rattle.m2_frame.specs.Reading.{Front, whole, dropped, start, bad, text, judge}
 use Rattle.m2_handshake.specs.declared.ask.Ask.{Ask}
@@ -22,7 +22,6 @@ use Rattle.m2_handshake.specs.Greeting.{control_of, addrs_of}
 use Rattle.m2_handshake.specs.Moves.{Move, asks, take_frame, after_asking, read_held, refuse_held, ask_move_at, ask_move_of}
 use Rattle.m2_handshake.specs.Reading.{of_payload}
 use Rattle.m2_handshake.specs.Standing.{Standing}
-use Rattle.m2_handshake.proofs.Asks.{main_same}
 use Rattle.m2_frame.specs.declared.tag.Tag.TheVariants as tag
 use Rattle.m2_frame.specs.Tags.{tag_number}
 use Rattle.m2_trail.specs.Asks.{IsMain}

@@ -54,7 +54,7 @@ note_at ask (Some other) false v a h j s =
     let same : other ≡ ask = cc in
     record { unrefused = s.0.unrefused; this = s.1; facts = s.2 ∙ ap (λ (k : Ask). facts_judged a.before ++ facts_of_ask k ∷ []) same }
 
-facts_push : (before : List JudgedItem) (item : JudgedItem) → facts_judged (before ++ item ∷ []) ≡ facts_judged before ++ item.ask ∷ []
+pub facts_push : (before : List JudgedItem) (item : JudgedItem) → facts_judged (before ++ item ∷ []) ≡ facts_judged before ++ item.ask ∷ []
 facts_push before item = map-append (λ (i : JudgedItem). i.ask) before (item ∷ [])
 
 -- the trail of an end whose ask is judged
@@ -193,9 +193,6 @@ owes_at answer (Some ask) true v a items before j s k e =
 
 -- ---- replying
 
-facts_more : (before : List JudgedItem) (item : JudgedItem) → facts_judged (before ++ item ∷ []) ≡ facts_judged before ++ item.ask ∷ []
-facts_more before item = map-append (λ (i : JudgedItem). i.ask) before (item ∷ [])
-
 replies_more : (before : List JudgedItem) (ask : Ask) (answer : Answer) (c : Control) → reply_to answer ≡ c ∷ [] →
     all_replies (before ++ item_of ask answer ∷ []) None ≡ all_replies before None ++ c ∷ []
 replies_more before ask answer c r =
@@ -231,7 +228,7 @@ reply_kept answer c v half left before j items r k h =
       asking = record { before = done; this = []; asks = k.asking.asks };
       judged = k.judged ∙ (ap (λ l. k.asking.before ++ l) owes.this ∙ sym (append-nil done));
       comes = told;
-      stands = (refl, refl, ([], owes.facts ∙ (sym (facts_more k.asking.before (item_of ask answer)) ∙ sym (append-nil (facts_judged done))), ap (λ l. length (refusal_of l)) (sym owes.owed.unrefused)));
+      stands = (refl, refl, ([], owes.facts ∙ (sym (facts_push k.asking.before (item_of ask answer)) ∙ sym (append-nil (facts_judged done))), ap (λ l. length (refusal_of l)) (sym owes.owed.unrefused)));
       again = λ o. all_push (λ (i : JudgedItem). may_ask_again i.answer ≡ true) k.asking.before (item_of ask answer)
           (k.again (ap is_over owes.owed.stage)) (asks_again answer c r (sym (ap (λ (s : Standing). is_over s.stage) h.0) ∙ o));
       refused_ends = λ s. absurd (differ (sym s ∙ ap is_some owes.owed.unrefused));

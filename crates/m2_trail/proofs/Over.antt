@@ -97,9 +97,6 @@ asked_over result old new o a = ask_end_over result a.mid new (quietly_over ask_
 pub never_asked : (ask : Ask) (old new : Standing) → is_over old.stage ≡ true → AskAnswers (step.Asked ask) old new → ⊥
 never_asked ask old new o a = subst KeepsOver a.ends (ask_over a.mid (quietly_over ask_move_of ask_over a.passed old a.mid a.quietly o))
 
-same_signs : (a b : Standing) → signs a ≡ signs b → a ≡ b
-same_signs a b e = cc
-
 end_over : (result : HalfStep) (mid new : Writer) → is_over mid.standing.stage ≡ true → Ends result mid new → is_over new.standing.stage ≡ true
 end_over answer.NotYet mid new o e = subst (λ (w : Writer). is_over w.standing.stage ≡ true) (sym e.1) o
 end_over answer.Wrote mid new o e = absurd (subst KeepsOver e.1 (move_over mid.standing o))

@@ -19,9 +19,7 @@ use Rattle.m2_control.specs.Ident.{make_tail, tail_parts, keeps_cookie, tail_at}
 use Rattle.m2_control.specs.Laws.{IsInBounds}
 use Rattle.m2_control.specs.SessionReconnect.{make_session_reconnect, session_reconnect_at}
 use Rattle.m2_frame.specs.declared.tag.Tag.TheVariants as tag
-
-differ : false ≡ true → ⊥
-differ e = cc
+use Rattle.m2_lemmas.proofs.Booleans.{false_isnt_true}
 
 -- ---- readers, and what is known of what they read
 
@@ -85,7 +83,7 @@ unfolding bounded_at
 bounded field bytes = weaker _ Bounded (bounded_at field bytes) (λ n h. leb-true n GREATEST_NUMBER h.1) (checks (λ _. Unit {0}) _ (BadValue field) (number w64 Short) bytes (any (number w64 Short bytes)))
 
 some_cookie : (n : ℕ) → not (n == 0) ≡ true → n ≢ 0
-some_cookie n h e = differ (sym (ap not (eq-eqb n 0 e)) ∙ h)
+some_cookie n h e = false_isnt_true (sym (ap not (eq-eqb n 0 e)) ∙ h)
 
 cookie : (field : ℕ) (bytes : List ℕ) → Holds (λ n. n ≢ 0) (cookie_at field bytes)
 unfolding cookie_at

@@ -1,15 +1,15 @@
 -- The entries of a trail tell the runs of its end's log, and the runs tell how many bytes moved.
 use Rattle.std.proofs.Common.{◌≡◌, ℕ, zero, suc, ◌+◌, ◌≤◌, Bool, true, false, List, [], ◌∷◌, ◌++◌, length, map, take, drop, filter_map, refl, sym, ap, ◌∙◌, arith, append-nil, Some}
-use Rattle.std.proofs.lemmas.Bool.{eq-eqb}
 use Rattle.std.proofs.lemmas.List.{take-append-drop, map-append, length-drop}
 use Rattle.std.proofs.lemmas.List.Elements.{filter_map-append}
 use Rattle.m2_fabric.specs.declared.log.Run.{Run}
 use Rattle.m2_fabric.specs.declared.log.Run.TheVariants as run
 use Rattle.m2_fabric.specs.declared.socket.SocketId.{SocketId}
 use Rattle.m2_fabric.specs.Log.{Log}
-use Rattle.m2_fabric.specs.Sockets.{same_socket}
 use Rattle.m2_journal.specs.Items.{run_of, runs_on}
 use Rattle.m2_trail.specs.Trails.{entry_of, closing, entries_of, read_by, written_by}
+use Rattle.m2_fabric.proofs.Sockets.{same_refl}
+use Rattle.m2_lemmas.proofs.Lists.{take_nil}
 
 -- bytes of what is behind a place end within the whole
 pub fits_left : (put n : ℕ) (bytes : List ℕ) → put ≤ length bytes → n ≤ length (drop put bytes) → put + n ≤ length bytes
@@ -41,9 +41,6 @@ written_by-take n xs =
 
 -- ---- entries
 
-same_refl : (k : SocketId) → same_socket k k ≡ true
-same_refl k = rw (eq-eqb k.from_ip k.from_ip refl, eq-eqb k.from_port k.from_port refl, eq-eqb k.to_ip k.to_ip refl, eq-eqb k.to_port k.to_port refl, eq-eqb k.turn k.turn refl) refl
-
 one_run : (k : SocketId) (r : Run) → run_of k (entry_of k r) ≡ Some r
 one_run k (run.Read n) = rw (same_refl k) refl
 one_run k (run.Wrote n) = rw (same_refl k) refl
@@ -62,14 +59,10 @@ runs_on-all k log =
     ∙ (ap (λ l. l ++ runs_on k (closing k log.closed)) (runs_on-entries k log.runs)
     ∙ (ap (λ l. log.runs ++ l) (no_run k log.closed) ∙ append-nil log.runs))
 
-take-nil : {A : Type 0} (n : ℕ) → take n (let none : List A = [] in none) ≡ []
-take-nil zero = refl
-take-nil (suc n) = refl
-
 -- the first entries are those of the first runs
 runs_on-first : (k : SocketId) (n : ℕ) (rs : List Run) (closed : Bool) → runs_on k (take n (map (entry_of k) rs ++ closing k closed)) ≡ take n rs
 runs_on-first k zero rs closed = refl
-runs_on-first k (suc n) [] true = ap (filter_map (run_of k)) (take-nil n)
+runs_on-first k (suc n) [] true = ap (filter_map (run_of k)) (take_nil n)
 runs_on-first k (suc n) [] false = refl
 runs_on-first k (suc n) (r ∷ rs) closed = rw (one_run k r, runs_on-first k n rs closed) refl
 

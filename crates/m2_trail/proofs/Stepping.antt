@@ -24,6 +24,7 @@ use Rattle.m2_trail.specs.Unput.{behind}
 use Rattle.m2_trail.proofs.Asked.{Asks, asks_well, bounds_stay, main_stays_of}
 use Rattle.m2_trail.proofs.Bytes.{stands_unasked}
 use Rattle.m2_trail.proofs.Over.{answered_over, asked_over, never_asked, unover}
+use Rattle.m2_lemmas.proofs.Booleans.{not_true_is_false}
 
 differ : true ≡ false → ⊥
 differ e = cc
@@ -91,10 +92,6 @@ never : (o : Option ℕ) → (is_some o ≡ true → ⊥) → o ≡ None
 never (Some bits) h = absurd (h refl)
 never None h = refl
 
-isnt : (b : Bool) → (b ≡ true → ⊥) → b ≡ false
-isnt true h = absurd (h refl)
-isnt false h = refl
-
 -- no ask was refused, so all were judged
 all_judged : (refused : Option ℕ) (more : List AskFacts) → refused ≡ None → length more ≡ length (refusal_of refused) → more ≡ []
 all_judged (Some bits) more r e = absurd cc
@@ -144,7 +141,7 @@ ask_kept ask v half put unasked can k a =
       judged = k.judged;
       comes = leads_on.asks (step.Asked ask) begin v.half half x k.comes can a;
       stands = stands_asked ask v.ask v.is_judged v (record v { half = half; ask = Some ask }) k.asking unasked unrefused put unrefused (asks_well a.mid half (bare_ask ask) a.ends) k.stands;
-      again = λ _. k.again (isnt (is_over v.half.stage) not_over);
+      again = λ _. k.again (not_true_is_false (is_over v.half.stage) not_over);
       refused_ends = λ s. absurd (not_over (k.refused_ends s));
       refused_fits = k.refused_fits;
       many = k.many;

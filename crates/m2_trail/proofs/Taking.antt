@@ -4,12 +4,11 @@ use Rattle.std.proofs.lemmas.List.{map-append}
 use Rattle.m2_control.specs.declared.control.Control.{Control}
 use Rattle.m2_fabric.specs.Log.{Log}
 use Rattle.m2_handshake.specs.declared.ask.Ask.{Ask}
-use Rattle.m2_handshake.specs.declared.fault.HalfFault.{HalfFault}
-use Rattle.m2_handshake.specs.declared.stage.Stage.TheVariants.{Asked, Faulty}
+use Rattle.m2_handshake.specs.declared.stage.Stage.TheVariants.{Asked}
 use Rattle.m2_handshake.specs.Course.{Exchange, course_of}
 use Rattle.m2_handshake.specs.Standing.{Standing, fed}
 use Rattle.m2_handshake.proofs.Course.{owing}
-use Rattle.m2_handshake.proofs.Prefixes.{unread_is_the_end}
+use Rattle.m2_handshake.proofs.Prefixes.{unread_is_the_end, faulty_isnt_asked}
 use Rattle.m2_handshake.proofs.Reaching.{at_its_course}
 use Rattle.m2_journal.specs.declared.entry.JudgedItem.{JudgedItem}
 use Rattle.m2_journal.specs.Items.{runs_on}
@@ -24,14 +23,11 @@ use Rattle.m2_trail.proofs.Points.{all_got, all_put}
 use Rattle.m2_trail.proofs.Replying.{replies_to-append, none_where_taken}
 use Rattle.m2_trail.proofs.Runs.{runs_on-all}
 
-asked_isnt_faulty : (f : HalfFault) → Asked ≡ Faulty f → ⊥
-asked_isnt_faulty f e = cc
-
 -- the unread bytes are the end of what was got
 pub is_end : (v : IncomingNow) → Keeps v → v.half.stage ≡ Asked → IsEndOf v.half.rest v.end.log.got
 is_end v k q =
     let x : Exchange = exchange_of (given_by v k.asking) k.asking.asks v in
-    let u = unread_is_the_end.used (begins v.trail) v.half x k.comes (λ f e. asked_isnt_faulty f (sym q ∙ e)) in
+    let u = unread_is_the_end.used (begins v.trail) v.half x k.comes (λ f e. faulty_isnt_asked f (sym q ∙ e)) in
     (u.bytes, u.before)
 
 -- where the half is taken the last answer has no reply

@@ -1,12 +1,9 @@
 -- The trail of an incoming socket tells all that its end did.
-use Rattle.std.proofs.Common.{◌≡◌, ℕ, zero, suc, Bool, true, false, is_some, List, [], ◌∷◌, ◌++◌, length, map, take, slice_index, Option, Some, None, refl, sym, ap, ◌∙◌, subst, append-nil, arith}
-use Rattle.m2_session.specs.declared.ask.AskFacts.{AskFacts}
-use Rattle.m2_control.specs.declared.control.Control.{Control}
+use Rattle.std.proofs.Common.{◌≡◌, ℕ, Bool, true, false, is_some, List, [], ◌∷◌, ◌++◌, length, map, take, slice_index, Option, Some, None, refl, sym, ap, ◌∙◌, subst, append-nil, arith}
 use Rattle.m2_fabric.specs.End.{SeenEnd, after_closing}
 use Rattle.m2_fabric.specs.Log.{Log, nothing_done}
 use Rattle.m2_handshake.specs.declared.ask.Ask.{Ask}
 use Rattle.m2_handshake.specs.Course.{Exchange, no_exchange, Reaches}
-use Rattle.m2_handshake.specs.Laws.{IsPrefix}
 use Rattle.m2_handshake.specs.Standing.{Standing, acceptor_at_start}
 use Rattle.m2_handshake.proofs.Reaching.{leads_on}
 use Rattle.m2_journal.specs.declared.entry.Entry.{Entry}
@@ -15,12 +12,12 @@ use Rattle.m2_journal.specs.declared.entry.JudgedItem.{JudgedItem}
 use Rattle.m2_journal.specs.Items.{runs_on}
 use Rattle.m2_trail.specs.Asks.{facts_of_ask}
 use Rattle.m2_trail.specs.Arrivals.{IsArrival}
-use Rattle.m2_trail.specs.Incoming.{IncomingNow, Asking, IsOwed, StandsAt, Keeps, exchange_of, facts_asked, facts_judged, given_by, is_over, accepted, item_of, with_entry}
-use Rattle.m2_trail.specs.Replies.{replies_to, all_replies}
+use Rattle.m2_trail.specs.Incoming.{IncomingNow, Asking, IsOwed, StandsAt, Keeps, exchange_of, given_by, is_over, accepted, item_of, with_entry}
 use Rattle.m2_trail.specs.Trails.{TrailNow, begins, entry_of, closing, entries_of, replies_by, IsAsked, IsCounted, IsPoint, IsTrailOf, IsWholeTrail, opener_of}
 use Rattle.m2_trail.proofs.Given.{entries_at_least}
 use Rattle.m2_trail.proofs.Judged.{rises_more}
 use Rattle.m2_trail.proofs.Runs.{runs_on-take}
+use Rattle.m2_lemmas.proofs.Lists.{take_nil}
 
 differ : true ≡ false → ⊥
 differ e = cc
@@ -142,10 +139,6 @@ the_ask (Some ask) e = (ask, refl)
 
 -- ---- where it begins
 
-no_runs : {A : Type 0} (n : ℕ) → take n (let none : List A = [] in none) ≡ []
-no_runs zero = refl
-no_runs (suc n) = refl
-
 no_point : (n : ℕ) (begin : Standing) → IsPoint begin nothing_done [] (take n nothing_done.runs)
 no_point n begin =
     let here : IsPoint begin nothing_done [] [] = record {
@@ -156,7 +149,7 @@ no_point n begin =
       given = ([], refl);
       written = ([], refl);
     } in
-    subst (IsPoint begin nothing_done []) (sym (no_runs n)) here
+    subst (IsPoint begin nothing_done []) (sym (take_nil n)) here
 
 abbrev no_asking : Asking
 no_asking = record { before = []; this = []; asks = [] }

@@ -14,14 +14,16 @@ use Rattle.m2_weave.specs.Strands.{StrandNow, handed_at, handed_by, judged_at, j
 use Rattle.m2_weave.specs.Rule.{Woven, by_bytes, comes, strand_at}
 use Rattle.m2_weave.specs.Stops.{sizes}
 use Rattle.m2_weave.specs.WeaveLaws.{IsAsked, AsksComeFirst}
-use Rattle.m2_weave.proofs.SameSocket.{one_socket}
 use Rattle.m2_weave.proofs.Staying.{total-at-rises}
-use Rattle.m2_weave.proofs.Written.{total-more, in-range, come-most, zero-at}
+use Rattle.m2_weave.proofs.Written.{total-more, come-most}
+use Rattle.m2_fabric.proofs.Sockets.{same_equal}
+use Rattle.m2_lemmas.proofs.Lists.{index_in_range}
+use Rattle.m2_weave.proofs.Furthest.{zero-at}
 
 -- ---- a strand's own item
 
 judged-if : (j v : ℕ) (k x : SocketId) (b : Bool) → same_socket k x ≡ b → (k ≡ x → j < v) → j ≤ v → j + (if b then 1 else 0) ≤ v
-judged-if j v k x true is below least = let l : j < v = below (one_socket k x is) in omega arith
+judged-if j v k x true is below least = let l : j < v = below (same_equal k x is) in omega arith
 judged-if j v k x false is below least = omega (arith, least)
 
 judged-item : (w : Woven) (at : Cut) (s : StrandNow) (n : ℕ) (k : SocketId) (i : StrandItem) → comes w at s n (Some i) ≡ true →
@@ -86,7 +88,7 @@ all-asked : (w : Woven) (at : Cut) (order : List ℕ) → length at ≡ length (
     ((x : ℕ) → IsAsked w at (strand_at w x) (slice_index at x)) → (j : ℕ) → IsAsked w (come_all order at) (strand_at w j) (slice_index (come_all order at) j)
 all-asked w at [] n l r j = r j
 all-asked w at (k ∷ ks) n (may, l) r j =
-    let within : k < length at = omega (arith, n, in-range (sizes w) k (slice_index at k) may.more) in
+    let within : k < length at = omega (arith, n, index_in_range (sizes w) k (slice_index at k) may.more) in
     all-asked w (come k at) ks (length-set at k (slice_index at k + 1) ∙ n) l (λ x. one-more w at k x within may.met r (cases_eq x k)) j
 
 none-asked : (w : Woven) (j : ℕ) → IsAsked w (nothing (sizes w)) (strand_at w j) (slice_index (nothing (sizes w)) j)

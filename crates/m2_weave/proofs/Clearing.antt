@@ -16,9 +16,10 @@ use Rattle.m2_weave.specs.Rule.{Woven}
 use Rattle.m2_weave.specs.Strands.{StrandNow, handed_by, has_opened, judged_by, opens, read_by, total}
 use Rattle.m2_weave.specs.Table.{KeepsOpened, names_of}
 use Rattle.m2_weave.specs.Tally.{AreFor, CountsAre, IsClear, IsForgotten, is_on, number_at}
-use Rattle.m2_weave.proofs.SameSocket.{one_socket, same_refl}
 use Rattle.m2_weave.proofs.Numbering.{place_is_own}
 use Rattle.m2_weave.proofs.Tallies.{names_count, place_within}
+use Rattle.m2_lemmas.proofs.Booleans.{neither_of_or}
+use Rattle.m2_fabric.proofs.Sockets.{same_equal, same_refl}
 
 -- ---- one socket
 
@@ -26,7 +27,7 @@ use Rattle.m2_weave.proofs.Tallies.{names_count, place_within}
 set-back : {X : Type 0} (names : List SocketId) (v : List X) (x k : SocketId) (d : X) (b : Bool) → is_among k names ≡ true → place_in names x < length v → same_socket k x ≡ b →
     slice_index_or (slice_set v (place_in names x) d) (place_in names k) d ≡ (if b then d else slice_index_or v (place_in names k) d)
 set-back names v x k d true among within is =
-    let same : k ≡ x = one_socket k x is in
+    let same : k ≡ x = same_equal k x is in
     subst (λ y. slice_index_or (slice_set v (place_in names x) d) (place_in names y) d ≡ d) (sym same) (get_or-set_same v (place_in names x) d d within)
 set-back names v x k d false among within is =
     let apart : place_in names k ≡ place_in names x → ⊥ = λ e.
@@ -47,7 +48,7 @@ none_back {X} names x k d y out among = at (same_socket k x) refl
     at : (b : Bool) → same_socket k x ≡ b → y ≡ (if b then d else y)
     at true is =
         let here : place_in names k < length names = place_within names k among in
-        absurd (omega (arith, here, out, ap (place_in names) (one_socket k x is)))
+        absurd (omega (arith, here, out, ap (place_in names) (same_equal k x is)))
     at false is = refl
 
 -- ---- one after the other
@@ -101,14 +102,10 @@ record HasNothing (k : SocketId) (is : List StrandItem) : Type 0 where
 none-of : (k x : SocketId) (n : ℕ) → same_socket k x ≡ false → (if same_socket k x then n else 0) ≡ 0
 none-of k x n e = rw e refl
 
-neither : (a b : Bool) → (a || b) ≡ false → (a ≡ false) × (b ≡ false)
-neither true b e = absurd (cc)
-neither false b e = (refl, e)
-
 has-nothing : (k : SocketId) (is : List StrandItem) → list_any (is_on k) is ≡ false → HasNothing k is
 has-nothing k [] e = record { opened = refl; reads = refl; handed = refl; judged = refl }
 has-nothing k (i ∷ is) e =
-    let both = neither (is_on k i) (list_any (is_on k) is) e in
+    let both = neither_of_or (is_on k i) (list_any (is_on k) is) e in
     let rest = has-nothing k is both.1 in
     at i both.0 rest
   where

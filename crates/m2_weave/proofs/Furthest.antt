@@ -5,6 +5,7 @@ use Rattle.std.proofs.lemmas.List.{length-set, length-map, get_or-set_same, get_
 use Rattle.std.proofs.lemmas.Bool.{cases_eq}
 use Rattle.m2_weave.specs.Order.{Cut, Rule, StaysMet, AtMost, MayCome, AreLawful, IsStuck, AreNext, nothing, come, come_all, reached}
 use Rattle.m2_weave.specs.MergeLaws.{StuckIsTheEnd, GreedyIsAnOrder, StopsAreOne}
+use Rattle.m2_lemmas.proofs.Lists.{index_in_range}
 
 -- ---- one more of a strand
 
@@ -21,16 +22,10 @@ pub reached-length : (at : Cut) (order : List ℕ) → length (come_all order at
 reached-length at [] = refl
 reached-length at (k ∷ ks) = reached-length (come k at) ks ∙ come-length at k
 
--- a place with a number above 0 is one of the list
-pub in-range : (xs : List ℕ) (k n : ℕ) → n < slice_index xs k → k < length xs
-in-range [] k n h = omega (arith, h)
-in-range (x ∷ xs) zero n h = omega arith
-in-range (x ∷ xs) (suc k) n h = let r : k < length xs = in-range xs k n h in omega arith
-
 step-each : (a b : Cut) (k : ℕ) → AtMost a b → slice_index a k < slice_index b k → (j : ℕ) → (j ≡ k) ⊎ (j ≡ k → ⊥) →
     slice_index (come k a) j ≤ slice_index b j
 step-each a b k w h j (inl e) =
-    let r : k < length b = in-range b k (slice_index a k) h in
+    let r : k < length b = index_in_range b k (slice_index a k) h in
     let s : slice_index (come k a) k ≡ slice_index a k + 1 = come-same a k (omega (arith, w.count)) in
     let P : ℕ → Type 0 = λ i. slice_index (come k a) i ≤ slice_index b i in
     let at_k : slice_index (come k a) k ≤ slice_index b k = omega arith in

@@ -15,8 +15,9 @@ use Rattle.m2_weave.specs.Order.{Cut, Rule, MayCome, IsStuck, IsNext, AreNext, I
 use Rattle.m2_weave.specs.Counted.{Strands, adds, sum_added, value_at, is_met, may_come, next_of, by_counters, lengths}
 use Rattle.m2_weave.specs.Users.{IsIn, IsNeedWithin, IsWithin, AreWithin, users_at, listed, IsListed, AreListed}
 use Rattle.m2_weave.specs.Merging.{even, Comes, GoesOn, IsNew, Stands, still_left}
-use Rattle.m2_weave.proofs.Furthest.{come-other, reached-count, in-range}
+use Rattle.m2_weave.proofs.Furthest.{come-other, reached-count}
 use Rattle.m2_weave.proofs.Listing.{in-left, in-right, in-last, listed-most}
+use Rattle.m2_lemmas.proofs.Lists.{index_in_range}
 
 -- ---- the next entry
 
@@ -298,7 +299,7 @@ ends ss counters p s empty = record {
   each = s.next;
   stuck = subst (λ at. IsStuck (by_counters ss) (lengths ss) at) s.reached
       (λ k may. nothing-waits ss counters k p empty may
-      (s.waits k (subst (λ n. k < n) (length-map ss length) (in-range (lengths ss) k (slice_index p.at.items k) may.more))));
+      (s.waits k (subst (λ n. k < n) (length-map ss length) (index_in_range (lengths ss) k (slice_index p.at.items k) may.more))));
 }
 
 -- ---- each look brings the end nearer

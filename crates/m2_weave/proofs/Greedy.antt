@@ -3,22 +3,18 @@ use Rattle.std.proofs.Common.{◌≡◌, ℕ, zero, suc, ◌+◌, ◌<◌, ◌�
 use Rattle.std.specs.Prelude.{slice_index}
 use Rattle.m2_weave.specs.Merging.{even}
 use Rattle.m2_weave.specs.Order.{Cut, Rule, AtMost, AreNext, IsGreedy, IsStuck, MayCome, come, come_all, nothing}
-use Rattle.m2_weave.proofs.Furthest.{begins, in-range, step-within}
+use Rattle.m2_weave.proofs.Furthest.{begins, step-within}
+use Rattle.m2_lemmas.proofs.Numbers.{below_or_not}
+use Rattle.m2_lemmas.proofs.Lists.{index_in_range}
 
 -- ---- whether a strand may go on
-
-below-or : (a b : ℕ) → (a < b) ⊎ (b ≤ a)
-below-or zero zero = inr (omega arith)
-below-or zero (suc b) = inl (omega arith)
-below-or (suc a) zero = inr (omega arith)
-below-or (suc a) (suc b) = elim (below-or a b) [ inl h ↦ inl (omega (arith, h)) | inr h ↦ inr (omega (arith, h)) ]
 
 true-or : (b : Bool) → (b ≡ true) ⊎ (b ≡ true → ⊥)
 true-or true = inl refl
 true-or false = inr (λ e. cc)
 
 may-or : (rule : Rule) (all at : Cut) (k : ℕ) → MayCome rule all at k ⊎ (MayCome rule all at k → ⊥)
-may-or rule all at k = elim (below-or (slice_index at k) (slice_index all k)) [
+may-or rule all at k = elim (below_or_not (slice_index at k) (slice_index all k)) [
   | inl more ↦ elim (true-or (rule at k)) [
     | inl met ↦ inl (record { more = more; met = met })
     | inr un ↦ inr (λ may. un may.met)
@@ -37,7 +33,7 @@ NoneBelow rule all at n = (k : ℕ) → k < n → MayCome rule all at k → ⊥
 
 none-more : (rule : Rule) (all at : Cut) (n : ℕ) → NoneBelow rule all at n → (MayCome rule all at n → ⊥) → NoneBelow rule all at (suc n)
 unfolding NoneBelow
-none-more rule all at n below here k h may = elim (below-or k n) [
+none-more rule all at n below here k h may = elim (below_or_not k n) [
   | inl less ↦ below k less may
   | inr more ↦ let same : k ≡ n = omega (arith, h, more) in here (subst (λ x. MayCome rule all at x) same may)
 ]
@@ -57,7 +53,7 @@ some-or-stuck : (rule : Rule) (all at : Cut) → SomeMay rule all at ⊎ IsStuck
 unfolding NoneBelow
 some-or-stuck rule all at = elim (some-or rule all at (length all)) [
   | inl some ↦ inl some
-  | inr none ↦ inr (λ k may. none k (in-range all k (slice_index at k) may.more) may)
+  | inr none ↦ inr (λ k may. none k (index_in_range all k (slice_index at k) may.more) may)
 ]
 
 -- ---- each step brings the end nearer
@@ -96,7 +92,7 @@ one-first rule all at some rest = record {
 
 step-count : (rule : Rule) (all at : Cut) → AtMost at all → (some : SomeMay rule all at) → sum-of (come some.strand at) ≡ suc (sum-of at)
 step-count rule all at most some =
-    sum-come at some.strand (omega (arith, most.count, in-range all some.strand (slice_index at some.strand) some.may.more))
+    sum-come at some.strand (omega (arith, most.count, index_in_range all some.strand (slice_index at some.strand) some.may.more))
 
 greedy-from : (left : ℕ) (rule : Rule) (all at : Cut) → AtMost at all → sum-of at + left ≡ sum-of all → GreedyFrom rule all at
 greedy-from zero rule all at most e = elim (some-or-stuck rule all at) [

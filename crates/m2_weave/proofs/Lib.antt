@@ -15,7 +15,6 @@ pub mod Naming
 pub mod Numbering
 pub mod Places
 pub mod Runs
-pub mod SameSocket
 pub mod Staying
 pub mod Sums
 pub mod Tallies

@@ -7,7 +7,8 @@ use Rattle.std.proofs.lemmas.List.{length-map}
 use Rattle.m2_weave.specs.Order.{Cut, Rule, AreLawful, nothing, come, come_all}
 use Rattle.m2_weave.specs.Both.{once, times, of_both, of_one, of_other, ComeInOrder}
 use Rattle.m2_weave.specs.MergeLaws.{OrderNamesAll}
-use Rattle.m2_weave.proofs.Furthest.{come-same, come-other, come-length, in-range, zero-at}
+use Rattle.m2_weave.proofs.Furthest.{come-same, come-other, come-length, zero-at}
+use Rattle.m2_lemmas.proofs.Lists.{index_in_range}
 
 -- ---- how often a strand is named
 
@@ -28,7 +29,7 @@ reached-times : (rule : Rule) (all at : Cut) (k : ℕ) (order : List ℕ) → le
     slice_index (come_all order at) k ≡ slice_index at k + times k order
 reached-times rule all at k [] n l = omega arith
 reached-times rule all at k (j ∷ order) n (may, l) =
-    let within : j < length at = omega (arith, n, in-range all j (slice_index at j) may.more) in
+    let within : j < length at = omega (arith, n, index_in_range all j (slice_index at j) may.more) in
     omega (arith, reached-times rule all (come j at) k order (come-length at j ∙ n) l, come-times at j k within (cases_eq k j))
 
 pub names_all : OrderNamesAll

@@ -6,11 +6,11 @@ use Rattle.m2_fabric.specs.declared.socket.SocketId.{SocketId}
 use Rattle.m2_fabric.specs.Sockets.{same_socket, is_among}
 use Rattle.m2_weave.specs.Strands.{EndOf, StrandNow, end_in, has_opened, same_side}
 use Rattle.m2_weave.specs.Counting.{place_in, side_number, writes}
-use Rattle.m2_weave.proofs.SameSocket.{one_socket, same_refl}
+use Rattle.m2_fabric.proofs.Sockets.{same_equal, same_refl}
 
 place-at : (x a b : SocketId) (m n : ℕ) (p q rest : Bool) → same_socket a x ≡ p → same_socket b x ≡ q → (if p then 0 else suc m) ≡ (if q then 0 else suc n) →
     (q || rest) ≡ true → (rest ≡ true → m ≡ n → a ≡ b) → a ≡ b
-place-at x a b m n true true rest p q e among on = one_socket a x p ∙ sym (one_socket b x q)
+place-at x a b m n true true rest p q e among on = same_equal a x p ∙ sym (same_equal b x q)
 place-at x a b m n true false rest p q e among on = absurd (omega (arith, e))
 place-at x a b m n false true rest p q e among on = absurd (omega (arith, e))
 place-at x a b m n false false rest p q e among on = on among (omega (arith, e))
@@ -48,7 +48,7 @@ wrote-at : (names : List SocketId) (s : StrandNow) (e : EndOf) (k : SocketId) (c
     ≡ (if same_side (has_opened s e.socket) e.opener then (if b then count else 0) else 0)
 wrote-at names s e k count true among is =
     subst (λ x. (if writes names (end_in s x) == writes names e then count else 0) ≡ (if same_side (has_opened s e.socket) e.opener then count else 0))
-    (one_socket e.socket k is) (sides (place_in names e.socket) count (has_opened s e.socket) e.opener)
+    (same_equal e.socket k is) (sides (place_in names e.socket) count (has_opened s e.socket) e.opener)
 wrote-at names s e k count false among is =
     apart (place_in names k) (place_in names e.socket) count (has_opened s k) e.opener
     (λ same. differs k e.socket is (place_is_own names k e.socket among same))
@@ -69,7 +69,7 @@ other-number m n c count h = grind (arith, nat_tests, h)
 counts-at : (names : List SocketId) (a k : SocketId) (c count : ℕ) (b : Bool) → is_among k names ≡ true → same_socket k a ≡ b →
     (if 4 * place_in names a + c == 4 * place_in names k + c then count else 0) ≡ (if b then count else 0)
 counts-at names a k c count true among is =
-    subst (λ x. (if 4 * place_in names x + c == 4 * place_in names k + c then count else 0) ≡ count) (one_socket k a is) (own-number (place_in names k) c count)
+    subst (λ x. (if 4 * place_in names x + c == 4 * place_in names k + c then count else 0) ≡ count) (same_equal k a is) (own-number (place_in names k) c count)
 counts-at names a k c count false among is =
     other-number (place_in names a) (place_in names k) c count (λ same. differs a k is (place_is_own names a k among same))
 

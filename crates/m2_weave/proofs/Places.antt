@@ -8,6 +8,7 @@ use Rattle.m2_fabric.specs.declared.socket.SocketId.{SocketId}
 use Rattle.m2_fabric.specs.Sockets.{is_among, same_socket}
 use Rattle.m2_weave.specs.Counting.{place_in}
 use Rattle.m2_weave.specs.Table.{Five, five_of, found_from, same_five}
+use Rattle.m2_lemmas.proofs.Numbers.{past_at}
 
 number_turned : (a b : ℕ) → (a == b) ≡ (b == a)
 number_turned a b = at (a == b) (b == a) refl refl
@@ -34,14 +35,10 @@ found_more place x names k had h = ap (λ b. cond b (Some place) had) (same_turn
     at true e = rw e (ap Some (let z : place ≡ place + 0 = omega arith in z))
     at false e = rw e (h ∙ later (is_among k names))
 
-past-at : (b rest : Bool) (n m : ℕ) → (b || rest) ≡ false → (rest ≡ false → n ≡ m) → suc n ≡ (if b then 0 else suc m)
-past-at true rest n m e h = absurd (cc)
-past-at false rest n m e h = ap suc (h e)
-
 -- a name that is none of these has the place behind all of them
-past : (names : List SocketId) (k : SocketId) → is_among k names ≡ false → length names ≡ place_in names k
+pub past : (names : List SocketId) (k : SocketId) → is_among k names ≡ false → length names ≡ place_in names k
 past [] k e = refl
-past (x ∷ xs) k e = past-at (same_socket k x) (is_among k xs) (length xs) (place_in xs k) e (past xs k)
+past (x ∷ xs) k e = past_at (same_socket k x) (is_among k xs) (length xs) (place_in xs k) e (past xs k)
 
 pub found_or : (names : List SocketId) (k : SocketId) → unwrap_or (found_from 0 names k) (length names) ≡ place_in names k
 found_or names k = at (is_among k names) refl

@@ -16,10 +16,10 @@ use Rattle.m2_weave.specs.Stops.{first_stop, or_else, unfit_next}
 use Rattle.m2_weave.specs.Counting.{place_in, side_number, writes, fit_need, bytes_need}
 use Rattle.m2_weave.specs.Table.{names_of, got_at, put_at, HasRisen, KeepsOpened}
 use Rattle.m2_weave.specs.Tally.{bytes_alone}
-use Rattle.m2_weave.proofs.SameSocket.{one_socket, same_refl}
 use Rattle.m2_weave.proofs.Numbering.{place_is_own}
 use Rattle.m2_weave.proofs.Written.{get_take, get_drop}
 use Rattle.m2_weave.proofs.Deciding.{read-sound, read-complete}
+use Rattle.m2_fabric.proofs.Sockets.{same_equal, same_refl}
 
 pub names_count : (sockets : List SocketBytes) → length (names_of sockets) ≡ length sockets
 names_count sockets = length-map sockets (λ (s : SocketBytes). s.socket)
@@ -39,7 +39,7 @@ risen-at : (names : List SocketId) (v : List ℕ) (x k : SocketId) (c : ℕ) (b 
     slice_index (slice_set v (place_in names x) (slice_index v (place_in names x) + c)) (place_in names k)
     ≡ slice_index v (place_in names k) + (if b then c else 0)
 risen-at names v x k c true among within is =
-    let same : k ≡ x = one_socket k x is in
+    let same : k ≡ x = same_equal k x is in
     subst (λ y. slice_index (slice_set v (place_in names x) (slice_index v (place_in names x) + c)) (place_in names y) ≡ slice_index v (place_in names y) + c)
     (sym same) (get_or-set_same v (place_in names x) (slice_index v (place_in names x) + c) 0 within)
 risen-at names v x k c false among within is =
@@ -56,7 +56,7 @@ none-at : (names : List SocketId) (x k : SocketId) (c m : ℕ) (b : Bool) → is
     m ≡ m + (if b then c else 0)
 none-at names x k c m true among out is =
     let here : place_in names k < length names = place_within names k among in
-    absurd (omega (arith, here, out, ap (place_in names) (one_socket k x is)))
+    absurd (omega (arith, here, out, ap (place_in names) (same_equal k x is)))
 none-at names x k c m false among out is = omega arith
 
 -- a socket that isn't there raises nothing
@@ -68,7 +68,7 @@ none_risen names v x c out = λ k among. none-at names x k c (slice_index v (pla
 set-at : (names : List SocketId) (v : List Bool) (x k : SocketId) (b : Bool) → is_among k names ≡ true → place_in names x < length v → same_socket k x ≡ b →
     slice_index_or (slice_set v (place_in names x) true) (place_in names k) false ≡ (b || slice_index_or v (place_in names k) false)
 set-at names v x k true among within is =
-    let same : k ≡ x = one_socket k x is in
+    let same : k ≡ x = same_equal k x is in
     subst (λ y. slice_index_or (slice_set v (place_in names x) true) (place_in names y) false ≡ true)
     (sym same) (get_or-set_same v (place_in names x) true false within)
 set-at names v x k false among within is =
@@ -84,7 +84,7 @@ flag_set names v x within = λ k among. set-at names v x k (same_socket k x) amo
 unset-at : (names : List SocketId) (x k : SocketId) (f b : Bool) → is_among k names ≡ true → length names ≤ place_in names x → same_socket k x ≡ b → f ≡ (b || f)
 unset-at names x k f true among out is =
     let here : place_in names k < length names = place_within names k among in
-    absurd (omega (arith, here, out, ap (place_in names) (one_socket k x is)))
+    absurd (omega (arith, here, out, ap (place_in names) (same_equal k x is)))
 unset-at names x k f false among out is = refl
 
 pub none_set : (names : List SocketId) (v : List Bool) (x : SocketId) → length names ≤ place_in names x →

@@ -17,8 +17,10 @@ use Rattle.m2_weave.specs.Rule.{Woven, by_bytes, byte_at, comes, nothing_at_all,
 use Rattle.m2_weave.specs.Stops.{first_stop, or_else, sizes, unfit_item, unfit_next}
 use Rattle.m2_weave.specs.Tidy.{AreTidy, IsAtRead, IsOfHalf, IsOfJournal, IsTidyStrand, TidyStopsAreReads}
 use Rattle.m2_weave.proofs.Naming.{is_the_first}
-use Rattle.m2_weave.proofs.SameSocket.{one_socket, same_refl}
 use Rattle.m2_weave.proofs.Written.{total-more}
+use Rattle.m2_lemmas.proofs.Booleans.{not_true_is_false}
+use Rattle.m2_lemmas.proofs.Numbers.{below_or_not}
+use Rattle.m2_fabric.proofs.Sockets.{same_equal, same_refl}
 
 -- ---- sums
 
@@ -27,7 +29,7 @@ whole f zero is = omega arith
 whole f (suc m) [] = omega arith
 whole f (suc m) (i ∷ is) = omega (arith, whole f m is)
 
-all-taken : (f : StrandItem → ℕ) (is : List StrandItem) → total f (take (length is) is) ≡ total f is
+pub all-taken : (f : StrandItem → ℕ) (is : List StrandItem) → total f (take (length is) is) ≡ total f is
 all-taken f [] = refl
 all-taken f (i ∷ is) = ap (λ n. f i + n) (all-taken f is)
 
@@ -50,18 +52,12 @@ less-of : (f : StrandItem → ℕ) (s : StrandNow) (ss : List StrandNow) (m : �
 less-of f s ss m at (inl l) rest h = record { strand = 0; less = l }
 less-of f s ss m at (inr l) rest h = let more = rest (omega (arith, l, h)) in record { strand = suc more.strand; less = more.less }
 
-either : (a b : ℕ) → (a < b) ⊎ (b ≤ a)
-either zero zero = inr (omega arith)
-either zero (suc b) = inl (omega arith)
-either (suc a) zero = inr (omega arith)
-either (suc a) (suc b) = elim (either a b) [ inl h ↦ inl (omega (arith, h)) | inr h ↦ inr (omega (arith, h)) ]
-
 some-less : (f : StrandItem → ℕ) (ss : List StrandNow) (at : Cut) → length at ≡ length ss →
     total_at (λ s i. f i) ss at < total_at (λ s i. f i) ss (map (λ (s : StrandNow). length s.items) ss) → IsLess f ss at
 some-less f [] at n h = absurd (omega (arith, h))
 some-less f (s ∷ ss) [] n h = absurd (omega (arith, n))
 some-less f (s ∷ ss) (m ∷ at) n h =
-    less-of f s ss m at (either (total f (take m s.items)) (total f s.items)) (some-less f ss at (omega (arith, n))) (omega (arith, h, all-taken f s.items))
+    less-of f s ss m at (below_or_not (total f (take m s.items)) (total f s.items)) (some-less f ss at (omega (arith, n))) (omega (arith, h, all-taken f s.items))
 
 -- a sum that isn't whole has items left
 taken-all : (m : ℕ) (is : List StrandItem) → length is ≤ m → take m is ≡ is
@@ -71,14 +67,14 @@ taken-all (suc m) [] h = refl
 taken-all (suc m) (i ∷ is) h = ap (λ l. i ∷ l) (taken-all m is (omega (arith, h)))
 
 left : (f : StrandItem → ℕ) (m : ℕ) (is : List StrandItem) → total f (take m is) < total f is → m < length is
-left f m is h = elim (either m (length is)) [
+left f m is h = elim (below_or_not m (length is)) [
   | inl l ↦ l
   | inr l ↦ absurd (omega (arith, h, ap (total f) (taken-all m is l)))
 ]
 
 -- ---- items
 
-next-there : (n : ℕ) (is : List StrandItem) → n < length is → (i : StrandItem) × (slice_get is n ≡ Some i)
+pub next-there : (n : ℕ) (is : List StrandItem) → n < length is → (i : StrandItem) × (slice_get is n ≡ Some i)
 next-there n [] h = absurd (omega (arith, h))
 next-there zero (i ∷ is) h = (i, refl)
 next-there (suc n) (i ∷ is) h = next-there n is (omega (arith, h))
@@ -102,7 +98,7 @@ none-judged k x (Handed y ∷ is) h = omega (arith, none-judged k x is h.1)
 
 -- and what it hands on is on its socket
 on-socket : (k x y : SocketId) (n : ℕ) (b : Bool) → same_socket k y ≡ b → same_socket x y ≡ true → 0 < (if b then 1 else 0) + n → (0 < n → k ≡ x) → k ≡ x
-on-socket k x y n true e is h rest = one_socket k y e ∙ sym (one_socket x y is)
+on-socket k x y n true e is h rest = same_equal k y e ∙ sym (same_equal x y is)
 on-socket k x y n false e is h rest = rest (omega (arith, h))
 
 handed-there : (k x : SocketId) (is : List StrandItem) → AllByRecursion (IsOfHalf x) is → 0 < total (handed_by k) is → k ≡ x
@@ -155,7 +151,7 @@ module _ (w : Woven) (at : Cut) (tidy : AreTidy w) (stuck : IsWaiting w at) wher
       by_kind (Noted (entry.Read k count)) e is h = absurd (clash _ (unread j k count e) h)
       by_kind (Noted (entry.Judged k ask number answer)) e is h = absurd is
       by_kind (Noted (entry.Wrote y count)) e is h =
-          let same : y ≡ x = sym (one_socket x y is) in (
+          let same : y ≡ x = sym (same_equal x y is) in (
             count,
             subst (λ z. slice_get (items j) (place j) ≡ Some (Noted (entry.Wrote z count))) same e,
             subst (λ z. judged_at w.strands at z < total (handed_by z) (take (place j) (items j))) same (leb-false _ _ h),
@@ -279,18 +275,14 @@ differ-at (m ∷ at) (k ∷ all) n low high =
     let first : m ≡ k = omega (arith, low 0, high 0) in
     ap (λ x. x ∷ at) first ∙ ap (λ l. k ∷ l) (differ-at at all (omega (arith, n)) (λ j. low (suc j)) (λ j. high (suc j)))
 
-size-at : (ss : List StrandNow) (j : ℕ) → slice_index (map (λ (s : StrandNow). length s.items) ss) j ≡ length (slice_index_or ss j nothing_at_all).items
+pub size-at : (ss : List StrandNow) (j : ℕ) → slice_index (map (λ (s : StrandNow). length s.items) ss) j ≡ length (slice_index_or ss j nothing_at_all).items
 size-at [] j = refl
 size-at (s ∷ ss) zero = refl
 size-at (s ∷ ss) (suc j) = size-at ss j
 
-count-of : (ss : List StrandNow) → length (map (λ (s : StrandNow). length s.items) ss) ≡ length ss
+pub count-of : (ss : List StrandNow) → length (map (λ (s : StrandNow). length s.items) ss) ≡ length ss
 count-of [] = refl
 count-of (s ∷ ss) = ap suc (count-of ss)
-
-false-of : (b : Bool) → (b ≡ true → ⊥) → b ≡ false
-false-of true h = absurd (h refl)
-false-of false h = refl
 
 pub stops_are_reads : TidyStopsAreReads
 stops_are_reads w u tidy stop = by_byte (first_stop w at w.strands at) refl
@@ -316,11 +308,11 @@ stops_are_reads w u tidy stop = by_byte (first_stop w at w.strands at) refl
     by_byte None e =
         let waits : IsWaiting w at = record {
           count = among;
-          waits = λ j l. false-of (by_bytes w at j) (λ met. stop.greedy.stuck j (record { more = omega (arith, l, size-at w.strands j); met = met }));
+          waits = λ j l. not_true_is_false (by_bytes w at j) (λ met. stop.greedy.stuck j (record { more = omega (arith, l, size-at w.strands j); met = met }));
           reads = λ j. none-reads w at w.strands at j among e;
         } in
         absurd (stop.short (differ-at at (sizes w) counted
-        (λ j. elim (either (slice_index at j) (slice_index (sizes w) j)) [
+        (λ j. elim (below_or_not (slice_index at j) (slice_index (sizes w) j)) [
           | inl l ↦ absurd (all-done w at tidy waits j (omega (arith, l, size-at w.strands j)))
           | inr l ↦ l
         ])

@@ -1,5 +1,5 @@
 -- Where strands have an order before a turn, they have one behind it.
-use Rattle.std.proofs.Common.{◌≡◌, ℕ, zero, suc, ◌+◌, ◌<◌, ◌≤◌, ◌⊎◌, inl, inr, Bool, true, false, if◌then◌else◌, List, [], ◌∷◌, ◌++◌, length, map, take, drop, refl, sym, ap, ◌∙◌, subst, arith, Option, Some, None}
+use Rattle.std.proofs.Common.{◌≡◌, ℕ, zero, suc, ◌+◌, ◌<◌, ◌≤◌, ◌⊎◌, inl, inr, Bool, true, false, if◌then◌else◌, List, [], ◌∷◌, ◌++◌, length, take, drop, refl, sym, ap, ◌∙◌, subst, arith, Option, Some, None}
 use Rattle.std.specs.Prelude.{nat_lt, slice_get, slice_index, slice_index_or}
 use Rattle.std.proofs.lemmas.Option.{slice_get-get_or, slice_get_within}
 use Rattle.std.proofs.lemmas.List.{length-map}
@@ -10,7 +10,7 @@ use Rattle.m2_fabric.specs.Sockets.{same_socket}
 use Rattle.m2_journal.specs.declared.entry.Entry.TheVariants as entry
 use Rattle.m2_weave.specs.Merging.{even}
 use Rattle.m2_weave.specs.Order.{Cut, AreLawful, IsGreedy, IsStuck, come, come_all, nothing, reached}
-use Rattle.m2_weave.proofs.Furthest.{are-lawful, come-length, come-other, come-same, in-range, reached-count, zero-at}
+use Rattle.m2_weave.proofs.Furthest.{are-lawful, come-length, come-other, come-same, reached-count, zero-at}
 use Rattle.m2_weave.specs.declared.strand.StrandItem.{StrandItem}
 use Rattle.m2_weave.specs.declared.strand.StrandItem.TheVariants.{Noted, Handed}
 use Rattle.m2_weave.specs.Strands.{EndOf, StrandNow, other, end_in, handed_by, has_opened, judged_by, place_of, same_side, total, total_at, written_at, written_by, written_in, read_by}
@@ -18,11 +18,13 @@ use Rattle.m2_weave.specs.Rule.{Woven, AreThere, MayCome, by_bytes, byte_at, com
 use Rattle.m2_weave.specs.Stops.{IsWoven, StopsAt, first_stop, sizes}
 use Rattle.m2_weave.specs.Tidy.{TidyStopsAreReads}
 use Rattle.m2_weave.specs.WeaveLaws.{RuleDecides}
-use Rattle.m2_weave.proofs.SameSocket.{one_socket, same_refl}
 use Rattle.m2_weave.specs.Later.{GoesOn, HasRead, HasWritten, HaveGot, IsLater, IsOfTurn, IsTurn, ReadsAt}
 use Rattle.m2_weave.specs.TurnLaws.{HasOrder}
 use Rattle.m2_weave.proofs.Greedy.{greedy_of}
 use Rattle.m2_weave.proofs.Sums.{sum_over, total_on}
+use Rattle.m2_weave.proofs.Tidy.{next-there, size-at, count-of}
+use Rattle.m2_lemmas.proofs.Lists.{index_in_range}
+use Rattle.m2_fabric.proofs.Sockets.{same_equal, same_refl}
 
 -- ---- lists that go on
 
@@ -48,25 +50,11 @@ item-on s t n i on e = ap (λ l. slice_get l n) on.1 ∙ get-on s.items on.0 n i
 first-on : (s t : StrandNow) (n : ℕ) → GoesOn s.items t.items → n ≤ length s.items → take n t.items ≡ take n s.items
 first-on s t n on h = ap (take n) on.1 ∙ take-on n s.items on.0 h
 
-size-at : (ss : List StrandNow) (j : ℕ) → slice_index (map (λ (s : StrandNow). length s.items) ss) j ≡ length (slice_index_or ss j nothing_at_all).items
-size-at [] j = refl
-size-at (s ∷ ss) zero = refl
-size-at (s ∷ ss) (suc j) = size-at ss j
-
-count-of : (ss : List StrandNow) → length (map (λ (s : StrandNow). length s.items) ss) ≡ length ss
-count-of [] = refl
-count-of (s ∷ ss) = ap suc (count-of ss)
-
 -- a strand with items is one of the list
 is-there : (ss : List StrandNow) (j n : ℕ) → n < length (slice_index_or ss j nothing_at_all).items → j < length ss
 is-there [] j n h = absurd (omega (arith, h))
 is-there (s ∷ ss) zero n h = omega arith
 is-there (s ∷ ss) (suc j) n h = let r : j < length ss = is-there ss j n h in omega (arith, r)
-
-next-there : (n : ℕ) (is : List StrandItem) → n < length is → (i : StrandItem) × (slice_get is n ≡ Some i)
-next-there n [] h = absurd (omega (arith, h))
-next-there zero (i ∷ is) h = (i, refl)
-next-there (suc n) (i ∷ is) h = next-there n is (omega (arith, h))
 
 -- ---- bytes
 
@@ -104,7 +92,7 @@ wrote-if : (e : EndOf) (s t : StrandNow) (k : SocketId) (count : ℕ) (b : Bool)
     (if same_side (has_opened s e.socket) e.opener then (if b then count else 0) else 0) ≤ (if same_side (has_opened t e.socket) e.opener then (if b then count else 0) else 0)
 wrote-if e s t k zero true is same = none-if _ _
 wrote-if e s t k (suc count) true is same =
-    let here : has_opened t e.socket ≡ has_opened s e.socket = subst (λ x. has_opened t x ≡ has_opened s x) (sym (one_socket e.socket k is)) (same (omega arith)) in
+    let here : has_opened t e.socket ≡ has_opened s e.socket = subst (λ x. has_opened t x ≡ has_opened s x) (sym (same_equal e.socket k is)) (same (omega arith)) in
     omega (arith, ap (λ b. if same_side b e.opener then suc count else 0) here)
 wrote-if e s t k count false is same = none-if _ _
 
@@ -239,7 +227,7 @@ module _ (old new : Woven) (later : IsLater old new) (got : HaveGot old) where
     all-within : (c : Cut) (order : List ℕ) → length c ≡ length (sizes old) → AreLawful (by_bytes old) (sizes old) c order → AreWithin c at → AreWithin (come_all order c) at
     all-within c [] n l w = w
     all-within c (k ∷ ks) n (may, l) w =
-        let r : k < length c = omega (arith, n, in-range (sizes old) k (slice_index c k) may.more) in
+        let r : k < length c = omega (arith, n, index_in_range (sizes old) k (slice_index c k) may.more) in
         let more : slice_index c k < length (mine k).items = omega (arith, may.more, size-at old.strands k) in
         let h : k < length old.strands = is-there old.strands k (slice_index c k) more in
         all-within (come k c) ks (come-length c k ∙ n) l

@@ -24,6 +24,7 @@ use Rattle.m2_weave.specs.Table.{got_at, lengths_of, names_of, woven_of}
 use Rattle.m2_weave.specs.Stops.{sizes}
 use Rattle.m2_weave.specs.Tally.{CountsAre, IsCounted, end_at, from_at, item_by, number_at}
 use Rattle.m2_weave.proofs.Tallies.{names_count, total_more}
+use Rattle.m2_weave.proofs.Counting.{named-strand}
 
 -- ---- an item as it is counted
 
@@ -106,17 +107,11 @@ named-get names [] n d h l = absurd (omega (arith, l))
 named-get names (x ∷ is) zero d h l = h.0
 named-get names (x ∷ is) (suc n) d h l = named-get names is n d h.1 (omega (arith, l))
 
-strand-named : (names : List SocketId) (ss : List StrandNow) (k : ℕ) → AllByRecursion (λ (s : StrandNow). AllByRecursion (IsNamed names) s.items) ss →
-    AllByRecursion (IsNamed names) (slice_index_or ss k nothing_at_all).items
-strand-named names [] k h = tt
-strand-named names (s ∷ ss) zero h = h.0
-strand-named names (s ∷ ss) (suc k) h = strand-named names ss k h.1
-
 pub item_named : (strands : List Strand) (sockets : List SocketBytes) (k n : ℕ) (d : StrandItem) → AreNamed (names_of sockets) (woven_of strands sockets) →
     n < length (strand_at (woven_of strands sockets) k).items →
     IsNamed (names_of sockets) (slice_index_or (strand_at (woven_of strands sockets) k).items n d)
 item_named strands sockets k n d named h =
-    named-get (names_of sockets) (strand_at (woven_of strands sockets) k).items n d (strand-named (names_of sockets) (map strand_now strands) k named) h
+    named-get (names_of sockets) (strand_at (woven_of strands sockets) k).items n d (named-strand (names_of sockets) (map strand_now strands) k named) h
 
 -- ---- all strands
 
@@ -277,11 +272,3 @@ pub all_get : {X : Type 0} (P : X → Type 0) (xs : List X) (n : ℕ) (d : X) �
 all_get P [] n d h all = absurd (omega (arith, h))
 all_get P (x ∷ xs) zero d h all = all.0
 all_get P (x ∷ xs) (suc n) d h all = all_get P xs n d (omega (arith, h)) all.1
-
-pub all_map : {X Y : Type 0} (P : Y → Type 0) (f : X → Y) (xs : List X) → AllByRecursion (λ x. P (f x)) xs → AllByRecursion P (map f xs)
-all_map P f [] all = tt
-all_map P f (x ∷ xs) all = (all.0, all_map P f xs all.1)
-
-pub map_all : {X Y : Type 0} (P : Y → Type 0) (f : X → Y) (xs : List X) → AllByRecursion P (map f xs) → AllByRecursion (λ x. P (f x)) xs
-map_all P f [] all = tt
-map_all P f (x ∷ xs) all = (all.0, map_all P f xs all.1)

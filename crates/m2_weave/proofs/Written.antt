@@ -14,13 +14,15 @@ use Rattle.m2_weave.specs.Strands.{StrandNow, other, end_in, read_by, total, pla
 use Rattle.m2_weave.specs.Rule.{Woven, byte_at, by_bytes, comes, strand_at}
 use Rattle.m2_weave.specs.Stops.{sizes}
 use Rattle.m2_weave.specs.WeaveLaws.{IsRead, ReadWasWritten}
-use Rattle.m2_weave.proofs.SameSocket.{one_socket}
 use Rattle.m2_weave.proofs.Staying.{byte-stays}
 use Rattle.m2_weave.proofs.Deciding.{read-sound}
+use Rattle.m2_lemmas.proofs.Lists.{index_in_range}
+use Rattle.m2_weave.proofs.Furthest.{zero-at}
+use Rattle.m2_fabric.proofs.Sockets.{same_equal}
 
 -- ---- lists and cuts
 
-total-suc : (f : StrandItem → ℕ) (n : ℕ) (is : List StrandItem) (i : StrandItem) → slice_get is n ≡ Some i → total f (take (suc n) is) ≡ total f (take n is) + f i
+pub total-suc : (f : StrandItem → ℕ) (n : ℕ) (is : List StrandItem) (i : StrandItem) → slice_get is n ≡ Some i → total f (take (suc n) is) ≡ total f (take n is) + f i
 total-suc f n [] i h = absurd (cc)
 total-suc f zero (x ∷ is) i h = let same : x ≡ i = cc in subst (λ y. f x + 0 ≡ 0 + f y) same (omega arith)
 total-suc f (suc n) (x ∷ is) i h =
@@ -41,11 +43,6 @@ get_drop (suc p) i [] = refl
 get_drop (suc p) i (x ∷ xs) =
     let same : suc (p + i) ≡ suc p + i = omega arith in get_drop p i xs ∙ ap (slice_get (x ∷ xs)) same
 
-pub in-range : (xs : List ℕ) (k n : ℕ) → n < slice_index xs k → k < length xs
-in-range [] k n h = omega (arith, h)
-in-range (x ∷ xs) zero n h = omega arith
-in-range (x ∷ xs) (suc k) n h = let r : k < length xs = in-range xs k n h in omega arith
-
 come-each : (at : Cut) (k j : ℕ) → k < length at → (j ≡ k) ⊎ (j ≡ k → ⊥) → slice_index at j ≤ slice_index (come k at) j
 come-each at k j h (inl e) =
     let P : ℕ → Type 0 = λ x. slice_index at x ≤ slice_index (come k at) x in
@@ -58,11 +55,6 @@ come-most at k h = record {
   count = sym (length-set at k (slice_index at k + 1));
   each = λ j. come-each at k j h (cases_eq j k);
 }
-
-pub zero-at : (all : Cut) (k : ℕ) → slice_index (nothing all) k ≡ 0
-zero-at [] k = refl
-zero-at (n ∷ all) zero = refl
-zero-at (n ∷ all) (suc k) = zero-at all k
 
 -- ---- one read
 
@@ -86,7 +78,7 @@ read-if : (w : Woven) (at : Cut) (s : StrandNow) (n : ℕ) (k x : SocketId) (cou
     p < place_of w.strands s n k + (if b then count else 0) → p < length (w.bytes.got (end_in s k)) →
     byte_at w at (other (end_in s k)) p ≡ slice_get (w.bytes.got (end_in s k)) p
 read-if w at s n k x count p true is h low high within =
-    read-here w at s n k count p (subst (λ y. comes w at s n (Some (Noted (entry.Read y count))) ≡ true) (sym (one_socket k x is)) h) low high within
+    read-here w at s n k count p (subst (λ y. comes w at s n (Some (Noted (entry.Read y count))) ≡ true) (sym (same_equal k x is)) h) low high within
 read-if w at s n k x count p false is h low high within = absurd (omega (arith, low, high))
 
 item-here : (w : Woven) (at : Cut) (s : StrandNow) (n : ℕ) (k : SocketId) (p : ℕ) (i : StrandItem) → comes w at s n (Some i) ≡ true →
@@ -149,7 +141,7 @@ all-read : (w : Woven) (at : Cut) (order : List ℕ) → length at ≡ length (s
 unfolding AllRead
 all-read w at [] n l r = r
 all-read w at (k ∷ ks) n (may, l) r =
-    let within : k < length at = omega (arith, n, in-range (sizes w) k (slice_index at k) may.more) in
+    let within : k < length at = omega (arith, n, index_in_range (sizes w) k (slice_index at k) may.more) in
     all-read w (come k at) ks (length-set at k (slice_index at k + 1) ∙ n) l (λ j. one-more w at k j within may.met r (cases_eq j k))
 
 none-read : (w : Woven) (j : ℕ) → IsRead w (nothing (sizes w)) (strand_at w j) (slice_index (nothing (sizes w)) j)

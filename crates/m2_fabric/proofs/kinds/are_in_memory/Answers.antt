@@ -1,13 +1,9 @@
-use Rattle.std.proofs.Common.{◌≡◌, ◌≤◌, ℕ, All, List, [], ◌∷◌, length, map, take, ap, subst, ◌∙◌, arith}
-use Rattle.std.specs.List.{AllByRecursion}
+use Rattle.std.proofs.Common.{◌≡◌, ◌≤◌, ℕ, All, List, ◌∷◌, length, take, ap, subst, ◌∙◌, arith}
 use Rattle.std.proofs.Math.Seq.{take-length}
 use Rattle.std.proofs.lemmas.List.Elements.{All-more, recursion_from_All}
 use Rattle.m2_fabric.specs.Kinds.{IsInMemory}
 use Rattle.m2_fabric.proofs.kinds.are_in_memory.Goals as goal
-
-all_mapped : {X Y : Type 0} (P : Y → Type 0) (f : X → Y) (xs : List X) → AllByRecursion (λ x. P (f x)) xs → AllByRecursion P (map f xs)
-all_mapped P f [] all = tt
-all_mapped P f (x ∷ xs) all = (all.0, all_mapped P f xs all.1)
+use Rattle.m2_lemmas.proofs.Lists.{all_map}
 
 all_taken : {X : Type 0} (P : X → Type 0) (xs : List X) (n : ℕ) → length xs ≤ n → n ≤ length xs → All P (take n xs) → All P xs
 all_taken P xs n least most all =
@@ -20,6 +16,6 @@ ends-preserved g c =
 
 pub returns : goal.returns
 returns g c =
-    all_mapped IsInMemory g.E.End.seen c.args.ends.now
+    all_map IsInMemory g.E.End.seen c.args.ends.now
     (recursion_from_All (λ e. IsInMemory (g.E.End.seen e)) c.args.ends.now
     (all_taken (λ e. IsInMemory (g.E.End.seen e)) c.args.ends.now c.ends.end-index c.ends-test.false c.ends.auto.end-index-end c.ends.invariant))

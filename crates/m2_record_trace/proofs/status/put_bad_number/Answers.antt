@@ -1,7 +1,7 @@
 use Rattle.std.proofs.Common.{codes, decimal}
 use Rattle.m2_record_trace.specs.Status.{bad_number}
-use Rattle.m2_record_trace.proofs.Appended.{behind}
 use Rattle.m2_record_trace.proofs.status.put_bad_number.Goals as goal
+use Rattle.m2_bytes.proofs.Appending.{behind}
 
 pub returns : goal.returns
 unfolding bad_number

@@ -7,8 +7,9 @@ use Rattle.m2_weave.specs.declared.strand.StrandItem.{StrandItem}
 use Rattle.m2_weave.specs.Strands.{StrandNow, strand_now}
 use Rattle.m2_weave.specs.Counting.{IsNamed}
 use Rattle.m2_weave.specs.Table.{names_of}
-use Rattle.m2_weave.proofs.Whole.{all_get, all_map, map_all}
+use Rattle.m2_weave.proofs.Whole.{all_get}
 use Rattle.m2_weave.proofs.weaving.are_named.Goals as goal
+use Rattle.m2_lemmas.proofs.Lists.{all_map, all_of_map}
 
 pub returns-then-not-all_named : goal.returns-then-not-all_named
 returns-then-not-all_named c =
@@ -18,7 +19,7 @@ returns-then-not-all_named c =
       λ e. absurd (cc),
       λ named. absurd (true≢false (sym (c.all_named.ensures.1
           (subst R (sym (c.as_slice.ensures ∙ ap (λ (s : Strand). s.items.items) c.s-item.is))
-          (all_get Q c.args.strands.now c.loop-s.s-index c.s-item.result (omega arith) (map_all P strand_now c.args.strands.now named))))
+          (all_get Q c.args.strands.now c.loop-s.s-index c.s-item.result (omega arith) (all_of_map P strand_now c.args.strands.now named))))
           ∙ c.if-not-all_named.true)),
     )
 

@@ -1,0 +1,5 @@
+pub mod Numbers
+pub mod Booleans
+pub mod Lists
+pub mod Bytes
+pub mod Options
