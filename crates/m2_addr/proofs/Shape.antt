@@ -15,7 +15,7 @@ use Rattle.m2_addr.specs.Grammar.{IsBytes, ◌▹◌, IsByte, IsNumber, IsText, 
 use Rattle.m2_addr.specs.Addr.{Shape, IsShape, TakesShape, TakesAddress, IsSound, IsWellFormed, bare, any_text, head_text, text_of, is_ipv4, ipv4_of, seen, IsAddress, head_at, socket_at, body_at, body_of, shape_at, address_at, ipv4_at}
 use Rattle.m2_addr.specs.Outcome.{Fails, GivesFront}
 use Rattle.m2_addr.proofs.Exact.{bind_ok, ok_is, Took, IsExact, wide32, number_exact, byte_exact, prefix_exact, bind_exact, checked_exact, marked_exact, seq_exact, image_exact, same_exact}
-use Rattle.m2_lemmas.proofs.Numbers.{tested_isnt_zero, not_zero_is_tested}
+use Rattle.m2_bytes.proofs.m2_lemmas.Numbers.{tested_isnt_zero, not_zero_is_tested}
 
 -- ---- tests
 

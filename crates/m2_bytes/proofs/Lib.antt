@@ -1,3 +1,4 @@
 mod Decimals
 mod HexText
 pub mod Appending
+pub use Rattle.m2_lemmas.proofs as m2_lemmas

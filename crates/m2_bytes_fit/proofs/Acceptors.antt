@@ -5,34 +5,34 @@ use Rattle.std.specs.List.{AllByRecursion, flat_map}
 use Rattle.std.proofs.lemmas.List.{map-append}
 use Rattle.std.proofs.lemmas.Grind.{flat_map-append}
 use Rattle.std.proofs.Math.Seq.{drop-append_seam}
-use Rattle.m2_addr.specs.declared.addr.Addr.{Addr}
-use Rattle.m2_control.specs.declared.control.Control.{Control}
-use Rattle.m2_control.specs.declared.control.Control.TheVariants as control
-use Rattle.m2_control.specs.Laws.{HasAddrRanges}
-use Rattle.m2_frame.specs.Frame.{Parts}
-use Rattle.m2_frame.specs.Reading.{whole, start, text, judge}
-use Rattle.m2_frame.specs.Text as frame
-use Rattle.m2_handshake.specs.declared.ask.Ask.{Ask}
-use Rattle.m2_handshake.specs.declared.fault.HalfFault.{HalfFault}
-use Rattle.m2_handshake.specs.declared.stage.HalfSide.{HalfSide}
-use Rattle.m2_handshake.specs.declared.stage.HalfSide.TheVariants.{Acceptor}
-use Rattle.m2_handshake.specs.declared.stage.Stage.{Stage}
-use Rattle.m2_handshake.specs.declared.stage.Stage.TheVariants.{Opening, Banner, Waits, Authed, Asked, Ended, Faulty}
-use Rattle.m2_handshake.specs.Asking.{after_reply}
-use Rattle.m2_handshake.specs.Asks.{asked_of, under, ask_in}
-use Rattle.m2_handshake.specs.Course as course
-use Rattle.m2_handshake.specs.Course.{course_move_at, course_move, signed_move, Event, silent, wrote, failed, replied, Step, rests, goes, step_by, step_of, answered, Goes, Runs, text_in, asks_in, replies_in, text_of, asks_of, replies_of, Exchange, Reaches, Signs}
-use Rattle.m2_handshake.specs.Greeting.{greeting, welcome}
-use Rattle.m2_handshake.specs.Laws.{IsPrefix, GoesOnTo}
-use Rattle.m2_handshake.specs.Moves.{Move, stays, quiet, writes, signs, asks, fails, take_frame, after_asking, read_held, refuse_held}
-use Rattle.m2_handshake.specs.Standing.{Standing, fed, fed_at, acceptor_at_start}
-use Rattle.m2_handshake.specs.Texts.{frame_text, IsReply}
-use Rattle.m2_handshake.proofs.Course.{feeds, next, ways}
-use Rattle.m2_handshake.proofs.Greeting.{at, payload_read, signs_there}
-use Rattle.m2_handshake.proofs.Reaching.{fed_twice}
-use Rattle.m2_journal.specs.OutFrames as out
-use Rattle.m2_journal.specs.OutFrames.{OutFrame, client_ident_of}
-use Rattle.m2_journal.specs.SideFacts.{SideFacts}
+use Rattle.m2_feed.specs.m2_addr.declared.addr.Addr.{Addr}
+use Rattle.m2_feed.specs.m2_control.declared.control.Control.{Control}
+use Rattle.m2_feed.specs.m2_control.declared.control.Control.TheVariants as control
+use Rattle.m2_feed.specs.m2_control.Laws.{HasAddrRanges}
+use Rattle.m2_feed.specs.m2_frame.Frame.{Parts}
+use Rattle.m2_feed.specs.m2_frame.Reading.{whole, start, text, judge}
+use Rattle.m2_feed.specs.m2_frame.Text as frame
+use Rattle.m2_feed.specs.m2_handshake.declared.ask.Ask.{Ask}
+use Rattle.m2_feed.specs.m2_handshake.declared.fault.HalfFault.{HalfFault}
+use Rattle.m2_feed.specs.m2_handshake.declared.stage.HalfSide.{HalfSide}
+use Rattle.m2_feed.specs.m2_handshake.declared.stage.HalfSide.TheVariants.{Acceptor}
+use Rattle.m2_feed.specs.m2_handshake.declared.stage.Stage.{Stage}
+use Rattle.m2_feed.specs.m2_handshake.declared.stage.Stage.TheVariants.{Opening, Banner, Waits, Authed, Asked, Ended, Faulty}
+use Rattle.m2_feed.specs.m2_handshake.Asking.{after_reply}
+use Rattle.m2_feed.specs.m2_handshake.Asks.{asked_of, under, ask_in}
+use Rattle.m2_feed.specs.m2_handshake.Course as course
+use Rattle.m2_feed.specs.m2_handshake.Course.{course_move_at, course_move, signed_move, Event, silent, wrote, failed, replied, Step, rests, goes, step_by, step_of, answered, Goes, Runs, text_in, asks_in, replies_in, text_of, asks_of, replies_of, Exchange, Reaches, Signs}
+use Rattle.m2_feed.specs.m2_handshake.Greeting.{greeting, welcome}
+use Rattle.m2_feed.specs.m2_handshake.Laws.{IsPrefix, GoesOnTo}
+use Rattle.m2_feed.specs.m2_handshake.Moves.{Move, stays, quiet, writes, signs, asks, fails, take_frame, after_asking, read_held, refuse_held}
+use Rattle.m2_feed.specs.m2_handshake.Standing.{Standing, fed, fed_at, acceptor_at_start}
+use Rattle.m2_feed.specs.m2_handshake.Texts.{frame_text, IsReply}
+use Rattle.m2_feed.proofs.m2_handshake.Course.{feeds, next, ways}
+use Rattle.m2_feed.proofs.m2_handshake.Greeting.{at, payload_read, signs_there}
+use Rattle.m2_feed.proofs.m2_handshake.Reaching.{fed_twice}
+use Rattle.m2_feed.specs.m2_journal.OutFrames as out
+use Rattle.m2_feed.specs.m2_journal.OutFrames.{OutFrame, client_ident_of}
+use Rattle.m2_feed.specs.m2_journal.SideFacts.{SideFacts}
 use Rattle.m2_never_reset.specs.Asks as crossing
 use Rattle.m2_feed.specs.FeedLaws.{reconnect_of}
 use Rattle.m2_never_reset.specs.Fits.{ask_by}
@@ -41,7 +41,7 @@ use Rattle.m2_trail.specs.Asks.{facts_of_ask}
 use Rattle.m2_bytes_fit.specs.Texts.{texts_of}
 use Rattle.m2_bytes_fit.proofs.Fronts.{is_judged}
 use Rattle.m2_bytes_fit.proofs.Says.{CanBeWritten, part, text_made, writable}
-use Rattle.m2_lemmas.proofs.Lists.{all_back, empty_front}
+use Rattle.m2_feed.proofs.m2_lemmas.Lists.{all_back, empty_front}
 
 -- an ask, as the frame that asks it
 abbrev pub as_asked : Ask → Option crossing.Ask

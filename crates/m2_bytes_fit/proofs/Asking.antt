@@ -3,27 +3,27 @@ use Rattle.std.proofs.Common.{◌≡◌, ℕ, ◌+◌, ◌≤◌, ◌⊎◌, inl
 use Rattle.std.specs.List.{AllByRecursion, filter}
 use Rattle.std.proofs.lemmas.List.{map-append}
 use Rattle.std.proofs.lemmas.List.Elements.{filter-append}
-use Rattle.m2_session.specs.declared.ask.AskFacts.{AskFacts}
-use Rattle.m2_fabric.specs.declared.socket.SocketId.{SocketId}
-use Rattle.m2_fabric.specs.Sockets.{same_socket}
-use Rattle.m2_message.specs.Message.{Content}
-use Rattle.m2_queues.specs.OutQueues.{message_at}
-use Rattle.m2_queues.specs.QueueLaws.{Next}
-use Rattle.m2_session.specs.declared.answer.Answer.{Answer}
-use Rattle.m2_session.specs.declared.event.Event.TheVariants as event
-use Rattle.m2_session.specs.declared.session.Phase.TheVariants as phase
-use Rattle.m2_session.specs.SessionLaws.{takes}
-use Rattle.m2_journal.specs.declared.entry.JudgedItem.{JudgedItem}
-use Rattle.m2_journal.specs.Feeds.{hears, opened_feed, next_said, narrowed, finished, texts_at}
-use Rattle.m2_journal.specs.Items as item
-use Rattle.m2_journal.specs.Items.{JournalItem}
-use Rattle.m2_journal.specs.Lawful.{Lawful, OnFeedAt, MayAsk, judged_on}
-use Rattle.m2_journal.specs.Laws.{IfFed}
-use Rattle.m2_journal.specs.OutFrames as out
-use Rattle.m2_journal.specs.OutFrames.{OutFrame, is_unnamed, replies_of}
-use Rattle.m2_journal.specs.SideFacts.{SideFacts, cookie_of}
-use Rattle.m2_journal.specs.State.{PartText, Feed, Judgement, SentFrame, State}
-use Rattle.m2_journal.specs.Steps.{acceptance, accepts, after, breaks, composes, event_heard, event_of, forgets, is_on, is_waiting, notes, puts_on, queues, sends, takes_answer, takes_socket, tells, tells_if, with_feed, writes_message}
+use Rattle.m2_feed.specs.m2_session.declared.ask.AskFacts.{AskFacts}
+use Rattle.m2_feed.specs.m2_fabric.declared.socket.SocketId.{SocketId}
+use Rattle.m2_feed.specs.m2_fabric.Sockets.{same_socket}
+use Rattle.m2_feed.specs.m2_message.Message.{Content}
+use Rattle.m2_never_reset.specs.m2_queues.OutQueues.{message_at}
+use Rattle.m2_never_reset.specs.m2_queues.QueueLaws.{Next}
+use Rattle.m2_feed.specs.m2_session.declared.answer.Answer.{Answer}
+use Rattle.m2_feed.specs.m2_session.declared.event.Event.TheVariants as event
+use Rattle.m2_feed.specs.m2_session.declared.session.Phase.TheVariants as phase
+use Rattle.m2_feed.specs.m2_session.SessionLaws.{takes}
+use Rattle.m2_feed.specs.m2_journal.declared.entry.JudgedItem.{JudgedItem}
+use Rattle.m2_feed.specs.m2_journal.Feeds.{hears, opened_feed, next_said, narrowed, finished, texts_at}
+use Rattle.m2_feed.specs.m2_journal.Items as item
+use Rattle.m2_feed.specs.m2_journal.Items.{JournalItem}
+use Rattle.m2_feed.specs.m2_journal.Lawful.{Lawful, OnFeedAt, MayAsk, judged_on}
+use Rattle.m2_feed.specs.m2_journal.Laws.{IfFed}
+use Rattle.m2_feed.specs.m2_journal.OutFrames as out
+use Rattle.m2_feed.specs.m2_journal.OutFrames.{OutFrame, is_unnamed, replies_of}
+use Rattle.m2_feed.specs.m2_journal.SideFacts.{SideFacts, cookie_of}
+use Rattle.m2_feed.specs.m2_journal.State.{PartText, Feed, Judgement, SentFrame, State}
+use Rattle.m2_feed.specs.m2_journal.Steps.{acceptance, accepts, after, breaks, composes, event_heard, event_of, forgets, is_on, is_waiting, notes, puts_on, queues, sends, takes_answer, takes_socket, tells, tells_if, with_feed, writes_message}
 use Rattle.m2_never_reset.specs.Frames.{is_ask, ask_of, asks_on, to_come}
 use Rattle.m2_never_reset.specs.PairLaws.{IsNoDown}
 use Rattle.m2_never_reset.specs.LinkOf.{judged_count}
@@ -37,8 +37,8 @@ use Rattle.m2_bytes_fit.proofs.Judges.{replies_no_asks, judged_here}
 use Rattle.m2_bytes_fit.proofs.Less.{Less, FeedLess, less_top, tells_less, tells_if_less}
 use Rattle.m2_bytes_fit.proofs.Lists.{none_not_some}
 use Rattle.m2_bytes_fit.proofs.Says.{NoAsk}
-use Rattle.m2_lemmas.proofs.Booleans.{from_false_true}
-use Rattle.m2_fabric.proofs.Sockets.{same_refl, same_turned}
+use Rattle.m2_feed.proofs.m2_lemmas.Booleans.{from_false_true}
+use Rattle.m2_feed.proofs.m2_fabric.Sockets.{same_refl, same_turned}
 
 -- ---- which asks are sent
 

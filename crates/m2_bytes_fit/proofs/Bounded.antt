@@ -5,48 +5,48 @@ use Rattle.std.specs.Prelude.{IfSome, nat_lt, nat_le, slice_get}
 use Rattle.std.specs.List.{AllByRecursion, filter}
 use Rattle.std.specs.Option.{option_to_list}
 use Rattle.std.proofs.lemmas.Bool.{eq-eqb}
-use Rattle.m2_session.specs.declared.ask.AskFacts.{AskFacts}
-use Rattle.m2_control.specs.declared.control.Control.TheVariants as control
-use Rattle.m2_control.specs.declared.fields.TheConstants.{GREATEST_NUMBER}
-use Rattle.m2_control.specs.Banner.{begins}
-use Rattle.m2_fabric.specs.declared.socket.SocketId.{SocketId}
-use Rattle.m2_frame.specs.Reading.{Item}
-use Rattle.m2_message.specs.Message.{Content, priority_of}
-use Rattle.m2_policy.specs.declared.path.Key.{Key}
-use Rattle.m2_queues.specs.ByRank.{put_behind}
-use Rattle.m2_queues.specs.QueueLaws.{Call, Post, Next, Sent, Acked, Requeue, Renumber, Discard, History, after_call}
-use Rattle.m2_queues.specs.OutQueues.{Queue, after_next, after_sent, after_acked, message_at}
-use Rattle.m2_session.specs.declared.answer.Answer.{Answer}
-use Rattle.m2_session.specs.declared.event.Effects.{Effects}
-use Rattle.m2_session.specs.declared.event.Event.{Event}
-use Rattle.m2_session.specs.declared.event.Event.TheVariants as event
-use Rattle.m2_session.specs.declared.session.Phase.TheVariants as phase
-use Rattle.m2_session.specs.declared.session.Session.{Session}
-use Rattle.m2_session.specs.Conditions.{is_kept}
-use Rattle.m2_session.specs.SessionLaws as session
-use Rattle.m2_session.specs.Phases as phases
-use Rattle.m2_session.specs.Steps.{step_of, fault_rows, closes}
-use Rattle.m2_session.proofs.Rows.{each_answer}
-use Rattle.m2_handshake.specs.Course as hand
-use Rattle.m2_handshake.specs.Course.{Course, course_of}
-use Rattle.m2_handshake.specs.Moves.{is_authed}
-use Rattle.m2_handshake.specs.Standing.{Standing, fed, opener_at_start}
-use Rattle.m2_journal.specs.Feeds.{acknowledgements, begun, finished, goes_on, greets, hears, hears_at, keepalive_answers, narrowed, next_place, next_said, owed_numbers, silent_feed, split_into, stamp_of, stamps_in, texts_at, unnamed, without_first}
-use Rattle.m2_journal.specs.Items as item
-use Rattle.m2_journal.specs.Items.{JournalItem}
-use Rattle.m2_journal.specs.Laws.{IfFed}
-use Rattle.m2_journal.specs.OutFrames as out
-use Rattle.m2_journal.specs.OutFrames.{OutFrame, is_unnamed, replies_of}
-use Rattle.m2_journal.specs.Plan.{Planned, to_post, to_dial, to_go_down}
-use Rattle.m2_journal.specs.Said.{Said, says, brings, aborts, garbles, said, split}
-use Rattle.m2_journal.specs.SideFacts.{SideFacts, cookie_of}
-use Rattle.m2_journal.specs.State.{PartText, Feed, State}
-use Rattle.m2_journal.specs.Steps as steps
-use Rattle.m2_journal.specs.Steps.{accepts, after, answers, breaks, composes, discards, event_heard, event_of, forgets, has_effects, is_on, is_waiting, notes, on_feed_at, posts, puts, puts_on, queues, reads, sends, sends_late, sets_back, takes_answer, takes_answer_if, takes_socket, tells, tells_if, tells_of_reset, where_true, with_feed, writes_message}
+use Rattle.m2_feed.specs.m2_session.declared.ask.AskFacts.{AskFacts}
+use Rattle.m2_feed.specs.m2_control.declared.control.Control.TheVariants as control
+use Rattle.m2_feed.specs.m2_control.declared.fields.TheConstants.{GREATEST_NUMBER}
+use Rattle.m2_feed.specs.m2_control.Banner.{begins}
+use Rattle.m2_feed.specs.m2_fabric.declared.socket.SocketId.{SocketId}
+use Rattle.m2_feed.specs.m2_frame.Reading.{Item}
+use Rattle.m2_feed.specs.m2_message.Message.{Content, priority_of}
+use Rattle.m2_feed.specs.m2_policy.declared.path.Key.{Key}
+use Rattle.m2_never_reset.specs.m2_queues.ByRank.{put_behind}
+use Rattle.m2_never_reset.specs.m2_queues.QueueLaws.{Call, Post, Next, Sent, Acked, Requeue, Renumber, Discard, History, after_call}
+use Rattle.m2_never_reset.specs.m2_queues.OutQueues.{Queue, after_next, after_sent, after_acked, message_at}
+use Rattle.m2_feed.specs.m2_session.declared.answer.Answer.{Answer}
+use Rattle.m2_feed.specs.m2_session.declared.event.Effects.{Effects}
+use Rattle.m2_feed.specs.m2_session.declared.event.Event.{Event}
+use Rattle.m2_feed.specs.m2_session.declared.event.Event.TheVariants as event
+use Rattle.m2_feed.specs.m2_session.declared.session.Phase.TheVariants as phase
+use Rattle.m2_feed.specs.m2_session.declared.session.Session.{Session}
+use Rattle.m2_feed.specs.m2_session.Conditions.{is_kept}
+use Rattle.m2_feed.specs.m2_session.SessionLaws as session
+use Rattle.m2_feed.specs.m2_session.Phases as phases
+use Rattle.m2_feed.specs.m2_session.Steps.{step_of, fault_rows, closes}
+use Rattle.m2_feed.proofs.m2_session.Rows.{each_answer}
+use Rattle.m2_feed.specs.m2_handshake.Course as hand
+use Rattle.m2_feed.specs.m2_handshake.Course.{Course, course_of}
+use Rattle.m2_feed.specs.m2_handshake.Moves.{is_authed}
+use Rattle.m2_feed.specs.m2_handshake.Standing.{Standing, fed, opener_at_start}
+use Rattle.m2_feed.specs.m2_journal.Feeds.{acknowledgements, begun, finished, goes_on, greets, hears, hears_at, keepalive_answers, narrowed, next_place, next_said, owed_numbers, silent_feed, split_into, stamp_of, stamps_in, texts_at, unnamed, without_first}
+use Rattle.m2_feed.specs.m2_journal.Items as item
+use Rattle.m2_feed.specs.m2_journal.Items.{JournalItem}
+use Rattle.m2_feed.specs.m2_journal.Laws.{IfFed}
+use Rattle.m2_feed.specs.m2_journal.OutFrames as out
+use Rattle.m2_feed.specs.m2_journal.OutFrames.{OutFrame, is_unnamed, replies_of}
+use Rattle.m2_feed.specs.m2_journal.Plan.{Planned, to_post, to_dial, to_go_down}
+use Rattle.m2_feed.specs.m2_journal.Said.{Said, says, brings, aborts, garbles, said, split}
+use Rattle.m2_feed.specs.m2_journal.SideFacts.{SideFacts, cookie_of}
+use Rattle.m2_feed.specs.m2_journal.State.{PartText, Feed, State}
+use Rattle.m2_feed.specs.m2_journal.Steps as steps
+use Rattle.m2_feed.specs.m2_journal.Steps.{accepts, after, answers, breaks, composes, discards, event_heard, event_of, forgets, has_effects, is_on, is_waiting, notes, on_feed_at, posts, puts, puts_on, queues, reads, sends, sends_late, sets_back, takes_answer, takes_answer_if, takes_socket, tells, tells_if, tells_of_reset, where_true, with_feed, writes_message}
 use Rattle.m2_never_reset.specs.Fits.{Says, IsRefusal, AreSaid}
 use Rattle.m2_bytes_fit.specs.Texts.{KeepsFields, CanBePosted}
-use Rattle.m2_lemmas.proofs.Booleans.{from_false_true}
-use Rattle.m2_lemmas.proofs.Lists.{all_append}
+use Rattle.m2_feed.proofs.m2_lemmas.Booleans.{from_false_true}
+use Rattle.m2_feed.proofs.m2_lemmas.Lists.{all_append}
 
 -- ---- the session
 

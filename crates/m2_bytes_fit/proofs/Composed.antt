@@ -5,43 +5,43 @@ use Rattle.std.specs.Prelude.{IfSome}
 use Rattle.std.specs.List.{AllByRecursion, filter, filter_map}
 use Rattle.std.proofs.lemmas.Bool.{eq-eqb}
 use Rattle.std.proofs.lemmas.List.{map-append}
-use Rattle.m2_session.specs.declared.ask.AskFacts.{AskFacts}
-use Rattle.m2_session.specs.Asks as asks
-use Rattle.m2_control.specs.declared.control.Control.TheVariants as control
-use Rattle.m2_control.specs.declared.fields.TheConstants.{GREATEST_NUMBER}
-use Rattle.m2_control.specs.declared.server_ident.ServerIdent.{ServerIdent}
-use Rattle.m2_control.specs.declared.session_retry.SessionRetry.{SessionRetry}
-use Rattle.m2_fabric.specs.declared.socket.SocketId.{SocketId}
-use Rattle.m2_fabric.specs.Sockets.{is_among, same_socket}
-use Rattle.m2_message.specs.Message.{Content}
-use Rattle.m2_policy.specs.declared.path.Key.{Key}
-use Rattle.m2_queues.specs.QueueLaws.{Next}
-use Rattle.m2_queues.specs.OutQueues.{message_at}
-use Rattle.m2_session.specs.declared.answer.Answer.{Answer}
-use Rattle.m2_session.specs.declared.answer.Answer.TheVariants as answer
-use Rattle.m2_session.specs.declared.event.Event.TheVariants as event
-use Rattle.m2_session.specs.declared.session.Phase.{Phase}
-use Rattle.m2_session.specs.declared.session.Session.{Session}
-use Rattle.m2_session.specs.Ident.{ident_answer, ident_rows}
-use Rattle.m2_session.specs.SessionLaws as session
-use Rattle.m2_session.specs.SessionLaws.{takes, ident_event, reconnect_event}
-use Rattle.m2_session.specs.Reconnect.{reconnect_answer, reconnect_rows}
-use Rattle.m2_session.specs.Steps.{step_of}
-use Rattle.m2_session.proofs.Rows.{each_answer}
+use Rattle.m2_feed.specs.m2_session.declared.ask.AskFacts.{AskFacts}
+use Rattle.m2_feed.specs.m2_session.Asks as asks
+use Rattle.m2_feed.specs.m2_control.declared.control.Control.TheVariants as control
+use Rattle.m2_feed.specs.m2_control.declared.fields.TheConstants.{GREATEST_NUMBER}
+use Rattle.m2_feed.specs.m2_control.declared.server_ident.ServerIdent.{ServerIdent}
+use Rattle.m2_feed.specs.m2_control.declared.session_retry.SessionRetry.{SessionRetry}
+use Rattle.m2_feed.specs.m2_fabric.declared.socket.SocketId.{SocketId}
+use Rattle.m2_feed.specs.m2_fabric.Sockets.{is_among, same_socket}
+use Rattle.m2_feed.specs.m2_message.Message.{Content}
+use Rattle.m2_feed.specs.m2_policy.declared.path.Key.{Key}
+use Rattle.m2_never_reset.specs.m2_queues.QueueLaws.{Next}
+use Rattle.m2_never_reset.specs.m2_queues.OutQueues.{message_at}
+use Rattle.m2_feed.specs.m2_session.declared.answer.Answer.{Answer}
+use Rattle.m2_feed.specs.m2_session.declared.answer.Answer.TheVariants as answer
+use Rattle.m2_feed.specs.m2_session.declared.event.Event.TheVariants as event
+use Rattle.m2_feed.specs.m2_session.declared.session.Phase.{Phase}
+use Rattle.m2_feed.specs.m2_session.declared.session.Session.{Session}
+use Rattle.m2_feed.specs.m2_session.Ident.{ident_answer, ident_rows}
+use Rattle.m2_feed.specs.m2_session.SessionLaws as session
+use Rattle.m2_feed.specs.m2_session.SessionLaws.{takes, ident_event, reconnect_event}
+use Rattle.m2_feed.specs.m2_session.Reconnect.{reconnect_answer, reconnect_rows}
+use Rattle.m2_feed.specs.m2_session.Steps.{step_of}
+use Rattle.m2_feed.proofs.m2_session.Rows.{each_answer}
 use Rattle.m2_never_reset.specs.Asks.{Ask, by_ident, by_reconnect}
-use Rattle.m2_journal.specs.declared.entry.JudgedItem.{JudgedItem}
-use Rattle.m2_journal.specs.Feeds.{answer_said, hears, narrowed, finished, next_place, next_said, texts_at}
-use Rattle.m2_journal.specs.Items as item
-use Rattle.m2_journal.specs.Items.{JournalItem}
-use Rattle.m2_journal.specs.Lawful.{IsNext, IsReadable, Lawful, MayAccept, MayAsk, MayNumber, OnFeedAt, judged_on, judged_sockets}
-use Rattle.m2_journal.specs.Laws.{IfFed}
-use Rattle.m2_journal.specs.OutFrames as out
-use Rattle.m2_journal.specs.OutFrames.{OutFrame, is_unnamed, replies_of}
-use Rattle.m2_journal.specs.Said.{Said, says, brings, aborts, garbles, said}
-use Rattle.m2_journal.specs.SideFacts.{SideFacts, cookie_of}
-use Rattle.m2_journal.specs.State.{PartText, Feed, Judgement, SentFrame, State, start}
-use Rattle.m2_journal.specs.Steps.{acceptance, accepts, after, answer_to, breaks, composes, event_at, event_heard, event_of, event_on, forgets, heeds, is_on, is_waiting, kept_of, notes, on_feed_at, posts, puts, puts_on, queues, reads, sends, takes_answer, takes_socket, tells, tells_if, with_feed, writes_message}
-use Rattle.m2_journal.proofs.Sessions.{goes, tells-session, told-session}
+use Rattle.m2_feed.specs.m2_journal.declared.entry.JudgedItem.{JudgedItem}
+use Rattle.m2_feed.specs.m2_journal.Feeds.{answer_said, hears, narrowed, finished, next_place, next_said, texts_at}
+use Rattle.m2_feed.specs.m2_journal.Items as item
+use Rattle.m2_feed.specs.m2_journal.Items.{JournalItem}
+use Rattle.m2_feed.specs.m2_journal.Lawful.{IsNext, IsReadable, Lawful, MayAccept, MayAsk, MayNumber, OnFeedAt, judged_on, judged_sockets}
+use Rattle.m2_feed.specs.m2_journal.Laws.{IfFed}
+use Rattle.m2_feed.specs.m2_journal.OutFrames as out
+use Rattle.m2_feed.specs.m2_journal.OutFrames.{OutFrame, is_unnamed, replies_of}
+use Rattle.m2_feed.specs.m2_journal.Said.{Said, says, brings, aborts, garbles, said}
+use Rattle.m2_feed.specs.m2_journal.SideFacts.{SideFacts, cookie_of}
+use Rattle.m2_feed.specs.m2_journal.State.{PartText, Feed, Judgement, SentFrame, State, start}
+use Rattle.m2_feed.specs.m2_journal.Steps.{acceptance, accepts, after, answer_to, breaks, composes, event_at, event_heard, event_of, event_on, forgets, heeds, is_on, is_waiting, kept_of, notes, on_feed_at, posts, puts, puts_on, queues, reads, sends, takes_answer, takes_socket, tells, tells_if, with_feed, writes_message}
+use Rattle.m2_feed.proofs.m2_journal.Sessions.{goes, tells-session, told-session}
 use Rattle.m2_never_reset.specs.Fits.{Says, AreSaid, HearsAt, AreItsAsks, ask_by}
 use Rattle.m2_never_reset.specs.Frames.{ask_of, is_ask, frames_on, asks_on, answers_on}
 use Rattle.m2_never_reset.specs.PairLaws.{IsNoDown}
@@ -58,9 +58,9 @@ use Rattle.m2_bytes_fit.proofs.Bounded.{SessionIsBounded, EventIsBounded, RestIs
 use Rattle.m2_bytes_fit.proofs.Entries.{posts_less, heeds_less, accepts_less}
 use Rattle.m2_bytes_fit.proofs.Formats.{ack_keeps, client_ident_keeps, drawn_below, drawn_some, numbered_keeps, reconnect_keeps, reconnect_ok_keeps, reset_keeps, retry_keeps, retry_global_keeps, server_ident_keeps, wait_keeps}
 use Rattle.m2_bytes_fit.proofs.Less.{tells_less, tells_if_less}
-use Rattle.m2_lemmas.proofs.Booleans.{from_false_true}
-use Rattle.m2_fabric.proofs.Sockets.{among_last}
-use Rattle.m2_lemmas.proofs.Lists.{all_append}
+use Rattle.m2_feed.proofs.m2_lemmas.Booleans.{from_false_true}
+use Rattle.m2_feed.proofs.m2_fabric.Sockets.{among_last}
+use Rattle.m2_feed.proofs.m2_lemmas.Lists.{all_append}
 
 -- a node of a lossless link, whose facts keep the ranges of their types
 pub record IsNode (f : SideFacts) : Type 0 where

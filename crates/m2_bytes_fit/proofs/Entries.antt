@@ -1,27 +1,27 @@
 -- Every lawful entry keeps what is kept of each socket.
 use Rattle.std.proofs.Common.{◌≡◌, ℕ, ◌+◌, ◌⊎◌, inl, inr, Bool, true, false, if◌then◌else◌, List, [], ◌∷◌, ◌++◌, map, Option, Some, None, refl, sym, ap, ◌∙◌, subst}
-use Rattle.m2_session.specs.declared.ask.AskFacts.{AskFacts}
-use Rattle.m2_fabric.specs.Sockets.{is_among, same_socket}
-use Rattle.m2_message.specs.Message.{Content}
-use Rattle.m2_policy.specs.declared.path.Key.{Key}
-use Rattle.m2_queues.specs.OutQueues.{message_at}
-use Rattle.m2_queues.specs.QueueLaws.{Next, Sent, Acked}
-use Rattle.m2_session.specs.declared.event.Event.{Event}
-use Rattle.m2_session.specs.declared.event.Event.TheVariants as event
-use Rattle.m2_session.specs.declared.session.Phase.TheVariants as phase
-use Rattle.m2_session.specs.SessionLaws.{takes}
-use Rattle.m2_journal.specs.Feeds.{begun, hears, next_said, taken_feed}
-use Rattle.m2_journal.specs.Items as item
-use Rattle.m2_journal.specs.Items.{JournalItem}
-use Rattle.m2_journal.specs.Lawful.{Lawful, OnFeedAt, GoesOn, MayAsk, MayNumber}
-use Rattle.m2_journal.specs.Laws.{IfFed}
-use Rattle.m2_journal.specs.OutFrames as out
-use Rattle.m2_journal.specs.OutFrames.{OutFrame, is_unnamed, replies_of}
-use Rattle.m2_journal.specs.Plan.{Planned, to_post, to_dial, to_go_down}
-use Rattle.m2_journal.specs.Said.{Said, says, brings, aborts, garbles}
-use Rattle.m2_journal.specs.SideFacts.{SideFacts, cookie_of}
-use Rattle.m2_journal.specs.State.{Feed, State}
-use Rattle.m2_journal.specs.Steps.{acceptance, acknowledged_by, accepts, after, breaks, composes, event_heard, event_of, forgets, heeds, is_on, is_waiting, notes, posts, puts, queues, sends, takes_answer, takes_socket, tells, tells_if, wants_dial, with_feed, writes_message}
+use Rattle.m2_feed.specs.m2_session.declared.ask.AskFacts.{AskFacts}
+use Rattle.m2_feed.specs.m2_fabric.Sockets.{is_among, same_socket}
+use Rattle.m2_feed.specs.m2_message.Message.{Content}
+use Rattle.m2_feed.specs.m2_policy.declared.path.Key.{Key}
+use Rattle.m2_never_reset.specs.m2_queues.OutQueues.{message_at}
+use Rattle.m2_never_reset.specs.m2_queues.QueueLaws.{Next, Sent, Acked}
+use Rattle.m2_feed.specs.m2_session.declared.event.Event.{Event}
+use Rattle.m2_feed.specs.m2_session.declared.event.Event.TheVariants as event
+use Rattle.m2_feed.specs.m2_session.declared.session.Phase.TheVariants as phase
+use Rattle.m2_feed.specs.m2_session.SessionLaws.{takes}
+use Rattle.m2_feed.specs.m2_journal.Feeds.{begun, hears, next_said, taken_feed}
+use Rattle.m2_feed.specs.m2_journal.Items as item
+use Rattle.m2_feed.specs.m2_journal.Items.{JournalItem}
+use Rattle.m2_feed.specs.m2_journal.Lawful.{Lawful, OnFeedAt, GoesOn, MayAsk, MayNumber}
+use Rattle.m2_feed.specs.m2_journal.Laws.{IfFed}
+use Rattle.m2_feed.specs.m2_journal.OutFrames as out
+use Rattle.m2_feed.specs.m2_journal.OutFrames.{OutFrame, is_unnamed, replies_of}
+use Rattle.m2_feed.specs.m2_journal.Plan.{Planned, to_post, to_dial, to_go_down}
+use Rattle.m2_feed.specs.m2_journal.Said.{Said, says, brings, aborts, garbles}
+use Rattle.m2_feed.specs.m2_journal.SideFacts.{SideFacts, cookie_of}
+use Rattle.m2_feed.specs.m2_journal.State.{Feed, State}
+use Rattle.m2_feed.specs.m2_journal.Steps.{acceptance, acknowledged_by, accepts, after, breaks, composes, event_heard, event_of, forgets, heeds, is_on, is_waiting, notes, posts, puts, queues, sends, takes_answer, takes_socket, tells, tells_if, wants_dial, with_feed, writes_message}
 use Rattle.m2_never_reset.specs.Frames.{is_ask, answers_on}
 use Rattle.m2_never_reset.specs.PairLaws.{IsNoDown}
 use Rattle.m2_bytes_fit.proofs.Hands.{HandSo, HandKept, begun_so, signed_in, ready_apart}
@@ -29,7 +29,7 @@ use Rattle.m2_bytes_fit.proofs.Judges.{kept_opens, MayBeJudged, kept_replies, ke
 use Rattle.m2_bytes_fit.proofs.Less.{Less, FeedLess, untouched, less_trans, tells_less, tells_if_less}
 use Rattle.m2_bytes_fit.proofs.Moves.{kept_reads, kept_puts}
 use Rattle.m2_bytes_fit.proofs.Steps.{AllKept, kept_quietly, kept_in_less, feed_on_less, MayCompose, kept_composes}
-use Rattle.m2_lemmas.proofs.Booleans.{from_false_true}
+use Rattle.m2_feed.proofs.m2_lemmas.Booleans.{from_false_true}
 
 -- what is known of a feed besides: before Ready nothing but asks was sent there, and one that was taken is in Ready
 pub record FeedSo (s : State) (d : Feed) : Type 0 where

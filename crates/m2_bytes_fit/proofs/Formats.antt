@@ -4,34 +4,34 @@ use Rattle.std.specs.Prelude.{pos, ◌==◌}
 use Rattle.std.specs.List.{All}
 use Rattle.std.specs.Int.{w16, w32, w64, to_le_bytes, cast_unsigned}
 use Rattle.std.proofs.lemmas.List.Elements.{All-cons, All-append}
-use Rattle.m2_addr.specs.declared.addr.Addr.{Addr}
-use Rattle.m2_addr.specs.declared.addr.AnyAddr.TheVariants.{V4}
-use Rattle.m2_addr.specs.Addr.{ipv4_text}
-use Rattle.m2_addr.specs.Vector.{vector_text}
-use Rattle.m2_session.specs.declared.frame.Carried.{Carried}
-use Rattle.m2_session.specs.AnswerLaws.{IsSpeaker}
-use Rattle.m2_session.proofs.Bounds.{are_in_bounds}
-use Rattle.m2_session.proofs.Draws.{tell_apart}
-use Rattle.m2_control.specs.declared.control.Control.TheVariants as control
-use Rattle.m2_control.specs.declared.fields.TheConstants.{GREATEST_NUMBER}
-use Rattle.m2_control.specs.Fields.{flag_byte}
-use Rattle.m2_control.specs.Laws.{HasRanges, IsInBounds}
-use Rattle.m2_frame.specs.Frame.{Fits, message_tag}
-use Rattle.m2_frame.specs.declared.tag.TheConstants.{FIRST_TAG, LAST_TAG}
-use Rattle.m2_handshake.proofs.Greeting.{no_bytes, address_bytes}
-use Rattle.m2_message.specs.declared.header.Header.{Header}
-use Rattle.m2_message.specs.Message.{Content, with_numbers}
-use Rattle.m2_message.specs.HeaderText.{header_text}
-use Rattle.m2_message.proofs.Headers.{length-header_text}
-use Rattle.m2_session.specs.declared.answer.Answer.TheVariants as answer
-use Rattle.m2_journal.specs.Laws.{IsWritable}
-use Rattle.m2_journal.specs.OutFrames.{client_ident_of, server_ident_of}
-use Rattle.m2_journal.specs.SideFacts.{SideFacts, cookie_of, speaker_of}
+use Rattle.m2_feed.specs.m2_addr.declared.addr.Addr.{Addr}
+use Rattle.m2_feed.specs.m2_addr.declared.addr.AnyAddr.TheVariants.{V4}
+use Rattle.m2_feed.specs.m2_addr.Addr.{ipv4_text}
+use Rattle.m2_feed.specs.m2_addr.Vector.{vector_text}
+use Rattle.m2_feed.specs.m2_session.declared.frame.Carried.{Carried}
+use Rattle.m2_feed.specs.m2_session.AnswerLaws.{IsSpeaker}
+use Rattle.m2_feed.proofs.m2_session.Bounds.{are_in_bounds}
+use Rattle.m2_feed.proofs.m2_session.Draws.{tell_apart}
+use Rattle.m2_feed.specs.m2_control.declared.control.Control.TheVariants as control
+use Rattle.m2_feed.specs.m2_control.declared.fields.TheConstants.{GREATEST_NUMBER}
+use Rattle.m2_feed.specs.m2_control.Fields.{flag_byte}
+use Rattle.m2_feed.specs.m2_control.Laws.{HasRanges, IsInBounds}
+use Rattle.m2_feed.specs.m2_frame.Frame.{Fits, message_tag}
+use Rattle.m2_feed.specs.m2_frame.declared.tag.TheConstants.{FIRST_TAG, LAST_TAG}
+use Rattle.m2_feed.proofs.m2_handshake.Greeting.{no_bytes, address_bytes}
+use Rattle.m2_feed.specs.m2_message.declared.header.Header.{Header}
+use Rattle.m2_feed.specs.m2_message.Message.{Content, with_numbers}
+use Rattle.m2_feed.specs.m2_message.HeaderText.{header_text}
+use Rattle.m2_feed.proofs.m2_message.Headers.{length-header_text}
+use Rattle.m2_feed.specs.m2_session.declared.answer.Answer.TheVariants as answer
+use Rattle.m2_feed.specs.m2_journal.Laws.{IsWritable}
+use Rattle.m2_feed.specs.m2_journal.OutFrames.{client_ident_of, server_ident_of}
+use Rattle.m2_feed.specs.m2_journal.SideFacts.{SideFacts, cookie_of, speaker_of}
 use Rattle.m2_feed.specs.FeedLaws.{reconnect_of}
 use Rattle.m2_bytes_fit.specs.Halves.{KeepsRanges}
 use Rattle.m2_bytes_fit.specs.Texts.{KeepsFields, KeepsFormat}
 use Rattle.m2_bytes_fit.proofs.Sent.{IsByte, eight_bytes, ack_writable}
-use Rattle.m2_lemmas.proofs.Bytes.{four_bytes, two_bytes}
+use Rattle.m2_feed.proofs.m2_lemmas.Bytes.{four_bytes, two_bytes}
 
 -- ---- what is written
 

@@ -4,16 +4,16 @@ use Rattle.std.proofs.Common.{◌≡◌, ◌≢◌, ℕ, suc, ◌+◌, ◌≤◌
 use Rattle.std.specs.List.{AllByRecursion, flat_map}
 use Rattle.std.proofs.lemmas.List.{append-nil, take-append-le, take_all}
 use Rattle.std.proofs.Math.Seq.{drop-append_seam}
-use Rattle.m2_frame.specs.Frame.{Parts}
-use Rattle.m2_frame.specs.Reading.{whole, start, text, judge}
-use Rattle.m2_frame.specs.Stream.{IsOpen}
-use Rattle.m2_frame.specs.Text as frame
-use Rattle.m2_frame.proofs.Cutting.{start_isnt_text, text-begun}
-use Rattle.m2_frame.proofs.Spelled.{item_text-judged}
-use Rattle.m2_frame.proofs.Written.{text_of-written}
-use Rattle.m2_journal.specs.Laws.{IsWritable}
-use Rattle.m2_journal.specs.Said.{split}
-use Rattle.m2_journal.proofs.Splitting.{split-next, split-open}
+use Rattle.m2_feed.specs.m2_frame.Frame.{Parts}
+use Rattle.m2_feed.specs.m2_frame.Reading.{whole, start, text, judge}
+use Rattle.m2_feed.specs.m2_frame.Stream.{IsOpen}
+use Rattle.m2_feed.specs.m2_frame.Text as frame
+use Rattle.m2_feed.proofs.m2_frame.Cutting.{start_isnt_text, text-begun}
+use Rattle.m2_feed.proofs.m2_frame.Spelled.{item_text-judged}
+use Rattle.m2_feed.proofs.m2_frame.Written.{text_of-written}
+use Rattle.m2_feed.specs.m2_journal.Laws.{IsWritable}
+use Rattle.m2_feed.specs.m2_journal.Said.{split}
+use Rattle.m2_feed.proofs.m2_journal.Splitting.{split-next, split-open}
 use Rattle.m2_bytes_fit.proofs.Lists.{compare, EndsBefore, EndsBehind}
 
 pub is_judged : (p : Parts) → IsWritable p → (more : List ℕ) → judge (frame.text_of p ++ more) ≡ text (whole p) (length (frame.text_of p))

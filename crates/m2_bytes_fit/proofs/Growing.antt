@@ -1,22 +1,22 @@
 -- What was opened and sent goes on as it was, and each socket that is opened leads to the peer.
 use Rattle.std.proofs.Common.{◌≡◌, ℕ, Bool, true, false, if◌then◌else◌, List, [], ◌∷◌, ◌++◌, map, Option, Some, None, refl, sym, ap, ◌∙◌, subst, append-nil}
 use Rattle.std.specs.List.{AllByRecursion}
-use Rattle.m2_fabric.specs.declared.socket.SocketId.{SocketId}
-use Rattle.m2_fabric.specs.Sockets.{goes_to}
-use Rattle.m2_message.specs.Message.{Content}
-use Rattle.m2_queues.specs.OutQueues.{message_at}
-use Rattle.m2_queues.specs.QueueLaws.{Next}
-use Rattle.m2_session.specs.declared.event.Event.TheVariants as event
-use Rattle.m2_session.specs.SessionLaws.{takes}
-use Rattle.m2_journal.specs.Feeds.{hears, next_said, narrowed, finished, texts_at}
-use Rattle.m2_journal.specs.Items as item
-use Rattle.m2_journal.specs.Items.{JournalItem}
-use Rattle.m2_journal.specs.Lawful.{Lawful}
-use Rattle.m2_journal.specs.OutFrames as out
-use Rattle.m2_journal.specs.OutFrames.{OutFrame, is_unnamed, replies_of}
-use Rattle.m2_journal.specs.SideFacts.{SideFacts, cookie_of}
-use Rattle.m2_journal.specs.State.{PartText, Feed, SentFrame, State}
-use Rattle.m2_journal.specs.Steps.{acceptance, accepts, after, breaks, composes, event_heard, event_of, forgets, is_on, is_waiting, notes, puts_on, queues, sends, takes_answer, takes_socket, tells, tells_if, with_feed, writes_message}
+use Rattle.m2_feed.specs.m2_fabric.declared.socket.SocketId.{SocketId}
+use Rattle.m2_feed.specs.m2_fabric.Sockets.{goes_to}
+use Rattle.m2_feed.specs.m2_message.Message.{Content}
+use Rattle.m2_never_reset.specs.m2_queues.OutQueues.{message_at}
+use Rattle.m2_never_reset.specs.m2_queues.QueueLaws.{Next}
+use Rattle.m2_feed.specs.m2_session.declared.event.Event.TheVariants as event
+use Rattle.m2_feed.specs.m2_session.SessionLaws.{takes}
+use Rattle.m2_feed.specs.m2_journal.Feeds.{hears, next_said, narrowed, finished, texts_at}
+use Rattle.m2_feed.specs.m2_journal.Items as item
+use Rattle.m2_feed.specs.m2_journal.Items.{JournalItem}
+use Rattle.m2_feed.specs.m2_journal.Lawful.{Lawful}
+use Rattle.m2_feed.specs.m2_journal.OutFrames as out
+use Rattle.m2_feed.specs.m2_journal.OutFrames.{OutFrame, is_unnamed, replies_of}
+use Rattle.m2_feed.specs.m2_journal.SideFacts.{SideFacts, cookie_of}
+use Rattle.m2_feed.specs.m2_journal.State.{PartText, Feed, SentFrame, State}
+use Rattle.m2_feed.specs.m2_journal.Steps.{acceptance, accepts, after, breaks, composes, event_heard, event_of, forgets, is_on, is_waiting, notes, puts_on, queues, sends, takes_answer, takes_socket, tells, tells_if, with_feed, writes_message}
 use Rattle.m2_never_reset.specs.PairLaws.{IsNoDown}
 use Rattle.m2_bytes_fit.proofs.Entries.{posts_less, heeds_less, accepts_less}
 use Rattle.m2_bytes_fit.proofs.Less.{Less, untouched, less_top, tells_less, tells_if_less}

@@ -1,38 +1,38 @@
 -- A feed whose handshake isn't over is one in Connecting.
 use Rattle.std.proofs.Common.{◌≡◌, ◌≢◌, ℕ, ◌+◌, ◌⊎◌, inl, inr, Bool, true, false, not, ◌&&◌, ◌==◌, if◌then◌else◌, List, [], ◌∷◌, ◌++◌, length, Option, Some, None, refl, sym, ap, ◌∙◌, subst, arith}
 use Rattle.std.proofs.lemmas.Bool.{eqb-true}
-use Rattle.m2_session.specs.declared.ask.AskFacts.{AskFacts}
-use Rattle.m2_session.specs.Asks as asks
-use Rattle.m2_message.specs.Message.{Content}
-use Rattle.m2_policy.specs.declared.path.Key.{Key}
-use Rattle.m2_queues.specs.OutQueues.{message_at}
-use Rattle.m2_queues.specs.QueueLaws.{Next}
-use Rattle.m2_session.specs.declared.answer.Answer.{Answer}
-use Rattle.m2_session.specs.declared.answer.Answer.TheVariants as answer
-use Rattle.m2_session.specs.declared.event.Effects.{Effects}
-use Rattle.m2_session.specs.declared.event.Event.{Event}
-use Rattle.m2_session.specs.declared.event.Event.TheVariants as event
-use Rattle.m2_session.specs.declared.session.Phase.{Phase}
-use Rattle.m2_session.specs.declared.session.Phase.TheVariants as phase
-use Rattle.m2_session.specs.declared.session.Session.{Session}
-use Rattle.m2_session.specs.SessionLaws.{takes}
-use Rattle.m2_session.specs.Phases as phases
-use Rattle.m2_session.specs.Steps.{step_of}
-use Rattle.m2_journal.specs.Feeds.{hears, hears_at, next_said, narrowed, finished, texts_at, unnamed, acknowledgements, keepalive_answers}
-use Rattle.m2_journal.specs.Items as item
-use Rattle.m2_journal.specs.Items.{JournalItem}
-use Rattle.m2_journal.specs.Lawful.{Lawful, OnFeedAt, MayAsk, MayObey}
-use Rattle.m2_journal.specs.Laws.{IfFed}
-use Rattle.m2_journal.specs.OutFrames as out
-use Rattle.m2_journal.specs.OutFrames.{OutFrame, is_unnamed, replies_of}
-use Rattle.m2_journal.specs.Plan.{Planned, to_post, to_dial, to_go_down}
-use Rattle.m2_journal.specs.Said.{Said, says, brings, aborts, garbles}
-use Rattle.m2_journal.specs.SideFacts.{SideFacts, cookie_of}
-use Rattle.m2_journal.specs.State.{PartText, Feed, State}
-use Rattle.m2_journal.specs.Steps.{accepts, after, breaks, closes, composes, event_of, forgets, heeds, event_heard, is_on, is_waiting, kept_of, notes, posts, puts_on, queues, sends, takes_answer, takes_answer_if, takes_socket, tells, tells_if, with_feed, writes_message, where_true}
+use Rattle.m2_feed.specs.m2_session.declared.ask.AskFacts.{AskFacts}
+use Rattle.m2_feed.specs.m2_session.Asks as asks
+use Rattle.m2_feed.specs.m2_message.Message.{Content}
+use Rattle.m2_feed.specs.m2_policy.declared.path.Key.{Key}
+use Rattle.m2_never_reset.specs.m2_queues.OutQueues.{message_at}
+use Rattle.m2_never_reset.specs.m2_queues.QueueLaws.{Next}
+use Rattle.m2_feed.specs.m2_session.declared.answer.Answer.{Answer}
+use Rattle.m2_feed.specs.m2_session.declared.answer.Answer.TheVariants as answer
+use Rattle.m2_feed.specs.m2_session.declared.event.Effects.{Effects}
+use Rattle.m2_feed.specs.m2_session.declared.event.Event.{Event}
+use Rattle.m2_feed.specs.m2_session.declared.event.Event.TheVariants as event
+use Rattle.m2_feed.specs.m2_session.declared.session.Phase.{Phase}
+use Rattle.m2_feed.specs.m2_session.declared.session.Phase.TheVariants as phase
+use Rattle.m2_feed.specs.m2_session.declared.session.Session.{Session}
+use Rattle.m2_feed.specs.m2_session.SessionLaws.{takes}
+use Rattle.m2_feed.specs.m2_session.Phases as phases
+use Rattle.m2_feed.specs.m2_session.Steps.{step_of}
+use Rattle.m2_feed.specs.m2_journal.Feeds.{hears, hears_at, next_said, narrowed, finished, texts_at, unnamed, acknowledgements, keepalive_answers}
+use Rattle.m2_feed.specs.m2_journal.Items as item
+use Rattle.m2_feed.specs.m2_journal.Items.{JournalItem}
+use Rattle.m2_feed.specs.m2_journal.Lawful.{Lawful, OnFeedAt, MayAsk, MayObey}
+use Rattle.m2_feed.specs.m2_journal.Laws.{IfFed}
+use Rattle.m2_feed.specs.m2_journal.OutFrames as out
+use Rattle.m2_feed.specs.m2_journal.OutFrames.{OutFrame, is_unnamed, replies_of}
+use Rattle.m2_feed.specs.m2_journal.Plan.{Planned, to_post, to_dial, to_go_down}
+use Rattle.m2_feed.specs.m2_journal.Said.{Said, says, brings, aborts, garbles}
+use Rattle.m2_feed.specs.m2_journal.SideFacts.{SideFacts, cookie_of}
+use Rattle.m2_feed.specs.m2_journal.State.{PartText, Feed, State}
+use Rattle.m2_feed.specs.m2_journal.Steps.{accepts, after, breaks, closes, composes, event_of, forgets, heeds, event_heard, is_on, is_waiting, kept_of, notes, posts, puts_on, queues, sends, takes_answer, takes_answer_if, takes_socket, tells, tells_if, with_feed, writes_message, where_true}
 use Rattle.m2_never_reset.specs.PairLaws.{IsNoDown}
 use Rattle.m2_bytes_fit.proofs.Less.{FeedLess, tells_less, tells_if_less, has_effects_less}
-use Rattle.m2_lemmas.proofs.Booleans.{from_false_true}
+use Rattle.m2_feed.proofs.m2_lemmas.Booleans.{from_false_true}
 
 abbrev pub HandSo : State → Feed → Type 0
 HandSo s d = (d.hand ≡ None) ⊎ (s.session.phase ≡ phase.Connecting)

@@ -1,27 +1,27 @@
 -- A feed that reads more bytes has heard all that was read on its socket.
 use Rattle.std.proofs.Common.{◌≡◌, ℕ, ◌⊎◌, inl, inr, Bool, true, false, if◌then◌else◌, List, [], ◌∷◌, ◌++◌, Some, None, refl, sym, ap, ◌∙◌, subst, append_assoc, append-nil}
 use Rattle.std.specs.List.{AllByRecursion}
-use Rattle.m2_fabric.specs.declared.socket.SocketId.{SocketId}
-use Rattle.m2_frame.specs.Reading.{Item}
-use Rattle.m2_handshake.specs.declared.stage.HalfSide.TheVariants.{Opener}
-use Rattle.m2_handshake.specs.Course.{Course, course_of, text_of}
-use Rattle.m2_handshake.specs.Moves.{is_authed}
-use Rattle.m2_handshake.specs.Standing.{Standing, fed, opener_at_start}
-use Rattle.m2_handshake.proofs.Course.{feeds, rests_there}
-use Rattle.m2_handshake.proofs.Reaching.{fed_twice}
-use Rattle.m2_journal.specs.Feeds.{greets, signs, split_into, goes_on, hears_at, hears, silent_feed}
-use Rattle.m2_journal.specs.OutFrames.{OutFrame}
-use Rattle.m2_journal.specs.Said.{Split, split}
-use Rattle.m2_journal.specs.SideFacts.{SideFacts}
-use Rattle.m2_journal.specs.State.{PartText, Feed}
-use Rattle.m2_journal.proofs.Splitting.{split-feed}
+use Rattle.m2_feed.specs.m2_fabric.declared.socket.SocketId.{SocketId}
+use Rattle.m2_feed.specs.m2_frame.Reading.{Item}
+use Rattle.m2_feed.specs.m2_handshake.declared.stage.HalfSide.TheVariants.{Opener}
+use Rattle.m2_feed.specs.m2_handshake.Course.{Course, course_of, text_of}
+use Rattle.m2_feed.specs.m2_handshake.Moves.{is_authed}
+use Rattle.m2_feed.specs.m2_handshake.Standing.{Standing, fed, opener_at_start}
+use Rattle.m2_feed.proofs.m2_handshake.Course.{feeds, rests_there}
+use Rattle.m2_feed.proofs.m2_handshake.Reaching.{fed_twice}
+use Rattle.m2_feed.specs.m2_journal.Feeds.{greets, signs, split_into, goes_on, hears_at, hears, silent_feed}
+use Rattle.m2_feed.specs.m2_journal.OutFrames.{OutFrame}
+use Rattle.m2_feed.specs.m2_journal.Said.{Split, split}
+use Rattle.m2_feed.specs.m2_journal.SideFacts.{SideFacts}
+use Rattle.m2_feed.specs.m2_journal.State.{PartText, Feed}
+use Rattle.m2_feed.proofs.m2_journal.Splitting.{split-feed}
 use Rattle.m2_feed.proofs.Courses.{ran, goes-on, going_on, rested-course, texts-append, runs-side}
 use Rattle.m2_bytes_fit.specs.Texts.{texts_of}
 use Rattle.m2_bytes_fit.proofs.Kept.{course_at, heard_of, IsNamed, OpenedFeed, TakenFeed}
 use Rattle.m2_bytes_fit.proofs.Lists.{not_nil, some_not_none}
 use Rattle.m2_bytes_fit.proofs.Openers.{fed_rest}
 use Rattle.m2_bytes_fit.proofs.Puts.{HasPut, late_text}
-use Rattle.m2_lemmas.proofs.Booleans.{from_false_true}
+use Rattle.m2_feed.proofs.m2_lemmas.Booleans.{from_false_true}
 
 -- ---- what signs
 

@@ -4,24 +4,24 @@ use Rattle.std.specs.Prelude.{◌<◌, ◌^◌, IfSome}
 use Rattle.std.specs.List.{AllByRecursion, filter, filter_map, flat_map}
 use Rattle.std.proofs.lemmas.Grind.{flat_map-append}
 use Rattle.std.proofs.lemmas.List.Elements.{filter-append, filter_map-append}
-use Rattle.m2_fabric.specs.declared.socket.SocketId.{SocketId}
-use Rattle.m2_fabric.specs.Sockets.{is_among}
-use Rattle.m2_frame.specs.Text as frame
-use Rattle.m2_handshake.specs.declared.ask.Ask.{Ask}
-use Rattle.m2_handshake.specs.Greeting.{welcome}
-use Rattle.m2_handshake.specs.Moves.{is_authed}
-use Rattle.m2_handshake.specs.Standing.{fed, opener_at_start}
-use Rattle.m2_handshake.specs.Texts.{control_parts, frame_text}
-use Rattle.m2_session.specs.declared.answer.Answer.{Answer}
-use Rattle.m2_session.specs.declared.answer.Answer.TheVariants as answer
-use Rattle.m2_journal.specs.declared.entry.JudgedItem.{JudgedItem}
-use Rattle.m2_journal.specs.Lawful.{judged_on}
-use Rattle.m2_journal.specs.Laws.{IfFed, IsWritable}
-use Rattle.m2_journal.specs.OutFrames as out
-use Rattle.m2_journal.specs.OutFrames.{OutFrame, replies_of}
-use Rattle.m2_journal.specs.Said.{split}
-use Rattle.m2_journal.specs.SideFacts.{SideFacts}
-use Rattle.m2_journal.specs.State.{Feed, State}
+use Rattle.m2_feed.specs.m2_fabric.declared.socket.SocketId.{SocketId}
+use Rattle.m2_feed.specs.m2_fabric.Sockets.{is_among}
+use Rattle.m2_feed.specs.m2_frame.Text as frame
+use Rattle.m2_feed.specs.m2_handshake.declared.ask.Ask.{Ask}
+use Rattle.m2_feed.specs.m2_handshake.Greeting.{welcome}
+use Rattle.m2_feed.specs.m2_handshake.Moves.{is_authed}
+use Rattle.m2_feed.specs.m2_handshake.Standing.{fed, opener_at_start}
+use Rattle.m2_feed.specs.m2_handshake.Texts.{control_parts, frame_text}
+use Rattle.m2_feed.specs.m2_session.declared.answer.Answer.{Answer}
+use Rattle.m2_feed.specs.m2_session.declared.answer.Answer.TheVariants as answer
+use Rattle.m2_feed.specs.m2_journal.declared.entry.JudgedItem.{JudgedItem}
+use Rattle.m2_feed.specs.m2_journal.Lawful.{judged_on}
+use Rattle.m2_feed.specs.m2_journal.Laws.{IfFed, IsWritable}
+use Rattle.m2_feed.specs.m2_journal.OutFrames as out
+use Rattle.m2_feed.specs.m2_journal.OutFrames.{OutFrame, replies_of}
+use Rattle.m2_feed.specs.m2_journal.Said.{split}
+use Rattle.m2_feed.specs.m2_journal.SideFacts.{SideFacts}
+use Rattle.m2_feed.specs.m2_journal.State.{Feed, State}
 use Rattle.m2_feed.proofs.Courses.{ran, runs-side}
 use Rattle.m2_never_reset.specs.Fits.{AreSaid, HearsAt}
 use Rattle.m2_never_reset.specs.Frames.{is_ask, ask_of, frames_on, asks_on, answers_on}
@@ -42,9 +42,9 @@ use Rattle.m2_bytes_fit.proofs.Puts.{IsLate, texts_both}
 use Rattle.m2_bytes_fit.proofs.Says.{NoAsk, parts_all, all_written, texts_made, all_writable, said_first, said_refused}
 use Rattle.m2_bytes_fit.proofs.Sent.{refusal_readable}
 use Rattle.m2_bytes_fit.proofs.Steps.{if_some, here_feed, none_isnt}
-use Rattle.m2_lemmas.proofs.Booleans.{from_false_true}
-use Rattle.m2_fabric.proofs.Sockets.{same_refl}
-use Rattle.m2_lemmas.proofs.Lists.{all_append, all_back}
+use Rattle.m2_feed.proofs.m2_lemmas.Booleans.{from_false_true}
+use Rattle.m2_feed.proofs.m2_fabric.Sockets.{same_refl}
+use Rattle.m2_feed.proofs.m2_lemmas.Lists.{all_append, all_back}
 
 -- ---- the texts of replies are those of their frames
 

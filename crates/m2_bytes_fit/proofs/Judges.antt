@@ -4,24 +4,24 @@ use Rattle.std.specs.List.{AllByRecursion, filter, filter_map}
 use Rattle.std.proofs.lemmas.Grind.{flat_map-append}
 use Rattle.std.proofs.lemmas.List.Elements.{filter-append}
 use Rattle.std.proofs.lemmas.List.{map-append}
-use Rattle.m2_session.specs.declared.ask.AskFacts.{AskFacts}
-use Rattle.m2_fabric.specs.declared.socket.SocketId.{SocketId}
-use Rattle.m2_fabric.specs.Sockets.{is_among, same_socket}
-use Rattle.m2_handshake.specs.Course.{Course, text_of}
-use Rattle.m2_handshake.specs.Moves.{is_authed}
-use Rattle.m2_session.specs.declared.answer.Answer.{Answer}
-use Rattle.m2_session.specs.declared.answer.Answer.TheVariants as answer
-use Rattle.m2_session.specs.SessionLaws.{takes}
-use Rattle.m2_journal.specs.declared.entry.JudgedItem.{JudgedItem}
-use Rattle.m2_journal.specs.Feeds.{begun, greets, signs, opened_feed, silent_feed}
-use Rattle.m2_journal.specs.Items as item
-use Rattle.m2_journal.specs.Items.{JournalItem}
-use Rattle.m2_journal.specs.Lawful.{judged_on, judged_sockets, may_ask_again}
-use Rattle.m2_journal.specs.OutFrames.{OutFrame, is_unnamed, replies_of}
-use Rattle.m2_journal.specs.Said.{split}
-use Rattle.m2_journal.specs.SideFacts.{SideFacts}
-use Rattle.m2_journal.specs.State.{Feed, Judgement, SentFrame, State}
-use Rattle.m2_journal.specs.Steps.{opens}
+use Rattle.m2_feed.specs.m2_session.declared.ask.AskFacts.{AskFacts}
+use Rattle.m2_feed.specs.m2_fabric.declared.socket.SocketId.{SocketId}
+use Rattle.m2_feed.specs.m2_fabric.Sockets.{is_among, same_socket}
+use Rattle.m2_feed.specs.m2_handshake.Course.{Course, text_of}
+use Rattle.m2_feed.specs.m2_handshake.Moves.{is_authed}
+use Rattle.m2_feed.specs.m2_session.declared.answer.Answer.{Answer}
+use Rattle.m2_feed.specs.m2_session.declared.answer.Answer.TheVariants as answer
+use Rattle.m2_feed.specs.m2_session.SessionLaws.{takes}
+use Rattle.m2_feed.specs.m2_journal.declared.entry.JudgedItem.{JudgedItem}
+use Rattle.m2_feed.specs.m2_journal.Feeds.{begun, greets, signs, opened_feed, silent_feed}
+use Rattle.m2_feed.specs.m2_journal.Items as item
+use Rattle.m2_feed.specs.m2_journal.Items.{JournalItem}
+use Rattle.m2_feed.specs.m2_journal.Lawful.{judged_on, judged_sockets, may_ask_again}
+use Rattle.m2_feed.specs.m2_journal.OutFrames.{OutFrame, is_unnamed, replies_of}
+use Rattle.m2_feed.specs.m2_journal.Said.{split}
+use Rattle.m2_feed.specs.m2_journal.SideFacts.{SideFacts}
+use Rattle.m2_feed.specs.m2_journal.State.{Feed, Judgement, SentFrame, State}
+use Rattle.m2_feed.specs.m2_journal.Steps.{opens}
 use Rattle.m2_never_reset.specs.Frames.{is_ask, frames_on}
 use Rattle.m2_never_reset.proofs.Sent.{frames_here, frames_elsewhere}
 use Rattle.m2_bytes_fit.specs.Ends.{taken_in, read_on, wrote_on, takings_on}
@@ -33,9 +33,9 @@ use Rattle.m2_bytes_fit.proofs.Lists.{nil_not, some_not_none}
 use Rattle.m2_bytes_fit.proofs.Puts.{HasPut, is_put, composed_put}
 use Rattle.m2_bytes_fit.proofs.Says.{NoAsk}
 use Rattle.m2_bytes_fit.proofs.Steps.{AllKept, read_next, wrote_next, takings_next, here_feed, other_feed}
-use Rattle.m2_fabric.proofs.Sockets.{among_other, same_equal, among_last}
-use Rattle.m2_lemmas.proofs.Booleans.{from_false_true}
-use Rattle.m2_lemmas.proofs.Lists.{all_append}
+use Rattle.m2_feed.proofs.m2_fabric.Sockets.{among_other, same_equal, among_last}
+use Rattle.m2_feed.proofs.m2_lemmas.Booleans.{from_false_true}
+use Rattle.m2_feed.proofs.m2_lemmas.Lists.{all_append}
 
 -- ---- a socket is opened
 

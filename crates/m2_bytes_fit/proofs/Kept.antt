@@ -2,23 +2,23 @@
 -- was got is what the feed has heard, and what was sent there are the answers that were judged, and then the record's frames.
 use Rattle.std.proofs.Common.{◌≡◌, ℕ, ◌⊎◌, inl, inr, Bool, true, false, if◌then◌else◌, List, [], ◌∷◌, ◌++◌, Option, Some, None, refl, sym, ap, ◌∙◌, subst, append_assoc, append-nil}
 use Rattle.std.specs.List.{AllByRecursion, flat_map}
-use Rattle.m2_fabric.specs.declared.socket.SocketId.{SocketId}
-use Rattle.m2_fabric.specs.Sockets.{is_among, same_socket}
-use Rattle.m2_handshake.specs.Course.{Course, opener_course, text_of}
-use Rattle.m2_handshake.specs.Greeting.{greeting}
-use Rattle.m2_handshake.specs.Moves.{is_authed}
-use Rattle.m2_handshake.specs.Standing.{fed, opener_at_start}
-use Rattle.m2_handshake.proofs.Speaking.{opener_greets}
-use Rattle.m2_session.specs.SessionLaws.{takes}
-use Rattle.m2_journal.specs.declared.entry.JudgedItem.{JudgedItem}
-use Rattle.m2_journal.specs.Feeds.{signs, silent_feed, split_into}
-use Rattle.m2_journal.specs.Items.{JournalItem}
-use Rattle.m2_journal.specs.Lawful.{judged_on}
-use Rattle.m2_journal.specs.Laws.{IfFed}
-use Rattle.m2_journal.specs.OutFrames.{OutFrame, is_unnamed, replies_of}
-use Rattle.m2_journal.specs.Said.{split}
-use Rattle.m2_journal.specs.SideFacts.{SideFacts}
-use Rattle.m2_journal.specs.State.{PartText, Feed, State}
+use Rattle.m2_feed.specs.m2_fabric.declared.socket.SocketId.{SocketId}
+use Rattle.m2_feed.specs.m2_fabric.Sockets.{is_among, same_socket}
+use Rattle.m2_feed.specs.m2_handshake.Course.{Course, opener_course, text_of}
+use Rattle.m2_feed.specs.m2_handshake.Greeting.{greeting}
+use Rattle.m2_feed.specs.m2_handshake.Moves.{is_authed}
+use Rattle.m2_feed.specs.m2_handshake.Standing.{fed, opener_at_start}
+use Rattle.m2_feed.proofs.m2_handshake.Speaking.{opener_greets}
+use Rattle.m2_feed.specs.m2_session.SessionLaws.{takes}
+use Rattle.m2_feed.specs.m2_journal.declared.entry.JudgedItem.{JudgedItem}
+use Rattle.m2_feed.specs.m2_journal.Feeds.{signs, silent_feed, split_into}
+use Rattle.m2_feed.specs.m2_journal.Items.{JournalItem}
+use Rattle.m2_feed.specs.m2_journal.Lawful.{judged_on}
+use Rattle.m2_feed.specs.m2_journal.Laws.{IfFed}
+use Rattle.m2_feed.specs.m2_journal.OutFrames.{OutFrame, is_unnamed, replies_of}
+use Rattle.m2_feed.specs.m2_journal.Said.{split}
+use Rattle.m2_feed.specs.m2_journal.SideFacts.{SideFacts}
+use Rattle.m2_feed.specs.m2_journal.State.{PartText, Feed, State}
 use Rattle.m2_feed.proofs.Courses.{ran}
 use Rattle.m2_never_reset.specs.Frames.{is_ask, frames_on}
 use Rattle.m2_bytes_fit.specs.Ends.{read_on, wrote_on, takings_on}

@@ -1,12 +1,12 @@
 -- What an event of the session leaves of a state: all that was sent, opened and judged, and of the feed nothing, or what of it
 -- concerns bytes.
 use Rattle.std.proofs.Common.{◌≡◌, ℕ, Bool, true, false, Option, Some, None, refl, ◌∙◌}
-use Rattle.m2_session.specs.declared.event.Effects.{Effects}
-use Rattle.m2_session.specs.declared.event.Event.{Event}
-use Rattle.m2_session.specs.Steps.{step_of}
-use Rattle.m2_queues.specs.QueueLaws.{Requeue}
-use Rattle.m2_journal.specs.State.{Feed, State}
-use Rattle.m2_journal.specs.Steps.{where_true, closes, sets_back, discards, tells_of_reset, queues, tells, tells_if}
+use Rattle.m2_feed.specs.m2_session.declared.event.Effects.{Effects}
+use Rattle.m2_feed.specs.m2_session.declared.event.Event.{Event}
+use Rattle.m2_feed.specs.m2_session.Steps.{step_of}
+use Rattle.m2_never_reset.specs.m2_queues.QueueLaws.{Requeue}
+use Rattle.m2_feed.specs.m2_journal.State.{Feed, State}
+use Rattle.m2_feed.specs.m2_journal.Steps.{where_true, closes, sets_back, discards, tells_of_reset, queues, tells, tells_if}
 
 -- it is the same feed to all that is read and written there
 pub record SameBytes (d e : Feed) : Type 0 where

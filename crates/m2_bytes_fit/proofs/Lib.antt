@@ -25,3 +25,6 @@ pub mod Sent
 pub mod Speaking
 pub mod Steps
 pub mod Trails
+pub use Rattle.m2_feed.proofs as m2_feed
+pub use Rattle.m2_never_reset.proofs as m2_never_reset
+pub use Rattle.m2_trail.proofs as m2_trail

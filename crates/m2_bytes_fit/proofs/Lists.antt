@@ -1,6 +1,6 @@
 -- Lists that are put together in two ways, and prefixes.
 use Rattle.std.proofs.Common.{◌≡◌, ◌≢◌, ◌⊎◌, inl, inr, List, [], ◌∷◌, ◌++◌, Some, None, refl, sym, ap, ◌∙◌, append_assoc}
-use Rattle.m2_handshake.specs.Laws.{IsPrefix}
+use Rattle.m2_feed.specs.m2_handshake.Laws.{IsPrefix}
 
 pub cons_same : {X : Type 0} (x y : X) (xs ys : List X) → x ∷ xs ≡ y ∷ ys → (x ≡ y) × (xs ≡ ys)
 cons_same x y xs ys e = (cc, cc)

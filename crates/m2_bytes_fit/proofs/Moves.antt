@@ -2,18 +2,18 @@
 use Rattle.std.proofs.Common.{◌≡◌, ◌≢◌, ℕ, ◌+◌, ◌⊎◌, inl, inr, Bool, true, false, not, if◌then◌else◌, List, [], ◌∷◌, ◌++◌, length, map, Option, Some, None, refl, sym, ap, ◌∙◌, subst, append_assoc, append-nil}
 use Rattle.std.specs.Prelude.{nat_lt, ◌==◌, ◌&&◌}
 use Rattle.std.specs.List.{AllByRecursion, filter}
-use Rattle.m2_control.specs.Banner.{begins}
-use Rattle.m2_fabric.specs.declared.socket.SocketId.{SocketId}
-use Rattle.m2_fabric.specs.Sockets.{same_socket}
-use Rattle.m2_handshake.specs.Course.{text_of}
-use Rattle.m2_journal.specs.Feeds.{hears, without_first, narrowed, finished, texts_at}
-use Rattle.m2_journal.specs.Items as item
-use Rattle.m2_journal.specs.Items.{JournalItem}
-use Rattle.m2_journal.specs.OutFrames as out
-use Rattle.m2_journal.specs.OutFrames.{OutFrame, acknowledges, is_unnamed, keepalives_answered}
-use Rattle.m2_journal.specs.SideFacts.{SideFacts}
-use Rattle.m2_journal.specs.State.{PartText, Feed, SentFrame, State}
-use Rattle.m2_journal.specs.Steps.{puts, puts_on, sends}
+use Rattle.m2_feed.specs.m2_control.Banner.{begins}
+use Rattle.m2_feed.specs.m2_fabric.declared.socket.SocketId.{SocketId}
+use Rattle.m2_feed.specs.m2_fabric.Sockets.{same_socket}
+use Rattle.m2_feed.specs.m2_handshake.Course.{text_of}
+use Rattle.m2_feed.specs.m2_journal.Feeds.{hears, without_first, narrowed, finished, texts_at}
+use Rattle.m2_feed.specs.m2_journal.Items as item
+use Rattle.m2_feed.specs.m2_journal.Items.{JournalItem}
+use Rattle.m2_feed.specs.m2_journal.OutFrames as out
+use Rattle.m2_feed.specs.m2_journal.OutFrames.{OutFrame, acknowledges, is_unnamed, keepalives_answered}
+use Rattle.m2_feed.specs.m2_journal.SideFacts.{SideFacts}
+use Rattle.m2_feed.specs.m2_journal.State.{PartText, Feed, SentFrame, State}
+use Rattle.m2_feed.specs.m2_journal.Steps.{puts, puts_on, sends}
 use Rattle.m2_never_reset.specs.Frames.{is_ask, frames_on}
 use Rattle.m2_never_reset.proofs.Answered.{nothing_isnt_some}
 use Rattle.m2_never_reset.proofs.Feeds.{hears_hears}
@@ -26,10 +26,10 @@ use Rattle.m2_bytes_fit.proofs.Lists.{not_nil}
 use Rattle.m2_bytes_fit.proofs.Puts.{HasPut, GoesOnHere, GoesOnSo, is_put, narrowed_here, found_whole, none_whole, texts_here, all_more, late_text, texts_both}
 use Rattle.m2_bytes_fit.proofs.Says.{NoAsk}
 use Rattle.m2_bytes_fit.proofs.Steps.{AllKept, read_next, wrote_next, takings_next, if_some, none_isnt, here_feed, other_feed}
-use Rattle.m2_lemmas.proofs.Options.{some_same}
-use Rattle.m2_lemmas.proofs.Booleans.{from_false_true}
-use Rattle.m2_fabric.proofs.Sockets.{same_equal}
-use Rattle.m2_lemmas.proofs.Lists.{all_append, same_behind}
+use Rattle.m2_feed.proofs.m2_lemmas.Options.{some_same}
+use Rattle.m2_feed.proofs.m2_lemmas.Booleans.{from_false_true}
+use Rattle.m2_feed.proofs.m2_fabric.Sockets.{same_equal}
+use Rattle.m2_feed.proofs.m2_lemmas.Lists.{all_append, same_behind}
 
 -- ---- bytes are read on the feed
 

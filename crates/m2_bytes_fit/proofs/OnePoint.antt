@@ -4,32 +4,32 @@ use Rattle.std.proofs.Common.{sym, ap, ◌∙◌, subst, append-nil}
 use Rattle.std.proofs.lemmas.List.{take-append-drop}
 use Rattle.std.specs.List.{AllByRecursion}
 use Rattle.std.proofs.lemmas.Bool.{ltb-true}
-use Rattle.m2_crc.specs.Crc.{after_byte, shifted, shifted_by}
-use Rattle.m2_frame.specs.Reading.{judge, judge_first, judge_later, judge_epilogue}
-use Rattle.m2_frame.specs.Preamble.{read_preamble, preamble_text}
-use Rattle.m2_frame.specs.Text.{segment_crc, text_of}
-use Rattle.m2_control.specs.Fields.{bounded_at, cookie_at, flag_at, numbers_at, list_at, string_at, vector_field}
-use Rattle.m2_control.specs.Ident.{tail_at}
-use Rattle.m2_addr.specs.Addr.{head_at, socket_at, body_of, shape_at}
-use Rattle.m2_addr.specs.Vector.{addresses_at, vector_at}
-use Rattle.m2_message.specs.HeaderText.{header_text}
-use Rattle.m2_fabric.specs.declared.socket.SocketId.{SocketId}
-use Rattle.m2_fabric.specs.Sockets.{same_socket, is_among}
-use Rattle.m2_handshake.specs.Course as course
-use Rattle.m2_handshake.specs.Course.{Course, Exchange, Reaches, no_exchange, course_of}
-use Rattle.m2_handshake.specs.declared.stage.Stage.TheVariants.{Asked}
-use Rattle.m2_handshake.specs.Laws.{IsPrefix}
-use Rattle.m2_handshake.specs.Standing.{fed}
-use Rattle.m2_handshake.proofs.Reaching.{begins as nothing_done}
-use Rattle.m2_journal.specs.Items as item
-use Rattle.m2_journal.specs.Items.{JournalItem}
-use Rattle.m2_session.specs.declared.session.Phase.TheVariants.{Ready}
-use Rattle.m2_journal.specs.Lawful.{judged_on}
-use Rattle.m2_journal.specs.Replay.{AreLawful}
-use Rattle.m2_journal.specs.State.{Judgement, start}
-use Rattle.m2_session.specs.declared.answer.Answer.TheVariants.{Accept}
-use Rattle.m2_journal.proofs.OneMessage.{first_ask, of_first, delivered, lawful_at_a, lawful_at_b}
-use Rattle.m2_journal.proofs.Pair.{socket, here, facts_of_a, facts_of_b}
+use Rattle.m2_feed.specs.m2_crc.Crc.{after_byte, shifted, shifted_by}
+use Rattle.m2_feed.specs.m2_frame.Reading.{judge, judge_first, judge_later, judge_epilogue}
+use Rattle.m2_feed.specs.m2_frame.Preamble.{read_preamble, preamble_text}
+use Rattle.m2_feed.specs.m2_frame.Text.{segment_crc, text_of}
+use Rattle.m2_feed.specs.m2_control.Fields.{bounded_at, cookie_at, flag_at, numbers_at, list_at, string_at, vector_field}
+use Rattle.m2_feed.specs.m2_control.Ident.{tail_at}
+use Rattle.m2_feed.specs.m2_addr.Addr.{head_at, socket_at, body_of, shape_at}
+use Rattle.m2_feed.specs.m2_addr.Vector.{addresses_at, vector_at}
+use Rattle.m2_feed.specs.m2_message.HeaderText.{header_text}
+use Rattle.m2_feed.specs.m2_fabric.declared.socket.SocketId.{SocketId}
+use Rattle.m2_feed.specs.m2_fabric.Sockets.{same_socket, is_among}
+use Rattle.m2_feed.specs.m2_handshake.Course as course
+use Rattle.m2_feed.specs.m2_handshake.Course.{Course, Exchange, Reaches, no_exchange, course_of}
+use Rattle.m2_feed.specs.m2_handshake.declared.stage.Stage.TheVariants.{Asked}
+use Rattle.m2_feed.specs.m2_handshake.Laws.{IsPrefix}
+use Rattle.m2_feed.specs.m2_handshake.Standing.{fed}
+use Rattle.m2_feed.proofs.m2_handshake.Reaching.{begins as nothing_done}
+use Rattle.m2_feed.specs.m2_journal.Items as item
+use Rattle.m2_feed.specs.m2_journal.Items.{JournalItem}
+use Rattle.m2_feed.specs.m2_session.declared.session.Phase.TheVariants.{Ready}
+use Rattle.m2_feed.specs.m2_journal.Lawful.{judged_on}
+use Rattle.m2_feed.specs.m2_journal.Replay.{AreLawful}
+use Rattle.m2_feed.specs.m2_journal.State.{Judgement, start}
+use Rattle.m2_feed.specs.m2_session.declared.answer.Answer.TheVariants.{Accept}
+use Rattle.m2_feed.proofs.m2_journal.OneMessage.{first_ask, of_first, delivered, lawful_at_a, lawful_at_b}
+use Rattle.m2_feed.proofs.m2_journal.Pair.{socket, here, facts_of_a, facts_of_b}
 use Rattle.m2_feed.proofs.Courses.{ran}
 use Rattle.m2_trail.specs.Asks.{facts_of_ask}
 use Rattle.m2_trail.specs.Replies.{all_replies}
@@ -38,9 +38,9 @@ use Rattle.m2_bytes_fit.specs.Ends.{Side, state_of, judged_at, read_on, wrote_on
 use Rattle.m2_bytes_fit.specs.Halves.{HalfName, begins, HalfFits, BytesFit}
 use Rattle.m2_bytes_fit.specs.Orders.{BytesCanFit}
 use Rattle.m2_bytes_fit.proofs.Lists.{not_nil}
-use Rattle.m2_lemmas.proofs.Booleans.{from_false_true}
-use Rattle.m2_fabric.proofs.Sockets.{same_equal}
-use Rattle.m2_journal.proofs.JudgedOn.{lawful_front}
+use Rattle.m2_feed.proofs.m2_lemmas.Booleans.{from_false_true}
+use Rattle.m2_feed.proofs.m2_fabric.Sockets.{same_equal}
+use Rattle.m2_feed.proofs.m2_journal.JudgedOn.{lawful_front}
 
 -- ---- the two sides
 

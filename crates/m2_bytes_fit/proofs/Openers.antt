@@ -3,34 +3,34 @@ use Rattle.std.proofs.Common.{◌≡◌, ℕ, ◌<◌, ◌^◌, ◌⊎◌, inl, 
 use Rattle.std.proofs.lemmas.Bool.{true≢false}
 use Rattle.std.proofs.lemmas.Grind.{flat_map-append}
 use Rattle.std.proofs.Math.Seq.{drop-append_seam}
-use Rattle.m2_addr.specs.declared.addr.Addr.{Addr}
-use Rattle.m2_control.specs.declared.banner.BannerStep.{BannerStep}
-use Rattle.m2_control.specs.declared.banner.BannerStep.TheVariants.{Got}
-use Rattle.m2_control.specs.declared.control.Control.{Control}
-use Rattle.m2_control.specs.Banner.{banner_in, banner_text}
-use Rattle.m2_control.specs.Laws.{HasAddrRanges}
-use Rattle.m2_control.proofs.Written.{banner_is_read}
-use Rattle.m2_frame.specs.Frame.{Parts}
-use Rattle.m2_frame.specs.Reading.{Front, whole, text, judge}
-use Rattle.m2_frame.specs.Text as frame
-use Rattle.m2_frame.proofs.Spelled.{item_text-judged}
-use Rattle.m2_frame.proofs.Written.{text_of-written}
-use Rattle.m2_handshake.specs.declared.stage.Awaited.{Awaited}
-use Rattle.m2_handshake.specs.declared.stage.Awaited.TheVariants.{Hello, Done, Signature}
-use Rattle.m2_handshake.specs.declared.stage.HalfSide.TheVariants.{Opener}
-use Rattle.m2_handshake.specs.declared.stage.Stage.{Stage}
-use Rattle.m2_handshake.specs.declared.stage.Stage.TheVariants.{Opening, Banner, Waits, Authed, Asked, Ended, Faulty}
-use Rattle.m2_handshake.specs.Course.{Event, silent, wrote, goes, step_by, step_of, course_move, Runs, replies_in, replies_of}
-use Rattle.m2_handshake.specs.Greeting.{welcome}
-use Rattle.m2_handshake.specs.Laws.{GoesOnTo}
-use Rattle.m2_handshake.specs.Moves.{features, after_banner, take_frame, after_reaction, is_authed}
-use Rattle.m2_handshake.specs.Standing.{Standing, fed, fed_at, opener_at_start}
-use Rattle.m2_handshake.specs.Steps.{Reaction, says, signed, after_payload, after_frame}
-use Rattle.m2_handshake.specs.Texts.{control_parts, frame_text, hello, request, done, signature}
-use Rattle.m2_handshake.proofs.Banners.{is_step}
-use Rattle.m2_handshake.proofs.Course.{feeds, ways, stands, rests_there}
-use Rattle.m2_handshake.proofs.Greeting.{IsSent, hello_sent}
-use Rattle.m2_handshake.proofs.Reaching.{fed_twice}
+use Rattle.m2_feed.specs.m2_addr.declared.addr.Addr.{Addr}
+use Rattle.m2_feed.specs.m2_control.declared.banner.BannerStep.{BannerStep}
+use Rattle.m2_feed.specs.m2_control.declared.banner.BannerStep.TheVariants.{Got}
+use Rattle.m2_feed.specs.m2_control.declared.control.Control.{Control}
+use Rattle.m2_feed.specs.m2_control.Banner.{banner_in, banner_text}
+use Rattle.m2_feed.specs.m2_control.Laws.{HasAddrRanges}
+use Rattle.m2_feed.proofs.m2_control.Written.{banner_is_read}
+use Rattle.m2_feed.specs.m2_frame.Frame.{Parts}
+use Rattle.m2_feed.specs.m2_frame.Reading.{Front, whole, text, judge}
+use Rattle.m2_feed.specs.m2_frame.Text as frame
+use Rattle.m2_feed.proofs.m2_frame.Spelled.{item_text-judged}
+use Rattle.m2_feed.proofs.m2_frame.Written.{text_of-written}
+use Rattle.m2_feed.specs.m2_handshake.declared.stage.Awaited.{Awaited}
+use Rattle.m2_feed.specs.m2_handshake.declared.stage.Awaited.TheVariants.{Hello, Done, Signature}
+use Rattle.m2_feed.specs.m2_handshake.declared.stage.HalfSide.TheVariants.{Opener}
+use Rattle.m2_feed.specs.m2_handshake.declared.stage.Stage.{Stage}
+use Rattle.m2_feed.specs.m2_handshake.declared.stage.Stage.TheVariants.{Opening, Banner, Waits, Authed, Asked, Ended, Faulty}
+use Rattle.m2_feed.specs.m2_handshake.Course.{Event, silent, wrote, goes, step_by, step_of, course_move, Runs, replies_in, replies_of}
+use Rattle.m2_feed.specs.m2_handshake.Greeting.{welcome}
+use Rattle.m2_feed.specs.m2_handshake.Laws.{GoesOnTo}
+use Rattle.m2_feed.specs.m2_handshake.Moves.{features, after_banner, take_frame, after_reaction, is_authed}
+use Rattle.m2_feed.specs.m2_handshake.Standing.{Standing, fed, fed_at, opener_at_start}
+use Rattle.m2_feed.specs.m2_handshake.Steps.{Reaction, says, signed, after_payload, after_frame}
+use Rattle.m2_feed.specs.m2_handshake.Texts.{control_parts, frame_text, hello, request, done, signature}
+use Rattle.m2_feed.proofs.m2_handshake.Banners.{is_step}
+use Rattle.m2_feed.proofs.m2_handshake.Course.{feeds, ways, stands, rests_there}
+use Rattle.m2_feed.proofs.m2_handshake.Greeting.{IsSent, hello_sent}
+use Rattle.m2_feed.proofs.m2_handshake.Reaching.{fed_twice}
 use Rattle.m2_bytes_fit.proofs.Sent.{done_sent, signature_sent}
 
 -- ---- its steps

@@ -2,16 +2,16 @@
 use Rattle.std.proofs.Common.{◌≡◌, Bool, true, false, List, [], ◌∷◌, ◌++◌, Option, Some, None, refl, sym, ap, ◌∙◌, subst, append_assoc, append-nil}
 use Rattle.std.specs.List.{AllByRecursion}
 use Rattle.std.proofs.lemmas.Grind.{flat_map-append}
-use Rattle.m2_fabric.specs.declared.socket.SocketId.{SocketId}
-use Rattle.m2_fabric.specs.Sockets.{goes_to, is_among}
-use Rattle.m2_journal.specs.Items.{JournalItem}
-use Rattle.m2_journal.specs.Lawful.{Lawful}
-use Rattle.m2_journal.specs.Laws.{IfFed}
-use Rattle.m2_journal.specs.Replay.{AreLawful, after_items}
-use Rattle.m2_journal.specs.SideFacts.{SideFacts}
-use Rattle.m2_journal.specs.State.{Feed, State, start}
-use Rattle.m2_journal.specs.Steps.{after}
-use Rattle.m2_journal.proofs.Growing.{after-append}
+use Rattle.m2_feed.specs.m2_fabric.declared.socket.SocketId.{SocketId}
+use Rattle.m2_feed.specs.m2_fabric.Sockets.{goes_to, is_among}
+use Rattle.m2_feed.specs.m2_journal.Items.{JournalItem}
+use Rattle.m2_feed.specs.m2_journal.Lawful.{Lawful}
+use Rattle.m2_feed.specs.m2_journal.Laws.{IfFed}
+use Rattle.m2_feed.specs.m2_journal.Replay.{AreLawful, after_items}
+use Rattle.m2_feed.specs.m2_journal.SideFacts.{SideFacts}
+use Rattle.m2_feed.specs.m2_journal.State.{Feed, State, start}
+use Rattle.m2_feed.specs.m2_journal.Steps.{after}
+use Rattle.m2_feed.proofs.m2_journal.Growing.{after-append}
 use Rattle.m2_never_reset.specs.Fits.{Fits, HearsAt}
 use Rattle.m2_never_reset.specs.PairLaws.{IsNoDown}
 use Rattle.m2_never_reset.specs.Orders.{SideItem, near_item, far_item, near_items, far_items, near_after, far_after, IsHistory, AreNodes, LeadsTo, HistoriesAreRuns, LosslessIsNeverReset}
@@ -29,12 +29,12 @@ use Rattle.m2_bytes_fit.proofs.Hands.{HandKept, hand_keeps}
 use Rattle.m2_bytes_fit.proofs.Hears.{NoAskBehind, near_hears}
 use Rattle.m2_bytes_fit.proofs.Points.{Known, turn, near_judges}
 use Rattle.m2_bytes_fit.proofs.Steps.{AllKept}
-use Rattle.m2_journal.proofs.JudgedOn.{lawful_front}
+use Rattle.m2_feed.proofs.m2_journal.JudgedOn.{lawful_front}
 use Rattle.m2_never_reset.proofs.Sided.{near_append, far_append}
 use Rattle.m2_never_reset.proofs.OneHistory.{fit-append}
 use Rattle.m2_never_reset.proofs.Orders.{paired_turn}
-use Rattle.m2_lemmas.proofs.Booleans.{from_false_true}
-use Rattle.m2_lemmas.proofs.Lists.{all_front, all_back, all_append}
+use Rattle.m2_feed.proofs.m2_lemmas.Booleans.{from_false_true}
+use Rattle.m2_feed.proofs.m2_lemmas.Lists.{all_front, all_back, all_append}
 
 -- ---- lists
 

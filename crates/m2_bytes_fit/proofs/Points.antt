@@ -3,21 +3,21 @@ use Rattle.std.proofs.Common.{◌≡◌, ◌≢◌, ℕ, ◌⊎◌, inl, inr, Bo
 use Rattle.std.specs.List.{AllByRecursion, filter, filter_map, flat_map}
 use Rattle.std.proofs.lemmas.List.{map-append}
 use Rattle.std.proofs.lemmas.List.Elements.{filter_map-append}
-use Rattle.m2_fabric.specs.declared.socket.SocketId.{SocketId}
-use Rattle.m2_fabric.specs.Sockets.{is_among, same_socket}
-use Rattle.m2_frame.specs.Text as frame
-use Rattle.m2_handshake.specs.declared.ask.Ask.{Ask}
-use Rattle.m2_handshake.specs.Course.{Exchange, Reaches}
-use Rattle.m2_handshake.specs.Greeting.{greeting}
-use Rattle.m2_handshake.specs.Laws.{IsPrefix}
-use Rattle.m2_handshake.specs.Standing.{Standing}
-use Rattle.m2_journal.specs.declared.entry.JudgedItem.{JudgedItem}
-use Rattle.m2_journal.specs.Lawful.{judged_on, judged_sockets}
-use Rattle.m2_journal.specs.OutFrames as out
-use Rattle.m2_journal.specs.OutFrames.{OutFrame}
-use Rattle.m2_journal.specs.Said.{split}
-use Rattle.m2_journal.specs.SideFacts.{SideFacts}
-use Rattle.m2_journal.specs.State.{Judgement, SentFrame}
+use Rattle.m2_feed.specs.m2_fabric.declared.socket.SocketId.{SocketId}
+use Rattle.m2_feed.specs.m2_fabric.Sockets.{is_among, same_socket}
+use Rattle.m2_feed.specs.m2_frame.Text as frame
+use Rattle.m2_feed.specs.m2_handshake.declared.ask.Ask.{Ask}
+use Rattle.m2_feed.specs.m2_handshake.Course.{Exchange, Reaches}
+use Rattle.m2_feed.specs.m2_handshake.Greeting.{greeting}
+use Rattle.m2_feed.specs.m2_handshake.Laws.{IsPrefix}
+use Rattle.m2_feed.specs.m2_handshake.Standing.{Standing}
+use Rattle.m2_feed.specs.m2_journal.declared.entry.JudgedItem.{JudgedItem}
+use Rattle.m2_feed.specs.m2_journal.Lawful.{judged_on, judged_sockets}
+use Rattle.m2_feed.specs.m2_journal.OutFrames as out
+use Rattle.m2_feed.specs.m2_journal.OutFrames.{OutFrame}
+use Rattle.m2_feed.specs.m2_journal.Said.{split}
+use Rattle.m2_feed.specs.m2_journal.SideFacts.{SideFacts}
+use Rattle.m2_feed.specs.m2_journal.State.{Judgement, SentFrame}
 use Rattle.m2_never_reset.specs.Fits.{ask_by, AreItsAsks}
 use Rattle.m2_never_reset.specs.Frames.{is_ask, ask_of, frames_on}
 use Rattle.m2_trail.specs.Asks.{facts_of_ask}
@@ -33,9 +33,9 @@ use Rattle.m2_bytes_fit.proofs.Lists.{cons_is_some, cons_same, not_nil, nil_not}
 use Rattle.m2_bytes_fit.proofs.Puts.{IsLate, texts_both, text_alone}
 use Rattle.m2_bytes_fit.proofs.Says.{NoAsk, CanBeWritten, part, parts_all, unnamed_written, writable, text_made, all_written, texts_made, all_writable}
 use Rattle.m2_bytes_fit.proofs.Steps.{AllKept}
-use Rattle.m2_lemmas.proofs.Booleans.{from_false_true}
-use Rattle.m2_fabric.proofs.Sockets.{same_refl}
-use Rattle.m2_lemmas.proofs.Lists.{all_append, empty_front}
+use Rattle.m2_feed.proofs.m2_lemmas.Booleans.{from_false_true}
+use Rattle.m2_feed.proofs.m2_fabric.Sockets.{same_refl}
+use Rattle.m2_feed.proofs.m2_lemmas.Lists.{all_append, empty_front}
 
 -- ---- what is known at a point
 

@@ -1,9 +1,9 @@
 -- A message that may be sent has a frame.
 use Rattle.std.proofs.Common.{ℕ, ◌≤◌, Bool, true, false, if◌then◌else◌, length, arith}
 use Rattle.std.specs.Prelude.{nat_lt}
-use Rattle.m2_frame.specs.declared.frame.TheConstants.{MOST_SEGMENTS}
-use Rattle.m2_frame.specs.Frame.{count_by_lengths}
-use Rattle.m2_message.proofs.Headers.{length-header_text}
+use Rattle.m2_feed.specs.m2_frame.declared.frame.TheConstants.{MOST_SEGMENTS}
+use Rattle.m2_feed.specs.m2_frame.Frame.{count_by_lengths}
+use Rattle.m2_feed.proofs.m2_message.Headers.{length-header_text}
 use Rattle.m2_bytes_fit.specs.Posts.{SendablePostsKeepFields}
 use Rattle.m2_bytes_fit.proofs.Formats.{header_bytes}
 

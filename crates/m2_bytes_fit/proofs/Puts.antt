@@ -6,21 +6,21 @@ use Rattle.std.specs.List.{AllByRecursion, filter}
 use Rattle.std.specs.Option.{option_to_list}
 use Rattle.std.proofs.lemmas.Bool.{eqb-true, and_parts}
 use Rattle.std.proofs.lemmas.Grind.{flat_map-append}
-use Rattle.m2_control.specs.declared.keepalive.Keepalive.{Keepalive}
-use Rattle.m2_control.specs.Banner.{begins}
-use Rattle.m2_session.specs.declared.session.Phase.TheVariants as phase
-use Rattle.m2_session.specs.Phases as phases
-use Rattle.m2_journal.specs.Feeds.{begun, without_first, narrowed, finished, owed_numbers, next_stamp, acknowledgements, keepalive_answers, unnamed, texts_at}
-use Rattle.m2_journal.specs.OutFrames as out
-use Rattle.m2_journal.specs.OutFrames.{OutFrame, is_unnamed}
-use Rattle.m2_journal.specs.SideFacts.{SideFacts}
-use Rattle.m2_journal.specs.State.{PartText, Feed, State}
+use Rattle.m2_feed.specs.m2_control.declared.keepalive.Keepalive.{Keepalive}
+use Rattle.m2_feed.specs.m2_control.Banner.{begins}
+use Rattle.m2_feed.specs.m2_session.declared.session.Phase.TheVariants as phase
+use Rattle.m2_feed.specs.m2_session.Phases as phases
+use Rattle.m2_feed.specs.m2_journal.Feeds.{begun, without_first, narrowed, finished, owed_numbers, next_stamp, acknowledgements, keepalive_answers, unnamed, texts_at}
+use Rattle.m2_feed.specs.m2_journal.OutFrames as out
+use Rattle.m2_feed.specs.m2_journal.OutFrames.{OutFrame, is_unnamed}
+use Rattle.m2_feed.specs.m2_journal.SideFacts.{SideFacts}
+use Rattle.m2_feed.specs.m2_journal.State.{PartText, Feed, State}
 use Rattle.m2_never_reset.proofs.Answered.{nothing_isnt_some}
 use Rattle.m2_bytes_fit.proofs.Lists.{not_nil}
 use Rattle.m2_bytes_fit.specs.Texts.{texts_of}
-use Rattle.m2_lemmas.proofs.Lists.{empty_of_length, all_append}
-use Rattle.m2_lemmas.proofs.Options.{some_same}
-use Rattle.m2_lemmas.proofs.Booleans.{from_false_true}
+use Rattle.m2_feed.proofs.m2_lemmas.Lists.{empty_of_length, all_append}
+use Rattle.m2_feed.proofs.m2_lemmas.Options.{some_same}
+use Rattle.m2_feed.proofs.m2_lemmas.Booleans.{from_false_true}
 
 -- a frame that no entry names isn't among those sent before it is wholly put
 abbrev pub late_text : SideFacts → OutFrame → List ℕ

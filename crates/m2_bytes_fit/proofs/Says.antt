@@ -5,34 +5,34 @@ use Rattle.std.specs.Int.{w64, to_le_bytes}
 use Rattle.std.proofs.lemmas.Bool.{leb-true, leb-false}
 use Rattle.std.proofs.lemmas.Nat.{from_le_bytes-to_le_bytes_8}
 use Rattle.std.specs.List.{AllByRecursion, flat_map}
-use Rattle.m2_control.specs.declared.control.Control.TheVariants as control
-use Rattle.m2_control.specs.declared.fault.ControlFault.TheVariants.{BadValue}
-use Rattle.m2_control.specs.declared.fields.TheConstants.{GREATEST_NUMBER}
-use Rattle.m2_control.specs.Control as payload
-use Rattle.m2_control.specs.Control.{bare}
-use Rattle.m2_control.specs.Fields.{bounded_at}
-use Rattle.m2_control.proofs.Written.{written_is_read}
-use Rattle.m2_frame.specs.Frame.{Parts}
-use Rattle.m2_frame.specs.Reading.{whole}
-use Rattle.m2_frame.specs.Text as frame
-use Rattle.m2_handshake.specs.Texts.{control_parts}
-use Rattle.m2_message.specs.Message.{with_numbers}
-use Rattle.m2_message.specs.declared.header_text.TheConstants.{HEADER_BYTES}
-use Rattle.m2_message.specs.MessageFrame.{parts_of, message_in}
-use Rattle.m2_message.proofs.Carried.{message_in-carried}
-use Rattle.m2_message.proofs.Headers.{length-header_text}
-use Rattle.m2_journal.specs.Laws.{IsWritable}
-use Rattle.m2_journal.specs.OutFrames as out
-use Rattle.m2_journal.specs.OutFrames.{OutFrame, is_unnamed, server_ident_of}
-use Rattle.m2_journal.specs.Said.{Said, says, brings, garbles, said, said_of_payload}
-use Rattle.m2_journal.specs.SideFacts.{SideFacts}
+use Rattle.m2_feed.specs.m2_control.declared.control.Control.TheVariants as control
+use Rattle.m2_feed.specs.m2_control.declared.fault.ControlFault.TheVariants.{BadValue}
+use Rattle.m2_feed.specs.m2_control.declared.fields.TheConstants.{GREATEST_NUMBER}
+use Rattle.m2_feed.specs.m2_control.Control as payload
+use Rattle.m2_feed.specs.m2_control.Control.{bare}
+use Rattle.m2_feed.specs.m2_control.Fields.{bounded_at}
+use Rattle.m2_feed.proofs.m2_control.Written.{written_is_read}
+use Rattle.m2_feed.specs.m2_frame.Frame.{Parts}
+use Rattle.m2_feed.specs.m2_frame.Reading.{whole}
+use Rattle.m2_feed.specs.m2_frame.Text as frame
+use Rattle.m2_feed.specs.m2_handshake.Texts.{control_parts}
+use Rattle.m2_feed.specs.m2_message.Message.{with_numbers}
+use Rattle.m2_feed.specs.m2_message.declared.header_text.TheConstants.{HEADER_BYTES}
+use Rattle.m2_feed.specs.m2_message.MessageFrame.{parts_of, message_in}
+use Rattle.m2_feed.proofs.m2_message.Carried.{message_in-carried}
+use Rattle.m2_feed.proofs.m2_message.Headers.{length-header_text}
+use Rattle.m2_feed.specs.m2_journal.Laws.{IsWritable}
+use Rattle.m2_feed.specs.m2_journal.OutFrames as out
+use Rattle.m2_feed.specs.m2_journal.OutFrames.{OutFrame, is_unnamed, server_ident_of}
+use Rattle.m2_feed.specs.m2_journal.Said.{Said, says, brings, garbles, said, said_of_payload}
+use Rattle.m2_feed.specs.m2_journal.SideFacts.{SideFacts}
 use Rattle.m2_never_reset.specs.Fits.{Says, IsRefusal, AreSaid}
 use Rattle.m2_never_reset.specs.Frames.{is_ask}
-use Rattle.m2_frame.specs.declared.tag.Tag.TheVariants as tag
+use Rattle.m2_feed.specs.m2_frame.declared.tag.Tag.TheVariants as tag
 use Rattle.m2_trail.specs.Replies.{refusal}
 use Rattle.m2_bytes_fit.proofs.Sent.{ack_writable, stamp_writable}
 use Rattle.m2_bytes_fit.specs.Texts.{Made, of_message, of_payload, of_none, made, KeepsFormat, CanBeSent, texts_of}
-use Rattle.m2_lemmas.proofs.Booleans.{from_false_true}
+use Rattle.m2_feed.proofs.m2_lemmas.Booleans.{from_false_true}
 
 -- ---- the parts of a frame
 

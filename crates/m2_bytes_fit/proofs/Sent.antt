@@ -3,14 +3,14 @@ use Rattle.std.proofs.Common.{ℕ, ◌<◌, ◌^◌, [], ◌∷◌, ◌++◌, re
 use Rattle.std.specs.List.{All}
 use Rattle.std.specs.Int.{w32, w64, to_le_bytes}
 use Rattle.std.proofs.lemmas.List.Elements.{All-from_recursion, All-append}
-use Rattle.m2_control.specs.declared.control.Control.TheVariants as control
-use Rattle.m2_control.specs.Control as payload
-use Rattle.m2_handshake.specs.Texts.{control_parts, done, signature}
-use Rattle.m2_handshake.proofs.Greeting.{IsSent, payload_read, no_bytes}
-use Rattle.m2_journal.specs.Laws.{IsWritable}
+use Rattle.m2_feed.specs.m2_control.declared.control.Control.TheVariants as control
+use Rattle.m2_feed.specs.m2_control.Control as payload
+use Rattle.m2_feed.specs.m2_handshake.Texts.{control_parts, done, signature}
+use Rattle.m2_feed.proofs.m2_handshake.Greeting.{IsSent, payload_read, no_bytes}
+use Rattle.m2_feed.specs.m2_journal.Laws.{IsWritable}
 use Rattle.m2_trail.specs.Replies.{refusal}
 use Rattle.m2_bytes_fit.specs.Texts.{KeepsFormat}
-use Rattle.m2_lemmas.proofs.Bytes.{four_bytes, eight_zeros as zeros, eight_zeros_before}
+use Rattle.m2_feed.proofs.m2_lemmas.Bytes.{four_bytes, eight_zeros as zeros, eight_zeros_before}
 
 abbrev pub IsByte : ℕ → Type 0
 IsByte b = b < 256

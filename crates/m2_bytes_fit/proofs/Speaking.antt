@@ -1,33 +1,33 @@
 -- What an opener has written is the front of its greeting, whatever it was fed.
 use Rattle.std.proofs.Common.{◌≡◌, ℕ, List, [], ◌∷◌, ◌++◌, Option, Some, None, Result, Ok, Err, refl, sym, ap, ◌∙◌, subst, append_assoc, append-nil}
 use Rattle.std.specs.Prelude.{◌==◌}
-use Rattle.m2_addr.specs.declared.addr.Addr.{Addr}
-use Rattle.m2_control.specs.declared.banner.BannerStep.{BannerStep}
-use Rattle.m2_control.specs.declared.banner.BannerStep.TheVariants.{Got, NotYet, BadBanner}
-use Rattle.m2_control.specs.declared.control.Control.{Control}
-use Rattle.m2_control.specs.declared.control.Control.TheVariants as control
-use Rattle.m2_control.specs.Banner.{banner_in, banner_text}
-use Rattle.m2_frame.specs.Frame.{Parts}
-use Rattle.m2_frame.specs.Reading.{whole, dropped, Front, start, bad, text, judge}
-use Rattle.m2_frame.specs.Tags.{tag_number}
-use Rattle.m2_handshake.specs.declared.fault.HalfFault.{HalfFault}
-use Rattle.m2_handshake.specs.declared.fault.HalfFault.TheVariants as fault
-use Rattle.m2_handshake.specs.declared.stage.Awaited.{Awaited}
-use Rattle.m2_handshake.specs.declared.stage.Awaited.TheVariants.{Hello, Request, Done, Signature}
-use Rattle.m2_handshake.specs.declared.stage.HalfSide.{HalfSide}
-use Rattle.m2_handshake.specs.declared.stage.HalfSide.TheVariants.{Opener}
-use Rattle.m2_handshake.specs.declared.stage.Stage.{Stage}
-use Rattle.m2_handshake.specs.declared.stage.Stage.TheVariants.{Opening, Banner, Waits, Authed, Asked, Ended, Faulty}
-use Rattle.m2_handshake.specs.declared.texts.TheConstants.{CRC}
-use Rattle.m2_handshake.specs.Course.{signed_move, course_move_at, course_move, Event, silent, wrote, asked, failed, replied, Step, rests, goes, step_by, step_of, Goes, Runs, text_in, text_of}
-use Rattle.m2_handshake.specs.Greeting.{greeting}
-use Rattle.m2_handshake.specs.Laws.{IsPrefix}
-use Rattle.m2_handshake.specs.Moves.{Move, stays, quiet, writes, signs, asks, fails, features, is_agreed, after_banner, take_frame, after_reaction, answer_held, read_held}
-use Rattle.m2_handshake.specs.Reading.{payload_in}
-use Rattle.m2_handshake.specs.Standing.{Standing, fed, opener_at_start}
-use Rattle.m2_handshake.specs.Steps.{Reaction, says, signed, refuses, awaited_tag, is_unsigned, after, unawaited, after_payload, after_frame}
-use Rattle.m2_handshake.specs.Texts.{frame_text, hello, request, signature}
-use Rattle.m2_handshake.proofs.Leading.{either}
+use Rattle.m2_feed.specs.m2_addr.declared.addr.Addr.{Addr}
+use Rattle.m2_feed.specs.m2_control.declared.banner.BannerStep.{BannerStep}
+use Rattle.m2_feed.specs.m2_control.declared.banner.BannerStep.TheVariants.{Got, NotYet, BadBanner}
+use Rattle.m2_feed.specs.m2_control.declared.control.Control.{Control}
+use Rattle.m2_feed.specs.m2_control.declared.control.Control.TheVariants as control
+use Rattle.m2_feed.specs.m2_control.Banner.{banner_in, banner_text}
+use Rattle.m2_feed.specs.m2_frame.Frame.{Parts}
+use Rattle.m2_feed.specs.m2_frame.Reading.{whole, dropped, Front, start, bad, text, judge}
+use Rattle.m2_feed.specs.m2_frame.Tags.{tag_number}
+use Rattle.m2_feed.specs.m2_handshake.declared.fault.HalfFault.{HalfFault}
+use Rattle.m2_feed.specs.m2_handshake.declared.fault.HalfFault.TheVariants as fault
+use Rattle.m2_feed.specs.m2_handshake.declared.stage.Awaited.{Awaited}
+use Rattle.m2_feed.specs.m2_handshake.declared.stage.Awaited.TheVariants.{Hello, Request, Done, Signature}
+use Rattle.m2_feed.specs.m2_handshake.declared.stage.HalfSide.{HalfSide}
+use Rattle.m2_feed.specs.m2_handshake.declared.stage.HalfSide.TheVariants.{Opener}
+use Rattle.m2_feed.specs.m2_handshake.declared.stage.Stage.{Stage}
+use Rattle.m2_feed.specs.m2_handshake.declared.stage.Stage.TheVariants.{Opening, Banner, Waits, Authed, Asked, Ended, Faulty}
+use Rattle.m2_feed.specs.m2_handshake.declared.texts.TheConstants.{CRC}
+use Rattle.m2_feed.specs.m2_handshake.Course.{signed_move, course_move_at, course_move, Event, silent, wrote, asked, failed, replied, Step, rests, goes, step_by, step_of, Goes, Runs, text_in, text_of}
+use Rattle.m2_feed.specs.m2_handshake.Greeting.{greeting}
+use Rattle.m2_feed.specs.m2_handshake.Laws.{IsPrefix}
+use Rattle.m2_feed.specs.m2_handshake.Moves.{Move, stays, quiet, writes, signs, asks, fails, features, is_agreed, after_banner, take_frame, after_reaction, answer_held, read_held}
+use Rattle.m2_feed.specs.m2_handshake.Reading.{payload_in}
+use Rattle.m2_feed.specs.m2_handshake.Standing.{Standing, fed, opener_at_start}
+use Rattle.m2_feed.specs.m2_handshake.Steps.{Reaction, says, signed, refuses, awaited_tag, is_unsigned, after, unawaited, after_payload, after_frame}
+use Rattle.m2_feed.specs.m2_handshake.Texts.{frame_text, hello, request, signature}
+use Rattle.m2_feed.proofs.m2_handshake.Leading.{either}
 
 -- what it has written by where it stands: it never waits for AUTH_REQUEST, and is never asked
 abbrev Said : ℕ → Addr → Stage → List ℕ → Type 0

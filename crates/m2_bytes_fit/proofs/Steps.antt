@@ -3,16 +3,16 @@ use Rattle.std.proofs.Common.{◌≡◌, ℕ, inl, Bool, true, false, not, if◌
 use Rattle.std.specs.List.{AllByRecursion, filter, filter_map}
 use Rattle.std.proofs.lemmas.Grind.{flat_map-append}
 use Rattle.std.proofs.lemmas.List.Elements.{filter_map-append}
-use Rattle.m2_fabric.specs.declared.socket.SocketId.{SocketId}
-use Rattle.m2_fabric.specs.Sockets.{same_socket}
-use Rattle.m2_handshake.specs.Course.{text_of}
-use Rattle.m2_journal.specs.Feeds.{begun}
-use Rattle.m2_journal.specs.Items.{JournalItem}
-use Rattle.m2_journal.specs.Laws.{IfFed}
-use Rattle.m2_journal.specs.OutFrames.{OutFrame, is_unnamed}
-use Rattle.m2_journal.specs.SideFacts.{SideFacts}
-use Rattle.m2_journal.specs.State.{Feed, SentFrame, State}
-use Rattle.m2_journal.specs.Steps.{composes}
+use Rattle.m2_feed.specs.m2_fabric.declared.socket.SocketId.{SocketId}
+use Rattle.m2_feed.specs.m2_fabric.Sockets.{same_socket}
+use Rattle.m2_feed.specs.m2_handshake.Course.{text_of}
+use Rattle.m2_feed.specs.m2_journal.Feeds.{begun}
+use Rattle.m2_feed.specs.m2_journal.Items.{JournalItem}
+use Rattle.m2_feed.specs.m2_journal.Laws.{IfFed}
+use Rattle.m2_feed.specs.m2_journal.OutFrames.{OutFrame, is_unnamed}
+use Rattle.m2_feed.specs.m2_journal.SideFacts.{SideFacts}
+use Rattle.m2_feed.specs.m2_journal.State.{Feed, SentFrame, State}
+use Rattle.m2_feed.specs.m2_journal.Steps.{composes}
 use Rattle.m2_never_reset.specs.Frames.{is_ask, frames_on, answers_on}
 use Rattle.m2_never_reset.proofs.Sent.{frames_here, frames_elsewhere}
 use Rattle.m2_bytes_fit.specs.Ends.{read_in, wrote_in, taken_in, read_on, wrote_on, takings_on}
@@ -22,9 +22,9 @@ use Rattle.m2_bytes_fit.proofs.Less.{FeedLess, Less}
 use Rattle.m2_bytes_fit.proofs.Lists.{not_nil, none_not_some}
 use Rattle.m2_bytes_fit.proofs.Puts.{HasPut, is_put, composed_put}
 use Rattle.m2_bytes_fit.proofs.Says.{NoAsk}
-use Rattle.m2_lemmas.proofs.Booleans.{from_false_true}
-use Rattle.m2_fabric.proofs.Sockets.{same_equal}
-use Rattle.m2_lemmas.proofs.Lists.{all_append}
+use Rattle.m2_feed.proofs.m2_lemmas.Booleans.{from_false_true}
+use Rattle.m2_feed.proofs.m2_fabric.Sockets.{same_equal}
+use Rattle.m2_feed.proofs.m2_lemmas.Lists.{all_append}
 
 -- what is kept of every socket, where these entries have led here
 abbrev pub AllKept : SideFacts → List JournalItem → State → Type 0

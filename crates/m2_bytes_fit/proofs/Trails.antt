@@ -3,18 +3,18 @@ use Rattle.std.proofs.Common.{◌≡◌, ℕ, zero, suc, ◌≤◌, ◌<◌, ◌
 use Rattle.std.proofs.lemmas.Bool.{cases_lt, le-ltb}
 use Rattle.std.proofs.lemmas.List.{take_all}
 use Rattle.std.proofs.lemmas.List.Elements.{filter_map-append}
-use Rattle.m2_control.specs.declared.control.Control.{Control}
-use Rattle.m2_fabric.specs.declared.socket.SocketId.{SocketId}
-use Rattle.m2_fabric.specs.Log.{Log}
-use Rattle.m2_fabric.specs.Sockets.{same_socket}
-use Rattle.m2_handshake.specs.Course.{no_exchange}
-use Rattle.m2_handshake.specs.Laws.{IsPrefix}
-use Rattle.m2_handshake.specs.Standing.{Standing, fed}
-use Rattle.m2_handshake.proofs.Reaching.{leads_on}
-use Rattle.m2_journal.specs.declared.entry.Entry.{Entry}
-use Rattle.m2_journal.specs.declared.entry.Entry.TheVariants as entry
-use Rattle.m2_journal.specs.declared.entry.JudgedItem.{JudgedItem}
-use Rattle.m2_journal.specs.Items.{run_of, runs_on}
+use Rattle.m2_feed.specs.m2_control.declared.control.Control.{Control}
+use Rattle.m2_feed.specs.m2_fabric.declared.socket.SocketId.{SocketId}
+use Rattle.m2_feed.specs.m2_fabric.Log.{Log}
+use Rattle.m2_feed.specs.m2_fabric.Sockets.{same_socket}
+use Rattle.m2_feed.specs.m2_handshake.Course.{no_exchange}
+use Rattle.m2_feed.specs.m2_handshake.Laws.{IsPrefix}
+use Rattle.m2_feed.specs.m2_handshake.Standing.{Standing, fed}
+use Rattle.m2_feed.proofs.m2_handshake.Reaching.{leads_on}
+use Rattle.m2_feed.specs.m2_journal.declared.entry.Entry.{Entry}
+use Rattle.m2_feed.specs.m2_journal.declared.entry.Entry.TheVariants as entry
+use Rattle.m2_feed.specs.m2_journal.declared.entry.JudgedItem.{JudgedItem}
+use Rattle.m2_feed.specs.m2_journal.Items.{run_of, runs_on}
 use Rattle.m2_trail.specs.Replies.{reply_to, replies_to, refusal_of, all_replies, first_replies}
 use Rattle.m2_trail.specs.Trails.{TrailNow, ComesToAsk, ComesToWrite, IsTrailOf, begins, got_by, how_many_below, judged_by, put_by, read_by, replies_by, written_by}
 use Rattle.m2_trail.proofs.Judged.{behind, none_is_first}

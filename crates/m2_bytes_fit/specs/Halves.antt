@@ -2,15 +2,15 @@
 -- of the peer have read the asks that were judged, and have written no answer before it was judged.
 use Rattle.std.specs.Prelude.{◌≡◌, ℕ, ◌<◌, ◌^◌, true, false, [], Option, IfSome}
 use Rattle.std.specs.List.{AllByRecursion}
-use Rattle.m2_addr.specs.declared.addr.Addr.{Addr}
-use Rattle.m2_addr.specs.declared.addr.TheConstants.Addr.{MSGR2}
-use Rattle.m2_session.specs.declared.cookie.TheConstants.{MOST_PLACES}
-use Rattle.m2_control.specs.Laws.{HasAddrRanges}
-use Rattle.m2_fabric.specs.declared.socket.SocketId.{SocketId}
-use Rattle.m2_fabric.specs.Sockets.{is_among}
-use Rattle.m2_handshake.specs.Laws.{IsPrefix}
-use Rattle.m2_handshake.specs.Standing.{Standing, acceptor_at_start}
-use Rattle.m2_journal.specs.SideFacts.{SideFacts}
+use Rattle.m2_feed.specs.m2_addr.declared.addr.Addr.{Addr}
+use Rattle.m2_feed.specs.m2_addr.declared.addr.TheConstants.Addr.{MSGR2}
+use Rattle.m2_feed.specs.m2_session.declared.cookie.TheConstants.{MOST_PLACES}
+use Rattle.m2_feed.specs.m2_control.Laws.{HasAddrRanges}
+use Rattle.m2_feed.specs.m2_fabric.declared.socket.SocketId.{SocketId}
+use Rattle.m2_feed.specs.m2_fabric.Sockets.{is_among}
+use Rattle.m2_feed.specs.m2_handshake.Laws.{IsPrefix}
+use Rattle.m2_feed.specs.m2_handshake.Standing.{Standing, acceptor_at_start}
+use Rattle.m2_feed.specs.m2_journal.SideFacts.{SideFacts}
 use Rattle.m2_trail.specs.Replies.{all_replies}
 use Rattle.m2_trail.specs.Trails.{ComesToAsk, ComesToWrite, IsTaken}
 use Rattle.m2_bytes_fit.specs.Ends.{Side, state_of, judged_at, takings_on, got_at, put_at}

@@ -1,13 +1,13 @@
 -- An order of the entries of two journals and of the halves of both sides, and bytes that fit throughout it.
 use Rattle.std.specs.Prelude.{◌≡◌, ℕ, true, false, if◌then◌else◌, List, [], ◌∷◌, ◌++◌}
 use Rattle.std.specs.List.{AllByRecursion, flat_map}
-use Rattle.m2_fabric.specs.declared.socket.SocketId.{SocketId}
-use Rattle.m2_fabric.specs.Sockets.{same_socket, goes_to}
-use Rattle.m2_session.specs.declared.session.Phase.TheVariants.{Ready}
-use Rattle.m2_journal.specs.Items.{JournalItem}
-use Rattle.m2_journal.specs.Replay.{AreLawful}
-use Rattle.m2_journal.specs.SideFacts.{SideFacts}
-use Rattle.m2_journal.specs.State.{start}
+use Rattle.m2_feed.specs.m2_fabric.declared.socket.SocketId.{SocketId}
+use Rattle.m2_feed.specs.m2_fabric.Sockets.{same_socket, goes_to}
+use Rattle.m2_feed.specs.m2_session.declared.session.Phase.TheVariants.{Ready}
+use Rattle.m2_feed.specs.m2_journal.Items.{JournalItem}
+use Rattle.m2_feed.specs.m2_journal.Replay.{AreLawful}
+use Rattle.m2_feed.specs.m2_journal.SideFacts.{SideFacts}
+use Rattle.m2_feed.specs.m2_journal.State.{start}
 use Rattle.m2_never_reset.specs.PairLaws.{IsNoDown}
 use Rattle.m2_never_reset.specs.Orders.{SideItem, near_item, far_item, near_items, far_items, AreNodes, IsHistory, IsNeverReset}
 use Rattle.m2_bytes_fit.specs.Ends.{Side, state_of}

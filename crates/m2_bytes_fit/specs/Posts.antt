@@ -1,9 +1,9 @@
 -- That messages which may be sent keep the bounds of their frames, so that plans can post them.
 use Rattle.std.specs.Prelude.{◌<◌}
 use Rattle.std.specs.List.{All}
-use Rattle.m2_message.specs.declared.message.Message.{Message}
-use Rattle.m2_message.specs.Message.{IsSendable, content_of}
-use Rattle.m2_message.specs.HeaderText.{FieldsFit}
+use Rattle.m2_feed.specs.m2_message.declared.message.Message.{Message}
+use Rattle.m2_feed.specs.m2_message.Message.{IsSendable, content_of}
+use Rattle.m2_feed.specs.m2_message.HeaderText.{FieldsFit}
 use Rattle.m2_bytes_fit.specs.Texts.{KeepsFields}
 
 -- a message's header and bytes keep the ranges of their types, as every message of a program does

@@ -1,21 +1,21 @@
 -- The texts of frames one after the other, and which frames can be read again. Formats: Ceph's msgr2 documentation.
 use Rattle.std.specs.Prelude.{ℕ, List, Some}
 use Rattle.std.specs.List.{flat_map, AllByRecursion}
-use Rattle.m2_control.specs.declared.control.Control.{Control}
-use Rattle.m2_control.specs.declared.control.Control.TheVariants as control
-use Rattle.m2_control.specs.Laws.{HasRanges, IsInBounds}
-use Rattle.m2_handshake.specs.Texts.{control_parts}
-use Rattle.m2_message.specs.Message.{Content, with_numbers}
-use Rattle.m2_message.specs.HeaderText.{FieldsFit}
-use Rattle.m2_message.specs.MessageFrame.{parts_of}
-use Rattle.m2_journal.specs.Items as item
-use Rattle.m2_journal.specs.Items.{JournalItem}
-use Rattle.m2_journal.specs.Laws.{IsWritable}
-use Rattle.m2_journal.specs.OutFrames as out
-use Rattle.m2_journal.specs.OutFrames.{OutFrame, client_ident_of, server_ident_of}
-use Rattle.m2_journal.specs.Plan.{to_post}
-use Rattle.m2_journal.specs.SideFacts.{SideFacts}
-use Rattle.m2_journal.specs.State.{SentFrame}
+use Rattle.m2_feed.specs.m2_control.declared.control.Control.{Control}
+use Rattle.m2_feed.specs.m2_control.declared.control.Control.TheVariants as control
+use Rattle.m2_feed.specs.m2_control.Laws.{HasRanges, IsInBounds}
+use Rattle.m2_feed.specs.m2_handshake.Texts.{control_parts}
+use Rattle.m2_feed.specs.m2_message.Message.{Content, with_numbers}
+use Rattle.m2_feed.specs.m2_message.HeaderText.{FieldsFit}
+use Rattle.m2_feed.specs.m2_message.MessageFrame.{parts_of}
+use Rattle.m2_feed.specs.m2_journal.Items as item
+use Rattle.m2_feed.specs.m2_journal.Items.{JournalItem}
+use Rattle.m2_feed.specs.m2_journal.Laws.{IsWritable}
+use Rattle.m2_feed.specs.m2_journal.OutFrames as out
+use Rattle.m2_feed.specs.m2_journal.OutFrames.{OutFrame, client_ident_of, server_ident_of}
+use Rattle.m2_feed.specs.m2_journal.Plan.{to_post}
+use Rattle.m2_feed.specs.m2_journal.SideFacts.{SideFacts}
+use Rattle.m2_feed.specs.m2_journal.State.{SentFrame}
 use Rattle.m2_feed.specs.FeedLaws.{reconnect_of}
 
 -- ---- what a frame is made of

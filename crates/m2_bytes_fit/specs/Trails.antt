@@ -1,11 +1,11 @@
 -- What a trail gives of its half at each point of an order of its entries and of the judgements of its asks.
 use Rattle.std.specs.Prelude.{ℕ, suc, ◌<◌, ◌≤◌, ◌^◌, List, length, slice_get, slice_index, take, Option, Some, IfSome}
-use Rattle.m2_fabric.specs.Log.{Log}
-use Rattle.m2_handshake.specs.Standing.{Standing}
-use Rattle.m2_journal.specs.declared.entry.Entry.{Entry}
-use Rattle.m2_journal.specs.declared.entry.Entry.TheVariants as entry
-use Rattle.m2_journal.specs.declared.entry.JudgedItem.{JudgedItem}
-use Rattle.m2_journal.specs.Items.{runs_on}
+use Rattle.m2_feed.specs.m2_fabric.Log.{Log}
+use Rattle.m2_feed.specs.m2_handshake.Standing.{Standing}
+use Rattle.m2_feed.specs.m2_journal.declared.entry.Entry.{Entry}
+use Rattle.m2_feed.specs.m2_journal.declared.entry.Entry.TheVariants as entry
+use Rattle.m2_feed.specs.m2_journal.declared.entry.JudgedItem.{JudgedItem}
+use Rattle.m2_feed.specs.m2_journal.Items.{runs_on}
 use Rattle.m2_trail.specs.Replies.{all_replies}
 use Rattle.m2_trail.specs.Trails.{TrailNow, ComesToAsk, ComesToWrite, HalfBytes, IsTrailOf, begins, got_by, judged_by, put_by}
 

@@ -1,9 +1,9 @@
 -- What stays beside a record that answers a half.
 use Rattle.std.proofs.Common.{◌≡◌, inl, inr, Bool, true, false, List, [], ◌∷◌, ◌++◌, Option, Some, None, IfSome, IsSome, refl, sym, ap, subst, ◌∙◌, append-nil}
-use Rattle.m2_control.specs.declared.control.Control.{Control}
-use Rattle.m2_core.specs.declared.verdict.Verdict.{Verdict}
-use Rattle.m2_core.specs.Judging.{verdict_on}
-use Rattle.m2_core.specs.TakingOver.{IsTakenFeed}
+use Rattle.m2_handshake.specs.m2_control.declared.control.Control.{Control}
+use Rattle.m2_record.specs.m2_core.declared.verdict.Verdict.{Verdict}
+use Rattle.m2_record.specs.m2_core.Judging.{verdict_on}
+use Rattle.m2_record.specs.m2_core.TakingOver.{IsTakenFeed}
 use Rattle.m2_fabric.specs.declared.socket.SocketId.{SocketId}
 use Rattle.m2_fabric.specs.End.{SeenEnd}
 use Rattle.m2_fabric.specs.Sockets.{IsNewTo, is_among}
@@ -35,7 +35,7 @@ use Rattle.m2_center.proofs.Came.{alone}
 use Rattle.m2_center.proofs.GoesOn.{room_alone, closed as closed_none}
 use Rattle.m2_center.proofs.Known.{back_known, others_known, steps_known}
 use Rattle.m2_center.proofs.Opened.{filtered, none_came, room_made}
-use Rattle.m2_lemmas.proofs.Booleans.{false_isnt_true}
+use Rattle.m2_bytes.proofs.m2_lemmas.Booleans.{false_isnt_true}
 use Rattle.m2_fabric.proofs.Sockets.{same_equal, among_neither}
 
 -- ---- the sockets that came

@@ -26,7 +26,7 @@ use Rattle.m2_center.specs.Steps.{came_by, came_in}
 use Rattle.m2_journal.proofs.JudgedOn.{lawful_front}
 use Rattle.m2_fabric.proofs.Sockets.{not_among_front, among_neither, same_equal}
 use Rattle.m2_record.proofs.Kept.{ids-append}
-use Rattle.m2_lemmas.proofs.Booleans.{false_isnt_true}
+use Rattle.m2_bytes.proofs.m2_lemmas.Booleans.{false_isnt_true}
 
 -- ---- lists of sockets
 

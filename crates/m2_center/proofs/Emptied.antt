@@ -15,7 +15,7 @@ use Rattle.m2_shared.specs.Throttle.{SeenTakePass}
 use Rattle.m2_center.specs.declared.mailing.Mailed.TheVariants as mailed
 use Rattle.m2_center.specs.Mailing.{DispatchesSome, Mailing, Mails, MailsSome, PutsSome, Queueing, after_puts, all_thrown_away, back_in_mail, heard_at_puts, is_mailed, is_none}
 use Rattle.m2_center.specs.Outbox.{OutboxNow, Takes}
-use Rattle.m2_lemmas.proofs.Booleans.{false_isnt_true}
+use Rattle.m2_bytes.proofs.m2_lemmas.Booleans.{false_isnt_true}
 
 -- ---- one parcel more
 

@@ -2,18 +2,18 @@
 use Rattle.std.proofs.Common.{◌≡◌, ℕ, Bool, true, false, List, [], ◌∷◌, ◌++◌, Option, Some, None, Result, Ok, Err, IfSome, IsSome, if◌then◌else◌, true≢false, refl, sym, ap, ◌∙◌, append-nil, append_assoc}
 use Rattle.std.specs.List.{AllByRecursion}
 use Rattle.m2_bytes.specs.declared.memory.NoMemory as memory
-use Rattle.m2_core.specs.declared.asking.CoreAsk.{CoreAsk}
-use Rattle.m2_core.specs.declared.asking.CoreAsk.TheVariants as ask
-use Rattle.m2_core.specs.declared.to_compose.CoreText.{CoreText}
-use Rattle.m2_core.specs.declared.to_compose.CoreText.TheVariants as text
-use Rattle.m2_core.specs.declared.next.CoreNext.{CoreNext}
-use Rattle.m2_core.specs.declared.next.CoreNext.TheVariants as next
-use Rattle.m2_core.specs.Asking.{LeavesAsk}
-use Rattle.m2_core.specs.CoreNow.{CoreNow}
-use Rattle.m2_core.specs.Front.{FrontHeard, asks, heard_by, rests, tells}
-use Rattle.m2_core.specs.Granting.{Throttled}
-use Rattle.m2_core.specs.Next.{IsNext}
-use Rattle.m2_core.specs.ToCompose.{to_compose}
+use Rattle.m2_record.specs.m2_core.declared.asking.CoreAsk.{CoreAsk}
+use Rattle.m2_record.specs.m2_core.declared.asking.CoreAsk.TheVariants as ask
+use Rattle.m2_record.specs.m2_core.declared.to_compose.CoreText.{CoreText}
+use Rattle.m2_record.specs.m2_core.declared.to_compose.CoreText.TheVariants as text
+use Rattle.m2_record.specs.m2_core.declared.next.CoreNext.{CoreNext}
+use Rattle.m2_record.specs.m2_core.declared.next.CoreNext.TheVariants as next
+use Rattle.m2_record.specs.m2_core.Asking.{LeavesAsk}
+use Rattle.m2_record.specs.m2_core.CoreNow.{CoreNow}
+use Rattle.m2_record.specs.m2_core.Front.{FrontHeard, asks, heard_by, rests, tells}
+use Rattle.m2_record.specs.m2_core.Granting.{Throttled}
+use Rattle.m2_record.specs.m2_core.Next.{IsNext}
+use Rattle.m2_record.specs.m2_core.ToCompose.{to_compose}
 use Rattle.m2_fabric.specs.declared.end.EndRead.{EndRead}
 use Rattle.m2_fabric.specs.declared.end.EndRead.TheVariants as read
 use Rattle.m2_fabric.specs.End.{SeenEnd}
@@ -24,7 +24,7 @@ use Rattle.m2_handshake.specs.declared.answer.HalfStep.{HalfStep}
 use Rattle.m2_handshake.specs.declared.answer.HalfStep.TheVariants as half
 use Rattle.m2_feed.specs.declared.wire_fault.WireFault.{WireFault}
 use Rattle.m2_feed.specs.declared.frame_heard.FrameHeard.TheVariants as heard
-use Rattle.m2_core.specs.LiveNow.{OnFeedNow}
+use Rattle.m2_record.specs.m2_core.LiveNow.{OnFeedNow}
 use Rattle.m2_journal.specs.declared.entry.Entry.{Entry}
 use Rattle.m2_journal.specs.declared.entry.Entry.TheVariants as entry
 use Rattle.m2_journal.specs.declared.facts.PlanStep.{PlanStep}

@@ -7,7 +7,7 @@ use Rattle.m2_record.specs.RecordNow.{RecordNow}
 use Rattle.m2_center.specs.Center.{CenterNow, IsCenter}
 use Rattle.m2_center.specs.Finishing.{AllOwn, IsGranted, rest_of}
 use Rattle.m2_center.specs.Sessions.{IsSupplied, Supply}
-use Rattle.m2_lemmas.proofs.Lists.{all_so}
+use Rattle.m2_bytes.proofs.m2_lemmas.Lists.{all_so}
 
 pub all_own : (s : Supply) (made : List SocketId) (rs : List RecordNow) → AllByRecursion (IsSupplied s made) rs → AllOwn s.place rs
 all_own s made rs all = all_so (IsSupplied s made) (Owns s.place) (λ r is. is.owned) rs all

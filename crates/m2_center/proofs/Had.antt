@@ -12,7 +12,7 @@ use Rattle.m2_center.specs.Hearing as halves
 use Rattle.m2_center.specs.Sessions.{AreConsistent, IsCaller, IsSupplied, PendingNow, Supply, WasCaller, caller_in}
 use Rattle.m2_center.proofs.Came.{are_known}
 use Rattle.m2_center.proofs.RecordsHear.{among_both}
-use Rattle.m2_lemmas.proofs.Booleans.{false_isnt_true}
+use Rattle.m2_bytes.proofs.m2_lemmas.Booleans.{false_isnt_true}
 use Rattle.m2_fabric.proofs.Sockets.{same_equal}
 
 module _ (id : SocketId) (made : List SocketId) (fresh : IsNewTo made id) where

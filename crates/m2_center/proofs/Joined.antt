@@ -25,7 +25,7 @@ use Rattle.m2_center.specs.Sessions.{AreConsistent, Caller, IsCaller, IsSupplied
 use Rattle.m2_center.proofs.Came.{are_known, came_names}
 use Rattle.m2_journal.proofs.JudgedOn.{unjudged}
 use Rattle.m2_fabric.proofs.Sockets.{among_last, among_front, apart_turned, same_equal, among_neither, not_among_front}
-use Rattle.m2_lemmas.proofs.Booleans.{false_isnt_true}
+use Rattle.m2_bytes.proofs.m2_lemmas.Booleans.{false_isnt_true}
 
 -- ---- lists
 

@@ -1,9 +1,9 @@
 -- What a record knows of a half's socket stays so.
 use Rattle.std.proofs.Common.{◌≡◌, ℕ, Bool, true, false, if◌then◌else◌, List, [], ◌∷◌, ◌++◌, Option, Some, None, IfSome, IsSome, refl, sym, ap, subst, ◌∙◌, append-nil}
 use Rattle.std.specs.List.{AllByRecursion}
-use Rattle.m2_core.specs.declared.verdict.Verdict.{Verdict}
-use Rattle.m2_core.specs.Judging.{verdict_on}
-use Rattle.m2_core.specs.TakingOver.{IsTakenFeed}
+use Rattle.m2_record.specs.m2_core.declared.verdict.Verdict.{Verdict}
+use Rattle.m2_record.specs.m2_core.Judging.{verdict_on}
+use Rattle.m2_record.specs.m2_core.TakingOver.{IsTakenFeed}
 use Rattle.m2_feed.specs.FeedNow.{FeedNow}
 use Rattle.m2_fabric.specs.declared.socket.SocketId.{SocketId}
 use Rattle.m2_fabric.specs.End.{SeenEnd}
@@ -34,7 +34,7 @@ use Rattle.m2_center.proofs.Came.{turned}
 use Rattle.m2_center.proofs.GoesOn.{room_alone, steps, closed as closed_none}
 use Rattle.m2_center.proofs.Opened.{filtered, still_made}
 use Rattle.m2_record.proofs.AsksJudged.{judged_append}
-use Rattle.m2_lemmas.proofs.Booleans.{false_isnt_true}
+use Rattle.m2_bytes.proofs.m2_lemmas.Booleans.{false_isnt_true}
 use Rattle.m2_fabric.proofs.Sockets.{same_refl, among_neither}
 
 -- ---- ends and the sockets that became the feed

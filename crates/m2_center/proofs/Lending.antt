@@ -11,7 +11,7 @@ use Rattle.m2_record.specs.Sources.{end_at}
 use Rattle.m2_center.specs.Hearing.{is_on}
 use Rattle.m2_center.specs.Pending.{first_key, in_order, is_found}
 use Rattle.m2_center.specs.Sessions.{PendingNow}
-use Rattle.m2_lemmas.proofs.Booleans.{false_isnt_true}
+use Rattle.m2_bytes.proofs.m2_lemmas.Booleans.{false_isnt_true}
 
 abbrev value_under : Slab PendingNow → Option ℕ → Option PendingNow
 value_under s None = None

@@ -2,7 +2,7 @@
 use Rattle.std.proofs.Common.{◌≡◌, ℕ, Bool, true, false, if◌then◌else◌, List, [], ◌∷◌, ◌++◌, Option, Some, None, IfSome, IsSome, refl, sym, ap, ◌∙◌}
 use Rattle.std.specs.List.{AllByRecursion, filter_map}
 use Rattle.m2_addr.specs.declared.addr.Addr.{Addr}
-use Rattle.m2_core.specs.Calls.{IsOpening}
+use Rattle.m2_record.specs.m2_core.Calls.{IsOpening}
 use Rattle.m2_fabric.specs.declared.socket.SocketId.{SocketId}
 use Rattle.m2_fabric.specs.End.{SeenEnd}
 use Rattle.m2_fabric.specs.Port.{IsNewEnd}
@@ -20,7 +20,7 @@ use Rattle.m2_record.specs.RecordNow.{IsSessionOf, RecordNow}
 use Rattle.m2_center.specs.Connecting.{IsMadeBy}
 use Rattle.m2_center.specs.Steps.{BringsNoSocket, GoesOn, came_by, came_in}
 use Rattle.m2_center.proofs.Came.{are_known, back}
-use Rattle.m2_lemmas.proofs.Booleans.{false_isnt_true}
+use Rattle.m2_bytes.proofs.m2_lemmas.Booleans.{false_isnt_true}
 use Rattle.m2_fabric.proofs.Sockets.{among_neither, not_among_front}
 
 -- ---- the connect that is due

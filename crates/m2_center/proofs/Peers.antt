@@ -7,9 +7,9 @@ use Rattle.m2_addr.specs.declared.addr.Addr.{Addr}
 use Rattle.m2_handshake.specs.Asks.{same_addr}
 use Rattle.m2_record.specs.RecordNow.{RecordNow}
 use Rattle.m2_center.specs.Sessions.{peer_of}
-use Rattle.m2_lemmas.proofs.Lists.{all_of_map}
+use Rattle.m2_bytes.proofs.m2_lemmas.Lists.{all_of_map}
 use Rattle.m2_handshake.proofs.Idents.{same_means}
-use Rattle.m2_lemmas.proofs.Booleans.{false_isnt_true}
+use Rattle.m2_bytes.proofs.m2_lemmas.Booleans.{false_isnt_true}
 
 -- what is not the second isn't the first, where they are the same
 pub differs_too : (a b c : Addr) → same_addr a b ≡ true → same_addr b c ≡ false → same_addr a c ≡ false

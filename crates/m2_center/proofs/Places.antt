@@ -24,7 +24,7 @@ use Rattle.m2_center.specs.Beside.{AllKeepCallers, KeepsCallers}
 use Rattle.m2_center.specs.Halves.{AllHalves, sessions_with}
 use Rattle.m2_center.specs.Sessions.{AreConsistent, IsSupplied, Supply}
 use Rattle.m2_center.proofs.Told.{all_the_same, beside, none_made, nothing_told_on, stay}
-use Rattle.m2_lemmas.proofs.Booleans.{false_isnt_true}
+use Rattle.m2_bytes.proofs.m2_lemmas.Booleans.{false_isnt_true}
 
 -- ---- the first that passes
 

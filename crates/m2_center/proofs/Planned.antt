@@ -7,7 +7,7 @@ use Rattle.m2_bytes.specs.declared.memory.NoMemory as memory
 use Rattle.m2_journal.specs.declared.facts.PlanStep.{PlanStep}
 use Rattle.m2_journal.specs.declared.facts.PlanStep.TheVariants as step
 use Rattle.m2_journal.specs.Plan.{planned}
-use Rattle.m2_core.specs.LiveNow.{held}
+use Rattle.m2_record.specs.m2_core.LiveNow.{held}
 use Rattle.m2_record.specs.Calls.{IsSameButRoom, TakesNext, planned_too, returned_by}
 use Rattle.m2_record.specs.Due.{next_step}
 use Rattle.m2_record.specs.IsRecord.{IsRecord}
@@ -17,7 +17,7 @@ use Rattle.m2_center.specs.Planning.{PlansNow}
 use Rattle.m2_center.specs.Steps.{GoesOn}
 use Rattle.m2_center.proofs.GoesOn.{chain, plans, room_alone, same}
 use Rattle.m2_center.proofs.Known.{goes_on_stays}
-use Rattle.m2_lemmas.proofs.Booleans.{false_isnt_true}
+use Rattle.m2_bytes.proofs.m2_lemmas.Booleans.{false_isnt_true}
 
 -- ---- the new step is the next one
 

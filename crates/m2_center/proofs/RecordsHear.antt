@@ -4,8 +4,8 @@ use Rattle.std.proofs.Common.{◌≡◌, ℕ, Bool, true, false, ◌||◌, if◌
 use Rattle.std.specs.List.{AllByRecursion, flat_map, list_any}
 use Rattle.std.specs.Option.{option_map}
 use Rattle.m2_addr.specs.declared.addr.Addr.{Addr}
-use Rattle.m2_core.specs.LiveCalls.{live_with}
-use Rattle.m2_core.specs.OnFeed.{feed_after_news}
+use Rattle.m2_record.specs.m2_core.LiveCalls.{live_with}
+use Rattle.m2_record.specs.m2_core.OnFeed.{feed_after_news}
 use Rattle.m2_fabric.specs.declared.end.News.{News}
 use Rattle.m2_fabric.specs.declared.socket.SocketId.{SocketId}
 use Rattle.m2_fabric.specs.End.{SeenEnd, after_news}
@@ -29,7 +29,7 @@ use Rattle.m2_trail.specs.Arrivals.{LooseNow}
 use Rattle.m2_center.specs.Sessions.{PendingNow, AreConsistent, IsSupplied, Supply, is_asker, peer_of}
 use Rattle.m2_center.proofs.EndsHear.{heard_ends}
 use Rattle.m2_center.proofs.Told.{all_the_same, none_made, nothing_told_on, stay}
-use Rattle.m2_lemmas.proofs.Booleans.{false_isnt_true}
+use Rattle.m2_bytes.proofs.m2_lemmas.Booleans.{false_isnt_true}
 
 or_assoc : (a b c : Bool) → (a || b) || c ≡ a || (b || c)
 or_assoc true b c = refl

@@ -8,7 +8,7 @@ use Rattle.m2_handshake.specs.Asks.{same_addr}
 use Rattle.m2_handshake.proofs.Idents.{same_is, same_means}
 use Rattle.m2_record.specs.RecordNow.{RecordNow}
 use Rattle.m2_center.specs.Sessions.{peer_of}
-use Rattle.m2_lemmas.proofs.Booleans.{false_isnt_true}
+use Rattle.m2_bytes.proofs.m2_lemmas.Booleans.{false_isnt_true}
 
 -- what isn't the same one way isn't the other way
 turned_too : (a b : Addr) → same_addr a b ≡ false → same_addr b a ≡ false

@@ -2,7 +2,7 @@
 use Rattle.std.proofs.Common.{◌≡◌, ℕ, Bool, true, false, ◌||◌, if◌then◌else◌, List, [], ◌∷◌, ◌++◌, Option, refl, sym, ap, subst, ◌∙◌, append-nil, append_assoc}
 use Rattle.std.specs.List.{AllByRecursion, IsDistinct, list_any}
 use Rattle.m2_addr.specs.declared.addr.Addr.{Addr}
-use Rattle.m2_core.specs.CoreNow.{CoreNow}
+use Rattle.m2_record.specs.m2_core.CoreNow.{CoreNow}
 use Rattle.m2_fabric.specs.declared.socket.SocketId.{SocketId}
 use Rattle.m2_fabric.specs.End.{SeenEnd, fresh_end}
 use Rattle.m2_fabric.specs.Sockets.{IsNewTo, is_among, same_socket}
@@ -26,7 +26,7 @@ use Rattle.m2_center.proofs.Known.{ends_by, fed_by}
 use Rattle.m2_center.proofs.Opened.{filtered, opened_entry, opened_facts}
 use Rattle.m2_fabric.proofs.Sockets.{among_front, same_equal, among_neither, not_among_front}
 use Rattle.m2_center.proofs.Stages.{same_peers}
-use Rattle.m2_lemmas.proofs.Booleans.{false_isnt_true}
+use Rattle.m2_bytes.proofs.m2_lemmas.Booleans.{false_isnt_true}
 
 -- ---- sockets that were made
 

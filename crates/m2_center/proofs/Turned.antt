@@ -30,9 +30,9 @@ use Rattle.m2_center.specs.HalfTurn.{AnswersAt, AnswersFrom, HalfTurning, Homes,
 use Rattle.m2_center.specs.RecordTurn.{Means}
 use Rattle.m2_center.specs.Sessions.{AreConsistent, Caller, IsCaller, IsSupplied, IsTold, PendingNow, Sessions, Supply, WasCaller, caller_in, caller_of, is_asker, peer_of, sockets_of, told_by}
 use Rattle.m2_center.proofs.Peers.{at_place, each_of_two, same_peers, with_one}
-use Rattle.m2_lemmas.proofs.Lists.{all_last, all_so}
+use Rattle.m2_bytes.proofs.m2_lemmas.Lists.{all_last, all_so}
 use Rattle.m2_fabric.proofs.Sockets.{same_turned, apart_turned}
-use Rattle.m2_lemmas.proofs.Booleans.{false_isnt_true}
+use Rattle.m2_bytes.proofs.m2_lemmas.Booleans.{false_isnt_true}
 use Rattle.m2_handshake.proofs.Idents.{same_means}
 
 -- ---- lists

@@ -10,7 +10,7 @@ use Rattle.slab.specs.Slab.{Slab, ContainsKey, Updates, get, slab_len, with_valu
 use Rattle.slab.proofs.SlabLemmas.{ContainsKey-within, Updates-with_value}
 use Rattle.m2_center.specs.Hearing.{first_told}
 use Rattle.m2_center.specs.Pending.{IsOrderOf, IsToldAt, first_key, in_order, is_found}
-use Rattle.m2_lemmas.proofs.Booleans.{false_isnt_true}
+use Rattle.m2_bytes.proofs.m2_lemmas.Booleans.{false_isnt_true}
 
 -- ---- keys that false_isnt_true from one
 

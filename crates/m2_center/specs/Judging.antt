@@ -1,6 +1,6 @@
 -- How an ask is judged at its home, and replied to. The answers are those of the session's tables; the rest is this project's own.
 use Rattle.std.specs.Prelude.{◌≡◌, ℕ, ◌-◌, false, None, IfSome, IsSome}
-use Rattle.m2_core.specs.Judging.{verdict_on}
+use Rattle.m2_record.specs.m2_core.Judging.{verdict_on}
 use Rattle.m2_fabric.specs.Sockets.{IsNewTo}
 use Rattle.m2_journal.specs.Lawful.{judged_on}
 use Rattle.m2_session.specs.declared.answer.Answer.{Answer}

@@ -8,7 +8,7 @@ use Rattle.m2_fabric.specs.End.{SeenEnd}
 use Rattle.m2_fabric.specs.Port.{SeenPort, with_news}
 use Rattle.m2_fabric.specs.Sockets.{same_socket}
 use Rattle.m2_feed.specs.FeedNow.{FeedNow}
-use Rattle.m2_core.specs.LiveCalls.{live_with}
+use Rattle.m2_record.specs.m2_core.LiveCalls.{live_with}
 use Rattle.m2_record.specs.RecordNow.{RecordNow, ends_of}
 use Rattle.m2_trail.specs.Arrivals.{LooseNow}
 use Rattle.m2_center.specs.Halves.{AllHalves}

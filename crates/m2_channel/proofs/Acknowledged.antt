@@ -1,12 +1,12 @@
 -- What an Acked entry names was accepted by the other side before it.
 use Rattle.std.proofs.Common.{ℕ, ◌≤◌, List, [], ◌∷◌, ◌++◌, length, subst}
-use Rattle.m2_journal.specs.Items as item
-use Rattle.m2_journal.specs.Items.{JournalItem}
-use Rattle.m2_journal.specs.Lawful.{Lawful}
-use Rattle.m2_journal.specs.Replay.{AreLawful, after_items}
-use Rattle.m2_journal.specs.SideFacts.{SideFacts}
-use Rattle.m2_journal.specs.State.{State, start}
-use Rattle.m2_journal.specs.Steps.{after}
+use Rattle.m2_never_reset.specs.m2_journal.Items as item
+use Rattle.m2_never_reset.specs.m2_journal.Items.{JournalItem}
+use Rattle.m2_never_reset.specs.m2_journal.Lawful.{Lawful}
+use Rattle.m2_never_reset.specs.m2_journal.Replay.{AreLawful, after_items}
+use Rattle.m2_never_reset.specs.m2_journal.SideFacts.{SideFacts}
+use Rattle.m2_never_reset.specs.m2_journal.State.{State, start}
+use Rattle.m2_never_reset.specs.m2_journal.Steps.{after}
 use Rattle.m2_never_reset.specs.LinkOf.{letters}
 use Rattle.m2_never_reset.specs.Orders.{SideItem, near_item, far_item, near_items, far_items, near_after, far_after, AreNodes, IsHistory, LosslessIsNeverReset}
 use Rattle.m2_channel.specs.ObservedLaws.{AcknowledgedIsAccepted}

@@ -11,18 +11,18 @@ use Rattle.m2_dispatch.specs.declared.parcel.Parcel.TheVariants as parcel
 use Rattle.m2_dispatch.specs.Laws.{Call, Put, Turn, History, start, since, letters_of, after_call, after_calls, EachKeyKeepsItsOrder, DispatchedInOrder, IsSublist}
 use Rattle.m2_dispatch.specs.Letters.{heard_in, letters_of_key, is_of_key}
 use Rattle.m2_dispatch.specs.Parcel.{heard_at_put}
-use Rattle.m2_message.specs.Message.{Content, content_of, unnumbered}
-use Rattle.m2_policy.specs.declared.path.Key.{Key}
+use Rattle.m2_dispatch.specs.m2_message.Message.{Content, content_of, unnumbered}
+use Rattle.m2_dispatch.specs.m2_policy.declared.path.Key.{Key}
 use Rattle.m2_never_reset.specs.Order.{AreFirstOf}
-use Rattle.m2_journal.specs.State as state
-use Rattle.m2_journal.specs.State.{Delivery, State}
+use Rattle.m2_never_reset.specs.m2_journal.State as state
+use Rattle.m2_never_reset.specs.m2_journal.State.{Delivery, State}
 use Rattle.m2_channel.specs.Channel as channel
 use Rattle.m2_channel.specs.Observed.{handed, IsNoDiscard, IsLetter}
 use Rattle.m2_channel.specs.ObservedLaws.{IsLogOf}
 use Rattle.m2_channel.specs.Handing.{IsNoResetOf, peer_of, parcels_of, IsParcelOf, AreParcelsOf, heard_by_calls, IsHeardOf}
 use Rattle.m2_channel.proofs.Keys.{first_of_first}
-use Rattle.m2_lemmas.proofs.Booleans.{from_false_true}
-use Rattle.m2_lemmas.proofs.Lists.{all_append}
+use Rattle.m2_dispatch.proofs.m2_lemmas.Booleans.{from_false_true}
+use Rattle.m2_dispatch.proofs.m2_lemmas.Lists.{all_append}
 
 -- what the law of the queue says
 pub record DispatchesInOrder : Type 0 where

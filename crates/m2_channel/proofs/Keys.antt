@@ -3,14 +3,14 @@ use Rattle.std.proofs.Common.{◌≡◌, Bool, true, false, ◌==◌, if◌then�
 use Rattle.std.proofs.lemmas.Bool.{eqb-true, eq-eqb, and_parts}
 use Rattle.std.proofs.lemmas.Option.{none-some, same_Some}
 use Rattle.m2_dispatch.specs.Heard.{is_key, is_path}
-use Rattle.m2_message.specs.Message.{Content, unnumbered}
-use Rattle.m2_policy.specs.declared.path.Key.{Key}
-use Rattle.m2_policy.specs.declared.path.Path.{Path}
-use Rattle.m2_policy.specs.declared.path.Path.TheVariants.{Fast, Queued}
+use Rattle.m2_dispatch.specs.m2_message.Message.{Content, unnumbered}
+use Rattle.m2_dispatch.specs.m2_policy.declared.path.Key.{Key}
+use Rattle.m2_dispatch.specs.m2_policy.declared.path.Path.{Path}
+use Rattle.m2_dispatch.specs.m2_policy.declared.path.Path.TheVariants.{Fast, Queued}
 use Rattle.m2_never_reset.specs.Order.{AreFirstOf}
 use Rattle.m2_channel.specs.Channel.{KeyedMessage, of_key, keyed, IsNextOf}
 use Rattle.m2_channel.specs.ChannelLaws.{ComeInOrder}
-use Rattle.m2_lemmas.proofs.Booleans.{from_false_true}
+use Rattle.m2_dispatch.proofs.m2_lemmas.Booleans.{from_false_true}
 
 -- ---- keys
 

@@ -11,3 +11,4 @@ pub mod Marks
 pub mod Handing
 pub mod TwoWays
 pub mod Acknowledged
+pub use Rattle.m2_never_reset.proofs as m2_never_reset

@@ -1,12 +1,12 @@
 -- An order in which a side is marked down: before that it is a history, and behind it the channel is marked.
 use Rattle.std.proofs.Common.{◌≡◌, Bool, true, false, ◌⊎◌, inl, inr, if◌then◌else◌, List, [], ◌∷◌, ◌++◌, refl, sym, ap, subst, ◌∙◌, append-nil, append_assoc}
 use Rattle.std.specs.List.{AllByRecursion}
-use Rattle.m2_journal.specs.Items as item
-use Rattle.m2_journal.specs.Items.{JournalItem}
-use Rattle.m2_journal.specs.Replay.{AreLawful, after_items}
-use Rattle.m2_journal.specs.SideFacts.{SideFacts}
-use Rattle.m2_journal.specs.State.{State, start}
-use Rattle.m2_journal.specs.Steps.{after}
+use Rattle.m2_never_reset.specs.m2_journal.Items as item
+use Rattle.m2_never_reset.specs.m2_journal.Items.{JournalItem}
+use Rattle.m2_never_reset.specs.m2_journal.Replay.{AreLawful, after_items}
+use Rattle.m2_never_reset.specs.m2_journal.SideFacts.{SideFacts}
+use Rattle.m2_never_reset.specs.m2_journal.State.{State, start}
+use Rattle.m2_never_reset.specs.m2_journal.Steps.{after}
 use Rattle.m2_never_reset.specs.PairLaws.{IsNoDown}
 use Rattle.m2_never_reset.specs.Orders.{SideItem, near_item, far_item, near_items, far_items, FitThroughout, IsHistory, near_after, far_after, AreNodes, posts_in, LosslessIsNeverReset}
 use Rattle.m2_channel.specs.Channel.{Channel, ChannelStep, mark, new_channel, changed, after_step, after_steps, IsRun}

@@ -3,12 +3,12 @@ use Rattle.std.proofs.Common.{◌≡◌, ℕ, suc, ◌≤◌, Bool, true, false,
 use Rattle.std.specs.List.{AllByRecursion}
 use Rattle.m2_dispatch.specs.Heard as heard
 use Rattle.m2_dispatch.specs.Heard.{Heard, is_key}
-use Rattle.m2_message.specs.Message.{Content, unnumbered}
-use Rattle.m2_policy.specs.declared.path.Key.{Key}
+use Rattle.m2_dispatch.specs.m2_message.Message.{Content, unnumbered}
+use Rattle.m2_dispatch.specs.m2_policy.declared.path.Key.{Key}
 use Rattle.m2_never_reset.specs.Order.{AreFirstOf}
-use Rattle.m2_journal.specs.SideFacts.{SideFacts}
-use Rattle.m2_journal.specs.State as state
-use Rattle.m2_journal.specs.State.{Delivery, State, start}
+use Rattle.m2_never_reset.specs.m2_journal.SideFacts.{SideFacts}
+use Rattle.m2_never_reset.specs.m2_journal.State as state
+use Rattle.m2_never_reset.specs.m2_journal.State.{Delivery, State, start}
 use Rattle.m2_never_reset.specs.Orders as orders
 use Rattle.m2_never_reset.specs.Orders.{SideItem, near_items, IsHistory, near_after, far_after, AreNodes, posts_in, LosslessIsNeverReset}
 use Rattle.m2_channel.specs.Channel as channel
@@ -21,7 +21,7 @@ use Rattle.m2_channel.proofs.Runs.{unmarked_step, leaves, run_append, after_appe
 use Rattle.m2_channel.proofs.Counts.{done_is_all}
 use Rattle.m2_channel.proofs.Orders.{history_turned, nodes_turned, far_after_turned}
 use Rattle.m2_channel.proofs.Through.{Stands, posted_keys, shows_all}
-use Rattle.m2_lemmas.proofs.Lists.{all_append}
+use Rattle.m2_dispatch.proofs.m2_lemmas.Lists.{all_append}
 
 -- ---- what a log has of a peer
 

@@ -2,19 +2,19 @@
 -- it.
 use Rattle.std.proofs.Common.{◌≡◌, Bool, true, false, ◌||◌, List, [], ◌∷◌, ◌++◌, refl, sym, ap, subst, ◌∙◌, append-nil, append_assoc}
 use Rattle.std.specs.List.{AllByRecursion}
-use Rattle.m2_policy.specs.Policy.{is_pair}
-use Rattle.m2_journal.specs.Items.{JournalItem}
-use Rattle.m2_journal.specs.Replay.{AreLawful, after_items}
-use Rattle.m2_journal.specs.SideFacts.{SideFacts}
-use Rattle.m2_journal.specs.State.{State, start}
-use Rattle.m2_journal.specs.Steps.{after}
+use Rattle.m2_dispatch.specs.m2_policy.Policy.{is_pair}
+use Rattle.m2_never_reset.specs.m2_journal.Items.{JournalItem}
+use Rattle.m2_never_reset.specs.m2_journal.Replay.{AreLawful, after_items}
+use Rattle.m2_never_reset.specs.m2_journal.SideFacts.{SideFacts}
+use Rattle.m2_never_reset.specs.m2_journal.State.{State, start}
+use Rattle.m2_never_reset.specs.m2_journal.Steps.{after}
 use Rattle.m2_never_reset.specs.PairLaws.{IsNoDown}
 use Rattle.m2_never_reset.specs.Orders.{SideItem, near_item, far_item, near_items, far_items, FitThroughout, IsHistory, near_after, far_after, AreNodes, posted_in, posts_in}
 use Rattle.m2_channel.specs.Observed.{turned}
 use Rattle.m2_never_reset.proofs.Sided.{near_append, far_append}
-use Rattle.m2_journal.proofs.Growing.{after-append}
+use Rattle.m2_never_reset.proofs.m2_journal.Growing.{after-append}
 use Rattle.m2_never_reset.proofs.Entries.{fits_turn}
-use Rattle.m2_lemmas.proofs.Lists.{all_front}
+use Rattle.m2_dispatch.proofs.m2_lemmas.Lists.{all_front}
 
 -- ---- one after the other
 

@@ -3,41 +3,41 @@
 use Rattle.std.proofs.Common.{◌≡◌, ℕ, ◌+◌, ◌≤◌, max, Bool, true, false, if◌then◌else◌, List, [], ◌∷◌, ◌++◌, length, map, take, drop, Option, Some, None, nat_lt, nat_le, refl, sym, ap, ◌∙◌, arith, append-nil, not, ◌&&◌, subst}
 use Rattle.std.specs.List.{AllByRecursion}
 use Rattle.std.proofs.lemmas.Bool.{le-leb}
-use Rattle.m2_session.specs.declared.ask.AskFacts.{AskFacts}
-use Rattle.m2_fabric.specs.declared.socket.SocketId.{SocketId}
-use Rattle.m2_message.specs.Message.{Content, unnumbered}
-use Rattle.m2_policy.specs.declared.path.Key.{Key}
-use Rattle.m2_queues.specs.QueueLaws.{Next, Sent, Requeue}
-use Rattle.m2_queues.specs.OutQueues.{Queue, message_at, cursor_number, after_sent, after_acked}
-use Rattle.m2_session.specs.declared.answer.Answer.{Answer}
-use Rattle.m2_session.specs.declared.event.Effects.{Effects}
-use Rattle.m2_session.specs.declared.event.Event.{Event}
-use Rattle.m2_session.specs.declared.event.Event.TheVariants as event
-use Rattle.m2_session.specs.SessionLaws as session
-use Rattle.m2_session.specs.declared.session.Phase.TheVariants.{Absent, Standby, Wait}
-use Rattle.m2_session.specs.declared.session.Session.{Session}
-use Rattle.m2_session.specs.Steps as step
-use Rattle.m2_session.specs.Steps.{step_of, fault}
+use Rattle.m2_never_reset.specs.m2_session.declared.ask.AskFacts.{AskFacts}
+use Rattle.m2_never_reset.specs.m2_fabric.declared.socket.SocketId.{SocketId}
+use Rattle.m2_dispatch.specs.m2_message.Message.{Content, unnumbered}
+use Rattle.m2_dispatch.specs.m2_policy.declared.path.Key.{Key}
+use Rattle.m2_dispatch.specs.m2_queues.QueueLaws.{Next, Sent, Requeue}
+use Rattle.m2_dispatch.specs.m2_queues.OutQueues.{Queue, message_at, cursor_number, after_sent, after_acked}
+use Rattle.m2_never_reset.specs.m2_session.declared.answer.Answer.{Answer}
+use Rattle.m2_never_reset.specs.m2_session.declared.event.Effects.{Effects}
+use Rattle.m2_never_reset.specs.m2_session.declared.event.Event.{Event}
+use Rattle.m2_never_reset.specs.m2_session.declared.event.Event.TheVariants as event
+use Rattle.m2_never_reset.specs.m2_session.SessionLaws as session
+use Rattle.m2_never_reset.specs.m2_session.declared.session.Phase.TheVariants.{Absent, Standby, Wait}
+use Rattle.m2_never_reset.specs.m2_session.declared.session.Session.{Session}
+use Rattle.m2_never_reset.specs.m2_session.Steps as step
+use Rattle.m2_never_reset.specs.m2_session.Steps.{step_of, fault}
 use Rattle.m2_never_reset.specs.Steps.{times}
-use Rattle.m2_journal.specs.Feeds.{hears, next_said}
-use Rattle.m2_journal.specs.Items as item
-use Rattle.m2_journal.specs.Items.{JournalItem}
-use Rattle.m2_journal.specs.Lawful.{Lawful, OnFeedAt, MayAcknowledge}
-use Rattle.m2_journal.specs.OutFrames as out
-use Rattle.m2_journal.specs.OutFrames.{OutFrame, is_unnamed, replies_of}
-use Rattle.m2_journal.specs.Plan.{Planned, to_post, to_dial, to_go_down}
-use Rattle.m2_journal.specs.Said.{Said, says, brings, aborts, garbles}
-use Rattle.m2_journal.specs.SideFacts.{SideFacts, cookie_of}
-use Rattle.m2_journal.specs.State as state
-use Rattle.m2_journal.specs.State.{PartText, Feed, Delivery, State}
-use Rattle.m2_journal.specs.Steps.{after, where_true, closes, sets_back, has_effects, tells, tells_if, on_feed_at, posts, composes, sends, sends_late, puts_on, puts, reads, event_heard, event_on, takes_answer_if, breaks, forgets, is_on, writes_message, accepts, answers, notes, takes_answer, takes_socket, with_feed, is_waiting, event_of, queues, writes_ident, writes_reconnect}
+use Rattle.m2_never_reset.specs.m2_journal.Feeds.{hears, next_said}
+use Rattle.m2_never_reset.specs.m2_journal.Items as item
+use Rattle.m2_never_reset.specs.m2_journal.Items.{JournalItem}
+use Rattle.m2_never_reset.specs.m2_journal.Lawful.{Lawful, OnFeedAt, MayAcknowledge}
+use Rattle.m2_never_reset.specs.m2_journal.OutFrames as out
+use Rattle.m2_never_reset.specs.m2_journal.OutFrames.{OutFrame, is_unnamed, replies_of}
+use Rattle.m2_never_reset.specs.m2_journal.Plan.{Planned, to_post, to_dial, to_go_down}
+use Rattle.m2_never_reset.specs.m2_journal.Said.{Said, says, brings, aborts, garbles}
+use Rattle.m2_never_reset.specs.m2_journal.SideFacts.{SideFacts, cookie_of}
+use Rattle.m2_never_reset.specs.m2_journal.State as state
+use Rattle.m2_never_reset.specs.m2_journal.State.{PartText, Feed, Delivery, State}
+use Rattle.m2_never_reset.specs.m2_journal.Steps.{after, where_true, closes, sets_back, has_effects, tells, tells_if, on_feed_at, posts, composes, sends, sends_late, puts_on, puts, reads, event_heard, event_on, takes_answer_if, breaks, forgets, is_on, writes_message, accepts, answers, notes, takes_answer, takes_socket, with_feed, is_waiting, event_of, queues, writes_ident, writes_reconnect}
 use Rattle.m2_never_reset.specs.PairLaws.{IsNoDown}
 use Rattle.m2_never_reset.specs.LinkOf.{letters}
 use Rattle.m2_never_reset.specs.Trouble.{trouble_at, trouble_told}
 use Rattle.m2_channel.specs.Channel.{KeyedMessage, keyed}
 use Rattle.m2_channel.specs.Observed.{handed, brought_by, brought_on, IsLetter}
-use Rattle.m2_lemmas.proofs.Numbers.{none_back}
-use Rattle.m2_lemmas.proofs.Booleans.{from_false_true}
+use Rattle.m2_dispatch.proofs.m2_lemmas.Numbers.{none_back}
+use Rattle.m2_dispatch.proofs.m2_lemmas.Booleans.{from_false_true}
 
 -- ---- what stays
 

@@ -2,18 +2,18 @@
 use Rattle.std.proofs.Common.{◌≡◌, ℕ, zero, suc, ◌+◌, Bool, true, false, ◌&&◌, ◌||◌, nat_lt, if◌then◌else◌, List, [], ◌∷◌, ◌++◌, length, map, Option, Some, None, refl, sym, arith, ◌∙◌}
 use Rattle.std.specs.List.{AllByRecursion}
 use Rattle.std.proofs.lemmas.Bool.{lt-ltb}
-use Rattle.m2_message.specs.Message.{Content}
-use Rattle.m2_policy.specs.declared.path.Key.{Key}
-use Rattle.m2_session.specs.declared.event.Event.{Event}
-use Rattle.m2_session.specs.declared.session.Session.{Session}
-use Rattle.m2_session.specs.Steps.{step_of}
+use Rattle.m2_dispatch.specs.m2_message.Message.{Content}
+use Rattle.m2_dispatch.specs.m2_policy.declared.path.Key.{Key}
+use Rattle.m2_never_reset.specs.m2_session.declared.event.Event.{Event}
+use Rattle.m2_never_reset.specs.m2_session.declared.session.Session.{Session}
+use Rattle.m2_never_reset.specs.m2_session.Steps.{step_of}
 use Rattle.m2_never_reset.specs.Steps.{times}
-use Rattle.m2_journal.specs.Items as item
-use Rattle.m2_journal.specs.Items.{JournalItem}
-use Rattle.m2_journal.specs.Plan.{Planned, to_post, to_dial, to_go_down}
-use Rattle.m2_journal.specs.SideFacts.{SideFacts}
-use Rattle.m2_journal.specs.State.{State}
-use Rattle.m2_journal.specs.Steps.{after, event_at}
+use Rattle.m2_never_reset.specs.m2_journal.Items as item
+use Rattle.m2_never_reset.specs.m2_journal.Items.{JournalItem}
+use Rattle.m2_never_reset.specs.m2_journal.Plan.{Planned, to_post, to_dial, to_go_down}
+use Rattle.m2_never_reset.specs.m2_journal.SideFacts.{SideFacts}
+use Rattle.m2_never_reset.specs.m2_journal.State.{State}
+use Rattle.m2_never_reset.specs.m2_journal.Steps.{after, event_at}
 use Rattle.m2_never_reset.specs.LinkOf.{letters}
 use Rattle.m2_never_reset.specs.Orders.{SideItem, near_item, far_item, near_items, far_items, trouble_in, IsNoFullReset}
 use Rattle.m2_never_reset.specs.Trouble.{trouble_at, trouble_told}
@@ -21,8 +21,8 @@ use Rattle.m2_channel.specs.Channel.{ChannelStep, accept, IsNoReset}
 use Rattle.m2_channel.specs.Observed.{brought_on, shown_by_sender, shown_by_reader, shown_down, shown_reset, resets_told, obeys_in_full, is_reset, shown_near, shown_far, shown_from}
 use Rattle.m2_channel.specs.ObservedLaws.{ResetsAreObserved}
 use Rattle.m2_channel.proofs.Through.{no_reset_at}
-use Rattle.m2_lemmas.proofs.Lists.{all_back, all_front, all_append}
-use Rattle.m2_lemmas.proofs.Booleans.{from_false_true}
+use Rattle.m2_dispatch.proofs.m2_lemmas.Lists.{all_back, all_front, all_append}
+use Rattle.m2_dispatch.proofs.m2_lemmas.Booleans.{from_false_true}
 
 none_shown : (b : Bool) → AllByRecursion IsNoReset (shown_reset b) → b ≡ false
 none_shown true h = absurd h.0

@@ -5,8 +5,8 @@ use Rattle.m2_channel.specs.Channel.{Channel, ChannelStep, post, accept, dispatc
 use Rattle.m2_channel.specs.Channel.{IsLawful, MayTake, changed, after_step, after_steps, IsRun, IsNoMark, IsNoReset, unmarked, posts, acceptances, dispatches}
 use Rattle.m2_channel.specs.ChannelLaws.{ComeInOrder, IsOrdered, RunsKeepOrder, RunsDeliver, UnmarkedRunsDeliver}
 use Rattle.m2_channel.proofs.Keys.{in_order_over, in_order_behind, in_order_next}
-use Rattle.m2_lemmas.proofs.Lists.{all_front}
-use Rattle.m2_lemmas.proofs.Booleans.{from_false_true}
+use Rattle.m2_dispatch.proofs.m2_lemmas.Lists.{all_front}
+use Rattle.m2_dispatch.proofs.m2_lemmas.Booleans.{from_false_true}
 
 -- ---- one step
 

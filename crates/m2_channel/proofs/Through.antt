@@ -5,24 +5,24 @@ use Rattle.std.specs.List.{AllByRecursion}
 use Rattle.std.proofs.lemmas.List.{map-append}
 use Rattle.std.proofs.lemmas.List.Elements.{filter-append}
 use Rattle.m2_dispatch.specs.Heard.{is_key}
-use Rattle.m2_message.specs.Message.{Content, unnumbered}
-use Rattle.m2_policy.specs.declared.path.Key.{Key}
-use Rattle.m2_session.specs.declared.event.Event.{Event}
-use Rattle.m2_session.specs.declared.session.Session.{Session}
-use Rattle.m2_session.specs.Steps.{step_of}
+use Rattle.m2_dispatch.specs.m2_message.Message.{Content, unnumbered}
+use Rattle.m2_dispatch.specs.m2_policy.declared.path.Key.{Key}
+use Rattle.m2_never_reset.specs.m2_session.declared.event.Event.{Event}
+use Rattle.m2_never_reset.specs.m2_session.declared.session.Session.{Session}
+use Rattle.m2_never_reset.specs.m2_session.Steps.{step_of}
 use Rattle.m2_never_reset.specs.Order.{AreFirstOf}
 use Rattle.m2_never_reset.specs.Steps.{times}
-use Rattle.m2_journal.specs.Feeds.{next_said}
-use Rattle.m2_journal.specs.Items as item
-use Rattle.m2_journal.specs.Items.{JournalItem}
-use Rattle.m2_journal.specs.Lawful.{Lawful, OnFeedAt, MayAccept, IsNext, key_of}
-use Rattle.m2_journal.specs.Plan.{Planned, to_post, to_dial, to_go_down}
-use Rattle.m2_journal.specs.Replay.{AreLawful, after_items}
-use Rattle.m2_journal.specs.Said.{Said, says, brings, aborts, garbles}
-use Rattle.m2_journal.specs.SideFacts.{SideFacts}
-use Rattle.m2_journal.specs.State as state
-use Rattle.m2_journal.specs.State.{Feed, Delivery, State, start}
-use Rattle.m2_journal.specs.Steps.{after, event_at}
+use Rattle.m2_never_reset.specs.m2_journal.Feeds.{next_said}
+use Rattle.m2_never_reset.specs.m2_journal.Items as item
+use Rattle.m2_never_reset.specs.m2_journal.Items.{JournalItem}
+use Rattle.m2_never_reset.specs.m2_journal.Lawful.{Lawful, OnFeedAt, MayAccept, IsNext, key_of}
+use Rattle.m2_never_reset.specs.m2_journal.Plan.{Planned, to_post, to_dial, to_go_down}
+use Rattle.m2_never_reset.specs.m2_journal.Replay.{AreLawful, after_items}
+use Rattle.m2_never_reset.specs.m2_journal.Said.{Said, says, brings, aborts, garbles}
+use Rattle.m2_never_reset.specs.m2_journal.SideFacts.{SideFacts}
+use Rattle.m2_never_reset.specs.m2_journal.State as state
+use Rattle.m2_never_reset.specs.m2_journal.State.{Feed, Delivery, State, start}
+use Rattle.m2_never_reset.specs.m2_journal.Steps.{after, event_at}
 use Rattle.m2_never_reset.specs.PairLaws.{IsNoDown}
 use Rattle.m2_never_reset.specs.LinkOf.{letters}
 use Rattle.m2_never_reset.specs.Orders as orders
@@ -36,8 +36,8 @@ use Rattle.m2_channel.proofs.Keys.{key_self, next_is, of_key-append}
 use Rattle.m2_channel.proofs.Runs.{unmarked_step, run_append, after_append}
 use Rattle.m2_channel.proofs.Quiet.{Leads, entry_leads}
 use Rattle.m2_channel.proofs.Orders.{near_on, far_on, posts_on, posts_beside, history_first}
-use Rattle.m2_lemmas.proofs.Booleans.{from_false_true}
-use Rattle.m2_lemmas.proofs.Lists.{all_append}
+use Rattle.m2_dispatch.proofs.m2_lemmas.Booleans.{from_false_true}
+use Rattle.m2_dispatch.proofs.m2_lemmas.Lists.{all_append}
 
 -- ---- messages and their keys
 

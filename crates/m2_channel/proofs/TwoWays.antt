@@ -6,19 +6,19 @@ use Rattle.std.proofs.lemmas.List.{map-append}
 use Rattle.m2_dispatch.specs.Heard as heard
 use Rattle.m2_dispatch.specs.Heard.{Heard, is_key, is_path}
 use Rattle.m2_dispatch.specs.Laws.{Call, IsSublist, start}
-use Rattle.m2_message.specs.Message.{Content, unnumbered}
-use Rattle.m2_policy.specs.declared.path.Key.{Key}
-use Rattle.m2_policy.specs.declared.path.Path.{Path}
-use Rattle.m2_policy.specs.declared.path.Path.TheVariants.{Fast, Queued}
+use Rattle.m2_dispatch.specs.m2_message.Message.{Content, unnumbered}
+use Rattle.m2_dispatch.specs.m2_policy.declared.path.Key.{Key}
+use Rattle.m2_dispatch.specs.m2_policy.declared.path.Path.{Path}
+use Rattle.m2_dispatch.specs.m2_policy.declared.path.Path.TheVariants.{Fast, Queued}
 use Rattle.m2_never_reset.specs.Order.{AreFirstOf}
-use Rattle.m2_journal.specs.State as state
-use Rattle.m2_journal.specs.State.{Delivery, State}
+use Rattle.m2_never_reset.specs.m2_journal.State as state
+use Rattle.m2_never_reset.specs.m2_journal.State.{Delivery, State}
 use Rattle.m2_channel.specs.Channel as channel
 use Rattle.m2_channel.specs.Observed.{handed, IsLetter, IsNoDiscard}
 use Rattle.m2_channel.specs.Handing.{heard_at_once, queued_of, calls_of, AreFirstCalls, AreParcelsOf, IsNoResetOf, parcels_of, heard_by_calls, IsHeardOf, LogsAreLogs}
 use Rattle.m2_channel.proofs.Handing.{DispatchesInOrder, heard-append, queue_logs, some_of_more}
-use Rattle.m2_lemmas.proofs.Booleans.{if_false, from_false_true}
-use Rattle.m2_lemmas.proofs.Lists.{all_append}
+use Rattle.m2_dispatch.proofs.m2_lemmas.Booleans.{if_false, from_false_true}
+use Rattle.m2_dispatch.proofs.m2_lemmas.Lists.{all_append}
 
 -- ---- keys
 

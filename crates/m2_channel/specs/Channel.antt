@@ -3,8 +3,8 @@
 -- own.
 use Rattle.std.specs.Prelude.{◌≡◌, ℕ, ◌≤◌, ◌⊎◌, max, Bool, true, false, if◌then◌else◌, List, [], ◌∷◌, ◌++◌, length, slice_get, Some}
 use Rattle.m2_dispatch.specs.Heard.{is_key}
-use Rattle.m2_message.specs.Message.{Content, unnumbered}
-use Rattle.m2_policy.specs.declared.path.Key.{Key}
+use Rattle.m2_dispatch.specs.m2_message.Message.{Content, unnumbered}
+use Rattle.m2_dispatch.specs.m2_policy.declared.path.Key.{Key}
 
 -- a message with its key at the side that dispatches it, a priority with a path
 pub record KeyedMessage : Type 0 where

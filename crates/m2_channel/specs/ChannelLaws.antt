@@ -1,7 +1,7 @@
 -- What is promised of the runs of the ordered channel: up to a mark everything, and nothing of what comes behind it.
 use Rattle.std.specs.Prelude.{◌≡◌, ℕ, ◌≤◌, List, ◌∷◌, ◌++◌, length}
 use Rattle.std.specs.List.{AllByRecursion}
-use Rattle.m2_policy.specs.declared.path.Key.{Key}
+use Rattle.m2_dispatch.specs.m2_policy.declared.path.Key.{Key}
 use Rattle.m2_never_reset.specs.Order.{AreFirstOf}
 use Rattle.m2_channel.specs.Channel.{KeyedMessage, of_key, Channel, ChannelStep, acknowledge, new_channel}
 use Rattle.m2_channel.specs.Channel.{after_steps, IsRun, IsNoMark, IsNoReset, unmarked, posts, acceptances, dispatches}

@@ -10,11 +10,11 @@ use Rattle.m2_dispatch.specs.declared.parcel.Parcel.TheVariants as parcel
 use Rattle.m2_dispatch.specs.Laws.{Call, Put, Turn, History, IsSublist, start, after_call}
 use Rattle.m2_dispatch.specs.Letters.{heard_in}
 use Rattle.m2_dispatch.specs.Parcel.{heard_at_put}
-use Rattle.m2_message.specs.Message.{content_of, unnumbered}
-use Rattle.m2_policy.specs.declared.path.Key.{Key}
-use Rattle.m2_policy.specs.declared.path.Path.TheVariants.{Fast}
-use Rattle.m2_journal.specs.State as state
-use Rattle.m2_journal.specs.State.{Delivery, State}
+use Rattle.m2_dispatch.specs.m2_message.Message.{content_of, unnumbered}
+use Rattle.m2_dispatch.specs.m2_policy.declared.path.Key.{Key}
+use Rattle.m2_dispatch.specs.m2_policy.declared.path.Path.TheVariants.{Fast}
+use Rattle.m2_never_reset.specs.m2_journal.State as state
+use Rattle.m2_never_reset.specs.m2_journal.State.{Delivery, State}
 use Rattle.m2_channel.specs.Channel as channel
 use Rattle.m2_channel.specs.Observed.{all_of, handed, IsLetter}
 use Rattle.m2_channel.specs.ObservedLaws.{IsLogOf}

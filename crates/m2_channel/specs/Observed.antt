@@ -3,21 +3,21 @@
 use Rattle.std.specs.Prelude.{ℕ, ◌+◌, ◌&&◌, ◌||◌, ◌==◌, Bool, true, false, nat_lt, if◌then◌else◌, List, [], ◌∷◌, ◌++◌, length, map, Option, Some, None}
 use Rattle.m2_dispatch.specs.Heard as heard
 use Rattle.m2_dispatch.specs.Heard.{Heard}
-use Rattle.m2_message.specs.Message.{Content}
-use Rattle.m2_session.specs.declared.event.Effects.{Effects}
-use Rattle.m2_session.specs.declared.event.Event.{Event}
-use Rattle.m2_session.specs.declared.session.Session.{Session}
-use Rattle.m2_session.specs.Steps.{step_of}
-use Rattle.m2_journal.specs.Feeds.{next_said}
-use Rattle.m2_journal.specs.Items as item
-use Rattle.m2_journal.specs.Items.{JournalItem}
-use Rattle.m2_journal.specs.Lawful.{key_of}
-use Rattle.m2_journal.specs.Plan.{to_post}
-use Rattle.m2_journal.specs.Said.{Said, brings}
-use Rattle.m2_journal.specs.SideFacts.{SideFacts}
-use Rattle.m2_journal.specs.State as state
-use Rattle.m2_journal.specs.State.{Feed, Delivery, State, start}
-use Rattle.m2_journal.specs.Steps.{after, event_at}
+use Rattle.m2_dispatch.specs.m2_message.Message.{Content}
+use Rattle.m2_never_reset.specs.m2_session.declared.event.Effects.{Effects}
+use Rattle.m2_never_reset.specs.m2_session.declared.event.Event.{Event}
+use Rattle.m2_never_reset.specs.m2_session.declared.session.Session.{Session}
+use Rattle.m2_never_reset.specs.m2_session.Steps.{step_of}
+use Rattle.m2_never_reset.specs.m2_journal.Feeds.{next_said}
+use Rattle.m2_never_reset.specs.m2_journal.Items as item
+use Rattle.m2_never_reset.specs.m2_journal.Items.{JournalItem}
+use Rattle.m2_never_reset.specs.m2_journal.Lawful.{key_of}
+use Rattle.m2_never_reset.specs.m2_journal.Plan.{to_post}
+use Rattle.m2_never_reset.specs.m2_journal.Said.{Said, brings}
+use Rattle.m2_never_reset.specs.m2_journal.SideFacts.{SideFacts}
+use Rattle.m2_never_reset.specs.m2_journal.State as state
+use Rattle.m2_never_reset.specs.m2_journal.State.{Feed, Delivery, State, start}
+use Rattle.m2_never_reset.specs.m2_journal.Steps.{after, event_at}
 use Rattle.m2_never_reset.specs.LinkOf.{letters}
 use Rattle.m2_never_reset.specs.Orders.{SideItem, near_item, far_item}
 use Rattle.m2_channel.specs.Channel.{KeyedMessage, keyed, ChannelStep, post, accept, dispatch, acknowledge, mark, reset}

@@ -4,13 +4,13 @@ use Rattle.std.specs.Prelude.{◌≡◌, ℕ, ◌≤◌, List, [], ◌∷◌, �
 use Rattle.std.specs.List.{AllByRecursion}
 use Rattle.m2_dispatch.specs.Heard as heard
 use Rattle.m2_dispatch.specs.Heard.{Heard}
-use Rattle.m2_message.specs.Message.{Content, unnumbered}
-use Rattle.m2_policy.specs.declared.path.Key.{Key}
-use Rattle.m2_journal.specs.Items as item
-use Rattle.m2_journal.specs.Lawful.{key_of}
-use Rattle.m2_journal.specs.Replay.{AreLawful}
-use Rattle.m2_journal.specs.SideFacts.{SideFacts}
-use Rattle.m2_journal.specs.State.{State, start}
+use Rattle.m2_dispatch.specs.m2_message.Message.{Content, unnumbered}
+use Rattle.m2_dispatch.specs.m2_policy.declared.path.Key.{Key}
+use Rattle.m2_never_reset.specs.m2_journal.Items as item
+use Rattle.m2_never_reset.specs.m2_journal.Lawful.{key_of}
+use Rattle.m2_never_reset.specs.m2_journal.Replay.{AreLawful}
+use Rattle.m2_never_reset.specs.m2_journal.SideFacts.{SideFacts}
+use Rattle.m2_never_reset.specs.m2_journal.State.{State, start}
 use Rattle.m2_never_reset.specs.Order.{AreFirstOf}
 use Rattle.m2_never_reset.specs.LinkOf.{letters}
 use Rattle.m2_never_reset.specs.Orders as orders

@@ -1,8 +1,8 @@
 -- What is told where the last line leads is the outcome of the run.
 use Rattle.std.proofs.Common.{◌≡◌, List, length, map, Result, Ok, Err, IfOk}
 use Rattle.m2_bytes.specs.declared.memory.NoMemory as memory
-use Rattle.m2_dispatch.specs.declared.logged.Logged.{Logged}
-use Rattle.m2_dispatch.specs.Heard.{heard_by}
+use Rattle.m2_scenario.specs.m2_dispatch.declared.logged.Logged.{Logged}
+use Rattle.m2_scenario.specs.m2_dispatch.Heard.{heard_by}
 use Rattle.m2_script.specs.declared.outcome.Outcome.{Outcome}
 use Rattle.m2_promise.specs.Posted.{KeepsPromise}
 use Rattle.m2_scenario.specs.Report.{heard_in}

@@ -2,7 +2,7 @@
 use Rattle.std.proofs.Common.{◌≡◌, ℕ, zero, suc, ◌==◌, ◌%◌, Bool, true, false, cond, List, [], ◌∷◌, ◌++◌, refl, ◌∙◌}
 use Rattle.std.specs.List.{AllByRecursion, list_any}
 use Rattle.std.proofs.lemmas.List.Folds.{list_any-append}
-use Rattle.m2_dispatch.specs.declared.logged.Logged.{Logged}
+use Rattle.m2_scenario.specs.m2_dispatch.declared.logged.Logged.{Logged}
 use Rattle.m2_scenario.specs.Cluster.{all_pairs}
 use Rattle.m2_scenario.specs.Generated.{draws_of, fault_after, first_lines, generated, lines_by, settle_by}
 use Rattle.m2_scenario.specs.OrderLaws.{AreAll}

@@ -3,8 +3,8 @@ use Rattle.std.proofs.Common.{◌≡◌, ◌∙◌, ℕ, zero, suc, Bool, true, 
 use Rattle.std.specs.Prelude.{◌==◌}
 use Rattle.std.specs.List.{AllByRecursion}
 use Rattle.std.proofs.lemmas.Bool.{eqb-true}
-use Rattle.m2_dispatch.specs.declared.logged.Logged.{Logged}
-use Rattle.m2_dispatch.specs.Heard.{heard_by}
+use Rattle.m2_scenario.specs.m2_dispatch.declared.logged.Logged.{Logged}
+use Rattle.m2_scenario.specs.m2_dispatch.Heard.{heard_by}
 use Rattle.m2_edge.specs.Sink.{SeenSink, TakesBytes, TakesPrefix}
 use Rattle.m2_scenario.specs.OrderLaws.{CallsAndLeftArePosts}
 use Rattle.m2_scenario.specs.Order.{AreCounted, HearsPrefix, HearsWhole, OverEach, fast_of}

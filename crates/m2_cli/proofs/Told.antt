@@ -4,8 +4,8 @@ use Rattle.std.specs.List.{AllByRecursion}
 use Rattle.std.proofs.lemmas.List.Elements.{All-from_recursion}
 use Rattle.std.proofs.Math.ListN.{length-map}
 use Rattle.m2_bytes.specs.Items.{Holding}
-use Rattle.m2_dispatch.specs.declared.logged.Logged.{Logged}
-use Rattle.m2_dispatch.specs.Heard.{Heard, heard_by, peer_of}
+use Rattle.m2_scenario.specs.m2_dispatch.declared.logged.Logged.{Logged}
+use Rattle.m2_scenario.specs.m2_dispatch.Heard.{Heard, heard_by, peer_of}
 use Rattle.m2_scenario.specs.Order.{AreOfJoined, IsPeer, at}
 use Rattle.m2_scenario.specs.Report.{AreLogsOf, IsLogOf, IsOfNodes, heard_in}
 use Rattle.m2_scenario.specs.declared.link.Link.{Link}

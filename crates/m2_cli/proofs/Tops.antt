@@ -1,6 +1,6 @@
 -- What a run leaves, by what its work came to.
 use Rattle.std.proofs.Common.{ℕ, ◌==◌, Bool, true, false, cond, List, Result, Ok, Err, sym, subst, inl, inr}
-use Rattle.m2_dispatch.specs.Heard.{heard_by}
+use Rattle.m2_scenario.specs.m2_dispatch.Heard.{heard_by}
 use Rattle.m2_cli.specs.declared.printout.Printout.{Printout}
 use Rattle.m2_cli.specs.declared.status.Status.{Status}
 use Rattle.m2_cli.specs.declared.status.Status.TheVariants as status

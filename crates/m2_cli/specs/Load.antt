@@ -2,8 +2,8 @@
 use Rattle.std.specs.Prelude.{◌≡◌, ◌⊎◌, ℕ, ◌+◌, false, List, [], ◌∷◌, ◌++◌, codes, length, sum_by}
 use Rattle.std.specs.Fmt.{decimal}
 use Rattle.std.specs.List.{AllByRecursion}
-use Rattle.m2_dispatch.specs.declared.logged.Logged.{Logged}
-use Rattle.m2_dispatch.specs.Heard.{heard_by}
+use Rattle.m2_scenario.specs.m2_dispatch.declared.logged.Logged.{Logged}
+use Rattle.m2_scenario.specs.m2_dispatch.Heard.{heard_by}
 use Rattle.m2_edge.specs.Sink.{TakesBytes, TakesPrefix}
 use Rattle.m2_scenario.specs.Generated.{generated}
 use Rattle.m2_cli.specs.Run.{gave_up_at}

@@ -6,8 +6,8 @@
 -- left, the dispatched ones and the count are together the posts. Where a write failed, what was printed is a prefix of such a report.
 use Rattle.std.specs.Prelude.{◌≡◌, ◌⊎◌, ◌+◌, ℕ, false, List, length, map, sum_by, count_by, Ok}
 use Rattle.std.specs.List.{AllByRecursion}
-use Rattle.m2_dispatch.specs.declared.logged.Logged.{Logged}
-use Rattle.m2_dispatch.specs.Heard.{heard_by}
+use Rattle.m2_scenario.specs.m2_dispatch.declared.logged.Logged.{Logged}
+use Rattle.m2_scenario.specs.m2_dispatch.Heard.{heard_by}
 use Rattle.m2_edge.specs.Sink.{TakesBytes, TakesPrefix}
 use Rattle.m2_scenario.specs.OrderLaws.{AreAll}
 use Rattle.m2_scenario.specs.Order.{AreCounted, AreOfJoined, HearsNoReset, HearsPrefix, HearsWhole, OverEach, fast_of}

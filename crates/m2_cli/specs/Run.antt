@@ -1,7 +1,7 @@
 -- What a run of a scenario leaves. This project's own.
 use Rattle.std.specs.Prelude.{◌≡◌, List, map}
-use Rattle.m2_dispatch.specs.declared.logged.Logged.{Logged}
-use Rattle.m2_dispatch.specs.Heard.{heard_by}
+use Rattle.m2_scenario.specs.m2_dispatch.declared.logged.Logged.{Logged}
+use Rattle.m2_scenario.specs.m2_dispatch.Heard.{heard_by}
 use Rattle.m2_script.specs.declared.outcome.Outcome.{Outcome}
 pub use Rattle.m2_promise.specs.Posted.{HearsSome, IsAccountedOver, IsMarkedSo, KeepsPromise, gave_up_at, is_down_of, is_lossy}
 use Rattle.m2_promise.specs.Posted as posted

@@ -1,7 +1,7 @@
 -- What a scenario file comes to: a status and a report, by a run of its lines over nodes and the sockets between them.
 use Rattle.std.specs.Prelude.{◌≡◌, ℕ, ◌==◌, false, List, [], if◌then◌else◌, map, Result, Ok, Err}
-use Rattle.m2_dispatch.specs.declared.logged.Logged.{Logged}
-use Rattle.m2_dispatch.specs.Heard.{heard_by}
+use Rattle.m2_scenario.specs.m2_dispatch.declared.logged.Logged.{Logged}
+use Rattle.m2_scenario.specs.m2_dispatch.Heard.{heard_by}
 use Rattle.m2_cli.specs.declared.status.Status.{Status}
 use Rattle.m2_cli.specs.declared.status.Status.TheVariants.{Done, BadScenario, Left}
 use Rattle.m2_cli.specs.Run.{IsScriptRun, KeepsPromise}

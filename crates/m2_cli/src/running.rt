@@ -1,7 +1,7 @@
 //! A scenario's run.
 
 ghost use Rattle.std.specs.Prelude.{◌≡◌, IfOk, List, map};
-ghost use Rattle.m2_dispatch.specs.Heard.{heard_by};
+ghost use Rattle.m2_scenario.specs.m2_dispatch.Heard.{heard_by};
 ghost use Rattle.m2_scenario.specs.Report.{heard_in};
 ghost use Rattle.m2_scenario.specs.Draft.{draft_line};
 ghost use Rattle.m2_scenario.specs.Valid.{IsSound};

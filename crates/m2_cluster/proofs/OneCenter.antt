@@ -8,15 +8,15 @@ use Rattle.m2_fabric.specs.declared.socket.SocketId.{SocketId}
 use Rattle.m2_fabric.specs.End.{SeenEnd, after_news, fresh_end}
 use Rattle.m2_fabric.specs.Port.{may_wait, one_hears, with_incoming, with_news, with_waiting}
 use Rattle.m2_fabric.specs.Sockets.{goes_to, is_among, same_socket}
-use Rattle.m2_record.specs.RecordNow.{ids_of}
-use Rattle.m2_record.specs.Sources.{end_at}
+use Rattle.m2_center.specs.m2_record.RecordNow.{ids_of}
+use Rattle.m2_center.specs.m2_record.Sources.{end_at}
 use Rattle.m2_center.specs.Center.{CenterNow}
 use Rattle.m2_center.specs.Reaching.{after_hearing, all_ends_in, ends_in, ends_or_none, has_half, waiting_at}
 use Rattle.m2_center.specs.RecordEnds.{has_end, records_hear}
 use Rattle.m2_center.proofs.RecordsHear.{all_center_ends, among_both, among_ends, center_ends}
 use Rattle.m2_center.specs.Hearing as halves
 use Rattle.m2_cluster.specs.Node.{ComesIn, HearsIn, KeepsPort, NodeNow, Shows, end_in, has_in, waits_in}
-use Rattle.m2_lemmas.proofs.Booleans.{or_false, false_isnt_true}
+use Rattle.m2_bytes.proofs.m2_lemmas.Booleans.{or_false, false_isnt_true}
 use Rattle.m2_fabric.proofs.Sockets.{apart_turned, same_equal, same_refl}
 
 -- ---- the first end of a socket in a list

@@ -7,13 +7,13 @@ use Rattle.m2_fabric.specs.End.{SeenEnd, fresh_end}
 use Rattle.m2_fabric.specs.Holder.{ChangesOneEnd, ComesTo, EndName, IsAsBefore, IsOther, IsThere, OneEndHears, end_had, may_come}
 use Rattle.m2_fabric.specs.Log.{Log}
 use Rattle.m2_fabric.specs.Sockets.{goes_to, is_among, same_socket}
-use Rattle.m2_record.specs.Sources.{end_at}
+use Rattle.m2_center.specs.m2_record.Sources.{end_at}
 use Rattle.m2_center.specs.Reaching.{ends_in}
 use Rattle.m2_cluster.proofs.OneCenter.{had_in}
 use Rattle.m2_cluster.specs.Cluster.{ClusterNow, address_of, end_of, held_by, made_by, rest_of, waits_at}
 use Rattle.m2_cluster.specs.Node.{ComesIn, HearsIn, KeepsOthers, KeepsPort, NodeNow, Shows, may_come_in, rest_of_node}
-use Rattle.m2_lemmas.proofs.Options.{none_isnt_some}
-use Rattle.m2_lemmas.proofs.Lists.{set_keeps_length}
+use Rattle.m2_bytes.proofs.m2_lemmas.Options.{none_isnt_some}
+use Rattle.m2_bytes.proofs.m2_lemmas.Lists.{set_keeps_length}
 
 -- ---- one of a list is set
 

@@ -7,14 +7,14 @@ use Rattle.m2_fabric.specs.declared.socket.SocketId.{SocketId}
 use Rattle.m2_fabric.specs.End.{SeenEnd, after_news, fresh_end}
 use Rattle.m2_fabric.specs.Port.{SeenPort, may_wait, one_hears, with_incoming, with_news, with_waiting}
 use Rattle.m2_fabric.specs.Sockets.{goes_to, is_among, same_socket}
-use Rattle.m2_record.specs.RecordNow.{ids_of}
+use Rattle.m2_center.specs.m2_record.RecordNow.{ids_of}
 use Rattle.m2_center.specs.Center.{CenterNow}
 use Rattle.m2_center.specs.Reaching.{after_hearing, has_half, rest_in}
 use Rattle.m2_center.specs.RecordEnds.{has_end, records_hear}
 use Rattle.m2_center.proofs.RecordsHear.{among_both, center_rest}
 use Rattle.m2_center.specs.Hearing as halves
 use Rattle.m2_cluster.specs.Node.{NodeNow, all_to_come, are_apart, is_to_come, rest_at, rest_of_node}
-use Rattle.m2_lemmas.proofs.Booleans.{or_false, one_of_three, neither_of_or}
+use Rattle.m2_bytes.proofs.m2_lemmas.Booleans.{or_false, one_of_three, neither_of_or}
 use Rattle.m2_fabric.proofs.Sockets.{apart_turned}
 
 -- ---- a socket comes

@@ -9,10 +9,10 @@ use Rattle.m2_fabric.specs.declared.port.Taken.TheVariants as taken
 use Rattle.m2_fabric.specs.End.{SeenEnd}
 use Rattle.m2_fabric.specs.Port as port
 use Rattle.m2_fabric.specs.Port.{SeenPort}
-use Rattle.m2_record.specs.declared.due.Due.{Due}
-use Rattle.m2_record.specs.declared.due.Due.TheVariants as due
-use Rattle.m2_record.specs.Due.{due_step}
-use Rattle.m2_record.specs.RecordNow.{RecordNow}
+use Rattle.m2_center.specs.m2_record.declared.due.Due.{Due}
+use Rattle.m2_center.specs.m2_record.declared.due.Due.TheVariants as due
+use Rattle.m2_center.specs.m2_record.Due.{due_step}
+use Rattle.m2_center.specs.m2_record.RecordNow.{RecordNow}
 use Rattle.m2_center.specs.declared.accepting.Accepted.{Accepted}
 use Rattle.m2_center.specs.declared.accepting.Accepted.TheVariants as accepted
 use Rattle.m2_center.specs.declared.records_turn.RecordsTurn.{RecordsTurn}

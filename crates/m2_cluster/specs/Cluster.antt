@@ -1,6 +1,6 @@
 -- What contracts see of a cluster: its nodes in order; and what it is as the holder of all ends. This project's own.
 use Rattle.std.specs.Prelude.{◌≡◌, ℕ, Bool, false, List, [], length, map, slice_get, slice_set, Option, Some, None}
-use Rattle.m2_addr.specs.declared.addr.Addr.{Addr}
+use Rattle.m2_fabric.specs.m2_addr.declared.addr.Addr.{Addr}
 use Rattle.m2_fabric.specs.declared.socket.SocketId.{SocketId}
 use Rattle.m2_fabric.specs.End.{SeenEnd}
 use Rattle.m2_fabric.specs.Holder.{SeenHolder}

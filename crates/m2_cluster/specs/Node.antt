@@ -10,11 +10,11 @@ use Rattle.m2_fabric.specs.Port.{SeenPort}
 use Rattle.m2_fabric.specs.Sockets.{IsOfHome, goes_to, is_among, same_socket}
 use Rattle.m2_dispatch.specs.Heard.{Heard}
 use Rattle.m2_journal.specs.declared.facts.PlanStep.{PlanStep}
-use Rattle.m2_record.specs.IsRecord.{IsRecord}
-use Rattle.m2_record.specs.RecordNow.{ids_of}
-use Rattle.m2_record.specs.Sources.{end_at}
-use Rattle.m2_shared.specs.Numbers.{SeenNumbers}
-use Rattle.m2_shared.specs.Throttle.{SeenThrottle}
+use Rattle.m2_center.specs.m2_record.IsRecord.{IsRecord}
+use Rattle.m2_center.specs.m2_record.RecordNow.{ids_of}
+use Rattle.m2_center.specs.m2_record.Sources.{end_at}
+use Rattle.m2_dispatch.specs.m2_shared.Numbers.{SeenNumbers}
+use Rattle.m2_dispatch.specs.m2_shared.Throttle.{SeenThrottle}
 use Rattle.m2_center.specs.Center.{CenterNow, IsCenter}
 use Rattle.m2_center.specs.CenterTurn.{Answer, TakesTurn, means_at}
 use Rattle.m2_center.specs.Plans.{PlansIn}

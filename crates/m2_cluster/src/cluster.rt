@@ -5,7 +5,7 @@ ghost use Rattle.std.specs.List.{AllByRecursion};
 ghost use Rattle.m2_center.specs.Plans.{IsReadyFor};
 ghost use Rattle.m2_cluster.specs.Cluster.{OneDoes};
 ghost use Rattle.m2_cluster.specs.Node.{IsWholeNode, NodePlans, NodeTurns};
-ghost use Rattle.m2_record.specs.IsRecord.{CanBePlanned};
+ghost use Rattle.m2_center.specs.m2_record.IsRecord.{CanBePlanned};
 
 use crate::node::Node;
 use m2_bytes::NoMemory;

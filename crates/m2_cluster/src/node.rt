@@ -7,8 +7,8 @@ ghost use Rattle.m2_center.specs.Plans.{IsReadyFor};
 ghost use Rattle.m2_cluster.specs.Node.{ComesIn, HearsIn, IsWholeNode, NodePlans, NodeTurns, rest_of_node};
 ghost use Rattle.m2_fabric.specs.End.{SeenEnd, after_news};
 ghost use Rattle.m2_fabric.specs.Log.{log_of};
-ghost use Rattle.m2_record.specs.IsRecord.{CanBePlanned};
-ghost use Rattle.m2_record.specs.Sources.{end_at};
+ghost use Rattle.m2_center.specs.m2_record.IsRecord.{CanBePlanned};
+ghost use Rattle.m2_center.specs.m2_record.Sources.{end_at};
 
 use m2_bytes::NoMemory;
 use m2_center::{Center, NodeShared};

@@ -9,7 +9,7 @@ use Rattle.m2_control.specs.declared.banner.BannerStep.TheVariants.{Got, NotYet,
 use Rattle.m2_control.specs.declared.banner.TheConstants.{LEAST_BANNER, MOST_BANNER}
 use Rattle.m2_control.specs.Banner.{magic, Agrees, Differs, payload_length, IsAllowed, IsStep, begins, features_in, sized_banner_in, banner_in}
 use Rattle.m2_control.specs.Laws.{BannerIsAFunction}
-use Rattle.m2_lemmas.proofs.Booleans.{or_true}
+use Rattle.m2_bytes.proofs.m2_lemmas.Booleans.{or_true}
 
 -- ---- the first 8 bytes
 

@@ -39,7 +39,7 @@ use Rattle.m2_control.specs.SessionReconnectOk.{make_session_reconnect_ok, sessi
 use Rattle.m2_control.specs.Keepalive.{make_keepalive, keepalive_parts, bare_keepalive, IsKeepalive, keepalive_at}
 use Rattle.m2_control.specs.KeepaliveAck.{make_keepalive_ack, keepalive_ack_parts, bare_keepalive_ack, IsKeepaliveAck, keepalive_ack_at}
 use Rattle.m2_control.specs.Ack.{make_ack, ack_parts, bare_ack, IsAck, ack_at}
-use Rattle.m2_lemmas.proofs.Numbers.{tested_isnt_zero, not_zero_is_tested}
+use Rattle.m2_bytes.proofs.m2_lemmas.Numbers.{tested_isnt_zero, not_zero_is_tested}
 
 -- ---- fields
 

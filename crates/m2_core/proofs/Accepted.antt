@@ -35,7 +35,7 @@ use Rattle.m2_core.specs.Front.{HearsOn, hearer_at, hearer_of}
 use Rattle.m2_core.proofs.Agreeing.{IsResumed}
 use Rattle.m2_core.proofs.Fronts.{as_replayed}
 use Rattle.m2_core.proofs.Passed.{sound_on}
-use Rattle.m2_lemmas.proofs.Options.{none_isnt_some}
+use Rattle.m2_bytes.proofs.m2_lemmas.Options.{none_isnt_some}
 use Rattle.m2_feed.proofs.Heeding.{is_ready}
 
 -- ---- what was granted

@@ -18,7 +18,7 @@ use Rattle.m2_core.specs.OnFeed.{granted_feed}
 use Rattle.m2_core.specs.Agrees.{FeedsAgree, Stays}
 use Rattle.m2_core.specs.CoreNow.{CoreNow, Holds, IsSound}
 use Rattle.m2_core.specs.Granting.{Grants, after_granted}
-use Rattle.m2_lemmas.proofs.Options.{none_isnt_some}
+use Rattle.m2_bytes.proofs.m2_lemmas.Options.{none_isnt_some}
 
 -- a size that is owed is the one that is asked for, and isn't granted
 owed_size : (rest : List ℕ) (granted : Bool) (n : ℕ) → Owes (framing rest granted) n → (granted ≡ false) × (size_of rest ≡ Some n)

@@ -14,7 +14,7 @@ use Rattle.m2_core.specs.LiveNow.{LiveNow, granted_in, is_granted_in, size_grant
 use Rattle.m2_core.specs.OnFeed.{ReadsFeed}
 use Rattle.m2_core.specs.LiveCalls.{live_with}
 use Rattle.m2_core.specs.CoreNow.{CoreNow, Holds, IsSound}
-use Rattle.m2_lemmas.proofs.Options.{none_isnt_some}
+use Rattle.m2_bytes.proofs.m2_lemmas.Options.{none_isnt_some}
 
 heard_framing : (bytes : List ℕ) (r : Reading) → is_framing (heard bytes r) ≡ is_framing r
 heard_framing bytes (shaking s) = refl

@@ -35,7 +35,7 @@ use Rattle.m2_core.specs.Next.{CanCount, CanHeed}
 use Rattle.m2_core.proofs.Faulting.{is_on_feed}
 use Rattle.m2_core.proofs.Fronts.{as_replayed}
 use Rattle.m2_core.proofs.Resetting.{reset_heard}
-use Rattle.m2_lemmas.proofs.Booleans.{or_right, or_left, fifth_of_five}
+use Rattle.m2_bytes.proofs.m2_lemmas.Booleans.{or_right, or_left, fifth_of_five}
 
 -- ---- a fault is one of the replay
 

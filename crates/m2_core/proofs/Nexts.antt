@@ -35,7 +35,7 @@ use Rattle.m2_core.specs.Granting.{HasGranted, Throttled}
 use Rattle.m2_core.specs.Next.{CanHeed, Closes, IsNext, IsResetHeard, MayObeyIfReset, RestSays, granted_next, size_front}
 use Rattle.m2_core.specs.Passing.{HasPassed, PassesHeard}
 use Rattle.m2_core.proofs.Heeded.{bad_breaks, may_close, resumed_breaks, resumed_counts}
-use Rattle.m2_lemmas.proofs.Options.{none_isnt_some}
+use Rattle.m2_bytes.proofs.m2_lemmas.Options.{none_isnt_some}
 use Rattle.m2_core.proofs.Helds.{same_mid}
 
 pub is_fed : (x : Option FeedNow) → OnFeedNow x (λ v. is_framing v.reading ≡ true) → is_some x ≡ true

@@ -26,7 +26,7 @@ use Rattle.m2_core.specs.CoreNow.{CoreNow, Holds, IsSound}
 use Rattle.m2_core.specs.Front.{HearsOn, hearer_at, hearer_of}
 use Rattle.m2_core.specs.Passing.{HasNoted, HasPassed, PassesHeard, StampsFeed}
 use Rattle.m2_core.proofs.Fronts.{as_replayed}
-use Rattle.m2_lemmas.proofs.Booleans.{both_true}
+use Rattle.m2_bytes.proofs.m2_lemmas.Booleans.{both_true}
 
 -- where it is passed over
 pub over : (f : SideFacts) (s : State) (item : Item) → IsPassed (hearer_at f s) (said item) → passes_over s item ≡ true

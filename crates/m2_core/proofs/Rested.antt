@@ -22,7 +22,7 @@ use Rattle.m2_core.specs.Front.{hearer_of}
 use Rattle.m2_core.specs.Next.{RestSays}
 use Rattle.m2_core.specs.Passing.{HasPassed, PassesHeard}
 use Rattle.m2_core.proofs.Passed.{passed_stays, sound_on}
-use Rattle.m2_lemmas.proofs.Options.{none_isnt_some}
+use Rattle.m2_bytes.proofs.m2_lemmas.Options.{none_isnt_some}
 
 -- ---- what isn't answered
 

@@ -10,7 +10,7 @@ use Rattle.m2_fabric.specs.Kept.{same_end}
 use Rattle.m2_fabric.specs.InStep.{SeenFabric}
 use Rattle.m2_fabric.specs.Meeting.{Arrive, acceptor, arrivals, arrivals_at, comes, entered, is_one_of}
 use Rattle.m2_fabric.proofs.Told.{end_equal, is_other}
-use Rattle.m2_lemmas.proofs.Booleans.{or_false}
+use Rattle.m2_bytes.proofs.m2_lemmas.Booleans.{or_false}
 
 pub arrive_nothing : (h : SeenHolder) → Arrive [] h h
 arrive_nothing h = record { nodes = refl; at = λ node. refl; made = λ node. refl; ends = λ e. refl; waits = λ e. refl }

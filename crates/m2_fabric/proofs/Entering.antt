@@ -17,7 +17,7 @@ use Rattle.m2_fabric.specs.declared.kept.Kept.{Kept}
 use Rattle.m2_fabric.proofs.Arriving.{one_arrives}
 use Rattle.m2_fabric.proofs.Flowing.{unkept_is_unread}
 use Rattle.m2_fabric.proofs.Pairs.{times-append}
-use Rattle.m2_lemmas.proofs.Booleans.{neither_of_or, both_of_and}
+use Rattle.m2_bytes.proofs.m2_lemmas.Booleans.{neither_of_or, both_of_and}
 use Rattle.m2_fabric.proofs.Sockets.{same_equal, same_socket_refl}
 
 -- ---- which pair a socket is added to

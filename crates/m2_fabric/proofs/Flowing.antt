@@ -24,7 +24,7 @@ use Rattle.m2_fabric.specs.declared.kept.Kept.{Kept}
 use Rattle.m2_fabric.specs.declared.passing.Passing.{Passing}
 use Rattle.m2_fabric.proofs.Pairs.{times-append}
 use Rattle.m2_fabric.proofs.Told.{same_number}
-use Rattle.m2_lemmas.proofs.Booleans.{neither_of_or}
+use Rattle.m2_bytes.proofs.m2_lemmas.Booleans.{neither_of_or}
 use Rattle.m2_fabric.proofs.Sockets.{same_socket_refl}
 
 -- ---- what an end hears

@@ -10,3 +10,5 @@ pub mod Told
 pub mod Turns
 pub mod Waits
 pub mod Sockets
+pub use Rattle.m2_addr.proofs as m2_addr
+pub use Rattle.m2_bytes.proofs.m2_lemmas as m2_lemmas

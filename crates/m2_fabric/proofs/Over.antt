@@ -11,7 +11,7 @@ use Rattle.m2_fabric.specs.declared.direction.Progress.{Progress}
 use Rattle.m2_fabric.specs.declared.kept.Kept.{Kept}
 use Rattle.m2_fabric.specs.declared.passing.Passing.{Passing}
 use Rattle.m2_fabric.proofs.Told.{told_nothing, told_same}
-use Rattle.m2_lemmas.proofs.Booleans.{neither_of_or, both_of_and}
+use Rattle.m2_bytes.proofs.m2_lemmas.Booleans.{neither_of_or, both_of_and}
 
 -- ---- the first sockets
 

@@ -3,7 +3,7 @@ use Rattle.std.proofs.Common.{◌≡◌, false, ◌||◌, List, [], ◌∷◌, �
 use Rattle.std.proofs.lemmas.Bool.{false_from_ne_true, eqb-true, and_parts, eq-eqb, or_right}
 use Rattle.m2_fabric.specs.Sockets.{is_among, same_socket}
 use Rattle.m2_fabric.specs.declared.socket.SocketId.{SocketId}
-use Rattle.m2_lemmas.proofs.Booleans.{false_isnt_true, from_false_true}
+use Rattle.m2_bytes.proofs.m2_lemmas.Booleans.{false_isnt_true, from_false_true}
 
 pub among_other : (k x : SocketId) (xs : List SocketId) → same_socket k x ≡ false → is_among k (xs ++ x ∷ []) ≡ is_among k xs
 among_other k x [] e = rw e refl

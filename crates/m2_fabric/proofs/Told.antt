@@ -10,7 +10,7 @@ use Rattle.m2_fabric.specs.declared.end.News.{News}
 use Rattle.m2_fabric.specs.declared.socket.SocketId.{SocketId}
 use Rattle.m2_fabric.specs.Kept.{same_end}
 use Rattle.m2_fabric.specs.News.{AreTold, Told, hears, logs_of, only}
-use Rattle.m2_lemmas.proofs.Booleans.{both_of_and}
+use Rattle.m2_bytes.proofs.m2_lemmas.Booleans.{both_of_and}
 use Rattle.m2_fabric.proofs.Sockets.{same_equal}
 
 -- ---- equal names

@@ -15,3 +15,6 @@ pub mod SimEnd
 pub mod SimFabric
 pub mod SimPort
 pub mod Sockets
+pub use Rattle.m2_addr.specs as m2_addr
+pub use Rattle.m2_bytes.specs as m2_bytes
+pub use Rattle.m2_edge.specs as m2_edge

@@ -22,7 +22,7 @@ use Rattle.m2_journal.specs.State.{Feed, State}
 use Rattle.m2_message.specs.declared.header_text.TheConstants.{HEADER_BYTES}
 use Rattle.m2_message.specs.MessageFrame.{message_in}
 use Rattle.m2_frame.specs.Tags.{tag_in}
-use Rattle.m2_lemmas.proofs.Options.{none_isnt_some}
+use Rattle.m2_bytes.proofs.m2_lemmas.Options.{none_isnt_some}
 
 -- ---- a size that is asked for is that of a MESSAGE
 

@@ -34,8 +34,8 @@ use Rattle.m2_feed.specs.FeedLaws.{FindsFaults, HearsTold}
 use Rattle.m2_feed.specs.Stands.{Frames, ReadsAs, Shakes, Stands, is_ready, passes_over}
 use Rattle.m2_feed.proofs.Framing.{at-front, idle-next, idle-place, ready-place}
 use Rattle.m2_feed.proofs.Shaking.{fails-there}
-use Rattle.m2_lemmas.proofs.Options.{none_isnt_some}
-use Rattle.m2_lemmas.proofs.Booleans.{fifth_of_five}
+use Rattle.m2_bytes.proofs.m2_lemmas.Options.{none_isnt_some}
+use Rattle.m2_bytes.proofs.m2_lemmas.Booleans.{fifth_of_five}
 use Rattle.m2_feed.proofs.AnswerSizes.{size-in, get-past, open-there}
 
 -- ---- one fault of several

@@ -17,7 +17,7 @@ use Rattle.m2_frame.proofs.Judge.{size_of-begins}
 use Rattle.m2_frame.proofs.Parsed.{judged-item_text}
 use Rattle.m2_frame.proofs.Preambles.{IsAllowed, allowed-fits, preamble_text-read, read_preamble-text}
 use Rattle.m2_feed.specs.FrameLaws.{AsksForItsSize}
-use Rattle.m2_lemmas.proofs.Options.{none_isnt_some}
+use Rattle.m2_bytes.proofs.m2_lemmas.Options.{none_isnt_some}
 
 take_first : (n : ℕ) (xs ys : List ℕ) → length xs ≡ n → take n (xs ++ ys) ≡ xs
 take_first n xs ys e = ap (λ (k : ℕ). take k (xs ++ ys)) (sym e) ∙ take-append_seam xs ys

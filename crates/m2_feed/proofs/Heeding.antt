@@ -47,7 +47,7 @@ use Rattle.m2_feed.specs.declared.frame_heard.FrameHeard.TheVariants.{Nothing, A
 use Rattle.m2_feed.specs.declared.hearer.Hearer.{Hearer}
 use Rattle.m2_feed.specs.FrameHeard.{heard_aborted, heard_ack, heard_as_answer, heard_control, heard_if, heard_in_ready, heard_message, heard_numbers, heard_of_tag, heard_payload, may_come}
 use Rattle.m2_feed.specs.FrameLaws.{IsAsReplayed, IsHeardAsReplayed, IsRefused}
-use Rattle.m2_lemmas.proofs.Options.{none_isnt_some}
+use Rattle.m2_bytes.proofs.m2_lemmas.Options.{none_isnt_some}
 
 -- ---- words
 

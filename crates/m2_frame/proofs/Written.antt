@@ -17,7 +17,7 @@ use Rattle.m2_frame.specs.Text.{segment_crc, crc_field, first_text, epilogue_fie
 use Rattle.m2_frame.specs.Grammar.{IsPreambleText, IsChecksumText, IsFirstText, IsEpilogueText, IsLaterText, IsFrameText, AreBytes}
 use Rattle.m2_frame.proofs.Checksums.{crc_of-below, segment_crc-below}
 use Rattle.m2_frame.proofs.Preambles.{IsAllowed, allowed-fits}
-use Rattle.m2_lemmas.proofs.Bytes.{four_bytes, two_bytes}
+use Rattle.m2_bytes.proofs.m2_lemmas.Bytes.{four_bytes, two_bytes}
 
 abbrev IsByte : ℕ → Type 0
 IsByte b = b < 256

@@ -11,3 +11,4 @@ pub mod Stream
 pub mod Tags
 pub mod Text
 pub mod View
+pub use Rattle.m2_crc.specs as m2_crc

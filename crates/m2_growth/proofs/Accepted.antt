@@ -8,8 +8,8 @@ use Rattle.m2_fabric.specs.declared.socket.SocketId.{SocketId}
 use Rattle.m2_fabric.specs.End.{SeenEnd}
 use Rattle.m2_fabric.specs.Port.{Accepts, SeenPort}
 use Rattle.m2_fabric.specs.Sockets.{is_among}
-use Rattle.m2_record.specs.RecordNow.{RecordNow, ids_of}
-use Rattle.m2_record.specs.Sources.{end_at}
+use Rattle.m2_center.specs.m2_record.RecordNow.{RecordNow, ids_of}
+use Rattle.m2_center.specs.m2_record.Sources.{end_at}
 use Rattle.m2_center.specs.declared.accepting.Accepted.{Accepted}
 use Rattle.m2_center.specs.declared.accepting.Accepted.TheVariants as accepts
 use Rattle.m2_center.specs.Accepting.{Accepting, AcceptsAll, EndsWith, IsEnded, TakesAll, TakesIn}
@@ -19,7 +19,7 @@ use Rattle.m2_growth.proofs.Accepts.{accepts_grow}
 use Rattle.m2_growth.specs.Ports.{PortStands}
 use Rattle.m2_growth.proofs.Growing.{still_there}
 use Rattle.m2_growth.proofs.InStepStanding.{some_back, some_end, some_front}
-use Rattle.m2_lemmas.proofs.Booleans.{false_isnt_true}
+use Rattle.m2_fabric.proofs.m2_lemmas.Booleans.{false_isnt_true}
 use Rattle.m2_fabric.proofs.Sockets.{among_part}
 
 -- these ends were accepted, in order

@@ -2,12 +2,12 @@
 use Rattle.std.proofs.Common.{◌≡◌, ◌⊎◌, inl, inr, ℕ, nat_lt, Bool, true, false, ◌||◌, if◌then◌else◌, List, [], ◌∷◌, ◌++◌, map, length, Option, Some, None, refl, sym, ap, subst, ◌∙◌, append_assoc}
 use Rattle.std.specs.Option.{is_some, option_map}
 use Rattle.std.specs.List.{AllByRecursion}
-use Rattle.m2_addr.specs.declared.addr.Addr.{Addr}
+use Rattle.m2_fabric.specs.m2_addr.declared.addr.Addr.{Addr}
 use Rattle.m2_fabric.specs.declared.port.Taken.TheVariants as taken
 use Rattle.m2_fabric.specs.End.{SeenEnd}
 use Rattle.m2_fabric.specs.Port.{Accepts, SeenPort}
 use Rattle.m2_fabric.specs.Sockets.{goes_to, is_among, same_socket}
-use Rattle.m2_record.specs.RecordNow.{RecordNow, ids_of}
+use Rattle.m2_center.specs.m2_record.RecordNow.{RecordNow, ids_of}
 use Rattle.m2_center.specs.declared.accepting.Accepted.{Accepted}
 use Rattle.m2_center.specs.declared.accepting.Accepted.TheVariants as accepts
 use Rattle.m2_center.specs.declared.pending.TheConstants.{MOST_HALVES}
@@ -16,8 +16,8 @@ use Rattle.m2_center.specs.Halves.{AllHalves}
 use Rattle.m2_center.specs.Hearing.{ends_in}
 use Rattle.m2_center.specs.Sessions.{PendingNow, is_asker, peer_of}
 use Rattle.m2_center.proofs.Came.{alone}
-use Rattle.m2_trail.specs.Arrivals.{LooseNow, closed_of}
-use Rattle.m2_trail.specs.Incoming.{IncomingNow, accepted}
+use Rattle.m2_bytes_fit.specs.m2_trail.Arrivals.{LooseNow, closed_of}
+use Rattle.m2_bytes_fit.specs.m2_trail.Incoming.{IncomingNow, accepted}
 use Rattle.m2_growth.specs.Ends.{AreOfTheirOwn}
 use Rattle.m2_growth.specs.Halves.{AskedOnMade, HasItsHalves, IsHeardBy, IsOneOf, all_left, asked_on}
 use Rattle.m2_growth.specs.Holding.{AreOwn, Grows, Holding, IsToCome, all_ends, waiting_at}
@@ -31,9 +31,9 @@ use Rattle.m2_growth.proofs.Going.{grows_then, records_same, trail_same, grows_s
 use Rattle.m2_growth.proofs.Holdings.{AllLeft, IsHere, IsOnSocket, end_of, ends_last, left, loose_end, stay_left, still_has}
 use Rattle.m2_growth.proofs.OneRecord.{holding}
 use Rattle.m2_growth.proofs.Owned.{own_all}
-use Rattle.m2_lemmas.proofs.Lists.{all_last, all_so as each}
+use Rattle.m2_fabric.proofs.m2_lemmas.Lists.{all_last, all_so as each}
 use Rattle.m2_fabric.proofs.Sockets.{apart_turned, same_refl, among_neither, among_front}
-use Rattle.m2_lemmas.proofs.Booleans.{false_isnt_true}
+use Rattle.m2_fabric.proofs.m2_lemmas.Booleans.{false_isnt_true}
 
 -- ---- the halves
 

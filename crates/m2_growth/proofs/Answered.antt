@@ -2,42 +2,42 @@
 use Rattle.std.proofs.Common.{◌≡◌, ◌⊎◌, inl, inr, ℕ, ◌≤◌, Bool, true, false, List, [], ◌∷◌, ◌++◌, map, length, Option, Some, None, IfSome, IsSome, refl, sym, ap, subst, ◌∙◌, append-nil, append_assoc, arith}
 use Rattle.std.specs.List.{AllByRecursion}
 use Rattle.std.specs.Option.{option_to_list}
-use Rattle.m2_session.specs.declared.ask.AskFacts.{AskFacts}
-use Rattle.m2_control.specs.declared.control.Control.{Control}
-use Rattle.m2_core.specs.declared.verdict.Verdict.{Verdict}
-use Rattle.m2_core.specs.Judging.{told_of, verdict_on}
-use Rattle.m2_core.specs.TakingOver.{IsTakenFeed}
+use Rattle.m2_center.specs.m2_session.declared.ask.AskFacts.{AskFacts}
+use Rattle.m2_weave.specs.m2_control.declared.control.Control.{Control}
+use Rattle.m2_center.specs.m2_core.declared.verdict.Verdict.{Verdict}
+use Rattle.m2_center.specs.m2_core.Judging.{told_of, verdict_on}
+use Rattle.m2_center.specs.m2_core.TakingOver.{IsTakenFeed}
 use Rattle.m2_fabric.specs.declared.socket.SocketId.{SocketId}
 use Rattle.m2_fabric.specs.End.{SeenEnd, after_closing}
 use Rattle.m2_fabric.specs.Sockets.{is_among}
-use Rattle.m2_feed.specs.FeedNow.{FeedNow}
-use Rattle.m2_handshake.specs.declared.ask.Ask.{Ask}
-use Rattle.m2_handshake.specs.declared.ident.IdentCheck.{IdentCheck}
-use Rattle.m2_handshake.specs.declared.ident.IdentCheck.TheVariants.{Fine, Missing, Fault}
-use Rattle.m2_journal.specs.declared.entry.Entry.{Entry}
-use Rattle.m2_journal.specs.declared.entry.Entry.TheVariants as entry
-use Rattle.m2_journal.specs.declared.entry.JudgedItem.{JudgedItem}
-use Rattle.m2_journal.specs.State.{Judgement}
-use Rattle.m2_core.specs.Effects.{closed_if}
-use Rattle.m2_record.specs.Calls.{closed_entries}
-use Rattle.m2_record.specs.declared.judging.Judged.{Judged}
-use Rattle.m2_record.specs.declared.judging.Judged.TheVariants as judged
-use Rattle.m2_record.specs.Judging.{Answers, JudgesAs, after_taking_over, effects_at, half_of, judged_entry}
-use Rattle.m2_record.specs.RecordNow.{RecordNow, ends_of, feed_end}
-use Rattle.m2_record.specs.TakenTrails.{judgement_of, judgements_in}
-use Rattle.m2_session.specs.declared.answer.Answer.{Answer}
-use Rattle.m2_session.specs.SessionLaws.{takes}
+use Rattle.m2_bytes_fit.specs.m2_feed.FeedNow.{FeedNow}
+use Rattle.m2_center.specs.m2_handshake.declared.ask.Ask.{Ask}
+use Rattle.m2_center.specs.m2_handshake.declared.ident.IdentCheck.{IdentCheck}
+use Rattle.m2_center.specs.m2_handshake.declared.ident.IdentCheck.TheVariants.{Fine, Missing, Fault}
+use Rattle.m2_weave.specs.m2_journal.declared.entry.Entry.{Entry}
+use Rattle.m2_weave.specs.m2_journal.declared.entry.Entry.TheVariants as entry
+use Rattle.m2_weave.specs.m2_journal.declared.entry.JudgedItem.{JudgedItem}
+use Rattle.m2_weave.specs.m2_journal.State.{Judgement}
+use Rattle.m2_center.specs.m2_core.Effects.{closed_if}
+use Rattle.m2_center.specs.m2_record.Calls.{closed_entries}
+use Rattle.m2_center.specs.m2_record.declared.judging.Judged.{Judged}
+use Rattle.m2_center.specs.m2_record.declared.judging.Judged.TheVariants as judged
+use Rattle.m2_center.specs.m2_record.Judging.{Answers, JudgesAs, after_taking_over, effects_at, half_of, judged_entry}
+use Rattle.m2_center.specs.m2_record.RecordNow.{RecordNow, ends_of, feed_end}
+use Rattle.m2_center.specs.m2_record.TakenTrails.{judgement_of, judgements_in}
+use Rattle.m2_center.specs.m2_session.declared.answer.Answer.{Answer}
+use Rattle.m2_center.specs.m2_session.SessionLaws.{takes}
 use Rattle.m2_center.specs.declared.answering.HalfAnswered.{HalfAnswered}
 use Rattle.m2_center.specs.declared.answering.HalfAnswered.TheVariants as half
 use Rattle.m2_center.specs.Answering.{AnswersBy, AnswersHalf, FindsSo, HearsHalf, OwesThen, RefusesHalf, RejectsHalf, RepliesHalf}
 use Rattle.m2_center.specs.Judging.{Judges, Judging}
 use Rattle.m2_center.specs.RecordTurn.{Means}
 use Rattle.m2_center.proofs.Opened.{filtered}
-use Rattle.m2_trail.specs.Arrivals.{LooseNow, closed_of}
-use Rattle.m2_trail.specs.Asks.{facts_of_ask}
-use Rattle.m2_trail.specs.Incoming.{IncomingNow, after_judging, after_replying, items_of, with_entry, with_judged}
-use Rattle.m2_trail.specs.Replies.{first_reply}
-use Rattle.m2_trail.specs.Trails.{TrailNow}
+use Rattle.m2_bytes_fit.specs.m2_trail.Arrivals.{LooseNow, closed_of}
+use Rattle.m2_bytes_fit.specs.m2_trail.Asks.{facts_of_ask}
+use Rattle.m2_bytes_fit.specs.m2_trail.Incoming.{IncomingNow, after_judging, after_replying, items_of, with_entry, with_judged}
+use Rattle.m2_bytes_fit.specs.m2_trail.Replies.{first_reply}
+use Rattle.m2_bytes_fit.specs.m2_trail.Trails.{TrailNow}
 use Rattle.m2_growth.specs.Ends.{EndGrows}
 use Rattle.m2_growth.specs.Halves.{IsOneOf, TrailGrows, asked_on, judged_since}
 use Rattle.m2_growth.specs.Records.{IsFed, RecordGrows}
@@ -48,7 +48,7 @@ use Rattle.m2_growth.proofs.Going.{record_same, trail_chain, trail_same}
 use Rattle.m2_growth.proofs.Judged.{JudgesOn}
 use Rattle.m2_growth.proofs.Standing.{ends_left}
 use Rattle.m2_growth.proofs.Told.{quiet_stands, taking_closes, taking_feeds, told_quiet, told_taking}
-use Rattle.m2_lemmas.proofs.Booleans.{false_isnt_true}
+use Rattle.m2_fabric.proofs.m2_lemmas.Booleans.{false_isnt_true}
 
 -- ---- halves
 

@@ -1,8 +1,8 @@
 -- Where records take their turns, each socket that the port made has its end, and those that wait do so as they did.
 use Rattle.std.proofs.Common.{◌≡◌, ◌⊎◌, inl, inr, ℕ, Bool, true, false, List, [], ◌∷◌, ◌++◌, Option, Some, None, Ok, Err, Result, IfSome, IsSome, refl, sym, ap, subst, ◌∙◌, append-nil, append_assoc}
 use Rattle.std.specs.Option.{is_some}
-use Rattle.m2_bytes.specs.declared.memory.NoMemory as memory
-use Rattle.m2_core.specs.Calls.{IsOpening}
+use Rattle.m2_fabric.specs.m2_bytes.declared.memory.NoMemory as memory
+use Rattle.m2_center.specs.m2_core.Calls.{IsOpening}
 use Rattle.m2_dispatch.specs.Heard.{Heard}
 use Rattle.m2_fabric.specs.declared.port.Connect.{Connect}
 use Rattle.m2_fabric.specs.declared.port.Connect.TheVariants as connect
@@ -11,13 +11,13 @@ use Rattle.m2_fabric.specs.End.{SeenEnd}
 use Rattle.m2_fabric.specs.Port as port
 use Rattle.m2_fabric.specs.Port.{SeenPort}
 use Rattle.m2_fabric.specs.Sockets.{is_among}
-use Rattle.m2_feed.specs.FeedNow.{FeedNow}
-use Rattle.m2_record.specs.declared.due.Due.{Due}
-use Rattle.m2_record.specs.declared.due.Due.TheVariants as due
-use Rattle.m2_record.specs.Calls.{with_opened}
-use Rattle.m2_record.specs.Due.{due_step}
-use Rattle.m2_record.specs.RecordNow.{RecordNow, ends_of, feed_end}
-use Rattle.m2_record.specs.Sources.{end_at}
+use Rattle.m2_bytes_fit.specs.m2_feed.FeedNow.{FeedNow}
+use Rattle.m2_center.specs.m2_record.declared.due.Due.{Due}
+use Rattle.m2_center.specs.m2_record.declared.due.Due.TheVariants as due
+use Rattle.m2_center.specs.m2_record.Calls.{with_opened}
+use Rattle.m2_center.specs.m2_record.Due.{due_step}
+use Rattle.m2_center.specs.m2_record.RecordNow.{RecordNow, ends_of, feed_end}
+use Rattle.m2_center.specs.m2_record.Sources.{end_at}
 use Rattle.m2_center.specs.declared.records_turn.RecordsTurn.{RecordsTurn}
 use Rattle.m2_center.specs.declared.records_turn.RecordsTurn.TheVariants as turn
 use Rattle.m2_center.specs.Connecting.{AtPort, DialsFor, Takes}
@@ -35,7 +35,7 @@ use Rattle.m2_growth.proofs.OneRecord.{all_around, ends_behind, holding, one_adv
 use Rattle.m2_growth.proofs.RecordTurns.{advances_on, turns, turns_one}
 use Rattle.m2_growth.specs.Ports.{PortStands}
 use Rattle.m2_growth.proofs.InStepStanding.{Stands, both_by, both_then, some_back, some_front, stands_alike, stands_same, stands_then}
-use Rattle.m2_lemmas.proofs.Booleans.{false_isnt_true}
+use Rattle.m2_fabric.proofs.m2_lemmas.Booleans.{false_isnt_true}
 use Rattle.m2_fabric.proofs.Sockets.{among_part}
 
 -- ---- a dial

@@ -3,10 +3,10 @@ use Rattle.std.proofs.Common.{◌≡◌, ℕ, ◌&&◌, ◌||◌, Bool, true, fa
 use Rattle.std.specs.List.{AllByRecursion}
 use Rattle.std.specs.Option.{is_some, option_map}
 use Rattle.std.proofs.lemmas.List.Elements.{filter_map-append}
-use Rattle.m2_session.specs.Dials.{at_rest}
-use Rattle.m2_bytes.specs.declared.memory.NoMemory as memory
-use Rattle.m2_core.specs.Calls.{IsOpening}
-use Rattle.m2_core.specs.CoreNow.{may_dial}
+use Rattle.m2_center.specs.m2_session.Dials.{at_rest}
+use Rattle.m2_fabric.specs.m2_bytes.declared.memory.NoMemory as memory
+use Rattle.m2_center.specs.m2_core.Calls.{IsOpening}
+use Rattle.m2_center.specs.m2_core.CoreNow.{may_dial}
 use Rattle.m2_fabric.specs.declared.port.Connect.{Connect}
 use Rattle.m2_fabric.specs.declared.port.Connect.TheVariants as connect
 use Rattle.m2_fabric.specs.declared.socket.SocketId.{SocketId}
@@ -14,20 +14,20 @@ use Rattle.m2_fabric.specs.End.{Inflow, SeenEnd, nothing_told}
 use Rattle.m2_fabric.specs.Port as port
 use Rattle.m2_fabric.specs.Port.{IsNewEnd, SeenPort}
 use Rattle.m2_fabric.specs.Sockets.{goes_to, is_among, same_socket}
-use Rattle.m2_feed.specs.FeedNow.{FeedNow}
-use Rattle.m2_journal.specs.declared.entry.Entry.TheVariants as entry
-use Rattle.m2_record.specs.declared.due.Due.{Due}
-use Rattle.m2_record.specs.declared.due.Due.TheVariants as due
-use Rattle.m2_record.specs.Calls.{IsSameButRoom, after_missing, with_opened}
-use Rattle.m2_record.specs.Calls as record_calls
-use Rattle.m2_record.specs.Due.{due_step}
-use Rattle.m2_record.specs.RecordNow.{RecordNow, ends_of, feed_end}
-use Rattle.m2_record.specs.Sources.{end_at}
-use Rattle.m2_record.specs.TakenTrails.{judgement_of, judgements_in}
-use Rattle.m2_session.specs.declared.session.Phase.{Phase}
-use Rattle.m2_session.specs.declared.session.Phase.TheVariants.{Absent, Connecting, IdentSent, ReconnectSent, Ready, Standby, Wait}
-use Rattle.m2_session.specs.Phases as phase
-use Rattle.m2_session.specs.Phases.{with_feed}
+use Rattle.m2_bytes_fit.specs.m2_feed.FeedNow.{FeedNow}
+use Rattle.m2_weave.specs.m2_journal.declared.entry.Entry.TheVariants as entry
+use Rattle.m2_center.specs.m2_record.declared.due.Due.{Due}
+use Rattle.m2_center.specs.m2_record.declared.due.Due.TheVariants as due
+use Rattle.m2_center.specs.m2_record.Calls.{IsSameButRoom, after_missing, with_opened}
+use Rattle.m2_center.specs.m2_record.Calls as record_calls
+use Rattle.m2_center.specs.m2_record.Due.{due_step}
+use Rattle.m2_center.specs.m2_record.RecordNow.{RecordNow, ends_of, feed_end}
+use Rattle.m2_center.specs.m2_record.Sources.{end_at}
+use Rattle.m2_center.specs.m2_record.TakenTrails.{judgement_of, judgements_in}
+use Rattle.m2_center.specs.m2_session.declared.session.Phase.{Phase}
+use Rattle.m2_center.specs.m2_session.declared.session.Phase.TheVariants.{Absent, Connecting, IdentSent, ReconnectSent, Ready, Standby, Wait}
+use Rattle.m2_center.specs.m2_session.Phases as phase
+use Rattle.m2_center.specs.m2_session.Phases.{with_feed}
 use Rattle.m2_center.specs.Connecting.{AtPort, DialsFor, DialsIfDue, Takes}
 use Rattle.m2_center.specs.Halves.{AllHalves}
 use Rattle.m2_growth.specs.Ends.{AreOfTheirOwn, IsNewborn}
@@ -40,8 +40,8 @@ use Rattle.m2_growth.proofs.OneRecord.{Advances, advances_alike, advances_chain,
 use Rattle.m2_growth.proofs.Owned.{own_all, waiting_here}
 use Rattle.m2_growth.proofs.Going.{grows_by}
 use Rattle.m2_fabric.proofs.Sockets.{among_neither, same_equal}
-use Rattle.m2_lemmas.proofs.Booleans.{both_of_and, false_isnt_true}
-use Rattle.m2_lemmas.proofs.Lists.{all_so_of}
+use Rattle.m2_fabric.proofs.m2_lemmas.Booleans.{both_of_and, false_isnt_true}
+use Rattle.m2_fabric.proofs.m2_lemmas.Lists.{all_so_of}
 
 -- ---- a record may dial only where it has no feed
 

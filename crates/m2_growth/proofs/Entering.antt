@@ -6,7 +6,7 @@ use Rattle.std.specs.Option.{is_some}
 use Rattle.std.proofs.lemmas.Bool.{eqb-true}
 use Rattle.std.proofs.lemmas.List.Quantifiers.{position-Some}
 use Rattle.std.proofs.lemmas.Option.{slice_get-get_or}
-use Rattle.m2_addr.specs.declared.addr.Addr.{Addr}
+use Rattle.m2_fabric.specs.m2_addr.declared.addr.Addr.{Addr}
 use Rattle.m2_fabric.specs.End.{SeenEnd, fresh_end}
 use Rattle.m2_fabric.specs.Holder.{EndName, SeenHolder, may_come}
 use Rattle.m2_fabric.specs.Sockets.{goes_to, is_among, same_socket}
@@ -24,8 +24,8 @@ use Rattle.m2_growth.specs.InStepLaws.{AreMet}
 use Rattle.m2_growth.specs.Passed.{HasItsEnds, MadeHaveEnds, WaitingAreOpen}
 use Rattle.m2_growth.specs.Turn.{AllCameOfPut, CameOfPut, HaveEnds}
 use Rattle.m2_growth.proofs.Growing.{unread_came}
-use Rattle.m2_lemmas.proofs.Lists.{all_front, all_back, all_append}
-use Rattle.m2_lemmas.proofs.Booleans.{both_of_and, false_isnt_true}
+use Rattle.m2_fabric.proofs.m2_lemmas.Lists.{all_front, all_back, all_append}
+use Rattle.m2_fabric.proofs.m2_lemmas.Booleans.{both_of_and, false_isnt_true}
 use Rattle.m2_fabric.proofs.Sockets.{same_refl}
 
 -- ---- tests

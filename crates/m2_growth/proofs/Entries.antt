@@ -2,45 +2,45 @@
 use Rattle.std.proofs.Common.{◌≡◌, ◌≢◌, ℕ, ◌+◌, inl, inr, Bool, true, false, ◌||◌, ◌&&◌, not, if◌then◌else◌, List, [], ◌∷◌, ◌++◌, map, Option, Some, None, refl, sym, ap, ◌∙◌, subst, append_assoc, append-nil}
 use Rattle.std.specs.Prelude.{IfSome}
 use Rattle.std.specs.List.{AllByRecursion, filter}
-use Rattle.m2_session.specs.declared.ask.AskFacts.{AskFacts}
-use Rattle.m2_session.specs.Asks as asks
-use Rattle.m2_session.specs.Asks.{told_of_ident, told_of_reconnect}
-use Rattle.m2_control.specs.declared.control.Control.TheVariants as control
+use Rattle.m2_center.specs.m2_session.declared.ask.AskFacts.{AskFacts}
+use Rattle.m2_center.specs.m2_session.Asks as asks
+use Rattle.m2_center.specs.m2_session.Asks.{told_of_ident, told_of_reconnect}
+use Rattle.m2_weave.specs.m2_control.declared.control.Control.TheVariants as control
 use Rattle.m2_fabric.specs.declared.socket.SocketId.{SocketId}
 use Rattle.m2_fabric.specs.Sockets.{is_among, same_socket}
-use Rattle.m2_message.specs.Message.{Content}
-use Rattle.m2_policy.specs.declared.path.Key.{Key}
-use Rattle.m2_queues.specs.OutQueues.{message_at}
-use Rattle.m2_queues.specs.QueueLaws.{Next}
-use Rattle.m2_session.specs.declared.answer.Answer.{Answer}
-use Rattle.m2_session.specs.declared.answer.Answer.TheVariants as answer
-use Rattle.m2_session.specs.declared.event.Event.{Event}
-use Rattle.m2_session.specs.declared.event.Event.TheVariants as event
-use Rattle.m2_session.specs.declared.session.Phase.{Phase}
-use Rattle.m2_session.specs.declared.session.Phase.TheVariants as phase
-use Rattle.m2_session.specs.declared.session.Session.{Session}
-use Rattle.m2_session.specs.Ident.{ident_answer}
-use Rattle.m2_session.specs.SessionLaws as session
-use Rattle.m2_session.specs.SessionLaws.{ident_event, reconnect_event, takes}
-use Rattle.m2_session.specs.Reconnect.{Reconnect, reconnect_answer}
-use Rattle.m2_session.specs.Steps.{step_of}
-use Rattle.m2_session.proofs.Answers.{taken_is_ready_lem}
-use Rattle.m2_journal.specs.Feeds.{answer_said, begun, finished, hears, narrowed, next_said, texts_at}
-use Rattle.m2_journal.specs.Items as item
-use Rattle.m2_journal.specs.Items.{JournalItem}
-use Rattle.m2_journal.specs.Lawful.{Lawful, MayAsk, MayNumber, MayObey, OnFeedAt, judged_on}
-use Rattle.m2_journal.specs.Laws.{IfFed}
-use Rattle.m2_journal.specs.OutFrames as out
-use Rattle.m2_journal.specs.OutFrames.{is_unnamed, replies_of}
-use Rattle.m2_journal.specs.Plan.{Planned, to_post, to_dial, to_go_down}
-use Rattle.m2_journal.specs.Said.{Said, says, brings, aborts, garbles}
-use Rattle.m2_journal.specs.Replay.{AreLawful, after_items}
-use Rattle.m2_journal.specs.SideFacts.{SideFacts, cookie_of}
-use Rattle.m2_journal.specs.State.{Feed, PartText, State, start}
-use Rattle.m2_journal.specs.Steps.{acceptance, accepts, after, answer_event, answer_to, breaks, event_heard, event_of, forgets, heeds, is_agreed, is_on, is_waiting, kept_of, notes, posts, puts_on, queues, sends, takes_answer, takes_socket, tells, tells_if, with_feed, writes_message}
-use Rattle.m2_journal.proofs.Sessions.{tells-session, told-session}
-use Rattle.m2_never_reset.specs.Frames.{frames_on, is_ask}
-use Rattle.m2_never_reset.proofs.Feeds.{hears_hears, opened_hears}
+use Rattle.m2_dispatch.specs.m2_message.Message.{Content}
+use Rattle.m2_dispatch.specs.m2_policy.declared.path.Key.{Key}
+use Rattle.m2_dispatch.specs.m2_queues.OutQueues.{message_at}
+use Rattle.m2_dispatch.specs.m2_queues.QueueLaws.{Next}
+use Rattle.m2_center.specs.m2_session.declared.answer.Answer.{Answer}
+use Rattle.m2_center.specs.m2_session.declared.answer.Answer.TheVariants as answer
+use Rattle.m2_center.specs.m2_session.declared.event.Event.{Event}
+use Rattle.m2_center.specs.m2_session.declared.event.Event.TheVariants as event
+use Rattle.m2_center.specs.m2_session.declared.session.Phase.{Phase}
+use Rattle.m2_center.specs.m2_session.declared.session.Phase.TheVariants as phase
+use Rattle.m2_center.specs.m2_session.declared.session.Session.{Session}
+use Rattle.m2_center.specs.m2_session.Ident.{ident_answer}
+use Rattle.m2_center.specs.m2_session.SessionLaws as session
+use Rattle.m2_center.specs.m2_session.SessionLaws.{ident_event, reconnect_event, takes}
+use Rattle.m2_center.specs.m2_session.Reconnect.{Reconnect, reconnect_answer}
+use Rattle.m2_center.specs.m2_session.Steps.{step_of}
+use Rattle.m2_center.proofs.m2_session.Answers.{taken_is_ready_lem}
+use Rattle.m2_weave.specs.m2_journal.Feeds.{answer_said, begun, finished, hears, narrowed, next_said, texts_at}
+use Rattle.m2_weave.specs.m2_journal.Items as item
+use Rattle.m2_weave.specs.m2_journal.Items.{JournalItem}
+use Rattle.m2_weave.specs.m2_journal.Lawful.{Lawful, MayAsk, MayNumber, MayObey, OnFeedAt, judged_on}
+use Rattle.m2_weave.specs.m2_journal.Laws.{IfFed}
+use Rattle.m2_weave.specs.m2_journal.OutFrames as out
+use Rattle.m2_weave.specs.m2_journal.OutFrames.{is_unnamed, replies_of}
+use Rattle.m2_weave.specs.m2_journal.Plan.{Planned, to_post, to_dial, to_go_down}
+use Rattle.m2_weave.specs.m2_journal.Said.{Said, says, brings, aborts, garbles}
+use Rattle.m2_weave.specs.m2_journal.Replay.{AreLawful, after_items}
+use Rattle.m2_weave.specs.m2_journal.SideFacts.{SideFacts, cookie_of}
+use Rattle.m2_weave.specs.m2_journal.State.{Feed, PartText, State, start}
+use Rattle.m2_weave.specs.m2_journal.Steps.{acceptance, accepts, after, answer_event, answer_to, breaks, event_heard, event_of, forgets, heeds, is_agreed, is_on, is_waiting, kept_of, notes, posts, puts_on, queues, sends, takes_answer, takes_socket, tells, tells_if, with_feed, writes_message}
+use Rattle.m2_weave.proofs.m2_journal.Sessions.{tells-session, told-session}
+use Rattle.m2_bytes_fit.specs.m2_never_reset.Frames.{frames_on, is_ask}
+use Rattle.m2_bytes_fit.proofs.m2_never_reset.Feeds.{hears_hears, opened_hears}
 use Rattle.m2_bytes_fit.specs.Ends.{takings_on}
 use Rattle.m2_bytes_fit.proofs.Entries.{entry_keeps, FeedSo}
 use Rattle.m2_bytes_fit.proofs.Hands.{HandKept, closing, hand_keeps, fault_closes, none_kept, reconnect_apart}
@@ -50,7 +50,7 @@ use Rattle.m2_bytes_fit.proofs.Less.{Less, less_trans, tells_less, tells_if_less
 use Rattle.m2_bytes_fit.proofs.Steps.{AllKept, kept_in_less, kept_quietly}
 use Rattle.m2_growth.proofs.Feeds.{AskFirst, AsksFirst, BeginsAsking, FeedIs, MayPut, all_ready, fine_asks, fine_back, fine_mails, fine_ready, fine_replies, first_asks, first_mails, first_replies, found_so, hears_may, less_feed, may_at, may_narrow, on_feed_all, opened_may, sent_all}
 use Rattle.m2_fabric.proofs.Sockets.{among_other, among_last, same_equal}
-use Rattle.m2_lemmas.proofs.Booleans.{from_false_true}
+use Rattle.m2_fabric.proofs.m2_lemmas.Booleans.{from_false_true}
 
 -- ---- where less is left
 

@@ -1,30 +1,30 @@
 -- What is kept of the feed of a side and of what it has sent on the sockets that it opened: on each of these it asks first.
 use Rattle.std.proofs.Common.{◌≡◌, ◌≢◌, ℕ, ◌⊎◌, inl, inr, Bool, true, false, not, ◌==◌, if◌then◌else◌, List, [], ◌∷◌, ◌++◌, length, map, Option, Some, None, refl, sym, ap, ◌∙◌, subst, append_assoc, append-nil}
 use Rattle.std.specs.List.{AllByRecursion, filter}
-use Rattle.m2_control.specs.Banner.{begins}
+use Rattle.m2_weave.specs.m2_control.Banner.{begins}
 use Rattle.m2_fabric.specs.declared.socket.SocketId.{SocketId}
 use Rattle.m2_fabric.specs.Sockets.{is_among, same_socket}
-use Rattle.m2_handshake.specs.Course.{Course, course_of, text_of}
-use Rattle.m2_handshake.specs.Moves.{is_authed}
-use Rattle.m2_handshake.specs.Standing.{Standing, fed, opener_at_start}
-use Rattle.m2_session.specs.declared.session.Phase.{Phase}
-use Rattle.m2_session.specs.declared.session.Phase.TheVariants as phase
-use Rattle.m2_session.specs.Phases as phases
-use Rattle.m2_journal.specs.Feeds.{acknowledgements, finished, goes_on, greets, hears, hears_at, keepalive_answers, narrowed, opened_feed, signs, silent_feed, split_into, texts_at, unnamed, without_first}
-use Rattle.m2_journal.specs.Laws.{IfFed}
-use Rattle.m2_journal.specs.OutFrames.{OutFrame, is_unnamed}
-use Rattle.m2_journal.specs.Said.{split}
-use Rattle.m2_journal.specs.SideFacts.{SideFacts}
-use Rattle.m2_journal.specs.State.{Feed, PartText, SentFrame, State}
-use Rattle.m2_never_reset.specs.Frames.{answers_on, frames_on, is_ask}
-use Rattle.m2_never_reset.proofs.Answered.{nothing_isnt_some}
-use Rattle.m2_never_reset.proofs.Sent.{answers_same, frames_elsewhere, frames_here}
-use Rattle.m2_never_reset.proofs.Written.{is_ready}
+use Rattle.m2_center.specs.m2_handshake.Course.{Course, course_of, text_of}
+use Rattle.m2_center.specs.m2_handshake.Moves.{is_authed}
+use Rattle.m2_center.specs.m2_handshake.Standing.{Standing, fed, opener_at_start}
+use Rattle.m2_center.specs.m2_session.declared.session.Phase.{Phase}
+use Rattle.m2_center.specs.m2_session.declared.session.Phase.TheVariants as phase
+use Rattle.m2_center.specs.m2_session.Phases as phases
+use Rattle.m2_weave.specs.m2_journal.Feeds.{acknowledgements, finished, goes_on, greets, hears, hears_at, keepalive_answers, narrowed, opened_feed, signs, silent_feed, split_into, texts_at, unnamed, without_first}
+use Rattle.m2_weave.specs.m2_journal.Laws.{IfFed}
+use Rattle.m2_weave.specs.m2_journal.OutFrames.{OutFrame, is_unnamed}
+use Rattle.m2_weave.specs.m2_journal.Said.{split}
+use Rattle.m2_weave.specs.m2_journal.SideFacts.{SideFacts}
+use Rattle.m2_weave.specs.m2_journal.State.{Feed, PartText, SentFrame, State}
+use Rattle.m2_bytes_fit.specs.m2_never_reset.Frames.{answers_on, frames_on, is_ask}
+use Rattle.m2_bytes_fit.proofs.m2_never_reset.Answered.{nothing_isnt_some}
+use Rattle.m2_bytes_fit.proofs.m2_never_reset.Sent.{answers_same, frames_elsewhere, frames_here}
+use Rattle.m2_bytes_fit.proofs.m2_never_reset.Written.{is_ready}
 use Rattle.m2_bytes_fit.proofs.Hands.{ready_apart}
 use Rattle.m2_bytes_fit.proofs.Less.{FeedLess}
 use Rattle.m2_bytes_fit.proofs.Lists.{not_nil}
-use Rattle.m2_lemmas.proofs.Options.{some_same}
-use Rattle.m2_lemmas.proofs.Booleans.{from_false_true}
+use Rattle.m2_fabric.proofs.m2_lemmas.Options.{some_same}
+use Rattle.m2_fabric.proofs.m2_lemmas.Booleans.{from_false_true}
 use Rattle.m2_fabric.proofs.Sockets.{same_equal, same_refl}
 
 -- ---- what begins with an ask

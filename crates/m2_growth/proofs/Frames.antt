@@ -5,48 +5,48 @@ use Rattle.std.specs.List.{All}
 use Rattle.std.specs.Int.{w32, w64, to_le_bytes, cast_unsigned}
 use Rattle.std.proofs.lemmas.Bool.{eq-eqb}
 use Rattle.std.proofs.lemmas.List.Elements.{All-cons, All-append}
-use Rattle.m2_addr.specs.declared.addr.Addr.{Addr}
-use Rattle.m2_addr.specs.declared.addr.AnyAddr.{AnyAddr}
-use Rattle.m2_addr.specs.declared.addr.AnyAddr.TheVariants.{V4}
-use Rattle.m2_addr.specs.declared.addr.TheConstants.Addr.{MSGR2}
-use Rattle.m2_addr.specs.declared.fault.AddrFault.{AddrFault}
-use Rattle.m2_addr.specs.Addr.{ipv4_text, ipv4_at}
-use Rattle.m2_addr.specs.Reading.{◌>>=◌, ◌⊳◌, made}
-use Rattle.m2_addr.specs.Vector.{IsKept, main_of, vector_at, vector_text}
-use Rattle.m2_addr.proofs.Addresses.{ipv4_spelled, vector_exact, vector_spelled}
-use Rattle.m2_control.specs.declared.control.Control.{Control}
-use Rattle.m2_control.specs.declared.control.Control.TheVariants as control
-use Rattle.m2_control.specs.declared.fault.ControlFault.{ControlFault}
-use Rattle.m2_control.specs.declared.fault.ControlFault.TheVariants.{Extra}
-use Rattle.m2_control.specs.ClientIdent.{make_client_ident}
-use Rattle.m2_control.specs.Control.{whole}
-use Rattle.m2_control.specs.Fields.{bounded_at, cookie_at, lifted, vector_field}
-use Rattle.m2_control.specs.Ident.{tail_at}
-use Rattle.m2_control.specs.SessionReconnect.{make_session_reconnect}
-use Rattle.m2_frame.specs.Frame.{Parts, message_tag}
-use Rattle.m2_frame.specs.Text as frame
-use Rattle.m2_frame.specs.declared.tag.Tag.TheVariants as tag
-use Rattle.m2_frame.specs.declared.tag.TheConstants.{FIRST_TAG, LAST_TAG}
-use Rattle.m2_frame.specs.Tags.{tag_number}
-use Rattle.m2_handshake.specs.declared.ask.Ask.{Ask}
-use Rattle.m2_handshake.specs.declared.ask.Ask.TheVariants.{Ident, Reconnect}
-use Rattle.m2_handshake.specs.declared.fault.HalfFault.{HalfFault}
-use Rattle.m2_handshake.specs.declared.fault.HalfFault.TheVariants as fault
-use Rattle.m2_handshake.specs.Asks.{is_known, known_main, under, asked, asked_of, ask_in}
-use Rattle.m2_handshake.specs.Greeting.{addrs_of}
-use Rattle.m2_handshake.specs.Reading.{of_payload, payload_in}
-use Rattle.m2_handshake.proofs.Greeting.{no_bytes, address_bytes}
-use Rattle.m2_journal.specs.Laws.{IsWritable}
-use Rattle.m2_journal.specs.OutFrames as out
-use Rattle.m2_journal.specs.OutFrames.{OutFrame, is_unnamed}
-use Rattle.m2_journal.specs.SideFacts.{SideFacts}
-use Rattle.m2_never_reset.specs.Frames.{is_ask}
-use Rattle.m2_trail.specs.Asks.{IsMain}
+use Rattle.m2_fabric.specs.m2_addr.declared.addr.Addr.{Addr}
+use Rattle.m2_fabric.specs.m2_addr.declared.addr.AnyAddr.{AnyAddr}
+use Rattle.m2_fabric.specs.m2_addr.declared.addr.AnyAddr.TheVariants.{V4}
+use Rattle.m2_fabric.specs.m2_addr.declared.addr.TheConstants.Addr.{MSGR2}
+use Rattle.m2_fabric.specs.m2_addr.declared.fault.AddrFault.{AddrFault}
+use Rattle.m2_fabric.specs.m2_addr.Addr.{ipv4_text, ipv4_at}
+use Rattle.m2_fabric.specs.m2_addr.Reading.{◌>>=◌, ◌⊳◌, made}
+use Rattle.m2_fabric.specs.m2_addr.Vector.{IsKept, main_of, vector_at, vector_text}
+use Rattle.m2_fabric.proofs.m2_addr.Addresses.{ipv4_spelled, vector_exact, vector_spelled}
+use Rattle.m2_weave.specs.m2_control.declared.control.Control.{Control}
+use Rattle.m2_weave.specs.m2_control.declared.control.Control.TheVariants as control
+use Rattle.m2_weave.specs.m2_control.declared.fault.ControlFault.{ControlFault}
+use Rattle.m2_weave.specs.m2_control.declared.fault.ControlFault.TheVariants.{Extra}
+use Rattle.m2_weave.specs.m2_control.ClientIdent.{make_client_ident}
+use Rattle.m2_weave.specs.m2_control.Control.{whole}
+use Rattle.m2_weave.specs.m2_control.Fields.{bounded_at, cookie_at, lifted, vector_field}
+use Rattle.m2_weave.specs.m2_control.Ident.{tail_at}
+use Rattle.m2_weave.specs.m2_control.SessionReconnect.{make_session_reconnect}
+use Rattle.m2_dispatch.specs.m2_frame.Frame.{Parts, message_tag}
+use Rattle.m2_dispatch.specs.m2_frame.Text as frame
+use Rattle.m2_dispatch.specs.m2_frame.declared.tag.Tag.TheVariants as tag
+use Rattle.m2_dispatch.specs.m2_frame.declared.tag.TheConstants.{FIRST_TAG, LAST_TAG}
+use Rattle.m2_dispatch.specs.m2_frame.Tags.{tag_number}
+use Rattle.m2_center.specs.m2_handshake.declared.ask.Ask.{Ask}
+use Rattle.m2_center.specs.m2_handshake.declared.ask.Ask.TheVariants.{Ident, Reconnect}
+use Rattle.m2_center.specs.m2_handshake.declared.fault.HalfFault.{HalfFault}
+use Rattle.m2_center.specs.m2_handshake.declared.fault.HalfFault.TheVariants as fault
+use Rattle.m2_center.specs.m2_handshake.Asks.{is_known, known_main, under, asked, asked_of, ask_in}
+use Rattle.m2_center.specs.m2_handshake.Greeting.{addrs_of}
+use Rattle.m2_center.specs.m2_handshake.Reading.{of_payload, payload_in}
+use Rattle.m2_center.proofs.m2_handshake.Greeting.{no_bytes, address_bytes}
+use Rattle.m2_weave.specs.m2_journal.Laws.{IsWritable}
+use Rattle.m2_weave.specs.m2_journal.OutFrames as out
+use Rattle.m2_weave.specs.m2_journal.OutFrames.{OutFrame, is_unnamed}
+use Rattle.m2_weave.specs.m2_journal.SideFacts.{SideFacts}
+use Rattle.m2_bytes_fit.specs.m2_never_reset.Frames.{is_ask}
+use Rattle.m2_bytes_fit.specs.m2_trail.Asks.{IsMain}
 use Rattle.m2_bytes_fit.specs.Halves.{KeepsRanges}
 use Rattle.m2_bytes_fit.proofs.Says.{part}
 use Rattle.m2_bytes_fit.proofs.Sent.{IsByte, ack_writable, eight_bytes, stamp_writable}
-use Rattle.m2_lemmas.proofs.Booleans.{from_false_true}
-use Rattle.m2_lemmas.proofs.Bytes.{four_bytes}
+use Rattle.m2_fabric.proofs.m2_lemmas.Booleans.{from_false_true}
+use Rattle.m2_fabric.proofs.m2_lemmas.Bytes.{four_bytes}
 
 -- ---- whose ask a frame is
 

@@ -1,9 +1,9 @@
 -- What grows, and grows further, grows.
 use Rattle.std.proofs.Common.{◌≡◌, ◌⊎◌, inl, inr, ℕ, ◌≤◌, List, [], ◌∷◌, ◌++◌, length, refl, sym, ap, subst, ◌∙◌, append-nil, append_assoc, length-append, arith}
-use Rattle.m2_record.specs.RecordNow.{RecordNow}
+use Rattle.m2_center.specs.m2_record.RecordNow.{RecordNow}
 use Rattle.m2_center.specs.Halves.{AllHalves}
-use Rattle.m2_trail.specs.Arrivals.{LooseNow}
-use Rattle.m2_trail.specs.Trails.{TrailNow}
+use Rattle.m2_bytes_fit.specs.m2_trail.Arrivals.{LooseNow}
+use Rattle.m2_bytes_fit.specs.m2_trail.Trails.{TrailNow}
 use Rattle.m2_weave.specs.Later.{GoesOn}
 use Rattle.m2_growth.specs.Halves.{HalvesStay, IsLeft, IsOneOf, IsTakenBy, JudgesMore, TrailGrows, all_left}
 use Rattle.m2_growth.specs.Holding.{AreOwn, Grows, Holding, HoldingGrows, all_ends}
@@ -11,7 +11,7 @@ use Rattle.m2_growth.specs.Records.{RecordGrows, RecordsGrow}
 use Rattle.m2_growth.proofs.Among.{each_by, of_each, one_front}
 use Rattle.m2_growth.proofs.Asked.{asked_chain, asked_same}
 use Rattle.m2_growth.proofs.Ends.{grow_chain, grow_same, on_chain, on_same}
-use Rattle.m2_lemmas.proofs.Lists.{all_append, all_so_of}
+use Rattle.m2_fabric.proofs.m2_lemmas.Lists.{all_append, all_so_of}
 
 -- ---- trails
 

@@ -10,7 +10,7 @@ use Rattle.m2_fabric.specs.Kept.{reader, writer}
 use Rattle.m2_weave.specs.Later.{GoesOn}
 use Rattle.m2_growth.specs.Ends.{EndGrowsTo, IsNewborn, come_to}
 use Rattle.m2_growth.specs.Turn.{AllEndsGrow, CameOfPut}
-use Rattle.m2_lemmas.proofs.Booleans.{false_isnt_true}
+use Rattle.m2_fabric.proofs.m2_lemmas.Booleans.{false_isnt_true}
 
 -- ---- lists
 

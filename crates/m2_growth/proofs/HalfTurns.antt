@@ -2,20 +2,20 @@
 use Rattle.std.proofs.Common.{◌≡◌, inl, inr, ℕ, zero, suc, true, List, [], ◌∷◌, ◌++◌, map, Option, Some, None, IfSome, IsSome, refl, sym, ap, subst, ◌∙◌, append-nil, append_assoc}
 use Rattle.std.specs.Prelude.{position, slice_get, slice_index_or, slice_set}
 use Rattle.std.specs.List.{AllByRecursion}
-use Rattle.m2_addr.specs.declared.addr.Addr.{Addr}
+use Rattle.m2_fabric.specs.m2_addr.declared.addr.Addr.{Addr}
 use Rattle.m2_fabric.specs.End.{SeenEnd}
 use Rattle.m2_fabric.specs.Port.{SeenPort}
 use Rattle.m2_fabric.specs.Sockets.{is_among}
-use Rattle.m2_trail.specs.declared.turn.HalfTurn.{HalfTurn}
-use Rattle.m2_trail.specs.declared.turn.HalfTurn.TheVariants as turn
-use Rattle.m2_trail.specs.HalfLaws.{IsLaterTrail}
-use Rattle.m2_trail.specs.TurnMoves.{Makes, MakesMove, Move, answers, reads, writes}
-use Rattle.m2_trail.specs.Turn.{AdvancesAs, Moves}
-use Rattle.m2_trail.proofs.Later.{by_turn}
-use Rattle.m2_handshake.specs.Asks.{is_known, same_addr}
-use Rattle.m2_journal.specs.State.{Judgement}
-use Rattle.m2_record.specs.RecordNow.{RecordNow}
-use Rattle.m2_record.specs.Sources.{end_at}
+use Rattle.m2_bytes_fit.specs.m2_trail.declared.turn.HalfTurn.{HalfTurn}
+use Rattle.m2_bytes_fit.specs.m2_trail.declared.turn.HalfTurn.TheVariants as turn
+use Rattle.m2_bytes_fit.specs.m2_trail.HalfLaws.{IsLaterTrail}
+use Rattle.m2_bytes_fit.specs.m2_trail.TurnMoves.{Makes, MakesMove, Move, answers, reads, writes}
+use Rattle.m2_bytes_fit.specs.m2_trail.Turn.{AdvancesAs, Moves}
+use Rattle.m2_bytes_fit.proofs.m2_trail.Later.{by_turn}
+use Rattle.m2_center.specs.m2_handshake.Asks.{is_known, same_addr}
+use Rattle.m2_weave.specs.m2_journal.State.{Judgement}
+use Rattle.m2_center.specs.m2_record.RecordNow.{RecordNow}
+use Rattle.m2_center.specs.m2_record.Sources.{end_at}
 use Rattle.m2_center.specs.declared.answering.HalfAnswered.{HalfAnswered}
 use Rattle.m2_center.specs.declared.answering.HalfAnswered.TheVariants as half
 use Rattle.m2_center.specs.declared.half_turn.HalfTurned.{HalfTurned}
@@ -28,12 +28,12 @@ use Rattle.m2_center.specs.HalvesTurn.{Callers, HalfTurns, HalvesTurning, Oldest
 use Rattle.m2_center.specs.RecordTurn.{Means}
 use Rattle.m2_center.specs.Sessions.{PendingNow, Sessions, is_asker, peer_of}
 use Rattle.m2_center.proofs.Turned.{IsHome, found_home, may_ask}
-use Rattle.m2_trail.specs.declared.step.IncomingStep.{IncomingStep}
-use Rattle.m2_trail.specs.declared.step.IncomingStep.TheVariants as step
-use Rattle.m2_trail.specs.Arrivals.{IsArrival, closed_of}
-use Rattle.m2_trail.specs.Asks.{IsMain}
-use Rattle.m2_trail.specs.Incoming.{IncomingNow, StepsOn}
-use Rattle.m2_trail.specs.Trails.{TrailNow}
+use Rattle.m2_bytes_fit.specs.m2_trail.declared.step.IncomingStep.{IncomingStep}
+use Rattle.m2_bytes_fit.specs.m2_trail.declared.step.IncomingStep.TheVariants as step
+use Rattle.m2_bytes_fit.specs.m2_trail.Arrivals.{IsArrival, closed_of}
+use Rattle.m2_bytes_fit.specs.m2_trail.Asks.{IsMain}
+use Rattle.m2_bytes_fit.specs.m2_trail.Incoming.{IncomingNow, StepsOn}
+use Rattle.m2_bytes_fit.specs.m2_trail.Trails.{TrailNow}
 use Rattle.m2_growth.specs.Ends.{EndGrows, come_to}
 use Rattle.m2_growth.specs.Halves.{IsAskedByPeer, IsHeardBy, TrailGrows, asked_on, judged_since}
 use Rattle.m2_growth.specs.Holding.{AreOwn, Grows, Holding, all_ends, ends_held, waiting_at}
@@ -49,9 +49,9 @@ use Rattle.m2_growth.proofs.Holdings.{Around, half_changes, half_over, held_over
 use Rattle.m2_growth.proofs.Judged.{this_held, JudgesAlone, JudgesOn, Takes, record_judges, record_takes}
 use Rattle.m2_growth.proofs.OneRecord.{holding}
 use Rattle.m2_growth.proofs.Owned.{own_all}
-use Rattle.m2_lemmas.proofs.Booleans.{false_isnt_true}
-use Rattle.m2_handshake.proofs.Idents.{same_means}
-use Rattle.m2_lemmas.proofs.Lists.{all_so_of}
+use Rattle.m2_fabric.proofs.m2_lemmas.Booleans.{false_isnt_true}
+use Rattle.m2_center.proofs.m2_handshake.Idents.{same_means}
+use Rattle.m2_fabric.proofs.m2_lemmas.Lists.{all_so_of}
 
 -- ---- a half moves on
 

@@ -1,18 +1,18 @@
 -- What becomes of a holding where a half moves on, is over or is taken, and where a record judges its ask.
 use Rattle.std.proofs.Common.{◌≡◌, ◌⊎◌, inl, inr, true, false, List, [], ◌∷◌, ◌++◌, map, Option, Some, None, refl, sym, ap, subst, ◌∙◌, append-nil, append_assoc}
 use Rattle.std.specs.List.{AllByRecursion}
-use Rattle.m2_addr.specs.declared.addr.Addr.{Addr}
+use Rattle.m2_fabric.specs.m2_addr.declared.addr.Addr.{Addr}
 use Rattle.m2_fabric.specs.declared.socket.SocketId.{SocketId}
 use Rattle.m2_fabric.specs.End.{SeenEnd}
 use Rattle.m2_fabric.specs.Port.{SeenPort}
 use Rattle.m2_fabric.specs.Sockets.{goes_to, is_among}
-use Rattle.m2_journal.specs.SideFacts.{SideFacts}
-use Rattle.m2_record.specs.RecordNow.{RecordNow}
-use Rattle.m2_record.specs.Sources.{end_at}
+use Rattle.m2_weave.specs.m2_journal.SideFacts.{SideFacts}
+use Rattle.m2_center.specs.m2_record.RecordNow.{RecordNow}
+use Rattle.m2_center.specs.m2_record.Sources.{end_at}
 use Rattle.m2_center.specs.Halves.{AllHalves, halves_of}
 use Rattle.m2_center.specs.Hearing.{ends_in}
 use Rattle.m2_center.specs.Sessions.{PendingNow, peer_of}
-use Rattle.m2_trail.specs.Arrivals.{LooseNow, left_of}
+use Rattle.m2_bytes_fit.specs.m2_trail.Arrivals.{LooseNow, left_of}
 use Rattle.m2_growth.specs.Ends.{BringNone, EndGrows, EndGrowsTo, EndsGrow}
 use Rattle.m2_growth.specs.Halves.{AreAskedByPeers, HalvesStay, HasItsHalves, IsHeardBy, IsLeft, IsOneOf, IsTakenBy, TrailGrows, all_left, sockets_left, sockets_taken}
 use Rattle.m2_growth.specs.Holding.{AreOwn, Grows, HaveTheirHalves, Holding, all_ends, ends_held, waiting_at}
@@ -22,7 +22,7 @@ use Rattle.m2_growth.proofs.Asked.{asked_same}
 use Rattle.m2_growth.proofs.Ends.{AreLater, end_append, first_of, later_before, later_behind, later_chain, later_one, later_same, later_swapped, made_later, to_same}
 use Rattle.m2_growth.proofs.Going.{records_same, trail_same}
 use Rattle.m2_growth.proofs.OneRecord.{holding}
-use Rattle.m2_lemmas.proofs.Lists.{all_so}
+use Rattle.m2_fabric.proofs.m2_lemmas.Lists.{all_so}
 use Rattle.m2_fabric.proofs.Sockets.{among_front, among_part}
 
 -- ---- records

@@ -5,8 +5,8 @@ use Rattle.std.specs.Option.{is_some}
 use Rattle.m2_fabric.specs.declared.socket.SocketId.{SocketId}
 use Rattle.m2_fabric.specs.End.{SeenEnd}
 use Rattle.m2_fabric.specs.Sockets.{is_among, same_socket}
-use Rattle.m2_record.specs.RecordNow.{ids_of}
-use Rattle.m2_record.specs.Sources.{end_at}
+use Rattle.m2_center.specs.m2_record.RecordNow.{ids_of}
+use Rattle.m2_center.specs.m2_record.Sources.{end_at}
 use Rattle.m2_growth.specs.Ends.{AreOfTheirOwn}
 use Rattle.m2_growth.specs.Holding.{AreOwn, Grows, Holding, all_ends, ends_held, waiting_at}
 use Rattle.m2_growth.proofs.Ends.{end_append, first_of, own_apart}
@@ -14,7 +14,7 @@ use Rattle.m2_growth.proofs.Going.{grows_by, grows_then}
 use Rattle.m2_growth.proofs.Owned.{held_apart}
 use Rattle.m2_growth.specs.Ports.{PortStands, waits_there}
 use Rattle.m2_growth.proofs.Growing.{still_there}
-use Rattle.m2_lemmas.proofs.Booleans.{both_of_and, false_isnt_true}
+use Rattle.m2_fabric.proofs.m2_lemmas.Booleans.{both_of_and, false_isnt_true}
 
 -- ---- the end of a socket among others
 

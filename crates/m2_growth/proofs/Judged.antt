@@ -2,18 +2,18 @@
 use Rattle.std.proofs.Common.{◌≡◌, ◌⊎◌, inl, inr, ℕ, zero, suc, ◌<◌, true, false, List, [], ◌∷◌, ◌++◌, map, length, Some, refl, sym, ap, subst, ◌∙◌, append_assoc, arith}
 use Rattle.std.specs.Prelude.{slice_index_or, slice_set}
 use Rattle.std.specs.List.{AllByRecursion, IsDistinct}
-use Rattle.m2_addr.specs.declared.addr.Addr.{Addr}
+use Rattle.m2_fabric.specs.m2_addr.declared.addr.Addr.{Addr}
 use Rattle.m2_fabric.specs.declared.socket.SocketId.{SocketId}
 use Rattle.m2_fabric.specs.End.{SeenEnd}
 use Rattle.m2_fabric.specs.Sockets.{goes_to, is_among}
-use Rattle.m2_handshake.specs.Asks.{same_addr}
-use Rattle.m2_record.specs.RecordNow.{RecordNow, ends_of}
+use Rattle.m2_center.specs.m2_handshake.Asks.{same_addr}
+use Rattle.m2_center.specs.m2_record.RecordNow.{RecordNow, ends_of}
 use Rattle.m2_center.specs.Hearing.{ends_in}
 use Rattle.m2_center.specs.Sessions.{PendingNow, is_asker, peer_of}
 use Rattle.m2_center.proofs.Peers.{each_of_two, same_peers, with_one}
 use Rattle.m2_center.proofs.Turned.{IsHome}
-use Rattle.m2_trail.specs.Arrivals.{LooseNow}
-use Rattle.m2_trail.specs.Trails.{TrailNow}
+use Rattle.m2_bytes_fit.specs.m2_trail.Arrivals.{LooseNow}
+use Rattle.m2_bytes_fit.specs.m2_trail.Trails.{TrailNow}
 use Rattle.m2_growth.specs.Halves.{AskedOnMade, IsAskedByPeer, judged_since, HasItsHalves, IsHeardBy, IsLeft, IsOneOf, IsTakenBy, TrailGrows, all_left, asked_on, sockets_left, sockets_taken, AskedTowards, OneJudge}
 use Rattle.m2_growth.specs.Holding.{AreOwn, Grows, HaveTheirHalves, all_ends, ends_held}
 use Rattle.m2_growth.specs.Records.{IsFed, RecordGrows, RecordsGrow, ends_of_all}
@@ -23,8 +23,8 @@ use Rattle.m2_growth.proofs.Ends.{AreLater, later_before, later_behind, later_ch
 use Rattle.m2_growth.proofs.Going.{halves_same, record_same, records_same, trail_same}
 use Rattle.m2_growth.proofs.OneJudge.{one_judges}
 use Rattle.m2_growth.proofs.Holdings.{Around, IsHere, IsOnSocket, end_first, end_of, halves_with, halves_without, held_with, held_without, left, loose_end, of_others, of_this, others_on, parts_grow, socket_of, this_left, this_on, whose_left}
-use Rattle.m2_lemmas.proofs.Booleans.{false_isnt_true}
-use Rattle.m2_lemmas.proofs.Lists.{all_so}
+use Rattle.m2_fabric.proofs.m2_lemmas.Booleans.{false_isnt_true}
+use Rattle.m2_fabric.proofs.m2_lemmas.Lists.{all_so}
 use Rattle.m2_fabric.proofs.Sockets.{among_front, among_part}
 
 -- ---- one record of all

@@ -31,3 +31,4 @@ pub mod Standing
 pub mod Steps
 pub mod Telling
 pub mod Told
+pub use Rattle.m2_bytes_fit.proofs as m2_bytes_fit

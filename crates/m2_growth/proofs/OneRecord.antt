@@ -1,22 +1,22 @@
 -- One record of a holding does something, and all else there stays.
 use Rattle.std.proofs.Common.{◌≡◌, true, List, [], ◌∷◌, ◌++◌, map, IsSome, refl, sym, ap, subst, ◌∙◌, append_assoc}
 use Rattle.std.specs.List.{AllByRecursion, IsDistinct}
-use Rattle.m2_addr.specs.declared.addr.Addr.{Addr}
+use Rattle.m2_fabric.specs.m2_addr.declared.addr.Addr.{Addr}
 use Rattle.m2_fabric.specs.declared.socket.SocketId.{SocketId}
 use Rattle.m2_fabric.specs.End.{SeenEnd}
 use Rattle.m2_fabric.specs.Port.{SeenPort}
 use Rattle.m2_fabric.specs.Sockets.{goes_to, is_among}
-use Rattle.m2_handshake.specs.Asks.{same_addr}
-use Rattle.m2_journal.specs.State.{Judgement}
-use Rattle.m2_record.specs.Calls.{IsSameButRoom}
-use Rattle.m2_record.specs.RecordNow.{RecordNow, ends_of}
-use Rattle.m2_record.specs.TakenTrails.{judgements_in}
+use Rattle.m2_center.specs.m2_handshake.Asks.{same_addr}
+use Rattle.m2_weave.specs.m2_journal.State.{Judgement}
+use Rattle.m2_center.specs.m2_record.Calls.{IsSameButRoom}
+use Rattle.m2_center.specs.m2_record.RecordNow.{RecordNow, ends_of}
+use Rattle.m2_center.specs.m2_record.TakenTrails.{judgements_in}
 use Rattle.m2_center.specs.Beside.{MadeOn}
 use Rattle.m2_center.specs.Halves.{AllHalves}
 use Rattle.m2_center.specs.Hearing.{ends_in}
 use Rattle.m2_center.specs.Sessions.{PendingNow, is_asker, peer_of}
-use Rattle.m2_trail.specs.Arrivals.{LooseNow}
-use Rattle.m2_trail.specs.Trails.{TrailNow}
+use Rattle.m2_bytes_fit.specs.m2_trail.Arrivals.{LooseNow}
+use Rattle.m2_bytes_fit.specs.m2_trail.Trails.{TrailNow}
 use Rattle.m2_weave.specs.Later.{GoesOn}
 use Rattle.m2_growth.specs.Ends.{AreOfTheirOwn, EndsGrow}
 use Rattle.m2_growth.specs.Halves.{AskedOnMade, AskedTowards, HasItsHalves, IsHeardBy, all_left, asked_on, sockets_left}
@@ -28,7 +28,7 @@ use Rattle.m2_growth.proofs.Going.{halves_same, record_chain, record_same, recor
 use Rattle.m2_growth.proofs.OneJudge.{one_same}
 use Rattle.m2_growth.proofs.Owned.{own_all}
 use Rattle.m2_fabric.proofs.Sockets.{among_front}
-use Rattle.m2_lemmas.proofs.Lists.{all_so_of}
+use Rattle.m2_fabric.proofs.m2_lemmas.Lists.{all_so_of}
 
 -- ---- lists with one item changed
 

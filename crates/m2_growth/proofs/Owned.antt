@@ -5,11 +5,11 @@ use Rattle.m2_fabric.specs.declared.socket.SocketId.{SocketId}
 use Rattle.m2_fabric.specs.End.{SeenEnd}
 use Rattle.m2_fabric.specs.Port.{SeenPort}
 use Rattle.m2_fabric.specs.Sockets.{goes_to, is_among, same_socket}
-use Rattle.m2_record.specs.Sources.{end_at}
+use Rattle.m2_center.specs.m2_record.Sources.{end_at}
 use Rattle.m2_growth.specs.Ends.{AreOfTheirOwn}
 use Rattle.m2_growth.specs.Holding.{AreOwn, Holding, IsToCome, all_ends, ends_held, waiting_at}
 use Rattle.m2_growth.proofs.Ends.{AreApart, among_or_not, made_none, none_cons, own_join}
-use Rattle.m2_lemmas.proofs.Booleans.{false_isnt_true}
+use Rattle.m2_fabric.proofs.m2_lemmas.Booleans.{false_isnt_true}
 use Rattle.m2_fabric.proofs.Sockets.{same_equal}
 
 -- none of those that wait is of a socket that was made

@@ -1,10 +1,10 @@
 -- A record of a holding plans a step and takes it.
 use Rattle.std.proofs.Common.{◌≡◌, inl, inr, ℕ, zero, suc, List, [], ◌∷◌, ◌++◌, Some, Result, Ok, Err, refl, sym, ap, subst, ◌∙◌}
 use Rattle.std.specs.Prelude.{slice_get, slice_set}
-use Rattle.m2_bytes.specs.declared.memory.NoMemory as memory
-use Rattle.m2_journal.specs.declared.facts.PlanStep.{PlanStep}
-use Rattle.m2_record.specs.Calls.{planned_too}
-use Rattle.m2_record.specs.RecordNow.{RecordNow, ends_of}
+use Rattle.m2_fabric.specs.m2_bytes.declared.memory.NoMemory as memory
+use Rattle.m2_weave.specs.m2_journal.declared.facts.PlanStep.{PlanStep}
+use Rattle.m2_center.specs.m2_record.Calls.{planned_too}
+use Rattle.m2_center.specs.m2_record.RecordNow.{RecordNow, ends_of}
 use Rattle.m2_center.specs.Planning.{PlansNow, TakesNew}
 use Rattle.m2_center.proofs.GoesOn as journals
 use Rattle.m2_growth.specs.Holding.{AreOwn, Grows}

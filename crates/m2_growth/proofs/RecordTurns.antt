@@ -2,10 +2,10 @@
 use Rattle.std.proofs.Common.{◌≡◌, inl, inr, Bool, true, false, List, [], ◌∷◌, ◌++◌, None, Ok, Err, refl, sym, ap, subst, ◌∙◌, append-nil, append_assoc}
 use Rattle.std.proofs.lemmas.List.Elements.{filter_map-append}
 use Rattle.m2_dispatch.specs.Heard.{Heard}
-use Rattle.m2_journal.specs.declared.entry.Entry.{Entry}
-use Rattle.m2_journal.specs.declared.entry.Entry.TheVariants as entry
-use Rattle.m2_record.specs.RecordNow.{RecordNow}
-use Rattle.m2_record.specs.TakenTrails.{judgement_of, judgements_in}
+use Rattle.m2_weave.specs.m2_journal.declared.entry.Entry.{Entry}
+use Rattle.m2_weave.specs.m2_journal.declared.entry.Entry.TheVariants as entry
+use Rattle.m2_center.specs.m2_record.RecordNow.{RecordNow}
+use Rattle.m2_center.specs.m2_record.TakenTrails.{judgement_of, judgements_in}
 use Rattle.m2_center.specs.declared.record_turn.RecordTurn.{RecordTurn}
 use Rattle.m2_center.specs.declared.record_turn.RecordTurn.TheVariants as one
 use Rattle.m2_center.specs.declared.records_turn.RecordsTurn.{RecordsTurn}

@@ -3,27 +3,27 @@
 use Rattle.std.proofs.Common.{◌≡◌, ℕ, inl, inr, Bool, true, false, List, [], ◌∷◌, ◌++◌, drop, Option, None, refl, sym, ap, ◌∙◌, subst, append_assoc}
 use Rattle.std.specs.Prelude.{IfSome, Result, Ok}
 use Rattle.std.specs.List.{AllByRecursion}
-use Rattle.m2_addr.specs.declared.addr.Addr.{Addr}
-use Rattle.m2_addr.specs.declared.fault.AddrFault.{AddrFault}
+use Rattle.m2_fabric.specs.m2_addr.declared.addr.Addr.{Addr}
+use Rattle.m2_fabric.specs.m2_addr.declared.fault.AddrFault.{AddrFault}
 use Rattle.m2_fabric.specs.declared.socket.SocketId.{SocketId}
 use Rattle.m2_fabric.specs.Sockets.{is_among}
-use Rattle.m2_handshake.specs.declared.ask.Ask.{Ask}
-use Rattle.m2_handshake.specs.Asks.{bare_ask}
-use Rattle.m2_handshake.specs.Course.{Exchange, Reaches}
-use Rattle.m2_handshake.specs.Greeting.{greeting}
-use Rattle.m2_handshake.specs.Laws.{IsPrefix}
-use Rattle.m2_handshake.specs.Standing.{Standing, acceptor_at_start}
-use Rattle.m2_journal.specs.Items.{JournalItem, items_of}
-use Rattle.m2_journal.specs.OutFrames.{OutFrame}
-use Rattle.m2_journal.specs.Replay.{after_items}
-use Rattle.m2_journal.specs.SideFacts.{SideFacts}
-use Rattle.m2_journal.specs.State.{State, start}
-use Rattle.m2_never_reset.specs.Frames.{frames_on}
-use Rattle.m2_record.specs.RecordNow.{ends_of, speaks_of}
-use Rattle.m2_trail.specs.Asks.{IsMain}
-use Rattle.m2_trail.specs.Trails.{opener_of}
-use Rattle.m2_trail.proofs.Asked.{main_stays_of}
-use Rattle.m2_record.specs.Sources.{end_at, put_of, trail_at, written_before}
+use Rattle.m2_center.specs.m2_handshake.declared.ask.Ask.{Ask}
+use Rattle.m2_center.specs.m2_handshake.Asks.{bare_ask}
+use Rattle.m2_center.specs.m2_handshake.Course.{Exchange, Reaches}
+use Rattle.m2_center.specs.m2_handshake.Greeting.{greeting}
+use Rattle.m2_center.specs.m2_handshake.Laws.{IsPrefix}
+use Rattle.m2_center.specs.m2_handshake.Standing.{Standing, acceptor_at_start}
+use Rattle.m2_weave.specs.m2_journal.Items.{JournalItem, items_of}
+use Rattle.m2_weave.specs.m2_journal.OutFrames.{OutFrame}
+use Rattle.m2_weave.specs.m2_journal.Replay.{after_items}
+use Rattle.m2_weave.specs.m2_journal.SideFacts.{SideFacts}
+use Rattle.m2_weave.specs.m2_journal.State.{State, start}
+use Rattle.m2_bytes_fit.specs.m2_never_reset.Frames.{frames_on}
+use Rattle.m2_center.specs.m2_record.RecordNow.{ends_of, speaks_of}
+use Rattle.m2_bytes_fit.specs.m2_trail.Asks.{IsMain}
+use Rattle.m2_bytes_fit.specs.m2_trail.Trails.{opener_of}
+use Rattle.m2_bytes_fit.proofs.m2_trail.Asked.{main_stays_of}
+use Rattle.m2_center.specs.m2_record.Sources.{end_at, put_of, trail_at, written_before}
 use Rattle.m2_bytes_fit.specs.Ends.{takings_on, wrote_on}
 use Rattle.m2_bytes_fit.specs.Halves.{KeepsRanges}
 use Rattle.m2_bytes_fit.specs.Texts.{texts_of}
@@ -35,8 +35,8 @@ use Rattle.m2_growth.proofs.Entries.{IsKept, lawful_kept}
 use Rattle.m2_growth.proofs.Feeds.{BeginsAsking}
 use Rattle.m2_growth.proofs.Halves.{BeginSo, asked_by}
 use Rattle.m2_growth.proofs.Journals.{opened_in, untaken, wrote_all}
-use Rattle.m2_lemmas.proofs.Booleans.{from_false_true}
-use Rattle.m2_lemmas.proofs.Lists.{all_back}
+use Rattle.m2_fabric.proofs.m2_lemmas.Booleans.{from_false_true}
+use Rattle.m2_fabric.proofs.m2_lemmas.Lists.{all_back}
 
 -- ---- of one journal
 

@@ -1,71 +1,71 @@
 -- A step of a record: its ends are the same, later, and it has a feed where its phase has one still.
 use Rattle.std.proofs.Common.{◌≡◌, ℕ, ◌&&◌, Bool, true, false, not, List, [], ◌++◌, Option, Some, None, Result, Ok, Err, IfSome, IsSome, true≢false, refl, sym, ap, subst, ◌∙◌, append-nil}
 use Rattle.std.specs.Option.{option_to_list}
-use Rattle.m2_bytes.specs.declared.memory.NoMemory as memory
-use Rattle.m2_control.specs.declared.keepalive.Keepalive.{Keepalive}
-use Rattle.m2_core.specs.declared.asking.CoreAsk.{CoreAsk}
-use Rattle.m2_core.specs.declared.asking.CoreAsk.TheVariants as ask
-use Rattle.m2_core.specs.declared.to_compose.CoreText.{CoreText}
-use Rattle.m2_core.specs.declared.to_compose.CoreText.TheVariants as text
-use Rattle.m2_core.specs.declared.next.CoreNext.{CoreNext}
-use Rattle.m2_core.specs.declared.next.CoreNext.TheVariants as next
-use Rattle.m2_core.specs.Asking.{LeavesAsk}
-use Rattle.m2_core.specs.Calls.{ask_event, asks_ident}
-use Rattle.m2_core.specs.CoreNow.{CoreNow}
-use Rattle.m2_core.specs.Front.{FrontHeard, asks, heard_by, rests, tells}
-use Rattle.m2_core.specs.Granting.{Throttled}
-use Rattle.m2_core.specs.Hearing.{Heeds, effects_heard}
-use Rattle.m2_core.specs.Next.{IsNext}
-use Rattle.m2_core.specs.ToCompose.{to_compose}
-use Rattle.m2_core.proofs.Sound.{fault_by}
+use Rattle.m2_fabric.specs.m2_bytes.declared.memory.NoMemory as memory
+use Rattle.m2_weave.specs.m2_control.declared.keepalive.Keepalive.{Keepalive}
+use Rattle.m2_center.specs.m2_core.declared.asking.CoreAsk.{CoreAsk}
+use Rattle.m2_center.specs.m2_core.declared.asking.CoreAsk.TheVariants as ask
+use Rattle.m2_center.specs.m2_core.declared.to_compose.CoreText.{CoreText}
+use Rattle.m2_center.specs.m2_core.declared.to_compose.CoreText.TheVariants as text
+use Rattle.m2_center.specs.m2_core.declared.next.CoreNext.{CoreNext}
+use Rattle.m2_center.specs.m2_core.declared.next.CoreNext.TheVariants as next
+use Rattle.m2_center.specs.m2_core.Asking.{LeavesAsk}
+use Rattle.m2_center.specs.m2_core.Calls.{ask_event, asks_ident}
+use Rattle.m2_center.specs.m2_core.CoreNow.{CoreNow}
+use Rattle.m2_center.specs.m2_core.Front.{FrontHeard, asks, heard_by, rests, tells}
+use Rattle.m2_center.specs.m2_core.Granting.{Throttled}
+use Rattle.m2_center.specs.m2_core.Hearing.{Heeds, effects_heard}
+use Rattle.m2_center.specs.m2_core.Next.{IsNext}
+use Rattle.m2_center.specs.m2_core.ToCompose.{to_compose}
+use Rattle.m2_center.proofs.m2_core.Sound.{fault_by}
 use Rattle.m2_fabric.specs.declared.end.EndRead.{EndRead}
 use Rattle.m2_fabric.specs.declared.end.EndRead.TheVariants as read
 use Rattle.m2_fabric.specs.declared.end.EndWrite.TheVariants as write
 use Rattle.m2_fabric.specs.End.{SeenEnd}
-use Rattle.m2_feed.specs.Calls.{ComposesIfOk, ReadsOn, WritesOn, after_greeting}
-use Rattle.m2_feed.specs.declared.answers.FeedWrite.{FeedWrite}
-use Rattle.m2_feed.specs.declared.answers.FeedWrite.TheVariants as put
-use Rattle.m2_feed.specs.declared.writing.Writing.{Writing}
-use Rattle.m2_feed.specs.declared.writing.Writing.TheVariants as writing
-use Rattle.m2_feed.specs.FeedNow.{FeedNow}
-use Rattle.m2_frame.specs.Reading.{Item}
-use Rattle.m2_handshake.specs.declared.answer.HalfStep.{HalfStep}
-use Rattle.m2_handshake.specs.declared.answer.HalfStep.TheVariants as half
-use Rattle.m2_handshake.specs.Standing.{Standing}
-use Rattle.m2_feed.specs.declared.wire_fault.WireFault.{WireFault}
-use Rattle.m2_feed.specs.declared.frame_heard.FrameHeard.TheVariants as heard
-use Rattle.m2_feed.specs.declared.hearer.Hearer.{Hearer}
-use Rattle.m2_feed.specs.declared.heard.Heard.{Heard}
-use Rattle.m2_feed.specs.declared.heard.Heard.TheVariants as answer
-use Rattle.m2_journal.specs.declared.entry.Entry.{Entry}
-use Rattle.m2_journal.specs.declared.facts.PlanStep.{PlanStep}
-use Rattle.m2_journal.specs.declared.facts.PlanStep.TheVariants as step
-use Rattle.m2_journal.specs.OutFrames as out
-use Rattle.m2_journal.specs.SideFacts.{SideFacts}
-use Rattle.m2_core.specs.LiveCalls.{live_with}
-use Rattle.m2_core.specs.Effects.{closed_if, has_effects}
-use Rattle.m2_core.specs.LiveHearing.{ObeysReset}
-use Rattle.m2_core.specs.LiveNow.{LiveNow, OnFeedNow, is_waiting}
-use Rattle.m2_core.specs.OnFeed.{AnswersStamp, ChangesRoom, ComposesAsk, ComposesFeed, ComposesMessage, GreetsFeed, PassesFeed, PassesItem, ReadsFeed, WritesFeed, granted_feed}
-use Rattle.m2_core.specs.Passing.{StampsFeed}
-use Rattle.m2_session.specs.declared.event.Effects.{Effects}
-use Rattle.m2_session.specs.declared.session.Session.{Session}
-use Rattle.m2_session.specs.Phases.{is_among, with_feed}
-use Rattle.m2_session.specs.Steps.{step_of}
-use Rattle.m2_record.specs.declared.composing.Composed.{Composed}
-use Rattle.m2_record.specs.declared.composing.Composed.TheVariants as composed
-use Rattle.m2_record.specs.declared.due.Due.{Due}
-use Rattle.m2_record.specs.declared.due.Due.TheVariants as due
-use Rattle.m2_record.specs.declared.framing.Framed.{Framed}
-use Rattle.m2_record.specs.declared.framing.Framed.TheVariants as framed
-use Rattle.m2_record.specs.declared.stepped.Stepped.{Stepped}
-use Rattle.m2_record.specs.declared.stepped.Stepped.TheVariants as stepped
-use Rattle.m2_record.specs.Calls.{Breaks, ClosesFor, ComposesAs, GetsEntries, GoesDown, IsSameButRoom, Writes, fault_put}
-use Rattle.m2_record.specs.Due.{due_step, next_step}
-use Rattle.m2_record.specs.Framing.{AnswersFront, Frames, Greets}
-use Rattle.m2_record.specs.Reading.{Reads, fault_read}
-use Rattle.m2_record.specs.RecordNow.{RecordNow}
-use Rattle.m2_record.specs.Stepping.{FeedStays, HandsAs, NothingDone, PlansAs, StepsAs, StepsBy, TakesDue, Worked}
+use Rattle.m2_bytes_fit.specs.m2_feed.Calls.{ComposesIfOk, ReadsOn, WritesOn, after_greeting}
+use Rattle.m2_bytes_fit.specs.m2_feed.declared.answers.FeedWrite.{FeedWrite}
+use Rattle.m2_bytes_fit.specs.m2_feed.declared.answers.FeedWrite.TheVariants as put
+use Rattle.m2_bytes_fit.specs.m2_feed.declared.writing.Writing.{Writing}
+use Rattle.m2_bytes_fit.specs.m2_feed.declared.writing.Writing.TheVariants as writing
+use Rattle.m2_bytes_fit.specs.m2_feed.FeedNow.{FeedNow}
+use Rattle.m2_dispatch.specs.m2_frame.Reading.{Item}
+use Rattle.m2_center.specs.m2_handshake.declared.answer.HalfStep.{HalfStep}
+use Rattle.m2_center.specs.m2_handshake.declared.answer.HalfStep.TheVariants as half
+use Rattle.m2_center.specs.m2_handshake.Standing.{Standing}
+use Rattle.m2_bytes_fit.specs.m2_feed.declared.wire_fault.WireFault.{WireFault}
+use Rattle.m2_bytes_fit.specs.m2_feed.declared.frame_heard.FrameHeard.TheVariants as heard
+use Rattle.m2_bytes_fit.specs.m2_feed.declared.hearer.Hearer.{Hearer}
+use Rattle.m2_bytes_fit.specs.m2_feed.declared.heard.Heard.{Heard}
+use Rattle.m2_bytes_fit.specs.m2_feed.declared.heard.Heard.TheVariants as answer
+use Rattle.m2_weave.specs.m2_journal.declared.entry.Entry.{Entry}
+use Rattle.m2_weave.specs.m2_journal.declared.facts.PlanStep.{PlanStep}
+use Rattle.m2_weave.specs.m2_journal.declared.facts.PlanStep.TheVariants as step
+use Rattle.m2_weave.specs.m2_journal.OutFrames as out
+use Rattle.m2_weave.specs.m2_journal.SideFacts.{SideFacts}
+use Rattle.m2_center.specs.m2_core.LiveCalls.{live_with}
+use Rattle.m2_center.specs.m2_core.Effects.{closed_if, has_effects}
+use Rattle.m2_center.specs.m2_core.LiveHearing.{ObeysReset}
+use Rattle.m2_center.specs.m2_core.LiveNow.{LiveNow, OnFeedNow, is_waiting}
+use Rattle.m2_center.specs.m2_core.OnFeed.{AnswersStamp, ChangesRoom, ComposesAsk, ComposesFeed, ComposesMessage, GreetsFeed, PassesFeed, PassesItem, ReadsFeed, WritesFeed, granted_feed}
+use Rattle.m2_center.specs.m2_core.Passing.{StampsFeed}
+use Rattle.m2_center.specs.m2_session.declared.event.Effects.{Effects}
+use Rattle.m2_center.specs.m2_session.declared.session.Session.{Session}
+use Rattle.m2_center.specs.m2_session.Phases.{is_among, with_feed}
+use Rattle.m2_center.specs.m2_session.Steps.{step_of}
+use Rattle.m2_center.specs.m2_record.declared.composing.Composed.{Composed}
+use Rattle.m2_center.specs.m2_record.declared.composing.Composed.TheVariants as composed
+use Rattle.m2_center.specs.m2_record.declared.due.Due.{Due}
+use Rattle.m2_center.specs.m2_record.declared.due.Due.TheVariants as due
+use Rattle.m2_center.specs.m2_record.declared.framing.Framed.{Framed}
+use Rattle.m2_center.specs.m2_record.declared.framing.Framed.TheVariants as framed
+use Rattle.m2_center.specs.m2_record.declared.stepped.Stepped.{Stepped}
+use Rattle.m2_center.specs.m2_record.declared.stepped.Stepped.TheVariants as stepped
+use Rattle.m2_center.specs.m2_record.Calls.{Breaks, ClosesFor, ComposesAs, GetsEntries, GoesDown, IsSameButRoom, Writes, fault_put}
+use Rattle.m2_center.specs.m2_record.Due.{due_step, next_step}
+use Rattle.m2_center.specs.m2_record.Framing.{AnswersFront, Frames, Greets}
+use Rattle.m2_center.specs.m2_record.Reading.{Reads, fault_read}
+use Rattle.m2_center.specs.m2_record.RecordNow.{RecordNow}
+use Rattle.m2_center.specs.m2_record.Stepping.{FeedStays, HandsAs, NothingDone, PlansAs, StepsAs, StepsBy, TakesDue, Worked}
 use Rattle.m2_growth.specs.Ends.{EndGrows}
 use Rattle.m2_growth.proofs.Calls.{grows_equal, read_grows, write_grows}
 use Rattle.m2_growth.proofs.Ends.{grows_same}

@@ -19,7 +19,7 @@ use Rattle.m2_growth.specs.InStepLaws.{AreMet, StayMet}
 use Rattle.m2_growth.specs.Passed.{HasItsEnds, MadeHaveEnds, WaitingAreOpen}
 use Rattle.m2_growth.specs.Turn.{CameOfPut}
 use Rattle.m2_growth.proofs.Growing.{by_closed}
-use Rattle.m2_lemmas.proofs.Booleans.{false_isnt_true}
+use Rattle.m2_fabric.proofs.m2_lemmas.Booleans.{false_isnt_true}
 
 -- ---- one end
 

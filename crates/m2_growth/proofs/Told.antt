@@ -2,28 +2,28 @@
 -- told nothing, or that it is to wait.
 use Rattle.std.proofs.Common.{◌≡◌, ℕ, Bool, true, false, if◌then◌else◌, List, [], ◌++◌, Option, Some, None, refl, sym, ap, subst, ◌∙◌, append-nil}
 use Rattle.std.specs.Option.{option_to_list}
-use Rattle.m2_session.specs.declared.ask.AskFacts.{AskFacts}
-use Rattle.m2_session.specs.Asks.{reconnect_of, told_of_ident, told_of_reconnect}
-use Rattle.m2_core.specs.Judging.{told_of, verdict_on}
+use Rattle.m2_center.specs.m2_session.declared.ask.AskFacts.{AskFacts}
+use Rattle.m2_center.specs.m2_session.Asks.{reconnect_of, told_of_ident, told_of_reconnect}
+use Rattle.m2_center.specs.m2_core.Judging.{told_of, verdict_on}
 use Rattle.m2_fabric.specs.End.{SeenEnd}
-use Rattle.m2_journal.specs.SideFacts.{SideFacts, cookie_of}
-use Rattle.m2_journal.specs.Steps.{kept_of}
-use Rattle.m2_core.specs.LiveCalls.{tells_if}
-use Rattle.m2_core.specs.Effects.{closed_if, effects_of}
-use Rattle.m2_core.specs.LiveNow.{LiveNow}
-use Rattle.m2_session.specs.declared.answer.Answer.{Answer}
-use Rattle.m2_session.specs.declared.answer.Answer.TheVariants as answer
-use Rattle.m2_session.specs.declared.event.Event.{Event}
-use Rattle.m2_session.specs.declared.event.Event.TheVariants as event
-use Rattle.m2_session.specs.declared.session.Phase.TheVariants as phase
-use Rattle.m2_session.specs.declared.session.Session.{Session}
-use Rattle.m2_session.specs.Ident.{ident_answer}
-use Rattle.m2_session.specs.SessionLaws.{ident_event, reconnect_event, takes}
-use Rattle.m2_session.specs.Phases.{is, is_among, with_feed}
-use Rattle.m2_session.specs.Reconnect.{Reconnect, reconnect_answer}
+use Rattle.m2_weave.specs.m2_journal.SideFacts.{SideFacts, cookie_of}
+use Rattle.m2_weave.specs.m2_journal.Steps.{kept_of}
+use Rattle.m2_center.specs.m2_core.LiveCalls.{tells_if}
+use Rattle.m2_center.specs.m2_core.Effects.{closed_if, effects_of}
+use Rattle.m2_center.specs.m2_core.LiveNow.{LiveNow}
+use Rattle.m2_center.specs.m2_session.declared.answer.Answer.{Answer}
+use Rattle.m2_center.specs.m2_session.declared.answer.Answer.TheVariants as answer
+use Rattle.m2_center.specs.m2_session.declared.event.Event.{Event}
+use Rattle.m2_center.specs.m2_session.declared.event.Event.TheVariants as event
+use Rattle.m2_center.specs.m2_session.declared.session.Phase.TheVariants as phase
+use Rattle.m2_center.specs.m2_session.declared.session.Session.{Session}
+use Rattle.m2_center.specs.m2_session.Ident.{ident_answer}
+use Rattle.m2_center.specs.m2_session.SessionLaws.{ident_event, reconnect_event, takes}
+use Rattle.m2_center.specs.m2_session.Phases.{is, is_among, with_feed}
+use Rattle.m2_center.specs.m2_session.Reconnect.{Reconnect, reconnect_answer}
 use Rattle.m2_growth.proofs.Standing.{StandsOn, stands_by, stands_left}
-use Rattle.m2_core.proofs.Judged.{reconnect_takes}
-use Rattle.m2_lemmas.proofs.Booleans.{false_isnt_true}
+use Rattle.m2_center.proofs.m2_core.Judged.{reconnect_takes}
+use Rattle.m2_fabric.proofs.m2_lemmas.Booleans.{false_isnt_true}
 
 -- ---- by the answer
 

@@ -1,18 +1,18 @@
 -- Whose asks come on a socket that a record has opened: its own. This project's own.
 use Rattle.std.specs.Prelude.{◌≡◌, ℕ, true, List, IfSome}
 use Rattle.std.specs.List.{AllByRecursion}
-use Rattle.m2_addr.specs.declared.addr.Addr.{Addr}
+use Rattle.m2_fabric.specs.m2_addr.declared.addr.Addr.{Addr}
 use Rattle.m2_fabric.specs.declared.socket.SocketId.{SocketId}
 use Rattle.m2_bytes_fit.specs.Halves.{KeepsRanges}
-use Rattle.m2_handshake.specs.Course.{Exchange, Reaches}
-use Rattle.m2_handshake.specs.Laws.{IsPrefix}
-use Rattle.m2_handshake.specs.Standing.{Standing, acceptor_at_start}
-use Rattle.m2_record.specs.IsRecord.{IsRecord}
-use Rattle.m2_record.specs.RecordNow.{RecordNow, ends_of}
-use Rattle.m2_record.specs.Sources.{end_at, put_of}
-use Rattle.m2_trail.specs.Arrivals.{IsArrival}
-use Rattle.m2_trail.specs.Asks.{IsMain}
-use Rattle.m2_trail.specs.Incoming.{IncomingNow}
+use Rattle.m2_center.specs.m2_handshake.Course.{Exchange, Reaches}
+use Rattle.m2_center.specs.m2_handshake.Laws.{IsPrefix}
+use Rattle.m2_center.specs.m2_handshake.Standing.{Standing, acceptor_at_start}
+use Rattle.m2_center.specs.m2_record.IsRecord.{IsRecord}
+use Rattle.m2_center.specs.m2_record.RecordNow.{RecordNow, ends_of}
+use Rattle.m2_center.specs.m2_record.Sources.{end_at, put_of}
+use Rattle.m2_bytes_fit.specs.m2_trail.Arrivals.{IsArrival}
+use Rattle.m2_bytes_fit.specs.m2_trail.Asks.{IsMain}
+use Rattle.m2_bytes_fit.specs.m2_trail.Incoming.{IncomingNow}
 use Rattle.m2_weave.specs.Strands.{has_opened, journal_of}
 
 -- it is among those that its journal opened

@@ -1,11 +1,11 @@
 -- What is promised of the stages of a turn: of what was done nothing is undone.
 use Rattle.std.specs.Prelude.{◌≡◌, ℕ, List, slice_get, slice_set, Some, Result}
-use Rattle.m2_bytes.specs.declared.memory.NoMemory as memory
+use Rattle.m2_fabric.specs.m2_bytes.declared.memory.NoMemory as memory
 use Rattle.m2_dispatch.specs.Heard.{Heard}
 use Rattle.m2_fabric.specs.Port.{SeenPort}
-use Rattle.m2_journal.specs.declared.facts.PlanStep.{PlanStep}
-use Rattle.m2_record.specs.IsRecord.{IsRecord}
-use Rattle.m2_record.specs.RecordNow.{RecordNow}
+use Rattle.m2_weave.specs.m2_journal.declared.facts.PlanStep.{PlanStep}
+use Rattle.m2_center.specs.m2_record.IsRecord.{IsRecord}
+use Rattle.m2_center.specs.m2_record.RecordNow.{RecordNow}
 use Rattle.m2_center.specs.declared.accepting.Accepted.{Accepted}
 use Rattle.m2_center.specs.declared.halves_turn.HalvesTurn.{HalvesTurn}
 use Rattle.m2_center.specs.declared.records_turn.RecordsTurn.{RecordsTurn}

@@ -1,20 +1,20 @@
 -- What becomes of the halves on sockets of peers. This project's own.
 use Rattle.std.specs.Prelude.{◌≡◌, ◌⊎◌, ℕ, ◌≤◌, true, List, [], ◌∷◌, ◌++◌, length, map, drop, IfSome, false}
 use Rattle.std.specs.List.{AllByRecursion}
-use Rattle.m2_addr.specs.declared.addr.Addr.{Addr}
+use Rattle.m2_fabric.specs.m2_addr.declared.addr.Addr.{Addr}
 use Rattle.m2_fabric.specs.declared.socket.SocketId.{SocketId}
 use Rattle.m2_fabric.specs.End.{SeenEnd}
 use Rattle.m2_fabric.specs.Sockets.{is_among, goes_to}
-use Rattle.m2_journal.specs.State.{Judgement}
-use Rattle.m2_record.specs.RecordNow.{RecordNow}
-use Rattle.m2_record.specs.Sources.{end_at}
-use Rattle.m2_record.specs.TakenTrails.{judgements_in}
+use Rattle.m2_weave.specs.m2_journal.State.{Judgement}
+use Rattle.m2_center.specs.m2_record.RecordNow.{RecordNow}
+use Rattle.m2_center.specs.m2_record.Sources.{end_at}
+use Rattle.m2_center.specs.m2_record.TakenTrails.{judgements_in}
 use Rattle.m2_center.specs.Halves.{AllHalves}
 use Rattle.m2_center.specs.Sessions.{PendingNow, is_asker, peer_of}
-use Rattle.m2_trail.specs.Arrivals.{IsArrival, LooseNow, left_of}
-use Rattle.m2_trail.specs.Asks.{IsMain}
-use Rattle.m2_trail.specs.Incoming.{IncomingNow}
-use Rattle.m2_trail.specs.Trails.{TrailNow}
+use Rattle.m2_bytes_fit.specs.m2_trail.Arrivals.{IsArrival, LooseNow, left_of}
+use Rattle.m2_bytes_fit.specs.m2_trail.Asks.{IsMain}
+use Rattle.m2_bytes_fit.specs.m2_trail.Incoming.{IncomingNow}
+use Rattle.m2_bytes_fit.specs.m2_trail.Trails.{TrailNow}
 use Rattle.m2_weave.specs.Later.{GoesOn}
 use Rattle.m2_growth.specs.Ends.{come_to}
 

@@ -5,13 +5,13 @@ use Rattle.m2_fabric.specs.declared.socket.SocketId.{SocketId}
 use Rattle.m2_fabric.specs.End.{SeenEnd}
 use Rattle.m2_fabric.specs.Port.{SeenPort}
 use Rattle.m2_fabric.specs.Sockets.{IsNewTo, goes_to, is_among}
-use Rattle.m2_handshake.specs.Asks.{same_addr}
-use Rattle.m2_record.specs.RecordNow.{RecordNow}
+use Rattle.m2_center.specs.m2_handshake.Asks.{same_addr}
+use Rattle.m2_center.specs.m2_record.RecordNow.{RecordNow}
 use Rattle.m2_center.specs.Beside.{MadeOn}
 use Rattle.m2_center.specs.Halves.{AllHalves}
 use Rattle.m2_center.specs.Hearing.{ends_in}
 use Rattle.m2_center.specs.Sessions.{peer_of}
-use Rattle.m2_trail.specs.Arrivals.{LooseNow}
+use Rattle.m2_bytes_fit.specs.m2_trail.Arrivals.{LooseNow}
 use Rattle.m2_growth.specs.Ends.{AreOfTheirOwn, EndsGrow}
 use Rattle.m2_growth.specs.Halves.{AreAskedByPeers, AskedOnMade, HalvesStay, HasItsHalves, IsHeardBy, all_left, AskedTowards, OneJudge}
 use Rattle.m2_growth.specs.Records.{IsFed, RecordsGrow, ends_of_all}

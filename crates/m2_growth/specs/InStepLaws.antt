@@ -3,8 +3,8 @@ use Rattle.std.specs.Prelude.{◌≡◌, ℕ, true, List}
 use Rattle.m2_dispatch.specs.Heard.{Heard}
 use Rattle.m2_fabric.specs.declared.socket.SocketId.{SocketId}
 use Rattle.m2_fabric.specs.Holder.{SeenHolder}
-use Rattle.m2_record.specs.RecordNow.{RecordNow}
-use Rattle.m2_record.specs.Sources.{end_at}
+use Rattle.m2_center.specs.m2_record.RecordNow.{RecordNow}
+use Rattle.m2_center.specs.m2_record.Sources.{end_at}
 use Rattle.m2_center.specs.declared.accepting.Accepted.{Accepted}
 use Rattle.m2_center.specs.declared.records_turn.RecordsTurn.{RecordsTurn}
 use Rattle.m2_center.specs.Accepting.{Accepting, AcceptsAll}

@@ -1,6 +1,6 @@
 -- What holds of ends whatever is passed between them. This project's own.
 use Rattle.std.specs.Prelude.{◌≡◌, ◌⊎◌, ℕ, true, false, Some, IsSome, MatchOption, slice_get}
-use Rattle.m2_addr.specs.declared.addr.Addr.{Addr}
+use Rattle.m2_fabric.specs.m2_addr.declared.addr.Addr.{Addr}
 use Rattle.m2_fabric.specs.declared.socket.SocketId.{SocketId}
 use Rattle.m2_fabric.specs.End.{SeenEnd}
 use Rattle.m2_fabric.specs.Holder.{SeenHolder}

@@ -32,7 +32,7 @@ use Rattle.m2_handshake.specs.Standing.{Standing, fed, acceptor_at_start}
 use Rattle.m2_handshake.specs.Steps.{Reaction, says, listens, signed, after_payload, after_frame}
 use Rattle.m2_handshake.specs.Texts.{control_parts, frame_text, hello, request, done, signature}
 use Rattle.m2_handshake.proofs.Banners.{is_step}
-use Rattle.m2_lemmas.proofs.Bytes.{four_bytes, two_bytes, four_bytes_turned, two_bytes_turned, eight_zeros as zeros, eight_zeros_before}
+use Rattle.m2_bytes.proofs.m2_lemmas.Bytes.{four_bytes, two_bytes, four_bytes_turned, two_bytes_turned, eight_zeros as zeros, eight_zeros_before}
 
 abbrev IsByte : ℕ → Type 0
 IsByte b = b < 256

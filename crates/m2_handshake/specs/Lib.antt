@@ -10,3 +10,5 @@ pub mod Reading
 pub mod Standing
 pub mod Steps
 pub mod Texts
+pub use Rattle.m2_control.specs as m2_control
+pub use Rattle.m2_frame.specs as m2_frame

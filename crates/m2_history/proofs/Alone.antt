@@ -7,14 +7,14 @@ use Rattle.std.proofs.lemmas.List.Elements.{filter_map-append}
 use Rattle.std.proofs.lemmas.Option.{slice_get-get_or}
 use Rattle.m2_fabric.specs.declared.socket.SocketId.{SocketId}
 use Rattle.m2_fabric.specs.Log.{Log}
-use Rattle.m2_session.specs.declared.ask.AskFacts.{AskFacts}
+use Rattle.m2_journal.specs.m2_session.declared.ask.AskFacts.{AskFacts}
 use Rattle.m2_bytes_fit.specs.Halves.{KeepsRanges}
 use Rattle.m2_bytes_fit.proofs.Acceptors.{as_asked, HasWelcomed, IsAsked as IsAskedSo, accepts}
 use Rattle.m2_bytes_fit.proofs.Lists.{not_nil}
 use Rattle.m2_bytes_fit.proofs.Points.{no_map}
-use Rattle.m2_handshake.specs.Course.{Exchange, Reaches}
-use Rattle.m2_handshake.specs.Greeting.{greeting}
-use Rattle.m2_handshake.specs.Standing.{Standing}
+use Rattle.m2_journal.specs.m2_handshake.Course.{Exchange, Reaches}
+use Rattle.m2_journal.specs.m2_handshake.Greeting.{greeting}
+use Rattle.m2_journal.specs.m2_handshake.Standing.{Standing}
 use Rattle.m2_history.specs.HalfStrands.{strand_of}
 use Rattle.m2_journal.specs.declared.entry.Entry.{Entry}
 use Rattle.m2_journal.specs.declared.entry.JudgedItem.{JudgedItem}
@@ -22,7 +22,7 @@ use Rattle.m2_journal.specs.Items.{at_start, run_of, runs_on}
 use Rattle.m2_journal.specs.Lawful.{judged_on}
 use Rattle.m2_journal.specs.SideFacts.{SideFacts}
 use Rattle.m2_weave.specs.Order.{Cut}
-use Rattle.m2_never_reset.specs.Frames.{ask_of}
+use Rattle.m2_channel.specs.m2_never_reset.Frames.{ask_of}
 use Rattle.m2_record.specs.TakenTrails.{judgements_in}
 use Rattle.m2_trail.specs.Asks.{facts_of_ask}
 use Rattle.m2_trail.specs.Trails as trail
@@ -40,7 +40,7 @@ use Rattle.m2_history.proofs.Journals.{judged_count, opened_unjudged}
 use Rattle.m2_history.proofs.Scene.{IsHalfAt, IsHalfIn, IsScene, Setting, adds_none, end_at, handed_is, opens_in, strand_is, strands_in, woven_in}
 use Rattle.m2_history.proofs.Sums.{none_adds, strand_in}
 use Rattle.m2_history.proofs.Moved.{total_never}
-use Rattle.m2_lemmas.proofs.Lists.{empty_front}
+use Rattle.m2_bytes.proofs.m2_lemmas.Lists.{empty_front}
 use Rattle.m2_fabric.proofs.Sockets.{same_refl}
 
 -- ---- a half that has read nothing

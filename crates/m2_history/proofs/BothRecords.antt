@@ -18,7 +18,7 @@ use Rattle.m2_history.specs.declared.history.WeaveFault.TheVariants as fault
 use Rattle.m2_history.specs.Link.{AreKept, AreOfLink, IsWholeHalf, RecordsAreKept, StrandsAreTidy, WeavesRecords, both_of, parts_of}
 use Rattle.m2_history.specs.Parts.{PartsNow}
 use Rattle.m2_history.specs.Woven.{BothNow, EndNow, RowNow, Weaves, ends_of, row_in, row_now, rows_of, strands_of}
-use Rattle.m2_lemmas.proofs.Lists.{all_append}
+use Rattle.m2_bytes.proofs.m2_lemmas.Lists.{all_append}
 
 -- ---- the halves
 

@@ -15,7 +15,7 @@ use Rattle.m2_weave.specs.declared.table.SocketBytes.{SocketBytes}
 use Rattle.m2_weave.specs.Strands.{has_opened, journal_of, same_side}
 use Rattle.m2_weave.specs.Table.{bytes_of, got_at, names_of, put_at}
 use Rattle.m2_history.specs.WovenLink.{same_end}
-use Rattle.m2_lemmas.proofs.Booleans.{from_false_true}
+use Rattle.m2_bytes.proofs.m2_lemmas.Booleans.{from_false_true}
 use Rattle.m2_fabric.proofs.Sockets.{same_equal, same_refl, same_turned}
 
 -- ---- one of a list

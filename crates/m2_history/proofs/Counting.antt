@@ -24,8 +24,8 @@ use Rattle.m2_journal.specs.SideFacts.{SideFacts}
 use Rattle.m2_journal.specs.State.{Feed, State, start}
 use Rattle.m2_journal.specs.Steps.{after}
 use Rattle.m2_message.specs.Message.{Content, content_of, unnumbered}
-use Rattle.m2_never_reset.specs.Orders as orders
-use Rattle.m2_never_reset.specs.Orders.{posted_in, posts_in}
+use Rattle.m2_channel.specs.m2_never_reset.Orders as orders
+use Rattle.m2_channel.specs.m2_never_reset.Orders.{posted_in, posts_in}
 use Rattle.m2_policy.specs.declared.path.Key.{Key}
 use Rattle.m2_history.specs.Counted.{key_at, posted, posted_at, posted_by, accepted, is_accepted}
 use Rattle.m2_history.specs.Delivered.{CountsAreOfTheItems}

@@ -31,7 +31,7 @@ use Rattle.m2_history.proofs.Journals.{items_take, judged_are, judged_count, jud
 use Rattle.m2_history.proofs.Names.{items_add}
 use Rattle.m2_history.proofs.Scene as scene
 use Rattle.m2_history.proofs.Scene.{IsHalfIn, IsScene, IsTakenIn, Setting, come, handed_is, items_in, judged_is, strand_is, strands_in, taken_map, woven_in}
-use Rattle.m2_lemmas.proofs.Lists.{empty_front}
+use Rattle.m2_bytes.proofs.m2_lemmas.Lists.{empty_front}
 use Rattle.m2_journal.proofs.JudgedOn.{lawful_front}
 use Rattle.m2_fabric.proofs.Sockets.{among_front}
 use Rattle.m2_record.proofs.AsksJudged.{judged_append}

@@ -7,15 +7,15 @@ use Rattle.m2_channel.specs.ObservedLaws.{IsBrought, ObservedIsARun}
 use Rattle.m2_channel.proofs.Observing.{heard_keys}
 use Rattle.m2_channel.proofs.Orders.{far_after_turned, near_turned}
 use Rattle.m2_channel.proofs.Through.{posted_keys}
-use Rattle.m2_never_reset.specs.Order.{AreFirstOf}
+use Rattle.m2_channel.specs.m2_never_reset.Order.{AreFirstOf}
 use Rattle.m2_dispatch.specs.Heard as heard
 use Rattle.m2_journal.specs.Items.{items_of}
 use Rattle.m2_journal.specs.Replay.{AreLawful, after_items}
 use Rattle.m2_journal.specs.SideFacts.{SideFacts}
 use Rattle.m2_journal.specs.State.{State, start}
 use Rattle.m2_message.specs.Message.{Content, unnumbered}
-use Rattle.m2_never_reset.specs.Orders as orders
-use Rattle.m2_never_reset.specs.Orders.{SideItem, near_items, far_items, near_after, far_after, posts_in, AreNodes, IsHistory}
+use Rattle.m2_channel.specs.m2_never_reset.Orders as orders
+use Rattle.m2_channel.specs.m2_never_reset.Orders.{SideItem, near_items, far_items, near_after, far_after, posts_in, AreNodes, IsHistory}
 use Rattle.m2_policy.specs.declared.path.Key.{Key}
 use Rattle.m2_history.specs.Counted.{accepted, posted}
 use Rattle.m2_history.specs.Delivered.{Kept, IsCounted, IsDelivered, PostedIsDelivered}

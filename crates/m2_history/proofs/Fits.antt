@@ -10,9 +10,9 @@ use Rattle.m2_fabric.specs.Sockets.{is_among, same_socket}
 use Rattle.m2_bytes_fit.specs.Ends.{Side, got_at, judged_at, put_at, state_of, takings_on}
 use Rattle.m2_bytes_fit.specs.Halves.{BytesFit, HalfFits, HalfName, KeepsRanges, begins}
 use Rattle.m2_bytes_fit.specs.Trails.{IsHalfAt as HalfIsAt, TrailsTellEachPoint, bytes_after}
-use Rattle.m2_handshake.specs.Course.{no_exchange}
-use Rattle.m2_handshake.specs.Laws.{IsPrefix}
-use Rattle.m2_handshake.proofs.Reaching.{begins as nothing_done}
+use Rattle.m2_journal.specs.m2_handshake.Course.{no_exchange}
+use Rattle.m2_journal.specs.m2_handshake.Laws.{IsPrefix}
+use Rattle.m2_journal.proofs.m2_handshake.Reaching.{begins as nothing_done}
 use Rattle.m2_history.specs.HalfStrands.{OrdersGivePoints, noted_in, strand_of}
 use Rattle.m2_journal.specs.declared.entry.JudgedItem.{JudgedItem}
 use Rattle.m2_journal.specs.Items.{at_start, items_of}
@@ -31,8 +31,8 @@ use Rattle.m2_history.proofs.Journals.{judged_are, no_takings, opened_are, takin
 use Rattle.m2_history.proofs.Moved.{Found, GotSo, HalvesAre, IsBareOf, PutSo, apart_back, find, got_so, none_written, opened_got, opened_still, opened_untaken, opener_put, opener_written, other_put, quiet_first, side_at, taken_by_now}
 use Rattle.m2_history.proofs.Names.{items_add}
 use Rattle.m2_history.proofs.Scene.{IsBare, IsHalfAt, IsHalfIn, IsScene, IsTakenIn, Setting, come, end_at, none_handed, opens_in, strands_in}
-use Rattle.m2_lemmas.proofs.Lists.{empty_front, empty_front as no_front}
-use Rattle.m2_lemmas.proofs.Booleans.{from_false_true}
+use Rattle.m2_bytes.proofs.m2_lemmas.Lists.{empty_front, empty_front as no_front}
+use Rattle.m2_bytes.proofs.m2_lemmas.Booleans.{from_false_true}
 use Rattle.m2_fabric.proofs.Sockets.{same_equal}
 
 -- ---- first bytes of two lists

@@ -16,7 +16,7 @@ use Rattle.m2_journal.specs.State.{State, start}
 use Rattle.m2_journal.specs.Steps.{after}
 use Rattle.m2_journal.proofs.Sockets.{distinct-none, distinct-push, judgement, not_taken, taken-append}
 use Rattle.m2_record.specs.TakenTrails.{taken_in}
-use Rattle.m2_session.specs.SessionLaws.{takes}
+use Rattle.m2_journal.specs.m2_session.SessionLaws.{takes}
 use Rattle.m2_trail.specs.Arrivals.{LooseNow}
 use Rattle.m2_trail.specs.Trails.{TrailNow}
 use Rattle.m2_weave.specs.Strands.{same_side}
@@ -25,7 +25,7 @@ use Rattle.m2_history.specs.WovenLink.{same_end}
 use Rattle.m2_history.proofs.Bytes.{IsOf, all_is}
 use Rattle.m2_history.proofs.Journals.{judged_are, taken_are}
 use Rattle.m2_history.proofs.Names.{entry_adds, items_add, judged_in}
-use Rattle.m2_lemmas.proofs.Lists.{all_front, all_back, all_append}
+use Rattle.m2_bytes.proofs.m2_lemmas.Lists.{all_front, all_back, all_append}
 
 -- ---- lists
 

@@ -3,7 +3,7 @@ use Rattle.std.proofs.Common.{◌≡◌, ℕ, zero, suc, ◌+◌, ◌⊎◌, Boo
 use Rattle.std.specs.List.{AllByRecursion, filter}
 use Rattle.m2_fabric.specs.declared.socket.SocketId.{SocketId}
 use Rattle.m2_fabric.specs.Sockets.{goes_to, is_among, same_socket}
-use Rattle.m2_session.specs.SessionLaws.{takes}
+use Rattle.m2_journal.specs.m2_session.SessionLaws.{takes}
 use Rattle.m2_journal.specs.declared.entry.Entry.{Entry}
 use Rattle.m2_journal.specs.declared.entry.Entry.TheVariants as entry
 use Rattle.m2_journal.specs.Items as item
@@ -17,7 +17,7 @@ use Rattle.m2_journal.specs.Steps.{after}
 use Rattle.m2_journal.proofs.Growing.{after-append}
 use Rattle.m2_journal.proofs.Sockets.{not_taken, taken-append}
 use Rattle.m2_journal.proofs.Sound.{are_sound}
-use Rattle.m2_never_reset.proofs.Sockets.{by_either}
+use Rattle.m2_channel.proofs.m2_never_reset.Sockets.{by_either}
 use Rattle.m2_record.specs.TakenTrails.{judgements_in, taken_in}
 use Rattle.m2_bytes_fit.specs.Ends.{read_on, wrote_on, takings_on}
 use Rattle.m2_weave.specs.declared.strand.StrandItem.TheVariants.{Noted}
@@ -27,7 +27,7 @@ use Rattle.m2_history.proofs.Names.{Adds, entry_adds, items_add, judged_by, judg
 use Rattle.m2_fabric.proofs.Sockets.{not_among_front, among_part, among_front, same_equal}
 use Rattle.m2_journal.proofs.JudgedOn.{unjudged, raised_here, lawful_front}
 use Rattle.m2_record.proofs.AsksJudged.{judged_append}
-use Rattle.m2_lemmas.proofs.Booleans.{from_false_true}
+use Rattle.m2_bytes.proofs.m2_lemmas.Booleans.{from_false_true}
 
 -- ---- lists of sockets and judgements
 

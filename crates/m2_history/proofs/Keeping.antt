@@ -1,7 +1,7 @@
 -- Which entries take a step of the plan, and which hand a message on: a post, a dial and a planned mark-down take one, and an
 -- acceptance hands one on.
 use Rattle.std.proofs.Common.{◌≡◌, ℕ, ◌+◌, Bool, true, false, if◌then◌else◌, List, [], ◌∷◌, ◌++◌, map, Option, Some, None, refl, sym, ap, ◌∙◌, arith, append-nil}
-use Rattle.m2_session.specs.declared.ask.AskFacts.{AskFacts}
+use Rattle.m2_journal.specs.m2_session.declared.ask.AskFacts.{AskFacts}
 use Rattle.m2_channel.specs.Channel.{KeyedMessage, keyed}
 use Rattle.m2_channel.specs.Observed.{brought_by, brought_on, handed}
 use Rattle.m2_fabric.specs.declared.socket.SocketId.{SocketId}
@@ -17,14 +17,14 @@ use Rattle.m2_policy.specs.declared.path.Key.{Key}
 use Rattle.m2_journal.specs.State as state
 use Rattle.m2_journal.specs.State.{Delivery, Feed, PartText, State}
 use Rattle.m2_journal.specs.Steps.{acceptance, acknowledged_by, after, on_feed_at, where_true, has_effects, tells, tells_if, tells_of_reset, discards, sets_back, closes, queues, lowers, spends, reads, event_heard, takes_answer, takes_answer_if, with_feed, puts, puts_on, sends, breaks, forgets, is_on, is_waiting, judges, takes_socket, notes, event_of, composes, composes_on, asks_peer, numbers, writes_message, accepts, posts}
-use Rattle.m2_queues.specs.QueueLaws.{Requeue, Next}
-use Rattle.m2_queues.specs.OutQueues.{message_at}
-use Rattle.m2_session.specs.declared.answer.Answer.{Answer}
-use Rattle.m2_session.specs.declared.event.Effects.{Effects}
-use Rattle.m2_session.specs.declared.event.Event.{Event}
-use Rattle.m2_session.specs.declared.event.Event.TheVariants as event
-use Rattle.m2_session.specs.SessionLaws.{takes}
-use Rattle.m2_session.specs.Steps.{step_of}
+use Rattle.m2_dispatch.specs.m2_queues.QueueLaws.{Requeue, Next}
+use Rattle.m2_dispatch.specs.m2_queues.OutQueues.{message_at}
+use Rattle.m2_journal.specs.m2_session.declared.answer.Answer.{Answer}
+use Rattle.m2_journal.specs.m2_session.declared.event.Effects.{Effects}
+use Rattle.m2_journal.specs.m2_session.declared.event.Event.{Event}
+use Rattle.m2_journal.specs.m2_session.declared.event.Event.TheVariants as event
+use Rattle.m2_journal.specs.m2_session.SessionLaws.{takes}
+use Rattle.m2_journal.specs.m2_session.Steps.{step_of}
 use Rattle.m2_channel.proofs.Quiet.{handed_letter}
 
 -- no step of the plan is taken, and no message handed on

@@ -16,7 +16,7 @@ use Rattle.m2_journal.specs.Replay.{AreLawful}
 use Rattle.m2_journal.specs.SideFacts.{SideFacts}
 use Rattle.m2_journal.specs.State.{Feed, State, start}
 use Rattle.m2_journal.specs.Steps.{after}
-use Rattle.m2_session.specs.SessionLaws.{takes}
+use Rattle.m2_journal.specs.m2_session.SessionLaws.{takes}
 use Rattle.m2_record.specs.IsRecord.{feeds_in}
 use Rattle.m2_record.specs.RecordNow.{ends_of, feed_end, grounds_of, ids_of}
 use Rattle.m2_record.specs.Sources.{Grounds, end_at, got_of, put_of, sources_of}
@@ -25,8 +25,8 @@ use Rattle.m2_trail.specs.Trails as trail
 use Rattle.m2_trail.specs.Trails.{TrailNow}
 use Rattle.m2_history.specs.Link.{HasEnd, IsKeptHalf, IsOnSocket, RecordsAreKept}
 use Rattle.m2_fabric.proofs.Sockets.{same_refl}
-use Rattle.m2_lemmas.proofs.Lists.{all_so}
-use Rattle.m2_lemmas.proofs.Booleans.{or_left, or_right}
+use Rattle.m2_bytes.proofs.m2_lemmas.Lists.{all_so}
+use Rattle.m2_bytes.proofs.m2_lemmas.Booleans.{or_left, or_right}
 
 -- ---- an end that something was read or written at
 

@@ -29,3 +29,5 @@ pub mod Whole
 pub mod Woven
 pub mod WovenHalves
 pub mod WovenLinks
+pub use Rattle.m2_record.proofs as m2_record
+pub use Rattle.m2_trail.proofs as m2_trail

@@ -27,8 +27,8 @@ use Rattle.m2_history.specs.Woven.{BothNow, EndNow, as_judged, end_of, half_end,
 use Rattle.m2_history.proofs.Tidiness.{all_at, all_handed, all_in, at_whole, first_few, half_tidy, handed_in, journal_tidy, judged_noted, none_handed, whole_append, whole_of}
 use Rattle.m2_history.proofs.Kept.{of-runs}
 use Rattle.m2_fabric.proofs.Sockets.{same_equal, same_refl}
-use Rattle.m2_lemmas.proofs.Lists.{all_append, all_map, all_so}
-use Rattle.m2_lemmas.proofs.Booleans.{or_left, or_right}
+use Rattle.m2_bytes.proofs.m2_lemmas.Lists.{all_append, all_map, all_so}
+use Rattle.m2_bytes.proofs.m2_lemmas.Booleans.{or_left, or_right}
 
 -- ---- the entries of a loose half
 

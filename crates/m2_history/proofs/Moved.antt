@@ -33,9 +33,9 @@ use Rattle.m2_history.proofs.Journals.{IsQuietOn, Unknown, judged_are, opened_ar
 use Rattle.m2_history.proofs.Names.{items_add}
 use Rattle.m2_history.proofs.Scene.{IsHalfAt, IsHalfIn, IsScene, IsTakenIn, Setting, adds_none, come, end_at, opens_in, other_half, part_is, record_part, strand_is, strands_in, taken_map, woven_in}
 use Rattle.m2_history.proofs.Sums.{all_zero, half_read, none_adds, one_adds, one_reads, part_at, strand_in, two_add, whole_zero}
-use Rattle.m2_lemmas.proofs.Booleans.{from_false_true}
+use Rattle.m2_bytes.proofs.m2_lemmas.Booleans.{from_false_true}
 use Rattle.m2_fabric.proofs.Sockets.{same_equal}
-use Rattle.m2_lemmas.proofs.Lists.{all_so_of}
+use Rattle.m2_bytes.proofs.m2_lemmas.Lists.{all_so_of}
 
 -- ---- halves of a side
 

@@ -3,9 +3,9 @@ use Rattle.std.proofs.Common.{◌≡◌, ℕ, Bool, true, false, if◌then◌els
 use Rattle.std.specs.List.{flat_map}
 use Rattle.m2_fabric.specs.declared.socket.SocketId.{SocketId}
 use Rattle.m2_message.specs.Message.{Content}
-use Rattle.m2_queues.specs.OutQueues.{message_at}
-use Rattle.m2_queues.specs.QueueLaws.{Next}
-use Rattle.m2_session.specs.declared.event.Event.TheVariants as event
+use Rattle.m2_dispatch.specs.m2_queues.OutQueues.{message_at}
+use Rattle.m2_dispatch.specs.m2_queues.QueueLaws.{Next}
+use Rattle.m2_journal.specs.m2_session.declared.event.Event.TheVariants as event
 use Rattle.m2_journal.specs.Feeds.{next_said}
 use Rattle.m2_journal.specs.Items as item
 use Rattle.m2_journal.specs.Items.{JournalItem}

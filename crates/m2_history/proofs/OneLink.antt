@@ -3,29 +3,29 @@ use Rattle.std.specs.Prelude.{◌≡◌, ◌≢◌, ℕ, zero, suc, ◌<◌, ◌
 use Rattle.std.proofs.Common.{arith}
 use Rattle.std.specs.List.{AllByRecursion, IsDistinct}
 use Rattle.std.specs.Borrow.{Bor}
-use Rattle.m2_crc.specs.Crc.{after_byte, shifted, shifted_by}
-use Rattle.m2_frame.specs.Reading.{judge, judge_first, judge_later, judge_epilogue}
-use Rattle.m2_frame.specs.Preamble.{read_preamble, preamble_text}
-use Rattle.m2_frame.specs.Text.{segment_crc, text_of}
-use Rattle.m2_control.specs.Fields.{bounded_at, cookie_at, flag_at, numbers_at, list_at, string_at, vector_field}
-use Rattle.m2_control.specs.Ident.{tail_at}
-use Rattle.m2_addr.specs.Addr.{head_at, socket_at, body_of, shape_at}
-use Rattle.m2_addr.specs.Vector.{addresses_at, vector_at}
+use Rattle.m2_message.specs.m2_crc.Crc.{after_byte, shifted, shifted_by}
+use Rattle.m2_message.specs.m2_frame.Reading.{judge, judge_first, judge_later, judge_epilogue}
+use Rattle.m2_message.specs.m2_frame.Preamble.{read_preamble, preamble_text}
+use Rattle.m2_message.specs.m2_frame.Text.{segment_crc, text_of}
+use Rattle.m2_trail.specs.m2_control.Fields.{bounded_at, cookie_at, flag_at, numbers_at, list_at, string_at, vector_field}
+use Rattle.m2_trail.specs.m2_control.Ident.{tail_at}
+use Rattle.m2_policy.specs.m2_addr.Addr.{head_at, socket_at, body_of, shape_at}
+use Rattle.m2_policy.specs.m2_addr.Vector.{addresses_at, vector_at}
 use Rattle.m2_message.specs.HeaderText.{header_text}
 use Rattle.std.proofs.lemmas.Bool.{and_parts, eqb-true, leb-true, ltb-true}
-use Rattle.m2_session.specs.declared.cookie.TheConstants.{MOST_PLACES}
-use Rattle.m2_control.specs.declared.fields.TheConstants.{GREATEST_NUMBER}
-use Rattle.m2_control.specs.Laws.{HasAddrRanges}
+use Rattle.m2_journal.specs.m2_session.declared.cookie.TheConstants.{MOST_PLACES}
+use Rattle.m2_trail.specs.m2_control.declared.fields.TheConstants.{GREATEST_NUMBER}
+use Rattle.m2_trail.specs.m2_control.Laws.{HasAddrRanges}
 use Rattle.m2_fabric.specs.declared.log.Run.TheVariants as run
 use Rattle.m2_fabric.specs.declared.socket.SocketId.{SocketId}
 use Rattle.m2_fabric.specs.End.{SeenEnd}
-use Rattle.m2_feed.proofs.Courses.{ran}
+use Rattle.m2_bytes_fit.proofs.m2_feed.Courses.{ran}
 use Rattle.m2_bytes_fit.specs.Ends.{got_at}
 use Rattle.m2_bytes_fit.specs.Halves.{KeepsRanges}
 use Rattle.m2_bytes_fit.specs.Orders.{far_side}
-use Rattle.m2_handshake.specs.Course as course
-use Rattle.m2_handshake.specs.Course.{course_of, no_exchange}
-use Rattle.m2_handshake.specs.Standing.{fed}
+use Rattle.m2_journal.specs.m2_handshake.Course as course
+use Rattle.m2_journal.specs.m2_handshake.Course.{course_of, no_exchange}
+use Rattle.m2_journal.specs.m2_handshake.Standing.{fed}
 use Rattle.m2_history.specs.Parts.{PartsNow}
 use Rattle.m2_history.specs.Woven.{ends_of}
 use Rattle.m2_journal.specs.declared.entry.Entry.TheVariants as entry

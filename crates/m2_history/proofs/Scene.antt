@@ -1,7 +1,7 @@
 -- Two sides and their halves as actors, whatever they come from: which strands are whose, and what each knows of its sockets.
 use Rattle.std.proofs.Common.{◌≡◌, ℕ, zero, suc, ◌+◌, ◌<◌, ◌^◌, ◌⊎◌, inl, inr, Bool, true, false, not, List, [], ◌∷◌, length, map, take, drop, Option, Some, None, refl, sym, ap, ◌∙◌, arith}
 use Rattle.std.specs.Prelude.{slice_get, slice_index}
-use Rattle.m2_control.specs.Laws.{HasAddrRanges}
+use Rattle.m2_trail.specs.m2_control.Laws.{HasAddrRanges}
 use Rattle.m2_fabric.specs.declared.socket.SocketId.{SocketId}
 use Rattle.m2_fabric.specs.Log.{Log}
 use Rattle.m2_fabric.specs.Sockets.{is_among, same_socket}
@@ -23,9 +23,9 @@ use Rattle.m2_weave.specs.Strands.{Bytes, EndOf, StrandNow, handed_at, handed_by
 use Rattle.m2_history.specs.Actors.{Actor, of_record, of_half, strand_by}
 use Rattle.m2_history.proofs.WovenHalves.{AreOwn, IsOwnItem, elsewhere, judges_none, strand_own}
 use Rattle.m2_history.proofs.Sums.{all_zero, none_adds, one_adds, part_at, strand_in, two_add, nothing_taken}
-use Rattle.m2_lemmas.proofs.Booleans.{from_false_true}
+use Rattle.m2_bytes.proofs.m2_lemmas.Booleans.{from_false_true}
 use Rattle.m2_fabric.proofs.Sockets.{same_equal}
-use Rattle.m2_lemmas.proofs.Lists.{all_so_of}
+use Rattle.m2_bytes.proofs.m2_lemmas.Lists.{all_so_of}
 
 pub record Setting : Type 0 where
   pub facts : (near : Bool) → SideFacts

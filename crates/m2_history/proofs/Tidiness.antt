@@ -22,8 +22,8 @@ use Rattle.m2_weave.specs.Tidy.{IsOfHalf, IsOfJournal, IsTidyStrand}
 use Rattle.m2_history.specs.HalfStrands.{strand_of}
 use Rattle.m2_history.specs.Link.{HaveHalves, IsJudgedSo, IsKeptHalf, IsOnSocket, IsWholeHalf, half_sockets}
 use Rattle.m2_history.specs.Woven.{as_judged, is_of_link, judged_times, knows, loose_strands}
-use Rattle.m2_lemmas.proofs.Lists.{all_append, all_so, all_map, all_take, all_drop}
-use Rattle.m2_lemmas.proofs.Booleans.{or_right, one_of_or}
+use Rattle.m2_bytes.proofs.m2_lemmas.Lists.{all_append, all_so, all_map, all_take, all_drop}
+use Rattle.m2_bytes.proofs.m2_lemmas.Booleans.{or_right, one_of_or}
 use Rattle.m2_history.proofs.Alone.{total_joined}
 use Rattle.m2_fabric.proofs.Sockets.{same_equal, same_refl}
 

@@ -14,7 +14,7 @@ use Rattle.m2_history.specs.HalfStrands.{strand_of}
 use Rattle.m2_journal.specs.declared.entry.Entry.TheVariants as entry
 use Rattle.m2_journal.specs.Items.{JournalItem}
 use Rattle.m2_weave.specs.Order.{Cut, come, come_all}
-use Rattle.m2_never_reset.specs.Orders.{near_items, far_items}
+use Rattle.m2_channel.specs.m2_never_reset.Orders.{near_items, far_items}
 use Rattle.m2_trail.specs.Trails.{TrailNow}
 use Rattle.m2_weave.specs.declared.strand.StrandItem.{StrandItem}
 use Rattle.m2_weave.specs.declared.strand.StrandItem.TheVariants.{Noted, Handed}

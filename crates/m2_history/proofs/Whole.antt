@@ -4,7 +4,7 @@ use Rattle.std.specs.Prelude.{slice_get, slice_index}
 use Rattle.std.specs.List.{AllByRecursion, IsDistinct, flat_map}
 use Rattle.std.proofs.lemmas.Grind.{flat_map-append}
 use Rattle.std.proofs.lemmas.List.{length-map, map-append}
-use Rattle.m2_control.specs.Laws.{HasAddrRanges}
+use Rattle.m2_trail.specs.m2_control.Laws.{HasAddrRanges}
 use Rattle.m2_fabric.specs.declared.socket.SocketId.{SocketId}
 use Rattle.m2_fabric.specs.End.{SeenEnd}
 use Rattle.m2_fabric.specs.Log.{Log}
@@ -30,10 +30,10 @@ use Rattle.m2_journal.specs.State.{start}
 use Rattle.m2_lossy_in_order.specs.Lossy.{BothComeOver, IsByteOrder, LossyComesInOrder}
 use Rattle.m2_weave.specs.Order as merge
 use Rattle.m2_weave.specs.Order.{Cut, Rule, come, come_all, nothing}
-use Rattle.m2_never_reset.specs.PairLaws.{IsNoDown}
+use Rattle.m2_channel.specs.m2_never_reset.PairLaws.{IsNoDown}
 use Rattle.m2_message.specs.Message.{unnumbered}
-use Rattle.m2_never_reset.specs.Orders as orders
-use Rattle.m2_never_reset.specs.Orders.{far_items, near_items, posts_in}
+use Rattle.m2_channel.specs.m2_never_reset.Orders as orders
+use Rattle.m2_channel.specs.m2_never_reset.Orders.{far_items, near_items, posts_in}
 use Rattle.m2_policy.specs.declared.path.Key.{Key}
 use Rattle.m2_record.specs.RecordNow.{feed_end, ids_of, ends_of as ends_of_record}
 use Rattle.m2_record.specs.Sources.{log_at, read_before, trail_at, unread_of, written_before}
@@ -61,9 +61,9 @@ use Rattle.m2_history.proofs.Moved.{unjudged_untaken}
 use Rattle.m2_history.proofs.Scene.{IsHalfAt, IsHalfIn, IsOpenedIn, IsScene, IsTakenIn, Setting, items_in, opens_in, strand_is, strands_in, woven_in}
 use Rattle.m2_history.proofs.Sums.{strand_in}
 use Rattle.m2_history.proofs.Walk.{far_entries, item_in, near_entries, part_of_order}
-use Rattle.m2_lemmas.proofs.Booleans.{from_false_true}
+use Rattle.m2_bytes.proofs.m2_lemmas.Booleans.{from_false_true}
 use Rattle.m2_fabric.proofs.Sockets.{same_refl}
-use Rattle.m2_lemmas.proofs.Lists.{all_append, get_map, all_map, all_so_of}
+use Rattle.m2_bytes.proofs.m2_lemmas.Lists.{all_append, get_map, all_map, all_so_of}
 use Rattle.m2_record.proofs.TrailsAt.{no_trail}
 
 -- ---- the strands of the actors

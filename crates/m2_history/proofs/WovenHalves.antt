@@ -16,7 +16,7 @@ use Rattle.m2_trail.specs.Trails.{TrailNow, IsTrailOf, closing, entries_of, entr
 use Rattle.m2_weave.specs.declared.strand.StrandItem.{StrandItem}
 use Rattle.m2_weave.specs.declared.strand.StrandItem.TheVariants.{Noted, Handed}
 use Rattle.m2_weave.specs.Strands.{half_items, handed_by, has_opened, judged_by, opens, read_by, total, written_by}
-use Rattle.m2_lemmas.proofs.Lists.{all_append, all_drop, all_map, all_take}
+use Rattle.m2_bytes.proofs.m2_lemmas.Lists.{all_append, all_drop, all_map, all_take}
 
 -- ---- its own socket
 

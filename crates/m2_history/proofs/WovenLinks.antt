@@ -2,7 +2,7 @@
 use Rattle.std.proofs.Common.{◌≡◌, ℕ, zero, suc, ◌+◌, ◌<◌, ◌^◌, ◌⊎◌, inl, inr, Bool, true, false, not, ◌&&◌, ◌||◌, if◌then◌else◌, List, [], ◌∷◌, ◌++◌, length, map, Some, refl, sym, ap, ◌∙◌, subst, arith}
 use Rattle.std.specs.Prelude.{slice_get}
 use Rattle.std.specs.List.{AllByRecursion, IsDistinct, flat_map}
-use Rattle.m2_control.specs.Laws.{HasAddrRanges}
+use Rattle.m2_trail.specs.m2_control.Laws.{HasAddrRanges}
 use Rattle.m2_fabric.specs.declared.socket.SocketId.{SocketId}
 use Rattle.m2_fabric.specs.End.{SeenEnd}
 use Rattle.m2_fabric.specs.Log.{Log}
@@ -14,12 +14,12 @@ use Rattle.m2_journal.specs.declared.entry.Entry.TheVariants as entry
 use Rattle.m2_journal.specs.Items.{Sources, at_start}
 use Rattle.m2_journal.specs.Lawful.{judged_on}
 use Rattle.m2_journal.specs.State.{start}
-use Rattle.m2_never_reset.proofs.Sockets.{by_either, same_of_equal}
+use Rattle.m2_channel.proofs.m2_never_reset.Sockets.{by_either, same_of_equal}
 use Rattle.m2_record.specs.IsRecord.{feeds_in}
 use Rattle.m2_record.specs.RecordNow.{ids_of}
 use Rattle.m2_record.specs.Sources.{log_at, trail_at}
 use Rattle.m2_record.specs.TakenTrails.{IsKeptTrail, judgements_in, taken_in}
-use Rattle.m2_session.specs.SessionLaws.{takes}
+use Rattle.m2_journal.specs.m2_session.SessionLaws.{takes}
 use Rattle.m2_trail.specs.Arrivals.{LooseNow}
 use Rattle.m2_trail.specs.Trails.{TrailNow, opener_of}
 use Rattle.m2_weave.specs.declared.table.SocketBytes.{SocketBytes}
@@ -32,9 +32,9 @@ use Rattle.m2_history.proofs.WovenHalves.{taken_own, whole_own}
 use Rattle.m2_history.proofs.Journals.{opened_leads, opened_unjudged}
 use Rattle.m2_history.proofs.Moved.{unjudged_untaken}
 use Rattle.m2_history.proofs.Scene.{IsHalfIn, Setting, opens_in}
-use Rattle.m2_lemmas.proofs.Booleans.{from_false_true}
+use Rattle.m2_bytes.proofs.m2_lemmas.Booleans.{from_false_true}
 use Rattle.m2_fabric.proofs.Sockets.{same_equal, same_refl}
-use Rattle.m2_lemmas.proofs.Lists.{all_so_of}
+use Rattle.m2_bytes.proofs.m2_lemmas.Lists.{all_so_of}
 
 abbrev pub setting_of : LinkNow → List SocketBytes → Setting
 setting_of l sockets = record {

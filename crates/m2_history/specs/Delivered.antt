@@ -4,7 +4,7 @@ use Rattle.std.specs.Prelude.{◌≡◌, ◌≤◌, List, length, map}
 use Rattle.m2_channel.specs.Channel as channel
 use Rattle.m2_channel.specs.Observed.{Logs, all_of, handed}
 use Rattle.m2_channel.specs.ObservedLaws.{AreLogs}
-use Rattle.m2_never_reset.specs.Order.{AreFirstOf}
+use Rattle.m2_channel.specs.m2_never_reset.Order.{AreFirstOf}
 use Rattle.m2_dispatch.specs.Heard as heard
 use Rattle.m2_journal.specs.declared.entry.Entry.{Entry}
 use Rattle.m2_journal.specs.declared.facts.PlanStep.{PlanStep}
@@ -14,8 +14,8 @@ use Rattle.m2_journal.specs.Replay.{AreLawful, after_items}
 use Rattle.m2_journal.specs.SideFacts.{SideFacts}
 use Rattle.m2_journal.specs.State.{start}
 use Rattle.m2_message.specs.Message.{unnumbered}
-use Rattle.m2_never_reset.specs.Orders as orders
-use Rattle.m2_never_reset.specs.Orders.{SideItem, near_items, far_items, posts_in, AreNodes, IsHistory}
+use Rattle.m2_channel.specs.m2_never_reset.Orders as orders
+use Rattle.m2_channel.specs.m2_never_reset.Orders.{SideItem, near_items, far_items, posts_in, AreNodes, IsHistory}
 use Rattle.m2_policy.specs.declared.path.Key.{Key}
 use Rattle.m2_history.specs.Counted.{posted, accepted}
 

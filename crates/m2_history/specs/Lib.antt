@@ -13,3 +13,6 @@ pub mod Steps
 pub mod Woven
 pub mod WovenLaws
 pub mod WovenLink
+pub use Rattle.m2_lossy_in_order.specs as m2_lossy_in_order
+pub use Rattle.m2_record.specs as m2_record
+pub use Rattle.m2_trail.specs as m2_trail

@@ -10,7 +10,7 @@ use Rattle.m2_history.specs.Delivered.{Kept}
 use Rattle.m2_journal.specs.SideFacts.{SideFacts}
 use Rattle.m2_lossy_in_order.specs.Lossy.{AreLossy, AreSomeOf}
 use Rattle.m2_message.specs.Message.{unnumbered}
-use Rattle.m2_never_reset.specs.Orders.{SideItem, near_after, far_after}
+use Rattle.m2_channel.specs.m2_never_reset.Orders.{SideItem, near_after, far_after}
 use Rattle.m2_policy.specs.declared.path.Key.{Key}
 use Rattle.m2_history.specs.WovenLaws.{kept_by, strands_in}
 use Rattle.m2_history.specs.WovenLink.{LinkNow, AreJoined, IsLink, IsOrderOf, order_of}

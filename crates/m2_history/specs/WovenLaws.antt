@@ -9,7 +9,7 @@ use Rattle.m2_history.specs.declared.history.History.{History}
 use Rattle.m2_history.specs.Delivered.{AreDelivered, Kept}
 use Rattle.m2_history.specs.Link.{both_of, parts_of}
 use Rattle.m2_lossy_in_order.specs.Lossy.{IsByteOrder}
-use Rattle.m2_never_reset.specs.Orders.{AreNodes, IsHistory, IsNeverReset}
+use Rattle.m2_channel.specs.m2_never_reset.Orders.{AreNodes, IsHistory, IsNeverReset}
 use Rattle.m2_record.specs.IsRecord.{IsRecord}
 use Rattle.m2_record.specs.RecordNow.{RecordNow}
 use Rattle.m2_trail.specs.Arrivals.{LooseNow}

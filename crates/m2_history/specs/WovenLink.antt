@@ -1,7 +1,7 @@
 -- Two sides of a link that are woven, as records and halves keep them. This project's own.
 use Rattle.std.specs.Prelude.{◌≡◌, ℕ, ◌<◌, ◌^◌, Bool, true, false, if◌then◌else◌, List, map}
 use Rattle.std.specs.List.{AllByRecursion, IsDistinct, flat_map}
-use Rattle.m2_control.specs.Laws.{HasAddrRanges}
+use Rattle.m2_trail.specs.m2_control.Laws.{HasAddrRanges}
 use Rattle.m2_fabric.specs.declared.socket.SocketId.{SocketId}
 use Rattle.m2_fabric.specs.Sockets.{goes_to, is_among}
 use Rattle.m2_bytes_fit.specs.Halves.{KeepsRanges}
@@ -17,7 +17,7 @@ use Rattle.m2_journal.specs.Plan.{planned}
 use Rattle.m2_journal.specs.Replay.{AreLawful}
 use Rattle.m2_journal.specs.SideFacts.{SideFacts}
 use Rattle.m2_journal.specs.State.{start}
-use Rattle.m2_never_reset.specs.PairLaws.{IsNoDown}
+use Rattle.m2_channel.specs.m2_never_reset.PairLaws.{IsNoDown}
 use Rattle.m2_record.specs.IsRecord.{feeds_in}
 use Rattle.m2_record.specs.RecordNow.{ids_of}
 use Rattle.m2_record.specs.Sources.{sources_of}

@@ -11,7 +11,7 @@ use Rattle.m2_session.specs.SessionLaws as session
 use Rattle.m2_journal.specs.Laws.{AnswersAreWritten}
 use Rattle.m2_journal.specs.OutFrames.{replies_of, server_ident_of, text_of}
 use Rattle.m2_journal.specs.SideFacts.{SideFacts, speaker_of}
-use Rattle.m2_lemmas.proofs.Booleans.{false_isnt_true}
+use Rattle.m2_bytes.proofs.m2_lemmas.Booleans.{false_isnt_true}
 
 replies : (f : SideFacts) (c : Carried) (a : Answer) → session.takes a ≡ false →
     map (text_of f) (replies_of a) ≡ map frame_text (option_to_list (frame_of (speaker_of f) c a))

@@ -1,20 +1,20 @@
 -- A run, computed: the socket breaks in the middle of a message, and on the next one the message comes once.
 use Rattle.std.specs.Prelude.{◌≡◌, true, false, List, [], ◌∷◌, refl, Some}
-use Rattle.m2_crc.specs.Crc.{after_byte, shifted, shifted_by}
-use Rattle.m2_frame.specs.Reading.{judge, judge_first, judge_later, judge_epilogue}
-use Rattle.m2_frame.specs.Preamble.{read_preamble, preamble_text}
-use Rattle.m2_frame.specs.Text.{segment_crc, text_of}
-use Rattle.m2_control.specs.Fields.{bounded_at, cookie_at, flag_at, numbers_at, list_at, string_at, vector_field}
-use Rattle.m2_control.specs.Ident.{tail_at}
-use Rattle.m2_addr.specs.Addr.{head_at, socket_at, body_of, shape_at}
-use Rattle.m2_addr.specs.Vector.{addresses_at, vector_at}
+use Rattle.m2_message.specs.m2_crc.Crc.{after_byte, shifted, shifted_by}
+use Rattle.m2_message.specs.m2_frame.Reading.{judge, judge_first, judge_later, judge_epilogue}
+use Rattle.m2_message.specs.m2_frame.Preamble.{read_preamble, preamble_text}
+use Rattle.m2_message.specs.m2_frame.Text.{segment_crc, text_of}
+use Rattle.m2_handshake.specs.m2_control.Fields.{bounded_at, cookie_at, flag_at, numbers_at, list_at, string_at, vector_field}
+use Rattle.m2_handshake.specs.m2_control.Ident.{tail_at}
+use Rattle.m2_policy.specs.m2_addr.Addr.{head_at, socket_at, body_of, shape_at}
+use Rattle.m2_policy.specs.m2_addr.Vector.{addresses_at, vector_at}
 use Rattle.m2_message.specs.Message.{with_numbers}
 use Rattle.m2_message.specs.HeaderText.{header_text}
 use Rattle.m2_session.specs.declared.answer.Answer.TheVariants.{Accept, Resume}
 use Rattle.m2_session.specs.declared.session.Phase.TheVariants.{Connecting, Ready, Standby, Wait}
 use Rattle.m2_session.specs.declared.ask.AskFacts.{AskFacts}
 use Rattle.m2_journal.specs.declared.entry.JudgedItem.{JudgedItem}
-use Rattle.m2_control.specs.declared.fields.TheConstants.{GREATEST_NUMBER}
+use Rattle.m2_handshake.specs.m2_control.declared.fields.TheConstants.{GREATEST_NUMBER}
 use Rattle.m2_journal.specs.SideFacts.{absent, cookie_of}
 use Rattle.m2_journal.specs.Items.{opened, judged, asked, numbered, accepted, closed}
 use Rattle.m2_journal.specs.Replay.{AreLawful}
@@ -27,7 +27,7 @@ use Rattle.m2_journal.specs.OutFrames.{ident, server_ident, message}
 use Rattle.m2_queues.specs.QueueLaws.{History}
 use Rattle.m2_journal.proofs.Written.{not_zero, same_state, is_new, holds, fails, same, unopened, all_put}
 use Rattle.m2_journal.proofs.Pair.{World, before_all, a_does, b_does, a_writes, b_writes, a_reads, b_reads, half_goes_on, shakes_hands, socket, hello_message, facts_of_a, facts_of_b}
-use Rattle.m2_lemmas.proofs.Booleans.{false_isnt_true}
+use Rattle.m2_bytes.proofs.m2_lemmas.Booleans.{false_isnt_true}
 
 -- ---- the socket breaks after twenty bytes of the message
 

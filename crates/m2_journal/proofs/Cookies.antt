@@ -15,7 +15,7 @@ use Rattle.m2_session.specs.Reconnect.{Reconnect}
 use Rattle.m2_session.specs.Steps.{step_of, fault_rows, closes}
 use Rattle.m2_session.proofs.Rows.{each_answer}
 use Rattle.m2_journal.specs.SideFacts.{SideFacts, absent}
-use Rattle.m2_lemmas.proofs.Booleans.{false_isnt_true}
+use Rattle.m2_bytes.proofs.m2_lemmas.Booleans.{false_isnt_true}
 
 -- a session that is reconnecting has a server cookie, and so has one in Ready that isn't lossy
 abbrev pub HasServer : Phase → Bool → ℕ → Type 0

@@ -8,8 +8,8 @@ use Rattle.m2_session.specs.Asks.{reconnect_of, told_of_ident, told_of_reconnect
 use Rattle.m2_session.specs.Cookies as cookies
 use Rattle.m2_session.proofs.Dialling as dialling
 use Rattle.m2_session.proofs.Draws.{tell_apart}
-use Rattle.m2_control.specs.declared.control.Control.TheVariants as control
-use Rattle.m2_control.specs.declared.server_ident.ServerIdent.{ServerIdent}
+use Rattle.m2_handshake.specs.m2_control.declared.control.Control.TheVariants as control
+use Rattle.m2_handshake.specs.m2_control.declared.server_ident.ServerIdent.{ServerIdent}
 use Rattle.m2_fabric.specs.declared.socket.SocketId.{SocketId}
 use Rattle.m2_session.specs.declared.answer.Answer.{Answer}
 use Rattle.m2_session.specs.declared.answer.Answer.TheVariants as answer
@@ -36,7 +36,7 @@ use Rattle.m2_journal.specs.Steps.{answer_event, event_at, event_heard, event_on
 use Rattle.m2_journal.proofs.Cookies.{HasNoClient, HasServer, IsFit, Keeps, is_sound}
 use Rattle.m2_journal.proofs.Idents.{MayKeep, SaysKept, brings_cookie, read_keeps}
 use Rattle.m2_journal.proofs.Written.{not_zero}
-use Rattle.m2_lemmas.proofs.Booleans.{false_isnt_true}
+use Rattle.m2_bytes.proofs.m2_lemmas.Booleans.{false_isnt_true}
 
 -- ---- words
 

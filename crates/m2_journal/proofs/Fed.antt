@@ -40,7 +40,7 @@ use Rattle.m2_journal.specs.Steps.{accepts, after, answers, breaks, closes, comp
 use Rattle.m2_journal.proofs.Cookies.{IsFit, Keeps, starts, told_keeps}
 use Rattle.m2_journal.proofs.Eventful.{EventIsFine, IsHeard, each_is_fine, heard, same_event}
 use Rattle.m2_journal.proofs.Sessions.{goes, tells-session, told-session}
-use Rattle.m2_lemmas.proofs.Booleans.{false_isnt_true}
+use Rattle.m2_bytes.proofs.m2_lemmas.Booleans.{false_isnt_true}
 
 -- ---- effects
 

@@ -1,7 +1,7 @@
 -- The feed is a socket that was opened, or taken by an answer; no socket was spent twice, nor the feed.
 use Rattle.std.proofs.Common.{◌≡◌, ℕ, ◌+◌, Bool, true, false, not, if◌then◌else◌, List, [], ◌∷◌, ◌++◌, Option, Some, None, refl, sym, ap, subst, ◌∙◌}
 use Rattle.std.specs.List.{AllByRecursion, IsDistinct}
-use Rattle.m2_addr.proofs.Addresses.{all_push}
+use Rattle.m2_policy.proofs.m2_addr.Addresses.{all_push}
 use Rattle.m2_session.specs.declared.ask.AskFacts.{AskFacts}
 use Rattle.m2_fabric.specs.declared.socket.SocketId.{SocketId}
 use Rattle.m2_fabric.specs.Sockets.{is_among, same_socket}

@@ -4,39 +4,39 @@ use Rattle.std.proofs.lemmas.Bool.{eq-eqb}
 use Rattle.std.specs.Int.{w64}
 use Rattle.std.specs.Option.{option_map}
 use Rattle.std.specs.Result.{is_ok}
-use Rattle.m2_addr.specs.declared.addr.Addr.{Addr}
-use Rattle.m2_addr.specs.declared.fault.AddrFault.{AddrFault}
-use Rattle.m2_addr.specs.Reading.{◌>>=◌, number, checked, ◌⊳◌, made}
-use Rattle.m2_addr.specs.Vector.{main_of}
-use Rattle.m2_addr.proofs.Exact.{bind_ok, test_ok, ok_is}
-use Rattle.m2_control.specs.declared.control.Control.{Control}
-use Rattle.m2_control.specs.declared.control.Control.TheVariants as control
-use Rattle.m2_control.specs.declared.fault.ControlFault.{ControlFault}
-use Rattle.m2_control.specs.declared.fault.ControlFault.TheVariants.{BadValue, Extra, Short}
+use Rattle.m2_policy.specs.m2_addr.declared.addr.Addr.{Addr}
+use Rattle.m2_policy.specs.m2_addr.declared.fault.AddrFault.{AddrFault}
+use Rattle.m2_policy.specs.m2_addr.Reading.{◌>>=◌, number, checked, ◌⊳◌, made}
+use Rattle.m2_policy.specs.m2_addr.Vector.{main_of}
+use Rattle.m2_policy.proofs.m2_addr.Exact.{bind_ok, test_ok, ok_is}
+use Rattle.m2_handshake.specs.m2_control.declared.control.Control.{Control}
+use Rattle.m2_handshake.specs.m2_control.declared.control.Control.TheVariants as control
+use Rattle.m2_handshake.specs.m2_control.declared.fault.ControlFault.{ControlFault}
+use Rattle.m2_handshake.specs.m2_control.declared.fault.ControlFault.TheVariants.{BadValue, Extra, Short}
 use Rattle.m2_message.specs.MessageFrame.{message_in}
-use Rattle.m2_control.specs.declared.server_ident.ServerIdent.{ServerIdent}
-use Rattle.m2_control.specs.Ack.{ack_at}
-use Rattle.m2_control.specs.Control.{whole}
-use Rattle.m2_control.specs.Fields.{bounded_at, signed, vector_field}
-use Rattle.m2_control.specs.Ident.{keeps_cookie, make_tail, tail_at}
-use Rattle.m2_control.specs.IdentMissingFeatures.{ident_missing_features_at}
-use Rattle.m2_control.specs.Keepalive.{keepalive_at}
-use Rattle.m2_control.specs.KeepaliveAck.{keepalive_ack_at}
-use Rattle.m2_control.specs.ServerIdent.{make_server_ident, server_ident_at}
-use Rattle.m2_control.specs.SessionReconnectOk.{session_reconnect_ok_at}
-use Rattle.m2_control.specs.SessionReset.{session_reset_at}
-use Rattle.m2_control.specs.SessionRetry.{session_retry_at}
-use Rattle.m2_control.specs.SessionRetryGlobal.{session_retry_global_at}
-use Rattle.m2_frame.specs.Frame.{Parts}
-use Rattle.m2_frame.specs.Reading as reading
-use Rattle.m2_frame.specs.Reading.{Item}
+use Rattle.m2_handshake.specs.m2_control.declared.server_ident.ServerIdent.{ServerIdent}
+use Rattle.m2_handshake.specs.m2_control.Ack.{ack_at}
+use Rattle.m2_handshake.specs.m2_control.Control.{whole}
+use Rattle.m2_handshake.specs.m2_control.Fields.{bounded_at, signed, vector_field}
+use Rattle.m2_handshake.specs.m2_control.Ident.{keeps_cookie, make_tail, tail_at}
+use Rattle.m2_handshake.specs.m2_control.IdentMissingFeatures.{ident_missing_features_at}
+use Rattle.m2_handshake.specs.m2_control.Keepalive.{keepalive_at}
+use Rattle.m2_handshake.specs.m2_control.KeepaliveAck.{keepalive_ack_at}
+use Rattle.m2_handshake.specs.m2_control.ServerIdent.{make_server_ident, server_ident_at}
+use Rattle.m2_handshake.specs.m2_control.SessionReconnectOk.{session_reconnect_ok_at}
+use Rattle.m2_handshake.specs.m2_control.SessionReset.{session_reset_at}
+use Rattle.m2_handshake.specs.m2_control.SessionRetry.{session_retry_at}
+use Rattle.m2_handshake.specs.m2_control.SessionRetryGlobal.{session_retry_global_at}
+use Rattle.m2_message.specs.m2_frame.Frame.{Parts}
+use Rattle.m2_message.specs.m2_frame.Reading as reading
+use Rattle.m2_message.specs.m2_frame.Reading.{Item}
 use Rattle.m2_handshake.specs.Asks.{same_addr}
 use Rattle.m2_handshake.specs.declared.fault.HalfFault.TheVariants.{WrongAddress, FlagDisagrees}
 use Rattle.m2_handshake.specs.Ident.{is_lossy, same_flag}
 use Rattle.m2_message.specs.declared.header_text.TheConstants.{HEADER_BYTES}
-use Rattle.m2_frame.specs.declared.tag.Tag.{Tag}
-use Rattle.m2_frame.specs.declared.tag.Tag.TheVariants as tag
-use Rattle.m2_frame.specs.Tags.{tag_in}
+use Rattle.m2_message.specs.m2_frame.declared.tag.Tag.{Tag}
+use Rattle.m2_message.specs.m2_frame.declared.tag.Tag.TheVariants as tag
+use Rattle.m2_message.specs.m2_frame.Tags.{tag_in}
 use Rattle.m2_journal.specs.Said.{Said, says, brings, garbles, said, said_by, said_of_message, said_of_payload}
 use Rattle.m2_journal.specs.SideFacts.{SideFacts}
 use Rattle.m2_journal.specs.Steps.{agrees, is_agreed}

@@ -11,7 +11,7 @@ use Rattle.m2_journal.specs.Replay.{AreLawful, after_items}
 use Rattle.m2_journal.specs.SideFacts.{SideFacts}
 use Rattle.m2_journal.specs.State.{State, Judgement}
 use Rattle.m2_journal.specs.Steps.{after}
-use Rattle.m2_lemmas.proofs.Booleans.{from_false_true}
+use Rattle.m2_bytes.proofs.m2_lemmas.Booleans.{from_false_true}
 
 pub lawful_front : (f : SideFacts) (is js : List JournalItem) (s : State) → AreLawful f (is ++ js) s → AreLawful f is s × AreLawful f js (after_items f is s)
 lawful_front f [] js s h = (tt, h)

@@ -16,3 +16,7 @@ pub mod Sockets
 pub mod Held
 pub mod Sound
 pub mod JudgedOn
+pub use Rattle.m2_fabric.proofs as m2_fabric
+pub use Rattle.m2_handshake.proofs as m2_handshake
+pub use Rattle.m2_bytes.proofs.m2_lemmas as m2_lemmas
+pub use Rattle.m2_queues.proofs as m2_queues

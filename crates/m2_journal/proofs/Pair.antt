@@ -1,6 +1,6 @@
 -- Two records and a half between them, driven by hand: the bytes of each go to the other.
 use Rattle.std.specs.Prelude.{ℕ, List, [], ◌∷◌, ◌++◌, take, drop, Option, Some, None}
-use Rattle.m2_addr.specs.declared.addr.Addr.{Addr}
+use Rattle.m2_policy.specs.m2_addr.declared.addr.Addr.{Addr}
 use Rattle.m2_handshake.specs.Course.{Course, course_of, text_of}
 use Rattle.m2_handshake.specs.Standing.{Standing, fed, acceptor_at_start}
 use Rattle.m2_message.specs.Message.{Content}

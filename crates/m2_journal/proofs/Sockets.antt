@@ -1,7 +1,7 @@
 -- Lists of sockets, and which of them were opened or taken by an answer.
 use Rattle.std.proofs.Common.{◌≡◌, Bool, true, false, ◌&&◌, ◌||◌, ◌⊎◌, inl, inr, ◌==◌, if◌then◌else◌, List, [], ◌∷◌, ◌++◌, map, refl, sym, ap, ◌∙◌}
 use Rattle.std.specs.List.{AllByRecursion, IsDistinct, filter}
-use Rattle.m2_addr.proofs.Addresses.{all_push}
+use Rattle.m2_policy.proofs.m2_addr.Addresses.{all_push}
 use Rattle.m2_fabric.specs.declared.socket.SocketId.{SocketId}
 use Rattle.m2_fabric.specs.Sockets.{is_among, same_socket}
 use Rattle.m2_session.specs.declared.answer.Answer.{Answer}
@@ -11,7 +11,7 @@ use Rattle.m2_journal.specs.declared.entry.JudgedItem.{JudgedItem}
 use Rattle.m2_journal.specs.Laws.{taken_among}
 use Rattle.m2_journal.specs.Lawful.{judged_on, may_ask_again}
 use Rattle.m2_journal.specs.State.{Judgement, State}
-use Rattle.m2_lemmas.proofs.Booleans.{neither_of_or, false_isnt_true}
+use Rattle.m2_bytes.proofs.m2_lemmas.Booleans.{neither_of_or, false_isnt_true}
 use Rattle.m2_fabric.proofs.Sockets.{same_equal, apart_turned, among_last}
 
 -- ---- among

@@ -1,18 +1,18 @@
 -- How a stream is split into texts: it is one reading of it, in any pieces; and what is split of the front of what was
 -- written is the front of the frames that were written.
 use Rattle.std.proofs.Common.{◌≡◌, ℕ, zero, suc, ◌-◌, ◌<◌, ◌≤◌, List, [], ◌∷◌, ◌++◌, length, take, drop, map, refl, sym, ap, ◌∙◌, subst, arith, length-drop, ◌⊎◌, inl, inr}
-use Rattle.m2_frame.specs.Frame.{Parts, Fits}
-use Rattle.m2_frame.specs.Grammar.{AreBytes}
-use Rattle.m2_frame.specs.Reading.{Item, whole, Front, start, bad, text, judge}
-use Rattle.m2_frame.specs.Stream.{Splits, IsOpen}
-use Rattle.m2_frame.specs.Text as frame
-use Rattle.m2_frame.proofs.Cutting.{start_isnt_text, bad_isnt_text, text_long, text_within, text_stays, Splits-feed, Splits-once, same_text}
+use Rattle.m2_message.specs.m2_frame.Frame.{Parts, Fits}
+use Rattle.m2_message.specs.m2_frame.Grammar.{AreBytes}
+use Rattle.m2_message.specs.m2_frame.Reading.{Item, whole, Front, start, bad, text, judge}
+use Rattle.m2_message.specs.m2_frame.Stream.{Splits, IsOpen}
+use Rattle.m2_message.specs.m2_frame.Text as frame
+use Rattle.m2_message.proofs.m2_frame.Cutting.{start_isnt_text, bad_isnt_text, text_long, text_within, text_stays, Splits-feed, Splits-once, same_text}
 use Rattle.std.specs.List.{flat_map, AllByRecursion}
 use Rattle.std.proofs.lemmas.List.{take-append-drop, append-nil, take-append-le, length-take-le}
 use Rattle.std.proofs.lemmas.Bool.{cases_lt}
 use Rattle.std.proofs.Math.Seq.{take-append-add, drop-append_seam}
-use Rattle.m2_frame.proofs.Spelled.{item_text-judged}
-use Rattle.m2_frame.proofs.Written.{text_of-written}
+use Rattle.m2_message.proofs.m2_frame.Spelled.{item_text-judged}
+use Rattle.m2_message.proofs.m2_frame.Written.{text_of-written}
 use Rattle.m2_journal.specs.Laws.{SplitIsTheReading, ReadsInPieces, IsWritable, PrefixesAreFrames, split_on}
 use Rattle.m2_journal.specs.Said.{Split, split, split_by, behind}
 

@@ -2,11 +2,11 @@
 use Rattle.std.specs.Prelude.{◌≡◌, ◌≢◌, ◌==◌, ℕ, true, false, List, [], nat_lt, nat_le, refl, Option, None}
 use Rattle.std.proofs.Common.{sym, ap, ◌∙◌}
 use Rattle.std.proofs.lemmas.Bool.{ltb-true, leb-true}
-use Rattle.m2_control.specs.declared.fields.TheConstants.{GREATEST_NUMBER}
+use Rattle.m2_handshake.specs.m2_control.declared.fields.TheConstants.{GREATEST_NUMBER}
 use Rattle.m2_handshake.specs.Standing.{Standing}
 use Rattle.m2_journal.specs.Lawful.{IsUnused}
 use Rattle.m2_journal.specs.State.{PartText, State}
-use Rattle.m2_lemmas.proofs.Booleans.{false_isnt_true}
+use Rattle.m2_bytes.proofs.m2_lemmas.Booleans.{false_isnt_true}
 
 pub is_new : (s : State) (number : ℕ) → nat_lt s.top number ≡ true → nat_le number GREATEST_NUMBER ≡ true → IsUnused s number
 is_new s number from to = record { from = ltb-true _ _ from; to = leb-true _ _ to }

@@ -3,11 +3,11 @@
 use Rattle.std.specs.Prelude.{ℕ, ◌+◌, ◌-◌, ◌==◌, ◌&&◌, not, Bool, true, false, nat_le, if◌then◌else◌, List, [], ◌∷◌, ◌++◌, length, drop, take, map, slice_get, Option, Some, None}
 use Rattle.std.specs.List.{filter, filter_map, find, range_with_len, prefix_len}
 use Rattle.std.specs.Option.{option_map, option_to_list}
-use Rattle.m2_control.specs.declared.control.Control.TheVariants as control
-use Rattle.m2_control.specs.declared.keepalive.Keepalive.{Keepalive}
-use Rattle.m2_control.specs.Banner.{begins}
+use Rattle.m2_handshake.specs.m2_control.declared.control.Control.TheVariants as control
+use Rattle.m2_handshake.specs.m2_control.declared.keepalive.Keepalive.{Keepalive}
+use Rattle.m2_handshake.specs.m2_control.Banner.{begins}
 use Rattle.m2_fabric.specs.declared.socket.SocketId.{SocketId}
-use Rattle.m2_frame.specs.Reading.{Item}
+use Rattle.m2_message.specs.m2_frame.Reading.{Item}
 use Rattle.m2_handshake.specs.Course as hand
 use Rattle.m2_handshake.specs.Course.{Course, course_of}
 use Rattle.m2_handshake.specs.Moves.{is_authed}

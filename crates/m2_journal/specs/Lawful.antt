@@ -5,11 +5,11 @@ use Rattle.std.specs.List.{list_any, filter, AllByRecursion}
 use Rattle.std.specs.Option.{is_some, option_to_list}
 use Rattle.m2_session.specs.declared.ask.AskFacts.{AskFacts}
 use Rattle.m2_session.specs.Dials as dials
-use Rattle.m2_control.specs.declared.control.Control.TheVariants as control
-use Rattle.m2_control.specs.declared.fields.TheConstants.{GREATEST_NUMBER}
+use Rattle.m2_handshake.specs.m2_control.declared.control.Control.TheVariants as control
+use Rattle.m2_handshake.specs.m2_control.declared.fields.TheConstants.{GREATEST_NUMBER}
 use Rattle.m2_fabric.specs.declared.socket.SocketId.{SocketId}
 use Rattle.m2_fabric.specs.Sockets.{same_socket, is_among, goes_to}
-use Rattle.m2_frame.specs.Reading.{Front, bad, judge, size_of}
+use Rattle.m2_message.specs.m2_frame.Reading.{Front, bad, judge, size_of}
 use Rattle.m2_handshake.specs.declared.stage.Stage.{Stage}
 use Rattle.m2_handshake.specs.declared.stage.Stage.TheVariants.{Faulty}
 use Rattle.m2_handshake.specs.Standing.{Standing}

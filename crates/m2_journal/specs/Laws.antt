@@ -8,11 +8,11 @@ use Rattle.m2_session.specs.Frames.{frame_of}
 use Rattle.m2_fabric.specs.declared.socket.SocketId.{SocketId}
 use Rattle.m2_fabric.specs.Sockets as sockets
 use Rattle.m2_fabric.specs.Sockets.{same_socket}
-use Rattle.m2_frame.specs.Frame.{Parts, Fits}
-use Rattle.m2_frame.specs.Grammar.{AreBytes}
-use Rattle.m2_frame.specs.Reading.{Item, whole, text, judge}
-use Rattle.m2_frame.specs.Stream.{Splits, IsOpen}
-use Rattle.m2_frame.specs.Text as frame
+use Rattle.m2_message.specs.m2_frame.Frame.{Parts, Fits}
+use Rattle.m2_message.specs.m2_frame.Grammar.{AreBytes}
+use Rattle.m2_message.specs.m2_frame.Reading.{Item, whole, text, judge}
+use Rattle.m2_message.specs.m2_frame.Stream.{Splits, IsOpen}
+use Rattle.m2_message.specs.m2_frame.Text as frame
 use Rattle.m2_handshake.specs.Texts.{frame_text}
 use Rattle.m2_queues.specs.QueueLaws.{Call, History, history_of}
 use Rattle.m2_session.specs.declared.answer.Answer.{Answer}

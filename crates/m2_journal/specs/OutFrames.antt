@@ -1,12 +1,12 @@
 -- The frames that a record writes, and their one text each. What stands in them is the protocol's; the values that
 -- are chosen are this project's profile.
 use Rattle.std.specs.Prelude.{ℕ, pos, Bool, true, false, if◌then◌else◌, List, [], ◌∷◌}
-use Rattle.m2_addr.specs.declared.addr.AnyAddr.TheVariants.{V4}
+use Rattle.m2_policy.specs.m2_addr.declared.addr.AnyAddr.TheVariants.{V4}
 use Rattle.m2_session.specs.Frames as answers
-use Rattle.m2_control.specs.declared.control.Control.{Control}
-use Rattle.m2_control.specs.declared.control.Control.TheVariants as control
-use Rattle.m2_control.specs.declared.keepalive.Keepalive.{Keepalive}
-use Rattle.m2_frame.specs.Text as frame
+use Rattle.m2_handshake.specs.m2_control.declared.control.Control.{Control}
+use Rattle.m2_handshake.specs.m2_control.declared.control.Control.TheVariants as control
+use Rattle.m2_handshake.specs.m2_control.declared.keepalive.Keepalive.{Keepalive}
+use Rattle.m2_message.specs.m2_frame.Text as frame
 use Rattle.m2_handshake.specs.Texts.{frame_text}
 use Rattle.m2_message.specs.Message.{Content, with_numbers}
 use Rattle.m2_message.specs.MessageFrame.{parts_of}

@@ -1,17 +1,17 @@
 -- What the bytes on a feed say to a record, once both sides have signed: the whole texts at the front of a stream,
 -- and what each of them says. Formats: Ceph's msgr2 documentation.
 use Rattle.std.specs.Prelude.{ℕ, suc, ◌==◌, Bool, true, false, if◌then◌else◌, List, [], ◌∷◌, length, drop, Result, Ok, Err, Option, Some, None}
-use Rattle.m2_control.specs.declared.control.Control.{Control}
-use Rattle.m2_control.specs.declared.fault.ControlFault.{ControlFault}
-use Rattle.m2_control.specs.Control.{payload_of}
-use Rattle.m2_frame.specs.Frame.{Parts}
-use Rattle.m2_frame.specs.Reading.{Front, Item, whole, dropped, text, judge}
+use Rattle.m2_handshake.specs.m2_control.declared.control.Control.{Control}
+use Rattle.m2_handshake.specs.m2_control.declared.fault.ControlFault.{ControlFault}
+use Rattle.m2_handshake.specs.m2_control.Control.{payload_of}
+use Rattle.m2_message.specs.m2_frame.Frame.{Parts}
+use Rattle.m2_message.specs.m2_frame.Reading.{Front, Item, whole, dropped, text, judge}
 use Rattle.m2_message.specs.Message.{Content}
 use Rattle.m2_message.specs.declared.header_text.TheConstants.{HEADER_BYTES}
 use Rattle.m2_message.specs.MessageFrame.{message_in}
-use Rattle.m2_frame.specs.declared.tag.Tag.{Tag}
-use Rattle.m2_frame.specs.declared.tag.Tag.TheVariants as tag
-use Rattle.m2_frame.specs.Tags.{tag_in}
+use Rattle.m2_message.specs.m2_frame.declared.tag.Tag.{Tag}
+use Rattle.m2_message.specs.m2_frame.declared.tag.Tag.TheVariants as tag
+use Rattle.m2_message.specs.m2_frame.Tags.{tag_in}
 
 -- ---- the texts at the front of a stream, and what is left of it
 

@@ -1,7 +1,7 @@
 -- What never changes of a record, and what follows from it alone: the session at its start, the cookies that it draws,
 -- and what its idents say of its node.
 use Rattle.std.specs.Prelude.{ℕ, false}
-use Rattle.m2_addr.specs.declared.addr.Addr.{Addr}
+use Rattle.m2_policy.specs.m2_addr.declared.addr.Addr.{Addr}
 use Rattle.m2_session.specs.declared.frame.Speaker.{Speaker}
 use Rattle.m2_session.specs.Cookies as cookies
 use Rattle.m2_policy.specs.declared.policy.Policy.{Policy}

@@ -1,7 +1,7 @@
 -- Where a record stands by its journal. This project's own.
 use Rattle.std.specs.Prelude.{ℕ, Bool, false, not, List, [], Option, None}
 use Rattle.m2_fabric.specs.declared.socket.SocketId.{SocketId}
-use Rattle.m2_frame.specs.Reading.{Item}
+use Rattle.m2_message.specs.m2_frame.Reading.{Item}
 use Rattle.m2_handshake.specs.Standing.{Standing}
 use Rattle.m2_message.specs.Message.{Content}
 use Rattle.m2_policy.specs.declared.path.Key.{Key}

@@ -2,15 +2,15 @@
 use Rattle.std.specs.Prelude.{◌≡◌, ℕ, ◌+◌, ◌&&◌, ◌||◌, not, Bool, true, false, if◌then◌else◌, List, [], ◌∷◌, ◌++◌, map, Option, Some, None, Result, Ok, Err}
 use Rattle.std.specs.List.{filter}
 use Rattle.std.specs.Result.{is_ok}
-use Rattle.m2_addr.specs.declared.addr.Addr.{Addr}
-use Rattle.m2_addr.specs.declared.fault.AddrFault.{AddrFault}
-use Rattle.m2_addr.specs.Vector.{main_of}
+use Rattle.m2_policy.specs.m2_addr.declared.addr.Addr.{Addr}
+use Rattle.m2_policy.specs.m2_addr.declared.fault.AddrFault.{AddrFault}
+use Rattle.m2_policy.specs.m2_addr.Vector.{main_of}
 use Rattle.m2_session.specs.declared.ask.AskFacts.{AskFacts}
 use Rattle.m2_session.specs.Asks as asks
 use Rattle.m2_session.specs.Dials.{at_rest}
-use Rattle.m2_control.specs.declared.control.Control.TheVariants as control
-use Rattle.m2_control.specs.declared.server_ident.ServerIdent.{ServerIdent}
-use Rattle.m2_control.specs.ServerFacts.{facts_of}
+use Rattle.m2_handshake.specs.m2_control.declared.control.Control.TheVariants as control
+use Rattle.m2_handshake.specs.m2_control.declared.server_ident.ServerIdent.{ServerIdent}
+use Rattle.m2_handshake.specs.m2_control.ServerFacts.{facts_of}
 use Rattle.m2_fabric.specs.declared.socket.SocketId.{SocketId}
 use Rattle.m2_fabric.specs.Sockets.{same_socket}
 use Rattle.m2_handshake.specs.Ident.{server_check}

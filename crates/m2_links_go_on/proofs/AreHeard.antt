@@ -11,10 +11,10 @@ use Rattle.m2_dispatch.specs.declared.parcel.Parcel.{Parcel}
 use Rattle.m2_dispatch.specs.declared.parcel.Parcel.TheVariants as parcel
 use Rattle.m2_dispatch.specs.Dispatch.{Queued}
 use Rattle.m2_dispatch.specs.Laws.{Call, start}
-use Rattle.m2_journal.specs.State.{Delivery, State}
-use Rattle.m2_record.specs.IsRecord.{IsReplayedTo}
-use Rattle.m2_record.specs.RecordNow.{RecordNow, delivery_of}
-use Rattle.m2_center.specs.Outbox.{OutboxNow}
+use Rattle.m2_weave.specs.m2_journal.State.{Delivery, State}
+use Rattle.m2_history.specs.m2_record.IsRecord.{IsReplayedTo}
+use Rattle.m2_history.specs.m2_record.RecordNow.{RecordNow, delivery_of}
+use Rattle.m2_cluster.specs.m2_center.Outbox.{OutboxNow}
 use Rattle.m2_links_go_on.specs.LogLaws.{BeginLogged, LoggedAreHeard}
 use Rattle.m2_links_go_on.specs.Logged.{IsLoggedOf, all_put, deliveries_of, handed_of, heard_held}
 use Rattle.m2_links_go_on.proofs.Puts.{once-append, parcels-append, queued-append}

@@ -4,16 +4,16 @@ use Rattle.std.specs.List.{AllByRecursion, IsDistinct}
 use Rattle.std.proofs.lemmas.List.{map-append}
 use Rattle.m2_fabric.specs.declared.socket.SocketId.{SocketId}
 use Rattle.m2_fabric.specs.Sockets.{is_among, same_socket}
-use Rattle.m2_bytes_fit.proofs.Judges.{not_judged_on}
+use Rattle.m2_growth.proofs.m2_bytes_fit.Judges.{not_judged_on}
 use Rattle.m2_growth.proofs.Among.{among_back, among_mapped, each_by}
 use Rattle.m2_history.specs.Link.{AreKept, AreOfLink, HaveHalves, IsJudgedSo, IsWholeHalf, half_sockets}
 use Rattle.m2_history.specs.Parts.{PartsNow}
 use Rattle.m2_history.specs.Woven.{BothNow, EndNow, end_of, ends_of, loose_ends}
-use Rattle.m2_journal.specs.Lawful.{judged_on}
-use Rattle.m2_journal.specs.State.{Judgement}
-use Rattle.m2_record.specs.TakenTrails.{judgements_in}
-use Rattle.m2_trail.specs.Arrivals.{LooseNow}
-use Rattle.m2_trail.specs.Trails.{TrailNow}
+use Rattle.m2_weave.specs.m2_journal.Lawful.{judged_on}
+use Rattle.m2_weave.specs.m2_journal.State.{Judgement}
+use Rattle.m2_history.specs.m2_record.TakenTrails.{judgements_in}
+use Rattle.m2_history.specs.m2_trail.Arrivals.{LooseNow}
+use Rattle.m2_history.specs.m2_trail.Trails.{TrailNow}
 use Rattle.m2_links_go_on.specs.Sides.{halves_of, loose_halves}
 use Rattle.m2_links_go_on.specs.Told.{AreTold}
 use Rattle.m2_links_go_on.proofs.KeptHalves.{kept_are_halves}
@@ -22,10 +22,10 @@ use Rattle.m2_history.specs.WovenLink.{same_end}
 use Rattle.m2_links_go_on.proofs.LinkLists.{four_apart}
 use Rattle.m2_links_go_on.proofs.Standing as one
 use Rattle.m2_links_go_on.proofs.Standing.{AreOpposed, StandsAt, ends_both, ends_from_loose, ends_single, judged_sockets, loose_both, loose_ends_single, loose_named, loose_single, opposed_too, sockets_left, trail_sockets}
-use Rattle.m2_lemmas.proofs.Booleans.{and_false, false_isnt_true, not_true_is_false}
+use Rattle.m2_fabric.proofs.m2_lemmas.Booleans.{and_false, false_isnt_true, not_true_is_false}
 use Rattle.m2_fabric.proofs.Sockets.{among_front, among_part, same_equal}
-use Rattle.m2_lemmas.proofs.Lists.{all_append}
-use Rattle.m2_record.proofs.AsksJudged.{judged_append}
+use Rattle.m2_fabric.proofs.m2_lemmas.Lists.{all_append}
+use Rattle.m2_history.proofs.m2_record.AsksJudged.{judged_append}
 
 -- ---- apart
 

@@ -3,7 +3,7 @@ use Rattle.std.proofs.Common.{◌≡◌, inl, inr, ℕ, Bool, true, false, if◌
 use Rattle.std.specs.Prelude.{IfSome, IsSome, nat_lt, unwrap_or}
 use Rattle.std.specs.Option.{option_map}
 use Rattle.std.proofs.lemmas.List.{map-append}
-use Rattle.m2_core.specs.Calls.{IsOpening}
+use Rattle.m2_cluster.specs.m2_core.Calls.{IsOpening}
 use Rattle.m2_dispatch.specs.Heard.{Heard}
 use Rattle.m2_fabric.specs.declared.port.Connect.{Connect}
 use Rattle.m2_fabric.specs.declared.port.Connect.TheVariants as connect
@@ -12,32 +12,32 @@ use Rattle.m2_fabric.specs.End.{SeenEnd, after_closing}
 use Rattle.m2_fabric.specs.Port as port
 use Rattle.m2_fabric.specs.Port.{SeenPort}
 use Rattle.m2_fabric.specs.Sockets.{goes_to, is_among, same_socket}
-use Rattle.m2_feed.specs.FeedNow.{FeedNow}
-use Rattle.m2_record.specs.declared.due.Due.{Due}
-use Rattle.m2_record.specs.declared.due.Due.TheVariants as due
-use Rattle.m2_record.specs.Calls.{IsSameButRoom, with_opened}
-use Rattle.m2_record.specs.Calls as record_calls
-use Rattle.m2_record.specs.Due.{due_step}
-use Rattle.m2_record.specs.RecordNow.{RecordNow, ends_of, feed_end, ids_of}
-use Rattle.m2_record.specs.Sources.{end_at}
-use Rattle.m2_trail.specs.Arrivals.{LooseNow, closed_of}
-use Rattle.m2_trail.specs.Incoming.{IncomingNow, accepted}
-use Rattle.m2_center.specs.declared.accepting.Accepted.{Accepted}
-use Rattle.m2_center.specs.declared.accepting.Accepted.TheVariants as accepts
-use Rattle.m2_center.specs.declared.halves_turn.HalvesTurn.{HalvesTurn}
-use Rattle.m2_center.specs.declared.pending.TheConstants.{MOST_HALVES}
-use Rattle.m2_center.specs.declared.records_turn.RecordsTurn.{RecordsTurn}
-use Rattle.m2_center.specs.declared.records_turn.RecordsTurn.TheVariants as turn
-use Rattle.m2_center.specs.Accepting.{Accepting, AcceptsAll, EndsWith, TakesAll, TakesIn, joined, unasked}
-use Rattle.m2_center.specs.Connecting.{AtPort, DialsFor, DialsIfDue, Takes}
-use Rattle.m2_center.specs.Halves.{AllHalves}
-use Rattle.m2_center.specs.HalvesTurn.{Callers, TurnsHalves}
-use Rattle.m2_center.specs.Hearing.{ends_in}
-use Rattle.m2_center.specs.Outbox.{is_free}
-use Rattle.m2_center.specs.RecordTurn.{Means}
-use Rattle.m2_center.specs.RecordsTurn.{AllAmid, Amid, Around, DialsAndSteps, EachTurns, TurnsEach, TurnsIf, TurnsInOrder, TurnsOne, all_amid, amid, at_port, sides_of, turning_amid}
-use Rattle.m2_center.specs.Sessions.{PendingNow}
-use Rattle.m2_center.specs.CenterTurn.{Answer}
+use Rattle.m2_cluster.specs.m2_feed.FeedNow.{FeedNow}
+use Rattle.m2_history.specs.m2_record.declared.due.Due.{Due}
+use Rattle.m2_history.specs.m2_record.declared.due.Due.TheVariants as due
+use Rattle.m2_history.specs.m2_record.Calls.{IsSameButRoom, with_opened}
+use Rattle.m2_history.specs.m2_record.Calls as record_calls
+use Rattle.m2_history.specs.m2_record.Due.{due_step}
+use Rattle.m2_history.specs.m2_record.RecordNow.{RecordNow, ends_of, feed_end, ids_of}
+use Rattle.m2_history.specs.m2_record.Sources.{end_at}
+use Rattle.m2_history.specs.m2_trail.Arrivals.{LooseNow, closed_of}
+use Rattle.m2_history.specs.m2_trail.Incoming.{IncomingNow, accepted}
+use Rattle.m2_cluster.specs.m2_center.declared.accepting.Accepted.{Accepted}
+use Rattle.m2_cluster.specs.m2_center.declared.accepting.Accepted.TheVariants as accepts
+use Rattle.m2_cluster.specs.m2_center.declared.halves_turn.HalvesTurn.{HalvesTurn}
+use Rattle.m2_cluster.specs.m2_center.declared.pending.TheConstants.{MOST_HALVES}
+use Rattle.m2_cluster.specs.m2_center.declared.records_turn.RecordsTurn.{RecordsTurn}
+use Rattle.m2_cluster.specs.m2_center.declared.records_turn.RecordsTurn.TheVariants as turn
+use Rattle.m2_cluster.specs.m2_center.Accepting.{Accepting, AcceptsAll, EndsWith, TakesAll, TakesIn, joined, unasked}
+use Rattle.m2_cluster.specs.m2_center.Connecting.{AtPort, DialsFor, DialsIfDue, Takes}
+use Rattle.m2_cluster.specs.m2_center.Halves.{AllHalves}
+use Rattle.m2_cluster.specs.m2_center.HalvesTurn.{Callers, TurnsHalves}
+use Rattle.m2_cluster.specs.m2_center.Hearing.{ends_in}
+use Rattle.m2_cluster.specs.m2_center.Outbox.{is_free}
+use Rattle.m2_cluster.specs.m2_center.RecordTurn.{Means}
+use Rattle.m2_cluster.specs.m2_center.RecordsTurn.{AllAmid, Amid, Around, DialsAndSteps, EachTurns, TurnsEach, TurnsIf, TurnsInOrder, TurnsOne, all_amid, amid, at_port, sides_of, turning_amid}
+use Rattle.m2_cluster.specs.m2_center.Sessions.{PendingNow}
+use Rattle.m2_cluster.specs.m2_center.CenterTurn.{Answer}
 use Rattle.m2_cluster.proofs.OneCenter.{none_at}
 use Rattle.m2_growth.specs.Ends.{AreOfTheirOwn, BringNone}
 use Rattle.m2_growth.specs.Holding.{AreOwn, Grows, Holding, IsToCome, LeadsElsewhere, all_ends, ends_held, waiting_at}
@@ -52,9 +52,9 @@ use Rattle.m2_growth.proofs.OneRecord.{all_around, ends_behind, holding}
 use Rattle.m2_growth.proofs.Owned.{own_all}
 use Rattle.m2_growth.proofs.RecordTurns.{turns, turns_one}
 use Rattle.m2_links_go_on.proofs.ToCome.{among_none}
-use Rattle.m2_lemmas.proofs.Booleans.{false_isnt_true}
+use Rattle.m2_fabric.proofs.m2_lemmas.Booleans.{false_isnt_true}
 use Rattle.m2_fabric.proofs.Sockets.{same_equal}
-use Rattle.m2_lemmas.proofs.Lists.{all_so_of}
+use Rattle.m2_fabric.proofs.m2_lemmas.Lists.{all_so_of}
 
 -- a socket that has an end now and had none goes elsewhere
 abbrev pub Brings : (old new : Holding) → Type 0

@@ -3,20 +3,20 @@ use Rattle.std.proofs.Common.{◌≡◌, ℕ, ◌⊎◌, inl, inr, Bool, true, f
 use Rattle.std.specs.List.{AllByRecursion, list_any}
 use Rattle.m2_fabric.specs.declared.socket.SocketId.{SocketId}
 use Rattle.m2_fabric.specs.Sockets.{is_among}
-use Rattle.m2_bytes_fit.proofs.Judges.{not_judged_on}
+use Rattle.m2_growth.proofs.m2_bytes_fit.Judges.{not_judged_on}
 use Rattle.m2_growth.specs.Halves.{IsOneOf, all_left}
 use Rattle.m2_growth.proofs.Among.{of_each}
-use Rattle.m2_journal.specs.declared.entry.JudgedItem.{JudgedItem}
-use Rattle.m2_journal.specs.Lawful.{judged_on}
-use Rattle.m2_record.specs.RecordNow.{RecordNow}
-use Rattle.m2_record.specs.TakenTrails.{judgements_in}
-use Rattle.m2_center.specs.Halves.{AllHalves, sessions_with}
-use Rattle.m2_center.specs.Sessions.{AreConsistent, Caller, IsCaller, IsTold, PendingNow, Supply, WasCaller, caller_in, caller_of, is_asker, peer_of}
-use Rattle.m2_trail.specs.Arrivals.{LooseNow, left_of}
+use Rattle.m2_weave.specs.m2_journal.declared.entry.JudgedItem.{JudgedItem}
+use Rattle.m2_weave.specs.m2_journal.Lawful.{judged_on}
+use Rattle.m2_history.specs.m2_record.RecordNow.{RecordNow}
+use Rattle.m2_history.specs.m2_record.TakenTrails.{judgements_in}
+use Rattle.m2_cluster.specs.m2_center.Halves.{AllHalves, sessions_with}
+use Rattle.m2_cluster.specs.m2_center.Sessions.{AreConsistent, Caller, IsCaller, IsTold, PendingNow, Supply, WasCaller, caller_in, caller_of, is_asker, peer_of}
+use Rattle.m2_history.specs.m2_trail.Arrivals.{LooseNow, left_of}
 use Rattle.m2_links_go_on.proofs.LinkRecords.{asked_some}
 use Rattle.m2_links_go_on.proofs.Standing.{judged_sockets}
-use Rattle.m2_lemmas.proofs.Lists.{all_append, all_map, all_so}
-use Rattle.m2_lemmas.proofs.Booleans.{false_isnt_true}
+use Rattle.m2_fabric.proofs.m2_lemmas.Lists.{all_append, all_map, all_so}
+use Rattle.m2_fabric.proofs.m2_lemmas.Booleans.{false_isnt_true}
 
 -- a half as records see it
 pub record IsCalled (made : List SocketId) (records : List RecordNow) (l : LooseNow) : Type 0 where

@@ -3,16 +3,16 @@ use Rattle.std.proofs.Common.{◌≡◌, inl, inr, List, [], ◌∷◌, Ok, Err,
 use Rattle.std.specs.List.{AllByRecursion}
 use Rattle.m2_dispatch.specs.Heard.{Heard}
 use Rattle.m2_dispatch.specs.Laws.{Call}
-use Rattle.m2_record.specs.IsRecord.{IsRecord}
-use Rattle.m2_record.specs.RecordNow.{RecordNow}
-use Rattle.m2_center.specs.declared.accepting.Accepted.{Accepted}
-use Rattle.m2_center.specs.declared.halves_turn.HalvesTurn.{HalvesTurn}
-use Rattle.m2_center.specs.declared.mailing.Mailed.{Mailed}
-use Rattle.m2_center.specs.declared.records_turn.RecordsTurn.{RecordsTurn}
-use Rattle.m2_center.specs.Outbox.{OutboxNow}
-use Rattle.m2_center.specs.RecordTurn.{Means}
-use Rattle.m2_center.specs.Center.{CenterNow}
-use Rattle.m2_center.specs.CenterTurn.{Accepts, Answer, EmptiesMail, TakesTurn, TurnsHalves, TurnsRecords, accepting_in, all_amid_in, around_in, callers_of, mailing_in}
+use Rattle.m2_history.specs.m2_record.IsRecord.{IsRecord}
+use Rattle.m2_history.specs.m2_record.RecordNow.{RecordNow}
+use Rattle.m2_cluster.specs.m2_center.declared.accepting.Accepted.{Accepted}
+use Rattle.m2_cluster.specs.m2_center.declared.halves_turn.HalvesTurn.{HalvesTurn}
+use Rattle.m2_cluster.specs.m2_center.declared.mailing.Mailed.{Mailed}
+use Rattle.m2_cluster.specs.m2_center.declared.records_turn.RecordsTurn.{RecordsTurn}
+use Rattle.m2_cluster.specs.m2_center.Outbox.{OutboxNow}
+use Rattle.m2_cluster.specs.m2_center.RecordTurn.{Means}
+use Rattle.m2_cluster.specs.m2_center.Center.{CenterNow}
+use Rattle.m2_cluster.specs.m2_center.CenterTurn.{Accepts, Answer, EmptiesMail, TakesTurn, TurnsHalves, TurnsRecords, accepting_in, all_amid_in, around_in, callers_of, mailing_in}
 use Rattle.m2_growth.specs.Holding.{Grows, Holding}
 use Rattle.m2_growth.specs.Records.{RecordsGrow}
 use Rattle.m2_growth.proofs.Accepts.{accepts_grow}

@@ -3,11 +3,11 @@ use Rattle.std.proofs.Common.{◌≡◌, Bool, true, false, if◌then◌else◌,
 use Rattle.std.specs.List.{AllByRecursion, list_any}
 use Rattle.m2_fabric.specs.End.{SeenEnd}
 use Rattle.m2_fabric.specs.Port.{with_incoming, with_news}
-use Rattle.m2_center.specs.Center.{CenterNow}
-use Rattle.m2_center.specs.Reaching.{after_hearing, has_half, rest_in}
-use Rattle.m2_center.specs.RecordEnds.{has_end, records_hear}
-use Rattle.m2_center.proofs.RecordsHear.{center_rest}
-use Rattle.m2_center.specs.Hearing as halves
+use Rattle.m2_cluster.specs.m2_center.Center.{CenterNow}
+use Rattle.m2_cluster.specs.m2_center.Reaching.{after_hearing, has_half, rest_in}
+use Rattle.m2_cluster.specs.m2_center.RecordEnds.{has_end, records_hear}
+use Rattle.m2_cluster.proofs.m2_center.RecordsHear.{center_rest}
+use Rattle.m2_cluster.specs.m2_center.Hearing as halves
 use Rattle.m2_cluster.specs.Cluster.{ClusterNow, rest_of}
 use Rattle.m2_cluster.specs.Node.{NodeNow, all_to_come, rest_of_node}
 use Rattle.m2_growth.specs.Holding.{HaveTheirHalves}

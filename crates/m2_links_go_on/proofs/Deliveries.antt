@@ -1,29 +1,29 @@
 -- What a journal delivers goes on where the journal does, and what it speaks of.
 use Rattle.std.proofs.Common.{◌≡◌, ℕ, ◌+◌, Bool, true, false, if◌then◌else◌, List, [], ◌∷◌, ◌++◌, Option, Some, None, refl, sym, ap, subst, ◌∙◌}
 use Rattle.std.specs.List.{AllByRecursion}
-use Rattle.m2_journal.specs.declared.entry.Entry.{Entry}
-use Rattle.m2_journal.specs.declared.entry.Entry.TheVariants as entry
-use Rattle.m2_journal.specs.Feeds.{finished, hears, narrowed, next_said, texts_at}
-use Rattle.m2_journal.specs.Growth.{AreThere, Grow, IsSettled}
-use Rattle.m2_journal.specs.Items as item
-use Rattle.m2_journal.specs.Items.{JournalItem, Places, Sources, at_start, item_of, items_from, items_of, passed, passed_by, reach_of}
-use Rattle.m2_journal.specs.OutFrames as out
-use Rattle.m2_journal.specs.OutFrames.{OutFrame, is_unnamed}
-use Rattle.m2_journal.specs.Plan.{Planned, to_dial, to_go_down, to_post}
-use Rattle.m2_journal.specs.Replay.{after_items, replay}
-use Rattle.m2_journal.specs.Said.{Said, aborts, brings, garbles, says}
-use Rattle.m2_journal.specs.SideFacts.{SideFacts, cookie_of}
-use Rattle.m2_journal.specs.State.{Feed, PartText, State, letter, start}
-use Rattle.m2_journal.specs.Steps.{accepts, after, breaks, composes, event_heard, event_of, forgets, heeds, is_on, is_waiting, notes, posts, puts_on, queues, sends, takes_answer, takes_socket, tells, tells_if, with_feed, writes_message}
-use Rattle.m2_journal.proofs.Growing.{after-append, items-append, items-grow}
-use Rattle.m2_message.specs.Message.{Content}
-use Rattle.m2_queues.specs.QueueLaws.{Next}
-use Rattle.m2_queues.specs.OutQueues.{message_at}
-use Rattle.m2_record.proofs.Telling.{Beside, tells-beside, told_by}
-use Rattle.m2_session.specs.declared.event.Event.{Event}
-use Rattle.m2_session.specs.declared.event.Event.TheVariants as event
-use Rattle.m2_session.specs.SessionLaws.{takes}
-use Rattle.m2_session.specs.Steps.{step_of}
+use Rattle.m2_weave.specs.m2_journal.declared.entry.Entry.{Entry}
+use Rattle.m2_weave.specs.m2_journal.declared.entry.Entry.TheVariants as entry
+use Rattle.m2_weave.specs.m2_journal.Feeds.{finished, hears, narrowed, next_said, texts_at}
+use Rattle.m2_weave.specs.m2_journal.Growth.{AreThere, Grow, IsSettled}
+use Rattle.m2_weave.specs.m2_journal.Items as item
+use Rattle.m2_weave.specs.m2_journal.Items.{JournalItem, Places, Sources, at_start, item_of, items_from, items_of, passed, passed_by, reach_of}
+use Rattle.m2_weave.specs.m2_journal.OutFrames as out
+use Rattle.m2_weave.specs.m2_journal.OutFrames.{OutFrame, is_unnamed}
+use Rattle.m2_weave.specs.m2_journal.Plan.{Planned, to_dial, to_go_down, to_post}
+use Rattle.m2_weave.specs.m2_journal.Replay.{after_items, replay}
+use Rattle.m2_weave.specs.m2_journal.Said.{Said, aborts, brings, garbles, says}
+use Rattle.m2_weave.specs.m2_journal.SideFacts.{SideFacts, cookie_of}
+use Rattle.m2_weave.specs.m2_journal.State.{Feed, PartText, State, letter, start}
+use Rattle.m2_weave.specs.m2_journal.Steps.{accepts, after, breaks, composes, event_heard, event_of, forgets, heeds, is_on, is_waiting, notes, posts, puts_on, queues, sends, takes_answer, takes_socket, tells, tells_if, with_feed, writes_message}
+use Rattle.m2_weave.proofs.m2_journal.Growing.{after-append, items-append, items-grow}
+use Rattle.m2_dispatch.specs.m2_message.Message.{Content}
+use Rattle.m2_dispatch.specs.m2_queues.QueueLaws.{Next}
+use Rattle.m2_dispatch.specs.m2_queues.OutQueues.{message_at}
+use Rattle.m2_history.proofs.m2_record.Telling.{Beside, tells-beside, told_by}
+use Rattle.m2_weave.specs.m2_session.declared.event.Event.{Event}
+use Rattle.m2_weave.specs.m2_session.declared.event.Event.TheVariants as event
+use Rattle.m2_weave.specs.m2_session.SessionLaws.{takes}
+use Rattle.m2_weave.specs.m2_session.Steps.{step_of}
 use Rattle.m2_weave.specs.Later.{GoesOn}
 use Rattle.m2_growth.proofs.Ends.{on_by, on_chain, on_same}
 

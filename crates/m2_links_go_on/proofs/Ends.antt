@@ -10,7 +10,7 @@ use Rattle.m2_weave.specs.Later.{GoesOn}
 use Rattle.m2_weave.specs.Strands.{same_side}
 use Rattle.m2_history.specs.WovenLink.{same_end}
 use Rattle.m2_links_go_on.proofs.Going.{LaterEnd}
-use Rattle.m2_lemmas.proofs.Booleans.{both_of_and}
+use Rattle.m2_fabric.proofs.m2_lemmas.Booleans.{both_of_and}
 use Rattle.m2_history.proofs.Bytes.{same_end_turned, own_end}
 use Rattle.m2_fabric.proofs.Sockets.{apart_turned, same_equal, same_refl}
 

@@ -3,22 +3,22 @@ use Rattle.std.proofs.Common.{◌≡◌, ℕ, inl, true, false, [], ◌∷◌, N
 use Rattle.std.specs.Prelude.{◌==◌, ◌&&◌}
 use Rattle.std.specs.List.{IsDistinct}
 use Rattle.std.proofs.lemmas.Bool.{eqb-true}
-use Rattle.m2_core.specs.Agrees.{Agrees}
-use Rattle.m2_core.specs.CoreNow.{at_start}
+use Rattle.m2_cluster.specs.m2_core.Agrees.{Agrees}
+use Rattle.m2_cluster.specs.m2_core.CoreNow.{at_start}
 use Rattle.m2_fabric.specs.declared.socket.SocketId.{SocketId}
 use Rattle.m2_fabric.specs.Port.{fresh_port}
 use Rattle.m2_fabric.specs.Sockets.{goes_to}
 use Rattle.m2_growth.proofs.Ends.{own_none}
-use Rattle.m2_journal.specs.SideFacts.{SideFacts}
-use Rattle.m2_journal.specs.State.{start}
-use Rattle.m2_journal.proofs.Pair.{facts_of_a, facts_of_b, here, there}
-use Rattle.m2_record.specs.IsRecord.{IsRecord, new_record, no_room}
-use Rattle.m2_record.specs.RecordNow.{RecordNow}
-use Rattle.m2_record.proofs.Making.{new-is-record}
+use Rattle.m2_weave.specs.m2_journal.SideFacts.{SideFacts}
+use Rattle.m2_weave.specs.m2_journal.State.{start}
+use Rattle.m2_weave.proofs.m2_journal.Pair.{facts_of_a, facts_of_b, here, there}
+use Rattle.m2_history.specs.m2_record.IsRecord.{IsRecord, new_record, no_room}
+use Rattle.m2_history.specs.m2_record.RecordNow.{RecordNow}
+use Rattle.m2_history.proofs.m2_record.Making.{new-is-record}
 use Rattle.m2_links_go_on.specs.LinkLaws.{ALinkGoesOn}
 use Rattle.m2_links_go_on.specs.Linked.{IsNode, NodeNow, Nodes}
 use Rattle.m2_links_go_on.proofs.Staying.{staying_goes_on}
-use Rattle.m2_lemmas.proofs.Booleans.{and_false, both_of_and, false_isnt_true}
+use Rattle.m2_fabric.proofs.m2_lemmas.Booleans.{and_false, both_of_and, false_isnt_true}
 
 -- a new record of the node at this place
 abbrev pub side : SideFacts → (place : ℕ) → RecordNow

@@ -7,7 +7,7 @@ use Rattle.std.proofs.lemmas.List.Folds.{list_any-append}
 use Rattle.m2_fabric.specs.declared.socket.SocketId.{SocketId}
 use Rattle.m2_fabric.specs.End.{SeenEnd}
 use Rattle.m2_fabric.specs.Sockets.{is_among}
-use Rattle.m2_bytes_fit.proofs.Judges.{not_judged_on}
+use Rattle.m2_growth.proofs.m2_bytes_fit.Judges.{not_judged_on}
 use Rattle.m2_growth.specs.Ends.{EndGrows}
 use Rattle.m2_growth.specs.Halves.{IsOneOf, TrailGrows}
 use Rattle.m2_growth.proofs.Among.{among_mapped, of_each}
@@ -15,12 +15,12 @@ use Rattle.m2_history.proofs.Tidiness.{judged_noted}
 use Rattle.m2_history.specs.Link.{IsWholeHalf}
 use Rattle.m2_history.specs.Parts.{PartsNow}
 use Rattle.m2_history.specs.Woven.{EndNow, end_of, half_end, is_about, judged_times, knows}
-use Rattle.m2_journal.specs.declared.entry.Entry.{Entry}
-use Rattle.m2_journal.specs.Lawful.{judged_on}
-use Rattle.m2_record.specs.RecordNow.{ids_of}
-use Rattle.m2_record.specs.TakenTrails.{judgement_of, judgements_in, taken_in}
-use Rattle.m2_trail.specs.Arrivals.{LooseNow}
-use Rattle.m2_trail.specs.Trails.{TrailNow}
+use Rattle.m2_weave.specs.m2_journal.declared.entry.Entry.{Entry}
+use Rattle.m2_weave.specs.m2_journal.Lawful.{judged_on}
+use Rattle.m2_history.specs.m2_record.RecordNow.{ids_of}
+use Rattle.m2_history.specs.m2_record.TakenTrails.{judgement_of, judgements_in, taken_in}
+use Rattle.m2_history.specs.m2_trail.Arrivals.{LooseNow}
+use Rattle.m2_history.specs.m2_trail.Trails.{TrailNow}
 use Rattle.m2_links_go_on.specs.Sides.{HalfGoesOn}
 use Rattle.m2_weave.specs.Later.{GoesOn}
 use Rattle.m2_weave.specs.declared.strand.StrandItem.TheVariants.{Noted}
@@ -28,8 +28,8 @@ use Rattle.m2_weave.specs.Strands.{has_opened, journal_of, opens}
 use Rattle.m2_links_go_on.proofs.LinkLists.{take_all_of, take_more}
 use Rattle.m2_links_go_on.proofs.Standing as one
 use Rattle.m2_links_go_on.proofs.Standing.{AreOpposed, StandsAt, judged_sockets}
-use Rattle.m2_lemmas.proofs.Booleans.{or_left}
-use Rattle.m2_record.proofs.AsksJudged.{judged_append}
+use Rattle.m2_fabric.proofs.m2_lemmas.Booleans.{or_left}
+use Rattle.m2_history.proofs.m2_record.AsksJudged.{judged_append}
 
 -- ---- one half
 

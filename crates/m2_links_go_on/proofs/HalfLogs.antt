@@ -2,20 +2,20 @@
 -- what they handed on still.
 use Rattle.std.proofs.Common.{◌≡◌, inl, inr, ℕ, ◌==◌, List, [], ◌∷◌, map, Some, Result, Ok, Err, refl, sym, ap, subst, ◌∙◌}
 use Rattle.std.specs.List.{AllByRecursion, IsDistinct}
-use Rattle.m2_bytes.specs.declared.memory.NoMemory as memory
+use Rattle.m2_fabric.specs.m2_bytes.declared.memory.NoMemory as memory
 use Rattle.m2_dispatch.specs.Heard.{Heard}
 use Rattle.m2_dispatch.specs.Dispatch.{Queued}
 use Rattle.m2_fabric.specs.Port.{SeenPort}
-use Rattle.m2_journal.specs.declared.facts.PlanStep.{PlanStep}
-use Rattle.m2_record.specs.Calls.{planned_too}
-use Rattle.m2_record.specs.IsRecord.{IsRecord}
-use Rattle.m2_record.specs.RecordNow.{RecordNow}
-use Rattle.m2_center.specs.Halves.{AllHalves, halves_of}
-use Rattle.m2_center.specs.Outbox.{OutboxNow}
-use Rattle.m2_center.specs.Planning.{PlansNow}
+use Rattle.m2_weave.specs.m2_journal.declared.facts.PlanStep.{PlanStep}
+use Rattle.m2_history.specs.m2_record.Calls.{planned_too}
+use Rattle.m2_history.specs.m2_record.IsRecord.{IsRecord}
+use Rattle.m2_history.specs.m2_record.RecordNow.{RecordNow}
+use Rattle.m2_cluster.specs.m2_center.Halves.{AllHalves, halves_of}
+use Rattle.m2_cluster.specs.m2_center.Outbox.{OutboxNow}
+use Rattle.m2_cluster.specs.m2_center.Planning.{PlansNow}
 use Rattle.m2_growth.specs.Holding.{AreOwn, Grows}
-use Rattle.m2_center.specs.Center.{CenterNow}
-use Rattle.m2_center.specs.CenterTurn.{Answer}
+use Rattle.m2_cluster.specs.m2_center.Center.{CenterNow}
+use Rattle.m2_cluster.specs.m2_center.CenterTurn.{Answer}
 use Rattle.m2_growth.specs.GrowthLaws.{PlansAt, at_plans}
 use Rattle.m2_growth.specs.Records.{RecordsGrow}
 use Rattle.m2_growth.proofs.HalfTurns.{halves_grow}

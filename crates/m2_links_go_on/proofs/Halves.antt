@@ -6,15 +6,15 @@ use Rattle.m2_fabric.specs.declared.socket.SocketId.{SocketId}
 use Rattle.m2_history.proofs.Tidiness.{all_in}
 use Rattle.m2_history.specs.HalfStrands.{strand_of}
 use Rattle.m2_history.specs.Link.{IsOnSocket}
-use Rattle.m2_journal.specs.declared.entry.Entry.{Entry}
-use Rattle.m2_journal.specs.declared.entry.Entry.TheVariants as entry
-use Rattle.m2_trail.specs.Trails.{TrailNow, RisesWithin}
+use Rattle.m2_weave.specs.m2_journal.declared.entry.Entry.{Entry}
+use Rattle.m2_weave.specs.m2_journal.declared.entry.Entry.TheVariants as entry
+use Rattle.m2_history.specs.m2_trail.Trails.{TrailNow, RisesWithin}
 use Rattle.m2_links_go_on.specs.Sides.{HalfGoesOn, IsHalf}
 use Rattle.m2_weave.specs.Later.{GoesOn}
 use Rattle.m2_weave.specs.declared.strand.StrandItem.TheVariants.{Noted, Handed}
 use Rattle.m2_weave.specs.Strands.{half_items, has_opened, opens}
-use Rattle.m2_trail.proofs.Judged.{least_first}
-use Rattle.m2_lemmas.proofs.Lists.{all_so}
+use Rattle.m2_history.proofs.m2_trail.Judged.{least_first}
+use Rattle.m2_fabric.proofs.m2_lemmas.Lists.{all_so}
 
 -- ---- lists that go on
 

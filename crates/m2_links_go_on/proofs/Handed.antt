@@ -1,38 +1,38 @@
 -- How many parcels a record has handed on: one more where a step hands one on, and else as many.
 use Rattle.std.proofs.Common.{◌≡◌, ℕ, ◌+◌, ◌∷◌, Option, Some, None, Result, Ok, Err, IfSome, IsSome, true≢false, refl, sym, ap, subst, ◌∙◌}
-use Rattle.m2_bytes.specs.declared.memory.NoMemory as memory
-use Rattle.m2_core.specs.declared.to_compose.CoreText.{CoreText}
-use Rattle.m2_core.specs.declared.to_compose.CoreText.TheVariants as text
-use Rattle.m2_core.specs.Granting.{Throttled}
-use Rattle.m2_core.specs.ToCompose.{to_compose}
+use Rattle.m2_fabric.specs.m2_bytes.declared.memory.NoMemory as memory
+use Rattle.m2_cluster.specs.m2_core.declared.to_compose.CoreText.{CoreText}
+use Rattle.m2_cluster.specs.m2_core.declared.to_compose.CoreText.TheVariants as text
+use Rattle.m2_cluster.specs.m2_core.Granting.{Throttled}
+use Rattle.m2_cluster.specs.m2_core.ToCompose.{to_compose}
 use Rattle.m2_dispatch.specs.declared.parcel.Parcel.{Parcel}
 use Rattle.m2_fabric.specs.declared.end.EndRead.{EndRead}
 use Rattle.m2_fabric.specs.declared.end.EndRead.TheVariants as read
-use Rattle.m2_feed.specs.declared.answers.FeedWrite.{FeedWrite}
-use Rattle.m2_feed.specs.declared.answers.FeedWrite.TheVariants as put
-use Rattle.m2_handshake.specs.declared.answer.HalfStep.{HalfStep}
-use Rattle.m2_handshake.specs.declared.answer.HalfStep.TheVariants as half
-use Rattle.m2_feed.specs.declared.wire_fault.WireFault.{WireFault}
-use Rattle.m2_feed.specs.declared.heard.Heard.{Heard}
-use Rattle.m2_feed.specs.declared.heard.Heard.TheVariants as heard
-use Rattle.m2_journal.specs.declared.facts.PlanStep.{PlanStep}
-use Rattle.m2_journal.specs.declared.facts.PlanStep.TheVariants as step
-use Rattle.m2_record.specs.declared.composing.Composed.{Composed}
-use Rattle.m2_record.specs.declared.composing.Composed.TheVariants as composed
-use Rattle.m2_record.specs.declared.due.Due.{Due}
-use Rattle.m2_record.specs.declared.due.Due.TheVariants as due
-use Rattle.m2_record.specs.declared.framing.Framed.{Framed}
-use Rattle.m2_record.specs.declared.framing.Framed.TheVariants as framed
-use Rattle.m2_record.specs.declared.stepped.Stepped.{Stepped}
-use Rattle.m2_record.specs.declared.stepped.Stepped.TheVariants as stepped
-use Rattle.m2_record.specs.Calls.{ClosesFor, ComposesAs, HandsOut, IsSameButRoom, Writes, fault_put}
-use Rattle.m2_record.specs.Due.{due_step, next_step}
-use Rattle.m2_record.specs.Framing.{Frames, Greets}
-use Rattle.m2_record.specs.Reading.{Reads, answer_by, answer_heard, answer_read, fault_read, faulted_or}
-use Rattle.m2_record.specs.RecordNow.{RecordNow}
-use Rattle.m2_record.specs.Stepping.{HandsAs, PlansAs, StepsAs, StepsBy, TakesDue, Worked, answer_composed, answer_framed, answer_planned, answer_put}
+use Rattle.m2_cluster.specs.m2_feed.declared.answers.FeedWrite.{FeedWrite}
+use Rattle.m2_cluster.specs.m2_feed.declared.answers.FeedWrite.TheVariants as put
+use Rattle.m2_weave.specs.m2_handshake.declared.answer.HalfStep.{HalfStep}
+use Rattle.m2_weave.specs.m2_handshake.declared.answer.HalfStep.TheVariants as half
+use Rattle.m2_cluster.specs.m2_feed.declared.wire_fault.WireFault.{WireFault}
+use Rattle.m2_cluster.specs.m2_feed.declared.heard.Heard.{Heard}
+use Rattle.m2_cluster.specs.m2_feed.declared.heard.Heard.TheVariants as heard
+use Rattle.m2_weave.specs.m2_journal.declared.facts.PlanStep.{PlanStep}
+use Rattle.m2_weave.specs.m2_journal.declared.facts.PlanStep.TheVariants as step
+use Rattle.m2_history.specs.m2_record.declared.composing.Composed.{Composed}
+use Rattle.m2_history.specs.m2_record.declared.composing.Composed.TheVariants as composed
+use Rattle.m2_history.specs.m2_record.declared.due.Due.{Due}
+use Rattle.m2_history.specs.m2_record.declared.due.Due.TheVariants as due
+use Rattle.m2_history.specs.m2_record.declared.framing.Framed.{Framed}
+use Rattle.m2_history.specs.m2_record.declared.framing.Framed.TheVariants as framed
+use Rattle.m2_history.specs.m2_record.declared.stepped.Stepped.{Stepped}
+use Rattle.m2_history.specs.m2_record.declared.stepped.Stepped.TheVariants as stepped
+use Rattle.m2_history.specs.m2_record.Calls.{ClosesFor, ComposesAs, HandsOut, IsSameButRoom, Writes, fault_put}
+use Rattle.m2_history.specs.m2_record.Due.{due_step, next_step}
+use Rattle.m2_history.specs.m2_record.Framing.{Frames, Greets}
+use Rattle.m2_history.specs.m2_record.Reading.{Reads, answer_by, answer_heard, answer_read, fault_read, faulted_or}
+use Rattle.m2_history.specs.m2_record.RecordNow.{RecordNow}
+use Rattle.m2_history.specs.m2_record.Stepping.{HandsAs, PlansAs, StepsAs, StepsBy, TakesDue, Worked, answer_composed, answer_framed, answer_planned, answer_put}
 use Rattle.m2_links_go_on.specs.Logged.{deliveries_of}
-use Rattle.m2_center.proofs.GoesOn.{to_be_composed}
+use Rattle.m2_cluster.proofs.m2_center.GoesOn.{to_be_composed}
 
 -- it has handed on as many
 abbrev pub HandsNone : RecordNow → RecordNow → Type 0

@@ -1,38 +1,38 @@
 -- Records that judge asks hand nothing on, and have their peers and their plans still, in the turns of all halves.
 use Rattle.std.proofs.Common.{◌≡◌, inl, inr, ℕ, zero, suc, Bool, true, false, List, [], ◌∷◌, map, Option, Some, None, IfSome, IsSome, refl, sym, ap, subst, ◌∙◌}
 use Rattle.std.specs.Prelude.{slice_get, slice_set}
-use Rattle.m2_addr.specs.declared.addr.Addr.{Addr}
-use Rattle.m2_core.specs.declared.verdict.Verdict.{Verdict}
-use Rattle.m2_core.specs.Judging.{verdict_on}
-use Rattle.m2_core.specs.TakingOver.{IsTakenFeed}
-use Rattle.m2_feed.specs.FeedNow.{FeedNow}
-use Rattle.m2_trail.specs.declared.turn.HalfTurn.{HalfTurn}
-use Rattle.m2_trail.specs.declared.turn.HalfTurn.TheVariants as turn
-use Rattle.m2_handshake.specs.declared.ask.Ask.{Ask}
-use Rattle.m2_handshake.specs.declared.ident.IdentCheck.{IdentCheck}
-use Rattle.m2_handshake.specs.declared.ident.IdentCheck.TheVariants.{Fine, Missing, Fault}
-use Rattle.m2_journal.specs.declared.facts.PlanStep.{PlanStep}
-use Rattle.m2_record.specs.declared.judging.Judged.{Judged}
-use Rattle.m2_record.specs.declared.judging.Judged.TheVariants as judged
-use Rattle.m2_record.specs.Judging.{JudgesAs, TakenHalf, TakesOver, after_taking_over, half_of}
-use Rattle.m2_record.specs.RecordNow.{RecordNow}
-use Rattle.m2_center.specs.declared.answering.HalfAnswered.{HalfAnswered}
-use Rattle.m2_center.specs.declared.answering.HalfAnswered.TheVariants as half
-use Rattle.m2_center.specs.declared.half_turn.HalfTurned.{HalfTurned}
-use Rattle.m2_center.specs.declared.half_turn.HalfTurned.TheVariants as turned
-use Rattle.m2_center.specs.declared.halves_turn.HalvesTurn.{HalvesTurn}
-use Rattle.m2_center.specs.declared.halves_turn.HalvesTurn.TheVariants as all_turned
-use Rattle.m2_center.specs.Answering.{AnswersBy, AnswersHalf, FindsSo, HearsHalf, OwesThen}
-use Rattle.m2_center.specs.HalfTurn.{AnswersFrom, ComesTo, HalfTurning, Homes, Replies, TurnsHalf, TurnsOnce, judging_in}
-use Rattle.m2_center.specs.HalvesTurn.{Callers, HalfTurns, HalvesTurning, OldestTurns, TurnHalves, TurnsHalves, all_wait}
-use Rattle.m2_center.specs.Judging.{Judges, Judging}
-use Rattle.m2_center.specs.RecordTurn.{Means}
-use Rattle.m2_center.specs.Sessions.{PendingNow}
-use Rattle.m2_trail.specs.Arrivals.{IsArrival}
-use Rattle.m2_trail.specs.Asks.{facts_of_ask}
-use Rattle.m2_trail.specs.Incoming.{IncomingNow}
+use Rattle.m2_fabric.specs.m2_addr.declared.addr.Addr.{Addr}
+use Rattle.m2_cluster.specs.m2_core.declared.verdict.Verdict.{Verdict}
+use Rattle.m2_cluster.specs.m2_core.Judging.{verdict_on}
+use Rattle.m2_cluster.specs.m2_core.TakingOver.{IsTakenFeed}
+use Rattle.m2_cluster.specs.m2_feed.FeedNow.{FeedNow}
+use Rattle.m2_history.specs.m2_trail.declared.turn.HalfTurn.{HalfTurn}
+use Rattle.m2_history.specs.m2_trail.declared.turn.HalfTurn.TheVariants as turn
+use Rattle.m2_weave.specs.m2_handshake.declared.ask.Ask.{Ask}
+use Rattle.m2_weave.specs.m2_handshake.declared.ident.IdentCheck.{IdentCheck}
+use Rattle.m2_weave.specs.m2_handshake.declared.ident.IdentCheck.TheVariants.{Fine, Missing, Fault}
+use Rattle.m2_weave.specs.m2_journal.declared.facts.PlanStep.{PlanStep}
+use Rattle.m2_history.specs.m2_record.declared.judging.Judged.{Judged}
+use Rattle.m2_history.specs.m2_record.declared.judging.Judged.TheVariants as judged
+use Rattle.m2_history.specs.m2_record.Judging.{JudgesAs, TakenHalf, TakesOver, after_taking_over, half_of}
+use Rattle.m2_history.specs.m2_record.RecordNow.{RecordNow}
+use Rattle.m2_cluster.specs.m2_center.declared.answering.HalfAnswered.{HalfAnswered}
+use Rattle.m2_cluster.specs.m2_center.declared.answering.HalfAnswered.TheVariants as half
+use Rattle.m2_cluster.specs.m2_center.declared.half_turn.HalfTurned.{HalfTurned}
+use Rattle.m2_cluster.specs.m2_center.declared.half_turn.HalfTurned.TheVariants as turned
+use Rattle.m2_cluster.specs.m2_center.declared.halves_turn.HalvesTurn.{HalvesTurn}
+use Rattle.m2_cluster.specs.m2_center.declared.halves_turn.HalvesTurn.TheVariants as all_turned
+use Rattle.m2_cluster.specs.m2_center.Answering.{AnswersBy, AnswersHalf, FindsSo, HearsHalf, OwesThen}
+use Rattle.m2_cluster.specs.m2_center.HalfTurn.{AnswersFrom, ComesTo, HalfTurning, Homes, Replies, TurnsHalf, TurnsOnce, judging_in}
+use Rattle.m2_cluster.specs.m2_center.HalvesTurn.{Callers, HalfTurns, HalvesTurning, OldestTurns, TurnHalves, TurnsHalves, all_wait}
+use Rattle.m2_cluster.specs.m2_center.Judging.{Judges, Judging}
+use Rattle.m2_cluster.specs.m2_center.RecordTurn.{Means}
+use Rattle.m2_cluster.specs.m2_center.Sessions.{PendingNow}
+use Rattle.m2_history.specs.m2_trail.Arrivals.{IsArrival}
+use Rattle.m2_history.specs.m2_trail.Asks.{facts_of_ask}
+use Rattle.m2_history.specs.m2_trail.Incoming.{IncomingNow}
 use Rattle.m2_links_go_on.proofs.Handed.{HandsNone}
-use Rattle.m2_lemmas.proofs.Booleans.{false_isnt_true}
+use Rattle.m2_fabric.proofs.m2_lemmas.Booleans.{false_isnt_true}
 
 -- ---- what asks leave alone
 

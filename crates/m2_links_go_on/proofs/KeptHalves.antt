@@ -6,17 +6,17 @@ use Rattle.m2_fabric.specs.declared.socket.SocketId.{SocketId}
 use Rattle.m2_fabric.specs.End.{SeenEnd}
 use Rattle.m2_history.specs.Link.{IsKeptHalf, IsOnSocket, IsWholeHalf}
 use Rattle.m2_history.specs.Woven.{as_judged, is_of_link}
-use Rattle.m2_journal.specs.declared.entry.Entry.{Entry}
-use Rattle.m2_record.specs.TakenTrails.{IsKeptTrail}
-use Rattle.m2_trail.specs.Arrivals.{LooseNow}
-use Rattle.m2_trail.specs.Trails as trail
-use Rattle.m2_trail.specs.Trails.{TrailNow, RisesWithin}
+use Rattle.m2_weave.specs.m2_journal.declared.entry.Entry.{Entry}
+use Rattle.m2_history.specs.m2_record.TakenTrails.{IsKeptTrail}
+use Rattle.m2_history.specs.m2_trail.Arrivals.{LooseNow}
+use Rattle.m2_history.specs.m2_trail.Trails as trail
+use Rattle.m2_history.specs.m2_trail.Trails.{TrailNow, RisesWithin}
 use Rattle.m2_links_go_on.specs.TurnLaws.{KeptAreHalves}
 use Rattle.m2_links_go_on.specs.Sides.{IsHalf, loose_halves}
 use Rattle.m2_history.proofs.Kept.{of-runs}
 use Rattle.m2_history.proofs.Linked.{of-close}
-use Rattle.m2_lemmas.proofs.Lists.{all_append}
-use Rattle.m2_trail.proofs.Judged.{least_first}
+use Rattle.m2_fabric.proofs.m2_lemmas.Lists.{all_append}
+use Rattle.m2_history.proofs.m2_trail.Judged.{least_first}
 
 -- ---- halves that were taken
 

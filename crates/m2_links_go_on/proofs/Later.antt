@@ -6,13 +6,13 @@ use Rattle.m2_fabric.specs.declared.socket.SocketId.{SocketId}
 use Rattle.m2_fabric.specs.End.{SeenEnd}
 use Rattle.m2_fabric.specs.Port.{SeenPort}
 use Rattle.m2_fabric.specs.Sockets.{is_among, same_socket}
-use Rattle.m2_record.specs.IsRecord.{IsRecord, became_feed, feeds_in}
-use Rattle.m2_record.specs.RecordNow.{RecordNow, ends_of, feed_end}
-use Rattle.m2_record.specs.Sources.{end_at, trail_at}
-use Rattle.m2_record.specs.TakenTrails.{taken_by, taken_in}
-use Rattle.m2_center.specs.Halves.{AllHalves}
-use Rattle.m2_center.proofs.Opened.{filtered}
-use Rattle.m2_trail.specs.Trails.{TrailNow}
+use Rattle.m2_history.specs.m2_record.IsRecord.{IsRecord, became_feed, feeds_in}
+use Rattle.m2_history.specs.m2_record.RecordNow.{RecordNow, ends_of, feed_end}
+use Rattle.m2_history.specs.m2_record.Sources.{end_at, trail_at}
+use Rattle.m2_history.specs.m2_record.TakenTrails.{taken_by, taken_in}
+use Rattle.m2_cluster.specs.m2_center.Halves.{AllHalves}
+use Rattle.m2_cluster.proofs.m2_center.Opened.{filtered}
+use Rattle.m2_history.specs.m2_trail.Trails.{TrailNow}
 use Rattle.m2_growth.specs.Ends.{AreOfTheirOwn, EndGrows, EndGrowsTo, EndsGrow}
 use Rattle.m2_growth.specs.Holding.{AreOwn, all_ends, waiting_at}
 use Rattle.m2_growth.specs.Records.{RecordGrows, ends_of_all}
@@ -20,9 +20,9 @@ use Rattle.m2_growth.proofs.Ends.{end_append, first_of, later_swapped, own_apart
 use Rattle.m2_growth.proofs.OneRecord.{all_around, ends_behind, held_around, holding}
 use Rattle.m2_growth.proofs.Owned.{own_all}
 use Rattle.m2_links_go_on.proofs.Speaking.{GoesFurther, IsEndOf, IsStillAt, feed_has_end, taken_feed}
-use Rattle.m2_lemmas.proofs.Lists.{all_back, same_behind}
-use Rattle.m2_record.proofs.TrailsAt.{no_trail}
-use Rattle.m2_lemmas.proofs.Booleans.{not_true_is_false, false_isnt_true}
+use Rattle.m2_fabric.proofs.m2_lemmas.Lists.{all_back, same_behind}
+use Rattle.m2_history.proofs.m2_record.TrailsAt.{no_trail}
+use Rattle.m2_fabric.proofs.m2_lemmas.Booleans.{not_true_is_false, false_isnt_true}
 use Rattle.m2_history.proofs.Kept.{end-among, turned}
 use Rattle.m2_fabric.proofs.Sockets.{same_equal, among_front}
 

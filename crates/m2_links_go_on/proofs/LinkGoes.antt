@@ -7,9 +7,9 @@ use Rattle.m2_growth.specs.Halves.{IsOneOf}
 use Rattle.m2_growth.proofs.Among.{each_by, mapped_one, of_each, one_back, one_front}
 use Rattle.m2_history.specs.Parts.{PartsNow}
 use Rattle.m2_history.specs.Woven.{BothNow, EndNow, as_judged, end_of, ends_of, half_end, is_of_link, judged_times, loose_ends}
-use Rattle.m2_journal.specs.declared.entry.Entry.{Entry}
-use Rattle.m2_trail.specs.Arrivals.{LooseNow}
-use Rattle.m2_trail.specs.Trails.{TrailNow}
+use Rattle.m2_weave.specs.m2_journal.declared.entry.Entry.{Entry}
+use Rattle.m2_history.specs.m2_trail.Arrivals.{LooseNow}
+use Rattle.m2_history.specs.m2_trail.Trails.{TrailNow}
 use Rattle.m2_links_go_on.specs.Records.{RecordsGoOn}
 use Rattle.m2_links_go_on.specs.Sides.{HasGoneOn, half_on, halves_of, loose_halves}
 use Rattle.m2_links_go_on.proofs.Records.{own_half}
@@ -18,8 +18,8 @@ use Rattle.m2_links_go_on.proofs.Ends.{bytes_go_on}
 use Rattle.m2_links_go_on.proofs.Going.{HasLater, IsKnown, LaterEnd, StandsOn, cut, end_goes, half_end_goes, half_goes, none_times, times, times_of}
 use Rattle.m2_links_go_on.proofs.Standing as one
 use Rattle.m2_links_go_on.proofs.Standing.{AreOpposed, StandsAt, ends_both, loose_both, opposed_too}
-use Rattle.m2_lemmas.proofs.Booleans.{one_of_or, either_turned, false_isnt_true}
-use Rattle.m2_lemmas.proofs.Lists.{all_append, all_map}
+use Rattle.m2_fabric.proofs.m2_lemmas.Booleans.{one_of_or, either_turned, false_isnt_true}
+use Rattle.m2_fabric.proofs.m2_lemmas.Lists.{all_append, all_map}
 
 -- ---- the halves of the link
 

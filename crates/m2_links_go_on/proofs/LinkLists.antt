@@ -2,7 +2,7 @@
 use Rattle.std.proofs.Common.{◌≡◌, ℕ, zero, suc, ◌≤◌, ◌⊎◌, inl, inr, Bool, false, List, [], ◌∷◌, ◌++◌, length, take, refl, ap, arith}
 use Rattle.std.specs.List.{AllByRecursion, IsDistinct}
 use Rattle.m2_history.proofs.Halfway.{apart_from, distinct_join}
-use Rattle.m2_lemmas.proofs.Lists.{all_take, all_append, all_so}
+use Rattle.m2_fabric.proofs.m2_lemmas.Lists.{all_take, all_append, all_so}
 
 -- ---- no two the same
 

@@ -13,19 +13,19 @@ use Rattle.m2_growth.specs.Records.{RecordGrows, RecordsGrow, ends_of_all}
 use Rattle.m2_growth.proofs.Among.{of_each}
 use Rattle.m2_growth.proofs.Ends.{end_append, first_of, own_apart, own_first, own_last}
 use Rattle.m2_history.specs.Woven.{knows}
-use Rattle.m2_journal.specs.declared.entry.Entry.{Entry}
-use Rattle.m2_journal.specs.declared.entry.Entry.TheVariants as entry
-use Rattle.m2_journal.specs.Lawful.{judged_on}
-use Rattle.m2_journal.specs.State.{Judgement}
-use Rattle.m2_record.specs.IsRecord.{IsRecord, became_feed, feeds_in}
-use Rattle.m2_record.specs.RecordNow.{RecordNow, ends_of, feed_end, ids_of}
-use Rattle.m2_record.specs.Sources.{end_at}
-use Rattle.m2_record.specs.TakenTrails.{judgement_of, judgements_in, taken_in}
-use Rattle.m2_session.specs.SessionLaws.{takes}
+use Rattle.m2_weave.specs.m2_journal.declared.entry.Entry.{Entry}
+use Rattle.m2_weave.specs.m2_journal.declared.entry.Entry.TheVariants as entry
+use Rattle.m2_weave.specs.m2_journal.Lawful.{judged_on}
+use Rattle.m2_weave.specs.m2_journal.State.{Judgement}
+use Rattle.m2_history.specs.m2_record.IsRecord.{IsRecord, became_feed, feeds_in}
+use Rattle.m2_history.specs.m2_record.RecordNow.{RecordNow, ends_of, feed_end, ids_of}
+use Rattle.m2_history.specs.m2_record.Sources.{end_at}
+use Rattle.m2_history.specs.m2_record.TakenTrails.{judgement_of, judgements_in, taken_in}
+use Rattle.m2_weave.specs.m2_session.SessionLaws.{takes}
 use Rattle.m2_weave.specs.Later.{GoesOn}
 use Rattle.m2_weave.specs.Strands.{has_opened, journal_of}
 use Rattle.m2_links_go_on.proofs.Standing.{judged_sockets}
-use Rattle.m2_lemmas.proofs.Booleans.{or_left, false_isnt_true}
+use Rattle.m2_fabric.proofs.m2_lemmas.Booleans.{or_left, false_isnt_true}
 
 -- ---- its ends are those of the sockets that became the feed
 

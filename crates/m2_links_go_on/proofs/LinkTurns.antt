@@ -10,13 +10,13 @@ use Rattle.m2_growth.specs.Records.{RecordGrows}
 use Rattle.m2_growth.proofs.Among.{among_mapped, of_each}
 use Rattle.m2_history.proofs.Kept.{records_are_kept}
 use Rattle.m2_history.specs.Link.{IsKeptHalf, IsWholeHalf, end_ids, parts_of}
-use Rattle.m2_journal.specs.Lawful.{judged_on}
-use Rattle.m2_record.specs.IsRecord.{IsRecord}
-use Rattle.m2_record.specs.RecordNow.{RecordNow, ends_of, ids_of}
-use Rattle.m2_record.specs.Sources.{end_at}
-use Rattle.m2_record.specs.TakenTrails.{judgements_in}
-use Rattle.m2_trail.specs.Arrivals.{LooseNow}
-use Rattle.m2_trail.specs.Trails.{TrailNow}
+use Rattle.m2_weave.specs.m2_journal.Lawful.{judged_on}
+use Rattle.m2_history.specs.m2_record.IsRecord.{IsRecord}
+use Rattle.m2_history.specs.m2_record.RecordNow.{RecordNow, ends_of, ids_of}
+use Rattle.m2_history.specs.m2_record.Sources.{end_at}
+use Rattle.m2_history.specs.m2_record.TakenTrails.{judgements_in}
+use Rattle.m2_history.specs.m2_trail.Arrivals.{LooseNow}
+use Rattle.m2_history.specs.m2_trail.Trails.{TrailNow}
 use Rattle.m2_weave.specs.Strands.{has_opened, journal_of}
 use Rattle.m2_links_go_on.specs.Linked.{HasNoOther, NodeGoesOn, NodeNow, left_at}
 use Rattle.m2_links_go_on.proofs.Callers.{IsCalled, IsJudgedBy, judged_by_one}

@@ -1,12 +1,12 @@
 -- Where two nodes go on, their link does.
 use Rattle.std.proofs.Common.{◌≡◌, refl, sym, ap, ◌∙◌}
-use Rattle.m2_addr.specs.declared.addr.Addr.{Addr}
+use Rattle.m2_fabric.specs.m2_addr.declared.addr.Addr.{Addr}
 use Rattle.m2_fabric.specs.declared.socket.SocketId.{SocketId}
 use Rattle.m2_fabric.specs.Sockets.{goes_to}
 use Rattle.m2_growth.specs.Holding.{LeadsElsewhere}
 use Rattle.m2_growth.proofs.Among.{of_each}
 use Rattle.m2_history.specs.Link.{parts_of}
-use Rattle.m2_journal.specs.SideFacts.{SideFacts}
+use Rattle.m2_weave.specs.m2_journal.SideFacts.{SideFacts}
 use Rattle.m2_links_go_on.specs.LinkLaws.{LinksGoOn}
 use Rattle.m2_links_go_on.specs.Linked.{NodeGoesOn, NodeNow, Nodes, NodesGoOn, left_at}
 use Rattle.m2_links_go_on.proofs.Both.{are_kept, are_told}
@@ -15,7 +15,7 @@ use Rattle.m2_links_go_on.proofs.LinkGoes.{go_on}
 use Rattle.m2_links_go_on.proofs.Nodes.{stands}
 use Rattle.m2_links_go_on.proofs.Standing.{AreOpposed, StandsAt, opposed_too}
 use Rattle.m2_links_go_on.proofs.LinkTurns as turns
-use Rattle.m2_lemmas.proofs.Booleans.{false_isnt_true}
+use Rattle.m2_fabric.proofs.m2_lemmas.Booleans.{false_isnt_true}
 
 -- a node before and behind, where sockets to it come here and its record dials away
 module _ (old new : NodeNow) (on : NodeGoesOn old new) (away : Addr) (peer : (k : SocketId) → goes_to old.side.core.facts.peer k ≡ goes_to away k) where

@@ -5,17 +5,17 @@ use Rattle.m2_dispatch.specs.Heard.{Heard}
 use Rattle.m2_dispatch.specs.Laws.{Call}
 use Rattle.m2_fabric.specs.declared.socket.SocketId.{SocketId}
 use Rattle.m2_fabric.specs.End.{SeenEnd}
-use Rattle.m2_record.specs.declared.stepped.Stepped.{Stepped}
-use Rattle.m2_record.specs.declared.stepped.Stepped.TheVariants as stepped
-use Rattle.m2_record.specs.IsRecord.{IsFrom, IsRecord}
-use Rattle.m2_record.specs.RecordNow.{RecordNow, ends_of}
-use Rattle.m2_record.specs.Sources.{end_at, trail_at}
-use Rattle.m2_center.specs.declared.record_turn.RecordTurn.{RecordTurn}
-use Rattle.m2_center.specs.declared.record_turn.RecordTurn.TheVariants as one
-use Rattle.m2_center.specs.Outbox.{is_free}
-use Rattle.m2_center.specs.RecordTurn.{EndsBy, Means, PutsHanded, Steps, TakesStep, Turning, TurnsAs, worked_by}
-use Rattle.m2_center.specs.Steps as journal
-use Rattle.m2_center.proofs.GoesOn as journals
+use Rattle.m2_history.specs.m2_record.declared.stepped.Stepped.{Stepped}
+use Rattle.m2_history.specs.m2_record.declared.stepped.Stepped.TheVariants as stepped
+use Rattle.m2_history.specs.m2_record.IsRecord.{IsFrom, IsRecord}
+use Rattle.m2_history.specs.m2_record.RecordNow.{RecordNow, ends_of}
+use Rattle.m2_history.specs.m2_record.Sources.{end_at, trail_at}
+use Rattle.m2_cluster.specs.m2_center.declared.record_turn.RecordTurn.{RecordTurn}
+use Rattle.m2_cluster.specs.m2_center.declared.record_turn.RecordTurn.TheVariants as one
+use Rattle.m2_cluster.specs.m2_center.Outbox.{is_free}
+use Rattle.m2_cluster.specs.m2_center.RecordTurn.{EndsBy, Means, PutsHanded, Steps, TakesStep, Turning, TurnsAs, worked_by}
+use Rattle.m2_cluster.specs.m2_center.Steps as journal
+use Rattle.m2_cluster.proofs.m2_center.GoesOn as journals
 use Rattle.m2_growth.specs.Ends.{AreOfTheirOwn, EndGrowsTo, EndsGrow}
 use Rattle.m2_growth.proofs.Ends.{on_by}
 use Rattle.m2_growth.proofs.Standing.{MovesOn}
@@ -24,7 +24,7 @@ use Rattle.m2_links_go_on.specs.Logged.{fast_calls}
 use Rattle.m2_links_go_on.proofs.Handed.{StepHands, first_delivers, steps}
 use Rattle.m2_links_go_on.proofs.Puts.{StaysLogged, free_holds_none, puts, stays_chain, stays_handed, stays_still}
 use Rattle.m2_links_go_on.proofs.Speaking.{GoesFurther, IsStillAt, handed_next, handed_still}
-use Rattle.m2_lemmas.proofs.Booleans.{false_isnt_true}
+use Rattle.m2_fabric.proofs.m2_lemmas.Booleans.{false_isnt_true}
 
 -- ---- where no half is taken
 

@@ -9,11 +9,11 @@ use Rattle.m2_dispatch.specs.declared.parcel.Parcel.{Parcel}
 use Rattle.m2_dispatch.specs.Laws.{Call, History, Put, Turn, after_call, after_calls, history_of, start}
 use Rattle.m2_dispatch.specs.Letters.{heard_in}
 use Rattle.m2_dispatch.specs.Parcel.{heard_at_put}
-use Rattle.m2_record.specs.RecordNow.{RecordNow, delivery_of}
-use Rattle.m2_shared.specs.Place.{Place}
-use Rattle.m2_center.specs.declared.mailing.Mailed.TheVariants as mailed
-use Rattle.m2_center.specs.Mailing.{DispatchesSome, LacksMemory, Mailing, MailsSome, PutsSome, Queueing, after_puts, heard_at_puts}
-use Rattle.m2_center.specs.Outbox.{OutboxNow}
+use Rattle.m2_history.specs.m2_record.RecordNow.{RecordNow, delivery_of}
+use Rattle.m2_dispatch.specs.m2_shared.Place.{Place}
+use Rattle.m2_cluster.specs.m2_center.declared.mailing.Mailed.TheVariants as mailed
+use Rattle.m2_cluster.specs.m2_center.Mailing.{DispatchesSome, LacksMemory, Mailing, MailsSome, PutsSome, Queueing, after_puts, heard_at_puts}
+use Rattle.m2_cluster.specs.m2_center.Outbox.{OutboxNow}
 use Rattle.m2_links_go_on.specs.LogLaws.{MailStaysLogged}
 use Rattle.m2_links_go_on.specs.Logged.{IsLogged, IsLoggedOf, all_put, fast_calls, logging}
 use Rattle.m2_links_go_on.proofs.Puts.{parcels-append}

@@ -5,11 +5,11 @@ use Rattle.m2_fabric.specs.declared.log.Run.TheVariants as run
 use Rattle.m2_fabric.specs.declared.socket.SocketId.{SocketId}
 use Rattle.m2_fabric.specs.Sockets.{is_among, same_socket}
 use Rattle.m2_history.specs.HalfStrands.{strand_of}
-use Rattle.m2_journal.specs.declared.entry.Entry.{Entry}
-use Rattle.m2_journal.specs.declared.entry.Entry.TheVariants as entry
-use Rattle.m2_journal.specs.Items.{runs_on}
-use Rattle.m2_trail.specs.Trails as trail
-use Rattle.m2_trail.specs.Trails.{TrailNow}
+use Rattle.m2_weave.specs.m2_journal.declared.entry.Entry.{Entry}
+use Rattle.m2_weave.specs.m2_journal.declared.entry.Entry.TheVariants as entry
+use Rattle.m2_weave.specs.m2_journal.Items.{runs_on}
+use Rattle.m2_history.specs.m2_trail.Trails as trail
+use Rattle.m2_history.specs.m2_trail.Trails.{TrailNow}
 use Rattle.m2_links_go_on.specs.Sides.{IsHalf, done_on, entries_in, half_on}
 use Rattle.m2_links_go_on.proofs.HalfReads.{items_count}
 use Rattle.m2_links_go_on.proofs.Halves.{never_opens}

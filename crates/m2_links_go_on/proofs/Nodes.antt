@@ -12,17 +12,17 @@ use Rattle.m2_growth.proofs.Among.{each_by, mapped_one, of_each}
 use Rattle.m2_growth.proofs.Ends.{all_none, end_append, first_of, own_apart, own_first, own_last}
 use Rattle.m2_history.proofs.Kept.{records_are_kept}
 use Rattle.m2_history.specs.Link.{parts_of}
-use Rattle.m2_journal.specs.Items.{at_start}
-use Rattle.m2_journal.specs.Lawful.{judged_on}
-use Rattle.m2_journal.specs.State.{start}
-use Rattle.m2_record.specs.IsRecord.{IsRecord}
-use Rattle.m2_record.specs.RecordNow.{RecordNow, ends_of, ids_of}
-use Rattle.m2_record.specs.Sources.{end_at}
-use Rattle.m2_record.specs.TakenTrails.{judgements_in}
-use Rattle.m2_center.specs.Halves.{AllHalves}
-use Rattle.m2_center.specs.Hearing.{ends_in}
-use Rattle.m2_center.specs.Sessions.{IsTold, PendingNow}
-use Rattle.m2_trail.specs.Arrivals.{LooseNow, left_of}
+use Rattle.m2_weave.specs.m2_journal.Items.{at_start}
+use Rattle.m2_weave.specs.m2_journal.Lawful.{judged_on}
+use Rattle.m2_weave.specs.m2_journal.State.{start}
+use Rattle.m2_history.specs.m2_record.IsRecord.{IsRecord}
+use Rattle.m2_history.specs.m2_record.RecordNow.{RecordNow, ends_of, ids_of}
+use Rattle.m2_history.specs.m2_record.Sources.{end_at}
+use Rattle.m2_history.specs.m2_record.TakenTrails.{judgements_in}
+use Rattle.m2_cluster.specs.m2_center.Halves.{AllHalves}
+use Rattle.m2_cluster.specs.m2_center.Hearing.{ends_in}
+use Rattle.m2_cluster.specs.m2_center.Sessions.{IsTold, PendingNow}
+use Rattle.m2_history.specs.m2_trail.Arrivals.{LooseNow, left_of}
 use Rattle.m2_links_go_on.proofs.Telling.{records_tell_all}
 use Rattle.m2_history.specs.WovenLink.{sources_in}
 use Rattle.m2_history.proofs.Halfway.{apart_from}
@@ -32,8 +32,8 @@ use Rattle.m2_links_go_on.specs.Linked.{IsNode}
 use Rattle.m2_links_go_on.proofs.Callers.{IsCalled, are_called, told_all}
 use Rattle.m2_links_go_on.proofs.LinkRecords.{ends_feeds, feed_kind, none_some, one_at, one_own}
 use Rattle.m2_links_go_on.proofs.Standing.{StandsAt, ids_left, judged_sockets}
-use Rattle.m2_lemmas.proofs.Lists.{all_map}
-use Rattle.m2_lemmas.proofs.Booleans.{false_isnt_true}
+use Rattle.m2_fabric.proofs.m2_lemmas.Lists.{all_map}
+use Rattle.m2_fabric.proofs.m2_lemmas.Booleans.{false_isnt_true}
 use Rattle.m2_growth.proofs.Asked.{end_own}
 
 -- ---- the ends of halves

@@ -4,9 +4,9 @@ use Rattle.std.specs.Prelude.{IfSome, IsSome, unwrap_or}
 use Rattle.std.specs.List.{AllByRecursion}
 use Rattle.m2_fabric.specs.declared.socket.SocketId.{SocketId}
 use Rattle.m2_fabric.specs.End.{Inflow, SeenEnd}
-use Rattle.m2_record.specs.Sources.{end_at}
-use Rattle.m2_center.specs.Center.{CenterNow}
-use Rattle.m2_center.specs.Reaching.{ends_in, ends_or_none}
+use Rattle.m2_history.specs.m2_record.Sources.{end_at}
+use Rattle.m2_cluster.specs.m2_center.Center.{CenterNow}
+use Rattle.m2_cluster.specs.m2_center.Reaching.{ends_in, ends_or_none}
 use Rattle.m2_cluster.specs.Cluster.{ClusterNow, OneDoes, end_of, held_by}
 use Rattle.m2_cluster.specs.Node.{NodeNow, end_in}
 use Rattle.m2_growth.specs.Ends.{EndGrowsTo, come_to}
@@ -14,8 +14,8 @@ use Rattle.m2_growth.specs.Holding.{AreOwn, Grows, HaveTheirHalves, all_ends}
 use Rattle.m2_growth.proofs.Ends.{to_same}
 use Rattle.m2_links_go_on.specs.Center.{holding_of}
 use Rattle.m2_links_go_on.specs.Cluster.{GrowsInMemory}
-use Rattle.m2_lemmas.proofs.Options.{none_isnt_some, mapped_is_some}
-use Rattle.m2_lemmas.proofs.Lists.{set_keeps_length}
+use Rattle.m2_fabric.proofs.m2_lemmas.Options.{none_isnt_some, mapped_is_some}
+use Rattle.m2_fabric.proofs.m2_lemmas.Lists.{set_keeps_length}
 
 -- ---- one of a list is set
 

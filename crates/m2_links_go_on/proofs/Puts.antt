@@ -12,17 +12,17 @@ use Rattle.m2_dispatch.specs.declared.parcel.Parcel.{Parcel}
 use Rattle.m2_dispatch.specs.declared.parcel.Parcel.TheVariants as parcel
 use Rattle.m2_dispatch.specs.Laws.{Call, Put, Turn}
 use Rattle.m2_dispatch.specs.Letters.{heard_in}
-use Rattle.m2_message.specs.Message.{content_of}
-use Rattle.m2_policy.specs.declared.path.Path.{Path}
-use Rattle.m2_policy.specs.declared.path.Path.TheVariants.{Fast, Queued}
-use Rattle.m2_journal.specs.State as state
-use Rattle.m2_journal.specs.State.{Delivery}
+use Rattle.m2_dispatch.specs.m2_message.Message.{content_of}
+use Rattle.m2_dispatch.specs.m2_policy.declared.path.Path.{Path}
+use Rattle.m2_dispatch.specs.m2_policy.declared.path.Path.TheVariants.{Fast, Queued}
+use Rattle.m2_weave.specs.m2_journal.State as state
+use Rattle.m2_weave.specs.m2_journal.State.{Delivery}
 use Rattle.m2_channel.specs.Handing.{calls_of, heard_at_once, parcels_of, peer_of, queued_of}
-use Rattle.m2_record.specs.IsRecord.{IsFrom}
-use Rattle.m2_record.specs.RecordNow.{RecordNow, delivery_of}
-use Rattle.m2_center.specs.Outbox.{Dispatches, DispatchesOr, OutboxNow, Puts, PutsLetter, Retries, RetriesFor, is_free}
+use Rattle.m2_history.specs.m2_record.IsRecord.{IsFrom}
+use Rattle.m2_history.specs.m2_record.RecordNow.{RecordNow, delivery_of}
+use Rattle.m2_cluster.specs.m2_center.Outbox.{Dispatches, DispatchesOr, OutboxNow, Puts, PutsLetter, Retries, RetriesFor, is_free}
 use Rattle.m2_links_go_on.specs.Logged.{IsLoggedOf, all_put, fast_calls, handed_of, heard_held}
-use Rattle.m2_lemmas.proofs.Booleans.{both_of_and, false_isnt_true}
+use Rattle.m2_fabric.proofs.m2_lemmas.Booleans.{both_of_and, false_isnt_true}
 
 -- ---- lists
 

@@ -1,9 +1,9 @@
 -- The turns of all records, one after another: of the peer of each the dispatchers have what that record hands on still.
 use Rattle.std.proofs.Common.{◌≡◌, inl, inr, ℕ, ◌==◌, Bool, true, false, List, [], ◌∷◌, ◌++◌, map, Option, Some, None, Result, Ok, Err, IfSome, IsSome, refl, sym, ap, subst, ◌∙◌, append-nil, append_assoc}
 use Rattle.std.specs.List.{AllByRecursion, IsDistinct}
-use Rattle.m2_bytes.specs.declared.memory.NoMemory as memory
+use Rattle.m2_fabric.specs.m2_bytes.declared.memory.NoMemory as memory
 use Rattle.m2_channel.specs.Handing.{calls_of, parcels_of}
-use Rattle.m2_core.specs.Calls.{IsOpening}
+use Rattle.m2_cluster.specs.m2_core.Calls.{IsOpening}
 use Rattle.m2_dispatch.specs.Heard.{Heard}
 use Rattle.m2_dispatch.specs.Dispatch.{Queued}
 use Rattle.m2_dispatch.specs.Laws.{Call}
@@ -11,20 +11,20 @@ use Rattle.m2_fabric.specs.declared.port.Connect.{Connect}
 use Rattle.m2_fabric.specs.declared.port.Connect.TheVariants as connect
 use Rattle.m2_fabric.specs.End.{SeenEnd}
 use Rattle.m2_fabric.specs.Port.{SeenPort}
-use Rattle.m2_feed.specs.FeedNow.{FeedNow}
-use Rattle.m2_record.specs.declared.due.Due.{Due}
-use Rattle.m2_record.specs.declared.due.Due.TheVariants as due
-use Rattle.m2_record.specs.Calls.{IsSameButRoom, with_opened}
-use Rattle.m2_record.specs.Due.{due_step}
-use Rattle.m2_record.specs.IsRecord.{IsRecord}
-use Rattle.m2_record.specs.RecordNow.{RecordNow}
-use Rattle.m2_center.specs.declared.records_turn.RecordsTurn.{RecordsTurn}
-use Rattle.m2_center.specs.declared.records_turn.RecordsTurn.TheVariants as turn
-use Rattle.m2_center.specs.Connecting.{AtPort, DialsFor, Takes, answer_of}
-use Rattle.m2_center.specs.Halves.{AllHalves}
-use Rattle.m2_center.specs.Outbox.{OutboxNow, is_free}
-use Rattle.m2_center.specs.RecordTurn.{Means}
-use Rattle.m2_center.specs.RecordsTurn.{AllAmid, Amid, Around, DialsAndSteps, EachTurns, TurnsEach, TurnsIf, TurnsInOrder, TurnsOne, all_amid, amid, at_port, sides_of, turning_amid}
+use Rattle.m2_cluster.specs.m2_feed.FeedNow.{FeedNow}
+use Rattle.m2_history.specs.m2_record.declared.due.Due.{Due}
+use Rattle.m2_history.specs.m2_record.declared.due.Due.TheVariants as due
+use Rattle.m2_history.specs.m2_record.Calls.{IsSameButRoom, with_opened}
+use Rattle.m2_history.specs.m2_record.Due.{due_step}
+use Rattle.m2_history.specs.m2_record.IsRecord.{IsRecord}
+use Rattle.m2_history.specs.m2_record.RecordNow.{RecordNow}
+use Rattle.m2_cluster.specs.m2_center.declared.records_turn.RecordsTurn.{RecordsTurn}
+use Rattle.m2_cluster.specs.m2_center.declared.records_turn.RecordsTurn.TheVariants as turn
+use Rattle.m2_cluster.specs.m2_center.Connecting.{AtPort, DialsFor, Takes, answer_of}
+use Rattle.m2_cluster.specs.m2_center.Halves.{AllHalves}
+use Rattle.m2_cluster.specs.m2_center.Outbox.{OutboxNow, is_free}
+use Rattle.m2_cluster.specs.m2_center.RecordTurn.{Means}
+use Rattle.m2_cluster.specs.m2_center.RecordsTurn.{AllAmid, Amid, Around, DialsAndSteps, EachTurns, TurnsEach, TurnsIf, TurnsInOrder, TurnsOne, all_amid, amid, at_port, sides_of, turning_amid}
 use Rattle.m2_growth.specs.Holding.{Grows, Holding}
 use Rattle.m2_growth.specs.GrowthLaws.{at_records}
 use Rattle.m2_growth.specs.Records.{RecordGrows, RecordsGrow}
@@ -39,8 +39,8 @@ use Rattle.m2_links_go_on.proofs.Lagging.{Follows, Lags, all_follow, all_followe
 use Rattle.m2_links_go_on.proofs.Later.{its_own}
 use Rattle.m2_links_go_on.proofs.Puts.{HaveTheSame, retries}
 use Rattle.m2_links_go_on.proofs.LogTurns.{begins, turns}
-use Rattle.m2_lemmas.proofs.Numbers.{unlike_turned}
-use Rattle.m2_lemmas.proofs.Booleans.{false_isnt_true}
+use Rattle.m2_fabric.proofs.m2_lemmas.Numbers.{unlike_turned}
+use Rattle.m2_fabric.proofs.m2_lemmas.Booleans.{false_isnt_true}
 
 -- ---- one record among others
 

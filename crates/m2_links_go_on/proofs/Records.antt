@@ -9,11 +9,11 @@ use Rattle.m2_fabric.specs.declared.socket.SocketId.{SocketId}
 use Rattle.m2_fabric.specs.Sockets.{is_among, same_socket}
 use Rattle.m2_history.specs.Parts.{PartsNow}
 use Rattle.m2_history.specs.Woven.{BothNow}
-use Rattle.m2_journal.specs.Items.{at_start, items_from}
-use Rattle.m2_journal.specs.Laws.{taken_among}
-use Rattle.m2_journal.specs.State.{start}
-use Rattle.m2_record.specs.TakenTrails.{taken_by, taken_in}
-use Rattle.m2_trail.specs.Trails.{TrailNow}
+use Rattle.m2_weave.specs.m2_journal.Items.{at_start, items_from}
+use Rattle.m2_weave.specs.m2_journal.Laws.{taken_among}
+use Rattle.m2_weave.specs.m2_journal.State.{start}
+use Rattle.m2_history.specs.m2_record.TakenTrails.{taken_by, taken_in}
+use Rattle.m2_history.specs.m2_trail.Trails.{TrailNow}
 use Rattle.m2_links_go_on.specs.TurnLaws.{RecordsAreSidesThatGoOn}
 use Rattle.m2_links_go_on.specs.Records.{IsSide, PartsGoOn, RecordsGoOn}
 use Rattle.m2_links_go_on.specs.Sides.{HalfGoesOn, HasGoneOn, JournalGoesOn, SidesGoOn, done_on, entries_in, half_on, halves_of, loose_halves}
@@ -24,8 +24,8 @@ use Rattle.m2_history.specs.WovenLink.{sources_in}
 use Rattle.m2_history.proofs.Journals.{IsQuietOn, judged_are, opened_are, opened_unjudged, taken_are, unknown_quiet}
 use Rattle.m2_history.proofs.Moved.{unjudged_untaken, quiet_reads, quiet_writes}
 use Rattle.m2_history.proofs.Names.{items_add}
-use Rattle.m2_lemmas.proofs.Booleans.{or_left}
-use Rattle.m2_lemmas.proofs.Lists.{all_append, all_front, all_back}
+use Rattle.m2_fabric.proofs.m2_lemmas.Booleans.{or_left}
+use Rattle.m2_fabric.proofs.m2_lemmas.Lists.{all_append, all_front, all_back}
 use Rattle.m2_fabric.proofs.Sockets.{apart_turned, same_equal, same_refl}
 
 pub clash : {X : Type 0} (b : Bool) → b ≡ true → b ≡ false → X

@@ -7,19 +7,19 @@ use Rattle.m2_dispatch.specs.Laws.{Call}
 use Rattle.m2_fabric.specs.declared.socket.SocketId.{SocketId}
 use Rattle.m2_fabric.specs.End.{SeenEnd}
 use Rattle.m2_fabric.specs.Sockets.{same_socket}
-use Rattle.m2_feed.specs.FeedNow.{FeedNow}
-use Rattle.m2_journal.specs.declared.entry.Entry.{Entry}
-use Rattle.m2_journal.specs.declared.entry.Entry.TheVariants as entry
-use Rattle.m2_journal.specs.Items as item
-use Rattle.m2_journal.specs.Items.{Places, Sources, at_start, item_of, items_from, passed, where_taken}
-use Rattle.m2_journal.specs.Replay.{after_items}
-use Rattle.m2_journal.specs.State.{start}
-use Rattle.m2_record.specs.RecordNow.{RecordNow, ends_of, feed_end, speaks_of}
-use Rattle.m2_record.specs.Sources as source
-use Rattle.m2_record.specs.Sources.{broken_of, end_at, log_of, read_before, trail_at, written_before}
-use Rattle.m2_center.specs.Outbox.{OutboxNow}
-use Rattle.m2_center.specs.Center.{CenterNow}
-use Rattle.m2_center.specs.Reaching.{untold, untold_feed, untold_record}
+use Rattle.m2_cluster.specs.m2_feed.FeedNow.{FeedNow}
+use Rattle.m2_weave.specs.m2_journal.declared.entry.Entry.{Entry}
+use Rattle.m2_weave.specs.m2_journal.declared.entry.Entry.TheVariants as entry
+use Rattle.m2_weave.specs.m2_journal.Items as item
+use Rattle.m2_weave.specs.m2_journal.Items.{Places, Sources, at_start, item_of, items_from, passed, where_taken}
+use Rattle.m2_weave.specs.m2_journal.Replay.{after_items}
+use Rattle.m2_weave.specs.m2_journal.State.{start}
+use Rattle.m2_history.specs.m2_record.RecordNow.{RecordNow, ends_of, feed_end, speaks_of}
+use Rattle.m2_history.specs.m2_record.Sources as source
+use Rattle.m2_history.specs.m2_record.Sources.{broken_of, end_at, log_of, read_before, trail_at, written_before}
+use Rattle.m2_cluster.specs.m2_center.Outbox.{OutboxNow}
+use Rattle.m2_cluster.specs.m2_center.Center.{CenterNow}
+use Rattle.m2_cluster.specs.m2_center.Reaching.{untold, untold_feed, untold_record}
 use Rattle.m2_links_go_on.specs.LogLaws.{RestStaysLogged}
 use Rattle.m2_links_go_on.specs.Logged.{IsCalled, IsLoggedOf, fast_calls, handed_of}
 use Rattle.m2_links_go_on.proofs.Lagging.{place_of}

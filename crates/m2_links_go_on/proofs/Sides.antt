@@ -7,8 +7,8 @@ use Rattle.m2_fabric.specs.Sockets.{same_socket}
 use Rattle.m2_history.specs.HalfStrands.{strand_of}
 use Rattle.m2_history.specs.Link.{StrandsAreTidy}
 use Rattle.m2_history.specs.Woven.{BothNow, strands_of}
-use Rattle.m2_journal.specs.declared.entry.Entry.{Entry}
-use Rattle.m2_trail.specs.Trails.{TrailNow}
+use Rattle.m2_weave.specs.m2_journal.declared.entry.Entry.{Entry}
+use Rattle.m2_history.specs.m2_trail.Trails.{TrailNow}
 use Rattle.m2_links_go_on.specs.TurnLaws.{SidesAreLater, SidesInTurnsAreWoven}
 use Rattle.m2_links_go_on.specs.Sides.{HasGoneOn, IsHalf, JournalGoesOn, SidesGoOn, done_on, half_on, halves_of, loose_halves, woven_now}
 use Rattle.m2_links_go_on.proofs.Halves.{half_on_goes, never_opens}
@@ -18,7 +18,7 @@ use Rattle.m2_weave.specs.TurnLaws.{FlowedWasWritten, TurnsAreWoven}
 use Rattle.m2_weave.specs.Later.{StrandGoesOn}
 use Rattle.m2_weave.specs.declared.strand.StrandItem.TheVariants.{Noted}
 use Rattle.m2_weave.specs.Strands.{begun_at, has_opened, journal_of, read_by, read_by_halves, total}
-use Rattle.m2_lemmas.proofs.Lists.{all_append, all_front, all_back}
+use Rattle.m2_fabric.proofs.m2_lemmas.Lists.{all_append, all_front, all_back}
 use Rattle.m2_fabric.proofs.Sockets.{same_equal}
 
 -- ---- the half on a socket

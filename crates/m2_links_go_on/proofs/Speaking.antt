@@ -7,30 +7,30 @@ use Rattle.m2_fabric.specs.declared.socket.SocketId.{SocketId}
 use Rattle.m2_fabric.specs.End.{SeenEnd}
 use Rattle.m2_fabric.specs.Log.{Log}
 use Rattle.m2_fabric.specs.Sockets.{is_among, same_socket}
-use Rattle.m2_journal.specs.declared.entry.Entry.{Entry}
-use Rattle.m2_journal.specs.declared.entry.Entry.TheVariants as entry
-use Rattle.m2_journal.specs.declared.facts.PlanStep.{PlanStep}
-use Rattle.m2_journal.specs.Growth.{AreThere, Grow, IsSettled}
-use Rattle.m2_journal.specs.Items.{reach_of}
-use Rattle.m2_journal.specs.Plan.{planned}
-use Rattle.m2_journal.specs.Replay.{replay}
-use Rattle.m2_journal.specs.SideFacts.{SideFacts}
-use Rattle.m2_journal.specs.State.{Delivery, State}
-use Rattle.m2_record.specs.IsRecord.{IsRecord, feeds_in}
-use Rattle.m2_record.specs.RecordNow.{RecordNow, delivery_of, ends_of, feed_end, ids_of, speaks_of}
-use Rattle.m2_record.specs.Sources as source
-use Rattle.m2_record.specs.Sources.{end_at, got_of, log_at, log_of, put_of, read_before, trail_at, written_before}
-use Rattle.m2_record.specs.TakenTrails.{taken_in}
-use Rattle.m2_record.proofs.Trailing.{Beside, trail-there}
-use Rattle.m2_session.specs.SessionLaws.{takes}
-use Rattle.m2_trail.specs.Trails.{TrailNow}
-use Rattle.m2_trail.proofs.Staying.{trails_stay}
+use Rattle.m2_weave.specs.m2_journal.declared.entry.Entry.{Entry}
+use Rattle.m2_weave.specs.m2_journal.declared.entry.Entry.TheVariants as entry
+use Rattle.m2_weave.specs.m2_journal.declared.facts.PlanStep.{PlanStep}
+use Rattle.m2_weave.specs.m2_journal.Growth.{AreThere, Grow, IsSettled}
+use Rattle.m2_weave.specs.m2_journal.Items.{reach_of}
+use Rattle.m2_weave.specs.m2_journal.Plan.{planned}
+use Rattle.m2_weave.specs.m2_journal.Replay.{replay}
+use Rattle.m2_weave.specs.m2_journal.SideFacts.{SideFacts}
+use Rattle.m2_weave.specs.m2_journal.State.{Delivery, State}
+use Rattle.m2_history.specs.m2_record.IsRecord.{IsRecord, feeds_in}
+use Rattle.m2_history.specs.m2_record.RecordNow.{RecordNow, delivery_of, ends_of, feed_end, ids_of, speaks_of}
+use Rattle.m2_history.specs.m2_record.Sources as source
+use Rattle.m2_history.specs.m2_record.Sources.{end_at, got_of, log_at, log_of, put_of, read_before, trail_at, written_before}
+use Rattle.m2_history.specs.m2_record.TakenTrails.{taken_in}
+use Rattle.m2_history.proofs.m2_record.Trailing.{Beside, trail-there}
+use Rattle.m2_weave.specs.m2_session.SessionLaws.{takes}
+use Rattle.m2_history.specs.m2_trail.Trails.{TrailNow}
+use Rattle.m2_history.proofs.m2_trail.Staying.{trails_stay}
 use Rattle.m2_weave.specs.Later.{GoesOn}
 use Rattle.m2_growth.proofs.Among.{among_back}
 use Rattle.m2_links_go_on.specs.Logged.{deliveries_of, handed_of}
 use Rattle.m2_links_go_on.proofs.Deliveries.{replay_delivers, unfailed}
 use Rattle.m2_history.proofs.Kept.{turned}
-use Rattle.m2_lemmas.proofs.Booleans.{false_isnt_true}
+use Rattle.m2_fabric.proofs.m2_lemmas.Booleans.{false_isnt_true}
 use Rattle.m2_fabric.proofs.Sockets.{same_refl}
 
 -- ---- lists

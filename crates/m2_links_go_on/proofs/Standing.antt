@@ -5,19 +5,19 @@ use Rattle.std.specs.List.{AllByRecursion, IsDistinct}
 use Rattle.m2_fabric.specs.declared.socket.SocketId.{SocketId}
 use Rattle.m2_fabric.specs.End.{SeenEnd}
 use Rattle.m2_fabric.specs.Sockets.{is_among, same_socket}
-use Rattle.m2_bytes_fit.proofs.Judges.{not_judged_on}
+use Rattle.m2_growth.proofs.m2_bytes_fit.Judges.{not_judged_on}
 use Rattle.m2_growth.proofs.Among.{among_mapped, each_by}
 use Rattle.m2_history.specs.Link.{IsKeptHalf, IsKeptSide, IsWholeHalf, end_ids}
 use Rattle.m2_history.specs.Parts.{PartsNow}
 use Rattle.m2_history.specs.Woven.{EndNow, as_judged, end_of, half_end, is_of_link, loose_ends}
-use Rattle.m2_journal.specs.declared.entry.Entry.{Entry}
-use Rattle.m2_journal.specs.Items.{at_start}
-use Rattle.m2_journal.specs.Lawful.{judged_on}
-use Rattle.m2_journal.specs.State.{Judgement}
-use Rattle.m2_record.specs.RecordNow.{ids_of}
-use Rattle.m2_record.specs.TakenTrails.{judgements_in, taken_in}
-use Rattle.m2_trail.specs.Arrivals.{LooseNow}
-use Rattle.m2_trail.specs.Trails.{TrailNow}
+use Rattle.m2_weave.specs.m2_journal.declared.entry.Entry.{Entry}
+use Rattle.m2_weave.specs.m2_journal.Items.{at_start}
+use Rattle.m2_weave.specs.m2_journal.Lawful.{judged_on}
+use Rattle.m2_weave.specs.m2_journal.State.{Judgement}
+use Rattle.m2_history.specs.m2_record.RecordNow.{ids_of}
+use Rattle.m2_history.specs.m2_record.TakenTrails.{judgements_in, taken_in}
+use Rattle.m2_history.specs.m2_trail.Arrivals.{LooseNow}
+use Rattle.m2_history.specs.m2_trail.Trails.{TrailNow}
 use Rattle.m2_links_go_on.specs.Records.{IsSide}
 use Rattle.m2_links_go_on.specs.Sides.{loose_halves}
 use Rattle.m2_links_go_on.specs.Told.{TellsAll}
@@ -25,9 +25,9 @@ use Rattle.m2_weave.specs.Strands.{has_opened, journal_of, same_side}
 use Rattle.m2_history.specs.WovenLink.{same_end, sources_in}
 use Rattle.m2_history.proofs.Halfway.{apart_from, taken_once}
 use Rattle.m2_history.proofs.Moved.{unjudged_untaken}
-use Rattle.m2_lemmas.proofs.Booleans.{not_true_is_false, false_isnt_true}
+use Rattle.m2_fabric.proofs.m2_lemmas.Booleans.{not_true_is_false, false_isnt_true}
 use Rattle.m2_history.proofs.Kept.{map-all}
-use Rattle.m2_lemmas.proofs.Lists.{all_map, all_so}
+use Rattle.m2_fabric.proofs.m2_lemmas.Lists.{all_map, all_so}
 use Rattle.m2_fabric.proofs.Sockets.{apart_turned, same_equal}
 
 -- ---- words

@@ -3,7 +3,7 @@ use Rattle.std.proofs.Common.{◌≡◌, suc, Bool, true, false, ◌||◌, ◌&&
 use Rattle.std.specs.Prelude.{slice_get}
 use Rattle.m2_fabric.specs.declared.socket.SocketId.{SocketId}
 use Rattle.m2_fabric.specs.Sockets.{is_among, same_socket}
-use Rattle.m2_bytes_fit.proofs.Lists.{cons_same, nil_not}
+use Rattle.m2_growth.proofs.m2_bytes_fit.Lists.{cons_same, nil_not}
 use Rattle.m2_history.specs.declared.history.WeaveFault.TheVariants as fault
 use Rattle.m2_history.specs.Woven.{BothNow, BytesNow, EndNow, RowNow, bytes_at, ends_of, row_in, row_now, rows_of, strands_of}
 use Rattle.m2_links_go_on.specs.TurnLaws.{AnOrderIsFound}

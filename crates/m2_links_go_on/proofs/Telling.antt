@@ -6,13 +6,13 @@ use Rattle.std.proofs.lemmas.List.{length-drop}
 use Rattle.m2_fabric.specs.declared.socket.SocketId.{SocketId}
 use Rattle.m2_fabric.specs.End.{SeenEnd}
 use Rattle.m2_fabric.specs.Sockets.{same_socket}
-use Rattle.m2_journal.specs.declared.entry.Entry.{Entry}
-use Rattle.m2_journal.specs.declared.entry.Entry.TheVariants as entry
-use Rattle.m2_journal.specs.Items.{Places, at_start, passed, passed_by, raised}
-use Rattle.m2_record.specs.RecordNow.{ends_of}
-use Rattle.m2_record.specs.Sources.{log_at, read_before, trail_at, written_before}
-use Rattle.m2_record.specs.TakenTrails.{IsKeptTrail}
-use Rattle.m2_trail.specs.Trails.{TrailNow}
+use Rattle.m2_weave.specs.m2_journal.declared.entry.Entry.{Entry}
+use Rattle.m2_weave.specs.m2_journal.declared.entry.Entry.TheVariants as entry
+use Rattle.m2_weave.specs.m2_journal.Items.{Places, at_start, passed, passed_by, raised}
+use Rattle.m2_history.specs.m2_record.RecordNow.{ends_of}
+use Rattle.m2_history.specs.m2_record.Sources.{log_at, read_before, trail_at, written_before}
+use Rattle.m2_history.specs.m2_record.TakenTrails.{IsKeptTrail}
+use Rattle.m2_history.specs.m2_trail.Trails.{TrailNow}
 use Rattle.m2_links_go_on.specs.TurnLaws.{RecordsTellAll}
 use Rattle.m2_links_go_on.specs.Sides.{entries_in}
 use Rattle.m2_links_go_on.proofs.Moving.{runs_read, runs_written}

@@ -11,14 +11,14 @@ use Rattle.m2_fabric.specs.Sockets.{goes_to, is_among, same_socket}
 use Rattle.m2_fabric.specs.Log.{Log, nothing_done}
 use Rattle.m2_cluster.specs.Node.{all_to_come, are_apart, is_to_come, is_unused}
 use Rattle.m2_cluster.proofs.OneCenter.{none_at}
-use Rattle.m2_record.specs.RecordNow.{ids_of}
-use Rattle.m2_record.specs.Sources.{end_at}
+use Rattle.m2_history.specs.m2_record.RecordNow.{ids_of}
+use Rattle.m2_history.specs.m2_record.Sources.{end_at}
 use Rattle.m2_growth.specs.Ends.{AreOfTheirOwn}
 use Rattle.m2_growth.specs.Holding.{IsToCome}
 use Rattle.m2_growth.proofs.Ends.{AreApart, own_cons, own_join, own_none, own_tail}
 use Rattle.m2_links_go_on.specs.ClusterTold.{AreToCome, StayToCome, AreUnused}
-use Rattle.m2_lemmas.proofs.Lists.{empty_of_length, all_append, all_so_of}
-use Rattle.m2_lemmas.proofs.Booleans.{one_of_three, negated_is_false, false_isnt_true}
+use Rattle.m2_fabric.proofs.m2_lemmas.Lists.{empty_of_length, all_append, all_so_of}
+use Rattle.m2_fabric.proofs.m2_lemmas.Booleans.{one_of_three, negated_is_false, false_isnt_true}
 use Rattle.m2_fabric.proofs.Sockets.{same_equal}
 
 -- the same port, with these waiting

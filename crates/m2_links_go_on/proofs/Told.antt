@@ -11,14 +11,14 @@ use Rattle.m2_history.specs.HalfStrands.{strand_of}
 use Rattle.m2_history.specs.Link.{IsWholeHalf}
 use Rattle.m2_history.specs.Parts.{PartsNow}
 use Rattle.m2_history.specs.Woven.{BothNow, BytesNow, EndNow, as_judged, bytes_at, end_of, ends_of, half_end, is_of_link, loose_ends, loose_strands, strands_of, strands_of_side}
-use Rattle.m2_journal.specs.declared.entry.Entry.{Entry}
-use Rattle.m2_journal.specs.Items.{at_start, runs_on}
-use Rattle.m2_record.specs.RecordNow.{ids_of}
-use Rattle.m2_record.specs.Sources.{end_at, log_at, log_of}
-use Rattle.m2_trail.proofs.Runs.{runs_on-all}
-use Rattle.m2_trail.specs.Arrivals.{LooseNow}
-use Rattle.m2_trail.specs.Trails as trail
-use Rattle.m2_trail.specs.Trails.{TrailNow}
+use Rattle.m2_weave.specs.m2_journal.declared.entry.Entry.{Entry}
+use Rattle.m2_weave.specs.m2_journal.Items.{at_start, runs_on}
+use Rattle.m2_history.specs.m2_record.RecordNow.{ids_of}
+use Rattle.m2_history.specs.m2_record.Sources.{end_at, log_at, log_of}
+use Rattle.m2_history.proofs.m2_trail.Runs.{runs_on-all}
+use Rattle.m2_history.specs.m2_trail.Arrivals.{LooseNow}
+use Rattle.m2_history.specs.m2_trail.Trails as trail
+use Rattle.m2_history.specs.m2_trail.Trails.{TrailNow}
 use Rattle.m2_links_go_on.specs.TurnLaws.{ToldIsMoved}
 use Rattle.m2_links_go_on.specs.Records.{IsSide}
 use Rattle.m2_links_go_on.specs.Sides.{IsHalf, done_on, entries_in, half_on, halves_of, loose_halves, woven_now}
@@ -35,7 +35,7 @@ use Rattle.m2_history.specs.WovenLink.{same_end, sources_in}
 use Rattle.m2_history.proofs.Bytes.{IsOf, end_there, of_left, of_right, same_side_refl, same_side_turned}
 use Rattle.m2_history.proofs.Journals.{opened_unjudged}
 use Rattle.m2_history.proofs.Moved.{unjudged_untaken}
-use Rattle.m2_lemmas.proofs.Lists.{all_append, all_front, all_back}
+use Rattle.m2_fabric.proofs.m2_lemmas.Lists.{all_append, all_front, all_back}
 use Rattle.m2_fabric.proofs.Sockets.{same_equal, same_refl}
 
 abbrev none_at_all : BytesNow

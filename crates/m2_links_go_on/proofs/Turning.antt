@@ -2,8 +2,8 @@
 use Rattle.std.proofs.Common.{inl, inr, List, Ok, Err, refl, sym, ap, subst}
 use Rattle.std.specs.Prelude.{slice_set}
 use Rattle.m2_dispatch.specs.Heard.{Heard}
-use Rattle.m2_center.specs.Center.{CenterNow}
-use Rattle.m2_center.specs.CenterTurn.{AndThen, Answer, AcceptsSo, AnswersSo, DeliversSo, Part, StepsSo, accepting_in, all_amid_in, callers_of, means_at}
+use Rattle.m2_cluster.specs.m2_center.Center.{CenterNow}
+use Rattle.m2_cluster.specs.m2_center.CenterTurn.{AndThen, Answer, AcceptsSo, AnswersSo, DeliversSo, Part, StepsSo, accepting_in, all_amid_in, callers_of, means_at}
 use Rattle.m2_cluster.specs.Node.{NodePlans, NodeTurns}
 use Rattle.m2_growth.specs.Holding.{AreOwn, Grows}
 use Rattle.m2_growth.proofs.Accepts.{accepts_grow}
@@ -11,8 +11,8 @@ use Rattle.m2_growth.proofs.Going.{grows_by, grows_then}
 use Rattle.m2_growth.proofs.HalfTurns.{halves_grow}
 use Rattle.m2_growth.proofs.Plans.{plans_grow}
 use Rattle.m2_growth.proofs.RecordTurns.{record_turns}
-use Rattle.m2_record.specs.RecordNow.{RecordNow}
-use Rattle.m2_center.specs.RecordTurn.{Means}
+use Rattle.m2_history.specs.m2_record.RecordNow.{RecordNow}
+use Rattle.m2_cluster.specs.m2_center.RecordTurn.{Means}
 use Rattle.m2_links_go_on.specs.Center.{holding_of}
 use Rattle.m2_links_go_on.specs.ClusterLaws.{NodePlanGrows, NodeTurnGrows, PlanGrows, TurnGrows}
 use Rattle.m2_links_go_on.proofs.OneGrows.{acts_so}

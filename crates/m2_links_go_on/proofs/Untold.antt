@@ -3,23 +3,23 @@ use Rattle.std.proofs.Common.{◌≡◌, true, List, [], ◌∷◌, ◌++◌, le
 use Rattle.std.specs.List.{AllByRecursion, IsDistinct}
 use Rattle.std.specs.Option.{option_map}
 use Rattle.std.proofs.lemmas.List.{map-append}
-use Rattle.m2_feed.specs.FeedNow.{FeedNow}
+use Rattle.m2_cluster.specs.m2_feed.FeedNow.{FeedNow}
 use Rattle.m2_fabric.specs.declared.socket.SocketId.{SocketId}
 use Rattle.m2_fabric.specs.End.{SeenEnd}
 use Rattle.m2_fabric.specs.Sockets.{goes_to, is_among, same_socket}
-use Rattle.m2_handshake.specs.Asks.{same_addr}
-use Rattle.m2_record.specs.RecordNow.{RecordNow, ends_of, feed_end, ids_of}
-use Rattle.m2_trail.specs.Arrivals.{LooseNow, left_of}
-use Rattle.m2_center.specs.Halves.{AllHalves}
-use Rattle.m2_center.specs.Hearing.{ends_in}
-use Rattle.m2_center.specs.Sessions.{PendingNow, is_asker, peer_of}
-use Rattle.m2_center.specs.Reaching.{untold, untold_feed, untold_half, untold_loose, untold_record}
+use Rattle.m2_weave.specs.m2_handshake.Asks.{same_addr}
+use Rattle.m2_history.specs.m2_record.RecordNow.{RecordNow, ends_of, feed_end, ids_of}
+use Rattle.m2_history.specs.m2_trail.Arrivals.{LooseNow, left_of}
+use Rattle.m2_cluster.specs.m2_center.Halves.{AllHalves}
+use Rattle.m2_cluster.specs.m2_center.Hearing.{ends_in}
+use Rattle.m2_cluster.specs.m2_center.Sessions.{PendingNow, is_asker, peer_of}
+use Rattle.m2_cluster.specs.m2_center.Reaching.{untold, untold_feed, untold_half, untold_loose, untold_record}
 use Rattle.m2_growth.specs.Ends.{AreOfTheirOwn}
 use Rattle.m2_growth.specs.Halves.{AskedOnMade, AskedTowards, HasItsHalves, IsHeardBy, JudgeApart, OneJudge, all_left, asked_on, sockets_left, sockets_taken}
 use Rattle.m2_growth.specs.Holding.{AreOwn, HaveTheirHalves, Holding, LeadsElsewhere, ends_held}
 use Rattle.m2_growth.specs.Records.{IsFed, ends_of_all}
 use Rattle.m2_links_go_on.specs.ClusterTold.{AreToCome, OneByOne, SameHalf, SameHalves, SameRecord}
-use Rattle.m2_lemmas.proofs.Options.{mapped_is_some}
+use Rattle.m2_fabric.proofs.m2_lemmas.Options.{mapped_is_some}
 
 -- ---- lists
 

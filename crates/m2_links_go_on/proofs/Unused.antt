@@ -12,21 +12,21 @@ use Rattle.m2_fabric.specs.End.{SeenEnd}
 use Rattle.m2_fabric.specs.Log.{nothing_done}
 use Rattle.m2_fabric.specs.Port as port
 use Rattle.m2_fabric.specs.Port.{SeenPort}
-use Rattle.m2_record.specs.declared.due.Due.{Due}
-use Rattle.m2_record.specs.declared.due.Due.TheVariants as due
-use Rattle.m2_record.specs.Due.{due_step}
-use Rattle.m2_record.specs.RecordNow.{RecordNow}
-use Rattle.m2_center.specs.declared.accepting.Accepted.{Accepted}
-use Rattle.m2_center.specs.declared.accepting.Accepted.TheVariants as accepted
-use Rattle.m2_center.specs.declared.records_turn.RecordsTurn.{RecordsTurn}
-use Rattle.m2_center.specs.declared.records_turn.RecordsTurn.TheVariants as turn
-use Rattle.m2_center.specs.Accepting.{Accepting, AcceptsAll, EndsWith, TakesAll}
-use Rattle.m2_center.specs.Connecting.{AtPort, DialsFor, DialsIfDue}
-use Rattle.m2_center.specs.Outbox.{is_free}
-use Rattle.m2_center.specs.RecordTurn.{Means}
-use Rattle.m2_center.specs.RecordsTurn.{AllAmid, Amid, Around, DialsAndSteps, EachTurns, TurnsEach, TurnsIf, TurnsInOrder, TurnsOne, amid, at_port}
-use Rattle.m2_center.specs.Center.{CenterNow}
-use Rattle.m2_center.specs.CenterTurn.{AndThen, Answer, AnswersSo, AcceptsSo, DeliversSo, Part, StepsSo, accepting_in, all_amid_in}
+use Rattle.m2_history.specs.m2_record.declared.due.Due.{Due}
+use Rattle.m2_history.specs.m2_record.declared.due.Due.TheVariants as due
+use Rattle.m2_history.specs.m2_record.Due.{due_step}
+use Rattle.m2_history.specs.m2_record.RecordNow.{RecordNow}
+use Rattle.m2_cluster.specs.m2_center.declared.accepting.Accepted.{Accepted}
+use Rattle.m2_cluster.specs.m2_center.declared.accepting.Accepted.TheVariants as accepted
+use Rattle.m2_cluster.specs.m2_center.declared.records_turn.RecordsTurn.{RecordsTurn}
+use Rattle.m2_cluster.specs.m2_center.declared.records_turn.RecordsTurn.TheVariants as turn
+use Rattle.m2_cluster.specs.m2_center.Accepting.{Accepting, AcceptsAll, EndsWith, TakesAll}
+use Rattle.m2_cluster.specs.m2_center.Connecting.{AtPort, DialsFor, DialsIfDue}
+use Rattle.m2_cluster.specs.m2_center.Outbox.{is_free}
+use Rattle.m2_cluster.specs.m2_center.RecordTurn.{Means}
+use Rattle.m2_cluster.specs.m2_center.RecordsTurn.{AllAmid, Amid, Around, DialsAndSteps, EachTurns, TurnsEach, TurnsIf, TurnsInOrder, TurnsOne, amid, at_port}
+use Rattle.m2_cluster.specs.m2_center.Center.{CenterNow}
+use Rattle.m2_cluster.specs.m2_center.CenterTurn.{AndThen, Answer, AnswersSo, AcceptsSo, DeliversSo, Part, StepsSo, accepting_in, all_amid_in}
 use Rattle.m2_links_go_on.specs.ToldLaws.{PlanStaysUnused, TurnStaysUnused}
 
 abbrev AllUnused : Option (List SeenEnd) → Type 0

@@ -3,11 +3,11 @@ use Rattle.std.proofs.Common.{◌≡◌, ℕ, zero, suc, List, [], ◌∷◌, �
 use Rattle.std.specs.Option.{option_map}
 use Rattle.std.proofs.lemmas.List.{map-append}
 use Rattle.m2_fabric.specs.End.{SeenEnd}
-use Rattle.m2_journal.specs.declared.entry.Entry.{Entry}
-use Rattle.m2_record.specs.RecordNow.{RecordNow, ends_of}
-use Rattle.m2_trail.specs.Arrivals.{LooseNow}
-use Rattle.m2_center.specs.Halves.{AllHalves}
-use Rattle.m2_center.specs.Reaching.{untold, untold_loose, untold_record}
+use Rattle.m2_weave.specs.m2_journal.declared.entry.Entry.{Entry}
+use Rattle.m2_history.specs.m2_record.RecordNow.{RecordNow, ends_of}
+use Rattle.m2_history.specs.m2_trail.Arrivals.{LooseNow}
+use Rattle.m2_cluster.specs.m2_center.Halves.{AllHalves}
+use Rattle.m2_cluster.specs.m2_center.Reaching.{untold, untold_loose, untold_record}
 use Rattle.m2_cluster.specs.Node.{NodeNow}
 use Rattle.m2_growth.specs.Halves.{all_left}
 use Rattle.m2_links_go_on.specs.ClusterTold.{OneByOne, SameHalves, SameNode, SameRecord}

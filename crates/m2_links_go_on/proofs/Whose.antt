@@ -8,8 +8,8 @@ use Rattle.m2_fabric.specs.declared.socket.SocketId.{SocketId}
 use Rattle.m2_fabric.specs.Sockets.{same_socket}
 use Rattle.m2_history.specs.HalfStrands.{strand_of}
 use Rattle.m2_history.specs.Woven.{BothNow, strands_of}
-use Rattle.m2_journal.specs.declared.entry.Entry.{Entry}
-use Rattle.m2_trail.specs.Trails.{TrailNow}
+use Rattle.m2_weave.specs.m2_journal.declared.entry.Entry.{Entry}
+use Rattle.m2_history.specs.m2_trail.Trails.{TrailNow}
 use Rattle.m2_links_go_on.specs.Sides.{AreHalves, half_on, halves_of, loose_halves}
 use Rattle.m2_links_go_on.proofs.HalfReads.{loose_as}
 use Rattle.m2_weave.specs.Later.{GoesOn, IsLater, StrandGoesOn}
@@ -17,7 +17,7 @@ use Rattle.m2_weave.specs.Rule.{Woven, nothing_at_all, strand_at}
 use Rattle.m2_weave.specs.Stops.{or_else}
 use Rattle.m2_weave.specs.Strands.{EndOf, StrandNow, journal_of}
 use Rattle.m2_fabric.proofs.Sockets.{apart_turned, same_equal, same_refl}
-use Rattle.m2_lemmas.proofs.Lists.{all_append}
+use Rattle.m2_fabric.proofs.m2_lemmas.Lists.{all_append}
 
 -- ---- who acts
 

@@ -1,5 +1,5 @@
 -- What a center has of the sockets of its port. This project's own.
-use Rattle.m2_center.specs.Center.{CenterNow}
+use Rattle.m2_cluster.specs.m2_center.Center.{CenterNow}
 use Rattle.m2_growth.specs.Holding.{Holding}
 
 abbrev pub holding_of : {D : Type 0} → CenterNow D → Holding

@@ -3,16 +3,16 @@ use Rattle.std.specs.Prelude.{◌≡◌, ℕ, false, List, None, IsSome}
 use Rattle.m2_dispatch.specs.Heard.{Heard}
 use Rattle.m2_fabric.specs.declared.socket.SocketId.{SocketId}
 use Rattle.m2_fabric.specs.Sockets.{goes_to}
-use Rattle.m2_journal.specs.declared.facts.PlanStep.{PlanStep}
-use Rattle.m2_record.specs.Sources.{end_at}
-use Rattle.m2_shared.specs.Place.{Place}
-use Rattle.m2_center.specs.Center.{CenterNow}
-use Rattle.m2_center.specs.CenterTurn.{Answer, TakesTurn}
-use Rattle.m2_center.specs.Plans.{PlansIn}
+use Rattle.m2_weave.specs.m2_journal.declared.facts.PlanStep.{PlanStep}
+use Rattle.m2_history.specs.m2_record.Sources.{end_at}
+use Rattle.m2_dispatch.specs.m2_shared.Place.{Place}
+use Rattle.m2_cluster.specs.m2_center.Center.{CenterNow}
+use Rattle.m2_cluster.specs.m2_center.CenterTurn.{Answer, TakesTurn}
+use Rattle.m2_cluster.specs.m2_center.Plans.{PlansIn}
 use Rattle.m2_cluster.specs.Cluster.{ClusterNow, OneDoes}
 use Rattle.m2_cluster.specs.Node.{NodePlans, NodeTurns}
 use Rattle.m2_growth.specs.Holding.{AreOwn, Grows, all_ends}
-use Rattle.m2_center.specs.RecordTurn.{Means}
+use Rattle.m2_cluster.specs.m2_center.RecordTurn.{Means}
 use Rattle.m2_links_go_on.specs.Center.{holding_of}
 use Rattle.m2_links_go_on.specs.Cluster.{GrowsInMemory}
 

@@ -5,11 +5,11 @@ use Rattle.std.specs.List.{AllByRecursion}
 use Rattle.m2_fabric.specs.End.{SeenEnd}
 use Rattle.m2_fabric.specs.Log.{nothing_done}
 use Rattle.m2_fabric.specs.Port.{SeenPort}
-use Rattle.m2_record.specs.RecordNow.{RecordNow, ends_of}
-use Rattle.m2_trail.specs.Arrivals.{LooseNow}
-use Rattle.m2_center.specs.Halves.{AllHalves}
-use Rattle.m2_center.specs.Center.{CenterNow}
-use Rattle.m2_center.specs.Reaching.{untold, untold_half, untold_loose, untold_record}
+use Rattle.m2_history.specs.m2_record.RecordNow.{RecordNow, ends_of}
+use Rattle.m2_history.specs.m2_trail.Arrivals.{LooseNow}
+use Rattle.m2_cluster.specs.m2_center.Halves.{AllHalves}
+use Rattle.m2_cluster.specs.m2_center.Center.{CenterNow}
+use Rattle.m2_cluster.specs.m2_center.Reaching.{untold, untold_half, untold_loose, untold_record}
 use Rattle.m2_cluster.specs.Node.{KeepsShared, NodeNow}
 use Rattle.m2_growth.specs.Ends.{AreOfTheirOwn}
 use Rattle.m2_growth.specs.Halves.{all_left}

@@ -1,7 +1,7 @@
 -- Two nodes with a link between them, and what a turn does to it. This project's own.
 use Rattle.std.specs.Prelude.{◌≡◌, ℕ, true, List, ◌++◌, slice_get, Some}
 use Rattle.std.specs.List.{AllByRecursion}
-use Rattle.m2_addr.specs.declared.addr.Addr.{Addr}
+use Rattle.m2_fabric.specs.m2_addr.declared.addr.Addr.{Addr}
 use Rattle.m2_fabric.specs.declared.socket.SocketId.{SocketId}
 use Rattle.m2_fabric.specs.Sockets.{goes_to, is_among}
 use Rattle.m2_growth.specs.Halves.{all_left}
@@ -9,11 +9,11 @@ use Rattle.m2_growth.specs.Holding.{AreOwn, Grows, HaveTheirHalves, Holding}
 use Rattle.m2_growth.specs.Records.{ends_of_all}
 use Rattle.m2_history.specs.Link.{AreKept, IsWholeHalf, both_of}
 use Rattle.m2_history.specs.Woven.{BothNow}
-use Rattle.m2_record.specs.IsRecord.{IsRecord}
-use Rattle.m2_record.specs.RecordNow.{RecordNow, ends_of, ids_of}
-use Rattle.m2_center.specs.Halves.{sessions_with}
-use Rattle.m2_center.specs.Sessions.{AreConsistent, Supply}
-use Rattle.m2_trail.specs.Arrivals.{LooseNow}
+use Rattle.m2_history.specs.m2_record.IsRecord.{IsRecord}
+use Rattle.m2_history.specs.m2_record.RecordNow.{RecordNow, ends_of, ids_of}
+use Rattle.m2_cluster.specs.m2_center.Halves.{sessions_with}
+use Rattle.m2_cluster.specs.m2_center.Sessions.{AreConsistent, Supply}
+use Rattle.m2_history.specs.m2_trail.Arrivals.{LooseNow}
 use Rattle.m2_links_go_on.specs.Records.{RecordsGoOn}
 use Rattle.m2_links_go_on.specs.Told.{AreTold}
 use Rattle.m2_weave.specs.Strands.{has_opened, journal_of}

@@ -6,24 +6,24 @@ use Rattle.m2_channel.specs.Observed.{all_of}
 use Rattle.m2_dispatch.specs.Heard.{Heard}
 use Rattle.m2_dispatch.specs.Dispatch.{Queued}
 use Rattle.m2_fabric.specs.Port.{SeenPort}
-use Rattle.m2_journal.specs.declared.facts.PlanStep.{PlanStep}
-use Rattle.m2_journal.specs.State.{State}
-use Rattle.m2_record.specs.IsRecord.{IsRecord, IsReplayedTo}
-use Rattle.m2_record.specs.RecordNow.{RecordNow}
-use Rattle.m2_shared.specs.Place.{Place}
-use Rattle.m2_center.specs.declared.halves_turn.HalvesTurn.{HalvesTurn}
-use Rattle.m2_center.specs.declared.mailing.Mailed.{Mailed}
-use Rattle.m2_center.specs.declared.records_turn.RecordsTurn.{RecordsTurn}
-use Rattle.m2_center.specs.Halves.{AllHalves}
-use Rattle.m2_center.specs.HalvesTurn.{Callers, TurnsHalves}
-use Rattle.m2_center.specs.Mailing.{Mailing, Mails}
-use Rattle.m2_center.specs.Outbox.{OutboxNow}
-use Rattle.m2_center.specs.RecordTurn.{Means}
-use Rattle.m2_center.specs.RecordsTurn.{AllAmid, TurnsEach}
-use Rattle.m2_center.specs.Center.{CenterNow}
-use Rattle.m2_center.specs.CenterTurn.{Answer, TakesTurn}
-use Rattle.m2_center.specs.Plans.{PlansIn}
-use Rattle.m2_center.specs.Reaching.{rest_in}
+use Rattle.m2_weave.specs.m2_journal.declared.facts.PlanStep.{PlanStep}
+use Rattle.m2_weave.specs.m2_journal.State.{State}
+use Rattle.m2_history.specs.m2_record.IsRecord.{IsRecord, IsReplayedTo}
+use Rattle.m2_history.specs.m2_record.RecordNow.{RecordNow}
+use Rattle.m2_dispatch.specs.m2_shared.Place.{Place}
+use Rattle.m2_cluster.specs.m2_center.declared.halves_turn.HalvesTurn.{HalvesTurn}
+use Rattle.m2_cluster.specs.m2_center.declared.mailing.Mailed.{Mailed}
+use Rattle.m2_cluster.specs.m2_center.declared.records_turn.RecordsTurn.{RecordsTurn}
+use Rattle.m2_cluster.specs.m2_center.Halves.{AllHalves}
+use Rattle.m2_cluster.specs.m2_center.HalvesTurn.{Callers, TurnsHalves}
+use Rattle.m2_cluster.specs.m2_center.Mailing.{Mailing, Mails}
+use Rattle.m2_cluster.specs.m2_center.Outbox.{OutboxNow}
+use Rattle.m2_cluster.specs.m2_center.RecordTurn.{Means}
+use Rattle.m2_cluster.specs.m2_center.RecordsTurn.{AllAmid, TurnsEach}
+use Rattle.m2_cluster.specs.m2_center.Center.{CenterNow}
+use Rattle.m2_cluster.specs.m2_center.CenterTurn.{Answer, TakesTurn}
+use Rattle.m2_cluster.specs.m2_center.Plans.{PlansIn}
+use Rattle.m2_cluster.specs.m2_center.Reaching.{rest_in}
 use Rattle.m2_growth.specs.Holding.{AreOwn, Holding}
 use Rattle.m2_growth.specs.GrowthLaws.{at_halves, at_records}
 use Rattle.m2_links_go_on.specs.Logged.{AreOfTheirPeers, IsLogged, LoggingNow, logging, logs_in}

@@ -8,12 +8,12 @@ use Rattle.m2_dispatch.specs.declared.parcel.Parcel.{Parcel}
 use Rattle.m2_dispatch.specs.Dispatch.{Queued}
 use Rattle.m2_dispatch.specs.Laws.{Call, Put, history_of, start}
 use Rattle.m2_dispatch.specs.Letters.{heard_in}
-use Rattle.m2_journal.specs.Replay.{replay}
-use Rattle.m2_journal.specs.State.{Delivery}
-use Rattle.m2_record.specs.RecordNow.{RecordNow, delivery_of, speaks_of}
+use Rattle.m2_weave.specs.m2_journal.Replay.{replay}
+use Rattle.m2_weave.specs.m2_journal.State.{Delivery}
+use Rattle.m2_history.specs.m2_record.RecordNow.{RecordNow, delivery_of, speaks_of}
 use Rattle.m2_channel.specs.Handing.{calls_of, heard_at_once, heard_by_calls, parcels_of, queued_of}
 use Rattle.m2_channel.specs.Observed.{Logs}
-use Rattle.m2_center.specs.Outbox.{OutboxNow}
+use Rattle.m2_cluster.specs.m2_center.Outbox.{OutboxNow}
 
 -- ---- what a record handed on
 

@@ -5,10 +5,10 @@ use Rattle.m2_fabric.specs.declared.socket.SocketId.{SocketId}
 use Rattle.m2_fabric.specs.Sockets.{same_socket}
 use Rattle.m2_history.specs.Link.{AreKept, IsOnSocket}
 use Rattle.m2_history.specs.Woven.{BothNow, BytesNow, as_judged, bytes_at, ends_of, is_of_link, strands_of}
-use Rattle.m2_journal.specs.declared.entry.Entry.{Entry}
-use Rattle.m2_record.specs.Sources.{trail_at}
-use Rattle.m2_trail.specs.Arrivals.{LooseNow}
-use Rattle.m2_trail.specs.Trails.{TrailNow, RisesWithin}
+use Rattle.m2_weave.specs.m2_journal.declared.entry.Entry.{Entry}
+use Rattle.m2_history.specs.m2_record.Sources.{trail_at}
+use Rattle.m2_history.specs.m2_trail.Arrivals.{LooseNow}
+use Rattle.m2_history.specs.m2_trail.Trails.{TrailNow, RisesWithin}
 use Rattle.m2_weave.specs.Later.{GoesOn, HasRead, HasWritten, HaveGot, HaveWritten, HadFlowed}
 use Rattle.m2_weave.specs.Rule.{Woven}
 use Rattle.m2_weave.specs.Strands.{EndOf, has_opened, journal_of}

@@ -5,7 +5,7 @@ use Rattle.m2_fabric.specs.declared.socket.SocketId.{SocketId}
 use Rattle.m2_history.specs.Link.{AreKept, IsWholeHalf}
 use Rattle.m2_history.specs.Parts.{PartsNow}
 use Rattle.m2_history.specs.Woven.{BothNow, ends_of}
-use Rattle.m2_record.specs.Sources.{log_at}
+use Rattle.m2_history.specs.m2_record.Sources.{log_at}
 use Rattle.m2_links_go_on.specs.Records.{IsSide, RecordsGoOn}
 use Rattle.m2_links_go_on.specs.Sides.{AreHalves, done_on, halves_of, woven_now}
 use Rattle.m2_weave.specs.Later.{HadFlowed}

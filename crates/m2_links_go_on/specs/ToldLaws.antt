@@ -5,13 +5,13 @@ use Rattle.m2_dispatch.specs.Heard.{Heard}
 use Rattle.m2_fabric.specs.declared.end.News.{News}
 use Rattle.m2_fabric.specs.declared.socket.SocketId.{SocketId}
 use Rattle.m2_fabric.specs.Port.{SeenPort, with_incoming, with_news}
-use Rattle.m2_journal.specs.declared.facts.PlanStep.{PlanStep}
-use Rattle.m2_shared.specs.Place.{Place}
-use Rattle.m2_center.specs.RecordTurn.{Means}
-use Rattle.m2_center.specs.Center.{CenterNow}
-use Rattle.m2_center.specs.CenterTurn.{Answer, TakesTurn}
-use Rattle.m2_center.specs.Plans.{PlansIn}
-use Rattle.m2_center.specs.Reaching.{after_hearing, rest_in}
+use Rattle.m2_weave.specs.m2_journal.declared.facts.PlanStep.{PlanStep}
+use Rattle.m2_dispatch.specs.m2_shared.Place.{Place}
+use Rattle.m2_cluster.specs.m2_center.RecordTurn.{Means}
+use Rattle.m2_cluster.specs.m2_center.Center.{CenterNow}
+use Rattle.m2_cluster.specs.m2_center.CenterTurn.{Answer, TakesTurn}
+use Rattle.m2_cluster.specs.m2_center.Plans.{PlansIn}
+use Rattle.m2_cluster.specs.m2_center.Reaching.{after_hearing, rest_in}
 use Rattle.m2_cluster.specs.Cluster.{ClusterNow, rest_of}
 use Rattle.m2_growth.specs.Holding.{AreOwn, HaveTheirHalves}
 use Rattle.m2_links_go_on.specs.Center.{holding_of}

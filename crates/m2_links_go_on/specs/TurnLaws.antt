@@ -6,8 +6,8 @@ use Rattle.m2_history.specs.declared.history.WeaveFault.{WeaveFault}
 use Rattle.m2_history.specs.declared.history.WeaveFault.TheVariants as fault
 use Rattle.m2_history.specs.Link.{AreKept, WeavesRecords, parts_of}
 use Rattle.m2_history.specs.Woven.{BothNow}
-use Rattle.m2_record.specs.IsRecord.{IsRecord}
-use Rattle.m2_record.specs.RecordNow.{RecordNow}
+use Rattle.m2_history.specs.m2_record.IsRecord.{IsRecord}
+use Rattle.m2_history.specs.m2_record.RecordNow.{RecordNow}
 use Rattle.m2_links_go_on.specs.Records.{IsSide, RecordsGoOn}
 use Rattle.m2_links_go_on.specs.Sides.{IsHalf, IsTurnOfSides, SidesGoOn, halves_of, woven_now}
 use Rattle.m2_links_go_on.specs.Told.{AreTold, IsTurnOfRecords, TellsAll}

@@ -3,23 +3,23 @@
 -- writer composes anything there.
 use Rattle.std.proofs.Common.{◌≡◌, ℕ, true, false, List, [], ◌∷◌, ◌++◌, drop, map, Option, Some, None, refl, sym, ap, ◌∙◌, subst}
 use Rattle.std.proofs.lemmas.Bool.{false_from_ne_true, true_from_ne_false}
-use Rattle.m2_fabric.specs.declared.socket.SocketId.{SocketId}
-use Rattle.m2_fabric.specs.Sockets.{is_among, same_socket}
+use Rattle.m2_journal.specs.m2_fabric.declared.socket.SocketId.{SocketId}
+use Rattle.m2_journal.specs.m2_fabric.Sockets.{is_among, same_socket}
 use Rattle.m2_journal.specs.Laws.{taken_among}
 use Rattle.m2_journal.specs.OutFrames as out
 use Rattle.m2_journal.specs.OutFrames.{OutFrame}
 use Rattle.m2_journal.specs.SideFacts.{SideFacts}
 use Rattle.m2_journal.specs.State.{SentFrame}
-use Rattle.m2_message.specs.Message.{Content}
-use Rattle.m2_never_reset.specs.Frames.{answers_on}
-use Rattle.m2_never_reset.proofs.Sockets.{taken_is_judged}
-use Rattle.m2_session.specs.declared.session.Phase.TheVariants as phase
+use Rattle.m2_journal.specs.m2_message.Message.{Content}
+use Rattle.m2_channel.specs.m2_never_reset.Frames.{answers_on}
+use Rattle.m2_channel.proofs.m2_never_reset.Sockets.{taken_is_judged}
+use Rattle.m2_journal.specs.m2_session.declared.session.Phase.TheVariants as phase
 use Rattle.m2_lossy_in_order.proofs.Frames.{mails_on, mails_same, mails_elsewhere, messages_on, plain, accepted_not_mute, mute_no_mails}
 use Rattle.m2_lossy_in_order.proofs.Moves.{Spot, View, Move, rests, posts, opens, leaves, gives_up, refuses, takes_on, asks, settles, numbers, accepts, moved, May, IfSpot, judgement, on_socket, sent_on}
 use Rattle.m2_lossy_in_order.proofs.Readers.{IsFresh, Reads, reads_after, reads_more}
 use Rattle.m2_lossy_in_order.proofs.Sides.{SideIs, StandsIn, judged_in, side_after, taken_more, taken_same}
-use Rattle.m2_fabric.proofs.Sockets.{not_among_none, same_equal, not_among_front}
-use Rattle.m2_lemmas.proofs.Booleans.{from_false_true}
+use Rattle.m2_journal.proofs.m2_fabric.Sockets.{not_among_none, same_equal, not_among_front}
+use Rattle.m2_journal.proofs.m2_lemmas.Booleans.{from_false_true}
 
 -- ---- what was sent goes on
 

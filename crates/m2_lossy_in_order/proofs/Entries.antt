@@ -3,16 +3,16 @@ use Rattle.std.proofs.Common.{◌≡◌, ◌≢◌, ℕ, ◌+◌, ◌-◌, ◌<�
 use Rattle.std.specs.Prelude.{IfSome, nat_lt}
 use Rattle.std.specs.List.{AllByRecursion}
 use Rattle.std.proofs.lemmas.Bool.{and_parts, eq-eqb, eqb-true, lt-ltb}
-use Rattle.m2_session.specs.declared.ask.AskFacts.{AskFacts}
-use Rattle.m2_session.specs.Asks as asks
-use Rattle.m2_session.specs.Dials.{at_rest}
+use Rattle.m2_journal.specs.m2_session.declared.ask.AskFacts.{AskFacts}
+use Rattle.m2_journal.specs.m2_session.Asks as asks
+use Rattle.m2_journal.specs.m2_session.Dials.{at_rest}
 use Rattle.m2_channel.specs.Channel.{KeyedMessage, keyed}
 use Rattle.m2_channel.specs.Observed.{handed}
-use Rattle.m2_control.specs.declared.control.Control.TheVariants as control
-use Rattle.m2_control.specs.declared.fields.TheConstants.{GREATEST_NUMBER}
-use Rattle.m2_control.specs.declared.server_ident.ServerIdent.{ServerIdent}
-use Rattle.m2_fabric.specs.declared.socket.SocketId.{SocketId}
-use Rattle.m2_fabric.specs.Sockets.{is_among, same_socket}
+use Rattle.m2_journal.specs.m2_control.declared.control.Control.TheVariants as control
+use Rattle.m2_journal.specs.m2_control.declared.fields.TheConstants.{GREATEST_NUMBER}
+use Rattle.m2_journal.specs.m2_control.declared.server_ident.ServerIdent.{ServerIdent}
+use Rattle.m2_journal.specs.m2_fabric.declared.socket.SocketId.{SocketId}
+use Rattle.m2_journal.specs.m2_fabric.Sockets.{is_among, same_socket}
 use Rattle.m2_bytes_fit.specs.Halves.{KeepsRanges}
 use Rattle.m2_bytes_fit.specs.Texts.{KeepsFields}
 use Rattle.m2_bytes_fit.proofs.Bounded.{RestIsBounded, IsUnasked}
@@ -33,33 +33,33 @@ use Rattle.m2_journal.specs.SideFacts.{SideFacts, cookie_of}
 use Rattle.m2_journal.specs.State as state
 use Rattle.m2_journal.specs.State.{PartText, Delivery, Feed, Judgement, SentFrame, State}
 use Rattle.m2_journal.specs.Steps.{accepts, after, answer_to, breaks, event_heard, forgets, heeds, is_on, is_waiting, puts_on, queues, writes_message}
-use Rattle.m2_message.specs.Message.{Content, unnumbered}
-use Rattle.m2_never_reset.specs.Fits.{Says, HearsAt}
-use Rattle.m2_never_reset.specs.Frames.{answers_on}
-use Rattle.m2_never_reset.specs.Orders.{posted_in}
-use Rattle.m2_never_reset.proofs.Answered.{IsNext as IsNextThere, next_of}
-use Rattle.m2_never_reset.proofs.Feeds.{hears_hears, opened_hears}
-use Rattle.m2_never_reset.proofs.Read.{by_answer}
-use Rattle.m2_policy.specs.declared.path.Key.{Key}
-use Rattle.m2_queues.specs.QueueLaws.{Next}
-use Rattle.m2_queues.specs.OutQueues.{Queue, after_next, message_at, next_number}
-use Rattle.m2_session.specs.declared.answer.Answer.{Answer}
-use Rattle.m2_session.specs.declared.answer.Answer.TheVariants as answer
-use Rattle.m2_session.specs.declared.event.Event.{Event}
-use Rattle.m2_session.specs.declared.session.Phase.{Phase}
-use Rattle.m2_session.specs.declared.session.Phase.TheVariants as phase
-use Rattle.m2_session.specs.Conditions.{differs, is_above, is_kept}
-use Rattle.m2_session.specs.Ident.{ident_answer}
-use Rattle.m2_session.specs.SessionLaws as session
-use Rattle.m2_session.specs.Phases as phases
-use Rattle.m2_session.specs.Reconnect.{Reconnect, reconnect_answer}
+use Rattle.m2_journal.specs.m2_message.Message.{Content, unnumbered}
+use Rattle.m2_channel.specs.m2_never_reset.Fits.{Says, HearsAt}
+use Rattle.m2_channel.specs.m2_never_reset.Frames.{answers_on}
+use Rattle.m2_channel.specs.m2_never_reset.Orders.{posted_in}
+use Rattle.m2_channel.proofs.m2_never_reset.Answered.{IsNext as IsNextThere, next_of}
+use Rattle.m2_channel.proofs.m2_never_reset.Feeds.{hears_hears, opened_hears}
+use Rattle.m2_channel.proofs.m2_never_reset.Read.{by_answer}
+use Rattle.m2_journal.specs.m2_policy.declared.path.Key.{Key}
+use Rattle.m2_journal.specs.m2_queues.QueueLaws.{Next}
+use Rattle.m2_journal.specs.m2_queues.OutQueues.{Queue, after_next, message_at, next_number}
+use Rattle.m2_journal.specs.m2_session.declared.answer.Answer.{Answer}
+use Rattle.m2_journal.specs.m2_session.declared.answer.Answer.TheVariants as answer
+use Rattle.m2_journal.specs.m2_session.declared.event.Event.{Event}
+use Rattle.m2_journal.specs.m2_session.declared.session.Phase.{Phase}
+use Rattle.m2_journal.specs.m2_session.declared.session.Phase.TheVariants as phase
+use Rattle.m2_journal.specs.m2_session.Conditions.{differs, is_above, is_kept}
+use Rattle.m2_journal.specs.m2_session.Ident.{ident_answer}
+use Rattle.m2_journal.specs.m2_session.SessionLaws as session
+use Rattle.m2_journal.specs.m2_session.Phases as phases
+use Rattle.m2_journal.specs.m2_session.Reconnect.{Reconnect, reconnect_answer}
 use Rattle.m2_lossy_in_order.proofs.Moves.{Spot, View, Move, rests, posts, opens, leaves, gives_up, refuses, takes_on, asks as asks_on_feed, settles, numbers, accepts as accepts_one, moved, posted_by, May, IsAway, IsBrought, spot_of, view, on_socket, sent_on}
 use Rattle.m2_lossy_in_order.proofs.Frames.{IsMute}
 use Rattle.m2_lossy_in_order.proofs.Named.{AreNamed, NamedKept, put_named}
 use Rattle.m2_lossy_in_order.proofs.Sides.{IsPlain, SideIs, StandsIn}
 use Rattle.m2_journal.proofs.Sockets.{no_more_asks}
-use Rattle.m2_lemmas.proofs.Lists.{all_append}
-use Rattle.m2_lemmas.proofs.Booleans.{from_false_true}
+use Rattle.m2_journal.proofs.m2_lemmas.Lists.{all_append}
+use Rattle.m2_journal.proofs.m2_lemmas.Booleans.{from_false_true}
 
 -- ---- what is known of a side, and what is shown of its entry
 

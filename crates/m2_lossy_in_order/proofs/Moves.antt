@@ -3,8 +3,8 @@ use Rattle.std.proofs.Common.{◌≡◌, ℕ, ◌+◌, max, Bool, true, false, i
 use Rattle.std.specs.List.{AllByRecursion}
 use Rattle.m2_channel.specs.Channel.{KeyedMessage}
 use Rattle.m2_channel.specs.Observed.{handed}
-use Rattle.m2_fabric.specs.declared.socket.SocketId.{SocketId}
-use Rattle.m2_fabric.specs.Sockets.{is_among}
+use Rattle.m2_journal.specs.m2_fabric.declared.socket.SocketId.{SocketId}
+use Rattle.m2_journal.specs.m2_fabric.Sockets.{is_among}
 use Rattle.m2_journal.specs.declared.entry.JudgedItem.{JudgedItem}
 use Rattle.m2_journal.specs.Lawful.{key_of}
 use Rattle.m2_journal.specs.Laws.{taken_among}
@@ -12,12 +12,12 @@ use Rattle.m2_journal.specs.OutFrames as out
 use Rattle.m2_journal.specs.OutFrames.{OutFrame}
 use Rattle.m2_journal.specs.SideFacts.{SideFacts}
 use Rattle.m2_journal.specs.State.{Feed, Judgement, SentFrame, State}
-use Rattle.m2_message.specs.Message.{Content, unnumbered}
-use Rattle.m2_never_reset.specs.Frames.{answers_on}
-use Rattle.m2_queues.specs.OutQueues.{Queue, after_discard, after_post, after_renumber, after_requeue}
-use Rattle.m2_session.specs.SessionLaws.{takes}
-use Rattle.m2_session.specs.declared.session.Phase.{Phase}
-use Rattle.m2_session.specs.declared.session.Phase.TheVariants as phase
+use Rattle.m2_journal.specs.m2_message.Message.{Content, unnumbered}
+use Rattle.m2_channel.specs.m2_never_reset.Frames.{answers_on}
+use Rattle.m2_journal.specs.m2_queues.OutQueues.{Queue, after_discard, after_post, after_renumber, after_requeue}
+use Rattle.m2_journal.specs.m2_session.SessionLaws.{takes}
+use Rattle.m2_journal.specs.m2_session.declared.session.Phase.{Phase}
+use Rattle.m2_journal.specs.m2_session.declared.session.Phase.TheVariants as phase
 use Rattle.m2_lossy_in_order.proofs.Frames.{IsMute}
 
 -- ---- what matters

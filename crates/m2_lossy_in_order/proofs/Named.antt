@@ -3,15 +3,15 @@ use Rattle.std.proofs.Common.{◌≡◌, ℕ, ◌+◌, Bool, true, false, not, �
 use Rattle.std.specs.Prelude.{IfSome, slice_get}
 use Rattle.std.specs.List.{AllByRecursion, filter}
 use Rattle.std.specs.Option.{option_to_list}
-use Rattle.m2_control.specs.Banner.{begins}
+use Rattle.m2_journal.specs.m2_control.Banner.{begins}
 use Rattle.m2_bytes_fit.proofs.Bounded.{IsUnasked}
 use Rattle.m2_bytes_fit.proofs.Entries.{posts_less, heeds_less, accepts_less}
 use Rattle.m2_bytes_fit.proofs.Kept.{IsNamed}
 use Rattle.m2_bytes_fit.proofs.Less.{Less, FeedLess, tells_less, tells_if_less}
-use Rattle.m2_handshake.specs.Course as hand
-use Rattle.m2_handshake.specs.Course.{Course, course_of}
-use Rattle.m2_handshake.specs.Moves.{is_authed}
-use Rattle.m2_handshake.specs.Standing.{Standing, fed, opener_at_start}
+use Rattle.m2_journal.specs.m2_handshake.Course as hand
+use Rattle.m2_journal.specs.m2_handshake.Course.{Course, course_of}
+use Rattle.m2_journal.specs.m2_handshake.Moves.{is_authed}
+use Rattle.m2_journal.specs.m2_handshake.Standing.{Standing, fed, opener_at_start}
 use Rattle.m2_journal.specs.Feeds.{acknowledgements, begun, finished, goes_on, greets, hears, hears_at, keepalive_answers, narrowed, next_place, next_said, owed_numbers, silent_feed, split_into, texts_at, unnamed, without_first}
 use Rattle.m2_journal.specs.Items as item
 use Rattle.m2_journal.specs.Items.{JournalItem}
@@ -22,13 +22,13 @@ use Rattle.m2_journal.specs.Said.{split}
 use Rattle.m2_journal.specs.SideFacts.{SideFacts, cookie_of}
 use Rattle.m2_journal.specs.State.{PartText, Feed, State}
 use Rattle.m2_journal.specs.Steps.{after, breaks, composes, event_heard, event_of, forgets, is_on, is_waiting, notes, on_feed_at, accepts, posts, puts, puts_on, queues, reads, sends, takes_answer, takes_socket, tells, tells_if, with_feed, writes_message}
-use Rattle.m2_message.specs.Message.{Content}
-use Rattle.m2_queues.specs.QueueLaws.{Next}
-use Rattle.m2_queues.specs.OutQueues.{message_at}
-use Rattle.m2_session.specs.declared.event.Event.TheVariants as event
-use Rattle.m2_session.specs.SessionLaws.{takes}
-use Rattle.m2_session.specs.Phases as phases
-use Rattle.m2_session.specs.declared.session.Phase.TheVariants as phase
+use Rattle.m2_journal.specs.m2_message.Message.{Content}
+use Rattle.m2_journal.specs.m2_queues.QueueLaws.{Next}
+use Rattle.m2_journal.specs.m2_queues.OutQueues.{message_at}
+use Rattle.m2_journal.specs.m2_session.declared.event.Event.TheVariants as event
+use Rattle.m2_journal.specs.m2_session.SessionLaws.{takes}
+use Rattle.m2_journal.specs.m2_session.Phases as phases
+use Rattle.m2_journal.specs.m2_session.declared.session.Phase.TheVariants as phase
 
 abbrev pub AreNamed : List PartText → Type 0
 AreNamed texts = AllByRecursion IsNamed texts

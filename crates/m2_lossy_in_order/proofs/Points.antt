@@ -2,13 +2,13 @@
 -- that the other has sent there, and what it has accepted is some of what the other has composed.
 use Rattle.std.proofs.Common.{◌≡◌, ℕ, ◌+◌, ◌≤◌, ◌⊎◌, inl, inr, Bool, true, false, if◌then◌else◌, List, [], ◌∷◌, ◌++◌, drop, length, map, Option, Some, None, refl, sym, ap, ◌∙◌, subst, arith, append-nil}
 use Rattle.std.specs.List.{AllByRecursion}
-use Rattle.m2_control.specs.declared.control.Control.TheVariants as control
-use Rattle.m2_fabric.specs.declared.socket.SocketId.{SocketId}
-use Rattle.m2_fabric.specs.Sockets.{is_among, same_socket}
+use Rattle.m2_journal.specs.m2_control.declared.control.Control.TheVariants as control
+use Rattle.m2_journal.specs.m2_fabric.declared.socket.SocketId.{SocketId}
+use Rattle.m2_journal.specs.m2_fabric.Sockets.{is_among, same_socket}
 use Rattle.m2_bytes_fit.specs.Ends.{Side}
 use Rattle.m2_bytes_fit.specs.Halves.{BytesFit, KeepsRanges}
 use Rattle.m2_bytes_fit.specs.Texts.{CanBePosted}
-use Rattle.m2_trail.specs.Trails.{HalfBytes}
+use Rattle.m2_bytes_fit.specs.m2_trail.Trails.{HalfBytes}
 use Rattle.m2_bytes_fit.proofs.Bounded.{RestIsBounded, rest_after}
 use Rattle.m2_bytes_fit.proofs.Composed.{AreComposed, can_be_sent, taken_in, unasked_so}
 use Rattle.m2_bytes_fit.proofs.Entries.{FeedSo, entry_keeps}
@@ -28,26 +28,26 @@ use Rattle.m2_journal.specs.SideFacts.{SideFacts}
 use Rattle.m2_journal.specs.State.{Feed, Judgement, SentFrame, State, start}
 use Rattle.m2_journal.specs.Steps.{after, tells}
 use Rattle.m2_journal.proofs.Growing.{after-append}
-use Rattle.m2_never_reset.specs.Fits.{AreItsAsks, HearsAt}
-use Rattle.m2_never_reset.specs.Frames.{answers_on, asks_on}
-use Rattle.m2_never_reset.specs.PairLaws.{IsNoDown}
-use Rattle.m2_never_reset.specs.Orders.{posted_in, posts_in}
-use Rattle.m2_never_reset.proofs.Answered.{next_of}
-use Rattle.m2_never_reset.proofs.Read.{is_ident}
-use Rattle.m2_never_reset.proofs.Sockets.{at_among}
-use Rattle.m2_session.specs.SessionLaws as session
-use Rattle.m2_session.specs.declared.event.Event.TheVariants as event
-use Rattle.m2_session.specs.declared.session.Phase.{Phase}
-use Rattle.m2_session.specs.declared.session.Phase.TheVariants as phase
+use Rattle.m2_channel.specs.m2_never_reset.Fits.{AreItsAsks, HearsAt}
+use Rattle.m2_channel.specs.m2_never_reset.Frames.{answers_on, asks_on}
+use Rattle.m2_channel.specs.m2_never_reset.PairLaws.{IsNoDown}
+use Rattle.m2_channel.specs.m2_never_reset.Orders.{posted_in, posts_in}
+use Rattle.m2_channel.proofs.m2_never_reset.Answered.{next_of}
+use Rattle.m2_channel.proofs.m2_never_reset.Read.{is_ident}
+use Rattle.m2_channel.proofs.m2_never_reset.Sockets.{at_among}
+use Rattle.m2_journal.specs.m2_session.SessionLaws as session
+use Rattle.m2_journal.specs.m2_session.declared.event.Event.TheVariants as event
+use Rattle.m2_journal.specs.m2_session.declared.session.Phase.{Phase}
+use Rattle.m2_journal.specs.m2_session.declared.session.Phase.TheVariants as phase
 use Rattle.m2_lossy_in_order.proofs.Both.{Both, HasAcceptance, HasHeard, client_moves, server_moves}
 use Rattle.m2_lossy_in_order.proofs.Entries.{HasGotFor, IsLossySide, IsMoveOf, entry_moves}
 use Rattle.m2_lossy_in_order.proofs.Moves.{Spot, View, Move, rests, posts, opens, leaves, gives_up, refuses, takes_on, asks, settles, numbers, accepts, moved, posted_by, May, IfSpot, spot_of, view}
 use Rattle.m2_lossy_in_order.proofs.Named.{NamedKept, named_after}
 use Rattle.m2_lossy_in_order.proofs.Posted.{IsPosted, posted_after}
 use Rattle.m2_lossy_in_order.proofs.Sides.{SideIs, StandsIn, side_after}
-use Rattle.m2_fabric.proofs.Sockets.{not_among_none}
+use Rattle.m2_journal.proofs.m2_fabric.Sockets.{not_among_none}
 use Rattle.m2_channel.proofs.Orders.{posts-append}
-use Rattle.m2_lemmas.proofs.Booleans.{from_false_true}
+use Rattle.m2_journal.proofs.m2_lemmas.Booleans.{from_false_true}
 use Rattle.m2_journal.proofs.JudgedOn.{lawful_front}
 
 -- ---- a side by itself

@@ -3,17 +3,17 @@ use Rattle.std.proofs.Common.{◌≡◌, ℕ, ◌==◌, Bool, true, false, List,
 use Rattle.std.specs.List.{AllByRecursion}
 use Rattle.std.proofs.lemmas.List.{map-append}
 use Rattle.std.proofs.lemmas.List.Elements.{filter-append, filter_map-append}
-use Rattle.m2_dispatch.specs.Laws.{IsSublist}
-use Rattle.m2_fabric.specs.declared.socket.SocketId.{SocketId}
+use Rattle.m2_channel.specs.m2_dispatch.Laws.{IsSublist}
+use Rattle.m2_journal.specs.m2_fabric.declared.socket.SocketId.{SocketId}
 use Rattle.m2_journal.specs.OutFrames as out
 use Rattle.m2_journal.specs.OutFrames.{OutFrame}
 use Rattle.m2_journal.specs.SideFacts.{SideFacts}
 use Rattle.m2_journal.specs.State.{SentFrame}
-use Rattle.m2_message.specs.Message.{Content, priority_of}
-use Rattle.m2_queues.proofs.Joining.{rank-put_behind}
-use Rattle.m2_queues.specs.QueueLaws.{of_priority}
-use Rattle.m2_session.specs.declared.session.Phase.{Phase}
-use Rattle.m2_session.specs.declared.session.Phase.TheVariants as phase
+use Rattle.m2_journal.specs.m2_message.Message.{Content, priority_of}
+use Rattle.m2_journal.proofs.m2_queues.Joining.{rank-put_behind}
+use Rattle.m2_journal.specs.m2_queues.QueueLaws.{of_priority}
+use Rattle.m2_journal.specs.m2_session.declared.session.Phase.{Phase}
+use Rattle.m2_journal.specs.m2_session.declared.session.Phase.TheVariants as phase
 use Rattle.m2_lossy_in_order.proofs.Frames.{IsMute, Mail, mail_of, mails_in, mute_says_nothing}
 use Rattle.m2_lossy_in_order.proofs.Moves.{Spot, View, Move, rests, posts, opens, leaves, gives_up, refuses, takes_on, asks, settles, numbers, accepts, moved, posted_by, May, on_socket, sent_on}
 use Rattle.m2_lossy_in_order.proofs.Sides.{SideIs, StandsIn}

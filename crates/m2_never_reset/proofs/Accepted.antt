@@ -4,10 +4,10 @@
 use Rattle.std.proofs.Common.{◌≡◌, ℕ, suc, ◌+◌, ◌≤◌, Bool, true, false, List, [], ◌∷◌, ◌++◌, length, take, drop, max, Option, Some, None, refl, sym, ap, ◌∙◌, subst, arith, append_assoc}
 use Rattle.std.specs.List.{prefix_len}
 use Rattle.std.specs.Option.{option_map}
-use Rattle.m2_control.specs.declared.control.Control.TheVariants as control
-use Rattle.m2_frame.specs.Reading.{Item}
-use Rattle.m2_message.specs.Message.{Content, unnumbered}
-use Rattle.m2_policy.specs.declared.path.Key.{Key}
+use Rattle.m2_session.specs.m2_control.declared.control.Control.TheVariants as control
+use Rattle.m2_queues.specs.m2_frame.Reading.{Item}
+use Rattle.m2_queues.specs.m2_message.Message.{Content, unnumbered}
+use Rattle.m2_session.specs.m2_policy.declared.path.Key.{Key}
 use Rattle.m2_session.specs.declared.session.Phase.TheVariants as phase
 use Rattle.m2_journal.specs.Feeds.{told_by, said_at, is_passed, next_place, next_said}
 use Rattle.m2_journal.specs.Items as item
@@ -31,8 +31,8 @@ use Rattle.m2_never_reset.specs.PairLaws.{AcceptedIsSteps}
 use Rattle.m2_never_reset.specs.Paired.{beside, FeedIsPaired}
 use Rattle.m2_never_reset.proofs.Heard.{first_mail, as_list, mails_split, heard_if, heard_as_list, heard-append, heard_in-append, AreSaid-drop, get-drop, drop-behind, take-more}
 use Rattle.m2_never_reset.proofs.Links.{plus_none}
-use Rattle.m2_lemmas.proofs.Options.{none_isnt_some}
-use Rattle.m2_lemmas.proofs.Booleans.{false_isnt_true}
+use Rattle.m2_queues.proofs.m2_lemmas.Options.{none_isnt_some}
+use Rattle.m2_queues.proofs.m2_lemmas.Booleans.{false_isnt_true}
 
 -- ---- what stands before the message
 

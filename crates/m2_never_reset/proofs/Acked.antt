@@ -7,8 +7,8 @@ use Rattle.std.specs.Prelude.{◌||◌, ◌==◌}
 use Rattle.std.specs.List.{filter_map, list_any, cons_option, AllByRecursion}
 use Rattle.std.proofs.lemmas.Bool.{eqb-true, le-leb}
 use Rattle.std.proofs.lemmas.List.{take-append-drop}
-use Rattle.m2_control.specs.declared.control.Control.TheVariants as control
-use Rattle.m2_frame.specs.Reading.{Item}
+use Rattle.m2_session.specs.m2_control.declared.control.Control.TheVariants as control
+use Rattle.m2_queues.specs.m2_frame.Reading.{Item}
 use Rattle.m2_queues.specs.QueueLaws.{Acked, after_call}
 use Rattle.m2_session.specs.declared.session.Phase.TheVariants as phase
 use Rattle.m2_journal.specs.Feeds.{told_by, told}
@@ -31,7 +31,7 @@ use Rattle.m2_never_reset.specs.PairLaws.{AckedIsSteps}
 use Rattle.m2_never_reset.specs.Paired.{IsMail, IsToCome, beside, FeedIsPaired}
 use Rattle.m2_never_reset.proofs.Heard.{AreSaid-drop, as_list, heard_if, heard_as_list, heard-append, heard_in-append, mails_split}
 use Rattle.m2_never_reset.proofs.Links.{plus_none, links, one_step}
-use Rattle.m2_lemmas.proofs.Booleans.{one_of_or, false_isnt_true}
+use Rattle.m2_queues.proofs.m2_lemmas.Booleans.{one_of_or, false_isnt_true}
 
 -- ---- what is told
 

@@ -1,7 +1,7 @@
 -- After the moment: no step changes the two cookies. No ident is taken, since all are old; no side is reset, since
 -- each reconnect on which a side stands names the session.
 use Rattle.std.proofs.Common.{◌≡◌, ℕ, ◌<◌, ◌≤◌, ◌⊎◌, inl, inr, Bool, [], refl, sym, ◌∙◌, subst, arith, le_of_eq, Some}
-use Rattle.m2_fabric.specs.declared.socket.SocketId.{SocketId}
+use Rattle.m2_journal.specs.m2_fabric.declared.socket.SocketId.{SocketId}
 use Rattle.m2_session.specs.Reconnect.{Reconnect}
 use Rattle.m2_never_reset.specs.Roles.{Role}
 use Rattle.m2_never_reset.specs.Asks.{Ident, Ask, by_ident, by_reconnect, Refusal, reset, retry, wait, Asks, AtMost}

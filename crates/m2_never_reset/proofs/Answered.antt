@@ -1,6 +1,6 @@
 -- The answer to an ask that is next on a feed is the first of what is to come there.
 use Rattle.std.proofs.Common.{◌≡◌, ℕ, zero, suc, ◌+◌, ◌≤◌, List, [], ◌∷◌, ◌++◌, length, take, drop, Option, Some, None, refl, ap, ◌∙◌, subst, arith}
-use Rattle.m2_frame.specs.Reading.{Item}
+use Rattle.m2_queues.specs.m2_frame.Reading.{Item}
 use Rattle.m2_journal.specs.Feeds.{told_by, said_at}
 use Rattle.m2_journal.specs.OutFrames.{OutFrame}
 use Rattle.m2_journal.specs.Said.{Said, said}
@@ -8,8 +8,8 @@ use Rattle.m2_journal.specs.State as state
 use Rattle.m2_journal.specs.State.{Delivery}
 use Rattle.m2_never_reset.specs.Fits.{Says, IsRefusal, AreSaid}
 use Rattle.m2_never_reset.specs.LinkOf.{raised_by, heard_in, letters}
-use Rattle.m2_message.specs.Message.{unnumbered}
-use Rattle.m2_lemmas.proofs.Options.{some_same}
+use Rattle.m2_queues.specs.m2_message.Message.{unnumbered}
+use Rattle.m2_queues.proofs.m2_lemmas.Options.{some_same}
 
 abbrev IsNothing : {X : Type 0} → Option X → Type 0
 IsNothing None = Unit {0}

@@ -1,11 +1,11 @@
 -- The facts of a feed where the answer to its ask is taken, and where it hears bytes.
 use Rattle.std.proofs.Common.{◌≡◌, ℕ, zero, suc, ◌+◌, ◌≤◌, ◌⊎◌, inl, inr, Bool, true, false, if◌then◌else◌, List, [], ◌∷◌, length, drop, Option, Some, None, refl, sym, ◌∙◌, subst, arith}
 use Rattle.std.specs.List.{AllByRecursion}
-use Rattle.m2_frame.specs.Reading.{Item}
-use Rattle.m2_fabric.specs.Sockets.{same_socket}
-use Rattle.m2_handshake.specs.Course.{Course, course_of, text_of}
-use Rattle.m2_handshake.specs.Moves.{is_authed}
-use Rattle.m2_handshake.specs.Standing.{Standing, fed}
+use Rattle.m2_queues.specs.m2_frame.Reading.{Item}
+use Rattle.m2_journal.specs.m2_fabric.Sockets.{same_socket}
+use Rattle.m2_journal.specs.m2_handshake.Course.{Course, course_of, text_of}
+use Rattle.m2_journal.specs.m2_handshake.Moves.{is_authed}
+use Rattle.m2_journal.specs.m2_handshake.Standing.{Standing, fed}
 use Rattle.m2_session.specs.declared.session.Phase.{Phase}
 use Rattle.m2_session.specs.declared.session.Phase.TheVariants as phase
 use Rattle.m2_journal.specs.Feeds.{said_at, greets, split_into, signs, goes_on, hears_at, hears}

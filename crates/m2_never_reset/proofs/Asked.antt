@@ -3,8 +3,8 @@
 -- Asked: `asks_by_ident` or `asks_by_reconnect`.
 use Rattle.std.proofs.Common.{◌≡◌, ◌≢◌, ℕ, ◌+◌, inl, inr, Bool, true, false, ◌==◌, if◌then◌else◌, List, [], ◌∷◌, ◌++◌, Option, Some, None, refl, sym, ap, ◌∙◌, subst}
 use Rattle.std.proofs.lemmas.Bool.{eqb-true, eqb-false}
-use Rattle.m2_fabric.specs.declared.socket.SocketId.{SocketId}
-use Rattle.m2_fabric.specs.Sockets.{same_socket}
+use Rattle.m2_journal.specs.m2_fabric.declared.socket.SocketId.{SocketId}
+use Rattle.m2_journal.specs.m2_fabric.Sockets.{same_socket}
 use Rattle.m2_session.specs.declared.session.Phase.{Phase}
 use Rattle.m2_session.specs.declared.session.Phase.TheVariants as phase
 use Rattle.m2_session.specs.Conditions.{is_kept}
@@ -27,7 +27,7 @@ use Rattle.m2_never_reset.specs.Paired.{IsToCome, beside, FeedIsPaired}
 use Rattle.m2_never_reset.specs.Trouble.{trouble_at}
 use Rattle.m2_never_reset.proofs.Links.{plus_none, links, joined_same, same_asks, stand_same, one_step}
 use Rattle.m2_never_reset.proofs.Sent.{asks_elsewhere, asks_here, last_of, to_come_asked}
-use Rattle.m2_fabric.proofs.Sockets.{same_refl}
+use Rattle.m2_journal.proofs.m2_fabric.Sockets.{same_refl}
 
 -- ---- the ask is the last one, and no other side sees it yet
 

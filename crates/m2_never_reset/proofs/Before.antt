@@ -1,7 +1,7 @@
 -- The first half of the invariant: what holds until the moment at which both sides keep the same two cookies.
 use Rattle.std.proofs.Common.{◌≡◌, ◌≢◌, ℕ, ◌<◌, ◌≤◌, ◌⊎◌, true, false, List, [], Some}
-use Rattle.m2_fabric.specs.declared.socket.SocketId.{SocketId}
-use Rattle.m2_message.specs.Message.{Content}
+use Rattle.m2_journal.specs.m2_fabric.declared.socket.SocketId.{SocketId}
+use Rattle.m2_queues.specs.m2_message.Message.{Content}
 use Rattle.m2_never_reset.specs.Roles.{Role, IsNumber}
 use Rattle.m2_never_reset.specs.Asks.{Ask, by_ident, by_reconnect, reset, Asks}
 use Rattle.m2_never_reset.specs.Link.{Stand, absent, standby, waiting, asking, refused, offered, resumed, ready, Node, Joined, apart, by_near, by_far, Link}

@@ -1,7 +1,7 @@
 -- Before the moment: an ident is accepted, on the socket on which its opener stands or on one that it has left. The
 -- acceptor has left its own feed first.
 use Rattle.std.proofs.Common.{◌≡◌, ℕ, ◌<◌, ◌≤◌, max, ◌⊎◌, inl, inr, Bool, true, false, [], length, refl, sym, ap, ◌∙◌, subst, arith, Some}
-use Rattle.m2_fabric.specs.declared.socket.SocketId.{SocketId}
+use Rattle.m2_journal.specs.m2_fabric.declared.socket.SocketId.{SocketId}
 use Rattle.m2_never_reset.specs.Roles.{Role, IsNumber, AreMints}
 use Rattle.m2_never_reset.specs.Asks.{Ident, Ask, by_ident, Asks, AtMost}
 use Rattle.m2_never_reset.specs.Link.{Stand, absent, standby, asking, offered, ready, Node, Joined, apart, by_far, link}

@@ -1,6 +1,6 @@
 -- Before the moment: messages get numbers and are written behind an offer, and none is read.
 use Rattle.std.proofs.Common.{◌≡◌, ℕ, ◌<◌, ◌≤◌, List, [], ◌∷◌, ◌++◌, subst, arith}
-use Rattle.m2_message.specs.Message.{Content}
+use Rattle.m2_queues.specs.m2_message.Message.{Content}
 use Rattle.m2_never_reset.specs.Roles.{Role}
 use Rattle.m2_never_reset.specs.Mails.{Mail, heard_with}
 use Rattle.m2_never_reset.specs.Link.{Stand, offered, ready, Node, Joined, apart, by_near, by_far, link}

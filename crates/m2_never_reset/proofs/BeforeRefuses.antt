@@ -11,7 +11,7 @@ use Rattle.m2_never_reset.proofs.Before.{Identity, identity_of, Asked, IsDrawnBy
 use Rattle.m2_never_reset.proofs.CrossingAsked.{at_offer}
 use Rattle.m2_never_reset.proofs.BeforeLeaves.{before_fewer, before_draws}
 use Rattle.m2_never_reset.proofs.BeforeAccepts.{ChecksAsServer}
-use Rattle.m2_lemmas.proofs.Booleans.{not_true_is_false}
+use Rattle.m2_queues.proofs.m2_lemmas.Booleans.{not_true_is_false}
 
 -- ---- no reconnect names the session of its judge
 

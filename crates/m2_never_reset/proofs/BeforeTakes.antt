@@ -1,6 +1,6 @@
 -- Before the moment: a side takes the answer to its ask. To take an offer is the moment.
 use Rattle.std.proofs.Common.{◌≡◌, ◌≢◌, ℕ, max, inl, inr, true, false, true≢false, List, refl, sym, ◌∙◌, subst, arith, Some}
-use Rattle.m2_fabric.specs.declared.socket.SocketId.{SocketId}
+use Rattle.m2_journal.specs.m2_fabric.declared.socket.SocketId.{SocketId}
 use Rattle.m2_never_reset.specs.Roles.{Role}
 use Rattle.m2_never_reset.specs.Asks.{Ask, by_ident, by_reconnect, Refusal, reset, retry, wait, Asks}
 use Rattle.m2_never_reset.specs.Mails.{Mail}

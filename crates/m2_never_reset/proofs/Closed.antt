@@ -21,7 +21,7 @@ use Rattle.m2_never_reset.specs.Paired.{beside, FeedIsPaired}
 use Rattle.m2_never_reset.specs.Trouble.{trouble_by, trouble_told}
 use Rattle.m2_never_reset.proofs.Leaving.{WaitsUnjudged, leaves_at}
 use Rattle.m2_never_reset.proofs.Links.{plus_none, stays, one_step}
-use Rattle.m2_lemmas.proofs.Booleans.{from_false_true}
+use Rattle.m2_queues.proofs.m2_lemmas.Booleans.{from_false_true}
 
 -- a lossless session waits, in one way or the other
 pub faulted : (s : Session) (waits : Bool) → s.policy.lossy ≡ false →

@@ -1,6 +1,6 @@
 -- Runs one after the other; and one that brings a message over and has it acknowledged.
 use Rattle.std.proofs.Common.{◌≡◌, inl, inr, false, [], ◌∷◌, refl, arith, None}
-use Rattle.m2_message.specs.Message.{Content}
+use Rattle.m2_queues.specs.m2_message.Message.{Content}
 use Rattle.m2_never_reset.specs.Roles.{Role}
 use Rattle.m2_never_reset.specs.Asks.{Ident, by_ident}
 use Rattle.m2_never_reset.specs.Mails.{letter, ack}

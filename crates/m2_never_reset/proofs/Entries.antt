@@ -1,7 +1,7 @@
 -- Every kind of entry, of either side.
 use Rattle.std.proofs.Common.{◌≡◌, ◌+◌, Bool, true, false, not, if◌then◌else◌, List, Option, Some, None, refl, sym, ap, ◌∙◌, subst}
-use Rattle.m2_fabric.specs.declared.socket.SocketId.{SocketId}
-use Rattle.m2_fabric.specs.Sockets.{is_among, same_socket}
+use Rattle.m2_journal.specs.m2_fabric.declared.socket.SocketId.{SocketId}
+use Rattle.m2_journal.specs.m2_fabric.Sockets.{is_among, same_socket}
 use Rattle.m2_queues.specs.QueueLaws.{EachNumberIsAPlace, CallsGoOn}
 use Rattle.m2_journal.specs.Items as item
 use Rattle.m2_journal.specs.Lawful.{judged_sockets}
@@ -28,8 +28,8 @@ use Rattle.m2_never_reset.proofs.Wrote.{wrote_is}
 use Rattle.m2_never_reset.proofs.Read.{read_is}
 use Rattle.m2_never_reset.proofs.Judged.{judged_is}
 use Rattle.m2_never_reset.proofs.Sockets.{at_among, taken_is_judged}
-use Rattle.m2_lemmas.proofs.Booleans.{from_false_true}
-use Rattle.m2_fabric.proofs.Sockets.{same_equal, same_turned}
+use Rattle.m2_queues.proofs.m2_lemmas.Booleans.{from_false_true}
+use Rattle.m2_journal.proofs.m2_fabric.Sockets.{same_equal, same_turned}
 
 pub entries_are : AnswersAreSteps → EachNumberIsAPlace → CallsGoOn → EntriesAreSteps
 entries_are tables places go_on f g (item.post place planned) not_down = posts_are f g place planned

@@ -1,11 +1,11 @@
 -- A feed that hears bytes stays what it is to the link, but for more texts that it has got.
 use Rattle.std.proofs.Common.{◌≡◌, ℕ, zero, suc, ◌≤◌, Bool, true, false, if◌then◌else◌, List, [], ◌∷◌, ◌++◌, length, take, Option, Some, None, refl, sym, ap, ◌∙◌, arith}
 use Rattle.std.proofs.lemmas.List.{append-nil}
-use Rattle.m2_frame.specs.Reading.{Item}
-use Rattle.m2_handshake.specs.Course.{Course, course_of, text_of}
-use Rattle.m2_handshake.specs.Moves.{is_authed}
-use Rattle.m2_handshake.specs.Standing.{Standing, fed, opener_at_start}
-use Rattle.m2_fabric.specs.declared.socket.SocketId.{SocketId}
+use Rattle.m2_queues.specs.m2_frame.Reading.{Item}
+use Rattle.m2_journal.specs.m2_handshake.Course.{Course, course_of, text_of}
+use Rattle.m2_journal.specs.m2_handshake.Moves.{is_authed}
+use Rattle.m2_journal.specs.m2_handshake.Standing.{Standing, fed, opener_at_start}
+use Rattle.m2_journal.specs.m2_fabric.declared.socket.SocketId.{SocketId}
 use Rattle.m2_journal.specs.Feeds.{greets, split_into, signs, goes_on, hears_at, hears, silent_feed, opened_feed}
 use Rattle.m2_journal.specs.Said.{split}
 use Rattle.m2_journal.specs.SideFacts.{SideFacts}

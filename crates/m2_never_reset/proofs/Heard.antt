@@ -1,7 +1,7 @@
 -- What a feed has heard, text for text of what was sent; and what of it acknowledges.
 use Rattle.std.proofs.Common.{◌≡◌, ℕ, zero, suc, ◌+◌, ◌≤◌, List, [], ◌∷◌, ◌++◌, length, take, drop, max, Option, Some, None, refl, sym, ap, ◌∙◌, arith}
 use Rattle.std.specs.Prelude.{slice_get}
-use Rattle.m2_frame.specs.Reading.{Item}
+use Rattle.m2_queues.specs.m2_frame.Reading.{Item}
 use Rattle.m2_journal.specs.Feeds.{told_by}
 use Rattle.m2_journal.specs.Said.{said}
 use Rattle.m2_journal.specs.OutFrames.{OutFrame}

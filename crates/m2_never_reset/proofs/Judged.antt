@@ -7,8 +7,8 @@ use Rattle.std.specs.List.{AllByRecursion}
 use Rattle.std.proofs.lemmas.List.{map-append}
 use Rattle.m2_session.specs.declared.ask.AskFacts.{AskFacts}
 use Rattle.m2_session.specs.Asks as asks
-use Rattle.m2_fabric.specs.declared.socket.SocketId.{SocketId}
-use Rattle.m2_fabric.specs.Sockets.{is_among}
+use Rattle.m2_journal.specs.m2_fabric.declared.socket.SocketId.{SocketId}
+use Rattle.m2_journal.specs.m2_fabric.Sockets.{is_among}
 use Rattle.m2_session.specs.declared.answer.Answer.{Answer}
 use Rattle.m2_session.specs.declared.answer.Answer.TheVariants as answer
 use Rattle.m2_session.specs.declared.session.Phase.TheVariants as phase
@@ -39,7 +39,7 @@ use Rattle.m2_never_reset.proofs.Refusing.{live_is_refused, left_is_refused, is_
 use Rattle.m2_never_reset.proofs.Resuming.{live_is_resumed, left_is_resumed}
 use Rattle.m2_never_reset.proofs.Sockets.{at_among}
 use Rattle.m2_never_reset.proofs.Stable.{judgement, judged_after}
-use Rattle.m2_fabric.proofs.Sockets.{among_last}
+use Rattle.m2_journal.proofs.m2_fabric.Sockets.{among_last}
 
 -- ---- facts of the entry
 

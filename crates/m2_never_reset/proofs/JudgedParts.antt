@@ -3,8 +3,8 @@ use Rattle.std.proofs.Common.{◌≡◌, ℕ, zero, suc, ◌+◌, ◌≤◌, ◌
 use Rattle.std.specs.List.{AllByRecursion, filter}
 use Rattle.std.proofs.lemmas.Bool.{ltb-true, false_from_ne_true}
 use Rattle.std.proofs.lemmas.List.Elements.{filter-append}
-use Rattle.m2_fabric.specs.declared.socket.SocketId.{SocketId}
-use Rattle.m2_fabric.specs.Sockets.{is_among, same_socket}
+use Rattle.m2_journal.specs.m2_fabric.declared.socket.SocketId.{SocketId}
+use Rattle.m2_journal.specs.m2_fabric.Sockets.{is_among, same_socket}
 use Rattle.m2_session.specs.declared.session.Phase.{Phase}
 use Rattle.m2_session.specs.declared.session.Phase.TheVariants as phase
 use Rattle.m2_journal.specs.Laws.{IfFed}
@@ -18,8 +18,8 @@ use Rattle.m2_never_reset.proofs.Keeping.{ListsArePaired, if_fed, not_accepted, 
 use Rattle.m2_never_reset.proofs.Sending.{sent_lists, unjudged_same}
 use Rattle.m2_never_reset.proofs.Sent.{answers_here, answers_elsewhere, to_come_here}
 use Rattle.m2_never_reset.proofs.Written.{AreWritten}
-use Rattle.m2_lemmas.proofs.Booleans.{from_false_true}
-use Rattle.m2_fabric.proofs.Sockets.{same_refl, same_equal, same_turned, among_last, among_front}
+use Rattle.m2_queues.proofs.m2_lemmas.Booleans.{from_false_true}
+use Rattle.m2_journal.proofs.m2_fabric.Sockets.{same_refl, same_equal, same_turned, among_last, among_front}
 
 -- ---- lists
 

@@ -5,8 +5,8 @@ use Rattle.std.proofs.lemmas.Bool.{and_parts, ltb-true, lt-ltb}
 use Rattle.std.proofs.lemmas.List.{map-append}
 use Rattle.std.proofs.lemmas.List.Elements.{filter-append}
 use Rattle.m2_session.specs.declared.ask.AskFacts.{AskFacts}
-use Rattle.m2_fabric.specs.declared.socket.SocketId.{SocketId}
-use Rattle.m2_fabric.specs.Sockets.{same_socket}
+use Rattle.m2_journal.specs.m2_fabric.declared.socket.SocketId.{SocketId}
+use Rattle.m2_journal.specs.m2_fabric.Sockets.{same_socket}
 use Rattle.m2_session.specs.declared.answer.Answer.{Answer}
 use Rattle.m2_session.specs.declared.session.Phase.{Phase}
 use Rattle.m2_session.specs.declared.session.Phase.TheVariants as phase
@@ -24,7 +24,7 @@ use Rattle.m2_never_reset.proofs.Leaving.{chosen, stands_asking}
 use Rattle.m2_never_reset.proofs.Links.{stand_same}
 use Rattle.m2_never_reset.proofs.Sent.{last_of, to_come_here, to_come_elsewhere}
 use Rattle.m2_never_reset.proofs.Stable.{judgement}
-use Rattle.m2_fabric.proofs.Sockets.{same_refl, same_equal, same_turned}
+use Rattle.m2_journal.proofs.m2_fabric.Sockets.{same_refl, same_equal, same_turned}
 
 -- ---- counts of judgements
 

@@ -1,7 +1,7 @@
 -- What two sides have in common, put together from its parts; and what of it stays where one part changes.
 use Rattle.std.proofs.Common.{◌≡◌, ◌+◌, ◌≤◌, ◌⊎◌, true, false, List, [], ◌∷◌, ◌++◌, length, length-append, Option, Some, None, refl, sym, ap, ◌∙◌, subst, arith}
-use Rattle.m2_fabric.specs.declared.socket.SocketId.{SocketId}
-use Rattle.m2_fabric.specs.Sockets.{is_among, same_socket}
+use Rattle.m2_journal.specs.m2_fabric.declared.socket.SocketId.{SocketId}
+use Rattle.m2_journal.specs.m2_fabric.Sockets.{is_among, same_socket}
 use Rattle.m2_session.specs.declared.session.Phase.{Phase}
 use Rattle.m2_session.specs.declared.session.Phase.TheVariants as phase
 use Rattle.m2_journal.specs.Lawful.{judged_sockets}
@@ -15,7 +15,7 @@ use Rattle.m2_never_reset.specs.Paired.{IsMail, BeginsAccepted, IsToCome, IsAcce
 use Rattle.m2_never_reset.proofs.Feeds.{HasHeard}
 use Rattle.m2_never_reset.proofs.Sent.{answers_same, answers_here, answers_elsewhere, to_come_asked, to_come_here, to_come_elsewhere}
 use Rattle.m2_never_reset.proofs.Written.{AreWritten}
-use Rattle.m2_lemmas.proofs.Lists.{all_append}
+use Rattle.m2_queues.proofs.m2_lemmas.Lists.{all_append}
 
 -- ---- the parts
 

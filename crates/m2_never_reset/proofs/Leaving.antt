@@ -1,7 +1,7 @@
 -- The asks that a side leaves where it leaves its socket.
 use Rattle.std.proofs.Common.{◌≡◌, ◌⊎◌, inl, inr, Bool, true, false, not, ◌&&◌, if◌then◌else◌, List, [], Option, Some, None, is_some, refl, ap, ◌∙◌, subst}
-use Rattle.m2_fabric.specs.declared.socket.SocketId.{SocketId}
-use Rattle.m2_fabric.specs.Sockets.{same_socket}
+use Rattle.m2_journal.specs.m2_fabric.declared.socket.SocketId.{SocketId}
+use Rattle.m2_journal.specs.m2_fabric.Sockets.{same_socket}
 use Rattle.m2_session.specs.declared.session.Phase.{Phase}
 use Rattle.m2_session.specs.declared.session.Phase.TheVariants as phase
 use Rattle.m2_journal.specs.Laws.{IfFed}
@@ -12,8 +12,8 @@ use Rattle.m2_never_reset.specs.Steps.{LeavesAt}
 use Rattle.m2_never_reset.specs.Frames.{asks_on, no_ask, last_ask, ask_now, to_come}
 use Rattle.m2_never_reset.specs.LinkOf.{is_feed, asks_left, is_unjudged, stand_on, stand_by}
 use Rattle.m2_never_reset.specs.Paired.{HasAsked}
-use Rattle.m2_lemmas.proofs.Booleans.{from_false_true}
-use Rattle.m2_fabric.proofs.Sockets.{same_equal}
+use Rattle.m2_queues.proofs.m2_lemmas.Booleans.{from_false_true}
+use Rattle.m2_journal.proofs.m2_fabric.Sockets.{same_equal}
 
 -- a choice that gives something has its test true
 pub chosen : {X : Type 0} (t : Bool) (x y : X) → (if t then Some x else None) ≡ Some y → (t ≡ true) × (Some x ≡ Some y)

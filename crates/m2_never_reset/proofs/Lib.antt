@@ -62,3 +62,4 @@ pub mod Tallies
 pub mod Written
 pub mod Wrote
 pub mod Sided
+pub use Rattle.m2_journal.proofs as m2_journal

@@ -1,6 +1,6 @@
 -- The cookies of nodes at different places, from the law that cookies tell what they are made of.
 use Rattle.std.proofs.Common.{◌≡◌, ◌≢◌, ◌<◌, ◌^◌, false, sym, ap, ◌∙◌}
-use Rattle.m2_policy.specs.declared.policy.Policy.{Policy}
+use Rattle.m2_session.specs.m2_policy.declared.policy.Policy.{Policy}
 use Rattle.m2_session.specs.declared.cookie.CookieParts.{CookieParts}
 use Rattle.m2_session.specs.Cookies.{cookie_of}
 use Rattle.m2_session.specs.AnswerLaws.{CookiesTellDrawsApart}

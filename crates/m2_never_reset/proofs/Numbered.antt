@@ -5,8 +5,8 @@
 use Rattle.std.proofs.Common.{◌≡◌, ℕ, zero, suc, ◌+◌, ◌-◌, ◌≤◌, ◌<◌, Bool, true, false, not, List, [], ◌∷◌, ◌++◌, length, take, drop, map, Option, Some, None, refl, sym, ap, ◌∙◌, subst, arith}
 use Rattle.std.specs.Prelude.{◌||◌, if◌then◌else◌, nat_lt, nat_le, slice_get}
 use Rattle.std.proofs.lemmas.List.{map-append}
-use Rattle.m2_fabric.specs.declared.socket.SocketId.{SocketId}
-use Rattle.m2_message.specs.Message.{Content, unnumbered}
+use Rattle.m2_journal.specs.m2_fabric.declared.socket.SocketId.{SocketId}
+use Rattle.m2_queues.specs.m2_message.Message.{Content, unnumbered}
 use Rattle.m2_queues.specs.OutQueues.{Queue, cursor_number, next_number, after_next, after_sent, after_acked, newly_numbered, message_at}
 use Rattle.m2_queues.specs.QueueLaws.{Call, Post, Next, Sent, Acked, Requeue, Renumber, Discard, History, start_of, history_of, after_call, after_calls, EachNumberIsAPlace, CallsGoOn}
 use Rattle.m2_session.specs.declared.session.Phase.TheVariants as phase
@@ -30,7 +30,7 @@ use Rattle.m2_never_reset.specs.Paired.{beside, FeedIsPaired}
 use Rattle.m2_never_reset.proofs.Links.{plus_none, links, joined_same, same_asks}
 use Rattle.m2_never_reset.proofs.Mailed.{mail_is_on_its_way}
 use Rattle.m2_never_reset.proofs.Sent.{asks_same}
-use Rattle.m2_lemmas.proofs.Options.{none_isnt_some}
+use Rattle.m2_queues.proofs.m2_lemmas.Options.{none_isnt_some}
 
 abbrev IsNothing : {X : Type 0} → Option X → Type 0
 IsNothing None = Unit {0}

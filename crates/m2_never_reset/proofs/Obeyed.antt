@@ -4,8 +4,8 @@
 use Rattle.std.proofs.Common.{◌≡◌, ℕ, ◌+◌, Bool, true, false, List, [], ◌∷◌, ◌++◌, drop, Option, Some, None, refl, sym, ap, ◌∙◌, subst}
 use Rattle.std.specs.List.{drop-map}
 use Rattle.std.proofs.lemmas.List.{append-nil}
-use Rattle.m2_control.specs.declared.control.Control.TheVariants as control
-use Rattle.m2_message.specs.Message.{Content, unnumbered}
+use Rattle.m2_session.specs.m2_control.declared.control.Control.TheVariants as control
+use Rattle.m2_queues.specs.m2_message.Message.{Content, unnumbered}
 use Rattle.m2_session.specs.declared.event.Event.TheVariants as event
 use Rattle.m2_session.specs.declared.session.Phase.TheVariants as phase
 use Rattle.m2_journal.specs.Feeds.{told_by, answer_said}

@@ -5,16 +5,16 @@ use Rattle.std.specs.Prelude.{◌^◌}
 use Rattle.std.proofs.Common.{◌∙◌, arith, sym, ap, subst}
 use Rattle.std.proofs.lemmas.Bool.{ltb-true}
 use Rattle.std.specs.List.{AllByRecursion}
-use Rattle.m2_crc.specs.Crc.{after_byte, shifted, shifted_by}
-use Rattle.m2_frame.specs.Reading.{judge, judge_first, judge_later, judge_epilogue}
-use Rattle.m2_frame.specs.Preamble.{read_preamble, preamble_text}
-use Rattle.m2_frame.specs.Text.{segment_crc, text_of}
-use Rattle.m2_control.specs.Fields.{bounded_at, cookie_at, flag_at, numbers_at, list_at, string_at, vector_field}
-use Rattle.m2_control.specs.Ident.{tail_at}
-use Rattle.m2_addr.specs.Addr.{head_at, socket_at, body_of, shape_at}
-use Rattle.m2_addr.specs.Vector.{addresses_at, vector_at}
-use Rattle.m2_message.specs.HeaderText.{header_text}
-use Rattle.m2_message.specs.Message.{unnumbered}
+use Rattle.m2_queues.specs.m2_crc.Crc.{after_byte, shifted, shifted_by}
+use Rattle.m2_queues.specs.m2_frame.Reading.{judge, judge_first, judge_later, judge_epilogue}
+use Rattle.m2_queues.specs.m2_frame.Preamble.{read_preamble, preamble_text}
+use Rattle.m2_queues.specs.m2_frame.Text.{segment_crc, text_of}
+use Rattle.m2_session.specs.m2_control.Fields.{bounded_at, cookie_at, flag_at, numbers_at, list_at, string_at, vector_field}
+use Rattle.m2_session.specs.m2_control.Ident.{tail_at}
+use Rattle.m2_session.specs.m2_addr.Addr.{head_at, socket_at, body_of, shape_at}
+use Rattle.m2_session.specs.m2_addr.Vector.{addresses_at, vector_at}
+use Rattle.m2_queues.specs.m2_message.HeaderText.{header_text}
+use Rattle.m2_queues.specs.m2_message.Message.{unnumbered}
 use Rattle.m2_session.specs.declared.answer.Answer.TheVariants.{Accept}
 use Rattle.m2_journal.specs.Replay.{AreLawful, after_items}
 use Rattle.m2_journal.specs.SideFacts.{SideFacts}

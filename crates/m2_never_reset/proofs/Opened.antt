@@ -4,8 +4,8 @@
 use Rattle.std.proofs.Common.{◌≡◌, ℕ, ◌+◌, Bool, true, false, not, ◌&&◌, ◌||◌, if◌then◌else◌, Option, Some, None, refl, sym, ap, ◌∙◌, subst, zero-le}
 use Rattle.std.proofs.lemmas.Bool.{and_parts, not-true}
 use Rattle.m2_session.specs.Dials.{at_rest}
-use Rattle.m2_fabric.specs.declared.socket.SocketId.{SocketId}
-use Rattle.m2_fabric.specs.Sockets.{is_among, same_socket}
+use Rattle.m2_journal.specs.m2_fabric.declared.socket.SocketId.{SocketId}
+use Rattle.m2_journal.specs.m2_fabric.Sockets.{is_among, same_socket}
 use Rattle.m2_session.specs.declared.session.Phase.{Phase}
 use Rattle.m2_session.specs.declared.session.Phase.TheVariants as phase
 use Rattle.m2_session.specs.Phases as phases
@@ -24,9 +24,9 @@ use Rattle.m2_never_reset.proofs.Sockets.{at_among, taken_is_judged}
 use Rattle.m2_never_reset.proofs.Leaving.{fewer_left}
 use Rattle.m2_never_reset.proofs.Links.{plus_none, links, one_step}
 use Rattle.m2_never_reset.proofs.Feeds.{HasHeard, opened_hears, heard_same}
-use Rattle.m2_lemmas.proofs.Booleans.{from_false_true}
-use Rattle.m2_fabric.proofs.Sockets.{same_equal, among_last}
-use Rattle.m2_lemmas.proofs.Options.{none_of_isnt_some}
+use Rattle.m2_queues.proofs.m2_lemmas.Booleans.{from_false_true}
+use Rattle.m2_journal.proofs.m2_fabric.Sockets.{same_equal, among_last}
+use Rattle.m2_queues.proofs.m2_lemmas.Options.{none_of_isnt_some}
 
 -- ---- the side is at rest
 

@@ -19,7 +19,7 @@ use Rattle.m2_never_reset.specs.Orders.{FitThroughout, IsHistory, trouble_in, Hi
 use Rattle.m2_never_reset.specs.Paired.{Paired}
 use Rattle.m2_never_reset.specs.Trouble.{trouble_at}
 use Rattle.m2_never_reset.proofs.Entries.{fits_turn}
-use Rattle.m2_lemmas.proofs.Booleans.{from_false_true}
+use Rattle.m2_queues.proofs.m2_lemmas.Booleans.{from_false_true}
 
 -- ---- an order, entry for entry
 

@@ -1,6 +1,6 @@
 -- Of an allowed pair that isn't lossy, a side whose resets are in full is a server, or the other is one.
 use Rattle.std.proofs.Common.{◌≡◌, ◌⊎◌, inl, inr, Bool, true, false, true≢false, ◌||◌, refl, sym}
-use Rattle.m2_policy.specs.Policy.{is_pair, allows}
+use Rattle.m2_session.specs.m2_policy.Policy.{is_pair, allows}
 use Rattle.m2_never_reset.specs.Roles.{Role, AreLossless}
 use Rattle.m2_never_reset.proofs.BeforeAccepts.{ChecksAsServer}
 

@@ -8,9 +8,9 @@ use Rattle.std.proofs.lemmas.List.{map-append}
 use Rattle.std.proofs.lemmas.List.Elements.{filter-append}
 use Rattle.m2_session.specs.declared.ask.AskFacts.{AskFacts}
 use Rattle.m2_dispatch.specs.Heard.{is_key, is_path}
-use Rattle.m2_fabric.specs.declared.socket.SocketId.{SocketId}
-use Rattle.m2_message.specs.Message.{Content, unnumbered, priority_of}
-use Rattle.m2_policy.specs.declared.path.Key.{Key}
+use Rattle.m2_journal.specs.m2_fabric.declared.socket.SocketId.{SocketId}
+use Rattle.m2_queues.specs.m2_message.Message.{Content, unnumbered, priority_of}
+use Rattle.m2_session.specs.m2_policy.declared.path.Key.{Key}
 use Rattle.m2_queues.specs.QueueLaws.{History, start_of, of_priority, EachPriorityKeepsItsOrder, Next, Requeue}
 use Rattle.m2_queues.specs.OutQueues.{message_at}
 use Rattle.m2_session.specs.declared.answer.Answer.{Answer}
@@ -36,9 +36,9 @@ use Rattle.m2_never_reset.specs.PairLaws.{IsNoDown}
 use Rattle.m2_never_reset.specs.LinkOf.{letters}
 use Rattle.m2_never_reset.specs.Orders.{posted_in, of_key}
 use Rattle.m2_never_reset.specs.Trouble.{trouble_at, trouble_told}
-use Rattle.m2_lemmas.proofs.Numbers.{none_back}
-use Rattle.m2_lemmas.proofs.Lists.{finer_filter}
-use Rattle.m2_lemmas.proofs.Booleans.{from_false_true}
+use Rattle.m2_queues.proofs.m2_lemmas.Numbers.{none_back}
+use Rattle.m2_queues.proofs.m2_lemmas.Lists.{finer_filter}
+use Rattle.m2_queues.proofs.m2_lemmas.Booleans.{from_false_true}
 
 -- ---- histories to which these posts were added, and nothing was dropped
 

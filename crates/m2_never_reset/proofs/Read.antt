@@ -4,14 +4,14 @@
 -- SESSION_RETRY_GLOBAL: `asks_again`; WAIT: `leaves`; any other: no step.
 use Rattle.std.proofs.Common.{◌≡◌, ℕ, ◌+◌, Bool, true, false, if◌then◌else◌, List, ◌∷◌, length, drop, Option, Some, None, refl, sym, ap, ◌∙◌, subst}
 use Rattle.std.specs.List.{drop-map}
-use Rattle.m2_control.specs.declared.control.Control.TheVariants as control
-use Rattle.m2_control.specs.declared.server_ident.ServerIdent.{ServerIdent}
-use Rattle.m2_control.specs.declared.session_reconnect_ok.SessionReconnectOk.{SessionReconnectOk}
-use Rattle.m2_control.specs.declared.session_retry.SessionRetry.{SessionRetry}
-use Rattle.m2_control.specs.declared.session_retry_global.SessionRetryGlobal.{SessionRetryGlobal}
-use Rattle.m2_control.specs.declared.wait.Wait.{Wait}
-use Rattle.m2_fabric.specs.Sockets.{same_socket}
-use Rattle.m2_message.specs.Message.{Content, unnumbered}
+use Rattle.m2_session.specs.m2_control.declared.control.Control.TheVariants as control
+use Rattle.m2_session.specs.m2_control.declared.server_ident.ServerIdent.{ServerIdent}
+use Rattle.m2_session.specs.m2_control.declared.session_reconnect_ok.SessionReconnectOk.{SessionReconnectOk}
+use Rattle.m2_session.specs.m2_control.declared.session_retry.SessionRetry.{SessionRetry}
+use Rattle.m2_session.specs.m2_control.declared.session_retry_global.SessionRetryGlobal.{SessionRetryGlobal}
+use Rattle.m2_session.specs.m2_control.declared.wait.Wait.{Wait}
+use Rattle.m2_journal.specs.m2_fabric.Sockets.{same_socket}
+use Rattle.m2_queues.specs.m2_message.Message.{Content, unnumbered}
 use Rattle.m2_session.specs.declared.event.Event.{Event}
 use Rattle.m2_session.specs.declared.event.Event.TheVariants as event
 use Rattle.m2_session.specs.declared.session.Phase.{Phase}

@@ -2,7 +2,7 @@
 use Rattle.std.proofs.Common.{◌≡◌, ℕ, ◌+◌, Bool, true, false, if◌then◌else◌, List, [], ◌∷◌, ◌++◌, map, Option, Some, None, refl, sym, ap, ◌∙◌}
 use Rattle.std.proofs.lemmas.List.{append-nil}
 use Rattle.m2_session.specs.declared.ask.AskFacts.{AskFacts}
-use Rattle.m2_fabric.specs.declared.socket.SocketId.{SocketId}
+use Rattle.m2_journal.specs.m2_fabric.declared.socket.SocketId.{SocketId}
 use Rattle.m2_session.specs.declared.answer.Answer.{Answer}
 use Rattle.m2_session.specs.declared.event.Event.TheVariants as event
 use Rattle.m2_session.specs.declared.session.Phase.{Phase}

@@ -1,6 +1,6 @@
 -- A feed that has heard more bytes, or on which more was put, leaves the link as it is.
 use Rattle.std.proofs.Common.{◌≡◌, ℕ, ◌≤◌, List, length, Some, refl, sym}
-use Rattle.m2_fabric.specs.declared.socket.SocketId.{SocketId}
+use Rattle.m2_journal.specs.m2_fabric.declared.socket.SocketId.{SocketId}
 use Rattle.m2_session.specs.declared.session.Phase.{Phase}
 use Rattle.m2_session.specs.declared.session.Phase.TheVariants as phase
 use Rattle.m2_journal.specs.Lawful.{judged_sockets}

@@ -1,7 +1,7 @@
 -- What the two sides have in common stays where one sends a frame that is no ask.
 use Rattle.std.proofs.Common.{◌≡◌, ◌+◌, ◌≤◌, ◌⊎◌, inl, inr, Bool, true, false, if◌then◌else◌, List, [], ◌∷◌, ◌++◌, length, map, Some, None, refl, sym, ◌∙◌, subst}
-use Rattle.m2_fabric.specs.declared.socket.SocketId.{SocketId}
-use Rattle.m2_fabric.specs.Sockets.{is_among, same_socket}
+use Rattle.m2_journal.specs.m2_fabric.declared.socket.SocketId.{SocketId}
+use Rattle.m2_journal.specs.m2_fabric.Sockets.{is_among, same_socket}
 use Rattle.m2_session.specs.declared.session.Phase.TheVariants as phase
 use Rattle.m2_journal.specs.Laws.{taken_among}
 use Rattle.m2_journal.specs.OutFrames.{OutFrame}
@@ -12,8 +12,8 @@ use Rattle.m2_never_reset.specs.Paired.{IsMail, IsAccepted, HasAsked, Beside, Fe
 use Rattle.m2_never_reset.proofs.Keeping.{ListsArePaired, same_other, sent_elsewhere, mailed_here}
 use Rattle.m2_never_reset.proofs.Sent.{frames_elsewhere, asks_same, answers_elsewhere}
 use Rattle.m2_never_reset.proofs.Sockets.{taken_is_judged}
-use Rattle.m2_lemmas.proofs.Booleans.{from_false_true}
-use Rattle.m2_fabric.proofs.Sockets.{same_equal, same_turned}
+use Rattle.m2_queues.proofs.m2_lemmas.Booleans.{from_false_true}
+use Rattle.m2_journal.proofs.m2_fabric.Sockets.{same_equal, same_turned}
 
 -- ---- the sender's own facts
 

@@ -3,8 +3,8 @@ use Rattle.std.proofs.Common.{◌≡◌, ◌≤◌, Bool, true, false, not, List
 use Rattle.std.specs.List.{filter, filter_map}
 use Rattle.std.proofs.lemmas.List.{drop-append-le, map-append, append-nil}
 use Rattle.std.proofs.lemmas.List.Elements.{filter-append, filter_map-append}
-use Rattle.m2_fabric.specs.declared.socket.SocketId.{SocketId}
-use Rattle.m2_fabric.specs.Sockets.{same_socket}
+use Rattle.m2_journal.specs.m2_fabric.declared.socket.SocketId.{SocketId}
+use Rattle.m2_journal.specs.m2_fabric.Sockets.{same_socket}
 use Rattle.m2_journal.specs.State.{Feed, SentFrame}
 use Rattle.m2_never_reset.specs.Asks.{Ask}
 use Rattle.m2_never_reset.specs.Frames.{frames_on, ask_of, is_ask, asks_on, answers_on, to_come, last_ask}

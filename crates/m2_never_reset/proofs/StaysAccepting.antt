@@ -1,9 +1,9 @@
 -- What the two sides have in common stays where a message is accepted.
 use Rattle.std.proofs.Common.{◌≡◌, ℕ, ◌+◌, inl, true, ◌∷◌, drop, Option, Some, None, refl, sym, ap, ◌∙◌, subst, arith}
 use Rattle.std.specs.List.{AllByRecursion, prefix_len}
-use Rattle.m2_fabric.specs.Sockets.{same_socket}
-use Rattle.m2_message.specs.Message.{Content}
-use Rattle.m2_policy.specs.declared.path.Key.{Key}
+use Rattle.m2_journal.specs.m2_fabric.Sockets.{same_socket}
+use Rattle.m2_queues.specs.m2_message.Message.{Content}
+use Rattle.m2_session.specs.m2_policy.declared.path.Key.{Key}
 use Rattle.m2_session.specs.declared.session.Phase.TheVariants as phase
 use Rattle.m2_journal.specs.Feeds.{is_passed, next_place, next_said}
 use Rattle.m2_journal.specs.Items as item
@@ -22,7 +22,7 @@ use Rattle.m2_never_reset.proofs.Answering.{got_within, raised_fit}
 use Rattle.m2_never_reset.proofs.Heard.{drop-behind}
 use Rattle.m2_never_reset.proofs.Keeping.{lists, paired, if_fed, same_other}
 use Rattle.m2_never_reset.proofs.Sending.{settled_in_ready}
-use Rattle.m2_lemmas.proofs.Lists.{all_drop}
+use Rattle.m2_queues.proofs.m2_lemmas.Lists.{all_drop}
 
 module _ (number : ℕ) (key : Key) (a₀ b : State) (d : Feed) (m : Content) where
   abbrev a : State

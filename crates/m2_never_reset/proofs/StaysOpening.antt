@@ -3,10 +3,10 @@ use Rattle.std.proofs.Common.{◌≡◌, ℕ, ◌+◌, ◌≤◌, ◌⊎◌, inl
 use Rattle.std.specs.Prelude.{nat_lt}
 use Rattle.std.specs.List.{filter}
 use Rattle.std.proofs.lemmas.Bool.{ltb-true, ltb-false, false_from_ne_true, true_from_ne_false}
-use Rattle.m2_fabric.specs.declared.socket.SocketId.{SocketId}
-use Rattle.m2_fabric.specs.Sockets.{is_among, same_socket}
-use Rattle.m2_handshake.specs.Course.{course_of}
-use Rattle.m2_handshake.specs.Standing.{opener_at_start}
+use Rattle.m2_journal.specs.m2_fabric.declared.socket.SocketId.{SocketId}
+use Rattle.m2_journal.specs.m2_fabric.Sockets.{is_among, same_socket}
+use Rattle.m2_journal.specs.m2_handshake.Course.{course_of}
+use Rattle.m2_journal.specs.m2_handshake.Standing.{opener_at_start}
 use Rattle.m2_session.specs.declared.session.Phase.{Phase}
 use Rattle.m2_session.specs.declared.session.Phase.TheVariants as phase
 use Rattle.m2_journal.specs.Feeds.{silent_feed, opened_feed, begun}
@@ -31,8 +31,8 @@ use Rattle.m2_never_reset.proofs.Opened.{is_new}
 use Rattle.m2_never_reset.proofs.Sent.{frames_elsewhere, asks_elsewhere, asks_here, answers_same}
 use Rattle.m2_never_reset.proofs.Written.{AreWritten}
 use Rattle.m2_never_reset.proofs.Sockets.{at_among}
-use Rattle.m2_lemmas.proofs.Booleans.{from_false_true}
-use Rattle.m2_fabric.proofs.Sockets.{same_equal, among_last, among_front}
+use Rattle.m2_queues.proofs.m2_lemmas.Booleans.{from_false_true}
+use Rattle.m2_journal.proofs.m2_fabric.Sockets.{same_equal, among_last, among_front}
 
 -- ---- a socket is opened
 

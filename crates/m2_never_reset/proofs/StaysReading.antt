@@ -1,12 +1,12 @@
 -- What the two sides have in common stays where bytes are read and where a reset is obeyed.
 use Rattle.std.proofs.Common.{◌≡◌, ℕ, ◌+◌, Bool, true, false, List, ◌∷◌, drop, Option, Some, None, refl, sym, ap, ◌∙◌, subst}
-use Rattle.m2_control.specs.declared.control.Control.TheVariants as control
-use Rattle.m2_control.specs.declared.server_ident.ServerIdent.{ServerIdent}
-use Rattle.m2_control.specs.declared.session_reconnect_ok.SessionReconnectOk.{SessionReconnectOk}
-use Rattle.m2_control.specs.declared.session_retry.SessionRetry.{SessionRetry}
-use Rattle.m2_control.specs.declared.session_retry_global.SessionRetryGlobal.{SessionRetryGlobal}
-use Rattle.m2_fabric.specs.declared.socket.SocketId.{SocketId}
-use Rattle.m2_fabric.specs.Sockets.{same_socket}
+use Rattle.m2_session.specs.m2_control.declared.control.Control.TheVariants as control
+use Rattle.m2_session.specs.m2_control.declared.server_ident.ServerIdent.{ServerIdent}
+use Rattle.m2_session.specs.m2_control.declared.session_reconnect_ok.SessionReconnectOk.{SessionReconnectOk}
+use Rattle.m2_session.specs.m2_control.declared.session_retry.SessionRetry.{SessionRetry}
+use Rattle.m2_session.specs.m2_control.declared.session_retry_global.SessionRetryGlobal.{SessionRetryGlobal}
+use Rattle.m2_journal.specs.m2_fabric.declared.socket.SocketId.{SocketId}
+use Rattle.m2_journal.specs.m2_fabric.Sockets.{same_socket}
 use Rattle.m2_session.specs.declared.event.Event.{Event}
 use Rattle.m2_session.specs.declared.event.Event.TheVariants as event
 use Rattle.m2_session.specs.declared.session.Phase.{Phase}

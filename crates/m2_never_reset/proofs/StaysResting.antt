@@ -1,7 +1,7 @@
 -- What the two sides have in common stays at a post, at a dial, where an acknowledgement is counted, and where a feed is
 -- closed.
 use Rattle.std.proofs.Common.{◌≡◌, ℕ, ◌⊎◌, inl, inr, Bool, true, false, if◌then◌else◌, ◌||◌, Option, Some, None, refl, sym, ap, ◌∙◌, subst}
-use Rattle.m2_fabric.specs.declared.socket.SocketId.{SocketId}
+use Rattle.m2_journal.specs.m2_fabric.declared.socket.SocketId.{SocketId}
 use Rattle.m2_session.specs.declared.event.Effects.{Effects}
 use Rattle.m2_session.specs.declared.session.Phase.TheVariants as phase
 use Rattle.m2_session.specs.declared.session.Session.{Session}
@@ -16,7 +16,7 @@ use Rattle.m2_never_reset.specs.PairLaws.{Stays}
 use Rattle.m2_never_reset.specs.Paired.{beside, FeedIsPaired, Paired}
 use Rattle.m2_never_reset.proofs.Closed.{faulted}
 use Rattle.m2_never_reset.proofs.Keeping.{lists, paired, if_fed, without_other}
-use Rattle.m2_lemmas.proofs.Booleans.{from_false_true}
+use Rattle.m2_queues.proofs.m2_lemmas.Booleans.{from_false_true}
 
 pub posts_stay : (f g : SideFacts) (place : ℕ) (planned : Option Planned) → Stays f g (item.post place planned)
 posts_stay f g place (Some (to_post m)) a b may =

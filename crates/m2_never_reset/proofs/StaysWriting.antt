@@ -1,9 +1,9 @@
 -- What the two sides have in common stays where a message is numbered and where bytes are put.
 use Rattle.std.proofs.Common.{◌≡◌, ℕ, ◌+◌, ◌⊎◌, Bool, true, false, not, ◌&&◌, if◌then◌else◌, IsTrue, List, [], ◌∷◌, ◌++◌, Option, Some, None, refl, sym, ap, ◌∙◌, subst}
 use Rattle.std.proofs.lemmas.List.{append-nil}
-use Rattle.m2_fabric.specs.declared.socket.SocketId.{SocketId}
-use Rattle.m2_fabric.specs.Sockets.{is_among}
-use Rattle.m2_message.specs.Message.{Content}
+use Rattle.m2_journal.specs.m2_fabric.declared.socket.SocketId.{SocketId}
+use Rattle.m2_journal.specs.m2_fabric.Sockets.{is_among}
+use Rattle.m2_queues.specs.m2_message.Message.{Content}
 use Rattle.m2_queues.specs.OutQueues.{after_next, message_at}
 use Rattle.m2_queues.specs.QueueLaws.{Next}
 use Rattle.m2_session.specs.declared.session.Phase.{Phase}

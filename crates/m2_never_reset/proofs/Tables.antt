@@ -17,7 +17,7 @@ use Rattle.m2_never_reset.specs.Link.{Stand, absent, standby, waiting, Node}
 use Rattle.m2_never_reset.specs.Steps.{IsAtRest, HasLeft, IsAnotherClient, Accepts, Names}
 use Rattle.m2_never_reset.specs.Sessions.{IsKept, IsIdentStep, IsReconnectStep}
 use Rattle.m2_never_reset.specs.CrossingLaws.{AnswersAreSteps}
-use Rattle.m2_lemmas.proofs.Booleans.{negated_is_false, chosen, negated_is_true}
+use Rattle.m2_queues.proofs.m2_lemmas.Booleans.{negated_is_false, chosen, negated_is_true}
 use Rattle.m2_session.proofs.Answers.{not_above}
 
 -- ---- a table, row by row

@@ -2,7 +2,7 @@
 -- the order of messages.
 use Rattle.std.proofs.Common.{◌≡◌, ℕ, zero, suc, ◌-◌, ◌≤◌, max, List, [], ◌∷◌, ◌++◌, length, append_assoc, Option, Some, None, ap, ◌∙◌, subst, arith}
 use Rattle.std.specs.Prelude.{slice_get}
-use Rattle.m2_message.specs.Message.{Content}
+use Rattle.m2_queues.specs.m2_message.Message.{Content}
 use Rattle.m2_never_reset.specs.Asks.{Ask, by_ident, by_reconnect, Asks}
 use Rattle.m2_never_reset.specs.Mails.{Mail, letter, ack, acked_by, heard_with}
 use Rattle.m2_never_reset.specs.Link.{Stand, offered, resumed, ready, Node, Link}

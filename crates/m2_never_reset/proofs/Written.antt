@@ -4,8 +4,8 @@ use Rattle.std.specs.List.{AllByRecursion, filter, range_with_len}
 use Rattle.std.specs.Option.{option_to_list}
 use Rattle.std.specs.Prelude.{nat_le}
 use Rattle.std.proofs.lemmas.Bool.{leb-true, leb-false}
-use Rattle.m2_control.specs.declared.keepalive.Keepalive.{Keepalive}
-use Rattle.m2_control.specs.Banner.{begins}
+use Rattle.m2_session.specs.m2_control.declared.keepalive.Keepalive.{Keepalive}
+use Rattle.m2_session.specs.m2_control.Banner.{begins}
 use Rattle.m2_session.specs.declared.session.Phase.{Phase}
 use Rattle.m2_session.specs.declared.session.Phase.TheVariants as phase
 use Rattle.m2_session.specs.Phases as phases
@@ -15,9 +15,9 @@ use Rattle.m2_journal.specs.SideFacts.{SideFacts}
 use Rattle.m2_journal.specs.State.{PartText, Feed, State}
 use Rattle.m2_never_reset.specs.Paired.{MayBeWritten}
 use Rattle.m2_never_reset.proofs.Answered.{nothing_isnt_some}
-use Rattle.m2_lemmas.proofs.Lists.{all_append}
-use Rattle.m2_lemmas.proofs.Options.{some_same}
-use Rattle.m2_lemmas.proofs.Booleans.{from_false_true}
+use Rattle.m2_queues.proofs.m2_lemmas.Lists.{all_append}
+use Rattle.m2_queues.proofs.m2_lemmas.Options.{some_same}
+use Rattle.m2_queues.proofs.m2_lemmas.Booleans.{from_false_true}
 
 abbrev pub AreWritten : Phase → ℕ → List PartText → Type 0
 AreWritten p last texts = AllByRecursion (λ t. MayBeWritten p last t.frame) texts

@@ -2,8 +2,8 @@
 --
 -- Wrote that ends an ACK: `acknowledges`; any other: no step.
 use Rattle.std.proofs.Common.{◌≡◌, ℕ, ◌+◌, ◌≤◌, not, ◌&&◌, List, [], ◌∷◌, ◌++◌, length, Option, Some, None, refl, sym, ap, ◌∙◌, subst}
-use Rattle.m2_control.specs.declared.keepalive.Keepalive.{Keepalive}
-use Rattle.m2_fabric.specs.declared.socket.SocketId.{SocketId}
+use Rattle.m2_session.specs.m2_control.declared.keepalive.Keepalive.{Keepalive}
+use Rattle.m2_journal.specs.m2_fabric.declared.socket.SocketId.{SocketId}
 use Rattle.m2_session.specs.declared.session.Phase.{Phase}
 use Rattle.m2_session.specs.declared.session.Phase.TheVariants as phase
 use Rattle.m2_journal.specs.Feeds.{texts_at, narrowed, finished}

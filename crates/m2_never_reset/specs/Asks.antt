@@ -1,7 +1,7 @@
 -- What an opener asks on a socket, and the answers that take no socket. The frames are those of Ceph's msgr2:
 -- CLIENT_IDENT and SESSION_RECONNECT; SESSION_RESET, SESSION_RETRY, SESSION_RETRY_GLOBAL and WAIT.
 use Rattle.std.specs.Prelude.{◌≡◌, ℕ, Bool, Option, Some}
-use Rattle.m2_fabric.specs.declared.socket.SocketId.{SocketId}
+use Rattle.m2_journal.specs.m2_fabric.declared.socket.SocketId.{SocketId}
 use Rattle.m2_session.specs.Reconnect.{Reconnect}
 
 -- what a CLIENT_IDENT carries: the client cookie, and the global number drawn for it

@@ -1,7 +1,7 @@
 -- What is promised of a link whose connects cross, whose sockets break and whose asks are judged late.
 use Rattle.std.specs.Prelude.{◌≡◌, ◌≢◌, ℕ, ◌<◌, ◌^◌, ◌⊎◌, false, [], ◌∷◌}
-use Rattle.m2_message.specs.Message.{Content}
-use Rattle.m2_policy.specs.declared.policy.Policy.{Policy}
+use Rattle.m2_queues.specs.m2_message.Message.{Content}
+use Rattle.m2_session.specs.m2_policy.declared.policy.Policy.{Policy}
 use Rattle.m2_session.specs.declared.session.Session.{Session}
 use Rattle.m2_session.specs.Ident.{ident_answer}
 use Rattle.m2_session.specs.Reconnect.{Reconnect, reconnect_answer}

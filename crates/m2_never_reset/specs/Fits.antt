@@ -4,12 +4,12 @@ use Rattle.std.specs.Prelude.{◌≡◌, ◌<◌, ◌≤◌, true, false, if◌t
 use Rattle.std.specs.List.{AllByRecursion}
 use Rattle.m2_session.specs.declared.ask.AskFacts.{AskFacts}
 use Rattle.m2_session.specs.Asks.{reconnect_of}
-use Rattle.m2_control.specs.declared.control.Control.TheVariants as control
-use Rattle.m2_control.specs.declared.fields.TheConstants.{GREATEST_NUMBER}
-use Rattle.m2_fabric.specs.declared.socket.SocketId.{SocketId}
-use Rattle.m2_fabric.specs.Sockets.{is_among}
-use Rattle.m2_frame.specs.Reading.{Item}
-use Rattle.m2_message.specs.Message.{with_numbers}
+use Rattle.m2_session.specs.m2_control.declared.control.Control.TheVariants as control
+use Rattle.m2_session.specs.m2_control.declared.fields.TheConstants.{GREATEST_NUMBER}
+use Rattle.m2_journal.specs.m2_fabric.declared.socket.SocketId.{SocketId}
+use Rattle.m2_journal.specs.m2_fabric.Sockets.{is_among}
+use Rattle.m2_queues.specs.m2_frame.Reading.{Item}
+use Rattle.m2_queues.specs.m2_message.Message.{with_numbers}
 use Rattle.m2_journal.specs.Lawful.{judged_on, judged_sockets}
 use Rattle.m2_journal.specs.OutFrames as out
 use Rattle.m2_journal.specs.OutFrames.{OutFrame}

@@ -2,9 +2,9 @@
 -- feed that it needs, and of no whole state, so that it stays as it is where another field changes.
 use Rattle.std.specs.Prelude.{Bool, true, false, not, List, [], ◌∷◌, map, drop, Option, Some, None}
 use Rattle.std.specs.List.{filter, filter_map}
-use Rattle.m2_fabric.specs.declared.socket.SocketId.{SocketId}
-use Rattle.m2_fabric.specs.Sockets.{same_socket}
-use Rattle.m2_message.specs.Message.{unnumbered}
+use Rattle.m2_journal.specs.m2_fabric.declared.socket.SocketId.{SocketId}
+use Rattle.m2_journal.specs.m2_fabric.Sockets.{same_socket}
+use Rattle.m2_queues.specs.m2_message.Message.{unnumbered}
 use Rattle.m2_journal.specs.OutFrames as out
 use Rattle.m2_journal.specs.OutFrames.{OutFrame}
 use Rattle.m2_journal.specs.State.{Feed, SentFrame}

@@ -13,3 +13,7 @@ pub mod Roles
 pub mod Sessions
 pub mod Steps
 pub mod Trouble
+pub use Rattle.m2_journal.specs.m2_fabric as m2_fabric
+pub use Rattle.m2_journal.specs as m2_journal
+pub use Rattle.m2_queues.specs as m2_queues
+pub use Rattle.m2_session.specs as m2_session

@@ -2,7 +2,7 @@
 -- on its feed. It has no bytes, no handshake and no queue. It is seen from one side, the near one; the other is the
 -- far one. This is the project's own; the frames that it speaks of are Ceph's (msgr2).
 use Rattle.std.specs.Prelude.{ℕ, List, [], None}
-use Rattle.m2_message.specs.Message.{Content}
+use Rattle.m2_queues.specs.m2_message.Message.{Content}
 use Rattle.m2_never_reset.specs.Asks.{Ask, Refusal, Asks}
 use Rattle.m2_never_reset.specs.Mails.{Mail}
 

@@ -1,10 +1,10 @@
 -- From where two journals lead to the link between their sides.
 use Rattle.std.specs.Prelude.{ℕ, ◌&&◌, max, Bool, false, not, nat_lt, if◌then◌else◌, List, [], ◌∷◌, length, take, map, Option, Some, None}
 use Rattle.std.specs.List.{filter}
-use Rattle.m2_fabric.specs.declared.socket.SocketId.{SocketId}
-use Rattle.m2_fabric.specs.Sockets.{same_socket}
-use Rattle.m2_frame.specs.Reading.{Item}
-use Rattle.m2_message.specs.Message.{Content, unnumbered}
+use Rattle.m2_journal.specs.m2_fabric.declared.socket.SocketId.{SocketId}
+use Rattle.m2_journal.specs.m2_fabric.Sockets.{same_socket}
+use Rattle.m2_queues.specs.m2_frame.Reading.{Item}
+use Rattle.m2_queues.specs.m2_message.Message.{Content, unnumbered}
 use Rattle.m2_session.specs.declared.session.Phase.{Phase}
 use Rattle.m2_session.specs.declared.session.Phase.TheVariants as phase
 use Rattle.m2_journal.specs.Feeds.{told_by}

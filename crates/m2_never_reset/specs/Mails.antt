@@ -1,6 +1,6 @@
 -- What follows on a socket once its opener's ask is answered by an acceptance: MESSAGE and ACK.
 use Rattle.std.specs.Prelude.{ℕ, max, List, [], ◌∷◌}
-use Rattle.m2_message.specs.Message.{Content}
+use Rattle.m2_queues.specs.m2_message.Message.{Content}
 
 -- A message without the two numbers that the runtime writes into it, which stand before it; or an acknowledgement
 -- alone.

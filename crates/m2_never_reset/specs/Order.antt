@@ -1,6 +1,6 @@
 -- What the other side's messages are to a side: what it accepted of them, in their order, and what it told of that.
 use Rattle.std.specs.Prelude.{◌≡◌, ◌≤◌, List, ◌++◌, length}
-use Rattle.m2_message.specs.Message.{Content}
+use Rattle.m2_queues.specs.m2_message.Message.{Content}
 use Rattle.m2_never_reset.specs.Link.{Node, Link}
 
 -- the first ones of these, in order

@@ -3,9 +3,9 @@
 use Rattle.std.specs.Prelude.{◌≡◌, ◌≢◌, ℕ, ◌+◌, ◌<◌, ◌≤◌, ◌^◌, ◌⊎◌, true, false, List, [], ◌∷◌, ◌++◌, length, map, Some}
 use Rattle.std.specs.List.{AllByRecursion, filter}
 use Rattle.m2_dispatch.specs.Heard.{is_key}
-use Rattle.m2_policy.specs.declared.path.Key.{Key}
-use Rattle.m2_message.specs.Message.{Content, unnumbered}
-use Rattle.m2_policy.specs.Policy.{allows}
+use Rattle.m2_session.specs.m2_policy.declared.path.Key.{Key}
+use Rattle.m2_queues.specs.m2_message.Message.{Content, unnumbered}
+use Rattle.m2_session.specs.m2_policy.Policy.{allows}
 use Rattle.m2_journal.specs.Items as item
 use Rattle.m2_journal.specs.Items.{JournalItem}
 use Rattle.m2_journal.specs.Lawful.{key_of}

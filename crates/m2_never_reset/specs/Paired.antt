@@ -1,8 +1,8 @@
 -- What where two journals lead has in common, besides what an order that fits gives.
 use Rattle.std.specs.Prelude.{◌≡◌, ℕ, ◌+◌, ◌≤◌, ◌⊎◌, true, false, List, [], ◌∷◌, length, Option}
 use Rattle.std.specs.List.{AllByRecursion}
-use Rattle.m2_fabric.specs.declared.socket.SocketId.{SocketId}
-use Rattle.m2_fabric.specs.Sockets.{same_socket, is_among}
+use Rattle.m2_journal.specs.m2_fabric.declared.socket.SocketId.{SocketId}
+use Rattle.m2_journal.specs.m2_fabric.Sockets.{same_socket, is_among}
 use Rattle.m2_session.specs.declared.session.Phase.{Phase}
 use Rattle.m2_session.specs.declared.session.Phase.TheVariants as phase
 use Rattle.m2_journal.specs.Lawful.{judged_sockets}

@@ -1,9 +1,9 @@
 -- What never changes of a side of a link: its policy towards the other side, and the cookie that it draws with a
 -- number. To Ceph a cookie is a random word; that cookies tell sides apart is this project's profile.
 use Rattle.std.specs.Prelude.{◌≡◌, ◌≢◌, ℕ, ◌≤◌, true, false}
-use Rattle.m2_control.specs.declared.fields.TheConstants.{GREATEST_NUMBER}
-use Rattle.m2_policy.specs.declared.policy.Policy.{Policy}
-use Rattle.m2_policy.specs.Policy.{allows}
+use Rattle.m2_session.specs.m2_control.declared.fields.TheConstants.{GREATEST_NUMBER}
+use Rattle.m2_session.specs.m2_policy.declared.policy.Policy.{Policy}
+use Rattle.m2_session.specs.m2_policy.Policy.{allows}
 use Rattle.m2_session.specs.Cookies.{cookie_of}
 
 pub record Role : Type 0 where

@@ -4,9 +4,9 @@
 -- that is marked down by its own node is outside.
 use Rattle.std.specs.Prelude.{◌≡◌, ◌≢◌, ℕ, ◌+◌, ◌-◌, ◌<◌, ◌≤◌, ◌⊎◌, max, Bool, true, false, Some}
 use Rattle.std.specs.Prelude.{List, [], ◌∷◌, ◌++◌, length, drop, slice_get}
-use Rattle.m2_control.specs.declared.fields.TheConstants.{GREATEST_NUMBER}
-use Rattle.m2_fabric.specs.declared.socket.SocketId.{SocketId}
-use Rattle.m2_message.specs.Message.{Content}
+use Rattle.m2_session.specs.m2_control.declared.fields.TheConstants.{GREATEST_NUMBER}
+use Rattle.m2_journal.specs.m2_fabric.declared.socket.SocketId.{SocketId}
+use Rattle.m2_queues.specs.m2_message.Message.{Content}
 use Rattle.m2_session.specs.Reconnect.{Reconnect}
 use Rattle.m2_never_reset.specs.Roles.{Role}
 use Rattle.m2_never_reset.specs.Asks.{Ident, Ask, by_ident, by_reconnect, Refusal, reset, retry, wait, Asks, AtMost}

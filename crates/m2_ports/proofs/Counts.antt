@@ -6,7 +6,7 @@ use Rattle.std.specs.Map.{lookup}
 use Rattle.m2_fabric.specs.Sockets.{is_among, same_socket}
 use Rattle.m2_fabric.specs.declared.socket.SocketId.{SocketId}
 use Rattle.m2_ports.specs.Made.{AreCounted, AreWithin, Four, count_of, four_of, next_socket, same_four}
-use Rattle.m2_lemmas.proofs.Booleans.{both_of_and}
+use Rattle.m2_bytes.proofs.m2_lemmas.Booleans.{both_of_and}
 use Rattle.m2_fabric.proofs.Sockets.{same_equal}
 
 -- ---- equal names

@@ -8,7 +8,7 @@ use Rattle.m2_fabric.specs.declared.socket.SocketId.{SocketId}
 use Rattle.m2_fabric.specs.Sockets.{goes_to}
 use Rattle.m2_growth.specs.Holding.{Holding, all_ends}
 use Rattle.m2_growth.specs.InStepLaws.{StayMet, TurnsStayInStep, TurnsStayMet}
-use Rattle.m2_record.specs.Sources.{end_at}
+use Rattle.m2_script.specs.m2_record.Sources.{end_at}
 use Rattle.m2_fabric.specs.InStep.{IsInStep, SeenFabric}
 use Rattle.m2_fabric.specs.Kept.{directions, is_kept}
 use Rattle.m2_fabric.specs.Meeting.{acceptor}
@@ -17,7 +17,7 @@ use Rattle.m2_promise.specs.Running.{HasAskedPeer, IsNodeAt, IsRunning, NodeActs
 use Rattle.m2_promise.proofs.Asking.{still_asked, was_there}
 use Rattle.m2_promise.proofs.Lists.{get_other, get_set}
 use Rattle.m2_promise.proofs.Openers.{HasEnd, some_end}
-use Rattle.m2_lemmas.proofs.Booleans.{false_isnt_true}
+use Rattle.m2_fabric.proofs.m2_lemmas.Booleans.{false_isnt_true}
 
 module _ (i : ℕ) (old new : RunNow) (acts : NodeActs i old new) where
   -- what holds of the node that acts, as it is behind it, and of each other holds of all

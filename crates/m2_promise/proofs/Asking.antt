@@ -5,7 +5,7 @@ use Rattle.std.specs.List.{AllByRecursion}
 use Rattle.std.proofs.Math.Seq.{drop-append_seam}
 use Rattle.std.proofs.lemmas.List.{map-append}
 use Rattle.std.proofs.lemmas.List.Elements.{filter_map-append}
-use Rattle.m2_addr.specs.declared.addr.Addr.{Addr}
+use Rattle.m2_fabric.specs.m2_addr.declared.addr.Addr.{Addr}
 use Rattle.m2_growth.specs.AskLaws.{ArePut, ArrivalsAreTheOpeners}
 use Rattle.m2_fabric.specs.declared.socket.SocketId.{SocketId}
 use Rattle.m2_fabric.specs.End.{SeenEnd}
@@ -15,23 +15,23 @@ use Rattle.m2_growth.specs.Halves.{AreAskedByPeers, IsAskedByPeer, IsOneOf, aske
 use Rattle.m2_growth.specs.Holding.{Holding, all_ends}
 use Rattle.m2_growth.specs.Records.{RecordGrows, RecordsGrow}
 use Rattle.m2_growth.proofs.Among.{of_each, whose}
-use Rattle.m2_handshake.specs.declared.ask.Ask.{Ask}
-use Rattle.m2_journal.specs.declared.entry.Entry.{Entry}
-use Rattle.m2_journal.specs.State.{Judgement}
-use Rattle.m2_journal.specs.SideFacts.{SideFacts}
-use Rattle.m2_record.specs.RecordNow.{RecordNow}
-use Rattle.m2_record.specs.Sources.{end_at, put_of}
-use Rattle.m2_record.specs.TakenTrails.{judgement_of, judgements_in}
+use Rattle.m2_weave.specs.m2_handshake.declared.ask.Ask.{Ask}
+use Rattle.m2_weave.specs.m2_journal.declared.entry.Entry.{Entry}
+use Rattle.m2_weave.specs.m2_journal.State.{Judgement}
+use Rattle.m2_weave.specs.m2_journal.SideFacts.{SideFacts}
+use Rattle.m2_script.specs.m2_record.RecordNow.{RecordNow}
+use Rattle.m2_script.specs.m2_record.Sources.{end_at, put_of}
+use Rattle.m2_script.specs.m2_record.TakenTrails.{judgement_of, judgements_in}
 use Rattle.m2_fabric.specs.Kept.{is_kept}
 use Rattle.m2_fabric.specs.Meeting.{comes_from}
-use Rattle.m2_center.specs.Sessions.{peer_of}
-use Rattle.m2_trail.specs.Asks.{IsMain}
+use Rattle.m2_script.specs.m2_center.Sessions.{peer_of}
+use Rattle.m2_bytes_fit.specs.m2_trail.Asks.{IsMain}
 use Rattle.m2_weave.specs.Later.{GoesOn}
 use Rattle.m2_promise.specs.Running.{HasAskedPeer, IsNodeAt, IsRunning, NodeActs, RunNow}
 use Rattle.m2_promise.proofs.BothEnds.{IsCome, address, came_first, come, holds, in_memory}
 use Rattle.m2_promise.proofs.Openers.{HasEnd, asked_end, asked_goes, is_at, is_record}
 use Rattle.m2_fabric.proofs.Sockets.{among_part}
-use Rattle.m2_lemmas.proofs.Booleans.{false_isnt_true}
+use Rattle.m2_fabric.proofs.m2_lemmas.Booleans.{false_isnt_true}
 
 -- ---- records one after the other
 

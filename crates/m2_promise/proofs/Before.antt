@@ -9,17 +9,17 @@ use Rattle.m2_fabric.specs.declared.socket.SocketId.{SocketId}
 use Rattle.m2_fabric.specs.Sockets.{goes_to}
 use Rattle.m2_bytes_fit.specs.Orders.{BytesGiveFits, IsByteHistory, OrderEntry, entries_of, entry_in, far_entry, far_half, near_entry, near_half}
 use Rattle.m2_bytes_fit.specs.Texts.{CanBePosted}
-use Rattle.m2_journal.specs.Items as item
-use Rattle.m2_journal.specs.Items.{JournalItem}
-use Rattle.m2_journal.specs.Replay.{AreLawful}
-use Rattle.m2_journal.specs.SideFacts.{SideFacts}
-use Rattle.m2_journal.specs.State.{start}
-use Rattle.m2_lossy_in_order.specs.Lossy.{IsByteOrder}
-use Rattle.m2_never_reset.specs.PairLaws.{IsNoDown}
-use Rattle.m2_never_reset.specs.Orders.{AreNodes, FitThroughout, far_item, far_items, near_item, near_items}
-use Rattle.m2_lemmas.proofs.Booleans.{from_false_true}
-use Rattle.m2_never_reset.proofs.Sided.{far_append, near_append}
-use Rattle.m2_lemmas.proofs.Lists.{all_front}
+use Rattle.m2_weave.specs.m2_journal.Items as item
+use Rattle.m2_weave.specs.m2_journal.Items.{JournalItem}
+use Rattle.m2_weave.specs.m2_journal.Replay.{AreLawful}
+use Rattle.m2_weave.specs.m2_journal.SideFacts.{SideFacts}
+use Rattle.m2_weave.specs.m2_journal.State.{start}
+use Rattle.m2_history.specs.m2_lossy_in_order.Lossy.{IsByteOrder}
+use Rattle.m2_channel.specs.m2_never_reset.PairLaws.{IsNoDown}
+use Rattle.m2_channel.specs.m2_never_reset.Orders.{AreNodes, FitThroughout, far_item, far_items, near_item, near_items}
+use Rattle.m2_fabric.proofs.m2_lemmas.Booleans.{from_false_true}
+use Rattle.m2_channel.proofs.m2_never_reset.Sided.{far_append, near_append}
+use Rattle.m2_fabric.proofs.m2_lemmas.Lists.{all_front}
 
 -- ---- up to a mark
 

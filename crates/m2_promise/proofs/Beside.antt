@@ -4,8 +4,8 @@ use Rattle.std.proofs.Common.{◌≡◌, ℕ, ◌<◌, ◌^◌, ◌⊎◌, inl, 
 use Rattle.std.specs.Prelude.{◌==◌}
 use Rattle.std.specs.List.{AllByRecursion}
 use Rattle.std.proofs.lemmas.Bool.{eqb-true, ltb-true}
-use Rattle.m2_addr.specs.declared.addr.Addr.{Addr}
-use Rattle.m2_control.specs.Laws.{HasAddrRanges}
+use Rattle.m2_fabric.specs.m2_addr.declared.addr.Addr.{Addr}
+use Rattle.m2_weave.specs.m2_control.Laws.{HasAddrRanges}
 use Rattle.m2_fabric.specs.declared.socket.SocketId.{SocketId}
 use Rattle.m2_fabric.specs.Sockets.{goes_to, is_among}
 use Rattle.m2_bytes_fit.proofs.Judges.{not_judged_on}
@@ -14,29 +14,29 @@ use Rattle.m2_growth.specs.Holding.{Holding}
 use Rattle.m2_growth.proofs.Among.{among_mapped, of_each}
 use Rattle.m2_history.specs.Link.{IsWholeHalf}
 use Rattle.m2_history.specs.Woven.{is_of_link, knows}
-use Rattle.m2_journal.specs.declared.entry.Entry.{Entry}
-use Rattle.m2_journal.specs.Lawful.{judged_on}
+use Rattle.m2_weave.specs.m2_journal.declared.entry.Entry.{Entry}
+use Rattle.m2_weave.specs.m2_journal.Lawful.{judged_on}
 use Rattle.m2_links_go_on.proofs.Callers.{IsCalled, IsJudgedBy, judged_by_one, told_all}
 use Rattle.m2_links_go_on.proofs.Nodes as held
 use Rattle.m2_links_go_on.proofs.LinkRecords.{knows_kind}
 use Rattle.m2_links_go_on.proofs.Standing.{judged_sockets, taken_asked}
-use Rattle.m2_record.specs.RecordNow.{RecordNow}
-use Rattle.m2_record.specs.TakenTrails.{judgements_in}
+use Rattle.m2_script.specs.m2_record.RecordNow.{RecordNow}
+use Rattle.m2_script.specs.m2_record.TakenTrails.{judgements_in}
 use Rattle.m2_promise.specs.Running.{HasAskedPeer, IsNodeAt, IsRunning, RunNow}
 use Rattle.m2_promise.proofs.Openers as node
 use Rattle.m2_promise.proofs.Towards as link
 use Rattle.m2_promise.proofs.Towards.{AreTowards}
 use Rattle.m2_fabric.specs.Meeting.{comes_from}
-use Rattle.m2_center.specs.Halves.{AllHalves, sessions_with}
-use Rattle.m2_center.specs.Sessions.{AreConsistent, Caller, IsCaller, IsTold, PendingNow, Supply, WasCaller, caller_in, caller_of, peer_of}
-use Rattle.m2_trail.specs.Arrivals.{LooseNow, left_of}
-use Rattle.m2_trail.specs.Trails.{TrailNow, opener_of}
+use Rattle.m2_script.specs.m2_center.Halves.{AllHalves, sessions_with}
+use Rattle.m2_script.specs.m2_center.Sessions.{AreConsistent, Caller, IsCaller, IsTold, PendingNow, Supply, WasCaller, caller_in, caller_of, peer_of}
+use Rattle.m2_bytes_fit.specs.m2_trail.Arrivals.{LooseNow, left_of}
+use Rattle.m2_bytes_fit.specs.m2_trail.Trails.{TrailNow, opener_of}
 use Rattle.m2_weave.specs.Strands.{has_opened, journal_of}
 use Rattle.m2_history.specs.Actors.{is_near}
 use Rattle.m2_history.specs.WovenLink.{IsLooseBeside}
 use Rattle.m2_history.proofs.Whole.{records_are_sides}
-use Rattle.m2_lemmas.proofs.Booleans.{either_turned, not_true_is_false, both_of_and, false_isnt_true}
-use Rattle.m2_lemmas.proofs.Lists.{all_append, all_map, all_so}
+use Rattle.m2_fabric.proofs.m2_lemmas.Booleans.{either_turned, not_true_is_false, both_of_and, false_isnt_true}
+use Rattle.m2_fabric.proofs.m2_lemmas.Lists.{all_append, all_map, all_so}
 
 -- ---- a half, as records see it
 

@@ -2,14 +2,14 @@
 use Rattle.std.proofs.Common.{◌≡◌, ℕ, true, false, List, ◌++◌, Option, Some, None, refl, sym, ap, subst, ◌∙◌, append_assoc}
 use Rattle.std.specs.Prelude.{IfSome, IsSome, is_some, slice_get}
 use Rattle.std.specs.Option.{option_map}
-use Rattle.m2_addr.specs.declared.addr.Addr.{Addr}
+use Rattle.m2_fabric.specs.m2_addr.declared.addr.Addr.{Addr}
 use Rattle.m2_fabric.specs.declared.socket.SocketId.{SocketId}
 use Rattle.m2_fabric.specs.End.{Inflow, SeenEnd}
 use Rattle.m2_fabric.specs.Sockets.{goes_to}
 use Rattle.m2_growth.specs.Ends.{EndGrowsTo, come_to}
 use Rattle.m2_growth.specs.Holding.{Holding, all_ends}
 use Rattle.m2_growth.specs.Turn.{CameOfPut}
-use Rattle.m2_record.specs.Sources.{end_at}
+use Rattle.m2_script.specs.m2_record.Sources.{end_at}
 use Rattle.m2_fabric.specs.Kept.{is_kept}
 use Rattle.m2_fabric.specs.Meeting.{comes_from}
 use Rattle.m2_weave.specs.Later.{GoesOn}
@@ -17,7 +17,7 @@ use Rattle.m2_promise.specs.Running.{HoldsAll, IsRunning, RunNow}
 use Rattle.m2_promise.proofs.Kept.{IsMet, are_met}
 use Rattle.m2_promise.proofs.Openers.{IsOpener, opener_of}
 use Rattle.m2_promise.proofs.Places.{IsFromTo, accepted, comes_one, goes_one}
-use Rattle.m2_lemmas.proofs.Booleans.{not_true_is_false, false_isnt_true}
+use Rattle.m2_fabric.proofs.m2_lemmas.Booleans.{not_true_is_false, false_isnt_true}
 
 -- ---- what came to an end
 

@@ -6,39 +6,39 @@ use Rattle.std.proofs.lemmas.Bool.{and_parts, eq-eqb, eqb-true}
 use Rattle.std.proofs.lemmas.List.Elements.{filter-append}
 use Rattle.std.proofs.lemmas.List.Sums.{sum_by-append}
 use Rattle.std.proofs.lemmas.Option.{none-some, same_Some, slice_get-map}
-use Rattle.m2_center.specs.Center.{CenterNow}
-use Rattle.m2_center.specs.CenterTurn.{TakesTurn, all_amid_in, mailing_in}
-use Rattle.m2_cluster.specs.Cluster.{ClusterNow}
-use Rattle.m2_cluster.specs.Node.{NodeNow, rest_of_node}
+use Rattle.m2_script.specs.m2_center.Center.{CenterNow}
+use Rattle.m2_script.specs.m2_center.CenterTurn.{TakesTurn, all_amid_in, mailing_in}
+use Rattle.m2_script.specs.m2_cluster.Cluster.{ClusterNow}
+use Rattle.m2_script.specs.m2_cluster.Node.{NodeNow, rest_of_node}
 use Rattle.m2_dispatch.specs.Heard.{Heard}
 use Rattle.m2_dispatch.specs.declared.letter.Letter.{Letter}
 use Rattle.m2_dispatch.specs.declared.parcel.Parcel.{Parcel}
 use Rattle.m2_dispatch.specs.declared.parcel.Parcel.TheVariants as parcel
-use Rattle.m2_journal.specs.declared.facts.PlanStep.{PlanStep}
-use Rattle.m2_policy.specs.declared.path.Path.{Path}
-use Rattle.m2_policy.specs.declared.path.Path.TheVariants.{Fast, Queued}
+use Rattle.m2_weave.specs.m2_journal.declared.facts.PlanStep.{PlanStep}
+use Rattle.m2_dispatch.specs.m2_policy.declared.path.Path.{Path}
+use Rattle.m2_dispatch.specs.m2_policy.declared.path.Path.TheVariants.{Fast, Queued}
 use Rattle.m2_promise.specs.Posted.{AllNoted, AreNoted}
-use Rattle.m2_record.specs.declared.stepped.Stepped.{Stepped}
-use Rattle.m2_record.specs.declared.stepped.Stepped.TheVariants as stepped
-use Rattle.m2_record.specs.RecordNow.{RecordNow}
+use Rattle.m2_script.specs.m2_record.declared.stepped.Stepped.{Stepped}
+use Rattle.m2_script.specs.m2_record.declared.stepped.Stepped.TheVariants as stepped
+use Rattle.m2_script.specs.m2_record.RecordNow.{RecordNow}
 use Rattle.m2_promise.proofs.Lists.{get_other, get_set}
 use Rattle.m2_script.specs.declared.calls.TurnCalls.{TurnCalls}
 use Rattle.m2_script.specs.Outcome.{of_node}
 use Rattle.m2_script.specs.Script.{Deed, Ends, Happens, IsPassed, PlansStep, RunNow, calls_between, fast_calls, fault, flow, meet, noted, plan, queued_calls, turn}
 use Rattle.m2_script.specs.Script as script
-use Rattle.m2_shared.specs.Place.{Place}
+use Rattle.m2_dispatch.specs.m2_shared.Place.{Place}
 use Rattle.m2_fabric.specs.InStep.{Network}
-use Rattle.m2_center.specs.declared.mailing.Mailed.{Mailed}
-use Rattle.m2_center.specs.declared.mailing.Mailed.TheVariants as mailed
-use Rattle.m2_center.specs.declared.record_turn.RecordTurn.{RecordTurn}
-use Rattle.m2_center.specs.declared.record_turn.RecordTurn.TheVariants as one
-use Rattle.m2_center.specs.declared.records_turn.RecordsTurn.{RecordsTurn}
-use Rattle.m2_center.specs.declared.records_turn.RecordsTurn.TheVariants as all
-use Rattle.m2_center.specs.Mailing.{Mailing, Mails, MailsSome, PutsSome, heard_at_puts}
-use Rattle.m2_center.specs.Outbox.{Dispatches, DispatchesOr, OutboxNow, Puts, PutsLetter, Retries, RetriesFor, is_free}
-use Rattle.m2_center.specs.RecordTurn.{EndsBy, Means, PutsHanded, Steps, Turning, TurnsAs}
-use Rattle.m2_center.specs.RecordsTurn.{AllAmid, Amid, Around, DialsAndSteps, EachTurns, TurnsEach, TurnsIf, TurnsInOrder, all_amid, amid, turning_amid}
-use Rattle.m2_lemmas.proofs.Booleans.{from_false_true}
+use Rattle.m2_script.specs.m2_center.declared.mailing.Mailed.{Mailed}
+use Rattle.m2_script.specs.m2_center.declared.mailing.Mailed.TheVariants as mailed
+use Rattle.m2_script.specs.m2_center.declared.record_turn.RecordTurn.{RecordTurn}
+use Rattle.m2_script.specs.m2_center.declared.record_turn.RecordTurn.TheVariants as one
+use Rattle.m2_script.specs.m2_center.declared.records_turn.RecordsTurn.{RecordsTurn}
+use Rattle.m2_script.specs.m2_center.declared.records_turn.RecordsTurn.TheVariants as all
+use Rattle.m2_script.specs.m2_center.Mailing.{Mailing, Mails, MailsSome, PutsSome, heard_at_puts}
+use Rattle.m2_script.specs.m2_center.Outbox.{Dispatches, DispatchesOr, OutboxNow, Puts, PutsLetter, Retries, RetriesFor, is_free}
+use Rattle.m2_script.specs.m2_center.RecordTurn.{EndsBy, Means, PutsHanded, Steps, Turning, TurnsAs}
+use Rattle.m2_script.specs.m2_center.RecordsTurn.{AllAmid, Amid, Around, DialsAndSteps, EachTurns, TurnsEach, TurnsIf, TurnsInOrder, all_amid, amid, turning_amid}
+use Rattle.m2_fabric.proofs.m2_lemmas.Booleans.{from_false_true}
 
 -- ---- logs only grow
 

@@ -7,24 +7,24 @@ use Rattle.m2_dispatch.specs.Heard.{Heard, peer_of}
 use Rattle.m2_dispatch.specs.declared.letter.Letter.{Letter}
 use Rattle.m2_dispatch.specs.declared.parcel.Parcel.{Parcel}
 use Rattle.m2_dispatch.specs.Dispatch.{Queued}
-use Rattle.m2_journal.specs.declared.facts.PlanStep.{PlanStep}
-use Rattle.m2_record.specs.RecordNow.{RecordNow}
-use Rattle.m2_center.specs.declared.accepting.Accepted.{Accepted}
-use Rattle.m2_center.specs.declared.halves_turn.HalvesTurn.{HalvesTurn}
-use Rattle.m2_center.specs.declared.mailing.Mailed.{Mailed}
-use Rattle.m2_center.specs.declared.records_turn.RecordsTurn.{RecordsTurn}
-use Rattle.m2_center.specs.declared.records_turn.RecordsTurn.TheVariants as turn
-use Rattle.m2_center.specs.Outbox.{OutboxNow}
-use Rattle.m2_center.specs.RecordTurn.{Means}
-use Rattle.m2_center.specs.Center.{CenterNow}
-use Rattle.m2_center.specs.CenterTurn.{Accepts, Answer, EmptiesMail, TakesTurn, TurnsHalves, TurnsRecords, all_amid_in, callers_of, mailing_in, stepped_so}
+use Rattle.m2_weave.specs.m2_journal.declared.facts.PlanStep.{PlanStep}
+use Rattle.m2_script.specs.m2_record.RecordNow.{RecordNow}
+use Rattle.m2_script.specs.m2_center.declared.accepting.Accepted.{Accepted}
+use Rattle.m2_script.specs.m2_center.declared.halves_turn.HalvesTurn.{HalvesTurn}
+use Rattle.m2_script.specs.m2_center.declared.mailing.Mailed.{Mailed}
+use Rattle.m2_script.specs.m2_center.declared.records_turn.RecordsTurn.{RecordsTurn}
+use Rattle.m2_script.specs.m2_center.declared.records_turn.RecordsTurn.TheVariants as turn
+use Rattle.m2_script.specs.m2_center.Outbox.{OutboxNow}
+use Rattle.m2_script.specs.m2_center.RecordTurn.{Means}
+use Rattle.m2_script.specs.m2_center.Center.{CenterNow}
+use Rattle.m2_script.specs.m2_center.CenterTurn.{Accepts, Answer, EmptiesMail, TakesTurn, TurnsHalves, TurnsRecords, all_amid_in, callers_of, mailing_in, stepped_so}
 use Rattle.m2_links_go_on.proofs.Judged.{halves_stay_steady}
 use Rattle.m2_links_go_on.proofs.Lagging.{place_of}
 use Rattle.m2_promise.specs.Planned.{AreOfPeers, IsPeerOf}
 use Rattle.m2_promise.proofs.Planned.{KeepPlans, planned_of, steady_plans}
 use Rattle.m2_promise.proofs.Outboxes.{AllIsOf, QueueIsOf, mailed_on}
 use Rattle.m2_promise.proofs.RecordTurns.{records_turn}
-use Rattle.m2_lemmas.proofs.Lists.{all_so_of}
+use Rattle.m2_fabric.proofs.m2_lemmas.Lists.{all_so_of}
 
 -- ---- peers of records
 

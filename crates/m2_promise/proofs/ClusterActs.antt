@@ -1,13 +1,13 @@
 -- Where one node of a cluster acts, one node of the run does.
 use Rattle.std.proofs.Common.{◌≡◌, ℕ, zero, suc, List, [], ◌∷◌, ◌++◌, length, map, slice_get, slice_set, Option, Some, None, refl, sym, ap, subst, ◌∙◌}
-use Rattle.m2_addr.specs.declared.addr.Addr.{Addr}
+use Rattle.m2_fabric.specs.m2_addr.declared.addr.Addr.{Addr}
 use Rattle.m2_fabric.specs.declared.socket.SocketId.{SocketId}
-use Rattle.m2_record.specs.Sources.{end_at}
-use Rattle.m2_center.specs.Center.{CenterNow}
-use Rattle.m2_center.specs.CenterTurn.{means_at}
-use Rattle.m2_center.specs.Reaching.{ends_in}
-use Rattle.m2_cluster.specs.Cluster.{ClusterNow, OneDoes, end_of}
-use Rattle.m2_cluster.specs.Node.{NodeNow, NodePlans, NodeTurns, end_in}
+use Rattle.m2_script.specs.m2_record.Sources.{end_at}
+use Rattle.m2_script.specs.m2_center.Center.{CenterNow}
+use Rattle.m2_script.specs.m2_center.CenterTurn.{means_at}
+use Rattle.m2_script.specs.m2_center.Reaching.{ends_in}
+use Rattle.m2_script.specs.m2_cluster.Cluster.{ClusterNow, OneDoes, end_of}
+use Rattle.m2_script.specs.m2_cluster.Node.{NodeNow, NodePlans, NodeTurns, end_in}
 use Rattle.m2_links_go_on.specs.Center.{holding_of}
 use Rattle.m2_links_go_on.specs.Cluster.{ClusterGrows}
 use Rattle.m2_links_go_on.specs.ClusterLaws.{BringsElsewhere}
@@ -20,7 +20,7 @@ use Rattle.m2_fabric.specs.SimFabric.{fresh_fabric}
 use Rattle.m2_promise.specs.Acting.{holdings_of, run_of}
 use Rattle.m2_promise.specs.Beginning.{IsNewAt}
 use Rattle.m2_promise.specs.BeginningLaws.{ClustersHoldAll, NewCentersAreNew, NewClustersBegin, OnePlanActs, OneTurnActs}
-use Rattle.m2_lemmas.proofs.Lists.{get_map}
+use Rattle.m2_fabric.proofs.m2_lemmas.Lists.{get_map}
 use Rattle.m2_links_go_on.proofs.OneGrows.{same_waiting}
 
 -- ---- lists

@@ -2,8 +2,8 @@
 use Rattle.std.proofs.Common.{◌≡◌, ℕ, List, [], ◌∷◌, map, Ok, refl, sym, ap, ◌∙◌}
 use Rattle.std.specs.List.{AllByRecursion}
 use Rattle.m2_dispatch.specs.Heard.{Heard}
-use Rattle.m2_record.specs.RecordNow.{RecordNow}
-use Rattle.m2_cluster.specs.Node.{IsWholeNode, NodeNow}
+use Rattle.m2_script.specs.m2_record.RecordNow.{RecordNow}
+use Rattle.m2_script.specs.m2_cluster.Node.{IsWholeNode, NodeNow}
 use Rattle.m2_links_go_on.specs.Center.{holding_of}
 use Rattle.m2_links_go_on.specs.Cluster.{AllOwn}
 use Rattle.m2_links_go_on.specs.ClusterTold.{OneByOne}
@@ -25,7 +25,7 @@ use Rattle.m2_promise.proofs.KeptActing.{plan_rests, turn_rests}
 use Rattle.m2_promise.proofs.KeptHearing.{fault_rests, flow_rests, meeting_rests}
 use Rattle.m2_promise.proofs.KeptLists.{there_too}
 use Rattle.m2_promise.proofs.Whole.{holding_at}
-use Rattle.m2_lemmas.proofs.Lists.{all_by_places}
+use Rattle.m2_fabric.proofs.m2_lemmas.Lists.{all_by_places}
 
 -- records whose plans go on have their sides
 same_sides : (i : ℕ) (ds : List Deed) (rs ss : List RecordNow) → OneByOne (GoesOnBy i ds) rs ss → map side_of ss ≡ map side_of rs

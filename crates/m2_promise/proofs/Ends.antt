@@ -8,13 +8,13 @@ use Rattle.std.proofs.lemmas.Option.{none-some, same_Some}
 use Rattle.m2_promise.specs.Delivered.{MarksNoneDown}
 use Rattle.m2_growth.specs.Halves.{IsOneOf}
 use Rattle.m2_growth.proofs.Among.{mapped_one, of_each}
-use Rattle.m2_journal.specs.declared.entry.Entry.{Entry}
-use Rattle.m2_journal.specs.declared.entry.Entry.TheVariants as entry
+use Rattle.m2_weave.specs.m2_journal.declared.entry.Entry.{Entry}
+use Rattle.m2_weave.specs.m2_journal.declared.entry.Entry.TheVariants as entry
 use Rattle.m2_links_go_on.specs.Logged.{AreOfTheirPeers}
-use Rattle.m2_record.specs.RecordNow.{RecordNow}
+use Rattle.m2_script.specs.m2_record.RecordNow.{RecordNow}
 use Rattle.m2_script.specs.Outcome.{is_down, is_down_entry, is_post_step}
-use Rattle.m2_lemmas.proofs.Booleans.{or_false, from_false_true}
-use Rattle.m2_lemmas.proofs.Numbers.{unlike_turned}
+use Rattle.m2_fabric.proofs.m2_lemmas.Booleans.{or_false, from_false_true}
+use Rattle.m2_fabric.proofs.m2_lemmas.Numbers.{unlike_turned}
 
 -- ---- lists
 

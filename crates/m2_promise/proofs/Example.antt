@@ -9,21 +9,21 @@ use Rattle.m2_bytes_fit.specs.Halves.{KeepsRanges}
 use Rattle.m2_growth.specs.Halves.{IsOneOf, all_left}
 use Rattle.m2_growth.specs.Holding.{Holding, all_ends}
 use Rattle.m2_history.specs.Link.{both_of}
-use Rattle.m2_journal.proofs.Pair.{facts_of_a, facts_of_b, here, there}
+use Rattle.m2_weave.proofs.m2_journal.Pair.{facts_of_a, facts_of_b, here, there}
 use Rattle.m2_links_go_on.proofs.Example.{is_node_of_a, is_node_of_b, node, side}
 use Rattle.m2_links_go_on.proofs.LinkRecords.{at_place}
 use Rattle.m2_links_go_on.proofs.Staying.{staying_goes_on}
-use Rattle.m2_record.specs.RecordNow.{RecordNow}
-use Rattle.m2_record.specs.Sources.{end_at}
+use Rattle.m2_script.specs.m2_record.RecordNow.{RecordNow}
+use Rattle.m2_script.specs.m2_record.Sources.{end_at}
 use Rattle.m2_fabric.specs.InStep.{SeenFabric}
 use Rattle.m2_fabric.specs.Kept.{is_kept}
 use Rattle.m2_fabric.specs.SimFabric.{AreApart}
-use Rattle.m2_center.specs.Halves.{AllHalves}
+use Rattle.m2_script.specs.m2_center.Halves.{AllHalves}
 use Rattle.m2_links_go_on.specs.Sides.{woven_now}
 use Rattle.m2_weave.specs.TurnLaws.{HasOrder}
 use Rattle.m2_promise.specs.RunLaws.{ANodeActs}
 use Rattle.m2_promise.specs.Running.{HasAskedPeer, HaveOrders, HoldsAll, IsNodeAt, IsRunning, RunNow}
-use Rattle.m2_lemmas.proofs.Booleans.{false_isnt_true}
+use Rattle.m2_fabric.proofs.m2_lemmas.Booleans.{false_isnt_true}
 
 abbrev one : Holding
 one = (node facts_of_a 1).holding

@@ -4,18 +4,18 @@ use Rattle.std.specs.Prelude.{slice_get}
 use Rattle.std.specs.List.{AllByRecursion}
 use Rattle.std.proofs.lemmas.List.{length-map}
 use Rattle.std.proofs.lemmas.Option.{none-some, same_Some, slice_get_within}
-use Rattle.m2_addr.specs.declared.addr.Addr.{Addr}
+use Rattle.m2_fabric.specs.m2_addr.declared.addr.Addr.{Addr}
 use Rattle.m2_dispatch.specs.declared.logged.Logged.{Logged}
 use Rattle.m2_dispatch.specs.Heard.{heard_by}
 use Rattle.m2_fabric.specs.declared.socket.SocketId.{SocketId}
 use Rattle.m2_fabric.specs.Port.{fresh_port}
 use Rattle.m2_fabric.specs.Sockets.{is_among}
-use Rattle.m2_record.specs.IsRecord.{IsRecord}
-use Rattle.m2_record.specs.RecordNow.{RecordNow}
-use Rattle.m2_center.specs.Center.{CenterNow}
-use Rattle.m2_center.specs.Making.{new_center}
-use Rattle.m2_cluster.specs.Cluster.{address_of as listens_at, held_by, made_by, waits_at}
-use Rattle.m2_cluster.specs.Node.{IsWholeNode, NodeNow, waits_in}
+use Rattle.m2_script.specs.m2_record.IsRecord.{IsRecord}
+use Rattle.m2_script.specs.m2_record.RecordNow.{RecordNow}
+use Rattle.m2_script.specs.m2_center.Center.{CenterNow}
+use Rattle.m2_script.specs.m2_center.Making.{new_center}
+use Rattle.m2_script.specs.m2_cluster.Cluster.{address_of as listens_at, held_by, made_by, waits_at}
+use Rattle.m2_script.specs.m2_cluster.Node.{IsWholeNode, NodeNow, waits_in}
 use Rattle.m2_links_go_on.specs.Center.{holding_of}
 use Rattle.m2_growth.specs.Passed.{HasItsEnds}
 use Rattle.m2_links_go_on.specs.LogLaws.{BeginLogged, logging_in}
@@ -38,7 +38,7 @@ use Rattle.m2_script.proofs.Apart.{addresses_apart, get_address, get_at}
 use Rattle.m2_script.proofs.Over.{can_begin, map_roomless, places_apart}
 use Rattle.m2_promise.specs.Started.{IsFirst}
 use Rattle.m2_promise.proofs.Records.{all_sides, all_taken, all_unused, no_plans, none_handed}
-use Rattle.m2_lemmas.proofs.Lists.{all_by_places}
+use Rattle.m2_fabric.proofs.m2_lemmas.Lists.{all_by_places}
 
 -- ---- lists
 

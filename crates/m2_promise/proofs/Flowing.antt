@@ -13,18 +13,18 @@ use Rattle.m2_growth.specs.Holding.{Holding, all_ends, waiting_at}
 use Rattle.m2_growth.proofs.Among.{each_by, of_each}
 use Rattle.m2_history.specs.Woven.{EndNow, bytes_at, end_of, half_end, knows}
 use Rattle.m2_growth.specs.Turn.{AllEndsGrow}
-use Rattle.m2_journal.specs.declared.entry.Entry.{Entry}
-use Rattle.m2_journal.specs.declared.entry.Entry.TheVariants as entry
+use Rattle.m2_weave.specs.m2_journal.declared.entry.Entry.{Entry}
+use Rattle.m2_weave.specs.m2_journal.declared.entry.Entry.TheVariants as entry
 use Rattle.m2_links_go_on.proofs.Ends.{its_bytes}
 use Rattle.m2_links_go_on.proofs.Going.{IsKnown}
 use Rattle.m2_links_go_on.proofs.Nodes as nodes
 use Rattle.m2_links_go_on.proofs.LinkRecords.{knows_kind}
-use Rattle.m2_record.specs.RecordNow.{RecordNow, ends_of}
-use Rattle.m2_record.specs.Sources.{end_at}
+use Rattle.m2_script.specs.m2_record.RecordNow.{RecordNow, ends_of}
+use Rattle.m2_script.specs.m2_record.Sources.{end_at}
 use Rattle.m2_fabric.specs.InStep.{IsUnread}
 use Rattle.m2_fabric.specs.Kept.{is_kept}
 use Rattle.m2_fabric.specs.Meeting.{comes_from}
-use Rattle.m2_trail.specs.Arrivals.{LooseNow}
+use Rattle.m2_bytes_fit.specs.m2_trail.Arrivals.{LooseNow}
 use Rattle.m2_weave.specs.Later.{GoesOn}
 use Rattle.m2_weave.specs.Strands.{has_opened, journal_of}
 use Rattle.m2_history.specs.WovenLink.{same_end}
@@ -35,8 +35,8 @@ use Rattle.m2_promise.proofs.Openers.{IsOpener, Whose, end_found, whose_end}
 use Rattle.m2_promise.proofs.Places.{comes_one, goes_one}
 use Rattle.m2_promise.proofs.Towards as link
 use Rattle.m2_promise.proofs.Towards.{AreTowards, turned}
-use Rattle.m2_lemmas.proofs.Lists.{all_map}
-use Rattle.m2_lemmas.proofs.Booleans.{not_true_is_false, false_isnt_true}
+use Rattle.m2_fabric.proofs.m2_lemmas.Lists.{all_map}
+use Rattle.m2_fabric.proofs.m2_lemmas.Booleans.{not_true_is_false, false_isnt_true}
 
 -- ---- lists
 

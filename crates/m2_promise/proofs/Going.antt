@@ -2,7 +2,7 @@
 use Rattle.std.proofs.Common.{◌≡◌, ℕ, List, [], ◌∷◌, ◌++◌, length, map, sym, ap, ◌∙◌}
 use Rattle.std.specs.List.{AllByRecursion}
 use Rattle.m2_dispatch.specs.Heard.{heard_by}
-use Rattle.m2_record.specs.RecordNow.{RecordNow}
+use Rattle.m2_script.specs.m2_record.RecordNow.{RecordNow}
 use Rattle.m2_links_go_on.specs.ClusterTold.{OneByOne}
 use Rattle.m2_promise.specs.Kept.{IsKept}
 use Rattle.m2_promise.specs.KeepingLaws.{ScriptsCanBeDone, ScriptsStayKept}

@@ -5,14 +5,14 @@ use Rattle.std.proofs.lemmas.List.Sums.{sum_by-append}
 use Rattle.m2_channel.specs.Handing.{IsNoResetOf}
 use Rattle.m2_channel.specs.Observed.{Logs, all_of, heard_from}
 use Rattle.m2_channel.specs.ObservedLaws.{ComeAsPosted}
-use Rattle.m2_never_reset.specs.Order.{AreFirstOf}
+use Rattle.m2_channel.specs.m2_never_reset.Order.{AreFirstOf}
 use Rattle.m2_dispatch.specs.Heard.{Heard, is_message_from, message, of_key, reset}
 use Rattle.m2_dispatch.specs.Laws.{IsSublist}
-use Rattle.m2_journal.specs.SideFacts.{SideFacts}
+use Rattle.m2_weave.specs.m2_journal.SideFacts.{SideFacts}
 use Rattle.m2_message.specs.Message.{Content, unnumbered}
 use Rattle.m2_scenario.specs.Order.{AreSame, IsNoResetBy, IsPrefixOf, posts_between, posts_of}
-use Rattle.m2_never_reset.specs.Orders as orders
-use Rattle.m2_policy.specs.declared.path.Key.{Key}
+use Rattle.m2_channel.specs.m2_never_reset.Orders as orders
+use Rattle.m2_dispatch.specs.m2_policy.declared.path.Key.{Key}
 use Rattle.m2_promise.specs.Posted.{AreSomeOf}
 use Rattle.m2_promise.proofs.PostedPlans.{count_posts, key_posts, posts_to}
 use Rattle.m2_promise.proofs.Prefixes.{are_same, count_heard, is_prefix, key_unnumbered}
@@ -20,7 +20,7 @@ use Rattle.m2_promise.proofs.Turns.{all_turns, count_turns, key_turns}
 use Rattle.m2_scenario.specs.Draft.{DraftLine}
 use Rattle.m2_script.specs.declared.calls.TurnCalls.{TurnCalls}
 use Rattle.m2_script.specs.Outcome.{in_turns}
-use Rattle.m2_lemmas.proofs.Lists.{all_so}
+use Rattle.m2_fabric.proofs.m2_lemmas.Lists.{all_so}
 
 -- what the node at y, which dispatches these kinds at once, heard of the node at x
 pub record HearsOf (x y : ℕ) (fast : List ℕ) (lines : List DraftLine) (heard : List Heard) : Type 0 where

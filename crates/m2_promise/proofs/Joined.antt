@@ -20,18 +20,18 @@ use Rattle.m2_growth.specs.Holding.{Holding}
 use Rattle.m2_history.specs.Counted.{posted}
 use Rattle.m2_history.specs.Delivered.{AreOfOrder, CountsAreOfTheItems}
 use Rattle.m2_history.specs.HalfStrands.{OrdersGivePoints}
-use Rattle.m2_journal.specs.Items as item
-use Rattle.m2_journal.specs.Items.{JournalItem, items_of}
-use Rattle.m2_journal.specs.Replay.{after_items}
-use Rattle.m2_journal.specs.SideFacts.{SideFacts}
-use Rattle.m2_journal.specs.State.{State, start}
+use Rattle.m2_weave.specs.m2_journal.Items as item
+use Rattle.m2_weave.specs.m2_journal.Items.{JournalItem, items_of}
+use Rattle.m2_weave.specs.m2_journal.Replay.{after_items}
+use Rattle.m2_weave.specs.m2_journal.SideFacts.{SideFacts}
+use Rattle.m2_weave.specs.m2_journal.State.{State, start}
 use Rattle.m2_promise.specs.Started.{IsKept, run_in}
-use Rattle.m2_lossy_in_order.specs.Lossy.{AreLossy}
+use Rattle.m2_history.specs.m2_lossy_in_order.Lossy.{AreLossy}
 use Rattle.m2_message.specs.Message.{unnumbered}
 use Rattle.m2_scenario.specs.Order.{posts_of}
-use Rattle.m2_never_reset.specs.Orders as orders
-use Rattle.m2_never_reset.specs.Orders.{AreNodes, IsHistory, SideItem, far_item, far_items, near_item, near_items, posts_in}
-use Rattle.m2_policy.specs.declared.path.Key.{Key}
+use Rattle.m2_channel.specs.m2_never_reset.Orders as orders
+use Rattle.m2_channel.specs.m2_never_reset.Orders.{AreNodes, IsHistory, SideItem, far_item, far_items, near_item, near_items, posts_in}
+use Rattle.m2_dispatch.specs.m2_policy.declared.path.Key.{Key}
 use Rattle.m2_promise.specs.Posted.{AreAcknowledged, AreMarkedIn, AreRecordsOver, AreSomeOf, AreUpIn, IsMarkedSo, PostsOfTypes, logs_of}
 use Rattle.m2_promise.proofs.Before.{lawful_order}
 use Rattle.m2_promise.proofs.Hears.{GoOneWay, HearsOf, hears_of, hears_some}
@@ -39,8 +39,8 @@ use Rattle.m2_promise.proofs.PostedPlans.{posts_to}
 use Rattle.m2_promise.proofs.Sides.{told_by}
 use Rattle.m2_promise.proofs.PostsTowards as record_of
 use Rattle.m2_promise.proofs.PostsTowards.{IsTowards}
-use Rattle.m2_record.specs.IsRecord.{IsRecord}
-use Rattle.m2_record.specs.RecordNow.{RecordNow, speaks_of}
+use Rattle.m2_script.specs.m2_record.IsRecord.{IsRecord}
+use Rattle.m2_script.specs.m2_record.RecordNow.{RecordNow, speaks_of}
 use Rattle.m2_promise.specs.Running.{IsLinkOf}
 use Rattle.m2_scenario.specs.declared.line.Line.{Line}
 use Rattle.m2_scenario.specs.declared.link.Link.{Link}
@@ -56,7 +56,7 @@ use Rattle.m2_history.specs.WovenLaws.{WovenBytesFit, WovenIsDelivered, WovenIsN
 use Rattle.m2_history.specs.WovenLink.{AreUp, IsLink, IsOrderOf, LinkNow, order_of}
 use Rattle.m2_history.specs.Lossy.{AreSomeLogs, WovenComesInOrder}
 use Rattle.m2_history.proofs.Whole.{far_whole, near_whole, by_actors}
-use Rattle.m2_lemmas.proofs.Lists.{all_front, all_back}
+use Rattle.m2_fabric.proofs.m2_lemmas.Lists.{all_front, all_back}
 
 -- ---- laws that are used
 

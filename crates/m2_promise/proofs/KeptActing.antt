@@ -2,15 +2,15 @@
 use Rattle.std.proofs.Common.{◌≡◌, ℕ, List, [], ◌∷◌, Some, Ok, slice_get, sym, ap, subst, ◌∙◌}
 use Rattle.std.specs.Prelude.{◌==◌}
 use Rattle.std.specs.List.{AllByRecursion}
-use Rattle.m2_addr.specs.declared.addr.Addr.{Addr}
+use Rattle.m2_fabric.specs.m2_addr.declared.addr.Addr.{Addr}
 use Rattle.m2_dispatch.specs.Heard.{Heard}
 use Rattle.m2_bytes_fit.specs.Halves.{KeepsRanges}
-use Rattle.m2_journal.specs.declared.facts.PlanStep.{PlanStep}
-use Rattle.m2_journal.specs.SideFacts.{SideFacts}
-use Rattle.m2_record.specs.RecordNow.{RecordNow}
-use Rattle.m2_center.specs.CenterTurn.{means_at}
-use Rattle.m2_cluster.specs.Cluster.{ClusterNow, OneDoes, held_by}
-use Rattle.m2_cluster.specs.Node.{IsWholeNode, NodeNow, NodePlans, NodeTurns}
+use Rattle.m2_weave.specs.m2_journal.declared.facts.PlanStep.{PlanStep}
+use Rattle.m2_weave.specs.m2_journal.SideFacts.{SideFacts}
+use Rattle.m2_script.specs.m2_record.RecordNow.{RecordNow}
+use Rattle.m2_script.specs.m2_center.CenterTurn.{means_at}
+use Rattle.m2_script.specs.m2_cluster.Cluster.{ClusterNow, OneDoes, held_by}
+use Rattle.m2_script.specs.m2_cluster.Node.{IsWholeNode, NodeNow, NodePlans, NodeTurns}
 use Rattle.m2_links_go_on.specs.Center.{holding_of}
 use Rattle.m2_links_go_on.specs.Cluster.{AllInMemory, BringInMemory}
 use Rattle.m2_links_go_on.specs.ClusterTold.{AreUnused}

@@ -1,10 +1,10 @@
 -- A run of a script stays at rest where something passes between its nodes.
 use Rattle.std.proofs.Common.{◌≡◌, ℕ, List, Some, None, Ok, sym, ap, subst, ◌∙◌}
 use Rattle.std.specs.List.{AllByRecursion}
-use Rattle.m2_addr.specs.declared.addr.Addr.{Addr}
+use Rattle.m2_fabric.specs.m2_addr.declared.addr.Addr.{Addr}
 use Rattle.m2_growth.specs.Holding.{HaveTheirHalves, Holding}
-use Rattle.m2_cluster.specs.Cluster.{rest_of}
-use Rattle.m2_cluster.specs.Node.{IsWholeNode, NodeNow}
+use Rattle.m2_script.specs.m2_cluster.Cluster.{rest_of}
+use Rattle.m2_script.specs.m2_cluster.Node.{IsWholeNode, NodeNow}
 use Rattle.m2_links_go_on.specs.Center.{holding_of}
 use Rattle.m2_links_go_on.specs.Cluster.{AllHaveHalves}
 use Rattle.m2_links_go_on.specs.ClusterTold.{AreUnused, KeepsSockets, OneByOne}
@@ -21,7 +21,7 @@ use Rattle.m2_promise.proofs.Hearing.{before}
 use Rattle.m2_script.specs.Script.{IsPassed, RunNow, network_of}
 use Rattle.m2_promise.specs.Kept.{run_in}
 use Rattle.m2_promise.proofs.Whole.{IsNodeOf, holding_at, is_node, node_of}
-use Rattle.m2_lemmas.proofs.Lists.{all_at, all_by_places}
+use Rattle.m2_fabric.proofs.m2_lemmas.Lists.{all_at, all_by_places}
 
 -- ---- the nodes of a fabric stay
 

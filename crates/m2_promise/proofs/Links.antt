@@ -3,7 +3,7 @@ use Rattle.std.proofs.Common.{◌≡◌, ℕ, zero, suc, Bool, true, false, if�
 use Rattle.std.specs.Prelude.{slice_get}
 use Rattle.std.specs.List.{AllByRecursion, IsDistinct, flat_map}
 use Rattle.std.proofs.lemmas.Grind.{flat_map-append}
-use Rattle.m2_control.specs.Laws.{HasAddrRanges}
+use Rattle.m2_weave.specs.m2_control.Laws.{HasAddrRanges}
 use Rattle.m2_fabric.specs.declared.socket.SocketId.{SocketId}
 use Rattle.m2_fabric.specs.Sockets.{goes_to}
 use Rattle.m2_bytes_fit.specs.Halves.{KeepsRanges}
@@ -15,32 +15,32 @@ use Rattle.m2_growth.proofs.Among.{each_by}
 use Rattle.m2_history.specs.Link.{parts_of}
 use Rattle.m2_history.specs.Parts.{PartsNow}
 use Rattle.m2_history.specs.Woven.{BothNow, ends_of, is_of_link}
-use Rattle.m2_journal.specs.declared.entry.Entry.{Entry}
-use Rattle.m2_journal.specs.declared.entry.Entry.TheVariants as entry
-use Rattle.m2_journal.specs.declared.facts.PlanStep.{PlanStep}
-use Rattle.m2_journal.specs.declared.facts.PlanStep.TheVariants as step
-use Rattle.m2_journal.specs.Items as item
-use Rattle.m2_journal.specs.Items.{JournalItem, Places, Sources, at_start, item_of, items_from, passed}
-use Rattle.m2_journal.specs.Plan.{planned}
+use Rattle.m2_weave.specs.m2_journal.declared.entry.Entry.{Entry}
+use Rattle.m2_weave.specs.m2_journal.declared.entry.Entry.TheVariants as entry
+use Rattle.m2_weave.specs.m2_journal.declared.facts.PlanStep.{PlanStep}
+use Rattle.m2_weave.specs.m2_journal.declared.facts.PlanStep.TheVariants as step
+use Rattle.m2_weave.specs.m2_journal.Items as item
+use Rattle.m2_weave.specs.m2_journal.Items.{JournalItem, Places, Sources, at_start, item_of, items_from, passed}
+use Rattle.m2_weave.specs.m2_journal.Plan.{planned}
 use Rattle.m2_links_go_on.specs.LinkLaws.{LinksGoOn, StayingGoesOn}
 use Rattle.m2_links_go_on.specs.Linked.{Nodes, NodesGoOn}
 use Rattle.m2_links_go_on.proofs.LinkRecords.{at_place}
-use Rattle.m2_never_reset.specs.PairLaws.{IsNoDown}
-use Rattle.m2_record.specs.IsRecord.{CanBePlanned, IsRecord}
-use Rattle.m2_record.specs.RecordNow.{RecordNow}
+use Rattle.m2_channel.specs.m2_never_reset.PairLaws.{IsNoDown}
+use Rattle.m2_script.specs.m2_record.IsRecord.{CanBePlanned, IsRecord}
+use Rattle.m2_script.specs.m2_record.RecordNow.{RecordNow}
 use Rattle.m2_promise.specs.Running.{IsLinkOf, IsNodeAt, IsRunning, RunNow}
 use Rattle.m2_promise.proofs.Openers as node
 use Rattle.m2_promise.proofs.Towards as link
 use Rattle.m2_promise.proofs.Towards.{AreTowards, turned}
-use Rattle.m2_trail.specs.Arrivals.{LooseNow}
-use Rattle.m2_trail.specs.Trails.{TrailNow, opener_of}
+use Rattle.m2_bytes_fit.specs.m2_trail.Arrivals.{LooseNow}
+use Rattle.m2_bytes_fit.specs.m2_trail.Trails.{TrailNow, opener_of}
 use Rattle.m2_history.specs.Actors.{Actor, of_half, actors_of_side, is_near, loose_actors, part_of, taken_half, trail_by}
 use Rattle.m2_history.specs.WovenLaws.{RecordsAreSides}
 use Rattle.m2_history.specs.WovenLink.{IsLink, IsLooseBeside, IsSideOf, LinkNow, items_in, same_end, sources_in, trails_of}
 use Rattle.m2_promise.specs.Delivered.{MarksNoneDown, PostsInRanges, link_in}
 use Rattle.m2_promise.proofs.Beside as beside
-use Rattle.m2_lemmas.proofs.Lists.{all_append}
-use Rattle.m2_lemmas.proofs.Booleans.{not_true_is_false}
+use Rattle.m2_fabric.proofs.m2_lemmas.Lists.{all_append}
+use Rattle.m2_fabric.proofs.m2_lemmas.Booleans.{not_true_is_false}
 
 -- ---- what entries tell
 

@@ -8,15 +8,15 @@ use Rattle.m2_bytes_fit.specs.Trails.{TrailsTellEachPoint}
 use Rattle.m2_growth.specs.Holding.{Holding}
 use Rattle.m2_history.specs.HalfStrands.{OrdersGivePoints}
 use Rattle.m2_history.specs.Link.{parts_of}
-use Rattle.m2_journal.specs.Items.{JournalItem}
-use Rattle.m2_journal.specs.Replay.{after_items, replay}
-use Rattle.m2_journal.specs.State.{State, start}
-use Rattle.m2_lossy_in_order.specs.Lossy.{AreSomeOf}
-use Rattle.m2_never_reset.specs.LinkOf.{letters}
-use Rattle.m2_never_reset.specs.Orders.{IsBroughtOver, IsNeverReset, SideItem, far_after, far_items, near_after, near_items}
-use Rattle.m2_queues.specs.OutQueues.{Queue}
-use Rattle.m2_record.specs.IsRecord.{IsRecord}
-use Rattle.m2_record.specs.RecordNow.{RecordNow, speaks_of}
+use Rattle.m2_weave.specs.m2_journal.Items.{JournalItem}
+use Rattle.m2_weave.specs.m2_journal.Replay.{after_items, replay}
+use Rattle.m2_weave.specs.m2_journal.State.{State, start}
+use Rattle.m2_history.specs.m2_lossy_in_order.Lossy.{AreSomeOf}
+use Rattle.m2_channel.specs.m2_never_reset.LinkOf.{letters}
+use Rattle.m2_channel.specs.m2_never_reset.Orders.{IsBroughtOver, IsNeverReset, SideItem, far_after, far_items, near_after, near_items}
+use Rattle.m2_dispatch.specs.m2_queues.OutQueues.{Queue}
+use Rattle.m2_script.specs.m2_record.IsRecord.{IsRecord}
+use Rattle.m2_script.specs.m2_record.RecordNow.{RecordNow, speaks_of}
 use Rattle.m2_promise.specs.Running.{HaveOrders, IsLinkOf, IsRunning, RunNow}
 use Rattle.m2_weave.specs.WeaveLaws.{AsksComeFirst, ReadWasWritten}
 use Rattle.m2_history.specs.WovenLaws.{WovenIsDelivered, WovenIsNeverReset}

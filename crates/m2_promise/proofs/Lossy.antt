@@ -4,8 +4,8 @@ use Rattle.m2_bytes_fit.specs.Orders.{entries_of}
 use Rattle.m2_bytes_fit.specs.Trails.{TrailsTellEachPoint}
 use Rattle.m2_growth.specs.Holding.{Holding}
 use Rattle.m2_history.specs.HalfStrands.{OrdersGivePoints}
-use Rattle.m2_never_reset.specs.Orders.{far_items, near_items}
-use Rattle.m2_record.specs.RecordNow.{RecordNow}
+use Rattle.m2_channel.specs.m2_never_reset.Orders.{far_items, near_items}
+use Rattle.m2_script.specs.m2_record.RecordNow.{RecordNow}
 use Rattle.m2_promise.specs.Running.{HaveOrders, IsLinkOf, IsRunning, RunNow}
 use Rattle.m2_weave.specs.WeaveLaws.{AsksComeFirst, ReadWasWritten}
 use Rattle.m2_history.specs.WovenLink.{IsLink, IsOrderOf, LinkNow, items_by, order_of}

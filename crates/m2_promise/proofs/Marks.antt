@@ -3,29 +3,29 @@ use Rattle.std.proofs.Common.{◌≡◌, ℕ, ◌+◌, Bool, true, false, ◌&&�
 use Rattle.std.specs.Prelude.{slice_get}
 use Rattle.std.specs.List.{list_any}
 use Rattle.std.proofs.lemmas.List.{drop-map}
-use Rattle.m2_journal.specs.declared.entry.Entry.{Entry}
-use Rattle.m2_journal.specs.declared.entry.Entry.TheVariants as entry
-use Rattle.m2_journal.specs.declared.facts.PlanStep.{PlanStep}
-use Rattle.m2_journal.specs.declared.facts.PlanStep.TheVariants as step
-use Rattle.m2_journal.specs.Items as item
-use Rattle.m2_journal.specs.Items.{Places, Sources, at_start, items_from, passed, passed_by}
-use Rattle.m2_journal.specs.Lawful.{IsDial, IsDown, IsPost}
-use Rattle.m2_journal.specs.Plan.{Planned, planned, to_dial, to_go_down, to_post}
-use Rattle.m2_journal.specs.Replay.{AreLawful}
-use Rattle.m2_journal.specs.SideFacts.{SideFacts}
-use Rattle.m2_journal.specs.State.{State, start}
-use Rattle.m2_journal.specs.Steps.{after}
+use Rattle.m2_weave.specs.m2_journal.declared.entry.Entry.{Entry}
+use Rattle.m2_weave.specs.m2_journal.declared.entry.Entry.TheVariants as entry
+use Rattle.m2_weave.specs.m2_journal.declared.facts.PlanStep.{PlanStep}
+use Rattle.m2_weave.specs.m2_journal.declared.facts.PlanStep.TheVariants as step
+use Rattle.m2_weave.specs.m2_journal.Items as item
+use Rattle.m2_weave.specs.m2_journal.Items.{Places, Sources, at_start, items_from, passed, passed_by}
+use Rattle.m2_weave.specs.m2_journal.Lawful.{IsDial, IsDown, IsPost}
+use Rattle.m2_weave.specs.m2_journal.Plan.{Planned, planned, to_dial, to_go_down, to_post}
+use Rattle.m2_weave.specs.m2_journal.Replay.{AreLawful}
+use Rattle.m2_weave.specs.m2_journal.SideFacts.{SideFacts}
+use Rattle.m2_weave.specs.m2_journal.State.{State, start}
+use Rattle.m2_weave.specs.m2_journal.Steps.{after}
 use Rattle.m2_promise.specs.Planned.{IsTaken}
 use Rattle.m2_promise.specs.Posted.{is_down_of, is_given_up}
 use Rattle.m2_promise.proofs.PostedPlans.{next_of, none_of, planned_by, settled}
-use Rattle.m2_record.specs.IsRecord.{IsRecord}
-use Rattle.m2_record.specs.RecordNow.{RecordNow, speaks_of}
+use Rattle.m2_script.specs.m2_record.IsRecord.{IsRecord}
+use Rattle.m2_script.specs.m2_record.RecordNow.{RecordNow, speaks_of}
 use Rattle.m2_scenario.specs.declared.line.Line.{Line}
 use Rattle.m2_scenario.specs.declared.line.Line.TheVariants as line
 use Rattle.m2_scenario.specs.declared.link.Link.{Link}
 use Rattle.m2_scenario.specs.Draft.{draft_line}
 use Rattle.m2_script.specs.Outcome.{is_down, is_down_entry}
-use Rattle.m2_lemmas.proofs.Booleans.{or_false, or_true}
+use Rattle.m2_fabric.proofs.m2_lemmas.Booleans.{or_false, or_true}
 
 -- ---- a plan's marks
 

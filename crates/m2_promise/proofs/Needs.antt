@@ -5,9 +5,9 @@ use Rattle.std.specs.List.{AllByRecursion, list_any}
 use Rattle.std.specs.Option.{option_to_list}
 use Rattle.std.proofs.lemmas.Bool.{and_parts, eq-eqb, eqb-false, eqb-true}
 use Rattle.m2_dispatch.specs.Heard.{Heard}
-use Rattle.m2_record.specs.RecordNow.{RecordNow}
-use Rattle.m2_center.specs.Plans.{IsReadyFor, side_towards}
-use Rattle.m2_cluster.specs.Node.{NodeNow}
+use Rattle.m2_script.specs.m2_record.RecordNow.{RecordNow}
+use Rattle.m2_script.specs.m2_center.Plans.{IsReadyFor, side_towards}
+use Rattle.m2_script.specs.m2_cluster.Node.{NodeNow}
 use Rattle.m2_promise.specs.Planned.{IsKeptNode, IsTaken}
 use Rattle.m2_scenario.specs.declared.link.Link.{Link}
 use Rattle.m2_scenario.specs.declared.node.Node.{Node}
@@ -19,7 +19,7 @@ use Rattle.m2_script.specs.Script.{CanBeDone, Deed, IsWithin, RunNow, fault, flo
 use Rattle.m2_promise.specs.Kept.{IsKept}
 use Rattle.m2_promise.specs.KeepingLaws.{KeptCanBeDone}
 use Rattle.m2_promise.proofs.KeptLists.{within}
-use Rattle.m2_lemmas.proofs.Lists.{all_at}
+use Rattle.m2_fabric.proofs.m2_lemmas.Lists.{all_at}
 
 -- ---- sides
 

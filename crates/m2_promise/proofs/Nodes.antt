@@ -3,14 +3,14 @@ use Rattle.std.proofs.Common.{◌≡◌, ℕ, List, [], ◌∷◌, ◌++◌, map
 use Rattle.std.specs.List.{AllByRecursion}
 use Rattle.m2_dispatch.specs.Heard.{Heard}
 use Rattle.m2_dispatch.specs.Dispatch.{Queued}
-use Rattle.m2_journal.specs.SideFacts.{SideFacts}
-use Rattle.m2_record.specs.Due.{next_step}
-use Rattle.m2_record.specs.IsRecord.{IsRecord}
-use Rattle.m2_record.specs.RecordNow.{RecordNow}
-use Rattle.m2_center.specs.Outbox.{OutboxNow}
-use Rattle.m2_center.specs.Center.{CenterNow}
-use Rattle.m2_center.specs.Reaching.{rest_in, untold_record}
-use Rattle.m2_cluster.specs.Node.{IsWholeNode, NodeNow, NodeTurns, rest_of_node}
+use Rattle.m2_weave.specs.m2_journal.SideFacts.{SideFacts}
+use Rattle.m2_script.specs.m2_record.Due.{next_step}
+use Rattle.m2_script.specs.m2_record.IsRecord.{IsRecord}
+use Rattle.m2_script.specs.m2_record.RecordNow.{RecordNow}
+use Rattle.m2_script.specs.m2_center.Outbox.{OutboxNow}
+use Rattle.m2_script.specs.m2_center.Center.{CenterNow}
+use Rattle.m2_script.specs.m2_center.Reaching.{rest_in, untold_record}
+use Rattle.m2_script.specs.m2_cluster.Node.{IsWholeNode, NodeNow, NodeTurns, rest_of_node}
 use Rattle.m2_growth.specs.Holding.{AreOwn}
 use Rattle.m2_growth.specs.Records.{RecordsGrow}
 use Rattle.m2_links_go_on.specs.Center.{holding_of}

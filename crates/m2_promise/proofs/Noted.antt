@@ -1,7 +1,7 @@
 -- All calls that dispatchers had in a script's run were noted, turn by turn: at first there was none.
 use Rattle.std.proofs.Common.{◌<◌, List, length, sum_by, sym, ap, subst, ◌∙◌}
 use Rattle.std.proofs.lemmas.Option.{slice_get_within}
-use Rattle.m2_center.specs.Center.{CenterNow}
+use Rattle.m2_script.specs.m2_center.Center.{CenterNow}
 use Rattle.m2_dispatch.specs.declared.logged.Logged.{Logged}
 use Rattle.m2_dispatch.specs.Heard.{heard_by}
 use Rattle.m2_promise.specs.PostLaws.{CallsAreNoted}

@@ -3,11 +3,11 @@ use Rattle.std.proofs.Common.{◌≡◌, ℕ, List, [], ◌∷◌, None, refl, s
 use Rattle.m2_links_go_on.specs.ClusterTold.{OneByOne, SameHalf, SameRecord}
 use Rattle.m2_growth.specs.Halves.{all_left}
 use Rattle.m2_growth.specs.Holding.{Holding}
-use Rattle.m2_record.specs.RecordNow.{RecordNow}
+use Rattle.m2_script.specs.m2_record.RecordNow.{RecordNow}
 use Rattle.m2_promise.specs.Running.{IsRunning, RunNow}
 use Rattle.m2_fabric.specs.SimFabric.{Flows, Passes, flow_of}
 use Rattle.m2_fabric.proofs.Told.{told_nothing}
-use Rattle.m2_trail.specs.Arrivals.{LooseNow}
+use Rattle.m2_bytes_fit.specs.m2_trail.Arrivals.{LooseNow}
 use Rattle.m2_promise.specs.Passed.{NodesHear, SameHolding, network_of}
 
 each_same : {X : Type 0} (how : X → X → Type 0) → ((x : X) → how x x) → (xs : List X) → OneByOne how xs xs

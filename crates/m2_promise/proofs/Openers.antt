@@ -3,7 +3,7 @@ use Rattle.std.proofs.Common.{◌≡◌, ℕ, Bool, true, false, if◌then◌els
 use Rattle.std.specs.Prelude.{◌||◌, slice_get, IsSome}
 use Rattle.std.specs.List.{IsDistinct}
 use Rattle.std.proofs.lemmas.Map.Keys.{IsDistinct-head, IsDistinct-tail}
-use Rattle.m2_addr.specs.declared.addr.Addr.{Addr}
+use Rattle.m2_fabric.specs.m2_addr.declared.addr.Addr.{Addr}
 use Rattle.m2_fabric.specs.declared.socket.SocketId.{SocketId}
 use Rattle.m2_fabric.specs.End.{SeenEnd}
 use Rattle.m2_fabric.specs.Sockets.{goes_to, is_among, same_socket}
@@ -12,23 +12,23 @@ use Rattle.m2_growth.specs.Holding.{Holding, IsToCome, LeadsElsewhere, all_ends,
 use Rattle.m2_growth.specs.Records.{ends_of_all}
 use Rattle.m2_growth.proofs.Among.{of_each, one_front, whose}
 use Rattle.m2_growth.proofs.Ends.{end_append, first_of}
-use Rattle.m2_handshake.specs.Asks.{same_addr}
+use Rattle.m2_weave.specs.m2_handshake.Asks.{same_addr}
 use Rattle.m2_history.proofs.Kept.{records_are_kept}
 use Rattle.m2_history.specs.Link.{IsKeptHalf, end_ids, parts_of}
-use Rattle.m2_journal.specs.declared.entry.Entry.{Entry}
-use Rattle.m2_journal.specs.declared.entry.Entry.TheVariants as entry
-use Rattle.m2_journal.specs.Items.{at_start}
-use Rattle.m2_journal.specs.State.{start}
-use Rattle.m2_record.specs.IsRecord.{IsRecord, feeds_in}
-use Rattle.m2_record.specs.RecordNow.{RecordNow, ends_of, ids_of}
-use Rattle.m2_record.specs.Sources.{end_at}
-use Rattle.m2_record.specs.TakenTrails.{taken_in}
-use Rattle.m2_session.specs.SessionLaws.{takes}
+use Rattle.m2_weave.specs.m2_journal.declared.entry.Entry.{Entry}
+use Rattle.m2_weave.specs.m2_journal.declared.entry.Entry.TheVariants as entry
+use Rattle.m2_weave.specs.m2_journal.Items.{at_start}
+use Rattle.m2_weave.specs.m2_journal.State.{start}
+use Rattle.m2_script.specs.m2_record.IsRecord.{IsRecord, feeds_in}
+use Rattle.m2_script.specs.m2_record.RecordNow.{RecordNow, ends_of, ids_of}
+use Rattle.m2_script.specs.m2_record.Sources.{end_at}
+use Rattle.m2_script.specs.m2_record.TakenTrails.{taken_in}
+use Rattle.m2_weave.specs.m2_session.SessionLaws.{takes}
 use Rattle.m2_fabric.specs.Meeting.{comes_from}
-use Rattle.m2_center.specs.Hearing.{ends_in}
-use Rattle.m2_center.specs.Sessions.{peer_of}
-use Rattle.m2_trail.specs.Arrivals.{LooseNow}
-use Rattle.m2_trail.specs.Trails.{TrailNow}
+use Rattle.m2_script.specs.m2_center.Hearing.{ends_in}
+use Rattle.m2_script.specs.m2_center.Sessions.{peer_of}
+use Rattle.m2_bytes_fit.specs.m2_trail.Arrivals.{LooseNow}
+use Rattle.m2_bytes_fit.specs.m2_trail.Trails.{TrailNow}
 use Rattle.m2_weave.specs.Strands.{has_opened, journal_of}
 use Rattle.m2_history.specs.WovenLink.{sources_in}
 use Rattle.m2_history.proofs.Journals.{opened_leads}
@@ -39,10 +39,10 @@ use Rattle.m2_links_go_on.proofs.LinkRecords.{HasOne, ends_feeds, feed_kind, has
 use Rattle.m2_links_go_on.proofs.Standing.{taken_asked}
 use Rattle.m2_promise.specs.Running.{IsNodeAt, IsOfPort, IsRecordAt}
 use Rattle.m2_promise.proofs.Lists.{flat_one, image_of, of_among}
-use Rattle.m2_handshake.proofs.Idents.{same_self}
+use Rattle.m2_weave.proofs.m2_handshake.Idents.{same_self}
 use Rattle.m2_fabric.proofs.Sockets.{among_part, same_equal}
-use Rattle.m2_lemmas.proofs.Booleans.{false_isnt_true}
-use Rattle.m2_lemmas.proofs.Lists.{all_of_map}
+use Rattle.m2_fabric.proofs.m2_lemmas.Booleans.{false_isnt_true}
+use Rattle.m2_fabric.proofs.m2_lemmas.Lists.{all_of_map}
 
 -- ---- ends
 

@@ -17,8 +17,8 @@ use Rattle.m2_links_go_on.proofs.Going.{IsKnown, opened_on}
 use Rattle.m2_links_go_on.proofs.LinkGoes.{each_end, of_link, one_end}
 use Rattle.m2_links_go_on.proofs.LinkRecords.{at_place}
 use Rattle.m2_links_go_on.proofs.LinkTurns as turns
-use Rattle.m2_record.specs.RecordNow.{RecordNow, ends_of}
-use Rattle.m2_trail.specs.Arrivals.{LooseNow}
+use Rattle.m2_script.specs.m2_record.RecordNow.{RecordNow, ends_of}
+use Rattle.m2_bytes_fit.specs.m2_trail.Arrivals.{LooseNow}
 use Rattle.m2_links_go_on.specs.Sides.{woven_now}
 use Rattle.m2_weave.specs.TurnLaws.{HasOrder}
 use Rattle.m2_weave.specs.Later.{GoesOn, HadFlowed}
@@ -29,7 +29,7 @@ use Rattle.m2_promise.proofs.Flowing as flowing
 use Rattle.m2_promise.proofs.Flowing.{HadCome, none_goes}
 use Rattle.m2_promise.proofs.Towards as link
 use Rattle.m2_promise.proofs.Towards.{AreTowards, turned}
-use Rattle.m2_lemmas.proofs.Lists.{all_append}
+use Rattle.m2_fabric.proofs.m2_lemmas.Lists.{all_append}
 
 -- ---- the ends of a link
 

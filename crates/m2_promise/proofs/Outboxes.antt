@@ -9,15 +9,15 @@ use Rattle.m2_dispatch.specs.declared.parcel.Parcel.TheVariants as parcel
 use Rattle.m2_dispatch.specs.Dispatch as dispatch
 use Rattle.m2_dispatch.specs.Letters.{heard_in, letter_priority}
 use Rattle.m2_dispatch.specs.Parcel.{after_put, heard_at_put}
-use Rattle.m2_policy.specs.declared.path.Path.{Path}
-use Rattle.m2_policy.specs.declared.path.Path.TheVariants.{Fast, Queued}
-use Rattle.m2_queues.proofs.Joining.{all-put_behind}
-use Rattle.m2_shared.specs.Place.{Place}
-use Rattle.m2_center.specs.declared.mailing.Mailed.{Mailed}
-use Rattle.m2_center.specs.declared.mailing.Mailed.TheVariants as mailed
-use Rattle.m2_center.specs.Mailing.{DispatchesSome, Mailing, Mails, MailsSome, PutsSome, Queueing, after_puts, heard_at_puts}
-use Rattle.m2_center.specs.Outbox.{Dispatches, DispatchesOr, OutboxNow, Puts, PutsLetter, Retries, RetriesFor, in_mail}
-use Rattle.m2_lemmas.proofs.Lists.{all_append}
+use Rattle.m2_dispatch.specs.m2_policy.declared.path.Path.{Path}
+use Rattle.m2_dispatch.specs.m2_policy.declared.path.Path.TheVariants.{Fast, Queued}
+use Rattle.m2_dispatch.proofs.m2_queues.Joining.{all-put_behind}
+use Rattle.m2_dispatch.specs.m2_shared.Place.{Place}
+use Rattle.m2_script.specs.m2_center.declared.mailing.Mailed.{Mailed}
+use Rattle.m2_script.specs.m2_center.declared.mailing.Mailed.TheVariants as mailed
+use Rattle.m2_script.specs.m2_center.Mailing.{DispatchesSome, Mailing, Mails, MailsSome, PutsSome, Queueing, after_puts, heard_at_puts}
+use Rattle.m2_script.specs.m2_center.Outbox.{Dispatches, DispatchesOr, OutboxNow, Puts, PutsLetter, Retries, RetriesFor, in_mail}
+use Rattle.m2_fabric.proofs.m2_lemmas.Lists.{all_append}
 
 -- ---- lists
 

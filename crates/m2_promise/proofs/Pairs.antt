@@ -1,7 +1,7 @@
 -- The sockets that come to be kept are between the node that opened them and the one at which they arrive.
 use Rattle.std.proofs.Common.{◌≡◌, ℕ, ◌||◌, Bool, true, false, if◌then◌else◌, List, [], ◌∷◌, ◌++◌, map, Option, Some, None, refl, sym, ap, subst, ◌∙◌, ◌⊎◌, inl, inr}
 use Rattle.std.specs.List.{AllByRecursion, list_any}
-use Rattle.m2_addr.specs.declared.addr.Addr.{Addr}
+use Rattle.m2_fabric.specs.m2_addr.declared.addr.Addr.{Addr}
 use Rattle.m2_fabric.specs.declared.socket.SocketId.{SocketId}
 use Rattle.m2_fabric.specs.Holder.{EndName}
 use Rattle.m2_fabric.specs.Sockets.{same_socket}
@@ -14,7 +14,7 @@ use Rattle.m2_fabric.proofs.Entering.{unkept_before}
 use Rattle.m2_fabric.proofs.Flowing.{directions_after}
 use Rattle.m2_fabric.proofs.Told.{end_equal}
 use Rattle.m2_growth.proofs.Telling.{behind}
-use Rattle.m2_lemmas.proofs.Booleans.{false_isnt_true}
+use Rattle.m2_fabric.proofs.m2_lemmas.Booleans.{false_isnt_true}
 use Rattle.m2_fabric.proofs.Sockets.{same_refl}
 
 -- ---- between two nodes

@@ -2,7 +2,7 @@
 use Rattle.std.proofs.Common.{◌≡◌, ℕ, ◌&&◌, Bool, true, false, if◌then◌else◌, List, [], ◌∷◌, map, Some, None, is_some, refl, sym, ap, subst, ◌∙◌, ◌⊎◌, inl, inr}
 use Rattle.std.specs.Prelude.{IsSome, slice_get}
 use Rattle.std.specs.List.{AllByRecursion}
-use Rattle.m2_addr.specs.declared.addr.Addr.{Addr}
+use Rattle.m2_fabric.specs.m2_addr.declared.addr.Addr.{Addr}
 use Rattle.m2_links_go_on.specs.ClusterTold.{OneByOne, SameRecord}
 use Rattle.m2_fabric.specs.declared.socket.SocketId.{SocketId}
 use Rattle.m2_fabric.specs.End.{fresh_end}
@@ -11,11 +11,11 @@ use Rattle.m2_fabric.specs.Sockets.{goes_to, is_among}
 use Rattle.m2_growth.specs.Holding.{Holding, all_ends}
 use Rattle.m2_growth.specs.InStepLaws.{AreMet, FaultsStayMet, FlowsStayMet, MeetingsStayMet}
 use Rattle.m2_growth.proofs.Entering.{AllSo}
-use Rattle.m2_journal.specs.State.{Judgement}
-use Rattle.m2_journal.specs.SideFacts.{SideFacts}
-use Rattle.m2_record.specs.RecordNow.{RecordNow}
-use Rattle.m2_record.specs.Sources.{end_at}
-use Rattle.m2_record.specs.TakenTrails.{judgements_in}
+use Rattle.m2_weave.specs.m2_journal.State.{Judgement}
+use Rattle.m2_weave.specs.m2_journal.SideFacts.{SideFacts}
+use Rattle.m2_script.specs.m2_record.RecordNow.{RecordNow}
+use Rattle.m2_script.specs.m2_record.Sources.{end_at}
+use Rattle.m2_script.specs.m2_record.TakenTrails.{judgements_in}
 use Rattle.m2_fabric.specs.InStep.{Network, SeenFabric, end_of}
 use Rattle.m2_fabric.specs.Kept.{SeenPair, between, chosen, directions, is_kept}
 use Rattle.m2_fabric.specs.Meeting.{Arrive, arrivals, comes_from, is_one_of}
@@ -26,7 +26,7 @@ use Rattle.m2_promise.specs.PassingLaws.{FaultKeepsRunning, FlowKeepsRunning, Me
 use Rattle.m2_promise.specs.Passed.{NodesHear, SameHolding, network_of}
 use Rattle.m2_promise.proofs.Hearing.{before}
 use Rattle.m2_promise.proofs.Pairs.{Between, all_kept, arriving_keeps, entered_between, kept_passed, passed_so}
-use Rattle.m2_lemmas.proofs.Options.{mapped_is_some}
+use Rattle.m2_fabric.proofs.m2_lemmas.Options.{mapped_is_some}
 
 -- ---- networks
 

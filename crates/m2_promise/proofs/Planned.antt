@@ -1,7 +1,7 @@
 -- The peers and the plans of records, which a turn leaves alone.
 use Rattle.std.proofs.Common.{◌≡◌, ℕ, List, [], ◌∷◌, map, refl, sym, ap, ◌∙◌}
-use Rattle.m2_journal.specs.declared.facts.PlanStep.{PlanStep}
-use Rattle.m2_record.specs.RecordNow.{RecordNow}
+use Rattle.m2_weave.specs.m2_journal.declared.facts.PlanStep.{PlanStep}
+use Rattle.m2_script.specs.m2_record.RecordNow.{RecordNow}
 use Rattle.m2_links_go_on.proofs.Judged.{StaySteady, StaysSteady, steady_of}
 
 -- the place of its peer, and its plan

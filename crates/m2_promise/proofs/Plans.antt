@@ -7,15 +7,15 @@ use Rattle.std.proofs.lemmas.List.Quantifiers.{position-Some}
 use Rattle.std.proofs.lemmas.Option.{get_or_from_slice_get}
 use Rattle.m2_dispatch.specs.Heard.{Heard}
 use Rattle.m2_dispatch.specs.Dispatch.{Queued}
-use Rattle.m2_journal.specs.declared.facts.PlanStep.{PlanStep}
-use Rattle.m2_journal.specs.declared.facts.PlanStep.TheVariants as step
-use Rattle.m2_record.specs.Calls.{TakesNext, planned_too}
-use Rattle.m2_record.specs.RecordNow.{RecordNow}
-use Rattle.m2_center.specs.Outbox.{OutboxNow}
-use Rattle.m2_center.specs.Planning.{TakesNew}
-use Rattle.m2_center.specs.Center.{CenterNow}
-use Rattle.m2_center.specs.Plans.{is_towards}
-use Rattle.m2_cluster.specs.Node.{IsWholeNode, NodeNow, NodePlans}
+use Rattle.m2_weave.specs.m2_journal.declared.facts.PlanStep.{PlanStep}
+use Rattle.m2_weave.specs.m2_journal.declared.facts.PlanStep.TheVariants as step
+use Rattle.m2_script.specs.m2_record.Calls.{TakesNext, planned_too}
+use Rattle.m2_script.specs.m2_record.RecordNow.{RecordNow}
+use Rattle.m2_script.specs.m2_center.Outbox.{OutboxNow}
+use Rattle.m2_script.specs.m2_center.Planning.{TakesNew}
+use Rattle.m2_script.specs.m2_center.Center.{CenterNow}
+use Rattle.m2_script.specs.m2_center.Plans.{is_towards}
+use Rattle.m2_script.specs.m2_cluster.Node.{IsWholeNode, NodeNow, NodePlans}
 use Rattle.m2_growth.specs.Holding.{AreOwn}
 use Rattle.m2_links_go_on.specs.Center.{holding_of}
 use Rattle.m2_links_go_on.specs.ClusterTold.{OneByOne}
@@ -29,7 +29,7 @@ use Rattle.m2_promise.proofs.CenterTurns.{SamePlaces, all_is_of, are_of_peers}
 use Rattle.m2_promise.proofs.PlanLists.{all_at, all_set}
 use Rattle.m2_promise.proofs.Nodes.{goes_on_still, same_side}
 use Rattle.m2_promise.proofs.Taken.{taken_further}
-use Rattle.m2_lemmas.proofs.Numbers.{unlike_turned}
+use Rattle.m2_fabric.proofs.m2_lemmas.Numbers.{unlike_turned}
 
 -- ---- the record
 

@@ -5,17 +5,17 @@ use Rattle.std.specs.Prelude.{IsSome, is_some}
 use Rattle.m2_dispatch.specs.Heard.{Heard}
 use Rattle.m2_fabric.specs.declared.socket.SocketId.{SocketId}
 use Rattle.m2_fabric.specs.Sockets.{is_among}
-use Rattle.m2_journal.specs.declared.facts.PlanStep.{PlanStep}
-use Rattle.m2_record.specs.RecordNow.{ids_of}
-use Rattle.m2_record.specs.Sources.{end_at}
-use Rattle.m2_shared.specs.Place.{Place}
-use Rattle.m2_center.specs.RecordTurn.{Means}
-use Rattle.m2_center.specs.Center.{CenterNow}
-use Rattle.m2_center.specs.CenterTurn.{AndThen, Answer, AcceptsSo, AnswersSo, DeliversSo, Part, StepsSo, TakesTurn, accepting_in, all_amid_in}
-use Rattle.m2_center.specs.Plans.{PlansIn}
-use Rattle.m2_center.specs.Reaching.{ends_in}
-use Rattle.m2_cluster.specs.Cluster.{ClusterNow, OneDoes, address_of, end_of, held_by, made_by, waits_at}
-use Rattle.m2_cluster.specs.Node.{NodeNow, end_in, has_in, waits_in}
+use Rattle.m2_weave.specs.m2_journal.declared.facts.PlanStep.{PlanStep}
+use Rattle.m2_script.specs.m2_record.RecordNow.{ids_of}
+use Rattle.m2_script.specs.m2_record.Sources.{end_at}
+use Rattle.m2_dispatch.specs.m2_shared.Place.{Place}
+use Rattle.m2_script.specs.m2_center.RecordTurn.{Means}
+use Rattle.m2_script.specs.m2_center.Center.{CenterNow}
+use Rattle.m2_script.specs.m2_center.CenterTurn.{AndThen, Answer, AcceptsSo, AnswersSo, DeliversSo, Part, StepsSo, TakesTurn, accepting_in, all_amid_in}
+use Rattle.m2_script.specs.m2_center.Plans.{PlansIn}
+use Rattle.m2_script.specs.m2_center.Reaching.{ends_in}
+use Rattle.m2_script.specs.m2_cluster.Cluster.{ClusterNow, OneDoes, address_of, end_of, held_by, made_by, waits_at}
+use Rattle.m2_script.specs.m2_cluster.Node.{NodeNow, end_in, has_in, waits_in}
 use Rattle.m2_links_go_on.specs.Center.{holding_of}
 use Rattle.m2_links_go_on.proofs.Turning.{accepts, answers, plan_grows, steps}
 use Rattle.m2_growth.specs.Holding.{AreOwn, all_ends}

@@ -7,21 +7,21 @@ use Rattle.std.proofs.lemmas.Option.{slice_get-map}
 use Rattle.m2_promise.specs.Acting.{holdings_of}
 use Rattle.m2_channel.specs.Handing.{LogsAreLogs}
 use Rattle.m2_channel.specs.Observed.{Logs}
-use Rattle.m2_cluster.specs.Node.{NodeNow}
+use Rattle.m2_script.specs.m2_cluster.Node.{NodeNow}
 use Rattle.m2_links_go_on.specs.Center.{holding_of}
 use Rattle.m2_promise.specs.Delivered.{HasHeardPeer, MarksNoneDown, PostsInRanges}
 use Rattle.m2_dispatch.specs.declared.logged.Logged.{Logged}
 use Rattle.m2_dispatch.specs.Heard.{heard_by}
 use Rattle.m2_growth.specs.Halves.{IsOneOf}
 use Rattle.m2_growth.proofs.Among.{of_each}
-use Rattle.m2_journal.specs.Items.{items_of}
-use Rattle.m2_journal.specs.State.{State}
+use Rattle.m2_weave.specs.m2_journal.Items.{items_of}
+use Rattle.m2_weave.specs.m2_journal.State.{State}
 use Rattle.m2_promise.specs.Started.{IsKept}
 use Rattle.m2_links_go_on.specs.LogLaws.{logging_in}
 use Rattle.m2_links_go_on.specs.Logged.{logs_in}
 use Rattle.m2_links_go_on.proofs.AreHeard.{logged_are_heard}
 use Rattle.m2_scenario.specs.Order.{posts_between}
-use Rattle.m2_never_reset.specs.Orders.{posts_in}
+use Rattle.m2_channel.specs.m2_never_reset.Orders.{posts_in}
 use Rattle.m2_promise.specs.Planned.{IsKeptNode, IsTaken, steps_for}
 use Rattle.m2_promise.specs.Posted.{IsMarkedSo, PostsOfTypes, gave_up_at, is_down_of, is_given_up}
 use Rattle.m2_promise.proofs.Ends.{all_at, never_marked, only_any, only_towards}
@@ -30,8 +30,8 @@ use Rattle.m2_promise.proofs.Marks.{is_down_step, lines_mark, record_marked}
 use Rattle.m2_promise.proofs.PostedPlans.{all_posted, count_planned, count_posts, lines_in_ranges, lines_post, posts_planned, posts_to}
 use Rattle.m2_promise.proofs.Sides.{HasSide, place_of, record_over, side_by, told_by}
 use Rattle.m2_promise.proofs.Ways.{one_way}
-use Rattle.m2_record.specs.IsRecord.{IsRecord}
-use Rattle.m2_record.specs.RecordNow.{RecordNow, speaks_of}
+use Rattle.m2_script.specs.m2_record.IsRecord.{IsRecord}
+use Rattle.m2_script.specs.m2_record.RecordNow.{RecordNow, speaks_of}
 use Rattle.m2_scenario.specs.declared.line.Line.{Line}
 use Rattle.m2_scenario.specs.declared.link.Link.{Link}
 use Rattle.m2_scenario.specs.declared.node.Node.{Node}

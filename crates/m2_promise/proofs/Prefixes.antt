@@ -4,13 +4,13 @@ use Rattle.std.specs.List.{filter}
 use Rattle.std.proofs.lemmas.List.Sums.{sum_by-cons}
 use Rattle.m2_channel.specs.Channel as channel
 use Rattle.m2_channel.specs.Observed.{heard_from}
-use Rattle.m2_never_reset.specs.Order.{AreFirstOf}
+use Rattle.m2_channel.specs.m2_never_reset.Order.{AreFirstOf}
 use Rattle.m2_dispatch.specs.Heard.{Heard, is_message_from, message, reset}
-use Rattle.m2_journal.specs.SideFacts.{SideFacts}
+use Rattle.m2_weave.specs.m2_journal.SideFacts.{SideFacts}
 use Rattle.m2_message.specs.Message.{Content, unnumbered}
 use Rattle.m2_scenario.specs.Order.{AreSame, IsPrefixOf}
-use Rattle.m2_never_reset.specs.Orders as orders
-use Rattle.m2_policy.specs.declared.path.Key.{Key}
+use Rattle.m2_channel.specs.m2_never_reset.Orders as orders
+use Rattle.m2_dispatch.specs.m2_policy.declared.path.Key.{Key}
 use Rattle.m2_promise.proofs.PostedPlans.{has_key}
 
 -- ---- one for one

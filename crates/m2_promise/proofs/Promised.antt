@@ -8,7 +8,7 @@ use Rattle.std.proofs.lemmas.List.Elements.{recursion_from_All}
 use Rattle.std.proofs.lemmas.List.FromFn.{length-range_with_len}
 use Rattle.std.proofs.lemmas.List.Sums.{sum_by-cons}
 use Rattle.std.proofs.lemmas.Option.{slice_get_past, none-some, same_Some}
-use Rattle.m2_cluster.specs.Node.{NodeNow}
+use Rattle.m2_script.specs.m2_cluster.Node.{NodeNow}
 use Rattle.m2_dispatch.specs.declared.logged.Logged.{Logged}
 use Rattle.m2_dispatch.specs.Heard.{Heard, heard_by, is_message_from, of_key, peer_of}
 use Rattle.m2_growth.specs.Halves.{IsOneOf}
@@ -16,7 +16,7 @@ use Rattle.m2_growth.proofs.Among.{each_by, of_each}
 use Rattle.m2_promise.specs.Started.{IsKept}
 use Rattle.m2_scenario.specs.Order.{AreOfJoined, HearsNoReset, HearsPrefix, HearsWhole, IsPeer, at, fast_of, messages_between, posts_between, posts_of}
 use Rattle.m2_promise.specs.Planned.{IsKeptNode, IsPeerOf}
-use Rattle.m2_policy.specs.declared.path.Key.{Key}
+use Rattle.m2_dispatch.specs.m2_policy.declared.path.Key.{Key}
 use Rattle.m2_promise.specs.Posted.{AllNoted, AreSomeOf, HearsSome, IsAccountedOver, IsMarkedSo, KeepsPromise, PostsOfTypes, is_lossy, link_between}
 use Rattle.m2_promise.proofs.Ends.{all_at}
 use Rattle.m2_promise.proofs.Hears.{HearsOf}
@@ -33,8 +33,8 @@ use Rattle.m2_script.specs.Outcome.{all_heard, heard_at, heard_of_node, is_down_
 use Rattle.m2_script.specs.Script.{RunNow}
 use Rattle.m2_promise.specs.StartLaws.{PlansAreOfLines}
 use Rattle.m2_history.specs.WovenLink.{IsOrderOf}
-use Rattle.m2_lemmas.proofs.Booleans.{from_false_true, negated_is_false}
-use Rattle.m2_lemmas.proofs.Lists.{all_so}
+use Rattle.m2_fabric.proofs.m2_lemmas.Booleans.{from_false_true, negated_is_false}
+use Rattle.m2_fabric.proofs.m2_lemmas.Lists.{all_so}
 
 -- ---- lists
 

@@ -5,17 +5,17 @@ use Rattle.m2_channel.specs.Handing as handing
 use Rattle.m2_dispatch.specs.Heard.{Heard}
 use Rattle.m2_dispatch.specs.declared.parcel.Parcel.{Parcel}
 use Rattle.m2_dispatch.specs.declared.parcel.Parcel.TheVariants as parcel
-use Rattle.m2_record.specs.declared.stepped.Stepped.{Stepped}
-use Rattle.m2_record.specs.declared.stepped.Stepped.TheVariants as stepped
-use Rattle.m2_record.specs.Due.{due_step}
-use Rattle.m2_record.specs.IsRecord.{IsFrom}
-use Rattle.m2_record.specs.RecordNow.{RecordNow}
-use Rattle.m2_center.specs.declared.record_turn.RecordTurn.{RecordTurn}
-use Rattle.m2_center.specs.declared.record_turn.RecordTurn.TheVariants as one
-use Rattle.m2_center.specs.declared.records_turn.RecordsTurn.TheVariants as turn
-use Rattle.m2_center.specs.Outbox.{OutboxNow, is_free}
-use Rattle.m2_center.specs.RecordTurn.{EndsBy, Means, PutsHanded, Steps, TakesStep, Turning, TurnsAs, worked_by}
-use Rattle.m2_center.specs.RecordsTurn.{AllAmid, Amid, Around, EachTurns, TurnsEach, TurnsIf, amid, at_port, sides_of, turning_amid}
+use Rattle.m2_script.specs.m2_record.declared.stepped.Stepped.{Stepped}
+use Rattle.m2_script.specs.m2_record.declared.stepped.Stepped.TheVariants as stepped
+use Rattle.m2_script.specs.m2_record.Due.{due_step}
+use Rattle.m2_script.specs.m2_record.IsRecord.{IsFrom}
+use Rattle.m2_script.specs.m2_record.RecordNow.{RecordNow}
+use Rattle.m2_script.specs.m2_center.declared.record_turn.RecordTurn.{RecordTurn}
+use Rattle.m2_script.specs.m2_center.declared.record_turn.RecordTurn.TheVariants as one
+use Rattle.m2_script.specs.m2_center.declared.records_turn.RecordsTurn.TheVariants as turn
+use Rattle.m2_script.specs.m2_center.Outbox.{OutboxNow, is_free}
+use Rattle.m2_script.specs.m2_center.RecordTurn.{EndsBy, Means, PutsHanded, Steps, TakesStep, Turning, TurnsAs, worked_by}
+use Rattle.m2_script.specs.m2_center.RecordsTurn.{AllAmid, Amid, Around, EachTurns, TurnsEach, TurnsIf, amid, at_port, sides_of, turning_amid}
 use Rattle.m2_growth.proofs.Steps as growth
 use Rattle.m2_links_go_on.proofs.Handed.{StepHands, steps}
 use Rattle.m2_links_go_on.proofs.RecordTurns.{dialled_steady}

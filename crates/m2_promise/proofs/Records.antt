@@ -3,10 +3,10 @@ use Rattle.std.proofs.Common.{◌≡◌, ◌==◌, ◌<◌, ◌+◌, inl, inr, �
 use Rattle.std.specs.Prelude.{slice_get}
 use Rattle.std.specs.List.{AllByRecursion}
 use Rattle.std.proofs.lemmas.Option.{get_or_from_slice_get, slice_get_within}
-use Rattle.m2_addr.specs.declared.addr.TheConstants.Addr.{MSGR2}
+use Rattle.m2_fabric.specs.m2_addr.declared.addr.TheConstants.Addr.{MSGR2}
 use Rattle.m2_bytes_fit.specs.Halves.{KeepsRanges}
-use Rattle.m2_record.specs.IsRecord.{IsRecord}
-use Rattle.m2_record.specs.RecordNow.{RecordNow, ends_of}
+use Rattle.m2_script.specs.m2_record.IsRecord.{IsRecord}
+use Rattle.m2_script.specs.m2_record.RecordNow.{RecordNow, ends_of}
 use Rattle.m2_promise.specs.Beginning.{IsUnused}
 use Rattle.m2_promise.specs.Running.{IsRecordAt}
 use Rattle.m2_promise.specs.Planned.{IsTaken}
@@ -18,7 +18,7 @@ use Rattle.m2_script.specs.Made.{records_of, roomless}
 use Rattle.m2_script.specs.Nodes.{HasNodeRanges, address_of}
 use Rattle.m2_script.proofs.Apart.{get_address}
 use Rattle.m2_script.proofs.Over.{IsOver, JoinsSo, all_so, joins_so}
-use Rattle.m2_lemmas.proofs.Lists.{all_at}
+use Rattle.m2_fabric.proofs.m2_lemmas.Lists.{all_at}
 
 -- what two facts of each give
 all_both : (P Q R : RecordNow → Type 0) → ((r : RecordNow) → P r → Q r → R r) → (rs : List RecordNow) → AllByRecursion P rs → AllByRecursion Q rs → AllByRecursion R rs

@@ -2,13 +2,13 @@
 use Rattle.std.proofs.Common.{ℕ, List, [], ◌∷◌, Some, sym, ap, subst, ◌∙◌}
 use Rattle.std.specs.Prelude.{◌==◌, slice_get}
 use Rattle.std.specs.List.{AllByRecursion}
-use Rattle.m2_addr.specs.declared.addr.Addr.{Addr}
-use Rattle.m2_cluster.specs.Node.{NodeNow}
+use Rattle.m2_fabric.specs.m2_addr.declared.addr.Addr.{Addr}
+use Rattle.m2_script.specs.m2_cluster.Node.{NodeNow}
 use Rattle.m2_links_go_on.specs.ClusterTold.{OneByOne, SameNode, SameRecord}
 use Rattle.m2_links_go_on.specs.ToldLaws.{ToldClusterIsSame}
 use Rattle.m2_bytes_fit.specs.Halves.{KeepsRanges}
-use Rattle.m2_journal.specs.SideFacts.{SideFacts}
-use Rattle.m2_record.specs.RecordNow.{RecordNow}
+use Rattle.m2_weave.specs.m2_journal.SideFacts.{SideFacts}
+use Rattle.m2_script.specs.m2_record.RecordNow.{RecordNow}
 use Rattle.m2_promise.specs.Running.{IsOfPort, IsRecordAt}
 use Rattle.m2_promise.specs.PassingLaws.{HearingStaysAt, ToldNodesHear}
 use Rattle.m2_promise.specs.Acting.{holdings_of}

@@ -7,16 +7,16 @@ use Rattle.std.proofs.lemmas.Bool.{eq-eqb, eqb-true}
 use Rattle.std.proofs.lemmas.Option.{none-some, same_Some, slice_get_within}
 use Rattle.m2_growth.specs.Halves.{IsOneOf}
 use Rattle.m2_growth.proofs.Among.{in_part, mapped_one, one_back, one_front}
-use Rattle.m2_journal.specs.SideFacts.{SideFacts}
+use Rattle.m2_weave.specs.m2_journal.SideFacts.{SideFacts}
 use Rattle.m2_scenario.specs.Order.{IsPeer}
-use Rattle.m2_record.specs.IsRecord.{new_record}
-use Rattle.m2_record.specs.RecordNow.{RecordNow}
+use Rattle.m2_script.specs.m2_record.IsRecord.{new_record}
+use Rattle.m2_script.specs.m2_record.RecordNow.{RecordNow}
 use Rattle.m2_scenario.specs.declared.link.Link.{Link}
 use Rattle.m2_scenario.specs.declared.node.Node.{Node}
 use Rattle.m2_scenario.specs.Draft.{joins}
 use Rattle.m2_script.specs.declared.made.Towards.{Towards}
 use Rattle.m2_script.specs.Made.{Side, facts_of, new_towards, other_of, over, records_of, side_of}
-use Rattle.m2_lemmas.proofs.Booleans.{from_false_true}
+use Rattle.m2_fabric.proofs.m2_lemmas.Booleans.{from_false_true}
 
 -- ---- lists
 

@@ -4,7 +4,7 @@ use Rattle.std.specs.Prelude.{slice_get, unwrap_or}
 use Rattle.std.specs.Option.{is_some}
 use Rattle.std.specs.List.{AllByRecursion}
 use Rattle.std.proofs.lemmas.Bool.{eq-eqb}
-use Rattle.m2_addr.specs.declared.addr.Addr.{Addr}
+use Rattle.m2_fabric.specs.m2_addr.declared.addr.Addr.{Addr}
 use Rattle.m2_fabric.specs.declared.socket.SocketId.{SocketId}
 use Rattle.m2_fabric.specs.End.{SeenEnd}
 use Rattle.m2_fabric.specs.Log.{nothing_done}
@@ -19,30 +19,30 @@ use Rattle.m2_history.specs.Link.{IsWholeHalf, both_of, parts_of}
 use Rattle.m2_history.specs.Parts.{PartsNow}
 use Rattle.m2_history.specs.Woven.{BothNow}
 use Rattle.m2_growth.specs.Turn.{AllCameOfPut, HaveEnds}
-use Rattle.m2_journal.specs.declared.entry.Entry.{Entry}
-use Rattle.m2_journal.specs.State.{Judgement}
+use Rattle.m2_weave.specs.m2_journal.declared.entry.Entry.{Entry}
+use Rattle.m2_weave.specs.m2_journal.State.{Judgement}
 use Rattle.m2_links_go_on.specs.Linked.{IsNode}
-use Rattle.m2_record.specs.IsRecord.{IsRecord}
-use Rattle.m2_record.specs.RecordNow.{RecordNow, ends_of}
-use Rattle.m2_record.specs.Sources.{end_at}
-use Rattle.m2_record.specs.TakenTrails.{judgements_in}
+use Rattle.m2_script.specs.m2_record.IsRecord.{IsRecord}
+use Rattle.m2_script.specs.m2_record.RecordNow.{RecordNow, ends_of}
+use Rattle.m2_script.specs.m2_record.Sources.{end_at}
+use Rattle.m2_script.specs.m2_record.TakenTrails.{judgements_in}
 use Rattle.m2_promise.specs.Running.{HasAskedPeer, IsNodeAt, IsOfPort, IsRecordAt, IsRunning, RunNow}
 use Rattle.m2_promise.proofs.Places.{goes_one}
 use Rattle.m2_fabric.specs.InStep.{HaveWhatFlowed, IsUnread, SeenFabric}
 use Rattle.m2_fabric.specs.Kept.{SeenPair, directions}
 use Rattle.m2_fabric.specs.SimFabric.{AreApart}
-use Rattle.m2_center.specs.Halves.{AllHalves, sessions_with}
-use Rattle.m2_center.specs.Hearing.{ends_in}
-use Rattle.m2_center.specs.Sessions.{AreConsistent}
-use Rattle.m2_trail.specs.Arrivals.{LooseNow}
-use Rattle.m2_trail.specs.Trails.{TrailNow}
+use Rattle.m2_script.specs.m2_center.Halves.{AllHalves, sessions_with}
+use Rattle.m2_script.specs.m2_center.Hearing.{ends_in}
+use Rattle.m2_script.specs.m2_center.Sessions.{AreConsistent}
+use Rattle.m2_bytes_fit.specs.m2_trail.Arrivals.{LooseNow}
+use Rattle.m2_bytes_fit.specs.m2_trail.Trails.{TrailNow}
 use Rattle.m2_links_go_on.specs.Sides.{woven_now}
 use Rattle.m2_weave.specs.TurnLaws.{HasOrder}
 use Rattle.m2_weave.proofs.Runs.{start_has_order}
 use Rattle.m2_promise.specs.Beginning.{IsBeginning, IsNewAt, IsUnused}
 use Rattle.m2_promise.specs.BeginningLaws.{BeginningsHaveOrders, BeginningsRun, NewRecordsAreUnused}
-use Rattle.m2_lemmas.proofs.Lists.{all_at, all_so_of}
-use Rattle.m2_lemmas.proofs.Booleans.{false_isnt_true}
+use Rattle.m2_fabric.proofs.m2_lemmas.Lists.{all_at, all_so_of}
+use Rattle.m2_fabric.proofs.m2_lemmas.Booleans.{false_isnt_true}
 
 -- ---- records
 

@@ -1,8 +1,8 @@
 -- The strands that are woven of a link are those of its actors: of a half that neither record took all asks count.
 use Rattle.std.proofs.Common.{◌≡◌, ◌≤◌, Bool, true, false, if◌then◌else◌, List, ◌∷◌, ◌++◌, length, ap, ◌∙◌, arith}
 use Rattle.m2_history.specs.Woven.{judged_times}
-use Rattle.m2_journal.specs.Lawful.{judged_on}
-use Rattle.m2_record.specs.TakenTrails.{judgements_in}
+use Rattle.m2_weave.specs.m2_journal.Lawful.{judged_on}
+use Rattle.m2_script.specs.m2_record.TakenTrails.{judgements_in}
 use Rattle.m2_history.specs.Actors.{Actor, actors_of_side, is_near, loose_actors}
 use Rattle.m2_history.proofs.Journals.{judged_count}
 

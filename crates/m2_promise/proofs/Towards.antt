@@ -10,16 +10,16 @@ use Rattle.m2_growth.specs.Records.{ends_of_all}
 use Rattle.m2_growth.proofs.Among.{of_each}
 use Rattle.m2_links_go_on.specs.Linked.{IsPeerAt}
 use Rattle.m2_links_go_on.proofs.LinkRecords.{has_one}
-use Rattle.m2_record.specs.RecordNow.{RecordNow, ends_of, ids_of}
+use Rattle.m2_script.specs.m2_record.RecordNow.{RecordNow, ends_of, ids_of}
 use Rattle.m2_fabric.specs.Meeting.{comes_from}
-use Rattle.m2_center.specs.Sessions.{peer_of}
+use Rattle.m2_script.specs.m2_center.Sessions.{peer_of}
 use Rattle.m2_weave.specs.Strands.{has_opened, journal_of}
 use Rattle.m2_promise.specs.Running.{HasAskedPeer, IsNodeAt, IsRecordAt, IsRunning, RunNow}
 use Rattle.m2_promise.proofs.BothEnds.{address}
 use Rattle.m2_promise.proofs.Openers as node
 use Rattle.m2_promise.proofs.Openers.{held_by}
 use Rattle.m2_promise.proofs.Places.{comes_one, goes_one}
-use Rattle.m2_lemmas.proofs.Booleans.{false_isnt_true}
+use Rattle.m2_fabric.proofs.m2_lemmas.Booleans.{false_isnt_true}
 use Rattle.m2_links_go_on.proofs.Nodes.{end_among}
 
 pub record AreTowards (x : RunNow) (i j : ℕ) (h g : Holding) (a b : RecordNow) : Type 0 where

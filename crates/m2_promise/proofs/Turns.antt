@@ -6,10 +6,10 @@ use Rattle.std.proofs.lemmas.List.Sums.{sum_by-append, sum_by-take-drop}
 use Rattle.m2_channel.proofs.Handing.{heard-append}
 use Rattle.m2_dispatch.specs.Heard.{Heard, of_key}
 use Rattle.m2_message.specs.Message.{Content}
-use Rattle.m2_policy.specs.declared.path.Key.{Key}
+use Rattle.m2_dispatch.specs.m2_policy.declared.path.Key.{Key}
 use Rattle.m2_script.specs.declared.calls.TurnCalls.{TurnCalls}
 use Rattle.m2_script.specs.Outcome.{in_turns}
-use Rattle.m2_lemmas.proofs.Lists.{all_take, all_drop, all_append}
+use Rattle.m2_fabric.proofs.m2_lemmas.Lists.{all_take, all_drop, all_append}
 
 -- ---- what holds of each
 

@@ -13,17 +13,17 @@ use Rattle.m2_dispatch.specs.declared.parcel.Parcel.{Parcel}
 use Rattle.m2_dispatch.specs.Laws.{Call, IsSublist, start}
 use Rattle.m2_growth.specs.Halves.{IsOneOf}
 use Rattle.m2_growth.proofs.Among.{of_each}
-use Rattle.m2_journal.specs.State as state
-use Rattle.m2_journal.specs.State.{Delivery, State}
+use Rattle.m2_weave.specs.m2_journal.State as state
+use Rattle.m2_weave.specs.m2_journal.State.{Delivery, State}
 use Rattle.m2_links_go_on.specs.Logged.{IsLogged, IsLoggedOf, LoggingNow, all_put, handed_of, heard_held}
 use Rattle.m2_links_go_on.proofs.Puts.{parcels-append}
 use Rattle.m2_message.specs.Message.{unnumbered}
-use Rattle.m2_policy.specs.declared.path.Key.{Key}
-use Rattle.m2_policy.specs.declared.path.Path.{Path}
-use Rattle.m2_policy.specs.declared.path.Path.TheVariants.{Fast, Queued}
-use Rattle.m2_record.specs.RecordNow.{RecordNow, delivery_of}
-use Rattle.m2_lemmas.proofs.Lists.{all_front}
-use Rattle.m2_lemmas.proofs.Booleans.{if_false, from_false_true}
+use Rattle.m2_dispatch.specs.m2_policy.declared.path.Key.{Key}
+use Rattle.m2_dispatch.specs.m2_policy.declared.path.Path.{Path}
+use Rattle.m2_dispatch.specs.m2_policy.declared.path.Path.TheVariants.{Fast, Queued}
+use Rattle.m2_script.specs.m2_record.RecordNow.{RecordNow, delivery_of}
+use Rattle.m2_fabric.proofs.m2_lemmas.Lists.{all_front}
+use Rattle.m2_fabric.proofs.m2_lemmas.Booleans.{if_false, from_false_true}
 use Rattle.m2_channel.proofs.TwoWays.{some_of_none, unmapped}
 use Rattle.m2_links_go_on.proofs.AreHeard.{is_parcel}
 

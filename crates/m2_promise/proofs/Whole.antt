@@ -6,11 +6,11 @@ use Rattle.m2_fabric.specs.declared.socket.SocketId.{SocketId}
 use Rattle.m2_fabric.specs.End.{SeenEnd}
 use Rattle.m2_fabric.specs.Kinds.{IsInMemory}
 use Rattle.m2_fabric.specs.Sockets.{same_socket}
-use Rattle.m2_record.specs.Sources.{end_at}
-use Rattle.m2_center.specs.Center.{supply_in}
-use Rattle.m2_center.specs.Reaching.{all_ends_in}
-use Rattle.m2_cluster.specs.Cluster.{end_of, held_by}
-use Rattle.m2_cluster.specs.Node.{IsWholeNode, NodeNow}
+use Rattle.m2_script.specs.m2_record.Sources.{end_at}
+use Rattle.m2_script.specs.m2_center.Center.{supply_in}
+use Rattle.m2_script.specs.m2_center.Reaching.{all_ends_in}
+use Rattle.m2_script.specs.m2_cluster.Cluster.{end_of, held_by}
+use Rattle.m2_script.specs.m2_cluster.Node.{IsWholeNode, NodeNow}
 use Rattle.m2_links_go_on.specs.Center.{holding_of}
 use Rattle.m2_links_go_on.specs.Cluster.{AllInMemory}
 use Rattle.m2_growth.specs.Holding.{AreOwn, HaveTheirHalves, Holding}

@@ -1,7 +1,7 @@
 -- The nodes of a cluster as those of a run. This project's own.
 use Rattle.std.specs.Prelude.{List, map}
-use Rattle.m2_cluster.specs.Cluster.{held_by}
-use Rattle.m2_cluster.specs.Node.{NodeNow}
+use Rattle.m2_script.specs.m2_cluster.Cluster.{held_by}
+use Rattle.m2_script.specs.m2_cluster.Node.{NodeNow}
 use Rattle.m2_links_go_on.specs.Center.{holding_of}
 use Rattle.m2_growth.specs.Holding.{Holding}
 use Rattle.m2_promise.specs.Running.{RunNow}

@@ -1,15 +1,15 @@
 -- Nodes in memory and the sockets between them before the first deed of a run. This project's own.
 use Rattle.std.specs.Prelude.{◌≡◌, ℕ, List, [], length, slice_get, Some}
 use Rattle.std.specs.List.{AllByRecursion}
-use Rattle.m2_addr.specs.declared.addr.Addr.{Addr}
-use Rattle.m2_center.specs.Making.{sessions_at_first}
+use Rattle.m2_fabric.specs.m2_addr.declared.addr.Addr.{Addr}
+use Rattle.m2_script.specs.m2_center.Making.{sessions_at_first}
 use Rattle.m2_growth.specs.Holding.{Holding}
-use Rattle.m2_record.specs.IsRecord.{IsRecord}
-use Rattle.m2_record.specs.RecordNow.{RecordNow, ends_of}
+use Rattle.m2_script.specs.m2_record.IsRecord.{IsRecord}
+use Rattle.m2_script.specs.m2_record.RecordNow.{RecordNow, ends_of}
 use Rattle.m2_promise.specs.Running.{HoldsAll, IsRecordAt, RunNow}
 use Rattle.m2_fabric.specs.SimFabric.{AreApart, fresh_fabric}
-use Rattle.m2_center.specs.Halves.{halves_of}
-use Rattle.m2_center.specs.Sessions.{AreConsistent, Supply}
+use Rattle.m2_script.specs.m2_center.Halves.{halves_of}
+use Rattle.m2_script.specs.m2_center.Sessions.{AreConsistent, Supply}
 
 -- a record that did nothing: it has no entries, took no half and has no end
 pub record IsUnused (r : RecordNow) : Type 0 where

@@ -1,23 +1,23 @@
 -- What is promised of runs of nodes in memory before their first deed, and where one node acts.
 use Rattle.std.specs.Prelude.{◌≡◌, ℕ, List, length, slice_get, Some}
 use Rattle.std.specs.List.{AllByRecursion}
-use Rattle.m2_addr.specs.declared.addr.Addr.{Addr}
+use Rattle.m2_fabric.specs.m2_addr.declared.addr.Addr.{Addr}
 use Rattle.m2_dispatch.specs.Heard.{Heard}
 use Rattle.m2_fabric.specs.Port.{fresh_port}
-use Rattle.m2_journal.specs.declared.facts.PlanStep.{PlanStep}
-use Rattle.m2_journal.specs.SideFacts.{SideFacts}
-use Rattle.m2_center.specs.CenterTurn.{Answer}
-use Rattle.m2_center.specs.Making.{CanBegin, new_center}
-use Rattle.m2_cluster.specs.Cluster.{ClusterNow, OneDoes, held_by}
-use Rattle.m2_cluster.specs.Node.{NodeNow, NodePlans, NodeTurns}
+use Rattle.m2_weave.specs.m2_journal.declared.facts.PlanStep.{PlanStep}
+use Rattle.m2_weave.specs.m2_journal.SideFacts.{SideFacts}
+use Rattle.m2_script.specs.m2_center.CenterTurn.{Answer}
+use Rattle.m2_script.specs.m2_center.Making.{CanBegin, new_center}
+use Rattle.m2_script.specs.m2_cluster.Cluster.{ClusterNow, OneDoes, held_by}
+use Rattle.m2_script.specs.m2_cluster.Node.{NodeNow, NodePlans, NodeTurns}
 use Rattle.m2_links_go_on.specs.Center.{holding_of}
 use Rattle.m2_links_go_on.specs.Cluster.{AllInMemory, BringInMemory}
 use Rattle.m2_growth.specs.Holding.{AreOwn}
-use Rattle.m2_record.specs.IsRecord.{IsRecord, new_record}
-use Rattle.m2_record.specs.RecordNow.{RecordNow, Rooms}
+use Rattle.m2_script.specs.m2_record.IsRecord.{IsRecord, new_record}
+use Rattle.m2_script.specs.m2_record.RecordNow.{RecordNow, Rooms}
 use Rattle.m2_promise.specs.Running.{HaveOrders, HoldsAll, IsNodeAt, IsRecordAt, IsRunning, NodeActs, RunNow}
-use Rattle.m2_shared.specs.Numbers.{SeenNumberPass}
-use Rattle.m2_shared.specs.Throttle.{SeenTakePass}
+use Rattle.m2_dispatch.specs.m2_shared.Numbers.{SeenNumberPass}
+use Rattle.m2_dispatch.specs.m2_shared.Throttle.{SeenTakePass}
 use Rattle.m2_fabric.specs.InStep.{SeenFabric}
 use Rattle.m2_fabric.specs.SimFabric.{AreApart, fresh_fabric}
 use Rattle.m2_promise.specs.Acting.{run_of}

@@ -9,16 +9,16 @@ use Rattle.m2_bytes_fit.specs.Posts.{IsOfTypes}
 use Rattle.m2_growth.specs.Halves.{all_left}
 use Rattle.m2_growth.specs.Holding.{Holding}
 use Rattle.m2_history.specs.Delivered.{AreDelivered, AreOfOrder}
-use Rattle.m2_journal.specs.declared.entry.Entry.{Entry}
-use Rattle.m2_journal.specs.declared.entry.Entry.TheVariants as entry
-use Rattle.m2_journal.specs.declared.facts.PlanStep.{PlanStep}
-use Rattle.m2_journal.specs.declared.facts.PlanStep.TheVariants as step
-use Rattle.m2_journal.specs.Replay.{replay}
-use Rattle.m2_journal.specs.State.{State}
-use Rattle.m2_never_reset.specs.LinkOf.{letters}
-use Rattle.m2_never_reset.specs.Orders.{AreNodes, IsNeverReset}
-use Rattle.m2_record.specs.IsRecord.{IsReplayedTo}
-use Rattle.m2_record.specs.RecordNow.{RecordNow, speaks_of}
+use Rattle.m2_weave.specs.m2_journal.declared.entry.Entry.{Entry}
+use Rattle.m2_weave.specs.m2_journal.declared.entry.Entry.TheVariants as entry
+use Rattle.m2_weave.specs.m2_journal.declared.facts.PlanStep.{PlanStep}
+use Rattle.m2_weave.specs.m2_journal.declared.facts.PlanStep.TheVariants as step
+use Rattle.m2_weave.specs.m2_journal.Replay.{replay}
+use Rattle.m2_weave.specs.m2_journal.State.{State}
+use Rattle.m2_channel.specs.m2_never_reset.LinkOf.{letters}
+use Rattle.m2_channel.specs.m2_never_reset.Orders.{AreNodes, IsNeverReset}
+use Rattle.m2_script.specs.m2_record.IsRecord.{IsReplayedTo}
+use Rattle.m2_script.specs.m2_record.RecordNow.{RecordNow, speaks_of}
 use Rattle.m2_history.specs.WovenLaws.{kept_by, link_of}
 use Rattle.m2_history.specs.WovenLink.{IsOrderOf, LinkNow, order_of}
 

@@ -2,7 +2,7 @@
 use Rattle.std.specs.Prelude.{◌≡◌, List, length}
 use Rattle.std.specs.List.{AllByRecursion}
 use Rattle.m2_dispatch.specs.Heard.{Heard}
-use Rattle.m2_cluster.specs.Node.{IsWholeNode}
+use Rattle.m2_script.specs.m2_cluster.Node.{IsWholeNode}
 use Rattle.m2_promise.specs.Acting.{run_of}
 use Rattle.m2_promise.specs.Passed.{IsAtRest}
 use Rattle.m2_promise.specs.Planned.{AllKept}

@@ -4,8 +4,8 @@ use Rattle.std.specs.Prelude.{◌≡◌, true, false}
 use Rattle.std.specs.List.{AllByRecursion}
 use Rattle.m2_channel.specs.Observed.{Logs}
 use Rattle.m2_growth.specs.Holding.{Holding}
-use Rattle.m2_lossy_in_order.specs.Lossy.{AreLossy}
-use Rattle.m2_record.specs.RecordNow.{RecordNow}
+use Rattle.m2_history.specs.m2_lossy_in_order.Lossy.{AreLossy}
+use Rattle.m2_script.specs.m2_record.RecordNow.{RecordNow}
 use Rattle.m2_promise.specs.Running.{HaveOrders, IsLinkOf, IsRunning, RunNow}
 use Rattle.m2_history.specs.WovenLaws.{kept_by}
 use Rattle.m2_history.specs.WovenLink.{LinkNow}

@@ -1,7 +1,7 @@
 -- What is promised of a run of nodes in memory where something passes between them.
 use Rattle.std.specs.Prelude.{◌≡◌, ℕ, List, None}
-use Rattle.m2_addr.specs.declared.addr.Addr.{Addr}
-use Rattle.m2_cluster.specs.Cluster.{ClusterNow, rest_of}
+use Rattle.m2_fabric.specs.m2_addr.declared.addr.Addr.{Addr}
+use Rattle.m2_script.specs.m2_cluster.Cluster.{ClusterNow, rest_of}
 use Rattle.m2_links_go_on.specs.ClusterTold.{AreUnused, OneByOne}
 use Rattle.m2_growth.specs.Holding.{Holding}
 use Rattle.m2_growth.specs.Passed.{AllPortsStand, HasItsEnds, WaitingAreOpen}

@@ -2,7 +2,7 @@
 use Rattle.std.specs.Prelude.{List, [], ◌∷◌, ◌++◌, Ok}
 use Rattle.std.specs.List.{AllByRecursion}
 use Rattle.m2_dispatch.specs.Heard.{Heard}
-use Rattle.m2_cluster.specs.Node.{IsWholeNode}
+use Rattle.m2_script.specs.m2_cluster.Node.{IsWholeNode}
 use Rattle.m2_links_go_on.specs.Cluster.{AllOwn}
 use Rattle.m2_script.specs.Script.{Deed, Happens, RunNow}
 use Rattle.m2_promise.specs.Planned.{AllKept, PlansGoOn}

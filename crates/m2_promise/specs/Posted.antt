@@ -3,7 +3,7 @@
 use Rattle.std.specs.Prelude.{◌≡◌, ◌==◌, ◌&&◌, ◌||◌, not, ℕ, ◌≤◌, Bool, true, false, List, ◌∷◌, ◌++◌, length, map, slice_get, Some, sum_by}
 use Rattle.std.specs.List.{AllByRecursion, list_any}
 use Rattle.m2_channel.specs.ObservedLaws.{AreBrought, AreBroughtToAMark}
-use Rattle.m2_cluster.specs.Node.{NodeNow}
+use Rattle.m2_script.specs.m2_cluster.Node.{NodeNow}
 use Rattle.m2_links_go_on.specs.Center.{holding_of}
 use Rattle.m2_promise.specs.Delivered.{BothLogs, HasAccepted, link_in}
 use Rattle.m2_promise.specs.Lossy.{ComeInOrderOn}
@@ -13,18 +13,18 @@ use Rattle.m2_dispatch.specs.Laws.{IsSublist}
 use Rattle.m2_bytes_fit.specs.Orders.{entries_of}
 use Rattle.m2_bytes_fit.specs.Posts.{IsOfTypes}
 use Rattle.m2_history.specs.Delivered.{AreDelivered, AreOfOrder}
-use Rattle.m2_journal.specs.declared.entry.Entry.{Entry}
-use Rattle.m2_journal.specs.declared.entry.Entry.TheVariants as entry
-use Rattle.m2_journal.specs.Items as item
-use Rattle.m2_journal.specs.SideFacts.{SideFacts}
+use Rattle.m2_weave.specs.m2_journal.declared.entry.Entry.{Entry}
+use Rattle.m2_weave.specs.m2_journal.declared.entry.Entry.TheVariants as entry
+use Rattle.m2_weave.specs.m2_journal.Items as item
+use Rattle.m2_weave.specs.m2_journal.SideFacts.{SideFacts}
 use Rattle.m2_links_go_on.specs.LogLaws.{logging_in}
 use Rattle.m2_links_go_on.specs.Logged.{logs_in}
 use Rattle.m2_message.specs.Message.{Content, unnumbered}
 use Rattle.m2_scenario.specs.Order.{AreCounted, AreOfJoined, HearsNoReset, HearsPrefix, HearsWhole, OverEach, at, fast_of, posts_of}
-use Rattle.m2_never_reset.specs.LinkOf.{letters}
-use Rattle.m2_never_reset.specs.Orders.{IsHistory, IsNeverReset, SideItem, far_after, far_item, near_after, near_item}
-use Rattle.m2_policy.specs.declared.path.Key.{Key}
-use Rattle.m2_record.specs.RecordNow.{RecordNow}
+use Rattle.m2_channel.specs.m2_never_reset.LinkOf.{letters}
+use Rattle.m2_channel.specs.m2_never_reset.Orders.{IsHistory, IsNeverReset, SideItem, far_after, far_item, near_after, near_item}
+use Rattle.m2_dispatch.specs.m2_policy.declared.path.Key.{Key}
+use Rattle.m2_script.specs.m2_record.RecordNow.{RecordNow}
 use Rattle.m2_scenario.specs.declared.line.Line.{Line}
 use Rattle.m2_scenario.specs.declared.line.Line.TheVariants as line
 use Rattle.m2_scenario.specs.declared.link.Link.{Link}

@@ -1,7 +1,7 @@
 -- What is promised of a run of nodes in memory.
 use Rattle.std.specs.Prelude.{ℕ}
 use Rattle.m2_growth.specs.Holding.{Holding}
-use Rattle.m2_record.specs.RecordNow.{RecordNow}
+use Rattle.m2_script.specs.m2_record.RecordNow.{RecordNow}
 use Rattle.m2_promise.specs.Running.{HaveOrders, IsLinkOf, IsRunning, NodeActs, RunNow}
 
 -- Where a node acts, what holds always holds still.

@@ -1,7 +1,7 @@
 -- Nodes in memory and the sockets between them, at rest between two deeds of a run: what holds always. This project's own.
 use Rattle.std.specs.Prelude.{◌≡◌, ◌==◌, ◌||◌, ◌⊎◌, ℕ, true, false, List, ◌++◌, length, slice_get, slice_set, Some, None, IsSome}
 use Rattle.std.specs.List.{AllByRecursion}
-use Rattle.m2_addr.specs.declared.addr.Addr.{Addr}
+use Rattle.m2_fabric.specs.m2_addr.declared.addr.Addr.{Addr}
 use Rattle.m2_fabric.specs.declared.socket.SocketId.{SocketId}
 use Rattle.m2_fabric.specs.Holder.{SeenHolder}
 use Rattle.m2_fabric.specs.Log.{nothing_done}
@@ -13,8 +13,8 @@ use Rattle.m2_history.specs.Link.{both_of}
 use Rattle.m2_growth.specs.InStepLaws.{StayMet}
 use Rattle.m2_growth.specs.Turn.{AllEndsGrow}
 use Rattle.m2_links_go_on.specs.Linked.{IsNode}
-use Rattle.m2_record.specs.RecordNow.{RecordNow}
-use Rattle.m2_record.specs.Sources.{end_at}
+use Rattle.m2_script.specs.m2_record.RecordNow.{RecordNow}
+use Rattle.m2_script.specs.m2_record.Sources.{end_at}
 use Rattle.m2_fabric.specs.InStep.{IsInStep, SeenFabric}
 use Rattle.m2_fabric.specs.Kept.{directions, is_kept}
 use Rattle.m2_fabric.specs.Meeting.{acceptor, comes_from}

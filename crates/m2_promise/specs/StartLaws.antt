@@ -1,13 +1,13 @@
 -- What is promised of a scenario's run from its beginning.
 use Rattle.std.specs.Prelude.{◌≡◌, ℕ, List, length, map, slice_get, Some}
 use Rattle.std.specs.List.{AllByRecursion}
-use Rattle.m2_cluster.specs.Node.{NodeNow}
+use Rattle.m2_script.specs.m2_cluster.Node.{NodeNow}
 use Rattle.m2_dispatch.specs.declared.logged.Logged.{Logged}
 use Rattle.m2_dispatch.specs.Heard.{heard_by}
 use Rattle.m2_promise.specs.Kept.{IsKept}
 pub use Rattle.m2_promise.specs.KeepingLaws.{DeedsStayKept, KeptCanBeDone}
 use Rattle.m2_promise.specs.Planned.{steps_for}
-use Rattle.m2_record.specs.RecordNow.{RecordNow}
+use Rattle.m2_script.specs.m2_record.RecordNow.{RecordNow}
 use Rattle.m2_scenario.specs.declared.line.Line.{Line}
 use Rattle.m2_scenario.specs.declared.link.Link.{Link}
 use Rattle.m2_scenario.specs.declared.node.Node.{Node}

@@ -8,7 +8,7 @@ use Rattle.std.specs.Ordering.{is_lt, nat_cmp}
 use Rattle.std.proofs.lemmas.List.Elements.{All-from_recursion, recursion_from_All}
 use Rattle.std.proofs.lemmas.Bool.Decides.{nat_tests}
 use Rattle.m2_queues.specs.ByRank.{put_before, by_rank, goes_before, IsStableSort}
-use Rattle.m2_lemmas.proofs.Lists.{all_so}
+use Rattle.m2_bytes.proofs.m2_lemmas.Lists.{all_so}
 
 -- the test does not pass at any item
 none : {X : Type 0} (p : X → Bool) (xs : List X) → AllByRecursion (λ x. p x ≡ false) xs → filter p xs ≡ []

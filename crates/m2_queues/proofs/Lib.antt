@@ -4,3 +4,4 @@ pub mod InOrder
 pub mod Joining
 pub mod Permuted
 pub mod Unsent
+pub use Rattle.m2_bytes.proofs.m2_lemmas as m2_lemmas

@@ -48,7 +48,7 @@ use Rattle.m2_record.proofs.Kept.{feeds-more, ids-left, stepped-within, tells-fi
 use Rattle.m2_record.proofs.Opens.{closed-more, still-open}
 use Rattle.m2_record.proofs.Telling.{Beside, beside, feed_left, spent_if, tells-beside, tells-feed, told_by}
 use Rattle.m2_record.proofs.Trailing.{closed-behind, ends-go-on, trails-go-on}
-use Rattle.m2_lemmas.proofs.Booleans.{false_isnt_true}
+use Rattle.m2_bytes.proofs.m2_lemmas.Booleans.{false_isnt_true}
 
 -- ---- what is told, where anything is
 

@@ -24,7 +24,7 @@ use Rattle.m2_record.specs.Judging.{CanAskOn, CanBeJudged, CanBeTaken, JudgesAs,
 use Rattle.m2_record.specs.declared.judging.Judged.{Judged}
 use Rattle.m2_record.specs.declared.judging.Judged.TheVariants as judged
 use Rattle.m2_record.specs.RecordNow.{RecordNow, Rooms, speaks_of}
-use Rattle.m2_lemmas.proofs.Booleans.{false_isnt_true}
+use Rattle.m2_bytes.proofs.m2_lemmas.Booleans.{false_isnt_true}
 
 -- the session of a record is sound, as that of each replay
 pub session-sound : (r : RecordNow) → IsRecord r → SessionIsSound r.core.facts r.core.live.session

@@ -45,7 +45,7 @@ use Rattle.m2_record.proofs.Kept.{feeds-more, ids-left, stepped-within, tells-fi
 use Rattle.m2_record.proofs.Keeping.{as-planned, ground, one-more, replay-stays}
 use Rattle.m2_record.proofs.Telling.{Beside, beside, feed_left, tells-beside, tells-feed, told_by}
 use Rattle.m2_record.proofs.Trailing.{closed-behind, ends-go-on, trails-more}
-use Rattle.m2_lemmas.proofs.Booleans.{or_right, or_left, false_isnt_true}
+use Rattle.m2_bytes.proofs.m2_lemmas.Booleans.{or_right, or_left, false_isnt_true}
 use Rattle.m2_fabric.proofs.Sockets.{same_refl}
 
 -- a fault closes the feed, whatever the session is

@@ -9,7 +9,7 @@ use Rattle.m2_core.specs.OnFeed.{AnswersStamp, ChangesRoom, ComposesFeed, Greets
 use Rattle.m2_core.specs.LiveCalls.{live_with}
 use Rattle.m2_core.specs.LiveHearing.{raised_by}
 use Rattle.m2_core.specs.Calls.{is_exhausted}
-use Rattle.m2_control.specs.declared.fields.TheConstants.{GREATEST_NUMBER}
+use Rattle.m2_handshake.specs.m2_control.declared.fields.TheConstants.{GREATEST_NUMBER}
 use Rattle.m2_core.specs.Asking.{LeavesPass}
 use Rattle.m2_core.specs.CoreNow.{CoreNow}
 use Rattle.m2_core.specs.Front.{FrontHeard, asks, heard_by, rests, tells}
@@ -44,7 +44,7 @@ use Rattle.m2_journal.specs.declared.entry.Entry.{Entry}
 use Rattle.m2_journal.specs.declared.facts.PlanStep.{PlanStep}
 use Rattle.m2_journal.specs.declared.facts.PlanStep.TheVariants as step
 use Rattle.m2_journal.specs.OutFrames as out
-use Rattle.m2_queues.specs.OutQueues.{Outgoing}
+use Rattle.m2_dispatch.specs.m2_queues.OutQueues.{Outgoing}
 use Rattle.m2_shared.specs.Numbers.{SeenNumberPass}
 use Rattle.m2_record.specs.declared.composing.Composed.{Composed}
 use Rattle.m2_record.specs.declared.composing.Composed.TheVariants as composed
@@ -63,7 +63,7 @@ use Rattle.m2_record.specs.Reading.{Reads, answer_by, answer_read, fault_by, fau
 use Rattle.m2_record.specs.RecordNow.{RecordNow}
 use Rattle.m2_record.specs.Stepping.{FeedStays, IfMemory, NothingDone, PlansAs, StepsAs, StepsBy, TakesDue, Worked, answer_composed, answer_framed, answer_planned, answer_put}
 use Rattle.m2_record.proofs.HasGot.{none-closed, none-heard}
-use Rattle.m2_lemmas.proofs.Booleans.{both_of_and, false_isnt_true}
+use Rattle.m2_bytes.proofs.m2_lemmas.Booleans.{both_of_and, false_isnt_true}
 
 -- ---- what makes it due
 

@@ -5,7 +5,7 @@ use Rattle.std.specs.List.{list_any}
 use Rattle.std.specs.Option.{is_none, is_some, option_to_list}
 use Rattle.std.proofs.lemmas.Bool.{ltb-false, ltb-true}
 use Rattle.std.proofs.lemmas.List.Folds.{list_any-append}
-use Rattle.m2_control.specs.declared.fields.TheConstants.{GREATEST_NUMBER}
+use Rattle.m2_handshake.specs.m2_control.declared.fields.TheConstants.{GREATEST_NUMBER}
 use Rattle.m2_core.specs.LiveNow.{OnFeedNow, is_ready}
 use Rattle.m2_core.specs.OnFeed.{CanAsk, CanWrite, HasStamp}
 use Rattle.m2_core.specs.LiveNumbering.{HasNumber}
@@ -18,9 +18,9 @@ use Rattle.m2_core.specs.declared.to_compose.CoreText.{CoreText}
 use Rattle.m2_core.specs.declared.to_compose.CoreText.TheVariants as text
 use Rattle.m2_feed.specs.Calls.{Rests, is_empty}
 use Rattle.m2_feed.specs.FeedNow.{FeedNow, Reading, framing, is_framing, shaking}
-use Rattle.m2_frame.specs.Reading.{Front, owed_at, start}
+use Rattle.m2_handshake.specs.m2_frame.Reading.{Front, owed_at, start}
 use Rattle.m2_journal.specs.Lawful.{dial_connect, where_so}
-use Rattle.m2_queues.specs.OutQueues.{next_number}
+use Rattle.m2_dispatch.specs.m2_queues.OutQueues.{next_number}
 use Rattle.m2_session.specs.declared.session.Phase.{Phase}
 use Rattle.m2_session.specs.declared.session.Phase.TheVariants.{Absent, Connecting, IdentSent, ReconnectSent, Ready, Standby, Wait}
 use Rattle.m2_session.specs.Phases as phase
@@ -31,8 +31,8 @@ use Rattle.m2_record.specs.IsRecord.{IsRecord}
 use Rattle.m2_record.specs.RecordNow.{RecordNow}
 use Rattle.m2_record.specs.declared.due.Due.{Due}
 use Rattle.m2_record.specs.declared.due.Due.TheVariants as due
-use Rattle.m2_lemmas.proofs.Options.{none_isnt_some, some_same}
-use Rattle.m2_lemmas.proofs.Booleans.{negated_is_false, negated_is_true, neither_of_or, both_of_and, false_isnt_true}
+use Rattle.m2_bytes.proofs.m2_lemmas.Options.{none_isnt_some, some_same}
+use Rattle.m2_bytes.proofs.m2_lemmas.Booleans.{negated_is_false, negated_is_true, neither_of_or, both_of_and, false_isnt_true}
 
 abbrev is_connect : Due → Bool
 is_connect (due.Connect at) = true

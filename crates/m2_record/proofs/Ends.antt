@@ -8,7 +8,7 @@ use Rattle.m2_journal.specs.declared.entry.Entry.{Entry}
 use Rattle.m2_record.specs.IsRecord.{closed_in}
 use Rattle.m2_record.specs.RecordNow.{ids_of}
 use Rattle.m2_record.specs.Sources.{broken_of, end_at, got_of, put_of, runs_of}
-use Rattle.m2_lemmas.proofs.Booleans.{neither_of_or, false_isnt_true}
+use Rattle.m2_bytes.proofs.m2_lemmas.Booleans.{neither_of_or, false_isnt_true}
 use Rattle.m2_fabric.proofs.Sockets.{same_equal}
 
 -- ---- among

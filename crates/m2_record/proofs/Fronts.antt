@@ -13,9 +13,9 @@ use Rattle.m2_core.specs.Front.{FrontHeard, asks, before_front, front_in, front_
 use Rattle.m2_core.specs.Granting.{Grants, Throttled}
 use Rattle.m2_core.specs.Next.{Closes, Counts, IsNext, IsResetHeard}
 use Rattle.m2_core.specs.Passing.{HasPassed, HasStamped, StampsFeed}
-use Rattle.m2_control.specs.declared.keepalive.Keepalive.{Keepalive}
+use Rattle.m2_handshake.specs.m2_control.declared.keepalive.Keepalive.{Keepalive}
 use Rattle.m2_feed.specs.FeedNow.{FeedNow, Reading, framing, is_framing, shaking}
-use Rattle.m2_frame.specs.Reading.{Front, Item, bad, judge, owed_at, start, text}
+use Rattle.m2_handshake.specs.m2_frame.Reading.{Front, Item, bad, judge, owed_at, start, text}
 use Rattle.m2_feed.specs.declared.wire_fault.WireFault.{WireFault}
 use Rattle.m2_feed.specs.declared.frame_heard.FrameHeard.{FrameHeard}
 use Rattle.m2_feed.specs.declared.frame_heard.FrameHeard.TheVariants as heard
@@ -28,7 +28,7 @@ use Rattle.m2_record.specs.Due as due
 use Rattle.m2_record.specs.Framing.{AnswersFront, IsDone}
 use Rattle.m2_record.specs.RecordNow.{RecordNow}
 use Rattle.m2_record.proofs.Standing.{SameEnd}
-use Rattle.m2_lemmas.proofs.Booleans.{false_isnt_true}
+use Rattle.m2_bytes.proofs.m2_lemmas.Booleans.{false_isnt_true}
 
 -- ---- calls of the core that make no entry
 

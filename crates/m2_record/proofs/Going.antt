@@ -40,7 +40,7 @@ use Rattle.m2_record.proofs.Opens.{closed-more, still-open}
 use Rattle.m2_record.proofs.Taking.{planned-next}
 use Rattle.m2_record.proofs.Telling.{Beside, beside, feed_left, spent_if, tells-beside, tells-feed, told_by}
 use Rattle.m2_record.proofs.Trailing.{closed-behind, ends-go-on, trails-more}
-use Rattle.m2_lemmas.proofs.Booleans.{false_isnt_true}
+use Rattle.m2_bytes.proofs.m2_lemmas.Booleans.{false_isnt_true}
 
 -- a Down may come: it is the plan's next step, or a number that is needed is above the greatest
 abbrev pub MayGo : (planned : Bool) → RecordNow → CoreNow → Type 0

@@ -28,7 +28,7 @@ use Rattle.m2_record.specs.Due.{due_step}
 use Rattle.m2_record.specs.Reading.{answer_by, answer_heard, answer_read, fault_read, faulted_or}
 use Rattle.m2_record.specs.RecordNow.{RecordNow}
 use Rattle.m2_record.specs.Stepping.{HandsAs, IsHandedOwned, StepsBy, TakesDue, Worked, answer_composed, answer_framed, answer_planned, answer_put}
-use Rattle.m2_lemmas.proofs.Booleans.{false_isnt_true}
+use Rattle.m2_bytes.proofs.m2_lemmas.Booleans.{false_isnt_true}
 
 -- ---- which answers hand out a parcel
 

@@ -18,7 +18,7 @@ use Rattle.m2_core.specs.Agrees.{Agrees, FeedsAgree, LeadsOn, MayCome, Stays}
 use Rattle.m2_core.specs.CoreNow.{CoreNow}
 use Rattle.m2_core.specs.Hearing.{HasRead, Heeds, IsFaultHeard, IsRead, IsReadEntry, ReadNow, effects_heard, heard_after}
 use Rattle.m2_dispatch.specs.Parcel.{IsOwned}
-use Rattle.m2_edge.specs.Faults.{HasRisen}
+use Rattle.m2_fabric.specs.m2_edge.Faults.{HasRisen}
 use Rattle.m2_fabric.specs.declared.end.EndRead.{EndRead}
 use Rattle.m2_fabric.specs.declared.end.EndRead.TheVariants as read
 use Rattle.m2_fabric.specs.declared.log.Run.TheVariants as run
@@ -31,7 +31,7 @@ use Rattle.m2_handshake.specs.Course as hand
 use Rattle.m2_handshake.specs.Course.{Course, course_of}
 use Rattle.m2_handshake.specs.Moves.{is_authed}
 use Rattle.m2_handshake.specs.Standing.{Standing, fed}
-use Rattle.m2_control.specs.declared.control.Control.TheVariants as control
+use Rattle.m2_handshake.specs.m2_control.declared.control.Control.TheVariants as control
 use Rattle.m2_feed.specs.declared.wire_fault.WireFault.{WireFault}
 use Rattle.m2_feed.specs.declared.answer_fault.AnswerFault.TheVariants as refusal
 use Rattle.m2_feed.specs.declared.heard.Heard.{Heard}
@@ -78,7 +78,7 @@ use Rattle.m2_record.proofs.Telling.{Beside, beside, feed_left}
 use Rattle.m2_record.proofs.Trailing as trailing
 use Rattle.m2_record.proofs.Trailing.{LogGoesOn, closed-behind, ends-go-on, first-goes-on, first-here, prefix-same, runs-more, trail-there, trails-go-on, trails-more, unread-stays}
 use Rattle.m2_shared.specs.Place.{Place}
-use Rattle.m2_lemmas.proofs.Booleans.{or_right, false_isnt_true}
+use Rattle.m2_bytes.proofs.m2_lemmas.Booleans.{or_right, false_isnt_true}
 use Rattle.m2_fabric.proofs.Sockets.{same_refl}
 
 -- ---- what it leaves of a state

@@ -32,7 +32,7 @@ use Rattle.m2_journal.specs.Steps as journal
 use Rattle.m2_journal.specs.Steps.{after}
 use Rattle.m2_journal.proofs.Growing.{one_more}
 use Rattle.m2_trail.specs.Trails.{TrailNow}
-use Rattle.m2_queues.specs.OutQueues.{Outgoing}
+use Rattle.m2_dispatch.specs.m2_queues.OutQueues.{Outgoing}
 use Rattle.m2_record.specs.Calls.{IsCounted, entries_put, held_after, moment_after, wrote_entries}
 use Rattle.m2_record.specs.Entered.{AreSettled, HavePut}
 use Rattle.m2_record.specs.IsRecord.{FeedHasRoom, FeedIsOpen, FeedIsWhole, FitFrames, IsOpenAmong, IsRecord, IsReplayedTo, IsWellKept, closed_in, feeds_in}
@@ -48,7 +48,7 @@ use Rattle.m2_record.proofs.Telling.{beside}
 use Rattle.m2_record.proofs.Telling as telling
 use Rattle.m2_record.proofs.Trailing.{Beside, LogGoesOn, first-goes-on, first-there, prefix-same, runs-more, trails-behind, trails-go-on, unread-same}
 use Rattle.m2_record.proofs.Trailing as trailing
-use Rattle.m2_lemmas.proofs.Booleans.{false_isnt_true}
+use Rattle.m2_bytes.proofs.m2_lemmas.Booleans.{false_isnt_true}
 use Rattle.m2_fabric.proofs.Sockets.{same_equal, same_refl}
 
 -- ---- what it leaves of a state

@@ -28,7 +28,7 @@ use Rattle.m2_dispatch.specs.declared.parcel.Parcel.{Parcel}
 use Rattle.m2_dispatch.specs.Parcel.{IsOwned}
 use Rattle.m2_fabric.specs.End.{SeenEnd}
 use Rattle.m2_feed.specs.FeedNow.{FeedNow, is_framing}
-use Rattle.m2_frame.specs.Reading.{whole}
+use Rattle.m2_handshake.specs.m2_frame.Reading.{whole}
 use Rattle.m2_handshake.specs.declared.answer.HalfStep.{HalfStep}
 use Rattle.m2_feed.specs.declared.wire_fault.WireFault.{WireFault}
 use Rattle.m2_feed.specs.declared.frame_heard.FrameHeard.{FrameHeard}
@@ -43,7 +43,7 @@ use Rattle.m2_journal.specs.Said.{Said, aborts, brings, garbles, says}
 use Rattle.m2_journal.specs.SideFacts.{SideFacts}
 use Rattle.m2_journal.specs.State.{Delivery, Feed, State}
 use Rattle.m2_journal.specs.Steps as journal
-use Rattle.m2_message.specs.Message.{Content}
+use Rattle.m2_dispatch.specs.m2_message.Message.{Content}
 use Rattle.m2_policy.specs.declared.path.Key.{Key}
 use Rattle.m2_session.specs.declared.event.Event.TheVariants as event
 use Rattle.m2_session.specs.declared.session.Session.{Session}
@@ -65,9 +65,9 @@ use Rattle.m2_record.proofs.Kept.{acked-fits, tells-fits, told-from}
 use Rattle.m2_record.proofs.Owning.{tells-owned, told-all}
 use Rattle.m2_record.proofs.Standing.{HandsMore, SameEnd, enters-record, hands-record, stands-record}
 use Rattle.m2_record.proofs.Telling.{beside, feed_left, tells-beside, tells-feed}
-use Rattle.m2_lemmas.proofs.Options.{none_isnt_some, some_same}
-use Rattle.m2_lemmas.proofs.Lists.{all_append}
-use Rattle.m2_lemmas.proofs.Booleans.{false_isnt_true}
+use Rattle.m2_bytes.proofs.m2_lemmas.Options.{none_isnt_some, some_same}
+use Rattle.m2_bytes.proofs.m2_lemmas.Lists.{all_append}
+use Rattle.m2_bytes.proofs.m2_lemmas.Booleans.{false_isnt_true}
 
 -- ---- no entry
 

@@ -23,7 +23,7 @@ use Rattle.m2_record.specs.TakenTrails as trail
 use Rattle.m2_record.specs.TakenTrails.{HaveTrails, IsKeptTrail, judgements_in, taken_by, taken_in}
 use Rattle.m2_record.proofs.Naming.{is-unopened, is-untaken, replayed-names}
 use Rattle.m2_record.proofs.Trailing.{filtered-more}
-use Rattle.m2_lemmas.proofs.Booleans.{neither_of_or}
+use Rattle.m2_bytes.proofs.m2_lemmas.Booleans.{neither_of_or}
 use Rattle.m2_fabric.proofs.Sockets.{apart_turned, same_refl}
 
 -- ---- a socket of which the record has no end

@@ -23,7 +23,7 @@ use Rattle.m2_record.specs.Sources.{Grounds, log_at, read_before, runs_before, s
 use Rattle.m2_record.proofs.Ends.{EndsStay}
 use Rattle.m2_record.proofs.Entering.{kept-continues, kept-covers, still-covers}
 use Rattle.m2_record.proofs.Trailing.{unread-same}
-use Rattle.m2_lemmas.proofs.Booleans.{or_right}
+use Rattle.m2_bytes.proofs.m2_lemmas.Booleans.{or_right}
 use Rattle.m2_fabric.proofs.Sockets.{same_refl}
 
 -- ---- what is settled

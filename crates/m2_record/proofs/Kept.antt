@@ -12,9 +12,9 @@ use Rattle.m2_feed.specs.FeedNow.{FeedNow}
 use Rattle.m2_journal.specs.declared.entry.Entry.{Entry}
 use Rattle.m2_journal.specs.declared.entry.Entry.TheVariants as entry
 use Rattle.m2_journal.specs.declared.facts.NodeFacts.{NodeFacts}
-use Rattle.m2_message.specs.Message.{Content, priority_of}
-use Rattle.m2_queues.specs.ByRank.{put_behind}
-use Rattle.m2_queues.specs.OutQueues.{Queue, after_acked, after_next, after_post, after_sent, cursor_number}
+use Rattle.m2_dispatch.specs.m2_message.Message.{Content, priority_of}
+use Rattle.m2_dispatch.specs.m2_queues.ByRank.{put_behind}
+use Rattle.m2_dispatch.specs.m2_queues.OutQueues.{Queue, after_acked, after_next, after_post, after_sent, cursor_number}
 use Rattle.m2_session.specs.declared.event.Event.{Event}
 use Rattle.m2_session.specs.declared.session.Phase.{Phase}
 use Rattle.m2_session.specs.declared.session.Phase.TheVariants.{Ready, Wait}
@@ -31,7 +31,7 @@ use Rattle.m2_record.specs.Calls.{closed_entries, one_if, told_parcels}
 use Rattle.m2_record.specs.IsRecord.{FeedIsWhole, FitFrames, IsFrom, IsWellKept, became_feed, feeds_in}
 use Rattle.m2_record.specs.RecordNow.{RecordNow, Rooms, feed_end, ids_of}
 use Rattle.m2_record.proofs.Telling.{feed_left}
-use Rattle.m2_lemmas.proofs.Lists.{all_append, all_take, all_drop}
+use Rattle.m2_bytes.proofs.m2_lemmas.Lists.{all_append, all_take, all_drop}
 
 -- ---- the sockets that became the feed
 

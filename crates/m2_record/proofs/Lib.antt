@@ -34,3 +34,4 @@ pub mod Remembered
 pub mod Reached
 pub mod AsksJudged
 pub mod TrailsAt
+pub use Rattle.m2_core.proofs as m2_core

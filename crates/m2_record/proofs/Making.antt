@@ -8,7 +8,7 @@ use Rattle.m2_journal.specs.State.{start}
 use Rattle.m2_record.specs.IsRecord.{IsRecord, new_record}
 use Rattle.m2_record.specs.RecordNow.{Rooms}
 use Rattle.m2_record.proofs.Kept.{first-within}
-use Rattle.m2_lemmas.proofs.Booleans.{false_isnt_true}
+use Rattle.m2_bytes.proofs.m2_lemmas.Booleans.{false_isnt_true}
 
 pub new-is-record : (f : SideFacts) (place : ℕ) (room : Rooms) → AreWaits f.node → Agrees (at_start f) (start f) → IsRecord (record (new_record f place) { room = room })
 new-is-record f place room w a = record {

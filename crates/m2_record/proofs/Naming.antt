@@ -6,9 +6,9 @@ use Rattle.std.proofs.lemmas.List.{append-nil}
 use Rattle.m2_session.specs.declared.ask.AskFacts.{AskFacts}
 use Rattle.m2_fabric.specs.declared.socket.SocketId.{SocketId}
 use Rattle.m2_fabric.specs.Sockets.{IsNewTo, is_among, same_socket}
-use Rattle.m2_message.specs.Message.{Content}
+use Rattle.m2_dispatch.specs.m2_message.Message.{Content}
 use Rattle.m2_policy.specs.declared.path.Key.{Key}
-use Rattle.m2_queues.specs.QueueLaws.{Next}
+use Rattle.m2_dispatch.specs.m2_queues.QueueLaws.{Next}
 use Rattle.m2_session.specs.declared.answer.Answer.{Answer}
 use Rattle.m2_session.specs.declared.event.Event.{Event}
 use Rattle.m2_session.specs.declared.event.Event.TheVariants as event
@@ -31,7 +31,7 @@ use Rattle.m2_journal.proofs.Sockets.{Names, judgement, names_of}
 use Rattle.m2_record.specs.IsRecord.{became_feed, closed_by, closed_in, feeds_in, named_in, socket_of}
 use Rattle.m2_record.specs.TakenTrails.{judgement_of, judgements_in, taken_by, taken_in}
 use Rattle.m2_record.proofs.Telling.{Beside, tells-beside}
-use Rattle.m2_lemmas.proofs.Booleans.{neither_of_or}
+use Rattle.m2_bytes.proofs.m2_lemmas.Booleans.{neither_of_or}
 
 -- ---- what an entry names
 

@@ -5,7 +5,7 @@ use Rattle.std.specs.List.{list_any}
 use Rattle.std.specs.Option.{is_some, option_to_list}
 use Rattle.std.proofs.lemmas.Bool.{ltb-false}
 use Rattle.std.proofs.lemmas.List.Folds.{list_any-append}
-use Rattle.m2_control.specs.declared.fields.TheConstants.{GREATEST_NUMBER}
+use Rattle.m2_handshake.specs.m2_control.declared.fields.TheConstants.{GREATEST_NUMBER}
 use Rattle.m2_core.specs.LiveNow.{OnFeedNow}
 use Rattle.m2_core.specs.Agrees.{FeedsAgree, LeadsOn}
 use Rattle.m2_core.specs.Calls.{IsOpening, after_opened, is_exhausted}
@@ -29,7 +29,7 @@ use Rattle.m2_journal.specs.SideFacts.{SideFacts}
 use Rattle.m2_journal.specs.State.{Feed, State}
 use Rattle.m2_journal.specs.Steps.{after}
 use Rattle.m2_journal.proofs.Fed.{are_lawful}
-use Rattle.m2_queues.specs.OutQueues.{next_number}
+use Rattle.m2_dispatch.specs.m2_queues.OutQueues.{next_number}
 use Rattle.m2_session.specs.declared.session.Phase.{Phase}
 use Rattle.m2_session.specs.declared.session.Phase.TheVariants.{Absent, Connecting, IdentSent, ReconnectSent, Ready, Standby, Wait}
 use Rattle.m2_session.specs.Phases.{is, is_among, with_feed}
@@ -48,7 +48,7 @@ use Rattle.m2_record.proofs.Kept.{feeds-opened, ids-opened, kept-in-room, tells-
 use Rattle.m2_record.proofs.Naming.{is-unclosed, is-unnamed}
 use Rattle.m2_record.proofs.Opens.{closed-more}
 use Rattle.m2_record.proofs.Trailing.{ends-go-on, trails-more}
-use Rattle.m2_lemmas.proofs.Booleans.{neither_of_or, both_of_and, false_isnt_true}
+use Rattle.m2_bytes.proofs.m2_lemmas.Booleans.{neither_of_or, both_of_and, false_isnt_true}
 
 -- ---- a record that may dial has no feed
 

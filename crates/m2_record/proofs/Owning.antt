@@ -22,7 +22,7 @@ use Rattle.m2_session.specs.Steps.{step_of}
 use Rattle.m2_shared.specs.Place.{Place}
 use Rattle.m2_record.specs.Calls.{Owns, one_if, told_parcels}
 use Rattle.m2_record.specs.RecordNow.{RecordNow}
-use Rattle.m2_lemmas.proofs.Booleans.{false_isnt_true}
+use Rattle.m2_bytes.proofs.m2_lemmas.Booleans.{false_isnt_true}
 
 closing : (b : Bool) (place : Place) (l : LiveNow) → live.IsOwned place l.granted → live.IsOwned place (effects.where_true b effects.closes l).granted
 closing true place l h = tt

@@ -15,8 +15,8 @@ use Rattle.m2_record.specs.Sources.{sources_of}
 use Rattle.m2_record.proofs.Ends.{ends-same}
 use Rattle.m2_record.proofs.Keeping.{ground, replay-stays}
 use Rattle.m2_record.proofs.Opens.{in_room}
-use Rattle.m2_lemmas.proofs.Lists.{all_append}
-use Rattle.m2_lemmas.proofs.Booleans.{false_isnt_true}
+use Rattle.m2_bytes.proofs.m2_lemmas.Lists.{all_append}
+use Rattle.m2_bytes.proofs.m2_lemmas.Booleans.{false_isnt_true}
 
 pub more-planned : (r : RecordNow) (x : PlanStep) → IsRecord r → CanBePlanned x → length r.plan + 1 < 2 ^ 32 → IsRecord (planned_too x r)
 more-planned r x h can few = record {

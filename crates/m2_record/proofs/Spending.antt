@@ -22,7 +22,7 @@ use Rattle.m2_record.proofs.Entering.{reach-more}
 use Rattle.m2_record.proofs.Keeping.{one-more}
 use Rattle.m2_record.proofs.Kept.{kept-closed-as}
 use Rattle.m2_record.proofs.Trailing.{trails-behind}
-use Rattle.m2_lemmas.proofs.Booleans.{false_isnt_true}
+use Rattle.m2_bytes.proofs.m2_lemmas.Booleans.{false_isnt_true}
 use Rattle.m2_fabric.proofs.Sockets.{same_refl}
 
 closed-off : (b : Bool) (k : SocketId) (s : State) → b ≡ false → (if b then breaks s else forgets k s) ≡ forgets k s

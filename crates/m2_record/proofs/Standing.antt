@@ -37,7 +37,7 @@ use Rattle.m2_record.proofs.Kept.{feeds-more}
 use Rattle.m2_record.proofs.Opens.{closed-more, still-open}
 use Rattle.m2_record.proofs.Telling.{Beside, beside, tells-beside}
 use Rattle.m2_record.proofs.Trailing.{trails-behind}
-use Rattle.m2_lemmas.proofs.Lists.{all_append}
+use Rattle.m2_bytes.proofs.m2_lemmas.Lists.{all_append}
 
 -- these parcels are handed out, and all else beside the core is the same
 abbrev pub HandsMore : List Parcel → State → State → Type 0

@@ -67,7 +67,7 @@ use Rattle.m2_record.proofs.Opens.{closed-more, still-open}
 use Rattle.m2_record.proofs.Spending.{SpentOff, closes-behind}
 use Rattle.m2_record.proofs.Telling.{Beside, beside, feed_left, spent_if, told_by}
 use Rattle.m2_record.proofs.Trailing.{LogGoesOn, LogsGoOn, closed-behind, ends-go-on, prefix-same, same-log, trails-go-on}
-use Rattle.m2_lemmas.proofs.Booleans.{neither_of_or, false_isnt_true}
+use Rattle.m2_bytes.proofs.m2_lemmas.Booleans.{neither_of_or, false_isnt_true}
 use Rattle.m2_fabric.proofs.Sockets.{apart_turned, same_equal, same_refl}
 
 -- ---- a trail more

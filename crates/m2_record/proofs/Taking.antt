@@ -18,8 +18,8 @@ use Rattle.m2_journal.specs.Plan.{Planned, planned, to_post}
 use Rattle.m2_journal.specs.Replay.{IsReplay}
 use Rattle.m2_journal.specs.State.{State}
 use Rattle.m2_journal.specs.Steps.{after, wants_dial}
-use Rattle.m2_message.specs.declared.message.Message.{Message}
-use Rattle.m2_message.specs.Message.{content_of}
+use Rattle.m2_dispatch.specs.m2_message.declared.message.Message.{Message}
+use Rattle.m2_dispatch.specs.m2_message.Message.{content_of}
 use Rattle.m2_bytes.specs.Items.{Holding}
 use Rattle.m2_record.specs.Calls.{IsDialNext}
 use Rattle.m2_record.specs.Due.{next_step}

@@ -7,7 +7,7 @@ use Rattle.m2_fabric.specs.declared.socket.SocketId.{SocketId}
 use Rattle.m2_feed.specs.FeedNow.{FeedNow}
 use Rattle.m2_journal.specs.State.{Delivery, Feed, Judgement, State, discarded, remote_reset}
 use Rattle.m2_journal.specs.Steps as journal
-use Rattle.m2_queues.specs.QueueLaws.{Requeue, Renumber}
+use Rattle.m2_dispatch.specs.m2_queues.QueueLaws.{Requeue, Renumber}
 use Rattle.m2_session.specs.declared.event.Effects.{Effects}
 use Rattle.m2_session.specs.declared.event.Event.{Event}
 use Rattle.m2_session.specs.Steps.{step_of}

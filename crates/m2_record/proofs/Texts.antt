@@ -36,9 +36,9 @@ use Rattle.m2_journal.specs.State.{Delivery, Feed, State}
 use Rattle.m2_journal.specs.Steps as journal
 use Rattle.m2_journal.specs.Steps.{after}
 use Rattle.m2_journal.proofs.Paying.{can_be_paid}
-use Rattle.m2_message.specs.Message.{Content}
-use Rattle.m2_queues.specs.OutQueues.{Outgoing, Queue, after_next, message_at}
-use Rattle.m2_queues.specs.QueueLaws.{Next}
+use Rattle.m2_dispatch.specs.m2_message.Message.{Content}
+use Rattle.m2_dispatch.specs.m2_queues.OutQueues.{Outgoing, Queue, after_next, message_at}
+use Rattle.m2_dispatch.specs.m2_queues.QueueLaws.{Next}
 use Rattle.m2_session.specs.declared.event.Event.TheVariants as event
 use Rattle.m2_record.specs.Calls.{BytesAreBroken, IsFaultOf, asked_entries, numbered_entries}
 use Rattle.m2_record.specs.Sources.{is_broken_end, sources_of}

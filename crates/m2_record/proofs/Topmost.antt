@@ -1,7 +1,7 @@
 -- No global number that a record has used is above the greatest.
 use Rattle.std.proofs.Common.{◌≡◌, ℕ, ◌+◌, ◌≤◌, Bool, true, false, if◌then◌else◌, List, [], ◌∷◌, Option, Some, None, refl, ap, ◌∙◌, arith}
 use Rattle.m2_session.specs.declared.ask.AskFacts.{AskFacts}
-use Rattle.m2_control.specs.declared.fields.TheConstants.{GREATEST_NUMBER}
+use Rattle.m2_handshake.specs.m2_control.declared.fields.TheConstants.{GREATEST_NUMBER}
 use Rattle.m2_fabric.specs.declared.socket.SocketId.{SocketId}
 use Rattle.m2_journal.specs.Feeds.{hears, next_said}
 use Rattle.m2_journal.specs.Items as item
@@ -16,9 +16,9 @@ use Rattle.m2_journal.specs.State.{Feed, PartText, State, start}
 use Rattle.m2_journal.specs.Steps as journal
 use Rattle.m2_journal.specs.Steps.{after}
 use Rattle.m2_journal.proofs.Eventful.{on_feed}
-use Rattle.m2_message.specs.Message.{Content}
+use Rattle.m2_dispatch.specs.m2_message.Message.{Content}
 use Rattle.m2_policy.specs.declared.path.Key.{Key}
-use Rattle.m2_queues.specs.QueueLaws.{Requeue}
+use Rattle.m2_dispatch.specs.m2_queues.QueueLaws.{Requeue}
 use Rattle.m2_session.specs.declared.answer.Answer.{Answer}
 use Rattle.m2_session.specs.declared.event.Event.{Event}
 use Rattle.m2_session.specs.declared.event.Event.TheVariants as event

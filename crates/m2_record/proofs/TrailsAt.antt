@@ -2,7 +2,7 @@
 use Rattle.std.proofs.Common.{◌≡◌, Bool, true, false, ◌||◌, if◌then◌else◌, List, [], ◌∷◌, map, Some, None, refl, sym, ap, ◌∙◌}
 use Rattle.m2_fabric.specs.Sockets.{is_among, same_socket}
 use Rattle.m2_fabric.specs.declared.socket.SocketId.{SocketId}
-use Rattle.m2_lemmas.proofs.Booleans.{from_false_true}
+use Rattle.m2_bytes.proofs.m2_lemmas.Booleans.{from_false_true}
 use Rattle.m2_record.specs.Sources.{trail_at}
 use Rattle.m2_trail.specs.Trails.{TrailNow}
 

@@ -41,8 +41,8 @@ use Rattle.m2_journal.specs.declared.facts.PlanStep.{PlanStep}
 use Rattle.m2_journal.specs.declared.facts.PlanStep.TheVariants as step
 use Rattle.m2_journal.specs.Lawful.{OnFeed, is_broken}
 use Rattle.m2_journal.specs.State.{State}
-use Rattle.m2_message.specs.declared.message.Message.{Message}
-use Rattle.m2_message.specs.Message.{content_of}
+use Rattle.m2_dispatch.specs.m2_message.declared.message.Message.{Message}
+use Rattle.m2_dispatch.specs.m2_message.Message.{content_of}
 use Rattle.m2_session.specs.declared.event.Effects.{Effects}
 use Rattle.m2_session.specs.declared.event.Event.TheVariants as event
 use Rattle.m2_session.specs.Steps.{step_of}

@@ -9,7 +9,7 @@ use Rattle.m2_core.specs.ToCompose.{to_compose}
 use Rattle.m2_dispatch.specs.declared.parcel.Parcel.{Parcel}
 use Rattle.m2_feed.specs.Calls.{is_empty}
 use Rattle.m2_feed.specs.FeedNow.{FeedNow, Reading, shaking, framing}
-use Rattle.m2_frame.specs.Reading.{Front, judge, owed_at, start}
+use Rattle.m2_handshake.specs.m2_frame.Reading.{Front, judge, owed_at, start}
 use Rattle.m2_handshake.specs.Moves.{is_at_rest}
 use Rattle.m2_journal.specs.declared.facts.PlanStep.{PlanStep}
 use Rattle.m2_session.specs.Table.{Row, row, first_that_holds}

@@ -20,8 +20,8 @@ use Rattle.m2_journal.specs.Items.{reach_of}
 use Rattle.m2_journal.specs.Replay.{IsReplay}
 use Rattle.m2_journal.specs.SideFacts.{SideFacts}
 use Rattle.m2_journal.specs.State.{State}
-use Rattle.m2_message.specs.Message.{IsSendable, size_of}
-use Rattle.m2_queues.specs.OutQueues.{Queue}
+use Rattle.m2_dispatch.specs.m2_message.Message.{IsSendable, size_of}
+use Rattle.m2_dispatch.specs.m2_queues.OutQueues.{Queue}
 use Rattle.m2_session.specs.SessionLaws.{takes}
 use Rattle.m2_record.specs.RecordNow.{RecordNow, Rooms, delivery_of, ends_of, feed_end, ids_of, speaks_of}
 use Rattle.m2_record.specs.TakenTrails.{HaveTrails}

@@ -3,7 +3,7 @@
 use Rattle.std.specs.Prelude.{◌≡◌, ℕ, ◌<◌, ◌≤◌, ◌&&◌, true, false, List, [], ◌∷◌, ◌++◌, length, Option, IfSome, IsSome}
 use Rattle.std.specs.List.{AllByRecursion}
 use Rattle.std.specs.Option.{is_none}
-use Rattle.m2_control.specs.declared.fields.TheConstants.{GREATEST_NUMBER}
+use Rattle.m2_handshake.specs.m2_control.declared.fields.TheConstants.{GREATEST_NUMBER}
 use Rattle.m2_core.specs.LiveNow as live
 use Rattle.m2_core.specs.Effects.{closed_if, effects_of}
 use Rattle.m2_core.specs.Waits.{stepped}

@@ -10,3 +10,4 @@ pub mod Framing
 pub mod Stepping
 pub mod Judging
 pub mod AsksJudged
+pub use Rattle.m2_core.specs as m2_core

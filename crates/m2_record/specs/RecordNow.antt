@@ -13,7 +13,7 @@ use Rattle.m2_journal.specs.Items.{Sources}
 use Rattle.m2_journal.specs.Plan.{planned}
 use Rattle.m2_journal.specs.SideFacts.{SideFacts}
 use Rattle.m2_journal.specs.State.{Delivery, letter, discarded, remote_reset}
-use Rattle.m2_message.specs.Message.{content_of}
+use Rattle.m2_dispatch.specs.m2_message.Message.{content_of}
 use Rattle.m2_session.specs.declared.session.Session.{Session}
 use Rattle.m2_trail.specs.Trails.{TrailNow}
 use Rattle.m2_record.specs.Sources.{Grounds, sources_of}

@@ -1,7 +1,7 @@
 //! One step of a record.
 
 ghost use Rattle.std.specs.Prelude.{◌≡◌, ◌-◌, ◌≤◌, true, false};
-ghost use Rattle.m2_control.specs.declared.fields.TheConstants.{GREATEST_NUMBER};
+ghost use Rattle.m2_handshake.specs.m2_control.declared.fields.TheConstants.{GREATEST_NUMBER};
 ghost use Rattle.m2_shared.specs.Place.{IsAlone};
 ghost use Rattle.m2_record.specs.Calls.{HasRoomFor, Owns};
 ghost use Rattle.m2_record.specs.Due.{has_parcel, has_plan, next_step};

@@ -3,7 +3,7 @@
 ghost use Rattle.std.specs.Prelude.{◌<◌, ◌≤◌};
 ghost use Rattle.m2_session.specs.declared.cookie.TheConstants.{MOST_PLACES};
 ghost use Rattle.m2_shared.specs.declared.limits.TheConstants.{MOST_TAKEN};
-ghost use Rattle.m2_core.specs.Waits.{AreWaits};
+ghost use Rattle.m2_record.specs.m2_core.Waits.{AreWaits};
 
 use m2_addr::Addr;
 use m2_bytes::{Blob, NoMemory};

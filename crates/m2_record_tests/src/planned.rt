@@ -4,7 +4,7 @@ ghost use Rattle.std.specs.Prelude.{◌≡◌, ◌<◌, Ok};
 ghost use Rattle.m2_addr.specs.declared.addr.TheConstants.Addr.{MSGR2};
 ghost use Rattle.m2_session.specs.declared.cookie.TheConstants.{MOST_PLACES};
 ghost use Rattle.m2_message.specs.Message.{IsSendable};
-ghost use Rattle.m2_core.specs.Waits.{AreWaits};
+ghost use Rattle.m2_record.specs.m2_core.Waits.{AreWaits};
 ghost use Rattle.m2_record.specs.Calls.{HasRoomFor, IsSameButRoom, Owns, TakesNext, planned_too};
 ghost use Rattle.m2_record.specs.Due.{next_step};
 ghost use Rattle.m2_record.specs.IsRecord.{CanBePlanned};

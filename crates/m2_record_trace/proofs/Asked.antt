@@ -2,12 +2,12 @@
 use Rattle.std.proofs.Common.{◌≡◌, ℕ, false, List, Option, Some, None, refl, sym, subst}
 use Rattle.std.specs.Prelude.{IfSome, IsSome, slice_get}
 use Rattle.std.specs.Option.{is_none, option_to_list}
-use Rattle.m2_control.specs.declared.control.Control.{Control}
+use Rattle.m2_handshake.specs.m2_control.declared.control.Control.{Control}
 use Rattle.m2_handshake.specs.declared.ask.Ask.{Ask}
 use Rattle.m2_session.specs.declared.answer.Answer.{Answer}
 use Rattle.m2_trail.specs.Incoming.{IncomingNow, IsAnswered, after_judging}
 use Rattle.m2_trail.specs.Replies.{first_reply, reply_to}
-use Rattle.m2_lemmas.proofs.Booleans.{false_isnt_true}
+use Rattle.m2_bytes.proofs.m2_lemmas.Booleans.{false_isnt_true}
 
 -- an arrival comes back with its answer noted
 pub is_answered : (answer : Answer) (a x : IncomingNow) (room : ℕ) → x ≡ after_judging answer room a → IsAnswered answer x

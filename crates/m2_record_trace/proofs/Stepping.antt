@@ -1,6 +1,6 @@
 -- A step of a side for which there is no room: nothing is done.
 use Rattle.std.proofs.Common.{◌≡◌, ℕ, ◌-◌, refl, sym, subst, arith, append-nil}
-use Rattle.m2_core.specs.Granting.{Throttled}
+use Rattle.m2_record.specs.m2_core.Granting.{Throttled}
 use Rattle.m2_record.specs.declared.stepped.Stepped.TheVariants as stepped
 use Rattle.m2_record.specs.RecordNow.{RecordNow}
 use Rattle.m2_record.specs.Stepping.{Counted, NothingDone}

@@ -8,11 +8,11 @@ use Rattle.m2_feed.specs.FeedNow.{FeedNow}
 use Rattle.m2_journal.specs.declared.facts.PlanStep.{PlanStep}
 use Rattle.m2_session.specs.declared.event.Event.TheVariants as event
 use Rattle.m2_record.specs.Calls.{AddsStep, Connects, after_missing, after_news, is_feed, with_opened}
-use Rattle.m2_core.specs.Calls.{IsOpening}
+use Rattle.m2_record.specs.m2_core.Calls.{IsOpening}
 use Rattle.m2_record.specs.RecordNow.{RecordNow}
 use Rattle.m2_record.proofs.Owning.{tells-owned}
 use Rattle.m2_record_trace.specs.SideNow.{IsSupplied, Means}
-use Rattle.m2_lemmas.proofs.Booleans.{false_isnt_true}
+use Rattle.m2_bytes.proofs.m2_lemmas.Booleans.{false_isnt_true}
 
 pub supplied_same : (m : Means) (old new : RecordNow) → new ≡ old → IsSupplied m old → IsSupplied m new
 supplied_same m old new e h = subst (IsSupplied m) (sym e) h

@@ -5,7 +5,7 @@ use Rattle.m2_dispatch.specs.declared.logged.Logged.{Logged}
 use Rattle.m2_fabric.specs.declared.socket.SocketId.{SocketId}
 use Rattle.m2_fabric.specs.End.{SeenEnd}
 use Rattle.m2_fabric.specs.Log.{Log}
-use Rattle.m2_core.specs.LiveNow.{held}
+use Rattle.m2_record.specs.m2_core.LiveNow.{held}
 use Rattle.m2_journal.specs.SideFacts.{SideFacts}
 use Rattle.m2_shared.specs.declared.limits.TheConstants.{MOST_TAKEN}
 use Rattle.m2_shared.specs.Numbers.{SeenNumberPass, SeenNumbers}

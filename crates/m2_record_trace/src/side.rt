@@ -11,7 +11,7 @@ ghost use Rattle.m2_message.specs.Message.{IsSendable};
 ghost use Rattle.m2_shared.specs.declared.limits.TheConstants.{MOST_TAKEN};
 ghost use Rattle.m2_record.specs.Calls.{AddsStep};
 ghost use Rattle.m2_record.specs.IsRecord.{CanBePlanned};
-ghost use Rattle.m2_core.specs.Waits.{AreWaits};
+ghost use Rattle.m2_record.specs.m2_core.Waits.{AreWaits};
 ghost use Rattle.m2_trail.specs.Arrivals.{left_of};
 ghost use Rattle.m2_record_trace.specs.Hearing.{side_hears, half_hears};
 ghost use Rattle.m2_record_trace.specs.SideNow.{ends_seen, left_out, log_in, new_side, untaken};

@@ -13,7 +13,7 @@ use Rattle.m2_scenario.specs.Draft.{DraftLine, draft_line, is_post, is_cut, is_f
 use Rattle.m2_scenario.specs.Plan.{IsCounted, IsAmong, step_of}
 use Rattle.m2_scenario.specs.Counts.{counts_of, with_one_more}
 use Rattle.m2_scenario.proofs.Flags.{flag_at}
-use Rattle.m2_lemmas.proofs.Booleans.{or_false}
+use Rattle.m2_bytes.proofs.m2_lemmas.Booleans.{or_false}
 
 -- a step is one of its node alone
 step_is : (l : DraftLine) (a b : ℕ) → step_of l ≡ Some a → is_step_of b l ≡ (a == b)

@@ -10,7 +10,7 @@ use Rattle.m2_scenario.specs.Draft.{DraftLine, post, dial, down, cut, turn, flow
 use Rattle.m2_scenario.specs.Valid.{IsLine, IsLink, JoinOthers}
 use Rattle.m2_scenario.specs.OrderLaws.{AreAll, CallsAndLeftArePosts}
 use Rattle.m2_scenario.specs.Order.{HearsNoReset, IsNoResetBy, IsPeer, OverEach, at, count_over, is_post_between, messages_between, posts_between}
-use Rattle.m2_lemmas.proofs.Booleans.{one_of_or}
+use Rattle.m2_bytes.proofs.m2_lemmas.Booleans.{one_of_or}
 
 -- ---- sums over links
 

@@ -5,7 +5,7 @@ use Rattle.std.specs.List.{list_all}
 use Rattle.std.proofs.lemmas.List.{length-set, get_or-set_same, get_or-set_other}
 use Rattle.std.proofs.lemmas.Option.{slice_get-get_or, get_or_from_slice_get}
 use Rattle.std.proofs.lemmas.Bool.{eqb-true, eq-eqb}
-use Rattle.m2_lemmas.proofs.Booleans.{or_false, or_true}
+use Rattle.m2_bytes.proofs.m2_lemmas.Booleans.{or_false, or_true}
 
 -- the flag at b is set where it was, and where it is the one at a
 pub flag_at : (flags : List Bool) (n a b : ℕ) (had t : Bool) → (a == b) ≡ t → length flags ≡ n → a < n → b < n → slice_get flags b ≡ Some had → slice_get (slice_set flags a true) b ≡ Some (had || (t || false))

@@ -16,8 +16,8 @@ use Rattle.m2_scenario.specs.Counts.{counts_of, with_one_more, AreWithin, Permit
 use Rattle.m2_scenario.specs.Plan.{IsAmong}
 use Rattle.m2_scenario.proofs.Counted.{counts_more}
 use Rattle.m2_scenario.specs.Valid.{IsSound, IsLine, IsLink, JoinOthers, HasCenters, HasMsgr2, AreApart}
-use Rattle.m2_lemmas.proofs.Booleans.{both_true}
-use Rattle.m2_lemmas.proofs.Numbers.{same_number}
+use Rattle.m2_bytes.proofs.m2_lemmas.Booleans.{both_true}
+use Rattle.m2_bytes.proofs.m2_lemmas.Numbers.{same_number}
 
 -- counts stay within the limits with a line that these permit
 permitted : (c : Counts) (l : DraftLine) → AreWithin c → Permit c l → AreWithin (with_one_more c l)

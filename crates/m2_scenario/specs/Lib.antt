@@ -23,3 +23,4 @@ pub mod Text
 pub mod Valid
 pub mod Word
 pub mod WordLaws
+pub use Rattle.m2_dispatch.specs as m2_dispatch

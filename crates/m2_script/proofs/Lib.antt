@@ -12,3 +12,4 @@ pub mod SoFar
 pub mod Splits
 pub mod Steps
 pub mod Turning
+pub use Rattle.m2_center.proofs as m2_center

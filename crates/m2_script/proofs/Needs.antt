@@ -5,8 +5,8 @@ use Rattle.std.specs.List.{AllByRecursion}
 use Rattle.std.proofs.lemmas.Bool.{and_parts, eqb-true, leb-true}
 use Rattle.std.proofs.Math.Dec.{eqb}
 use Rattle.std.proofs.lemmas.List.Elements.{recursion_from_All}
-use Rattle.m2_message.specs.declared.message.Message.{Message}
-use Rattle.m2_message.specs.Message.{IsSendable, content_of}
+use Rattle.m2_dispatch.specs.m2_message.declared.message.Message.{Message}
+use Rattle.m2_dispatch.specs.m2_message.Message.{IsSendable, content_of}
 use Rattle.m2_scenario.specs.declared.limits.TheConstants.{MOST_PART_BYTES}
 use Rattle.m2_scenario.specs.declared.line.Line.{Line}
 use Rattle.m2_scenario.specs.declared.line.Line.TheVariants as line

@@ -11,7 +11,7 @@ use Rattle.m2_addr.specs.declared.addr.Addr.{Addr}
 use Rattle.m2_fabric.specs.Port.{fresh_port}
 use Rattle.m2_fabric.specs.Sockets.{same_socket}
 use Rattle.m2_fabric.specs.declared.socket.SocketId.{SocketId}
-use Rattle.m2_handshake.specs.Asks.{same_addr}
+use Rattle.m2_journal.specs.m2_handshake.Asks.{same_addr}
 use Rattle.m2_policy.specs.declared.policy.Policy.{Policy}
 use Rattle.m2_record.specs.Calls.{Owns}
 use Rattle.m2_record.specs.IsRecord.{new_record}
@@ -26,8 +26,8 @@ use Rattle.m2_script.specs.Made.{facts_of, new_towards, other_of, over, records_
 use Rattle.m2_shared.specs.Numbers.{SeenNumberPass}
 use Rattle.m2_shared.specs.Throttle.{SeenTakePass}
 use Rattle.m2_center.specs.Sessions.{IsSupplied, Supply, peer_of}
-use Rattle.m2_lemmas.proofs.Booleans.{or_right, or_left, both_true, one_of_or}
-use Rattle.m2_lemmas.proofs.Numbers.{same_number}
+use Rattle.m2_bytes.proofs.m2_lemmas.Booleans.{or_right, or_left, both_true, one_of_or}
+use Rattle.m2_bytes.proofs.m2_lemmas.Numbers.{same_number}
 
 -- ---- links
 

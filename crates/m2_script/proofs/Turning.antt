@@ -6,7 +6,7 @@ use Rattle.m2_cluster.specs.Cluster.{ClusterNow, OneDoes}
 use Rattle.m2_cluster.specs.Node.{NodeNow, NodeTurns}
 use Rattle.m2_script.specs.declared.calls.TurnCalls.{TurnCalls}
 use Rattle.m2_script.specs.Script.{LacksMemory, RunNow, StopsTurn, TakesTurn, calls_between, fast_calls, next_moment, noted, queued_calls}
-use Rattle.m2_lemmas.proofs.Options.{none_of_isnt_some}
+use Rattle.m2_bytes.proofs.m2_lemmas.Options.{none_of_isnt_some}
 
 here : {X : Type 0} (xs : List X) (k : ℕ) (x y : X) → slice_get xs k ≡ Some x → slice_get (slice_set xs k y) k ≡ Some y
 here [] k x y h = absurd (cc)

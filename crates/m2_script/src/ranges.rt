@@ -1,7 +1,7 @@
 //! What the types of nodes say of them. These functions are for contracts alone.
 
 ghost use Rattle.std.specs.List.{AllByRecursion};
-ghost use Rattle.m2_control.specs.Laws.{HasAddrRanges};
+ghost use Rattle.m2_journal.specs.m2_control.Laws.{HasAddrRanges};
 ghost use Rattle.m2_script.specs.Nodes.{HasNodeRanges};
 
 use m2_addr::Addr;

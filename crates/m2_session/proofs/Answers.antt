@@ -17,7 +17,7 @@ use Rattle.m2_session.specs.Reconnect.{reconnect_rows}
 use Rattle.m2_session.specs.Steps.{step_of, is_lawful, fault_rows, closes}
 use Rattle.m2_session.specs.SessionLaws.{takes, told, is_resumption, ident_event, reconnect_event, TakenIsReady, AnswersAreLawful, PeerGlobalNeverFalls, ResumedOnlyWithItsCookies}
 use Rattle.m2_session.proofs.Rows.{each_answer, each_in_order, none_holds}
-use Rattle.m2_lemmas.proofs.Booleans.{negated_is_true}
+use Rattle.m2_bytes.proofs.m2_lemmas.Booleans.{negated_is_true}
 
 -- ---- the socket is taken
 

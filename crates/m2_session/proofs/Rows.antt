@@ -3,7 +3,7 @@ use Rattle.std.proofs.Common.{◌≡◌, ◌≢◌, Bool, true, false, if◌then
 use Rattle.std.specs.List.{AllByRecursion}
 use Rattle.m2_session.specs.Table.{Row, first_that_holds, NoneHolds}
 use Rattle.m2_session.specs.SessionLaws.{AreReadInOrder}
-use Rattle.m2_lemmas.proofs.Booleans.{chosen}
+use Rattle.m2_bytes.proofs.m2_lemmas.Booleans.{chosen}
 
 gives : {N A : Type 0} (before : List (Row N A)) (r : Row N A) (after : List (Row N A)) (otherwise : A) → NoneHolds before → r.holds ≡ true → first_that_holds (before ++ r ∷ after) otherwise ≡ r.answer
 gives [] r after otherwise none holds = rw holds refl

@@ -19,7 +19,7 @@ use Rattle.m2_control.specs.Ident.{make_tail, tail_parts, keeps_cookie, tail_at}
 use Rattle.m2_control.specs.Laws.{IsInBounds}
 use Rattle.m2_control.specs.SessionReconnect.{make_session_reconnect, session_reconnect_at}
 use Rattle.m2_frame.specs.declared.tag.Tag.TheVariants as tag
-use Rattle.m2_lemmas.proofs.Booleans.{false_isnt_true}
+use Rattle.m2_bytes.proofs.m2_lemmas.Booleans.{false_isnt_true}
 
 -- ---- readers, and what is known of what they read
 

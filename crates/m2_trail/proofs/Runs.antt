@@ -9,7 +9,7 @@ use Rattle.m2_fabric.specs.Log.{Log}
 use Rattle.m2_journal.specs.Items.{run_of, runs_on}
 use Rattle.m2_trail.specs.Trails.{entry_of, closing, entries_of, read_by, written_by}
 use Rattle.m2_fabric.proofs.Sockets.{same_refl}
-use Rattle.m2_lemmas.proofs.Lists.{take_nil}
+use Rattle.m2_bytes.proofs.m2_lemmas.Lists.{take_nil}
 
 -- bytes of what is behind a place end within the whole
 pub fits_left : (put n : ℕ) (bytes : List ℕ) → put ≤ length bytes → n ≤ length (drop put bytes) → put + n ≤ length bytes

@@ -24,7 +24,7 @@ use Rattle.m2_trail.specs.Unput.{behind}
 use Rattle.m2_trail.proofs.Asked.{Asks, asks_well, bounds_stay, main_stays_of}
 use Rattle.m2_trail.proofs.Bytes.{stands_unasked}
 use Rattle.m2_trail.proofs.Over.{answered_over, asked_over, never_asked, unover}
-use Rattle.m2_lemmas.proofs.Booleans.{not_true_is_false}
+use Rattle.m2_bytes.proofs.m2_lemmas.Booleans.{not_true_is_false}
 
 differ : true ≡ false → ⊥
 differ e = cc

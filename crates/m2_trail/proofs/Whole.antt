@@ -17,7 +17,7 @@ use Rattle.m2_trail.specs.Trails.{TrailNow, begins, entry_of, closing, entries_o
 use Rattle.m2_trail.proofs.Given.{entries_at_least}
 use Rattle.m2_trail.proofs.Judged.{rises_more}
 use Rattle.m2_trail.proofs.Runs.{runs_on-take}
-use Rattle.m2_lemmas.proofs.Lists.{take_nil}
+use Rattle.m2_bytes.proofs.m2_lemmas.Lists.{take_nil}
 
 differ : true ≡ false → ⊥
 differ e = cc

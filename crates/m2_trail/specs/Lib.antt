@@ -10,3 +10,4 @@ pub mod Trails
 pub mod Turn
 pub mod TurnMoves
 pub mod Unput
+pub use Rattle.m2_control.specs as m2_control

@@ -17,7 +17,7 @@ use Rattle.m2_weave.specs.WeaveLaws.{IsAsked, AsksComeFirst}
 use Rattle.m2_weave.proofs.Staying.{total-at-rises}
 use Rattle.m2_weave.proofs.Written.{total-more, come-most}
 use Rattle.m2_fabric.proofs.Sockets.{same_equal}
-use Rattle.m2_lemmas.proofs.Lists.{index_in_range}
+use Rattle.m2_bytes.proofs.m2_lemmas.Lists.{index_in_range}
 use Rattle.m2_weave.proofs.Furthest.{zero-at}
 
 -- ---- a strand's own item

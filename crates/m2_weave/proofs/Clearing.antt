@@ -18,7 +18,7 @@ use Rattle.m2_weave.specs.Table.{KeepsOpened, names_of}
 use Rattle.m2_weave.specs.Tally.{AreFor, CountsAre, IsClear, IsForgotten, is_on, number_at}
 use Rattle.m2_weave.proofs.Numbering.{place_is_own}
 use Rattle.m2_weave.proofs.Tallies.{names_count, place_within}
-use Rattle.m2_lemmas.proofs.Booleans.{neither_of_or}
+use Rattle.m2_bytes.proofs.m2_lemmas.Booleans.{neither_of_or}
 use Rattle.m2_fabric.proofs.Sockets.{same_equal, same_refl}
 
 -- ---- one socket

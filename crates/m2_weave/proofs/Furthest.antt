@@ -5,7 +5,7 @@ use Rattle.std.proofs.lemmas.List.{length-set, length-map, get_or-set_same, get_
 use Rattle.std.proofs.lemmas.Bool.{cases_eq}
 use Rattle.m2_weave.specs.Order.{Cut, Rule, StaysMet, AtMost, MayCome, AreLawful, IsStuck, AreNext, nothing, come, come_all, reached}
 use Rattle.m2_weave.specs.MergeLaws.{StuckIsTheEnd, GreedyIsAnOrder, StopsAreOne}
-use Rattle.m2_lemmas.proofs.Lists.{index_in_range}
+use Rattle.m2_bytes.proofs.m2_lemmas.Lists.{index_in_range}
 
 -- ---- one more of a strand
 

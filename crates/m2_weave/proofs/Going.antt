@@ -17,7 +17,7 @@ use Rattle.m2_weave.specs.Users.{IsIn, IsNeedWithin, IsWithin, AreWithin, users_
 use Rattle.m2_weave.specs.Merging.{even, Comes, GoesOn, IsNew, Stands, still_left}
 use Rattle.m2_weave.proofs.Furthest.{come-other, reached-count}
 use Rattle.m2_weave.proofs.Listing.{in-left, in-right, in-last, listed-most}
-use Rattle.m2_lemmas.proofs.Lists.{index_in_range}
+use Rattle.m2_bytes.proofs.m2_lemmas.Lists.{index_in_range}
 
 -- ---- the next entry
 

@@ -4,8 +4,8 @@ use Rattle.std.specs.Prelude.{slice_index}
 use Rattle.m2_weave.specs.Merging.{even}
 use Rattle.m2_weave.specs.Order.{Cut, Rule, AtMost, AreNext, IsGreedy, IsStuck, MayCome, come, come_all, nothing}
 use Rattle.m2_weave.proofs.Furthest.{begins, step-within}
-use Rattle.m2_lemmas.proofs.Numbers.{below_or_not}
-use Rattle.m2_lemmas.proofs.Lists.{index_in_range}
+use Rattle.m2_bytes.proofs.m2_lemmas.Numbers.{below_or_not}
+use Rattle.m2_bytes.proofs.m2_lemmas.Lists.{index_in_range}
 
 -- ---- whether a strand may go on
 

@@ -22,3 +22,5 @@ pub mod Tidy
 pub mod Turn
 pub mod Whole
 pub mod Written
+pub use Rattle.m2_journal.proofs.m2_handshake as m2_handshake
+pub use Rattle.m2_journal.proofs as m2_journal

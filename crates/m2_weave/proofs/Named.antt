@@ -8,7 +8,7 @@ use Rattle.m2_weave.specs.Order.{Cut, Rule, AreLawful, nothing, come, come_all}
 use Rattle.m2_weave.specs.Both.{once, times, of_both, of_one, of_other, ComeInOrder}
 use Rattle.m2_weave.specs.MergeLaws.{OrderNamesAll}
 use Rattle.m2_weave.proofs.Furthest.{come-same, come-other, come-length, zero-at}
-use Rattle.m2_lemmas.proofs.Lists.{index_in_range}
+use Rattle.m2_bytes.proofs.m2_lemmas.Lists.{index_in_range}
 
 -- ---- how often a strand is named
 

@@ -8,7 +8,7 @@ use Rattle.m2_fabric.specs.declared.socket.SocketId.{SocketId}
 use Rattle.m2_fabric.specs.Sockets.{is_among, same_socket}
 use Rattle.m2_weave.specs.Counting.{place_in}
 use Rattle.m2_weave.specs.Table.{Five, five_of, found_from, same_five}
-use Rattle.m2_lemmas.proofs.Numbers.{past_at}
+use Rattle.m2_bytes.proofs.m2_lemmas.Numbers.{past_at}
 
 number_turned : (a b : ℕ) → (a == b) ≡ (b == a)
 number_turned a b = at (a == b) (b == a) refl refl

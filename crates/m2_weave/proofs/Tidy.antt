@@ -18,8 +18,8 @@ use Rattle.m2_weave.specs.Stops.{first_stop, or_else, sizes, unfit_item, unfit_n
 use Rattle.m2_weave.specs.Tidy.{AreTidy, IsAtRead, IsOfHalf, IsOfJournal, IsTidyStrand, TidyStopsAreReads}
 use Rattle.m2_weave.proofs.Naming.{is_the_first}
 use Rattle.m2_weave.proofs.Written.{total-more}
-use Rattle.m2_lemmas.proofs.Booleans.{not_true_is_false}
-use Rattle.m2_lemmas.proofs.Numbers.{below_or_not}
+use Rattle.m2_bytes.proofs.m2_lemmas.Booleans.{not_true_is_false}
+use Rattle.m2_bytes.proofs.m2_lemmas.Numbers.{below_or_not}
 use Rattle.m2_fabric.proofs.Sockets.{same_equal, same_refl}
 
 -- ---- sums

@@ -23,7 +23,7 @@ use Rattle.m2_weave.specs.TurnLaws.{HasOrder}
 use Rattle.m2_weave.proofs.Greedy.{greedy_of}
 use Rattle.m2_weave.proofs.Sums.{sum_over, total_on}
 use Rattle.m2_weave.proofs.Tidy.{next-there, size-at, count-of}
-use Rattle.m2_lemmas.proofs.Lists.{index_in_range}
+use Rattle.m2_bytes.proofs.m2_lemmas.Lists.{index_in_range}
 use Rattle.m2_fabric.proofs.Sockets.{same_equal, same_refl}
 
 -- ---- lists that go on

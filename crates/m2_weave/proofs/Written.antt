@@ -16,7 +16,7 @@ use Rattle.m2_weave.specs.Stops.{sizes}
 use Rattle.m2_weave.specs.WeaveLaws.{IsRead, ReadWasWritten}
 use Rattle.m2_weave.proofs.Staying.{byte-stays}
 use Rattle.m2_weave.proofs.Deciding.{read-sound}
-use Rattle.m2_lemmas.proofs.Lists.{index_in_range}
+use Rattle.m2_bytes.proofs.m2_lemmas.Lists.{index_in_range}
 use Rattle.m2_weave.proofs.Furthest.{zero-at}
 use Rattle.m2_fabric.proofs.Sockets.{same_equal}
 

@@ -1,6 +1,6 @@
 -- What a run of the generated scenario counts.
 use Rattle.std.proofs.Common.{List, ap, length, sum_by, ◌∙◌}
-use Rattle.m2_dispatch.specs.Heard.{heard_by}
+use Rattle.m2_scenario.specs.m2_dispatch.Heard.{heard_by}
 use Rattle.m2_scenario.specs.Generated.{generated}
 use Rattle.m2_scenario.specs.declared.link.Link.{Link}
 use Rattle.m2_script.specs.Outcome.{left_in}

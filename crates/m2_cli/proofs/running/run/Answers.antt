@@ -1,7 +1,7 @@
 -- The script's run, what is told of it, and the promise.
 use Rattle.std.proofs.Common.{◌≡◌, ℕ, List, length, Ok, IfOk, sym, subst}
 use Rattle.std.specs.List.{AllByRecursion}
-use Rattle.m2_dispatch.specs.Heard.{heard_by}
+use Rattle.m2_scenario.specs.m2_dispatch.Heard.{heard_by}
 use Rattle.m2_script.specs.declared.outcome.Outcome.{Outcome}
 use Rattle.m2_promise.specs.Posted.{IsFirst, PostsOfTypes}
 use Rattle.m2_scenario.specs.declared.line.Line.{Line}

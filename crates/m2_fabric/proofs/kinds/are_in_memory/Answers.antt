@@ -3,7 +3,7 @@ use Rattle.std.proofs.Math.Seq.{take-length}
 use Rattle.std.proofs.lemmas.List.Elements.{All-more, recursion_from_All}
 use Rattle.m2_fabric.specs.Kinds.{IsInMemory}
 use Rattle.m2_fabric.proofs.kinds.are_in_memory.Goals as goal
-use Rattle.m2_lemmas.proofs.Lists.{all_map}
+use Rattle.m2_bytes.proofs.m2_lemmas.Lists.{all_map}
 
 all_taken : {X : Type 0} (P : X → Type 0) (xs : List X) (n : ℕ) → length xs ≤ n → n ≤ length xs → All P (take n xs) → All P xs
 all_taken P xs n least most all =

@@ -9,7 +9,7 @@ use Rattle.m2_weave.specs.Counting.{IsNamed}
 use Rattle.m2_weave.specs.Table.{names_of}
 use Rattle.m2_weave.proofs.Whole.{all_get}
 use Rattle.m2_weave.proofs.weaving.are_named.Goals as goal
-use Rattle.m2_lemmas.proofs.Lists.{all_map, all_of_map}
+use Rattle.m2_bytes.proofs.m2_lemmas.Lists.{all_map, all_of_map}
 
 pub returns-then-not-all_named : goal.returns-then-not-all_named
 returns-then-not-all_named c =

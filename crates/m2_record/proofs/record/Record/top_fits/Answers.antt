@@ -1,5 +1,5 @@
 use Rattle.std.proofs.Common.{◌≤◌, subst}
-use Rattle.m2_control.specs.declared.fields.TheConstants.{GREATEST_NUMBER}
+use Rattle.m2_handshake.specs.m2_control.declared.fields.TheConstants.{GREATEST_NUMBER}
 use Rattle.m2_record.specs.RecordNow.{RecordNow}
 use Rattle.m2_record.proofs.Topmost.{top-fits}
 use Rattle.m2_record.proofs.record.Record.top_fits.Goals as goal

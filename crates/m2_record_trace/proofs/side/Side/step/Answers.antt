@@ -1,5 +1,5 @@
 use Rattle.std.proofs.Common.{refl}
-use Rattle.m2_core.specs.Granting.{Throttled}
+use Rattle.m2_record.specs.m2_core.Granting.{Throttled}
 use Rattle.m2_record.specs.Stepping.{Counted}
 use Rattle.m2_record_trace.proofs.Stepping.{no_step}
 use Rattle.m2_record_trace.proofs.side.Side.step.Goals as goal
