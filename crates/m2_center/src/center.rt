@@ -2,11 +2,11 @@
 
 ghost use Rattle.std.specs.Prelude.{◌≡◌};
 
+use crate::{Outbox, Pendings, Roster};
 use m2_dispatch::Dispatch;
 use m2_fabric::Port;
 use m2_record::Record;
 use m2_shared::{NumberPass, Numbers, TakePass, Throttle};
-use crate::{Outbox, Pendings, Roster};
 use m2_trail::Loose;
 use std::alloc::Global;
 use std::marker::Model;

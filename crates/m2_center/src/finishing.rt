@@ -3,6 +3,7 @@
 ghost use Rattle.std.specs.Prelude.{◌≡◌};
 ghost use Rattle.m2_center.specs.Finishing.{AllOwn, IsGranted, rest_of};
 
+use crate::Outbox;
 use crate::center::{Center, NodeShared, Passes};
 use crate::leaving::leave_all;
 use crate::making::Unmade;
@@ -11,7 +12,6 @@ use m2_dispatch::Dispatch;
 use m2_fabric::{End, Port};
 use m2_record::Record;
 use m2_shared::{TakePass, Throttle};
-use crate::Outbox;
 use m2_trail::LooseList;
 use std::marker::Model;
 

@@ -13,9 +13,8 @@ use crate::pending::Pending;
 use crate::roster::Roster;
 use m2_addr::Addr;
 use m2_fabric::End;
-use m2_trail::{HalfTurn, advance, turns_leave_the_half};
 use m2_record::{Record, Work};
-use m2_trail::{Arrival, Incoming, Loose, MOST_READ};
+use m2_trail::{Arrival, HalfTurn, Incoming, Loose, MOST_READ, advance, turns_leave_the_half};
 
 /// How many asks of a half are answered in a turn at most.
 pub const MOST_ASKS: u32 = 4096;

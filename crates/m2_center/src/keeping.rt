@@ -7,8 +7,8 @@ ghost use Rattle.m2_record.specs.IsRecord.{IsRecord};
 ghost use Rattle.m2_center.specs.Halves.{AreWhole};
 
 use crate::center::Center;
-use m2_fabric::{MemoryPort, Port};
 use crate::{are_records, are_whole};
+use m2_fabric::{MemoryPort, Port};
 
 impl<P: Port, D> Center<P, D> {
     /// What a center is, for contracts alone: its records and halves are consistent, and all that it holds for the

@@ -6,8 +6,8 @@ ghost use Rattle.m2_record.specs.RecordNow.{RecordNow};
 ghost use Rattle.m2_center.specs.Halves.{after_leaving, halves_of, sessions_with};
 ghost use Rattle.m2_center.specs.Sessions.{AreConsistent, Supply};
 
-use m2_fabric::End;
 use crate::Pendings;
+use m2_fabric::End;
 use m2_trail::Loose;
 
 /// Leaves all halves as they are, in order, behind those that are over. Takes no memory.

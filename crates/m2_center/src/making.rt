@@ -9,11 +9,11 @@ ghost use Rattle.m2_handshake.specs.Asks.{same_addr};
 ghost use Rattle.m2_trail.specs.declared.incoming.TheConstants.{MOST_READ};
 
 use crate::center::{Center, Passes};
+use crate::{Outbox, Pendings, Roster};
 use m2_bytes::NoMemory;
 use m2_dispatch::Dispatch;
 use m2_fabric::{End, Port};
 use m2_record::Record;
-use crate::{Outbox, Pendings, Roster};
 use m2_trail::MOST_READ;
 use std::alloc::Global;
 

@@ -7,11 +7,11 @@ ghost use Rattle.m2_trail.specs.Trails.{trail_now};
 ghost use Rattle.m2_center.specs.Plans.{IsReadyFor, PlansIn, is_towards, parts_of, side_towards};
 
 use crate::center::{Center, NodeShared};
+use crate::plan_at;
 use m2_bytes::NoMemory;
 use m2_fabric::{End, Port};
 use m2_journal::PlanStep;
 use m2_record::{Record, RecordParts, Work};
-use crate::plan_at;
 
 impl<P: Port, D> Center<P, D> {
     /// The step is the last of the plan of the first record towards the peer at this place among the nodes,

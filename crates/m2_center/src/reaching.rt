@@ -16,11 +16,11 @@ ghost use Rattle.m2_center.specs.Hearing as hearing;
 
 use crate::center::Center;
 use crate::record_ends::{any_has_end, record_log, records_hear};
+use crate::{Pendings, are_records, half_hears, half_log};
 use m2_bytes::NoMemory;
 use m2_edge::Failed;
 use m2_fabric::{End, EndLog, News, Port, SocketId, SocketIdList};
 use m2_record::Record;
-use crate::{Pendings, are_records, half_hears, half_log};
 use m2_trail::Loose;
 
 impl<P: Port, D> Center<P, D> {

@@ -7,9 +7,9 @@ ghost use Rattle.m2_center.specs.Idle.{are_idle, is_delivered, is_idle, is_unhea
 ghost use Rattle.m2_center.specs.RecordsTurn as turns;
 
 use crate::center::Center;
+use crate::is_idle;
 use m2_fabric::{End, Port};
 use m2_record::Record;
-use crate::is_idle;
 
 impl<P: Port, D> Center<P, D> {
     /// Whether the center has nothing to do at this moment: the port's last accept found no socket, no half has

@@ -14,14 +14,14 @@ ghost use Rattle.std.specs.List.{AllByRecursion};
 ghost use Rattle.std.specs.Prelude.{List, length, map, take, vec_capacity, vec_len, ℕ, ◌-◌, ◌<◌, ◌≡◌, ◌≤◌};
 
 use crate::center::{Center, NodeShared};
-use m2_bytes::NoMemory;
-use m2_dispatch::Dispatcher;
-use m2_fabric::{End, Port};
-use m2_record::{Record, Work};
 use crate::{
     Accepted, HalvesTurn, Mailed, Outbox, Pendings, RecordsTurn, Roster, accept_all, are_records,
     empty_mail, turn_each, turn_halves,
 };
+use m2_bytes::NoMemory;
+use m2_dispatch::Dispatcher;
+use m2_fabric::{End, Port};
+use m2_record::{Record, Work};
 use m2_trail::{Loose, MOST_READ};
 
 impl<P: Port, D: Dispatcher> Center<P, D> {

@@ -10,8 +10,7 @@ ghost use Rattle.m2_cli.specs.Form.{form_of, form_in, form_among, named_form, fi
 use crate::dashes::split_at_dashes;
 use crate::positions::{Positions, escaped, read_positions};
 use m2_bytes::NoMemory;
-use m2_scenario::MOST_POSTS;
-use m2_scenario::{Kind, read_number};
+use m2_scenario::{Kind, MOST_POSTS, read_number};
 use std::alloc::Global;
 
 /// What the words of a command line ask for.

@@ -7,9 +7,9 @@ ghost use Rattle.m2_cli.specs.Work.{Works};
 
 use crate::print::say_made;
 use crate::status::Status;
+use crate::{Listing, list_frames};
 use m2_edge::{Failed, Sink, Source};
 use m2_frame::FrameFault;
-use crate::{Listing, list_frames};
 use std::alloc::Global;
 
 /// Lists the frames of a file.

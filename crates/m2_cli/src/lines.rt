@@ -7,8 +7,7 @@ ghost use Rattle.m2_frame.specs.View.{parts_seen};
 ghost use Rattle.m2_cli.specs.Lines.{line_of, frame_words, length_word, number_word};
 
 use m2_bytes::{Blob, NoMemory, put_decimal};
-use m2_frame::FrameView;
-use m2_frame::Tag;
+use m2_frame::{FrameView, Tag};
 
 /// Appends a space and a number.
 fn put_number(line: &mut Blob, n: u64) -> Result<(), NoMemory>

@@ -12,15 +12,14 @@ ghost use Rattle.m2_cli.specs.Work.{Works};
 
 use crate::print::{print, say_fixed};
 use crate::printout::{Printout, status_by_count, with_line};
+use crate::run;
 use crate::status::Status;
 use m2_bytes::{Blob, NoMemory, put_decimal};
 use m2_edge::Sink;
-use m2_scenario::{generate, posts_are_as_many_as_asked};
-use m2_scenario::calls_and_left_are_posts;
+use m2_scenario::{
+    LogsList, Scenario, calls_and_left_are_posts, generate, posts_are_as_many_as_asked,
+};
 use m2_script::Outcome;
-use m2_scenario::LogsList;
-use m2_scenario::Scenario;
-use crate::run;
 use std::alloc::Global;
 
 /// Runs generated load, and prints how many messages were posted, dispatched and left. It touches no source.

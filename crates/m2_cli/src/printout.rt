@@ -9,14 +9,13 @@ ghost use Rattle.m2_scenario.specs.Report.{report_of};
 ghost use Rattle.m2_scenario.specs.Draft.{Draft, IsMade};
 ghost use Rattle.m2_scenario.specs.Valid.{IsValid};
 
+use crate::run;
 use crate::status::{Status, line};
 use m2_bytes::{Blob, Items, NoMemory};
 use m2_edge::{ReadFault, Source, read_whole};
-use m2_script::Outcome;
-use m2_scenario::report;
-use m2_scenario::Scenario;
+use m2_scenario::{Scenario, report};
 use m2_scenario_text::{BadScenario, MOST_BYTES, read};
-use crate::run;
+use m2_script::Outcome;
 use std::alloc::Global;
 
 /// How a scenario ends, its report, and the line that standard error is to get.

@@ -10,14 +10,10 @@ ghost use Rattle.m2_cli.specs.Run.{IsOutcome};
 ghost use Rattle.m2_promise.specs.Posted.{IsFirst};
 
 use m2_bytes::NoMemory;
-use m2_script::{addresses, clear_all, cluster_of};
-use m2_script::{Outcome, outcome_of};
-use m2_promise::{lines_fit, promises_are_kept};
-use m2_promise::first_can_be_done;
+use m2_fabric::{CutPort, SimFabric, SimPort};
+use m2_promise::{first_can_be_done, lines_fit, promises_are_kept};
 use m2_scenario::{Line, LineList, Link, LinkList, Node, NodeList};
-use m2_script::Run;
-use m2_fabric::{CutPort, SimPort};
-use m2_fabric::SimFabric;
+use m2_script::{Outcome, Run, addresses, clear_all, cluster_of, outcome_of};
 use std::alloc::Global;
 
 /// Runs a scenario's lines over its nodes and links, and tells what came of it. The messages of the posts are moved into

@@ -6,11 +6,11 @@ ghost use Rattle.m2_core.specs.Asking.{HasAsked, LeavesAsk, LeavesPass, MayAskNo
 
 use crate::feed_laws::feed_laws;
 use crate::side::Core;
+use crate::{ask_len, cookie_at};
 use m2_addr::AddrVec;
 use m2_bytes::NoMemory;
 use m2_control::{ClientIdent, Control, SessionReconnect};
 use m2_fabric::End;
-use crate::{ask_len, cookie_at};
 use m2_shared::{Draw, NumberPass, Numbers};
 
 /// What an ask answered.

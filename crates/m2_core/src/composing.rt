@@ -7,9 +7,9 @@ ghost use Rattle.m2_core.specs.Composing.{HasAcknowledged, HasAnswered, OwesOne}
 
 use crate::feed_laws::feed_laws;
 use crate::side::Core;
+use crate::{acknowledge_on, answer_on};
 use m2_bytes::NoMemory;
 use m2_fabric::End;
-use crate::{acknowledge_on, answer_on};
 
 impl<E: End> Core<E> {
     /// Composes an acknowledgement up to the last accepted number, where one is owed. No entry names it.

@@ -8,9 +8,9 @@ ghost use Rattle.m2_core.specs.LiveNow.{OnFeedNow, is_ready};
 ghost use Rattle.m2_core.specs.Granting.{HasGranted, word_after};
 
 use crate::feed_laws::feed_laws;
+use crate::grant_on;
 use crate::side::Core;
 use m2_fabric::End;
-use crate::grant_on;
 use m2_shared::{Take, TakePass, Throttle};
 
 /// What asking a throttle for the size of a MESSAGE answered.

@@ -13,11 +13,11 @@ ghost use Rattle.m2_core.specs.TakingOver.{MakesJudgement, IsTakenFeed, after_an
 use crate::feed_laws::feed_laws;
 use crate::side::Core;
 use crate::verdict::Verdict;
+use crate::{Aftermath, resumed_by_ask};
 use m2_bytes::Blob;
 use m2_fabric::End;
 use m2_feed::Feed;
 use m2_frame::Decoder;
-use crate::{Aftermath, resumed_by_ask};
 use m2_shared::{TakePass, Throttle};
 
 impl<E: End> Core<E> {

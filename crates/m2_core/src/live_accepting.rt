@@ -13,8 +13,7 @@ use crate::on_feed::take_on;
 use m2_bytes::NoMemory;
 use m2_fabric::End;
 use m2_feed::Feed;
-use m2_message::Message;
-use m2_message::from_frame;
+use m2_message::{Message, from_frame};
 use m2_shared::Grant;
 
 impl<E: End> Live<E> {

@@ -15,14 +15,13 @@ ghost use Rattle.m2_core.specs.LiveAsking.{AsksNow, IsAsk, ReservesAsk, ask_len,
 
 use crate::live::Live;
 use crate::on_feed::{compose_on, reserve_on};
-use m2_session::{CookieParts, cookie_of};
 use m2_bytes::NoMemory;
 use m2_control::{ClientIdent, Control, SessionReconnect};
 use m2_fabric::End;
 use m2_feed::{Feed, IDENT_BYTES, RECONNECT_BYTES};
 use m2_journal::NodeFacts;
 use m2_policy::Policy;
-use m2_session::{Event, Session, step};
+use m2_session::{CookieParts, Event, Session, cookie_of, step};
 
 impl<E: End> Live<E> {
     /// Makes the room that an ask takes. Err for want of memory changes nothing but that room.

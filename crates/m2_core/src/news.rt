@@ -6,10 +6,10 @@ ghost use Rattle.m2_core.specs.LiveCalls.{live_with};
 ghost use Rattle.m2_core.specs.Agrees.{Stays};
 
 use crate::feed_laws::feed_laws;
+use crate::hear_on;
 use crate::side::Core;
 use m2_bytes::NoMemory;
 use m2_fabric::{End, News};
-use crate::hear_on;
 
 impl<E: End> Core<E> {
     /// Tells the feed's end, where there is one and it is in memory, of the other side. Nothing else

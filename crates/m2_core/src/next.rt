@@ -18,13 +18,13 @@ use crate::front_laws::front_laws;
 use crate::granting::CoreGrant;
 use crate::resting::CoreRest;
 use crate::side::Core;
+use crate::{Aftermath, front_on};
 use m2_bytes::NoMemory;
 use m2_fabric::End;
 use m2_feed::{FrameHeard, Hearer, WireFault};
-use crate::{Aftermath, front_on};
+use m2_frame::Tag;
 use m2_session::Phase;
 use m2_shared::{TakePass, Throttle};
-use m2_frame::Tag;
 
 /// What was done with the front of the feed. It may hold a grant, so it can't be dropped.
 pub enum CoreNext {

@@ -7,10 +7,10 @@ ghost use Rattle.m2_session.specs.Steps.{step_of};
 ghost use Rattle.m2_core.specs.Effects.{IsAftermath};
 ghost use Rattle.m2_core.specs.Hearing.{HasObeyed, hearing};
 
+use crate::Aftermath;
 use crate::reading::laws_of_hearing;
 use crate::side::Core;
 use m2_fabric::End;
-use crate::Aftermath;
 
 impl<E: End> Core<E> {
     /// Obeys the SESSION_RESET that is heard at the front, with this mark: the entry Obeyed. Its frame is

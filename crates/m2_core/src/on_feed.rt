@@ -15,10 +15,9 @@ ghost use Rattle.m2_core.specs.OnFeed.{AnswersStamp, CanAsk, CanWrite, ChangesRo
 use m2_bytes::NoMemory;
 use m2_control::{Control, Keepalive};
 use m2_fabric::{End, EndRead, News};
-use m2_feed::{Feed, FeedWrite};
+use m2_feed::{Feed, FeedWrite, FrameHeard, Hearer, hear};
 use m2_frame::{Frame, Got};
 use m2_handshake::HalfStep;
-use m2_feed::{FrameHeard, Hearer, hear};
 
 /// Closes the feed.
 pub(crate) fn close_on<E: End>(feed: &mut Option<Feed<E>>) -> Option<E>

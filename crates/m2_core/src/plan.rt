@@ -13,11 +13,11 @@ ghost use Rattle.m2_core.specs.LiveCalls.{after_posted};
 ghost use Rattle.m2_core.specs.Agrees.{LeadsOn, MayCome};
 ghost use Rattle.m2_core.specs.Calls.{after_dial, after_down, is_exhausted};
 
+use crate::Aftermath;
 use crate::feed_laws::feed_laws;
 use crate::side::Core;
 use m2_bytes::NoMemory;
 use m2_fabric::End;
-use crate::Aftermath;
 use m2_message::Message;
 use m2_session::{Event, Phase};
 use m2_shared::{TakePass, Throttle};

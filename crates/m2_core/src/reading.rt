@@ -12,9 +12,9 @@ ghost use Rattle.m2_core.specs.LiveHearing.{raised_by};
 ghost use Rattle.m2_core.specs.Hearing.{HasRead, Heeds, IsFaultHeard, effects_heard, hearing};
 
 use crate::side::Core;
+use crate::{Aftermath, raise, read_on};
 use m2_fabric::{End, EndRead};
 use m2_feed::Heard;
-use crate::{Aftermath, raise, read_on};
 use m2_shared::{NumberPass, Numbers};
 
 /// What a read answered.

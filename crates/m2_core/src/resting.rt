@@ -9,9 +9,9 @@ ghost use Rattle.m2_core.specs.Next.{LeavesRest, RestSays, word_rest};
 
 use crate::front_laws::front_laws;
 use crate::side::Core;
+use crate::{give_back, next_on};
 use m2_fabric::End;
 use m2_frame::{FrameFault, Got};
-use crate::{give_back, next_on};
 use m2_shared::{TakePass, Throttle};
 
 /// What stands at the front where no whole frame does.

@@ -6,10 +6,10 @@ ghost use Rattle.m2_core.specs.LiveNow.{OnFeedNow};
 ghost use Rattle.m2_core.specs.Shaken.{HasShaken};
 
 use crate::feed_laws::feed_laws;
+use crate::greet_on;
 use crate::side::Core;
 use m2_fabric::End;
 use m2_handshake::HalfStep;
-use crate::greet_on;
 
 impl<E: End> Core<E> {
     /// One answer of the opener's half, which makes no entry; what it writes is composed. A fault that it

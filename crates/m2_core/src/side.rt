@@ -9,12 +9,12 @@ ghost use Rattle.m2_core.specs.Agrees.{Agrees};
 ghost use Rattle.m2_core.specs.Calls.{is_exhausted, lacks_connect_number, lacks_message_number};
 ghost use Rattle.m2_core.specs.CoreNow.{at_start, may_dial};
 
+use crate::Live;
 use m2_addr::Addr;
 use m2_control::GREATEST_NUMBER;
 use m2_fabric::End;
 use m2_feed::Feed;
 use m2_journal::NodeFacts;
-use crate::Live;
 use m2_policy::Policy;
 use m2_queues::OutQueues;
 use m2_session::{Phase, Session};

@@ -19,9 +19,9 @@ ghost use Rattle.m2_core.specs.Moves.{HasWritten, owes_after};
 
 use crate::feed_laws::feed_laws;
 use crate::side::Core;
+use crate::{Aftermath, write_on};
 use m2_fabric::End;
 use m2_feed::{Feed, FeedWrite};
-use crate::{Aftermath, write_on};
 use m2_session::{Event, step};
 use m2_shared::{TakePass, Throttle};
 

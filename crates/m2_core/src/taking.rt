@@ -10,10 +10,9 @@ ghost use Rattle.m2_core.specs.LiveCalls.{resumed_by_ask, tells_if, with_taken};
 
 use crate::aftermath::Aftermath;
 use crate::live::Live;
-use m2_session::AskFacts;
 use m2_fabric::End;
 use m2_feed::Feed;
-use m2_session::Event;
+use m2_session::{AskFacts, Event};
 use m2_shared::{TakePass, Throttle};
 
 impl<E: End> Live<E> {

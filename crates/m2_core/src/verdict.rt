@@ -6,13 +6,12 @@ ghost use Rattle.m2_session.specs.SessionLaws.{takes};
 ghost use Rattle.m2_core.specs.Calls as calls;
 ghost use Rattle.m2_core.specs.Judging.{CanJudge, IsAnswerFrame, IsVerdict, MayBeJudged, acceptance_text, told_of, verdict_on};
 
+use crate::cookie_at;
 use crate::side::Core;
-use m2_session::{AskFacts, Carried, Speaker, event_of, judge};
 use m2_bytes::{Blob, NoMemory};
 use m2_control::Control;
 use m2_fabric::End;
-use crate::cookie_at;
-use m2_session::{Answer, Event};
+use m2_session::{Answer, AskFacts, Carried, Event, Speaker, event_of, judge};
 
 /// The answer of this side to an ask on a socket of its peer's.
 #[derive(Clone, Copy, Debug)]

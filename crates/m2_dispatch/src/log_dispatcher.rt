@@ -5,8 +5,8 @@ ghost use Rattle.m2_dispatch.specs.Heard.{heard_by};
 ghost use Rattle.m2_dispatch.specs.declared.logged.Logged.TheVariants as logged;
 
 use crate::dispatcher::Dispatcher;
-use m2_bytes::NoMemory;
 use crate::{Logged, LoggedList};
+use m2_bytes::NoMemory;
 use m2_message::Message;
 use m2_policy::Key;
 use std::alloc::Global;

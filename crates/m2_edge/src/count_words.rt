@@ -3,8 +3,8 @@
 ghost use Rattle.std.specs.Prelude.{◌≡◌, ◌+◌, ◌-◌, ◌^◌, ◌<◌};
 ghost use Rattle.m2_edge.specs.Words.{Counts};
 
-use crate::words::Words;
 use crate::Count;
+use crate::words::Words;
 use std::marker::Model;
 
 /// Gives 1, then 2, and one more each time. At the end of 64 bits it stands still. Contracts see the word

@@ -2,9 +2,9 @@
 
 use crate::texts::{MESSAGE, WAIT};
 use m2_bytes::{Blob, Items};
+use m2_cli::{Listing, list_frames};
 use m2_edge::{Input, MemSink, MemSource};
 use m2_frame::FrameFault;
-use m2_cli::{Listing, list_frames};
 use std::alloc::{AllocError, Global};
 use std::test::*;
 

@@ -6,8 +6,7 @@
 ghost use Rattle.std.specs.Prelude.{◌≤◌};
 ghost use Rattle.m2_scenario.specs.declared.limits.TheConstants.{MOST_POSTS};
 
-use m2_scenario::generate;
-use m2_scenario::{MOST_POSTS, Scenario};
+use m2_scenario::{MOST_POSTS, Scenario, generate};
 use m2_scenario_text::read;
 use std::alloc::Global;
 use std::process::Abort;

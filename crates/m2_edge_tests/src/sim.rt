@@ -1,10 +1,9 @@
 //! Scenarios whose outcome the rules tell, each worked by hand.
 
 use m2_bytes::{Blob, Items};
-use m2_scenario::report;
-use m2_scenario::Scenario;
-use m2_scenario_text::read;
 use m2_cli::run;
+use m2_scenario::{Scenario, report};
+use m2_scenario_text::read;
 use std::alloc::Global;
 use std::process::Abort;
 use std::test::Fail;

@@ -4,8 +4,8 @@ ghost use Rattle.std.specs.Prelude.{◌≡◌, ◌<◌, ◌≤◌, false, length
 ghost use Rattle.m2_fabric.specs.End.{LeavesPiece, Reads, Writes};
 ghost use Rattle.m2_fabric.specs.CutEnd.{Bounded, ReadsBounded, WritesBounded, allowance, allowed, counted_read, counted_write, is_cut, left_after_read, left_after_write, passed, shown};
 
-use m2_bytes::NoMemory;
 use crate::{End, EndLog, EndRead, EndWrite, MemoryEnd, News, SocketId};
+use m2_bytes::NoMemory;
 use std::marker::Model;
 
 /// An end that passes on what another end does, until so many bytes passed, read and written together:

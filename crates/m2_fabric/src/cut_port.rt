@@ -5,10 +5,10 @@ ghost use Rattle.m2_fabric.specs.Port.{Accepts, Connects, connect_map, taken_map
 ghost use Rattle.m2_fabric.specs.CutPort.{AcceptsUncut, ConnectsCut, bound_for, is_for, place_of_cut, without_cut};
 
 use crate::cut_end::CutEnd;
+use crate::{Connect, End, MemoryPort, News, Port, SocketId, SocketIdList, Taken};
 use m2_addr::Addr;
 use m2_bytes::{Items, NoMemory};
 use m2_edge::Failed;
-use crate::{Connect, End, MemoryPort, News, Port, SocketId, SocketIdList, Taken};
 use std::marker::Model;
 
 /// After how many bytes a socket that is opened to an address breaks.

@@ -4,8 +4,8 @@ ghost use Rattle.std.specs.Prelude.{◌≡◌, ◌+◌, ◌<◌, [], ◌∷◌, 
 ghost use Rattle.m2_fabric.specs.Kept.{reader, writer};
 ghost use Rattle.m2_fabric.specs.News.{AreTold, all_flowed, closing_told, failing, flow_told, is_closed, logs_of, moved, only, passed_on, progress_after, put_of};
 
-use m2_bytes::{Blob, NoMemory};
 use crate::{Holder, News, SocketId};
+use m2_bytes::{Blob, NoMemory};
 
 /// How far one direction of a socket has come.
 #[derive(Clone, Copy, Debug, PartialEq, Eq)]

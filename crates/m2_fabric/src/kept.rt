@@ -7,8 +7,8 @@ ghost use Rattle.m2_fabric.specs.Over.{is_over};
 
 use crate::direction::{Direction, Progress};
 use crate::passing::Passing;
-use m2_bytes::{Blob, NoMemory};
 use crate::{Holder, SocketId};
+use m2_bytes::{Blob, NoMemory};
 
 /// A socket between two nodes, of which one is called the first.
 #[derive(Clone, Copy, Debug, PartialEq, Eq)]

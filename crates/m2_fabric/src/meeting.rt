@@ -5,9 +5,9 @@ ghost use Rattle.std.specs.List.{position};
 ghost use Rattle.m2_fabric.specs.Sockets.{goes_to};
 ghost use Rattle.m2_fabric.specs.Meeting.{acceptor, comes_from, other_than};
 
+use crate::SocketId;
 use m2_addr::Addr;
 use m2_bytes::NoMemory;
-use crate::SocketId;
 use std::alloc::Global;
 
 /// As many nodes can be named by the numbers that a holder takes.

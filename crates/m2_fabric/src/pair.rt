@@ -9,8 +9,8 @@ ghost use Rattle.m2_fabric.specs.Over.{AreOver};
 
 use crate::kept::Kept;
 use crate::passing::Passing;
-use m2_bytes::{Blob, NoMemory};
 use crate::{Holder, SocketId};
+use m2_bytes::{Blob, NoMemory};
 use std::alloc::Global;
 use std::marker::Model;
 

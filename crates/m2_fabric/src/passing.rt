@@ -5,8 +5,8 @@ ghost use Rattle.m2_fabric.specs.News.{AreTold, is_about, is_any_or, is_any_sock
 ghost use Rattle.m2_fabric.specs.Over.{is_between, leads};
 
 use crate::direction::{Direction, Progress};
-use m2_bytes::{Blob, NoMemory};
 use crate::{Holder, SocketId};
+use m2_bytes::{Blob, NoMemory};
 
 /// Which directions a call is about, and how much may flow.
 #[derive(Clone, Copy, Debug, PartialEq, Eq)]

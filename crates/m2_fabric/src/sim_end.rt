@@ -6,10 +6,10 @@ ghost use Rattle.m2_fabric.specs.Log.{log_of};
 ghost use Rattle.m2_fabric.specs.declared.log.TheConstants.{MOST_MOVED};
 ghost use Rattle.m2_fabric.specs.SimEnd.{ReadsAll, WritesAll};
 
+use crate::{End, EndLog, EndRead, EndWrite, MOST_MOVED, MemoryEnd, News, SocketId};
 use bytes::BytesMut;
 use m2_bytes::NoMemory;
 use m2_edge::Count;
-use crate::{End, EndLog, EndRead, EndWrite, MOST_MOVED, MemoryEnd, News, SocketId};
 use std::alloc::Global;
 use std::marker::Model;
 

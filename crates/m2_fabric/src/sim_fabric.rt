@@ -10,9 +10,9 @@ use crate::kept::Kept;
 use crate::meeting::{acceptor, copy_from, looked_at, set_looked};
 use crate::pair::{Pair, between, chosen, is_kept, keep, numbered, pass_all};
 use crate::passing::Passing;
+use crate::{Holder, SocketId};
 use m2_addr::Addr;
 use m2_bytes::{Blob, Items, NoMemory};
-use crate::{Holder, SocketId};
 use std::alloc::Global;
 use std::marker::Model;
 

@@ -8,12 +8,12 @@ ghost use Rattle.m2_fabric.specs.Sockets.{same_socket};
 ghost use Rattle.m2_fabric.specs.SimPort.{NeverRefuses, OpensNext, greatest, ids, path, socket_after, turn_on};
 
 use crate::sim_end::SimEnd;
-use m2_addr::Addr;
-use m2_bytes::{Items, NoMemory};
-use m2_edge::Failed;
 use crate::{
     Connect, End, MemoryPort, News, Port, SocketId, SocketIdList, Taken, are_in_memory, is_among,
 };
+use m2_addr::Addr;
+use m2_bytes::{Items, NoMemory};
+use m2_edge::Failed;
 use std::alloc::Global;
 use std::marker::Model;
 

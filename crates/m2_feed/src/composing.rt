@@ -14,8 +14,7 @@ use crate::outgoing::Outgoing;
 use m2_bytes::{Blob, NoMemory};
 use m2_control::Control;
 use m2_frame::{CRC_BYTES, Frame, PREAMBLE_BYTES, encode};
-use m2_message::Message;
-use m2_message::to_frame;
+use m2_message::{Message, to_frame};
 use std::alloc::Global;
 
 /// How many bytes the payload of a record's CLIENT_IDENT has.

@@ -4,11 +4,11 @@ ghost use Rattle.std.specs.Prelude.{◌≡◌, IfSome};
 ghost use Rattle.m2_feed.specs.Front.{heard_at};
 ghost use Rattle.m2_feed.specs.Heard.{IsBounded};
 
+use crate::Feed;
 use crate::heard::Heard;
 use crate::hearing_answers::heard_in;
 use m2_addr::Addr;
 use m2_fabric::End;
-use crate::Feed;
 use m2_policy::Policy;
 use m2_session::Phase;
 

@@ -17,11 +17,10 @@ use crate::answer_fault::AnswerFault;
 use crate::heard::Heard;
 use m2_addr::Addr;
 use m2_control::{Control, ServerFacts};
-use m2_frame::FrameView;
+use m2_frame::{FrameView, Tag};
 use m2_handshake::check_server_ident;
 use m2_policy::Policy;
 use m2_session::Phase;
-use m2_frame::Tag;
 
 /// What a frame says to a side in this phase, which dialled its peer at this address under this policy.
 pub fn heard_in(frame: &FrameView<'_>, phase: Phase, peer: &Addr, policy: &Policy) -> Heard

@@ -12,17 +12,16 @@ ghost use Rattle.m2_message.specs.HeaderText.{field, header_in};
 ghost use Rattle.m2_frame.specs.declared.tag.Tag.{Tag};
 ghost use Rattle.m2_feed.specs.FrameHeard.{answer_cause, checked_cause, heard_aborted, heard_ack, heard_as_answer, heard_control, heard_frame, heard_in_ready, heard_message, heard_numbers, heard_of_tag, heard_payload, ident_cause, may_come};
 
-use crate::wire_fault::WireFault;
 use crate::frame_heard::FrameHeard;
 use crate::hearer::Hearer;
+use crate::wire_fault::WireFault;
 use byteorder::{ByteOrder, LittleEndian};
 use m2_addr::Addr;
 use m2_control::{Control, ServerFacts, ServerIdent};
-use m2_frame::FrameView;
+use m2_frame::{FrameView, Tag};
 use m2_handshake::check_server_ident;
 use m2_message::{HEADER_BYTES, MessageFault};
 use m2_session::Phase;
-use m2_frame::Tag;
 
 /// Where the number of a message stands in its header, and what it acknowledges.
 const SEQ_AT: usize = 0;

@@ -3,8 +3,8 @@
 ghost use Rattle.std.specs.Prelude.{◌≡◌, ◌==◌, ◌↔◌, IsTrue};
 ghost use Rattle.m2_frame.specs.Frame.{parts, count_of, message_tag, segment_limit, Fits};
 
-use m2_bytes::Blob;
 use crate::{FIRST_TAG, LAST_TAG, Tag};
+use m2_bytes::Blob;
 
 /// The most segments in a frame.
 pub const MOST_SEGMENTS: u8 = 4;

@@ -5,9 +5,9 @@ ghost use Rattle.m2_frame.specs.Preamble.{number_at, preamble_in, last_length, i
 
 use crate::fault::FrameFault;
 use crate::frame::{Frame, MOST_SEGMENTS, is_message, limit_of};
+use crate::{FIRST_TAG, LAST_TAG};
 use byteorder::{ByteOrder, LittleEndian};
 use m2_crc::crc32c;
-use crate::{FIRST_TAG, LAST_TAG};
 
 /// How many bytes a preamble has.
 pub const PREAMBLE_BYTES: usize = 32;

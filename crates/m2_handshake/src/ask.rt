@@ -16,8 +16,7 @@ use crate::halt::Halt;
 use crate::reaction::read_control;
 use m2_addr::{Addr, AddrFault};
 use m2_control::{ClientIdent, Control, ControlFault, SessionReconnect};
-use m2_frame::Frame;
-use m2_frame::Tag;
+use m2_frame::{Frame, Tag};
 use std::alloc::Global;
 
 /// What an opener asks for once both sides have signed.

@@ -18,8 +18,7 @@ use crate::stage::{Awaited, HalfSide};
 use crate::texts::{CRC, NONE, put_bad_method, put_done, put_request, put_signature};
 use m2_bytes::Blob;
 use m2_control::{AuthRequest, Control, ControlFault, SIGNATURE_BYTES};
-use m2_frame::Frame;
-use m2_frame::Tag;
+use m2_frame::{Frame, Tag};
 use std::alloc::Global;
 
 /// What a half does with an awaited frame.

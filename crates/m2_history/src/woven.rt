@@ -9,8 +9,8 @@ ghost use Rattle.m2_history.specs.Lossy.{IsInOrderIn};
 use crate::woven_laws::{
     records_are_sides, woven_comes_in_order, woven_is_delivered, woven_is_never_reset,
 };
-use m2_fabric::End;
 use crate::{History, Side, WeaveFault};
+use m2_fabric::End;
 use m2_trail::LooseList;
 use std::alloc::Global;
 

@@ -4,8 +4,8 @@
 ghost use Rattle.m2_history.specs.WovenLaws as laws;
 ghost use Rattle.m2_history.specs.Lossy as lossy;
 
-use m2_bytes_fit::{bytes_give_fits, lossless_bytes_are_never_reset, trails_tell_each_point};
 use crate::{counts_are_of_the_items, orders_give_points, posted_is_delivered};
+use m2_bytes_fit::{bytes_give_fits, lossless_bytes_are_never_reset, trails_tell_each_point};
 use m2_lossy_in_order::lossy_comes_in_order;
 use m2_weave::{all_read_was_written, asks_come_first};
 

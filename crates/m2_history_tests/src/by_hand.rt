@@ -3,13 +3,11 @@
 
 ghost use Rattle.std.specs.Prelude.{◌≡◌, false, IfOk};
 
-use m2_session::AskFacts;
 use m2_bytes::{Items, NoMemory};
-use m2_fabric::{End, EndRead, EndWrite, News, SocketId};
+use m2_fabric::{End, EndRead, EndWrite, News, SimEnd, SocketId};
 use m2_history::{History, Parts, PartsFault, weave_parts};
 use m2_journal::{Entry, JudgedItem};
-use m2_session::Answer;
-use m2_fabric::SimEnd;
+use m2_session::{Answer, AskFacts};
 use m2_trail::{Incoming, LooseList, Trail};
 use m2_weave::{Unfit, Why};
 use std::alloc::Global;

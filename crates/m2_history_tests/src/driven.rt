@@ -4,10 +4,10 @@
 use crate::driving::{PRIORITIES, drive, fast_kinds, pair};
 use crate::walking::{Sides, are_carried, is_in_order};
 use m2_bytes::NoMemory;
+use m2_fabric::SimEnd;
 use m2_history::{Side, accepted, are_of_link, dispatched, posted, weave};
 use m2_policy::{Key, Path};
 use m2_record_trace::{Pair, Which};
-use m2_fabric::SimEnd;
 use m2_trail::LooseList;
 use std::alloc::Global;
 

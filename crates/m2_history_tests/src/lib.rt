@@ -23,5 +23,3 @@ mod generated;
 mod pairs;
 #[cfg(test)]
 mod walking;
-
-

@@ -1,10 +1,9 @@
 //! Two journals with what halves did before: one that fits, and ones that don't.
 
-use m2_session::AskFacts;
 use m2_bytes::NoMemory;
 use m2_fabric::SocketId;
 use m2_journal::Entry;
-use m2_session::Answer;
+use m2_session::{Answer, AskFacts};
 use m2_weave::{
     EndBytes, SocketBytes, SocketTable, Strand, Unfit, Why, WovenOrder, are_named, first_stop,
     weave,

@@ -5,14 +5,13 @@
 use crate::driving::fast_kinds;
 use m2_bytes::NoMemory;
 use m2_dispatch::{Logged, LoggedList};
-use m2_fabric::{End, EndLog, SocketId};
+use m2_fabric::{End, EndLog, SimEnd, SocketId};
 use m2_history::{HistoryStep, Side};
 use m2_journal::{Entry, PlanStep};
 use m2_message::Message;
 use m2_policy::{FastSet, Key, Path};
 use m2_record::Record;
 use m2_record_trace::{Which, Wire};
-use m2_fabric::SimEnd;
 use m2_trail::LooseList;
 use std::alloc::Global;
 

@@ -1,10 +1,9 @@
 //! What a record writes into its journal.
 
-use m2_session::AskFacts;
 use m2_bytes::Items;
 use m2_fabric::SocketId;
 use m2_policy::Key;
-use m2_session::Answer;
+use m2_session::{Answer, AskFacts};
 
 /// An ask of a half that was judged, and its answer.
 #[derive(Clone, Copy, Debug)]

@@ -3,9 +3,9 @@
 ghost use Rattle.std.specs.Prelude.{◌≡◌, IfOk};
 ghost use Rattle.m2_message.specs.HeaderText.{header_text, ReadsHeader, SaysHeader};
 
+use crate::Header;
 use crate::fault::MessageFault;
 use m2_bytes::{Blob, NoMemory, Reader, Short, put_u8, put_u16, put_u32, put_u64};
-use crate::Header;
 use std::alloc::Global;
 
 /// How many bytes a header has.

@@ -8,10 +8,9 @@ ghost use Rattle.m2_message.specs.MessageFrame.{message_in, Carries};
 
 use crate::fault::MessageFault;
 use crate::header_text::{HEADER_BYTES, read_header, write_header};
-use m2_bytes::NoMemory;
-use m2_frame::Frame;
 use crate::{Header, Message};
-use m2_frame::Tag;
+use m2_bytes::NoMemory;
+use m2_frame::{Frame, Tag};
 use std::alloc::Global;
 
 /// The header with these two numbers in place of its own.

@@ -6,8 +6,7 @@ ghost use Rattle.m2_dispatch.specs.Letters.{AreOwned};
 ghost use Rattle.m2_dispatch.specs.Parcel.{IsOwned};
 
 use m2_bytes::{Blob, NoMemory};
-use m2_dispatch::Logged;
-use m2_dispatch::{Dispatch, DispatchTurn, Dispatcher, Letter, LogDispatcher, Parcel};
+use m2_dispatch::{Dispatch, DispatchTurn, Dispatcher, Letter, LogDispatcher, Logged, Parcel};
 use m2_message::{Header, Message};
 use m2_policy::{Key, Path};
 use m2_shared::{Take, TakePass, Throttle};

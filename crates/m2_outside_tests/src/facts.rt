@@ -1,10 +1,10 @@
 //! What sockets of every kind do. Each is asked of a fabric and an address at which nobody listens.
 
+use crate::pieces::{exchange_at_once, noise, write_from};
 use crate::socket_ends::{
     A_WHILE, ROUNDS, accepted, are_of_one_socket, connected, last_port, link_up, meet, passed,
     read, read_next, write,
 };
-use crate::pieces::{exchange_at_once, noise, write_from};
 use m2_addr::Addr;
 use m2_bytes::Items;
 use m2_fabric::{Connect, End, EndRead, EndWrite, Fabric, Port, Taken};

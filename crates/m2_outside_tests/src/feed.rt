@@ -8,12 +8,10 @@ use crate::memory_ends::socket;
 use m2_addr::Addr;
 use m2_bytes::Blob;
 use m2_control::{Control, Keepalive};
-use m2_fabric::{End, EndRead, News};
+use m2_fabric::{End, EndRead, News, SimEnd};
 use m2_feed::{Feed, FeedWrite};
-use m2_frame::Decoder;
+use m2_frame::{Decoder, Tag};
 use m2_handshake::HalfStep;
-use m2_fabric::SimEnd;
-use m2_frame::Tag;
 use std::process::Abort;
 use std::test::Fail;
 

@@ -54,5 +54,3 @@ mod threads;
 mod throttle;
 #[cfg(test)]
 mod words;
-
-

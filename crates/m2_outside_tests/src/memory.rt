@@ -1,6 +1,5 @@
 //! Sockets in memory between threads.
 
-use crate::socket_ends::here;
 use crate::facts::{
     a_connect_where_nobody_listens_fails, a_node_that_was_gathered_accepts_again,
     bytes_pass_both_ways, only_the_first_port_accepts, waiting_takes_no_processor,
@@ -10,6 +9,7 @@ use crate::failing::{
     first_accept_fails, first_write_fails, second_connect_fails, second_listen_fails,
     second_poll_fails, second_read_fails,
 };
+use crate::socket_ends::here;
 use m2_mem_fabric::{MemCall, MemFabric};
 use std::alloc::Global;
 use std::sync::Wait;

@@ -2,8 +2,7 @@
 
 ghost use Rattle.std.specs.Prelude.{◌≡◌, ◌<◌, false, length, IfSome};
 
-use m2_fabric::{End, EndRead, EndWrite, News, Run, SocketId};
-use m2_fabric::{CutEnd, SimEnd};
+use m2_fabric::{CutEnd, End, EndRead, EndWrite, News, Run, SimEnd, SocketId};
 use std::alloc::Global;
 
 /// A socket of so many between two addresses.

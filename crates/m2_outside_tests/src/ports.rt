@@ -5,8 +5,9 @@ ghost use Rattle.std.specs.Prelude.{◌≡◌, false, IfSome};
 use crate::memory_ends::{read_into, socket};
 use m2_addr::Addr;
 use m2_bytes::Items;
-use m2_fabric::{Connect, End, EndRead, News, Port, SocketId, Taken, is_among};
-use m2_fabric::{Cut, CutPort, SimPort};
+use m2_fabric::{
+    Connect, Cut, CutPort, End, EndRead, News, Port, SimPort, SocketId, Taken, is_among,
+};
 use std::alloc::Global;
 
 /// An address of the node with this ip.

@@ -1,12 +1,12 @@
 //! Sockets of the system over loopback. Each listens at a port of its own, so that tests can run side by side
 //! and again.
 
-use crate::socket_ends::here;
 use crate::facts::{
     a_connect_where_nobody_listens_fails, a_node_that_was_gathered_accepts_again,
     bytes_pass_both_ways, only_the_first_port_accepts, waiting_takes_no_processor,
     what_comes_ends_a_wait, what_was_written_before_a_close_is_read,
 };
+use crate::socket_ends::here;
 use m2_mio::MioFabric;
 use std::test::Fail;
 

@@ -4,13 +4,14 @@
 ghost use Rattle.m2_promise.specs.DeliveryLaws as laws;
 ghost use Rattle.m2_promise.specs.Lossy as lossy;
 
-use m2_dispatch::Dispatcher;
 use m2_bytes_fit::{posts_can_be_sent, trails_tell_each_point};
-use m2_history::orders_give_points;
-use m2_links_go_on::{links_go_on, staying_goes_on};
-use m2_links_go_on::logged_are_heard;
+use m2_dispatch::Dispatcher;
+use m2_history::{
+    orders_give_points, records_are_sides, woven_comes_in_order, woven_is_delivered,
+    woven_is_never_reset,
+};
+use m2_links_go_on::{links_go_on, logged_are_heard, staying_goes_on};
 use m2_weave::{all_read_was_written, asks_come_first};
-use m2_history::{records_are_sides, woven_comes_in_order, woven_is_delivered, woven_is_never_reset};
 
 /// Two records of two nodes of a run that are towards each other are a link, with the halves of either node that no
 /// record took: each half was told what the record beside it has judged, and no two ends are one.

@@ -2,14 +2,15 @@
 
 ghost use Rattle.m2_promise.specs.KeepingLaws as laws;
 
-use crate::{clusters_hold_all, one_plan_acts, one_turn_acts};
-use m2_links_go_on::{
-    plan_stays_unused, told_cluster_stays_judged, told_cluster_stays_own, turn_stays_unused,
+use crate::{
+    clusters_hold_all, deeds_keep_nodes, hearing_stays_at, one_plan_acts, one_turn_acts,
+    plans_go_on_further, rest_stays, told_nodes_hear,
 };
 use m2_dispatch::Dispatcher;
 use m2_fabric::End;
-use crate::{hearing_stays_at, rest_stays, told_nodes_hear};
-use crate::{deeds_keep_nodes, plans_go_on_further};
+use m2_links_go_on::{
+    plan_stays_unused, told_cluster_stays_judged, told_cluster_stays_own, turn_stays_unused,
+};
 use m2_script::scripts_are_within;
 
 /// Behind a deed a run keeps what it kept: it is at rest, where a node acts as where something passes; and so is each

@@ -3,12 +3,11 @@
 
 ghost use Rattle.m2_promise.specs.PassingLaws as laws;
 
-use m2_links_go_on::told_cluster_is_same;
+use crate::{acting_keeps_orders, acting_keeps_running};
 use m2_growth::{
     calls_keep_ends, faults_stay_met, flows_stay_met, meetings_stay_met, turns_keep_ends,
 };
-use crate::{acting_keeps_orders, acting_keeps_running};
-use m2_links_go_on::woven_stays;
+use m2_links_go_on::{told_cluster_is_same, woven_stays};
 
 /// Nodes of a cluster with the same rest hold the same, but for what their ends were told.
 pub fn told_nodes_hear<D>()

@@ -3,8 +3,7 @@
 
 ghost use Rattle.m2_promise.specs.RunLaws as laws;
 
-use m2_growth::arrivals_are_the_openers;
-use m2_growth::{turns_stay_in_step, turns_stay_met};
+use m2_growth::{arrivals_are_the_openers, turns_stay_in_step, turns_stay_met};
 use m2_links_go_on::{links_are_woven, links_go_on, staying_goes_on};
 
 /// Where a node acts, what holds always holds still: each ask that was judged came of the record's peer, since what

@@ -3,10 +3,12 @@
 
 ghost use Rattle.m2_promise.specs.StartLaws as laws;
 
-use crate::{beginnings_have_orders, beginnings_run, new_centers_are_new, new_clusters_begin};
+use crate::{
+    beginnings_have_orders, beginnings_run, new_centers_are_new, new_clusters_begin,
+    scripts_can_be_done, scripts_stay_kept,
+};
 use m2_dispatch::LogDispatcher;
 use m2_fabric::Port;
-use crate::{scripts_can_be_done, scripts_stay_kept};
 use m2_links_go_on::begin_logged;
 
 /// The nodes of a valid scenario before its first line keep all that a script's run keeps.

@@ -1,13 +1,13 @@
 //! Frames of answers, cookies and dials.
 
 use m2_addr::Addr;
-use m2_session::{
-    AskFacts, Carried, CookieParts, Speaker, cookie_of, dials, event_of, frame_of, judge,
-};
 use m2_bytes::NoMemory;
 use m2_control::Control;
 use m2_policy::{lossless_peer, stateful_server};
-use m2_session::{Answer, Event, Phase, Session};
+use m2_session::{
+    Answer, AskFacts, Carried, CookieParts, Event, Phase, Session, Speaker, cookie_of, dials,
+    event_of, frame_of, judge,
+};
 use std::test::Fail;
 
 const SPEAKER: Speaker = Speaker {

@@ -1,8 +1,7 @@
 //! Texts of an independent program, the answers of a decoder, and frames near their bounds.
 
 use m2_bytes::{Blob, NoMemory};
-use m2_frame::{CONTROL_LIMIT, Decoder, Frame, FrameFault, Got, Preamble, encode, fits};
-use m2_frame::Tag;
+use m2_frame::{CONTROL_LIMIT, Decoder, Frame, FrameFault, Got, Preamble, Tag, encode, fits};
 use std::alloc::Global;
 use std::test::*;
 

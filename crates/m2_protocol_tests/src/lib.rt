@@ -38,5 +38,3 @@ mod policy;
 mod session;
 #[cfg(test)]
 mod tag;
-
-

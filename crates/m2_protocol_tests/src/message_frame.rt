@@ -1,10 +1,8 @@
 //! The header of a message from outside, and a message and its copy through a frame.
 
 use m2_bytes::{Blob, NoMemory};
-use m2_frame::Frame;
-use m2_message::{Header, Message};
-use m2_message::{HEADER_BYTES, MessageFault, from_frame, to_frame};
-use m2_frame::Tag;
+use m2_frame::{Frame, Tag};
+use m2_message::{HEADER_BYTES, Header, Message, MessageFault, from_frame, to_frame};
 use std::alloc::Global;
 use std::test::Fail;
 

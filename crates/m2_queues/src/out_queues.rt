@@ -6,10 +6,10 @@ ghost use Rattle.m2_message.specs.Message.{content_of};
 ghost use Rattle.m2_queues.specs.Due.{number_due, content_due};
 ghost use Rattle.m2_queues.specs.OutQueues.{new_queue, after_post, next_number, after_next, after_sent, after_acked, after_requeue, after_discard, after_renumber, message_at, waits, unsent, last_number, IsNumbered};
 
+use crate::PriorityQueue;
 use crate::due::Due;
 use m2_bytes::NoMemory;
 use m2_message::Message;
-use crate::PriorityQueue;
 use std::alloc::Global;
 use std::collections::VecDeque;
 use std::marker::Model;

@@ -6,10 +6,9 @@ ghost use Rattle.m2_journal.specs.Lawful.{judged_on};
 ghost use Rattle.m2_record.specs.AsksJudged.{judged_by};
 ghost use Rattle.m2_record.specs.TakenTrails.{judgements_in};
 
-use m2_session::AskFacts;
 use m2_fabric::SocketId;
 use m2_journal::{Entry, JudgedItem};
-use m2_session::Answer;
+use m2_session::{Answer, AskFacts};
 
 /// What is left of judged asks behind those that a journal has judged on a socket; none where the first ones
 /// aren't these, in this order.

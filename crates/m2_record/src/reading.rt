@@ -10,12 +10,10 @@ ghost use Rattle.m2_record.specs.Reading.{IsReadCounted, Reads, ReadsFeedOnce, a
 use crate::leaving::put_closed;
 use crate::record::Record;
 use crate::stepped::Stepped;
-use m2_core::CoreRead;
+use m2_core::{Aftermath, CoreRead, Waits};
 use m2_fabric::{End, EndRead, SocketId};
-use m2_feed::WireFault;
-use m2_feed::{AnswerFault, Heard};
+use m2_feed::{AnswerFault, Heard, WireFault};
 use m2_journal::{Entry, EntryList, NodeFacts};
-use m2_core::{Aftermath, Waits};
 use m2_session::Phase;
 use m2_shared::{NumberPass, Numbers, TakePass, Throttle};
 

@@ -17,9 +17,8 @@ use crate::stepped::Stepped;
 use crate::work::Work;
 use m2_bytes::NoMemory;
 use m2_fabric::End;
-use m2_feed::FeedWrite;
+use m2_feed::{FeedWrite, WireFault};
 use m2_handshake::HalfStep;
-use m2_feed::WireFault;
 use m2_shared::{NumberPass, Numbers, TakePass, Throttle};
 
 impl<E: End> Record<E> {

@@ -4,13 +4,12 @@ use crate::driving::{ALL, pair, ready};
 use m2_bytes::Blob;
 use m2_control::ControlFault;
 use m2_fabric::{End, News};
-use m2_frame::{Frame, FrameFault, encode, fits};
-use m2_handshake::HalfFault;
 use m2_feed::WireFault;
+use m2_frame::{Frame, FrameFault, Tag, encode, fits};
+use m2_handshake::HalfFault;
 use m2_journal::PlanStep;
 use m2_message::MessageFault;
 use m2_record_trace::{Pair, SideStep, Which};
-use m2_frame::Tag;
 use std::alloc::Global;
 
 /// The text of a frame; nothing where it has none or memory runs out.

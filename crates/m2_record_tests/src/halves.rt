@@ -4,10 +4,8 @@ ghost use Rattle.std.specs.Prelude.{◌≡◌, []};
 
 use crate::planned::at;
 use m2_addr::Addr;
-use m2_center::{home, leave_all};
-use m2_fabric::{Port, SocketId};
-use m2_fabric::{SimEnd, SimPort};
-use m2_center::{Accepted, MOST_HALVES, Pendings, accept_all, half_log};
+use m2_center::{Accepted, MOST_HALVES, Pendings, accept_all, half_log, home, leave_all};
+use m2_fabric::{Port, SimEnd, SimPort, SocketId};
 use m2_trail::Loose;
 use std::alloc::Global;
 use std::process::Abort;

@@ -11,14 +11,13 @@ ghost use Rattle.m2_record.specs.IsRecord.{CanBePlanned};
 
 use m2_addr::Addr;
 use m2_bytes::Blob;
-use m2_fabric::{News, SocketId};
+use m2_fabric::{News, SimEnd, SocketId};
 use m2_handshake::HalfStep;
 use m2_journal::{Entry, NodeFacts, PlanStep};
 use m2_message::{Header, Message};
 use m2_policy::{FastSet, lossless_peer};
 use m2_record::{Due, Framed, Record};
 use m2_shared::{TakePass, Throttle};
-use m2_fabric::SimEnd;
 use std::alloc::Global;
 use std::process::Abort;
 

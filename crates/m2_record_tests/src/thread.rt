@@ -7,14 +7,13 @@ ghost use Rattle.m2_center.specs.Outbox.{OwnsAll};
 ghost use Rattle.m2_record.specs.Calls.{Owns};
 
 use crate::planned::{at, facts, plans};
+use m2_center::{Outbox, RecordTurn, connect_if_due, turn_record};
 use m2_dispatch::LogDispatcher;
-use m2_fabric::{End, Port};
+use m2_fabric::{End, Port, SimEnd, SimPort};
 use m2_journal::PlanStep;
 use m2_policy::lossless_peer;
 use m2_record::{Record, Work};
 use m2_shared::{NumberPass, Numbers, TakePass, Throttle};
-use m2_fabric::{SimEnd, SimPort};
-use m2_center::{Outbox, RecordTurn, connect_if_due, turn_record};
 use std::alloc::Global;
 use std::process::Abort;
 

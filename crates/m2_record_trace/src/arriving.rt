@@ -6,9 +6,8 @@ ghost use Rattle.m2_record_trace.specs.SideNow.{OnlyArrives, OnlyJudges};
 use crate::judging::HalfLeft;
 use crate::side::{Side, put};
 use m2_bytes::NoMemory;
-use m2_trail::{HalfTurn, advance};
 use m2_fabric::SimEnd;
-use m2_trail::{Arrival, Incoming};
+use m2_trail::{Arrival, HalfTurn, Incoming, advance};
 
 /// How many asks of a half are judged in one turn at most.
 const MOST_ASKS: u32 = 1_000;

@@ -13,10 +13,9 @@ ghost use Rattle.m2_record_trace.specs.Sockets.{is_one};
 
 use crate::side::Side;
 use m2_bytes::NoMemory;
-use m2_fabric::{End, SocketId};
+use m2_fabric::{End, SimEnd, SocketId};
 use m2_journal::Entry;
 use m2_record::{Due, Record};
-use m2_fabric::SimEnd;
 use m2_trail::Incoming;
 
 impl Side {

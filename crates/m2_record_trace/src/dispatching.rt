@@ -8,12 +8,11 @@ ghost use Rattle.m2_record.specs.Stepping.{IsHandedOwned, StepsAs};
 ghost use Rattle.m2_record_trace.specs.Steps.{fast_at, fast_by, fast_of, given_back, call_of, queued_at, queued_by, queued_of, side_step};
 
 use crate::step::SideStep;
-use m2_dispatch::{Logged, LoggedList};
-use m2_dispatch::{Letter, Parcel};
+use m2_dispatch::{Letter, Logged, LoggedList, Parcel};
+use m2_fabric::SimEnd;
 use m2_policy::Path;
 use m2_record::{Record, Stepped, Work};
 use m2_shared::{NumberPass, Numbers, TakePass, Throttle};
-use m2_fabric::SimEnd;
 
 /// Takes the first step of a record that is due. A parcel that it hands out was granted by this throttle.
 pub(crate) fn step_record(

@@ -1,9 +1,9 @@
 //! What the instructions of a schedule do.
 
+use crate::{Connecting, Pair, Which};
 use m2_bytes::NoMemory;
 use m2_fabric::News;
 use m2_journal::PlanStep;
-use crate::{Connecting, Pair, Which};
 use m2_scenario_text::{Instruction, SideName};
 
 /// How many steps a turn takes at most.

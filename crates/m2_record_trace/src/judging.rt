@@ -12,13 +12,12 @@ ghost use Rattle.m2_record_trace.specs.SideNow.{OnlyJudges};
 
 use crate::connecting::has_end;
 use crate::side::Side;
-use m2_fabric::SocketId;
+use m2_fabric::{SimEnd, SocketId};
 use m2_handshake::IdentCheck;
 use m2_journal::{Entry, JudgedItem};
 use m2_record::{Judged, behind_judged};
 use m2_session::Answer;
 use m2_shared::Draw;
-use m2_fabric::SimEnd;
 use m2_trail::{Arrival, Incoming, Loose, reply_to};
 
 /// What is left of a half.

@@ -3,10 +3,10 @@
 ghost use Rattle.std.specs.Prelude.{◌≤◌};
 ghost use Rattle.m2_shared.specs.declared.limits.TheConstants.{MOST_TAKEN};
 
+use crate::{Pair, Side};
 use m2_addr::Addr;
 use m2_journal::NodeFacts;
 use m2_policy::{FastSet, Policy};
-use crate::{Pair, Side};
 use m2_scenario_text::PairFacts;
 use m2_shared::MOST_TAKEN;
 use std::alloc::Global;

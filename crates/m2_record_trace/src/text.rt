@@ -7,10 +7,10 @@ ghost use Rattle.m2_record_trace.specs.Trace.{composed_line, did_lines, ends_lin
 ghost use Rattle.m2_trace.specs.Ends.{end_lines, trail_lines};
 ghost use Rattle.m2_trail.specs.Trails.{trail_now};
 
-use m2_bytes::{Blob, NoMemory};
-use m2_record::Record;
 use crate::{Pair, Side, Which, Wire};
+use m2_bytes::{Blob, NoMemory};
 use m2_fabric::SimEnd;
+use m2_record::Record;
 use m2_trace::{
     put_bytes, put_end, put_flag, put_handed, put_head, put_journal, put_number, put_plan,
     put_session, put_socket, put_start, put_trail,

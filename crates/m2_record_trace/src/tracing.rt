@@ -6,10 +6,10 @@ ghost use Rattle.m2_record_trace.specs.Tracing.{AreRecords, IsTraceOfRecords, Tr
 use crate::driving::{Undone, drive};
 use crate::sides::pair_of;
 use crate::text::put_trace;
-use m2_bytes::{Blob, NoMemory};
 use crate::{Pair, Which};
-use m2_scenario_text::{BadSchedule, Order, OrderList, PairFacts, Schedule, read_schedule};
+use m2_bytes::{Blob, NoMemory};
 use m2_scenario::Kind;
+use m2_scenario_text::{BadSchedule, Order, OrderList, PairFacts, Schedule, read_schedule};
 use std::alloc::Global;
 
 /// Why a text has no trace.

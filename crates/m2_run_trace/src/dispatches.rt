@@ -10,8 +10,7 @@ use crate::telling::{Calls, Teller};
 use crate::words::name_of;
 use m2_bytes::{Blob, NoMemory};
 use m2_dispatch::Logged;
-use m2_scenario::{put_dispatch, put_reset};
-use m2_scenario::Node;
+use m2_scenario::{Node, put_dispatch, put_reset};
 
 /// Appends the next of the calls that aren't told yet, if there is one.
 pub(crate) fn put_next(

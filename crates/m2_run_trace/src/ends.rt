@@ -10,9 +10,8 @@ use crate::telling::Teller;
 use crate::words::{begin_trail, put_moved, put_with_socket};
 use m2_bytes::{Blob, NoMemory};
 use m2_fabric::{EndLog, Run, SocketId};
-use m2_scenario::Node;
+use m2_scenario::{Node, prefix};
 use m2_trace::put_bytes;
-use m2_scenario::prefix;
 
 /// Appends that bytes were read, and how many.
 #[tactic(auto, unfolding(crate::specs::Ends::read_words))]

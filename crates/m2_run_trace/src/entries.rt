@@ -15,13 +15,12 @@ use crate::ends::{put_closed, put_read, put_wrote};
 use crate::lists::behind;
 use crate::telling::{Calls, Teller};
 use crate::words::{begin_journal, put_with_socket};
-use m2_session::AskFacts;
 use m2_bytes::{Blob, NoMemory};
 use m2_fabric::{EndLog, SocketId};
 use m2_journal::{Entry, EntryList};
 use m2_policy::Path;
 use m2_scenario::Node;
-use m2_session::Answer;
+use m2_session::{Answer, AskFacts};
 use m2_trace::{put_ask_and_answer, put_entry_words, put_number};
 
 /// Appends the entries of a journal from one place to another, each with the dispatch of a fast kind that goes with it.

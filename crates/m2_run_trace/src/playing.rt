@@ -10,8 +10,8 @@ ghost use Rattle.m2_scenario.specs.Text.{pieces};
 
 use crate::script::{put_step, put_until_step};
 use crate::stage::{MemoryRun, Scene, Stage};
-use m2_bytes::NoMemory;
 use crate::{Marks, put_news, put_settle, put_turn, sockets_left};
+use m2_bytes::NoMemory;
 use m2_scenario::{Line, LineList, Link};
 use std::alloc::Global;
 

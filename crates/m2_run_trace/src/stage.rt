@@ -4,10 +4,9 @@ ghost use Rattle.std.specs.Prelude.{◌≡◌, length};
 ghost use Rattle.m2_run_trace.specs.Acts.{first_stage};
 
 use m2_bytes::{Blob, Items};
-use m2_fabric::SocketIdList;
+use m2_fabric::{CutPort, SimPort, SocketIdList};
 use m2_scenario::{Link, Node};
 use m2_script::Run;
-use m2_fabric::{CutPort, SimPort};
 use std::alloc::Global;
 use std::marker::Model;
 

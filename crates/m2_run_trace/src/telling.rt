@@ -6,11 +6,9 @@ ghost use Rattle.m2_run_trace.specs.Telling.{log_in, seen_log, telling_at};
 use crate::lists::at;
 use m2_center::Center;
 use m2_cluster::Cluster;
-use m2_dispatch::Logged;
-use m2_dispatch::LogDispatcher;
-use m2_fabric::{EndLog, SocketId};
+use m2_dispatch::{LogDispatcher, Logged};
+use m2_fabric::{CutPort, EndLog, SimPort, SocketId};
 use m2_scenario::Node;
-use m2_fabric::{CutPort, SimPort};
 use std::marker::Model;
 
 /// Nodes in memory.

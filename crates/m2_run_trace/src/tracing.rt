@@ -11,14 +11,11 @@ ghost use Rattle.m2_scenario.specs.Text.{pieces};
 use crate::playing::play_all;
 use crate::stage::{MemoryRun, Scene, Stage};
 use m2_bytes::{Blob, NoMemory};
-use m2_script::{addresses, clear_all, cluster_of};
-use m2_scenario::{Line, LineList, Link, Node, Scenario};
-use m2_scenario_text::{BadScenario, read};
-use m2_script::Run;
-use m2_fabric::{CutPort, SimPort};
-use m2_fabric::SimFabric;
+use m2_fabric::{CutPort, SimFabric, SimPort};
 use m2_promise::first_can_be_done;
-use m2_scenario::Kind;
+use m2_scenario::{Kind, Line, LineList, Link, Node, Scenario};
+use m2_scenario_text::{BadScenario, read};
+use m2_script::{Run, addresses, clear_all, cluster_of};
 use std::alloc::Global;
 
 /// Why a text has no trace.

@@ -9,9 +9,9 @@ ghost use Rattle.m2_scenario.specs.Cluster.{all_pairs};
 ghost use Rattle.m2_scenario.specs.Draft.{are_joined};
 
 use crate::draws::Draws;
+use crate::posted;
 use m2_bytes::{Blob, NoMemory};
 use m2_message::Message;
-use crate::posted;
 use std::alloc::Global;
 
 /// The priorities of posts.

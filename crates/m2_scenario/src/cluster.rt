@@ -7,10 +7,10 @@ ghost use Rattle.m2_scenario.specs.Draft.{is_named, is_at, are_joined, with_node
 ghost use Rattle.m2_scenario.specs.Valid.{IsLink, HasCenters, HasMsgr2};
 ghost use Rattle.m2_scenario.specs.Cluster.{osd, osds, peers, all_pairs};
 
+use crate::{Draft, Link, Name, Node};
 use m2_addr::Addr;
 use m2_bytes::NoMemory;
 use m2_policy::lossless_peer;
-use crate::{Draft, Link, Name, Node};
 use std::alloc::Global;
 
 /// Ceph's number of an entity that is an osd.

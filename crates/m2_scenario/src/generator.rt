@@ -8,8 +8,8 @@ ghost use Rattle.m2_scenario.specs.Generated.{generated};
 use crate::cluster::cluster;
 use crate::draws::Draws;
 use crate::lines::{LAST_ROUNDS, push_lines};
-use m2_bytes::NoMemory;
 use crate::{Line, MOST_POSTS, Scenario};
+use m2_bytes::NoMemory;
 use std::alloc::Global;
 
 /// The scenario of so many posts that a seed determines. Err comes for want of memory.

@@ -11,8 +11,8 @@ ghost use Rattle.m2_scenario.specs.Generated.{is_faulted, fault_after, settle_by
 
 use crate::choices::{message, nodes};
 use crate::draws::Draws;
-use m2_bytes::NoMemory;
 use crate::{Draft, Line, MOST_FAULTS, MOST_POSTS};
+use m2_bytes::NoMemory;
 use std::alloc::Global;
 
 /// Each so many posts a fault follows.

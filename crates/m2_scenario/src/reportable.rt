@@ -11,10 +11,10 @@ ghost use Rattle.m2_scenario.specs.Printed.{PrintAlike, message_of, printed_of};
 
 use crate::report_laws::reports_are_read_in_one_way;
 use crate::reports::LogsList;
+use crate::{Node, Scenario};
 use m2_dispatch::{Logged, LoggedList};
 use m2_message::Message;
 use m2_policy::Key;
-use crate::{Node, Scenario};
 
 /// A report tells what was heard. Where the logs of two runs of a valid scenario print one text, each
 /// node's dispatchers were called alike in both, call by call, in all that a line prints.

@@ -11,12 +11,12 @@ ghost use Rattle.m2_scenario.specs.Valid.{IsValid};
 ghost use Rattle.m2_scenario.specs.Report.{path_word, dispatch_line, reset_line, line_of, is_reset_by, path_rank, rank_of, sorted_of};
 ghost use Rattle.m2_scenario.specs.Report.{name_of, node_lines, report_of, told_by, heard_in, IsPeerAmong, IsOfNodes, AreLogsOf};
 
+use crate::{Node, Scenario};
 use m2_bytes::{Blob, Items, NoMemory, put_decimal, put_hex};
 use m2_dispatch::{Logged, LoggedList};
 use m2_message::Message;
 use m2_policy::{Key, Path};
 use m2_queues::sort_by_rank;
-use crate::{Node, Scenario};
 use std::alloc::Global;
 
 /// For each node of a scenario, in its order, what its dispatchers were called with.

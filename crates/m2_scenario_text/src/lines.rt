@@ -12,11 +12,12 @@ ghost use Rattle.m2_scenario.specs.Text.{word};
 
 use crate::schedule::{Instruction, PairFacts, Schedule, SideName};
 use crate::verb::Verb;
+use crate::{LEAST_PRIORITY, MOST_PRIORITY};
 use m2_message::Message;
 use m2_policy::{Policy, is_allowed};
-use m2_scenario::{MOST_PART_BYTES, posted};
-use crate::{LEAST_PRIORITY, MOST_PRIORITY};
-use m2_scenario::{Kind, LineFault, Words, check, read_bytes, read_number};
+use m2_scenario::{
+    Kind, LineFault, MOST_PART_BYTES, Words, check, posted, read_bytes, read_number,
+};
 use std::alloc::Global;
 
 /// The most bytes that a throttle of a side lets in.

@@ -7,8 +7,7 @@ ghost use Rattle.m2_scenario_text.specs.LinkLine.{link_line};
 use crate::pair::place;
 use crate::vocabulary::policy;
 use m2_policy::is_allowed;
-use m2_scenario::{Draft, Link, MOST_LINKS};
-use m2_scenario::{Kind, LineFault, Words, check};
+use m2_scenario::{Draft, Kind, LineFault, Link, MOST_LINKS, Words, check};
 
 #[tactic(auto, unfolding(crate::specs::LinkLine::link_line))]
 pub(crate) fn link_line(draft: &mut Draft, mut words: Words<'_>) -> Result<(), LineFault>

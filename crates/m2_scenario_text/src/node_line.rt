@@ -7,8 +7,9 @@ ghost use Rattle.m2_scenario_text.specs.NodeLine.{node_of, node_line};
 
 use crate::node_option::{are_once, options, set_options};
 use crate::vocabulary::entity;
-use m2_scenario::{Draft, MOST_NODES, Name, Node};
-use m2_scenario::{Kind, LineFault, Words, check, is_name, read_address};
+use m2_scenario::{
+    Draft, Kind, LineFault, MOST_NODES, Name, Node, Words, check, is_name, read_address,
+};
 use std::alloc::Global;
 
 // The node that the words describe, wherever it stands.

@@ -7,8 +7,7 @@ ghost use Rattle.m2_scenario.specs.Valid.{HasCenters};
 ghost use Rattle.m2_scenario_text.specs.NodeOption.{row_of, number_of_option, repeats, are_once, options_in, with_option, set_option, set_options, OptionsRead};
 
 use crate::vocabulary::kinds;
-use m2_scenario::{MOST_CENTERS, Node};
-use m2_scenario::{Kind, LineFault, Words, read_number};
+use m2_scenario::{Kind, LineFault, MOST_CENTERS, Node, Words, read_number};
 use std::alloc::Global;
 
 /// What an option sets.

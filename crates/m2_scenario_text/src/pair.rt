@@ -4,8 +4,7 @@ ghost use Rattle.std.specs.Prelude.{◌≡◌, ◌<◌, ◌≤◌, IfOk, length,
 ghost use Rattle.m2_scenario.specs.Text.{word};
 ghost use Rattle.m2_scenario_text.specs.Pair.{place_of, pair_of, AreJoined};
 
-use m2_scenario::Draft;
-use m2_scenario::{Kind, Words, check};
+use m2_scenario::{Draft, Kind, Words, check};
 
 /// The place of the node of this name.
 pub(crate) fn place(draft: &Draft, name: &[u8]) -> Result<u32, Kind>

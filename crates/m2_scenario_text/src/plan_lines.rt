@@ -10,8 +10,10 @@ ghost use Rattle.m2_scenario_text.specs.Pair.{AreJoined};
 
 use crate::pair::pair;
 use m2_message::Message;
-use m2_scenario::{Draft, Line, MOST_PART_BYTES, MOST_POSTS, posted};
-use m2_scenario::{Kind, LineFault, Words, check, read_bytes, read_number};
+use m2_scenario::{
+    Draft, Kind, Line, LineFault, MOST_PART_BYTES, MOST_POSTS, Words, check, posted, read_bytes,
+    read_number,
+};
 use std::alloc::Global;
 
 /// The least priority that a post may have.

@@ -15,8 +15,9 @@ use crate::node_line::node_line;
 use crate::plan_lines::{dial_line, down_line, post_line};
 use crate::run_lines::{limit_line, off_line};
 use crate::sim_lines::{cut_line, fault_line, flow_line, settle_line, turn_line};
-use m2_scenario::{Draft, Scenario};
-use m2_scenario::{Kind, LineFault, Words, check, cut, is_clean, prefix, words_in};
+use m2_scenario::{
+    Draft, Kind, LineFault, Scenario, Words, check, cut, is_clean, prefix, words_in,
+};
 use std::alloc::Global;
 
 /// A scenario's text has at most so many bytes; [`read`] refuses the line in which the next stands.

@@ -5,8 +5,7 @@ ghost use Rattle.m2_scenario_text.specs.Taking.{Takes};
 ghost use Rattle.m2_scenario_text.specs.RunLines.{off_line, limit_line};
 
 use crate::pair::place;
-use m2_scenario::Draft;
-use m2_scenario::{Kind, LineFault, Words, check, read_number};
+use m2_scenario::{Draft, Kind, LineFault, Words, check, read_number};
 
 /// A run may take at most so many milliseconds.
 pub const MOST_LIMIT: u64 = 60_000;

@@ -8,11 +8,11 @@ ghost use Rattle.m2_scenario_text.specs.ScheduleReading.{LineRead, Reads, by_ver
 ghost use Rattle.m2_scenario_text.specs.Schedule.{draft_of, no_lines};
 ghost use Rattle.m2_scenario.specs.Text.{pieces};
 
+use crate::MOST_BYTES;
 use crate::bad_schedule::BadSchedule;
 use crate::lines::{deed, pair_line};
 use crate::schedule::{Order, Schedule};
 use crate::verb::Verb;
-use crate::MOST_BYTES;
 use m2_bytes::Items;
 use m2_scenario::{Kind, LineFault, Words, check, cut, is_clean, prefix, words_in};
 use std::alloc::Global;

@@ -5,8 +5,10 @@ ghost use Rattle.m2_scenario_text.specs.Taking.{Takes};
 ghost use Rattle.m2_scenario_text.specs.SimLines.{flow_of, fault_of, cut_line, turn_line, flow_line, fault_line, settle_line};
 
 use crate::pair::{pair, place};
-use m2_scenario::{Draft, Line, MOST_BYTES_BEFORE_CUT, MOST_CUTS, MOST_FAULTS, MOST_ROUNDS};
-use m2_scenario::{Kind, LineFault, Words, check, read_number};
+use m2_scenario::{
+    Draft, Kind, Line, LineFault, MOST_BYTES_BEFORE_CUT, MOST_CUTS, MOST_FAULTS, MOST_ROUNDS,
+    Words, check, read_number,
+};
 
 /// One `settle` line has at most so many rounds.
 pub const MOST_ROUNDS_OF_A_LINE: u64 = 10_000;

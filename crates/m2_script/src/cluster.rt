@@ -11,8 +11,8 @@ use m2_bytes::NoMemory;
 use m2_cluster::Cluster;
 use m2_dispatch::LogDispatcher;
 use m2_edge::{CountWords, Words};
-use m2_scenario::{Line, Link, Node};
 use m2_fabric::{CutPort, SimPort};
+use m2_scenario::{Line, Link, Node};
 use std::alloc::Global;
 
 /// All nodes in memory.

@@ -5,8 +5,8 @@ ghost use Rattle.std.specs.Option.{option_to_list};
 ghost use Rattle.m2_script.specs.Nodes.{cut_in, cuts_of};
 
 use m2_bytes::{Items, NoMemory};
-use m2_scenario::{Line, Node};
 use m2_fabric::{Cut, CutList};
+use m2_scenario::{Line, Node};
 use std::alloc::Global;
 
 /// The cut that a line tells, if it is of a socket that the node of this number opens.

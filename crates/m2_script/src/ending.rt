@@ -5,8 +5,7 @@ ghost use Rattle.m2_script.specs.Ended.{both_in, both_of};
 
 use m2_bytes::NoMemory;
 use m2_cluster::{Cluster, Node};
-use m2_dispatch::Logged;
-use m2_dispatch::LogDispatcher;
+use m2_dispatch::{LogDispatcher, Logged};
 use m2_fabric::Port;
 use std::alloc::Global;
 

@@ -9,10 +9,9 @@ use crate::calls::{TurnCalls, TurnCallsList};
 use m2_bytes::NoMemory;
 use m2_cluster::Cluster;
 use m2_dispatch::LogDispatcher;
-use m2_fabric::{MemoryEnd, MemoryPort, Port};
+use m2_fabric::{MemoryEnd, MemoryPort, Port, SimFabric};
 use m2_journal::PlanStep;
 use m2_scenario::{Line, LineList, Link};
-use m2_fabric::SimFabric;
 use std::alloc::Global;
 use std::marker::Model;
 

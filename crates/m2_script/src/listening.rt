@@ -4,8 +4,8 @@ ghost use Rattle.std.specs.Prelude.{◌≡◌, IfOk, length, map};
 ghost use Rattle.m2_script.specs.Nodes.{address_of};
 
 use m2_bytes::{Items, NoMemory};
-use m2_scenario::Node;
 use m2_fabric::AddrList;
+use m2_scenario::Node;
 use std::alloc::Global;
 
 /// The nodes' addresses, in order.

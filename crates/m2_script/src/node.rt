@@ -10,14 +10,14 @@ ghost use Rattle.m2_scenario.specs.Valid.{IsSound};
 ghost use Rattle.m2_shared.specs.Throttle.{bound_of};
 
 use crate::cuts::cuts_of;
+use crate::records;
 use m2_bytes::NoMemory;
 use m2_center::{Center, NodeShared, Passes, Unmade};
 use m2_dispatch::LogDispatcher;
+use m2_fabric::{CutEnd, CutPort, SimEnd, SimPort};
 use m2_record::Record;
 use m2_scenario::{Line, Link, Node};
-use crate::records;
 use m2_shared::{Numbers, Throttle};
-use m2_fabric::{CutEnd, CutPort, SimEnd, SimPort};
 use std::alloc::Global;
 
 /// A node in memory, whose sockets may break, and whose dispatchers log.

@@ -8,6 +8,7 @@ ghost use Rattle.m2_script.specs.Outcome.{all_heard, left_in};
 ghost use Rattle.m2_script.specs.Script.{RunNow};
 ghost use Rattle.m2_script.specs.Ended.{EndsWith};
 
+use crate::TurnCallsList;
 use crate::ending::end_all;
 use crate::left::left_over;
 use crate::turns::logs_of;
@@ -16,9 +17,7 @@ use m2_bytes::NoMemory;
 use m2_cluster::Cluster;
 use m2_dispatch::LogDispatcher;
 use m2_fabric::Port;
-use m2_scenario::LogsList;
-use m2_scenario::Link;
-use crate::TurnCallsList;
+use m2_scenario::{Link, LogsList};
 use std::alloc::Global;
 
 /// What came of a scenario: of each node, in the scenario's order, what its dispatchers were called with, in order;

@@ -9,11 +9,11 @@ ghost use Rattle.m2_script.specs.Outcome.{all_heard, in_turns, of_node};
 ghost use Rattle.m2_script.specs.Script.{RunNow};
 ghost use Rattle.m2_script.specs.Ended.{HeardBoth};
 
+use crate::TurnCalls;
 use crate::ending::BothLogs;
 use m2_bytes::{Items, NoMemory};
 use m2_dispatch::{Logged, LoggedList};
 use m2_scenario::LogsList;
-use crate::TurnCalls;
 use std::alloc::Global;
 use std::vec::IntoIter;
 

@@ -3,8 +3,8 @@
 ghost use Rattle.std.specs.Prelude.{◌≡◌};
 ghost use Rattle.m2_session.specs.Asks as asks;
 
-use m2_control::{ClientIdent, SessionReconnect};
 use crate::{Answer, Event, Session, judge_ident, judge_reconnect};
+use m2_control::{ClientIdent, SessionReconnect};
 
 /// The numbers of an ask: what the judges take.
 #[derive(Clone, Copy, Debug, PartialEq, Eq)]

@@ -3,12 +3,12 @@
 ghost use Rattle.std.specs.Prelude.{◌≡◌, IfOk, OnErr, true};
 ghost use Rattle.m2_session.specs.Frames as frames;
 
+use crate::Answer;
 use m2_addr::{Addr, AddrVec};
 use m2_bytes::NoMemory;
 use m2_control::{
     Control, ServerIdent, SessionReconnectOk, SessionReset, SessionRetry, SessionRetryGlobal, Wait,
 };
-use crate::Answer;
 use std::alloc::Global;
 
 /// What a node says of itself to another in an ident.

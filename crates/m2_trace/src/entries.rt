@@ -6,12 +6,11 @@ ghost use Rattle.m2_trace.specs.Entries.{ask_name, cookies_words, counts_words, 
 ghost use Rattle.m2_trace.specs.Words.{key_words, number_word, socket_word};
 
 use crate::words::{put_head, put_key, put_number, put_socket};
-use m2_session::AskFacts;
 use m2_bytes::{Blob, NoMemory};
 use m2_fabric::SocketId;
 use m2_journal::Entry;
 use m2_policy::Key;
-use m2_session::Answer;
+use m2_session::{Answer, AskFacts};
 
 #[tactic(auto, unfolding(crate::specs::Entries::ask_name))]
 fn put_ask_name(out: &mut Blob, ident: bool) -> Result<(), NoMemory>

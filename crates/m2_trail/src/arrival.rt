@@ -19,13 +19,12 @@ use crate::loose::Loose;
 use crate::replies::reply_to;
 use crate::trail::Trail;
 use m2_addr::Addr;
-use m2_session::AskFacts;
 use m2_bytes::NoMemory;
 use m2_fabric::{End, News, SocketId};
 use m2_frame::Decoder;
 use m2_handshake::{Ask, IdentCheck, check_ident};
 use m2_policy::Policy;
-use m2_session::Answer;
+use m2_session::{Answer, AskFacts};
 use m2_shared::Item;
 use std::marker::Model;
 

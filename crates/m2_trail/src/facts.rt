@@ -3,8 +3,8 @@
 ghost use Rattle.std.specs.Prelude.{◌≡◌};
 ghost use Rattle.m2_trail.specs.Asks as asks;
 
-use m2_session::{AskFacts, facts_of_ident, facts_of_reconnect};
 use m2_handshake::Ask;
+use m2_session::{AskFacts, facts_of_ident, facts_of_reconnect};
 
 /// The numbers of an ask, as the judges take them.
 pub fn facts_of_ask(ask: &Ask) -> AskFacts

@@ -4,8 +4,8 @@ ghost use Rattle.std.specs.Prelude.{◌≡◌, ◌<◌, ◌≤◌, length};
 ghost use Rattle.m2_trail.specs.Turn.{AdvancesAs};
 
 use crate::turn_moves::{Outcome, move_on};
-use m2_fabric::End;
 use crate::{Incoming, MOST_READ};
+use m2_fabric::End;
 
 /// How many moves a half makes in a turn at most.
 pub const MOST_MOVES: u32 = 4096;

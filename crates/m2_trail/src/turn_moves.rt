@@ -3,8 +3,8 @@
 ghost use Rattle.std.specs.Prelude.{◌≡◌, ◌<◌, ◌≤◌, ℕ, List, None, length};
 ghost use Rattle.m2_trail.specs.TurnMoves.{MakesMove, answers, outcome_of, reads, writes};
 
-use m2_fabric::{End, EndRead, EndWrite};
 use crate::{Incoming, IncomingStep, MOST_READ};
+use m2_fabric::{End, EndRead, EndWrite};
 
 /// What comes of a move.
 #[derive(Clone, Copy, Debug, PartialEq, Eq)]

@@ -15,10 +15,10 @@ use crate::stopping::plus;
 use crate::strand::{Strand, StrandItem};
 use crate::table::{SocketTable, named_place, place_in, raise};
 use crate::tally::{read_by_halves, read_need, set_opened, unset, writes, zeros};
+use crate::{CountedEntry, Need};
 use m2_bytes::NoMemory;
 use m2_fabric::SocketId;
 use m2_journal::Entry;
-use crate::{CountedEntry, Need};
 use std::alloc::Global;
 
 /// What is counted of one strand after the other, of each socket of a table.

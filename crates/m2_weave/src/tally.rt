@@ -8,12 +8,12 @@ ghost use Rattle.m2_weave.specs.Strands.{opens, read_by, read_by_halves, strand_
 ghost use Rattle.m2_weave.specs.Table.{KeepsNumbers, KeepsOpened, got_at, names_of};
 ghost use Rattle.m2_weave.specs.Tally.{bytes_alone};
 
+use crate::Need;
 use crate::strand::{Strand, StrandItem};
 use crate::table::{SocketTable, got_at, named_place, piece, place_in, put_at, raise};
 use m2_bytes::NoMemory;
 use m2_fabric::SocketId;
 use m2_journal::Entry;
-use crate::Need;
 use std::alloc::Global;
 
 /// Adds what an item has read.

@@ -15,9 +15,9 @@ ghost use Rattle.m2_weave.specs.Tally.{CountsAre, IsClear};
 use crate::counts::Counts;
 use crate::strand::{Strand, StrandItem};
 use crate::table::SocketTable;
+use crate::{CountedStrand, merge};
 use m2_bytes::{Items, NoMemory};
 use m2_journal::Entry;
-use crate::{CountedStrand, merge};
 use std::alloc::Global;
 
 /// What a weaving found: the strands of the items, in the order in which they come; how many items of each
