@@ -1,6 +1,6 @@
 //! What a plan asks for.
 
-ghost use Rattle.std.specs.Prelude.{◌≡◌, ◌-◌, ℕ, Bool, Option, Some, true, false, option_map, OnErr, OnOk, max};
+ghost use Rattle.std.specs.Prelude.{◌≡◌, ◌-◌, ℕ, Bool, Option, Some, true, false, option_map, OnErr, OnOk};
 ghost use Rattle.m2_journal.specs.Items as item;
 ghost use Rattle.m2_journal.specs.Plan.{Planned, to_post};
 ghost use Rattle.m2_message.specs.Message.{content_of};
@@ -23,14 +23,6 @@ use m2_session::{Event, Phase};
 use m2_shared::{TakePass, Throttle};
 
 impl<E: End> Core<E> {
-    /// Makes room for so many posts.
-    pub fn reserve_posts(&mut self, n: u32) -> Result<(), NoMemory>
-        ensures ok { OnOk result (self.new ≡ record self.old { live = record self.old.live { out = record self.old.live.out { spare = max self.old.live.out.spare n } } }) }
-        ensures err { OnErr result (self.new ≡ self.old) }
-    {
-        self.live.out.reserve(n)
-    }
-
     /// Queues a copy of a message: the entry Post. Err for want of memory changes nothing.
     #[tactic(auto, using(crate::proofs::Agreeing::posted))]
     pub fn post(&mut self, message: &Message) -> Result<(), NoMemory>

@@ -28,8 +28,7 @@ use std::marker::Model;
 ///
 /// Readers: [`session`](Core::session), [`feed`](Core::feed), [`waits`](Core::waits),
 /// [`may_dial`](Core::may_dial), [`is_exhausted`](Core::is_exhausted). By the plan:
-/// [`reserve_posts`](Core::reserve_posts), [`post`](Core::post), [`dial`](Core::dial),
-/// [`down`](Core::down). The feed comes and goes: [`opened`](Core::opened), [`fault`](Core::fault).
+/// [`post`](Core::post), [`dial`](Core::dial), [`down`](Core::down). The feed comes and goes: [`opened`](Core::opened), [`fault`](Core::fault).
 /// Bytes: [`read`](Core::read), [`write`](Core::write). What was read: [`shake`](Core::shake),
 /// [`hearing`](Core::hearing), [`obey`](Core::obey), and [`next`](Core::next), which
 /// does what the front of the feed says by [`grant`](Core::grant), [`pass_frame`](Core::pass_frame),

@@ -10,7 +10,7 @@ ghost use Rattle.m2_handshake.specs.Ident.{server_check};
 ghost use Rattle.m2_message.specs.declared.header_text.TheConstants.{HEADER_BYTES};
 ghost use Rattle.m2_message.specs.HeaderText.{field, header_in};
 ghost use Rattle.m2_frame.specs.declared.tag.Tag.{Tag};
-ghost use Rattle.m2_feed.specs.FrameHeard.{answer_cause, checked_cause, heard_aborted, heard_ack, heard_as_answer, heard_control, heard_frame, heard_in_ready, heard_message, heard_numbers, heard_of_tag, heard_payload, ident_cause, may_come};
+ghost use Rattle.m2_feed.specs.FrameHeard.{answer_cause, checked_cause, heard_ack, heard_as_answer, heard_control, heard_frame, heard_in_ready, heard_message, heard_numbers, heard_of_tag, heard_payload, ident_cause, may_come};
 
 use crate::frame_heard::FrameHeard;
 use crate::hearer::Hearer;
@@ -41,16 +41,6 @@ pub fn hear(frame: &FrameView<'_>, hearer: &Hearer) -> FrameHeard
             }
         }
         None => FrameHeard::Fault(WireFault::Unexpected { tag: frame.tag }),
-    }
-}
-
-/// What a frame of this tag says that the peer gave up.
-pub fn hear_aborted(tag: u8, hearer: &Hearer) -> FrameHeard
-    ensures { result ≡ heard_aborted hearer.now tag }
-{
-    match hearer.phase {
-        Phase::Ready => FrameHeard::Nothing,
-        _ => FrameHeard::Fault(WireFault::Unexpected { tag }),
     }
 }
 

@@ -72,6 +72,6 @@ pub use front::heard_at_front;
 pub use heard::Heard;
 pub use hearer::Hearer;
 pub use hearing_answers::heard_in;
-pub use hearing_frames::{hear, hear_aborted};
+pub use hearing_frames::hear;
 pub use wire_fault::WireFault;
 pub use writing::Writing;
