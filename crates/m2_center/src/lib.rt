@@ -1,24 +1,20 @@
-//! The stages of an event thread's turn: what its halves and its records do in it.
+//! A center: an event thread of a node, as a value that takes turns.
 //!
-//! What it is: [`accept_all`] accepts the sockets that wait at the port; halves wait in [`Pendings`], in the order
-//! of their acceptance. In [`turn_half`] one moves on and is answered by the record that the [`Roster`] leads to
-//! ([`answer_half`], which looks at its ask, has it judged by [`judge_ask`] and replies by [`reply_owed`]), and in
-//! [`turn_halves`] all do. [`connect_if_due`] makes a record's connect at the port, [`turn_record`] takes the steps
-//! of a record that are due, and [`turn_each`] does both of all records. Their parcels go to the [`Outbox`]:
-//! letters of fast kinds are dispatched at once, all other parcels wait in the mail, which [`empty_mail`] puts into
-//! the node's queue. [`plan_at`] has a record do something, [`half_log`] and [`half_hears`] reach the ends of
-//! halves, and [`are_whole`] and [`halves_are_in_memory`] say what these keep. What it isn't: the thread itself, which is `m2_center`.
+//! What it is: [`Center`], which holds the records of a thread, the halves on sockets of peers and the port. Maker:
+//! [`Center::new`], of [`Unmade`]. [`Center::turn`] is one turn of all that it holds, [`Center::plan`] has a record do
+//! something, [`Center::parts`] lends what a record is, [`Center::idle`] says whether nothing is to be done, and
+//! [`Center::poll`] waits for it. [`home`] says at which of a node's threads a peer's record is. [`Center::is_center`],
+//! [`Center::comes_from_home`] and [`Center::is_in_memory`] say what it keeps. [`Center::log`], [`Center::incoming`]
+//! and [`Center::hear`] are for whoever passes on what flows in memory. The end: [`Center::finished`], which gives
+//! [`CenterRest`]. What it isn't: a thread. Who calls its turns is the caller's.
 //!
-//! A center: an event thread of a node.
-//!
-//! What it is: [`Center`], which holds the records of a thread, the halves on sockets of peers and the port, and
-//! acts by the stages of `m2_center`. Maker: [`Center::new`], of [`Unmade`]. [`Center::turn`] is one turn of all
-//! that it holds, [`Center::plan`] has a record do something, [`Center::parts`] lends what a record is, and
-//! [`Center::idle`] says whether nothing is to be done, and [`Center::poll`] waits for it. [`home`] says at which of a
-//! node's threads a peer's record is. [`Center::is_center`], [`Center::comes_from_home`] and
-//! [`Center::is_in_memory`] say what it keeps. [`Center::log`], [`Center::incoming`] and [`Center::hear`] are for
-//! whoever passes on what flows in memory. The end: [`Center::finished`], which gives [`CenterRest`]. What it isn't: a
-//! thread. Who calls its turns is the caller's.
+//! A turn has four stages. [`accept_all`] accepts the sockets that wait at the port; halves wait in [`Pendings`], in
+//! the order of their acceptance. In [`turn_half`] one moves on and is answered by the record that the [`Roster`] leads
+//! to ([`answer_half`], which looks at its ask, has it judged by [`judge_ask`] and replies by [`reply_owed`]), and in
+//! [`turn_halves`] all do. [`connect_if_due`] makes a record's connect at the port, [`turn_record`] takes the steps of
+//! a record that are due, and [`turn_each`] does both of all records. Their parcels go to the [`Outbox`]: letters of
+//! fast kinds are dispatched at once, all other parcels wait in the mail, which [`empty_mail`] puts into the node's
+//! queue.
 #![tactic(auto)]
 
 mod accepting;

@@ -1,26 +1,20 @@
-//! What a step of a session can change, and the calls that change it.
-//!
-//! What it is: [`Live`], the session with its outgoing queue, the last accepted number, and the feed with what
-//! a throttle granted for it. [`Live::tell`] tells the session of an event and does what the table of steps
-//! says then; [`Aftermath`] has what that leaves for the caller. The functions that end in `_on` are one call
-//! of a feed each, where there is one. [`Waits`] says when a side may dial again.
-//! What it isn't: sound by itself. It knows no replay, no facts of its side and no rule of when an event may
-//! come; `m2_core` does, and says of each call what the replay of a journal makes of it.
-//!
-//! `specs/LiveNow.antt` says what contracts see of it, `specs/Effects.antt` what a step leaves, and
-//! `specs/OnFeed.antt` what each call of a feed leaves.
-//!
 //! One side of a session without its journal: the session, the outgoing queue and the feed.
 //!
-//! What it is: [`Core`], what a record is beside its journal, its plan and its trails; and its calls, of
-//! which each says by the replay of journals what it does. Most are one entry, and behind that entry the core
-//! stands where the replay does, wherever it did so before (`Aftermath` of `m2_core` has what the entry leaves for the
-//! record). The others make none, and the core stands where it stood: what the opener's half answers, news of
-//! the other side, a size that is granted, a text that is passed, and the two texts that no entry names.
-//! What it isn't: a record. It writes no journal, knows no plan and no clock, and does nothing by itself.
+//! What it is: [`Core`], what a record is beside its journal, its plan and its trails; and its calls, of which each
+//! says by the replay of journals what it does. Most are one entry, and behind that entry the core stands where the
+//! replay does, wherever it did so before ([`Aftermath`] has what the entry leaves for the record). The others make
+//! none, and the core stands where it stood: what the opener's half answers, news of the other side, a size that is
+//! granted, a text that is passed, and the two texts that no entry names. What it isn't: a record. It writes no
+//! journal, knows no plan and no clock, and does nothing by itself.
 //!
-//! `specs/CoreNow.antt` says what contracts see of a core, `specs/Agrees.antt` what it means that it stands
-//! where a journal's replay does.
+//! Inside it is [`Live`], what a step can change: the session with its queue, the last accepted number, and the feed
+//! with what a throttle granted for it. [`Live::tell`] tells the session of an event and does what the table of steps
+//! says then. The functions that end in `_on` are one call of a feed each, where there is one. [`Waits`] says when a
+//! side may dial again. By itself it knows no replay, no facts of its side and no rule of when an event may come.
+//!
+//! `specs/CoreNow.antt` says what contracts see of a core, `specs/Agrees.antt` what it means that it stands where a
+//! journal's replay does; `specs/LiveNow.antt`, `specs/Effects.antt` and `specs/OnFeed.antt` say what they see of what
+//! is inside, what a step leaves, and what each call of a feed leaves.
 #![tactic(auto)]
 
 mod accepting;

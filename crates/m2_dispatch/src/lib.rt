@@ -1,16 +1,11 @@
-//! What a node's dispatchers were called with.
+//! What a node's dispatchers are called with, and the queue before them: letters wait in it in the order of their
+//! priorities.
 //!
-//! What it is: [`Logged`], one call of a dispatcher, and the list of them, [`LoggedList`]. What it
-//! isn't: the dispatchers themselves, or the queue before them; the order of priorities is
-//! `m2_queues`'s.
-//!
-//! The queue before a dispatcher: letters wait in it in the order of their priorities.
-//!
-//! What it is: [`Dispatch`], which takes [`Parcel`]s and hands the messages of [`Letter`]s to a
-//! [`Dispatcher`] one by one, the greatest priority first; and [`LogDispatcher`], a dispatcher that
-//! writes down what it was called with. Each letter holds what a throttle granted for its message, and
-//! the queue gives it back when the message is dispatched or thrown away. What it isn't: a thread, or a
-//! rule of what a message means; both are the caller's.
+//! What it is: [`Dispatch`], which takes [`Parcel`]s and hands the messages of [`Letter`]s to a [`Dispatcher`] one by
+//! one, the greatest priority first; [`LogDispatcher`], a dispatcher that writes down what it was called with, a
+//! [`Logged`] each; and [`LoggedList`], the list of them. Each letter holds what a throttle granted for its message,
+//! and the queue gives it back when the message is dispatched or thrown away. What it isn't: a thread, or a rule of
+//! what a message means; both are the caller's.
 #![tactic(auto)]
 
 mod dispatch;

@@ -1,24 +1,18 @@
-//! The outer edge: where bytes come from, where they go, and the faults of both.
+//! The outer edge: where bytes come from and where they go, the time, words that nobody can guess, and leave to go on.
 //!
-//! What it is: the traits [`Source`] (named inputs, read in pieces) and [`Sink`] (bytes taken in
-//! pieces); both kept in memory, with a list of calls that fail ([`MemSource`], [`MemSink`]); both
-//! over the runtime ([`StdSource`], [`StdSink`]); and the two loops that every caller needs,
-//! [`read_whole`] and [`write_whole`]. What it isn't: a format. Contracts here speak of bytes alone.
+//! What it is: the traits [`Source`] (named inputs, read in pieces) and [`Sink`] (bytes taken in pieces); both kept in
+//! memory, with a list of calls that fail ([`MemSource`], [`MemSink`]); both over the runtime ([`StdSource`],
+//! [`StdSink`]); and the two loops that every caller needs, [`read_whole`] and [`write_whole`]. The traits [`Clock`]
+//! (the moment, in milliseconds), [`Words`] (64 bits at a time) and [`Gate`] (each event thread asks it before each
+//! turn); each over the runtime ([`StdClock`], [`RandomWords`], [`OpenGate`]), and each known beforehand, for tests and
+//! simulations ([`FixedClock`], [`CountWords`], [`HoldGate`]). [`next_moment`] reads a clock as one whose moments never
+//! fall. What it isn't: a format, a timer or a scheduler. Contracts here speak of bytes, moments and words alone, and
+//! nothing here wakes anybody.
 //!
-//! Each source and sink has a count of faults that never falls. A call answers [`Failed`] only where
-//! it made that count rise, so that nobody above can answer with a fault that didn't happen.
-//!
-//! What a run takes from its environment beside bytes and sockets: the time, words that nobody can
-//! guess, and leave to go on.
-//!
-//! What it is: the traits [`Clock`] (the moment, in milliseconds), [`Words`] (64 bits at a time) and
-//! [`Gate`] (each event thread asks it before each turn); each over the runtime ([`StdClock`],
-//! [`RandomWords`], [`OpenGate`]), and each known beforehand, for tests and simulations
-//! ([`FixedClock`], [`CountWords`], [`HoldGate`]). [`next_moment`] reads a clock as one whose moments
-//! never fall. What it isn't: a timer or a scheduler. Nothing here wakes anybody.
-//!
-//! A contract over any clock says "a moment that this clock may give", and one over any words "a word
-//! that these may give": at a fixed clock that is one moment, at counting words one number.
+//! Each source and sink has a count of faults that never falls. A call answers [`Failed`] only where it made that count
+//! rise, so that nobody above can answer with a fault that didn't happen. A contract over any clock says "a moment that
+//! this clock may give", and one over any words "a word that these may give": at a fixed clock that is one moment, at
+//! counting words one number.
 #![tactic(auto)]
 
 mod calls;

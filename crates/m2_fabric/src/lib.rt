@@ -1,23 +1,16 @@
-//! Sockets as traits: what an end of a socket does, what a port opens and accepts, and what a fabric
-//! tells of both afterwards.
+//! Sockets as traits, and sockets in memory as plain values: what an end of a socket does, what a port opens and
+//! accepts, and what a fabric tells of both afterwards.
 //!
-//! What it is: [`SocketId`], a socket's name; [`EndLog`], all that an end did; the traits [`End`] (one
-//! end of a socket), [`Port`] (what opens and accepts sockets for one event thread) and [`Fabric`] (what
-//! gives a node its ports and tells of them afterwards). What it isn't: a network. Ends in memory stand
-//! in `m2_fabric`. [`MemoryPort`] and [`MemoryEnd`] say more of ports and ends in memory, and [`Holder`] is
-//! whoever has the ports and ends of all nodes in memory.
+//! What it is: [`SocketId`], a socket's name; [`EndLog`], all that an end did; the traits [`End`] (one end of a
+//! socket), [`Port`] (what opens and accepts sockets for one event thread) and [`Fabric`] (what gives a node its ports
+//! and tells of them afterwards). [`MemoryPort`] and [`MemoryEnd`] say more of ports and ends in memory, and [`Holder`]
+//! is whoever has the ports and ends of all nodes in memory. [`SimEnd`] and [`SimPort`] are an end and a port as values
+//! that share nothing: what flows between them is told by whoever drives them; [`CutEnd`] and [`CutPort`] are any end
+//! and port, of which an end fails once so many bytes passed; and [`SimFabric`] has the sockets between nodes in
+//! memory, and what flows on them. What it isn't: threads, or a real network.
 //!
-//! Each end, port and fabric has a count of faults, and answers `Failed` only where it rose. Contracts
-//! see of an end its socket, its log and its faults, and each call by one relation by cases on its
-//! answer.
-//!
-//! Ends and ports in memory, and ends that break after so many bytes.
-//!
-//! What it is: [`SimEnd`] and [`SimPort`], an end and a port as plain values that share nothing: what
-//! flows between them is told by whoever drives them; [`CutEnd`] and [`CutPort`], any end and port, of
-//! which an end fails once so many bytes passed. What it isn't: threads, or a real network.
-//!
-//! The sockets between nodes in memory, and what flows on them.
+//! Each end, port and fabric has a count of faults, and answers `Failed` only where it rose. Contracts see of an end
+//! its socket, its log and its faults, and each call by one relation by cases on its answer.
 #![tactic(auto)]
 
 mod cut_end;

@@ -1,36 +1,20 @@
-//! The one open socket of a record, as code over an end.
+//! The one open socket of a record, as code over an end, and what the frames on it say.
 //!
-//! What it is: [`Feed`], an end with what reads it (a half of the handshake at the side that opened the
-//! socket, and a frame decoder once both sides have signed), and with the text that is being written.
-//! What it isn't: a record. It knows no session, no queue and no journal, and decides nothing: whoever
-//! holds it says what is composed and which frames are passed.
+//! What it is: [`Feed`], an end with what reads it (a half of the handshake at the side that opened the socket, and a
+//! frame decoder once both sides have signed), and with the text that is being written. [`hear`] says of a whole frame
+//! in place what the side that reads it has to do with it, by where its session stands and by its numbers ([`Hearer`]);
+//! [`FrameHeard`] has its answers, and [`WireFault`] the causes for which a feed is closed. Of a side that has asked
+//! for a session, [`heard_in`] and [`heard_at_front`] say which answer a frame is, with its facts ([`Heard`]), or why
+//! it is none ([`AnswerFault`]). An answer that a side waits for is taken when it is read; what [`hear`] says of one is
+//! said of one that still stands at the front, which is a fault, but for a reset, which is to be obeyed. What it isn't:
+//! a record. It knows no queue and no journal, and decides nothing: whoever holds it says what is composed and which
+//! frames are passed.
 //!
 //! Contracts see a [`Feed`] as one value, `FeedNow`, and each call is one relation between two of them
-//! (`specs/Calls.antt`). `specs/Stands.antt` says how such a value lies beside the feed that a journal is
-//! replayed to, and the laws that each call, with the step of the replay that
-//! belongs to it, keeps it so (`specs/Laws.antt`).
-//!
-//! What a whole frame at the front of a feed says to a side, and why a feed is closed.
-//!
-//! What it is: [`hear`], which says of a frame in place what the side that reads it has to do with it, by
-//! where its session stands and by its numbers ([`Hearer`]); [`FrameHeard`], its answers; [`WireFault`],
-//! the causes for which a feed is closed. It takes no memory and changes nothing.
-//! What it isn't: the record. It reads no socket, passes no frame and keeps no number.
-//!
-//! An answer that a side waits for is taken when it is read; what is said here of one is said of one that
-//! still stands at the front, which is a fault, but for a reset, which is to be obeyed. The rules are those
-//! of docs/PROTOCOL.md, and the laws say that each answer is what the replay of journals says of the same
-//! text.
-//!
-//! What a side that has asked for a session hears: the answer to its ask.
-//!
-//! What it is: [`Heard`], which answer a frame is, with its facts, or why it is none ([`AnswerFault`]);
-//! [`heard_in`], what a frame says, and [`heard_at_front`], what the frame at the front of a feed says, which
-//! stays there. What it isn't: a session. It takes no answer, passes no frame, moves no byte and takes no
-//! memory.
-//!
-//! `specs/Heard.antt` says which frames answer in which phase. The laws say that this is what the replay of a
-//! journal hears at the same place.
+//! (`specs/Calls.antt`). `specs/Stands.antt` says how such a value lies beside the feed that a journal is replayed to.
+//! The laws: each call, with the step of the replay that belongs to it, keeps it so (`specs/FeedLaws.antt`); and what a
+//! frame says is what the replay of a journal hears at the same place (`specs/FrameLaws.antt`,
+//! `specs/AnswerLaws.antt`). The rules are those of docs/PROTOCOL.md.
 #![tactic(auto)]
 
 mod answer_fault;

@@ -1,14 +1,9 @@
-//! The tags of frames: what a frame is, as Ceph's msgr2 documentation numbers and names it.
+//! Frames of msgr2.1 in crc mode: their tags, their text, and a decoder for streams that come in any pieces.
 //!
-//! What it is: [`Tag`], with its number, its name, whether it is that of a control frame and whether this
-//! profile negotiates it. What it isn't: what stands in a frame. A new tag is a row of each table here.
-//!
-//! Frames of msgr2.1 in crc mode: their text, and a decoder for streams that come in any pieces.
-//!
-//! What it is: [`Frame`], a tag with up to four segments of bytes; [`Preamble`], the 32 bytes that a
-//! frame begins with; [`encode`], which appends a frame's text; [`Decoder`], which is fed the pieces
-//! of a stream and answers its frames in order, or the first fault. What it isn't: the meaning of
-//! segments, sessions, or input and output.
+//! What it is: [`Tag`], what a frame is, as Ceph's msgr2 documentation numbers and names it; [`Frame`], a tag with up
+//! to four segments of bytes; [`Preamble`], the 32 bytes that a frame begins with; [`encode`], which appends a frame's
+//! text; [`Decoder`], which is fed the pieces of a stream and answers its frames in order, or the first fault. What it
+//! isn't: the meaning of segments, sessions, or input and output. A new tag is a row of each table in `tag.rt`.
 #![tactic(auto)]
 
 mod decoder;

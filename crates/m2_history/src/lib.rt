@@ -1,24 +1,22 @@
-//! What the two sides of a link did, from their journals, their ends and the logs of their dispatchers.
+//! What the two sides of a link did, from their journals, their ends and the logs of their dispatchers; both woven into
+//! one order, in which bytes fit throughout, so a lossless session is never reset, and a lossy one brings over some of
+//! what was posted, in order.
 //!
-//! What it is: [`Side`], a record with what the dispatchers of its node were called with; and what each
-//! side posted, accepted and dispatched of a key: [`posted`], [`accepted`], [`dispatched`]. A key is a
-//! priority with a dispatch path. In every history of a lossless link what is dispatched is the first of
-//! what was posted ([`posted_is_delivered`]). And [`weave_sides`], which finds the [`History`] of two sides, an
-//! order of all that their journals and halves tell by the rule of `m2_weave`, exactly where there is one,
-//! or names the byte at which there is none ([`WeaveFault`]). [`weave_parts`] does so of [`Parts`] made by
-//! hand, of which nothing is known. What it isn't: a run. It looks at what is over, and moves no byte.
+//! What it is: [`Side`], a record with what the dispatchers of its node were called with; and what each side posted,
+//! accepted and dispatched of a key: [`posted`], [`accepted`], [`dispatched`]. A key is a priority with a dispatch
+//! path. In every history of a lossless link what is dispatched is the first of what was posted
+//! ([`posted_is_delivered`]). And [`weave`], which finds the [`History`] of two sides, an order of all that their
+//! journals and halves tell by the rule of `m2_weave`, exactly where there is one, or names the byte at which there is
+//! none ([`WeaveFault`]), and says what such an order says of a link, lossless or lossy; [`weave_sides`] is the finding
+//! alone. [`weave_parts`] finds one of [`Parts`] made by hand, of which nothing is known.
 //!
-//! Two sides of a link that are woven: bytes fit throughout the order that weaving finds, so a lossless session
-//! is never reset, and a lossy one brings over some of what was posted, in order.
+//! The laws: `specs/WovenLink.antt` says what two sides of a link are as records and halves keep them
+//! ([`records_are_sides`]), and what is asked of them besides; `specs/Order.antt` makes of an order of strands the
+//! order of the entries of both journals and of the halves, each with its bytes; `specs/WovenLaws.antt` has the laws,
+//! and `specs/Lossy.antt` those of a lossy link.
 //!
-//! What it is: [`weave`], which is [`weave_sides`] with what it says of a link, lossless or lossy; and the laws on which
-//! that stands. `specs/Link.antt` says what two sides of a link are as records and halves keep them
-//! ([`records_are_sides`]), and what is asked of them besides; `specs/Order.antt` makes of an order of strands
-//! the order of the entries of both journals and of the halves, each with its bytes; `specs/Laws.antt` has the
-//! laws, and `specs/Lossy.antt` those of a lossy link.
-//!
-//! What it isn't: the weaving itself, which is `m2_history`'s, and what follows from bytes that fit, which is
-//! `m2_bytes_fit`'s.
+//! What it isn't: a run. It looks at what is over, and moves no byte. What follows from bytes that fit is that of
+//! `m2_bytes_fit`.
 #![tactic(auto)]
 
 mod accepting;

@@ -1,14 +1,8 @@
-//! Tests of weaving: the journals of two sides, woven by hand, and generated ones.
+//! Tests of weaving: journals and sides made by hand, generated ones, and records that were driven against each other.
 //!
-//! What it is: a file for each kind of thing. They stand apart from the crate, since a crate with tests is
-//! proved twice. What it isn't: what a clause says already.
-//!
-//! Tests of histories: sides made by hand, one that fits and ones that don't, and records that were driven
-//! against each other.
-//!
-//! What it is: `by_hand`; and `driven`, runs by seeds (`driving`), each woven and walked along by a check of
-//! its own (`walking`). They stand apart from the crate, since a crate with tests is proved twice. What it
-//! isn't: what a clause says already.
+//! What it is: a file for each kind of thing; `by_hand`, sides that fit and ones that don't; and `driven`, runs by
+//! seeds (`driving`), each woven and walked along by a check of its own (`walking`). They stand apart from the crates,
+//! since a crate with tests is proved twice. What it isn't: what a clause says already.
 #![tactic(auto)]
 
 #[cfg(test)]

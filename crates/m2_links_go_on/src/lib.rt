@@ -1,47 +1,31 @@
-//! Two sides of a link whose nodes act in turns can be woven.
+//! What becomes of a link where nodes take their turns: of each link there is an order of all that was done, if there
+//! was one before, and what was handed on was dispatched once.
 //!
-//! What it is: definitions and laws. `specs/Sides.antt` says what two sides of a link and the halves beside
-//! them are behind a turn, beside what they were before it: journals go on, halves go on or come, or a side
-//! takes them, and all that an end has got the other end had put before the turn; `specs/Records.antt` what
-//! that is of sides that records keep, and `specs/Told.antt` what they tell of their bytes. `specs/Laws.antt` has the laws: where the sides had an order before the turn they have one behind it, by `m2_weave`; and of sides
-//! that have one `weave` of `m2_history` finds it.
+//! What it is: definitions and laws, in five parts.
 //!
-//! What it isn't: anything that runs. It says of no node that it acts so.
-//!
-//! What a node's turn does to a link.
-//!
-//! What it is: definitions and laws. `specs/Linked.antt` says what two nodes with a link between them are, and that
-//! in a turn either acts or stays as it is; `specs/Laws.antt` has the laws: so do the two records of the link and
-//! the halves beside them go on, as `m2_links_go_on` asks; and where all that was done on the link had an order before
-//! the turn, it has one behind it.
-//!
-//! What it isn't: anything that runs. That what an end got in the turn the other end had put before it is a premise.
-//!
-//! What a cluster's calls leave of its nodes.
-//!
-//! What it is: definitions and laws. `specs/Center.antt` says what a center has of the sockets of its port, and
-//! `specs/Cluster.antt` what is known of all nodes; `specs/Laws.antt` has the laws: behind a center's turn, and where
-//! one of its records plans a step, nothing that was done is undone; and so all ends of its cluster grow.
-//! `specs/Told.antt` says what is the same where ends are told of the other side, and `specs/ToldLaws.antt` that it
-//! is all but what they were told.
-//!
-//! What it isn't: anything that runs.
-//!
-//! What is woven of two records of a cluster where ends are told of the other side: it is the same.
-//!
-//! What it is: definitions and laws. `specs/Sides.antt` says what is woven of two records with the halves of their
-//! nodes, and `specs/Laws.antt` that what is told changes nothing of it.
-//!
-//! What it isn't: anything that runs.
-//!
-//! What a node's dispatchers were called with, beside what the records of a center handed on.
-//!
-//! What it is: definitions and laws. `specs/Logged.antt` says where each parcel went that a record handed on: to the
-//! dispatcher of fast keys at once, or it is held for it; or it was put into the queue before the other dispatcher, or
-//! is in the mail; each once and in order. `specs/Laws.antt` has the laws: so it is at first; it stays so behind a
-//! center's turn and each stage of it, behind a step that is planned, and behind what ends are told of the other side;
-//! and so of each record its peer is heard to send, of each key, some of what the record accepted, in order, each once.
-//! The accepts of a turn change nothing of this.
+//! - *Two sides of a link whose nodes act in turns can be woven.* `specs/Sides.antt` says what two sides of a link and
+//!   the halves beside them are behind a turn, beside what they were before it: journals go on, halves go on or come,
+//!   or a side takes them, and all that an end has got the other end had put before the turn; `specs/Records.antt` what
+//!   that is of sides that records keep, and `specs/Told.antt` what they tell of their bytes. By `specs/TurnLaws.antt`
+//!   the sides have an order behind the turn where they had one before it; and of sides that have one `weave` of
+//!   `m2_history` finds it.
+//! - *What a node's turn does to a link.* `specs/Linked.antt` says what two nodes with a link between them are, and
+//!   that in a turn either acts or stays as it is; by `specs/LinkLaws.antt` the two records of the link and the halves
+//!   beside them go on, so where all that was done on the link had an order, it has one still. That what an end got in
+//!   the turn the other end had put before it is a premise.
+//! - *What a cluster's calls leave of its nodes.* `specs/Center.antt` says what a center has of the sockets of its
+//!   port, and `specs/Cluster.antt` what is known of all nodes; by `specs/ClusterLaws.antt`, behind a center's turn,
+//!   and where one of its records plans a step, nothing that was done is undone; and so all ends of its cluster grow.
+//!   `specs/ClusterTold.antt` says what is the same where ends are told of the other side, and `specs/ToldLaws.antt`
+//!   that it is all but what they were told.
+//! - *What is woven of two records of a cluster stays the same where ends are told of the other side*
+//!   (`specs/ToldSides.antt`, `specs/TellingLaws.antt`).
+//! - *What a node's dispatchers were called with* is what the records of its center handed on. `specs/Logged.antt` says
+//!   where each parcel went: to the dispatcher of fast keys at once, or it is held for it; or it was put into the queue
+//!   before the other dispatcher, or is in the mail; each once and in order. By `specs/LogLaws.antt` it is so at first,
+//!   and stays so behind a center's turn and each stage of it, behind a step that is planned, and behind what ends are
+//!   told; and so of each record its peer is heard to send, of each key, some of what the record accepted, in order,
+//!   each once.
 //!
 //! What it isn't: anything that runs.
 #![tactic(auto)]

@@ -1,14 +1,9 @@
-//! Messages: a header of fixed fields and three parts of bytes.
+//! Messages, and how a message and a MESSAGE frame name each other.
 //!
-//! What it is: [`Header`] and [`Message`] as the daemons above the messenger see them. What it
-//! isn't: an encoding of what the parts mean; front, middle and data are bytes here.
-//!
-//! How a message and a MESSAGE frame name each other.
-//!
-//! What it is: [`to_frame`], the frame that carries a message, and [`from_frame`], the message that a
-//! frame carries. The first segment is the header, [`HEADER_BYTES`] bytes; front, middle and data are the other
-//! three. What it isn't: the text of frames, or the session that numbers messages. It stands above
-//! both [`Message`](crate::Message) and [`Frame`](m2_frame::Frame), so that neither knows the other.
+//! What it is: [`Header`] and [`Message`], a header of fixed fields and three parts of bytes, as the daemons above the
+//! messenger see them; [`to_frame`], the frame that carries a message, and [`from_frame`], the message that a frame
+//! carries. The first segment is the header, [`HEADER_BYTES`] bytes; front, middle and data are the other three. What
+//! it isn't: an encoding of what the parts mean, the text of frames, or the session that numbers messages.
 #![tactic(auto)]
 
 mod fault;

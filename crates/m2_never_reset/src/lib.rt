@@ -1,21 +1,15 @@
-//! That no lossless session is ever reset, whatever connects cross, sockets break and asks arrive late;
-//! and that its messages come in order, each once.
+//! That no lossless session is ever reset, whatever connects cross, sockets break and asks arrive late; that its
+//! messages come in order, each once; and that every two journals of such a link are a run of it.
 //!
-//! What it is: definitions and laws. `specs/Link.antt` is a link as this theorem sees it: of each side
-//! what it keeps, where it stands, what is on its way to it, and the asks that it left behind unjudged.
-//! `specs/Steps.antt` is what may happen on it, and `specs/Laws.antt` what is promised. What it isn't:
-//! anything that runs, and anything of bytes. That the journals of two sides are steps of such a link
-//! stands above.
+//! What it is: definitions and laws. `specs/Link.antt` is a link as this theorem sees it: of each side what it keeps,
+//! where it stands, what is on its way to it, and the asks that it left behind unjudged. `specs/Steps.antt` is what may
+//! happen on it, and `specs/CrossingLaws.antt` what is promised of it.
 //!
-//! From the journals of two sides to the link between them.
-//!
-//! What it is: definitions and laws. `specs/LinkOf.antt` makes of where two journals lead the link of
-//! `m2_never_reset`: of each side what it keeps, where it stands and what is on its way to it, and whether
-//! the two feeds are one socket. `specs/Fits.antt` says what an order of the two journals gives that
-//! fits: bytes are read after they were sent, an ask is judged after it was sent. `specs/Paired.antt`
-//! says what the two sides have in common besides. The laws: of lossless sides each lawful entry, but
-//! where a side is marked down, is steps of that link with its trouble, and what the two have in common
-//! stays.
+//! `specs/LinkOf.antt` makes of where two journals lead such a link, and says whether the two feeds are one socket.
+//! `specs/Fits.antt` says what an order of the two journals gives that fits: bytes are read after they were sent, an
+//! ask is judged after it was sent. `specs/Paired.antt` says what the two sides have in common besides. The laws
+//! (`specs/PairLaws.antt`): of lossless sides each lawful entry, but where a side is marked down, is steps of that link
+//! with its trouble, and what the two have in common stays.
 //!
 //! | entry | steps of the link |
 //! |---|---|
@@ -41,12 +35,12 @@
 //! | Closed, of the feed | `leaves` |
 //! | Closed, of a spent socket | none |
 //!
-//! `specs/Orders.antt` says it of a whole history, two lawful journals in one order that fits: it is a run
-//! of the link, so between two lossless nodes no trouble comes, messages come in order, and both keep the
-//! same two cookies from the first acceptance on; [`lossless_is_never_reset`] has all of it.
+//! `specs/Orders.antt` says it of a whole history, two lawful journals in one order that fits: it is a run of the link,
+//! so between two lossless nodes no trouble comes, messages come in order, and both keep the same two cookies from the
+//! first acceptance on; [`lossless_is_never_reset`] has all of it.
 //!
-//! What it isn't: the merge of two journals. That an order fits is to be shown above, from the bytes in
-//! the logs of both ends. A side that is marked down by its own node is outside.
+//! What it isn't: anything that runs, or the merge of two journals. That an order fits is to be shown above, from the
+//! bytes in the logs of both ends. A side that is marked down by its own node is outside.
 #![tactic(auto)]
 
 mod crossing_laws;

@@ -1,21 +1,11 @@
-//! Tests of sockets, those in memory between threads and those of the system over loopback: bytes both ways,
-//! ends that are closed, nobody there, further ports, waiting, a node that is gathered; and in memory calls
-//! that are made to fail.
+//! Tests of what a run meets outside: sockets of each kind, what threads share, and the clock, gate and words of a run.
 //!
-//! What it is: what sockets do, as functions that go by the traits alone, and a file for each kind of sockets
-//! that calls them. What it isn't: what a clause says already.
-//!
-//! Tests of what threads share, and of what they meet: throttles and numbers of both makings, an inbox, the
-//! queue before a dispatcher, and the clock, gate and words of a run.
-//!
-//! What it is: a file for each of these, and the items that the tests hand over. They stand apart from the
-//! crates, since a crate with tests is proved twice, and together, since each crate of tests loads its
-//! libraries again. What it isn't: what a clause says already.
-//!
-//! Tests of the runtime's crates: ends and ports in memory, ends that break, and feeds.
-//!
-//! What it is: a file for each kind of thing. They stand apart from the crates, since a crate with tests is
-//! proved twice. What it isn't: what a clause says already.
+//! What it is: what sockets do, as functions that go by the traits alone (bytes both ways, ends that are closed, nobody
+//! there, further ports, waiting, a node that is gathered; and in memory calls that are made to fail), and a file for
+//! each kind of sockets that calls them; throttles and numbers of both makings, an inbox, the queue before a
+//! dispatcher; ends and ports in memory, ends that break, and feeds. They stand apart from the crates, since a crate
+//! with tests is proved twice, and together, since each crate of tests loads its libraries again. What it isn't: what a
+//! clause says already.
 #![tactic(auto)]
 
 #[cfg(test)]

@@ -1,17 +1,11 @@
-//! Tests of the wire, from bytes to the handshake: values from outside, recorded texts, and calls near the bounds
-//! of what they take.
+//! Tests of the wire, of the handshake and of the session's crates: values from outside, recorded texts, tables as
+//! docs/PROTOCOL.md has them, and calls near the bounds of what they take.
 //!
-//! What it is: a file for each crate. They stand apart from the crates, since a crate with tests is proved
-//! twice. What it isn't: what a clause says already.
+//! What it is: a file for each crate, those of posted messages below `messages`. They stand apart from the crates,
+//! since a crate with tests is proved twice. What it isn't: what a clause says already.
 //!
-//! Where values are compared with many others they stand in a table, and what can end early works on borrowed
-//! values: a test is proved too, and a long one that owns much is dear.
-//!
-//! Tests of the session's crates: tables as docs/PROTOCOL.md has them, values from outside, and calls near the
-//! bounds of what they take.
-//!
-//! What it is: a file for each crate, those of posted messages below `messages`. They stand apart from the crates, since a crate with tests is proved
-//! twice. What it isn't: what a clause says already.
+//! Where values are compared with many others they stand in a table, and what can end early works on borrowed values: a
+//! test is proved too, and a long one that owns much is dear.
 #![tactic(auto)]
 
 #[cfg(test)]

@@ -1,16 +1,12 @@
-//! The order of ranks: the greatest rank first, and inside one rank the oldest first.
+//! Numbered queues: what one side of a session sends, and which numbers it takes; and the order of priorities.
 //!
-//! What it is: [`PriorityQueue`], which gives its items out in that order, and [`sort_by_rank`], which
-//! puts a list into it. Both are one order: a law says that a queue holds what the stable sort makes of
-//! its items. What it isn't: a rule of what an item's rank is; that is the caller's.
-//!
-//! Numbered queues: what one side of a session sends, and which numbers it takes.
-//!
-//! What it is: [`OutQueues`], the messages of one record that are to be sent, sent or not yet
-//! acknowledged, with their numbers; [`InNumbers`], the judgement on a number that comes in. What it
-//! isn't: frames, sockets or the session's phase. Nothing is sent here: [`OutQueues::peek`] shows what is
-//! due and changes nothing, [`OutQueues::next`] gives it its number, [`OutQueues::at`] lends the
-//! message, and [`OutQueues::sent`] is told that it was written.
+//! What it is: [`OutQueues`], the messages of one record that are to be sent, sent or not yet acknowledged, with their
+//! numbers; [`InNumbers`], the judgement on a number that comes in. Nothing is sent here: [`OutQueues::peek`] shows
+//! what is due and changes nothing, [`OutQueues::next`] gives it its number, [`OutQueues::at`] lends the message, and
+//! [`OutQueues::sent`] is told that it was written. [`PriorityQueue`] gives its items out the greatest rank first, and
+//! inside one rank the oldest first, and [`sort_by_rank`] puts a list into that order; a law says that a queue holds
+//! what the stable sort makes of its items. What it isn't: frames, sockets or the session's phase, or a rule of what an
+//! item's rank is.
 #![tactic(auto)]
 
 mod due;

@@ -1,19 +1,14 @@
-//! Two records of a pair, driven over ends in memory.
+//! Two records of a pair, driven over ends in memory, by whoever calls or by a schedule, and what they came to as text.
 //!
-//! What it is: [`Side`], a record with what its node has for it (a counter of global numbers and a throttle, both alone), the
-//! sockets of the peer that it has accepted and not taken, and the logs of what it handed out; and [`Pair`], two sides with the
-//! sockets between them, of which whoever drives says how much flows and what breaks. What it isn't: a thread, a clock or a
-//! network. Each moment is given, and nothing flows by itself.
+//! What it is: [`Side`], a record with what its node has for it (a counter of global numbers and a throttle, both
+//! alone), the sockets of the peer that it has accepted and not taken, and the logs of what it handed out; and
+//! [`Pair`], two sides with the sockets between them, of which whoever drives says how much flows and what breaks. What
+//! a record's calls ask of their caller is kept by the type of a side, or looked at as the call comes, so no call of a
+//! pair has a condition but the two makers. [`record_trace`] is the whole work of the program of that name: it reads a
+//! schedule, drives two records by it, and prints what they planned, did and handed on, and where they stand, one item
+//! a line, so that an independent replay can be laid beside it. docs/PROTOCOL.md describes both forms.
 //!
-//! It is a bench for tests and for programs that print what records do. What a record's calls ask of their caller is kept by the
-//! type of a side, or looked at as the call comes, so no call here has a condition but the two makers.
-//!
-//! Two records of a pair, driven by a schedule, and what they came to as text.
-//!
-//! What it is: [`record_trace`], the whole work of the program of that name: it reads a schedule, drives two
-//! records over ends in memory by it, and prints what they planned, did and handed on, and where they stand,
-//! one item a line, so that an independent replay can be laid beside it. docs/PROTOCOL.md describes both
-//! forms. What it isn't: the driving of single calls (`m2_record_trace`), or the lines (`m2_trace`).
+//! What it isn't: a thread, a clock or a network. Each moment is given, and nothing flows by itself.
 #![tactic(auto)]
 
 mod arriving;

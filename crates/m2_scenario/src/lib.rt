@@ -1,36 +1,21 @@
-//! What a text of lines is made of, before any line has a meaning.
+//! Scenarios: what an operator or a generator says that is to happen, what its text is made of, and the report of what
+//! came of it.
 //!
-//! What it is: [`cut`], a text at a separator; [`words_in`], the [`Words`] of a line; [`read_number`],
-//! [`read_bytes`], [`is_name`] and [`read_address`], what single words spell; and [`Kind`], the ways in which a
-//! line can be bad, with [`check`] and [`LineFault`], by which the tests of a line are chained with
-//! `?`. What it isn't: lines themselves, or what they say (the crate `m2_scenario_text`).
+//! What it is: [`Scenario`], its [`Node`]s, [`Link`]s and [`Line`]s, and [`Draft`], the scenario so far, whose pushes
+//! keep it valid (`specs/Valid.antt` says when it is, within the limits of `limits.rt`). [`generate`] makes a scenario
+//! of four nodes and as many posts as are asked for, that a seed determines (`specs/Draws.antt`, `specs/Choices.antt`,
+//! `specs/Cluster.antt`, `specs/Generated.antt`). [`report`] makes the lines that tell what each node's dispatchers
+//! were called with, as they came or sorted; a law says that a report is read in one way, and [`put_dispatch`] and
+//! [`put_reset`] are single lines of it. `specs/Order.antt` has the words of the headline: what a node may dispatch of
+//! what its peers posted, said of links, lines and calls of dispatchers alone, so that whoever runs a scenario, in
+//! whatever way, is held to the same words.
 //!
-//! Scenarios: what an operator or a generator says that is to happen.
+//! Below the lines stands what any text of lines is made of: [`cut`], a text at a separator; [`words_in`], the
+//! [`Words`] of a line; [`read_number`], [`read_bytes`], [`is_name`] and [`read_address`], what single words spell; and
+//! [`Kind`], the ways in which a line can be bad, with [`check`] and [`LineFault`], by which the tests of a line are
+//! chained with `?`.
 //!
-//! What it is: [`Scenario`], its [`Node`]s, [`Link`]s and [`Line`]s, and [`Draft`], the scenario so
-//! far, whose pushes keep it valid (`specs/Valid.antt` says when it is, within the limits of
-//! `limits.rt`). What it isn't: a scenario's text (`m2_scenario_text` reads it, by the same pushes),
-//! its run (`m2_cli`) or its report (`m2_scenario`).
-//!
-//! Generated load: a scenario of four nodes and as many posts as are asked for, that a seed determines.
-//!
-//! What it is: [`generate`]. What the draws of a seed are says `specs/Draws.antt`, what they choose for
-//! each post `specs/Choices.antt`, the nodes and links `specs/Cluster.antt`, and the whole scenario
-//! `specs/Generated.antt`. What it isn't: the scenario's types and what makes one valid (`m2_scenario`),
-//! or its run (`m2_cli`).
-//!
-//! The report of a run: what `sim` and `run` print.
-//!
-//! What it is: [`report`], the lines that tell what each node's dispatchers were called with, as they
-//! came or sorted; a law says that a report is read in one way. [`put_dispatch`] and [`put_reset`] are single lines of
-//! it. What it isn't: the run (`m2_cli`), or the printing of the report (`m2_cli`).
-//!
-//! The words of the headline: what a node may dispatch of what its peers posted.
-//!
-//! What it is: definitions in `specs/Order.antt`, and their first laws. They speak of a scenario's
-//! links and lines and of the calls of dispatchers alone, and of no sockets, records or queues, so
-//! that whoever runs a scenario, in whatever way, is held to the same words. What it isn't: anything
-//! that runs.
+//! What it isn't: the reading of a scenario's text (`m2_scenario_text`, by the same pushes), or its run (`m2_cli`).
 #![tactic(auto)]
 
 mod address;

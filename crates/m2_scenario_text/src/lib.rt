@@ -1,17 +1,11 @@
-//! The readers of scenario files.
+//! The readers of scenario files, and of schedules, by which two records of a pair are driven for a trace.
 //!
-//! What it is: [`read`], the scenario of a text or its first bad line with its kind
-//! (docs/SCENARIOS.md has every form of line); [`FirstWord`], what a line is about, and [`Form`],
-//! which lines a file may have, for callers that look at a text themselves. Each form of line has a
-//! reader, which judges the line's words in the order of the kinds and pushes what they say onto a
-//! draft. What it isn't: words (`m2_scenario`), scenarios (`m2_scenario`), or a run of one.
-//!
-//! The readers of schedules, by which two records of a pair are driven for a trace.
-//!
-//! What it is: [`Schedule`], the two sides' policies and what is to be done, line by line, and [`read`], the
-//! schedule of a text or its first bad line with its kind (docs/PROTOCOL.md has every form of line). Each
-//! form of line has a reader, which judges the line's words in the order of the kinds. What it isn't: words
-//! (`m2_scenario`), or the driving (`m2_record_trace`).
+//! What it is: [`read`], the scenario of a text or its first bad line with its kind (docs/SCENARIOS.md has every form
+//! of line); [`FirstWord`], what a line is about, and [`Form`], which lines a file may have, for callers that look at a
+//! text themselves; and [`read_schedule`], the [`Schedule`] of a text, the two sides' policies and what is to be done,
+//! line by line (docs/PROTOCOL.md has every form). Each form of line has a reader, which judges the line's words in the
+//! order of the kinds, and those of scenarios push what they say onto a draft. What it isn't: words, scenarios
+//! (`m2_scenario`), a run of one, or the driving of two records (`m2_record_trace`).
 #![tactic(auto)]
 
 mod bad_scenario;

@@ -1,29 +1,18 @@
-//! The session core: which socket feeds a session when connects cross, sockets break and old
-//! asks arrive late.
+//! The session core: which socket feeds a session when connects cross, sockets break and old asks arrive late.
 //!
-//! What it is: [`Session`], what one side of a link remembers of the other, and its [`Phase`];
-//! [`judge_ident`] and [`judge_reconnect`], the [`Answer`] to an ask that arrives on a socket
-//! which the other side opened; [`step`], what an [`Event`] makes of a session and which
-//! [`Effects`] the caller owes. What it isn't: sockets, queues or bytes. All of it is pure, copies
-//! a few words and takes no memory.
+//! What it is: [`Session`], what one side of a link remembers of the other, and its [`Phase`]; [`judge_ident`] and
+//! [`judge_reconnect`], the [`Answer`] to an ask that arrives on a socket which the other side opened; [`step`], what
+//! an [`Event`] makes of a session and which [`Effects`] the caller owes. And what stands between these and the wire:
+//! [`AskFacts`], the numbers of an ask, with [`facts_of_ident`] and [`facts_of_reconnect`]; [`judge`], the answer to an
+//! ask by its facts, and [`event_of`], what the session is told of it; [`frame_of`], the frame that is written for an
+//! answer; [`cookie_of`], the cookie that a node draws; [`dials`], when a side dials. Each is a definition that
+//! computes and a function that is proved equal to it, so that a record and whoever replays it go by the same. What it
+//! isn't: sockets, queues or clocks. Only the frame of an accept takes memory.
 //!
-//! The caller judges an ask first. Of an answer that takes the socket, or of
-//! [`Answer::ResetPending`], it tells the session by `step`; every other answer leaves the session
-//! as it is. The two tables of judgement and the table of steps stand in docs/PROTOCOL.md as they
-//! stand in the specs; `laws` says what a reader expects of them.
-//!
-//! What stands between the judges of a session, the asks that they judge and the frames on the
-//! wire.
-//!
-//! What it is: [`AskFacts`], the numbers of an ask, with [`facts_of_ident`] and
-//! [`facts_of_reconnect`]; [`judge`], the answer to an ask by its facts, and [`event_of`], what the
-//! session is told of it; [`frame_of`], the frame that is written for an answer; [`cookie_of`], the
-//! cookie that a node draws; [`dials`], when a side dials. Each is a definition that computes and a
-//! function that is proved equal to it, so that a record and whoever replays it go by the same.
-//! What it isn't: sockets, queues or clocks. Only the frame of an accept takes memory.
-//!
-//! The judges' tables and the steps stand in `m2_session`; docs/PROTOCOL.md says of each rule here
-//! whose it is.
+//! The caller judges an ask first. Of an answer that takes the socket, or of [`Answer::ResetPending`], it tells the
+//! session by `step`; every other answer leaves the session as it is. The two tables of judgement and the table of
+//! steps stand in docs/PROTOCOL.md as they stand in the specs, and it says of each rule whose it is; `session_laws` and
+//! `answer_laws` say what a reader expects of them.
 #![tactic(auto)]
 
 mod answer;

@@ -1,37 +1,27 @@
-//! Lists of what happened merged into one order, by a rule that says when each entry may come.
+//! The journals of two sides woven into one order, by the bytes of the sockets between them; and the merging of lists
+//! on which that stands.
 //!
-//! What it is: [`merge`], with its definitions and laws. A *strand* is a list of entries that came one
-//! after the other; a *cut* says how many entries of each strand have come; a rule says at each cut of
-//! which strands the next entry may come (`specs/Order.antt`). Where a condition that is met stays met
-//! while other strands go on, taking any entry that may come, again and again, finds an order of all
-//! entries exactly where there is one, and stops at the same cut whichever is taken (`specs/Laws.antt`).
+//! What it is: [`merge`], with its definitions and laws. A *strand* is a list of entries that came one after the other;
+//! a *cut* says how many entries of each strand have come; a rule says at each cut of which strands the next entry may
+//! come (`specs/Order.antt`). Where a condition that is met stays met while other strands go on, taking any entry that
+//! may come, again and again, finds an order of all entries exactly where there is one, and stops at the same cut
+//! whichever is taken (`specs/MergeLaws.antt`). [`merge`] does so for rules by counters (`specs/Counted.antt`): a
+//! [`CountedEntry`] waits until a counter has reached a value, and adds to a counter once it has come.
 //!
-//! [`merge`] does so for rules by counters (`specs/Counted.antt`): a [`CountedEntry`] waits until a counter
-//! has reached a value, and adds to a counter once it has come. What it isn't: a rule of what an entry
-//! waits for; whoever merges says that.
+//! [`weave`] merges by the rule of bytes. A [`Strand`] is a journal, or what a half did on a socket before a side took
+//! it (`specs/Strands.antt`); a [`SocketTable`] has what both ends of each socket have read and written, found by
+//! [`SocketNames`]. An entry may come once the other end of its socket has written the bytes that it read; an ask is
+//! judged once its half has handed it on; and a half writes once all its asks so far are judged (`specs/Rule.antt`).
+//! What may come may still come later, so taking whatever may come finds an order of all entries exactly where there is
+//! one. Where that stops at a read, [`first_stop`] names the byte that is [`Unfit`] (`specs/Stops.antt`).
 //!
-//! The journals of two sides woven into one order, by the bytes of the sockets between them.
+//! Whatever happens in turns can be woven. Nodes that run one after another act in turns: in a turn one node acts, and
+//! between turns bytes flow from what one end has put to what the other can read. So whatever is read in a turn had
+//! been written before it. `specs/Later.antt` says what that is of strands and of the bytes of their ends, and
+//! `specs/TurnLaws.antt` that strands which had an order before a turn have one behind it, and so at each time of a
+//! run.
 //!
-//! What it is: [`weave`], with its definitions and laws. A [`Strand`] is a journal, or what a half did on a
-//! socket before a side took it (`specs/Strands.antt`); a [`SocketTable`] has what both ends of each socket
-//! have read and written, found by [`SocketNames`]. An entry may come once the other end of its socket has
-//! written the bytes that it read; an ask is judged once its half has handed it on; and a half writes once
-//! all its asks so far are judged (`specs/Rule.antt`). What may come may still come later, so by `m2_weave`
-//! taking whatever may come finds an order of all entries exactly where there is one. Where that stops at a
-//! read, [`first_stop`] names the byte that is [`Unfit`] (`specs/Stops.antt`).
-//!
-//! What it isn't: what follows from such an order. `m2_never_reset` says that of two journals in an order that
-//! fits.
-//!
-//! Whatever happens in turns can be woven.
-//!
-//! What it is: definitions and laws. Nodes that run one after another act in turns: in a turn one node acts,
-//! and between turns bytes flow from what one end has put to what the other can read. So whatever is read in
-//! a turn had been written before it. `specs/Later.antt` says what that is of strands and of the bytes of
-//! their ends, before a turn and behind it; `specs/Laws.antt` has the law that strands which had an order by
-//! the rule of `m2_weave` before a turn have one behind it, and so at each time of a run.
-//!
-//! What it isn't: anything that runs. It says of no node that it acts in turns.
+//! What it isn't: what follows from such an order (`m2_never_reset`), or anything that acts in turns.
 #![tactic(auto)]
 
 mod counted;
