@@ -1,5 +1,8 @@
 //! The calls of a dispatcher.
 
+ghost use Rattle.std.specs.Prelude.{◌≡◌};
+ghost use Rattle.m2_dispatch.specs.Heard.{heard_of, is_message_from};
+
 use m2_bytes::Items;
 use m2_message::Message;
 use m2_policy::Key;
@@ -23,4 +26,16 @@ pub enum Logged {
     Reset {
         peer: u32,
     },
+}
+
+impl Logged {
+    /// Whether it is a message of the node at this place.
+    pub fn is_message_from(&self, node: usize) -> bool
+        ensures { result ≡ is_message_from node (heard_of self.now) }
+    {
+        match self {
+            Logged::Message { peer, .. } => *peer as usize == node,
+            Logged::Reset { .. } => false,
+        }
+    }
 }

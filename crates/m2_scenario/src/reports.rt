@@ -149,7 +149,7 @@ fn gather<'a>(calls: &mut OfPeer<'a>, log: &'a [Logged], peer: usize) -> Result<
     calls.messages.clear();
     calls.resets.clear();
     for call in log {
-        if is_message_from(call, peer) {
+        if call.is_message_from(peer) {
             calls.messages.push(call)?;
         } else if is_reset_by(call, peer) {
             calls.resets.push(call)?;
@@ -163,15 +163,6 @@ fn sort_calls(calls: &mut Vec<&Logged>) -> Result<(), NoMemory>
     ensures { OnOk result (told_by calls.new.items ≡ by_rank rank_of (told_by calls.old.items)) }
 {
     sort_by_rank(calls, |call| rank(call))
-}
-
-fn is_message_from(call: &Logged, peer: usize) -> bool
-    ensures { result ≡ is_message_from peer (heard_of call.now) }
-{
-    match call {
-        Logged::Message { peer: from, .. } => *from as usize == peer,
-        Logged::Reset { .. } => false,
-    }
 }
 
 fn is_reset_by(call: &Logged, peer: usize) -> bool

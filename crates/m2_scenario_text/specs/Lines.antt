@@ -139,11 +139,6 @@ Takes (Ok _) asked new = asked ≡ Ok new
 Takes (Err (flaw.Bad k)) asked new = asked ≡ Err k
 Takes (Err flaw.NoMemory) asked new = Unit {0}
 
-abbrev pub MessageRead : Result Message LineFault → Result Content Kind → Type 0
-MessageRead (Ok m) asked = asked ≡ Ok (content_of m)
-MessageRead (Err (flaw.Bad k)) asked = asked ≡ Err k
-MessageRead (Err flaw.NoMemory) asked = Unit {0}
-
 abbrev pub DeedRead : Result Instruction LineFault → Result Deed Kind → Type 0
 DeedRead (Ok i) asked = asked ≡ Ok (deed_of i)
 DeedRead (Err (flaw.Bad k)) asked = asked ≡ Err k

@@ -1,23 +1,17 @@
 //! The forms of lines.
 
-ghost use Rattle.std.specs.Prelude.{◌≡◌, ◌≤◌, IfOk, MatchResult, length, drop};
+ghost use Rattle.std.specs.Prelude.{◌≡◌, ◌≤◌, IfOk, length, drop};
 ghost use Rattle.std.specs.Option.{is_some};
-ghost use Rattle.m2_message.specs.Message.{content_of};
-ghost use Rattle.m2_scenario.specs.Valid.{are_short};
-ghost use Rattle.m2_scenario_text.specs.PlanLines.{message_of};
-ghost use Rattle.m2_scenario_text.specs.Vocabulary.{policy_of};
-ghost use Rattle.m2_scenario_text.specs.Lines.{DeedRead, IsTimed, MessageRead, Takes, deed_by, facts_of, fault_deed, flow_deed, now_of, pair_line, post_deed, side_alone, side_at, side_of, tell_deed, wire_of};
+ghost use Rattle.m2_scenario_text.specs.Lines.{DeedRead, IsTimed, Takes, deed_by, facts_of, fault_deed, flow_deed, now_of, pair_line, post_deed, side_alone, side_at, side_of, tell_deed, wire_of};
 ghost use Rattle.m2_scenario_text.specs.Schedule.{draft_of};
 ghost use Rattle.m2_scenario.specs.Text.{word};
 
+use crate::plan_lines::{are_short, message_of};
 use crate::schedule::{Instruction, PairFacts, Schedule, SideName};
 use crate::verb::Verb;
-use crate::{LEAST_PRIORITY, MOST_PRIORITY};
-use m2_message::Message;
-use m2_policy::{Policy, is_allowed};
-use m2_scenario::{
-    Kind, LineFault, MOST_PART_BYTES, Words, check, posted, read_bytes, read_number,
-};
+use crate::vocabulary::policy;
+use m2_policy::is_allowed;
+use m2_scenario::{Kind, LineFault, Words, check, read_bytes, read_number};
 use std::alloc::Global;
 
 /// The most bytes that a throttle of a side lets in.
@@ -50,25 +44,6 @@ fn wire(word: &[u8]) -> Result<u32, Kind>
     Ok(read_number(Kind::Number, 1, 4_294_967_295, word)? as u32)
 }
 
-#[tactic(auto, unfolding(crate::specs::Vocabulary::policy_of))]
-fn policy(word: &[u8]) -> Result<Policy, Kind>
-    ensures { result ≡ policy_of word.now }
-{
-    if word == b"lossy_client".as_slice() {
-        Ok(m2_policy::lossy_client())
-    } else if word == b"lossless_client".as_slice() {
-        Ok(m2_policy::lossless_client())
-    } else if word == b"lossless_peer".as_slice() {
-        Ok(m2_policy::lossless_peer())
-    } else if word == b"stateless_server".as_slice() {
-        Ok(m2_policy::stateless_server())
-    } else if word == b"stateful_server".as_slice() {
-        Ok(m2_policy::stateful_server())
-    } else {
-        Err(Kind::Policy)
-    }
-}
-
 #[tactic(auto, unfolding(crate::specs::Lines::facts_of))]
 fn facts(mut words: Words<'_>) -> Result<PairFacts, Kind>
     requires { length words ≡ 3 }
@@ -99,29 +74,6 @@ pub(crate) fn pair_line(draft: &mut Schedule, words: Words<'_>) -> Result<(), Li
     Ok(())
 }
 
-/// The message of a post's last five words.
-#[tactic(auto, unfolding(crate::specs::PlanLines::message_of))]
-fn message(alloc: Global, mut words: Words<'_>) -> Result<Message, LineFault>
-    requires { length words ≡ 5 }
-    ensures { MessageRead result (message_of words.entry) }
-{
-    let kind = read_number(Kind::Number, 0, 65535, words.take())? as u16;
-    let priority = read_number(Kind::Number, LEAST_PRIORITY, MOST_PRIORITY, words.take())? as u16;
-    let front = read_bytes(alloc, words.take())?;
-    let middle = read_bytes(alloc, words.take())?;
-    let tail = read_bytes(alloc, words.take())?;
-    Ok(posted(kind, priority, front, middle, tail))
-}
-
-/// Whether each part is short enough.
-fn are_short(message: &Message) -> bool
-    ensures { result ≡ are_short (content_of message.now) }
-{
-    message.front.len() <= MOST_PART_BYTES
-        && message.middle.len() <= MOST_PART_BYTES
-        && message.tail.len() <= MOST_PART_BYTES
-}
-
 /// `post SIDE KIND PRIORITY FRONT MIDDLE DATA`
 #[tactic(auto, unfolding(crate::specs::Lines::post_deed))]
 fn post(alloc: Global, paired: bool, mut words: Words<'_>) -> Result<Instruction, LineFault>
@@ -129,7 +81,7 @@ fn post(alloc: Global, paired: bool, mut words: Words<'_>) -> Result<Instruction
 {
     check(Kind::Words, words.len() == 6)?;
     let first = words.take();
-    let message = message(alloc, words)?;
+    let message = message_of(alloc, words)?;
     let side = side(paired, first)?;
     check(Kind::Limit, are_short(&message))?;
     Ok(Instruction::Post { side, message })

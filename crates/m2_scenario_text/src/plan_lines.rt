@@ -35,9 +35,9 @@ fn planned_pair(draft: &Draft, words: &mut Words<'_>) -> Result<(u32, u32), Kind
     Ok((a, b))
 }
 
-// The message of a post's last five words.
+/// The message of a post's last five words.
 #[tactic(auto, unfolding(crate::specs::PlanLines::message_of))]
-fn message_of(alloc: Global, mut words: Words<'_>) -> Result<Message, LineFault>
+pub(crate) fn message_of(alloc: Global, mut words: Words<'_>) -> Result<Message, LineFault>
     requires { length words ≡ 5 }
     ensures { MessageRead result (message_of words.entry) }
 {
@@ -49,8 +49,8 @@ fn message_of(alloc: Global, mut words: Words<'_>) -> Result<Message, LineFault>
     Ok(posted(kind, priority, front, middle, tail))
 }
 
-// Whether each part is short enough.
-fn are_short(message: &Message) -> bool
+/// Whether each part is short enough.
+pub(crate) fn are_short(message: &Message) -> bool
     ensures { result ≡ are_short (content_of message.now) }
 {
     message.front.len() <= MOST_PART_BYTES

@@ -1,7 +1,7 @@
 //! How many posts are left.
 
 ghost use Rattle.std.specs.Prelude.{◌≡◌, IfOk, count_by, sum_by};
-ghost use Rattle.m2_dispatch.specs.Heard.{heard_by, heard_of, is_message_from};
+ghost use Rattle.m2_dispatch.specs.Heard.{heard_by, is_message_from};
 ghost use Rattle.m2_script.specs.Ways.{left_of};
 
 use crate::ways::{Way, sum};
@@ -38,19 +38,9 @@ fn messages_of(node: u32, log: &[Logged]) -> u64
 {
     let mut count = 0;
     for call in log {
-        if is_message_from(node, call) {
+        if call.is_message_from(node as usize) {
             count += 1;
         }
     }
     count
-}
-
-/// Whether a call is of a message of this node.
-fn is_message_from(node: u32, call: &Logged) -> bool
-    ensures { result ≡ is_message_from node (heard_of call.now) }
-{
-    match call {
-        Logged::Message { peer, .. } => *peer == node,
-        Logged::Reset { .. } => false,
-    }
 }
