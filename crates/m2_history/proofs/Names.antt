@@ -6,15 +6,16 @@ use Rattle.m2_message.specs.Message.{Content}
 use Rattle.m2_dispatch.specs.m2_queues.OutQueues.{message_at}
 use Rattle.m2_dispatch.specs.m2_queues.QueueLaws.{Next}
 use Rattle.m2_journal.specs.m2_session.declared.event.Event.TheVariants as event
-use Rattle.m2_journal.specs.Feeds.{next_said}
+use Rattle.m2_journal.specs.m2_session.SessionLaws.{takes}
+use Rattle.m2_journal.specs.Feeds.{hears, next_said, narrowed, finished, texts_at}
 use Rattle.m2_journal.specs.Items as item
 use Rattle.m2_journal.specs.Items.{JournalItem}
 use Rattle.m2_journal.specs.OutFrames.{OutFrame, is_unnamed, replies_of}
 use Rattle.m2_journal.specs.Replay.{after_items}
 use Rattle.m2_journal.specs.SideFacts.{SideFacts, cookie_of}
 use Rattle.m2_journal.specs.State.{PartText, Feed, Judgement, State}
-use Rattle.m2_journal.specs.Steps.{accepts, after, composes, event_of, puts_on, queues, sends, takes_answer, takes_socket, tells, tells_if, with_feed, writes_message}
-use Rattle.m2_bytes_fit.proofs.Entries.{accepts_less}
+use Rattle.m2_journal.specs.Steps.{accepts, after, breaks, composes, event_heard, event_of, forgets, is_on, is_waiting, notes, puts_on, queues, sends, takes_answer, takes_socket, tells, tells_if, with_feed, writes_message}
+use Rattle.m2_bytes_fit.proofs.Entries.{posts_less, heeds_less, accepts_less}
 use Rattle.m2_bytes_fit.proofs.Less.{Less, untouched, less_top, tells_less, tells_if_less}
 
 abbrev pub opened_in : JournalItem → List SocketId
@@ -67,6 +68,37 @@ writes_same : (f : SideFacts) (n : ℕ) (o : Option Content) (s t : State) → L
 writes_same f n None s t l = less_same s t l
 writes_same f n (Some m) s t l = let g = composes_same f _ s t l in record { opened = g.opened; judgements = g.judgements }
 
+pub entry_adds : (f : SideFacts) (i : JournalItem) (s : State) → Adds s (after f i s) (opened_in i) (judged_in i)
+entry_adds f (item.post place planned) s = adds_none s _ (less_same s _ (posts_less planned s))
+entry_adds f (item.dial planned) s = adds_none s _ (record { opened = refl; judgements = refl })
+entry_adds f (item.opened socket) s =
+    let less = tells_less event.Dialled s in
+    record { opened = ap (λ ks. ks ++ socket ∷ []) less.opened; judgements = less.judgements ∙ sym (append-nil s.judgements) }
+entry_adds f (item.read socket bytes) s = at s.feed
+  where
+    at : (o : Option Feed) → Adds s (after f (item.read socket bytes) (record s { feed = o })) [] []
+    at None = adds_none s _ (record { opened = refl; judgements = refl })
+    at (Some d) =
+        let less = heeds_less (event_heard f s.session.phase (hears bytes d)) (hears bytes d) (record s { feed = Some d }) in
+        adds_none s _ (record { opened = less.opened; judgements = less.judgements })
+entry_adds f (item.wrote socket bytes) s = at s.feed
+  where
+    at : (o : Option Feed) → Adds s (after f (item.wrote socket bytes) (record s { feed = o })) [] []
+    at None = adds_none s _ (record { opened = refl; judgements = refl })
+    at (Some d) =
+        let t = record s { feed = Some d } in
+        let g = puts_same (finished (narrowed bytes (texts_at f t d))) (narrowed bytes (texts_at f t d)) d t in
+        adds_none s _ (record { opened = g.opened; judgements = g.judgements })
+entry_adds f (item.closed socket broken) s = at (is_on socket s.feed)
+  where
+    at : (b : Bool) → Adds s (if b then breaks s else forgets socket s) [] []
+    at true = let less = tells_less (event.Faulted (is_waiting s)) s in adds_none s _ (record { opened = less.opened; judgements = less.judgements })
+    at false = adds_none s _ (record { opened = refl; judgements = refl })
+entry_adds f (item.judged socket ask number given unread trail) s = at (takes given)
+  where
+    n : State
+    n = notes socket ask number given s
+
     t : State
     t = tells_if (event_of f ask number given) n
 
@@ -113,9 +145,6 @@ entry_adds f (item.down planned step) s =
     adds_none s _ (record { opened = less.opened; judgements = less.judgements })
 
 -- ---- all entries
-
-pub entry_adds : (f : SideFacts) (i : JournalItem) (s : State) → Adds s (after f i s) (opened_in i) (judged_in i)
-entry_adds f i s = entry_adds f i s
 
 pub items_add : (f : SideFacts) (is : List JournalItem) (s : State) → Adds s (after_items f is s) (opened_by is) (judged_by is)
 items_add f [] s = record { opened = sym (append-nil s.opened); judgements = sym (append-nil s.judgements) }

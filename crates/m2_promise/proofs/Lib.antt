@@ -52,7 +52,6 @@ pub mod Same
 pub mod Scripts
 pub mod Sides
 pub mod Starting
-pub mod Strands
 pub mod Tables
 pub mod Towards
 pub mod Turns
