@@ -8,7 +8,7 @@ use Rattle.m2_feed.specs.m2_handshake.Course.{Course, opener_course, text_of}
 use Rattle.m2_feed.specs.m2_handshake.Greeting.{greeting}
 use Rattle.m2_feed.specs.m2_handshake.Moves.{is_authed}
 use Rattle.m2_feed.specs.m2_handshake.Standing.{fed, opener_at_start}
-use Rattle.m2_feed.proofs.m2_handshake.Speaking.{opener_greets}
+use Rattle.m2_feed.proofs.m2_handshake.Speaking.{opener_greets, text_is_front}
 use Rattle.m2_feed.specs.m2_session.SessionLaws.{takes}
 use Rattle.m2_feed.specs.m2_journal.declared.entry.JudgedItem.{JudgedItem}
 use Rattle.m2_feed.specs.m2_journal.Feeds.{signs, silent_feed, split_into}
@@ -27,7 +27,6 @@ use Rattle.m2_bytes_fit.proofs.Less.{FeedLess, SameBytes}
 use Rattle.m2_bytes_fit.proofs.Lists.{some_not_none}
 use Rattle.m2_bytes_fit.proofs.Puts.{HasPut, IsPut, is_put, late_text}
 use Rattle.m2_bytes_fit.proofs.Says.{NoAsk}
-use Rattle.m2_bytes_fit.proofs.Speaking.{text_is_front}
 
 -- ---- what is seen of a socket
 

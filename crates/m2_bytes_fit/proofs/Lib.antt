@@ -22,7 +22,6 @@ pub mod Posts
 pub mod Puts
 pub mod Says
 pub mod Sent
-pub mod Speaking
 pub mod Steps
 pub mod Trails
 pub use Rattle.m2_feed.proofs as m2_feed

@@ -5,7 +5,7 @@ use Rattle.std.specs.Int.{w32, w64, to_le_bytes}
 use Rattle.std.proofs.lemmas.List.Elements.{All-from_recursion, All-append}
 use Rattle.m2_feed.specs.m2_control.declared.control.Control.TheVariants as control
 use Rattle.m2_feed.specs.m2_control.Control as payload
-use Rattle.m2_feed.specs.m2_handshake.Texts.{control_parts, done, signature}
+use Rattle.m2_feed.specs.m2_handshake.Texts.{control_parts, done}
 use Rattle.m2_feed.proofs.m2_handshake.Greeting.{IsSent, payload_read, no_bytes}
 use Rattle.m2_feed.specs.m2_journal.Laws.{IsWritable}
 use Rattle.m2_trail.specs.Replies.{refusal}
@@ -30,20 +30,6 @@ done_sent = record {
   fits = record { tag_from = omega arith; tag_to = omega arith; count = omega arith; first = omega arith; second = omega arith; third = omega arith; fourth = omega arith };
   bytes = record { first = done_bytes; second = no_bytes; third = no_bytes; fourth = no_bytes };
   read = payload_read done (omega arith, omega arith) (omega arith);
-}
-
-signature_bytes : All (λ b. b < 256) (payload.text_of signature)
-signature_bytes =
-    let eight = 0 ∷ 0 ∷ 0 ∷ 0 ∷ 0 ∷ 0 ∷ 0 ∷ 0 ∷ [] in
-    let sixteen = 0 ∷ 0 ∷ 0 ∷ 0 ∷ 0 ∷ 0 ∷ 0 ∷ 0 ∷ eight in
-    let most = 0 ∷ 0 ∷ 0 ∷ 0 ∷ 0 ∷ 0 ∷ 0 ∷ 0 ∷ sixteen in
-    eight_zeros_before most (eight_zeros_before sixteen (eight_zeros_before eight zeros))
-
-pub signature_sent : IsSent signature
-signature_sent = record {
-  fits = record { tag_from = omega arith; tag_to = omega arith; count = omega arith; first = omega arith; second = omega arith; third = omega arith; fourth = omega arith };
-  bytes = record { first = signature_bytes; second = no_bytes; third = no_bytes; fourth = no_bytes };
-  read = payload_read signature tt refl;
 }
 
 -- ---- what no entry names, whatever numbers stand in it

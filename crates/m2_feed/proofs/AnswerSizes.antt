@@ -83,7 +83,7 @@ abbrev pub IsNoPayload : Said → Type 0
 IsNoPayload (says c) = ⊥
 IsNoPayload _ = Unit {0}
 
-message-says : (f : Parts) → IsNoPayload (said_of_message f)
+pub message-says : (f : Parts) → IsNoPayload (said_of_message f)
 message-says f = at (length f.first == HEADER_BYTES)
   where
     at : (b : Bool) → IsNoPayload (if b then brings (message_in f) else garbles)

@@ -3,40 +3,28 @@ use Rattle.std.proofs.Common.{◌≡◌, ◌≢◌, ℕ, ◌+◌, ◌≤◌, ◌
 use Rattle.std.specs.Prelude.{◌&&◌, ◌||◌, if◌then◌else◌, nat_lt, option_map}
 use Rattle.std.specs.List.{cons_option, filter_map, list_any}
 use Rattle.std.specs.Option.{is_some, option_to_list}
-use Rattle.std.proofs.lemmas.Bool.{true≢false, eq-eqb, lt-ltb}
-use Rattle.m2_frame.specs.declared.epilogue.Late.{Late}
-use Rattle.m2_frame.specs.declared.epilogue.Late.TheVariants.{Complete, Aborted}
+use Rattle.std.proofs.lemmas.Bool.{eq-eqb, lt-ltb}
 use Rattle.m2_frame.specs.declared.fault.FrameFault.{FrameFault}
-use Rattle.m2_frame.specs.declared.fault.FrameFault.TheVariants.{BadSegmentCrc}
-use Rattle.m2_frame.specs.declared.preamble.Preamble.{Preamble}
-use Rattle.m2_frame.specs.declared.preamble.TheConstants.{PREAMBLE_BYTES}
-use Rattle.m2_frame.specs.Frame.{Parts, message_tag}
-use Rattle.m2_frame.specs.Preamble.{read_preamble}
-use Rattle.m2_frame.specs.Reading.{Item, whole, dropped, Front, start, bad, text, first_is_right, first_len, later_len, frame_in, front_of, judge, judge_body, judge_first, judge_later, judge_rest, owed_at, size_asked, size_of, text_len}
-use Rattle.m2_frame.proofs.Cutting.{bad_isnt_text, same_text, start_isnt_text}
+use Rattle.m2_frame.specs.Frame.{message_tag}
+use Rattle.m2_frame.specs.Reading.{Item, Front, start, bad, text, judge, owed_at, size_of}
+use Rattle.m2_frame.proofs.Cutting.{bad_isnt_text, start_isnt_text}
 use Rattle.m2_handshake.specs.declared.answer.HalfStep.TheVariants as half
 use Rattle.m2_handshake.specs.declared.fault.HalfFault.{HalfFault}
-use Rattle.m2_handshake.proofs.Leading.{either}
 use Rattle.m2_journal.specs.Feeds.{answer_said, next_said, is_passed, said_at, told, told_by}
 use Rattle.m2_journal.specs.Lawful.{acknowledges_too_much, begins_message, has_failed, is_bad, is_broken, is_early_message, is_refused, said_next}
-use Rattle.m2_journal.specs.Said.{Said, says, brings, aborts, garbles, said, said_by, said_of_message}
+use Rattle.m2_journal.specs.Said.{said}
 use Rattle.m2_journal.specs.SideFacts.{SideFacts}
 use Rattle.m2_journal.specs.State.{Feed, State}
-use Rattle.m2_message.specs.declared.header_text.TheConstants.{HEADER_BYTES}
-use Rattle.m2_message.specs.MessageFrame.{message_in}
-use Rattle.m2_session.specs.declared.session.Phase.{Phase}
-use Rattle.m2_session.specs.declared.session.Phase.TheVariants.{Absent, Connecting, IdentSent, ReconnectSent, Ready, Standby, Wait}
 use Rattle.m2_session.specs.Phases as phase
-use Rattle.m2_frame.specs.Tags.{tag_in}
 use Rattle.m2_feed.specs.Calls.{GreetsOn, IsBad, IsFront, Owes}
 use Rattle.m2_feed.specs.FeedNow.{FeedNow, Reading, shaking, framing}
 use Rattle.m2_feed.specs.FeedLaws.{FindsFaults, HearsTold}
 use Rattle.m2_feed.specs.Stands.{Frames, ReadsAs, Shakes, Stands, is_ready, passes_over}
 use Rattle.m2_feed.proofs.Framing.{at-front, idle-next, idle-place, ready-place}
 use Rattle.m2_feed.proofs.Shaking.{fails-there}
-use Rattle.m2_bytes.proofs.m2_lemmas.Options.{none_isnt_some}
 use Rattle.m2_bytes.proofs.m2_lemmas.Booleans.{fifth_of_five}
-use Rattle.m2_feed.proofs.AnswerSizes.{size-in, get-past, open-there}
+use Rattle.m2_feed.proofs.Heeding.{no_message}
+use Rattle.m2_feed.proofs.AnswerSizes.{item_tag, get-past, item-says, judge-tag, open-there, size-asks}
 
 -- ---- one fault of several
 
@@ -87,95 +75,6 @@ refused-there f s item len v d rest granted j stops refuses k =
 
 -- ---- a size that is asked for is that of a MESSAGE
 
-item_tag : Item → ℕ
-item_tag (whole f) = f.tag
-item_tag (dropped tag) = tag
-
-front-tag : (p : Preamble) (first later : List ℕ) (r : Result Late FrameFault) (i : Item) (n : ℕ) → front_of p first later r ≡ text i n → item_tag i ≡ p.tag
-unfolding item_tag
-front-tag p first later (Ok Complete) i n e = ap item_tag (sym (same_text (whole (frame_in p first later)) i (text_len p) n e).0)
-front-tag p first later (Ok Aborted) i n e = ap item_tag (sym (same_text (dropped p.tag) i (text_len p) n e).0)
-front-tag p first later (Err f) i n e = absurd (bad_isnt_text f i n e)
-
-later-tag : (p : Preamble) (first after : List ℕ) (i : Item) (n : ℕ) → judge_later p first after ≡ text i n → item_tag i ≡ p.tag
-unfolding judge_later
-later-tag p first after i n =
-    either (λ m. m ≡ text i n → item_tag i ≡ p.tag) (nat_lt (length after) (later_len p)) start (front_of p first (take (later_len p) after) (judge_rest p (take (later_len p) after)))
-    (λ e. absurd (start_isnt_text i n e)) (front-tag p first (take (later_len p) after) (judge_rest p (take (later_len p) after)) i n)
-
-first-tag : (p : Preamble) (body : List ℕ) (i : Item) (n : ℕ) → judge_first p body ≡ text i n → item_tag i ≡ p.tag
-unfolding judge_first
-first-tag p body i n =
-    let after = if first_is_right p (take (first_len p) body) then judge_later p (take (first_len p) body) (drop (first_len p) body) else bad (BadSegmentCrc 0) in
-    either (λ m. m ≡ text i n → item_tag i ≡ p.tag) (nat_lt (length body) (first_len p)) start after
-    (λ e. absurd (start_isnt_text i n e))
-    (either (λ m. m ≡ text i n → item_tag i ≡ p.tag) (first_is_right p (take (first_len p) body)) (judge_later p (take (first_len p) body) (drop (first_len p) body)) (bad (BadSegmentCrc 0))
-    (later-tag p (take (first_len p) body) (drop (first_len p) body) i n) (λ e. absurd (bad_isnt_text (BadSegmentCrc 0) i n e)))
-
-judge-tag : (rest : List ℕ) (p : Preamble) (i : Item) (n : ℕ) → read_preamble (take PREAMBLE_BYTES rest) ≡ Ok p → judge rest ≡ text i n → item_tag i ≡ p.tag
-unfolding judge
-judge-tag rest p i n read =
-    either (λ m. m ≡ text i n → item_tag i ≡ p.tag) (nat_lt (length rest) PREAMBLE_BYTES) start (judge_body (read_preamble (take PREAMBLE_BYTES rest)) (drop PREAMBLE_BYTES rest))
-    (λ e. absurd (start_isnt_text i n e))
-    (λ e. first-tag p (drop PREAMBLE_BYTES rest) i n (ap (λ r. judge_body r (drop PREAMBLE_BYTES rest)) (sym read) ∙ e))
-
-abbrev Asks : List ℕ → Type 0
-Asks rest = (p : Preamble) × (read_preamble (take PREAMBLE_BYTES rest) ≡ Ok p) × (p.tag ≡ message_tag)
-
-size-asks : (rest : List ℕ) (n : ℕ) → size_of rest ≡ Some n → Asks rest
-unfolding size_of
-size-asks rest n =
-    either (λ m. m ≡ Some n → Asks rest) (nat_lt (length rest) PREAMBLE_BYTES) None (size_asked (read_preamble (take PREAMBLE_BYTES rest)))
-    (λ e. absurd (none_isnt_some n e)) (at (read_preamble (take PREAMBLE_BYTES rest)) refl)
-  where
-    at : (r : Result Preamble FrameFault) → read_preamble (take PREAMBLE_BYTES rest) ≡ r → size_asked r ≡ Some n → Asks rest
-    at (Ok p) q e = (p, q, size-in p n e)
-    at (Err f) q e = absurd (none_isnt_some n e)
-
--- what a MESSAGE says is no payload
-abbrev IsNoPayload : Said → Type 0
-IsNoPayload (says c) = ⊥
-IsNoPayload _ = Unit {0}
-
-message-says : (f : Parts) → IsNoPayload (said_of_message f)
-message-says f = at (length f.first == HEADER_BYTES)
-  where
-    at : (b : Bool) → IsNoPayload (if b then brings (message_in f) else garbles)
-    at true = tt
-    at false = tt
-
-item-says : (i : Item) → item_tag i ≡ message_tag → IsNoPayload (said i)
-unfolding item_tag
-item-says (whole f) e = subst (λ t. IsNoPayload (said_by (tag_in t) f)) (sym e) (message-says f)
-item-says (dropped tag) e = tt
-
-message-refused : (p : Phase) (last : ℕ) (x : Said) → phase.is p Ready ≡ false → IsNoPayload x → is_refused p last (Some x) ≡ true
-message-refused ReconnectSent last (brings m) q h = refl
-message-refused ReconnectSent last aborts q h = refl
-message-refused ReconnectSent last garbles q h = refl
-message-refused ReconnectSent last (says c) q h = absurd h
-message-refused Ready last x q h = absurd (true≢false q)
-message-refused Absent last (brings m) q h = refl
-message-refused Absent last aborts q h = refl
-message-refused Absent last garbles q h = refl
-message-refused Absent last (says c) q h = absurd h
-message-refused Connecting last (brings m) q h = refl
-message-refused Connecting last aborts q h = refl
-message-refused Connecting last garbles q h = refl
-message-refused Connecting last (says c) q h = absurd h
-message-refused IdentSent last (brings m) q h = refl
-message-refused IdentSent last aborts q h = refl
-message-refused IdentSent last garbles q h = refl
-message-refused IdentSent last (says c) q h = absurd h
-message-refused Standby last (brings m) q h = refl
-message-refused Standby last aborts q h = refl
-message-refused Standby last garbles q h = refl
-message-refused Standby last (says c) q h = absurd h
-message-refused Wait last (brings m) q h = refl
-message-refused Wait last aborts q h = refl
-message-refused Wait last garbles q h = refl
-message-refused Wait last (says c) q h = absurd h
-
 early-open : (f : SideFacts) (s : State) (n : ℕ) (v : FeedNow) (d : Feed) (rest : List ℕ) (granted : Bool) → is_ready s ≡ false → size_of rest ≡ Some n →
     ((i : Item) (n : ℕ) → judge rest ≢ text i n) → Frames f s v d rest granted → is_broken s d ≡ true
 early-open f s n v d rest granted q size none k =
@@ -201,7 +100,7 @@ early-there f s n v d rest granted q owes k = at (judge rest) refl
     at (text item len) e =
         let asks = size-asks rest n size in
         let tag : item_tag item ≡ message_tag = judge-tag rest asks.0 item len asks.1 e ∙ asks.2 in
-        refused-there f s item len v d rest granted e (ap (λ b. b && is_passed s.last (said item)) q) (message-refused s.session.phase s.last (said item) q (item-says item tag)) k
+        refused-there f s item len v d rest granted e (ap (λ b. b && is_passed s.last (said item)) q) (no_message s.session.phase s.last (said item) q (item-says item tag)) k
 
 -- ---- what is told
 

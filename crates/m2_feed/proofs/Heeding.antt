@@ -48,6 +48,7 @@ use Rattle.m2_feed.specs.declared.hearer.Hearer.{Hearer}
 use Rattle.m2_feed.specs.FrameHeard.{heard_aborted, heard_ack, heard_as_answer, heard_control, heard_if, heard_in_ready, heard_message, heard_numbers, heard_of_tag, heard_payload, may_come}
 use Rattle.m2_feed.specs.FrameLaws.{IsAsReplayed, IsHeardAsReplayed, IsRefused}
 use Rattle.m2_bytes.proofs.m2_lemmas.Options.{none_isnt_some}
+use Rattle.m2_feed.proofs.AnswerSizes.{IsNoPayload, message-says}
 
 -- ---- words
 
@@ -101,11 +102,7 @@ unlawful Standby c last e = (λ r. cc, refl)
 unlawful Wait c last e = (λ r. cc, refl)
 
 -- outside Ready no message may come, whether it can be read or not
-abbrev IsNoPayload : Said → Type 0
-IsNoPayload (says c) = ⊥
-IsNoPayload _ = Unit {0}
-
-no_message : (p : Phase) (last : ℕ) (x : Said) → phase.is p Ready ≡ false → IsNoPayload x → is_refused p last (Some x) ≡ true
+pub no_message : (p : Phase) (last : ℕ) (x : Said) → phase.is p Ready ≡ false → IsNoPayload x → is_refused p last (Some x) ≡ true
 no_message Ready last x q h = absurd (true≢false q)
 no_message p last (says c) q h = absurd h
 no_message ReconnectSent last (brings m) q h = refl
@@ -290,13 +287,6 @@ lawful_text : (h : Hearer) (t : Tag) (f : Parts) → may_come t h.phase ≡ true
 lawful_text h tag.Message f e = message_text h f (message_phase h.phase e)
 lawful_text h t f e = payload_text h t f e (λ q. cc)
 
-message_says : (f : Parts) → IsNoPayload (said_of_message f)
-message_says f = at (length f.first == HEADER_BYTES)
-  where
-    at : (b : Bool) → IsNoPayload (if b then brings (message_in f) else garbles)
-    at true = tt
-    at false = tt
-
 unlawful_said : (h : Hearer) (t : Tag) (r : Result Control ControlFault) (b : Bool) → may_come t h.phase ≡ false → ((c : Control) → r ≡ Ok c → tag_of c ≡ t) →
     IsRefused h (if b then said_of_payload r else garbles)
 unlawful_said h t (Ok c) true e tags =
@@ -306,7 +296,7 @@ unlawful_said h t (Err f) true e tags = garbled h
 unlawful_said h t r false e tags = garbled h
 
 unlawful_text : (h : Hearer) (t : Tag) (f : Parts) → may_come t h.phase ≡ false → IsRefused h (said_by (Some t) f)
-unlawful_text h tag.Message f e = early h (said_of_message f) (no_message_phase h.phase e) (message_says f)
+unlawful_text h tag.Message f e = early h (said_of_message f) (no_message_phase h.phase e) (message-says f)
 unlawful_text h t f e = unlawful_said h t (payload_of t f.first) (is_read_at_feed t) e (λ c q. tag_read t f.first c q)
 
 frame_text : (h : Hearer) (o : Option Tag) (f : Parts) → IsAsReplayed (heard_if h o f) h (said_by o f)

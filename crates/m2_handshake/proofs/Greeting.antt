@@ -112,7 +112,7 @@ signature_bytes =
     let most = 0 ∷ 0 ∷ 0 ∷ 0 ∷ 0 ∷ 0 ∷ 0 ∷ 0 ∷ sixteen in
     eight_zeros_before most (eight_zeros_before sixteen (eight_zeros_before eight zeros))
 
-signature_sent : IsSent signature
+pub signature_sent : IsSent signature
 signature_sent = record {
   fits = record { tag_from = omega arith; tag_to = omega arith; count = omega arith; first = omega arith; second = omega arith; third = omega arith; fourth = omega arith };
   bytes = record { first = signature_bytes; second = no_bytes; third = no_bytes; fourth = no_bytes };

@@ -1,4 +1,4 @@
--- An opener that has signed has written its greeting, and nothing more, whatever it was fed.
+-- What an opener has written is the front of its greeting, whatever it was fed; and one that has signed has written all of it.
 use Rattle.std.proofs.Common.{◌≡◌, ℕ, zero, suc, ◌+◌, Bool, true, false, List, [], ◌∷◌, ◌++◌, Option, Some, None, Result, Ok, Err, refl, sym, ap, ◌∙◌, subst, append_assoc, append-nil}
 use Rattle.std.specs.Prelude.{◌==◌}
 use Rattle.m2_addr.specs.declared.addr.Addr.{Addr}
@@ -28,6 +28,7 @@ use Rattle.m2_handshake.specs.Steps.{Reaction, says, listens, signed, refuses, a
 use Rattle.m2_handshake.specs.Texts.{frame_text, hello, request, signature}
 use Rattle.m2_handshake.proofs.Course.{no_more}
 use Rattle.m2_handshake.proofs.Leading.{either, Leads, leads, tells, true_isnt_false}
+use Rattle.m2_handshake.specs.Laws.{IsPrefix}
 
 -- what it has written by where it stands: it never waits for AUTH_REQUEST, and is never asked
 abbrev Said : ℕ → Addr → Stage → List ℕ → Type 0
@@ -40,7 +41,32 @@ Said entity dialled (Waits Signature) words = words ≡ ((banner_text features +
 Said entity dialled Authed words = words ≡ ((banner_text features ++ frame_text (hello entity dialled)) ++ frame_text request) ++ frame_text signature
 Said entity dialled Asked words = ⊥
 Said entity dialled Ended words = ⊥
-Said entity dialled (Faulty f) words = Unit {0}
+Said entity dialled (Faulty f) words = IsPrefix words (greeting entity dialled [])
+
+second : (a b c d : List ℕ) → a ++ (b ++ (c ++ (d ++ []))) ≡ (a ++ b) ++ (c ++ (d ++ []))
+second a b c d = simp (append_assoc)
+
+third : (a b c d : List ℕ) → a ++ (b ++ (c ++ (d ++ []))) ≡ ((a ++ b) ++ c) ++ (d ++ [])
+third a b c d = simp (append_assoc)
+
+fourth : (a b c d : List ℕ) → a ++ (b ++ (c ++ (d ++ []))) ≡ (((a ++ b) ++ c) ++ d) ++ []
+fourth a b c d = simp (append_assoc)
+
+at_front : (entity : ℕ) (dialled : Addr) (words front more : List ℕ) → words ≡ front → greeting entity dialled [] ≡ front ++ more → IsPrefix words (greeting entity dialled [])
+at_front entity dialled words front more e g = (more, g ∙ ap (λ l. l ++ more) (sym e))
+
+-- it is the front of its greeting
+front : (entity : ℕ) (dialled : Addr) (words : List ℕ) (stage : Stage) → Said entity dialled stage words → IsPrefix words (greeting entity dialled [])
+front entity dialled words Opening h = at_front entity dialled words [] _ h refl
+front entity dialled words Banner h = at_front entity dialled words _ _ h refl
+front entity dialled words (Waits Hello) h = at_front entity dialled words _ _ h (second (banner_text features) (frame_text (hello entity dialled)) (frame_text request) (frame_text signature))
+front entity dialled words (Waits Request) h = absurd h
+front entity dialled words (Waits Done) h = at_front entity dialled words _ _ h (third (banner_text features) (frame_text (hello entity dialled)) (frame_text request) (frame_text signature))
+front entity dialled words (Waits Signature) h = at_front entity dialled words _ _ h (fourth (banner_text features) (frame_text (hello entity dialled)) (frame_text request) (frame_text signature))
+front entity dialled words Authed h = at_front entity dialled words _ _ h (fourth (banner_text features) (frame_text (hello entity dialled)) (frame_text request) (frame_text signature))
+front entity dialled words Asked h = absurd h
+front entity dialled words Ended h = absurd h
+front entity dialled words (Faulty f) h = h
 
 record IsOpener (entity : ℕ) (dialled : Addr) (s : Standing) : Type 0 where
   side : s.side ≡ Opener
@@ -56,13 +82,13 @@ SpeaksOn entity dialled words (quiet b) = Speaks entity dialled b words
 SpeaksOn entity dialled words (writes more b) = Speaks entity dialled b (words ++ more)
 SpeaksOn entity dialled words (signs b) = Speaks entity dialled b words
 SpeaksOn entity dialled words (asks ask b) = ⊥
-SpeaksOn entity dialled words (fails f) = Unit {0}
+SpeaksOn entity dialled words (fails f) = IsPrefix words (greeting entity dialled [])
 
 -- ---- a move
 
 takes_on : (entity : ℕ) (dialled : Addr) (words : List ℕ) (s : Standing) (front : Front) → Speaks entity dialled s words → SpeaksOn entity dialled words (take_frame s front)
 takes_on entity dialled words s start k = tt
-takes_on entity dialled words s (bad f) k = tt
+takes_on entity dialled words s (bad f) k = front entity dialled words s.stage k.1
 takes_on entity dialled words s (text (dropped tag) n) k = (record { side = k.0.side; named = k.0.named; dials = k.0.dials }, k.1)
 takes_on entity dialled words s (text (whole f) n) k = (record { side = k.0.side; named = k.0.named; dials = k.0.dials }, k.1)
 
@@ -71,17 +97,17 @@ ReactsOn entity dialled words s r = SpeaksOn entity dialled words (after_reactio
 
 hello_on : (entity : ℕ) (dialled : Addr) (words : List ℕ) (s : Standing) (c : Control) → IsOpener entity dialled s → Said entity dialled (Waits Hello) words → ReactsOn entity dialled words s (after Opener Hello c)
 hello_on entity dialled words s (control.Hello p) o h = (record { side = o.side; named = o.named; dials = o.dials }, ap (λ (l : List ℕ). l ++ frame_text request) h)
-hello_on entity dialled words s c o h = tt
+hello_on entity dialled words s c o h = front entity dialled words (Waits Hello) h
 
 done_on : (entity : ℕ) (dialled : Addr) (words : List ℕ) (s : Standing) (c : Control) → IsOpener entity dialled s → Said entity dialled (Waits Done) words → ReactsOn entity dialled words s (after Opener Done c)
 done_on entity dialled words s (control.AuthDone d) o h = either (ReactsOn entity dialled words s) (d.mode == CRC) (says Signature (frame_text signature)) (refuses fault.BadAuth)
-    (record { side = o.side; named = o.named; dials = o.dials }, ap (λ (l : List ℕ). l ++ frame_text signature) h) tt
-done_on entity dialled words s c o h = tt
+    (record { side = o.side; named = o.named; dials = o.dials }, ap (λ (l : List ℕ). l ++ frame_text signature) h) (front entity dialled words (Waits Done) h)
+done_on entity dialled words s c o h = front entity dialled words (Waits Done) h
 
 signature_on : (entity : ℕ) (dialled : Addr) (words : List ℕ) (s : Standing) (c : Control) → IsOpener entity dialled s → Said entity dialled (Waits Signature) words → ReactsOn entity dialled words s (after Opener Signature c)
 signature_on entity dialled words s (control.AuthSignature p) o h = either (ReactsOn entity dialled words s) (is_unsigned p.signature.bytes) signed (refuses fault.BadSignature)
-    (record { side = o.side; named = o.named; dials = o.dials }, h) tt
-signature_on entity dialled words s c o h = tt
+    (record { side = o.side; named = o.named; dials = o.dials }, h) (front entity dialled words (Waits Signature) h)
+signature_on entity dialled words s c o h = front entity dialled words (Waits Signature) h
 
 payload_on : (entity : ℕ) (dialled : Addr) (words : List ℕ) (s : Standing) (awaited : Awaited) (c : Control) → IsOpener entity dialled s → Said entity dialled (Waits awaited) words → ReactsOn entity dialled words s (after Opener awaited c)
 payload_on entity dialled words s Hello c o h = hello_on entity dialled words s c o h
@@ -92,13 +118,13 @@ payload_on entity dialled words s Signature c o h = signature_on entity dialled 
 read_on : (entity : ℕ) (dialled : Addr) (words : List ℕ) (s : Standing) (awaited : Awaited) (r : Result Control HalfFault) → IsOpener entity dialled s → Said entity dialled (Waits awaited) words →
     ReactsOn entity dialled words s (after_payload Opener awaited r)
 read_on entity dialled words s awaited (Ok c) o h = payload_on entity dialled words s awaited c o h
-read_on entity dialled words s awaited (Err f) o h = tt
+read_on entity dialled words s awaited (Err f) o h = front entity dialled words (Waits awaited) h
 
 frame_on : (entity : ℕ) (dialled : Addr) (words : List ℕ) (s : Standing) (awaited : Awaited) (f : Parts) → IsOpener entity dialled s → Said entity dialled (Waits awaited) words →
     ReactsOn entity dialled words s (after_frame Opener awaited f)
 frame_on entity dialled words s awaited f o h = either (ReactsOn entity dialled words s) (f.tag == tag_number (awaited_tag awaited))
     (after_payload Opener awaited (payload_in (awaited_tag awaited) f.first)) (refuses (unawaited awaited f.tag))
-    (read_on entity dialled words s awaited (payload_in (awaited_tag awaited) f.first) o h) tt
+    (read_on entity dialled words s awaited (payload_in (awaited_tag awaited) f.first) o h) (front entity dialled words (Waits awaited) h)
 
 held_on : (entity : ℕ) (dialled : Addr) (words : List ℕ) (s : Standing) (awaited : Awaited) (held : Option Parts) → s.stage ≡ Waits awaited → IsOpener entity dialled s → Said entity dialled (Waits awaited) words →
     SpeaksOn entity dialled words (answer_held s awaited held)
@@ -109,9 +135,9 @@ banner_on : (entity : ℕ) (dialled : Addr) (words : List ℕ) (s : Standing) (b
 banner_on entity dialled words s (Got b n) o h = either (SpeaksOn entity dialled words) (is_agreed b) _ (fails fault.BannerFeatures) (
   record { side = o.side; named = o.named; dials = o.dials },
   ap (λ (l : List ℕ). l ++ frame_text (hello s.entity s.seen)) h ∙ ap (λ (e : ℕ). banner_text features ++ frame_text (hello e s.seen)) o.named ∙ ap (λ (a : Addr). banner_text features ++ frame_text (hello entity a)) o.dials,
-) tt
+) (front entity dialled words Banner h)
 banner_on entity dialled words s NotYet o h = tt
-banner_on entity dialled words s BadBanner o h = tt
+banner_on entity dialled words s BadBanner o h = front entity dialled words Banner h
 
 move_on : (entity : ℕ) (dialled : Addr) (words : List ℕ) (stage : Stage) (s : Standing) → s.stage ≡ stage → IsOpener entity dialled s → Said entity dialled stage words → SpeaksOn entity dialled words (course_move_at stage s)
 move_on entity dialled words Opening s q o h = (record { side = o.side; named = o.named; dials = o.dials }, ap (λ (l : List ℕ). l ++ banner_text features) h)
@@ -137,7 +163,7 @@ step_on entity dialled words a (quiet b) o k = no_words entity dialled words b k
 step_on entity dialled words a (writes more b) o k = k
 step_on entity dialled words a (signs b) o k = no_words entity dialled words b k
 step_on entity dialled words a (asks ask b) o k = absurd k
-step_on entity dialled words a (fails f) o k = (record { side = o.side; named = o.named; dials = o.dials }, tt)
+step_on entity dialled words a (fails f) o k = (record { side = o.side; named = o.named; dials = o.dials }, subst (λ l. IsPrefix l (greeting entity dialled [])) (sym (append-nil words)) k)
 
 own_on : (entity : ℕ) (dialled : Addr) (words : List ℕ) (e : Event) (a b : Standing) → Speaks entity dialled a words → step_of a ≡ goes e b → Speaks entity dialled b (words ++ text_in e)
 own_on entity dialled words e a b k g = subst (SpeaksStep entity dialled words) g (step_on entity dialled words a (course_move a) k.0 (move_on entity dialled words a.stage a refl k.0 k.1))
@@ -156,6 +182,12 @@ runs_on entity dialled words (e ∷ es) a b k (m, g, r) =
     (there.0, subst (Said entity dialled b.stage) (append_assoc words (text_in e) (text_of es)) there.1)
 
 -- ---- all that it writes
+
+pub text_is_front : (entity : ℕ) (dialled : Addr) (bytes : List ℕ) (es : List Event) (s : Standing) → Runs es (fed (opener_at_start entity dialled) bytes) s →
+    IsPrefix (text_of es) (greeting entity dialled [])
+text_is_front entity dialled bytes es s r =
+    let k = runs_on entity dialled [] es (fed (opener_at_start entity dialled) bytes) s (record { side = refl; named = refl; dials = refl }, refl) r in
+    front entity dialled (text_of es) s.stage k.1
 
 grouped : (a b c d : List ℕ) → ((a ++ b) ++ c) ++ d ≡ a ++ (b ++ (c ++ (d ++ [])))
 grouped a b c d = simp (append_assoc, append-nil)

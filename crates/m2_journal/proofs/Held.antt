@@ -5,9 +5,8 @@ use Rattle.m2_policy.proofs.m2_addr.Addresses.{all_push}
 use Rattle.m2_session.specs.declared.ask.AskFacts.{AskFacts}
 use Rattle.m2_fabric.specs.declared.socket.SocketId.{SocketId}
 use Rattle.m2_fabric.specs.Sockets.{is_among, same_socket}
-use Rattle.m2_handshake.specs.Course.{Course, course_of, text_of}
-use Rattle.m2_handshake.specs.Moves.{is_authed}
-use Rattle.m2_handshake.specs.Standing.{Standing, fed, opener_at_start}
+use Rattle.m2_handshake.specs.Course.{course_of}
+use Rattle.m2_handshake.specs.Standing.{opener_at_start}
 use Rattle.m2_message.specs.Message.{Content}
 use Rattle.m2_policy.specs.declared.path.Key.{Key}
 use Rattle.m2_queues.specs.OutQueues.{message_at}
@@ -18,7 +17,7 @@ use Rattle.m2_session.specs.declared.event.Event.TheVariants as event
 use Rattle.m2_session.specs.SessionLaws as session
 use Rattle.m2_session.specs.Steps.{step_of}
 use Rattle.m2_journal.specs.declared.entry.JudgedItem.{JudgedItem}
-use Rattle.m2_journal.specs.Feeds.{goes_on, greets, hears, hears_at, next_said, signs, silent_feed, split_into}
+use Rattle.m2_journal.specs.Feeds.{goes_on, hears, next_said, silent_feed}
 use Rattle.m2_journal.specs.Items as items
 use Rattle.m2_journal.specs.Items.{JournalItem}
 use Rattle.m2_journal.specs.Laws.{IfFed, taken_among}
@@ -27,12 +26,13 @@ use Rattle.m2_journal.specs.OutFrames as out
 use Rattle.m2_journal.specs.OutFrames.{OutFrame, is_unnamed, replies_of}
 use Rattle.m2_journal.specs.Plan.{Planned, to_post, to_dial, to_go_down}
 use Rattle.m2_journal.specs.Replay.{AreLawful, after_items}
-use Rattle.m2_journal.specs.Said.{split, Said, says, brings, aborts, garbles}
+use Rattle.m2_journal.specs.Said.{Said, says, brings, aborts, garbles}
 use Rattle.m2_journal.specs.SideFacts.{SideFacts, cookie_of}
 use Rattle.m2_journal.specs.State.{PartText, Feed, State, start}
 use Rattle.m2_journal.specs.Steps.{accepts, after, answers, breaks, closes, composes, discards, event_heard, event_of, forgets, has_effects, is_on, is_waiting, notes, on_feed_at, posts, puts, puts_on, queues, reads, sends, sends_late, sets_back, takes_answer, takes_answer_if, takes_socket, tells, tells_if, tells_of_reset, where_true, with_feed, without, writes_message}
 use Rattle.m2_journal.proofs.Sockets.{Came, CameSo, Grows, Names, all-kept, all-weaker, among-kept, came_so, distinct-kept, distinct-none, distinct-push, fresh, judgement, more_so, names_of, not_judged, not_taken, taken-append, taken-last}
 use Rattle.m2_fabric.proofs.Sockets.{among_last, among_front}
+use Rattle.m2_journal.proofs.SameFeed.{SameFeed, goes_on-same, hears-same, takes_answer_if-same}
 
 -- Of those that came so, where the record's names are now these: the feed came, in its own way; so did all that was spent,
 -- which is nothing twice and not the feed.
@@ -52,35 +52,10 @@ settles n s h = subst (λ (m : Names). Holds m m s) (sym h.0) h
 
 -- ---- feeds
 
-abbrev Same : Feed → Feed → Type 0
-Same d e = (e.socket ≡ d.socket) × (e.opened ≡ d.opened)
-
 -- another feed on the same socket
-stays : (came now : Names) (d e : Feed) (s : State) → Same d e → HoldsOn came now (Some d) s →
+stays : (came now : Names) (d e : Feed) (s : State) → SameFeed d e → HoldsOn came now (Some d) s →
     HoldsOn came now (Some e) s
 stays came now d e s same h = (h.0, rw (same.0, same.1) h.1, h.2, h.3, rw same.0 h.4)
-
-signs-same : (s : Standing) (d : Feed) → Same d (signs s d)
-signs-same s d = at (is_authed s.stage)
-  where
-    at : (b : Bool) →
-        Same d (if b then split_into (split s.rest) (record d { hand = None }) else record d { hand = Some s })
-    at true = (refl, refl)
-    at false = (refl, refl)
-
-goes_on-same : (c : Course) (d : Feed) → Same d (goes_on c d)
-goes_on-same c d = signs-same c.standing (record d { texts = greets (text_of c.events) d.texts })
-
-hears-same : (bytes : List ℕ) (d : Feed) → Same d (hears bytes d)
-hears-same bytes d = at d.hand
-  where
-    at : (o : Option Standing) → Same d (hears_at o bytes d)
-    at (Some s) = goes_on-same (course_of (fed s bytes) []) d
-    at None = (refl, refl)
-
-takes_answer_if-same : (o : Option Event) (d : Feed) → Same d (takes_answer_if o d)
-takes_answer_if-same (Some e) d = (refl, refl)
-takes_answer_if-same None d = (refl, refl)
 
 -- ---- effects
 

@@ -20,3 +20,4 @@ pub use Rattle.m2_fabric.proofs as m2_fabric
 pub use Rattle.m2_handshake.proofs as m2_handshake
 pub use Rattle.m2_bytes.proofs.m2_lemmas as m2_lemmas
 pub use Rattle.m2_queues.proofs as m2_queues
+pub mod SameFeed

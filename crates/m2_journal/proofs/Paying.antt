@@ -3,9 +3,8 @@ use Rattle.std.proofs.Common.{◌≡◌, ℕ, ◌+◌, ◌≤◌, Bool, true, fa
 use Rattle.std.specs.Prelude.{if◌then◌else◌, ◌&&◌}
 use Rattle.m2_session.specs.declared.ask.AskFacts.{AskFacts}
 use Rattle.m2_fabric.specs.declared.socket.SocketId.{SocketId}
-use Rattle.m2_handshake.specs.Course.{Course, course_of, text_of}
-use Rattle.m2_handshake.specs.Moves.{is_authed}
-use Rattle.m2_handshake.specs.Standing.{Standing, fed, opener_at_start}
+use Rattle.m2_handshake.specs.Course.{course_of}
+use Rattle.m2_handshake.specs.Standing.{opener_at_start}
 use Rattle.m2_message.specs.Message.{Content}
 use Rattle.m2_policy.specs.declared.path.Key.{Key}
 use Rattle.m2_session.specs.declared.answer.Answer.{Answer}
@@ -13,7 +12,7 @@ use Rattle.m2_session.specs.declared.event.Event.{Event}
 use Rattle.m2_session.specs.declared.event.Event.TheVariants as event
 use Rattle.m2_session.specs.SessionLaws as session
 use Rattle.m2_session.specs.Steps.{step_of}
-use Rattle.m2_journal.specs.Feeds.{greets, signs, goes_on, hears, hears_at, split_into, silent_feed, taken_feed, first_owed, next_said}
+use Rattle.m2_journal.specs.Feeds.{goes_on, hears, silent_feed, taken_feed, first_owed, next_said}
 use Rattle.m2_journal.specs.Items as items
 use Rattle.m2_journal.specs.Items.{JournalItem}
 use Rattle.m2_journal.specs.Laws.{IfFed, CanBePaid, AcknowledgementsCanBePaid}
@@ -23,10 +22,11 @@ use Rattle.m2_journal.specs.OutFrames.{OutFrame, acknowledges, is_unnamed, keepa
 use Rattle.m2_journal.specs.Plan.{Planned, to_post, to_dial, to_go_down}
 use Rattle.m2_journal.specs.Replay.{AreLawful, after_items}
 use Rattle.m2_queues.specs.QueueLaws.{Requeue}
-use Rattle.m2_journal.specs.Said.{split, Said, says, brings, aborts, garbles}
+use Rattle.m2_journal.specs.Said.{Said, says, brings, aborts, garbles}
 use Rattle.m2_journal.specs.SideFacts.{SideFacts, cookie_of}
 use Rattle.m2_journal.specs.State.{PartText, Feed, State, start}
-use Rattle.m2_journal.specs.Steps.{after, where_true, closes, sets_back, discards, tells_of_reset, has_effects, tells, tells_if, on_feed_at, posts, composes, sends, sends_late, puts_on, puts, reads, heeds, event_heard, takes_answer_if, closes_socket, breaks, forgets, is_on, writes_message, accepts, answers, notes, judges, takes_answer, takes_socket, with_feed, is_waiting, event_of, queues, acceptance, acknowledged_by}
+use Rattle.m2_journal.specs.Steps.{after, where_true, closes, sets_back, discards, tells_of_reset, has_effects, tells, tells_if, on_feed_at, posts, composes, sends, sends_late, puts_on, puts, reads, event_heard, takes_answer_if, breaks, forgets, is_on, writes_message, accepts, answers, notes, judges, takes_answer, takes_socket, with_feed, is_waiting, event_of, queues, acceptance, acknowledged_by}
+use Rattle.m2_journal.proofs.SameFeed.{SameFeed, goes_on-same, hears-same, takes_answer_if-same}
 
 -- of a feed, by the last accepted number and whether an acknowledgement is owed
 abbrev Pays : ℕ → Bool → Feed → Type 0
@@ -51,28 +51,8 @@ owed_at false n e = absurd (apart e)
 fresh : (d : Feed) (last : ℕ) (owes : Bool) → d.floor ≡ last → d.owed ≡ owes → Pays last owes d
 fresh d last owes e g = (rw e (omega arith), λ h. rw (e, g) (owed_at owes last h))
 
-abbrev Same : Feed → Feed → Type 0
-Same d e = (e.floor ≡ d.floor) × (e.owed ≡ d.owed)
-
-stays : (d e : Feed) (last : ℕ) (owes : Bool) → Same d e → Pays last owes d → Pays last owes e
-stays d e last owes same h = (rw same.0 h.0, λ o. rw (same.0, same.1) (h.1 o))
-
-signs-same : (s : Standing) (d : Feed) → Same d (signs s d)
-signs-same s d = at (is_authed s.stage)
-  where
-    at : (b : Bool) → Same d (if b then split_into (split s.rest) (record d { hand = None }) else record d { hand = Some s })
-    at true = (refl, refl)
-    at false = (refl, refl)
-
-goes_on-same : (c : Course) (d : Feed) → Same d (goes_on c d)
-goes_on-same c d = signs-same c.standing (record d { texts = greets (text_of c.events) d.texts })
-
-hears-same : (bytes : List ℕ) (d : Feed) → Same d (hears bytes d)
-hears-same bytes d = at d.hand
-  where
-    at : (o : Option Standing) → Same d (hears_at o bytes d)
-    at (Some s) = goes_on-same (course_of (fed s bytes) []) d
-    at None = (refl, refl)
+stays : (d e : Feed) (last : ℕ) (owes : Bool) → SameFeed d e → Pays last owes d → Pays last owes e
+stays d e last owes same h = (rw same.2 h.0, λ o. rw (same.2, same.3) (h.1 o))
 
 -- ---- effects
 
@@ -169,10 +149,6 @@ answers-sound f k a n answer unread s h = at (session.takes answer)
     at false = h
 
 -- ---- each entry
-
-takes_answer_if-same : (o : Option Event) (d : Feed) → Same d (takes_answer_if o d)
-takes_answer_if-same (Some e) d = (refl, refl)
-takes_answer_if-same None d = (refl, refl)
 
 after-sound : (f : SideFacts) (i : JournalItem) (s : State) → Lawful f i s → Sound s → Sound (after f i s)
 after-sound f (items.post place planned) s law h = posts-sound planned (record s { steps = s.steps + 1 }) h
