@@ -29,10 +29,9 @@ use Rattle.m2_feed.specs.m2_handshake.Steps.{Reaction, says, signed, after_paylo
 use Rattle.m2_feed.specs.m2_handshake.Texts.{control_parts, frame_text, hello, request, done, signature}
 use Rattle.m2_feed.proofs.m2_handshake.Banners.{is_step}
 use Rattle.m2_feed.proofs.m2_handshake.Course.{feeds, ways, stands, rests_there}
-use Rattle.m2_feed.proofs.m2_handshake.Greeting.{IsSent, hello_sent}
+use Rattle.m2_feed.proofs.m2_handshake.Greeting.{IsSent, hello_sent, signature_sent}
 use Rattle.m2_feed.proofs.m2_handshake.Reaching.{fed_twice}
 use Rattle.m2_bytes_fit.proofs.Sent.{done_sent}
-use Rattle.m2_feed.proofs.m2_handshake.Greeting.{signature_sent}
 
 -- ---- its steps
 

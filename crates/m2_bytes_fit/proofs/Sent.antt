@@ -10,7 +10,7 @@ use Rattle.m2_feed.proofs.m2_handshake.Greeting.{IsSent, payload_read, no_bytes}
 use Rattle.m2_feed.specs.m2_journal.Laws.{IsWritable}
 use Rattle.m2_trail.specs.Replies.{refusal}
 use Rattle.m2_bytes_fit.specs.Texts.{KeepsFormat}
-use Rattle.m2_feed.proofs.m2_lemmas.Bytes.{four_bytes, eight_zeros as zeros, eight_zeros_before}
+use Rattle.m2_feed.proofs.m2_lemmas.Bytes.{four_bytes}
 
 abbrev pub IsByte : ℕ → Type 0
 IsByte b = b < 256
