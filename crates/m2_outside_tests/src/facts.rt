@@ -16,9 +16,9 @@ use std::thread::Threads;
 use std::time::{Clock, Duration, Instant};
 
 /// In words of eight bytes.
-const TEN_MEGABYTES: usize = 1_250_000;
+const TWO_MEGABYTES: usize = 250_000;
 
-/// Whether ten megabytes pass both ways at once.
+/// Whether two megabytes pass both ways at once.
 pub(crate) fn bytes_pass_both_ways<F: Fabric, T: Threads>(
     threads: &T,
     alloc: Global,
@@ -30,8 +30,8 @@ where
     <F::Port as Port>::End: Send,
 {
     let mut link = link_up(fabric, at)?;
-    let there = noise(alloc, TEN_MEGABYTES, 1)?;
-    let back = noise(alloc, TEN_MEGABYTES, 2)?;
+    let there = noise(alloc, TWO_MEGABYTES, 1)?;
+    let back = noise(alloc, TWO_MEGABYTES, 2)?;
     let done = exchange_at_once(threads, alloc, &mut link, &there, &back)?;
     let all = passed(&link.opener, &link.acceptor, &there);
     let all_back = passed(&link.acceptor, &link.opener, &back);
@@ -146,7 +146,7 @@ pub(crate) fn waiting_takes_no_processor<F: Fabric, R: Files + Alloc + Clock>(
     Ok(nothing && waits_idly(rt, &mut link.opening)?)
 }
 
-/// Whether a byte that is written ends the wait of the other side's port, which would last a minute, and a
+/// Whether a byte that is written ends the wait of the other side's port, which would last twenty seconds, and a
 /// close the next one.
 pub(crate) fn what_comes_ends_a_wait<F: Fabric, R: Clock>(
     rt: &R,
@@ -157,9 +157,9 @@ pub(crate) fn what_comes_ends_a_wait<F: Fabric, R: Clock>(
     let start = Instant::now(rt)?;
     let mut byte = [0u8; 1];
     let put = write(&mut link.opener, &[7]) == EndWrite::Put(1);
-    let got = read_next(&mut link.accepting, &mut link.acceptor, &mut byte, 60_000);
+    let got = read_next(&mut link.accepting, &mut link.acceptor, &mut byte, 20_000);
     link.opener.close();
-    let ended = read_next(&mut link.accepting, &mut link.acceptor, &mut byte, 60_000);
+    let ended = read_next(&mut link.accepting, &mut link.acceptor, &mut byte, 20_000);
     let took = start.elapsed(rt)?;
     let told = got == EndRead::Got(1) && ended == EndRead::Ended;
     Ok(put && told && took < Duration::from_millis(10_000))

@@ -30,12 +30,7 @@ fn ports_in_memory(rt: HostRuntime) -> Result<(), Fail> {
     let mut fabric = MemFabric::new(rt, alloc)?;
     assert!(rt; a_connect_where_nobody_listens_fails(&mut fabric, &here(1))?);
     assert!(rt; only_the_first_port_accepts(&mut fabric, &here(2))?);
-    assert!(rt; fabric.gathered(0).is_none());
     assert!(rt; a_node_that_was_gathered_accepts_again(alloc, &mut fabric, &here(3))?);
-    let Some(kept) = fabric.gathered(0) else {
-        return Err(Fail::from("nothing was gathered"));
-    };
-    assert!(rt; kept.ports.len() == 1 && kept.ends.is_empty());
     Ok(())
 }
 

@@ -1,37 +1,12 @@
-//! Counters of numbers, alone and shared.
+//! A counter of numbers that two threads share.
 
 ghost use Rattle.std.specs.Prelude.{◌≡◌};
 
 use m2_bytes::NoMemory;
-use m2_shared::{Draw, LAST_NUMBER, NumberPass, Numbers};
+use m2_shared::{Draw, NumberPass, Numbers};
 use std::alloc::Global;
-use std::process::Abort;
 use std::test::Fail;
 use std::thread::join;
-
-/// Draws and raises.
-fn drawn_and_raised(rt: &impl Abort, numbers: &Numbers, mut pass: NumberPass)
-    requires pass { pass.place ≡ numbers.now.place }
-{
-    assert_eq!(rt; numbers.draw(&mut pass), Draw::Number(1));
-    assert_eq!(rt; numbers.draw(&mut pass), Draw::Number(2));
-    numbers.raise(&mut pass, 10);
-    assert_eq!(rt; numbers.draw(&mut pass), Draw::Number(11));
-    numbers.raise(&mut pass, 3);
-    assert_eq!(rt; numbers.draw(&mut pass), Draw::Number(12));
-    numbers.raise(&mut pass, LAST_NUMBER - 1);
-    assert_eq!(rt; numbers.draw(&mut pass), Draw::Number(1_099_511_627_776));
-    assert_eq!(rt; numbers.draw(&mut pass), Draw::Spent);
-}
-
-#[test]
-fn numbers_rise_to_the_last(rt: HostRuntime) -> Result<(), Fail> {
-    let (numbers, pass) = Numbers::alone();
-    drawn_and_raised(&rt, &numbers, pass);
-    let (numbers, pass) = Numbers::new(rt.alloc())?;
-    drawn_and_raised(&rt, &numbers, pass);
-    Ok(())
-}
 
 /// How many numbers a thread draws.
 const COUNT: usize = 10_000;
@@ -81,6 +56,9 @@ fn rises(xs: &[u64]) -> bool {
 fn two_threads_draw_20_000_numbers(rt: HostRuntime) -> Result<(), Fail> {
     let alloc = rt.alloc();
     let (numbers, mut first) = Numbers::new(alloc)?;
+    assert_eq!(rt; numbers.draw(&mut first), Draw::Number(1));
+    numbers.raise(&mut first, 10);
+    assert_eq!(rt; numbers.draw(&mut first), Draw::Number(11));
     let second = first.split(&numbers);
     let ((one, mut first), (two, second)) = join(
         &rt,
