@@ -144,7 +144,7 @@ module _ (supply : Supply) (entity : ℕ) (made : List SocketId) (records : List
     peers = was.peers;
     halves = all_push (λ (p : PendingNow). IsCaller (made ++ e.id ∷ []) records (caller_in p)) h.pending (unasked (accepted entity e room)) pending_still is_caller;
     loose = loose_still;
-    apart_turned = subst (IsDistinct same_socket)
+    apart = subst (IsDistinct same_socket)
         (sym (ap (λ l. l ++ map (λ (l : LooseNow). l.end.id) h.loose) (map-append (λ (p : PendingNow). p.half.end.id) h.pending (unasked (accepted entity e room) ∷ []))
         ∙ append_assoc (map (λ (p : PendingNow). p.half.end.id) h.pending) (e.id ∷ []) (map (λ (l : LooseNow). l.end.id) h.loose)))
         (distinct_between e.id (map (λ (p : PendingNow). p.half.end.id) h.pending) (map (λ (l : LooseNow). l.end.id) h.loose) was.apart new_to_all);
@@ -157,7 +157,7 @@ module _ (supply : Supply) (entity : ℕ) (made : List SocketId) (records : List
     peers = was.peers;
     halves = pending_still;
     loose = all_push (WasCaller (made ++ e.id ∷ []) records) h.loose (closed_of (accepted entity e room)) loose_still (record { asker = None; caller = is_caller });
-    apart_turned = subst (IsDistinct same_socket)
+    apart = subst (IsDistinct same_socket)
         (append_assoc (map (λ (p : PendingNow). p.half.end.id) h.pending) (map (λ (l : LooseNow). l.end.id) h.loose) (e.id ∷ [])
         ∙ ap (λ l. map (λ (p : PendingNow). p.half.end.id) h.pending ++ l) (sym (map-append (λ (l : LooseNow). l.end.id) h.loose (closed_of (accepted entity e room) ∷ []))))
         (distinct-push (sockets_of (sessions_with made records h)) e.id was.apart new_to_all);

@@ -67,7 +67,7 @@ taken_apart s e p c records all = record {
     peers = all.peers;
     halves = all.halves.1;
     loose = all.loose;
-    apart_turned = IsDistinct-tail same_socket p.half.end.id (sockets_of (without c records)) all.apart;
+    apart = IsDistinct-tail same_socket p.half.end.id (sockets_of (without c records)) all.apart;
   };
   caller = all.halves.0;
   own = (λ _. IsDistinct-head same_socket p.half.end.id (sockets_of (without c records)) all.apart);
@@ -80,7 +80,7 @@ before_others s e p c records all = record {
   peers = all.rest.peers;
   halves = (all.caller, all.rest.halves);
   loose = all.rest.loose;
-  apart_turned = IsDistinct-cons same_socket p.half.end.id (sockets_of (without c records)) (all.own records) all.rest.apart;
+  apart = IsDistinct-cons same_socket p.half.end.id (sockets_of (without c records)) (all.own records) all.rest.apart;
 }
 
 ids_last : (ls : List LooseNow) (l : LooseNow) → map (λ (x : LooseNow). x.end.id) (ls ++ l ∷ []) ≡ map (λ (x : LooseNow). x.end.id) ls ++ l.end.id ∷ []
@@ -100,7 +100,7 @@ over s e asker l c records all = record {
   peers = all.rest.peers;
   halves = all.rest.halves;
   loose = all_last (WasCaller c.made records) c.loose l all.rest.loose (record { asker = asker; caller = all.caller });
-  apart_turned = subst (IsDistinct same_socket)
+  apart = subst (IsDistinct same_socket)
       (append_assoc (map (λ (p : PendingNow). p.half.end.id) c.halves) (map (λ (x : LooseNow). x.end.id) c.loose) (l.end.id ∷ [])
       ∙ ap (λ t. map (λ (p : PendingNow). p.half.end.id) c.halves ++ t) (sym (ids_last c.loose l)))
       (distinct_last (sockets_of (without c records)) l.end.id
@@ -267,7 +267,7 @@ rest_answered answer old new e place peer a side behind c rs fits home is all = 
   loose = each_of_two (WasCaller c.made rs) (λ (l : LooseNow). same_socket a.end.id l.end.id ≡ false) (WasCaller c.made (slice_set rs place behind))
       (λ l was other. record { asker = was.asker; caller = beside (caller_of was.asker l) other was.caller }) c.loose all.rest.loose
       (by_id (λ j. same_socket a.end.id j ≡ false) (λ (l : LooseNow). l.end.id) c.loose (back_of a.end.id (map (λ (p : PendingNow). p.half.end.id) c.halves) (map (λ (l : LooseNow). l.end.id) c.loose) (all.own rs)));
-  apart_turned = all.rest.apart;
+  apart = all.rest.apart;
 }
   where
     beside : (d : Caller) → same_socket a.end.id d.socket ≡ false → IsCaller c.made rs d → IsCaller c.made (slice_set rs place behind) d

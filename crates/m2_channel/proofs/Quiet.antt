@@ -280,7 +280,7 @@ takes_text number key s d (Some aborts) = (refl, sym (append-nil (handed s.deliv
 takes_text number key s d (Some garbles) = (refl, sym (append-nil (handed s.deliveries)), sym (append-nil (letters s.deliveries)), λ h. h)
 takes_text number key s d None = (refl, sym (append-nil (handed s.deliveries)), sym (append-nil (letters s.deliveries)), λ h. h)
 
-accepted-leads : (f : SideFacts) (number : ℕ) (key : Key) (s : State) → Leads (item.accepted number key) s (after f (item.accepted number key) s)
+pub accepted-leads : (f : SideFacts) (number : ℕ) (key : Key) (s : State) → Leads (item.accepted number key) s (after f (item.accepted number key) s)
 accepted-leads f number key s = let it = at s.feed in record {
   base = ap (λ h. h.queue.base) it.0;
   keeps = ap (λ h. h.queue.keeps) it.0;

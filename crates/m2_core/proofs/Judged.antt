@@ -83,7 +83,7 @@ took true full a server = event.TookIdent full a.client server a.global
 took false full a server = event.TookReconnect a.global a.connect
 
 -- and where it isn't
-abbrev IsQuiet : Option Event → Type 0
+abbrev pub IsQuiet : Option Event → Type 0
 IsQuiet None = Unit {0}
 IsQuiet (Some event.Pending) = Unit {0}
 IsQuiet (Some _) = ⊥
@@ -146,10 +146,10 @@ ident_accepts s client global =
     (λ h. cc)
 
 -- the answer by the tables to an ask of this kind
-abbrev answered_by : Bool → Session → AskFacts → (written : ℕ) → Answer
+abbrev pub answered_by : Bool → Session → AskFacts → (written : ℕ) → Answer
 answered_by b s a written = if b then ident_answer s a.client a.global else reconnect_answer s (reconnect_of a) written
 
-abbrev told_by : Bool → AskFacts → Answer → (server : ℕ) → Option Event
+abbrev pub told_by : Bool → AskFacts → Answer → (server : ℕ) → Option Event
 told_by b a given server = if b then told_of_ident a given server else told_of_reconnect a given
 
 resumes : (s : Session) (a : AskFacts) (given : Answer) (written : ℕ) → given ≡ answered_by false s a written → takes given ≡ true → given ≡ answer.Resume
@@ -160,7 +160,7 @@ takes_by : (b : Bool) (s : Session) (a k : AskFacts) (given : Answer) (written s
 takes_by true s a k given written server e t = ident_takes given k.client server k.global t
 takes_by false s a k given written server e t = (false, rw (resumes s a given written e t) refl)
 
-refuses_by : (b : Bool) (k : AskFacts) (given : Answer) (server : ℕ) → takes given ≡ false → IsQuiet (told_by b k given server)
+pub refuses_by : (b : Bool) (k : AskFacts) (given : Answer) (server : ℕ) → takes given ≡ false → IsQuiet (told_by b k given server)
 refuses_by true k given server t = rw (ident_refuses given k.client server k.global t) tt
 refuses_by false k given server t = reconnect_refuses given (reconnect_of k) t
 

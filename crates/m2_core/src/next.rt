@@ -236,7 +236,7 @@ impl<E: End> Core<E> {
     }
 
     /// The same where a MESSAGE asks for its size.
-    #[tactic(auto, using(crate::proofs::Nexts::is_bounded, crate::proofs::Nexts::size_breaks, crate::proofs::Nexts::size_fed, crate::proofs::Nexts::next_granted, crate::proofs::Nexts::next_early, crate::proofs::Helds::word_granted))]
+    #[tactic(auto, using(crate::proofs::Nexts::is_bounded, crate::proofs::Heeded::early_breaks, crate::proofs::Nexts::size_fed, crate::proofs::Nexts::next_granted, crate::proofs::Nexts::next_early, crate::proofs::Helds::word_granted))]
     fn next_size(&mut self, n: u64, throttle: &Throttle, pass: &mut TakePass) -> CoreFront<E>
         requires owes { OnFeedNow self.old.live.feed (λ v. Owes v.reading n) }
         requires pass { pass.old.place ≡ throttle.now.place }

@@ -20,7 +20,7 @@ use Rattle.m2_session.specs.declared.session.Phase.TheVariants.{Absent, Connecti
 use Rattle.m2_session.specs.Phases.{is}
 use Rattle.m2_frame.specs.declared.tag.Tag.{Tag}
 use Rattle.m2_frame.specs.Tags.{tag_in}
-use Rattle.m2_feed.proofs.Answers as frames
+use Rattle.m2_feed.proofs.AnswersHeard as frames
 use Rattle.m2_feed.proofs.AnswerSizes.{IsNoPayload, get-past, item-says, judge-tag, open-there, size-asks}
 use Rattle.m2_feed.specs.Front.{event_in, frame_at, heard_at}
 use Rattle.m2_feed.specs.Heard.{event_of, heard_in, of_tag}

@@ -1,7 +1,7 @@
 pub mod AnswerFronts
 pub mod AnswerSizes
 pub mod Answering
-pub mod Answers
+pub mod AnswersHeard
 pub mod Begun
 pub mod Beside
 pub mod Bringing

@@ -43,6 +43,7 @@ use Rattle.m2_weave.specs.m2_journal.SideFacts.{SideFacts}
 use Rattle.m2_bytes_fit.specs.m2_never_reset.Frames.{is_ask}
 use Rattle.m2_bytes_fit.specs.m2_trail.Asks.{IsMain}
 use Rattle.m2_bytes_fit.specs.Halves.{KeepsRanges}
+use Rattle.m2_bytes_fit.proofs.m2_trail.Reading.{Holds, mapped}
 use Rattle.m2_bytes_fit.proofs.Says.{part}
 use Rattle.m2_bytes_fit.proofs.Sent.{IsByte, ack_writable, eight_bytes, stamp_writable}
 use Rattle.m2_fabric.proofs.m2_lemmas.Booleans.{from_false_true}
@@ -83,10 +84,6 @@ asks_under peer p =
 
 -- ---- a payload that begins with a vector of addresses
 
-abbrev Holds : {A F : Type 0} → (A → Type 0) → Result (A × List ℕ) F → Type 0
-Holds P (Ok x) = P x.0
-Holds P (Err e) = Unit {0}
-
 paired : {B F : Type 0} (addrs : List AnyAddr) (r : Result (B × List ℕ) F) →
     Holds (λ (x : (List AnyAddr) × B). x.0 ≡ addrs) (r >>= λ y. Ok ((addrs, y.0), y.1))
 paired addrs (Ok y) = refl
@@ -95,11 +92,6 @@ paired addrs (Err e) = tt
 begins_with : {B : Type 0} (addrs : List AnyAddr) (more : List ℕ → Result (B × List ℕ) ControlFault) (bytes rest : List ℕ) →
     vector_field bytes ≡ Ok (addrs, rest) → Holds (λ (x : (List AnyAddr) × B). x.0 ≡ addrs) ((vector_field ⊳ more) bytes)
 begins_with addrs more bytes rest e = rw e (paired addrs (more rest))
-
-mapped : {A B F : Type 0} (P : A → Type 0) (Q : B → Type 0) (make : A → B) (r : Result (A × List ℕ) F) → ((a : A) → P a → Q (make a)) → Holds P r →
-    Holds Q (r >>= λ x. Ok (make x.0, x.1))
-mapped P Q make (Ok x) f h = f x.0 h
-mapped P Q make (Err e) f h = tt
 
 -- under this main address, where it is an ask
 abbrev pub IsMine : Addr → Result (Ask × Addr) HalfFault → Type 0

@@ -197,7 +197,7 @@ record_judges c rs p place peer side behind own x =
       here = own.here;
       asked = asked_at (all_ends (held_with c rs p)) rs place side behind home.within home.here x.judges.since;
       judged = (λ j. record {
-        all_so = all_but_one (HasItsHalves (all_left h)) (HasItsHalves (all_left h)) rs place side behind home.within home.here (λ r f. f) (has_still c rs p place peer side behind x) j.each;
+        each = all_but_one (HasItsHalves (all_left h)) (HasItsHalves (all_left h)) rs place side behind home.within home.here (λ r f. f) (has_still c rs p place peer side behind x) j.each;
         made = all_but_one (AskedOnMade c.port.made) (AskedOnMade c.port.made) rs place side behind home.within home.here (λ r f. f) (made_still c rs p place peer side behind own x.judges) j.made;
         here = all_but_one (AskedTowards c.port.at) (AskedTowards c.port.at) rs place side behind home.within home.here (λ r f. f) (towards_still c rs p place peer side behind own x.judges) j.here;
         one_judge = one_still c rs p place peer side behind x.judges j.peers (mid_out (IsHeardBy rs) p c.before c.behind j.askers).0 j.one_judge;
@@ -318,7 +318,7 @@ record_takes c rs p place peer side behind own x =
     judged j =
         let two = mid_out (IsHeardBy rs) p c.before c.behind j.askers in
         record {
-          all_so = with_one
+          each = with_one
               (λ r. HasItsHalves (all_left (halves_with c p)) r × (is_among p.half.trail.socket (asked_on r) ≡ true → is_asker p.asker (peer_of r) ≡ true))
               (HasItsHalves (all_left (halves_without c))) peer side behind rs place j.peers x.judges.home.within x.judges.home.here x.judges.home.same
               (λ r other both. others_have c p peer r x.judges.asker other both)

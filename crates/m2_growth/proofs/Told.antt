@@ -3,7 +3,7 @@
 use Rattle.std.proofs.Common.{◌≡◌, ℕ, Bool, true, false, if◌then◌else◌, List, [], ◌++◌, Option, Some, None, refl, sym, ap, subst, ◌∙◌, append-nil}
 use Rattle.std.specs.Option.{option_to_list}
 use Rattle.m2_center.specs.m2_session.declared.ask.AskFacts.{AskFacts}
-use Rattle.m2_center.specs.m2_session.Asks.{reconnect_of, told_of_ident, told_of_reconnect}
+use Rattle.m2_center.specs.m2_session.Asks.{reconnect_of}
 use Rattle.m2_center.specs.m2_core.Judging.{told_of, verdict_on}
 use Rattle.m2_fabric.specs.End.{SeenEnd}
 use Rattle.m2_weave.specs.m2_journal.SideFacts.{SideFacts, cookie_of}
@@ -17,12 +17,10 @@ use Rattle.m2_center.specs.m2_session.declared.event.Event.{Event}
 use Rattle.m2_center.specs.m2_session.declared.event.Event.TheVariants as event
 use Rattle.m2_center.specs.m2_session.declared.session.Phase.TheVariants as phase
 use Rattle.m2_center.specs.m2_session.declared.session.Session.{Session}
-use Rattle.m2_center.specs.m2_session.Ident.{ident_answer}
 use Rattle.m2_center.specs.m2_session.SessionLaws.{ident_event, reconnect_event, takes}
 use Rattle.m2_center.specs.m2_session.Phases.{is, is_among, with_feed}
-use Rattle.m2_center.specs.m2_session.Reconnect.{Reconnect, reconnect_answer}
 use Rattle.m2_growth.proofs.Standing.{StandsOn, stands_by, stands_left}
-use Rattle.m2_center.proofs.m2_core.Judged.{reconnect_takes}
+use Rattle.m2_center.proofs.m2_core.Judged.{IsQuiet, answered_by, reconnect_takes, refuses_by, told_by}
 use Rattle.m2_fabric.proofs.m2_lemmas.Booleans.{false_isnt_true}
 
 -- ---- by the answer
@@ -32,12 +30,6 @@ abbrev pub IsTaking : Option Event → Type 0
 IsTaking (Some (event.TookIdent full client server global)) = Unit {0}
 IsTaking (Some (event.TookReconnect global connect)) = Unit {0}
 IsTaking _ = ⊥
-
--- it isn't
-abbrev pub IsQuiet : Option Event → Type 0
-IsQuiet None = Unit {0}
-IsQuiet (Some event.Pending) = Unit {0}
-IsQuiet _ = ⊥
 
 ident_taking : (a : Answer) (client server global : ℕ) → takes a ≡ true → IsTaking (ident_event a client server global)
 ident_taking answer.Accept client server global e = tt
@@ -49,42 +41,17 @@ ident_taking answer.AcceptRace client server global e = tt
 ident_taking answer.Resume client server global e = tt
 ident_taking _ client server global e = absurd (false_isnt_true e)
 
-ident_quiet : (a : Answer) (client server global : ℕ) → takes a ≡ false → IsQuiet (ident_event a client server global)
-ident_quiet answer.Accept client server global e = absurd (false_isnt_true (sym e))
-ident_quiet answer.AcceptOver client server global e = absurd (false_isnt_true (sym e))
-ident_quiet (answer.AcceptReset full) client server global e = absurd (false_isnt_true (sym e))
-ident_quiet answer.AcceptAgain client server global e = absurd (false_isnt_true (sym e))
-ident_quiet answer.AcceptReplace client server global e = absurd (false_isnt_true (sym e))
-ident_quiet answer.AcceptRace client server global e = absurd (false_isnt_true (sym e))
-ident_quiet answer.Resume client server global e = absurd (false_isnt_true (sym e))
-ident_quiet _ client server global e = tt
-
-reconnect_quiet : (a : Answer) (ask : Reconnect) → takes a ≡ false → IsQuiet (reconnect_event a ask)
-reconnect_quiet answer.Resume ask e = absurd (false_isnt_true (sym e))
-reconnect_quiet _ ask e = tt
-
--- the answer by the tables to an ask of this kind, and what is told of one
-abbrev answered_by : Bool → Session → AskFacts → (written : ℕ) → Answer
-answered_by b s a written = if b then ident_answer s a.client a.global else reconnect_answer s (reconnect_of a) written
-
-abbrev told_by : Bool → AskFacts → Answer → (server : ℕ) → Option Event
-told_by b a given server = if b then told_of_ident a given server else told_of_reconnect a given
-
 taking_by : (b : Bool) (s : Session) (a k : AskFacts) (given : Answer) (written server : ℕ) → given ≡ answered_by b s a written → takes given ≡ true → IsTaking (told_by b k given server)
 taking_by true s a k given written server e t = ident_taking given k.client server k.global t
 taking_by false s a k given written server e t =
     let resumes : given ≡ answer.Resume = e ∙ reconnect_takes s (reconnect_of a) written (ap takes (sym e) ∙ t) in
     subst (λ (x : Answer). IsTaking (reconnect_event x (reconnect_of k))) (sym resumes) tt
 
-quiet_by : (b : Bool) (k : AskFacts) (given : Answer) (server : ℕ) → takes given ≡ false → IsQuiet (told_by b k given server)
-quiet_by true k given server t = ident_quiet given k.client server k.global t
-quiet_by false k given server t = reconnect_quiet given (reconnect_of k) t
-
 pub told_taking : (f : SideFacts) (ask : AskFacts) (number : ℕ) (l : LiveNow) → takes (verdict_on ask number l).answer ≡ true → IsTaking (told_of f (verdict_on ask number l))
 told_taking f ask number l t = taking_by ask.ident l.session ask (kept_of f ask) (verdict_on ask number l).answer l.out.queue.written (cookie_of f number) refl t
 
 pub told_quiet : (f : SideFacts) (ask : AskFacts) (number : ℕ) (l : LiveNow) → takes (verdict_on ask number l).answer ≡ false → IsQuiet (told_of f (verdict_on ask number l))
-told_quiet f ask number l t = quiet_by ask.ident (kept_of f ask) (verdict_on ask number l).answer (cookie_of f number) t
+told_quiet f ask number l t = refuses_by ask.ident (kept_of f ask) (verdict_on ask number l).answer (cookie_of f number) t
 
 -- ---- what is left by it
 

@@ -68,7 +68,7 @@ fn known_peer(peer: Option<Addr>, main: Result<Addr, AddrFault>) -> Result<Addr,
 }
 
 /// What an ident asks.
-#[tactic(auto, using(crate::proofs::Asks::main_same))]
+#[tactic(auto, using(m2_control::proofs::Raised::main_same))]
 fn from_ident(peer: Option<Addr>, ident: ClientIdent) -> Result<(Ask, Addr), Halt>
     ensures { GivesAsk result (asked peer (controls.ClientIdent (bare_client_ident ident))) }
 {
@@ -77,7 +77,7 @@ fn from_ident(peer: Option<Addr>, ident: ClientIdent) -> Result<(Ask, Addr), Hal
 }
 
 /// What a reconnect asks.
-#[tactic(auto, using(crate::proofs::Asks::main_same))]
+#[tactic(auto, using(m2_control::proofs::Raised::main_same))]
 fn from_reconnect(peer: Option<Addr>, reconnect: SessionReconnect) -> Result<(Ask, Addr), Halt>
     ensures { GivesAsk result (asked peer (controls.SessionReconnect (bare_session_reconnect reconnect))) }
 {

@@ -41,7 +41,7 @@ all_is P x (y ∷ xs) all (inr h) = all_is P x xs all.1 h
 -- ---- a row
 
 -- what an end has got and put in a row of the table
-abbrev in_row : RowNow → Bool → BytesNow
+abbrev pub in_row : RowNow → Bool → BytesNow
 in_row r true = r.opener
 in_row r false = r.acceptor
 
@@ -53,7 +53,7 @@ row_put : (s : SocketBytes) (o : Bool) → put_at (Some s) o ≡ (in_row (row_no
 row_put s true = refl
 row_put s false = refl
 
-row_of : (all : List EndNow) (e : EndNow) (o : Bool) → in_row (row_in all e) o ≡ bytes_at e.socket o all
+pub row_of : (all : List EndNow) (e : EndNow) (o : Bool) → in_row (row_in all e) o ≡ bytes_at e.socket o all
 row_of all e true = refl
 row_of all e false = refl
 

@@ -15,7 +15,7 @@ use Rattle.m2_journal.specs.declared.facts.PlanStep.{PlanStep}
 use Rattle.m2_journal.specs.declared.facts.PlanStep.TheVariants as step
 use Rattle.m2_journal.specs.Feeds.{next_said}
 use Rattle.m2_journal.specs.Items as item
-use Rattle.m2_journal.specs.Items.{JournalItem, Places, Sources, at_start, item_of, items_from, items_of, passed}
+use Rattle.m2_journal.specs.Items.{Places, Sources, at_start, item_of, items_from, passed}
 use Rattle.m2_journal.specs.Lawful.{IsNext, Lawful, MayAccept, OnFeedAt, key_of}
 use Rattle.m2_journal.specs.Plan.{planned}
 use Rattle.m2_journal.specs.Replay.{AreLawful, after_items}
@@ -29,7 +29,8 @@ use Rattle.m2_channel.specs.m2_never_reset.Orders.{posted_in, posts_in}
 use Rattle.m2_policy.specs.declared.path.Key.{Key}
 use Rattle.m2_history.specs.Counted.{key_at, posted, posted_at, posted_by, accepted, is_accepted}
 use Rattle.m2_history.specs.Delivered.{CountsAreOfTheItems}
-use Rattle.m2_history.proofs.Keeping.{leads, handed_by, steps_by}
+use Rattle.m2_channel.proofs.Quiet.{handed_by}
+use Rattle.m2_history.proofs.Keeping.{leads, steps_by}
 
 -- ---- the steps of the plan
 

@@ -2,8 +2,8 @@
 -- acceptance hands one on.
 use Rattle.std.proofs.Common.{◌≡◌, ℕ, ◌+◌, Bool, true, false, if◌then◌else◌, List, [], ◌∷◌, ◌++◌, map, Option, Some, None, refl, sym, ap, ◌∙◌, arith, append-nil}
 use Rattle.m2_journal.specs.m2_session.declared.ask.AskFacts.{AskFacts}
-use Rattle.m2_channel.specs.Channel.{KeyedMessage, keyed}
-use Rattle.m2_channel.specs.Observed.{brought_by, brought_on, handed}
+use Rattle.m2_channel.specs.Channel.{keyed}
+use Rattle.m2_channel.specs.Observed.{handed}
 use Rattle.m2_fabric.specs.declared.socket.SocketId.{SocketId}
 use Rattle.m2_journal.specs.Feeds.{hears, next_said, taken_feed}
 use Rattle.m2_journal.specs.Items as item
@@ -25,7 +25,7 @@ use Rattle.m2_journal.specs.m2_session.declared.event.Event.{Event}
 use Rattle.m2_journal.specs.m2_session.declared.event.Event.TheVariants as event
 use Rattle.m2_journal.specs.m2_session.SessionLaws.{takes}
 use Rattle.m2_journal.specs.m2_session.Steps.{step_of}
-use Rattle.m2_channel.proofs.Quiet.{handed_letter}
+use Rattle.m2_channel.proofs.Quiet.{accepted-leads, handed_by}
 
 -- no step of the plan is taken, and no message handed on
 pub record Stays (s t : State) : Type 0 where
@@ -154,10 +154,6 @@ steps_by (item.dial planned) = 1
 steps_by (item.down true planned) = 1
 steps_by _ = 0
 
-abbrev pub handed_by : JournalItem → State → List KeyedMessage
-handed_by (item.accepted number key) s = map (keyed key) (brought_on s.last s.feed)
-handed_by _ s = []
-
 pub record Leads (i : JournalItem) (s t : State) : Type 0 where
   pub steps : t.steps ≡ s.steps + steps_by i
   pub handed : handed t.deliveries ≡ handed s.deliveries ++ handed_by i s
@@ -174,21 +170,16 @@ posts-leads (Some to_dial) s = (refl, refl)
 posts-leads (Some to_go_down) s = (refl, refl)
 posts-leads None s = (refl, refl)
 
-accepts-leads : (number : ℕ) (key : Key) (x : Option Said) (d : Feed) (s : State) → let t = accepts number key x d s in
-    (t.steps ≡ s.steps) × (handed t.deliveries ≡ handed s.deliveries ++ map (keyed key) (brought_by x))
-accepts-leads number key (Some (brings m)) d s = (refl, handed_letter s.deliveries number key m)
-accepts-leads number key (Some (says c)) d s = (refl, sym (append-nil (handed s.deliveries)))
-accepts-leads number key (Some aborts) d s = (refl, sym (append-nil (handed s.deliveries)))
-accepts-leads number key (Some garbles) d s = (refl, sym (append-nil (handed s.deliveries)))
-accepts-leads number key None d s = (refl, sym (append-nil (handed s.deliveries)))
+accepts-steps : (number : ℕ) (key : Key) (x : Option Said) (d : Feed) (s : State) → (accepts number key x d s).steps ≡ s.steps
+accepts-steps number key (Some (brings m)) d s = refl
+accepts-steps number key (Some (says c)) d s = refl
+accepts-steps number key (Some aborts) d s = refl
+accepts-steps number key (Some garbles) d s = refl
+accepts-steps number key None d s = refl
 
-accepted-leads : (f : SideFacts) (number : ℕ) (key : Key) (s : State) → Leads (item.accepted number key) s (after f (item.accepted number key) s)
-accepted-leads f number key s = let it = at s.feed in record { steps = omega (arith, it.0); handed = it.1 }
-  where
-    at : (o : Option Feed) → let t = on_feed_at o (λ d. accepts number key (next_said s.last d) d) s in
-        (t.steps ≡ s.steps) × (handed t.deliveries ≡ handed s.deliveries ++ map (keyed key) (brought_on s.last o))
-    at (Some d) = accepts-leads number key (next_said s.last d) d s
-    at None = (refl, sym (append-nil (handed s.deliveries)))
+accepted-steps : (number : ℕ) (key : Key) (s : State) (o : Option Feed) → (on_feed_at o (λ d. accepts number key (next_said s.last d) d) s).steps ≡ s.steps
+accepted-steps number key s (Some d) = accepts-steps number key (next_said s.last d) d s
+accepted-steps number key s None = refl
 
 down-leads : (f : SideFacts) (by_plan : Bool) (o : Option Planned) (s : State) → Leads (item.down by_plan o) s (after f (item.down by_plan o) s)
 down-leads f true o s = let it = tells-stays event.MarkedDown s in record { steps = omega (arith, it.steps); handed = it.handed ∙ sym (append-nil (handed s.deliveries)) }
@@ -212,7 +203,7 @@ leads f (item.judged k ask n answer unread trail) s =
     quietly (item.judged k ask n answer unread trail) s (after f (item.judged k ask n answer unread trail) s) refl refl (judges-stays f k ask n answer unread s)
 leads f (item.asked by_ident n) s = quietly (item.asked by_ident n) s (after f (item.asked by_ident n) s) refl refl (asks-stays f by_ident n s)
 leads f (item.numbered n) s = quietly (item.numbered n) s (after f (item.numbered n) s) refl refl (numbers-stays f n s)
-leads f (item.accepted n key) s = accepted-leads f n key s
+leads f (item.accepted n key) s = record { steps = omega (arith, accepted-steps n key s s.feed); handed = (accepted-leads f n key s).handed }
 leads f (item.acked n) s = quietly (item.acked n) s (after f (item.acked n) s) refl refl (record { steps = refl; handed = refl })
 leads f (item.obeyed full) s =
     quietly (item.obeyed full) s (after f (item.obeyed full) s) refl refl

@@ -26,7 +26,7 @@ pub mod Sums
 pub mod Tidiness
 pub mod Walk
 pub mod Whole
-pub mod Woven
+pub mod WovenSides
 pub mod WovenHalves
 pub mod WovenLinks
 pub use Rattle.m2_record.proofs as m2_record

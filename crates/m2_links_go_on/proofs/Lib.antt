@@ -38,7 +38,7 @@ pub mod Staying
 pub mod Tables
 pub mod Telling
 pub mod ToCome
-pub mod Told
+pub mod ToldIsMoved
 pub mod Turning
 pub mod Untold
 pub mod Unused

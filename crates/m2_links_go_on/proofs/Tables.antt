@@ -4,6 +4,7 @@ use Rattle.std.specs.Prelude.{slice_get}
 use Rattle.m2_fabric.specs.declared.socket.SocketId.{SocketId}
 use Rattle.m2_fabric.specs.Sockets.{is_among, same_socket}
 use Rattle.m2_growth.proofs.m2_bytes_fit.Lists.{cons_same, nil_not}
+use Rattle.m2_history.proofs.Bytes.{in_row, row_of}
 use Rattle.m2_history.specs.declared.history.WeaveFault.TheVariants as fault
 use Rattle.m2_history.specs.Woven.{BothNow, BytesNow, EndNow, RowNow, bytes_at, ends_of, row_in, row_now, rows_of, strands_of}
 use Rattle.m2_links_go_on.specs.TurnLaws.{AnOrderIsFound}
@@ -18,10 +19,6 @@ use Rattle.m2_fabric.proofs.Sockets.{same_equal}
 
 -- ---- one end in a table
 
-abbrev in_row : RowNow → Bool → BytesNow
-in_row r true = r.opener
-in_row r false = r.acceptor
-
 -- what the table has of an end
 abbrev in_table : Option SocketBytes → Bool → BytesNow
 in_table row o = record { got = got_at row o; put = put_at row o }
@@ -29,10 +26,6 @@ in_table row o = record { got = got_at row o; put = put_at row o }
 row-has : (s : SocketBytes) (o : Bool) → in_table (Some s) o ≡ in_row (row_now s) o
 row-has s true = refl
 row-has s false = refl
-
-row-of : (all : List EndNow) (e : EndNow) (o : Bool) → in_row (row_in all e) o ≡ bytes_at e.socket o all
-row-of all e true = refl
-row-of all e false = refl
 
 abbrev sockets_of : List EndNow → List SocketId
 sockets_of es = map (λ (e : EndNow). e.socket) es
@@ -56,7 +49,7 @@ table-has all (x ∷ es) (s ∷ sockets) k o e =
         let named : s.socket ≡ x.socket = ap (λ (r : RowNow). r.socket) row in
         let here : same_socket k s.socket ≡ true = ap (same_socket k) named ∙ q in
         ap (λ b. in_table (slice_get (s ∷ sockets) (if b then 0 else suc (place_in (names_of sockets) k))) o) here
-        ∙ row-has s o ∙ ap (λ r. in_row r o) row ∙ row-of all x o ∙ ap (λ j. bytes_at j o all) (sym (same_equal k x.socket q))
+        ∙ row-has s o ∙ ap (λ r. in_row r o) row ∙ row_of all x o ∙ ap (λ j. bytes_at j o all) (sym (same_equal k x.socket q))
         ∙ sym (ap (λ b. if b || is_among k (sockets_of es) then bytes_at k o all else record { got = []; put = [] }) q)
     at row false q later =
         let named : s.socket ≡ x.socket = ap (λ (r : RowNow). r.socket) row in

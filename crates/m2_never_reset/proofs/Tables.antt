@@ -6,7 +6,7 @@ use Rattle.m2_session.specs.declared.session.Session.{Session}
 use Rattle.m2_session.specs.declared.session.Phase.{Phase}
 use Rattle.m2_session.specs.declared.session.Phase.TheVariants as phase
 use Rattle.m2_session.specs.declared.answer.Answer.TheVariants as answer
-use Rattle.m2_session.specs.Table.{Row, first_that_holds}
+use Rattle.m2_session.specs.Table.{first_that_holds}
 use Rattle.m2_session.specs.Phases.{is}
 use Rattle.m2_session.specs.Conditions.{differs, is_above, is_kept}
 use Rattle.m2_session.specs.Ident.{ident_rows}
@@ -17,20 +17,9 @@ use Rattle.m2_never_reset.specs.Link.{Stand, absent, standby, waiting, Node}
 use Rattle.m2_never_reset.specs.Steps.{IsAtRest, HasLeft, IsAnotherClient, Accepts, Names}
 use Rattle.m2_never_reset.specs.Sessions.{IsKept, IsIdentStep, IsReconnectStep}
 use Rattle.m2_never_reset.specs.CrossingLaws.{AnswersAreSteps}
-use Rattle.m2_queues.proofs.m2_lemmas.Booleans.{negated_is_false, chosen, negated_is_true}
+use Rattle.m2_queues.proofs.m2_lemmas.Booleans.{negated_is_false, negated_is_true}
 use Rattle.m2_session.proofs.Answers.{not_above}
-
--- ---- a table, row by row
-
--- what holds of each row's answer, where the row holds and those before it don't
-abbrev EachInOrder : {N A : Type 0} → (A → Type 0) → List (Row N A) → A → Type 0
-EachInOrder P [] otherwise = P otherwise
-EachInOrder P (r ∷ rows) otherwise = (r.holds ≡ true → P r.answer) × (r.holds ≡ false → EachInOrder P rows otherwise)
-
-each_in_order : {N A : Type 0} (P : A → Type 0) (rows : List (Row N A)) (otherwise : A) → EachInOrder P rows otherwise → P (first_that_holds rows otherwise)
-each_in_order P [] otherwise all = all
-each_in_order P (r ∷ rows) otherwise all =
-    chosen P r.holds r.answer (first_that_holds rows otherwise) all.0 (λ fails. each_in_order P rows otherwise (all.1 fails))
+use Rattle.m2_session.proofs.Rows.{each_in_order}
 
 -- ---- words of the conditions
 

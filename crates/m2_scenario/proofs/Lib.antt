@@ -1,6 +1,6 @@
 pub mod Appended
 pub mod Counted
-pub mod Counts
+pub mod CallsAndLeft
 pub mod Cuts
 pub mod Decimals
 pub mod Flags

@@ -1,3 +1,3 @@
-pub mod Lines
+pub mod LinesRead
 pub mod Options
 pub mod Texts

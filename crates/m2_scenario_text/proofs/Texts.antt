@@ -7,7 +7,7 @@ use Rattle.m2_scenario.specs.Text.{Word, pieces}
 use Rattle.m2_scenario_text.specs.Schedule.{Draft}
 use Rattle.m2_scenario_text.specs.declared.schedule.Schedule.{Schedule}
 use Rattle.m2_scenario_text.specs.ScheduleReading.{line_step, lines_from, at, At, LineRead, Reads}
-use Rattle.m2_scenario_text.proofs.Lines.{some_pieces}
+use Rattle.m2_scenario_text.proofs.LinesRead.{some_pieces}
 
 some_more : (past : Bool) (n : ℕ) (d : Draft) (l : Word) (ls : List Word) → 0 < length ls
     → lines_from past n d (l ∷ ls) ≡ at n (line_step n d l) (λ e. lines_from past (n + 1) e ls)

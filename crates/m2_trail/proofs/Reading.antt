@@ -23,7 +23,7 @@ use Rattle.m2_bytes.proofs.m2_lemmas.Booleans.{false_isnt_true}
 
 -- ---- readers, and what is known of what they read
 
-abbrev Holds : {A F : Type 0} → (A → Type 0) → Result (A × List ℕ) F → Type 0
+abbrev pub Holds : {A F : Type 0} → (A → Type 0) → Result (A × List ℕ) F → Type 0
 Holds P (Ok x) = P x.0
 Holds P (Err e) = Unit {0}
 
@@ -64,7 +64,7 @@ both : {A B F : Type 0} (P : A → Type 0) (Q : B → Type 0) (r : List ℕ → 
     ((bytes : List ℕ) → Holds P (r bytes)) → ((bytes : List ℕ) → Holds Q (k bytes)) → (bytes : List ℕ) → Holds (λ (x : A × B). P x.0 × Q x.1) ((r ⊳ k) bytes)
 both P Q r k p q bytes = first P Q (r bytes) k (p bytes) q
 
-mapped : {A B F : Type 0} (P : A → Type 0) (Q : B → Type 0) (make : A → B) (r : Result (A × List ℕ) F) → ((a : A) → P a → Q (make a)) → Holds P r →
+pub mapped : {A B F : Type 0} (P : A → Type 0) (Q : B → Type 0) (make : A → B) (r : Result (A × List ℕ) F) → ((a : A) → P a → Q (make a)) → Holds P r →
     Holds Q (r >>= λ x. Ok (make x.0, x.1))
 mapped P Q make (Ok x) f h = f x.0 h
 mapped P Q make (Err e) f h = tt

@@ -1,7 +1,7 @@
 pub mod Along
 pub mod Clearing
 pub mod Counting
-pub mod Counts
+pub mod CountersMet
 pub mod Deciding
 pub mod Example
 pub mod Fitting

@@ -22,7 +22,7 @@ pub fn stops_are_one()
 {}
 
 /// By counters a condition that is met stays met.
-#[tactic(auto, using(crate::proofs::Counts::counted_stays_met))]
+#[tactic(auto, using(crate::proofs::CountersMet::counted_stays_met))]
 pub fn counted_stays_met()
     ensures { laws.CountedStaysMet }
 {}

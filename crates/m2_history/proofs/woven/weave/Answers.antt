@@ -1,5 +1,5 @@
 use Rattle.m2_history.specs.Counted.{logs_of}
-use Rattle.m2_history.proofs.Woven.{delivered_in, in_order_in, unreset}
+use Rattle.m2_history.proofs.WovenSides.{delivered_in, in_order_in, unreset}
 use Rattle.m2_history.proofs.woven.weave.Goals as goal
 
 pub returns-clause-never_reset : goal.returns-clause-never_reset

@@ -1,4 +1,4 @@
-use Rattle.m2_scenario.proofs.Counts.{calls_and_left}
+use Rattle.m2_scenario.proofs.CallsAndLeft.{calls_and_left}
 use Rattle.m2_scenario.proofs.order_laws.calls_and_left_are_posts.Goals as goal
 
 pub returns : goal.returns

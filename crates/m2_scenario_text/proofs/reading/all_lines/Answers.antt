@@ -2,7 +2,7 @@ use Rattle.std.proofs.Common.{Err, ◌∙◌, arith}
 use Rattle.m2_scenario.specs.Text.{pieces}
 use Rattle.m2_scenario.specs.Draft.{no_lines}
 use Rattle.m2_scenario_text.specs.Reading.{lines_from}
-use Rattle.m2_scenario_text.proofs.Lines.{line_taken, bad_before, handed_on, same_answer}
+use Rattle.m2_scenario_text.proofs.LinesRead.{line_taken, bad_before, handed_on, same_answer}
 use Rattle.m2_scenario_text.proofs.reading.all_lines.Goals as goal
 
 pub returns-in_err-numbered_line : goal.returns-in_err-numbered_line

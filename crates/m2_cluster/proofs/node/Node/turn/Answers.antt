@@ -9,7 +9,7 @@ pub invariant_of-self : goal.invariant_of-self
 invariant_of-self g c =
     let was = c.self.invariant in
     record {
-      memory = turn_stays g.row.P-End.Denot g.D.Dispatcher.heard (means_at c.args.now c.self.inside.shared.numbers c.self.inside.shared.throttle) c.turn.result c.self.inside.center c.turn.new.self c.turn.ensures.turns
+      memory = (turn_stays g.row.P-End.Denot g.D.Dispatcher.heard (means_at c.args.now c.self.inside.shared.numbers c.self.inside.shared.throttle) c.turn.result c.self.inside.center c.turn.new.self c.turn.ensures.turns).memory
           ∙ was.memory;
       numbers = c.turn.ensures.numbers ∙ was.numbers;
       throttle = c.turn.ensures.throttle ∙ was.throttle;
