@@ -4,12 +4,11 @@ ghost use Rattle.std.specs.Prelude.{◌≡◌, ◌<◌, ◌+◌, IfOk};
 ghost use Rattle.m2_mailbox.specs.Passes.{IsGetPassOf, IsPutPassOf, owner_of, parts_of};
 ghost use Rattle.m2_mailbox.specs.Views.{all_parts};
 
-use m2_bytes::NoMemory;
 use m2_mailbox::{GetPass, Inbox, MOST_ARRIVALS, PutPass, Rest};
 use m2_shared::Item;
 use std::alloc::Global;
+use std::process::Abort;
 use std::sync::Wait;
-use std::test::Fail;
 use std::thread;
 use std::thread::Threads;
 
@@ -151,11 +150,8 @@ fn put_and_take<R: Threads + Wait + Sync>(
 }
 
 /// Two putters and a taker at the same time: how many items were put, and what the taker saw.
-fn hand_over<R: Threads + Wait + Sync>(
-    rt: &R,
-    alloc: Global,
-) -> Result<([u32; 2], Tally), NoMemory> {
-    let (inbox, mut first, get) = Inbox::new(alloc, MOST_ARRIVALS, &2)?;
+fn hand_over<R: Threads + Wait + Abort + Sync>(rt: &R, alloc: Global) -> ([u32; 2], Tally) {
+    let (inbox, mut first, get) = Inbox::new(alloc, MOST_ARRIVALS, &2).expect(rt, "memory");
     let b = &inbox;
     let second = first.split(rt, b);
     let ((mut first, x), ((second, y), (get, tally))) = thread::join(
@@ -172,15 +168,14 @@ fn hand_over<R: Threads + Wait + Sync>(
     );
     first.join(rt, b, second);
     let rest = inbox.close(rt, first, get);
-    Ok(([x, y], take_rest(rt, rest, tally)))
+    ([x, y], take_rest(rt, rest, tally))
 }
 
 // Two threads put 10,000 items each into 64 places while a third takes: all arrive, each putter's in order.
 #[test]
-fn all_items_of_two_putters_arrive_in_order(rt: HostRuntime) -> Result<(), Fail> {
-    let (put, tally) = hand_over(&rt, rt.alloc())?;
+fn all_items_of_two_putters_arrive_in_order(rt: HostRuntime) {
+    let (put, tally) = hand_over(&rt, rt.alloc());
     assert_eq!(rt; put, [EACH, EACH]);
     assert_eq!(rt; tally.next, [EACH, EACH]);
     assert_eq!(rt; tally.out_of_order, 0);
-    Ok(())
 }

@@ -6,7 +6,6 @@ ghost use Rattle.m2_mailbox.specs.Passes.{IsPutPassOf, parts_of};
 use m2_mailbox::{Inbox, PutPass, Rest};
 use m2_shared::Item;
 use std::sync::Wait;
-use std::test::Fail;
 
 /// A value that can't be dropped. It belongs to everybody.
 struct Linear {
@@ -61,11 +60,10 @@ fn last_left<R: Wait>(rt: &R, mut rest: Rest<Linear>) -> Option<u32> {
 
 // What can't be dropped comes back from a full inbox, or is left in it at the close.
 #[test]
-fn what_cannot_be_dropped_is_never_lost(rt: HostRuntime) -> Result<(), Fail> {
-    let (inbox, mut pass, get) = Inbox::new(rt.alloc(), 1, &())?;
+fn what_cannot_be_dropped_is_never_lost(rt: HostRuntime) {
+    let (inbox, mut pass, get) = Inbox::new(rt.alloc(), 1, &()).expect(&rt, "memory");
     assert_eq!(rt; put(&rt, &inbox, &mut pass, 7), None);
     assert_eq!(rt; put(&rt, &inbox, &mut pass, 8), Some(8));
     let rest = inbox.close(&rt, pass, get);
     assert_eq!(rt; last_left(&rt, rest), Some(7));
-    Ok(())
 }

@@ -3,7 +3,6 @@
 ghost use Rattle.std.specs.Prelude.{◌≡◌};
 
 use m2_shared::{Take, TakePass, Throttle};
-use std::test::Fail;
 use std::thread::join;
 
 /// How often a thread takes and gives back.
@@ -34,8 +33,8 @@ fn take_and_give(throttle: &Throttle, mut pass: TakePass) -> (u32, TakePass)
 }
 
 #[test]
-fn two_threads_share_a_throttle_of_1(rt: HostRuntime) -> Result<(), Fail> {
-    let (throttle, mut first) = Throttle::new(rt.alloc(), 1)?;
+fn two_threads_share_a_throttle_of_1(rt: HostRuntime) {
+    let (throttle, mut first) = Throttle::new(rt.alloc(), 1).expect(&rt, "memory");
     let second = first.split(&throttle);
     let ((one, mut first), (two, second)) = join(
         &rt,
@@ -51,5 +50,4 @@ fn two_threads_share_a_throttle_of_1(rt: HostRuntime) -> Result<(), Fail> {
     first.join(&throttle, second);
     assert_eq!(rt; (one, two), (ROUNDS, ROUNDS));
     assert_eq!(rt; throttle.close(first), 0);
-    Ok(())
 }
