@@ -7,13 +7,9 @@ room=$(mktemp -d)
 trap 'rm -rf "$room"' EXIT
 crate=$room/crates/hand_item
 mkdir -p "$crate/src"
-for it in m2_bytes m2_shared m2_mailbox; do
-  mkdir -p "$room/crates/$it"
-  cp -r ../crates/$it/{src,specs,proofs} "$room/crates/$it/"
-done
-grep -E '^m2_(bytes|shared|mailbox):' ../crates.txt >"$room/crates.txt"
-echo 'hand_item: m2_bytes m2_shared m2_mailbox' >>"$room/crates.txt"
-cp ../HANDLES "$room/"
+stands_on='m2_bytes m2_shared m2_mailbox'
+python3 copy_crates.py "$room" $stands_on
+echo "hand_item: $stands_on" >>"$room/crates.txt"
 cp hand_item/main.txt "$crate/src/main.rt"
 for it in put_and_take put_all take_all; do
   mkdir -p "$crate/proofs/$it"

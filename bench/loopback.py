@@ -1,25 +1,23 @@
 """Times bytes over a loopback socket through m2_mio, beside a C program that does the same, one that keeps a log of all
 bytes too, and m2_mem_fabric, in one go and in turn."""
-import os, shutil, subprocess, sys, tempfile
+import os, subprocess, sys, tempfile
+
+sys.dont_write_bytecode = True  # nothing is left in this folder
+import copy_crates
 
 RUNS = 7
 ROWS = [(128, 16_000_000, 0.6), (65_536, 128_000_000, 0.8)]  # bytes a piece, bytes in all, the wanted rate over C's
 FIRST_PORT = 21_800
-CRATES = ["m2_bytes", "m2_addr", "m2_edge", "m2_fabric", "m2_ports"]
+CRATES = ["m2_bytes", "m2_addr", "m2_edge", "m2_fabric"]
 SYSTEM = ("m2_mio", "MioFabric::new(rt, alloc)")
 THREADS = ("m2_mem_fabric", "MemFabric::new(rt, alloc)?")  # the same program over sockets in memory
 BENCH = os.path.dirname(os.path.abspath(__file__))
-TOP = os.path.dirname(BENCH)
 
 
 def build(folder, fabric):
-    """The proved program, built beside copies of the crates that it stands on: the gate takes no program from here."""
+    """The proved program, built beside copies of the crates that it stands on."""
     crates = [*CRATES, fabric[0]]
-    with open(os.path.join(TOP, "crates.txt"), encoding="utf-8") as file:
-        lines = [line for line in file if line.split(":")[0] in crates]
-    for name in crates:
-        kept = shutil.ignore_patterns("must-fail", "out")
-        shutil.copytree(os.path.join(TOP, "crates", name), os.path.join(folder, "crates", name), ignore=kept, symlinks=True)
+    copy_crates.copy(folder, crates)
     source = os.path.join(folder, "crates", "m2_loopback", "src")
     os.makedirs(source)
     with open(os.path.join(BENCH, "loopback.rt.txt"), encoding="utf-8") as file:
@@ -27,9 +25,8 @@ def build(folder, fabric):
     text = text.replace("use m2_mio::MioFabric;", f"use {fabric[0]}::{fabric[1].split(':')[0]};")
     with open(os.path.join(source, "main.rt"), "w", encoding="utf-8") as file:
         file.write(text)
-    with open(os.path.join(folder, "crates.txt"), "w", encoding="utf-8") as file:
-        file.writelines([*lines, "m2_loopback: " + " ".join(crates) + "\n"])
-    shutil.copy(os.path.join(TOP, "HANDLES"), folder)
+    with open(os.path.join(folder, "crates.txt"), "a", encoding="utf-8") as file:
+        file.write("m2_loopback: " + " ".join(crates) + "\n")
     subprocess.run(["git", "init", "-q", folder], check=True)
     crate = os.path.join(folder, "crates", "m2_loopback")
     words = ["rt", "run", "--", str(FIRST_PORT), "128", "1"]

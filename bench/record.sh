@@ -7,24 +7,9 @@ room=$(mktemp -d)
 trap 'rm -rf "$room"' EXIT
 crate=$room/crates/record_load
 mkdir -p "$crate/src"
-stands_on='m2_addr m2_bytes m2_dispatch m2_journal m2_message m2_policy m2_record m2_record_pair m2_session'
-# every crate below, lowest first
-python3 - ../crates.txt "$room" $stands_on <<'END'
-import shutil, sys
-lines = dict(line.split(":", 1) for line in open(sys.argv[1]) if ":" in line and not line.startswith("#"))
-needed, wanted = set(), sys.argv[3:]
-while wanted:
-    name = wanted.pop()
-    if name in lines and name not in needed:
-        needed.add(name)
-        wanted += lines[name].split()
-with open(f"{sys.argv[2]}/crates.txt", "w") as out:
-    for name in (it for it in lines if it in needed):
-        out.write(f"{name}:{lines[name]}")
-        shutil.copytree(f"../crates/{name}", f"{sys.argv[2]}/crates/{name}", ignore=shutil.ignore_patterns("out", "must-fail"))
-END
+stands_on='m2_bytes m2_addr m2_message m2_policy m2_session m2_dispatch m2_journal m2_record m2_record_trace'
+python3 copy_crates.py "$room" $stands_on
 echo "record_load: $stands_on" >>"$room/crates.txt"
-cp ../HANDLES "$room/"
 cp record_load/main.txt "$crate/src/main.rt"
 (cd "$crate" && rt run -- 100 16 >"$room/build.log" 2>&1) || { tail -n 20 "$room/build.log" >&2; exit 1; }
 ${CC:-cc} -O2 -o "$room/plain" record_load.c

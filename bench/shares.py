@@ -9,11 +9,10 @@ GROUPS = [  # the first that fits
     ("pages from and to the system", r"\[k\]"),
     ("copies", r"memmove|memcpy|memset"),
     ("allocation", r"alloc|free"),
-    ("frames with their checksums", r"m2_(frame|crc|message_frame|tag)\b"),
-    ("handshake", r"m2_(handshake|halves|control|addr)\b"),
-    ("reading the file", r"m2_(scenario|scenario_text|words|generate)\b"),
-    ("report", r"m2_(report|outcome|cli)\b"),
-    ("sockets in memory", r"m2_(sim_net|sim_fabric|sim|cluster|script)\b"),
+    ("frames with their checksums", r"m2_(frame|crc|message)\b"),
+    ("handshake", r"m2_(handshake|trail|control|addr)\b"),
+    ("reading the file, and the report", r"m2_(scenario|scenario_text|cli)\b"),
+    ("sockets in memory", r"m2_(fabric|cluster|script)\b"),
     ("sessions", r"m2_\w+"),
     ("the rest", r""),
 ]
@@ -39,9 +38,9 @@ def shares(program, text):
 def main():
     program = os.path.abspath(sys.argv[1])
     of = {"a pair, 64 faults": shares(program, sim.scenario(sim.POSTS)), "16 nodes": shares(program, sim.mesh(16))}
-    print(f"{'':30}" + "".join(f"{name:>20}" for name in of))
+    print(f"{'':34}" + "".join(f"{name:>20}" for name in of))
     for name, _ in GROUPS:
-        print(f"{name:30}" + "".join(f"{found[name]:19.1f}%" for found in of.values()))
+        print(f"{name:34}" + "".join(f"{found[name]:19.1f}%" for found in of.values()))
 
 
 main()

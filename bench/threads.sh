@@ -7,13 +7,9 @@ room=$(mktemp -d)
 trap 'rm -rf "$room"' EXIT
 crate=$room/crates/share_word
 mkdir -p "$crate/src" "$crate/proofs/take_and_give"
-for it in m2_bytes m2_shared; do
-  mkdir -p "$room/crates/$it"
-  cp -r ../crates/$it/{src,specs,proofs} "$room/crates/$it/"
-done
-grep -E '^m2_(bytes|shared):' ../crates.txt >"$room/crates.txt"
-echo 'share_word: m2_bytes m2_shared' >>"$room/crates.txt"
-cp ../HANDLES "$room/"
+stands_on='m2_bytes m2_shared'
+python3 copy_crates.py "$room" $stands_on
+echo "share_word: $stands_on" >>"$room/crates.txt"
 cp share_word/main.txt "$crate/src/main.rt"
 cp share_word/invariants.txt "$crate/proofs/take_and_give/Invariants.antt"
 (cd "$crate" && rt run -- alone 1 1 >"$room/build.log" 2>&1) || { tail -n 20 "$room/build.log" >&2; exit 1; }

@@ -7,18 +7,9 @@ room=$(mktemp -d)
 trap 'rm -rf "$room"' EXIT
 crate=$room/crates/weave_pair
 mkdir -p "$crate/src"
-# every crate below m2_weave, with what it stands on
-below() { grep -E "^$1:" ../crates.txt | cut -d: -f2; }
-crates=m2_weave
-for it in $crates $(below m2_weave); do crates="$crates $(below "$it")"; done
-for it in $(printf '%s\n' m2_weave $(below m2_weave) $crates | sort -u); do
-  [ -d "../crates/$it" ] || continue
-  mkdir -p "$room/crates/$it"
-  cp -r "../crates/$it"/{src,specs,proofs} "$room/crates/$it/" 2>/dev/null || true
-  grep -E "^$it:" ../crates.txt >>"$room/crates.txt"
-done
-echo 'weave_pair: m2_answers m2_bytes m2_fabric m2_journal m2_session m2_weave' >>"$room/crates.txt"
-cp ../HANDLES "$room/"
+stands_on='m2_bytes m2_session m2_fabric m2_journal m2_weave'
+python3 copy_crates.py "$room" $stands_on
+echo "weave_pair: $stands_on" >>"$room/crates.txt"
 cp weave_pair/main.txt "$crate/src/main.rt"
 (cd "$crate" && rt run -- make 1 1 >"$room/build.log" 2>&1) || { tail -n 20 "$room/build.log" >&2; exit 1; }
 python3 weave.py "$crate/out/weave_pair"

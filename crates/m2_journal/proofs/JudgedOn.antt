@@ -4,7 +4,7 @@ use Rattle.std.specs.List.{filter}
 use Rattle.m2_fabric.proofs.Sockets.{same_turned}
 use Rattle.m2_fabric.specs.Sockets.{is_among, same_socket}
 use Rattle.m2_fabric.specs.declared.socket.SocketId.{SocketId}
-use Rattle.m2_journal.specs.{Items as item}
+use Rattle.m2_journal.specs.Items as item
 use Rattle.m2_journal.specs.Items.{JournalItem, raised}
 use Rattle.m2_journal.specs.Lawful.{judged_on}
 use Rattle.m2_journal.specs.Replay.{AreLawful, after_items}
