@@ -1,26 +1,21 @@
-//! Tests of scenarios, of the edge and of the program: what is read of files, the report of made-up logs, runs
-//! whose outcome the rules tell, sources and sinks over real files, listings, and scenarios from the manual.
+//! Tests of scenarios, of the edge and of the program, that neither a clause nor a file of `examples/` shows.
 //!
-//! What it is: a file for each crate. They stand apart from the crates, since a crate with tests is proved
-//! twice, and together, since each crate of tests loads its libraries again. What it isn't: what a clause says
-//! already, or the examples, which the gate runs.
+//! What it is: what files of scenarios are refused for, a generated load as another program draws it, runs whose outcome
+//! the rules tell and their reports, and the program over files that can't be read or written, over sockets that are cut
+//! anywhere, and over real files. They stand apart from the crates, since a crate with tests is proved twice, and
+//! together, since each crate of tests loads its libraries again. What it isn't: what a clause says already, or what
+//! the files of `examples/` and the runs of `msgr2` show, which the gate compares.
 #![tactic(auto)]
 
 #[cfg(test)]
-mod cli;
+mod crossing;
 #[cfg(test)]
-mod edge;
-#[cfg(test)]
-mod listing;
+mod files;
 #[cfg(test)]
 mod load;
 #[cfg(test)]
+mod program;
+#[cfg(test)]
 mod reader;
 #[cfg(test)]
-mod report;
-#[cfg(test)]
 mod sim;
-#[cfg(test)]
-mod texts;
-#[cfg(test)]
-mod words;

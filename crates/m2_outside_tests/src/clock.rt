@@ -1,8 +1,7 @@
 //! The runtime's clock, over readings that are listed and over real ones.
 
-use m2_edge::{Clock, FixedClock, StdClock, next_moment};
+use m2_edge::{Clock, StdClock};
 use std::sync::atomic::{AtomicUsize, Ordering};
-use std::test::Fail;
 use std::thread::{Threads, join};
 use std::time::Duration;
 use std::{io, thread, time};
@@ -58,21 +57,6 @@ fn a_start_that_cannot_be_read_is_a_fault(rt: HostRuntime) {
     assert_eq!(rt; clock.now(), 5);
 }
 
-/// Three moments, taken as rising.
-fn three_moments<C: Clock>(clock: &C) -> (u64, u64, u64) {
-    let first = next_moment(clock, 0);
-    let second = next_moment(clock, first);
-    let third = next_moment(clock, second);
-    (first, second, third)
-}
-
-#[test]
-fn an_answer_below_an_earlier_one_counts_as_that_one(rt: HostRuntime) {
-    let readings = Listed::new([Some(1_000), Some(1_007), None, Some(1_009), None]);
-    assert_eq!(rt; three_moments(&StdClock::new(&readings)), (7, 7, 9));
-    assert_eq!(rt; three_moments(&FixedClock::new(4)), (4, 4, 4));
-}
-
 /// The moment after a sleep of 2 milliseconds on each of two threads.
 fn after_sleeps<R: time::Clock + Threads + Sync>(rt: &R) -> (u64, u64) {
     let clock = StdClock::new(rt);
@@ -90,8 +74,7 @@ fn after_sleeps<R: time::Clock + Threads + Sync>(rt: &R) -> (u64, u64) {
 }
 
 #[test]
-fn two_threads_see_time_pass(rt: HostRuntime) -> Result<(), Fail> {
+fn two_threads_see_time_pass(rt: HostRuntime) {
     let (first, second) = after_sleeps(&rt);
     assert!(rt; first >= 2 && second >= 2);
-    Ok(())
 }

@@ -3,12 +3,15 @@
 use crate::socket_ends::{A_WHILE, Linked, ROUNDS, read, write};
 use m2_fabric::{End, EndRead, EndWrite, Port};
 use std::alloc::Global;
-use std::test::Fail;
+use std::process::Abort;
 use std::thread;
 use std::thread::Threads;
 
 /// The longest piece, in bytes.
-const LONGEST_PIECE: u64 = 70_000;
+const LONGEST_PIECE: usize = 8_192;
+
+/// In words of eight bytes.
+pub(crate) const FOUR_MEGABYTES: usize = 500_000;
 
 /// The next of some numbers without a pattern.
 fn next_number(state: &mut u64) -> u64 {
@@ -20,18 +23,20 @@ fn next_number(state: &mut u64) -> u64 {
 
 /// The next length of a piece.
 fn next_length(state: &mut u64) -> usize {
-    (next_number(state) % LONGEST_PIECE) as usize + 1
+    (next_number(state) as usize) % LONGEST_PIECE + 1
 }
 
 /// So many words of bytes without a pattern.
-pub(crate) fn noise(alloc: Global, words: usize, seed: u64) -> Result<Vec<u8>, Fail> {
-    let mut state = seed;
+pub(crate) fn noise(rt: &impl Abort, alloc: Global, words: usize) -> Vec<u8> {
+    let mut state = 1;
     let mut bytes = Vec::new(alloc);
     for _ in 0..words {
         let _ = next_number(&mut state);
-        bytes.extend_from_slice(&state.to_le_bytes())?;
+        bytes
+            .extend_from_slice(&state.to_le_bytes())
+            .expect(rt, "memory");
     }
-    Ok(bytes)
+    bytes
 }
 
 /// The bytes from a place on, at most so many.
@@ -60,13 +65,8 @@ fn read_some<E: End>(end: &mut E, piece: &mut [u8], most: usize) -> Option<usize
 }
 
 /// Writes all these bytes in pieces of any length, and reads as many. Whether it was done.
-fn exchange<P: Port>(
-    port: &mut P,
-    end: &mut P::End,
-    bytes: &[u8],
-    piece: &mut [u8],
-    seed: u64,
-) -> bool {
+fn exchange<P: Port>(port: &mut P, end: &mut P::End, bytes: &[u8], seed: u64) -> bool {
+    let mut piece = [0u8; LONGEST_PIECE];
     let mut state = seed;
     let (mut put, mut got) = (0usize, 0usize);
     for _ in 0..ROUNDS {
@@ -74,7 +74,7 @@ fn exchange<P: Port>(
             return true;
         }
         let wrote = write_from(end, bytes, put, next_length(&mut state));
-        let Some(read) = read_some(end, piece, next_length(&mut state)) else {
+        let Some(read) = read_some(end, &mut piece, next_length(&mut state)) else {
             return false;
         };
         put = put.saturating_add(wrote);
@@ -89,23 +89,18 @@ fn exchange<P: Port>(
 /// Passes bytes both ways at once, each side on a thread of its own. Whether it was done.
 pub(crate) fn exchange_at_once<P: Port + Send, T: Threads>(
     threads: &T,
-    alloc: Global,
     link: &mut Linked<P>,
     there: &[u8],
     back: &[u8],
-) -> Result<bool, Fail>
+) -> bool
 where
     P::End: Send,
 {
-    let mut piece = Vec::from_elem(alloc, 0u8, LONGEST_PIECE as usize)?;
-    let mut other = Vec::from_elem(alloc, 0u8, LONGEST_PIECE as usize)?;
     let (mut done, mut other_done) = (false, false);
     thread::join_mut(
         threads,
-        &mut || done = exchange(&mut link.opening, &mut link.opener, there, &mut piece, 3),
-        &mut || {
-            other_done = exchange(&mut link.accepting, &mut link.acceptor, back, &mut other, 4)
-        },
+        &mut || done = exchange(&mut link.opening, &mut link.opener, there, 3),
+        &mut || other_done = exchange(&mut link.accepting, &mut link.acceptor, back, 4),
     );
-    Ok(done && other_done)
+    done && other_done
 }

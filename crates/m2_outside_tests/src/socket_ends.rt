@@ -2,7 +2,7 @@
 
 use m2_addr::Addr;
 use m2_fabric::{Connect, End, EndRead, EndWrite, Fabric, Port, Taken};
-use std::test::Fail;
+use std::process::Abort;
 
 /// 127.0.0.1
 const LOOPBACK: u32 = 0x7f00_0001;
@@ -23,36 +23,30 @@ pub(crate) fn here(port: u16) -> Addr {
     }
 }
 
-/// The last of so many ports of a node.
-pub(crate) fn last_port<F: Fabric>(
-    fabric: &mut F,
-    node: u32,
-    centers: u32,
-) -> Result<F::Port, Fail> {
-    match fabric.split(node, centers)?.pop() {
-        Some(port) => Ok(port),
-        None => Err(Fail::from("no port")),
-    }
+/// The only port of a node.
+pub(crate) fn only_port<F: Fabric>(rt: &impl Abort, fabric: &mut F, node: u32) -> F::Port {
+    let mut ports = fabric.split(node, 1).expect(rt, "memory");
+    ports.pop().expect(rt, "a port")
 }
 
 /// The opener's end of a new socket.
-pub(crate) fn connected<P: Port>(port: &mut P, to: &Addr) -> Result<P::End, Fail> {
+pub(crate) fn connected<P: Port>(rt: &impl Abort, port: &mut P, to: &Addr) -> P::End {
     match port.connect(to) {
-        Connect::Made(end) => Ok(end),
-        Connect::Failed | Connect::NoMemory => Err(Fail::from("not connected")),
+        Connect::Made(end) => end,
+        Connect::Failed | Connect::NoMemory => panic!(rt; "not connected"),
     }
 }
 
 /// The acceptor's end of the next socket.
-pub(crate) fn accepted<P: Port>(port: &mut P) -> Result<P::End, Fail> {
+pub(crate) fn accepted<P: Port>(rt: &impl Abort, port: &mut P) -> P::End {
     for _ in 0..ROUNDS {
         match port.accept() {
-            Taken::Made(end) => return Ok(end),
-            Taken::NotYet => port.poll(A_WHILE)?,
-            Taken::Failed | Taken::NoMemory => return Err(Fail::from("not accepted")),
+            Taken::Made(end) => return end,
+            Taken::NotYet => port.poll(A_WHILE).expect(rt, "a wait"),
+            Taken::Failed | Taken::NoMemory => panic!(rt; "not accepted"),
         }
     }
-    Err(Fail::from("nobody came"))
+    panic!(rt; "nobody came")
 }
 
 /// Two nodes' ports, and the two ends of a socket between them.
@@ -64,24 +58,19 @@ pub(crate) struct Linked<P: Port> {
     pub(crate) acceptor: P::End,
 }
 
-/// Node 0, which listens at an address already, node 1, and a socket between them.
-pub(crate) fn meet<F: Fabric>(fabric: &mut F, at: &Addr) -> Result<Linked<F::Port>, Fail> {
-    let mut accepting = last_port(fabric, 0, 1)?;
-    let mut opening = last_port(fabric, 1, 1)?;
-    let opener = connected(&mut opening, at)?;
-    let acceptor = accepted(&mut accepting)?;
-    Ok(Linked {
+/// Node 0, which listens at an address, node 1, and a socket between them.
+pub(crate) fn link_up<F: Fabric>(rt: &impl Abort, fabric: &mut F, at: &Addr) -> Linked<F::Port> {
+    fabric.listen(0, at).expect(rt, "a listener");
+    let mut accepting = only_port(rt, fabric, 0);
+    let mut opening = only_port(rt, fabric, 1);
+    let opener = connected(rt, &mut opening, at);
+    let acceptor = accepted(rt, &mut accepting);
+    Linked {
         opening,
         accepting,
         opener,
         acceptor,
-    })
-}
-
-/// The same where nobody listens there yet.
-pub(crate) fn link_up<F: Fabric>(fabric: &mut F, at: &Addr) -> Result<Linked<F::Port>, Fail> {
-    fabric.listen(0, at)?;
-    meet(fabric, at)
+    }
 }
 
 /// Writes once, where the end is open and there is something to write.

@@ -1,12 +1,11 @@
 //! The handshake: bytes of an independent program, fed and compared.
 
 use crate::frame::WAIT;
-use m2_addr::{Addr, AddrVec};
-use m2_bytes::{Blob, NoMemory};
-use m2_control::{ClientIdent, Control, SessionReset, Wait};
+use m2_addr::Addr;
+use m2_bytes::Blob;
+use m2_control::{Control, SessionReset, Wait};
 use m2_frame::Got;
-use m2_handshake::{Ask, AskStep, Half, HalfFault, HalfStep, IdentCheck, Stage, check_ident};
-use m2_policy::lossless_peer;
+use m2_handshake::{Ask, AskStep, Half, HalfStep, Stage};
 use std::alloc::Global;
 use std::test::*;
 
@@ -38,17 +37,6 @@ const IDENT: [u8; 159] = *b"\
     \x01\x01\x01\x1c\0\0\0\x02\0\0\0\x02\0\0\0\x10\0\0\0\x02\0\x1b\x5a\x7f\0\0\x01\0\0\0\0\0\0\0\0\
     \0\0\0\0\0\0\0\0\x01\0\0\0\0\0\0\0\
     \xff\xff\xff\xff\xff\xff\xff\xff\0\0\0\0\0\0\0\0\0\0\0\0\0\0\0\0\x01\0\0\0\0\x01\0\x01\x40\xeb\xa0\x0e";
-
-/// The same of 127.0.0.1:7001/9: other in the nonce and so in the crc.
-fn stranger() -> [u8; 159] {
-    let mut text = IDENT;
-    text[48] = 0x09;
-    text[155] = 0x24;
-    text[156] = 0x3a;
-    text[157] = 0x71;
-    text[158] = 0x10;
-    text
-}
 
 /// An AUTH_REQUEST with method 2.
 const OTHER_METHOD: [u8; 52] = *b"\
@@ -165,39 +153,12 @@ fn another_method_is_answered_and_asked_again(rt: HostRuntime) {
     assert_eq!(rt; part(out.as_slice(), 158, 278), &SERVER[98..]);
 }
 
-#[test]
-fn an_opener_takes_the_refusal_for_a_fault_and_keeps_it(rt: HostRuntime) {
-    let mut client = a_client(rt.alloc());
-    let mut out = Blob::empty(rt.alloc());
-    let refused = HalfStep::Fault(HalfFault::BadAuth);
-    tell(&mut client, &SERVER[..98], &mut out);
-    assert_eq!(rt; tell(&mut client, &REFUSAL, &mut out), refused);
-    assert_eq!(rt; tell(&mut client, &SERVER[98..], &mut out), refused);
-}
-
-/// What a server says when it is asked.
-#[derive(Clone, Copy, Debug, PartialEq, Eq)]
-enum AskSeen {
-    Ident,
-    Reconnect,
-    NotYet,
-    Fault(HalfFault),
-    /// It can't be asked, or memory ran out.
-    Other,
-}
-
-/// Feeds bytes to a server and asks it.
-fn ask(server: &mut Half, bytes: &[u8]) -> AskSeen {
+/// Whether a server that is fed these bytes is asked by an ident then.
+fn is_asked(server: &mut Half, bytes: &[u8]) -> bool {
     if server.feed(bytes).is_err() || !server.can_ask() {
-        return AskSeen::Other;
+        return false;
     }
-    match server.ask() {
-        AskStep::Asked(Ask::Ident(_)) => AskSeen::Ident,
-        AskStep::Asked(Ask::Reconnect(_)) => AskSeen::Reconnect,
-        AskStep::NotYet => AskSeen::NotYet,
-        AskStep::Fault(fault) => AskSeen::Fault(fault),
-        AskStep::NoMemory => AskSeen::Other,
-    }
+    matches!(server.ask(), AskStep::Asked(Ask::Ident(_)))
 }
 
 /// Resets a server's asker, or sends it away; whether memory sufficed and it was asked.
@@ -214,107 +175,16 @@ fn answer(server: &mut Half, away: bool, out: &mut Blob) -> bool {
     done.is_ok()
 }
 
-/// A server that has read all that a client writes.
-fn an_authed(alloc: Global) -> Half {
-    let mut server = a_server(alloc);
-    let mut out = Blob::empty(alloc);
-    tell(&mut server, &CLIENT, &mut out);
-    server
-}
-
 #[test]
-fn asks_are_answered_until_the_end(rt: HostRuntime) {
-    let mut server = an_authed(rt.alloc());
+fn an_asker_is_reset_and_asks_again_and_is_sent_away(rt: HostRuntime) {
+    let mut server = a_server(rt.alloc());
     let mut out = Blob::empty(rt.alloc());
-    assert_eq!(rt;
-        (server.rests(), ask(&mut server, &IDENT[..67])),
-        (true, AskSeen::NotYet)
-    );
-    assert_eq!(rt; ask(&mut server, &IDENT[67..]), AskSeen::Ident);
-    assert_eq!(rt;
-        (server.rests(), ask(&mut server, &IDENT)),
-        (true, AskSeen::NotYet)
-    );
+    tell(&mut server, &CLIENT, &mut out);
+    out.clear();
+    assert!(rt; is_asked(&mut server, &IDENT));
     assert!(rt; answer(&mut server, false, &mut out));
-    assert_eq!(rt;
-        (server.rests(), ask(&mut server, &[])),
-        (false, AskSeen::Ident)
-    );
+    assert!(rt; is_asked(&mut server, &IDENT));
     assert!(rt; answer(&mut server, true, &mut out));
     assert_eq!(rt; part(out.as_slice(), 0, 37), RESET.as_slice());
     assert_eq!(rt; part(out.as_slice(), 37, 69), WAIT.as_slice());
-    assert_eq!(rt; ask(&mut server, &[]), AskSeen::NotYet);
-    let unexpected = AskSeen::Fault(HalfFault::Unexpected { tag: 8 });
-    assert_eq!(rt; ask(&mut server, &IDENT), unexpected);
-    assert_eq!(rt; ask(&mut server, &IDENT), unexpected);
-}
-
-#[test]
-fn a_later_ask_comes_from_the_address_of_the_first(rt: HostRuntime) {
-    let mut server = an_authed(rt.alloc());
-    let mut out = Blob::empty(rt.alloc());
-    assert_eq!(rt; ask(&mut server, &IDENT), AskSeen::Ident);
-    assert!(rt; answer(&mut server, false, &mut out));
-    let unknown = AskSeen::Fault(HalfFault::UnknownPeer);
-    assert_eq!(rt; ask(&mut server, &stranger()), unknown);
-    let unexpected = AskSeen::Fault(HalfFault::Unexpected { tag: 16 });
-    assert_eq!(rt; ask(&mut an_authed(rt.alloc()), &WAIT), unexpected);
-}
-
-#[test]
-fn room_is_made_for_64_kib(rt: HostRuntime) -> Result<(), Fail> {
-    let mut server = a_server(rt.alloc());
-    let mut out = Blob::empty(rt.alloc());
-    assert!(rt; server.reserve(65_536).is_ok());
-    assert!(rt; server.feed(&b"\0".repeat(rt.alloc(), 65_536)?).is_ok());
-    let bad = HalfStep::Fault(HalfFault::BadBanner);
-    assert_eq!(rt; run(&mut server, &mut out), bad);
-    Ok(())
-}
-
-/// What a server says of a banner with these lowest bytes of the supported and the required features.
-fn hear_banner(alloc: Global, supported: u8, required: u8) -> HalfStep {
-    let mut server = a_server(alloc);
-    let mut out = Blob::empty(alloc);
-    tell(&mut server, &CLIENT[..10], &mut out);
-    tell(&mut server, &[supported, 0, 0, 0, 0, 0, 0, 0], &mut out);
-    tell(&mut server, &[required, 0, 0, 0, 0, 0, 0, 0], &mut out)
-}
-
-#[test]
-fn a_banner_without_msgr2_1_or_with_more_required_is_refused(rt: HostRuntime) {
-    let alloc = rt.alloc();
-    let refused = HalfStep::Fault(HalfFault::BannerFeatures);
-    assert_eq!(rt; hear_banner(alloc, 1, 1), HalfStep::NotYet);
-    assert_eq!(rt; hear_banner(alloc, 3, 0), HalfStep::NotYet);
-    assert_eq!(rt; hear_banner(alloc, 2, 1), refused);
-    assert_eq!(rt; hear_banner(alloc, 3, 3), refused);
-}
-
-/// What 127.0.0.1:7002/2 finds in an ident of a lossless peer that supports bit 0, where these bits are
-/// required.
-fn look(alloc: Global, target: Addr, flags: u64, required: u64) -> Result<IdentCheck, NoMemory> {
-    let ident = ClientIdent {
-        addrs: AddrVec::one(alloc, at(7001, 1))?,
-        target,
-        gid: 0,
-        global: 1,
-        supported: 1,
-        required: 0,
-        flags,
-        cookie: 1,
-    };
-    Ok(check_ident(&ident, &at(7002, 2), &lossless_peer(), required))
-}
-
-#[test]
-fn an_ident_is_looked_at_in_order(rt: HostRuntime) -> Result<(), Fail> {
-    let alloc = rt.alloc();
-    let wrong = IdentCheck::Fault(HalfFault::WrongAddress);
-    let disagrees = IdentCheck::Fault(HalfFault::FlagDisagrees);
-    assert_eq!(rt; look(alloc, at(7003, 2), 1, 5)?, wrong);
-    assert_eq!(rt; look(alloc, at(7002, 2), 1, 5)?, disagrees);
-    assert_eq!(rt; look(alloc, at(7002, 2), 0, 5)?, IdentCheck::Missing(4));
-    assert_eq!(rt; look(alloc, at(7002, 2), 0, 1)?, IdentCheck::Fine);
-    Ok(())
 }

@@ -1,19 +1,16 @@
-//! Tests of the wire, of the handshake and of the session's crates: values from outside, recorded texts, tables as
-//! docs/PROTOCOL.md has them, and calls near the bounds of what they take.
+//! Tests of the wire, of the handshake and of a session's judgements: texts and checksums that other programs wrote,
+//! payloads and tags as Ceph's documentation has them, and the tables of judgement as docs/PROTOCOL.md has them.
 //!
-//! What it is: a file for each crate, those of posted messages below `messages`. They stand apart from the crates,
-//! since a crate with tests is proved twice. What it isn't: what a clause says already.
+//! What it is: a file for each crate, and two for `m2_frame`. They stand apart from the crates, since a crate with tests
+//! is proved twice. What it isn't: what a clause says already, or what the files of `examples/` show, which the gate
+//! runs.
 //!
-//! Where values are compared with many others they stand in a table, and what can end early works on borrowed values: a
-//! test is proved too, and a long one that owns much is dear.
+//! Values stand in tables, and what can end early works on borrowed values: a test is proved too, and a long one that
+//! owns much is dear.
 #![tactic(auto)]
 
 #[cfg(test)]
 mod addr;
-#[cfg(test)]
-mod answers;
-#[cfg(test)]
-mod bytes;
 #[cfg(test)]
 mod control;
 #[cfg(test)]
@@ -23,11 +20,7 @@ mod frame;
 #[cfg(test)]
 mod handshake;
 #[cfg(test)]
-mod message_frame;
-#[cfg(test)]
-mod messages;
-#[cfg(test)]
-mod policy;
+mod header;
 #[cfg(test)]
 mod session;
 #[cfg(test)]

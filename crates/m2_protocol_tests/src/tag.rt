@@ -2,15 +2,35 @@
 
 use m2_frame::Tag;
 
+/// The names of the tags from 1 on.
+const NAMES: [&str; 22] = [
+    "HELLO",
+    "AUTH_REQUEST",
+    "AUTH_BAD_METHOD",
+    "AUTH_REPLY_MORE",
+    "AUTH_REQUEST_MORE",
+    "AUTH_DONE",
+    "AUTH_SIGNATURE",
+    "CLIENT_IDENT",
+    "SERVER_IDENT",
+    "IDENT_MISSING_FEATURES",
+    "SESSION_RECONNECT",
+    "SESSION_RESET",
+    "SESSION_RETRY",
+    "SESSION_RETRY_GLOBAL",
+    "SESSION_RECONNECT_OK",
+    "WAIT",
+    "MESSAGE",
+    "KEEPALIVE2",
+    "KEEPALIVE2_ACK",
+    "ACK",
+    "COMPRESSION_REQUEST",
+    "COMPRESSION_DONE",
+];
+
 #[test]
-fn tags_have_the_documented_numbers_and_names(rt: HostRuntime) {
-    assert_eq!(rt; Tag::of(17), Some(Tag::Message));
-    assert_eq!(rt; Tag::of(0), None);
-    assert_eq!(rt; Tag::of(23), None);
-    assert_eq!(rt; Tag::KeepaliveAck.number(), 19);
-    assert_eq!(rt; Tag::Keepalive.name(), "KEEPALIVE2");
-    assert_eq!(rt; Tag::name_of_number(15), "SESSION_RECONNECT_OK");
-    assert_eq!(rt; Tag::name_of_number(0), "");
-    assert!(rt; Tag::Ack.is_control());
-    assert!(rt; !Tag::CompressionDone.is_negotiated());
+fn tags_have_the_documented_names(rt: HostRuntime) {
+    for (number, name) in (1u8..).zip(NAMES) {
+        assert_eq!(rt; Tag::name_of_number(number), name);
+    }
 }

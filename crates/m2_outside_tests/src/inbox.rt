@@ -1,17 +1,29 @@
-//! Threads that put while another takes.
+//! An inbox into which threads put while another takes.
 
 ghost use Rattle.std.specs.Prelude.{◌≡◌, ◌<◌, ◌+◌, IfOk};
 ghost use Rattle.m2_mailbox.specs.Passes.{IsGetPassOf, IsPutPassOf, owner_of, parts_of};
 ghost use Rattle.m2_mailbox.specs.Views.{all_parts};
 
-use crate::items::Numbered;
-use m2_bytes::NoMemory;
 use m2_mailbox::{GetPass, Inbox, MOST_ARRIVALS, PutPass, Rest};
+use m2_shared::Item;
 use std::alloc::Global;
+use std::process::Abort;
 use std::sync::Wait;
-use std::test::Fail;
 use std::thread;
 use std::thread::Threads;
+
+/// The item of a putter with this number. It belongs to whoever counts so many putters that this one is among them.
+#[derive(Clone, Copy, Debug, PartialEq, Eq)]
+struct Numbered {
+    putter: u32,
+    number: u32,
+}
+
+impl Item for Numbered {
+    type Owner = u32;
+
+    ghost belongs = { λ putters item. item.putter < putters };
+}
 
 /// How many items each putter puts.
 const EACH: u32 = 10_000;
@@ -23,7 +35,7 @@ const MOST_TRIES: u32 = 100_000_000;
 #[derive(Clone, Copy, Debug, PartialEq, Eq)]
 struct Tally {
     /// The next number of each putter.
-    next: [u32; 3],
+    next: [u32; 2],
     /// How many items came with another number than their putter's next one.
     out_of_order: u32,
 }
@@ -31,7 +43,7 @@ struct Tally {
 impl Tally {
     fn new() -> Tally {
         Tally {
-            next: [0; 3],
+            next: [0; 2],
             out_of_order: 0,
         }
     }
@@ -46,7 +58,7 @@ impl Tally {
     }
 
     fn count(&self) -> u64 {
-        self.next[0] as u64 + self.next[1] as u64 + self.next[2] as u64
+        self.next[0] as u64 + self.next[1] as u64
     }
 }
 
@@ -75,7 +87,7 @@ fn put_all<R: Wait>(
     (pass, number)
 }
 
-/// Takes until all items of three putters came.
+/// Takes until all items of two putters came.
 fn take_all<R: Wait>(
     rt: &R,
     inbox: &Inbox<Numbered>,
@@ -86,7 +98,7 @@ fn take_all<R: Wait>(
 {
     let mut tally = Tally::new();
     for _ in 0..MOST_TRIES {
-        if tally.count() >= 3 * EACH as u64 {
+        if tally.count() >= 2 * EACH as u64 {
             break;
         }
         match inbox.take(rt, &mut pass) {
@@ -111,52 +123,25 @@ fn take_rest<R: Wait>(rt: &R, mut rest: Rest<Numbered>, mut tally: Tally) -> Tal
 
 type Ended = (PutPass<Numbered>, u32);
 
-/// Two putters at the same time.
-fn put_twice<R: Threads + Wait + Sync>(
-    rt: &R,
-    b: &Inbox<Numbered>,
-    first: PutPass<Numbered>,
-    second: PutPass<Numbered>,
-) -> (Ended, Ended)
-    requires first { IsPutPassOf b.now first }
-    requires second { IsPutPassOf b.now second }
-    requires belongs { 2 < owner_of b.now }
-    ensures first { IsPutPassOf b.now result.0.0 }
-    ensures second { IsPutPassOf b.now result.1.0 }
-    ensures parts { (parts_of result.0.0 ≡ parts_of first) × (parts_of result.1.0 ≡ parts_of second) }
-{
-    thread::join(
-        rt,
-        move || -> Ended
-            requires { IsPutPassOf b.now first × (2 < owner_of b.now) }
-            ensures { IsPutPassOf b.entry.now result.0 × (parts_of result.0 ≡ parts_of first) }
-        { put_all(rt, b, first, 0) },
-        move || -> Ended
-            requires { IsPutPassOf b.now second × (2 < owner_of b.now) }
-            ensures { IsPutPassOf b.entry.now result.0 × (parts_of result.0 ≡ parts_of second) }
-        { put_all(rt, b, second, 1) },
-    )
-}
-
 /// A putter and the taker at the same time.
 fn put_and_take<R: Threads + Wait + Sync>(
     rt: &R,
     b: &Inbox<Numbered>,
-    third: PutPass<Numbered>,
+    put: PutPass<Numbered>,
     get: GetPass<Numbered>,
 ) -> (Ended, (GetPass<Numbered>, Tally))
-    requires third { IsPutPassOf b.now third }
+    requires put { IsPutPassOf b.now put }
     requires get { IsGetPassOf b.now get }
-    requires belongs { 2 < owner_of b.now }
-    ensures third { IsPutPassOf b.now result.0.0 × (parts_of result.0.0 ≡ parts_of third) }
+    requires belongs { 1 < owner_of b.now }
+    ensures put { IsPutPassOf b.now result.0.0 × (parts_of result.0.0 ≡ parts_of put) }
     ensures get { IsGetPassOf b.now result.1.0 }
 {
     thread::join(
         rt,
         move || -> Ended
-            requires { IsPutPassOf b.now third × (2 < owner_of b.now) }
-            ensures { IsPutPassOf b.entry.now result.0 × (parts_of result.0 ≡ parts_of third) }
-        { put_all(rt, b, third, 2) },
+            requires { IsPutPassOf b.now put × (1 < owner_of b.now) }
+            ensures { IsPutPassOf b.entry.now result.0 × (parts_of result.0 ≡ parts_of put) }
+        { put_all(rt, b, put, 1) },
         move || -> (GetPass<Numbered>, Tally)
             requires { IsGetPassOf b.now get }
             ensures { IsGetPassOf b.entry.now result.0 }
@@ -164,40 +149,33 @@ fn put_and_take<R: Threads + Wait + Sync>(
     )
 }
 
-/// Three putters and a taker at the same time: how many items were put, and what the taker saw.
-fn hand_over<R: Threads + Wait + Sync>(
-    rt: &R,
-    alloc: Global,
-) -> Result<([u32; 3], Tally), NoMemory> {
-    let (inbox, mut first, get) = Inbox::new(alloc, MOST_ARRIVALS, &3)?;
+/// Two putters and a taker at the same time: how many items were put, and what the taker saw.
+fn hand_over<R: Threads + Wait + Abort + Sync>(rt: &R, alloc: Global) -> ([u32; 2], Tally) {
+    let (inbox, mut first, get) = Inbox::new(alloc, MOST_ARRIVALS, &2).expect(rt, "memory");
     let b = &inbox;
     let second = first.split(rt, b);
-    let third = first.split(rt, b);
-    let (((mut first, x), (second, y)), ((third, z), (get, tally))) = thread::join(
+    let ((mut first, x), ((second, y), (get, tally))) = thread::join(
         rt,
-        move || -> (Ended, Ended)
-            requires { IsPutPassOf b.now first × IsPutPassOf b.now second × (2 < owner_of b.now) }
-            ensures { IsPutPassOf b.entry.now result.0.0 × IsPutPassOf b.entry.now result.1.0
-                × (parts_of result.0.0 ≡ parts_of first) × (parts_of result.1.0 ≡ parts_of second) }
-        { put_twice(rt, b, first, second) },
+        move || -> Ended
+            requires { IsPutPassOf b.now first × (1 < owner_of b.now) }
+            ensures { IsPutPassOf b.entry.now result.0 × (parts_of result.0 ≡ parts_of first) }
+        { put_all(rt, b, first, 0) },
         move || -> (Ended, (GetPass<Numbered>, Tally))
-            requires { IsPutPassOf b.now third × IsGetPassOf b.now get × (2 < owner_of b.now) }
+            requires { IsPutPassOf b.now second × IsGetPassOf b.now get × (1 < owner_of b.now) }
             ensures { IsPutPassOf b.entry.now result.0.0 × IsGetPassOf b.entry.now result.1.0
-                × (parts_of result.0.0 ≡ parts_of third) }
-        { put_and_take(rt, b, third, get) },
+                × (parts_of result.0.0 ≡ parts_of second) }
+        { put_and_take(rt, b, second, get) },
     );
     first.join(rt, b, second);
-    first.join(rt, b, third);
     let rest = inbox.close(rt, first, get);
-    Ok(([x, y, z], take_rest(rt, rest, tally)))
+    ([x, y], take_rest(rt, rest, tally))
 }
 
-// Three threads put 10,000 items each into 64 places while a fourth takes: all arrive, each putter's in order.
+// Two threads put 10,000 items each into 64 places while a third takes: all arrive, each putter's in order.
 #[test]
-fn all_items_of_three_putters_arrive_in_order(rt: HostRuntime) -> Result<(), Fail> {
-    let (put, tally) = hand_over(&rt, rt.alloc())?;
-    assert_eq!(rt; put, [EACH, EACH, EACH]);
-    assert_eq!(rt; tally.next, [EACH, EACH, EACH]);
+fn all_items_of_two_putters_arrive_in_order(rt: HostRuntime) {
+    let (put, tally) = hand_over(&rt, rt.alloc());
+    assert_eq!(rt; put, [EACH, EACH]);
+    assert_eq!(rt; tally.next, [EACH, EACH]);
     assert_eq!(rt; tally.out_of_order, 0);
-    Ok(())
 }
