@@ -15,7 +15,7 @@ use Rattle.m2_cli.specs.declared.status.Status.TheVariants as status
 use Rattle.m2_cli.specs.Edge.{Edge, IsCause, StandsSomewhere}
 use Rattle.m2_cli.specs.Frames.{ListsFile, IsListedInPart, status_of_listing, IsPassedOn}
 use Rattle.m2_cli.specs.Print.{SaysStatus}
-use Rattle.m2_cli.proofs.Says.{prefix_whole}
+use Rattle.m2_program.proofs.Endings.{prefix_whole}
 
 all_prefix : (bytes : List ℕ) (src : SeenSource) → IsAll bytes src → IsPrefixOf bytes src.given
 all_prefix bytes src h = (length src.given, h.given ∙ sym (take-length src.given))

@@ -15,7 +15,7 @@ use Rattle.m2_cli.specs.Print.{Delivers, PrintsReport, SaysStatus, unsaid}
 use Rattle.m2_cli.specs.Printout.{IsPrintoutBy}
 use Rattle.m2_cli.proofs.LoadLinks.{load_is_up}
 use Rattle.m2_cli.proofs.Orders.{heard_all, keeps_sessions}
-use Rattle.m2_cli.proofs.Says.{prefix_whole}
+use Rattle.m2_program.proofs.Endings.{prefix_whole}
 
 -- all was written, by the count of what is left
 left_runs : (b : Bool) (n posts seed : ℕ) (text : List ℕ) (before after : Edge) → after.source ≡ before.source → Delivers text before.out after.out

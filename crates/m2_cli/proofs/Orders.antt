@@ -22,7 +22,7 @@ use Rattle.m2_cli.specs.Order.{HeardAll, KeepsAll, KeepsOrder, KeepsPrefixes, Ke
 use Rattle.m2_cli.specs.Print.{PrintsReport, SaysStatus, unsaid}
 use Rattle.m2_cli.specs.Printout.{IsPrintoutOf}
 use Rattle.m2_cli.specs.Verdict.{BadAt, IsRunOf, ReadingComesTo, scenario_in}
-use Rattle.m2_cli.proofs.Says.{prefix_whole}
+use Rattle.m2_program.proofs.Endings.{prefix_whole}
 
 -- ---- a run
 

@@ -1,20 +1,16 @@
 -- A text written, and a status said.
-use Rattle.std.proofs.Common.{◌≡◌, ℕ, List, [], ◌++◌, length, Result, Ok, Err, refl, sym, ◌∙◌, ap, subst, append-nil, inl, inr}
+use Rattle.std.proofs.Common.{◌≡◌, ℕ, List, [], ◌++◌, Result, Ok, Err, refl, sym, ◌∙◌, ap, subst, append-nil, inl, inr}
 use Rattle.std.specs.Prelude.{◌≢◌}
-use Rattle.std.proofs.Math.Seq.{take-length}
 use Rattle.m2_edge.specs.Faults.{HasRisen}
-use Rattle.m2_edge.specs.Sink.{SeenSink, TakesBytes, TakesPrefix, FlushesAll}
+use Rattle.m2_edge.specs.Sink.{SeenSink, TakesPrefix}
 use Rattle.m2_edge.specs.declared.failed.Failed.{Failed}
+use Rattle.m2_program.specs.Writing.{PrintsText}
 use Rattle.m2_cli.specs.declared.printout.Printout.{Printout}
 use Rattle.m2_cli.specs.declared.status.Status.{Status}
 use Rattle.m2_cli.specs.declared.status.Status.TheVariants as status
 use Rattle.m2_cli.specs.Edge.{Edge, IsCause}
 use Rattle.m2_cli.specs.Print.{Delivers, DeliversText, SaysStatus, PrintsReport, unsaid}
 use Rattle.m2_cli.specs.Status.{line_of}
-
--- what was taken whole was taken by its prefix
-pub prefix_whole : (text : List ℕ) (old new : SeenSink) → TakesBytes text old new → TakesPrefix text old new
-prefix_whole text old new h = let P : List ℕ → Type 0 = λ t. TakesBytes t old new in (length text, subst P (sym (take-length text)) h)
 
 -- an empty text, with no call
 pub delivers_nothing : (text : List ℕ) (s : SeenSink) → text ≡ [] → Delivers text s s
@@ -24,11 +20,10 @@ delivers_nothing text s none = record {
   untouched = λ _. refl;
 }
 
--- a text, and then a flush
-pub delivers_flushed : (r : Result (Unit {0}) Failed) (text : List ℕ) (old mid new : SeenSink) → text ≢ [] → TakesBytes text old mid
-    → new.taken ≡ mid.taken → FlushesAll r mid new → DeliversText r text old new
-delivers_flushed (Ok u) text old mid new some h e f = record { taken = e ∙ h; flushed = λ _. f; untouched = λ none. absurd (some none) }
-delivers_flushed (Err u) text old mid new some h e f = prefix_whole text old new (e ∙ h)
+-- a text that was printed
+pub delivers_printed : (r : Result (Unit {0}) Failed) (text : List ℕ) (old new : SeenSink) → text ≢ [] → PrintsText r text old new → DeliversText r text old new
+delivers_printed (Ok u) text old new some p = record { taken = p.taken; flushed = λ _. p.flushed; untouched = λ none. absurd (some none) }
+delivers_printed (Err u) text old new some p = p
 
 pub says_whole : (s : Status) (line : List ℕ) (old new : SeenSink) → line ≡ line_of s → Delivers line old new → SaysStatus s s old new
 says_whole s line old new e d = let P : List ℕ → Type 0 = λ t. Delivers t old new in inl (record { answer = refl; line = subst P e d })

@@ -10,7 +10,8 @@ ghost use Rattle.m2_cli.specs.Status.{line_of, fixed_line_of};
 use crate::printout::Printout;
 use crate::status::{Status, fixed_line, line};
 use m2_bytes::NoMemory;
-use m2_edge::{Failed, Sink, write_whole};
+use m2_edge::{Failed, Sink};
+use m2_program::write_text;
 use std::alloc::Global;
 
 /// Writes the report and then says the status. After a fault nothing more is written there.
@@ -21,7 +22,7 @@ pub(crate) fn print<O: Sink, E: Sink>(printout: &Printout, out: &mut O, err: &mu
     ensures prints { (work : Status) × PrintsReport printout.now work (O.seen out.old) (O.seen out.new)
         × SaysStatus work result (E.seen err.old) (E.seen err.new) }
 {
-    match write_text(out, printout.report.as_slice()) {
+    match deliver(out, printout.report.as_slice()) {
         Ok(()) => say(err, printout.status, printout.line.as_slice()),
         Err(_) => say_fixed(err, Status::WriteFault),
     }
@@ -54,7 +55,7 @@ fn say<E: Sink>(err: &mut E, status: Status, line: &[u8]) -> Status
     ensures never_falls { (E.seen err.old).faults ≤ (E.seen err.new).faults }
     ensures says { SaysStatus status result (E.seen err.old) (E.seen err.new) }
 {
-    match write_text(err, line) {
+    match deliver(err, line) {
         Ok(()) => status,
         Err(_) => unsaid(status),
     }
@@ -70,13 +71,12 @@ fn unsaid(status: Status) -> Status
 }
 
 /// Writes a text and passes it on. Where it is empty the sink isn't called.
-fn write_text<K: Sink>(sink: &mut K, text: &[u8]) -> Result<(), Failed>
+fn deliver<K: Sink>(sink: &mut K, text: &[u8]) -> Result<(), Failed>
     ensures causes { HasCause result (K.seen sink.old).faults (K.seen sink.new).faults }
     ensures delivers { DeliversText result text.now (K.seen sink.old) (K.seen sink.new) }
 {
     if text.is_empty() {
         return Ok(());
     }
-    write_whole(sink, text)?;
-    sink.flush()
+    write_text(sink, text)
 }

@@ -1,11 +1,10 @@
+pub mod Complaint
 pub mod Hearing
 pub mod Judging
 pub mod PairNow
 pub mod SideNow
 pub mod Sockets
-pub mod Status
 pub mod Steps
-pub mod Top
 pub mod Trace
 pub mod Tracing
 pub mod Wires

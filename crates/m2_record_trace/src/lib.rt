@@ -4,14 +4,15 @@
 //! alone), the sockets of the peer that it has accepted and not taken, and the logs of what it handed out; and
 //! [`Pair`], two sides with the sockets between them, of which whoever drives says how much flows and what breaks. What
 //! a record's calls ask of their caller is kept by the type of a side, or looked at as the call comes, so no call of a
-//! pair has a condition but the two makers. [`record_trace`] is the whole work of the program of that name: it reads a
-//! schedule, drives two records by it, and prints what they planned, did and handed on, and where they stand, one item
-//! a line, so that an independent replay can be laid beside it. docs/PROTOCOL.md describes both forms.
+//! pair has a condition but the two makers. [`RecordTrace`] is the program `record_trace`: of a schedule it
+//! makes what two records that are driven by it planned, did and handed on, and where they stand, one item a line, so
+//! that an independent replay can be laid beside it. docs/PROTOCOL.md describes both forms.
 //!
 //! What it isn't: a thread, a clock or a network. Each moment is given, and nothing flows by itself.
 #![tactic(auto)]
 
 mod arriving;
+mod complaint;
 mod connecting;
 mod dispatching;
 mod driving;
@@ -20,21 +21,17 @@ mod pair;
 mod program;
 mod side;
 mod sides;
-mod status;
 mod step;
 mod text;
-mod top;
 mod tracing;
 mod which;
 mod wire;
 
 pub use pair::Pair;
-pub use program::{Ended, run_program};
+pub use program::RecordTrace;
 pub use side::Side;
-pub use status::TraceStatus;
 pub use step::{Connecting, SideStep};
 pub use text::put_trace;
-pub use top::record_trace;
 pub use tracing::{Untraced, trace};
 pub use which::Which;
 pub use wire::Wire;

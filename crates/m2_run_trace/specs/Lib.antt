@@ -1,5 +1,6 @@
 pub mod Acts
 pub mod Cause
+pub mod Complaint
 pub mod Dispatches
 pub mod Ends
 pub mod Entries
@@ -8,8 +9,6 @@ pub mod Marks
 pub mod News
 pub mod Script
 pub mod Sockets
-pub mod Status
 pub mod Telling
-pub mod Top
 pub mod Tracing
 pub mod Words

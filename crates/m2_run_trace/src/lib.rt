@@ -1,7 +1,7 @@
 //! The trace of a run of a scenario: its script as it is played, and under each line what the nodes did.
 //!
-//! What it is: [`run_trace`], the whole work of the program of that name: it reads a scenario, plays its lines one by
-//! one over nodes in memory (`m2_script`), and prints what was done by it (docs/SCENARIOS.md, "The trace of a run").
+//! What it is: [`RunTrace`], the program `run_trace`: of a scenario, whose lines are played one by one over nodes in
+//! memory (`m2_script`), it makes what was done by it (docs/SCENARIOS.md, "The trace of a run").
 //! `specs/Acts.antt` says what a trace is: acts, each with what is printed before it, its deeds, and the node of which
 //! is told what it did by them. A law says that the run of a trace is one of the scenario's lines. [`put_news`] appends
 //! what a node did since it was marked: [`Marks`] says where it stood then. It tells of sockets on which it may still
@@ -12,6 +12,7 @@
 #![tactic(auto)]
 
 mod cause;
+mod complaint;
 mod dispatches;
 mod ends;
 mod entries;
@@ -24,18 +25,14 @@ mod program;
 mod script;
 mod sockets;
 mod stage;
-mod status;
 mod telling;
-mod top;
 mod tracing;
 mod words;
 
 pub use laws::traces_are_of_runs;
 pub use marks::{EndMark, Marks};
 pub use news::put_news;
-pub use program::{Ended, run_program};
+pub use program::RunTrace;
 pub use sockets::sockets_left;
-pub use status::TraceStatus;
-pub use top::run_trace;
 pub use tracing::{Untraced, trace};
 pub use words::{put_settle, put_turn};

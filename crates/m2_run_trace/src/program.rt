@@ -1,38 +1,39 @@
-//! The program over files and two writers of the runtime.
+//! The program `run_trace`.
 
-use crate::status::TraceStatus;
-use crate::top::run_trace;
-use m2_edge::{StdSink, StdSource};
+use crate::complaint::complaint;
+use crate::tracing::trace;
+use m2_bytes::Blob;
+use m2_program::{Program, ProgramStatus};
+use m2_scenario_text::MOST_BYTES;
 use std::alloc::Global;
-use std::io::Write;
-use std::rt::Files;
 
-/// How the program ended, and what it read and wrote through.
-#[derive(Drop)]
-pub struct Ended<'a, R: Files, O, E> {
-    pub status: TraceStatus,
-    pub source: StdSource<'a, R>,
-    pub out: StdSink<O>,
-    pub err: StdSink<E>,
-}
+/// The program `run_trace FILE`, which prints the trace of a run of the scenario in its file.
+pub struct RunTrace;
 
-/// All that the program does: [`run_trace`] over the files of the runtime, printing on `out` and saying on
-/// `err`.
-pub fn run_program<'a, R: Files, O: Write, E: Write>(
-    alloc: Global,
-    rt: &'a R,
-    words: &[String],
-    out: O,
-    err: E,
-) -> Ended<'a, R, O, E> {
-    let mut source = StdSource::new(rt);
-    let mut out = StdSink::new(out);
-    let mut err = StdSink::new(err);
-    let status = run_trace(alloc, words, &mut source, &mut out, &mut err);
-    Ended {
-        status,
-        source,
-        out,
-        err,
+impl Program for RunTrace {
+    ghost use Rattle.std.specs.Prelude.{◌+◌, codes};
+    ghost use Rattle.m2_run_trace.specs.Complaint.{IsComplaintOf};
+    ghost use Rattle.m2_run_trace.specs.Tracing.{IsTraceOf};
+    ghost use Rattle.m2_scenario_text.specs.declared.reading.TheConstants.{MOST_BYTES};
+
+    ghost makes = { IsTraceOf };
+
+    ghost complains = { IsComplaintOf };
+
+    ghost usage = { codes "usage: run_trace FILE\n" };
+
+    ghost MOST = { MOST_BYTES + 1 };
+
+    const MOST: usize = MOST_BYTES + 1;
+
+    fn usage() -> &'static [u8] {
+        b"usage: run_trace FILE\n"
+    }
+
+    fn make(alloc: Global, bytes: &[u8]) -> Result<Blob, ProgramStatus> {
+        match trace(alloc, bytes) {
+            Ok(text) => Ok(text),
+            Err(why) => Err(ProgramStatus::BadLine(complaint(alloc, why)?)),
+        }
     }
 }

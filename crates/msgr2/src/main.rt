@@ -2,24 +2,13 @@
 #![tactic(auto)]
 
 use m2_cli::{Status, run_program};
-use std::io::ErrorKind;
+use m2_program::words;
 use std::process::ExitCode;
-use std::{env, io};
 
 fn main(rt: HostRuntime) -> ExitCode {
-    let words = match words(&rt) {
-        Ok(words) => words,
-        Err(e) if e.kind() == ErrorKind::OutOfMemory => {
-            return ExitCode::from(Status::NoMemory.code());
-        }
-        // A word that isn't text is of no form.
-        Err(_) => Vec::new(rt.alloc()),
+    let Ok(words) = words(&rt) else {
+        return ExitCode::from(Status::NoMemory.code());
     };
     let ended = run_program(rt.alloc(), &rt, &words, rt.stdout(), rt.stderr());
     ExitCode::from(ended.status.code())
-}
-
-/// The words behind the program's name.
-fn words(rt: &HostRuntime) -> io::Result<Vec<String>> {
-    Ok(env::args(rt)?.skip(1).collect(rt.alloc())?)
 }

@@ -1,25 +1,10 @@
-//! The program `run_trace`: the words, handed to the call that does the work.
+//! The program `run_trace`.
 #![tactic(auto)]
 
-use m2_run_trace::{TraceStatus, Untraced, run_program};
-use std::io::ErrorKind;
+use m2_program::run_program;
+use m2_run_trace::RunTrace;
 use std::process::ExitCode;
-use std::{env, io};
 
 fn main(rt: HostRuntime) -> ExitCode {
-    let words = match words(&rt) {
-        Ok(words) => words,
-        Err(e) if e.kind() == ErrorKind::OutOfMemory => {
-            return ExitCode::from(TraceStatus::Untraced(Untraced::NoMemory).code());
-        }
-        // A word that isn't text names no file.
-        Err(_) => Vec::new(rt.alloc()),
-    };
-    let ended = run_program(rt.alloc(), &rt, &words, rt.stdout(), rt.stderr());
-    ExitCode::from(ended.status.code())
-}
-
-/// The words behind the program's name.
-fn words(rt: &HostRuntime) -> io::Result<Vec<String>> {
-    Ok(env::args(rt)?.skip(1).collect(rt.alloc())?)
+    run_program::<RunTrace, _, _, _>(&rt, rt.stdout(), rt.stderr())
 }

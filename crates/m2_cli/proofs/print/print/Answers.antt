@@ -5,14 +5,14 @@ use Rattle.m2_cli.proofs.print.print.Goals as goal
 pub returns-in-Ok-clause-prints : goal.returns-in-Ok-clause-prints
 returns-in-Ok-clause-prints g c = (
   c.args.printout.now.status,
-  prints_whole c.args.printout.now c.as_slice.result.now (g.O.Sink.seen c.args.out.now) (g.O.Sink.seen c.write_text.new.sink) c.as_slice.ensures c.in-Ok.ensures.delivers,
+  prints_whole c.args.printout.now c.as_slice.result.now (g.O.Sink.seen c.args.out.now) (g.O.Sink.seen c.deliver.new.sink) c.as_slice.ensures c.in-Ok.ensures.delivers,
   c.say.ensures.says,
 )
 
 pub returns-in-Err-clause-prints : goal.returns-in-Err-clause-prints
 returns-in-Err-clause-prints g c = (
   status.WriteFault,
-  prints_prefix c.args.printout.now c.as_slice.result.now (g.O.Sink.seen c.args.out.now) (g.O.Sink.seen c.write_text.new.sink) c.as_slice.ensures
+  prints_prefix c.args.printout.now c.as_slice.result.now (g.O.Sink.seen c.args.out.now) (g.O.Sink.seen c.deliver.new.sink) c.as_slice.ensures
       c.in-Err.ensures.causes.failed c.in-Err.ensures.delivers,
   c.say_fixed.ensures.says,
 )

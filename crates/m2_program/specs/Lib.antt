@@ -1,0 +1,4 @@
+pub mod Complaint
+pub mod Running
+pub mod Status
+pub mod Writing
