@@ -43,31 +43,21 @@ fault n0 n1\n\
 settle 1\n\
 settle 200\n";
 
-/// What is seen of the scenario of the cluster and these lines; none where memory ran out.
-fn text_of_lines(alloc: Global, lines: &[u8]) -> Option<String> {
-    let Ok(mut text) = Vec::from_slice(alloc, CLUSTER) else {
-        return None;
-    };
-    if text.extend_from_slice(lines).is_err() {
-        return None;
-    }
-    let Ok(scenario) = read(alloc, text.as_slice(), false) else {
-        return None;
-    };
-    text_of(alloc, &scenario)
+/// Each node, link and line, with all that it has.
+fn text_of(rt: &impl Abort, alloc: Global, scenario: &Scenario) -> String {
+    format!(in alloc; "{scenario:?}").expect(rt, "memory")
 }
 
-/// Each node, link and line, with all that it has.
-fn text_of(alloc: Global, scenario: &Scenario) -> Option<String> {
-    format!(in alloc; "{scenario:?}").ok()
+/// The scenario of the cluster and these lines.
+fn scenario_of(rt: &impl Abort, alloc: Global, lines: &[u8]) -> Scenario {
+    let mut text = Vec::from_slice(alloc, CLUSTER).expect(rt, "memory");
+    text.extend_from_slice(lines).expect(rt, "memory");
+    read(alloc, text.as_slice(), false).expect(rt, "a scenario")
 }
 
 #[test]
 fn a_seed_gives_the_lines_that_its_draws_choose(rt: HostRuntime) {
-    let sixteen = text_of_lines(rt.alloc(), SIXTEEN_OF_1);
-    assert!(rt; sixteen.is_some());
-    let Ok(scenario) = generate(rt.alloc(), 16, 1) else {
-        rt.abort()
-    };
-    assert!(rt; text_of(rt.alloc(), &scenario) == sixteen);
+    let scripted = scenario_of(&rt, rt.alloc(), SIXTEEN_OF_1);
+    let generated = generate(rt.alloc(), 16, 1).expect(&rt, "memory");
+    assert!(rt; text_of(&rt, rt.alloc(), &generated) == text_of(&rt, rt.alloc(), &scripted));
 }

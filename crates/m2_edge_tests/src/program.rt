@@ -2,14 +2,13 @@
 
 use m2_bytes::{Blob, Items, put_decimal};
 use m2_cli::{Status, msgr2};
-use m2_edge::{Input, MemSink, MemSource};
+use m2_edge::{CallList, Input, InputList, MemSink, MemSource};
 use std::alloc::Global;
 use std::process::Abort;
-use std::test::Fail;
 
 /// A file of two nodes, a link and a post, and its report.
 const POST: &[u8] = b"node a osd 127.0.0.1:7001/1\nnode b osd 127.0.0.1:7002/2\n\
-link a b lossless_peer lossless_peer\npost a b 7 127 616263 - -\nsettle 60\n";
+link a b lossless_peer lossless_peer\npost a b 7 127 616263 - -\nsettle 30\n";
 
 const DISPATCHED: &[u8] = b"b from a 127 queued 7 616263 - -\n";
 
@@ -34,41 +33,54 @@ struct Seen {
     err: MemSink,
 }
 
-/// The numbers of calls that fail.
-fn calls(alloc: Global, fails: Option<u64>) -> Result<Vec<u64>, Fail> {
-    match fails {
-        Some(number) => Ok(Vec::from_slice(alloc, &[number])?),
-        None => Ok(Vec::new(alloc)),
+/// The number of a call that fails.
+fn calls(rt: &impl Abort, alloc: Global, fails: Option<u64>) -> CallList {
+    let mut calls = Items::empty(alloc);
+    if let Some(number) = fails {
+        calls.push(number).expect(rt, "memory");
     }
+    calls
 }
 
-fn source(alloc: Global, asked: &Asked<'_>) -> Result<MemSource, Fail> {
-    let mut inputs = Vec::new(alloc);
-    let input = Input {
-        name: Blob::of(alloc, b"f")?,
-        bytes: Blob::of(alloc, asked.file)?,
-    };
-    if inputs.push(input).is_err() {
-        return Err(Fail::from("no memory"));
-    }
-    let fails = calls(alloc, asked.read)?;
-    Ok(MemSource::new(Items::from_vec(inputs), Items::from_vec(fails)))
-}
-
-fn run(alloc: Global, asked: &Asked<'_>) -> Result<Seen, Fail> {
+fn args(rt: &impl Abort, alloc: Global, words: &[&str]) -> Vec<String> {
     let mut args = Vec::new(alloc);
-    for word in asked.words {
-        args.push(String::from_str(alloc, word)?)?;
+    for word in words {
+        let word = String::from_str(alloc, word).expect(rt, "memory");
+        args.push(word).expect(rt, "memory");
     }
-    let mut src = source(alloc, asked)?;
-    let fails = calls(alloc, asked.write)?;
-    let mut out = MemSink::new(alloc, Items::from_vec(fails));
+    args
+}
+
+fn inputs(rt: &impl Abort, alloc: Global, file: &[u8]) -> InputList {
+    let input = Input {
+        name: Blob::of(alloc, b"f").expect(rt, "memory"),
+        bytes: Blob::of(alloc, file).expect(rt, "memory"),
+    };
+    let mut inputs = Items::empty(alloc);
+    assert!(rt; inputs.push(input).is_ok());
+    inputs
+}
+
+fn run(rt: &impl Abort, alloc: Global, asked: &Asked<'_>) -> Seen {
+    let args = args(rt, alloc, asked.words);
+    let inputs = inputs(rt, alloc, asked.file);
+    let mut src = MemSource::new(inputs, calls(rt, alloc, asked.read));
+    let mut out = MemSink::new(alloc, calls(rt, alloc, asked.write));
     let mut err = MemSink::new(alloc, Items::empty(alloc));
     let status = msgr2(alloc, &args, &mut src, &mut out, &mut err);
-    Ok(Seen { status, out, err })
+    Seen { status, out, err }
 }
 
-fn expect(rt: &impl Abort, seen: &Seen, status: Status, out: &[u8], err: &[u8]) {
+/// Runs it, and compares the status and what is printed and said.
+fn expect(
+    rt: &impl Abort,
+    alloc: Global,
+    asked: &Asked<'_>,
+    status: Status,
+    out: &[u8],
+    err: &[u8],
+) {
+    let seen = run(rt, alloc, asked);
     assert_eq!(rt; seen.status, status);
     assert_eq!(rt; seen.out.bytes(), out);
     assert_eq!(rt; seen.err.bytes(), err);
@@ -76,77 +88,75 @@ fn expect(rt: &impl Abort, seen: &Seen, status: Status, out: &[u8], err: &[u8]) 
 
 // Call 1 of the source begins the file, and call 2 gives all of it. Call 1 of standard output writes, and call 2 flushes.
 #[test]
-fn a_failed_call_is_answered(rt: HostRuntime) -> Result<(), Fail> {
+fn a_failed_call_is_answered(rt: HostRuntime) {
     let sim: &[&str] = &["sim", "f"];
     let frames: &[&str] = &["frames", "f"];
     let listed: &[u8] = b"WAIT 0\n";
-    for (words, file, read, write, out) in [
-        (sim, POST, Some(1), None, b"".as_slice()),
-        (sim, POST, Some(3), None, b""),
-        (sim, POST, None, Some(1), b""),
-        (sim, POST, None, Some(2), DISPATCHED),
-        (frames, WAIT, Some(2), None, b""),
-        (frames, WAIT, Some(3), None, listed),
-        (frames, WAIT, None, Some(1), b""),
-        (frames, WAIT, None, Some(2), listed),
+    let (source, sink) = (Status::ReadFault, Status::WriteFault);
+    for (words, file, read, write, status, out, err) in [
+        (
+            sim,
+            POST,
+            Some(1),
+            None,
+            source,
+            b"".as_slice(),
+            b"read fault\n".as_slice(),
+        ),
+        (sim, POST, Some(3), None, source, b"", b"read fault\n"),
+        (sim, POST, None, Some(1), sink, b"", b"write fault\n"),
+        (sim, POST, None, Some(2), sink, DISPATCHED, b"write fault\n"),
+        (frames, WAIT, Some(2), None, source, b"", b"read fault\n"),
+        (frames, WAIT, Some(3), None, source, listed, b"read fault\n"),
+        (frames, WAIT, None, Some(1), sink, b"", b"write fault\n"),
+        (frames, WAIT, None, Some(2), sink, listed, b"write fault\n"),
     ] {
-        let seen = run(
-            rt.alloc(),
-            &Asked {
-                words,
-                file,
-                read,
-                write,
-            },
-        )?;
-        match write {
-            None => expect(&rt, &seen, Status::ReadFault, out, b"read fault\n"),
-            Some(_) => expect(&rt, &seen, Status::WriteFault, out, b"write fault\n"),
-        }
+        let asked = Asked {
+            words,
+            file,
+            read,
+            write,
+        };
+        expect(&rt, rt.alloc(), &asked, status, out, err);
     }
-    Ok(())
 }
 
 /// The scenario of the post, whose first socket at its opener breaks after so many bytes.
-fn cut_after(alloc: Global, bytes: u64) -> Result<Blob, Fail> {
-    let mut file = Blob::of(alloc, POST)?;
-    file.push_all(b"cut a b ")?;
-    put_decimal(&mut file, bytes)?;
-    file.push_all(b"\n")?;
-    Ok(file)
+fn cut_after(rt: &impl Abort, alloc: Global, bytes: u64) -> Blob {
+    let mut file = Blob::of(alloc, POST).expect(rt, "memory");
+    file.push_all(b"cut a b ").expect(rt, "memory");
+    put_decimal(&mut file, bytes).expect(rt, "memory");
+    file.push_all(b"\n").expect(rt, "memory");
+    file
 }
 
 // At the opener 719 bytes pass before the message, which has 93, and its acknowledgement 44; the shortest frame has 32. A
 // cut holds wherever its line stands.
 #[test]
-fn a_post_comes_once_wherever_its_first_socket_is_cut(rt: HostRuntime) -> Result<(), Fail> {
-    for place in 0..180 {
-        let file = cut_after(rt.alloc(), 5 * place)?;
+fn a_post_comes_once_wherever_its_first_socket_is_cut(rt: HostRuntime) {
+    for place in 0..60 {
+        let file = cut_after(&rt, rt.alloc(), 15 * place);
         let asked = Asked {
             words: &["sim", "f"],
             file: file.as_slice(),
             read: None,
             write: None,
         };
-        let seen = run(rt.alloc(), &asked)?;
-        expect(&rt, &seen, Status::Done, DISPATCHED, b"");
+        expect(&rt, rt.alloc(), &asked, Status::Done, DISPATCHED, b"");
     }
-    Ok(())
 }
 
 // Two lossless peers can repeat one exchange of connects for ever, where both dial again in the same round. How many
 // posts that leaves here was computed by an independent program of the same rules.
 #[test]
-fn a_load_tells_how_many_are_left(rt: HostRuntime) -> Result<(), Fail> {
+fn a_load_tells_how_many_are_left(rt: HostRuntime) {
     let asked = Asked {
         words: &["load", "100", "4"],
         file: b"",
         read: None,
         write: None,
     };
-    let seen = run(rt.alloc(), &asked)?;
     let status = Status::Left { count: 21 };
     let printed = b"posted 100\ndispatched 79\nleft 21\n";
-    expect(&rt, &seen, status, printed, b"left: 21\n");
-    Ok(())
+    expect(&rt, rt.alloc(), &asked, status, printed, b"left: 21\n");
 }

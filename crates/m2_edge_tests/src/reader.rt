@@ -10,25 +10,21 @@ type Row = (&'static [u8], u32, u8);
 const PAIR: &[u8] =
     b"node a osd 127.0.0.1:7001/1\nnode b osd 127.0.0.1:7002/2\nlink a b lossless_peer lossless_peer\n";
 
-/// The bad line and its kind's number, or zeros; 99 where memory ran out.
-fn answer(alloc: Global, rest: &[u8], run: bool) -> (u32, u8) {
-    let Ok(mut text) = Vec::from_slice(alloc, PAIR) else {
-        return (99, 99);
-    };
-    if text.extend_from_slice(rest).is_err() {
-        return (99, 99);
-    }
+/// The bad line and its kind's number, or zeros.
+fn answer(rt: &impl Abort, alloc: Global, rest: &[u8], run: bool) -> (u32, u8) {
+    let mut text = Vec::from_slice(alloc, PAIR).expect(rt, "memory");
+    text.extend_from_slice(rest).expect(rt, "memory");
     match read(alloc, text.as_slice(), run) {
         Ok(_) => (0, 0),
         Err(BadScenario::BadLine { line, kind }) => (line, kind.number()),
-        Err(BadScenario::NoMemory) => (99, 99),
+        Err(BadScenario::NoMemory) => panic!(rt; "no memory"),
     }
 }
 
 fn assert_rows(rt: &impl Abort, alloc: Global, run: bool, rows: &[Row]) {
     for row in rows {
         let (rest, line, kind) = *row;
-        assert_eq!(rt; answer(alloc, rest, run), (line, kind), "{rest:?}");
+        assert_eq!(rt; answer(rt, alloc, rest, run), (line, kind), "{rest:?}");
     }
 }
 

@@ -5,7 +5,7 @@ use m2_cli::run;
 use m2_scenario::{Scenario, report};
 use m2_scenario_text::read;
 use std::alloc::Global;
-use std::test::Fail;
+use std::process::Abort;
 
 /// A scenario, whether its report is sorted, the report, and how many posts are left.
 struct Row {
@@ -16,14 +16,14 @@ struct Row {
 }
 
 // The report of a row, and how many posts are left.
-fn played(alloc: Global, row: &Row) -> Result<(Blob, u64), Fail> {
+fn played(rt: &impl Abort, alloc: Global, row: &Row) -> (Blob, u64) {
     let Scenario {
         nodes,
         links,
         lines,
         limit,
-    } = read(alloc, row.text, false)?;
-    let outcome = run(alloc, &nodes, &links, lines)?;
+    } = read(alloc, row.text, false).expect(rt, "a scenario");
+    let outcome = run(alloc, &nodes, &links, lines).expect(rt, "memory");
     let scenario = Scenario {
         nodes,
         links,
@@ -31,8 +31,9 @@ fn played(alloc: Global, row: &Row) -> Result<(Blob, u64), Fail> {
         limit,
     };
     let mut printed = Blob::empty(alloc);
-    report(alloc, &scenario, &outcome.logs, row.sorted, &mut printed)?;
-    Ok((printed, outcome.left))
+    let (logs, left) = (&outcome.logs, outcome.left);
+    report(alloc, &scenario, logs, row.sorted, &mut printed).expect(rt, "memory");
+    (printed, left)
 }
 
 const ROWS: &[Row] = &[
@@ -95,11 +96,10 @@ const ROWS: &[Row] = &[
 ];
 
 #[test]
-fn scenarios_come_out_as_the_rules_tell(rt: HostRuntime) -> Result<(), Fail> {
+fn scenarios_come_out_as_the_rules_tell(rt: HostRuntime) {
     for row in ROWS {
-        let (printed, left) = played(rt.alloc(), row)?;
+        let (printed, left) = played(&rt, rt.alloc(), row);
         assert_eq!(rt; printed.as_slice(), row.report);
         assert_eq!(rt; left, row.left);
     }
-    Ok(())
 }

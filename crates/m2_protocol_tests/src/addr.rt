@@ -4,7 +4,6 @@ use m2_addr::{Addr, AddrFault, AddrVec, AnyAddr, read_addr, read_v4, write_addr}
 use m2_bytes::{Blob, Reader};
 use std::alloc::Global;
 use std::cmp::Ordering;
-use std::test::*;
 
 /// 127.0.0.1:6800 with kind 2 and nonce 7, as Ceph's encoding of it reads.
 const TEXT: [u8; 35] = [
@@ -20,15 +19,10 @@ const ADDR: Addr = Addr {
 };
 
 #[test]
-fn an_address_is_written_and_read(rt: HostRuntime) -> Result<(), Fail> {
+fn an_address_is_written(rt: HostRuntime) {
     let mut out = Blob::empty(rt.alloc());
-    write_addr(&ADDR, &mut out)?;
+    write_addr(&ADDR, &mut out).expect(&rt, "memory");
     assert_eq!(rt; out.as_slice(), TEXT.as_slice());
-    match read_addr(rt.alloc(), &mut Reader::new(&TEXT)) {
-        Ok(AnyAddr::V4(a)) => assert_eq!(rt; a, ADDR),
-        _ => panic!(rt; "an IPv4 address"),
-    }
-    Ok(())
 }
 
 /// What is read of the text with one byte changed.
@@ -43,6 +37,7 @@ fn read_changed(at: usize, byte: u8) -> Result<Addr, AddrFault> {
 #[test]
 fn a_changed_byte_gives_its_fault_or_is_ignored(rt: HostRuntime) {
     for (at, byte, read) in [
+        (0, 1, Ok(ADDR)),
         (0, 2, Err(AddrFault::BadMarker)),
         (1, 0, Err(AddrFault::BadMarker)),
         (1, 200, Ok(ADDR)),
@@ -80,13 +75,16 @@ fn is_kept(alloc: Global, text: &[u8]) -> bool {
     written && read.as_slice().len() == 2 && read.main() == Ok(ADDR)
 }
 
+/// That address as one of kind 1, and then as it is.
+const BOTH: [u8; 75] = [
+    2, 2, 0, 0, 0, 1, 1, 1, 28, 0, 0, 0, 1, 0, 0, 0, 7, 0, 0, 0, 16, 0, 0, 0, 2, 0, 0x1a, 0x90,
+    127, 0, 0, 1, 0, 0, 0, 0, 0, 0, 0, 0, 1, 1, 1, 28, 0, 0, 0, 2, 0, 0, 0, 7, 0, 0, 0, 16, 0, 0,
+    0, 2, 0, 0x1a, 0x90, 127, 0, 0, 1, 0, 0, 0, 0, 0, 0, 0, 0,
+];
+
 #[test]
-fn the_main_address_is_the_first_of_kind_msgr2(rt: HostRuntime) -> Result<(), Fail> {
-    let mut legacy = TEXT;
-    legacy[7] = 1;
-    let both = [&[2, 2, 0, 0, 0], legacy.as_slice(), TEXT.as_slice()].concat(rt.alloc())?;
-    assert!(rt; is_kept(rt.alloc(), &both));
-    Ok(())
+fn the_main_address_is_the_first_of_kind_msgr2(rt: HostRuntime) {
+    assert!(rt; is_kept(rt.alloc(), &BOTH));
 }
 
 fn addr(kind: u32, nonce: u32, ip: u32, port: u16) -> Addr {

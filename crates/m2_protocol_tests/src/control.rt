@@ -5,8 +5,8 @@ ghost use Rattle.m2_control.specs.Control.{IsWritable};
 
 use m2_bytes::Blob;
 use m2_control::{Control, ControlFault};
-use std::alloc::AllocError;
-use std::test::Fail;
+use std::alloc::Global;
+use std::process::Abort;
 
 /// An OSD sees 127.0.0.1:6800 with nonce 7.
 const HELLO: [u8; 36] = [
@@ -51,21 +51,21 @@ const SESSION_RECONNECT: [u8; 80] = [
 ];
 
 /// What is read of a payload under this tag.
-fn read(rt: &HostRuntime, tag: u8, payload: &[u8]) -> Result<Control, ControlFault>
+fn read(alloc: Global, tag: u8, payload: &[u8]) -> Result<Control, ControlFault>
     ensures { IfOk result IsWritable }
 {
     if tag == 0 || tag > 22 || tag == 17 {
         return Err(ControlFault::NotNegotiated);
     }
-    Control::read(rt.alloc(), tag, payload)
+    Control::read(alloc, tag, payload)
 }
 
 /// Whether the payload is read, and written as the same bytes under the same tag.
-fn is_kept(rt: &HostRuntime, tag: u8, payload: &[u8]) -> bool {
-    let Ok(control) = read(rt, tag, payload) else {
+fn is_kept(alloc: Global, tag: u8, payload: &[u8]) -> bool {
+    let Ok(control) = read(alloc, tag, payload) else {
         return false;
     };
-    let mut out = Blob::empty(rt.alloc());
+    let mut out = Blob::empty(alloc);
     control.write(&mut out).is_ok() && control.tag() == tag && out.as_slice() == payload
 }
 
@@ -91,18 +91,18 @@ fn each_payload_is_read_and_written_as_it_was(rt: HostRuntime) {
         (20, &[7, 0, 0, 0, 0, 0, 0, 0]),
     ];
     for (tag, payload) in rows {
-        assert!(rt; is_kept(&rt, tag, payload), "tag {tag}");
+        assert!(rt; is_kept(rt.alloc(), tag, payload), "tag {tag}");
     }
 }
 
 /// How many are read of the payloads that have any byte at this place.
-fn read_with_any_byte(rt: &HostRuntime, tag: u8, payload: &mut [u8], at: usize) -> u32 {
+fn read_with_any_byte(alloc: Global, tag: u8, payload: &mut [u8], at: usize) -> u32 {
     let mut count: u32 = 0;
     for byte in 0..=255 {
         if at < payload.len() {
             payload[at] = byte;
         }
-        if read(rt, tag, payload).is_ok() {
+        if read(alloc, tag, payload).is_ok() {
             count = count.saturating_add(1);
         }
     }
@@ -110,21 +110,21 @@ fn read_with_any_byte(rt: &HostRuntime, tag: u8, payload: &mut [u8], at: usize) 
 }
 
 /// How many are read of the payloads that have any byte at one place, for each place.
-fn read_changed(rt: &HostRuntime, tag: u8, payload: &[u8]) -> Result<u32, AllocError> {
-    let mut text = payload.to_vec(rt.alloc())?;
+fn read_changed(rt: &impl Abort, alloc: Global, tag: u8, payload: &[u8]) -> u32 {
+    let mut text = payload.to_vec(alloc).expect(rt, "memory");
     let mut count: u32 = 0;
     for (at, byte) in payload.iter().enumerate() {
-        count = count.saturating_add(read_with_any_byte(rt, tag, &mut text, at));
+        count = count.saturating_add(read_with_any_byte(alloc, tag, &mut text, at));
         if at < text.len() {
             text[at] = *byte;
         }
     }
-    Ok(count)
+    count
 }
 
 /// Counted by a reader written apart from this one, in another language.
 #[test]
-fn a_changed_byte_is_another_value_or_a_fault(rt: HostRuntime) -> Result<(), Fail> {
+fn a_changed_byte_is_another_value_or_a_fault(rt: HostRuntime) {
     let rows: [(u8, &[u8], u32); 9] = [
         (1, &HELLO, 6680),
         (2, &AUTH_REQUEST, 3848),
@@ -137,7 +137,10 @@ fn a_changed_byte_is_another_value_or_a_fault(rt: HostRuntime) -> Result<(), Fai
         (20, &[7, 0, 0, 0, 0, 0, 0, 0], 1283),
     ];
     for (tag, payload, count) in rows {
-        assert_eq!(rt; read_changed(&rt, tag, payload)?, count, "tag {tag}");
+        assert_eq!(rt;
+            read_changed(&rt, rt.alloc(), tag, payload),
+            count,
+            "tag {tag}"
+        );
     }
-    Ok(())
 }

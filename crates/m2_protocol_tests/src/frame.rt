@@ -1,9 +1,9 @@
 //! Frames as an independent program writes them.
 
-use m2_bytes::{Blob, NoMemory};
+use m2_bytes::Blob;
 use m2_frame::{Frame, Tag, encode, fits};
 use std::alloc::Global;
-use std::test::*;
+use std::process::Abort;
 
 /// A MESSAGE with number 1, kind 7, priority 127, version 1 and compat 1, all else of its header 0, no front and middle,
 /// and the data `a`.
@@ -29,29 +29,23 @@ const KEEPALIVE_ACK: [u8; 44] = *b"\
     \x13\x01\x08\0\0\0\x08\0\0\0\0\0\0\0\0\0\0\0\0\0\0\0\0\0\0\0\0\0\xec\x5e\xe0\x3b\
     \0\xf1\x53\x65\x05\0\0\0\x89\x24\x73\x9d";
 
-/// A frame with these first and last segments and no others.
-fn frame_with(alloc: Global, tag: Tag, first: &[u8], fourth: &[u8]) -> Result<Frame, NoMemory> {
-    Ok(Frame {
+/// The text of a frame with these first and last segments and no others.
+fn text_of(rt: &impl Abort, alloc: Global, tag: Tag, first: &[u8], fourth: &[u8]) -> Blob {
+    let frame = Frame {
         tag: tag.number(),
-        first: Blob::of(alloc, first)?,
+        first: Blob::of(alloc, first).expect(rt, "memory"),
         second: Blob::empty(alloc),
         third: Blob::empty(alloc),
-        fourth: Blob::of(alloc, fourth)?,
-    })
-}
-
-/// The text of such a frame; none where it doesn't fit.
-fn text_of(alloc: Global, tag: Tag, first: &[u8], fourth: &[u8]) -> Result<Blob, NoMemory> {
-    let frame = frame_with(alloc, tag, first, fourth)?;
+        fourth: Blob::of(alloc, fourth).expect(rt, "memory"),
+    };
     let mut out = Blob::empty(alloc);
-    if fits(&frame) {
-        encode(&frame, &mut out)?;
-    }
-    Ok(out)
+    assert!(rt; fits(&frame));
+    encode(&frame, &mut out).expect(rt, "memory");
+    out
 }
 
 #[test]
-fn frames_are_written_as_elsewhere(rt: HostRuntime) -> Result<(), Fail> {
+fn frames_are_written_as_elsewhere(rt: HostRuntime) {
     let header = &MESSAGE[32..73];
     let moment = &KEEPALIVE[32..40];
     let rows: [(Tag, &[u8], &[u8], usize, &[u8]); 5] = [
@@ -62,11 +56,10 @@ fn frames_are_written_as_elsewhere(rt: HostRuntime) -> Result<(), Fail> {
         (Tag::KeepaliveAck, moment, b"", 44, &KEEPALIVE_ACK),
     ];
     for (tag, first, fourth, length, end) in rows {
-        let text = text_of(rt.alloc(), tag, first, fourth)?;
+        let text = text_of(&rt, rt.alloc(), tag, first, fourth);
         let (_, last) = text
             .as_slice()
             .split_at(text.len().saturating_sub(end.len()));
         assert_eq!(rt; (text.len(), last), (length, end));
     }
-    Ok(())
 }

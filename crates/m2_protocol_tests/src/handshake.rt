@@ -7,7 +7,6 @@ use m2_control::{Control, SessionReset, Wait};
 use m2_frame::Got;
 use m2_handshake::{Ask, AskStep, Half, HalfStep, Stage};
 use std::alloc::Global;
-use std::test::*;
 
 /// What a client writes: banner, HELLO, AUTH_REQUEST, AUTH_SIGNATURE; a line for the banner, and then for each
 /// preamble and each payload with their crc.
@@ -52,15 +51,6 @@ const REFUSAL: [u8; 60] = *b"\
 const RESET: [u8; 37] = *b"\
     \x0c\x01\x01\0\0\0\x08\0\0\0\0\0\0\0\0\0\0\0\0\0\0\0\0\0\0\0\0\0\x4a\xbb\x98\x19\
     \0\xae\xac\x82\xad";
-
-/// The bytes from one place to another, or none where they aren't there.
-fn part(bytes: &[u8], from: usize, to: usize) -> &[u8] {
-    if from <= to && to <= bytes.len() {
-        &bytes[from..to]
-    } else {
-        &[]
-    }
-}
 
 fn at(port: u16, nonce: u32) -> Addr {
     Addr {
@@ -114,43 +104,37 @@ fn handed_on(half: Half) -> Option<Blob> {
     }
 }
 
-/// Whether a half that is fed these bytes one by one is authed then, and has written those.
-fn is_authed(half: &mut Half, alloc: Global, fed: &[u8], wrote: &[u8]) -> bool {
+/// Whether a half that is fed these bytes one by one says so then, and has written those.
+fn is_told(half: &mut Half, alloc: Global, fed: &[u8], says: HalfStep, wrote: &[u8]) -> bool {
     let mut out = Blob::empty(alloc);
-    tell(half, fed, &mut out) == HalfStep::Authed && out.as_slice() == wrote
+    tell(half, fed, &mut out) == says && out.as_slice() == wrote
 }
 
 #[test]
-fn two_halves_byte_by_byte_are_authed_and_leave_the_ask_unread(
-    rt: HostRuntime,
-) -> Result<(), Fail> {
-    let alloc = rt.alloc();
-    let mut client = a_client(alloc);
-    assert!(rt; is_authed(&mut client, alloc, &SERVER, &CLIENT));
-    assert_eq!(rt; client.stage(), Stage::Authed);
-    let mut server = a_server(alloc);
-    assert!(rt; is_authed(&mut server, alloc, &CLIENT, &SERVER));
-    assert!(rt; is_authed(&mut server, alloc, &IDENT, b""));
-    let ask = handed_on(server).ok_or("no ask")?;
+fn an_opener_byte_by_byte_is_authed(rt: HostRuntime) {
+    let mut client = a_client(rt.alloc());
+    assert!(rt; is_told(&mut client, rt.alloc(), &SERVER, HalfStep::Authed, &CLIENT));
+}
+
+#[test]
+fn an_acceptor_byte_by_byte_is_authed_and_leaves_the_ask_unread(rt: HostRuntime) {
+    let mut server = a_server(rt.alloc());
+    assert!(rt; is_told(&mut server, rt.alloc(), &CLIENT, HalfStep::Authed, &SERVER));
+    assert!(rt; is_told(&mut server, rt.alloc(), &IDENT, HalfStep::Authed, b""));
+    let ask = handed_on(server).expect(&rt, "an ask");
     assert_eq!(rt; ask.as_slice(), &IDENT[32..155]);
-    Ok(())
 }
 
 #[test]
 fn another_method_is_answered_and_asked_again(rt: HostRuntime) {
     let mut server = a_server(rt.alloc());
-    let mut out = Blob::empty(rt.alloc());
-    tell(&mut server, &CLIENT[..98], &mut out);
-    assert_eq!(rt;
-        tell(&mut server, &OTHER_METHOD, &mut out),
-        HalfStep::NotYet
-    );
-    assert_eq!(rt;
-        tell(&mut server, &CLIENT[98..], &mut out),
-        HalfStep::Authed
-    );
-    assert_eq!(rt; part(out.as_slice(), 98, 158), REFUSAL.as_slice());
-    assert_eq!(rt; part(out.as_slice(), 158, 278), &SERVER[98..]);
+    for (fed, says, wrote) in [
+        (&CLIENT[..98], HalfStep::NotYet, &SERVER[..98]),
+        (&OTHER_METHOD, HalfStep::NotYet, &REFUSAL),
+        (&CLIENT[98..], HalfStep::Authed, &SERVER[98..]),
+    ] {
+        assert!(rt; is_told(&mut server, rt.alloc(), fed, says, wrote));
+    }
 }
 
 /// Whether a server that is fed these bytes is asked by an ident then.
@@ -161,30 +145,30 @@ fn is_asked(server: &mut Half, bytes: &[u8]) -> bool {
     matches!(server.ask(), AskStep::Asked(Ask::Ident(_)))
 }
 
-/// Resets a server's asker, or sends it away; whether memory sufficed and it was asked.
-fn answer(server: &mut Half, away: bool, out: &mut Blob) -> bool {
+/// Whether a server that was asked resets its asker, or sends it away, by these bytes.
+fn answers(server: &mut Half, alloc: Global, away: bool, wrote: &[u8]) -> bool {
     match server.stage() {
         Stage::Asked => {}
         _ => return false,
     }
+    let mut out = Blob::empty(alloc);
     let done = if away {
-        server.reply(&Control::Wait(Wait), out)
+        server.reply(&Control::Wait(Wait), &mut out)
     } else {
-        server.reply(&Control::SessionReset(SessionReset { full: false }), out)
+        server.reply(
+            &Control::SessionReset(SessionReset { full: false }),
+            &mut out,
+        )
     };
-    done.is_ok()
+    done.is_ok() && out.as_slice() == wrote
 }
 
 #[test]
 fn an_asker_is_reset_and_asks_again_and_is_sent_away(rt: HostRuntime) {
     let mut server = a_server(rt.alloc());
-    let mut out = Blob::empty(rt.alloc());
-    tell(&mut server, &CLIENT, &mut out);
-    out.clear();
+    assert!(rt; is_told(&mut server, rt.alloc(), &CLIENT, HalfStep::Authed, &SERVER));
     assert!(rt; is_asked(&mut server, &IDENT));
-    assert!(rt; answer(&mut server, false, &mut out));
+    assert!(rt; answers(&mut server, rt.alloc(), false, &RESET));
     assert!(rt; is_asked(&mut server, &IDENT));
-    assert!(rt; answer(&mut server, true, &mut out));
-    assert_eq!(rt; part(out.as_slice(), 0, 37), RESET.as_slice());
-    assert_eq!(rt; part(out.as_slice(), 37, 69), WAIT.as_slice());
+    assert!(rt; answers(&mut server, rt.alloc(), true, &WAIT));
 }

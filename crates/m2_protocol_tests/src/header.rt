@@ -3,7 +3,6 @@
 use crate::frame::MESSAGE;
 use m2_bytes::Blob;
 use m2_message::{Header, Message, to_frame};
-use std::test::Fail;
 
 /// The header of that message before it has its number.
 const HEADER: Header = Header {
@@ -21,14 +20,13 @@ const HEADER: Header = Header {
 };
 
 #[test]
-fn a_header_is_written_as_elsewhere(rt: HostRuntime) -> Result<(), Fail> {
+fn a_header_is_written_as_elsewhere(rt: HostRuntime) {
     let message = Message {
         header: HEADER,
         front: Blob::empty(rt.alloc()),
         middle: Blob::empty(rt.alloc()),
         tail: Blob::empty(rt.alloc()),
     };
-    let frame = to_frame(rt.alloc(), &message, 1, 0)?;
+    let frame = to_frame(rt.alloc(), &message, 1, 0).expect(&rt, "memory");
     assert_eq!(rt; frame.first.as_slice(), &MESSAGE[32..73]);
-    Ok(())
 }
