@@ -6,8 +6,8 @@ is written there, and that the status is 0. A file of examples/bad names in its 
 A file without any of these fails. The stored runs are those of crates/PROGRAM/runs; NAME.args has their words, one a
 line, in which {} stands for the file.
 
-The kit builds each program once, without a proof (rt ci proves it), and runs it on all in one go. Among them are copies
-of an example with a wrong expectation, and one with none: the comparison must object to each.
+The programs are those that rt ci built. Among the files are copies of an example with a wrong expectation, and one with
+none: the comparison must object to each.
 
 The traces of examples/traces are replayed besides, by tools/replay_trace.py, which knows nothing of the crates. It must
 object to each of them once a line of a journal is left out, a byte is changed, or the session is another.
@@ -95,23 +95,15 @@ def wrong_ones(room):
 
 
 def run_all(program, files):
-    """Runs a program on each file with its words, and returns what each run gave."""
-    with tempfile.TemporaryDirectory() as room:
-        for at, (file, words) in enumerate(files):
-            shutil.copy(file, f"{room}/case_{at:04}")
-            with open(f"{room}/case_{at:04}.args", "w", encoding="utf-8") as out:
-                out.write("".join(f"{word}\n" for word in words))
-        ran = subprocess.run(["rt", "try", "--cases", room], cwd=os.path.join(TOP, "crates", program), capture_output=True)
-    pieces = re.split(rb"^== case_([0-9]{4})\n", ran.stdout, flags=re.M)
-    written = dict(zip(pieces[1::2], pieces[2::2]))
-    got, at = {}, 0
-    for end in re.finditer(rb"^case=case_([0-9]{4}) run=ended status=([0-9]+) .*\n", ran.stderr, re.M):
-        got[int(end[1])] = {"stdout": written.get(end[1], b""), "stderr": ran.stderr[at : end.start()], "status": int(end[2])}
-        at = end.end()
-    if len(got) != len(files):
-        sys.stderr.buffer.write(ran.stdout + ran.stderr)
-        sys.exit(f"{program} was run on {len(got)} of {len(files)} files")
-    return [got[at] for at in range(len(files))]
+    """What the program, as rt ci built it, gives on each file with its words."""
+    made = os.path.join(TOP, "crates", program, "out", program)
+    if not os.path.exists(made):
+        sys.exit(f"crates/{program}/out/{program} isn't built")
+    got = []
+    for file, words in files:
+        ran = subprocess.run([made, *(file if word == "{}" else word for word in words)], stdin=subprocess.DEVNULL, capture_output=True)
+        got.append({"stdout": ran.stdout, "stderr": ran.stderr, "status": ran.returncode})
+    return got
 
 
 def replayed(trace):
