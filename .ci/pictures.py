@@ -1,15 +1,14 @@
 """Draws each scenario of examples/pictures and compares the picture with the one that stands beside it.
 
 The trace of a scenario's run is what the built program crates/run_trace/out/run_trace prints. The replay is laid beside
-each trace, those of the scenarios of examples too: what it says has to follow from its own bytes and from the rules of
-docs/PROTOCOL.md. Traces with one thing changed must be objected to: bad lines by tools/draw with their number and why, a
+each trace, those of the scenarios of examples too: each line has to be the one that docs/PROTOCOL.md makes of its script.
+Traces with one thing changed must be objected to: bad lines by tools/draw with their number and why, a
 trace whose lines are all well formed by the replay, and another picture by the comparison.
 """
 import os, re, subprocess, sys, tempfile
 
 TOP = os.path.dirname(os.path.dirname(os.path.abspath(__file__)))
 sys.path.insert(0, os.path.join(TOP, "tools"))
-import replay_trace
 import run_trace
 
 PICTURES = "examples/pictures"
@@ -62,7 +61,7 @@ def replayed(text):
     """What the replay says against a trace, if anything."""
     try:
         run_trace.check(run_trace.read_run(text))
-    except (replay_trace.Wrong, run_trace.BadTrace) as wrong:
+    except (run_trace.Wrong, run_trace.BadTrace) as wrong:
         return str(wrong)
     return None
 
