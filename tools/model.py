@@ -57,6 +57,7 @@ class Node:
         self.opened = []  # sockets since the last meeting
         self.openings = collections.Counter()  # how many sockets it has opened to each node
         self.mail = []
+        self.last_lines = {}  # of each record the last line of its journal
         self.lines, self.at_once, self.behind_queue = [], [], []  # what is printed of it, and of that the lines of a turn
 
     # ---- what it tells
@@ -65,7 +66,12 @@ class Node:
         self.run.told.append(f"  {self.name} {' '.join(words)}")
 
     def tell_entry(self, record, words):
+        """A trace has a close right behind the judgement that it follows in the journal, whatever a half writes in between."""
         self.tell("journal", record.peer.name, *words)
+        told, line = self.run.told, self.run.told[-1]
+        if words[-1] == "taken" and self.last_lines.get(record) in told:
+            told.insert(told.index(self.last_lines[record]) + 1, told.pop())
+        self.last_lines[record] = line
 
     def tell_trail(self, words):
         self.tell("trail", *words)
