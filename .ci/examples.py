@@ -110,7 +110,7 @@ def replayed(trace):
     """What the replay says against a trace, if anything."""
     try:
         replay_trace.check(trace)
-    except replay_trace.Wrong as wrong:
+    except (replay_trace.Wrong, replay_trace.NoTrace) as wrong:
         return str(wrong)
     return None
 

@@ -1,21 +1,22 @@
 """Draws each scenario of examples/pictures and compares the picture with the one that stands beside it.
 
 The trace of a scenario's run is what the built program crates/run_trace/out/run_trace prints. The replay is laid beside
-each trace, those of the scenarios of examples too: what it says has to follow from its own bytes and from the rules of
-docs/PROTOCOL.md. Traces with one thing changed must be objected to: bad lines by tools/draw with their number and why, a
-trace whose lines are all well formed by the replay, and another picture by the comparison.
+each trace, those of the scenarios of examples too: each line has to be the one that docs/PROTOCOL.md makes of its script.
+Traces with one thing changed must be objected to: bad lines by tools/draw with their number and why, a
+trace whose lines are all well formed by the replay, and another picture by the comparison. No two texts of a picture lie on
+each other, of those of the examples either.
 """
-import os, re, subprocess, sys, tempfile
+import html, os, re, subprocess, sys, tempfile
 
 TOP = os.path.dirname(os.path.dirname(os.path.abspath(__file__)))
 sys.path.insert(0, os.path.join(TOP, "tools"))
-import replay_trace
 import run_trace
 
 PICTURES = "examples/pictures"
 EXAMPLES = "examples"
 PROGRAM = "crates/run_trace/out/run_trace"
 SAMPLE = "crossing"
+LETTER, SIZES = 0.58, {"caption": 12.5, "node": 14, "script": 10.5, "cause": 10.5}  # how wide a letter is, by the size of its text; sizes of tools/draw
 BAD = [  # what is changed in the sample, at its first place; and what is said of which line
     (r"^settle 1$", "walk a", 11, "`walk` begins no line"),
     (r"^turn b 1$", "turn b 2", 15, "the moment of this turn is 1"),
@@ -62,7 +63,7 @@ def replayed(text):
     """What the replay says against a trace, if anything."""
     try:
         run_trace.check(run_trace.read_run(text))
-    except (replay_trace.Wrong, run_trace.BadTrace) as wrong:
+    except (run_trace.Wrong, run_trace.BadTrace) as wrong:
         return str(wrong)
     return None
 
@@ -77,14 +78,17 @@ def untrue(file, trace):
     return said and f"{name}: {said}"
 
 
-def examples(folder):
-    """What is wrong with the traces of the examples, of which no picture is stored."""
+def examples(folder, room):
+    """What is wrong with the traces of the examples, of which no picture is stored, and with their pictures."""
     for name in sorted(os.listdir(folder)):
         if name.endswith(".scenario"):
             file = os.path.join(folder, name)
-            said = untrue(file, traced(file))
-            if said:
-                yield said
+            trace = traced(file)
+            said = untrue(file, trace)
+            status, picture, fault = drawn(trace[1], room)
+            yield from [said] if said else []
+            yield from [f"{name}: tools/draw: status {status}: {fault}"] if status else []
+            yield from (f"{name}: {it}" for it in overlaps(picture))
 
 
 def pictures(folder, room):
@@ -105,8 +109,27 @@ def pictures(folder, room):
         status, picture, said = drawn(trace[1], room)
         if (status, said) != (0, ""):
             yield f"{name}: tools/draw: status {status}: {said}"
-        elif differs(picture, os.path.join(folder, f"{stem}.svg")):
+        yield from (f"{name}: {it}" for it in overlaps(picture))
+        if status == 0 and differs(picture, os.path.join(folder, f"{stem}.svg")):
             yield f"{name}: another picture is drawn than the one that stands beside it ({PROGRAM}, tools/draw)"
+
+
+def overlaps(picture):
+    """Two texts of a picture that lie on each other, if there are any."""
+    boxes = []
+    for attributes, text in re.findall(r"<text ([^>]*)>(?:<title>.*?</title>)?([^<]*)</text>", picture.decode()):
+        it = dict(re.findall(r'([a-z-]+)="([^"]*)"', attributes))
+        size = next((size for name, size in SIZES.items() if name in it.get("class", "").split()), 11)
+        x, y, width = float(it["x"]), float(it["y"]), LETTER * size * len(html.unescape(text))
+        left = x - {"end": width, "middle": width / 2}.get(it.get("text-anchor"), 0)
+        boxes.append((y - 0.73 * size, y + 0.22 * size, left, left + width, text))
+    boxes.sort()
+    for place, (top, bottom, left, right, text) in enumerate(boxes):
+        for other in boxes[place + 1 :]:
+            if other[0] >= bottom:
+                break
+            if other[2] < right and left < other[3]:
+                yield f"`{text}` and `{other[4]}` lie on each other at {left:.0f}, {top:.0f}"
 
 
 def differs(picture, file):
@@ -133,9 +156,11 @@ def objections(folder, room):
         text = changed(sample, old, new)
         if text is None or not replayed(text):
             yield f"the replay doesn't object to {old!r} as {new!r}"
-    other = sample.replace("accept_race", "accept_again").encode()
-    if not differs(drawn(other, room)[1], os.path.join(folder, f"{SAMPLE}.svg")):
+    other = drawn(sample.replace("accept_race", "accept_again").encode(), room)[1]
+    if not differs(other, os.path.join(folder, f"{SAMPLE}.svg")):
         yield "the comparison doesn't object to another picture"
+    if not list(overlaps(re.sub(rb'(<text [^>]*\by=")[^"]*', rb"\g<1>100", other))):
+        yield "texts that lie on each other aren't seen"
 
 
 def main():
@@ -143,7 +168,7 @@ def main():
         sys.exit(f"{PROGRAM} isn't built")
     folder = os.path.join(TOP, PICTURES)
     with tempfile.TemporaryDirectory() as room:
-        said = [*pictures(folder, room), *objections(folder, room), *examples(os.path.join(TOP, EXAMPLES))]
+        said = [*pictures(folder, room), *objections(folder, room), *examples(os.path.join(TOP, EXAMPLES), room)]
     for line in said:
         print(line)
     print("not all as expected" if said else f"{PICTURES}: all as drawn, each trace replayed, and each wrong one objected to")

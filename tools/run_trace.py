@@ -4,36 +4,47 @@
 usage: tools/run_trace.py TRACE
 
 docs/SCENARIOS.md has the form, under "The trace of a run". `read_run` gives a `Run`, or raises `BadTrace` with the number of
-the first line that isn't so and what is wrong with it. As a command it lays the replay of tools/replay_trace.py beside both
-sides of each link: what each entry says has to follow from the bytes that were read by then and from the tables of sessions,
-and what was dispatched from what was accepted. The first thing that isn't so is said on standard error, and the status is 1;
-where a line is bad it is 2.
+the first line that isn't so and what is wrong with it. As a command it plays the script of the trace by tools/model.py,
+which knows docs/PROTOCOL.md and nothing of the crates, and lays what comes of that beside the trace: each read and write
+with its bytes, each answer, each dispatch and each reset, in their order. The first line that is otherwise is told on
+standard error, and the status is 1; where the file can't be read or a line is bad it is 2.
 """
 import bisect
+import os
 import re
 import sys
 
+sys.dont_write_bytecode = True
+sys.path.insert(0, os.path.dirname(os.path.abspath(__file__)))
+import model
 import replay_trace
-from replay_trace import ACK, CLIENT_IDENT, MESSAGE, MISSING_FEATURES, RECONNECT, RECONNECT_OK, RESET, RETRY, RETRY_GLOBAL, SERVER_IDENT
-from replay_trace import PREAMBLE, TAKES, WAIT
+import wire
+from replay_trace import Wrong
+from sides import PAIRS, POLICIES
+from wire import ACK, BANNER, CLIENT_IDENT, MESSAGE, MISSING_FEATURES, PREAMBLE, RECONNECT, RECONNECT_OK, RESET, RETRY, RETRY_GLOBAL
+from wire import SERVER_IDENT, WAIT
 
-BANNER = 0
-NAMES = {
-    BANNER: "banner", 1: "HELLO", 2: "AUTH_REQUEST", 3: "AUTH_BAD_METHOD", 6: "AUTH_DONE", 7: "AUTH_SIGNATURE", CLIENT_IDENT: "IDENT",
-    SERVER_IDENT: "SERVER_IDENT", MISSING_FEATURES: "MISSING_FEATURES", RECONNECT: "RECONNECT", RESET: "RESET", RETRY: "RETRY",
-    RETRY_GLOBAL: "RETRY_GLOBAL", RECONNECT_OK: "RECONNECT_OK", WAIT: "WAIT", MESSAGE: "MSG", 18: "KEEPALIVE2", 19: "KEEPALIVE2_ACK", ACK: "ACK",
+TAKES = ("accept", "accept_over", "accept_reset", "accept_again", "accept_replace", "accept_race", "resume")
+NAMES = wire.NAMES | {  # as a picture has them
+    CLIENT_IDENT: "IDENT", MISSING_FEATURES: "MISSING_FEATURES", RECONNECT: "RECONNECT", RESET: "RESET", RETRY: "RETRY",
+    RETRY_GLOBAL: "RETRY_GLOBAL", RECONNECT_OK: "RECONNECT_OK", MESSAGE: "MSG",
 }
 
-NAME, NUMBER, BYTES = "[a-z0-9_]{1,16}", "0|[1-9][0-9]*", "-|(?:[0-9a-f]{2})+"
+NAME, NUMBER, BYTES = "[a-z0-9_]{1,16}", "0|[1-9][0-9]*", "-|(?:[0-9a-fA-F]{2})+"
 WORDS = {  # what a word of each kind looks like
     "name": NAME, "number": NUMBER, "bytes": BYTES, "word": "[a-z_]+", "mark": f"[a-z_]+|{NUMBER}", "text": "[!-~]+",
     "socket": f"{NAME}-{NAME}/[1-9][0-9]*", "ask": "ident|reconnect", "path": "fast|queued", "full": "full|part",
+    "entity": "mon|mds|osd|client|mgr", "address": r"[0-9]+(?:\.[0-9]+){3}:[0-9]+/[0-9]+",
+}
+RANGES = {  # of numbers that stand in a scenario
+    "kind": (0, 65535), "priority": (64, 255), "cut": (0, 1048576), "place": (1, 4294967295), "count": (0, 2**64 - 1), "round": (1, 1),
 }
 SCRIPT = {  # the lines of the script, as they are played; of a kind with * there may be any number of words
-    "node": "name text text text*", "link": "name name word word", "post": "name name number number bytes bytes bytes",
-    "dial": "name name", "down": "name name", "cut": "name name number", "turn": "name number", "settle": "number",
+    "node": "name entity address text*", "link": "name name word word", "post": "name name kind priority bytes bytes bytes",
+    "dial": "name name", "down": "name name", "cut": "name name cut", "turn": "name number", "settle": "round",
     "flow": "name name number*", "fault": "name name number*",
 }
+OPTIONS = {"centers": (1, 4), "fast": (0, 65535), "throttle": (0, 2**32 - 1), "supports": (0, 2**64 - 1), "requires": (0, 2**64 - 1)}
 MOVED = {"read": "socket number", "wrote": "socket number bytes", "closed": "socket word*"}
 JOURNAL = MOVED | {
     "post": "number", "dial": "", "opened": "socket", "asked": "ask number", "numbered": "number", "acked": "number",
@@ -41,10 +52,6 @@ JOURNAL = MOVED | {
     "obeyed": "full", "down": "word",
 }
 TRAIL = MOVED | {"accepted": "socket"}
-POLICIES = {  # lossy, server, standby, resetcheck
-    "lossy_client": (True, False, False, False), "lossless_client": (False, False, False, True), "lossless_peer": (False, False, True, False),
-    "stateless_server": (True, True, False, False), "stateful_server": (False, True, True, True),
-}
 
 
 class BadTrace(Exception):
@@ -116,7 +123,7 @@ class Flight:
         self.says = {}
         if frame and tag == MESSAGE:
             self.says = frame.header()
-        elif frame and (tag == ACK or CLIENT_IDENT <= tag < WAIT):
+        elif frame:
             self.says = frame.control()
 
     def moved(self):
@@ -139,8 +146,8 @@ class Flight:
 class Run:
     def __init__(self):
         self.caption, self.nodes, self.links, self.sockets, self.rows, self.cuts = [], {}, [], {}, [], {}
-        self.feeds, self.moment = {}, 0
-        self.facts, self.policies, self.plans, self.journals, self.trails = {}, {}, {}, {}, {}
+        self.feeds, self.moment, self.policies = {}, 0, {}
+        self.lines = []  # those that say something, each with its number
 
     def is_linked(self, a, b):
         return (a, b) in self.links or (b, a) in self.links
@@ -164,7 +171,9 @@ class Reader:
             kinds += [form.split()[-1][:-1]] * (len(words) - len(kinds))
         self.must(len(words) == len(kinds), f"`{what}` has another number of words")
         for word, kind in zip(words, kinds):
-            self.must(re.fullmatch(WORDS[kind], word), f"`{word}` is no {kind}")
+            least, most = RANGES.get(kind, (0, None))
+            looks = WORDS.get(kind, NUMBER)
+            self.must(re.fullmatch(looks, word) and (kind not in RANGES or least <= int(word) <= most), f"`{word}` is no {kind}")
 
     # -- lines of the script
 
@@ -174,8 +183,7 @@ class Reader:
         self.fit(what, SCRIPT[what], rest)
         run = self.run
         if what == "node":
-            self.must(rest[0] not in run.nodes, f"node {rest[0]} stands above")
-            run.nodes[rest[0]] = rest[1:]
+            self.new_node(*rest)
         else:
             names = rest[: SCRIPT[what].split().count("name")]
             for name in names:
@@ -185,18 +193,31 @@ class Reader:
         run.rows.append(self.row)
         if what == "link":
             self.must(rest[0] != rest[1] and not run.is_linked(*rest[:2]), "a link to itself, or a second one")
-            self.must(rest[2] in POLICIES and rest[3] in POLICIES, "another policy")
+            self.must((rest[2], rest[3]) in PAIRS or (rest[3], rest[2]) in PAIRS, "no link has these two policies")
             run.links.append((rest[0], rest[1]))
             run.policies |= {(rest[0], rest[1]): rest[2], (rest[1], rest[0]): rest[3]}
         elif what == "turn":
             self.must(self.row.moment == run.moment, f"the moment of this turn is {run.moment}")
             run.moment += 1
-        elif what == "cut":
-            run.cuts.setdefault((rest[0], rest[1]), []).append(int(rest[2]))
-        elif what == "fault":
+        elif what in ("flow", "fault") and len(rest) > 2:
+            self.fit(what, "place count" if what == "flow" else "place", rest[2:])
+        if what == "fault":
             self.fault(*rest)
-        elif what in ("post", "dial", "down"):
-            run.plans.setdefault((rest[0], rest[1]), []).append([what, *rest[2:]])
+
+    def new_node(self, name, entity, address, *options):
+        """A node with an address of its own, and each option at most once."""
+        self.must(name not in self.run.nodes, f"node {name} stands above")
+        ip, port, nonce = re.fullmatch("(.*):(.*)/(.*)", address).groups()
+        parts = [(part, 255) for part in ip.split(".")] + [(port, 65535), (nonce, 2**32 - 1)]
+        self.must(all(re.fullmatch(NUMBER, part) and int(part) <= most for part, most in parts) and port != "0", f"`{address}` is no address")
+        self.must(all(other[1].split("/")[0] != f"{ip}:{port}" for other in self.run.nodes.values()), f"{ip}:{port} stands above")
+        self.must(len(options) % 2 == 0 and len(set(options[::2])) == len(options) / 2, "an option stands twice, or without its number")
+        for option, numbers in zip(options[::2], options[1::2]):
+            self.must(option in OPTIONS, f"`{option}` is no option")
+            least, most = OPTIONS[option]
+            numbers = numbers.split(",") if option == "fast" else [numbers]
+            self.must(all(re.fullmatch(NUMBER, it) and least <= int(it) <= most for it in numbers), f"`{','.join(numbers)}` is none of {option}")
+        self.run.nodes[name] = [entity, address, *options]
 
     def fault(self, a, b, number=None):
         between = [s for s in self.run.between(a, b) if number in (None, str(s.number))]
@@ -210,9 +231,7 @@ class Reader:
         node, what, *rest = words
         self.must(node in self.run.nodes, f"no node {node} above")
         if what == "node":
-            self.fit("node", "number " * 7, rest)
-            self.run.facts[node] = [int(word) for word in rest]
-            return None
+            return self.fit("node", "number " * 7, rest)
         self.must(self.row and self.row.node == node, f"{node} does something, and it isn't its turn or its line")
         if what == "journal":
             self.must(self.run.is_linked(node, rest[0]), f"no link of {node} and {rest[0]} above")
@@ -235,11 +254,6 @@ class Reader:
         if place is not None:
             socket = self.opened(node, rest[place]) if what == "opened" else self.socket(node, rest[place])
             peer = socket.other(node).node
-        told = [word for kind, word in zip(forms[what].split(), rest) if kind not in ("bytes", "word*")] if what in MOVED else rest
-        if forms is JOURNAL:
-            self.run.journals.setdefault((node, peer), []).append([what, *told])
-        else:
-            self.run.trails.setdefault((node, socket.name), []).append([what, *told])
         event = Event(self.line, self.row, node, what, peer, socket, rest)
         if what == "accepted" and forms is TRAIL:
             event.what = "took"
@@ -280,7 +294,7 @@ class Reader:
         end.opened = event
 
     def on_wrote(self, event):
-        end, count, data = event.socket.ends[event.node], int(event.words[1]), replay_trace.bytes_of(event.words[2])
+        end, count, data = event.socket.ends[event.node], int(event.words[1]), bytes.fromhex(event.words[2].strip("-"))
         self.must(end.opened, f"{event.socket.name} isn't accepted")
         self.must(count == len(data), f"{count} bytes were written, and {len(data)} stand here")
         end.put += data
@@ -301,8 +315,6 @@ class Reader:
             del self.run.feeds[event.node, event.peer]
 
     def on_judged(self, event):
-        trail = self.run.trails.get((event.node, event.socket.name), [])
-        event.trail = len([entry for entry in trail if entry[0] != "accepted"])
         event.socket.judged.append(event)
         if event.words[8] in TAKES:
             event.socket.ends[event.node].taken = event
@@ -325,7 +337,9 @@ class Reader:
     # -- the whole
 
     def read(self, text):
-        for line in text.splitlines():
+        for a, b, count in re.findall(f"^cut ({NAME}) ({NAME}) ({NUMBER})$", text, re.M):  # wherever they stand
+            self.run.cuts.setdefault((a, b), []).append(int(count))
+        for line in replay_trace.lines_of(text):
             self.line += 1
             words = line[2:].split(" ") if line.startswith("  ") else line.split(" ")
             if line.startswith("#"):
@@ -334,6 +348,7 @@ class Reader:
             elif line.strip():
                 self.must(all(words), "words have one space between them, and a node's line begins with two")
                 (self.node_line if line.startswith("  ") else self.script)(words)
+                self.run.lines.append((self.line, line))
         for socket in self.run.sockets.values():
             self.flights(socket)
         return self.run
@@ -341,7 +356,7 @@ class Reader:
     def flights_of(self, socket, end):
         try:
             return flights_of(end.node, end.put)
-        except replay_trace.Wrong as wrong:
+        except wire.BadStream as wrong:
             line = next(event.line for event, count in zip(end.writes.events, end.writes.counts) if is_wrong(end.node, end.put[:count]))
             raise BadTrace(line, f"what {end.node} wrote to {socket.name} isn't msgr2: {wrong}") from None
 
@@ -364,107 +379,73 @@ def is_wrong(writer, put):
     """What was put so far is no start of a stream."""
     try:
         flights_of(writer, put)
-    except replay_trace.Wrong:
+    except wire.BadStream:
         return True
     return False
 
 
 def flights_of(writer, put):
     """The banner and the frames of what was written; the last may be cut short."""
-    flights, at = [], 26
+    flights, at = [], 0
     if put:
-        flights.append(Flight(writer, BANNER, 0, at if len(put) < 10 else 10 + replay_trace.number(put, 8, 2)))
+        flights.append(Flight(writer, BANNER, 0, wire.banner_length(put) or len(wire.banner())))
         at = flights[0].end
-    for frame in replay_trace.frames_of(put):
+    for frame in wire.frames_of(put):
         flights.append(Flight(writer, frame.tag, frame.start, frame.end, frame))
         at = frame.end
     if at < len(put):
-        flights.append(Flight(writer, put[at], at, max(end_of(put[at:]) + at, len(put) + 1)))
+        head = bytes(put[at : at + PREAMBLE])
+        length = wire.length_of(head)[0] if len(head) == PREAMBLE else 0
+        flights.append(Flight(writer, put[at], at, max(at + length, len(put) + 1)))
     return flights
 
 
-def end_of(text):
-    """How long a frame is that begins so; 0 where that isn't known yet."""
-    if len(text) < PREAMBLE:
-        return 0
-    lengths = [replay_trace.number(text, 2 + 6 * i, 4) for i in range(text[1])]
-    return PREAMBLE + sum(lengths) + 4 * bool(lengths[0]) + replay_trace.EPILOGUE * (text[1] > 1)
+# ---- the replay
 
 
-def sides_of(run, a, b):
-    """The two sides of a link and their sockets, as the replay of two records wants them; what it has to be told at the end is left out."""
-    sides, wires = {"a": side_of(run, a, b), "b": side_of(run, b, a)}, []
-    for socket in run.between(a, b):
-        opener, acceptor = socket.ends[socket.opener], socket.ends[socket.acceptor]
-        wires.append(("a" if socket.opener == a else "b", socket.name, len(opener.put), len(acceptor.put)))
-    return sides, wires
-
-
-def side_of(run, node, peer):
-    side = replay_trace.Side()
-    side.address, side.policy, side.node = run.nodes[node][1], POLICIES[run.policies[node, peer]], run.facts.get(node)
-    options = run.nodes[node][2:]
-    side.fast = [int(kind) for kind in options[options.index("fast") + 1].split(",")] if "fast" in options else []
-    side.plan, side.journal, side.composed = run.plans.get((node, peer), []), run.journals.get((node, peer), []), b""
-    for socket in run.between(node, peer):
-        mine, other = socket.ends[node], socket.other(node)
-        if mine.opened:
-            end = side.end(socket.name)
-            end.kind = "feed" if run.feeds.get((node, peer)) is socket else "spent"
-            end.flags, end.got, end.put = [mine.closed is not None, False, False, False], bytes(other.put[: mine.got]), bytes(mine.put)
-            moves = sorted(mine.writes.events + mine.reads.events, key=lambda event: event.line)
-            end.runs = [(event.what, int(event.words[1])) for event in moves]
-        if mine.opened and node == socket.acceptor:
-            trail_of(run, side, node, socket)
-    return side
-
-
-def trail_of(run, side, node, socket):
-    trail = side.trail(socket.name)
-    trail.named = side.node[0] if side.node else None
-    trail.entries = [(what, *map(int, words[1:])) for what, *words in run.trails[node, socket.name] if what != "accepted"]
-    trail.judged, trail.after = [event.words[2:] for event in socket.judged], [event.trail for event in socket.judged]
-
-
-def check_dispatches(run, node, peer, replay):
-    """Of each key, what a node dispatched from its peer is what it accepted, in order, from the first on; where it threw messages away, some of it."""
-    events = [event for row in run.rows for event in row.events if (event.node, event.what, event.peer) == (node, "from", peer)]
-    for key in {tuple(event.words[:2]) for event in events}:
-        dispatched = [event.words for event in events if tuple(event.words[:2]) == key]
-        accepted = [words[2:] for words in replay.accepted if tuple(words[2:4]) == key]
-        fits = dispatched == accepted[: len(dispatched)] if replay.lossless else is_some_of(dispatched, accepted)
-        replay_trace.must(fits, f"{node} dispatches from {peer} what it hasn't accepted, or in another order")
-
-
-def is_some_of(some, all_of_it):
-    rest = iter(all_of_it)
-    return all(item in rest for item in some)
+def due_lines(script):
+    """The lines of the trace of this script, in which a round stands with its turns."""
+    played, at = model.Run(), 0
+    played.declare(script)
+    while at < len(script):
+        words = script[at]
+        yield from played.play_round() if words[0] == "settle" else played.play_step(words)
+        at += 1 + (len(played.nodes) if words[0] == "settle" else 0)
 
 
 def check(run):
-    """Raises replay_trace.Wrong where the run isn't what its own bytes and docs/PROTOCOL.md say."""
-    for a, b in run.links:
-        replay_trace.must(a in run.facts and b in run.facts, f"a line of {a} or {b} is missing")
-        try:
-            replays = replay_trace.check_sides(*sides_of(run, a, b))
-        except replay_trace.Wrong as wrong:
-            raise replay_trace.Wrong(f"of {a} and {b} as the sides a and b: {wrong}") from None
-        check_dispatches(run, a, b, replays[0])
-        check_dispatches(run, b, a, replays[1])
+    """Raises Wrong where the trace isn't that of its script by docs/PROTOCOL.md."""
+    script = [line.split(" ") for _, line in run.lines if not line.startswith(" ")]
+    replay_trace.compare(run.lines, due_lines(script))
 
 
 def read_run(text):
     return Reader().read(text)
 
 
+def is_scenario(text):
+    """A scenario and no trace: two nodes are linked, and nobody tells anything."""
+    return bool(re.search("^ *link ", text, re.M)) and not re.search(f"^  {NAME} (node|journal) ", text, re.M)
+
+
+def wants_a_trace(file):
+    return f"{file} is a scenario, and the trace of its run is wanted: `./msgr2 trace {file} > FILE` makes one"
+
+
+def main():
+    if len(sys.argv) != 2 or sys.argv[1].startswith("-"):
+        replay_trace.refuse(f"one file is wanted; {__doc__.split(chr(10) * 2)[1]}")
+    text = replay_trace.read_file(sys.argv[1])
+    if is_scenario(text):
+        replay_trace.refuse(wants_a_trace(sys.argv[1]))
+    try:
+        check(read_run(text))
+    except BadTrace as bad:
+        replay_trace.refuse(f"{sys.argv[1]} is no trace of a run: {bad}")
+    except Wrong as wrong:
+        print(f"run_trace.py: {wrong}", file=sys.stderr)
+        sys.exit(1)
+
+
 if __name__ == "__main__":
-    if len(sys.argv) != 2:
-        sys.exit(__doc__.split("\n\n")[1])
-    with open(sys.argv[1], encoding="ascii") as file:
-        try:
-            check(read_run(file.read()))
-        except BadTrace as bad:
-            print(f"bad trace: {bad}", file=sys.stderr)
-            sys.exit(2)
-        except replay_trace.Wrong as wrong:
-            sys.exit(f"run_trace: {wrong}")
+    main()

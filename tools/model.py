@@ -1,28 +1,33 @@
 #!/usr/bin/env python3
 """A model of `msgr2 sim`: plays a scenario by the rules of docs/PROTOCOL.md, and prints what `sim` prints.
 
-usage: checks/model.py SCENARIO
+usage: tools/model.py SCENARIO
            the lines on standard output, and `left: N` on standard error with status 8
-       checks/model.py --into FOLDER SCENARIO..
-           the same of each, as FOLDER/NAME.stdout, NAME.stderr and NAME.status
-       checks/model.py --rows SCENARIO..
+       tools/model.py --trace SCENARIO
+           the trace of the run, as the program run_trace prints it
+       tools/model.py --into FOLDER SCENARIO..
+           of each what `sim` prints and its trace, as FOLDER/NAME.stdout, NAME.stderr, NAME.status and NAME.trace
+       tools/model.py --rows SCENARIO..
            which rows of the judgement tables each scenario meets, and how often
-       checks/model.py --table PAGE FOLDER
+       tools/model.py --table PAGE FOLDER
            compares the page's table "Where each row is met" with the scenarios of FOLDER
 
 It knows docs/PROTOCOL.md and docs/SCENARIOS.md, and nothing of the crates; a name in double quotes is the heading there
-that has the rule. Frames have a size and say something, and have no bytes. Scenarios are taken to be good ones: bad
-lines, want of memory and numbers that are used up are left out. checks/sides.py has the parts below a node.
-checks/model.sh lays the model beside the program.
+that has the rule. Scenarios are taken to be good ones: bad lines, want of memory and numbers that are used up are left
+out. tools/sides.py has the parts below a node, and tools/wire.py the bytes. checks/model.sh lays the model beside the
+programs, and tools/run_trace.py beside a trace.
 """
 import collections, os, re, sys
 
 sys.dont_write_bytecode = True  # nothing is left in this folder
-from sides import DISCARD, MOVED, REMOTE_RESET, Half, Letter, Message, Record, Socket
+sys.path.insert(0, os.path.dirname(os.path.abspath(__file__)))
+from sides import DISCARD, MOVED, REMOTE_RESET, End, Half, Letter, Message, Record
+from wire import Address
 
 LEFT = 8  # the status where posts are left (docs/SCENARIOS.md, "How it ends")
 ALL_FEATURES = 2**64 - 1
 MOST = 2**64  # more bytes than a socket has
+ENTITIES = {"mon": 1, "mds": 2, "osd": 4, "client": 8, "mgr": 16}
 
 # "A center's turn"
 MOST_HALVES, MOST_ACCEPTS, MOST_STEPS, MOST_PARCELS = 64, 4096, 4096, 1024
@@ -38,8 +43,10 @@ RECONNECT_ROWS = (
 class Node:
     """A node with its one center: port, records, halves, mail and dispatch queue ("A center's turn")."""
 
-    def __init__(self, run, place, name, address, options):
-        self.run, self.place, self.name, self.address = run, place, name, address
+    def __init__(self, run, place, name, entity, address, options):
+        self.run, self.name, self.address = run, name, address
+        self.entity, self.number, self.salt = ENTITIES[entity], place, place + 1
+        self.first_wait = self.most_wait = 1
         self.fast = {int(kind) for kind in options["fast"].split(",")} if "fast" in options else set()
         self.bound = int(options.get("throttle", 0))
         self.supports = int(options.get("supports", ALL_FEATURES))
@@ -50,12 +57,37 @@ class Node:
         self.opened = []  # sockets since the last meeting
         self.openings = collections.Counter()  # how many sockets it has opened to each node
         self.mail = []
-        self.at_once, self.behind_queue = [], []  # the lines of a turn
-        self.lines = []
+        self.last_lines = {}  # of each record the last line of its journal
+        self.lines, self.at_once, self.behind_queue = [], [], []  # what is printed of it, and of that the lines of a turn
+
+    # ---- what it tells
+
+    def tell(self, *words):
+        self.run.told.append(f"  {self.name} {' '.join(words)}")
+
+    def tell_entry(self, record, words):
+        """A trace has a close right behind the judgement that it follows in the journal, whatever a half writes in between."""
+        self.tell("journal", record.peer.name, *words)
+        told, line = self.run.told, self.run.told[-1]
+        if words[-1] == "taken" and self.last_lines.get(record) in told:
+            told.insert(told.index(self.last_lines[record]) + 1, told.pop())
+        self.last_lines[record] = line
+
+    def tell_trail(self, words):
+        self.tell("trail", *words)
+
+    def facts(self):
+        numbers = (self.entity, self.number, self.salt, self.supports, self.requires, self.first_wait, self.most_wait)
+        return " ".join(map(str, numbers))
+
+    # ---- what its records and halves ask of it
 
     def draw(self):
         self.drawn += 1
         return self.drawn
+
+    def record_of(self, address):
+        return next(record for record in self.records if str(record.peer.address) == address)
 
     def towards(self, peer):
         return next(record for record in self.records if record.peer is peer)
@@ -65,6 +97,8 @@ class Node:
         if self.bound == 0:
             return False
         return self.out + size > self.bound if size <= self.bound else self.out > self.bound
+
+    # ---- its turn
 
     def turn(self, now):
         self.at_once, self.behind_queue = [], []
@@ -76,11 +110,12 @@ class Node:
 
     def accept(self):
         for _ in range(min(len(self.port), MOST_ACCEPTS)):
-            end = self.port.pop(0)
-            if len(self.halves) < MOST_HALVES:
-                self.halves.append(Half(self, end))
+            end, taken = self.port.pop(0), len(self.halves) < MOST_HALVES
+            half = Half(self, end)
+            if taken:
+                self.halves.append(half)
             else:
-                end.closed = True
+                half.close("failed")
 
     def step_records(self, now):
         for record in self.records:
@@ -95,7 +130,8 @@ class Node:
         cuts = self.run.cuts[self, peer]
         turn = self.openings[peer]
         self.openings[peer] += 1
-        socket = Socket(self, peer, cuts[turn] if turn < len(cuts) else None)
+        name = f"{self.name}-{peer.name}/{turn + 1}"
+        socket = Socket(self, peer, name, cuts[turn] if turn < len(cuts) else None)
         self.opened.append(socket)
         return socket.opener
 
@@ -115,6 +151,7 @@ class Node:
                 queue = [(of, letter) for of, letter in queue if of is not peer]
             elif parcel == REMOTE_RESET:
                 self.behind_queue.append(f"{self.name} reset {peer.name}")
+                self.tell("reset", peer.name)
             else:
                 queue.append((peer, parcel))
         self.mail = []
@@ -124,10 +161,36 @@ class Node:
     def dispatch(self, peer, letter, path, lines):
         """A line of docs/SCENARIOS.md, "What is printed"; what was granted comes back."""
         message = letter.message
-        parts = " ".join(message.parts)
-        lines.append(f"{self.name} from {peer.name} {message.priority} {path} {message.kind} {parts}")
+        words = ("from", peer.name, str(message.priority), path, str(message.kind), *message.words())
+        lines.append(f"{self.name} {' '.join(words)}")
+        self.tell(*words)
         self.run.dispatched[peer, self] += 1
         self.out -= letter.granted
+
+
+class Socket:
+    """A socket: the end that connected, and the one that accepts."""
+
+    def __init__(self, opener, acceptor, name, cut):
+        self.opener, self.acceptor = End(opener, name, acceptor.address, cut), End(acceptor, name, opener.address)
+        self.opener.source, self.acceptor.source = self.acceptor.text, self.opener.text
+
+    def end_of(self, node):
+        return self.opener if self.opener.node is node else self.acceptor
+
+    def is_over(self):
+        return self.opener.closed and self.acceptor.closed
+
+    def flow(self, a, most):
+        """At most so many bytes of a node's end become readable at the other one, which is told of a close."""
+        end = self.end_of(a)
+        to = self.acceptor if end is self.opener else self.opener
+        if to.closed:
+            return
+        to.readable += min(most, end.put - to.readable)
+        if end.closed:
+            to.other_is_closed = True
+            to.no_more_comes = to.readable == end.put
 
 
 class Run:
@@ -140,6 +203,7 @@ class Run:
         self.sockets = collections.defaultdict(list)  # of two nodes, by number from 1
         self.live = collections.defaultdict(list)  # those of these that aren't closed at both ends
         self.now = 0
+        self.told = []  # the lines of nodes of a trace
         self.dispatched = collections.Counter()
         self.rows = collections.Counter()
 
@@ -161,12 +225,8 @@ class Run:
                 self.cuts[self.nodes[words[1]], self.nodes[words[2]]].append(int(words[3]))
 
     def add_node(self, words):
-        """Addresses are compared by kind, which is one for all here, then nonce, then ip, then port."""
-        socket, nonce = words[3].split("/")
-        ip, port = socket.split(":")
-        address = (int(nonce), tuple(int(part) for part in ip.split(".")), int(port))
         options = dict(zip(words[4::2], words[5::2]))
-        self.nodes[words[1]] = Node(self, len(self.nodes), words[1], address, options)
+        self.nodes[words[1]] = Node(self, len(self.nodes), words[1], words[2], Address.of(words[3]), options)
 
     # ---- the deeds
 
@@ -190,12 +250,12 @@ class Run:
         live = [socket for socket in self.live[pair(a, b)] if not socket.is_over()]
         self.live[pair(a, b)] = live
         for socket in live:
-            socket.end_of(a).flow(most)
+            socket.flow(a, most)
 
     def flow(self, a, b, number, most):
         sockets = self.sockets[pair(a, b)]
         if number <= len(sockets):
-            sockets[number - 1].end_of(a).flow(most)
+            sockets[number - 1].flow(a, most)
 
     def fault(self, a, b, number=None):
         sockets = self.sockets[pair(a, b)]
@@ -203,36 +263,52 @@ class Run:
         if 1 <= number <= len(sockets):
             sockets[number - 1].end_of(a).fails = True
 
-    def settle(self, rounds):
-        for _ in range(rounds):
-            for a, b in self.links:
-                self.flow_all(a, b, MOST)
-                self.flow_all(b, a, MOST)
-            for node in self.nodes.values():
-                self.turn(node)
+    def flow_everywhere(self):
+        for a, b in self.links:
+            self.flow_all(a, b, MOST)
+            self.flow_all(b, a, MOST)
 
     # ---- the lines
 
     def play(self, text):
+        """The lines of the trace."""
         lines = good_lines(text)
         self.declare(lines)
-        for words in lines:
-            self.play_line(words)
+        return [line for words in lines for line in self.play_line(words)]
 
     def play_line(self, words):
-        form, rest = words[0], words[1:]
+        """Does what a line of a scenario says, and gives the lines that a trace has of it."""
+        if words[0] != "settle":
+            return self.play_step(words)
+        return [line for _ in range(int(words[1])) for line in self.play_round()]
+
+    def play_round(self):
+        lines = self.play_step(["settle", "1"])
+        return lines + [line for name in self.nodes for line in self.play_step(["turn", name])]
+
+    def play_step(self, words):
+        """A line of a trace's script: of a round its flows alone; the moment of a turn may be missing."""
+        self.told = []
+        moment = [str(self.now)] if words[0] == "turn" else []
+        self.do(words[0], words[1:])
+        return [" ".join([*words[: 2 if moment else None], *moment]), *self.told]
+
+    def do(self, form, rest):
         if form == "settle":
-            self.settle(int(rest[0]))
-            return
-        if form in ("node", "link", "cut"):
+            self.flow_everywhere()
+        if form in ("settle", "link", "cut"):
             return
         a = self.nodes[rest[0]]
+        if form == "node":
+            if a.records:
+                a.tell("node", a.facts())
+            return
         if form == "turn":
             self.turn(a)
             return
         b, numbers = self.nodes[rest[1]], rest[2:]
         if form == "post":
-            a.towards(b).post(Message(int(numbers[0]), int(numbers[1]), numbers[2:5]))
+            a.towards(b).post(Message.of(numbers))
         elif form == "dial":
             a.towards(b).dial()
         elif form == "down":
@@ -245,7 +321,7 @@ class Run:
         elif form == "fault":
             self.fault(a, b, *(int(number) for number in numbers))
         else:
-            sys.exit(f"model: no line of sim: {' '.join(words)}")
+            sys.exit(f"model: no line of sim: {form} {' '.join(rest)}")
 
     # ---- what is told of a run
 
@@ -263,7 +339,7 @@ class Run:
 
 
 def pair(a, b):
-    return min(a.place, b.place), max(a.place, b.place)
+    return min(a.number, b.number), max(a.number, b.number)
 
 
 def good_lines(text):
@@ -272,24 +348,24 @@ def good_lines(text):
     return [line.split() for line in lines if line.strip(" ")]
 
 
-def run_of(file):
+def played(file):
+    """The run of a scenario, and its trace: comments stand in it as they are."""
     with open(file, encoding="latin-1", newline="\n") as scenario:
         text = scenario.read()
     run = Run()
-    run.play(text)
-    return run
+    return run, run.play(text)
 
 
 def outcome_of(file):
-    """What is printed on standard output and on standard error, and the status."""
-    run = run_of(file)
+    """What is printed on standard output and on standard error, the status, and the trace without its comments."""
+    run, trace = played(file)
     left = run.left()
-    return run.report(), f"left: {left}\n" if left else "", LEFT if left else 0
+    return run.report(), f"left: {left}\n" if left else "", LEFT if left else 0, "".join(f"{line}\n" for line in trace)
 
 
 def keep_outcomes(folder, files):
     for file in files:
-        for part, text in zip(("stdout", "stderr", "status"), outcome_of(file)):
+        for part, text in zip(("stdout", "stderr", "status", "trace"), outcome_of(file)):
             with open(os.path.join(folder, f"{os.path.basename(file)}.{part}"), "w", encoding="ascii") as out:
                 out.write(text if part != "status" else f"{text}\n")
 
@@ -304,7 +380,7 @@ def name_of(row):
 
 def tell_rows(files):
     for file in files:
-        for row, count in sorted(run_of(file).rows.items(), key=lambda it: name_of(it[0])):
+        for row, count in sorted(played(file)[0].rows.items(), key=lambda it: name_of(it[0])):
             print(f"{os.path.basename(file)}: {name_of(row)} {count}")
 
 
@@ -323,7 +399,7 @@ def named_rows(page):
 def compare_table(page, folder):
     """Whether each example meets the rows that the table says, and no example a row for which the table names none."""
     files = sorted(name for name in os.listdir(folder) if name.endswith(".scenario"))
-    met = {name[: -len(".scenario")]: run_of(os.path.join(folder, name)).rows for name in files}
+    met = {name[: -len(".scenario")]: played(os.path.join(folder, name))[0].rows for name in files}
     named = named_rows(page)
     said = []
     rows = [("ident", row) for row in IDENT_ROWS] + [("reconnect", row) for row in RECONNECT_ROWS]
@@ -351,11 +427,14 @@ def main(words):
     if len(words) >= 1 and words[0] == "--rows":
         tell_rows(words[1:])
         return 0
+    if len(words) == 2 and words[0] == "--trace":
+        sys.stdout.write(outcome_of(words[1])[3])
+        return 0
     if len(words) == 3 and words[0] == "--table":
         return 0 if compare_table(*words[1:]) else 1
     if len(words) != 1 or words[0].startswith("--"):
         sys.exit(__doc__)
-    report, error, status = outcome_of(words[0])
+    report, error, status, _ = outcome_of(words[0])
     sys.stdout.write(report)
     sys.stderr.write(error)
     return status
