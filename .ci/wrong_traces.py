@@ -9,7 +9,7 @@ bytes is turned (of long ones in each TURNED bytes), another word becomes one of
 two neighbours of different kinds change places, and behind each line of a node a dispatch or a reset is made up. A line
 that begins with # says nothing, and is left alone.
 
-Of a trace with more than MOST places, 1,500 where it isn't said, so many are tried, spread evenly with a fixed seed. Each
+Of a trace with more than MOST places, 800 where it isn't said, so many are tried, spread evenly with a fixed seed. Each
 change that is tried and goes through is counted under what HARMLESS says of such lines, which is why it makes another true
 trace; one of which nothing is said is printed. Of what is tried at most one in ONE_IN may go through.
 """
@@ -22,7 +22,7 @@ import replay_trace
 import run_trace
 
 PROGRAM = "crates/run_trace/out/run_trace"
-MOST, ONE_IN, SEED, TURNED, WORKERS, SHOWN = 1_500, 50, 1, 16, 2, 90
+MOST, ONE_IN, SEED, TURNED, WORKERS, SHOWN = 800, 50, 1, 16, 2, 90
 KINDS = [  # words of which one is put for another
     ("yes", "no"), ("fast", "queued"), ("ident", "reconnect"), ("full", "part"), ("planned", "used_up"),
     ("accept", "accept_over", "accept_again", "accept_replace", "accept_race", "close", "wait", "reset_pending", "resume"),
@@ -36,6 +36,7 @@ KINDS = [  # words of which one is put for another
 HARMLESS = {  # which changes of which lines may go through, and why
     "run": [
         ("settle .*: left out", "nothing was to flow in that round, so its turns alone do the same"),
+        ("turn ", "nothing is done in that turn, and the line beside it does nothing"),
         ("cut ", "no socket comes that far, or the line may stand elsewhere"),
         ("flow ", "no more had been put, or the socket isn't there"),
         ("fault ", "no such socket, or one that is closed or failed already"),

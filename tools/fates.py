@@ -30,8 +30,8 @@ PENDING = "given up"  # begins the cause of an end that was closed by reset_pend
 class Post:
     """A post: its line, and what happened to it."""
 
-    def __init__(self, row, place):
-        self.row, self.place = row, place
+    def __init__(self, row):
+        self.row = row
         _, self.sender, self.receiver, kind, priority, *parts = row.words
         self.kind, self.priority, self.parts = kind, priority, [part.lower() for part in parts]
         self.size = sum(len(part.strip("-")) // 2 for part in parts)
@@ -48,9 +48,6 @@ class Post:
                 wait[2] = row
         self.held = [wait for wait in self.held if wait[2] is not wait[1]]
 
-    def words(self):
-        return " ".join([self.kind, self.priority, *(part if len(part) <= 20 else f"{part[:8]}..({len(part) // 2} bytes)" for part in self.parts)])
-
 
 class Side:
     """A node's side of a link, as far as a trace tells of it."""
@@ -59,7 +56,7 @@ class Side:
         self.node, self.peer = node, peer
         self.lossy, self.server, self.standby, _ = POLICIES[policy]
         self.waiting, self.kept, self.next, self.last = [], [], 0, 0  # the queue of docs/PROTOCOL.md; the last accepted number
-        self.phase, self.feed, self.client, self.cookie = "absent", None, 0, 0
+        self.phase, self.feed, self.client = "absent", None, 0  # of the session; its client cookie
         self.posts, self.accepted, self.purged = [], [], []  # its posts; those of the peer that aren't dispatched, or never will be
         self.missing, self.wants_dial = None, False  # which features the peer has said to miss, last of all; told to dial
         self.before = None  # its last event
@@ -177,7 +174,7 @@ class Fates:
     # ---- what a side does
 
     def on_post(self, event, side):
-        post = Post(event.row, len(side.posts) + 1)
+        post = Post(event.row)
         self.posts.append(post)
         side.posts.append(post)
         side.waiting.append(post)
@@ -216,7 +213,7 @@ class Fates:
             side.phase, side.missing = "ready", None
             self.ready[event.socket, event.node] = event
         if flight.tag == SERVER_IDENT:
-            side.cookie, side.last = flight.says["server"], 0
+            side.last = 0
         elif flight.tag in (RETRY, RETRY_GLOBAL):
             side.phase = "connecting"
         elif flight.tag == MISSING_FEATURES:
@@ -269,7 +266,7 @@ class Fates:
         side.phase, side.next, side.missing, side.wants_dial, side.feed = "ready", 0, None, False, event.socket
         self.ready[event.socket, event.node] = event
         if answer != "resume":
-            side.client, side.cookie, side.last = 0 if side.lossy else client, 1, 0
+            side.client, side.last = 0 if side.lossy else client, 0
 
     def row_of_reset(self, side, client):
         if side.phase == "absent":
@@ -277,14 +274,14 @@ class Fates:
         return "another_client" if client != side.client else "another_server"
 
     def on_obeyed(self, event, side):
-        side.phase, side.cookie, side.last = "connecting", 0, 0
+        side.phase, side.last = "connecting", 0
         if event.words[0] == "full":
             side.client = 0
             self.throw(side, event.row, f"{side.peer} had no session with {side.node} any more, and reset it in full{self.why_down(side.peer, side.node)}")
 
     def on_down(self, event, side):
         side.downs.append(event.row)
-        side.phase, side.client, side.cookie, side.last, side.wants_dial = "absent", 0, 0, 0, False
+        side.phase, side.client, side.last, side.wants_dial = "absent", 0, 0, False
         self.throw(side, event.row, f"{side.node} marked the session down")
 
     def why_down(self, node, peer):
@@ -372,7 +369,7 @@ class Fates:
 
     def writings(self, post):
         """On how many sockets some of it was written."""
-        return sum(any(it.writer == post.sender and it.says.get("seq", number) == number and it.tag == MESSAGE for it in socket.flights) for number, socket in post.tries)
+        return sum(any((it.writer, it.says.get("seq")) == (post.sender, number) for it in socket.flights) for number, socket in post.tries)
 
     def ends(self):
         """Why nothing more happens."""
