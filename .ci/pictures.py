@@ -1,10 +1,10 @@
 """Draws each scenario of examples/pictures and compares the picture with the one that stands beside it.
 
 The trace of a scenario's run is what the built program crates/run_trace/out/run_trace prints. The replay is laid beside
-each trace, those of the scenarios of examples too: each line has to be the one that docs/PROTOCOL.md makes of its script, and tools/fates.py has to tell of so many posts that they wait as `sim` says are left.
-Traces with one thing changed must be objected to: bad lines by tools/draw with their number and why, a
-trace whose lines are all well formed by the replay, and another picture by the comparison. No two texts of a picture lie on
-each other, of those of the examples either.
+each trace, those of the scenarios of examples too: each line has to be the one that docs/PROTOCOL.md makes of its script;
+and tools/fates.py has to tell of so many posts that they wait as `sim` says are left. No two texts of a picture may lie on
+each other. Traces with one thing changed must be objected to: bad lines by tools/draw with their number and why, a trace
+whose lines are all well formed by the replay, and another picture by the comparison.
 """
 import html, os, re, subprocess, sys, tempfile
 
