@@ -54,7 +54,10 @@ def objection(command, printed, room):
 
 def main():
     for program in BUILT:  # so that the launcher takes the gate's build for new
-        os.utime(os.path.join(TOP, "crates", program, "out", program))
+        built = os.path.join(TOP, "crates", program, "out", program)
+        if not os.path.exists(built):
+            sys.exit(f"{built} isn't built")
+        os.utime(built)
     good, ran = True, 0
     for page in PAGES:
         with tempfile.TemporaryDirectory() as room:

@@ -1,16 +1,17 @@
 """Draws each scenario of examples/pictures and compares the picture with the one that stands beside it.
 
 The trace of a scenario's run is what the built program crates/run_trace/out/run_trace prints. The replay is laid beside
-each trace, those of the scenarios of examples too: each line has to be the one that docs/PROTOCOL.md makes of its script.
-Traces with one thing changed must be objected to: bad lines by tools/draw with their number and why, a
-trace whose lines are all well formed by the replay, and another picture by the comparison. No two texts of a picture lie on
-each other, of those of the examples either.
+each trace, those of the scenarios of examples too: each line has to be the one that docs/PROTOCOL.md makes of its script;
+and tools/fates.py has to tell of so many posts that they wait as `sim` says are left. No two texts of a picture may lie on
+each other. Traces with one thing changed must be objected to: bad lines by tools/draw with their number and why, a trace
+whose lines are all well formed by the replay, and another picture by the comparison.
 """
 import html, os, re, subprocess, sys, tempfile
 
 TOP = os.path.dirname(os.path.dirname(os.path.abspath(__file__)))
 sys.path.insert(0, os.path.join(TOP, "tools"))
 import run_trace
+from fates import WAITS, Fates
 
 PICTURES = "examples/pictures"
 EXAMPLES = "examples"
@@ -74,8 +75,25 @@ def untrue(file, trace):
     status, text, said = trace
     if (status, said) != (0, ""):
         return f"{name}: {PROGRAM}: status {status}: {said}"
-    said = replayed(text.decode("ascii"))
+    said = replayed(text.decode()) or untold(text.decode(), f"{file}.stderr")
     return said and f"{name}: {said}"
+
+
+def untold(text, complaint):
+    """What is wrong with the fates of the posts: each dispatch is that of one, and so many wait as `sim` says are left."""
+    told = Fates(run_trace.read_run(text))
+    events = sum(event.what == "from" for row in told.run.rows for event in row.events)
+    dispatched = sum(len(post.dispatched) for post in told.posts)
+    if events != dispatched:
+        return f"{events} dispatches, and {dispatched} of posts are told"
+    marked = {frozenset(pair) for pair, side in told.sides.items() if side.downs or side.lossy}
+    waiting = sum(told.fate(post)[0] == WAITS and frozenset((post.sender, post.receiver)) not in marked for post in told.posts)
+    said = ""
+    if os.path.exists(complaint):
+        with open(complaint, encoding="ascii") as file:
+            said = file.read()
+    due = f"left: {waiting}\n" if waiting else ""
+    return None if said == due else f"{waiting} posts are told to wait, and sim says {said!r}"
 
 
 def examples(folder, room):

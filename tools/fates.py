@@ -102,6 +102,7 @@ class Fates:
         self.causes, self.rows = {}, {}  # of an event why an end was closed, and the row of a judgement
         self.sides = {pair: Side(*pair, policy) for pair, policy in run.policies.items()}
         self.numbered = {}  # of a socket's name, a sender and a number the post
+        self.lasts = {}  # of a socket's name and a sender the last number
         self.wrote, self.read = collections.defaultdict(list), collections.defaultdict(list)  # of an event the frames that it ended
         self.idle = []  # the lines that did nothing, with why
         self.bounds = {node: bound_of(words) for node, words in run.nodes.items()}
@@ -194,6 +195,7 @@ class Fates:
         if post is None or side.feed is None:
             raise BadTrace(event.line, f"message {number} wasn't posted, or has no socket")
         post.tries.append((number, side.feed))
+        self.lasts[side.feed.name, side.node] = number
         self.numbered[side.feed.name, side.node, number] = post
 
     def on_wrote(self, event, side):
@@ -277,7 +279,8 @@ class Fates:
         side.phase, side.last = "connecting", 0
         if event.words[0] == "full":
             side.client = 0
-            self.throw(side, event.row, f"{side.peer} had no session with {side.node} any more, and reset it in full{self.why_down(side.peer, side.node)}")
+            why = f"{side.peer} had no session with {side.node} any more, and reset it in full"
+            self.throw(side, event.row, why + self.why_down(side.peer, side.node))
 
     def on_down(self, event, side):
         side.downs.append(event.row)
@@ -368,8 +371,13 @@ class Fates:
         return f"after a wait for {post.receiver}'s {'throttle' if bound else 'next turn'}"
 
     def writings(self, post):
-        """On how many sockets some of it was written."""
-        return sum(any((it.writer, it.says.get("seq")) == (post.sender, number) for it in socket.flights) for number, socket in post.tries)
+        """On how many sockets some of it was written; a frame that is cut short is the last that got a number there."""
+        count = 0
+        for number, socket in post.tries:
+            is_last = self.lasts[socket.name, post.sender] == number
+            mine = [it for it in socket.flights if (it.writer, it.tag) == (post.sender, MESSAGE)]
+            count += any(it.says.get("seq") == number or it.frame is None and is_last for it in mine)
+        return count
 
     def ends(self):
         """Why nothing more happens."""
@@ -405,7 +413,8 @@ class Fates:
             return f"while {again}"
         for one, other in ((side, peer), (peer, side)):
             if one.missing:
-                return f"for a feature: {other.node} requires bits {one.missing}, which {one.node} doesn't support, and refuses each ask of {one.node}"
+                lacks = f"{other.node} requires bits {one.missing}, which {one.node} doesn't support"
+                return f"for a feature: {lacks}, and refuses each ask of {one.node}"
         for one in (side, peer):
             if one.feed and one.phase != "ready":
                 return f"for the handshake on {one.feed.name}: {self.ends()}"
@@ -441,8 +450,9 @@ class Fates:
             while kinds[-(count + 1) * period : len(kinds) - count * period] == last:
                 count += 1
             since = marks[-count * period][1].row.at
-            exchange = [f"{event.node} answers {event.words[2]} by {' '.join(event.words[8:])} ({self.rows[event]})" for kind, event in marks[-period:] if kind[1] == "judged"]
-            return f"one exchange repeats itself, {some(count, 'time')} since moment {since}: {', '.join(exchange)}"
+            judged = [event for kind, event in marks[-period:] if kind[1] == "judged"]
+            answers = [f"{it.node} answers {it.words[2]} by {' '.join(it.words[8:])} ({self.rows[it]})" for it in judged]
+            return f"one exchange repeats itself, {some(count, 'time')} since moment {since}: {', '.join(answers)}"
         return None
 
     # ---- sockets
@@ -489,7 +499,9 @@ class Fates:
             return " / ".join(self.story(socket) for socket in sockets) or "no socket"
         taken = [socket for socket in sockets if any(event.words[8] in TAKES for event in socket.judged)]
         others = collections.Counter(self.end_of(socket) for socket in sockets if socket not in taken)
-        stories = [self.story(socket) for socket in taken] if len(taken) <= most else [f"{len(taken)} carried a session, the last {self.story(taken[-1])}"]
+        stories = [self.story(socket) for socket in taken]
+        if len(taken) > most:
+            stories = [f"{len(taken)} carried a session, the last {stories[-1]}"]
         return f"{len(sockets)} sockets: " + " / ".join(stories + [f"{count} {said}" for said, count in others.items()])
 
     def end_of(self, socket):
@@ -499,7 +511,8 @@ class Fates:
             return asks[-1]
         if not closed:
             return "in the handshake"
-        return f"{self.causes[closed]} at {closed.node}" if self.causes[closed] in ("fault", "cut") else f"closed: {self.causes[closed].split(' by ')[0]}"
+        cause = self.causes[closed]
+        return f"{cause} at {closed.node}" if cause in ("fault", "cut") else f"closed: {cause}"
 
 
 def bound_of(words):

@@ -395,7 +395,8 @@ def check_wire(sides, opener, socket, ahead, back):
         put, end = sides[writer].ends.get(socket), sides[reader].ends.get(socket)
         written, got = bytes(put.text[: put.put]) if put else b"", bytes(end.source) if end else b""
         must(written.startswith(got), f"{socket}: {reader} has got other bytes than {writer} has put")
-        must(len(got) <= flowed <= len(written), f"{socket}: {flowed} bytes flowed from {writer}, which put {len(written)}, and {reader} got {len(got)}")
+        moved = f"{writer} has put {len(written)} bytes, {flowed} flowed, and {reader} got {len(got)}"
+        must(len(got) <= flowed <= len(written), f"{socket}: {moved}")
         must(end is None or end.got == len(got), f"{socket}: {reader} has got more than it has read")
         found = sides[reader].given.flags.get(socket, [False] * 4)[3]
         must(not found or (end.closed and put and put.closed and len(got) == len(written)), f"{socket}: {reader} found an end that isn't there")
