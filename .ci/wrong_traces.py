@@ -101,7 +101,7 @@ def kind_of(line):
     return words[:3] if line.startswith("  ") else words[:2]
 
 
-def made_up(line, lines, names):
+def made_up(line, names):
     """A dispatch and a reset that didn't happen, to stand behind a line of a node."""
     node = line.split()[0]
     others = [name for name in names if name != node]
@@ -127,7 +127,7 @@ def changes(lines, draw):
         yield at, "doubled", [line, line], 1
         if at + 1 < len(lines) and not lines[at + 1].startswith("#") and kind_of(line) != kind_of(lines[at + 1]):
             yield at, "behind the next", [lines[at + 1], line], 2
-        for other in made_up(line, lines, names):
+        for other in made_up(line, names):
             yield at, f"and then `{other.strip()}`", [line, other], 1
 
 

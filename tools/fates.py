@@ -8,7 +8,7 @@ import collections
 
 from run_trace import TAKES, BadTrace
 from sides import POLICIES
-from wire import MESSAGE, MISSING_FEATURES, NAMES, RECONNECT_OK, RESET, RETRY, RETRY_GLOBAL, SERVER_IDENT
+from wire import MESSAGE, MISSING_FEATURES, NAMES, RECONNECT_OK, RETRY, RETRY_GLOBAL, SERVER_IDENT
 
 REPEATS = 3  # how often an exchange comes at the end before it is said to repeat
 MOST_PERIOD = 24  # what the longest of them has of opened, judged and closed

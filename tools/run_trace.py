@@ -20,9 +20,8 @@ import model
 import replay_trace
 import wire
 from replay_trace import Wrong
-from sides import PAIRS, POLICIES
-from wire import ACK, BANNER, CLIENT_IDENT, MESSAGE, MISSING_FEATURES, PREAMBLE, RECONNECT, RECONNECT_OK, RESET, RETRY, RETRY_GLOBAL
-from wire import SERVER_IDENT, WAIT
+from sides import PAIRS
+from wire import BANNER, CLIENT_IDENT, MESSAGE, MISSING_FEATURES, PREAMBLE, RECONNECT, RECONNECT_OK, RESET, RETRY, RETRY_GLOBAL
 
 TAKES = ("accept", "accept_over", "accept_reset", "accept_again", "accept_replace", "accept_race", "resume")
 NAMES = wire.NAMES | {  # as a picture has them
@@ -99,7 +98,7 @@ class End:
     def __init__(self, node):
         self.node, self.put, self.got = node, bytearray(), 0
         self.writes, self.reads = Moves(), Moves()
-        self.opened = self.taken = self.failed = self.closed = self.cut = None
+        self.opened = self.failed = self.closed = self.cut = None
         self.left = None  # how many bytes pass before the cut
 
 
@@ -118,7 +117,7 @@ class Flight:
 
     def __init__(self, writer, tag, start, end, frame=None):
         self.writer, self.tag, self.start, self.end, self.frame = writer, tag, start, end, frame
-        self.accepted, self.written, self.read = False, None, None
+        self.written = self.read = None
         self.put = self.got = 0
         self.says = {}
         if frame and tag == MESSAGE:
@@ -284,7 +283,7 @@ class Reader:
 
     def on_opened(self, event):
         end = event.socket.ends[event.node]
-        end.opened = end.taken = event
+        end.opened = event
         self.run.feeds[event.node, event.peer] = event.socket
         self.pass_bytes(end, event, 0)
 
@@ -317,7 +316,6 @@ class Reader:
     def on_judged(self, event):
         event.socket.judged.append(event)
         if event.words[8] in TAKES:
-            event.socket.ends[event.node].taken = event
             self.run.feeds[event.node, event.peer] = event.socket
 
     def on_accepted(self, event):
@@ -367,12 +365,10 @@ class Reader:
                 flight.put, flight.got = (max(0, min(moved, flight.end) - flight.start) for moved in (len(end.put), socket.other(end.node).got))
                 flight.written, flight.read = end.writes.at(flight.end), socket.other(end.node).reads.at(flight.end)
             socket.flights += flights
-        messages = {(flight.writer, flight.says["seq"]): flight for flight in socket.flights if "seq" in flight.says and flight.read}
+        messages = {(flight.writer, flight.says["seq"]) for flight in socket.flights if "seq" in flight.says and flight.read}
         for event in socket.accepted:
-            found = messages.get((event.peer, int(event.words[0])))
             self.line = event.line
-            self.must(found, f"message {event.words[0]} isn't on {socket.name}")
-            found.accepted = True
+            self.must((event.peer, int(event.words[0])) in messages, f"message {event.words[0]} isn't on {socket.name}")
 
 
 def is_wrong(writer, put):
