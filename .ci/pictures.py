@@ -14,6 +14,7 @@ import run_trace
 from fates import WAITS, Fates
 
 PICTURES = "examples/pictures"
+PAGE = "README.md"  # which shows them
 EXAMPLES = "examples"
 PROGRAM = "crates/run_trace/out/run_trace"
 SAMPLE = "crossing"
@@ -124,6 +125,8 @@ def pictures(folder, room):
     names = sorted(os.listdir(folder))
     for name in names:
         stem, kind = os.path.splitext(name)
+        if name == PAGE:
+            continue
         if kind != ".scenario":
             if f"{stem}.scenario" not in names:
                 yield f"{name}: stands beside no scenario"
