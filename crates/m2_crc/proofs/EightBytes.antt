@@ -265,7 +265,7 @@ pub by_far_tables : (w p0 p1 p2 p3 p4 p5 p6 p7 t0 t1 t2 t3 t4 t5 t6 t7 : ℕ) �
     → bit_xor (bit_xor (bit_xor t0 t1) (bit_xor t2 t3)) (bit_xor (bit_xor (bit_xor t4 t5) t6) t7) ≡ shifted_by 64 (shifted_by 64 w)
 by_far_tables w p0 p1 p2 p3 p4 p5 p6 p7 t0 t1 t2 t3 t4 t5 t6 t7 h e0 e1 e2 e3 e4 e5 e6 e7 s0 s1 s2 s3 s4 s5 s6 s7 =
     far _ _ (far _ _ (far _ _ (s0 ∙ added 64 64 p0) (s1 ∙ added 56 64 p1)) (far _ _ (s2 ∙ added 48 64 p2) (s3 ∙ added 40 64 p3)))
-        (far _ _ (far _ _ (far _ _ (s4 ∙ added 32 64 p4) (s5 ∙ added 24 64 p5)) (s6 ∙ added 16 64 p6)) (s7 ∙ added 8 64 p7))
+    (far _ _ (far _ _ (far _ _ (s4 ∙ added 32 64 p4) (s5 ∙ added 24 64 p5)) (s6 ∙ added 16 64 p6)) (s7 ∙ added 8 64 p7))
     ∙ ap (shifted_by 64) (by_tables w p0 p1 p2 p3 p4 p5 p6 p7 (shifted_by 64 p0) (shifted_by 56 p1) (shifted_by 48 p2) (shifted_by 40 p3) (shifted_by 32 p4) (shifted_by 24 p5) (shifted_by 16 p6) (shifted_by 8 p7) h e0 e1 e2 e3 e4 e5 e6 e7 refl refl refl refl refl refl refl refl)
 
 -- eight bytes behind others: what the others leave is moved out by them, and they go in beside it
