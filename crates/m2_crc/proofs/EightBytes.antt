@@ -1,13 +1,13 @@
 -- Eight bytes at a time: put into the state together, each is moved out by as many shifts as there are from
 -- its place, and what it leaves stands in the table of so many shifts.
-use Rattle.std.proofs.Common.{◌≡◌, ℕ, zero, suc, ◌+◌, ◌*◌, ◌/◌, ◌%◌, ◌^◌, ◌<◌, Bool, true, eqb, List, [], ◌∷◌, ◌++◌, length, get_or, take, drop, refl, sym, ap, ◌∙◌, arith, inl, inr}
+use Rattle.std.proofs.Common.{◌≡◌, ℕ, zero, suc, ◌+◌, ◌*◌, ◌/◌, ◌%◌, ◌^◌, ◌<◌, ◌≤◌, ◌-◌, Bool, true, eqb, List, [], ◌∷◌, ◌++◌, length, get_or, take, drop, refl, sym, ap, ◌∙◌, arith, inl, inr}
 use Rattle.std.specs.Prelude.{◌&&◌, bit_xor, fold}
 use Rattle.std.specs.Int.Bits.{xor_assoc, xor_zero_r, xor_zero_l, xor_self}
 use Rattle.std.specs.Int.{w64, from_le_bytes}
 use Rattle.std.specs.List.{concat}
 use Rattle.std.specs.Simd.{first_chunks}
-use Rattle.std.proofs.lemmas.List.{take-append-drop, append_assoc, get_or-drop, get_or-take}
-use Rattle.std.proofs.lemmas.List.Sums.{fold-append}
+use Rattle.std.proofs.lemmas.List.{take_all, take-append-drop, append_assoc, get_or-drop, get_or-take}
+use Rattle.std.proofs.lemmas.List.Sums.{fold-append, fold_more}
 use Rattle.std.proofs.Math.Seq.{drop-drop}
 use Rattle.std.proofs.lemmas.Nat.{xor_block, xor_shr, xor_mod, xor_comm}
 use Rattle.std.proofs.lemmas.Bool.{eqb-true, cases_lt, and_parts}
@@ -159,14 +159,14 @@ above_at (x ∷ xs) (y ∷ ys) zero h lt le = eqb-true y (shifted_by 8 x) (and_p
 above_at (x ∷ xs) (y ∷ ys) (suc i) h lt le = above_at xs ys i (and_parts (eqb y (shifted_by 8 x)) (rule_above xs ys) h).1 (omega arith) (omega arith)
 
 -- what stands in the tables
-pub table_word : (more byte : ℕ) → more < 8 → byte < 256 → get_or SHIFTED (256 * more + byte) 0 ≡ shifted_by (8 * (more + 1)) byte
+pub table_word : (more byte : ℕ) → more < 16 → byte < 256 → get_or SHIFTED (256 * more + byte) 0 ≡ shifted_by (8 * (more + 1)) byte
 table_word zero byte m h =
     let e : 256 * 0 + byte ≡ byte = omega arith in
     ap (λ (k : ℕ). get_or SHIFTED k 0) e ∙ sym (get_or-take 256 SHIFTED byte 0 h) ∙ first_at (take 256 SHIFTED) 0 byte first_holds h ∙ ap (shifted_by 8) (let z : 0 + byte ≡ byte = omega arith in z)
 table_word (suc more) byte m h =
     let e : 256 * suc more + byte ≡ 256 + (256 * more + byte) = omega arith in
-    let all : length SHIFTED ≡ 2048 = refl in
-    let above : length (drop 256 SHIFTED) ≡ 1792 = refl in
+    let all : length SHIFTED ≡ 4096 = refl in
+    let above : length (drop 256 SHIFTED) ≡ 3840 = refl in
     let s : 8 * (suc more + 1) ≡ 8 * (more + 1) + 8 = omega arith in
     ap (λ (k : ℕ). get_or SHIFTED k 0) e
     ∙ sym (get_or-drop 256 SHIFTED (256 * more + byte) 0)
@@ -175,7 +175,7 @@ table_word (suc more) byte m h =
     ∙ sym (ap (λ (k : ℕ). shifted_by k byte) s ∙ added (8 * (more + 1)) 8 byte)
 
 -- an exclusive or of equal numbers
-both : {a b c d : ℕ} → a ≡ b → c ≡ d → bit_xor a c ≡ bit_xor b d
+pub both : {a b c d : ℕ} → a ≡ b → c ≡ d → bit_xor a c ≡ bit_xor b d
 both {a = a} {d = d} h k = ap (bit_xor a) k ∙ ap (λ (x : ℕ). bit_xor x d) h
 
 -- 64 shifts of a word of eight bytes are the exclusive or of as many shifts of each byte as there are from its place
@@ -252,10 +252,65 @@ eight_bytes bs state n h small e =
     ∙ ap (λ (k : ℕ). shifted_by (8 * k) (bit_xor state (joined bs))) (sym h)
     ∙ sym (together bs state (are_bytes bs small))
 
+-- 64 shifts more of an exclusive or
+far : {a b : ℕ} (x y : ℕ) → a ≡ shifted_by 64 x → b ≡ shifted_by 64 y → bit_xor a b ≡ shifted_by 64 (bit_xor x y)
+far x y h k = both h k ∙ sym (linear 64 x y)
+
+-- 128 shifts of a word of eight bytes, by what each byte leaves
+pub by_far_tables : (w p0 p1 p2 p3 p4 p5 p6 p7 t0 t1 t2 t3 t4 t5 t6 t7 : ℕ) → w < 2 ^ 64
+    → p0 ≡ w % 256 → p1 ≡ w / 2 ^ 8 % 256 → p2 ≡ w / 2 ^ 16 % 256 → p3 ≡ w / 2 ^ 24 % 256
+    → p4 ≡ w / 2 ^ 32 % 256 → p5 ≡ w / 2 ^ 40 % 256 → p6 ≡ w / 2 ^ 48 % 256 → p7 ≡ w / 2 ^ 56 % 256
+    → t0 ≡ shifted_by 128 p0 → t1 ≡ shifted_by 120 p1 → t2 ≡ shifted_by 112 p2 → t3 ≡ shifted_by 104 p3
+    → t4 ≡ shifted_by 96 p4 → t5 ≡ shifted_by 88 p5 → t6 ≡ shifted_by 80 p6 → t7 ≡ shifted_by 72 p7
+    → bit_xor (bit_xor (bit_xor t0 t1) (bit_xor t2 t3)) (bit_xor (bit_xor (bit_xor t4 t5) t6) t7) ≡ shifted_by 64 (shifted_by 64 w)
+by_far_tables w p0 p1 p2 p3 p4 p5 p6 p7 t0 t1 t2 t3 t4 t5 t6 t7 h e0 e1 e2 e3 e4 e5 e6 e7 s0 s1 s2 s3 s4 s5 s6 s7 =
+    far _ _ (far _ _ (far _ _ (s0 ∙ added 64 64 p0) (s1 ∙ added 56 64 p1)) (far _ _ (s2 ∙ added 48 64 p2) (s3 ∙ added 40 64 p3)))
+    (far _ _ (far _ _ (far _ _ (s4 ∙ added 32 64 p4) (s5 ∙ added 24 64 p5)) (s6 ∙ added 16 64 p6)) (s7 ∙ added 8 64 p7))
+    ∙ ap (shifted_by 64) (by_tables w p0 p1 p2 p3 p4 p5 p6 p7 (shifted_by 64 p0) (shifted_by 56 p1) (shifted_by 48 p2) (shifted_by 40 p3) (shifted_by 32 p4) (shifted_by 24 p5) (shifted_by 16 p6) (shifted_by 8 p7) h e0 e1 e2 e3 e4 e5 e6 e7 refl refl refl refl refl refl refl refl)
+
+-- eight bytes behind others: what the others leave is moved out by them, and they go in beside it
+pub behind : (state : ℕ) (xs ys : List ℕ) → length ys ≡ 8 → ((i : ℕ) → get_or ys i 0 < 256)
+    → bit_xor (shifted_by 64 (crc_of state xs)) (crc_of 0 ys) ≡ crc_of state (xs ++ ys)
+behind state xs ys h small =
+    let s = crc_of state xs in
+    let moved : (z : ℕ) → crc_of z ys ≡ shifted_by 64 (bit_xor z (joined ys)) =
+    λ (z : ℕ). together ys z (are_bytes ys small) ∙ ap (λ (k : ℕ). shifted_by (8 * k) (bit_xor z (joined ys))) h in
+    ap (bit_xor (shifted_by 64 s)) (moved 0 ∙ ap (shifted_by 64) (xor_zero_l (joined ys)))
+    ∙ sym (linear 64 s (joined ys)) ∙ sym (moved s) ∙ sym (fold-append after_byte state xs ys)
+
 -- pieces one after another are their bytes one after another
 pub by_pieces : (pieces : List (List ℕ)) (state : ℕ) → fold crc_of state pieces ≡ crc_of state (concat pieces)
 by_pieces [] state = refl
 by_pieces (p ∷ ps) state = by_pieces ps (crc_of state p) ∙ sym (fold-append after_byte state p (concat ps))
+
+-- two words more
+pub two_more : (seed : ℕ) (words : List (List ℕ)) (i state : ℕ) → i < length words / 2 → state ≡ crc_of seed (concat (take (2 * i) words))
+    → crc_of state (get_or words (2 * i) [] ++ get_or words (2 * i + 1) []) ≡ crc_of seed (concat (take (2 * (i + 1)) words))
+two_more seed words i state h e =
+    let w = get_or words (2 * i) [] in
+    let v = get_or words (2 * i + 1) [] in
+    let first : 2 * i < length words = omega arith in
+    let second : 2 * i + 1 < length words = omega arith in
+    let two : 2 * i + 1 + 1 ≡ 2 * (i + 1) = omega arith in
+    fold-append after_byte state w v
+    ∙ ap (λ (s : ℕ). crc_of (crc_of s w) v) (e ∙ sym (by_pieces (take (2 * i) words) seed))
+    ∙ ap (λ (s : ℕ). crc_of s v) (sym (fold_more crc_of seed words (2 * i) [] first))
+    ∙ sym (fold_more crc_of seed words (2 * i + 1) [] second)
+    ∙ by_pieces (take (2 * i + 1 + 1) words) seed
+    ∙ ap (λ (k : ℕ). crc_of seed (concat (take k words))) two
+
+-- the last word of an odd number
+pub last_one : (seed : ℕ) (words : List (List ℕ)) (i state : ℕ) → i ≡ length words / 2 → length words % 2 ≡ 1 → state ≡ crc_of seed (concat (take (2 * i) words))
+    → crc_of state (get_or words (length words - 1) []) ≡ crc_of seed (concat words)
+last_one seed words i state half odd e =
+    let there : 2 * i < length words = omega arith in
+    let all : length words ≤ 2 * i + 1 = omega arith in
+    let last : length words - 1 ≡ 2 * i = omega arith in
+    ap (λ (k : ℕ). crc_of state (get_or words k [])) last
+    ∙ ap (λ (s : ℕ). crc_of s (get_or words (2 * i) [])) (e ∙ sym (by_pieces (take (2 * i) words) seed))
+    ∙ sym (fold_more crc_of seed words (2 * i) [] there)
+    ∙ by_pieces (take (2 * i + 1) words) seed
+    ∙ ap (λ (l : List (List ℕ)). crc_of seed (concat l)) (take_all (2 * i + 1) words all)
 
 -- a list is its pieces of eight, and what is left behind them
 pub parted : (k : ℕ) (bytes : List ℕ) → concat (first_chunks 8 k bytes) ++ drop (k * 8) bytes ≡ bytes

@@ -1,4 +1,5 @@
 pub mod Arriving
+pub mod Below
 pub mod Bounds
 pub mod Entering
 pub mod Flowing

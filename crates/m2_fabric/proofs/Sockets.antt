@@ -1,5 +1,5 @@
 -- Sockets that are the same, and whether one is among others.
-use Rattle.std.proofs.Common.{◌≡◌, false, ◌||◌, List, [], ◌∷◌, ◌++◌, refl, ap, Bool, true, ◌+◌, sym, ◌∙◌, ◌&&◌, ◌==◌, ◌-◌, subst, ℕ, ◌⊎◌, inl, inr}
+use Rattle.std.proofs.Common.{◌≡◌, false, ◌||◌, List, [], ◌∷◌, ◌++◌, refl, ap, Bool, true, sym, ◌∙◌, ◌&&◌, ◌==◌, subst, ℕ, ◌⊎◌, inl, inr}
 use Rattle.std.proofs.lemmas.Bool.{false_from_ne_true, eqb-true, and_parts, eq-eqb, or_right}
 use Rattle.m2_fabric.specs.Sockets.{is_among, same_socket}
 use Rattle.m2_fabric.specs.declared.socket.SocketId.{SocketId}

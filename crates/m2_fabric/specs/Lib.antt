@@ -8,6 +8,7 @@ pub mod Kept
 pub mod Kinds
 pub mod Log
 pub mod Meeting
+pub mod Newest
 pub mod News
 pub mod Over
 pub mod Port

@@ -52,8 +52,9 @@ pub enum News {
 /// Readers: [`id`](End::id), [`log`](End::log), [`faults`](End::faults). Calls that move bytes:
 /// [`read`](End::read) and [`write`](End::write), of a piece that isn't empty, at an end that isn't
 /// closed. Each either answers for want of memory and leaves all as it was, or does what its answer
-/// says: once bytes have moved nothing can fail. [`hear`](End::hear) is for the driver of ends in
-/// memory and does nothing at other ends.
+/// says: once bytes have moved nothing can fail. What a write took counts as put at once; an end may keep
+/// it and hand it on by its next read, or by [`close`](End::close). [`hear`](End::hear) is for the driver
+/// of ends in memory and does nothing at other ends.
 pub trait End: Drop {
     /// What contracts see.
     ghost seen: { Self → SeenEnd };

@@ -23,11 +23,13 @@ mod kept;
 mod kinds;
 mod log;
 mod meeting;
+mod newest;
 mod pair;
 mod passing;
 mod port;
 mod sim_end;
 mod sim_fabric;
+mod sim_made;
 mod sim_port;
 mod socket;
 

@@ -10,6 +10,10 @@ use std::alloc::Global;
 /// The most bytes that one read or one write moves, since a [`Run`] counts them in 32 bits.
 pub const MOST_MOVED: usize = 4_294_967_295;
 
+/// How many bytes of one kind a spent log moves at most to be rid of spare room. Above that, room that was never used
+/// takes no memory of the system's that counts.
+const MOST_TRIMMED: usize = 65_536;
+
 /// A read or a write that moved bytes, and how many.
 #[derive(Clone, Copy, Debug, PartialEq, Eq)]
 pub enum Run {
@@ -26,7 +30,8 @@ pub type RunList = Items<Run>;
 /// Makers: [`new`](EndLog::new). For the makers of ends: [`reserve_read`](EndLog::reserve_read) and
 /// [`reserve_write`](EndLog::reserve_write) come before bytes are moved,
 /// [`note_read`](EndLog::note_read), [`note_write`](EndLog::note_write) and
-/// [`note_close`](EndLog::note_close) behind it, and these three can't fail.
+/// [`note_close`](EndLog::note_close) behind it, and these three can't fail. [`trim`](EndLog::trim) is for
+/// an end that is spent.
 #[derive(Debug, Drop)]
 pub struct EndLog {
     /// All bytes that the reads gave.
@@ -119,6 +124,37 @@ impl EndLog {
         ensures { log_of self.new ≡ after_close (log_of self.old) }
     {
         self.closed = true;
+    }
+
+    /// Gives spare room back: what stands in the log is moved to memory of just its size, unless it is long or there is
+    /// no memory to move it to.
+    pub fn trim(&mut self, alloc: Global)
+        ensures { log_of self.new ≡ log_of self.old }
+    {
+        trim_bytes(&mut self.got);
+        trim_bytes(&mut self.put);
+        trim_runs(alloc, &mut self.runs);
+    }
+}
+
+// Moves bytes to memory of just their size, unless they are many.
+fn trim_bytes(blob: &mut Blob)
+    ensures { blob.new.bytes ≡ blob.old.bytes }
+{
+    if blob.len() > MOST_TRIMMED {
+        return;
+    }
+    if let Ok(copy) = blob.copy() {
+        *blob = copy;
+    }
+}
+
+// Moves runs to memory of just their size.
+fn trim_runs(alloc: Global, runs: &mut RunList)
+    ensures { runs.new.items ≡ runs.old.items }
+{
+    if let Ok(copy) = Vec::from_slice(alloc, runs.as_slice()) {
+        *runs = Items::from_vec(copy);
     }
 }
 

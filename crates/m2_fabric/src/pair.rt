@@ -8,6 +8,7 @@ ghost use Rattle.m2_fabric.specs.News.{AreTold, kept_after, logs_of, pair_after,
 ghost use Rattle.m2_fabric.specs.Over.{AreOver};
 
 use crate::kept::Kept;
+use crate::newest::Newest;
 use crate::passing::Passing;
 use crate::{Holder, SocketId};
 use m2_bytes::{Blob, NoMemory};
@@ -22,17 +23,19 @@ pub(crate) struct Pair {
     sockets: Vec<Kept>,
     /// So many of the first sockets are over both ways: a call passes nothing on there.
     over: usize,
+    newest: Newest,
 }
 
 impl Model for Pair {
     ghost use Rattle.m2_fabric.specs.Kept.{SeenPair};
+    ghost use Rattle.m2_fabric.specs.Newest.{AreBelow};
     ghost use Rattle.m2_fabric.specs.Over.{AreOver};
 
     ghost Value = { SeenPair };
 
     ghost view = { λ p. record { first = p.first; second = p.second; sockets = p.sockets.items } };
 
-    ghost invariant = { λ p. AreOver p.over p.sockets.items };
+    ghost invariant = { λ p. AreOver p.over p.sockets.items × AreBelow p.newest p.sockets.items };
 }
 
 /// How many of the first sockets are over both ways, where so many are known to be.
@@ -92,8 +95,31 @@ fn pass_behind<H: Holder>(
     pass_sockets(live, h, piece, first, second, what)
 }
 
+/// The same in a vector.
+fn pass_in<H: Holder>(
+    sockets: &mut Vec<Kept>,
+    over: usize,
+    h: &mut H,
+    piece: &mut Blob,
+    first: u32,
+    second: u32,
+    what: &Passing,
+) -> Result<(), NoMemory>
+    requires over { AreOver over sockets.old.items }
+    requires first { first < (H.seen h.old).nodes }
+    requires second { second < (H.seen h.old).nodes }
+    ensures over { AreOver over sockets.new.items }
+    ensures same { map cleared sockets.new.items ≡ map cleared sockets.old.items }
+    ensures sockets { OnOk result (sockets.new.items ≡ map (kept_after what.now (logs_of (H.seen h.old)) first second) sockets.old.items) }
+    ensures told { OnOk result (AreTold (told_to what.now (logs_of (H.seen h.old)) (of_sockets first second sockets.old.items)) (H.seen h.old) (H.seen h.new)) }
+    ensures rest { H.rest h.new ≡ H.rest h.old }
+{
+    pass_behind(sockets.as_mut_slice(), over, h, piece, first, second, what)
+}
+
 impl Pair {
     /// Two nodes with one socket between them. Err comes for want of memory.
+    #[tactic(auto, using(crate::proofs::Below::below_one))]
     fn of(alloc: Global, first: u32, second: u32, kept: Kept) -> Result<Pair, NoMemory>
         ensures { IfOk result (λ p. p ≡ record { first = first; second = second; sockets = kept ∷ [] }) }
     {
@@ -104,6 +130,7 @@ impl Pair {
             second,
             sockets,
             over: 0,
+            newest: Newest::of(&kept.id),
         })
     }
 
@@ -114,10 +141,13 @@ impl Pair {
         self.first == a && self.second == b || self.first == b && self.second == a
     }
 
-    /// Whether a socket is among its own.
+    /// Whether a socket is among its own. One that is newer than all isn't looked for.
     fn has(&self, id: &SocketId) -> bool
         ensures { result ≡ list_any (λ k. same_socket k.id id.now) self.now.sockets }
     {
+        if self.newest.is_before(id) {
+            return false;
+        }
         self.sockets.iter().any(|kept| kept.id.is_same(id))
     }
 
@@ -134,6 +164,7 @@ impl Pair {
         ensures err { OnErr result (self.new ≡ self.old) }
     {
         self.sockets.push(kept)?;
+        self.newest = self.newest.raised(&kept.id);
         Ok(())
     }
 
@@ -155,8 +186,8 @@ impl Pair {
             return Ok(());
         }
         self.over = count_over(self.sockets.as_slice(), self.over);
-        pass_behind(
-            self.sockets.as_mut_slice(),
+        pass_in(
+            &mut self.sockets,
             self.over,
             h,
             piece,

@@ -17,7 +17,8 @@ use std::marker::Model;
 /// other side. Contracts see what every end shows.
 ///
 /// A read gives as much of what came as the piece holds, a write takes its whole piece; neither moves
-/// more than [`MOST_MOVED`] bytes.
+/// more than [`MOST_MOVED`] bytes. A read makes room in the log for what it gives alone, and a closed end
+/// gives its spare room back.
 #[derive(Debug, Drop)]
 pub struct SimEnd {
     id: SocketId,
@@ -75,6 +76,15 @@ fn copy_first(readable: &[u8], into: &mut [u8]) -> usize
     n
 }
 
+/// Moves what is readable to memory of just its size, where there is memory to move it to.
+fn trim(alloc: Global, readable: &mut BytesMut)
+    ensures { readable.new.items ≡ readable.old.items }
+{
+    if let Ok(copy) = BytesMut::copy_from_slice(alloc, readable.as_slice()) {
+        *readable = copy;
+    }
+}
+
 impl End for SimEnd {
     ghost seen = { λ e. e };
 
@@ -110,7 +120,7 @@ impl End for SimEnd {
             self.log.note_read(answer, into);
             return answer;
         }
-        let most = into.len().min(MOST_MOVED);
+        let most = into.len().min(self.readable.len().min(MOST_MOVED));
         if self.log.reserve_read(most).is_err() {
             return EndRead::NoMemory;
         }
@@ -139,7 +149,10 @@ impl End for SimEnd {
     }
 
     fn close(&mut self) {
+        let alloc = *self.readable.allocator();
         self.log.note_close();
+        self.log.trim(alloc);
+        trim(alloc, &mut self.readable);
     }
 
     fn hear(&mut self, bytes: &[u8], news: News) -> Result<(), NoMemory> {

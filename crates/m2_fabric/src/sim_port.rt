@@ -8,11 +8,10 @@ ghost use Rattle.m2_fabric.specs.Sockets.{same_socket};
 ghost use Rattle.m2_fabric.specs.SimPort.{NeverRefuses, OpensNext, greatest, ids, path, socket_after, turn_on};
 
 use crate::sim_end::SimEnd;
-use crate::{
-    Connect, End, MemoryPort, News, Port, SocketId, SocketIdList, Taken, are_in_memory, is_among,
-};
+use crate::sim_made::{SimMade, turn_on};
+use crate::{Connect, End, MemoryPort, News, Port, SocketId, SocketIdList, Taken, are_in_memory};
 use m2_addr::Addr;
-use m2_bytes::{Items, NoMemory};
+use m2_bytes::NoMemory;
 use m2_edge::Failed;
 use std::alloc::Global;
 use std::marker::Model;
@@ -26,7 +25,7 @@ use std::marker::Model;
 pub struct SimPort {
     alloc: Global,
     at: Addr,
-    made: SocketIdList,
+    made: SimMade,
     waiting: Vec<SimEnd>,
     quiet: bool,
 }
@@ -41,7 +40,7 @@ impl Model for SimPort {
     ghost view = { λ p. record {
       at = p.at;
       accepts = true;
-      made = p.made.items;
+      made = p.made.sockets;
       missed = 0;
       refused = 0;
       quiet = p.quiet;
@@ -49,7 +48,7 @@ impl Model for SimPort {
       waiting = Some p.waiting.items;
     } };
 
-    ghost invariant = { λ p. IsSimPort p.at p.made.items p.waiting.items };
+    ghost invariant = { λ p. IsSimPort p.at p.made.sockets p.waiting.items };
 }
 
 impl SimPort {
@@ -60,7 +59,7 @@ impl SimPort {
         SimPort {
             alloc,
             at,
-            made: Items::empty(alloc),
+            made: SimMade::empty(alloc),
             waiting: Vec::new(alloc),
             quiet: false,
         }
@@ -80,23 +79,6 @@ fn path(from: &Addr, to: &Addr) -> SocketId
     }
 }
 
-// The turn of a socket of that path, and 0 of another.
-fn turn_on(path: &SocketId, socket: &SocketId) -> u32
-    ensures { result ≡ turn_on path.now socket.now }
-{
-    let first = SocketId { turn: 0, ..*socket };
-    if path.is_same(&first) { socket.turn } else { 0 }
-}
-
-// The greatest turn on a path among sockets, at least the given one.
-fn greatest_made(path: &SocketId, least: u32, sockets: &[SocketId]) -> u32
-    ensures { result ≡ fold (λ most socket. max most (turn_on path.now socket)) least sockets.now }
-{
-    sockets
-        .iter()
-        .fold(least, |most, socket| most.max(turn_on(path, socket)))
-}
-
 // The greatest turn on a path among the sockets of ends, at least the given one.
 fn greatest_waiting(path: &SocketId, least: u32, ends: &[SimEnd]) -> u32
     ensures { result ≡ fold (λ most e. max most (turn_on path.now e.id)) least ends.now }
@@ -107,17 +89,17 @@ fn greatest_waiting(path: &SocketId, least: u32, ends: &[SimEnd]) -> u32
 
 // The greatest turn on a path among the sockets that were made and those that wait.
 #[tactic(auto, using(crate::proofs::Turns::greatest_of_both))]
-fn greatest(path: &SocketId, made: &[SocketId], ends: &[SimEnd]) -> u32
-    ensures { result ≡ greatest path.now (made.now ++ ids ends.now) }
+fn greatest(path: &SocketId, made: &SimMade, ends: &[SimEnd]) -> u32
+    ensures { result ≡ greatest path.now (made.now.sockets ++ ids ends.now) }
 {
-    let most = greatest_made(path, 0, made);
+    let most = made.greatest(path);
     greatest_waiting(path, most, ends)
 }
 
 // The next socket from here to there, after those that were made and those that wait; none where its turn
 // would pass 32 bits.
-fn next_socket(from: &Addr, to: &Addr, made: &[SocketId], ends: &[SimEnd]) -> Option<SocketId>
-    ensures { IfSome result (λ id. id ≡ socket_after (made.now ++ ids ends.now) from.now to.now) }
+fn next_socket(from: &Addr, to: &Addr, made: &SimMade, ends: &[SimEnd]) -> Option<SocketId>
+    ensures { IfSome result (λ id. id ≡ socket_after (made.now.sockets ++ ids ends.now) from.now to.now) }
 {
     let path = path(from, to);
     let Some(turn) = greatest(&path, made, ends).checked_add(1) else {
@@ -180,7 +162,7 @@ impl Port for SimPort {
     ghost seen = { λ p. p };
 
     fn made(&self) -> &SocketIdList {
-        &self.made
+        self.made.list()
     }
 
     fn missed(&self) -> u64 {
@@ -202,14 +184,13 @@ impl Port for SimPort {
         ensures connects { Connects (connect_map ⟦<SimEnd as End>⟧.seen result) to.now self.old self.new }
         ensures exact { OpensNext result to.now self.old }
     {
-        let Some(id) = next_socket(&self.at, to, self.made.as_slice(), self.waiting.as_slice())
-        else {
+        let Some(id) = next_socket(&self.at, to, &self.made, self.waiting.as_slice()) else {
             return Connect::NoMemory;
         };
-        if self.made.reserve(1).is_err() {
+        if self.made.reserve().is_err() {
             return Connect::NoMemory;
         }
-        self.made.push_reserved(id);
+        self.made.push(id);
         Connect::Made(SimEnd::new(self.alloc, id))
     }
 
@@ -218,14 +199,14 @@ impl Port for SimPort {
         ensures accepts { Accepts (taken_map ⟦<SimEnd as End>⟧.seen result) self.old self.new }
         ensures exact { NeverRefuses result }
     {
-        if self.made.reserve(1).is_err() {
+        if self.made.reserve().is_err() {
             return Taken::NoMemory;
         }
         let Some(end) = take_first(&mut self.waiting) else {
             self.quiet = true;
             return Taken::NotYet;
         };
-        self.made.push_reserved(end.id());
+        self.made.push(end.id());
         self.quiet = false;
         Taken::Made(end)
     }
@@ -238,10 +219,7 @@ impl Port for SimPort {
     }
 
     fn incoming(&mut self, id: SocketId) -> Result<(), NoMemory> {
-        if id.goes_to(&self.at)
-            && !is_among(&id, self.made.as_slice())
-            && !waits(&id, self.waiting.as_slice())
-        {
+        if id.goes_to(&self.at) && !self.made.has(&id) && !waits(&id, self.waiting.as_slice()) {
             self.waiting.push(SimEnd::new(self.alloc, id))?;
         }
         Ok(())

@@ -3,10 +3,12 @@
 ghost use Rattle.std.specs.Prelude.{◌≡◌, ◌+◌, ◌<◌, ◌≤◌, ◌++◌, length};
 ghost use Rattle.m2_bytes.specs.Blob.{Appends};
 ghost use Rattle.m2_frame.specs.Frame.{parts, count_of, Fits};
+ghost use Rattle.m2_frame.specs.View.{parts_seen};
 ghost use Rattle.m2_frame.specs.Text.{text_of, first_text, later_text, epilogue, epilogue_field, segment_crc, crc_field};
 
 use crate::frame::{Frame, MESSAGE_LIMIT};
 use crate::preamble::{PREAMBLE_BYTES, Preamble};
+use crate::view::FrameView;
 use m2_bytes::{Blob, NoMemory, put_u8, put_u32};
 use m2_crc::crc32c;
 
@@ -45,9 +47,9 @@ fn first_len(segment: &[u8]) -> usize
 }
 
 /// How many bytes the other segments have with the epilogue.
-fn later_len(f: &Frame) -> usize
-    requires { Fits (parts f.now) }
-    ensures { result ≡ length (later_text (parts f.now)) }
+fn later_len(f: &FrameView<'_>) -> usize
+    requires { Fits (parts_seen f.now) }
+    ensures { result ≡ length (later_text (parts_seen f.now)) }
 {
     if f.count() == 1 {
         return 0;
@@ -82,29 +84,40 @@ fn put_place(place: u8, count: u8, segment: &[u8], out: &mut Blob) -> Result<(),
 }
 
 /// Appends the epilogue.
-fn put_epilogue(f: &Frame, out: &mut Blob) -> Result<(), NoMemory>
+fn put_epilogue(f: &FrameView<'_>, out: &mut Blob) -> Result<(), NoMemory>
     requires { EPILOGUE_BYTES ≤ out.old.room }
-    ensures { Appends result out.old out.new (epilogue (parts f.now)) }
+    ensures { Appends result out.old out.new (epilogue (parts_seen f.now)) }
 {
     let count = f.count();
     put_u8(out, COMPLETE)?;
-    put_place(1, count, f.second.as_slice(), out)?;
-    put_place(2, count, f.third.as_slice(), out)?;
-    put_place(3, count, f.fourth.as_slice(), out)
+    put_place(1, count, f.second, out)?;
+    put_place(2, count, f.third, out)?;
+    put_place(3, count, f.fourth, out)
 }
 
 /// Where several segments are counted, appends the others and the epilogue.
-fn put_later(f: &Frame, out: &mut Blob) -> Result<(), NoMemory>
-    requires { length (later_text (parts f.now)) ≤ out.old.room }
-    ensures { Appends result out.old out.new (later_text (parts f.now)) }
+fn put_later(f: &FrameView<'_>, out: &mut Blob) -> Result<(), NoMemory>
+    requires { length (later_text (parts_seen f.now)) ≤ out.old.room }
+    ensures { Appends result out.old out.new (later_text (parts_seen f.now)) }
 {
     if f.count() < 2 {
         return Ok(());
     }
-    out.push_all(f.second.as_slice())?;
-    out.push_all(f.third.as_slice())?;
-    out.push_all(f.fourth.as_slice())?;
+    out.push_all(f.second)?;
+    out.push_all(f.third)?;
+    out.push_all(f.fourth)?;
     put_epilogue(f, out)
+}
+
+/// Appends the text of a frame in place, as [`encode`] does.
+pub fn encode_view(f: &FrameView<'_>, out: &mut Blob) -> Result<(), NoMemory>
+    requires { Fits (parts_seen f.now) }
+    ensures { Appends result out.old out.new (text_of (parts_seen f.now)) }
+{
+    out.reserve(PREAMBLE_BYTES + first_len(f.first) + later_len(f))?;
+    out.push_all(&Preamble::seen(f).write())?;
+    put_first(f.first, out)?;
+    put_later(f, out)
 }
 
 /// Appends the frame's text. There is one for each frame that [`fits`](crate::fits).
@@ -112,8 +125,5 @@ pub fn encode(f: &Frame, out: &mut Blob) -> Result<(), NoMemory>
     requires { Fits (parts f.now) }
     ensures { Appends result out.old out.new (text_of (parts f.now)) }
 {
-    out.reserve(PREAMBLE_BYTES + first_len(f.first.as_slice()) + later_len(f))?;
-    out.push_all(&Preamble::of(f).write())?;
-    put_first(f.first.as_slice(), out)?;
-    put_later(f, out)
+    encode_view(&f.view(), out)
 }

@@ -2,7 +2,9 @@
 
 ghost use Rattle.std.specs.Prelude.{◌≡◌, ◌==◌, ◌↔◌, IsTrue};
 ghost use Rattle.m2_frame.specs.Frame.{parts, count_of, message_tag, segment_limit, Fits};
+ghost use Rattle.m2_frame.specs.View.{parts_seen};
 
+use crate::view::FrameView;
 use crate::{FIRST_TAG, LAST_TAG, Tag};
 use m2_bytes::Blob;
 
@@ -47,19 +49,24 @@ pub(crate) fn limit_of(tag: u8) -> usize
 }
 
 impl Frame {
+    /// The frame in place.
+    pub fn view(&self) -> FrameView<'_>
+        ensures { parts_seen result ≡ parts self.now }
+    {
+        FrameView {
+            tag: self.tag,
+            first: self.first.as_slice(),
+            second: self.second.as_slice(),
+            third: self.third.as_slice(),
+            fourth: self.fourth.as_slice(),
+        }
+    }
+
     /// How many segments the frame has, 1 to 4.
     pub fn count(&self) -> u8
         ensures { result ≡ count_of (parts self.now) }
     {
-        if !self.fourth.is_empty() {
-            4
-        } else if !self.third.is_empty() {
-            3
-        } else if !self.second.is_empty() {
-            2
-        } else {
-            1
-        }
+        self.view().count()
     }
 }
 

@@ -5,6 +5,7 @@ ghost use Rattle.m2_frame.specs.Preamble.{number_at, preamble_in, last_length, i
 
 use crate::fault::FrameFault;
 use crate::frame::{Frame, MOST_SEGMENTS, is_message, limit_of};
+use crate::view::FrameView;
 use crate::{FIRST_TAG, LAST_TAG};
 use byteorder::{ByteOrder, LittleEndian};
 use m2_crc::crc32c;
@@ -38,12 +39,21 @@ pub struct Preamble {
 
 impl Preamble {
     ghost use Rattle.m2_frame.specs.Frame.{parts, Fits};
+    ghost use Rattle.m2_frame.specs.View.{parts_seen};
     ghost use Rattle.m2_frame.specs.Preamble.{preamble_of, read_preamble, preamble_text};
 
     /// The preamble of a frame.
     pub fn of(f: &Frame) -> Preamble
         requires { Fits (parts f.now) }
         ensures { result ≡ preamble_of (parts f.now) }
+    {
+        Preamble::seen(&f.view())
+    }
+
+    /// The preamble of a frame in place.
+    pub fn seen(f: &FrameView<'_>) -> Preamble
+        requires { Fits (parts_seen f.now) }
+        ensures { result ≡ preamble_of (parts_seen f.now) }
     {
         Preamble {
             tag: f.tag,

@@ -1,7 +1,7 @@
 //! A frame whose bytes lie elsewhere.
 
 ghost use Rattle.std.specs.Prelude.{◌≡◌, IfOk};
-ghost use Rattle.m2_frame.specs.Frame.{parts};
+ghost use Rattle.m2_frame.specs.Frame.{count_of, parts};
 
 use crate::frame::Frame;
 use m2_bytes::{Blob, NoMemory};
@@ -19,6 +19,21 @@ pub struct FrameView<'a> {
 
 impl FrameView<'_> {
     ghost use Rattle.m2_frame.specs.View.{parts_seen};
+
+    /// How many segments the frame has, 1 to 4.
+    pub fn count(&self) -> u8
+        ensures { result ≡ count_of (parts_seen self.now) }
+    {
+        if !self.fourth.is_empty() {
+            4
+        } else if !self.third.is_empty() {
+            3
+        } else if !self.second.is_empty() {
+            2
+        } else {
+            1
+        }
+    }
 
     /// The frame, each segment copied into memory of its own.
     pub fn copy(&self, alloc: Global) -> Result<Frame, NoMemory>

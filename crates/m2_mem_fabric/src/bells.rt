@@ -1,10 +1,15 @@
 //! Waking the event threads of a node.
 
-use m2_bytes::NoMemory;
+ghost use Rattle.std.specs.Prelude.{◌≡◌, ◌++◌, ◌∷◌, []};
+
+use m2_bytes::{NoMemory, Told};
 use std::alloc::Global;
-use std::sync::Wait;
+use std::sync::{Arc, Wait};
 use std::thread::Parker;
 use std::time::Duration;
+
+/// The mark of one ring, where contracts count them.
+const RING: u8 = 1;
 
 /// A bell for each port of a node. Whatever comes to the node rings them all, since the thread that reads
 /// an end needn't be the one whose port made it.
@@ -40,4 +45,14 @@ impl Bells {
             parker.park_timeout(rt, Duration::from_millis(most as u64));
         }
     }
+}
+
+/// Rings all of these bells, where there are any, and notes that for contracts.
+pub(crate) fn ring_all(bells: &Option<Arc<Bells, Global>>, rung: &mut Told)
+    ensures { rung.new.bytes ≡ rung.old.bytes ++ RING ∷ [] }
+{
+    if let Some(bells) = bells {
+        bells.ring();
+    }
+    *rung = Told::and(&*rung, &[RING]);
 }

@@ -24,7 +24,8 @@ use std::sync::Wait;
 /// A read gives as much as the piece holds of what it has. Once it has nothing it takes all that came, at
 /// once; NotYet is that nothing came, Ended that nothing came and the other end is closed or gone. A write
 /// is whole, unless it is longer than [`MOST_MOVED`], never answers NotYet, and fails once the other end is
-/// closed or gone. Either makes room in the log before a byte moves.
+/// closed or gone. Either makes room in the log before a byte moves, for what moves alone; a closed end gives
+/// its spare room back.
 #[derive(Drop)]
 pub struct MemEnd<R: Wait + Copy> {
     id: SocketId,
@@ -176,8 +177,11 @@ impl<R: Wait + Copy> End for MemEnd<R> {
     }
 
     fn close(&mut self) {
+        let alloc = *self.held.allocator();
         self.line = None;
+        self.held = BytesMut::new(alloc);
         self.log.note_close();
+        self.log.trim(alloc);
     }
 
     fn hear(&mut self, _bytes: &[u8], _news: News) -> Result<(), NoMemory> {

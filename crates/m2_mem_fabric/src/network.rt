@@ -1,15 +1,18 @@
 //! What all ports of a fabric share.
 
-ghost use Rattle.std.specs.Prelude.{◌≡◌, ◌<◌, length, IfSome};
-ghost use Rattle.m2_mem_fabric.specs.Network.{Admits, Opens, Takes};
+ghost use Rattle.std.specs.Prelude.{◌≡◌, ◌<◌, ◌++◌, ◌∷◌, [], length, IfSome, MatchOption};
+ghost use Rattle.std.specs.VecDeque.{deque_capacity, deque_len};
+ghost use Rattle.m2_mem_fabric.specs.Network.{Admits, IsNamed, Opens, Rings, Takes, names};
+ghost use Rattle.m2_ports.specs.Made.{next_socket};
+ghost use Rattle.m2_ports.specs.Port.{MakesNext};
 
-use crate::bells::Bells;
+use crate::bells::{Bells, ring_all};
 use crate::line::Line;
 use crate::plan::{EndPlan, Plan};
 use m2_addr::Addr;
-use m2_bytes::NoMemory;
+use m2_bytes::{NoMemory, Told};
 use m2_fabric::SocketId;
-use m2_ports::PortBook;
+use m2_ports::{FourNumbers, PortBook};
 use std::alloc::Global;
 use std::collections::VecDeque;
 use std::sync::{Arc, Wait};
@@ -34,15 +37,6 @@ struct Listener<R: Wait + Copy> {
     waiting: VecDeque<Arriving<R>>,
     /// Rung for the port that accepts, once there is one.
     bells: Option<Arc<Bells, Global>>,
-}
-
-impl<R: Wait + Copy> Listener<R> {
-    /// Wakes the port that accepts, if there is one.
-    fn ring(&self) {
-        if let Some(bells) = &self.bells {
-            bells.ring();
-        }
-    }
 }
 
 /// What a connect of a network gave.
@@ -76,6 +70,8 @@ pub(crate) struct Network<R: Wait + Copy> {
     numbered: u32,
     /// The last opener's port number.
     last_port: u16,
+    /// A mark for each ring of those that accept.
+    rung: Told,
 }
 
 /// The opener's port number after another, from 1 on.
@@ -103,7 +99,8 @@ fn place_of<R: Wait + Copy>(listeners: &[Listener<R>], number: u32) -> Option<us
 /// was at the opener.
 fn admit<R: Wait + Copy>(book: &mut PortBook, arriving: Arriving<R>) -> Taking<R>
     requires { 0 < book.old.room }
-    ensures { Admits result book.old.shows book.new.shows }
+    ensures admits { Admits result book.old.shows book.new.shows }
+    ensures named { IsNamed result arriving.id }
 {
     let (from, at) = (arriving.id, book.at());
     match book.next((from.from_ip, from.from_port, at.ip, at.port)) {
@@ -115,6 +112,29 @@ fn admit<R: Wait + Copy>(book: &mut PortBook, arriving: Arriving<R>) -> Taking<R
     }
 }
 
+/// Opens the next socket of these four numbers, whose acceptor's line waits last, under the same name. None where its
+/// turn would pass 32 bits; all is as before then.
+#[tactic(auto, using(crate::proofs::Names::named_last))]
+fn open_at<R: Wait + Copy>(
+    waiting: &mut VecDeque<Arriving<R>>,
+    book: &mut PortBook,
+    four: FourNumbers,
+    line: Line<R>,
+) -> Option<SocketId>
+    requires place { deque_len waiting.old < deque_capacity waiting.old }
+    requires room { 0 < book.old.room }
+    ensures next { IfSome result (λ id. id ≡ next_socket four book.old.shows.made) }
+    ensures made { MatchOption result (book.new.shows ≡ book.old.shows) (λ id. MakesNext id book.old.shows book.new.shows) }
+    ensures waits { MatchOption result (names waiting.new.items ≡ names waiting.old.items)
+        (λ id. names waiting.new.items ≡ names waiting.old.items ++ id ∷ []) }
+{
+    let Some(id) = book.open(four) else {
+        return None;
+    };
+    waiting.push_back_reserved(Arriving { id, line });
+    Some(id)
+}
+
 impl<R: Wait + Copy> Network<R> {
     /// Nobody listens, and no call is to fail. Takes no memory.
     pub(crate) fn new(alloc: Global) -> Network<R> {
@@ -124,6 +144,7 @@ impl<R: Wait + Copy> Network<R> {
             listeners: Vec::new(alloc),
             numbered: 0,
             last_port: 0,
+            rung: Told::nothing(),
         }
     }
 
@@ -160,8 +181,8 @@ impl<R: Wait + Copy> Network<R> {
         }
     }
 
-    /// Opens a socket of a node to an address, whose acceptor's line waits for an accept there. It comes
-    /// from the ip of the node and a port number that the network gives.
+    /// Opens a socket of a node to an address, whose acceptor's line waits for an accept there, and wakes the node that
+    /// listens there. It comes from the ip of the opener's node and a port number that the network gives.
     pub(crate) fn connect(
         &mut self,
         book: &mut PortBook,
@@ -170,7 +191,8 @@ impl<R: Wait + Copy> Network<R> {
         line: Line<R>,
     ) -> Opening
         requires { 0 < book.old.room }
-        ensures { Opens result to.now book.old.shows book.new.shows }
+        ensures opens { Opens result to.now book.old.shows book.new.shows }
+        ensures rings { Rings result self.old.rung.bytes self.new.rung.bytes }
     {
         if self.plan.connects.count() {
             return Opening::Refused;
@@ -184,11 +206,10 @@ impl<R: Wait + Copy> Network<R> {
         if listener.waiting.reserve(1).is_err() {
             return Opening::NoMemory;
         }
-        let Some(id) = book.open(four) else {
+        let Some(id) = open_at(&mut listener.waiting, book, four, line) else {
             return Opening::Refused;
         };
-        listener.waiting.push_back_reserved(Arriving { id, line });
-        listener.ring();
+        ring_all(&listener.bells, &mut self.rung);
         Opening::Opened(id, self.plan.opens(node))
     }
 

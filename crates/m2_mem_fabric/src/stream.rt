@@ -4,7 +4,7 @@ ghost use Rattle.std.specs.Prelude.{◌≡◌, ◌<◌, ◌≤◌, [], length};
 ghost use Rattle.m2_fabric.specs.declared.log.TheConstants.{MOST_MOVED};
 ghost use Rattle.m2_mem_fabric.specs.Stream.{Puts, TakesAll, after_abandoning, after_ending, nothing_flowed};
 
-use crate::bells::Bells;
+use crate::bells::{Bells, ring_all};
 use bytes::BytesMut;
 use m2_bytes::Told;
 use m2_fabric::{EndWrite, MOST_MOVED};
@@ -13,9 +13,9 @@ use std::marker::Model;
 use std::sync::Arc;
 
 /// One direction of a socket: the bytes that its writer put and its reader didn't take yet. It stands under
-/// a lock. Contracts see these bytes, whether each side is gone, and all bytes that were ever put and taken:
-/// whenever the lock is free, what was taken is a prefix of what was put, and the rest waits, unless the
-/// reader is gone.
+/// a lock. Contracts see these bytes, whether each side is gone, how often the reader was woken, and all bytes
+/// that were ever put and taken: whenever the lock is free, what was taken is a prefix of what was put, and the
+/// rest waits, unless the reader is gone.
 ///
 /// A reader takes all bytes at once and leaves its own empty buffer in their place, so no byte is moved
 /// while the lock is held; a writer copies its piece behind what waits.
@@ -30,6 +30,8 @@ pub(crate) struct Stream {
     bells: Option<Arc<Bells, Global>>,
     put: Told,
     taken: Told,
+    /// A mark for each ring.
+    rung: Told,
 }
 
 impl Model for Stream {
@@ -43,6 +45,7 @@ impl Model for Stream {
       waiting = s.waiting.items;
       ended = s.ended;
       abandoned = s.abandoned;
+      rung = s.rung.bytes;
     } };
 
     ghost invariant = { λ s. IsInOrder s.abandoned s.put.bytes s.taken.bytes s.waiting.items };
@@ -60,6 +63,7 @@ impl Stream {
             bells,
             put: Told::nothing(),
             taken: Told::nothing(),
+            rung: Told::nothing(),
         }
     }
 
@@ -79,7 +83,7 @@ impl Stream {
         self.waiting.extend_reserved(piece);
         self.put = Told::and(&self.put, piece);
         if dry {
-            self.ring();
+            ring_all(&self.bells, &mut self.rung);
         }
         EndWrite::Put(piece.len())
     }
@@ -99,7 +103,7 @@ impl Stream {
         ensures { self.new ≡ after_ending self.old }
     {
         self.ended = true;
-        self.ring();
+        ring_all(&self.bells, &mut self.rung);
     }
 
     /// The reader is gone, and what waited with it.
@@ -116,12 +120,5 @@ impl Stream {
         ensures { self.new ≡ self.old }
     {
         self.bells = Some(bells);
-    }
-
-    /// Wakes the reader, if there is one.
-    fn ring(&self) {
-        if let Some(bells) = &self.bells {
-            bells.ring();
-        }
     }
 }

@@ -1,14 +1,14 @@
-use Rattle.std.proofs.Common.{◌∙◌, ap, sym, [], get_or, take, ◌+◌}
-use Rattle.std.proofs.lemmas.List.Sums.{fold_more}
-use Rattle.m2_crc.specs.Crc.{crc_of}
-use Rattle.m2_crc.proofs.EightBytes.{by_pieces}
+use Rattle.std.proofs.Common.{◌≡◌, ◌/◌, ◌∙◌, length, arith}
+use Rattle.m2_crc.proofs.EightBytes.{two_more, last_one}
 use Rattle.m2_crc.proofs.checksum.after_words.Goals as goal
 
-pub loop-word-preserved : goal.loop-word-preserved
-loop-word-preserved c =
-    let words = c.args.words.now in
-    let i = c.loop-word.word-index in
+pub pairs-preserved : goal.pairs-preserved
+pairs-preserved c =
+    c.after_pair-state.ensures
+    ∙ two_more c.args.seed c.args.words.now c.pairs.i c.pairs.state c.pairs-test.true c.pairs.invariant
+
+pub returns-then-words-eq1 : goal.returns-then-words-eq1
+returns-then-words-eq1 c =
+    let half : c.pairs.i ≡ length c.args.words.now / 2 = omega (arith, c.pairs-test.false, c.pairs.auto.i-end) in
     c.after_word-state.ensures
-    ∙ ap (λ s. crc_of s (get_or words i [])) (c.loop-word.invariant ∙ sym (by_pieces (take i words) c.args.seed))
-    ∙ sym (fold_more crc_of c.args.seed words i [] c.loop-word-test.true)
-    ∙ by_pieces (take (i + 1) words) c.args.seed
+    ∙ last_one c.args.seed c.args.words.now c.pairs.i c.pairs.state half c.if-words-eq1.true c.pairs.invariant

@@ -1,5 +1,4 @@
 use Rattle.std.proofs.Common.{◌≡◌, List, [], ◌∷◌, ◌++◌, refl, sym, ap, ◌∙◌}
-use Rattle.m2_bytes.specs.Items.{Holding}
 use Rattle.m2_fabric.specs.End.{SeenEnd, fresh_end}
 use Rattle.m2_fabric.specs.declared.socket.SocketId.{SocketId}
 use Rattle.m2_fabric.specs.SimPort.{ids, socket_after}
@@ -11,13 +10,11 @@ returns-clause-connects c =
     let i = c.self.inside in
     let e = c.new.result in
     let to = c.args.to.now in
-    let next : c.in-Some.id ≡ socket_after (i.made.items ++ ids i.waiting.items) i.at to =
-    c.in-Some.ensures
-    ∙ ap (λ (xs : List SocketId). socket_after (xs ++ ids c.as_slice-2.result.now) i.at to) c.as_slice.ensures
-    ∙ ap (λ (xs : List SeenEnd). socket_after (i.made.items ++ ids xs) i.at to) c.as_slice-2.ensures.value in
-    let fresh : e ≡ fresh_end (socket_after (i.made.items ++ ids i.waiting.items) i.at to) = c.new.ensures ∙ ap fresh_end next in
-    let made : c.push_reserved.new.self.items ≡ i.made.items ++ e.id ∷ [] =
-    ap (λ (h : Holding SocketId). h.items) c.push_reserved.ensures
-    ∙ ap (λ (xs : List SocketId). xs ++ c.in-Some.id ∷ []) c.reserve.ensures.items
-    ∙ ap (λ (x : SeenEnd). i.made.items ++ x.id ∷ []) (sym c.new.ensures) in
-    rw (← c.self.view_is) (opened_is_new i.at to i.made.items i.waiting.items e fresh, rw fresh refl, rw made refl)
+    let next : c.in-Some.id ≡ socket_after (i.made.sockets ++ ids i.waiting.items) i.at to =
+    c.in-Some.ensures ∙ ap (λ (xs : List SeenEnd). socket_after (i.made.sockets ++ ids xs) i.at to) c.as_slice.ensures.value in
+    let fresh : e ≡ fresh_end (socket_after (i.made.sockets ++ ids i.waiting.items) i.at to) = c.new.ensures ∙ ap fresh_end next in
+    let made : c.push.new.self.sockets ≡ i.made.sockets ++ e.id ∷ [] =
+    c.push.ensures
+    ∙ ap (λ (xs : List SocketId). xs ++ c.in-Some.id ∷ []) c.reserve.ensures.same
+    ∙ ap (λ (x : SeenEnd). i.made.sockets ++ x.id ∷ []) (sym c.new.ensures) in
+    rw (← c.self.view_is) (opened_is_new i.at to i.made.sockets i.waiting.items e fresh, rw fresh refl, rw made refl)

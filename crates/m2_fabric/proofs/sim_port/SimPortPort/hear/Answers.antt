@@ -5,4 +5,4 @@ pub invariant_of-self : goal.invariant_of-self
 invariant_of-self c =
     let i = c.self.inside in
     let h = c.first_hears in
-    heard_stays i.at i.made.items i.waiting.items h.new.ends.items c.args.id.now c.args.news c.args.bytes.now h.result c.self.invariant h.ensures.ok h.ensures.err
+    heard_stays i.at i.made.sockets i.waiting.items h.new.ends.items c.args.id.now c.args.news c.args.bytes.now h.result c.self.invariant h.ensures.ok h.ensures.err
