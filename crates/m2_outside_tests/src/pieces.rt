@@ -64,6 +64,18 @@ fn read_some<E: End>(end: &mut E, piece: &mut [u8], most: usize) -> Option<usize
     }
 }
 
+/// How often an end is read again when all is done, so that it hands on what is unsent.
+const LAST_READS: u32 = 50;
+
+/// Reads where nothing comes, and waits a millisecond each time.
+fn linger<P: Port>(port: &mut P, end: &mut P::End) {
+    for _ in 0..LAST_READS {
+        if read(end, &mut [0u8; 1]) != EndRead::NotYet || port.poll(1).is_err() {
+            return;
+        }
+    }
+}
+
 /// Writes all these bytes in pieces of any length, and reads as many. Whether it was done.
 fn exchange<P: Port>(port: &mut P, end: &mut P::End, bytes: &[u8], seed: u64) -> bool {
     let mut piece = [0u8; LONGEST_PIECE];
@@ -71,6 +83,7 @@ fn exchange<P: Port>(port: &mut P, end: &mut P::End, bytes: &[u8], seed: u64) ->
     let (mut put, mut got) = (0usize, 0usize);
     for _ in 0..ROUNDS {
         if put >= bytes.len() && got >= bytes.len() {
+            linger(port, end);
             return true;
         }
         let wrote = write_from(end, bytes, put, next_length(&mut state));
