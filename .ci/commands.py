@@ -9,7 +9,7 @@ run here.
 import os, re, subprocess, sys, tempfile
 
 TOP = os.path.dirname(os.path.dirname(os.path.abspath(__file__)))
-PAGES = ("README.md", "docs/SCENARIOS.md", "docs/FRAMES.md")
+PAGES = ("README.md", "docs/SCENARIOS.md", "docs/FRAMES.md", "examples/pictures/README.md")
 BUILT = ("msgr2", "run_trace")  # that the gate has proved and built before
 MOST = 300  # seconds of one command
 NOT_RUN = {  # by their beginnings

@@ -2,8 +2,8 @@
 
 The trace of a scenario's run is what the built program crates/run_trace/out/run_trace prints. The replay is laid beside
 each trace, those of the scenarios of examples too: each line has to be the one that docs/PROTOCOL.md makes of its script;
-and tools/fates.py has to tell of so many posts that they wait as `sim` says are left. No two texts of a picture may lie on
-each other. Traces with one thing changed must be objected to: bad lines by tools/draw with their number and why, a trace
+and tools/fates.py has to tell of so many posts that they wait as `sim` says are left. NAME.words beside NAME.scenario has the
+words with which its picture is drawn. No two texts of a picture may lie on each other, whichever moments are left out. Traces with one thing changed must be objected to: bad lines by tools/draw with their number and why, a trace
 whose lines are all well formed by the replay, and another picture by the comparison.
 """
 import html, os, re, subprocess, sys, tempfile
@@ -14,6 +14,7 @@ import run_trace
 from fates import WAITS, Fates
 
 PICTURES = "examples/pictures"
+PAGE = "README.md"  # which shows them
 EXAMPLES = "examples"
 PROGRAM = "crates/run_trace/out/run_trace"
 SAMPLE = "crossing"
@@ -52,12 +53,21 @@ def traced(file):
     return ran([os.path.join(TOP, PROGRAM), file])
 
 
-def drawn(trace, room):
-    """What tools/draw makes of a trace."""
+def drawn(trace, room, words=()):
+    """What tools/draw makes of a trace, with these words before it."""
     file = os.path.join(room, "a.trace")
     with open(file, "wb") as out:
         out.write(trace)
-    return ran([sys.executable, os.path.join(TOP, "tools", "draw"), file])
+    return ran([sys.executable, os.path.join(TOP, "tools", "draw"), *words, file])
+
+
+def words_beside(file):
+    """The words with which the picture of a scenario is drawn."""
+    beside = f"{os.path.splitext(file)[0]}.words"
+    if not os.path.exists(beside):
+        return []
+    with open(beside, encoding="ascii") as words:
+        return words.read().split()
 
 
 def replayed(text):
@@ -103,10 +113,11 @@ def examples(folder, room):
             file = os.path.join(folder, name)
             trace = traced(file)
             said = untrue(file, trace)
-            status, picture, fault = drawn(trace[1], room)
             yield from [said] if said else []
-            yield from [f"{name}: tools/draw: status {status}: {fault}"] if status else []
-            yield from (f"{name}: {it}" for it in overlaps(picture))
+            for words in ([], ["--handshakes"], ["--from", "5", "--to", "12"]):
+                status, picture, fault = drawn(trace[1], room, words)
+                yield from [f"{name}: tools/draw: status {status}: {fault}"] if status else []
+                yield from (f"{name}: {' '.join(words)}: {it}" for it in overlaps(picture))
 
 
 def pictures(folder, room):
@@ -114,6 +125,8 @@ def pictures(folder, room):
     names = sorted(os.listdir(folder))
     for name in names:
         stem, kind = os.path.splitext(name)
+        if name == PAGE:
+            continue
         if kind != ".scenario":
             if f"{stem}.scenario" not in names:
                 yield f"{name}: stands beside no scenario"
@@ -124,7 +137,7 @@ def pictures(folder, room):
         if said:
             yield said
             continue
-        status, picture, said = drawn(trace[1], room)
+        status, picture, said = drawn(trace[1], room, words_beside(file))
         if (status, said) != (0, ""):
             yield f"{name}: tools/draw: status {status}: {said}"
         yield from (f"{name}: {it}" for it in overlaps(picture))

@@ -322,16 +322,16 @@ class Fates:
             side.phase = "standby" if is_idle and self.causes[event] != "answered WAIT" else "wait"
 
     def cause(self, event, side):
-        """Why an end was closed. A trace says `taken` behind any judgement of an ask on another socket."""
+        """Why an end was closed."""
         socket, node, said = event.socket, event.node, " ".join(event.words[1:])
         end = socket.ends[node]
-        before = side.before
-        if said == "taken" and before is not None and before.what == "judged":
-            if before.words[8] in TAKES and before.row is event.row:
-                return f"gave way to {before.socket.name}"
-            if before.words[8] == "reset_pending" and before.row is event.row:
-                return f"{PENDING} at {node}, as {side.peer} asked to go on with a session,"
-        if said in ("failed", "taken"):
+        if said == "taken":
+            if side.before is None or side.before.what != "judged":
+                raise BadTrace(event.line, "no ask was judged for which this end gives way")
+            return f"gave way to {side.before.socket.name}"
+        if said == "pending":
+            return f"{PENDING} at {node}, as {side.peer} asked to go on with a session,"
+        if said == "failed":
             other = socket.other(node)
             return "fault" if end.failed else "cut" if end.cut else "the other end was closed" if other.closed else "failed"
         return {"ended": "the other end was closed", "waited": "answered WAIT", "refused": "refused", "down": "marked down"}.get(said, said)

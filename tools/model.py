@@ -69,7 +69,7 @@ class Node:
         """A trace has a close right behind the judgement that it follows in the journal, whatever a half writes in between."""
         self.tell("journal", record.peer.name, *words)
         told, line = self.run.told, self.run.told[-1]
-        if words[-1] == "taken" and self.last_lines.get(record) in told:
+        if words[-1] in ("taken", "pending") and self.last_lines.get(record) in told:
             told.insert(told.index(self.last_lines[record]) + 1, told.pop())
         self.last_lines[record] = line
 

@@ -229,10 +229,8 @@ class Record:
         self.was_marked_down = False
         self.steps = self.posts = 0  # of the plan that were taken
         self.parcels = []  # what is ready for the dispatchers
-        self.last_told = ("",)  # the entry that was told last
 
     def tell(self, *words):
-        self.last_told = words
         self.node.tell_entry(self, [str(word) for word in words])
 
     # ---- the plan ("A scenario's script")
@@ -263,11 +261,9 @@ class Record:
     # ---- the effects ("Steps")
 
     def close(self, cause):
-        """A trace says `taken` of a close behind the judgement of an ask on another socket, whatever came of that."""
         if self.feed is not None:
             self.feed.closed = True
-            is_behind_another = self.last_told[0] == "judged" and self.last_told[2] != self.feed.name
-            self.tell("closed", self.feed.name, "taken" if is_behind_another else cause)
+            self.tell("closed", self.feed.name, cause)
         self.feed = self.signing = self.uncounted = None
         self.give_back()
 

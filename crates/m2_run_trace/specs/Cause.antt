@@ -5,6 +5,9 @@ use Rattle.m2_fabric.specs.Log.{Log}
 use Rattle.m2_fabric.specs.Sockets.{same_socket}
 use Rattle.m2_journal.specs.declared.entry.Entry.{Entry}
 use Rattle.m2_journal.specs.declared.entry.Entry.TheVariants as entry
+use Rattle.m2_session.specs.declared.answer.Answer.{Answer}
+use Rattle.m2_session.specs.declared.answer.Answer.TheVariants as answer
+use Rattle.m2_session.specs.SessionLaws.{takes}
 use Rattle.m2_run_trace.specs.declared.cause.TheConstants.{MISSING, MISSING_LENGTH, WAIT, WAIT_LENGTH}
 use Rattle.m2_trace.specs.Words.{Text}
 
@@ -28,10 +31,15 @@ abbrev pub cause_at : Option Log → Text
 cause_at (Some log) = cause_by log
 cause_at None = []
 
--- of a session's end on a socket, by the entry before the one that tells of it: a mark-down, or that another socket was taken
+-- behind the judgement of an ask on another socket: that one was taken, or the end was given up for it
+abbrev pub cause_of_answer : Answer → Option Log → Text
+cause_of_answer answer.ResetPending log = codes " pending"
+cause_of_answer answer log = if takes answer then codes " taken" else cause_at log
+
+-- of a session's end on a socket, by the entry before the one that tells of it: a mark-down, or a judgement on another socket
 abbrev pub cause_in_journal : (before : Option Entry) → SocketId → Option Log → Text
 cause_in_journal (Some (entry.Down planned)) socket log = codes " down"
-cause_in_journal (Some (entry.Judged other ask number answer)) socket log = if same_socket other socket then cause_at log else codes " taken"
+cause_in_journal (Some (entry.Judged other ask number answer)) socket log = if same_socket other socket then cause_at log else cause_of_answer answer log
 cause_in_journal _ socket log = cause_at log
 
 -- of a half, by whether its ask was judged in this turn

@@ -3,11 +3,12 @@
 ghost use Rattle.std.specs.Prelude.{◌≡◌};
 ghost use Rattle.std.specs.Option.{option_copied};
 ghost use Rattle.m2_fabric.specs.Log.{log_of};
-ghost use Rattle.m2_run_trace.specs.Cause.{begins_frame, cause_at, cause_by, cause_in_journal, cause_of_half, ends_in_frame};
+ghost use Rattle.m2_run_trace.specs.Cause.{begins_frame, cause_at, cause_by, cause_in_journal, cause_of_answer, cause_of_half, ends_in_frame};
 ghost use Rattle.m2_run_trace.specs.Telling.{seen_log};
 
 use m2_fabric::{EndLog, SocketId};
 use m2_journal::Entry;
+use m2_session::Answer;
 
 /// A WAIT: its first byte on the wire, and its length.
 const WAIT: u8 = 16;
@@ -30,14 +31,30 @@ pub(crate) fn cause_in_journal(
 {
     match before {
         Some(Entry::Down { planned: _ }) => b" down",
-        Some(Entry::Judged { socket: other, .. }) => {
+        Some(Entry::Judged { socket: other, answer, .. }) => {
             if other.is_same(socket) {
                 cause_at(log)
             } else {
-                b" taken"
+                cause_of_answer(answer, log)
             }
         }
         _ => cause_at(log),
+    }
+}
+
+/// The same behind the judgement of an ask on another socket, by its answer.
+fn cause_of_answer(answer: &Answer, log: Option<&EndLog>) -> &'static [u8]
+    ensures { result.now ≡ cause_of_answer answer.now (seen_log log.entry) }
+{
+    match answer {
+        Answer::ResetPending => b" pending",
+        other => {
+            if other.takes_socket() {
+                b" taken"
+            } else {
+                cause_at(log)
+            }
+        }
     }
 }
 
