@@ -6,7 +6,8 @@ sys.dont_write_bytecode = True  # nothing is left in this folder
 import copy_crates
 
 RUNS = 7
-ROWS = [(128, 16_000_000, 0.6), (65_536, 128_000_000, 0.8)]  # bytes a piece, bytes in all, the wanted rate over C's
+# bytes a piece, pieces a turn, bytes in all, the wanted rate over C's, which writes and reads each piece by itself
+ROWS = [(128, 1, 16_384_000, 0.6), (128, 512, 65_536_000, 2.0), (65_536, 1, 131_072_000, 0.8)]
 FIRST_PORT = 21_800
 CRATES = ["m2_bytes", "m2_addr", "m2_edge", "m2_fabric"]
 SYSTEM = ("m2_mio", "MioFabric::new(rt, alloc)")
@@ -29,7 +30,7 @@ def build(folder, fabric):
         file.write("m2_loopback: " + " ".join(crates) + "\n")
     subprocess.run(["git", "init", "-q", folder], check=True)
     crate = os.path.join(folder, "crates", "m2_loopback")
-    words = ["rt", "run", "--", str(FIRST_PORT), "128", "1"]
+    words = ["rt", "run", "--", str(FIRST_PORT), "128", "1", "1"]
     done = subprocess.run(words, cwd=crate, stdout=subprocess.PIPE, stderr=subprocess.STDOUT, text=True)
     program = os.path.join(crate, "out", "m2_loopback")
     if done.returncode != 0 or not os.path.exists(program):
@@ -37,9 +38,9 @@ def build(folder, fabric):
     return program
 
 
-def run(program, port, size, count):
+def run(program, *words):
     """Seconds of one run, by its own clock."""
-    words = [program, str(port), str(size), str(count)]
+    words = [program, *map(str, words)]
     return int(subprocess.run(words, stdout=subprocess.PIPE, check=True, text=True).stdout) / 1e9
 
 
@@ -53,18 +54,19 @@ def main():
             words = [os.environ.get("CC", "cc"), "-O2", *flags, "-o", programs[-1], os.path.join(BENCH, "loopback.c")]
             subprocess.run(words, check=True)
         programs.append(build(inner, THREADS))
-        print("bytes a piece   MB/s   over C   over C with a log   in memory, MB/s")
+        print("bytes a piece   pieces a turn   MB/s   over C   over C with a log   in memory, MB/s")
         port = FIRST_PORT
-        for size, total, wanted in ROWS:
+        for size, times, total, wanted in ROWS:
             count = total // size
             best = [float("inf")] * len(programs)
             for _ in range(RUNS):
                 for i, program in enumerate(programs):
                     port += 1
-                    best[i] = min(best[i], run(program, port, size, count))
+                    words = [size, count] if 0 < i < 3 else [size, times, count // times]
+                    best[i] = min(best[i], run(program, port, *words))
             ours, plain, logged, memory = best
             mark = "" if plain / ours >= wanted else "   missed"
-            print(f"{size:13,} {count * size / 1e6 / ours:6.0f} {plain / ours:8.2f} {logged / ours:19.2f} {count * size / 1e6 / memory:17.0f}{mark}")
+            print(f"{size:13,} {times:15,} {count * size / 1e6 / ours:6.0f} {plain / ours:8.2f} {logged / ours:19.2f} {count * size / 1e6 / memory:17.0f}{mark}")
 
 
 main()

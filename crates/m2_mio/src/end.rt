@@ -1,58 +1,164 @@
 //! An end of a socket of the system.
 
-ghost use Rattle.std.specs.Prelude.{◌≡◌, ◌<◌, false, length};
+ghost use Rattle.std.specs.Prelude.{◌≡◌, ◌<◌, ◌≤◌, false, length, take};
 ghost use Rattle.m2_fabric.specs.End.{LeavesPiece, Reads, Writes};
-ghost use Rattle.m2_mio.specs.End.{fresh_mio_end};
+ghost use Rattle.m2_mio.specs.End.{Asks, TakesWhole, fresh_mio_end, unsent};
+ghost use Rattle.m2_mio.specs.Stream.{IsWriteOf, answers_of};
 
-use crate::stream::{read_once, write_once};
+use crate::stream::{Asked, receive, send};
 use m2_bytes::NoMemory;
 use m2_edge::Count;
 use m2_fabric::{End, EndLog, EndRead, EndWrite, MOST_MOVED, News, SocketId};
 use mio::net::TcpStream;
 use std::alloc::Global;
+use std::io::Write;
 use std::marker::Model;
 
-/// An end of a socket of the system. Contracts see what every end shows, and nothing of what will be
-/// readable.
+/// With so many bytes unsent, a write has the system take some first.
+const MOST_UNSENT: usize = 65_536;
+
+/// An end of a socket of the system. Contracts see what every end shows, nothing of what will be readable,
+/// how many of the bytes that were put the system has taken, and what it answered.
 ///
-/// A read or a write makes room in the log first, calls the system once, and notes what it answered:
-/// that it would have to wait is NotYet, no more bytes is Ended, every other error is Failed. Closing
-/// gives the socket back to the system.
-#[derive(Debug, Drop)]
+/// A read makes room in the log first, asks the system once, and notes what it answered: that it would have
+/// to wait is NotYet, no more bytes is Ended, every other error is Failed. What a signal interrupts is asked
+/// again, a thousand times at most, and then answered NotYet.
+///
+/// A write takes its whole piece, as far as one call moves it, into the log, which is the buffer; the end keeps
+/// how much of it was sent. What is unsent is handed to the system, in one call, by the end's next
+/// [`read`](End::read), by a write that finds 65,536 such bytes or more, and by [`close`](End::close). Where
+/// the system takes a part, the rest stays unsent. So whoever writes and waits for an answer reads before it
+/// waits, and a turn that ends without a read leaves what it wrote until the next one. An end that is closed
+/// while the system takes no more lets go of the rest, and so does one that is dropped: the other side reads a
+/// first part of what was put. Once the system refused what is handed to it, each write is Failed.
+///
+/// Closing gives the socket back to the system, and spare room of the log.
+#[derive(Drop)]
 pub struct MioEnd {
+    alloc: Global,
     id: SocketId,
     log: EndLog,
     faults: Count,
     /// None once it is closed.
     stream: Option<TcpStream>,
+    /// How many bytes of what was put the system has taken. The others are unsent.
+    sent: usize,
+    /// The system has refused a write.
+    broken: bool,
+    asked: Asked,
 }
 
 impl Model for MioEnd {
-    ghost use Rattle.std.specs.Prelude.{None};
-    ghost use Rattle.m2_fabric.specs.End.{SeenEnd};
+    ghost use Rattle.std.specs.Prelude.{◌≡◌, None, is_none};
     ghost use Rattle.m2_fabric.specs.Log.{log_of};
+    ghost use Rattle.m2_mio.specs.End.{IsHandedOn, MioSeen};
+    ghost use Rattle.m2_mio.specs.Stream.{answers_of};
 
-    ghost Value = { SeenEnd };
+    ghost Value = { MioSeen };
 
-    ghost view = { λ e. record { id = e.id; log = log_of e.log; faults = e.faults; inflow = None } };
+    ghost view = { λ e. record {
+      shows = record { id = e.id; log = log_of e.log; faults = e.faults; inflow = None };
+      sent = e.sent;
+      answers = answers_of e.asked;
+    } };
+
+    ghost invariant = { λ e. (e.log.closed ≡ is_none e.stream) × IsHandedOn (log_of e.log) e.sent (answers_of e.asked) };
+}
+
+/// Hands the bytes behind the first `sent` to the system, in one call, where there are any. Whether the system didn't
+/// refuse.
+#[tactic(auto, using(crate::proofs::Handed::more_is_taken, crate::proofs::Handed::nothing_is_taken))]
+fn hand_on<S: Write>(stream: &mut S, asked: &mut Asked, put: &[u8], sent: &mut usize) -> bool
+    requires within { sent.old ≤ length put.now }
+    requires taken { (answers_of asked.old).taken ≡ take sent.old put.now }
+    ensures within { sent.new ≤ length put.now }
+    ensures taken { (answers_of asked.new).taken ≡ take sent.new put.now }
+    ensures given { (answers_of asked.new).given ≡ (answers_of asked.old).given }
+    ensures reads { (answers_of asked.new).reads ≡ (answers_of asked.old).reads }
+{
+    let (_, rest) = put.split_at(*sent);
+    if rest.is_empty() {
+        return true;
+    }
+    match send(stream, asked, rest) {
+        EndWrite::Put(n) => {
+            *sent += n;
+            true
+        }
+        EndWrite::NotYet => true,
+        EndWrite::Failed | EndWrite::NoMemory => false,
+    }
 }
 
 impl MioEnd {
     /// An end of a socket, before its first call. Takes no memory.
     pub(crate) fn new(alloc: Global, id: SocketId, stream: TcpStream) -> MioEnd
-        ensures { result ≡ fresh_mio_end id }
+        ensures { result.shows ≡ fresh_mio_end id }
     {
         MioEnd {
+            alloc,
             id,
             log: EndLog::new(alloc),
             faults: Count::new(),
             stream: Some(stream),
+            sent: 0,
+            broken: false,
+            asked: Asked::nothing(),
         }
+    }
+
+    /// Hands what is unsent to the system, where the end is open. Whether the end can still be written.
+    fn hand_over(&mut self) -> bool
+        ensures same { self.new.shows ≡ self.old.shows }
+        ensures reads { self.new.answers.reads ≡ self.old.answers.reads }
+    {
+        let Some(stream) = &mut self.stream else {
+            return false;
+        };
+        if self.broken {
+            return false;
+        }
+        if !hand_on(
+            stream,
+            &mut self.asked,
+            self.log.put.as_slice(),
+            &mut self.sent,
+        ) {
+            self.broken = true;
+        }
+        !self.broken
+    }
+
+    /// How many bytes are unsent.
+    fn unsent(&self) -> usize
+        ensures { result ≡ unsent self.now }
+    {
+        self.log.put.len() - self.sent
+    }
+
+    /// How much a write takes of a piece that isn't empty.
+    fn take_piece(&mut self, bytes: &[u8]) -> EndWrite
+        requires { 0 < length bytes.now }
+        ensures same { self.new.shows ≡ self.old.shows }
+        ensures reads { self.new.answers.reads ≡ self.old.answers.reads }
+        ensures count { IsWriteOf result bytes.now }
+        ensures whole { TakesWhole result bytes.now self.new }
+    {
+        if self.unsent() >= MOST_UNSENT && !self.hand_over() {
+            return EndWrite::Failed;
+        }
+        if self.stream.is_none() || self.broken {
+            return EndWrite::Failed;
+        }
+        if self.unsent() >= MOST_UNSENT {
+            return EndWrite::NotYet;
+        }
+        EndWrite::Put(bytes.len().min(MOST_MOVED))
     }
 }
 
 impl End for MioEnd {
-    ghost seen = { λ e. e };
+    ghost seen = { λ e. e.shows };
 
     fn id(&self) -> SocketId {
         self.id
@@ -66,18 +172,21 @@ impl End for MioEnd {
         self.faults.get()
     }
 
+    #[tactic(auto, using(crate::proofs::Handed::read_is_handed_on, crate::proofs::Handed::asked_once))]
     fn read(&mut self, into: &mut [u8]) -> EndRead
         requires piece { 0 < length into.old }
-        requires open { self.old.log.closed ≡ false }
-        ensures reads { Reads result into.new self.old self.new }
+        requires open { self.old.shows.log.closed ≡ false }
+        ensures reads { Reads result into.new self.old.shows self.new.shows }
         ensures piece { LeavesPiece result into.old into.new }
+        ensures asks { Asks result self.old self.new }
     {
+        let _ = self.hand_over();
         if self.log.reserve_read(into.len().min(MOST_MOVED)).is_err() {
             return EndRead::NoMemory;
         }
         let answer = match &mut self.stream {
-            Some(stream) => read_once(stream, into),
-            None => EndRead::Failed,
+            Some(stream) => receive(stream, &mut self.asked, into),
+            None => unreachable!(),
         };
         self.log.note_read(answer, into);
         if answer == EndRead::Failed {
@@ -86,18 +195,17 @@ impl End for MioEnd {
         answer
     }
 
+    #[tactic(auto, using(crate::proofs::Handed::write_is_handed_on, crate::proofs::Handed::whole_after))]
     fn write(&mut self, bytes: &[u8]) -> EndWrite
         requires piece { 0 < length bytes.now }
-        requires open { self.old.log.closed ≡ false }
-        ensures { Writes result bytes.now self.old self.new }
+        requires open { self.old.shows.log.closed ≡ false }
+        ensures writes { Writes result bytes.now self.old.shows self.new.shows }
+        ensures whole { TakesWhole result bytes.now self.new }
     {
+        let answer = self.take_piece(bytes);
         if self.log.reserve_write(bytes.len().min(MOST_MOVED)).is_err() {
             return EndWrite::NoMemory;
         }
-        let answer = match &mut self.stream {
-            Some(stream) => write_once(stream, bytes),
-            None => EndWrite::Failed,
-        };
         self.log.note_write(answer, bytes);
         if answer == EndWrite::Failed {
             self.faults.add();
@@ -106,8 +214,10 @@ impl End for MioEnd {
     }
 
     fn close(&mut self) {
+        let _ = self.hand_over();
         self.stream = None;
         self.log.note_close();
+        self.log.trim(self.alloc);
     }
 
     fn hear(&mut self, _bytes: &[u8], _news: News) -> Result<(), NoMemory> {

@@ -16,7 +16,7 @@ use m2_fabric::{Connect, End, News, Port, SocketId, SocketIdList, Taken};
 use m2_ports::PortBook;
 use mio::net::{TcpListener, TcpStream};
 use std::alloc::Global;
-use std::io::ErrorKind;
+use std::io::{Error, ErrorKind};
 use std::marker::Model;
 use std::net::Net;
 
@@ -26,6 +26,9 @@ use std::net::Net;
 /// connect waits for the other side's answer, but no longer than [`CONNECT_WAIT`](crate::CONNECT_WAIT):
 /// where there is none by then, a socket is made whose calls answer NotYet, and Failed once it is refused.
 /// A port for which the system refused the means of waiting fails at every connect, accept and poll.
+///
+/// An accept for which there is no descriptor is no failure: what waits goes on waiting, the accept answers
+/// NotYet, and the next poll waits no longer than a hundredth of a second, so that it is tried again.
 #[derive(Drop)]
 pub struct MioPort<R: Copy> {
     rt: R,
@@ -34,7 +37,19 @@ pub struct MioPort<R: Copy> {
     /// None where the system refused it.
     means: Option<Means>,
     listener: Option<TcpListener>,
+    /// The last accept wanted a descriptor.
+    wanting: bool,
 }
+
+/// The system's number for a process that has no more descriptors.
+const NO_DESCRIPTOR: i32 = 24;
+
+/// The system's number for having none itself.
+const NO_DESCRIPTOR_AT_ALL: i32 = 23;
+
+/// How long a poll waits at most where an accept wanted a descriptor, in milliseconds: the system doesn't tell
+/// again of what waits.
+const WANTING_WAIT: u32 = 10;
 
 /// What a port waits with: for all of its sockets, and for one that is being opened.
 #[derive(Drop)]
@@ -68,7 +83,17 @@ enum Accepted {
     /// A stream, and the ip and port that it comes from.
     Stream(TcpStream, (u32, u16)),
     Nothing,
+    /// There is no descriptor for what waits.
+    Wanting,
     Failed,
+}
+
+/// Whether an accept wanted a descriptor.
+fn wants_descriptor(e: &Error) -> bool {
+    match e.raw_os_error() {
+        Some(code) => code == NO_DESCRIPTOR || code == NO_DESCRIPTOR_AT_ALL,
+        None => false,
+    }
 }
 
 /// Puts a stream among the sockets that are waited for, and has the system send small pieces at once.
@@ -86,6 +111,7 @@ fn accept_once(means: &Option<Means>, listener: &Option<TcpListener>) -> Accepte
     let (mut stream, peer) = match listener.accept() {
         Ok(accepted) => accepted,
         Err(e) if e.kind() == ErrorKind::WouldBlock => return Accepted::Nothing,
+        Err(e) if wants_descriptor(&e) => return Accepted::Wanting,
         Err(_) => return Accepted::Failed,
     };
     match ip_and_port(&peer) {
@@ -142,6 +168,7 @@ impl<R: Net + Copy> MioPort<R> {
             book: PortBook::new(alloc, at),
             means,
             listener: None,
+            wanting: false,
         })
     }
 
@@ -227,6 +254,7 @@ impl<R: Net + Copy> Port for MioPort<R> {
             return Taken::NotYet;
         }
         let at = self.book.at();
+        self.wanting = false;
         match accept_once(&self.means, &self.listener) {
             Accepted::Stream(stream, from) => {
                 match enter(&mut self.book, self.alloc, stream, from, &at) {
@@ -244,6 +272,11 @@ impl<R: Net + Copy> Port for MioPort<R> {
                 self.book.set_quiet(true);
                 Taken::NotYet
             }
+            Accepted::Wanting => {
+                self.wanting = true;
+                self.book.set_quiet(true);
+                Taken::NotYet
+            }
             Accepted::Failed => {
                 self.book.refuse();
                 Taken::Failed
@@ -252,6 +285,11 @@ impl<R: Net + Copy> Port for MioPort<R> {
     }
 
     fn poll(&mut self, most: u32) -> Result<(), Failed> {
+        let most = if self.wanting {
+            most.min(WANTING_WAIT)
+        } else {
+            most
+        };
         let waited = match &mut self.means {
             Some(means) => means.all.wait(most),
             None => false,

@@ -45,6 +45,9 @@ fn read_up<P: Port>(port: &mut P, end: &mut P::End, piece: &mut [u8]) -> EndRead
     EndRead::NotYet
 }
 
+/// How many bytes an end writes before it closes: so many a socket of the system takes at once.
+const BEFORE_A_CLOSE: usize = 30_000;
+
 /// Whether what an end writes before it closes is read at the other to its end, and no fault counted.
 pub(crate) fn what_was_written_before_a_close_is_read<F: Fabric>(
     rt: &impl Abort,
@@ -54,7 +57,7 @@ pub(crate) fn what_was_written_before_a_close_is_read<F: Fabric>(
 ) -> bool {
     let mut link = link_up(rt, fabric, at);
     let mut piece = [0u8; 3_000];
-    let count = write_from(&mut link.opener, bytes, 0, bytes.len());
+    let count = write_from(&mut link.opener, bytes, 0, BEFORE_A_CLOSE);
     link.opener.close();
     let last = read_up(&mut link.accepting, &mut link.acceptor, &mut piece);
     let (wrote, _) = bytes.split_at(count.min(bytes.len()));
@@ -153,10 +156,29 @@ pub(crate) fn what_comes_ends_a_wait<F: Fabric, R: Clock + Abort>(
     let start = Instant::now(rt).expect(rt, "a clock");
     let mut byte = [0u8; 1];
     let put = write(&mut link.opener, &[7]) == EndWrite::Put(1);
+    let nothing = read(&mut link.opener, &mut byte) == EndRead::NotYet; // it hands the byte on
     let got = read_next(&mut link.accepting, &mut link.acceptor, &mut byte, 20_000);
     link.opener.close();
     let ended = read_next(&mut link.accepting, &mut link.acceptor, &mut byte, 20_000);
     let took = start.elapsed(rt).expect(rt, "a clock");
     let told = got == EndRead::Got(1) && ended == EndRead::Ended;
-    put && told && took < Duration::from_millis(10_000)
+    put && nothing && told && took < Duration::from_millis(10_000)
+}
+
+/// Whether a connect ends the wait of the port where it arrives, which would last twenty seconds.
+pub(crate) fn a_connect_ends_a_wait<F: Fabric, R: Clock + Abort>(
+    rt: &R,
+    fabric: &mut F,
+    at: &Addr,
+) -> bool {
+    fabric.listen(0, at).expect(rt, "a listener");
+    let mut accepting = only_port(rt, fabric, 0);
+    let mut opening = only_port(rt, fabric, 1);
+    let nobody = accepts_nobody(&mut accepting);
+    let start = Instant::now(rt).expect(rt, "a clock");
+    let opener = connected(rt, &mut opening, at);
+    accepting.poll(20_000).expect(rt, "a wait");
+    let took = start.elapsed(rt).expect(rt, "a clock");
+    let acceptor = accepted(rt, &mut accepting);
+    nobody && are_of_one_socket(&opener, &acceptor) && took < Duration::from_millis(10_000)
 }

@@ -1,6 +1,7 @@
-//! What sockets do where one call is made to fail: that call fails alone and is counted.
+//! What sockets do where one call is made to fail: that call fails alone and is counted. And where an end is gone.
 
-use crate::socket_ends::{accepted, connected, here, link_up, only_port, read, write};
+use crate::socket_ends::{Linked, accepted, connected, here, link_up, only_port, read, write};
+use m2_addr::Addr;
 use m2_fabric::{Connect, End, EndRead, EndWrite, Fabric, Port, Taken};
 use std::process::Abort;
 
@@ -67,4 +68,32 @@ pub(crate) fn first_write_fails<F: Fabric>(rt: &impl Abort, fabric: &mut F) -> b
     let second = write(&mut link.opener, &[4]) == EndWrite::Put(1);
     let counted = link.opener.faults() == 1 && link.opener.log().put.as_slice() == [4u8].as_slice();
     other && second_socket && first && second && counted
+}
+
+/// Lets go of an end.
+fn let_go<E: End>(_gone: E) {}
+
+/// Lets go of an end. Whether the other one reads that nothing more will come, and fails to write.
+fn is_told<E: End>(gone: E, other: &mut E) -> bool {
+    let_go(gone);
+    let ended = read(other, &mut [0u8; 1]) == EndRead::Ended;
+    let refused = write(other, &[7]) == EndWrite::Failed;
+    ended && refused && other.faults() == 1
+}
+
+/// Whether an end that is dropped without a close ends the socket for the other one, whichever of the two it is.
+pub(crate) fn an_end_that_is_gone_is_told<F: Fabric>(
+    rt: &impl Abort,
+    fabric: &mut F,
+    at: &Addr,
+) -> bool {
+    let Linked {
+        mut opening,
+        mut accepting,
+        opener,
+        mut acceptor,
+    } = link_up(rt, fabric, at);
+    let mut other_opener = connected(rt, &mut opening, at);
+    let other_acceptor = accepted(rt, &mut accepting);
+    is_told(opener, &mut acceptor) && is_told(other_acceptor, &mut other_opener)
 }

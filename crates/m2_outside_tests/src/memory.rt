@@ -1,13 +1,13 @@
 //! Sockets in memory between threads.
 
 use crate::facts::{
-    a_connect_where_nobody_listens_fails, a_node_that_was_gathered_accepts_again,
-    bytes_pass_both_ways, waiting_takes_no_processor, what_comes_ends_a_wait,
-    what_was_written_before_a_close_is_read,
+    a_connect_ends_a_wait, a_connect_where_nobody_listens_fails,
+    a_node_that_was_gathered_accepts_again, bytes_pass_both_ways, waiting_takes_no_processor,
+    what_comes_ends_a_wait, what_was_written_before_a_close_is_read,
 };
 use crate::failing::{
-    first_accept_fails, first_write_fails, second_connect_fails, second_listen_fails,
-    second_poll_fails, second_read_fails,
+    an_end_that_is_gone_is_told, first_accept_fails, first_write_fails, second_connect_fails,
+    second_listen_fails, second_poll_fails, second_read_fails,
 };
 use crate::pieces::{FOUR_MEGABYTES, noise};
 use crate::socket_ends::here;
@@ -37,6 +37,8 @@ fn waits_in_memory(rt: HostRuntime) {
     let mut fabric = MemFabric::new(rt, rt.alloc()).expect(&rt, "memory");
     assert!(rt; waiting_takes_no_processor(&rt, &mut fabric, &here(1)));
     assert!(rt; what_comes_ends_a_wait(&rt, &mut fabric, &here(2)));
+    assert!(rt; a_connect_ends_a_wait(&rt, &mut fabric, &here(3)));
+    assert!(rt; an_end_that_is_gone_is_told(&rt, &mut fabric, &here(4)));
 }
 
 /// A fabric in memory of whose calls one is to fail.

@@ -64,16 +64,27 @@ fn read_some<E: End>(end: &mut E, piece: &mut [u8], most: usize) -> Option<usize
     }
 }
 
-/// Writes all these bytes in pieces of any length, and reads as many. Whether it was done.
+/// The bytes that may be written by now: the last one only once all but one of as many were read. So whoever reads the
+/// other side's last byte knows that of its own just the last may be under way.
+fn writable(bytes: &[u8], got: usize) -> &[u8] {
+    if got.saturating_add(1) >= bytes.len() {
+        return bytes;
+    }
+    let (now, _) = bytes.split_at(bytes.len() - 1);
+    now
+}
+
+/// Writes all these bytes in pieces of any length, and reads as many, as the other side does at once. Whether it was
+/// done. A last read hands on what is unsent, for which there is room then.
 fn exchange<P: Port>(port: &mut P, end: &mut P::End, bytes: &[u8], seed: u64) -> bool {
     let mut piece = [0u8; LONGEST_PIECE];
     let mut state = seed;
     let (mut put, mut got) = (0usize, 0usize);
     for _ in 0..ROUNDS {
         if put >= bytes.len() && got >= bytes.len() {
-            return true;
+            return read(end, &mut piece) == EndRead::NotYet;
         }
-        let wrote = write_from(end, bytes, put, next_length(&mut state));
+        let wrote = write_from(end, writable(bytes, got), put, next_length(&mut state));
         let Some(read) = read_some(end, &mut piece, next_length(&mut state)) else {
             return false;
         };

@@ -2,9 +2,9 @@
 //! side and again.
 
 use crate::facts::{
-    a_connect_where_nobody_listens_fails, a_node_that_was_gathered_accepts_again,
-    bytes_pass_both_ways, waiting_takes_no_processor, what_comes_ends_a_wait,
-    what_was_written_before_a_close_is_read,
+    a_connect_ends_a_wait, a_connect_where_nobody_listens_fails,
+    a_node_that_was_gathered_accepts_again, bytes_pass_both_ways, waiting_takes_no_processor,
+    what_comes_ends_a_wait, what_was_written_before_a_close_is_read,
 };
 use crate::pieces::{FOUR_MEGABYTES, noise};
 use crate::socket_ends::here;
@@ -40,4 +40,5 @@ fn waits_over_loopback(rt: HostRuntime) {
     let mut fabric = MioFabric::new(rt, rt.alloc());
     assert!(rt; waiting_takes_no_processor(&rt, &mut fabric, &unused(&rt)));
     assert!(rt; what_comes_ends_a_wait(&rt, &mut fabric, &unused(&rt)));
+    assert!(rt; a_connect_ends_a_wait(&rt, &mut fabric, &unused(&rt)));
 }

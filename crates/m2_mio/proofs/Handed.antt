@@ -1,0 +1,75 @@
+-- The bytes that an end got are those that the system gave, and those that the system took are the first that were put.
+use Rattle.std.proofs.Common.{◌≡◌, ℕ, ◌+◌, ◌≤◌, zero, suc, List, [], ◌∷◌, ◌++◌, length, take, drop, refl, sym, ap, ◌∙◌, arith, append-nil}
+use Rattle.std.proofs.lemmas.List.{length-append, take-append-le}
+use Rattle.m2_fabric.specs.Log.{Log, after_read, after_write}
+use Rattle.m2_fabric.specs.declared.end.EndRead.{EndRead}
+use Rattle.m2_fabric.specs.declared.end.EndRead.TheVariants as read
+use Rattle.m2_fabric.specs.declared.end.EndWrite.{EndWrite}
+use Rattle.m2_fabric.specs.declared.end.EndWrite.TheVariants as write
+use Rattle.m2_mio.specs.End.{Asks, TakesWhole, IsHandedOn, MioSeen}
+use Rattle.m2_mio.specs.Stream.{Answers, IsReadOf, after_reading, mark_of}
+
+-- ---- a read, noted as it was answered
+
+nothing_more : (a : List ℕ) (got : List ℕ) → a ≡ got → a ++ [] ≡ got
+nothing_more a got h = append-nil a ∙ h
+
+pub read_is_handed_on : (answer : EndRead) (piece : List ℕ) (log : Log) (sent : ℕ) (a : Answers) → IsHandedOn log sent a
+    → IsHandedOn (after_read answer piece log) sent (after_reading answer piece a)
+read_is_handed_on (read.Got n) piece log sent a h = record { within = h.within; got = ap (λ l. l ++ take n piece) h.got; taken = h.taken }
+read_is_handed_on read.NotYet piece log sent a h = record { within = h.within; got = nothing_more a.given log.got h.got; taken = h.taken }
+read_is_handed_on read.Ended piece log sent a h = record { within = h.within; got = nothing_more a.given log.got h.got; taken = h.taken }
+read_is_handed_on read.Failed piece log sent a h = record { within = h.within; got = nothing_more a.given log.got h.got; taken = h.taken }
+read_is_handed_on read.NoMemory piece log sent a h = record { within = h.within; got = nothing_more a.given log.got h.got; taken = h.taken }
+
+-- ---- a write, noted
+
+longer : (sent : ℕ) (put more : List ℕ) → sent ≤ length put → sent ≤ length (put ++ more)
+longer sent put more h = omega (arith, h, length-append put more)
+
+pub write_is_handed_on : (answer : EndWrite) (piece : List ℕ) (log : Log) (sent : ℕ) (a : Answers) → IsHandedOn log sent a
+    → IsHandedOn (after_write answer piece log) sent a
+write_is_handed_on (write.Put n) piece log sent a h = record {
+  within = longer sent log.put (take n piece) h.within;
+  got = h.got;
+  taken = h.taken ∙ sym (take-append-le sent log.put (take n piece) h.within);
+}
+write_is_handed_on write.NotYet piece log sent a h = record { within = h.within; got = h.got; taken = h.taken }
+write_is_handed_on write.Failed piece log sent a h = record { within = h.within; got = h.got; taken = h.taken }
+write_is_handed_on write.NoMemory piece log sent a h = record { within = h.within; got = h.got; taken = h.taken }
+
+-- ---- what is unsent is handed on
+
+take-nil : (k : ℕ) (l : List ℕ) → l ≡ [] → take k l ≡ []
+take-nil zero l h = refl
+take-nil (suc k) [] h = refl
+take-nil (suc k) (x ∷ l) h = absurd (cc)
+
+pub take_more : (n k : ℕ) (xs : List ℕ) → take (n + k) xs ≡ take n xs ++ take k (drop n xs)
+take_more zero k xs = ap (λ m. take m xs) (let e : zero + k ≡ k = omega arith in e)
+take_more (suc n) k [] = take-nil (suc n + k) [] refl ∙ sym (take-nil k [] refl)
+take_more (suc n) k (x ∷ xs) =
+    ap (λ m. take m (x ∷ xs)) (let e : suc n + k ≡ suc (n + k) = omega arith in e) ∙ ap (λ l. x ∷ l) (take_more n k xs)
+
+pub more_is_taken : (n sent : ℕ) (put taken : List ℕ) → taken ≡ take sent put → taken ++ take n (drop sent put) ≡ take (sent + n) put
+more_is_taken n sent put taken h = ap (λ l. l ++ take n (drop sent put)) h ∙ sym (take_more sent n put)
+
+pub nothing_is_taken : (sent : ℕ) (put taken : List ℕ) → taken ≡ take sent put → taken ++ [] ≡ take sent put
+nothing_is_taken sent put taken h = append-nil taken ∙ h
+
+-- ---- what a call answers
+
+pub whole_after : (answer : EndWrite) (piece : List ℕ) (mid new : MioSeen) → new.shows.log ≡ after_write answer piece mid.shows.log → new.sent ≡ mid.sent
+    → TakesWhole answer piece mid → TakesWhole answer piece new
+whole_after (write.Put n) piece mid new e s g = g
+whole_after write.NotYet piece mid new e s g = rw (e, s) g
+whole_after write.Failed piece mid new e s g = g
+whole_after write.NoMemory piece mid new e s g = g
+
+pub asked_once : (answer : EndRead) (piece : List ℕ) (old new : MioSeen) → IsReadOf answer piece
+    → new.answers.reads ≡ old.answers.reads ++ mark_of answer ∷ [] → Asks answer old new
+asked_once (read.Got n) piece old new r h = h
+asked_once read.NotYet piece old new r h = h
+asked_once read.Ended piece old new r h = h
+asked_once read.Failed piece old new r h = h
+asked_once read.NoMemory piece old new r h = absurd r
