@@ -31,7 +31,13 @@ pub(crate) fn cause_in_journal(
 {
     match before {
         Some(Entry::Down { planned: _ }) => b" down",
-        Some(Entry::Judged { socket: other, answer, .. }) => {
+        Some(
+            Entry::Judged {
+                socket: other,
+                answer,
+                ..
+            },
+        ) => {
             if other.is_same(socket) {
                 cause_at(log)
             } else {
