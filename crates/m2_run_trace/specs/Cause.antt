@@ -31,10 +31,14 @@ abbrev pub cause_at : Option Log → Text
 cause_at (Some log) = cause_by log
 cause_at None = []
 
+-- the answer gives up the socket on which this side has asked
+abbrev pub gives_up : Answer → Bool
+gives_up answer.ResetPending = true
+gives_up _ = false
+
 -- behind the judgement of an ask on another socket: that one was taken, or the end was given up for it
 abbrev pub cause_of_answer : Answer → Option Log → Text
-cause_of_answer answer.ResetPending log = codes " pending"
-cause_of_answer answer log = if takes answer then codes " taken" else cause_at log
+cause_of_answer answer log = if gives_up answer then codes " pending" else if takes answer then codes " taken" else cause_at log
 
 -- of a session's end on a socket, by the entry before the one that tells of it: a mark-down, or a judgement on another socket
 abbrev pub cause_in_journal : (before : Option Entry) → SocketId → Option Log → Text

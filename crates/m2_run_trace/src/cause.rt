@@ -3,7 +3,8 @@
 ghost use Rattle.std.specs.Prelude.{◌≡◌};
 ghost use Rattle.std.specs.Option.{option_copied};
 ghost use Rattle.m2_fabric.specs.Log.{log_of};
-ghost use Rattle.m2_run_trace.specs.Cause.{begins_frame, cause_at, cause_by, cause_in_journal, cause_of_answer, cause_of_half, ends_in_frame};
+ghost use Rattle.m2_run_trace.specs.Cause.{begins_frame, cause_at, cause_by, cause_in_journal, cause_of_answer, cause_of_half, ends_in_frame, gives_up};
+ghost use Rattle.m2_session.specs.SessionLaws.{takes};
 ghost use Rattle.m2_run_trace.specs.Telling.{seen_log};
 
 use m2_fabric::{EndLog, SocketId};
@@ -52,16 +53,36 @@ pub(crate) fn cause_in_journal(
 fn cause_of_answer(answer: &Answer, log: Option<&EndLog>) -> &'static [u8]
     ensures { result.now ≡ cause_of_answer answer.now (seen_log log.entry) }
 {
-    match answer {
-        Answer::ResetPending => b" pending",
-        other => {
-            if other.takes_socket() {
-                b" taken"
-            } else {
-                cause_at(log)
-            }
-        }
+    if gives_up(answer) {
+        b" pending"
+    } else if takes(answer) {
+        b" taken"
+    } else {
+        cause_at(log)
     }
+}
+
+/// Whether the answer gives up the socket on which this side has asked.
+fn gives_up(answer: &Answer) -> bool
+    ensures { result ≡ gives_up answer.now }
+{
+    matches!(answer, Answer::ResetPending)
+}
+
+/// Whether the answer takes the socket of the ask.
+fn takes(answer: &Answer) -> bool
+    ensures { result ≡ takes answer.now }
+{
+    matches!(
+        answer,
+        Answer::Accept
+            | Answer::AcceptOver
+            | Answer::AcceptReset { full: _ }
+            | Answer::AcceptAgain
+            | Answer::AcceptReplace
+            | Answer::AcceptRace
+            | Answer::Resume
+    )
 }
 
 /// The same of a half. `judged` tells whether its ask was judged in this turn.
