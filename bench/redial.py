@@ -6,12 +6,14 @@ RUNS = 3
 LEFT = 8  # the status with posts that are left
 MOST_GROWTH = 2.3  # of the time, from a number of rounds to twice as many
 MOST_MB = 100
+MOST_OF_A_LINE = 10000  # rounds of one settle line
 
 
 def scenario(rounds):
     lines = ["node a osd 127.0.0.1:7001/1", "node b osd 127.0.0.1:7002/2", "link a b lossless_peer lossless_peer", "cut a b 600"]
-    lines += ["post a b 1 127 61 - -", "post b a 1 127 62 - -", f"settle {rounds}", ""]
-    return "\n".join(lines)
+    lines += ["post a b 1 127 61 - -", "post b a 1 127 62 - -"]
+    lines += [f"settle {min(MOST_OF_A_LINE, rounds - done)}" for done in range(0, rounds, MOST_OF_A_LINE)]
+    return "\n".join([*lines, ""])
 
 
 def run(words):
