@@ -3,7 +3,7 @@
 The trace of a scenario's run is what the built program crates/run_trace/out/run_trace prints. The replay is laid beside
 each trace, those of the scenarios of examples too: each line has to be the one that docs/PROTOCOL.md makes of its script;
 and tools/fates.py has to tell of so many posts that they wait as `sim` says are left. NAME.words beside NAME.scenario has the
-words with which its picture is drawn. No two texts of a picture may lie on each other, whichever moments are left out. Traces with one thing changed must be objected to: bad lines by tools/draw with their number and why, a trace
+words with which its picture is drawn, and NAME.scenario.stderr what `sim` says on standard error. No two texts of a picture may lie on each other, whichever moments are left out. Traces with one thing changed must be objected to: bad lines by tools/draw with their number and why, a trace
 whose lines are all well formed by the replay, and another picture by the comparison.
 """
 import html, os, re, subprocess, sys, tempfile
@@ -128,7 +128,7 @@ def pictures(folder, room):
         if name == PAGE:
             continue
         if kind != ".scenario":
-            if f"{stem}.scenario" not in names:
+            if f"{stem}.scenario" not in names and not (kind == ".stderr" and stem in names):
                 yield f"{name}: stands beside no scenario"
             continue
         file = os.path.join(folder, name)
