@@ -1,6 +1,7 @@
 -- The bytes that an end got are those that the system gave, and those that the system took are the first that were put.
-use Rattle.std.proofs.Common.{◌≡◌, ℕ, ◌+◌, ◌≤◌, zero, suc, List, [], ◌∷◌, ◌++◌, length, take, drop, refl, sym, ap, ◌∙◌, arith, append-nil}
+use Rattle.std.proofs.Common.{◌≡◌, ℕ, ◌+◌, ◌≤◌, List, [], ◌∷◌, ◌++◌, length, take, drop, sym, ap, ◌∙◌, arith, append-nil}
 use Rattle.std.proofs.lemmas.List.{length-append, take-append-le}
+use Rattle.std.proofs.Math.Seq.{take-add}
 use Rattle.m2_fabric.specs.Log.{Log, after_read, after_write}
 use Rattle.m2_fabric.specs.declared.end.EndRead.{EndRead}
 use Rattle.m2_fabric.specs.declared.end.EndRead.TheVariants as read
@@ -40,19 +41,8 @@ write_is_handed_on write.NoMemory piece log sent a h = record { within = h.withi
 
 -- ---- what is unsent is handed on
 
-take-nil : (k : ℕ) (l : List ℕ) → l ≡ [] → take k l ≡ []
-take-nil zero l h = refl
-take-nil (suc k) [] h = refl
-take-nil (suc k) (x ∷ l) h = absurd (cc)
-
-pub take_more : (n k : ℕ) (xs : List ℕ) → take (n + k) xs ≡ take n xs ++ take k (drop n xs)
-take_more zero k xs = ap (λ m. take m xs) (let e : zero + k ≡ k = omega arith in e)
-take_more (suc n) k [] = take-nil (suc n + k) [] refl ∙ sym (take-nil k [] refl)
-take_more (suc n) k (x ∷ xs) =
-    ap (λ m. take m (x ∷ xs)) (let e : suc n + k ≡ suc (n + k) = omega arith in e) ∙ ap (λ l. x ∷ l) (take_more n k xs)
-
 pub more_is_taken : (n sent : ℕ) (put taken : List ℕ) → taken ≡ take sent put → taken ++ take n (drop sent put) ≡ take (sent + n) put
-more_is_taken n sent put taken h = ap (λ l. l ++ take n (drop sent put)) h ∙ sym (take_more sent n put)
+more_is_taken n sent put taken h = ap (λ l. l ++ take n (drop sent put)) h ∙ sym (take-add sent n put)
 
 pub nothing_is_taken : (sent : ℕ) (put taken : List ℕ) → taken ≡ take sent put → taken ++ [] ≡ take sent put
 nothing_is_taken sent put taken h = append-nil taken ∙ h
