@@ -124,7 +124,7 @@ class End:
         return self.known
 
     def coming(self):
-        """How many bytes the throttle is asked for, of a MESSAGE that is next and whose preamble was read; else None."""
+        """How many bytes a MESSAGE asks for that is next and whose preamble was read; else None. A half takes it for a fault."""
         if self.taken == 0 or self.got - self.taken < wire.PREAMBLE or self.source[self.taken] != MESSAGE:
             return None
         return sum(wire.length_of(bytes(self.source[self.taken : self.taken + wire.PREAMBLE]))[1][1:])
@@ -685,6 +685,8 @@ class Half:
             before = self.signing
             self.signing = shake_hands(self.end, ACCEPTOR, before)
             return MOVED if self.signing > before else None
+        if self.end.coming() is not None:
+            return FAULT
         ask = self.end.front()
         if ask is None:
             return None

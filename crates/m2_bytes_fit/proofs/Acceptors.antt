@@ -1,6 +1,6 @@
 -- An acceptor that is fed the front of what an opener writes is asked just the asks among its frames, in order, and writes its
 -- welcome and its replies.
-use Rattle.std.proofs.Common.{◌≡◌, ℕ, ◌<◌, ◌^◌, ◌⊎◌, inl, inr, List, [], ◌∷◌, ◌++◌, length, drop, map, Option, Some, None, Result, Ok, Err, refl, sym, ap, ◌∙◌, subst, append_assoc, append-nil}
+use Rattle.std.proofs.Common.{◌≡◌, ℕ, ◌<◌, ◌^◌, ◌==◌, ◌⊎◌, inl, inr, List, [], ◌∷◌, ◌++◌, length, drop, map, Option, Some, None, Result, Ok, Err, refl, sym, ap, ◌∙◌, subst, append_assoc, append-nil}
 use Rattle.std.specs.List.{AllByRecursion, flat_map}
 use Rattle.std.proofs.lemmas.List.{map-append}
 use Rattle.std.proofs.lemmas.Grind.{flat_map-append}
@@ -9,11 +9,11 @@ use Rattle.m2_feed.specs.m2_addr.declared.addr.Addr.{Addr}
 use Rattle.m2_feed.specs.m2_control.declared.control.Control.{Control}
 use Rattle.m2_feed.specs.m2_control.declared.control.Control.TheVariants as control
 use Rattle.m2_feed.specs.m2_control.Laws.{HasAddrRanges}
-use Rattle.m2_feed.specs.m2_frame.Frame.{Parts}
-use Rattle.m2_feed.specs.m2_frame.Reading.{whole, start, text, judge}
+use Rattle.m2_feed.specs.m2_frame.Frame.{Parts, message_tag}
 use Rattle.m2_feed.specs.m2_frame.Text as frame
 use Rattle.m2_feed.specs.m2_handshake.declared.ask.Ask.{Ask}
 use Rattle.m2_feed.specs.m2_handshake.declared.fault.HalfFault.{HalfFault}
+use Rattle.m2_feed.specs.m2_handshake.declared.fault.HalfFault.TheVariants.{Unexpected}
 use Rattle.m2_feed.specs.m2_handshake.declared.stage.HalfSide.{HalfSide}
 use Rattle.m2_feed.specs.m2_handshake.declared.stage.HalfSide.TheVariants.{Acceptor}
 use Rattle.m2_feed.specs.m2_handshake.declared.stage.Stage.{Stage}
@@ -25,11 +25,14 @@ use Rattle.m2_feed.specs.m2_handshake.Course.{course_move_at, course_move, signe
 use Rattle.m2_feed.specs.m2_handshake.Greeting.{greeting, welcome}
 use Rattle.m2_feed.specs.m2_handshake.Laws.{IsPrefix, GoesOnTo}
 use Rattle.m2_feed.specs.m2_handshake.Moves.{Move, stays, quiet, writes, signs, asks, fails, take_frame, after_asking, read_held, refuse_held}
+use Rattle.m2_feed.specs.m2_handshake.Reading.{Found, refused, framed, found_in}
 use Rattle.m2_feed.specs.m2_handshake.Standing.{Standing, fed, fed_at, acceptor_at_start}
 use Rattle.m2_feed.specs.m2_handshake.Texts.{frame_text, IsReply}
 use Rattle.m2_feed.proofs.m2_handshake.Course.{feeds, next, ways}
 use Rattle.m2_feed.proofs.m2_handshake.Greeting.{at, payload_read, signs_there}
+use Rattle.m2_feed.proofs.m2_handshake.Leading.{either}
 use Rattle.m2_feed.proofs.m2_handshake.Reaching.{fed_twice}
+use Rattle.m2_feed.proofs.m2_handshake.Sizes.{as_sent, found_nothing, found_sent}
 use Rattle.m2_feed.specs.m2_journal.OutFrames as out
 use Rattle.m2_feed.specs.m2_journal.OutFrames.{OutFrame, client_ident_of}
 use Rattle.m2_feed.specs.m2_journal.SideFacts.{SideFacts}
@@ -39,7 +42,6 @@ use Rattle.m2_never_reset.specs.Fits.{ask_by}
 use Rattle.m2_never_reset.specs.Frames.{ask_of}
 use Rattle.m2_trail.specs.Asks.{facts_of_ask}
 use Rattle.m2_bytes_fit.specs.Texts.{texts_of}
-use Rattle.m2_bytes_fit.proofs.Fronts.{is_judged}
 use Rattle.m2_bytes_fit.proofs.Says.{CanBeWritten, part, text_made, writable}
 use Rattle.m2_feed.proofs.m2_lemmas.Lists.{all_back, empty_front}
 
@@ -113,10 +115,6 @@ MovesSo f ws (signs b) = ⊥
 MovesSo f ws (asks a b) = AsksFirst f ws a b
 MovesSo f ws (fails x) = Unit {0}
 
-judge_nothing : judge [] ≡ start
-unfolding judge
-judge_nothing = refl
-
 abbrev IsIn : Stage → Type 0
 IsIn Authed = Unit {0}
 IsIn Ended = Unit {0}
@@ -132,15 +130,17 @@ hand_in f Asked held rest ws i h = absurd i
 hand_in f (Faulty x) held rest ws i h = absurd i
 
 takes_so : (f : SideFacts) (ws : List OutFrame) (s : Standing) → AllByRecursion (CanBeWritten f) ws → s.side ≡ Acceptor → IsIn s.stage →
-    s.rest ≡ texts_of f ws → MovesSo f ws (take_frame s (judge s.rest))
-takes_so f [] s k side i e = subst (λ r. MovesSo f [] (take_frame s (judge r))) (sym e) (subst (λ x. MovesSo f [] (take_frame s x)) (sym judge_nothing) tt)
+    s.rest ≡ texts_of f ws → MovesSo f ws (take_frame s (found_in s.rest))
+takes_so f [] s k side i e = subst (λ r. MovesSo f [] (take_frame s (found_in r))) (sym e) (subst (λ x. MovesSo f [] (take_frame s x)) (sym found_nothing) tt)
 takes_so f (w ∷ ws) s k side i e =
     let t = frame.text_of (part f w) in
     let is : s.rest ≡ t ++ texts_of f ws = e ∙ ap (λ l. l ++ texts_of f ws) (text_made f w k.0) in
-    let front : judge s.rest ≡ text (whole (part f w)) (length t) = ap judge is ∙ is_judged (part f w) (writable f w k.0) (texts_of f ws) in
+    let sent = writable f w k.0 in
+    let front : found_in s.rest ≡ as_sent (part f w) (length t) = ap found_in is ∙ found_sent (part f w) (texts_of f ws) sent.fits sent.bytes in
     let left : drop (length t) s.rest ≡ texts_of f ws = ap (drop (length t)) is ∙ drop-append_seam t (texts_of f ws) in
     subst (λ x. MovesSo f (w ∷ ws) (take_frame s x)) (sym front)
-    (record { side = side; before = hand_in f s.stage (Some (part f w)) (drop (length t) s.rest) (w ∷ ws) i (refl, left) })
+    (either (λ (x : Found). MovesSo f (w ∷ ws) (take_frame s x)) ((part f w).tag == message_tag) (refused (Unexpected message_tag)) (framed (part f w) (length t)) tt
+    (record { side = side; before = hand_in f s.stage (Some (part f w)) (drop (length t) s.rest) (w ∷ ws) i (refl, left) }))
 
 after_so : (f : SideFacts) (w : OutFrame) (ws : List OutFrame) (s : Standing) (r : Result (Ask × Addr) HalfFault) → s.side ≡ Acceptor →
     s.rest ≡ texts_of f ws → AsksAs w r → MovesSo f (w ∷ ws) (after_asking s r)

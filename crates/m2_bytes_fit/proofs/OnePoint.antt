@@ -5,7 +5,7 @@ use Rattle.std.proofs.lemmas.List.{take-append-drop}
 use Rattle.std.specs.List.{AllByRecursion}
 use Rattle.std.proofs.lemmas.Bool.{ltb-true}
 use Rattle.m2_feed.specs.m2_crc.Crc.{after_byte, shifted, shifted_by}
-use Rattle.m2_feed.specs.m2_frame.Reading.{judge, judge_first, judge_later, judge_epilogue}
+use Rattle.m2_feed.specs.m2_frame.Reading.{judge, judge_first, judge_later, judge_epilogue, size_of}
 use Rattle.m2_feed.specs.m2_frame.Preamble.{read_preamble, preamble_text}
 use Rattle.m2_feed.specs.m2_frame.Text.{segment_crc, text_of}
 use Rattle.m2_feed.specs.m2_control.Fields.{bounded_at, cookie_at, flag_at, numbers_at, list_at, string_at, vector_field}
@@ -126,7 +126,7 @@ no_more xs ys e = (ys, sym (ap (λ l. l ++ ys) e))
 -- ---- what each has got the other has put
 
 near_has_got : IsPrefix (got_at near one) (put_at far one)
-unfolding near far text_of preamble_text segment_crc after_byte shifted shifted_by judge judge_first judge_later judge_epilogue read_preamble bounded_at cookie_at flag_at numbers_at list_at string_at vector_field tail_at head_at socket_at body_of shape_at addresses_at vector_at header_text
+unfolding near far text_of preamble_text segment_crc after_byte shifted shifted_by judge judge_first judge_later judge_epilogue size_of read_preamble bounded_at cookie_at flag_at numbers_at list_at string_at vector_field tail_at head_at socket_at body_of shape_at addresses_at vector_at header_text
 near_has_got = ([], refl)
 
 -- behind its ask the opener has written nothing yet
@@ -193,7 +193,7 @@ silent_fits a k s j t = record {
 }
 
 near_judged : (k : SocketId) → (judged_at near k ≡ []) × (takings_on k near.entries ≡ [])
-unfolding near text_of preamble_text segment_crc after_byte shifted shifted_by judge judge_first judge_later judge_epilogue read_preamble bounded_at cookie_at flag_at numbers_at list_at string_at vector_field tail_at head_at socket_at body_of shape_at addresses_at vector_at header_text
+unfolding near text_of preamble_text segment_crc after_byte shifted shifted_by judge judge_first judge_later judge_epilogue size_of read_preamble bounded_at cookie_at flag_at numbers_at list_at string_at vector_field tail_at head_at socket_at body_of shape_at addresses_at vector_at header_text
 near_judged k = (refl, refl)
 
 near_half_fits : (k : SocketId) → HalfFits near k
@@ -212,30 +212,30 @@ unfolding its_course exchange
 comes = let r = ran (fed (begins name) half.got) in record { events = (course_of (fed (begins name) half.got) []).events; runs = r.runs; replies = r.no_replies; text = refl; asks = refl }
 
 far_judged : judged_at far one ≡ of_first
-unfolding far text_of preamble_text segment_crc after_byte shifted shifted_by judge judge_first judge_later judge_epilogue read_preamble bounded_at cookie_at flag_at numbers_at list_at string_at vector_field tail_at head_at socket_at body_of shape_at addresses_at vector_at header_text
+unfolding far text_of preamble_text segment_crc after_byte shifted shifted_by judge judge_first judge_later judge_epilogue size_of read_preamble bounded_at cookie_at flag_at numbers_at list_at string_at vector_field tail_at head_at socket_at body_of shape_at addresses_at vector_at header_text
 far_judged = refl
 
 its_asks : map facts_of_ask exchange.asks ≡ first_ask ∷ []
-unfolding its_course exchange text_of preamble_text segment_crc after_byte shifted shifted_by judge judge_first judge_later judge_epilogue read_preamble bounded_at cookie_at flag_at numbers_at list_at string_at vector_field tail_at head_at socket_at body_of shape_at addresses_at vector_at header_text
+unfolding its_course exchange text_of preamble_text segment_crc after_byte shifted shifted_by judge judge_first judge_later judge_epilogue size_of read_preamble bounded_at cookie_at flag_at numbers_at list_at string_at vector_field tail_at head_at socket_at body_of shape_at addresses_at vector_at header_text
 its_asks = refl
 
 its_text : exchange.text ≡ half.put
-unfolding its_course exchange text_of preamble_text segment_crc after_byte shifted shifted_by judge judge_first judge_later judge_epilogue read_preamble bounded_at cookie_at flag_at numbers_at list_at string_at vector_field tail_at head_at socket_at body_of shape_at addresses_at vector_at header_text
+unfolding its_course exchange text_of preamble_text segment_crc after_byte shifted shifted_by judge judge_first judge_later judge_epilogue size_of read_preamble bounded_at cookie_at flag_at numbers_at list_at string_at vector_field tail_at head_at socket_at body_of shape_at addresses_at vector_at header_text
 its_text = refl
 
 its_end : (its_course.standing.stage ≡ Asked) × (its_course.standing.rest ≡ [])
-unfolding its_course text_of preamble_text segment_crc after_byte shifted shifted_by judge judge_first judge_later judge_epilogue read_preamble bounded_at cookie_at flag_at numbers_at list_at string_at vector_field tail_at head_at socket_at body_of shape_at addresses_at vector_at header_text
+unfolding its_course text_of preamble_text segment_crc after_byte shifted shifted_by judge judge_first judge_later judge_epilogue size_of read_preamble bounded_at cookie_at flag_at numbers_at list_at string_at vector_field tail_at head_at socket_at body_of shape_at addresses_at vector_at header_text
 its_end = (refl, refl)
 
 far_unopened : is_among one (state_of far).opened ≡ false
-unfolding far text_of preamble_text segment_crc after_byte shifted shifted_by judge judge_first judge_later judge_epilogue read_preamble bounded_at cookie_at flag_at numbers_at list_at string_at vector_field tail_at head_at socket_at body_of shape_at addresses_at vector_at header_text
+unfolding far text_of preamble_text segment_crc after_byte shifted shifted_by judge judge_first judge_later judge_epilogue size_of read_preamble bounded_at cookie_at flag_at numbers_at list_at string_at vector_field tail_at head_at socket_at body_of shape_at addresses_at vector_at header_text
 far_unopened = refl
 
 its : Judgement
 its = record { socket = one; item = record { ask = first_ask; answer = Accept } }
 
 far_judgements : (state_of far).judgements ≡ its ∷ []
-unfolding far its text_of preamble_text segment_crc after_byte shifted shifted_by judge judge_first judge_later judge_epilogue read_preamble bounded_at cookie_at flag_at numbers_at list_at string_at vector_field tail_at head_at socket_at body_of shape_at addresses_at vector_at header_text
+unfolding far its text_of preamble_text segment_crc after_byte shifted shifted_by judge judge_first judge_later judge_epilogue size_of read_preamble bounded_at cookie_at flag_at numbers_at list_at string_at vector_field tail_at head_at socket_at body_of shape_at addresses_at vector_at header_text
 far_judgements = refl
 
 not_judged : (k : SocketId) → same_socket k one ≡ false → judged_on k (its ∷ []) ≡ []
@@ -280,7 +280,7 @@ far_half_fits k =
 -- ---- the point
 
 opened_one : is_among one (state_of near).opened ≡ true
-unfolding near text_of preamble_text segment_crc after_byte shifted shifted_by judge judge_first judge_later judge_epilogue read_preamble bounded_at cookie_at flag_at numbers_at list_at string_at vector_field tail_at head_at socket_at body_of shape_at addresses_at vector_at header_text
+unfolding near text_of preamble_text segment_crc after_byte shifted shifted_by judge judge_first judge_later judge_epilogue size_of read_preamble bounded_at cookie_at flag_at numbers_at list_at string_at vector_field tail_at head_at socket_at body_of shape_at addresses_at vector_at header_text
 opened_one = refl
 
 fit : BytesFit near far
@@ -294,7 +294,7 @@ fit = record {
 }
 
 both_ready : ((state_of near).session.phase ≡ Ready) × ((state_of far).session.phase ≡ Ready)
-unfolding near far text_of preamble_text segment_crc after_byte shifted shifted_by judge judge_first judge_later judge_epilogue read_preamble bounded_at cookie_at flag_at numbers_at list_at string_at vector_field tail_at head_at socket_at body_of shape_at addresses_at vector_at header_text
+unfolding near far text_of preamble_text segment_crc after_byte shifted shifted_by judge judge_first judge_later judge_epilogue size_of read_preamble bounded_at cookie_at flag_at numbers_at list_at string_at vector_field tail_at head_at socket_at body_of shape_at addresses_at vector_at header_text
 both_ready = (refl, refl)
 
 lawful_near : AreLawful near.facts near.entries (start near.facts)

@@ -1,5 +1,5 @@
 -- An opener that is fed what an acceptor writes signs behind its welcome, and what it writes is the front of its greeting.
-use Rattle.std.proofs.Common.{◌≡◌, ℕ, ◌<◌, ◌^◌, ◌⊎◌, inl, inr, true, List, [], ◌∷◌, ◌++◌, length, Option, Some, None, refl, sym, ap, ◌∙◌, subst, arith, append_assoc}
+use Rattle.std.proofs.Common.{◌≡◌, ℕ, ◌<◌, ◌^◌, ◌⊎◌, inl, inr, true, List, [], ◌∷◌, ◌++◌, Option, Some, None, refl, sym, ap, ◌∙◌, subst, arith, append_assoc}
 use Rattle.std.proofs.lemmas.Bool.{true≢false}
 use Rattle.std.proofs.lemmas.Grind.{flat_map-append}
 use Rattle.std.proofs.Math.Seq.{drop-append_seam}
@@ -11,10 +11,6 @@ use Rattle.m2_feed.specs.m2_control.Banner.{banner_in, banner_text}
 use Rattle.m2_feed.specs.m2_control.Laws.{HasAddrRanges}
 use Rattle.m2_feed.proofs.m2_control.Written.{banner_is_read}
 use Rattle.m2_feed.specs.m2_frame.Frame.{Parts}
-use Rattle.m2_feed.specs.m2_frame.Reading.{Front, whole, text, judge}
-use Rattle.m2_feed.specs.m2_frame.Text as frame
-use Rattle.m2_feed.proofs.m2_frame.Spelled.{item_text-judged}
-use Rattle.m2_feed.proofs.m2_frame.Written.{text_of-written}
 use Rattle.m2_feed.specs.m2_handshake.declared.stage.Awaited.{Awaited}
 use Rattle.m2_feed.specs.m2_handshake.declared.stage.Awaited.TheVariants.{Hello, Done, Signature}
 use Rattle.m2_feed.specs.m2_handshake.declared.stage.HalfSide.TheVariants.{Opener}
@@ -24,12 +20,13 @@ use Rattle.m2_feed.specs.m2_handshake.Course.{Event, silent, wrote, goes, step_b
 use Rattle.m2_feed.specs.m2_handshake.Greeting.{welcome}
 use Rattle.m2_feed.specs.m2_handshake.Laws.{GoesOnTo}
 use Rattle.m2_feed.specs.m2_handshake.Moves.{features, after_banner, take_frame, after_reaction, is_authed}
+use Rattle.m2_feed.specs.m2_handshake.Reading.{Found}
 use Rattle.m2_feed.specs.m2_handshake.Standing.{Standing, fed, fed_at, opener_at_start}
 use Rattle.m2_feed.specs.m2_handshake.Steps.{Reaction, says, signed, after_payload, after_frame}
 use Rattle.m2_feed.specs.m2_handshake.Texts.{control_parts, frame_text, hello, request, done, signature}
 use Rattle.m2_feed.proofs.m2_handshake.Banners.{is_step}
 use Rattle.m2_feed.proofs.m2_handshake.Course.{feeds, ways, stands, rests_there}
-use Rattle.m2_feed.proofs.m2_handshake.Greeting.{IsSent, hello_sent, signature_sent}
+use Rattle.m2_feed.proofs.m2_handshake.Greeting.{IsSent, frame_found, hello_sent, signature_sent}
 use Rattle.m2_feed.proofs.m2_handshake.Reaching.{fed_twice}
 use Rattle.m2_bytes_fit.proofs.Sent.{done_sent}
 
@@ -50,9 +47,7 @@ takes : (entity : ℕ) (dialled : Addr) (awaited : Awaited) (c : Control) (more 
     step_of (at entity dialled (Waits awaited) None (frame_text c ++ more)) ≡ goes silent (at entity dialled (Waits awaited) (Some (control_parts c)) more)
 takes entity dialled awaited c more k =
     let s = at entity dialled (Waits awaited) None (frame_text c ++ more) in
-    let j : judge (frame_text c ++ more) ≡ text (whole (control_parts c)) (length (frame_text c)) =
-    item_text-judged (whole (control_parts c)) (frame.text_of (control_parts c)) more (text_of-written (control_parts c) k.fits k.bytes) in
-    ap (λ (x : Front). step_by (take_frame s x) s) j
+    ap (λ (x : Found). step_by (take_frame s x) s) (frame_found c more k)
     ∙ ap (λ (r : List ℕ). goes silent (at entity dialled (Waits awaited) (Some (control_parts c)) r)) (drop-append_seam (frame_text c) more)
 
 reads_hello : (own : ℕ) (seen : Addr) → IsSent (hello own seen) → after_frame Opener Hello (control_parts (hello own seen)) ≡ says Done (frame_text request)

@@ -3,7 +3,6 @@ use Rattle.std.proofs.Common.{◌≡◌, ℕ, ◌+◌, ◌≤◌, true, false, O
 use Rattle.std.proofs.lemmas.List.{drop-append-le, length-append}
 use Rattle.m2_bytes.specs.Blob.{Contents}
 use Rattle.m2_frame.specs.Frame.{Parts}
-use Rattle.m2_frame.specs.Reading.{Front, start, bad, text, whole, dropped, judge}
 use Rattle.m2_control.specs.Banner.{banner_in}
 use Rattle.m2_control.specs.declared.banner.BannerStep.{BannerStep}
 use Rattle.m2_control.specs.declared.banner.BannerStep.TheVariants as banner
@@ -18,6 +17,7 @@ use Rattle.m2_handshake.specs.declared.stage.Stage.TheVariants.{Opening, Banner,
 use Rattle.m2_handshake.specs.Asking.{is_ready}
 use Rattle.m2_handshake.specs.Half.{Answers, Ends, Writer, writer}
 use Rattle.m2_handshake.specs.Moves.{Move, quiet, writes, signs, fails, is_agreed, after_banner, take_frame, after_reaction, answer_held, move_at, move_of, is_authed, Quietly}
+use Rattle.m2_handshake.specs.Reading.{Found, begun, refused, framed, found_in}
 use Rattle.m2_handshake.specs.Standing.{Standing, HalfState, faulted, faulted_at}
 use Rattle.m2_handshake.specs.Steps.{Reaction, says, listens, signed, refuses, after_frame}
 use Rattle.m2_handshake.specs.Texts.{frame_text, hello}
@@ -86,15 +86,14 @@ reaction_signs s t (listens next) e = absurd cc
 reaction_signs s t signed e = cc
 reaction_signs s t (refuses f) e = absurd cc
 
-front_signs : (s t : Standing) (front : Front) → take_frame s front ≡ signs t → ⊥
-front_signs s t start e = cc
-front_signs s t (bad f) e = cc
-front_signs s t (text (dropped tag) n) e = cc
-front_signs s t (text (whole f) n) e = cc
+front_signs : (s t : Standing) (found : Found) → take_frame s found ≡ signs t → ⊥
+front_signs s t begun e = cc
+front_signs s t (refused f) e = cc
+front_signs s t (framed f n) e = cc
 
 held_signs : (s t : Standing) (awaited : Awaited) (held : Option Parts) → answer_held s awaited held ≡ signs t → record s { stage = Authed; held = None } ≡ t
 held_signs s t awaited (Some f) e = reaction_signs s t (after_frame s.side awaited f) e
-held_signs s t awaited None e = absurd (front_signs s t (judge s.rest) e)
+held_signs s t awaited None e = absurd (front_signs s t (found_in s.rest) e)
 
 banner_signs : (s t : Standing) (b : BannerStep) → after_banner s b ≡ signs t → ⊥
 banner_signs s t (banner.Got b used) =

@@ -69,7 +69,7 @@ HearsSound more old new = (base heard : ℕ) → IsSound old base heard → IsSo
 
 -- a half that has just signed
 abbrev pub SignsNow : Reader → Type 0
-SignsNow (Shaking half) = (is_ready half.standing ≡ true) × (half.granted ≡ false)
+SignsNow (Shaking half) = is_ready half.standing ≡ true
 SignsNow (Framing decoder) = ⊥
 
 -- it is a decoder of what was unread, which has passed `base` bytes

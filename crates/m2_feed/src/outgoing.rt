@@ -4,7 +4,6 @@ ghost use Rattle.std.specs.Prelude.{◌≡◌, ◌≤◌, [], length, drop, OnOk
 ghost use Rattle.m2_bytes.specs.Blob.{Appends};
 ghost use Rattle.m2_frame.specs.Frame.{parts, Fits};
 ghost use Rattle.m2_frame.specs.Text.{text_of};
-ghost use Rattle.m2_handshake.specs.Half.{SignsClear};
 ghost use Rattle.m2_feed.specs.Calls.{HalfWrites, SignsOnlyAs, is_empty};
 
 use m2_bytes::{Blob, NoMemory};
@@ -102,7 +101,6 @@ impl Outgoing {
     #[tactic(auto, using(crate::proofs::Answering::half_writes, crate::proofs::Answering::still_within, crate::proofs::Answering::signs_only_as, crate::proofs::Answering::answers_shorter))]
     pub(crate) fn greet(&mut self, half: &mut Half) -> HalfStep
         ensures writes { HalfWrites result half.old.standing half.new.standing self.old.bytes self.new.bytes }
-        ensures signs { SignsClear half.old half.new }
         ensures stage { SignsOnlyAs result half.old.standing half.new.standing }
         ensures shorter { length half.new.standing.rest ≤ length half.old.standing.rest }
     {

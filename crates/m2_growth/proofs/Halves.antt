@@ -6,11 +6,11 @@ use Rattle.std.proofs.lemmas.Grind.{flat_map-append}
 use Rattle.m2_fabric.specs.m2_addr.declared.addr.Addr.{Addr}
 use Rattle.m2_weave.specs.m2_control.declared.control.Control.{Control}
 use Rattle.m2_weave.specs.m2_control.declared.control.Control.TheVariants as control
-use Rattle.m2_dispatch.specs.m2_frame.Frame.{Parts}
-use Rattle.m2_dispatch.specs.m2_frame.Reading.{Front, whole, dropped, start, bad, text, judge}
+use Rattle.m2_dispatch.specs.m2_frame.Frame.{Parts, message_tag}
 use Rattle.m2_dispatch.specs.m2_frame.Text as frame
 use Rattle.m2_center.specs.m2_handshake.declared.ask.Ask.{Ask}
 use Rattle.m2_center.specs.m2_handshake.declared.fault.HalfFault.{HalfFault}
+use Rattle.m2_center.specs.m2_handshake.declared.fault.HalfFault.TheVariants.{Unexpected}
 use Rattle.m2_center.specs.m2_handshake.declared.stage.HalfSide.{HalfSide}
 use Rattle.m2_center.specs.m2_handshake.declared.stage.HalfSide.TheVariants.{Acceptor}
 use Rattle.m2_center.specs.m2_handshake.declared.stage.Stage.{Stage}
@@ -22,18 +22,20 @@ use Rattle.m2_center.specs.m2_handshake.Course.{course_move_at, course_move, sig
 use Rattle.m2_center.specs.m2_handshake.Greeting.{greeting}
 use Rattle.m2_center.specs.m2_handshake.Laws.{GoesOnTo}
 use Rattle.m2_center.specs.m2_handshake.Moves.{Move, stays, quiet, writes, signs, asks, fails, take_frame, after_asking, read_held, refuse_held}
+use Rattle.m2_center.specs.m2_handshake.Reading.{Found, begun, refused, framed, found_in}
 use Rattle.m2_center.specs.m2_handshake.Standing.{Standing, fed, acceptor_at_start}
 use Rattle.m2_center.specs.m2_handshake.Texts.{IsReply}
 use Rattle.m2_center.proofs.m2_handshake.Course.{feeds, next, ways}
 use Rattle.m2_center.proofs.m2_handshake.Greeting.{at, signs_there}
+use Rattle.m2_center.proofs.m2_handshake.Leading.{either}
 use Rattle.m2_center.proofs.m2_handshake.Reaching.{fed_twice}
+use Rattle.m2_center.proofs.m2_handshake.Sizes.{as_sent, found_sent}
 use Rattle.m2_weave.specs.m2_journal.OutFrames.{OutFrame}
 use Rattle.m2_weave.specs.m2_journal.SideFacts.{SideFacts}
 use Rattle.m2_bytes_fit.specs.m2_trail.Asks.{IsMain}
 use Rattle.m2_bytes_fit.specs.Halves.{KeepsRanges}
 use Rattle.m2_bytes_fit.specs.Texts.{texts_of}
 use Rattle.m2_bytes_fit.proofs.Acceptors.{HasWelcomed, IsAsked, accepts, as_asked}
-use Rattle.m2_bytes_fit.proofs.Fronts.{is_judged}
 use Rattle.m2_bytes_fit.proofs.Lists.{not_nil}
 use Rattle.m2_bytes_fit.proofs.Says.{part}
 use Rattle.m2_bytes_fit.specs.m2_never_reset.Frames.{ask_of}
@@ -92,11 +94,10 @@ module _ (f : SideFacts) (w : OutFrame) (k : BeginsAs f w) (behind : List ℕ) w
   known_at (Waits a) peer held rest i e = absurd i
   known_at (Faulty x) peer held rest i e = absurd i
 
-  takes_known : (s : Standing) (front : Front) → s.side ≡ Acceptor → IsIn s.stage → s.peer ≡ Some f.mine → MovesSo (take_frame s front)
-  takes_known s start side i e = tt
-  takes_known s (bad x) side i e = tt
-  takes_known s (text (dropped t) n) side i e = record { side = side; place = known_at s.stage s.peer s.held (drop n s.rest) i e }
-  takes_known s (text (whole p) n) side i e = record { side = side; place = known_at s.stage s.peer (Some p) (drop n s.rest) i e }
+  takes_known : (s : Standing) (found : Found) → s.side ≡ Acceptor → IsIn s.stage → s.peer ≡ Some f.mine → MovesSo (take_frame s found)
+  takes_known s begun side i e = tt
+  takes_known s (refused x) side i e = tt
+  takes_known s (framed p n) side i e = record { side = side; place = known_at s.stage s.peer (Some p) (drop n s.rest) i e }
 
   after_so : (s : Standing) (r : Result (Ask × Addr) HalfFault) → s.side ≡ Acceptor → IsUnder s.peer r → IsMine f.mine r → MovesSo (after_asking s r)
   after_so s (Ok x) side u m = (subst (IsMain x.0) m u.0, record { side = side; place = ap (λ (a : Addr). Some a) m })
@@ -110,21 +111,22 @@ module _ (f : SideFacts) (w : OutFrame) (k : BeginsAs f w) (behind : List ℕ) w
       Knows peer held s.rest → MovesSo (read_held s held)
   reads_so s None None e h side q i =
       let t = frame.text_of (part f w) in
-      let front : judge s.rest ≡ text (whole (part f w)) (length t) = ap judge i ∙ is_judged (part f w) k.writable behind in
-      subst (λ x. MovesSo (take_frame s x)) (sym front) (record {
+      let front : found_in s.rest ≡ as_sent (part f w) (length t) = ap found_in i ∙ found_sent (part f w) behind k.writable.fits k.writable.bytes in
+      subst (λ x. MovesSo (take_frame s x)) (sym front)
+      (either (λ (x : Found). MovesSo (take_frame s x)) ((part f w).tag == message_tag) (refused (Unexpected message_tag)) (framed (part f w) (length t)) tt (record {
         side = side;
         place = subst (λ (z : Stage). IsAt z s.peer (Some (part f w)) (drop (length t) s.rest)) (sym q)
             (subst (λ p. Knows p (Some (part f w)) (drop (length t) s.rest)) (sym e) refl);
-      })
+      }))
   reads_so s None (Some p) e h side q i =
       after_so s (ask_in s.peer p) side (asks_under s.peer p) (subst (λ a. IsMine f.mine (ask_in a p)) (sym e) (subst (λ x. IsMine f.mine (ask_in None x)) (sym i) k.mine))
-  reads_so s (Some m) None e h side q i = takes_known s (judge s.rest) side (subst IsIn (sym q) tt) (e ∙ ap (λ (a : Addr). Some a) i)
+  reads_so s (Some m) None e h side q i = takes_known s (found_in s.rest) side (subst IsIn (sym q) tt) (e ∙ ap (λ (a : Addr). Some a) i)
   reads_so s (Some m) (Some p) e h side q i =
       let known : s.peer ≡ Some f.mine = e ∙ ap (λ (a : Addr). Some a) i in
       after_so s (ask_in s.peer p) side (asks_under s.peer p) (mine_again (ask_in s.peer p) (subst (λ a. IsUnder a (ask_in s.peer p)) known (asks_under s.peer p)))
 
   refuses_so : (s : Standing) (held : Option Parts) → s.side ≡ Acceptor → s.stage ≡ Ended → s.peer ≡ Some f.mine → MovesSo (refuse_held s held)
-  refuses_so s None side q e = takes_known s (judge s.rest) side (subst IsIn (sym q) tt) e
+  refuses_so s None side q e = takes_known s (found_in s.rest) side (subst IsIn (sym q) tt) e
   refuses_so s (Some p) side q e = tt
 
   moves_at : (stage : Stage) (s : Standing) → s.stage ≡ stage → s.side ≡ Acceptor → IsAt stage s.peer s.held s.rest → MovesSo (course_move_at stage s)

@@ -18,10 +18,6 @@ use Rattle.m2_control.specs.ClientIdent.{bare_client_ident, client_ident_text}
 use Rattle.m2_control.specs.Ident.{tail_text}
 use Rattle.m2_control.specs.SessionReconnect.{bare_session_reconnect, session_reconnect_text}
 use Rattle.m2_control.specs.Laws.{HasAddrRanges, client_tail}
-use Rattle.m2_frame.specs.Reading.{whole, text, judge}
-use Rattle.m2_frame.specs.Text as frame
-use Rattle.m2_frame.proofs.Spelled.{item_text-judged}
-use Rattle.m2_frame.proofs.Written.{text_of-written}
 use Rattle.m2_handshake.specs.declared.ask.Ask.{Ask}
 use Rattle.m2_handshake.specs.declared.ask.Ask.TheVariants.{Ident, Reconnect}
 use Rattle.m2_handshake.specs.declared.ask.AskStep.{AskStep}
@@ -38,7 +34,7 @@ use Rattle.m2_handshake.specs.Standing.{Standing, acceptor_at_start}
 use Rattle.m2_handshake.specs.Texts.{control_parts, frame_text, hello, request, signature}
 use Rattle.m2_handshake.specs.Moves.{features}
 use Rattle.m2_control.specs.Banner.{banner_text}
-use Rattle.m2_handshake.proofs.Greeting.{IsSent, payload_read, no_bytes, at, signs_there}
+use Rattle.m2_handshake.proofs.Greeting.{IsSent, payload_read, no_bytes, at, frame_found, signs_there}
 use Rattle.m2_handshake.proofs.Leading.{true_isnt_false}
 use Rattle.m2_handshake.proofs.Reaching.{by_move, silently, asking}
 use Rattle.m2_handshake.proofs.Speaking.{authed_greets}
@@ -105,9 +101,7 @@ asked_at own seen main more = record { side = Acceptor; entity = own; seen = see
 takes_ask : (own : ℕ) (seen : Addr) (c : Control) (more : List ℕ) → IsSent c → ask_move_of (at own seen Authed None (frame_text c ++ more)) ≡ quiet (at own seen Authed (Some (control_parts c)) more)
 takes_ask own seen c more k =
     let s = at own seen Authed None (frame_text c ++ more) in
-    let j : judge (frame_text c ++ more) ≡ text (whole (control_parts c)) (length (frame_text c)) =
-    item_text-judged (whole (control_parts c)) (frame.text_of (control_parts c)) more (text_of-written (control_parts c) k.fits k.bytes) in
-    ap (take_frame s) j ∙ ap (λ (r : List ℕ). quiet (at own seen Authed (Some (control_parts c)) r)) (drop-append_seam (frame_text c) more)
+    ap (take_frame s) (frame_found c more k) ∙ ap (λ (r : List ℕ). quiet (at own seen Authed (Some (control_parts c)) r)) (drop-append_seam (frame_text c) more)
 
 reads_ask : (own : ℕ) (seen : Addr) (ask : Ask) (main : Addr) (more : List ℕ) → IsSent (control_of ask) → main_of (addrs_of ask) ≡ Ok main →
     ask_move_of (at own seen Authed (Some (control_parts (control_of ask))) more) ≡ asks (bare_ask ask) (asked_at own seen main more)

@@ -11,7 +11,7 @@ use Rattle.m2_control.specs.declared.fault.ControlFault.{ControlFault}
 use Rattle.m2_frame.specs.declared.tag.Tag.TheVariants as tag
 use Rattle.m2_frame.specs.Tags.{tag_number}
 use Rattle.m2_frame.specs.Frame.{Parts}
-use Rattle.m2_frame.specs.Reading.{whole, dropped, Front, start, bad, text, judge}
+use Rattle.m2_frame.specs.Reading.{whole, dropped, Front, start, bad, text, judge, size_of}
 use Rattle.m2_handshake.specs.declared.ask.Ask.{Ask}
 use Rattle.m2_handshake.specs.declared.ask.Ask.TheVariants.{Ident, Reconnect}
 use Rattle.m2_handshake.specs.declared.fault.HalfFault.{HalfFault}
@@ -27,7 +27,7 @@ use Rattle.m2_handshake.specs.Asks.{is_known, known_main, under, asked, asked_of
 use Rattle.m2_control.specs.Banner.{banner_in}
 use Rattle.m2_handshake.specs.Laws.{IsOfBytes, KeepsOfBytes}
 use Rattle.m2_handshake.specs.Moves.{Move, stays, quiet, writes, signs, asks, fails, is_agreed, after_banner, take_frame, after_reaction, answer_held, after_asking, read_held, refuse_held, ask_move_at, ask_move_of, move_at, move_of}
-use Rattle.m2_handshake.specs.Reading.{of_payload, payload_in}
+use Rattle.m2_handshake.specs.Reading.{Found, begun, refused, framed, found_by, found_in, of_payload, payload_in}
 use Rattle.m2_handshake.specs.Standing.{Standing}
 use Rattle.m2_handshake.specs.Steps.{Reaction, says, listens, signed, refuses, is_served, is_unsigned, after, after_payload, after_frame, awaited_tag, unawaited}
 use Rattle.m2_handshake.specs.Texts.{frame_text, hello}
@@ -107,11 +107,24 @@ ask_in_fair peer f = either (Fails IsOfBytes) (f.tag == tag_number tag.ClientIde
 
 -- ---- moves
 
-take_fits : (s : Standing) (front : Front) → KeepsOfBytes s.stage → Fits s (take_frame s front)
-take_fits s start c = tt
-take_fits s (bad f) c = tt
-take_fits s (text (dropped tag) n) c = c
-take_fits s (text (whole f) n) c = c
+abbrev FindsFair : Found → Type 0
+FindsFair (refused f) = IsOfBytes f
+FindsFair _ = Unit {0}
+
+found_fair : (size : Option ℕ) (front : Front) → FindsFair (found_by size front)
+found_fair (Some n) front = tt
+found_fair None start = tt
+found_fair None (bad f) = tt
+found_fair None (text (dropped tag) n) = tt
+found_fair None (text (whole f) n) = tt
+
+found_fits : (s : Standing) (found : Found) → FindsFair found → KeepsOfBytes s.stage → Fits s (take_frame s found)
+found_fits s begun h c = tt
+found_fits s (refused f) h c = h
+found_fits s (framed f n) h c = c
+
+take_fits : (s : Standing) → KeepsOfBytes s.stage → Fits s (take_frame s (found_in s.rest))
+take_fits s c = found_fits s (found_in s.rest) (found_fair (size_of s.rest) (judge s.rest)) c
 
 banner_fits : (s : Standing) (b : BannerStep) → Fits s (after_banner s b)
 banner_fits s (Got b used) = either (Fits s) (is_agreed b)
@@ -127,7 +140,7 @@ reaction_fits s (refuses f) h = h
 
 held_fits : (s : Standing) (awaited : Awaited) (held : Option Parts) → KeepsOfBytes s.stage → Fits s (answer_held s awaited held)
 held_fits s awaited (Some f) k = reaction_fits s (after_frame s.side awaited f) (frame_fair s.side awaited f)
-held_fits s awaited None k = take_fits s (judge s.rest) k
+held_fits s awaited None k = take_fits s k
 
 fits_at : (stage : Stage) (s : Standing) → s.stage ≡ stage → KeepsOfBytes s.stage → Fits s (move_at stage s)
 fits_at Opening s q k = tt
@@ -147,11 +160,11 @@ asking_fits s (Err f) h = h
 
 read_fits : (s : Standing) (held : Option Parts) → KeepsOfBytes s.stage → Fits s (read_held s held)
 read_fits s (Some f) k = asking_fits s (ask_in s.peer f) (ask_in_fair s.peer f)
-read_fits s None k = take_fits s (judge s.rest) k
+read_fits s None k = take_fits s k
 
 refuse_fits : (s : Standing) (held : Option Parts) → KeepsOfBytes s.stage → Fits s (refuse_held s held)
 refuse_fits s (Some f) k = tt
-refuse_fits s None k = take_fits s (judge s.rest) k
+refuse_fits s None k = take_fits s k
 
 ask_fits_at : (stage : Stage) (s : Standing) → s.stage ≡ stage → KeepsOfBytes s.stage → Fits s (ask_move_at stage s)
 ask_fits_at Opening s q k = tt

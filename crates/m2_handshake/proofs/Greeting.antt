@@ -1,5 +1,5 @@
 -- An acceptor reads what an opener writes, step by step.
-use Rattle.std.proofs.Common.{◌≡◌, ℕ, ◌<◌, ◌^◌, List, [], ◌∷◌, ◌++◌, length, Option, Some, None, Ok, refl, ap, ◌∙◌, arith, append-nil}
+use Rattle.std.proofs.Common.{◌≡◌, ℕ, ◌<◌, ◌^◌, Bool, if◌then◌else◌, List, [], ◌∷◌, ◌++◌, length, Option, Some, None, Ok, refl, ap, ◌∙◌, arith, append-nil}
 use Rattle.std.specs.List.{All}
 use Rattle.std.specs.Int.{w16, w32, to_le_bytes, to_be_bytes}
 use Rattle.std.proofs.lemmas.List.Elements.{All-from_recursion, All-cons, All-append}
@@ -13,12 +13,9 @@ use Rattle.m2_control.specs.Banner.{banner_in, banner_text}
 use Rattle.m2_control.specs.Control as payload
 use Rattle.m2_control.specs.Laws.{HasAddrRanges, HasRanges, IsInBounds}
 use Rattle.m2_control.proofs.Written.{written_is_read, banner_is_read}
-use Rattle.m2_frame.specs.Frame.{Parts, Fits}
+use Rattle.m2_frame.specs.Frame.{Parts, Fits, message_tag}
 use Rattle.m2_frame.specs.Grammar.{AreBytes}
-use Rattle.m2_frame.specs.Reading.{Front, whole, text, judge}
-use Rattle.m2_frame.specs.Text as frame
-use Rattle.m2_frame.proofs.Spelled.{item_text-judged}
-use Rattle.m2_frame.proofs.Written.{text_of-written}
+use Rattle.m2_handshake.specs.declared.fault.HalfFault.TheVariants as fault
 use Rattle.m2_handshake.specs.declared.stage.Awaited.{Awaited}
 use Rattle.m2_handshake.specs.declared.stage.Awaited.TheVariants.{Hello, Request, Signature}
 use Rattle.m2_handshake.specs.declared.stage.HalfSide.TheVariants.{Acceptor}
@@ -27,11 +24,12 @@ use Rattle.m2_handshake.specs.declared.stage.Stage.TheVariants.{Banner, Waits, A
 use Rattle.m2_handshake.specs.Course.{silent, wrote, goes, step_by, step_of, course_move, text_of, Signs}
 use Rattle.m2_handshake.specs.Greeting.{greeting, welcome, GreetingIsSigned}
 use Rattle.m2_handshake.specs.Moves.{features, after_banner, take_frame, after_reaction}
-use Rattle.m2_handshake.specs.Reading.{of_payload, payload_in}
+use Rattle.m2_handshake.specs.Reading.{Found, refused, framed, found_in, of_payload, payload_in}
 use Rattle.m2_handshake.specs.Standing.{Standing, fed, acceptor_at_start}
 use Rattle.m2_handshake.specs.Steps.{Reaction, says, listens, signed, after_payload, after_frame}
 use Rattle.m2_handshake.specs.Texts.{control_parts, frame_text, hello, request, done, signature}
 use Rattle.m2_handshake.proofs.Banners.{is_step}
+use Rattle.m2_handshake.proofs.Sizes.{found_sent, isnt_message}
 use Rattle.m2_bytes.proofs.m2_lemmas.Bytes.{four_bytes, two_bytes, four_bytes_turned, two_bytes_turned, eight_zeros as zeros, eight_zeros_before}
 
 abbrev IsByte : ℕ → Type 0
@@ -119,6 +117,12 @@ signature_sent = record {
   read = payload_read signature tt refl;
 }
 
+-- it is found whole
+pub frame_found : (c : Control) (more : List ℕ) → IsSent c → found_in (frame_text c ++ more) ≡ framed (control_parts c) (length (frame_text c))
+frame_found c more k =
+    found_sent (control_parts c) more k.fits k.bytes
+    ∙ ap (λ (b : Bool). if b then refused (fault.Unexpected message_tag) else framed (control_parts c) (length (frame_text c))) (isnt_message c)
+
 -- ---- steps
 
 abbrev pub at : ℕ → Addr → Stage → Option Parts → List ℕ → Standing
@@ -136,9 +140,7 @@ takes : (own : ℕ) (seen : Addr) (awaited : Awaited) (c : Control) (more : List
     step_of (at own seen (Waits awaited) None (frame_text c ++ more)) ≡ goes silent (at own seen (Waits awaited) (Some (control_parts c)) more)
 takes own seen awaited c more k =
     let s = at own seen (Waits awaited) None (frame_text c ++ more) in
-    let j : judge (frame_text c ++ more) ≡ text (whole (control_parts c)) (length (frame_text c)) =
-    item_text-judged (whole (control_parts c)) (frame.text_of (control_parts c)) more (text_of-written (control_parts c) k.fits k.bytes) in
-    ap (λ (x : Front). step_by (take_frame s x) s) j
+    ap (λ (x : Found). step_by (take_frame s x) s) (frame_found c more k)
     ∙ ap (λ (r : List ℕ). goes silent (at own seen (Waits awaited) (Some (control_parts c)) r)) (drop-append_seam (frame_text c) more)
 
 reads_hello : (entity : ℕ) (a : Addr) → IsSent (hello entity a) → after_frame Acceptor Hello (control_parts (hello entity a)) ≡ listens Request

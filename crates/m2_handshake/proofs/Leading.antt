@@ -6,8 +6,6 @@ use Rattle.m2_control.specs.declared.banner.BannerStep.{BannerStep}
 use Rattle.m2_control.specs.declared.banner.BannerStep.TheVariants.{Got, NotYet, BadBanner}
 use Rattle.m2_control.specs.Banner.{IsStep}
 use Rattle.m2_frame.specs.Frame.{Parts}
-use Rattle.m2_frame.specs.Reading.{whole, dropped, Front, start, bad, text, judge}
-use Rattle.m2_frame.proofs.Cutting.{text_long, text_within}
 use Rattle.m2_handshake.specs.declared.ask.Ask.{Ask}
 use Rattle.m2_handshake.specs.declared.fault.HalfFault.{HalfFault}
 use Rattle.m2_handshake.specs.declared.fault.HalfFault.TheVariants as fault
@@ -22,10 +20,12 @@ use Rattle.m2_control.specs.Banner.{banner_in}
 use Rattle.m2_handshake.specs.Course.{signed_move, course_move_at, course_move, Event, silent, wrote, asked, failed, replied, Step, rests, goes, step_by, step_of, stages_left, steps_left, owed}
 use Rattle.m2_handshake.specs.Half.{held_work}
 use Rattle.m2_handshake.specs.Moves.{Move, stays, quiet, writes, signs, asks, fails, is_agreed, after_banner, take_frame, after_reaction, answer_held, after_asking, read_held, refuse_held, is_authed}
+use Rattle.m2_handshake.specs.Reading.{Found, begun, refused, framed, found_in}
 use Rattle.m2_handshake.specs.Standing.{Standing, fallen}
 use Rattle.m2_handshake.specs.Steps.{Reaction, says, listens, signed, refuses, after_frame}
 use Rattle.m2_handshake.specs.Texts.{frame_text, hello}
 use Rattle.m2_handshake.proofs.Banners.{is_step}
+use Rattle.m2_handshake.proofs.Sizes.{framed_long, framed_within}
 
 abbrev pub is_faulty : Stage → Bool
 is_faulty (Faulty f) = true
@@ -57,16 +57,12 @@ pub either : {A : Type 0} (P : A → Type 0) (b : Bool) (x y : A) → P x → P 
 either P true x y h k = h
 either P false x y h k = k
 
-take_leads : (s : Standing) (front : Front) → judge s.rest ≡ front → s.held ≡ None → is_faulty s.stage ≡ false → owed s.stage ≡ 0 → Leads s (take_frame s front)
-take_leads s start j h l o = tt
-take_leads s (bad f) j h l o = (l, o)
-take_leads s (text (dropped tag) n) j h l o =
-    let long = text_long s.rest (dropped tag) n j in
-    let within = text_within s.rest (dropped tag) n j in
-    (record { side = refl; alive = l; less = omega (arith, length-drop n s.rest, long, within); used = take n s.rest; before = sym (take-append-drop n s.rest) }, refl, refl)
-take_leads s (text (whole f) n) j h l o =
-    let long = text_long s.rest (whole f) n j in
-    let within = text_within s.rest (whole f) n j in
+take_leads : (s : Standing) (found : Found) → found_in s.rest ≡ found → s.held ≡ None → is_faulty s.stage ≡ false → owed s.stage ≡ 0 → Leads s (take_frame s found)
+take_leads s begun j h l o = tt
+take_leads s (refused f) j h l o = (l, o)
+take_leads s (framed f n) j h l o =
+    let long = framed_long s.rest f n j in
+    let within = framed_within s.rest f n j in
     (record { side = refl; alive = l; less = omega (arith, length-drop n s.rest, long, within, ap held_work h); used = take n s.rest; before = sym (take-append-drop n s.rest) }, refl, refl)
 
 reaction_leads : (s : Standing) (awaited : Awaited) (f : Parts) (r : Reaction) → s.stage ≡ Waits awaited → s.held ≡ Some f → Leads s (after_reaction s r)
@@ -80,7 +76,7 @@ reaction_leads s awaited f (refuses e) q h = (ap is_faulty q, ap owed q)
 
 held_leads : (s : Standing) (awaited : Awaited) (held : Option Parts) → s.stage ≡ Waits awaited → s.held ≡ held → Leads s (answer_held s awaited held)
 held_leads s awaited (Some f) q h = reaction_leads s awaited f (after_frame s.side awaited f) q h
-held_leads s awaited None q h = take_leads s (judge s.rest) refl h (ap is_faulty q) (ap owed q)
+held_leads s awaited None q h = take_leads s (found_in s.rest) refl h (ap is_faulty q) (ap owed q)
 
 banner_leads : (s : Standing) (b : BannerStep) → IsStep b s.rest → s.stage ≡ Banner → Leads s (after_banner s b)
 banner_leads s (Got b n) h q = either (Leads s) (is_agreed b)
@@ -97,11 +93,11 @@ asking_leads s f (Err e) q h c = (ap is_faulty q, ap owed q)
 
 read_leads : (s : Standing) (held : Option Parts) → s.stage ≡ Authed → s.held ≡ held → s.side ≡ Acceptor → Leads s (read_held s held)
 read_leads s (Some f) q h c = asking_leads s f (ask_in s.peer f) q h c
-read_leads s None q h c = take_leads s (judge s.rest) refl h (ap is_faulty q) (ap owed q)
+read_leads s None q h c = take_leads s (found_in s.rest) refl h (ap is_faulty q) (ap owed q)
 
 refuse_leads : (s : Standing) (held : Option Parts) → s.stage ≡ Ended → s.held ≡ held → Leads s (refuse_held s held)
 refuse_leads s (Some f) q h = (ap is_faulty q, ap owed q)
-refuse_leads s None q h = take_leads s (judge s.rest) refl h (ap is_faulty q) (ap owed q)
+refuse_leads s None q h = take_leads s (found_in s.rest) refl h (ap is_faulty q) (ap owed q)
 
 signed_leads : (side : HalfSide) (s : Standing) (m : Move) → s.side ≡ side → (s.side ≡ Acceptor → Leads s m) → Leads s (signed_move side m)
 signed_leads Opener s m q k = tt

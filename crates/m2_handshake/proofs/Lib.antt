@@ -8,12 +8,14 @@ pub mod Greeting
 pub mod Idents
 pub mod Leading
 pub mod Memory
+pub mod Messages
 pub mod Path
 pub mod Payloads
 pub mod Prefixes
 pub mod Reaching
 pub mod Resting
 pub mod Signing
+pub mod Sizes
 pub mod Speaking
 pub mod Staying
 pub mod Turns

@@ -6,7 +6,8 @@ use Rattle.m2_control.specs.declared.banner.BannerStep.{BannerStep}
 use Rattle.m2_control.specs.declared.banner.BannerStep.TheVariants.{Got, NotYet, BadBanner}
 use Rattle.m2_control.specs.Banner.{banner_in}
 use Rattle.m2_frame.specs.Frame.{Parts}
-use Rattle.m2_frame.specs.Reading.{whole, dropped, Front, start, bad, text, judge}
+use Rattle.m2_frame.specs.Decoder.{IsAtStart}
+use Rattle.m2_frame.specs.Position.{Position}
 use Rattle.m2_handshake.specs.declared.answer.HalfStep.{HalfStep}
 use Rattle.m2_handshake.specs.declared.answer.HalfStep.TheVariants as answer
 use Rattle.m2_handshake.specs.declared.ask.Ask.{Ask}
@@ -25,12 +26,14 @@ use Rattle.m2_handshake.specs.Asks.{bare_ask, ask_in}
 use Rattle.m2_handshake.specs.Half.{Writer, Answers, Ends}
 use Rattle.m2_handshake.specs.Laws.{RestsExactly}
 use Rattle.m2_handshake.specs.Moves.{Move, stays, quiet, writes, signs, asks, fails, is_agreed, after_banner, take_frame, after_reaction, answer_held, after_asking, read_held, refuse_held, ask_move_at, ask_move_of, move_at, move_of, can_ask_at, can_ask, next_move_at, next_move, is_stays, is_at_rest, is_start, is_banner_start, is_banner, is_frame_there, wants_memory_at, wants_memory_to_ask_at, Quietly}
+use Rattle.m2_handshake.specs.Reading.{Found, begun, refused, framed, found_in}
 use Rattle.m2_handshake.specs.Standing.{Standing}
 use Rattle.m2_handshake.specs.Steps.{Reaction, says, listens, signed, refuses, after_frame}
 use Rattle.m2_handshake.specs.Texts.{frame_text, hello}
 use Rattle.m2_handshake.specs.Course.{no_exchange}
 use Rattle.m2_handshake.proofs.Leading.{true_isnt_false}
 use Rattle.m2_handshake.proofs.Reaching.{asking_reaches, begins}
+use Rattle.m2_handshake.proofs.Sizes.{begun_rests, taken_start}
 
 -- ---- what rests
 
@@ -46,11 +49,10 @@ banner_stays s BadBanner = refl
 pub banner_rest : (s : Standing) → is_stays (after_banner s (banner_in s.rest)) ≡ is_banner_start (banner_in s.rest)
 banner_rest s = banner_stays s (banner_in s.rest)
 
-take_rest : (s : Standing) (front : Front) → is_stays (take_frame s front) ≡ is_start None front
-take_rest s start = refl
-take_rest s (bad f) = refl
-take_rest s (text (dropped tag) n) = refl
-take_rest s (text (whole f) n) = refl
+take_rest : (s : Standing) (found : Found) → is_stays (take_frame s found) ≡ is_start None found
+take_rest s begun = refl
+take_rest s (refused f) = refl
+take_rest s (framed f n) = refl
 
 reaction_moves : (s : Standing) (r : Reaction) → is_stays (after_reaction s r) ≡ false
 reaction_moves s (says next words) = refl
@@ -62,37 +64,38 @@ asking_moves : (s : Standing) (r : Result (Ask × Addr) HalfFault) → is_stays 
 asking_moves s (Ok (ask, main)) = refl
 asking_moves s (Err f) = refl
 
-held_stays : (s : Standing) (awaited : Awaited) (held : Option Parts) → is_stays (answer_held s awaited held) ≡ is_start held (judge s.rest)
+held_stays : (s : Standing) (awaited : Awaited) (held : Option Parts) → is_stays (answer_held s awaited held) ≡ is_start held (found_in s.rest)
 held_stays s awaited (Some f) = reaction_moves s (after_frame s.side awaited f)
-held_stays s awaited None = take_rest s (judge s.rest)
+held_stays s awaited None = take_rest s (found_in s.rest)
 
-pub held_rest : (s : Standing) (awaited : Awaited) → is_stays (answer_held s awaited s.held) ≡ is_start s.held (judge s.rest)
+pub held_rest : (s : Standing) (awaited : Awaited) → is_stays (answer_held s awaited s.held) ≡ is_start s.held (found_in s.rest)
 held_rest s awaited = held_stays s awaited s.held
 
-read_stays : (s : Standing) (held : Option Parts) → is_stays (read_held s held) ≡ is_start held (judge s.rest)
+read_stays : (s : Standing) (held : Option Parts) → is_stays (read_held s held) ≡ is_start held (found_in s.rest)
 read_stays s (Some f) = asking_moves s (ask_in s.peer f)
-read_stays s None = take_rest s (judge s.rest)
+read_stays s None = take_rest s (found_in s.rest)
 
-pub read_rest : (s : Standing) → is_stays (read_held s s.held) ≡ is_start s.held (judge s.rest)
+pub read_rest : (s : Standing) → is_stays (read_held s s.held) ≡ is_start s.held (found_in s.rest)
 read_rest s = read_stays s s.held
 
-refuse_stays : (s : Standing) (held : Option Parts) → is_stays (refuse_held s held) ≡ is_start held (judge s.rest)
+refuse_stays : (s : Standing) (held : Option Parts) → is_stays (refuse_held s held) ≡ is_start held (found_in s.rest)
 refuse_stays s (Some f) = refl
-refuse_stays s None = take_rest s (judge s.rest)
+refuse_stays s None = take_rest s (found_in s.rest)
 
-pub refuse_rest : (s : Standing) → is_stays (refuse_held s s.held) ≡ is_start s.held (judge s.rest)
+pub refuse_rest : (s : Standing) → is_stays (refuse_held s s.held) ≡ is_start s.held (found_in s.rest)
 refuse_rest s = refuse_stays s s.held
 
-pub start_is : (front : Front) → front ≡ start → is_start None front ≡ true
-start_is front e = ap (is_start None) e
+-- a decoder that has granted nothing rests just there
+pub start_is : (s : Position) → s.granted ≡ false → IsAtStart s → is_start None (found_in s.rest) ≡ true
+start_is s g a = ap (is_start None) (taken_start s g a.0 a.1)
 
-start_means : (front : Front) → is_start None front ≡ true → front ≡ start
-start_means start e = refl
-start_means (bad f) e = absurd (true_isnt_false (sym e))
-start_means (text i n) e = absurd (true_isnt_false (sym e))
+start_means : (found : Found) → is_start None found ≡ true → found ≡ begun
+start_means begun e = refl
+start_means (refused f) e = absurd (true_isnt_false (sym e))
+start_means (framed f n) e = absurd (true_isnt_false (sym e))
 
-pub start_isnt : (front : Front) → (front ≡ start → ⊥) → is_start None front ≡ false
-start_isnt front n = false_from_ne_true (is_start None front) (λ e. n (start_means front e))
+pub start_isnt : (s : Position) → s.granted ≡ false → (IsAtStart s → ⊥) → is_start None (found_in s.rest) ≡ false
+start_isnt s g n = false_from_ne_true (is_start None (found_in s.rest)) (λ e. n (begun_rests s g (start_means (found_in s.rest) e)))
 
 -- ---- what it answers
 
@@ -133,11 +136,11 @@ no_quiet : (move : Standing → Move) (ms : List Standing) (a b : Standing) → 
 no_quiet move [] a b h path = path
 no_quiet move (m ∷ ms) a b h path = absurd (moves_not (move a) (quiet m) h path.0 refl)
 
-there_isnt_start : (held : Option Parts) (front : Front) → is_frame_there held front ≡ true → is_start held front ≡ true → ⊥
-there_isnt_start (Some f) front t e = true_isnt_false (sym e)
-there_isnt_start None start t e = true_isnt_false (sym t)
-there_isnt_start None (bad f) t e = true_isnt_false (sym e)
-there_isnt_start None (text i n) t e = true_isnt_false (sym e)
+there_isnt_start : (held : Option Parts) (found : Found) → is_frame_there held found ≡ true → is_start held found ≡ true → ⊥
+there_isnt_start (Some f) found t e = true_isnt_false (sym e)
+there_isnt_start None begun t e = true_isnt_false (sym t)
+there_isnt_start None (refused f) t e = true_isnt_false (sym e)
+there_isnt_start None (framed f n) t e = true_isnt_false (sym e)
 
 banner_isnt_start : (b : BannerStep) → is_banner b ≡ true → is_banner_start b ≡ true → ⊥
 banner_isnt_start (Got b used) t e = true_isnt_false (sym e)
@@ -147,7 +150,7 @@ banner_isnt_start BadBanner t e = true_isnt_false (sym t)
 wants_none : (stage : Stage) (s : Standing) → move_at stage s ≡ stays → wants_memory_at stage s ≡ true → ⊥
 wants_none Opening s h w = moves_not (move_at Opening s) (move_at Opening s) h refl refl
 wants_none Banner s h w = banner_isnt_start (banner_in s.rest) w (sym (banner_rest s) ∙ ap is_stays h)
-wants_none (Waits awaited) s h w = there_isnt_start s.held (judge s.rest) w (sym (held_rest s awaited) ∙ ap is_stays h)
+wants_none (Waits awaited) s h w = there_isnt_start s.held (found_in s.rest) w (sym (held_rest s awaited) ∙ ap is_stays h)
 wants_none Authed s h w = true_isnt_false (sym w)
 wants_none Asked s h w = true_isnt_false (sym w)
 wants_none Ended s h w = true_isnt_false (sym w)
@@ -157,9 +160,9 @@ wants_none_to_ask : (stage : Stage) (s : Standing) → ask_move_at stage s ≡ s
 wants_none_to_ask Opening s h w = true_isnt_false (sym w)
 wants_none_to_ask Banner s h w = true_isnt_false (sym w)
 wants_none_to_ask (Waits awaited) s h w = true_isnt_false (sym w)
-wants_none_to_ask Authed s h w = there_isnt_start s.held (judge s.rest) w (sym (read_rest s) ∙ ap is_stays h)
+wants_none_to_ask Authed s h w = there_isnt_start s.held (found_in s.rest) w (sym (read_rest s) ∙ ap is_stays h)
 wants_none_to_ask Asked s h w = true_isnt_false (sym w)
-wants_none_to_ask Ended s h w = there_isnt_start s.held (judge s.rest) w (sym (refuse_rest s) ∙ ap is_stays h)
+wants_none_to_ask Ended s h w = there_isnt_start s.held (found_in s.rest) w (sym (refuse_rest s) ∙ ap is_stays h)
 wants_none_to_ask (Faulty f) s h w = true_isnt_false (sym w)
 
 ends : (result : HalfStep) (old new : Writer) → move_of old.standing ≡ stays → Ends result old new → (result ≡ answer.NotYet) × (new ≡ old)

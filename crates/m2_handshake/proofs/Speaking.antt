@@ -8,7 +8,6 @@ use Rattle.m2_control.specs.declared.control.Control.{Control}
 use Rattle.m2_control.specs.declared.control.Control.TheVariants as control
 use Rattle.m2_control.specs.Banner.{banner_in, banner_text}
 use Rattle.m2_frame.specs.Frame.{Parts}
-use Rattle.m2_frame.specs.Reading.{whole, dropped, Front, start, bad, text, judge}
 use Rattle.m2_frame.specs.Tags.{tag_number}
 use Rattle.m2_handshake.specs.declared.fault.HalfFault.{HalfFault}
 use Rattle.m2_handshake.specs.declared.fault.HalfFault.TheVariants as fault
@@ -22,7 +21,7 @@ use Rattle.m2_handshake.specs.declared.texts.TheConstants.{CRC}
 use Rattle.m2_handshake.specs.Course.{signed_move, course_move_at, course_move, Event, silent, wrote, asked, failed, replied, Step, rests, goes, step_by, step_of, Goes, Runs, text_in, text_of, Next, next_by, next_of, course_by, steps_left, opener_course, Exchange, Reaches, Signs}
 use Rattle.m2_handshake.specs.Greeting.{greeting, OpenerGreets}
 use Rattle.m2_handshake.specs.Moves.{Move, stays, quiet, writes, signs, asks, fails, features, is_agreed, after_banner, take_frame, after_reaction, answer_held, read_held, is_authed}
-use Rattle.m2_handshake.specs.Reading.{payload_in}
+use Rattle.m2_handshake.specs.Reading.{Found, begun, refused, framed, found_in, payload_in}
 use Rattle.m2_handshake.specs.Standing.{Standing, fed, opener_at_start}
 use Rattle.m2_handshake.specs.Steps.{Reaction, says, listens, signed, refuses, awaited_tag, is_unsigned, after, unawaited, after_payload, after_frame}
 use Rattle.m2_handshake.specs.Texts.{frame_text, hello, request, signature}
@@ -86,11 +85,10 @@ SpeaksOn entity dialled words (fails f) = IsPrefix words (greeting entity dialle
 
 -- ---- a move
 
-takes_on : (entity : ℕ) (dialled : Addr) (words : List ℕ) (s : Standing) (front : Front) → Speaks entity dialled s words → SpeaksOn entity dialled words (take_frame s front)
-takes_on entity dialled words s start k = tt
-takes_on entity dialled words s (bad f) k = front entity dialled words s.stage k.1
-takes_on entity dialled words s (text (dropped tag) n) k = (record { side = k.0.side; named = k.0.named; dials = k.0.dials }, k.1)
-takes_on entity dialled words s (text (whole f) n) k = (record { side = k.0.side; named = k.0.named; dials = k.0.dials }, k.1)
+takes_on : (entity : ℕ) (dialled : Addr) (words : List ℕ) (s : Standing) (found : Found) → Speaks entity dialled s words → SpeaksOn entity dialled words (take_frame s found)
+takes_on entity dialled words s begun k = tt
+takes_on entity dialled words s (refused f) k = front entity dialled words s.stage k.1
+takes_on entity dialled words s (framed f n) k = (record { side = k.0.side; named = k.0.named; dials = k.0.dials }, k.1)
 
 abbrev ReactsOn : ℕ → Addr → List ℕ → Standing → Reaction → Type 0
 ReactsOn entity dialled words s r = SpeaksOn entity dialled words (after_reaction s r)
@@ -129,7 +127,7 @@ frame_on entity dialled words s awaited f o h = either (ReactsOn entity dialled 
 held_on : (entity : ℕ) (dialled : Addr) (words : List ℕ) (s : Standing) (awaited : Awaited) (held : Option Parts) → s.stage ≡ Waits awaited → IsOpener entity dialled s → Said entity dialled (Waits awaited) words →
     SpeaksOn entity dialled words (answer_held s awaited held)
 held_on entity dialled words s awaited (Some f) q o h = subst (λ (side : HalfSide). ReactsOn entity dialled words s (after_frame side awaited f)) (sym o.side) (frame_on entity dialled words s awaited f o h)
-held_on entity dialled words s awaited None q o h = takes_on entity dialled words s (judge s.rest) (o, subst (λ (stage : Stage). Said entity dialled stage words) (sym q) h)
+held_on entity dialled words s awaited None q o h = takes_on entity dialled words s (found_in s.rest) (o, subst (λ (stage : Stage). Said entity dialled stage words) (sym q) h)
 
 banner_on : (entity : ℕ) (dialled : Addr) (words : List ℕ) (s : Standing) (b : BannerStep) → IsOpener entity dialled s → Said entity dialled Banner words → SpeaksOn entity dialled words (after_banner s b)
 banner_on entity dialled words s (Got b n) o h = either (SpeaksOn entity dialled words) (is_agreed b) _ (fails fault.BannerFeatures) (

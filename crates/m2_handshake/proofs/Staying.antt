@@ -6,8 +6,6 @@ use Rattle.m2_control.specs.declared.banner.BannerStep.{BannerStep}
 use Rattle.m2_control.specs.declared.banner.BannerStep.TheVariants.{Got, NotYet, BadBanner}
 use Rattle.m2_control.specs.Banner.{IsStep}
 use Rattle.m2_frame.specs.Frame.{Parts}
-use Rattle.m2_frame.specs.Reading.{whole, dropped, Front, start, bad, text, judge}
-use Rattle.m2_frame.proofs.Cutting.{text_stays, text_within, fault_stays}
 use Rattle.m2_handshake.specs.declared.ask.Ask.{Ask}
 use Rattle.m2_handshake.specs.declared.fault.HalfFault.{HalfFault}
 use Rattle.m2_handshake.specs.declared.fault.HalfFault.TheVariants as fault
@@ -22,22 +20,21 @@ use Rattle.m2_control.specs.Banner.{banner_in}
 use Rattle.m2_handshake.specs.Course.{signed_move, course_move_at, course_move}
 use Rattle.m2_handshake.specs.Laws.{later}
 use Rattle.m2_handshake.specs.Moves.{Move, stays, quiet, writes, fails, is_agreed, after_banner, take_frame, after_reaction, answer_held, after_asking, read_held, refuse_held, ask_move_at, ask_move_of, move_at, move_of}
+use Rattle.m2_handshake.specs.Reading.{Found, begun, refused, framed, found_in}
 use Rattle.m2_handshake.specs.Standing.{Standing, grown}
 use Rattle.m2_handshake.specs.Steps.{Reaction, says, listens, signed, refuses, after_frame}
 use Rattle.m2_handshake.specs.Texts.{frame_text, hello}
 use Rattle.m2_handshake.proofs.Banners.{is_step, banner_stays}
+use Rattle.m2_handshake.proofs.Sizes.{begun_isnt_framed, begun_isnt_refused, found_stays, framed_within}
 
 -- ---- frames
 
-take_later : (s : Standing) (more : List ℕ) (front : Front) → judge s.rest ≡ front → take_frame s front ≢ stays → later more (take_frame s front) ≡ take_frame (grown more s) (judge (s.rest ++ more))
-take_later s more start e n = absurd (n refl)
-take_later s more (bad f) e n = ap (take_frame (grown more s)) (sym (fault_stays s.rest more f e))
-take_later s more (text (dropped tag) k) e n =
-    ap (λ (r : List ℕ). quiet (record s { rest = r })) (sym (drop-append-le k s.rest more (text_within s.rest (dropped tag) k e)))
-    ∙ ap (take_frame (grown more s)) (sym (text_stays s.rest more (dropped tag) k e))
-take_later s more (text (whole f) k) e n =
-    ap (λ (r : List ℕ). quiet (record s { held = Some f; rest = r })) (sym (drop-append-le k s.rest more (text_within s.rest (whole f) k e)))
-    ∙ ap (take_frame (grown more s)) (sym (text_stays s.rest more (whole f) k e))
+take_later : (s : Standing) (more : List ℕ) (found : Found) → found_in s.rest ≡ found → take_frame s found ≢ stays → later more (take_frame s found) ≡ take_frame (grown more s) (found_in (s.rest ++ more))
+take_later s more begun e n = absurd (n refl)
+take_later s more (refused f) e n = ap (take_frame (grown more s)) (sym (found_stays s.rest more (refused f) e (begun_isnt_refused f)))
+take_later s more (framed f k) e n =
+    ap (λ (r : List ℕ). quiet (record s { held = Some f; rest = r })) (sym (drop-append-le k s.rest more (framed_within s.rest f k e)))
+    ∙ ap (take_frame (grown more s)) (sym (found_stays s.rest more (framed f k) e (begun_isnt_framed f k)))
 
 reaction_later : (s : Standing) (more : List ℕ) (r : Reaction) → later more (after_reaction s r) ≡ after_reaction (grown more s) r
 reaction_later s more (says next words) = refl
@@ -47,7 +44,7 @@ reaction_later s more (refuses f) = refl
 
 held_later : (s : Standing) (more : List ℕ) (awaited : Awaited) (held : Option Parts) → answer_held s awaited held ≢ stays → later more (answer_held s awaited held) ≡ answer_held (grown more s) awaited held
 held_later s more awaited (Some f) n = reaction_later s more (after_frame s.side awaited f)
-held_later s more awaited None n = take_later s more (judge s.rest) refl n
+held_later s more awaited None n = take_later s more (found_in s.rest) refl n
 
 -- ---- banners
 
@@ -90,11 +87,11 @@ asking_later s more (Err f) = refl
 
 read_later : (s : Standing) (more : List ℕ) (held : Option Parts) → read_held s held ≢ stays → later more (read_held s held) ≡ read_held (grown more s) held
 read_later s more (Some f) n = asking_later s more (ask_in s.peer f)
-read_later s more None n = take_later s more (judge s.rest) refl n
+read_later s more None n = take_later s more (found_in s.rest) refl n
 
 refuse_later : (s : Standing) (more : List ℕ) (held : Option Parts) → refuse_held s held ≢ stays → later more (refuse_held s held) ≡ refuse_held (grown more s) held
 refuse_later s more (Some f) n = refl
-refuse_later s more None n = take_later s more (judge s.rest) refl n
+refuse_later s more None n = take_later s more (found_in s.rest) refl n
 
 ask_later : (stage : Stage) (s : Standing) (more : List ℕ) → ask_move_at stage s ≢ stays → later more (ask_move_at stage s) ≡ ask_move_at stage (grown more s)
 ask_later Opening s more n = refl

@@ -1,9 +1,8 @@
 -- What the calls of a half answer, and where they leave it.
-use Rattle.std.specs.Prelude.{◌≡◌, ℕ, ◌+◌, ◌<◌, true, false, List, ◌++◌, length, drop, Option, Some, None, Result, Ok, Err}
+use Rattle.std.specs.Prelude.{◌≡◌, ℕ, ◌+◌, ◌<◌, true, List, ◌++◌, length, drop, Option, Some, None, Result, Ok, Err}
 use Rattle.m2_bytes.specs.declared.memory.NoMemory as OutOfMemory
 use Rattle.m2_bytes.specs.Blob.{Contents}
 use Rattle.m2_frame.specs.Frame.{Parts}
-use Rattle.m2_frame.specs.Reading.{judge}
 use Rattle.m2_handshake.specs.declared.answer.HalfStep.{HalfStep}
 use Rattle.m2_handshake.specs.declared.answer.HalfStep.TheVariants as answer
 use Rattle.m2_handshake.specs.declared.halt.Halt.{Halt}
@@ -16,6 +15,7 @@ use Rattle.m2_handshake.specs.declared.stage.Awaited.TheVariants.{Hello}
 use Rattle.m2_handshake.specs.declared.stage.Stage.{Stage}
 use Rattle.m2_handshake.specs.declared.stage.Stage.TheVariants.{Waits, Authed, Ended}
 use Rattle.m2_handshake.specs.Moves.{stays, quiet, writes, signs, fails, take_frame, after_reaction, is_authed, is_frame_there, move_of, wants_memory, Quietly}
+use Rattle.m2_handshake.specs.Reading.{found_in}
 use Rattle.m2_handshake.specs.Standing.{Standing, HalfState, faulted}
 use Rattle.m2_handshake.specs.Steps.{Reaction, says, listens, signed, refuses}
 use Rattle.m2_handshake.specs.Texts.{frame_text, hello}
@@ -52,17 +52,9 @@ Advances (Err NotYet) old new = Ends answer.NotYet old new
 Advances (Err (Fault f)) old new = (move_of old.standing ≡ fails f) × (new ≡ old)
 Advances (Err NoMemory) old new = Ends answer.NoMemory old new
 
--- ---- what is granted where both sides have signed
+-- ---- where both sides have signed
 
--- if it has signed, then nothing is granted
-abbrev pub IsClearIfSigned : HalfState → Type 0
-IsClearIfSigned h = is_authed h.standing.stage ≡ true → h.granted ≡ false
-
--- a half that has signed now, and hadn't before, has granted nothing
-abbrev pub SignsClear : HalfState → HalfState → Type 0
-SignsClear old new = is_authed old.standing.stage ≡ false → IsClearIfSigned new
-
--- one that had signed stays as it is
+-- a half that had signed stays as it is
 abbrev pub StaysSigned : HalfState → HalfState → Type 0
 StaysSigned old new = is_authed old.standing.stage ≡ true → new ≡ old
 
@@ -100,12 +92,12 @@ IsReading Authed = Unit {0}
 IsReading Ended = Unit {0}
 IsReading _ = ⊥
 
--- the next frame is taken into hand, or an aborted one is passed
+-- the next frame is taken into hand
 abbrev pub TakesFrame : Result (Unit {0}) Halt → Standing → Standing → Type 0
-TakesFrame (Ok _) old new = (take_frame old (judge old.rest) ≡ quiet new) × (work_left new < work_left old)
-TakesFrame (Err NotYet) old new = (take_frame old (judge old.rest) ≡ stays) × (new ≡ old)
-TakesFrame (Err (Fault f)) old new = (take_frame old (judge old.rest) ≡ fails f) × (new ≡ old)
-TakesFrame (Err NoMemory) old new = (is_frame_there old.held (judge old.rest) ≡ true) × (new ≡ old)
+TakesFrame (Ok _) old new = (take_frame old (found_in old.rest) ≡ quiet new) × (work_left new < work_left old)
+TakesFrame (Err NotYet) old new = (take_frame old (found_in old.rest) ≡ stays) × (new ≡ old)
+TakesFrame (Err (Fault f)) old new = (take_frame old (found_in old.rest) ≡ fails f) × (new ≡ old)
+TakesFrame (Err NoMemory) old new = (is_frame_there old.held (found_in old.rest) ≡ true) × (new ≡ old)
 
 -- what the code is to do is what the table says, or memory ran out
 abbrev pub reaction_of : Turn → Reaction

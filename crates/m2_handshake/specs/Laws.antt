@@ -1,9 +1,16 @@
 -- The laws of a half: it has one course, by the bytes that it was fed and the replies that it was given, and the same one
 -- however the bytes were cut.
-use Rattle.std.specs.Prelude.{◌≡◌, ◌≢◌, ℕ, ◌+◌, ◌≤◌, true, false, ◌⊎◌, List, [], ◌∷◌, ◌++◌, length, Ok}
+use Rattle.std.specs.Prelude.{◌≡◌, ◌≢◌, ℕ, ◌+◌, ◌≤◌, ◌<◌, true, false, ◌⊎◌, List, [], ◌∷◌, ◌++◌, length, Some, Ok}
 use Rattle.m2_addr.specs.declared.fault.AddrFault.TheVariants as address
 use Rattle.m2_control.specs.declared.control.Control.{Control}
 use Rattle.m2_control.specs.declared.fault.ControlFault.TheVariants as control
+use Rattle.m2_frame.specs.declared.encoding.TheConstants.{CRC_BYTES}
+use Rattle.m2_frame.specs.declared.frame.TheConstants.{CONTROL_LIMIT}
+use Rattle.m2_frame.specs.declared.preamble.Preamble.{Preamble}
+use Rattle.m2_frame.specs.declared.preamble.TheConstants.{PREAMBLE_BYTES}
+use Rattle.m2_frame.specs.Frame.{message_tag}
+use Rattle.m2_frame.specs.Preamble.{IsPreamble}
+use Rattle.m2_frame.specs.Reading.{size_of}
 use Rattle.m2_handshake.specs.declared.answer.HalfStep.{HalfStep}
 use Rattle.m2_handshake.specs.declared.answer.HalfStep.TheVariants as answer
 use Rattle.m2_handshake.specs.declared.ask.AskStep.{AskStep}
@@ -19,7 +26,7 @@ use Rattle.m2_handshake.specs.Course.{course_move, Event, Goes, Runs, IsRested, 
 use Rattle.m2_handshake.specs.Course.{Exchange, no_exchange, Reaches, Signs, owed}
 use Rattle.m2_handshake.specs.Half.{Answers, Writer}
 use Rattle.m2_handshake.specs.Moves.{Move, stays, quiet, writes, signs, asks, fails, can_ask, is_at_rest, is_authed}
-use Rattle.m2_handshake.specs.Standing.{Standing, fed, grown}
+use Rattle.m2_handshake.specs.Standing.{Standing, awaits_frame, fed, grown}
 use Rattle.m2_handshake.specs.Texts.{frame_text, IsReply}
 
 -- a move, and then they are behind what it left unread
@@ -200,3 +207,17 @@ pub record KeepsItsFault : Type 0 where
       (result ≡ answer.Fault f) × (new.standing.stage ≡ Faulty f) × (new.out ≡ old.out)
   pub ask : (f : HalfFault) (result : AskStep) (old new : Standing) → old.stage ≡ Faulty f → AskAnswers result old new →
       (result ≡ step.Fault f) × (new.stage ≡ Faulty f)
+
+-- ---- a MESSAGE
+
+-- A half that reads a frame next answers Unexpected exactly where its unread bytes begin with the preamble of a MESSAGE,
+-- whatever follows it. So it never waits for a MESSAGE's body.
+pub record RefusesMessages : Type 0 where
+  pub there : (s : Standing) (bytes more : List ℕ) (p : Preamble) → awaits_frame s ≡ true → IsPreamble bytes p → p.tag ≡ message_tag →
+      s.rest ≡ bytes ++ more → course_move s ≡ fails (fault.Unexpected message_tag)
+  pub only : (s : Standing) (tag : ℕ) → awaits_frame s ≡ true → course_move s ≡ fails (fault.Unexpected tag) →
+      (tag ≡ message_tag) × (size : ℕ) × (size_of s.rest ≡ Some size)
+
+-- A half that reads a frame next, and waits for more bytes, has fewer unread than the longest control frame has.
+abbrev pub KeepsLittle : Type 0
+KeepsLittle = (s : Standing) → awaits_frame s ≡ true → course_move s ≡ stays → length s.rest < PREAMBLE_BYTES + CONTROL_LIMIT + CRC_BYTES

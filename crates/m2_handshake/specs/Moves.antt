@@ -7,7 +7,6 @@ use Rattle.m2_control.specs.declared.banner.BannerStep.{BannerStep}
 use Rattle.m2_control.specs.declared.banner.BannerStep.TheVariants.{Got, NotYet, BadBanner}
 use Rattle.m2_control.specs.Banner.{banner_in, banner_text}
 use Rattle.m2_frame.specs.Frame.{Parts}
-use Rattle.m2_frame.specs.Reading.{whole, dropped, Front, start, bad, text, judge}
 use Rattle.m2_handshake.specs.declared.ask.Ask.{Ask}
 use Rattle.m2_handshake.specs.declared.fault.HalfFault.{HalfFault}
 use Rattle.m2_handshake.specs.declared.fault.HalfFault.TheVariants as fault
@@ -18,6 +17,7 @@ use Rattle.m2_handshake.specs.declared.stage.HalfSide.TheVariants.{Opener, Accep
 use Rattle.m2_handshake.specs.declared.stage.Stage.{Stage}
 use Rattle.m2_handshake.specs.declared.stage.Stage.TheVariants.{Opening, Banner, Waits, Authed, Asked, Ended, Faulty}
 use Rattle.m2_handshake.specs.Asks.{ask_in}
+use Rattle.m2_handshake.specs.Reading.{Found, begun, refused, framed, found_in}
 use Rattle.m2_handshake.specs.Standing.{Standing}
 use Rattle.m2_handshake.specs.Steps.{Reaction, says, listens, signed, refuses, after_frame}
 use Rattle.m2_handshake.specs.Texts.{frame_text, hello}
@@ -51,12 +51,11 @@ after_banner s BadBanner = fails fault.BadBanner
 
 -- ---- frames
 
--- the next frame is taken from the unread bytes; an aborted one is dropped
-abbrev pub take_frame : Standing → Front → Move
-take_frame s start = stays
-take_frame s (bad f) = fails (fault.Frame f)
-take_frame s (text (dropped tag) n) = quiet (record s { rest = drop n s.rest })
-take_frame s (text (whole f) n) = quiet (record s { held = Some f; rest = drop n s.rest })
+-- the next frame is taken from the unread bytes
+abbrev pub take_frame : Standing → Found → Move
+take_frame s begun = stays
+take_frame s (refused f) = fails f
+take_frame s (framed f n) = quiet (record s { held = Some f; rest = drop n s.rest })
 
 abbrev pub after_reaction : Standing → Reaction → Move
 after_reaction s (says next words) = writes words (record s { stage = Waits next; held = None })
@@ -66,7 +65,7 @@ after_reaction s (refuses f) = fails f
 
 abbrev pub answer_held : Standing → Awaited → Option Parts → Move
 answer_held s awaited (Some f) = after_reaction s (after_frame s.side awaited f)
-answer_held s awaited None = take_frame s (judge s.rest)
+answer_held s awaited None = take_frame s (found_in s.rest)
 
 -- ---- a half's next move in the handshake, by its stage
 
@@ -90,12 +89,12 @@ after_asking s (Err f) = fails f
 
 abbrev pub read_held : Standing → Option Parts → Move
 read_held s (Some f) = after_asking s (ask_in s.peer f)
-read_held s None = take_frame s (judge s.rest)
+read_held s None = take_frame s (found_in s.rest)
 
 -- after the end of an exchange any frame is too much
 abbrev pub refuse_held : Standing → Option Parts → Move
 refuse_held s (Some f) = fails (fault.Unexpected f.tag)
-refuse_held s None = take_frame s (judge s.rest)
+refuse_held s None = take_frame s (found_in s.rest)
 
 -- while a reply is owed, and before both sides have signed, nothing is read
 abbrev pub ask_move_at : Stage → Standing → Move
@@ -144,8 +143,8 @@ abbrev pub is_at_rest : Standing → Bool
 is_at_rest s = is_stays (next_move s)
 
 -- no frame is in hand, and what is unread is the start of one; the same of a banner
-abbrev pub is_start : Option Parts → Front → Bool
-is_start None start = true
+abbrev pub is_start : Option Parts → Found → Bool
+is_start None begun = true
 is_start _ _ = false
 
 abbrev pub is_banner_start : BannerStep → Bool
@@ -159,18 +158,18 @@ abbrev pub is_banner : BannerStep → Bool
 is_banner (Got b used) = true
 is_banner _ = false
 
-abbrev pub is_whole : Front → Bool
-is_whole (text (whole f) n) = true
+abbrev pub is_whole : Found → Bool
+is_whole (framed f n) = true
 is_whole _ = false
 
-abbrev pub is_frame_there : Option Parts → Front → Bool
-is_frame_there (Some f) front = true
-is_frame_there None front = is_whole front
+abbrev pub is_frame_there : Option Parts → Found → Bool
+is_frame_there (Some f) found = true
+is_frame_there None found = is_whole found
 
 abbrev pub wants_memory_at : Stage → Standing → Bool
 wants_memory_at Opening s = true
 wants_memory_at Banner s = is_banner (banner_in s.rest)
-wants_memory_at (Waits awaited) s = is_frame_there s.held (judge s.rest)
+wants_memory_at (Waits awaited) s = is_frame_there s.held (found_in s.rest)
 wants_memory_at _ s = false
 
 abbrev pub wants_memory : Standing → Bool
@@ -178,8 +177,8 @@ wants_memory s = wants_memory_at s.stage s
 
 -- towards an ask
 abbrev pub wants_memory_to_ask_at : Stage → Standing → Bool
-wants_memory_to_ask_at Authed s = is_frame_there s.held (judge s.rest)
-wants_memory_to_ask_at Ended s = is_frame_there s.held (judge s.rest)
+wants_memory_to_ask_at Authed s = is_frame_there s.held (found_in s.rest)
+wants_memory_to_ask_at Ended s = is_frame_there s.held (found_in s.rest)
 wants_memory_to_ask_at _ s = false
 
 abbrev pub wants_memory_to_ask : Standing → Bool

@@ -1,5 +1,5 @@
--- What reading gives: a payload where memory sufficed, and the next text of a stream.
-use Rattle.std.specs.Prelude.{◌≡◌, ◌≢◌, ◌≤◌, ℕ, false, List, length, drop, Option, Some, None, Result, Ok, Err}
+-- What reading gives: a payload where memory sufficed, and what stands at the front of the unread bytes.
+use Rattle.std.specs.Prelude.{◌≡◌, ◌≢◌, ◌≤◌, ℕ, List, length, drop, Option, Some, None, Result, Ok, Err}
 use Rattle.m2_control.specs.declared.control.Control.{Control}
 use Rattle.m2_control.specs.declared.fault.ControlFault.{ControlFault}
 use Rattle.m2_frame.specs.declared.tag.Tag.{Tag}
@@ -7,11 +7,10 @@ use Rattle.m2_frame.specs.declared.tag.Tag.TheVariants.{Message}
 use Rattle.m2_frame.specs.declared.tag.TheConstants.{FIRST_TAG, LAST_TAG}
 use Rattle.m2_control.specs.Control.{bare, payload_of}
 use Rattle.m2_frame.specs.Tags.{tag_number}
-use Rattle.m2_frame.specs.declared.fault.FrameFault.{FrameFault}
 use Rattle.m2_frame.specs.declared.frame.Frame.{Frame}
-use Rattle.m2_frame.specs.Frame.{Parts, parts}
+use Rattle.m2_frame.specs.Frame.{Parts, message_tag, parts}
 use Rattle.m2_frame.specs.Position.{Position}
-use Rattle.m2_frame.specs.Reading.{Item, whole, dropped, start, bad, text, judge}
+use Rattle.m2_frame.specs.Reading.{whole, dropped, Front, start, bad, text, judge, size_of}
 use Rattle.m2_handshake.specs.declared.fault.HalfFault.{HalfFault}
 use Rattle.m2_handshake.specs.declared.fault.HalfFault.TheVariants as fault
 use Rattle.m2_handshake.specs.declared.halt.Halt.{Halt}
@@ -41,16 +40,29 @@ GivesControl (Err (Fault f)) read = read ≡ Err f
 GivesControl (Err NoMemory) read = Unit {0}
 GivesControl (Err NotYet) read = ⊥
 
--- ---- the next text of a stream, with the size of each MESSAGE granted at once
+-- ---- the front of the unread bytes
 
--- one text of n bytes is passed
-abbrev pub Passes : Position → Item → Position → Type 0
-Passes old item new = (n : ℕ) × (judge old.rest ≡ text item n) × (32 ≤ n) × (n ≤ length old.rest) × (new.rest ≡ drop n old.rest) × (new.granted ≡ false)
+-- what a half finds there: the start of a frame, or nothing; a fault; a whole frame, of so many bytes
+pub data Found : Type 0 where
+  begun : Found
+  refused : HalfFault → Found
+  framed : Parts → ℕ → Found
 
--- a frame; an aborted one; the start of one; a fault; want of memory, where the whole text of a frame is there
-abbrev pub Takes : Result (Option Frame) Halt → Position → Position → Type 0
-Takes (Ok (Some f)) old new = Passes old (whole (parts f)) new
-Takes (Ok None) old new = (tag : ℕ) × Passes old (dropped tag) new
-Takes (Err NotYet) old new = (judge old.rest ≡ start) × (new.rest ≡ old.rest)
-Takes (Err (Fault g)) old new = (f : FrameFault) × (g ≡ fault.Frame f) × (judge old.rest ≡ bad f) × (new.rest ≡ old.rest)
-Takes (Err NoMemory) old new = (f : Parts) × (n : ℕ) × (judge old.rest ≡ text (whole f) n) × (new.rest ≡ old.rest)
+-- Before there is a session no MESSAGE may come: its preamble, which asks for a size, shows it, whatever follows. What its
+-- sender gave up is a MESSAGE too.
+abbrev pub found_by : Option ℕ → Front → Found
+found_by (Some size) front = refused (fault.Unexpected message_tag)
+found_by None start = begun
+found_by None (bad f) = refused (fault.Frame f)
+found_by None (text (dropped tag) n) = refused (fault.Unexpected tag)
+found_by None (text (whole f) n) = framed f n
+
+abbrev pub found_in : List ℕ → Found
+found_in rest = found_by (size_of rest) (judge rest)
+
+-- a frame is taken; the start of one; a fault; want of memory, where a whole frame is there
+abbrev pub Takes : Result Frame Halt → Position → Position → Type 0
+Takes (Ok f) old new = (n : ℕ) × (found_in old.rest ≡ framed (parts f) n) × (32 ≤ n) × (n ≤ length old.rest) × (new.rest ≡ drop n old.rest)
+Takes (Err NotYet) old new = (found_in old.rest ≡ begun) × (new.rest ≡ old.rest)
+Takes (Err (Fault f)) old new = (found_in old.rest ≡ refused f) × (new.rest ≡ old.rest)
+Takes (Err NoMemory) old new = (f : Parts) × (n : ℕ) × (found_in old.rest ≡ framed f n) × (new.rest ≡ old.rest)

@@ -60,11 +60,9 @@ faulted f s = faulted_at s.stage f s
 
 -- ---- what contracts see of a half
 
--- where it stands; whether the size that a MESSAGE at the front of its unread bytes asks for was granted; how many
--- bytes it was fed; and how many more fit before memory is taken
+-- where it stands; how many bytes it was fed; and how many more fit before memory is taken
 pub record HalfState : Type 0 where
   pub standing : Standing
-  pub granted : Bool
   pub count : ℕ
   pub room : ℕ
 
@@ -86,11 +84,6 @@ awaits_at _ _ _ = false
 abbrev pub awaits_frame : Standing → Bool
 awaits_frame s = awaits_at s.held s.stage s.side
 
--- only a half that reads a frame next has granted its size: not one with a frame in hand, nor one that was asked, nor an
--- opener that has signed
-abbrev pub IsClear : HalfState → Type 0
-IsClear h = awaits_frame h.standing ≡ false → h.granted ≡ false
-
 -- ---- how it is made of a half's fields
 
 -- before the banner was read, bytes lie in front of the decoder
@@ -103,7 +96,7 @@ abbrev pub parts_held : Option Frame → Option Parts
 parts_held (Some f) = Some (parts f)
 parts_held None = None
 
--- a half's own fact; the second: all that lies unread was fed
+-- a half's own facts: no size is ever granted, and all that lies unread was fed
 pub record Holds (h : HalfState) (unread : Position) : Type 0 where
-  pub clear : IsClear h
+  pub ungranted : unread.granted ≡ false
   pub counted : unread.place + length unread.rest ≤ h.count

@@ -1,13 +1,13 @@
 //! One side of a handshake.
 
 ghost use Rattle.std.specs.Prelude.{◌≡◌, ◌≤◌, ◌+◌, true, false, None, IsOk, IsSome, OnOk, OnErr, IsTrue, ◌↔◌, length};
-ghost use Rattle.m2_frame.specs.Reading.{judge};
 ghost use Rattle.m2_handshake.specs.declared.stage.HalfSide.TheVariants as sides;
 ghost use Rattle.m2_handshake.specs.declared.stage.Stage.TheVariants as stages;
 ghost use Rattle.m2_handshake.specs.Asking.{AskAdvances, AskAnswers, AskShrinks, Replies, is_ready};
-ghost use Rattle.m2_handshake.specs.Half.{Advances, Answers, AnswersSigned, Ends, Follows, IsClearIfSigned, IsReading, SaysHello, Shrinks, SignsClear, StaysSigned, TakesFrame, writer};
-ghost use Rattle.m2_handshake.specs.Moves.{can_ask, is_agreed, is_at_rest, is_authed, is_banner_start, is_start};
-ghost use Rattle.m2_handshake.specs.Standing.{CanFeed, IsClear, IsSameButRoom, awaits_frame, acceptor_at_start, at_start, faulted, fed, opener_at_start};
+ghost use Rattle.m2_handshake.specs.Half.{Advances, Answers, AnswersSigned, Ends, Follows, IsReading, SaysHello, Shrinks, StaysSigned, TakesFrame, writer};
+ghost use Rattle.m2_handshake.specs.Moves.{can_ask, is_agreed, is_at_rest, is_banner_start, is_start};
+ghost use Rattle.m2_handshake.specs.Reading.{found_in};
+ghost use Rattle.m2_handshake.specs.Standing.{CanFeed, IsSameButRoom, acceptor_at_start, at_start, faulted, fed, opener_at_start};
 ghost use Rattle.m2_handshake.specs.Texts.{IsReply};
 
 use crate::answer::HalfStep;
@@ -72,7 +72,6 @@ impl Model for Half {
         held = parts_held h.held;
         rest = (unread_of h.stage h.early h.decoder).rest;
       };
-      granted = (unread_of h.stage h.early h.decoder).granted;
       count = h.count;
       room = (unread_of h.stage h.early h.decoder).room;
     } };
@@ -87,7 +86,6 @@ impl Model for Half {
         held = parts_held h.held;
         rest = (unread_of h.stage h.early h.decoder).rest;
       };
-      granted = (unread_of h.stage h.early h.decoder).granted;
       count = h.count;
       room = (unread_of h.stage h.early h.decoder).room;
     }) (unread_of h.stage h.early h.decoder) };
@@ -96,8 +94,7 @@ impl Model for Half {
 impl Half {
     /// The side that connected. Its HELLO names this entity, and the address that was dialled.
     pub fn client(alloc: Global, entity: u8, seen: Addr) -> Half
-        ensures standing { result.standing ≡ opener_at_start entity seen }
-        ensures granted { result.granted ≡ false }
+        ensures { result.standing ≡ opener_at_start entity seen }
     {
         Half::new(alloc, HalfSide::Opener, entity, seen)
     }
@@ -105,15 +102,13 @@ impl Half {
     /// The side that accepted. Its HELLO names this entity, and the address of the socket with the
     /// kind of msgr2 and nonce 0.
     pub fn server(alloc: Global, entity: u8, seen: Addr) -> Half
-        ensures standing { result.standing ≡ acceptor_at_start entity seen }
-        ensures granted { result.granted ≡ false }
+        ensures { result.standing ≡ acceptor_at_start entity seen }
     {
         Half::new(alloc, HalfSide::Acceptor, entity, seen)
     }
 
     fn new(alloc: Global, side: HalfSide, entity: u8, seen: Addr) -> Half
-        ensures standing { result.standing ≡ at_start side entity seen }
-        ensures granted { result.granted ≡ false }
+        ensures { result.standing ≡ at_start side entity seen }
     {
         Half {
             alloc,
@@ -170,14 +165,14 @@ impl Half {
     }
 
     /// Whether no frame is in hand, and what is unread is the start of one.
-    #[tactic(auto, using(crate::proofs::Resting::start_is, crate::proofs::Resting::start_isnt))]
+    #[tactic(auto, using(crate::proofs::Sizes::reads_decoder, crate::proofs::Resting::start_is, crate::proofs::Resting::start_isnt))]
     fn is_at_start(&self) -> bool
         requires { IsReading self.now.standing.stage }
-        ensures { result ≡ is_start self.now.standing.held (judge self.now.standing.rest) }
+        ensures { result ≡ is_start self.now.standing.held (found_in self.now.standing.rest) }
     {
         match self.held {
             Some(_) => false,
-            None => self.decoder.starts(),
+            None => self.decoder.rests(),
         }
     }
 
@@ -205,7 +200,6 @@ impl Half {
     pub fn feed(&mut self, piece: &[u8]) -> Result<(), NoMemory>
         ensures ok { OnOk result (self.new.standing ≡ fed self.old.standing piece.now) }
         ensures err { OnErr result (IsSameButRoom self.old self.new) }
-        ensures granted { self.new.granted ≡ self.old.granted }
         ensures count { OnOk result (self.new.count ≡ self.old.count + length piece.now) }
         ensures room { self.old.room ≤ self.new.room + length piece.now }
         ensures succeeds { CanFeed self.old (length piece.now) → IsOk result }
@@ -222,11 +216,10 @@ impl Half {
         Ok(())
     }
 
-    /// The next answer of the handshake; what it writes is appended to `out`. A half that signs has granted
-    /// nothing, and one that has signed stays as it is.
+    /// The next answer of the handshake; what it writes is appended to `out`. A half that has signed stays as it
+    /// is.
     pub fn next(&mut self, out: &mut Blob) -> HalfStep
         ensures answer { Answers result (writer self.old out.old) (writer self.new out.new) }
-        ensures signs { SignsClear self.old self.new }
         ensures signed { StaysSigned self.old self.new }
     {
         'moves: loop {
@@ -280,7 +273,6 @@ impl Half {
         requires owed { self.old.standing.stage ≡ stages.Asked }
         requires reply { IsReply c.now }
         ensures exact { Replies result c.now (writer self.old out.old) (writer self.new out.new) }
-        ensures granted { self.new.granted ≡ false }
     {
         put_reply(self.alloc, c, out)?;
         self.stage = match c {
@@ -290,13 +282,11 @@ impl Half {
         Ok(())
     }
 
-    /// Hands on the decoder with all unread bytes. An opener, and an acceptor that was asked, has granted
-    /// nothing.
+    /// Hands on the decoder with all unread bytes, and with nothing granted.
     pub fn finish(self) -> Decoder
         requires { is_ready self.standing ≡ true }
         ensures rest { result.rest ≡ self.standing.rest }
-        ensures granted { result.granted ≡ self.granted }
-        ensures clear { IsClear self }
+        ensures ungranted { result.granted ≡ false }
     {
         self.decoder
     }
@@ -335,7 +325,7 @@ impl Half {
         Ok(Some(ask))
     }
 
-    /// Takes the next frame; any whole one is too much.
+    /// Takes the next frame; any whole one, and any MESSAGE, is too much.
     fn await_end(&mut self) -> Result<Option<Ask>, Halt>
         requires stage { self.old.standing.stage ≡ stages.Ended }
         requires side { self.old.standing.side ≡ sides.Acceptor }
@@ -352,7 +342,6 @@ impl Half {
 
     /// One move.
     fn advance(&mut self, out: &mut Blob) -> Result<Progress, Halt>
-        ensures signs { SignsClear self.old self.new }
         ensures signed { AnswersSigned result self.old self.new }
         ensures exact { Advances result (writer self.old out.old) (writer self.new out.new) }
         ensures shrinks { Shrinks result self.old.standing self.new.standing }
@@ -369,7 +358,6 @@ impl Half {
     /// Writes its banner.
     fn open(&mut self, out: &mut Blob) -> Result<Progress, Halt>
         requires { self.old.standing.stage ≡ stages.Opening }
-        ensures signs { IsClearIfSigned self.new }
         ensures exact { Advances result (writer self.old out.old) (writer self.new out.new) }
         ensures shrinks { Shrinks result self.old.standing self.new.standing }
     {
@@ -382,7 +370,6 @@ impl Half {
     #[tactic(auto, using(crate::proofs::Banners::step_is))]
     fn greet(&mut self, out: &mut Blob) -> Result<Progress, Halt>
         requires { self.old.standing.stage ≡ stages.Banner }
-        ensures signs { IsClearIfSigned self.new }
         ensures exact { Advances result (writer self.old out.old) (writer self.new out.new) }
         ensures shrinks { Shrinks result self.old.standing self.new.standing }
     {
@@ -418,7 +405,6 @@ impl Half {
     /// Takes the next frame, or answers the one that is in hand.
     fn go_on(&mut self, awaited: Awaited, out: &mut Blob) -> Result<Progress, Halt>
         requires { self.old.standing.stage ≡ stages.Waits awaited }
-        ensures signs { IsClearIfSigned self.new }
         ensures exact { Advances result (writer self.old out.old) (writer self.new out.new) }
         ensures shrinks { Shrinks result self.old.standing self.new.standing }
     {
@@ -430,27 +416,24 @@ impl Half {
         self.follow(turn, out)
     }
 
-    /// Takes the next frame into hand, or passes an aborted one.
+    /// Takes the next frame into hand.
+    #[tactic(auto, using(crate::proofs::Sizes::reads_decoder))]
     fn take_frame(&mut self) -> Result<(), Halt>
         requires free { self.old.standing.held ≡ None }
         requires reads { IsReading self.old.standing.stage }
-        requires awaits { awaits_frame self.old.standing ≡ true }
         ensures exact { TakesFrame result self.old.standing self.new.standing }
         ensures side_stays { self.new.standing.side ≡ self.old.standing.side }
         ensures stage_stays { self.new.standing.stage ≡ self.old.standing.stage }
     {
-        self.held = take(&mut self.decoder)?;
+        self.held = Some(take(&mut self.decoder)?);
         Ok(())
     }
 
     /// Does what the frame in hand brings.
-    #[tactic(auto, using(crate::proofs::Granting::held_awaits_none))]
     fn follow(&mut self, turn: Turn, out: &mut Blob) -> Result<Progress, Halt>
         requires held { IsSome self.old.standing.held }
         requires reads { IsReading self.old.standing.stage }
-        requires unsigned { is_authed self.old.standing.stage ≡ false }
         ensures exact { Follows turn result (writer self.old out.old) (writer self.new out.new) }
-        ensures signs { IsClearIfSigned self.new }
     {
         let (stage, progress) = match turn {
             Turn::Says(next, text) => {

@@ -2,7 +2,7 @@
 
 ghost use Rattle.m2_handshake.specs.Course.{course_move};
 ghost use Rattle.m2_handshake.specs.Greeting.{GreetingIsAsked, GreetingIsSigned, OpenerGreets};
-ghost use Rattle.m2_handshake.specs.Laws.{AnswersAtRest, AsksBeforeReplies, GoesOneWay, KeepsItsFault, LeadsOn, MoreWritesMore, RestsAtItsCourse, RestsExactly, RestsThere, SignsOnce, Stays, TellsMemoryApart, UnreadIsTheEnd};
+ghost use Rattle.m2_handshake.specs.Laws.{AnswersAtRest, AsksBeforeReplies, GoesOneWay, KeepsItsFault, KeepsLittle, LeadsOn, MoreWritesMore, RefusesMessages, RestsAtItsCourse, RestsExactly, RestsThere, SignsOnce, Stays, TellsMemoryApart, UnreadIsTheEnd};
 ghost use Rattle.m2_handshake.specs.Moves.{ask_move_of, move_of};
 
 /// A half that moves does so whatever is fed behind.
@@ -90,4 +90,16 @@ pub fn a_greeting_is_signed()
 /// then as exactly this ask: [`Half::ask`](crate::Half::ask) answers it, with exactly what follows unread.
 pub fn an_ask_behind_a_greeting_is_asked()
     ensures { GreetingIsAsked }
+{}
+
+/// A half that reads a frame next answers Unexpected exactly where its unread bytes begin with the preamble of a
+/// MESSAGE, whatever follows it: it never waits for a MESSAGE's body.
+pub fn a_message_is_refused_at_its_preamble()
+    ensures { RefusesMessages }
+{}
+
+/// A half that reads a frame next, and waits for more bytes, has fewer unread than the longest control frame
+/// has.
+pub fn a_waiting_half_keeps_little()
+    ensures { KeepsLittle }
 {}

@@ -30,7 +30,8 @@ pub use fault::HalfFault;
 pub use half::Half;
 pub use ident::{IdentCheck, check_ident, check_server_ident};
 pub use laws::{
-    a_fault_stays, a_greeting_is_signed, a_half_at_rest_answers_not_yet, a_rest_is_computed,
+    a_fault_stays, a_greeting_is_signed, a_half_at_rest_answers_not_yet,
+    a_message_is_refused_at_its_preamble, a_rest_is_computed, a_waiting_half_keeps_little,
     an_ask_behind_a_greeting_is_asked, an_opener_writes_its_greeting, asks_come_before_replies,
     calls_lead_on, it_signs_once, memory_is_no_fault, more_bytes_write_more, moves_stay, one_way,
     unread_bytes_are_the_end, where_a_half_rests,

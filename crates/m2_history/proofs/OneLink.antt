@@ -4,7 +4,7 @@ use Rattle.std.proofs.Common.{arith}
 use Rattle.std.specs.List.{AllByRecursion, IsDistinct}
 use Rattle.std.specs.Borrow.{Bor}
 use Rattle.m2_message.specs.m2_crc.Crc.{after_byte, shifted, shifted_by}
-use Rattle.m2_message.specs.m2_frame.Reading.{judge, judge_first, judge_later, judge_epilogue}
+use Rattle.m2_message.specs.m2_frame.Reading.{judge, judge_first, judge_later, judge_epilogue, size_of}
 use Rattle.m2_message.specs.m2_frame.Preamble.{read_preamble, preamble_text}
 use Rattle.m2_message.specs.m2_frame.Text.{segment_crc, text_of}
 use Rattle.m2_trail.specs.m2_control.Fields.{bounded_at, cookie_at, flag_at, numbers_at, list_at, string_at, vector_field}
@@ -172,7 +172,7 @@ other_port ip port e =
 -- ---- both sides
 
 lawful_near : AreLawful facts_of_a (items_by it true) (start facts_of_a)
-unfolding text_of preamble_text segment_crc after_byte shifted shifted_by judge judge_first judge_later judge_epilogue read_preamble bounded_at cookie_at flag_at numbers_at list_at string_at vector_field tail_at head_at socket_at body_of shape_at addresses_at vector_at header_text
+unfolding text_of preamble_text segment_crc after_byte shifted shifted_by judge judge_first judge_later judge_epilogue size_of read_preamble bounded_at cookie_at flag_at numbers_at list_at string_at vector_field tail_at head_at socket_at body_of shape_at addresses_at vector_at header_text
 lawful_near = (
   tt,
   (

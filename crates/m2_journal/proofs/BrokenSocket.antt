@@ -1,7 +1,7 @@
 -- A run, computed: the socket breaks in the middle of a message, and on the next one the message comes once.
 use Rattle.std.specs.Prelude.{◌≡◌, true, false, List, [], ◌∷◌, refl, Some}
 use Rattle.m2_message.specs.m2_crc.Crc.{after_byte, shifted, shifted_by}
-use Rattle.m2_message.specs.m2_frame.Reading.{judge, judge_first, judge_later, judge_epilogue}
+use Rattle.m2_message.specs.m2_frame.Reading.{judge, judge_first, judge_later, judge_epilogue, size_of}
 use Rattle.m2_message.specs.m2_frame.Preamble.{read_preamble, preamble_text}
 use Rattle.m2_message.specs.m2_frame.Text.{segment_crc, text_of}
 use Rattle.m2_handshake.specs.m2_control.Fields.{bounded_at, cookie_at, flag_at, numbers_at, list_at, string_at, vector_field}
@@ -65,34 +65,34 @@ b_broken = record (start facts_of_b) {
 }
 
 a_session : broken.a.session ≡ a_broken.session
-unfolding text_of preamble_text segment_crc after_byte shifted shifted_by judge judge_first judge_later judge_epilogue read_preamble bounded_at cookie_at flag_at numbers_at list_at string_at vector_field tail_at head_at socket_at body_of shape_at addresses_at vector_at header_text
+unfolding text_of preamble_text segment_crc after_byte shifted shifted_by judge judge_first judge_later judge_epilogue size_of read_preamble bounded_at cookie_at flag_at numbers_at list_at string_at vector_field tail_at head_at socket_at body_of shape_at addresses_at vector_at header_text
 a_session = refl
 
 a_out : broken.a.out ≡ a_broken.out
-unfolding text_of preamble_text segment_crc after_byte shifted shifted_by judge judge_first judge_later judge_epilogue read_preamble bounded_at cookie_at flag_at numbers_at list_at string_at vector_field tail_at head_at socket_at body_of shape_at addresses_at vector_at header_text
+unfolding text_of preamble_text segment_crc after_byte shifted shifted_by judge judge_first judge_later judge_epilogue size_of read_preamble bounded_at cookie_at flag_at numbers_at list_at string_at vector_field tail_at head_at socket_at body_of shape_at addresses_at vector_at header_text
 a_out = refl
 
 a_last : (broken.a.last ≡ a_broken.last) × (broken.a.owes ≡ a_broken.owes) × (broken.a.steps ≡ a_broken.steps) × (broken.a.dials ≡ a_broken.dials) × (broken.a.top ≡ a_broken.top)
-unfolding text_of preamble_text segment_crc after_byte shifted shifted_by judge judge_first judge_later judge_epilogue read_preamble bounded_at cookie_at flag_at numbers_at list_at string_at vector_field tail_at head_at socket_at body_of shape_at addresses_at vector_at header_text
+unfolding text_of preamble_text segment_crc after_byte shifted shifted_by judge judge_first judge_later judge_epilogue size_of read_preamble bounded_at cookie_at flag_at numbers_at list_at string_at vector_field tail_at head_at socket_at body_of shape_at addresses_at vector_at header_text
 a_last = (refl, refl, refl, refl, refl)
 
 a_opened : (broken.a.opened ≡ a_broken.opened) × (broken.a.judgements ≡ a_broken.judgements) × (broken.a.feed ≡ a_broken.feed) × (broken.a.spent ≡ a_broken.spent) × (broken.a.deliveries ≡ a_broken.deliveries)
-unfolding text_of preamble_text segment_crc after_byte shifted shifted_by judge judge_first judge_later judge_epilogue read_preamble bounded_at cookie_at flag_at numbers_at list_at string_at vector_field tail_at head_at socket_at body_of shape_at addresses_at vector_at header_text
+unfolding text_of preamble_text segment_crc after_byte shifted shifted_by judge judge_first judge_later judge_epilogue size_of read_preamble bounded_at cookie_at flag_at numbers_at list_at string_at vector_field tail_at head_at socket_at body_of shape_at addresses_at vector_at header_text
 a_opened = (refl, refl, refl, refl, refl)
 
 a_sent : broken.a.sent ≡ a_broken.sent
-unfolding text_of preamble_text segment_crc after_byte shifted shifted_by judge judge_first judge_later judge_epilogue read_preamble bounded_at cookie_at flag_at numbers_at list_at string_at vector_field tail_at head_at socket_at body_of shape_at addresses_at vector_at header_text
+unfolding text_of preamble_text segment_crc after_byte shifted shifted_by judge judge_first judge_later judge_epilogue size_of read_preamble bounded_at cookie_at flag_at numbers_at list_at string_at vector_field tail_at head_at socket_at body_of shape_at addresses_at vector_at header_text
 a_sent = refl
 
 a_then : broken.a ≡ a_broken
 a_then = same_state broken.a a_broken a_session a_out a_last.0 a_last.1 a_last.2 a_last.3 a_last.4 a_opened.0 a_opened.1 a_opened.2 a_opened.3 a_sent a_opened.4
 
 b_then : broken.b ≡ b_broken
-unfolding text_of preamble_text segment_crc after_byte shifted shifted_by judge judge_first judge_later judge_epilogue read_preamble bounded_at cookie_at flag_at numbers_at list_at string_at vector_field tail_at head_at socket_at body_of shape_at addresses_at vector_at header_text
+unfolding text_of preamble_text segment_crc after_byte shifted shifted_by judge judge_first judge_later judge_epilogue size_of read_preamble bounded_at cookie_at flag_at numbers_at list_at string_at vector_field tail_at head_at socket_at body_of shape_at addresses_at vector_at header_text
 b_then = refl
 
 lawful_until_then_at_b : AreLawful facts_of_b broken.of_b (start facts_of_b)
-unfolding text_of preamble_text segment_crc after_byte shifted shifted_by judge judge_first judge_later judge_epilogue read_preamble bounded_at cookie_at flag_at numbers_at list_at string_at vector_field tail_at head_at socket_at body_of shape_at addresses_at vector_at header_text
+unfolding text_of preamble_text segment_crc after_byte shifted shifted_by judge judge_first judge_later judge_epilogue size_of read_preamble bounded_at cookie_at flag_at numbers_at list_at string_at vector_field tail_at head_at socket_at body_of shape_at addresses_at vector_at header_text
 lawful_until_then_at_b = (
   record { unused = is_new _ _ refl refl; readable = can_be_read; by_the_tables = refl; not_opened = fails; asks_again = tt; of_trail = refl },
   (
@@ -108,7 +108,7 @@ lawful_until_then_at_b = (
 )
 
 lawful_until_then_at_a : AreLawful facts_of_a broken.of_a (start facts_of_a)
-unfolding text_of preamble_text segment_crc after_byte shifted shifted_by judge judge_first judge_later judge_epilogue read_preamble bounded_at cookie_at flag_at numbers_at list_at string_at vector_field tail_at head_at socket_at body_of shape_at addresses_at vector_at header_text
+unfolding text_of preamble_text segment_crc after_byte shifted shifted_by judge judge_first judge_later judge_epilogue size_of read_preamble bounded_at cookie_at flag_at numbers_at list_at string_at vector_field tail_at head_at socket_at body_of shape_at addresses_at vector_at header_text
 lawful_until_then_at_a = (
   (refl, tt),
   (
@@ -179,11 +179,11 @@ abbrev again : World
 again = b_does (accepted 1 key) (b_reads 2 1000 (a_writes 2 1000 (a_does (numbered 1) resumed)))
 
 once : (again.b.deliveries ≡ letter 1 key (with_numbers 1 0 hello_message) ∷ []) × (again.a.session.phase ≡ Ready) × (again.b.last ≡ 1)
-unfolding text_of preamble_text segment_crc after_byte shifted shifted_by judge judge_first judge_later judge_epilogue read_preamble bounded_at cookie_at flag_at numbers_at list_at string_at vector_field tail_at head_at socket_at body_of shape_at addresses_at vector_at header_text
+unfolding text_of preamble_text segment_crc after_byte shifted shifted_by judge judge_first judge_later judge_epilogue size_of read_preamble bounded_at cookie_at flag_at numbers_at list_at string_at vector_field tail_at head_at socket_at body_of shape_at addresses_at vector_at header_text
 once = (refl, refl, refl)
 
 lawful_again_at_b : AreLawful facts_of_b again.of_b b_broken
-unfolding text_of preamble_text segment_crc after_byte shifted shifted_by judge judge_first judge_later judge_epilogue read_preamble bounded_at cookie_at flag_at numbers_at list_at string_at vector_field tail_at head_at socket_at body_of shape_at addresses_at vector_at header_text
+unfolding text_of preamble_text segment_crc after_byte shifted shifted_by judge judge_first judge_later judge_epilogue size_of read_preamble bounded_at cookie_at flag_at numbers_at list_at string_at vector_field tail_at head_at socket_at body_of shape_at addresses_at vector_at header_text
 lawful_again_at_b = (
   record { unused = is_new _ _ refl refl; readable = can_be_read_again; by_the_tables = refl; not_opened = fails; asks_again = tt; of_trail = refl },
   (
@@ -199,7 +199,7 @@ lawful_again_at_b = (
 )
 
 lawful_again_at_a : AreLawful facts_of_a again.of_a a_broken
-unfolding text_of preamble_text segment_crc after_byte shifted shifted_by judge judge_first judge_later judge_epilogue read_preamble bounded_at cookie_at flag_at numbers_at list_at string_at vector_field tail_at head_at socket_at body_of shape_at addresses_at vector_at header_text
+unfolding text_of preamble_text segment_crc after_byte shifted shifted_by judge judge_first judge_later judge_epilogue size_of read_preamble bounded_at cookie_at flag_at numbers_at list_at string_at vector_field tail_at head_at socket_at body_of shape_at addresses_at vector_at header_text
 lawful_again_at_a = (
   record { due = holds; leads = holds; not_opened = fails; not_judged = fails; fits = leb-true 1 GREATEST_NUMBER holds },
   (

@@ -1,7 +1,7 @@
 -- A run, computed: a message between two records that were absent, from the banners on.
 use Rattle.std.specs.Prelude.{◌≡◌, ℕ, true, false, List, [], ◌∷◌, refl, Some}
 use Rattle.m2_message.specs.m2_crc.Crc.{after_byte, shifted, shifted_by}
-use Rattle.m2_message.specs.m2_frame.Reading.{judge, judge_first, judge_later, judge_epilogue}
+use Rattle.m2_message.specs.m2_frame.Reading.{judge, judge_first, judge_later, judge_epilogue, size_of}
 use Rattle.m2_message.specs.m2_frame.Preamble.{read_preamble, preamble_text}
 use Rattle.m2_message.specs.m2_frame.Text.{segment_crc, text_of}
 use Rattle.m2_handshake.specs.m2_control.Fields.{bounded_at, cookie_at, flag_at, numbers_at, list_at, string_at, vector_field}
@@ -66,19 +66,19 @@ delivered =
     (b_does (accepted 1 key) (b_reads 1 1000 (a_writes 1 1000 (a_does (numbered 1) established))))))
 
 phases : (delivered.a.session.phase ≡ Ready) × (delivered.b.session.phase ≡ Ready)
-unfolding text_of preamble_text segment_crc after_byte shifted shifted_by judge judge_first judge_later judge_epilogue read_preamble bounded_at cookie_at flag_at numbers_at list_at string_at vector_field tail_at head_at socket_at body_of shape_at addresses_at vector_at header_text
+unfolding text_of preamble_text segment_crc after_byte shifted shifted_by judge judge_first judge_later judge_epilogue size_of read_preamble bounded_at cookie_at flag_at numbers_at list_at string_at vector_field tail_at head_at socket_at body_of shape_at addresses_at vector_at header_text
 phases = (refl, refl)
 
 handed_out : delivered.b.deliveries ≡ letter 1 key (with_numbers 1 0 hello_message) ∷ []
-unfolding text_of preamble_text segment_crc after_byte shifted shifted_by judge judge_first judge_later judge_epilogue read_preamble bounded_at cookie_at flag_at numbers_at list_at string_at vector_field tail_at head_at socket_at body_of shape_at addresses_at vector_at header_text
+unfolding text_of preamble_text segment_crc after_byte shifted shifted_by judge judge_first judge_later judge_epilogue size_of read_preamble bounded_at cookie_at flag_at numbers_at list_at string_at vector_field tail_at head_at socket_at body_of shape_at addresses_at vector_at header_text
 handed_out = refl
 
 acknowledged : (delivered.a.out.queue.base ≡ 1) × (delivered.a.out.queue.kept ≡ [])
-unfolding text_of preamble_text segment_crc after_byte shifted shifted_by judge judge_first judge_later judge_epilogue read_preamble bounded_at cookie_at flag_at numbers_at list_at string_at vector_field tail_at head_at socket_at body_of shape_at addresses_at vector_at header_text
+unfolding text_of preamble_text segment_crc after_byte shifted shifted_by judge judge_first judge_later judge_epilogue size_of read_preamble bounded_at cookie_at flag_at numbers_at list_at string_at vector_field tail_at head_at socket_at body_of shape_at addresses_at vector_at header_text
 acknowledged = (refl, refl)
 
 pub lawful_at_b : AreLawful facts_of_b delivered.of_b (start facts_of_b)
-unfolding text_of preamble_text segment_crc after_byte shifted shifted_by judge judge_first judge_later judge_epilogue read_preamble bounded_at cookie_at flag_at numbers_at list_at string_at vector_field tail_at head_at socket_at body_of shape_at addresses_at vector_at header_text
+unfolding text_of preamble_text segment_crc after_byte shifted shifted_by judge judge_first judge_later judge_epilogue size_of read_preamble bounded_at cookie_at flag_at numbers_at list_at string_at vector_field tail_at head_at socket_at body_of shape_at addresses_at vector_at header_text
 lawful_at_b = (
   record { unused = is_new _ _ refl refl; readable = can_be_read; by_the_tables = refl; not_opened = fails; asks_again = tt; of_trail = refl },
   (
@@ -97,7 +97,7 @@ lawful_at_b = (
 )
 
 pub lawful_at_a : AreLawful facts_of_a delivered.of_a (start facts_of_a)
-unfolding text_of preamble_text segment_crc after_byte shifted shifted_by judge judge_first judge_later judge_epilogue read_preamble bounded_at cookie_at flag_at numbers_at list_at string_at vector_field tail_at head_at socket_at body_of shape_at addresses_at vector_at header_text
+unfolding text_of preamble_text segment_crc after_byte shifted shifted_by judge judge_first judge_later judge_epilogue size_of read_preamble bounded_at cookie_at flag_at numbers_at list_at string_at vector_field tail_at head_at socket_at body_of shape_at addresses_at vector_at header_text
 lawful_at_a = (
   (refl, tt),
   (
@@ -144,7 +144,7 @@ lawful_at_a = (
 
 -- ---- a socket that was taken isn't judged again
 taken_once : (number : ℕ) → MayJudge facts_of_b delivered.b (socket 1) number (record { ask = first_ask; answer = Accept }) of_first → ⊥
-unfolding text_of preamble_text segment_crc after_byte shifted shifted_by judge judge_first judge_later judge_epilogue read_preamble bounded_at cookie_at flag_at numbers_at list_at string_at vector_field tail_at head_at socket_at body_of shape_at addresses_at vector_at header_text
+unfolding text_of preamble_text segment_crc after_byte shifted shifted_by judge judge_first judge_later judge_epilogue size_of read_preamble bounded_at cookie_at flag_at numbers_at list_at string_at vector_field tail_at head_at socket_at body_of shape_at addresses_at vector_at header_text
 taken_once number may = subst (λ b. elim b as (λ _. Type 0) [ false ↦ Unit {0} | true ↦ ⊥ ]) may.asks_again.0 tt
 
 -- ---- the same run, from the entries of a journal and the logs of the ends
@@ -165,5 +165,5 @@ abbrev sources_of_b : Sources
 sources_of_b = record { plan = []; got = λ k. flat_map bytes_read delivered.of_b; put = λ k. flat_map bytes_put delivered.of_b; runs = λ k. runs_on k journal_of_b; broken = λ k. false; unread = λ k. []; trail = λ k. of_first }
 
 replayed : (replay facts_of_b sources_of_b journal_of_b).deliveries ≡ letter 1 key (with_numbers 1 0 hello_message) ∷ []
-unfolding bytes_read bytes_put journal_of_b text_of preamble_text segment_crc after_byte shifted shifted_by judge judge_first judge_later judge_epilogue read_preamble bounded_at cookie_at flag_at numbers_at list_at string_at vector_field tail_at head_at socket_at body_of shape_at addresses_at vector_at header_text
+unfolding bytes_read bytes_put journal_of_b text_of preamble_text segment_crc after_byte shifted shifted_by judge judge_first judge_later judge_epilogue size_of read_preamble bounded_at cookie_at flag_at numbers_at list_at string_at vector_field tail_at head_at socket_at body_of shape_at addresses_at vector_at header_text
 replayed = refl

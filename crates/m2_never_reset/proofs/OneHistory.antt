@@ -6,7 +6,7 @@ use Rattle.std.proofs.Common.{◌∙◌, arith, sym, ap, subst}
 use Rattle.std.proofs.lemmas.Bool.{ltb-true}
 use Rattle.std.specs.List.{AllByRecursion}
 use Rattle.m2_queues.specs.m2_crc.Crc.{after_byte, shifted, shifted_by}
-use Rattle.m2_queues.specs.m2_frame.Reading.{judge, judge_first, judge_later, judge_epilogue}
+use Rattle.m2_queues.specs.m2_frame.Reading.{judge, judge_first, judge_later, judge_epilogue, size_of}
 use Rattle.m2_queues.specs.m2_frame.Preamble.{read_preamble, preamble_text}
 use Rattle.m2_queues.specs.m2_frame.Text.{segment_crc, text_of}
 use Rattle.m2_session.specs.m2_control.Fields.{bounded_at, cookie_at, flag_at, numbers_at, list_at, string_at, vector_field}
@@ -132,7 +132,7 @@ fits_so a b near far none nothing opened asks judged = record {
 }
 
 f1 : FitThroughout facts_of_a facts_of_b p1 (start facts_of_a) (start facts_of_b)
-unfolding p1 p2 p3 p4 p5 text_of preamble_text segment_crc after_byte shifted shifted_by judge judge_first judge_later judge_epilogue read_preamble bounded_at cookie_at flag_at numbers_at list_at string_at vector_field tail_at head_at socket_at body_of shape_at addresses_at vector_at header_text
+unfolding p1 p2 p3 p4 p5 text_of preamble_text segment_crc after_byte shifted shifted_by judge judge_first judge_later judge_epilogue size_of read_preamble bounded_at cookie_at flag_at numbers_at list_at string_at vector_field tail_at head_at socket_at body_of shape_at addresses_at vector_at header_text
 f1 = (
   fits_early _ _ tt tt refl refl refl,
   (
@@ -163,7 +163,7 @@ f1 = (
 )
 
 f2 : FitThroughout facts_of_a facts_of_b p2 a1 b1
-unfolding p1 p2 p3 p4 p5 text_of preamble_text segment_crc after_byte shifted shifted_by judge judge_first judge_later judge_epilogue read_preamble bounded_at cookie_at flag_at numbers_at list_at string_at vector_field tail_at head_at socket_at body_of shape_at addresses_at vector_at header_text
+unfolding p1 p2 p3 p4 p5 text_of preamble_text segment_crc after_byte shifted shifted_by judge judge_first judge_later judge_epilogue size_of read_preamble bounded_at cookie_at flag_at numbers_at list_at string_at vector_field tail_at head_at socket_at body_of shape_at addresses_at vector_at header_text
 f2 = (
   fits_so _ _ tt tt refl refl refl refl refl,
   (
@@ -173,7 +173,7 @@ f2 = (
 )
 
 f3 : FitThroughout facts_of_a facts_of_b p3 a2 b2
-unfolding p1 p2 p3 p4 p5 text_of preamble_text segment_crc after_byte shifted shifted_by judge judge_first judge_later judge_epilogue read_preamble bounded_at cookie_at flag_at numbers_at list_at string_at vector_field tail_at head_at socket_at body_of shape_at addresses_at vector_at header_text
+unfolding p1 p2 p3 p4 p5 text_of preamble_text segment_crc after_byte shifted shifted_by judge judge_first judge_later judge_epilogue size_of read_preamble bounded_at cookie_at flag_at numbers_at list_at string_at vector_field tail_at head_at socket_at body_of shape_at addresses_at vector_at header_text
 f3 = (
   fits_so _ _ ((refl, refl), tt) tt refl refl refl refl refl,
   (
@@ -186,7 +186,7 @@ f3 = (
 )
 
 f4 : FitThroughout facts_of_a facts_of_b p4 a3 b3
-unfolding p1 p2 p3 p4 p5 text_of preamble_text segment_crc after_byte shifted shifted_by judge judge_first judge_later judge_epilogue read_preamble bounded_at cookie_at flag_at numbers_at list_at string_at vector_field tail_at head_at socket_at body_of shape_at addresses_at vector_at header_text
+unfolding p1 p2 p3 p4 p5 text_of preamble_text segment_crc after_byte shifted shifted_by judge judge_first judge_later judge_epilogue size_of read_preamble bounded_at cookie_at flag_at numbers_at list_at string_at vector_field tail_at head_at socket_at body_of shape_at addresses_at vector_at header_text
 f4 = (
   fits_so _ _ ((refl, refl), tt) (refl, tt) refl refl refl refl refl,
   (
@@ -199,7 +199,7 @@ f4 = (
 )
 
 f5 : FitThroughout facts_of_a facts_of_b p5 a4 b4
-unfolding p1 p2 p3 p4 p5 text_of preamble_text segment_crc after_byte shifted shifted_by judge judge_first judge_later judge_epilogue read_preamble bounded_at cookie_at flag_at numbers_at list_at string_at vector_field tail_at head_at socket_at body_of shape_at addresses_at vector_at header_text
+unfolding p1 p2 p3 p4 p5 text_of preamble_text segment_crc after_byte shifted shifted_by judge judge_first judge_later judge_epilogue size_of read_preamble bounded_at cookie_at flag_at numbers_at list_at string_at vector_field tail_at head_at socket_at body_of shape_at addresses_at vector_at header_text
 f5 = (
   fits_so _ _ ((refl, refl), (refl, tt)) (refl, tt) refl refl refl refl refl,
   (
@@ -240,11 +240,11 @@ history = record {
 
 letters_at_b : letters (after_items facts_of_b delivered.of_b (start facts_of_b)).deliveries
     ≡ unnumbered hello_message ∷ []
-unfolding p1 p2 p3 p4 p5 text_of preamble_text segment_crc after_byte shifted shifted_by judge judge_first judge_later judge_epilogue read_preamble bounded_at cookie_at flag_at numbers_at list_at string_at vector_field tail_at head_at socket_at body_of shape_at addresses_at vector_at header_text
+unfolding p1 p2 p3 p4 p5 text_of preamble_text segment_crc after_byte shifted shifted_by judge judge_first judge_later judge_epilogue size_of read_preamble bounded_at cookie_at flag_at numbers_at list_at string_at vector_field tail_at head_at socket_at body_of shape_at addresses_at vector_at header_text
 letters_at_b = refl
 
 base_at_a : (after_items facts_of_a delivered.of_a (start facts_of_a)).out.queue.base ≡ 1
-unfolding p1 p2 p3 p4 p5 text_of preamble_text segment_crc after_byte shifted shifted_by judge judge_first judge_later judge_epilogue read_preamble bounded_at cookie_at flag_at numbers_at list_at string_at vector_field tail_at head_at socket_at body_of shape_at addresses_at vector_at header_text
+unfolding p1 p2 p3 p4 p5 text_of preamble_text segment_crc after_byte shifted shifted_by judge judge_first judge_later judge_epilogue size_of read_preamble bounded_at cookie_at flag_at numbers_at list_at string_at vector_field tail_at head_at socket_at body_of shape_at addresses_at vector_at header_text
 base_at_a = refl
 
 pub comes_over : AMessageComesOver

@@ -3,9 +3,9 @@
 use crate::frame::WAIT;
 use m2_addr::Addr;
 use m2_bytes::Blob;
-use m2_control::{Control, SessionReset, Wait};
-use m2_frame::Got;
-use m2_handshake::{Ask, AskStep, Half, HalfStep, Stage};
+use m2_control::{Control, ControlFault, SessionReset, Wait};
+use m2_frame::{FrameFault, Got};
+use m2_handshake::{Ask, AskStep, Half, HalfFault, HalfStep, Stage};
 use std::alloc::Global;
 
 /// What a client writes: banner, HELLO, AUTH_REQUEST, AUTH_SIGNATURE; a line for the banner, and then for each
@@ -46,6 +46,42 @@ const OTHER_METHOD: [u8; 52] = *b"\
 const REFUSAL: [u8; 60] = *b"\
     \x03\x01\x18\0\0\0\x08\0\0\0\0\0\0\0\0\0\0\0\0\0\0\0\0\0\0\0\0\0\xd4\x1a\x33\xef\
     \x02\0\0\0\xa1\xff\xff\xff\x01\0\0\0\x01\0\0\0\x01\0\0\0\x01\0\0\0\xc5\xa8\xfa\x85";
+
+/// The client's HELLO with another checksum of its segment.
+const DAMAGED_HELLO: [u8; 72] = *b"\
+    \x01\x01\x24\0\0\0\x08\0\0\0\0\0\0\0\0\0\0\0\0\0\0\0\0\0\0\0\0\0\x3f\xbd\x6b\x06\
+    \x04\x01\x01\x01\x1c\0\0\0\x02\0\0\0\x02\0\0\0\x10\0\0\0\x02\0\x1b\x5a\x7f\0\0\x01\0\0\0\0\0\0\0\0\x5d\xf2\x36\xe4";
+
+/// The preamble of a MESSAGE with 100,000,000 bytes of data.
+const LARGE_MESSAGE: [u8; 32] = *b"\
+    \x11\x04\x29\0\0\0\x08\0\0\0\0\0\x08\0\0\0\0\0\x08\0\0\xe1\xf5\x05\0\x10\0\0\xda\x60\x55\x64";
+
+/// An AUTH_SIGNATURE of 31 bytes.
+const SHORT_SIGNATURE: [u8; 67] = *b"\
+    \x07\x01\x1f\0\0\0\x08\0\0\0\0\0\0\0\0\0\0\0\0\0\0\0\0\0\0\0\0\0\xcb\x47\xf4\xac\
+    \0\0\0\0\0\0\0\0\0\0\0\0\0\0\0\0\0\0\0\0\0\0\0\0\0\0\0\0\0\0\0\xb4\x83\x2c\xe1";
+
+/// An AUTH_SIGNATURE of 33 bytes.
+const LONG_SIGNATURE: [u8; 69] = *b"\
+    \x07\x01\x21\0\0\0\x08\0\0\0\0\0\0\0\0\0\0\0\0\0\0\0\0\0\0\0\0\0\xa7\x88\x36\x5f\
+    \0\0\0\0\0\0\0\0\0\0\0\0\0\0\0\0\0\0\0\0\0\0\0\0\0\0\0\0\0\0\0\0\0\x06\xa0\xa1\x64";
+
+/// An AUTH_SIGNATURE of 32 bytes, of which the last is 1.
+const OTHER_SIGNATURE: [u8; 68] = *b"\
+    \x07\x01\x20\0\0\0\x08\0\0\0\0\0\0\0\0\0\0\0\0\0\0\0\0\0\0\0\0\0\xa8\x0c\x98\x72\
+    \0\0\0\0\0\0\0\0\0\0\0\0\0\0\0\0\0\0\0\0\0\0\0\0\0\0\0\0\0\0\0\x01\x56\x4a\x05\x87";
+
+/// What a server is fed, the first bytes that a client writes and these behind, and what it answers then.
+#[derive(Drop)]
+struct Fed {
+    of_client: &'static [u8],
+    behind: &'static [u8],
+    says: HalfStep,
+}
+
+const fn unexpected(tag: u8) -> HalfStep {
+    HalfStep::Fault(HalfFault::Unexpected { tag })
+}
 
 /// A SESSION_RESET without the full mark.
 const RESET: [u8; 37] = *b"\
@@ -134,6 +170,58 @@ fn another_method_is_answered_and_asked_again(rt: HostRuntime) {
         (&CLIENT[98..], HalfStep::Authed, &SERVER[98..]),
     ] {
         assert!(rt; is_told(&mut server, rt.alloc(), fed, says, wrote));
+    }
+}
+
+/// Whether a server says what a row has.
+fn says_so(alloc: Global, row: &Fed) -> bool {
+    let mut server = a_server(alloc);
+    let mut out = Blob::empty(alloc);
+    tell(&mut server, row.of_client, &mut out);
+    tell(&mut server, row.behind, &mut out) == row.says
+}
+
+#[test]
+fn a_server_refuses_what_it_does_not_wait_for(rt: HostRuntime) {
+    let (hello, request) = (&CLIENT[..98], &CLIENT[..150]);
+    for row in [
+        Fed {
+            of_client: hello,
+            behind: &CLIENT[26..98],
+            says: unexpected(1),
+        },
+        Fed {
+            of_client: hello,
+            behind: &LARGE_MESSAGE[..31],
+            says: HalfStep::NotYet,
+        },
+        Fed {
+            of_client: hello,
+            behind: &LARGE_MESSAGE,
+            says: unexpected(17),
+        },
+        Fed {
+            of_client: request,
+            behind: &SHORT_SIGNATURE,
+            says: HalfStep::Fault(HalfFault::Control(ControlFault::Short)),
+        },
+        Fed {
+            of_client: request,
+            behind: &LONG_SIGNATURE,
+            says: HalfStep::Fault(HalfFault::Control(ControlFault::Extra)),
+        },
+        Fed {
+            of_client: request,
+            behind: &OTHER_SIGNATURE,
+            says: HalfStep::Fault(HalfFault::BadSignature),
+        },
+        Fed {
+            of_client: &CLIENT[..26],
+            behind: &DAMAGED_HELLO,
+            says: HalfStep::Fault(HalfFault::Frame(FrameFault::BadSegmentCrc { segment: 0 })),
+        },
+    ] {
+        assert!(rt; says_so(rt.alloc(), &row));
     }
 }
 

@@ -10,7 +10,6 @@ use Rattle.m2_control.specs.Control.{payload_of}
 use Rattle.m2_control.specs.Laws.{IsInBounds}
 use Rattle.m2_control.proofs.Raised.{main_stays, main_same}
 use Rattle.m2_frame.specs.Frame.{Parts}
-use Rattle.m2_frame.specs.Reading.{Front, whole, dropped, start, bad, text, judge}
 use Rattle.m2_handshake.specs.declared.ask.Ask.{Ask}
 use Rattle.m2_handshake.specs.declared.ask.Ask.TheVariants.{Ident, Reconnect}
 use Rattle.m2_handshake.specs.declared.fault.HalfFault.{HalfFault}
@@ -20,7 +19,7 @@ use Rattle.m2_handshake.specs.declared.stage.Stage.TheVariants.{Opening, Banner,
 use Rattle.m2_handshake.specs.Asks.{bare_ask, is_known, known_main, under, asked, asked_of, ask_in}
 use Rattle.m2_handshake.specs.Greeting.{control_of, addrs_of}
 use Rattle.m2_handshake.specs.Moves.{Move, asks, take_frame, after_asking, read_held, refuse_held, ask_move_at, ask_move_of}
-use Rattle.m2_handshake.specs.Reading.{of_payload}
+use Rattle.m2_handshake.specs.Reading.{Found, begun, refused, framed, found_in, of_payload}
 use Rattle.m2_handshake.specs.Standing.{Standing}
 use Rattle.m2_frame.specs.declared.tag.Tag.TheVariants as tag
 use Rattle.m2_frame.specs.Tags.{tag_number}
@@ -101,19 +100,18 @@ after_well : (s : Standing) (r : Result (Ask × Addr) HalfFault) → Reads r →
 after_well s (Ok x) h = record { stage = refl; held = refl; main = x.1; read = h }
 after_well s (Err f) h = tt
 
-pub take_well : (s : Standing) (front : Front) → AsksWell (take_frame s front)
-take_well s start = tt
-take_well s (bad f) = tt
-take_well s (text (dropped t) n) = tt
-take_well s (text (whole f) n) = tt
+pub take_well : (s : Standing) (found : Found) → AsksWell (take_frame s found)
+take_well s begun = tt
+take_well s (refused f) = tt
+take_well s (framed f n) = tt
 
 read_well : (s : Standing) (held : Option Parts) → AsksWell (read_held s held)
 read_well s (Some f) = after_well s (ask_in s.peer f) (frame_reads s.peer f)
-read_well s None = take_well s (judge s.rest)
+read_well s None = take_well s (found_in s.rest)
 
 refuse_well : (s : Standing) (held : Option Parts) → AsksWell (refuse_held s held)
 refuse_well s (Some f) = tt
-refuse_well s None = take_well s (judge s.rest)
+refuse_well s None = take_well s (found_in s.rest)
 
 pub move_well : (stage : Stage) (s : Standing) → AsksWell (ask_move_at stage s)
 move_well Opening s = tt

@@ -1,7 +1,6 @@
 -- A half that waits for no ask any more does so from then on, and is not asked.
 use Rattle.std.proofs.Common.{◌≡◌, Bool, true, false, List, [], ◌∷◌, Option, Some, None, refl, sym, ap, ◌∙◌, subst}
 use Rattle.m2_frame.specs.Frame.{Parts}
-use Rattle.m2_frame.specs.Reading.{Front, whole, dropped, start, bad, text, judge}
 use Rattle.m2_handshake.specs.declared.answer.HalfStep.{HalfStep}
 use Rattle.m2_handshake.specs.declared.answer.HalfStep.TheVariants as answer
 use Rattle.m2_handshake.specs.declared.ask.Ask.{Ask}
@@ -13,6 +12,7 @@ use Rattle.m2_handshake.specs.declared.stage.Stage.TheVariants.{Opening, Banner,
 use Rattle.m2_handshake.specs.Asking.{AskAnswers, AskEnds}
 use Rattle.m2_handshake.specs.Half.{Writer, Answers, Ends}
 use Rattle.m2_handshake.specs.Moves.{Move, stays, quiet, writes, signs, asks, fails, take_frame, refuse_held, ask_move_at, ask_move_of, move_at, move_of, Quietly}
+use Rattle.m2_handshake.specs.Reading.{Found, begun, refused, framed, found_in}
 use Rattle.m2_handshake.specs.Standing.{Standing, faulted, faulted_at}
 use Rattle.m2_trail.specs.Incoming.{is_over}
 
@@ -43,15 +43,14 @@ KeepsOver (signs s) = is_over s.stage ≡ true
 KeepsOver (asks ask s) = ⊥
 KeepsOver (fails f) = Unit {0}
 
-taken_over : (s : Standing) (front : Front) → is_over s.stage ≡ true → KeepsOver (take_frame s front)
-taken_over s start o = tt
-taken_over s (bad f) o = tt
-taken_over s (text (dropped tag) n) o = o
-taken_over s (text (whole f) n) o = o
+taken_over : (s : Standing) (found : Found) → is_over s.stage ≡ true → KeepsOver (take_frame s found)
+taken_over s begun o = tt
+taken_over s (refused f) o = tt
+taken_over s (framed f n) o = o
 
 refused_over : (s : Standing) (held : Option Parts) → is_over s.stage ≡ true → KeepsOver (refuse_held s held)
 refused_over s (Some f) o = tt
-refused_over s None o = taken_over s (judge s.rest) o
+refused_over s None o = taken_over s (found_in s.rest) o
 
 ask_over_at : (stage : Stage) (s : Standing) → s.stage ≡ stage → is_over stage ≡ true → KeepsOver (ask_move_at stage s)
 ask_over_at Opening s q o = absurd (differ (sym o))

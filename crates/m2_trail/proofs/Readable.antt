@@ -13,7 +13,6 @@ use Rattle.m2_control.specs.Banner.{banner_in}
 use Rattle.m2_control.specs.Laws.{IsInBounds}
 use Rattle.m2_fabric.specs.Log.{Log}
 use Rattle.m2_frame.specs.Frame.{Parts}
-use Rattle.m2_frame.specs.Reading.{judge}
 use Rattle.m2_handshake.specs.declared.ask.Ask.{Ask}
 use Rattle.m2_handshake.specs.declared.ask.Ask.TheVariants.{Ident, Reconnect}
 use Rattle.m2_handshake.specs.declared.fault.HalfFault.TheVariants as fault
@@ -25,6 +24,7 @@ use Rattle.m2_handshake.specs.declared.stage.Stage.TheVariants.{Opening, Banner,
 use Rattle.m2_handshake.specs.Course.{signed_move, course_move_at, course_move, Event, silent, wrote, asked, failed, replied, Step, rests, goes, step_by, Goes, Runs, asks_in, asks_of, Exchange, Reaches}
 use Rattle.m2_handshake.specs.Greeting.{control_of}
 use Rattle.m2_handshake.specs.Moves.{Move, stays, quiet, writes, signs, asks, fails, is_agreed, after_banner, after_reaction, answer_held, ask_move_at}
+use Rattle.m2_handshake.specs.Reading.{found_in}
 use Rattle.m2_handshake.specs.Standing.{Standing, acceptor_at_start, fed}
 use Rattle.m2_handshake.specs.Steps.{Reaction, says, listens, signed, refuses, after_frame}
 use Rattle.m2_journal.specs.declared.entry.JudgedItem.{JudgedItem}
@@ -57,7 +57,7 @@ reaction_well s (refuses f) = tt
 
 held_well : (s : Standing) (awaited : Awaited) (held : Option Parts) → AsksWell (answer_held s awaited held)
 held_well s awaited (Some f) = reaction_well s (after_frame s.side awaited f)
-held_well s awaited None = take_well s (judge s.rest)
+held_well s awaited None = take_well s (found_in s.rest)
 
 signed_well : (side : HalfSide) (m : Move) → AsksWell m → AsksWell (signed_move side m)
 signed_well Opener m h = tt

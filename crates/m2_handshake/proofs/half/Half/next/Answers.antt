@@ -3,7 +3,7 @@ use Rattle.m2_handshake.specs.declared.progress.Progress.{Progress}
 use Rattle.m2_handshake.specs.declared.progress.Progress.TheVariants.{On}
 use Rattle.m2_handshake.specs.Half.{Advances, StaysSigned, writer}
 use Rattle.m2_handshake.specs.Moves.{move_of}
-use Rattle.m2_handshake.proofs.Granting.{signs_on, signed_on}
+use Rattle.m2_handshake.proofs.Granting.{signed_on}
 use Rattle.m2_handshake.proofs.Path.{then_quietly}
 use Rattle.m2_handshake.proofs.half.Half.next.Goals as goal
 
@@ -19,6 +19,5 @@ moves-preserved c =
         then_quietly move_of c.moves.invariant.passed.0 c.args.self.now.standing c.moves.self.standing c.advance.new.self.standing c.moves.invariant.passed.1 went.0,
       );
       unwritten = went.1 ∙ c.moves.invariant.unwritten;
-      signs = signs_on c.args.self.now c.moves.self c.advance.new.self c.moves.invariant.signs c.advance.ensures.signs kept;
       signed = signed_on c.args.self.now c.moves.self c.advance.new.self c.moves.invariant.signed kept;
     }
