@@ -221,7 +221,7 @@ class Record:
         self.owes_ack = False
         self.feed = None
         self.signing = None  # the step of the handshake that is next on a socket that this side opened
-        self.uncounted = None  # what a resumption acknowledges and isn't counted yet
+        self.claims_too_much = False  # a resumption that was taken acknowledges more than was written
         self.granted = None  # what the throttle granted for the message at the front
         self.last_text = None  # the tag of what was composed last on the feed, behind a handshake
         self.wants_dial = False
@@ -264,7 +264,8 @@ class Record:
         if self.feed is not None:
             self.feed.closed = True
             self.tell("closed", self.feed.name, cause)
-        self.feed = self.signing = self.uncounted = None
+        self.feed = self.signing = None
+        self.claims_too_much = False
         self.give_back()
 
     def give_back(self):
@@ -415,8 +416,15 @@ class Record:
         """TookReconnect: the session goes on on this socket."""
         self.take_over(end)
         self.peer_global, self.connect = ask["global"], ask["connect"]
-        self.uncounted = ask["seen"]
+        self.count_seen(ask["seen"])
         self.compose(RECONNECT_OK, wire.words(self.accepted))
+
+    def count_seen(self, seen):
+        """What a resumption acknowledges is counted by the step that takes it, behind the entry of that and of a feed that it
+        closed. More than was written is a fault then, when the front is looked at."""
+        self.claims_too_much = seen > self.queue.written()
+        if not self.claims_too_much and self.queue.acknowledge(seen):
+            self.tell("acked", seen)
 
     def take_over(self, end):
         self.close("taken")
@@ -476,9 +484,8 @@ class Record:
             if self.signing == len(OPENER):
                 self.signing = None
             return MOVED if moved else None
-        if self.uncounted is not None:
-            seen, self.uncounted = self.uncounted, None
-            return self.count(seen, now)
+        if self.claims_too_much:
+            return self.fault(now)
         size = self.feed.coming()
         if size is not None:
             if self.phase != READY:
@@ -537,7 +544,7 @@ class Record:
 
     def got_reconnect_ok(self, frame, now):
         self.is_ready()
-        self.uncounted = frame.says()["number"]
+        self.count_seen(frame.says()["number"])
         return MOVED
 
     def got_retry(self, frame, now):

@@ -1,11 +1,11 @@
 -- What stays beside a record that answers a half.
 use Rattle.std.proofs.Common.{◌≡◌, inl, inr, Bool, true, false, List, [], ◌∷◌, ◌++◌, Option, Some, None, IfSome, IsSome, refl, sym, ap, subst, ◌∙◌, append-nil}
+use Rattle.std.specs.List.{AllByRecursion}
 use Rattle.m2_handshake.specs.m2_control.declared.control.Control.{Control}
 use Rattle.m2_record.specs.m2_core.declared.verdict.Verdict.{Verdict}
 use Rattle.m2_record.specs.m2_core.Judging.{verdict_on}
 use Rattle.m2_record.specs.m2_core.TakingOver.{IsTakenFeed}
 use Rattle.m2_fabric.specs.declared.socket.SocketId.{SocketId}
-use Rattle.m2_fabric.specs.End.{SeenEnd}
 use Rattle.m2_fabric.specs.Sockets.{IsNewTo, is_among}
 use Rattle.m2_feed.specs.FeedNow.{FeedNow}
 use Rattle.m2_handshake.specs.declared.ask.Ask.{Ask}
@@ -13,7 +13,6 @@ use Rattle.m2_handshake.specs.declared.ident.IdentCheck.{IdentCheck}
 use Rattle.m2_handshake.specs.declared.ident.IdentCheck.TheVariants.{Fine, Missing, Fault}
 use Rattle.m2_journal.specs.declared.entry.Entry.{Entry}
 use Rattle.m2_journal.specs.Lawful.{judged_on}
-use Rattle.m2_record.specs.Calls.{closed_entries}
 use Rattle.m2_record.specs.IsRecord.{IsRecord}
 use Rattle.m2_record.specs.declared.judging.Judged.{Judged}
 use Rattle.m2_record.specs.declared.judging.Judged.TheVariants as judged
@@ -30,22 +29,22 @@ use Rattle.m2_center.specs.Answering.{AnswersBy, AnswersHalf, FindsSo, HearsHalf
 use Rattle.m2_center.specs.Connecting.{IsMadeBy}
 use Rattle.m2_center.specs.Judging.{Judges, Judging}
 use Rattle.m2_center.specs.RecordTurn.{Means}
-use Rattle.m2_center.specs.Steps.{came_by, came_in}
+use Rattle.m2_center.specs.Steps.{BringsNoSocket, GoesOn, came_by, came_in}
 use Rattle.m2_center.proofs.Came.{alone}
-use Rattle.m2_center.proofs.GoesOn.{room_alone, closed as closed_none}
-use Rattle.m2_center.proofs.Known.{back_known, others_known, steps_known}
+use Rattle.m2_center.proofs.GoesOn.{counts_on, room_alone, closed as closed_none}
+use Rattle.m2_center.proofs.Known.{back_known, entries_behind, journal_behind, none_behind, others_known, steps_known}
 use Rattle.m2_center.proofs.Opened.{filtered, none_came, room_made}
 use Rattle.m2_bytes.proofs.m2_lemmas.Booleans.{false_isnt_true}
 use Rattle.m2_fabric.proofs.Sockets.{same_equal, among_neither}
 
 -- ---- the sockets that came
 
--- behind the entry of an ask, and of a feed that its answer closed
-came_behind : (journal : List Entry) (v : Verdict) (x : SocketId) (closed : Option SeenEnd) →
-    came_in ((journal ++ judged_entry v x ∷ []) ++ closed_entries closed) ≡ came_in journal ++ x ∷ []
-came_behind journal v x closed =
-    filtered came_by (journal ++ judged_entry v x ∷ []) (closed_entries closed)
-    ∙ ap (λ l. came_in (journal ++ judged_entry v x ∷ []) ++ l) (none_came (closed_entries closed) (closed_none closed))
+-- behind the entry of an ask, and of what its answer brought about
+came_behind : (journal : List Entry) (v : Verdict) (x : SocketId) (more : List Entry) → AllByRecursion BringsNoSocket more →
+    came_in ((journal ++ judged_entry v x ∷ []) ++ more) ≡ came_in journal ++ x ∷ []
+came_behind journal v x more none =
+    filtered came_by (journal ++ judged_entry v x ∷ []) more
+    ∙ ap (λ l. came_in (journal ++ judged_entry v x ∷ []) ++ l) (none_came more none)
     ∙ append-nil (came_in (journal ++ judged_entry v x ∷ []))
     ∙ filtered came_by journal (judged_entry v x ∷ [])
 
@@ -53,10 +52,10 @@ came_behind journal v x closed =
 another : (made : List SocketId) (k x : SocketId) → is_among x made ≡ true → IsNewTo made k → is_among k (x ∷ []) ≡ false
 another made k x among fresh = alone k x (λ same. false_isnt_true (sym fresh ∙ ap (λ j. is_among j made) (same_equal k x same) ∙ among))
 
-judged_made : (made : List SocketId) (old new : RecordNow) (v : Verdict) (x : SocketId) (closed : Option SeenEnd) → is_among x made ≡ true →
-    new.journal ≡ (old.journal ++ judged_entry v x ∷ []) ++ closed_entries closed → IsMadeBy made old → IsMadeBy made new
-judged_made made old new v x closed among journal known k fresh =
-    ap (is_among k) (ap came_in journal ∙ came_behind old.journal v x closed)
+judged_made : (made : List SocketId) (old new : RecordNow) (v : Verdict) (x : SocketId) (more : List Entry) → AllByRecursion BringsNoSocket more → is_among x made ≡ true →
+    new.journal ≡ (old.journal ++ judged_entry v x ∷ []) ++ more → IsMadeBy made old → IsMadeBy made new
+judged_made made old new v x more none among journal known k fresh =
+    ap (is_among k) (ap came_in journal ∙ came_behind old.journal v x more none)
     ∙ among_neither k (came_in old.journal) (x ∷ []) (known k fresh) (another made k x among fresh)
 
 -- ---- what a judgement leaves beside the half
@@ -68,20 +67,23 @@ record IsBeside (a : IncomingNow) (old new : RecordNow) : Type 0 where
 unmoved : (a : IncomingNow) (old new : RecordNow) → new ≡ old → IsBeside a old new
 unmoved a old new e = record { facts = ap (λ r. r.core.facts) e; made = (λ made among known. subst (IsMadeBy made) (sym e) known) }
 
-taken_beside : (v : Verdict) (answer : Answer) (a : IncomingNow) (now : _) (old new : RecordNow) (o : Option FeedNow) →
-    IfSome o (λ d. IsTakenFeed v (half_of answer a).end (half_of answer a).unread old.core d × (new ≡ record (after_taking_over v (half_of answer a) d now old) { room = new.room })) → IsSome o →
-    IsBeside a old new
-taken_beside v answer a now old new None e none = absurd (false_isnt_true none)
-taken_beside v answer a now old new (Some d) (_, e) _ =
-    record { facts = ap (λ r. r.core.facts) e; made = (λ made among known. judged_made made old new v a.end.id _ among (ap (λ r. r.journal) e) known) }
+taken_beside : (v : Verdict) (answer : Answer) (a : IncomingNow) (now : _) (old mid new : RecordNow) (o : Option FeedNow) →
+    IfSome o (λ d. IsTakenFeed v (half_of answer a).end (half_of answer a).unread old.core d × (mid ≡ record (after_taking_over v (half_of answer a) d now old) { room = mid.room })) → IsSome o →
+    GoesOn mid new → IsBeside a old new
+taken_beside v answer a now old mid new None e none on = absurd (false_isnt_true none)
+taken_beside v answer a now old mid new (Some d) (_, e) _ on =
+    record {
+      facts = on.facts ∙ ap (λ r. r.core.facts) e;
+      made = (λ made among known. judged_made made old new v a.end.id (entries_behind v old on.more) (none_behind v old mid new on) among (journal_behind v (half_of answer a) d now old mid new on e) known);
+    }
 
 judged_beside : {E : Type 0} (j : Judged E) (a : IncomingNow) (m : Means) (old new : Judging) → IsSome a.ask → Judges j a m old new → IsBeside a old.side new.side
 judged_beside {E} j a m old new some h = at a.ask h.judges some
   where
     by_answer : (x : Judged E) (v : Verdict) → JudgesAs x v a m.now old.side new.side → IsBeside a old.side new.side
-    by_answer (judged.Taken answer) v (_, _, over) = taken_beside v answer a m.now old.side new.side new.side.core.live.feed over.0 over.1
+    by_answer (judged.Taken answer) v (_, _, t) = taken_beside v answer a m.now old.side t.taken new.side t.taken.core.live.feed t.over.0 t.over.1 (counts_on t.taken new.side t.counts)
     by_answer (judged.Back answer arrival) v (_, _, _, answers) =
-        record { facts = ap (λ r. r.core.facts) answers; made = (λ made among known. judged_made made old.side new.side v a.end.id _ among (ap (λ r. r.journal) answers) known) }
+        record { facts = ap (λ r. r.core.facts) answers; made = (λ made among known. judged_made made old.side new.side v a.end.id _ (closed_none _) among (ap (λ r. r.journal) answers) known) }
     by_answer (judged.NoMemory arrival) v (_, room) = record { facts = ap (λ r. r.core.facts) room; made = (λ made among known. room_made made old.side new.side room known) }
 
     at : (o : Option Ask) → IfSome o (λ ask. JudgesAs j (verdict_on (facts_of_ask ask) h.number old.side.core.live) a m.now old.side new.side) → IsSome o → IsBeside a old.side new.side

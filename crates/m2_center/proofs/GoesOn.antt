@@ -10,6 +10,7 @@ use Rattle.m2_record.specs.m2_core.declared.next.CoreNext.{CoreNext}
 use Rattle.m2_record.specs.m2_core.declared.next.CoreNext.TheVariants as next
 use Rattle.m2_record.specs.m2_core.Asking.{LeavesAsk}
 use Rattle.m2_record.specs.m2_core.CoreNow.{CoreNow}
+use Rattle.m2_record.specs.m2_core.Counting.{CountsIf, to_count}
 use Rattle.m2_record.specs.m2_core.Front.{FrontHeard, asks, heard_by, rests, tells}
 use Rattle.m2_record.specs.m2_core.Granting.{Throttled}
 use Rattle.m2_record.specs.m2_core.Next.{IsNext}
@@ -24,6 +25,8 @@ use Rattle.m2_handshake.specs.declared.answer.HalfStep.{HalfStep}
 use Rattle.m2_handshake.specs.declared.answer.HalfStep.TheVariants as half
 use Rattle.m2_feed.specs.declared.wire_fault.WireFault.{WireFault}
 use Rattle.m2_feed.specs.declared.frame_heard.FrameHeard.TheVariants as heard
+use Rattle.m2_feed.specs.declared.heard.Heard.{Heard}
+use Rattle.m2_feed.specs.declared.heard.Heard.TheVariants as answer
 use Rattle.m2_record.specs.m2_core.LiveNow.{OnFeedNow}
 use Rattle.m2_journal.specs.declared.entry.Entry.{Entry}
 use Rattle.m2_journal.specs.declared.entry.Entry.TheVariants as entry
@@ -37,10 +40,10 @@ use Rattle.m2_record.specs.declared.framing.Framed.{Framed}
 use Rattle.m2_record.specs.declared.framing.Framed.TheVariants as framed
 use Rattle.m2_record.specs.declared.stepped.Stepped.{Stepped}
 use Rattle.m2_record.specs.declared.stepped.Stepped.TheVariants as stepped
-use Rattle.m2_record.specs.Calls.{Breaks, ChangesCore, ClosesFor, ComposesAs, GetsEntries, GoesDown, IsSameButRoom, Writes, asked_entries, closed_entries, fault_put, wrote_entries}
+use Rattle.m2_record.specs.Calls.{Breaks, ChangesCore, ClosesFor, ComposesAs, CountsResumption, GetsEntries, GoesDown, IsSameButRoom, Writes, acked_entries, asked_entries, closed_entries, fault_put, wrote_entries}
 use Rattle.m2_record.specs.Due.{due_step, has_frame, has_parcel, has_plan, may_compose, may_connect, may_read, may_write, next_step}
 use Rattle.m2_record.specs.Framing.{AnswersFront, Frames, Greets}
-use Rattle.m2_record.specs.Reading.{Reads, fault_read, read_entries}
+use Rattle.m2_record.specs.Reading.{CountsAnswer, EndsRead, Reads, fault_read, read_entries}
 use Rattle.m2_record.specs.RecordNow.{RecordNow}
 use Rattle.m2_record.specs.Stepping.{HandsAs, PlansAs, StepsAs, StepsBy, TakesDue, Worked}
 use Rattle.m2_center.specs.Steps.{BringsNoSocket, GoesOn}
@@ -53,7 +56,7 @@ same old new e f = record { more = []; journal = e ∙ sym (append-nil old.journ
 by_these : (old new : RecordNow) (more : List Entry) → new.journal ≡ old.journal ++ more → new.core.facts ≡ old.core.facts → AllByRecursion BringsNoSocket more → GoesOn old new
 by_these old new more e f none = record { more = more; journal = e; facts = f; no_socket = none }
 
-both : (xs ys : List Entry) → AllByRecursion BringsNoSocket xs → AllByRecursion BringsNoSocket ys → AllByRecursion BringsNoSocket (xs ++ ys)
+pub both : (xs ys : List Entry) → AllByRecursion BringsNoSocket xs → AllByRecursion BringsNoSocket ys → AllByRecursion BringsNoSocket (xs ++ ys)
 both [] ys _ none = none
 both (x ∷ xs) ys (first, rest) none = (first, both xs ys rest none)
 
@@ -92,6 +95,10 @@ asked ask.Spent = tt
 asked (ask.Again seen now) = tt
 asked ask.NoMemory = tt
 
+counted : (n : Option ℕ) → AllByRecursion BringsNoSocket (acked_entries n)
+counted (Some number) = (tt, tt)
+counted None = tt
+
 -- ---- what never changes
 
 next_facts : (t : Throttled) (answer : CoreNext) (front : FrontHeard) (before after : CoreNow) → IsNext t answer front before after → after.facts ≡ before.facts
@@ -115,6 +122,10 @@ front_facts t answer before after h = at before.live.feed h
     at : (o : Option FeedNow) → OnFeedNow o (λ v. IsNext t answer (heard_by before v.reading) before after) → after.facts ≡ before.facts
     at (Some v) n = next_facts t answer (heard_by before v.reading) before after n
     at None n = absurd n
+
+counted_facts : (n : Option ℕ) (before after : CoreNow) → CountsIf n before after → after.facts ≡ before.facts
+counted_facts (Some number) before after h = ap (λ c. c.facts) h.only
+counted_facts None before after e = ap (λ c. c.facts) e
 
 ask_facts : (answer : CoreAsk) (before after : CoreNow) → LeavesAsk answer before after → after.facts ≡ before.facts
 ask_facts (ask.Asked by_ident number) before after h = ap (λ c. c.facts) h.only
@@ -189,6 +200,23 @@ frames t (framed.Full out) now old new (_, e) = room_alone old new e
 frames t (framed.Again seen at) now old new (_, e) = room_alone old new e
 frames t framed.NoMemory now old new (_, e) = room_alone old new e
 
+pub counts_on : (old new : RecordNow) → CountsResumption old new → GoesOn old new
+counts_on old new (h, e) = gets _ old new (counted (to_count old.core.live)) e (counted_facts (to_count old.core.live) old.core new.core h)
+
+counts_answer : (h : Option Heard) (old new : RecordNow) → CountsAnswer h old new → GoesOn old new
+counts_answer (Some (answer.ReconnectOk seen)) old new c = counts_on old new c
+counts_answer (Some (answer.ServerIdent cookie global)) old new e = same old new (ap (λ r. r.journal) e) (ap (λ r. r.core.facts) e)
+counts_answer (Some (answer.Retry number)) old new e = same old new (ap (λ r. r.journal) e) (ap (λ r. r.core.facts) e)
+counts_answer (Some (answer.RetryGlobal number)) old new e = same old new (ap (λ r. r.journal) e) (ap (λ r. r.core.facts) e)
+counts_answer (Some (answer.Reset full)) old new e = same old new (ap (λ r. r.journal) e) (ap (λ r. r.core.facts) e)
+counts_answer (Some (answer.Refused f)) old new e = same old new (ap (λ r. r.journal) e) (ap (λ r. r.core.facts) e)
+counts_answer (Some answer.Wait) old new e = same old new (ap (λ r. r.journal) e) (ap (λ r. r.core.facts) e)
+counts_answer None old new e = same old new (ap (λ r. r.journal) e) (ap (λ r. r.core.facts) e)
+
+ends_read : (cause : Option WireFault) (h : Option Heard) (now : ℕ) (old new : RecordNow) → EndsRead cause h now old new → GoesOn old new
+ends_read (Some f) h now old new e = breaks now old new e
+ends_read None h now old new c = counts_answer h old new c
+
 reads_on : (x : _) (now : ℕ) (old new : RecordNow) → Reads x now old new → GoesOn old new
 reads_on x now old new r =
     chain old r.mid new
@@ -196,7 +224,7 @@ reads_on x now old new r =
     (ap (λ r. r.journal) r.once.only ∙ append_assoc old.journal (read_entries x.answer old.core.live.feed) (closed_entries r.once.closed))
     (ap (λ c. c.facts) r.once.core.only)
     (both (read_entries x.answer old.core.live.feed) (closed_entries r.once.closed) (was_read x.answer old.core.live.feed) (closed r.once.closed)))
-    (closes (fault_read x) now r.mid new r.closes)
+    (ends_read (fault_read x) x.heard now r.mid new r.ends)
 
 asks_on : (answer : CoreAsk) (old new : RecordNow) → LeavesAsk answer old.core new.core → GetsEntries (asked_entries answer) old new → GoesOn old new
 asks_on answer old new left e = gets (asked_entries answer) old new (asked answer) e (ask_facts answer old.core new.core left)

@@ -1,12 +1,12 @@
 -- What a record knows of a half's socket stays so.
-use Rattle.std.proofs.Common.{◌≡◌, ℕ, Bool, true, false, if◌then◌else◌, List, [], ◌∷◌, ◌++◌, Option, Some, None, IfSome, IsSome, refl, sym, ap, subst, ◌∙◌, append-nil}
+use Rattle.std.proofs.Common.{◌≡◌, ℕ, Bool, true, false, if◌then◌else◌, List, [], ◌∷◌, ◌++◌, Option, Some, None, IfSome, IsSome, refl, sym, ap, subst, ◌∙◌, append-nil, append_assoc}
 use Rattle.std.specs.List.{AllByRecursion}
 use Rattle.m2_record.specs.m2_core.declared.verdict.Verdict.{Verdict}
+use Rattle.m2_record.specs.m2_core.Effects.{closed_if}
 use Rattle.m2_record.specs.m2_core.Judging.{verdict_on}
 use Rattle.m2_record.specs.m2_core.TakingOver.{IsTakenFeed}
 use Rattle.m2_feed.specs.FeedNow.{FeedNow}
 use Rattle.m2_fabric.specs.declared.socket.SocketId.{SocketId}
-use Rattle.m2_fabric.specs.End.{SeenEnd}
 use Rattle.m2_fabric.specs.Sockets.{IsNewTo, is_among, same_socket}
 use Rattle.m2_journal.specs.declared.entry.Entry.{Entry}
 use Rattle.m2_journal.specs.declared.entry.Entry.TheVariants as entry
@@ -21,7 +21,7 @@ use Rattle.m2_record.specs.Calls.{closed_entries}
 use Rattle.m2_record.specs.IsRecord.{IsRecord, became_feed, feeds_in}
 use Rattle.m2_record.specs.declared.judging.Judged.{Judged}
 use Rattle.m2_record.specs.declared.judging.Judged.TheVariants as judged
-use Rattle.m2_record.specs.Judging.{JudgesAs, TakenHalf, after_taking_over, half_of, judged_entry}
+use Rattle.m2_record.specs.Judging.{JudgesAs, TakenHalf, after_taking_over, effects_at, half_of, judged_entry}
 use Rattle.m2_record.specs.declared.stepped.Stepped.{Stepped}
 use Rattle.m2_record.specs.RecordNow.{RecordNow, ends_of, feed_end, ids_of}
 use Rattle.m2_record.specs.Stepping.{StepsAs, Worked}
@@ -31,7 +31,7 @@ use Rattle.m2_center.specs.Judging.{Judges, Judging}
 use Rattle.m2_center.specs.RecordTurn.{Means}
 use Rattle.m2_center.specs.Steps.{BringsNoSocket, GoesOn}
 use Rattle.m2_center.proofs.Came.{turned}
-use Rattle.m2_center.proofs.GoesOn.{room_alone, steps, closed as closed_none}
+use Rattle.m2_center.proofs.GoesOn.{both, counts_on, room_alone, steps, closed as closed_none}
 use Rattle.m2_center.proofs.Opened.{filtered, still_made}
 use Rattle.m2_record.proofs.AsksJudged.{judged_append}
 use Rattle.m2_bytes.proofs.m2_lemmas.Booleans.{false_isnt_true}
@@ -98,25 +98,25 @@ judged_here k i = rw (same_refl k) refl
 judged_elsewhere : (k x : SocketId) (i : JudgedItem) → same_socket k x ≡ false → judged_on k (record { socket = x; item = i } ∷ []) ≡ []
 judged_elsewhere k x i other = rw other refl
 
--- the judgements behind the entry of an ask, and of a feed that its answer closed
-judged_behind : (journal : List Entry) (v : Verdict) (x : SocketId) (closed : Option SeenEnd) (k : SocketId) →
-    judged_on k (judgements_in ((journal ++ judged_entry v x ∷ []) ++ closed_entries closed))
+-- the judgements behind the entry of an ask, and of what its answer brought about
+judged_behind : (journal : List Entry) (v : Verdict) (x : SocketId) (more : List Entry) → AllByRecursion BringsNoSocket more → (k : SocketId) →
+    judged_on k (judgements_in ((journal ++ judged_entry v x ∷ []) ++ more))
     ≡ judged_on k (judgements_in journal) ++ judged_on k (record { socket = x; item = record { ask = v.ask; answer = v.answer } } ∷ [])
-judged_behind journal v x closed k =
+judged_behind journal v x more none k =
     ap (judged_on k)
-    (filtered judgement_of (journal ++ judged_entry v x ∷ []) (closed_entries closed)
-    ∙ ap (λ l. judgements_in (journal ++ judged_entry v x ∷ []) ++ l) (none_judged (closed_entries closed) (closed_none closed))
+    (filtered judgement_of (journal ++ judged_entry v x ∷ []) more
+    ∙ ap (λ l. judgements_in (journal ++ judged_entry v x ∷ []) ++ l) (none_judged more none)
     ∙ append-nil (judgements_in (journal ++ judged_entry v x ∷ []))
     ∙ filtered judgement_of journal (judged_entry v x ∷ []))
     ∙ judged_append k (judgements_in journal) (record { socket = x; item = record { ask = v.ask; answer = v.answer } } ∷ [])
 
 -- and the sockets that became the feed
-fed_behind : (journal : List Entry) (v : Verdict) (x : SocketId) (closed : Option SeenEnd) (k : SocketId) → is_among k (feeds_in (judged_entry v x ∷ [])) ≡ false →
-    IsNewTo (feeds_in journal) k → IsNewTo (feeds_in ((journal ++ judged_entry v x ∷ []) ++ closed_entries closed)) k
-fed_behind journal v x closed k here new =
+fed_behind : (journal : List Entry) (v : Verdict) (x : SocketId) (more : List Entry) → AllByRecursion BringsNoSocket more → (k : SocketId) → is_among k (feeds_in (judged_entry v x ∷ [])) ≡ false →
+    IsNewTo (feeds_in journal) k → IsNewTo (feeds_in ((journal ++ judged_entry v x ∷ []) ++ more)) k
+fed_behind journal v x more none k here new =
     ap (is_among k)
-    (filtered became_feed (journal ++ judged_entry v x ∷ []) (closed_entries closed)
-    ∙ ap (λ l. feeds_in (journal ++ judged_entry v x ∷ []) ++ l) (none_fed (closed_entries closed) (closed_none closed))
+    (filtered became_feed (journal ++ judged_entry v x ∷ []) more
+    ∙ ap (λ l. feeds_in (journal ++ judged_entry v x ∷ []) ++ l) (none_fed more none)
     ∙ append-nil (feeds_in (journal ++ judged_entry v x ∷ []))
     ∙ filtered became_feed journal (judged_entry v x ∷ []))
     ∙ among_neither k (feeds_in journal) (feeds_in (judged_entry v x ∷ [])) new here
@@ -132,26 +132,26 @@ another v x k other = at (takes v.answer) refl
     at false e = rw e refl
 
 -- a socket of another half
-other_known : (b : IncomingNow) (old new : RecordNow) (v : Verdict) (x : SocketId) (closed : Option SeenEnd) → IsRecord old → IsRecord new → same_socket b.end.id x ≡ false →
-    new.core.facts ≡ old.core.facts → new.journal ≡ (old.journal ++ judged_entry v x ∷ []) ++ closed_entries closed → IsKnown b old → IsKnown b new
-other_known b old new v x closed was is other facts journal known = record {
+other_known : (b : IncomingNow) (old new : RecordNow) (v : Verdict) (x : SocketId) (more : List Entry) → AllByRecursion BringsNoSocket more → IsRecord old → IsRecord new → same_socket b.end.id x ≡ false →
+    new.core.facts ≡ old.core.facts → new.journal ≡ (old.journal ++ judged_entry v x ∷ []) ++ more → IsKnown b old → IsKnown b new
+other_known b old new v x more none was is other facts journal known = record {
   entity = known.entity ∙ sym (ap (λ f. f.node.entity) facts);
-  new = ends_by new is b.end.id (ap (λ j. is_among b.end.id (feeds_in j)) journal ∙ fed_behind old.journal v x closed b.end.id (another v x b.end.id other) (fed_by old was b.end.id known.new));
-  judged = known.judged ∙ sym (ap (λ j. judged_on b.end.id (judgements_in j)) journal ∙ judged_behind old.journal v x closed b.end.id
+  new = ends_by new is b.end.id (ap (λ j. is_among b.end.id (feeds_in j)) journal ∙ fed_behind old.journal v x more none b.end.id (another v x b.end.id other) (fed_by old was b.end.id known.new));
+  judged = known.judged ∙ sym (ap (λ j. judged_on b.end.id (judgements_in j)) journal ∙ judged_behind old.journal v x more none b.end.id
       ∙ ap (λ l. judged_on b.end.id (judgements_in old.journal) ++ l) (judged_elsewhere b.end.id x _ other) ∙ append-nil (judged_on b.end.id (judgements_in old.journal)));
 }
 
 -- that of the half itself, whose trail has the item too
-same_known : (a b : IncomingNow) (old new : RecordNow) (v : Verdict) (closed : Option SeenEnd) → IsRecord old → IsRecord new → takes v.answer ≡ false →
-    new.core.facts ≡ old.core.facts → new.journal ≡ (old.journal ++ judged_entry v a.end.id ∷ []) ++ closed_entries closed →
+same_known : (a b : IncomingNow) (old new : RecordNow) (v : Verdict) (more : List Entry) → AllByRecursion BringsNoSocket more → IsRecord old → IsRecord new → takes v.answer ≡ false →
+    new.core.facts ≡ old.core.facts → new.journal ≡ (old.journal ++ judged_entry v a.end.id ∷ []) ++ more →
     b.end.id ≡ a.end.id → b.trail.entity ≡ a.trail.entity → b.trail.judged ≡ a.trail.judged ++ record { ask = v.ask; answer = v.answer } ∷ [] → IsKnown a old → IsKnown b new
-same_known a b old new v closed was is no_taking facts journal id entity judged known = record {
+same_known a b old new v more none was is no_taking facts journal id entity judged known = record {
   entity = entity ∙ known.entity ∙ sym (ap (λ f. f.node.entity) facts);
   new = subst (λ k. IsNewTo (ids_of (ends_of new)) k) (sym id)
-      (ends_by new is a.end.id (ap (λ j. is_among a.end.id (feeds_in j)) journal ∙ fed_behind old.journal v a.end.id closed a.end.id (untaken v a.end.id a.end.id no_taking) (fed_by old was a.end.id known.new)));
+      (ends_by new is a.end.id (ap (λ j. is_among a.end.id (feeds_in j)) journal ∙ fed_behind old.journal v a.end.id more none a.end.id (untaken v a.end.id a.end.id no_taking) (fed_by old was a.end.id known.new)));
   judged = subst (λ k. b.trail.judged ≡ judged_on k (judgements_in new.journal)) (sym id)
       (judged ∙ ap (λ l. l ++ record { ask = v.ask; answer = v.answer } ∷ []) known.judged
-      ∙ sym (ap (λ j. judged_on a.end.id (judgements_in j)) journal ∙ judged_behind old.journal v a.end.id closed a.end.id
+      ∙ sym (ap (λ j. judged_on a.end.id (judgements_in j)) journal ∙ judged_behind old.journal v a.end.id more none a.end.id
       ∙ ap (λ l. judged_on a.end.id (judgements_in old.journal) ++ l) (judged_here a.end.id _)));
 }
 
@@ -168,26 +168,43 @@ back_known {E} answer arrival a m old new some was is known j = at a.ask refl j.
     at None e h none = absurd (false_isnt_true none)
     at (Some ask) e (same, no_taking, back, answers) _ =
         let v = verdict_on (facts_of_ask ask) j.number old.side.core.live in
-        same_known a arrival old.side new.side v _ was is (ap takes (sym same) ∙ no_taking)
+        same_known a arrival old.side new.side v _ (closed_none _) was is (ap takes (sym same) ∙ no_taking)
         (ap (λ r. r.core.facts) answers) (ap (λ r. r.journal) answers)
         (ap (λ i. i.end.id) back) (ap (λ i. i.trail.entity) back)
         (as_judged answer arrival a ask back e ∙ ap (λ x. a.trail.judged ++ record { ask = facts_of_ask ask; answer = x } ∷ []) same) known
 
-taken_known : (v : Verdict) (h : TakenHalf) (now : ℕ) (b : IncomingNow) (old new : RecordNow) (o : Option FeedNow) →
-    IfSome o (λ d. IsTakenFeed v h.end h.unread old.core d × (new ≡ record (after_taking_over v h d now old) { room = new.room })) → IsSome o →
+-- the entries behind that of an ask whose socket was taken: of the old feed, and of what the ask acknowledges
+abbrev pub entries_behind : Verdict → RecordNow → List Entry → List Entry
+entries_behind v old more = closed_entries (closed_if (effects_at v old).close old.core.live.feed) ++ more
+
+pub none_behind : (v : Verdict) (old mid new : RecordNow) (on : GoesOn mid new) → AllByRecursion BringsNoSocket (entries_behind v old on.more)
+none_behind v old mid new on =
+    let end = closed_if (effects_at v old).close old.core.live.feed in
+    both (closed_entries end) on.more (closed_none end) on.no_socket
+
+pub journal_behind : (v : Verdict) (h : TakenHalf) (d : FeedNow) (now : ℕ) (old mid new : RecordNow) (on : GoesOn mid new) → mid ≡ record (after_taking_over v h d now old) { room = mid.room } →
+    new.journal ≡ (old.journal ++ judged_entry v h.end.id ∷ []) ++ entries_behind v old on.more
+journal_behind v h d now old mid new on e =
+    on.journal ∙ ap (λ r. r.journal ++ on.more) e
+    ∙ append_assoc (old.journal ++ judged_entry v h.end.id ∷ []) (closed_entries (closed_if (effects_at v old).close old.core.live.feed)) on.more
+
+taken_known : (v : Verdict) (h : TakenHalf) (now : ℕ) (b : IncomingNow) (old mid new : RecordNow) (o : Option FeedNow) →
+    IfSome o (λ d. IsTakenFeed v h.end h.unread old.core d × (mid ≡ record (after_taking_over v h d now old) { room = mid.room })) → IsSome o → GoesOn mid new →
     IsRecord old → IsRecord new → same_socket b.end.id h.end.id ≡ false → IsKnown b old → IsKnown b new
-taken_known v h now b old new None e none was is other known = absurd (false_isnt_true none)
-taken_known v h now b old new (Some d) (_, e) _ was is other known =
-    other_known b old new v h.end.id _ was is other (ap (λ r. r.core.facts) e) (ap (λ r. r.journal) e) known
+taken_known v h now b old mid new None e none on was is other known = absurd (false_isnt_true none)
+taken_known v h now b old mid new (Some d) (_, e) _ on was is other known =
+    other_known b old new v h.end.id (entries_behind v old on.more) (none_behind v old mid new on) was is other (on.facts ∙ ap (λ r. r.core.facts) e)
+    (journal_behind v h d now old mid new on e) known
 
 pub others_known : {E : Type 0} (j : Judged E) (a b : IncomingNow) (m : Means) (old new : Judging) → IsSome a.ask → IsRecord old.side → IsRecord new.side →
     same_socket b.end.id a.end.id ≡ false → IsKnown b old.side → Judges j a m old new → IsKnown b new.side
 others_known {E} j a b m old new some was is other known h = at a.ask h.judges some
   where
     by_answer : (x : Judged E) (v : Verdict) → JudgesAs x v a m.now old.side new.side → IsKnown b new.side
-    by_answer (judged.Taken answer) v (_, _, over) = taken_known v (half_of answer a) m.now b old.side new.side new.side.core.live.feed over.0 over.1 was is other known
+    by_answer (judged.Taken answer) v (_, _, t) =
+        taken_known v (half_of answer a) m.now b old.side t.taken new.side t.taken.core.live.feed t.over.0 t.over.1 (counts_on t.taken new.side t.counts) was is other known
     by_answer (judged.Back answer arrival) v (_, _, _, answers) =
-        other_known b old.side new.side v a.end.id _ was is other (ap (λ r. r.core.facts) answers) (ap (λ r. r.journal) answers) known
+        other_known b old.side new.side v a.end.id _ (closed_none _) was is other (ap (λ r. r.core.facts) answers) (ap (λ r. r.journal) answers) known
     by_answer (judged.NoMemory arrival) v (_, room) = steps_known b old.side new.side (room_alone old.side new.side room) was is known
 
     at : (o : Option Ask) → IfSome o (λ ask. JudgesAs j (verdict_on (facts_of_ask ask) h.number old.side.core.live) a m.now old.side new.side) → IsSome o → IsKnown b new.side

@@ -22,6 +22,7 @@ pub mod Obeyed
 pub mod Passed
 pub mod Resetting
 pub mod Rested
+pub mod Resumed
 pub mod Sound
 pub mod Taken
 pub mod Telling

@@ -2,7 +2,7 @@
 use Rattle.std.proofs.Common.{◌≡◌, ℕ, ◌≤◌, Bool, true, false, Option, Some, None, refl, sym, ap, subst, ◌∙◌, arith}
 use Rattle.std.specs.Prelude.{nat_lt, if◌then◌else◌}
 use Rattle.std.specs.Option.{is_some}
-use Rattle.std.proofs.lemmas.Bool.{ltb-true, ltb-false}
+use Rattle.std.proofs.lemmas.Bool.{ltb-true}
 use Rattle.m2_feed.specs.Calls.{IsBad, IsFront, Owes, Rests}
 use Rattle.m2_feed.specs.FeedNow.{FeedNow, Reading, framing, shaking, is_framing}
 use Rattle.m2_feed.specs.FeedLaws.{FindsFaults}
@@ -11,7 +11,7 @@ use Rattle.m2_frame.specs.Frame.{message_tag}
 use Rattle.m2_frame.specs.Reading.{Item, judge, whole}
 use Rattle.m2_feed.specs.declared.wire_fault.WireFault.TheVariants as fault
 use Rattle.m2_feed.specs.declared.frame_heard.FrameHeard.{FrameHeard}
-use Rattle.m2_feed.specs.declared.frame_heard.FrameHeard.TheVariants.{Nothing, Acknowledges, Fault, Resets}
+use Rattle.m2_feed.specs.declared.frame_heard.FrameHeard.TheVariants.{Nothing, Fault, Resets}
 use Rattle.m2_feed.specs.declared.hearer.Hearer.{Hearer}
 use Rattle.m2_feed.specs.FrameHeard.{heard_of}
 use Rattle.m2_feed.specs.FrameLaws.{AsksForItsSize}
@@ -34,7 +34,7 @@ use Rattle.m2_core.specs.Front.{FrontHeard, HearsOn, asks, before_front, front_i
 use Rattle.m2_core.specs.Granting.{HasGranted, Throttled}
 use Rattle.m2_core.specs.Next.{CanHeed, Closes, IsNext, IsResetHeard, MayObeyIfReset, RestSays, granted_next, size_front}
 use Rattle.m2_core.specs.Passing.{HasPassed, PassesHeard}
-use Rattle.m2_core.proofs.Heeded.{bad_breaks, may_close, resumed_breaks, resumed_counts}
+use Rattle.m2_core.proofs.Heeded.{bad_breaks, may_close, resumed_breaks}
 use Rattle.m2_bytes.proofs.m2_lemmas.Options.{none_isnt_some}
 use Rattle.m2_core.proofs.Helds.{same_mid}
 
@@ -78,22 +78,18 @@ next_heard t a c new heard h n =
 
 -- ---- a resumption
 
-resumed_may : (c : CoreNow) (heard : FrameHeard) → is_ready c.live ≡ true → (a b : Bool) → nat_lt c.live.out.queue.written c.live.resumed ≡ a → nat_lt c.live.out.queue.base c.live.resumed ≡ b →
-    (if a then Some (Fault (fault.BadAck c.live.out.queue.written c.live.resumed)) else if b then Some (Acknowledges c.live.resumed) else None) ≡ Some heard → CanHeed heard c
-resumed_may c heard ready true b p q e =
+resumed_may : (c : CoreNow) (heard : FrameHeard) (b : Bool) → nat_lt c.live.out.queue.written c.live.resumed ≡ b →
+    (if b then Some (Fault (fault.BadAck c.live.out.queue.written c.live.resumed)) else None) ≡ Some heard → CanHeed heard c
+resumed_may c heard true p e =
     let same : Fault (fault.BadAck c.live.out.queue.written c.live.resumed) ≡ heard = cc in
     subst (λ (x : FrameHeard). CanHeed x c) same (resumed_breaks c (ltb-true c.live.out.queue.written c.live.resumed p))
-resumed_may c heard ready false true p q e =
-    let same : Acknowledges c.live.resumed ≡ heard = cc in
-    subst (λ (x : FrameHeard). CanHeed x c) same
-    (resumed_counts c ready (ltb-true c.live.out.queue.base c.live.resumed q) (ltb-false c.live.out.queue.written c.live.resumed p))
-resumed_may c heard ready false false p q e = let never : ⊥ = cc in absurd never
+resumed_may c heard false p e = let never : ⊥ = cc in absurd never
 
 pub resumed_can : (c : CoreNow) (heard : FrameHeard) → Some heard ≡ resumption_at c → CanHeed heard c
 resumed_can c heard e = at (is_ready c.live) refl (sym e)
   where
     at : (b : Bool) → is_ready c.live ≡ b → (if b then resumption_of (hearer_of c) c.live.resumed else None) ≡ Some heard → CanHeed heard c
-    at true q h = resumed_may c heard q (nat_lt c.live.out.queue.written c.live.resumed) (nat_lt c.live.out.queue.base c.live.resumed) refl refl h
+    at true q h = resumed_may c heard (nat_lt c.live.out.queue.written c.live.resumed) refl h
     at false q h = let never : ⊥ = cc in absurd never
 
 pub next_resumed : (t : Throttled) (a : CoreNext) (c new : CoreNow) (heard : FrameHeard) → OnFeedNow c.live.feed (λ v. is_framing v.reading ≡ true) → Some heard ≡ resumption_at c → IsNext t a (tells heard) c new →

@@ -5,7 +5,7 @@ use Rattle.m2_frame.specs.Frame.{message_tag}
 use Rattle.m2_frame.specs.Reading.{Front, start, bad, text, judge, owed_at}
 use Rattle.m2_feed.specs.declared.wire_fault.WireFault.TheVariants as fault
 use Rattle.m2_feed.specs.declared.frame_heard.FrameHeard.{FrameHeard}
-use Rattle.m2_feed.specs.declared.frame_heard.FrameHeard.TheVariants.{Acknowledges, Fault}
+use Rattle.m2_feed.specs.declared.frame_heard.FrameHeard.TheVariants.{Fault}
 use Rattle.m2_feed.specs.declared.hearer.Hearer.{Hearer}
 use Rattle.m2_feed.specs.FrameHeard.{heard_of}
 use Rattle.m2_journal.specs.SideFacts.{SideFacts}
@@ -59,12 +59,10 @@ abbrev pub front_of : Hearer → Reading → FrontHeard
 front_of h (framing rest granted) = front_in h (owed_at rest granted) (judge rest)
 front_of h (shaking s) = rests
 
--- In Ready, up to where the ask acknowledges that was resumed on the feed is counted before any text there.
+-- In Ready a resumption that acknowledges more than was written is a fault, before any text there. What it acknowledges else was
+-- counted by the step that took it.
 abbrev pub resumption_of : Hearer → (resumed : ℕ) → Option FrameHeard
-resumption_of h resumed =
-    if nat_lt h.written resumed then Some (Fault (fault.BadAck h.written resumed))
-    else if nat_lt h.acknowledged resumed then Some (Acknowledges resumed)
-    else None
+resumption_of h resumed = if nat_lt h.written resumed then Some (Fault (fault.BadAck h.written resumed)) else None
 
 abbrev pub resumption_at : CoreNow → Option FrameHeard
 resumption_at c = if is_ready c.live then resumption_of (hearer_of c) c.live.resumed else None

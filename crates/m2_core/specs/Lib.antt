@@ -4,6 +4,7 @@ pub mod Asking
 pub mod Calls
 pub mod Composing
 pub mod CoreNow
+pub mod Counting
 pub mod Effects
 pub mod Front
 pub mod Granting

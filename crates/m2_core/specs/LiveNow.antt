@@ -16,7 +16,8 @@ pub record LiveNow : Type 0 where
   pub out : Outgoing
   -- the last accepted number
   pub last : ℕ
-  -- up to where a resumption on the feed acknowledges, 0 where none does
+  -- Up to where a resumption on the feed acknowledges, 0 where none does. What of it was written is counted by the step that takes
+  -- the resumption, so only a claim of more is left to be met.
   pub resumed : ℕ
   pub feed : Option FeedNow
   -- what a throttle has granted for the MESSAGE that isn't finished

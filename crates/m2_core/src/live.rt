@@ -37,7 +37,8 @@ pub struct Live<E: End> {
     pub out: OutQueues,
     /// The last accepted number.
     pub last: u64,
-    /// Up to where a resumption on the feed acknowledges, 0 where none does.
+    /// Up to where a resumption on the feed acknowledges, 0 where none does. What of it was written is counted
+    /// by the step that takes the resumption, so only a claim of more is left to be met.
     pub resumed: u64,
     /// The one open socket.
     pub feed: Option<Feed<E>>,

@@ -138,7 +138,7 @@ impl<E: End> Core<E> {
         front_on(&self.live.feed, &hearer)
     }
 
-    /// What a resumption on the feed says, before any text there.
+    /// What a resumption on the feed says, before any text there: that it acknowledges more than was written.
     fn resumption(&self) -> Option<FrameHeard>
         ensures { result ≡ resumption_at self.now }
     {
@@ -148,8 +148,8 @@ impl<E: End> Core<E> {
         None
     }
 
-    /// Whether a resumption on the feed says something, before any text there: where it acknowledges what
-    /// isn't counted yet, or more than was written.
+    /// Whether a resumption on the feed acknowledges more than was written, which is a fault before any text
+    /// there.
     pub fn has_resumption(&self) -> bool
         ensures { result ≡ is_some (resumption_at self.now) }
     {
@@ -269,7 +269,7 @@ fn granted_next(answer: CoreGrant) -> CoreNext
     }
 }
 
-/// What a resumption says that acknowledges up to this number.
+/// What a resumption says that acknowledges up to this number, behind the step that took it.
 fn resumption_of(hearer: &Hearer, resumed: u64) -> Option<FrameHeard>
     ensures { result ≡ resumption_of hearer.now resumed }
 {
@@ -278,9 +278,6 @@ fn resumption_of(hearer: &Hearer, resumed: u64) -> Option<FrameHeard>
             written: hearer.written,
             got: resumed,
         }));
-    }
-    if resumed > hearer.acknowledged {
-        return Some(FrameHeard::Acknowledges { number: resumed });
     }
     None
 }

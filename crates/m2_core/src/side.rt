@@ -36,7 +36,7 @@ use std::marker::Model;
 /// composed: [`ask`](Core::ask), [`number`](Core::number), [`acknowledge`](Core::acknowledge),
 /// [`answer_keepalive`](Core::answer_keepalive). An ask of the peer: [`answer_to`](Core::answer_to),
 /// [`verdict`](Core::verdict); then [`answered`](Core::answered), or [`acceptance`](Core::acceptance) and
-/// [`take_over`](Core::take_over).
+/// [`take_over`](Core::take_over). Behind a resumption: [`count_resumption`](Core::count_resumption).
 ///
 /// A call that takes a throttle has the condition that the pass and what the core holds were made from it.
 pub struct Core<E: End> {

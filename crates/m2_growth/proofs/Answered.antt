@@ -19,7 +19,7 @@ use Rattle.m2_weave.specs.m2_journal.declared.entry.Entry.TheVariants as entry
 use Rattle.m2_weave.specs.m2_journal.declared.entry.JudgedItem.{JudgedItem}
 use Rattle.m2_weave.specs.m2_journal.State.{Judgement}
 use Rattle.m2_center.specs.m2_core.Effects.{closed_if}
-use Rattle.m2_center.specs.m2_record.Calls.{closed_entries}
+use Rattle.m2_center.specs.m2_record.Calls.{CountsResumption, closed_entries}
 use Rattle.m2_center.specs.m2_record.declared.judging.Judged.{Judged}
 use Rattle.m2_center.specs.m2_record.declared.judging.Judged.TheVariants as judged
 use Rattle.m2_center.specs.m2_record.Judging.{Answers, JudgesAs, after_taking_over, effects_at, half_of, judged_entry}
@@ -32,6 +32,8 @@ use Rattle.m2_center.specs.declared.answering.HalfAnswered.TheVariants as half
 use Rattle.m2_center.specs.Answering.{AnswersBy, AnswersHalf, FindsSo, HearsHalf, OwesThen, RefusesHalf, RejectsHalf, RepliesHalf}
 use Rattle.m2_center.specs.Judging.{Judges, Judging}
 use Rattle.m2_center.specs.RecordTurn.{Means}
+use Rattle.m2_center.proofs.GoesOn.{counts_on as counts_more}
+use Rattle.m2_center.proofs.Known.{entries_behind, journal_behind, none_behind, none_judged}
 use Rattle.m2_center.proofs.Opened.{filtered}
 use Rattle.m2_bytes_fit.specs.m2_trail.Arrivals.{LooseNow, closed_of}
 use Rattle.m2_bytes_fit.specs.m2_trail.Asks.{facts_of_ask}
@@ -46,7 +48,8 @@ use Rattle.m2_growth.proofs.Asked.{same_since, since_more}
 use Rattle.m2_growth.proofs.Ends.{AreLater, grows_same, later_behind, later_chain, later_same, later_swapped, on_by, on_same}
 use Rattle.m2_growth.proofs.Going.{record_same, trail_chain, trail_same}
 use Rattle.m2_growth.proofs.Judged.{JudgesOn}
-use Rattle.m2_growth.proofs.Standing.{ends_left}
+use Rattle.m2_growth.proofs.Standing.{Fixed, ends_left}
+use Rattle.m2_growth.proofs.Steps.{counts_on}
 use Rattle.m2_growth.proofs.Told.{quiet_stands, taking_closes, taking_feeds, told_quiet, told_taking}
 use Rattle.m2_fabric.proofs.m2_lemmas.Booleans.{false_isnt_true}
 
@@ -137,24 +140,24 @@ side_same k old new e =
 
 -- ---- the entry of its answer
 
-none_judged : (closed : Option SeenEnd) → judgements_in (closed_entries closed) ≡ []
-none_judged (Some e) = refl
-none_judged None = refl
+none_closed : (closed : Option SeenEnd) → judgements_in (closed_entries closed) ≡ []
+none_closed (Some e) = refl
+none_closed None = refl
 
-judged_behind : (journal : List Entry) (v : Verdict) (k : SocketId) (closed : Option SeenEnd) →
-    judgements_in ((journal ++ judged_entry v k ∷ []) ++ closed_entries closed) ≡ judgements_in journal ++ record { socket = k; item = record { ask = v.ask; answer = v.answer } } ∷ []
-judged_behind journal v k closed =
-    filtered judgement_of (journal ++ judged_entry v k ∷ []) (closed_entries closed)
-    ∙ ap (λ l. judgements_in (journal ++ judged_entry v k ∷ []) ++ l) (none_judged closed)
+judged_behind : (journal : List Entry) (v : Verdict) (k : SocketId) (more : List Entry) → judgements_in more ≡ [] →
+    judgements_in ((journal ++ judged_entry v k ∷ []) ++ more) ≡ judgements_in journal ++ record { socket = k; item = record { ask = v.ask; answer = v.answer } } ∷ []
+judged_behind journal v k more none =
+    filtered judgement_of (journal ++ judged_entry v k ∷ []) more
+    ∙ ap (λ l. judgements_in (journal ++ judged_entry v k ∷ []) ++ l) none
     ∙ append-nil (judgements_in (journal ++ judged_entry v k ∷ []))
     ∙ filtered judgement_of journal (judged_entry v k ∷ [])
 
 abbrev socket_in : Judgement → SocketId
 socket_in j = j.socket
 
-asked_behind : (old new : RecordNow) (v : Verdict) (k : SocketId) (closed : Option SeenEnd) → new.journal ≡ (old.journal ++ judged_entry v k ∷ []) ++ closed_entries closed → JudgesOn k old new
-asked_behind old new v k closed e j asked =
-    let found = whose socket_in j (judgements_in old.journal ++ this ∷ []) (ap (λ (js : List Judgement). is_among j (map socket_in js)) (sym (ap judgements_in e ∙ judged_behind old.journal v k closed)) ∙ asked) in
+asked_behind : (old new : RecordNow) (v : Verdict) (k : SocketId) (more : List Entry) → judgements_in more ≡ [] → new.journal ≡ (old.journal ++ judged_entry v k ∷ []) ++ more → JudgesOn k old new
+asked_behind old new v k more none e j asked =
+    let found = whose socket_in j (judgements_in old.journal ++ this ∷ []) (ap (λ (js : List Judgement). is_among j (map socket_in js)) (sym (ap judgements_in e ∙ judged_behind old.journal v k more none)) ∙ asked) in
     at found.item found.is (in_part found.item (judgements_in old.journal) (this ∷ []) found.there)
   where
     this : Judgement
@@ -166,10 +169,11 @@ asked_behind old new v k closed e j asked =
     at i is (inr (inr h)) = absurd h
 
 -- so it is one ask, on that socket
-one_since : (old new : RecordNow) (v : Verdict) (k : SocketId) (closed : Option SeenEnd) → new.journal ≡ (old.journal ++ judged_entry v k ∷ []) ++ closed_entries closed → AllByRecursion (λ (j : Judgement). j.socket ≡ k) (judged_since old new)
-one_since old new v k closed e =
+one_since : (old new : RecordNow) (v : Verdict) (k : SocketId) (more : List Entry) → judgements_in more ≡ [] → new.journal ≡ (old.journal ++ judged_entry v k ∷ []) ++ more →
+    AllByRecursion (λ (j : Judgement). j.socket ≡ k) (judged_since old new)
+one_since old new v k more none e =
     subst (AllByRecursion (λ (j : Judgement). j.socket ≡ k))
-    (sym (since_more old new (judged_entry v k ∷ closed_entries closed) (e ∙ append_assoc old.journal (judged_entry v k ∷ []) (closed_entries closed)) ∙ ap (λ l. this ∷ l) (none_judged closed)))
+    (sym (since_more old new (judged_entry v k ∷ more) (e ∙ append_assoc old.journal (judged_entry v k ∷ []) more) ∙ ap (λ l. this ∷ l) none))
     (refl, tt)
   where
     this : Judgement
@@ -191,8 +195,8 @@ answers ask number now k old new untaken e =
         trails = on_by old.trails new.trails (ap (λ r. r.trails) e);
       };
       fed = (λ f. subst IsFed (sym e) (stands.fed f));
-      asked = asked_behind old new v k closed (ap (λ r. r.journal) e);
-      since = one_since old new v k closed (ap (λ r. r.journal) e);
+      asked = asked_behind old new v k (closed_entries closed) (none_closed closed) (ap (λ r. r.journal) e);
+      since = one_since old new v k (closed_entries closed) (none_closed closed) (ap (λ r. r.journal) e);
       trails = ap (λ r. r.trails) e;
       ends = subst (λ r. AreLater (ends_of old) (ends_of r)) (sym e) stands.ends;
     }
@@ -208,32 +212,38 @@ ends_taken o spent e d is =
     (later_swapped ends (e ∷ []))
     (later_behind (e ∷ []) ends closed (ends_left o spent)))
 
-takes_over : (ask : AskFacts) (number now : ℕ) (answer : Answer) (a : IncomingNow) (old new : RecordNow) → takes (verdict_on ask number old.core.live).answer ≡ true → (o : Option FeedNow) →
-    IfSome o (λ d. IsTakenFeed (verdict_on ask number old.core.live) (half_of answer a).end (half_of answer a).unread old.core d × (new ≡ record (after_taking_over (verdict_on ask number old.core.live) (half_of answer a) d now old) { room = new.room })) →
+takes_over : (ask : AskFacts) (number now : ℕ) (answer : Answer) (a : IncomingNow) (old mid new : RecordNow) → takes (verdict_on ask number old.core.live).answer ≡ true → CountsResumption mid new → (o : Option FeedNow) →
+    IfSome o (λ d. IsTakenFeed (verdict_on ask number old.core.live) (half_of answer a).end (half_of answer a).unread old.core d × (mid ≡ record (after_taking_over (verdict_on ask number old.core.live) (half_of answer a) d now old) { room = mid.room })) →
     IsSome o → SideTakes a old new
-takes_over ask number now answer a old new taken None h none = absurd (false_isnt_true none)
-takes_over ask number now answer a old new taken (Some d) (feed, e) _ =
+takes_over ask number now answer a old mid new taken counts None h none = absurd (false_isnt_true none)
+takes_over ask number now answer a old mid new taken counts (Some d) (feed, e) _ =
     let v = verdict_on ask number old.core.live in
     let told = told_of old.core.facts v in
     let taking = told_taking old.core.facts ask number old.core.live taken in
-    let closed = closed_if (effects_at v old).close old.core.live.feed in
+    let on = counts_more mid new counts in
+    let moves = counts_on mid new counts in
+    let more = entries_behind v old on.more in
+    let none = none_judged more (none_behind v old mid new on) in
+    let journal = journal_behind v (half_of answer a) d now old mid new on e in
     record {
       grows = record {
-        place = ap (λ r. r.place) e;
-        facts = ap (λ r. r.core.facts) e;
-        plan = on_by old.plan new.plan (ap (λ r. r.plan) e);
-        journal = (judged_entry v a.end.id ∷ closed_entries closed, ap (λ r. r.journal) e ∙ append_assoc old.journal (judged_entry v a.end.id ∷ []) (closed_entries closed));
-        trails = ((half_of answer a).trail ∷ [], ap (λ r. r.trails) e);
+        place = ap (λ (f : Fixed). f.place) moves.fixed ∙ ap (λ r. r.place) e;
+        facts = on.facts ∙ ap (λ r. r.core.facts) e;
+        plan = on_by old.plan new.plan (ap (λ (f : Fixed). f.plan) moves.fixed ∙ ap (λ r. r.plan) e);
+        journal = (judged_entry v a.end.id ∷ more, journal ∙ append_assoc old.journal (judged_entry v a.end.id ∷ []) more);
+        trails = ((half_of answer a).trail ∷ [], ap (λ (f : Fixed). f.trails) moves.fixed ∙ ap (λ r. r.trails) e);
       };
-      fed = (λ f. subst IsFed (sym e) (sym (taking_feeds told old.core.live taking)));
-      asked = asked_behind old new v a.end.id closed (ap (λ r. r.journal) e);
-      since = one_since old new v a.end.id closed (ap (λ r. r.journal) e);
+      fed = (λ f. moves.stands.fed (subst IsFed (sym e) (sym (taking_feeds told old.core.live taking))));
+      asked = asked_behind old new v a.end.id more none journal;
+      since = one_since old new v a.end.id more none journal;
       trail = (half_of answer a).trail;
-      last = ap (λ r. r.trails) e;
+      last = ap (λ (f : Fixed). f.trails) moves.fixed ∙ ap (λ r. r.trails) e;
       of_half = (half_judged answer a.room a).trail;
-      ends = subst (λ r. AreLater (ends_of old ++ a.end ∷ []) (ends_of r)) (sym e)
+      ends = later_chain (ends_of old ++ a.end ∷ []) (ends_of mid) (ends_of new)
+          (subst (λ r. AreLater (ends_of old ++ a.end ∷ []) (ends_of r)) (sym e)
           (subst (λ b. AreLater (ends_of old ++ a.end ∷ []) (d.end ∷ (old.spent ++ option_to_list (closed_if b old.core.live.feed)))) (sym (taking_closes told old.core.live.session taking))
-          (ends_taken old.core.live.feed old.spent a.end d (ap (λ (z : FeedNow). z.end) feed)));
+          (ends_taken old.core.live.feed old.spent a.end d (ap (λ (z : FeedNow). z.end) feed))))
+          moves.stands.ends;
     }
 
 -- ---- an ask that is judged
@@ -257,8 +267,8 @@ room_alone k old new e =
     })
 
 judges_so : {E : Type 0} (j : Judged E) (ask : AskFacts) (number now : ℕ) (a : IncomingNow) (old new : RecordNow) → JudgesAs j (verdict_on ask number old.core.live) a now old new → JudgedSo j a old new
-judges_so (judged.Taken answer) ask number now a old new (is, taken, over) =
-    takes_over ask number now answer a old new (ap takes (sym is) ∙ taken) new.core.live.feed over.0 over.1
+judges_so (judged.Taken answer) ask number now a old new (is, taken, t) =
+    takes_over ask number now answer a old t.taken new (ap takes (sym is) ∙ taken) t.counts t.taken.core.live.feed t.over.0 t.over.1
 judges_so (judged.Back answer arrival) ask number now a old new (is, untaken, back, answered) = (
   answers ask number now a.end.id old new (ap takes (sym is) ∙ untaken) answered,
   subst (HalfGoes a) (sym back) (half_judged answer arrival.room a),

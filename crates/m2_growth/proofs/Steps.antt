@@ -12,6 +12,7 @@ use Rattle.m2_center.specs.m2_core.declared.next.CoreNext.TheVariants as next
 use Rattle.m2_center.specs.m2_core.Asking.{LeavesAsk}
 use Rattle.m2_center.specs.m2_core.Calls.{ask_event, asks_ident}
 use Rattle.m2_center.specs.m2_core.CoreNow.{CoreNow}
+use Rattle.m2_center.specs.m2_core.Counting.{CountsIf, to_count}
 use Rattle.m2_center.specs.m2_core.Front.{FrontHeard, asks, heard_by, rests, tells}
 use Rattle.m2_center.specs.m2_core.Granting.{Throttled}
 use Rattle.m2_center.specs.m2_core.Hearing.{Heeds, effects_heard}
@@ -60,10 +61,10 @@ use Rattle.m2_center.specs.m2_record.declared.framing.Framed.{Framed}
 use Rattle.m2_center.specs.m2_record.declared.framing.Framed.TheVariants as framed
 use Rattle.m2_center.specs.m2_record.declared.stepped.Stepped.{Stepped}
 use Rattle.m2_center.specs.m2_record.declared.stepped.Stepped.TheVariants as stepped
-use Rattle.m2_center.specs.m2_record.Calls.{Breaks, ClosesFor, ComposesAs, GetsEntries, GoesDown, IsSameButRoom, Writes, fault_put}
+use Rattle.m2_center.specs.m2_record.Calls.{Breaks, ClosesFor, ComposesAs, CountsResumption, GetsEntries, GoesDown, IsSameButRoom, Writes, fault_put}
 use Rattle.m2_center.specs.m2_record.Due.{due_step, next_step}
 use Rattle.m2_center.specs.m2_record.Framing.{AnswersFront, Frames, Greets}
-use Rattle.m2_center.specs.m2_record.Reading.{Reads, fault_read}
+use Rattle.m2_center.specs.m2_record.Reading.{CountsAnswer, EndsRead, Reads, fault_read}
 use Rattle.m2_center.specs.m2_record.RecordNow.{RecordNow}
 use Rattle.m2_center.specs.m2_record.Stepping.{FeedStays, HandsAs, NothingDone, PlansAs, StepsAs, StepsBy, TakesDue, Worked}
 use Rattle.m2_growth.specs.Ends.{EndGrows}
@@ -338,8 +339,30 @@ heeds (Some (answer.Retry number)) l m spent t = heeds_on l m t.passed spent t.p
 heeds (Some (answer.RetryGlobal number)) l m spent t = heeds_on l m t.passed spent t.passes (ap (λ (x : LiveNow). x.feed) t.live) (ap (λ (x : LiveNow). is_among x.session.phase with_feed) t.live)
 heeds (Some answer.Wait) l m spent t = stands_left (heeding l spent) (heeding m (spent ++ option_to_list (closed_if true l.feed))) (ap (λ (x : LiveNow). x.feed) t.live) (ap (λ (x : LiveNow). is_among x.session.phase with_feed) t.live) refl
 
+-- what a resumption acknowledges is counted, which moves neither the phase nor the feed
+counts_core : (n : Option ℕ) (old new : CoreNow) → CountsIf n old new → CoreStays old new
+counts_core (Some number) old new h = core_same old new (ap (λ c. c.live.session.phase) h.only) (ap (λ c. c.live.feed) h.only)
+counts_core None old new e = core_same old new (ap (λ c. c.live.session.phase) e) (ap (λ c. c.live.feed) e)
+
+pub counts_on : (old new : RecordNow) → CountsResumption old new → MovesOn old new
+counts_on old new (h, e) = stays old new (ap fixed_of e) (ap (λ r. r.spent) e) (counts_core (to_count old.core.live) old.core new.core h)
+
+counts_answer : (h : Option Heard) (old new : RecordNow) → CountsAnswer h old new → MovesOn old new
+counts_answer (Some (answer.ReconnectOk seen)) old new c = counts_on old new c
+counts_answer (Some (answer.ServerIdent cookie global)) old new e = moves_same old new (ap fixed_of e) (ap stand_of e)
+counts_answer (Some (answer.Retry number)) old new e = moves_same old new (ap fixed_of e) (ap stand_of e)
+counts_answer (Some (answer.RetryGlobal number)) old new e = moves_same old new (ap fixed_of e) (ap stand_of e)
+counts_answer (Some (answer.Reset full)) old new e = moves_same old new (ap fixed_of e) (ap stand_of e)
+counts_answer (Some (answer.Refused f)) old new e = moves_same old new (ap fixed_of e) (ap stand_of e)
+counts_answer (Some answer.Wait) old new e = moves_same old new (ap fixed_of e) (ap stand_of e)
+counts_answer None old new e = moves_same old new (ap fixed_of e) (ap stand_of e)
+
+ends_read : (cause : Option WireFault) (h : Option Heard) (now : ℕ) (old new : RecordNow) → EndsRead cause h now old new → MovesOn old new
+ends_read (Some f) h now old new e = breaks now old new e
+ends_read None h now old new c = counts_answer h old new c
+
 reads_on : (x : _) (now : ℕ) (old new : RecordNow) → Reads x now old new → MovesOn old new
-reads_on x now old new r = moves_chain old r.mid new first (closes (fault_read x) now r.mid new r.closes)
+reads_on x now old new r = moves_chain old r.mid new first (ends_read (fault_read x) x.heard now r.mid new r.ends)
   where
     read : LiveNow
     read = live_with r.once.core.feed old.core.live

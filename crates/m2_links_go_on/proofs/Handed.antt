@@ -28,7 +28,7 @@ use Rattle.m2_history.specs.m2_record.declared.stepped.Stepped.TheVariants as st
 use Rattle.m2_history.specs.m2_record.Calls.{ClosesFor, ComposesAs, HandsOut, IsSameButRoom, Writes, fault_put}
 use Rattle.m2_history.specs.m2_record.Due.{due_step, next_step}
 use Rattle.m2_history.specs.m2_record.Framing.{Frames, Greets}
-use Rattle.m2_history.specs.m2_record.Reading.{Reads, answer_by, answer_heard, answer_read, fault_read, faulted_or}
+use Rattle.m2_history.specs.m2_record.Reading.{CountsAnswer, EndsRead, Reads, answer_by, answer_heard, answer_read, fault_read, faulted_or}
 use Rattle.m2_history.specs.m2_record.RecordNow.{RecordNow}
 use Rattle.m2_history.specs.m2_record.Stepping.{HandsAs, PlansAs, StepsAs, StepsBy, TakesDue, Worked, answer_composed, answer_framed, answer_planned, answer_put}
 use Rattle.m2_links_go_on.specs.Logged.{deliveries_of}
@@ -138,8 +138,22 @@ frames t (framed.Full out) now old new (_, e) = ap (λ r. r.handed) e
 frames t (framed.Again seen at) now old new (_, e) = ap (λ r. r.handed) e
 frames t framed.NoMemory now old new (_, e) = ap (λ r. r.handed) e
 
+counts_answer : (h : Option Heard) (old new : RecordNow) → CountsAnswer h old new → HandsNone old new
+counts_answer (Some (heard.ReconnectOk seen)) old new c = ap (λ r. r.handed) c.1
+counts_answer (Some (heard.ServerIdent cookie global)) old new e = ap (λ r. r.handed) e
+counts_answer (Some (heard.Retry number)) old new e = ap (λ r. r.handed) e
+counts_answer (Some (heard.RetryGlobal number)) old new e = ap (λ r. r.handed) e
+counts_answer (Some (heard.Reset full)) old new e = ap (λ r. r.handed) e
+counts_answer (Some (heard.Refused f)) old new e = ap (λ r. r.handed) e
+counts_answer (Some heard.Wait) old new e = ap (λ r. r.handed) e
+counts_answer None old new e = ap (λ r. r.handed) e
+
+ends_read : (cause : Option WireFault) (h : Option Heard) (now : ℕ) (old new : RecordNow) → EndsRead cause h now old new → HandsNone old new
+ends_read (Some f) h now old new e = ap (λ r. r.handed) e
+ends_read None h now old new c = counts_answer h old new c
+
 reads_on : (x : _) (now : ℕ) (old new : RecordNow) → Reads x now old new → HandsNone old new
-reads_on x now old new r = closes (fault_read x) now r.mid new r.closes ∙ ap (λ r. r.handed) r.once.only
+reads_on x now old new r = ends_read (fault_read x) x.heard now r.mid new r.ends ∙ ap (λ r. r.handed) r.once.only
 
 composes : (t : CoreText) (answer : Composed) (old new : RecordNow) → ComposesAs t answer old new → HandsNone old new
 composes text.Ask (composed.Asked by_ident number) old new (_, left, e) = ap (λ r. r.handed) e

@@ -87,7 +87,7 @@ taken_over v h now old new (is, some) = at new.core.live.feed is some
     at None e some = absurd (false_isnt_true some)
 
 judged_by : {E : Type 0} (j : Judged E) (v : Verdict) (a : IncomingNow) (now : ℕ) (old new : RecordNow) → JudgesAs j v a now old new → StaysSteady old new
-judged_by (judged.Taken answer) v a now old new (_, _, over) = taken_over v (half_of answer a) now old new over
+judged_by (judged.Taken answer) v a now old new (_, _, t) = ap steady_of t.counts.1 ∙ taken_over v (half_of answer a) now old t.taken t.over
 judged_by (judged.Back answer arrival) v a now old new (_, _, _, e) = ap steady_of e
 judged_by (judged.NoMemory arrival) v a now old new (_, e) = ap steady_of e
 

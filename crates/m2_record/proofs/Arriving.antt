@@ -24,6 +24,7 @@ use Rattle.m2_record.specs.Judging.{CanAskOn, CanBeJudged, CanBeTaken, JudgesAs,
 use Rattle.m2_record.specs.declared.judging.Judged.{Judged}
 use Rattle.m2_record.specs.declared.judging.Judged.TheVariants as judged
 use Rattle.m2_record.specs.RecordNow.{RecordNow, Rooms, speaks_of}
+use Rattle.m2_record.proofs.Resumed.{counted-top}
 use Rattle.m2_bytes.proofs.m2_lemmas.Booleans.{false_isnt_true}
 
 -- the session of a record is sound, as that of each replay
@@ -74,9 +75,15 @@ to-the-ask result a number now old new v facts of is h = at a.ask of
 
 -- no number above that of the answer was used
 pub top-judged : {E : Type 0} (result : Judged E) (v : Verdict) (a : IncomingNow) (now : ℕ) (old new : RecordNow) → old.core.top ≤ v.number → JudgesAs result v a now old new → new.core.top ≤ v.number
-top-judged (judged.Taken answer) v a now old new from h = at new.core.live.feed h.2.0 h.2.1
+top-judged (judged.Taken answer) v a now old new from h = below (counted-top mid new h.2.counts) (at mid.core.live.feed h.2.over.0 h.2.over.1)
   where
-    at : (o : Option FeedNow) → IfSome o (λ d. IsTakenFeed v (half_of answer a).end (half_of answer a).unread old.core d × (new ≡ record (after_taking_over v (half_of answer a) d now old) { room = new.room })) → IsSome o → new.core.top ≤ v.number
+    mid : RecordNow
+    mid = h.2.taken
+
+    below : new.core.top ≡ mid.core.top → mid.core.top ≤ v.number → new.core.top ≤ v.number
+    below e k = omega (arith, e, k)
+
+    at : (o : Option FeedNow) → IfSome o (λ d. IsTakenFeed v (half_of answer a).end (half_of answer a).unread old.core d × (mid ≡ record (after_taking_over v (half_of answer a) d now old) { room = mid.room })) → IsSome o → mid.core.top ≤ v.number
     at (Some d) e f = (let t = ap (λ (r : RecordNow). r.core.top) e.1 in omega (arith, t))
     at None e f = absurd (false_isnt_true f)
 top-judged (judged.Back answer arrival) v a now old new from h = (let t = ap (λ (r : RecordNow). r.core.top) h.3 in omega (arith, t))
@@ -85,7 +92,7 @@ top-judged (judged.NoMemory arrival) v a now old new from h = (let t = ap (λ (r
 -- room is no part of it
 in-more-room : {E : Type 0} (result : Judged E) (v : Verdict) (a : IncomingNow) (now more : ℕ) (old new : RecordNow) (room : Rooms) →
     JudgesAs result v (record a { room = more }) now (record old { room = room }) new → JudgesAs result v a now old new
-in-more-room (judged.Taken answer) v a now more old new room h = h
+in-more-room (judged.Taken answer) v a now more old new room h = (h.0, h.1, record { taken = h.2.taken; over = h.2.over; counts = h.2.counts })
 in-more-room (judged.Back answer arrival) v a now more old new room h = h
 in-more-room (judged.NoMemory arrival) v a now more old new room h = h
 

@@ -59,10 +59,11 @@ use Rattle.m2_record.specs.Calls.{Asks, ClosesFor, ComposesAs, DrawsAs, GetsEntr
 use Rattle.m2_record.specs.Due.{due_step, has_frame, has_parcel, has_plan, may_compose, may_connect, may_read, may_write, next_step, on_feed}
 use Rattle.m2_core.specs.Granting.{Throttled}
 use Rattle.m2_record.specs.Framing.{AnswersFront, Frames, Greets}
-use Rattle.m2_record.specs.Reading.{Reads, answer_by, answer_read, fault_by, fault_read, faulted_or, held_read, moment_read, read_entries, waits_read}
+use Rattle.m2_record.specs.Reading.{CountsAnswer, EndsRead, Reads, answer_by, answer_read, fault_by, fault_read, faulted_or, held_read, moment_read, read_entries, waits_read}
 use Rattle.m2_record.specs.RecordNow.{RecordNow}
 use Rattle.m2_record.specs.Stepping.{FeedStays, IfMemory, NothingDone, PlansAs, StepsAs, StepsBy, TakesDue, Worked, answer_composed, answer_framed, answer_planned, answer_put}
 use Rattle.m2_record.proofs.HasGot.{none-closed, none-heard}
+use Rattle.m2_record.proofs.Resumed.{counted-top}
 use Rattle.m2_bytes.proofs.m2_lemmas.Booleans.{both_of_and, false_isnt_true}
 
 -- ---- what makes it due
@@ -239,8 +240,10 @@ pub read-nothing : (x : RecordRead) (now : ℕ) (old new : RecordNow) → Reads 
 read-nothing x now old new w a =
     let none : x.answer ≡ read.NoMemory = memory-read x.answer x.heard a in
     let quiet = quiet-read (record { answer = x.answer; heard = x.heard; closed = w.once.closed }) old.core w.mid.core w.once.core none in
-    let closes : new ≡ w.mid = subst (λ (f : Option WireFault). ClosesFor f now w.mid new) (ap (λ (z : EndRead). fault_by z x.heard) none) w.closes in
-    subst (NothingDone old) (sym closes)
+    let silent : x.heard ≡ None = w.once.core.hears ∙ ap (λ (a : EndRead). heard_after a old.core.facts (live_with w.once.core.feed old.core.live)) none in
+    let unfaulted : EndsRead None x.heard now w.mid new = subst (λ (f : Option WireFault). EndsRead f x.heard now w.mid new) (ap (λ (z : EndRead). fault_by z x.heard) none) w.ends in
+    let ends : new ≡ w.mid = subst (λ (h : Option Heard). EndsRead None h now w.mid new) silent unfaulted in
+    subst (NothingDone old) (sym ends)
     (core-nothing old w.mid (feed-same old.core.live.feed w.mid.core.live.feed (ap (λ (z : LiveNow). z.feed) quiet.0))
     (w.once.core.only ∙ ap (λ (l : LiveNow). record old.core { live = l }) (quiet.0 ∙ ap (λ (o : Option FeedNow). record old.core.live { feed = o }) (sym (ap (λ (z : LiveNow). z.feed) quiet.0))))
     (w.once.only ∙ unread quiet.1 none))
@@ -372,8 +375,22 @@ closed-top None now mid new e = ap (λ (z : RecordNow). z.core.top) e
 pub wrote-top : (answer : FeedWrite) (now : ℕ) (old new : RecordNow) → Writes answer now old new → new.core.top ≡ old.core.top
 wrote-top answer now old new w = closed-top (fault_put answer) now w.mid new w.closes ∙ ap (λ (z : CoreNow). z.top) w.once.core.only
 
+answer-top : (h : Option Heard) (mid new : RecordNow) → CountsAnswer h mid new → new.core.top ≡ mid.core.top
+answer-top (Some (heard.ReconnectOk seen)) mid new e = counted-top mid new e
+answer-top (Some (heard.ServerIdent cookie global)) mid new e = ap (λ (z : RecordNow). z.core.top) e
+answer-top (Some (heard.Retry number)) mid new e = ap (λ (z : RecordNow). z.core.top) e
+answer-top (Some (heard.RetryGlobal number)) mid new e = ap (λ (z : RecordNow). z.core.top) e
+answer-top (Some (heard.Reset full)) mid new e = ap (λ (z : RecordNow). z.core.top) e
+answer-top (Some (heard.Refused f)) mid new e = ap (λ (z : RecordNow). z.core.top) e
+answer-top (Some heard.Wait) mid new e = ap (λ (z : RecordNow). z.core.top) e
+answer-top None mid new e = ap (λ (z : RecordNow). z.core.top) e
+
+ended-top : (o : Option WireFault) (h : Option Heard) (now : ℕ) (mid new : RecordNow) → EndsRead o h now mid new → new.core.top ≡ mid.core.top
+ended-top (Some f) h now mid new e = ap (λ (z : RecordNow). z.core.top) e
+ended-top None h now mid new e = answer-top h mid new e
+
 pub read-top : (x : RecordRead) (now : ℕ) (old new : RecordNow) → Reads x now old new → new.core.top ≡ old.core.top
-read-top x now old new w = closed-top (fault_read x) now w.mid new w.closes ∙ ap (λ (z : CoreNow). z.top) w.once.core.only
+read-top x now old new w = ended-top (fault_read x) x.heard now w.mid new w.ends ∙ ap (λ (z : CoreNow). z.top) w.once.core.only
 
 pub raised-least : (o : Option Heard) (p : SeenNumberPass) → p.least ≤ (raised_by o p).least
 raised-least (Some (heard.RetryGlobal number)) p = omega arith

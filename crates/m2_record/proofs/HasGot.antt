@@ -61,7 +61,7 @@ use Rattle.m2_session.specs.declared.session.Session.{Session}
 use Rattle.m2_record.specs.Calls.{BytesAreBroken, FitsClosing, HasRoomFor, HasRoomToClose, IsBrokenFor, KeepsEnds, Owns, closed_entries}
 use Rattle.m2_record.specs.Entered.{AreSettled, HaveRead}
 use Rattle.m2_record.specs.IsRecord.{FeedHasRoom, FeedIsOpen, FeedIsWhole, FitFrames, IsOpenAmong, IsRecord, IsReplayedTo, IsWellKept, closed_in, feeds_in}
-use Rattle.m2_record.specs.Reading.{IsReadCounted, ReadsFeedOnce, entries_read, fault_by, fault_heard, held_read, read_entries, waits_read, moment_read}
+use Rattle.m2_record.specs.Reading.{FitsAnswer, IsReadCounted, ReadsFeedOnce, entries_read, fault_by, fault_heard, held_read, read_entries, waits_read, moment_read}
 use Rattle.m2_record.specs.RecordNow.{RecordNow, Rooms, feed_end, ids_of}
 use Rattle.m2_record.specs.Sources.{broken_of, end_at, is_broken_end, log_at, put_of, read_before, runs_before, sources_of, trail_at, written_before}
 use Rattle.m2_record.specs.TakenTrails.{HaveTrails}
@@ -623,6 +623,21 @@ read-fits x b c noted old new w room more keeps parcels = fits-at (fault_by x.an
       (w.closes ∙ ap (λ z. closed_if z w.feed) (left-at x.answer x.heard w.feed b.facts b.live f w.hears e)) room.entries more keeps;
   parcels = subst (λ n. 2 ≤ n) (sym parcels) room.parcels;
 })
+
+-- an answer that resumes the session closes nothing, so an entry more fits
+pub read-counts : (x : ReadNow) (b c : CoreNow) (noted : ℕ) (old new : Rooms) → HasRead x b c → HasRoomFor 2 old → old.entries ≤ noted + 1 → KeepsEnds x.closed noted new.entries →
+    FitsAnswer x.heard new.entries
+read-counts x b c noted old new w room more keeps = at x.heard w.closes
+  where
+    at : (o : Option Heard) → x.closed ≡ closed_if (closes_heard o b.live.session) w.feed → FitsAnswer o new.entries
+    at (Some (heard.ReconnectOk seen)) e = one-less x.closed old.entries noted new.entries e room.entries more keeps
+    at (Some (heard.ServerIdent cookie global)) e = tt
+    at (Some (heard.Retry number)) e = tt
+    at (Some (heard.RetryGlobal number)) e = tt
+    at (Some (heard.Reset full)) e = tt
+    at (Some (heard.Refused f)) e = tt
+    at (Some heard.Wait) e = tt
+    at None e = tt
 
 -- ---- what is held
 

@@ -456,7 +456,7 @@ not-below n = at (nat_lt n 0) refl
     at false e = e
 
 nothing-resumed : (h : Hearer) → resumption_of h 0 ≡ None
-nothing-resumed h = rw (not-below h.written, not-below h.acknowledged) refl
+nothing-resumed h = rw (not-below h.written) refl
 
 untold : (f : SideFacts) (s : State) (o : Option FeedNow) (d : Option Feed) (n : ℕ) → FeedsAgree f s o d → o ≡ None → (n ≡ 0) ⊎ IsTold n d → n ≡ 0
 untold f s o d n a e (inl z) = z

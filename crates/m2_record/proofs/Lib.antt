@@ -24,6 +24,7 @@ pub mod Texts
 pub mod Hearing
 pub mod Fronts
 pub mod Heeding
+pub mod Resumed
 pub mod Judgements
 pub mod Answered
 pub mod Spending

@@ -1,5 +1,5 @@
 -- A record answers an ask of its peer by taking the socket.
-use Rattle.std.proofs.Common.{◌≡◌, ℕ, ◌<◌, ◌≤◌, ◌||◌, if◌then◌else◌, Bool, true, false, List, [], ◌∷◌, ◌++◌, drop, length, map, Option, Some, None, refl, sym, ap, subst, ◌∙◌, arith}
+use Rattle.std.proofs.Common.{◌≡◌, ℕ, ◌-◌, ◌<◌, ◌≤◌, ◌||◌, if◌then◌else◌, Bool, true, false, List, [], ◌∷◌, ◌++◌, drop, length, map, Option, Some, None, refl, sym, ap, subst, ◌∙◌, arith}
 use Rattle.std.specs.Prelude.{IfSome, IsSome}
 use Rattle.std.specs.List.{AllByRecursion, filter_map}
 use Rattle.std.specs.Option.{option_to_list}
@@ -479,6 +479,11 @@ pub record HasTakenOver (v : Verdict) (x : TakenHalf) (now : ℕ) (r : RecordNow
 one-fits : (closed : Option SeenEnd) (old new : ℕ) → 2 ≤ old → KeepsEnds closed old new → 0 < new
 one-fits (Some e) old new two k = omega (arith, two, k)
 one-fits None old new two k = omega (arith, two, k)
+
+-- of three entries one is left behind the ask's and the old feed's
+pub entry-left : (closed : Option SeenEnd) (old pushed new : ℕ) → 3 ≤ old → pushed ≡ old - 1 → KeepsEnds closed pushed new → 0 < new
+entry-left (Some e) old pushed new three less k = omega (arith, three, less, k)
+entry-left None old pushed new three less k = omega (arith, three, less, k)
 
 pub taken-after : (v : Verdict) (x : TakenHalf) (now : ℕ) (r : RecordNow) (c : CoreNow) (journal : List Entry) (trails : List TrailNow) (spent : List SeenEnd) (parcels : List Parcel) (waits : Waits) (room : Rooms) (closed : Option SeenEnd) (discarded reset : Bool) →
     IsRecord r → takes v.answer ≡ true → IsVerdict v r.core → MayBeJudged v r.core → IsWholeHalf x → CanBeTaken v x r → 2 ≤ r.room.ends → KeepsEnds closed r.room.ends room.ends → HasTakenOver v x now r c journal trails spent parcels waits closed discarded reset →

@@ -11,6 +11,7 @@ use Rattle.m2_core.specs.Waits.{begun, not_above, stepped}
 use Rattle.m2_core.specs.Asking.{HasAsked, LeavesAsk, LeavesPass}
 use Rattle.m2_core.specs.Calls.{IsOpening, after_dial, after_down, after_opened, is_exhausted}
 use Rattle.m2_core.specs.Composing.{HasAcknowledged, HasAnswered}
+use Rattle.m2_core.specs.Counting.{CountsIf, to_count}
 use Rattle.m2_core.specs.Moves.{HasWritten}
 use Rattle.m2_core.specs.Numbering.{HasNumbered}
 use Rattle.m2_core.specs.Shaken.{HasShaken}
@@ -441,6 +442,17 @@ DrawsAs (composed.Asked by_ident number) place before after = LeavesPass (ask.As
 DrawsAs composed.Spent place before after = LeavesPass ask.Spent place before after
 DrawsAs (composed.Again seen now) place before after = LeavesPass (ask.Again seen now) place before after
 DrawsAs _ place before after = after ≡ before
+
+-- ---- what a resumption acknowledges
+
+-- the entry of what is counted, where something is
+abbrev pub acked_entries : Option ℕ → List Entry
+acked_entries (Some number) = entry.Acked number ∷ []
+acked_entries None = []
+
+-- it is counted, where it is above what is counted already and was written
+abbrev pub CountsResumption : RecordNow → RecordNow → Type 0
+CountsResumption old new = CountsIf (to_count old.core.live) old.core new.core × GetsEntries (acked_entries (to_count old.core.live)) old new
 
 -- ---- news of the other side
 

@@ -56,7 +56,7 @@ may_connect now r = may_dial r.core && nat_le r.waits.next_dial now
 abbrev pub may_write : RecordNow → Bool
 may_write r = on_feed (λ v. not (is_empty v.composed) && not r.held) r.core.live.feed
 
--- the half or the decoder has an answer to what was read, or a resumption says what isn't counted yet
+-- the half or the decoder has an answer to what was read, or a resumption acknowledges more than was written
 abbrev pub has_frame : RecordNow → Bool
 has_frame r = on_feed (λ v. not (rests v.reading)) r.core.live.feed || is_some (resumption_at r.core)
 

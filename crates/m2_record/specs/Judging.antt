@@ -24,7 +24,7 @@ use Rattle.m2_shared.specs.Throttle.{SeenGrant}
 use Rattle.m2_trail.specs.Asks.{AgreesWith}
 use Rattle.m2_trail.specs.Incoming.{IncomingNow, after_judging}
 use Rattle.m2_trail.specs.Trails.{IsTakenTrail, IsWholeTrail, TrailNow, unread_of}
-use Rattle.m2_record.specs.Calls.{IsSameButRoom, left_by}
+use Rattle.m2_record.specs.Calls.{CountsResumption, IsSameButRoom, left_by}
 use Rattle.m2_record.specs.RecordNow.{RecordNow, ends_of, ids_of}
 use Rattle.m2_record.specs.declared.judging.Judged.{Judged}
 use Rattle.m2_record.specs.declared.judging.Judged.TheVariants as judged
@@ -105,6 +105,13 @@ TakesOver v h now old new =
     IfSome new.core.live.feed (λ d. IsTakenFeed v h.end h.unread old.core d × (new ≡ record (after_taking_over v h d now old) { room = new.room }))
     × IsSome new.core.live.feed
 
+-- And then what the ask acknowledges is counted: so its entry stands behind that of the ask, and behind that of the old feed where
+-- there was one. An ident acknowledges nothing.
+pub record TakesAndCounts (v : Verdict) (h : TakenHalf) (now : ℕ) (old new : RecordNow) : Type 0 where
+  pub taken : RecordNow
+  pub over : TakesOver v h now old taken
+  pub counts : CountsResumption taken new
+
 -- its end is open, and all that was done there is in its trail
 pub record IsWholeHalf (h : TakenHalf) : Type 0 where
   pub unclosed : h.end.log.closed ≡ false
@@ -122,10 +129,10 @@ pub record CanBeTaken (v : Verdict) (h : TakenHalf) (r : RecordNow) : Type 0 whe
 
 -- ---- by the answer
 
--- Taken: the half's socket is the feed. Back: the arrival comes back, with its ask judged. NoMemory: it comes back, and all but
--- room is as before.
+-- Taken: the half's socket is the feed, and what the ask acknowledges is counted. Back: the arrival comes back, with its ask
+-- judged, and nothing is counted. NoMemory: it comes back, and all but room is as before.
 abbrev pub JudgesAs : {E : Type 0} → Judged E → Verdict → IncomingNow → (now : ℕ) → RecordNow → RecordNow → Type 0
-JudgesAs (judged.Taken answer) v a now old new = (answer ≡ v.answer) × (takes answer ≡ true) × TakesOver v (half_of answer a) now old new
+JudgesAs (judged.Taken answer) v a now old new = (answer ≡ v.answer) × (takes answer ≡ true) × TakesAndCounts v (half_of answer a) now old new
 JudgesAs (judged.Back answer arrival) v a now old new =
     (answer ≡ v.answer) × (takes answer ≡ false) × (arrival ≡ after_judging answer arrival.room a) × Answers v a.end.id now old new
 JudgesAs (judged.NoMemory arrival) v a now old new = (arrival ≡ record a { room = arrival.room }) × IsSameButRoom old new

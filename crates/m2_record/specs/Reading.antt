@@ -21,7 +21,7 @@ use Rattle.m2_session.specs.declared.session.Phase.{Phase}
 use Rattle.m2_record.specs.declared.reading.RecordRead.{RecordRead}
 use Rattle.m2_record.specs.declared.stepped.Stepped.{Stepped}
 use Rattle.m2_record.specs.declared.stepped.Stepped.TheVariants as stepped
-use Rattle.m2_record.specs.Calls.{ClosesFor, closed_entries}
+use Rattle.m2_record.specs.Calls.{Breaks, CountsResumption, closed_entries}
 use Rattle.m2_record.specs.RecordNow.{RecordNow}
 
 -- ---- one read
@@ -108,8 +108,23 @@ answer_read x = faulted_or (fault_read x) (answer_by x.answer x.heard)
 
 -- ---- the step
 
--- The feed's end is read once, and the feed is closed where that finds a fault.
+-- where the answer that was taken resumes the session, what it acknowledges is counted
+abbrev pub CountsAnswer : Option Heard → RecordNow → RecordNow → Type 0
+CountsAnswer (Some (heard.ReconnectOk seen)) old new = CountsResumption old new
+CountsAnswer _ old new = new ≡ old
+
+-- then there is room for its entry
+abbrev pub FitsAnswer : Option Heard → (entries : ℕ) → Type 0
+FitsAnswer (Some (heard.ReconnectOk seen)) entries = 0 < entries
+FitsAnswer _ entries = Unit {0}
+
+-- for a fault the feed is closed, and else an answer is counted
+abbrev pub EndsRead : Option WireFault → Option Heard → (now : ℕ) → RecordNow → RecordNow → Type 0
+EndsRead (Some f) h now mid new = Breaks now mid new
+EndsRead None h now mid new = CountsAnswer h mid new
+
+-- The feed's end is read once, and then the feed is closed where that finds a fault, or what an answer acknowledges is counted.
 pub record Reads (x : RecordRead) (now : ℕ) (old new : RecordNow) : Type 0 where
   pub mid : RecordNow
   pub once : ReadsFeedOnce x now old mid
-  pub closes : ClosesFor (fault_read x) now mid new
+  pub ends : EndsRead (fault_read x) x.heard now mid new

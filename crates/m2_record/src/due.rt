@@ -23,8 +23,8 @@ pub enum Due {
     Connect { at: u64 },
     /// Bytes are composed.
     Write,
-    /// What was read has an answer: of the opener's half, or a frame; or a resumption acknowledges what
-    /// isn't counted yet.
+    /// What was read has an answer: of the opener's half, or a frame; or a resumption acknowledges more than
+    /// was written.
     Frame,
     /// The feed is to be read.
     Read,

@@ -9,7 +9,7 @@ ghost use Rattle.m2_shared.specs.Place.{IsAlone};
 ghost use Rattle.m2_trail.specs.Asks.{facts_of_ask};
 ghost use Rattle.m2_trail.specs.Trails.{trail_now};
 ghost use Rattle.m2_record.specs.Calls.{HasNoLess, HasRoomFor, IsSameButRoom, Owns};
-ghost use Rattle.m2_record.specs.Judging.{Answers, CanAskOn, CanBeJudged, CanBeTaken, IsWholeHalf, JudgesAs, TakesOver, given_back, half_of};
+ghost use Rattle.m2_record.specs.Judging.{Answers, CanAskOn, CanBeJudged, CanBeTaken, IsWholeHalf, JudgesAs, TakesAndCounts, TakesOver, given_back, half_of};
 
 use crate::leaving::{put_closed, put_told};
 use crate::record::Record;
@@ -35,8 +35,8 @@ pub enum Judged<E: End> {
 impl<E: End> Record<E> {
     /// Judges the ask of an arrival, with the global number that was drawn for the answer. Whoever calls has
     /// found this record by the main address of the ask. Where the answer takes the socket, its end is the
-    /// feed, the old one is closed, and what a throttle granted for it is given back. Want of memory leaves all
-    /// but the room as it was.
+    /// feed, the old one is closed, what a throttle granted for it is given back, and what a reconnect has seen
+    /// is counted before a byte of the answer is put. Want of memory leaves all but the room as it was.
     pub fn judge(
         &mut self,
         a: Arrival<E>,
@@ -62,6 +62,7 @@ impl<E: End> Record<E> {
     }
 
     /// The same, where there is room for all but what a socket that is taken needs.
+    #[tactic(auto, using(crate::proofs::Resumed::two_of_three))]
     fn judge_in_room(
         &mut self,
         a: Arrival<E>,
@@ -72,7 +73,7 @@ impl<E: End> Record<E> {
     ) -> Judged<E>
         requires can { CanBeJudged a number self.old }
         requires spare { 0 < a.room }
-        requires room { HasRoomFor 2 self.old.room }
+        requires room { HasRoomFor 3 self.old.room }
         requires pass { pass.old.place ≡ throttle.now.place }
         requires owned { Owns throttle.now.place self.old }
         ensures judges { IfSome a.ask (λ ask. JudgesAs result (verdict_on (facts_of_ask ask) number self.old.core.live) a now self.old self.new) }
@@ -127,9 +128,9 @@ impl<E: End> Record<E> {
     fn room_to_judge(&mut self, a: &mut Arrival<E>) -> Result<(), NoMemory>
         ensures only { IsSameButRoom self.old self.new }
         ensures arrival { a.new ≡ record a.old { room = a.new.room } }
-        ensures ok { OnOk result (HasRoomFor 2 self.new.room × (0 < a.new.room)) }
+        ensures ok { OnOk result (HasRoomFor 3 self.new.room × (0 < a.new.room)) }
     {
-        self.reserve(2)?;
+        self.reserve(3)?;
         a.reserve_judged()
     }
 
@@ -176,7 +177,7 @@ impl<E: End> Record<E> {
         put_closed(aftermath.closed, &mut self.journal, &mut self.spent);
     }
 
-    /// An arrival has an answer that takes its socket: the acceptance is composed, and then nothing fails. Two
+    /// An arrival has an answer that takes its socket: the acceptance is composed, and then nothing fails. Three
     /// entries and parcels are reserved, and in the arrival a judged ask.
     fn take(
         &mut self,
@@ -192,7 +193,7 @@ impl<E: End> Record<E> {
         requires unjudged { a.is_judged ≡ false }
         requires spare { 0 < a.room }
         requires half { CanBeTaken v.now (half_of v.now.answer a) self.old }
-        requires room { HasRoomFor 2 self.old.room }
+        requires room { HasRoomFor 3 self.old.room }
         requires pass { pass.old.place ≡ throttle.now.place }
         requires owned { Owns throttle.now.place self.old }
         ensures judges { JudgesAs result v.now a now self.old self.new }
@@ -207,7 +208,7 @@ impl<E: End> Record<E> {
         match self.core.acceptance(v) {
             Ok(acceptance) => {
                 let half = a.take(v.answer);
-                self.take_over(v, half, acceptance, throttle, pass, now);
+                self.take_and_count(v, half, acceptance, throttle, pass, now);
                 Judged::Taken(v.answer)
             }
             Err(_) => Judged::NoMemory(a),
@@ -225,8 +226,41 @@ impl<E: End> Record<E> {
         Ok(())
     }
 
+    /// The socket of a half is the feed, and what the ask acknowledges is counted: behind the entry Judged and
+    /// that of the old feed comes Acked, where there is something to count. Three entries and parcels are
+    /// reserved, two ends and a trail.
+    fn take_and_count(
+        &mut self,
+        v: &Verdict,
+        half: Takeover<E>,
+        acceptance: Blob,
+        throttle: &Throttle,
+        pass: &mut TakePass,
+        now: u64,
+    )
+        requires verdict { IsVerdict v.now self.old.core }
+        requires may { MayBeJudged v.now self.old.core }
+        requires takes { takes v.now.answer ≡ true }
+        requires whole { IsWholeHalf (record { end = E.seen half.end; unread = half.decoder.rest; trail = trail_now half.trail }) }
+        requires half { CanBeTaken v.now (record { end = E.seen half.end; unread = half.decoder.rest; trail = trail_now half.trail }) self.old }
+        requires ungranted { half.decoder.granted ≡ false }
+        requires text { acceptance.bytes ≡ acceptance_text self.old.core.facts v.now self.old.core.live.last }
+        requires room { HasRoomFor 3 self.old.room }
+        requires ends { 2 ≤ self.old.room.ends }
+        requires trails { 0 < self.old.room.trails }
+        requires pass { pass.old.place ≡ throttle.now.place }
+        requires owned { Owns throttle.now.place self.old }
+        ensures takes { TakesAndCounts v.now (record { end = E.seen half.end; unread = half.decoder.rest; trail = trail_now half.trail }) now self.old self.new }
+        ensures owned { Owns throttle.now.place self.new }
+        ensures place { pass.new.place ≡ pass.old.place }
+        ensures word { IsAlone throttle.now.place → pass.new.word ≡ pass.old.word - held self.old.core.live.granted }
+    {
+        self.take_over(v, half, acceptance, throttle, pass, now);
+        self.count_resumption();
+    }
+
     /// The socket of a half is the feed: the entry Judged, and behind it that of the old feed, which is closed.
-    /// Two entries and parcels are reserved, two ends and a trail.
+    /// Three entries and parcels are reserved, of which one entry stays, two ends and a trail.
     fn take_over(
         &mut self,
         v: &Verdict,
@@ -243,12 +277,13 @@ impl<E: End> Record<E> {
         requires half { CanBeTaken v.now (record { end = E.seen half.end; unread = half.decoder.rest; trail = trail_now half.trail }) self.old }
         requires ungranted { half.decoder.granted ≡ false }
         requires text { acceptance.bytes ≡ acceptance_text self.old.core.facts v.now self.old.core.live.last }
-        requires room { HasRoomFor 2 self.old.room }
+        requires room { HasRoomFor 3 self.old.room }
         requires ends { 2 ≤ self.old.room.ends }
         requires trails { 0 < self.old.room.trails }
         requires pass { pass.old.place ≡ throttle.now.place }
         requires owned { Owns throttle.now.place self.old }
         ensures takes { TakesOver v.now (record { end = E.seen half.end; unread = half.decoder.rest; trail = trail_now half.trail }) now self.old self.new }
+        ensures entries { 0 < self.new.room.entries }
         ensures owned { Owns throttle.now.place self.new }
         ensures place { pass.new.place ≡ pass.old.place }
         ensures word { IsAlone throttle.now.place → pass.new.word ≡ pass.old.word - held self.old.core.live.granted }

@@ -13,6 +13,7 @@
 mod asks_judged;
 mod composing;
 mod connecting;
+mod counting;
 mod due;
 mod ending;
 mod framing;

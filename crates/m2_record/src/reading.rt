@@ -5,7 +5,7 @@ ghost use Rattle.std.specs.Option.{is_some};
 ghost use Rattle.m2_shared.specs.Place.{IsAlone, Place};
 ghost use Rattle.m2_core.specs.LiveHearing.{raised_by};
 ghost use Rattle.m2_record.specs.Calls.{FitsClosing, HasRoomFor, IsBrokenFor, Owns, returned_for};
-ghost use Rattle.m2_record.specs.Reading.{IsReadCounted, Reads, ReadsFeedOnce, answer_heard, answer_read, entries_read, fault_heard, fault_read, held_read, moment_read, waits_read};
+ghost use Rattle.m2_record.specs.Reading.{CountsAnswer, FitsAnswer, IsReadCounted, Reads, ReadsFeedOnce, answer_heard, answer_read, entries_read, fault_heard, fault_read, held_read, moment_read, waits_read};
 
 use crate::leaving::put_closed;
 use crate::record::Record;
@@ -28,10 +28,11 @@ pub struct RecordRead {
 
 impl<E: End> Record<E> {
     /// Reads the feed's end once. Two entries and parcels are reserved. Where bytes come they have their
-    /// entry, and an answer to the ask that they complete is taken with them: a WAIT closes the feed, and a
-    /// number in a SESSION_RETRY_GLOBAL raises the counter. The feed is closed besides where the end has
-    /// ended or failed, and where features are missing. An answer of NoMemory leaves all but the room as it
-    /// was, and one of NotYet all but that too and whether the feed is held.
+    /// entry, and an answer to the ask that they complete is taken with them: a WAIT closes the feed, a number
+    /// in a SESSION_RETRY_GLOBAL raises the counter, and what a SESSION_RECONNECT_OK acknowledges is counted,
+    /// by the entry Acked behind Read where there is something to count. The feed is closed besides where the
+    /// end has ended or failed, and where features are missing. An answer of NoMemory leaves all but the room
+    /// as it was, and one of NotYet all but that too and whether the feed is held.
     pub fn read(
         &mut self,
         numbers: &Numbers,
@@ -57,11 +58,14 @@ impl<E: End> Record<E> {
                 self.break_feed(throttle, take_pass, now);
                 read
             }
-            None => read,
+            None => {
+                self.count_answer(read.heard);
+                read
+            }
         }
     }
 
-    /// The same, where nothing is closed for a fault yet.
+    /// The same, where nothing is closed for a fault yet and nothing is counted.
     fn read_once(&mut self, numbers: &Numbers, pass: &mut NumberPass, now: u64) -> RecordRead
         requires fed { is_some self.old.core.live.feed ≡ true }
         requires room { HasRoomFor 2 self.old.room }
@@ -69,6 +73,7 @@ impl<E: End> Record<E> {
         ensures reads { ReadsFeedOnce result now self.old self.new }
         ensures broken { IsBrokenFor (fault_read result) self.new }
         ensures room { FitsClosing (fault_read result) self.new.room }
+        ensures fits { FitsAnswer result.heard self.new.room.entries }
         ensures raised { pass.new ≡ raised_by result.heard pass.old }
         ensures owned { (place : Place) → Owns place self.old → Owns place self.new }
     {
@@ -99,6 +104,17 @@ impl<E: End> Record<E> {
         self.held = held_read(answer, closed.is_some(), self.held);
         put_closed(closed, &mut self.journal, &mut self.spent);
         RecordRead { answer, heard }
+    }
+
+    /// Counts what the answer acknowledges that was taken, where it resumes the session. One entry is reserved.
+    fn count_answer(&mut self, heard: Option<Heard>)
+        requires room { FitsAnswer heard self.old.room.entries }
+        ensures counts { CountsAnswer heard self.old self.new }
+        ensures owned { (place : Place) → Owns place self.old → Owns place self.new }
+    {
+        if let Some(Heard::ReconnectOk { seen: _ }) = heard {
+            self.count_resumption();
+        }
     }
 }
 

@@ -2,8 +2,9 @@
 //! come to. A body that always answered for want of memory would be proved too.
 //!
 //! What it is: one record by its single calls (`planned`), and in a thread's turn (`thread`); the halves of a center (`halves`); two over ends in memory, driven
-//! from nothing to Ready and a post (`posts`), with a socket that breaks at each of many places (`cuts`), with bytes that no
-//! record writes (`faults`), and with messages as large as a throttle lets through (`bounds`). It stands apart from the crates,
+//! from nothing to Ready and a post (`posts`), with a socket that breaks at each of many places (`cuts`) and a session that is
+//! resumed (`resuming`), with bytes that no record writes (`faults`), and with messages as large as a throttle lets through
+//! (`bounds`). It stands apart from the crates,
 //! since a crate with tests is proved twice. What it isn't: what a clause says already.
 #![tactic(auto)]
 
@@ -21,5 +22,7 @@ mod halves;
 mod planned;
 #[cfg(test)]
 mod posts;
+#[cfg(test)]
+mod resuming;
 #[cfg(test)]
 mod thread;

@@ -4,7 +4,7 @@ use Rattle.m2_trail.specs.Trails.{trail_now}
 use Rattle.m2_record.specs.Calls.{HasRoomFor, Owns}
 use Rattle.m2_record.specs.Reading.{ReadsFeedOnce}
 use Rattle.m2_record.specs.RecordNow.{RecordNow, Rooms}
-use Rattle.m2_record.proofs.HasGot.{counted, entered, kept-held, owned-read, read-after, read-broken, read-fits, read-made, seen-some, waited}
+use Rattle.m2_record.proofs.HasGot.{counted, entered, kept-held, owned-read, read-after, read-broken, read-counts, read-fits, read-made, seen-some, waited}
 use Rattle.m2_record.proofs.record.Record.read_once.Goals as goal
 
 pub invariant_of-self : goal.invariant_of-self
@@ -90,6 +90,14 @@ returns-clause-room g c =
     let new : Rooms = record { entries = c.put_closed.new.journal.room; parcels = parcels; ends = vec_capacity c.put_closed.new.spent - vec_len c.put_closed.new.spent; trails = c.self.inside.trails.room } in
     read-fits (record { answer = c.read-answer.result.answer; heard = c.read-answer.result.heard; closed = option_map g.E.End.seen c.read-answer.result.aftermath.closed }) _ _ c.note_read.new.journal.room old new c.read-answer.ensures.read
     (subst (λ (v : RecordNow). HasRoomFor 2 v.room) (sym c.self.view_is) c.requires.room) c.note_read.ensures.room c.put_closed.ensures.entries refl
+
+pub returns-clause-fits : goal.returns-clause-fits
+returns-clause-fits g c =
+    let parcels = deque_capacity c.self.inside.parcels - deque_len c.self.inside.parcels in
+    let old : Rooms = record { entries = c.self.inside.journal.room; parcels = parcels; ends = vec_capacity c.self.inside.spent - vec_len c.self.inside.spent; trails = c.self.inside.trails.room } in
+    let new : Rooms = record { entries = c.put_closed.new.journal.room; parcels = parcels; ends = vec_capacity c.put_closed.new.spent - vec_len c.put_closed.new.spent; trails = c.self.inside.trails.room } in
+    read-counts (record { answer = c.read-answer.result.answer; heard = c.read-answer.result.heard; closed = option_map g.E.End.seen c.read-answer.result.aftermath.closed }) _ _ c.note_read.new.journal.room old new c.read-answer.ensures.read
+    (subst (λ (v : RecordNow). HasRoomFor 2 v.room) (sym c.self.view_is) c.requires.room) c.note_read.ensures.room c.put_closed.ensures.entries
 
 pub returns-clause-owned : goal.returns-clause-owned
 returns-clause-owned g c = λ place h. owned-read place (record { answer = c.read-answer.result.answer; heard = c.read-answer.result.heard; closed = option_map g.E.End.seen c.read-answer.result.aftermath.closed }) _ _ c.read-answer.ensures.read refl

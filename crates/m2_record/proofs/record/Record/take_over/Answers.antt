@@ -7,12 +7,12 @@ use Rattle.m2_journal.specs.declared.entry.Entry.{Entry}
 use Rattle.m2_journal.specs.SideFacts.{SideFacts}
 use Rattle.m2_trail.specs.declared.trail.Trail.{Trail}
 use Rattle.m2_trail.specs.Trails.{trail_now}
-use Rattle.m2_record.specs.Calls.{Owns, closed_entries}
+use Rattle.m2_record.specs.Calls.{HasRoomFor, Owns, closed_entries}
 use Rattle.m2_record.specs.Judging.{CanBeTaken, TakenHalf, judged_entry}
 use Rattle.m2_record.specs.RecordNow.{RecordNow}
 use Rattle.m2_record.proofs.Broken.{waits-as}
 use Rattle.m2_record.proofs.Owning.{owned-taken}
-use Rattle.m2_record.proofs.TakenOver.{facts-stay, taken-after, took-over}
+use Rattle.m2_record.proofs.TakenOver.{entry-left, facts-stay, taken-after, took-over}
 use Rattle.m2_record.proofs.record.Record.take_over.Goals as goal
 
 pub invariant_of-self : goal.invariant_of-self
@@ -37,6 +37,10 @@ invariant_of-self g c =
       parcels_are = c.put_told.ensures.items;
       waits_are = waits-as _ _ _ _ _ _ _ _ _ c.stepped-self-inside.ensures (c.node.ensures ∙ ap (λ (f : SideFacts). f.node) facts) c.session.ensures c.session-2.ensures;
     })
+
+pub returns-clause-entries : goal.returns-clause-entries
+returns-clause-entries g c = entry-left (option_map g.E.End.seen c.take_over-aftermath.result.closed) c.self.inside.journal.room c.push_reserved.new.self.room c.put_closed.new.journal.room
+    (subst (λ (v : RecordNow). HasRoomFor 3 v.room) (sym c.self.view_is) c.requires.room).entries (ap (λ (l : Holding Entry). l.room) c.push_reserved.ensures) c.put_closed.ensures.entries
 
 pub returns-clause-owned : goal.returns-clause-owned
 returns-clause-owned g c = owned-taken c.args.throttle.now.place c.args.v.now (g.E.End.seen c.args.half.end) c.args.half.decoder.rest _ _ c.take_over-aftermath.result.discarded c.take_over-aftermath.result.remote_reset
