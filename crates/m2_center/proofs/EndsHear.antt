@@ -8,9 +8,9 @@ use Rattle.m2_fabric.specs.Port.{one_hears}
 use Rattle.m2_fabric.specs.Sockets.{same_socket}
 use Rattle.m2_record.specs.RecordNow.{RecordNow}
 use Rattle.m2_trail.specs.Arrivals.{LooseNow}
-use Rattle.m2_center.specs.Halves.{AllHalves, halves_of, sessions_with}
-use Rattle.m2_center.specs.Hearing.{after_hearing, ends_in, first_told, is_loose_on, is_on, loose_told, pending_told}
-use Rattle.m2_center.specs.Sessions.{AreConsistent, IsCaller, PendingNow, Supply, WasCaller, caller_in}
+use Rattle.m2_turn.specs.Halves.{AllHalves, halves_of, sessions_with}
+use Rattle.m2_turn.specs.Hearing.{after_hearing, ends_in, first_told, is_loose_on, is_on, loose_told, pending_told}
+use Rattle.m2_turn.specs.Sessions.{AreConsistent, IsCaller, PendingNow, Supply, WasCaller, caller_in}
 use Rattle.m2_bytes.proofs.m2_lemmas.Booleans.{false_isnt_true}
 
 -- ---- the first that is told

@@ -6,7 +6,7 @@ use Rattle.m2_record.specs.Calls.{Owns}
 use Rattle.m2_record.specs.RecordNow.{RecordNow}
 use Rattle.m2_center.specs.Center.{CenterNow, IsCenter}
 use Rattle.m2_center.specs.Finishing.{AllOwn, IsGranted, rest_of}
-use Rattle.m2_center.specs.Sessions.{IsSupplied, Supply}
+use Rattle.m2_turn.specs.Sessions.{IsSupplied, Supply}
 use Rattle.m2_bytes.proofs.m2_lemmas.Lists.{all_so}
 
 pub all_own : (s : Supply) (made : List SocketId) (rs : List RecordNow) → AllByRecursion (IsSupplied s made) rs → AllOwn s.place rs

@@ -7,10 +7,10 @@ use Rattle.m2_fabric.specs.Sockets.{IsNewTo, is_among, same_socket}
 use Rattle.m2_record.specs.IsRecord.{IsRecord}
 use Rattle.m2_record.specs.RecordNow.{RecordNow, ends_of, ids_of}
 use Rattle.m2_trail.specs.Arrivals.{LooseNow}
-use Rattle.m2_center.specs.Halves.{AllHalves, sessions_with}
-use Rattle.m2_center.specs.Hearing as halves
-use Rattle.m2_center.specs.Sessions.{AreConsistent, IsCaller, IsSupplied, PendingNow, Supply, WasCaller, caller_in}
-use Rattle.m2_center.proofs.Came.{are_known}
+use Rattle.m2_turn.specs.Halves.{AllHalves, sessions_with}
+use Rattle.m2_turn.specs.Hearing as halves
+use Rattle.m2_turn.specs.Sessions.{AreConsistent, IsCaller, IsSupplied, PendingNow, Supply, WasCaller, caller_in}
+use Rattle.m2_turn.proofs.Came.{are_known}
 use Rattle.m2_center.proofs.RecordsHear.{among_both}
 use Rattle.m2_bytes.proofs.m2_lemmas.Booleans.{false_isnt_true}
 use Rattle.m2_fabric.proofs.Sockets.{same_equal}

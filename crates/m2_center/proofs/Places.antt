@@ -16,14 +16,14 @@ use Rattle.m2_journal.specs.declared.facts.PlanStep.{PlanStep}
 use Rattle.m2_record.specs.Due.{on_feed}
 use Rattle.m2_record.specs.Calls.{Owns}
 use Rattle.m2_record.specs.RecordNow.{RecordNow, composed_on, feed_end}
-use Rattle.m2_session.specs.declared.session.Session.{Session}
+use Rattle.m2_turn.specs.m2_session.declared.session.Session.{Session}
 use Rattle.m2_trail.specs.Trails.{TrailNow}
 use Rattle.m2_center.specs.Plans.{is_towards, parts_of, place_towards, side_towards}
-use Rattle.m2_center.specs.Answering.{StaysBeside}
-use Rattle.m2_center.specs.Beside.{AllKeepCallers, KeepsCallers}
-use Rattle.m2_center.specs.Halves.{AllHalves, sessions_with}
-use Rattle.m2_center.specs.Sessions.{AreConsistent, IsSupplied, Supply}
-use Rattle.m2_center.proofs.Told.{all_the_same, beside, none_made, nothing_told_on, stay}
+use Rattle.m2_turn.specs.Answering.{StaysBeside}
+use Rattle.m2_turn.specs.Beside.{AllKeepCallers, KeepsCallers}
+use Rattle.m2_turn.specs.Halves.{AllHalves, sessions_with}
+use Rattle.m2_turn.specs.Sessions.{AreConsistent, IsSupplied, Supply}
+use Rattle.m2_turn.proofs.Told.{all_the_same, beside, none_made, nothing_told_on, stay}
 use Rattle.m2_bytes.proofs.m2_lemmas.Booleans.{false_isnt_true}
 
 -- ---- the first that passes

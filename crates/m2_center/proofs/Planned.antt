@@ -12,11 +12,11 @@ use Rattle.m2_record.specs.Calls.{IsSameButRoom, TakesNext, planned_too, returne
 use Rattle.m2_record.specs.Due.{next_step}
 use Rattle.m2_record.specs.IsRecord.{IsRecord}
 use Rattle.m2_record.specs.RecordNow.{RecordNow}
-use Rattle.m2_center.specs.Answering.{StaysBeside}
-use Rattle.m2_center.specs.Planning.{PlansNow}
-use Rattle.m2_center.specs.Steps.{GoesOn}
-use Rattle.m2_center.proofs.GoesOn.{chain, plans, room_alone, same}
-use Rattle.m2_center.proofs.Known.{goes_on_stays}
+use Rattle.m2_turn.specs.Answering.{StaysBeside}
+use Rattle.m2_turn.specs.Planning.{PlansNow}
+use Rattle.m2_turn.specs.Steps.{GoesOn}
+use Rattle.m2_turn.proofs.GoesOn.{chain, plans, room_alone, same}
+use Rattle.m2_turn.proofs.Known.{goes_on_stays}
 use Rattle.m2_bytes.proofs.m2_lemmas.Booleans.{false_isnt_true}
 
 -- ---- the new step is the next one

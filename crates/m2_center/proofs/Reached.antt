@@ -14,11 +14,11 @@ use Rattle.m2_record.specs.Sources.{end_at}
 use Rattle.m2_record.specs.IsRecord.{IsRecord}
 use Rattle.m2_record.specs.RecordNow.{RecordNow, ends_of, ids_of}
 use Rattle.m2_trail.specs.Arrivals.{LooseNow}
-use Rattle.m2_center.specs.Halves.{AllHalves, halves_of}
-use Rattle.m2_center.specs.Hearing as halves
-use Rattle.m2_center.specs.Sessions.{PendingNow, peer_of}
+use Rattle.m2_turn.specs.Halves.{AllHalves, halves_of}
+use Rattle.m2_turn.specs.Hearing as halves
+use Rattle.m2_turn.specs.Sessions.{PendingNow, peer_of}
 use Rattle.m2_center.proofs.EndsHear.{hearing_stays}
-use Rattle.m2_center.proofs.Lending.{first_part, second_part}
+use Rattle.m2_turn.proofs.Lending.{first_part, second_part}
 use Rattle.m2_center.specs.Center.{CenterNow, IsCenter, supply_in}
 use Rattle.m2_center.specs.Reaching.{after_hearing, all_ends_in, ends_in, has_half, rest_in}
 use Rattle.m2_center.specs.RecordEnds.{has_end, records_hear}

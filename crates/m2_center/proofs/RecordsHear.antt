@@ -11,7 +11,7 @@ use Rattle.m2_fabric.specs.declared.socket.SocketId.{SocketId}
 use Rattle.m2_fabric.specs.End.{SeenEnd, after_news}
 use Rattle.m2_fabric.specs.Port.{one_hears, with_news}
 use Rattle.m2_fabric.specs.Sockets.{is_among, same_socket}
-use Rattle.m2_feed.specs.FeedNow.{FeedNow}
+use Rattle.m2_turn.specs.m2_feed.FeedNow.{FeedNow}
 use Rattle.m2_journal.specs.declared.entry.Entry.{Entry}
 use Rattle.m2_journal.specs.Lawful.{judged_on}
 use Rattle.m2_journal.specs.SideFacts.{SideFacts}
@@ -19,16 +19,16 @@ use Rattle.m2_record.specs.Calls as record_
 use Rattle.m2_record.specs.Due.{on_feed}
 use Rattle.m2_record.specs.RecordNow.{RecordNow, ends_of, feed_end, ids_of}
 use Rattle.m2_record.specs.TakenTrails.{judgements_in}
-use Rattle.m2_center.specs.Beside.{AllKeepCallers, KeepsCallers}
+use Rattle.m2_turn.specs.Beside.{AllKeepCallers, KeepsCallers}
 use Rattle.m2_center.specs.Center.{CenterNow}
-use Rattle.m2_center.specs.Halves.{AllHalves, sessions_with}
-use Rattle.m2_center.specs.Hearing as halves
+use Rattle.m2_turn.specs.Halves.{AllHalves, sessions_with}
+use Rattle.m2_turn.specs.Hearing as halves
 use Rattle.m2_center.specs.Reaching.{after_hearing, all_ends_in, ends_in, ends_or_none, has_half, rest_in, untold, untold_feed, untold_half, untold_loose, untold_record}
 use Rattle.m2_center.specs.RecordEnds.{has_end, records_hear}
 use Rattle.m2_trail.specs.Arrivals.{LooseNow}
-use Rattle.m2_center.specs.Sessions.{PendingNow, AreConsistent, IsSupplied, Supply, is_asker, peer_of}
+use Rattle.m2_turn.specs.Sessions.{PendingNow, AreConsistent, IsSupplied, Supply, is_asker, peer_of}
 use Rattle.m2_center.proofs.EndsHear.{heard_ends}
-use Rattle.m2_center.proofs.Told.{all_the_same, none_made, nothing_told_on, stay}
+use Rattle.m2_turn.proofs.Told.{all_the_same, none_made, nothing_told_on, stay}
 use Rattle.m2_bytes.proofs.m2_lemmas.Booleans.{false_isnt_true}
 
 or_assoc : (a b c : Bool) → (a || b) || c ≡ a || (b || c)

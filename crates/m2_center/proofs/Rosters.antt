@@ -4,10 +4,10 @@ use Rattle.std.specs.Prelude.{slice_index_or}
 use Rattle.std.specs.List.{AllByRecursion, IsDistinct, list_any}
 use Rattle.std.proofs.lemmas.Map.Keys.{IsDistinct-head, IsDistinct-tail}
 use Rattle.m2_addr.specs.declared.addr.Addr.{Addr}
-use Rattle.m2_handshake.specs.Asks.{same_addr}
-use Rattle.m2_handshake.proofs.Idents.{same_is, same_means}
+use Rattle.m2_turn.specs.m2_handshake.Asks.{same_addr}
+use Rattle.m2_turn.proofs.m2_handshake.Idents.{same_is, same_means}
 use Rattle.m2_record.specs.RecordNow.{RecordNow}
-use Rattle.m2_center.specs.Sessions.{peer_of}
+use Rattle.m2_turn.specs.Sessions.{peer_of}
 use Rattle.m2_bytes.proofs.m2_lemmas.Booleans.{false_isnt_true}
 
 -- what isn't the same one way isn't the other way

@@ -11,23 +11,22 @@ use Rattle.m2_record.specs.RecordNow.{RecordNow}
 use Rattle.m2_shared.specs.Numbers.{SeenNumberPass}
 use Rattle.m2_shared.specs.Place.{IsAlone, Place}
 use Rattle.m2_shared.specs.Throttle.{SeenTakePass}
-use Rattle.m2_center.specs.declared.accepting.Accepted.{Accepted}
-use Rattle.m2_center.specs.declared.halves_turn.HalvesTurn.{HalvesTurn}
-use Rattle.m2_center.specs.declared.mailing.Mailed.{Mailed}
-use Rattle.m2_center.specs.declared.records_turn.RecordsTurn.{RecordsTurn}
-use Rattle.m2_center.specs.Accepting.{AcceptsAll}
-use Rattle.m2_center.specs.Beside.{AllKeepCallers}
+use Rattle.m2_turn.specs.declared.accepting.Accepted.{Accepted}
+use Rattle.m2_turn.specs.declared.halves_turn.HalvesTurn.{HalvesTurn}
+use Rattle.m2_turn.specs.declared.mailing.Mailed.{Mailed}
+use Rattle.m2_turn.specs.declared.records_turn.RecordsTurn.{RecordsTurn}
+use Rattle.m2_turn.specs.Accepting.{AcceptsAll}
 use Rattle.m2_center.specs.Center.{CenterNow}
 use Rattle.m2_center.specs.CenterTurn.{Accepts, Answer, EmptiesMail, TurnsHalves, TurnsRecords, accepting_in, around_in, mailing_in}
 use Rattle.m2_center.specs.Plans.{PlansIn, place_towards}
-use Rattle.m2_center.specs.Halves.{AllHalves, sessions_with}
-use Rattle.m2_center.specs.HalvesTurn as halves
-use Rattle.m2_center.specs.Mailing.{Mails, mailing}
-use Rattle.m2_center.specs.Outbox.{OutboxNow}
-use Rattle.m2_center.specs.Planning.{PlansNow}
-use Rattle.m2_center.specs.RecordTurn.{Means}
-use Rattle.m2_center.specs.RecordsTurn.{TurnsEach, all_amid}
-use Rattle.m2_center.specs.Sessions.{AreConsistent, Sessions, Supply, peer_of}
+use Rattle.m2_turn.specs.Halves.{AllHalves, sessions_with}
+use Rattle.m2_turn.specs.HalvesTurn as halves
+use Rattle.m2_turn.specs.Mailing.{Mails, mailing}
+use Rattle.m2_turn.specs.Outbox.{OutboxNow}
+use Rattle.m2_turn.specs.Planning.{PlansNow}
+use Rattle.m2_turn.specs.RecordTurn.{Means}
+use Rattle.m2_turn.specs.RecordsTurn.{TurnsEach, all_amid}
+use Rattle.m2_turn.specs.Sessions.{AreConsistent, Sessions, Supply, peer_of}
 
 module _ {D : Type 0} (was old : CenterNow D) (same : was ≡ old) where
   pub accepts : (result : Accepted) (port : SeenPort) (halves : AllHalves) →
@@ -91,10 +90,3 @@ pub consistent_at : (p q : Place) (least entity : ℕ) (made : List SocketId) (r
 consistent_at p q least entity made rs ss h same same_records is =
     subst (λ x. AreConsistent (record { place = x; least = least }) entity (sessions_with made ss h)) same
     (subst (λ x. AreConsistent (record { place = p; least = least }) entity (sessions_with made x h)) same_records is)
-
--- the peers of the records
-pub same_peers : (made : List SocketId) (rs ss : List RecordNow) → AllKeepCallers made rs ss → map peer_of ss ≡ map peer_of rs
-same_peers made [] [] kept = refl
-same_peers made [] (s ∷ ss) kept = absurd kept
-same_peers made (r ∷ rs) [] kept = absurd kept
-same_peers made (r ∷ rs) (s ∷ ss) kept = ap (λ f. f.peer ∷ map peer_of ss) kept.0.facts ∙ ap (λ l. peer_of r ∷ l) (same_peers made rs ss kept.1)

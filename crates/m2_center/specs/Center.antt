@@ -6,9 +6,9 @@ use Rattle.m2_fabric.specs.Port.{SeenPort}
 use Rattle.m2_record.specs.RecordNow.{RecordNow}
 use Rattle.m2_shared.specs.Numbers.{SeenNumberPass}
 use Rattle.m2_shared.specs.Throttle.{SeenTakePass}
-use Rattle.m2_center.specs.Halves.{AllHalves, sessions_with}
-use Rattle.m2_center.specs.Outbox.{OutboxNow, OwnsAll}
-use Rattle.m2_center.specs.Sessions.{AreConsistent, Sessions, Supply}
+use Rattle.m2_turn.specs.Halves.{AllHalves, sessions_with}
+use Rattle.m2_turn.specs.Outbox.{OutboxNow, OwnsAll}
+use Rattle.m2_turn.specs.Sessions.{AreConsistent, Sessions, Supply}
 
 pub record CenterNow (D : Type 0) : Type 0 where
   -- the kind of its node

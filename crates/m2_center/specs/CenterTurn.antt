@@ -5,21 +5,23 @@ use Rattle.m2_bytes.specs.declared.memory.NoMemory as memory
 use Rattle.m2_dispatch.specs.Heard.{Heard}
 use Rattle.m2_shared.specs.Numbers.{SeenNumbers}
 use Rattle.m2_shared.specs.Throttle.{SeenThrottle}
-use Rattle.m2_center.specs.declared.accepting.Accepted.{Accepted}
-use Rattle.m2_center.specs.declared.accepting.Accepted.TheVariants as accepted
-use Rattle.m2_center.specs.declared.halves_turn.HalvesTurn.{HalvesTurn}
-use Rattle.m2_center.specs.declared.halves_turn.HalvesTurn.TheVariants as halves
-use Rattle.m2_center.specs.declared.mailing.Mailed.{Mailed}
-use Rattle.m2_center.specs.declared.mailing.Mailed.TheVariants as mailed
-use Rattle.m2_center.specs.declared.records_turn.RecordsTurn.{RecordsTurn}
-use Rattle.m2_center.specs.declared.records_turn.RecordsTurn.TheVariants as records
-use Rattle.m2_center.specs.Accepting.{Accepting, AcceptsAll}
-use Rattle.m2_center.specs.HalfTurn.{Homes}
-use Rattle.m2_center.specs.HalvesTurn as turns
-use Rattle.m2_center.specs.HalvesTurn.{Callers}
-use Rattle.m2_center.specs.Mailing.{Mailing, Mails, mailing}
-use Rattle.m2_center.specs.RecordTurn.{Means}
-use Rattle.m2_center.specs.RecordsTurn.{AllAmid, Around, TurnsEach}
+use Rattle.m2_turn.specs.declared.accepting.Accepted.{Accepted}
+use Rattle.m2_turn.specs.declared.accepting.Accepted.TheVariants as accepted
+use Rattle.m2_turn.specs.declared.halves_turn.HalvesTurn.{HalvesTurn}
+use Rattle.m2_turn.specs.declared.halves_turn.HalvesTurn.TheVariants as halves
+use Rattle.m2_turn.specs.declared.mailing.Mailed.{Mailed}
+use Rattle.m2_turn.specs.declared.mailing.Mailed.TheVariants as mailed
+use Rattle.m2_turn.specs.declared.records_turn.RecordsTurn.{RecordsTurn}
+use Rattle.m2_turn.specs.declared.records_turn.RecordsTurn.TheVariants as records
+use Rattle.m2_turn.specs.Accepting.{Accepting, AcceptsAll}
+use Rattle.m2_turn.specs.HalfTurn.{Homes}
+use Rattle.m2_turn.specs.HalvesTurn as turns
+use Rattle.m2_turn.specs.HalvesTurn.{Callers}
+use Rattle.m2_turn.specs.Mailing.{Mailing, Mails, mailing}
+use Rattle.m2_turn.specs.RecordTurn.{Means}
+use Rattle.m2_turn.specs.RecordsTurn.{AllAmid, Around, TurnsEach}
+use Rattle.m2_center.specs.declared.turning.CenterTurn.{CenterTurn}
+use Rattle.m2_center.specs.declared.turning.CenterTurn.TheVariants as turn
 use Rattle.m2_center.specs.Center.{CenterNow}
 
 -- ---- the parts of a turn
@@ -64,6 +66,11 @@ pub record TurnsRecords {D : Type 0} (heard : D → List Heard) (m : Means) (res
 pub record EmptiesMail {D : Type 0} (heard : D → List Heard) (m : Means) (result : Mailed) (old new : CenterNow D) : Type 0 where
   pub mails : Mails heard m.throttle.place result (mailing_in old) (mailing_in new)
   pub only : new ≡ record old { out = new.out; queued = new.queued; bytes = new.bytes }
+
+-- what a turn says of memory
+abbrev pub memory_in : CenterTurn → Answer
+memory_in turn.NoMemory = Err (record {})
+memory_in _ = Ok tt
 
 -- what each answers: Ok, or that memory ran out
 abbrev pub accepted_so : Accepted → Answer

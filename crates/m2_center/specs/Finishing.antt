@@ -11,8 +11,8 @@ use Rattle.m2_shared.specs.Place.{Place}
 use Rattle.m2_shared.specs.Throttle.{SeenTakePass}
 use Rattle.m2_trail.specs.Arrivals.{LooseNow}
 use Rattle.m2_center.specs.Center.{CenterNow}
-use Rattle.m2_center.specs.Halves.{after_leaving}
-use Rattle.m2_center.specs.Outbox.{OutboxNow, OwnsAll}
+use Rattle.m2_turn.specs.Halves.{after_leaving}
+use Rattle.m2_turn.specs.Outbox.{OutboxNow, OwnsAll}
 
 pub record RestNow (D : Type 0) : Type 0 where
   pub port : SeenPort

@@ -4,9 +4,9 @@ use Rattle.std.specs.List.{list_all, list_any}
 use Rattle.std.specs.Option.{is_some}
 use Rattle.m2_center.specs.Center.{CenterNow}
 use Rattle.m2_center.specs.CenterTurn.{mailing_in}
-use Rattle.m2_center.specs.Busy.{is_busy}
-use Rattle.m2_center.specs.Mailing.{is_mailed}
-use Rattle.m2_center.specs.RecordsTurn as records
+use Rattle.m2_turn.specs.Busy.{is_busy}
+use Rattle.m2_turn.specs.Mailing.{is_mailed}
+use Rattle.m2_turn.specs.RecordsTurn as records
 
 -- the port's last accept found no socket, and no half is busy
 abbrev pub is_unheard : {D : Type 0} → CenterNow D → Bool

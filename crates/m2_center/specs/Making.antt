@@ -5,7 +5,7 @@ use Rattle.m2_record.specs.RecordNow.{RecordNow}
 use Rattle.m2_shared.specs.Numbers.{SeenNumberPass}
 use Rattle.m2_shared.specs.Throttle.{SeenTakePass}
 use Rattle.m2_center.specs.Center.{CenterNow}
-use Rattle.m2_center.specs.Sessions.{AreConsistent, Sessions}
+use Rattle.m2_turn.specs.Sessions.{AreConsistent, Sessions}
 
 -- what a center is made of
 pub record UnmadeNow (D : Type 0) : Type 0 where

@@ -8,12 +8,12 @@ use Rattle.m2_fabric.specs.End.{SeenEnd}
 use Rattle.m2_record.specs.Calls.{returned_by}
 use Rattle.m2_record.specs.Due.{next_step, on_feed}
 use Rattle.m2_record.specs.RecordNow.{RecordNow, composed_on, feed_end}
-use Rattle.m2_session.specs.declared.session.Session.{Session}
+use Rattle.m2_turn.specs.m2_session.declared.session.Session.{Session}
 use Rattle.m2_shared.specs.Place.{IsAlone, Place}
 use Rattle.m2_trail.specs.Trails.{TrailNow}
 use Rattle.m2_center.specs.Center.{CenterNow}
 use Rattle.m2_center.specs.CenterTurn.{Answer}
-use Rattle.m2_center.specs.Planning.{PlansNow}
+use Rattle.m2_turn.specs.Planning.{PlansNow}
 
 -- its peer has this place among the nodes
 abbrev pub is_towards : (peer : ℕ) → RecordNow → Bool

@@ -7,13 +7,13 @@ use Rattle.m2_fabric.specs.declared.socket.SocketId.{SocketId}
 use Rattle.m2_fabric.specs.End.{SeenEnd}
 use Rattle.m2_fabric.specs.Port.{SeenPort, with_news}
 use Rattle.m2_fabric.specs.Sockets.{same_socket}
-use Rattle.m2_feed.specs.FeedNow.{FeedNow}
+use Rattle.m2_turn.specs.m2_feed.FeedNow.{FeedNow}
 use Rattle.m2_record.specs.m2_core.LiveCalls.{live_with}
 use Rattle.m2_record.specs.RecordNow.{RecordNow, ends_of}
 use Rattle.m2_trail.specs.Arrivals.{LooseNow}
-use Rattle.m2_center.specs.Halves.{AllHalves}
-use Rattle.m2_center.specs.Hearing as halves
-use Rattle.m2_center.specs.Sessions.{PendingNow}
+use Rattle.m2_turn.specs.Halves.{AllHalves}
+use Rattle.m2_turn.specs.Hearing as halves
+use Rattle.m2_turn.specs.Sessions.{PendingNow}
 use Rattle.m2_center.specs.Center.{CenterNow}
 use Rattle.m2_center.specs.RecordEnds.{has_end, records_hear}
 

@@ -1,13 +1,14 @@
 //! A center: an event thread of a node.
 
-ghost use Rattle.std.specs.Prelude.{◌≡◌};
+ghost use Rattle.std.specs.Prelude.{◌≡◌, ◌≤◌, length};
+ghost use Rattle.m2_turn.specs.declared.pending.TheConstants.{MOST_HALVES};
 
-use crate::{Outbox, Pendings, Roster};
 use m2_dispatch::Dispatch;
 use m2_fabric::Port;
 use m2_record::Record;
 use m2_shared::{NumberPass, Numbers, TakePass, Throttle};
 use m2_trail::Loose;
+use m2_turn::{Outbox, Pendings, Roster};
 use std::alloc::Global;
 use std::marker::Model;
 
@@ -28,10 +29,12 @@ pub struct Passes {
 /// took, and where the parcels of the records go.
 ///
 /// Maker: [`new`](Center::new). Looks: [`records`](Center::records), [`parts`](Center::parts),
-/// [`fast`](Center::fast), [`queued`](Center::queued), [`is_holding`](Center::is_holding), [`idle`](Center::idle),
+/// [`halves`](Center::halves), [`fast`](Center::fast), [`queued`](Center::queued),
+/// [`is_holding`](Center::is_holding), [`idle`](Center::idle),
 /// [`made`](Center::made), [`refused`](Center::refused), [`log`](Center::log). Calls: [`turn`](Center::turn),
 /// [`poll`](Center::poll) to wait for the next one, and [`plan`](Center::plan) for what a record is to do; of whoever
-/// passes on what flows in memory, [`incoming`](Center::incoming) and [`hear`](Center::hear). The end: [`finished`](Center::finished). It can't be dropped, since records can't.
+/// passes on what flows in memory, [`incoming`](Center::incoming) and [`hear`](Center::hear). The end:
+/// [`finished`](Center::finished). It can't be dropped, since records can't.
 pub struct Center<P: Port, D> {
     pub(crate) alloc: Global,
     pub(crate) entity: u8,
@@ -50,7 +53,7 @@ pub struct Center<P: Port, D> {
 impl<P: Port, D> Model for Center<P, D> {
     ghost use Rattle.std.specs.Prelude.{◌≡◌, ◌<◌, ◌≤◌, ◌-◌, length, map, vec_capacity, vec_len};
     ghost use Rattle.m2_center.specs.Center.{CenterNow, IsCenter};
-    ghost use Rattle.m2_center.specs.Sessions.{peer_of};
+    ghost use Rattle.m2_turn.specs.Sessions.{peer_of};
     ghost use Rattle.m2_trail.specs.declared.incoming.TheConstants.{MOST_READ};
 
     ghost Value = { CenterNow D };
@@ -85,6 +88,15 @@ impl<P: Port, D> Center<P, D> {
         ensures { result.now ≡ self.now.records }
     {
         self.records.as_slice()
+    }
+
+    /// How many halves it has that are in their turns: sockets of peers that no record took. At most
+    /// [`MOST_HALVES`](m2_turn::MOST_HALVES).
+    pub fn halves(&self) -> u32
+        ensures halves { result ≡ length self.now.halves.pending }
+        ensures few { result ≤ MOST_HALVES }
+    {
+        self.halves.len() as u32
     }
 
     /// The dispatcher of fast kinds.

@@ -3,9 +3,7 @@
 ghost use Rattle.std.specs.Prelude.{◌≡◌};
 ghost use Rattle.m2_center.specs.Finishing.{AllOwn, IsGranted, rest_of};
 
-use crate::Outbox;
 use crate::center::{Center, NodeShared, Passes};
-use crate::leaving::leave_all;
 use crate::making::Unmade;
 use m2_bytes::Items;
 use m2_dispatch::Dispatch;
@@ -13,6 +11,7 @@ use m2_fabric::{End, Port};
 use m2_record::Record;
 use m2_shared::{TakePass, Throttle};
 use m2_trail::LooseList;
+use m2_turn::{Outbox, leave_all};
 use std::marker::Model;
 
 /// What is left of a center. It can't be dropped, since records can't.

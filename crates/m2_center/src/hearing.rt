@@ -9,14 +9,14 @@ ghost use Rattle.m2_fabric.specs.Port.{one_hears};
 ghost use Rattle.m2_record.specs.RecordNow.{RecordNow};
 ghost use Rattle.m2_record.specs.Sources.{end_at};
 ghost use Rattle.m2_trail.specs.Arrivals.{LooseNow};
-ghost use Rattle.m2_center.specs.Halves.{halves_of, sessions_with};
-ghost use Rattle.m2_center.specs.Hearing.{after_hearing, ends_in, first_told, is_loose_on, loose_told};
-ghost use Rattle.m2_center.specs.Sessions.{AreConsistent, Supply};
+ghost use Rattle.m2_turn.specs.Halves.{halves_of, sessions_with};
+ghost use Rattle.m2_turn.specs.Hearing.{after_hearing, ends_in, first_told, is_loose_on, loose_told};
+ghost use Rattle.m2_turn.specs.Sessions.{AreConsistent, Supply};
 
-use crate::pending::Pendings;
 use m2_bytes::NoMemory;
 use m2_fabric::{End, EndLog, News, SocketId};
 use m2_trail::Loose;
+use m2_turn::Pendings;
 
 /// What the end of that socket did, of halves and of those that are over; none exactly where none of them
 /// is on it.

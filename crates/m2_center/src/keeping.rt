@@ -4,11 +4,12 @@ ghost use Rattle.std.specs.List.{AllByRecursion};
 ghost use Rattle.m2_center.specs.Center.{IsCenter};
 ghost use Rattle.m2_fabric.specs.Sockets.{IsOfHome};
 ghost use Rattle.m2_record.specs.IsRecord.{IsRecord};
-ghost use Rattle.m2_center.specs.Halves.{AreWhole};
+ghost use Rattle.m2_turn.specs.Halves.{AreWhole};
 
 use crate::center::Center;
-use crate::{are_records, are_whole};
+use crate::whole::are_whole;
 use m2_fabric::{MemoryPort, Port};
+use m2_turn::are_records;
 
 impl<P: Port, D> Center<P, D> {
     /// What a center is, for contracts alone: its records and halves are consistent, and all that it holds for the

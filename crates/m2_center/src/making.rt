@@ -4,17 +4,17 @@ ghost use Rattle.std.specs.Prelude.{◌≡◌, ◌<◌, ◌≤◌, [], ◌++◌,
 ghost use Rattle.std.specs.List.{IsDistinct};
 ghost use Rattle.m2_center.specs.Center.{IsCenter};
 ghost use Rattle.m2_center.specs.Making.{CanBegin, unmade_now, new_center};
-ghost use Rattle.m2_center.specs.Sessions.{peer_of};
-ghost use Rattle.m2_handshake.specs.Asks.{same_addr};
+ghost use Rattle.m2_turn.specs.Sessions.{peer_of};
+ghost use Rattle.m2_turn.specs.m2_handshake.Asks.{same_addr};
 ghost use Rattle.m2_trail.specs.declared.incoming.TheConstants.{MOST_READ};
 
 use crate::center::{Center, Passes};
-use crate::{Outbox, Pendings, Roster};
 use m2_bytes::NoMemory;
 use m2_dispatch::Dispatch;
 use m2_fabric::{End, Port};
 use m2_record::Record;
 use m2_trail::MOST_READ;
+use m2_turn::{Outbox, Pendings, Roster};
 use std::alloc::Global;
 
 /// What a center is made of. It can't be dropped, since records can't.

@@ -6,9 +6,9 @@ ghost use Rattle.m2_fabric.specs.Kinds.{IsInMemory};
 ghost use Rattle.m2_record.specs.RecordNow.{ends_of, feed_end};
 
 use crate::center::Center;
-use crate::halves_are_in_memory;
 use m2_fabric::{End, MemoryEnd, MemoryPort, Port, are_in_memory};
 use m2_record::Record;
+use m2_turn::halves_are_in_memory;
 
 impl<P: MemoryPort, D> Center<P, D>
 where

@@ -6,8 +6,8 @@ ghost use Rattle.m2_record.specs.Due.{next_step};
 ghost use Rattle.m2_record.specs.IsRecord.{CanBePlanned, IsRecord};
 ghost use Rattle.m2_record.specs.Stepping.{IsSameWork};
 ghost use Rattle.m2_shared.specs.Place.{IsAlone, Place};
-ghost use Rattle.m2_center.specs.Answering.{StaysBeside};
-ghost use Rattle.m2_center.specs.Planning.{PlansNow};
+ghost use Rattle.m2_turn.specs.Answering.{StaysBeside};
+ghost use Rattle.m2_turn.specs.Planning.{PlansNow};
 
 use m2_bytes::NoMemory;
 use m2_fabric::End;

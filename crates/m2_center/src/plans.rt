@@ -7,7 +7,7 @@ ghost use Rattle.m2_trail.specs.Trails.{trail_now};
 ghost use Rattle.m2_center.specs.Plans.{IsReadyFor, PlansIn, is_towards, parts_of, side_towards};
 
 use crate::center::{Center, NodeShared};
-use crate::plan_at;
+use crate::planning::plan_at;
 use m2_bytes::NoMemory;
 use m2_fabric::{End, Port};
 use m2_journal::PlanStep;

@@ -11,17 +11,18 @@ ghost use Rattle.m2_record.specs.RecordNow.{ids_of};
 ghost use Rattle.m2_record.specs.Sources.{end_at};
 ghost use Rattle.m2_center.specs.Reaching.{after_hearing, all_ends_in, ends_in, has_half, rest_in};
 ghost use Rattle.m2_center.specs.RecordEnds.{records_hear};
-ghost use Rattle.m2_center.specs.Halves.{halves_of};
-ghost use Rattle.m2_center.specs.Hearing as hearing;
+ghost use Rattle.m2_turn.specs.Halves.{halves_of};
+ghost use Rattle.m2_turn.specs.Hearing as hearing;
 
 use crate::center::Center;
+use crate::hearing::{half_hears, half_log};
 use crate::record_ends::{any_has_end, record_log, records_hear};
-use crate::{Pendings, are_records, half_hears, half_log};
 use m2_bytes::NoMemory;
 use m2_edge::Failed;
 use m2_fabric::{End, EndLog, News, Port, SocketId, SocketIdList};
 use m2_record::Record;
 use m2_trail::Loose;
+use m2_turn::{Pendings, are_records};
 
 impl<P: Port, D> Center<P, D> {
     /// The sockets that its port made, in order.

@@ -3,17 +3,20 @@
 ghost use Rattle.std.specs.Prelude.{◌≡◌};
 ghost use Rattle.std.specs.List.{list_all};
 ghost use Rattle.std.specs.Option.{is_some};
+ghost use Rattle.m2_center.specs.CenterTurn.{mailing_in};
 ghost use Rattle.m2_center.specs.Idle.{are_idle, is_delivered, is_idle, is_unheard};
-ghost use Rattle.m2_center.specs.RecordsTurn as turns;
+ghost use Rattle.m2_turn.specs.Mailing.{is_mailed};
+ghost use Rattle.m2_turn.specs.RecordsTurn as turns;
 
 use crate::center::Center;
-use crate::is_idle;
 use m2_fabric::{End, Port};
 use m2_record::Record;
+use m2_turn::is_idle;
 
 impl<P: Port, D> Center<P, D> {
     /// Whether the center has nothing to do at this moment: the port's last accept found no socket, no half has
-    /// anything in hand or unread, each record is idle, and no letter or parcel waits.
+    /// anything in hand or unread but those whose last write was answered that it can't yet, each record is idle, and
+    /// no letter or parcel waits.
     pub fn idle(&self, now: u64) -> bool
         ensures { result ≡ is_idle now self.now }
     {
@@ -45,7 +48,14 @@ impl<P: Port, D> Center<P, D> {
     fn is_delivered(&self) -> bool
         ensures { result ≡ is_delivered self.now }
     {
-        !self.out.is_holding() && !self.out.has_mail() && self.queued.is_empty()
+        !self.out.is_holding() && self.is_mailed()
+    }
+
+    /// Whether no letter waits, and no parcel is in the mail.
+    pub(crate) fn is_mailed(&self) -> bool
+        ensures { result ≡ is_mailed (mailing_in self.now) }
+    {
+        !self.out.has_mail() && self.queued.is_empty()
     }
 }
 

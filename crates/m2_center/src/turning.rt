@@ -1,43 +1,93 @@
 //! A center's turn.
 
-ghost use Rattle.m2_center.specs.Beside.{AllKeepCallers, MadeOn, StayConsistent, served};
-ghost use Rattle.m2_center.specs.CenterTurn.{AcceptsSo, AnswersSo, DeliversSo, StepsSo, TakesTurn, accepted_so, answered_so, delivered_so, means_at, stepped_so};
-ghost use Rattle.m2_center.specs.HalfTurn.{homes};
-ghost use Rattle.m2_center.specs.HalvesTurn.{TurnsHalves, callers, sessions_of};
-ghost use Rattle.m2_center.specs.Outbox.{OwnsAll};
-ghost use Rattle.m2_center.specs.RecordTurn.{means_of};
-ghost use Rattle.m2_center.specs.RecordsTurn.{TurnsEach, all_amid, around};
-ghost use Rattle.m2_center.specs.Sessions.{AreConsistent, IsSupplied, peer_of, supply_of};
+ghost use Rattle.m2_turn.specs.Beside.{AllKeepCallers, MadeOn, StayConsistent, served};
+ghost use Rattle.m2_center.specs.CenterTurn.{AcceptsSo, AnswersSo, DeliversSo, StepsSo, TakesTurn, accepted_so, answered_so, delivered_so, means_at, memory_in, stepped_so};
+ghost use Rattle.m2_center.specs.Dry.{SaysTurn, ended_so};
+ghost use Rattle.m2_turn.specs.HalfTurn.{homes};
+ghost use Rattle.m2_turn.specs.Handing.{SaysMore, handed_in};
+ghost use Rattle.m2_turn.specs.HalvesTurn.{TurnsHalves, callers, sessions_of};
+ghost use Rattle.m2_turn.specs.Outbox.{OwnsAll};
+ghost use Rattle.m2_turn.specs.RecordTurn.{means_of};
+ghost use Rattle.m2_turn.specs.RecordsTurn.{TurnsEach, all_amid, around};
+ghost use Rattle.m2_turn.specs.Sessions.{AreConsistent, IsSupplied, peer_of, supply_of};
 ghost use Rattle.m2_fabric.specs.declared.socket.SocketId.{SocketId};
 ghost use Rattle.m2_record.specs.Stepping.{IsSameWork, KeepsReached};
 ghost use Rattle.std.specs.List.{AllByRecursion};
 ghost use Rattle.std.specs.Prelude.{List, length, map, take, vec_capacity, vec_len, ℕ, ◌-◌, ◌<◌, ◌≡◌, ◌≤◌};
 
 use crate::center::{Center, NodeShared};
-use crate::{
-    Accepted, HalvesTurn, Mailed, Outbox, Pendings, RecordsTurn, Roster, accept_all, are_records,
-    empty_mail, turn_each, turn_halves,
-};
+use crate::counting::is_still;
 use m2_bytes::NoMemory;
 use m2_dispatch::Dispatcher;
 use m2_fabric::{End, Port};
 use m2_record::{Record, Work};
 use m2_trail::{Loose, MOST_READ};
+use m2_turn::{
+    Accepted, HalvesTurn, Mailed, Outbox, Pendings, RecordsTurn, Roster, accept_all, are_records,
+    empty_mail, turn_each, turn_halves,
+};
+
+/// What a turn came to.
+#[derive(Clone, Copy, Debug, PartialEq, Eq)]
+pub enum CenterTurn {
+    /// An entry was made in a journal, a socket was accepted, or a parcel was handed on.
+    Moved,
+    /// Nothing of that was done.
+    Dry,
+    /// Memory ran out. What was done stays, and the center may go on.
+    NoMemory,
+}
+
+impl CenterTurn {
+    /// Whether memory lasted.
+    pub fn memory(self) -> Result<(), NoMemory>
+        ensures { result ≡ memory_in self }
+    {
+        match self {
+            CenterTurn::Moved | CenterTurn::Dry => Ok(()),
+            CenterTurn::NoMemory => Err(NoMemory),
+        }
+    }
+}
 
 impl<P: Port, D: Dispatcher> Center<P, D> {
     /// One turn at this moment: the sockets that wait are accepted, each half goes on and is answered, each
-    /// record makes the connect that is due and takes its steps, and the mail is emptied. Err is want of memory:
-    /// what was done stays, and the center may go on.
-    pub fn turn(&mut self, shared: &NodeShared, now: u64) -> Result<(), NoMemory>
+    /// record makes the connect that is due and takes its steps, and the mail is emptied. For want of memory it ends
+    /// early: what was done stays, and the center may go on.
+    pub fn turn(&mut self, shared: &NodeShared, now: u64) -> CenterTurn
+        requires numbers { self.old.numbers.place ≡ shared.now.numbers.place }
+        requires throttle { self.old.bytes.place ≡ shared.now.throttle.place }
+        ensures turns { TakesTurn P.End D.heard (means_at now shared.now.numbers shared.now.throttle) (memory_in result) self.old self.new }
+        ensures says { SaysTurn result self.old self.new }
+        ensures numbers { self.new.numbers.place ≡ self.old.numbers.place }
+        ensures throttle { self.new.bytes.place ≡ self.old.bytes.place }
+    {
+        let before = self.count();
+        let mut handed = false;
+        let taken = self.take_turn(shared, &mut handed, now);
+        let behind = self.count();
+        let still = is_still(&before, &behind);
+        ended_so(taken, handed, still)
+    }
+
+    /// The stages of a turn, one after another. `handed` says then whether a record handed a parcel out, or whether
+    /// it said so before.
+    fn take_turn(
+        &mut self,
+        shared: &NodeShared,
+        handed: &mut bool,
+        now: u64,
+    ) -> Result<(), NoMemory>
         requires numbers { self.old.numbers.place ≡ shared.now.numbers.place }
         requires throttle { self.old.bytes.place ≡ shared.now.throttle.place }
         ensures turns { TakesTurn P.End D.heard (means_at now shared.now.numbers shared.now.throttle) result self.old self.new }
+        ensures handed { SaysMore handed.old handed.new (handed_in self.old.records) (handed_in self.new.records) }
         ensures numbers { self.new.numbers.place ≡ self.old.numbers.place }
         ensures throttle { self.new.bytes.place ≡ self.old.bytes.place }
     {
         self.accept()?;
         self.answer(shared, now)?;
-        self.step(shared, now)?;
+        self.step(shared, handed, now)?;
         self.deliver(shared, now)
     }
 
@@ -81,10 +131,11 @@ impl<P: Port, D: Dispatcher> Center<P, D> {
     }
 
     /// The records take theirs.
-    fn step(&mut self, shared: &NodeShared, now: u64) -> Result<(), NoMemory>
+    fn step(&mut self, shared: &NodeShared, handed: &mut bool, now: u64) -> Result<(), NoMemory>
         requires numbers { self.old.numbers.place ≡ shared.now.numbers.place }
         requires throttle { self.old.bytes.place ≡ shared.now.throttle.place }
         ensures steps { StepsSo D.heard (means_at now shared.now.numbers shared.now.throttle) result self.old self.new }
+        ensures handed { SaysMore handed.old handed.new (handed_in self.old.records) (handed_in self.new.records) }
         ensures numbers { self.new.numbers.place ≡ self.old.numbers.place }
         ensures throttle { self.new.bytes.place ≡ self.old.bytes.place }
     {
@@ -99,6 +150,7 @@ impl<P: Port, D: Dispatcher> Center<P, D> {
             &mut self.port,
             &mut self.out,
             &mut work,
+            handed,
             now,
         ))
     }
@@ -116,6 +168,22 @@ impl<P: Port, D: Dispatcher> Center<P, D> {
             &shared.throttle,
             &mut self.passes.throttle,
         ))
+    }
+}
+
+/// What a turn is said to have come to.
+fn ended_so(taken: Result<(), NoMemory>, handed: bool, still: bool) -> CenterTurn
+    ensures { result ≡ ended_so taken handed still }
+{
+    match taken {
+        Err(NoMemory) => CenterTurn::NoMemory,
+        Ok(()) => {
+            if handed || !still {
+                CenterTurn::Moved
+            } else {
+                CenterTurn::Dry
+            }
+        }
     }
 }
 
@@ -200,6 +268,7 @@ fn step_all<P: Port, D: Dispatcher>(
     port: &mut P,
     out: &mut Outbox<D>,
     work: &mut Work<'_>,
+    handed: &mut bool,
     now: u64,
 ) -> RecordsTurn
     requires numbers { work.old.number_pass.now.place ≡ work.old.numbers.now.place }
@@ -207,6 +276,7 @@ fn step_all<P: Port, D: Dispatcher>(
     requires supplied { AllByRecursion (IsSupplied (supply_of work.old) (P.seen port.old).made) records.old.items }
     requires out { OwnsAll work.old.throttle.now.place out.old }
     ensures turns { TurnsEach D.heard (means_of now work.old) result (all_amid records.old.items (around (P.seen port.old) out.old work.old)) (all_amid records.new.items (around (P.seen port.new) out.new work.new)) }
+    ensures handed { SaysMore handed.old handed.new (handed_in records.old.items) (handed_in records.new.items) }
     ensures supplied { AllByRecursion (IsSupplied (supply_of work.new) (P.seen port.new).made) records.new.items }
     ensures consistent { StayConsistent (served work.old (P.seen port.old).made records.old.items) (served work.new (P.seen port.new).made records.new.items) }
     ensures keeps { AllKeepCallers (P.seen port.old).made records.old.items records.new.items }
@@ -219,5 +289,5 @@ fn step_all<P: Port, D: Dispatcher>(
     ensures number_pass { work.new.number_pass.ghost_name ≡ work.old.number_pass.ghost_name }
     ensures take_pass { work.new.take_pass.ghost_name ≡ work.old.take_pass.ghost_name }
 {
-    turn_each(records.as_mut_slice(), port, out, work, now)
+    turn_each(records.as_mut_slice(), port, out, work, handed, now)
 }

@@ -1,11 +1,11 @@
 //! That the trails of halves are whole, for contracts alone.
 
 ghost use Rattle.std.specs.List.{AllByRecursion};
-ghost use Rattle.m2_center.specs.Halves.{AreWhole, IsWhole, halves_of};
+ghost use Rattle.m2_turn.specs.Halves.{AreWhole, IsWhole, halves_of};
 
-use crate::pending::Pendings;
 use m2_fabric::End;
 use m2_trail::Loose;
+use m2_turn::Pendings;
 
 /// That the trail of each half tells all that its end did, of those in their turns and of those that are over,
 /// for contracts alone.

@@ -14,7 +14,7 @@ use Rattle.m2_center.specs.Center.{CenterNow}
 use Rattle.m2_center.specs.Reaching.{after_hearing, all_ends_in, ends_in, ends_or_none, has_half, waiting_at}
 use Rattle.m2_center.specs.RecordEnds.{has_end, records_hear}
 use Rattle.m2_center.proofs.RecordsHear.{all_center_ends, among_both, among_ends, center_ends}
-use Rattle.m2_center.specs.Hearing as halves
+use Rattle.m2_center.specs.m2_turn.Hearing as halves
 use Rattle.m2_cluster.specs.Node.{ComesIn, HearsIn, KeepsPort, NodeNow, Shows, end_in, has_in, waits_in}
 use Rattle.m2_bytes.proofs.m2_lemmas.Booleans.{or_false, false_isnt_true}
 use Rattle.m2_fabric.proofs.Sockets.{apart_turned, same_equal, same_refl}

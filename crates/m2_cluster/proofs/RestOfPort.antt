@@ -12,7 +12,7 @@ use Rattle.m2_center.specs.Center.{CenterNow}
 use Rattle.m2_center.specs.Reaching.{after_hearing, has_half, rest_in}
 use Rattle.m2_center.specs.RecordEnds.{has_end, records_hear}
 use Rattle.m2_center.proofs.RecordsHear.{among_both, center_rest}
-use Rattle.m2_center.specs.Hearing as halves
+use Rattle.m2_center.specs.m2_turn.Hearing as halves
 use Rattle.m2_cluster.specs.Node.{NodeNow, all_to_come, are_apart, is_to_come, rest_at, rest_of_node}
 use Rattle.m2_bytes.proofs.m2_lemmas.Booleans.{or_false, one_of_three, neither_of_or}
 use Rattle.m2_fabric.proofs.Sockets.{apart_turned}

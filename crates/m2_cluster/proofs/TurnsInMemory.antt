@@ -17,15 +17,15 @@ use Rattle.m2_center.specs.m2_record.declared.due.Due.{Due}
 use Rattle.m2_center.specs.m2_record.declared.due.Due.TheVariants as due
 use Rattle.m2_center.specs.m2_record.Due.{due_step}
 use Rattle.m2_center.specs.m2_record.RecordNow.{RecordNow}
-use Rattle.m2_center.specs.declared.accepting.Accepted.{Accepted}
-use Rattle.m2_center.specs.declared.accepting.Accepted.TheVariants as accepted
-use Rattle.m2_center.specs.declared.records_turn.RecordsTurn.{RecordsTurn}
-use Rattle.m2_center.specs.declared.records_turn.RecordsTurn.TheVariants as turn
-use Rattle.m2_center.specs.Accepting.{Accepting, AcceptsAll, EndsWith, TakesAll}
-use Rattle.m2_center.specs.Connecting.{AtPort, DialsFor, DialsIfDue}
-use Rattle.m2_center.specs.Outbox.{is_free}
-use Rattle.m2_center.specs.RecordTurn.{Means}
-use Rattle.m2_center.specs.RecordsTurn.{AllAmid, Amid, Around, DialsAndSteps, EachTurns, TurnsEach, TurnsIf, TurnsInOrder, TurnsOne, amid, at_port}
+use Rattle.m2_center.specs.m2_turn.declared.accepting.Accepted.{Accepted}
+use Rattle.m2_center.specs.m2_turn.declared.accepting.Accepted.TheVariants as accepted
+use Rattle.m2_center.specs.m2_turn.declared.records_turn.RecordsTurn.{RecordsTurn}
+use Rattle.m2_center.specs.m2_turn.declared.records_turn.RecordsTurn.TheVariants as turn
+use Rattle.m2_center.specs.m2_turn.Accepting.{Accepting, AcceptsAll, EndsWith, TakesAll}
+use Rattle.m2_center.specs.m2_turn.Connecting.{AtPort, DialsFor, DialsIfDue}
+use Rattle.m2_center.specs.m2_turn.Outbox.{is_free}
+use Rattle.m2_center.specs.m2_turn.RecordTurn.{Means}
+use Rattle.m2_center.specs.m2_turn.RecordsTurn.{AllAmid, Amid, Around, DialsAndSteps, EachTurns, TurnsEach, TurnsIf, TurnsInOrder, TurnsOne, amid, at_port}
 use Rattle.m2_center.specs.Center.{CenterNow}
 use Rattle.m2_center.specs.CenterTurn.{AndThen, Answer, AnswersSo, AcceptsSo, DeliversSo, Part, StepsSo, TakesTurn, accepting_in, all_amid_in}
 

@@ -19,7 +19,7 @@ use Rattle.m2_center.specs.Center.{CenterNow, IsCenter}
 use Rattle.m2_center.specs.CenterTurn.{Answer, TakesTurn, means_at}
 use Rattle.m2_center.specs.Plans.{PlansIn}
 use Rattle.m2_center.specs.Reaching.{all_ends_in, ends_in, rest_in, waiting_at}
-use Rattle.m2_center.specs.Halves.{AreWhole}
+use Rattle.m2_center.specs.m2_turn.Halves.{AreWhole}
 
 -- its center, its counter of global numbers and its throttle
 pub record NodeNow (D : Type 0) : Type 0 where

@@ -121,7 +121,7 @@ impl<P: Port, D: Dispatcher> Node<P, D> {
     pub(crate) fn turn(&mut self, now: u64) -> Result<(), NoMemory>
         ensures { NodeTurns P.End D.heard now result self.old self.new }
     {
-        self.center.turn(&self.shared, now)
+        self.center.turn(&self.shared, now).memory()
     }
 }
 

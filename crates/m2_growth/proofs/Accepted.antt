@@ -8,11 +8,11 @@ use Rattle.m2_fabric.specs.declared.socket.SocketId.{SocketId}
 use Rattle.m2_fabric.specs.End.{SeenEnd}
 use Rattle.m2_fabric.specs.Port.{Accepts, SeenPort}
 use Rattle.m2_fabric.specs.Sockets.{is_among}
-use Rattle.m2_center.specs.m2_record.RecordNow.{RecordNow, ids_of}
-use Rattle.m2_center.specs.m2_record.Sources.{end_at}
-use Rattle.m2_center.specs.declared.accepting.Accepted.{Accepted}
-use Rattle.m2_center.specs.declared.accepting.Accepted.TheVariants as accepts
-use Rattle.m2_center.specs.Accepting.{Accepting, AcceptsAll, EndsWith, IsEnded, TakesAll, TakesIn}
+use Rattle.m2_turn.specs.m2_record.RecordNow.{RecordNow, ids_of}
+use Rattle.m2_turn.specs.m2_record.Sources.{end_at}
+use Rattle.m2_turn.specs.declared.accepting.Accepted.{Accepted}
+use Rattle.m2_turn.specs.declared.accepting.Accepted.TheVariants as accepts
+use Rattle.m2_turn.specs.Accepting.{Accepting, AcceptsAll, EndsWith, IsEnded, TakesAll, TakesIn}
 use Rattle.m2_growth.specs.Holding.{AreOwn, Grows, Holding, all_ends, ends_held, waiting_at}
 use Rattle.m2_growth.specs.GrowthLaws.{at_accepts}
 use Rattle.m2_growth.proofs.Accepts.{accepts_grow}

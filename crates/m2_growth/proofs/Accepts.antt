@@ -7,15 +7,15 @@ use Rattle.m2_fabric.specs.declared.port.Taken.TheVariants as taken
 use Rattle.m2_fabric.specs.End.{SeenEnd}
 use Rattle.m2_fabric.specs.Port.{Accepts, SeenPort}
 use Rattle.m2_fabric.specs.Sockets.{goes_to, is_among, same_socket}
-use Rattle.m2_center.specs.m2_record.RecordNow.{RecordNow, ids_of}
-use Rattle.m2_center.specs.declared.accepting.Accepted.{Accepted}
-use Rattle.m2_center.specs.declared.accepting.Accepted.TheVariants as accepts
-use Rattle.m2_center.specs.declared.pending.TheConstants.{MOST_HALVES}
-use Rattle.m2_center.specs.Accepting.{Accepting, AcceptsAll, EndsWith, IsEnded, TakesAll, TakesIn, joined, unasked}
-use Rattle.m2_center.specs.Halves.{AllHalves}
-use Rattle.m2_center.specs.Hearing.{ends_in}
-use Rattle.m2_center.specs.Sessions.{PendingNow, is_asker, peer_of}
-use Rattle.m2_center.proofs.Came.{alone}
+use Rattle.m2_turn.specs.m2_record.RecordNow.{RecordNow, ids_of}
+use Rattle.m2_turn.specs.declared.accepting.Accepted.{Accepted}
+use Rattle.m2_turn.specs.declared.accepting.Accepted.TheVariants as accepts
+use Rattle.m2_turn.specs.declared.pending.TheConstants.{MOST_HALVES}
+use Rattle.m2_turn.specs.Accepting.{Accepting, AcceptsAll, EndsWith, IsEnded, TakesAll, TakesIn, joined, unasked}
+use Rattle.m2_turn.specs.Halves.{AllHalves}
+use Rattle.m2_turn.specs.Hearing.{ends_in}
+use Rattle.m2_turn.specs.Sessions.{PendingNow, is_asker, peer_of}
+use Rattle.m2_turn.proofs.Came.{alone}
 use Rattle.m2_bytes_fit.specs.m2_trail.Arrivals.{LooseNow, closed_of}
 use Rattle.m2_bytes_fit.specs.m2_trail.Incoming.{IncomingNow, accepted}
 use Rattle.m2_growth.specs.Ends.{AreOfTheirOwn}

@@ -2,39 +2,39 @@
 use Rattle.std.proofs.Common.{◌≡◌, ◌⊎◌, inl, inr, ℕ, ◌≤◌, Bool, true, false, List, [], ◌∷◌, ◌++◌, map, length, Option, Some, None, IfSome, IsSome, refl, sym, ap, subst, ◌∙◌, append-nil, append_assoc, arith}
 use Rattle.std.specs.List.{AllByRecursion}
 use Rattle.std.specs.Option.{option_to_list}
-use Rattle.m2_center.specs.m2_session.declared.ask.AskFacts.{AskFacts}
+use Rattle.m2_turn.specs.m2_session.declared.ask.AskFacts.{AskFacts}
 use Rattle.m2_weave.specs.m2_control.declared.control.Control.{Control}
-use Rattle.m2_center.specs.m2_core.declared.verdict.Verdict.{Verdict}
-use Rattle.m2_center.specs.m2_core.Judging.{told_of, verdict_on}
-use Rattle.m2_center.specs.m2_core.TakingOver.{IsTakenFeed}
+use Rattle.m2_turn.specs.m2_core.declared.verdict.Verdict.{Verdict}
+use Rattle.m2_turn.specs.m2_core.Judging.{told_of, verdict_on}
+use Rattle.m2_turn.specs.m2_core.TakingOver.{IsTakenFeed}
 use Rattle.m2_fabric.specs.declared.socket.SocketId.{SocketId}
 use Rattle.m2_fabric.specs.End.{SeenEnd, after_closing}
 use Rattle.m2_fabric.specs.Sockets.{is_among}
 use Rattle.m2_bytes_fit.specs.m2_feed.FeedNow.{FeedNow}
-use Rattle.m2_center.specs.m2_handshake.declared.ask.Ask.{Ask}
-use Rattle.m2_center.specs.m2_handshake.declared.ident.IdentCheck.{IdentCheck}
-use Rattle.m2_center.specs.m2_handshake.declared.ident.IdentCheck.TheVariants.{Fine, Missing, Fault}
+use Rattle.m2_turn.specs.m2_handshake.declared.ask.Ask.{Ask}
+use Rattle.m2_turn.specs.m2_handshake.declared.ident.IdentCheck.{IdentCheck}
+use Rattle.m2_turn.specs.m2_handshake.declared.ident.IdentCheck.TheVariants.{Fine, Missing, Fault}
 use Rattle.m2_weave.specs.m2_journal.declared.entry.Entry.{Entry}
 use Rattle.m2_weave.specs.m2_journal.declared.entry.Entry.TheVariants as entry
 use Rattle.m2_weave.specs.m2_journal.declared.entry.JudgedItem.{JudgedItem}
 use Rattle.m2_weave.specs.m2_journal.State.{Judgement}
-use Rattle.m2_center.specs.m2_core.Effects.{closed_if}
-use Rattle.m2_center.specs.m2_record.Calls.{CountsResumption, closed_entries}
-use Rattle.m2_center.specs.m2_record.declared.judging.Judged.{Judged}
-use Rattle.m2_center.specs.m2_record.declared.judging.Judged.TheVariants as judged
-use Rattle.m2_center.specs.m2_record.Judging.{Answers, JudgesAs, after_taking_over, effects_at, half_of, judged_entry}
-use Rattle.m2_center.specs.m2_record.RecordNow.{RecordNow, ends_of, feed_end}
-use Rattle.m2_center.specs.m2_record.TakenTrails.{judgement_of, judgements_in}
-use Rattle.m2_center.specs.m2_session.declared.answer.Answer.{Answer}
-use Rattle.m2_center.specs.m2_session.SessionLaws.{takes}
-use Rattle.m2_center.specs.declared.answering.HalfAnswered.{HalfAnswered}
-use Rattle.m2_center.specs.declared.answering.HalfAnswered.TheVariants as half
-use Rattle.m2_center.specs.Answering.{AnswersBy, AnswersHalf, FindsSo, HearsHalf, OwesThen, RefusesHalf, RejectsHalf, RepliesHalf}
-use Rattle.m2_center.specs.Judging.{Judges, Judging}
-use Rattle.m2_center.specs.RecordTurn.{Means}
-use Rattle.m2_center.proofs.GoesOn.{counts_on as counts_more}
-use Rattle.m2_center.proofs.Known.{entries_behind, journal_behind, none_behind, none_judged}
-use Rattle.m2_center.proofs.Opened.{filtered}
+use Rattle.m2_turn.specs.m2_core.Effects.{closed_if}
+use Rattle.m2_turn.specs.m2_record.Calls.{closed_entries, CountsResumption}
+use Rattle.m2_turn.specs.m2_record.declared.judging.Judged.{Judged}
+use Rattle.m2_turn.specs.m2_record.declared.judging.Judged.TheVariants as judged
+use Rattle.m2_turn.specs.m2_record.Judging.{Answers, JudgesAs, after_taking_over, effects_at, half_of, judged_entry}
+use Rattle.m2_turn.specs.m2_record.RecordNow.{RecordNow, ends_of, feed_end}
+use Rattle.m2_turn.specs.m2_record.TakenTrails.{judgement_of, judgements_in}
+use Rattle.m2_turn.specs.m2_session.declared.answer.Answer.{Answer}
+use Rattle.m2_turn.specs.m2_session.SessionLaws.{takes}
+use Rattle.m2_turn.specs.declared.answering.HalfAnswered.{HalfAnswered}
+use Rattle.m2_turn.specs.declared.answering.HalfAnswered.TheVariants as half
+use Rattle.m2_turn.specs.Answering.{AnswersBy, AnswersHalf, FindsSo, HearsHalf, OwesThen, RefusesHalf, RejectsHalf, RepliesHalf}
+use Rattle.m2_turn.specs.Judging.{Judges, Judging}
+use Rattle.m2_turn.specs.RecordTurn.{Means}
+use Rattle.m2_turn.proofs.Opened.{filtered}
+use Rattle.m2_turn.proofs.GoesOn.{counts_on as counts_more}
+use Rattle.m2_turn.proofs.Known.{entries_behind, journal_behind, none_behind, none_judged}
 use Rattle.m2_bytes_fit.specs.m2_trail.Arrivals.{LooseNow, closed_of}
 use Rattle.m2_bytes_fit.specs.m2_trail.Asks.{facts_of_ask}
 use Rattle.m2_bytes_fit.specs.m2_trail.Incoming.{IncomingNow, after_judging, after_replying, items_of, with_entry, with_judged}
@@ -288,7 +288,8 @@ abbrev pub Answered : {E : Type 0} → HalfAnswered E → IncomingNow → Record
 Answered (half.Taken answer) a old new = SideTakes a old new
 Answered (half.Open b) a old new = SideKeeps a.end.id old new × HalfGoes a b
 Answered (half.Closed l) a old new = SideKeeps a.end.id old new × HalfEnds a l
-Answered (half.Asked b) a old new = SideKeeps a.end.id old new × HalfGoes a b
+Answered (half.Undrawn b) a old new = SideKeeps a.end.id old new × HalfGoes a b
+Answered (half.NoMemory b) a old new = SideKeeps a.end.id old new × HalfGoes a b
 
 given : (o : Option Control) (a c b : IncomingNow) → IsSome o → IfSome o (λ reply. b ≡ after_replying reply c) → HalfGoes a c → HalfGoes a b
 given None a c b none e g = absurd (false_isnt_true none)
@@ -298,19 +299,22 @@ replied : {E : Type 0} (result : HalfAnswered E) (a c : IncomingNow) (old new : 
 replied (half.Taken answer) a c old new keeps g reply = absurd reply
 replied (half.Open b) a c old new keeps g (answer, _, some, is) = (keeps, given (first_reply answer) a c b some is g)
 replied (half.Closed l) a c old new keeps g (answer, _, none, is) = (keeps, subst (HalfEnds a) (sym is) (half_closed a c g))
-replied (half.Asked b) a c old new keeps g is = (keeps, subst (HalfGoes a) (sym is) g)
+replied (half.Undrawn b) a c old new keeps g reply = absurd reply
+replied (half.NoMemory b) a c old new keeps g is = (keeps, subst (HalfGoes a) (sym is) g)
 
 refused : {E : Type 0} (result : HalfAnswered E) (bits : ℕ) (a : IncomingNow) (old new : RecordNow) → SideKeeps a.end.id old new → RefusesHalf result bits a → Answered result a old new
 refused (half.Taken answer) bits a old new keeps e = absurd e
 refused (half.Open b) bits a old new keeps e = (keeps, like a a b (ap (λ i. i.end) e) (ap (λ i. i.trail) e) (half_same a))
 refused (half.Closed l) bits a old new keeps e = absurd e
-refused (half.Asked b) bits a old new keeps e = (keeps, subst (HalfGoes a) (sym e) (half_same a))
+refused (half.Undrawn b) bits a old new keeps e = absurd e
+refused (half.NoMemory b) bits a old new keeps e = (keeps, subst (HalfGoes a) (sym e) (half_same a))
 
 rejected : {E : Type 0} (result : HalfAnswered E) (a : IncomingNow) (old new : RecordNow) → SideKeeps a.end.id old new → RejectsHalf result a → Answered result a old new
 rejected (half.Taken answer) a old new keeps e = absurd e
 rejected (half.Open b) a old new keeps e = absurd e
 rejected (half.Closed l) a old new keeps e = (keeps, subst (HalfEnds a) (sym e) (half_closed a a (half_same a)))
-rejected (half.Asked b) a old new keeps e = absurd e
+rejected (half.Undrawn b) a old new keeps e = absurd e
+rejected (half.NoMemory b) a old new keeps e = absurd e
 
 owed : {E : Type 0} (result : HalfAnswered E) (a : IncomingNow) (m : Means) (old new : Judging) → IsSome a.ask → OwesThen result a m old new → Answered result a old.side new.side
 owed {E} result a m old new some (arrival, (answer, h), reply) =
@@ -321,9 +325,9 @@ heard : {E : Type 0} (result : HalfAnswered E) (a : IncomingNow) (m : Means) (ol
 heard {E} (half.Taken answer) a m old new some h = judges {E = E} (judged.Taken answer) a m old new some h
 heard {E} (half.Open b) a m old new some h = owed {E = E} (half.Open b) a m old new some h
 heard {E} (half.Closed l) a m old new some h = owed {E = E} (half.Closed l) a m old new some h
-heard {E} (half.Asked b) a m old new some (inl (same, side, _, _)) = (side_same a.end.id old.side new.side side, subst (HalfGoes a) (sym same) (half_same a))
-heard {E} (half.Asked b) a m old new some (inr (inl h)) = judges {E = E} (judged.NoMemory b) a m old new some h
-heard {E} (half.Asked b) a m old new some (inr (inr h)) = owed {E = E} (half.Asked b) a m old new some h
+heard {E} (half.Undrawn b) a m old new some (same, side, _, _) = (side_same a.end.id old.side new.side side, subst (HalfGoes a) (sym same) (half_same a))
+heard {E} (half.NoMemory b) a m old new some (inl h) = judges {E = E} (judged.NoMemory b) a m old new some h
+heard {E} (half.NoMemory b) a m old new some (inr h) = owed {E = E} (half.NoMemory b) a m old new some h
 
 found : {E : Type 0} (check : IdentCheck) (result : HalfAnswered E) (a : IncomingNow) (m : Means) (old new : Judging) → IsSome a.ask → FindsSo check result a m old new → Answered result a old.side new.side
 found Fine result a m old new some h = heard result a m old new some h

@@ -7,11 +7,11 @@ use Rattle.m2_fabric.specs.End.{SeenEnd}
 use Rattle.m2_fabric.specs.Sockets.{same_socket}
 use Rattle.m2_weave.specs.m2_journal.declared.entry.Entry.{Entry}
 use Rattle.m2_weave.specs.m2_journal.State.{Judgement}
-use Rattle.m2_center.specs.m2_record.RecordNow.{RecordNow}
-use Rattle.m2_center.specs.m2_record.Sources.{end_at}
-use Rattle.m2_center.specs.m2_record.TakenTrails.{judgement_of, judgements_in}
-use Rattle.m2_center.specs.Sessions.{peer_of}
-use Rattle.m2_center.proofs.Opened.{filtered}
+use Rattle.m2_turn.specs.m2_record.RecordNow.{RecordNow}
+use Rattle.m2_turn.specs.m2_record.Sources.{end_at}
+use Rattle.m2_turn.specs.m2_record.TakenTrails.{judgement_of, judgements_in}
+use Rattle.m2_turn.specs.Sessions.{peer_of}
+use Rattle.m2_turn.proofs.Opened.{filtered}
 use Rattle.m2_bytes_fit.specs.m2_trail.Asks.{IsMain}
 use Rattle.m2_weave.specs.Later.{GoesOn}
 use Rattle.m2_growth.specs.Ends.{AreOfTheirOwn, EndGrowsTo, EndsGrow, come_to}

@@ -2,7 +2,7 @@
 use Rattle.std.proofs.Common.{◌≡◌, ◌⊎◌, inl, inr, ℕ, Bool, true, false, List, [], ◌∷◌, ◌++◌, Option, Some, None, Ok, Err, Result, IfSome, IsSome, refl, sym, ap, subst, ◌∙◌, append-nil, append_assoc}
 use Rattle.std.specs.Option.{is_some}
 use Rattle.m2_fabric.specs.m2_bytes.declared.memory.NoMemory as memory
-use Rattle.m2_center.specs.m2_core.Calls.{IsOpening}
+use Rattle.m2_turn.specs.m2_core.Calls.{IsOpening}
 use Rattle.m2_dispatch.specs.Heard.{Heard}
 use Rattle.m2_fabric.specs.declared.port.Connect.{Connect}
 use Rattle.m2_fabric.specs.declared.port.Connect.TheVariants as connect
@@ -12,19 +12,19 @@ use Rattle.m2_fabric.specs.Port as port
 use Rattle.m2_fabric.specs.Port.{SeenPort}
 use Rattle.m2_fabric.specs.Sockets.{is_among}
 use Rattle.m2_bytes_fit.specs.m2_feed.FeedNow.{FeedNow}
-use Rattle.m2_center.specs.m2_record.declared.due.Due.{Due}
-use Rattle.m2_center.specs.m2_record.declared.due.Due.TheVariants as due
-use Rattle.m2_center.specs.m2_record.Calls.{with_opened}
-use Rattle.m2_center.specs.m2_record.Due.{due_step}
-use Rattle.m2_center.specs.m2_record.RecordNow.{RecordNow, ends_of, feed_end}
-use Rattle.m2_center.specs.m2_record.Sources.{end_at}
-use Rattle.m2_center.specs.declared.records_turn.RecordsTurn.{RecordsTurn}
-use Rattle.m2_center.specs.declared.records_turn.RecordsTurn.TheVariants as turn
-use Rattle.m2_center.specs.Connecting.{AtPort, DialsFor, Takes}
-use Rattle.m2_center.specs.Halves.{AllHalves}
-use Rattle.m2_center.specs.Outbox.{is_free}
-use Rattle.m2_center.specs.RecordTurn.{Means}
-use Rattle.m2_center.specs.RecordsTurn.{AllAmid, Amid, Around, DialsAndSteps, EachTurns, TurnsEach, TurnsIf, TurnsInOrder, TurnsOne, all_amid, amid, at_port, sides_of, turning_amid}
+use Rattle.m2_turn.specs.m2_record.declared.due.Due.{Due}
+use Rattle.m2_turn.specs.m2_record.declared.due.Due.TheVariants as due
+use Rattle.m2_turn.specs.m2_record.Calls.{with_opened}
+use Rattle.m2_turn.specs.m2_record.Due.{due_step}
+use Rattle.m2_turn.specs.m2_record.RecordNow.{RecordNow, ends_of, feed_end}
+use Rattle.m2_turn.specs.m2_record.Sources.{end_at}
+use Rattle.m2_turn.specs.declared.records_turn.RecordsTurn.{RecordsTurn}
+use Rattle.m2_turn.specs.declared.records_turn.RecordsTurn.TheVariants as turn
+use Rattle.m2_turn.specs.Connecting.{AtPort, DialsFor, Takes}
+use Rattle.m2_turn.specs.Halves.{AllHalves}
+use Rattle.m2_turn.specs.Outbox.{is_free}
+use Rattle.m2_turn.specs.RecordTurn.{Means}
+use Rattle.m2_turn.specs.RecordsTurn.{AllAmid, Amid, Around, DialsAndSteps, EachTurns, TurnsEach, TurnsIf, TurnsInOrder, TurnsOne, all_amid, amid, at_port, sides_of, turning_amid}
 use Rattle.m2_growth.specs.Holding.{AreOwn, Holding, all_ends, waiting_at}
 use Rattle.m2_growth.specs.GrowthLaws.{at_records}
 use Rattle.m2_growth.specs.Records.{ends_of_all}

@@ -3,10 +3,10 @@ use Rattle.std.proofs.Common.{◌≡◌, ℕ, ◌&&◌, ◌||◌, Bool, true, fa
 use Rattle.std.specs.List.{AllByRecursion}
 use Rattle.std.specs.Option.{is_some, option_map}
 use Rattle.std.proofs.lemmas.List.Elements.{filter_map-append}
-use Rattle.m2_center.specs.m2_session.Dials.{at_rest}
+use Rattle.m2_turn.specs.m2_session.Dials.{at_rest}
 use Rattle.m2_fabric.specs.m2_bytes.declared.memory.NoMemory as memory
-use Rattle.m2_center.specs.m2_core.Calls.{IsOpening}
-use Rattle.m2_center.specs.m2_core.CoreNow.{may_dial}
+use Rattle.m2_turn.specs.m2_core.Calls.{IsOpening}
+use Rattle.m2_turn.specs.m2_core.CoreNow.{may_dial}
 use Rattle.m2_fabric.specs.declared.port.Connect.{Connect}
 use Rattle.m2_fabric.specs.declared.port.Connect.TheVariants as connect
 use Rattle.m2_fabric.specs.declared.socket.SocketId.{SocketId}
@@ -16,20 +16,20 @@ use Rattle.m2_fabric.specs.Port.{IsNewEnd, SeenPort}
 use Rattle.m2_fabric.specs.Sockets.{goes_to, is_among, same_socket}
 use Rattle.m2_bytes_fit.specs.m2_feed.FeedNow.{FeedNow}
 use Rattle.m2_weave.specs.m2_journal.declared.entry.Entry.TheVariants as entry
-use Rattle.m2_center.specs.m2_record.declared.due.Due.{Due}
-use Rattle.m2_center.specs.m2_record.declared.due.Due.TheVariants as due
-use Rattle.m2_center.specs.m2_record.Calls.{IsSameButRoom, after_missing, with_opened}
-use Rattle.m2_center.specs.m2_record.Calls as record_calls
-use Rattle.m2_center.specs.m2_record.Due.{due_step}
-use Rattle.m2_center.specs.m2_record.RecordNow.{RecordNow, ends_of, feed_end}
-use Rattle.m2_center.specs.m2_record.Sources.{end_at}
-use Rattle.m2_center.specs.m2_record.TakenTrails.{judgement_of, judgements_in}
-use Rattle.m2_center.specs.m2_session.declared.session.Phase.{Phase}
-use Rattle.m2_center.specs.m2_session.declared.session.Phase.TheVariants.{Absent, Connecting, IdentSent, ReconnectSent, Ready, Standby, Wait}
-use Rattle.m2_center.specs.m2_session.Phases as phase
-use Rattle.m2_center.specs.m2_session.Phases.{with_feed}
-use Rattle.m2_center.specs.Connecting.{AtPort, DialsFor, DialsIfDue, Takes}
-use Rattle.m2_center.specs.Halves.{AllHalves}
+use Rattle.m2_turn.specs.m2_record.declared.due.Due.{Due}
+use Rattle.m2_turn.specs.m2_record.declared.due.Due.TheVariants as due
+use Rattle.m2_turn.specs.m2_record.Calls.{IsSameButRoom, after_missing, with_opened}
+use Rattle.m2_turn.specs.m2_record.Calls as record_calls
+use Rattle.m2_turn.specs.m2_record.Due.{due_step}
+use Rattle.m2_turn.specs.m2_record.RecordNow.{RecordNow, ends_of, feed_end}
+use Rattle.m2_turn.specs.m2_record.Sources.{end_at}
+use Rattle.m2_turn.specs.m2_record.TakenTrails.{judgement_of, judgements_in}
+use Rattle.m2_turn.specs.m2_session.declared.session.Phase.{Phase}
+use Rattle.m2_turn.specs.m2_session.declared.session.Phase.TheVariants.{Absent, Connecting, IdentSent, ReconnectSent, Ready, Standby, Wait}
+use Rattle.m2_turn.specs.m2_session.Phases as phase
+use Rattle.m2_turn.specs.m2_session.Phases.{with_feed}
+use Rattle.m2_turn.specs.Connecting.{AtPort, DialsFor, DialsIfDue, Takes}
+use Rattle.m2_turn.specs.Halves.{AllHalves}
 use Rattle.m2_growth.specs.Ends.{AreOfTheirOwn, IsNewborn}
 use Rattle.m2_growth.specs.Holding.{AreOwn, Grows, Holding, IsToCome, LeadsElsewhere, all_ends, ends_held, waiting_at}
 use Rattle.m2_growth.specs.Records.{IsFed, ends_of_all}

@@ -1,9 +1,9 @@
 -- A text is composed only where there is one to be composed.
 use Rattle.std.proofs.Common.{◌≡◌, ℕ, Bool, true, false, if◌then◌else◌, true≢false, refl, sym, ap}
-use Rattle.m2_center.specs.m2_record.declared.due.Due.{Due}
-use Rattle.m2_center.specs.m2_record.declared.due.Due.TheVariants as due
-use Rattle.m2_center.specs.m2_record.Due.{due_step, has_frame, has_parcel, has_plan, may_compose, may_connect, may_read, may_write}
-use Rattle.m2_center.specs.m2_record.RecordNow.{RecordNow}
+use Rattle.m2_turn.specs.m2_record.declared.due.Due.{Due}
+use Rattle.m2_turn.specs.m2_record.declared.due.Due.TheVariants as due
+use Rattle.m2_turn.specs.m2_record.Due.{due_step, has_frame, has_parcel, has_plan, may_compose, may_connect, may_read, may_write}
+use Rattle.m2_turn.specs.m2_record.RecordNow.{RecordNow}
 
 -- the table of steps, by which of its rows hold
 abbrev pub first_due : (plan hand connect write frame read compose : Bool) → ℕ → Due

@@ -4,8 +4,8 @@ use Rattle.std.specs.List.{AllByRecursion, IsDistinct}
 use Rattle.m2_fabric.specs.declared.socket.SocketId.{SocketId}
 use Rattle.m2_fabric.specs.End.{SeenEnd}
 use Rattle.m2_fabric.specs.Sockets.{is_among, same_socket}
-use Rattle.m2_center.specs.m2_record.RecordNow.{ids_of}
-use Rattle.m2_center.specs.m2_record.Sources.{end_at}
+use Rattle.m2_turn.specs.m2_record.RecordNow.{ids_of}
+use Rattle.m2_turn.specs.m2_record.Sources.{end_at}
 use Rattle.m2_weave.specs.Later.{GoesOn}
 use Rattle.m2_growth.specs.Ends.{AreOfTheirOwn, BringNone, EndGrows, EndGrowsTo, EndsGrow, IsNewborn}
 use Rattle.m2_fabric.proofs.m2_lemmas.Booleans.{false_isnt_true}

@@ -1,10 +1,10 @@
 -- Each lawful entry keeps that a side asks first on the sockets that it opened, and what its bytes there are.
-use Rattle.std.proofs.Common.{◌≡◌, ◌≢◌, ℕ, ◌+◌, inl, inr, Bool, true, false, ◌||◌, ◌&&◌, not, if◌then◌else◌, List, [], ◌∷◌, ◌++◌, map, Option, Some, None, refl, sym, ap, ◌∙◌, subst, append_assoc, append-nil}
+use Rattle.std.proofs.Common.{◌≡◌, ◌≢◌, ℕ, ◌+◌, inl, inr, Bool, true, false, not, if◌then◌else◌, List, [], ◌∷◌, ◌++◌, map, Option, Some, None, refl, sym, ap, ◌∙◌, subst, append_assoc, append-nil}
 use Rattle.std.specs.Prelude.{IfSome}
 use Rattle.std.specs.List.{AllByRecursion, filter}
-use Rattle.m2_center.specs.m2_session.declared.ask.AskFacts.{AskFacts}
-use Rattle.m2_center.specs.m2_session.Asks as asks
-use Rattle.m2_center.specs.m2_session.Asks.{told_of_ident, told_of_reconnect}
+use Rattle.m2_turn.specs.m2_session.declared.ask.AskFacts.{AskFacts}
+use Rattle.m2_turn.specs.m2_session.Asks as asks
+use Rattle.m2_turn.specs.m2_session.Asks.{told_of_ident, told_of_reconnect}
 use Rattle.m2_weave.specs.m2_control.declared.control.Control.TheVariants as control
 use Rattle.m2_fabric.specs.declared.socket.SocketId.{SocketId}
 use Rattle.m2_fabric.specs.Sockets.{is_among, same_socket}
@@ -12,19 +12,19 @@ use Rattle.m2_dispatch.specs.m2_message.Message.{Content}
 use Rattle.m2_dispatch.specs.m2_policy.declared.path.Key.{Key}
 use Rattle.m2_dispatch.specs.m2_queues.OutQueues.{message_at}
 use Rattle.m2_dispatch.specs.m2_queues.QueueLaws.{Next}
-use Rattle.m2_center.specs.m2_session.declared.answer.Answer.{Answer}
-use Rattle.m2_center.specs.m2_session.declared.answer.Answer.TheVariants as answer
-use Rattle.m2_center.specs.m2_session.declared.event.Event.{Event}
-use Rattle.m2_center.specs.m2_session.declared.event.Event.TheVariants as event
-use Rattle.m2_center.specs.m2_session.declared.session.Phase.{Phase}
-use Rattle.m2_center.specs.m2_session.declared.session.Phase.TheVariants as phase
-use Rattle.m2_center.specs.m2_session.declared.session.Session.{Session}
-use Rattle.m2_center.specs.m2_session.Ident.{ident_answer}
-use Rattle.m2_center.specs.m2_session.SessionLaws as session
-use Rattle.m2_center.specs.m2_session.SessionLaws.{ident_event, reconnect_event, takes}
-use Rattle.m2_center.specs.m2_session.Reconnect.{Reconnect, reconnect_answer}
-use Rattle.m2_center.specs.m2_session.Steps.{step_of}
-use Rattle.m2_center.proofs.m2_session.Answers.{taken_is_ready_lem}
+use Rattle.m2_turn.specs.m2_session.declared.answer.Answer.{Answer}
+use Rattle.m2_turn.specs.m2_session.declared.answer.Answer.TheVariants as answer
+use Rattle.m2_turn.specs.m2_session.declared.event.Event.{Event}
+use Rattle.m2_turn.specs.m2_session.declared.event.Event.TheVariants as event
+use Rattle.m2_turn.specs.m2_session.declared.session.Phase.{Phase}
+use Rattle.m2_turn.specs.m2_session.declared.session.Phase.TheVariants as phase
+use Rattle.m2_turn.specs.m2_session.declared.session.Session.{Session}
+use Rattle.m2_turn.specs.m2_session.Ident.{ident_answer}
+use Rattle.m2_turn.specs.m2_session.SessionLaws as session
+use Rattle.m2_turn.specs.m2_session.SessionLaws.{ident_event, reconnect_event, takes}
+use Rattle.m2_turn.specs.m2_session.Reconnect.{Reconnect, reconnect_answer}
+use Rattle.m2_turn.specs.m2_session.Steps.{step_of}
+use Rattle.m2_turn.proofs.m2_session.Answers.{taken_is_ready_lem}
 use Rattle.m2_weave.specs.m2_journal.Feeds.{answer_said, begun, finished, hears, narrowed, next_said, texts_at}
 use Rattle.m2_weave.specs.m2_journal.Items as item
 use Rattle.m2_weave.specs.m2_journal.Items.{JournalItem}

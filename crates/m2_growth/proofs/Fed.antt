@@ -1,17 +1,17 @@
 -- A record has a feed where its phase has one, as the state has to which its journal leads.
 use Rattle.std.proofs.Common.{◌≡◌, Option, Some, None, refl, sym, ap, subst, ◌∙◌}
 use Rattle.std.specs.Option.{is_some}
-use Rattle.m2_center.specs.m2_core.Agrees.{FeedsAgree}
+use Rattle.m2_turn.specs.m2_core.Agrees.{FeedsAgree}
 use Rattle.m2_bytes_fit.specs.m2_feed.FeedNow.{FeedNow}
 use Rattle.m2_weave.specs.m2_journal.Items.{items_of}
 use Rattle.m2_weave.specs.m2_journal.Laws as journal
 use Rattle.m2_weave.specs.m2_journal.SideFacts.{SideFacts}
 use Rattle.m2_weave.specs.m2_journal.State.{Feed, State}
 use Rattle.m2_weave.proofs.m2_journal.Fed.{are_lawful}
-use Rattle.m2_center.specs.m2_session.declared.session.Session.{Session}
-use Rattle.m2_center.specs.m2_session.Phases.{is_among, with_feed}
-use Rattle.m2_center.specs.m2_record.IsRecord.{IsRecord}
-use Rattle.m2_center.specs.m2_record.RecordNow.{RecordNow, speaks_of}
+use Rattle.m2_turn.specs.m2_session.declared.session.Session.{Session}
+use Rattle.m2_turn.specs.m2_session.Phases.{is_among, with_feed}
+use Rattle.m2_turn.specs.m2_record.IsRecord.{IsRecord}
+use Rattle.m2_turn.specs.m2_record.RecordNow.{RecordNow, speaks_of}
 use Rattle.m2_growth.specs.Records.{IsFed}
 
 same_some : (f : SideFacts) (s : State) (v : Option FeedNow) (d : Option Feed) → FeedsAgree f s v d → is_some v ≡ is_some d

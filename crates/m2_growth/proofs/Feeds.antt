@@ -4,12 +4,12 @@ use Rattle.std.specs.List.{AllByRecursion, filter}
 use Rattle.m2_weave.specs.m2_control.Banner.{begins}
 use Rattle.m2_fabric.specs.declared.socket.SocketId.{SocketId}
 use Rattle.m2_fabric.specs.Sockets.{is_among, same_socket}
-use Rattle.m2_center.specs.m2_handshake.Course.{Course, course_of, text_of}
-use Rattle.m2_center.specs.m2_handshake.Moves.{is_authed}
-use Rattle.m2_center.specs.m2_handshake.Standing.{Standing, fed, opener_at_start}
-use Rattle.m2_center.specs.m2_session.declared.session.Phase.{Phase}
-use Rattle.m2_center.specs.m2_session.declared.session.Phase.TheVariants as phase
-use Rattle.m2_center.specs.m2_session.Phases as phases
+use Rattle.m2_turn.specs.m2_handshake.Course.{Course, course_of, text_of}
+use Rattle.m2_turn.specs.m2_handshake.Moves.{is_authed}
+use Rattle.m2_turn.specs.m2_handshake.Standing.{Standing, fed, opener_at_start}
+use Rattle.m2_turn.specs.m2_session.declared.session.Phase.{Phase}
+use Rattle.m2_turn.specs.m2_session.declared.session.Phase.TheVariants as phase
+use Rattle.m2_turn.specs.m2_session.Phases as phases
 use Rattle.m2_weave.specs.m2_journal.Feeds.{acknowledgements, finished, goes_on, greets, hears, hears_at, keepalive_answers, narrowed, opened_feed, signs, silent_feed, split_into, texts_at, unnamed, without_first}
 use Rattle.m2_weave.specs.m2_journal.Laws.{IfFed}
 use Rattle.m2_weave.specs.m2_journal.OutFrames.{OutFrame, is_unnamed}

@@ -28,14 +28,14 @@ use Rattle.m2_dispatch.specs.m2_frame.Text as frame
 use Rattle.m2_dispatch.specs.m2_frame.declared.tag.Tag.TheVariants as tag
 use Rattle.m2_dispatch.specs.m2_frame.declared.tag.TheConstants.{FIRST_TAG, LAST_TAG}
 use Rattle.m2_dispatch.specs.m2_frame.Tags.{tag_number}
-use Rattle.m2_center.specs.m2_handshake.declared.ask.Ask.{Ask}
-use Rattle.m2_center.specs.m2_handshake.declared.ask.Ask.TheVariants.{Ident, Reconnect}
-use Rattle.m2_center.specs.m2_handshake.declared.fault.HalfFault.{HalfFault}
-use Rattle.m2_center.specs.m2_handshake.declared.fault.HalfFault.TheVariants as fault
-use Rattle.m2_center.specs.m2_handshake.Asks.{is_known, known_main, under, asked, asked_of, ask_in}
-use Rattle.m2_center.specs.m2_handshake.Greeting.{addrs_of}
-use Rattle.m2_center.specs.m2_handshake.Reading.{of_payload, payload_in}
-use Rattle.m2_center.proofs.m2_handshake.Greeting.{no_bytes, address_bytes}
+use Rattle.m2_turn.specs.m2_handshake.declared.ask.Ask.{Ask}
+use Rattle.m2_turn.specs.m2_handshake.declared.ask.Ask.TheVariants.{Ident, Reconnect}
+use Rattle.m2_turn.specs.m2_handshake.declared.fault.HalfFault.{HalfFault}
+use Rattle.m2_turn.specs.m2_handshake.declared.fault.HalfFault.TheVariants as fault
+use Rattle.m2_turn.specs.m2_handshake.Asks.{is_known, known_main, under, asked, asked_of, ask_in}
+use Rattle.m2_turn.specs.m2_handshake.Greeting.{addrs_of}
+use Rattle.m2_turn.specs.m2_handshake.Reading.{of_payload, payload_in}
+use Rattle.m2_turn.proofs.m2_handshake.Greeting.{no_bytes, address_bytes}
 use Rattle.m2_weave.specs.m2_journal.Laws.{IsWritable}
 use Rattle.m2_weave.specs.m2_journal.OutFrames as out
 use Rattle.m2_weave.specs.m2_journal.OutFrames.{OutFrame, is_unnamed}

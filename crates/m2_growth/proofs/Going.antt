@@ -1,7 +1,7 @@
 -- What grows, and grows further, grows.
 use Rattle.std.proofs.Common.{◌≡◌, ◌⊎◌, inl, inr, ℕ, ◌≤◌, List, [], ◌∷◌, ◌++◌, length, refl, sym, ap, subst, ◌∙◌, append-nil, append_assoc, length-append, arith}
-use Rattle.m2_center.specs.m2_record.RecordNow.{RecordNow}
-use Rattle.m2_center.specs.Halves.{AllHalves}
+use Rattle.m2_turn.specs.m2_record.RecordNow.{RecordNow}
+use Rattle.m2_turn.specs.Halves.{AllHalves}
 use Rattle.m2_bytes_fit.specs.m2_trail.Arrivals.{LooseNow}
 use Rattle.m2_bytes_fit.specs.m2_trail.Trails.{TrailNow}
 use Rattle.m2_weave.specs.Later.{GoesOn}

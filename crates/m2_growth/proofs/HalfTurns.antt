@@ -12,22 +12,22 @@ use Rattle.m2_bytes_fit.specs.m2_trail.HalfLaws.{IsLaterTrail}
 use Rattle.m2_bytes_fit.specs.m2_trail.TurnMoves.{Makes, MakesMove, Move, answers, reads, writes}
 use Rattle.m2_bytes_fit.specs.m2_trail.Turn.{AdvancesAs, Moves}
 use Rattle.m2_bytes_fit.proofs.m2_trail.Later.{by_turn}
-use Rattle.m2_center.specs.m2_handshake.Asks.{is_known, same_addr}
+use Rattle.m2_turn.specs.m2_handshake.Asks.{is_known, same_addr}
 use Rattle.m2_weave.specs.m2_journal.State.{Judgement}
-use Rattle.m2_center.specs.m2_record.RecordNow.{RecordNow}
-use Rattle.m2_center.specs.m2_record.Sources.{end_at}
-use Rattle.m2_center.specs.declared.answering.HalfAnswered.{HalfAnswered}
-use Rattle.m2_center.specs.declared.answering.HalfAnswered.TheVariants as half
-use Rattle.m2_center.specs.declared.half_turn.HalfTurned.{HalfTurned}
-use Rattle.m2_center.specs.declared.half_turn.HalfTurned.TheVariants as turned
-use Rattle.m2_center.specs.declared.halves_turn.HalvesTurn.{HalvesTurn}
-use Rattle.m2_center.specs.declared.halves_turn.HalvesTurn.TheVariants as all_turned
-use Rattle.m2_center.specs.Halves.{halves_of}
-use Rattle.m2_center.specs.HalfTurn.{AnswersFrom, ComesTo, HalfTurning, Homes, Others, Replies, TurnsHalf, TurnsOnce, asked_by, home_of_ask, judging_in, moved_by, with_moved, with_turned}
-use Rattle.m2_center.specs.HalvesTurn.{Callers, HalfTurns, HalvesTurning, OldestTurns, TurnHalves, TurnsHalves, all_wait, over_by, stays_by}
-use Rattle.m2_center.specs.RecordTurn.{Means}
-use Rattle.m2_center.specs.Sessions.{PendingNow, Sessions, is_asker, peer_of}
-use Rattle.m2_center.proofs.Turned.{IsHome, found_home, may_ask}
+use Rattle.m2_turn.specs.m2_record.RecordNow.{RecordNow}
+use Rattle.m2_turn.specs.m2_record.Sources.{end_at}
+use Rattle.m2_turn.specs.declared.answering.HalfAnswered.{HalfAnswered}
+use Rattle.m2_turn.specs.declared.answering.HalfAnswered.TheVariants as half
+use Rattle.m2_turn.specs.declared.half_turn.HalfTurned.{HalfTurned}
+use Rattle.m2_turn.specs.declared.half_turn.HalfTurned.TheVariants as turned
+use Rattle.m2_turn.specs.declared.halves_turn.HalvesTurn.{HalvesTurn}
+use Rattle.m2_turn.specs.declared.halves_turn.HalvesTurn.TheVariants as all_turned
+use Rattle.m2_turn.specs.Halves.{halves_of}
+use Rattle.m2_turn.specs.HalfTurn.{AnswersFrom, ComesTo, HalfTurning, Homes, Others, Replies, TurnsHalf, TurnsOnce, asked_by, home_of_ask, judging_in, moved_by, with_moved, with_turned}
+use Rattle.m2_turn.specs.HalvesTurn.{Callers, HalfTurns, HalvesTurning, OldestTurns, TurnHalves, TurnsHalves, all_wait, over_by, stays_by}
+use Rattle.m2_turn.specs.RecordTurn.{Means}
+use Rattle.m2_turn.specs.Sessions.{PendingNow, Sessions, is_asker, peer_of}
+use Rattle.m2_turn.proofs.Turned.{IsHome, found_home, may_ask}
 use Rattle.m2_bytes_fit.specs.m2_trail.declared.step.IncomingStep.{IncomingStep}
 use Rattle.m2_bytes_fit.specs.m2_trail.declared.step.IncomingStep.TheVariants as step
 use Rattle.m2_bytes_fit.specs.m2_trail.Arrivals.{IsArrival, closed_of}
@@ -50,7 +50,7 @@ use Rattle.m2_growth.proofs.Judged.{this_held, JudgesAlone, JudgesOn, Takes, rec
 use Rattle.m2_growth.proofs.OneRecord.{holding}
 use Rattle.m2_growth.proofs.Owned.{own_all}
 use Rattle.m2_fabric.proofs.m2_lemmas.Booleans.{false_isnt_true}
-use Rattle.m2_center.proofs.m2_handshake.Idents.{same_means}
+use Rattle.m2_turn.proofs.m2_handshake.Idents.{same_means}
 use Rattle.m2_fabric.proofs.m2_lemmas.Lists.{all_so_of}
 
 -- ---- a half moves on
@@ -210,7 +210,8 @@ at_home {E} c rs a place peer side behind answer home own by so = at answer so
     at (half.Taken given) t = record_takes c rs (asked_by a peer) place peer side behind own (takes_it c rs a place peer side behind home own by t)
     at (half.Open b) (k, g) = further b k g
     at (half.Closed l) (k, g) = grows_then (held_with c rs (asked_by a peer)) (held_with c ss (asked_by a peer)) (held_over c ss l) (judged k) (half_over c ss (asked_by a peer) l (judged k).own g.end g.trail)
-    at (half.Asked b) (k, g) = further b k g
+    at (half.Undrawn b) (k, g) = further b k g
+    at (half.NoMemory b) (k, g) = further b k g
 
 -- the half is over, and no record answers
 closes : (c : Around) (rs : List RecordNow) (p : PendingNow) → AreOwn (held_with c rs p) → Grows (held_with c rs p) (held_over c rs (closed_of p.half))

@@ -1,6 +1,6 @@
 -- A half that reads what a side writes on a socket that it opened is asked under that side's address alone: its first ask is the
 -- first frame behind the greeting, and later ones are taken under the address of the first.
-use Rattle.std.proofs.Common.{◌≡◌, ℕ, ◌⊎◌, inl, inr, ◌==◌, ◌&&◌, List, [], ◌∷◌, ◌++◌, length, drop, map, Option, Some, None, Result, Ok, Err, refl, sym, ap, ◌∙◌, subst}
+use Rattle.std.proofs.Common.{◌≡◌, ℕ, ◌⊎◌, inl, inr, ◌==◌, List, [], ◌∷◌, ◌++◌, length, drop, map, Option, Some, None, Result, Ok, Err, refl, sym, ap, ◌∙◌, subst}
 use Rattle.std.specs.List.{AllByRecursion}
 use Rattle.std.proofs.lemmas.Grind.{flat_map-append}
 use Rattle.m2_fabric.specs.m2_addr.declared.addr.Addr.{Addr}
@@ -8,28 +8,28 @@ use Rattle.m2_weave.specs.m2_control.declared.control.Control.{Control}
 use Rattle.m2_weave.specs.m2_control.declared.control.Control.TheVariants as control
 use Rattle.m2_dispatch.specs.m2_frame.Frame.{Parts, message_tag}
 use Rattle.m2_dispatch.specs.m2_frame.Text as frame
-use Rattle.m2_center.specs.m2_handshake.declared.ask.Ask.{Ask}
-use Rattle.m2_center.specs.m2_handshake.declared.fault.HalfFault.{HalfFault}
-use Rattle.m2_center.specs.m2_handshake.declared.fault.HalfFault.TheVariants.{Unexpected}
-use Rattle.m2_center.specs.m2_handshake.declared.stage.HalfSide.{HalfSide}
-use Rattle.m2_center.specs.m2_handshake.declared.stage.HalfSide.TheVariants.{Acceptor}
-use Rattle.m2_center.specs.m2_handshake.declared.stage.Stage.{Stage}
-use Rattle.m2_center.specs.m2_handshake.declared.stage.Stage.TheVariants.{Opening, Banner, Waits, Authed, Asked, Ended, Faulty}
-use Rattle.m2_center.specs.m2_handshake.Asking.{after_reply}
-use Rattle.m2_center.specs.m2_handshake.Asks.{ask_in}
-use Rattle.m2_center.specs.m2_handshake.Course as course
-use Rattle.m2_center.specs.m2_handshake.Course.{course_move_at, course_move, signed_move, Event, silent, wrote, failed, replied, Step, rests, goes, step_by, step_of, answered, Goes, Runs, asks_in, replies_in, asks_of, replies_of, Exchange, Reaches}
-use Rattle.m2_center.specs.m2_handshake.Greeting.{greeting}
-use Rattle.m2_center.specs.m2_handshake.Laws.{GoesOnTo}
-use Rattle.m2_center.specs.m2_handshake.Moves.{Move, stays, quiet, writes, signs, asks, fails, take_frame, after_asking, read_held, refuse_held}
-use Rattle.m2_center.specs.m2_handshake.Reading.{Found, begun, refused, framed, found_in}
-use Rattle.m2_center.specs.m2_handshake.Standing.{Standing, fed, acceptor_at_start}
-use Rattle.m2_center.specs.m2_handshake.Texts.{IsReply}
-use Rattle.m2_center.proofs.m2_handshake.Course.{feeds, next, ways}
-use Rattle.m2_center.proofs.m2_handshake.Greeting.{at, signs_there}
-use Rattle.m2_center.proofs.m2_handshake.Leading.{either}
-use Rattle.m2_center.proofs.m2_handshake.Reaching.{fed_twice}
-use Rattle.m2_center.proofs.m2_handshake.Sizes.{as_sent, found_sent}
+use Rattle.m2_turn.specs.m2_handshake.declared.ask.Ask.{Ask}
+use Rattle.m2_turn.specs.m2_handshake.declared.fault.HalfFault.{HalfFault}
+use Rattle.m2_turn.specs.m2_handshake.declared.stage.HalfSide.{HalfSide}
+use Rattle.m2_turn.specs.m2_handshake.declared.stage.HalfSide.TheVariants.{Acceptor}
+use Rattle.m2_turn.specs.m2_handshake.declared.stage.Stage.{Stage}
+use Rattle.m2_turn.specs.m2_handshake.declared.stage.Stage.TheVariants.{Opening, Banner, Waits, Authed, Asked, Ended, Faulty}
+use Rattle.m2_turn.specs.m2_handshake.Asking.{after_reply}
+use Rattle.m2_turn.specs.m2_handshake.Asks.{ask_in}
+use Rattle.m2_turn.specs.m2_handshake.Course as course
+use Rattle.m2_turn.specs.m2_handshake.Course.{course_move_at, course_move, signed_move, Event, silent, wrote, failed, replied, Step, rests, goes, step_by, step_of, answered, Goes, Runs, asks_in, replies_in, asks_of, replies_of, Exchange, Reaches}
+use Rattle.m2_turn.specs.m2_handshake.Greeting.{greeting}
+use Rattle.m2_turn.specs.m2_handshake.Laws.{GoesOnTo}
+use Rattle.m2_turn.specs.m2_handshake.Moves.{Move, stays, quiet, writes, signs, asks, fails, take_frame, after_asking, read_held, refuse_held}
+use Rattle.m2_turn.specs.m2_handshake.Standing.{Standing, fed, acceptor_at_start}
+use Rattle.m2_turn.specs.m2_handshake.Texts.{IsReply}
+use Rattle.m2_turn.proofs.m2_handshake.Course.{feeds, next, ways}
+use Rattle.m2_turn.proofs.m2_handshake.Greeting.{at, signs_there}
+use Rattle.m2_turn.proofs.m2_handshake.Reaching.{fed_twice}
+use Rattle.m2_turn.specs.m2_handshake.declared.fault.HalfFault.TheVariants.{Unexpected}
+use Rattle.m2_turn.specs.m2_handshake.Reading.{Found, begun, refused, framed, found_in}
+use Rattle.m2_turn.proofs.m2_handshake.Leading.{either}
+use Rattle.m2_turn.proofs.m2_handshake.Sizes.{as_sent, found_sent}
 use Rattle.m2_weave.specs.m2_journal.OutFrames.{OutFrame}
 use Rattle.m2_weave.specs.m2_journal.SideFacts.{SideFacts}
 use Rattle.m2_bytes_fit.specs.m2_trail.Asks.{IsMain}
@@ -41,7 +41,7 @@ use Rattle.m2_bytes_fit.proofs.Says.{part}
 use Rattle.m2_bytes_fit.specs.m2_never_reset.Frames.{ask_of}
 use Rattle.m2_growth.specs.AskLaws.{AskedBy}
 use Rattle.m2_growth.proofs.Frames.{BeginsAs, IsMine, IsUnder, MayBegin, asks_under, begins_as}
-use Rattle.m2_center.proofs.m2_handshake.Idents.{same_means}
+use Rattle.m2_turn.proofs.m2_handshake.Idents.{same_means}
 use Rattle.m2_fabric.proofs.m2_lemmas.Lists.{all_append, empty_front}
 
 -- ---- where it stands

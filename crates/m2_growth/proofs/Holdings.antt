@@ -7,11 +7,11 @@ use Rattle.m2_fabric.specs.End.{SeenEnd}
 use Rattle.m2_fabric.specs.Port.{SeenPort}
 use Rattle.m2_fabric.specs.Sockets.{goes_to, is_among}
 use Rattle.m2_weave.specs.m2_journal.SideFacts.{SideFacts}
-use Rattle.m2_center.specs.m2_record.RecordNow.{RecordNow}
-use Rattle.m2_center.specs.m2_record.Sources.{end_at}
-use Rattle.m2_center.specs.Halves.{AllHalves, halves_of}
-use Rattle.m2_center.specs.Hearing.{ends_in}
-use Rattle.m2_center.specs.Sessions.{PendingNow, peer_of}
+use Rattle.m2_turn.specs.m2_record.RecordNow.{RecordNow}
+use Rattle.m2_turn.specs.m2_record.Sources.{end_at}
+use Rattle.m2_turn.specs.Halves.{AllHalves, halves_of}
+use Rattle.m2_turn.specs.Hearing.{ends_in}
+use Rattle.m2_turn.specs.Sessions.{PendingNow, peer_of}
 use Rattle.m2_bytes_fit.specs.m2_trail.Arrivals.{LooseNow, left_of}
 use Rattle.m2_growth.specs.Ends.{BringNone, EndGrows, EndGrowsTo, EndsGrow}
 use Rattle.m2_growth.specs.Halves.{AreAskedByPeers, HalvesStay, HasItsHalves, IsHeardBy, IsLeft, IsOneOf, IsTakenBy, TrailGrows, all_left, sockets_left, sockets_taken}

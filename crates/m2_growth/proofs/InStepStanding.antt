@@ -5,8 +5,8 @@ use Rattle.std.specs.Option.{is_some}
 use Rattle.m2_fabric.specs.declared.socket.SocketId.{SocketId}
 use Rattle.m2_fabric.specs.End.{SeenEnd}
 use Rattle.m2_fabric.specs.Sockets.{is_among, same_socket}
-use Rattle.m2_center.specs.m2_record.RecordNow.{ids_of}
-use Rattle.m2_center.specs.m2_record.Sources.{end_at}
+use Rattle.m2_turn.specs.m2_record.RecordNow.{ids_of}
+use Rattle.m2_turn.specs.m2_record.Sources.{end_at}
 use Rattle.m2_growth.specs.Ends.{AreOfTheirOwn}
 use Rattle.m2_growth.specs.Holding.{AreOwn, Grows, Holding, all_ends, ends_held, waiting_at}
 use Rattle.m2_growth.proofs.Ends.{end_append, first_of, own_apart}

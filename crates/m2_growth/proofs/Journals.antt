@@ -1,12 +1,12 @@
 -- What the entries of a journal say of a socket that it opened: the items have opened it, no half was taken there, and what was
 -- written there is all that its end has put.
-use Rattle.std.proofs.Common.{◌≡◌, ℕ, ◌+◌, ◌⊎◌, inl, inr, Bool, true, false, ◌||◌, if◌then◌else◌, List, [], ◌∷◌, ◌++◌, length, map, take, drop, drop-drop, None, refl, sym, ap, ◌∙◌, append_assoc, append-nil, arith}
+use Rattle.std.proofs.Common.{◌≡◌, ℕ, ◌⊎◌, inl, inr, Bool, true, false, if◌then◌else◌, List, [], ◌∷◌, ◌++◌, length, map, take, drop, drop-drop, None, refl, sym, ap, ◌∙◌, append_assoc, append-nil, arith}
 use Rattle.std.proofs.lemmas.Bool.{or_cases}
 use Rattle.std.proofs.lemmas.List.{drop_all, take-append-drop}
 use Rattle.m2_fabric.specs.declared.socket.SocketId.{SocketId}
 use Rattle.m2_fabric.specs.Sockets.{is_among, same_socket}
-use Rattle.m2_center.specs.m2_session.declared.event.Event.TheVariants as event
-use Rattle.m2_center.specs.m2_session.SessionLaws.{takes}
+use Rattle.m2_turn.specs.m2_session.declared.event.Event.TheVariants as event
+use Rattle.m2_turn.specs.m2_session.SessionLaws.{takes}
 use Rattle.m2_weave.specs.m2_journal.declared.entry.Entry.{Entry}
 use Rattle.m2_weave.specs.m2_journal.declared.entry.Entry.TheVariants as entry
 use Rattle.m2_weave.specs.m2_journal.Items as item
@@ -17,8 +17,8 @@ use Rattle.m2_weave.specs.m2_journal.SideFacts.{SideFacts}
 use Rattle.m2_weave.specs.m2_journal.State.{State}
 use Rattle.m2_weave.specs.m2_journal.Steps.{after}
 use Rattle.m2_bytes_fit.proofs.m2_never_reset.Sockets.{by_either}
-use Rattle.m2_center.specs.m2_record.Sources.{trail_at}
-use Rattle.m2_center.specs.m2_record.TakenTrails.{taken_in}
+use Rattle.m2_turn.specs.m2_record.Sources.{trail_at}
+use Rattle.m2_turn.specs.m2_record.TakenTrails.{taken_in}
 use Rattle.m2_bytes_fit.specs.m2_trail.Trails.{TrailNow}
 use Rattle.m2_weave.specs.declared.strand.StrandItem.TheVariants.{Noted}
 use Rattle.m2_weave.specs.Strands.{has_opened, journal_of, opens}
@@ -26,7 +26,7 @@ use Rattle.m2_bytes_fit.specs.Ends.{takings_on, wrote_on}
 use Rattle.m2_bytes_fit.proofs.Growing.{entry_grows}
 use Rattle.m2_bytes_fit.proofs.Less.{tells_less}
 use Rattle.m2_bytes_fit.proofs.Lists.{not_nil}
-use Rattle.m2_center.proofs.m2_record.TrailsAt.{no_trail}
+use Rattle.m2_turn.proofs.m2_record.TrailsAt.{no_trail}
 use Rattle.m2_weave.proofs.m2_journal.JudgedOn.{raised_here}
 use Rattle.m2_fabric.proofs.Sockets.{among_last, among_front, same_equal}
 use Rattle.m2_fabric.proofs.m2_lemmas.Booleans.{from_false_true}

@@ -6,12 +6,12 @@ use Rattle.m2_fabric.specs.m2_addr.declared.addr.Addr.{Addr}
 use Rattle.m2_fabric.specs.declared.socket.SocketId.{SocketId}
 use Rattle.m2_fabric.specs.End.{SeenEnd}
 use Rattle.m2_fabric.specs.Sockets.{goes_to, is_among}
-use Rattle.m2_center.specs.m2_handshake.Asks.{same_addr}
-use Rattle.m2_center.specs.m2_record.RecordNow.{RecordNow, ends_of}
-use Rattle.m2_center.specs.Hearing.{ends_in}
-use Rattle.m2_center.specs.Sessions.{PendingNow, is_asker, peer_of}
-use Rattle.m2_center.proofs.Peers.{each_of_two, same_peers, with_one}
-use Rattle.m2_center.proofs.Turned.{IsHome}
+use Rattle.m2_turn.specs.m2_handshake.Asks.{same_addr}
+use Rattle.m2_turn.specs.m2_record.RecordNow.{RecordNow, ends_of}
+use Rattle.m2_turn.specs.Hearing.{ends_in}
+use Rattle.m2_turn.specs.Sessions.{PendingNow, is_asker, peer_of}
+use Rattle.m2_turn.proofs.Peers.{each_of_two, same_peers, with_one}
+use Rattle.m2_turn.proofs.Turned.{IsHome}
 use Rattle.m2_bytes_fit.specs.m2_trail.Arrivals.{LooseNow}
 use Rattle.m2_bytes_fit.specs.m2_trail.Trails.{TrailNow}
 use Rattle.m2_growth.specs.Halves.{AskedOnMade, IsAskedByPeer, judged_since, HasItsHalves, IsHeardBy, IsLeft, IsOneOf, IsTakenBy, TrailGrows, all_left, asked_on, sockets_left, sockets_taken, AskedTowards, OneJudge}

@@ -5,14 +5,14 @@ use Rattle.std.specs.List.{AllByRecursion, IsDistinct}
 use Rattle.m2_fabric.specs.m2_addr.declared.addr.Addr.{Addr}
 use Rattle.m2_fabric.specs.declared.socket.SocketId.{SocketId}
 use Rattle.m2_fabric.specs.Sockets.{is_among}
-use Rattle.m2_center.specs.m2_handshake.Asks.{same_addr}
-use Rattle.m2_center.specs.m2_record.RecordNow.{RecordNow}
-use Rattle.m2_center.specs.Sessions.{peer_of}
-use Rattle.m2_center.proofs.Peers.{each_of_two, with_one}
-use Rattle.m2_center.proofs.Turned.{IsHome}
+use Rattle.m2_turn.specs.m2_handshake.Asks.{same_addr}
+use Rattle.m2_turn.specs.m2_record.RecordNow.{RecordNow}
+use Rattle.m2_turn.specs.Sessions.{peer_of}
+use Rattle.m2_turn.proofs.Peers.{each_of_two, with_one}
+use Rattle.m2_turn.proofs.Turned.{IsHome}
 use Rattle.m2_growth.specs.Halves.{JudgeApart, OneJudge, asked_on}
 use Rattle.m2_fabric.proofs.m2_lemmas.Booleans.{not_true_is_false, false_isnt_true}
-use Rattle.m2_center.proofs.m2_handshake.Idents.{same_means}
+use Rattle.m2_turn.proofs.m2_handshake.Idents.{same_means}
 use Rattle.m2_fabric.proofs.m2_lemmas.Lists.{all_so, all_of_map}
 
 -- ---- no record judges

@@ -6,15 +6,15 @@ use Rattle.m2_fabric.specs.declared.socket.SocketId.{SocketId}
 use Rattle.m2_fabric.specs.End.{SeenEnd}
 use Rattle.m2_fabric.specs.Port.{SeenPort}
 use Rattle.m2_fabric.specs.Sockets.{goes_to, is_among}
-use Rattle.m2_center.specs.m2_handshake.Asks.{same_addr}
+use Rattle.m2_turn.specs.m2_handshake.Asks.{same_addr}
 use Rattle.m2_weave.specs.m2_journal.State.{Judgement}
-use Rattle.m2_center.specs.m2_record.Calls.{IsSameButRoom}
-use Rattle.m2_center.specs.m2_record.RecordNow.{RecordNow, ends_of}
-use Rattle.m2_center.specs.m2_record.TakenTrails.{judgements_in}
-use Rattle.m2_center.specs.Beside.{MadeOn}
-use Rattle.m2_center.specs.Halves.{AllHalves}
-use Rattle.m2_center.specs.Hearing.{ends_in}
-use Rattle.m2_center.specs.Sessions.{PendingNow, is_asker, peer_of}
+use Rattle.m2_turn.specs.m2_record.Calls.{IsSameButRoom}
+use Rattle.m2_turn.specs.m2_record.RecordNow.{RecordNow, ends_of}
+use Rattle.m2_turn.specs.m2_record.TakenTrails.{judgements_in}
+use Rattle.m2_turn.specs.Beside.{MadeOn}
+use Rattle.m2_turn.specs.Halves.{AllHalves}
+use Rattle.m2_turn.specs.Hearing.{ends_in}
+use Rattle.m2_turn.specs.Sessions.{PendingNow, is_asker, peer_of}
 use Rattle.m2_bytes_fit.specs.m2_trail.Arrivals.{LooseNow}
 use Rattle.m2_bytes_fit.specs.m2_trail.Trails.{TrailNow}
 use Rattle.m2_weave.specs.Later.{GoesOn}

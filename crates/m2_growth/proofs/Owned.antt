@@ -5,7 +5,7 @@ use Rattle.m2_fabric.specs.declared.socket.SocketId.{SocketId}
 use Rattle.m2_fabric.specs.End.{SeenEnd}
 use Rattle.m2_fabric.specs.Port.{SeenPort}
 use Rattle.m2_fabric.specs.Sockets.{goes_to, is_among, same_socket}
-use Rattle.m2_center.specs.m2_record.Sources.{end_at}
+use Rattle.m2_turn.specs.m2_record.Sources.{end_at}
 use Rattle.m2_growth.specs.Ends.{AreOfTheirOwn}
 use Rattle.m2_growth.specs.Holding.{AreOwn, Holding, IsToCome, all_ends, ends_held, waiting_at}
 use Rattle.m2_growth.proofs.Ends.{AreApart, among_or_not, made_none, none_cons, own_join}

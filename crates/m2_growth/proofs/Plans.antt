@@ -3,10 +3,10 @@ use Rattle.std.proofs.Common.{◌≡◌, inl, inr, ℕ, zero, suc, List, [], ◌
 use Rattle.std.specs.Prelude.{slice_get, slice_set}
 use Rattle.m2_fabric.specs.m2_bytes.declared.memory.NoMemory as memory
 use Rattle.m2_weave.specs.m2_journal.declared.facts.PlanStep.{PlanStep}
-use Rattle.m2_center.specs.m2_record.Calls.{planned_too}
-use Rattle.m2_center.specs.m2_record.RecordNow.{RecordNow, ends_of}
-use Rattle.m2_center.specs.Planning.{PlansNow, TakesNew}
-use Rattle.m2_center.proofs.GoesOn as journals
+use Rattle.m2_turn.specs.m2_record.Calls.{planned_too}
+use Rattle.m2_turn.specs.m2_record.RecordNow.{RecordNow, ends_of}
+use Rattle.m2_turn.specs.Planning.{PlansNow, TakesNew}
+use Rattle.m2_turn.proofs.GoesOn as journals
 use Rattle.m2_growth.specs.Holding.{AreOwn, Grows}
 use Rattle.m2_growth.specs.GrowthLaws.{PlansGrow, at_plans}
 use Rattle.m2_growth.proofs.Ends.{AreLater, later_by}

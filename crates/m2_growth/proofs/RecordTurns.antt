@@ -4,19 +4,19 @@ use Rattle.std.proofs.lemmas.List.Elements.{filter_map-append}
 use Rattle.m2_dispatch.specs.Heard.{Heard}
 use Rattle.m2_weave.specs.m2_journal.declared.entry.Entry.{Entry}
 use Rattle.m2_weave.specs.m2_journal.declared.entry.Entry.TheVariants as entry
-use Rattle.m2_center.specs.m2_record.RecordNow.{RecordNow}
-use Rattle.m2_center.specs.m2_record.TakenTrails.{judgement_of, judgements_in}
-use Rattle.m2_center.specs.declared.record_turn.RecordTurn.{RecordTurn}
-use Rattle.m2_center.specs.declared.record_turn.RecordTurn.TheVariants as one
-use Rattle.m2_center.specs.declared.records_turn.RecordsTurn.{RecordsTurn}
-use Rattle.m2_center.specs.declared.records_turn.RecordsTurn.TheVariants as turn
-use Rattle.m2_center.specs.Halves.{AllHalves}
-use Rattle.m2_center.specs.Outbox.{is_free}
-use Rattle.m2_center.specs.RecordTurn.{EndsBy, Means, Steps, TakesStep, Turning, TurnsAs}
-use Rattle.m2_center.specs.RecordsTurn.{AllAmid, Amid, Around, DialsAndSteps, EachTurns, TurnsIf, TurnsInOrder, TurnsOne, all_amid, amid, at_port, sides_of, turning_amid}
-use Rattle.m2_center.specs.Steps.{BringsNoSocket}
-use Rattle.m2_center.specs.Steps as journal
-use Rattle.m2_center.proofs.GoesOn as journals
+use Rattle.m2_turn.specs.m2_record.RecordNow.{RecordNow}
+use Rattle.m2_turn.specs.m2_record.TakenTrails.{judgement_of, judgements_in}
+use Rattle.m2_turn.specs.declared.record_turn.RecordTurn.{RecordTurn}
+use Rattle.m2_turn.specs.declared.record_turn.RecordTurn.TheVariants as one
+use Rattle.m2_turn.specs.declared.records_turn.RecordsTurn.{RecordsTurn}
+use Rattle.m2_turn.specs.declared.records_turn.RecordsTurn.TheVariants as turn
+use Rattle.m2_turn.specs.Halves.{AllHalves}
+use Rattle.m2_turn.specs.Outbox.{is_free}
+use Rattle.m2_turn.specs.RecordTurn.{EndsBy, Means, Steps, TakesStep, Turning, TurnsAs}
+use Rattle.m2_turn.specs.RecordsTurn.{AllAmid, Amid, Around, DialsAndSteps, EachTurns, TurnsIf, TurnsInOrder, TurnsOne, all_amid, amid, at_port, sides_of, turning_amid}
+use Rattle.m2_turn.specs.Steps.{BringsNoSocket}
+use Rattle.m2_turn.specs.Steps as journal
+use Rattle.m2_turn.proofs.GoesOn as journals
 use Rattle.m2_growth.specs.Holding.{AreOwn, Grows, Holding}
 use Rattle.m2_growth.specs.GrowthLaws.{RecordTurnsGrow, at_records}
 use Rattle.m2_growth.proofs.Dials.{dials}
@@ -25,7 +25,7 @@ use Rattle.m2_growth.proofs.Going.{grows_by, grows_then}
 use Rattle.m2_growth.proofs.OneRecord.{Advances, holding, one_advances}
 use Rattle.m2_growth.proofs.Standing.{MovesOn, moves_chain, moves_same}
 use Rattle.m2_growth.proofs.Steps.{steps}
-use Rattle.m2_center.proofs.Known.{none_judged}
+use Rattle.m2_turn.proofs.Known.{none_judged}
 
 -- ---- what steps one after another do to a record
 

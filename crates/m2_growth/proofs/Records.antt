@@ -7,23 +7,23 @@ use Rattle.m2_fabric.specs.m2_addr.declared.addr.Addr.{Addr}
 use Rattle.m2_fabric.specs.m2_addr.declared.fault.AddrFault.{AddrFault}
 use Rattle.m2_fabric.specs.declared.socket.SocketId.{SocketId}
 use Rattle.m2_fabric.specs.Sockets.{is_among}
-use Rattle.m2_center.specs.m2_handshake.declared.ask.Ask.{Ask}
-use Rattle.m2_center.specs.m2_handshake.Asks.{bare_ask}
-use Rattle.m2_center.specs.m2_handshake.Course.{Exchange, Reaches}
-use Rattle.m2_center.specs.m2_handshake.Greeting.{greeting}
-use Rattle.m2_center.specs.m2_handshake.Laws.{IsPrefix}
-use Rattle.m2_center.specs.m2_handshake.Standing.{Standing, acceptor_at_start}
+use Rattle.m2_turn.specs.m2_handshake.declared.ask.Ask.{Ask}
+use Rattle.m2_turn.specs.m2_handshake.Asks.{bare_ask}
+use Rattle.m2_turn.specs.m2_handshake.Course.{Exchange, Reaches}
+use Rattle.m2_turn.specs.m2_handshake.Greeting.{greeting}
+use Rattle.m2_turn.specs.m2_handshake.Laws.{IsPrefix}
+use Rattle.m2_turn.specs.m2_handshake.Standing.{Standing, acceptor_at_start}
 use Rattle.m2_weave.specs.m2_journal.Items.{JournalItem, items_of}
 use Rattle.m2_weave.specs.m2_journal.OutFrames.{OutFrame}
 use Rattle.m2_weave.specs.m2_journal.Replay.{after_items}
 use Rattle.m2_weave.specs.m2_journal.SideFacts.{SideFacts}
 use Rattle.m2_weave.specs.m2_journal.State.{State, start}
 use Rattle.m2_bytes_fit.specs.m2_never_reset.Frames.{frames_on}
-use Rattle.m2_center.specs.m2_record.RecordNow.{ends_of, speaks_of}
+use Rattle.m2_turn.specs.m2_record.RecordNow.{ends_of, speaks_of}
 use Rattle.m2_bytes_fit.specs.m2_trail.Asks.{IsMain}
 use Rattle.m2_bytes_fit.specs.m2_trail.Trails.{opener_of}
 use Rattle.m2_bytes_fit.proofs.m2_trail.Asked.{main_stays_of}
-use Rattle.m2_center.specs.m2_record.Sources.{end_at, put_of, trail_at, written_before}
+use Rattle.m2_turn.specs.m2_record.Sources.{end_at, put_of, trail_at, written_before}
 use Rattle.m2_bytes_fit.specs.Ends.{takings_on, wrote_on}
 use Rattle.m2_bytes_fit.specs.Halves.{KeepsRanges}
 use Rattle.m2_bytes_fit.specs.Texts.{texts_of}

@@ -5,11 +5,11 @@ use Rattle.std.specs.Option.{is_some, option_to_list}
 use Rattle.m2_fabric.specs.End.{SeenEnd, after_closing}
 use Rattle.m2_bytes_fit.specs.m2_feed.FeedNow.{FeedNow}
 use Rattle.m2_weave.specs.m2_journal.declared.facts.PlanStep.{PlanStep}
-use Rattle.m2_center.specs.m2_core.Effects.{closed_if}
-use Rattle.m2_center.specs.m2_session.declared.session.Phase.{Phase}
-use Rattle.m2_center.specs.m2_session.Phases.{is_among, with_feed}
+use Rattle.m2_turn.specs.m2_core.Effects.{closed_if}
+use Rattle.m2_turn.specs.m2_session.declared.session.Phase.{Phase}
+use Rattle.m2_turn.specs.m2_session.Phases.{is_among, with_feed}
 use Rattle.m2_bytes_fit.specs.m2_trail.Trails.{TrailNow}
-use Rattle.m2_center.specs.m2_record.RecordNow.{RecordNow, feed_end}
+use Rattle.m2_turn.specs.m2_record.RecordNow.{RecordNow, feed_end}
 use Rattle.m2_growth.specs.Ends.{EndGrows}
 use Rattle.m2_growth.proofs.Calls.{closing_grows}
 use Rattle.m2_growth.proofs.Ends.{AreLater, later_before, later_behind, later_by, later_chain, later_one, later_same, later_swapped}

@@ -3,22 +3,22 @@ use Rattle.std.proofs.Common.{◌≡◌, ℕ, ◌&&◌, Bool, true, false, not, 
 use Rattle.std.specs.Option.{option_to_list}
 use Rattle.m2_fabric.specs.m2_bytes.declared.memory.NoMemory as memory
 use Rattle.m2_weave.specs.m2_control.declared.keepalive.Keepalive.{Keepalive}
-use Rattle.m2_center.specs.m2_core.declared.asking.CoreAsk.{CoreAsk}
-use Rattle.m2_center.specs.m2_core.declared.asking.CoreAsk.TheVariants as ask
-use Rattle.m2_center.specs.m2_core.declared.to_compose.CoreText.{CoreText}
-use Rattle.m2_center.specs.m2_core.declared.to_compose.CoreText.TheVariants as text
-use Rattle.m2_center.specs.m2_core.declared.next.CoreNext.{CoreNext}
-use Rattle.m2_center.specs.m2_core.declared.next.CoreNext.TheVariants as next
-use Rattle.m2_center.specs.m2_core.Asking.{LeavesAsk}
-use Rattle.m2_center.specs.m2_core.Calls.{ask_event, asks_ident}
-use Rattle.m2_center.specs.m2_core.CoreNow.{CoreNow}
-use Rattle.m2_center.specs.m2_core.Counting.{CountsIf, to_count}
-use Rattle.m2_center.specs.m2_core.Front.{FrontHeard, asks, heard_by, rests, tells}
-use Rattle.m2_center.specs.m2_core.Granting.{Throttled}
-use Rattle.m2_center.specs.m2_core.Hearing.{Heeds, effects_heard}
-use Rattle.m2_center.specs.m2_core.Next.{IsNext}
-use Rattle.m2_center.specs.m2_core.ToCompose.{to_compose}
-use Rattle.m2_center.proofs.m2_core.Sound.{fault_by}
+use Rattle.m2_turn.specs.m2_core.declared.asking.CoreAsk.{CoreAsk}
+use Rattle.m2_turn.specs.m2_core.declared.asking.CoreAsk.TheVariants as ask
+use Rattle.m2_turn.specs.m2_core.declared.to_compose.CoreText.{CoreText}
+use Rattle.m2_turn.specs.m2_core.declared.to_compose.CoreText.TheVariants as text
+use Rattle.m2_turn.specs.m2_core.declared.next.CoreNext.{CoreNext}
+use Rattle.m2_turn.specs.m2_core.declared.next.CoreNext.TheVariants as next
+use Rattle.m2_turn.specs.m2_core.Asking.{LeavesAsk}
+use Rattle.m2_turn.specs.m2_core.Calls.{ask_event, asks_ident}
+use Rattle.m2_turn.specs.m2_core.CoreNow.{CoreNow}
+use Rattle.m2_turn.specs.m2_core.Front.{FrontHeard, asks, heard_by, rests, tells}
+use Rattle.m2_turn.specs.m2_core.Granting.{Throttled}
+use Rattle.m2_turn.specs.m2_core.Hearing.{Heeds, effects_heard}
+use Rattle.m2_turn.specs.m2_core.Next.{IsNext}
+use Rattle.m2_turn.specs.m2_core.ToCompose.{to_compose}
+use Rattle.m2_turn.proofs.m2_core.Sound.{fault_by}
+use Rattle.m2_turn.specs.m2_core.Counting.{CountsIf, to_count}
 use Rattle.m2_fabric.specs.declared.end.EndRead.{EndRead}
 use Rattle.m2_fabric.specs.declared.end.EndRead.TheVariants as read
 use Rattle.m2_fabric.specs.declared.end.EndWrite.TheVariants as write
@@ -30,9 +30,9 @@ use Rattle.m2_bytes_fit.specs.m2_feed.declared.writing.Writing.{Writing}
 use Rattle.m2_bytes_fit.specs.m2_feed.declared.writing.Writing.TheVariants as writing
 use Rattle.m2_bytes_fit.specs.m2_feed.FeedNow.{FeedNow}
 use Rattle.m2_dispatch.specs.m2_frame.Reading.{Item}
-use Rattle.m2_center.specs.m2_handshake.declared.answer.HalfStep.{HalfStep}
-use Rattle.m2_center.specs.m2_handshake.declared.answer.HalfStep.TheVariants as half
-use Rattle.m2_center.specs.m2_handshake.Standing.{Standing}
+use Rattle.m2_turn.specs.m2_handshake.declared.answer.HalfStep.{HalfStep}
+use Rattle.m2_turn.specs.m2_handshake.declared.answer.HalfStep.TheVariants as half
+use Rattle.m2_turn.specs.m2_handshake.Standing.{Standing}
 use Rattle.m2_bytes_fit.specs.m2_feed.declared.wire_fault.WireFault.{WireFault}
 use Rattle.m2_bytes_fit.specs.m2_feed.declared.frame_heard.FrameHeard.TheVariants as heard
 use Rattle.m2_bytes_fit.specs.m2_feed.declared.hearer.Hearer.{Hearer}
@@ -43,36 +43,36 @@ use Rattle.m2_weave.specs.m2_journal.declared.facts.PlanStep.{PlanStep}
 use Rattle.m2_weave.specs.m2_journal.declared.facts.PlanStep.TheVariants as step
 use Rattle.m2_weave.specs.m2_journal.OutFrames as out
 use Rattle.m2_weave.specs.m2_journal.SideFacts.{SideFacts}
-use Rattle.m2_center.specs.m2_core.LiveCalls.{live_with}
-use Rattle.m2_center.specs.m2_core.Effects.{closed_if, has_effects}
-use Rattle.m2_center.specs.m2_core.LiveHearing.{ObeysReset}
-use Rattle.m2_center.specs.m2_core.LiveNow.{LiveNow, OnFeedNow, is_waiting}
-use Rattle.m2_center.specs.m2_core.OnFeed.{AnswersStamp, ChangesRoom, ComposesAsk, ComposesFeed, ComposesMessage, GreetsFeed, PassesFeed, PassesItem, ReadsFeed, WritesFeed, granted_feed}
-use Rattle.m2_center.specs.m2_core.Passing.{StampsFeed}
-use Rattle.m2_center.specs.m2_session.declared.event.Effects.{Effects}
-use Rattle.m2_center.specs.m2_session.declared.session.Session.{Session}
-use Rattle.m2_center.specs.m2_session.Phases.{is_among, with_feed}
-use Rattle.m2_center.specs.m2_session.Steps.{step_of}
-use Rattle.m2_center.specs.m2_record.declared.composing.Composed.{Composed}
-use Rattle.m2_center.specs.m2_record.declared.composing.Composed.TheVariants as composed
-use Rattle.m2_center.specs.m2_record.declared.due.Due.{Due}
-use Rattle.m2_center.specs.m2_record.declared.due.Due.TheVariants as due
-use Rattle.m2_center.specs.m2_record.declared.framing.Framed.{Framed}
-use Rattle.m2_center.specs.m2_record.declared.framing.Framed.TheVariants as framed
-use Rattle.m2_center.specs.m2_record.declared.stepped.Stepped.{Stepped}
-use Rattle.m2_center.specs.m2_record.declared.stepped.Stepped.TheVariants as stepped
-use Rattle.m2_center.specs.m2_record.Calls.{Breaks, ClosesFor, ComposesAs, CountsResumption, GetsEntries, GoesDown, IsSameButRoom, Writes, fault_put}
-use Rattle.m2_center.specs.m2_record.Due.{due_step, next_step}
-use Rattle.m2_center.specs.m2_record.Framing.{AnswersFront, Frames, Greets}
-use Rattle.m2_center.specs.m2_record.Reading.{CountsAnswer, EndsRead, Reads, fault_read}
-use Rattle.m2_center.specs.m2_record.RecordNow.{RecordNow}
-use Rattle.m2_center.specs.m2_record.Stepping.{FeedStays, HandsAs, NothingDone, PlansAs, StepsAs, StepsBy, TakesDue, Worked}
+use Rattle.m2_turn.specs.m2_core.LiveCalls.{live_with}
+use Rattle.m2_turn.specs.m2_core.Effects.{closed_if, has_effects}
+use Rattle.m2_turn.specs.m2_core.LiveHearing.{ObeysReset}
+use Rattle.m2_turn.specs.m2_core.LiveNow.{LiveNow, OnFeedNow, is_waiting}
+use Rattle.m2_turn.specs.m2_core.OnFeed.{AnswersStamp, ChangesRoom, ComposesAsk, ComposesFeed, ComposesMessage, GreetsFeed, PassesFeed, PassesItem, ReadsFeed, WritesFeed, granted_feed}
+use Rattle.m2_turn.specs.m2_core.Passing.{StampsFeed}
+use Rattle.m2_turn.specs.m2_session.declared.event.Effects.{Effects}
+use Rattle.m2_turn.specs.m2_session.declared.session.Session.{Session}
+use Rattle.m2_turn.specs.m2_session.Phases.{is_among, with_feed}
+use Rattle.m2_turn.specs.m2_session.Steps.{step_of}
+use Rattle.m2_turn.specs.m2_record.declared.composing.Composed.{Composed}
+use Rattle.m2_turn.specs.m2_record.declared.composing.Composed.TheVariants as composed
+use Rattle.m2_turn.specs.m2_record.declared.due.Due.{Due}
+use Rattle.m2_turn.specs.m2_record.declared.due.Due.TheVariants as due
+use Rattle.m2_turn.specs.m2_record.declared.framing.Framed.{Framed}
+use Rattle.m2_turn.specs.m2_record.declared.framing.Framed.TheVariants as framed
+use Rattle.m2_turn.specs.m2_record.declared.stepped.Stepped.{Stepped}
+use Rattle.m2_turn.specs.m2_record.declared.stepped.Stepped.TheVariants as stepped
+use Rattle.m2_turn.specs.m2_record.Calls.{Breaks, ClosesFor, ComposesAs, GetsEntries, GoesDown, IsSameButRoom, Writes, fault_put, CountsResumption}
+use Rattle.m2_turn.specs.m2_record.Due.{due_step, next_step}
+use Rattle.m2_turn.specs.m2_record.Framing.{AnswersFront, Frames, Greets}
+use Rattle.m2_turn.specs.m2_record.Reading.{Reads, fault_read, CountsAnswer, EndsRead}
+use Rattle.m2_turn.specs.m2_record.RecordNow.{RecordNow}
+use Rattle.m2_turn.specs.m2_record.Stepping.{FeedStays, HandsAs, NothingDone, PlansAs, StepsAs, StepsBy, TakesDue, Worked}
 use Rattle.m2_growth.specs.Ends.{EndGrows}
 use Rattle.m2_growth.proofs.Calls.{grows_equal, read_grows, write_grows}
 use Rattle.m2_growth.proofs.Ends.{grows_same}
 use Rattle.m2_growth.proofs.Standing.{FeedGrows, MovesOn, Stand, StandsOn, fixed_of, moves_chain, moves_same, stand_of, stands_chain, stands_entered, stands_grown, stands_left}
 use Rattle.m2_growth.proofs.Standing as stand
-use Rattle.m2_center.proofs.GoesOn.{to_be_composed}
+use Rattle.m2_turn.proofs.GoesOn.{to_be_composed}
 
 -- ---- feeds whose end is as it was, or was read or written
 

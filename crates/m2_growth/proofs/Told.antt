@@ -2,25 +2,25 @@
 -- told nothing, or that it is to wait.
 use Rattle.std.proofs.Common.{◌≡◌, ℕ, Bool, true, false, if◌then◌else◌, List, [], ◌++◌, Option, Some, None, refl, sym, ap, subst, ◌∙◌, append-nil}
 use Rattle.std.specs.Option.{option_to_list}
-use Rattle.m2_center.specs.m2_session.declared.ask.AskFacts.{AskFacts}
-use Rattle.m2_center.specs.m2_session.Asks.{reconnect_of}
-use Rattle.m2_center.specs.m2_core.Judging.{told_of, verdict_on}
+use Rattle.m2_turn.specs.m2_session.declared.ask.AskFacts.{AskFacts}
+use Rattle.m2_turn.specs.m2_session.Asks.{reconnect_of}
+use Rattle.m2_turn.specs.m2_core.Judging.{told_of, verdict_on}
 use Rattle.m2_fabric.specs.End.{SeenEnd}
 use Rattle.m2_weave.specs.m2_journal.SideFacts.{SideFacts, cookie_of}
 use Rattle.m2_weave.specs.m2_journal.Steps.{kept_of}
-use Rattle.m2_center.specs.m2_core.LiveCalls.{tells_if}
-use Rattle.m2_center.specs.m2_core.Effects.{closed_if, effects_of}
-use Rattle.m2_center.specs.m2_core.LiveNow.{LiveNow}
-use Rattle.m2_center.specs.m2_session.declared.answer.Answer.{Answer}
-use Rattle.m2_center.specs.m2_session.declared.answer.Answer.TheVariants as answer
-use Rattle.m2_center.specs.m2_session.declared.event.Event.{Event}
-use Rattle.m2_center.specs.m2_session.declared.event.Event.TheVariants as event
-use Rattle.m2_center.specs.m2_session.declared.session.Phase.TheVariants as phase
-use Rattle.m2_center.specs.m2_session.declared.session.Session.{Session}
-use Rattle.m2_center.specs.m2_session.SessionLaws.{ident_event, reconnect_event, takes}
-use Rattle.m2_center.specs.m2_session.Phases.{is, is_among, with_feed}
+use Rattle.m2_turn.specs.m2_core.LiveCalls.{tells_if}
+use Rattle.m2_turn.specs.m2_core.Effects.{closed_if, effects_of}
+use Rattle.m2_turn.specs.m2_core.LiveNow.{LiveNow}
+use Rattle.m2_turn.specs.m2_session.declared.answer.Answer.{Answer}
+use Rattle.m2_turn.specs.m2_session.declared.answer.Answer.TheVariants as answer
+use Rattle.m2_turn.specs.m2_session.declared.event.Event.{Event}
+use Rattle.m2_turn.specs.m2_session.declared.event.Event.TheVariants as event
+use Rattle.m2_turn.specs.m2_session.declared.session.Phase.TheVariants as phase
+use Rattle.m2_turn.specs.m2_session.declared.session.Session.{Session}
+use Rattle.m2_turn.specs.m2_session.SessionLaws.{ident_event, reconnect_event, takes}
+use Rattle.m2_turn.specs.m2_session.Phases.{is, is_among, with_feed}
 use Rattle.m2_growth.proofs.Standing.{StandsOn, stands_by, stands_left}
-use Rattle.m2_center.proofs.m2_core.Judged.{IsQuiet, answered_by, reconnect_takes, refuses_by, told_by}
+use Rattle.m2_turn.proofs.m2_core.Judged.{IsQuiet, answered_by, reconnect_takes, refuses_by, told_by}
 use Rattle.m2_fabric.proofs.m2_lemmas.Booleans.{false_isnt_true}
 
 -- ---- by the answer

@@ -4,12 +4,12 @@ use Rattle.std.specs.List.{AllByRecursion}
 use Rattle.m2_fabric.specs.m2_addr.declared.addr.Addr.{Addr}
 use Rattle.m2_fabric.specs.declared.socket.SocketId.{SocketId}
 use Rattle.m2_bytes_fit.specs.Halves.{KeepsRanges}
-use Rattle.m2_center.specs.m2_handshake.Course.{Exchange, Reaches}
-use Rattle.m2_center.specs.m2_handshake.Laws.{IsPrefix}
-use Rattle.m2_center.specs.m2_handshake.Standing.{Standing, acceptor_at_start}
-use Rattle.m2_center.specs.m2_record.IsRecord.{IsRecord}
-use Rattle.m2_center.specs.m2_record.RecordNow.{RecordNow, ends_of}
-use Rattle.m2_center.specs.m2_record.Sources.{end_at, put_of}
+use Rattle.m2_turn.specs.m2_handshake.Course.{Exchange, Reaches}
+use Rattle.m2_turn.specs.m2_handshake.Laws.{IsPrefix}
+use Rattle.m2_turn.specs.m2_handshake.Standing.{Standing, acceptor_at_start}
+use Rattle.m2_turn.specs.m2_record.IsRecord.{IsRecord}
+use Rattle.m2_turn.specs.m2_record.RecordNow.{RecordNow, ends_of}
+use Rattle.m2_turn.specs.m2_record.Sources.{end_at, put_of}
 use Rattle.m2_bytes_fit.specs.m2_trail.Arrivals.{IsArrival}
 use Rattle.m2_bytes_fit.specs.m2_trail.Asks.{IsMain}
 use Rattle.m2_bytes_fit.specs.m2_trail.Incoming.{IncomingNow}

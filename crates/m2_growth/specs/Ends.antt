@@ -5,8 +5,8 @@ use Rattle.std.specs.Option.{option_map}
 use Rattle.m2_fabric.specs.declared.socket.SocketId.{SocketId}
 use Rattle.m2_fabric.specs.End.{Inflow, SeenEnd}
 use Rattle.m2_fabric.specs.Sockets.{same_socket}
-use Rattle.m2_center.specs.m2_record.RecordNow.{ids_of}
-use Rattle.m2_center.specs.m2_record.Sources.{end_at}
+use Rattle.m2_turn.specs.m2_record.RecordNow.{ids_of}
+use Rattle.m2_turn.specs.m2_record.Sources.{end_at}
 use Rattle.m2_weave.specs.Later.{GoesOn}
 
 -- all that has come to an end in memory: what it got, and then what is readable there

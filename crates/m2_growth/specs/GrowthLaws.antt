@@ -4,17 +4,17 @@ use Rattle.m2_fabric.specs.m2_bytes.declared.memory.NoMemory as memory
 use Rattle.m2_dispatch.specs.Heard.{Heard}
 use Rattle.m2_fabric.specs.Port.{SeenPort}
 use Rattle.m2_weave.specs.m2_journal.declared.facts.PlanStep.{PlanStep}
-use Rattle.m2_center.specs.m2_record.IsRecord.{IsRecord}
-use Rattle.m2_center.specs.m2_record.RecordNow.{RecordNow}
-use Rattle.m2_center.specs.declared.accepting.Accepted.{Accepted}
-use Rattle.m2_center.specs.declared.halves_turn.HalvesTurn.{HalvesTurn}
-use Rattle.m2_center.specs.declared.records_turn.RecordsTurn.{RecordsTurn}
-use Rattle.m2_center.specs.Accepting.{Accepting, AcceptsAll}
-use Rattle.m2_center.specs.Halves.{AllHalves, halves_of}
-use Rattle.m2_center.specs.HalvesTurn.{Callers, TurnsHalves}
-use Rattle.m2_center.specs.Planning.{PlansNow}
-use Rattle.m2_center.specs.RecordTurn.{Means}
-use Rattle.m2_center.specs.RecordsTurn.{AllAmid, TurnsEach}
+use Rattle.m2_turn.specs.m2_record.IsRecord.{IsRecord}
+use Rattle.m2_turn.specs.m2_record.RecordNow.{RecordNow}
+use Rattle.m2_turn.specs.declared.accepting.Accepted.{Accepted}
+use Rattle.m2_turn.specs.declared.halves_turn.HalvesTurn.{HalvesTurn}
+use Rattle.m2_turn.specs.declared.records_turn.RecordsTurn.{RecordsTurn}
+use Rattle.m2_turn.specs.Accepting.{Accepting, AcceptsAll}
+use Rattle.m2_turn.specs.Halves.{AllHalves, halves_of}
+use Rattle.m2_turn.specs.HalvesTurn.{Callers, TurnsHalves}
+use Rattle.m2_turn.specs.Planning.{PlansNow}
+use Rattle.m2_turn.specs.RecordTurn.{Means}
+use Rattle.m2_turn.specs.RecordsTurn.{AllAmid, TurnsEach}
 use Rattle.m2_growth.specs.Holding.{AreOwn, Grows, Holding}
 use Rattle.m2_growth.specs.Records.{IsFed}
 

@@ -6,11 +6,11 @@ use Rattle.m2_fabric.specs.declared.socket.SocketId.{SocketId}
 use Rattle.m2_fabric.specs.End.{SeenEnd}
 use Rattle.m2_fabric.specs.Sockets.{is_among, goes_to}
 use Rattle.m2_weave.specs.m2_journal.State.{Judgement}
-use Rattle.m2_center.specs.m2_record.RecordNow.{RecordNow}
-use Rattle.m2_center.specs.m2_record.Sources.{end_at}
-use Rattle.m2_center.specs.m2_record.TakenTrails.{judgements_in}
-use Rattle.m2_center.specs.Halves.{AllHalves}
-use Rattle.m2_center.specs.Sessions.{PendingNow, is_asker, peer_of}
+use Rattle.m2_turn.specs.m2_record.RecordNow.{RecordNow}
+use Rattle.m2_turn.specs.m2_record.Sources.{end_at}
+use Rattle.m2_turn.specs.m2_record.TakenTrails.{judgements_in}
+use Rattle.m2_turn.specs.Halves.{AllHalves}
+use Rattle.m2_turn.specs.Sessions.{PendingNow, is_asker, peer_of}
 use Rattle.m2_bytes_fit.specs.m2_trail.Arrivals.{IsArrival, LooseNow, left_of}
 use Rattle.m2_bytes_fit.specs.m2_trail.Asks.{IsMain}
 use Rattle.m2_bytes_fit.specs.m2_trail.Incoming.{IncomingNow}

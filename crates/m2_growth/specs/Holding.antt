@@ -5,12 +5,12 @@ use Rattle.m2_fabric.specs.declared.socket.SocketId.{SocketId}
 use Rattle.m2_fabric.specs.End.{SeenEnd}
 use Rattle.m2_fabric.specs.Port.{SeenPort}
 use Rattle.m2_fabric.specs.Sockets.{IsNewTo, goes_to, is_among}
-use Rattle.m2_center.specs.m2_handshake.Asks.{same_addr}
-use Rattle.m2_center.specs.m2_record.RecordNow.{RecordNow}
-use Rattle.m2_center.specs.Beside.{MadeOn}
-use Rattle.m2_center.specs.Halves.{AllHalves}
-use Rattle.m2_center.specs.Hearing.{ends_in}
-use Rattle.m2_center.specs.Sessions.{peer_of}
+use Rattle.m2_turn.specs.m2_handshake.Asks.{same_addr}
+use Rattle.m2_turn.specs.m2_record.RecordNow.{RecordNow}
+use Rattle.m2_turn.specs.Beside.{MadeOn}
+use Rattle.m2_turn.specs.Halves.{AllHalves}
+use Rattle.m2_turn.specs.Hearing.{ends_in}
+use Rattle.m2_turn.specs.Sessions.{peer_of}
 use Rattle.m2_bytes_fit.specs.m2_trail.Arrivals.{LooseNow}
 use Rattle.m2_growth.specs.Ends.{AreOfTheirOwn, EndsGrow}
 use Rattle.m2_growth.specs.Halves.{AreAskedByPeers, AskedOnMade, HalvesStay, HasItsHalves, IsHeardBy, all_left, AskedTowards, OneJudge}

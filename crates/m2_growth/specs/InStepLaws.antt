@@ -3,14 +3,14 @@ use Rattle.std.specs.Prelude.{◌≡◌, ℕ, true, List}
 use Rattle.m2_dispatch.specs.Heard.{Heard}
 use Rattle.m2_fabric.specs.declared.socket.SocketId.{SocketId}
 use Rattle.m2_fabric.specs.Holder.{SeenHolder}
-use Rattle.m2_center.specs.m2_record.RecordNow.{RecordNow}
-use Rattle.m2_center.specs.m2_record.Sources.{end_at}
-use Rattle.m2_center.specs.declared.accepting.Accepted.{Accepted}
-use Rattle.m2_center.specs.declared.records_turn.RecordsTurn.{RecordsTurn}
-use Rattle.m2_center.specs.Accepting.{Accepting, AcceptsAll}
-use Rattle.m2_center.specs.Halves.{AllHalves}
-use Rattle.m2_center.specs.RecordTurn.{Means}
-use Rattle.m2_center.specs.RecordsTurn.{AllAmid, TurnsEach}
+use Rattle.m2_turn.specs.m2_record.RecordNow.{RecordNow}
+use Rattle.m2_turn.specs.m2_record.Sources.{end_at}
+use Rattle.m2_turn.specs.declared.accepting.Accepted.{Accepted}
+use Rattle.m2_turn.specs.declared.records_turn.RecordsTurn.{RecordsTurn}
+use Rattle.m2_turn.specs.Accepting.{Accepting, AcceptsAll}
+use Rattle.m2_turn.specs.Halves.{AllHalves}
+use Rattle.m2_turn.specs.RecordTurn.{Means}
+use Rattle.m2_turn.specs.RecordsTurn.{AllAmid, TurnsEach}
 use Rattle.m2_growth.specs.Holding.{AreOwn, Grows, Holding, all_ends}
 use Rattle.m2_growth.specs.GrowthLaws.{at_accepts, at_records}
 use Rattle.m2_fabric.specs.InStep.{IsInStep, Network, SeenFabric}

@@ -3,8 +3,8 @@ use Rattle.std.specs.Prelude.{◌≡◌, ◌⊎◌, ◌&&◌, not, Bool, true, L
 use Rattle.m2_fabric.specs.declared.socket.SocketId.{SocketId}
 use Rattle.m2_fabric.specs.End.{SeenEnd}
 use Rattle.m2_fabric.specs.Sockets.{is_among}
-use Rattle.m2_center.specs.m2_record.RecordNow.{ids_of}
-use Rattle.m2_center.specs.m2_record.Sources.{end_at}
+use Rattle.m2_turn.specs.m2_record.RecordNow.{ids_of}
+use Rattle.m2_turn.specs.m2_record.Sources.{end_at}
 use Rattle.m2_growth.specs.Holding.{Holding, all_ends, ends_held, waiting_at}
 
 -- Each socket that the port has made since has its end; and of the ends that waited the first ones were accepted, and the others

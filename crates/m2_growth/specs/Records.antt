@@ -3,8 +3,8 @@ use Rattle.std.specs.Prelude.{◌≡◌, List, [], ◌∷◌}
 use Rattle.std.specs.List.{flat_map}
 use Rattle.std.specs.Option.{is_some}
 use Rattle.m2_fabric.specs.End.{SeenEnd}
-use Rattle.m2_center.specs.m2_record.RecordNow.{RecordNow, ends_of}
-use Rattle.m2_center.specs.m2_session.Phases as phase
+use Rattle.m2_turn.specs.m2_record.RecordNow.{RecordNow, ends_of}
+use Rattle.m2_turn.specs.m2_session.Phases as phase
 use Rattle.m2_weave.specs.Later.{GoesOn}
 
 -- The same record, later: of what it planned, did and took nothing is undone.

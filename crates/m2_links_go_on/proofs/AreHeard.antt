@@ -14,7 +14,7 @@ use Rattle.m2_dispatch.specs.Laws.{Call, start}
 use Rattle.m2_weave.specs.m2_journal.State.{Delivery, State}
 use Rattle.m2_history.specs.m2_record.IsRecord.{IsReplayedTo}
 use Rattle.m2_history.specs.m2_record.RecordNow.{RecordNow, delivery_of}
-use Rattle.m2_cluster.specs.m2_center.Outbox.{OutboxNow}
+use Rattle.m2_cluster.specs.m2_center.m2_turn.Outbox.{OutboxNow}
 use Rattle.m2_links_go_on.specs.LogLaws.{BeginLogged, LoggedAreHeard}
 use Rattle.m2_links_go_on.specs.Logged.{IsLoggedOf, all_put, deliveries_of, handed_of, heard_held}
 use Rattle.m2_links_go_on.proofs.Puts.{once-append, parcels-append, queued-append}

@@ -7,7 +7,7 @@ use Rattle.m2_cluster.specs.m2_center.Center.{CenterNow}
 use Rattle.m2_cluster.specs.m2_center.CenterTurn.{AndThen, Answer, AcceptsSo, AnswersSo, DeliversSo, Part, StepsSo, accepting_in, all_amid_in, callers_of}
 use Rattle.m2_growth.specs.Holding.{AreOwn, Grows, all_ends}
 use Rattle.m2_growth.proofs.Plans.{plans_grow}
-use Rattle.m2_cluster.specs.m2_center.RecordTurn.{Means}
+use Rattle.m2_cluster.specs.m2_center.m2_turn.RecordTurn.{Means}
 use Rattle.m2_links_go_on.specs.Center.{holding_of}
 use Rattle.m2_links_go_on.specs.ClusterLaws.{PlanBringsElsewhere, TurnBringsElsewhere}
 use Rattle.m2_links_go_on.proofs.Brings.{Brings, accepts_bring, by_same, chain, halves_bring, just, just_brings, just_own, records_bring}

@@ -22,21 +22,21 @@ use Rattle.m2_history.specs.m2_record.RecordNow.{RecordNow, ends_of, feed_end, i
 use Rattle.m2_history.specs.m2_record.Sources.{end_at}
 use Rattle.m2_history.specs.m2_trail.Arrivals.{LooseNow, closed_of}
 use Rattle.m2_history.specs.m2_trail.Incoming.{IncomingNow, accepted}
-use Rattle.m2_cluster.specs.m2_center.declared.accepting.Accepted.{Accepted}
-use Rattle.m2_cluster.specs.m2_center.declared.accepting.Accepted.TheVariants as accepts
-use Rattle.m2_cluster.specs.m2_center.declared.halves_turn.HalvesTurn.{HalvesTurn}
-use Rattle.m2_cluster.specs.m2_center.declared.pending.TheConstants.{MOST_HALVES}
-use Rattle.m2_cluster.specs.m2_center.declared.records_turn.RecordsTurn.{RecordsTurn}
-use Rattle.m2_cluster.specs.m2_center.declared.records_turn.RecordsTurn.TheVariants as turn
-use Rattle.m2_cluster.specs.m2_center.Accepting.{Accepting, AcceptsAll, EndsWith, TakesAll, TakesIn, joined, unasked}
-use Rattle.m2_cluster.specs.m2_center.Connecting.{AtPort, DialsFor, DialsIfDue, Takes}
-use Rattle.m2_cluster.specs.m2_center.Halves.{AllHalves}
-use Rattle.m2_cluster.specs.m2_center.HalvesTurn.{Callers, TurnsHalves}
-use Rattle.m2_cluster.specs.m2_center.Hearing.{ends_in}
-use Rattle.m2_cluster.specs.m2_center.Outbox.{is_free}
-use Rattle.m2_cluster.specs.m2_center.RecordTurn.{Means}
-use Rattle.m2_cluster.specs.m2_center.RecordsTurn.{AllAmid, Amid, Around, DialsAndSteps, EachTurns, TurnsEach, TurnsIf, TurnsInOrder, TurnsOne, all_amid, amid, at_port, sides_of, turning_amid}
-use Rattle.m2_cluster.specs.m2_center.Sessions.{PendingNow}
+use Rattle.m2_cluster.specs.m2_center.m2_turn.declared.accepting.Accepted.{Accepted}
+use Rattle.m2_cluster.specs.m2_center.m2_turn.declared.accepting.Accepted.TheVariants as accepts
+use Rattle.m2_cluster.specs.m2_center.m2_turn.declared.halves_turn.HalvesTurn.{HalvesTurn}
+use Rattle.m2_cluster.specs.m2_center.m2_turn.declared.pending.TheConstants.{MOST_HALVES}
+use Rattle.m2_cluster.specs.m2_center.m2_turn.declared.records_turn.RecordsTurn.{RecordsTurn}
+use Rattle.m2_cluster.specs.m2_center.m2_turn.declared.records_turn.RecordsTurn.TheVariants as turn
+use Rattle.m2_cluster.specs.m2_center.m2_turn.Accepting.{Accepting, AcceptsAll, EndsWith, TakesAll, TakesIn, joined, unasked}
+use Rattle.m2_cluster.specs.m2_center.m2_turn.Connecting.{AtPort, DialsFor, DialsIfDue, Takes}
+use Rattle.m2_cluster.specs.m2_center.m2_turn.Halves.{AllHalves}
+use Rattle.m2_cluster.specs.m2_center.m2_turn.HalvesTurn.{Callers, TurnsHalves}
+use Rattle.m2_cluster.specs.m2_center.m2_turn.Hearing.{ends_in}
+use Rattle.m2_cluster.specs.m2_center.m2_turn.Outbox.{is_free}
+use Rattle.m2_cluster.specs.m2_center.m2_turn.RecordTurn.{Means}
+use Rattle.m2_cluster.specs.m2_center.m2_turn.RecordsTurn.{AllAmid, Amid, Around, DialsAndSteps, EachTurns, TurnsEach, TurnsIf, TurnsInOrder, TurnsOne, all_amid, amid, at_port, sides_of, turning_amid}
+use Rattle.m2_cluster.specs.m2_center.m2_turn.Sessions.{PendingNow}
 use Rattle.m2_cluster.specs.m2_center.CenterTurn.{Answer}
 use Rattle.m2_cluster.proofs.OneCenter.{none_at}
 use Rattle.m2_growth.specs.Ends.{AreOfTheirOwn, BringNone}

@@ -10,8 +10,8 @@ use Rattle.m2_weave.specs.m2_journal.declared.entry.JudgedItem.{JudgedItem}
 use Rattle.m2_weave.specs.m2_journal.Lawful.{judged_on}
 use Rattle.m2_history.specs.m2_record.RecordNow.{RecordNow}
 use Rattle.m2_history.specs.m2_record.TakenTrails.{judgements_in}
-use Rattle.m2_cluster.specs.m2_center.Halves.{AllHalves, sessions_with}
-use Rattle.m2_cluster.specs.m2_center.Sessions.{AreConsistent, Caller, IsCaller, IsTold, PendingNow, Supply, WasCaller, caller_in, caller_of, is_asker, peer_of}
+use Rattle.m2_cluster.specs.m2_center.m2_turn.Halves.{AllHalves, sessions_with}
+use Rattle.m2_cluster.specs.m2_center.m2_turn.Sessions.{AreConsistent, Caller, IsCaller, IsTold, PendingNow, Supply, WasCaller, caller_in, caller_of, is_asker, peer_of}
 use Rattle.m2_history.specs.m2_trail.Arrivals.{LooseNow, left_of}
 use Rattle.m2_links_go_on.proofs.LinkRecords.{asked_some}
 use Rattle.m2_links_go_on.proofs.Standing.{judged_sockets}

@@ -5,12 +5,12 @@ use Rattle.m2_dispatch.specs.Heard.{Heard}
 use Rattle.m2_dispatch.specs.Laws.{Call}
 use Rattle.m2_history.specs.m2_record.IsRecord.{IsRecord}
 use Rattle.m2_history.specs.m2_record.RecordNow.{RecordNow}
-use Rattle.m2_cluster.specs.m2_center.declared.accepting.Accepted.{Accepted}
-use Rattle.m2_cluster.specs.m2_center.declared.halves_turn.HalvesTurn.{HalvesTurn}
-use Rattle.m2_cluster.specs.m2_center.declared.mailing.Mailed.{Mailed}
-use Rattle.m2_cluster.specs.m2_center.declared.records_turn.RecordsTurn.{RecordsTurn}
-use Rattle.m2_cluster.specs.m2_center.Outbox.{OutboxNow}
-use Rattle.m2_cluster.specs.m2_center.RecordTurn.{Means}
+use Rattle.m2_cluster.specs.m2_center.m2_turn.declared.accepting.Accepted.{Accepted}
+use Rattle.m2_cluster.specs.m2_center.m2_turn.declared.halves_turn.HalvesTurn.{HalvesTurn}
+use Rattle.m2_cluster.specs.m2_center.m2_turn.declared.mailing.Mailed.{Mailed}
+use Rattle.m2_cluster.specs.m2_center.m2_turn.declared.records_turn.RecordsTurn.{RecordsTurn}
+use Rattle.m2_cluster.specs.m2_center.m2_turn.Outbox.{OutboxNow}
+use Rattle.m2_cluster.specs.m2_center.m2_turn.RecordTurn.{Means}
 use Rattle.m2_cluster.specs.m2_center.Center.{CenterNow}
 use Rattle.m2_cluster.specs.m2_center.CenterTurn.{Accepts, Answer, EmptiesMail, TakesTurn, TurnsHalves, TurnsRecords, accepting_in, all_amid_in, around_in, callers_of, mailing_in}
 use Rattle.m2_growth.specs.Holding.{Grows, Holding}

@@ -7,7 +7,7 @@ use Rattle.m2_cluster.specs.m2_center.Center.{CenterNow}
 use Rattle.m2_cluster.specs.m2_center.Reaching.{after_hearing, has_half, rest_in}
 use Rattle.m2_cluster.specs.m2_center.RecordEnds.{has_end, records_hear}
 use Rattle.m2_cluster.proofs.m2_center.RecordsHear.{center_rest}
-use Rattle.m2_cluster.specs.m2_center.Hearing as halves
+use Rattle.m2_cluster.specs.m2_center.m2_turn.Hearing as halves
 use Rattle.m2_cluster.specs.Cluster.{ClusterNow, rest_of}
 use Rattle.m2_cluster.specs.Node.{NodeNow, all_to_come, rest_of_node}
 use Rattle.m2_growth.specs.Holding.{HaveTheirHalves}

@@ -10,9 +10,9 @@ use Rattle.m2_weave.specs.m2_journal.declared.facts.PlanStep.{PlanStep}
 use Rattle.m2_history.specs.m2_record.Calls.{planned_too}
 use Rattle.m2_history.specs.m2_record.IsRecord.{IsRecord}
 use Rattle.m2_history.specs.m2_record.RecordNow.{RecordNow}
-use Rattle.m2_cluster.specs.m2_center.Halves.{AllHalves, halves_of}
-use Rattle.m2_cluster.specs.m2_center.Outbox.{OutboxNow}
-use Rattle.m2_cluster.specs.m2_center.Planning.{PlansNow}
+use Rattle.m2_cluster.specs.m2_center.m2_turn.Halves.{AllHalves, halves_of}
+use Rattle.m2_cluster.specs.m2_center.m2_turn.Outbox.{OutboxNow}
+use Rattle.m2_cluster.specs.m2_center.m2_turn.Planning.{PlansNow}
 use Rattle.m2_growth.specs.Holding.{AreOwn, Grows}
 use Rattle.m2_cluster.specs.m2_center.Center.{CenterNow}
 use Rattle.m2_cluster.specs.m2_center.CenterTurn.{Answer}
@@ -23,8 +23,8 @@ use Rattle.m2_growth.proofs.OneRecord.{holding}
 use Rattle.m2_growth.proofs.Plans.{plans_grow}
 use Rattle.m2_links_go_on.specs.LogLaws.{HalvesStayLogged, PlansStayLogged}
 use Rattle.m2_links_go_on.specs.Logged.{AreOfTheirPeers, IsLogged, logging}
-use Rattle.m2_links_go_on.proofs.Handed as handed
-use Rattle.m2_links_go_on.proofs.Handed.{HandsNone}
+use Rattle.m2_cluster.proofs.m2_center.m2_turn.Handed as handed
+use Rattle.m2_cluster.proofs.m2_center.m2_turn.Handed.{HandsNone}
 use Rattle.m2_links_go_on.proofs.Judged.{HandNone, halves_hand_none, none_set}
 use Rattle.m2_links_go_on.proofs.Lagging.{all_follow, all_followed, all_lag, place_of}
 

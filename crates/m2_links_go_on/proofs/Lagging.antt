@@ -6,14 +6,14 @@ use Rattle.m2_dispatch.specs.Laws.{Call}
 use Rattle.m2_fabric.specs.Port.{SeenPort}
 use Rattle.m2_history.specs.m2_record.IsRecord.{IsRecord}
 use Rattle.m2_history.specs.m2_record.RecordNow.{RecordNow, delivery_of}
-use Rattle.m2_cluster.specs.m2_center.Halves.{AllHalves}
-use Rattle.m2_cluster.specs.m2_center.Outbox.{OutboxNow}
+use Rattle.m2_cluster.specs.m2_center.m2_turn.Halves.{AllHalves}
+use Rattle.m2_cluster.specs.m2_center.m2_turn.Outbox.{OutboxNow}
 use Rattle.m2_growth.specs.Holding.{AreOwn, Grows, Holding, all_ends}
 use Rattle.m2_growth.specs.Records.{RecordGrows, RecordsGrow}
 use Rattle.m2_growth.proofs.Going.{record_chain}
 use Rattle.m2_growth.proofs.OneRecord.{holding}
 use Rattle.m2_links_go_on.specs.Logged.{IsLoggedOf}
-use Rattle.m2_links_go_on.proofs.Handed.{HandsNone}
+use Rattle.m2_cluster.proofs.m2_center.m2_turn.Handed.{HandsNone}
 use Rattle.m2_links_go_on.proofs.Judged.{HandNone}
 use Rattle.m2_links_go_on.proofs.Later.{HasIts, goes_further, its_ends, its_own}
 use Rattle.m2_links_go_on.proofs.Puts.{HaveTheSame, stays_still}

@@ -10,8 +10,8 @@ use Rattle.m2_history.specs.m2_record.IsRecord.{IsRecord, became_feed, feeds_in}
 use Rattle.m2_history.specs.m2_record.RecordNow.{RecordNow, ends_of, feed_end}
 use Rattle.m2_history.specs.m2_record.Sources.{end_at, trail_at}
 use Rattle.m2_history.specs.m2_record.TakenTrails.{taken_by, taken_in}
-use Rattle.m2_cluster.specs.m2_center.Halves.{AllHalves}
-use Rattle.m2_cluster.proofs.m2_center.Opened.{filtered}
+use Rattle.m2_cluster.specs.m2_center.m2_turn.Halves.{AllHalves}
+use Rattle.m2_cluster.proofs.m2_center.m2_turn.Opened.{filtered}
 use Rattle.m2_history.specs.m2_trail.Trails.{TrailNow}
 use Rattle.m2_growth.specs.Ends.{AreOfTheirOwn, EndGrows, EndGrowsTo, EndsGrow}
 use Rattle.m2_growth.specs.Holding.{AreOwn, all_ends, waiting_at}

@@ -12,7 +12,6 @@ pub mod Going
 pub mod HalfLogs
 pub mod HalfReads
 pub mod Halves
-pub mod Handed
 pub mod Judged
 pub mod KeptHalves
 pub mod Lagging

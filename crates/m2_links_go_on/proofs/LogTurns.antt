@@ -10,18 +10,18 @@ use Rattle.m2_history.specs.m2_record.declared.stepped.Stepped.TheVariants as st
 use Rattle.m2_history.specs.m2_record.IsRecord.{IsFrom, IsRecord}
 use Rattle.m2_history.specs.m2_record.RecordNow.{RecordNow, ends_of}
 use Rattle.m2_history.specs.m2_record.Sources.{end_at, trail_at}
-use Rattle.m2_cluster.specs.m2_center.declared.record_turn.RecordTurn.{RecordTurn}
-use Rattle.m2_cluster.specs.m2_center.declared.record_turn.RecordTurn.TheVariants as one
-use Rattle.m2_cluster.specs.m2_center.Outbox.{is_free}
-use Rattle.m2_cluster.specs.m2_center.RecordTurn.{EndsBy, Means, PutsHanded, Steps, TakesStep, Turning, TurnsAs, worked_by}
-use Rattle.m2_cluster.specs.m2_center.Steps as journal
-use Rattle.m2_cluster.proofs.m2_center.GoesOn as journals
+use Rattle.m2_cluster.specs.m2_center.m2_turn.declared.record_turn.RecordTurn.{RecordTurn}
+use Rattle.m2_cluster.specs.m2_center.m2_turn.declared.record_turn.RecordTurn.TheVariants as one
+use Rattle.m2_cluster.specs.m2_center.m2_turn.Outbox.{is_free}
+use Rattle.m2_cluster.specs.m2_center.m2_turn.RecordTurn.{EndsBy, Means, PutsHanded, Steps, TakesStep, Turning, TurnsAs, worked_by}
+use Rattle.m2_cluster.specs.m2_center.m2_turn.Steps as journal
+use Rattle.m2_cluster.proofs.m2_center.m2_turn.GoesOn as journals
 use Rattle.m2_growth.specs.Ends.{AreOfTheirOwn, EndGrowsTo, EndsGrow}
 use Rattle.m2_growth.proofs.Ends.{on_by}
 use Rattle.m2_growth.proofs.Standing.{MovesOn}
 use Rattle.m2_growth.proofs.Steps as growth
-use Rattle.m2_links_go_on.specs.Logged.{fast_calls}
-use Rattle.m2_links_go_on.proofs.Handed.{StepHands, first_delivers, steps}
+use Rattle.m2_links_go_on.specs.Logged.{deliveries_of, fast_calls}
+use Rattle.m2_cluster.proofs.m2_center.m2_turn.Handed.{StepHands, steps}
 use Rattle.m2_links_go_on.proofs.Puts.{StaysLogged, free_holds_none, puts, stays_chain, stays_handed, stays_still}
 use Rattle.m2_links_go_on.proofs.Speaking.{GoesFurther, IsStillAt, handed_next, handed_still}
 use Rattle.m2_fabric.proofs.m2_lemmas.Booleans.{false_isnt_true}
@@ -64,7 +64,7 @@ module _ {D : Type 0} (heard : D → List Heard) (calls : List Call) (m : Means)
   by_answer (stepped.Hand x) old new is free moves further h p =
       let from : IsFrom old.side.place x = (subst (AllByRecursion (IsFrom old.side.place)) h.first is.kept.parcels).0 in
       stays_handed heard calls x old.out new.out old.side new.side (puts heard x old.out new.out (free_holds_none old.out free) p) from (ap (λ f. f.place) moves.fixed)
-      (handed_next old.side new.side x is h.first (first_delivers x old.side new.side h) (ap (λ r. r.handed) h.only))
+      (handed_next old.side new.side x is h.first (ap deliveries_of h.only) (ap (λ r. r.handed) h.only))
   by_answer stepped.Moved old new is free moves further h p = quiet old new is moves further h p
   by_answer stepped.Dry old new is free moves further h p = quiet old new is moves further h p
   by_answer (stepped.Full held) old new is free moves further h p = quiet old new is moves further h p

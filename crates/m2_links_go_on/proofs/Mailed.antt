@@ -11,9 +11,9 @@ use Rattle.m2_dispatch.specs.Letters.{heard_in}
 use Rattle.m2_dispatch.specs.Parcel.{heard_at_put}
 use Rattle.m2_history.specs.m2_record.RecordNow.{RecordNow, delivery_of}
 use Rattle.m2_dispatch.specs.m2_shared.Place.{Place}
-use Rattle.m2_cluster.specs.m2_center.declared.mailing.Mailed.TheVariants as mailed
-use Rattle.m2_cluster.specs.m2_center.Mailing.{DispatchesSome, LacksMemory, Mailing, MailsSome, PutsSome, Queueing, after_puts, heard_at_puts}
-use Rattle.m2_cluster.specs.m2_center.Outbox.{OutboxNow}
+use Rattle.m2_cluster.specs.m2_center.m2_turn.declared.mailing.Mailed.TheVariants as mailed
+use Rattle.m2_cluster.specs.m2_center.m2_turn.Mailing.{DispatchesSome, LacksMemory, Mailing, MailsSome, PutsSome, Queueing, after_puts, heard_at_puts}
+use Rattle.m2_cluster.specs.m2_center.m2_turn.Outbox.{OutboxNow}
 use Rattle.m2_links_go_on.specs.LogLaws.{MailStaysLogged}
 use Rattle.m2_links_go_on.specs.Logged.{IsLogged, IsLoggedOf, all_put, fast_calls, logging}
 use Rattle.m2_links_go_on.proofs.Puts.{parcels-append}

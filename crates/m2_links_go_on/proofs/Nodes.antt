@@ -19,9 +19,9 @@ use Rattle.m2_history.specs.m2_record.IsRecord.{IsRecord}
 use Rattle.m2_history.specs.m2_record.RecordNow.{RecordNow, ends_of, ids_of}
 use Rattle.m2_history.specs.m2_record.Sources.{end_at}
 use Rattle.m2_history.specs.m2_record.TakenTrails.{judgements_in}
-use Rattle.m2_cluster.specs.m2_center.Halves.{AllHalves}
-use Rattle.m2_cluster.specs.m2_center.Hearing.{ends_in}
-use Rattle.m2_cluster.specs.m2_center.Sessions.{IsTold, PendingNow}
+use Rattle.m2_cluster.specs.m2_center.m2_turn.Halves.{AllHalves}
+use Rattle.m2_cluster.specs.m2_center.m2_turn.Hearing.{ends_in}
+use Rattle.m2_cluster.specs.m2_center.m2_turn.Sessions.{IsTold, PendingNow}
 use Rattle.m2_history.specs.m2_trail.Arrivals.{LooseNow, left_of}
 use Rattle.m2_links_go_on.proofs.Telling.{records_tell_all}
 use Rattle.m2_history.specs.WovenLink.{sources_in}

@@ -20,7 +20,7 @@ use Rattle.m2_weave.specs.m2_journal.State.{Delivery}
 use Rattle.m2_channel.specs.Handing.{calls_of, heard_at_once, parcels_of, peer_of, queued_of}
 use Rattle.m2_history.specs.m2_record.IsRecord.{IsFrom}
 use Rattle.m2_history.specs.m2_record.RecordNow.{RecordNow, delivery_of}
-use Rattle.m2_cluster.specs.m2_center.Outbox.{Dispatches, DispatchesOr, OutboxNow, Puts, PutsLetter, Retries, RetriesFor, is_free}
+use Rattle.m2_cluster.specs.m2_center.m2_turn.Outbox.{Dispatches, DispatchesOr, OutboxNow, Puts, PutsLetter, Retries, RetriesFor, is_free}
 use Rattle.m2_links_go_on.specs.Logged.{IsLoggedOf, all_put, fast_calls, handed_of, heard_held}
 use Rattle.m2_fabric.proofs.m2_lemmas.Booleans.{both_of_and, false_isnt_true}
 

@@ -1,9 +1,8 @@
 -- The turns of all records, one after another: of the peer of each the dispatchers have what that record hands on still.
-use Rattle.std.proofs.Common.{◌≡◌, inl, inr, ℕ, ◌==◌, Bool, true, false, List, [], ◌∷◌, ◌++◌, map, Option, Some, None, Result, Ok, Err, IfSome, IsSome, refl, sym, ap, subst, ◌∙◌, append-nil, append_assoc}
+use Rattle.std.proofs.Common.{◌≡◌, inl, inr, ℕ, ◌==◌, Bool, true, false, List, [], ◌∷◌, ◌++◌, map, Result, Ok, Err, refl, sym, ap, subst, ◌∙◌, append-nil, append_assoc}
 use Rattle.std.specs.List.{AllByRecursion, IsDistinct}
 use Rattle.m2_fabric.specs.m2_bytes.declared.memory.NoMemory as memory
 use Rattle.m2_channel.specs.Handing.{calls_of, parcels_of}
-use Rattle.m2_cluster.specs.m2_core.Calls.{IsOpening}
 use Rattle.m2_dispatch.specs.Heard.{Heard}
 use Rattle.m2_dispatch.specs.Dispatch.{Queued}
 use Rattle.m2_dispatch.specs.Laws.{Call}
@@ -11,20 +10,19 @@ use Rattle.m2_fabric.specs.declared.port.Connect.{Connect}
 use Rattle.m2_fabric.specs.declared.port.Connect.TheVariants as connect
 use Rattle.m2_fabric.specs.End.{SeenEnd}
 use Rattle.m2_fabric.specs.Port.{SeenPort}
-use Rattle.m2_cluster.specs.m2_feed.FeedNow.{FeedNow}
 use Rattle.m2_history.specs.m2_record.declared.due.Due.{Due}
 use Rattle.m2_history.specs.m2_record.declared.due.Due.TheVariants as due
-use Rattle.m2_history.specs.m2_record.Calls.{IsSameButRoom, with_opened}
+use Rattle.m2_history.specs.m2_record.Calls.{IsSameButRoom}
 use Rattle.m2_history.specs.m2_record.Due.{due_step}
 use Rattle.m2_history.specs.m2_record.IsRecord.{IsRecord}
 use Rattle.m2_history.specs.m2_record.RecordNow.{RecordNow}
-use Rattle.m2_cluster.specs.m2_center.declared.records_turn.RecordsTurn.{RecordsTurn}
-use Rattle.m2_cluster.specs.m2_center.declared.records_turn.RecordsTurn.TheVariants as turn
-use Rattle.m2_cluster.specs.m2_center.Connecting.{AtPort, DialsFor, Takes, answer_of}
-use Rattle.m2_cluster.specs.m2_center.Halves.{AllHalves}
-use Rattle.m2_cluster.specs.m2_center.Outbox.{OutboxNow, is_free}
-use Rattle.m2_cluster.specs.m2_center.RecordTurn.{Means}
-use Rattle.m2_cluster.specs.m2_center.RecordsTurn.{AllAmid, Amid, Around, DialsAndSteps, EachTurns, TurnsEach, TurnsIf, TurnsInOrder, TurnsOne, all_amid, amid, at_port, sides_of, turning_amid}
+use Rattle.m2_cluster.specs.m2_center.m2_turn.declared.records_turn.RecordsTurn.{RecordsTurn}
+use Rattle.m2_cluster.specs.m2_center.m2_turn.declared.records_turn.RecordsTurn.TheVariants as turn
+use Rattle.m2_cluster.specs.m2_center.m2_turn.Connecting.{AtPort, DialsFor, Takes, answer_of}
+use Rattle.m2_cluster.specs.m2_center.m2_turn.Halves.{AllHalves}
+use Rattle.m2_cluster.specs.m2_center.m2_turn.Outbox.{OutboxNow, is_free}
+use Rattle.m2_cluster.specs.m2_center.m2_turn.RecordTurn.{Means}
+use Rattle.m2_cluster.specs.m2_center.m2_turn.RecordsTurn.{AllAmid, Amid, Around, DialsAndSteps, EachTurns, TurnsEach, TurnsIf, TurnsInOrder, TurnsOne, all_amid, amid, at_port, sides_of, turning_amid}
 use Rattle.m2_growth.specs.Holding.{Grows, Holding}
 use Rattle.m2_growth.specs.GrowthLaws.{at_records}
 use Rattle.m2_growth.specs.Records.{RecordGrows, RecordsGrow}
@@ -34,13 +32,13 @@ use Rattle.m2_growth.proofs.OneRecord.{holding}
 use Rattle.m2_growth.proofs.RecordTurns as growth
 use Rattle.m2_links_go_on.specs.LogLaws.{RecordsStayLogged}
 use Rattle.m2_links_go_on.specs.Logged.{AreOfTheirPeers, IsCalled, IsLogged, all_put, logging}
-use Rattle.m2_links_go_on.proofs.Judged.{StaysSteady, none_same, steady_of}
+use Rattle.m2_links_go_on.proofs.Judged.{none_same}
 use Rattle.m2_links_go_on.proofs.Lagging.{Follows, Lags, all_follow, all_followed, all_lag, caught_up, follows_still, lags_on, lags_still, place_of}
 use Rattle.m2_links_go_on.proofs.Later.{its_own}
 use Rattle.m2_links_go_on.proofs.Puts.{HaveTheSame, retries}
 use Rattle.m2_links_go_on.proofs.LogTurns.{begins, turns}
+use Rattle.m2_cluster.proofs.m2_center.m2_turn.Steady.{dialled_steady}
 use Rattle.m2_fabric.proofs.m2_lemmas.Numbers.{unlike_turned}
-use Rattle.m2_fabric.proofs.m2_lemmas.Booleans.{false_isnt_true}
 
 -- ---- one record among others
 
@@ -76,25 +74,6 @@ all_with P [] ys p q = q
 all_with P (x ∷ xs) ys p q = (p.0, all_with P xs ys p.1 q)
 
 -- ---- a connect
-
-takes_steady : (made : Connect SeenEnd) (now : ℕ) (r s : RecordNow) → Takes made now r s → StaysSteady r s
-takes_steady (connect.Made e) now r s (mid, room, (opened, some)) = at s.core.live.feed opened some ∙ ap steady_of room
-  where
-    at : (o : Option FeedNow) → IfSome o (λ v. IsOpening mid.core.facts e v × (s ≡ record (with_opened v e.id mid) { room = s.room })) → IsSome o → StaysSteady mid s
-    at (Some v) (_, h) some = ap steady_of h
-    at None h some = absurd (false_isnt_true some)
-takes_steady connect.Failed now r s (mid, room, missed) = ap steady_of missed ∙ ap steady_of room
-takes_steady connect.NoMemory now r s room = ap steady_of room
-
-pub dialled_steady : (d : Due) (result : Result (Unit {0}) memory.NoMemory) (now : ℕ) (old new : AtPort) → DialsFor d result now old new → StaysSteady old.side new.side
-dialled_steady (due.Connect at) result now old new d = takes_steady d.made now old.side new.side d.takes
-dialled_steady due.Nothing result now old new (_, e) = ap (λ (a : AtPort). steady_of a.side) e
-dialled_steady due.Plan result now old new (_, e) = ap (λ (a : AtPort). steady_of a.side) e
-dialled_steady due.Hand result now old new (_, e) = ap (λ (a : AtPort). steady_of a.side) e
-dialled_steady due.Write result now old new (_, e) = ap (λ (a : AtPort). steady_of a.side) e
-dialled_steady due.Frame result now old new (_, e) = ap (λ (a : AtPort). steady_of a.side) e
-dialled_steady due.Read result now old new (_, e) = ap (λ (a : AtPort). steady_of a.side) e
-dialled_steady due.Compose result now old new (_, e) = ap (λ (a : AtPort). steady_of a.side) e
 
 abbrev IsErr : Result (Unit {0}) memory.NoMemory → Type 0
 IsErr (Ok u) = ⊥

@@ -1,5 +1,5 @@
 -- What ends are told of the other side changes nothing of what records handed on.
-use Rattle.std.proofs.Common.{◌≡◌, ℕ, ◌==◌, Bool, true, false, if◌then◌else◌, List, [], ◌∷◌, ◌++◌, map, take, drop, Option, Some, None, refl, sym, ap, subst, ◌∙◌}
+use Rattle.std.proofs.Common.{◌≡◌, ℕ, ◌==◌, Bool, true, false, if◌then◌else◌, List, [], ◌∷◌, map, take, drop, Option, Some, None, refl, sym, ap, subst, ◌∙◌}
 use Rattle.std.specs.List.{AllByRecursion, IsDistinct}
 use Rattle.std.specs.Option.{option_map}
 use Rattle.m2_dispatch.specs.Heard.{Heard}
@@ -17,7 +17,7 @@ use Rattle.m2_weave.specs.m2_journal.State.{start}
 use Rattle.m2_history.specs.m2_record.RecordNow.{RecordNow, ends_of, feed_end, speaks_of}
 use Rattle.m2_history.specs.m2_record.Sources as source
 use Rattle.m2_history.specs.m2_record.Sources.{broken_of, end_at, log_of, read_before, trail_at, written_before}
-use Rattle.m2_cluster.specs.m2_center.Outbox.{OutboxNow}
+use Rattle.m2_cluster.specs.m2_center.m2_turn.Outbox.{OutboxNow}
 use Rattle.m2_cluster.specs.m2_center.Center.{CenterNow}
 use Rattle.m2_cluster.specs.m2_center.Reaching.{untold, untold_feed, untold_record}
 use Rattle.m2_links_go_on.specs.LogLaws.{RestStaysLogged}

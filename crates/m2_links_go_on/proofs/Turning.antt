@@ -12,7 +12,7 @@ use Rattle.m2_growth.proofs.HalfTurns.{halves_grow}
 use Rattle.m2_growth.proofs.Plans.{plans_grow}
 use Rattle.m2_growth.proofs.RecordTurns.{record_turns}
 use Rattle.m2_history.specs.m2_record.RecordNow.{RecordNow}
-use Rattle.m2_cluster.specs.m2_center.RecordTurn.{Means}
+use Rattle.m2_cluster.specs.m2_center.m2_turn.RecordTurn.{Means}
 use Rattle.m2_links_go_on.specs.Center.{holding_of}
 use Rattle.m2_links_go_on.specs.ClusterLaws.{NodePlanGrows, NodeTurnGrows, PlanGrows, TurnGrows}
 use Rattle.m2_links_go_on.proofs.OneGrows.{acts_so}

@@ -10,9 +10,9 @@ use Rattle.m2_fabric.specs.Sockets.{goes_to, is_among, same_socket}
 use Rattle.m2_weave.specs.m2_handshake.Asks.{same_addr}
 use Rattle.m2_history.specs.m2_record.RecordNow.{RecordNow, ends_of, feed_end, ids_of}
 use Rattle.m2_history.specs.m2_trail.Arrivals.{LooseNow, left_of}
-use Rattle.m2_cluster.specs.m2_center.Halves.{AllHalves}
-use Rattle.m2_cluster.specs.m2_center.Hearing.{ends_in}
-use Rattle.m2_cluster.specs.m2_center.Sessions.{PendingNow, is_asker, peer_of}
+use Rattle.m2_cluster.specs.m2_center.m2_turn.Halves.{AllHalves}
+use Rattle.m2_cluster.specs.m2_center.m2_turn.Hearing.{ends_in}
+use Rattle.m2_cluster.specs.m2_center.m2_turn.Sessions.{PendingNow, is_asker, peer_of}
 use Rattle.m2_cluster.specs.m2_center.Reaching.{untold, untold_feed, untold_half, untold_loose, untold_record}
 use Rattle.m2_growth.specs.Ends.{AreOfTheirOwn}
 use Rattle.m2_growth.specs.Halves.{AskedOnMade, AskedTowards, HasItsHalves, IsHeardBy, JudgeApart, OneJudge, all_left, asked_on, sockets_left, sockets_taken}

@@ -6,7 +6,7 @@ use Rattle.m2_fabric.specs.End.{SeenEnd}
 use Rattle.m2_weave.specs.m2_journal.declared.entry.Entry.{Entry}
 use Rattle.m2_history.specs.m2_record.RecordNow.{RecordNow, ends_of}
 use Rattle.m2_history.specs.m2_trail.Arrivals.{LooseNow}
-use Rattle.m2_cluster.specs.m2_center.Halves.{AllHalves}
+use Rattle.m2_cluster.specs.m2_center.m2_turn.Halves.{AllHalves}
 use Rattle.m2_cluster.specs.m2_center.Reaching.{untold, untold_loose, untold_record}
 use Rattle.m2_cluster.specs.Node.{NodeNow}
 use Rattle.m2_growth.specs.Halves.{all_left}

@@ -12,7 +12,7 @@ use Rattle.m2_cluster.specs.m2_center.Plans.{PlansIn}
 use Rattle.m2_cluster.specs.Cluster.{ClusterNow, OneDoes}
 use Rattle.m2_cluster.specs.Node.{NodePlans, NodeTurns}
 use Rattle.m2_growth.specs.Holding.{AreOwn, Grows, all_ends}
-use Rattle.m2_cluster.specs.m2_center.RecordTurn.{Means}
+use Rattle.m2_cluster.specs.m2_center.m2_turn.RecordTurn.{Means}
 use Rattle.m2_links_go_on.specs.Center.{holding_of}
 use Rattle.m2_links_go_on.specs.Cluster.{GrowsInMemory}
 

@@ -7,7 +7,7 @@ use Rattle.m2_fabric.specs.Log.{nothing_done}
 use Rattle.m2_fabric.specs.Port.{SeenPort}
 use Rattle.m2_history.specs.m2_record.RecordNow.{RecordNow, ends_of}
 use Rattle.m2_history.specs.m2_trail.Arrivals.{LooseNow}
-use Rattle.m2_cluster.specs.m2_center.Halves.{AllHalves}
+use Rattle.m2_cluster.specs.m2_center.m2_turn.Halves.{AllHalves}
 use Rattle.m2_cluster.specs.m2_center.Center.{CenterNow}
 use Rattle.m2_cluster.specs.m2_center.Reaching.{untold, untold_half, untold_loose, untold_record}
 use Rattle.m2_cluster.specs.Node.{KeepsShared, NodeNow}

@@ -11,8 +11,8 @@ use Rattle.m2_history.specs.Link.{AreKept, IsWholeHalf, both_of}
 use Rattle.m2_history.specs.Woven.{BothNow}
 use Rattle.m2_history.specs.m2_record.IsRecord.{IsRecord}
 use Rattle.m2_history.specs.m2_record.RecordNow.{RecordNow, ends_of, ids_of}
-use Rattle.m2_cluster.specs.m2_center.Halves.{sessions_with}
-use Rattle.m2_cluster.specs.m2_center.Sessions.{AreConsistent, Supply}
+use Rattle.m2_cluster.specs.m2_center.m2_turn.Halves.{sessions_with}
+use Rattle.m2_cluster.specs.m2_center.m2_turn.Sessions.{AreConsistent, Supply}
 use Rattle.m2_history.specs.m2_trail.Arrivals.{LooseNow}
 use Rattle.m2_links_go_on.specs.Records.{RecordsGoOn}
 use Rattle.m2_links_go_on.specs.Told.{AreTold}

@@ -11,15 +11,15 @@ use Rattle.m2_weave.specs.m2_journal.State.{State}
 use Rattle.m2_history.specs.m2_record.IsRecord.{IsRecord, IsReplayedTo}
 use Rattle.m2_history.specs.m2_record.RecordNow.{RecordNow}
 use Rattle.m2_dispatch.specs.m2_shared.Place.{Place}
-use Rattle.m2_cluster.specs.m2_center.declared.halves_turn.HalvesTurn.{HalvesTurn}
-use Rattle.m2_cluster.specs.m2_center.declared.mailing.Mailed.{Mailed}
-use Rattle.m2_cluster.specs.m2_center.declared.records_turn.RecordsTurn.{RecordsTurn}
-use Rattle.m2_cluster.specs.m2_center.Halves.{AllHalves}
-use Rattle.m2_cluster.specs.m2_center.HalvesTurn.{Callers, TurnsHalves}
-use Rattle.m2_cluster.specs.m2_center.Mailing.{Mailing, Mails}
-use Rattle.m2_cluster.specs.m2_center.Outbox.{OutboxNow}
-use Rattle.m2_cluster.specs.m2_center.RecordTurn.{Means}
-use Rattle.m2_cluster.specs.m2_center.RecordsTurn.{AllAmid, TurnsEach}
+use Rattle.m2_cluster.specs.m2_center.m2_turn.declared.halves_turn.HalvesTurn.{HalvesTurn}
+use Rattle.m2_cluster.specs.m2_center.m2_turn.declared.mailing.Mailed.{Mailed}
+use Rattle.m2_cluster.specs.m2_center.m2_turn.declared.records_turn.RecordsTurn.{RecordsTurn}
+use Rattle.m2_cluster.specs.m2_center.m2_turn.Halves.{AllHalves}
+use Rattle.m2_cluster.specs.m2_center.m2_turn.HalvesTurn.{Callers, TurnsHalves}
+use Rattle.m2_cluster.specs.m2_center.m2_turn.Mailing.{Mailing, Mails}
+use Rattle.m2_cluster.specs.m2_center.m2_turn.Outbox.{OutboxNow}
+use Rattle.m2_cluster.specs.m2_center.m2_turn.RecordTurn.{Means}
+use Rattle.m2_cluster.specs.m2_center.m2_turn.RecordsTurn.{AllAmid, TurnsEach}
 use Rattle.m2_cluster.specs.m2_center.Center.{CenterNow}
 use Rattle.m2_cluster.specs.m2_center.CenterTurn.{Answer, TakesTurn}
 use Rattle.m2_cluster.specs.m2_center.Plans.{PlansIn}

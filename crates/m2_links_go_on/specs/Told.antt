@@ -1,5 +1,5 @@
 -- Two sides, and the halves beside them, that tell of all that their ends have got and put. This project's own.
-use Rattle.std.specs.Prelude.{◌≡◌, ℕ, ◌+◌, length, map}
+use Rattle.std.specs.Prelude.{◌≡◌, ◌+◌, length, map}
 use Rattle.std.specs.List.{AllByRecursion, IsDistinct}
 use Rattle.m2_fabric.specs.declared.socket.SocketId.{SocketId}
 use Rattle.m2_history.specs.Link.{AreKept, IsWholeHalf}

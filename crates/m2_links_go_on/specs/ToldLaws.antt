@@ -7,7 +7,7 @@ use Rattle.m2_fabric.specs.declared.socket.SocketId.{SocketId}
 use Rattle.m2_fabric.specs.Port.{SeenPort, with_incoming, with_news}
 use Rattle.m2_weave.specs.m2_journal.declared.facts.PlanStep.{PlanStep}
 use Rattle.m2_dispatch.specs.m2_shared.Place.{Place}
-use Rattle.m2_cluster.specs.m2_center.RecordTurn.{Means}
+use Rattle.m2_cluster.specs.m2_center.m2_turn.RecordTurn.{Means}
 use Rattle.m2_cluster.specs.m2_center.Center.{CenterNow}
 use Rattle.m2_cluster.specs.m2_center.CenterTurn.{Answer, TakesTurn}
 use Rattle.m2_cluster.specs.m2_center.Plans.{PlansIn}

@@ -6,7 +6,7 @@ use Rattle.m2_growth.specs.Halves.{all_left}
 use Rattle.m2_history.specs.Link.{both_of}
 use Rattle.m2_history.specs.Woven.{BothNow}
 use Rattle.m2_history.specs.m2_record.RecordNow.{RecordNow}
-use Rattle.m2_cluster.specs.m2_center.Halves.{AllHalves}
+use Rattle.m2_cluster.specs.m2_center.m2_turn.Halves.{AllHalves}
 use Rattle.m2_links_go_on.specs.Sides.{woven_now}
 use Rattle.m2_weave.specs.Rule.{Woven}
 

@@ -24,7 +24,7 @@ use Rattle.m2_script.specs.m2_record.Sources.{end_at, put_of}
 use Rattle.m2_script.specs.m2_record.TakenTrails.{judgement_of, judgements_in}
 use Rattle.m2_fabric.specs.Kept.{is_kept}
 use Rattle.m2_fabric.specs.Meeting.{comes_from}
-use Rattle.m2_script.specs.m2_center.Sessions.{peer_of}
+use Rattle.m2_script.specs.m2_center.m2_turn.Sessions.{peer_of}
 use Rattle.m2_bytes_fit.specs.m2_trail.Asks.{IsMain}
 use Rattle.m2_weave.specs.Later.{GoesOn}
 use Rattle.m2_promise.specs.Running.{HasAskedPeer, IsNodeAt, IsRunning, NodeActs, RunNow}

@@ -27,8 +27,8 @@ use Rattle.m2_promise.proofs.Openers as node
 use Rattle.m2_promise.proofs.Towards as link
 use Rattle.m2_promise.proofs.Towards.{AreTowards}
 use Rattle.m2_fabric.specs.Meeting.{comes_from}
-use Rattle.m2_script.specs.m2_center.Halves.{AllHalves, sessions_with}
-use Rattle.m2_script.specs.m2_center.Sessions.{AreConsistent, Caller, IsCaller, IsTold, PendingNow, Supply, WasCaller, caller_in, caller_of, peer_of}
+use Rattle.m2_script.specs.m2_center.m2_turn.Halves.{AllHalves, sessions_with}
+use Rattle.m2_script.specs.m2_center.m2_turn.Sessions.{AreConsistent, Caller, IsCaller, IsTold, PendingNow, Supply, WasCaller, caller_in, caller_of, peer_of}
 use Rattle.m2_bytes_fit.specs.m2_trail.Arrivals.{LooseNow, left_of}
 use Rattle.m2_bytes_fit.specs.m2_trail.Trails.{TrailNow, opener_of}
 use Rattle.m2_weave.specs.Strands.{has_opened, journal_of}

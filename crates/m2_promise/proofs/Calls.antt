@@ -28,16 +28,16 @@ use Rattle.m2_script.specs.Script.{Deed, Ends, Happens, IsPassed, PlansStep, Run
 use Rattle.m2_script.specs.Script as script
 use Rattle.m2_dispatch.specs.m2_shared.Place.{Place}
 use Rattle.m2_fabric.specs.InStep.{Network}
-use Rattle.m2_script.specs.m2_center.declared.mailing.Mailed.{Mailed}
-use Rattle.m2_script.specs.m2_center.declared.mailing.Mailed.TheVariants as mailed
-use Rattle.m2_script.specs.m2_center.declared.record_turn.RecordTurn.{RecordTurn}
-use Rattle.m2_script.specs.m2_center.declared.record_turn.RecordTurn.TheVariants as one
-use Rattle.m2_script.specs.m2_center.declared.records_turn.RecordsTurn.{RecordsTurn}
-use Rattle.m2_script.specs.m2_center.declared.records_turn.RecordsTurn.TheVariants as all
-use Rattle.m2_script.specs.m2_center.Mailing.{Mailing, Mails, MailsSome, PutsSome, heard_at_puts}
-use Rattle.m2_script.specs.m2_center.Outbox.{Dispatches, DispatchesOr, OutboxNow, Puts, PutsLetter, Retries, RetriesFor, is_free}
-use Rattle.m2_script.specs.m2_center.RecordTurn.{EndsBy, Means, PutsHanded, Steps, Turning, TurnsAs}
-use Rattle.m2_script.specs.m2_center.RecordsTurn.{AllAmid, Amid, Around, DialsAndSteps, EachTurns, TurnsEach, TurnsIf, TurnsInOrder, all_amid, amid, turning_amid}
+use Rattle.m2_script.specs.m2_center.m2_turn.declared.mailing.Mailed.{Mailed}
+use Rattle.m2_script.specs.m2_center.m2_turn.declared.mailing.Mailed.TheVariants as mailed
+use Rattle.m2_script.specs.m2_center.m2_turn.declared.record_turn.RecordTurn.{RecordTurn}
+use Rattle.m2_script.specs.m2_center.m2_turn.declared.record_turn.RecordTurn.TheVariants as one
+use Rattle.m2_script.specs.m2_center.m2_turn.declared.records_turn.RecordsTurn.{RecordsTurn}
+use Rattle.m2_script.specs.m2_center.m2_turn.declared.records_turn.RecordsTurn.TheVariants as all
+use Rattle.m2_script.specs.m2_center.m2_turn.Mailing.{Mailing, Mails, MailsSome, PutsSome, heard_at_puts}
+use Rattle.m2_script.specs.m2_center.m2_turn.Outbox.{Dispatches, DispatchesOr, OutboxNow, Puts, PutsLetter, Retries, RetriesFor, is_free}
+use Rattle.m2_script.specs.m2_center.m2_turn.RecordTurn.{EndsBy, Means, PutsHanded, Steps, Turning, TurnsAs}
+use Rattle.m2_script.specs.m2_center.m2_turn.RecordsTurn.{AllAmid, Amid, Around, DialsAndSteps, EachTurns, TurnsEach, TurnsIf, TurnsInOrder, all_amid, amid, turning_amid}
 use Rattle.m2_fabric.proofs.m2_lemmas.Booleans.{from_false_true}
 
 -- ---- logs only grow

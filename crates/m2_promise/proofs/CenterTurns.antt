@@ -9,16 +9,16 @@ use Rattle.m2_dispatch.specs.declared.parcel.Parcel.{Parcel}
 use Rattle.m2_dispatch.specs.Dispatch.{Queued}
 use Rattle.m2_weave.specs.m2_journal.declared.facts.PlanStep.{PlanStep}
 use Rattle.m2_script.specs.m2_record.RecordNow.{RecordNow}
-use Rattle.m2_script.specs.m2_center.declared.accepting.Accepted.{Accepted}
-use Rattle.m2_script.specs.m2_center.declared.halves_turn.HalvesTurn.{HalvesTurn}
-use Rattle.m2_script.specs.m2_center.declared.mailing.Mailed.{Mailed}
-use Rattle.m2_script.specs.m2_center.declared.records_turn.RecordsTurn.{RecordsTurn}
-use Rattle.m2_script.specs.m2_center.declared.records_turn.RecordsTurn.TheVariants as turn
-use Rattle.m2_script.specs.m2_center.Outbox.{OutboxNow}
-use Rattle.m2_script.specs.m2_center.RecordTurn.{Means}
+use Rattle.m2_script.specs.m2_center.m2_turn.declared.accepting.Accepted.{Accepted}
+use Rattle.m2_script.specs.m2_center.m2_turn.declared.halves_turn.HalvesTurn.{HalvesTurn}
+use Rattle.m2_script.specs.m2_center.m2_turn.declared.mailing.Mailed.{Mailed}
+use Rattle.m2_script.specs.m2_center.m2_turn.declared.records_turn.RecordsTurn.{RecordsTurn}
+use Rattle.m2_script.specs.m2_center.m2_turn.declared.records_turn.RecordsTurn.TheVariants as turn
+use Rattle.m2_script.specs.m2_center.m2_turn.Outbox.{OutboxNow}
+use Rattle.m2_script.specs.m2_center.m2_turn.RecordTurn.{Means}
 use Rattle.m2_script.specs.m2_center.Center.{CenterNow}
 use Rattle.m2_script.specs.m2_center.CenterTurn.{Accepts, Answer, EmptiesMail, TakesTurn, TurnsHalves, TurnsRecords, all_amid_in, callers_of, mailing_in, stepped_so}
-use Rattle.m2_links_go_on.proofs.Judged.{halves_stay_steady}
+use Rattle.m2_script.proofs.m2_center.m2_turn.Steady.{halves_stay_steady}
 use Rattle.m2_links_go_on.proofs.Lagging.{place_of}
 use Rattle.m2_promise.specs.Planned.{AreOfPeers, IsPeerOf}
 use Rattle.m2_promise.proofs.Planned.{KeepPlans, planned_of, steady_plans}

@@ -18,7 +18,7 @@ use Rattle.m2_script.specs.m2_record.Sources.{end_at}
 use Rattle.m2_fabric.specs.InStep.{SeenFabric}
 use Rattle.m2_fabric.specs.Kept.{is_kept}
 use Rattle.m2_fabric.specs.SimFabric.{AreApart}
-use Rattle.m2_script.specs.m2_center.Halves.{AllHalves}
+use Rattle.m2_script.specs.m2_center.m2_turn.Halves.{AllHalves}
 use Rattle.m2_links_go_on.specs.Sides.{woven_now}
 use Rattle.m2_weave.specs.TurnLaws.{HasOrder}
 use Rattle.m2_promise.specs.RunLaws.{ANodeActs}

@@ -8,7 +8,7 @@ use Rattle.m2_growth.specs.InStepLaws.{StayMet}
 use Rattle.m2_growth.specs.Turn.{CameOfPut}
 use Rattle.m2_fabric.specs.Kept.{SeenPair, back, both, directions, is_kept, of_pair, there}
 use Rattle.m2_fabric.specs.Meeting.{acceptor}
-use Rattle.m2_script.proofs.m2_center.Peers.{each_of_two}
+use Rattle.m2_script.proofs.m2_center.m2_turn.Peers.{each_of_two}
 use Rattle.m2_promise.specs.Running.{AreBetween, RunNow}
 use Rattle.m2_promise.proofs.Lists.{any_passes, flat_one}
 use Rattle.m2_fabric.proofs.Sockets.{same_equal}

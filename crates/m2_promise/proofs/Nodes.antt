@@ -7,7 +7,7 @@ use Rattle.m2_weave.specs.m2_journal.SideFacts.{SideFacts}
 use Rattle.m2_script.specs.m2_record.Due.{next_step}
 use Rattle.m2_script.specs.m2_record.IsRecord.{IsRecord}
 use Rattle.m2_script.specs.m2_record.RecordNow.{RecordNow}
-use Rattle.m2_script.specs.m2_center.Outbox.{OutboxNow}
+use Rattle.m2_script.specs.m2_center.m2_turn.Outbox.{OutboxNow}
 use Rattle.m2_script.specs.m2_center.Center.{CenterNow}
 use Rattle.m2_script.specs.m2_center.Reaching.{rest_in, untold_record}
 use Rattle.m2_script.specs.m2_cluster.Node.{IsWholeNode, NodeNow, NodeTurns, rest_of_node}

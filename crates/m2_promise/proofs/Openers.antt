@@ -25,8 +25,8 @@ use Rattle.m2_script.specs.m2_record.Sources.{end_at}
 use Rattle.m2_script.specs.m2_record.TakenTrails.{taken_in}
 use Rattle.m2_weave.specs.m2_session.SessionLaws.{takes}
 use Rattle.m2_fabric.specs.Meeting.{comes_from}
-use Rattle.m2_script.specs.m2_center.Hearing.{ends_in}
-use Rattle.m2_script.specs.m2_center.Sessions.{peer_of}
+use Rattle.m2_script.specs.m2_center.m2_turn.Hearing.{ends_in}
+use Rattle.m2_script.specs.m2_center.m2_turn.Sessions.{peer_of}
 use Rattle.m2_bytes_fit.specs.m2_trail.Arrivals.{LooseNow}
 use Rattle.m2_bytes_fit.specs.m2_trail.Trails.{TrailNow}
 use Rattle.m2_weave.specs.Strands.{has_opened, journal_of}

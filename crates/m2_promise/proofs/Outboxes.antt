@@ -13,10 +13,10 @@ use Rattle.m2_dispatch.specs.m2_policy.declared.path.Path.{Path}
 use Rattle.m2_dispatch.specs.m2_policy.declared.path.Path.TheVariants.{Fast, Queued}
 use Rattle.m2_dispatch.proofs.m2_queues.Joining.{all-put_behind}
 use Rattle.m2_dispatch.specs.m2_shared.Place.{Place}
-use Rattle.m2_script.specs.m2_center.declared.mailing.Mailed.{Mailed}
-use Rattle.m2_script.specs.m2_center.declared.mailing.Mailed.TheVariants as mailed
-use Rattle.m2_script.specs.m2_center.Mailing.{DispatchesSome, Mailing, Mails, MailsSome, PutsSome, Queueing, after_puts, heard_at_puts}
-use Rattle.m2_script.specs.m2_center.Outbox.{Dispatches, DispatchesOr, OutboxNow, Puts, PutsLetter, Retries, RetriesFor, in_mail}
+use Rattle.m2_script.specs.m2_center.m2_turn.declared.mailing.Mailed.{Mailed}
+use Rattle.m2_script.specs.m2_center.m2_turn.declared.mailing.Mailed.TheVariants as mailed
+use Rattle.m2_script.specs.m2_center.m2_turn.Mailing.{DispatchesSome, Mailing, Mails, MailsSome, PutsSome, Queueing, after_puts, heard_at_puts}
+use Rattle.m2_script.specs.m2_center.m2_turn.Outbox.{Dispatches, DispatchesOr, OutboxNow, Puts, PutsLetter, Retries, RetriesFor, in_mail}
 use Rattle.m2_fabric.proofs.m2_lemmas.Lists.{all_append}
 
 -- ---- lists

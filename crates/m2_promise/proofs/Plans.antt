@@ -11,8 +11,8 @@ use Rattle.m2_weave.specs.m2_journal.declared.facts.PlanStep.{PlanStep}
 use Rattle.m2_weave.specs.m2_journal.declared.facts.PlanStep.TheVariants as step
 use Rattle.m2_script.specs.m2_record.Calls.{TakesNext, planned_too}
 use Rattle.m2_script.specs.m2_record.RecordNow.{RecordNow}
-use Rattle.m2_script.specs.m2_center.Outbox.{OutboxNow}
-use Rattle.m2_script.specs.m2_center.Planning.{TakesNew}
+use Rattle.m2_script.specs.m2_center.m2_turn.Outbox.{OutboxNow}
+use Rattle.m2_script.specs.m2_center.m2_turn.Planning.{TakesNew}
 use Rattle.m2_script.specs.m2_center.Center.{CenterNow}
 use Rattle.m2_script.specs.m2_center.Plans.{is_towards}
 use Rattle.m2_script.specs.m2_cluster.Node.{IsWholeNode, NodeNow, NodePlans}

@@ -9,7 +9,7 @@ use Rattle.m2_weave.specs.m2_journal.declared.facts.PlanStep.{PlanStep}
 use Rattle.m2_script.specs.m2_record.RecordNow.{ids_of}
 use Rattle.m2_script.specs.m2_record.Sources.{end_at}
 use Rattle.m2_dispatch.specs.m2_shared.Place.{Place}
-use Rattle.m2_script.specs.m2_center.RecordTurn.{Means}
+use Rattle.m2_script.specs.m2_center.m2_turn.RecordTurn.{Means}
 use Rattle.m2_script.specs.m2_center.Center.{CenterNow}
 use Rattle.m2_script.specs.m2_center.CenterTurn.{AndThen, Answer, AcceptsSo, AnswersSo, DeliversSo, Part, StepsSo, TakesTurn, accepting_in, all_amid_in}
 use Rattle.m2_script.specs.m2_center.Plans.{PlansIn}

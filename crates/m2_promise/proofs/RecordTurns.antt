@@ -10,15 +10,15 @@ use Rattle.m2_script.specs.m2_record.declared.stepped.Stepped.TheVariants as ste
 use Rattle.m2_script.specs.m2_record.Due.{due_step}
 use Rattle.m2_script.specs.m2_record.IsRecord.{IsFrom}
 use Rattle.m2_script.specs.m2_record.RecordNow.{RecordNow}
-use Rattle.m2_script.specs.m2_center.declared.record_turn.RecordTurn.{RecordTurn}
-use Rattle.m2_script.specs.m2_center.declared.record_turn.RecordTurn.TheVariants as one
-use Rattle.m2_script.specs.m2_center.declared.records_turn.RecordsTurn.TheVariants as turn
-use Rattle.m2_script.specs.m2_center.Outbox.{OutboxNow, is_free}
-use Rattle.m2_script.specs.m2_center.RecordTurn.{EndsBy, Means, PutsHanded, Steps, TakesStep, Turning, TurnsAs, worked_by}
-use Rattle.m2_script.specs.m2_center.RecordsTurn.{AllAmid, Amid, Around, EachTurns, TurnsEach, TurnsIf, amid, at_port, sides_of, turning_amid}
+use Rattle.m2_script.specs.m2_center.m2_turn.declared.record_turn.RecordTurn.{RecordTurn}
+use Rattle.m2_script.specs.m2_center.m2_turn.declared.record_turn.RecordTurn.TheVariants as one
+use Rattle.m2_script.specs.m2_center.m2_turn.declared.records_turn.RecordsTurn.TheVariants as turn
+use Rattle.m2_script.specs.m2_center.m2_turn.Outbox.{OutboxNow, is_free}
+use Rattle.m2_script.specs.m2_center.m2_turn.RecordTurn.{EndsBy, Means, PutsHanded, Steps, TakesStep, Turning, TurnsAs, worked_by}
+use Rattle.m2_script.specs.m2_center.m2_turn.RecordsTurn.{AllAmid, Amid, Around, EachTurns, TurnsEach, TurnsIf, amid, at_port, sides_of, turning_amid}
 use Rattle.m2_growth.proofs.Steps as growth
-use Rattle.m2_links_go_on.proofs.Handed.{StepHands, steps}
-use Rattle.m2_links_go_on.proofs.RecordTurns.{dialled_steady}
+use Rattle.m2_script.proofs.m2_center.m2_turn.Handed.{StepHands, steps}
+use Rattle.m2_script.proofs.m2_center.m2_turn.Steady.{dialled_steady}
 use Rattle.m2_promise.proofs.Planned.{KeepPlans, KeepsPlan, planned_of, steady_plan}
 use Rattle.m2_promise.proofs.Outboxes.{FastIsOf, put, retried}
 

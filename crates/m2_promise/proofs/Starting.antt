@@ -31,9 +31,9 @@ use Rattle.m2_promise.proofs.Places.{goes_one}
 use Rattle.m2_fabric.specs.InStep.{HaveWhatFlowed, IsUnread, SeenFabric}
 use Rattle.m2_fabric.specs.Kept.{SeenPair, directions}
 use Rattle.m2_fabric.specs.SimFabric.{AreApart}
-use Rattle.m2_script.specs.m2_center.Halves.{AllHalves, sessions_with}
-use Rattle.m2_script.specs.m2_center.Hearing.{ends_in}
-use Rattle.m2_script.specs.m2_center.Sessions.{AreConsistent}
+use Rattle.m2_script.specs.m2_center.m2_turn.Halves.{AllHalves, sessions_with}
+use Rattle.m2_script.specs.m2_center.m2_turn.Hearing.{ends_in}
+use Rattle.m2_script.specs.m2_center.m2_turn.Sessions.{AreConsistent}
 use Rattle.m2_bytes_fit.specs.m2_trail.Arrivals.{LooseNow}
 use Rattle.m2_bytes_fit.specs.m2_trail.Trails.{TrailNow}
 use Rattle.m2_links_go_on.specs.Sides.{woven_now}

@@ -12,7 +12,7 @@ use Rattle.m2_links_go_on.specs.Linked.{IsPeerAt}
 use Rattle.m2_links_go_on.proofs.LinkRecords.{has_one}
 use Rattle.m2_script.specs.m2_record.RecordNow.{RecordNow, ends_of, ids_of}
 use Rattle.m2_fabric.specs.Meeting.{comes_from}
-use Rattle.m2_script.specs.m2_center.Sessions.{peer_of}
+use Rattle.m2_script.specs.m2_center.m2_turn.Sessions.{peer_of}
 use Rattle.m2_weave.specs.Strands.{has_opened, journal_of}
 use Rattle.m2_promise.specs.Running.{HasAskedPeer, IsNodeAt, IsRecordAt, IsRunning, RunNow}
 use Rattle.m2_promise.proofs.BothEnds.{address}

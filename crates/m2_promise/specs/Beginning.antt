@@ -8,8 +8,8 @@ use Rattle.m2_script.specs.m2_record.IsRecord.{IsRecord}
 use Rattle.m2_script.specs.m2_record.RecordNow.{RecordNow, ends_of}
 use Rattle.m2_promise.specs.Running.{HoldsAll, IsRecordAt, RunNow}
 use Rattle.m2_fabric.specs.SimFabric.{AreApart, fresh_fabric}
-use Rattle.m2_script.specs.m2_center.Halves.{halves_of}
-use Rattle.m2_script.specs.m2_center.Sessions.{AreConsistent, Supply}
+use Rattle.m2_script.specs.m2_center.m2_turn.Halves.{halves_of}
+use Rattle.m2_script.specs.m2_center.m2_turn.Sessions.{AreConsistent, Supply}
 
 -- a record that did nothing: it has no entries, took no half and has no end
 pub record IsUnused (r : RecordNow) : Type 0 where

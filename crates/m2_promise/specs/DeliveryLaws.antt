@@ -7,7 +7,7 @@ use Rattle.m2_growth.specs.Holding.{Holding}
 use Rattle.m2_links_go_on.specs.Logged.{IsLogged, logging, logs_in}
 use Rattle.m2_script.specs.m2_record.RecordNow.{RecordNow}
 use Rattle.m2_promise.specs.Running.{HaveOrders, IsLinkOf, IsRunning, RunNow}
-use Rattle.m2_script.specs.m2_center.Outbox.{OutboxNow}
+use Rattle.m2_script.specs.m2_center.m2_turn.Outbox.{OutboxNow}
 use Rattle.m2_links_go_on.specs.Sides.{woven_now}
 use Rattle.m2_weave.specs.TurnLaws.{HasOrder}
 use Rattle.m2_history.specs.WovenLink.{IsLink, IsOrderOf, LinkNow}

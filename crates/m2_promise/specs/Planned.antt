@@ -9,7 +9,7 @@ use Rattle.m2_dispatch.specs.Dispatch.{Queued}
 use Rattle.m2_weave.specs.m2_journal.declared.facts.PlanStep.{PlanStep}
 use Rattle.m2_script.specs.m2_record.Due.{next_step}
 use Rattle.m2_script.specs.m2_record.RecordNow.{RecordNow}
-use Rattle.m2_script.specs.m2_center.Outbox.{OutboxNow}
+use Rattle.m2_script.specs.m2_center.m2_turn.Outbox.{OutboxNow}
 use Rattle.m2_script.specs.m2_cluster.Node.{NodeNow}
 use Rattle.m2_links_go_on.specs.ClusterTold.{OneByOne}
 use Rattle.m2_links_go_on.specs.LogLaws.{logging_in}

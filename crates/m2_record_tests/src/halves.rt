@@ -4,9 +4,10 @@ ghost use Rattle.std.specs.Prelude.{◌≡◌, []};
 
 use crate::planned::at;
 use m2_addr::Addr;
-use m2_center::{Accepted, MOST_HALVES, Pendings, accept_all, half_log, home, leave_all};
+use m2_center::{half_log, home};
 use m2_fabric::{Port, SimEnd, SimPort, SocketId};
 use m2_trail::Loose;
+use m2_turn::{Accepted, MOST_HALVES, Pendings, accept_all, leave_all};
 use std::alloc::Global;
 use std::process::Abort;
 

@@ -1,19 +1,19 @@
 //! A record in a thread's turn: its steps, and its connect at a port.
 
 ghost use Rattle.std.specs.Prelude.{◌≡◌, ◌≤◌};
-ghost use Rattle.m2_center.specs.Answering.{StaysBeside};
-ghost use Rattle.m2_center.specs.Connecting.{IsMadeBy};
-ghost use Rattle.m2_center.specs.Outbox.{OwnsAll};
+ghost use Rattle.m2_turn.specs.Answering.{StaysBeside};
+ghost use Rattle.m2_turn.specs.Connecting.{IsMadeBy};
+ghost use Rattle.m2_turn.specs.Outbox.{OwnsAll};
 ghost use Rattle.m2_record.specs.Calls.{Owns};
 
 use crate::planned::{at, facts, plans};
-use m2_center::{Outbox, RecordTurn, connect_if_due, turn_record};
 use m2_dispatch::LogDispatcher;
 use m2_fabric::{End, Port, SimEnd, SimPort};
 use m2_journal::PlanStep;
 use m2_policy::lossless_peer;
 use m2_record::{Record, Work};
 use m2_shared::{NumberPass, Numbers, TakePass, Throttle};
+use m2_turn::{Outbox, RecordTurn, connect_if_due, turn_record};
 use std::alloc::Global;
 use std::process::Abort;
 
@@ -55,7 +55,8 @@ fn turns(
         throttle,
         take_pass,
     };
-    turn_record(side, out, &mut work, 0)
+    let mut handed = false;
+    turn_record(side, out, &mut work, &mut handed, 0)
 }
 
 /// Makes the connect that is due, of a record that no socket came to.

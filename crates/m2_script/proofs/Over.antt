@@ -25,7 +25,7 @@ use Rattle.m2_script.specs.declared.made.Towards.{Towards}
 use Rattle.m2_script.specs.Made.{facts_of, new_towards, other_of, over, records_of, roomless}
 use Rattle.m2_shared.specs.Numbers.{SeenNumberPass}
 use Rattle.m2_shared.specs.Throttle.{SeenTakePass}
-use Rattle.m2_center.specs.Sessions.{IsSupplied, Supply, peer_of}
+use Rattle.m2_center.specs.m2_turn.Sessions.{IsSupplied, Supply, peer_of}
 use Rattle.m2_bytes.proofs.m2_lemmas.Booleans.{or_right, or_left, both_true, one_of_or}
 use Rattle.m2_bytes.proofs.m2_lemmas.Numbers.{same_number}
 

@@ -1,5 +1,5 @@
 use Rattle.std.proofs.Common.{rules}
-use Rattle.m2_center.specs.Halves.{halves_of}
+use Rattle.m2_turn.specs.Halves.{halves_of}
 use Rattle.m2_center.proofs.EndsHear.{heard_ends, heard_stays}
 use Rattle.m2_center.proofs.hearing.half_hears.Goals as goal
 

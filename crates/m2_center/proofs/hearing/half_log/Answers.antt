@@ -1,8 +1,8 @@
 use Rattle.std.proofs.Common.{map, ◌∙◌}
 use Rattle.m2_fabric.specs.Log.{log_of}
 use Rattle.m2_trail.specs.Arrivals.{LooseNow}
-use Rattle.m2_center.specs.Sessions.{PendingNow}
-use Rattle.m2_center.proofs.Lending.{first_part, second_part}
+use Rattle.m2_turn.specs.Sessions.{PendingNow}
+use Rattle.m2_turn.proofs.Lending.{first_part, second_part}
 use Rattle.m2_center.proofs.hearing.half_log.Goals as goal
 
 pub returns-in-Some : goal.returns-in-Some

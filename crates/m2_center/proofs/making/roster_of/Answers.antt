@@ -1,8 +1,8 @@
 -- The peer of each record is added behind those before it, from which it differs.
 use Rattle.std.proofs.Common.{◌≡◌, add-one, false, map, take, sym, ap, subst, ◌∙◌, ◌++◌, ◌∷◌, []}
 use Rattle.std.specs.List.{list_any}
-use Rattle.m2_handshake.specs.Asks.{same_addr}
-use Rattle.m2_center.specs.Sessions.{peer_of}
+use Rattle.m2_turn.specs.m2_handshake.Asks.{same_addr}
+use Rattle.m2_turn.specs.Sessions.{peer_of}
 use Rattle.m2_center.proofs.Rosters.{new_peer, one_more}
 use Rattle.m2_center.proofs.making.roster_of.Goals as goal
 

@@ -1,5 +1,5 @@
 use Rattle.std.proofs.Common.{◌≡◌, map, take}
-use Rattle.m2_center.specs.Sessions.{peer_of}
+use Rattle.m2_turn.specs.Sessions.{peer_of}
 use Rattle.m2_center.proofs.making.roster_of.Given as goal
 
 -- the peers of the records that were looked at are added

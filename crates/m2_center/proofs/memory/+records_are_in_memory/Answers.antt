@@ -2,7 +2,7 @@ use Rattle.std.proofs.Common.{sym, subst}
 use Rattle.std.specs.List.{AllByRecursion, flat_map}
 use Rattle.m2_fabric.specs.Kinds.{IsInMemory}
 use Rattle.m2_record.specs.RecordNow.{ends_of}
-use Rattle.m2_center.proofs.Left.{all_join}
+use Rattle.m2_turn.proofs.Left.{all_join}
 use Rattle.m2_center.proofs.memory.+records_are_in_memory.Goals as goal
 
 pub returns-in-Some : goal.returns-in-Some

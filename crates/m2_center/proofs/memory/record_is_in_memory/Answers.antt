@@ -2,7 +2,7 @@ use Rattle.std.proofs.Common.{subst}
 use Rattle.std.specs.List.{AllByRecursion}
 use Rattle.m2_fabric.specs.Kinds.{IsInMemory}
 use Rattle.m2_record.specs.RecordNow.{feed_end}
-use Rattle.m2_center.proofs.Left.{all_join}
+use Rattle.m2_turn.proofs.Left.{all_join}
 use Rattle.m2_center.proofs.memory.record_is_in_memory.Goals as goal
 
 pub returns : goal.returns

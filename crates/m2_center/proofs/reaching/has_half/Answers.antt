@@ -1,8 +1,8 @@
 use Rattle.std.proofs.Common.{Bor, ◌∙◌}
 use Rattle.m2_fabric.specs.declared.log.EndLog.{EndLog}
 use Rattle.m2_fabric.specs.Log.{log_of}
-use Rattle.m2_center.specs.Halves.{halves_of}
-use Rattle.m2_center.specs.Hearing.{ends_in}
+use Rattle.m2_turn.specs.Halves.{halves_of}
+use Rattle.m2_turn.specs.Hearing.{ends_in}
 use Rattle.m2_center.proofs.Reached.{has_found}
 use Rattle.m2_center.proofs.reaching.has_half.Goals as goal
 

@@ -1,8 +1,8 @@
 -- Those that are over come back as many as they were, and so do the halves.
 use Rattle.std.proofs.Common.{◌≡◌, ◌-◌, ◌≤◌, OnOk, OnErr, sym, subst, ◌∙◌}
 use Rattle.std.proofs.lemmas.List.{with_items_is}
-use Rattle.m2_center.specs.Halves.{halves_of}
-use Rattle.m2_center.specs.Hearing.{after_hearing}
+use Rattle.m2_turn.specs.Halves.{halves_of}
+use Rattle.m2_turn.specs.Hearing.{after_hearing}
 use Rattle.m2_center.proofs.Reached.{by_both, half_count}
 use Rattle.m2_center.proofs.reaching.one_half_hears.Goals as goal
 

@@ -5,7 +5,7 @@ use Rattle.m2_fabric.specs.End.{SeenEnd}
 use Rattle.m2_fabric.specs.Log.{log_of}
 use Rattle.m2_record.specs.RecordNow.{RecordNow, ends_of}
 use Rattle.m2_record.specs.Sources.{end_at}
-use Rattle.m2_center.proofs.Lending.{first_part, second_part}
+use Rattle.m2_turn.proofs.Lending.{first_part, second_part}
 use Rattle.std.proofs.Common.{List}
 use Rattle.m2_center.proofs.record_ends.+record_log.Goals as goal
 

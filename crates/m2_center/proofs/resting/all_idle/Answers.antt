@@ -1,5 +1,5 @@
 use Rattle.std.proofs.Common.{sym, ◌∙◌}
-use Rattle.m2_center.specs.RecordsTurn.{is_idle}
+use Rattle.m2_turn.specs.RecordsTurn.{is_idle}
 use Rattle.m2_center.proofs.Passing.{all_pass, one_more_passes}
 use Rattle.m2_center.proofs.resting.all_idle.Goals as goal
 

@@ -1,6 +1,6 @@
 use Rattle.std.proofs.Common.{◌≡◌, drop}
 use Rattle.std.specs.List.{list_all}
-use Rattle.m2_center.specs.RecordsTurn.{is_idle}
+use Rattle.m2_turn.specs.RecordsTurn.{is_idle}
 use Rattle.m2_center.proofs.resting.all_idle.Given as goal
 
 -- those that were looked at are idle

@@ -1,10 +1,10 @@
 -- The records that were lent come back as many as they were.
 use Rattle.std.proofs.Common.{◌≡◌, ℕ, List, map, sym, ◌∙◌}
 use Rattle.m2_fabric.specs.declared.socket.SocketId.{SocketId}
-use Rattle.m2_center.specs.HalfTurn.{homes}
-use Rattle.m2_center.specs.HalvesTurn.{TurnsHalves, callers, sessions_of}
-use Rattle.m2_center.specs.RecordTurn.{means_of}
-use Rattle.m2_center.specs.Sessions.{AreConsistent, peer_of, supply_of}
+use Rattle.m2_turn.specs.HalfTurn.{homes}
+use Rattle.m2_turn.specs.HalvesTurn.{TurnsHalves, callers, sessions_of}
+use Rattle.m2_turn.specs.RecordTurn.{means_of}
+use Rattle.m2_turn.specs.Sessions.{AreConsistent, peer_of, supply_of}
 use Rattle.m2_center.proofs.Lent.{came_back, of_both}
 use Rattle.m2_center.proofs.turning.answer_all.Goals as goal
 

@@ -1,10 +1,11 @@
 -- The records that were lent come back as many as they were.
 use Rattle.std.proofs.Common.{sym, ◌∙◌}
 use Rattle.std.specs.List.{AllByRecursion}
-use Rattle.m2_center.specs.Beside.{AllKeepCallers, StayConsistent, served}
-use Rattle.m2_center.specs.RecordTurn.{means_of}
-use Rattle.m2_center.specs.RecordsTurn.{TurnsEach, all_amid, around}
-use Rattle.m2_center.specs.Sessions.{IsSupplied, supply_of}
+use Rattle.m2_turn.specs.Beside.{AllKeepCallers, StayConsistent, served}
+use Rattle.m2_turn.specs.Handing.{SaysMore, handed_in}
+use Rattle.m2_turn.specs.RecordTurn.{means_of}
+use Rattle.m2_turn.specs.RecordsTurn.{TurnsEach, all_amid, around}
+use Rattle.m2_turn.specs.Sessions.{IsSupplied, supply_of}
 use Rattle.m2_center.proofs.Lent.{came_back, of_both}
 use Rattle.m2_center.proofs.turning.step_all.Goals as goal
 
@@ -34,3 +35,9 @@ returns-clause-keeps g c =
     of_both (λ was is. AllKeepCallers (g.P.Port.seen c.args.port.now).made was is) _ _ _ _ c.as_mut_slice.ensures.value
     (sym (came_back c.args.records.now.items c.turn_each.new.records c.args.records.now.len (c.turn_each.auto.records ∙ c.as_mut_slice.ensures.len)))
     c.turn_each.ensures.keeps
+
+pub returns-clause-handed : goal.returns-clause-handed
+returns-clause-handed g c =
+    of_both (λ was is. SaysMore c.args.handed.now c.turn_each.new.handed (handed_in was) (handed_in is)) _ _ _ _ c.as_mut_slice.ensures.value
+    (sym (came_back c.args.records.now.items c.turn_each.new.records c.args.records.now.len (c.turn_each.auto.records ∙ c.as_mut_slice.ensures.len)))
+    c.turn_each.ensures.handed

@@ -1,7 +1,7 @@
 use Rattle.m2_trail.specs.Arrivals.{left_of}
-use Rattle.m2_center.specs.Halves.{IsWhole}
-use Rattle.m2_center.specs.Sessions.{PendingNow}
-use Rattle.m2_center.proofs.Wholes.{all_behind}
+use Rattle.m2_turn.specs.Halves.{IsWhole}
+use Rattle.m2_turn.specs.Sessions.{PendingNow}
+use Rattle.m2_turn.proofs.Wholes.{all_behind}
 use Rattle.m2_center.proofs.whole.are_whole.Goals as goal
 
 pub returns : goal.returns

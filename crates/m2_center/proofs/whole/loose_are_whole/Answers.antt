@@ -1,7 +1,7 @@
 use Rattle.std.proofs.Common.{subst}
 use Rattle.std.proofs.lemmas.List.Elements.{All-more, recursion_from_All}
-use Rattle.m2_center.specs.Halves.{IsWhole}
-use Rattle.m2_center.proofs.Wholes.{all_of_them}
+use Rattle.m2_turn.specs.Halves.{IsWhole}
+use Rattle.m2_turn.proofs.Wholes.{all_of_them}
 use Rattle.m2_center.proofs.whole.loose_are_whole.Goals as goal
 
 pub halves-preserved : goal.halves-preserved

@@ -1,7 +1,7 @@
 -- What a center keeps where its halves take their turns.
 use Rattle.std.proofs.Common.{◌<◌, ◌≤◌, refl, ap, sym, subst, ◌∙◌}
 use Rattle.m2_dispatch.specs.Letters.{AreOwned}
-use Rattle.m2_center.specs.Outbox.{OwnsAll}
+use Rattle.m2_turn.specs.Outbox.{OwnsAll}
 use Rattle.m2_trail.specs.declared.incoming.TheConstants.{MOST_READ}
 use Rattle.m2_center.proofs.Stages.{consistent_at, turns_halves}
 use Rattle.m2_center.proofs.center.Center.answer.Goals as goal

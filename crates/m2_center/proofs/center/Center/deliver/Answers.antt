@@ -1,7 +1,7 @@
 -- What a center keeps where its mail is emptied.
 use Rattle.std.proofs.Common.{refl, ap, sym, subst, ◌∙◌}
 use Rattle.m2_dispatch.specs.Letters.{AreOwned}
-use Rattle.m2_center.specs.Outbox.{OwnsAll}
+use Rattle.m2_turn.specs.Outbox.{OwnsAll}
 use Rattle.m2_center.proofs.Stages.{consistent_at, empties_mail}
 use Rattle.m2_center.proofs.center.Center.deliver.Goals as goal
 

@@ -2,7 +2,7 @@
 use Rattle.std.proofs.Common.{ap, subst}
 use Rattle.m2_dispatch.specs.Letters.{AreOwned}
 use Rattle.m2_center.specs.Finishing.{AllOwn}
-use Rattle.m2_center.specs.Outbox.{OwnsAll}
+use Rattle.m2_turn.specs.Outbox.{OwnsAll}
 use Rattle.m2_center.proofs.Granted.{all_own}
 use Rattle.m2_center.proofs.center.Center.finished.Goals as goal
 

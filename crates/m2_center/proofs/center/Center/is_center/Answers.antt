@@ -3,7 +3,7 @@ use Rattle.std.proofs.Common.{subst}
 use Rattle.std.specs.List.{AllByRecursion}
 use Rattle.m2_center.specs.Center.{IsCenter}
 use Rattle.m2_record.specs.IsRecord.{IsRecord}
-use Rattle.m2_center.specs.Halves.{AreWhole, halves_of}
+use Rattle.m2_turn.specs.Halves.{AreWhole, halves_of}
 use Rattle.m2_center.proofs.center.Center.is_center.Goals as goal
 
 pub returns : goal.returns

@@ -5,9 +5,9 @@ use Rattle.m2_center.specs.Reaching.{all_ends_in, ends_or_none}
 use Rattle.m2_fabric.specs.End.{SeenEnd}
 use Rattle.m2_fabric.specs.Kinds.{IsInMemory}
 use Rattle.m2_record.specs.RecordNow.{ends_of}
-use Rattle.m2_center.specs.Halves.{halves_of}
-use Rattle.m2_center.specs.Hearing.{ends_in}
-use Rattle.m2_center.proofs.Left.{all_join}
+use Rattle.m2_turn.specs.Halves.{halves_of}
+use Rattle.m2_turn.specs.Hearing.{ends_in}
+use Rattle.m2_turn.proofs.Left.{all_join}
 use Rattle.m2_center.proofs.center.Center.is_in_memory.Goals as goal
 
 all_waiting : (waiting : Option (List SeenEnd)) → IfSome waiting (AllByRecursion IsInMemory) → AllByRecursion IsInMemory (ends_or_none waiting)

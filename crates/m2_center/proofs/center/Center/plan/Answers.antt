@@ -4,10 +4,10 @@ use Rattle.std.proofs.lemmas.Option.{slice_get-get_or}
 use Rattle.m2_dispatch.specs.Letters.{AreOwned}
 use Rattle.m2_record.specs.Calls.{Owns}
 use Rattle.m2_record.specs.Due.{next_step}
-use Rattle.m2_center.specs.Halves.{halves_of}
-use Rattle.m2_center.specs.Outbox.{OwnsAll}
-use Rattle.m2_center.specs.Sessions.{IsSupplied, Supply}
-use Rattle.m2_center.proofs.Peers.{at_place, same_peers}
+use Rattle.m2_turn.specs.Halves.{halves_of}
+use Rattle.m2_turn.specs.Outbox.{OwnsAll}
+use Rattle.m2_turn.specs.Sessions.{IsSupplied, Supply}
+use Rattle.m2_turn.proofs.Peers.{at_place, same_peers}
 use Rattle.m2_center.proofs.Places.{found_so, none_found, not_missing, planned_consistent, same_side, side_found}
 use Rattle.m2_center.proofs.Stages.{plans, supplied_alike}
 use Rattle.m2_center.proofs.center.Center.plan.Goals as goal

@@ -1,8 +1,10 @@
 -- What a center keeps where its records take their turns.
 use Rattle.std.proofs.Common.{refl, ap, sym, subst, ◌∙◌}
 use Rattle.m2_dispatch.specs.Letters.{AreOwned}
-use Rattle.m2_center.specs.Outbox.{OwnsAll}
-use Rattle.m2_center.proofs.Stages.{consistent_at, same_peers, turns_records}
+use Rattle.m2_turn.specs.Handing.{SaysMore, handed_in}
+use Rattle.m2_turn.specs.Outbox.{OwnsAll}
+use Rattle.m2_center.proofs.Stages.{consistent_at, turns_records}
+use Rattle.m2_turn.proofs.Told.{same_peers}
 use Rattle.m2_center.proofs.center.Center.step.Goals as goal
 
 pub step_all-requires-clause-out : goal.step_all-requires-clause-out
@@ -29,6 +31,7 @@ invariant_of-self g c =
 pub returns : goal.returns
 returns g c = record {
   steps = (c.step_all.result, c.stepped_so.ensures, turns_records _ _ c.self.view_is _ _ c.step_all.result _ refl _ _ _ _ _ c.step_all.ensures.turns);
+  handed = subst (λ o. SaysMore c.args.handed.now c.step_all.new.handed (handed_in o.records) (handed_in c.step_all.new.records.items)) c.self.view_is c.step_all.ensures.handed;
   numbers = c.step_all.ensures.number_place ∙ ap (λ v. v.numbers.place) c.self.view_is;
   throttle = c.step_all.ensures.take_place ∙ ap (λ v. v.bytes.place) c.self.view_is;
 }

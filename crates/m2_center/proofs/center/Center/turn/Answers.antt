@@ -1,37 +1,13 @@
--- A turn is its parts, one after the other, as far as memory lasts.
-use Rattle.std.proofs.Common.{Err}
-use Rattle.std.proofs.lemmas.Result.{err_from_is_err_and}
-use Rattle.m2_center.specs.CenterTurn.{AcceptsSo, AndThen, AnswersSo, DeliversSo, StepsSo, means_at}
-use Rattle.m2_center.proofs.TurnParts.{ends_there, goes_on}
+-- A turn is dry where nothing was counted and nothing handed out.
+use Rattle.std.proofs.Common.{refl, ◌∙◌}
+use Rattle.m2_center.proofs.Dryness.{memory_kept, turn_says}
 use Rattle.m2_center.proofs.center.Center.turn.Goals as goal
 
-pub returns-in_err-answer-clause-turns : goal.returns-in_err-answer-clause-turns
-returns-in_err-answer-clause-turns g c =
-    let m = means_at c.args.now c.args.shared.now.numbers c.args.shared.now.throttle in
-    let E = g.row.P-End.Denot in
-    let heard = g.D.Dispatcher.heard in
-    let p = err_from_is_err_and c.from_residual-in_err-answer.result c.from_residual-in_err-answer.ensures.1 in
-    let then_delivers = AndThen (StepsSo heard m) (DeliversSo heard m) in
-    rw p.1 (goes_on AcceptsSo (AndThen (AnswersSo E m) then_delivers) c.args.self.now c.accept.new.self c.answer.new.self (Err p.0) c.in_ok-accept.ensures.accepts
-    (ends_there (AnswersSo E m) then_delivers c.accept.new.self c.answer.new.self p.0 c.in_err-answer.ensures.answers))
-
-pub returns-in_err-step-clause-turns : goal.returns-in_err-step-clause-turns
-returns-in_err-step-clause-turns g c =
-    let m = means_at c.args.now c.args.shared.now.numbers c.args.shared.now.throttle in
-    let E = g.row.P-End.Denot in
-    let heard = g.D.Dispatcher.heard in
-    let p = err_from_is_err_and c.from_residual-in_err-step.result c.from_residual-in_err-step.ensures.1 in
-    let then_delivers = AndThen (StepsSo heard m) (DeliversSo heard m) in
-    rw p.1 (goes_on AcceptsSo (AndThen (AnswersSo E m) then_delivers) c.args.self.now c.accept.new.self c.step.new.self (Err p.0) c.in_ok-accept.ensures.accepts
-    (goes_on (AnswersSo E m) then_delivers c.accept.new.self c.answer.new.self c.step.new.self (Err p.0) c.in_ok-answer.ensures.answers
-    (ends_there (StepsSo heard m) (DeliversSo heard m) c.answer.new.self c.step.new.self p.0 c.in_err-step.ensures.steps)))
-
 pub returns-clause-turns : goal.returns-clause-turns
-returns-clause-turns g c =
-    let m = means_at c.args.now c.args.shared.now.numbers c.args.shared.now.throttle in
-    let E = g.row.P-End.Denot in
-    let heard = g.D.Dispatcher.heard in
-    let then_delivers = AndThen (StepsSo heard m) (DeliversSo heard m) in
-    goes_on AcceptsSo (AndThen (AnswersSo E m) then_delivers) c.args.self.now c.accept.new.self c.deliver.new.self c.deliver.result c.in_ok-accept.ensures.accepts
-    (goes_on (AnswersSo E m) then_delivers c.accept.new.self c.answer.new.self c.deliver.new.self c.deliver.result c.in_ok-answer.ensures.answers
-    (goes_on (StepsSo heard m) (DeliversSo heard m) c.answer.new.self c.step.new.self c.deliver.new.self c.deliver.result c.in_ok-step.ensures.steps c.deliver.ensures.delivers))
+returns-clause-turns g c = rw (c.ended_so.ensures, memory_kept c.take_turn-taken.result c.take_turn-taken.new.handed c.is_still-still.result) c.take_turn-taken.ensures.turns
+
+pub returns-clause-says : goal.returns-clause-says
+returns-clause-says g c =
+    rw c.ended_so.ensures
+    (turn_says c.args.self.now c.take_turn-taken.new.self c.take_turn-taken.result c.take_turn-taken.new.handed c.is_still-still.result c.take_turn-taken.ensures.handed
+    (c.is_still-still.ensures ∙ rw (c.count-before.ensures, c.count-behind.ensures) refl))

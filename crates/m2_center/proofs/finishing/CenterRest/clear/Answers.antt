@@ -1,7 +1,7 @@
 -- What is left was granted by the throttle that it is given back to.
 use Rattle.std.proofs.Common.{ap, sym, subst}
 use Rattle.m2_dispatch.specs.Letters.{AreOwned}
-use Rattle.m2_center.specs.Outbox.{OwnsAll}
+use Rattle.m2_turn.specs.Outbox.{OwnsAll}
 use Rattle.m2_center.proofs.finishing.CenterRest.clear.Goals as goal
 
 pub clear-fast-requires-clause-all : goal.clear-fast-requires-clause-all

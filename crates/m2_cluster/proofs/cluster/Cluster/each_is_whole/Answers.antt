@@ -1,7 +1,7 @@
 use Rattle.std.proofs.Common.{subst}
 use Rattle.std.proofs.lemmas.List.Elements.{All-more, recursion_from_All}
 use Rattle.m2_cluster.specs.Node.{IsWholeNode}
-use Rattle.m2_center.proofs.Wholes.{all_of_them}
+use Rattle.m2_center.proofs.m2_turn.Wholes.{all_of_them}
 use Rattle.m2_cluster.proofs.cluster.Cluster.each_is_whole.Goals as goal
 
 pub nodes-preserved : goal.nodes-preserved

@@ -7,7 +7,7 @@ use Rattle.m2_cluster.specs.Node.{IsNode, NodeNow}
 use Rattle.m2_fabric.specs.Kinds.{IsInMemory}
 use Rattle.m2_fabric.specs.Sockets.{IsOfHome}
 use Rattle.m2_center.specs.m2_record.IsRecord.{IsRecord}
-use Rattle.m2_center.specs.Halves.{AreWhole}
+use Rattle.m2_center.specs.m2_turn.Halves.{AreWhole}
 use Rattle.m2_cluster.proofs.node.Node.is_whole.Goals as goal
 
 pub returns : goal.returns

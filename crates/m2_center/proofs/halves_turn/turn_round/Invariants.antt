@@ -1,6 +1,0 @@
-use Rattle.std.proofs.Common.{◌≡◌, ◌++◌}
-use Rattle.std.specs.Prelude.{drop, take}
-use Rattle.m2_center.proofs.halves_turn.turn_round.Given as goal
-
-abbrev pub invariant-round : goal.invariant-round
-invariant-round g l = l.halves ≡ drop l.counter l.fn.halves ++ take l.counter l.fn.halves

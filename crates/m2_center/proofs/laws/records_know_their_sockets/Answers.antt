@@ -1,5 +1,0 @@
-use Rattle.m2_center.proofs.Came.{are_known}
-use Rattle.m2_center.proofs.laws.records_know_their_sockets.Goals as goal
-
-pub returns : goal.returns
-returns c = are_known

@@ -1,7 +1,0 @@
-use Rattle.std.proofs.Common.{IfSome, Option, subst}
-use Rattle.m2_center.specs.Halves.{IsWholeHere}
-use Rattle.m2_center.specs.Sessions.{PendingNow}
-use Rattle.m2_center.proofs.pending.is_whole_at.Goals as goal
-
-pub returns-in-Some : goal.returns-in-Some
-returns-in-Some g c = subst (λ (o : Option PendingNow). IfSome o IsWholeHere) c.in-Some.ensures (subst IsWholeHere c.pending.view_is c.is_whole.ensures.whole)

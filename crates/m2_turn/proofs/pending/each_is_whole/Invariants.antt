@@ -1,0 +1,9 @@
+use Rattle.std.specs.Prelude.{IfSome, take}
+use Rattle.std.specs.List.{All}
+use Rattle.slab.specs.Slab.{get}
+use Rattle.m2_turn.specs.Halves.{IsWholeHere}
+use Rattle.m2_turn.proofs.pending.each_is_whole.Given as goal
+
+-- so far
+abbrev pub invariant-places : goal.invariant-places
+invariant-places g l = All (λ key. IfSome (get l.slots key) IsWholeHere) (take l.place l.order.items)

@@ -1,0 +1,26 @@
+use Rattle.std.proofs.Common.{◌≡◌, ◌≤◌, List, length}
+use Rattle.m2_record.specs.Calls.{Owns}
+use Rattle.m2_record.specs.Stepping.{IsSameWork, KeepsReached}
+use Rattle.m2_turn.specs.Answering.{StaysBeside}
+use Rattle.m2_turn.specs.Handing.{SaysMore}
+use Rattle.m2_turn.specs.Outbox.{OwnsAll}
+use Rattle.m2_turn.specs.RecordTurn.{Steps, Turning, means_of, turning}
+use Rattle.m2_turn.proofs.record_turn.turn_record.Given as goal
+
+abbrev pub invariant-steps : goal.invariant-steps
+invariant-steps g l = record {
+  stood : List (Turning g.row.D.Denot);
+  steps : Steps g.D.Dispatcher.heard (means_of l.fn.now l.fn.work) stood (turning l.fn.side l.fn.out l.fn.work) (turning l.side l.out l.work);
+  count : length stood ≡ l.counter;
+  stays : StaysBeside l.fn.side l.side;
+  handed : SaysMore l.fn.handed l.handed l.fn.side.handed l.side.handed;
+  top : l.side.core.top ≤ l.work.number_pass.now.least;
+  reached : KeepsReached l.fn.work.number_pass.now l.work.number_pass.now;
+  owned : Owns l.fn.work.throttle.now.place l.side;
+  out : OwnsAll l.fn.work.throttle.now.place l.out;
+  number_place : l.work.number_pass.now.place ≡ l.fn.work.number_pass.now.place;
+  take_place : l.work.take_pass.now.place ≡ l.fn.work.take_pass.now.place;
+  same : IsSameWork l.fn.work l.work;
+  number_pass : l.work.number_pass.ghost_name ≡ l.fn.work.number_pass.ghost_name;
+  take_pass : l.work.take_pass.ghost_name ≡ l.fn.work.take_pass.ghost_name;
+}
