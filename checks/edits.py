@@ -1,0 +1,168 @@
+#!/usr/bin/env python3
+"""Tries edits that the check must refuse: of each crate named (of all, where none is) those of checks/edits/CRATE, which
+rt ci doesn't read, and those of crates/CRATE/must-fail, which it tries itself. An edit is refused where a function
+is without a proof then. The functions of the files that it changes, and those that they call, are checked first, over the
+libraries that rt ci or rt lib has built here, and the whole crate only where these are all proved. Before the edits of a
+crate, the functions of all files that they change are checked as they are, and all have to be proved.
+
+    checks/edits.py [CRATE..]       all edits of these crates
+    checks/edits.py --gate          those that the list checks/edits/gate names, without the check before them, for rt ci
+                                    has proved these functions
+
+It prints what each edit came to, and the status is 0 exactly where all are refused."""
+import concurrent.futures
+import os
+import pathlib
+import re
+import shutil
+import subprocess
+import sys
+import tempfile
+
+TOP = pathlib.Path(__file__).resolve().parent.parent
+KIT = pathlib.Path(shutil.which('rt') or sys.exit('edits: the kit is not on the PATH')).resolve().parent.parent
+# What a check takes at most, for how many run at once.
+CHECK_BYTES = 4 << 30
+
+
+def libraries():
+    """The libraries that each crate uses, by crates.txt."""
+    uses = {}
+    for line in (TOP / 'crates.txt').read_text().splitlines():
+        head, colon, tail = line.partition('#')[0].partition(':')
+        if colon:
+            uses[head.split()[0]] = tail.split()
+    return uses
+
+
+def below(crate, uses):
+    """Our own crates below this one, and the kit's libraries that it names."""
+    own, kit = set(), {'std'}
+    for name in uses[crate]:
+        if name in uses:
+            own |= {name} | below(name, uses)[0]
+        else:
+            kit.add(name)
+    return own, kit
+
+
+def words(crate, uses):
+    """The words of a check of the crate, over built libraries."""
+    own, kit = below(crate, uses)
+    built = lambda name: TOP / 'crates' / name / 'out' / 'rlib'
+    for name in own:
+        if not (built(name) / f'{name}.rlib').is_dir():
+            sys.exit(f'edits: {name} is not built, which {crate} stands on: run rt ci at the top, or rt lib in crates/{name}')
+    said = ['rattle', 'check', '--crate-name', crate, 'src/lib.rt']
+    said += [f'--extern={name}={KIT}/rlibs/{name}.rlib' for name in sorted(kit)]
+    said += [f'--extern={name}={built(name)}/{name}.rlib' for name in uses[crate] if name in uses]
+    said += [f'-Ldependency={KIT}/rlibs', *(f'-Ldependency={built(name)}' for name in sorted(own))]
+    return [*said, f'--antt-project={KIT}/rattle/logic/antt-project.json', f'--logic-built={KIT}/logic_built', f'--links={crate}=', '--jobs=1']
+
+
+def module(path):
+    """The module that a file of src/ holds."""
+    return '::'.join(pathlib.PurePath(path).with_suffix('').parts[1:])
+
+
+def pairs(edit):
+    """The file that an edit changes, and what each text of it becomes."""
+    path, old, found = None, None, []
+    for line in edit.read_text().splitlines():
+        kind, _, text = line.partition(':')
+        text = text.removeprefix(' ')
+        if kind == 'file':
+            path = text
+        elif kind == 'old':
+            old = text
+        elif kind == 'new':
+            found.append((path, old, text))
+    return found
+
+
+def check(room, crate, uses, modules):
+    """Checks the functions of these modules of the crate that stands in this folder, or all where none is named: whether
+    all are proved, nothing where no proof was looked at, and all that the check said."""
+    only = [f'--only={name}' for name in sorted(modules)]
+    kept = [f'--incremental={room}/kept'] if (room / 'kept').is_dir() else []
+    ran = subprocess.run([*words(crate, uses), *kept, *only], cwd=room, stdin=subprocess.DEVNULL, stdout=subprocess.PIPE,
+                         stderr=subprocess.STDOUT, text=True, errors='replace')
+    looked = re.search(r'^(only=|logic=)', ran.stdout, re.M)
+    return ran.returncode == 0 if looked else None, ran.stdout
+
+
+def check_modules(room, crate, uses, modules):
+    """The same, where a module without a function of its own has the whole crate checked."""
+    proved, said = check(room, crate, uses, modules)
+    return check(room, crate, uses, []) if f'error: `{crate}` has no function' in said else (proved, said)
+
+
+def try_edit(room, crate, edit, uses):
+    """Whether the check refuses the edit, and what to say."""
+    label, changed = f'{crate}/{edit.name}', {}
+    for path, old, new in pairs(edit):
+        text = changed.get(path) or (room / path).read_text()
+        if text.count(old) != 1:
+            return False, f'{label}: BAD EDIT: its text is in {path} {text.count(old)} times, and not once: {old}'
+        changed[path] = text.replace(old, new)
+    was = {path: (room / path).read_text() for path in changed}
+    for path, text in changed.items():
+        (room / path).write_text(text)
+    proved, said = check_modules(room, crate, uses, map(module, changed))
+    if proved:
+        proved, said = check(room, crate, uses, [])
+    for path, text in was.items():
+        (room / path).write_text(text)
+    if proved:
+        return False, f'{label}: NOT REFUSED: the crate is still proved'
+    left = re.findall(r'^fn (\S+): (?:not proved|no proof)', said, re.M)
+    if proved is None or not left:
+        return False, f'{label}: BAD EDIT: no proof was looked at: ' + next((it for it in said.splitlines() if 'error' in it), said)
+    return True, f'{label}: refused: {", ".join(left[:3])}'
+
+
+def try_edits(crate, edits, uses, first):
+    """Tries these edits of a crate, one after the other; `first` says whether the files are checked as they are before."""
+    with tempfile.TemporaryDirectory() as room:
+        room = pathlib.Path(room)
+        for part in 'src', 'specs', 'proofs':
+            if (TOP / 'crates' / crate / part).is_dir():
+                shutil.copytree(TOP / 'crates' / crate / part, room / part)
+        if first:
+            (room / 'kept').mkdir()
+            proved, said = check_modules(room, crate, uses, {module(path) for edit in edits for path, _, _ in pairs(edit)})
+            if not proved:
+                return [(False, f'{crate}: not all is proved as it is, so no edit was tried: {said}')]
+        tried = []
+        for edit in edits:
+            tried.append(try_edit(room, crate, edit, uses))
+            print(tried[-1][1], flush=True)
+        return tried
+
+
+def main(named):
+    uses, gate = libraries(), named == ['--gate']
+    if gate:
+        edits = [TOP / 'checks' / 'edits' / line for line in (TOP / 'checks' / 'edits' / 'gate').read_text().split()]
+    else:
+        edits = sorted([*TOP.glob('checks/edits/*/*.edit'), *TOP.glob('crates/*/must-fail/*.edit')])
+    of = {}
+    for edit in edits:
+        of.setdefault(edit.parent.name if edit.parent.parent.name == 'edits' else edit.parent.parent.name, []).append(edit)
+    for crate in named if not gate else []:
+        if crate not in of:
+            sys.exit(f"edits: {crate} is no crate that has edits")
+    chosen = {crate: of[crate] for crate in (of if gate or not named else named)}
+    memory = os.sysconf('SC_PAGE_SIZE') * os.sysconf('SC_AVPHYS_PAGES')
+    with concurrent.futures.ThreadPoolExecutor(max(1, min(os.cpu_count(), memory // CHECK_BYTES))) as pool:
+        # The crates with most libraries first, whose checks are the longest.
+        order = sorted(chosen, key=lambda crate: -len(below(crate, uses)[0]))
+        tried = [it for done in pool.map(lambda crate: try_edits(crate, chosen[crate], uses, not gate), order) for it in done]
+    for well, said in tried:
+        if not well:
+            print('not refused: ' + said)
+    print(f'{sum(well for well, _ in tried)} of {sum(map(len, chosen.values()))} edits were refused')
+    return 0 if all(well for well, _ in tried) else 1
+
+
+sys.exit(main(sys.argv[1:]))
