@@ -1,0 +1,2 @@
+pub mod BareFields
+pub mod OfFrame

@@ -1,0 +1,9 @@
+pub mod Facts
+pub mod Fields
+pub mod Header
+pub mod Laws
+pub mod Line
+pub mod Value
+pub use Rattle.m2_frame.specs as m2_frame
+pub use Rattle.m2_control.specs as m2_control
+pub use Rattle.m2_message.specs as m2_message
