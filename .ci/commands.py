@@ -10,12 +10,13 @@ import os, re, subprocess, sys, tempfile
 
 TOP = os.path.dirname(os.path.dirname(os.path.abspath(__file__)))
 PAGES = ("README.md", "docs/SCENARIOS.md", "docs/FRAMES.md", "examples/pictures/README.md")
-BUILT = ("msgr2", "run_trace")  # that the gate has proved and built before
+BUILT = ("msgr2", "run_trace", "frame_facts")  # that the gate has proved and built before
 MOST = 300  # seconds of one command
 NOT_RUN = {  # by their beginnings
     ".ci/run": "it is the gate, of which this is a part",
     "./msgr2 --unproved ": "it builds for minutes what the gate has proved and built; the same words run without it",
     "(cd crates/record_trace && rt try": "it builds for a minute, for one call, what the gate proves and runs on the same file",
+    "./msgr2 capture ": "it wants dpkt, which this machine may lack; .ci/captures.py lays what it tells beside traces",
     "tcpdump ": "it wants the right to capture, and connections; checks/streams.sh records some",
     "tools/streams capture.pcap ": "it wants that capture; checks/streams.sh runs it on one",
     "./msgr2 frames streams/": "it wants a stream of that capture; checks/streams.sh runs it on one",
