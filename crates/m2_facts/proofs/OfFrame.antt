@@ -1,10 +1,9 @@
 -- What a frame says is read back from it.
-use Rattle.std.proofs.Common.{◌≡◌, ◌==◌, ℕ, ◌<◌, List, length, Bool, true, false, cond, Option, Some, None, Result, Ok, Err, refl, sym, ap, ◌∙◌, subst}
-use Rattle.std.specs.List.{All}
+use Rattle.std.proofs.Common.{◌≡◌, ◌==◌, ℕ, List, length, Bool, true, false, cond, Option, Some, None, Result, Ok, Err, refl, sym, ap, subst}
 use Rattle.std.proofs.lemmas.Bool.{eqb-true}
 use Rattle.m2_addr.specs.Grammar.{IsBytes}
 use Rattle.m2_frame.specs.declared.tag.Tag.{Tag}
-use Rattle.m2_frame.specs.Frame.{Parts, message_tag}
+use Rattle.m2_frame.specs.Frame.{message_tag}
 use Rattle.m2_frame.specs.Tags.{tag_in}
 use Rattle.m2_control.specs.declared.control.Control.{Control}
 use Rattle.m2_control.specs.declared.fault.ControlFault.{ControlFault}
@@ -16,8 +15,8 @@ use Rattle.m2_message.proofs.Headers.{header_text-header_in}
 use Rattle.m2_facts.specs.declared.facts.Facts.{Facts}
 use Rattle.m2_facts.specs.declared.facts.Facts.TheVariants as facts
 use Rattle.m2_facts.specs.declared.facts.MessageFacts.{MessageFacts}
-use Rattle.m2_facts.specs.Facts.{control_facts, frame_facts, message_facts, read_facts}
-use Rattle.m2_facts.specs.Laws.{IsOfControl, IsOfMessage, MessagesAreReadBack, PayloadsAreReadBack}
+use Rattle.m2_facts.specs.Facts.{control_facts, message_facts, read_facts}
+use Rattle.m2_facts.specs.Laws.{IsOfMessage, MessagesAreReadBack, PayloadsAreReadBack}
 
 -- ---- which case it is
 

@@ -1,5 +1,5 @@
 -- What holds of what frames say: it is read back from the frame, and nothing is made up.
-use Rattle.std.specs.Prelude.{◌≡◌, ◌<◌, ℕ, List, length, Some}
+use Rattle.std.specs.Prelude.{◌≡◌, ◌<◌, length, Some}
 use Rattle.std.specs.List.{All}
 use Rattle.m2_addr.specs.Grammar.{IsBytes}
 use Rattle.m2_frame.specs.Frame.{Parts, message_tag}

@@ -1,7 +1,7 @@
 -- What was told of a file, put together of its head and its frames.
-use Rattle.std.proofs.Common.{◌≡◌, ℕ, List, [], ◌++◌, length, take, drop, Ok, Err, refl, sym, ap, ◌∙◌, subst, inl, inr}
+use Rattle.std.proofs.Common.{◌≡◌, ℕ, List, [], ◌++◌, length, take, drop, Err, refl, sym, ap, ◌∙◌, subst}
 use Rattle.std.proofs.lemmas.List.{append-nil, take-append-drop}
-use Rattle.std.proofs.Math.Seq.{take-append_seam, take-length}
+use Rattle.std.proofs.Math.Seq.{take-length}
 use Rattle.m2_control.specs.declared.banner.Banner.{Banner}
 use Rattle.m2_control.specs.declared.banner.BannerStep.{BannerStep}
 use Rattle.m2_control.specs.declared.banner.BannerStep.TheVariants as step
@@ -14,7 +14,6 @@ use Rattle.m2_listing.specs.declared.listing.Listing.{Listing}
 use Rattle.m2_listing.specs.declared.listing.Listing.TheVariants as listing
 use Rattle.m2_listing.specs.Listing.{Lists, terms}
 use Rattle.m2_listing.specs.Reading.{Grows}
-use Rattle.m2_frame_facts.specs.declared.telling.Ended.{Ended}
 use Rattle.m2_frame_facts.specs.Head.{IsFault, IsHead, PutsFront, Tells, TellsFrames, TellsNothing, front_line, line_behind, used_in}
 
 -- nothing was written

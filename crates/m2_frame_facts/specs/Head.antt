@@ -1,6 +1,6 @@
 -- What stands before the frames of a file, a banner or nothing, and what is written of the file: the line of the banner,
 -- and then those of the frames, each with its place in the file.
-use Rattle.std.specs.Prelude.{◌≡◌, ℕ, ◌+◌, ◌⊎◌, IsTrue, List, [], length, take, Result, Ok, Err}
+use Rattle.std.specs.Prelude.{◌≡◌, ℕ, ◌+◌, ◌⊎◌, IsTrue, List, [], take, Result, Ok, Err}
 use Rattle.m2_control.specs.declared.banner.BannerStep.{BannerStep}
 use Rattle.m2_control.specs.declared.banner.BannerStep.TheVariants as step
 use Rattle.m2_control.specs.Banner.{banner_in}
