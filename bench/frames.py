@@ -130,4 +130,5 @@ def main():
         print(f"first segments of {LONG:,} bytes through a pipe, in pieces of {SHORT_PIECE:,} bytes: {pieces:.3f} s; in pieces of 65,536: {whole:.3f} s")
 
 
-main()
+if __name__ == "__main__":
+    main()

@@ -153,7 +153,7 @@ def main(named):
         if crate not in of:
             sys.exit(f"edits: {crate} is no crate that has edits")
     chosen = {crate: of[crate] for crate in (of if gate or not named else named)}
-    memory = os.sysconf('SC_PAGE_SIZE') * os.sysconf('SC_AVPHYS_PAGES')
+    memory = 1024 * int(re.search(r'MemAvailable: *(\d+) kB', pathlib.Path('/proc/meminfo').read_text())[1])
     with concurrent.futures.ThreadPoolExecutor(max(1, min(os.cpu_count(), memory // CHECK_BYTES))) as pool:
         # The crates with most libraries first, whose checks are the longest.
         order = sorted(chosen, key=lambda crate: -len(below(crate, uses)[0]))
