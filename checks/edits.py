@@ -37,13 +37,12 @@ def libraries():
 
 def below(crate, uses):
     """Our own crates below this one, and the kit's libraries that it names."""
-    own, kit = set(), {'std'}
-    for name in uses[crate]:
-        if name in uses:
-            own |= {name} | below(name, uses)[0]
-        else:
-            kit.add(name)
-    return own, kit
+    own, left = set(), [crate]
+    while left:
+        found = {name for name in uses[left.pop()] if name in uses} - own
+        own |= found
+        left += found
+    return own, {'std', *(name for name in uses[crate] if name not in uses)}
 
 
 def words(crate, uses):
