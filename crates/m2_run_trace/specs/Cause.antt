@@ -1,5 +1,5 @@
 -- Why an end was closed, as a word behind a space. This project's own.
-use Rattle.std.specs.Prelude.{ℕ, ◌-◌, ◌==◌, ◌&&◌, nat_le, if◌then◌else◌, Bool, true, false, List, [], ◌∷◌, codes, drop, length, Option, Some, None}
+use Rattle.std.specs.Prelude.{ℕ, ◌-◌, ◌==◌, ◌&&◌, ◌||◌, nat_le, if◌then◌else◌, Bool, true, false, List, [], ◌∷◌, codes, drop, length, Option, Some, None}
 use Rattle.m2_fabric.specs.declared.socket.SocketId.{SocketId}
 use Rattle.m2_fabric.specs.Log.{Log}
 use Rattle.m2_fabric.specs.Sockets.{same_socket}
@@ -35,6 +35,10 @@ cause_at None = []
 abbrev pub gives_up : Answer → Bool
 gives_up answer.ResetPending = true
 gives_up _ = false
+
+-- the answer closes the socket that this side has: it takes the ask's, or gives the side's own up
+abbrev pub leaves_own : Answer → Bool
+leaves_own answer = gives_up answer || takes answer
 
 -- behind the judgement of an ask on another socket: that one was taken, or the end was given up for it
 abbrev pub cause_of_answer : Answer → Option Log → Text

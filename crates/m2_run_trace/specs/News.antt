@@ -11,10 +11,10 @@ use Rattle.m2_journal.specs.declared.entry.Entry.TheVariants as entry
 use Rattle.m2_record.specs.RecordNow.{RecordNow}
 use Rattle.m2_run_trace.specs.declared.marks.EndMark.{EndMark}
 use Rattle.m2_run_trace.specs.declared.news.Judgement.{Judgement}
-use Rattle.m2_run_trace.specs.Cause.{cause_of_half}
+use Rattle.m2_run_trace.specs.Cause.{cause_of_half, leaves_own}
 use Rattle.m2_run_trace.specs.Dispatches.{call_line}
 use Rattle.m2_run_trace.specs.Ends.{accepted_words, behind_read, closed_words, run_lines, trail_line}
-use Rattle.m2_run_trace.specs.Entries.{calls_left, lines_of}
+use Rattle.m2_run_trace.specs.Entries.{calls_left, entry_before, lines_of}
 use Rattle.m2_run_trace.specs.Marks.{MarksNow}
 use Rattle.m2_run_trace.specs.Sockets.{comes_to, trail_in}
 use Rattle.m2_run_trace.specs.Telling.{TracedCenter, Telling, log_in}
@@ -118,13 +118,31 @@ abbrev pub behind_closing : SocketId → (place : ℕ) → Option Entry → ℕ
 behind_closing s place (Some e) = if closes_another s e then place + 1 else place
 behind_closing s place None = place
 
-abbrev pub entry_of : Option RecordNow → (place : ℕ) → Option Entry
-entry_of (Some r) place = slice_get r.journal place
-entry_of None place = None
+-- behind the entry at a place by which an acknowledgement is counted; else that place
+abbrev pub behind_counting : (place : ℕ) → Option Entry → ℕ
+behind_counting place (Some (entry.Acked number)) = place + 1
+behind_counting place e = place
 
--- the entries of a record up to a judgement, with what it closed by that
+-- by this entry an ask was judged so that the side's own socket is left
+abbrev pub leaves_own_by : Option Entry → Bool
+leaves_own_by (Some (entry.Judged other ask number answer)) = leaves_own answer
+leaves_own_by e = false
+
+-- behind what is done by a judgement on the socket, whose entry stands before this place: another socket is closed, and then what
+-- the ask acknowledges is counted
+abbrev pub behind_judging : SocketId → List Entry → (place : ℕ) → ℕ
+behind_judging s journal place =
+    if leaves_own_by (entry_before journal place)
+    then behind_counting (behind_closing s place (slice_get journal place)) (slice_get journal (behind_closing s place (slice_get journal place)))
+    else place
+
+abbrev pub judging_behind : SocketId → Option RecordNow → (place : ℕ) → ℕ
+judging_behind s (Some r) place = behind_judging s r.journal place
+judging_behind s None place = place
+
+-- the entries of a record up to a judgement, with what it closed and counted by that
 abbrev pub judgement_said : Telling → SocketId → Judgement → ToldNow → Said
-judgement_said t s j told = journal_up_to t j.record_place (behind_closing s j.behind (entry_of (slice_get t.center.records j.record_place) j.behind)) told
+judgement_said t s j told = journal_up_to t j.record_place (judging_behind s (slice_get t.center.records j.record_place) j.behind) told
 
 -- its reads and writes since the mark, and between them what was done by its ask
 abbrev pub moves_said : Telling → HalfNow → ToldNow → Option Judgement → Said

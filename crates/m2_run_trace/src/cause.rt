@@ -3,7 +3,7 @@
 ghost use Rattle.std.specs.Prelude.{◌≡◌};
 ghost use Rattle.std.specs.Option.{option_copied};
 ghost use Rattle.m2_fabric.specs.Log.{log_of};
-ghost use Rattle.m2_run_trace.specs.Cause.{begins_frame, cause_at, cause_by, cause_in_journal, cause_of_answer, cause_of_half, ends_in_frame, gives_up};
+ghost use Rattle.m2_run_trace.specs.Cause.{begins_frame, cause_at, cause_by, cause_in_journal, cause_of_answer, cause_of_half, ends_in_frame, gives_up, leaves_own};
 ghost use Rattle.m2_session.specs.SessionLaws.{takes};
 ghost use Rattle.m2_run_trace.specs.Telling.{seen_log};
 
@@ -60,6 +60,13 @@ fn cause_of_answer(answer: &Answer, log: Option<&EndLog>) -> &'static [u8]
     } else {
         cause_at(log)
     }
+}
+
+/// Whether the answer closes the socket that this side has: it takes the ask's, or gives the side's own up.
+pub(crate) fn leaves_own(answer: &Answer) -> bool
+    ensures { result ≡ leaves_own answer.now }
+{
+    gives_up(answer) || takes(answer)
 }
 
 /// Whether the answer gives up the socket on which this side has asked.

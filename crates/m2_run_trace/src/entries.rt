@@ -213,7 +213,7 @@ fn written_in(entry: &Entry, socket: &SocketId) -> usize
 }
 
 /// The entry in front of the one at this place.
-fn before(journal: &EntryList, place: usize) -> Option<&Entry>
+pub(crate) fn before(journal: &EntryList, place: usize) -> Option<&Entry>
     ensures { option_copied result ≡ entry_before journal.now.items place }
 {
     if place == 0 {

@@ -2,17 +2,17 @@
 
 ghost use Rattle.std.specs.Prelude.{◌≡◌, ◌++◌, IfOk, None, OnOk, count_by, drop, length, slice_get};
 ghost use Rattle.std.specs.List.{flat_map};
-ghost use Rattle.std.specs.Option.{option_map};
+ghost use Rattle.std.specs.Option.{option_copied, option_map};
 ghost use Rattle.m2_fabric.specs.Log.{log_of};
 ghost use Rattle.m2_run_trace.specs.Marks.{MarksNow};
-ghost use Rattle.m2_run_trace.specs.News.{accepted_line, asked_behind, behind_closing, closes_another, closing_of, doings, half_in, half_said, halves_said, is_judged_on, is_move, journal_length, journal_up_to, journals_said, judged_by, judgement_at, judgement_from, judgement_said, moves_of, moves_said, news, news_of, said_of, told_at, with_calls};
+ghost use Rattle.m2_run_trace.specs.News.{accepted_line, asked_behind, behind_closing, behind_counting, behind_judging, closes_another, closing_of, doings, half_in, half_said, halves_said, is_judged_on, is_move, journal_length, journal_up_to, journals_said, judged_by, judgement_at, judgement_from, judgement_said, leaves_own_by, moves_of, moves_said, news, news_of, said_of, told_at, with_calls};
 ghost use Rattle.m2_run_trace.specs.Telling.{log_in, seen_log, telling_at};
 ghost use Rattle.m2_trail.specs.Trails.{trail_now};
 
-use crate::cause::cause_of_half;
+use crate::cause::{cause_of_half, leaves_own};
 use crate::dispatches::put_calls;
 use crate::ends::{behind_last_read, put_accepted, put_half_closed, put_runs};
-use crate::entries::put_entries;
+use crate::entries::{before, put_entries};
 use crate::lists::{at, behind};
 use crate::marks::{EndMark, Marks};
 use crate::sockets::{comes_to, trail_in};
@@ -20,7 +20,7 @@ use crate::telling::{Calls, Teller, TracedCluster};
 use crate::words::name_of;
 use m2_bytes::{Blob, NoMemory};
 use m2_fabric::{EndLog, SocketId};
-use m2_journal::Entry;
+use m2_journal::{Entry, EntryList};
 use m2_scenario::Node;
 use m2_trail::Trail;
 use std::alloc::Global;
@@ -364,7 +364,7 @@ fn is_judged_on(entry: &Entry, socket: &SocketId) -> bool
     }
 }
 
-/// Appends the entries of a record up to a judgement, with what it closed by that.
+/// Appends the entries of a record up to a judgement, with what it closed and counted by that.
 fn put_judgement(
     out: &mut Blob,
     teller: &Teller<'_>,
@@ -377,9 +377,31 @@ fn put_judgement(
 {
     let to = match at(teller.center.records(), judgement.record_place) {
         None => judgement.behind,
-        Some(record) => behind_closing(record.journal().as_slice(), judgement.behind, socket),
+        Some(record) => behind_judging(record.journal(), judgement.behind, socket),
     };
     put_up_to(out, teller, judgement.record_place, to, told)
+}
+
+/// Behind what is done by a judgement on the socket, whose entry stands before this place: another socket is closed, and
+/// then what the ask acknowledges is counted.
+fn behind_judging(journal: &EntryList, place: usize, socket: &SocketId) -> usize
+    ensures { result ≡ behind_judging socket.now journal.now.items place }
+{
+    if !leaves_own_by(before(journal, place)) {
+        return place;
+    }
+    let entries = journal.as_slice();
+    behind_counting(entries, behind_closing(entries, place, socket))
+}
+
+/// Whether by this entry an ask was judged so that the side's own socket is left.
+fn leaves_own_by(entry: Option<&Entry>) -> bool
+    ensures { result ≡ leaves_own_by (option_copied entry.entry) }
+{
+    match entry {
+        Some(Entry::Judged { answer, .. }) => leaves_own(answer),
+        _ => false,
+    }
 }
 
 /// Behind the entry at this place where by it another socket is closed.
@@ -391,6 +413,18 @@ fn behind_closing(journal: &[Entry], place: usize, socket: &SocketId) -> usize
     } else {
         place
     }
+}
+
+/// Behind the entry at this place where by it an acknowledgement is counted.
+fn behind_counting(journal: &[Entry], place: usize) -> usize
+    ensures { result ≡ behind_counting place (slice_get journal.now place) }
+{
+    if place < journal.len() {
+        if let Entry::Acked { .. } = &journal[place] {
+            return place + 1;
+        }
+    }
+    place
 }
 
 /// Whether another socket is closed by the entry.
