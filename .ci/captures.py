@@ -19,7 +19,8 @@ sys.path.insert(0, os.path.join(TOP, "tools"))
 import packets
 import run_trace
 import wire
-from conversation import Story
+from conversation import ANSWERS, Story
+from fates import Fates
 
 PICTURES, EXAMPLE = os.path.join(TOP, "examples", "pictures"), os.path.join(TOP, "examples", "captures", "resumed.pcap")
 RUN_TRACE, FACTS = (os.path.join(TOP, "crates", name, "out", name) for name in ("run_trace", "frame_facts"))
@@ -57,9 +58,16 @@ def told(their_packets):
     return gathered.all, story.events(gathered.all, True), story.sessions.all
 
 
+def is_told_by_its_answer(event):
+    """Whether the frame that is written for a judgement tells the row; and it was written."""
+    answer = event.words[8]
+    tag = {"resume": wire.RECONNECT_OK, "retry": wire.RETRY, "retry_global": wire.RETRY_GLOBAL, "wait": wire.WAIT}.get(answer)
+    return any(it.tag == tag and it.writer == event.node and it.written for it in event.socket.flights)
+
+
 def told_otherwise(name, run, connections, events):
     """What of a run is told otherwise than its trace has it."""
-    sockets = list(run.sockets.values())
+    fates, sockets = Fates(run), list(run.sockets.values())
     if len(connections) != len(sockets):
         yield f"{name}: {len(connections)} connections of {len(sockets)}"
     moment, first = 0, None
@@ -81,6 +89,10 @@ def told_otherwise(name, run, connections, events):
                 number = flight.says.get("seq", flight.says.get("number", flight.says.get("seen")))
                 if number is not None and number not in event.frame.values():
                     yield f"{name}: the {event.frame['tag']} at {event.place} of {node} on {socket.name} has another number"
+            said = [mark.removeprefix("row ") for it in frames if it.frame["tag"] in ANSWERS for mark in it.marks if mark.startswith("row ")]
+            rows = [fates.rows[it] for it in socket.judged if it.node == node and is_told_by_its_answer(it)]
+            if said != rows:
+                yield f"{name}: on {socket.name} {node} answered by the rows {rows}, and {said} are told"
             left = [it for it in socket.flights if it.writer == node and not it.written and it.put]
             notes = [it for it in events if it.connection is connection and it.source == source and it.note and "isn't whole" in it.note]
             if len(left) != len(notes):

@@ -3,8 +3,10 @@
 The trace of a scenario's run is what the built program crates/run_trace/out/run_trace prints. The replay is laid beside
 each trace, those of the scenarios of examples too: each line has to be the one that docs/PROTOCOL.md makes of its script;
 and tools/fates.py has to tell of so many posts that they wait as `sim` says are left. NAME.words beside NAME.scenario has the
-words with which its picture is drawn, and NAME.scenario.stderr what `sim` says on standard error. No two texts of a picture may lie on each other, whichever moments are left out. Traces with one thing changed must be objected to: bad lines by tools/draw with their number and why, a trace
-whose lines are all well formed by the replay, and another picture by the comparison.
+words with which its picture is drawn, and NAME.scenario.stderr what `sim` says on standard error. No two texts of a picture may lie on each other, whichever moments are left out, and
+the page of tools/draw --html has the same picture and the states that the rules give. Traces with one thing changed must be
+objected to: bad lines by tools/draw with their number and why, a trace whose lines are all well formed by the replay, and another
+picture by the comparison.
 """
 import html, os, re, subprocess, sys, tempfile
 
@@ -143,6 +145,9 @@ def pictures(folder, room):
         yield from (f"{name}: {it}" for it in overlaps(picture))
         if status == 0 and differs(picture, os.path.join(folder, f"{stem}.svg")):
             yield f"{name}: another picture is drawn than the one that stands beside it ({PROGRAM}, tools/draw)"
+        status, page, said = drawn(trace[1], room, ["--html", *words_beside(file)])
+        if status or picture not in re.sub(rb' data-post="[0-9]+"', b"", page) or b'"played":true' not in page:
+            yield f"{name}: the page has another picture, or no states (tools/draw --html): {said}"
 
 
 def overlaps(picture):

@@ -20,6 +20,11 @@ FAULTS = {  # of docs/FRAMES.md
 }
 ASKS = ("CLIENT_IDENT", "SESSION_RECONNECT")
 ANSWERS = ("SERVER_IDENT", "SESSION_RECONNECT_OK", "SESSION_RESET", "SESSION_RETRY", "SESSION_RETRY_GLOBAL", "WAIT", "IDENT_MISSING_FEATURES")
+ROWS = {  # of the tables of docs/PROTOCOL.md: that by which an ask is answered so, where the answer tells it
+    ("CLIENT_IDENT", "WAIT"): "otherwise", ("SESSION_RECONNECT", "SESSION_RECONNECT_OK"): "otherwise",
+    ("SESSION_RECONNECT", "SESSION_RETRY"): "old_connect", ("SESSION_RECONNECT", "SESSION_RETRY_GLOBAL"): "old_number",
+    ("SESSION_RECONNECT", "WAIT"): "mine_wins",
+}
 
 
 class BadProgram(Exception):
@@ -220,6 +225,8 @@ class Sessions:
 
     def answered(self, event, tag, frame, ask):
         connection, source = event.connection, event.source
+        row = ROWS.get((ask["tag"], tag))
+        event.marks += [f"row {row}"] if row else []
         if tag == "SERVER_IDENT":
             self.nodes[connection, source] = (frame["addrs"] or ["?"])[0]
             cookies = self.key(ask.get("cookie", ask.get("client_cookie")), frame["cookie"])
