@@ -52,7 +52,7 @@ def words(crate, uses):
     for name in own:
         if not (built(name) / f'{name}.rlib').is_dir():
             sys.exit(f'edits: {name} is not built, which {crate} stands on: run rt ci at the top, or rt lib in crates/{name}')
-    said = ['rattle', 'check', '--crate-name', crate, 'src/lib.rt']
+    said = [f'{KIT}/bin/rattle', 'check', '--crate-name', crate, 'src/lib.rt']
     said += [f'--extern={name}={KIT}/rlibs/{name}.rlib' for name in sorted(kit)]
     said += [f'--extern={name}={built(name)}/{name}.rlib' for name in uses[crate] if name in uses]
     said += [f'-Ldependency={KIT}/rlibs', *(f'-Ldependency={built(name)}' for name in sorted(own))]
