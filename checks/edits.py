@@ -164,4 +164,5 @@ def main(named):
     return 0 if all(well for well, _ in tried) else 1
 
 
-sys.exit(main(sys.argv[1:]))
+if __name__ == '__main__':
+    sys.exit(main(sys.argv[1:]))
