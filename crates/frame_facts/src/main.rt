@@ -1,25 +1,14 @@
-//! The program `frame_facts`: the words, handed to the call that does the work.
+//! The program `frame_facts`: the runtime's parts and the words, handed to the call that does the work.
 #![tactic(auto)]
 
 use m2_frame_facts::{FactsStatus, run_program};
-use std::io::ErrorKind;
+use m2_program::words;
 use std::process::ExitCode;
-use std::{env, io};
 
 fn main(rt: HostRuntime) -> ExitCode {
-    let words = match words(&rt) {
-        Ok(words) => words,
-        Err(e) if e.kind() == ErrorKind::OutOfMemory => {
-            return ExitCode::from(FactsStatus::NoMemory.code());
-        }
-        // A word that isn't text names no file.
-        Err(_) => Vec::new(rt.alloc()),
+    let Ok(words) = words(&rt) else {
+        return ExitCode::from(FactsStatus::NoMemory.code());
     };
-    let status = run_program(rt.alloc(), &rt, &words, rt.stdout(), rt.stderr());
-    ExitCode::from(status.code())
-}
-
-/// The words behind the program's name.
-fn words(rt: &HostRuntime) -> io::Result<Vec<String>> {
-    Ok(env::args(rt)?.skip(1).collect(rt.alloc())?)
+    let ran = run_program(rt.alloc(), &rt, &words, rt.stdout(), rt.stderr());
+    ExitCode::from(ran.status.code())
 }

@@ -14,7 +14,7 @@ use Rattle.m2_listing.specs.declared.listing.Listing.{Listing}
 use Rattle.m2_listing.specs.declared.listing.Listing.TheVariants as listing
 use Rattle.m2_listing.specs.Listing.{Lists, terms}
 use Rattle.m2_listing.specs.Reading.{Grows}
-use Rattle.m2_frame_facts.specs.Head.{IsFault, IsHead, PutsFront, Tells, TellsFrames, TellsNothing, front_line, line_behind, used_in}
+use Rattle.m2_frame_facts.specs.Head.{IsFault, IsHead, PutsFront, TellsFrames, TellsNothing, front_line, line_behind, used_in}
 
 -- nothing was written
 pub tells_nothing : (form : Style) (src : SeenSource) (out : SeenSink) → TellsNothing form src out out

@@ -5,7 +5,9 @@ use Rattle.m2_control.specs.declared.banner.BannerStep.{BannerStep}
 use Rattle.m2_control.specs.declared.banner.BannerStep.TheVariants as step
 use Rattle.m2_control.specs.Banner.{banner_in}
 use Rattle.m2_edge.specs.Sink.{SeenSink, TakesBytes, TakesPrefix}
-use Rattle.m2_edge.specs.Source.{SeenSource, IsPrefixOf}
+use Rattle.m2_edge.specs.Source.{IsPrefixOf, IsWhereItWas, SeenSource}
+use Rattle.m2_edge.specs.Whole.{StandsIn}
+use Rattle.m2_edge.specs.declared.whole.ReadFault.{ReadFault}
 use Rattle.m2_facts.specs.declared.style.Style.{Style}
 use Rattle.m2_facts.specs.Line.{banner_line, line_of}
 use Rattle.m2_frame.specs.Reading.{Item}
@@ -61,6 +63,17 @@ IsFault _ = ⊥
 
 abbrev pub Tells : Style → Ended → SeenSource → SeenSink → SeenSink → Type 0
 Tells form ended src before after = TellsFrames form ended src before after ⊎ (IsFault ended.listing × TellsNothing form src before after)
+
+-- the source stands in the file of this name; where it failed, or memory did, it may stand where it was before
+abbrev pub StandsBy : Listing → (name : List ℕ) → SeenSource → SeenSource → Type 0
+StandsBy listing.ReadFault name old new = IsWhereItWas old new ⊎ StandsIn name old new
+StandsBy listing.NoMemory name old new = IsWhereItWas old new ⊎ StandsIn name old new
+StandsBy _ name old new = StandsIn name old new
+
+-- the head of the file of this name was read, or reading it failed
+abbrev pub BeginsIn : {X : Type 0} → Result X ReadFault → (name : List ℕ) → SeenSource → SeenSource → Type 0
+BeginsIn (Ok _) name old new = StandsIn name old new
+BeginsIn (Err _) name old new = IsWhereItWas old new ⊎ StandsIn name old new
 
 -- the line of the banner is written, or a prefix of it
 abbrev pub PutsFront : Result (Unit {0}) Listing → List ℕ → SeenSink → SeenSink → Type 0

@@ -5,7 +5,8 @@ ghost use Rattle.m2_control.specs.declared.banner.BannerStep.TheVariants as step
 ghost use Rattle.m2_control.specs.Banner.{banner_in};
 ghost use Rattle.m2_edge.specs.Source.{GivesItsInput};
 ghost use Rattle.m2_frame_facts.specs.declared.head.TheConstants.{MOST_HEAD};
-ghost use Rattle.m2_frame_facts.specs.Head.{IsHead};
+ghost use Rattle.m2_edge.specs.Whole.{HasReadCause};
+ghost use Rattle.m2_frame_facts.specs.Head.{BeginsIn, IsHead};
 
 use m2_bytes::Blob;
 use m2_control::{BannerStep, read_banner};
@@ -21,6 +22,9 @@ pub(crate) fn read_head<S: Source>(
     src: &mut S,
     name: &str,
 ) -> Result<Blob, ReadFault>
+    // A fault is answered only where one happened in this call.
+    ensures causes { HasReadCause result (S.seen src.old).faults (S.seen src.new).faults }
+    ensures begins { BeginsIn result name.now (S.seen src.old) (S.seen src.new) }
     ensures few { IfOk result (λ head. length head.bytes ≤ MOST_HEAD) }
     ensures known { IfOk result (λ _. GivesItsInput (S.seen src.new)) }
     ensures head { IfOk result (λ head. IsHead head.bytes (S.seen src.new)) }
@@ -39,9 +43,12 @@ fn read_more<S: Source>(src: &mut S, head: &mut Blob) -> Result<bool, ReadFault>
     requires few { length head.old.bytes ≤ MOST_HEAD }
     requires given { head.old.bytes ≡ (S.seen src.old).given }
     requires known { GivesItsInput (S.seen src.old) }
+    ensures causes { HasReadCause result (S.seen src.old).faults (S.seen src.new).faults }
+    ensures inputs { (S.seen src.new).inputs ≡ (S.seen src.old).inputs }
+    ensures begun { (S.seen src.new).begun ≡ (S.seen src.old).begun }
+    ensures known { GivesItsInput (S.seen src.new) }
     ensures few { IfOk result (λ _. length head.new.bytes ≤ MOST_HEAD) }
     ensures given { IfOk result (λ _. head.new.bytes ≡ (S.seen src.new).given) }
-    ensures known { IfOk result (λ _. GivesItsInput (S.seen src.new)) }
     ensures goes_on { IfOk result (λ more. MatchBool more (length head.old.bytes < length head.new.bytes) (IsHead head.new.bytes (S.seen src.new))) }
 {
     if !is_open(head.as_slice()) {

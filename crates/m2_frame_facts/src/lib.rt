@@ -13,4 +13,4 @@ mod top;
 
 pub use status::FactsStatus;
 pub use telling::{Ended, tell_frames};
-pub use top::{frame_facts, run_program};
+pub use top::{Ran, frame_facts, run_program};

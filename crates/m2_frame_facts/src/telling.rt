@@ -4,8 +4,9 @@ ghost use Rattle.std.specs.Prelude.{◌≡◌, ◌≤◌, ◌++◌, ℕ, List, l
 ghost use Rattle.m2_edge.specs.Source.{GivesItsInput};
 ghost use Rattle.m2_facts.specs.Line.{banner_line};
 ghost use Rattle.m2_frame_facts.specs.declared.head.TheConstants.{MOST_HEAD};
-ghost use Rattle.m2_frame_facts.specs.Head.{IsHead, Tells, PutsFront, line_behind};
-ghost use Rattle.m2_listing.specs.Listing.{Lists, terms};
+ghost use Rattle.m2_frame_facts.specs.Head.{IsHead, PutsFront, StandsBy, Tells, line_behind};
+ghost use Rattle.m2_listing.specs.Listing.{IsFaultCause, Lists, terms};
+ghost use Rattle.m2_listing.specs.Passing.{IsPutCause};
 ghost use Rattle.m2_listing.specs.Reading.{Grows};
 
 use crate::head::{MOST_HEAD, read_head};
@@ -34,6 +35,7 @@ fn put_front<O: Sink>(
     out: &mut O,
 ) -> Result<(), Listing>
     ensures causes { (O.seen out.old).faults ≤ (O.seen out.new).faults }
+    ensures caused { IsPutCause result (O.seen out.old).faults (O.seen out.new).faults }
     ensures puts { PutsFront result (banner_line style banner.now) (O.seen out.old) (O.seen out.new) }
 {
     let mut line = Blob::empty(alloc);
@@ -55,6 +57,11 @@ fn list_behind<S: Source, O: Sink>(
 ) -> Listing
     requires few { length read.now ≤ MOST_HEAD }
     requires known { GivesItsInput (S.seen src.old) }
+    ensures write_causes { (O.seen out.old).faults ≤ (O.seen out.new).faults }
+    ensures caused { IsFaultCause result (S.seen src.old).faults (S.seen src.new).faults (O.seen out.old).faults (O.seen out.new).faults }
+    ensures inputs { (S.seen src.new).inputs ≡ (S.seen src.old).inputs }
+    ensures begun { (S.seen src.new).begun ≡ (S.seen src.old).begun }
+    ensures known { GivesItsInput (S.seen src.new) }
     ensures grows { Grows (S.seen src.old) (S.seen src.new) }
     ensures lists { (front : List ℕ) → (S.seen src.old).given ≡ front ++ read.now
         → Lists result (terms front (line_behind style skipped)) (S.seen src.new) (O.seen out.old) (O.seen out.new) }
@@ -80,7 +87,11 @@ pub fn tell_frames<S: Source, O: Sink>(
     src: &mut S,
     out: &mut O,
 ) -> Ended
-    ensures { Tells style result (S.seen src.new) (O.seen out.old) (O.seen out.new) }
+    ensures write_causes { (O.seen out.old).faults ≤ (O.seen out.new).faults }
+    // A fault is answered only where one happened in this call: where the count of the source, or of the sink, has risen.
+    ensures caused { IsFaultCause result.listing (S.seen src.old).faults (S.seen src.new).faults (O.seen out.old).faults (O.seen out.new).faults }
+    ensures stands { StandsBy result.listing name.now (S.seen src.old) (S.seen src.new) }
+    ensures tells { Tells style result (S.seen src.new) (O.seen out.old) (O.seen out.new) }
 {
     match read_head(alloc, src, name) {
         Ok(head) => tell_from(alloc, style, head.as_slice(), src, out),
@@ -100,7 +111,12 @@ fn tell_from<S: Source, O: Sink>(
     requires few { length head.now ≤ MOST_HEAD }
     requires known { GivesItsInput (S.seen src.old) }
     requires head { IsHead head.now (S.seen src.old) }
-    ensures { Tells style result (S.seen src.new) (O.seen out.old) (O.seen out.new) }
+    ensures write_causes { (O.seen out.old).faults ≤ (O.seen out.new).faults }
+    ensures caused { IsFaultCause result.listing (S.seen src.old).faults (S.seen src.new).faults (O.seen out.old).faults (O.seen out.new).faults }
+    ensures inputs { (S.seen src.new).inputs ≡ (S.seen src.old).inputs }
+    ensures begun { (S.seen src.new).begun ≡ (S.seen src.old).begun }
+    ensures known { GivesItsInput (S.seen src.new) }
+    ensures tells { Tells style result (S.seen src.new) (O.seen out.old) (O.seen out.new) }
 {
     match read_banner(head) {
         BannerStep::Got { banner, used } => {

@@ -10,6 +10,9 @@ invariant-reads g l =
       few : length l.head.bytes ≤ MOST_HEAD;
       given : l.head.bytes ≡ (g.S.Source.seen l.src).given;
       known : GivesItsInput (g.S.Source.seen l.src);
+      rises : (g.S.Source.seen l.fn.src).faults ≤ (g.S.Source.seen l.src).faults;
+      inputs : (g.S.Source.seen l.src).inputs ≡ (g.S.Source.seen l.fn.src).inputs;
+      begun : (g.S.Source.seen l.src).begun ≡ (g.S.Source.seen l.fn.src).inputs l.fn.name;
     }
 
 abbrev pub decreases-reads : goal.decreases-reads
