@@ -1,7 +1,7 @@
-//! Addresses of msgr2: their order, and their exact readers and writers.
+//! Addresses of msgr2: their orders, and their exact readers and writers.
 //!
-//! What it is: [`Addr`], an IPv4 address with its kind and nonce, and the order of addresses;
-//! [`AnyAddr`], an address as it is read, also of another family; [`AddrVec`], the addresses of
+//! What it is: [`Addr`], an IPv4 address with its kind and nonce, and the orders of addresses,
+//! [`AddrOrder`]; [`AnyAddr`], an address as it is read, also of another family; [`AddrVec`], the addresses of
 //! one entity, with its main address. [`read_addr`], [`read_v4`], [`AddrVec::read`] and
 //! [`read_main`] read from a [`Reader`](m2_bytes::Reader), [`write_addr`] and [`AddrVec::write`] append to a
 //! [`Blob`](m2_bytes::Blob). What it isn't: sockets or names. [`AddrFault`] names each refusal.
@@ -17,7 +17,7 @@ mod reading;
 mod vector;
 mod writing;
 
-pub use addr::{Addr, AnyAddr};
+pub use addr::{Addr, AddrOrder, AnyAddr};
 pub use fault::AddrFault;
 pub use laws::addresses_are_ordered;
 pub use reading::{LEAST_LENGTH, MOST_LENGTH, read_addr, read_v4};

@@ -273,24 +273,24 @@ fed_stage s more q =
 
 pub accepts : (f : SideFacts) (own : ℕ) (seen : Addr) (ws : List OutFrame) (bytes more : List ℕ) (x : Exchange) (s : Standing) →
     f.node.entity < 2 ^ 8 → HasAddrRanges f.peer → AllByRecursion (CanBeWritten f) ws →
-    bytes ++ more ≡ greeting f.node.entity f.peer (texts_of f ws) → Reaches (acceptor_at_start own seen) x s → x.bytes ≡ bytes →
+    bytes ++ more ≡ greeting f.node.rules.auth f.node.entity f.peer (texts_of f ws) → Reaches (acceptor_at_start own seen) x s → x.bytes ≡ bytes →
     HasWelcomed own seen x ⊎ IsAsked f own seen ws more x s
 accepts f own seen ws bytes more x s small ranges k e r given =
     by_way (ways first r.events start signed (fed s more) (replies_of r.events) first_runs all_runs (sym (ap (λ l. l ++ replies_of r.events) first_replies)))
   where
     start : Standing
-    start = fed (acceptor_at_start own seen) (greeting f.node.entity f.peer (texts_of f ws))
+    start = fed (acceptor_at_start own seen) (greeting f.node.rules.auth f.node.entity f.peer (texts_of f ws))
 
     signed : Standing
     signed = at own seen Authed None (texts_of f ws)
 
-    signing_there : Signs (acceptor_at_start own seen) (record { bytes = greeting f.node.entity f.peer (texts_of f ws); replies = []; text = welcome own seen; asks = [] }) signed
-    signing_there = signs_there f.node.entity own f.peer seen (texts_of f ws) small ranges
+    signing_there : Signs (acceptor_at_start own seen) (record { bytes = greeting f.node.rules.auth f.node.entity f.peer (texts_of f ws); replies = []; text = welcome own seen; asks = [] }) signed
+    signing_there = signs_there f.node.rules.auth f.node.entity own f.peer seen (texts_of f ws) small ranges
 
     mid : Standing
     mid = signing_there.0
 
-    greets : Reaches (acceptor_at_start own seen) (record { bytes = greeting f.node.entity f.peer (texts_of f ws); replies = []; text = welcome own seen; asks = [] }) mid
+    greets : Reaches (acceptor_at_start own seen) (record { bytes = greeting f.node.rules.auth f.node.entity f.peer (texts_of f ws); replies = []; text = welcome own seen; asks = [] }) mid
     greets = signing_there.1
 
     first : List Event

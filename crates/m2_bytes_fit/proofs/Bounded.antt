@@ -30,7 +30,7 @@ use Rattle.m2_feed.proofs.m2_session.Rows.{each_answer}
 use Rattle.m2_feed.specs.m2_handshake.Course as hand
 use Rattle.m2_feed.specs.m2_handshake.Course.{Course, course_of}
 use Rattle.m2_feed.specs.m2_handshake.Moves.{is_authed}
-use Rattle.m2_feed.specs.m2_handshake.Standing.{Standing, fed, opener_at_start}
+use Rattle.m2_feed.specs.m2_handshake.Standing.{Standing, fed}
 use Rattle.m2_feed.specs.m2_journal.Feeds.{acknowledgements, begun, finished, goes_on, greets, hears, hears_at, keepalive_answers, narrowed, next_place, next_said, owed_numbers, silent_feed, split_into, stamp_of, stamps_in, texts_at, unnamed, without_first}
 use Rattle.m2_feed.specs.m2_journal.Items as item
 use Rattle.m2_feed.specs.m2_journal.Items.{JournalItem}
@@ -39,7 +39,7 @@ use Rattle.m2_feed.specs.m2_journal.OutFrames as out
 use Rattle.m2_feed.specs.m2_journal.OutFrames.{OutFrame, is_unnamed, replies_of}
 use Rattle.m2_feed.specs.m2_journal.Plan.{Planned, to_post, to_dial, to_go_down}
 use Rattle.m2_feed.specs.m2_journal.Said.{Said, says, brings, aborts, garbles, said, split}
-use Rattle.m2_feed.specs.m2_journal.SideFacts.{SideFacts, cookie_of}
+use Rattle.m2_feed.specs.m2_journal.SideFacts.{SideFacts, cookie_of, opener_half}
 use Rattle.m2_feed.specs.m2_journal.State.{PartText, Feed, State}
 use Rattle.m2_feed.specs.m2_journal.Steps as steps
 use Rattle.m2_feed.specs.m2_journal.Steps.{accepts, after, answers, breaks, composes, discards, event_heard, event_of, forgets, has_effects, is_on, is_waiting, notes, on_feed_at, posts, puts, puts_on, queues, reads, sends, sends_late, sets_back, takes_answer, takes_answer_if, takes_socket, tells, tells_if, tells_of_reset, where_true, with_feed, writes_message}
@@ -425,7 +425,7 @@ rest_after f (item.dial planned) s posted taken u h = record { last = h.last; qu
 rest_after f (item.opened k) s posted taken u h =
     let t = tells event.Dialled s in
     let told = tells_rest event.Dialled s h in
-    record { last = told.last; queue = told.queue; texts = goes_on_none (course_of (opener_at_start f.node.entity f.peer) []) (silent_feed k true t.last t.owes) tt }
+    record { last = told.last; queue = told.queue; texts = goes_on_none (course_of (opener_half f) []) (silent_feed k true t.last t.owes) tt }
 rest_after f (item.read k bytes) s posted taken u h = at s.feed h.texts
   where
     at : (o : Option Feed) → IfFed o (λ d. AreNoStamps d.texts) → RestIsBounded (on_feed_at o (λ d. reads f (hears bytes d)) s)

@@ -6,13 +6,13 @@ use Rattle.m2_feed.specs.m2_frame.Reading.{Item}
 use Rattle.m2_feed.specs.m2_handshake.declared.stage.HalfSide.TheVariants.{Opener}
 use Rattle.m2_feed.specs.m2_handshake.Course.{Course, course_of, text_of}
 use Rattle.m2_feed.specs.m2_handshake.Moves.{is_authed}
-use Rattle.m2_feed.specs.m2_handshake.Standing.{Standing, fed, opener_at_start}
+use Rattle.m2_feed.specs.m2_handshake.Standing.{Standing, fed}
 use Rattle.m2_feed.proofs.m2_handshake.Course.{feeds, rests_there}
 use Rattle.m2_feed.proofs.m2_handshake.Reaching.{fed_twice}
 use Rattle.m2_feed.specs.m2_journal.Feeds.{greets, signs, split_into, goes_on, hears_at, hears, silent_feed}
 use Rattle.m2_feed.specs.m2_journal.OutFrames.{OutFrame}
 use Rattle.m2_feed.specs.m2_journal.Said.{Split, split}
-use Rattle.m2_feed.specs.m2_journal.SideFacts.{SideFacts}
+use Rattle.m2_feed.specs.m2_journal.SideFacts.{SideFacts, opener_half}
 use Rattle.m2_feed.specs.m2_journal.State.{PartText, Feed}
 use Rattle.m2_feed.proofs.m2_journal.Splitting.{split-feed}
 use Rattle.m2_feed.proofs.Courses.{ran, goes-on, going_on, rested-course, texts-append, runs-side}
@@ -36,7 +36,7 @@ signs_so b s d e = ap (λ x. signs_if x s d) e
 course_on : (f : SideFacts) (read bytes : List ℕ) →
     course_at f (read ++ bytes) ≡ going_on (course_at f read).events (course_of (fed (course_at f read).standing bytes) [])
 course_on f read bytes =
-    let begin = opener_at_start f.node.entity f.peer in
+    let begin = opener_half f in
     let c = course_at f read in
     let r = ran (fed begin read) in
     ap (λ s. course_of s []) (sym (fed_twice begin read bytes))
@@ -45,8 +45,8 @@ course_on f read bytes =
 opener_there : (f : SideFacts) (read : List ℕ) → (course_at f read).standing.side ≡ Opener
 opener_there f read =
     let c = course_at f read in
-    let r = ran (fed (opener_at_start f.node.entity f.peer) read) in
-    runs-side c.events (fed (opener_at_start f.node.entity f.peer) read) c.standing r.runs
+    let r = ran (fed (opener_half f) read) in
+    runs-side c.events (fed (opener_half f) read) c.standing r.runs
 
 -- ---- both sides have signed
 

@@ -10,7 +10,7 @@ use Rattle.m2_feed.specs.m2_frame.Text as frame
 use Rattle.m2_feed.specs.m2_handshake.declared.ask.Ask.{Ask}
 use Rattle.m2_feed.specs.m2_handshake.Greeting.{welcome}
 use Rattle.m2_feed.specs.m2_handshake.Moves.{is_authed}
-use Rattle.m2_feed.specs.m2_handshake.Standing.{fed, opener_at_start}
+use Rattle.m2_feed.specs.m2_handshake.Standing.{fed}
 use Rattle.m2_feed.specs.m2_handshake.Texts.{control_parts, frame_text}
 use Rattle.m2_feed.specs.m2_session.declared.answer.Answer.{Answer}
 use Rattle.m2_feed.specs.m2_session.declared.answer.Answer.TheVariants as answer
@@ -20,7 +20,7 @@ use Rattle.m2_feed.specs.m2_journal.Laws.{IfFed, IsWritable}
 use Rattle.m2_feed.specs.m2_journal.OutFrames as out
 use Rattle.m2_feed.specs.m2_journal.OutFrames.{OutFrame, replies_of}
 use Rattle.m2_feed.specs.m2_journal.Said.{split}
-use Rattle.m2_feed.specs.m2_journal.SideFacts.{SideFacts}
+use Rattle.m2_feed.specs.m2_journal.SideFacts.{SideFacts, opener_half}
 use Rattle.m2_feed.specs.m2_journal.State.{Feed, State}
 use Rattle.m2_feed.proofs.Courses.{ran, runs-side}
 use Rattle.m2_never_reset.specs.Fits.{AreSaid, HearsAt}
@@ -74,9 +74,9 @@ replied_texts g (j ∷ js) =
 opened_signs : (f : SideFacts) (name : HalfName) (read more follows : List ℕ) → read ++ more ≡ welcome name.entity name.seen ++ follows →
     is_authed (course_at f read).standing.stage ≡ true → (course_at f read).standing.rest ++ more ≡ follows
 opened_signs f name read more follows e q =
-    let start = fed (opener_at_start f.node.entity f.peer) read in
+    let start = fed (opener_half f) read in
     let r = ran start in
-    signs_behind f.node.entity name.entity f.peer name.seen follows read more (course_at f read).events (course_at f read).standing name.entity_fits name.seen_fits e r.runs r.no_replies
+    signs_behind f.node.rules.auth f.node.entity name.entity f.peer name.seen follows read more (course_at f read).events (course_at f read).standing name.entity_fits name.seen_fits e r.runs r.no_replies
     (runs-side (course_at f read).events start (course_at f read).standing r.runs) q
 
 -- what it has got

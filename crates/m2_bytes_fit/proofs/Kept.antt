@@ -7,7 +7,7 @@ use Rattle.m2_feed.specs.m2_fabric.Sockets.{is_among, same_socket}
 use Rattle.m2_feed.specs.m2_handshake.Course.{Course, opener_course, text_of}
 use Rattle.m2_feed.specs.m2_handshake.Greeting.{greeting}
 use Rattle.m2_feed.specs.m2_handshake.Moves.{is_authed}
-use Rattle.m2_feed.specs.m2_handshake.Standing.{fed, opener_at_start}
+use Rattle.m2_feed.specs.m2_handshake.Standing.{fed}
 use Rattle.m2_feed.proofs.m2_handshake.Speaking.{opener_greets, text_is_front}
 use Rattle.m2_feed.specs.m2_session.SessionLaws.{takes}
 use Rattle.m2_feed.specs.m2_journal.declared.entry.JudgedItem.{JudgedItem}
@@ -17,7 +17,7 @@ use Rattle.m2_feed.specs.m2_journal.Lawful.{judged_on}
 use Rattle.m2_feed.specs.m2_journal.Laws.{IfFed}
 use Rattle.m2_feed.specs.m2_journal.OutFrames.{OutFrame, is_unnamed, replies_of}
 use Rattle.m2_feed.specs.m2_journal.Said.{split}
-use Rattle.m2_feed.specs.m2_journal.SideFacts.{SideFacts}
+use Rattle.m2_feed.specs.m2_journal.SideFacts.{SideFacts, opener_half}
 use Rattle.m2_feed.specs.m2_journal.State.{PartText, Feed, State}
 use Rattle.m2_feed.proofs.Courses.{ran}
 use Rattle.m2_never_reset.specs.Frames.{is_ask, frames_on}
@@ -61,10 +61,10 @@ replied judged = flat_map (λ i. replies_of i.answer) judged
 
 -- the opener's half, by all that was read there
 abbrev pub course_at : SideFacts → (read : List ℕ) → Course
-course_at f read = opener_course f.node.entity f.peer read
+course_at f read = opener_course f.node.rules.auth f.node.entity f.peer read
 
 abbrev pub greeting_of : SideFacts → List ℕ
-greeting_of f = greeting f.node.entity f.peer []
+greeting_of f = greeting f.node.rules.auth f.node.entity f.peer []
 
 -- the feed that has heard it
 abbrev pub heard_of : SideFacts → SocketId → (read : List ℕ) → Feed
@@ -206,7 +206,7 @@ hand_signed f k read e = at (is_authed (course_at f read).standing.stage) refl e
     at false q h = some_not_none h
 
 pub signed_text : (f : SideFacts) (read : List ℕ) → is_authed (course_at f read).standing.stage ≡ true → text_of (course_at f read).events ≡ greeting_of f
-signed_text f read q = opener_greets.computed f.node.entity f.peer read q
+signed_text f read q = opener_greets.computed f.node.rules.auth f.node.entity f.peer read q
 
 pub opened_put : (f : SideFacts) (read wrote : List ℕ) (frames : List OutFrame) (d : Feed) → OpenedFeed f read wrote frames d → IsPut f wrote (greeting_of f) frames
 opened_put f read wrote frames d h = by_hand h.unsigned
@@ -216,7 +216,7 @@ opened_put f read wrote frames d h = by_hand h.unsigned
 
     unsigned_so : (texts : List PartText) → HasPut f wrote (text ++ texts_of f frames) texts → frames ≡ [] → AllByRecursion IsNamed texts → IsPut f wrote (greeting_of f) frames
     unsigned_so texts put none named =
-        let front = text_is_front f.node.entity f.peer read (course_at f read).events (course_at f read).standing (ran (fed (opener_at_start f.node.entity f.peer) read)).runs in
+        let front = text_is_front f.node.rules.auth f.node.entity f.peer read (course_at f read).events (course_at f read).standing (ran (fed (opener_half f) read)).runs in
         at texts put named front
       where
         nothing : texts_of f frames ≡ []

@@ -11,6 +11,7 @@ use Rattle.m2_feed.specs.m2_control.Banner.{banner_in, banner_text}
 use Rattle.m2_feed.specs.m2_control.Laws.{HasAddrRanges}
 use Rattle.m2_feed.proofs.m2_control.Written.{banner_is_read}
 use Rattle.m2_feed.specs.m2_frame.Frame.{Parts}
+use Rattle.m2_feed.specs.m2_policy.declared.rules.AuthPayload.{AuthPayload}
 use Rattle.m2_feed.specs.m2_handshake.declared.stage.Awaited.{Awaited}
 use Rattle.m2_feed.specs.m2_handshake.declared.stage.Awaited.TheVariants.{Hello, Done, Signature}
 use Rattle.m2_feed.specs.m2_handshake.declared.stage.HalfSide.TheVariants.{Opener}
@@ -32,79 +33,79 @@ use Rattle.m2_bytes_fit.proofs.Sent.{done_sent}
 
 -- ---- its steps
 
-abbrev at : ℕ → Addr → Stage → Option Parts → List ℕ → Standing
-at entity dialled stage held rest = record { side = Opener; entity = entity; seen = dialled; stage = stage; peer = None; held = held; rest = rest }
+abbrev at : AuthPayload → ℕ → Addr → Stage → Option Parts → List ℕ → Standing
+at auth entity dialled stage held rest = record { side = Opener; auth = auth; entity = entity; seen = dialled; stage = stage; peer = None; held = held; rest = rest }
 
 -- the banner is passed, and HELLO is written
-greets : (entity : ℕ) (dialled : Addr) (more : List ℕ) → step_of (at entity dialled Banner None (banner_text features ++ more)) ≡ goes (wrote (frame_text (hello entity dialled))) (at entity dialled (Waits Hello) None more)
-greets entity dialled more =
-    let s = at entity dialled Banner None (banner_text features ++ more) in
+greets : (auth : AuthPayload) (entity : ℕ) (dialled : Addr) (more : List ℕ) → step_of (at auth entity dialled Banner None (banner_text features ++ more)) ≡ goes (wrote (frame_text (hello entity dialled))) (at auth entity dialled (Waits Hello) None more)
+greets auth entity dialled more =
+    let s = at auth entity dialled Banner None (banner_text features ++ more) in
     let b : banner_in (banner_text features ++ more) ≡ Got features 26 = banner_is_read features more (banner_in (banner_text features ++ more)) (omega arith) (omega arith) (is_step (banner_text features ++ more)) in
     ap (λ (x : BannerStep). step_by (after_banner s x) s) b
-    ∙ ap (λ (r : List ℕ). goes (wrote (frame_text (hello entity dialled))) (at entity dialled (Waits Hello) None r)) (drop-append_seam (banner_text features) more)
+    ∙ ap (λ (r : List ℕ). goes (wrote (frame_text (hello entity dialled))) (at auth entity dialled (Waits Hello) None r)) (drop-append_seam (banner_text features) more)
 
-takes : (entity : ℕ) (dialled : Addr) (awaited : Awaited) (c : Control) (more : List ℕ) → IsSent c →
-    step_of (at entity dialled (Waits awaited) None (frame_text c ++ more)) ≡ goes silent (at entity dialled (Waits awaited) (Some (control_parts c)) more)
-takes entity dialled awaited c more k =
-    let s = at entity dialled (Waits awaited) None (frame_text c ++ more) in
+takes : (auth : AuthPayload) (entity : ℕ) (dialled : Addr) (awaited : Awaited) (c : Control) (more : List ℕ) → IsSent c →
+    step_of (at auth entity dialled (Waits awaited) None (frame_text c ++ more)) ≡ goes silent (at auth entity dialled (Waits awaited) (Some (control_parts c)) more)
+takes auth entity dialled awaited c more k =
+    let s = at auth entity dialled (Waits awaited) None (frame_text c ++ more) in
     ap (λ (x : Found). step_by (take_frame s x) s) (frame_found c more k)
-    ∙ ap (λ (r : List ℕ). goes silent (at entity dialled (Waits awaited) (Some (control_parts c)) r)) (drop-append_seam (frame_text c) more)
+    ∙ ap (λ (r : List ℕ). goes silent (at auth entity dialled (Waits awaited) (Some (control_parts c)) r)) (drop-append_seam (frame_text c) more)
 
-reads_hello : (own : ℕ) (seen : Addr) → IsSent (hello own seen) → after_frame Opener Hello (control_parts (hello own seen)) ≡ says Done (frame_text request)
-reads_hello own seen k = ap (after_payload Opener Hello) k.read
+reads_hello : (auth : AuthPayload) (own : ℕ) (seen : Addr) → IsSent (hello own seen) → after_frame auth Opener Hello (control_parts (hello own seen)) ≡ says Done (frame_text (request auth))
+reads_hello auth own seen k = ap (after_payload auth Opener Hello) k.read
 
-reads_done : after_frame Opener Done (control_parts done) ≡ says Signature (frame_text signature)
-reads_done = ap (after_payload Opener Done) done_sent.read
+reads_done : (auth : AuthPayload) → after_frame auth Opener Done (control_parts done) ≡ says Signature (frame_text signature)
+reads_done auth = ap (after_payload auth Opener Done) done_sent.read
 
-reads_signature : after_frame Opener Signature (control_parts signature) ≡ signed
-reads_signature = ap (after_payload Opener Signature) signature_sent.read
+reads_signature : (auth : AuthPayload) → after_frame auth Opener Signature (control_parts signature) ≡ signed
+reads_signature auth = ap (after_payload auth Opener Signature) signature_sent.read
 
-reacts : (entity : ℕ) (dialled : Addr) (awaited : Awaited) (f : Parts) (more : List ℕ) (r : Reaction) → after_frame Opener awaited f ≡ r →
-    course_move (at entity dialled (Waits awaited) (Some f) more) ≡ after_reaction (at entity dialled (Waits awaited) (Some f) more) r
-reacts entity dialled awaited f more r e = ap (after_reaction (at entity dialled (Waits awaited) (Some f) more)) e
+reacts : (auth : AuthPayload) (entity : ℕ) (dialled : Addr) (awaited : Awaited) (f : Parts) (more : List ℕ) (r : Reaction) → after_frame auth Opener awaited f ≡ r →
+    course_move (at auth entity dialled (Waits awaited) (Some f) more) ≡ after_reaction (at auth entity dialled (Waits awaited) (Some f) more) r
+reacts auth entity dialled awaited f more r e = ap (after_reaction (at auth entity dialled (Waits awaited) (Some f) more)) e
 
 -- by a welcome, and what follows it, it signs with just that unread
-record SignsBehind (entity : ℕ) (dialled : Addr) (bytes more : List ℕ) : Type 0 where
+record SignsBehind (auth : AuthPayload) (entity : ℕ) (dialled : Addr) (bytes more : List ℕ) : Type 0 where
   events : List Event
-  runs : Runs events (fed (opener_at_start entity dialled) bytes) (at entity dialled Authed None more)
+  runs : Runs events (fed (opener_at_start auth entity dialled) bytes) (at auth entity dialled Authed None more)
   replies : replies_of events ≡ []
 
-signs_there : (entity own : ℕ) (dialled seen : Addr) (more : List ℕ) → own < 2 ^ 8 → HasAddrRanges seen →
-    SignsBehind entity dialled (banner_text features ++ (frame_text (hello own seen) ++ (frame_text done ++ (frame_text signature ++ more)))) more
-signs_there entity own dialled seen more e h =
+signs_there : (auth : AuthPayload) (entity own : ℕ) (dialled seen : Addr) (more : List ℕ) → own < 2 ^ 8 → HasAddrRanges seen →
+    SignsBehind auth entity dialled (banner_text features ++ (frame_text (hello own seen) ++ (frame_text done ++ (frame_text signature ++ more)))) more
+signs_there auth entity own dialled seen more e h =
     let sent = hello_sent own seen e h in
     let third = frame_text signature ++ more in
     let second = frame_text done ++ third in
     let first = frame_text (hello own seen) ++ second in
-    let listening = at entity dialled (Waits Hello) (Some (control_parts (hello own seen))) second in
-    let finishing = at entity dialled (Waits Done) (Some (control_parts done)) third in
-    let last = at entity dialled (Waits Signature) (Some (control_parts signature)) more in
+    let listening = at auth entity dialled (Waits Hello) (Some (control_parts (hello own seen))) second in
+    let finishing = at auth entity dialled (Waits Done) (Some (control_parts done)) third in
+    let last = at auth entity dialled (Waits Signature) (Some (control_parts signature)) more in
     record {
-      events = wrote (banner_text features) ∷ wrote (frame_text (hello entity dialled)) ∷ silent ∷ wrote (frame_text request) ∷ silent ∷ wrote (frame_text signature) ∷ silent ∷ silent ∷ [];
+      events = wrote (banner_text features) ∷ wrote (frame_text (hello entity dialled)) ∷ silent ∷ wrote (frame_text (request auth)) ∷ silent ∷ wrote (frame_text signature) ∷ silent ∷ silent ∷ [];
       runs = (
-        at entity dialled Banner None (banner_text features ++ first),
+        at auth entity dialled Banner None (banner_text features ++ first),
         refl,
         (
-          at entity dialled (Waits Hello) None first,
-          greets entity dialled first,
+          at auth entity dialled (Waits Hello) None first,
+          greets auth entity dialled first,
           (
             listening,
-            takes entity dialled Hello (hello own seen) second sent,
+            takes auth entity dialled Hello (hello own seen) second sent,
             (
-              at entity dialled (Waits Done) None second,
-              ap (λ m. step_by m listening) (reacts entity dialled Hello (control_parts (hello own seen)) second (says Done (frame_text request)) (reads_hello own seen sent)),
+              at auth entity dialled (Waits Done) None second,
+              ap (λ m. step_by m listening) (reacts auth entity dialled Hello (control_parts (hello own seen)) second (says Done (frame_text (request auth))) (reads_hello auth own seen sent)),
               (
                 finishing,
-                takes entity dialled Done done third done_sent,
+                takes auth entity dialled Done done third done_sent,
                 (
-                  at entity dialled (Waits Signature) None third,
-                  ap (λ m. step_by m finishing) (reacts entity dialled Done (control_parts done) third (says Signature (frame_text signature)) reads_done),
+                  at auth entity dialled (Waits Signature) None third,
+                  ap (λ m. step_by m finishing) (reacts auth entity dialled Done (control_parts done) third (says Signature (frame_text signature)) (reads_done auth)),
                   (
                     last,
-                    takes entity dialled Signature signature more signature_sent,
+                    takes auth entity dialled Signature signature more signature_sent,
                     (
-                      at entity dialled Authed None more,
-                      ap (λ m. step_by m last) (reacts entity dialled Signature (control_parts signature) more signed reads_signature),
+                      at auth entity dialled Authed None more,
+                      ap (λ m. step_by m last) (reacts auth entity dialled Signature (control_parts signature) more signed (reads_signature auth)),
                       refl,
                     ),
                   ),
@@ -137,23 +138,23 @@ fed_rest s more q = by_stage s.stage refl q
 
 -- an opener that is fed the front of a welcome and of what follows it has, where it has signed, the front of what follows
 -- unread
-pub signs_behind : (entity own : ℕ) (dialled seen : Addr) (follows bytes more : List ℕ) (es : List Event) (s : Standing) → own < 2 ^ 8 → HasAddrRanges seen →
-    bytes ++ more ≡ welcome own seen ++ follows → Runs es (fed (opener_at_start entity dialled) bytes) s → replies_of es ≡ [] → s.side ≡ Opener →
+pub signs_behind : (auth : AuthPayload) (entity own : ℕ) (dialled seen : Addr) (follows bytes more : List ℕ) (es : List Event) (s : Standing) → own < 2 ^ 8 → HasAddrRanges seen →
+    bytes ++ more ≡ welcome own seen ++ follows → Runs es (fed (opener_at_start auth entity dialled) bytes) s → replies_of es ≡ [] → s.side ≡ Opener →
     is_authed s.stage ≡ true → s.rest ++ more ≡ follows
-signs_behind entity own dialled seen follows bytes more es s small ranges e r none opener q =
+signs_behind auth entity own dialled seen follows bytes more es s small ranges e r none opener q =
     by_way (ways there.events es start end (fed s more) (replies_of es) there.runs all_runs (ap (λ l. l ++ replies_of es) (sym there.replies)))
   where
     whole : List ℕ
     whole = banner_text features ++ (frame_text (hello own seen) ++ (frame_text done ++ (frame_text signature ++ follows)))
 
     start : Standing
-    start = fed (opener_at_start entity dialled) whole
+    start = fed (opener_at_start auth entity dialled) whole
 
     end : Standing
-    end = at entity dialled Authed None follows
+    end = at auth entity dialled Authed None follows
 
-    there : SignsBehind entity dialled whole follows
-    there = signs_there entity own dialled seen follows small ranges
+    there : SignsBehind auth entity dialled whole follows
+    there = signs_there auth entity own dialled seen follows small ranges
 
     fed_on : ((fed s more).stage ≡ s.stage) × ((fed s more).rest ≡ s.rest ++ more) × ((fed s more).side ≡ s.side)
     fed_on = fed_rest s more q
@@ -161,9 +162,9 @@ signs_behind entity own dialled seen follows bytes more es s small ranges e r no
     all_runs : Runs es start (fed s more)
     all_runs =
         subst (λ (z : Standing). Runs es z (fed s more))
-        (fed_twice (opener_at_start entity dialled) bytes more
-        ∙ ap (fed (opener_at_start entity dialled)) (e ∙ grouped (banner_text features) (frame_text (hello own seen)) (frame_text done) (frame_text signature) follows))
-        (feeds es (fed (opener_at_start entity dialled) bytes) s more r)
+        (fed_twice (opener_at_start auth entity dialled) bytes more
+        ∙ ap (fed (opener_at_start auth entity dialled)) (e ∙ grouped (banner_text features) (frame_text (hello own seen)) (frame_text done) (frame_text signature) follows))
+        (feeds es (fed (opener_at_start auth entity dialled) bytes) s more r)
 
     by_way : GoesOnTo there.events end es (fed s more) ⊎ GoesOnTo es (fed s more) there.events end → s.rest ++ more ≡ follows
     by_way (inl (on, all, runs)) =

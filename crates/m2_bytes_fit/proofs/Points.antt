@@ -121,7 +121,7 @@ put_first f frames (w ∷ []) bytes more left k l e =
     (e ∙ texts_both f frames (w ∷ []) ∙ ap (λ t. t ++ texts_of f (w ∷ [])) (texts_made f frames k) ∙ ap (λ t. flat_map frame.text_of (parts_all f frames) ++ t) last)
 put_first f frames (w ∷ v ∷ ws) bytes more left k l e = absurd l
 
-greeting_and : (entity : ℕ) (f : SideFacts) (t : List ℕ) → greeting_of f ++ t ≡ greeting f.node.entity f.peer t
+greeting_and : (entity : ℕ) (f : SideFacts) (t : List ℕ) → greeting_of f ++ t ≡ greeting f.node.rules.auth f.node.entity f.peer t
 greeting_and entity f t = simp (append_assoc)
 
 -- ---- a half that reads what the other side writes
@@ -131,7 +131,7 @@ pub record ReadsFrames (b : Side) (k : SocketId) (bytes more : List ℕ) : Type 
   pub late : List OutFrame
   pub left : List ℕ
   pub late_is : IsLate late left
-  pub all : bytes ++ (more ++ left) ≡ greeting b.facts.node.entity b.facts.peer (texts_of b.facts (frames_on k (state_of b).sent ++ late))
+  pub all : bytes ++ (more ++ left) ≡ greeting b.facts.node.rules.auth b.facts.node.entity b.facts.peer (texts_of b.facts (frames_on k (state_of b).sent ++ late))
 
 can_write : (a b : Side) → Known a b → (k : SocketId) (late : List OutFrame) (left : List ℕ) → IsLate late left → AllByRecursion (CanBeWritten b.facts) (frames_on k (state_of b).sent ++ late)
 can_write a b h k late left l =
@@ -177,9 +177,9 @@ no_map f (x ∷ xs) e = not_nil e
 
 none_asked : (a b : Side) (h : Known a b) (k : SocketId) (name : HalfName) (x : Exchange) (s : Standing) → Reaches (begins name) x s → x.bytes ≡ [] → x.asks ≡ []
 none_asked a b h k name x s comes given =
-    at (accepts b.facts name.entity name.seen [] [] (greeting b.facts.node.entity b.facts.peer []) x s h.far_named.entity h.far_named.peer tt refl comes given)
+    at (accepts b.facts name.entity name.seen [] [] (greeting b.facts.node.rules.auth b.facts.node.entity b.facts.peer []) x s h.far_named.entity h.far_named.peer tt refl comes given)
   where
-    at : HasWelcomed name.entity name.seen x ⊎ IsAsked b.facts name.entity name.seen [] (greeting b.facts.node.entity b.facts.peer []) x s → x.asks ≡ []
+    at : HasWelcomed name.entity name.seen x ⊎ IsAsked b.facts name.entity name.seen [] (greeting b.facts.node.rules.auth b.facts.node.entity b.facts.peer []) x s → x.asks ≡ []
     at (inl w) = w.asks
     at (inr i) = no_map as_asked x.asks (i.asks ∙ ap (map ask_of) (empty_front i.used i.left (sym i.all)))
 

@@ -79,7 +79,7 @@ impl<P: Port, D> Model for Center<P, D> {
       bytes = c.passes.throttle;
       numbers = c.passes.numbers;
     }) × (c.roster ≡ map peer_of c.records.items) × (length c.halves ≤ vec_capacity c.loose - vec_len c.loose)
-        × (0 < length c.piece.items) × (length c.piece.items ≤ MOST_READ) };
+        × (length c.piece.items ≡ MOST_READ) };
 }
 
 impl<P: Port, D> Center<P, D> {

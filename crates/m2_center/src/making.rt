@@ -58,8 +58,7 @@ fn furnish<E: End>(alloc: Global, records: &[Record<E>]) -> Result<Furnished<E>,
     requires { IsDistinct same_addr (map peer_of records.now) }
     ensures roster { IfOk result (λ f. f.roster ≡ map peer_of records.now) }
     ensures none { IfOk result (λ f. f.halves ≡ []) }
-    ensures some { IfOk result (λ f. 0 < length f.piece.items) }
-    ensures most { IfOk result (λ f. length f.piece.items ≤ MOST_READ) }
+    ensures piece { IfOk result (λ f. length f.piece.items ≡ MOST_READ) }
 {
     Ok(Furnished {
         roster: roster_of(alloc, records)?,
@@ -90,8 +89,7 @@ fn begin<P: Port, D>(
     requires begin { CanBegin of.entity (P.seen of.port) of.records.items of.passes.throttle of.passes.numbers }
     requires roster { with.roster ≡ map peer_of of.records.items }
     requires none { with.halves ≡ [] }
-    requires some { 0 < length with.piece.items }
-    requires most { length with.piece.items ≤ MOST_READ }
+    requires piece { length with.piece.items ≡ MOST_READ }
     ensures ok { IfOk result (λ c. c ≡ new_center of.entity (P.seen of.port) of.records.items of.fast of.queued of.passes.throttle of.passes.numbers) }
     ensures err { IfErr result (λ back. unmade_now back.entity (P.seen back.port) back.records.items back.fast back.queued back.passes.throttle back.passes.numbers
         ≡ unmade_now of.entity (P.seen of.port) of.records.items of.fast of.queued of.passes.throttle of.passes.numbers) }

@@ -238,8 +238,7 @@ fn answer_all<E: End>(
     requires room { length halves.old ≤ vec_capacity loose.old - vec_len loose.old }
     requires numbers { work.old.number_pass.now.place ≡ work.old.numbers.now.place }
     requires takes { work.old.take_pass.now.place ≡ work.old.throttle.now.place }
-    requires some { 0 < length piece.old.items }
-    requires most { length piece.old.items ≤ MOST_READ }
+    requires piece { length piece.old.items ≡ MOST_READ }
     ensures turns { TurnsHalves E result (means_of now work.old) (callers halves.old loose.old.items (homes records.old.items work.old)) (callers halves.new loose.new.items (homes records.new.items work.new)) }
     ensures consistent { (made : List SocketId) (entity : ℕ) → AreConsistent (supply_of work.old) entity (sessions_of made (callers halves.old loose.old.items (homes records.old.items work.old))) → AreConsistent (supply_of work.new) entity (sessions_of made (callers halves.new loose.new.items (homes records.new.items work.new))) }
     ensures peers { map peer_of records.new.items ≡ map peer_of records.old.items }

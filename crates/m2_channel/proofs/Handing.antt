@@ -51,7 +51,7 @@ none_handed : (p : Parcel) (d : Delivery) → IsParcelOf p d → IsNoDiscard d �
 none_handed (parcel.Letter l) d is no_discard = tt
 none_handed (parcel.RemoteReset p) d is no_discard = tt
 none_handed (parcel.Discard p) state.discarded is no_discard = no_discard
-none_handed (parcel.Discard p) (state.letter n k m) is no_discard = is
+none_handed (parcel.Discard p) (state.letter n life k m) is no_discard = is
 none_handed (parcel.Discard p) state.remote_reset is no_discard = is
 
 all_handed : (ps : List Parcel) (ds : List Delivery) → AreParcelsOf ps ds → AllByRecursion IsNoDiscard ds → AllByRecursion IsNoDiscardAtAll ps
@@ -94,7 +94,7 @@ heard_letters peer key (l ∷ ls) = at (is_of_key peer key l) (heard_letters pee
 
 pub heard-append : (peer : ℕ) (key : Key) (xs ys : List Heard) → heard.of_key peer key (xs ++ ys) ≡ heard.of_key peer key xs ++ heard.of_key peer key ys
 heard-append peer key [] ys = refl
-heard-append peer key (heard.message p k n m ∷ xs) ys = at ((p == peer) && is_key k key) (heard-append peer key xs ys)
+heard-append peer key (heard.message p k n life m ∷ xs) ys = at ((p == peer) && is_key k key) (heard-append peer key xs ys)
   where
     at : (b : Bool) → heard.of_key peer key (xs ++ ys) ≡ heard.of_key peer key xs ++ heard.of_key peer key ys →
         (if b then m ∷ heard.of_key peer key (xs ++ ys) else heard.of_key peer key (xs ++ ys))
@@ -194,17 +194,17 @@ handed_first peer key (p ∷ ps) (d ∷ ds) own are = each p d own.0 are.0 (hand
     each : (p : Parcel) (d : Delivery) → (peer_of p == peer) ≡ true → IsParcelOf p d →
         AreFirstOf (map unnumbered (of_it peer key (letters_in ps))) (channel.of_key key (handed ds)) →
         AreFirstOf (map unnumbered (of_it peer key (letters_in (p ∷ ps)))) (channel.of_key key (handed (d ∷ ds)))
-    each (parcel.Letter l) (state.letter n k m) mine is first =
+    each (parcel.Letter l) (state.letter n life k m) mine is first =
         subst (λ x. AreFirstOf x (if is_key k key then unnumbered m ∷ channel.of_key key (handed ds) else channel.of_key key (handed ds)))
         (sym (ap (map unnumbered) (of_it-append peer key (l ∷ []) (letters_in ps)) ∙ map-append unnumbered (of_it peer key (l ∷ [])) (of_it peer key (letters_in ps))))
-        (one_first peer key l k m (map unnumbered (of_it peer key (letters_in ps))) (channel.of_key key (handed ds)) mine is.0 is.2 first)
+        (one_first peer key l k m (map unnumbered (of_it peer key (letters_in ps))) (channel.of_key key (handed ds)) mine is.0 is.3 first)
     each (parcel.Letter l) state.discarded mine is first = absurd is
     each (parcel.Letter l) state.remote_reset mine is first = absurd is
     each (parcel.Discard q) state.discarded mine is first = first
-    each (parcel.Discard q) (state.letter n k m) mine is first = absurd is
+    each (parcel.Discard q) (state.letter n life k m) mine is first = absurd is
     each (parcel.Discard q) state.remote_reset mine is first = absurd is
     each (parcel.RemoteReset q) state.remote_reset mine is first = first
-    each (parcel.RemoteReset q) (state.letter n k m) mine is first = absurd is
+    each (parcel.RemoteReset q) (state.letter n life k m) mine is first = absurd is
     each (parcel.RemoteReset q) state.discarded mine is first = absurd is
 
 -- ---- without a discard all that ever was dispatched and put was so since the last one
@@ -240,10 +240,10 @@ IsLetterParcel _ = ⊥
 letter_handed : (p : Parcel) (d : Delivery) → IsParcelOf p d → IsLetter d → IsLetterParcel p
 letter_handed (parcel.Letter l) d is only = tt
 letter_handed (parcel.Discard q) state.discarded is only = only
-letter_handed (parcel.Discard q) (state.letter n k m) is only = is
+letter_handed (parcel.Discard q) (state.letter n life k m) is only = is
 letter_handed (parcel.Discard q) state.remote_reset is only = is
 letter_handed (parcel.RemoteReset q) state.remote_reset is only = only
-letter_handed (parcel.RemoteReset q) (state.letter n k m) is only = is
+letter_handed (parcel.RemoteReset q) (state.letter n life k m) is only = is
 letter_handed (parcel.RemoteReset q) state.discarded is only = is
 
 letters_handed : (ps : List Parcel) (ds : List Delivery) → AreParcelsOf ps ds → AllByRecursion IsLetter ds → AllByRecursion IsLetterParcel ps

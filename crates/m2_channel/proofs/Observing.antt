@@ -27,7 +27,7 @@ use Rattle.m2_dispatch.proofs.m2_lemmas.Lists.{all_append}
 
 pub heard_keys : (peer : ℕ) (key : Key) (log : List Heard) → channel.of_key key (heard_from peer log) ≡ map unnumbered (heard.of_key peer key log)
 heard_keys peer key [] = refl
-heard_keys peer key (heard.message p k n m ∷ log) = at (p == peer) (heard_keys peer key log)
+heard_keys peer key (heard.message p k n life m ∷ log) = at (p == peer) (heard_keys peer key log)
   where
     of_it : (c : Bool) → channel.of_key key (heard_from peer log) ≡ map unnumbered (heard.of_key peer key log) →
         (if c then unnumbered m ∷ channel.of_key key (heard_from peer log) else channel.of_key key (heard_from peer log))
@@ -72,7 +72,7 @@ keeps_acknowledged (x ∷ xs) c = keeps_acknowledged xs (after_step (dispatch x.
 
 all_dispatched : (peer : ℕ) (log : List Heard) → dispatches (dispatched_from peer log) ≡ heard_from peer log
 all_dispatched peer [] = refl
-all_dispatched peer (heard.message p k n m ∷ log) = at (p == peer) (all_dispatched peer log)
+all_dispatched peer (heard.message p k n life m ∷ log) = at (p == peer) (all_dispatched peer log)
   where
     at : (b : Bool) → dispatches (dispatched_from peer log) ≡ heard_from peer log →
         dispatches (steps_of (if b then keyed k m ∷ heard_from peer log else heard_from peer log)) ≡ (if b then keyed k m ∷ heard_from peer log else heard_from peer log)
@@ -113,7 +113,7 @@ hears_one peer k m log c unmarked h on =
 
 pub dispatch_run : (peer : ℕ) (log : List Heard) (c : Channel) → c.marked ≡ false → Follows peer log c → IsRun (dispatched_from peer log) c
 dispatch_run peer [] c unmarked h = tt
-dispatch_run peer (heard.message p k n m ∷ log) c unmarked h = at (p == peer) h (λ d e g. dispatch_run peer log d e g)
+dispatch_run peer (heard.message p k n life m ∷ log) c unmarked h = at (p == peer) h (λ d e g. dispatch_run peer log d e g)
   where
     at : (b : Bool) →
         ((key : Key) → AreFirstOf (channel.of_key key c.dispatched ++ map unnumbered (if b && is_key k key then m ∷ heard.of_key peer key log else heard.of_key peer key log)) (channel.of_key key c.accepted)) →
@@ -125,7 +125,7 @@ dispatch_run peer (heard.reset p ∷ log) c unmarked h = dispatch_run peer log c
 
 no_discards : (ds : List Delivery) → AllByRecursion IsLetter ds → AllByRecursion IsNoDiscard ds
 no_discards [] h = tt
-no_discards (state.letter n k m ∷ ds) h = (tt, no_discards ds h.1)
+no_discards (state.letter n life k m ∷ ds) h = (tt, no_discards ds h.1)
 no_discards (state.discarded ∷ ds) h = absurd h.0
 no_discards (state.remote_reset ∷ ds) h = absurd h.0
 

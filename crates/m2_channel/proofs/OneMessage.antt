@@ -25,13 +25,13 @@ pub record OneLetter (ds : List Delivery) (m : Content) : Type 0 where
 
 none_handed : (ds : List Delivery) → letters ds ≡ [] → handed ds ≡ []
 none_handed [] e = refl
-none_handed (state.letter n k m ∷ ds) e = absurd (let long = ap (λ l. length l) e in omega (arith, long))
+none_handed (state.letter n life k m ∷ ds) e = absurd (let long = ap (λ l. length l) e in omega (arith, long))
 none_handed (state.discarded ∷ ds) e = none_handed ds e
 none_handed (state.remote_reset ∷ ds) e = none_handed ds e
 
 one_letter : (ds : List Delivery) (m : Content) → letters ds ≡ m ∷ [] → OneLetter ds m
 one_letter [] m e = absurd (let long = ap (λ l. length l) e in omega (arith, long))
-one_letter (state.letter n k c ∷ ds) m e =
+one_letter (state.letter n life k c ∷ ds) m e =
     let same = same_Some (unnumbered c) m (ap (λ l. slice_get l 0) e) in
     let none = none_handed ds (ap (drop 1) e) in
     record { key = k; handed = ap (λ x. record { key = k; message = unnumbered x } ∷ handed ds) same ∙ ap (λ l. keyed k m ∷ l) none }
@@ -40,20 +40,20 @@ one_letter (state.remote_reset ∷ ds) m e = let it = one_letter ds m e in recor
 
 -- ---- its log
 
-abbrev one_heard : ℕ → Key → Content → List Heard
-one_heard peer k m = heard.message peer k 1 m ∷ []
+abbrev one_heard : (peer life : ℕ) → Key → Content → List Heard
+one_heard peer life k m = heard.message peer k 1 life m ∷ []
 
-heard_one : (peer : ℕ) (k : Key) (m : Content) → heard_from peer (one_heard peer k m) ≡ keyed k m ∷ []
-heard_one peer k m = at (peer == peer) (eq-eqb peer peer refl)
+heard_one : (peer life : ℕ) (k : Key) (m : Content) → heard_from peer (one_heard peer life k m) ≡ keyed k m ∷ []
+heard_one peer life k m = at (peer == peer) (eq-eqb peer peer refl)
   where
     at : (b : Bool) → b ≡ true → (if b then keyed k m ∷ [] else []) ≡ keyed k m ∷ []
     at true e = refl
     at false e = absurd (true≢false (sym e))
 
-its_log : (peer : ℕ) (k : Key) (m : Content) (s : State) → handed s.deliveries ≡ keyed k m ∷ [] → IsLogOf peer (one_heard peer k m) s
-its_log peer k m s e none key =
-    let log = one_heard peer k m in
-    ([], ap (channel.of_key key) (e ∙ sym (heard_one peer k m)) ∙ heard_keys peer key log ∙ sym (append-nil (map unnumbered (heard.of_key peer key log))))
+its_log : (peer life : ℕ) (k : Key) (m : Content) (s : State) → handed s.deliveries ≡ keyed k m ∷ [] → IsLogOf peer (one_heard peer life k m) s
+its_log peer life k m s e none key =
+    let log = one_heard peer life k m in
+    ([], ap (channel.of_key key) (e ∙ sym (heard_one peer life k m)) ∙ heard_keys peer key log ∙ sym (append-nil (map unnumbered (heard.of_key peer key log))))
 
 no_log : (peer : ℕ) (s : State) → IsLogOf peer [] s
 no_log peer s none key = (channel.of_key key (handed s.deliveries), refl)
@@ -68,13 +68,13 @@ is_observed never it =
     let b = far_after it.g it.order in
     let one = one_letter b.deliveries it.message it.accepted in
     let peer = it.f.node.number in
-    let log : Logs = record { fast = []; queued = one_heard peer one.key it.message } in
+    let log : Logs = record { fast = []; queued = one_heard peer b.life one.key it.message } in
     let logs : AreLogs it.f it.g it.order no_logs log = record {
       near = no_log it.g.node.number (near_after it.f it.order);
-      far = its_log peer one.key it.message b one.handed;
+      far = its_log peer b.life one.key it.message b one.handed;
     } in
     let brought = observed_is never it.f it.g it.order no_logs log it.nodes it.history logs in
-    let dispatched = brought.near.dispatches ∙ heard_one peer one.key it.message in
+    let dispatched = brought.near.dispatches ∙ heard_one peer b.life one.key it.message in
     let first = brought.near.delivered.over one.key in
     let own : channel.of_key one.key (dispatches (observed it.f it.g it.order log)) ≡ unnumbered it.message ∷ [] =
     ap (channel.of_key one.key) dispatched ∙ ap (λ b. if b then unnumbered it.message ∷ [] else []) (key_self one.key) in

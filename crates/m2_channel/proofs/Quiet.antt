@@ -216,21 +216,21 @@ acked_raises q n h = at (nat_le n q.written) (le-leb n q.written h)
 
 -- ---- a letter
 
-pub handed_letter : (ds : List Delivery) (n : ℕ) (k : Key) (m : Content) → handed (ds ++ state.letter n k m ∷ []) ≡ handed ds ++ keyed k m ∷ []
-handed_letter [] n k m = refl
-handed_letter (state.letter i l c ∷ ds) n k m = ap (λ x. keyed l c ∷ x) (handed_letter ds n k m)
-handed_letter (state.discarded ∷ ds) n k m = handed_letter ds n k m
-handed_letter (state.remote_reset ∷ ds) n k m = handed_letter ds n k m
+pub handed_letter : (ds : List Delivery) (n life : ℕ) (k : Key) (m : Content) → handed (ds ++ state.letter n life k m ∷ []) ≡ handed ds ++ keyed k m ∷ []
+handed_letter [] n life k m = refl
+handed_letter (state.letter i u l c ∷ ds) n life k m = ap (λ x. keyed l c ∷ x) (handed_letter ds n life k m)
+handed_letter (state.discarded ∷ ds) n life k m = handed_letter ds n life k m
+handed_letter (state.remote_reset ∷ ds) n life k m = handed_letter ds n life k m
 
-letters_letter : (ds : List Delivery) (n : ℕ) (k : Key) (m : Content) → letters (ds ++ state.letter n k m ∷ []) ≡ letters ds ++ unnumbered m ∷ []
-letters_letter [] n k m = refl
-letters_letter (state.letter i l c ∷ ds) n k m = ap (λ x. unnumbered c ∷ x) (letters_letter ds n k m)
-letters_letter (state.discarded ∷ ds) n k m = letters_letter ds n k m
-letters_letter (state.remote_reset ∷ ds) n k m = letters_letter ds n k m
+letters_letter : (ds : List Delivery) (n life : ℕ) (k : Key) (m : Content) → letters (ds ++ state.letter n life k m ∷ []) ≡ letters ds ++ unnumbered m ∷ []
+letters_letter [] n life k m = refl
+letters_letter (state.letter i u l c ∷ ds) n life k m = ap (λ x. unnumbered c ∷ x) (letters_letter ds n life k m)
+letters_letter (state.discarded ∷ ds) n life k m = letters_letter ds n life k m
+letters_letter (state.remote_reset ∷ ds) n life k m = letters_letter ds n life k m
 
-only_letter : (ds : List Delivery) (n : ℕ) (k : Key) (m : Content) → AllByRecursion IsLetter ds → AllByRecursion IsLetter (ds ++ state.letter n k m ∷ [])
-only_letter [] n k m h = (tt, tt)
-only_letter (d ∷ ds) n k m h = (h.0, only_letter ds n k m h.1)
+only_letter : (ds : List Delivery) (n life : ℕ) (k : Key) (m : Content) → AllByRecursion IsLetter ds → AllByRecursion IsLetter (ds ++ state.letter n life k m ∷ [])
+only_letter [] n life k m h = (tt, tt)
+only_letter (d ∷ ds) n life k m h = (h.0, only_letter ds n life k m h.1)
 
 -- ---- each entry
 
@@ -271,9 +271,9 @@ takes_text : (number : ℕ) (key : Key) (s : State) (d : Feed) (x : Option Said)
     × (AllByRecursion IsLetter s.deliveries → AllByRecursion IsLetter t.deliveries)
 takes_text number key s d (Some (brings m)) = (
   refl,
-  handed_letter s.deliveries number key m,
-  letters_letter s.deliveries number key m,
-  only_letter s.deliveries number key m,
+  handed_letter s.deliveries number s.life key m,
+  letters_letter s.deliveries number s.life key m,
+  only_letter s.deliveries number s.life key m,
 )
 takes_text number key s d (Some (says c)) = (refl, sym (append-nil (handed s.deliveries)), sym (append-nil (letters s.deliveries)), λ h. h)
 takes_text number key s d (Some aborts) = (refl, sym (append-nil (handed s.deliveries)), sym (append-nil (letters s.deliveries)), λ h. h)

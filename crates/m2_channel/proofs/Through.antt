@@ -53,7 +53,7 @@ posted_keys g key (m ∷ ms) = at (is_key (key_of g m) key) (posted_keys g key m
 
 pub handed_count : (ds : List Delivery) → length (handed ds) ≡ length (letters ds)
 handed_count [] = refl
-handed_count (state.letter n k m ∷ ds) = ap suc (handed_count ds)
+handed_count (state.letter n life k m ∷ ds) = ap suc (handed_count ds)
 handed_count (state.discarded ∷ ds) = handed_count ds
 handed_count (state.remote_reset ∷ ds) = handed_count ds
 

@@ -50,20 +50,20 @@ at_once : (peer : ℕ) (key : Key) (ds : List Delivery) → key.path ≡ Fast �
 at_once peer key [] e = record { heard = refl; queued = refl }
 at_once peer key (state.discarded ∷ ds) e = let it = at_once peer key ds e in record { heard = it.heard; queued = it.queued }
 at_once peer key (state.remote_reset ∷ ds) e = let it = at_once peer key ds e in record { heard = it.heard; queued = it.queued }
-at_once peer key (state.letter n k m ∷ ds) e = by_path (at_once peer key ds e) k.path refl
+at_once peer key (state.letter n life k m ∷ ds) e = by_path (at_once peer key ds e) k.path refl
   where
-    by_path : AtOnce peer key ds → (p : Path) → k.path ≡ p → AtOnce peer key (state.letter n k m ∷ ds)
+    by_path : AtOnce peer key ds → (p : Path) → k.path ≡ p → AtOnce peer key (state.letter n life k m ∷ ds)
     by_path it Fast f = record {
-      heard = ap (λ (p : Path). map unnumbered (heard.of_key peer key (if is_path p Fast then heard.message peer k n m ∷ heard_at_once peer ds else heard_at_once peer ds))) f
+      heard = ap (λ (p : Path). map unnumbered (heard.of_key peer key (if is_path p Fast then heard.message peer k n life m ∷ heard_at_once peer ds else heard_at_once peer ds))) f
           ∙ one_heard peer k key m (heard.of_key peer key (heard_at_once peer ds)) (channel.of_key key (handed ds)) it.heard;
-      queued = ap (λ (p : Path). channel.of_key key (handed (if is_path p Fast then queued_of ds else state.letter n k m ∷ queued_of ds))) f ∙ it.queued;
+      queued = ap (λ (p : Path). channel.of_key key (handed (if is_path p Fast then queued_of ds else state.letter n life k m ∷ queued_of ds))) f ∙ it.queued;
     }
     by_path it Queued f =
         let other : is_key k key ≡ false = apart k key (ap (λ (p : Path). is_path p key.path) f ∙ ap (is_path Queued) e) in
         record {
-          heard = ap (λ (p : Path). map unnumbered (heard.of_key peer key (if is_path p Fast then heard.message peer k n m ∷ heard_at_once peer ds else heard_at_once peer ds))) f
+          heard = ap (λ (p : Path). map unnumbered (heard.of_key peer key (if is_path p Fast then heard.message peer k n life m ∷ heard_at_once peer ds else heard_at_once peer ds))) f
               ∙ (it.heard ∙ sym (if_false (is_key k key) (unnumbered m ∷ channel.of_key key (handed ds)) (channel.of_key key (handed ds)) other));
-          queued = ap (λ (p : Path). channel.of_key key (handed (if is_path p Fast then queued_of ds else state.letter n k m ∷ queued_of ds))) f
+          queued = ap (λ (p : Path). channel.of_key key (handed (if is_path p Fast then queued_of ds else state.letter n life k m ∷ queued_of ds))) f
               ∙ (if_false (is_key k key) (unnumbered m ∷ channel.of_key key (handed (queued_of ds))) (channel.of_key key (handed (queued_of ds))) other ∙ it.queued);
         }
 
@@ -77,25 +77,25 @@ through : (peer : ℕ) (key : Key) (ds : List Delivery) → key.path ≡ Queued 
 through peer key [] e = record { heard = refl; queued = refl }
 through peer key (state.discarded ∷ ds) e = let it = through peer key ds e in record { heard = it.heard; queued = it.queued }
 through peer key (state.remote_reset ∷ ds) e = let it = through peer key ds e in record { heard = it.heard; queued = it.queued }
-through peer key (state.letter n k m ∷ ds) e = by_path (through peer key ds e) k.path refl
+through peer key (state.letter n life k m ∷ ds) e = by_path (through peer key ds e) k.path refl
   where
     both : (b c : Bool) → c ≡ false → (b && c) ≡ false
     both true c p = p
     both false c p = refl
 
-    by_path : ThroughTheQueue peer key ds → (p : Path) → k.path ≡ p → ThroughTheQueue peer key (state.letter n k m ∷ ds)
+    by_path : ThroughTheQueue peer key ds → (p : Path) → k.path ≡ p → ThroughTheQueue peer key (state.letter n life k m ∷ ds)
     by_path it Fast f =
         let other : is_key k key ≡ false = apart k key (ap (λ (p : Path). is_path p key.path) f ∙ ap (is_path Fast) e) in
         record {
-          heard = ap (λ (p : Path). heard.of_key peer key (if is_path p Fast then heard.message peer k n m ∷ heard_at_once peer ds else heard_at_once peer ds)) f
+          heard = ap (λ (p : Path). heard.of_key peer key (if is_path p Fast then heard.message peer k n life m ∷ heard_at_once peer ds else heard_at_once peer ds)) f
               ∙ (if_false ((peer == peer) && is_key k key) (m ∷ heard.of_key peer key (heard_at_once peer ds)) (heard.of_key peer key (heard_at_once peer ds))
               (both (peer == peer) (is_key k key) other) ∙ it.heard);
-          queued = ap (λ (p : Path). channel.of_key key (handed (if is_path p Fast then queued_of ds else state.letter n k m ∷ queued_of ds))) f
+          queued = ap (λ (p : Path). channel.of_key key (handed (if is_path p Fast then queued_of ds else state.letter n life k m ∷ queued_of ds))) f
               ∙ (it.queued ∙ sym (if_false (is_key k key) (unnumbered m ∷ channel.of_key key (handed ds)) (channel.of_key key (handed ds)) other));
         }
     by_path it Queued f = record {
-      heard = ap (λ (p : Path). heard.of_key peer key (if is_path p Fast then heard.message peer k n m ∷ heard_at_once peer ds else heard_at_once peer ds)) f ∙ it.heard;
-      queued = ap (λ (p : Path). channel.of_key key (handed (if is_path p Fast then queued_of ds else state.letter n k m ∷ queued_of ds))) f
+      heard = ap (λ (p : Path). heard.of_key peer key (if is_path p Fast then heard.message peer k n life m ∷ heard_at_once peer ds else heard_at_once peer ds)) f ∙ it.heard;
+      queued = ap (λ (p : Path). channel.of_key key (handed (if is_path p Fast then queued_of ds else state.letter n life k m ∷ queued_of ds))) f
           ∙ ap (λ l. if is_key k key then unnumbered m ∷ l else l) it.queued;
     }
 
@@ -105,9 +105,9 @@ queued_no_discard : (ds : List Delivery) → AllByRecursion IsNoDiscard ds → A
 queued_no_discard [] h = tt
 queued_no_discard (state.discarded ∷ ds) h = absurd h.0
 queued_no_discard (state.remote_reset ∷ ds) h = (tt, queued_no_discard ds h.1)
-queued_no_discard (state.letter n k m ∷ ds) h = at (is_path k.path Fast) (queued_no_discard ds h.1)
+queued_no_discard (state.letter n life k m ∷ ds) h = at (is_path k.path Fast) (queued_no_discard ds h.1)
   where
-    at : (b : Bool) → AllByRecursion IsNoDiscard (queued_of ds) → AllByRecursion IsNoDiscard (if b then queued_of ds else state.letter n k m ∷ queued_of ds)
+    at : (b : Bool) → AllByRecursion IsNoDiscard (queued_of ds) → AllByRecursion IsNoDiscard (if b then queued_of ds else state.letter n life k m ∷ queued_of ds)
     at true g = g
     at false g = (tt, g)
 
@@ -115,9 +115,9 @@ queued_letters : (ds : List Delivery) → AllByRecursion IsLetter ds → AllByRe
 queued_letters [] h = tt
 queued_letters (state.discarded ∷ ds) h = absurd h.0
 queued_letters (state.remote_reset ∷ ds) h = absurd h.0
-queued_letters (state.letter n k m ∷ ds) h = at (is_path k.path Fast) (queued_letters ds h.1)
+queued_letters (state.letter n life k m ∷ ds) h = at (is_path k.path Fast) (queued_letters ds h.1)
   where
-    at : (b : Bool) → AllByRecursion IsLetter (queued_of ds) → AllByRecursion IsLetter (if b then queued_of ds else state.letter n k m ∷ queued_of ds)
+    at : (b : Bool) → AllByRecursion IsLetter (queued_of ds) → AllByRecursion IsLetter (if b then queued_of ds else state.letter n life k m ∷ queued_of ds)
     at true g = g
     at false g = (tt, g)
 
@@ -131,10 +131,10 @@ own_calls peer key (heard.reset p ∷ log) = at (p == peer) (own_calls peer key 
         heard.of_key peer key log ≡ heard.of_key peer key (if b then heard.reset p ∷ calls_of peer log else calls_of peer log)
     at true own = own
     at false own = own
-own_calls peer key (heard.message p k n m ∷ log) = at (own_calls peer key log) (p == peer) refl
+own_calls peer key (heard.message p k n life m ∷ log) = at (own_calls peer key log) (p == peer) refl
   where
     at : heard.of_key peer key log ≡ heard.of_key peer key (calls_of peer log) → (b : Bool) → (p == peer) ≡ b → (if b && is_key k key then m ∷ heard.of_key peer key log else heard.of_key peer key log)
-        ≡ heard.of_key peer key (if b then heard.message p k n m ∷ calls_of peer log else calls_of peer log)
+        ≡ heard.of_key peer key (if b then heard.message p k n life m ∷ calls_of peer log else calls_of peer log)
     at own true e =
         ap (λ l. if is_key k key then m ∷ l else l) own
         ∙ sym (ap (λ c. if c && is_key k key then m ∷ heard.of_key peer key (calls_of peer log) else heard.of_key peer key (calls_of peer log)) e)
@@ -174,10 +174,10 @@ no_reset_at_once : (peer : ℕ) (ds : List Delivery) → AllByRecursion (IsNoRes
 no_reset_at_once peer [] = tt
 no_reset_at_once peer (state.discarded ∷ ds) = no_reset_at_once peer ds
 no_reset_at_once peer (state.remote_reset ∷ ds) = no_reset_at_once peer ds
-no_reset_at_once peer (state.letter n k m ∷ ds) = at (is_path k.path Fast) (no_reset_at_once peer ds)
+no_reset_at_once peer (state.letter n life k m ∷ ds) = at (is_path k.path Fast) (no_reset_at_once peer ds)
   where
     at : (b : Bool) → AllByRecursion (IsNoResetOf peer) (heard_at_once peer ds) →
-        AllByRecursion (IsNoResetOf peer) (if b then heard.message peer k n m ∷ heard_at_once peer ds else heard_at_once peer ds)
+        AllByRecursion (IsNoResetOf peer) (if b then heard.message peer k n life m ∷ heard_at_once peer ds else heard_at_once peer ds)
     at true none = (tt, none)
     at false none = none
 
@@ -193,7 +193,7 @@ own_no_reset peer [] h = tt
 own_no_reset peer (x ∷ log) h = at (own_no_reset peer log) (heard.peer_of x == peer) refl h
   where
     another : (x : Heard) → (heard.peer_of x == peer) ≡ false → IsNoResetOf peer x
-    another (heard.message p k n m) e = tt
+    another (heard.message p k n life m) e = tt
     another (heard.reset p) e = e
 
     at : (AllByRecursion (IsNoResetOf peer) (calls_of peer log) → AllByRecursion (IsNoResetOf peer) log) → (b : Bool) → (heard.peer_of x == peer) ≡ b →

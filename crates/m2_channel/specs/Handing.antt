@@ -24,14 +24,14 @@ use Rattle.m2_channel.specs.ObservedLaws.{IsLogOf}
 -- what is dispatched at once of what is handed on, and of which peer
 abbrev pub heard_at_once : ℕ → List Delivery → List Heard
 heard_at_once peer [] = []
-heard_at_once peer (state.letter number key m ∷ ds) =
-    if is_path key.path Fast then heard.message peer key number m ∷ heard_at_once peer ds else heard_at_once peer ds
+heard_at_once peer (state.letter number life key m ∷ ds) =
+    if is_path key.path Fast then heard.message peer key number life m ∷ heard_at_once peer ds else heard_at_once peer ds
 heard_at_once peer (_ ∷ ds) = heard_at_once peer ds
 
 -- what goes through the queue
 abbrev pub queued_of : List Delivery → List Delivery
 queued_of [] = []
-queued_of (state.letter number key m ∷ ds) = if is_path key.path Fast then queued_of ds else state.letter number key m ∷ queued_of ds
+queued_of (state.letter number life key m ∷ ds) = if is_path key.path Fast then queued_of ds else state.letter number life key m ∷ queued_of ds
 queued_of (d ∷ ds) = d ∷ queued_of ds
 
 -- the calls of a log that are of this peer, in order
@@ -57,7 +57,7 @@ parcels_of peer (Turn ∷ calls) = parcels_of peer calls
 
 -- a parcel is this delivery
 abbrev pub IsParcelOf : Parcel → Delivery → Type 0
-IsParcelOf (parcel.Letter l) (state.letter number key m) = (l.key ≡ key) × (l.number ≡ number) × (content_of l.message ≡ m)
+IsParcelOf (parcel.Letter l) (state.letter number life key m) = (l.key ≡ key) × (l.number ≡ number) × (l.life ≡ life) × (content_of l.message ≡ m)
 IsParcelOf (parcel.Discard peer) state.discarded = Unit {0}
 IsParcelOf (parcel.RemoteReset peer) state.remote_reset = Unit {0}
 IsParcelOf _ _ = ⊥

@@ -98,7 +98,7 @@ all_of logs = logs.fast ++ logs.queued
 -- the messages that a log has of a peer, in order
 abbrev pub heard_from : ℕ → List Heard → List KeyedMessage
 heard_from peer [] = []
-heard_from peer (heard.message p key number m ∷ log) = if p == peer then keyed key m ∷ heard_from peer log else heard_from peer log
+heard_from peer (heard.message p key number life m ∷ log) = if p == peer then keyed key m ∷ heard_from peer log else heard_from peer log
 heard_from peer (heard.reset p ∷ log) = heard_from peer log
 
 abbrev pub dispatched_from : ℕ → List Heard → List ChannelStep
@@ -135,7 +135,7 @@ before_down (far_item i ∷ order) = if marks_down i then [] else far_item i ∷
 -- what a record handed on, without what isn't a message
 abbrev pub handed : List Delivery → List KeyedMessage
 handed [] = []
-handed (state.letter number key m ∷ ds) = keyed key m ∷ handed ds
+handed (state.letter number life key m ∷ ds) = keyed key m ∷ handed ds
 handed (_ ∷ ds) = handed ds
 
 -- no messages were thrown away
@@ -145,5 +145,5 @@ IsNoDiscard _ = Unit {0}
 
 -- a message: neither that messages are thrown away, nor that the peer has reset the session
 abbrev pub IsLetter : Delivery → Type 0
-IsLetter (state.letter number key m) = Unit {0}
+IsLetter (state.letter number life key m) = Unit {0}
 IsLetter _ = ⊥

@@ -49,7 +49,7 @@ fn begin(
     lines: &[Line],
 ) -> Result<Run<CutPort<SimPort>>, NoMemory>
     requires { IsSound nodes.now links.now (map draft_line lines.now) }
-    ensures { IfOk result (λ r. IsFirst nodes.now links.now r) }
+    ensures { IfOk result (λ r. IsFirst nodes.now links.now lines.now r) }
 {
     let addrs = addresses(alloc, nodes)?;
     let cluster = cluster_of(alloc, nodes, links, lines)?;

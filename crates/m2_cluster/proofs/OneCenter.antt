@@ -3,6 +3,7 @@ use Rattle.std.proofs.Common.{◌≡◌, ℕ, ◌&&◌, not, Bool, true, false, 
 use Rattle.std.specs.Prelude.{IsSome}
 use Rattle.std.specs.List.{list_any}
 use Rattle.std.specs.Option.{option_map}
+use Rattle.std.proofs.lemmas.List.{map-append}
 use Rattle.m2_fabric.specs.declared.end.News.{News}
 use Rattle.m2_fabric.specs.declared.socket.SocketId.{SocketId}
 use Rattle.m2_fabric.specs.End.{SeenEnd, after_news, fresh_end}
@@ -143,6 +144,7 @@ module _ (id : SocketId) (news : News) (bytes : List ℕ) where
     pub hears_in : HearsIn id hears c next
     hears_in = record {
       there = record { shows = ap (λ l. end_at l id) (all_center_ends id news bytes c) ∙ hears_there (all_ends_in c); waits = same_waits id };
+      line = same_waiting;
       others = record {
         ends = (λ k other. ap (λ l. end_at l k) (all_center_ends id news bytes c) ∙ hears_other (all_ends_in c) k other);
         waits = (λ k other. same_waits k);
@@ -211,6 +213,10 @@ module _ {D : Type 0} (id : SocketId) (c : CenterNow D) (known : has_in c id ≡
   }
   it_shows false it none had = absurd (false_isnt_true it)
 
+  line_by : (b : Bool) → ids_of (if b then es ++ fresh ∷ [] else es) ≡ (if b then ids_of es ++ id ∷ [] else ids_of es)
+  line_by true = map-append (λ (e : SeenEnd). e.id) es (fresh ∷ [])
+  line_by false = refl
+
   it_stays : (b : Bool) → b ≡ false → Shows id (end_in (over es) id) (waits_in (over es) id) (over (if b then es ++ fresh ∷ [] else es))
   it_stays true it = absurd (false_isnt_true (sym it))
   it_stays false it = record { shows = refl; waits = refl }
@@ -221,6 +227,7 @@ module _ {D : Type 0} (id : SocketId) (c : CenterNow D) (known : has_in c id ≡
         let so = comes_so (goes_to c.port.at id) (is_among id c.port.made) waits_now (has_in c id) known may in
         it_shows (may_wait id c.port es) (same_test ∙ so.0) so.1 so.2);
     refused = (λ may. it_stays (may_wait id c.port es) (same_test ∙ refused_so (goes_to c.port.at id) (is_among id c.port.made) waits_now (has_in c id) may));
+    line = line_by (may_wait id c.port es) ∙ ap (λ b. if b then ids_of es ++ id ∷ [] else ids_of es) same_test;
     others = record { ends = other_ends (may_wait id c.port es); waits = other_waits (may_wait id c.port es) };
     port = record { at = refl; made = refl };
   }

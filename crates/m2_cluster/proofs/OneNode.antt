@@ -1,6 +1,7 @@
 -- What a holder shows where one of its nodes changes.
-use Rattle.std.proofs.Common.{◌≡◌, ℕ, zero, suc, ◌⊎◌, inl, inr, ◌&&◌, not, if◌then◌else◌, Bool, true, false, List, [], ◌∷◌, ◌<◌, length, map, get_or, slice_get, slice_set, Option, Some, None, Result, Ok, Err, OnOk, refl, sym, ap, subst, ◌∙◌}
+use Rattle.std.proofs.Common.{◌≡◌, ℕ, zero, suc, ◌⊎◌, inl, inr, ◌==◌, ◌&&◌, not, if◌then◌else◌, Bool, true, false, List, [], ◌∷◌, ◌++◌, ◌<◌, length, map, get_or, slice_get, slice_set, Option, Some, None, Result, Ok, Err, OnOk, refl, sym, ap, subst, ◌∙◌}
 use Rattle.std.specs.Option.{option_map}
+use Rattle.std.proofs.lemmas.Bool.{eq-eqb, eqb-true}
 use Rattle.std.proofs.lemmas.Option.{slice_get_read}
 use Rattle.m2_fabric.specs.declared.socket.SocketId.{SocketId}
 use Rattle.m2_fabric.specs.End.{SeenEnd, fresh_end}
@@ -10,8 +11,9 @@ use Rattle.m2_fabric.specs.Sockets.{goes_to, is_among, same_socket}
 use Rattle.m2_center.specs.m2_record.Sources.{end_at}
 use Rattle.m2_center.specs.Reaching.{ends_in}
 use Rattle.m2_cluster.proofs.OneCenter.{had_in}
-use Rattle.m2_cluster.specs.Cluster.{ClusterNow, address_of, end_of, held_by, made_by, rest_of, waits_at}
-use Rattle.m2_cluster.specs.Node.{ComesIn, HearsIn, KeepsOthers, KeepsPort, NodeNow, Shows, may_come_in, rest_of_node}
+use Rattle.m2_cluster.specs.Cluster.{ClusterNow, address_of, end_of, held_by, line_of, made_by, rest_of, waits_at}
+use Rattle.m2_cluster.specs.Node.{ComesIn, HearsIn, KeepsOthers, KeepsPort, NodeNow, Shows, line_after, line_in, may_come_in, rest_of_node}
+use Rattle.m2_bytes.proofs.m2_lemmas.Booleans.{false_isnt_true}
 use Rattle.m2_bytes.proofs.m2_lemmas.Options.{none_isnt_some}
 use Rattle.m2_bytes.proofs.m2_lemmas.Lists.{set_keeps_length}
 
@@ -100,16 +102,37 @@ module _ {D : Type 0} (n : ℕ) (id : SocketId) (before behind : NodeNow D) (xs 
       subst (λ e. IsThere name (f e) ((held_by xs).waits n id) (held_by ys)) (sym end_was)
       (subst (λ w. IsThere name (f (end_of (Some before) id)) w (held_by ys)) (sym waits_was) is)
 
+  -- the line that the node has where the socket came
+  abbrev line_with : Bool → Option (NodeNow D) → List SocketId
+  line_with here o = if here && (goes_to (address_of o) id && (not (is_among id (made_by o)) && not (is_among id (line_of o)))) then line_of o ++ id ∷ [] else line_of o
+
+  line_comes : line_in behind.center ≡ line_after id before.center → (k : ℕ) → line_of (slice_get ys k) ≡ line_with (n == k) (slice_get xs k)
+  line_comes came k = by (n == k) refl
+    where
+      apart : (n == k) ≡ false → k ≡ n → ⊥
+      apart other same = false_isnt_true (sym other ∙ eq-eqb n k (sym same))
+
+      by : (b : Bool) → (n == k) ≡ b → line_of (slice_get ys k) ≡ line_with b (slice_get xs k)
+      by true same =
+          subst (λ j. line_of (slice_get ys j) ≡ line_with true (slice_get xs j)) (eqb-true n k same)
+          (ap line_of now_here ∙ came ∙ sym (ap (line_with true) was))
+      by false other = elim (each xs n before behind k was) [
+        | inl h ↦ absurd (apart other h.0)
+        | inr h ↦ ap line_of h
+      ]
+
   pub comes_to : ComesIn id before.center behind.center → ComesTo name (held_by xs) (held_by ys)
   comes_to c = record {
     comes = (λ may. is_there (Some (fresh_end id)) true (c.comes (sym may_was ∙ may)));
     refused = (λ may. there_as (λ e. e) (is_there (end_of (Some before) id) (waits_at (Some before) id) (c.refused (sym may_was ∙ may))));
+    line = line_comes c.line;
     others = changes_one c.others c.port;
   }
 
   pub one_end_hears : (hears : SeenEnd → SeenEnd) → HearsIn id hears before.center behind.center → OneEndHears name hears (held_by xs) (held_by ys)
   one_end_hears hears h = record {
     there = there_as (option_map hears) (is_there (option_map hears (end_of (Some before) id)) (waits_at (Some before) id) h.there);
+    line = of_each line_of h.line;
     others = changes_one h.others h.port;
   }
 
@@ -125,6 +148,7 @@ had_by n id node xs was = ap (λ o. if waits_at o id then None else end_of o id)
 pub as_before : {D : Type 0} (e : EndName) (xs ys : List (NodeNow D)) → ys ≡ xs → IsAsBefore e (held_by xs) (held_by ys)
 as_before e xs zs same = subst (λ l. IsAsBefore e (held_by xs) (held_by l)) (sym same) (record {
   there = record { shows = refl; waits = refl };
+  line = (λ node. refl);
   others = record {
     nodes = refl;
     at = (λ node. refl);

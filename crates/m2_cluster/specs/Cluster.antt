@@ -4,7 +4,7 @@ use Rattle.m2_fabric.specs.m2_addr.declared.addr.Addr.{Addr}
 use Rattle.m2_fabric.specs.declared.socket.SocketId.{SocketId}
 use Rattle.m2_fabric.specs.End.{SeenEnd}
 use Rattle.m2_fabric.specs.Holder.{SeenHolder}
-use Rattle.m2_cluster.specs.Node.{NodeNow, end_in, rest_of_node, waits_in}
+use Rattle.m2_cluster.specs.Node.{NodeNow, end_in, line_in, rest_of_node, waits_in}
 
 -- the nodes, and how many more there is room for
 pub record ClusterNow (D : Type 0) : Type 0 where
@@ -30,6 +30,11 @@ abbrev pub waits_at : {D : Type 0} → Option (NodeNow D) → SocketId → Bool
 waits_at (Some n) id = waits_in n.center id
 waits_at None id = false
 
+-- those that wait at its port, the one that waits longest first
+abbrev pub line_of : {D : Type 0} → Option (NodeNow D) → List SocketId
+line_of (Some n) = line_in n.center
+line_of None = []
+
 -- ---- of all
 
 abbrev pub held_by : {D : Type 0} → List (NodeNow D) → SeenHolder
@@ -39,6 +44,7 @@ held_by nodes = record {
   made = λ k. made_by (slice_get nodes k);
   ends = λ k id. end_of (slice_get nodes k) id;
   waits = λ k id. waits_at (slice_get nodes k) id;
+  line = λ k. line_of (slice_get nodes k);
 }
 
 -- what it has besides

@@ -1,5 +1,5 @@
 -- What contracts see of a node in memory, and what a node shows of its sockets. This project's own.
-use Rattle.std.specs.Prelude.{◌≡◌, ◌==◌, ℕ, ◌&&◌, ◌||◌, not, if◌then◌else◌, Bool, true, false, List, [], ◌∷◌, length, Option, Some, None, IsSome}
+use Rattle.std.specs.Prelude.{◌≡◌, ◌==◌, ℕ, ◌&&◌, ◌||◌, not, if◌then◌else◌, Bool, true, false, List, [], ◌∷◌, ◌++◌, length, Option, Some, None, IsSome}
 use Rattle.std.specs.List.{AllByRecursion, list_all}
 use Rattle.std.specs.Option.{option_map}
 use Rattle.m2_fabric.specs.declared.socket.SocketId.{SocketId}
@@ -57,6 +57,10 @@ has_in c id = is_among id (ids_of (ends_in c))
 abbrev pub waits_in : {D : Type 0} → CenterNow D → SocketId → Bool
 waits_in c id = is_among id (ids_of (waiting_at c.port)) && not (has_in c id)
 
+-- those that wait at its port, the one that waits longest first
+abbrev pub line_in : {D : Type 0} → CenterNow D → List SocketId
+line_in c = ids_of (waiting_at c.port)
+
 -- ---- how they change
 
 -- ends of other sockets, and whether they wait, are as before
@@ -73,6 +77,10 @@ pub record KeepsPort {D : Type 0} (old new : CenterNow D) : Type 0 where
 abbrev pub may_come_in : {D : Type 0} → SocketId → CenterNow D → Bool
 may_come_in id c = goes_to c.port.at id && (not (is_among id c.port.made) && not (waits_in c id))
 
+-- they stand in line as before, and behind them a socket that comes, where it goes there and the port neither made it nor has it in line
+abbrev pub line_after : {D : Type 0} → SocketId → CenterNow D → List SocketId
+line_after id c = if goes_to c.port.at id && (not (is_among id c.port.made) && not (is_among id (line_in c))) then line_in c ++ id ∷ [] else line_in c
+
 -- the end of a socket is this, and waits or not
 pub record Shows {D : Type 0} (id : SocketId) (what : Option SeenEnd) (waiting : Bool) (c : CenterNow D) : Type 0 where
   pub shows : end_in c id ≡ what
@@ -82,12 +90,14 @@ pub record Shows {D : Type 0} (id : SocketId) (what : Option SeenEnd) (waiting :
 pub record ComesIn {D : Type 0} (id : SocketId) (old new : CenterNow D) : Type 0 where
   pub comes : may_come_in id old ≡ true → Shows id (Some (fresh_end id)) true new
   pub refused : may_come_in id old ≡ false → Shows id (end_in old id) (waits_in old id) new
+  pub line : line_in new ≡ line_after id old
   pub others : KeepsOthers id old new
   pub port : KeepsPort old new
 
 -- the end of a socket is told something, whether it waits or not
 pub record HearsIn {D : Type 0} (id : SocketId) (hears : SeenEnd → SeenEnd) (old new : CenterNow D) : Type 0 where
   pub there : Shows id (option_map hears (end_in old id)) (waits_in old id) new
+  pub line : line_in new ≡ line_in old
   pub others : KeepsOthers id old new
   pub port : KeepsPort old new
 

@@ -130,6 +130,7 @@ led_on takes changes c s n key m i (Some v) (Some new) (Some d) k a p st r =
       session = a.session;
       queue = a.queue;
       last = refl;
+      life = a.life;
       owes = refl;
       dials = a.dials;
       top = a.top;
@@ -142,7 +143,7 @@ led_on takes changes c s n key m i None y d k a p st r = absurd p
 
 -- and the message is handed out
 handed_on : TakesBeside → (f : SideFacts) (s : State) (n : ℕ) (key : Key) (m : Content) (i : Item) (x y : Option FeedNow) (d : Option Feed) → NextAt s n m i →
-    PassesItem i x y → FeedsAgree f s x d → (on_feed_at d (λ e. accepts n key (next_said s.last e) e) s).deliveries ≡ s.deliveries ++ letter n key m ∷ []
+    PassesItem i x y → FeedsAgree f s x d → (on_feed_at d (λ e. accepts n key (next_said s.last e) e) s).deliveries ≡ s.deliveries ++ letter n s.life key m ∷ []
 handed_on law f s n key m i (Some v) (Some new) (Some d) k p st =
     let next : next_said s.last d ≡ Some (brings m) = law.text_next f s i p.0.len v d st k.ready (stops s n m i k) p.0.front ∙ ap (λ (x : Said). Some x) k.says in
     ap (λ (o : Option Said). (accepts n key o d s).deliveries) next
@@ -151,8 +152,9 @@ handed_on law f s n key m i (Some v) None d k p st = absurd p
 handed_on law f s n key m i None y d k p st = absurd p
 
 accepts_it : IsHeardAsReplayed → BringsMessages → AsksForItsSize → TakesBeside → ChangesBeside → (c : CoreNow) (a : CoreAccepted) (y : Option FeedNow) → Holds c →
-    MovesMessage (hearer_of c) a.number (content_of a.message) c.live.feed y → a.key ≡ key_of c.facts (content_of a.message) → c.live.granted ≡ Some a.grant → Accepts a c (accepted a.number y c)
-accepts_it law bringing sizes takes changes c a y h v key g =
+    MovesMessage (hearer_of c) a.number (content_of a.message) c.live.feed y → a.life ≡ c.live.life → a.key ≡ key_of c.facts (content_of a.message) → c.live.granted ≡ Some a.grant →
+    Accepts a c (accepted a.number y c)
+accepts_it law bringing sizes takes changes c a y h v life key g =
     let m = content_of a.message in
     let k = held_for bringing sizes c a.number m y h v in
     let held = k.1 in
@@ -162,23 +164,26 @@ accepts_it law bringing sizes takes changes c a y h v key g =
     record {
       moves = v;
       number = next.next;
+      life = life;
       key = key;
       grant = g;
       size = ap (λ (x : SeenGrant). x.n) (sym same) ∙ k.2;
       only = refl;
       may = λ s b. may_on takes c.facts s a.number a.key m (whole v.frame) c.live.feed y s.feed (next_at law bringing c s a.number m y b v) key v.passes b.feed;
-      hands_out = λ s b. handed_on takes c.facts s a.number a.key m (whole v.frame) c.live.feed y s.feed (next_at law bringing c s a.number m y b v) v.passes b.feed;
+      hands_out = λ s b.
+          handed_on takes c.facts s a.number a.key m (whole v.frame) c.live.feed y s.feed (next_at law bringing c s a.number m y b v) v.passes b.feed
+          ∙ ap (λ (n : ℕ). s.deliveries ++ letter a.number n a.key m ∷ []) (sym (life ∙ b.life));
       leads = λ s b. led_on takes changes c s a.number a.key m (whole v.frame) c.live.feed y s.feed (next_at law bringing c s a.number m y b v) b v.passes b.feed b.resumed;
     }
 
 -- the same, as the code comes to it
-pub accepts_to : IsHeardAsReplayed → BringsMessages → AsksForItsSize → TakesBeside → ChangesBeside → (c : CoreNow) (n : ℕ) (key : Key) (m : Message) (g : SeenGrant) (l : LiveNow) → Holds c →
-    HearsOn c (Brings n) → LiveAccepts (Ok (m, g)) n c.live l → ((f : SideFacts) → f.node ≡ c.facts.node → (k : Content) → k.header ≡ m.header → key ≡ key_of f k) →
-    HasAccepted (Ok (record { number = n; key = key; message = m; grant = g })) n c (record c { live = l; owes = true })
-accepts_to law bringing sizes takes changes c n key m g l h a k e = (
+pub accepts_to : IsHeardAsReplayed → BringsMessages → AsksForItsSize → TakesBeside → ChangesBeside → (c : CoreNow) (n life : ℕ) (key : Key) (m : Message) (g : SeenGrant) (l : LiveNow) → Holds c →
+    HearsOn c (Brings n) → LiveAccepts (Ok (m, g)) n c.live l → life ≡ c.live.life → ((f : SideFacts) → f.node ≡ c.facts.node → (k : Content) → k.header ≡ m.header → key ≡ key_of f k) →
+    HasAccepted (Ok (record { number = n; life = life; key = key; message = m; grant = g })) n c (record c { live = l; owes = true })
+accepts_to law bringing sizes takes changes c n life key m g l h a k same e = (
   refl,
-  subst (λ (x : LiveNow). Accepts (record { number = n; key = key; message = m; grant = g }) c (record c { live = x; owes = true })) (sym k.2)
-      (accepts_it law bringing sizes takes changes c (record { number = n; key = key; message = m; grant = g }) l.feed h (k.0 (hearer_of c) a) (e c.facts refl (content_of m) refl) k.1),
+  subst (λ (x : LiveNow). Accepts (record { number = n; life = life; key = key; message = m; grant = g }) c (record c { live = x; owes = true })) (sym k.2)
+      (accepts_it law bringing sizes takes changes c (record { number = n; life = life; key = key; message = m; grant = g }) l.feed h (k.0 (hearer_of c) a) same (e c.facts refl (content_of m) refl) k.1),
 )
 
 -- ---- what holds of each core

@@ -26,6 +26,7 @@ core_of f s n r x g = record {
     session = s.session;
     out = record { queue = s.out.queue; spare = n };
     last = s.last;
+    life = s.life;
     resumed = r;
     feed = x;
     granted = g;
@@ -35,22 +36,22 @@ core_of f s n r x g = record {
   top = s.top;
 }
 
-abbrev core_with : SideFacts → Session → Queue → (last : ℕ) → (owes dials : Bool) → (top spare resumed : ℕ) → Option FeedNow → Option SeenGrant → CoreNow
-core_with f t p m a b w n r x g = record {
+abbrev core_with : SideFacts → Session → Queue → (last life : ℕ) → (owes dials : Bool) → (top spare resumed : ℕ) → Option FeedNow → Option SeenGrant → CoreNow
+core_with f t p m v a b w n r x g = record {
   facts = f;
-  live = record { session = t; out = record { queue = p; spare = n }; last = m; resumed = r; feed = x; granted = g };
+  live = record { session = t; out = record { queue = p; spare = n }; last = m; life = v; resumed = r; feed = x; granted = g };
   owes = a;
   dials = b;
   top = w;
 }
 
-made : (f : SideFacts) (s t : Session) (q p : Queue) (l m : ℕ) (o a d b : Bool) (u w n r : ℕ) (x : Option FeedNow) (g : Option SeenGrant) →
-    s ≡ t → q ≡ p → l ≡ m → o ≡ a → d ≡ b → u ≡ w → core_with f t p m a b w n r x g ≡ core_with f s q l o d u n r x g
-made f s t q p l m o a d b u w n r x g e1 e2 e3 e4 e5 e6 = rw (e1, e2, e3, e4, e5, e6) refl
+made : (f : SideFacts) (s t : Session) (q p : Queue) (l m k v : ℕ) (o a d b : Bool) (u w n r : ℕ) (x : Option FeedNow) (g : Option SeenGrant) →
+    s ≡ t → q ≡ p → l ≡ m → k ≡ v → o ≡ a → d ≡ b → u ≡ w → core_with f t p m v a b w n r x g ≡ core_with f s q l k o d u n r x g
+made f s t q p l m k v o a d b u w n r x g e1 e2 e3 e4 e5 e6 e7 = rw (e1, e2, e3, e4, e5, e6, e7) refl
 
 pub agreed : (c : CoreNow) (s : State) → Agrees c s → core_of c.facts s c.live.out.spare c.live.resumed c.live.feed c.live.granted ≡ c
-agreed c s a = made c.facts c.live.session s.session c.live.out.queue s.out.queue c.live.last s.last c.owes s.owes c.dials s.dials c.top s.top
-    c.live.out.spare c.live.resumed c.live.feed c.live.granted a.session a.queue a.last a.owes a.dials a.top
+agreed c s a = made c.facts c.live.session s.session c.live.out.queue s.out.queue c.live.last s.last c.live.life s.life c.owes s.owes c.dials s.dials c.top s.top
+    c.live.out.spare c.live.resumed c.live.feed c.live.granted a.session a.queue a.last a.life a.owes a.dials a.top
 
 abbrev pub IsResumed : ℕ → Option Feed → Type 0
 IsResumed r d = (r ≡ 0) ⊎ IsTold r d
@@ -86,6 +87,7 @@ posted changes c m place = leads_by (λ v. record v { live = after_posted m v.li
       session = refl;
       queue = refl;
       last = refl;
+      life = refl;
       owes = refl;
       dials = refl;
       top = refl;

@@ -109,6 +109,7 @@ module _ (composes : ComposesBeside) (changes : ChangesBeside) (number : ℕ) (v
         session = refl;
         queue = refl;
         last = refl;
+        life = refl;
         owes = refl;
         dials = refl;
         top = refl;
@@ -122,6 +123,7 @@ module _ (composes : ComposesBeside) (changes : ChangesBeside) (number : ℕ) (v
         session = refl;
         queue = refl;
         last = refl;
+        life = refl;
         owes = refl;
         dials = refl;
         top = refl;
@@ -156,6 +158,7 @@ stays_so moves c mid w e s a = subst (λ (l : LiveNow). Agrees (record c { live 
   session = a.session;
   queue = a.queue;
   last = a.last;
+  life = a.life;
   owes = a.owes;
   dials = a.dials;
   top = a.top;

@@ -27,6 +27,7 @@ counted changes c number w s a =
       session = a.session;
       queue = rw (so, a.queue) refl;
       last = a.last;
+      life = a.life;
       owes = a.owes;
       dials = a.dials;
       top = a.top;

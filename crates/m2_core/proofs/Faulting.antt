@@ -33,10 +33,10 @@ faulty lossy server idle lost s = record (replay.has_effects (fault_by lossy ser
 faulted_at : (lossy server idle lost : Bool) (f : SideFacts) (s : State) (n r : ℕ) (v : FeedNow) (g : Option SeenGrant) (d : Feed) →
     Agrees (record (core_of f s n r (Some v) g) { live = faulty_live lossy server idle lost (core_of f s n r (Some v) g).live })
     (faulty lossy server idle lost (record s { feed = Some d }))
-faulted_at true server idle lost f s n r v g d = record { session = refl; queue = refl; last = refl; owes = refl; dials = refl; top = refl; feed = tt; resumed = inl refl }
-faulted_at false true idle lost f s n r v g d = record { session = refl; queue = refl; last = refl; owes = refl; dials = refl; top = refl; feed = tt; resumed = inl refl }
-faulted_at false false true lost f s n r v g d = record { session = refl; queue = refl; last = refl; owes = refl; dials = refl; top = refl; feed = tt; resumed = inl refl }
-faulted_at false false false lost f s n r v g d = record { session = refl; queue = refl; last = refl; owes = refl; dials = refl; top = refl; feed = tt; resumed = inl refl }
+faulted_at true server idle lost f s n r v g d = record { session = refl; queue = refl; last = refl; life = refl; owes = refl; dials = refl; top = refl; feed = tt; resumed = inl refl }
+faulted_at false true idle lost f s n r v g d = record { session = refl; queue = refl; last = refl; life = refl; owes = refl; dials = refl; top = refl; feed = tt; resumed = inl refl }
+faulted_at false false true lost f s n r v g d = record { session = refl; queue = refl; last = refl; life = refl; owes = refl; dials = refl; top = refl; feed = tt; resumed = inl refl }
+faulted_at false false false lost f s n r v g d = record { session = refl; queue = refl; last = refl; life = refl; owes = refl; dials = refl; top = refl; feed = tt; resumed = inl refl }
 
 pub is_on_feed : (f : SideFacts) (s : State) (v : FeedNow) (d : Feed) → Stands f s v d → same_socket v.end.id d.socket ≡ true
 is_on_feed f s v d st = subst (λ k. same_socket v.end.id k ≡ true) st.socket (same_refl v.end.id)

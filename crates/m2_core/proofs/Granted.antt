@@ -57,6 +57,7 @@ stays c n place ready o s a = record {
   session = a.session;
   queue = a.queue;
   last = a.last;
+  life = a.life;
   owes = a.owes;
   dials = a.dials;
   top = a.top;

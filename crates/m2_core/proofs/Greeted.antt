@@ -49,6 +49,7 @@ has_shaken greets finds answer c y w = record {
     session = a.session;
     queue = a.queue;
     last = a.last;
+    life = a.life;
     owes = a.owes;
     dials = a.dials;
     top = a.top;

@@ -21,6 +21,7 @@ stays law n bytes c s a = record {
   session = a.session;
   queue = a.queue;
   last = a.last;
+  life = a.life;
   owes = a.owes;
   dials = a.dials;
   top = a.top;

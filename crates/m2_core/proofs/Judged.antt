@@ -331,6 +331,7 @@ answered_at changes None q f s n r number x g y k a given st told = record {
   session = refl;
   queue = refl;
   last = refl;
+  life = refl;
   owes = refl;
   dials = refl;
   top = refl;
@@ -338,9 +339,9 @@ answered_at changes None q f s n r number x g y k a given st told = record {
   resumed = told;
 }
 answered_at changes (Some event.Pending) q f s n r number x g (Some d) k a given st told =
-    record { session = refl; queue = refl; last = refl; owes = refl; dials = refl; top = refl; feed = tt; resumed = inl refl }
+    record { session = refl; queue = refl; last = refl; life = refl; owes = refl; dials = refl; top = refl; feed = tt; resumed = inl refl }
 answered_at changes (Some event.Pending) q f s n r number x g None k a given st told =
-    record { session = refl; queue = refl; last = refl; owes = refl; dials = refl; top = refl; feed = tt; resumed = inl refl }
+    record { session = refl; queue = refl; last = refl; life = refl; owes = refl; dials = refl; top = refl; feed = tt; resumed = inl refl }
 answered_at changes (Some event.Dialled) q f s n r number x g y k a given st told = absurd q
 answered_at changes (Some (event.AskedIdent cookie)) q f s n r number x g y k a given st told = absurd q
 answered_at changes (Some event.AskedReconnect) q f s n r number x g y k a given st told = absurd q
@@ -395,17 +396,17 @@ module _ (law : TakesOverBeside) (end : SeenEnd) (unread : List ℕ) (d : FeedNo
       (replay.tells_if (Some (took b full (ask_by b kept server global connect seen) (cookie_of f number)))
       (replay.notes end.id (ask_by b client server global connect seen) number given (record s { feed = y }))))
   taken_at true true client server global connect seen kept given f s n r number x g (Some o) e =
-      record { session = refl; queue = refl; last = refl; owes = refl; dials = refl; top = refl; feed = law f _ end unread _ _ _ _ d (named f true number s.last) e; resumed = inl refl }
+      record { session = refl; queue = refl; last = refl; life = refl; owes = refl; dials = refl; top = refl; feed = law f _ end unread _ _ _ _ d (named f true number s.last) e; resumed = inl refl }
   taken_at true true client server global connect seen kept given f s n r number x g None e =
-      record { session = refl; queue = refl; last = refl; owes = refl; dials = refl; top = refl; feed = law f _ end unread _ _ _ _ d (named f true number s.last) e; resumed = inl refl }
+      record { session = refl; queue = refl; last = refl; life = refl; owes = refl; dials = refl; top = refl; feed = law f _ end unread _ _ _ _ d (named f true number s.last) e; resumed = inl refl }
   taken_at true false client server global connect seen kept given f s n r number x g (Some o) e =
-      record { session = refl; queue = refl; last = refl; owes = refl; dials = refl; top = refl; feed = law f _ end unread _ _ _ _ d (named f true number s.last) e; resumed = inl refl }
+      record { session = refl; queue = refl; last = refl; life = refl; owes = refl; dials = refl; top = refl; feed = law f _ end unread _ _ _ _ d (named f true number s.last) e; resumed = inl refl }
   taken_at true false client server global connect seen kept given f s n r number x g None e =
-      record { session = refl; queue = refl; last = refl; owes = refl; dials = refl; top = refl; feed = law f _ end unread _ _ _ _ d (named f true number s.last) e; resumed = inl refl }
+      record { session = refl; queue = refl; last = refl; life = refl; owes = refl; dials = refl; top = refl; feed = law f _ end unread _ _ _ _ d (named f true number s.last) e; resumed = inl refl }
   taken_at false full client server global connect seen kept given f s n r number x g (Some o) e =
-      record { session = refl; queue = refl; last = refl; owes = refl; dials = refl; top = refl; feed = law f _ end unread _ _ _ _ d (named f false number s.last) e; resumed = inr (told_self seen _) }
+      record { session = refl; queue = refl; last = refl; life = refl; owes = refl; dials = refl; top = refl; feed = law f _ end unread _ _ _ _ d (named f false number s.last) e; resumed = inr (told_self seen _) }
   taken_at false full client server global connect seen kept given f s n r number x g None e =
-      record { session = refl; queue = refl; last = refl; owes = refl; dials = refl; top = refl; feed = law f _ end unread _ _ _ _ d (named f false number s.last) e; resumed = inr (told_self seen _) }
+      record { session = refl; queue = refl; last = refl; life = refl; owes = refl; dials = refl; top = refl; feed = law f _ end unread _ _ _ _ d (named f false number s.last) e; resumed = inr (told_self seen _) }
 
 -- what the session is told, and that the socket is taken, as they are known
 taken_as : (F : Option Event → CoreNow) (G H : Option Event → State) (o : Option Event) (e : Event) (b : Bool) → o ≡ Some e → b ≡ true → Agrees (F (Some e)) (G (Some e)) →

@@ -101,6 +101,7 @@ module _ (takes : TakesBeside) (changes : ChangesBeside) (tells : HearsTold) (f 
     session = refl;
     queue = refl;
     last = refl;
+    life = refl;
     owes = refl;
     dials = refl;
     top = refl;
@@ -111,6 +112,7 @@ module _ (takes : TakesBeside) (changes : ChangesBeside) (tells : HearsTold) (f 
     session = refl;
     queue = refl;
     last = refl;
+    life = refl;
     owes = refl;
     dials = refl;
     top = refl;
@@ -121,6 +123,7 @@ module _ (takes : TakesBeside) (changes : ChangesBeside) (tells : HearsTold) (f 
     session = refl;
     queue = refl;
     last = refl;
+    life = refl;
     owes = refl;
     dials = refl;
     top = refl;
@@ -131,6 +134,7 @@ module _ (takes : TakesBeside) (changes : ChangesBeside) (tells : HearsTold) (f 
     session = refl;
     queue = refl;
     last = refl;
+    life = refl;
     owes = refl;
     dials = refl;
     top = refl;
@@ -141,6 +145,7 @@ module _ (takes : TakesBeside) (changes : ChangesBeside) (tells : HearsTold) (f 
     session = refl;
     queue = refl;
     last = refl;
+    life = refl;
     owes = refl;
     dials = refl;
     top = refl;
@@ -179,6 +184,7 @@ silent changes c t v mid d a st resumed = record {
   session = a.session;
   queue = a.queue;
   last = a.last;
+  life = a.life;
   owes = a.owes;
   dials = a.dials;
   top = a.top;
@@ -275,6 +281,7 @@ stays moves answer c v mid l e w is s a = subst (λ (z : LiveNow). Agrees (recor
   session = a.session;
   queue = a.queue;
   last = a.last;
+  life = a.life;
   owes = a.owes;
   dials = a.dials;
   top = a.top;

@@ -56,6 +56,7 @@ module _ (composes : ComposesBeside) (changes : ChangesBeside) (k : ℕ) (m : Co
         session = refl;
         queue = rw so refl;
         last = refl;
+        life = refl;
         owes = refl;
         dials = refl;
         top = refl;
@@ -110,6 +111,7 @@ has_numbered composes changes moves (Err e) c b y ready can w = record {
     session = a.session;
     queue = ap (λ (o : Outgoing). o.queue) w.0 ∙ a.queue;
     last = a.last;
+    life = a.life;
     owes = a.owes;
     dials = a.dials;
     top = a.top;

@@ -65,6 +65,7 @@ module _ (takes : TakesBeside) (changes : ChangesBeside) (law : FramesAreHeard) 
         session = refl;
         queue = refl;
         last = refl;
+        life = refl;
         owes = refl;
         dials = refl;
         top = refl;
@@ -75,6 +76,7 @@ module _ (takes : TakesBeside) (changes : ChangesBeside) (law : FramesAreHeard) 
         session = refl;
         queue = refl;
         last = refl;
+        life = refl;
         owes = refl;
         dials = refl;
         top = refl;

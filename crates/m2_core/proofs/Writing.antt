@@ -32,18 +32,19 @@ record Keeps (d : Feed) (s t : State) : Type 0 where
   session : t.session ≡ s.session
   queue : t.out.queue ≡ s.out.queue
   last : t.last ≡ s.last
+  life : t.life ≡ s.life
   dials : t.dials ≡ s.dials
   top : t.top ≡ s.top
   told : (number : ℕ) → IsTold number (Some d) → IsTold number t.feed
 
 sent_by : (b : Bool) (socket : SocketId) (w : OutFrame) (d : Feed) (s u : State) → Keeps d s u → Keeps d s (if b then replay.sends socket (w ∷ []) u else u)
-sent_by true socket w d s u k = record { session = k.session; queue = k.queue; last = k.last; dials = k.dials; top = k.top; told = k.told }
+sent_by true socket w d s u k = record { session = k.session; queue = k.queue; last = k.last; life = k.life; dials = k.dials; top = k.top; told = k.told }
 sent_by false socket w d s u k = k
 
 put_on : (o : Option PartText) (texts : List PartText) (d : Feed) (s : State) → Keeps d s (puts_on o texts d s)
 put_on (Some t) texts d s = sent_by (is_unnamed t.frame) d.socket t.frame d s _
-    (record { session = refl; queue = refl; last = refl; dials = refl; top = refl; told = λ n h. h })
-put_on None texts d s = record { session = refl; queue = refl; last = refl; dials = refl; top = refl; told = λ n h. h }
+    (record { session = refl; queue = refl; last = refl; life = refl; dials = refl; top = refl; told = λ n h. h })
+put_on None texts d s = record { session = refl; queue = refl; last = refl; life = refl; dials = refl; top = refl; told = λ n h. h }
 
 carried : (r : ℕ) (x y : Option Feed) → (IsTold r x → IsTold r y) → IsResumed r x → IsResumed r y
 carried r x y h (inl e) = inl e
@@ -75,6 +76,7 @@ module _ (law : PutsKeep) (n : ℕ) (b : Bool) (v new : FeedNow) (w : WritesOn (
         session = sym k.session;
         queue = sym k.queue;
         last = sym k.last;
+        life = sym k.life;
         owes = sym p.owes;
         dials = sym k.dials;
         top = sym k.top;
@@ -102,6 +104,7 @@ stays law answer c v new e w s a = record {
   session = a.session;
   queue = a.queue;
   last = a.last;
+  life = a.life;
   owes = a.owes;
   dials = a.dials;
   top = a.top;

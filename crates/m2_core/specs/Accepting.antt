@@ -14,13 +14,14 @@ use Rattle.m2_core.specs.Front.{hearer_of}
 pub record Accepts (a : CoreAccepted) (before after : CoreNow) : Type 0 where
   pub moves : MovesMessage (hearer_of before) a.number (content_of a.message) before.live.feed after.live.feed
   pub number : a.number ≡ before.live.last + 1
+  pub life : a.life ≡ before.live.life
   pub key : a.key ≡ key_of before.facts (content_of a.message)
   pub grant : before.live.granted ≡ Some a.grant
   pub size : a.grant.n ≡ size_of a.message
   pub only : after ≡ record before { live = accepted_live a.number after.live.feed before.live; owes = true }
   pub may : MayCome (item.accepted a.number a.key) before
   pub leads : LeadsOn (item.accepted a.number a.key) before after
-  pub hands_out : HandsOut (item.accepted a.number a.key) (letter a.number a.key (content_of a.message)) before
+  pub hands_out : HandsOut (item.accepted a.number a.key) (letter a.number a.life a.key (content_of a.message)) before
 
 -- the entry Accepted of this number, or for want of memory nothing changes
 abbrev pub HasAccepted : Result CoreAccepted memory.NoMemory → (number : ℕ) → (before after : CoreNow) → Type 0

@@ -27,6 +27,7 @@ pub record Agrees (c : CoreNow) (s : State) : Type 0 where
   pub session : c.live.session ≡ s.session
   pub queue : c.live.out.queue ≡ s.out.queue
   pub last : c.live.last ≡ s.last
+  pub life : c.live.life ≡ s.life
   pub owes : c.owes ≡ s.owes
   pub dials : c.dials ≡ s.dials
   pub top : c.top ≡ s.top

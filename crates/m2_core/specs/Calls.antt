@@ -9,11 +9,10 @@ use Rattle.m2_control.specs.declared.fields.TheConstants.{GREATEST_NUMBER}
 use Rattle.m2_fabric.specs.End.{SeenEnd}
 use Rattle.m2_feed.specs.Calls.{at_opening}
 use Rattle.m2_feed.specs.FeedNow.{FeedNow}
-use Rattle.m2_handshake.specs.Standing.{opener_at_start}
 use Rattle.m2_journal.specs.Lawful.{dial_connect, where_so}
 use Rattle.m2_journal.specs.OutFrames as out
 use Rattle.m2_journal.specs.OutFrames.{OutFrame}
-use Rattle.m2_journal.specs.SideFacts.{SideFacts, cookie_of}
+use Rattle.m2_journal.specs.SideFacts.{SideFacts, cookie_of, opener_half}
 use Rattle.m2_journal.specs.Steps.{kept_of}
 use Rattle.m2_queues.specs.OutQueues.{next_number}
 use Rattle.m2_session.specs.declared.answer.Answer.{Answer}
@@ -63,7 +62,7 @@ abbrev pub after_opened : FeedNow → CoreNow → CoreNow
 after_opened v c = record c { live = record (tells event.Dialled c.live) { feed = Some v }; dials = false }
 
 abbrev pub IsOpening : SideFacts → SeenEnd → FeedNow → Type 0
-IsOpening f end v = v ≡ at_opening end (opener_at_start f.node.entity f.peer) v
+IsOpening f end v = v ≡ at_opening end (opener_half f) v
 
 -- ---- asking
 

@@ -28,6 +28,7 @@ live_at_start f = record {
   session = absent f;
   out = record { queue = new_queue (not f.policy.lossy); spare = 0 };
   last = 0;
+  life = 0;
   resumed = 0;
   feed = None;
   granted = None;

@@ -22,9 +22,9 @@ closes l = record l { feed = None; granted = None; resumed = 0 }
 abbrev pub requeues : LiveNow → LiveNow
 requeues l = record l { out = record l.out { queue = after_requeue l.out.queue } }
 
--- numbers begin again in both directions
+-- numbers begin again in both directions, and with them a life, which is named by the server cookie that the session keeps
 abbrev pub sets_back : LiveNow → LiveNow
-sets_back l = record l { last = 0; out = record l.out { queue = after_renumber l.out.queue } }
+sets_back l = record l { last = 0; life = l.session.server_cookie; out = record l.out { queue = after_renumber l.out.queue } }
 
 -- what is kept and what waits is thrown away
 abbrev pub discards : LiveNow → LiveNow
@@ -61,6 +61,10 @@ moved e out = record out { queue = moved_queue e out.queue }
 -- the last accepted one
 abbrev pub moved_last : Effects → ℕ → ℕ
 moved_last e last = if e.set_back then 0 else last
+
+-- the name of the life, where the session keeps this server cookie
+abbrev pub moved_life : Effects → (cookie : ℕ) → ℕ → ℕ
+moved_life e cookie life = if e.set_back then cookie else life
 
 -- ---- what the caller is handed
 

@@ -1,5 +1,5 @@
--- What a step of a session can change: the session, the outgoing queue, the last accepted number, and the feed with what was
--- granted for it. This project's own.
+-- What a step of a session can change: the session, the outgoing queue, the last accepted number, the name of the life, and
+-- the feed with what was granted for it. This project's own.
 use Rattle.std.specs.Prelude.{◌≡◌, ℕ, Bool, true, false, Option, Some, None}
 use Rattle.m2_feed.specs.FeedNow.{FeedNow, Reading, framing, shaking}
 use Rattle.m2_frame.specs.Reading.{size_of}
@@ -16,6 +16,8 @@ pub record LiveNow : Type 0 where
   pub out : Outgoing
   -- the last accepted number
   pub last : ℕ
+  -- the server cookie that was kept where numbers were last set back, 0 where none was
+  pub life : ℕ
   -- Up to where a resumption on the feed acknowledges, 0 where none does. What of it was written is counted by the step that takes
   -- the resumption, so only a claim of more is left to be met.
   pub resumed : ℕ

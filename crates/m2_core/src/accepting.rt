@@ -21,6 +21,8 @@ use m2_shared::Grant;
 pub struct CoreAccepted {
     /// Its number, the one after the last.
     pub number: u64,
+    /// The name of the life that it was accepted in.
+    pub life: u64,
     /// Its priority and its path at this node.
     pub key: Key,
     pub message: Message,
@@ -37,11 +39,13 @@ impl<E: End> Core<E> {
         ensures accepted { HasAccepted result number self.old self.new }
     {
         front_laws();
+        let life = self.live.life;
         match self.live.accept_front(number) {
             Ok((message, grant)) => {
                 self.owes = true;
                 Ok(CoreAccepted {
                     number,
+                    life,
                     key: key_at(&self.node, &message.header),
                     message,
                     grant,

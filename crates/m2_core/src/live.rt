@@ -6,7 +6,7 @@ ghost use Rattle.m2_session.specs.Steps as table;
 ghost use Rattle.m2_session.specs.Steps.{HasFollower, step_of};
 ghost use Rattle.m2_shared.specs.Place.{IsAlone};
 ghost use Rattle.m2_core.specs.LiveNow.{IsOwned, held, is_waiting};
-ghost use Rattle.m2_core.specs.Effects.{IsAftermath, moved, moved_last, tells};
+ghost use Rattle.m2_core.specs.Effects.{IsAftermath, moved, moved_last, moved_life, tells};
 ghost use Rattle.m2_core.specs.LiveCalls.{after_counted};
 
 use crate::aftermath::Aftermath;
@@ -18,8 +18,8 @@ use m2_session::{Effects, Event, Session, step};
 use m2_shared::{Grant, TakePass, Throttle};
 use std::marker::Model;
 
-/// What a session's step can change: the session, the outgoing queue, the last accepted number, and the
-/// feed with what was granted for it. It can't be dropped, since a grant can't: it ends by
+/// What a session's step can change: the session, the outgoing queue, the last accepted number, the name of
+/// the life, and the feed with what was granted for it. It can't be dropped, since a grant can't: it ends by
 /// [`end`](Live::end). Whoever holds it keeps its parts in step with each other.
 ///
 /// Of a step: [`tell`](Live::tell), [`heed`](Live::heed), [`tell_if`](Live::tell_if), [`take`](Live::take).
@@ -37,6 +37,9 @@ pub struct Live<E: End> {
     pub out: OutQueues,
     /// The last accepted number.
     pub last: u64,
+    /// The name of the life: the server cookie that was kept where numbers were last set back, 0 where none
+    /// was.
+    pub life: u64,
     /// Up to where a resumption on the feed acknowledges, 0 where none does. What of it was written is counted
     /// by the step that takes the resumption, so only a claim of more is left to be met.
     pub resumed: u64,
@@ -55,6 +58,7 @@ impl<E: End> Model for Live<E> {
       session = l.session;
       out = l.out;
       last = l.last;
+      life = l.life;
       resumed = l.resumed;
       feed = l.feed;
       granted = l.granted;
@@ -75,10 +79,12 @@ pub fn give_back(granted: &mut Option<Grant>, throttle: &Throttle, pass: &mut Ta
     }
 }
 
-/// What effects do to the queue, and to the last accepted number.
-fn move_numbers(effects: &Effects, out: &mut OutQueues, last: &mut u64)
+/// What effects do to the queue, to the last accepted number, and to the name of the life, where the session
+/// keeps this server cookie.
+fn move_numbers(effects: &Effects, cookie: u64, out: &mut OutQueues, last: &mut u64, life: &mut u64)
     ensures queue { out.new ≡ moved effects.now out.old }
     ensures last { last.new ≡ moved_last effects.now last.old }
+    ensures life { life.new ≡ moved_life effects.now cookie life.old }
 {
     if effects.requeue {
         out.requeue();
@@ -86,6 +92,7 @@ fn move_numbers(effects: &Effects, out: &mut OutQueues, last: &mut u64)
     if effects.set_back {
         out.renumber();
         *last = 0;
+        *life = cookie;
     }
     if effects.discard {
         out.discard();
@@ -116,7 +123,13 @@ impl<E: End> Live<E> {
     {
         let (session, effects) = step(self.session, event);
         self.session = session;
-        move_numbers(&effects, &mut self.out, &mut self.last);
+        move_numbers(
+            &effects,
+            session.server_cookie,
+            &mut self.out,
+            &mut self.last,
+            &mut self.life,
+        );
         let mut closed = None;
         if effects.close {
             give_back(&mut self.granted, throttle, pass);
@@ -141,7 +154,13 @@ impl<E: End> Live<E> {
     {
         let (session, effects) = step(self.session, event);
         self.session = session;
-        move_numbers(&effects, &mut self.out, &mut self.last);
+        move_numbers(
+            &effects,
+            session.server_cookie,
+            &mut self.out,
+            &mut self.last,
+            &mut self.life,
+        );
         let mut closed = None;
         if effects.close {
             self.resumed = 0;
@@ -179,6 +198,7 @@ impl<E: End> Live<E> {
             session: _,
             out: _,
             last: _,
+            life: _,
             resumed: _,
             feed,
             granted,

@@ -87,6 +87,7 @@ impl<E: End> Core<E> {
             mine,
             peer,
             policy,
+            rules: node.rules,
             phase: Phase::Absent,
             client_cookie: 0,
             server_cookie: 0,
@@ -98,6 +99,7 @@ impl<E: End> Core<E> {
             session,
             out: OutQueues::new(alloc, !policy.lossy),
             last: 0,
+            life: 0,
             resumed: 0,
             feed: None,
             granted: None,
@@ -166,7 +168,7 @@ impl<E: End> Core<E> {
         ensures { result ≡ lacks_connect_number self.now }
     {
         let s = &self.live.session;
-        let more = s.lost_ready as u64;
+        let more = m2_session::rises(s) as u64;
         (self.may_dial() && s.connect + more > GREATEST_NUMBER)
             || (s.phase == Phase::Connecting && s.connect > GREATEST_NUMBER)
     }

@@ -36,7 +36,13 @@ impl<E: End> Core<E> {
         ensures feed { IsSome self.new.live.feed }
         ensures leads { LeadsOn (item.opened (E.seen end).id) self.old self.new }
     {
-        let feed = Feed::opened(self.alloc, end, self.node.entity, self.peer);
+        let feed = Feed::opened(
+            self.alloc,
+            end,
+            self.node.rules.auth,
+            self.node.entity,
+            self.peer,
+        );
         let (session, _) = step(self.live.session, Event::Dialled);
         self.live.session = session;
         self.live.feed = Some(feed);

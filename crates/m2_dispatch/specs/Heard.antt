@@ -7,13 +7,14 @@ use Rattle.m2_policy.specs.declared.path.Path.TheVariants.{Fast, Queued}
 use Rattle.m2_dispatch.specs.declared.logged.Logged.{Logged}
 use Rattle.m2_dispatch.specs.declared.logged.Logged.TheVariants as logged
 
--- a message with its key and its number in the session, or a reset, and the place of the peer that it comes from
+-- a message with its key, its number in the session and the name of the life that it was accepted in, or a reset, and the
+-- place of the peer that it comes from
 pub data Heard : Type 0 where
-  message : (peer : ℕ) → Key → (number : ℕ) → Content → Heard
+  message : (peer : ℕ) → Key → (number life : ℕ) → Content → Heard
   reset : (peer : ℕ) → Heard
 
 abbrev pub heard_of : Logged → Heard
-heard_of (logged.Message peer key number m) = message peer key number (content_of m)
+heard_of (logged.Message peer key number life m) = message peer key number life (content_of m)
 heard_of (logged.Reset peer) = reset peer
 
 -- what a log tells of it
@@ -21,12 +22,12 @@ abbrev pub heard_by : List Logged → List Heard
 heard_by log = map heard_of log
 
 abbrev pub peer_of : Heard → ℕ
-peer_of (message peer key number m) = peer
+peer_of (message peer key number life m) = peer
 peer_of (reset peer) = peer
 
 -- a message of this peer
 abbrev pub is_message_from : ℕ → Heard → Bool
-is_message_from x (message peer key number m) = peer == x
+is_message_from x (message peer key number life m) = peer == x
 is_message_from x (reset peer) = false
 
 abbrev pub is_path : Path → Path → Bool
@@ -40,5 +41,5 @@ is_key k l = (k.priority == l.priority) && is_path k.path l.path
 -- the messages of a peer with a key, in order
 abbrev pub of_key : ℕ → Key → List Heard → List Content
 of_key peer key [] = []
-of_key peer key (message p k number m ∷ hs) = if (p == peer) && is_key k key then m ∷ of_key peer key hs else of_key peer key hs
+of_key peer key (message p k number life m ∷ hs) = if (p == peer) && is_key k key then m ∷ of_key peer key hs else of_key peer key hs
 of_key peer key (reset p ∷ hs) = of_key peer key hs

@@ -12,7 +12,7 @@ letter_priority l = l.key.priority
 
 -- what a dispatcher is called with for it
 abbrev pub heard_in : Letter → Heard
-heard_in l = message l.peer l.key l.number (content_of l.message)
+heard_in l = message l.peer l.key l.number l.life (content_of l.message)
 
 abbrev pub is_of_peer : ℕ → Letter → Bool
 is_of_peer peer l = l.peer == peer

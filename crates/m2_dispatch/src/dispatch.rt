@@ -157,10 +157,11 @@ impl<D: Dispatcher> Dispatch<D> {
             peer,
             key,
             number,
+            life,
             message,
             grant,
         } = letter;
-        match self.inner.message(peer, key, number, message) {
+        match self.inner.message(peer, key, number, life, message) {
             Ok(()) => {
                 throttle.give(pass, grant);
                 DispatchTurn::One
@@ -170,6 +171,7 @@ impl<D: Dispatcher> Dispatch<D> {
                     peer,
                     key,
                     number,
+                    life,
                     message,
                     grant,
                 };

@@ -15,10 +15,18 @@ pub trait Dispatcher {
     /// What it was called with, in order.
     ghost heard: { Self → List Heard };
 
-    /// Takes a message with its key and its number in the session. Err hands it back.
-    fn message(&mut self, peer: u32, key: Key, number: u64, message: Message) -> Result<(), Message>
+    /// Takes a message with its key, its number in the session and the name of the life of the session in
+    /// which it was accepted, 0 where that has none. Err hands it back.
+    fn message(
+        &mut self,
+        peer: u32,
+        key: Key,
+        number: u64,
+        life: u64,
+        message: Message,
+    ) -> Result<(), Message>
         ensures ok { OnOk result
-            (heard self.new ≡ heard self.old ++ heard_message peer key number (content_of message) ∷ []) }
+            (heard self.new ≡ heard self.old ++ heard_message peer key number life (content_of message) ∷ []) }
         ensures back { IfErr result (λ back. back ≡ message) }
         ensures err { OnErr result (heard self.new ≡ heard self.old) };
 

@@ -13,6 +13,9 @@ pub struct Letter {
     pub key: Key,
     /// Its number in the session, from 1.
     pub number: u64,
+    /// The name of the life of the session in which it was accepted: the server cookie at the life's
+    /// beginning, 0 where none is kept.
+    pub life: u64,
     pub message: Message,
     /// What a throttle granted for its bytes.
     pub grant: Grant,

@@ -55,8 +55,15 @@ impl LogDispatcher {
 impl Dispatcher for LogDispatcher {
     ghost heard = { heard_by };
 
-    fn message(&mut self, peer: u32, key: Key, number: u64, message: Message) -> Result<(), Message>
-        ensures logs { OnOk result (self.new ≡ self.old ++ logged.Message peer key number message ∷ []) }
+    fn message(
+        &mut self,
+        peer: u32,
+        key: Key,
+        number: u64,
+        life: u64,
+        message: Message,
+    ) -> Result<(), Message>
+        ensures logs { OnOk result (self.new ≡ self.old ++ logged.Message peer key number life message ∷ []) }
         ensures back { IfErr result (λ back. back ≡ message) }
         ensures stays { OnErr result (self.new ≡ self.old) }
     {
@@ -67,6 +74,7 @@ impl Dispatcher for LogDispatcher {
             peer,
             key,
             number,
+            life,
             message,
         });
         Ok(())

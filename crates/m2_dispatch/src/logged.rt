@@ -20,6 +20,8 @@ pub enum Logged {
         key: Key,
         /// Its number in the session, from 1.
         number: u64,
+        /// The name of the life of the session in which it was accepted, 0 where that has none.
+        life: u64,
         message: Message,
     },
     /// The peer has reset the session.

@@ -23,6 +23,7 @@ fn give_back(letter: Letter, throttle: &Throttle, pass: &mut TakePass)
         peer: _,
         key: _,
         number: _,
+        life: _,
         message: _,
         grant,
     } = letter;

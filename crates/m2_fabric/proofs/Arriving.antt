@@ -1,9 +1,10 @@
 -- Ends that come to be, one after another.
-use Rattle.std.proofs.Common.{◌≡◌, ℕ, ◌&&◌, ◌||◌, not, Bool, true, false, if◌then◌else◌, List, [], ◌∷◌, ◌++◌, Option, Some, refl, sym, ◌∙◌, ap, subst}
+use Rattle.std.proofs.Common.{◌≡◌, ℕ, ◌&&◌, ◌||◌, not, Bool, true, false, if◌then◌else◌, List, [], ◌∷◌, ◌++◌, fold, Option, Some, refl, sym, ◌∙◌, ap, subst}
 use Rattle.std.specs.Prelude.{Result, Ok, Err, OnOk}
+use Rattle.std.proofs.lemmas.List.Sums.{fold-append}
 use Rattle.m2_bytes.specs.declared.memory.NoMemory.{NoMemory}
 use Rattle.m2_fabric.specs.End.{SeenEnd, fresh_end}
-use Rattle.m2_fabric.specs.Holder.{ComesTo, EndName, IsThere, SeenHolder, may_come}
+use Rattle.m2_fabric.specs.Holder.{ComesTo, EndName, IsThere, SeenHolder, in_line, may_come}
 use Rattle.m2_fabric.specs.Sockets.{goes_to, is_among}
 use Rattle.m2_fabric.specs.declared.socket.SocketId.{SocketId}
 use Rattle.m2_fabric.specs.Kept.{same_end}
@@ -13,7 +14,7 @@ use Rattle.m2_fabric.proofs.Told.{end_equal, is_other}
 use Rattle.m2_bytes.proofs.m2_lemmas.Booleans.{or_false}
 
 pub arrive_nothing : (h : SeenHolder) → Arrive [] h h
-arrive_nothing h = record { nodes = refl; at = λ node. refl; made = λ node. refl; ends = λ e. refl; waits = λ e. refl }
+arrive_nothing h = record { nodes = refl; at = λ node. refl; made = λ node. refl; ends = λ e. refl; waits = λ e. refl; line = λ node. refl }
 
 -- ---- one end
 
@@ -24,6 +25,7 @@ one_arrives end a b p = record {
   made = p.others.made;
   ends = λ e. rw (or_false (same_end end e)) (ends e (same_end end e) refl);
   waits = λ e. rw (or_false (same_end end e)) (waits e (same_end end e) refl);
+  line = p.line;
 }
   where
     here : (may : Bool) → may_come end a ≡ may → IsThere end (if may then Some (fresh_end end.id) else a.ends end.node end.id) (may || a.waits end.node end.id) b
@@ -39,6 +41,16 @@ one_arrives end a b p = record {
     waits e false same = p.others.waits e (is_other end e same)
 
 -- ---- some ends, and then others
+
+-- a node's line once a socket came goes by where the node listens and by what it made
+line_same : (a b : SeenHolder) (node : ℕ) → b.at node ≡ a.at node → b.made node ≡ a.made node → (line : List SocketId) (e : EndName) → in_line b node line e ≡ in_line a node line e
+line_same a b node at made line e = rw (at, made) refl
+
+lines_same : (a b : SeenHolder) (node : ℕ) → b.at node ≡ a.at node → b.made node ≡ a.made node → (line : List SocketId) (es : List EndName) →
+    fold (in_line b node) line es ≡ fold (in_line a node) line es
+lines_same a b node at made line [] = refl
+lines_same a b node at made line (e ∷ es) =
+    ap (λ (l : List SocketId). fold (in_line b node) l es) (line_same a b node at made line e) ∙ lines_same a b node at made (in_line a node line e) es
 
 pub any-append : (e : EndName) (xs ys : List EndName) → is_one_of (xs ++ ys) e ≡ (is_one_of xs e || is_one_of ys e)
 any-append e [] ys = refl
@@ -112,6 +124,9 @@ arrive_then xs ys a b c p q = record {
   made = λ node. q.made node ∙ p.made node;
   ends = λ e. ends e;
   waits = λ e. waits e;
+  line = λ node.
+      q.line node ∙ lines_same a b node (p.at node) (p.made node) (b.line node) ys ∙ ap (λ (l : List SocketId). fold (in_line a node) l ys) (p.line node)
+      ∙ sym (fold-append (in_line a node) (a.line node) xs ys);
 }
   where
     fits : EndName → SeenHolder → Bool

@@ -2,6 +2,7 @@ pub mod Arriving
 pub mod Below
 pub mod Bounds
 pub mod Entering
+pub mod Exact
 pub mod Flowing
 pub mod Loops
 pub mod Over

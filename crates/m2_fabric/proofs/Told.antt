@@ -53,6 +53,7 @@ told_nothing h = record {
   made = λ node. refl;
   ends = λ e. heard_nothing (h.ends e.node e.id);
   waits = λ e. refl;
+  line = λ node. refl;
 }
 
 pub told_then : (f g : EndName → List Told) (a b c : SeenHolder) → AreTold f a b → AreTold g b c → AreTold (λ e. f e ++ g e) a c
@@ -62,6 +63,7 @@ told_then f g a b c p q = record {
   made = λ node. q.made node ∙ p.made node;
   ends = λ e. q.ends e ∙ ap (option_map (hears (g e))) (p.ends e) ∙ heard_both (f e) (g e) (a.ends e.node e.id);
   waits = λ e. q.waits e ∙ p.waits e;
+  line = λ node. q.line node ∙ p.line node;
 }
 
 pub told_same : (f g : EndName → List Told) (a b : SeenHolder) → ((e : EndName) → f e ≡ g e) → AreTold f a b → AreTold g a b
@@ -71,6 +73,7 @@ told_same f g a b same p = record {
   made = p.made;
   ends = λ e. p.ends e ∙ ap (λ (ts : List Told). option_map (hears ts) (a.ends e.node e.id)) (same e);
   waits = p.waits;
+  line = p.line;
 }
 
 -- ---- one end alone
@@ -101,6 +104,7 @@ one_told end n bytes a b p = record {
   made = p.others.made;
   ends = λ e. by_name e (same_end end e) refl;
   waits = λ e. waits_by_name e (same_end end e) refl;
+  line = p.line;
 }
   where
     told : List Told

@@ -9,7 +9,8 @@ use Rattle.m2_fabric.specs.End.{SeenEnd}
 use Rattle.m2_fabric.specs.Newest.{AreNewest, are_alike, noted}
 use Rattle.m2_fabric.specs.Sockets.{is_among, same_socket}
 use Rattle.m2_fabric.specs.declared.socket.SocketId.{SocketId}
-use Rattle.m2_fabric.specs.SimPort.{times, turn_on, greatest, ids, path, socket_after}
+use Rattle.m2_fabric.specs.Port.{greatest, ids, path, socket_after, turn_on}
+use Rattle.m2_fabric.specs.SimPort.{times}
 use Rattle.m2_fabric.proofs.Sockets.{same_equal, same_socket_refl}
 
 -- ---- equal names

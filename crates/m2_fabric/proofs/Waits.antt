@@ -7,11 +7,11 @@ use Rattle.std.specs.List.{AllByRecursion, list_any}
 use Rattle.std.proofs.lemmas.List.{map-append}
 use Rattle.m2_addr.specs.declared.addr.Addr.{Addr}
 use Rattle.m2_fabric.specs.End.{SeenEnd, after_news, fresh_end}
-use Rattle.m2_fabric.specs.Port.{IsNewEnd, one_hears}
+use Rattle.m2_fabric.specs.Port.{IsNewEnd, ids, one_hears, socket_after}
 use Rattle.m2_fabric.specs.Sockets.{IsOfHome, comes_from, goes_to, is_among, same_socket}
 use Rattle.m2_fabric.specs.declared.end.News.{News}
 use Rattle.m2_fabric.specs.declared.socket.SocketId.{SocketId}
-use Rattle.m2_fabric.specs.SimPort.{AreWaiting, IsSimPort, IsWaiting, ids, socket_after, times}
+use Rattle.m2_fabric.specs.SimPort.{AreWaiting, IsSimPort, IsWaiting, times}
 use Rattle.m2_fabric.proofs.Turns.{among_none, next_is_new, none_among, once_at_end, once_between, same_number, times-append}
 use Rattle.m2_fabric.proofs.Sockets.{same_socket_refl}
 

@@ -1,8 +1,8 @@
 -- An end that breaks after so many bytes.
-use Rattle.std.specs.Prelude.{◌≡◌, ℕ, ◌-◌, ◌==◌, Bool, true, false, List, length, min, take, Option, Some, None}
-use Rattle.std.specs.Option.{option_map}
+use Rattle.std.specs.Prelude.{◌≡◌, ℕ, true, false, List, length, take, Option, None}
 use Rattle.m2_edge.specs.Faults.{next_count}
-use Rattle.m2_fabric.specs.End.{Reads, SeenEnd, Writes}
+use Rattle.m2_fabric.specs.Cuts.{allowance, is_cut, least}
+use Rattle.m2_fabric.specs.End.{Reads, SeenEnd, Writes, left_read, left_written}
 use Rattle.m2_fabric.specs.declared.end.EndRead.{EndRead}
 use Rattle.m2_fabric.specs.declared.end.EndRead.TheVariants as read
 use Rattle.m2_fabric.specs.declared.end.EndWrite.{EndWrite}
@@ -15,35 +15,13 @@ pub record Bounded : Type 0 where
   pub left : Option ℕ
   pub faults : ℕ
 
--- what every end shows, of this one: the end inside with the count of this one
+-- what every end shows, of this one: the end inside with the count of this one, and its bound too
 abbrev pub shown : Bounded → SeenEnd
-shown b = record b.inner { faults = b.faults }
-
--- nothing more may pass
-abbrev pub is_cut : Option ℕ → Bool
-is_cut None = false
-is_cut (Some left) = left == 0
-
--- how many of so many bytes may pass
-abbrev pub allowance : Option ℕ → ℕ → ℕ
-allowance None n = n
-allowance (Some left) n = min left n
+shown b = record b.inner { faults = b.faults; left = least b.left b.inner.left }
 
 -- as much of a piece as may pass
 abbrev pub allowed : Option ℕ → List ℕ → List ℕ
 allowed left piece = take (allowance left (length piece)) piece
-
--- so many bytes passed
-abbrev pub passed : ℕ → Option ℕ → Option ℕ
-passed n left = option_map (λ l. l - n) left
-
-abbrev pub left_after_read : EndRead → Option ℕ → Option ℕ
-left_after_read (read.Got n) left = passed n left
-left_after_read _ left = left
-
-abbrev pub left_after_write : EndWrite → Option ℕ → Option ℕ
-left_after_write (write.Put n) left = passed n left
-left_after_write _ left = left
 
 -- the count of faults after a call that answered so: one more where it failed
 abbrev pub counted_read : EndRead → ℕ → ℕ
@@ -63,11 +41,11 @@ cut_off b = record b { faults = next_count b.faults }
 pub record ReadsBounded (answer : EndRead) (piece : List ℕ) (old new : Bounded) : Type 0 where
   pub cut : is_cut old.left ≡ true → (answer ≡ read.Failed) × (new ≡ cut_off old)
   pub inside : is_cut old.left ≡ false → Reads answer (allowed old.left piece) old.inner new.inner
-  pub left : new.left ≡ left_after_read answer old.left
+  pub left : new.left ≡ left_read answer old.left
 
 -- A write by the end inside, of as much of the piece as may pass; where nothing more may pass it isn't called, and
 -- the write fails by itself.
 pub record WritesBounded (answer : EndWrite) (piece : List ℕ) (old new : Bounded) : Type 0 where
   pub cut : is_cut old.left ≡ true → (answer ≡ write.Failed) × (new ≡ cut_off old)
   pub inside : is_cut old.left ≡ false → Writes answer (allowed old.left piece) old.inner new.inner
-  pub left : new.left ≡ left_after_write answer old.left
+  pub left : new.left ≡ left_written answer old.left

@@ -1,6 +1,7 @@
 -- What contracts see of a fabric, and how each of its calls changes that. This project's own.
 use Rattle.std.specs.Prelude.{◌≡◌, ◌≢◌, ℕ, false, List, [], length, drop, All, Option, Some, None, IfSome}
 use Rattle.m2_addr.specs.declared.addr.Addr.{Addr}
+use Rattle.m2_edge.specs.Faults.{next_count}
 use Rattle.m2_fabric.specs.End.{SeenEnd}
 use Rattle.m2_fabric.specs.Port.{SeenPort}
 
@@ -10,18 +11,20 @@ pub record Gathered : Type 0 where
   pub ends : List SeenEnd
 
 -- How many faults there were. Of each node, where it listens, if it does; how many ports its last split gave, if
--- nothing was gathered since; and what was gathered last, if anything was.
+-- nothing was gathered since; what was gathered last, if anything was; and how often it was gathered.
 pub record SeenFabric : Type 0 where
   pub faults : ℕ
   pub listens : ℕ → Option Addr
   pub out : ℕ → Option ℕ
   pub gathered : ℕ → Option Gathered
+  pub gathers : ℕ → ℕ
 
 -- only where one node listens may have changed, and the count of faults
 pub record ListensAlone (node : ℕ) (old new : SeenFabric) : Type 0 where
   pub others : (n : ℕ) → n ≢ node → new.listens n ≡ old.listens n
   pub out : (n : ℕ) → new.out n ≡ old.out n
   pub gathered : (n : ℕ) → new.gathered n ≡ old.gathered n
+  pub gathers : (n : ℕ) → new.gathers n ≡ old.gathers n
 
 -- a port that did nothing so far
 pub record IsUnused (p : SeenPort) : Type 0 where
@@ -43,12 +46,15 @@ pub record Splits (node : ℕ) (ports : List SeenPort) (old new : SeenFabric) : 
   pub others_out : (n : ℕ) → n ≢ node → new.out n ≡ old.out n
   pub listens : (n : ℕ) → new.listens n ≡ old.listens n
   pub gathered : (n : ℕ) → new.gathered n ≡ old.gathered n
+  pub gathers : (n : ℕ) → new.gathers n ≡ old.gathers n
   pub faults : new.faults ≡ old.faults
 
--- The ports and ends of a node are gathered, and told from then on; all else stays.
+-- The ports and ends of a node are gathered, which is counted, and told from then on; all else stays.
 pub record Gathers (node : ℕ) (what : Gathered) (old new : SeenFabric) : Type 0 where
   pub node_told : new.gathered node ≡ Some what
   pub others_told : (n : ℕ) → n ≢ node → new.gathered n ≡ old.gathered n
+  pub node_gathers : new.gathers node ≡ next_count (old.gathers node)
+  pub others_gathers : (n : ℕ) → n ≢ node → new.gathers n ≡ old.gathers n
   pub node_out : new.out node ≡ None
   pub others_out : (n : ℕ) → n ≢ node → new.out n ≡ old.out n
   pub listens : (n : ℕ) → new.listens n ≡ old.listens n

@@ -1,9 +1,9 @@
 -- How the sockets that a node opened come to be kept, and to wait at the other node. This project's own.
-use Rattle.std.specs.Prelude.{◌≡◌, ℕ, ◌==◌, ◌&&◌, ◌||◌, nat_le, Bool, false, if◌then◌else◌, List, [], ◌∷◌, ◌++◌, slice_get, Option, Some, None}
+use Rattle.std.specs.Prelude.{◌≡◌, ℕ, ◌==◌, ◌&&◌, ◌||◌, nat_le, Bool, false, if◌then◌else◌, List, [], ◌∷◌, ◌++◌, fold, slice_get, Option, Some, None}
 use Rattle.std.specs.List.{list_any, position}
 use Rattle.m2_addr.specs.declared.addr.Addr.{Addr}
 use Rattle.m2_fabric.specs.End.{fresh_end}
-use Rattle.m2_fabric.specs.Holder.{EndName, SeenHolder, may_come}
+use Rattle.m2_fabric.specs.Holder.{EndName, SeenHolder, in_line, may_come}
 use Rattle.m2_fabric.specs.Sockets as sockets
 use Rattle.m2_fabric.specs.Sockets.{goes_to}
 use Rattle.m2_fabric.specs.declared.socket.SocketId.{SocketId}
@@ -55,10 +55,11 @@ is_one_of es e = list_any (λ (x : EndName). same_end x e) es
 abbrev pub comes : List EndName → SeenHolder → EndName → Bool
 comes es h e = is_one_of es e && may_come e h
 
--- Each of these ends that may come is a fresh one that waits for an accept, and nothing else changed.
+-- Each of these ends that may come is a fresh one that waits for an accept, in line in their order, and nothing else changed.
 pub record Arrive (es : List EndName) (old new : SeenHolder) : Type 0 where
   pub nodes : new.nodes ≡ old.nodes
   pub at : (node : ℕ) → new.at node ≡ old.at node
   pub made : (node : ℕ) → new.made node ≡ old.made node
   pub ends : (e : EndName) → new.ends e.node e.id ≡ (if comes es old e then Some (fresh_end e.id) else old.ends e.node e.id)
   pub waits : (e : EndName) → new.waits e.node e.id ≡ (comes es old e || old.waits e.node e.id)
+  pub line : (node : ℕ) → new.line node ≡ fold (in_line old node) (old.line node) es

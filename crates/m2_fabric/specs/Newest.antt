@@ -1,6 +1,6 @@
 -- The newest of some sockets, by which a socket that is newer isn't looked for. This project's own.
 use Rattle.std.specs.Prelude.{◌≡◌, ℕ, ◌≤◌, ◌==◌, ◌&&◌, max, Bool, true, false, if◌then◌else◌, List, [], ◌∷◌, ◌++◌}
-use Rattle.m2_fabric.specs.SimPort.{greatest}
+use Rattle.m2_fabric.specs.Port.{greatest}
 use Rattle.m2_fabric.specs.declared.kept.Kept.{Kept}
 use Rattle.m2_fabric.specs.declared.newest.Newest.{Newest}
 use Rattle.m2_fabric.specs.declared.socket.SocketId.{SocketId}

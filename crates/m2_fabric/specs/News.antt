@@ -118,6 +118,7 @@ pub record AreTold (news : EndName → List Told) (old new : SeenHolder) : Type 
   pub made : (node : ℕ) → new.made node ≡ old.made node
   pub ends : (e : EndName) → new.ends e.node e.id ≡ option_map (hears (news e)) (old.ends e.node e.id)
   pub waits : (e : EndName) → new.waits e.node e.id ≡ old.waits e.node e.id
+  pub line : (node : ℕ) → new.line node ≡ old.line node
 
 -- one end alone is told this
 abbrev pub only : EndName → List Told → EndName → List Told

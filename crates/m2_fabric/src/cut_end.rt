@@ -1,8 +1,9 @@
 //! An end that breaks after so many bytes.
 
 ghost use Rattle.std.specs.Prelude.{◌≡◌, ◌<◌, ◌≤◌, false, length, take};
-ghost use Rattle.m2_fabric.specs.End.{LeavesPiece, Reads, Writes};
-ghost use Rattle.m2_fabric.specs.CutEnd.{Bounded, ReadsBounded, WritesBounded, allowance, allowed, counted_read, counted_write, is_cut, left_after_read, left_after_write, passed, shown};
+ghost use Rattle.m2_fabric.specs.CutEnd.{Bounded, ReadsBounded, WritesBounded, allowed, counted_read, counted_write, shown};
+ghost use Rattle.m2_fabric.specs.Cuts.{allowance, is_cut, passed};
+ghost use Rattle.m2_fabric.specs.End.{LeavesPiece, Reads, Writes, left_read, left_written};
 
 use crate::{End, EndLog, EndRead, EndWrite, MemoryEnd, News, SocketId};
 use m2_bytes::NoMemory;
@@ -72,7 +73,7 @@ fn passed(left: Option<u64>, n: usize) -> Option<u64>
 }
 
 fn left_after_read(answer: EndRead, left: Option<u64>) -> Option<u64>
-    ensures { result ≡ left_after_read answer left }
+    ensures { result ≡ left_read answer left }
 {
     match answer {
         EndRead::Got(n) => passed(left, n),
@@ -81,7 +82,7 @@ fn left_after_read(answer: EndRead, left: Option<u64>) -> Option<u64>
 }
 
 fn left_after_write(answer: EndWrite, left: Option<u64>) -> Option<u64>
-    ensures { result ≡ left_after_write answer left }
+    ensures { result ≡ left_written answer left }
 {
     match answer {
         EndWrite::Put(n) => passed(left, n),
@@ -147,7 +148,7 @@ impl<E: End> End for CutEnd<E> {
         self.faults
     }
 
-    #[tactic(auto, using(crate::proofs::Bounds::reads_outside))]
+    #[tactic(auto, using(crate::proofs::Bounds::reads_cut, crate::proofs::Bounds::reads_outside))]
     fn read(&mut self, into: &mut [u8]) -> EndRead
         requires piece { 0 < length into.old }
         requires open { self.old.inner.log.closed ≡ false }
@@ -165,7 +166,7 @@ impl<E: End> End for CutEnd<E> {
         answer
     }
 
-    #[tactic(auto, using(crate::proofs::Bounds::writes_outside))]
+    #[tactic(auto, using(crate::proofs::Bounds::writes_cut, crate::proofs::Bounds::writes_outside))]
     fn write(&mut self, bytes: &[u8]) -> EndWrite
         requires piece { 0 < length bytes.now }
         requires open { self.old.inner.log.closed ≡ false }

@@ -1,26 +1,16 @@
 //! A port whose ends break.
 
 ghost use Rattle.std.specs.Prelude.{◌≡◌, ◌<◌, length, IfSome};
+ghost use Rattle.m2_fabric.specs.CutPort.{AcceptsUncut, ConnectsCut, shown};
+ghost use Rattle.m2_fabric.specs.Cuts.{bound_for, is_for, place_of_cut, without_cut};
 ghost use Rattle.m2_fabric.specs.Port.{Accepts, Connects, connect_map, taken_map};
-ghost use Rattle.m2_fabric.specs.CutPort.{AcceptsUncut, ConnectsCut, bound_for, is_for, place_of_cut, without_cut};
 
 use crate::cut_end::CutEnd;
-use crate::{Connect, End, MemoryPort, News, Port, SocketId, SocketIdList, Taken};
+use crate::{Connect, Cut, CutList, End, MemoryPort, News, Port, SocketId, SocketIdList, Taken};
 use m2_addr::Addr;
-use m2_bytes::{Items, NoMemory};
+use m2_bytes::NoMemory;
 use m2_edge::Failed;
 use std::marker::Model;
-
-/// After how many bytes a socket that is opened to an address breaks.
-#[derive(Clone, Copy, Debug, PartialEq, Eq)]
-pub struct Cut {
-    pub to: Addr,
-    /// Bytes, read and written together.
-    pub bytes: u64,
-}
-
-/// Cuts in order.
-pub type CutList = Items<Cut>;
 
 /// A port that does what another port does, but that its ends break: each connect that opens a socket
 /// takes the first cut for its address that isn't taken yet, and every other end has no cut. Contracts
@@ -90,7 +80,7 @@ fn take_cut(cuts: &mut Vec<Cut>, to: &Addr) -> Option<u64>
 impl<P: Port> Port for CutPort<P> {
     type End = CutEnd<P::End>;
 
-    ghost seen = { λ c. c.inner };
+    ghost seen = { shown };
 
     fn made(&self) -> &SocketIdList {
         self.port.made()
@@ -109,7 +99,7 @@ impl<P: Port> Port for CutPort<P> {
     }
 
     fn connect(&mut self, to: &Addr) -> Connect<CutEnd<P::End>>
-        ensures connects { Connects (connect_map ⟦<CutEnd<P::End> as End>⟧.seen result) to.now self.old.inner self.new.inner }
+        ensures connects { Connects (connect_map ⟦<CutEnd<P::End> as End>⟧.seen result) to.now (shown self.old) (shown self.new) }
         ensures exact { ConnectsCut result to.now self.old self.new }
     {
         match self.port.connect(to) {
@@ -123,7 +113,7 @@ impl<P: Port> Port for CutPort<P> {
     }
 
     fn accept(&mut self) -> Taken<CutEnd<P::End>>
-        ensures accepts { Accepts (taken_map ⟦<CutEnd<P::End> as End>⟧.seen result) self.old.inner self.new.inner }
+        ensures accepts { Accepts (taken_map ⟦<CutEnd<P::End> as End>⟧.seen result) (shown self.old) (shown self.new) }
         ensures exact { AcceptsUncut result }
         ensures cuts { self.new.cuts ≡ self.old.cuts }
     {

@@ -10,7 +10,8 @@
 //! memory, and what flows on them. What it isn't: threads, or a real network.
 //!
 //! Each end, port and fabric has a count of faults, and answers `Failed` only where it rose. Contracts see of an end
-//! its socket, its log and its faults, and each call by one relation by cases on its answer.
+//! its socket, its log, its faults and how much is left before it is cut, and each call by one relation by cases on its
+//! answer. Ends and ports in memory answer exactly ([`memory_is_exact`]); want of memory alone is free.
 #![tactic(auto)]
 
 mod cut_end;
@@ -21,6 +22,7 @@ mod fabric;
 mod holder;
 mod kept;
 mod kinds;
+mod laws;
 mod log;
 mod meeting;
 mod newest;
@@ -34,13 +36,14 @@ mod sim_port;
 mod socket;
 
 pub use cut_end::CutEnd;
-pub use cut_port::{Cut, CutList, CutPort};
+pub use cut_port::CutPort;
 pub use end::{End, EndRead, EndWrite, News};
 pub use fabric::Fabric;
 pub use holder::Holder;
 pub use kinds::{MemoryEnd, MemoryPort, are_in_memory};
+pub use laws::memory_is_exact;
 pub use log::{EndLog, MOST_MOVED, Run, RunList};
-pub use port::{Connect, EndList, Port, PortList, Taken};
+pub use port::{Connect, Cut, CutList, EndList, Port, PortList, Taken};
 pub use sim_end::SimEnd;
 pub use sim_fabric::{AddrList, SimFabric};
 pub use sim_port::SimPort;

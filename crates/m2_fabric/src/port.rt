@@ -38,6 +38,17 @@ pub type EndList<E> = Items<E>;
 /// Ports in order.
 pub type PortList<P> = Items<P>;
 
+/// After how many bytes a socket that is opened to an address breaks.
+#[derive(Clone, Copy, Debug, PartialEq, Eq)]
+pub struct Cut {
+    pub to: Addr,
+    /// Bytes, read and written together.
+    pub bytes: u64,
+}
+
+/// Cuts in order.
+pub type CutList = Items<Cut>;
+
 /// What opens and accepts sockets for one event thread. It tells which sockets it made, and how often a
 /// connect and an accept failed.
 ///

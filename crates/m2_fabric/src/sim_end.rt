@@ -4,7 +4,6 @@ ghost use Rattle.std.specs.Prelude.{◌≡◌, ◌<◌, ◌≤◌, false, length
 ghost use Rattle.m2_fabric.specs.End.{LeavesPiece, Reads, SeenEnd, Writes, after_closing, after_news, fresh_end};
 ghost use Rattle.m2_fabric.specs.Log.{log_of};
 ghost use Rattle.m2_fabric.specs.declared.log.TheConstants.{MOST_MOVED};
-ghost use Rattle.m2_fabric.specs.SimEnd.{ReadsAll, WritesAll};
 
 use crate::{End, EndLog, EndRead, EndWrite, MOST_MOVED, MemoryEnd, News, SocketId};
 use bytes::BytesMut;
@@ -34,7 +33,7 @@ pub struct SimEnd {
 }
 
 impl Model for SimEnd {
-    ghost use Rattle.std.specs.Prelude.{Some};
+    ghost use Rattle.std.specs.Prelude.{None, Some};
     ghost use Rattle.m2_fabric.specs.End.{SeenEnd};
     ghost use Rattle.m2_fabric.specs.Log.{log_of};
 
@@ -44,6 +43,7 @@ impl Model for SimEnd {
       id = e.id;
       log = log_of e.log;
       faults = e.faults;
+      left = None;
       inflow = Some (record { readable = e.readable.items; closed = e.closed; ended = e.ended; failed = e.failed });
     } };
 }
@@ -105,7 +105,6 @@ impl End for SimEnd {
         requires open { self.old.log.closed ≡ false }
         ensures reads { Reads result into.new self.old self.new }
         ensures piece { LeavesPiece result into.old into.new }
-        ensures exact { ReadsAll result into.new self.old }
     {
         if self.failed {
             self.faults.add();
@@ -133,8 +132,7 @@ impl End for SimEnd {
     fn write(&mut self, bytes: &[u8]) -> EndWrite
         requires piece { 0 < length bytes.now }
         requires open { self.old.log.closed ≡ false }
-        ensures writes { Writes result bytes.now self.old self.new }
-        ensures exact { WritesAll result bytes.now self.old }
+        ensures { Writes result bytes.now self.old self.new }
     {
         if self.failed || self.closed {
             self.faults.add();

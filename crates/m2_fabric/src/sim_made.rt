@@ -2,7 +2,7 @@
 
 ghost use Rattle.std.specs.Prelude.{◌≡◌, ◌<◌, ◌++◌, ◌∷◌, [], OnOk, vec_capacity, vec_len};
 ghost use Rattle.m2_fabric.specs.Newest.{after_raise, noted};
-ghost use Rattle.m2_fabric.specs.SimPort.{greatest, turn_on};
+ghost use Rattle.m2_fabric.specs.Port.{greatest, turn_on};
 ghost use Rattle.m2_fabric.specs.Sockets.{is_among};
 
 use crate::newest::are_alike;

@@ -3,9 +3,8 @@
 ghost use Rattle.std.specs.Prelude.{◌≡◌, ◌==◌, ◌++◌, ◌∷◌, [], fold, max, IfSome, MatchOption, IsOk, OnOk, OnErr};
 ghost use Rattle.std.specs.List.{list_any};
 ghost use Rattle.m2_fabric.specs.End.{after_news};
-ghost use Rattle.m2_fabric.specs.Port.{Accepts, Connects, connect_map, fresh_port, one_hears, taken_map};
+ghost use Rattle.m2_fabric.specs.Port.{Accepts, Connects, connect_map, fresh_port, greatest, ids, one_hears, path, socket_after, taken_map, turn_on};
 ghost use Rattle.m2_fabric.specs.Sockets.{same_socket};
-ghost use Rattle.m2_fabric.specs.SimPort.{NeverRefuses, OpensNext, greatest, ids, path, socket_after, turn_on};
 
 use crate::sim_end::SimEnd;
 use crate::sim_made::{SimMade, turn_on};
@@ -31,7 +30,7 @@ pub struct SimPort {
 }
 
 impl Model for SimPort {
-    ghost use Rattle.std.specs.Prelude.{Some, true};
+    ghost use Rattle.std.specs.Prelude.{Some, true, []};
     ghost use Rattle.m2_fabric.specs.Port.{SeenPort};
     ghost use Rattle.m2_fabric.specs.SimPort.{IsSimPort};
 
@@ -45,6 +44,7 @@ impl Model for SimPort {
       refused = 0;
       quiet = p.quiet;
       faults = 0;
+      cuts = [];
       waiting = Some p.waiting.items;
     } };
 
@@ -181,8 +181,7 @@ impl Port for SimPort {
 
     #[tactic(auto, using(crate::proofs::Waits::opened_stays, crate::proofs::Waits::opened_is_new))]
     fn connect(&mut self, to: &Addr) -> Connect<SimEnd>
-        ensures connects { Connects (connect_map ⟦<SimEnd as End>⟧.seen result) to.now self.old self.new }
-        ensures exact { OpensNext result to.now self.old }
+        ensures { Connects (connect_map ⟦<SimEnd as End>⟧.seen result) to.now self.old self.new }
     {
         let Some(id) = next_socket(&self.at, to, &self.made, self.waiting.as_slice()) else {
             return Connect::NoMemory;
@@ -196,8 +195,7 @@ impl Port for SimPort {
 
     #[tactic(auto, using(crate::proofs::Waits::accepted_stays, crate::proofs::Waits::accepted_is_new))]
     fn accept(&mut self) -> Taken<SimEnd>
-        ensures accepts { Accepts (taken_map ⟦<SimEnd as End>⟧.seen result) self.old self.new }
-        ensures exact { NeverRefuses result }
+        ensures { Accepts (taken_map ⟦<SimEnd as End>⟧.seen result) self.old self.new }
     {
         if self.made.reserve().is_err() {
             return Taken::NoMemory;

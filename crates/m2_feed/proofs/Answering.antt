@@ -92,7 +92,7 @@ front_signs s t (refused f) e = cc
 front_signs s t (framed f n) e = cc
 
 held_signs : (s t : Standing) (awaited : Awaited) (held : Option Parts) → answer_held s awaited held ≡ signs t → record s { stage = Authed; held = None } ≡ t
-held_signs s t awaited (Some f) e = reaction_signs s t (after_frame s.side awaited f) e
+held_signs s t awaited (Some f) e = reaction_signs s t (after_frame s.auth s.side awaited f) e
 held_signs s t awaited None e = absurd (front_signs s t (found_in s.rest) e)
 
 banner_signs : (s t : Standing) (b : BannerStep) → after_banner s b ≡ signs t → ⊥

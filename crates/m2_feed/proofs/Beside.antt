@@ -13,12 +13,12 @@ use Rattle.m2_frame.proofs.Cutting.{same_text}
 use Rattle.m2_handshake.specs.declared.answer.HalfStep.{HalfStep}
 use Rattle.m2_handshake.specs.declared.answer.HalfStep.TheVariants as half
 use Rattle.m2_handshake.specs.Half.{Answers}
-use Rattle.m2_handshake.specs.Standing.{Standing, opener_at_start}
+use Rattle.m2_handshake.specs.Standing.{Standing}
 use Rattle.m2_journal.specs.Feeds.{greets, hears, opened_feed, taken_feed, silent_feed, split_into, is_passed, answer_said, next_place, next_said, narrowed, texts_at, stamp_of, stamps_in, begun}
 use Rattle.m2_journal.specs.OutFrames as out
 use Rattle.m2_journal.specs.OutFrames.{OutFrame, is_unnamed, acknowledges}
 use Rattle.m2_journal.specs.Said.{Split, split, said}
-use Rattle.m2_journal.specs.SideFacts.{SideFacts}
+use Rattle.m2_journal.specs.SideFacts.{SideFacts, opener_half}
 use Rattle.m2_journal.specs.State.{Feed, State}
 use Rattle.m2_journal.specs.Steps.{takes_answer, puts}
 use Rattle.m2_feed.specs.declared.answers.FeedWrite.{FeedWrite}
@@ -40,7 +40,7 @@ use Rattle.m2_feed.proofs.Shaking.{answers-on, begins-shaking, hears-on, signs-o
 
 pub opens : OpensBeside
 opens f s end last owes v is =
-    let h = opener_at_start f.node.entity f.peer in
+    let h = opener_half f in
     let d = opened_feed f end.id last owes in
     let b = begins-shaking h v d end.id last owes refl refl (ap (λ (x : FeedNow). x.composed) is) (ap (λ (x : FeedNow). x.writing) is) (ap (λ (x : FeedNow). x.stamps) is) refl in
     let reading : v.reading ≡ shaking h = ap (λ (x : FeedNow). x.reading) is in

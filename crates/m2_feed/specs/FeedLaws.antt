@@ -11,13 +11,12 @@ use Rattle.m2_frame.specs.Reading.{Item}
 use Rattle.m2_handshake.specs.declared.answer.HalfStep.{HalfStep}
 use Rattle.m2_handshake.specs.declared.answer.HalfStep.TheVariants as half
 use Rattle.m2_handshake.specs.declared.fault.HalfFault.{HalfFault}
-use Rattle.m2_handshake.specs.Standing.{opener_at_start}
 use Rattle.m2_journal.specs.Feeds.{hears, opened_feed, taken_feed, answer_said, is_passed, next_place, next_said, stamp_of, told, told_by, begun}
 use Rattle.m2_journal.specs.Lawful.{GoesOn, HasPutAll, has_failed, is_broken, is_refused, said_next}
 use Rattle.m2_journal.specs.OutFrames as out
 use Rattle.m2_journal.specs.OutFrames.{OutFrame, is_unnamed, acknowledges}
 use Rattle.m2_journal.specs.Said.{said}
-use Rattle.m2_journal.specs.SideFacts.{SideFacts}
+use Rattle.m2_journal.specs.SideFacts.{SideFacts, opener_half}
 use Rattle.m2_journal.specs.State.{Feed, State}
 use Rattle.m2_journal.specs.Steps.{takes_answer, puts}
 use Rattle.m2_addr.specs.declared.addr.AnyAddr.TheVariants.{V4}
@@ -46,7 +45,7 @@ takes _ = false
 
 abbrev pub OpensBeside : Type 0
 OpensBeside = (f : SideFacts) (s : State) (end : SeenEnd) (last : ℕ) (owes : Bool) (v : FeedNow) →
-    v ≡ at_opening end (opener_at_start f.node.entity f.peer) v → Stands f s v (opened_feed f end.id last owes)
+    v ≡ at_opening end (opener_half f) v → Stands f s v (opened_feed f end.id last owes)
 
 -- with the text of the acceptance, which is one that an entry names and doesn't acknowledge
 pub record IsAcceptance (f : SideFacts) (w : OutFrame) : Type 0 where

@@ -29,6 +29,7 @@ use m2_fabric::{End, EndRead, EndWrite, News, SocketId};
 use m2_frame::{Decoder, FrameView, Got};
 use m2_handshake::{Half, HalfStep};
 use m2_message::Message;
+use m2_policy::AuthPayload;
 use std::alloc::Global;
 use std::collections::VecDeque;
 use std::marker::Model;
@@ -88,17 +89,17 @@ impl<E: End> Model for Feed<E> {
 }
 
 impl<E: End> Feed<E> {
-    /// A socket that this side has just opened, to this address; `entity` is the kind of this node. Nothing
-    /// is heard and nothing is composed. Takes no memory.
-    pub fn opened(alloc: Global, end: E, entity: u8, dialled: Addr) -> Feed<E>
+    /// A socket that this side has just opened, to this address; `entity` is the kind of this node, and `auth`
+    /// what its AUTH_REQUEST carries. Nothing is heard and nothing is composed. Takes no memory.
+    pub fn opened(alloc: Global, end: E, auth: AuthPayload, entity: u8, dialled: Addr) -> Feed<E>
         requires { (E.seen end).log.closed ≡ false }
-        ensures { result ≡ at_opening (E.seen end) (opener_at_start entity dialled) result }
+        ensures { result ≡ at_opening (E.seen end) (opener_at_start auth entity dialled) result }
     {
         Feed {
             alloc,
             end,
             opened: true,
-            reader: Reader::Shaking(Half::client(alloc, entity, dialled)),
+            reader: Reader::Shaking(Half::client(alloc, auth, entity, dialled)),
             base: 0,
             piece: Vec::new(alloc),
             outgoing: Outgoing::empty(alloc),

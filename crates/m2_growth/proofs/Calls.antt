@@ -29,11 +29,11 @@ closing_grows e = record { id = refl; got = on_same e.log.got; put = on_same e.l
 -- ---- reading
 
 -- the bytes that are read are the first ones that were readable
-come_read : (n : ℕ) (got piece : List ℕ) (o : Option Inflow) → IfSome o (λ i. ComesFrom i n piece) →
+come_read : (left : Option ℕ) (n : ℕ) (got piece : List ℕ) (o : Option Inflow) → IfSome o (λ i. ComesFrom left i n piece) →
     option_map (λ (i : Inflow). (got ++ take n piece) ++ i.readable) (option_map (unread n) o) ≡ option_map (λ (i : Inflow). got ++ i.readable) o
-come_read n got piece (Some i) from =
+come_read left n got piece (Some i) from =
     ap (λ l. Some l) (append_assoc got (take n piece) (drop n i.readable) ∙ ap (λ l. got ++ (l ++ drop n i.readable)) from.bytes ∙ ap (λ l. got ++ l) (take-append-drop n i.readable))
-come_read n got piece None from = refl
+come_read left n got piece None from = refl
 
 pub read_grows : (answer : EndRead) (piece : List ℕ) (old new : SeenEnd) → Reads answer piece old new → EndGrows old new
 read_grows (read.Got n) piece old new (_, from, e) = record {
@@ -41,7 +41,7 @@ read_grows (read.Got n) piece old new (_, from, e) = record {
   got = (take n piece, ap (λ s. s.log.got) e);
   put = on_by old.log.put new.log.put (ap (λ s. s.log.put) e);
   closed = λ h. ap (λ s. s.log.closed) e ∙ h;
-  come = ap come_to e ∙ come_read n old.log.got piece old.inflow from;
+  come = ap come_to e ∙ come_read old.left n old.log.got piece old.inflow from;
 }
 read_grows read.NotYet piece old new (_, e) = grows_by old new (ap (λ s. s.id) e) (ap (λ s. s.log.got) e) (ap (λ s. s.log.put) e) (λ h. ap (λ s. s.log.closed) e ∙ h) (ap (λ s. s.inflow) e)
 read_grows read.Ended piece old new (_, e) = grows_by old new (ap (λ s. s.id) e) (ap (λ s. s.log.got) e) (ap (λ s. s.log.put) e) (λ h. ap (λ s. s.log.closed) e ∙ h) (ap (λ s. s.inflow) e)

@@ -176,7 +176,7 @@ connects p q before rest r s halves e none opened (new, told, h) away own =
     unmade = new.first
 
     born : IsNewborn e
-    born = newborn e p.made r.core.facts.peer new told
+    born = newborn e p.made r.core.facts.peer new told.0
 
     none_held : end_at (ends_held old) e.id ≡ None
     none_held = made_none p.made (ends_held old) e.id own.made unmade

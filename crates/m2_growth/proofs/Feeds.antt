@@ -6,7 +6,7 @@ use Rattle.m2_fabric.specs.declared.socket.SocketId.{SocketId}
 use Rattle.m2_fabric.specs.Sockets.{is_among, same_socket}
 use Rattle.m2_turn.specs.m2_handshake.Course.{Course, course_of, text_of}
 use Rattle.m2_turn.specs.m2_handshake.Moves.{is_authed}
-use Rattle.m2_turn.specs.m2_handshake.Standing.{Standing, fed, opener_at_start}
+use Rattle.m2_turn.specs.m2_handshake.Standing.{Standing, fed}
 use Rattle.m2_turn.specs.m2_session.declared.session.Phase.{Phase}
 use Rattle.m2_turn.specs.m2_session.declared.session.Phase.TheVariants as phase
 use Rattle.m2_turn.specs.m2_session.Phases as phases
@@ -14,7 +14,7 @@ use Rattle.m2_weave.specs.m2_journal.Feeds.{acknowledgements, finished, goes_on,
 use Rattle.m2_weave.specs.m2_journal.Laws.{IfFed}
 use Rattle.m2_weave.specs.m2_journal.OutFrames.{OutFrame, is_unnamed}
 use Rattle.m2_weave.specs.m2_journal.Said.{split}
-use Rattle.m2_weave.specs.m2_journal.SideFacts.{SideFacts}
+use Rattle.m2_weave.specs.m2_journal.SideFacts.{SideFacts, opener_half}
 use Rattle.m2_weave.specs.m2_journal.State.{Feed, PartText, SentFrame, State}
 use Rattle.m2_bytes_fit.specs.m2_never_reset.Frames.{answers_on, frames_on, is_ask}
 use Rattle.m2_bytes_fit.proofs.m2_never_reset.Answered.{nothing_isnt_some}
@@ -143,7 +143,7 @@ pub hears_may : (p : Phase) (bytes : List ℕ) (d : Feed) → AllByRecursion (Ma
 hears_may p bytes d h = hears_at_may p d.hand bytes d h
 
 pub opened_may : (p : Phase) (f : SideFacts) (k : SocketId) (last : ℕ) (owes : Bool) → AllByRecursion (MayPut p) (opened_feed f k last owes).texts
-opened_may p f k last owes = goes_on_may p (course_of (opener_at_start f.node.entity f.peer) []) (silent_feed k true last owes) tt
+opened_may p f k last owes = goes_on_may p (course_of (opener_half f) []) (silent_feed k true last owes) tt
 
 -- ---- the feed is less, or the phase another
 

@@ -192,20 +192,20 @@ record SignsFirst (own : ℕ) (seen : Addr) (bytes more : List ℕ) : Type 0 whe
   replies : replies_of events ≡ []
   asks : asks_of events ≡ []
 
-signs_first : (f : SideFacts) → KeepsRanges f → (own : ℕ) (seen : Addr) (more : List ℕ) → SignsFirst own seen (greeting f.node.entity f.peer more) more
+signs_first : (f : SideFacts) → KeepsRanges f → (own : ℕ) (seen : Addr) (more : List ℕ) → SignsFirst own seen (greeting f.node.rules.auth f.node.entity f.peer more) more
 signs_first f k own seen more =
-    let there = signs_there f.node.entity own f.peer seen more k.entity k.peer in
+    let there = signs_there f.node.rules.auth f.node.entity own f.peer seen more k.entity k.peer in
     let mid = there.0 in
     let r = there.1 in
     record {
       events = r.events ++ silent ∷ [];
-      runs = next r.events silent (fed (acceptor_at_start own seen) (greeting f.node.entity f.peer more)) mid (at own seen Authed None more) r.runs (ap (λ m. step_by m mid) there.2);
+      runs = next r.events silent (fed (acceptor_at_start own seen) (greeting f.node.rules.auth f.node.entity f.peer more)) mid (at own seen Authed None more) r.runs (ap (λ m. step_by m mid) there.2);
       replies = flat_map-append replies_in r.events (silent ∷ []) ∙ ap (λ l. l ++ []) r.replies;
       asks = flat_map-append asks_in r.events (silent ∷ []) ∙ ap (λ l. l ++ []) r.asks;
     }
 
 asked_first : (f : SideFacts) → KeepsRanges f → (own : ℕ) (seen : Addr) (w : OutFrame) (ws : List OutFrame) (more : List ℕ) (x : Exchange) (s : Standing) → MayBegin w →
-    x.bytes ++ more ≡ greeting f.node.entity f.peer (texts_of f (w ∷ ws)) → Reaches (acceptor_at_start own seen) x s → AskedBy f.mine x
+    x.bytes ++ more ≡ greeting f.node.rules.auth f.node.entity f.peer (texts_of f (w ∷ ws)) → Reaches (acceptor_at_start own seen) x s → AskedBy f.mine x
 asked_first f k own seen w ws more x s may e r =
     by_way (ways first.events r.events start signed (fed s more) (replies_of r.events) first.runs all_runs (sym (ap (λ l. l ++ replies_of r.events) first.replies)))
   where
@@ -213,12 +213,12 @@ asked_first f k own seen w ws more x s may e r =
     all = texts_of f (w ∷ ws)
 
     start : Standing
-    start = fed (acceptor_at_start own seen) (greeting f.node.entity f.peer all)
+    start = fed (acceptor_at_start own seen) (greeting f.node.rules.auth f.node.entity f.peer all)
 
     signed : Standing
     signed = at own seen Authed None all
 
-    first : SignsFirst own seen (greeting f.node.entity f.peer all) all
+    first : SignsFirst own seen (greeting f.node.rules.auth f.node.entity f.peer all) all
     first = signs_first f k own seen all
 
     its : BeginsAs f w
@@ -246,7 +246,7 @@ no_map g [] e = refl
 no_map g (x ∷ xs) e = not_nil e
 
 asked_nothing : (f : SideFacts) → KeepsRanges f → (own : ℕ) (seen : Addr) (more : List ℕ) (x : Exchange) (s : Standing) →
-    x.bytes ++ more ≡ greeting f.node.entity f.peer [] → Reaches (acceptor_at_start own seen) x s → AskedBy f.mine x
+    x.bytes ++ more ≡ greeting f.node.rules.auth f.node.entity f.peer [] → Reaches (acceptor_at_start own seen) x s → AskedBy f.mine x
 asked_nothing f k own seen more x s e r = by (accepts f own seen [] x.bytes more x s k.entity k.peer tt e r refl)
   where
     by : HasWelcomed own seen x ⊎ IsAsked f own seen [] more x s → AskedBy f.mine x
@@ -261,6 +261,6 @@ BeginSo [] = Unit {0}
 BeginSo (w ∷ ws) = MayBegin w
 
 pub asked_by : (f : SideFacts) → KeepsRanges f → (own : ℕ) (seen : Addr) (ws : List OutFrame) (more : List ℕ) (x : Exchange) (s : Standing) → BeginSo ws →
-    x.bytes ++ more ≡ greeting f.node.entity f.peer (texts_of f ws) → Reaches (acceptor_at_start own seen) x s → AskedBy f.mine x
+    x.bytes ++ more ≡ greeting f.node.rules.auth f.node.entity f.peer (texts_of f ws) → Reaches (acceptor_at_start own seen) x s → AskedBy f.mine x
 asked_by f k own seen [] more x s b e r = asked_nothing f k own seen more x s e r
 asked_by f k own seen (w ∷ ws) more x s b e r = asked_first f k own seen w ws more x s b e r

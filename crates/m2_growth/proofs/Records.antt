@@ -58,7 +58,7 @@ begin_so [] [] left h l = tt
 begin_so [] (w ∷ []) left h l = inr l.0
 begin_so [] (w ∷ v ∷ vs) left h l = absurd l
 
-greeting_and : (f : SideFacts) (t : List ℕ) → greeting_of f ++ t ≡ greeting f.node.entity f.peer t
+greeting_and : (f : SideFacts) (t : List ℕ) → greeting_of f ++ t ≡ greeting f.node.rules.auth f.node.entity f.peer t
 greeting_and f t = simp (append_assoc)
 
 -- a half that has read the first of what a side wrote there

@@ -18,6 +18,8 @@ use Rattle.m2_control.specs.ClientIdent.{bare_client_ident, client_ident_text}
 use Rattle.m2_control.specs.Ident.{tail_text}
 use Rattle.m2_control.specs.SessionReconnect.{bare_session_reconnect, session_reconnect_text}
 use Rattle.m2_control.specs.Laws.{HasAddrRanges, client_tail}
+use Rattle.m2_policy.specs.declared.rules.AuthPayload.{AuthPayload}
+use Rattle.m2_policy.specs.declared.rules.AuthPayload.TheVariants.{Empty}
 use Rattle.m2_handshake.specs.declared.ask.Ask.{Ask}
 use Rattle.m2_handshake.specs.declared.ask.Ask.TheVariants.{Ident, Reconnect}
 use Rattle.m2_handshake.specs.declared.ask.AskStep.{AskStep}
@@ -96,7 +98,7 @@ read_as (Reconnect r) main k m = ap (asked_of None) k.read ∙ ap (λ (x : Resul
 -- ---- its moves
 
 abbrev asked_at : ℕ → Addr → Addr → List ℕ → Standing
-asked_at own seen main more = record { side = Acceptor; entity = own; seen = seen; stage = Asked; peer = Some main; held = None; rest = more }
+asked_at own seen main more = record { side = Acceptor; auth = Empty; entity = own; seen = seen; stage = Asked; peer = Some main; held = None; rest = more }
 
 takes_ask : (own : ℕ) (seen : Addr) (c : Control) (more : List ℕ) → IsSent c → ask_move_of (at own seen Authed None (frame_text c ++ more)) ≡ quiet (at own seen Authed (Some (control_parts c)) more)
 takes_ask own seen c more k =
@@ -168,17 +170,17 @@ asks_next s held end b w h passed mid new result path a =
 joined : (a b c d more : List ℕ) → a ++ (b ++ (c ++ (d ++ more))) ≡ (a ++ (b ++ (c ++ (d ++ [])))) ++ more
 joined a b c d more = simp append_assoc
 
-greeted : (entity own : ℕ) (dialled seen : Addr) (b : Behind) → entity < 2 ^ 8 → HasAddrRanges dialled → KeepsBounds b.ask → IsGreeted own seen (greeting entity dialled (text_behind b)) b
-greeted entity own dialled seen b e h k =
+greeted : (auth : AuthPayload) (entity own : ℕ) (dialled seen : Addr) (b : Behind) → entity < 2 ^ 8 → HasAddrRanges dialled → KeepsBounds b.ask → IsGreeted own seen (greeting auth entity dialled (text_behind b)) b
+greeted auth entity own dialled seen b e h k =
     let c = control_of b.ask in
     let sent = ask_sent b.ask k in
     let found = main_found b.ask k in
     let begin = acceptor_at_start own seen in
-    let x : Exchange = record { bytes = greeting entity dialled (text_behind b); replies = []; text = welcome own seen; asks = [] } in
+    let x : Exchange = record { bytes = greeting auth entity dialled (text_behind b); replies = []; text = welcome own seen; asks = [] } in
     let s = at own seen Authed None (text_behind b) in
     let held = at own seen Authed (Some (control_parts c)) b.more in
     let end = asked_at own seen found.0 b.more in
-    let there = signs_there entity own dialled seen (text_behind b) e h in
+    let there = signs_there auth entity own dialled seen (text_behind b) e h in
     let takes : ask_move_of s ≡ quiet held = takes_ask own seen c b.more sent in
     let reads : ask_move_of held ≡ asks (bare_ask b.ask) end = reads_ask own seen b.ask found.0 b.more sent found.1 in
     let has : HasAsked end b = record { stage = refl; held = refl; main = found.0; is_main = found.1; peer = refl; rest = refl } in
@@ -196,8 +198,8 @@ greeted entity own dialled seen b e h k =
     }
 
 pub greeting_is_asked : GreetingIsAsked
-greeting_is_asked entity own dialled seen b x opener e h k r q =
-    let words : x.text ≡ greeting entity dialled [] = authed_greets entity dialled x opener r q in
-    let same : greeting entity dialled (text_behind b) ≡ x.text ++ text_behind b =
-    joined (banner_text features) (frame_text (hello entity dialled)) (frame_text request) (frame_text signature) (text_behind b) ∙ ap (λ (l : List ℕ). l ++ text_behind b) (sym words) in
-    subst (λ (l : List ℕ). IsGreeted own seen l b) same (greeted entity own dialled seen b e h k)
+greeting_is_asked auth entity own dialled seen b x opener e h k r q =
+    let words : x.text ≡ greeting auth entity dialled [] = authed_greets auth entity dialled x opener r q in
+    let same : greeting auth entity dialled (text_behind b) ≡ x.text ++ text_behind b =
+    joined (banner_text features) (frame_text (hello entity dialled)) (frame_text (request auth)) (frame_text signature) (text_behind b) ∙ ap (λ (l : List ℕ). l ++ text_behind b) (sym words) in
+    subst (λ (l : List ℕ). IsGreeted own seen l b) same (greeted auth entity own dialled seen b e h k)

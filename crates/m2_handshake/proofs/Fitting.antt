@@ -12,6 +12,7 @@ use Rattle.m2_frame.specs.declared.tag.Tag.TheVariants as tag
 use Rattle.m2_frame.specs.Tags.{tag_number}
 use Rattle.m2_frame.specs.Frame.{Parts}
 use Rattle.m2_frame.specs.Reading.{whole, dropped, Front, start, bad, text, judge, size_of}
+use Rattle.m2_policy.specs.declared.rules.AuthPayload.{AuthPayload}
 use Rattle.m2_handshake.specs.declared.ask.Ask.{Ask}
 use Rattle.m2_handshake.specs.declared.ask.Ask.TheVariants.{Ident, Reconnect}
 use Rattle.m2_handshake.specs.declared.fault.HalfFault.{HalfFault}
@@ -49,21 +50,21 @@ abbrev pub IsFair : Reaction → Type 0
 IsFair (refuses f) = IsOfBytes f
 IsFair _ = Unit {0}
 
-after_fair : (side : HalfSide) (awaited : Awaited) (c : Control) → IsFair (after side awaited c)
-after_fair Opener Hello (control.Hello p) = tt
-after_fair Acceptor Hello (control.Hello p) = tt
-after_fair side Request (control.AuthRequest r) = either IsFair (is_served r) _ _ tt tt
-after_fair side Done (control.AuthDone d) = either IsFair (d.mode == CRC) _ _ tt tt
-after_fair side Signature (control.AuthSignature s) = either IsFair (is_unsigned s.signature.bytes) _ _ tt tt
-after_fair side awaited c = tt
+after_fair : (auth : AuthPayload) (side : HalfSide) (awaited : Awaited) (c : Control) → IsFair (after auth side awaited c)
+after_fair auth Opener Hello (control.Hello p) = tt
+after_fair auth Acceptor Hello (control.Hello p) = tt
+after_fair auth side Request (control.AuthRequest r) = either IsFair (is_served r) _ _ tt tt
+after_fair auth side Done (control.AuthDone d) = either IsFair (d.mode == CRC) _ _ tt tt
+after_fair auth side Signature (control.AuthSignature s) = either IsFair (is_unsigned s.signature.bytes) _ _ tt tt
+after_fair auth side awaited c = tt
 
 raised_fair : (read : Result Control ControlFault) → Fails OfPayload read → Fails IsOfBytes (of_payload read)
 raised_fair (Ok c) h = tt
 raised_fair (Err e) h = h
 
-payload_fair : (side : HalfSide) (awaited : Awaited) (read : Result Control HalfFault) → Fails IsOfBytes read → IsFair (after_payload side awaited read)
-payload_fair side awaited (Ok c) h = after_fair side awaited c
-payload_fair side awaited (Err e) h = h
+payload_fair : (auth : AuthPayload) (side : HalfSide) (awaited : Awaited) (read : Result Control HalfFault) → Fails IsOfBytes read → IsFair (after_payload auth side awaited read)
+payload_fair auth side awaited (Ok c) h = after_fair auth side awaited c
+payload_fair auth side awaited (Err e) h = h
 
 awaited_payload : (awaited : Awaited) (bytes : List ℕ) → Fails IsOfBytes (payload_in (awaited_tag awaited) bytes)
 awaited_payload Hello bytes = raised_fair _ (hello_payload bytes)
@@ -77,9 +78,9 @@ unawaited_fair Request t = tt
 unawaited_fair Done t = either IsOfBytes (t == tag_number tag.AuthBadMethod) _ _ tt tt
 unawaited_fair Signature t = tt
 
-frame_fair : (side : HalfSide) (awaited : Awaited) (f : Parts) → IsFair (after_frame side awaited f)
-frame_fair side awaited f = either IsFair (f.tag == tag_number (awaited_tag awaited)) _ _
-    (payload_fair side awaited (payload_in (awaited_tag awaited) f.first) (awaited_payload awaited f.first))
+frame_fair : (auth : AuthPayload) (side : HalfSide) (awaited : Awaited) (f : Parts) → IsFair (after_frame auth side awaited f)
+frame_fair auth side awaited f = either IsFair (f.tag == tag_number (awaited_tag awaited)) _ _
+    (payload_fair auth side awaited (payload_in (awaited_tag awaited) f.first) (awaited_payload awaited f.first))
     (unawaited_fair awaited f.tag)
 
 known_fair : (peer : Option Addr) (main : Result Addr AddrFault) → Fails OfAddress main → Fails IsOfBytes (known_main peer main)
@@ -139,7 +140,7 @@ reaction_fits s signed h = tt
 reaction_fits s (refuses f) h = h
 
 held_fits : (s : Standing) (awaited : Awaited) (held : Option Parts) → KeepsOfBytes s.stage → Fits s (answer_held s awaited held)
-held_fits s awaited (Some f) k = reaction_fits s (after_frame s.side awaited f) (frame_fair s.side awaited f)
+held_fits s awaited (Some f) k = reaction_fits s (after_frame s.auth s.side awaited f) (frame_fair s.auth s.side awaited f)
 held_fits s awaited None k = take_fits s k
 
 fits_at : (stage : Stage) (s : Standing) → s.stage ≡ stage → KeepsOfBytes s.stage → Fits s (move_at stage s)

@@ -15,19 +15,22 @@ use Rattle.m2_control.specs.Laws.{HasAddrRanges, HasRanges, IsInBounds}
 use Rattle.m2_control.proofs.Written.{written_is_read, banner_is_read}
 use Rattle.m2_frame.specs.Frame.{Parts, Fits, message_tag}
 use Rattle.m2_frame.specs.Grammar.{AreBytes}
+use Rattle.m2_policy.specs.declared.rules.AuthPayload.{AuthPayload}
+use Rattle.m2_policy.specs.declared.rules.AuthPayload.TheVariants.{Empty, Authorizer}
 use Rattle.m2_handshake.specs.declared.fault.HalfFault.TheVariants as fault
 use Rattle.m2_handshake.specs.declared.stage.Awaited.{Awaited}
 use Rattle.m2_handshake.specs.declared.stage.Awaited.TheVariants.{Hello, Request, Signature}
 use Rattle.m2_handshake.specs.declared.stage.HalfSide.TheVariants.{Acceptor}
 use Rattle.m2_handshake.specs.declared.stage.Stage.{Stage}
 use Rattle.m2_handshake.specs.declared.stage.Stage.TheVariants.{Banner, Waits, Authed}
+use Rattle.m2_handshake.specs.declared.texts.TheConstants.{NONE, CRC}
 use Rattle.m2_handshake.specs.Course.{silent, wrote, goes, step_by, step_of, course_move, text_of, Signs}
 use Rattle.m2_handshake.specs.Greeting.{greeting, welcome, GreetingIsSigned}
 use Rattle.m2_handshake.specs.Moves.{features, after_banner, take_frame, after_reaction}
 use Rattle.m2_handshake.specs.Reading.{Found, refused, framed, found_in, of_payload, payload_in}
 use Rattle.m2_handshake.specs.Standing.{Standing, fed, acceptor_at_start}
 use Rattle.m2_handshake.specs.Steps.{Reaction, says, listens, signed, after_payload, after_frame}
-use Rattle.m2_handshake.specs.Texts.{control_parts, frame_text, hello, request, done, signature}
+use Rattle.m2_handshake.specs.Texts.{control_parts, frame_text, hello, auth_bytes, request, done, signature}
 use Rattle.m2_handshake.proofs.Banners.{is_step}
 use Rattle.m2_handshake.proofs.Sizes.{found_sent, isnt_message}
 use Rattle.m2_bytes.proofs.m2_lemmas.Bytes.{four_bytes, two_bytes, four_bytes_turned, two_bytes_turned, eight_zeros as zeros, eight_zeros_before}
@@ -69,38 +72,34 @@ hello_sent entity a e h = record {
   read = payload_read (hello entity a) (e, h) tt;
 }
 
-request_bytes : All (λ b. b < 256) (payload.text_of request)
-request_bytes = All-from_recursion IsByte (payload.text_of request) (
-  omega arith,
-  (
-    omega arith,
-    (
-      omega arith,
-      (
-        omega arith,
-        (
-          omega arith,
-          (
-            omega arith,
-            (
-              omega arith,
-              (
-                omega arith,
-                (omega arith, (omega arith, (omega arith, (omega arith, (omega arith, (omega arith, (omega arith, (omega arith, tt)))))))),
-              ),
-            ),
-          ),
-        ),
-      ),
-    ),
-  ),
-)
+-- the payload of AUTH_REQUEST, and in front of it the method, the modes and its length
+payload_bytes : (auth : AuthPayload) → All (λ b. b < 256) (auth_bytes auth)
+payload_bytes Empty = no_bytes
+payload_bytes Authorizer =
+    let seven : List ℕ = 0 ∷ 0 ∷ 0 ∷ 0 ∷ 0 ∷ 0 ∷ 0 ∷ [] in
+    let fifteen : List ℕ = 0 ∷ 0 ∷ 0 ∷ 0 ∷ 0 ∷ 0 ∷ 0 ∷ 0 ∷ seven in
+    All-cons IsByte 1 (8 ∷ fifteen) (omega arith) (All-cons IsByte 8 fifteen (omega arith)
+    (eight_zeros_before seven (All-from_recursion IsByte seven (omega arith, (omega arith, (omega arith, (omega arith, (omega arith, (omega arith, (omega arith, tt))))))))))
 
-request_sent : IsSent request
-request_sent = record {
+request_bytes : (auth : AuthPayload) → All (λ b. b < 256) (payload.text_of (request auth))
+request_bytes auth =
+    let size = to_le_bytes w32 (length (auth_bytes auth)) ++ auth_bytes auth in
+    let mode = to_le_bytes w32 CRC ++ [] in
+    let modes = to_le_bytes w32 1 ++ mode in
+    let method = to_le_bytes w32 NONE in
+    All-append IsByte (method ++ modes) size (All-append IsByte method modes (four_bytes NONE) (All-append IsByte (to_le_bytes w32 1) mode (four_bytes 1) (All-append IsByte (to_le_bytes w32 CRC) [] (four_bytes CRC) no_bytes)))
+    (All-append IsByte (to_le_bytes w32 (length (auth_bytes auth))) (auth_bytes auth) (four_bytes (length (auth_bytes auth))) (payload_bytes auth))
+
+request_sent : (auth : AuthPayload) → IsSent (request auth)
+request_sent Empty = record {
   fits = record { tag_from = omega arith; tag_to = omega arith; count = omega arith; first = omega arith; second = omega arith; third = omega arith; fourth = omega arith };
-  bytes = record { first = request_bytes; second = no_bytes; third = no_bytes; fourth = no_bytes };
-  read = payload_read request (omega arith, (omega arith, tt)) (omega arith, omega arith);
+  bytes = record { first = request_bytes Empty; second = no_bytes; third = no_bytes; fourth = no_bytes };
+  read = payload_read (request Empty) (omega arith, (omega arith, tt)) (omega arith, omega arith);
+}
+request_sent Authorizer = record {
+  fits = record { tag_from = omega arith; tag_to = omega arith; count = omega arith; first = omega arith; second = omega arith; third = omega arith; fourth = omega arith };
+  bytes = record { first = request_bytes Authorizer; second = no_bytes; third = no_bytes; fourth = no_bytes };
+  read = payload_read (request Authorizer) (omega arith, (omega arith, tt)) (omega arith, omega arith);
 }
 
 signature_bytes : All (λ b. b < 256) (payload.text_of signature)
@@ -126,7 +125,7 @@ frame_found c more k =
 -- ---- steps
 
 abbrev pub at : ℕ → Addr → Stage → Option Parts → List ℕ → Standing
-at own seen stage held rest = record { side = Acceptor; entity = own; seen = seen; stage = stage; peer = None; held = held; rest = rest }
+at own seen stage held rest = record { side = Acceptor; auth = Empty; entity = own; seen = seen; stage = stage; peer = None; held = held; rest = rest }
 
 -- the banner is passed, and HELLO is written
 greets : (own : ℕ) (seen : Addr) (more : List ℕ) → step_of (at own seen Banner None (banner_text features ++ more)) ≡ goes (wrote (frame_text (hello own seen))) (at own seen (Waits Hello) None more)
@@ -143,16 +142,16 @@ takes own seen awaited c more k =
     ap (λ (x : Found). step_by (take_frame s x) s) (frame_found c more k)
     ∙ ap (λ (r : List ℕ). goes silent (at own seen (Waits awaited) (Some (control_parts c)) r)) (drop-append_seam (frame_text c) more)
 
-reads_hello : (entity : ℕ) (a : Addr) → IsSent (hello entity a) → after_frame Acceptor Hello (control_parts (hello entity a)) ≡ listens Request
-reads_hello entity a k = ap (after_payload Acceptor Hello) k.read
+reads_hello : (entity : ℕ) (a : Addr) → IsSent (hello entity a) → after_frame Empty Acceptor Hello (control_parts (hello entity a)) ≡ listens Request
+reads_hello entity a k = ap (after_payload Empty Acceptor Hello) k.read
 
-reads_request : after_frame Acceptor Request (control_parts request) ≡ says Signature (frame_text done ++ frame_text signature)
-reads_request = ap (after_payload Acceptor Request) request_sent.read
+reads_request : (auth : AuthPayload) → after_frame Empty Acceptor Request (control_parts (request auth)) ≡ says Signature (frame_text done ++ frame_text signature)
+reads_request auth = ap (after_payload Empty Acceptor Request) (request_sent auth).read
 
-reads_signature : after_frame Acceptor Signature (control_parts signature) ≡ signed
-reads_signature = ap (after_payload Acceptor Signature) signature_sent.read
+reads_signature : after_frame Empty Acceptor Signature (control_parts signature) ≡ signed
+reads_signature = ap (after_payload Empty Acceptor Signature) signature_sent.read
 
-reacts : (own : ℕ) (seen : Addr) (awaited : Awaited) (f : Parts) (more : List ℕ) (r : Reaction) → after_frame Acceptor awaited f ≡ r →
+reacts : (own : ℕ) (seen : Addr) (awaited : Awaited) (f : Parts) (more : List ℕ) (r : Reaction) → after_frame Empty Acceptor awaited f ≡ r →
     course_move (at own seen (Waits awaited) (Some f) more) ≡ after_reaction (at own seen (Waits awaited) (Some f) more) r
 reacts own seen awaited f more r e = ap (after_reaction (at own seen (Waits awaited) (Some f) more)) e
 
@@ -162,15 +161,15 @@ opens own seen bytes = refl
 told : (first second third : List ℕ) → text_of (wrote first ∷ wrote second ∷ silent ∷ silent ∷ silent ∷ wrote third ∷ silent ∷ []) ≡ first ++ (second ++ third)
 told first second third = ap (λ l. first ++ (second ++ l)) (append-nil third)
 
-pub signs_there : (entity own : ℕ) (dialled seen : Addr) (more : List ℕ) → entity < 2 ^ 8 → HasAddrRanges dialled →
-    Signs (acceptor_at_start own seen) (record { bytes = greeting entity dialled more; replies = []; text = welcome own seen; asks = [] }) (at own seen Authed None more)
-signs_there entity own dialled seen more e h =
+pub signs_there : (auth : AuthPayload) (entity own : ℕ) (dialled seen : Addr) (more : List ℕ) → entity < 2 ^ 8 → HasAddrRanges dialled →
+    Signs (acceptor_at_start own seen) (record { bytes = greeting auth entity dialled more; replies = []; text = welcome own seen; asks = [] }) (at own seen Authed None more)
+signs_there auth entity own dialled seen more e h =
     let sent = hello_sent entity dialled e h in
     let third = frame_text signature ++ more in
-    let second = frame_text request ++ third in
+    let second = frame_text (request auth) ++ third in
     let first = frame_text (hello entity dialled) ++ second in
     let listening = at own seen (Waits Hello) (Some (control_parts (hello entity dialled))) second in
-    let asked = at own seen (Waits Request) (Some (control_parts request)) third in
+    let asked = at own seen (Waits Request) (Some (control_parts (request auth))) third in
     let last = at own seen (Waits Signature) (Some (control_parts signature)) more in (
       last,
       record {
@@ -189,10 +188,10 @@ signs_there entity own dialled seen more e h =
                 ap (λ m. step_by m listening) (reacts own seen Hello (control_parts (hello entity dialled)) second (listens Request) (reads_hello entity dialled sent)),
                 (
                   asked,
-                  takes own seen Request request third request_sent,
+                  takes own seen Request (request auth) third (request_sent auth),
                   (
                     at own seen (Waits Signature) None third,
-                    ap (λ m. step_by m asked) (reacts own seen Request (control_parts request) third (says Signature (frame_text done ++ frame_text signature)) reads_request),
+                    ap (λ m. step_by m asked) (reacts own seen Request (control_parts (request auth)) third (says Signature (frame_text done ++ frame_text signature)) (reads_request auth)),
                     (last, takes own seen Signature signature more signature_sent, refl),
                   ),
                 ),
@@ -208,4 +207,4 @@ signs_there entity own dialled seen more e h =
     )
 
 pub greeting_is_signed : GreetingIsSigned
-greeting_is_signed entity own dialled seen more e h = (at own seen Authed None more, record { stage = refl; held = refl; rest = refl }, signs_there entity own dialled seen more e h)
+greeting_is_signed auth entity own dialled seen more e h = (at own seen Authed None more, record { stage = refl; held = refl; rest = refl }, signs_there auth entity own dialled seen more e h)

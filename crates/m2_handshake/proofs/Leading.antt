@@ -75,7 +75,7 @@ reaction_leads s awaited f signed q h =
 reaction_leads s awaited f (refuses e) q h = (ap is_faulty q, ap owed q)
 
 held_leads : (s : Standing) (awaited : Awaited) (held : Option Parts) → s.stage ≡ Waits awaited → s.held ≡ held → Leads s (answer_held s awaited held)
-held_leads s awaited (Some f) q h = reaction_leads s awaited f (after_frame s.side awaited f) q h
+held_leads s awaited (Some f) q h = reaction_leads s awaited f (after_frame s.auth s.side awaited f) q h
 held_leads s awaited None q h = take_leads s (found_in s.rest) refl h (ap is_faulty q) (ap owed q)
 
 banner_leads : (s : Standing) (b : BannerStep) → IsStep b s.rest → s.stage ≡ Banner → Leads s (after_banner s b)

@@ -65,7 +65,7 @@ asking_moves s (Ok (ask, main)) = refl
 asking_moves s (Err f) = refl
 
 held_stays : (s : Standing) (awaited : Awaited) (held : Option Parts) → is_stays (answer_held s awaited held) ≡ is_start held (found_in s.rest)
-held_stays s awaited (Some f) = reaction_moves s (after_frame s.side awaited f)
+held_stays s awaited (Some f) = reaction_moves s (after_frame s.auth s.side awaited f)
 held_stays s awaited None = take_rest s (found_in s.rest)
 
 pub held_rest : (s : Standing) (awaited : Awaited) → is_stays (answer_held s awaited s.held) ≡ is_start s.held (found_in s.rest)

@@ -43,7 +43,7 @@ reaction_later s more signed = refl
 reaction_later s more (refuses f) = refl
 
 held_later : (s : Standing) (more : List ℕ) (awaited : Awaited) (held : Option Parts) → answer_held s awaited held ≢ stays → later more (answer_held s awaited held) ≡ answer_held (grown more s) awaited held
-held_later s more awaited (Some f) n = reaction_later s more (after_frame s.side awaited f)
+held_later s more awaited (Some f) n = reaction_later s more (after_frame s.auth s.side awaited f)
 held_later s more awaited None n = take_later s more (found_in s.rest) refl n
 
 -- ---- banners

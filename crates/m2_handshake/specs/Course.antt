@@ -4,6 +4,7 @@ use Rattle.std.specs.Prelude.{◌≡◌, ℕ, suc, ◌+◌, List, [], ◌∷◌,
 use Rattle.std.specs.List.{flat_map}
 use Rattle.m2_addr.specs.declared.addr.Addr.{Addr}
 use Rattle.m2_control.specs.declared.control.Control.{Control}
+use Rattle.m2_policy.specs.declared.rules.AuthPayload.{AuthPayload}
 use Rattle.m2_handshake.specs.declared.ask.Ask.{Ask}
 use Rattle.m2_handshake.specs.declared.fault.HalfFault.{HalfFault}
 use Rattle.m2_handshake.specs.declared.stage.HalfSide.{HalfSide}
@@ -152,8 +153,8 @@ abbrev pub course_of : Standing → List Control → Course
 course_of s cs = course_by (steps_left s + length cs) (next_of s cs) s
 
 -- an opener that is fed these bytes, and an acceptor that is fed these and given these replies
-abbrev pub opener_course : ℕ → Addr → List ℕ → Course
-opener_course entity dialled bytes = course_of (fed (opener_at_start entity dialled) bytes) []
+abbrev pub opener_course : AuthPayload → ℕ → Addr → List ℕ → Course
+opener_course auth entity dialled bytes = course_of (fed (opener_at_start auth entity dialled) bytes) []
 
 abbrev pub acceptor_course : ℕ → Addr → List ℕ → List Control → Course
 acceptor_course entity seen bytes replies = course_of (fed (acceptor_at_start entity seen) bytes) replies

@@ -9,6 +9,7 @@ use Rattle.m2_control.specs.declared.control.Control.TheVariants as control
 use Rattle.m2_control.specs.Banner.{banner_text}
 use Rattle.m2_control.specs.Control as payload
 use Rattle.m2_control.specs.Laws.{HasAddrRanges, HasRanges, IsInBounds}
+use Rattle.m2_policy.specs.declared.rules.AuthPayload.{AuthPayload}
 use Rattle.m2_handshake.specs.declared.ask.Ask.{Ask}
 use Rattle.m2_handshake.specs.declared.ask.Ask.TheVariants.{Ident, Reconnect}
 use Rattle.m2_handshake.specs.declared.ask.AskStep.{AskStep}
@@ -21,9 +22,9 @@ use Rattle.m2_handshake.specs.Moves.{features, ask_move_of, can_ask, is_authed, 
 use Rattle.m2_handshake.specs.Standing.{Standing, acceptor_at_start, opener_at_start}
 use Rattle.m2_handshake.specs.Texts.{frame_text, hello, request, done, signature}
 
--- an opener's banner, HELLO, AUTH_REQUEST and AUTH_SIGNATURE, and then what follows them
-abbrev pub greeting : ℕ → Addr → List ℕ → List ℕ
-greeting entity dialled more = banner_text features ++ (frame_text (hello entity dialled) ++ (frame_text request ++ (frame_text signature ++ more)))
+-- an opener's banner, HELLO, AUTH_REQUEST with this payload and AUTH_SIGNATURE, and then what follows them
+abbrev pub greeting : AuthPayload → ℕ → Addr → List ℕ → List ℕ
+greeting auth entity dialled more = banner_text features ++ (frame_text (hello entity dialled) ++ (frame_text (request auth) ++ (frame_text signature ++ more)))
 
 -- an acceptor's banner, HELLO, AUTH_DONE and AUTH_SIGNATURE
 abbrev pub welcome : ℕ → Addr → List ℕ
@@ -33,11 +34,11 @@ welcome entity seen = banner_text features ++ (frame_text (hello entity seen) ++
 
 -- Whatever an opener is fed, where it signs it has written its greeting and nothing more, and so it is from then on.
 pub record OpenerGreets : Type 0 where
-  pub signs : (entity : ℕ) (dialled : Addr) (x : Exchange) (s : Standing) → Signs (opener_at_start entity dialled) x s → x.text ≡ greeting entity dialled []
-  pub signed : (entity : ℕ) (dialled : Addr) (x : Exchange) (s : Standing) → Reaches (opener_at_start entity dialled) x s → is_authed s.stage ≡ true →
-      x.text ≡ greeting entity dialled []
-  pub computed : (entity : ℕ) (dialled : Addr) (bytes : List ℕ) → is_authed (opener_course entity dialled bytes).standing.stage ≡ true →
-      text_of (opener_course entity dialled bytes).events ≡ greeting entity dialled []
+  pub signs : (auth : AuthPayload) (entity : ℕ) (dialled : Addr) (x : Exchange) (s : Standing) → Signs (opener_at_start auth entity dialled) x s → x.text ≡ greeting auth entity dialled []
+  pub signed : (auth : AuthPayload) (entity : ℕ) (dialled : Addr) (x : Exchange) (s : Standing) → Reaches (opener_at_start auth entity dialled) x s → is_authed s.stage ≡ true →
+      x.text ≡ greeting auth entity dialled []
+  pub computed : (auth : AuthPayload) (entity : ℕ) (dialled : Addr) (bytes : List ℕ) → is_authed (opener_course auth entity dialled bytes).standing.stage ≡ true →
+      text_of (opener_course auth entity dialled bytes).events ≡ greeting auth entity dialled []
 
 -- ---- what an acceptor makes of it
 
@@ -47,11 +48,12 @@ pub record HasSigned (s : Standing) (more : List ℕ) : Type 0 where
   pub held : s.held ≡ None
   pub rest : s.rest ≡ more
 
--- An acceptor that is fed what an opener writes signs, having written its welcome, with exactly what follows unread.
+-- An acceptor that is fed what an opener writes signs, whatever payload that has chosen, having written its welcome,
+-- with exactly what follows unread.
 abbrev pub GreetingIsSigned : Type 0
-GreetingIsSigned = (entity own : ℕ) (dialled seen : Addr) (more : List ℕ) → entity < 2 ^ 8 → HasAddrRanges dialled →
+GreetingIsSigned = (auth : AuthPayload) (entity own : ℕ) (dialled seen : Addr) (more : List ℕ) → entity < 2 ^ 8 → HasAddrRanges dialled →
     (s : Standing) × HasSigned s more
-    × Signs (acceptor_at_start own seen) (record { bytes = greeting entity dialled more; replies = []; text = welcome own seen; asks = [] }) s
+    × Signs (acceptor_at_start own seen) (record { bytes = greeting auth entity dialled more; replies = []; text = welcome own seen; asks = [] }) s
 
 -- ---- and of the ask behind it
 
@@ -112,5 +114,5 @@ pub record IsGreeted (own : ℕ) (seen : Addr) (bytes : List ℕ) (b : Behind) :
 -- What an opener has written when it signed, and behind it the frame of its ask, are read by an acceptor as signed and then
 -- as exactly this ask.
 abbrev pub GreetingIsAsked : Type 0
-GreetingIsAsked = (entity own : ℕ) (dialled seen : Addr) (b : Behind) (x : Exchange) (opener : Standing) → entity < 2 ^ 8 → HasAddrRanges dialled → KeepsBounds b.ask →
-    Reaches (opener_at_start entity dialled) x opener → is_authed opener.stage ≡ true → IsGreeted own seen (x.text ++ text_behind b) b
+GreetingIsAsked = (auth : AuthPayload) (entity own : ℕ) (dialled seen : Addr) (b : Behind) (x : Exchange) (opener : Standing) → entity < 2 ^ 8 → HasAddrRanges dialled → KeepsBounds b.ask →
+    Reaches (opener_at_start auth entity dialled) x opener → is_authed opener.stage ≡ true → IsGreeted own seen (x.text ++ text_behind b) b

@@ -64,7 +64,7 @@ after_reaction s signed = signs (record s { stage = Authed; held = None })
 after_reaction s (refuses f) = fails f
 
 abbrev pub answer_held : Standing → Awaited → Option Parts → Move
-answer_held s awaited (Some f) = after_reaction s (after_frame s.side awaited f)
+answer_held s awaited (Some f) = after_reaction s (after_frame s.auth s.side awaited f)
 answer_held s awaited None = take_frame s (found_in s.rest)
 
 -- ---- a half's next move in the handshake, by its stage

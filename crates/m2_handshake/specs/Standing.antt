@@ -5,16 +5,19 @@ use Rattle.m2_bytes.specs.Blob.{Contents}
 use Rattle.m2_frame.specs.declared.frame.Frame.{Frame}
 use Rattle.m2_frame.specs.Frame.{Parts, parts}
 use Rattle.m2_frame.specs.Position.{Position}
+use Rattle.m2_policy.specs.declared.rules.AuthPayload.{AuthPayload}
+use Rattle.m2_policy.specs.declared.rules.AuthPayload.TheVariants.{Empty}
 use Rattle.m2_handshake.specs.declared.fault.HalfFault.{HalfFault}
 use Rattle.m2_handshake.specs.declared.stage.HalfSide.{HalfSide}
 use Rattle.m2_handshake.specs.declared.stage.HalfSide.TheVariants.{Opener, Acceptor}
 use Rattle.m2_handshake.specs.declared.stage.Stage.{Stage}
 use Rattle.m2_handshake.specs.declared.stage.Stage.TheVariants.{Opening, Banner, Waits, Authed, Ended, Faulty}
 
--- the side, what its HELLO says, its stage, the address of its first ask, a frame that is read and not answered
--- yet, and the bytes that are unread
+-- the side, what its AUTH_REQUEST carries where it opened, what its HELLO says, its stage, the address of its first
+-- ask, a frame that is read and not answered yet, and the bytes that are unread
 pub record Standing : Type 0 where
   pub side : HalfSide
+  pub auth : AuthPayload
   pub entity : ℕ
   pub seen : Addr
   pub stage : Stage
@@ -22,16 +25,17 @@ pub record Standing : Type 0 where
   pub held : Option Parts
   pub rest : List ℕ
 
--- ---- where each side begins, by its entity and the address that it knows of the other
+-- ---- where each side begins, by its entity and the address that it knows of the other, and an opener by what its
+-- AUTH_REQUEST carries too
 
-abbrev pub at_start : HalfSide → ℕ → Addr → Standing
-at_start side entity seen = record { side = side; entity = entity; seen = seen; stage = Opening; peer = None; held = None; rest = [] }
+abbrev pub at_start : HalfSide → AuthPayload → ℕ → Addr → Standing
+at_start side auth entity seen = record { side = side; auth = auth; entity = entity; seen = seen; stage = Opening; peer = None; held = None; rest = [] }
 
-abbrev pub opener_at_start : ℕ → Addr → Standing
+abbrev pub opener_at_start : AuthPayload → ℕ → Addr → Standing
 opener_at_start = at_start Opener
 
 abbrev pub acceptor_at_start : ℕ → Addr → Standing
-acceptor_at_start = at_start Acceptor
+acceptor_at_start = at_start Acceptor Empty
 
 -- ---- more bytes, and a fault
 

@@ -12,6 +12,8 @@ use Rattle.m2_frame.specs.Tags.{tag_number}
 use Rattle.m2_control.specs.Control as payload
 use Rattle.m2_control.specs.Fields.{blob, listed}
 use Rattle.m2_frame.specs.Frame.{Parts}
+use Rattle.m2_policy.specs.declared.rules.AuthPayload.{AuthPayload}
+use Rattle.m2_policy.specs.declared.rules.AuthPayload.TheVariants.{Empty, Authorizer}
 use Rattle.m2_handshake.specs.declared.texts.TheConstants.{NONE, CRC, NOT_SUPPORTED}
 use Rattle.m2_frame.specs.Text as frame
 
@@ -26,8 +28,17 @@ frame_text c = frame.text_of (control_parts c)
 abbrev pub hello : ℕ → Addr → Control
 hello entity seen = control.Hello (record { entity = entity; seen = V4 seen })
 
-abbrev pub request : Control
-request = control.AuthRequest (record { method = NONE; modes = listed (CRC ∷ []); payload = blob [] })
+-- an authorizer of the method that asks for none: its version 1, the entity type 8 in four bytes, the length of an id
+-- of no bytes in four, and global id 0 in eight
+abbrev pub authorizer : List ℕ
+authorizer = 1 ∷ 8 ∷ 0 ∷ 0 ∷ 0 ∷ 0 ∷ 0 ∷ 0 ∷ 0 ∷ 0 ∷ 0 ∷ 0 ∷ 0 ∷ 0 ∷ 0 ∷ 0 ∷ 0 ∷ []
+
+abbrev pub auth_bytes : AuthPayload → List ℕ
+auth_bytes Empty = []
+auth_bytes Authorizer = authorizer
+
+abbrev pub request : AuthPayload → Control
+request auth = control.AuthRequest (record { method = NONE; modes = listed (CRC ∷ []); payload = blob (auth_bytes auth) })
 
 abbrev pub done : Control
 done = control.AuthDone (record { global_id = 0; mode = CRC; payload = blob [] })

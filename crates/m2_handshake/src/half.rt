@@ -23,6 +23,7 @@ use m2_addr::Addr;
 use m2_bytes::{Blob, NoMemory};
 use m2_control::{Banner, BannerStep, Control, read_banner, write_banner};
 use m2_frame::{Decoder, Frame};
+use m2_policy::AuthPayload;
 use std::alloc::Global;
 use std::marker::Model;
 
@@ -47,6 +48,7 @@ const FEATURES: Banner = Banner {
 pub struct Half {
     alloc: Global,
     side: HalfSide,
+    auth: AuthPayload,
     entity: u8,
     seen: Addr,
     stage: Stage,
@@ -65,6 +67,7 @@ impl Model for Half {
     ghost view = { λ h. record {
       standing = record {
         side = h.side;
+        auth = h.auth;
         entity = h.entity;
         seen = h.seen;
         stage = h.stage;
@@ -79,6 +82,7 @@ impl Model for Half {
     ghost invariant = { λ h. Holds (record {
       standing = record {
         side = h.side;
+        auth = h.auth;
         entity = h.entity;
         seen = h.seen;
         stage = h.stage;
@@ -92,11 +96,12 @@ impl Model for Half {
 }
 
 impl Half {
-    /// The side that connected. Its HELLO names this entity, and the address that was dialled.
-    pub fn client(alloc: Global, entity: u8, seen: Addr) -> Half
-        ensures { result.standing ≡ opener_at_start entity seen }
+    /// The side that connected. Its AUTH_REQUEST carries this, and its HELLO names this entity, and the
+    /// address that was dialled.
+    pub fn client(alloc: Global, auth: AuthPayload, entity: u8, seen: Addr) -> Half
+        ensures { result.standing ≡ opener_at_start auth entity seen }
     {
-        Half::new(alloc, HalfSide::Opener, entity, seen)
+        Half::new(alloc, HalfSide::Opener, auth, entity, seen)
     }
 
     /// The side that accepted. Its HELLO names this entity, and the address of the socket with the
@@ -104,15 +109,16 @@ impl Half {
     pub fn server(alloc: Global, entity: u8, seen: Addr) -> Half
         ensures { result.standing ≡ acceptor_at_start entity seen }
     {
-        Half::new(alloc, HalfSide::Acceptor, entity, seen)
+        Half::new(alloc, HalfSide::Acceptor, AuthPayload::Empty, entity, seen)
     }
 
-    fn new(alloc: Global, side: HalfSide, entity: u8, seen: Addr) -> Half
-        ensures { result.standing ≡ at_start side entity seen }
+    fn new(alloc: Global, side: HalfSide, auth: AuthPayload, entity: u8, seen: Addr) -> Half
+        ensures { result.standing ≡ at_start side auth entity seen }
     {
         Half {
             alloc,
             side,
+            auth,
             entity,
             seen,
             stage: Stage::Opening,
@@ -412,7 +418,7 @@ impl Half {
             self.take_frame()?;
             return Ok(Progress::On);
         };
-        let turn = react(self.alloc, self.side, awaited, frame)?;
+        let turn = react(self.alloc, self.auth, self.side, awaited, frame)?;
         self.follow(turn, out)
     }
 

@@ -80,8 +80,8 @@ pub fn an_opener_writes_its_greeting()
     ensures { OpenerGreets }
 {}
 
-/// What an opener writes until it has signed is read by an acceptor as signed, with exactly what follows,
-/// its ask, unread.
+/// What an opener writes until it has signed, whatever its AUTH_REQUEST carries, is read by an acceptor as
+/// signed, with exactly what follows, its ask, unread.
 pub fn a_greeting_is_signed()
     ensures { GreetingIsSigned }
 {}

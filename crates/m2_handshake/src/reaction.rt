@@ -19,6 +19,7 @@ use crate::texts::{CRC, NONE, put_bad_method, put_done, put_request, put_signatu
 use m2_bytes::Blob;
 use m2_control::{AuthRequest, Control, ControlFault, SIGNATURE_BYTES};
 use m2_frame::{Frame, Tag};
+use m2_policy::AuthPayload;
 use std::alloc::Global;
 
 /// What a half does with an awaited frame.
@@ -95,14 +96,19 @@ fn refusal(awaited: Awaited, tag: u8) -> HalfFault
 }
 
 /// What HELLO brings.
-fn after_hello(alloc: Global, side: HalfSide, control: &Control) -> Result<Turn, Halt>
-    ensures { GivesTurn result (after side awaits.Hello (bare control.now)) }
+fn after_hello(
+    alloc: Global,
+    auth: AuthPayload,
+    side: HalfSide,
+    control: &Control,
+) -> Result<Turn, Halt>
+    ensures { GivesTurn result (after auth side awaits.Hello (bare control.now)) }
 {
     match control {
         Control::Hello(_) => match side {
             HalfSide::Opener => {
                 let mut text = Blob::empty(alloc);
-                put_request(alloc, &mut text)?;
+                put_request(alloc, auth, &mut text)?;
                 Ok(Turn::Says(Awaited::Done, text))
             }
             HalfSide::Acceptor => Ok(Turn::Listens(Awaited::Request)),
@@ -112,8 +118,13 @@ fn after_hello(alloc: Global, side: HalfSide, control: &Control) -> Result<Turn,
 }
 
 /// What AUTH_REQUEST brings.
-fn after_request(alloc: Global, side: HalfSide, control: &Control) -> Result<Turn, Halt>
-    ensures { GivesTurn result (after side awaits.Request (bare control.now)) }
+fn after_request(
+    alloc: Global,
+    auth: AuthPayload,
+    side: HalfSide,
+    control: &Control,
+) -> Result<Turn, Halt>
+    ensures { GivesTurn result (after auth side awaits.Request (bare control.now)) }
 {
     match control {
         Control::AuthRequest(request) => {
@@ -132,8 +143,13 @@ fn after_request(alloc: Global, side: HalfSide, control: &Control) -> Result<Tur
 }
 
 /// What AUTH_DONE brings.
-fn after_done(alloc: Global, side: HalfSide, control: &Control) -> Result<Turn, Halt>
-    ensures { GivesTurn result (after side awaits.Done (bare control.now)) }
+fn after_done(
+    alloc: Global,
+    auth: AuthPayload,
+    side: HalfSide,
+    control: &Control,
+) -> Result<Turn, Halt>
+    ensures { GivesTurn result (after auth side awaits.Done (bare control.now)) }
 {
     match control {
         Control::AuthDone(done) => {
@@ -149,8 +165,8 @@ fn after_done(alloc: Global, side: HalfSide, control: &Control) -> Result<Turn, 
 }
 
 /// What AUTH_SIGNATURE brings.
-fn after_signature(side: HalfSide, control: &Control) -> Result<Turn, Halt>
-    ensures { GivesTurn result (after side awaits.Signature (bare control.now)) }
+fn after_signature(auth: AuthPayload, side: HalfSide, control: &Control) -> Result<Turn, Halt>
+    ensures { GivesTurn result (after auth side awaits.Signature (bare control.now)) }
 {
     match control {
         Control::AuthSignature(signature) => {
@@ -174,28 +190,36 @@ fn unexpected(control: &Control) -> Halt
 /// What a payload brings.
 fn after_control(
     alloc: Global,
+    auth: AuthPayload,
     side: HalfSide,
     awaited: Awaited,
     control: &Control,
 ) -> Result<Turn, Halt>
-    ensures { GivesTurn result (after side awaited (bare control.now)) }
+    ensures { GivesTurn result (after auth side awaited (bare control.now)) }
 {
     match awaited {
-        Awaited::Hello => after_hello(alloc, side, control),
-        Awaited::Request => after_request(alloc, side, control),
-        Awaited::Done => after_done(alloc, side, control),
-        Awaited::Signature => after_signature(side, control),
+        Awaited::Hello => after_hello(alloc, auth, side, control),
+        Awaited::Request => after_request(alloc, auth, side, control),
+        Awaited::Done => after_done(alloc, auth, side, control),
+        Awaited::Signature => after_signature(auth, side, control),
     }
 }
 
-/// What a whole frame brings: its tag is looked at, and then its payload is read.
-pub fn react(alloc: Global, side: HalfSide, awaited: Awaited, frame: &Frame) -> Result<Turn, Halt>
-    ensures { GivesTurn result (after_frame side awaited (parts frame.now)) }
+/// What a whole frame brings at a half whose AUTH_REQUEST carries this: its tag is looked at, and then its
+/// payload is read.
+pub fn react(
+    alloc: Global,
+    auth: AuthPayload,
+    side: HalfSide,
+    awaited: Awaited,
+    frame: &Frame,
+) -> Result<Turn, Halt>
+    ensures { GivesTurn result (after_frame auth side awaited (parts frame.now)) }
 {
     let tag = tag_of(awaited);
     if frame.tag != tag.number() {
         return Err(Halt::Fault(refusal(awaited, frame.tag)));
     }
     let control = read_control(alloc, tag, frame.first.as_slice())?;
-    after_control(alloc, side, awaited, &control)
+    after_control(alloc, auth, side, awaited, &control)
 }

@@ -3,7 +3,7 @@
 ghost use Rattle.std.specs.Prelude.{◌≡◌, ◌≤◌, ◌∷◌, [], length, IfOk};
 ghost use Rattle.m2_control.specs.Control.{IsWritable, text_of};
 ghost use Rattle.m2_frame.specs.declared.frame.TheConstants.{CONTROL_LIMIT};
-ghost use Rattle.m2_handshake.specs.Texts.{Adds, IsReply, frame_text, hello, request, done, signature, bad_method};
+ghost use Rattle.m2_handshake.specs.Texts.{Adds, IsReply, frame_text, hello, auth_bytes, request, done, signature, bad_method};
 
 use m2_addr::{Addr, AnyAddr};
 use m2_bytes::{Blob, NoMemory};
@@ -11,6 +11,7 @@ use m2_control::{
     AuthBadMethod, AuthDone, AuthRequest, AuthSignature, Control, Hello, NumList, SIGNATURE_BYTES,
 };
 use m2_frame::{Frame, encode};
+use m2_policy::AuthPayload;
 use std::alloc::Global;
 
 /// The method of authentication that asks for none.
@@ -21,6 +22,9 @@ pub const CRC: u32 = 1;
 
 /// What AUTH_BAD_METHOD answers: -EOPNOTSUPP.
 pub const NOT_SUPPORTED: i32 = -95;
+
+/// An authorizer of the method that asks for none: its version, a client, an id of no bytes, and global id 0.
+const AUTHORIZER: [u8; 17] = [1, 8, 0, 0, 0, 0, 0, 0, 0, 0, 0, 0, 0, 0, 0, 0, 0];
 
 /// The signature of crc mode.
 const UNSIGNED: [u8; SIGNATURE_BYTES] = [0; SIGNATURE_BYTES];
@@ -65,14 +69,25 @@ pub fn put_hello(alloc: Global, entity: u8, seen: Addr, out: &mut Blob) -> Resul
     put_frame(alloc, &hello, out)
 }
 
+/// What AUTH_REQUEST carries beside its method and modes.
+fn auth_payload(alloc: Global, auth: AuthPayload) -> Result<Blob, NoMemory>
+    ensures exact { IfOk result (λ b. b.bytes ≡ auth_bytes auth) }
+    ensures few { IfOk result (λ b. length b.bytes ≤ 17) }
+{
+    match auth {
+        AuthPayload::Empty => Ok(Blob::empty(alloc)),
+        AuthPayload::Authorizer => Blob::of(alloc, &AUTHORIZER),
+    }
+}
+
 /// Appends AUTH_REQUEST.
-pub fn put_request(alloc: Global, out: &mut Blob) -> Result<(), NoMemory>
-    ensures { Adds result out.old out.new (frame_text request) }
+pub fn put_request(alloc: Global, auth: AuthPayload, out: &mut Blob) -> Result<(), NoMemory>
+    ensures { Adds result out.old out.new (frame_text (request auth)) }
 {
     let request = Control::AuthRequest(AuthRequest {
         method: NONE,
         modes: only(alloc, CRC)?,
-        payload: Blob::empty(alloc),
+        payload: auth_payload(alloc, auth)?,
     });
     put_frame(alloc, &request, out)
 }

@@ -47,9 +47,9 @@ use Rattle.m2_fabric.proofs.Sockets.{same_refl}
 
 none_asked : (f : SideFacts) → KeepsRanges f → (t : TrailNow) (x : Exchange) (s : Standing) → Reaches (begins t) x s → x.bytes ≡ [] → x.asks ≡ []
 none_asked f named t x s comes given =
-    at (accepts f t.entity (trail.opener_of t.socket) [] [] (greeting f.node.entity f.peer []) x s named.entity named.peer tt refl comes given)
+    at (accepts f t.entity (trail.opener_of t.socket) [] [] (greeting f.node.rules.auth f.node.entity f.peer []) x s named.entity named.peer tt refl comes given)
   where
-    at : HasWelcomed t.entity (trail.opener_of t.socket) x ⊎ IsAskedSo f t.entity (trail.opener_of t.socket) [] (greeting f.node.entity f.peer []) x s → x.asks ≡ []
+    at : HasWelcomed t.entity (trail.opener_of t.socket) x ⊎ IsAskedSo f t.entity (trail.opener_of t.socket) [] (greeting f.node.rules.auth f.node.entity f.peer []) x s → x.asks ≡ []
     at (inl w) = w.asks
     at (inr i) = no_map as_asked x.asks (i.asks ∙ ap (map ask_of) (empty_front i.used i.left (sym i.all)))
 

@@ -45,7 +45,7 @@ Changes change = (s : State) → Stays s (change s)
 
 handed-more : (ds : List Delivery) (d : Delivery) → handed (d ∷ []) ≡ [] → handed (ds ++ d ∷ []) ≡ handed ds
 handed-more [] d e = e
-handed-more (state.letter n k m ∷ ds) d e = ap (λ l. keyed k m ∷ l) (handed-more ds d e)
+handed-more (state.letter n life k m ∷ ds) d e = ap (λ l. keyed k m ∷ l) (handed-more ds d e)
 handed-more (state.discarded ∷ ds) d e = handed-more ds d e
 handed-more (state.remote_reset ∷ ds) d e = handed-more ds d e
 
@@ -64,7 +64,7 @@ discards-stays : Changes discards
 discards-stays s = record { steps = refl; handed = handed-more s.deliveries state.discarded refl }
 
 sets_back-stays : Changes sets_back
-sets_back-stays s = let it = feed-stays s.feed lowers (record s { last = 0 }) (λ d t. record { steps = refl; handed = refl }) in record { steps = it.steps; handed = it.handed }
+sets_back-stays s = let it = feed-stays s.feed lowers (record s { last = 0; life = s.session.server_cookie }) (λ d t. record { steps = refl; handed = refl }) in record { steps = it.steps; handed = it.handed }
 
 requeue-stays : Changes (queues Requeue)
 requeue-stays s = record { steps = refl; handed = refl }

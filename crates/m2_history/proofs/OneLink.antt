@@ -62,11 +62,11 @@ abbrev count : ℕ
 count = length banner
 
 abbrev near_end : SeenEnd
-near_end = record { id = k; log = record { got = []; put = banner; runs = run.Wrote count ∷ []; closed = false; dry = false; blocked = false; ended = false }; faults = 0; inflow = None }
+near_end = record { id = k; log = record { got = []; put = banner; runs = run.Wrote count ∷ []; closed = false; dry = false; blocked = false; ended = false }; faults = 0; left = None; inflow = None }
 
 abbrev half : LooseNow
 half = record {
-  end = record { id = k; log = record { got = banner; put = []; runs = run.Read count ∷ []; closed = false; dry = false; blocked = false; ended = false }; faults = 0; inflow = None };
+  end = record { id = k; log = record { got = banner; put = []; runs = run.Read count ∷ []; closed = false; dry = false; blocked = false; ended = false }; faults = 0; left = None; inflow = None };
   trail = record { socket = k; entity = 4; entries = entry.Read k count ∷ []; judged = []; judged_after = [] };
 }
 

@@ -50,6 +50,7 @@ fn add_one(all: &mut MessageList, call: &Logged, peer: u32, key: Key) -> Result<
             peer: from,
             key: its_key,
             number: _,
+            life: _,
             message,
         } => {
             let same_key = is_key(*its_key, key);

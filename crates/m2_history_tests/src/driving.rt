@@ -11,7 +11,7 @@ use m2_bytes::{Blob, NoMemory};
 use m2_fabric::News;
 use m2_journal::{NodeFacts, PlanStep};
 use m2_message::{Header, Message};
-use m2_policy::{FastSet, lossless_peer};
+use m2_policy::{FastSet, lossless_peer, profile};
 use m2_record_trace::{Pair, Side, Which};
 use std::alloc::Global;
 
@@ -99,6 +99,7 @@ fn facts(number: u8) -> NodeFacts
         first_wait: 1,
         most_wait: 8,
         salt: 7,
+        rules: profile(),
     }
 }
 

@@ -306,6 +306,7 @@ fn call<'a>(log: &'a LoggedList, key: Key, behind: usize) -> Option<&'a Message>
             peer: _,
             key: its_key,
             number: _,
+            life: _,
             message,
         } = call
         {

@@ -50,6 +50,7 @@ abbrev a_broken : State
 a_broken = record (start facts_of_a) {
   session = record (absent facts_of_a) { phase = Wait; client_cookie = cookie_of facts_of_a 1; server_cookie = cookie_of facts_of_b 1; peer_global = 1; lost_ready = true };
   out = kept_of_a;
+  life = cookie_of facts_of_b 1;
   steps = 1;
   top = 1;
   opened = socket 1 ∷ [];
@@ -59,6 +60,7 @@ a_broken = record (start facts_of_a) {
 abbrev b_broken : State
 b_broken = record (start facts_of_b) {
   session = record (absent facts_of_b) { phase = Standby; client_cookie = cookie_of facts_of_a 1; server_cookie = cookie_of facts_of_b 1; peer_global = 1; lost_ready = true };
+  life = cookie_of facts_of_b 1;
   top = 1;
   judgements = record { socket = socket 1; item = record { ask = first_ask; answer = Accept } } ∷ [];
   sent = record { socket = socket 1; frame = server_ident (cookie_of facts_of_b 1) 1 } ∷ [];
@@ -72,9 +74,9 @@ a_out : broken.a.out ≡ a_broken.out
 unfolding text_of preamble_text segment_crc after_byte shifted shifted_by judge judge_first judge_later judge_epilogue size_of read_preamble bounded_at cookie_at flag_at numbers_at list_at string_at vector_field tail_at head_at socket_at body_of shape_at addresses_at vector_at header_text
 a_out = refl
 
-a_last : (broken.a.last ≡ a_broken.last) × (broken.a.owes ≡ a_broken.owes) × (broken.a.steps ≡ a_broken.steps) × (broken.a.dials ≡ a_broken.dials) × (broken.a.top ≡ a_broken.top)
+a_last : (broken.a.last ≡ a_broken.last) × (broken.a.life ≡ a_broken.life) × (broken.a.owes ≡ a_broken.owes) × (broken.a.steps ≡ a_broken.steps) × (broken.a.dials ≡ a_broken.dials) × (broken.a.top ≡ a_broken.top)
 unfolding text_of preamble_text segment_crc after_byte shifted shifted_by judge judge_first judge_later judge_epilogue size_of read_preamble bounded_at cookie_at flag_at numbers_at list_at string_at vector_field tail_at head_at socket_at body_of shape_at addresses_at vector_at header_text
-a_last = (refl, refl, refl, refl, refl)
+a_last = (refl, refl, refl, refl, refl, refl)
 
 a_opened : (broken.a.opened ≡ a_broken.opened) × (broken.a.judgements ≡ a_broken.judgements) × (broken.a.feed ≡ a_broken.feed) × (broken.a.spent ≡ a_broken.spent) × (broken.a.deliveries ≡ a_broken.deliveries)
 unfolding text_of preamble_text segment_crc after_byte shifted shifted_by judge judge_first judge_later judge_epilogue size_of read_preamble bounded_at cookie_at flag_at numbers_at list_at string_at vector_field tail_at head_at socket_at body_of shape_at addresses_at vector_at header_text
@@ -85,7 +87,7 @@ unfolding text_of preamble_text segment_crc after_byte shifted shifted_by judge 
 a_sent = refl
 
 a_then : broken.a ≡ a_broken
-a_then = same_state broken.a a_broken a_session a_out a_last.0 a_last.1 a_last.2 a_last.3 a_last.4 a_opened.0 a_opened.1 a_opened.2 a_opened.3 a_sent a_opened.4
+a_then = same_state broken.a a_broken a_session a_out a_last.0 a_last.1 a_last.2 a_last.3 a_last.4 a_last.5 a_opened.0 a_opened.1 a_opened.2 a_opened.3 a_sent a_opened.4
 
 b_then : broken.b ≡ b_broken
 unfolding text_of preamble_text segment_crc after_byte shifted shifted_by judge judge_first judge_later judge_epilogue size_of read_preamble bounded_at cookie_at flag_at numbers_at list_at string_at vector_field tail_at head_at socket_at body_of shape_at addresses_at vector_at header_text
@@ -178,7 +180,7 @@ resumed =
 abbrev again : World
 again = b_does (accepted 1 key) (b_reads 2 1000 (a_writes 2 1000 (a_does (numbered 1) resumed)))
 
-once : (again.b.deliveries ≡ letter 1 key (with_numbers 1 0 hello_message) ∷ []) × (again.a.session.phase ≡ Ready) × (again.b.last ≡ 1)
+once : (again.b.deliveries ≡ letter 1 (cookie_of facts_of_b 1) key (with_numbers 1 0 hello_message) ∷ []) × (again.a.session.phase ≡ Ready) × (again.b.last ≡ 1)
 unfolding text_of preamble_text segment_crc after_byte shifted shifted_by judge judge_first judge_later judge_epilogue size_of read_preamble bounded_at cookie_at flag_at numbers_at list_at string_at vector_field tail_at head_at socket_at body_of shape_at addresses_at vector_at header_text
 once = (refl, refl, refl)
 

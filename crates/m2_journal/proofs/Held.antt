@@ -6,7 +6,6 @@ use Rattle.m2_session.specs.declared.ask.AskFacts.{AskFacts}
 use Rattle.m2_fabric.specs.declared.socket.SocketId.{SocketId}
 use Rattle.m2_fabric.specs.Sockets.{is_among, same_socket}
 use Rattle.m2_handshake.specs.Course.{course_of}
-use Rattle.m2_handshake.specs.Standing.{opener_at_start}
 use Rattle.m2_message.specs.Message.{Content}
 use Rattle.m2_policy.specs.declared.path.Key.{Key}
 use Rattle.m2_queues.specs.OutQueues.{message_at}
@@ -27,7 +26,7 @@ use Rattle.m2_journal.specs.OutFrames.{OutFrame, is_unnamed, replies_of}
 use Rattle.m2_journal.specs.Plan.{Planned, to_post, to_dial, to_go_down}
 use Rattle.m2_journal.specs.Replay.{AreLawful, after_items}
 use Rattle.m2_journal.specs.Said.{Said, says, brings, aborts, garbles}
-use Rattle.m2_journal.specs.SideFacts.{SideFacts, cookie_of}
+use Rattle.m2_journal.specs.SideFacts.{SideFacts, cookie_of, opener_half}
 use Rattle.m2_journal.specs.State.{PartText, Feed, State, start}
 use Rattle.m2_journal.specs.Steps.{accepts, after, answers, breaks, closes, composes, discards, event_heard, event_of, forgets, has_effects, is_on, is_waiting, notes, on_feed_at, posts, puts, puts_on, queues, reads, sends, sends_late, sets_back, takes_answer, takes_answer_if, takes_socket, tells, tells_if, tells_of_reset, where_true, with_feed, without, writes_message}
 use Rattle.m2_journal.proofs.Sockets.{Came, CameSo, Grows, Names, all-kept, all-weaker, among-kept, came_so, distinct-kept, distinct-none, distinct-push, fresh, judgement, more_so, names_of, not_judged, not_taken, taken-append, taken-last}
@@ -246,7 +245,7 @@ after-held f (items.opened k) s law h =
     let t = tells event.Dialled s in
     let g = tells-holds n n event.Dialled s h in
     let d = silent_feed k true t.last t.owes in
-    let c = course_of (opener_at_start f.node.entity f.peer) [] in
+    let c = course_of (opener_half f) [] in
     let new = fresh n k t.spent g.2 law.not_opened (not_judged k s.judgements law.not_judged) in
     stays m m d (goes_on c d) (record t { opened = t.opened ++ k ∷ [] }) (goes_on-same c d)
     (refl, among_last k s.opened, all-weaker (CameSo n) (CameSo m) t.spent (more_so n m (opened-grow n k)) g.2, g.3, new)

@@ -1,6 +1,7 @@
 pub mod Growing
 pub mod Splitting
 pub mod Sessions
+pub mod Lives
 pub mod Paying
 pub mod Answering
 pub mod Pair

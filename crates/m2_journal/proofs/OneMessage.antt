@@ -69,7 +69,7 @@ phases : (delivered.a.session.phase ≡ Ready) × (delivered.b.session.phase ≡
 unfolding text_of preamble_text segment_crc after_byte shifted shifted_by judge judge_first judge_later judge_epilogue size_of read_preamble bounded_at cookie_at flag_at numbers_at list_at string_at vector_field tail_at head_at socket_at body_of shape_at addresses_at vector_at header_text
 phases = (refl, refl)
 
-handed_out : delivered.b.deliveries ≡ letter 1 key (with_numbers 1 0 hello_message) ∷ []
+handed_out : delivered.b.deliveries ≡ letter 1 (cookie_of facts_of_b 1) key (with_numbers 1 0 hello_message) ∷ []
 unfolding text_of preamble_text segment_crc after_byte shifted shifted_by judge judge_first judge_later judge_epilogue size_of read_preamble bounded_at cookie_at flag_at numbers_at list_at string_at vector_field tail_at head_at socket_at body_of shape_at addresses_at vector_at header_text
 handed_out = refl
 
@@ -164,6 +164,6 @@ journal_of_b =
 abbrev sources_of_b : Sources
 sources_of_b = record { plan = []; got = λ k. flat_map bytes_read delivered.of_b; put = λ k. flat_map bytes_put delivered.of_b; runs = λ k. runs_on k journal_of_b; broken = λ k. false; unread = λ k. []; trail = λ k. of_first }
 
-replayed : (replay facts_of_b sources_of_b journal_of_b).deliveries ≡ letter 1 key (with_numbers 1 0 hello_message) ∷ []
+replayed : (replay facts_of_b sources_of_b journal_of_b).deliveries ≡ letter 1 (cookie_of facts_of_b 1) key (with_numbers 1 0 hello_message) ∷ []
 unfolding bytes_read bytes_put journal_of_b text_of preamble_text segment_crc after_byte shifted shifted_by judge judge_first judge_later judge_epilogue size_of read_preamble bounded_at cookie_at flag_at numbers_at list_at string_at vector_field tail_at head_at socket_at body_of shape_at addresses_at vector_at header_text
 replayed = refl

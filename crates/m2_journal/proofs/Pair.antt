@@ -5,6 +5,7 @@ use Rattle.m2_handshake.specs.Course.{Course, course_of, text_of}
 use Rattle.m2_handshake.specs.Standing.{Standing, fed, acceptor_at_start}
 use Rattle.m2_message.specs.Message.{Content}
 use Rattle.m2_policy.specs.Policy.{lossless_peer}
+use Rattle.m2_policy.specs.Rules.{profile}
 use Rattle.m2_fabric.specs.declared.socket.SocketId.{SocketId}
 use Rattle.m2_journal.specs.SideFacts.{SideFacts}
 use Rattle.m2_journal.specs.Feeds.{texts_at}
@@ -32,6 +33,7 @@ facts_of_a = record {
     first_wait = 1;
     most_wait = 1;
     salt = 5;
+    rules = profile;
   };
 }
 
@@ -49,6 +51,7 @@ facts_of_b = record {
     first_wait = 1;
     most_wait = 1;
     salt = 6;
+    rules = profile;
   };
 }
 

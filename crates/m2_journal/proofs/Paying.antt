@@ -4,7 +4,6 @@ use Rattle.std.specs.Prelude.{if◌then◌else◌, ◌&&◌}
 use Rattle.m2_session.specs.declared.ask.AskFacts.{AskFacts}
 use Rattle.m2_fabric.specs.declared.socket.SocketId.{SocketId}
 use Rattle.m2_handshake.specs.Course.{course_of}
-use Rattle.m2_handshake.specs.Standing.{opener_at_start}
 use Rattle.m2_message.specs.Message.{Content}
 use Rattle.m2_policy.specs.declared.path.Key.{Key}
 use Rattle.m2_session.specs.declared.answer.Answer.{Answer}
@@ -23,7 +22,7 @@ use Rattle.m2_journal.specs.Plan.{Planned, to_post, to_dial, to_go_down}
 use Rattle.m2_journal.specs.Replay.{AreLawful, after_items}
 use Rattle.m2_queues.specs.QueueLaws.{Requeue}
 use Rattle.m2_journal.specs.Said.{Said, says, brings, aborts, garbles}
-use Rattle.m2_journal.specs.SideFacts.{SideFacts, cookie_of}
+use Rattle.m2_journal.specs.SideFacts.{SideFacts, cookie_of, opener_half}
 use Rattle.m2_journal.specs.State.{PartText, Feed, State, start}
 use Rattle.m2_journal.specs.Steps.{after, where_true, closes, sets_back, discards, tells_of_reset, has_effects, tells, tells_if, on_feed_at, posts, composes, sends, sends_late, puts_on, puts, reads, event_heard, takes_answer_if, breaks, forgets, is_on, writes_message, accepts, answers, notes, judges, takes_answer, takes_socket, with_feed, is_waiting, event_of, queues, acceptance, acknowledged_by}
 use Rattle.m2_journal.proofs.SameFeed.{SameFeed, goes_on-same, hears-same, takes_answer_if-same}
@@ -155,7 +154,7 @@ after-sound f (items.post place planned) s law h = posts-sound planned (record s
 after-sound f (items.dial planned) s law h = h
 after-sound f (items.opened k) s law h =
     let t = tells event.Dialled s in
-    let c = course_of (opener_at_start f.node.entity f.peer) [] in
+    let c = course_of (opener_half f) [] in
     let d = silent_feed k true t.last t.owes in
     stays d (goes_on c d) t.last t.owes (goes_on-same c d) (fresh d t.last t.owes refl refl)
 after-sound f (items.read k bytes) s law h = at s.feed h

@@ -35,7 +35,7 @@ where_true-keeps : (b : Bool) (change : State → State) (s : State) → (change
 where_true-keeps true change s e = e
 where_true-keeps false change s e = refl
 
-effects-keep : (close requeue back discard remote_reset : Bool) (s : State) →
+pub effects-keep : (close requeue back discard remote_reset : Bool) (s : State) →
     (has_effects (record { close = close; requeue = requeue; set_back = back; discard = discard; remote_reset = remote_reset }) s).session ≡ s.session
 effects-keep close requeue back discard remote_reset s = by_reset remote_reset
   where

@@ -30,5 +30,5 @@ pub not_zero : (n : ℕ) → (n == 0) ≡ false → n ≢ 0
 not_zero n e z = false_isnt_true (sym e ∙ ap (λ m. m == 0) z)
 
 -- states are equal where each field is
-pub same_state : (s t : State) → s.session ≡ t.session → s.out ≡ t.out → s.last ≡ t.last → s.owes ≡ t.owes → s.steps ≡ t.steps → s.dials ≡ t.dials → s.top ≡ t.top → s.opened ≡ t.opened → s.judgements ≡ t.judgements → s.feed ≡ t.feed → s.spent ≡ t.spent → s.sent ≡ t.sent → s.deliveries ≡ t.deliveries → s ≡ t
-same_state s t e0 e1 e2 e3 e4 e5 e6 e7 e8 e9 e10 e11 e12 = rw (e0, e1, e2, e3, e4, e5, e6, e7, e8, e9, e10, e11, e12) refl
+pub same_state : (s t : State) → s.session ≡ t.session → s.out ≡ t.out → s.last ≡ t.last → s.life ≡ t.life → s.owes ≡ t.owes → s.steps ≡ t.steps → s.dials ≡ t.dials → s.top ≡ t.top → s.opened ≡ t.opened → s.judgements ≡ t.judgements → s.feed ≡ t.feed → s.spent ≡ t.spent → s.sent ≡ t.sent → s.deliveries ≡ t.deliveries → s ≡ t
+same_state s t e0 e1 e2 e3 e4 e5 e6 e7 e8 e9 e10 e11 e12 e13 = rw (e0, e1, e2, e3, e4, e5, e6, e7, e8, e9, e10, e11, e12, e13) refl

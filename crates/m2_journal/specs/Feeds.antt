@@ -11,12 +11,12 @@ use Rattle.m2_message.specs.m2_frame.Reading.{Item}
 use Rattle.m2_handshake.specs.Course as hand
 use Rattle.m2_handshake.specs.Course.{Course, course_of}
 use Rattle.m2_handshake.specs.Moves.{is_authed}
-use Rattle.m2_handshake.specs.Standing.{Standing, fed, opener_at_start}
+use Rattle.m2_handshake.specs.Standing.{Standing, fed}
 use Rattle.m2_session.specs.declared.session.Phase.TheVariants.{Ready}
 use Rattle.m2_session.specs.Phases as phase
 use Rattle.m2_journal.specs.OutFrames.{OutFrame, greeting, acknowledgement, keepalive_answer, text_of}
 use Rattle.m2_journal.specs.Said.{Split, split, Said, says, brings, aborts, garbles, said}
-use Rattle.m2_journal.specs.SideFacts.{SideFacts}
+use Rattle.m2_journal.specs.SideFacts.{SideFacts, opener_half}
 use Rattle.m2_journal.specs.State.{PartText, Feed, State}
 
 -- ---- hearing
@@ -64,7 +64,7 @@ silent_feed socket opened last owes = record {
 
 -- a socket that is opened, with the banner to be written
 abbrev pub opened_feed : SideFacts → SocketId → (last : ℕ) → (owes : Bool) → Feed
-opened_feed f socket last owes = goes_on (course_of (opener_at_start f.node.entity f.peer) []) (silent_feed socket true last owes)
+opened_feed f socket last owes = goes_on (course_of (opener_half f) []) (silent_feed socket true last owes)
 
 -- a socket of the peer that is taken, with the bytes that its half had left unread, and up to where its ask acknowledges
 abbrev pub taken_feed : SocketId → (unread : List ℕ) → (resumed : Option ℕ) → (last : ℕ) → (owes : Bool) → Feed

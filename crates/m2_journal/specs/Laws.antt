@@ -17,11 +17,12 @@ use Rattle.m2_handshake.specs.Texts.{frame_text}
 use Rattle.m2_queues.specs.QueueLaws.{Call, History, history_of}
 use Rattle.m2_session.specs.declared.answer.Answer.{Answer}
 use Rattle.m2_session.specs.declared.answer.Answer.TheVariants.{Resume}
+use Rattle.m2_session.specs.declared.event.Event.{Event}
 use Rattle.m2_session.specs.declared.session.Phase.TheVariants.{Ready}
 use Rattle.m2_session.specs.declared.session.Session.{Session}
 use Rattle.m2_session.specs.SessionLaws as session
 use Rattle.m2_session.specs.Phases.{is_among, with_feed}
-use Rattle.m2_session.specs.Steps.{is_lawful}
+use Rattle.m2_session.specs.Steps.{is_lawful, step_of}
 use Rattle.m2_journal.specs.declared.entry.Entry.{Entry}
 use Rattle.m2_journal.specs.Feeds.{first_owed}
 use Rattle.m2_journal.specs.Growth.{Continues}
@@ -46,6 +47,16 @@ IfFed None P = Unit {0}
 -- the replayed session is told the event of each entry, and nothing else changes it
 abbrev pub SessionGoesByTheTable : Type 0
 SessionGoesByTheTable = (f : SideFacts) (i : JournalItem) (s : State) → (after f i s).session ≡ session.told s.session (event_at f i s)
+
+-- The name of a life behind what a session is told: where that sets numbers back, the server cookie that the session keeps then, and
+-- else what it was.
+abbrev pub life_told : Option Event → Session → (life : ℕ) → ℕ
+life_told (Some e) s life = if (step_of s e).effects.set_back then (step_of s e).session.server_cookie else life
+life_told None s life = life
+
+-- a life begins where numbers are set back, and is named there and nowhere else
+abbrev pub LivesBeginWhereNumbersDo : Type 0
+LivesBeginWhereNumbersDo = (f : SideFacts) (i : JournalItem) (s : State) → (after f i s).life ≡ life_told (event_at f i s) s.session s.life
 
 -- there is a feed exactly where the phase is one with a feed
 abbrev pub IsFed : State → Type 0

@@ -1,10 +1,11 @@
 -- What never changes of a record, and what follows from it alone: the session at its start, the cookies that it draws,
--- and what its idents say of its node.
+-- what its idents say of its node, and the half of a socket that it opens.
 use Rattle.std.specs.Prelude.{ℕ, false}
 use Rattle.m2_policy.specs.m2_addr.declared.addr.Addr.{Addr}
 use Rattle.m2_session.specs.declared.frame.Speaker.{Speaker}
 use Rattle.m2_session.specs.Cookies as cookies
 use Rattle.m2_policy.specs.declared.policy.Policy.{Policy}
+use Rattle.m2_handshake.specs.Standing.{Standing, opener_at_start}
 use Rattle.m2_session.specs.declared.session.Session.{Session}
 use Rattle.m2_session.specs.declared.session.Phase.TheVariants.{Absent}
 use Rattle.m2_journal.specs.declared.facts.NodeFacts.{NodeFacts}
@@ -30,12 +31,17 @@ speaker_of f = record {
   lossy = f.policy.lossy;
 }
 
+-- where the half of a socket begins that this side opens
+abbrev pub opener_half : SideFacts → Standing
+opener_half f = opener_at_start f.node.rules.auth f.node.entity f.peer
+
 -- no session is kept
 abbrev pub absent : SideFacts → Session
 absent f = record {
   mine = f.mine;
   peer = f.peer;
   policy = f.policy;
+  rules = f.node.rules;
   phase = Absent;
   client_cookie = 0;
   server_cookie = 0;

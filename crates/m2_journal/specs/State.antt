@@ -43,10 +43,10 @@ pub record Judgement : Type 0 where
   pub socket : SocketId
   pub item : JudgedItem
 
--- what is handed to the dispatcher: a message with its number and key; that those not dispatched yet are thrown away; that
--- the peer has reset the session
+-- what is handed to the dispatcher: a message with its number, the name of the life that it was accepted in, and its key; that
+-- those not dispatched yet are thrown away; that the peer has reset the session
 pub data Delivery : Type 0 where
-  letter : (number : ℕ) → Key → Content → Delivery
+  letter : (number life : ℕ) → Key → Content → Delivery
   discarded : Delivery
   remote_reset : Delivery
 
@@ -62,6 +62,8 @@ pub record State : Type 0 where
   -- the last accepted number, and whether a message was accepted since one was acknowledged
   pub last : ℕ
   pub owes : Bool
+  -- the name of the life that it is in: the server cookie that was kept where numbers were last set back, 0 where none was
+  pub life : ℕ
   -- how many steps of the plan were taken, and whether a dial is still to be made
   pub steps : ℕ
   pub dials : Bool
@@ -83,6 +85,7 @@ start f = record {
   out = start_of (not f.policy.lossy);
   last = 0;
   owes = false;
+  life = 0;
   steps = 0;
   dials = false;
   top = 0;

@@ -78,8 +78,9 @@ where_true false change s = s
 abbrev pub closes : State → State
 closes s = on_feed spends s
 
+-- numbers begin again, and with them a life, which is named by the server cookie that the session keeps now
 abbrev pub sets_back : State → State
-sets_back s = queues Renumber (on_feed lowers (record s { last = 0 }))
+sets_back s = queues Renumber (on_feed lowers (record s { last = 0; life = s.session.server_cookie }))
 
 abbrev pub discards : State → State
 discards s = queues Discard (record s { deliveries = s.deliveries ++ discarded ∷ [] })
@@ -261,7 +262,7 @@ accepts number key (Some (brings m)) d s = record s {
   feed = Some (record d { taken = next_place s.last d + 1 });
   last = number;
   owes = true;
-  deliveries = s.deliveries ++ letter number key m ∷ [];
+  deliveries = s.deliveries ++ letter number s.life key m ∷ [];
 }
 accepts number key _ d s = s
 

@@ -2,7 +2,7 @@
 
 use m2_bytes::Items;
 use m2_message::Message;
-use m2_policy::FastSet;
+use m2_policy::{FastSet, Rules};
 
 /// What a node tells its records.
 #[derive(Debug, Drop)]
@@ -23,6 +23,8 @@ pub struct NodeFacts {
     pub most_wait: u64,
     /// The salt of its cookies, drawn once for a run.
     pub salt: u16,
+    /// The rules that it has chosen.
+    pub rules: Rules,
 }
 
 /// One step of a record's plan.

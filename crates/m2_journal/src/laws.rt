@@ -10,6 +10,13 @@ pub fn session_goes_by_the_table()
     ensures { laws.SessionGoesByTheTable }
 {}
 
+/// A life begins at each entry whose step sets message numbers back, and is named by the server cookie that
+/// the session keeps behind it; nothing else names one.
+#[tactic(auto, using(crate::proofs::Lives::are_named))]
+pub fn lives_begin_where_numbers_do()
+    ensures { laws.LivesBeginWhereNumbersDo }
+{}
+
 /// What a journal is replayed to stays so as the logs of the ends and the plan grow.
 #[tactic(auto, using(crate::proofs::Growing::replays_stay))]
 pub fn replays_stay()

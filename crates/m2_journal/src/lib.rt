@@ -22,6 +22,6 @@ pub use entry::{Entry, EntryList, JudgedItem, JudgedList};
 pub use facts::{NodeFacts, PlanList, PlanStep};
 pub use laws::{
     a_split_is_the_one_reading, a_stream_is_read_in_pieces, acknowledgements_can_be_paid,
-    answers_are_written, events_are_lawful, one_more_entry_leads_on, prefixes_are_the_first_frames,
-    replays_are_sound, replays_stay, session_goes_by_the_table,
+    answers_are_written, events_are_lawful, lives_begin_where_numbers_do, one_more_entry_leads_on,
+    prefixes_are_the_first_frames, replays_are_sound, replays_stay, session_goes_by_the_table,
 };

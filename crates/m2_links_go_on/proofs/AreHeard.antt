@@ -50,7 +50,7 @@ begin_logged heard records fast queued peers none no_fast no_queued = record {
 -- ---- what is heard
 
 pub is_parcel : (x : Parcel) → IsParcelOf x (delivery_of x)
-is_parcel (parcel.Letter l) = (refl, refl, refl)
+is_parcel (parcel.Letter l) = (refl, refl, refl, refl)
 is_parcel (parcel.Discard peer) = tt
 is_parcel (parcel.RemoteReset peer) = tt
 

@@ -66,7 +66,7 @@ writes_same f n None s = refl
 writes_same f n (Some m) s = composes_same f (out.message n s.last m) s
 
 accepts_on : (number : ℕ) (key : _) (o : Option Said) (d : Feed) (s : State) → DeliversOn s (accepts number key o d s)
-accepts_on number key (Some (brings m)) d s = (letter number key m ∷ [], refl)
+accepts_on number key (Some (brings m)) d s = (letter number s.life key m ∷ [], refl)
 accepts_on number key (Some (says c)) d s = on_same s.deliveries
 accepts_on number key (Some aborts) d s = on_same s.deliveries
 accepts_on number key (Some garbles) d s = on_same s.deliveries

@@ -28,7 +28,7 @@ abbrev pub node : SideFacts → (place : ℕ) → NodeNow
 node f place = record { holding = record { port = fresh_port f.mine; records = side f place ∷ []; halves = record { pending = []; loose = [] } }; side = side f place }
 
 agrees : (f : SideFacts) → Agrees (at_start f) (start f)
-agrees f = record { session = refl; queue = refl; last = refl; owes = refl; dials = refl; top = refl; feed = tt; resumed = inl refl }
+agrees f = record { session = refl; queue = refl; last = refl; life = refl; owes = refl; dials = refl; top = refl; feed = tt; resumed = inl refl }
 
 from_here : (k : SocketId) → goes_to there k ≡ true → goes_to here k ≡ false
 from_here k h =

@@ -28,24 +28,24 @@ use Rattle.m2_fabric.proofs.m2_lemmas.Booleans.{both_of_and, false_isnt_true}
 
 pub once-append : (peer : ℕ) (ds es : List Delivery) → heard_at_once peer (ds ++ es) ≡ heard_at_once peer ds ++ heard_at_once peer es
 once-append peer [] es = refl
-once-append peer (state.letter number key m ∷ ds) es = at (is_path key.path Fast) (once-append peer ds es)
+once-append peer (state.letter number life key m ∷ ds) es = at (is_path key.path Fast) (once-append peer ds es)
   where
     at : (b : Bool) → heard_at_once peer (ds ++ es) ≡ heard_at_once peer ds ++ heard_at_once peer es →
-        (if b then hear.message peer key number m ∷ heard_at_once peer (ds ++ es) else heard_at_once peer (ds ++ es))
-        ≡ (if b then hear.message peer key number m ∷ heard_at_once peer ds else heard_at_once peer ds) ++ heard_at_once peer es
-    at true e = ap (λ l. hear.message peer key number m ∷ l) e
+        (if b then hear.message peer key number life m ∷ heard_at_once peer (ds ++ es) else heard_at_once peer (ds ++ es))
+        ≡ (if b then hear.message peer key number life m ∷ heard_at_once peer ds else heard_at_once peer ds) ++ heard_at_once peer es
+    at true e = ap (λ l. hear.message peer key number life m ∷ l) e
     at false e = e
 once-append peer (state.discarded ∷ ds) es = once-append peer ds es
 once-append peer (state.remote_reset ∷ ds) es = once-append peer ds es
 
 pub queued-append : (ds es : List Delivery) → queued_of (ds ++ es) ≡ queued_of ds ++ queued_of es
 queued-append [] es = refl
-queued-append (state.letter number key m ∷ ds) es = at (is_path key.path Fast) (queued-append ds es)
+queued-append (state.letter number life key m ∷ ds) es = at (is_path key.path Fast) (queued-append ds es)
   where
     at : (b : Bool) → queued_of (ds ++ es) ≡ queued_of ds ++ queued_of es →
-        (if b then queued_of (ds ++ es) else state.letter number key m ∷ queued_of (ds ++ es)) ≡ (if b then queued_of ds else state.letter number key m ∷ queued_of ds) ++ queued_of es
+        (if b then queued_of (ds ++ es) else state.letter number life key m ∷ queued_of (ds ++ es)) ≡ (if b then queued_of ds else state.letter number life key m ∷ queued_of ds) ++ queued_of es
     at true e = e
-    at false e = ap (λ l. state.letter number key m ∷ l) e
+    at false e = ap (λ l. state.letter number life key m ∷ l) e
 queued-append (state.discarded ∷ ds) es = ap (λ l. state.discarded ∷ l) (queued-append ds es)
 queued-append (state.remote_reset ∷ ds) es = ap (λ l. state.remote_reset ∷ l) (queued-append ds es)
 
@@ -85,10 +85,10 @@ same_peer place (parcel.RemoteReset peer) h = h
 once_of_peer : (place : ℕ) (x : Parcel) → IsFrom place x → calls_of place (once_in x) ≡ heard_at_once place (delivery_of x ∷ [])
 once_of_peer place (parcel.Letter l) h = at (is_path l.key.path Fast)
   where
-    one : calls_of place (heard_in l ∷ []) ≡ hear.message place l.key l.number (content_of l.message) ∷ []
+    one : calls_of place (heard_in l ∷ []) ≡ hear.message place l.key l.number l.life (content_of l.message) ∷ []
     one = rw h.0 (rw (eq-eqb place place refl) refl)
 
-    at : (b : Bool) → calls_of place (if b then heard_in l ∷ [] else []) ≡ (if b then hear.message place l.key l.number (content_of l.message) ∷ [] else [])
+    at : (b : Bool) → calls_of place (if b then heard_in l ∷ [] else []) ≡ (if b then hear.message place l.key l.number l.life (content_of l.message) ∷ [] else [])
     at true = one
     at false = refl
 once_of_peer place (parcel.Discard peer) h = refl

@@ -105,15 +105,15 @@ with_spot v o p e = ap (λ q. record v { feed = q }) e
 
 thrown_handed : (ds : List Delivery) → handed (ds ++ state.discarded ∷ []) ≡ handed ds
 thrown_handed [] = refl
-thrown_handed (state.letter n key m ∷ ds) = ap (λ l. keyed key m ∷ l) (thrown_handed ds)
+thrown_handed (state.letter n life key m ∷ ds) = ap (λ l. keyed key m ∷ l) (thrown_handed ds)
 thrown_handed (state.discarded ∷ ds) = thrown_handed ds
 thrown_handed (state.remote_reset ∷ ds) = thrown_handed ds
 
-letter_handed : (ds : List Delivery) (n : ℕ) (key : Key) (m : Content) → handed (ds ++ state.letter n key m ∷ []) ≡ handed ds ++ keyed key m ∷ []
-letter_handed [] n key m = refl
-letter_handed (state.letter a b c ∷ ds) n key m = ap (λ l. keyed b c ∷ l) (letter_handed ds n key m)
-letter_handed (state.discarded ∷ ds) n key m = letter_handed ds n key m
-letter_handed (state.remote_reset ∷ ds) n key m = letter_handed ds n key m
+letter_handed : (ds : List Delivery) (n life : ℕ) (key : Key) (m : Content) → handed (ds ++ state.letter n life key m ∷ []) ≡ handed ds ++ keyed key m ∷ []
+letter_handed [] n life key m = refl
+letter_handed (state.letter a u b c ∷ ds) n life key m = ap (λ l. keyed b c ∷ l) (letter_handed ds n life key m)
+letter_handed (state.discarded ∷ ds) n life key m = letter_handed ds n life key m
+letter_handed (state.remote_reset ∷ ds) n life key m = letter_handed ds n life key m
 
 no_cookie : (f : SideFacts) (n : ℕ) → f.policy.lossy ≡ true → cookie_of f n < 2 ^ 64
 no_cookie f n e = rw e (omega arith)
@@ -582,7 +582,7 @@ module _ (f : SideFacts) (s : State) (theirs : List SentFrame) (h : IsLossySide 
           let z = record s { feed = Some d } in
           record {
             move = accepts_one (keyed key m);
-            is = ap₂ n.0 (letter_handed s.deliveries number key m);
+            is = ap₂ n.0 (letter_handed s.deliveries number s.life key m);
             may = record {
               phase = p;
               key = n.2;

@@ -11,7 +11,7 @@ use Rattle.m2_bytes_fit.proofs.Less.{Less, FeedLess, tells_less, tells_if_less}
 use Rattle.m2_journal.specs.m2_handshake.Course as hand
 use Rattle.m2_journal.specs.m2_handshake.Course.{Course, course_of}
 use Rattle.m2_journal.specs.m2_handshake.Moves.{is_authed}
-use Rattle.m2_journal.specs.m2_handshake.Standing.{Standing, fed, opener_at_start}
+use Rattle.m2_journal.specs.m2_handshake.Standing.{Standing, fed}
 use Rattle.m2_journal.specs.Feeds.{acknowledgements, begun, finished, goes_on, greets, hears, hears_at, keepalive_answers, narrowed, next_place, next_said, owed_numbers, silent_feed, split_into, texts_at, unnamed, without_first}
 use Rattle.m2_journal.specs.Items as item
 use Rattle.m2_journal.specs.Items.{JournalItem}
@@ -19,7 +19,7 @@ use Rattle.m2_journal.specs.Laws.{IfFed}
 use Rattle.m2_journal.specs.OutFrames as out
 use Rattle.m2_journal.specs.OutFrames.{OutFrame, is_unnamed, replies_of}
 use Rattle.m2_journal.specs.Said.{split}
-use Rattle.m2_journal.specs.SideFacts.{SideFacts, cookie_of}
+use Rattle.m2_journal.specs.SideFacts.{SideFacts, cookie_of, opener_half}
 use Rattle.m2_journal.specs.State.{PartText, Feed, State}
 use Rattle.m2_journal.specs.Steps.{after, breaks, composes, event_heard, event_of, forgets, is_on, is_waiting, notes, on_feed_at, accepts, posts, puts, puts_on, queues, reads, sends, takes_answer, takes_socket, tells, tells_if, with_feed, writes_message}
 use Rattle.m2_journal.specs.m2_message.Message.{Content}
@@ -143,7 +143,7 @@ named_after f (item.post place planned) s lossy u h = kept_less s (posts planned
 named_after f (item.dial planned) s lossy u h = h
 named_after f (item.opened k) s lossy u h =
     let t = tells event.Dialled s in
-    goes_on_named (course_of (opener_at_start f.node.entity f.peer) []) (silent_feed k true t.last t.owes) tt
+    goes_on_named (course_of (opener_half f) []) (silent_feed k true t.last t.owes) tt
 named_after f (item.read k bytes) s lossy u h = at s.feed h
   where
     at : (o : Option Feed) → IfFed o (λ d. AreNamed d.texts) → NamedKept (on_feed_at o (λ d. reads f (hears bytes d)) s)

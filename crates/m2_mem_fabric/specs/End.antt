@@ -18,7 +18,7 @@ pub record MemSeen : Type 0 where
 
 -- an end before its first call; it tells nothing of what will be readable
 abbrev pub fresh_mem_end : SocketId → SeenEnd
-fresh_mem_end id = record { id = id; log = nothing_done; faults = 0; inflow = None }
+fresh_mem_end id = record { id = id; log = nothing_done; faults = 0; left = None; inflow = None }
 
 -- A read fails exactly where it is planned.
 abbrev pub FailsWhere : Bool → EndRead → Type 0

@@ -47,7 +47,7 @@ impl<R: Wait + Copy> Model for MemEnd<R> {
     ghost Value = { MemSeen };
 
     ghost view = { λ e. record {
-      shows = record { id = e.id; log = log_of e.log; faults = e.faults; inflow = None };
+      shows = record { id = e.id; log = log_of e.log; faults = e.faults; left = None; inflow = None };
       reads = e.reads;
       writes = e.writes;
     } };

@@ -19,7 +19,7 @@ pub record MioSeen : Type 0 where
 
 -- an end before its first call; it tells nothing of what will be readable
 abbrev pub fresh_mio_end : SocketId → SeenEnd
-fresh_mio_end id = record { id = id; log = nothing_done; faults = 0; inflow = None }
+fresh_mio_end id = record { id = id; log = nothing_done; faults = 0; left = None; inflow = None }
 
 -- The bytes that an end got are just those that the system gave; and those that the system took are the first ones
 -- that were put, as many as were sent.

@@ -57,7 +57,7 @@ impl Model for MioEnd {
     ghost Value = { MioSeen };
 
     ghost view = { λ e. record {
-      shows = record { id = e.id; log = log_of e.log; faults = e.faults; inflow = None };
+      shows = record { id = e.id; log = log_of e.log; faults = e.faults; left = None; inflow = None };
       sent = e.sent;
       answers = answers_of e.asked;
     } };

@@ -141,12 +141,12 @@ stands last told m (i ∷ is) (w ∷ vs) h e =
 
 -- ---- the steps
 
-letters-more : (ds : List Delivery) (n : ℕ) (key : Key) (m : Content) → letters
-    (ds ++ state.letter n key m ∷ []) ≡ letters ds ++ unnumbered m ∷ []
-letters-more [] n key m = refl
-letters-more (state.letter k l c ∷ ds) n key m = ap (λ l. unnumbered c ∷ l) (letters-more ds n key m)
-letters-more (state.discarded ∷ ds) n key m = letters-more ds n key m
-letters-more (state.remote_reset ∷ ds) n key m = letters-more ds n key m
+letters-more : (ds : List Delivery) (n life : ℕ) (key : Key) (m : Content) → letters
+    (ds ++ state.letter n life key m ∷ []) ≡ letters ds ++ unnumbered m ∷ []
+letters-more [] n life key m = refl
+letters-more (state.letter k u l c ∷ ds) n life key m = ap (λ l. unnumbered c ∷ l) (letters-more ds n life key m)
+letters-more (state.discarded ∷ ds) n life key m = letters-more ds n life key m
+letters-more (state.remote_reset ∷ ds) n life key m = letters-more ds n life key m
 
 pass_all : (p q : Role) (x y : Node) (t : Stand) (j : Joined) (u : ℕ) (passed mails : List Mail) (end : Link) →
     Run p q (link (record x { heard = heard_with x.heard passed }) (ready mails) y t j u) end →
@@ -195,7 +195,7 @@ module _ (p q : Role) (trouble number : ℕ) (key : Key) (s₀ b : State) (d : F
       let behind_it : link
       (record x { last = number; heard = max (heard_with told it.0) m.header.ack_seq; accepted = x.accepted ++ unnumbered m ∷ [] })
       (ready later) y (stand_of b s) (joined_by (Some d) b.feed) trouble ≡ link_of (trouble + 0) u b =
-      same_end (link (record x { last = number }) (ready later) y (stand_of b s) (joined_by (Some d) b.feed) trouble) _ _ _ _ _ heard (sym (letters-more s.deliveries number key m)) (plus_none trouble) in
+      same_end (link (record x { last = number }) (ready later) y (stand_of b s) (joined_by (Some d) b.feed) trouble) _ _ _ _ _ heard (sym (letters-more s.deliveries number s.life key m)) (plus_none trouble) in
       subst (λ l. Run p q (link x l y (stand_of b s) (joined_by (Some d) b.feed) trouble) (link_of (trouble + 0) u b)) before
       (subst (λ l. Run p q (link x (ready (it.0 ++ mail ∷ later)) y (stand_of b s) (joined_by (Some d) b.feed) trouble) l) behind_it
       (pass_all p q x y (stand_of b s) (joined_by (Some d) b.feed) trouble it.0 (mail ∷ later) _

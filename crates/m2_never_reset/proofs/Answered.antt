@@ -54,6 +54,6 @@ heard_next (suc n) h (i ∷ is) x e =
 
 pub letters-append : (ds es : List Delivery) → letters (ds ++ es) ≡ letters ds ++ letters es
 letters-append [] es = refl
-letters-append (state.letter n key m ∷ ds) es = ap (λ l. unnumbered m ∷ l) (letters-append ds es)
+letters-append (state.letter n life key m ∷ ds) es = ap (λ l. unnumbered m ∷ l) (letters-append ds es)
 letters-append (state.discarded ∷ ds) es = letters-append ds es
 letters-append (state.remote_reset ∷ ds) es = letters-append ds es

@@ -4,11 +4,11 @@ use Rattle.std.proofs.lemmas.List.{append-nil}
 use Rattle.m2_queues.specs.m2_frame.Reading.{Item}
 use Rattle.m2_journal.specs.m2_handshake.Course.{Course, course_of, text_of}
 use Rattle.m2_journal.specs.m2_handshake.Moves.{is_authed}
-use Rattle.m2_journal.specs.m2_handshake.Standing.{Standing, fed, opener_at_start}
+use Rattle.m2_journal.specs.m2_handshake.Standing.{Standing, fed}
 use Rattle.m2_journal.specs.m2_fabric.declared.socket.SocketId.{SocketId}
 use Rattle.m2_journal.specs.Feeds.{greets, split_into, signs, goes_on, hears_at, hears, silent_feed, opened_feed}
 use Rattle.m2_journal.specs.Said.{split}
-use Rattle.m2_journal.specs.SideFacts.{SideFacts}
+use Rattle.m2_journal.specs.SideFacts.{SideFacts, opener_half}
 use Rattle.m2_journal.specs.State.{Feed}
 use Rattle.m2_never_reset.specs.LinkOf.{heard_in, heard_first, heard_on}
 
@@ -44,7 +44,7 @@ hears_hears bytes d = hears_at_hears d.hand bytes d
 pub opened_hears : (f : SideFacts) (socket : SocketId) (last : ℕ) (owes : Bool) →
     HasHeard (silent_feed socket true last owes) (opened_feed f socket last owes)
 opened_hears f socket last owes =
-    goes_on_hears (course_of (opener_at_start f.node.entity f.peer) []) (silent_feed socket true last owes)
+    goes_on_hears (course_of (opener_half f) []) (silent_feed socket true last owes)
 
 -- ---- what was taken is as before
 

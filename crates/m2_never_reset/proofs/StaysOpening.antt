@@ -6,7 +6,6 @@ use Rattle.std.proofs.lemmas.Bool.{ltb-true, ltb-false, false_from_ne_true, true
 use Rattle.m2_journal.specs.m2_fabric.declared.socket.SocketId.{SocketId}
 use Rattle.m2_journal.specs.m2_fabric.Sockets.{is_among, same_socket}
 use Rattle.m2_journal.specs.m2_handshake.Course.{course_of}
-use Rattle.m2_journal.specs.m2_handshake.Standing.{opener_at_start}
 use Rattle.m2_session.specs.declared.session.Phase.{Phase}
 use Rattle.m2_session.specs.declared.session.Phase.TheVariants as phase
 use Rattle.m2_journal.specs.Feeds.{silent_feed, opened_feed, begun}
@@ -14,7 +13,7 @@ use Rattle.m2_journal.specs.Items as item
 use Rattle.m2_journal.specs.Lawful.{OnFeedAt, MayAsk, judged_sockets}
 use Rattle.m2_journal.specs.Laws.{IfFed, taken_among}
 use Rattle.m2_journal.specs.OutFrames.{OutFrame, ident, reconnect}
-use Rattle.m2_journal.specs.SideFacts.{SideFacts, cookie_of}
+use Rattle.m2_journal.specs.SideFacts.{SideFacts, cookie_of, opener_half}
 use Rattle.m2_journal.specs.State.{PartText, Feed, SentFrame, State}
 use Rattle.m2_journal.specs.Steps.{after, asks_peer}
 use Rattle.m2_session.specs.Conditions.{is_kept}
@@ -83,7 +82,7 @@ module _ (f g : SideFacts) (socket : SocketId) (a b : State) (may : MayCome f g 
       let h = opened_hears f socket a.last a.owes in
       let near = lists a b may.paired.near in
       paired (after f (item.opened socket) a) b
-      (heard_more s' silent d h (goes_on_fits phase.Connecting a.last (course_of (opener_at_start f.node.entity f.peer) []) silent tt) silent_is)
+      (heard_more s' silent d h (goes_on_fits phase.Connecting a.last (course_of (opener_half f) []) silent tt) silent_is)
       (record { asks = λ k e. near.asks k (not_before k e); sent = λ k e j. near.sent k (not_before k e) j; asks_once = near.asks_once; unjudged = near.unjudged })
       (both_fed b.feed (λ e. e.socket ≡ socket → ⊥) (FeedIsPaired (beside b a)) (FeedIsPaired (record (beside b a) { other = Some d }))
       (λ e new k. with_other (beside b a) (Some d) e k (λ o same. absurd (new (sym (same_equal d.socket e.socket same) ∙ h.socket)))) new_there may.paired.far.feed)

@@ -62,7 +62,7 @@ stand_of s other = stand_by s.feed s.session.phase s.sent other.sent
 -- the messages that were accepted
 abbrev pub letters : List Delivery → List Content
 letters [] = []
-letters (state.letter number key m ∷ ds) = unnumbered m ∷ letters ds
+letters (state.letter number life key m ∷ ds) = unnumbered m ∷ letters ds
 letters (_ ∷ ds) = letters ds
 
 abbrev pub is_feed : Option Feed → SocketId → Bool

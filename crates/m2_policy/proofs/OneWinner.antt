@@ -3,7 +3,7 @@ use Rattle.std.proofs.Common.{◌≡◌, false, not, ◌||◌, refl}
 use Rattle.std.specs.Ordering.{ordering_reverse, is_lt}
 use Rattle.std.specs.declared.cmp.Ordering.{Ordering}
 use Rattle.std.specs.declared.cmp.Ordering.TheVariants.{Less, Equal, Greater}
-use Rattle.m2_addr.specs.Order.{address_cmp}
+use Rattle.m2_addr.specs.Order.{address_cmp_in}
 use Rattle.m2_addr.proofs.Order.{addresses_ordered}
 use Rattle.m2_policy.specs.Laws.{OneWins}
 
@@ -13,5 +13,5 @@ one_below o Equal h differ = absurd (differ h)
 one_below o Greater h differ = rw h refl
 
 pub one_winner : OneWins
-one_winner a b differ =
-    one_below (address_cmp a b) (address_cmp b a) (addresses_ordered.total.antisymm a b) (λ e. differ (addresses_ordered.same a b e))
+one_winner order a b differ =
+    one_below (address_cmp_in order a b) (address_cmp_in order b a) ((addresses_ordered order).total.antisymm a b) (λ e. differ ((addresses_ordered order).same a b e))

@@ -1,4 +1,5 @@
 pub mod Policy
+pub mod Rules
 pub mod Race
 pub mod Laws
 pub mod Features

@@ -1,8 +1,9 @@
--- The race of two connects that cross. That the lower address wins is Ceph's rule; the order of addresses is
--- this project's profile.
+-- The race of two connects that cross. That the lower address wins is Ceph's rule; in which order addresses stand is
+-- a rule of the node.
 use Rattle.std.specs.Prelude.{Bool, ◌||◌}
 use Rattle.m2_addr.specs.declared.addr.Addr.{Addr}
-use Rattle.m2_addr.specs.Order.{is_below}
+use Rattle.m2_addr.specs.declared.addr.AddrOrder.{AddrOrder}
+use Rattle.m2_addr.specs.Order.{is_below_in}
 
-abbrev pub wins : Addr → Addr → Bool → Bool
-wins peer mine server = is_below peer mine || server
+abbrev pub wins : AddrOrder → Addr → Addr → Bool → Bool
+wins order peer mine server = is_below_in order peer mine || server

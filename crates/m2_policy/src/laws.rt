@@ -2,8 +2,8 @@
 
 ghost use Rattle.m2_policy.specs.Laws as laws;
 
-/// Of two nodes that aren't servers and have different addresses, exactly one keeps the other's
-/// connect, so that a race is decided, and both decide it alike.
+/// Of two nodes that aren't servers, with different addresses and the same order of addresses, exactly one
+/// keeps the other's connect, so that a race is decided, and both decide it alike.
 #[tactic(auto, using(crate::proofs::OneWinner::one_winner))]
 pub fn one_wins()
     ensures { laws.OneWins }

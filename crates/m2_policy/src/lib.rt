@@ -1,11 +1,12 @@
 //! What two entities have agreed on before they speak: the policies of a link, who wins a race of
-//! connects, which features are missing, and by which path a message is dispatched.
+//! connects, which features are missing, and by which path a message is dispatched; and what each
+//! chooses for itself.
 //!
-//! What it is: [`Policy`] with the five that a node can have towards another, and
-//! [`is_allowed`], the pairs that a link can have; [`wins`], the race of two connects that
-//! cross; [`missing`], feature bits; [`Path`], [`Key`] and [`FastSet`], how messages are ordered
-//! and dispatched at their reader. What it isn't: state. All of these are values, and nothing
-//! here takes memory.
+//! What it is: [`Policy`] with the five that a node can have towards another, and [`is_allowed`],
+//! the pairs that a link can have; [`Rules`], what a node may do otherwise than its peer, with
+//! [`profile`] and [`of_daemons`]; [`wins`], the race of two connects that cross; [`missing`],
+//! feature bits; [`Path`], [`Key`] and [`FastSet`], how messages are ordered and dispatched at
+//! their reader. What it isn't: state. All of these are values, and nothing here takes memory.
 #![tactic(auto)]
 
 mod fast_set;
@@ -14,6 +15,7 @@ mod laws;
 mod path;
 mod policy;
 mod race;
+mod rules;
 
 pub use fast_set::FastSet;
 pub use features::missing;
@@ -24,3 +26,4 @@ pub use policy::{
     stateless_server,
 };
 pub use race::wins;
+pub use rules::{AuthPayload, ConnectRise, Rules, of_daemons, profile};

@@ -6,6 +6,7 @@ use Rattle.std.specs.Option.{unwrap_or}
 use Rattle.std.proofs.lemmas.Bool.{eq-eqb, eqb-true}
 use Rattle.std.proofs.lemmas.Iterator.Adapters.{position_from-zero}
 use Rattle.m2_addr.specs.declared.addr.Addr.{Addr}
+use Rattle.m2_edge.specs.Faults.{next_count}
 use Rattle.m2_fabric.specs.Port.{SeenPort}
 use Rattle.m2_fabric.specs.Fabric.{Gathered, Gathers, ListensAlone, SeenFabric, Splits}
 use Rattle.m2_ports.proofs.Ports.{are_ports, stand_there}
@@ -167,6 +168,7 @@ listens_alone n place f g nodes y x at p change = record {
   others = λ m apart. ap (λ (s : SeenNode). s.listens) (others_stay n place nodes y x p m apart);
   out = λ m. view_stays (λ (s : SeenNode). s.out) n place nodes y x p (ap (λ (s : SeenNode). s.out) change) m;
   gathered = λ m. view_stays (λ (s : SeenNode). s.gathered) n place nodes y x p (ap (λ (s : SeenNode). s.gathered) change) m;
+  gathers = λ m. view_stays (λ (s : SeenNode). s.gathers) n place nodes y x p (ap (λ (s : SeenNode). s.gathers) change) m;
 }
 
 -- ---- a node is split and gathered
@@ -179,6 +181,7 @@ splits_alone n place f nodes y x given many p change = record {
   others_out = λ m apart. ap (λ (s : SeenNode). s.out) (others_stay n place nodes y x p m apart);
   listens = λ m. view_stays (λ (s : SeenNode). s.listens) n place nodes y x p (ap (λ (s : SeenNode). s.listens) change) m;
   gathered = λ m. view_stays (λ (s : SeenNode). s.gathered) n place nodes y x p (ap (λ (s : SeenNode). s.gathered) change) m;
+  gathers = λ m. view_stays (λ (s : SeenNode). s.gathers) n place nodes y x p (ap (λ (s : SeenNode). s.gathers) change) m;
   faults = refl;
 }
 
@@ -191,6 +194,7 @@ splits_before n f ports a b new same s = record {
   others_out = λ m apart. s.others_out m apart ∙ ap (λ (x : SeenNode). x.out) (same m);
   listens = λ m. s.listens m ∙ ap (λ (x : SeenNode). x.listens) (same m);
   gathered = λ m. s.gathered m ∙ ap (λ (x : SeenNode). x.gathered) (same m);
+  gathers = λ m. s.gathers m ∙ ap (λ (x : SeenNode). x.gathers) (same m);
   faults = s.faults;
 }
 
@@ -199,6 +203,9 @@ pub gathers_alone : (n place : ℕ) (f : ℕ) (nodes : List SeenNode) (y x : See
 gathers_alone n place f nodes y x what p change = record {
   node_told = ap (λ (s : SeenNode). s.gathered) (own_put n place nodes y x p ∙ change);
   others_told = λ m apart. ap (λ (s : SeenNode). s.gathered) (others_stay n place nodes y x p m apart);
+  node_gathers = ap (λ (s : SeenNode). s.gathers) (own_put n place nodes y x p ∙ change)
+      ∙ ap (λ (s : SeenNode). next_count s.gathers) (stood_is n place nodes y p.first p.stood);
+  others_gathers = λ m apart. ap (λ (s : SeenNode). s.gathers) (others_stay n place nodes y x p m apart);
   node_out = ap (λ (s : SeenNode). s.out) (own_put n place nodes y x p ∙ change);
   others_out = λ m apart. ap (λ (s : SeenNode). s.out) (others_stay n place nodes y x p m apart);
   listens = λ m. view_stays (λ (s : SeenNode). s.listens) n place nodes y x p (ap (λ (s : SeenNode). s.listens) change) m;

@@ -15,7 +15,7 @@ pub record Book : Type 0 where
 -- a port before its first call, that doesn't accept; it tells nothing of what waits
 abbrev pub unused_port : Addr → SeenPort
 unused_port at =
-    record { at = at; accepts = false; made = []; missed = 0; refused = 0; quiet = false; faults = 0; waiting = None }
+    record { at = at; accepts = false; made = []; missed = 0; refused = 0; quiet = false; faults = 0; cuts = []; waiting = None }
 
 -- a connect failed
 abbrev pub after_miss : SeenPort → SeenPort

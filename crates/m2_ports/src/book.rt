@@ -34,7 +34,7 @@ pub struct PortBook {
 }
 
 impl Model for PortBook {
-    ghost use Rattle.std.specs.Prelude.{None};
+    ghost use Rattle.std.specs.Prelude.{None, []};
     ghost use Rattle.m2_ports.specs.Port.{Book};
 
     ghost Value = { Book };
@@ -48,6 +48,7 @@ impl Model for PortBook {
         refused = p.refused;
         quiet = p.quiet;
         faults = p.faults;
+        cuts = [];
         waiting = None;
       };
       room = p.made.room;

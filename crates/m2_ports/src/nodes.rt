@@ -8,6 +8,7 @@ ghost use Rattle.m2_ports.specs.Port.{ports_at};
 
 use m2_addr::Addr;
 use m2_bytes::NoMemory;
+use m2_edge::Count;
 use m2_fabric::{EndList, Port, PortList};
 use std::alloc::Global;
 use std::marker::Model;
@@ -47,6 +48,8 @@ struct Node<P: Port, L> {
     /// How many ports its last split gave, while they are out.
     out: Option<usize>,
     kept: Option<GatheredNode<P>>,
+    /// How often it was gathered.
+    gathers: Count,
 }
 
 impl<P: Port, L> Model for Node<P, L> {
@@ -54,7 +57,7 @@ impl<P: Port, L> Model for Node<P, L> {
 
     ghost Value = { SeenNode };
 
-    ghost view = { λ n. record { number = n.number; listens = n.at; out = n.out; gathered = n.kept } };
+    ghost view = { λ n. record { number = n.number; listens = n.at; out = n.out; gathered = n.kept; gathers = n.gathers } };
 }
 
 impl<P: Port, L: Drop> Node<P, L> {
@@ -68,6 +71,7 @@ impl<P: Port, L: Drop> Node<P, L> {
             listener: None,
             out: None,
             kept: None,
+            gathers: Count::new(),
         }
     }
 
@@ -117,6 +121,7 @@ impl<P: Port, L: Drop> Node<P, L> {
     {
         self.kept = Some(kept);
         self.out = None;
+        self.gathers.add();
         if self.listener.is_some() {
             return listener;
         }

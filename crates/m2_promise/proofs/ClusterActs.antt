@@ -71,7 +71,7 @@ module _ {D : Type 0} where
   -- ---- new ones
 
   pub new_centers : NewCentersAreNew D
-  new_centers addrs i entity at records fast queued bytes numbers there unused sides consistent = record {
+  new_centers addrs i entity at cuts records fast queued bytes numbers there unused sides consistent = record {
     at = there;
     made = refl;
     waiting = refl;

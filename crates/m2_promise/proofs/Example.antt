@@ -32,7 +32,7 @@ abbrev two : Holding
 two = (node facts_of_b 0).holding
 
 abbrev holder : SeenHolder
-holder = record { nodes = 2; at = λ n. here; made = λ n. []; ends = λ n k. None; waits = λ n k. false }
+holder = record { nodes = 2; at = λ n. here; made = λ n. []; ends = λ n k. None; waits = λ n k. false; line = λ n. [] }
 
 abbrev fabric : SeenFabric
 fabric = record { nodes = here ∷ there ∷ []; looked = []; pairs = [] }

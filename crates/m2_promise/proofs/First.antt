@@ -8,7 +8,7 @@ use Rattle.m2_fabric.specs.m2_addr.declared.addr.Addr.{Addr}
 use Rattle.m2_dispatch.specs.declared.logged.Logged.{Logged}
 use Rattle.m2_dispatch.specs.Heard.{heard_by}
 use Rattle.m2_fabric.specs.declared.socket.SocketId.{SocketId}
-use Rattle.m2_fabric.specs.Port.{fresh_port}
+use Rattle.m2_fabric.specs.CutPort.{fresh_cut_port}
 use Rattle.m2_fabric.specs.Sockets.{is_among}
 use Rattle.m2_script.specs.m2_record.IsRecord.{IsRecord}
 use Rattle.m2_script.specs.m2_record.RecordNow.{RecordNow}
@@ -25,15 +25,16 @@ use Rattle.m2_promise.specs.Beginning.{IsBeginning, IsNewAt}
 use Rattle.m2_promise.specs.BeginningLaws.{BeginningsHaveOrders, BeginningsRun, NewCentersAreNew, NewClustersBegin}
 use Rattle.m2_promise.specs.Kept.{IsKept}
 use Rattle.m2_promise.specs.Planned.{AreOfPeers, IsKeptNode, IsTaken}
+use Rattle.m2_scenario.specs.declared.line.Line.{Line}
 use Rattle.m2_scenario.specs.declared.link.Link.{Link}
 use Rattle.m2_scenario.specs.declared.node.Node.{Node}
-use Rattle.m2_scenario.specs.Draft.{DraftLine}
+use Rattle.m2_scenario.specs.Draft.{draft_line}
 use Rattle.m2_scenario.specs.Valid.{IsSound}
 use Rattle.m2_script.specs.Made.{records_of, side_of}
 use Rattle.m2_script.specs.Script.{RunNow}
 use Rattle.m2_fabric.specs.InStep.{SeenFabric}
 use Rattle.m2_fabric.specs.SimFabric.{fresh_fabric}
-use Rattle.m2_script.specs.Nodes.{IsNewNode, address_of, none_drawn, none_granted}
+use Rattle.m2_script.specs.Nodes.{IsNewNode, address_of, cuts_of, none_drawn, none_granted}
 use Rattle.m2_script.proofs.Apart.{addresses_apart, get_address, get_at}
 use Rattle.m2_script.proofs.Over.{can_begin, map_roomless, places_apart}
 use Rattle.m2_promise.specs.Started.{IsFirst}
@@ -58,7 +59,7 @@ true_false e = cc
 -- ---- the nodes
 
 module _ (begins : BeginningsRun) (ordered : BeginningsHaveOrders) (new_centers : NewCentersAreNew D) (new_clusters : NewClustersBegin D) (begin_logged : BeginLogged D)
-    (nodes : List Node) (links : List Link) (lines : List DraftLine) (s : RunNow D) (sound : IsSound nodes links lines) (first : IsFirst nodes links s) where
+    (nodes : List Node) (links : List Link) (lines : List Line) (s : RunNow D) (sound : IsSound nodes links (map draft_line lines)) (first : IsFirst nodes links lines s) where
   abbrev all : List (NodeNow D)
   all = s.cluster.nodes
 
@@ -69,32 +70,32 @@ module _ (begins : BeginningsRun) (ordered : BeginningsHaveOrders) (new_centers 
   named : (i : ℕ) (n : NodeNow D) → slice_get all i ≡ Some n → (x : Node) × (slice_get nodes i ≡ Some x)
   named i n e = beside all nodes i n first.new.count e
 
-  module _ (i : ℕ) (x : Node) (n : NodeNow D) (there : slice_get nodes i ≡ Some x) (new : IsNewNode nodes links i x n) where
+  module _ (i : ℕ) (x : Node) (n : NodeNow D) (there : slice_get nodes i ≡ Some x) (new : IsNewNode nodes links lines i x n) where
     abbrev center : CenterNow D
-    center = new_center x.entity (fresh_port x.at) new.records [] [] none_granted none_drawn
+    center = new_center x.entity (fresh_cut_port x.at (cuts_of nodes lines i)) new.records [] [] none_granted none_drawn
 
     records_there : n.center.records ≡ new.records
     records_there = ap (λ (c : CenterNow D). c.records) new.center
 
     new_at : IsNewAt addrs i (holding_of n.center)
     new_at = subst (λ (c : CenterNow D). IsNewAt addrs i (holding_of c)) (sym new.center)
-        (new_centers addrs i x.entity x.at new.records [] [] none_granted none_drawn
+        (new_centers addrs i x.entity x.at (cuts_of nodes lines i) new.records [] [] none_granted none_drawn
         (get_address nodes i x there)
-        (all_unused nodes links lines sound first.new.ranges i new.records new.over (subst (AllByRecursion IsRecord) records_there new.whole.records))
-        (all_sides nodes links lines sound first.new.ranges i new.records new.over)
-        (can_begin nodes links lines sound i (i + 1) new.records new.over x there none_granted none_drawn))
+        (all_unused nodes links (map draft_line lines) sound first.new.ranges i new.records new.over (subst (AllByRecursion IsRecord) records_there new.whole.records))
+        (all_sides nodes links (map draft_line lines) sound first.new.ranges i new.records new.over)
+        (can_begin nodes links (map draft_line lines) sound i (i + 1) new.records new.over x there (cuts_of nodes lines i) none_granted none_drawn))
 
     logged : IsLogged heard_by (logging_in n.center)
     logged = subst (λ (c : CenterNow D). IsLogged heard_by (logging_in c)) (sym new.center)
         (begin_logged heard_by new.records [] []
-        (places_apart nodes links lines sound i (i + 1) new.records new.over)
-        (none_handed nodes links lines sound first.new.ranges i new.records new.over)
+        (places_apart nodes links (map draft_line lines) sound i (i + 1) new.records new.over)
+        (none_handed nodes links (map draft_line lines) sound first.new.ranges i new.records new.over)
         refl refl)
 
     kept : IsKeptNode heard_by n
     kept = record {
       logged = logged;
-      taken = subst (AllByRecursion IsTaken) (sym records_there) (all_taken nodes links lines sound first.new.ranges i new.records new.over);
+      taken = subst (AllByRecursion IsTaken) (sym records_there) (all_taken nodes links (map draft_line lines) sound first.new.ranges i new.records new.over);
       peers = subst (λ (c : CenterNow D). AreOfPeers heard_by c.records c.out c.queued) (sym new.center) (record { fast = tt; held = tt; mail = tt; waiting = tt; queued = tt });
     }
 
@@ -112,7 +113,7 @@ module _ (begins : BeginningsRun) (ordered : BeginningsHaveOrders) (new_centers 
 
   -- ---- all of them
 
-  at_place : (i : ℕ) (n : NodeNow D) (e : slice_get all i ≡ Some n) → IsNewNode nodes links i (named i n e).0 n
+  at_place : (i : ℕ) (n : NodeNow D) (e : slice_get all i ≡ Some n) → IsNewNode nodes links lines i (named i n e).0 n
   at_place i n e = first.new.each i (named i n e).0 n (named i n e).1 e
 
   begun : IsBeginning (run_of all (fresh_fabric addrs))
@@ -161,9 +162,9 @@ module _ (begins : BeginningsRun) (ordered : BeginningsHaveOrders) (new_centers 
 
 -- ---- no record of a node plans anything
 
-pub none_planned : (nodes : List Node) (links : List Link) (lines : List DraftLine) (s : RunNow D) → IsSound nodes links lines → IsFirst nodes links s →
+pub none_planned : (nodes : List Node) (links : List Link) (lines : List Line) (s : RunNow D) → IsSound nodes links (map draft_line lines) → IsFirst nodes links lines s →
     (i : ℕ) (n : NodeNow D) → slice_get s.cluster.nodes i ≡ Some n → AllByRecursion (λ (r : RecordNow). r.plan ≡ []) n.center.records
 none_planned nodes links lines s sound first i n e =
     let x = beside s.cluster.nodes nodes i n first.new.count e in
-    let new : IsNewNode nodes links i x.0 n = first.new.each i x.0 n x.1 e in
-    subst (AllByRecursion (λ (r : RecordNow). r.plan ≡ [])) (sym (ap (λ (c : CenterNow D). c.records) new.center)) (no_plans nodes links lines sound first.new.ranges i new.records new.over)
+    let new : IsNewNode nodes links lines i x.0 n = first.new.each i x.0 n x.1 e in
+    subst (AllByRecursion (λ (r : RecordNow). r.plan ≡ [])) (sym (ap (λ (c : CenterNow D). c.records) new.center)) (no_plans nodes links (map draft_line lines) sound first.new.ranges i new.records new.over)

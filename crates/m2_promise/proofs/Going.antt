@@ -1,5 +1,5 @@
 -- A scenario's lines from its nodes before the first one: all can be done, and behind them each plan is what the lines planned.
-use Rattle.std.proofs.Common.{◌≡◌, ℕ, List, [], ◌∷◌, ◌++◌, length, map, sym, ap, ◌∙◌}
+use Rattle.std.proofs.Common.{◌≡◌, ℕ, List, [], ◌∷◌, ◌++◌, length, sym, ap, ◌∙◌}
 use Rattle.std.specs.List.{AllByRecursion}
 use Rattle.m2_dispatch.specs.Heard.{heard_by}
 use Rattle.m2_script.specs.m2_record.RecordNow.{RecordNow}
@@ -7,7 +7,6 @@ use Rattle.m2_links_go_on.specs.ClusterTold.{OneByOne}
 use Rattle.m2_promise.specs.Kept.{IsKept}
 use Rattle.m2_promise.specs.KeepingLaws.{ScriptsCanBeDone, ScriptsStayKept}
 use Rattle.m2_promise.specs.Planned.{GoesOnBy, PlansGoOn, steps_for}
-use Rattle.m2_scenario.specs.Draft.{draft_line}
 use Rattle.m2_script.specs.Made.{Side}
 use Rattle.m2_script.specs.Script.{Deed, script_of}
 use Rattle.m2_promise.specs.StartLaws.{FirstCanBeDone, FirstIsKept, PlansAreOfLines, ScriptRunIsKept}
@@ -26,13 +25,13 @@ plans_of i ds (r ∷ rs) [] none on = absurd on
 
 module _ (E : Type 0) (first_kept : FirstIsKept) where
   pub can_be_done : ScriptsCanBeDone D E → FirstCanBeDone E
-  can_be_done scripts nodes links lines s sound first = scripts heard_by nodes links lines s sound (first_kept nodes links (map draft_line lines) s sound first)
+  can_be_done scripts nodes links lines s sound first = scripts heard_by nodes links lines s sound (first_kept nodes links lines s sound first)
 
   pub run_is_kept : ScriptsStayKept D E → ScriptRunIsKept E
   run_is_kept scripts nodes links lines first last sound run = go
     where
       before : IsKept heard_by nodes links first
-      before = first_kept nodes links (map draft_line lines) first sound run.begins
+      before = first_kept nodes links lines first sound run.begins
 
       goes_on : IsKept heard_by nodes links last × PlansGoOn (script_of links (length nodes) lines) first last
       goes_on = scripts heard_by nodes links lines first last run.ends before
@@ -40,7 +39,7 @@ module _ (E : Type 0) (first_kept : FirstIsKept) where
       planned : PlansAreOfLines links (length nodes) lines last
       planned i n e =
           let m = beside last.cluster.nodes first.cluster.nodes i n goes_on.1.count e in
-          plans_of i (script_of links (length nodes) lines) m.0.center.records n.center.records (none_planned nodes links (map draft_line lines) first sound run.begins i m.0 m.1) (goes_on.1.each i m.0 n m.1 e)
+          plans_of i (script_of links (length nodes) lines) m.0.center.records n.center.records (none_planned nodes links lines first sound run.begins i m.0 m.1) (goes_on.1.each i m.0 n m.1 e)
 
       go : IsKept heard_by nodes links last × PlansAreOfLines links (length nodes) lines last
       go = (goes_on.0, planned)

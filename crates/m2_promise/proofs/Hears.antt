@@ -30,7 +30,7 @@ pub record HearsOf (x y : ℕ) (fast : List ℕ) (lines : List DraftLine) (heard
   pub no_reset : AllByRecursion (IsNoResetBy x) heard
 
 no_reset_by : (x : ℕ) (h : Heard) → IsNoResetOf x h → IsNoResetBy x h
-no_reset_by x (message p k n m) none = tt
+no_reset_by x (message p k n life m) none = tt
 no_reset_by x (reset p) none = none
 
 -- the messages of each key are in one of the logs

@@ -8,6 +8,7 @@ use Rattle.m2_promise.specs.PostLaws.{CallsAreNoted}
 use Rattle.m2_promise.specs.Posted.{AllNoted}
 use Rattle.m2_promise.proofs.Calls.{all_noted}
 use Rattle.m2_promise.proofs.Sides.{place_of}
+use Rattle.m2_scenario.specs.declared.line.Line.{Line}
 use Rattle.m2_scenario.specs.declared.link.Link.{Link}
 use Rattle.m2_scenario.specs.declared.node.Node.{Node}
 use Rattle.m2_script.specs.declared.calls.TurnCalls.{TurnCalls}
@@ -15,8 +16,8 @@ use Rattle.m2_script.specs.Outcome.{of_node}
 use Rattle.m2_script.specs.Script.{RunNow, script_of}
 use Rattle.m2_promise.specs.Started.{IsFirst}
 
-first_noted : (nodes : List Node) (links : List Link) (s : RunNow (List Logged)) → IsFirst nodes links s → AllNoted heard_by s
-first_noted nodes links s first k n e =
+first_noted : (nodes : List Node) (links : List Link) (lines : List Line) (s : RunNow (List Logged)) → IsFirst nodes links lines s → AllNoted heard_by s
+first_noted nodes links lines s first k n e =
     let x = place_of nodes k (subst (λ m. k < m) first.new.count (slice_get_within s.cluster.nodes k n e)) in
     let its = first.new.each k x.0 n x.1 e in
     record {
@@ -25,4 +26,4 @@ first_noted nodes links s first k n e =
     }
 
 pub calls_noted : (E : Type 0) → CallsAreNoted E
-calls_noted E nodes links lines first last run = all_noted E heard_by (script_of links (length nodes) lines) first last run.ends (first_noted nodes links first run.begins)
+calls_noted E nodes links lines first last run = all_noted E heard_by (script_of links (length nodes) lines) first last run.ends (first_noted nodes links lines first run.begins)

@@ -51,7 +51,7 @@ key_unnumbered g key (m ∷ ms) = at (has_key g.node.fast key m) (key_unnumbered
 
 pub count_heard : (peer : ℕ) (log : List Heard) → count_by (is_message_from peer) log ≡ length (heard_from peer log)
 count_heard peer [] = refl
-count_heard peer (message p k n m ∷ log) = sum_by-cons (λ (h : Heard). cond (is_message_from peer h) 1 0) (message p k n m) log ∙ at (p == peer) (count_heard peer log)
+count_heard peer (message p k n life m ∷ log) = sum_by-cons (λ (h : Heard). cond (is_message_from peer h) 1 0) (message p k n life m) log ∙ at (p == peer) (count_heard peer log)
   where
     at : (b : Bool) → count_by (is_message_from peer) log ≡ length (heard_from peer log) →
         cond b 1 0 + count_by (is_message_from peer) log ≡ length (if b then channel.keyed k m ∷ heard_from peer log else heard_from peer log)

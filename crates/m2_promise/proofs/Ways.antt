@@ -40,16 +40,16 @@ fast_path Queued e = from_false_true e
 -- ---- through the queue
 
 abbrev IsQueued : Delivery → Type 0
-IsQueued (state.letter number key m) = is_path key.path Fast ≡ false
+IsQueued (state.letter number life key m) = is_path key.path Fast ≡ false
 IsQueued _ = Unit {0}
 
 all_queued : (ds : List Delivery) → AllByRecursion IsQueued (queued_of ds)
 all_queued [] = tt
 all_queued (state.discarded ∷ ds) = (tt, all_queued ds)
 all_queued (state.remote_reset ∷ ds) = (tt, all_queued ds)
-all_queued (state.letter n k m ∷ ds) = at (is_path k.path Fast) refl (all_queued ds)
+all_queued (state.letter n life k m ∷ ds) = at (is_path k.path Fast) refl (all_queued ds)
   where
-    at : (b : Bool) → is_path k.path Fast ≡ b → AllByRecursion IsQueued (queued_of ds) → AllByRecursion IsQueued (if b then queued_of ds else state.letter n k m ∷ queued_of ds)
+    at : (b : Bool) → is_path k.path Fast ≡ b → AllByRecursion IsQueued (queued_of ds) → AllByRecursion IsQueued (if b then queued_of ds else state.letter n life k m ∷ queued_of ds)
     at true e all = all
     at false e all = (e, all)
 
@@ -57,14 +57,14 @@ queued_same : (ds : List Delivery) → AllByRecursion IsQueued ds → queued_of 
 queued_same [] all = refl
 queued_same (state.discarded ∷ ds) all = ap (λ l. state.discarded ∷ l) (queued_same ds all.1)
 queued_same (state.remote_reset ∷ ds) all = ap (λ l. state.remote_reset ∷ l) (queued_same ds all.1)
-queued_same (state.letter n k m ∷ ds) all =
-    if_false (is_path k.path Fast) (queued_of ds) (state.letter n k m ∷ queued_of ds) all.0 ∙ ap (λ l. state.letter n k m ∷ l) (queued_same ds all.1)
+queued_same (state.letter n life k m ∷ ds) all =
+    if_false (is_path k.path Fast) (queued_of ds) (state.letter n life k m ∷ queued_of ds) all.0 ∙ ap (λ l. state.letter n life k m ∷ l) (queued_same ds all.1)
 
 none_of_fast : (key : Key) (ds : List Delivery) → key.path ≡ Fast → AllByRecursion IsQueued ds → channel.of_key key (handed ds) ≡ []
 none_of_fast key [] e all = refl
 none_of_fast key (state.discarded ∷ ds) e all = none_of_fast key ds e all.1
 none_of_fast key (state.remote_reset ∷ ds) e all = none_of_fast key ds e all.1
-none_of_fast key (state.letter n k m ∷ ds) e all =
+none_of_fast key (state.letter n life k m ∷ ds) e all =
     if_false (is_key k key) (unnumbered m ∷ channel.of_key key (handed ds)) (channel.of_key key (handed ds))
     (last_false (k.priority == key.priority) (is_path k.path key.path) (ap (is_path k.path) e ∙ all.0))
     ∙ none_of_fast key ds e all.1
@@ -87,16 +87,16 @@ queue_none law peer calls s key e all =
 -- ---- at once
 
 abbrev IsFastCall : Heard → Type 0
-IsFastCall (message peer key number m) = is_path key.path Fast ≡ true
+IsFastCall (message peer key number life m) = is_path key.path Fast ≡ true
 IsFastCall (reset peer) = Unit {0}
 
 all_fast : (peer : ℕ) (ds : List Delivery) → AllByRecursion IsFastCall (heard_at_once peer ds)
 all_fast peer [] = tt
 all_fast peer (state.discarded ∷ ds) = all_fast peer ds
 all_fast peer (state.remote_reset ∷ ds) = all_fast peer ds
-all_fast peer (state.letter n k m ∷ ds) = at (is_path k.path Fast) refl (all_fast peer ds)
+all_fast peer (state.letter n life k m ∷ ds) = at (is_path k.path Fast) refl (all_fast peer ds)
   where
-    at : (b : Bool) → is_path k.path Fast ≡ b → AllByRecursion IsFastCall (heard_at_once peer ds) → AllByRecursion IsFastCall (if b then message peer k n m ∷ heard_at_once peer ds else heard_at_once peer ds)
+    at : (b : Bool) → is_path k.path Fast ≡ b → AllByRecursion IsFastCall (heard_at_once peer ds) → AllByRecursion IsFastCall (if b then message peer k n life m ∷ heard_at_once peer ds else heard_at_once peer ds)
     at true e all = (e, all)
     at false e all = all
 
@@ -107,12 +107,12 @@ fast_none peer key (reset p ∷ log) e all = at (p == peer) all (fast_none peer 
     at : (b : Bool) → AllByRecursion IsFastCall (if b then reset p ∷ calls_of peer log else calls_of peer log) → (AllByRecursion IsFastCall (calls_of peer log) → of_key peer key log ≡ []) → of_key peer key log ≡ []
     at true h rest = rest h.1
     at false h rest = rest h
-fast_none peer key (message p k n m ∷ log) e all = at (p == peer) all (fast_none peer key log e)
+fast_none peer key (message p k n life m ∷ log) e all = at (p == peer) all (fast_none peer key log e)
   where
     another : is_path k.path Fast ≡ true → is_key k key ≡ false
     another fast = last_false (k.priority == key.priority) (is_path k.path key.path) (ap (λ q. is_path q key.path) (fast_path k.path fast) ∙ ap (is_path Fast) e)
 
-    at : (b : Bool) → AllByRecursion IsFastCall (if b then message p k n m ∷ calls_of peer log else calls_of peer log) → (AllByRecursion IsFastCall (calls_of peer log) → of_key peer key log ≡ []) →
+    at : (b : Bool) → AllByRecursion IsFastCall (if b then message p k n life m ∷ calls_of peer log else calls_of peer log) → (AllByRecursion IsFastCall (calls_of peer log) → of_key peer key log ≡ []) →
         (if b && is_key k key then m ∷ of_key peer key log else of_key peer key log) ≡ []
     at true h rest = if_false (is_key k key) (m ∷ of_key peer key log) (of_key peer key log) (another h.0) ∙ rest h.1
     at false h rest = rest h

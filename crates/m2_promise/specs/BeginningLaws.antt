@@ -3,7 +3,8 @@ use Rattle.std.specs.Prelude.{◌≡◌, ℕ, List, length, slice_get, Some}
 use Rattle.std.specs.List.{AllByRecursion}
 use Rattle.m2_fabric.specs.m2_addr.declared.addr.Addr.{Addr}
 use Rattle.m2_dispatch.specs.Heard.{Heard}
-use Rattle.m2_fabric.specs.Port.{fresh_port}
+use Rattle.m2_fabric.specs.CutPort.{fresh_cut_port}
+use Rattle.m2_fabric.specs.declared.port.Cut.{Cut}
 use Rattle.m2_weave.specs.m2_journal.declared.facts.PlanStep.{PlanStep}
 use Rattle.m2_weave.specs.m2_journal.SideFacts.{SideFacts}
 use Rattle.m2_script.specs.m2_center.CenterTurn.{Answer}
@@ -38,11 +39,11 @@ NewRecordsAreUnused = (f : SideFacts) (place : ℕ) (room : Rooms) → IsRecord 
 
 -- ---- a cluster
 
--- A center that is new has a new port in memory and new records, each between its node and another.
+-- A center that is new has a new port in memory, with any cuts, and new records, each between its node and another.
 abbrev pub NewCentersAreNew : Type 0 → Type 0
-NewCentersAreNew D = (addrs : List Addr) (i : ℕ) (entity : ℕ) (at : Addr) (records : List RecordNow) (fast queued : D) (bytes : SeenTakePass) (numbers : SeenNumberPass) →
-    slice_get addrs i ≡ Some at → AllByRecursion IsUnused records → AllByRecursion (IsRecordAt addrs i) records → CanBegin entity (fresh_port at) records bytes numbers →
-    IsNewAt addrs i (holding_of (new_center entity (fresh_port at) records fast queued bytes numbers))
+NewCentersAreNew D = (addrs : List Addr) (i : ℕ) (entity : ℕ) (at : Addr) (cuts : List Cut) (records : List RecordNow) (fast queued : D) (bytes : SeenTakePass) (numbers : SeenNumberPass) →
+    slice_get addrs i ≡ Some at → AllByRecursion IsUnused records → AllByRecursion (IsRecordAt addrs i) records → CanBegin entity (fresh_cut_port at cuts) records bytes numbers →
+    IsNewAt addrs i (holding_of (new_center entity (fresh_cut_port at cuts) records fast queued bytes numbers))
 
 -- Nodes of new centers, as many as there are addresses, begin beside a fabric that had no call yet.
 abbrev pub NewClustersBegin : Type 0 → Type 0

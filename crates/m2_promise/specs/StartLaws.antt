@@ -11,19 +11,19 @@ use Rattle.m2_script.specs.m2_record.RecordNow.{RecordNow}
 use Rattle.m2_scenario.specs.declared.line.Line.{Line}
 use Rattle.m2_scenario.specs.declared.link.Link.{Link}
 use Rattle.m2_scenario.specs.declared.node.Node.{Node}
-use Rattle.m2_scenario.specs.Draft.{DraftLine, draft_line}
+use Rattle.m2_scenario.specs.Draft.{draft_line}
 use Rattle.m2_scenario.specs.Valid.{IsSound}
 use Rattle.m2_script.specs.Script.{CanAllBeDone, RunNow, script_of}
 use Rattle.m2_promise.specs.Started.{IsFirst, IsScriptRun}
 
 -- The nodes of a valid scenario before its first line keep all that a script's run keeps.
 abbrev pub FirstIsKept : Type 0
-FirstIsKept = (nodes : List Node) (links : List Link) (lines : List DraftLine) (s : RunNow (List Logged)) → IsSound nodes links lines → IsFirst nodes links s →
+FirstIsKept = (nodes : List Node) (links : List Link) (lines : List Line) (s : RunNow (List Logged)) → IsSound nodes links (map draft_line lines) → IsFirst nodes links lines s →
     IsKept heard_by nodes links s
 
 -- So all its lines can be done,
 abbrev pub FirstCanBeDone : Type 0 → Type 0
-FirstCanBeDone E = (nodes : List Node) (links : List Link) (lines : List Line) (s : RunNow (List Logged)) → IsSound nodes links (map draft_line lines) → IsFirst nodes links s →
+FirstCanBeDone E = (nodes : List Node) (links : List Link) (lines : List Line) (s : RunNow (List Logged)) → IsSound nodes links (map draft_line lines) → IsFirst nodes links lines s →
     CanAllBeDone E heard_by (script_of links (length nodes) lines) s
 
 -- each record's plan is exactly what the lines have planned for it, in order

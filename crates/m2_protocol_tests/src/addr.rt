@@ -1,6 +1,6 @@
 //! Addresses as Ceph's encoding has them.
 
-use m2_addr::{Addr, AddrFault, AddrVec, AnyAddr, read_addr, read_v4, write_addr};
+use m2_addr::{Addr, AddrFault, AddrOrder, AddrVec, AnyAddr, read_addr, read_v4, write_addr};
 use m2_bytes::{Blob, Reader};
 use std::alloc::Global;
 use std::cmp::Ordering;
@@ -109,4 +109,23 @@ fn addresses_are_ordered_by_kind_nonce_ip_and_port(rt: HostRuntime) {
         assert!(rt; low.is_below(high) && !high.is_below(low));
     }
     assert_eq!(rt; ADDR.compare(&ADDR), Ordering::Equal);
+}
+
+#[test]
+fn their_bytes_are_ordered_by_kind_nonce_port_and_ip(rt: HostRuntime) {
+    let rising = [
+        addr(1, 9, 9, 9),
+        addr(2, 29_665, 9, 9),
+        addr(2, 240, 9, 8),
+        addr(2, 240, 1, 9),
+        addr(2, 240, 9, 9),
+        addr(2, 65_776, 1, 1),
+        addr(2, 496, 1, 1),
+    ];
+    for (low, high) in rising.iter().zip(rising.iter().skip(1)) {
+        assert!(rt;
+            low.is_below_in(AddrOrder::Bytes, high) && !high.is_below_in(AddrOrder::Bytes, low)
+        );
+    }
+    assert_eq!(rt; ADDR.compare_in(AddrOrder::Bytes, &ADDR), Ordering::Equal);
 }

@@ -6,6 +6,7 @@ use m2_bytes::Blob;
 use m2_control::{Control, ControlFault, SessionReset, Wait};
 use m2_frame::{FrameFault, Got};
 use m2_handshake::{Ask, AskStep, Half, HalfFault, HalfStep, Stage};
+use m2_policy::AuthPayload;
 use std::alloc::Global;
 
 /// What a client writes: banner, HELLO, AUTH_REQUEST, AUTH_SIGNATURE; a line for the banner, and then for each
@@ -18,6 +19,11 @@ const CLIENT: [u8; 218] = *b"\
     \x01\0\0\0\x01\0\0\0\x01\0\0\0\0\0\0\0\xfc\xc1\xce\x37\
     \x07\x01\x20\0\0\0\x08\0\0\0\0\0\0\0\0\0\0\0\0\0\0\0\0\0\0\0\0\0\xa8\x0c\x98\x72\
     \0\0\0\0\0\0\0\0\0\0\0\0\0\0\0\0\0\0\0\0\0\0\0\0\0\0\0\0\0\0\0\0\x55\xc9\x6e\x75";
+
+/// AUTH_REQUEST with an authorizer of the method that asks for none.
+const AUTHORIZER: [u8; 69] = *b"\
+    \x02\x01\x21\0\0\0\x08\0\0\0\0\0\0\0\0\0\0\0\0\0\0\0\0\0\0\0\0\0\xa1\xc2\xad\x7e\
+    \x01\0\0\0\x01\0\0\0\x01\0\0\0\x11\0\0\0\x01\x08\0\0\0\0\0\0\0\0\0\0\0\0\0\0\0\xd4\xdb\xdb\xec";
 
 /// What a server writes: banner, HELLO, AUTH_DONE, AUTH_SIGNATURE, by the same lines.
 const SERVER: [u8; 218] = *b"\
@@ -97,8 +103,8 @@ fn at(port: u16, nonce: u32) -> Addr {
     }
 }
 
-fn a_client(alloc: Global) -> Half {
-    Half::client(alloc, 4, at(7002, 2))
+fn a_client(alloc: Global, auth: AuthPayload) -> Half {
+    Half::client(alloc, auth, 4, at(7002, 2))
 }
 
 fn a_server(alloc: Global) -> Half {
@@ -148,8 +154,35 @@ fn is_told(half: &mut Half, alloc: Global, fed: &[u8], says: HalfStep, wrote: &[
 
 #[test]
 fn an_opener_byte_by_byte_is_authed(rt: HostRuntime) {
-    let mut client = a_client(rt.alloc());
+    let mut client = a_client(rt.alloc(), AuthPayload::Empty);
     assert!(rt; is_told(&mut client, rt.alloc(), &SERVER, HalfStep::Authed, &CLIENT));
+}
+
+#[test]
+fn an_opener_with_an_authorizer_is_authed_too(rt: HostRuntime) {
+    let mut client = a_client(rt.alloc(), AuthPayload::Authorizer);
+    let mut server = a_server(rt.alloc());
+    for (of_client, of_server) in [
+        (&CLIENT[..98], &SERVER[..98]),
+        (&AUTHORIZER[..], &SERVER[98..]),
+    ] {
+        assert!(rt;
+            is_told(
+                &mut server,
+                rt.alloc(),
+                of_client,
+                HalfStep::NotYet,
+                of_server
+            )
+        );
+    }
+    for (of_server, says, of_client) in [
+        (&SERVER[..26], HalfStep::NotYet, &CLIENT[..98]),
+        (&SERVER[26..98], HalfStep::NotYet, &AUTHORIZER[..]),
+        (&SERVER[98..], HalfStep::Authed, &CLIENT[150..]),
+    ] {
+        assert!(rt; is_told(&mut client, rt.alloc(), of_server, says, of_client));
+    }
 }
 
 #[test]

@@ -1,8 +1,8 @@
 //! The tables of judgement, a row of values for each of their rows.
 
 use m2_addr::Addr;
-use m2_policy::{lossless_peer, lossy_client, stateful_server};
-use m2_session::{Answer, Phase, Session, judge_ident, judge_reconnect};
+use m2_policy::{lossless_peer, lossy_client, of_daemons, profile, stateful_server};
+use m2_session::{Answer, Phase, Session, judge_ident, judge_reconnect, rises};
 
 /// 127.0.0.1:7000 with this nonce.
 fn address(nonce: u32) -> Addr {
@@ -20,6 +20,7 @@ fn session(peer: u32, phase: Phase) -> Session {
         mine: address(2),
         peer: address(peer),
         policy: lossless_peer(),
+        rules: profile(),
         phase,
         client_cookie: 5,
         server_cookie: 6,
@@ -99,5 +100,35 @@ fn reconnects_are_judged(rt: HostRuntime) {
     ] {
         let given = judge_reconnect(&s, client, server, global, connect, seen, 0);
         assert_eq!(rt; given, answer);
+    }
+}
+
+#[test]
+fn a_node_goes_by_its_own_rules(rt: HostRuntime) {
+    // Node 29665 and node 240, by the lowest byte of whose nonce 29665 is below.
+    let numbers = Session {
+        mine: address(29_665),
+        server_cookie: 0,
+        ..session(240, Phase::IdentSent)
+    };
+    let bytes = Session {
+        rules: of_daemons(),
+        ..numbers
+    };
+    assert_eq!(rt; judge_ident(&numbers, 9, 4), Answer::AcceptRace);
+    assert_eq!(rt; judge_ident(&bytes, 9, 4), Answer::Wait);
+    let kept = Session {
+        lost_ready: false,
+        server_cookie: 6,
+        ..bytes
+    };
+    assert_eq!(rt; judge_reconnect(&kept, 5, 6, 7, 1, 0, 0), Answer::Wait);
+    for (s, more) in [
+        (session(3, Phase::Standby), true),
+        (session(3, Phase::Ready), false),
+        (bytes, false),
+        (kept, true),
+    ] {
+        assert_eq!(rt; rises(&s), more);
     }
 }

@@ -582,7 +582,7 @@ broken-by read.NotYet o (Some v) (Some mid) f l new w is heeds fault = tt
 broken-by read.Ended o (Some v) (Some mid) f l new w is heeds fault =
     read-feed new l mid (none-heard o (live_with (Some mid) l) new.core.live is heeds) (inl (ended w.hears.piece v.end mid.end w.hears.reads.1))
 broken-by read.Failed o (Some v) (Some mid) f l new w is heeds fault =
-    read-feed new l mid (none-heard o (live_with (Some mid) l) new.core.live is heeds) (inl (failed v.end mid.end w.hears.reads.0))
+    read-feed new l mid (none-heard o (live_with (Some mid) l) new.core.live is heeds) (inl (failed v.end mid.end w.hears.reads.0.risen))
 broken-by read.NoMemory o (Some v) (Some mid) f l new w is heeds fault = tt
 broken-by answer o None p f l new w is heeds fault = absurd w
 broken-by answer o (Some v) None f l new w is heeds fault = absurd w

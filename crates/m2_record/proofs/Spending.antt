@@ -49,6 +49,7 @@ module _ (r : RecordNow) (s : State) (h : IsReplayedTo s r) (k : SocketId) (off 
     session = h.core.session;
     queue = h.core.queue;
     last = h.core.last;
+    life = h.core.life;
     owes = h.core.owes;
     dials = h.core.dials;
     top = h.core.top;

@@ -56,7 +56,7 @@ lowering-at (Some d) s = refl
 lowering-at None s = refl
 
 setting-back : (b : Bool) (s : State) → beside (journal.where_true b journal.sets_back s) ≡ beside s
-setting-back true s = lowering-at s.feed (record s { last = 0 })
+setting-back true s = lowering-at s.feed (record s { last = 0; life = s.session.server_cookie })
 setting-back false s = refl
 
 discarding : (b : Bool) (s : State) → beside (journal.where_true b journal.discards s) ≡ record (beside s) { deliveries = s.deliveries ++ one_if b discarded }

@@ -47,7 +47,7 @@ told-top e s =
     let thrown = journal.where_true o.discard journal.discards low in
     where-top o.remote_reset journal.tells_of_reset thrown refl
     ∙ where-top o.discard journal.discards low refl
-    ∙ where-top o.set_back journal.sets_back queued (fed-top queued.feed journal.lowers (record queued { last = 0 }) (λ d. refl))
+    ∙ where-top o.set_back journal.sets_back queued (fed-top queued.feed journal.lowers (record queued { last = 0; life = queued.session.server_cookie }) (λ d. refl))
     ∙ where-top o.requeue (journal.queues Requeue) closed refl
     ∙ where-top o.close journal.closes t (fed-top t.feed journal.spends t (λ d. refl))
 

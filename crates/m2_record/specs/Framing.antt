@@ -75,7 +75,7 @@ entries_next _ = []
 
 -- a message is a letter of the peer, with what was granted for it
 abbrev pub letter_of : (place : ℕ) → CoreAccepted → Parcel
-letter_of place a = parcel.Letter (record { peer = place; key = a.key; number = a.number; message = a.message; grant = a.grant })
+letter_of place a = parcel.Letter (record { peer = place; key = a.key; number = a.number; life = a.life; message = a.message; grant = a.grant })
 
 abbrev pub parcels_next : (place : ℕ) → CoreNext → List Parcel
 parcels_next place (next.Accepted a) = letter_of place a ∷ []

@@ -88,6 +88,6 @@ speaks_of r = sources_of (grounds_of r)
 -- ---- what is handed out
 
 abbrev pub delivery_of : Parcel → Delivery
-delivery_of (parcel.Letter l) = letter l.number l.key (content_of l.message)
+delivery_of (parcel.Letter l) = letter l.number l.life l.key (content_of l.message)
 delivery_of (parcel.Discard peer) = discarded
 delivery_of (parcel.RemoteReset peer) = remote_reset

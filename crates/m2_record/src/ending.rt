@@ -88,6 +88,7 @@ fn give_one(parcel: Parcel, throttle: &Throttle, pass: &mut TakePass)
                 peer: _,
                 key: _,
                 number: _,
+                life: _,
                 message: _,
                 grant,
             } = letter;

@@ -221,6 +221,7 @@ fn note_next(
         CoreNext::Accepted(accepted) => {
             let CoreAccepted {
                 number,
+                life,
                 key,
                 message,
                 grant,
@@ -230,6 +231,7 @@ fn note_next(
                 peer: place,
                 key,
                 number,
+                life,
                 message,
                 grant,
             }));

@@ -10,7 +10,7 @@ use m2_bytes::{Blob, NoMemory};
 use m2_dispatch::Logged;
 use m2_journal::{Entry, NodeFacts, PlanStep};
 use m2_message::{Header, Message};
-use m2_policy::{FastSet, lossless_peer};
+use m2_policy::{FastSet, lossless_peer, profile};
 use m2_record_trace::{Pair, Side, Which};
 use m2_session::Phase;
 use std::alloc::Global;
@@ -44,6 +44,7 @@ fn facts(number: u8, requires_: u64) -> NodeFacts
         first_wait: 1,
         most_wait: 8,
         salt: 7,
+        rules: profile(),
     }
 }
 
@@ -165,6 +166,7 @@ fn last_number(log: &[Logged]) -> u64 {
                 peer: _,
                 key: _,
                 number,
+                life: _,
                 message: _,
             },
         ) => *number,

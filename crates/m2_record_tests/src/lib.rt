@@ -3,8 +3,8 @@
 //!
 //! What it is: one record by its single calls (`planned`), and in a thread's turn (`thread`); the halves of a center (`halves`); two over ends in memory, driven
 //! from nothing to Ready and a post (`posts`), with a socket that breaks at each of many places (`cuts`) and a session that is
-//! resumed (`resuming`), with bytes that no record writes (`faults`), and with messages as large as a throttle lets through
-//! (`bounds`). It stands apart from the crates,
+//! resumed (`resuming`), with bytes that no record writes (`faults`), with messages as large as a throttle lets through
+//! (`bounds`), and with a mark-down between two posts (`lives`). It stands apart from the crates,
 //! since a crate with tests is proved twice. What it isn't: what a clause says already.
 #![tactic(auto)]
 
@@ -18,6 +18,8 @@ mod driving;
 mod faults;
 #[cfg(test)]
 mod halves;
+#[cfg(test)]
+mod lives;
 #[cfg(test)]
 mod planned;
 #[cfg(test)]

@@ -15,7 +15,7 @@ use m2_fabric::{News, SimEnd, SocketId};
 use m2_handshake::HalfStep;
 use m2_journal::{Entry, NodeFacts, PlanStep};
 use m2_message::{Header, Message};
-use m2_policy::{FastSet, lossless_peer};
+use m2_policy::{FastSet, lossless_peer, profile};
 use m2_record::{Due, Framed, Record};
 use m2_shared::{TakePass, Throttle};
 use std::alloc::Global;
@@ -60,6 +60,7 @@ pub(crate) fn facts() -> NodeFacts
         first_wait: 200,
         most_wait: 15_000,
         salt: 7,
+        rules: profile(),
     }
 }
 

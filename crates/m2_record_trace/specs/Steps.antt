@@ -19,7 +19,7 @@ use Rattle.m2_record_trace.specs.SideNow.{SideNow}
 -- ---- what is handed out
 
 abbrev pub call_of : Letter → Logged
-call_of l = logged.Message l.peer l.key l.number l.message
+call_of l = logged.Message l.peer l.key l.number l.life l.message
 
 -- a message of a kind that isn't fast, and a reset
 abbrev pub queued_by : Path → Logged → List Logged

@@ -7,13 +7,10 @@ use crate::judging::HalfLeft;
 use crate::side::{Side, put};
 use m2_bytes::NoMemory;
 use m2_fabric::SimEnd;
-use m2_trail::{Arrival, HalfTurn, Incoming, advance};
+use m2_trail::{Arrival, HalfTurn, Incoming, MOST_READ, advance};
 
 /// How many asks of a half are judged in one turn at most.
 const MOST_ASKS: u32 = 1_000;
-
-/// How many bytes it reads at a time at most.
-const PIECE: usize = 4_096;
 
 impl Side {
     /// Each half reads, answers and writes until it rests, and where it is asked, its ask is judged. Err is want of memory
@@ -51,7 +48,7 @@ impl Side {
     fn half_goes(&mut self, half: Incoming<SimEnd>, now: u64) -> HalfLeft
         ensures { OnlyJudges self.old self.new }
     {
-        let mut piece = [0; PIECE];
+        let mut piece = [0; MOST_READ];
         let mut half = half;
         'asks: for _ in 0..MOST_ASKS {
             match advance(&mut half, &mut piece) {

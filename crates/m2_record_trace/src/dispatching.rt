@@ -125,6 +125,7 @@ fn dispatch_letter(
         peer,
         key,
         number,
+        life,
         message,
         grant,
     } = letter;
@@ -133,6 +134,7 @@ fn dispatch_letter(
         peer,
         key,
         number,
+        life,
         message,
     };
     match key.path {

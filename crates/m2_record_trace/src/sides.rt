@@ -6,7 +6,7 @@ ghost use Rattle.m2_shared.specs.declared.limits.TheConstants.{MOST_TAKEN};
 use crate::{Pair, Side};
 use m2_addr::Addr;
 use m2_journal::NodeFacts;
-use m2_policy::{FastSet, Policy};
+use m2_policy::{FastSet, Policy, profile};
 use m2_scenario_text::PairFacts;
 use m2_shared::MOST_TAKEN;
 use std::alloc::Global;
@@ -44,6 +44,7 @@ fn side_of(alloc: Global, number: u32, policy: Policy, throttle: u64) -> Side
         first_wait: FIRST_WAIT,
         most_wait: MOST_WAIT,
         salt: 7,
+        rules: profile(),
     };
     let peer = 1 - number;
     Side::new(

@@ -17,7 +17,7 @@ use Rattle.m2_scenario.specs.Text.{Word, pieces}
 pub record IsTrace (nodes : List Node) (links : List Link) (lines : List Line) (text trace : Word) : Type 0 where
   pub run : MemoryRun
   pub last : StageNow
-  pub first : IsFirst nodes links run
+  pub first : IsFirst nodes links lines run
   pub plays : PlaysAll nodes (acts_of nodes links (pieces 10 text) lines) (first_stage run) last
   pub prints : trace ≡ last.text
 

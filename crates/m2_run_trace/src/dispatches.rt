@@ -59,6 +59,7 @@ fn put_line(out: &mut Blob, nodes: &[Node], name: &[u8], call: &Logged) -> Resul
             peer,
             key,
             number: _,
+            life: _,
             message,
         } => put_dispatch(out, name, name_of(nodes, *peer), key, message),
         Logged::Reset { peer } => put_reset(out, name, name_of(nodes, *peer)),

@@ -89,7 +89,7 @@ fn begin(
     lines: &[Line],
 ) -> Result<MemoryRun, NoMemory>
     requires { IsSound nodes.now links.now (map draft_line lines.now) }
-    ensures { IfOk result (IsFirst nodes.now links.now) }
+    ensures { IfOk result (IsFirst nodes.now links.now lines.now) }
 {
     let addrs = addresses(alloc, nodes)?;
     let cluster = cluster_of(alloc, nodes, links, lines)?;
@@ -99,7 +99,7 @@ fn begin(
 /// All lines of a valid scenario can be played by a run before its first line. For contracts alone.
 fn can_be_played(scene: &Scene<'_>, text: &[u8], lines: &[Line], run: &MemoryRun)
     requires sound { IsSound scene.now.nodes.now scene.now.links.now (map draft_line lines.now) }
-    requires first { IsFirst scene.now.nodes.now scene.now.links.now run.now }
+    requires first { IsFirst scene.now.nodes.now scene.now.links.now lines.now run.now }
     ensures { CanPlay (acts_of scene.now.nodes.now scene.now.links.now (pieces 10 text.now) lines.now) run.entry.now }
 {
     first_can_be_done::<CutPort<SimPort>>();

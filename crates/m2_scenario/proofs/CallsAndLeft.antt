@@ -197,7 +197,7 @@ posts_over is_so nodes links so are (l ∷ ls) fits =
 
 -- a message of a node that a link joins with the one at k
 abbrev IsMessageAt : List Link → (k : ℕ) → Heard → Type 0
-IsMessageAt links k (message peer key number m) = are_joined links peer k ≡ true
+IsMessageAt links k (message peer key number life m) = are_joined links peer k ≡ true
 IsMessageAt links k (reset peer) = ⊥
 
 -- what the node at k heard of x, where y is k
@@ -231,8 +231,8 @@ calls_over : (is_so : Link → Bool) (links : List Link) → AreAll is_so links 
     → count_over is_so links (calls_at k cs) ≡ length cs
 calls_over is_so links so are k [] all =
     same_over is_so links (calls_at k []) (λ x y. 0) (λ x y. nothing_either (k == y)) ∙ nothing_over is_so links
-calls_over is_so links so are k (message p key number m ∷ cs) all =
-    same_over is_so links (calls_at k (message p key number m ∷ cs)) (λ x y. one p k x y + calls_at k cs x y) (λ x y. call_more k p (message p key number m) cs x y refl)
+calls_over is_so links so are k (message p key number life m ∷ cs) all =
+    same_over is_so links (calls_at k (message p key number life m ∷ cs)) (λ x y. one p k x y + calls_at k cs x y) (λ x y. call_more k p (message p key number life m) cs x y refl)
     ∙ added_over is_so links (one p k) (calls_at k cs)
     ∙ omega (arith, once_over is_so p k links so are all.0, calls_over is_so links so are k cs all.1)
 calls_over is_so links so are k (reset p ∷ cs) all = absurd all.0
@@ -297,7 +297,7 @@ over_joined is_so how (l ∷ ls) so each x y joined = go (joins x y l) refl join
 are_messages : (nodes : ℕ) (links : List Link) (k : ℕ) (cs : List Heard) → AllByRecursion (λ (h : Heard). IsPeer nodes links k (peer_of h)) cs
     → ((x : ℕ) → are_joined links x k ≡ true → AllByRecursion (IsNoResetBy x) cs) → AllByRecursion (IsMessageAt links k) cs
 are_messages nodes links k [] peers no_reset = tt
-are_messages nodes links k (message p key number m ∷ cs) peers no_reset =
+are_messages nodes links k (message p key number life m ∷ cs) peers no_reset =
     (peers.0.joined, are_messages nodes links k cs peers.1 (λ x joined. (no_reset x joined).1))
 are_messages nodes links k (reset p ∷ cs) peers no_reset =
     absurd (let this : (p == p) ≡ false = (no_reset p peers.0.joined).0 in let so : (p == p) ≡ true = same_test p p refl in cc)

@@ -92,7 +92,7 @@ pub record AreTellingNames (names : List Word) : Type 0 where
 
 -- a line begins with the name of its node and a space
 pub line_begins : (names : List Word) (node : Word) (h : Heard) (rest : Word) → (more : Word) × (line_of names node h ++ rest ≡ node ++ 32 ∷ more)
-line_begins names node (message peer key number m) rest = (_, message_shape node (word names peer) key m rest)
+line_begins names node (message peer key number life m) rest = (_, message_shape node (word names peer) key m rest)
 line_begins names node (reset peer) rest = (_, reset_shape node (word names peer) rest)
 
 words_differ : codes "from" ≡ codes "reset" → ⊥
@@ -113,7 +113,7 @@ second_once node v w r s plain plain_v plain_w e =
 pub line_once : HexIsReadAgain → (names : List Word) → AreTellingNames names → (node : Word) → IsPlain node → (x y : Heard)
     → IsReportable (length names) x → IsReportable (length names) y → (r s : Word)
     → line_of names node x ++ r ≡ line_of names node y ++ s → (printed_of x ≡ printed_of y) × (r ≡ s)
-line_once again names telling node plain (message p k a m) (message q l b n) x y r s e =
+line_once again names telling node plain (message p k a u m) (message q l b v n) x y r s e =
     let one = message_shape node (word names p) k m r in
     let other = message_shape node (word names q) l n s in
     let second = second_once node (codes "from") (codes "from") _ _ plain plain_from plain_from (sym one ∙ e ∙ other) in
@@ -121,12 +121,12 @@ line_once again names telling node plain (message p k a m) (message q l b n) x y
     (telling.plain p x.peer) (telling.plain q y.peer) x.fits y.fits second.1 in
     let peer = telling.once p q x.peer y.peer words.0 in
     (ap (λ w. printed_message w (message_of k m)) peer ∙ ap (printed_message q) words.1, words.2)
-line_once again names telling node plain (message p k a m) (reset q) x y r s e =
+line_once again names telling node plain (message p k a u m) (reset q) x y r s e =
     let one = message_shape node (word names p) k m r in
     let other = reset_shape node (word names q) s in
     let second = second_once node (codes "from") (codes "reset") _ _ plain plain_from plain_reset (sym one ∙ e ∙ other) in
     absurd (words_differ second.0)
-line_once again names telling node plain (reset p) (message q l b n) x y r s e =
+line_once again names telling node plain (reset p) (message q l b v n) x y r s e =
     let one = reset_shape node (word names p) r in
     let other = message_shape node (word names q) l n s in
     let second = second_once node (codes "reset") (codes "from") _ _ plain plain_reset plain_from (sym one ∙ e ∙ other) in

@@ -59,7 +59,7 @@ HearsWhole fast lines heard x y = (key : Key) → AreSame (of_key x key (at y he
 
 -- no call is a reset by this node
 abbrev pub IsNoResetBy : ℕ → Heard → Type 0
-IsNoResetBy x (message peer key number m) = Unit {0}
+IsNoResetBy x (message peer key number life m) = Unit {0}
 IsNoResetBy x (reset peer) = (peer == x) ≡ false
 
 abbrev pub HearsNoReset : List (List Heard) → (x y : ℕ) → Type 0

@@ -12,7 +12,8 @@ use Rattle.m2_scenario.specs.Report.{IsPeerAmong, name_of, report_of}
 
 -- ---- what is printed
 
--- of a message its key, its kind and the bytes of its parts; its other fields and its number aren't printed
+-- of a message its key, its kind and the bytes of its parts; its other fields, its number and the name of the life that it was
+-- accepted in aren't printed
 pub record PrintedMessage : Type 0 where
   pub key : Key
   pub kind : ℕ
@@ -29,7 +30,7 @@ abbrev pub message_of : Key → Content → PrintedMessage
 message_of key m = record { key = key; kind = m.header.kind; front = m.front; middle = m.middle; tail = m.tail }
 
 abbrev pub printed_of : Heard → Printed
-printed_of (message peer key number m) = printed_message peer (message_of key m)
+printed_of (message peer key number life m) = printed_message peer (message_of key m)
 printed_of (reset peer) = printed_reset peer
 
 -- ---- of which nodes and calls
@@ -55,7 +56,7 @@ pub record FieldsFit (m : PrintedMessage) : Type 0 where
   pub tail : IsPart m.tail
 
 abbrev pub FitsLine : Heard → Type 0
-FitsLine (message peer key number m) = FieldsFit (message_of key m)
+FitsLine (message peer key number life m) = FieldsFit (message_of key m)
 FitsLine (reset peer) = Unit {0}
 
 -- a call whose fields fit a line, and whose peer is one of so many nodes

@@ -35,13 +35,13 @@ reset_line node peer = node ++ codes " reset " ++ peer ++ codes "\n"
 
 -- the line of what a node heard, whose peer is a place among the names
 abbrev pub line_of : List Word → Word → Heard → Word
-line_of names node (message peer key number m) = dispatch_line node (word names peer) key m
+line_of names node (message peer key number life m) = dispatch_line node (word names peer) key m
 line_of names node (reset peer) = reset_line node (word names peer)
 
 -- ---- their order
 
 abbrev pub is_reset_by : ℕ → Heard → Bool
-is_reset_by peer (message p key number m) = false
+is_reset_by peer (message p key number life m) = false
 is_reset_by peer (reset p) = p == peer
 
 abbrev pub path_rank : Path → ℕ
@@ -50,7 +50,7 @@ path_rank Queued = 0
 
 -- the rank of a message: by its priority, and inside one priority fast before queued
 abbrev pub rank_of : Heard → ℕ
-rank_of (message peer key number m) = key.priority * 2 + path_rank key.path
+rank_of (message peer key number life m) = key.priority * 2 + path_rank key.path
 rank_of (reset peer) = 0
 
 -- what was heard of a peer, sorted: its messages by rank, and after them its resets

@@ -8,8 +8,9 @@ use Rattle.std.proofs.lemmas.Bool.{and_parts, cases_lt, eqb-true}
 use Rattle.std.proofs.lemmas.List.Elements.{recursion_from_All}
 use Rattle.std.proofs.lemmas.Option.{get_or_from_slice_get, none-some, same_Some, slice_get_within}
 use Rattle.m2_addr.specs.declared.addr.Addr.{Addr}
-use Rattle.m2_fabric.specs.Port.{fresh_port}
+use Rattle.m2_fabric.specs.CutPort.{fresh_cut_port}
 use Rattle.m2_fabric.specs.Sockets.{same_socket}
+use Rattle.m2_fabric.specs.declared.port.Cut.{Cut}
 use Rattle.m2_fabric.specs.declared.socket.SocketId.{SocketId}
 use Rattle.m2_journal.specs.m2_handshake.Asks.{same_addr}
 use Rattle.m2_policy.specs.declared.policy.Policy.{Policy}
@@ -227,8 +228,8 @@ module _ (nodes : List Node) (links : List Link) (lines : List DraftLine) (sound
   entity_so : (x : Node) → slice_get nodes k ≡ Some x → (l : Link) (r : RecordNow) → IsOver nodes k word l r → r.core.facts.node.entity ≡ x.entity
   entity_so x e l r v = ap (λ (s : RecordNow). s.core.facts.node.entity) v.is ∙ ap (λ (n : Node). n.entity) (same_Some v.mine x (sym v.mine_there ∙ e))
 
-  pub can_begin : (x : Node) → slice_get nodes k ≡ Some x → (bytes : SeenTakePass) (numbers : SeenNumberPass) → CanBegin x.entity (fresh_port x.at) rs bytes numbers
-  can_begin x e bytes numbers =
+  pub can_begin : (x : Node) → slice_get nodes k ≡ Some x → (cuts : List Cut) (bytes : SeenTakePass) (numbers : SeenNumberPass) → CanBegin x.entity (fresh_cut_port x.at cuts) rs bytes numbers
+  can_begin x e cuts bytes numbers =
       let s : Supply = record { place = bytes.place; least = numbers.least } in
       record {
         records = all_so (IsSupplied s []) (IsSupplied s []) (λ l r fits. supplied s l r)

@@ -3,6 +3,7 @@ use Rattle.std.specs.Prelude.{◌≡◌, ℕ, ◌+◌, ◌%◌, ◌==◌, if◌t
 use Rattle.std.specs.Option.{option_to_list}
 use Rattle.m2_journal.specs.declared.facts.NodeFacts.{NodeFacts}
 use Rattle.m2_journal.specs.SideFacts.{SideFacts}
+use Rattle.m2_policy.specs.Rules.{profile}
 use Rattle.m2_cluster.specs.Node.{NodeNow}
 use Rattle.m2_record.specs.IsRecord.{new_record, no_room}
 use Rattle.m2_record.specs.RecordNow.{RecordNow}
@@ -11,7 +12,7 @@ use Rattle.m2_scenario.specs.declared.node.Node.{Node}
 use Rattle.m2_script.specs.declared.made.Towards.{Towards}
 
 -- what a node of this number tells its records: it waits a millisecond before a new connect, and of a word drawn for it the low 16
--- bits are its salt
+-- bits are its salt; its rules are those of the profile
 abbrev pub facts_of : Node → (number word : ℕ) → NodeFacts
 facts_of n number word = record {
   entity = n.entity;
@@ -22,6 +23,7 @@ facts_of n number word = record {
   first_wait = 1;
   most_wait = 1;
   salt = word % 65536;
+  rules = profile;
 }
 
 -- the other node of a link of the node of this number, and the policy towards it, if that is one of its two

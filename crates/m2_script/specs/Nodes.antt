@@ -8,7 +8,7 @@ use Rattle.m2_center.specs.Making.{new_center}
 use Rattle.m2_cluster.specs.Node.{IsWholeNode, NodeNow}
 use Rattle.m2_journal.specs.m2_control.Laws.{HasAddrRanges}
 use Rattle.m2_dispatch.specs.declared.logged.Logged.{Logged}
-use Rattle.m2_fabric.specs.Port.{fresh_port}
+use Rattle.m2_fabric.specs.CutPort.{fresh_cut_port}
 use Rattle.m2_record.specs.RecordNow.{RecordNow}
 use Rattle.m2_scenario.specs.declared.line.Line.{Line}
 use Rattle.m2_scenario.specs.declared.line.Line.TheVariants as line
@@ -17,7 +17,7 @@ use Rattle.m2_scenario.specs.declared.node.Node.{Node}
 use Rattle.m2_script.specs.Made.{records_of, roomless}
 use Rattle.m2_shared.specs.Numbers.{SeenNumberPass}
 use Rattle.m2_shared.specs.Throttle.{SeenTakePass, bound_of}
-use Rattle.m2_fabric.specs.declared.cut_port.Cut.{Cut}
+use Rattle.m2_fabric.specs.declared.port.Cut.{Cut}
 
 -- where a node listens
 abbrev pub address_of : Node → Addr
@@ -51,18 +51,18 @@ none_granted = record { place = None; word = 0; changes = [] }
 abbrev pub none_drawn : SeenNumberPass
 none_drawn = record { place = None; least = 0; drawn = [] }
 
--- The node at place k: its center is new, over a new port in memory at its address, its records are over its links, its dispatchers
--- had no call, no number was drawn, and nothing was granted by its throttle, which has its bound.
-pub record IsNewNode (nodes : List Node) (links : List Link) (k : ℕ) (x : Node) (n : NodeNow (List Logged)) : Type 0 where
+-- The node at place k: its center is new, over a new port in memory at its address, which has the cuts of the lines; its records are
+-- over its links, its dispatchers had no call, no number was drawn, and nothing was granted by its throttle, which has its bound.
+pub record IsNewNode (nodes : List Node) (links : List Link) (lines : List Line) (k : ℕ) (x : Node) (n : NodeNow (List Logged)) : Type 0 where
   pub records : List RecordNow
   pub over : map roomless records ≡ records_of nodes links k (k + 1)
-  pub center : n.center ≡ new_center x.entity (fresh_port x.at) records [] [] none_granted none_drawn
+  pub center : n.center ≡ new_center x.entity (fresh_cut_port x.at (cuts_of nodes lines k)) records [] [] none_granted none_drawn
   pub numbers : n.numbers ≡ record { place = None }
   pub throttle : n.throttle ≡ record { place = None; most = bound_of x.throttle }
   pub whole : IsWholeNode n
 
 -- one for each of the scenario's
-pub record AreNewNodes (nodes : List Node) (links : List Link) (all : List (NodeNow (List Logged))) : Type 0 where
+pub record AreNewNodes (nodes : List Node) (links : List Link) (lines : List Line) (all : List (NodeNow (List Logged))) : Type 0 where
   pub count : length all ≡ length nodes
-  pub each : (k : ℕ) (x : Node) (n : NodeNow (List Logged)) → slice_get nodes k ≡ Some x → slice_get all k ≡ Some n → IsNewNode nodes links k x n
+  pub each : (k : ℕ) (x : Node) (n : NodeNow (List Logged)) → slice_get nodes k ≡ Some x → slice_get all k ≡ Some n → IsNewNode nodes links lines k x n
   pub ranges : AllByRecursion HasNodeRanges nodes

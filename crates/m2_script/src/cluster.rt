@@ -26,7 +26,7 @@ pub fn cluster_of(
     lines: &[Line],
 ) -> Result<MemoryCluster, NoMemory>
     requires { IsSound nodes.now links.now (map draft_line lines.now) }
-    ensures { IfOk result (λ c. AreNewNodes nodes.now links.now c.nodes) }
+    ensures { IfOk result (λ c. AreNewNodes nodes.now links.now lines.now c.nodes) }
 {
     let mut cluster = MemoryCluster::with_room(alloc, nodes.len())?;
     let mut words = CountWords::new();

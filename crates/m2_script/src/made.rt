@@ -7,7 +7,7 @@ ghost use Rattle.m2_script.specs.Made.{facts_of, other_of, over, records_of, roo
 use m2_bytes::NoMemory;
 use m2_fabric::End;
 use m2_journal::NodeFacts;
-use m2_policy::Policy;
+use m2_policy::{Policy, profile};
 use m2_record::Record;
 use m2_scenario::{Link, MOST_NODES, Node};
 use std::alloc::Global;
@@ -35,6 +35,7 @@ fn facts(node: &Node, number: u32, word: u64) -> NodeFacts
         first_wait: WAIT,
         most_wait: WAIT,
         salt: (word % 65_536) as u16,
+        rules: profile(),
     }
 }
 

@@ -3,6 +3,7 @@
 ghost use Rattle.std.specs.Prelude.{◌≡◌, ◌+◌, ◌<◌, [], None, IfOk, IfSome, length, map, slice_get};
 ghost use Rattle.m2_center.specs.Making.{CanBegin, new_center};
 ghost use Rattle.m2_cluster.specs.Node.{IsWholeNode};
+ghost use Rattle.m2_fabric.specs.CutPort.{shown};
 ghost use Rattle.m2_fabric.specs.Port.{fresh_port};
 ghost use Rattle.m2_script.specs.Nodes.{IsNewNode, cuts_of, none_drawn, none_granted};
 ghost use Rattle.m2_scenario.specs.Draft.{draft_line};
@@ -36,7 +37,7 @@ pub(crate) fn node_of(
     requires sound { IsSound nodes.now links.now (map draft_line lines.now) }
     requires number { number < length nodes.now }
     requires word { word ≡ number + 1 }
-    ensures { IfOk result (λ n. IfSome (slice_get nodes.now number) (λ x. IsNewNode nodes.now links.now number x n)) }
+    ensures { IfOk result (λ n. IfSome (slice_get nodes.now number) (λ x. IsNewNode nodes.now links.now lines.now number x n)) }
 {
     let port = port_of(alloc, nodes, lines, number)?;
     let records = records(alloc, nodes, links, number, word)?;
@@ -67,8 +68,8 @@ fn node_with(
     records: Vec<Record<CutEnd<SimEnd>>>,
 ) -> Result<MemoryNode, NoMemory>
     requires port { port.inner ≡ fresh_port node.now.at }
-    requires begin { CanBegin node.now.entity (fresh_port node.now.at) records.items none_granted none_drawn }
-    ensures center { IfOk result (λ n. n.center ≡ new_center node.now.entity (fresh_port node.now.at) records.items [] [] none_granted none_drawn) }
+    requires begin { CanBegin node.now.entity (shown port) records.items none_granted none_drawn }
+    ensures center { IfOk result (λ n. n.center ≡ new_center node.now.entity (shown port) records.items [] [] none_granted none_drawn) }
     ensures numbers { IfOk result (λ n. n.numbers ≡ record { place = None }) }
     ensures throttle { IfOk result (λ n. n.throttle ≡ record { place = None; most = bound_of node.now.throttle }) }
     ensures whole { IfOk result IsWholeNode }

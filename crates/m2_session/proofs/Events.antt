@@ -5,7 +5,7 @@ use Rattle.m2_session.specs.declared.session.Session.{Session}
 use Rattle.m2_session.specs.declared.event.Event.TheVariants.{Dialled, AskedIdent, AskedReconnect, GotServerIdent, GotReconnectOk, GotReset, GotRetry, GotRetryGlobal, GotWait, TookIdent, TookReconnect, Pending, Faulted, MarkedDown}
 use Rattle.m2_session.specs.declared.event.Effects.{Effects}
 use Rattle.m2_session.specs.Phases.{is, is_among, with_feed}
-use Rattle.m2_session.specs.Steps.{closes}
+use Rattle.m2_session.specs.Steps.{closes, rises}
 use Rattle.m2_session.specs.SessionLaws.{PendingLeavesNothingPending, LostOnlySo, loss_of, thrown_away, nothing_lost, MarkDownForgets, ConnectRisesByOne}
 
 standby_or_wait : (b : Bool) → ((if b then Standby else Wait) ≡ Standby) ⊎ ((if b then Standby else Wait) ≡ Wait)
@@ -67,7 +67,7 @@ fault_keeps_connect false false true s w x y z a b c d = omega arith
 fault_keeps_connect false false false s w x y z a b c d = omega arith
 
 pub rises_by_one : ConnectRisesByOne
-rises_by_one s Dialled = dialled_rises s.lost_ready s.connect
+rises_by_one s Dialled = dialled_rises (rises s) s.connect
 rises_by_one s (AskedIdent cookie) = omega arith
 rises_by_one s AskedReconnect = omega arith
 rises_by_one s (GotServerIdent cookie global) = omega arith

@@ -29,7 +29,7 @@ ident_rows s cookie global =
     row another_client (is_kept s.client_cookie && is_kept s.server_cookie && differs s.client_cookie cookie) (AcceptReset s.policy.resetcheck) ∷
     row same_client (is_kept s.client_cookie && (s.client_cookie == cookie)) AcceptAgain ∷
     row settled (is_among s.phase (Ready ∷ Standby ∷ [])) AcceptReplace ∷
-    row peer_wins (wins s.peer s.mine s.policy.server) AcceptRace ∷ []
+    row peer_wins (wins s.rules.order s.peer s.mine s.policy.server) AcceptRace ∷ []
 
 -- otherwise this node has won the race
 abbrev pub ident_answer : Session → ℕ → ℕ → Answer

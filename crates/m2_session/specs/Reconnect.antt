@@ -1,7 +1,7 @@
 -- What a session answers to a SESSION_RECONNECT of its peer. The rows follow Ceph's ProtocolV2
 -- (handle_reconnect); docs/PROTOCOL.md lays them out and says of each whose it is.
 use Rattle.std.specs.Prelude.{ℕ, not, ◌&&◌, ◌==◌, List, [], ◌∷◌}
-use Rattle.m2_addr.specs.Order.{is_below}
+use Rattle.m2_addr.specs.Order.{is_below_in}
 use Rattle.m2_session.specs.declared.session.Session.{Session}
 use Rattle.m2_session.specs.declared.session.Phase.TheVariants.{Absent, Standby}
 use Rattle.m2_session.specs.declared.answer.Answer.{Answer}
@@ -39,7 +39,7 @@ reconnect_rows s ask written =
     row another_server (differs s.server_cookie ask.server) (Reset s.policy.resetcheck) ∷
     row old_number (is_above s.peer_global ask.global) (RetryGlobal s.peer_global) ∷
     row old_connect (is_above s.connect ask.connect) (Retry s.connect) ∷
-    row mine_wins ((s.connect == ask.connect) && is_below s.mine s.peer && not s.policy.server && not (is s.phase Standby)) Wait ∷
+    row mine_wins ((s.connect == ask.connect) && is_below_in s.rules.order s.mine s.peer && not s.policy.server && not (is s.phase Standby)) Wait ∷
     row never_written (is_above ask.seen written) Close ∷ []
 
 -- otherwise the session goes on

@@ -2,6 +2,8 @@
 -- What isn't named stays. The steps follow Ceph's ProtocolV2; the table as it stands is this project's
 -- profile (docs/PROTOCOL.md).
 use Rattle.std.specs.Prelude.{◌+◌, ◌-◌, ◌<◌, ◌^◌, max, Bool, true, false, ◌&&◌, ◌||◌, not, if◌then◌else◌, List, [], ◌∷◌}
+use Rattle.m2_policy.specs.declared.rules.ConnectRise.{ConnectRise}
+use Rattle.m2_policy.specs.declared.rules.ConnectRise.TheVariants.{BehindReady, WhereKept}
 use Rattle.m2_session.specs.declared.session.Phase.{Phase}
 use Rattle.m2_session.specs.declared.session.Phase.TheVariants.{Absent, Connecting, IdentSent, ReconnectSent, Ready, Standby, Wait}
 use Rattle.m2_session.specs.declared.session.Session.{Session}
@@ -33,6 +35,16 @@ closes = record nothing { close = true; requeue = true }
 abbrev pub sets_back : Effects
 sets_back = record nothing { set_back = true }
 
+-- ---- a dial
+
+-- its connect number is one more, by the rule of the node
+abbrev pub rises_by : ConnectRise → Session → Bool
+rises_by BehindReady s = s.lost_ready
+rises_by WhereKept s = is_kept s.server_cookie
+
+abbrev pub rises : Session → Bool
+rises s = rises_by s.rules.connects s
+
 -- ---- a broken feed
 
 pub data FaultRow : Type 0 where
@@ -57,7 +69,7 @@ fault s waits = first_that_holds (fault_rows s waits) (record s { phase = Wait }
 abbrev pub step_of : Session → Event → Step
 step_of s Dialled =
     step_row (Absent ∷ Standby ∷ Wait ∷ [])
-    (record s { phase = Connecting; connect = (if s.lost_ready then s.connect + 1 else s.connect); lost_ready = false })
+    (record s { phase = Connecting; connect = (if rises s then s.connect + 1 else s.connect); lost_ready = false })
     nothing
 step_of s (AskedIdent cookie) =
     step_row (Connecting ∷ [])

@@ -33,7 +33,7 @@ pub fn judge_ident(s: &Session, cookie: u64, global: u64) -> Answer
     if s.phase == Phase::Ready || s.phase == Phase::Standby {
         return Answer::AcceptReplace;
     }
-    if wins(&s.peer, &s.mine, s.policy.server) {
+    if wins(s.rules.order, &s.peer, &s.mine, s.policy.server) {
         return Answer::AcceptRace;
     }
     Answer::Wait
@@ -74,7 +74,8 @@ pub fn judge_reconnect(
     if s.connect > connect {
         return Answer::Retry { number: s.connect };
     }
-    if s.connect == connect && s.mine < s.peer && !s.policy.server && s.phase != Phase::Standby {
+    let mine_wins = s.mine.is_below_in(s.rules.order, &s.peer);
+    if s.connect == connect && mine_wins && !s.policy.server && s.phase != Phase::Standby {
         return Answer::Wait;
     }
     if seen > written {

@@ -1,7 +1,7 @@
 //! What one side of a link remembers.
 
 use m2_addr::Addr;
-use m2_policy::Policy;
+use m2_policy::{Policy, Rules};
 
 /// Where a session stands.
 #[derive(Clone, Copy, Debug, PartialEq, Eq)]
@@ -30,6 +30,8 @@ pub struct Session {
     pub peer: Addr,
     /// This node's policy towards the other.
     pub policy: Policy,
+    /// This node's own rules.
+    pub rules: Rules,
     pub phase: Phase,
     /// The name of the session that its client chose, and the one that its server chose.
     pub client_cookie: u64,

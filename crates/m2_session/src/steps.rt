@@ -7,6 +7,7 @@ ghost use Rattle.m2_session.specs.Steps.{step_of, HasFollower};
 
 use crate::event::{Effects, Event};
 use crate::session::{Phase, Session};
+use m2_policy::ConnectRise;
 
 const CLOSES: Effects = Effects {
     close: true,
@@ -89,17 +90,23 @@ fn in_phase(s: Session, phase: Phase) -> Session
     Session { phase, ..s }
 }
 
+/// Whether the connect number of a dial is one more, by the node's rule.
+pub fn rises(s: &Session) -> bool
+    ensures { result ≡ table.rises s.now }
+{
+    match s.rules.connects {
+        ConnectRise::BehindReady => s.lost_ready,
+        ConnectRise::WhereKept => s.server_cookie != 0,
+    }
+}
+
 fn dialled(s: Session) -> Session
     requires { s.connect < 2 ^ 64 - 1 }
     ensures { result ≡ (step_of s Event.Dialled).session }
 {
     Session {
         phase: Phase::Connecting,
-        connect: if s.lost_ready {
-            s.connect + 1
-        } else {
-            s.connect
-        },
+        connect: if rises(&s) { s.connect + 1 } else { s.connect },
         lost_ready: false,
         ..s
     }

@@ -82,7 +82,7 @@ unfoldable pub message_words : Key → (number : ℕ) → Content → Text
 message_words key number m = number_word number ++ key_words key ++ number_word m.header.kind ++ parts_words m
 
 unfoldable pub heard_words : Heard → Text
-heard_words (message peer key number m) = codes " message" ++ message_words key number m
+heard_words (message peer key number life m) = codes " message" ++ message_words key number m
 heard_words (reset peer) = codes " reset"
 
 unfoldable pub heard_line : (side : Text) → Heard → Text

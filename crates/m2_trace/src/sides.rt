@@ -201,6 +201,7 @@ fn put_heard_words(out: &mut Blob, call: &Logged) -> Result<(), NoMemory>
             peer: _,
             key,
             number,
+            life: _,
             message,
         } => {
             out.push_all(b" message")?;

@@ -56,7 +56,7 @@ reaction_well s signed = tt
 reaction_well s (refuses f) = tt
 
 held_well : (s : Standing) (awaited : Awaited) (held : Option Parts) → AsksWell (answer_held s awaited held)
-held_well s awaited (Some f) = reaction_well s (after_frame s.side awaited f)
+held_well s awaited (Some f) = reaction_well s (after_frame s.auth s.side awaited f)
 held_well s awaited None = take_well s (found_in s.rest)
 
 signed_well : (side : HalfSide) (m : Move) → AsksWell m → AsksWell (signed_move side m)

@@ -6,6 +6,7 @@ use Rattle.m2_fabric.specs.declared.end.EndRead.TheVariants as read
 use Rattle.m2_fabric.specs.declared.end.EndWrite.{EndWrite}
 use Rattle.m2_fabric.specs.declared.end.EndWrite.TheVariants as write
 use Rattle.m2_handshake.specs.Moves.{is_at_rest}
+use Rattle.m2_trail.specs.declared.incoming.TheConstants.{MOST_READ}
 use Rattle.m2_trail.specs.declared.step.IncomingStep.{IncomingStep}
 use Rattle.m2_trail.specs.declared.step.IncomingStep.TheVariants as step
 use Rattle.m2_trail.specs.Incoming.{IncomingNow, ReadsOn, StepsOn, WritesOn}
@@ -18,11 +19,11 @@ pub data Move : Type 0 where
   answers : IncomingStep → Move
   reads : EndRead → (piece : List ℕ) → Move
 
--- the move that a half makes where it stands, and what that leaves
+-- The move that a half makes where it stands, and what that leaves. It reads into MOST_READ bytes.
 abbrev pub Makes : Move → IncomingNow → IncomingNow → Type 0
 Makes (writes answer) old new = (0 < length old.left) × WritesOn answer old new
 Makes (answers answer) old new = (old.left ≡ []) × (is_at_rest old.half ≡ false) × StepsOn answer old new
-Makes (reads answer piece) old new = (old.left ≡ []) × (is_at_rest old.half ≡ true) × ReadsOn answer piece old new
+Makes (reads answer piece) old new = ((old.left ≡ []) × (length piece ≡ MOST_READ)) × (is_at_rest old.half ≡ true) × ReadsOn answer piece old new
 
 abbrev pub outcome_of : Move → Outcome
 outcome_of (writes (write.Put n)) = GoesOn

@@ -1,6 +1,6 @@
 //! A half in its turn.
 
-ghost use Rattle.std.specs.Prelude.{◌≡◌, ◌<◌, ◌≤◌, length};
+ghost use Rattle.std.specs.Prelude.{◌≡◌, length};
 ghost use Rattle.m2_trail.specs.Turn.{AdvancesAs};
 
 use crate::turn_moves::{Outcome, move_on};
@@ -26,10 +26,9 @@ pub enum HalfTurn {
 }
 
 /// A half goes on until nothing more is there to be done, by at most [`MOST_MOVES`] moves. It reads into
-/// the piece, at most so many bytes at a time.
+/// the piece, which has [`MOST_READ`] bytes.
 pub fn advance<E: End>(half: &mut Incoming<E>, piece: &mut [u8]) -> HalfTurn
-    requires some { 0 < length piece.old }
-    requires most { length piece.old ≤ MOST_READ }
+    requires piece { length piece.old ≡ MOST_READ }
     ensures { AdvancesAs result half.old half.new }
 {
     'moves: for _ in 0..MOST_MOVES {

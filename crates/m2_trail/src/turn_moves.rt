@@ -1,6 +1,6 @@
 //! One move of a half, and what comes of it.
 
-ghost use Rattle.std.specs.Prelude.{◌≡◌, ◌<◌, ◌≤◌, ℕ, List, None, length};
+ghost use Rattle.std.specs.Prelude.{◌≡◌, ℕ, List, None, length};
 ghost use Rattle.m2_trail.specs.TurnMoves.{MakesMove, answers, outcome_of, reads, writes};
 
 use crate::{Incoming, IncomingStep, MOST_READ};
@@ -23,8 +23,7 @@ pub(crate) enum Outcome {
 /// and only where that gives no answer is more read.
 pub(crate) fn move_on<E: End>(half: &mut Incoming<E>, piece: &mut [u8]) -> Outcome
     requires unasked { half.old.ask ≡ None }
-    requires some { 0 < length piece.old }
-    requires most { length piece.old ≤ MOST_READ }
+    requires piece { length piece.old ≡ MOST_READ }
     ensures { MakesMove result half.old half.new }
 {
     if half.has_text() {

@@ -1,6 +1,6 @@
 //! A half in a center's turn.
 
-ghost use Rattle.std.specs.Prelude.{◌≡◌, ◌<◌, ◌≤◌, map, length};
+ghost use Rattle.std.specs.Prelude.{◌≡◌, ◌<◌, map, length};
 ghost use Rattle.std.specs.List.{AllByRecursion};
 ghost use Rattle.m2_record.specs.IsRecord.{IsRecord};
 ghost use Rattle.m2_record.specs.Stepping.{IsSameWork};
@@ -57,8 +57,7 @@ pub fn turn_half<E: End>(
     requires consistent { (c : Others) × AreConsistent (supply_of work.old) c.entity (with_half p c records.old) }
     requires numbers { work.old.number_pass.now.place ≡ work.old.numbers.now.place }
     requires takes { work.old.take_pass.now.place ≡ work.old.throttle.now.place }
-    requires some { 0 < length piece.old }
-    requires most { length piece.old ≤ MOST_READ }
+    requires piece { length piece.old ≡ MOST_READ }
     ensures turns { TurnsHalf result p (means_of now work.old) (homes records.old work.old) (homes records.new work.new) }
     ensures consistent { (c : Others) → AreConsistent (supply_of work.old) c.entity (with_half p c records.old) → AreConsistent (supply_of work.new) c.entity (with_turned result c records.new) }
     ensures peers { map peer_of records.new ≡ map peer_of records.old }
@@ -91,8 +90,7 @@ fn turn_once<E: End>(
     requires consistent { (c : Others) × AreConsistent (supply_of work.old) c.entity (with_half p c records.old) }
     requires numbers { work.old.number_pass.now.place ≡ work.old.numbers.now.place }
     requires takes { work.old.take_pass.now.place ≡ work.old.throttle.now.place }
-    requires some { 0 < length piece.old }
-    requires most { length piece.old ≤ MOST_READ }
+    requires piece { length piece.old ≡ MOST_READ }
     ensures turns { TurnsOnce result p (means_of now work.old) (homes records.old work.old) (homes records.new work.new) }
     ensures consistent { (c : Others) → AreConsistent (supply_of work.old) c.entity (with_half p c records.old) → AreConsistent (supply_of work.new) c.entity (with_moved result c records.new) }
     ensures peers { map peer_of records.new ≡ map peer_of records.old }

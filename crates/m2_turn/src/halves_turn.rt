@@ -41,8 +41,7 @@ pub fn turn_halves<E: End>(
     requires room { length halves.old ≤ vec_capacity loose.old - vec_len loose.old }
     requires numbers { work.old.number_pass.now.place ≡ work.old.numbers.now.place }
     requires takes { work.old.take_pass.now.place ≡ work.old.throttle.now.place }
-    requires some { 0 < length piece.old }
-    requires most { length piece.old ≤ MOST_READ }
+    requires piece { length piece.old ≡ MOST_READ }
     ensures turns { TurnsHalves E result (means_of now work.old) (callers halves.old loose.old.items (homes records.old work.old)) (callers halves.new loose.new.items (homes records.new work.new)) }
     ensures consistent { (made : List SocketId) (entity : ℕ) → AreConsistent (supply_of work.old) entity (sessions_of made (callers halves.old loose.old.items (homes records.old work.old))) → AreConsistent (supply_of work.new) entity (sessions_of made (callers halves.new loose.new.items (homes records.new work.new))) }
     ensures peers { map peer_of records.new ≡ map peer_of records.old }
@@ -84,8 +83,7 @@ fn turn_oldest<E: End>(
     requires room { length halves.old ≤ vec_capacity loose.old - vec_len loose.old }
     requires numbers { work.old.number_pass.now.place ≡ work.old.numbers.now.place }
     requires takes { work.old.take_pass.now.place ≡ work.old.throttle.now.place }
-    requires some { 0 < length piece.old }
-    requires most { length piece.old ≤ MOST_READ }
+    requires piece { length piece.old ≡ MOST_READ }
     ensures turns { TurnsOldest E result (means_of now work.old) (callers halves.old loose.old.items (homes records.old work.old)) (callers halves.new loose.new.items (homes records.new work.new)) }
     ensures consistent { (made : List SocketId) (entity : ℕ) → AreConsistent (supply_of work.old) entity (sessions_of made (callers halves.old loose.old.items (homes records.old work.old))) → AreConsistent (supply_of work.new) entity (sessions_of made (callers halves.new loose.new.items (homes records.new work.new))) }
     ensures peers { map peer_of records.new ≡ map peer_of records.old }

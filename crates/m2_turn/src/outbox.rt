@@ -161,6 +161,7 @@ fn give_back(parcel: Parcel, throttle: &Throttle, pass: &mut TakePass)
                 peer: _,
                 key: _,
                 number: _,
+                life: _,
                 message: _,
                 grant,
             } = letter;
@@ -228,16 +229,18 @@ impl<D: Dispatcher> Outbox<D> {
             peer,
             key,
             number,
+            life,
             message,
             grant,
         } = letter;
-        match self.fast.message(peer, key, number, message) {
+        match self.fast.message(peer, key, number, life, message) {
             Ok(()) => throttle.give(pass, grant),
             Err(message) => {
                 let letter = Letter {
                     peer,
                     key,
                     number,
+                    life,
                     message,
                     grant,
                 };

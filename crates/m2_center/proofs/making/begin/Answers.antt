@@ -11,6 +11,5 @@ invariant_of-result g c = (
   },
   c.requires.roster,
   rw c.requires.none (omega (arith)),
-  c.requires.some,
-  c.requires.most,
+  c.requires.piece,
 )

@@ -19,11 +19,14 @@ pub lines-requires : goal.lines-requires
 lines-requires c =
     let nodes : List Node = c.args.nodes.now.items in
     let links : List Link = c.args.links.now.items in
+    let lines : List Line = c.args.lines.items in
     let run = c.in_ok-run.run' in
-    let first : IsFirst nodes links run =
-    subst (λ (ns : List Node). IsFirst ns links run) c.as_slice-2.ensures (subst (λ (ls : List Link). IsFirst c.as_slice-2.result.now ls run) c.as_slice-3.ensures c.in_ok-run.ensures) in
-    subst (λ (ls : List Link). CanAllBeDone (CutEnd SimEnd) heard_by (script_of ls c.len.result c.args.lines.items) run) (sym c.as_slice-5.ensures)
-    (subst (λ (n : ℕ). CanAllBeDone (CutEnd SimEnd) heard_by (script_of links n c.args.lines.items) run) (sym c.len.ensures) (c.first_can_be_done.ensures nodes links c.args.lines.items run c.requires first))
+    let first : IsFirst nodes links lines run =
+    subst (λ (ns : List Node). IsFirst ns links lines run) c.as_slice-2.ensures
+    (subst (λ (ls : List Link). IsFirst c.as_slice-2.result.now ls lines run) c.as_slice-3.ensures
+    (subst (λ (xs : List Line). IsFirst c.as_slice-2.result.now c.as_slice-3.result.now xs run) c.as_slice-4.ensures c.in_ok-run.ensures)) in
+    subst (λ (ls : List Link). CanAllBeDone (CutEnd SimEnd) heard_by (script_of ls c.len.result lines) run) (sym c.as_slice-5.ensures)
+    (subst (λ (n : ℕ). CanAllBeDone (CutEnd SimEnd) heard_by (script_of links n lines) run) (sym c.len.ensures) (c.first_can_be_done.ensures nodes links lines run c.requires first))
 
 pub returns-in-Ok : goal.returns-in-Ok
 returns-in-Ok c =
@@ -32,8 +35,10 @@ returns-in-Ok c =
     let lines : List Line = c.args.lines.items in
     let run = c.in_ok-run.run' in
     let last = c.lines-2.new.self in
-    let first : IsFirst nodes links run =
-    subst (λ (ns : List Node). IsFirst ns links run) c.as_slice-2.ensures (subst (λ (ls : List Link). IsFirst c.as_slice-2.result.now ls run) c.as_slice-3.ensures c.in_ok-run.ensures) in
+    let first : IsFirst nodes links lines run =
+    subst (λ (ns : List Node). IsFirst ns links lines run) c.as_slice-2.ensures
+    (subst (λ (ls : List Link). IsFirst c.as_slice-2.result.now ls lines run) c.as_slice-3.ensures
+    (subst (λ (xs : List Line). IsFirst c.as_slice-2.result.now c.as_slice-3.result.now xs run) c.as_slice-4.ensures c.in_ok-run.ensures)) in
     let ends : Ends (CutEnd SimEnd) heard_by (Ok tt) (script_of links (length nodes) lines) run last =
     subst (λ (n : ℕ). Ends (CutEnd SimEnd) heard_by (Ok tt) (script_of links n lines) run last) c.len.ensures
     (subst (λ (ls : List Link). Ends (CutEnd SimEnd) heard_by (Ok tt) (script_of ls c.len.result lines) run last) c.as_slice-5.ensures c.in-Ok.ensures) in

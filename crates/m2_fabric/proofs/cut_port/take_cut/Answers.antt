@@ -1,8 +1,8 @@
 use Rattle.std.proofs.Common.{◌≡◌, ℕ, ◌<◌, List, length, Option, None, Some, refl, sym, ap, ◌∙◌, subst}
 use Rattle.std.specs.Option.{option_map}
 use Rattle.std.proofs.lemmas.Option.{slice_get_read}
-use Rattle.m2_fabric.specs.CutPort.{bytes_at, place_of_cut, without_place}
-use Rattle.m2_fabric.specs.declared.cut_port.Cut.{Cut}
+use Rattle.m2_fabric.specs.Cuts.{bytes_at, place_of_cut, without_place}
+use Rattle.m2_fabric.specs.declared.port.Cut.{Cut}
 use Rattle.m2_fabric.proofs.cut_port.take_cut.Goals as goal
 
 pub returns-in-None-clause-bound : goal.returns-in-None-clause-bound

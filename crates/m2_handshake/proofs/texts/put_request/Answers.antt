@@ -7,7 +7,7 @@ use Rattle.m2_handshake.proofs.texts.put_request.Goals as goal
 
 pub returns : goal.returns
 returns c =
-    let same : frame_text (control.AuthRequest (record { method = NONE; modes = c.in_ok-only.field-0; payload = c.empty.result })) ≡ frame_text request =
-    ap (λ (l : List ℕ). frame_text (control.AuthRequest (record { method = NONE; modes = listed l; payload = c.empty.result }))) c.in_ok-only.ensures
-    ∙ ap (λ (b : List ℕ). frame_text (control.AuthRequest (record { method = NONE; modes = listed (CRC ∷ []); payload = blob b }))) c.empty.ensures in
+    let same : frame_text (control.AuthRequest (record { method = NONE; modes = c.in_ok-only.field-0; payload = c.in_ok-auth_payload.field-0 })) ≡ frame_text (request c.args.auth) =
+    ap (λ (l : List ℕ). frame_text (control.AuthRequest (record { method = NONE; modes = listed l; payload = c.in_ok-auth_payload.field-0 }))) c.in_ok-only.ensures
+    ∙ ap (λ (b : List ℕ). frame_text (control.AuthRequest (record { method = NONE; modes = listed (CRC ∷ []); payload = blob b }))) c.in_ok-auth_payload.ensures.exact in
     subst (λ (t : List ℕ). Adds c.put_frame.result c.args.out.now c.put_frame.new.out t) same c.put_frame.ensures

@@ -10,13 +10,14 @@ nodes-preserved c =
     let l = c.nodes in
     let nodes = c.args.nodes.now in
     let links = c.args.links.now in
+    let lines = c.args.lines.now in
     let old = l.cluster.nodes in
     let n = c.in-Ok.node in
     let few : l.number + 1 ≤ 16 = omega (arith, c.nodes-test.true, c.requires.few_nodes) in
     record {
       count = ap length c.add.ensures.nodes ∙ length-append old (n ∷ []) ∙ ap (λ k. k + 1) l.invariant.count;
-      each = subst (AreNewSoFar nodes links) (sym c.add.ensures.nodes)
-          (one_more nodes links old n l.invariant.each (subst (λ k. IfSome (slice_get nodes k) (λ x. IsNewNode nodes links k x n)) (sym l.invariant.count) c.in-Ok.ensures));
+      each = subst (AreNewSoFar nodes links lines) (sym c.add.ensures.nodes)
+          (one_more nodes links lines old n l.invariant.each (subst (λ k. IfSome (slice_get nodes k) (λ x. IsNewNode nodes links lines k x n)) (sym l.invariant.count) c.in-Ok.ensures));
       words = c.next.ensures.exact.1 ∙ c.next.ensures.rises (omega (arith, l.invariant.words, few)) ∙ ap (λ w. w + 1) l.invariant.words;
       room = omega (arith, l.invariant.room, c.add.ensures.room, c.nodes-test.true, l.invariant.count);
     }

@@ -6,7 +6,7 @@ use Rattle.m2_script.proofs.cluster.cluster_of.Given as goal
 abbrev pub invariant-nodes : goal.invariant-nodes
 invariant-nodes l = record {
   count : length l.cluster.nodes ≡ l.number;
-  each : AreNewSoFar l.nodes l.links l.cluster.nodes;
+  each : AreNewSoFar l.nodes l.links l.lines l.cluster.nodes;
   words : l.words ≡ l.number;
   room : length l.nodes ≤ l.cluster.room + l.number;
 }

@@ -1,5 +1,5 @@
 -- What the records hold, which is nothing, was granted by the throttle.
-use Rattle.std.proofs.Common.{[], List, None, ap, sym, subst}
+use Rattle.std.proofs.Common.{List, None, ap, sym, subst}
 use Rattle.std.specs.List.{AllByRecursion}
 use Rattle.m2_center.specs.Making.{UnmadeNow}
 use Rattle.m2_dispatch.specs.declared.logged.Logged.{Logged}
@@ -12,4 +12,4 @@ pub clear-cleared-requires-clause-granted : goal.clear-cleared-requires-clause-g
 clear-cleared-requires-clause-granted c =
     subst (λ p. AllByRecursion (Owns p) c.in-Err.unmade.records.items) (sym (ap (λ (t : SeenThrottle). t.place) c.alone-throttle.ensures.throttle))
     (subst (AllByRecursion (Owns None)) (sym (ap (λ (u : UnmadeNow (List Logged)). u.records) c.in-Err.ensures.err))
-    (all_owned (record { place = None; least = 0 }) [] c.args.records.items c.requires.begin.records))
+    (all_owned (record { place = None; least = 0 }) c.args.port.inner.made c.args.records.items c.requires.begin.records))

@@ -13,7 +13,7 @@ returns-then-has_text g c = record {
 pub returns-then-rests : goal.returns-then-rests
 returns-then-rests g c = record {
   move = reads c.read.result c.read.new.piece;
-  makes = (left.none c.args.half.now.left (sym c.has_text.ensures ∙ c.if-has_text.false), sym c.rests.ensures ∙ c.if-rests.true, c.read.ensures);
+  makes = ((left.none c.args.half.now.left (sym c.has_text.ensures ∙ c.if-has_text.false), c.read.auto.piece ∙ c.requires.piece), sym c.rests.ensures ∙ c.if-rests.true, c.read.ensures);
   leads = sym (c.of_read.ensures c.read.new.piece);
 }
 

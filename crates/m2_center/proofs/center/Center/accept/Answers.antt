@@ -16,7 +16,6 @@ invariant_of-self g c =
       was.1,
       c.accept_all.ensures.room,
       was.3,
-      was.4,
     )
 
 pub returns : goal.returns

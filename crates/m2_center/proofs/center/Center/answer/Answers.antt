@@ -1,8 +1,7 @@
 -- What a center keeps where its halves take their turns.
-use Rattle.std.proofs.Common.{◌<◌, ◌≤◌, refl, ap, sym, subst, ◌∙◌}
+use Rattle.std.proofs.Common.{refl, ap, sym, subst, ◌∙◌}
 use Rattle.m2_dispatch.specs.Letters.{AreOwned}
 use Rattle.m2_turn.specs.Outbox.{OwnsAll}
-use Rattle.m2_trail.specs.declared.incoming.TheConstants.{MOST_READ}
 use Rattle.m2_center.proofs.Stages.{consistent_at, turns_halves}
 use Rattle.m2_center.proofs.center.Center.answer.Goals as goal
 
@@ -23,8 +22,7 @@ invariant_of-self g c =
       },
       was.1 ∙ sym c.answer_all.ensures.peers,
       c.answer_all.ensures.room,
-      subst (λ n. 0 < n) (sym c.answer_all.ensures.piece) was.3,
-      subst (λ n. n ≤ MOST_READ) (sym c.answer_all.ensures.piece) was.4,
+      c.answer_all.ensures.piece ∙ was.3,
     )
 
 pub returns : goal.returns

@@ -15,7 +15,6 @@ invariant_of-self g c =
       was.1 ∙ peers_stay r c.args.id.now c.args.news c.args.bytes.now _ _ c.one_record_hears.ensures.ok c.one_record_hears.ensures.err,
       was.2,
       was.3,
-      was.4,
     )
 
 pub returns-then-any_has_end : goal.returns-then-any_has_end
@@ -43,7 +42,6 @@ invariant_of-self-then-has_half g c =
       was.1,
       c.one_half_hears.ensures.room,
       was.3,
-      was.4,
     )
 
 pub returns-then-has_half : goal.returns-then-has_half
@@ -67,7 +65,7 @@ invariant_of-self-2 g c =
     let r = c.hear.result in
     let k = by_port _ _ c.self.view_is r c.args.id.now c.args.news c.args.bytes.now _ c.as_slice-2.result.now c.as_slice.result.now c.as_slice.ensures.value (sym c.any_has_end.ensures ∙ c.if-any_has_end.false)
     c.as_slice-2.ensures.value (sym c.has_half.ensures ∙ c.if-has_half.false) c.hear.ensures.ok c.hear.ensures.err in
-    (heard_center _ _ c.self.view_is r c.args.id.now c.args.news c.args.bytes.now _ k.0 k.1 was.0, was.1, was.2, was.3, was.4)
+    (heard_center _ _ c.self.view_is r c.args.id.now c.args.news c.args.bytes.now _ k.0 k.1 was.0, was.1, was.2, was.3)
 
 pub returns : goal.returns
 returns g c =

@@ -12,7 +12,6 @@ invariant_of-self g c =
       was.1,
       was.2,
       was.3,
-      was.4,
     )
 
 pub returns : goal.returns

@@ -49,7 +49,6 @@ invariant_of-self g c =
       was.1 ∙ sym (same_peers c.index_mut.result.now c.plan_at.new.side c.self.inside.records.items c.in-Some.place found.within found.here (ap (λ f. f.peer) c.plan_at.ensures.stays.facts)),
       was.2,
       was.3,
-      was.4,
     )
 
 pub returns : goal.returns

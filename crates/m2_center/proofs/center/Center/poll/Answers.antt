@@ -5,7 +5,7 @@ use Rattle.m2_center.proofs.center.Center.poll.Goals as goal
 pub invariant_of-self : goal.invariant_of-self
 invariant_of-self g c =
     let was = c.self.invariant in
-    (polled_center _ _ c.self.view_is _ c.poll.ensures.stays was.0, was.1, was.2, was.3, was.4)
+    (polled_center _ _ c.self.view_is _ c.poll.ensures.stays was.0, was.1, was.2, was.3)
 
 pub returns : goal.returns
 returns g c = record {

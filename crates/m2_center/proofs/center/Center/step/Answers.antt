@@ -25,7 +25,6 @@ invariant_of-self g c =
       was.1 ∙ sym (same_peers _ _ _ c.step_all.ensures.keeps),
       was.2,
       was.3,
-      was.4,
     )
 
 pub returns : goal.returns

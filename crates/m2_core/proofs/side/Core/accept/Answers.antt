@@ -1,4 +1,4 @@
-use Rattle.std.proofs.Common.{sym, subst}
+use Rattle.std.proofs.Common.{sym, ap, subst}
 use Rattle.m2_feed.specs.declared.frame_heard.FrameHeard.TheVariants.{Brings}
 use Rattle.m2_core.specs.CoreNow.{CoreNow}
 use Rattle.m2_core.specs.Front.{HearsOn}
@@ -14,6 +14,6 @@ pub returns-in-Ok : goal.returns-in-Ok
 returns-in-Ok g c = record {
   accepted = rw (← c.self.view_is)
       (accepts_to c.front_laws.ensures.heard c.front_laws.ensures.brings c.front_laws.ensures.sizes c.front_laws.ensures.takes c.front_laws.ensures.changes
-      _ c.args.number _ c.in-Ok.message c.in-Ok.grant _ c.self.invariant
-      (subst (λ (v : CoreNow). HearsOn v (Brings c.args.number)) (sym c.self.view_is) c.requires.heard) c.in-Ok.ensures c.key_at.ensures);
+      _ c.args.number _ _ c.in-Ok.message c.in-Ok.grant _ c.self.invariant
+      (subst (λ (v : CoreNow). HearsOn v (Brings c.args.number)) (sym c.self.view_is) c.requires.heard) c.in-Ok.ensures (ap (λ x. x.live.life) c.self-inside.view_is) c.key_at.ensures);
 }

@@ -4,8 +4,8 @@ use Rattle.m2_fabric.specs.declared.socket.SocketId.{SocketId}
 use Rattle.m2_fabric.proofs.Waits.{accepted_is_new}
 use Rattle.m2_fabric.proofs.sim_port.SimPortPort.accept.Goals as goal
 
-pub returns-clause-accepts : goal.returns-clause-accepts
-returns-clause-accepts c =
+pub returns : goal.returns
+returns c =
     let i = c.self.inside in
     let e = c.in-Some.end in
     let rest = c.take_first.new.ends.items in

@@ -1,12 +1,12 @@
 use Rattle.std.proofs.Common.{◌≡◌, List, [], ◌∷◌, ◌++◌, refl, sym, ap, ◌∙◌}
 use Rattle.m2_fabric.specs.End.{SeenEnd, fresh_end}
 use Rattle.m2_fabric.specs.declared.socket.SocketId.{SocketId}
-use Rattle.m2_fabric.specs.SimPort.{ids, socket_after}
+use Rattle.m2_fabric.specs.Port.{ids, socket_after}
 use Rattle.m2_fabric.proofs.Waits.{opened_is_new}
 use Rattle.m2_fabric.proofs.sim_port.SimPortPort.connect.Goals as goal
 
-pub returns-clause-connects : goal.returns-clause-connects
-returns-clause-connects c =
+pub returns : goal.returns
+returns c =
     let i = c.self.inside in
     let e = c.new.result in
     let to = c.args.to.now in
@@ -17,4 +17,4 @@ returns-clause-connects c =
     c.push.ensures
     ∙ ap (λ (xs : List SocketId). xs ++ c.in-Some.id ∷ []) c.reserve.ensures.same
     ∙ ap (λ (x : SeenEnd). i.made.sockets ++ x.id ∷ []) (sym c.new.ensures) in
-    rw (← c.self.view_is) (opened_is_new i.at to i.made.sockets i.waiting.items e fresh, rw fresh refl, rw made refl)
+    rw (← c.self.view_is) (opened_is_new i.at to i.made.sockets i.waiting.items e fresh, (rw fresh refl, record { end = fresh; cuts = refl }), rw made refl)

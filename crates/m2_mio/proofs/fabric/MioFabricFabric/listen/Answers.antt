@@ -9,4 +9,5 @@ returns-in-Ok-clause-alone g c =
       others = λ m apart. a.others m apart ∙ ap (λ (s : SeenNode). s.listens) (c.enter.ensures.same m);
       out = λ m. a.out m ∙ ap (λ (s : SeenNode). s.out) (c.enter.ensures.same m);
       gathered = λ m. a.gathered m ∙ ap (λ (s : SeenNode). s.gathered) (c.enter.ensures.same m);
+      gathers = λ m. a.gathers m ∙ ap (λ (s : SeenNode). s.gathers) (c.enter.ensures.same m);
     }

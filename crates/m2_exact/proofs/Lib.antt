@@ -1,0 +1,4 @@
+pub mod Cores
+pub mod Feeds
+pub mod Halves
+pub mod Handshakes
