@@ -1,5 +1,6 @@
 //! That a center's ends are in memory, for contracts alone.
 
+ghost use Rattle.std.specs.Prelude.{IsSome};
 ghost use Rattle.std.specs.List.{AllByRecursion, flat_map};
 ghost use Rattle.m2_center.specs.Reaching.{all_ends_in};
 ghost use Rattle.m2_fabric.specs.Kinds.{IsInMemory};
@@ -14,9 +15,10 @@ impl<P: MemoryPort, D> Center<P, D>
 where
     P::End: MemoryEnd,
 {
-    /// That its ends are in memory, those that wait at its port among them, for contracts alone.
+    /// That its ends are in memory, and those that wait at its port, which tells them, for contracts alone.
     pub fn is_in_memory(&self)
-        ensures { AllByRecursion IsInMemory (all_ends_in self.now) }
+        ensures port { IsSome self.now.port.waiting }
+        ensures ends { AllByRecursion IsInMemory (all_ends_in self.now) }
     {
         records_are_in_memory(self.records.as_slice());
         halves_are_in_memory(&self.halves, self.loose.as_slice());

@@ -55,8 +55,8 @@ behind_first e w None same u = tt
 
 accepts : (answer : Taken SeenEnd) (old new : SeenPort) → port.Accepts answer old new → Stays old new
 accepts (taken.Made e) old new h = record {
-  memory = sym (ap is_some h.2 ∙ mapped (λ rest. e ∷ rest) new.waiting);
-  unused = behind_first e old.waiting new.waiting h.2;
+  memory = sym (ap is_some h.2.0 ∙ mapped (λ rest. e ∷ rest) new.waiting);
+  unused = behind_first e old.waiting new.waiting h.2.0;
 }
 accepts taken.NotYet old new h = by old new (ap (λ (p : SeenPort). p.waiting) h.1)
 accepts taken.Failed old new h = by old new (ap (λ (p : SeenPort). p.waiting) h.1)

@@ -1,4 +1,4 @@
--- What contracts see of a node in memory, and what a node shows of its sockets. This project's own.
+-- What contracts see of a node, and what a node in memory shows of its sockets. This project's own.
 use Rattle.std.specs.Prelude.{◌≡◌, ◌==◌, ℕ, ◌&&◌, ◌||◌, not, if◌then◌else◌, Bool, true, false, List, [], ◌∷◌, ◌++◌, length, Option, Some, None, IsSome}
 use Rattle.std.specs.List.{AllByRecursion, list_all}
 use Rattle.std.specs.Option.{option_map}
@@ -6,7 +6,7 @@ use Rattle.m2_fabric.specs.declared.socket.SocketId.{SocketId}
 use Rattle.m2_fabric.specs.End.{SeenEnd, fresh_end}
 use Rattle.m2_fabric.specs.Kinds.{IsInMemory}
 use Rattle.m2_fabric.specs.Log.{Log}
-use Rattle.m2_fabric.specs.Port.{SeenPort}
+use Rattle.m2_fabric.specs.Port.{SeenPort, with_poll}
 use Rattle.m2_fabric.specs.Sockets.{IsOfHome, goes_to, is_among, same_socket}
 use Rattle.m2_dispatch.specs.Heard.{Heard}
 use Rattle.m2_journal.specs.declared.facts.PlanStep.{PlanStep}
@@ -27,20 +27,20 @@ pub record NodeNow (D : Type 0) : Type 0 where
   pub numbers : SeenNumbers
   pub throttle : SeenThrottle
 
--- Its port is in memory, and the passes of its center are to what it shares.
+-- the passes of its center are to what it shares
 pub record IsNode {D : Type 0} (n : NodeNow D) : Type 0 where
-  pub memory : IsSome n.center.port.waiting
   pub numbers : n.center.numbers.place ≡ n.numbers.place
   pub throttle : n.center.bytes.place ≡ n.throttle.place
 
 -- What a node in memory keeps: its center is one, each of its records is one, and the trail of each half tells all that its end
--- did; each socket that its port made comes from the port's address or goes to it; and all its ends are in memory.
+-- did; each socket that its port made comes from the port's address or goes to it; and its port and all its ends are in memory.
 pub record IsWholeNode {D : Type 0} (n : NodeNow D) : Type 0 where
   pub node : IsNode n
   pub center : IsCenter n.center
   pub records : AllByRecursion IsRecord n.center.records
   pub halves : AreWhole n.center.halves
   pub home : AllByRecursion (IsOfHome n.center.port.at) n.center.port.made
+  pub port : IsSome n.center.port.waiting
   pub memory : AllByRecursion IsInMemory (all_ends_in n.center)
 
 -- ---- its ends
@@ -145,3 +145,7 @@ pub record NodeTurns {D : Type 0} (E : Type 0) (heard : D → List Heard) (now :
 pub record NodePlans {D : Type 0} (answer : Answer) (peer : ℕ) (step : PlanStep) (now : ℕ) (old new : NodeNow D) : Type 0 where
   pub plans : PlansIn answer peer step now old.throttle.place old.center new.center
   pub shared : KeepsShared old new
+
+-- its port has waited for something to do, which may have failed
+abbrev pub Polls : {D : Type 0} → NodeNow D → NodeNow D → Type 0
+Polls old new = new ≡ record old { center = record old.center { port = with_poll new.center.port.faults old.center.port } }

@@ -4,11 +4,13 @@ ghost use Rattle.std.specs.Prelude.{◌≡◌, ◌++◌, ◌-◌, ◌<◌, ◌�
 ghost use Rattle.std.specs.List.{AllByRecursion};
 ghost use Rattle.m2_center.specs.Plans.{IsReadyFor};
 ghost use Rattle.m2_cluster.specs.Cluster.{OneDoes};
-ghost use Rattle.m2_cluster.specs.Node.{IsWholeNode, NodePlans, NodeTurns};
+ghost use Rattle.m2_center.specs.CenterTurn.{memory_in};
+ghost use Rattle.m2_cluster.specs.Node.{IsWholeNode, NodePlans, NodeTurns, Polls};
 ghost use Rattle.m2_center.specs.m2_record.IsRecord.{CanBePlanned};
 
 use crate::node::Node;
 use m2_bytes::NoMemory;
+use m2_center::CenterTurn;
 use m2_dispatch::Dispatcher;
 use m2_fabric::{MemoryEnd, MemoryPort, Port};
 use m2_journal::PlanStep;
@@ -19,7 +21,7 @@ use std::marker::Model;
 ///
 /// Maker: [`with_room`](Cluster::with_room). Looks: [`nodes`](Cluster::nodes);
 /// [`is_whole`](Cluster::is_whole) says what its nodes keep. Calls: [`add`](Cluster::add),
-/// [`turn`](Cluster::turn), [`plan`](Cluster::plan), [`pop`](Cluster::pop). The end:
+/// [`turn`](Cluster::turn), [`poll`](Cluster::poll), [`plan`](Cluster::plan), [`pop`](Cluster::pop). The end:
 /// [`destroy_empty`](Cluster::destroy_empty). It can't be dropped, since nodes can't.
 pub struct Cluster<P: Port, D> {
     pub(crate) nodes: Vec<Node<P, D>>,
@@ -70,6 +72,14 @@ impl<P: Port, D> Cluster<P, D> {
         self.nodes[node as usize].plan(peer, step, now)
     }
 
+    /// A node waits at its port at most so many milliseconds for something to do. There is such a node.
+    pub fn poll(&mut self, node: u32, most: u32)
+        requires { node < length self.old.nodes }
+        ensures { OneDoes node Polls self.old self.new }
+    {
+        let _ = self.nodes[node as usize].poll(most);
+    }
+
     /// The nodes, in order.
     pub fn nodes(&self) -> &[Node<P, D>]
         ensures { result.now ≡ self.now.nodes }
@@ -96,9 +106,9 @@ impl<P: Port, D> Cluster<P, D> {
 
 impl<P: Port, D: Dispatcher> Cluster<P, D> {
     /// One turn of a node's center at this moment. There is such a node.
-    pub fn turn(&mut self, node: u32, now: u64) -> Result<(), NoMemory>
+    pub fn turn(&mut self, node: u32, now: u64) -> CenterTurn
         requires { node < length self.old.nodes }
-        ensures { OneDoes node (NodeTurns P.End D.heard now result) self.old self.new }
+        ensures { OneDoes node (NodeTurns P.End D.heard now (memory_in result)) self.old self.new }
     {
         self.nodes[node as usize].turn(now)
     }

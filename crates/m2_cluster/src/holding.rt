@@ -4,9 +4,12 @@ ghost use Rattle.m2_cluster.specs.Cluster.{held_by, rest_of};
 
 use crate::cluster::Cluster;
 use m2_bytes::NoMemory;
-use m2_fabric::{EndLog, Holder, News, Port, SocketId, SocketIdList};
+use m2_fabric::{EndLog, Holder, MemoryEnd, MemoryPort, News, SocketId, SocketIdList};
 
-impl<P: Port, D> Holder for Cluster<P, D> {
+impl<P: MemoryPort, D> Holder for Cluster<P, D>
+where
+    P::End: MemoryEnd,
+{
     ghost use Rattle.std.specs.Prelude.{◌≡◌};
     ghost use Rattle.m2_cluster.specs.Cluster.{ClusterNow};
 

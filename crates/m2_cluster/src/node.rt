@@ -1,26 +1,30 @@
-//! A node in memory: its center, and what its threads share.
+//! A node: its center, and what its threads share.
 
-ghost use Rattle.std.specs.Prelude.{◌≡◌, IsSome, OnErr, OnOk};
+ghost use Rattle.std.specs.Prelude.{◌≡◌, OnErr, OnOk};
 ghost use Rattle.std.specs.Option.{option_map};
+ghost use Rattle.m2_center.specs.CenterTurn.{memory_in};
 ghost use Rattle.m2_center.specs.Reaching.{ends_in};
 ghost use Rattle.m2_center.specs.Plans.{IsReadyFor};
-ghost use Rattle.m2_cluster.specs.Node.{ComesIn, HearsIn, IsWholeNode, NodePlans, NodeTurns, rest_of_node};
+ghost use Rattle.m2_cluster.specs.Node.{ComesIn, HearsIn, IsWholeNode, NodePlans, NodeTurns, Polls, rest_of_node};
 ghost use Rattle.m2_fabric.specs.End.{SeenEnd, after_news};
+ghost use Rattle.m2_edge.specs.Faults.{HasCause};
 ghost use Rattle.m2_fabric.specs.Log.{log_of};
 ghost use Rattle.m2_center.specs.m2_record.IsRecord.{CanBePlanned};
 ghost use Rattle.m2_center.specs.m2_record.Sources.{end_at};
 
 use m2_bytes::NoMemory;
-use m2_center::{Center, NodeShared};
+use m2_center::{Center, CenterTurn, NodeShared};
 use m2_dispatch::Dispatcher;
+use m2_edge::Failed;
 use m2_fabric::{EndLog, MemoryEnd, MemoryPort, News, Port, SocketId, SocketIdList};
 use m2_journal::PlanStep;
 use std::marker::Model;
 
-/// A node in memory with one center, and its counter of global numbers and its throttle. Its port is one in memory.
+/// A node with one center, and its counter of global numbers and its throttle.
 ///
-/// Maker: [`new`](Node::new). Looks: [`center`](Node::center), [`shared`](Node::shared); what it keeps says
-/// [`is_whole`](Node::is_whole). The end: [`into_parts`](Node::into_parts). It can't be dropped, since a center can't.
+/// Maker: [`new`](Node::new). Looks: [`center`](Node::center), [`shared`](Node::shared); what one in memory keeps says
+/// [`is_whole`](Node::is_whole). Calls: [`turn`](Node::turn), and [`poll`](Node::poll) to wait for the next one. The end:
+/// [`into_parts`](Node::into_parts). It can't be dropped, since a center can't.
 pub struct Node<P: Port, D> {
     center: Center<P, D>,
     shared: NodeShared,
@@ -37,9 +41,8 @@ impl<P: Port, D> Model for Node<P, D> {
 }
 
 impl<P: Port, D> Node<P, D> {
-    /// A node of a center over a port in memory, whose passes are to what its threads share.
+    /// A node of a center whose passes are to what its threads share.
     pub fn new(center: Center<P, D>, shared: NodeShared) -> Node<P, D>
-        requires memory { IsSome center.port.waiting }
         requires numbers { center.numbers.place ≡ shared.numbers.place }
         requires throttle { center.bytes.place ≡ shared.throttle.place }
         ensures { result ≡ record { center = center; numbers = shared.numbers; throttle = shared.throttle } }
@@ -74,6 +77,15 @@ impl<P: Port, D> Node<P, D> {
         (center, shared)
     }
 
+    /// Waits at its port at most so many milliseconds for something to do, or not at all. Failed comes only where the
+    /// port's count of faults rose.
+    pub fn poll(&mut self, most: u32) -> Result<(), Failed>
+        ensures causes { HasCause result self.old.center.port.faults self.new.center.port.faults }
+        ensures stays { Polls self.old self.new }
+    {
+        self.center.poll(most)
+    }
+
     /// The step is the last of the plan of its center's first record towards that peer, and is taken.
     pub(crate) fn plan(&mut self, peer: u32, step: PlanStep, now: u64) -> Result<(), NoMemory>
         requires ready { IsReadyFor peer self.old.center.records }
@@ -97,15 +109,6 @@ impl<P: Port, D> Node<P, D> {
         self.center.log(id)
     }
 
-    /// A socket waits for its accept from now on, where it may.
-    pub(crate) fn incoming(&mut self, id: SocketId) -> Result<(), NoMemory>
-        ensures ok { OnOk result (ComesIn id self.old.center self.new.center) }
-        ensures err { OnErr result (self.new ≡ self.old) }
-        ensures rest { rest_of_node self.new ≡ rest_of_node self.old }
-    {
-        self.center.incoming(id)
-    }
-
     /// Tells its end of that socket of the other side, also one that still waits.
     pub(crate) fn hear(&mut self, id: &SocketId, bytes: &[u8], news: News) -> Result<(), NoMemory>
         ensures ok { OnOk result (HearsIn id.now (after_news news bytes.now) self.old.center self.new.center) }
@@ -118,10 +121,10 @@ impl<P: Port, D> Node<P, D> {
 
 impl<P: Port, D: Dispatcher> Node<P, D> {
     /// One turn of its center at this moment.
-    pub(crate) fn turn(&mut self, now: u64) -> Result<(), NoMemory>
-        ensures { NodeTurns P.End D.heard now result self.old self.new }
+    pub fn turn(&mut self, now: u64) -> CenterTurn
+        ensures { NodeTurns P.End D.heard now (memory_in result) self.old self.new }
     {
-        self.center.turn(&self.shared, now).memory()
+        self.center.turn(&self.shared, now)
     }
 }
 
@@ -129,6 +132,16 @@ impl<P: MemoryPort, D> Node<P, D>
 where
     P::End: MemoryEnd,
 {
+    /// A socket waits for its accept from now on, where it may.
+    pub(crate) fn incoming(&mut self, id: SocketId) -> Result<(), NoMemory>
+        ensures ok { OnOk result (ComesIn id self.old.center self.new.center) }
+        ensures err { OnErr result (self.new ≡ self.old) }
+        ensures rest { rest_of_node self.new ≡ rest_of_node self.old }
+    {
+        self.center.is_in_memory();
+        self.center.incoming(id)
+    }
+
     /// What a node in memory keeps, for contracts alone.
     pub fn is_whole(&self)
         ensures { IsWholeNode self.now }

@@ -1,6 +1,6 @@
--- Feeds over ends in memory are exact.
-use Rattle.std.proofs.Common.{◌≡◌, ℕ, List, Option, Some, refl, sym, subst, ◌∙◌, ap}
-use Rattle.std.specs.Prelude.{◌≢◌, IfSome}
+-- What feeds over ends in memory read and write is a function of what is seen.
+use Rattle.std.proofs.Common.{◌≡◌, ℕ, List, Some, refl, sym, ◌∙◌, ap}
+use Rattle.std.specs.Prelude.{◌≢◌}
 use Rattle.m2_fabric.proofs.Exact as end
 use Rattle.m2_fabric.specs.End.{ComesFrom, Inflow, SeenEnd}
 use Rattle.m2_fabric.specs.Exact.{after_read_of, after_write_of, read_of}
@@ -12,10 +12,8 @@ use Rattle.m2_feed.specs.Calls.{ReadsOn, ReadsPiece, WritesOn, after_put, heard,
 use Rattle.m2_feed.specs.FeedNow.{FeedNow, Reading}
 use Rattle.m2_feed.specs.declared.answers.FeedWrite.{FeedWrite}
 use Rattle.m2_feed.specs.declared.answers.FeedWrite.TheVariants as put
-use Rattle.m2_exact.specs.Feeds.{FeedsAreExact, after_putting, put_by, read_by, with_answer, write_by}
-
-of_some : {X : Type 0} (P : X → Type 0) (o : Option X) (x : X) → o ≡ Some x → IfSome o P → P x
-of_some P o x is h = subst (λ o. IfSome o P) is h
+use Rattle.m2_exact.proofs.Common.{of_some}
+use Rattle.m2_exact.specs.Feeds.{FeedsAnswerByWhatIsSeen, after_putting, put_by, read_by, with_answer, write_by}
 
 -- what is heard is the first of what came
 same_heard : (answer : EndRead) (i : Inflow) (v new : FeedNow) (p : ReadsPiece answer v new) → v.end.inflow ≡ Some i → heard_of answer p.hears.piece v.reading ≡ heard_of answer i.readable v.reading
@@ -62,5 +60,5 @@ writes put.Failed i v new is memory (w, only) =
     )
 writes put.NoMemory i v new is memory w = absurd (memory refl)
 
-pub exact : FeedsAreExact
+pub exact : FeedsAnswerByWhatIsSeen
 exact = record { reads = reads; writes = writes }

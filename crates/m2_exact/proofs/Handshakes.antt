@@ -9,7 +9,7 @@ use Rattle.m2_handshake.specs.Asking.{AskAnswers, AskEnds}
 use Rattle.m2_handshake.specs.Half.{Answers, Ends, Writer}
 use Rattle.m2_handshake.specs.Moves.{Move, Quietly, ask_move_of, asks, fails, move_of, quiet, signs, stays, writes}
 use Rattle.m2_handshake.specs.Standing.{Standing, faulted}
-use Rattle.m2_exact.specs.Handshakes.{HandshakesAreOne, bare}
+use Rattle.m2_exact.specs.Handshakes.{HandshakesAnswerInOneWay, bare}
 
 -- ---- where moves without a word end
 
@@ -92,5 +92,5 @@ asks_one one other old new behind m k a b =
     let second = ask_ends_so other a.mid behind k (subst (λ (s : Standing). AskEnds other s behind) mid b.ends) in
     (first.0 ∙ sym second.0, first.1 ∙ sym second.1)
 
-pub one : HandshakesAreOne
+pub one : HandshakesAnswerInOneWay
 one = record { answers = answers; asks = asks_one }

@@ -1,7 +1,8 @@
--- Two reads, and two writes, of a core whose feed's end is in memory. This project's own.
-use Rattle.std.specs.Prelude.{◌≡◌, ◌≢◌, Some}
+-- One read and one write of each of two cores that are alike but for room, where their feeds' ends are in memory. This
+-- project's own.
+use Rattle.std.specs.Prelude.{◌≡◌, ◌≢◌, Option, IfSome}
 use Rattle.std.specs.Option.{option_map}
-use Rattle.m2_fabric.specs.End.{Inflow}
+use Rattle.m2_fabric.specs.Kinds.{IsInMemory}
 use Rattle.m2_fabric.specs.declared.end.EndRead.TheVariants as read
 use Rattle.m2_feed.specs.FeedNow.{FeedNow}
 use Rattle.m2_feed.specs.declared.answers.FeedWrite.{FeedWrite}
@@ -18,8 +19,21 @@ roomless_feed v = record v { room = record { payload = 0; text = 0 } }
 abbrev pub roomless : CoreNow → CoreNow
 roomless c = record c { live = live_with (option_map roomless_feed c.live.feed) c.live }
 
-pub record CoresAreOne : Type 0 where
-  pub writes : (one other : FeedWrite) (i : Inflow) (v : FeedNow) (c new behind : CoreNow) → c.live.feed ≡ Some v → v.end.inflow ≡ Some i →
-      one ≢ put.NoMemory → other ≢ put.NoMemory → HasWritten one c new → HasWritten other c behind → (one ≡ other) × (roomless new ≡ roomless behind)
-  pub reads : (one other : ReadNow) (i : Inflow) (v : FeedNow) (c new behind : CoreNow) → c.live.feed ≡ Some v → v.end.inflow ≡ Some i →
-      one.answer ≢ read.NoMemory → other.answer ≢ read.NoMemory → HasRead one c new → HasRead other c behind → (one ≡ other) × (new ≡ behind)
+-- a feed's end, where there is a feed, is in memory
+abbrev pub OnMemory : Option FeedNow → Type 0
+OnMemory x = IfSome x (λ v. IsInMemory v.end)
+
+abbrev pub FeedIsInMemory : CoreNow → Type 0
+FeedIsInMemory c = OnMemory c.live.feed
+
+-- Two cores that are alike but for room answer alike, and stay alike, over ends in memory. What two reads of one core leave is
+-- one in room too.
+pub record LikeCoresReadAndWriteAlike : Type 0 where
+  pub writes : (one other : FeedWrite) (c d new behind : CoreNow) → FeedIsInMemory c → roomless c ≡ roomless d → one ≢ put.NoMemory → other ≢ put.NoMemory →
+      HasWritten one c new → HasWritten other d behind → (one ≡ other) × (roomless new ≡ roomless behind)
+  pub reads : (one other : ReadNow) (c d new behind : CoreNow) → FeedIsInMemory c → roomless c ≡ roomless d → one.answer ≢ read.NoMemory → other.answer ≢ read.NoMemory →
+      HasRead one c new → HasRead other d behind → (one ≡ other) × (roomless new ≡ roomless behind)
+  pub reads_of_one : (one other : ReadNow) (c new behind : CoreNow) → FeedIsInMemory c → one.answer ≢ read.NoMemory → other.answer ≢ read.NoMemory →
+      HasRead one c new → HasRead other c behind → new ≡ behind
+  pub written_stays : (answer : FeedWrite) (c new : CoreNow) → FeedIsInMemory c → HasWritten answer c new → FeedIsInMemory new
+  pub read_stays : (answer : ReadNow) (c new : CoreNow) → FeedIsInMemory c → HasRead answer c new → FeedIsInMemory new

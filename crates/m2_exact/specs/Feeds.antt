@@ -38,7 +38,7 @@ after_putting answer v = record v { end = after_write_of answer v.composed v.end
 
 -- ---- both
 
-pub record FeedsAreExact : Type 0 where
+pub record FeedsAnswerByWhatIsSeen : Type 0 where
   pub reads : (answer : EndRead) (i : Inflow) (v new : FeedNow) → v.end.inflow ≡ Some i → answer ≢ read.NoMemory → ReadsOn answer v new →
       (answer ≡ read_by i v) × (new ≡ with_answer (read_by i v) i v)
   pub writes : (answer : FeedWrite) (i : Inflow) (v new : FeedNow) → v.end.inflow ≡ Some i → answer ≢ put.NoMemory → WritesOn answer v new →

@@ -1,4 +1,4 @@
--- Two answers of one half of a handshake. This project's own.
+-- Two answers of one half of a handshake, whatever socket it is of. This project's own.
 use Rattle.std.specs.Prelude.{◌≡◌, ◌≢◌}
 use Rattle.m2_handshake.specs.declared.answer.HalfStep.{HalfStep}
 use Rattle.m2_handshake.specs.declared.answer.HalfStep.TheVariants as half
@@ -14,7 +14,7 @@ abbrev pub bare : AskStep → AskStep
 bare (asked.Asked ask) = asked.Asked (bare_ask ask)
 bare answer = answer
 
-pub record HandshakesAreOne : Type 0 where
+pub record HandshakesAnswerInOneWay : Type 0 where
   pub answers : (one other : HalfStep) (old new behind : Writer) → one ≢ half.NoMemory → other ≢ half.NoMemory → Answers one old new → Answers other old behind →
       (one ≡ other) × (new ≡ behind)
   pub asks : (one other : AskStep) (old new behind : Standing) → one ≢ asked.NoMemory → other ≢ asked.NoMemory → AskAnswers one old new → AskAnswers other old behind →

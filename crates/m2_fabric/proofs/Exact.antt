@@ -88,7 +88,7 @@ connects_are_exact connect.Failed to waiting p new is memory r = absurd (cc (is,
 connects_are_exact connect.NoMemory to waiting p new is memory r = absurd (memory refl)
 
 none_accepted : (answer : Taken SeenEnd) (p new : SeenPort) → p.waiting ≡ Some [] → answer ≢ accept.NoMemory → Accepts answer p new → answer ≡ accept.NotYet
-none_accepted (accept.Made e) p new is memory a = absurd (by new.waiting (sym is ∙ a.2))
+none_accepted (accept.Made e) p new is memory a = absurd (by new.waiting (sym is ∙ a.2.0))
   where
     by : (o : Option (List SeenEnd)) → Some [] ≡ option_map (λ rest. e ∷ rest) o → ⊥
     by None h = absurd (cc)
@@ -99,7 +99,7 @@ none_accepted accept.NoMemory p new is memory a = absurd (memory refl)
 
 one_accepted : (answer : Taken SeenEnd) (e : SeenEnd) (rest : List SeenEnd) (p new : SeenPort) → p.waiting ≡ Some (e ∷ rest) → answer ≢ accept.NoMemory
     → Accepts answer p new → (answer ≡ accept.Made e) × (new.waiting ≡ Some rest)
-one_accepted (accept.Made x) e rest p new is memory a = by new.waiting (sym is ∙ a.2)
+one_accepted (accept.Made x) e rest p new is memory a = by new.waiting (sym is ∙ a.2.0)
   where
     by : (o : Option (List SeenEnd)) → Some (e ∷ rest) ≡ option_map (λ rest. x ∷ rest) o → (accept.Made x ≡ accept.Made e) × (o ≡ Some rest)
     by None h = absurd (cc)

@@ -8,6 +8,6 @@ use Rattle.m2_fabric.specs.Port.{SeenPort}
 abbrev pub IsInMemory : SeenEnd → Type 0
 IsInMemory e = IsSome e.inflow
 
--- so do the ends that wait at a port
+-- a port tells which ends wait there, and they do so too
 abbrev pub WaitInMemory : SeenPort → Type 0
-WaitInMemory p = IfSome p.waiting (AllByRecursion IsInMemory)
+WaitInMemory p = IsSome p.waiting × IfSome p.waiting (AllByRecursion IsInMemory)

@@ -97,11 +97,13 @@ Connects connect.Failed to old new =
 Connects connect.NoMemory to old new = new ≡ old
 
 -- Accepting. Made comes only of a port that accepts, and gives the acceptor's end of a new socket that goes to the
--- node's own address; in memory it is the one that waits longest, as it waits. NotYet comes only where no socket waits. Failed counts one more accept that
+-- node's own address; in memory it is the one that waits longest, as it waits; where the port tells nothing of what waits,
+-- the end tells nothing of what is readable. NotYet comes only where no socket waits. Failed counts one more accept that
 -- was refused, and comes only where the count of faults rose, and never in memory.
 abbrev pub Accepts : Taken SeenEnd → SeenPort → SeenPort → Type 0
 Accepts (accept.Made e) old new =
-    (old.accepts ≡ true) × IsNewEnd old.at old.made e × (old.waiting ≡ option_map (λ rest. e ∷ rest) new.waiting)
+    (old.accepts ≡ true) × IsNewEnd old.at old.made e
+    × ((old.waiting ≡ option_map (λ rest. e ∷ rest) new.waiting) × (old.waiting ≡ None → e.inflow ≡ None))
     × (new ≡ record old { made = old.made ++ e.id ∷ []; quiet = false; waiting = new.waiting })
 Accepts accept.NotYet old new = IfSome old.waiting (λ waiting. waiting ≡ []) × (new ≡ record old { quiet = true })
 Accepts accept.Failed old new =

@@ -22,7 +22,7 @@ pub trait MemoryPort: Port {
     fn comes_from_home(&self)
         ensures { AllByRecursion (IsOfHome (Self.seen self.now).at) (Self.seen self.now).made };
 
-    /// That the ends that wait at the port are in memory, for contracts alone.
+    /// That the port tells which ends wait there, and that these are in memory, for contracts alone.
     fn waits_in_memory(&self)
         ensures { WaitInMemory (Self.seen self.now) };
 }

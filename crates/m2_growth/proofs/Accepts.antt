@@ -1,13 +1,17 @@
--- What becomes of a holding where its port accepts: an end that waited has a half.
-use Rattle.std.proofs.Common.{◌≡◌, ◌⊎◌, inl, inr, ℕ, nat_lt, Bool, true, false, ◌||◌, if◌then◌else◌, List, [], ◌∷◌, ◌++◌, map, length, Option, Some, None, refl, sym, ap, subst, ◌∙◌, append_assoc}
+-- What becomes of a holding where its port accepts: an end that waited, or that is new, has a half. Each socket that the port made since
+-- has its end, and those that weren't accepted wait still.
+use Rattle.std.proofs.Common.{◌≡◌, ◌⊎◌, inl, inr, ℕ, nat_lt, Bool, true, false, ◌||◌, if◌then◌else◌, List, [], ◌∷◌, ◌++◌, map, length, Option, Some, None, IfSome, IsSome, refl, sym, ap, subst, ◌∙◌, append-nil, append_assoc}
+use Rattle.std.specs.Prelude.{unwrap_or}
 use Rattle.std.specs.Option.{is_some, option_map}
 use Rattle.std.specs.List.{AllByRecursion}
 use Rattle.m2_fabric.specs.m2_addr.declared.addr.Addr.{Addr}
 use Rattle.m2_fabric.specs.declared.port.Taken.TheVariants as taken
-use Rattle.m2_fabric.specs.End.{SeenEnd}
-use Rattle.m2_fabric.specs.Port.{Accepts, SeenPort}
-use Rattle.m2_fabric.specs.Sockets.{goes_to, is_among, same_socket}
+use Rattle.m2_fabric.specs.declared.socket.SocketId.{SocketId}
+use Rattle.m2_fabric.specs.End.{Inflow, SeenEnd}
+use Rattle.m2_fabric.specs.Port.{Accepts, IsNewEnd, SeenPort}
+use Rattle.m2_fabric.specs.Sockets.{IsNewTo, goes_to, is_among, same_socket}
 use Rattle.m2_turn.specs.m2_record.RecordNow.{RecordNow, ids_of}
+use Rattle.m2_turn.specs.m2_record.Sources.{end_at}
 use Rattle.m2_turn.specs.declared.accepting.Accepted.{Accepted}
 use Rattle.m2_turn.specs.declared.accepting.Accepted.TheVariants as accepts
 use Rattle.m2_turn.specs.declared.pending.TheConstants.{MOST_HALVES}
@@ -18,21 +22,24 @@ use Rattle.m2_turn.specs.Sessions.{PendingNow, is_asker, peer_of}
 use Rattle.m2_turn.proofs.Came.{alone}
 use Rattle.m2_bytes_fit.specs.m2_trail.Arrivals.{LooseNow, closed_of}
 use Rattle.m2_bytes_fit.specs.m2_trail.Incoming.{IncomingNow, accepted}
-use Rattle.m2_growth.specs.Ends.{AreOfTheirOwn}
+use Rattle.m2_growth.specs.Ends.{AreOfTheirOwn, EndsGrow}
 use Rattle.m2_growth.specs.Halves.{AskedOnMade, HasItsHalves, IsHeardBy, IsOneOf, all_left, asked_on}
 use Rattle.m2_growth.specs.Holding.{AreOwn, Grows, Holding, IsToCome, all_ends, waiting_at}
 use Rattle.m2_growth.specs.GrowthLaws.{at_accepts}
+use Rattle.m2_growth.specs.Ports.{PortStands}
 use Rattle.m2_growth.specs.Records.{ends_of_all}
 use Rattle.m2_growth.proofs.Among.{among_back, each_by, in_part, of_each, one_back, one_front}
 use Rattle.m2_growth.proofs.Asked.{asked_same}
 use Rattle.m2_growth.proofs.Calls.{closing_grows}
-use Rattle.m2_growth.proofs.Ends.{AreLater, AreMade, AreStill, all_none, later_before, later_behind, later_one, later_swapped, made_later, own_first, own_last, own_tail}
-use Rattle.m2_growth.proofs.Going.{grows_then, records_same, trail_same, grows_same}
+use Rattle.m2_growth.proofs.Ends.{AreApart, AreLater, AreMade, AreStill, AreWith, all_none, end_first, grow_chain, later_before, later_behind, later_one, later_swapped, made_later, made_none, none_cons, none_join, own_cons, own_join, own_none, own_tail, with_between}
+use Rattle.m2_growth.proofs.Going.{records_same, trail_same, grows_same}
+use Rattle.m2_growth.proofs.Growing.{still_there}
 use Rattle.m2_growth.proofs.Holdings.{AllLeft, IsHere, IsOnSocket, end_of, ends_last, left, loose_end, stay_left, still_has}
+use Rattle.m2_growth.proofs.InStepStanding.{Stands, both_by, both_then, some_back, some_front, stands_alike}
 use Rattle.m2_growth.proofs.OneRecord.{holding}
 use Rattle.m2_growth.proofs.Owned.{own_all}
 use Rattle.m2_fabric.proofs.m2_lemmas.Lists.{all_last, all_so as each}
-use Rattle.m2_fabric.proofs.Sockets.{apart_turned, same_refl, among_neither, among_front}
+use Rattle.m2_fabric.proofs.Sockets.{among_front, among_neither, among_part, apart_turned, same_equal, same_refl}
 use Rattle.m2_fabric.proofs.m2_lemmas.Booleans.{false_isnt_true}
 
 -- ---- the halves
@@ -153,9 +160,9 @@ joins_so entity room e h = at (nat_lt (length h.pending) MOST_HALVES)
 
 -- ---- the port
 
--- the port has given its oldest end
-abbrev given : SeenPort → SeenEnd → List SeenEnd → SeenPort
-given port e rest = record port { made = port.made ++ e.id ∷ []; quiet = false; waiting = Some rest }
+-- the port has given an end, and these wait then
+abbrev given : SeenPort → SeenEnd → Option (List SeenEnd) → SeenPort
+given port e waiting = record port { made = port.made ++ e.id ∷ []; quiet = false; waiting = waiting }
 
 -- and the others that wait are of other sockets
 still_to_come : (p q : SeenPort) (e : SeenEnd) (others : List SeenEnd) → q.at ≡ p.at → q.made ≡ p.made ++ e.id ∷ [] → AllByRecursion (IsToCome p) others →
@@ -173,76 +180,141 @@ same_to_come : (p q : SeenPort) (ends : List SeenEnd) → q.at ≡ p.at → q.ma
 same_to_come p q [] at made all = tt
 same_to_come p q (x ∷ xs) at made all = (record { here = ap (λ a. goes_to a x.id) at ∙ all.0.here; new = ap (is_among x.id) made ∙ all.0.new }, same_to_come p q xs at made all.1)
 
--- one end goes from those that wait to a half
-takes_one : (rs : List RecordNow) (port : SeenPort) (h g : AllHalves) (e : SeenEnd) (rest : List SeenEnd) → AreOwn (holding (record port { waiting = Some (e ∷ rest) }) rs h) → Joins e h g →
-    Grows (holding (record port { waiting = Some (e ∷ rest) }) rs h) (holding (given port e rest) rs g)
-takes_one rs port h g e rest own j = record {
-  grows = record {
-    at = refl;
-    made = (e.id ∷ [], refl);
-    records = records_same rs;
-    halves = stay_left rs h g j.stay;
-    ends = still.grow;
-    asked = asked_same (all_ends old) rs;
-  };
-  own = record {
-    in_memory = refl;
-    held = own_first (held ++ ends_in g) rest still.own;
-    made = made_later (port.made ++ e.id ∷ []) ((held ++ ends_in h) ++ e ∷ []) (held ++ ends_in g) (here (own_first ((held ++ ends_in h) ++ e ∷ []) rest (subst AreOfTheirOwn (sym joined_up) (own_all old own)))).none made;
-    waiting = own_last (held ++ ends_in g) rest still.own;
-    to_come = still_to_come (record port { waiting = Some (e ∷ rest) }) (given port e rest) e rest refl refl own.to_come.1 (all_none e.id rest (own_tail e rest own.waiting).0);
-    elsewhere = own.elsewhere;
-    fed = own.fed;
-    on_socket = j.on own.on_socket;
-    here = j.here port.at own.to_come.0.here own.here;
-  };
-  judged = (λ was. record {
-    each = each (HasItsHalves (all_left h)) (HasItsHalves (all_left g)) (still_has h g j.stay) rs was.each;
-    made = each (AskedOnMade port.made) (AskedOnMade (port.made ++ e.id ∷ [])) (λ r had k asked. among_front k port.made (e.id ∷ []) (had k asked)) rs was.made;
-    here = was.here;
-    one_judge = was.one_judge;
-    askers = j.askers rs (each (AskedOnMade port.made) (λ (r : RecordNow). is_among e.id (asked_on r) ≡ true → ⊥) (λ r had asked. false_isnt_true (sym own.to_come.0.new ∙ had e.id asked)) rs was.made) was.askers;
-    peers = was.peers;
-  });
-}
+-- no end of a socket that wasn't made is among others
+apart_one : (made : List SocketId) (xs : List SeenEnd) (e : SeenEnd) → AreMade made xs → IsNewTo made e.id → AreApart xs (e ∷ [])
+apart_one made xs e all new k = at (same_socket k e.id) refl
   where
-    old : Holding
-    old = holding (record port { waiting = Some (e ∷ rest) }) rs h
+    at : (b : Bool) → same_socket k e.id ≡ b → (end_at xs k ≡ None) ⊎ (end_at (e ∷ []) k ≡ None)
+    at true same = inl (made_none made xs k all (ap (λ j. is_among j made) (same_equal k e.id same) ∙ new))
+    at false other = inr (none_cons e [] k other refl)
 
-    held : List SeenEnd
-    held = ends_of_all rs
+-- the end of a new socket goes to a half
+module _ (rs : List RecordNow) (p : SeenPort) (h g : AllHalves) (e : SeenEnd) (own : AreOwn (holding p rs h)) (here : goes_to p.at e.id ≡ true) (new : IsNewTo p.made e.id) (j : Joins e h g) where
+  abbrev held : List SeenEnd
+  held = ends_of_all rs
+
+  abbrev were : List SeenEnd
+  were = held ++ ends_in h
+
+  later : AreLater (were ++ e ∷ []) (held ++ ends_in g)
+  later = subst (λ es. AreLater es (held ++ ends_in g)) (sym (append_assoc held (ends_in h) (e ∷ []))) (later_behind held (ends_in h ++ e ∷ []) (ends_in g) j.ends)
+
+  still : AreStill (were ++ e ∷ []) (held ++ ends_in g)
+  still = later (own_join were (e ∷ []) own.held (own_cons e [] refl own_none) (apart_one p.made were e own.made new))
+
+  made : AreMade (p.made ++ e.id ∷ []) (were ++ e ∷ [])
+  made = all_last (λ (x : SeenEnd). is_among x.id (p.made ++ e.id ∷ []) ≡ true) were e
+      (each (λ (x : SeenEnd). is_among x.id p.made ≡ true) (λ (x : SeenEnd). is_among x.id (p.made ++ e.id ∷ []) ≡ true) (λ x m. among_front x.id p.made (e.id ∷ []) m) were own.made)
+      (among_back e.id p.made (e.id ∷ []) (ap (λ b. b || false) (same_refl e.id)))
+
+  there : IsSome (end_at (held ++ ends_in g) e.id)
+  there = still_there (end_at (were ++ e ∷ []) e.id) (end_at (held ++ ends_in g) e.id) (still.grow e.id) (some_back were (e ∷ []) e.id (ap is_some (end_first e [])))
+
+  comes : (w : Option (List SeenEnd)) → EndsGrow (all_ends (holding p rs h)) (all_ends (holding (given p e w) rs g)) → AreOfTheirOwn (unwrap_or w []) →
+      AllByRecursion (IsToCome (given p e w)) (unwrap_or w []) → (gone : List SeenEnd) → waiting_at p ≡ gone ++ unwrap_or w [] → Stands (holding p rs h) (holding (given p e w) rs g)
+  comes w grow waiting to_come gone waited = record {
+    grows = record {
+      grows = record {
+        at = refl;
+        made = (e.id ∷ [], refl);
+        records = records_same rs;
+        halves = stay_left rs h g j.stay;
+        ends = grow;
+        asked = asked_same (all_ends (holding p rs h)) (all_ends (holding (given p e w) rs g)) rs;
+      };
+      own = record {
+        held = still.own;
+        made = made_later (p.made ++ e.id ∷ []) (were ++ e ∷ []) (held ++ ends_in g) still.none made;
+        waiting = waiting;
+        to_come = to_come;
+        elsewhere = own.elsewhere;
+        fed = own.fed;
+        on_socket = j.on own.on_socket;
+        here = j.here p.at here own.here;
+      };
+      judged = (λ was. record {
+        each = each (HasItsHalves (all_left h)) (HasItsHalves (all_left g)) (still_has h g j.stay) rs was.each;
+        made = each (AskedOnMade p.made) (AskedOnMade (p.made ++ e.id ∷ [])) (λ r had k asked. among_front k p.made (e.id ∷ []) (had k asked)) rs was.made;
+        here = was.here;
+        one_judge = was.one_judge;
+        askers = j.askers rs (each (AskedOnMade p.made) (λ (r : RecordNow). is_among e.id (asked_on r) ≡ true → ⊥) (λ r had asked. false_isnt_true (sym new ∙ had e.id asked)) rs was.made) was.askers;
+        peers = was.peers;
+      });
+    };
+    port = record {
+      made = λ k is. by_part k (among_part k p.made (e.id ∷ []) is);
+      gone = gone;
+      waiting = waited;
+    };
+  }
+    where
+      all : List SeenEnd
+      all = all_ends (holding (given p e w) rs g)
+
+      is_there : (k : SocketId) (b : Bool) → same_socket k e.id ≡ b → (b || false) ≡ true → IsSome (end_at all k)
+      is_there k true same is = some_front (held ++ ends_in g) (unwrap_or w []) k (subst (λ i. IsSome (end_at (held ++ ends_in g) i)) (sym (same_equal k e.id same)) there)
+      is_there k false other is = absurd (false_isnt_true is)
+
+      by_part : (k : SocketId) → (is_among k p.made ≡ true) ⊎ (is_among k (e.id ∷ []) ≡ true) → (is_among k p.made ≡ true) ⊎ IsSome (end_at all k)
+      by_part k (inl was) = inl was
+      by_part k (inr is) = inr (is_there k (same_socket k e.id) refl is)
+
+-- one of those that wait
+takes_one : (rs : List RecordNow) (port : SeenPort) (h g : AllHalves) (e : SeenEnd) (rest : List SeenEnd) → AreOwn (holding (record port { waiting = Some (e ∷ rest) }) rs h) → Joins e h g →
+    Stands (holding (record port { waiting = Some (e ∷ rest) }) rs h) (holding (given port e (Some rest)) rs g)
+takes_one rs port h g e rest own j =
+    comes rs p h g e own own.to_come.0.here own.to_come.0.new j (Some rest) grow (own_tail e rest own.waiting).1
+    (still_to_come p (given p e (Some rest)) e rest refl refl own.to_come.1 (all_none e.id rest (own_tail e rest own.waiting).0)) (e ∷ []) refl
+  where
+    p : SeenPort
+    p = record port { waiting = Some (e ∷ rest) }
+
+    mine : List SeenEnd
+    mine = ends_of_all rs ++ ends_in h
 
     -- the end that goes stands between the held ones and those that wait
-    joined_up : ((held ++ ends_in h) ++ e ∷ []) ++ rest ≡ (held ++ ends_in h) ++ (e ∷ rest)
-    joined_up = append_assoc (held ++ ends_in h) (e ∷ []) rest
+    grow : EndsGrow (all_ends (holding p rs h)) ((ends_of_all rs ++ ends_in g) ++ rest)
+    grow = (subst (λ es. AreLater es ((ends_of_all rs ++ ends_in g) ++ rest)) (append_assoc mine (e ∷ []) rest)
+        (later_before (mine ++ e ∷ []) (ends_of_all rs ++ ends_in g) rest (later rs p h g e own own.to_come.0.here own.to_come.0.new j)) (own_all (holding p rs h) own)).grow
 
-    here : AreLater ((held ++ ends_in h) ++ e ∷ []) (held ++ ends_in g)
-    here = subst (λ es. AreLater es (held ++ ends_in g)) (sym (append_assoc held (ends_in h) (e ∷ []))) (later_behind held (ends_in h ++ e ∷ []) (ends_in g) j.ends)
+-- one of a port that tells nothing of what waits
+takes_new : (rs : List RecordNow) (port : SeenPort) (h g : AllHalves) (e : SeenEnd) → AreOwn (holding (record port { waiting = None }) rs h) → IsNewEnd port.at port.made e → e.inflow ≡ None → Joins e h g →
+    Stands (holding (record port { waiting = None }) rs h) (holding (given port e None) rs g)
+takes_new rs port h g e own fresh untold j = comes rs p h g e own fresh.towards fresh.first j None grow own_none tt [] refl
+  where
+    p : SeenPort
+    p = record port { waiting = None }
 
-    later : AreLater (all_ends old) ((held ++ ends_in g) ++ rest)
-    later = subst (λ es. AreLater es ((held ++ ends_in g) ++ rest)) joined_up (later_before ((held ++ ends_in h) ++ e ∷ []) (held ++ ends_in g) rest here)
+    mine : List SeenEnd
+    mine = ends_of_all rs ++ ends_in h
 
-    still : AreStill (all_ends old) ((held ++ ends_in g) ++ rest)
-    still = later (own_all old own)
+    comes_last : AreWith (mine ++ []) (mine ++ e ∷ [])
+    comes_last = with_between e mine [] (subst (λ (i : Option Inflow). IfSome (option_map (λ (i : Inflow). e.log.got ++ i.readable) i) (λ bytes. bytes ≡ [])) (sym untold) tt)
+        (none_join mine [] e.id (made_none port.made mine e.id own.made fresh.first) refl) (subst AreOfTheirOwn (sym (append-nil mine)) own.held)
 
-    made : AreMade (port.made ++ e.id ∷ []) ((held ++ ends_in h) ++ e ∷ [])
-    made = all_last (λ (x : SeenEnd). is_among x.id (port.made ++ e.id ∷ []) ≡ true) (held ++ ends_in h) e
-        (each (λ (x : SeenEnd). is_among x.id port.made ≡ true) (λ (x : SeenEnd). is_among x.id (port.made ++ e.id ∷ []) ≡ true) (λ x m. among_front x.id port.made (e.id ∷ []) m) (held ++ ends_in h) own.made)
-        (among_back e.id port.made (e.id ∷ []) (ap (λ b. b || false) (same_refl e.id)))
+    grow : EndsGrow (mine ++ []) ((ends_of_all rs ++ ends_in g) ++ [])
+    grow = subst (EndsGrow (mine ++ [])) (sym (append-nil (ends_of_all rs ++ ends_in g)))
+        (grow_chain (mine ++ []) (mine ++ e ∷ []) (ends_of_all rs ++ ends_in g) comes_last.grow (still rs p h g e own fresh.towards fresh.first j).grow)
 
 -- none goes
 unmoved : (rs : List RecordNow) (h : AllHalves) (port : SeenPort) (refused faults : ℕ) (quiet : Bool) → AreOwn (holding port rs h) →
-    Grows (holding port rs h) (holding (record port { refused = refused; quiet = quiet; faults = faults }) rs h)
-unmoved rs h port refused faults quiet own =
-    let same = grows_same (holding port rs h) own in
-    record {
+    Stands (holding port rs h) (holding (record port { refused = refused; quiet = quiet; faults = faults }) rs h)
+unmoved rs h port refused faults quiet own = record { grows = goes; port = stands_alike (holding port rs h) (holding q rs h) refl refl }
+  where
+    q : SeenPort
+    q = record port { refused = refused; quiet = quiet; faults = faults }
+
+    same : Grows (holding port rs h) (holding port rs h)
+    same = grows_same (holding port rs h) own
+
+    goes : Grows (holding port rs h) (holding q rs h)
+    goes = record {
       grows = record { at = refl; made = same.grows.made; records = same.grows.records; halves = same.grows.halves; ends = same.grows.ends; asked = same.grows.asked };
       own = record {
-        in_memory = own.in_memory;
         held = own.held;
         made = own.made;
         waiting = own.waiting;
-        to_come = same_to_come port (record port { refused = refused; quiet = quiet; faults = faults }) (waiting_at port) refl refl own.to_come;
+        to_come = same_to_come port q (waiting_at port) refl refl own.to_come;
         elsewhere = own.elsewhere;
         fed = own.fed;
         on_socket = own.on_socket;
@@ -253,55 +325,72 @@ unmoved rs h port refused faults quiet own =
 
 -- ---- one accept
 
-takes_in : (entity : ℕ) (rs : List RecordNow) (old new : Accepting) → TakesIn entity old new → AreOwn (at_accepts rs old) → Grows (at_accepts rs old) (at_accepts rs new)
+takes_in : (entity : ℕ) (rs : List RecordNow) (old new : Accepting) → TakesIn entity old new → AreOwn (at_accepts rs old) → Stands (at_accepts rs old) (at_accepts rs new)
 takes_in entity rs old new t own = by t.gives
   where
     end : SeenEnd
     end = t.end
 
-    by_waiting : (w : Option (List SeenEnd)) → new.port.waiting ≡ w → old.port.waiting ≡ option_map (λ (rest : List SeenEnd). end ∷ rest) new.port.waiting →
-        new.port ≡ record old.port { made = old.port.made ++ end.id ∷ []; quiet = false; waiting = new.port.waiting } → Grows (at_accepts rs old) (at_accepts rs new)
-    by_waiting None none was same = absurd (false_isnt_true (sym (ap is_some (was ∙ ap (option_map (λ (rest : List SeenEnd). end ∷ rest)) none)) ∙ own.in_memory))
-    by_waiting (Some rest) some was same =
-        let here : old.port ≡ record old.port { waiting = Some (end ∷ rest) } =
-        ap (λ (w : Option (List SeenEnd)). record old.port { waiting = w }) (was ∙ ap (option_map (λ (r : List SeenEnd). end ∷ r)) some) in
-        let there : new.port ≡ given old.port end rest =
-        same ∙ ap (λ (w : Option (List SeenEnd)). record old.port { made = old.port.made ++ end.id ∷ []; quiet = false; waiting = w }) some in
-        subst (λ (p : SeenPort). Grows (at_accepts rs old) (holding p rs new.halves)) (sym there)
-        (subst (λ (g : AllHalves). Grows (at_accepts rs old) (holding (given old.port end rest) rs g)) (sym t.joins)
-        (subst (λ (p : SeenPort). AreOwn (holding p rs old.halves) → Grows (holding p rs old.halves) (holding (given old.port end rest) rs (joined (accepted entity end t.room) old.halves))) (sym here)
-        (λ mine. takes_one rs old.port old.halves (joined (accepted entity end t.room) old.halves) end rest mine (joins_so entity t.room end old.halves)) own))
+    g : AllHalves
+    g = joined (accepted entity end t.room) old.halves
 
-    by : Accepts (taken.Made end) old.port new.port → Grows (at_accepts rs old) (at_accepts rs new)
-    by (_, _, was, same) = by_waiting new.port.waiting refl was same
+    joins : Joins end old.halves g
+    joins = joins_so entity t.room end old.halves
+
+    by_waiting : (w : Option (List SeenEnd)) → new.port.waiting ≡ w → IsNewEnd old.port.at old.port.made end →
+        (old.port.waiting ≡ option_map (λ (rest : List SeenEnd). end ∷ rest) new.port.waiting) × (old.port.waiting ≡ None → end.inflow ≡ None) →
+        new.port ≡ given old.port end new.port.waiting → Stands (at_accepts rs old) (at_accepts rs new)
+    by_waiting w is fresh was same =
+        subst (λ (p : SeenPort). Stands (at_accepts rs old) (holding p rs new.halves)) (sym (same ∙ ap (given old.port end) is))
+        (subst (λ (h : AllHalves). Stands (at_accepts rs old) (holding (given old.port end w) rs h)) (sym t.joins) (at w waited))
+      where
+        waited : old.port.waiting ≡ option_map (λ (rest : List SeenEnd). end ∷ rest) w
+        waited = was.0 ∙ ap (option_map (λ (rest : List SeenEnd). end ∷ rest)) is
+
+        at : (w : Option (List SeenEnd)) → old.port.waiting ≡ option_map (λ (rest : List SeenEnd). end ∷ rest) w → Stands (at_accepts rs old) (holding (given old.port end w) rs g)
+        at None none =
+            subst (λ (p : SeenPort). AreOwn (holding p rs old.halves) → Stands (holding p rs old.halves) (holding (given old.port end None) rs g)) (sym (ap (λ (w : Option (List SeenEnd)). record old.port { waiting = w }) none))
+            (λ mine. takes_new rs old.port old.halves g end mine fresh (was.1 none) joins) own
+        at (Some rest) some =
+            subst (λ (p : SeenPort). AreOwn (holding p rs old.halves) → Stands (holding p rs old.halves) (holding (given old.port end (Some rest)) rs g)) (sym (ap (λ (w : Option (List SeenEnd)). record old.port { waiting = w }) some))
+            (λ mine. takes_one rs old.port old.halves g end rest mine joins) own
+
+    by : Accepts (taken.Made end) old.port new.port → Stands (at_accepts rs old) (at_accepts rs new)
+    by (_, fresh, was, same) = by_waiting new.port.waiting refl fresh was same
 
 gives_none : (rs : List RecordNow) (old new : Accepting) (refused faults : ℕ) (quiet : Bool) → new.port ≡ record old.port { refused = refused; quiet = quiet; faults = faults } → new.halves ≡ old.halves →
-    AreOwn (at_accepts rs old) → Grows (at_accepts rs old) (at_accepts rs new)
+    AreOwn (at_accepts rs old) → Stands (at_accepts rs old) (at_accepts rs new)
 gives_none rs old new refused faults quiet port halves own =
-    subst (λ (p : SeenPort). Grows (at_accepts rs old) (holding p rs new.halves)) (sym port)
-    (subst (λ (g : AllHalves). Grows (at_accepts rs old) (holding (record old.port { refused = refused; quiet = quiet; faults = faults }) rs g)) (sym halves)
+    subst (λ (p : SeenPort). Stands (at_accepts rs old) (holding p rs new.halves)) (sym port)
+    (subst (λ (g : AllHalves). Stands (at_accepts rs old) (holding (record old.port { refused = refused; quiet = quiet; faults = faults }) rs g)) (sym halves)
     (unmoved rs old.halves old.port refused faults quiet own))
 
 -- ---- all accepts
 
-takes_all : (entity : ℕ) (rs : List RecordNow) (stood : List Accepting) (old new : Accepting) → TakesAll entity stood old new → AreOwn (at_accepts rs old) → Grows (at_accepts rs old) (at_accepts rs new)
-takes_all entity rs [] old new same own = subst (λ a. Grows (at_accepts rs old) (at_accepts rs a)) same (grows_same (at_accepts rs old) own)
+takes_all : (entity : ℕ) (rs : List RecordNow) (stood : List Accepting) (old new : Accepting) → TakesAll entity stood old new → AreOwn (at_accepts rs old) → Stands (at_accepts rs old) (at_accepts rs new)
+takes_all entity rs [] old new same own = both_by (at_accepts rs old) (at_accepts rs new) (ap (at_accepts rs) (sym same)) own
 takes_all entity rs (a ∷ rest) old new (once, later) own =
     let first = takes_in entity rs old a once own in
-    grows_then (at_accepts rs old) (at_accepts rs a) (at_accepts rs new) first (takes_all entity rs rest a new later first.own)
+    both_then (at_accepts rs old) (at_accepts rs a) (at_accepts rs new) first (takes_all entity rs rest a new later first.grows.own)
 
-ends_so : (rs : List RecordNow) (result : Accepted) (old new : Accepting) → EndsWith result old new → AreOwn (at_accepts rs old) → Grows (at_accepts rs old) (at_accepts rs new)
+ends_so : (rs : List RecordNow) (result : Accepted) (old new : Accepting) → EndsWith result old new → AreOwn (at_accepts rs old) → Stands (at_accepts rs old) (at_accepts rs new)
 ends_so rs accepts.All old new (inl none) own = gives_none rs old new old.port.refused old.port.faults true none.gives.1 none.same own
 ends_so rs accepts.All old new (inr none) own = gives_none rs old new _ _ true none.gives.1 none.same own
 ends_so rs accepts.NoMemory old new none own = gives_none rs old new old.port.refused old.port.faults old.port.quiet none.gives none.same own
 ends_so rs accepts.Busy old new none own = absurd none
 
-is_ended : (entity : ℕ) (rs : List RecordNow) (result : Accepted) (old new : Accepting) → IsEnded entity result old new → AreOwn (at_accepts rs old) → Grows (at_accepts rs old) (at_accepts rs new)
+is_ended : (entity : ℕ) (rs : List RecordNow) (result : Accepted) (old new : Accepting) → IsEnded entity result old new → AreOwn (at_accepts rs old) → Stands (at_accepts rs old) (at_accepts rs new)
 is_ended entity rs result old new ended own =
     let first = takes_all entity rs ended.taken.stood old ended.mid ended.taken.takes own in
-    grows_then (at_accepts rs old) (at_accepts rs ended.mid) (at_accepts rs new) first (ends_so rs result ended.mid new ended.ends first.own)
+    both_then (at_accepts rs old) (at_accepts rs ended.mid) (at_accepts rs new) first (ends_so rs result ended.mid new ended.ends first.grows.own)
+
+all_stand : (entity : ℕ) (result : Accepted) (rs : List RecordNow) (old new : Accepting) → AcceptsAll entity result old new → AreOwn (at_accepts rs old) → Stands (at_accepts rs old) (at_accepts rs new)
+all_stand entity accepts.Busy rs old new busy own = takes_all entity rs busy.stood old new busy.takes own
+all_stand entity accepts.All rs old new ended own = is_ended entity rs accepts.All old new ended own
+all_stand entity accepts.NoMemory rs old new ended own = is_ended entity rs accepts.NoMemory old new ended own
 
 pub accepts_grow : (entity : ℕ) (result : Accepted) (rs : List RecordNow) (old new : Accepting) → AcceptsAll entity result old new → AreOwn (at_accepts rs old) → Grows (at_accepts rs old) (at_accepts rs new)
-accepts_grow entity accepts.Busy rs old new busy own = takes_all entity rs busy.stood old new busy.takes own
-accepts_grow entity accepts.All rs old new ended own = is_ended entity rs accepts.All old new ended own
-accepts_grow entity accepts.NoMemory rs old new ended own = is_ended entity rs accepts.NoMemory old new ended own
+accepts_grow entity result rs old new all own = (all_stand entity result rs old new all own).grows
+
+pub accepts_stand : (entity : ℕ) (result : Accepted) (rs : List RecordNow) (old new : Accepting) → AcceptsAll entity result old new → AreOwn (at_accepts rs old) → PortStands (at_accepts rs old) (at_accepts rs new)
+accepts_stand entity result rs old new all own = (all_stand entity result rs old new all own).port

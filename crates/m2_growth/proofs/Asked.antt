@@ -8,17 +8,17 @@ use Rattle.m2_fabric.specs.Sockets.{same_socket}
 use Rattle.m2_weave.specs.m2_journal.declared.entry.Entry.{Entry}
 use Rattle.m2_weave.specs.m2_journal.State.{Judgement}
 use Rattle.m2_turn.specs.m2_record.RecordNow.{RecordNow}
-use Rattle.m2_turn.specs.m2_record.Sources.{end_at}
+use Rattle.m2_turn.specs.m2_record.Sources.{end_at, got_of}
 use Rattle.m2_turn.specs.m2_record.TakenTrails.{judgement_of, judgements_in}
 use Rattle.m2_turn.specs.Sessions.{peer_of}
 use Rattle.m2_turn.proofs.Opened.{filtered}
 use Rattle.m2_bytes_fit.specs.m2_trail.Asks.{IsMain}
 use Rattle.m2_weave.specs.Later.{GoesOn}
 use Rattle.m2_growth.specs.Ends.{AreOfTheirOwn, EndGrowsTo, EndsGrow, come_to}
-use Rattle.m2_growth.specs.Halves.{AreAskedByPeers, IsAskedByPeer, IsOneOf, judged_since}
+use Rattle.m2_growth.specs.Halves.{AreAskedByPeers, IsAskedByPeer, IsAskedHere, IsOneOf, judged_since}
 use Rattle.m2_growth.specs.Records.{RecordGrows, RecordsGrow}
 use Rattle.m2_growth.proofs.Among.{each_by, in_part, of_each}
-use Rattle.m2_growth.proofs.Ends.{end_first, none_tail, own_tail}
+use Rattle.m2_growth.proofs.Ends.{end_first, none_tail, on_chain, own_tail}
 use Rattle.m2_fabric.proofs.m2_lemmas.Booleans.{false_isnt_true}
 use Rattle.m2_fabric.proofs.Sockets.{same_equal, same_refl}
 
@@ -60,25 +60,55 @@ none_since old new (more, e) same =
 pub same_since : (r : RecordNow) → judged_since r r ≡ []
 same_since r = since_more r r [] (sym (append-nil r.journal))
 
-none_asked : (ends : List SeenEnd) (old new : RecordNow) → judged_since old new ≡ [] → AllByRecursion (IsAskedByPeer ends new) (judged_since old new)
-none_asked ends old new e = subst (AllByRecursion (IsAskedByPeer ends new)) (sym e) tt
+none_asked : (ends now : List SeenEnd) (old new : RecordNow) → judged_since old new ≡ [] → AllByRecursion (IsAskedByPeer ends now new) (judged_since old new)
+none_asked ends now old new e = subst (AllByRecursion (IsAskedByPeer ends now new)) (sym e) tt
 
 -- ---- of all records
 
-pub asked_same : (ends : List SeenEnd) (rs : List RecordNow) → AreAskedByPeers ends rs rs
-asked_same ends [] = tt
-asked_same ends (r ∷ rs) = (none_asked ends r r (same_since r), asked_same ends rs)
+pub asked_same : (ends now : List SeenEnd) (rs : List RecordNow) → AreAskedByPeers ends now rs rs
+asked_same ends now [] = tt
+asked_same ends now (r ∷ rs) = (none_asked ends now r r (same_since r), asked_same ends now rs)
 
-pub asked_but_one : (ends : List SeenEnd) (before rest : List RecordNow) (r s : RecordNow) → judged_since r s ≡ [] → AreAskedByPeers ends (before ++ r ∷ rest) (before ++ s ∷ rest)
-asked_but_one ends [] rest r s none = (none_asked ends r s none, asked_same ends rest)
-asked_but_one ends (x ∷ xs) rest r s none = (none_asked ends x x (same_since x), asked_but_one ends xs rest r s none)
+pub asked_but_one : (ends now : List SeenEnd) (before rest : List RecordNow) (r s : RecordNow) → judged_since r s ≡ [] → AreAskedByPeers ends now (before ++ r ∷ rest) (before ++ s ∷ rest)
+asked_but_one ends now [] rest r s none = (none_asked ends now r s none, asked_same ends now rest)
+asked_but_one ends now (x ∷ xs) rest r s none = (none_asked ends now x x (same_since x), asked_but_one ends now xs rest r s none)
+
+-- what it had got stays the first of what the end of its socket has got
+got_later : (e : SeenEnd) (p : Option SeenEnd) → EndGrowsTo (Some e) p → GoesOn e.log.got (got_of p)
+got_later e (Some f) g = g.got
+got_later e None g = absurd g
+
+of_none : (bytes all : List ℕ) → GoesOn bytes [] → GoesOn bytes all
+of_none [] all h = (all, refl)
+of_none (b ∷ bytes) all (m, e) = absurd cc
+
+pub got_on : (bytes : List ℕ) (o p : Option SeenEnd) → EndGrowsTo o p → GoesOn bytes (got_of o) → GoesOn bytes (got_of p)
+got_on bytes (Some e) (Some f) g h = on_chain bytes e.log.got f.log.got h g.got
+got_on bytes (Some e) None g h = absurd g
+got_on bytes None (Some f) g h = of_none bytes f.log.got h
+got_on bytes None None g h = h
+
+asked_here : (ends now : List SeenEnd) (r : RecordNow) (j : Judgement) → EndsGrow ends now → IsAskedHere ends r j → IsAskedByPeer ends now r j
+asked_here ends now r j grow a = record {
+  arrival = a.arrival;
+  arrived = a.arrived;
+  socket = a.socket;
+  main = a.main;
+  come = subst (λ (o : Option SeenEnd). IfSome o (λ e. come_to a.arrival.end ≡ come_to e)) (sym a.here) refl;
+  got = got_later a.arrival.end (end_at now j.socket) (subst (λ (o : Option SeenEnd). EndGrowsTo o (end_at now j.socket)) a.here (grow j.socket));
+}
+
+all_here : (ends now : List SeenEnd) (r : RecordNow) (js : List Judgement) → EndsGrow ends now → AllByRecursion (IsAskedHere ends r) js → AllByRecursion (IsAskedByPeer ends now r) js
+all_here ends now r [] grow all = tt
+all_here ends now r (j ∷ js) grow all = (asked_here ends now r j grow all.0, all_here ends now r js grow all.1)
 
 -- the one at a place has judged some
-pub asked_at : (ends : List SeenEnd) (rs : List RecordNow) (place : ℕ) (side behind : RecordNow) → place < length rs → slice_index_or rs place side ≡ side →
-    AllByRecursion (IsAskedByPeer ends behind) (judged_since side behind) → AreAskedByPeers ends rs (slice_set rs place behind)
-asked_at ends [] place side behind within here since = absurd (omega (arith, within))
-asked_at ends (r ∷ rs) zero side behind within here since = (subst (λ (x : RecordNow). AllByRecursion (IsAskedByPeer ends behind) (judged_since x behind)) (sym here) since, asked_same ends rs)
-asked_at ends (r ∷ rs) (suc n) side behind within here since = (none_asked ends r r (same_since r), asked_at ends rs n side behind (omega (arith, within)) here since)
+pub asked_at : (ends now : List SeenEnd) → EndsGrow ends now → (rs : List RecordNow) (place : ℕ) (side behind : RecordNow) → place < length rs → slice_index_or rs place side ≡ side →
+    AllByRecursion (IsAskedHere ends behind) (judged_since side behind) → AreAskedByPeers ends now rs (slice_set rs place behind)
+asked_at ends now grow [] place side behind within here since = absurd (omega (arith, within))
+asked_at ends now grow (r ∷ rs) zero side behind within here since =
+    (subst (λ (x : RecordNow). AllByRecursion (IsAskedByPeer ends now behind) (judged_since x behind)) (sym here) (all_here ends now behind (judged_since side behind) grow since), asked_same ends now rs)
+asked_at ends now grow (r ∷ rs) (suc n) side behind within here since = (none_asked ends now r r (same_since r), asked_at ends now grow rs n side behind (omega (arith, within)) here since)
 
 -- ---- one after the other
 
@@ -87,23 +117,25 @@ come_before (Some e) (Some f) bytes g same = same ∙ g.come
 come_before (Some e) None bytes g same = absurd g
 come_before None p bytes g same = tt
 
-asked_before : (xs ys : List SeenEnd) (r : RecordNow) (j : Judgement) → EndsGrow xs ys → IsAskedByPeer ys r j → IsAskedByPeer xs r j
-asked_before xs ys r j grow a = record {
+asked_before : (xs ys zs : List SeenEnd) (r : RecordNow) (j : Judgement) → EndsGrow xs ys → IsAskedByPeer ys zs r j → IsAskedByPeer xs zs r j
+asked_before xs ys zs r j grow a = record {
   arrival = a.arrival;
   arrived = a.arrived;
   socket = a.socket;
   main = a.main;
   come = come_before (end_at xs j.socket) (end_at ys j.socket) (come_to a.arrival.end) (grow j.socket) a.come;
+  got = a.got;
 }
 
 -- a record's peer stays
-asked_later : (ends : List SeenEnd) (r s : RecordNow) (j : Judgement) → peer_of s ≡ peer_of r → IsAskedByPeer ends r j → IsAskedByPeer ends s j
-asked_later ends r s j peer a = record {
+asked_later : (xs ys zs : List SeenEnd) (r s : RecordNow) (j : Judgement) → EndsGrow ys zs → peer_of s ≡ peer_of r → IsAskedByPeer xs ys r j → IsAskedByPeer xs zs s j
+asked_later xs ys zs r s j grow peer a = record {
   arrival = a.arrival;
   arrived = a.arrived;
   socket = a.socket;
   main = subst (λ p. IfSome a.arrival.ask (λ ask. IsMain ask p)) (sym peer) a.main;
   come = a.come;
+  got = got_on a.arrival.end.log.got (end_at ys j.socket) (end_at zs j.socket) (grow j.socket) a.got;
 }
 
 since_both : (r s t : RecordNow) → RecordGrows r s → RecordGrows s t → judged_since r t ≡ judged_since r s ++ judged_since s t
@@ -114,18 +146,18 @@ since_both r s t p q = at p.journal q.journal
         since_more r t (m ++ n) (f ∙ ap (λ l. l ++ n) e ∙ append_assoc r.journal m n) ∙ filtered judgement_of m n
         ∙ ap (λ l. l ++ judgements_in n) (sym (since_more r s m e)) ∙ ap (λ l. judged_since r s ++ l) (sym (since_more s t n f))
 
-one_chain : (xs ys : List SeenEnd) (r s t : RecordNow) → EndsGrow xs ys → RecordGrows r s → RecordGrows s t → AllByRecursion (IsAskedByPeer xs s) (judged_since r s) → AllByRecursion (IsAskedByPeer ys t) (judged_since s t) →
-    AllByRecursion (IsAskedByPeer xs t) (judged_since r t)
-one_chain xs ys r s t grow p q first second =
-    subst (AllByRecursion (IsAskedByPeer xs t)) (sym (since_both r s t p q))
-    (each_by (IsAskedByPeer xs t) (judged_since r s ++ judged_since s t) (λ j i. at j (in_part j (judged_since r s) (judged_since s t) i)))
+one_chain : (xs ys zs : List SeenEnd) (r s t : RecordNow) → EndsGrow xs ys → EndsGrow ys zs → RecordGrows r s → RecordGrows s t → AllByRecursion (IsAskedByPeer xs ys s) (judged_since r s) → AllByRecursion (IsAskedByPeer ys zs t) (judged_since s t) →
+    AllByRecursion (IsAskedByPeer xs zs t) (judged_since r t)
+one_chain xs ys zs r s t grow on p q first second =
+    subst (AllByRecursion (IsAskedByPeer xs zs t)) (sym (since_both r s t p q))
+    (each_by (IsAskedByPeer xs zs t) (judged_since r s ++ judged_since s t) (λ j i. at j (in_part j (judged_since r s) (judged_since s t) i)))
   where
-    at : (j : Judgement) → IsOneOf j (judged_since r s) ⊎ IsOneOf j (judged_since s t) → IsAskedByPeer xs t j
-    at j (inl i) = asked_later xs s t j (ap (λ f. f.peer) q.facts) (of_each (IsAskedByPeer xs s) j (judged_since r s) first i)
-    at j (inr i) = asked_before xs ys t j grow (of_each (IsAskedByPeer ys t) j (judged_since s t) second i)
+    at : (j : Judgement) → IsOneOf j (judged_since r s) ⊎ IsOneOf j (judged_since s t) → IsAskedByPeer xs zs t j
+    at j (inl i) = asked_later xs ys zs s t j on (ap (λ f. f.peer) q.facts) (of_each (IsAskedByPeer xs ys s) j (judged_since r s) first i)
+    at j (inr i) = asked_before xs ys zs t j grow (of_each (IsAskedByPeer ys zs t) j (judged_since s t) second i)
 
-pub asked_chain : (xs ys : List SeenEnd) (rs ss ts : List RecordNow) → EndsGrow xs ys → RecordsGrow rs ss → RecordsGrow ss ts → AreAskedByPeers xs rs ss → AreAskedByPeers ys ss ts → AreAskedByPeers xs rs ts
-asked_chain xs ys [] ss ts grow p q first second = tt
-asked_chain xs ys (r ∷ rs) ss [] grow p q first second = tt
-asked_chain xs ys (r ∷ rs) [] (t ∷ ts) grow p q first second = absurd p
-asked_chain xs ys (r ∷ rs) (s ∷ ss) (t ∷ ts) grow p q first second = (one_chain xs ys r s t grow p.0 q.0 first.0 second.0, asked_chain xs ys rs ss ts grow p.1 q.1 first.1 second.1)
+pub asked_chain : (xs ys zs : List SeenEnd) (rs ss ts : List RecordNow) → EndsGrow xs ys → EndsGrow ys zs → RecordsGrow rs ss → RecordsGrow ss ts → AreAskedByPeers xs ys rs ss → AreAskedByPeers ys zs ss ts → AreAskedByPeers xs zs rs ts
+asked_chain xs ys zs [] ss ts grow on p q first second = tt
+asked_chain xs ys zs (r ∷ rs) ss [] grow on p q first second = tt
+asked_chain xs ys zs (r ∷ rs) [] (t ∷ ts) grow on p q first second = absurd p
+asked_chain xs ys zs (r ∷ rs) (s ∷ ss) (t ∷ ts) grow on p q first second = (one_chain xs ys zs r s t grow on p.0 q.0 first.0 second.0, asked_chain xs ys zs rs ss ts grow on p.1 q.1 first.1 second.1)

@@ -118,12 +118,12 @@ holding_chain a b c p q = record {
   records = records_chain a.records b.records c.records p.records q.records;
   halves = halves_chain a.halves b.halves c.halves b.records c.records q.records p.halves q.halves;
   ends = grow_chain (all_ends a) (all_ends b) (all_ends c) p.ends q.ends;
-  asked = asked_chain (all_ends a) (all_ends b) a.records b.records c.records p.ends p.records q.records p.asked q.asked;
+  asked = asked_chain (all_ends a) (all_ends b) (all_ends c) a.records b.records c.records p.ends q.ends p.records q.records p.asked q.asked;
 }
 
 pub grows_same : (h : Holding) → AreOwn h → Grows h h
 grows_same h own = record {
-  grows = record { at = refl; made = on_same h.port.made; records = records_same h.records; halves = halves_same h.halves h.records; ends = grow_same (all_ends h); asked = asked_same (all_ends h) h.records };
+  grows = record { at = refl; made = on_same h.port.made; records = records_same h.records; halves = halves_same h.halves h.records; ends = grow_same (all_ends h); asked = asked_same (all_ends h) (all_ends h) h.records };
   own = own;
   judged = λ was. was;
 }

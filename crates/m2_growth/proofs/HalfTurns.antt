@@ -34,8 +34,8 @@ use Rattle.m2_bytes_fit.specs.m2_trail.Arrivals.{IsArrival, closed_of}
 use Rattle.m2_bytes_fit.specs.m2_trail.Asks.{IsMain}
 use Rattle.m2_bytes_fit.specs.m2_trail.Incoming.{IncomingNow, StepsOn}
 use Rattle.m2_bytes_fit.specs.m2_trail.Trails.{TrailNow}
-use Rattle.m2_growth.specs.Ends.{EndGrows, come_to}
-use Rattle.m2_growth.specs.Halves.{IsAskedByPeer, IsHeardBy, TrailGrows, asked_on, judged_since}
+use Rattle.m2_growth.specs.Ends.{EndGrows}
+use Rattle.m2_growth.specs.Halves.{IsAskedHere, IsHeardBy, TrailGrows, asked_on, judged_since}
 use Rattle.m2_growth.specs.Holding.{AreOwn, Grows, Holding, all_ends, ends_held, waiting_at}
 use Rattle.m2_growth.specs.GrowthLaws.{at_halves}
 use Rattle.m2_growth.specs.Records.{RecordGrows}
@@ -142,15 +142,15 @@ record IsAskOf (a : IncomingNow) (peer : Addr) : Type 0 where
 
 -- so it is of the asks that are judged on its socket
 asked_by_peer : (c : Around) (rs : List RecordNow) (a : IncomingNow) (place : ℕ) (peer : Addr) (side behind : RecordNow) → IsHome rs place peer side → RecordGrows side behind → AreOwn (held_with c rs (asked_by a peer)) →
-    IsAskOf a peer → (js : List Judgement) → AllByRecursion (λ (j : Judgement). j.socket ≡ a.end.id) js → AllByRecursion (IsAskedByPeer (all_ends (held_with c rs (asked_by a peer))) behind) js
+    IsAskOf a peer → (js : List Judgement) → AllByRecursion (λ (j : Judgement). j.socket ≡ a.end.id) js → AllByRecursion (IsAskedHere (all_ends (held_with c rs (asked_by a peer))) behind) js
 asked_by_peer c rs a place peer side behind home grows own by js since =
-    all_so_of (λ (j : Judgement). j.socket ≡ a.end.id) (IsAskedByPeer ends behind) js
+    all_so_of (λ (j : Judgement). j.socket ≡ a.end.id) (IsAskedHere ends behind) js
     (λ j on. record {
       arrival = a;
       arrived = by.arrived;
       socket = sym on;
       main = subst (λ p. IfSome a.ask (λ ask. IsMain ask p)) (same_means peer (peer_of side) home.same ∙ ap (λ f. f.peer) (sym grows.facts)) by.main;
-      come = subst (λ (o : Option SeenEnd). IfSome o (λ e. come_to a.end ≡ come_to e)) (sym (ap (end_at ends) on ∙ here)) refl;
+      here = ap (end_at ends) on ∙ here;
     }) since
   where
     ends : List SeenEnd

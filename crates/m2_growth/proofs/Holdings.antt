@@ -59,7 +59,7 @@ pub record Parts (port : SeenPort) (rs ss : List RecordNow) (h g : AllHalves) : 
   pub ends : AreLater (ends_held (holding port rs h)) (ends_held (holding port ss g))
   pub on : AllByRecursion IsOnSocket (all_left g)
   pub here : AllByRecursion (IsHere port.at) (all_left g)
-  pub asked : AreAskedByPeers (all_ends (holding port rs h)) rs ss
+  pub asked : (now : List SeenEnd) → EndsGrow (all_ends (holding port rs h)) now → AreAskedByPeers (all_ends (holding port rs h)) now rs ss
   pub judged : HaveTheirHalves (holding port rs h) → HaveTheirHalves (holding port ss g)
 
 -- what stands behind ends doesn't matter to them
@@ -77,17 +77,17 @@ grow_before xs ys zs grow none k =
 pub parts_grow : (port : SeenPort) (rs ss : List RecordNow) (h g : AllHalves) → AreOwn (holding port rs h) → Parts port rs ss h g → Grows (holding port rs h) (holding port ss g)
 parts_grow port rs ss h g own p =
     let still = p.ends own.held in
+    let grow = grow_before (ends_held (holding port rs h)) (ends_held (holding port ss g)) (waiting_at port) still.grow still.none in
     record {
       grows = record {
         at = refl;
         made = ([], sym (append-nil port.made));
         records = p.records;
         halves = p.halves;
-        ends = grow_before (ends_held (holding port rs h)) (ends_held (holding port ss g)) (waiting_at port) still.grow still.none;
-        asked = p.asked;
+        ends = grow;
+        asked = p.asked (all_ends (holding port ss g)) grow;
       };
       own = record {
-        in_memory = own.in_memory;
         held = still.own;
         made = made_later port.made (ends_held (holding port rs h)) (ends_held (holding port ss g)) still.none own.made;
         waiting = own.waiting;
@@ -289,7 +289,7 @@ half_changes c rs p q own g =
           (later_before (map end_of (c.before ++ p ∷ c.behind)) (map end_of (c.before ++ q ∷ c.behind)) (map loose_end c.loose) (ends_change p q c.before c.behind g.end));
       on = changed_all IsOnSocket c p q own.on_socket (g.trail.socket ∙ this_on c p own.on_socket ∙ sym g.end.id);
       here = changed_all (IsHere c.port.at) c p q own.here (ap (goes_to c.port.at) g.end.id ∙ of_this (IsHere c.port.at) c p own.here);
-      asked = asked_same (all_ends (held_with c rs p)) rs;
+      asked = λ now grow. asked_same (all_ends (held_with c rs p)) now rs;
       judged = (λ j. record {
         each = all_so (HasItsHalves (all_left (halves_with c p))) (HasItsHalves (all_left (halves_with c q))) (still_has (halves_with c p) (halves_with c q) stay) rs j.each;
         made = j.made;
@@ -328,7 +328,7 @@ half_over c rs p l own end trail =
       ends = later_behind (ends_of_all rs) (ends_in (halves_with c p)) (ends_in (halves_over c l)) (end_over p l c.before c.behind c.loose end);
       on = over_all IsOnSocket c p l own.on_socket (trail.socket ∙ this_on c p own.on_socket ∙ sym end.id);
       here = over_all (IsHere c.port.at) c p l own.here (ap (goes_to c.port.at) end.id ∙ of_this (IsHere c.port.at) c p own.here);
-      asked = asked_same (all_ends (held_with c rs p)) rs;
+      asked = λ now grow. asked_same (all_ends (held_with c rs p)) now rs;
       judged = (λ j. record {
         each = all_so (HasItsHalves (all_left (halves_with c p))) (HasItsHalves (all_left (halves_over c l))) (still_has (halves_with c p) (halves_over c l) stay) rs j.each;
         made = j.made;

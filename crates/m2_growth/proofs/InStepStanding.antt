@@ -40,7 +40,7 @@ some_end k (e ∷ es) is = at (same_socket k e.id) is (some_end k es)
     at true is rest = refl
     at false is rest = rest is
 
-is_end : (k : SocketId) (es : List SeenEnd) → IsSome (end_at es k) → is_among k (ids_of es) ≡ true
+pub is_end : (k : SocketId) (es : List SeenEnd) → IsSome (end_at es k) → is_among k (ids_of es) ≡ true
 is_end k [] is = absurd (false_isnt_true is)
 is_end k (e ∷ es) is = at (same_socket k e.id) is (is_end k es)
   where

@@ -14,7 +14,7 @@ use Rattle.m2_turn.proofs.Peers.{each_of_two, same_peers, with_one}
 use Rattle.m2_turn.proofs.Turned.{IsHome}
 use Rattle.m2_bytes_fit.specs.m2_trail.Arrivals.{LooseNow}
 use Rattle.m2_bytes_fit.specs.m2_trail.Trails.{TrailNow}
-use Rattle.m2_growth.specs.Halves.{AskedOnMade, IsAskedByPeer, judged_since, HasItsHalves, IsHeardBy, IsLeft, IsOneOf, IsTakenBy, TrailGrows, all_left, asked_on, sockets_left, sockets_taken, AskedTowards, OneJudge}
+use Rattle.m2_growth.specs.Halves.{AskedOnMade, IsAskedHere, judged_since, HasItsHalves, IsHeardBy, IsLeft, IsOneOf, IsTakenBy, TrailGrows, all_left, asked_on, sockets_left, sockets_taken, AskedTowards, OneJudge}
 use Rattle.m2_growth.specs.Holding.{AreOwn, Grows, HaveTheirHalves, all_ends, ends_held}
 use Rattle.m2_growth.specs.Records.{IsFed, RecordGrows, RecordsGrow, ends_of_all}
 use Rattle.m2_growth.proofs.Among.{among_back, among_mapped, each_by, mapped_one, mid_here, mid_in, mid_out, of_each, one_back, one_front, whose}
@@ -103,7 +103,7 @@ pub record Judges (c : Around) (rs : List RecordNow) (p : PendingNow) (place : �
   pub grows : RecordGrows side behind
   pub fed : IsFed side → IsFed behind
   pub asked : JudgesOn p.half.trail.socket side behind
-  pub since : AllByRecursion (IsAskedByPeer (all_ends (held_with c rs p)) behind) (judged_since side behind)
+  pub since : AllByRecursion (IsAskedHere (all_ends (held_with c rs p)) behind) (judged_since side behind)
 
 made_still : (c : Around) (rs : List RecordNow) (p : PendingNow) (place : ℕ) (peer : Addr) (side behind : RecordNow) → AreOwn (held_with c rs p) → Judges c rs p place peer side behind →
     AskedOnMade c.port.made side → AskedOnMade c.port.made behind
@@ -195,7 +195,7 @@ record_judges c rs p place peer side behind own x =
       ends = later_before (ends_of_all rs) (ends_of_all ss) (ends_in h) (ends_of_one rs place side behind home.within home.here x.ends);
       on = own.on_socket;
       here = own.here;
-      asked = asked_at (all_ends (held_with c rs p)) rs place side behind home.within home.here x.judges.since;
+      asked = λ now grow. asked_at (all_ends (held_with c rs p)) now grow rs place side behind home.within home.here x.judges.since;
       judged = (λ j. record {
         each = all_but_one (HasItsHalves (all_left h)) (HasItsHalves (all_left h)) rs place side behind home.within home.here (λ r f. f) (has_still c rs p place peer side behind x) j.each;
         made = all_but_one (AskedOnMade c.port.made) (AskedOnMade c.port.made) rs place side behind home.within home.here (λ r f. f) (made_still c rs p place peer side behind own x.judges) j.made;
@@ -282,7 +282,7 @@ record_takes c rs p place peer side behind own x =
       ends = ends;
       on = each_by IsOnSocket (all_left (halves_without c)) (others_on c p own.on_socket);
       here = each_by (IsHere c.port.at) (all_left (halves_without c)) (of_others (IsHere c.port.at) c p own.here);
-      asked = asked_at (all_ends (held_with c rs p)) rs place side behind x.judges.home.within x.judges.home.here x.judges.since;
+      asked = λ now grow. asked_at (all_ends (held_with c rs p)) now grow rs place side behind x.judges.home.within x.judges.home.here x.judges.since;
       judged = judged;
     })
   where

@@ -1,4 +1,3 @@
-pub mod Accepted
 pub mod Accepts
 pub mod Among
 pub mod Answered

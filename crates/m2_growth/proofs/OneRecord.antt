@@ -1,5 +1,5 @@
 -- One record of a holding does something, and all else there stays.
-use Rattle.std.proofs.Common.{◌≡◌, true, List, [], ◌∷◌, ◌++◌, map, IsSome, refl, sym, ap, subst, ◌∙◌, append_assoc}
+use Rattle.std.proofs.Common.{◌≡◌, true, List, [], ◌∷◌, ◌++◌, map, refl, sym, ap, subst, ◌∙◌, append_assoc}
 use Rattle.std.specs.List.{AllByRecursion, IsDistinct}
 use Rattle.m2_fabric.specs.m2_addr.declared.addr.Addr.{Addr}
 use Rattle.m2_fabric.specs.declared.socket.SocketId.{SocketId}
@@ -128,10 +128,9 @@ one_goes p q before rest r s halves port a ends own = record {
     records = records_but_one r s before rest a.grows;
     halves = halves_same halves (before ++ s ∷ rest);
     ends = ends.grow;
-    asked = asked_but_one (all_ends (holding p (before ++ r ∷ rest) halves)) before rest r s (none_since r s a.grows.journal a.judged);
+    asked = asked_but_one (all_ends (holding p (before ++ r ∷ rest) halves)) (all_ends (holding q (before ++ s ∷ rest) halves)) before rest r s (none_since r s a.grows.journal a.judged);
   };
   own = record {
-    in_memory = subst IsSome (sym port.waiting) own.in_memory;
     held = ends.held;
     made = ends.made;
     waiting = subst (λ (o : _). AreOfTheirOwn (waiting_at (record p { waiting = o }))) (sym port.waiting) own.waiting;

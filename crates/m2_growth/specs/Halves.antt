@@ -1,5 +1,5 @@
 -- What becomes of the halves on sockets of peers. This project's own.
-use Rattle.std.specs.Prelude.{◌≡◌, ◌⊎◌, ℕ, ◌≤◌, true, List, [], ◌∷◌, ◌++◌, length, map, drop, IfSome, false}
+use Rattle.std.specs.Prelude.{◌≡◌, ◌⊎◌, ℕ, ◌≤◌, true, List, [], ◌∷◌, ◌++◌, length, map, drop, Some, IfSome, false}
 use Rattle.std.specs.List.{AllByRecursion}
 use Rattle.m2_fabric.specs.m2_addr.declared.addr.Addr.{Addr}
 use Rattle.m2_fabric.specs.declared.socket.SocketId.{SocketId}
@@ -7,7 +7,7 @@ use Rattle.m2_fabric.specs.End.{SeenEnd}
 use Rattle.m2_fabric.specs.Sockets.{is_among, goes_to}
 use Rattle.m2_weave.specs.m2_journal.State.{Judgement}
 use Rattle.m2_turn.specs.m2_record.RecordNow.{RecordNow}
-use Rattle.m2_turn.specs.m2_record.Sources.{end_at}
+use Rattle.m2_turn.specs.m2_record.Sources.{end_at, got_of}
 use Rattle.m2_turn.specs.m2_record.TakenTrails.{judgements_in}
 use Rattle.m2_turn.specs.Halves.{AllHalves}
 use Rattle.m2_turn.specs.Sessions.{PendingNow, is_asker, peer_of}
@@ -99,21 +99,30 @@ IsHeardBy records p = AllByRecursion (λ (r : RecordNow). is_among p.half.trail.
 
 -- ---- who asked
 
--- Of an ask that a record has judged: its half was asked by the record's peer, and what had come to its end had come to the end of
--- its socket before.
-pub record IsAskedByPeer (ends : List SeenEnd) (r : RecordNow) (j : Judgement) : Type 0 where
+-- Of an ask that a record has judged: its half was asked by the record's peer, and its end is among these still as it was.
+pub record IsAskedHere (ends : List SeenEnd) (r : RecordNow) (j : Judgement) : Type 0 where
+  pub arrival : IncomingNow
+  pub arrived : IsArrival arrival
+  pub socket : arrival.end.id ≡ j.socket
+  pub main : IfSome arrival.ask (λ ask. IsMain ask (peer_of r))
+  pub here : end_at ends j.socket ≡ Some arrival.end
+
+-- Of an ask that a record has judged since: its half was asked by the record's peer; what had come to its end had come to the end of
+-- its socket before; and what it had got is the first of what the end of its socket has got now.
+pub record IsAskedByPeer (ends now : List SeenEnd) (r : RecordNow) (j : Judgement) : Type 0 where
   pub arrival : IncomingNow
   pub arrived : IsArrival arrival
   pub socket : arrival.end.id ≡ j.socket
   pub main : IfSome arrival.ask (λ ask. IsMain ask (peer_of r))
   pub come : IfSome (end_at ends j.socket) (λ e. come_to arrival.end ≡ come_to e)
+  pub got : GoesOn arrival.end.log.got (got_of (end_at now j.socket))
 
 -- those that a record has judged since
 abbrev pub judged_since : (old new : RecordNow) → List Judgement
 judged_since old new = judgements_in (drop (length old.journal) new.journal)
 
--- so are all that records have judged since, beside these ends as they were
-abbrev pub AreAskedByPeers : List SeenEnd → (old new : List RecordNow) → Type 0
-AreAskedByPeers ends [] ss = Unit {0}
-AreAskedByPeers ends (r ∷ rs) [] = Unit {0}
-AreAskedByPeers ends (r ∷ rs) (s ∷ ss) = AllByRecursion (IsAskedByPeer ends s) (judged_since r s) × AreAskedByPeers ends rs ss
+-- so are all that records have judged since, beside these ends as they were and as they are now
+abbrev pub AreAskedByPeers : (ends now : List SeenEnd) → (old new : List RecordNow) → Type 0
+AreAskedByPeers ends now [] ss = Unit {0}
+AreAskedByPeers ends now (r ∷ rs) [] = Unit {0}
+AreAskedByPeers ends now (r ∷ rs) (s ∷ ss) = AllByRecursion (IsAskedByPeer ends now s) (judged_since r s) × AreAskedByPeers ends now rs ss

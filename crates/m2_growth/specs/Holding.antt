@@ -1,5 +1,5 @@
 -- A port, and the records and halves that have the ends of its sockets; and what becomes of all of them. This project's own.
-use Rattle.std.specs.Prelude.{◌≡◌, true, false, List, [], ◌++◌, map, IsSome, unwrap_or}
+use Rattle.std.specs.Prelude.{◌≡◌, true, false, List, [], ◌++◌, map, unwrap_or}
 use Rattle.std.specs.List.{AllByRecursion, IsDistinct}
 use Rattle.m2_fabric.specs.declared.socket.SocketId.{SocketId}
 use Rattle.m2_fabric.specs.End.{SeenEnd}
@@ -43,11 +43,10 @@ pub record IsToCome (port : SeenPort) (e : SeenEnd) : Type 0 where
 abbrev pub LeadsElsewhere : SeenPort → RecordNow → Type 0
 LeadsElsewhere port r = (k : SocketId) → goes_to r.core.facts.peer k ≡ true → goes_to port.at k ≡ false
 
--- At a port in memory each socket has one end: those of records and halves are of sockets that the port made, and those that wait
--- of others. Records dial others than the port, and have a feed where their phase has one: so a socket that is dialled, or taken,
+-- Each socket has one end: those of records and halves are of sockets that the port made, and those that wait at one in memory of
+-- others. Records dial others than the port, and have a feed where their phase has one: so a socket that is dialled, or taken,
 -- replaces none. A half is on the socket of its end, which goes to the port.
 pub record AreOwn (h : Holding) : Type 0 where
-  pub in_memory : IsSome h.port.waiting
   pub held : AreOfTheirOwn (ends_held h)
   pub made : AllByRecursion (λ (e : SeenEnd). is_among e.id h.port.made ≡ true) (ends_held h)
   pub waiting : AreOfTheirOwn (waiting_at h.port)
@@ -78,7 +77,7 @@ pub record HoldingGrows (old new : Holding) : Type 0 where
   pub records : RecordsGrow old.records new.records
   pub halves : HalvesStay old.halves new.halves new.records
   pub ends : EndsGrow (all_ends old) (all_ends new)
-  pub asked : AreAskedByPeers (all_ends old) old.records new.records
+  pub asked : AreAskedByPeers (all_ends old) (all_ends new) old.records new.records
 
 -- and what each owes the others stays so
 pub record Grows (old new : Holding) : Type 0 where

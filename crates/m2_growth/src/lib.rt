@@ -4,7 +4,8 @@
 //! What it is: definitions and laws. `specs/Ends.antt`, `specs/Records.antt` and `specs/Halves.antt` say what the same
 //! end, the same record and the same half are later; `specs/Holding.antt` says it of all that a center has of the
 //! sockets of its port, each of which has one end; and `specs/GrowthLaws.antt` has the laws: so it is behind each stage
-//! of a turn. What an end in memory has got, followed by what is readable there, a turn leaves as it was.
+//! of a turn, over a port of any kind. What an end in memory has got, followed by what is readable there, a turn leaves
+//! as it was; and what the half of a judged ask had got its end has got still.
 //!
 //! `specs/AskLaws.antt` says that on a socket which a record has opened nobody asks but that record, so that where each
 //! half is given to the record towards the address that asks, it is given to no other. Why it holds: what a record puts

@@ -1,5 +1,6 @@
 pub mod Alone
 pub mod Along
+pub mod Before
 pub mod Both
 pub mod BothRecords
 pub mod Bytes
@@ -16,9 +17,11 @@ pub mod Keeping
 pub mod Kept
 pub mod Known
 pub mod Linked
+pub mod Marked
 pub mod Moved
 pub mod Names
 pub mod OneLink
+pub mod OneMessage
 pub mod Orders
 pub mod Scene
 pub mod Sides
@@ -29,5 +32,6 @@ pub mod Whole
 pub mod WovenSides
 pub mod WovenHalves
 pub mod WovenLinks
+pub use Rattle.m2_channel.proofs as m2_channel
 pub use Rattle.m2_record.proofs as m2_record
 pub use Rattle.m2_trail.proofs as m2_trail

@@ -46,7 +46,7 @@ use Rattle.m2_history.specs.Actors.{part_of}
 use Rattle.m2_bytes_fit.specs.Texts.{CanBePosted}
 use Rattle.m2_history.specs.WovenLink.{IsLink, IsLooseBeside, IsOrderOf, IsSideOf, LinkNow, AreUp, items_by, items_in, order_of, same_end}
 
-abbrev k : SocketId
+abbrev pub k : SocketId
 k = socket 1
 
 -- ---- what was done
@@ -76,7 +76,7 @@ near = record { journal = entry.Dial ∷ entry.Opened k ∷ entry.Wrote k count 
 abbrev far : PartsNow
 far = record { journal = []; trails = []; ends = [] }
 
-abbrev facts_by : Bool → SideFacts
+abbrev pub facts_by : Bool → SideFacts
 facts_by true = facts_of_a
 facts_by false = facts_of_b
 
@@ -141,10 +141,10 @@ here_fits = ranges 2 1 0x0100007F 7001 (ltb-true 2 (2 ^ 32) refl) (ltb-true 1 (2
 there_fits : HasAddrRanges there
 there_fits = ranges 2 2 0x0100007F 7002 (ltb-true 2 (2 ^ 32) refl) (ltb-true 2 (2 ^ 32) refl) (ltb-true 0x0100007F (2 ^ 32) refl) (ltb-true 7002 (2 ^ 16) refl)
 
-opener_fits : HasAddrRanges (opener_of k)
+pub opener_fits : HasAddrRanges (opener_of k)
 opener_fits = ranges 2 0 0x0100007F 7001 (ltb-true 2 (2 ^ 32) refl) (ltb-true 0 (2 ^ 32) refl) (ltb-true 0x0100007F (2 ^ 32) refl) (ltb-true 7001 (2 ^ 16) refl)
 
-named : (s : Bool) → KeepsRanges (facts_by s)
+pub named : (s : Bool) → KeepsRanges (facts_by s)
 named true = record {
   entity = ltb-true 4 (2 ^ 8) refl;
   peer = there_fits;
@@ -164,7 +164,7 @@ named false = record {
   requires_ = ltb-true 0 (2 ^ 64) refl;
 }
 
-other_port : (ip port : ℕ) → ((ip == 0x0100007F) && (port == 7002)) ≡ true → ((ip == 0x0100007F) && (port == 7001)) ≡ false
+pub other_port : (ip port : ℕ) → ((ip == 0x0100007F) && (port == 7002)) ≡ true → ((ip == 0x0100007F) && (port == 7001)) ≡ false
 other_port ip port e =
     let both = and_parts (ip == 0x0100007F) (port == 7002) e in
     rw (eqb-true ip 0x0100007F both.0, eqb-true port 7002 both.1) refl
@@ -247,7 +247,7 @@ order_is = record {
   };
 }
 
-apart_places : facts_of_a.node.number ≡ facts_of_b.node.number → ⊥
+pub apart_places : facts_of_a.node.number ≡ facts_of_b.node.number → ⊥
 apart_places e = let same : ◌≡◌ {A = ℕ} 0 1 = e in absurd (omega (arith, same))
 
 some_read : got_at (far_side facts_of_b (order_of it order)) k ≢ []

@@ -457,6 +457,11 @@ delivered read asked points tell so posted l order near_logs far_logs nodes link
       far_items = far_whole read asked points tell l o.sockets link o.rows order (by_actors l order link o);
     }) logs
 
+-- of each key what a side has posted
+pub posts_counted : CountsAreOfTheItems → (l : LinkNow) → IsLink l → (s : Bool) (g : SideFacts) (entries : List JournalItem) → entries ≡ items_by l s → (key : Key) →
+    orders.of_key g key (map unnumbered (posts_in entries)) ≡ map unnumbered (posted (kept_by l s).plan g.node.fast key (kept_by l s).journal)
+posts_counted counts l link s g entries e key = ap (λ is. orders.of_key g key (map unnumbered (posts_in is))) e ∙ sym ((counts (l.facts s) (kept_by l s) refl (link.sides s).lawful).posted g key)
+
 -- what is dispatched of a lossy link is some of what was posted
 pub comes_in_order : ReadWasWritten → AsksComeFirst → OrdersGivePoints → TrailsTellEachPoint → WovenBytesFit → LossyComesInOrder → CountsAreOfTheItems → WovenComesInOrder
 comes_in_order read asked points tell fit comes counts l order near_logs far_logs nodes link o logs = record { near = near; far = far }
@@ -464,19 +469,14 @@ comes_in_order read asked points tell fit comes counts l order near_logs far_log
     come : BothComeOver (l.facts true) (l.facts false) (entries_of (order_of l order))
     come = comes (l.facts true) (l.facts false) (order_of l order) nodes (fit l order link o).fits
 
-    -- of each key what a side has posted
-    posts : (s : Bool) (g : SideFacts) (entries : List JournalItem) → entries ≡ items_by l s → (key : Key) →
-        orders.of_key g key (map unnumbered (posts_in entries)) ≡ map unnumbered (posted (kept_by l s).plan g.node.fast key (kept_by l s).journal)
-    posts s g entries e key = ap (λ is. orders.of_key g key (map unnumbered (posts_in is))) e ∙ sym ((counts (l.facts s) (kept_by l s) refl (link.sides s).lawful).posted g key)
-
     near : ComesInOrder (l.facts true) (l.facts false) (kept_by l true) far_logs
     near key =
-        subst (IsSublist (map unnumbered (heard.of_key (l.facts true).node.number key (dispatched_by far_logs)))) (posts true (l.facts false) (near_items (entries_of (order_of l order))) (near_whole read asked points tell l o.sockets link o.rows order (by_actors l order link o)) key)
+        subst (IsSublist (map unnumbered (heard.of_key (l.facts true).node.number key (dispatched_by far_logs)))) (posts_counted counts l link true (l.facts false) (near_items (entries_of (order_of l order))) (near_whole read asked points tell l o.sockets link o.rows order (by_actors l order link o)) key)
         (come.far.dispatched far_logs logs.far key)
 
     far : ComesInOrder (l.facts false) (l.facts true) (kept_by l false) near_logs
     far key =
-        subst (IsSublist (map unnumbered (heard.of_key (l.facts false).node.number key (dispatched_by near_logs)))) (posts false (l.facts true) (far_items (entries_of (order_of l order))) (far_whole read asked points tell l o.sockets link o.rows order (by_actors l order link o)) key)
+        subst (IsSublist (map unnumbered (heard.of_key (l.facts false).node.number key (dispatched_by near_logs)))) (posts_counted counts l link false (l.facts true) (far_items (entries_of (order_of l order))) (far_whole read asked points tell l o.sockets link o.rows order (by_actors l order link o)) key)
         (come.near.dispatched near_logs logs.near key)
 
 -- ---- records

@@ -17,6 +17,7 @@ use Rattle.m2_weave.specs.Table.{bytes_of}
 use Rattle.m2_history.specs.Actors.{part_of}
 use Rattle.m2_history.specs.WovenLaws.{AreLossless, IsDeliveredIn, IsUnreset, RecordsAreSides, WovenIsDelivered, WovenIsNeverReset, link_of, strands_in}
 use Rattle.m2_history.specs.Lossy.{AreOfLossy, IsInOrderIn, WovenComesInOrder}
+use Rattle.m2_history.specs.Marked.{AreLosslessNodes, IsToAMarkIn, WovenIsARunToAMark}
 use Rattle.m2_history.specs.WovenLink.{AreJoined, IsLink, IsOrderOf, IsSideOf, LinkNow}
 
 steps_named : (at : Cut) (order : List ℕ) → map (λ (s : HistoryStep). s.strand) (steps_from at order) ≡ order
@@ -49,6 +50,10 @@ module _ (a b : RecordNow) (loose : List LooseNow) (sides : RecordsAreSides) (of
   pub delivered_in : (near_logs far_logs : Logs) (result : Result History WeaveFault) → WovenIsDelivered → WeavesRecords result (both_of a b loose) → IfOk result (IsDeliveredIn l near_logs far_logs)
   delivered_in near_logs far_logs (Ok h) so w = λ (lossless : AreLossless l). so l (strands_in h) near_logs far_logs lossless.nodes (link_is lossless.joined) lossless.up (order_is h w)
   delivered_in near_logs far_logs (Err e) so w = tt
+
+  pub to_a_mark_in : (near_logs far_logs : Logs) (result : Result History WeaveFault) → WovenIsARunToAMark → WeavesRecords result (both_of a b loose) → IfOk result (IsToAMarkIn l near_logs far_logs)
+  to_a_mark_in near_logs far_logs (Ok h) so w = λ (both : AreLosslessNodes l). so l (strands_in h) near_logs far_logs both.nodes (link_is both.joined) (order_is h w)
+  to_a_mark_in near_logs far_logs (Err e) so w = tt
 
   pub in_order_in : (near_logs far_logs : Logs) (result : Result History WeaveFault) → WovenComesInOrder → WeavesRecords result (both_of a b loose) → IfOk result (IsInOrderIn l near_logs far_logs)
   in_order_in near_logs far_logs (Ok h) so w = λ (lossy : AreOfLossy l). so l (strands_in h) near_logs far_logs lossy.nodes (link_is lossy.joined) (order_is h w)

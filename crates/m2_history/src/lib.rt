@@ -13,7 +13,7 @@
 //! The laws: `specs/WovenLink.antt` says what two sides of a link are as records and halves keep them
 //! ([`records_are_sides`]), and what is asked of them besides; `specs/Order.antt` makes of an order of strands the
 //! order of the entries of both journals and of the halves, each with its bytes; `specs/WovenLaws.antt` has the laws,
-//! and `specs/Lossy.antt` those of a lossy link.
+//! `specs/Marked.antt` those of a link of which a side may be marked down, and `specs/Lossy.antt` those of a lossy one.
 //!
 //! What it isn't: a run. It looks at what is over, and moves no byte. What follows from bytes that fit is that of
 //! `m2_bytes_fit`.
@@ -52,6 +52,6 @@ pub use side::Side;
 pub use weaving::weave_parts;
 pub use woven::weave;
 pub use woven_laws::{
-    a_link_is_woven, records_are_sides, woven_bytes_fit, woven_comes_in_order, woven_is_delivered,
-    woven_is_never_reset,
+    a_link_is_woven, a_marked_link_is_woven, records_are_sides, woven_bytes_fit,
+    woven_comes_in_order, woven_is_a_run_to_a_mark, woven_is_delivered, woven_is_never_reset,
 };

@@ -3,9 +3,11 @@
 
 ghost use Rattle.m2_history.specs.WovenLaws as laws;
 ghost use Rattle.m2_history.specs.Lossy as lossy;
+ghost use Rattle.m2_history.specs.Marked as marked;
 
 use crate::{counts_are_of_the_items, orders_give_points, posted_is_delivered};
 use m2_bytes_fit::{bytes_give_fits, lossless_bytes_are_never_reset, trails_tell_each_point};
+use m2_channel::{observed_is_a_run, observed_is_a_run_to_a_mark};
 use m2_lossy_in_order::lossy_comes_in_order;
 use m2_weave::{all_read_was_written, asks_come_first};
 
@@ -65,8 +67,33 @@ pub fn woven_is_delivered()
     posted_is_delivered();
 }
 
+/// Whether a node marks its side down or not: before the first mark-down nothing is reset, and of each key what
+/// either side's dispatchers were called with of what it had handed on by then is the first of what the other side
+/// posted, in order, each once. And what is observed of all is a run of the ordered channel, in which no reset comes
+/// without a mark before it.
+pub fn woven_is_a_run_to_a_mark()
+    ensures { marked.WovenIsARunToAMark }
+{
+    all_read_was_written();
+    asks_come_first();
+    orders_give_points();
+    trails_tell_each_point();
+    woven_bytes_fit();
+    bytes_give_fits();
+    lossless_bytes_are_never_reset();
+    observed_is_a_run();
+    observed_is_a_run_to_a_mark();
+    counts_are_of_the_items();
+}
+
 /// There is a link of lossless nodes with an order by the rule of weaving in which one side's half has read
 /// what the other side wrote.
 pub fn a_link_is_woven()
     ensures { laws.ALinkIsWoven }
+{}
+
+/// There is such a link of which a side is marked down: a message was posted, accepted, dispatched and counted
+/// acknowledged before, and behind the mark the session is reset.
+pub fn a_marked_link_is_woven()
+    ensures { marked.AMarkedLinkIsWoven }
 {}

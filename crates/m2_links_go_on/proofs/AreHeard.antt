@@ -3,8 +3,8 @@ use Rattle.std.proofs.Common.{◌≡◌, ℕ, ◌==◌, List, [], ◌∷◌, ◌
 use Rattle.std.specs.List.{AllByRecursion}
 use Rattle.std.proofs.lemmas.List.{map-append}
 use Rattle.std.proofs.lemmas.List.Elements.{filter-append}
-use Rattle.m2_channel.specs.Handing.{AreFirstCalls, AreParcelsOf, IsHeardOf, IsParcelOf, LogsAreLogs, calls_of, heard_at_once, heard_by_calls, parcels_of, queued_of}
-use Rattle.m2_channel.specs.Observed.{all_of}
+use Rattle.m2_history.specs.m2_channel.Handing.{AreFirstCalls, AreParcelsOf, IsHeardOf, IsParcelOf, LogsAreLogs, calls_of, heard_at_once, heard_by_calls, parcels_of, queued_of}
+use Rattle.m2_history.specs.m2_channel.Observed.{all_of}
 use Rattle.m2_dispatch.specs.Heard as hear
 use Rattle.m2_dispatch.specs.Heard.{Heard}
 use Rattle.m2_dispatch.specs.declared.parcel.Parcel.{Parcel}

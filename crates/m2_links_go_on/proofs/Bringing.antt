@@ -1,7 +1,8 @@
 -- In a turn of a center, part by part, only sockets that go elsewhere get an end that had none; and so where a record plans a step.
 use Rattle.std.proofs.Common.{inl, inr, List, Ok, Err, refl, sym, ap, subst}
-use Rattle.std.specs.Prelude.{slice_set}
+use Rattle.std.specs.Prelude.{IsSome, slice_set}
 use Rattle.m2_dispatch.specs.Heard.{Heard}
+use Rattle.m2_fabric.specs.Port.{SeenPort}
 use Rattle.m2_history.specs.m2_record.RecordNow.{RecordNow}
 use Rattle.m2_cluster.specs.m2_center.Center.{CenterNow}
 use Rattle.m2_cluster.specs.m2_center.CenterTurn.{AndThen, Answer, AcceptsSo, AnswersSo, DeliversSo, Part, StepsSo, accepting_in, all_amid_in, callers_of}
@@ -20,19 +21,26 @@ module _ {D : Type 0} where
   abbrev AllGrow : Part D → Type 0
   AllGrow part = (a : Answer) (old new : CenterNow D) → part a old new → AreOwn (holding_of old) → Grows (holding_of old) (holding_of new)
 
-  both : (first second : Part D) → AllGrow first → AllBring first → AllBring second → AllBring (AndThen first second)
-  both first second grow f s (Ok done) old new h own =
-      let g = grow (Ok tt) old h.0 h.1 own in
-      chain (holding_of old) (holding_of h.0) (holding_of new) g.grows.at (f (Ok tt) old h.0 h.1 own) (s (Ok tt) h.0 new h.2 g.own)
-  both first second grow f s (Err e) old new (inl h) own = f (Err e) old new h own
-  both first second grow f s (Err e) old new (inr h) own =
-      let g = grow (Ok tt) old h.0 h.1 own in
-      chain (holding_of old) (holding_of h.0) (holding_of new) g.grows.at (f (Ok tt) old h.0 h.1 own) (s (Err e) h.0 new h.2 g.own)
+  -- where this holds of the port
+  abbrev AllBringAt : (SeenPort → Type 0) → Part D → Type 0
+  AllBringAt P part = (a : Answer) (old new : CenterNow D) → part a old new → P old.port → AreOwn (holding_of old) → Brings (holding_of old) (holding_of new)
 
-  accepts_so : AllBring AcceptsSo
-  accepts_so a old new h own =
+  both_at : (P : SeenPort → Type 0) (first second : Part D) → AllGrow first → AllBringAt P first → AllBring second → AllBringAt P (AndThen first second)
+  both_at P first second grow f s (Ok done) old new h at own =
+      let g = grow (Ok tt) old h.0 h.1 own in
+      chain (holding_of old) (holding_of h.0) (holding_of new) g.grows.at (f (Ok tt) old h.0 h.1 at own) (s (Ok tt) h.0 new h.2 g.own)
+  both_at P first second grow f s (Err e) old new (inl h) at own = f (Err e) old new h at own
+  both_at P first second grow f s (Err e) old new (inr h) at own =
+      let g = grow (Ok tt) old h.0 h.1 own in
+      chain (holding_of old) (holding_of h.0) (holding_of new) g.grows.at (f (Ok tt) old h.0 h.1 at own) (s (Err e) h.0 new h.2 g.own)
+
+  both : (first second : Part D) → AllGrow first → AllBring first → AllBring second → AllBring (AndThen first second)
+  both first second grow f s a old new h own = both_at (λ p. Unit {0}) first second grow (λ a old new h at. f a old new h) s a old new h tt own
+
+  accepts_so : AllBringAt (λ p. IsSome p.waiting) AcceptsSo
+  accepts_so a old new h memory own =
       subst (λ rs. Brings (holding_of old) (record { port = new.port; records = rs; halves = new.halves })) (sym (ap (λ (c : CenterNow D). c.records) h.2.only))
-      (accepts_bring old.entity h.0 old.records (accepting_in old) (accepting_in new) h.2.accepts own)
+      (accepts_bring old.entity h.0 old.records (accepting_in old) (accepting_in new) h.2.accepts memory)
 
   answers_so : (E : Type 0) (m : Means) → AllBring (AnswersSo E m)
   answers_so E m a old new h own =
@@ -49,7 +57,7 @@ module _ {D : Type 0} where
 
 pub turn_brings : (D E : Type 0) → TurnBringsElsewhere D E
 turn_brings D E heard m =
-    both AcceptsSo (AndThen (AnswersSo E m) (AndThen (StepsSo heard m) (DeliversSo heard m))) accepts accepts_so
+    both_at (λ p. IsSome p.waiting) AcceptsSo (AndThen (AnswersSo E m) (AndThen (StepsSo heard m) (DeliversSo heard m))) accepts accepts_so
     (both (AnswersSo E m) (AndThen (StepsSo heard m) (DeliversSo heard m)) (answers E m) (answers_so E m)
     (both (StepsSo heard m) (DeliversSo heard m) (steps heard m) (steps_so heard m) (delivers_so heard m)))
 

@@ -96,7 +96,7 @@ abbrev GivesNoEnd : List RecordNow → Accepting → Accepting → Type 0
 GivesNoEnd rs old new = BringNone (all_ends (at_accepts rs old)) (all_ends (at_accepts rs new)) × IsSome new.port.waiting
 
 takes_in : (rs : List RecordNow) (entity : ℕ) (old new : Accepting) → IsSome old.port.waiting → TakesIn entity old new → GivesNoEnd rs old new
-takes_in rs entity old new memory t = at old.port.waiting new.port.waiting memory t.gives.2
+takes_in rs entity old new memory t = at old.port.waiting new.port.waiting memory t.gives.2.0
   where
     at : (w v : Option (List SeenEnd)) → IsSome w → w ≡ option_map (λ rest. t.end ∷ rest) v →
         ((k : SocketId) → end_at ((ends_of_all rs ++ ends_in old.halves) ++ unwrap_or w []) k ≡ None → end_at ((ends_of_all rs ++ ends_in new.halves) ++ unwrap_or v []) k ≡ None) × IsSome v
@@ -131,13 +131,13 @@ ends_with rs accepts.All old new h =
 ends_with rs accepts.NoMemory old new h = gives_same rs old new h.same (ap (λ (p : SeenPort). p.waiting) h.gives)
 ends_with rs accepts.Busy old new h = absurd h
 
-pub accepts_bring : (entity : ℕ) (result : Accepted) (rs : List RecordNow) (old new : Accepting) → AcceptsAll entity result old new → AreOwn (at_accepts rs old) → Brings (at_accepts rs old) (at_accepts rs new)
-accepts_bring entity result rs old new h own = by_none (at_accepts rs old) (at_accepts rs new) (at result h)
+pub accepts_bring : (entity : ℕ) (result : Accepted) (rs : List RecordNow) (old new : Accepting) → AcceptsAll entity result old new → IsSome old.port.waiting → Brings (at_accepts rs old) (at_accepts rs new)
+accepts_bring entity result rs old new h memory = by_none (at_accepts rs old) (at_accepts rs new) (at result h)
   where
     at : (result : Accepted) → AcceptsAll entity result old new → BringNone (all_ends (at_accepts rs old)) (all_ends (at_accepts rs new))
-    at accepts.Busy h = (takes_all rs entity h.stood old new own.in_memory h.takes).0
-    at accepts.All h = λ k none. ends_with rs accepts.All h.mid new h.ends k ((takes_all rs entity h.taken.stood old h.mid own.in_memory h.taken.takes).0 k none)
-    at accepts.NoMemory h = λ k none. ends_with rs accepts.NoMemory h.mid new h.ends k ((takes_all rs entity h.taken.stood old h.mid own.in_memory h.taken.takes).0 k none)
+    at accepts.Busy h = (takes_all rs entity h.stood old new memory h.takes).0
+    at accepts.All h = λ k none. ends_with rs accepts.All h.mid new h.ends k ((takes_all rs entity h.taken.stood old h.mid memory h.taken.takes).0 k none)
+    at accepts.NoMemory h = λ k none. ends_with rs accepts.NoMemory h.mid new h.ends k ((takes_all rs entity h.taken.stood old h.mid memory h.taken.takes).0 k none)
 
 -- ---- turns of halves
 
@@ -157,7 +157,6 @@ module _ (h : Holding) where
 
   pub just_own : AreOwn h → AreOwn (record h { port = just })
   just_own own = record {
-    in_memory = own.in_memory;
     held = own.held;
     made = all_made;
     waiting = own.waiting;

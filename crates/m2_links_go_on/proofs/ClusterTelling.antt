@@ -87,8 +87,8 @@ module _ {D : Type 0} where
 
   keeps_sockets : (m n : NodeNow D) → RestIsSame m n → KeepsSockets m → KeepsSockets n
   keeps_sockets m n e keeps =
-      let come = are_to_come n.center.port (same_waiting m n e ∙ are_to_come_so m.center.port (own_to_come (holding_of m.center) keeps.own) keeps.unused) in
-      record { own = stays_own m.center n.center (same_rest m n e) (λ was. come.0) keeps.own; unused = come.1 }
+      let come = are_to_come n.center.port (same_waiting m n e ∙ are_to_come_so m.center.port keeps.in_memory (own_to_come (holding_of m.center) keeps.own) keeps.unused) in
+      record { in_memory = come.2; own = stays_own m.center n.center (same_rest m n e) (λ was. come.0) keeps.own; unused = come.1 }
 
   rests : (old new : ClusterNow D) → rest_of new ≡ rest_of old → OneByOne RestIsSame old.nodes new.nodes
   rests old new e = zipped rest_of_node RestIsSame (λ m n e. e) old.nodes new.nodes (ap (λ (c : ClusterNow D). c.nodes) e)

@@ -45,7 +45,7 @@ unfolding IsDistinct
 with_record f place is apart = record {
   records = (is, tt);
   whole = tt;
-  own = record { in_memory = refl; held = own_none; made = tt; waiting = own_none; to_come = tt; elsewhere = (apart, tt); fed = (refl, tt); on_socket = tt; here = tt };
+  own = record { held = own_none; made = tt; waiting = own_none; to_come = tt; elsewhere = (apart, tt); fed = (refl, tt); on_socket = tt; here = tt };
   halves = record { each = (λ k h. absurd (false_isnt_true h), tt); made = (λ k h. absurd (false_isnt_true h), tt); here = (λ k h. absurd (false_isnt_true h), tt); one_judge = (tt, tt); askers = tt; peers = (tt, tt) };
   supply = record { place = None; least = 0 };
   entity = f.node.entity;

@@ -43,3 +43,7 @@ pub mod Untold
 pub mod Unused
 pub mod Weaving
 pub mod Whose
+pub use Rattle.m2_fabric.proofs as m2_fabric
+pub use Rattle.m2_growth.proofs as m2_growth
+pub use Rattle.m2_history.proofs as m2_history
+pub use Rattle.m2_weave.proofs as m2_weave

@@ -2,7 +2,7 @@
 use Rattle.std.proofs.Common.{◌≡◌, inl, inr, ℕ, List, [], ◌∷◌, ◌++◌, map, take, drop, refl, sym, ap, ◌∙◌, append-nil, append_assoc}
 use Rattle.std.specs.List.{AllByRecursion}
 use Rattle.std.proofs.lemmas.List.{map-append}
-use Rattle.m2_channel.specs.Handing.{heard_by_calls, parcels_of, calls_of}
+use Rattle.m2_history.specs.m2_channel.Handing.{heard_by_calls, parcels_of, calls_of}
 use Rattle.m2_dispatch.specs.Heard.{Heard}
 use Rattle.m2_dispatch.specs.declared.letter.Letter.{Letter}
 use Rattle.m2_dispatch.specs.declared.parcel.Parcel.{Parcel}

@@ -17,7 +17,7 @@ use Rattle.m2_dispatch.specs.m2_policy.declared.path.Path.{Path}
 use Rattle.m2_dispatch.specs.m2_policy.declared.path.Path.TheVariants.{Fast, Queued}
 use Rattle.m2_weave.specs.m2_journal.State as state
 use Rattle.m2_weave.specs.m2_journal.State.{Delivery}
-use Rattle.m2_channel.specs.Handing.{calls_of, heard_at_once, parcels_of, peer_of, queued_of}
+use Rattle.m2_history.specs.m2_channel.Handing.{calls_of, heard_at_once, parcels_of, peer_of, queued_of}
 use Rattle.m2_history.specs.m2_record.IsRecord.{IsFrom}
 use Rattle.m2_history.specs.m2_record.RecordNow.{RecordNow, delivery_of}
 use Rattle.m2_cluster.specs.m2_center.m2_turn.Outbox.{Dispatches, DispatchesOr, OutboxNow, Puts, PutsLetter, Retries, RetriesFor, is_free}

@@ -2,7 +2,7 @@
 use Rattle.std.proofs.Common.{◌≡◌, inl, inr, ℕ, ◌==◌, Bool, true, false, List, [], ◌∷◌, ◌++◌, map, Result, Ok, Err, refl, sym, ap, subst, ◌∙◌, append-nil, append_assoc}
 use Rattle.std.specs.List.{AllByRecursion, IsDistinct}
 use Rattle.m2_fabric.specs.m2_bytes.declared.memory.NoMemory as memory
-use Rattle.m2_channel.specs.Handing.{calls_of, parcels_of}
+use Rattle.m2_history.specs.m2_channel.Handing.{calls_of, parcels_of}
 use Rattle.m2_dispatch.specs.Heard.{Heard}
 use Rattle.m2_dispatch.specs.Dispatch.{Queued}
 use Rattle.m2_dispatch.specs.Laws.{Call}

@@ -52,19 +52,18 @@ came : (id : SocketId) (p : SeenPort) (es : List SeenEnd) → AreOfTheirOwn es �
 came id p es own come true may =
     let parts = one_of_three (goes_to p.at id) (is_among id p.made) (list_any (λ (e : SeenEnd). same_socket id e.id) es) may in
     record {
-      in_memory = refl;
       waiting = own_join es (fresh_end id ∷ []) own (own_cons (fresh_end id) [] refl own_none) (apart_from id es (none_there id es parts.2));
       to_come = come_there p (Some (es ++ fresh_end id ∷ [])) (es ++ fresh_end id ∷ [])
           (all_append (IsToCome p) es (fresh_end id ∷ []) come (record { here = parts.0; new = parts.1 }, tt));
     }
-came id p es own come false may = record { in_memory = refl; waiting = own; to_come = come_there p (Some es) es come }
+came id p es own come false may = record { waiting = own; to_come = come_there p (Some es) es come }
 
 pub incoming_to_come : (id : SocketId) (p : SeenPort) → StayToCome p (with_incoming id p)
-incoming_to_come id p a = at p.waiting a.in_memory a.waiting a.to_come
+incoming_to_come id p a = at p.waiting a.waiting a.to_come
   where
-    at : (w : Option (List SeenEnd)) → IsSome w → AreOfTheirOwn (unwrap_or w []) → AllByRecursion (IsToCome p) (unwrap_or w []) → AreToCome (over p (option_map (with_waiting id p) w))
-    at (Some es) some own come = came id p es own come (may_wait id p es) refl
-    at None some own come = absurd (false_isnt_true some)
+    at : (w : Option (List SeenEnd)) → AreOfTheirOwn (unwrap_or w []) → AllByRecursion (IsToCome p) (unwrap_or w []) → AreToCome (over p (option_map (with_waiting id p) w))
+    at (Some es) own come = came id p es own come (may_wait id p es) refl
+    at None own come = record { waiting = own; to_come = tt }
 
 -- ---- one of them is told
 
@@ -89,15 +88,14 @@ module _ (id : SocketId) (news : News) (bytes : List ℕ) where
       at false rest = (all.0, rest)
 
   pub news_to_come : (p : SeenPort) → StayToCome p (with_news id news bytes p)
-  news_to_come p a = at p.waiting a.in_memory a.waiting a.to_come
+  news_to_come p a = at p.waiting a.waiting a.to_come
     where
-      at : (w : Option (List SeenEnd)) → IsSome w → AreOfTheirOwn (unwrap_or w []) → AllByRecursion (IsToCome p) (unwrap_or w []) → AreToCome (over p (option_map (one_hears id hears) w))
-      at (Some es) some own come = record {
-        in_memory = refl;
+      at : (w : Option (List SeenEnd)) → AreOfTheirOwn (unwrap_or w []) → AllByRecursion (IsToCome p) (unwrap_or w []) → AreToCome (over p (option_map (one_hears id hears) w))
+      at (Some es) own come = record {
         waiting = subst (IsDistinct same_socket) (sym (same_ids es)) own;
         to_come = come_there p (Some (one_hears id hears es)) (one_hears id hears es) (still_to_come p es come);
       }
-      at None some own come = absurd (false_isnt_true some)
+      at None own come = record { waiting = own; to_come = tt }
 
 -- ---- whether all are to come
 
@@ -171,20 +169,20 @@ apart_is (e ∷ es) h =
     let two = both (not (is_among e.id (ids_of es))) (are_apart (ids_of es)) h in
     own_cons e es (none_at es e.id (negated_is_false (is_among e.id (ids_of es)) two.0)) (apart_is es two.1)
 
-pub are_to_come_so : (p : SeenPort) → AreToCome p → AreUnused p → all_to_come p p.waiting ≡ true
-are_to_come_so p a unused = at p.waiting a.in_memory a.waiting a.to_come unused
+pub are_to_come_so : (p : SeenPort) → IsSome p.waiting → AreToCome p → AreUnused p → all_to_come p p.waiting ≡ true
+are_to_come_so p memory a unused = at p.waiting memory a.waiting a.to_come unused
   where
     at : (w : Option (List SeenEnd)) → IsSome w → AreOfTheirOwn (unwrap_or w []) → AllByRecursion (IsToCome p) (unwrap_or w []) →
         AllByRecursion (λ (e : SeenEnd). e.log ≡ nothing_done) (unwrap_or w []) → all_to_come p w ≡ true
     at (Some es) some own come unused = ap (λ b. b && are_apart (ids_of es)) (each_so p es come unused) ∙ apart_so es own
     at None some own come unused = absurd (false_isnt_true some)
 
-pub are_to_come : (p : SeenPort) → all_to_come p p.waiting ≡ true → AreToCome p × AreUnused p
+pub are_to_come : (p : SeenPort) → all_to_come p p.waiting ≡ true → AreToCome p × AreUnused p × IsSome p.waiting
 are_to_come p all = at p.waiting all
   where
-    at : (w : Option (List SeenEnd)) → all_to_come p w ≡ true → AreToCome (over p w) × AreUnused (over p w)
+    at : (w : Option (List SeenEnd)) → all_to_come p w ≡ true → AreToCome (over p w) × AreUnused (over p w) × IsSome w
     at (Some es) all =
         let two = both (list_all (is_to_come p) es) (are_apart (ids_of es)) all in
         let each = each_is p es two.0 in
-        (record { in_memory = refl; waiting = apart_is es two.1; to_come = come_there p (Some es) es each.0 }, each.1)
+        (record { waiting = apart_is es two.1; to_come = come_there p (Some es) es each.0 }, each.1, refl)
     at None all = absurd (false_isnt_true all)

@@ -124,11 +124,10 @@ pub own_held : (h : Holding) → AreOwn h → OwnsHeld h
 own_held h own = record { held = own.held; made = own.made; elsewhere = own.elsewhere; fed = own.fed; on_socket = own.on_socket; here = own.here }
 
 pub own_to_come : (h : Holding) → AreOwn h → AreToCome h.port
-own_to_come h own = record { in_memory = own.in_memory; waiting = own.waiting; to_come = own.to_come }
+own_to_come h own = record { waiting = own.waiting; to_come = own.to_come }
 
 pub own_both : (h : Holding) → OwnsHeld h → AreToCome h.port → AreOwn h
 own_both h held come = record {
-  in_memory = come.in_memory;
   held = held.held;
   made = held.made;
   waiting = come.waiting;

@@ -28,13 +28,13 @@ PlanGrows D = (answer : Answer) (peer : ℕ) (step : PlanStep) (now : ℕ) (thro
 
 -- ---- what it brings
 
--- a socket that has an end now and had none goes elsewhere
+-- A socket that has an end now and had none goes elsewhere; at a port in memory, where the ends that it will accept wait.
 abbrev pub BringsElsewhere : {D : Type 0} → (old new : CenterNow D) → Type 0
 BringsElsewhere old new = (k : SocketId) → end_at (all_ends (holding_of old)) k ≡ None → IsSome (end_at (all_ends (holding_of new)) k) → goes_to old.port.at k ≡ false
 
 abbrev pub TurnBringsElsewhere : (D E : Type 0) → Type 0
 TurnBringsElsewhere D E = (heard : D → List Heard) (m : Means) (answer : Answer) (old new : CenterNow D) → TakesTurn E heard m answer old new →
-    AreOwn (holding_of old) → BringsElsewhere old new
+    IsSome old.port.waiting → AreOwn (holding_of old) → BringsElsewhere old new
 
 abbrev pub PlanBringsElsewhere : Type 0 → Type 0
 PlanBringsElsewhere D = (answer : Answer) (peer : ℕ) (step : PlanStep) (now : ℕ) (throttle : Place) (old new : CenterNow D) → PlansIn answer peer step now throttle old new →

@@ -59,9 +59,8 @@ pub record SameCenter {D : Type 0} (old new : CenterNow D) : Type 0 where
   pub bytes : new.bytes ≡ old.bytes
   pub numbers : new.numbers ≡ old.numbers
 
--- what a port in memory keeps of the ends that wait there: each is of a socket of its own, which is to come
+-- what a port keeps of the ends that wait there: each is of a socket of its own, which is to come
 pub record AreToCome (port : SeenPort) : Type 0 where
-  pub in_memory : IsSome port.waiting
   pub waiting : AreOfTheirOwn (waiting_at port)
   pub to_come : AllByRecursion (IsToCome port) (waiting_at port)
 
@@ -79,7 +78,8 @@ pub record SameNode {D : Type 0} (old new : NodeNow D) : Type 0 where
   pub center : SameCenter old.center new.center
   pub shared : KeepsShared old new
 
--- each socket has one end there, and the ends that wait did nothing yet
+-- it is in memory, each socket has one end there, and the ends that wait did nothing yet
 pub record KeepsSockets {D : Type 0} (n : NodeNow D) : Type 0 where
+  pub in_memory : IsSome n.center.port.waiting
   pub own : AreOwn (holding_of n.center)
   pub unused : AreUnused n.center.port

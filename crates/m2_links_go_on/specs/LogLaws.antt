@@ -1,8 +1,8 @@
 -- What is promised of the stages of a turn: what the dispatchers were called with is what the records handed on.
 use Rattle.std.specs.Prelude.{◌≡◌, ℕ, List, [], None}
 use Rattle.std.specs.List.{AllByRecursion}
-use Rattle.m2_channel.specs.Handing.{IsHeardOf}
-use Rattle.m2_channel.specs.Observed.{all_of}
+use Rattle.m2_history.specs.m2_channel.Handing.{IsHeardOf}
+use Rattle.m2_history.specs.m2_channel.Observed.{all_of}
 use Rattle.m2_dispatch.specs.Heard.{Heard}
 use Rattle.m2_dispatch.specs.Dispatch.{Queued}
 use Rattle.m2_fabric.specs.Port.{SeenPort}

@@ -11,8 +11,8 @@ use Rattle.m2_dispatch.specs.Letters.{heard_in}
 use Rattle.m2_weave.specs.m2_journal.Replay.{replay}
 use Rattle.m2_weave.specs.m2_journal.State.{Delivery}
 use Rattle.m2_history.specs.m2_record.RecordNow.{RecordNow, delivery_of, speaks_of}
-use Rattle.m2_channel.specs.Handing.{calls_of, heard_at_once, heard_by_calls, parcels_of, queued_of}
-use Rattle.m2_channel.specs.Observed.{Logs}
+use Rattle.m2_history.specs.m2_channel.Handing.{calls_of, heard_at_once, heard_by_calls, parcels_of, queued_of}
+use Rattle.m2_history.specs.m2_channel.Observed.{Logs}
 use Rattle.m2_cluster.specs.m2_center.m2_turn.Outbox.{OutboxNow}
 
 -- ---- what a record handed on

@@ -1,7 +1,7 @@
 //! What becomes of a link where nodes take their turns: of each link there is an order of all that was done, if there
 //! was one before, and what was handed on was dispatched once.
 //!
-//! What it is: definitions and laws, in five parts.
+//! What it is: definitions and laws, in seven parts.
 //!
 //! - *Two sides of a link whose nodes act in turns can be woven.* `specs/Sides.antt` says what two sides of a link and
 //!   the halves beside them are behind a turn, beside what they were before it: journals go on, halves go on or come,
@@ -26,21 +26,27 @@
 //!   and stays so behind a center's turn and each stage of it, behind a step that is planned, and behind what ends are
 //!   told; and so of each record its peer is heard to send, of each key, some of what the record accepted, in order,
 //!   each once.
+//! - *Ends in memory stay in step* whatever nodes do and whatever passes between them (`specs/InStep.antt`), by the laws of
+//!   `m2_growth`.
+//! - *What an order says of a link* (`specs/WovenSo.antt`), by the laws of `m2_weave` and `m2_history`.
 //!
 //! What it isn't: anything that runs.
 #![tactic(auto)]
 
 mod cluster_laws;
+mod in_step_laws;
 mod link_laws;
 mod log_laws;
 mod telling_laws;
 mod told;
 mod turn_laws;
+mod woven_laws;
 
 pub use cluster_laws::{
     node_plan_grows, node_turn_grows, plan_brings_elsewhere, plan_grows, turn_brings_elsewhere,
     turn_grows,
 };
+pub use in_step_laws::ends_stay_in_step;
 pub use link_laws::{a_link_goes_on, links_are_woven, links_go_on, staying_goes_on};
 pub use log_laws::{
     begin_logged, halves_stay_logged, logged_are_heard, mail_stays_logged, plans_stay_logged,
@@ -56,3 +62,4 @@ pub use turn_laws::{
     an_order_is_found, kept_are_halves, records_go_on, records_in_turns_are_woven,
     records_tell_all, sides_are_later, sides_in_turns_are_woven, told_is_moved,
 };
+pub use woven_laws::links_are_woven_so;

@@ -3,7 +3,6 @@
 
 ghost use Rattle.m2_links_go_on.specs.LogLaws as laws;
 
-use m2_channel::logs_are_logs_of_what_is_handed_on;
 use m2_dispatch::Dispatcher;
 use m2_fabric::End;
 
@@ -46,6 +45,4 @@ pub fn plans_stay_logged<D: Dispatcher>()
 /// once, and the first ones of it as long as nothing was thrown away.
 pub fn logged_are_heard<D: Dispatcher>()
     ensures { laws.LoggedAreHeard D }
-{
-    logs_are_logs_of_what_is_handed_on();
-}
+{}

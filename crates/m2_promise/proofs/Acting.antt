@@ -3,11 +3,11 @@ use Rattle.std.proofs.Common.{◌≡◌, ℕ, Bool, true, false, Some, refl, sym
 use Rattle.std.specs.Prelude.{◌==◌, IsSome, slice_get}
 use Rattle.std.specs.List.{AllByRecursion}
 use Rattle.std.proofs.lemmas.Bool.{eq-eqb, eqb-true}
-use Rattle.m2_growth.specs.AskLaws.{ArrivalsAreTheOpeners}
+use Rattle.m2_links_go_on.specs.m2_growth.AskLaws.{ArrivalsAreTheOpeners}
 use Rattle.m2_fabric.specs.declared.socket.SocketId.{SocketId}
 use Rattle.m2_fabric.specs.Sockets.{goes_to}
-use Rattle.m2_growth.specs.Holding.{Holding, all_ends}
-use Rattle.m2_growth.specs.InStepLaws.{StayMet, TurnsStayInStep, TurnsStayMet}
+use Rattle.m2_links_go_on.specs.m2_growth.Holding.{Holding, all_ends}
+use Rattle.m2_links_go_on.specs.m2_growth.InStepLaws.{StayMet, TurnsStayInStep, TurnsStayMet}
 use Rattle.m2_script.specs.m2_record.Sources.{end_at}
 use Rattle.m2_fabric.specs.InStep.{IsInStep, SeenFabric}
 use Rattle.m2_fabric.specs.Kept.{directions, is_kept}

@@ -6,19 +6,19 @@ use Rattle.std.proofs.Math.Seq.{drop-append_seam}
 use Rattle.std.proofs.lemmas.List.{map-append}
 use Rattle.std.proofs.lemmas.List.Elements.{filter_map-append}
 use Rattle.m2_fabric.specs.m2_addr.declared.addr.Addr.{Addr}
-use Rattle.m2_growth.specs.AskLaws.{ArePut, ArrivalsAreTheOpeners}
+use Rattle.m2_links_go_on.specs.m2_growth.AskLaws.{ArePut, ArrivalsAreTheOpeners}
 use Rattle.m2_fabric.specs.declared.socket.SocketId.{SocketId}
 use Rattle.m2_fabric.specs.End.{SeenEnd}
 use Rattle.m2_fabric.specs.Sockets.{goes_to, is_among}
-use Rattle.m2_growth.specs.Ends.{come_to}
-use Rattle.m2_growth.specs.Halves.{AreAskedByPeers, IsAskedByPeer, IsOneOf, asked_on, judged_since}
-use Rattle.m2_growth.specs.Holding.{Holding, all_ends}
-use Rattle.m2_growth.specs.Records.{RecordGrows, RecordsGrow}
-use Rattle.m2_growth.proofs.Among.{of_each, whose}
-use Rattle.m2_weave.specs.m2_handshake.declared.ask.Ask.{Ask}
-use Rattle.m2_weave.specs.m2_journal.declared.entry.Entry.{Entry}
-use Rattle.m2_weave.specs.m2_journal.State.{Judgement}
-use Rattle.m2_weave.specs.m2_journal.SideFacts.{SideFacts}
+use Rattle.m2_links_go_on.specs.m2_growth.Ends.{come_to}
+use Rattle.m2_links_go_on.specs.m2_growth.Halves.{AreAskedByPeers, IsAskedByPeer, IsOneOf, asked_on, judged_since}
+use Rattle.m2_links_go_on.specs.m2_growth.Holding.{Holding, all_ends}
+use Rattle.m2_links_go_on.specs.m2_growth.Records.{RecordGrows, RecordsGrow}
+use Rattle.m2_links_go_on.proofs.m2_growth.Among.{of_each, whose}
+use Rattle.m2_links_go_on.specs.m2_weave.m2_handshake.declared.ask.Ask.{Ask}
+use Rattle.m2_links_go_on.specs.m2_weave.m2_journal.declared.entry.Entry.{Entry}
+use Rattle.m2_links_go_on.specs.m2_weave.m2_journal.State.{Judgement}
+use Rattle.m2_links_go_on.specs.m2_weave.m2_journal.SideFacts.{SideFacts}
 use Rattle.m2_script.specs.m2_record.RecordNow.{RecordNow}
 use Rattle.m2_script.specs.m2_record.Sources.{end_at, put_of}
 use Rattle.m2_script.specs.m2_record.TakenTrails.{judgement_of, judgements_in}
@@ -26,7 +26,7 @@ use Rattle.m2_fabric.specs.Kept.{is_kept}
 use Rattle.m2_fabric.specs.Meeting.{comes_from}
 use Rattle.m2_script.specs.m2_center.m2_turn.Sessions.{peer_of}
 use Rattle.m2_bytes_fit.specs.m2_trail.Asks.{IsMain}
-use Rattle.m2_weave.specs.Later.{GoesOn}
+use Rattle.m2_links_go_on.specs.m2_weave.Later.{GoesOn}
 use Rattle.m2_promise.specs.Running.{HasAskedPeer, IsNodeAt, IsRunning, NodeActs, RunNow}
 use Rattle.m2_promise.proofs.BothEnds.{IsCome, address, came_first, come, holds, in_memory}
 use Rattle.m2_promise.proofs.Openers.{HasEnd, asked_end, asked_goes, is_at, is_record}
@@ -46,25 +46,25 @@ asked_parts r s g =
     ∙ map-append (λ (j : Judgement). j.socket) (judgements_in r.journal) (judgements_in more) ∙ ap (λ l. asked_on r ++ sockets (judgements_in l)) (sym since)
 
 -- what each further judgement tells
-abbrev IsOfPeer : List SeenEnd → RecordNow → Type 0
-IsOfPeer ends s = (j : Judgement) → is_among j.socket (asked_on s) ≡ true → IsAskedByPeer ends s j → comes_from j.socket (Some (peer_of s)) ≡ true
+abbrev IsOfPeer : (ends now : List SeenEnd) → RecordNow → Type 0
+IsOfPeer ends now s = (j : Judgement) → is_among j.socket (asked_on s) ≡ true → IsAskedByPeer ends now s j → comes_from j.socket (Some (peer_of s)) ≡ true
 
-one_asked : (ends : List SeenEnd) (r s : RecordNow) → RecordGrows r s → HasAskedPeer r → AllByRecursion (IsAskedByPeer ends s) (judged_since r s) → IsOfPeer ends s → HasAskedPeer s
-one_asked ends r s g was all of_peer k a = by (among_part k (asked_on r) (sockets (judged_since r s)) (ap (is_among k) (sym (asked_parts r s g)) ∙ a))
+one_asked : (ends now : List SeenEnd) (r s : RecordNow) → RecordGrows r s → HasAskedPeer r → AllByRecursion (IsAskedByPeer ends now s) (judged_since r s) → IsOfPeer ends now s → HasAskedPeer s
+one_asked ends now r s g was all of_peer k a = by (among_part k (asked_on r) (sockets (judged_since r s)) (ap (is_among k) (sym (asked_parts r s g)) ∙ a))
   where
     by : (is_among k (asked_on r) ≡ true) ⊎ (is_among k (sockets (judged_since r s)) ≡ true) → comes_from k (Some (peer_of s)) ≡ true
     by (inl before) = ap (λ (f : SideFacts). comes_from k (Some f.peer)) g.facts ∙ was k before
     by (inr since) =
         let j = whose (λ (j : Judgement). j.socket) k (judged_since r s) since in
-        ap (λ l. comes_from l (Some (peer_of s))) j.is ∙ of_peer j.item (ap (λ l. is_among l (asked_on s)) (sym j.is) ∙ a) (of_each (IsAskedByPeer ends s) j.item (judged_since r s) all j.there)
+        ap (λ l. comes_from l (Some (peer_of s))) j.is ∙ of_peer j.item (ap (λ l. is_among l (asked_on s)) (sym j.is) ∙ a) (of_each (IsAskedByPeer ends now s) j.item (judged_since r s) all j.there)
 
-pub all_asked : (ends : List SeenEnd) (rs ss : List RecordNow) → RecordsGrow rs ss → AllByRecursion HasAskedPeer rs → AreAskedByPeers ends rs ss → ((s : RecordNow) → IsOneOf s ss → IsOfPeer ends s) →
+pub all_asked : (ends now : List SeenEnd) (rs ss : List RecordNow) → RecordsGrow rs ss → AllByRecursion HasAskedPeer rs → AreAskedByPeers ends now rs ss → ((s : RecordNow) → IsOneOf s ss → IsOfPeer ends now s) →
     AllByRecursion HasAskedPeer ss
-all_asked ends [] [] g was all of_peer = tt
-all_asked ends [] (s ∷ ss) g was all of_peer = absurd g
-all_asked ends (r ∷ rs) [] g was all of_peer = tt
-all_asked ends (r ∷ rs) (s ∷ ss) g was all of_peer =
-    (one_asked ends r s g.0 was.0 all.0 (of_peer s (inl refl)), all_asked ends rs ss g.1 was.1 all.1 (λ t i. of_peer t (inr i)))
+all_asked ends now [] [] g was all of_peer = tt
+all_asked ends now [] (s ∷ ss) g was all of_peer = absurd g
+all_asked ends now (r ∷ rs) [] g was all of_peer = tt
+all_asked ends now (r ∷ rs) (s ∷ ss) g was all of_peer =
+    (one_asked ends now r s g.0 was.0 all.0 (of_peer s (inl refl)), all_asked ends now rs ss g.1 was.1 all.1 (λ t i. of_peer t (inr i)))
 
 -- ---- the node that acts
 
@@ -89,7 +89,7 @@ module _ (i : ℕ) (old new : RunNow) (openers : ArrivalsAreTheOpeners) (run : I
           let away : goes_to before.port.at k ≡ false = acts.there k is (subst (λ o. IsSome o) (sym now.at) refl) in
           absurd (false_isnt_true (sym away ∙ ap (λ a. goes_to a k) (sym acts.grows.grows.at) ∙ goes))
 
-  pub came_of_peer : (s : RecordNow) → IsOneOf s behind.records → IsOfPeer (all_ends before) s
+  pub came_of_peer : (s : RecordNow) → IsOneOf s behind.records → IsOfPeer (all_ends before) (all_ends behind) s
   came_of_peer s one j a asked = subst (λ x. comes_from k (Some x) ≡ true) (sym peer_is ∙ mains) c.comes
     where
       k : SocketId
@@ -138,4 +138,4 @@ module _ (i : ℕ) (old new : RunNow) (openers : ArrivalsAreTheOpeners) (run : I
       peer_is = address old run c.from c.near c.opener.side.core.facts.mine c.there (is_at old.fabric.nodes c.from c.near near_node c.opener.side c.opener.there).mine
 
   pub still_asked : AllByRecursion HasAskedPeer behind.records
-  still_asked = all_asked (all_ends before) before.records behind.records acts.grows.grows.records (run.asked i before acts.was) acts.grows.grows.asked came_of_peer
+  still_asked = all_asked (all_ends before) (all_ends behind) before.records behind.records acts.grows.grows.records (run.asked i before acts.was) acts.grows.grows.asked came_of_peer

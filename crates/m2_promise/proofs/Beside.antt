@@ -5,17 +5,17 @@ use Rattle.std.specs.Prelude.{◌==◌}
 use Rattle.std.specs.List.{AllByRecursion}
 use Rattle.std.proofs.lemmas.Bool.{eqb-true, ltb-true}
 use Rattle.m2_fabric.specs.m2_addr.declared.addr.Addr.{Addr}
-use Rattle.m2_weave.specs.m2_control.Laws.{HasAddrRanges}
+use Rattle.m2_links_go_on.specs.m2_weave.m2_control.Laws.{HasAddrRanges}
 use Rattle.m2_fabric.specs.declared.socket.SocketId.{SocketId}
 use Rattle.m2_fabric.specs.Sockets.{goes_to, is_among}
 use Rattle.m2_bytes_fit.proofs.Judges.{not_judged_on}
-use Rattle.m2_growth.specs.Halves.{IsOneOf, all_left, asked_on}
-use Rattle.m2_growth.specs.Holding.{Holding}
-use Rattle.m2_growth.proofs.Among.{among_mapped, of_each}
-use Rattle.m2_history.specs.Link.{IsWholeHalf}
-use Rattle.m2_history.specs.Woven.{is_of_link, knows}
-use Rattle.m2_weave.specs.m2_journal.declared.entry.Entry.{Entry}
-use Rattle.m2_weave.specs.m2_journal.Lawful.{judged_on}
+use Rattle.m2_links_go_on.specs.m2_growth.Halves.{IsOneOf, all_left, asked_on}
+use Rattle.m2_links_go_on.specs.m2_growth.Holding.{Holding}
+use Rattle.m2_links_go_on.proofs.m2_growth.Among.{among_mapped, of_each}
+use Rattle.m2_links_go_on.specs.m2_history.Link.{IsWholeHalf}
+use Rattle.m2_links_go_on.specs.m2_history.Woven.{is_of_link, knows}
+use Rattle.m2_links_go_on.specs.m2_weave.m2_journal.declared.entry.Entry.{Entry}
+use Rattle.m2_links_go_on.specs.m2_weave.m2_journal.Lawful.{judged_on}
 use Rattle.m2_links_go_on.proofs.Callers.{IsCalled, IsJudgedBy, judged_by_one, told_all}
 use Rattle.m2_links_go_on.proofs.Nodes as held
 use Rattle.m2_links_go_on.proofs.LinkRecords.{knows_kind}
@@ -31,10 +31,10 @@ use Rattle.m2_script.specs.m2_center.m2_turn.Halves.{AllHalves, sessions_with}
 use Rattle.m2_script.specs.m2_center.m2_turn.Sessions.{AreConsistent, Caller, IsCaller, IsTold, PendingNow, Supply, WasCaller, caller_in, caller_of, peer_of}
 use Rattle.m2_bytes_fit.specs.m2_trail.Arrivals.{LooseNow, left_of}
 use Rattle.m2_bytes_fit.specs.m2_trail.Trails.{TrailNow, opener_of}
-use Rattle.m2_weave.specs.Strands.{has_opened, journal_of}
-use Rattle.m2_history.specs.Actors.{is_near}
-use Rattle.m2_history.specs.WovenLink.{IsLooseBeside}
-use Rattle.m2_history.proofs.Whole.{records_are_sides}
+use Rattle.m2_links_go_on.specs.m2_weave.Strands.{has_opened, journal_of}
+use Rattle.m2_links_go_on.specs.m2_history.Actors.{is_near}
+use Rattle.m2_links_go_on.specs.m2_history.WovenLink.{IsLooseBeside}
+use Rattle.m2_links_go_on.proofs.m2_history.Whole.{records_are_sides}
 use Rattle.m2_fabric.proofs.m2_lemmas.Booleans.{either_turned, not_true_is_false, both_of_and, false_isnt_true}
 use Rattle.m2_fabric.proofs.m2_lemmas.Lists.{all_append, all_map, all_so}
 

@@ -6,13 +6,13 @@ use Rattle.m2_fabric.specs.m2_addr.declared.addr.Addr.{Addr}
 use Rattle.m2_fabric.specs.declared.socket.SocketId.{SocketId}
 use Rattle.m2_fabric.specs.End.{Inflow, SeenEnd}
 use Rattle.m2_fabric.specs.Sockets.{goes_to}
-use Rattle.m2_growth.specs.Ends.{EndGrowsTo, come_to}
-use Rattle.m2_growth.specs.Holding.{Holding, all_ends}
-use Rattle.m2_growth.specs.Turn.{CameOfPut}
+use Rattle.m2_links_go_on.specs.m2_growth.Ends.{EndGrowsTo, come_to}
+use Rattle.m2_links_go_on.specs.m2_growth.Holding.{Holding, all_ends}
+use Rattle.m2_links_go_on.specs.m2_growth.Turn.{CameOfPut}
 use Rattle.m2_script.specs.m2_record.Sources.{end_at}
 use Rattle.m2_fabric.specs.Kept.{is_kept}
 use Rattle.m2_fabric.specs.Meeting.{comes_from}
-use Rattle.m2_weave.specs.Later.{GoesOn}
+use Rattle.m2_links_go_on.specs.m2_weave.Later.{GoesOn}
 use Rattle.m2_promise.specs.Running.{HoldsAll, IsRunning, RunNow}
 use Rattle.m2_promise.proofs.Kept.{IsMet, are_met}
 use Rattle.m2_promise.proofs.Openers.{IsOpener, opener_of}

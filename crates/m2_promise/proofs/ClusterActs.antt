@@ -13,7 +13,7 @@ use Rattle.m2_links_go_on.specs.Cluster.{ClusterGrows}
 use Rattle.m2_links_go_on.specs.ClusterLaws.{BringsElsewhere}
 use Rattle.m2_links_go_on.proofs.Bringing.{plan_brings, turn_brings}
 use Rattle.m2_links_go_on.proofs.Turning.{node_plan_grows, node_turn_grows, plan_grows, turn_grows}
-use Rattle.m2_growth.specs.Holding.{Grows, Holding, all_ends}
+use Rattle.m2_links_go_on.specs.m2_growth.Holding.{Grows, Holding, all_ends}
 use Rattle.m2_promise.specs.Running.{IsNodeAt, NodeActs}
 use Rattle.m2_fabric.specs.InStep.{SeenFabric}
 use Rattle.m2_fabric.specs.SimFabric.{fresh_fabric}
@@ -117,14 +117,14 @@ module _ {D : Type 0} where
   }
 
 pub one_turn : (D E : Type 0) → OneTurnActs D E
-one_turn D E heard now answer i fabric old new does own node memory brought =
+one_turn D E heard now answer i fabric old new does port own node memory brought =
     acts_so i (NodeTurns E heard now answer) fabric old new does
     (turn_grows D E heard (means_at now does.before.numbers does.before.throttle) answer does.before.center does.behind.center does.does.turns own)
-    (turn_brings D E heard (means_at now does.before.numbers does.before.throttle) answer does.before.center does.behind.center does.does.turns own)
+    (turn_brings D E heard (means_at now does.before.numbers does.before.throttle) answer does.before.center does.behind.center does.does.turns port own)
     node (node_turn_grows D E heard now answer i old new does own memory brought)
 
 pub one_plan : (D : Type 0) → OnePlanActs D
-one_plan D answer peer step now i fabric old new does own node memory brought =
+one_plan D answer peer step now i fabric old new does port own node memory brought =
     acts_so i (NodePlans answer peer step now) fabric old new does
     (plan_grows D answer peer step now does.before.throttle.place does.before.center does.behind.center does.does.plans own)
     (plan_brings D answer peer step now does.before.throttle.place does.before.center does.behind.center does.does.plans own)

@@ -4,11 +4,11 @@ use Rattle.std.specs.Prelude.{slice_get, slice_set}
 use Rattle.std.specs.List.{AllByRecursion}
 use Rattle.std.proofs.lemmas.List.{length-set}
 use Rattle.m2_dispatch.specs.Heard.{Heard}
-use Rattle.m2_weave.specs.m2_journal.declared.facts.PlanStep.{PlanStep}
+use Rattle.m2_links_go_on.specs.m2_weave.m2_journal.declared.facts.PlanStep.{PlanStep}
 use Rattle.m2_script.specs.m2_record.RecordNow.{RecordNow}
 use Rattle.m2_script.specs.m2_cluster.Cluster.{ClusterNow, OneDoes, rest_of}
 use Rattle.m2_script.specs.m2_cluster.Node.{IsWholeNode, NodeNow, NodePlans, NodeTurns, rest_of_node}
-use Rattle.m2_growth.specs.Holding.{AreOwn}
+use Rattle.m2_links_go_on.specs.m2_growth.Holding.{AreOwn}
 use Rattle.m2_links_go_on.specs.Center.{holding_of}
 use Rattle.m2_links_go_on.specs.Cluster.{AllOwn}
 use Rattle.m2_links_go_on.specs.ClusterTold.{OneByOne}

@@ -8,7 +8,7 @@ use Rattle.m2_links_go_on.specs.Center.{holding_of}
 use Rattle.m2_links_go_on.specs.Cluster.{AllOwn}
 use Rattle.m2_links_go_on.specs.ClusterTold.{OneByOne}
 use Rattle.m2_links_go_on.specs.ToldLaws.{PlanStaysUnused, ToldClusterStaysJudged, ToldClusterStaysOwn, TurnStaysUnused}
-use Rattle.m2_growth.specs.Holding.{AreOwn}
+use Rattle.m2_links_go_on.specs.m2_growth.Holding.{AreOwn}
 use Rattle.m2_promise.specs.Running.{IsRunning}
 use Rattle.m2_promise.specs.BeginningLaws.{ClustersHoldAll, OnePlanActs, OneTurnActs}
 use Rattle.m2_promise.specs.PassingLaws.{HearingStaysAt, RestStays, ToldNodesHear}

@@ -6,10 +6,10 @@ use Rattle.std.proofs.lemmas.Bool.{eq-eqb, or_parts}
 use Rattle.std.proofs.lemmas.List.Sums.{sum_by-cons}
 use Rattle.std.proofs.lemmas.Option.{none-some, same_Some}
 use Rattle.m2_promise.specs.Delivered.{MarksNoneDown}
-use Rattle.m2_growth.specs.Halves.{IsOneOf}
-use Rattle.m2_growth.proofs.Among.{mapped_one, of_each}
-use Rattle.m2_weave.specs.m2_journal.declared.entry.Entry.{Entry}
-use Rattle.m2_weave.specs.m2_journal.declared.entry.Entry.TheVariants as entry
+use Rattle.m2_links_go_on.specs.m2_growth.Halves.{IsOneOf}
+use Rattle.m2_links_go_on.proofs.m2_growth.Among.{mapped_one, of_each}
+use Rattle.m2_links_go_on.specs.m2_weave.m2_journal.declared.entry.Entry.{Entry}
+use Rattle.m2_links_go_on.specs.m2_weave.m2_journal.declared.entry.Entry.TheVariants as entry
 use Rattle.m2_links_go_on.specs.Logged.{AreOfTheirPeers}
 use Rattle.m2_script.specs.m2_record.RecordNow.{RecordNow}
 use Rattle.m2_script.specs.Outcome.{is_down, is_down_entry, is_post_step}

@@ -6,10 +6,10 @@ use Rattle.m2_fabric.specs.declared.socket.SocketId.{SocketId}
 use Rattle.m2_fabric.specs.Holder.{SeenHolder}
 use Rattle.m2_fabric.specs.Sockets.{goes_to}
 use Rattle.m2_bytes_fit.specs.Halves.{KeepsRanges}
-use Rattle.m2_growth.specs.Halves.{IsOneOf, all_left}
-use Rattle.m2_growth.specs.Holding.{Holding, all_ends}
-use Rattle.m2_history.specs.Link.{both_of}
-use Rattle.m2_weave.proofs.m2_journal.Pair.{facts_of_a, facts_of_b, here, there}
+use Rattle.m2_links_go_on.specs.m2_growth.Halves.{IsOneOf, all_left}
+use Rattle.m2_links_go_on.specs.m2_growth.Holding.{Holding, all_ends}
+use Rattle.m2_links_go_on.specs.m2_history.Link.{both_of}
+use Rattle.m2_links_go_on.proofs.m2_weave.m2_journal.Pair.{facts_of_a, facts_of_b, here, there}
 use Rattle.m2_links_go_on.proofs.Example.{is_node_of_a, is_node_of_b, node, side}
 use Rattle.m2_links_go_on.proofs.LinkRecords.{at_place}
 use Rattle.m2_links_go_on.proofs.Staying.{staying_goes_on}
@@ -20,7 +20,7 @@ use Rattle.m2_fabric.specs.Kept.{is_kept}
 use Rattle.m2_fabric.specs.SimFabric.{AreApart}
 use Rattle.m2_script.specs.m2_center.m2_turn.Halves.{AllHalves}
 use Rattle.m2_links_go_on.specs.Sides.{woven_now}
-use Rattle.m2_weave.specs.TurnLaws.{HasOrder}
+use Rattle.m2_links_go_on.specs.m2_weave.TurnLaws.{HasOrder}
 use Rattle.m2_promise.specs.RunLaws.{ANodeActs}
 use Rattle.m2_promise.specs.Running.{HasAskedPeer, HaveOrders, HoldsAll, IsNodeAt, IsRunning, RunNow}
 use Rattle.m2_fabric.proofs.m2_lemmas.Booleans.{false_isnt_true}
@@ -64,10 +64,10 @@ ranges_of_b : KeepsRanges facts_of_b
 ranges_of_b = record { entity = omega arith; peer = search rules; mine = search rules; kind = refl; place = search rules; supports = omega arith; requires_ = omega arith }
 
 one_at : IsNodeAt (here ∷ there ∷ []) 0 one
-one_at = record { node = is_node_of_a; at = refl; records = (record { mine = refl; peer = refl; other = refl; ranges = ranges_of_a }, tt); made = tt; waiting = tt }
+one_at = record { node = is_node_of_a; at = refl; records = (record { mine = refl; peer = refl; other = refl; ranges = ranges_of_a }, tt); in_memory = refl; made = tt; waiting = tt }
 
 two_at : IsNodeAt (here ∷ there ∷ []) 1 two
-two_at = record { node = is_node_of_b; at = refl; records = (record { mine = refl; peer = refl; other = refl; ranges = ranges_of_b }, tt); made = tt; waiting = tt }
+two_at = record { node = is_node_of_b; at = refl; records = (record { mine = refl; peer = refl; other = refl; ranges = ranges_of_b }, tt); in_memory = refl; made = tt; waiting = tt }
 
 is_running : IsRunning run
 is_running = record {

@@ -17,7 +17,7 @@ use Rattle.m2_script.specs.m2_center.Making.{new_center}
 use Rattle.m2_script.specs.m2_cluster.Cluster.{address_of as listens_at, held_by, made_by, waits_at}
 use Rattle.m2_script.specs.m2_cluster.Node.{IsWholeNode, NodeNow, waits_in}
 use Rattle.m2_links_go_on.specs.Center.{holding_of}
-use Rattle.m2_growth.specs.Passed.{HasItsEnds}
+use Rattle.m2_links_go_on.specs.m2_growth.Passed.{HasItsEnds}
 use Rattle.m2_links_go_on.specs.LogLaws.{BeginLogged, logging_in}
 use Rattle.m2_links_go_on.specs.Logged.{IsLogged}
 use Rattle.m2_promise.specs.Acting.{run_of}

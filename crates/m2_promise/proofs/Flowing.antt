@@ -7,14 +7,14 @@ use Rattle.m2_fabric.specs.declared.socket.SocketId.{SocketId}
 use Rattle.m2_fabric.specs.End.{Inflow, SeenEnd}
 use Rattle.m2_fabric.specs.Log.{Log, nothing_done}
 use Rattle.m2_fabric.specs.Sockets.{goes_to, is_among, same_socket}
-use Rattle.m2_growth.specs.Ends.{EndGrowsTo, IsNewborn, come_to}
-use Rattle.m2_growth.specs.Halves.{IsOneOf, all_left, asked_on}
-use Rattle.m2_growth.specs.Holding.{Holding, all_ends, waiting_at}
-use Rattle.m2_growth.proofs.Among.{each_by, of_each}
-use Rattle.m2_history.specs.Woven.{EndNow, bytes_at, end_of, half_end, knows}
-use Rattle.m2_growth.specs.Turn.{AllEndsGrow}
-use Rattle.m2_weave.specs.m2_journal.declared.entry.Entry.{Entry}
-use Rattle.m2_weave.specs.m2_journal.declared.entry.Entry.TheVariants as entry
+use Rattle.m2_links_go_on.specs.m2_growth.Ends.{EndGrowsTo, IsNewborn, come_to}
+use Rattle.m2_links_go_on.specs.m2_growth.Halves.{IsOneOf, all_left, asked_on}
+use Rattle.m2_links_go_on.specs.m2_growth.Holding.{Holding, all_ends, waiting_at}
+use Rattle.m2_links_go_on.proofs.m2_growth.Among.{each_by, of_each}
+use Rattle.m2_links_go_on.specs.m2_history.Woven.{EndNow, bytes_at, end_of, half_end, knows}
+use Rattle.m2_links_go_on.specs.m2_growth.Turn.{AllEndsGrow}
+use Rattle.m2_links_go_on.specs.m2_weave.m2_journal.declared.entry.Entry.{Entry}
+use Rattle.m2_links_go_on.specs.m2_weave.m2_journal.declared.entry.Entry.TheVariants as entry
 use Rattle.m2_links_go_on.proofs.Ends.{its_bytes}
 use Rattle.m2_links_go_on.proofs.Going.{IsKnown}
 use Rattle.m2_links_go_on.proofs.Nodes as nodes
@@ -25,9 +25,9 @@ use Rattle.m2_fabric.specs.InStep.{IsUnread}
 use Rattle.m2_fabric.specs.Kept.{is_kept}
 use Rattle.m2_fabric.specs.Meeting.{comes_from}
 use Rattle.m2_bytes_fit.specs.m2_trail.Arrivals.{LooseNow}
-use Rattle.m2_weave.specs.Later.{GoesOn}
-use Rattle.m2_weave.specs.Strands.{has_opened, journal_of}
-use Rattle.m2_history.specs.WovenLink.{same_end}
+use Rattle.m2_links_go_on.specs.m2_weave.Later.{GoesOn}
+use Rattle.m2_links_go_on.specs.m2_weave.Strands.{has_opened, journal_of}
+use Rattle.m2_links_go_on.specs.m2_history.WovenLink.{same_end}
 use Rattle.m2_promise.specs.Running.{IsNodeAt, IsRunning, RunNow}
 use Rattle.m2_promise.proofs.BothEnds.{IsCome, IsGone, came_first, come, gone, holds, in_memory}
 use Rattle.m2_promise.proofs.Openers as node

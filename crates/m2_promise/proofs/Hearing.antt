@@ -2,7 +2,7 @@
 use Rattle.std.proofs.Common.{◌≡◌, ℕ, zero, suc, List, [], ◌∷◌, Some, refl, sym, subst, ◌∙◌}
 use Rattle.std.specs.Prelude.{slice_get}
 use Rattle.m2_links_go_on.specs.ClusterTold.{OneByOne, SameRecord}
-use Rattle.m2_weave.specs.TurnLaws.{HasOrder}
+use Rattle.m2_links_go_on.specs.m2_weave.TurnLaws.{HasOrder}
 use Rattle.m2_links_go_on.specs.TellingLaws.{WovenStays}
 use Rattle.m2_promise.specs.PassingLaws.{HearingKeepsOrders}
 use Rattle.m2_promise.specs.Passed.{SameHolding}

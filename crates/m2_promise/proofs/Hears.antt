@@ -8,7 +8,7 @@ use Rattle.m2_channel.specs.ObservedLaws.{ComeAsPosted}
 use Rattle.m2_channel.specs.m2_never_reset.Order.{AreFirstOf}
 use Rattle.m2_dispatch.specs.Heard.{Heard, is_message_from, message, of_key, reset}
 use Rattle.m2_dispatch.specs.Laws.{IsSublist}
-use Rattle.m2_weave.specs.m2_journal.SideFacts.{SideFacts}
+use Rattle.m2_links_go_on.specs.m2_weave.m2_journal.SideFacts.{SideFacts}
 use Rattle.m2_message.specs.Message.{Content, unnumbered}
 use Rattle.m2_scenario.specs.Order.{AreSame, IsNoResetBy, IsPrefixOf, posts_between, posts_of}
 use Rattle.m2_channel.specs.m2_never_reset.Orders as orders

@@ -3,7 +3,7 @@ use Rattle.std.proofs.Common.{◌≡◌, ℕ, ◌+◌, ◌<◌, ◌^◌, ◌%◌
 use Rattle.std.specs.List.{AllByRecursion}
 use Rattle.m2_channel.specs.Handing.{IsNoResetOf, LogsAreLogs}
 use Rattle.m2_channel.specs.Observed.{IsLetter, Logs, all_of, turned}
-use Rattle.m2_channel.specs.ObservedLaws.{AcknowledgedIsAccepted, AreBrought, AreLogs, ComeAsPosted, ObservedIsARun, ObservedIsARunToAMark}
+use Rattle.m2_channel.specs.ObservedLaws.{AcknowledgedIsAccepted, AreBrought, AreLogs, ComeAsPosted, ObservedIsARun}
 use Rattle.m2_channel.proofs.Orders.{far_after_turned, history_first, near_turned}
 use Rattle.m2_links_go_on.specs.Center.{holding_of}
 use Rattle.m2_promise.specs.Delivered.{AreLosslessUp, BothLogs, HasAccepted, HasHeardPeer, MarksNoneDown, PostsInRanges, link_in}
@@ -14,26 +14,25 @@ use Rattle.m2_promise.proofs.Logs.{heard_there, some_there}
 use Rattle.m2_dispatch.specs.declared.logged.Logged.{Logged}
 use Rattle.m2_dispatch.specs.Heard.{Heard, heard_by, of_key}
 use Rattle.m2_dispatch.specs.Laws.{IsSublist}
-use Rattle.m2_bytes_fit.specs.Orders.{BytesGiveFits, entries_of}
+use Rattle.m2_bytes_fit.specs.Orders.{entries_of}
 use Rattle.m2_bytes_fit.specs.Trails.{TrailsTellEachPoint}
-use Rattle.m2_growth.specs.Holding.{Holding}
-use Rattle.m2_history.specs.Counted.{posted}
-use Rattle.m2_history.specs.Delivered.{AreOfOrder, CountsAreOfTheItems}
-use Rattle.m2_history.specs.HalfStrands.{OrdersGivePoints}
-use Rattle.m2_weave.specs.m2_journal.Items as item
-use Rattle.m2_weave.specs.m2_journal.Items.{JournalItem, items_of}
-use Rattle.m2_weave.specs.m2_journal.Replay.{after_items}
-use Rattle.m2_weave.specs.m2_journal.SideFacts.{SideFacts}
-use Rattle.m2_weave.specs.m2_journal.State.{State, start}
+use Rattle.m2_links_go_on.specs.m2_growth.Holding.{Holding}
+use Rattle.m2_links_go_on.specs.m2_history.Counted.{posted}
+use Rattle.m2_links_go_on.specs.m2_history.Delivered.{AreOfOrder, CountsAreOfTheItems}
+use Rattle.m2_links_go_on.specs.m2_history.HalfStrands.{OrdersGivePoints}
+use Rattle.m2_links_go_on.specs.m2_weave.m2_journal.Items as item
+use Rattle.m2_links_go_on.specs.m2_weave.m2_journal.Items.{JournalItem, items_of}
+use Rattle.m2_links_go_on.specs.m2_weave.m2_journal.Replay.{after_items}
+use Rattle.m2_links_go_on.specs.m2_weave.m2_journal.SideFacts.{SideFacts}
+use Rattle.m2_links_go_on.specs.m2_weave.m2_journal.State.{State, start}
 use Rattle.m2_promise.specs.Started.{IsKept, run_in}
-use Rattle.m2_history.specs.m2_lossy_in_order.Lossy.{AreLossy}
+use Rattle.m2_links_go_on.specs.m2_history.m2_lossy_in_order.Lossy.{AreLossy}
 use Rattle.m2_message.specs.Message.{unnumbered}
 use Rattle.m2_scenario.specs.Order.{posts_of}
 use Rattle.m2_channel.specs.m2_never_reset.Orders as orders
 use Rattle.m2_channel.specs.m2_never_reset.Orders.{AreNodes, IsHistory, SideItem, far_item, far_items, near_item, near_items, posts_in}
 use Rattle.m2_dispatch.specs.m2_policy.declared.path.Key.{Key}
 use Rattle.m2_promise.specs.Posted.{AreAcknowledged, AreMarkedIn, AreRecordsOver, AreSomeOf, AreUpIn, IsMarkedSo, PostsOfTypes, logs_of}
-use Rattle.m2_promise.proofs.Before.{lawful_order}
 use Rattle.m2_promise.proofs.Hears.{GoOneWay, HearsOf, hears_of, hears_some}
 use Rattle.m2_promise.proofs.PostedPlans.{posts_to}
 use Rattle.m2_promise.proofs.Sides.{told_by}
@@ -51,11 +50,12 @@ use Rattle.m2_script.specs.declared.made.Towards.{Towards}
 use Rattle.m2_script.specs.Outcome.{heard_at, in_turns, is_down_at, of_node}
 use Rattle.m2_script.specs.Script.{RunNow}
 use Rattle.m2_promise.specs.StartLaws.{PlansAreOfLines}
-use Rattle.m2_weave.specs.WeaveLaws.{AsksComeFirst, ReadWasWritten}
-use Rattle.m2_history.specs.WovenLaws.{WovenBytesFit, WovenIsDelivered, WovenIsNeverReset, kept_by}
-use Rattle.m2_history.specs.WovenLink.{AreUp, IsLink, IsOrderOf, LinkNow, order_of}
-use Rattle.m2_history.specs.Lossy.{AreSomeLogs, WovenComesInOrder}
-use Rattle.m2_history.proofs.Whole.{far_whole, near_whole, by_actors}
+use Rattle.m2_links_go_on.specs.m2_weave.WeaveLaws.{AsksComeFirst, ReadWasWritten}
+use Rattle.m2_links_go_on.specs.m2_history.WovenLaws.{WovenIsDelivered, WovenIsNeverReset, kept_by}
+use Rattle.m2_links_go_on.specs.m2_history.WovenLink.{AreUp, IsLink, IsOrderOf, LinkNow, order_of}
+use Rattle.m2_links_go_on.specs.m2_history.Lossy.{AreSomeLogs, WovenComesInOrder}
+use Rattle.m2_links_go_on.specs.m2_history.Marked.{WovenIsARunToAMark}
+use Rattle.m2_links_go_on.proofs.m2_history.Whole.{far_whole, near_whole, by_actors}
 use Rattle.m2_fabric.proofs.m2_lemmas.Lists.{all_front, all_back}
 
 -- ---- laws that are used
@@ -68,13 +68,11 @@ pub record AreLaws : Type 0 where
   pub asked : AsksComeFirst
   pub points : OrdersGivePoints
   pub tell : TrailsTellEachPoint
-  pub bytes : WovenBytesFit
-  pub gives : BytesGiveFits
   pub never : WovenIsNeverReset
   pub delivers : WovenIsDelivered
+  pub to_a_mark : WovenIsARunToAMark
   pub comes : WovenComesInOrder
   pub observed : ObservedIsARun
-  pub to_a_mark : ObservedIsARunToAMark
   pub acknowledged : AcknowledgedIsAccepted
   pub counts : CountsAreOfTheItems
   pub logs : LogsAreLogs
@@ -279,9 +277,7 @@ module _ (laws : AreLaws) (nodes : List Node) (links : List Link) (lines : List 
     -- ---- a lossless link, to a mark
 
     pub marked_in : KeepsAll l → AreMarkedIn it logs all
-    marked_in keeps =
-        laws.to_a_mark a.core.facts b.core.facts all logs.near logs.far (are_nodes keeps)
-        (lawful_order laws.gives a.core.facts b.core.facts (are_nodes keeps) (order_of it order) (laws.bytes it order is_link is_order).fits is_link.joined.peers) are_logs
+    marked_in keeps = (laws.to_a_mark it order logs.near logs.far (are_nodes keeps) is_link is_order).observed are_logs
 
     -- ---- a lossy link
 

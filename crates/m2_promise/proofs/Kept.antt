@@ -3,9 +3,9 @@ use Rattle.std.proofs.Common.{◌≡◌, ℕ, true, List, Some, refl, subst, ◌
 use Rattle.std.specs.Prelude.{IsSome}
 use Rattle.std.specs.List.{AllByRecursion}
 use Rattle.m2_fabric.specs.declared.socket.SocketId.{SocketId}
-use Rattle.m2_growth.proofs.Among.{of_each}
-use Rattle.m2_growth.specs.InStepLaws.{StayMet}
-use Rattle.m2_growth.specs.Turn.{CameOfPut}
+use Rattle.m2_links_go_on.proofs.m2_growth.Among.{of_each}
+use Rattle.m2_links_go_on.specs.m2_growth.InStepLaws.{StayMet}
+use Rattle.m2_links_go_on.specs.m2_growth.Turn.{CameOfPut}
 use Rattle.m2_fabric.specs.Kept.{SeenPair, back, both, directions, is_kept, of_pair, there}
 use Rattle.m2_fabric.specs.Meeting.{acceptor}
 use Rattle.m2_script.proofs.m2_center.m2_turn.Peers.{each_of_two}

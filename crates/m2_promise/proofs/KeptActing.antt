@@ -1,12 +1,12 @@
 -- A run of a script stays at rest where one of its nodes acts.
-use Rattle.std.proofs.Common.{◌≡◌, ℕ, List, [], ◌∷◌, Some, Ok, slice_get, sym, ap, subst, ◌∙◌}
+use Rattle.std.proofs.Common.{◌≡◌, ℕ, List, [], ◌∷◌, Some, IsSome, Ok, slice_get, sym, ap, subst, ◌∙◌}
 use Rattle.std.specs.Prelude.{◌==◌}
 use Rattle.std.specs.List.{AllByRecursion}
 use Rattle.m2_fabric.specs.m2_addr.declared.addr.Addr.{Addr}
 use Rattle.m2_dispatch.specs.Heard.{Heard}
 use Rattle.m2_bytes_fit.specs.Halves.{KeepsRanges}
-use Rattle.m2_weave.specs.m2_journal.declared.facts.PlanStep.{PlanStep}
-use Rattle.m2_weave.specs.m2_journal.SideFacts.{SideFacts}
+use Rattle.m2_links_go_on.specs.m2_weave.m2_journal.declared.facts.PlanStep.{PlanStep}
+use Rattle.m2_links_go_on.specs.m2_weave.m2_journal.SideFacts.{SideFacts}
 use Rattle.m2_script.specs.m2_record.RecordNow.{RecordNow}
 use Rattle.m2_script.specs.m2_center.CenterTurn.{means_at}
 use Rattle.m2_script.specs.m2_cluster.Cluster.{ClusterNow, OneDoes, held_by}
@@ -15,9 +15,9 @@ use Rattle.m2_links_go_on.specs.Center.{holding_of}
 use Rattle.m2_links_go_on.specs.Cluster.{AllInMemory, BringInMemory}
 use Rattle.m2_links_go_on.specs.ClusterTold.{AreUnused}
 use Rattle.m2_links_go_on.specs.ToldLaws.{PlanStaysUnused, TurnStaysUnused}
-use Rattle.m2_growth.specs.Holding.{AreOwn, Grows}
-use Rattle.m2_growth.specs.Records.{RecordGrows, RecordsGrow}
-use Rattle.m2_growth.proofs.InStepStanding.{Stands}
+use Rattle.m2_links_go_on.specs.m2_growth.Holding.{AreOwn, Grows}
+use Rattle.m2_links_go_on.specs.m2_growth.Records.{RecordGrows, RecordsGrow}
+use Rattle.m2_links_go_on.proofs.m2_growth.InStepStanding.{Stands}
 use Rattle.m2_promise.specs.Running.{IsNodeAt, IsRecordAt, NodeActs}
 use Rattle.m2_fabric.specs.InStep.{SeenFabric}
 use Rattle.m2_promise.specs.Acting.{run_of}
@@ -54,6 +54,7 @@ module _ {D : Type 0} where
     node = is_node m whole grows.own (grows.judged at.node.halves);
     at = at.at ∙ ap Some (sym grows.grows.at);
     records = records_stay addrs i n.center.records m.center.records grows.grows.records at.records;
+    in_memory = whole.port;
     made = whole.home;
     waiting = unused;
   }
@@ -61,7 +62,7 @@ module _ {D : Type 0} where
   module _ (rest : RestStays) where
     -- one node acts, of which this is shown
     acts_so : (i : ℕ) (how : NodeNow D → NodeNow D → Type 0) (old new : RunNow D) (does : OneDoes i how old.cluster new.cluster) → new.fabric ≡ old.fabric →
-        (AreOwn (holding_of does.before.center) → IsNodeAt old.fabric.nodes i (holding_of does.behind.center) → AllInMemory (held_by old.cluster.nodes) →
+        (IsSome does.before.center.port.waiting → AreOwn (holding_of does.before.center) → IsNodeAt old.fabric.nodes i (holding_of does.behind.center) → AllInMemory (held_by old.cluster.nodes) →
         BringInMemory (held_by old.cluster.nodes) (held_by new.cluster.nodes) → NodeActs i (run_of old.cluster.nodes old.fabric) (run_of new.cluster.nodes old.fabric)) →
         (AreOwn (holding_of does.before.center) → Stands (holding_of does.before.center) (holding_of does.behind.center)) →
         (AreUnused does.before.center.port → AreUnused does.behind.center.port) →
@@ -86,7 +87,7 @@ module _ {D : Type 0} where
 
         node_acts : NodeActs i (run_of old.cluster.nodes old.fabric) (run_of new.cluster.nodes old.fabric)
         node_acts =
-            acts own (stays_at old.fabric.nodes i does.before does.behind stand.grows (unused at.waiting) whole_behind at)
+            acts at.in_memory own (stays_at old.fabric.nodes i does.before does.behind stand.grows (unused at.waiting) whole_behind at)
             (all_in_memory old.cluster.nodes whole) (λ node k none. all_in_memory new.cluster.nodes whole_now node k)
 
     pub turn_rests : (E : Type 0) → OneTurnActs D E → TurnStaysUnused D E → (heard : D → List Heard) (a : ℕ) (old new : RunNow D) → TakesTurn E heard a old new →

@@ -1,8 +1,8 @@
 -- A run of a script stays at rest where something passes between its nodes.
-use Rattle.std.proofs.Common.{◌≡◌, ℕ, List, Some, None, Ok, sym, ap, subst, ◌∙◌}
+use Rattle.std.proofs.Common.{◌≡◌, ℕ, List, Some, None, IsSome, Ok, sym, ap, subst, ◌∙◌}
 use Rattle.std.specs.List.{AllByRecursion}
 use Rattle.m2_fabric.specs.m2_addr.declared.addr.Addr.{Addr}
-use Rattle.m2_growth.specs.Holding.{HaveTheirHalves, Holding}
+use Rattle.m2_links_go_on.specs.m2_growth.Holding.{HaveTheirHalves, Holding}
 use Rattle.m2_script.specs.m2_cluster.Cluster.{rest_of}
 use Rattle.m2_script.specs.m2_cluster.Node.{IsWholeNode, NodeNow}
 use Rattle.m2_links_go_on.specs.Center.{holding_of}
@@ -40,7 +40,7 @@ module _ {D : Type 0} (holds : ClustersHoldAll D) (told : ToldNodesHear D) (own 
         let n = node_of new.cluster.nodes i h there in
         let was = before SameHolding (holdings_of old.cluster.nodes) (holdings_of new.cluster.nodes) same i h there in
         subst (λ (l : List Addr). IsNodeAt l i h) (sym addrs)
-        (stays old.fabric.nodes i was.item h was.same (node i h n) (unused i h n) (run.nodes i was.item was.there));
+        (stays old.fabric.nodes i was.item h was.same (node i h n) (memory i h n) (unused i h n) (run.nodes i was.item was.there));
     holds = holds new.cluster.nodes new.fabric;
     in_step = in_step;
   }
@@ -52,7 +52,7 @@ module _ {D : Type 0} (holds : ClustersHoldAll D) (told : ToldNodesHear D) (own 
       keep =
           own old.cluster new.cluster rest
           (all_by_places KeepsSockets old.cluster.nodes
-          (λ i n there. let at = run.nodes i (holding_of n.center) (holding_at old.cluster.nodes i n there) in record { own = at.node.own; unused = at.waiting }))
+          (λ i n there. let at = run.nodes i (holding_of n.center) (holding_at old.cluster.nodes i n there) in record { in_memory = at.in_memory; own = at.node.own; unused = at.waiting }))
 
       halves : AllHaveHalves new.cluster.nodes
       halves =
@@ -65,6 +65,9 @@ module _ {D : Type 0} (holds : ClustersHoldAll D) (told : ToldNodesHear D) (own 
           subst IsNode n.is
           (is_node n.node (all_at IsWholeNode new.cluster.nodes i n.node n.there whole) (all_at KeepsSockets new.cluster.nodes i n.node n.there keep).own
           (all_at (λ (m : NodeNow D). HaveTheirHalves (holding_of m.center)) new.cluster.nodes i n.node n.there halves))
+
+      memory : (i : ℕ) (h : Holding) → IsNodeOf new.cluster.nodes i h → IsSome h.port.waiting
+      memory i h n = subst (λ (x : Holding). IsSome x.port.waiting) n.is (all_at KeepsSockets new.cluster.nodes i n.node n.there keep).in_memory
 
       unused : (i : ℕ) (h : Holding) → IsNodeOf new.cluster.nodes i h → AreUnused h.port
       unused i h n = subst (λ (x : Holding). AreUnused x.port) n.is (all_at KeepsSockets new.cluster.nodes i n.node n.there keep).unused

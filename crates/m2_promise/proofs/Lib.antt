@@ -13,7 +13,6 @@ mod Records
 mod Taken
 pub mod Acting
 pub mod Asking
-pub mod Before
 pub mod Beside
 pub mod BothEnds
 pub mod Calls

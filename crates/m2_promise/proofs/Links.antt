@@ -3,25 +3,25 @@ use Rattle.std.proofs.Common.{◌≡◌, ℕ, zero, suc, Bool, true, false, if�
 use Rattle.std.specs.Prelude.{slice_get}
 use Rattle.std.specs.List.{AllByRecursion, IsDistinct, flat_map}
 use Rattle.std.proofs.lemmas.Grind.{flat_map-append}
-use Rattle.m2_weave.specs.m2_control.Laws.{HasAddrRanges}
+use Rattle.m2_links_go_on.specs.m2_weave.m2_control.Laws.{HasAddrRanges}
 use Rattle.m2_fabric.specs.declared.socket.SocketId.{SocketId}
 use Rattle.m2_fabric.specs.Sockets.{goes_to}
 use Rattle.m2_bytes_fit.specs.Halves.{KeepsRanges}
 use Rattle.m2_bytes_fit.specs.Posts.{SendablePostsKeepFields}
 use Rattle.m2_bytes_fit.specs.Texts.{CanBePosted}
-use Rattle.m2_growth.specs.Halves.{all_left}
-use Rattle.m2_growth.specs.Holding.{Holding}
-use Rattle.m2_growth.proofs.Among.{each_by}
-use Rattle.m2_history.specs.Link.{parts_of}
-use Rattle.m2_history.specs.Parts.{PartsNow}
-use Rattle.m2_history.specs.Woven.{BothNow, ends_of, is_of_link}
-use Rattle.m2_weave.specs.m2_journal.declared.entry.Entry.{Entry}
-use Rattle.m2_weave.specs.m2_journal.declared.entry.Entry.TheVariants as entry
-use Rattle.m2_weave.specs.m2_journal.declared.facts.PlanStep.{PlanStep}
-use Rattle.m2_weave.specs.m2_journal.declared.facts.PlanStep.TheVariants as step
-use Rattle.m2_weave.specs.m2_journal.Items as item
-use Rattle.m2_weave.specs.m2_journal.Items.{JournalItem, Places, Sources, at_start, item_of, items_from, passed}
-use Rattle.m2_weave.specs.m2_journal.Plan.{planned}
+use Rattle.m2_links_go_on.specs.m2_growth.Halves.{all_left}
+use Rattle.m2_links_go_on.specs.m2_growth.Holding.{Holding}
+use Rattle.m2_links_go_on.proofs.m2_growth.Among.{each_by}
+use Rattle.m2_links_go_on.specs.m2_history.Link.{parts_of}
+use Rattle.m2_links_go_on.specs.m2_history.Parts.{PartsNow}
+use Rattle.m2_links_go_on.specs.m2_history.Woven.{BothNow, ends_of, is_of_link}
+use Rattle.m2_links_go_on.specs.m2_weave.m2_journal.declared.entry.Entry.{Entry}
+use Rattle.m2_links_go_on.specs.m2_weave.m2_journal.declared.entry.Entry.TheVariants as entry
+use Rattle.m2_links_go_on.specs.m2_weave.m2_journal.declared.facts.PlanStep.{PlanStep}
+use Rattle.m2_links_go_on.specs.m2_weave.m2_journal.declared.facts.PlanStep.TheVariants as step
+use Rattle.m2_links_go_on.specs.m2_weave.m2_journal.Items as item
+use Rattle.m2_links_go_on.specs.m2_weave.m2_journal.Items.{JournalItem, Places, Sources, at_start, item_of, items_from, passed}
+use Rattle.m2_links_go_on.specs.m2_weave.m2_journal.Plan.{planned}
 use Rattle.m2_links_go_on.specs.LinkLaws.{LinksGoOn, StayingGoesOn}
 use Rattle.m2_links_go_on.specs.Linked.{Nodes, NodesGoOn}
 use Rattle.m2_links_go_on.proofs.LinkRecords.{at_place}
@@ -34,9 +34,9 @@ use Rattle.m2_promise.proofs.Towards as link
 use Rattle.m2_promise.proofs.Towards.{AreTowards, turned}
 use Rattle.m2_bytes_fit.specs.m2_trail.Arrivals.{LooseNow}
 use Rattle.m2_bytes_fit.specs.m2_trail.Trails.{TrailNow, opener_of}
-use Rattle.m2_history.specs.Actors.{Actor, of_half, actors_of_side, is_near, loose_actors, part_of, taken_half, trail_by}
-use Rattle.m2_history.specs.WovenLaws.{RecordsAreSides}
-use Rattle.m2_history.specs.WovenLink.{IsLink, IsLooseBeside, IsSideOf, LinkNow, items_in, same_end, sources_in, trails_of}
+use Rattle.m2_links_go_on.specs.m2_history.Actors.{Actor, of_half, actors_of_side, is_near, loose_actors, part_of, taken_half, trail_by}
+use Rattle.m2_links_go_on.specs.m2_history.WovenLaws.{RecordsAreSides}
+use Rattle.m2_links_go_on.specs.m2_history.WovenLink.{IsLink, IsLooseBeside, IsSideOf, LinkNow, items_in, same_end, sources_in, trails_of}
 use Rattle.m2_promise.specs.Delivered.{MarksNoneDown, PostsInRanges, link_in}
 use Rattle.m2_promise.proofs.Beside as beside
 use Rattle.m2_fabric.proofs.m2_lemmas.Lists.{all_append}

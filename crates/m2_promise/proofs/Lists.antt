@@ -4,8 +4,8 @@ use Rattle.std.specs.Prelude.{slice_get, slice_set}
 use Rattle.std.specs.List.{AllByRecursion, flat_map, list_any}
 use Rattle.m2_fabric.specs.declared.socket.SocketId.{SocketId}
 use Rattle.m2_fabric.specs.Sockets.{is_among, same_socket}
-use Rattle.m2_growth.specs.Halves.{IsOneOf}
-use Rattle.m2_growth.proofs.Among.{of_each, one_back, one_front}
+use Rattle.m2_links_go_on.specs.m2_growth.Halves.{IsOneOf}
+use Rattle.m2_links_go_on.proofs.m2_growth.Among.{of_each, one_back, one_front}
 use Rattle.m2_fabric.proofs.m2_lemmas.Booleans.{false_isnt_true}
 use Rattle.m2_fabric.proofs.Sockets.{same_equal}
 

@@ -5,23 +5,23 @@ use Rattle.m2_channel.specs.Observed.{Logs, all_of}
 use Rattle.m2_channel.specs.ObservedLaws.{AreLogs, AreLogsOf, IsLogOf}
 use Rattle.m2_bytes_fit.specs.Orders.{entries_of}
 use Rattle.m2_bytes_fit.specs.Trails.{TrailsTellEachPoint}
-use Rattle.m2_growth.specs.Holding.{Holding}
-use Rattle.m2_history.specs.HalfStrands.{OrdersGivePoints}
-use Rattle.m2_history.specs.Link.{parts_of}
-use Rattle.m2_weave.specs.m2_journal.Items.{JournalItem}
-use Rattle.m2_weave.specs.m2_journal.Replay.{after_items, replay}
-use Rattle.m2_weave.specs.m2_journal.State.{State, start}
-use Rattle.m2_history.specs.m2_lossy_in_order.Lossy.{AreSomeOf}
+use Rattle.m2_links_go_on.specs.m2_growth.Holding.{Holding}
+use Rattle.m2_links_go_on.specs.m2_history.HalfStrands.{OrdersGivePoints}
+use Rattle.m2_links_go_on.specs.m2_history.Link.{parts_of}
+use Rattle.m2_links_go_on.specs.m2_weave.m2_journal.Items.{JournalItem}
+use Rattle.m2_links_go_on.specs.m2_weave.m2_journal.Replay.{after_items, replay}
+use Rattle.m2_links_go_on.specs.m2_weave.m2_journal.State.{State, start}
+use Rattle.m2_links_go_on.specs.m2_history.m2_lossy_in_order.Lossy.{AreSomeOf}
 use Rattle.m2_channel.specs.m2_never_reset.LinkOf.{letters}
 use Rattle.m2_channel.specs.m2_never_reset.Orders.{IsBroughtOver, IsNeverReset, SideItem, far_after, far_items, near_after, near_items}
 use Rattle.m2_dispatch.specs.m2_queues.OutQueues.{Queue}
 use Rattle.m2_script.specs.m2_record.IsRecord.{IsRecord}
 use Rattle.m2_script.specs.m2_record.RecordNow.{RecordNow, speaks_of}
 use Rattle.m2_promise.specs.Running.{HaveOrders, IsLinkOf, IsRunning, RunNow}
-use Rattle.m2_weave.specs.WeaveLaws.{AsksComeFirst, ReadWasWritten}
-use Rattle.m2_history.specs.WovenLaws.{WovenIsDelivered, WovenIsNeverReset}
-use Rattle.m2_history.specs.WovenLink.{AreUp, IsLink, IsOrderOf, LinkNow, items_by, items_in, order_of}
-use Rattle.m2_history.proofs.Whole.{far_whole, near_whole, by_actors}
+use Rattle.m2_links_go_on.specs.m2_weave.WeaveLaws.{AsksComeFirst, ReadWasWritten}
+use Rattle.m2_links_go_on.specs.m2_history.WovenLaws.{WovenIsDelivered, WovenIsNeverReset}
+use Rattle.m2_links_go_on.specs.m2_history.WovenLink.{AreUp, IsLink, IsOrderOf, LinkNow, items_by, items_in, order_of}
+use Rattle.m2_links_go_on.proofs.m2_history.Whole.{far_whole, near_whole, by_actors}
 use Rattle.m2_promise.specs.Delivered.{AreDeliveredOn, AreLosslessUp, BothLogs, HasAccepted, HasHeardPeer, link_in}
 use Rattle.m2_promise.specs.DeliveryLaws.{LinksHaveOrders, RunsHaveLinks}
 use Rattle.m2_promise.proofs.Links.{far_record, near_record, never_down}

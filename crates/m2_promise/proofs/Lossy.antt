@@ -2,15 +2,15 @@
 use Rattle.std.proofs.Common.{◌≡◌, ℕ, true, false, List}
 use Rattle.m2_bytes_fit.specs.Orders.{entries_of}
 use Rattle.m2_bytes_fit.specs.Trails.{TrailsTellEachPoint}
-use Rattle.m2_growth.specs.Holding.{Holding}
-use Rattle.m2_history.specs.HalfStrands.{OrdersGivePoints}
+use Rattle.m2_links_go_on.specs.m2_growth.Holding.{Holding}
+use Rattle.m2_links_go_on.specs.m2_history.HalfStrands.{OrdersGivePoints}
 use Rattle.m2_channel.specs.m2_never_reset.Orders.{far_items, near_items}
 use Rattle.m2_script.specs.m2_record.RecordNow.{RecordNow}
 use Rattle.m2_promise.specs.Running.{HaveOrders, IsLinkOf, IsRunning, RunNow}
-use Rattle.m2_weave.specs.WeaveLaws.{AsksComeFirst, ReadWasWritten}
-use Rattle.m2_history.specs.WovenLink.{IsLink, IsOrderOf, LinkNow, items_by, order_of}
-use Rattle.m2_history.specs.Lossy.{AreSomeLogs, WovenComesInOrder}
-use Rattle.m2_history.proofs.Whole.{far_whole, near_whole, by_actors}
+use Rattle.m2_links_go_on.specs.m2_weave.WeaveLaws.{AsksComeFirst, ReadWasWritten}
+use Rattle.m2_links_go_on.specs.m2_history.WovenLink.{IsLink, IsOrderOf, LinkNow, items_by, order_of}
+use Rattle.m2_links_go_on.specs.m2_history.Lossy.{AreSomeLogs, WovenComesInOrder}
+use Rattle.m2_links_go_on.proofs.m2_history.Whole.{far_whole, near_whole, by_actors}
 use Rattle.m2_promise.specs.Delivered.{BothLogs, link_in}
 use Rattle.m2_promise.specs.DeliveryLaws.{LinksHaveOrders, RunsHaveLinks}
 use Rattle.m2_promise.specs.Lossy.{AreLossyHeard, ComeInOrderOn}

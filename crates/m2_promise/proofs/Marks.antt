@@ -3,18 +3,18 @@ use Rattle.std.proofs.Common.{◌≡◌, ℕ, ◌+◌, Bool, true, false, ◌&&�
 use Rattle.std.specs.Prelude.{slice_get}
 use Rattle.std.specs.List.{list_any}
 use Rattle.std.proofs.lemmas.List.{drop-map}
-use Rattle.m2_weave.specs.m2_journal.declared.entry.Entry.{Entry}
-use Rattle.m2_weave.specs.m2_journal.declared.entry.Entry.TheVariants as entry
-use Rattle.m2_weave.specs.m2_journal.declared.facts.PlanStep.{PlanStep}
-use Rattle.m2_weave.specs.m2_journal.declared.facts.PlanStep.TheVariants as step
-use Rattle.m2_weave.specs.m2_journal.Items as item
-use Rattle.m2_weave.specs.m2_journal.Items.{Places, Sources, at_start, items_from, passed, passed_by}
-use Rattle.m2_weave.specs.m2_journal.Lawful.{IsDial, IsDown, IsPost}
-use Rattle.m2_weave.specs.m2_journal.Plan.{Planned, planned, to_dial, to_go_down, to_post}
-use Rattle.m2_weave.specs.m2_journal.Replay.{AreLawful}
-use Rattle.m2_weave.specs.m2_journal.SideFacts.{SideFacts}
-use Rattle.m2_weave.specs.m2_journal.State.{State, start}
-use Rattle.m2_weave.specs.m2_journal.Steps.{after}
+use Rattle.m2_links_go_on.specs.m2_weave.m2_journal.declared.entry.Entry.{Entry}
+use Rattle.m2_links_go_on.specs.m2_weave.m2_journal.declared.entry.Entry.TheVariants as entry
+use Rattle.m2_links_go_on.specs.m2_weave.m2_journal.declared.facts.PlanStep.{PlanStep}
+use Rattle.m2_links_go_on.specs.m2_weave.m2_journal.declared.facts.PlanStep.TheVariants as step
+use Rattle.m2_links_go_on.specs.m2_weave.m2_journal.Items as item
+use Rattle.m2_links_go_on.specs.m2_weave.m2_journal.Items.{Places, Sources, at_start, items_from, passed, passed_by}
+use Rattle.m2_links_go_on.specs.m2_weave.m2_journal.Lawful.{IsDial, IsDown, IsPost}
+use Rattle.m2_links_go_on.specs.m2_weave.m2_journal.Plan.{Planned, planned, to_dial, to_go_down, to_post}
+use Rattle.m2_links_go_on.specs.m2_weave.m2_journal.Replay.{AreLawful}
+use Rattle.m2_links_go_on.specs.m2_weave.m2_journal.SideFacts.{SideFacts}
+use Rattle.m2_links_go_on.specs.m2_weave.m2_journal.State.{State, start}
+use Rattle.m2_links_go_on.specs.m2_weave.m2_journal.Steps.{after}
 use Rattle.m2_promise.specs.Planned.{IsTaken}
 use Rattle.m2_promise.specs.Posted.{is_down_of, is_given_up}
 use Rattle.m2_promise.proofs.PostedPlans.{next_of, none_of, planned_by, settled}

@@ -3,7 +3,7 @@ use Rattle.std.proofs.Common.{◌≡◌, ℕ, List, [], ◌∷◌, ◌++◌, map
 use Rattle.std.specs.List.{AllByRecursion}
 use Rattle.m2_dispatch.specs.Heard.{Heard}
 use Rattle.m2_dispatch.specs.Dispatch.{Queued}
-use Rattle.m2_weave.specs.m2_journal.SideFacts.{SideFacts}
+use Rattle.m2_links_go_on.specs.m2_weave.m2_journal.SideFacts.{SideFacts}
 use Rattle.m2_script.specs.m2_record.Due.{next_step}
 use Rattle.m2_script.specs.m2_record.IsRecord.{IsRecord}
 use Rattle.m2_script.specs.m2_record.RecordNow.{RecordNow}
@@ -11,8 +11,8 @@ use Rattle.m2_script.specs.m2_center.m2_turn.Outbox.{OutboxNow}
 use Rattle.m2_script.specs.m2_center.Center.{CenterNow}
 use Rattle.m2_script.specs.m2_center.Reaching.{rest_in, untold_record}
 use Rattle.m2_script.specs.m2_cluster.Node.{IsWholeNode, NodeNow, NodeTurns, rest_of_node}
-use Rattle.m2_growth.specs.Holding.{AreOwn}
-use Rattle.m2_growth.specs.Records.{RecordsGrow}
+use Rattle.m2_links_go_on.specs.m2_growth.Holding.{AreOwn}
+use Rattle.m2_links_go_on.specs.m2_growth.Records.{RecordsGrow}
 use Rattle.m2_links_go_on.specs.Center.{holding_of}
 use Rattle.m2_links_go_on.specs.ClusterTold.{OneByOne, SameRecord}
 use Rattle.m2_links_go_on.proofs.Turning.{turn_grows}

@@ -1,8 +1,8 @@
 -- Where nothing is told all is the same.
 use Rattle.std.proofs.Common.{◌≡◌, ℕ, List, [], ◌∷◌, None, refl, sym, subst}
 use Rattle.m2_links_go_on.specs.ClusterTold.{OneByOne, SameHalf, SameRecord}
-use Rattle.m2_growth.specs.Halves.{all_left}
-use Rattle.m2_growth.specs.Holding.{Holding}
+use Rattle.m2_links_go_on.specs.m2_growth.Halves.{all_left}
+use Rattle.m2_links_go_on.specs.m2_growth.Holding.{Holding}
 use Rattle.m2_script.specs.m2_record.RecordNow.{RecordNow}
 use Rattle.m2_promise.specs.Running.{IsRunning, RunNow}
 use Rattle.m2_fabric.specs.SimFabric.{Flows, Passes, flow_of}

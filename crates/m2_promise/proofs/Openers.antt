@@ -7,39 +7,39 @@ use Rattle.m2_fabric.specs.m2_addr.declared.addr.Addr.{Addr}
 use Rattle.m2_fabric.specs.declared.socket.SocketId.{SocketId}
 use Rattle.m2_fabric.specs.End.{SeenEnd}
 use Rattle.m2_fabric.specs.Sockets.{goes_to, is_among, same_socket}
-use Rattle.m2_growth.specs.Halves.{AskedTowards, HasItsHalves, IsOneOf, all_left, asked_on, sockets_left, sockets_taken}
-use Rattle.m2_growth.specs.Holding.{Holding, IsToCome, LeadsElsewhere, all_ends, ends_held, waiting_at}
-use Rattle.m2_growth.specs.Records.{ends_of_all}
-use Rattle.m2_growth.proofs.Among.{of_each, one_front, whose}
-use Rattle.m2_growth.proofs.Ends.{end_append, first_of}
-use Rattle.m2_weave.specs.m2_handshake.Asks.{same_addr}
-use Rattle.m2_history.proofs.Kept.{records_are_kept}
-use Rattle.m2_history.specs.Link.{IsKeptHalf, end_ids, parts_of}
-use Rattle.m2_weave.specs.m2_journal.declared.entry.Entry.{Entry}
-use Rattle.m2_weave.specs.m2_journal.declared.entry.Entry.TheVariants as entry
-use Rattle.m2_weave.specs.m2_journal.Items.{at_start}
-use Rattle.m2_weave.specs.m2_journal.State.{start}
+use Rattle.m2_links_go_on.specs.m2_growth.Halves.{AskedTowards, HasItsHalves, IsOneOf, all_left, asked_on, sockets_left, sockets_taken}
+use Rattle.m2_links_go_on.specs.m2_growth.Holding.{Holding, IsToCome, LeadsElsewhere, all_ends, ends_held, waiting_at}
+use Rattle.m2_links_go_on.specs.m2_growth.Records.{ends_of_all}
+use Rattle.m2_links_go_on.proofs.m2_growth.Among.{of_each, one_front, whose}
+use Rattle.m2_links_go_on.proofs.m2_growth.Ends.{end_append, first_of}
+use Rattle.m2_links_go_on.specs.m2_weave.m2_handshake.Asks.{same_addr}
+use Rattle.m2_links_go_on.proofs.m2_history.Kept.{records_are_kept}
+use Rattle.m2_links_go_on.specs.m2_history.Link.{IsKeptHalf, end_ids, parts_of}
+use Rattle.m2_links_go_on.specs.m2_weave.m2_journal.declared.entry.Entry.{Entry}
+use Rattle.m2_links_go_on.specs.m2_weave.m2_journal.declared.entry.Entry.TheVariants as entry
+use Rattle.m2_links_go_on.specs.m2_weave.m2_journal.Items.{at_start}
+use Rattle.m2_links_go_on.specs.m2_weave.m2_journal.State.{start}
 use Rattle.m2_script.specs.m2_record.IsRecord.{IsRecord, feeds_in}
 use Rattle.m2_script.specs.m2_record.RecordNow.{RecordNow, ends_of, ids_of}
 use Rattle.m2_script.specs.m2_record.Sources.{end_at}
 use Rattle.m2_script.specs.m2_record.TakenTrails.{taken_in}
-use Rattle.m2_weave.specs.m2_session.SessionLaws.{takes}
+use Rattle.m2_links_go_on.specs.m2_weave.m2_session.SessionLaws.{takes}
 use Rattle.m2_fabric.specs.Meeting.{comes_from}
 use Rattle.m2_script.specs.m2_center.m2_turn.Hearing.{ends_in}
 use Rattle.m2_script.specs.m2_center.m2_turn.Sessions.{peer_of}
 use Rattle.m2_bytes_fit.specs.m2_trail.Arrivals.{LooseNow}
 use Rattle.m2_bytes_fit.specs.m2_trail.Trails.{TrailNow}
-use Rattle.m2_weave.specs.Strands.{has_opened, journal_of}
-use Rattle.m2_history.specs.WovenLink.{sources_in}
-use Rattle.m2_history.proofs.Journals.{opened_leads}
-use Rattle.m2_history.proofs.Whole.{records_are_sides}
+use Rattle.m2_links_go_on.specs.m2_weave.Strands.{has_opened, journal_of}
+use Rattle.m2_links_go_on.specs.m2_history.WovenLink.{sources_in}
+use Rattle.m2_links_go_on.proofs.m2_history.Journals.{opened_leads}
+use Rattle.m2_links_go_on.proofs.m2_history.Whole.{records_are_sides}
 use Rattle.m2_links_go_on.proofs.Nodes as node
 use Rattle.m2_links_go_on.proofs.Nodes.{ends_of_left, end_among}
 use Rattle.m2_links_go_on.proofs.LinkRecords.{HasOne, ends_feeds, feed_kind, has_one}
 use Rattle.m2_links_go_on.proofs.Standing.{taken_asked}
 use Rattle.m2_promise.specs.Running.{IsNodeAt, IsOfPort, IsRecordAt}
 use Rattle.m2_promise.proofs.Lists.{flat_one, image_of, of_among}
-use Rattle.m2_weave.proofs.m2_handshake.Idents.{same_self}
+use Rattle.m2_links_go_on.proofs.m2_weave.m2_handshake.Idents.{same_self}
 use Rattle.m2_fabric.proofs.Sockets.{among_part, same_equal}
 use Rattle.m2_fabric.proofs.m2_lemmas.Booleans.{false_isnt_true}
 use Rattle.m2_fabric.proofs.m2_lemmas.Lists.{all_of_map}

@@ -3,13 +3,13 @@ use Rattle.std.proofs.Common.{◌≡◌, ℕ, zero, suc, List, [], ◌∷◌, �
 use Rattle.std.specs.Prelude.{slice_get}
 use Rattle.std.specs.List.{AllByRecursion, IsDistinct}
 use Rattle.m2_fabric.specs.End.{SeenEnd}
-use Rattle.m2_growth.specs.Halves.{IsOneOf, all_left}
-use Rattle.m2_growth.specs.Holding.{Holding}
-use Rattle.m2_growth.specs.Records.{RecordGrows, RecordsGrow}
-use Rattle.m2_growth.proofs.Among.{mapped_one, of_each, one_back, one_front}
-use Rattle.m2_history.specs.Link.{both_of}
-use Rattle.m2_history.specs.Woven as woven
-use Rattle.m2_history.specs.Woven.{BothNow, EndNow, bytes_at, end_of, half_end, knows, loose_ends}
+use Rattle.m2_links_go_on.specs.m2_growth.Halves.{IsOneOf, all_left}
+use Rattle.m2_links_go_on.specs.m2_growth.Holding.{Holding}
+use Rattle.m2_links_go_on.specs.m2_growth.Records.{RecordGrows, RecordsGrow}
+use Rattle.m2_links_go_on.proofs.m2_growth.Among.{mapped_one, of_each, one_back, one_front}
+use Rattle.m2_links_go_on.specs.m2_history.Link.{both_of}
+use Rattle.m2_links_go_on.specs.m2_history.Woven as woven
+use Rattle.m2_links_go_on.specs.m2_history.Woven.{BothNow, EndNow, bytes_at, end_of, half_end, knows, loose_ends}
 use Rattle.m2_links_go_on.specs.LinkLaws.{LinksAreWoven, LinksGoOn, StayingGoesOn}
 use Rattle.m2_links_go_on.specs.Linked.{NodeGoesOn, NodeNow, Nodes, NodesGoOn, link_at}
 use Rattle.m2_links_go_on.proofs.Ends.{IsFrom, from_end, nothing}
@@ -20,9 +20,9 @@ use Rattle.m2_links_go_on.proofs.LinkTurns as turns
 use Rattle.m2_script.specs.m2_record.RecordNow.{RecordNow, ends_of}
 use Rattle.m2_bytes_fit.specs.m2_trail.Arrivals.{LooseNow}
 use Rattle.m2_links_go_on.specs.Sides.{woven_now}
-use Rattle.m2_weave.specs.TurnLaws.{HasOrder}
-use Rattle.m2_weave.specs.Later.{GoesOn, HadFlowed}
-use Rattle.m2_history.specs.WovenLink.{same_end}
+use Rattle.m2_links_go_on.specs.m2_weave.TurnLaws.{HasOrder}
+use Rattle.m2_links_go_on.specs.m2_weave.Later.{GoesOn, HadFlowed}
+use Rattle.m2_links_go_on.specs.m2_history.WovenLink.{same_end}
 use Rattle.m2_promise.specs.Running.{HaveOrders, IsLinkOf, IsRunning, NodeActs, RunNow}
 use Rattle.m2_promise.proofs.Acting.{by_place}
 use Rattle.m2_promise.proofs.Flowing as flowing

@@ -5,7 +5,7 @@ use Rattle.m2_fabric.specs.m2_addr.declared.addr.Addr.{Addr}
 use Rattle.m2_fabric.specs.declared.socket.SocketId.{SocketId}
 use Rattle.m2_fabric.specs.Holder.{EndName}
 use Rattle.m2_fabric.specs.Sockets.{same_socket}
-use Rattle.m2_growth.proofs.Entering.{AllSo, or_second, with_so}
+use Rattle.m2_links_go_on.proofs.m2_growth.Entering.{AllSo, or_second, with_so}
 use Rattle.m2_fabric.specs.Kept.{SeenPair, directions, fresh_kept, is_kept, joins, reader, same_end, with_kept, writer}
 use Rattle.m2_fabric.specs.Meeting.{acceptor, all_entered, arrivals, arrivals_at, entered, is_one_of, kept_towards}
 use Rattle.m2_fabric.specs.News.{Logs, kept_after, pair_after}
@@ -13,7 +13,7 @@ use Rattle.m2_fabric.proofs.Arriving.{any-append}
 use Rattle.m2_fabric.proofs.Entering.{unkept_before}
 use Rattle.m2_fabric.proofs.Flowing.{directions_after}
 use Rattle.m2_fabric.proofs.Told.{end_equal}
-use Rattle.m2_growth.proofs.Telling.{behind}
+use Rattle.m2_links_go_on.proofs.m2_growth.Telling.{behind}
 use Rattle.m2_fabric.proofs.m2_lemmas.Booleans.{false_isnt_true}
 use Rattle.m2_fabric.proofs.Sockets.{same_refl}
 

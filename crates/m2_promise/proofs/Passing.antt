@@ -8,11 +8,11 @@ use Rattle.m2_fabric.specs.declared.socket.SocketId.{SocketId}
 use Rattle.m2_fabric.specs.End.{fresh_end}
 use Rattle.m2_fabric.specs.Holder.{EndName, SeenHolder, may_come}
 use Rattle.m2_fabric.specs.Sockets.{goes_to, is_among}
-use Rattle.m2_growth.specs.Holding.{Holding, all_ends}
-use Rattle.m2_growth.specs.InStepLaws.{AreMet, FaultsStayMet, FlowsStayMet, MeetingsStayMet}
-use Rattle.m2_growth.proofs.Entering.{AllSo}
-use Rattle.m2_weave.specs.m2_journal.State.{Judgement}
-use Rattle.m2_weave.specs.m2_journal.SideFacts.{SideFacts}
+use Rattle.m2_links_go_on.specs.m2_growth.Holding.{Holding, all_ends}
+use Rattle.m2_links_go_on.specs.m2_growth.InStepLaws.{AreMet, FaultsStayMet, FlowsStayMet, MeetingsStayMet}
+use Rattle.m2_links_go_on.proofs.m2_growth.Entering.{AllSo}
+use Rattle.m2_links_go_on.specs.m2_weave.m2_journal.State.{Judgement}
+use Rattle.m2_links_go_on.specs.m2_weave.m2_journal.SideFacts.{SideFacts}
 use Rattle.m2_script.specs.m2_record.RecordNow.{RecordNow}
 use Rattle.m2_script.specs.m2_record.Sources.{end_at}
 use Rattle.m2_script.specs.m2_record.TakenTrails.{judgements_in}

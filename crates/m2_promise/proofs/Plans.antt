@@ -7,8 +7,8 @@ use Rattle.std.proofs.lemmas.List.Quantifiers.{position-Some}
 use Rattle.std.proofs.lemmas.Option.{get_or_from_slice_get}
 use Rattle.m2_dispatch.specs.Heard.{Heard}
 use Rattle.m2_dispatch.specs.Dispatch.{Queued}
-use Rattle.m2_weave.specs.m2_journal.declared.facts.PlanStep.{PlanStep}
-use Rattle.m2_weave.specs.m2_journal.declared.facts.PlanStep.TheVariants as step
+use Rattle.m2_links_go_on.specs.m2_weave.m2_journal.declared.facts.PlanStep.{PlanStep}
+use Rattle.m2_links_go_on.specs.m2_weave.m2_journal.declared.facts.PlanStep.TheVariants as step
 use Rattle.m2_script.specs.m2_record.Calls.{TakesNext, planned_too}
 use Rattle.m2_script.specs.m2_record.RecordNow.{RecordNow}
 use Rattle.m2_script.specs.m2_center.m2_turn.Outbox.{OutboxNow}
@@ -16,7 +16,7 @@ use Rattle.m2_script.specs.m2_center.m2_turn.Planning.{TakesNew}
 use Rattle.m2_script.specs.m2_center.Center.{CenterNow}
 use Rattle.m2_script.specs.m2_center.Plans.{is_towards}
 use Rattle.m2_script.specs.m2_cluster.Node.{IsWholeNode, NodeNow, NodePlans}
-use Rattle.m2_growth.specs.Holding.{AreOwn}
+use Rattle.m2_links_go_on.specs.m2_growth.Holding.{AreOwn}
 use Rattle.m2_links_go_on.specs.Center.{holding_of}
 use Rattle.m2_links_go_on.specs.ClusterTold.{OneByOne}
 use Rattle.m2_links_go_on.specs.Logged.{AreOfTheirPeers}

@@ -5,7 +5,7 @@ use Rattle.std.specs.Prelude.{IsSome, is_some}
 use Rattle.m2_dispatch.specs.Heard.{Heard}
 use Rattle.m2_fabric.specs.declared.socket.SocketId.{SocketId}
 use Rattle.m2_fabric.specs.Sockets.{is_among}
-use Rattle.m2_weave.specs.m2_journal.declared.facts.PlanStep.{PlanStep}
+use Rattle.m2_links_go_on.specs.m2_weave.m2_journal.declared.facts.PlanStep.{PlanStep}
 use Rattle.m2_script.specs.m2_record.RecordNow.{ids_of}
 use Rattle.m2_script.specs.m2_record.Sources.{end_at}
 use Rattle.m2_dispatch.specs.m2_shared.Place.{Place}
@@ -18,12 +18,12 @@ use Rattle.m2_script.specs.m2_cluster.Cluster.{ClusterNow, OneDoes, address_of, 
 use Rattle.m2_script.specs.m2_cluster.Node.{NodeNow, end_in, has_in, waits_in}
 use Rattle.m2_links_go_on.specs.Center.{holding_of}
 use Rattle.m2_links_go_on.proofs.Turning.{accepts, answers, plan_grows, steps}
-use Rattle.m2_growth.specs.Holding.{AreOwn, all_ends}
-use Rattle.m2_growth.specs.Passed.{AllPortsStand}
-use Rattle.m2_growth.specs.Ports.{PortStands, waits_there}
-use Rattle.m2_growth.proofs.Accepted.{accepts_stand}
-use Rattle.m2_growth.proofs.Dialled.{records_stand}
-use Rattle.m2_growth.proofs.InStepStanding.{Stands, both_by, both_then, stands_same, waits_still}
+use Rattle.m2_links_go_on.specs.m2_growth.Holding.{AreOwn, all_ends}
+use Rattle.m2_links_go_on.specs.m2_growth.Passed.{AllPortsStand}
+use Rattle.m2_links_go_on.specs.m2_growth.Ports.{PortStands, waits_there}
+use Rattle.m2_links_go_on.proofs.m2_growth.Accepts.{accepts_stand}
+use Rattle.m2_links_go_on.proofs.m2_growth.Dialled.{records_stand}
+use Rattle.m2_links_go_on.proofs.m2_growth.InStepStanding.{Stands, both_by, both_then, stands_same, waits_still}
 use Rattle.m2_promise.proofs.KeptLists.{of_set}
 use Rattle.m2_links_go_on.proofs.OneGrows.{same_waiting}
 

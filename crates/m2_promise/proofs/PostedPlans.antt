@@ -8,18 +8,18 @@ use Rattle.std.proofs.lemmas.Option.{none-some, same_Some}
 use Rattle.m2_promise.specs.Delivered.{PostsInRanges}
 use Rattle.m2_dispatch.specs.Heard.{is_key}
 use Rattle.m2_bytes_fit.specs.Posts.{IsOfTypes}
-use Rattle.m2_weave.specs.m2_journal.declared.entry.Entry.{Entry}
-use Rattle.m2_weave.specs.m2_journal.declared.entry.Entry.TheVariants as entry
-use Rattle.m2_weave.specs.m2_journal.declared.facts.PlanStep.{PlanStep}
-use Rattle.m2_weave.specs.m2_journal.declared.facts.PlanStep.TheVariants as step
-use Rattle.m2_weave.specs.m2_journal.Items as item
-use Rattle.m2_weave.specs.m2_journal.Items.{Places, Sources, at_start, items_from, items_of, passed, passed_by}
-use Rattle.m2_weave.specs.m2_journal.Lawful.{IsDial, IsDown, IsPost}
-use Rattle.m2_weave.specs.m2_journal.Plan.{Planned, planned, to_dial, to_go_down, to_post}
-use Rattle.m2_weave.specs.m2_journal.Replay.{AreLawful}
-use Rattle.m2_weave.specs.m2_journal.SideFacts.{SideFacts}
-use Rattle.m2_weave.specs.m2_journal.State.{State, start}
-use Rattle.m2_weave.specs.m2_journal.Steps.{after}
+use Rattle.m2_links_go_on.specs.m2_weave.m2_journal.declared.entry.Entry.{Entry}
+use Rattle.m2_links_go_on.specs.m2_weave.m2_journal.declared.entry.Entry.TheVariants as entry
+use Rattle.m2_links_go_on.specs.m2_weave.m2_journal.declared.facts.PlanStep.{PlanStep}
+use Rattle.m2_links_go_on.specs.m2_weave.m2_journal.declared.facts.PlanStep.TheVariants as step
+use Rattle.m2_links_go_on.specs.m2_weave.m2_journal.Items as item
+use Rattle.m2_links_go_on.specs.m2_weave.m2_journal.Items.{Places, Sources, at_start, items_from, items_of, passed, passed_by}
+use Rattle.m2_links_go_on.specs.m2_weave.m2_journal.Lawful.{IsDial, IsDown, IsPost}
+use Rattle.m2_links_go_on.specs.m2_weave.m2_journal.Plan.{Planned, planned, to_dial, to_go_down, to_post}
+use Rattle.m2_links_go_on.specs.m2_weave.m2_journal.Replay.{AreLawful}
+use Rattle.m2_links_go_on.specs.m2_weave.m2_journal.SideFacts.{SideFacts}
+use Rattle.m2_links_go_on.specs.m2_weave.m2_journal.State.{State, start}
+use Rattle.m2_links_go_on.specs.m2_weave.m2_journal.Steps.{after}
 use Rattle.m2_message.specs.Message.{Content, content_of}
 use Rattle.m2_scenario.specs.Order.{is_post_between, key_of, posts_between, posts_of}
 use Rattle.m2_channel.specs.m2_never_reset.Orders.{posted_in, posts_in}

@@ -12,10 +12,10 @@ use Rattle.m2_links_go_on.specs.Center.{holding_of}
 use Rattle.m2_promise.specs.Delivered.{HasHeardPeer, MarksNoneDown, PostsInRanges}
 use Rattle.m2_dispatch.specs.declared.logged.Logged.{Logged}
 use Rattle.m2_dispatch.specs.Heard.{heard_by}
-use Rattle.m2_growth.specs.Halves.{IsOneOf}
-use Rattle.m2_growth.proofs.Among.{of_each}
-use Rattle.m2_weave.specs.m2_journal.Items.{items_of}
-use Rattle.m2_weave.specs.m2_journal.State.{State}
+use Rattle.m2_links_go_on.specs.m2_growth.Halves.{IsOneOf}
+use Rattle.m2_links_go_on.proofs.m2_growth.Among.{of_each}
+use Rattle.m2_links_go_on.specs.m2_weave.m2_journal.Items.{items_of}
+use Rattle.m2_links_go_on.specs.m2_weave.m2_journal.State.{State}
 use Rattle.m2_promise.specs.Started.{IsKept}
 use Rattle.m2_links_go_on.specs.LogLaws.{logging_in}
 use Rattle.m2_links_go_on.specs.Logged.{logs_in}

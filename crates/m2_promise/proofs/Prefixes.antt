@@ -6,7 +6,7 @@ use Rattle.m2_channel.specs.Channel as channel
 use Rattle.m2_channel.specs.Observed.{heard_from}
 use Rattle.m2_channel.specs.m2_never_reset.Order.{AreFirstOf}
 use Rattle.m2_dispatch.specs.Heard.{Heard, is_message_from, message, reset}
-use Rattle.m2_weave.specs.m2_journal.SideFacts.{SideFacts}
+use Rattle.m2_links_go_on.specs.m2_weave.m2_journal.SideFacts.{SideFacts}
 use Rattle.m2_message.specs.Message.{Content, unnumbered}
 use Rattle.m2_scenario.specs.Order.{AreSame, IsPrefixOf}
 use Rattle.m2_channel.specs.m2_never_reset.Orders as orders

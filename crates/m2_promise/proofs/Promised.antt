@@ -11,8 +11,8 @@ use Rattle.std.proofs.lemmas.Option.{slice_get_past, none-some, same_Some}
 use Rattle.m2_script.specs.m2_cluster.Node.{NodeNow}
 use Rattle.m2_dispatch.specs.declared.logged.Logged.{Logged}
 use Rattle.m2_dispatch.specs.Heard.{Heard, heard_by, is_message_from, of_key, peer_of}
-use Rattle.m2_growth.specs.Halves.{IsOneOf}
-use Rattle.m2_growth.proofs.Among.{each_by, of_each}
+use Rattle.m2_links_go_on.specs.m2_growth.Halves.{IsOneOf}
+use Rattle.m2_links_go_on.proofs.m2_growth.Among.{each_by, of_each}
 use Rattle.m2_promise.specs.Started.{IsKept}
 use Rattle.m2_scenario.specs.Order.{AreOfJoined, HearsNoReset, HearsPrefix, HearsWhole, IsPeer, at, fast_of, messages_between, posts_between, posts_of}
 use Rattle.m2_promise.specs.Planned.{IsKeptNode, IsPeerOf}
@@ -32,7 +32,7 @@ use Rattle.m2_scenario.specs.Valid.{IsLink, IsSound}
 use Rattle.m2_script.specs.Outcome.{all_heard, heard_at, heard_of_node, is_down_at, is_lossless, is_up, left_from, left_in, left_over, messages_at, of_node, posts_at}
 use Rattle.m2_script.specs.Script.{RunNow}
 use Rattle.m2_promise.specs.StartLaws.{PlansAreOfLines}
-use Rattle.m2_history.specs.WovenLink.{IsOrderOf}
+use Rattle.m2_links_go_on.specs.m2_history.WovenLink.{IsOrderOf}
 use Rattle.m2_fabric.proofs.m2_lemmas.Booleans.{from_false_true, negated_is_false}
 use Rattle.m2_fabric.proofs.m2_lemmas.Lists.{all_so}
 

@@ -16,7 +16,7 @@ use Rattle.m2_script.specs.m2_center.m2_turn.declared.records_turn.RecordsTurn.T
 use Rattle.m2_script.specs.m2_center.m2_turn.Outbox.{OutboxNow, is_free}
 use Rattle.m2_script.specs.m2_center.m2_turn.RecordTurn.{EndsBy, Means, PutsHanded, Steps, TakesStep, Turning, TurnsAs, worked_by}
 use Rattle.m2_script.specs.m2_center.m2_turn.RecordsTurn.{AllAmid, Amid, Around, EachTurns, TurnsEach, TurnsIf, amid, at_port, sides_of, turning_amid}
-use Rattle.m2_growth.proofs.Steps as growth
+use Rattle.m2_links_go_on.proofs.m2_growth.Steps as growth
 use Rattle.m2_script.proofs.m2_center.m2_turn.Handed.{StepHands, steps}
 use Rattle.m2_script.proofs.m2_center.m2_turn.Steady.{dialled_steady}
 use Rattle.m2_promise.proofs.Planned.{KeepPlans, KeepsPlan, planned_of, steady_plan}

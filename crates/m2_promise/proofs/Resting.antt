@@ -1,7 +1,7 @@
 -- A run stays at rest behind each of its deeds.
 use Rattle.std.proofs.Common.{ℕ, sym, subst}
-use Rattle.m2_growth.specs.InStepLaws.{CallsKeepEnds, TurnsKeepEnds}
-use Rattle.m2_growth.specs.Passed.{AllPortsStand, HasItsEnds}
+use Rattle.m2_links_go_on.specs.m2_growth.InStepLaws.{CallsKeepEnds, TurnsKeepEnds}
+use Rattle.m2_links_go_on.specs.m2_growth.Passed.{AllPortsStand, HasItsEnds}
 use Rattle.m2_promise.specs.RunLaws.{ActingKeepsOrders, ActingKeepsRunning}
 use Rattle.m2_promise.specs.Running.{IsRunning, NodeActs, RunNow}
 use Rattle.m2_fabric.specs.InStep.{SeenFabric}

@@ -7,7 +7,7 @@ use Rattle.m2_script.specs.m2_cluster.Node.{NodeNow}
 use Rattle.m2_links_go_on.specs.ClusterTold.{OneByOne, SameNode, SameRecord}
 use Rattle.m2_links_go_on.specs.ToldLaws.{ToldClusterIsSame}
 use Rattle.m2_bytes_fit.specs.Halves.{KeepsRanges}
-use Rattle.m2_weave.specs.m2_journal.SideFacts.{SideFacts}
+use Rattle.m2_links_go_on.specs.m2_weave.m2_journal.SideFacts.{SideFacts}
 use Rattle.m2_script.specs.m2_record.RecordNow.{RecordNow}
 use Rattle.m2_promise.specs.Running.{IsOfPort, IsRecordAt}
 use Rattle.m2_promise.specs.PassingLaws.{HearingStaysAt, ToldNodesHear}
@@ -44,10 +44,11 @@ records_stay addrs i (r ∷ rs) [] same all = absurd same
 records_stay addrs i (r ∷ rs) (s ∷ ss) same all = (record_stays addrs i r s same.0 all.0, records_stay addrs i rs ss same.1 all.1)
 
 pub stays_at : HearingStaysAt
-stays_at addrs i old new same node unused at = record {
+stays_at addrs i old new same node memory unused at = record {
   node = node;
   at = at.at ∙ ap Some (sym same.at);
   records = records_stay addrs i old.records new.records same.records at.records;
+  in_memory = memory;
   made = subst (λ a. AllByRecursion (IsOfPort a) new.port.made) (sym same.at) (subst (λ ks. AllByRecursion (IsOfPort old.port.at) ks) (sym same.made) at.made);
   waiting = unused;
 }

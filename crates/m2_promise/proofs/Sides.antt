@@ -5,9 +5,9 @@ use Rattle.std.specs.List.{list_any}
 use Rattle.std.specs.Option.{option_to_list}
 use Rattle.std.proofs.lemmas.Bool.{eq-eqb, eqb-true}
 use Rattle.std.proofs.lemmas.Option.{none-some, same_Some, slice_get_within}
-use Rattle.m2_growth.specs.Halves.{IsOneOf}
-use Rattle.m2_growth.proofs.Among.{in_part, mapped_one, one_back, one_front}
-use Rattle.m2_weave.specs.m2_journal.SideFacts.{SideFacts}
+use Rattle.m2_links_go_on.specs.m2_growth.Halves.{IsOneOf}
+use Rattle.m2_links_go_on.proofs.m2_growth.Among.{in_part, mapped_one, one_back, one_front}
+use Rattle.m2_links_go_on.specs.m2_weave.m2_journal.SideFacts.{SideFacts}
 use Rattle.m2_scenario.specs.Order.{IsPeer}
 use Rattle.m2_script.specs.m2_record.IsRecord.{new_record}
 use Rattle.m2_script.specs.m2_record.RecordNow.{RecordNow}

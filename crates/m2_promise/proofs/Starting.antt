@@ -9,18 +9,18 @@ use Rattle.m2_fabric.specs.declared.socket.SocketId.{SocketId}
 use Rattle.m2_fabric.specs.End.{SeenEnd}
 use Rattle.m2_fabric.specs.Log.{nothing_done}
 use Rattle.m2_fabric.specs.Sockets.{goes_to, is_among}
-use Rattle.m2_growth.specs.Ends.{AreOfTheirOwn}
-use Rattle.m2_growth.specs.Halves.{AskedOnMade, AskedTowards, HasItsHalves, IsHeardBy, JudgeApart, OneJudge, all_left, asked_on}
-use Rattle.m2_growth.specs.Holding.{AreOwn, HaveTheirHalves, Holding, IsToCome, LeadsElsewhere, all_ends, ends_held, waiting_at}
-use Rattle.m2_growth.specs.Records.{IsFed, ends_of_all}
-use Rattle.m2_growth.proofs.Ends.{own_none}
-use Rattle.m2_growth.proofs.Fed.{record_fed}
-use Rattle.m2_history.specs.Link.{IsWholeHalf, both_of, parts_of}
-use Rattle.m2_history.specs.Parts.{PartsNow}
-use Rattle.m2_history.specs.Woven.{BothNow}
-use Rattle.m2_growth.specs.Turn.{AllCameOfPut, HaveEnds}
-use Rattle.m2_weave.specs.m2_journal.declared.entry.Entry.{Entry}
-use Rattle.m2_weave.specs.m2_journal.State.{Judgement}
+use Rattle.m2_links_go_on.specs.m2_growth.Ends.{AreOfTheirOwn}
+use Rattle.m2_links_go_on.specs.m2_growth.Halves.{AskedOnMade, AskedTowards, HasItsHalves, IsHeardBy, JudgeApart, OneJudge, all_left, asked_on}
+use Rattle.m2_links_go_on.specs.m2_growth.Holding.{AreOwn, HaveTheirHalves, Holding, IsToCome, LeadsElsewhere, all_ends, ends_held, waiting_at}
+use Rattle.m2_links_go_on.specs.m2_growth.Records.{IsFed, ends_of_all}
+use Rattle.m2_links_go_on.proofs.m2_growth.Ends.{own_none}
+use Rattle.m2_links_go_on.proofs.m2_growth.Fed.{record_fed}
+use Rattle.m2_links_go_on.specs.m2_history.Link.{IsWholeHalf, both_of, parts_of}
+use Rattle.m2_links_go_on.specs.m2_history.Parts.{PartsNow}
+use Rattle.m2_links_go_on.specs.m2_history.Woven.{BothNow}
+use Rattle.m2_links_go_on.specs.m2_growth.Turn.{AllCameOfPut, HaveEnds}
+use Rattle.m2_links_go_on.specs.m2_weave.m2_journal.declared.entry.Entry.{Entry}
+use Rattle.m2_links_go_on.specs.m2_weave.m2_journal.State.{Judgement}
 use Rattle.m2_links_go_on.specs.Linked.{IsNode}
 use Rattle.m2_script.specs.m2_record.IsRecord.{IsRecord}
 use Rattle.m2_script.specs.m2_record.RecordNow.{RecordNow, ends_of}
@@ -37,8 +37,8 @@ use Rattle.m2_script.specs.m2_center.m2_turn.Sessions.{AreConsistent}
 use Rattle.m2_bytes_fit.specs.m2_trail.Arrivals.{LooseNow}
 use Rattle.m2_bytes_fit.specs.m2_trail.Trails.{TrailNow}
 use Rattle.m2_links_go_on.specs.Sides.{woven_now}
-use Rattle.m2_weave.specs.TurnLaws.{HasOrder}
-use Rattle.m2_weave.proofs.Runs.{start_has_order}
+use Rattle.m2_links_go_on.specs.m2_weave.TurnLaws.{HasOrder}
+use Rattle.m2_links_go_on.proofs.m2_weave.Runs.{start_has_order}
 use Rattle.m2_promise.specs.Beginning.{IsBeginning, IsNewAt, IsUnused}
 use Rattle.m2_promise.specs.BeginningLaws.{BeginningsHaveOrders, BeginningsRun, NewRecordsAreUnused}
 use Rattle.m2_fabric.proofs.m2_lemmas.Lists.{all_at, all_so_of}
@@ -87,7 +87,6 @@ module _ (addrs : List Addr) (apart : AreApart addrs) (i : ℕ) (h : Holding) (n
 
   own : AreOwn h
   own = record {
-    in_memory = ap is_some n.waiting;
     held = subst AreOfTheirOwn (sym none_held) own_none;
     made = subst (AllByRecursion (λ (e : SeenEnd). is_among e.id h.port.made ≡ true)) (sym none_held) tt;
     waiting = subst AreOfTheirOwn (sym none_wait) own_none;
@@ -124,6 +123,7 @@ module _ (addrs : List Addr) (apart : AreApart addrs) (i : ℕ) (h : Holding) (n
     node = node;
     at = n.at;
     records = n.sides;
+    in_memory = ap is_some n.waiting;
     made = subst (AllByRecursion (IsOfPort h.port.at)) (sym n.made) tt;
     waiting = subst (AllByRecursion (λ (e : SeenEnd). e.log ≡ nothing_done)) (sym none_wait) tt;
   }

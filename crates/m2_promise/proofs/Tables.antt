@@ -1,14 +1,14 @@
 -- The bytes of a link's ends as a table of sockets, so that an order of all that was done is one by them.
 use Rattle.std.proofs.Common.{◌≡◌, ℕ, true, false, List, [], ◌∷◌, map, refl, ap, subst}
 use Rattle.std.specs.Borrow.{Bor}
-use Rattle.m2_history.specs.Woven.{BytesNow, EndNow, bytes_at, ends_of, row_in, row_now}
+use Rattle.m2_links_go_on.specs.m2_history.Woven.{BytesNow, EndNow, bytes_at, ends_of, row_in, row_now}
 use Rattle.m2_links_go_on.specs.Sides.{woven_now}
 use Rattle.m2_links_go_on.proofs.Tables.{table_is_woven}
-use Rattle.m2_weave.specs.TurnLaws.{HasOrder}
-use Rattle.m2_weave.specs.declared.table.EndBytes.{EndBytes}
-use Rattle.m2_weave.specs.declared.table.SocketBytes.{SocketBytes}
-use Rattle.m2_weave.specs.Stops.{IsWoven}
-use Rattle.m2_history.specs.WovenLink.{IsOrderOf, LinkNow}
+use Rattle.m2_links_go_on.specs.m2_weave.TurnLaws.{HasOrder}
+use Rattle.m2_links_go_on.specs.m2_weave.declared.table.EndBytes.{EndBytes}
+use Rattle.m2_links_go_on.specs.m2_weave.declared.table.SocketBytes.{SocketBytes}
+use Rattle.m2_links_go_on.specs.m2_weave.Stops.{IsWoven}
+use Rattle.m2_links_go_on.specs.m2_history.WovenLink.{IsOrderOf, LinkNow}
 
 abbrev lent : List ℕ → Bor (List ℕ)
 lent xs = record { ref_ptr = (0, 0); now = xs }

@@ -4,16 +4,16 @@ use Rattle.std.specs.Prelude.{slice_get}
 use Rattle.std.proofs.lemmas.Bool.{eq-eqb}
 use Rattle.m2_fabric.specs.declared.socket.SocketId.{SocketId}
 use Rattle.m2_fabric.specs.Sockets.{goes_to, is_among}
-use Rattle.m2_growth.specs.Halves.{IsOneOf, asked_on}
-use Rattle.m2_growth.specs.Holding.{Holding}
-use Rattle.m2_growth.specs.Records.{ends_of_all}
-use Rattle.m2_growth.proofs.Among.{of_each}
+use Rattle.m2_links_go_on.specs.m2_growth.Halves.{IsOneOf, asked_on}
+use Rattle.m2_links_go_on.specs.m2_growth.Holding.{Holding}
+use Rattle.m2_links_go_on.specs.m2_growth.Records.{ends_of_all}
+use Rattle.m2_links_go_on.proofs.m2_growth.Among.{of_each}
 use Rattle.m2_links_go_on.specs.Linked.{IsPeerAt}
 use Rattle.m2_links_go_on.proofs.LinkRecords.{has_one}
 use Rattle.m2_script.specs.m2_record.RecordNow.{RecordNow, ends_of, ids_of}
 use Rattle.m2_fabric.specs.Meeting.{comes_from}
 use Rattle.m2_script.specs.m2_center.m2_turn.Sessions.{peer_of}
-use Rattle.m2_weave.specs.Strands.{has_opened, journal_of}
+use Rattle.m2_links_go_on.specs.m2_weave.Strands.{has_opened, journal_of}
 use Rattle.m2_promise.specs.Running.{HasAskedPeer, IsNodeAt, IsRecordAt, IsRunning, RunNow}
 use Rattle.m2_promise.proofs.BothEnds.{address}
 use Rattle.m2_promise.proofs.Openers as node

@@ -11,10 +11,10 @@ use Rattle.m2_dispatch.specs.Heard as hear
 use Rattle.m2_dispatch.specs.Heard.{Heard, is_key, is_path, message, reset, of_key}
 use Rattle.m2_dispatch.specs.declared.parcel.Parcel.{Parcel}
 use Rattle.m2_dispatch.specs.Laws.{Call, IsSublist, start}
-use Rattle.m2_growth.specs.Halves.{IsOneOf}
-use Rattle.m2_growth.proofs.Among.{of_each}
-use Rattle.m2_weave.specs.m2_journal.State as state
-use Rattle.m2_weave.specs.m2_journal.State.{Delivery, State}
+use Rattle.m2_links_go_on.specs.m2_growth.Halves.{IsOneOf}
+use Rattle.m2_links_go_on.proofs.m2_growth.Among.{of_each}
+use Rattle.m2_links_go_on.specs.m2_weave.m2_journal.State as state
+use Rattle.m2_links_go_on.specs.m2_weave.m2_journal.State.{Delivery, State}
 use Rattle.m2_links_go_on.specs.Logged.{IsLogged, IsLoggedOf, LoggingNow, all_put, handed_of, heard_held}
 use Rattle.m2_links_go_on.proofs.Puts.{parcels-append}
 use Rattle.m2_message.specs.Message.{unnumbered}

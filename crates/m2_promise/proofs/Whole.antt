@@ -13,7 +13,7 @@ use Rattle.m2_script.specs.m2_cluster.Cluster.{end_of, held_by}
 use Rattle.m2_script.specs.m2_cluster.Node.{IsWholeNode, NodeNow}
 use Rattle.m2_links_go_on.specs.Center.{holding_of}
 use Rattle.m2_links_go_on.specs.Cluster.{AllInMemory}
-use Rattle.m2_growth.specs.Holding.{AreOwn, HaveTheirHalves, Holding}
+use Rattle.m2_links_go_on.specs.m2_growth.Holding.{AreOwn, HaveTheirHalves, Holding}
 use Rattle.m2_links_go_on.specs.Linked.{IsNode}
 use Rattle.m2_promise.specs.Acting.{holdings_of}
 

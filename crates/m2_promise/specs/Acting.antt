@@ -3,7 +3,7 @@ use Rattle.std.specs.Prelude.{List, map}
 use Rattle.m2_script.specs.m2_cluster.Cluster.{held_by}
 use Rattle.m2_script.specs.m2_cluster.Node.{NodeNow}
 use Rattle.m2_links_go_on.specs.Center.{holding_of}
-use Rattle.m2_growth.specs.Holding.{Holding}
+use Rattle.m2_links_go_on.specs.m2_growth.Holding.{Holding}
 use Rattle.m2_promise.specs.Running.{RunNow}
 use Rattle.m2_fabric.specs.InStep.{SeenFabric}
 

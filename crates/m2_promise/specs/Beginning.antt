@@ -3,7 +3,7 @@ use Rattle.std.specs.Prelude.{◌≡◌, ℕ, List, [], length, slice_get, Some}
 use Rattle.std.specs.List.{AllByRecursion}
 use Rattle.m2_fabric.specs.m2_addr.declared.addr.Addr.{Addr}
 use Rattle.m2_script.specs.m2_center.Making.{sessions_at_first}
-use Rattle.m2_growth.specs.Holding.{Holding}
+use Rattle.m2_links_go_on.specs.m2_growth.Holding.{Holding}
 use Rattle.m2_script.specs.m2_record.IsRecord.{IsRecord}
 use Rattle.m2_script.specs.m2_record.RecordNow.{RecordNow, ends_of}
 use Rattle.m2_promise.specs.Running.{HoldsAll, IsRecordAt, RunNow}

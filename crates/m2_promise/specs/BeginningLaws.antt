@@ -1,19 +1,19 @@
 -- What is promised of runs of nodes in memory before their first deed, and where one node acts.
-use Rattle.std.specs.Prelude.{◌≡◌, ℕ, List, length, slice_get, Some}
+use Rattle.std.specs.Prelude.{◌≡◌, ℕ, List, length, slice_get, Some, IsSome}
 use Rattle.std.specs.List.{AllByRecursion}
 use Rattle.m2_fabric.specs.m2_addr.declared.addr.Addr.{Addr}
 use Rattle.m2_dispatch.specs.Heard.{Heard}
 use Rattle.m2_fabric.specs.CutPort.{fresh_cut_port}
 use Rattle.m2_fabric.specs.declared.port.Cut.{Cut}
-use Rattle.m2_weave.specs.m2_journal.declared.facts.PlanStep.{PlanStep}
-use Rattle.m2_weave.specs.m2_journal.SideFacts.{SideFacts}
+use Rattle.m2_links_go_on.specs.m2_weave.m2_journal.declared.facts.PlanStep.{PlanStep}
+use Rattle.m2_links_go_on.specs.m2_weave.m2_journal.SideFacts.{SideFacts}
 use Rattle.m2_script.specs.m2_center.CenterTurn.{Answer}
 use Rattle.m2_script.specs.m2_center.Making.{CanBegin, new_center}
 use Rattle.m2_script.specs.m2_cluster.Cluster.{ClusterNow, OneDoes, held_by}
 use Rattle.m2_script.specs.m2_cluster.Node.{NodeNow, NodePlans, NodeTurns}
 use Rattle.m2_links_go_on.specs.Center.{holding_of}
 use Rattle.m2_links_go_on.specs.Cluster.{AllInMemory, BringInMemory}
-use Rattle.m2_growth.specs.Holding.{AreOwn}
+use Rattle.m2_links_go_on.specs.m2_growth.Holding.{AreOwn}
 use Rattle.m2_script.specs.m2_record.IsRecord.{IsRecord, new_record}
 use Rattle.m2_script.specs.m2_record.RecordNow.{RecordNow, Rooms}
 use Rattle.m2_promise.specs.Running.{HaveOrders, HoldsAll, IsNodeAt, IsRecordAt, IsRunning, NodeActs, RunNow}
@@ -56,15 +56,15 @@ ClustersHoldAll D = (nodes : List (NodeNow D)) (fabric : SeenFabric) → HoldsAl
 
 -- ---- a cluster of which one node acts
 
--- All its ends were in memory, and so are those that came; and the node is one behind it, as its type says.
+-- Its port and all its ends were in memory, and so are those that came; and the node is one behind it, as its type says.
 abbrev pub OneTurnActs : (D E : Type 0) → Type 0
 OneTurnActs D E = (heard : D → List Heard) (now : ℕ) (answer : Answer) (i : ℕ) (fabric : SeenFabric) (old new : ClusterNow D) (turns : OneDoes i (NodeTurns E heard now answer) old new) →
-    AreOwn (holding_of turns.before.center) → IsNodeAt fabric.nodes i (holding_of turns.behind.center) →
+    IsSome turns.before.center.port.waiting → AreOwn (holding_of turns.before.center) → IsNodeAt fabric.nodes i (holding_of turns.behind.center) →
     AllInMemory (held_by old.nodes) → BringInMemory (held_by old.nodes) (held_by new.nodes) →
     NodeActs i (run_of old.nodes fabric) (run_of new.nodes fabric)
 
 abbrev pub OnePlanActs : Type 0 → Type 0
 OnePlanActs D = (answer : Answer) (peer : ℕ) (step : PlanStep) (now : ℕ) (i : ℕ) (fabric : SeenFabric) (old new : ClusterNow D) (plans : OneDoes i (NodePlans answer peer step now) old new) →
-    AreOwn (holding_of plans.before.center) → IsNodeAt fabric.nodes i (holding_of plans.behind.center) →
+    IsSome plans.before.center.port.waiting → AreOwn (holding_of plans.before.center) → IsNodeAt fabric.nodes i (holding_of plans.behind.center) →
     AllInMemory (held_by old.nodes) → BringInMemory (held_by old.nodes) (held_by new.nodes) →
     NodeActs i (run_of old.nodes fabric) (run_of new.nodes fabric)

@@ -6,21 +6,21 @@ use Rattle.m2_channel.specs.Handing.{IsHeardOf}
 use Rattle.m2_channel.specs.Observed.{Logs, all_of}
 use Rattle.m2_bytes_fit.specs.Orders.{entries_of}
 use Rattle.m2_bytes_fit.specs.Posts.{IsOfTypes}
-use Rattle.m2_growth.specs.Halves.{all_left}
-use Rattle.m2_growth.specs.Holding.{Holding}
-use Rattle.m2_history.specs.Delivered.{AreDelivered, AreOfOrder}
-use Rattle.m2_weave.specs.m2_journal.declared.entry.Entry.{Entry}
-use Rattle.m2_weave.specs.m2_journal.declared.entry.Entry.TheVariants as entry
-use Rattle.m2_weave.specs.m2_journal.declared.facts.PlanStep.{PlanStep}
-use Rattle.m2_weave.specs.m2_journal.declared.facts.PlanStep.TheVariants as step
-use Rattle.m2_weave.specs.m2_journal.Replay.{replay}
-use Rattle.m2_weave.specs.m2_journal.State.{State}
+use Rattle.m2_links_go_on.specs.m2_growth.Halves.{all_left}
+use Rattle.m2_links_go_on.specs.m2_growth.Holding.{Holding}
+use Rattle.m2_links_go_on.specs.m2_history.Delivered.{AreDelivered, AreOfOrder}
+use Rattle.m2_links_go_on.specs.m2_weave.m2_journal.declared.entry.Entry.{Entry}
+use Rattle.m2_links_go_on.specs.m2_weave.m2_journal.declared.entry.Entry.TheVariants as entry
+use Rattle.m2_links_go_on.specs.m2_weave.m2_journal.declared.facts.PlanStep.{PlanStep}
+use Rattle.m2_links_go_on.specs.m2_weave.m2_journal.declared.facts.PlanStep.TheVariants as step
+use Rattle.m2_links_go_on.specs.m2_weave.m2_journal.Replay.{replay}
+use Rattle.m2_links_go_on.specs.m2_weave.m2_journal.State.{State}
 use Rattle.m2_channel.specs.m2_never_reset.LinkOf.{letters}
 use Rattle.m2_channel.specs.m2_never_reset.Orders.{AreNodes, IsNeverReset}
 use Rattle.m2_script.specs.m2_record.IsRecord.{IsReplayedTo}
 use Rattle.m2_script.specs.m2_record.RecordNow.{RecordNow, speaks_of}
-use Rattle.m2_history.specs.WovenLaws.{kept_by, link_of}
-use Rattle.m2_history.specs.WovenLink.{IsOrderOf, LinkNow, order_of}
+use Rattle.m2_links_go_on.specs.m2_history.WovenLaws.{kept_by, link_of}
+use Rattle.m2_links_go_on.specs.m2_history.WovenLink.{IsOrderOf, LinkNow, order_of}
 
 -- ---- one record
 

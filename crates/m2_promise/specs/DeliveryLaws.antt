@@ -3,14 +3,14 @@ use Rattle.std.specs.Prelude.{ℕ, List}
 use Rattle.std.specs.List.{AllByRecursion}
 use Rattle.m2_dispatch.specs.Heard.{Heard}
 use Rattle.m2_dispatch.specs.Dispatch.{Queued}
-use Rattle.m2_growth.specs.Holding.{Holding}
+use Rattle.m2_links_go_on.specs.m2_growth.Holding.{Holding}
 use Rattle.m2_links_go_on.specs.Logged.{IsLogged, logging, logs_in}
 use Rattle.m2_script.specs.m2_record.RecordNow.{RecordNow}
 use Rattle.m2_promise.specs.Running.{HaveOrders, IsLinkOf, IsRunning, RunNow}
 use Rattle.m2_script.specs.m2_center.m2_turn.Outbox.{OutboxNow}
 use Rattle.m2_links_go_on.specs.Sides.{woven_now}
-use Rattle.m2_weave.specs.TurnLaws.{HasOrder}
-use Rattle.m2_history.specs.WovenLink.{IsLink, IsOrderOf, LinkNow}
+use Rattle.m2_links_go_on.specs.m2_weave.TurnLaws.{HasOrder}
+use Rattle.m2_links_go_on.specs.m2_history.WovenLink.{IsLink, IsOrderOf, LinkNow}
 use Rattle.m2_promise.specs.Delivered.{AreDeliveredOn, AreLosslessUp, BothLogs, HasHeardPeer, PostsInRanges, link_in}
 
 -- ---- links

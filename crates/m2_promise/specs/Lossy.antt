@@ -3,13 +3,13 @@
 use Rattle.std.specs.Prelude.{◌≡◌, true, false}
 use Rattle.std.specs.List.{AllByRecursion}
 use Rattle.m2_channel.specs.Observed.{Logs}
-use Rattle.m2_growth.specs.Holding.{Holding}
-use Rattle.m2_history.specs.m2_lossy_in_order.Lossy.{AreLossy}
+use Rattle.m2_links_go_on.specs.m2_growth.Holding.{Holding}
+use Rattle.m2_links_go_on.specs.m2_history.m2_lossy_in_order.Lossy.{AreLossy}
 use Rattle.m2_script.specs.m2_record.RecordNow.{RecordNow}
 use Rattle.m2_promise.specs.Running.{HaveOrders, IsLinkOf, IsRunning, RunNow}
-use Rattle.m2_history.specs.WovenLaws.{kept_by}
-use Rattle.m2_history.specs.WovenLink.{LinkNow}
-use Rattle.m2_history.specs.Lossy.{BothComeInOrder}
+use Rattle.m2_links_go_on.specs.m2_history.WovenLaws.{kept_by}
+use Rattle.m2_links_go_on.specs.m2_history.WovenLink.{LinkNow}
+use Rattle.m2_links_go_on.specs.m2_history.Lossy.{BothComeInOrder}
 use Rattle.m2_promise.specs.Delivered.{BothLogs, HasHeardPeer, PostsInRanges, link_in}
 
 -- its plan keeps the ranges of types, and its peer is heard by the logs of its node

@@ -1,8 +1,8 @@
 -- What nodes hold where their ends are told of one another. This project's own.
 use Rattle.std.specs.Prelude.{◌≡◌, ℕ, slice_get, Some}
 use Rattle.m2_links_go_on.specs.ClusterTold.{OneByOne, SameHalves, SameRecord}
-use Rattle.m2_growth.specs.Holding.{Holding}
-use Rattle.m2_growth.specs.Passed.{HasItsEnds}
+use Rattle.m2_links_go_on.specs.m2_growth.Holding.{Holding}
+use Rattle.m2_links_go_on.specs.m2_growth.Passed.{HasItsEnds}
 use Rattle.m2_promise.specs.Running.{HaveOrders, HoldsAll, IsNodeAt, IsRunning, RunNow}
 use Rattle.m2_fabric.specs.InStep.{IsInStep, Network}
 

@@ -1,10 +1,10 @@
 -- What is promised of a run of nodes in memory where something passes between them.
-use Rattle.std.specs.Prelude.{◌≡◌, ℕ, List, None}
+use Rattle.std.specs.Prelude.{◌≡◌, ℕ, List, None, IsSome}
 use Rattle.m2_fabric.specs.m2_addr.declared.addr.Addr.{Addr}
 use Rattle.m2_script.specs.m2_cluster.Cluster.{ClusterNow, rest_of}
 use Rattle.m2_links_go_on.specs.ClusterTold.{AreUnused, OneByOne}
-use Rattle.m2_growth.specs.Holding.{Holding}
-use Rattle.m2_growth.specs.Passed.{AllPortsStand, HasItsEnds, WaitingAreOpen}
+use Rattle.m2_links_go_on.specs.m2_growth.Holding.{Holding}
+use Rattle.m2_links_go_on.specs.m2_growth.Passed.{AllPortsStand, HasItsEnds, WaitingAreOpen}
 use Rattle.m2_links_go_on.specs.Linked.{IsNode}
 use Rattle.m2_promise.specs.Running.{HaveOrders, IsNodeAt, IsRunning, NodeActs, RunNow}
 use Rattle.m2_fabric.specs.SimFabric.{Faults, Flows, Meets, flow_of}
@@ -17,9 +17,9 @@ use Rattle.m2_promise.specs.Passed.{IsAtRest, NodesHear, SameHolding, network_of
 abbrev pub ToldNodesHear : Type 0 → Type 0
 ToldNodesHear D = (old new : ClusterNow D) → rest_of new ≡ rest_of old → OneByOne SameHolding (holdings_of old.nodes) (holdings_of new.nodes)
 
--- Each is a node at its place still, where it is a node and the ends that wait there did nothing yet.
+-- Each is a node at its place still, where it is a node in memory and the ends that wait there did nothing yet.
 abbrev pub HearingStaysAt : Type 0
-HearingStaysAt = (addrs : List Addr) (i : ℕ) (old new : Holding) → SameHolding old new → IsNode new → AreUnused new.port → IsNodeAt addrs i old → IsNodeAt addrs i new
+HearingStaysAt = (addrs : List Addr) (i : ℕ) (old new : Holding) → SameHolding old new → IsNode new → IsSome new.port.waiting → AreUnused new.port → IsNodeAt addrs i old → IsNodeAt addrs i new
 
 -- Where nothing is told, what each node holds is the same: each run that holds what holds always hears so, and a flow on a socket
 -- that isn't there passes nothing.

@@ -12,11 +12,11 @@ use Rattle.m2_dispatch.specs.Heard.{Heard, heard_by, of_key}
 use Rattle.m2_dispatch.specs.Laws.{IsSublist}
 use Rattle.m2_bytes_fit.specs.Orders.{entries_of}
 use Rattle.m2_bytes_fit.specs.Posts.{IsOfTypes}
-use Rattle.m2_history.specs.Delivered.{AreDelivered, AreOfOrder}
-use Rattle.m2_weave.specs.m2_journal.declared.entry.Entry.{Entry}
-use Rattle.m2_weave.specs.m2_journal.declared.entry.Entry.TheVariants as entry
-use Rattle.m2_weave.specs.m2_journal.Items as item
-use Rattle.m2_weave.specs.m2_journal.SideFacts.{SideFacts}
+use Rattle.m2_links_go_on.specs.m2_history.Delivered.{AreDelivered, AreOfOrder}
+use Rattle.m2_links_go_on.specs.m2_weave.m2_journal.declared.entry.Entry.{Entry}
+use Rattle.m2_links_go_on.specs.m2_weave.m2_journal.declared.entry.Entry.TheVariants as entry
+use Rattle.m2_links_go_on.specs.m2_weave.m2_journal.Items as item
+use Rattle.m2_links_go_on.specs.m2_weave.m2_journal.SideFacts.{SideFacts}
 use Rattle.m2_links_go_on.specs.LogLaws.{logging_in}
 use Rattle.m2_links_go_on.specs.Logged.{logs_in}
 use Rattle.m2_message.specs.Message.{Content, unnumbered}
@@ -34,8 +34,8 @@ use Rattle.m2_script.specs.declared.calls.TurnCalls.{TurnCalls}
 use Rattle.m2_script.specs.Outcome.{all_heard, is_down_at, is_lossless, is_up, left_in, of_node, records_at}
 use Rattle.m2_script.specs.Script.{RunNow, fast_calls, queued_calls}
 pub use Rattle.m2_promise.specs.Started.{IsFirst, IsScriptRun}
-use Rattle.m2_history.specs.WovenLaws.{kept_by}
-use Rattle.m2_history.specs.WovenLink.{IsOrderOf, LinkNow, order_of}
+use Rattle.m2_links_go_on.specs.m2_history.WovenLaws.{kept_by}
+use Rattle.m2_links_go_on.specs.m2_history.WovenLink.{IsOrderOf, LinkNow, order_of}
 
 -- ---- what lines post
 

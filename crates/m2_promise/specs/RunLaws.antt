@@ -1,6 +1,6 @@
 -- What is promised of a run of nodes in memory.
 use Rattle.std.specs.Prelude.{ℕ}
-use Rattle.m2_growth.specs.Holding.{Holding}
+use Rattle.m2_links_go_on.specs.m2_growth.Holding.{Holding}
 use Rattle.m2_script.specs.m2_record.RecordNow.{RecordNow}
 use Rattle.m2_promise.specs.Running.{HaveOrders, IsLinkOf, IsRunning, NodeActs, RunNow}
 

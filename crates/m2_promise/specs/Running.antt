@@ -7,11 +7,11 @@ use Rattle.m2_fabric.specs.Holder.{SeenHolder}
 use Rattle.m2_fabric.specs.Log.{nothing_done}
 use Rattle.m2_fabric.specs.Sockets.{goes_to, is_among}
 use Rattle.m2_bytes_fit.specs.Halves.{KeepsRanges}
-use Rattle.m2_growth.specs.Halves.{all_left, asked_on}
-use Rattle.m2_growth.specs.Holding.{Grows, Holding, all_ends, waiting_at}
-use Rattle.m2_history.specs.Link.{both_of}
-use Rattle.m2_growth.specs.InStepLaws.{StayMet}
-use Rattle.m2_growth.specs.Turn.{AllEndsGrow}
+use Rattle.m2_links_go_on.specs.m2_growth.Halves.{all_left, asked_on}
+use Rattle.m2_links_go_on.specs.m2_growth.Holding.{Grows, Holding, all_ends, waiting_at}
+use Rattle.m2_links_go_on.specs.m2_history.Link.{both_of}
+use Rattle.m2_links_go_on.specs.m2_growth.InStepLaws.{StayMet}
+use Rattle.m2_links_go_on.specs.m2_growth.Turn.{AllEndsGrow}
 use Rattle.m2_links_go_on.specs.Linked.{IsNode}
 use Rattle.m2_script.specs.m2_record.RecordNow.{RecordNow}
 use Rattle.m2_script.specs.m2_record.Sources.{end_at}
@@ -20,7 +20,7 @@ use Rattle.m2_fabric.specs.Kept.{directions, is_kept}
 use Rattle.m2_fabric.specs.Meeting.{acceptor, comes_from}
 use Rattle.m2_fabric.specs.SimFabric.{AreApart}
 use Rattle.m2_links_go_on.specs.Sides.{woven_now}
-use Rattle.m2_weave.specs.TurnLaws.{HasOrder}
+use Rattle.m2_links_go_on.specs.m2_weave.TurnLaws.{HasOrder}
 
 -- what each node holds, all ends by node and socket, and the sockets that are kept between the nodes
 pub record RunNow : Type 0 where
@@ -41,12 +41,13 @@ pub record IsRecordAt (addrs : List Addr) (i : ℕ) (r : RecordNow) : Type 0 whe
 abbrev pub IsOfPort : Addr → SocketId → Type 0
 IsOfPort at k = (comes_from k (Some at) || goes_to at k) ≡ true
 
--- It listens at its address; its records are between it and other nodes; its port made sockets that come from there or go there;
--- and an end that waits has done nothing.
+-- It listens at its address; its records are between it and other nodes; its port is in memory, and made sockets that come from there
+-- or go there; and an end that waits has done nothing.
 pub record IsNodeAt (addrs : List Addr) (i : ℕ) (h : Holding) : Type 0 where
   pub node : IsNode h
   pub at : slice_get addrs i ≡ Some h.port.at
   pub records : AllByRecursion (IsRecordAt addrs i) h.records
+  pub in_memory : IsSome h.port.waiting
   pub made : AllByRecursion (IsOfPort h.port.at) h.port.made
   pub waiting : AllByRecursion (λ e. e.log ≡ nothing_done) (waiting_at h.port)
 

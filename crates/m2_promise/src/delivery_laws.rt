@@ -6,19 +6,14 @@ ghost use Rattle.m2_promise.specs.Lossy as lossy;
 
 use m2_bytes_fit::{posts_can_be_sent, trails_tell_each_point};
 use m2_dispatch::Dispatcher;
-use m2_history::{
-    orders_give_points, records_are_sides, woven_comes_in_order, woven_is_delivered,
-    woven_is_never_reset,
-};
-use m2_links_go_on::{links_go_on, logged_are_heard, staying_goes_on};
-use m2_weave::{all_read_was_written, asks_come_first};
+use m2_links_go_on::{links_are_woven_so, links_go_on, logged_are_heard, staying_goes_on};
 
 /// Two records of two nodes of a run that are towards each other are a link, with the halves of either node that no
 /// record took: each half was told what the record beside it has judged, and no two ends are one.
 pub fn runs_have_links()
     ensures { laws.RunsHaveLinks }
 {
-    records_are_sides();
+    links_are_woven_so();
     posts_can_be_sent();
     staying_goes_on();
     links_go_on();
@@ -37,11 +32,7 @@ pub fn links_are_delivered()
 {
     runs_have_links();
     links_have_orders();
-    woven_is_never_reset();
-    woven_is_delivered();
-    all_read_was_written();
-    asks_come_first();
-    orders_give_points();
+    links_are_woven_so();
     trails_tell_each_point();
 }
 
@@ -52,10 +43,7 @@ pub fn lossy_links_come_in_order()
 {
     runs_have_links();
     links_have_orders();
-    woven_comes_in_order();
-    all_read_was_written();
-    asks_come_first();
-    orders_give_points();
+    links_are_woven_so();
     trails_tell_each_point();
 }
 

@@ -4,10 +4,7 @@
 ghost use Rattle.m2_promise.specs.PassingLaws as laws;
 
 use crate::{acting_keeps_orders, acting_keeps_running};
-use m2_growth::{
-    calls_keep_ends, faults_stay_met, flows_stay_met, meetings_stay_met, turns_keep_ends,
-};
-use m2_links_go_on::{told_cluster_is_same, woven_stays};
+use m2_links_go_on::{ends_stay_in_step, told_cluster_is_same, woven_stays};
 
 /// Nodes of a cluster with the same rest hold the same, but for what their ends were told.
 pub fn told_nodes_hear<D>()
@@ -38,21 +35,21 @@ pub fn hearing_keeps_orders()
 pub fn meeting_keeps_running()
     ensures { laws.MeetingKeepsRunning }
 {
-    meetings_stay_met();
+    ends_stay_in_step();
 }
 
 /// So it does behind a flow.
 pub fn flow_keeps_running()
     ensures { laws.FlowKeepsRunning }
 {
-    flows_stay_met();
+    ends_stay_in_step();
 }
 
 /// So it does behind a fault.
 pub fn fault_keeps_running()
     ensures { laws.FaultKeepsRunning }
 {
-    faults_stay_met();
+    ends_stay_in_step();
 }
 
 /// So a run stays at rest behind each of its deeds, where each link has its order.
@@ -65,6 +62,5 @@ pub fn rest_stays()
     flow_keeps_running();
     fault_keeps_running();
     hearing_keeps_orders();
-    turns_keep_ends();
-    calls_keep_ends();
+    ends_stay_in_step();
 }

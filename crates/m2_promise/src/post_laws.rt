@@ -3,18 +3,11 @@
 ghost use Rattle.m2_promise.specs.PostLaws as laws;
 
 use crate::{links_are_delivered, links_have_orders, runs_have_links, script_run_is_kept};
-use m2_bytes_fit::{bytes_give_fits, trails_tell_each_point};
-use m2_channel::{
-    acknowledged_is_accepted, logs_are_logs_of_what_is_handed_on, observed_is_a_run,
-    observed_is_a_run_to_a_mark,
-};
+use m2_bytes_fit::trails_tell_each_point;
+use m2_channel::{acknowledged_is_accepted, logs_are_logs_of_what_is_handed_on, observed_is_a_run};
 use m2_dispatch::Dispatcher;
 use m2_fabric::{End, Port};
-use m2_history::{
-    counts_are_of_the_items, orders_give_points, woven_bytes_fit, woven_comes_in_order,
-    woven_is_delivered, woven_is_never_reset,
-};
-use m2_weave::{all_read_was_written, asks_come_first};
+use m2_links_go_on::links_are_woven_so;
 
 /// Deeds note the turns in which a node's dispatchers are called, so where all calls were noted before them they are
 /// behind them.
@@ -35,19 +28,10 @@ pub fn kept_is_promised()
     runs_have_links();
     links_have_orders();
     links_are_delivered();
-    all_read_was_written();
-    asks_come_first();
-    orders_give_points();
+    links_are_woven_so();
     trails_tell_each_point();
-    woven_bytes_fit();
-    bytes_give_fits();
-    woven_is_never_reset();
-    woven_is_delivered();
-    woven_comes_in_order();
     observed_is_a_run();
-    observed_is_a_run_to_a_mark();
     acknowledged_is_accepted();
-    counts_are_of_the_items();
     logs_are_logs_of_what_is_handed_on();
 }
 

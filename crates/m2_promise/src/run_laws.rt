@@ -3,17 +3,14 @@
 
 ghost use Rattle.m2_promise.specs.RunLaws as laws;
 
-use m2_growth::{arrivals_are_the_openers, turns_stay_in_step, turns_stay_met};
-use m2_links_go_on::{links_are_woven, links_go_on, staying_goes_on};
+use m2_links_go_on::{ends_stay_in_step, links_are_woven, links_go_on, staying_goes_on};
 
 /// Where a node acts, what holds always holds still: each ask that was judged came of the record's peer, since what
 /// a half reads on a socket that a record has opened is that record's.
 pub fn acting_keeps_running()
     ensures { laws.ActingKeepsRunning }
 {
-    turns_stay_in_step();
-    turns_stay_met();
-    arrivals_are_the_openers();
+    ends_stay_in_step();
 }
 
 /// And where all that was done on each link had an order, it has one behind it: what was got had been put.

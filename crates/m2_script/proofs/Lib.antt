@@ -1,4 +1,5 @@
 pub mod Apart
+pub mod Bare
 pub mod CutsMore
 pub mod Deeds
 pub mod Lefts

@@ -37,7 +37,7 @@ joined_within n (l ∷ ls) a b all h = go (eqb l.a a && eqb l.b b) (eqb l.a b &&
 short_within : (bytes : List ℕ) → is_short bytes ≡ true → length bytes ≤ MOST_PART_BYTES
 short_within bytes h = leb-true (length bytes) MOST_PART_BYTES h
 
-sendable : (m : Message) → are_short (content_of m) ≡ true → IsSendable m
+pub sendable : (m : Message) → are_short (content_of m) ≡ true → IsSendable m
 sendable m h =
     let p = and_parts (is_short m.front.bytes && is_short m.middle.bytes) (is_short m.tail.bytes) h in
     let q = and_parts (is_short m.front.bytes) (is_short m.middle.bytes) p.0 in

@@ -179,13 +179,14 @@ module _ (nodes : List Node) (k word : ℕ) where
       go false e same = same ∙ e
       go true e same = absurd (apart_at pairs r.place s.place a.peer b.peer a.peer_there b.peer_there (places_differ l m r s others a b) (same_sockets a.peer.at b.peer.at e))
 
--- ---- up to their room
+-- ---- up to a part of them
 
-pub all_roomless : (P Q : RecordNow → Type 0) → ((r : RecordNow) → Q (roomless r) → P r) → (rs : List RecordNow) → AllByRecursion Q (map roomless rs) → AllByRecursion P rs
-all_roomless P Q so [] all = tt
-all_roomless P Q so (r ∷ rs) all = (so r all.0, all_roomless P Q so rs all.1)
+-- what follows of what records show holds of them
+pub all_through : (show : RecordNow → RecordNow) (P Q : RecordNow → Type 0) → ((r : RecordNow) → Q (show r) → P r) → (rs : List RecordNow) → AllByRecursion Q (map show rs) → AllByRecursion P rs
+all_through show P Q so [] all = tt
+all_through show P Q so (r ∷ rs) all = (so r all.0, all_through show P Q so rs all.1)
 
-each_of : {X Y : Type 0} (f : X → Y) (P : Y → Type 0) (xs : List X) → AllByRecursion (λ x. P (f x)) xs → AllByRecursion P (map f xs)
+pub each_of : {X Y : Type 0} (f : X → Y) (P : Y → Type 0) (xs : List X) → AllByRecursion (λ x. P (f x)) xs → AllByRecursion P (map f xs)
 each_of f P [] all = tt
 each_of f P (x ∷ xs) all = (all.0, each_of f P xs all.1)
 
@@ -195,11 +196,15 @@ unfolding IsDistinct
 distinct_of f e [] d = tt
 distinct_of f e (x ∷ xs) d = (each_of f (λ y. e (f x) y ≡ false) xs d.0, distinct_of f e xs d.1)
 
-pub map_roomless : {Y : Type 0} (f : RecordNow → Y) → ((r : RecordNow) → f (roomless r) ≡ f r) → (rs : List RecordNow) → map f (map roomless rs) ≡ map f rs
-map_roomless f so [] = refl
-map_roomless f so (r ∷ rs) = ap (λ y. y ∷ map f (map roomless rs)) (so r) ∙ ap (λ ys. f r ∷ ys) (map_roomless f so rs)
+-- what is seen of what they show is seen of them
+pub map_through : {Y : Type 0} (show : RecordNow → RecordNow) (f : RecordNow → Y) → ((r : RecordNow) → f (show r) ≡ f r) → (rs : List RecordNow) → map f (map show rs) ≡ map f rs
+map_through show f so [] = refl
+map_through show f so (r ∷ rs) = ap (λ y. y ∷ map f (map show rs)) (so r) ∙ ap (λ ys. f r ∷ ys) (map_through show f so rs)
 
-none_apart : IsDistinct same_socket []
+pub map_roomless : {Y : Type 0} (f : RecordNow → Y) → ((r : RecordNow) → f (roomless r) ≡ f r) → (rs : List RecordNow) → map f (map roomless rs) ≡ map f rs
+map_roomless f so rs = map_through roomless f so rs
+
+pub none_apart : IsDistinct same_socket []
 unfolding IsDistinct
 none_apart = tt
 
@@ -209,7 +214,7 @@ module _ (nodes : List Node) (links : List Link) (lines : List DraftLine) (sound
   -- what holds of each new record over a link holds of each of these
   pub all_so : (P Q : RecordNow → Type 0) → ((l : Link) (r : RecordNow) → IsLink (length nodes) l → IsOver nodes k word l r → Q r) → ((r : RecordNow) → Q (roomless r) → P r) → AllByRecursion P rs
   all_so P Q new so =
-      all_roomless P Q so rs (subst (AllByRecursion Q) (sym is) (all_over nodes k word (IsLink (length nodes)) Q new links (recursion_from_All (IsLink (length nodes)) links sound.joined)))
+      all_through roomless P Q so rs (subst (AllByRecursion Q) (sym is) (all_over nodes k word (IsLink (length nodes)) Q new links (recursion_from_All (IsLink (length nodes)) links sound.joined)))
 
   supplied : (s : Supply) (l : Link) (r : RecordNow) → IsOver nodes k word l r → IsSupplied s [] r
   supplied s l r v = subst (IsSupplied s []) (sym v.is) (record { owned = record { feed = tt; parcels = tt }; top = omega arith; made = λ i new. new })

@@ -2,6 +2,7 @@
 use Rattle.std.proofs.Common.{◌≡◌, ℕ, inl, inr, ◌+◌, ◌-◌, zero, suc, Bool, true, false, List, [], ◌∷◌, ◌++◌, slice_get, slice_set, Option, Some, None, IfSome, Ok, Err, is_some, refl, sym, ap, subst, ◌∙◌}
 use Rattle.m2_bytes.specs.declared.memory.NoMemory as memory
 use Rattle.m2_dispatch.specs.Heard.{Heard}
+use Rattle.m2_cluster.specs.m2_center.CenterTurn.{Answer}
 use Rattle.m2_cluster.specs.Cluster.{ClusterNow, OneDoes}
 use Rattle.m2_cluster.specs.Node.{NodeNow, NodeTurns}
 use Rattle.m2_script.specs.declared.calls.TurnCalls.{TurnCalls}
@@ -48,6 +49,11 @@ module _ {D : Type 0} (E : Type 0) (heard : D → List Heard) (was old : RunNow 
         calls = more ∙ ap (λ (c : List TurnCalls). was.calls ++ c) between;
         none_held = none_held held free is;
       })
+
+-- what a turn did, by what it said of memory
+pub by_memory : {D : Type 0} (E : Type 0) (heard : D → List Heard) (now a : ℕ) (old new : ClusterNow D) (answer said : Answer) → answer ≡ said → OneDoes a (NodeTurns E heard now said) old new →
+    OneDoes a (NodeTurns E heard now answer) old new
+by_memory E heard now a old new answer said is h = subst (λ (o : Answer). OneDoes a (NodeTurns E heard now o) old new) (sym is) h
 
 -- The node found no memory: its turn stopped, or a letter is held behind it.
 module _ {D : Type 0} (E : Type 0) (heard : D → List Heard) (was old : RunNow D) (same : was ≡ old) (a : ℕ) (new : ClusterNow D)

@@ -196,7 +196,7 @@ where
     {
         self.calls.reserve(1)?;
         let (fast, queued) = counts(&self.cluster, node);
-        self.cluster.turn(node, self.now)?;
+        self.cluster.turn(node, self.now).memory()?;
         if is_holding(&self.cluster, node) {
             return Err(NoMemory);
         }

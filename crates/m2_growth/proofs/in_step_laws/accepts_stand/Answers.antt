@@ -1,4 +1,4 @@
-use Rattle.m2_growth.proofs.Accepted.{accepts_stand}
+use Rattle.m2_growth.proofs.Accepts.{accepts_stand}
 use Rattle.m2_growth.proofs.in_step_laws.accepts_stand.Goals as goal
 
 pub returns : goal.returns

@@ -4,5 +4,5 @@ use Rattle.m2_promise.proofs.delivery_laws.links_are_delivered.Goals as goal
 
 pub returns : goal.returns
 returns c = λ x h g a b logs run orders l up.
-    all_delivered x h g a b logs c.runs_have_links.ensures c.links_have_orders.ensures c.all_read_was_written.ensures c.asks_come_first.ensures c.orders_give_points.ensures c.trails_tell_each_point.ensures
-    c.woven_is_never_reset.ensures c.woven_is_delivered.ensures run orders l up
+    all_delivered x h g a b logs c.runs_have_links.ensures c.links_have_orders.ensures c.links_are_woven_so.ensures.read c.links_are_woven_so.ensures.asked c.links_are_woven_so.ensures.points c.trails_tell_each_point.ensures
+    c.links_are_woven_so.ensures.never_reset c.links_are_woven_so.ensures.delivered run orders l up

@@ -1,5 +1,5 @@
 -- What a node keeps, and what its center does.
-use Rattle.std.proofs.Common.{subst}
+use Rattle.std.proofs.Common.{IsSome, subst}
 use Rattle.std.specs.List.{AllByRecursion}
 use Rattle.m2_center.specs.Center.{CenterNow, IsCenter}
 use Rattle.m2_center.specs.Reaching.{all_ends_in}
@@ -17,5 +17,6 @@ returns g c = record {
   records = subst (λ (n : NodeNow g.row.D.Denot). AllByRecursion IsRecord n.center.records) c.self.view_is c.is_center.ensures.records;
   halves = subst (λ (n : NodeNow g.row.D.Denot). AreWhole n.center.halves) c.self.view_is c.is_center.ensures.halves;
   home = subst (λ (n : NodeNow g.row.D.Denot). AllByRecursion (IsOfHome n.center.port.at) n.center.port.made) c.self.view_is c.comes_from_home.ensures;
-  memory = subst (λ (n : NodeNow g.row.D.Denot). AllByRecursion IsInMemory (all_ends_in n.center)) c.self.view_is c.is_in_memory.ensures;
+  port = subst (λ (n : NodeNow g.row.D.Denot). IsSome n.center.port.waiting) c.self.view_is c.is_in_memory.ensures.port;
+  memory = subst (λ (n : NodeNow g.row.D.Denot). AllByRecursion IsInMemory (all_ends_in n.center)) c.self.view_is c.is_in_memory.ensures.ends;
 }

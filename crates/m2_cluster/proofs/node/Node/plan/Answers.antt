@@ -1,5 +1,5 @@
--- A step that is planned leaves the port as it was, and the passes to what the node shares.
-use Rattle.std.proofs.Common.{is_some, ap, ◌∙◌}
+-- A step that is planned leaves the passes to what the node shares.
+use Rattle.std.proofs.Common.{ap, ◌∙◌}
 use Rattle.m2_center.specs.Center.{CenterNow}
 use Rattle.m2_cluster.proofs.Doing.{plans_so}
 use Rattle.m2_cluster.proofs.node.Node.plan.Goals as goal
@@ -8,7 +8,6 @@ pub invariant_of-self : goal.invariant_of-self
 invariant_of-self g c =
     let was = c.self.invariant in
     record {
-      memory = ap (λ (n : CenterNow g.row.D.Denot). is_some n.port.waiting) c.plan.ensures.plans.only ∙ was.memory;
       numbers = ap (λ (n : CenterNow g.row.D.Denot). n.numbers.place) c.plan.ensures.plans.only ∙ was.numbers;
       throttle = c.plan.ensures.plans.bytes ∙ was.throttle;
     }

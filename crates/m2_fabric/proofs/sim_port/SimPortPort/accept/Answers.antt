@@ -17,6 +17,6 @@ returns c =
     rw (← c.self.view_is) (
       refl,
       accepted_is_new i.at i.made.sockets i.waiting.items e rest c.self.invariant first,
-      ap (λ (es : List SeenEnd). Some es) first,
+      (ap (λ (es : List SeenEnd). Some es) first, λ none. absurd (cc)),
       rw made refl,
     )

@@ -7,19 +7,19 @@ use Rattle.m2_channel.specs.ObservedLaws.{IsLawfulOrder}
 use Rattle.m2_channel.proofs.Orders.{lawful_first}
 use Rattle.m2_fabric.specs.declared.socket.SocketId.{SocketId}
 use Rattle.m2_fabric.specs.Sockets.{goes_to}
-use Rattle.m2_bytes_fit.specs.Orders.{BytesGiveFits, IsByteHistory, OrderEntry, entries_of, entry_in, far_entry, far_half, near_entry, near_half}
+use Rattle.m2_bytes_fit.specs.Orders.{BytesGiveFits, IsByteHistory, LosslessBytesAreNeverReset, OrderEntry, entries_of, entry_in, far_entry, far_half, near_entry, near_half}
 use Rattle.m2_bytes_fit.specs.Texts.{CanBePosted}
-use Rattle.m2_weave.specs.m2_journal.Items as item
-use Rattle.m2_weave.specs.m2_journal.Items.{JournalItem}
-use Rattle.m2_weave.specs.m2_journal.Replay.{AreLawful}
-use Rattle.m2_weave.specs.m2_journal.SideFacts.{SideFacts}
-use Rattle.m2_weave.specs.m2_journal.State.{start}
-use Rattle.m2_history.specs.m2_lossy_in_order.Lossy.{IsByteOrder}
+use Rattle.m2_journal.specs.Items as item
+use Rattle.m2_journal.specs.Items.{JournalItem}
+use Rattle.m2_journal.specs.Replay.{AreLawful}
+use Rattle.m2_journal.specs.SideFacts.{SideFacts}
+use Rattle.m2_journal.specs.State.{start}
+use Rattle.m2_lossy_in_order.specs.Lossy.{IsByteOrder}
 use Rattle.m2_channel.specs.m2_never_reset.PairLaws.{IsNoDown}
-use Rattle.m2_channel.specs.m2_never_reset.Orders.{AreNodes, FitThroughout, far_item, far_items, near_item, near_items}
-use Rattle.m2_fabric.proofs.m2_lemmas.Booleans.{from_false_true}
+use Rattle.m2_channel.specs.m2_never_reset.Orders.{AreNodes, IsHistory, IsNeverReset, SideItem, far_item, far_items, near_item, near_items}
+use Rattle.m2_bytes.proofs.m2_lemmas.Booleans.{from_false_true}
 use Rattle.m2_channel.proofs.m2_never_reset.Sided.{far_append, near_append}
-use Rattle.m2_fabric.proofs.m2_lemmas.Lists.{all_front}
+use Rattle.m2_bytes.proofs.m2_lemmas.Lists.{all_front}
 
 -- ---- up to a mark
 
@@ -102,6 +102,12 @@ far_none (far_entry i ∷ es) = by (marks_down i) refl (far_none es)
 far_none (near_half k m ∷ es) = far_none es
 far_none (far_half k m ∷ es) = far_none es
 
+-- they are the first ones
+pub more_behind : (es : List OrderEntry) → (more : List SideItem) × (entries_of es ≡ before_down (entries_of es) ++ more)
+more_behind es =
+    let rest = (behind es).0 in
+    (entries_of rest, ap entries_of (behind es).1 ∙ flat_map-append entry_in (unmarked es) rest ∙ ap (λ l. l ++ entries_of rest) (entries_same es))
+
 -- ---- it is a history
 
 module _ (gives : BytesGiveFits) (f g : SideFacts) (nodes : AreNodes f g) (es : List OrderEntry) (fits : IsByteOrder f g es) (peers : (k : SocketId) → goes_to f.peer k ≡ true → goes_to g.peer k ≡ false) where
@@ -134,9 +140,11 @@ module _ (gives : BytesGiveFits) (f g : SideFacts) (nodes : AreNodes f g) (es : 
     bytes = λ front back e. fits.bytes front (back ++ rest) (all ∙ ap (λ l. l ++ rest) e ∙ append_assoc front back rest);
   }
 
+  pub history_before : IsHistory f g (before_down (entries_of es))
+  history_before = subst (IsHistory f g) (entries_same es) (gives f g (unmarked es) nodes history)
+
+  pub never_reset_before : LosslessBytesAreNeverReset → IsNeverReset f g (before_down (entries_of es))
+  never_reset_before never = subst (IsNeverReset f g) (entries_same es) (never f g (unmarked es) nodes history)
+
   pub lawful_order : IsLawfulOrder f g (entries_of es)
-  lawful_order = record {
-    near_lawful = fits.near_lawful;
-    far_lawful = fits.far_lawful;
-    fits = subst (λ is. FitThroughout f g is (start f) (start g)) (entries_same es) (gives f g (unmarked es) nodes history).fits;
-  }
+  lawful_order = record { near_lawful = fits.near_lawful; far_lawful = fits.far_lawful; fits = history_before.fits }

@@ -1,0 +1,4 @@
+pub mod Course
+pub mod CourseLaws
+pub mod Ended
+pub mod Made
