@@ -1,5 +1,6 @@
 -- What contracts see of a fabric, and how each of its calls changes that. This project's own.
 use Rattle.std.specs.Prelude.{◌≡◌, ◌≢◌, ℕ, false, List, [], length, drop, All, Option, Some, None, IfSome}
+use Rattle.std.specs.Option.{unwrap_or}
 use Rattle.m2_addr.specs.declared.addr.Addr.{Addr}
 use Rattle.m2_edge.specs.Faults.{next_count}
 use Rattle.m2_fabric.specs.End.{SeenEnd}
@@ -26,12 +27,13 @@ pub record ListensAlone (node : ℕ) (old new : SeenFabric) : Type 0 where
   pub gathered : (n : ℕ) → new.gathered n ≡ old.gathered n
   pub gathers : (n : ℕ) → new.gathers n ≡ old.gathers n
 
--- a port that did nothing so far
+-- A port that did nothing so far; and no socket waits at it, where it tells what waits.
 pub record IsUnused (p : SeenPort) : Type 0 where
   pub made : p.made ≡ []
   pub missed : p.missed ≡ 0
   pub refused : p.refused ≡ 0
   pub quiet : p.quiet ≡ false
+  pub waiting : unwrap_or p.waiting [] ≡ []
 
 -- a port for each event thread, of which the first alone may accept
 pub record ArePortsOf (centers : ℕ) (ports : List SeenPort) : Type 0 where

@@ -10,10 +10,10 @@ use Rattle.m2_fabric.specs.Port.{SeenPort}
 use Rattle.m2_ports.specs.Port.{unused_port, with_acceptor}
 
 unused : (at : Addr) → IsUnused (unused_port at)
-unused at = record { made = refl; missed = refl; refused = refl; quiet = refl }
+unused at = record { made = refl; missed = refl; refused = refl; quiet = refl; waiting = refl }
 
 first_unused : (given : Bool) (at : Addr) → IsUnused (if given then record (unused_port at) { accepts = true } else unused_port at)
-first_unused true at = record { made = refl; missed = refl; refused = refl; quiet = refl }
+first_unused true at = record { made = refl; missed = refl; refused = refl; quiet = refl; waiting = refl }
 first_unused false at = unused at
 
 first_at : (given : Bool) (at : Addr) → (if given then record (unused_port at) { accepts = true } else unused_port at).at ≡ at
