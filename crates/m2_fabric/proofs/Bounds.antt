@@ -1,5 +1,5 @@
 -- A call of an end inside, as it is seen outside.
-use Rattle.std.proofs.Common.{◌≡◌, ℕ, ◌-◌, ◌≤◌, ◌||◌, Bool, true, false, List, length, min, take, Option, None, Some, refl, sym, ◌∙◌, ap, arith, length-take}
+use Rattle.std.proofs.Common.{◌≡◌, ℕ, ◌-◌, ◌≤◌, ◌||◌, Bool, true, false, List, length, min, take, Option, None, Some, refl, sym, ◌∙◌, ap, subst, arith, length-take}
 use Rattle.std.proofs.lemmas.List.{take-take}
 use Rattle.std.specs.Prelude.{IfSome}
 use Rattle.m2_edge.specs.Faults.{HasRisen, next_count}
@@ -11,7 +11,7 @@ use Rattle.m2_fabric.specs.declared.end.EndRead.TheVariants as read
 use Rattle.m2_fabric.specs.declared.end.EndWrite.{EndWrite}
 use Rattle.m2_fabric.specs.declared.end.EndWrite.TheVariants as write
 use Rattle.m2_fabric.specs.declared.log.TheConstants.{MOST_MOVED}
-use Rattle.m2_fabric.specs.CutEnd.{allowed, counted_read, counted_write}
+use Rattle.m2_fabric.specs.CutEnd.{allowed}
 
 -- ---- two bounds
 
@@ -107,12 +107,16 @@ counts_once : (o : Option Inflow) (f : ℕ) → IfSome o (λ i. next_count f ≡
 counts_once None f = tt
 counts_once (Some i) f = refl
 
+-- the same end, with this bound too
+abbrev within_bound : Option ℕ → SeenEnd → SeenEnd
+within_bound l s = bounding l s.faults s
+
 -- one that failed inside
-fails_outside : (told : Inflow → Bool) (l : Option ℕ) (f : ℕ) (old new : SeenEnd) → Fails told old new → Fails told (bounding l f old) (bounding l (next_count f) new)
-fails_outside told l f old new h = record {
-  risen = risen f;
+fails_outside : (told : Inflow → Bool) (l : Option ℕ) (old new : SeenEnd) → Fails told old new → Fails told (within_bound l old) (within_bound l new)
+fails_outside told l old new h = record {
+  risen = h.risen;
   cause = cause_outside old.inflow l old.left told (least-cut l old.left) h.cause;
-  once = counts_once old.inflow f;
+  once = h.once;
 }
 
 -- one that failed by itself, being cut
@@ -125,31 +129,41 @@ reads_cut piece l f e h = (fails_cut (λ i. i.failed) l f e h, refl)
 pub writes_cut : (piece : List ℕ) (l : Option ℕ) (f : ℕ) (e : SeenEnd) → is_cut l ≡ true → Writes write.Failed piece (bounding l f e) (bounding l (next_count f) e)
 writes_cut piece l f e h = (fails_cut (λ i. i.failed || i.closed) l f e h, refl)
 
-pub reads_outside : (answer : EndRead) (l : Option ℕ) (piece : List ℕ) (f : ℕ) (old new : SeenEnd) → is_cut l ≡ false → Reads answer (allowed l piece) old new
-    → Reads answer piece (bounding l f old) (bounding (left_read answer l) (counted_read answer f) new)
-reads_outside (read.Got n) l piece f old new uncut r =
+reads_within : (answer : EndRead) (l : Option ℕ) (piece : List ℕ) (old new : SeenEnd) → is_cut l ≡ false → Reads answer (allowed l piece) old new
+    → Reads answer piece (within_bound l old) (within_bound (left_read answer l) new)
+reads_within (read.Got n) l piece old new uncut r =
     let m = allowance l (length piece) in
     let h : n ≤ m = within n m piece r.0.fits in (
       piece_of n m piece r.0,
       comes_from old.inflow l old.left n piece uncut h r.1,
-      rw (← least-passed l old.left n, ← take-take n m piece h) (ap (bounding (passed n l) f) r.2),
+      rw (← least-passed l old.left n, ← take-take n m piece h) (ap (within_bound (passed n l)) r.2),
     )
-reads_outside read.NotYet l piece f old new uncut r = (read_up old.inflow l old.left false uncut r.0, ap (bounding l f) r.1)
-reads_outside read.Ended l piece f old new uncut r = (read_up old.inflow l old.left true uncut r.0, ap (bounding l f) r.1)
-reads_outside read.Failed l piece f old new uncut r =
-    (fails_outside (λ i. i.failed) l f old new r.0, ap (bounding l (next_count f)) r.1)
-reads_outside read.NoMemory l piece f old new uncut r = ap (bounding l f) r
+reads_within read.NotYet l piece old new uncut r = (read_up old.inflow l old.left false uncut r.0, ap (within_bound l) r.1)
+reads_within read.Ended l piece old new uncut r = (read_up old.inflow l old.left true uncut r.0, ap (within_bound l) r.1)
+reads_within read.Failed l piece old new uncut r =
+    (fails_outside (λ i. i.failed) l old new r.0, ap (within_bound l) r.1)
+reads_within read.NoMemory l piece old new uncut r = ap (within_bound l) r
 
-pub writes_outside : (answer : EndWrite) (l : Option ℕ) (piece : List ℕ) (f : ℕ) (old new : SeenEnd) → is_cut l ≡ false → Writes answer (allowed l piece) old new
-    → Writes answer piece (bounding l f old) (bounding (left_written answer l) (counted_write answer f) new)
-writes_outside (write.Put n) l piece f old new uncut r =
+pub reads_outside : (answer : EndRead) (l : Option ℕ) (piece : List ℕ) (f : ℕ) (old new : SeenEnd) → is_cut l ≡ false → f ≡ old.faults
+    → Reads answer (allowed l piece) old new → Reads answer piece (bounding l f old) (bounding (left_read answer l) new.faults new)
+reads_outside answer l piece f old new uncut same r =
+    subst (λ (x : ℕ). Reads answer piece (bounding l x old) (bounding (left_read answer l) new.faults new)) (sym same) (reads_within answer l piece old new uncut r)
+
+writes_within : (answer : EndWrite) (l : Option ℕ) (piece : List ℕ) (old new : SeenEnd) → is_cut l ≡ false → Writes answer (allowed l piece) old new
+    → Writes answer piece (within_bound l old) (within_bound (left_written answer l) new)
+writes_within (write.Put n) l piece old new uncut r =
     let m = allowance l (length piece) in
     let h : n ≤ m = within n m piece r.0.fits in (
       piece_of n m piece r.0,
       takes_bytes old.inflow l old.left n piece uncut r.1,
-      rw (← least-passed l old.left n, ← take-take n m piece h) (ap (bounding (passed n l) f) r.2),
+      rw (← least-passed l old.left n, ← take-take n m piece h) (ap (within_bound (passed n l)) r.2),
     )
-writes_outside write.NotYet l piece f old new uncut r = (r.0, ap (bounding l f) r.1)
-writes_outside write.Failed l piece f old new uncut r =
-    (fails_outside (λ i. i.failed || i.closed) l f old new r.0, ap (bounding l (next_count f)) r.1)
-writes_outside write.NoMemory l piece f old new uncut r = ap (bounding l f) r
+writes_within write.NotYet l piece old new uncut r = (r.0, ap (within_bound l) r.1)
+writes_within write.Failed l piece old new uncut r =
+    (fails_outside (λ i. i.failed || i.closed) l old new r.0, ap (within_bound l) r.1)
+writes_within write.NoMemory l piece old new uncut r = ap (within_bound l) r
+
+pub writes_outside : (answer : EndWrite) (l : Option ℕ) (piece : List ℕ) (f : ℕ) (old new : SeenEnd) → is_cut l ≡ false → f ≡ old.faults
+    → Writes answer (allowed l piece) old new → Writes answer piece (bounding l f old) (bounding (left_written answer l) new.faults new)
+writes_outside answer l piece f old new uncut same r =
+    subst (λ (x : ℕ). Writes answer piece (bounding l x old) (bounding (left_written answer l) new.faults new)) (sym same) (writes_within answer l piece old new uncut r)

@@ -1,6 +1,7 @@
 pub mod Arriving
 pub mod Below
 pub mod Bounds
+pub mod Cutting
 pub mod Entering
 pub mod Exact
 pub mod Flowing

@@ -25,10 +25,10 @@ fresh_cut_port at cuts = shown (record { inner = fresh_port at; cuts = cuts })
 
 -- A connect that opens a socket takes the first cut for its address; another takes none.
 abbrev pub ConnectsCut : Connect Bounded → Addr → Cutting → Cutting → Type 0
-ConnectsCut (connect.Made e) to old new = (e.left ≡ bound_for to old.cuts) × (new.cuts ≡ without_cut to old.cuts)
+ConnectsCut (connect.Made e) to old new = (e.left ≡ bound_for to old.cuts) × (e.bound ≡ bound_for to old.cuts) × (new.cuts ≡ without_cut to old.cuts)
 ConnectsCut _ to old new = new.cuts ≡ old.cuts
 
 -- An end that was accepted has no cut.
 abbrev pub AcceptsUncut : Taken Bounded → Type 0
-AcceptsUncut (accept.Made e) = e.left ≡ None
+AcceptsUncut (accept.Made e) = (e.left ≡ None) × (e.bound ≡ None)
 AcceptsUncut _ = Unit {0}

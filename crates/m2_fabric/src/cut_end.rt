@@ -1,9 +1,10 @@
 //! An end that breaks after so many bytes.
 
 ghost use Rattle.std.specs.Prelude.{◌≡◌, ◌<◌, ◌≤◌, false, length, take};
-ghost use Rattle.m2_fabric.specs.CutEnd.{Bounded, ReadsBounded, WritesBounded, allowed, counted_read, counted_write, shown};
+ghost use Rattle.m2_fabric.specs.CutEnd.{Bounded, IsCutRight, ReadsBounded, WritesBounded, allowed, shown};
 ghost use Rattle.m2_fabric.specs.Cuts.{allowance, is_cut, passed};
 ghost use Rattle.m2_fabric.specs.End.{LeavesPiece, Reads, Writes, left_read, left_written};
+ghost use Rattle.m2_fabric.specs.Log.{nothing_done};
 
 use crate::{End, EndLog, EndRead, EndWrite, MemoryEnd, News, SocketId};
 use m2_bytes::NoMemory;
@@ -12,11 +13,13 @@ use std::marker::Model;
 /// An end that passes on what another end does, until so many bytes passed, read and written together:
 /// from then on it fails at every call by itself, and counts it.
 ///
-/// Its log is that of the end inside. Its count of faults begins with that of the end inside, and goes
-/// on with each call that failed. Contracts see the end inside, how many more bytes pass, and the count.
+/// Its log is that of the end inside. Its count of faults is that of the end inside, until nothing more
+/// passes: from then on it goes on by itself. Contracts see the end inside, the bound that this one was
+/// made with, how many more bytes pass, and the count.
 #[derive(Debug, Drop)]
 pub struct CutEnd<E: End> {
     end: E,
+    bound: Option<u64>,
     left: Option<u64>,
     faults: u64,
 }
@@ -24,20 +27,39 @@ pub struct CutEnd<E: End> {
 impl<E: End> Model for CutEnd<E> {
     ghost Value = { Bounded };
 
-    ghost view = { λ c. record { inner = E.seen c.end; left = c.left; faults = c.faults } };
+    ghost view = { λ c. record { inner = E.seen c.end; bound = c.bound; left = c.left; faults = c.faults } };
+
+    ghost invariant = { λ c. IsCutRight (record { inner = E.seen c.end; bound = c.bound; left = c.left; faults = c.faults }) };
 }
 
 impl<E: End> CutEnd<E> {
-    /// An end that passes so many bytes, or all where there is no bound.
+    /// An end that passes so many bytes, or all where there is no bound, over one that did nothing yet.
     pub fn new(end: E, bytes: Option<u64>) -> CutEnd<E>
-        ensures { result ≡ record { inner = E.seen end; left = bytes; faults = (E.seen end).faults } }
+        requires { (E.seen end).log ≡ nothing_done }
+        ensures { result ≡ record { inner = E.seen end; bound = bytes; left = bytes; faults = (E.seen end).faults } }
     {
         let faults = end.faults();
         CutEnd {
             end,
+            bound: bytes,
             left: bytes,
             faults,
         }
+    }
+
+    /// How many bytes pass in all, or None where there is no bound.
+    pub fn bound(&self) -> Option<u64>
+        ensures { result ≡ self.now.bound }
+    {
+        self.bound
+    }
+
+    /// That what passed and what is left make up the bound, and that it has the faults of the end inside until
+    /// nothing more passes, for contracts alone.
+    pub fn is_cut_right(&self)
+        ensures { IsCutRight self.now }
+    {
+        let _ = &self.end;
     }
 
     /// The end inside.
@@ -90,24 +112,6 @@ fn left_after_write(answer: EndWrite, left: Option<u64>) -> Option<u64>
     }
 }
 
-fn counted_read(answer: EndRead, faults: u64) -> u64
-    ensures { result ≡ counted_read answer faults }
-{
-    match answer {
-        EndRead::Failed => faults.saturating_add(1),
-        _ => faults,
-    }
-}
-
-fn counted_write(answer: EndWrite, faults: u64) -> u64
-    ensures { result ≡ counted_write answer faults }
-{
-    match answer {
-        EndWrite::Failed => faults.saturating_add(1),
-        _ => faults,
-    }
-}
-
 // Reads the end inside into as much of a piece as may pass.
 fn read_within<E: End>(end: &mut E, left: Option<u64>, into: &mut [u8]) -> EndRead
     requires piece { 0 < length into.old }
@@ -148,7 +152,7 @@ impl<E: End> End for CutEnd<E> {
         self.faults
     }
 
-    #[tactic(auto, using(crate::proofs::Bounds::reads_cut, crate::proofs::Bounds::reads_outside))]
+    #[tactic(auto, using(crate::proofs::Bounds::reads_cut, crate::proofs::Bounds::reads_outside, crate::proofs::Cutting::cut_right, crate::proofs::Cutting::read_right))]
     fn read(&mut self, into: &mut [u8]) -> EndRead
         requires piece { 0 < length into.old }
         requires open { self.old.inner.log.closed ≡ false }
@@ -162,11 +166,11 @@ impl<E: End> End for CutEnd<E> {
         }
         let answer = read_within(&mut self.end, self.left, into);
         self.left = left_after_read(answer, self.left);
-        self.faults = counted_read(answer, self.faults);
+        self.faults = self.end.faults();
         answer
     }
 
-    #[tactic(auto, using(crate::proofs::Bounds::writes_cut, crate::proofs::Bounds::writes_outside))]
+    #[tactic(auto, using(crate::proofs::Bounds::writes_cut, crate::proofs::Bounds::writes_outside, crate::proofs::Cutting::cut_right, crate::proofs::Cutting::write_right))]
     fn write(&mut self, bytes: &[u8]) -> EndWrite
         requires piece { 0 < length bytes.now }
         requires open { self.old.inner.log.closed ≡ false }
@@ -179,14 +183,16 @@ impl<E: End> End for CutEnd<E> {
         }
         let answer = write_within(&mut self.end, self.left, bytes);
         self.left = left_after_write(answer, self.left);
-        self.faults = counted_write(answer, self.faults);
+        self.faults = self.end.faults();
         answer
     }
 
+    #[tactic(auto, using(crate::proofs::Cutting::close_right))]
     fn close(&mut self) {
         self.end.close();
     }
 
+    #[tactic(auto, using(crate::proofs::Cutting::hear_right))]
     fn hear(&mut self, bytes: &[u8], news: News) -> Result<(), NoMemory> {
         self.end.hear(bytes, news)
     }
