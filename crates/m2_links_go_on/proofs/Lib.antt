@@ -1,14 +1,17 @@
+pub mod Apart
 pub mod AreHeard
 pub mod Both
 pub mod Bringing
 pub mod Brings
 pub mod Callers
+pub mod Came
 pub mod CenterTurns
 pub mod ClusterTelling
 pub mod Deliveries
 pub mod Ends
 pub mod Example
 pub mod Going
+pub mod Got
 pub mod HalfLogs
 pub mod HalfReads
 pub mod Halves
@@ -16,6 +19,10 @@ pub mod Judged
 pub mod KeptHalves
 pub mod Lagging
 pub mod Later
+pub mod Leaves
+pub mod LeftNodes
+pub mod LeftSides
+pub mod LeftTold
 pub mod LinkGoes
 pub mod LinkLists
 pub mod LinkRecords
@@ -26,6 +33,7 @@ pub mod Mailed
 pub mod Moving
 pub mod Nodes
 pub mod OneGrows
+pub mod Places
 pub mod Puts
 pub mod RecordTurns
 pub mod Records

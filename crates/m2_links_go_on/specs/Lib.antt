@@ -3,6 +3,8 @@ pub mod Cluster
 pub mod ClusterLaws
 pub mod ClusterTold
 pub mod InStep
+pub mod Left
+pub mod LeftLaws
 pub mod LinkLaws
 pub mod Linked
 pub mod LogLaws

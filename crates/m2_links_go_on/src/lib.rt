@@ -1,7 +1,7 @@
 //! What becomes of a link where nodes take their turns: of each link there is an order of all that was done, if there
 //! was one before, and what was handed on was dispatched once.
 //!
-//! What it is: definitions and laws, in seven parts.
+//! What it is: definitions and laws, in eight parts.
 //!
 //! - *Two sides of a link whose nodes act in turns can be woven.* `specs/Sides.antt` says what two sides of a link and
 //!   the halves beside them are behind a turn, beside what they were before it: journals go on, halves go on or come,
@@ -29,12 +29,17 @@
 //! - *Ends in memory stay in step* whatever nodes do and whatever passes between them (`specs/InStep.antt`), by the laws of
 //!   `m2_growth`.
 //! - *What an order says of a link* (`specs/WovenSo.antt`), by the laws of `m2_weave` and `m2_history`.
+//! - *What is left of nodes whose event threads have ended*, over sockets of any kind: their records, and the halves
+//!   that none of them took (`specs/Left.antt`). By `specs/LeftLaws.antt` two records of such nodes that are towards each
+//!   other can be woven, and where their strands have an order they are joined; a center keeps in its turns who asked,
+//!   whatever sockets there are; and what it leaves is a left node.
 //!
 //! What it isn't: anything that runs.
 #![tactic(auto)]
 
 mod cluster_laws;
 mod in_step_laws;
+mod left_laws;
 mod link_laws;
 mod log_laws;
 mod telling_laws;
@@ -47,6 +52,7 @@ pub use cluster_laws::{
     turn_grows,
 };
 pub use in_step_laws::ends_stay_in_step;
+pub use left_laws::{centers_leave, coming_stays, left_are_of_link, woven_nodes_are_joined};
 pub use link_laws::{a_link_goes_on, links_are_woven, links_go_on, staying_goes_on};
 pub use log_laws::{
     begin_logged, halves_stay_logged, logged_are_heard, mail_stays_logged, plans_stay_logged,

@@ -3,48 +3,48 @@ use Rattle.std.proofs.Common.{◌≡◌, ◌⊎◌, inl, inr, ℕ, Bool, true, f
 use Rattle.std.specs.List.{AllByRecursion, flat_map}
 use Rattle.std.proofs.lemmas.Grind.{flat_map-append}
 use Rattle.std.proofs.lemmas.List.{map-append}
-use Rattle.m2_links_go_on.specs.m2_growth.AskLaws.{AskersAreTheOpeners}
-use Rattle.m2_links_go_on.specs.m2_weave.m2_control.Laws.{HasAddrRanges}
-use Rattle.m2_links_go_on.specs.m2_fabric.declared.socket.SocketId.{SocketId}
-use Rattle.m2_links_go_on.specs.m2_fabric.Sockets.{goes_to, is_among, same_socket}
-use Rattle.m2_links_go_on.proofs.m2_growth.m2_bytes_fit.Judges.{not_judged_on}
-use Rattle.m2_links_go_on.specs.m2_growth.m2_bytes_fit.Halves.{KeepsRanges}
-use Rattle.m2_links_go_on.specs.m2_growth.m2_bytes_fit.Texts.{CanBePosted}
-use Rattle.m2_links_go_on.specs.m2_growth.Halves.{AskedTowards, HasItsHalves, IsOneOf, asked_on, sockets_left, sockets_taken}
-use Rattle.m2_links_go_on.proofs.m2_growth.Among.{among_back, among_mapped, each_by, of_each, whose}
-use Rattle.m2_links_go_on.proofs.m2_fabric.Sockets.{among_front, among_part}
-use Rattle.m2_links_go_on.specs.m2_weave.m2_handshake.Laws.{IsPrefix}
-use Rattle.m2_links_go_on.specs.m2_history.Link.{AreOfLink, HaveHalves, IsJudgedSo, both_of, half_sockets}
-use Rattle.m2_links_go_on.specs.m2_history.Parts.{PartsNow}
-use Rattle.m2_links_go_on.specs.m2_history.Woven.{BothNow, end_of, is_of_link, knows, loose_ends}
-use Rattle.m2_links_go_on.proofs.m2_fabric.m2_lemmas.Lists.{all_append}
-use Rattle.m2_links_go_on.proofs.m2_fabric.m2_lemmas.Booleans.{false_isnt_true, not_true_is_false, one_of_or, or_right, or_true}
-use Rattle.m2_links_go_on.specs.m2_weave.m2_journal.Lawful.{judged_on}
-use Rattle.m2_links_go_on.specs.m2_weave.m2_journal.State.{Judgement}
-use Rattle.m2_links_go_on.specs.m2_weave.m2_journal.declared.entry.Entry.{Entry}
-use Rattle.m2_links_go_on.specs.m2_weave.m2_journal.declared.entry.Entry.TheVariants as entry
+use Rattle.m2_growth.specs.AskLaws.{AskersAreTheOpeners}
+use Rattle.m2_weave.specs.m2_control.Laws.{HasAddrRanges}
+use Rattle.m2_fabric.specs.declared.socket.SocketId.{SocketId}
+use Rattle.m2_fabric.specs.Sockets.{goes_to, is_among, same_socket}
+use Rattle.m2_growth.proofs.m2_bytes_fit.Judges.{not_judged_on}
+use Rattle.m2_growth.specs.m2_bytes_fit.Halves.{KeepsRanges}
+use Rattle.m2_growth.specs.m2_bytes_fit.Texts.{CanBePosted}
+use Rattle.m2_growth.specs.Halves.{AskedTowards, HasItsHalves, IsOneOf, asked_on, sockets_left, sockets_taken}
+use Rattle.m2_growth.proofs.Among.{among_back, among_mapped, each_by, of_each, whose}
+use Rattle.m2_fabric.proofs.Sockets.{among_front, among_part}
+use Rattle.m2_weave.specs.m2_handshake.Laws.{IsPrefix}
+use Rattle.m2_history.specs.Link.{AreOfLink, HaveHalves, IsJudgedSo, both_of, half_sockets}
+use Rattle.m2_history.specs.Parts.{PartsNow}
+use Rattle.m2_history.specs.Woven.{BothNow, end_of, is_of_link, knows, loose_ends}
+use Rattle.m2_fabric.proofs.m2_lemmas.Lists.{all_append}
+use Rattle.m2_fabric.proofs.m2_lemmas.Booleans.{false_isnt_true, not_true_is_false, one_of_or, or_right, or_true}
+use Rattle.m2_weave.specs.m2_journal.Lawful.{judged_on}
+use Rattle.m2_weave.specs.m2_journal.State.{Judgement}
+use Rattle.m2_weave.specs.m2_journal.declared.entry.Entry.{Entry}
+use Rattle.m2_weave.specs.m2_journal.declared.entry.Entry.TheVariants as entry
 use Rattle.m2_links_go_on.proofs.LinkRecords.{knows_kind}
 use Rattle.m2_links_go_on.proofs.Standing.{judged_sockets}
-use Rattle.m2_links_go_on.specs.m2_history.m2_record.RecordNow as node
-use Rattle.m2_links_go_on.specs.m2_history.m2_record.RecordNow.{RecordNow}
-use Rattle.m2_links_go_on.specs.m2_history.m2_record.Sources.{end_at, put_of}
-use Rattle.m2_links_go_on.specs.m2_history.m2_record.TakenTrails.{judgements_in}
-use Rattle.m2_links_go_on.specs.m2_history.m2_trail.Arrivals.{LooseNow}
-use Rattle.m2_links_go_on.specs.m2_history.m2_trail.Trails.{TrailNow, opener_of}
-use Rattle.m2_links_go_on.specs.m2_weave.WeaveLaws.{ReadWasWritten}
-use Rattle.m2_links_go_on.specs.m2_weave.Strands.{has_opened, journal_of}
-use Rattle.m2_links_go_on.specs.m2_history.Actors.{Actor, actors_of_side, is_near, loose_actors, of_half, part_of, taken_half, trail_by}
-use Rattle.m2_links_go_on.specs.m2_history.WovenLaws.{RecordsAreSides}
-use Rattle.m2_links_go_on.specs.m2_history.WovenLink.{IsLink, IsLooseBeside, IsOrderOf, IsSideOf, LinkNow, items_in, trails_of}
-use Rattle.m2_links_go_on.proofs.m2_history.Bytes.{end_there, of_left, of_right}
-use Rattle.m2_links_go_on.proofs.m2_history.m2_record.AsksJudged.{judged_append}
-use Rattle.m2_woven_links.specs.Laws.{LeftAreOfLink, PostsFit, WovenNodesAreJoined, link_left}
-use Rattle.m2_woven_links.specs.Left.{AreLeftNodes, AreTowards, IsHalfOf, IsLeftNode, IsRecordOf, LeftNode, all_halves}
-use Rattle.m2_woven_links.proofs.Apart as apart
-use Rattle.m2_woven_links.proofs.Got as got
-use Rattle.m2_woven_links.proofs.Places.{IsAtNode, at_node, of_node, one_node}
-use Rattle.m2_woven_links.proofs.Sides.{opened_end}
-use Rattle.m2_woven_links.proofs.Told as told
+use Rattle.m2_history.specs.m2_record.RecordNow as node
+use Rattle.m2_history.specs.m2_record.RecordNow.{RecordNow}
+use Rattle.m2_history.specs.m2_record.Sources.{end_at, put_of}
+use Rattle.m2_history.specs.m2_record.TakenTrails.{judgements_in}
+use Rattle.m2_history.specs.m2_trail.Arrivals.{LooseNow}
+use Rattle.m2_history.specs.m2_trail.Trails.{TrailNow, opener_of}
+use Rattle.m2_weave.specs.WeaveLaws.{ReadWasWritten}
+use Rattle.m2_weave.specs.Strands.{has_opened, journal_of}
+use Rattle.m2_history.specs.Actors.{Actor, actors_of_side, is_near, loose_actors, of_half, part_of, taken_half, trail_by}
+use Rattle.m2_history.specs.WovenLaws.{RecordsAreSides}
+use Rattle.m2_history.specs.WovenLink.{IsLink, IsLooseBeside, IsOrderOf, IsSideOf, LinkNow, items_in, trails_of}
+use Rattle.m2_history.proofs.Bytes.{end_there, of_left, of_right}
+use Rattle.m2_history.proofs.m2_record.AsksJudged.{judged_append}
+use Rattle.m2_links_go_on.specs.LeftLaws.{LeftAreOfLink, PostsFit, WovenNodesAreJoined, link_left}
+use Rattle.m2_links_go_on.specs.Left.{AreLeftNodes, AreTowards, IsHalfOf, IsLeftNode, IsRecordOf, LeftNode, all_halves}
+use Rattle.m2_links_go_on.proofs.Apart as apart
+use Rattle.m2_links_go_on.proofs.Got as got
+use Rattle.m2_links_go_on.proofs.Places.{IsAtNode, at_node, of_node, one_node}
+use Rattle.m2_links_go_on.proofs.LeftSides.{opened_end}
+use Rattle.m2_links_go_on.proofs.LeftTold as told
 
 -- ---- the trails of all halves
 

@@ -2,31 +2,31 @@
 use Rattle.std.proofs.Common.{◌≡◌, inl, inr, ℕ, zero, suc, ◌+◌, ◌<◌, Bool, true, false, if◌then◌else◌, List, [], ◌∷◌, ◌++◌, length, map, take, Option, Some, None, refl, sym, ap, subst, ◌∙◌, arith, take_all}
 use Rattle.std.specs.Prelude.{slice_get, slice_index, slice_index_or, nat_lt, IsSome, is_some}
 use Rattle.std.specs.List.{IsDistinct}
-use Rattle.m2_links_go_on.specs.m2_fabric.declared.socket.SocketId.{SocketId}
-use Rattle.m2_links_go_on.specs.m2_growth.Halves.{IsOneOf}
-use Rattle.m2_links_go_on.specs.m2_weave.m2_handshake.Laws.{IsPrefix}
-use Rattle.m2_links_go_on.specs.m2_history.HalfStrands.{strand_of}
-use Rattle.m2_links_go_on.specs.m2_history.Link.{IsWholeHalf}
-use Rattle.m2_links_go_on.specs.m2_history.Woven.{BothNow, EndNow, as_judged, ends_of, half_end, is_of_link, loose_ends, loose_strand, loose_strands, row_now, rows_of, strands_of, strands_of_side}
-use Rattle.m2_links_go_on.specs.m2_weave.m2_journal.declared.entry.Entry.{Entry}
-use Rattle.m2_links_go_on.specs.m2_weave.m2_journal.Items.{runs_on}
-use Rattle.m2_links_go_on.specs.m2_weave.Order.{Cut, reached}
-use Rattle.m2_links_go_on.proofs.m2_fabric.m2_lemmas.Booleans.{false_isnt_true}
-use Rattle.m2_links_go_on.specs.m2_history.m2_trail.Arrivals.{LooseNow}
-use Rattle.m2_links_go_on.specs.m2_history.m2_trail.Trails as trail
-use Rattle.m2_links_go_on.specs.m2_history.m2_trail.Trails.{TrailNow}
-use Rattle.m2_links_go_on.proofs.m2_history.m2_trail.Runs.{runs_on-all}
-use Rattle.m2_links_go_on.specs.m2_weave.declared.table.SocketBytes.{SocketBytes}
-use Rattle.m2_links_go_on.specs.m2_weave.WeaveLaws.{IsRead, ReadWasWritten}
-use Rattle.m2_links_go_on.specs.m2_weave.Rule.{Woven, byte_at, nothing_at_all}
-use Rattle.m2_links_go_on.specs.m2_weave.Stops.{IsWoven, sizes}
-use Rattle.m2_links_go_on.specs.m2_weave.Strands.{EndOf, StrandNow, end_in, has_opened, other, read_by, total, written_at}
-use Rattle.m2_links_go_on.specs.m2_weave.Table.{bytes_of}
-use Rattle.m2_links_go_on.specs.m2_history.WovenLink.{same_end}
-use Rattle.m2_links_go_on.proofs.m2_history.Bytes.{HasBytes, IsOf, bytes_there, of_right}
-use Rattle.m2_links_go_on.proofs.m2_history.WovenHalves.{half_opens_none, half_reads, whole_own}
-use Rattle.m2_links_go_on.proofs.m2_history.WovenLinks.{get_right}
-use Rattle.m2_links_go_on.proofs.m2_fabric.m2_lemmas.Lists.{get_map}
+use Rattle.m2_fabric.specs.declared.socket.SocketId.{SocketId}
+use Rattle.m2_growth.specs.Halves.{IsOneOf}
+use Rattle.m2_weave.specs.m2_handshake.Laws.{IsPrefix}
+use Rattle.m2_history.specs.HalfStrands.{strand_of}
+use Rattle.m2_history.specs.Link.{IsWholeHalf}
+use Rattle.m2_history.specs.Woven.{BothNow, EndNow, as_judged, ends_of, half_end, is_of_link, loose_ends, loose_strand, loose_strands, row_now, rows_of, strands_of, strands_of_side}
+use Rattle.m2_weave.specs.m2_journal.declared.entry.Entry.{Entry}
+use Rattle.m2_weave.specs.m2_journal.Items.{runs_on}
+use Rattle.m2_weave.specs.Order.{Cut, reached}
+use Rattle.m2_fabric.proofs.m2_lemmas.Booleans.{false_isnt_true}
+use Rattle.m2_history.specs.m2_trail.Arrivals.{LooseNow}
+use Rattle.m2_history.specs.m2_trail.Trails as trail
+use Rattle.m2_history.specs.m2_trail.Trails.{TrailNow}
+use Rattle.m2_history.proofs.m2_trail.Runs.{runs_on-all}
+use Rattle.m2_weave.specs.declared.table.SocketBytes.{SocketBytes}
+use Rattle.m2_weave.specs.WeaveLaws.{IsRead, ReadWasWritten}
+use Rattle.m2_weave.specs.Rule.{Woven, byte_at, nothing_at_all}
+use Rattle.m2_weave.specs.Stops.{IsWoven, sizes}
+use Rattle.m2_weave.specs.Strands.{EndOf, StrandNow, end_in, has_opened, other, read_by, total, written_at}
+use Rattle.m2_weave.specs.Table.{bytes_of}
+use Rattle.m2_history.specs.WovenLink.{same_end}
+use Rattle.m2_history.proofs.Bytes.{HasBytes, IsOf, bytes_there, of_right}
+use Rattle.m2_history.proofs.WovenHalves.{half_opens_none, half_reads, whole_own}
+use Rattle.m2_history.proofs.WovenLinks.{get_right}
+use Rattle.m2_fabric.proofs.m2_lemmas.Lists.{get_map}
 
 -- ---- places in lists
 

@@ -2,28 +2,28 @@
 use Rattle.std.proofs.Common.{◌≡◌, ◌⊎◌, inl, inr, Bool, true, false, List, [], ◌∷◌, ◌++◌, map, Some, refl, sym, ap, subst, ◌∙◌, append_assoc}
 use Rattle.std.specs.List.{AllByRecursion, IsDistinct}
 use Rattle.std.proofs.lemmas.Bool.{eq-eqb}
-use Rattle.m2_links_go_on.proofs.m2_growth.m2_bytes_fit.Lists.{prefix_trans}
-use Rattle.m2_links_go_on.specs.m2_fabric.m2_addr.declared.addr.Addr.{Addr}
-use Rattle.m2_links_go_on.specs.m2_growth.AskLaws.{ArePut, AskersAreTheOpeners}
-use Rattle.m2_links_go_on.specs.m2_fabric.declared.socket.SocketId.{SocketId}
-use Rattle.m2_links_go_on.specs.m2_fabric.Sockets.{is_among}
-use Rattle.m2_links_go_on.proofs.m2_growth.m2_bytes_fit.Judges.{not_judged_on}
-use Rattle.m2_links_go_on.specs.m2_growth.Halves.{IsOneOf, asked_on}
-use Rattle.m2_links_go_on.specs.m2_growth.Records.{ends_of_all}
-use Rattle.m2_links_go_on.proofs.m2_growth.Among.{IsOf, mapped_one, of_each, one_back, whose}
-use Rattle.m2_links_go_on.specs.m2_weave.m2_handshake.Asks.{same_addr}
-use Rattle.m2_links_go_on.specs.m2_weave.m2_handshake.Laws.{IsPrefix}
-use Rattle.m2_links_go_on.specs.m2_weave.m2_journal.Lawful.{judged_on}
-use Rattle.m2_links_go_on.specs.m2_weave.m2_journal.State.{Judgement}
-use Rattle.m2_links_go_on.proofs.m2_growth.Asked.{end_own}
-use Rattle.m2_links_go_on.proofs.m2_fabric.m2_lemmas.Booleans.{false_isnt_true}
-use Rattle.m2_links_go_on.specs.m2_history.m2_record.RecordNow.{RecordNow, ends_of}
-use Rattle.m2_links_go_on.specs.m2_history.m2_record.Sources.{end_at, got_of, put_of}
-use Rattle.m2_links_go_on.specs.m2_history.m2_record.TakenTrails.{judgements_in}
-use Rattle.m2_links_go_on.specs.m2_growth.m2_turn.Sessions.{peer_of}
-use Rattle.m2_links_go_on.specs.m2_history.m2_trail.Arrivals.{LooseNow}
-use Rattle.m2_links_go_on.specs.m2_weave.Strands.{has_opened, journal_of}
-use Rattle.m2_woven_links.specs.Left.{AllCameOfPeer, CameOfPeer, IsHalfOf, IsLeftNode, IsRecordOf, IsToldBy, LeftNode, ends_left}
+use Rattle.m2_growth.proofs.m2_bytes_fit.Lists.{prefix_trans}
+use Rattle.m2_fabric.specs.m2_addr.declared.addr.Addr.{Addr}
+use Rattle.m2_growth.specs.AskLaws.{ArePut, AskersAreTheOpeners}
+use Rattle.m2_fabric.specs.declared.socket.SocketId.{SocketId}
+use Rattle.m2_fabric.specs.Sockets.{is_among}
+use Rattle.m2_growth.proofs.m2_bytes_fit.Judges.{not_judged_on}
+use Rattle.m2_growth.specs.Halves.{IsOneOf, asked_on}
+use Rattle.m2_growth.specs.Records.{ends_of_all}
+use Rattle.m2_growth.proofs.Among.{IsOf, mapped_one, of_each, one_back, whose}
+use Rattle.m2_weave.specs.m2_handshake.Asks.{same_addr}
+use Rattle.m2_weave.specs.m2_handshake.Laws.{IsPrefix}
+use Rattle.m2_weave.specs.m2_journal.Lawful.{judged_on}
+use Rattle.m2_weave.specs.m2_journal.State.{Judgement}
+use Rattle.m2_growth.proofs.Asked.{end_own}
+use Rattle.m2_fabric.proofs.m2_lemmas.Booleans.{false_isnt_true}
+use Rattle.m2_history.specs.m2_record.RecordNow.{RecordNow, ends_of}
+use Rattle.m2_history.specs.m2_record.Sources.{end_at, got_of, put_of}
+use Rattle.m2_history.specs.m2_record.TakenTrails.{judgements_in}
+use Rattle.m2_growth.specs.m2_turn.Sessions.{peer_of}
+use Rattle.m2_history.specs.m2_trail.Arrivals.{LooseNow}
+use Rattle.m2_weave.specs.Strands.{has_opened, journal_of}
+use Rattle.m2_links_go_on.specs.Left.{AllCameOfPeer, CameOfPeer, IsHalfOf, IsLeftNode, IsRecordOf, IsToldBy, LeftNode, ends_left}
 
 -- ---- records by their peers
 

@@ -3,15 +3,15 @@ use Rattle.std.proofs.Common.{◌≡◌, ◌⊎◌, inl, inr, true, false, List,
 use Rattle.std.specs.Prelude.{◌==◌}
 use Rattle.std.specs.List.{AllByRecursion, IsDistinct}
 use Rattle.std.proofs.lemmas.Bool.{eq-eqb, eqb-true}
-use Rattle.m2_links_go_on.specs.m2_fabric.m2_addr.declared.addr.Addr.{Addr}
-use Rattle.m2_links_go_on.specs.m2_fabric.declared.socket.SocketId.{SocketId}
-use Rattle.m2_links_go_on.specs.m2_fabric.SimFabric.{same_place}
-use Rattle.m2_links_go_on.specs.m2_fabric.Sockets.{goes_to}
-use Rattle.m2_links_go_on.specs.m2_growth.Halves.{IsOneOf}
-use Rattle.m2_links_go_on.proofs.m2_growth.Among.{in_part, one_back, one_front}
-use Rattle.m2_links_go_on.proofs.m2_fabric.m2_lemmas.Booleans.{both_of_and, false_isnt_true}
-use Rattle.m2_links_go_on.specs.m2_history.m2_trail.Arrivals.{LooseNow}
-use Rattle.m2_woven_links.specs.Left.{LeftNode, all_halves}
+use Rattle.m2_fabric.specs.m2_addr.declared.addr.Addr.{Addr}
+use Rattle.m2_fabric.specs.declared.socket.SocketId.{SocketId}
+use Rattle.m2_fabric.specs.SimFabric.{same_place}
+use Rattle.m2_fabric.specs.Sockets.{goes_to}
+use Rattle.m2_growth.specs.Halves.{IsOneOf}
+use Rattle.m2_growth.proofs.Among.{in_part, one_back, one_front}
+use Rattle.m2_fabric.proofs.m2_lemmas.Booleans.{both_of_and, false_isnt_true}
+use Rattle.m2_history.specs.m2_trail.Arrivals.{LooseNow}
+use Rattle.m2_links_go_on.specs.Left.{LeftNode, all_halves}
 
 one_place : (a b : Addr) (k : SocketId) → goes_to a k ≡ true → goes_to b k ≡ true → same_place a b ≡ true
 one_place a b k p q =

@@ -2,33 +2,33 @@
 use Rattle.std.proofs.Common.{◌≡◌, ◌⊎◌, inl, inr, Bool, true, false, if◌then◌else◌, List, [], ◌∷◌, ◌++◌, map, None, refl, sym, ap, subst, ◌∙◌}
 use Rattle.std.specs.List.{AllByRecursion, IsDistinct}
 use Rattle.std.proofs.lemmas.List.{map-append}
-use Rattle.m2_links_go_on.specs.m2_fabric.declared.socket.SocketId.{SocketId}
-use Rattle.m2_links_go_on.specs.m2_fabric.End.{SeenEnd}
-use Rattle.m2_links_go_on.specs.m2_fabric.SimFabric.{same_place}
-use Rattle.m2_links_go_on.specs.m2_fabric.Sockets.{goes_to, is_among, same_socket}
-use Rattle.m2_links_go_on.specs.m2_growth.Halves.{AskedTowards, IsOneOf, asked_on}
-use Rattle.m2_links_go_on.specs.m2_growth.Records.{ends_of_all}
-use Rattle.m2_links_go_on.proofs.m2_growth.Among.{among_mapped, each_by, mapped_one, of_each}
-use Rattle.m2_links_go_on.proofs.m2_growth.Ends.{own_apart, own_first, own_last}
-use Rattle.m2_links_go_on.specs.m2_history.Link.{both_of}
-use Rattle.m2_links_go_on.specs.m2_history.Woven.{EndNow, end_of, ends_of, half_end, is_of_link, loose_ends}
-use Rattle.m2_links_go_on.proofs.m2_fabric.m2_lemmas.Lists.{all_append, all_map}
-use Rattle.m2_links_go_on.specs.m2_weave.m2_journal.declared.entry.Entry.{Entry}
-use Rattle.m2_links_go_on.proofs.m2_growth.Asked.{end_own}
+use Rattle.m2_fabric.specs.declared.socket.SocketId.{SocketId}
+use Rattle.m2_fabric.specs.End.{SeenEnd}
+use Rattle.m2_fabric.specs.SimFabric.{same_place}
+use Rattle.m2_fabric.specs.Sockets.{goes_to, is_among, same_socket}
+use Rattle.m2_growth.specs.Halves.{AskedTowards, IsOneOf, asked_on}
+use Rattle.m2_growth.specs.Records.{ends_of_all}
+use Rattle.m2_growth.proofs.Among.{among_mapped, each_by, mapped_one, of_each}
+use Rattle.m2_growth.proofs.Ends.{own_apart, own_first, own_last}
+use Rattle.m2_history.specs.Link.{both_of}
+use Rattle.m2_history.specs.Woven.{EndNow, end_of, ends_of, half_end, is_of_link, loose_ends}
+use Rattle.m2_fabric.proofs.m2_lemmas.Lists.{all_append, all_map}
+use Rattle.m2_weave.specs.m2_journal.declared.entry.Entry.{Entry}
+use Rattle.m2_growth.proofs.Asked.{end_own}
 use Rattle.m2_links_go_on.proofs.LinkRecords.{none_some, one_at, one_own}
 use Rattle.m2_links_go_on.proofs.Standing.{ends_single, loose_ends_single}
-use Rattle.m2_links_go_on.proofs.m2_fabric.m2_lemmas.Booleans.{both_of_and, false_isnt_true, not_true_is_false}
-use Rattle.m2_links_go_on.proofs.m2_fabric.Sockets.{same_equal}
-use Rattle.m2_links_go_on.specs.m2_history.m2_record.RecordNow as node
-use Rattle.m2_links_go_on.specs.m2_history.m2_record.RecordNow.{RecordNow, ids_of}
-use Rattle.m2_links_go_on.specs.m2_history.m2_record.Sources.{end_at}
-use Rattle.m2_links_go_on.specs.m2_history.m2_trail.Arrivals.{LooseNow}
-use Rattle.m2_links_go_on.specs.m2_weave.Strands.{has_opened, journal_of, same_side}
-use Rattle.m2_links_go_on.specs.m2_history.WovenLink.{same_end}
-use Rattle.m2_links_go_on.proofs.m2_history.Halfway.{apart_from, distinct_join}
-use Rattle.m2_woven_links.specs.Left.{AreLeftNodes, AreTowards, IsHalfOf, IsLeftNode, IsRecordOf, LeftNode, all_halves}
-use Rattle.m2_woven_links.proofs.Places.{IsAtNode, at_node, one_node, other_place}
-use Rattle.m2_woven_links.proofs.Sides.{end_kind, opened_goes}
+use Rattle.m2_fabric.proofs.m2_lemmas.Booleans.{both_of_and, false_isnt_true, not_true_is_false}
+use Rattle.m2_fabric.proofs.Sockets.{same_equal}
+use Rattle.m2_history.specs.m2_record.RecordNow as node
+use Rattle.m2_history.specs.m2_record.RecordNow.{RecordNow, ids_of}
+use Rattle.m2_history.specs.m2_record.Sources.{end_at}
+use Rattle.m2_history.specs.m2_trail.Arrivals.{LooseNow}
+use Rattle.m2_weave.specs.Strands.{has_opened, journal_of, same_side}
+use Rattle.m2_history.specs.WovenLink.{same_end}
+use Rattle.m2_history.proofs.Halfway.{apart_from, distinct_join}
+use Rattle.m2_links_go_on.specs.Left.{AreLeftNodes, AreTowards, IsHalfOf, IsLeftNode, IsRecordOf, LeftNode, all_halves}
+use Rattle.m2_links_go_on.proofs.Places.{IsAtNode, at_node, one_node, other_place}
+use Rattle.m2_links_go_on.proofs.LeftSides.{end_kind, opened_goes}
 
 -- ---- halves of all nodes
 

@@ -2,31 +2,31 @@
 -- is asked of the sockets between nodes: an opener's port may be any, others may connect, and bytes may be any. This project's own.
 use Rattle.std.specs.Prelude.{◌≡◌, ◌⊎◌, ◌<◌, ◌^◌, true, false, List, [], ◌++◌, map, IfSome}
 use Rattle.std.specs.List.{AllByRecursion, IsDistinct, flat_map}
-use Rattle.m2_links_go_on.specs.m2_fabric.m2_addr.declared.addr.Addr.{Addr}
-use Rattle.m2_links_go_on.specs.m2_weave.m2_control.Laws.{HasAddrRanges}
-use Rattle.m2_links_go_on.specs.m2_fabric.declared.socket.SocketId.{SocketId}
-use Rattle.m2_links_go_on.specs.m2_fabric.End.{SeenEnd}
-use Rattle.m2_links_go_on.specs.m2_fabric.SimFabric.{same_place}
-use Rattle.m2_links_go_on.specs.m2_fabric.Sockets.{goes_to, is_among}
-use Rattle.m2_links_go_on.specs.m2_growth.m2_bytes_fit.Halves.{KeepsRanges}
-use Rattle.m2_links_go_on.specs.m2_growth.Ends.{AreOfTheirOwn}
-use Rattle.m2_links_go_on.specs.m2_growth.Halves.{AskedTowards, HasItsHalves, IsOneOf, all_left, asked_on}
-use Rattle.m2_links_go_on.specs.m2_growth.Holding.{Holding}
-use Rattle.m2_links_go_on.specs.m2_growth.Records.{ends_of_all}
-use Rattle.m2_links_go_on.specs.m2_weave.m2_handshake.Asks.{same_addr}
-use Rattle.m2_links_go_on.specs.m2_weave.m2_handshake.Laws.{IsPrefix}
-use Rattle.m2_links_go_on.specs.m2_history.Link.{IsWholeHalf}
-use Rattle.m2_links_go_on.specs.m2_weave.m2_journal.Lawful.{judged_on}
-use Rattle.m2_links_go_on.specs.m2_weave.m2_journal.State.{Judgement}
-use Rattle.m2_links_go_on.specs.m2_history.m2_record.IsRecord.{IsRecord}
-use Rattle.m2_links_go_on.specs.m2_history.m2_record.RecordNow.{RecordNow}
-use Rattle.m2_links_go_on.specs.m2_history.m2_record.Sources.{end_at, got_of}
-use Rattle.m2_links_go_on.specs.m2_history.m2_record.TakenTrails.{judgements_in}
-use Rattle.m2_links_go_on.specs.m2_growth.m2_turn.Sessions.{peer_of}
-use Rattle.m2_links_go_on.specs.m2_history.m2_trail.Arrivals.{IsArrival, LooseNow}
-use Rattle.m2_links_go_on.specs.m2_history.m2_trail.Asks.{IsMain}
-use Rattle.m2_links_go_on.specs.m2_history.m2_trail.Incoming.{IncomingNow}
-use Rattle.m2_links_go_on.specs.m2_history.m2_trail.Trails.{TrailNow, opener_of}
+use Rattle.m2_fabric.specs.m2_addr.declared.addr.Addr.{Addr}
+use Rattle.m2_weave.specs.m2_control.Laws.{HasAddrRanges}
+use Rattle.m2_fabric.specs.declared.socket.SocketId.{SocketId}
+use Rattle.m2_fabric.specs.End.{SeenEnd}
+use Rattle.m2_fabric.specs.SimFabric.{same_place}
+use Rattle.m2_fabric.specs.Sockets.{goes_to, is_among}
+use Rattle.m2_growth.specs.m2_bytes_fit.Halves.{KeepsRanges}
+use Rattle.m2_growth.specs.Ends.{AreOfTheirOwn}
+use Rattle.m2_growth.specs.Halves.{AskedTowards, HasItsHalves, IsOneOf, all_left, asked_on}
+use Rattle.m2_growth.specs.Holding.{Holding}
+use Rattle.m2_growth.specs.Records.{ends_of_all}
+use Rattle.m2_weave.specs.m2_handshake.Asks.{same_addr}
+use Rattle.m2_weave.specs.m2_handshake.Laws.{IsPrefix}
+use Rattle.m2_history.specs.Link.{IsWholeHalf}
+use Rattle.m2_weave.specs.m2_journal.Lawful.{judged_on}
+use Rattle.m2_weave.specs.m2_journal.State.{Judgement}
+use Rattle.m2_history.specs.m2_record.IsRecord.{IsRecord}
+use Rattle.m2_history.specs.m2_record.RecordNow.{RecordNow}
+use Rattle.m2_history.specs.m2_record.Sources.{end_at, got_of}
+use Rattle.m2_history.specs.m2_record.TakenTrails.{judgements_in}
+use Rattle.m2_growth.specs.m2_turn.Sessions.{peer_of}
+use Rattle.m2_history.specs.m2_trail.Arrivals.{IsArrival, LooseNow}
+use Rattle.m2_history.specs.m2_trail.Asks.{IsMain}
+use Rattle.m2_history.specs.m2_trail.Incoming.{IncomingNow}
+use Rattle.m2_history.specs.m2_trail.Trails.{TrailNow, opener_of}
 
 -- where the node listens; its records; and the halves that none of them took
 pub record LeftNode : Type 0 where

@@ -1,15 +1,15 @@
 -- What is promised of what is left of nodes.
 use Rattle.std.specs.Prelude.{ℕ, List}
 use Rattle.std.specs.List.{AllByRecursion}
-use Rattle.m2_links_go_on.specs.m2_growth.m2_bytes_fit.Texts.{CanBePosted}
-use Rattle.m2_links_go_on.specs.m2_history.Link.{AreOfLink, both_of, parts_of}
-use Rattle.m2_links_go_on.specs.m2_history.m2_record.RecordNow.{RecordNow}
-use Rattle.m2_links_go_on.specs.m2_history.WovenLaws.{link_of}
-use Rattle.m2_links_go_on.specs.m2_history.WovenLink.{IsLink, IsOrderOf, LinkNow, items_in}
-use Rattle.m2_links_go_on.specs.m2_growth.Holding.{Grows, Holding, all_ends}
-use Rattle.m2_links_go_on.specs.m2_growth.Halves.{all_left}
+use Rattle.m2_growth.specs.m2_bytes_fit.Texts.{CanBePosted}
+use Rattle.m2_history.specs.Link.{AreOfLink, both_of, parts_of}
+use Rattle.m2_history.specs.m2_record.RecordNow.{RecordNow}
+use Rattle.m2_history.specs.WovenLaws.{link_of}
+use Rattle.m2_history.specs.WovenLink.{IsLink, IsOrderOf, LinkNow, items_in}
+use Rattle.m2_growth.specs.Holding.{Grows, Holding, all_ends}
+use Rattle.m2_growth.specs.Halves.{all_left}
 use Rattle.m2_links_go_on.specs.Linked.{IsNode}
-use Rattle.m2_woven_links.specs.Left.{AllCameOfPeer, AreLeftNodes, AreTowards, IsLeftNode, IsNamed, IsSeen, LeftNode, all_halves, left_node}
+use Rattle.m2_links_go_on.specs.Left.{AllCameOfPeer, AreLeftNodes, AreTowards, IsLeftNode, IsNamed, IsSeen, LeftNode, all_halves, left_node}
 
 -- the link between two records, with the halves that no record took, of all nodes
 abbrev pub link_left : List LeftNode → (a b : RecordNow) → LinkNow

@@ -1,36 +1,36 @@
 -- What a center leaves is a left node, where it is the node's only one.
 use Rattle.std.proofs.Common.{◌≡◌, ◌⊎◌, inl, inr, true, [], ◌++◌, map, Option, Some, refl, sym, ap, subst, ◌∙◌}
 use Rattle.std.specs.List.{AllByRecursion}
-use Rattle.m2_links_go_on.specs.m2_fabric.declared.socket.SocketId.{SocketId}
-use Rattle.m2_links_go_on.specs.m2_fabric.End.{SeenEnd}
-use Rattle.m2_links_go_on.specs.m2_fabric.Sockets.{goes_to, is_among}
-use Rattle.m2_links_go_on.specs.m2_growth.Ends.{AreOfTheirOwn}
-use Rattle.m2_links_go_on.specs.m2_growth.Halves.{HasItsHalves, IsOneOf, all_left, asked_on, sockets_left, sockets_taken}
-use Rattle.m2_links_go_on.specs.m2_growth.Holding.{Holding, LeadsElsewhere, all_ends, ends_held, waiting_at}
-use Rattle.m2_links_go_on.specs.m2_growth.Records.{ends_of_all}
-use Rattle.m2_links_go_on.proofs.m2_growth.Among.{among_mapped, each_by, mapped_one, of_each, one_back, whose}
-use Rattle.m2_links_go_on.proofs.m2_fabric.Sockets.{among_part}
-use Rattle.m2_links_go_on.proofs.m2_growth.Ends.{end_append, first_of, own_first}
-use Rattle.m2_links_go_on.proofs.m2_history.Kept.{records_are_kept}
-use Rattle.m2_links_go_on.specs.m2_history.Link.{IsKeptHalf, IsWholeHalf, end_ids, parts_of}
-use Rattle.m2_links_go_on.specs.m2_weave.m2_journal.Lawful.{judged_on}
-use Rattle.m2_links_go_on.specs.m2_weave.m2_journal.State.{Judgement}
+use Rattle.m2_fabric.specs.declared.socket.SocketId.{SocketId}
+use Rattle.m2_fabric.specs.End.{SeenEnd}
+use Rattle.m2_fabric.specs.Sockets.{goes_to, is_among}
+use Rattle.m2_growth.specs.Ends.{AreOfTheirOwn}
+use Rattle.m2_growth.specs.Halves.{HasItsHalves, IsOneOf, all_left, asked_on, sockets_left, sockets_taken}
+use Rattle.m2_growth.specs.Holding.{Holding, LeadsElsewhere, all_ends, ends_held, waiting_at}
+use Rattle.m2_growth.specs.Records.{ends_of_all}
+use Rattle.m2_growth.proofs.Among.{among_mapped, each_by, mapped_one, of_each, one_back, whose}
+use Rattle.m2_fabric.proofs.Sockets.{among_part}
+use Rattle.m2_growth.proofs.Ends.{end_append, first_of, own_first}
+use Rattle.m2_history.proofs.Kept.{records_are_kept}
+use Rattle.m2_history.specs.Link.{IsKeptHalf, IsWholeHalf, end_ids, parts_of}
+use Rattle.m2_weave.specs.m2_journal.Lawful.{judged_on}
+use Rattle.m2_weave.specs.m2_journal.State.{Judgement}
 use Rattle.m2_links_go_on.specs.Linked.{IsNode}
 use Rattle.m2_links_go_on.proofs.Callers.{IsCalled, IsJudgedBy, are_called, judged_by_one, told_all}
 use Rattle.m2_links_go_on.proofs.Nodes.{ends_of_left}
-use Rattle.m2_links_go_on.proofs.m2_growth.Asked.{end_own}
+use Rattle.m2_growth.proofs.Asked.{end_own}
 use Rattle.m2_links_go_on.proofs.LinkRecords.{has_one, one_at}
-use Rattle.m2_links_go_on.specs.m2_history.m2_record.IsRecord.{IsRecord}
-use Rattle.m2_links_go_on.specs.m2_history.m2_record.RecordNow.{RecordNow, ends_of, ids_of}
-use Rattle.m2_links_go_on.specs.m2_history.m2_record.Sources.{end_at, got_of}
-use Rattle.m2_links_go_on.specs.m2_history.m2_record.TakenTrails.{judgements_in}
-use Rattle.m2_links_go_on.specs.m2_weave.m2_handshake.Laws.{IsPrefix}
-use Rattle.m2_links_go_on.specs.m2_growth.m2_turn.Hearing.{ends_in}
-use Rattle.m2_links_go_on.specs.m2_growth.m2_turn.Sessions.{IsTold}
-use Rattle.m2_links_go_on.specs.m2_history.m2_trail.Arrivals.{LooseNow}
-use Rattle.m2_links_go_on.specs.m2_history.m2_trail.Trails.{TrailNow}
-use Rattle.m2_woven_links.specs.Laws.{CentersLeave, HaveCome}
-use Rattle.m2_woven_links.specs.Left.{AllCameOfPeer, CameOfPeer, IsHalfOf, IsLeftNode, IsNamed, IsRecordOf, IsSeen, IsToldBy, ends_left, left_node}
+use Rattle.m2_history.specs.m2_record.IsRecord.{IsRecord}
+use Rattle.m2_history.specs.m2_record.RecordNow.{RecordNow, ends_of, ids_of}
+use Rattle.m2_history.specs.m2_record.Sources.{end_at, got_of}
+use Rattle.m2_history.specs.m2_record.TakenTrails.{judgements_in}
+use Rattle.m2_weave.specs.m2_handshake.Laws.{IsPrefix}
+use Rattle.m2_growth.specs.m2_turn.Hearing.{ends_in}
+use Rattle.m2_growth.specs.m2_turn.Sessions.{IsTold}
+use Rattle.m2_history.specs.m2_trail.Arrivals.{LooseNow}
+use Rattle.m2_history.specs.m2_trail.Trails.{TrailNow}
+use Rattle.m2_links_go_on.specs.LeftLaws.{CentersLeave, HaveCome}
+use Rattle.m2_links_go_on.specs.Left.{AllCameOfPeer, CameOfPeer, IsHalfOf, IsLeftNode, IsNamed, IsRecordOf, IsSeen, IsToldBy, ends_left, left_node}
 
 module _ (h : Holding) (node : IsNode h) (come : HaveCome h) (named : AllByRecursion (IsNamed h.port.at) h.records) (seen : AllByRecursion IsSeen (all_left h.halves)) where
   ends_are : ends_left (left_node h) ≡ ends_held h

@@ -1,7 +1,7 @@
 //! What is promised of what is left of nodes. These functions do nothing: each stands for the law that its contract
 //! names.
 
-ghost use Rattle.m2_woven_links.specs.Laws as laws;
+ghost use Rattle.m2_links_go_on.specs.LeftLaws as laws;
 
 /// Two records that are towards each other are a link to be woven, with the halves that no record took of all nodes.
 pub fn left_are_of_link()

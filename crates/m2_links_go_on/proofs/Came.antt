@@ -4,21 +4,21 @@ use Rattle.std.specs.Prelude.{IfSome}
 use Rattle.std.specs.List.{AllByRecursion}
 use Rattle.std.proofs.Math.Seq.{drop-append_seam}
 use Rattle.std.proofs.lemmas.List.Elements.{filter_map-append}
-use Rattle.m2_links_go_on.specs.m2_fabric.End.{SeenEnd}
-use Rattle.m2_links_go_on.specs.m2_growth.Ends.{EndsGrow}
-use Rattle.m2_links_go_on.specs.m2_growth.Halves.{AreAskedByPeers, IsAskedByPeer, judged_since}
-use Rattle.m2_links_go_on.specs.m2_growth.Holding.{all_ends}
-use Rattle.m2_links_go_on.specs.m2_growth.Records.{RecordGrows, RecordsGrow}
-use Rattle.m2_links_go_on.proofs.m2_growth.Asked.{got_on}
-use Rattle.m2_links_go_on.proofs.m2_fabric.m2_lemmas.Lists.{all_append, all_so}
-use Rattle.m2_links_go_on.specs.m2_weave.m2_journal.declared.entry.Entry.{Entry}
-use Rattle.m2_links_go_on.specs.m2_weave.m2_journal.State.{Judgement}
-use Rattle.m2_links_go_on.specs.m2_history.m2_record.RecordNow.{RecordNow}
-use Rattle.m2_links_go_on.specs.m2_history.m2_record.Sources.{end_at}
-use Rattle.m2_links_go_on.specs.m2_history.m2_record.TakenTrails.{judgement_of, judgements_in}
-use Rattle.m2_links_go_on.specs.m2_history.m2_trail.Asks.{IsMain}
-use Rattle.m2_woven_links.specs.Laws.{ComingStays}
-use Rattle.m2_woven_links.specs.Left.{AllCameOfPeer, CameOfPeer}
+use Rattle.m2_fabric.specs.End.{SeenEnd}
+use Rattle.m2_growth.specs.Ends.{EndsGrow}
+use Rattle.m2_growth.specs.Halves.{AreAskedByPeers, IsAskedByPeer, judged_since}
+use Rattle.m2_growth.specs.Holding.{all_ends}
+use Rattle.m2_growth.specs.Records.{RecordGrows, RecordsGrow}
+use Rattle.m2_growth.proofs.Asked.{got_on}
+use Rattle.m2_fabric.proofs.m2_lemmas.Lists.{all_append, all_so}
+use Rattle.m2_weave.specs.m2_journal.declared.entry.Entry.{Entry}
+use Rattle.m2_weave.specs.m2_journal.State.{Judgement}
+use Rattle.m2_history.specs.m2_record.RecordNow.{RecordNow}
+use Rattle.m2_history.specs.m2_record.Sources.{end_at}
+use Rattle.m2_history.specs.m2_record.TakenTrails.{judgement_of, judgements_in}
+use Rattle.m2_history.specs.m2_trail.Asks.{IsMain}
+use Rattle.m2_links_go_on.specs.LeftLaws.{ComingStays}
+use Rattle.m2_links_go_on.specs.Left.{AllCameOfPeer, CameOfPeer}
 
 -- one that was judged before
 came_on : (xs ys : List SeenEnd) (r s : RecordNow) → EndsGrow xs ys → RecordGrows r s → (j : Judgement) → CameOfPeer xs r j → CameOfPeer ys s j

@@ -1,9 +1,0 @@
--- The lemma, by what holds of strands, of records, and of who asks.
-use Rattle.m2_links_go_on.proofs.m2_growth.Records.{askers_are}
-use Rattle.m2_links_go_on.proofs.m2_history.Whole.{records_are_sides}
-use Rattle.m2_links_go_on.proofs.m2_weave.Written.{all_read}
-use Rattle.m2_woven_links.proofs.Nodes.{are_joined}
-use Rattle.m2_woven_links.proofs.laws.woven_nodes_are_joined.Goals as goal
-
-pub returns : goal.returns
-returns c = are_joined all_read askers_are records_are_sides
