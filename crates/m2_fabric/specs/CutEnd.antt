@@ -1,5 +1,5 @@
 -- An end that breaks after so many bytes.
-use Rattle.std.specs.Prelude.{◌≡◌, ℕ, ◌+◌, ◌≤◌, true, false, List, length, take, Option, None, IfSome}
+use Rattle.std.specs.Prelude.{◌≡◌, ℕ, ◌+◌, ◌≤◌, true, false, List, length, take, Option, IfSome}
 use Rattle.m2_edge.specs.Faults.{next_count}
 use Rattle.m2_fabric.specs.Cuts.{allowance, is_cut, least, passed}
 use Rattle.m2_fabric.specs.End.{Reads, SeenEnd, Writes, left_read, left_written}

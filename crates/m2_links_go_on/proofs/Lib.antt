@@ -17,6 +17,7 @@ pub mod HalfReads
 pub mod Halves
 pub mod Judged
 pub mod KeptHalves
+pub mod KeptPlans
 pub mod Lagging
 pub mod Later
 pub mod Leaves
@@ -33,6 +34,9 @@ pub mod Mailed
 pub mod Moving
 pub mod Nodes
 pub mod OneGrows
+pub mod PeerOutboxes
+pub mod PeerRecords
+pub mod PeerTurns
 pub mod Places
 pub mod Puts
 pub mod RecordTurns

@@ -9,6 +9,8 @@ pub mod LinkLaws
 pub mod Linked
 pub mod LogLaws
 pub mod Logged
+pub mod OfPeers
+pub mod PeerLaws
 pub mod Records
 pub mod Sides
 pub mod TellingLaws

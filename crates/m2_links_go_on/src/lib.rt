@@ -25,7 +25,8 @@
 //!   before the other dispatcher, or is in the mail; each once and in order. By `specs/LogLaws.antt` it is so at first,
 //!   and stays so behind a center's turn and each stage of it, behind a step that is planned, and behind what ends are
 //!   told; and so of each record its peer is heard to send, of each key, some of what the record accepted, in order,
-//!   each once.
+//!   each once. All these calls, and all that is on its way to the dispatchers, are of peers of the records
+//!   (`specs/OfPeers.antt`, `specs/PeerLaws.antt`).
 //! - *Ends in memory stay in step* whatever nodes do and whatever passes between them (`specs/InStep.antt`), by the laws of
 //!   `m2_growth`.
 //! - *What an order says of a link* (`specs/WovenSo.antt`), by the laws of `m2_weave` and `m2_history`.
@@ -42,6 +43,7 @@ mod in_step_laws;
 mod left_laws;
 mod link_laws;
 mod log_laws;
+mod peer_laws;
 mod telling_laws;
 mod told;
 mod turn_laws;
@@ -57,6 +59,9 @@ pub use link_laws::{a_link_goes_on, links_are_woven, links_go_on, staying_goes_o
 pub use log_laws::{
     begin_logged, halves_stay_logged, logged_are_heard, mail_stays_logged, plans_stay_logged,
     records_stay_logged, rest_stays_logged, turns_stay_logged,
+};
+pub use peer_laws::{
+    begin_of_peers, plans_stay_of_peers, rest_stays_of_peers, turns_stay_of_peers,
 };
 pub use telling_laws::{told_stays_woven, woven_stays};
 pub use told::{

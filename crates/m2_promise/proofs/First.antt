@@ -24,7 +24,9 @@ use Rattle.m2_promise.specs.Acting.{run_of}
 use Rattle.m2_promise.specs.Beginning.{IsBeginning, IsNewAt}
 use Rattle.m2_promise.specs.BeginningLaws.{BeginningsHaveOrders, BeginningsRun, NewCentersAreNew, NewClustersBegin}
 use Rattle.m2_promise.specs.Kept.{IsKept}
-use Rattle.m2_promise.specs.Planned.{AreOfPeers, IsKeptNode, IsTaken}
+use Rattle.m2_links_go_on.specs.OfPeers.{AreOfPeers}
+use Rattle.m2_links_go_on.proofs.PeerTurns.{begin_of_peers}
+use Rattle.m2_promise.specs.Planned.{IsKeptNode, IsTaken}
 use Rattle.m2_scenario.specs.declared.line.Line.{Line}
 use Rattle.m2_scenario.specs.declared.link.Link.{Link}
 use Rattle.m2_scenario.specs.declared.node.Node.{Node}
@@ -96,7 +98,7 @@ module _ (begins : BeginningsRun) (ordered : BeginningsHaveOrders) (new_centers 
     kept = record {
       logged = logged;
       taken = subst (AllByRecursion IsTaken) (sym records_there) (all_taken nodes links (map draft_line lines) sound first.new.ranges i new.records new.over);
-      peers = subst (λ (c : CenterNow D). AreOfPeers heard_by c.records c.out c.queued) (sym new.center) (record { fast = tt; held = tt; mail = tt; waiting = tt; queued = tt });
+      peers = subst (λ (c : CenterNow D). AreOfPeers heard_by c.records c.out c.queued) (sym new.center) (begin_of_peers heard_by new.records [] [] refl refl);
     }
 
     sides : map side_of n.center.records ≡ map side_of (records_of nodes links i (i + 1))

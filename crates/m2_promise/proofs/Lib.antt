@@ -1,14 +1,10 @@
-mod CenterTurns
 mod Deeds
 mod First
 mod Further
 mod Going
 mod Nodes
-mod Outboxes
 mod PlanLists
-mod Planned
 mod Plans
-mod RecordTurns
 mod Records
 mod Taken
 pub mod Acting

@@ -2,29 +2,26 @@
 use Rattle.std.proofs.Common.{◌≡◌, ℕ, List, [], ◌∷◌, ◌++◌, map, None, Ok, refl, sym, ap, subst, ◌∙◌, append-nil}
 use Rattle.std.specs.List.{AllByRecursion}
 use Rattle.m2_dispatch.specs.Heard.{Heard}
-use Rattle.m2_dispatch.specs.Dispatch.{Queued}
 use Rattle.m2_links_go_on.specs.m2_weave.m2_journal.SideFacts.{SideFacts}
 use Rattle.m2_script.specs.m2_record.Due.{next_step}
 use Rattle.m2_script.specs.m2_record.IsRecord.{IsRecord}
 use Rattle.m2_script.specs.m2_record.RecordNow.{RecordNow}
-use Rattle.m2_script.specs.m2_center.m2_turn.Outbox.{OutboxNow}
 use Rattle.m2_script.specs.m2_center.Center.{CenterNow}
-use Rattle.m2_script.specs.m2_center.Reaching.{rest_in, untold_record}
+use Rattle.m2_script.specs.m2_center.Reaching.{rest_in}
 use Rattle.m2_script.specs.m2_cluster.Node.{IsWholeNode, NodeNow, NodeTurns, rest_of_node}
 use Rattle.m2_links_go_on.specs.m2_growth.Holding.{AreOwn}
 use Rattle.m2_links_go_on.specs.m2_growth.Records.{RecordsGrow}
 use Rattle.m2_links_go_on.specs.Center.{holding_of}
 use Rattle.m2_links_go_on.specs.ClusterTold.{OneByOne, SameRecord}
 use Rattle.m2_links_go_on.proofs.Turning.{turn_grows}
-use Rattle.m2_links_go_on.proofs.Untold.{map_same, same_records}
-use Rattle.m2_links_go_on.proofs.Lagging.{place_of}
+use Rattle.m2_links_go_on.proofs.Untold.{same_records}
 use Rattle.m2_links_go_on.proofs.CenterTurns.{turns_stay_logged}
 use Rattle.m2_links_go_on.proofs.Rest.{rest_stays_logged}
 use Rattle.m2_script.specs.Made.{side_of}
 use Rattle.m2_script.specs.Script.{Deed}
-use Rattle.m2_promise.specs.Planned.{AreOfPeers, GoesOnBy, IsKeptNode, IsTaken, steps_for}
-use Rattle.m2_promise.proofs.CenterTurns.{SamePlaces, all_is_of, are_of_peers, turn_keeps_plans}
-use Rattle.m2_promise.proofs.Planned.{KeepPlans, planned_of}
+use Rattle.m2_promise.specs.Planned.{GoesOnBy, IsKeptNode, IsTaken, steps_for}
+use Rattle.m2_links_go_on.proofs.KeptPlans.{KeepPlans, planned_of}
+use Rattle.m2_links_go_on.proofs.PeerTurns.{rest_stays_of_peers, turn_keeps_plans}
 use Rattle.m2_promise.proofs.PlanLists.{all_over, each_so}
 use Rattle.m2_promise.proofs.Taken.{no_fewer, taken_still}
 
@@ -78,7 +75,7 @@ module _ {D : Type 0} (heard : D → List Heard) where
       IsKeptNode heard old → StaysKept heard old new
   turn_stays_kept E now old new t own whole later kept =
       let grown = (turn_grows D E heard _ (Ok tt) old.center new.center t.turns own).grows.records in
-      let plans = turn_keeps_plans E heard _ old.center new.center t.turns kept.peers in
+      let plans = turn_keeps_plans E heard _ (Ok tt) old.center new.center t.turns kept.peers in
       let sides = same_sides old.center.records new.center.records grown plans.0 in
       record {
         kept = record {
@@ -97,17 +94,6 @@ module _ {D : Type 0} (heard : D → List Heard) where
   told_taken : (r s : RecordNow) → SameRecord r s → IsTaken r → IsTaken s
   told_taken r s same taken = ap next_step same.all ∙ taken
 
-  told_places : (rs ss : List RecordNow) → map untold_record ss ≡ map untold_record rs → SamePlaces rs ss
-  told_places rs ss e = sym (map_same untold_record place_of (λ r. refl) ss) ∙ ap (map place_of) e ∙ map_same untold_record place_of (λ r. refl) rs
-
-  told_peers : (old new : CenterNow D) → rest_in new ≡ rest_in old → AreOfPeers heard old.records old.out old.queued →
-      AreOfPeers heard new.records new.out new.queued
-  told_peers old new e are =
-      subst (λ (o : OutboxNow D). AreOfPeers heard new.records o new.queued) (sym (ap (λ (c : CenterNow D). c.out) e))
-      (subst (λ (q : Queued D). AreOfPeers heard new.records old.out q) (sym (ap (λ (c : CenterNow D). c.queued) e))
-      (are_of_peers heard old.records new.records old.out old.queued (told_places old.records new.records (ap (λ (c : CenterNow D). c.records) e))
-      (all_is_of heard old.records old.out old.queued are)))
-
   pub told_stays_kept : (old new : NodeNow D) → rest_of_node new ≡ rest_of_node old → IsKeptNode heard old → StaysKept heard old new
   told_stays_kept old new e kept =
       let rest : rest_in new.center ≡ rest_in old.center = ap (λ (x : NodeNow D). record x.center { port = record x.center.port { waiting = None } }) e in
@@ -116,7 +102,7 @@ module _ {D : Type 0} (heard : D → List Heard) where
         kept = record {
           logged = rest_stays_logged heard old.center new.center rest kept.logged;
           taken = all_over SameRecord IsTaken IsTaken told_taken old.center.records new.center.records same kept.taken;
-          peers = told_peers old.center new.center rest kept.peers;
+          peers = rest_stays_of_peers heard old.center new.center rest kept.peers;
         };
         sides = each_so SameRecord IsSameSide told_side old.center.records new.center.records same;
       }

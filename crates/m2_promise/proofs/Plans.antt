@@ -6,12 +6,10 @@ use Rattle.std.proofs.lemmas.Bool.{eq-eqb, eqb-true}
 use Rattle.std.proofs.lemmas.List.Quantifiers.{position-Some}
 use Rattle.std.proofs.lemmas.Option.{get_or_from_slice_get}
 use Rattle.m2_dispatch.specs.Heard.{Heard}
-use Rattle.m2_dispatch.specs.Dispatch.{Queued}
 use Rattle.m2_links_go_on.specs.m2_weave.m2_journal.declared.facts.PlanStep.{PlanStep}
 use Rattle.m2_links_go_on.specs.m2_weave.m2_journal.declared.facts.PlanStep.TheVariants as step
 use Rattle.m2_script.specs.m2_record.Calls.{TakesNext, planned_too}
 use Rattle.m2_script.specs.m2_record.RecordNow.{RecordNow}
-use Rattle.m2_script.specs.m2_center.m2_turn.Outbox.{OutboxNow}
 use Rattle.m2_script.specs.m2_center.m2_turn.Planning.{TakesNew}
 use Rattle.m2_script.specs.m2_center.Center.{CenterNow}
 use Rattle.m2_script.specs.m2_center.Plans.{is_towards}
@@ -24,8 +22,8 @@ use Rattle.m2_links_go_on.proofs.Lagging.{place_of}
 use Rattle.m2_links_go_on.proofs.HalfLogs.{plans_stay_logged}
 use Rattle.m2_script.specs.Made.{side_of}
 use Rattle.m2_script.specs.Script.{plan}
-use Rattle.m2_promise.specs.Planned.{AreOfPeers, GoesOnBy, IsKeptNode, IsTaken, steps_for}
-use Rattle.m2_promise.proofs.CenterTurns.{SamePlaces, all_is_of, are_of_peers}
+use Rattle.m2_promise.specs.Planned.{GoesOnBy, IsKeptNode, IsTaken, steps_for}
+use Rattle.m2_links_go_on.proofs.PeerTurns.{plans_stay_of_peers}
 use Rattle.m2_promise.proofs.PlanLists.{all_at, all_set}
 use Rattle.m2_promise.proofs.Nodes.{goes_on_still, same_side}
 use Rattle.m2_promise.proofs.Taken.{taken_further}
@@ -75,11 +73,6 @@ at_place P [] k side e all = absurd cc
 at_place P (r ∷ rs) zero side e all = let same : r ≡ side = cc in subst (λ (x : RecordNow). P x.place) same all.0
 at_place P (r ∷ rs) (suc k) side e all = at_place P rs k side e all.1
 
-places_set : (rs : List RecordNow) (k : ℕ) (side behind : RecordNow) → slice_get rs k ≡ Some side → behind.place ≡ side.place → SamePlaces rs (slice_set rs k behind)
-places_set [] k side behind e h = absurd cc
-places_set (r ∷ rs) zero side behind e h = let same : side ≡ r = cc in ap (λ p. p ∷ map place_of rs) (h ∙ ap place_of same)
-places_set (r ∷ rs) (suc k) side behind e h = ap (λ l. r.place ∷ l) (places_set rs k side behind e h)
-
 module _ (i b : ℕ) (x : PlanStep) where
   abbrev Goes : RecordNow → RecordNow → Type 0
   Goes r s = GoesOnBy i (plan i b x ∷ []) r s
@@ -122,10 +115,7 @@ plan_stays_kept {D} heard i b x now old new p own whole later kept = record {
     logged = plans_stay_logged heard (Ok tt) b x now old.throttle.place old.center new.center p.plans own whole.records later.records kept.logged;
     taken = subst (AllByRecursion IsTaken) (sym records)
         (all_set IsTaken old.center.records p.plans.place p.plans.behind kept.taken (taken_further x p.plans.before p.plans.behind more.plan more.steps was_taken));
-    peers = subst (λ (o : OutboxNow D). AreOfPeers heard new.center.records o new.center.queued) (sym (ap (λ (c : CenterNow D). c.out) p.plans.only))
-        (subst (λ (q : Queued D). AreOfPeers heard new.center.records old.center.out q) (sym (ap (λ (c : CenterNow D). c.queued) p.plans.only))
-        (are_of_peers heard old.center.records new.center.records old.center.out old.center.queued places
-        (all_is_of heard old.center.records old.center.out old.center.queued kept.peers)));
+    peers = plans_stay_of_peers heard (Ok tt) b x now old.throttle.place old.center new.center p.plans kept.peers;
   };
   plans = subst (OneByOne (GoesOnBy i (plan i b x ∷ [])) old.center.records) (sym records)
       (all_go i b x old.center.records p.plans.place p.plans.before p.plans.behind p.plans.side towards kept.logged.peers more);
@@ -146,6 +136,3 @@ plan_stays_kept {D} heard i b x now old new p own whole later kept = record {
         let found = position-Some (is_towards b) old.center.records p.plans.place p.plans.before p.plans.first in
         let there = get_or_from_slice_get old.center.records p.plans.place p.plans.before p.plans.before p.plans.side in
         sym (eqb-true p.plans.before.place b (sym (ap (is_towards b) there) ∙ found.1))
-
-    places : SamePlaces old.center.records new.center.records
-    places = ap (map place_of) records ∙ places_set old.center.records p.plans.place p.plans.before p.plans.behind p.plans.side (ap (λ s. s.place) more.side)

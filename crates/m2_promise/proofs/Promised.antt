@@ -15,7 +15,8 @@ use Rattle.m2_links_go_on.specs.m2_growth.Halves.{IsOneOf}
 use Rattle.m2_links_go_on.proofs.m2_growth.Among.{each_by, of_each}
 use Rattle.m2_promise.specs.Started.{IsKept}
 use Rattle.m2_scenario.specs.Order.{AreOfJoined, HearsNoReset, HearsPrefix, HearsWhole, IsPeer, at, fast_of, messages_between, posts_between, posts_of}
-use Rattle.m2_promise.specs.Planned.{IsKeptNode, IsPeerOf}
+use Rattle.m2_links_go_on.specs.OfPeers.{IsPeerOf}
+use Rattle.m2_promise.specs.Planned.{IsKeptNode}
 use Rattle.m2_dispatch.specs.m2_policy.declared.path.Key.{Key}
 use Rattle.m2_promise.specs.Posted.{AllNoted, AreSomeOf, HearsSome, IsAccountedOver, IsMarkedSo, KeepsPromise, PostsOfTypes, is_lossy, link_between}
 use Rattle.m2_promise.proofs.Ends.{all_at}

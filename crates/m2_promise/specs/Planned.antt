@@ -1,19 +1,15 @@
 -- What a node keeps along the deeds of a script, and what becomes of its plans. This project's own.
-use Rattle.std.specs.Prelude.{◌≡◌, ℕ, ◌==◌, ◌&&◌, true, if◌then◌else◌, List, [], ◌∷◌, ◌++◌, length, slice_get, Some, None, IfSome}
-use Rattle.std.specs.List.{AllByRecursion, list_any}
-use Rattle.m2_channel.specs.Handing as handing
-use Rattle.m2_dispatch.specs.Heard.{Heard, peer_of}
-use Rattle.m2_dispatch.specs.declared.letter.Letter.{Letter}
-use Rattle.m2_dispatch.specs.declared.parcel.Parcel.{Parcel}
-use Rattle.m2_dispatch.specs.Dispatch.{Queued}
+use Rattle.std.specs.Prelude.{◌≡◌, ℕ, ◌==◌, ◌&&◌, if◌then◌else◌, List, [], ◌∷◌, ◌++◌, length, slice_get, Some, None}
+use Rattle.std.specs.List.{AllByRecursion}
+use Rattle.m2_dispatch.specs.Heard.{Heard}
 use Rattle.m2_links_go_on.specs.m2_weave.m2_journal.declared.facts.PlanStep.{PlanStep}
 use Rattle.m2_script.specs.m2_record.Due.{next_step}
 use Rattle.m2_script.specs.m2_record.RecordNow.{RecordNow}
-use Rattle.m2_script.specs.m2_center.m2_turn.Outbox.{OutboxNow}
 use Rattle.m2_script.specs.m2_cluster.Node.{NodeNow}
 use Rattle.m2_links_go_on.specs.ClusterTold.{OneByOne}
 use Rattle.m2_links_go_on.specs.LogLaws.{logging_in}
 use Rattle.m2_links_go_on.specs.Logged.{IsLogged}
+use Rattle.m2_links_go_on.specs.OfPeers.{AreOfPeers}
 use Rattle.m2_script.specs.Made.{side_of}
 use Rattle.m2_script.specs.Script.{Deed, RunNow, plan}
 
@@ -28,21 +24,6 @@ abbrev pub steps_for : (i b : ℕ) → List Deed → List PlanStep
 steps_for i b [] = []
 steps_for i b (plan a c x ∷ ds) = if (a == i) && (c == b) then x ∷ steps_for i b ds else steps_for i b ds
 steps_for i b (_ ∷ ds) = steps_for i b ds
-
--- ---- of whom calls are
-
--- one of these records is towards this node
-abbrev pub IsPeerOf : List RecordNow → ℕ → Type 0
-IsPeerOf records peer = list_any (λ (r : RecordNow). r.place == peer) records ≡ true
-
--- All calls that both dispatchers had are of peers of these records, and all that is on its way to them: the letter that is held, the
--- mail, and the letters that wait.
-pub record AreOfPeers {D : Type 0} (heard : D → List Heard) (records : List RecordNow) (out : OutboxNow D) (queue : Queued D) : Type 0 where
-  pub fast : AllByRecursion (λ (h : Heard). IsPeerOf records (peer_of h)) (heard out.fast)
-  pub held : IfSome out.held (λ (l : Letter). IsPeerOf records l.peer)
-  pub mail : AllByRecursion (λ (p : Parcel). IsPeerOf records (handing.peer_of p)) out.mail
-  pub waiting : AllByRecursion (λ (l : Letter). IsPeerOf records l.peer) queue.waiting
-  pub queued : AllByRecursion (λ (h : Heard). IsPeerOf records (peer_of h)) (heard queue.inner)
 
 -- ---- a node
 

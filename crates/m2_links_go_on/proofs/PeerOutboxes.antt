@@ -1,7 +1,7 @@
 -- Of which peers calls are, and what is on its way to the dispatchers: whatever is put there is of a peer that is allowed.
 use Rattle.std.proofs.Common.{◌≡◌, inl, inr, ℕ, Bool, true, false, if◌then◌else◌, List, [], ◌∷◌, ◌++◌, map, filter, Option, Some, None, IfSome, refl, sym, subst}
 use Rattle.std.specs.List.{AllByRecursion}
-use Rattle.m2_channel.specs.Handing as handing
+use Rattle.m2_history.specs.m2_channel.Handing as handing
 use Rattle.m2_dispatch.specs.Heard.{Heard, peer_of}
 use Rattle.m2_dispatch.specs.declared.letter.Letter.{Letter}
 use Rattle.m2_dispatch.specs.declared.parcel.Parcel.{Parcel}
@@ -13,15 +13,15 @@ use Rattle.m2_dispatch.specs.m2_policy.declared.path.Path.{Path}
 use Rattle.m2_dispatch.specs.m2_policy.declared.path.Path.TheVariants.{Fast, Queued}
 use Rattle.m2_dispatch.proofs.m2_queues.Joining.{all-put_behind}
 use Rattle.m2_dispatch.specs.m2_shared.Place.{Place}
-use Rattle.m2_script.specs.m2_center.m2_turn.declared.mailing.Mailed.{Mailed}
-use Rattle.m2_script.specs.m2_center.m2_turn.declared.mailing.Mailed.TheVariants as mailed
-use Rattle.m2_script.specs.m2_center.m2_turn.Mailing.{DispatchesSome, Mailing, Mails, MailsSome, PutsSome, Queueing, after_puts, heard_at_puts}
-use Rattle.m2_script.specs.m2_center.m2_turn.Outbox.{Dispatches, DispatchesOr, OutboxNow, Puts, PutsLetter, Retries, RetriesFor, in_mail}
+use Rattle.m2_cluster.specs.m2_center.m2_turn.declared.mailing.Mailed.{Mailed}
+use Rattle.m2_cluster.specs.m2_center.m2_turn.declared.mailing.Mailed.TheVariants as mailed
+use Rattle.m2_cluster.specs.m2_center.m2_turn.Mailing.{DispatchesSome, Mailing, Mails, MailsSome, PutsSome, Queueing, after_puts, heard_at_puts}
+use Rattle.m2_cluster.specs.m2_center.m2_turn.Outbox.{Dispatches, DispatchesOr, OutboxNow, Puts, PutsLetter, Retries, RetriesFor, in_mail}
 use Rattle.m2_fabric.proofs.m2_lemmas.Lists.{all_append}
 
 -- ---- lists
 
-all_parted : {X : Type 0} (P : X → Type 0) (xs ys : List X) → AllByRecursion P (xs ++ ys) → AllByRecursion P xs × AllByRecursion P ys
+pub all_parted : {X : Type 0} (P : X → Type 0) (xs ys : List X) → AllByRecursion P (xs ++ ys) → AllByRecursion P xs × AllByRecursion P ys
 all_parted P [] ys all = (tt, all)
 all_parted P (x ∷ xs) ys all = let rest = all_parted P xs ys all.1 in ((all.0, rest.0), rest.1)
 

@@ -1,8 +1,8 @@
 -- The peers and the plans of records, which a turn leaves alone.
 use Rattle.std.proofs.Common.{◌≡◌, ℕ, List, [], ◌∷◌, map, refl, sym, ap, ◌∙◌}
-use Rattle.m2_links_go_on.specs.m2_weave.m2_journal.declared.facts.PlanStep.{PlanStep}
-use Rattle.m2_script.specs.m2_record.RecordNow.{RecordNow}
-use Rattle.m2_script.proofs.m2_center.m2_turn.Steady.{StaySteady, StaysSteady, steady_of}
+use Rattle.m2_weave.specs.m2_journal.declared.facts.PlanStep.{PlanStep}
+use Rattle.m2_history.specs.m2_record.RecordNow.{RecordNow}
+use Rattle.m2_cluster.proofs.m2_center.m2_turn.Steady.{StaySteady, StaysSteady, steady_of}
 
 -- the place of its peer, and its plan
 abbrev pub planned_of : RecordNow → ℕ × List PlanStep
