@@ -4,8 +4,7 @@ ghost use Rattle.std.specs.Prelude.{◌≡◌, ◌∷◌, [], MatchOption};
 ghost use Rattle.m2_run_trace.specs.Telling.{log_in, seen_log, telling_at};
 
 use crate::lists::at;
-use m2_center::Center;
-use m2_cluster::Cluster;
+use m2_cluster::{Center, Cluster};
 use m2_dispatch::{LogDispatcher, Logged};
 use m2_fabric::{CutPort, EndLog, SimPort, SocketId};
 use m2_scenario::Node;

@@ -4,9 +4,9 @@ use Rattle.std.specs.Prelude.{slice_get}
 use Rattle.std.specs.List.{AllByRecursion, IsDistinct}
 use Rattle.std.proofs.lemmas.List.Elements.{recursion_from_All}
 use Rattle.std.proofs.lemmas.Option.{same_Some}
-use Rattle.m2_center.specs.Finishing.{AllOwn}
-use Rattle.m2_center.specs.Making.{CanBegin}
-use Rattle.m2_center.specs.m2_turn.Sessions.{IsSupplied, Supply, peer_of}
+use Rattle.m2_cluster.specs.m2_center.Finishing.{AllOwn}
+use Rattle.m2_cluster.specs.m2_center.Making.{CanBegin}
+use Rattle.m2_cluster.specs.m2_center.m2_turn.Sessions.{IsSupplied, Supply, peer_of}
 use Rattle.m2_fabric.specs.Port.{SeenPort}
 use Rattle.m2_fabric.specs.declared.socket.SocketId.{SocketId}
 use Rattle.m2_journal.specs.m2_handshake.Asks.{same_addr}

@@ -2,7 +2,7 @@
 use Rattle.std.proofs.Common.{◌≡◌, ℕ, inl, inr, List, [], ◌∷◌, ◌++◌, Ok, Err, refl, sym, subst}
 use Rattle.m2_bytes.specs.declared.memory.NoMemory as memory
 use Rattle.m2_dispatch.specs.Heard.{Heard}
-use Rattle.m2_center.specs.CenterTurn.{Answer}
+use Rattle.m2_cluster.specs.m2_center.CenterTurn.{Answer}
 use Rattle.m2_script.specs.Script.{CanAllBeDone, Deed, Ends, Happens, RunNow}
 
 module _ {D : Type 0} (E : Type 0) (heard : D → List Heard) where

@@ -13,4 +13,4 @@ pub mod SoFar
 pub mod Splits
 pub mod Steps
 pub mod Turning
-pub use Rattle.m2_center.proofs as m2_center
+pub use Rattle.m2_cluster.proofs.m2_center as m2_center

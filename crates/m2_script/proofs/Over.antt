@@ -17,7 +17,7 @@ use Rattle.m2_policy.specs.declared.policy.Policy.{Policy}
 use Rattle.m2_record.specs.Calls.{Owns}
 use Rattle.m2_record.specs.IsRecord.{new_record}
 use Rattle.m2_record.specs.RecordNow.{RecordNow}
-use Rattle.m2_center.specs.Making.{CanBegin}
+use Rattle.m2_cluster.specs.m2_center.Making.{CanBegin}
 use Rattle.m2_scenario.specs.declared.link.Link.{Link}
 use Rattle.m2_scenario.specs.declared.node.Node.{Node}
 use Rattle.m2_scenario.specs.Draft.{DraftLine, joins}
@@ -26,7 +26,7 @@ use Rattle.m2_script.specs.declared.made.Towards.{Towards}
 use Rattle.m2_script.specs.Made.{facts_of, new_towards, other_of, over, records_of, roomless}
 use Rattle.m2_shared.specs.Numbers.{SeenNumberPass}
 use Rattle.m2_shared.specs.Throttle.{SeenTakePass}
-use Rattle.m2_center.specs.m2_turn.Sessions.{IsSupplied, Supply, peer_of}
+use Rattle.m2_cluster.specs.m2_center.m2_turn.Sessions.{IsSupplied, Supply, peer_of}
 use Rattle.m2_bytes.proofs.m2_lemmas.Booleans.{or_right, or_left, both_true, one_of_or}
 use Rattle.m2_bytes.proofs.m2_lemmas.Numbers.{same_number}
 

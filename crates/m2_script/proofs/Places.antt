@@ -2,7 +2,7 @@
 use Rattle.std.proofs.Common.{◌≡◌, ℕ, Bool, List, Some, Result, IfOk, sum_by, sym, ap, ◌∙◌, subst}
 use Rattle.std.specs.List.{list_any, slice_get}
 use Rattle.m2_bytes.specs.declared.memory.NoMemory as memory
-use Rattle.m2_center.specs.Center.{CenterNow}
+use Rattle.m2_cluster.specs.m2_center.Center.{CenterNow}
 use Rattle.m2_cluster.specs.Node.{NodeNow}
 use Rattle.m2_record.specs.RecordNow.{RecordNow}
 use Rattle.m2_script.specs.Outcome.{records_at}

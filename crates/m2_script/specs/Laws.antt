@@ -1,8 +1,8 @@
 -- What is promised of a scenario's lines and of the records before them.
 use Rattle.std.specs.Prelude.{◌≡◌, ℕ, true, List, [], length, map, slice_get, Some}
 use Rattle.std.specs.List.{AllByRecursion}
-use Rattle.m2_center.specs.Finishing.{AllOwn}
-use Rattle.m2_center.specs.Making.{CanBegin}
+use Rattle.m2_cluster.specs.m2_center.Finishing.{AllOwn}
+use Rattle.m2_cluster.specs.m2_center.Making.{CanBegin}
 use Rattle.m2_dispatch.specs.m2_message.Message.{IsSendable, content_of}
 use Rattle.m2_dispatch.specs.m2_message.declared.message.Message.{Message}
 use Rattle.m2_fabric.specs.Port.{SeenPort}

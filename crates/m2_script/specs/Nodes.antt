@@ -4,7 +4,7 @@ use Rattle.std.specs.Prelude.{◌≡◌, ℕ, ◌+◌, ◌==◌, ◌<◌, ◌^�
 use Rattle.std.specs.List.{AllByRecursion, filter_map}
 use Rattle.std.specs.Option.{option_map}
 use Rattle.m2_addr.specs.declared.addr.Addr.{Addr}
-use Rattle.m2_center.specs.Making.{new_center}
+use Rattle.m2_cluster.specs.m2_center.Making.{new_center}
 use Rattle.m2_cluster.specs.Node.{IsWholeNode, NodeNow}
 use Rattle.m2_journal.specs.m2_control.Laws.{HasAddrRanges}
 use Rattle.m2_dispatch.specs.declared.logged.Logged.{Logged}

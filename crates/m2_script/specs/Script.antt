@@ -6,8 +6,8 @@ use Rattle.m2_dispatch.specs.Heard.{Heard}
 use Rattle.m2_journal.specs.declared.facts.PlanStep.{PlanStep}
 use Rattle.m2_journal.specs.declared.facts.PlanStep.TheVariants as step
 use Rattle.m2_record.specs.IsRecord.{CanBePlanned}
-use Rattle.m2_center.specs.CenterTurn.{Answer}
-use Rattle.m2_center.specs.Plans.{IsReadyFor}
+use Rattle.m2_cluster.specs.m2_center.CenterTurn.{Answer}
+use Rattle.m2_cluster.specs.m2_center.Plans.{IsReadyFor}
 use Rattle.m2_scenario.specs.declared.line.Line.{Line}
 use Rattle.m2_scenario.specs.declared.line.Line.TheVariants as line
 use Rattle.m2_scenario.specs.declared.link.Link.{Link}

@@ -8,8 +8,7 @@ ghost use Rattle.m2_script.specs.Ways.{left_of};
 
 use crate::ways::{Way, is_up, posts_at, sum};
 use m2_bytes::NoMemory;
-use m2_center::Center;
-use m2_cluster::Cluster;
+use m2_cluster::{Center, Cluster};
 use m2_dispatch::{LogDispatcher, Logged, LoggedList};
 use m2_fabric::Port;
 use m2_scenario::Link;

@@ -1,7 +1,7 @@
 //! A node before the first line.
 
 ghost use Rattle.std.specs.Prelude.{◌≡◌, ◌+◌, ◌<◌, [], None, IfOk, IfSome, length, map, slice_get};
-ghost use Rattle.m2_center.specs.Making.{CanBegin, new_center};
+ghost use Rattle.m2_cluster.specs.m2_center.Making.{CanBegin, new_center};
 ghost use Rattle.m2_cluster.specs.Node.{IsWholeNode};
 ghost use Rattle.m2_fabric.specs.CutPort.{shown};
 ghost use Rattle.m2_fabric.specs.Port.{fresh_port};
@@ -13,7 +13,7 @@ ghost use Rattle.m2_shared.specs.Throttle.{bound_of};
 use crate::cuts::cuts_of;
 use crate::records;
 use m2_bytes::NoMemory;
-use m2_center::{Center, NodeShared, Passes, Unmade};
+use m2_cluster::{Center, NodeShared, Passes, Unmade};
 use m2_dispatch::LogDispatcher;
 use m2_fabric::{CutEnd, CutPort, SimEnd, SimPort};
 use m2_record::Record;

@@ -2,7 +2,7 @@
 use Rattle.std.proofs.Common.{◌≡◌, ◌+◌, List, [], map, Some, sym, ap, subst, ◌∙◌}
 use Rattle.std.specs.Prelude.{slice_get}
 use Rattle.std.proofs.lemmas.Option.{same_Some, slice_get-get_or}
-use Rattle.m2_center.specs.Making.{CanBegin, new_center}
+use Rattle.m2_cluster.specs.m2_center.Making.{CanBegin, new_center}
 use Rattle.m2_fabric.specs.CutPort.{Cutting, shown}
 use Rattle.m2_fabric.specs.Port.{fresh_port}
 use Rattle.m2_record.specs.RecordNow.{RecordNow}

@@ -1,7 +1,7 @@
 -- What the records hold, which is nothing, was granted by the throttle.
 use Rattle.std.proofs.Common.{List, None, ap, sym, subst}
 use Rattle.std.specs.List.{AllByRecursion}
-use Rattle.m2_center.specs.Making.{UnmadeNow}
+use Rattle.m2_cluster.specs.m2_center.Making.{UnmadeNow}
 use Rattle.m2_dispatch.specs.declared.logged.Logged.{Logged}
 use Rattle.m2_record.specs.Calls.{Owns}
 use Rattle.m2_shared.specs.Throttle.{SeenThrottle}
