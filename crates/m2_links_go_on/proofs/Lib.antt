@@ -7,6 +7,14 @@ pub mod Callers
 pub mod Came
 pub mod CenterTurns
 pub mod ClusterTelling
+pub mod CourseBeginning
+pub mod CourseEnding
+pub mod CourseJudged
+pub mod CourseKept
+pub mod CourseMoving
+pub mod CourseSockets
+pub mod CourseSteps
+pub mod CourseTurns
 pub mod Deliveries
 pub mod Ends
 pub mod Example

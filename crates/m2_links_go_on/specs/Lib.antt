@@ -2,6 +2,9 @@ pub mod Center
 pub mod Cluster
 pub mod ClusterLaws
 pub mod ClusterTold
+pub mod Course
+pub mod CourseEnded
+pub mod CourseLaws
 pub mod InStep
 pub mod Left
 pub mod LeftLaws
@@ -9,6 +12,7 @@ pub mod LinkLaws
 pub mod Linked
 pub mod LogLaws
 pub mod Logged
+pub mod Made
 pub mod OfPeers
 pub mod PeerLaws
 pub mod Records

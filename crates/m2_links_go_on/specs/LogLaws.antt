@@ -24,8 +24,9 @@ use Rattle.m2_cluster.specs.m2_center.Center.{CenterNow}
 use Rattle.m2_cluster.specs.m2_center.CenterTurn.{Answer, TakesTurn}
 use Rattle.m2_cluster.specs.m2_center.Plans.{PlansIn}
 use Rattle.m2_cluster.specs.m2_center.Reaching.{rest_in}
-use Rattle.m2_growth.specs.Holding.{AreOwn, Holding}
+use Rattle.m2_growth.specs.Holding.{AreOwn}
 use Rattle.m2_growth.specs.GrowthLaws.{at_halves, at_records}
+pub use Rattle.m2_links_go_on.specs.Course.{holding_in}
 use Rattle.m2_links_go_on.specs.Logged.{AreOfTheirPeers, IsLogged, LoggingNow, logging, logs_in}
 
 -- ---- at first
@@ -56,9 +57,6 @@ MailStaysLogged D = (heard : D → List Heard) (place : Place) (answer : Mailed)
     IsLogged heard (logging records old.out old.queue.queued) → IsLogged heard (logging records new.out new.queue.queued)
 
 -- ---- all of a turn
-
-abbrev pub holding_in : {D : Type 0} → CenterNow D → Holding
-holding_in c = record { port = c.port; records = c.records; halves = c.halves }
 
 abbrev pub logging_in : {D : Type 0} → CenterNow D → LoggingNow D
 logging_in c = logging c.records c.out c.queued

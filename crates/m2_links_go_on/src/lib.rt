@@ -1,7 +1,7 @@
 //! What becomes of a link where nodes take their turns: of each link there is an order of all that was done, if there
 //! was one before, and what was handed on was dispatched once.
 //!
-//! What it is: definitions and laws, in eight parts.
+//! What it is: definitions and laws, in nine parts.
 //!
 //! - *Two sides of a link whose nodes act in turns can be woven.* `specs/Sides.antt` says what two sides of a link and
 //!   the halves beside them are behind a turn, beside what they were before it: journals go on, halves go on or come,
@@ -30,15 +30,26 @@
 //! - *Ends in memory stay in step* whatever nodes do and whatever passes between them (`specs/InStep.antt`), by the laws of
 //!   `m2_growth`.
 //! - *What an order says of a link* (`specs/WovenSo.antt`), by the laws of `m2_weave` and `m2_history`.
+//! - *What an event thread keeps while it takes turns*, over sockets of any kind. `specs/Made.antt` says what a scenario
+//!   says of a node and of its records, and which records are begun. `specs/Course.antt` says when a center is on its
+//!   course at a moment: its records are what they were made, down to their plans, since a turn plans nothing; of each
+//!   socket that its port made there is one end, and no other; of each connect that a record missed the port has
+//!   counted one; and the moment of each record's last productive entry is one that the clock may give, and no connect
+//!   waits longer than the longest wait from the moment on. By `specs/CourseLaws.antt` a new center is on its course; so
+//!   is one behind a turn at a moment that the clock may give, behind a poll, and where time passes; and
+//!   `specs/CourseEnded.antt` says what of it holds of what is left when the center ends. Why a half was closed, and
+//!   which ask was refused for missing features, it doesn't say.
 //! - *What is left of nodes whose event threads have ended*, over sockets of any kind: their records, and the halves
 //!   that none of them took (`specs/Left.antt`). By `specs/LeftLaws.antt` two records of such nodes that are towards each
 //!   other can be woven, and where their strands have an order they are joined; a center keeps in its turns who asked,
 //!   whatever sockets there are; and what it leaves is a left node.
 //!
-//! What it isn't: anything that runs.
+//! It passes on the weaving of two records ([`weave`], [`are_of_link`], [`Side`], [`WeaveFault`]) for whoever has nodes whose threads
+//! have ended. What it isn't: anything that runs.
 #![tactic(auto)]
 
 mod cluster_laws;
+mod course_laws;
 mod in_step_laws;
 mod left_laws;
 mod link_laws;
@@ -53,6 +64,11 @@ pub use cluster_laws::{
     node_plan_grows, node_turn_grows, plan_brings_elsewhere, plan_grows, turn_brings_elsewhere,
     turn_grows,
 };
+pub use course_laws::{
+    centers_begin_on_course, centers_run_their_course, dials_stay_in_time, lasts_stay_given,
+    made_stays, missed_stay_counted, polls_stay_on_course, records_begin, sockets_stay_apart,
+    sockets_stay_held, turns_stay_on_course, waiting_stays_on_course,
+};
 pub use in_step_laws::ends_stay_in_step;
 pub use left_laws::{centers_leave, coming_stays, left_are_of_link, woven_nodes_are_joined};
 pub use link_laws::{a_link_goes_on, links_are_woven, links_go_on, staying_goes_on};
@@ -60,6 +76,7 @@ pub use log_laws::{
     begin_logged, halves_stay_logged, logged_are_heard, mail_stays_logged, plans_stay_logged,
     records_stay_logged, rest_stays_logged, turns_stay_logged,
 };
+pub use m2_history::{Side, WeaveFault, are_of_link, weave};
 pub use peer_laws::{
     begin_of_peers, plans_stay_of_peers, rest_stays_of_peers, turns_stay_of_peers,
 };

@@ -1,4 +1,0 @@
-pub mod Course
-pub mod CourseLaws
-pub mod Ended
-pub mod Made

@@ -1,0 +1,5 @@
+use Rattle.m2_links_go_on.proofs.CourseKept.{sockets_stay_held}
+use Rattle.m2_links_go_on.proofs.course_laws.sockets_stay_held.Goals as goal
+
+pub returns : goal.returns
+returns g c = sockets_stay_held _ _
