@@ -1,8 +1,8 @@
 """Makes the run of each scenario of examples/pictures a capture, by tools/as_capture, and lays what tools/capture tells of it beside
 the trace: in each direction of each socket the same frames at the same places, with the same numbers, seen at the moment of the turn
 in which their last bytes were written; a frame that isn't whole is told as such; each session stands once, and "written again"
-stands on each message that was. Packets in another order, twice, or cut into bytes tell the same. examples/captures has the capture
-of one of them. Where dpkt is there the file is read by it, else by the lines below, which know the form that tools/as_capture writes.
+stands on each message that was. Packets in another order, twice, or cut into bytes tell the same. The picture has an arrow for each
+frame. examples/captures has the capture of one of them, and its picture. Where dpkt is there the file is read by it, else by the lines below, which know the form that tools/as_capture writes.
 
 The programs are those that rt ci built: crates/run_trace/out/run_trace and crates/frame_facts/out/frame_facts.
 """
@@ -12,10 +12,12 @@ import struct
 import subprocess
 import sys
 import tempfile
+import xml.etree.ElementTree
 
 sys.dont_write_bytecode = True
 TOP = os.path.dirname(os.path.dirname(os.path.abspath(__file__)))
 sys.path.insert(0, os.path.join(TOP, "tools"))
+import ladder
 import packets
 import run_trace
 import wire
@@ -23,6 +25,7 @@ from conversation import ANSWERS, Story
 from fates import Fates
 
 PICTURES, EXAMPLE = os.path.join(TOP, "examples", "pictures"), os.path.join(TOP, "examples", "captures", "resumed.pcap")
+PICTURE = os.path.join(TOP, "examples", "captures", "resumed.svg")
 RUN_TRACE, FACTS = (os.path.join(TOP, "crates", name, "out", name) for name in ("run_trace", "frame_facts"))
 
 
@@ -140,6 +143,14 @@ def main():
         for said, other in (("twice", twice(sent)), ("in another order", shuffled(sent)), ("in single bytes", cut_up(sent))):
             if [event.words() for event in told(other)[1] if event.frame] != plain:
                 wrong.append(f"{name}: packets that come {said} tell something else")
+        picture = ladder.svg(events)
+        arrows = sum(part.tag.endswith("polygon") for part in xml.etree.ElementTree.fromstring(picture).iter())
+        if arrows != len(plain):
+            wrong.append(f"{name}: the picture has {arrows} arrows, and {len(plain)} frames are told")
+        if os.path.basename(EXAMPLE) == f"{name}.pcap":
+            with open(PICTURE, encoding="utf-8") as it:
+                if it.read() != picture:
+                    wrong.append(f"{PICTURE}: tools/capture --draw draws another picture")
         count += 1
     for it in wrong:
         print(it)
