@@ -17,6 +17,7 @@ NOT_RUN = {  # by their beginnings
     "./msgr2 --unproved ": "it builds for minutes what the gate has proved and built; the same words run without it",
     "(cd crates/record_trace && rt try": "it builds for a minute, for one call, what the gate proves and runs on the same file",
     "./msgr2 capture ": "it wants dpkt, which this machine may lack; .ci/captures.py lays what it tells beside traces",
+    "./msgr2 run ": "its ports may be taken; .ci/threads.py runs such files at ports that the system chooses",
     "tcpdump ": "it wants the right to capture, and connections; checks/streams.sh records some",
     "tools/streams capture.pcap ": "it wants that capture; checks/streams.sh runs it on one",
     "./msgr2 frames streams/": "it wants a stream of that capture; checks/streams.sh runs it on one",

@@ -1,5 +1,5 @@
 -- What is told where the last line leads is the outcome of the run.
-use Rattle.std.proofs.Common.{◌≡◌, List, length, map, Result, Ok, Err, IfOk}
+use Rattle.std.proofs.Common.{◌≡◌, List, map, Result, Ok, Err, IfOk}
 use Rattle.m2_bytes.specs.declared.memory.NoMemory as memory
 use Rattle.m2_scenario.specs.m2_dispatch.declared.logged.Logged.{Logged}
 use Rattle.m2_scenario.specs.m2_dispatch.Heard.{heard_by}
@@ -24,6 +24,6 @@ is_outcome nodes links lines first last script promise (Ok o) heard left = recor
   logs = heard;
   left = left;
   promise = promise;
-  told = logs_are_of_nodes nodes links o.logs.items (all_heard heard_by last) heard promise.joined;
+  told = logs_are_of_nodes nodes links o.logs.items (all_heard heard_by last) heard promise.promised.joined;
 }
 is_outcome nodes links lines first last script promise (Err e) heard left = tt

@@ -10,6 +10,9 @@ pub mod Parses
 pub mod Pieces
 pub mod Programs
 pub mod Says
+pub mod StatusLines
 pub mod Steps
+pub mod ThreadEnds
+pub mod Threads
 pub mod Told
 pub mod Tops

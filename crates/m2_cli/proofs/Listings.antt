@@ -1,5 +1,5 @@
 -- What `frames` leaves, however passing on and saying went.
-use Rattle.std.proofs.Common.{◌≡◌, ℕ, ◌≤◌, List, length, refl, sym, ◌∙◌, subst, arith, ◌⊎◌, inl, inr}
+use Rattle.std.proofs.Common.{◌≡◌, ℕ, ◌≤◌, List, length, refl, sym, ◌∙◌, subst, arith, ◌⊎◌, inl, inr, []}
 use Rattle.std.specs.Prelude.{◌≢◌}
 use Rattle.std.proofs.Math.Seq.{take-length}
 use Rattle.m2_edge.specs.Faults.{HasRisen}
@@ -129,12 +129,15 @@ listing_caused status.WriteFault file before after h = inl h.0
 listing_caused (status.Left count) file before after h = tt
 listing_caused status.NoMemory file before after h = tt
 listing_caused (status.BadFrames place fault) file before after h = tt
+listing_caused (status.BindFault node) file before after h = tt
+listing_caused (status.Unfit socket opener place why) file before after h = tt
+listing_caused (status.Stalled left) file before after h = tt
 
 -- what it came to, how that was said, and its cause
 pub listing_ends : (l r : Listing) (s answered : Status) (file : List ℕ) (before after : Edge) (mid : SeenSink) → Ended l file before after
     → before.out.faults ≤ mid.faults → IsPassedOn l r mid after.out → s ≡ status_of_listing r
-    → SaysStatus s answered before.err after.err ⊎ SaysStatus status.NoMemory answered before.err after.err
-    → (work : Status) × SaysStatus work answered before.err after.err × ListsFile file work before after
+    → SaysStatus [] s answered before.err after.err ⊎ SaysStatus [] status.NoMemory answered before.err after.err
+    → (work : Status) × SaysStatus [] work answered before.err after.err × ListsFile file work before after
 listing_ends l r s answered file before after mid h rises passed e (inl said) =
     let P : Status → Type 0 = λ x. ListsFile file x before after in (s, said, subst P (sym e) (lists_passed l r file before after mid h rises passed))
 listing_ends l r s answered file before after mid h rises passed e (inr said) = (status.NoMemory, said, in_part l file before after h)

@@ -1,5 +1,5 @@
 -- What a load leaves, by what its work came to, and that what it prints keeps the order of the posts, since a run keeps its promise.
-use Rattle.std.proofs.Common.{◌≡◌, ◌∙◌, ℕ, ◌==◌, Bool, true, false, cond, List, refl, sym, subst, inl, inr}
+use Rattle.std.proofs.Common.{◌≡◌, ◌∙◌, ℕ, ◌==◌, Bool, true, false, cond, List, refl, sym, subst, inl, inr, []}
 use Rattle.std.specs.Prelude.{count_by}
 use Rattle.std.proofs.lemmas.Bool.{eqb-true}
 use Rattle.m2_edge.specs.Sink.{TakesBytes, TakesPrefix}
@@ -24,7 +24,7 @@ left_runs true n posts seed text before after u d c = record { unread = u; text 
 left_runs false n posts seed text before after u d c = record { unread = u; text = text; comes = c; printed = d }
 
 -- what runs, however printing went
-pub load_printed : (p : Printout) (work : Status) (posts seed : ℕ) (before after : Edge) → IsPrintoutBy (LoadComesTo posts seed) p
+pub load_printed : (p : Printout) (work : Status) (posts seed : ℕ) (before after : Edge) → IsPrintoutBy [] (LoadComesTo posts seed) p
     → after.source ≡ before.source → PrintsReport p work before.out after.out → RunsLoad posts seed work before after
 load_printed p work posts seed before after o unread (inl (same, d)) =
     let n = load_left posts seed o.comes.last in
@@ -45,6 +45,9 @@ load_caused status.WriteFault posts seed before after h = inl h.failed
 load_caused (status.Left count) posts seed before after h = tt
 load_caused status.NoMemory posts seed before after h = tt
 load_caused (status.BadFrames place fault) posts seed before after h = tt
+load_caused (status.BindFault node) posts seed before after h = tt
+load_caused (status.Unfit socket opener place why) posts seed before after h = tt
+load_caused (status.Stalled left) posts seed before after h = tt
 
 -- ---- the order
 
@@ -64,7 +67,7 @@ counts laws posts seed count work text c left =
     record {
       sessions = sessions;
       lines = c.lines ∙ rw left refl;
-      together = λ none. sessions.together (load_is_up posts seed c.last sessions.marked none) ∙ laws.asked posts seed;
+      together = λ none. sessions.kept.together (load_is_up posts seed c.last sessions.marked none) ∙ laws.asked posts seed;
     }
 
 -- a load keeps the order, where its lines were written whole
@@ -98,16 +101,19 @@ refused status.WriteFault posts seed before after h = h
 refused (status.Left count) posts seed before after h = h
 refused status.NoMemory posts seed before after h = tt
 refused (status.BadFrames place fault) posts seed before after h = h
+refused (status.BindFault node) posts seed before after h = h
+refused (status.Unfit socket opener place why) posts seed before after h = h
+refused (status.Stalled left) posts seed before after h = h
 
 order_said : (work answered : Status) (posts seed : ℕ) (before after : Edge) → KeepsLoad posts seed work before after → KeepsLoad posts seed status.WriteFault before after
-    → SaysStatus work answered before.err after.err → KeepsLoad posts seed answered before after
+    → SaysStatus [] work answered before.err after.err → KeepsLoad posts seed answered before after
 order_said work answered posts seed before after h fault (inl s) = let P : Status → Type 0 = λ x. KeepsLoad posts seed x before after in subst P (sym s.answer) h
 order_said work answered posts seed before after h fault (inr s) =
     let P : Status → Type 0 = λ x. KeepsLoad posts seed x before after in subst P (sym s.answer) (refused work posts seed before after fault)
 
 -- a printout that was printed, and what was answered
-pub load_order_printed : Laws → (p : Printout) (posts seed : ℕ) (answered : Status) (before after : Edge) → IsPrintoutBy (LoadComesTo posts seed) p
-    → (work : Status) × PrintsReport p work before.out after.out × SaysStatus work answered before.err after.err → KeepsLoad posts seed answered before after
+pub load_order_printed : Laws → (p : Printout) (posts seed : ℕ) (answered : Status) (before after : Edge) → IsPrintoutBy [] (LoadComesTo posts seed) p
+    → (work : Status) × PrintsReport p work before.out after.out × SaysStatus [] work answered before.err after.err → KeepsLoad posts seed answered before after
 load_order_printed laws p posts seed answered before after o (work, inl (same, d), said) =
     let P : Status → Type 0 = λ x. KeepsLoad posts seed x before after in
     let text = p.report.bytes in

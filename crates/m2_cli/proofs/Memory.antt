@@ -1,27 +1,40 @@
 -- What is left where memory ran out before the words were read.
-use Rattle.std.proofs.Common.{◌≡◌, ◌∙◌, [], Option, None, Some, refl, sym, ap, append-nil, inl, inr}
+use Rattle.std.proofs.Common.{◌≡◌, ◌∙◌, ℕ, List, [], Option, None, Some, refl, sym, ap, append-nil, inl, inr}
+use Rattle.m2_fabric.specs.Fabric.{SeenFabric}
+use Rattle.m2_scenario.specs.Text.{Word}
 use Rattle.m2_edge.specs.Sink.{SeenSink}
 use Rattle.m2_edge.specs.Source.{SeenSource, IsWhereItWas}
-use Rattle.m2_cli.specs.Form.{Form, sim_of, frames_of, load_of, MatchForm}
+use Rattle.m2_cli.specs.Form.{Form, sim_of, run_of, frames_of, load_of, MatchForm}
 use Rattle.m2_cli.specs.declared.status.Status.{Status}
 use Rattle.m2_cli.specs.declared.status.Status.TheVariants.{NoMemory}
 use Rattle.m2_cli.specs.Edge.{Edge}
 use Rattle.m2_cli.specs.Frames.{ListsFile}
 use Rattle.m2_cli.specs.Load.{RunsLoad}
 use Rattle.m2_cli.specs.Print.{SaysStatus}
-use Rattle.m2_cli.specs.Top.{Ends, IsOfNoForm, RunsFile}
+use Rattle.m2_cli.proofs.Says.{says_named}
+use Rattle.m2_cli.specs.Ends.{Ends}
+use Rattle.m2_cli.specs.Threads.{RunsThreads, names_in}
+use Rattle.m2_cli.specs.Top.{IsOfNoForm, RunsFile}
 
 where_it_was : (old new : SeenSource) → new ≡ old → IsWhereItWas old new
 where_it_was old new e =
     record { given = ap (λ (s : SeenSource). s.given) e; ended = ap (λ (s : SeenSource). s.ended) e; begun = ap (λ (s : SeenSource). s.begun) e }
 
-left_by : (form : Option Form) (before after : Edge) → after.source ≡ before.source → after.out ≡ before.out
-    → MatchForm form (IsOfNoForm NoMemory before after) (λ file. RunsFile file NoMemory before after) (λ file. ListsFile file NoMemory before after)
+-- the names of the file's nodes, with `run FILE`
+abbrev names_by : Option Form → Edge → List Word
+names_by (Some (run_of file)) after = names_in after.source.given
+names_by _ after = []
+
+left_by : (may_give : ℕ → Type 0) (old new : SeenFabric) (form : Option Form) (before after : Edge) → after.source ≡ before.source → after.out ≡ before.out
+    → MatchForm form (IsOfNoForm NoMemory before after) (λ file. RunsFile file NoMemory before after)
+    (λ file. RunsThreads may_give old new file NoMemory before after × (names_by form after ≡ names_in after.source.given)) (λ file. ListsFile file NoMemory before after)
     (λ posts seed. RunsLoad posts seed NoMemory before after)
-left_by None before after unread unprinted = record { usage = inr refl; untouched = record { unread = unread; unprinted = unprinted } }
-left_by (Some (sim_of file)) before after unread unprinted =
+left_by may_give old new None before after unread unprinted = record { usage = inr refl; untouched = record { unread = unread; unprinted = unprinted } }
+left_by may_give old new (Some (sim_of file)) before after unread unprinted =
     record { stands = inl (where_it_was before.source after.source unread); unprinted = unprinted }
-left_by (Some (frames_of file)) before after unread unprinted = record {
+left_by may_give old new (Some (run_of file)) before after unread unprinted =
+    (record { stands = inl (where_it_was before.source after.source unread); unprinted = unprinted }, refl)
+left_by may_give old new (Some (frames_of file)) before after unread unprinted = record {
   stands = inl (where_it_was before.source after.source unread);
   lists = (
     [],
@@ -34,8 +47,9 @@ left_by (Some (frames_of file)) before after unread unprinted = record {
     },
   );
 }
-left_by (Some (load_of posts seed)) before after unread unprinted = record { unread = unread; unprinted = unprinted }
+left_by may_give old new (Some (load_of posts seed)) before after unread unprinted = record { unread = unread; unprinted = unprinted }
 
-pub memory_ends : (form : Option Form) (answered : Status) (before after : Edge) → after.source ≡ before.source → after.out ≡ before.out
-    → SaysStatus NoMemory answered before.err after.err → Ends form answered before after
-memory_ends form answered before after unread unprinted said = record { work = NoMemory; said = said; left = left_by form before after unread unprinted }
+pub memory_ends : (may_give : ℕ → Type 0) (old new : SeenFabric) (form : Option Form) (answered : Status) (before after : Edge) → after.source ≡ before.source → after.out ≡ before.out
+    → SaysStatus [] NoMemory answered before.err after.err → Ends may_give old new form answered before after
+memory_ends may_give old new form answered before after unread unprinted said =
+    record { work = NoMemory; names = names_by form after; said = says_named (names_by form after) NoMemory answered before.err after.err refl said; left = left_by may_give old new form before after unread unprinted }

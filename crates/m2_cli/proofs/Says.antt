@@ -5,6 +5,7 @@ use Rattle.m2_edge.specs.Faults.{HasRisen}
 use Rattle.m2_edge.specs.Sink.{SeenSink, TakesPrefix}
 use Rattle.m2_edge.specs.declared.failed.Failed.{Failed}
 use Rattle.m2_program.specs.Writing.{PrintsText}
+use Rattle.m2_scenario.specs.Text.{Word}
 use Rattle.m2_cli.specs.declared.printout.Printout.{Printout}
 use Rattle.m2_cli.specs.declared.status.Status.{Status}
 use Rattle.m2_cli.specs.declared.status.Status.TheVariants as status
@@ -25,13 +26,19 @@ pub delivers_printed : (r : Result (Unit {0}) Failed) (text : List ℕ) (old new
 delivers_printed (Ok u) text old new some p = record { taken = p.taken; flushed = λ _. p.flushed; untouched = λ none. absurd (some none) }
 delivers_printed (Err u) text old new some p = p
 
-pub says_whole : (s : Status) (line : List ℕ) (old new : SeenSink) → line ≡ line_of s → Delivers line old new → SaysStatus s s old new
-says_whole s line old new e d = let P : List ℕ → Type 0 = λ t. Delivers t old new in inl (record { answer = refl; line = subst P e d })
+pub says_whole : (names : List Word) (s : Status) (line : List ℕ) (old new : SeenSink) → line ≡ line_of names s → Delivers line old new → SaysStatus names s s old new
+says_whole names s line old new e d = let P : List ℕ → Type 0 = λ t. Delivers t old new in inl (record { answer = refl; line = subst P e d })
 
-pub says_prefix : (s answered : Status) (line : List ℕ) (old new : SeenSink) → line ≡ line_of s → answered ≡ unsaid s
-    → HasRisen old.faults new.faults → TakesPrefix line old new → SaysStatus s answered old new
-says_prefix s answered line old new e a risen h =
+pub says_prefix : (names : List Word) (s answered : Status) (line : List ℕ) (old new : SeenSink) → line ≡ line_of names s → answered ≡ unsaid s
+    → HasRisen old.faults new.faults → TakesPrefix line old new → SaysStatus names s answered old new
+says_prefix names s answered line old new e a risen h =
     let P : List ℕ → Type 0 = λ t. TakesPrefix t old new in inr (record { answer = a; failed = risen; line = subst P e h })
+
+-- a line that names no node
+pub says_named : (names : List Word) (s answered : Status) (old new : SeenSink) → line_of [] s ≡ line_of names s → SaysStatus [] s answered old new → SaysStatus names s answered old new
+says_named names s answered old new e (inl said) = inl (record { answer = said.answer; line = subst (λ (t : List ℕ). Delivers t old new) e said.line })
+says_named names s answered old new e (inr said) =
+    inr (record { answer = said.answer; failed = said.failed; line = subst (λ (t : List ℕ). TakesPrefix t old new) e said.line })
 
 -- a report that was written whole
 pub prints_whole : (p : Printout) (text : List ℕ) (old new : SeenSink) → text ≡ p.report.bytes → Delivers text old new → PrintsReport p p.status old new
@@ -52,8 +59,11 @@ unsaid_caused status.WriteFault before after risen = inr risen
 unsaid_caused (status.Left count) before after risen = inr risen
 unsaid_caused status.NoMemory before after risen = tt
 unsaid_caused (status.BadFrames place fault) before after risen = inr risen
+unsaid_caused (status.BindFault node) before after risen = inr risen
+unsaid_caused (status.Unfit socket opener place why) before after risen = inr risen
+unsaid_caused (status.Stalled left) before after risen = inr risen
 
-pub said_caused : (work answered : Status) (before after : Edge) → IsCause work before after → SaysStatus work answered before.err after.err → IsCause answered before after
-said_caused work answered before after cause (inl s) = let P : Status → Type 0 = λ x. IsCause x before after in subst P (sym s.answer) cause
-said_caused work answered before after cause (inr s) =
+pub said_caused : (names : List Word) (work answered : Status) (before after : Edge) → IsCause work before after → SaysStatus names work answered before.err after.err → IsCause answered before after
+said_caused names work answered before after cause (inl s) = let P : Status → Type 0 = λ x. IsCause x before after in subst P (sym s.answer) cause
+said_caused names work answered before after cause (inr s) =
     let P : Status → Type 0 = λ x. IsCause x before after in subst P (sym s.answer) (unsaid_caused work before after s.failed)

@@ -59,3 +59,6 @@ run_caused status.WriteFault file before after h = inl h.failed
 run_caused (status.Left count) file before after h = tt
 run_caused status.NoMemory file before after h = tt
 run_caused (status.BadFrames place fault) file before after h = tt
+run_caused (status.BindFault node) file before after h = tt
+run_caused (status.Unfit socket opener place why) file before after h = tt
+run_caused (status.Stalled left) file before after h = tt

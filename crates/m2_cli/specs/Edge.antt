@@ -7,7 +7,7 @@ use Rattle.m2_edge.specs.Source.{SeenSource, IsWhereItWas}
 use Rattle.m2_edge.specs.Whole.{StandsIn, IsReadUpTo}
 use Rattle.m2_scenario_text.specs.declared.reading.TheConstants.{MOST_BYTES}
 use Rattle.m2_cli.specs.declared.status.Status.{Status}
-use Rattle.m2_cli.specs.declared.status.Status.TheVariants.{Done, Usage, BadScenario, ReadFault, WriteFault, Left, NoMemory, BadFrames}
+use Rattle.m2_cli.specs.declared.status.Status.TheVariants.{Done, Usage, BadScenario, ReadFault, WriteFault, BindFault, Unfit, Stalled, Left, NoMemory, BadFrames}
 
 pub record Edge : Type 0 where
   pub source : SeenSource
@@ -40,6 +40,9 @@ IsCause (BadScenario line kind) before after = Unit {0}
 IsCause (Left count) before after = Unit {0}
 IsCause NoMemory before after = Unit {0}
 IsCause (BadFrames place fault) before after = Unit {0}
+IsCause (BindFault node) before after = Unit {0}
+IsCause (Unfit socket opener place why) before after = Unit {0}
+IsCause (Stalled left) before after = Unit {0}
 
 -- the status has its cause, and no count of faults falls
 pub record HasCauses (status : Status) (before after : Edge) : Type 0 where

@@ -8,7 +8,7 @@ use Rattle.m2_scenario.specs.declared.kind.Kind.TheVariants.{Number}
 use Rattle.m2_scenario.specs.Word.{number_of}
 use Rattle.m2_scenario.specs.declared.limits.TheConstants.{MOST_POSTS}
 use Rattle.m2_cli.specs.declared.command.Command.{Command}
-use Rattle.m2_cli.specs.declared.command.Command.TheVariants.{Sim, Frames, Load}
+use Rattle.m2_cli.specs.declared.command.Command.TheVariants.{Sim, Run, Frames, Load}
 
 abbrev pub is_text : List ℕ → List ℕ → Bool
 is_text text word = pointwise nat_eq word text
@@ -25,19 +25,22 @@ is_option_word (b ∷ c ∷ bs) = b == 45
 -- a command: what its words ask for, with its file, or with how many posts and the seed
 pub data Form : Type 0 where
   sim_of : List ℕ → Form
+  run_of : List ℕ → Form
   frames_of : List ℕ → Form
   load_of : ℕ → ℕ → Form
 
 -- the form that a command has
 abbrev pub form_of : Command → Form
 form_of (Sim file) = sim_of (string_bytes file)
+form_of (Run file) = run_of (string_bytes file)
 form_of (Frames file) = frames_of (string_bytes file)
 form_of (Load posts seed) = load_of posts seed
 
--- `sim FILE` or `frames FILE`
+-- `sim FILE`, `run FILE` or `frames FILE`
 abbrev pub file_form : List ℕ → List ℕ → Option Form
 file_form verb file =
     if is_text (codes "sim") verb then Some (sim_of file)
+    else if is_text (codes "run") verb then Some (run_of file)
     else if is_text (codes "frames") verb then Some (frames_of file)
     else None
 
@@ -72,16 +75,18 @@ form_in words =
     if list_any is_option_word (before_first is_dashes words) then None
     else form_among (before_first is_dashes words ++ after_first is_dashes words)
 
--- One fact for words of no form, one for the file of `sim FILE`, one for that of `frames FILE`, and one for the
--- numbers of `load N SEED`.
-abbrev pub MatchForm : Option Form → Type 0 → (List ℕ → Type 0) → (List ℕ → Type 0) → (ℕ → ℕ → Type 0) → Type 0
-MatchForm None Refused OfSim OfFrames OfLoad = Refused
-MatchForm (Some (sim_of file)) Refused OfSim OfFrames OfLoad = OfSim file
-MatchForm (Some (frames_of file)) Refused OfSim OfFrames OfLoad = OfFrames file
-MatchForm (Some (load_of posts seed)) Refused OfSim OfFrames OfLoad = OfLoad posts seed
+-- One fact for words of no form, one for the file of `sim FILE`, one for that of `run FILE`, one for that of `frames FILE`, and one
+-- for the numbers of `load N SEED`.
+abbrev pub MatchForm : Option Form → Type 0 → (List ℕ → Type 0) → (List ℕ → Type 0) → (List ℕ → Type 0) → (ℕ → ℕ → Type 0) → Type 0
+MatchForm None Refused OfSim OfRun OfFrames OfLoad = Refused
+MatchForm (Some (sim_of file)) Refused OfSim OfRun OfFrames OfLoad = OfSim file
+MatchForm (Some (run_of file)) Refused OfSim OfRun OfFrames OfLoad = OfRun file
+MatchForm (Some (frames_of file)) Refused OfSim OfRun OfFrames OfLoad = OfFrames file
+MatchForm (Some (load_of posts seed)) Refused OfSim OfRun OfFrames OfLoad = OfLoad posts seed
 
 -- a command's load is of a number of posts that a scenario may have
 abbrev pub IsWithin : Command → Type 0
 IsWithin (Sim file) = Unit {0}
+IsWithin (Run file) = Unit {0}
 IsWithin (Frames file) = Unit {0}
 IsWithin (Load posts seed) = (1 ≤ posts) × (posts ≤ MOST_POSTS)

@@ -10,7 +10,7 @@ use Rattle.m2_cli.specs.declared.listing.Listing.{Listing}
 use Rattle.m2_cli.specs.declared.listing.Listing.TheVariants as listing
 use Rattle.m2_cli.specs.Edge.{Edge, SourceFailed, OutFailed, StandsSomewhere}
 use Rattle.m2_cli.specs.declared.status.Status.{Status}
-use Rattle.m2_cli.specs.declared.status.Status.TheVariants.{Done, Usage, BadScenario, ReadFault, WriteFault, Left, NoMemory, BadFrames}
+use Rattle.m2_cli.specs.declared.status.Status.TheVariants.{Done, Usage, BadScenario, ReadFault, WriteFault, BindFault, Unfit, Stalled, Left, NoMemory, BadFrames}
 
 -- the number of a frame's fault, in the order in which they are judged
 abbrev pub number_of_fault : FrameFault → ℕ
@@ -55,6 +55,9 @@ ListsFile file NoMemory before after = IsListedInPart file before after
 ListsFile file Usage before after = ⊥
 ListsFile file (BadScenario line kind) before after = ⊥
 ListsFile file (Left count) before after = ⊥
+ListsFile file (BindFault node) before after = ⊥
+ListsFile file (Unfit socket opener place why) before after = ⊥
+ListsFile file (Stalled left) before after = ⊥
 
 -- a listing whose lines were passed on, or couldn't be; by what is seen of the output before that and after
 abbrev pub IsPassedOn : Listing → Listing → SeenSink → SeenSink → Type 0

@@ -1,4 +1,5 @@
 pub mod Edge
+pub mod Ends
 pub mod Form
 pub mod Frames
 pub mod Lines
@@ -14,6 +15,8 @@ pub mod Reading
 pub mod Run
 pub mod SoFar
 pub mod Status
+pub mod Threads
+pub mod ThreadsOrder
 pub mod Top
 pub mod Verdict
 pub mod Work

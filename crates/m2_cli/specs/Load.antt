@@ -12,7 +12,7 @@ use Rattle.m2_script.specs.Outcome.{all_heard, left_in}
 use Rattle.m2_script.specs.Script.{RunNow}
 use Rattle.m2_cli.specs.declared.load.LoadCounts.{LoadCounts}
 use Rattle.m2_cli.specs.declared.status.Status.{Status}
-use Rattle.m2_cli.specs.declared.status.Status.TheVariants.{Done, Usage, BadScenario, ReadFault, WriteFault, Left, NoMemory, BadFrames}
+use Rattle.m2_cli.specs.declared.status.Status.TheVariants.{Done, Usage, BadScenario, ReadFault, WriteFault, BindFault, Unfit, Stalled, Left, NoMemory, BadFrames}
 use Rattle.m2_cli.specs.Edge.{Edge, OutFailed}
 use Rattle.m2_cli.specs.Order.{HeardAll, KeepsSessions}
 use Rattle.m2_cli.specs.Print.{Delivers}
@@ -81,6 +81,9 @@ RunsLoad posts seed Usage before after = ⊥
 RunsLoad posts seed (BadScenario line kind) before after = ⊥
 RunsLoad posts seed ReadFault before after = ⊥
 RunsLoad posts seed (BadFrames place fault) before after = ⊥
+RunsLoad posts seed (BindFault node) before after = ⊥
+RunsLoad posts seed (Unfit socket opener place why) before after = ⊥
+RunsLoad posts seed (Stalled left) before after = ⊥
 
 -- ---- the headline
 
@@ -116,3 +119,6 @@ KeepsLoad posts seed (BadScenario line kind) before after = Unit {0}
 KeepsLoad posts seed ReadFault before after = Unit {0}
 KeepsLoad posts seed NoMemory before after = Unit {0}
 KeepsLoad posts seed (BadFrames place fault) before after = Unit {0}
+KeepsLoad posts seed (BindFault node) before after = Unit {0}
+KeepsLoad posts seed (Unfit socket opener place why) before after = Unit {0}
+KeepsLoad posts seed (Stalled left) before after = Unit {0}

@@ -3,8 +3,9 @@ use Rattle.std.specs.Prelude.{◌≡◌, ◌≢◌, ◌⊎◌, List, ℕ, [], Re
 use Rattle.m2_edge.specs.Faults.{HasRisen}
 use Rattle.m2_edge.specs.Sink.{SeenSink, TakesBytes, TakesPrefix, IsFlushed}
 use Rattle.m2_edge.specs.declared.failed.Failed.{Failed}
+use Rattle.m2_scenario.specs.Text.{Word}
 use Rattle.m2_cli.specs.declared.status.Status.{Status}
-use Rattle.m2_cli.specs.declared.status.Status.TheVariants.{Done, Usage, BadScenario, ReadFault, WriteFault, Left, NoMemory, BadFrames}
+use Rattle.m2_cli.specs.declared.status.Status.TheVariants.{Done, Usage, BadScenario, ReadFault, WriteFault, BindFault, Unfit, Stalled, Left, NoMemory, BadFrames}
 use Rattle.m2_cli.specs.Status.{line_of}
 use Rattle.m2_cli.specs.declared.printout.Printout.{Printout}
 
@@ -29,22 +30,25 @@ unsaid WriteFault = WriteFault
 unsaid (Left count) = WriteFault
 unsaid NoMemory = NoMemory
 unsaid (BadFrames place fault) = WriteFault
+unsaid (BindFault node) = WriteFault
+unsaid (Unfit socket opener place why) = WriteFault
+unsaid (Stalled left) = WriteFault
 
 -- the line of what the work came to was said whole, and that is answered
-pub record IsSaid (work answered : Status) (old new : SeenSink) : Type 0 where
+pub record IsSaid (names : List Word) (work answered : Status) (old new : SeenSink) : Type 0 where
   pub answer : answered ≡ work
-  pub line : Delivers (line_of work) old new
+  pub line : Delivers (line_of names work) old new
 
 -- standard error failed, and a prefix of that line was said
-pub record IsRefused (work answered : Status) (old new : SeenSink) : Type 0 where
+pub record IsRefused (names : List Word) (work answered : Status) (old new : SeenSink) : Type 0 where
   pub answer : answered ≡ unsaid work
   pub failed : HasRisen old.faults new.faults
-  pub line : TakesPrefix (line_of work) old new
+  pub line : TakesPrefix (line_of names work) old new
 
 -- How what the work came to was said and answered. Either its whole line stands on standard error and the work's
 -- status is answered, or standard error failed, has a prefix of that line, and `unsaid` is answered.
-abbrev pub SaysStatus : Status → Status → SeenSink → SeenSink → Type 0
-SaysStatus work answered old new = IsSaid work answered old new ⊎ IsRefused work answered old new
+abbrev pub SaysStatus : (names : List Word) → Status → Status → SeenSink → SeenSink → Type 0
+SaysStatus names work answered old new = IsSaid names work answered old new ⊎ IsRefused names work answered old new
 
 -- What printing came to: the report was taken whole, and the work is at its status; or standard output failed, and
 -- took a prefix.

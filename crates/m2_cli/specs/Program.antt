@@ -26,5 +26,5 @@ pub record PrintsTheLoad (posts seed : ℕ) (out : SeenSink) : Type 0 where
 -- its three lines
 abbrev pub PrintsWhereDone : Option Form → Status → SeenSource → SeenSink → Type 0
 PrintsWhereDone form status source out =
-    MatchForm form (Unit {0}) (λ _. status ≡ Done → PrintsTheReport source out) (λ _. Unit {0})
+    MatchForm form (Unit {0}) (λ _. status ≡ Done → PrintsTheReport source out) (λ _. Unit {0}) (λ _. Unit {0})
     (λ posts seed. status ≡ Done → PrintsTheLoad posts seed out)

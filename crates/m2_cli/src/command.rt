@@ -18,6 +18,8 @@ use std::alloc::Global;
 pub enum Command {
     /// `sim FILE`
     Sim(String),
+    /// `run FILE`
+    Run(String),
     /// `frames FILE`
     Frames(String),
     /// `load N SEED`
@@ -83,6 +85,7 @@ fn file_command(alloc: Global, verb: &str, file: &str) -> Result<Option<Command>
 {
     match verb {
         "sim" => Ok(Some(Command::Sim(String::from_str(alloc, file)?))),
+        "run" => Ok(Some(Command::Run(String::from_str(alloc, file)?))),
         "frames" => Ok(Some(Command::Frames(String::from_str(alloc, file)?))),
         _ => Ok(None),
     }

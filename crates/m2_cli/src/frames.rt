@@ -1,6 +1,6 @@
 //! `frames FILE`: each frame of a file on a line, and where and why the file stops being frames.
 
-ghost use Rattle.std.specs.Prelude.{◌≡◌, ◌≤◌};
+ghost use Rattle.std.specs.Prelude.{◌≡◌, ◌≤◌, []};
 ghost use Rattle.m2_cli.specs.Edge.{edge};
 ghost use Rattle.m2_cli.specs.Frames.{ListsFile, number_of_fault, status_of_listing, IsPassedOn};
 ghost use Rattle.m2_cli.specs.Work.{Works};
@@ -20,7 +20,7 @@ pub(crate) fn frames<S: Source, O: Sink, E: Sink>(
     out: &mut O,
     err: &mut E,
 ) -> Status
-    ensures { Works (ListsFile file.now) result (edge (S.seen src.old) (O.seen out.old) (E.seen err.old))
+    ensures { Works [] (ListsFile file.now) result (edge (S.seen src.old) (O.seen out.old) (E.seen err.old))
         (edge (S.seen src.new) (O.seen out.new) (E.seen err.new)) }
 {
     let listing = list_frames(alloc, file, src, out);

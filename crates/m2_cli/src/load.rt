@@ -1,12 +1,12 @@
 //! `load N SEED`: generated load, and how much of it was dispatched.
 
-ghost use Rattle.std.specs.Prelude.{◌≡◌, ◌≤◌, IfOk, length, map, sum_by};
+ghost use Rattle.std.specs.Prelude.{◌≡◌, ◌≤◌, IfOk, length, map, sum_by, []};
 ghost use Rattle.m2_edge.specs.Source.{SeenSource};
 ghost use Rattle.m2_scenario.specs.Report.{heard_in};
 ghost use Rattle.m2_scenario.specs.declared.limits.TheConstants.{MOST_POSTS};
 ghost use Rattle.m2_cli.specs.Edge.{edge};
 ghost use Rattle.m2_cli.specs.Load.{load_lines, IsCounted, KeepsLoad, LoadComesTo, RunsLoad};
-ghost use Rattle.m2_cli.specs.Printout.{IsPrintout, IsPrintoutBy};
+ghost use Rattle.m2_cli.specs.Printout.{IsPrintoutBy};
 ghost use Rattle.m2_cli.specs.Verdict.{status_by_count};
 ghost use Rattle.m2_cli.specs.Work.{Works};
 
@@ -32,7 +32,7 @@ pub(crate) fn load<O: Sink, E: Sink>(
 ) -> Status
     requires least { 1 ≤ posts }
     requires most { posts ≤ MOST_POSTS }
-    ensures works { (source : SeenSource) → Works (RunsLoad posts seed) result (edge source (O.seen out.old) (E.seen err.old))
+    ensures works { (source : SeenSource) → Works [] (RunsLoad posts seed) result (edge source (O.seen out.old) (E.seen err.old))
         (edge source (O.seen out.new) (E.seen err.new)) }
     ensures order { (source : SeenSource) → KeepsLoad posts seed result (edge source (O.seen out.old) (E.seen err.old))
         (edge source (O.seen out.new) (E.seen err.new)) }
@@ -49,11 +49,11 @@ pub(crate) fn load<O: Sink, E: Sink>(
 fn prepare_load(alloc: Global, posts: u32, seed: u64) -> Result<Printout, NoMemory>
     requires least { 1 ≤ posts }
     requires most { posts ≤ MOST_POSTS }
-    ensures { IfOk result (IsPrintoutBy (LoadComesTo posts seed)) }
+    ensures { IfOk result (IsPrintoutBy [] (LoadComesTo posts seed)) }
 {
     let counts = run_load(alloc, posts, seed)?;
     let text = lines(alloc, u64::from(posts), counts.dispatched, counts.left)?;
-    with_line(alloc, status_by_count(counts.left), text)
+    with_line(alloc, &[], status_by_count(counts.left), text)
 }
 
 /// What came of a load.

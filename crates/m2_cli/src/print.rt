@@ -1,11 +1,12 @@
 //! Writing the report, and the status's line.
 
-ghost use Rattle.std.specs.Prelude.{◌≡◌, ◌≤◌, ◌⊎◌};
+ghost use Rattle.std.specs.Prelude.{◌≡◌, ◌≤◌, ◌⊎◌, List, []};
 ghost use Rattle.m2_edge.specs.Faults.{HasCause};
 ghost use Rattle.m2_cli.specs.declared.status.Status.{Status};
 ghost use Rattle.m2_cli.specs.declared.status.Status.TheVariants as statuses;
 ghost use Rattle.m2_cli.specs.Print.{DeliversText, PrintsReport, SaysStatus, unsaid};
 ghost use Rattle.m2_cli.specs.Status.{line_of, fixed_line_of};
+ghost use Rattle.m2_scenario.specs.Text.{Word};
 
 use crate::printout::Printout;
 use crate::status::{Status, fixed_line, line};
@@ -16,11 +17,10 @@ use std::alloc::Global;
 
 /// Writes the report and then says the status. After a fault nothing more is written there.
 pub(crate) fn print<O: Sink, E: Sink>(printout: &Printout, out: &mut O, err: &mut E) -> Status
-    requires { printout.now.line.bytes ≡ line_of printout.now.status }
     ensures out_never_falls { (O.seen out.old).faults ≤ (O.seen out.new).faults }
     ensures err_never_falls { (E.seen err.old).faults ≤ (E.seen err.new).faults }
-    ensures prints { (work : Status) × PrintsReport printout.now work (O.seen out.old) (O.seen out.new)
-        × SaysStatus work result (E.seen err.old) (E.seen err.new) }
+    ensures prints { (names : List Word) → printout.now.line.bytes ≡ line_of names printout.now.status →
+        (work : Status) × PrintsReport printout.now work (O.seen out.old) (O.seen out.new) × SaysStatus names work result (E.seen err.old) (E.seen err.new) }
 {
     match deliver(out, printout.report.as_slice()) {
         Ok(()) => say(err, printout.status, printout.line.as_slice()),
@@ -30,9 +30,9 @@ pub(crate) fn print<O: Sink, E: Sink>(printout: &Printout, out: &mut O, err: &mu
 
 /// Says a status that carries no number, and takes no memory for it.
 pub(crate) fn say_fixed<E: Sink>(err: &mut E, status: Status) -> Status
-    requires { fixed_line_of status ≡ line_of status }
+    requires { fixed_line_of status ≡ line_of [] status }
     ensures never_falls { (E.seen err.old).faults ≤ (E.seen err.new).faults }
-    ensures says { SaysStatus status result (E.seen err.old) (E.seen err.new) }
+    ensures says { SaysStatus [] status result (E.seen err.old) (E.seen err.new) }
 {
     say(err, status, fixed_line(&status))
 }
@@ -40,10 +40,10 @@ pub(crate) fn say_fixed<E: Sink>(err: &mut E, status: Status) -> Status
 /// Says a status by the line that is made for it; where there is no memory for that, NoMemory.
 pub(crate) fn say_made<E: Sink>(alloc: Global, err: &mut E, status: Status) -> Status
     ensures never_falls { (E.seen err.old).faults ≤ (E.seen err.new).faults }
-    ensures says { SaysStatus status result (E.seen err.old) (E.seen err.new)
-        ⊎ SaysStatus statuses.NoMemory result (E.seen err.old) (E.seen err.new) }
+    ensures says { SaysStatus [] status result (E.seen err.old) (E.seen err.new)
+        ⊎ SaysStatus [] statuses.NoMemory result (E.seen err.old) (E.seen err.new) }
 {
-    match line(alloc, &status) {
+    match line(alloc, &[], &status) {
         Ok(text) => say(err, status, text.as_slice()),
         Err(NoMemory) => say_fixed(err, Status::NoMemory),
     }
@@ -51,9 +51,8 @@ pub(crate) fn say_made<E: Sink>(alloc: Global, err: &mut E, status: Status) -> S
 
 /// Says a status by its line. Where that fails the status is WriteFault, or NoMemory as before.
 fn say<E: Sink>(err: &mut E, status: Status, line: &[u8]) -> Status
-    requires { line.now ≡ line_of status }
     ensures never_falls { (E.seen err.old).faults ≤ (E.seen err.new).faults }
-    ensures says { SaysStatus status result (E.seen err.old) (E.seen err.new) }
+    ensures says { (names : List Word) → line.now ≡ line_of names status → SaysStatus names status result (E.seen err.old) (E.seen err.new) }
 {
     match deliver(err, line) {
         Ok(()) => status,

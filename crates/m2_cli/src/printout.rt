@@ -5,7 +5,7 @@ ghost use Rattle.m2_cli.specs.declared.status.Status.TheVariants as statuses;
 ghost use Rattle.m2_cli.specs.Verdict.{ComesTo, RunComesTo, status_by_count};
 ghost use Rattle.m2_cli.specs.Printout.{IsPrintout, IsPrintoutBy, PreparesFile};
 ghost use Rattle.m2_edge.specs.Whole.{HasReadCause};
-ghost use Rattle.m2_scenario.specs.Report.{report_of};
+ghost use Rattle.m2_scenario.specs.Report.{name_of, report_of};
 ghost use Rattle.m2_scenario.specs.Draft.{Draft, IsMade};
 ghost use Rattle.m2_scenario.specs.Valid.{IsValid};
 
@@ -13,7 +13,7 @@ use crate::run;
 use crate::status::{Status, line};
 use m2_bytes::{Blob, Items, NoMemory};
 use m2_edge::{ReadFault, Source, read_whole};
-use m2_scenario::{Scenario, report};
+use m2_scenario::{Node, Scenario, report};
 use m2_scenario_text::{BadScenario, MOST_BYTES, read};
 use m2_script::Outcome;
 use std::alloc::Global;
@@ -43,7 +43,7 @@ pub(crate) fn prepare_file<S: Source>(
 
 /// Runs the scenario that the bytes spell.
 fn prepare_bytes(alloc: Global, bytes: &[u8]) -> Result<Printout, NoMemory>
-    ensures { IfOk result (IsPrintoutBy (ComesTo bytes.now)) }
+    ensures { IfOk result (IsPrintoutBy [] (ComesTo bytes.now)) }
 {
     match read(alloc, bytes, false) {
         Ok(scenario) => prepare_scenario(alloc, scenario),
@@ -53,11 +53,12 @@ fn prepare_bytes(alloc: Global, bytes: &[u8]) -> Result<Printout, NoMemory>
 }
 
 /// The printout for a bad line.
-fn refuse(alloc: Global, line: u32, kind: u8) -> Result<Printout, NoMemory>
-    ensures { IfOk result (λ p. IsPrintout p (statuses.BadScenario line kind) []) }
+pub(crate) fn refuse(alloc: Global, line: u32, kind: u8) -> Result<Printout, NoMemory>
+    ensures { IfOk result (λ p. IsPrintout [] p (statuses.BadScenario line kind) []) }
 {
     with_line(
         alloc,
+        &[],
         Status::BadScenario { line, kind },
         Blob::empty(alloc),
     )
@@ -66,7 +67,7 @@ fn refuse(alloc: Global, line: u32, kind: u8) -> Result<Printout, NoMemory>
 /// Runs a scenario over nodes and sockets of its own.
 fn prepare_scenario(alloc: Global, scenario: Scenario) -> Result<Printout, NoMemory>
     requires { IsValid scenario }
-    ensures { IfOk result (λ p. (d : Draft) → IsMade scenario d → IsPrintoutBy (RunComesTo d) p) }
+    ensures { IfOk result (λ p. (d : Draft) → IsMade scenario d → IsPrintoutBy [] (RunComesTo d) p) }
 {
     let Scenario {
         nodes,
@@ -83,7 +84,7 @@ fn prepare_scenario(alloc: Global, scenario: Scenario) -> Result<Printout, NoMem
     };
     let mut text = Blob::empty(alloc);
     report(alloc, &scenario, &logs, false, &mut text)?;
-    with_line(alloc, status_by_count(left), text)
+    with_line(alloc, &[], status_by_count(left), text)
 }
 
 /// Done where no post is left.
@@ -97,11 +98,16 @@ pub(crate) fn status_by_count(count: u64) -> Status
     }
 }
 
-/// The printout with the status's line.
-pub(crate) fn with_line(alloc: Global, status: Status, report: Blob) -> Result<Printout, NoMemory>
-    ensures { IfOk result (λ p. IsPrintout p status report.bytes) }
+/// The printout with the status's line, which names one of these nodes.
+pub(crate) fn with_line(
+    alloc: Global,
+    nodes: &[Node],
+    status: Status,
+    report: Blob,
+) -> Result<Printout, NoMemory>
+    ensures { IfOk result (λ p. IsPrintout (map name_of nodes.now) p status report.bytes) }
 {
-    let line = line(alloc, &status)?;
+    let line = line(alloc, nodes, &status)?;
     Ok(Printout {
         status,
         report,

@@ -2,7 +2,7 @@
 //!
 //! What it is: what files of scenarios are refused for, a generated load as another program draws it, runs whose outcome
 //! the rules tell and their reports, and the program over files that can't be read or written, over sockets that are cut
-//! anywhere, and over real files. They stand apart from the crates, since a crate with tests is proved twice, and
+//! anywhere, and over real files; and nodes on threads. They stand apart from the crates, since a crate with tests is proved twice, and
 //! together, since each crate of tests loads its libraries again. What it isn't: what a clause says already, or what
 //! the files of `examples/` and the runs of `msgr2` show, which the gate compares.
 #![tactic(auto)]
@@ -19,3 +19,5 @@ mod program;
 mod reader;
 #[cfg(test)]
 mod sim;
+#[cfg(test)]
+mod threads;

@@ -2,9 +2,12 @@
 
 use m2_bytes::{Blob, Items, put_decimal};
 use m2_cli::{Status, msgr2};
-use m2_edge::{CallList, Input, InputList, MemSink, MemSource};
+use m2_edge::{CallList, CountWords, FixedClock, Input, InputList, MemSink, MemSource, OpenGate};
+use m2_mem_fabric::MemFabric;
 use std::alloc::Global;
 use std::process::Abort;
+use std::sync::Wait;
+use std::thread::Threads;
 
 /// A file of two nodes, a link and a post, and its report.
 const POST: &[u8] = b"node a osd 127.0.0.1:7001/1\nnode b osd 127.0.0.1:7002/2\n\
@@ -34,7 +37,7 @@ struct Seen {
 }
 
 /// The number of a call that fails.
-fn calls(rt: &impl Abort, alloc: Global, fails: Option<u64>) -> CallList {
+pub(crate) fn calls(rt: &impl Abort, alloc: Global, fails: Option<u64>) -> CallList {
     let mut calls = Items::empty(alloc);
     if let Some(number) = fails {
         calls.push(number).expect(rt, "memory");
@@ -42,7 +45,7 @@ fn calls(rt: &impl Abort, alloc: Global, fails: Option<u64>) -> CallList {
     calls
 }
 
-fn args(rt: &impl Abort, alloc: Global, words: &[&str]) -> Vec<String> {
+pub(crate) fn args(rt: &impl Abort, alloc: Global, words: &[&str]) -> Vec<String> {
     let mut args = Vec::new(alloc);
     for word in words {
         let word = String::from_str(alloc, word).expect(rt, "memory");
@@ -51,7 +54,7 @@ fn args(rt: &impl Abort, alloc: Global, words: &[&str]) -> Vec<String> {
     args
 }
 
-fn inputs(rt: &impl Abort, alloc: Global, file: &[u8]) -> InputList {
+pub(crate) fn inputs(rt: &impl Abort, alloc: Global, file: &[u8]) -> InputList {
     let input = Input {
         name: Blob::of(alloc, b"f").expect(rt, "memory"),
         bytes: Blob::of(alloc, file).expect(rt, "memory"),
@@ -61,19 +64,35 @@ fn inputs(rt: &impl Abort, alloc: Global, file: &[u8]) -> InputList {
     inputs
 }
 
-fn run(rt: &impl Abort, alloc: Global, asked: &Asked<'_>) -> Seen {
+fn run<R: Abort + Threads + Wait + Sync + Send + Copy>(
+    rt: &R,
+    alloc: Global,
+    asked: &Asked<'_>,
+) -> Seen {
     let args = args(rt, alloc, asked.words);
     let inputs = inputs(rt, alloc, asked.file);
     let mut src = MemSource::new(inputs, calls(rt, alloc, asked.read));
     let mut out = MemSink::new(alloc, calls(rt, alloc, asked.write));
     let mut err = MemSink::new(alloc, Items::empty(alloc));
-    let status = msgr2(alloc, &args, &mut src, &mut out, &mut err);
+    let mut fabric = MemFabric::new(*rt, alloc).expect(rt, "memory");
+    let status = msgr2(
+        rt,
+        alloc,
+        &args,
+        &mut src,
+        &mut out,
+        &mut err,
+        &mut fabric,
+        &FixedClock::new(0),
+        &mut CountWords::new(),
+        &OpenGate,
+    );
     Seen { status, out, err }
 }
 
 /// Runs it, and compares the status and what is printed and said.
-fn expect(
-    rt: &impl Abort,
+fn expect<R: Abort + Threads + Wait + Sync + Send + Copy>(
+    rt: &R,
     alloc: Global,
     asked: &Asked<'_>,
     status: Status,

@@ -1,20 +1,25 @@
 -- One direction of a link: what the one node heard of the other comes as the lines of a scenario post it.
-use Rattle.std.proofs.Common.{◌≡◌, ℕ, ◌+◌, ◌≤◌, ◌⊎◌, cond, List, [], length, map, sym, ap, subst, ◌∙◌, arith, count_by}
+use Rattle.std.proofs.Common.{◌≡◌, ℕ, suc, ◌+◌, ◌≤◌, ◌⊎◌, cond, List, [], ◌∷◌, ◌++◌, length, map, sym, ap, subst, ◌∙◌, arith, append_assoc, append-nil, count_by}
 use Rattle.std.specs.List.{AllByRecursion}
+use Rattle.std.proofs.lemmas.List.{length-append, map-append}
+use Rattle.std.proofs.lemmas.List.Elements.{filter-append}
 use Rattle.std.proofs.lemmas.List.Sums.{sum_by-append}
+use Rattle.m2_channel.proofs.Handing.{some_of_more}
 use Rattle.m2_channel.specs.Handing.{IsNoResetOf}
 use Rattle.m2_channel.specs.Observed.{Logs, all_of, heard_from}
 use Rattle.m2_channel.specs.ObservedLaws.{ComeAsPosted}
 use Rattle.m2_channel.specs.m2_never_reset.Order.{AreFirstOf}
-use Rattle.m2_dispatch.specs.Heard.{Heard, is_message_from, message, of_key, reset}
+use Rattle.m2_dispatch.specs.Heard.{Heard, is_key, is_message_from, message, of_key, reset}
 use Rattle.m2_dispatch.specs.Laws.{IsSublist}
+use Rattle.m2_links_go_on.specs.m2_weave.m2_journal.Lawful.{key_of}
 use Rattle.m2_links_go_on.specs.m2_weave.m2_journal.SideFacts.{SideFacts}
 use Rattle.m2_message.specs.Message.{Content, unnumbered}
 use Rattle.m2_scenario.specs.Order.{AreSame, IsNoResetBy, IsPrefixOf, posts_between, posts_of}
 use Rattle.m2_channel.specs.m2_never_reset.Orders as orders
 use Rattle.m2_dispatch.specs.m2_policy.declared.path.Key.{Key}
+use Rattle.m2_promise.specs.AtEnd.{posts_to}
 use Rattle.m2_promise.specs.Posted.{AreSomeOf}
-use Rattle.m2_promise.proofs.PostedPlans.{count_posts, key_posts, posts_to}
+use Rattle.m2_promise.proofs.PostedPlans.{count_posts, key_posts}
 use Rattle.m2_promise.proofs.Prefixes.{are_same, count_heard, is_prefix, key_unnumbered}
 use Rattle.m2_promise.proofs.Turns.{all_turns, count_turns, key_turns}
 use Rattle.m2_scenario.specs.Draft.{DraftLine}
@@ -39,6 +44,35 @@ GoOneWay x logs = (key : Key) → (of_key x key logs.fast ≡ []) ⊎ (of_key x 
 
 posts_of_key : (g : SideFacts) (x y : ℕ) (lines : List DraftLine) (key : Key) → orders.of_key g key (map unnumbered (posts_to x y lines)) ≡ map unnumbered (posts_of x y g.node.fast key lines)
 posts_of_key g x y lines key = key_unnumbered g key (posts_to x y lines) ∙ ap (map unnumbered) (sym (key_posts x y g.node.fast key lines))
+
+-- ---- what a plan still posts
+
+-- the messages of a key are those of the first ones, and more
+key_first : (g : SideFacts) (key : Key) (ps more qs : List Content) → qs ≡ ps ++ more →
+    orders.of_key g key (map unnumbered qs) ≡ orders.of_key g key (map unnumbered ps) ++ orders.of_key g key (map unnumbered more)
+key_first g key ps more qs e =
+    ap (λ l. orders.of_key g key (map unnumbered l)) e ∙ ap (orders.of_key g key) (map-append unnumbered ps more) ∙ filter-append (λ m. is_key (key_of g m) key) (map unnumbered ps) (map unnumbered more)
+
+-- what comes as the first of some posts comes as all of them
+pub come_further : (f g : SideFacts) (ps qs : List Content) (logs : Logs) → AreFirstOf ps qs → ComeAsPosted f g ps logs → ComeAsPosted f g qs logs
+come_further f g ps qs logs ([], e) come = subst (λ l. ComeAsPosted f g l logs) (sym (e ∙ append-nil ps)) come
+come_further f g ps qs logs (m ∷ more, e) come = record {
+  in_order = λ key. let first = come.in_order key in (
+    first.0 ++ orders.of_key g key (map unnumbered (m ∷ more)),
+    key_first g key ps (m ∷ more) qs e ∙ ap (λ l. l ++ orders.of_key g key (map unnumbered (m ∷ more))) first.1
+        ∙ append_assoc (map unnumbered (of_key f.node.number key (all_of logs))) first.0 (orders.of_key g key (map unnumbered (m ∷ more))),
+  );
+  few = omega (arith, come.few, longer);
+  done = λ all. absurd (omega (arith, all, come.few, longer));
+}
+  where
+    longer : length qs ≡ length ps + suc (length more)
+    longer = ap length e ∙ length-append ps (m ∷ more)
+
+-- what is some of the first of the posts of a key is some of all of them
+pub some_further : (g : SideFacts) (key : Key) (ps qs hs : List Content) → AreFirstOf ps qs → IsSublist hs (orders.of_key g key (map unnumbered ps)) → IsSublist hs (orders.of_key g key (map unnumbered qs))
+some_further g key ps qs hs (more, e) some =
+    subst (IsSublist hs) (sym (key_first g key ps more qs e)) (some_of_more hs (orders.of_key g key (map unnumbered ps)) (orders.of_key g key (map unnumbered more)) some)
 
 -- ---- all of it, in order
 

@@ -22,6 +22,7 @@ pub mod Hears
 pub mod Joined
 pub mod Kept
 pub mod KeptActing
+pub mod KeptEnds
 pub mod KeptHearing
 pub mod KeptLists
 pub mod Links

@@ -1,10 +1,13 @@
 -- By the logs of both nodes' dispatchers what was dispatched is the first of what was posted; and what is counted as acknowledged was
 -- accepted.
-use Rattle.std.proofs.Common.{◌≡◌, ℕ, ◌≤◌, true, false, List, length, refl, sym, ap, subst, ◌∙◌}
+use Rattle.std.proofs.Common.{◌≡◌, ℕ, ◌≤◌, true, false, List, ◌++◌, length, refl, sym, ap, subst, ◌∙◌}
+use Rattle.std.specs.List.{AllByRecursion}
 use Rattle.m2_channel.specs.Observed.{Logs, all_of}
 use Rattle.m2_channel.specs.ObservedLaws.{AreLogs, AreLogsOf, IsLogOf}
 use Rattle.m2_bytes_fit.specs.Orders.{entries_of}
 use Rattle.m2_bytes_fit.specs.Trails.{TrailsTellEachPoint}
+use Rattle.m2_bytes_fit.specs.m2_trail.Arrivals.{LooseNow}
+use Rattle.m2_links_go_on.specs.m2_growth.Halves.{all_left}
 use Rattle.m2_links_go_on.specs.m2_growth.Holding.{Holding}
 use Rattle.m2_links_go_on.specs.m2_history.HalfStrands.{OrdersGivePoints}
 use Rattle.m2_links_go_on.specs.m2_history.Link.{parts_of}
@@ -19,10 +22,10 @@ use Rattle.m2_script.specs.m2_record.IsRecord.{IsRecord}
 use Rattle.m2_script.specs.m2_record.RecordNow.{RecordNow, speaks_of}
 use Rattle.m2_promise.specs.Running.{HaveOrders, IsLinkOf, IsRunning, RunNow}
 use Rattle.m2_links_go_on.specs.m2_weave.WeaveLaws.{AsksComeFirst, ReadWasWritten}
-use Rattle.m2_links_go_on.specs.m2_history.WovenLaws.{WovenIsDelivered, WovenIsNeverReset}
+use Rattle.m2_links_go_on.specs.m2_history.WovenLaws.{WovenIsDelivered, WovenIsNeverReset, link_of}
 use Rattle.m2_links_go_on.specs.m2_history.WovenLink.{AreUp, IsLink, IsOrderOf, LinkNow, items_by, items_in, order_of}
 use Rattle.m2_links_go_on.proofs.m2_history.Whole.{far_whole, near_whole, by_actors}
-use Rattle.m2_promise.specs.Delivered.{AreDeliveredOn, AreLosslessUp, BothLogs, HasAccepted, HasHeardPeer, link_in}
+use Rattle.m2_promise.specs.Delivered.{AreDeliveredOn, AreLosslessUp, BothLogs, HasAccepted, HasHeardPeer, PostsInRanges, link_in}
 use Rattle.m2_promise.specs.DeliveryLaws.{LinksHaveOrders, RunsHaveLinks}
 use Rattle.m2_promise.proofs.Links.{far_record, near_record, never_down}
 
@@ -61,17 +64,11 @@ acknowledged sender reader s t over base count = subst (λ n. n ≤ length (lett
 
 -- ---- a link
 
-module _ (x : RunNow) (run : IsRunning x) (h g : Holding) (a b : RecordNow) (logs : BothLogs) (l : IsLinkOf x h g a b) (up : AreLosslessUp logs a b)
+module _ (a b : RecordNow) (loose : List LooseNow) (logs : BothLogs) (of_a : IsRecord a) (of_b : IsRecord b) (up : AreLosslessUp logs a b)
     (read : ReadWasWritten) (asked : AsksComeFirst) (points : OrdersGivePoints) (tell : TrailsTellEachPoint)
-    (link : IsLink (link_in h g a b)) (order : List ℕ) (is_order : IsOrderOf (link_in h g a b) order) where
+    (link : IsLink (link_of a b loose)) (order : List ℕ) (is_order : IsOrderOf (link_of a b loose) order) where
   abbrev it : LinkNow
-  it = link_in h g a b
-
-  of_a : IsRecord a
-  of_a = near_record x run h g a b l
-
-  of_b : IsRecord b
-  of_b = far_record x run h g a b l
+  it = link_of a b loose
 
   abbrev all : List SideItem
   all = entries_of (order_of it order)
@@ -113,7 +110,9 @@ module _ (x : RunNow) (run : IsRunning x) (h g : Holding) (a b : RecordNow) (log
   }
 
 pub all_delivered : (x : RunNow) (h g : Holding) (a b : RecordNow) (logs : BothLogs) → RunsHaveLinks → LinksHaveOrders → ReadWasWritten → AsksComeFirst → OrdersGivePoints → TrailsTellEachPoint →
-    WovenIsNeverReset → WovenIsDelivered → IsRunning x → HaveOrders x → IsLinkOf x h g a b → AreLosslessUp logs a b → AreDeliveredOn logs (link_in h g a b) a b
-all_delivered x h g a b logs has_link has_order read asked points tell never delivers run orders l up =
+    WovenIsNeverReset → WovenIsDelivered → IsRunning x → HaveOrders x → IsLinkOf x h g a b → AllByRecursion PostsInRanges a.plan → AllByRecursion PostsInRanges b.plan → AreLosslessUp logs a b →
+    AreDeliveredOn logs (link_in h g a b) a b
+all_delivered x h g a b logs has_link has_order read asked points tell never delivers run orders l near far up =
     let found = has_order (link_in h g a b) (orders h g a b l) in
-    delivered_on x run h g a b logs l up read asked points tell (has_link x h g a b run l up.near.plan up.far.plan) found.0 found.1 never delivers
+    delivered_on a b (all_left h.halves ++ all_left g.halves) logs (near_record x run h g a b l) (far_record x run h g a b l) up read asked points tell
+    (has_link x h g a b run l near far) found.0 found.1 never delivers

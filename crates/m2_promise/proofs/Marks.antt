@@ -16,7 +16,8 @@ use Rattle.m2_links_go_on.specs.m2_weave.m2_journal.SideFacts.{SideFacts}
 use Rattle.m2_links_go_on.specs.m2_weave.m2_journal.State.{State, start}
 use Rattle.m2_links_go_on.specs.m2_weave.m2_journal.Steps.{after}
 use Rattle.m2_promise.specs.Planned.{IsTaken}
-use Rattle.m2_promise.specs.Posted.{is_down_of, is_given_up}
+use Rattle.m2_promise.specs.AtEnd.{is_down_of, is_down_step}
+use Rattle.m2_promise.specs.Posted.{is_given_up}
 use Rattle.m2_promise.proofs.PostedPlans.{next_of, none_of, planned_by, settled}
 use Rattle.m2_script.specs.m2_record.IsRecord.{IsRecord}
 use Rattle.m2_script.specs.m2_record.RecordNow.{RecordNow, speaks_of}
@@ -28,10 +29,6 @@ use Rattle.m2_script.specs.Outcome.{is_down, is_down_entry}
 use Rattle.m2_fabric.proofs.m2_lemmas.Booleans.{or_false, or_true}
 
 -- ---- a plan's marks
-
-abbrev pub is_down_step : PlanStep → Bool
-is_down_step step.Down = true
-is_down_step _ = false
 
 abbrev goes_down : Planned → Bool
 goes_down to_go_down = true
@@ -135,3 +132,10 @@ record_marked r is taken =
     ap (λ n. list_any goes_down (drop n (map planned r.plan))) steps ∙ ap (list_any goes_down) (drop-map planned r.steps r.plan ∙ ap (map planned) (none_of r.plan r.steps taken)) in
     sym (or_false (is_down r)) ∙ ap (λ b. is_down r || b) (sym none)
     ∙ entries_mark s r.core.facts at_start r.journal (start r.core.facts) is.at_state.replay.lawful ∙ ap (λ b. b || list_any is_given_up r.journal) (same_steps r.plan)
+
+-- Whether it took each or not, it is marked down only where the plan does so, or it gave up.
+pub only_marked : (r : RecordNow) → IsRecord r → is_down r ≡ true → (list_any is_down_step r.plan || list_any is_given_up r.journal) ≡ true
+only_marked r is down =
+    let s = speaks_of r in
+    ap (λ b. b || list_any is_given_up r.journal) (sym (same_steps r.plan)) ∙ sym (entries_mark s r.core.facts at_start r.journal (start r.core.facts) is.at_state.replay.lawful)
+    ∙ ap (λ b. b || list_any goes_down (drop (passed_by r.journal at_start).steps s.plan)) down

@@ -1,8 +1,7 @@
--- What a plan posts: by the lines of a scenario, and by the journal of a record that took each step of it.
-use Rattle.std.proofs.Common.{◌≡◌, ℕ, zero, suc, ◌+◌, Bool, true, false, ◌&&◌, ◌==◌, cond, if◌then◌else◌, List, [], ◌∷◌, ◌++◌, length, map, drop, Option, Some, None, refl, sym, ap, subst, ◌∙◌, arith, append_assoc, append-nil, count_by}
+-- What a plan posts: by the lines of a scenario, and by the journal of a record.
+use Rattle.std.proofs.Common.{◌≡◌, ℕ, zero, suc, ◌+◌, Bool, true, false, ◌&&◌, ◌==◌, cond, if◌then◌else◌, List, [], ◌∷◌, ◌++◌, length, map, drop, Option, Some, None, refl, sym, ap, subst, ◌∙◌, arith, append_assoc, count_by}
 use Rattle.std.specs.Prelude.{slice_get}
 use Rattle.std.specs.List.{AllByRecursion, filter, flat_map}
-use Rattle.std.proofs.lemmas.List.{drop-map}
 use Rattle.std.proofs.lemmas.List.Sums.{sum_by-cons}
 use Rattle.std.proofs.lemmas.Option.{none-some, same_Some}
 use Rattle.m2_promise.specs.Delivered.{PostsInRanges}
@@ -22,8 +21,10 @@ use Rattle.m2_links_go_on.specs.m2_weave.m2_journal.State.{State, start}
 use Rattle.m2_links_go_on.specs.m2_weave.m2_journal.Steps.{after}
 use Rattle.m2_message.specs.Message.{Content, content_of}
 use Rattle.m2_scenario.specs.Order.{is_post_between, key_of, posts_between, posts_of}
+use Rattle.m2_channel.specs.m2_never_reset.Order.{AreFirstOf}
 use Rattle.m2_channel.specs.m2_never_reset.Orders.{posted_in, posts_in}
-use Rattle.m2_promise.specs.Planned.{IsTaken, steps_for}
+use Rattle.m2_promise.specs.AtEnd.{posts_planned, posts_to}
+use Rattle.m2_promise.specs.Planned.{steps_for}
 use Rattle.m2_dispatch.specs.m2_policy.declared.path.Key.{Key}
 use Rattle.m2_promise.specs.Posted.{PostsOfTypes}
 use Rattle.m2_script.specs.m2_record.IsRecord.{IsRecord}
@@ -35,16 +36,9 @@ use Rattle.m2_scenario.specs.Draft as draft
 use Rattle.m2_scenario.specs.Draft.{DraftLine, draft_line}
 use Rattle.m2_script.specs.Outcome.{is_post_step}
 use Rattle.m2_script.specs.Script as script
-use Rattle.m2_script.specs.Script.{Deed, both_flow, deeds_of, plan, round_of, rounds_of, script_of, turns_from}
+use Rattle.m2_script.specs.Script.{Deed, both_flow, plan, round_of, rounds_of, script_of, turns_from}
 
 -- ---- a plan's posts
-
--- the messages of its posts, in order
-abbrev pub posts_planned : List PlanStep → List Content
-posts_planned [] = []
-posts_planned (step.Post m ∷ xs) = content_of m ∷ posts_planned xs
-posts_planned (step.Dial ∷ xs) = posts_planned xs
-posts_planned (step.Down ∷ xs) = posts_planned xs
 
 pub count_planned : (xs : List PlanStep) → count_by is_post_step xs ≡ length (posts_planned xs)
 count_planned [] = refl
@@ -53,18 +47,6 @@ count_planned (step.Dial ∷ xs) = sum_by-cons (λ (x : PlanStep). cond (is_post
 count_planned (step.Down ∷ xs) = sum_by-cons (λ (x : PlanStep). cond (is_post_step x) 1 0) step.Down xs ∙ omega (arith, count_planned xs)
 
 -- ---- those of a scenario's lines
-
--- the messages that x posts to y, in order
-abbrev pub posts_to : (x y : ℕ) → List DraftLine → List Content
-posts_to x y [] = []
-posts_to x y (draft.post a b m ∷ ls) = if (a == x) && (b == y) then m ∷ posts_to x y ls else posts_to x y ls
-posts_to x y (draft.dial a b ∷ ls) = posts_to x y ls
-posts_to x y (draft.down a b ∷ ls) = posts_to x y ls
-posts_to x y (draft.cut a b n ∷ ls) = posts_to x y ls
-posts_to x y (draft.turn a ∷ ls) = posts_to x y ls
-posts_to x y (draft.flow a b k n ∷ ls) = posts_to x y ls
-posts_to x y (draft.fault a b k ∷ ls) = posts_to x y ls
-posts_to x y (draft.settle n ∷ ls) = posts_to x y ls
 
 abbrev pub has_key : List ℕ → Key → Content → Bool
 has_key fast key m = is_key (key_of fast m) key
@@ -264,12 +246,10 @@ module _ (s : Sources) where
       at (entry.Down true) l on = a_down p.steps (slice_get s.plan p.steps) (and_left (passed (entry.Down true) p) es) refl l.0 (on (after f (item.down true (slice_get s.plan p.steps)) t) l.1)
       at (entry.Down false) l on = on _ l.1
 
--- A record that took each step of its plan has posted what the plan posts.
-pub all_posted : (r : RecordNow) → IsRecord r → IsTaken r → posts_in (items_of (speaks_of r) r.journal) ≡ posts_planned r.plan
-all_posted r is taken =
-    let s = speaks_of r in
-    let steps : (passed_by r.journal at_start).steps ≡ r.steps = is.at_state.reach ∙ sym is.at_state.steps in
-    let none : posts_left (drop (passed_by r.journal at_start).steps s.plan) ≡ [] =
-    ap (λ n. posts_left (drop n (map planned r.plan))) steps ∙ ap posts_left (drop-map planned r.steps r.plan ∙ ap (map planned) (none_of r.plan r.steps taken)) in
-    sym (append-nil (posts_in (items_of s r.journal))) ∙ ap (λ l. posts_in (items_of s r.journal) ++ l) (sym none)
-    ∙ entries_post s r.core.facts at_start r.journal (start r.core.facts) is.at_state.replay.lawful ∙ all_left r.plan
+-- A record has posted the first of what its plan posts.
+pub posted_first : (r : RecordNow) → IsRecord r → AreFirstOf (posts_in (items_of (speaks_of r) r.journal)) (posts_planned r.plan)
+posted_first r is =
+    let s = speaks_of r in (
+      posts_left (drop (passed_by r.journal at_start).steps s.plan),
+      sym (entries_post s r.core.facts at_start r.journal (start r.core.facts) is.at_state.replay.lawful ∙ all_left r.plan),
+    )

@@ -1,142 +1,145 @@
--- Of a run that keeps what it keeps: the record of a node towards another with which a link joins it.
-use Rattle.std.proofs.Common.{◌≡◌, ℕ, ◌+◌, ◌<◌, ◌==◌, ◌&&◌, ◌||◌, false, if◌then◌else◌, List, length, map, sum_by, count_by, sym, ap, subst, ◌∙◌}
+-- Of nodes where a run has ended: the record of one towards another with which a link joins it.
+use Rattle.std.proofs.Common.{◌≡◌, ℕ, ◌<◌, ◌^◌, ◌%◌, ◌==◌, ◌&&◌, ◌||◌, false, if◌then◌else◌, List, length, sum_by, count_by, sym, ap, subst, ◌∙◌, arith}
 use Rattle.std.specs.Prelude.{Some, slice_get}
 use Rattle.std.specs.List.{AllByRecursion, list_any}
-use Rattle.std.specs.Option.{option_map}
-use Rattle.std.proofs.lemmas.Option.{slice_get-map}
-use Rattle.m2_promise.specs.Acting.{holdings_of}
 use Rattle.m2_channel.specs.Handing.{LogsAreLogs}
 use Rattle.m2_channel.specs.Observed.{Logs}
-use Rattle.m2_script.specs.m2_cluster.Node.{NodeNow}
-use Rattle.m2_links_go_on.specs.Center.{holding_of}
-use Rattle.m2_promise.specs.Delivered.{HasHeardPeer, MarksNoneDown, PostsInRanges}
-use Rattle.m2_dispatch.specs.declared.logged.Logged.{Logged}
+use Rattle.m2_channel.specs.m2_never_reset.Order.{AreFirstOf}
+use Rattle.m2_channel.specs.m2_never_reset.Orders.{posts_in}
 use Rattle.m2_dispatch.specs.Heard.{heard_by}
-use Rattle.m2_links_go_on.specs.m2_growth.Halves.{IsOneOf}
+use Rattle.m2_dispatch.specs.declared.logged.Logged.{Logged}
+use Rattle.m2_links_go_on.proofs.AreHeard.{logged_are_heard}
 use Rattle.m2_links_go_on.proofs.m2_growth.Among.{of_each}
-use Rattle.m2_links_go_on.specs.m2_weave.m2_journal.Items.{items_of}
-use Rattle.m2_links_go_on.specs.m2_weave.m2_journal.State.{State}
-use Rattle.m2_promise.specs.Started.{IsKept}
 use Rattle.m2_links_go_on.specs.LogLaws.{logging_in}
 use Rattle.m2_links_go_on.specs.Logged.{logs_in}
-use Rattle.m2_links_go_on.proofs.AreHeard.{logged_are_heard}
-use Rattle.m2_scenario.specs.Order.{posts_between}
-use Rattle.m2_channel.specs.m2_never_reset.Orders.{posts_in}
-use Rattle.m2_promise.specs.Planned.{IsKeptNode, IsTaken, steps_for}
-use Rattle.m2_promise.specs.Posted.{IsMarkedSo, PostsOfTypes, gave_up_at, is_down_of, is_given_up}
-use Rattle.m2_promise.proofs.Ends.{all_at, never_marked, only_any, only_towards}
+use Rattle.m2_links_go_on.specs.m2_growth.Halves.{IsOneOf}
+use Rattle.m2_links_go_on.specs.m2_weave.m2_journal.Items.{items_of}
+use Rattle.m2_links_go_on.specs.m2_weave.m2_journal.State.{State}
+use Rattle.m2_promise.proofs.Ends.{never_marked, only_any, only_towards}
 use Rattle.m2_promise.proofs.Hears.{GoOneWay}
-use Rattle.m2_promise.proofs.Marks.{is_down_step, lines_mark, record_marked}
-use Rattle.m2_promise.proofs.PostedPlans.{all_posted, count_planned, count_posts, lines_in_ranges, lines_post, posts_planned, posts_to}
-use Rattle.m2_promise.proofs.Sides.{HasSide, place_of, record_over, side_by, told_by}
+use Rattle.m2_promise.proofs.Marks.{only_marked, record_marked}
+use Rattle.m2_promise.proofs.PostedPlans.{count_planned, count_posts, posted_first}
+use Rattle.m2_promise.proofs.Sides.{HasNamed, named_by, place_of, record_over}
 use Rattle.m2_promise.proofs.Ways.{one_way}
-use Rattle.m2_script.specs.m2_record.IsRecord.{IsRecord}
-use Rattle.m2_script.specs.m2_record.RecordNow.{RecordNow, speaks_of}
-use Rattle.m2_scenario.specs.declared.line.Line.{Line}
+use Rattle.m2_promise.specs.AtEnd.{AreAtEnd, Beside, IsNodeAtEnd, IsOfLines, Named, is_down_of, is_down_step, posts_planned, posts_to}
+use Rattle.m2_promise.specs.Delivered.{HasHeardPeer, MarksNoneDown}
+use Rattle.m2_promise.specs.Planned.{IsTaken}
+use Rattle.m2_promise.specs.Posted.{IsMarkedOnlySo, IsMarkedSo, gave_up_at, is_given_up}
+use Rattle.m2_scenario.specs.Draft.{DraftLine}
+use Rattle.m2_scenario.specs.Order.{posts_between}
 use Rattle.m2_scenario.specs.declared.link.Link.{Link}
 use Rattle.m2_scenario.specs.declared.node.Node.{Node}
-use Rattle.m2_scenario.specs.Draft.{draft_line}
-use Rattle.m2_script.specs.declared.made.Towards.{Towards}
-use Rattle.m2_script.specs.Made.{Side, other_of}
+use Rattle.m2_script.specs.Made.{other_of}
 use Rattle.m2_script.specs.Outcome.{heard_at, heard_of_node, in_turns, is_down, is_down_at, is_post_step, of_node, posts_at, records_at}
-use Rattle.m2_script.specs.Script.{RunNow, script_of}
-use Rattle.m2_promise.specs.StartLaws.{PlansAreOfLines}
+use Rattle.m2_script.specs.Script.{RunNow}
+use Rattle.m2_script.specs.declared.made.Towards.{Towards}
+use Rattle.m2_script.specs.m2_cluster.Node.{NodeNow}
+use Rattle.m2_script.specs.m2_record.RecordNow.{RecordNow, speaks_of}
 
--- two nodes of a scenario, and the record of the one at x towards the other
+-- a node of a scenario where a run has ended, and its record towards another
 pub record IsTowards (nodes : List Node) (s : RunNow (List Logged)) (x : ℕ) (t : Towards) : Type 0 where
   pub mine : Node
-  pub peer : Node
   pub node : NodeNow (List Logged)
+  pub word : ℕ
   pub mine_there : slice_get nodes x ≡ Some mine
-  pub peer_there : slice_get nodes t.place ≡ Some peer
   pub node_there : slice_get s.cluster.nodes x ≡ Some node
-  pub side : HasSide (side_by mine peer x (x + 1) t) node.center.records
+  pub side : HasNamed (named_by mine x word t) node.center.records
 
--- a link of two nodes has it
-pub is_towards : (nodes : List Node) (links : List Link) (s : RunNow (List Logged)) → IsKept heard_by nodes links s → (l : Link) → IsOneOf l links → (x : ℕ) (t : Towards) →
-    other_of x l ≡ Some t → x < length nodes → t.place < length nodes → IsTowards nodes s x t
-is_towards nodes links s kept l one x t other here there =
-    let mine = place_of nodes x here in
-    let peer = place_of nodes t.place there in
-    let node = place_of s.cluster.nodes x (subst (λ n. x < n) (sym kept.count) here) in
-    record {
-      mine = mine.0;
-      peer = peer.0;
-      node = node.0;
-      mine_there = mine.1;
-      peer_there = peer.1;
-      node_there = node.1;
-      side = record_over nodes links x (x + 1) node.0.center.records (kept.sides x node.0 node.1) l t mine.0 peer.0 one other mine.1 peer.1;
-    }
+module _ (nodes : List Node) (links : List Link) (lines : List DraftLine) (beside : Beside) (s : RunNow (List Logged)) (ended : AreAtEnd nodes links lines beside s) where
+  -- either node of a link has one
+  pub is_towards : (l : Link) → IsOneOf l links → (x : ℕ) (t : Towards) → other_of x l ≡ Some t → x < length nodes → t.place < length nodes → IsTowards nodes s x t
+  is_towards l one x t other here there =
+      let mine = place_of nodes x here in
+      let peer = place_of nodes t.place there in
+      let node = place_of s.cluster.nodes x (subst (λ n. x < n) (sym ended.count) here) in
+      let its = ended.each x node.0 node.1 in
+      record {
+        mine = mine.0;
+        node = node.0;
+        word = its.word;
+        mine_there = mine.1;
+        node_there = node.1;
+        side = record_over nodes links x its.word node.0.center.records its.named_so l t mine.0 peer.0 one other mine.1 peer.1;
+      }
 
-module _ (nodes : List Node) (links : List Link) (lines : List Line) (s : RunNow (List Logged)) (kept : IsKept heard_by nodes links s) (plans : PlansAreOfLines links (length nodes) lines s)
-    (x : ℕ) (t : Towards) (e : IsTowards nodes s x t) where
-  abbrev r : RecordNow
-  r = e.side.item
+  module _ (x : ℕ) (t : Towards) (e : IsTowards nodes s x t) where
+    abbrev r : RecordNow
+    r = e.side.item
 
-  pub place : r.place ≡ t.place
-  place = ap (λ (d : Side). d.place) e.side.is
+    pub place : r.place ≡ t.place
+    place = ap (λ (d : Named). d.place) e.side.is
 
-  pub facts : r.core.facts ≡ told_by e.mine e.peer x (x + 1) t
-  facts = ap (λ (d : Side). d.facts) e.side.is
+    pub policy : r.core.facts.policy ≡ t.policy
+    policy = ap (λ (d : Named). d.policy) e.side.is
 
-  -- ---- its plan
+    pub number : r.core.facts.node.number ≡ x
+    number = ap (λ (d : Named). d.number) e.side.is
 
-  its : IsKeptNode heard_by e.node
-  its = all_at (IsKeptNode heard_by) s.cluster.nodes x e.node kept.kept e.node_there
+    pub fast : r.core.facts.node.fast ≡ e.mine.fast
+    fast = ap (λ (d : Named). d.fast) e.side.is
 
-  planned : r.plan ≡ steps_for x t.place (script_of links (length nodes) lines)
-  planned =
-      of_each (λ (q : RecordNow). q.plan ≡ steps_for x q.place (script_of links (length nodes) lines)) r e.node.center.records (plans x e.node e.node_there) e.side.one
-      ∙ ap (λ n. steps_for x n (script_of links (length nodes) lines)) place
+    salted : (n : ℕ) → n % 65536 < 2 ^ 16
+    salted n = omega arith
 
-  posts : posts_planned r.plan ≡ posts_to x t.place (map draft_line lines)
-  posts = ap posts_planned planned ∙ lines_post x t.place links (length nodes) lines
+    pub salt : r.core.facts.node.salt < 2 ^ 16
+    salt = subst (λ n. n < 2 ^ 16) (sym (ap (λ (d : Named). d.salt) e.side.is)) (salted e.word)
 
-  pub ranges : AllByRecursion PostsOfTypes lines → AllByRecursion PostsInRanges r.plan
-  ranges types = subst (AllByRecursion PostsInRanges) (sym planned) (lines_in_ranges x t.place links (length nodes) lines types)
+    its : IsNodeAtEnd nodes links lines x e.node
+    its = ended.each x e.node e.node_there
 
-  -- it has posted what the lines post
-  pub journal_posts : IsRecord r → posts_in (items_of (speaks_of r) r.journal) ≡ posts_to x t.place (map draft_line lines)
-  journal_posts is = all_posted r is (of_each IsTaken r e.node.center.records its.taken e.side.one) ∙ posts
+    pub of_lines : IsOfLines x lines r
+    of_lines = of_each (IsOfLines x lines) r e.node.center.records its.of_lines e.side.one
 
-  pub posts_counted : posts_at s x t.place ≡ posts_between (map draft_line lines) x t.place
-  posts_counted =
-      ap (λ o. sum_by (λ (q : RecordNow). if q.place == t.place then count_by is_post_step q.plan else 0) (records_at o)) e.node_there
-      ∙ only_towards t.place e.node.center.records r its.logged.peers e.side.one place ∙ count_planned r.plan ∙ ap length posts ∙ sym (count_posts x t.place (map draft_line lines))
+    -- ---- its plan
 
-  -- ---- what its node heard
+    posts : posts_planned r.plan ≡ posts_to x t.place lines
+    posts = of_lines.posts ∙ ap (λ n. posts_to x n lines) place
 
-  abbrev logs : Logs
-  logs = logs_in heard_by (logging_in e.node.center)
+    -- it has posted the first of what the lines post
+    pub journal_posts : AreFirstOf (posts_in (items_of (speaks_of r) r.journal)) (posts_to x t.place lines)
+    journal_posts = subst (AreFirstOf (posts_in (items_of (speaks_of r) r.journal))) posts (posted_first r of_lines.is_record)
 
-  pub heard : LogsAreLogs → HasHeardPeer logs r
-  heard law = of_each (HasHeardPeer logs) r e.node.center.records (logged_are_heard law heard_by e.node.center.records e.node.center.out e.node.center.queued its.logged) e.side.one
+    pub posts_counted : posts_at s x t.place ≡ posts_between lines x t.place
+    posts_counted =
+        ap (λ o. sum_by (λ (q : RecordNow). if q.place == t.place then count_by is_post_step q.plan else 0) (records_at o)) e.node_there
+        ∙ only_towards t.place e.node.center.records r its.logged.peers e.side.one place ∙ count_planned r.plan ∙ ap length posts ∙ sym (count_posts x t.place lines)
 
-  pub heard_in_turns : heard_at heard_by s x ≡ in_turns (of_node x s.calls) logs.fast logs.queued
-  heard_in_turns = ap (heard_of_node heard_by x s.calls) e.node_there
+    -- ---- what its node heard
 
-  pub ways : LogsAreLogs → State → GoOneWay t.place logs
-  ways law state = subst (λ n. GoOneWay n logs) place (one_way law heard_by (logging_in e.node.center) its.logged state r e.side.one)
+    abbrev logs : Logs
+    logs = logs_in heard_by (logging_in e.node.center)
 
-  -- ---- whether it was marked down
+    pub heard : LogsAreLogs → HasHeardPeer logs r
+    heard law = of_each (HasHeardPeer logs) r e.node.center.records (logged_are_heard law heard_by e.node.center.records e.node.center.out e.node.center.queued its.logged) e.side.one
 
-  -- exactly where a line does so, or it gave up
-  pub marked : IsRecord r → IsMarkedSo (map draft_line lines) s x t.place
-  marked is =
-      let planned_so : list_any is_down_step r.plan ≡ list_any (is_down_of x t.place) (map draft_line lines) = ap (list_any is_down_step) planned ∙ lines_mark x t.place links (length nodes) lines in
-      let gave_up : gave_up_at s x t.place ≡ list_any is_given_up r.journal =
-      ap (λ o. list_any (λ (q : RecordNow). (q.place == t.place) && list_any is_given_up q.journal) (records_at o)) e.node_there
-      ∙ only_any (λ (q : RecordNow). list_any is_given_up q.journal) t.place e.node.center.records r its.logged.peers e.side.one place in
-      ap (λ o. list_any (λ (q : RecordNow). (q.place == t.place) && is_down q) (records_at o)) e.node_there
-      ∙ only_any is_down t.place e.node.center.records r its.logged.peers e.side.one place
-      ∙ record_marked r is (of_each IsTaken r e.node.center.records its.taken e.side.one)
-      ∙ ap (λ b. b || list_any is_given_up r.journal) planned_so ∙ ap (λ b. list_any (is_down_of x t.place) (map draft_line lines) || b) (sym gave_up)
+    pub heard_in_turns : heard_at heard_by s x ≡ in_turns (of_node x s.calls) logs.fast logs.queued
+    heard_in_turns = ap (heard_of_node heard_by x s.calls) e.node_there
 
-  pub unmarked : is_down_at s x t.place ≡ false → AllByRecursion MarksNoneDown r.journal
-  unmarked none = never_marked t.place e.node.center.records r (ap (λ o. list_any (λ (q : RecordNow). (q.place == t.place) && is_down q) (records_at o)) (sym e.node_there) ∙ none) e.side.one place
+    pub ways : LogsAreLogs → State → GoOneWay t.place logs
+    ways law state = subst (λ n. GoOneWay n logs) place (one_way law heard_by (logging_in e.node.center) its.logged state r e.side.one)
 
-  -- ---- what the node has
+    -- ---- whether it was marked down
 
-  pub holding : slice_get (holdings_of s.cluster.nodes) x ≡ Some (holding_of e.node.center)
-  holding = slice_get-map (λ (n : NodeNow (List Logged)). holding_of n.center) s.cluster.nodes x ∙ ap (option_map (λ (n : NodeNow (List Logged)). holding_of n.center)) e.node_there
+    is_down_there : is_down_at s x t.place ≡ is_down r
+    is_down_there =
+        ap (λ o. list_any (λ (q : RecordNow). (q.place == t.place) && is_down q) (records_at o)) e.node_there
+        ∙ only_any is_down t.place e.node.center.records r its.logged.peers e.side.one place
+
+    -- what its plan and its journal tell is what lines and the node do
+    told : (list_any is_down_step r.plan || list_any is_given_up r.journal) ≡ (list_any (is_down_of x t.place) lines || gave_up_at s x t.place)
+    told =
+        let gave_up : gave_up_at s x t.place ≡ list_any is_given_up r.journal =
+        ap (λ o. list_any (λ (q : RecordNow). (q.place == t.place) && list_any is_given_up q.journal) (records_at o)) e.node_there
+        ∙ only_any (λ (q : RecordNow). list_any is_given_up q.journal) t.place e.node.center.records r its.logged.peers e.side.one place in
+        ap (λ b. b || list_any is_given_up r.journal) (of_lines.downs ∙ ap (λ n. list_any (is_down_of x n) lines) place)
+        ∙ ap (λ b. list_any (is_down_of x t.place) lines || b) (sym gave_up)
+
+    -- only where a line does so, or it gave up; exactly there, if it took each step
+    pub marked : IsMarkedOnlySo lines s x t.place
+    marked down = sym told ∙ only_marked r of_lines.is_record (sym is_down_there ∙ down)
+
+    pub marked_so : IsTaken r → IsMarkedSo lines s x t.place
+    marked_so taken = is_down_there ∙ record_marked r of_lines.is_record taken ∙ told
+
+    pub unmarked : is_down_at s x t.place ≡ false → AllByRecursion MarksNoneDown r.journal
+    unmarked none = never_marked t.place e.node.center.records r (ap (λ o. list_any (λ (q : RecordNow). (q.place == t.place) && is_down q) (records_at o)) (sym e.node_there) ∙ none) e.side.one place

@@ -1,4 +1,4 @@
--- The promise of a run that keeps what it keeps between any two deeds, where each plan is what the lines of a valid scenario planned.
+-- What is promised of nodes where a run has ended.
 use Rattle.std.proofs.Common.{◌≡◌, ℕ, zero, suc, ◌+◌, ◌<◌, ◌≤◌, ◌⊎◌, inl, inr, ⊎_elim, Bool, true, false, not, ◌||◌, if◌then◌else◌, List, [], ◌∷◌, length, map, Option, Some, None, refl, sym, ap, subst, ◌∙◌, arith, sum_by, count_by}
 use Rattle.std.specs.Prelude.{slice_get}
 use Rattle.std.specs.List.{AllByRecursion, range_with_len}
@@ -13,27 +13,22 @@ use Rattle.m2_dispatch.specs.declared.logged.Logged.{Logged}
 use Rattle.m2_dispatch.specs.Heard.{Heard, heard_by, is_message_from, of_key, peer_of}
 use Rattle.m2_links_go_on.specs.m2_growth.Halves.{IsOneOf}
 use Rattle.m2_links_go_on.proofs.m2_growth.Among.{each_by, of_each}
-use Rattle.m2_promise.specs.Started.{IsKept}
+use Rattle.m2_promise.specs.AtEnd.{AreAtEnd, Beside}
 use Rattle.m2_scenario.specs.Order.{AreOfJoined, HearsNoReset, HearsPrefix, HearsWhole, IsPeer, at, fast_of, messages_between, posts_between, posts_of}
 use Rattle.m2_links_go_on.specs.OfPeers.{IsPeerOf}
-use Rattle.m2_promise.specs.Planned.{IsKeptNode}
 use Rattle.m2_dispatch.specs.m2_policy.declared.path.Key.{Key}
-use Rattle.m2_promise.specs.Posted.{AllNoted, AreSomeOf, HearsSome, IsAccountedOver, IsMarkedSo, KeepsPromise, PostsOfTypes, is_lossy, link_between}
-use Rattle.m2_promise.proofs.Ends.{all_at}
+use Rattle.m2_promise.specs.Posted.{AreSomeOf, HearsSome, IsAccountedOver, IsMarkedOnlySo, IsPromised, is_lossy}
 use Rattle.m2_promise.proofs.Hears.{HearsOf}
-use Rattle.m2_promise.proofs.Joined.{AreLaws, KeepsAll, StaysUp, a_hears, a_hears_some, a_marked, accepted, b_hears, b_hears_some, b_marked, come_in, journals, marked_in, of_a, of_b, ordered, records, up_in}
+use Rattle.m2_promise.proofs.Joined.{AreLaws, KeepsAll, StaysUp, a_hears, a_hears_some, a_marked, accepted, b_hears, b_hears_some, b_marked, come_in, is_order, journals, marked_in, of_a, of_b, order, records, up_in}
 use Rattle.m2_promise.proofs.Sides.{from_a, from_b, peer_joined}
 use Rattle.m2_promise.proofs.PostsTowards.{IsTowards, is_towards, posts_counted}
 use Rattle.m2_promise.proofs.Turns.{all_turns}
-use Rattle.m2_scenario.specs.declared.line.Line.{Line}
 use Rattle.m2_scenario.specs.declared.link.Link.{Link}
 use Rattle.m2_scenario.specs.declared.node.Node.{Node}
-use Rattle.m2_scenario.specs.Draft.{DraftLine, draft_line}
+use Rattle.m2_scenario.specs.Draft.{DraftLine}
 use Rattle.m2_scenario.specs.Valid.{IsLink, IsSound}
 use Rattle.m2_script.specs.Outcome.{all_heard, heard_at, heard_of_node, is_down_at, is_lossless, is_up, left_from, left_in, left_over, messages_at, of_node, posts_at}
 use Rattle.m2_script.specs.Script.{RunNow}
-use Rattle.m2_promise.specs.StartLaws.{PlansAreOfLines}
-use Rattle.m2_links_go_on.specs.m2_history.WovenLink.{IsOrderOf}
 use Rattle.m2_fabric.proofs.m2_lemmas.Booleans.{from_false_true, negated_is_false}
 use Rattle.m2_fabric.proofs.m2_lemmas.Lists.{all_so}
 
@@ -71,11 +66,8 @@ sums f g h (x ∷ xs) each =
 
 -- ---- a run
 
-module _ (laws : AreLaws) (nodes : List Node) (links : List Link) (lines : List Line) (s : RunNow (List Logged)) (sound : IsSound nodes links (map draft_line lines)) (types : AllByRecursion PostsOfTypes lines)
-    (kept : IsKept heard_by nodes links s) (plans : PlansAreOfLines links (length nodes) lines s) (noted : AllNoted heard_by s) where
-  abbrev posted : List DraftLine
-  posted = map draft_line lines
-
+module _ (laws : AreLaws) (nodes : List Node) (links : List Link) (lines : List DraftLine) (beside : Beside) (s : RunNow (List Logged)) (sound : IsSound nodes links lines)
+    (ended : AreAtEnd nodes links lines beside s) where
   abbrev all : List (List Heard)
   all = all_heard heard_by s
 
@@ -113,70 +105,64 @@ module _ (laws : AreLaws) (nodes : List Node) (links : List Link) (lines : List 
       (parts.0, record { a_up = none.0; b_up = none.1 })
 
   -- by what each node dispatches at once
-  placed : (x y : ℕ) (mine : Node) → slice_get nodes y ≡ Some mine → HearsOf x y mine.fast posted (heard_at heard_by s y) → HearsOf x y (at y fasts) posted (at y all)
+  placed : (x y : ℕ) (mine : Node) → slice_get nodes y ≡ Some mine → HearsOf x y mine.fast lines (heard_at heard_by s y) → HearsOf x y (at y fasts) lines (at y all)
   placed x y mine e hears =
-      subst (λ f. HearsOf x y f posted (at y all)) (sym (at_mapped fast_of nodes y mine e)) (subst (HearsOf x y mine.fast posted) (sym (heard_is y)) hears)
+      subst (λ f. HearsOf x y f lines (at y all)) (sym (at_mapped fast_of nodes y mine e)) (subst (HearsOf x y mine.fast lines) (sym (heard_is y)) hears)
 
-  some_placed : (x y : ℕ) (mine : Node) → slice_get nodes y ≡ Some mine → ((key : Key) → AreSomeOf (of_key x key (heard_at heard_by s y)) (posts_of x y mine.fast key posted)) → HearsSome fasts posted all x y
+  some_placed : (x y : ℕ) (mine : Node) → slice_get nodes y ≡ Some mine → ((key : Key) → AreSomeOf (of_key x key (heard_at heard_by s y)) (posts_of x y mine.fast key lines)) → HearsSome fasts lines all x y
   some_placed x y mine e some key =
-      subst (λ f. AreSomeOf (of_key x key (at y all)) (posts_of x y f key posted)) (sym (at_mapped fast_of nodes y mine e))
-      (subst (λ heard. AreSomeOf (of_key x key heard) (posts_of x y mine.fast key posted)) (sym (heard_is y)) (some key))
+      subst (λ f. AreSomeOf (of_key x key (at y all)) (posts_of x y f key lines)) (sym (at_mapped fast_of nodes y mine e))
+      (subst (λ heard. AreSomeOf (of_key x key heard) (posts_of x y mine.fast key lines)) (sym (heard_is y)) (some key))
 
   -- of a link that is up what both nodes heard, and how many posts were planned
   record Keeps (l : Link) : Type 0 where
-    to_b : HearsOf l.a l.b (at l.b fasts) posted (at l.b all)
-    to_a : HearsOf l.b l.a (at l.a fasts) posted (at l.a all)
-    planned_to_b : posts_at s l.a l.b ≡ posts_between posted l.a l.b
-    planned_to_a : posts_at s l.b l.a ≡ posts_between posted l.b l.a
+    to_b : HearsOf l.a l.b (at l.b fasts) lines (at l.b all)
+    to_a : HearsOf l.b l.a (at l.a fasts) lines (at l.a all)
+    planned_to_b : posts_at s l.a l.b ≡ posts_between lines l.a l.b
+    planned_to_a : posts_at s l.b l.a ≡ posts_between lines l.b l.a
 
   module _ (l : Link) (one : IsOneOf l links) where
     is : IsLink (length nodes) l
     is = is_link l one
 
     abbrev ea : IsTowards nodes s l.a (of_a l)
-    ea = is_towards nodes links s kept l one l.a (of_a l) (from_a l) is.a is.b
+    ea = is_towards nodes links lines beside s ended l one l.a (of_a l) (from_a l) is.a is.b
 
     abbrev eb : IsTowards nodes s l.b (of_b l)
-    eb = is_towards nodes links s kept l one l.b (of_b l) (from_b l is.different) is.b is.a
-
-    abbrev order : List ℕ
-    order = (ordered laws nodes links lines s types kept plans l is ea eb).0
-
-    abbrev is_order : IsOrderOf (link_between (records laws nodes links lines s types kept plans l is ea eb)) order
-    is_order = (ordered laws nodes links lines s types kept plans l is ea eb).1
+    eb = is_towards nodes links lines beside s ended l one l.b (of_b l) (from_b l is.different) is.b is.a
 
     keeps : is_up s l ≡ true → Keeps l
     keeps up =
         let so = parts_up l up in
         record {
-          to_b = placed l.a l.b eb.mine eb.mine_there (b_hears laws nodes links lines s types kept plans l is ea eb order is_order (keeps_all l so.0) so.1);
-          to_a = placed l.b l.a ea.mine ea.mine_there (a_hears laws nodes links lines s types kept plans l is ea eb order is_order (keeps_all l so.0) so.1);
-          planned_to_b = posts_counted nodes links lines s kept plans l.a (of_a l) ea;
-          planned_to_a = posts_counted nodes links lines s kept plans l.b (of_b l) eb;
+          to_b = placed l.a l.b eb.mine eb.mine_there (b_hears laws nodes links lines beside s ended l one is ea eb (keeps_all l so.0) so.1);
+          to_a = placed l.b l.a ea.mine ea.mine_there (a_hears laws nodes links lines beside s ended l one is ea eb (keeps_all l so.0) so.1);
+          planned_to_b = posts_counted nodes links lines beside s ended l.a (of_a l) ea;
+          planned_to_a = posts_counted nodes links lines beside s ended l.b (of_b l) eb;
         }
 
-    hears_some : is_lossy l ≡ true → HearsSome fasts posted all l.a l.b × HearsSome fasts posted all l.b l.a
+    hears_some : is_lossy l ≡ true → HearsSome fasts lines all l.a l.b × HearsSome fasts lines all l.b l.a
     hears_some lossy = (
-      some_placed l.a l.b eb.mine eb.mine_there (b_hears_some laws nodes links lines s types kept plans l is ea eb order is_order (one_lossy l (negated_is_false (is_lossless l) lossy))),
-      some_placed l.b l.a ea.mine ea.mine_there (a_hears_some laws nodes links lines s types kept plans l is ea eb order is_order (one_lossy l (negated_is_false (is_lossless l) lossy))),
+      some_placed l.a l.b eb.mine eb.mine_there (b_hears_some laws nodes links lines beside s ended l one is ea eb (one_lossy l (negated_is_false (is_lossless l) lossy))),
+      some_placed l.b l.a ea.mine ea.mine_there (a_hears_some laws nodes links lines beside s ended l one is ea eb (one_lossy l (negated_is_false (is_lossless l) lossy))),
     )
 
-    marked : IsMarkedSo posted s l.a l.b × IsMarkedSo posted s l.b l.a
-    marked = (a_marked laws nodes links lines s types kept plans l is ea eb, b_marked laws nodes links lines s types kept plans l is ea eb)
+    marked : IsMarkedOnlySo lines s l.a l.b × IsMarkedOnlySo lines s l.b l.a
+    marked = (a_marked laws nodes links lines beside s ended l one is ea eb, b_marked laws nodes links lines beside s ended l one is ea eb)
 
-    accounted : IsAccountedOver s l
+    accounted : IsAccountedOver beside s l
     accounted = record {
-      records = records laws nodes links lines s types kept plans l is ea eb;
-      order = order;
+      records = records laws nodes links lines beside s ended l one is ea eb;
+      order = order laws nodes links lines beside s ended l one is ea eb;
       accounted = record {
-        is_order = is_order;
-        journals = journals laws nodes links lines s types kept plans l is ea eb order is_order;
-        up = λ up. up_in laws nodes links lines s types kept plans l is ea eb order is_order (keeps_all l (parts_up l up).0) (parts_up l up).1;
-        lossless = λ lossless. marked_in laws nodes links lines s types kept plans l is ea eb order is_order (keeps_all l lossless);
-        lossy = λ lossy. come_in laws nodes links lines s types kept plans l is ea eb order is_order (one_lossy l lossy);
+        is_order = is_order laws nodes links lines beside s ended l one is ea eb;
+        journals = journals laws nodes links lines beside s ended l one is ea eb;
+        up = λ up. up_in laws nodes links lines beside s ended l one is ea eb (keeps_all l (parts_up l up).0) (parts_up l up).1;
+        lossless = λ lossless. marked_in laws nodes links lines beside s ended l one is ea eb (keeps_all l lossless);
+        lossy = λ lossy. come_in laws nodes links lines beside s ended l one is ea eb (one_lossy l lossy);
       };
-      near_acknowledged = λ up. (accepted laws nodes links lines s types kept plans l is ea eb order is_order (keeps_all l (parts_up l up).0) (parts_up l up).1).0;
-      far_acknowledged = λ up. (accepted laws nodes links lines s types kept plans l is ea eb order is_order (keeps_all l (parts_up l up).0) (parts_up l up).1).1;
+      near_acknowledged = λ up. (accepted laws nodes links lines beside s ended l one is ea eb (keeps_all l (parts_up l up).0) (parts_up l up).1).0;
+      far_acknowledged = λ up. (accepted laws nodes links lines beside s ended l one is ea eb (keeps_all l (parts_up l up).0) (parts_up l up).1).1;
     }
 
   -- ---- how many are left
@@ -185,10 +171,10 @@ module _ (laws : AreLaws) (nodes : List Node) (links : List Link) (lines : List 
   count_is x y = ap (count_by (is_message_from x)) (sym (heard_is y))
 
   -- one way
-  counted_from : (x y : ℕ) → posts_at s x y ≡ posts_between posted x y → messages_between all x y ≤ posts_between posted x y → messages_between all x y + left_from heard_by s x y ≡ posts_between posted x y
+  counted_from : (x y : ℕ) → posts_at s x y ≡ posts_between lines x y → messages_between all x y ≤ posts_between lines x y → messages_between all x y + left_from heard_by s x y ≡ posts_between lines x y
   counted_from x y planned few = let count = count_is x y in omega (arith, planned, few, count)
 
-  none_left : (x y : ℕ) → posts_at s x y ≡ posts_between posted x y → messages_between all x y ≤ posts_between posted x y → left_from heard_by s x y ≡ 0 → messages_between all x y ≡ posts_between posted x y
+  none_left : (x y : ℕ) → posts_at s x y ≡ posts_between lines x y → messages_between all x y ≤ posts_between lines x y → left_from heard_by s x y ≡ 0 → messages_between all x y ≡ posts_between lines x y
   none_left x y planned few none = let count = count_is x y in omega (arith, planned, few, count, none)
 
   left_up : (l : Link) → is_up s l ≡ true → left_over heard_by s l ≡ left_from heard_by s l.a l.b + left_from heard_by s l.b l.a
@@ -198,13 +184,13 @@ module _ (laws : AreLaws) (nodes : List Node) (links : List Link) (lines : List 
   heard_over l = if is_up s l then messages_between all l.a l.b + messages_between all l.b l.a else 0
 
   abbrev posted_over : Link → ℕ
-  posted_over l = if is_up s l then posts_between posted l.a l.b + posts_between posted l.b l.a else 0
+  posted_over l = if is_up s l then posts_between lines l.a l.b + posts_between lines l.b l.a else 0
 
   counted_over : (l : Link) → IsOneOf l links → heard_over l + left_over heard_by s l ≡ posted_over l
   counted_over l one = by (is_up s l) (λ e. keeps l one e)
     where
       by : (c : Bool) → (c ≡ true → Keeps l) →
-          (if c then messages_between all l.a l.b + messages_between all l.b l.a else 0) + (if c then left_from heard_by s l.a l.b + left_from heard_by s l.b l.a else 0) ≡ (if c then posts_between posted l.a l.b + posts_between posted l.b l.a else 0)
+          (if c then messages_between all l.a l.b + messages_between all l.b l.a else 0) + (if c then left_from heard_by s l.a l.b + left_from heard_by s l.b l.a else 0) ≡ (if c then posts_between lines l.a l.b + posts_between lines l.b l.a else 0)
       by true k =
           let its = k refl in
           let b = counted_from l.a l.b its.planned_to_b its.to_b.few in
@@ -217,21 +203,22 @@ module _ (laws : AreLaws) (nodes : List Node) (links : List Link) (lines : List 
   of_peers : (y : ℕ) (o : Option (NodeNow (List Logged))) → slice_get s.cluster.nodes y ≡ o → AllByRecursion (λ (h : Heard). IsPeer (length nodes) links y (peer_of h)) (heard_of_node heard_by y s.calls o)
   of_peers y None e = tt
   of_peers y (Some n) e =
-      let its = (all_at (IsKeptNode heard_by) s.cluster.nodes y n kept.kept e).peers in
-      let from : (h : Heard) → IsPeerOf n.center.records (peer_of h) → IsPeer (length nodes) links y (peer_of h) = λ h is. peer_joined nodes y (y + 1) links n.center.records (kept.sides y n e) (peer_of h) is in
+      let node = ended.each y n e in
+      let its = node.peers in
+      let from : (h : Heard) → IsPeerOf n.center.records (peer_of h) → IsPeer (length nodes) links y (peer_of h) = λ h is. peer_joined nodes y node.word links n.center.records node.named_so (peer_of h) is in
       all_turns (λ (h : Heard). IsPeer (length nodes) links y (peer_of h)) (of_node y s.calls) (heard_by n.center.out.fast) (heard_by n.center.queued.inner)
       (all_so (λ (h : Heard). IsPeerOf n.center.records (peer_of h)) (λ (h : Heard). IsPeer (length nodes) links y (peer_of h)) from (heard_by n.center.out.fast) its.fast)
       (all_so (λ (h : Heard). IsPeerOf n.center.records (peer_of h)) (λ (h : Heard). IsPeer (length nodes) links y (peer_of h)) from (heard_by n.center.queued.inner) its.queued)
 
   are_joined : AreOfJoined (length nodes) links all
   are_joined = record {
-    places = length-map (range_with_len 0 (length s.cluster.nodes)) (heard_at heard_by s) ∙ length-range_with_len 0 (length s.cluster.nodes) ∙ kept.count;
+    places = length-map (range_with_len 0 (length s.cluster.nodes)) (heard_at heard_by s) ∙ length-range_with_len 0 (length s.cluster.nodes) ∙ ended.count;
     peers = λ y. subst (AllByRecursion (λ (h : Heard). IsPeer (length nodes) links y (peer_of h))) (sym (heard_is y)) (of_peers y (slice_get s.cluster.nodes y) refl);
   }
 
   -- ---- all of it
 
-  whole_over : left_in heard_by links s ≡ 0 → (l : Link) → IsOneOf l links → is_up s l ≡ true → HearsWhole fasts posted all l.a l.b × HearsWhole fasts posted all l.b l.a
+  whole_over : left_in heard_by links s ≡ 0 → (l : Link) → IsOneOf l links → is_up s l ≡ true → HearsWhole fasts lines all l.a l.b × HearsWhole fasts lines all l.b l.a
   whole_over none l one up =
       let its = keeps l one up in
       let left = sym (left_up l up) ∙ each_zero (left_over heard_by s) l links none one in (
@@ -239,15 +226,14 @@ module _ (laws : AreLaws) (nodes : List Node) (links : List Link) (lines : List 
         its.to_a.whole (none_left l.b l.a its.planned_to_a its.to_a.few (omega (arith, left))),
       )
 
-  pub promised : KeepsPromise nodes links lines s
+  pub promised : IsPromised nodes links lines beside s
   promised = record {
-    prefixes = each_by (λ (l : Link). is_up s l ≡ true → HearsPrefix fasts posted all l.a l.b × HearsPrefix fasts posted all l.b l.a) links (λ l one up. let its = keeps l one up in (its.to_b.prefix, its.to_a.prefix));
-    whole = λ none. each_by (λ (l : Link). is_up s l ≡ true → HearsWhole fasts posted all l.a l.b × HearsWhole fasts posted all l.b l.a) links (whole_over none);
+    prefixes = each_by (λ (l : Link). is_up s l ≡ true → HearsPrefix fasts lines all l.a l.b × HearsPrefix fasts lines all l.b l.a) links (λ l one up. let its = keeps l one up in (its.to_b.prefix, its.to_a.prefix));
+    whole = λ none. each_by (λ (l : Link). is_up s l ≡ true → HearsWhole fasts lines all l.a l.b × HearsWhole fasts lines all l.b l.a) links (whole_over none);
     no_reset = each_by (λ (l : Link). is_up s l ≡ true → HearsNoReset all l.a l.b × HearsNoReset all l.b l.a) links (λ l one up. let its = keeps l one up in (its.to_b.no_reset, its.to_a.no_reset));
     counted = sums heard_over (left_over heard_by s) posted_over links counted_over;
+    some = each_by (λ (l : Link). is_lossy l ≡ true → HearsSome fasts lines all l.a l.b × HearsSome fasts lines all l.b l.a) links hears_some;
     joined = are_joined;
-    some = each_by (λ (l : Link). is_lossy l ≡ true → HearsSome fasts posted all l.a l.b × HearsSome fasts posted all l.b l.a) links hears_some;
-    noted = noted;
-    marked = each_by (λ (l : Link). IsMarkedSo posted s l.a l.b × IsMarkedSo posted s l.b l.a) links marked;
-    accounts = each_by (IsAccountedOver s) links accounted;
+    marked = each_by (λ (l : Link). IsMarkedOnlySo lines s l.a l.b × IsMarkedOnlySo lines s l.b l.a) links marked;
+    accounts = each_by (IsAccountedOver beside s) links accounted;
   }

@@ -1,5 +1,5 @@
 -- The records of a node over a scenario's links: of each link that joins it there is one, and each is of such a link.
-use Rattle.std.proofs.Common.{◌≡◌, ◌≢◌, ℕ, zero, suc, ◌<◌, ◌⊎◌, inl, inr, Bool, true, false, ◌&&◌, ◌||◌, ◌==◌, if◌then◌else◌, List, [], ◌∷◌, length, map, Option, Some, None, refl, sym, ap, subst, ◌∙◌, arith}
+use Rattle.std.proofs.Common.{◌≡◌, ◌≢◌, ℕ, zero, suc, ◌<◌, ◌⊎◌, inl, inr, Bool, true, false, ◌&&◌, ◌||◌, ◌==◌, ◌%◌, if◌then◌else◌, List, [], ◌∷◌, length, map, Option, Some, None, refl, sym, ap, subst, ◌∙◌, arith}
 use Rattle.std.specs.Prelude.{slice_get}
 use Rattle.std.specs.List.{list_any}
 use Rattle.std.specs.Option.{option_to_list}
@@ -15,7 +15,8 @@ use Rattle.m2_scenario.specs.declared.link.Link.{Link}
 use Rattle.m2_scenario.specs.declared.node.Node.{Node}
 use Rattle.m2_scenario.specs.Draft.{joins}
 use Rattle.m2_script.specs.declared.made.Towards.{Towards}
-use Rattle.m2_script.specs.Made.{Side, facts_of, new_towards, other_of, over, records_of, side_of}
+use Rattle.m2_promise.specs.AtEnd.{Named, named}
+use Rattle.m2_script.specs.Made.{facts_of, new_towards, other_of, over, records_of}
 use Rattle.m2_fabric.proofs.m2_lemmas.Booleans.{from_false_true}
 
 -- ---- lists
@@ -51,11 +52,11 @@ passed test x (y ∷ xs) (inr one) h = at (test y) (passed test x xs one h)
 -- ---- a record over a link
 
 -- what a node and a link tell a record
-abbrev pub told_by : (mine peer : Node) (number word : ℕ) → Towards → SideFacts
+abbrev told_by : (mine peer : Node) (number word : ℕ) → Towards → SideFacts
 told_by mine peer number word t = record { mine = mine.at; peer = peer.at; policy = t.policy; node = facts_of mine number word }
 
-abbrev pub side_by : (mine peer : Node) (number word : ℕ) → Towards → Side
-side_by mine peer number word t = record { place = t.place; facts = told_by mine peer number word t }
+abbrev pub named_by : (mine : Node) (number word : ℕ) → Towards → Named
+named_by mine number word t = record { place = t.place; policy = t.policy; number = number; fast = mine.fast; salt = word % 65536 }
 
 module _ (nodes : List Node) (number word : ℕ) where
   abbrev of_link : Link → Option RecordNow
@@ -126,21 +127,21 @@ module _ (nodes : List Node) (number word : ℕ) where
 
   -- ---- the records of the node, at whatever they have done
 
-  module _ (links : List Link) (records : List RecordNow) (same : map side_of records ≡ map side_of (records_of nodes links number word)) where
+  module _ (links : List Link) (records : List RecordNow) (same : map named records ≡ map named (records_of nodes links number word)) where
     -- of whom a record is, a link joins with the node
     of_one : (r : RecordNow) → IsOneOf r records → IsPeer (length nodes) links number r.place
-    of_one r one = by (unmapped (side_of r) (records_of nodes links number word) (subst (IsOneOf (side_of r)) same (mapped_one side_of r records one)))
+    of_one r one = by (unmapped (named r) (records_of nodes links number word) (subst (IsOneOf (named r)) same (mapped_one named r records one)))
       where
-        unmapped : (x : Side) (rs : List RecordNow) → IsOneOf x (map side_of rs) → (s : RecordNow) × IsOneOf s rs × (x ≡ side_of s)
+        unmapped : (x : Named) (rs : List RecordNow) → IsOneOf x (map named rs) → (s : RecordNow) × IsOneOf s rs × (x ≡ named s)
         unmapped x [] h = absurd h
         unmapped x (s ∷ rs) (inl e) = (s, inl refl, e)
         unmapped x (s ∷ rs) (inr h) = let it = unmapped x rs h in (it.0, inr it.1, it.2)
 
-        by : (s : RecordNow) × IsOneOf s (records_of nodes links number word) × (side_of r ≡ side_of s) → IsPeer (length nodes) links number r.place
+        by : (s : RecordNow) × IsOneOf s (records_of nodes links number word) × (named r ≡ named s) → IsPeer (length nodes) links number r.place
         by its =
             let is = is_over links its.0 its.1 in
             let so = joined_at is.link its.0 is.is in
-            let place : its.0.place ≡ r.place = ap (λ (x : Side). x.place) (sym its.2) in
+            let place : its.0.place ≡ r.place = ap (λ (x : Named). x.place) (sym its.2) in
             record {
               within = subst (λ n. n < length nodes) place so.1;
               joined = passed (joins r.place number) is.link links is.one (subst (λ n. joins n number is.link ≡ true) place so.0);
@@ -151,28 +152,28 @@ module _ (nodes : List Node) (number word : ℕ) where
         let it = passing (λ (r : RecordNow). r.place == p) records h in
         subst (IsPeer (length nodes) links number) (eqb-true it.item.place p it.passes) (of_one it.item it.one)
 
--- one with this side, and where
-pub record HasSide (side : Side) (records : List RecordNow) : Type 0 where
+-- one that is named so, and where
+pub record HasNamed (name : Named) (records : List RecordNow) : Type 0 where
   pub at : ℕ
   pub item : RecordNow
   pub there : slice_get records at ≡ Some item
   pub one : IsOneOf item records
-  pub is : side_of item ≡ side
+  pub is : named item ≡ name
 
-found : (side : Side) (rs : List RecordNow) → IsOneOf side (map side_of rs) → HasSide side rs
-found side [] h = absurd h
-found side (r ∷ rs) (inl e) = record { at = 0; item = r; there = refl; one = inl refl; is = sym e }
-found side (r ∷ rs) (inr h) = let it = found side rs h in record { at = suc it.at; item = it.item; there = it.there; one = inr it.one; is = it.is }
+found : (name : Named) (rs : List RecordNow) → IsOneOf name (map named rs) → HasNamed name rs
+found name [] h = absurd h
+found name (r ∷ rs) (inl e) = record { at = 0; item = r; there = refl; one = inl refl; is = sym e }
+found name (r ∷ rs) (inr h) = let it = found name rs h in record { at = suc it.at; item = it.item; there = it.there; one = inr it.one; is = it.is }
 
 -- of a link of the node there is a record
-module _ (nodes : List Node) (links : List Link) (number word : ℕ) (records : List RecordNow) (same : map side_of records ≡ map side_of (records_of nodes links number word)) where
+module _ (nodes : List Node) (links : List Link) (number word : ℕ) (records : List RecordNow) (same : map named records ≡ map named (records_of nodes links number word)) where
   pub record_over : (l : Link) (t : Towards) (mine peer : Node) → IsOneOf l links → other_of number l ≡ Some t → slice_get nodes number ≡ Some mine → slice_get nodes t.place ≡ Some peer →
-      HasSide (side_by mine peer number word t) records
+      HasNamed (named_by mine number word t) records
   record_over l t mine peer one other m p =
       let r = new_record (told_by mine peer number word t) t.place in
       let made : over nodes number word (other_of number l) ≡ Some r =
       ap (over nodes number word) other ∙ ap (λ o. new_towards o (slice_get nodes t.place) number word t) m ∙ ap (λ o. new_towards (Some mine) o number word t) p in
-      found (side_by mine peer number word t) records (subst (IsOneOf (side_by mine peer number word t)) (sym same) (mapped_one side_of r (records_of nodes links number word) (one_over nodes number word l r links made one)))
+      found (named_by mine number word t) records (subst (IsOneOf (named_by mine number word t)) (sym same) (mapped_one named r (records_of nodes links number word) (one_over nodes number word l r links made one)))
 
 -- ---- the two nodes of a link
 

@@ -38,9 +38,8 @@ MarksNoneDown _ = Unit {0}
 abbrev pub HasHeardPeer : Logs → RecordNow → Type 0
 HasHeardPeer logs r = (s : State) → IsReplayedTo s r → IsHeardOf r.place (all_of logs) s
 
--- A record that was never marked down. Its plan keeps the ranges of types, and its peer is heard by the logs of its node.
+-- a record that was never marked down, whose peer is heard by the logs of its node
 pub record IsHeardUp (logs : Logs) (r : RecordNow) : Type 0 where
-  pub plan : AllByRecursion PostsInRanges r.plan
   pub up : AllByRecursion MarksNoneDown r.journal
   pub heard : HasHeardPeer logs r
 

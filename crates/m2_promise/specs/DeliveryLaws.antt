@@ -26,8 +26,8 @@ LinksHaveOrders = (l : LinkNow) → HasOrder (woven_now l.both) → (order : Lis
 
 -- so of each key what either node's dispatchers were called with is the first of what the other posted
 abbrev pub LinksAreDelivered : Type 0
-LinksAreDelivered = (x : RunNow) (h g : Holding) (a b : RecordNow) (logs : BothLogs) → IsRunning x → HaveOrders x → IsLinkOf x h g a b → AreLosslessUp logs a b →
-    AreDeliveredOn logs (link_in h g a b) a b
+LinksAreDelivered = (x : RunNow) (h g : Holding) (a b : RecordNow) (logs : BothLogs) → IsRunning x → HaveOrders x → IsLinkOf x h g a b →
+    AllByRecursion PostsInRanges a.plan → AllByRecursion PostsInRanges b.plan → AreLosslessUp logs a b → AreDeliveredOn logs (link_in h g a b) a b
 
 -- ---- logs
 

@@ -1,4 +1,5 @@
 pub mod Acting
+pub mod AtEnd
 pub mod Beginning
 pub mod BeginningLaws
 pub mod Delivered

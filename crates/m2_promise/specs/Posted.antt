@@ -5,7 +5,9 @@ use Rattle.std.specs.List.{AllByRecursion, list_any}
 use Rattle.m2_channel.specs.ObservedLaws.{AreBrought, AreBroughtToAMark}
 use Rattle.m2_script.specs.m2_cluster.Node.{NodeNow}
 use Rattle.m2_links_go_on.specs.Center.{holding_of}
-use Rattle.m2_promise.specs.Delivered.{BothLogs, HasAccepted, link_in}
+use Rattle.m2_links_go_on.specs.m2_growth.Halves.{all_left}
+use Rattle.m2_promise.specs.AtEnd.{AreFacing, Beside, is_down_of}
+use Rattle.m2_promise.specs.Delivered.{BothLogs, HasAccepted}
 use Rattle.m2_promise.specs.Lossy.{ComeInOrderOn}
 use Rattle.m2_dispatch.specs.declared.logged.Logged.{Logged}
 use Rattle.m2_dispatch.specs.Heard.{Heard, heard_by, of_key}
@@ -29,12 +31,12 @@ use Rattle.m2_scenario.specs.declared.line.Line.{Line}
 use Rattle.m2_scenario.specs.declared.line.Line.TheVariants as line
 use Rattle.m2_scenario.specs.declared.link.Link.{Link}
 use Rattle.m2_scenario.specs.declared.node.Node.{Node}
-use Rattle.m2_scenario.specs.Draft.{DraftLine, down, draft_line}
+use Rattle.m2_scenario.specs.Draft.{DraftLine, draft_line}
 use Rattle.m2_script.specs.declared.calls.TurnCalls.{TurnCalls}
 use Rattle.m2_script.specs.Outcome.{all_heard, is_down_at, is_lossless, is_up, left_in, of_node, records_at}
 use Rattle.m2_script.specs.Script.{RunNow, fast_calls, queued_calls}
 pub use Rattle.m2_promise.specs.Started.{IsFirst, IsScriptRun}
-use Rattle.m2_links_go_on.specs.m2_history.WovenLaws.{kept_by}
+use Rattle.m2_links_go_on.specs.m2_history.WovenLaws.{kept_by, link_of}
 use Rattle.m2_links_go_on.specs.m2_history.WovenLink.{IsOrderOf, LinkNow, order_of}
 
 -- ---- what lines post
@@ -57,11 +59,6 @@ is_lossy l = not (is_lossless l)
 
 -- ---- who is marked down
 
--- a line marks x's record towards y down
-abbrev pub is_down_of : (x y : ℕ) → DraftLine → Bool
-is_down_of x y (down a b) = (a == x) && (b == y)
-is_down_of x y _ = false
-
 -- a record gave its session up, since a number that it needed next was above the greatest
 abbrev pub is_given_up : Entry → Bool
 is_given_up (entry.Down false) = true
@@ -73,6 +70,10 @@ gave_up_at s x y = list_any (λ (r : RecordNow). (r.place == y) && list_any is_g
 -- it was marked down exactly where a line does so, or it gave up
 abbrev pub IsMarkedSo : {D : Type 0} → List DraftLine → RunNow D → (x y : ℕ) → Type 0
 IsMarkedSo lines s x y = is_down_at s x y ≡ (list_any (is_down_of x y) lines || gave_up_at s x y)
+
+-- only where a line does so, or it gave up
+abbrev pub IsMarkedOnlySo : {D : Type 0} → List DraftLine → RunNow D → (x y : ℕ) → Type 0
+IsMarkedOnlySo lines s x y = is_down_at s x y ≡ true → (list_any (is_down_of x y) lines || gave_up_at s x y) ≡ true
 
 -- ---- turn by turn
 
@@ -95,20 +96,13 @@ logs_of n m = record { near = logs_in heard_by (logging_in n.center); far = logs
 pub record AreRecordsOver (s : RunNow (List Logged)) (l : Link) : Type 0 where
   pub near : NodeNow (List Logged)
   pub far : NodeNow (List Logged)
-  pub near_there : slice_get s.cluster.nodes l.a ≡ Some near
-  pub far_there : slice_get s.cluster.nodes l.b ≡ Some far
-  pub a_at : ℕ
-  pub b_at : ℕ
   pub a : RecordNow
   pub b : RecordNow
-  pub a_there : slice_get near.center.records a_at ≡ Some a
-  pub b_there : slice_get far.center.records b_at ≡ Some b
-  pub a_towards : a.place ≡ l.b
-  pub b_towards : b.place ≡ l.a
+  pub facing : AreFacing s l.a l.b near far a b
 
--- the two with the halves that no record of either node took, and what both nodes were called with
-abbrev pub link_between : {s : RunNow (List Logged)} {l : Link} → AreRecordsOver s l → LinkNow
-link_between r = link_in (holding_of r.near.center) (holding_of r.far.center) r.a r.b
+-- the two with halves beside them, and what both nodes were called with
+abbrev pub link_between : {s : RunNow (List Logged)} {l : Link} → Beside → AreRecordsOver s l → LinkNow
+link_between beside r = link_of r.a r.b (beside r.near r.far)
 
 abbrev pub logs_between : {s : RunNow (List Logged)} {l : Link} → AreRecordsOver s l → BothLogs
 logs_between r = logs_of r.near r.far
@@ -140,27 +134,39 @@ pub record IsAccountedBy (s : RunNow (List Logged)) (l : Link) (x : LinkNow) (lo
   pub lossless : is_lossless l ≡ true → AreMarkedIn x logs (entries_of (order_of x order))
   pub lossy : is_lossless l ≡ false → ComeInOrderOn x logs
 
-pub record IsAccountedOver (s : RunNow (List Logged)) (l : Link) : Type 0 where
+pub record IsAccountedOver (beside : Beside) (s : RunNow (List Logged)) (l : Link) : Type 0 where
   pub records : AreRecordsOver s l
   pub order : List ℕ
-  pub accounted : IsAccountedBy s l (link_between records) (logs_between records) order
+  pub accounted : IsAccountedBy s l (link_between beside records) (logs_between records) order
   pub near_acknowledged : is_up s l ≡ true → HasAccepted records.a records.b
   pub far_acknowledged : is_up s l ≡ true → HasAccepted records.b records.a
 
--- ---- of a script's run
+-- ---- of any run
 
 -- Over each link that is up: of each key what either node heard from the other is a prefix of what the other's lines post to it, in
 -- order, each once, and neither heard a reset by the other. With the posts that are left these are all posts over such links, and where
 -- none is left they are all. Over a lossy link it is some of the posts, in order, each once. All that a node heard is of nodes that
--- links join with it, in turns that were noted. A record is marked down exactly where a line does so, or it gave up. And both records
--- of each link say so.
-pub record KeepsPromise (nodes : List Node) (links : List Link) (lines : List Line) (s : RunNow (List Logged)) : Type 0 where
-  pub prefixes : OverEach (is_up s) links (HearsPrefix (map fast_of nodes) (map draft_line lines) (all_heard heard_by s))
-  pub whole : left_in heard_by links s ≡ 0 → OverEach (is_up s) links (HearsWhole (map fast_of nodes) (map draft_line lines) (all_heard heard_by s))
+-- links join with it. A record is marked down only where a line does so, or it gave up. And both records of each link, with the halves
+-- beside them, say so.
+pub record IsPromised (nodes : List Node) (links : List Link) (lines : List DraftLine) (beside : Beside) (s : RunNow (List Logged)) : Type 0 where
+  pub prefixes : OverEach (is_up s) links (HearsPrefix (map fast_of nodes) lines (all_heard heard_by s))
+  pub whole : left_in heard_by links s ≡ 0 → OverEach (is_up s) links (HearsWhole (map fast_of nodes) lines (all_heard heard_by s))
   pub no_reset : OverEach (is_up s) links (HearsNoReset (all_heard heard_by s))
-  pub counted : AreCounted (is_up s) links (map draft_line lines) (all_heard heard_by s) (left_in heard_by links s)
-  pub some : OverEach is_lossy links (HearsSome (map fast_of nodes) (map draft_line lines) (all_heard heard_by s))
+  pub counted : AreCounted (is_up s) links lines (all_heard heard_by s) (left_in heard_by links s)
+  pub some : OverEach is_lossy links (HearsSome (map fast_of nodes) lines (all_heard heard_by s))
   pub joined : AreOfJoined (length nodes) links (all_heard heard_by s)
+  pub marked : AllByRecursion (λ (l : Link). IsMarkedOnlySo lines s l.a l.b × IsMarkedOnlySo lines s l.b l.a) links
+  pub accounts : AllByRecursion (IsAccountedOver beside s) links
+
+-- ---- of a script's run
+
+-- the halves that no record of either node took
+abbrev pub of_both : Beside
+of_both n m = all_left (holding_of n.center).halves ++ all_left (holding_of m.center).halves
+
+-- All that is promised of any run; a node's calls came in turns that were noted; and as each step was taken, a record is marked down
+-- exactly where a line does so, or it gave up.
+pub record KeepsPromise (nodes : List Node) (links : List Link) (lines : List Line) (s : RunNow (List Logged)) : Type 0 where
+  pub promised : IsPromised nodes links (map draft_line lines) of_both s
   pub noted : AllNoted heard_by s
   pub marked : AllByRecursion (λ (l : Link). IsMarkedSo (map draft_line lines) s l.a l.b × IsMarkedSo (map draft_line lines) s l.b l.a) links
-  pub accounts : AllByRecursion (IsAccountedOver s) links

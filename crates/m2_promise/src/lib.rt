@@ -23,9 +23,11 @@
 //!   (`specs/KeepingLaws.antt`).
 //! - `specs/Started.antt`: where such a run begins and ends. New nodes keep all that, so where the lines lead it is
 //!   kept still, and each record's plan is what the lines have planned for it (`specs/StartLaws.antt`).
-//! - `specs/Posted.antt`: what is promised, in the words of the lines and of the dispatchers' calls (`m2_scenario`),
-//!   and of the records and journals of each link (`m2_channel`); and the laws that it is kept (`specs/PostLaws.antt`).
-//!   [`lines_fit`] says what they ask of lines and every list of lines keeps.
+//! - `specs/AtEnd.antt`: nodes of a scenario where a run of them has ended, whatever drove it.
+//! - `specs/Posted.antt`: what is promised of them, in the words of the lines and of the dispatchers' calls
+//!   (`m2_scenario`), and of the records and journals of each link (`m2_channel`); and the laws that it is kept, by nodes
+//!   that have ended and so by a script's run (`specs/PostLaws.antt`). [`lines_fit`] says what they ask of lines and every
+//!   list of lines keeps.
 //!
 //! What it isn't: anything that runs. `m2_script` makes the nodes and does the lines.
 #![tactic(auto)]
@@ -54,7 +56,9 @@ pub use passing_laws::{
     meeting_keeps_running, nothing_is_heard, rest_stays, told_nodes_hear,
 };
 pub use plan_laws::{deeds_keep_nodes, plans_go_on_further};
-pub use post_laws::{calls_are_noted, deeds_note_calls, kept_is_promised, promises_are_kept};
+pub use post_laws::{
+    calls_are_noted, deeds_note_calls, ends_are_promised, kept_is_promised, promises_are_kept,
+};
 pub use run_laws::{a_node_acts, acting_keeps_orders, acting_keeps_running};
 pub use start_laws::{first_can_be_done, first_is_kept, script_run_is_kept};
 pub use types::lines_fit;

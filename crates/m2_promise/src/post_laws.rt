@@ -2,7 +2,7 @@
 
 ghost use Rattle.m2_promise.specs.PostLaws as laws;
 
-use crate::{links_are_delivered, links_have_orders, runs_have_links, script_run_is_kept};
+use crate::{links_have_orders, runs_have_links, script_run_is_kept};
 use m2_bytes_fit::trails_tell_each_point;
 use m2_channel::{acknowledged_is_accepted, logs_are_logs_of_what_is_handed_on, observed_is_a_run};
 use m2_dispatch::Dispatcher;
@@ -20,14 +20,12 @@ pub fn calls_are_noted<P: Port>()
     ensures { laws.CallsAreNoted P.End }
 {}
 
-/// Where a run keeps what holds between any two deeds, each record's plan is what the lines of a valid scenario
-/// planned for it, and all calls were noted, the promise is kept.
-pub fn kept_is_promised()
-    ensures { laws.KeptIsPromised }
+/// Where a run of a valid scenario's nodes has ended, whatever drove it, the promise is kept: over each link that is up,
+/// of each key what either node heard from the other is a prefix of what the other's lines post to it, in order, each
+/// once, and all of it where nothing is left.
+pub fn ends_are_promised()
+    ensures { laws.EndsArePromised }
 {
-    runs_have_links();
-    links_have_orders();
-    links_are_delivered();
     links_are_woven_so();
     trails_tell_each_point();
     observed_is_a_run();
@@ -35,9 +33,17 @@ pub fn kept_is_promised()
     logs_are_logs_of_what_is_handed_on();
 }
 
-/// So wherever the lines of a valid scenario lead, the promise is kept: over each link that is up, of each key what
-/// either node heard from the other is a prefix of what the other's lines post to it, in order, each once, and all of it
-/// where nothing is left.
+/// So it is where a run keeps what holds between any two deeds, each record's plan is what the lines of a valid scenario
+/// planned for it, and all calls were noted.
+pub fn kept_is_promised()
+    ensures { laws.KeptIsPromised }
+{
+    runs_have_links();
+    links_have_orders();
+    ends_are_promised();
+}
+
+/// So wherever the lines of a valid scenario lead, the promise is kept.
 pub fn promises_are_kept<P: Port>()
     ensures { laws.PromisesAreKept P.End }
 {

@@ -1,4 +1,5 @@
 -- What was listed, passed on and said.
+use Rattle.std.proofs.Common.{[]}
 use Rattle.m2_cli.specs.Edge.{Edge, edge}
 use Rattle.m2_cli.proofs.Listings.{Ended, ended_passed, listing_ends, listing_caused, no_fall}
 use Rattle.m2_cli.proofs.Says.{said_caused}
@@ -23,7 +24,7 @@ returns g c =
         source_never_falls = listed.read_causes;
         out_never_falls = no_fall _ _ _ listed.write_causes passed.never_falls;
         err_never_falls = c.say_made.ensures.never_falls;
-        cause = said_caused ends.0 c.say_made.result before after (listing_caused ends.0 c.args.file.now before after ends.2) ends.1;
+        cause = said_caused [] ends.0 c.say_made.result before after (listing_caused ends.0 c.args.file.now before after ends.2) ends.1;
       };
       inputs = listed.inputs;
       work = ends.0;

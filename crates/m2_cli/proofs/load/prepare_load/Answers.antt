@@ -1,5 +1,5 @@
 -- What is printed of a load.
-use Rattle.std.proofs.Common.{ℕ, ap, ◌∙◌}
+use Rattle.std.proofs.Common.{ℕ, [], ap, ◌∙◌}
 use Rattle.std.proofs.lemmas.Result.{IfOk-weaker}
 use Rattle.m2_cli.specs.declared.printout.Printout.{Printout}
 use Rattle.m2_cli.specs.Load.{LoadComesTo, dispatched_in, load_lines}
@@ -13,9 +13,9 @@ returns c =
     let counts = c.in_ok-counts.counts in
     let posts = c.args.posts in
     IfOk-weaker c.with_line.result
-    (λ (p : Printout). IsPrintout p c.status_by_count.result c.in_ok-text.text.bytes)
-    (λ (p : Printout). IsPrintoutBy (LoadComesTo posts c.args.seed) p)
-    (λ (p : Printout) (h : IsPrintout p c.status_by_count.result c.in_ok-text.text.bytes). record {
+    (λ (p : Printout). IsPrintout [] p c.status_by_count.result c.in_ok-text.text.bytes)
+    (λ (p : Printout). IsPrintoutBy [] (LoadComesTo posts c.args.seed) p)
+    (λ (p : Printout) (h : IsPrintout [] p c.status_by_count.result c.in_ok-text.text.bytes). record {
       comes = record {
         last = is.last;
         run = is.run;

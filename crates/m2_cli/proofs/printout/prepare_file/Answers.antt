@@ -1,4 +1,4 @@
-use Rattle.std.proofs.Common.{ℕ, List, ◌∙◌, subst, inr}
+use Rattle.std.proofs.Common.{ℕ, List, [], ◌∙◌, subst, inr}
 use Rattle.std.proofs.lemmas.Result.{err_from_is_err_and}
 use Rattle.m2_edge.specs.Source.{SeenSource}
 use Rattle.m2_edge.specs.Whole.{IsReadUpTo}
@@ -17,7 +17,7 @@ returns-clause-prepares g c =
     let src : SeenSource = g.S.Source.seen c.read_whole.new.src in
     let read = c.in_ok-bytes.ensures.reads in
     let same = c.as_slice.ensures ∙ read.0.given in
-    let P : List ℕ → Type 0 = λ bytes. IsPrintoutBy (ComesTo bytes) c.in_ok-printout.printout in
+    let P : List ℕ → Type 0 = λ bytes. IsPrintoutBy [] (ComesTo bytes) c.in_ok-printout.printout in
     let R : List ℕ → Type 0 = λ bytes. IsReadUpTo read_limit bytes src in
     record {
       read = record { stands = read.1; whole = subst R read.0.given read.0 };

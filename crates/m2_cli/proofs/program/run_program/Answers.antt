@@ -7,6 +7,6 @@ use Rattle.m2_cli.proofs.program.run_program.Goals as goal
 pub returns : goal.returns
 returns g c = record {
   done =
-      program_done (form_in (map string_bytes c.args.words.now)) c.msgr2-status.result _ _ c.msgr2-status.ensures.ends
+      program_done _ _ _ (form_in (map string_bytes c.args.args.now)) c.msgr2-status.result _ _ c.msgr2-status.ensures.ends
       (ap (λ (s : SeenSink). s.taken) c.new-out.ensures) (ap (λ (s : SeenSink). s.flushed) c.new-out.ensures);
 }

@@ -1,25 +1,7 @@
--- The lemma, by what is promised of links, of orders that are woven, of the observed run and of logs.
-use Rattle.m2_promise.proofs.Promised.{promised}
+-- Such a run is at its end, wherever its lines lead.
+use Rattle.m2_promise.proofs.KeptEnds.{kept_promise}
 use Rattle.m2_promise.proofs.post_laws.kept_is_promised.Goals as goal
 
 pub returns : goal.returns
 returns c = λ nodes links lines s sound types kept plans noted.
-    promised
-    (record {
-      has_link = c.runs_have_links.ensures;
-      has_order = c.links_have_orders.ensures;
-      on_links = c.links_are_delivered.ensures;
-      read = c.links_are_woven_so.ensures.read;
-      asked = c.links_are_woven_so.ensures.asked;
-      points = c.links_are_woven_so.ensures.points;
-      tell = c.trails_tell_each_point.ensures;
-      never = c.links_are_woven_so.ensures.never_reset;
-      delivers = c.links_are_woven_so.ensures.delivered;
-      to_a_mark = c.links_are_woven_so.ensures.to_a_mark;
-      comes = c.links_are_woven_so.ensures.in_order;
-      observed = c.observed_is_a_run.ensures;
-      acknowledged = c.acknowledged_is_accepted.ensures;
-      counts = c.links_are_woven_so.ensures.counts;
-      logs = c.logs_are_logs_of_what_is_handed_on.ensures;
-    })
-    nodes links lines s sound types kept plans noted
+    kept_promise nodes links lines s types kept plans c.ends_are_promised.ensures c.runs_have_links.ensures c.links_have_orders.ensures sound noted

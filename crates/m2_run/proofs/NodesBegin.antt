@@ -1,0 +1,256 @@
+-- Nodes of a valid scenario that have done nothing are what they are made, on their way.
+use Rattle.std.proofs.Common.{◌≡◌, ◌==◌, ◌&&◌, ◌⊎◌, inl, inr, ◌<◌, ◌≤◌, ◌∙◌, ℕ, Bool, true, false, List, [], ◌∷◌, length, get_or, map, Option, Some, None, refl, sym, ap, subst, arith}
+use Rattle.std.specs.Prelude.{AllPairs, if◌then◌else◌, slice_get}
+use Rattle.std.specs.List.{AllByRecursion, IsDistinct, cons_option, filter_map}
+use Rattle.std.proofs.lemmas.Bool.{and_parts, cases_lt, eqb-true}
+use Rattle.std.proofs.lemmas.List.Elements.{recursion_from_All}
+use Rattle.std.proofs.lemmas.Option.{get_or_from_slice_get, none-some, slice_get-get_or, slice_get_within}
+use Rattle.m2_addr.specs.declared.addr.Addr.{Addr}
+use Rattle.m2_bytes.specs.Items.{Holding}
+use Rattle.m2_cluster.specs.m2_center.Center.{CenterNow}
+use Rattle.m2_cluster.specs.m2_center.Making.{new_center}
+use Rattle.m2_cluster.specs.Node.{NodeNow}
+use Rattle.m2_links_go_on.specs.Course.{IsOnCourse}
+use Rattle.m2_links_go_on.specs.CourseLaws.{CentersBeginOnCourse}
+use Rattle.m2_links_go_on.specs.Made.{IsBegun, NodeMade, SideMade, node_made, side_made}
+use Rattle.m2_dispatch.specs.Heard.{heard_by}
+use Rattle.m2_dispatch.specs.declared.logged.Logged.{Logged}
+use Rattle.m2_fabric.specs.End.{SeenEnd}
+use Rattle.m2_fabric.specs.Port.{SeenPort}
+use Rattle.m2_fabric.specs.Sockets.{goes_to}
+use Rattle.m2_fabric.specs.declared.socket.SocketId.{SocketId}
+use Rattle.m2_fabric.proofs.m2_lemmas.Lists.{all_map, all_so_of}
+use Rattle.m2_links_go_on.specs.m2_growth.Holding.{LeadsElsewhere, all_ends}
+use Rattle.m2_journal.specs.declared.entry.Entry.{Entry}
+use Rattle.m2_journal.specs.declared.facts.PlanStep.{PlanStep}
+use Rattle.m2_journal.specs.declared.facts.PlanStep.TheVariants as step
+use Rattle.m2_links_go_on.specs.Left.{AllCameOfPeer, CameOfPeer}
+use Rattle.m2_links_go_on.specs.LeftLaws.{HaveCome}
+use Rattle.m2_links_go_on.specs.LogLaws.{BeginLogged, holding_in, logging_in}
+use Rattle.m2_links_go_on.specs.Logged.{AreOfTheirPeers, IsLogged}
+use Rattle.m2_links_go_on.specs.OfPeers.{AreOfPeers}
+use Rattle.m2_links_go_on.specs.PeerLaws.{BeginOfPeers}
+use Rattle.m2_record.specs.RecordNow.{RecordNow}
+use Rattle.m2_record.specs.TakenTrails.{judgements_in}
+use Rattle.m2_scenario.specs.Draft.{DraftLine, draft_line}
+use Rattle.m2_scenario.specs.Valid.{AreApart, IsLine, IsLink, IsSound}
+use Rattle.m2_scenario.specs.declared.line.Line.{Line}
+use Rattle.m2_scenario.specs.declared.line.Line.TheVariants as line
+use Rattle.m2_scenario.specs.declared.link.Link.{Link}
+use Rattle.m2_scenario.specs.declared.node.Node.{Node}
+use Rattle.m2_script.specs.Laws.{NewRecordsCanBegin, ShortPostsAreSendable, bare}
+use Rattle.m2_script.specs.Made.{records_of}
+use Rattle.m2_script.specs.Nodes.{none_drawn, none_granted}
+use Rattle.m2_script.proofs.Over.{IsOver, JoinsSo, all_over, all_through, apart_over, distinct_of, joins_so, map_through, places_differ}
+use Rattle.m2_run.specs.Begins.{AreBeginning, AreSendable, IsBeginning, items_of, steps_at}
+use Rattle.m2_run.specs.Planned.{AreStepsOf, IsSendableStep, plan_in, plan_of, side_by, side_in, sides_in, steps_in, towards_in, waiting}
+use Rattle.m2_run.specs.Ports.{off_port}
+use Rattle.m2_run.specs.Way.{AreNodesOf, IsNodeOf, IsOff, IsUnderWay, made_in}
+use Rattle.m2_run.specs.declared.planning.StepTowards.{StepTowards}
+
+-- ---- steps
+
+-- what a line has a node do, and of that what is towards one peer, is what the line plans for that record
+same_first : (k j a b : ℕ) (s : PlanStep) (xs : List StepTowards) (ys : List PlanStep) → filter_map (towards_in j) xs ≡ ys →
+    filter_map (towards_in j) (cons_option (if a == k then Some (record { peer = b; step = s }) else None) xs) ≡ cons_option (if (a == k) && (b == j) then Some s else None) ys
+same_first k j a b s xs ys h = go (a == k) (b == j) refl
+  where
+    go : (x y : Bool) → (b == j) ≡ y →
+        filter_map (towards_in j) (cons_option (if x then Some (record { peer = b; step = s }) else None) xs) ≡ cons_option (if x && y then Some s else None) ys
+    go true true e = rw e (ap (λ zs. s ∷ zs) h)
+    go true false e = rw e h
+    go false y e = h
+
+pub same_plan : (k j : ℕ) (lines : List Line) → plan_of (steps_in lines k) j ≡ plan_in lines k j
+same_plan k j [] = refl
+same_plan k j (line.Post a b m ∷ ls) = same_first k j a b (step.Post m) (steps_in ls k) (plan_in ls k j) (same_plan k j ls)
+same_plan k j (line.Dial a b ∷ ls) = same_first k j a b step.Dial (steps_in ls k) (plan_in ls k j) (same_plan k j ls)
+same_plan k j (line.Down a b ∷ ls) = same_first k j a b step.Down (steps_in ls k) (plan_in ls k j) (same_plan k j ls)
+same_plan k j (line.Cut a b n ∷ ls) = same_plan k j ls
+same_plan k j (line.Turn a ∷ ls) = same_plan k j ls
+same_plan k j (line.Flow a b s n ∷ ls) = same_plan k j ls
+same_plan k j (line.Fault a b s ∷ ls) = same_plan k j ls
+same_plan k j (line.Settle n ∷ ls) = same_plan k j ls
+
+-- each can be planned
+one_sendable : (k a b : ℕ) (s : PlanStep) (xs : List StepTowards) → IsSendableStep (record { peer = b; step = s }) → AllByRecursion IsSendableStep xs →
+    AllByRecursion IsSendableStep (cons_option (if a == k then Some (record { peer = b; step = s }) else None) xs)
+one_sendable k a b s xs can all = go (a == k)
+  where
+    go : (x : Bool) → AllByRecursion IsSendableStep (cons_option (if x then Some (record { peer = b; step = s }) else None) xs)
+    go true = (can, all)
+    go false = all
+
+module _ (sendable : ShortPostsAreSendable) (n : ℕ) (links : List Link) (k : ℕ) where
+  all_sendable : (ls : List Line) → AllByRecursion (IsLine n links) (map draft_line ls) → AllByRecursion IsSendableStep (steps_in ls k)
+  all_sendable [] all = tt
+  all_sendable (line.Post a b m ∷ ls) all = one_sendable k a b (step.Post m) (steps_in ls k) (sendable m all.0.1) (all_sendable ls all.1)
+  all_sendable (line.Dial a b ∷ ls) all = one_sendable k a b step.Dial (steps_in ls k) tt (all_sendable ls all.1)
+  all_sendable (line.Down a b ∷ ls) all = one_sendable k a b step.Down (steps_in ls k) tt (all_sendable ls all.1)
+  all_sendable (line.Cut a b m ∷ ls) all = all_sendable ls all.1
+  all_sendable (line.Turn a ∷ ls) all = all_sendable ls all.1
+  all_sendable (line.Flow a b s m ∷ ls) all = all_sendable ls all.1
+  all_sendable (line.Fault a b s ∷ ls) all = all_sendable ls all.1
+  all_sendable (line.Settle m ∷ ls) all = all_sendable ls all.1
+
+pub steps_sendable : (sendable : ShortPostsAreSendable) (nodes : List Node) (links : List Link) (lines : List Line) (count : ℕ) (all : List (Holding StepTowards)) → IsSound nodes links (map draft_line lines) → AreStepsOf count lines all → AreSendable all
+steps_sendable sendable nodes links lines count all sound are k s e =
+    subst (AllByRecursion IsSendableStep) (sym (are.each k s e))
+    (all_sendable sendable (length nodes) links k lines (recursion_from_All (IsLine (length nodes) links) (map draft_line lines) sound.in_place))
+
+-- ---- nodes stand apart
+
+apart_at : (nodes : List Node) → AllPairs AreApart nodes → (i j : ℕ) (x y : Node) → slice_get nodes i ≡ Some x → slice_get nodes j ≡ Some y → (i ≡ j → ⊥) →
+    (x.at.ip ≡ y.at.ip) × (x.at.port ≡ y.at.port) → ⊥
+apart_at nodes pairs i j x y e f different same = go (cases_lt i j)
+  where
+    is_x : get_or nodes i x ≡ x
+    is_x = get_or_from_slice_get nodes i x x e
+
+    is_y : get_or nodes j x ≡ y
+    is_y = get_or_from_slice_get nodes j y x f
+
+    go : (i < j) ⊎ (j ≤ i) → ⊥
+    go (inl before) =
+        let apart : AreApart (get_or nodes i x) (get_or nodes j x) = pairs i j x before (slice_get_within nodes j y f) in
+        (subst (λ (z : Node). AreApart z y) is_x (subst (λ (z : Node). AreApart (get_or nodes i x) z) is_y apart)).sockets same
+    go (inr past) =
+        let before : j < i = omega (arith, past, different) in
+        let apart : AreApart (get_or nodes j x) (get_or nodes i x) = pairs j i x before (slice_get_within nodes i x e) in
+        (subst (λ (z : Node). AreApart z x) is_y (subst (λ (z : Node). AreApart (get_or nodes j x) z) is_x apart)).sockets (sym same.0, sym same.1)
+
+-- a socket goes to one ip and port
+goes_both : (a b : Addr) (s : SocketId) → goes_to a s ≡ true → goes_to b s ≡ true → (b.ip ≡ a.ip) × (b.port ≡ a.port)
+goes_both a b s e f =
+    let p = and_parts (s.to_ip == a.ip) (s.to_port == a.port) e in
+    let q = and_parts (s.to_ip == b.ip) (s.to_port == b.port) f in
+    (sym (eqb-true s.to_ip b.ip q.0) ∙ eqb-true s.to_ip a.ip p.0, sym (eqb-true s.to_port b.port q.1) ∙ eqb-true s.to_port a.port p.1)
+
+module _ (nodes : List Node) (links : List Link) (lines : List DraftLine) (sound : IsSound nodes links lines) (k word : ℕ) where
+  -- no two of its new records are of one peer
+  pub new_peers : AreOfTheirPeers (records_of nodes links k word)
+  new_peers =
+      let place : RecordNow → ℕ = λ (r : RecordNow). r.place in
+      distinct_of place (λ (a b : ℕ). a == b) (records_of nodes links k word)
+      (apart_over nodes k word (λ (r s : RecordNow). r.place == s.place) (places_differ nodes k word) links sound.joined_once)
+
+  -- a link joins a node with another
+  joins_other : (l : Link) (j : ℕ) → IsLink (length nodes) l → JoinsSo k j l → k ≡ j → ⊥
+  joins_other l j is (inl e) same = is.different (e.0 ∙ same ∙ sym e.1)
+  joins_other l j is (inr e) same = is.different (e.0 ∙ sym same ∙ sym e.1)
+
+  module _ (rs : List RecordNow) (over : map bare rs ≡ map bare (records_of nodes links k word)) where
+    -- what the bare ones of new records over links show
+    all_so : (P : RecordNow → Type 0) → ((l : Link) (r : RecordNow) → IsLink (length nodes) l → IsOver nodes k word l r → P (bare r)) → ((r : RecordNow) → P (bare r) → P r) → AllByRecursion P rs
+    all_so P new so =
+        let all : AllByRecursion (λ (r : RecordNow). P (bare r)) (records_of nodes links k word) =
+        all_over nodes k word (IsLink (length nodes)) (λ (r : RecordNow). P (bare r)) new links (recursion_from_All (IsLink (length nodes)) links sound.joined) in
+        all_through bare P P so rs (subst (AllByRecursion P) (sym over) (all_map P bare (records_of nodes links k word) all))
+
+    pub peers_of : AreOfTheirPeers rs
+    peers_of =
+        let place : RecordNow → ℕ = λ (r : RecordNow). r.place in
+        subst (IsDistinct (λ (a b : ℕ). a == b))
+        (sym (map_through bare place (λ r. refl) (records_of nodes links k word)) ∙ sym (ap (map place) over) ∙ map_through bare place (λ r. refl) rs) new_peers
+
+    module _ (x : Node) (there : slice_get nodes k ≡ Some x) (port : SeenPort) (at : port.at ≡ x.at) where
+      leads : (l : Link) (r : RecordNow) → IsLink (length nodes) l → IsOver nodes k word l r → LeadsElsewhere port (bare r)
+      leads l r is v s goes = by (goes_to port.at s) refl
+        where
+          by : (b : Bool) → goes_to port.at s ≡ b → b ≡ false
+          by false here = refl
+          by true here =
+              let peer : r.core.facts.peer ≡ v.peer.at = ap (λ (y : RecordNow). y.core.facts.peer) v.is in
+              let to_x : goes_to x.at s ≡ true = subst (λ (a : Addr). goes_to a s ≡ true) at here in
+              let to_y : goes_to v.peer.at s ≡ true = subst (λ (a : Addr). goes_to a s ≡ true) peer goes in
+              absurd (apart_at nodes sound.apart k r.place x v.peer there v.peer_there (joins_other l r.place is (joins_so k r.place l v.joined)) (goes_both v.peer.at x.at s to_y to_x))
+
+      pub elsewhere : AllByRecursion (LeadsElsewhere port) rs
+      elsewhere = all_so (LeadsElsewhere port) leads (λ r led. led)
+
+-- ---- a node that has done nothing
+
+came_of_none : (ends : List SeenEnd) (r : RecordNow) → IsBegun r → AllCameOfPeer ends r
+came_of_none ends r is = subst (λ (j : List Entry). AllByRecursion (CameOfPeer ends r) (judgements_in j)) (sym (ap (λ (y : RecordNow). y.journal) is)) tt
+
+-- a side and a node as they are made, by their parts
+abbrev side_with : RecordNow → List PlanStep → SideMade
+side_with r p = record { place = r.place; facts = waiting r.core.facts; plan = p }
+
+abbrev node_with : (entity : ℕ) → Addr → List SideMade → NodeMade
+node_with entity at sides = record { entity = entity; at = at; sides = sides }
+
+map_same : {X Y : Type 0} (f g : X → Y) → ((x : X) → f x ≡ g x) → (xs : List X) → map f xs ≡ map g xs
+map_same f g so [] = refl
+map_same f g so (x ∷ xs) = ap (λ y. y ∷ map f xs) (so x) ∙ ap (λ ys. g x ∷ ys) (map_same f g so xs)
+
+module _ (C : Type 0) (may_give_of : C → ℕ → Type 0) (clock : C) (on_course : CentersBeginOnCourse (List Logged) C may_give_of) (begin_logged : BeginLogged (List Logged)) (begin_of_peers : BeginOfPeers (List Logged))
+    (can_begin : NewRecordsCanBegin) (moment : ℕ) (given : may_give_of clock moment) (nodes : List Node) (links : List Link) (lines : List Line) (sound : IsSound nodes links (map draft_line lines)) where
+  module _ (k : ℕ) (x : Node) (there : slice_get nodes k ≡ Some x) (n : NodeNow (List Logged)) (b : IsBeginning nodes links (steps_in lines k) k x n) where
+    abbrev none : List Logged
+    none = []
+
+    abbrev begun : CenterNow (List Logged)
+    begun = new_center x.entity b.port b.records none none none_granted none_drawn
+
+    abbrev made : NodeMade
+    made = made_in nodes links lines k b.word x
+
+    sides : map side_made b.records ≡ sides_in nodes links lines k b.word
+    sides =
+        b.sides
+        ∙ map_same (side_by (plan_of (steps_in lines k))) (side_in lines k)
+        (λ r. ap (side_with r) (same_plan k r.place lines)) (records_of nodes links k b.word)
+
+    is_made : node_made begun ≡ made
+    is_made =
+        ap (λ (a : Addr). node_with x.entity a (map side_made b.records)) b.at ∙ ap (node_with x.entity x.at) sides
+
+    peers : AreOfTheirPeers b.records
+    peers = peers_of nodes links (map draft_line lines) sound k b.word b.records b.over
+
+    course : IsOnCourse (may_give_of clock) moment (node_made begun) begun
+    course =
+        on_course clock moment x.entity b.port b.records none none none_granted none_drawn
+        (can_begin nodes links (map draft_line lines) sound k b.word x b.records there b.over b.port none_granted none_drawn b.unused.made).0
+        b.begun (elsewhere nodes links (map draft_line lines) sound k b.word b.records b.over x there b.port b.at) b.unused.made b.unused.waiting given
+
+    way : IsUnderWay (may_give_of clock) moment made n
+    way = record {
+      course = subst (λ (c : CenterNow (List Logged)). IsOnCourse (may_give_of clock) moment made c) (sym b.center) (subst (λ (m : NodeMade). IsOnCourse (may_give_of clock) moment m begun) is_made course);
+      came = subst (λ (c : CenterNow (List Logged)). HaveCome (holding_in c)) (sym b.center)
+          (all_so_of IsBegun (AllCameOfPeer (all_ends (holding_in begun))) b.records (λ r is. came_of_none (all_ends (holding_in begun)) r is) b.begun);
+      logged = subst (λ (c : CenterNow (List Logged)). IsLogged heard_by (logging_in c)) (sym b.center)
+          (begin_logged heard_by b.records none none peers (all_so_of IsBegun (λ (r : RecordNow). r.handed ≡ 0) b.records (λ r is. ap (λ (y : RecordNow). y.handed) is) b.begun) refl refl);
+      peers = subst (λ (c : CenterNow (List Logged)). AreOfPeers heard_by c.records c.out c.queued) (sym b.center) (begin_of_peers heard_by b.records none none refl refl);
+    }
+
+    is_off : x.started ≡ false → IsOff n
+    is_off o = record {
+      records = subst (λ (c : CenterNow (List Logged)). AllByRecursion IsBegun c.records) (sym b.center) b.begun;
+      new_one = subst (λ (c : CenterNow (List Logged)). c ≡ new_center c.entity (off_port c.port.at) c.records [] [] c.bytes c.numbers) (sym b.center)
+          (ap (λ (p : SeenPort). new_center x.entity p b.records none none none_granted none_drawn) (b.off o ∙ ap off_port (sym b.at)));
+    }
+
+    pub node_begins : IsNodeOf (may_give_of clock) moment nodes links lines k x n
+    node_begins = record { word = b.word; way = way; off = is_off }
+
+  pub nodes_begin : (all : List (NodeNow (List Logged))) → AreBeginning nodes links (steps_in lines) all → AreNodesOf (may_give_of clock) moment nodes links lines all
+  nodes_begin all are = record { count = are.count; each = λ k x n e f. node_begins k x e n (are.each k x n e f) }
+
+-- whichever steps they have, where they are those of the lines
+pub begin_by_lines : (nodes : List Node) (links : List Link) (lines : List Line) (count : ℕ) (steps : List (Holding StepTowards)) (all : List (NodeNow (List Logged))) → count ≡ length nodes → AreStepsOf count lines steps →
+    AreBeginning nodes links (steps_at steps) all → AreBeginning nodes links (steps_in lines) all
+begin_by_lines nodes links lines count steps all counted planned are = record {
+  count = are.count;
+  each = λ k x n e f. subst (λ (ss : List StepTowards). IsBeginning nodes links ss k x n) (same k x e) (are.each k x n e f);
+}
+  where
+    at : (k : ℕ) (o : Option (Holding StepTowards)) → slice_get steps k ≡ o → k < length steps → steps_at steps k ≡ steps_in lines k
+    at k (Some s) e within = ap items_of e ∙ planned.each k s e
+    at k None e within =
+        let d : Holding StepTowards = record { items = []; room = 0 } in
+        absurd (none-some (get_or steps k d) (sym e ∙ slice_get-get_or steps k d within))
+
+    same : (k : ℕ) (x : Node) → slice_get nodes k ≡ Some x → steps_at steps k ≡ steps_in lines k
+    same k x e = at k (slice_get steps k) refl (let w = slice_get_within nodes k x e in let c = planned.count in omega (arith, w, c, counted))

@@ -1,0 +1,115 @@
+-- The calls that are told of a run are of nodes.
+use Rattle.std.proofs.Common.{◌≡◌, ℕ, ◌<◌, ◌==◌, suc, Bool, ◌||◌, true, false, List, [], ◌∷◌, ◌++◌, Option, Some, None, length, map, slice_get, refl, sym, ap, ◌∙◌, subst}
+use Rattle.std.specs.List.{AllByRecursion, list_any}
+use Rattle.std.specs.Option.{option_to_list}
+use Rattle.std.proofs.Math.ListN.{length-map}
+use Rattle.std.proofs.lemmas.Bool.{eqb-true, false≢true}
+use Rattle.std.proofs.lemmas.List.Elements.{All-from_recursion}
+use Rattle.std.proofs.lemmas.Option.{slice_get_within}
+use Rattle.m2_bytes.specs.Items.{Holding}
+use Rattle.m2_cluster.specs.Node.{NodeNow}
+use Rattle.m2_links_go_on.specs.Made.{SideMade, side_made}
+use Rattle.m2_dispatch.specs.Heard.{Heard, heard_by, peer_of}
+use Rattle.m2_dispatch.specs.declared.logged.Logged.{Logged}
+use Rattle.m2_links_go_on.specs.OfPeers.{IsPeerOf}
+use Rattle.m2_record.specs.RecordNow.{RecordNow}
+use Rattle.m2_scenario.specs.Report.{AreLogsOf, IsLogOf, IsOfNodes, heard_in}
+use Rattle.m2_scenario.specs.declared.line.Line.{Line}
+use Rattle.m2_scenario.specs.declared.link.Link.{Link}
+use Rattle.m2_scenario.specs.declared.node.Node.{Node}
+use Rattle.m2_script.specs.Made.{new_towards, other_of, over, records_of}
+use Rattle.m2_script.specs.declared.made.Towards.{Towards}
+use Rattle.m2_run.specs.Planned.{side_in}
+use Rattle.m2_run.specs.Ran.{heard_at_end}
+use Rattle.m2_run.specs.Way.{IsUnderWay, made_in}
+
+-- a record is towards a node that there is
+abbrev IsTowardsOne : ℕ → RecordNow → Type 0
+IsTowardsOne n r = r.place < n
+
+abbrev IsSideOfOne : ℕ → SideMade → Type 0
+IsSideOfOne n s = s.place < n
+
+abbrev IsOfOne : ℕ → Heard → Type 0
+IsOfOne n h = peer_of h < n
+
+all_joined : {X : Type 0} (P : X → Type 0) (xs ys : List X) → AllByRecursion P xs → AllByRecursion P ys → AllByRecursion P (xs ++ ys)
+all_joined P [] ys all more = more
+all_joined P (x ∷ xs) ys all more = (all.0, all_joined P xs ys all.1 more)
+
+module _ (nodes : List Node) (k word : ℕ) where
+  by_peer : (mine peer : Option Node) (t : Towards) → slice_get nodes t.place ≡ peer → AllByRecursion (IsTowardsOne (length nodes)) (option_to_list (new_towards mine peer k word t))
+  by_peer None None t e = tt
+  by_peer None (Some y) t e = tt
+  by_peer (Some x) None t e = tt
+  by_peer (Some x) (Some y) t e = (slice_get_within nodes t.place y e, tt)
+
+  over_one : (t : Option Towards) → AllByRecursion (IsTowardsOne (length nodes)) (option_to_list (over nodes k word t))
+  over_one None = tt
+  over_one (Some t) = by_peer (slice_get nodes k) (slice_get nodes t.place) t refl
+
+  records_towards : (links : List Link) → AllByRecursion (IsTowardsOne (length nodes)) (records_of nodes links k word)
+  records_towards [] = tt
+  records_towards (l ∷ ls) =
+      all_joined (IsTowardsOne (length nodes)) (option_to_list (over nodes k word (other_of k l))) (records_of nodes ls k word) (over_one (other_of k l)) (records_towards ls)
+
+sides_towards : (n k : ℕ) (lines : List Line) (rs : List RecordNow) → AllByRecursion (IsTowardsOne n) rs → AllByRecursion (IsSideOfOne n) (map (side_in lines k) rs)
+sides_towards n k lines [] all = tt
+sides_towards n k lines (r ∷ rs) all = (all.0, sides_towards n k lines rs all.1)
+
+made_towards : (n : ℕ) (rs : List RecordNow) → AllByRecursion (IsSideOfOne n) (map side_made rs) → AllByRecursion (IsTowardsOne n) rs
+made_towards n [] all = tt
+made_towards n (r ∷ rs) all = (all.0, made_towards n rs all.1)
+
+peer_within : (n p : ℕ) (rs : List RecordNow) → AllByRecursion (IsTowardsOne n) rs → IsPeerOf rs p → p < n
+peer_within n p [] all is = absurd (false≢true is)
+peer_within n p (r ∷ rs) all is = by (r.place == p) refl (peer_within n p rs all.1) is
+  where
+    by : (c : Bool) → (r.place == p) ≡ c → (IsPeerOf rs p → p < n) → (c || list_any (λ (q : RecordNow). q.place == p) rs) ≡ true → p < n
+    by true e rest h = subst (λ (m : ℕ). m < n) (eqb-true r.place p e) all.0
+    by false e rest h = rest h
+
+calls_within : (n : ℕ) (rs : List RecordNow) (hs : List Heard) → AllByRecursion (IsTowardsOne n) rs → AllByRecursion (λ (h : Heard). IsPeerOf rs (peer_of h)) hs →
+    AllByRecursion (IsOfOne n) hs
+calls_within n rs [] all its = tt
+calls_within n rs (h ∷ hs) all its = (peer_within n (peer_of h) rs all its.0, calls_within n rs hs all its.1)
+
+-- all calls that a node's dispatchers had are of nodes
+pub node_within : (may_give : ℕ → Type 0) (moment : ℕ) (nodes : List Node) (links : List Link) (lines : List Line) (k word : ℕ) (x : Node) (n : NodeNow (List Logged)) →
+    IsUnderWay may_give moment (made_in nodes links lines k word x) n → AllByRecursion (IsOfOne (length nodes)) (heard_at_end n)
+node_within may_give moment nodes links lines k word x n way =
+    let sides : map side_made n.center.records ≡ map (side_in lines k) (records_of nodes links k word) = ap (λ made. made.sides) way.course.made in
+    let towards : AllByRecursion (IsTowardsOne (length nodes)) n.center.records =
+    made_towards (length nodes) n.center.records
+    (subst (AllByRecursion (IsSideOfOne (length nodes))) (sym sides) (sides_towards (length nodes) k lines (records_of nodes links k word) (records_towards nodes k word links)))
+    in
+    all_joined (IsOfOne (length nodes)) (heard_by n.center.out.fast) (heard_by n.center.queued.inner)
+    (calls_within (length nodes) n.center.records (heard_by n.center.out.fast) towards way.peers.fast)
+    (calls_within (length nodes) n.center.records (heard_by n.center.queued.inner) towards way.peers.queued)
+
+-- ---- logs
+
+log_within : (n : ℕ) (log : List Logged) → AllByRecursion (IsOfOne n) (heard_by log) → AllByRecursion (IsOfNodes n) log
+log_within n [] all = tt
+log_within n (l ∷ ls) all = (all.0, log_within n ls all.1)
+
+logs_within : (n : ℕ) (logs : List (Holding Logged)) (heard : List (List Heard)) → map heard_in logs ≡ heard → AllByRecursion (AllByRecursion (IsOfOne n)) heard →
+    AllByRecursion (IsLogOf n) logs
+logs_within n [] heard e all = tt
+logs_within n (log ∷ logs) heard e all =
+    let its : AllByRecursion (AllByRecursion (IsOfOne n)) (map heard_in (log ∷ logs)) = subst (AllByRecursion (AllByRecursion (IsOfOne n))) (sym e) all in
+    (All-from_recursion (IsOfNodes n) log.items (log_within n log.items its.0), logs_within n logs (map heard_in logs) refl its.1)
+
+kept_within : (n : ℕ) (kept : List (NodeNow (List Logged))) → ((k : ℕ) (m : NodeNow (List Logged)) → slice_get kept k ≡ Some m → AllByRecursion (IsOfOne n) (heard_at_end m)) →
+    AllByRecursion (AllByRecursion (IsOfOne n)) (map heard_at_end kept)
+kept_within n [] all = tt
+kept_within n (m ∷ ms) all = (all 0 m refl, kept_within n ms (λ k. all (suc k)))
+
+-- where the logs are those of nodes of whom this is so
+pub logs_of_nodes : (nodes : List Node) (kept : List (NodeNow (List Logged))) (logs : List (Holding Logged)) → map heard_in logs ≡ map heard_at_end kept →
+    length kept ≡ length nodes → ((k : ℕ) (m : NodeNow (List Logged)) → slice_get kept k ≡ Some m → AllByRecursion (IsOfOne (length nodes)) (heard_at_end m)) →
+    AreLogsOf nodes logs
+logs_of_nodes nodes kept logs e count all = record {
+  each = sym (length-map logs heard_in) ∙ ap (λ (hs : List (List Heard)). length hs) e ∙ length-map kept heard_at_end ∙ count;
+  peers = All-from_recursion (IsLogOf (length nodes)) logs (logs_within (length nodes) logs (map heard_at_end kept) e (kept_within (length nodes) kept all));
+}

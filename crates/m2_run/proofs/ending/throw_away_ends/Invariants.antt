@@ -1,0 +1,6 @@
+-- There is one less each time.
+use Rattle.std.proofs.Common.{length}
+use Rattle.m2_run.proofs.ending.throw_away_ends.Given as goal
+
+abbrev pub decreases-ends : goal.decreases-ends
+decreases-ends g l = length l.ends.items

@@ -1,0 +1,45 @@
+-- The ends of one record more, the last one of those that are left, which were turned round.
+use Rattle.std.proofs.Common.{rules, ◌≡◌, [], map, refl, sym, subst, ◌∙◌, ◌++◌}
+use Rattle.std.specs.List.{flat_map}
+use Rattle.m2_record.specs.Calls.{Owns}
+use Rattle.m2_cluster.specs.m2_center.Finishing.{AllOwn}
+use Rattle.m2_cluster.proofs.m2_center.Granted.{before_last}
+use Rattle.m2_run.specs.Gathering.{all_told}
+use Rattle.m2_run.specs.Kept.{ends_of_record}
+use Rattle.m2_run.proofs.Giving.{all_reversed, none_given, none_left, one_record}
+use Rattle.m2_run.proofs.gathering.give_records.Goals as goal
+
+pub records-init : goal.records-init
+records-init g c =
+    let place = c.args.throttle.now.place in
+    record {
+      place = refl;
+      owned = subst (AllOwn place) (sym c.reverse.ensures.items) (all_reversed (Owns place) c.args.records.items c.requires.owned);
+      given = none_given g.E.End.seen c.args.into.now.items c.args.records.items c.reverse.new.self.items c.reverse.ensures.items;
+    }
+
+pub ends-ends-requires-clause-owned : goal.ends-ends-requires-clause-owned
+ends-ends-requires-clause-owned g c =
+    let place = c.args.throttle.now.place in
+    (before_last (Owns place) c.pop.new.self.items c.in-Some.side (subst (AllOwn place) c.in-Some.ensures.items c.records.invariant.owned)).1
+
+pub records-preserved : goal.records-preserved
+records-preserved g c =
+    let l = c.records in
+    let place = c.args.throttle.now.place in
+    let seen = g.E.End.seen in
+    record {
+      place = c.ends-ends.ensures.place ∙ l.invariant.place;
+      owned = (before_last (Owns place) c.pop.new.self.items c.in-Some.side (subst (AllOwn place) c.in-Some.ensures.items l.invariant.owned)).0;
+      given = one_record l.given c.give_ends-given.result (all_told (map seen l.into.items)) (all_told (map seen c.give_ends-given.new.into.items))
+          (all_told (map seen c.args.into.now.items) ++ all_told (flat_map ends_of_record c.args.records.items)) c.ends-ends.result.items l.records.items c.pop.new.self.items c.in-Some.side
+          c.in-Some.ensures.items c.ends-ends.ensures.ends c.give_ends-given.ensures.given c.give_ends-given.ensures.before l.invariant.given;
+    }
+
+pub returns-clause-given : goal.returns-clause-given
+returns-clause-given g c =
+    let l = c.records in
+    let seen = g.E.End.seen in
+    let none : l.records.items ≡ [] = search rules in
+    none_left l.given (all_told (map seen l.into.items)) (all_told (map seen c.args.into.now.items) ++ all_told (flat_map ends_of_record c.args.records.items)) l.records.items
+    none l.invariant.given
