@@ -2,7 +2,8 @@
 the trace: in each direction of each socket the same frames at the same places, with the same numbers, seen at the moment of the turn
 in which their last bytes were written; a frame that isn't whole is told as such; each session stands once, and "written again"
 stands on each message that was. Packets in another order, twice, or cut into bytes tell the same. The picture has an arrow for each
-frame. examples/captures has the capture of one of them, and its picture. Where dpkt is there the file is read by it, else by the lines below, which know the form that tools/as_capture writes.
+frame. examples/captures has the capture of one of them, and its picture. What real daemons write otherwise than the profile is told by
+--check, and bad inputs by a sentence. Where dpkt is there the file is read by it, else by the lines below, which know the form that tools/as_capture writes.
 
 The programs are those that rt ci built: crates/run_trace/out/run_trace and crates/frame_facts/out/frame_facts.
 """
@@ -33,8 +34,8 @@ def read_packets(file):
     """The packets of a capture that tools/as_capture wrote."""
     try:
         packets.load()
-        with open(file, "rb") as it:
-            return list(packets.packets_of(it))
+        with open(file, "rb", buffering=0) as it:
+            return list(packets.packets_of(packets.Input(it)))
     except packets.BadCapture:
         pass
     with open(file, "rb") as it:
@@ -64,7 +65,10 @@ def told(their_packets):
 def is_told_by_its_answer(event):
     """Whether the frame that is written for a judgement tells the row; and it was written."""
     answer = event.words[8]
-    tag = {"resume": wire.RECONNECT_OK, "retry": wire.RETRY, "retry_global": wire.RETRY_GLOBAL, "wait": wire.WAIT}.get(answer)
+    tag = wire.SERVER_IDENT if answer.startswith("accept") else {
+        "reset": wire.RESET, "reset_pending": wire.RESET, "resume": wire.RECONNECT_OK, "retry": wire.RETRY, "retry_global": wire.RETRY_GLOBAL,
+        "wait": wire.WAIT,
+    }.get(answer)
     return any(it.tag == tag and it.writer == event.node and it.written for it in event.socket.flights)
 
 
@@ -92,10 +96,11 @@ def told_otherwise(name, run, connections, events):
                 number = flight.says.get("seq", flight.says.get("number", flight.says.get("seen")))
                 if number is not None and number not in event.frame.values():
                     yield f"{name}: the {event.frame['tag']} at {event.place} of {node} on {socket.name} has another number"
-            said = [mark.removeprefix("row ") for it in frames if it.frame["tag"] in ANSWERS for mark in it.marks if mark.startswith("row ")]
-            rows = [fates.rows[it] for it in socket.judged if it.node == node and is_told_by_its_answer(it)]
-            if said != rows:
-                yield f"{name}: on {socket.name} {node} answered by the rows {rows}, and {said} are told"
+            answers = [it for it in frames if it.frame["tag"] in ANSWERS]
+            for event, judged in zip(answers, [it for it in socket.judged if it.node == node and is_told_by_its_answer(it)]):
+                said = [mark.removeprefix("row ") for mark in event.marks if mark.startswith("row ")]
+                if said != [fates.rows[judged]] and (said or event.frame["tag"] not in ("SERVER_IDENT", "SESSION_RESET")):
+                    yield f"{name}: on {socket.name} {node} answered by the row {fates.rows[judged]}, and {said} is told"
             left = [it for it in socket.flights if it.writer == node and not it.written and it.put]
             notes = [it for it in events if it.connection is connection and it.source == source and it.note and "isn't whole" in it.note]
             if len(left) != len(notes):
@@ -114,6 +119,98 @@ def written_again(run):
                         count += key in seen
                         seen.add(key)
     return count
+
+
+def address(kind, port, nonce):
+    """The bytes of an address of this kind on the loopback."""
+    text = bytearray(wire.Address((127, 0, 0, 1), port, nonce).text())
+    text[7:11] = kind.to_bytes(4, "little")
+    return bytes(text)
+
+
+def vector(*addresses):
+    return bytes([2]) + len(addresses).to_bytes(4, "little") + b"".join(addresses)
+
+
+HERE, THERE, KIND_3 = address(2, 7001, 1), address(2, 7002, 2), address(3, 0, 5)
+AUTH_OF_CEPH = bytes.fromhex("0108000000") + bytes(12)  # what real daemons write in AUTH_REQUEST without authentication
+OTHERWISE = [  # what a real daemon writes and this project's ends don't: the frame, whether its opener writes it, and what is told of it
+    (wire.framed(wire.HELLO, bytes([4]) + THERE), True, None),
+    (wire.framed(wire.AUTH_REQUEST, wire.le(1, 4) + wire.le(2, 4) + wire.le(2, 4) + wire.le(1, 4) + wire.le(17, 4) + AUTH_OF_CEPH), True, "a payload in AUTH_REQUEST"),
+    (wire.framed(wire.CLIENT_IDENT, vector(KIND_3) + THERE + wire.words(0, 1, 1, 0, 0, 7)), True, "an opener's is of kind 3"),
+    (wire.framed(wire.CLIENT_IDENT, vector(HERE, address(1, 7001, 1)) + THERE + wire.words(0, 1, 1, 0, 0, 7)), True, "addresses of kind v2, v1"),
+    (wire.framed(wire.SERVER_IDENT, vector(THERE) + wire.words(0, 1, 1, 0, 1, 8)), False, "a lossy flag of the acceptor and none of the opener"),
+    (wire.framed(wire.KEEPALIVE2, bytes(8)), True, "KEEPALIVE2, which the profile reads and never writes"),
+    (wire.message(42, 63, (b"front",), 1, 0), True, "a message of priority 63"),
+    (wire.framed(wire.RESET, bytes([1])), False, "a full reset between two daemons"),
+    (wire.framed(wire.AUTH_DONE, wire.le(0, 8) + wire.le(2, 4) + wire.le(0, 4)), False, "secure mode"),
+]
+
+
+def unlike_otherwise():
+    """What of frames that the profile hasn't isn't told by --check."""
+    sent, places = [], {True: 0, False: 0}
+    for moment, (is_opener, data) in enumerate([(True, wire.banner()), (False, wire.banner()), *((way, frame) for frame, way, _ in OTHERWISE)]):
+        ends = ("127.0.0.1:40000", "127.0.0.1:7002")[:: 1 if is_opener else -1]
+        if places[is_opener] == 0:
+            sent.append(packets.Packet(moment, *ends, 0, 2 if is_opener else 18, b""))
+        sent.append(packets.Packet(moment, *ends, 1 + places[is_opener], 16, data))
+        places[is_opener] += len(data)
+    gathered, story = packets.Gathered(), Story(FACTS, True)
+    for packet in sorted(sent, key=lambda it: (not it.syn, it.time)):
+        gathered.take(packet)
+    gathered.end()
+    found = [event for event in story.events(gathered.all, True) if event.frame and event.frame["tag"] != "BANNER"]
+    if len(found) != len(OTHERWISE):
+        yield f"--check: {len(OTHERWISE)} frames were written, and {len(found)} are told"
+    for event, (_, _, said) in zip(found, OTHERWISE):
+        if said is None and event.unlike or said and not any(said in it for it in event.unlike):
+            yield f"--check: of {event.frame['tag']} is told {event.unlike}, and {said!r} is due"
+
+
+def bad_inputs():
+    """Of each file that is no capture a part of the sentence that is due; of the words before it the same."""
+    with open(EXAMPLE, "rb") as it:
+        good = it.read()
+    scenario, frames = (os.path.join(TOP, "examples", *it) for it in (("first.scenario",), ("frames", "message.frames")))
+    with open(scenario, "rb") as one, open(frames, "rb") as other:
+        files = {
+            "it is empty": b"", "it is a scenario": one.read(), "a frame of msgr2.1": other.read(), "packed by gzip": b"\x1f\x8b\x08" + bytes(9),
+            "the banner of msgr2": wire.banner(), "the banner of msgr1": b"ceph v027" + bytes(40), "zero bytes": bytes(4096),
+            "no pcap or pcapng file": b"hello world\n", "what tcpdump prints": b"12:00:00.000001 IP 10.0.0.1.3300 > 10.0.0.2.41000: Flags [S]\n",
+            "a dump of bytes": b"00000000: 6365 7068 2076 320a  ceph v2.\n", "a trace of two records": b"a address 127.0.0.1:7001/1 no no yes no\n",
+            "a picture": b"<svg xmlns='x'>", "a record of TLS": b"\x16\x03\x01\x02\x00", "packed by xz": b"\xfd7zXZ\x00\x00",
+        }
+    try:
+        packets.load()
+        files |= {
+            "inside a packet": good[:1000], "damaged or cut short": good[:10], "link type 105": good[:20] + b"\x69\0\0\0" + good[24:],
+            "it ends inside": good[:32] + b"\xff\xff\xff\xff" + good[36:], "damaged or cut short: unknown": b"\n\r\r\n" + bytes(60),
+        }
+    except packets.BadCapture:
+        pass
+    words = {
+        "no message type": ["--type", "NOBODY"], "no tag": ["--tag", "NOBODY"], "invalid int value": ["--connection", "x"],
+        "invalid float value": ["--from", "x"], "unrecognized arguments": ["--nobody"], "--draw goes with": ["--draw", "--json"],
+        "isn't built": ["--program", "/nowhere"], "No such file": [os.path.join(TOP, "nowhere")],
+    }
+    return files, words
+
+
+def told_badly():
+    """Which bad input isn't answered by a sentence with status 2."""
+    files, words = bad_inputs()
+    program = os.path.join(TOP, "tools", "capture")
+    with tempfile.TemporaryDirectory() as room:
+        asked = [(said, [os.path.join(room, str(number))]) for number, said in enumerate(files)]
+        for (_, (name,)), data in zip(asked, files.values()):
+            with open(name, "wb") as out:
+                out.write(data)
+        asked += [(said, [*them, EXAMPLE][: len(them) + (them[0] != os.path.join(TOP, "nowhere"))]) for said, them in words.items()]
+        for said, them in [*asked, ("Is a directory", [room])]:
+            ran = subprocess.run([sys.executable, program, *(["--program", FACTS] if "--program" not in them else []), *them], capture_output=True, text=True)
+            if ran.returncode != 2 or said not in ran.stderr or len(ran.stderr.splitlines()) != 1:
+                yield f"capture {' '.join(them)}: status {ran.returncode} and {ran.stderr!r}, and one line with {said!r} is due"
 
 
 def main():
@@ -152,6 +249,7 @@ def main():
                 if it.read() != picture:
                     wrong.append(f"{PICTURE}: tools/capture --draw draws another picture")
         count += 1
+    wrong += [*unlike_otherwise(), *told_badly()]
     for it in wrong:
         print(it)
     print(f"captures: {count} runs are told as their traces have them" if not wrong else f"captures: {len(wrong)} are told otherwise")

@@ -8,9 +8,10 @@ import re
 import subprocess
 import tempfile
 
+import packets
 import wire
 
-BANNER, BANNER_OF_MSGR1, REVISION_1, SECURE, CLIENT = b"ceph v2\n", b"ceph v", 1, 2, 8
+BANNER, BANNER_OF_MSGR1, REVISION_1, SECURE, CLIENT, LOSSY = b"ceph v2\n", b"ceph v", 1, 2, 8, 1
 MOST_SEARCHED = 1 << 20  # bytes in which the first frame is looked for, where a connection began before the capture
 FAULTS = {  # of docs/FRAMES.md
     1: "the checksum of a preamble is wrong", 2: "a preamble has no segment, or more than four", 3: "the last segment is empty",
@@ -36,7 +37,7 @@ class Event:
 
     def __init__(self, time, connection, source, place=None, frame=None, note=None):
         self.time, self.connection, self.source, self.place, self.frame, self.note = time, connection, source, place, frame, note
-        self.session, self.marks, self.unlike = None, [], []
+        self.session, self.marks, self.unlike, self.row = None, [], [], None
 
     def words(self):
         """As one line."""
@@ -81,7 +82,10 @@ def facts_of(program, data):
         ran = subprocess.run([program, "--json", file.name], capture_output=True)
     if ran.returncode not in (0, 10):
         raise BadProgram(f"{program} ends with status {ran.returncode}: {ran.stderr.decode(errors='replace').strip()}")
-    frames = [json.loads(line) for line in ran.stdout.splitlines()]
+    try:
+        frames = [json.loads(line) for line in ran.stdout.splitlines()]
+    except ValueError:
+        raise BadProgram(f"{program} isn't the program frame_facts: what it prints are no objects of JSON") from None
     bad = re.fullmatch(rb"bad frames: place ([0-9]+) fault ([0-9]+)\n", ran.stderr)
     return frames, (int(bad[1]), int(bad[2])) if bad else None
 
@@ -196,11 +200,78 @@ class Session:
         self.counts[what] = self.counts.get(what, 0) + 1
 
 
+class Sides:
+    """What each node keeps of its session with each other one, as far as the capture tells: nothing; where it has asked for a session
+    and none is made yet, its client cookie; both cookies; or of a lossy session the connection. By it the rows of docs/PROTOCOL.md are
+    told by which an ident, or a reconnect that is answered by a reset, was judged."""
+
+    def __init__(self):
+        self.kept, self.at, self.connections = {}, {}, []  # by a node and its peer; the node that was last seen at an address
+
+    def name(self, address):
+        """A node by its address; where another one was there before, that is over."""
+        self.at[place_of(address)] = address
+        return address
+
+    def pass_ask(self, event, ask):
+        """Passes an ask, and keeps when it was written and by whom."""
+        ask["asked at"] = event.time
+        if ask["tag"] == "CLIENT_IDENT" and ask["addrs"] and not int(ask["flags"], 16) & LOSSY:
+            self.kept[self.name(ask["addrs"][0]), self.name(ask["target"])] = (ask["cookie"],)
+
+    def accepted(self, event, ask, answer):
+        """Passes a SERVER_IDENT, and gives the row of the ident that it answers; None where that isn't told."""
+        if not ask["addrs"] or not answer["addrs"]:
+            return None
+        one, other = self.name(answer["addrs"][0]), self.name(ask["addrs"][0])
+        had, cookies = self.kept.get((one, other)), (ask["cookie"], answer["cookie"])
+        if int(ask["flags"], 16) & LOSSY:
+            self.kept[one, other] = event.connection
+            return "lossy" if isinstance(had, packets.Connection) and is_open_at(had.ends[had.acceptor], ask["asked at"]) else "no_session"
+        self.kept[one, other] = self.kept[other, one] = cookies
+        if not isinstance(had, tuple):
+            return None if self.may_have_opened(event, one, other) else "no_session"
+        return "peer_wins" if len(had) == 1 else "same_client" if had[0] == ask["cookie"] else "another_client"
+
+    def may_have_opened(self, event, one, other):
+        """The one node may have begun a session with the other one of which no ask is seen."""
+        ip = place_of(one).rpartition(":")[0]
+        return any(it.acceptor == place_of(other) and it.opener.rpartition(":")[0] == ip and it.time <= event.time for it in self.connections)
+
+    def resumed(self, event, ask):
+        one, other = self.ends(event, ask)
+        self.kept[one, other] = self.kept[other, one] = (ask["client_cookie"], ask["server_cookie"])
+
+    def reset(self, event, ask):
+        """Passes a SESSION_RESET, and gives the row of the reconnect that it answers; None where that isn't told."""
+        one, other = self.ends(event, ask)
+        had, asked = self.kept.get((one, other)), (ask["client_cookie"], ask["server_cookie"])
+        if not isinstance(had, tuple) or had == asked:  # what it has answered before by these cookies it has no more
+            self.kept[one, other] = None
+            return None if self.may_have_opened(event, one, other) else "no_session"
+        return "another_client" if had[0] != asked[0] else "another_server" if len(had) == 2 else "never_established"
+
+    def ends(self, event, ask):
+        """The node that answers, and the one that has asked."""
+        connection = event.connection
+        return self.at.get(connection.acceptor, connection.acceptor), self.name(ask["addrs"][0]) if ask["addrs"] else connection.opener
+
+
+def place_of(address):
+    """The IP and port of an address that the facts of a frame have."""
+    return address.split(":", 1)[-1].rpartition("/")[0]
+
+
+def is_open_at(direction, time):
+    """That end hadn't closed by then."""
+    return all(it is None or it >= time for it in (direction.fin, direction.rst))
+
+
 class Sessions:
     """Which session each connection carries, and what of its messages and acknowledgements isn't in order."""
 
     def __init__(self):
-        self.all, self.by_cookies, self.of, self.asked, self.nodes, self.last = [], {}, {}, {}, {}, {}
+        self.all, self.by_cookies, self.of, self.asked, self.nodes, self.last, self.sides = [], {}, {}, {}, {}, {}, Sides()
 
     def pass_frame(self, event):
         """Gives the event its session and its marks."""
@@ -208,7 +279,8 @@ class Sessions:
         if "fault" in frame:
             return
         if tag in ASKS:
-            self.asked[connection] = frame
+            frame = self.asked[connection] = dict(frame)
+            self.sides.pass_ask(event, frame)
             self.nodes[connection, event.source] = (frame["addrs"] or ["?"])[0]
             if tag == "SESSION_RECONNECT":
                 event.marks.append(f"wants to go on, has accepted up to {frame['seen']}")
@@ -225,7 +297,8 @@ class Sessions:
 
     def answered(self, event, tag, frame, ask):
         connection, source = event.connection, event.source
-        row = ROWS.get((ask["tag"], tag))
+        row = self.row(event, tag, frame, ask)
+        event.row = row
         event.marks += [f"row {row}"] if row else []
         if tag == "SERVER_IDENT":
             self.nodes[connection, source] = (frame["addrs"] or ["?"])[0]
@@ -243,6 +316,16 @@ class Sessions:
                 event.session.count({"SESSION_RESET": "reset", "WAIT": "told to wait"}.get(tag, "told to try again"))
             if tag == "SESSION_RESET":
                 event.marks.append("what is thrown away: all" if frame["full"] else "what is thrown away: the numbers")
+
+    def row(self, event, tag, frame, ask):
+        """The row of docs/PROTOCOL.md by which an ask is answered so; None where nothing tells it."""
+        if tag == "SERVER_IDENT" and ask["tag"] == "CLIENT_IDENT":
+            return self.sides.accepted(event, ask, frame)
+        if tag == "SESSION_RESET" and ask["tag"] == "SESSION_RECONNECT":
+            return self.sides.reset(event, ask)
+        if tag == "SESSION_RECONNECT_OK" and ask["tag"] == "SESSION_RECONNECT":
+            self.sides.resumed(event, ask)
+        return ROWS.get((ask["tag"], tag))
 
     def begin(self, cookies):
         session = Session(len(self.all), cookies)
@@ -278,10 +361,13 @@ class Sessions:
 # ---- what this project's own ends wouldn't write
 
 
-def unlike(frame, is_of_client):
-    """In what a frame is otherwise than docs/PROTOCOL.md has an end write it; on a connection of a client, or of two daemons."""
+def unlike(frame, is_of_client, ask=None):
+    """In what a frame is otherwise than docs/PROTOCOL.md has an end write it; on a connection of a client, or of two daemons, behind the
+    ask that was written there last."""
     tag = frame["tag"]
-    if "fault" in frame:
+    if frame.get("fault") == "address-no-msgr2":
+        yield "no address of msgr2 over IPv4, as where an opener's is of kind 3; the profile refuses it"
+    elif "fault" in frame:
         yield f"its payload can't be read: {frame['fault']}"
     if tag == "AUTH_REQUEST" and frame.get("payload", "-") not in ("-", ""):
         yield "a payload in AUTH_REQUEST; the profile writes none"
@@ -293,6 +379,9 @@ def unlike(frame, is_of_client):
             yield f"addresses of kind {', '.join(kinds) or 'none'}; the profile has one of kind v2"
     if tag == "CLIENT_IDENT" and frame.get("target", "v2").split(":")[0] != "v2":
         yield f"a target of kind {frame['target'].split(':')[0]}"
+    if tag == "SERVER_IDENT" and ask and "flags" in ask and (int(ask["flags"], 16) ^ int(frame.get("flags", ask["flags"]), 16)) & LOSSY:
+        ends = ("opener", "acceptor") if int(ask["flags"], 16) & LOSSY else ("acceptor", "opener")
+        yield f"a lossy flag of the {ends[0]} and none of the {ends[1]}; the profile takes no session whose two ends disagree"
     if tag == "SESSION_RESET" and frame.get("full") and not is_of_client:
         yield "a full reset between two daemons; the profile resets a lossless peer's session in part"
     if tag == "MESSAGE" and not 64 <= frame.get("priority", 64) <= 255:
@@ -314,7 +403,7 @@ class Story:
         self.opened, self.closed, self.counts, self.clients = set(), set(), {}, set()
 
     def events(self, connections, is_last):
-        found = []
+        found, self.sessions.sides.connections = [], connections
         for connection in connections:
             if connection not in self.opened:
                 self.opened.add(connection)
@@ -338,7 +427,8 @@ class Story:
                 self.sessions.pass_frame(event)
                 if event.frame.get("entity") == CLIENT:
                     self.clients.add(event.connection)
-                event.unlike = list(unlike(event.frame, event.connection in self.clients)) if self.is_checked else []
+                if self.is_checked:
+                    event.unlike = list(unlike(event.frame, event.connection in self.clients, self.sessions.asked.get(event.connection)))
                 key = event.connection, event.source
                 self.counts[key] = self.counts.get(key, 0) + 1
         return found

@@ -1,14 +1,19 @@
 """The TCP connections of a capture, each direction put in order.
 
-`packets_of(file)` reads a pcap or pcapng file, or a pipe of one, by dpkt (Debian's package python3-dpkt), and gives the packets
+`packets_of(Input(file))` reads a pcap or pcapng file, or a pipe of one, by dpkt (Debian's package python3-dpkt), and gives the packets
 of TCP; `Gathered` puts them together. Packets may be framed as Ethernet, with VLANs, as Linux's cooked ones of either version,
 as BSD's loopback, or be bare IP; IPv4 and IPv6.
 """
 import bisect
+import select
 import sys
+
+from file_kinds import FIRST, kind_of
 
 DEBIAN = "/usr/lib/python3/dist-packages"  # where Debian's packages lie, for a Python that isn't Debian's
 WINDOW, ALL = 1 << 31, 1 << 32  # of sequence numbers of TCP
+HEAD, MOST_AT_ONCE = 64, 1 << 20  # bytes that tell a capture; that are read at once
+LINKS = (0, 1, 12, 14, 101, 108, 113, 228, 229, 276)  # the numbers of tcpdump.org of the kinds of packets that are read
 
 
 class BadCapture(Exception):
@@ -44,12 +49,54 @@ def address(ip, port):
     return f"[{ipaddress.IPv6Address(ip)}]:{port}"
 
 
+class Input:
+    """The bytes of a file or a pipe: each read gives as many as it asks for, but at the end. The first ones can be read again."""
+
+    def __init__(self, file):
+        self.file, self.waiting, self.given = file, file.read(FIRST) or b"", b""
+        self.is_cut, self.ended = False, False  # it has ended inside what was asked for
+        while 0 < len(self.waiting) < HEAD and (more := file.read(HEAD)):
+            self.waiting += more
+        self.first = self.waiting
+
+    def read(self, size):
+        parts, left = [], max(size, 0)
+        while left:
+            if not self.waiting:
+                self.waiting = self.file.read(max(FIRST, min(left, MOST_AT_ONCE)))
+                if not self.waiting:
+                    break
+            parts.append(self.waiting[:left])
+            self.waiting = self.waiting[left:]
+            left -= len(parts[-1])
+        found = b"".join(parts)
+        if len(self.given) < HEAD:
+            self.given += found
+        if len(found) < size:
+            self.is_cut, self.ended = self.ended or bool(found), True
+        return found
+
+    def seek(self, place):
+        """Back to the front, from somewhere in the first bytes: dpkt tries one form of captures, and then another one."""
+        self.waiting, self.given = self.given + self.waiting, b""
+        self.is_cut = self.ended = False
+
+    def is_dry(self):
+        """Nothing more has come by now."""
+        return not self.waiting and not select.select([self.file], [], [], 0)[0]
+
+
 def packets_of(file):
-    """The packets of TCP of a capture; what is none is passed over."""
+    """The packets of TCP of an Input that is a capture; what is none is passed over."""
+    kind = kind_of(file.first)
+    if kind is None or "capture of packets" not in kind:
+        raise BadCapture(f"it is no pcap or pcapng file{': ' if kind else ''}{kind or ''}")
     dpkt = load()
     try:
         reader = dpkt.pcap.UniversalReader(file)
         link = reader.datalink()
+        if link not in LINKS:
+            raise BadCapture(f"its packets are those of link type {link}, and only Ethernet, Linux's cooked ones, loopback and bare IP are read")
         first = None
         for time, data in reader:
             first = time if first is None else first
@@ -57,8 +104,12 @@ def packets_of(file):
             if packet:
                 ip, tcp = packet
                 yield Packet(float(time - first), address(ip.src, tcp.sport), address(ip.dst, tcp.dport), tcp.seq, tcp.flags, bytes(tcp.data))
-    except (ValueError, dpkt.dpkt.Error) as wrong:
-        raise BadCapture(f"it is no pcap or pcapng file, or is cut short: {wrong}") from None
+        if file.is_cut:
+            raise BadCapture("it ends inside a packet")
+    except (OSError, BadCapture):
+        raise
+    except Exception as wrong:  # dpkt has no one kind of them for a bad file
+        raise BadCapture(f"the capture is damaged or cut short: {wrong or type(wrong).__name__}") from None
 
 
 def tcp_of(dpkt, link, data):
@@ -74,7 +125,7 @@ def tcp_of(dpkt, link, data):
             ip = (dpkt.ip6.IP6 if data[:1] and data[0] >> 4 == 6 else dpkt.ip.IP)(data)
         if isinstance(ip, (dpkt.ip.IP, dpkt.ip6.IP6)) and isinstance(ip.data, dpkt.tcp.TCP):
             return ip, ip.data
-    except (dpkt.dpkt.Error, ValueError, IndexError):
+    except Exception:  # a damaged packet is one of no TCP
         pass
     return None
 

@@ -10,7 +10,7 @@ use Rattle.m2_control.specs.declared.fault.ControlFault.{ControlFault}
 use Rattle.m2_control.specs.Control.{Spells, payload_of, tag_of}
 use Rattle.m2_control.proofs.Payloads.{payload_found}
 use Rattle.m2_message.specs.declared.header_text.TheConstants.{HEADER_BYTES}
-use Rattle.m2_message.specs.HeaderText.{header_in, header_text}
+use Rattle.m2_message.specs.HeaderText.{header_in}
 use Rattle.m2_message.proofs.Headers.{header_text-header_in}
 use Rattle.m2_facts.specs.declared.facts.Facts.{Facts}
 use Rattle.m2_facts.specs.declared.facts.Facts.TheVariants as facts

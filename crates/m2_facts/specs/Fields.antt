@@ -27,13 +27,14 @@ use Rattle.m2_control.specs.declared.ack.Ack.{Ack}
 use Rattle.m2_facts.specs.declared.facts.Facts.{Facts}
 use Rattle.m2_facts.specs.declared.facts.Facts.TheVariants as facts
 use Rattle.m2_facts.specs.declared.facts.MessageFacts.{MessageFacts}
+use Rattle.m2_facts.specs.MessageType.{name_of_type}
 use Rattle.m2_facts.specs.Value.{Said, number, signed, flag, bits, bytes, numbers, place, places, word, ipv4, place_of, Told}
 
 abbrev pub field : List ℕ → Said → Told
 field name said = record { name = name; said = said }
 
 abbrev pub message_fields : MessageFacts → List Told
-message_fields p = field (codes "type") (number p.header.kind) ∷ field (codes "seq") (number p.header.seq) ∷ field (codes "tid") (number p.header.tid) ∷ field (codes "priority") (number p.header.priority) ∷ field (codes "ack") (number p.header.ack_seq) ∷ field (codes "front") (number p.front) ∷ field (codes "middle") (number p.middle) ∷ field (codes "data") (number p.data_bytes) ∷ []
+message_fields p = field (codes "type") (number p.header.kind) ∷ field (codes "name") (word (name_of_type p.header.kind)) ∷ field (codes "seq") (number p.header.seq) ∷ field (codes "tid") (number p.header.tid) ∷ field (codes "priority") (number p.header.priority) ∷ field (codes "ack") (number p.header.ack_seq) ∷ field (codes "front") (number p.front) ∷ field (codes "middle") (number p.middle) ∷ field (codes "data") (number p.data_bytes) ∷ []
 
 abbrev pub hello_fields : Hello → List Told
 hello_fields p = field (codes "entity") (number p.entity) ∷ field (codes "seen") (place (place_of p.seen)) ∷ []
@@ -113,7 +114,7 @@ address_word address.BadLength = codes "address-bad-length"
 address_word address.NotIpv4 = codes "address-not-ipv4"
 address_word address.NoMsgr2 = codes "address-no-msgr2"
 address_word address.TooMany = codes "address-too-many"
-address_word address.NoMemory = codes "no-memory"
+address_word address.NoMemory = codes "address-no-memory"
 
 abbrev pub fault_field : List ℕ → Told
 fault_field why = field (codes "fault") (word why)

@@ -3,6 +3,8 @@ pub mod Fields
 pub mod Header
 pub mod Laws
 pub mod Line
+pub mod MessageType
+pub mod ReadOnce
 pub mod Value
 pub use Rattle.m2_frame.specs as m2_frame
 pub use Rattle.m2_control.specs as m2_control

@@ -6,6 +6,7 @@ ghost use Rattle.m2_facts.specs.Line.{banner_fields};
 ghost use Rattle.m2_facts.specs.Fields.{message_fields, hello_fields, auth_request_fields, auth_bad_method_fields, auth_done_fields, auth_signature_fields, client_ident_fields, server_ident_fields, ident_missing_features_fields, session_reconnect_fields, session_reset_fields, session_retry_fields, session_retry_global_fields, session_reconnect_ok_fields, wait_fields, keepalive_fields, keepalive_ack_fields, ack_fields, control_fields, address_word, fault_at_fields, bad_value_fields, fault_field, fault_fields, aborted_fields, fields_of};
 
 use crate::facts::{Facts, MessageFacts};
+use crate::message_type::name_of_type;
 use crate::style::Style;
 use crate::value::{Field, Value, put_fields};
 use m2_addr::AddrFault;
@@ -26,6 +27,10 @@ fn put_message(out: &mut Blob, style: Style, p: &MessageFacts) -> Result<(), NoM
             Field {
                 name: "type",
                 value: Value::Number(u64::from(p.header.kind)),
+            },
+            Field {
+                name: "name",
+                value: Value::Word(name_of_type(p.header.kind)),
             },
             Field {
                 name: "seq",
@@ -443,7 +448,7 @@ fn address_word(fault: AddrFault) -> &'static str
         AddrFault::NotIpv4 => "address-not-ipv4",
         AddrFault::NoMsgr2 => "address-no-msgr2",
         AddrFault::TooMany => "address-too-many",
-        AddrFault::NoMemory => "no-memory",
+        AddrFault::NoMemory => "address-no-memory",
     }
 }
 

@@ -11,10 +11,11 @@ mod fields;
 mod header;
 mod laws;
 mod line;
+mod message_type;
 mod style;
 mod value;
 
 pub use facts::{Facts, MessageFacts, facts_of};
-pub use laws::facts_are_read_back;
+pub use laws::{facts_are_read_back, lines_are_read_in_one_way};
 pub use line::{put_aborted_line, put_banner_line, put_frame_line};
 pub use style::Style;
