@@ -9,6 +9,7 @@ use Rattle.m2_scenario.specs.Report.{report_of}
 use Rattle.m2_scenario.specs.declared.line.Line.{Line}
 use Rattle.m2_scenario.specs.Draft.{Draft, draft_line}
 use Rattle.m2_scenario.specs.Valid.{IsSound}
+use Rattle.m2_scenario_text.specs.Flaw.{kind_of}
 use Rattle.m2_scenario_text.specs.Reading.{At, text_read}
 use Rattle.m2_script.specs.Outcome.{all_heard, left_in}
 use Rattle.m2_script.specs.Script.{RunNow}
@@ -23,7 +24,7 @@ pub record BadAt : Type 0 where
 
 abbrev pub judged : Result Draft At → Result Draft BadAt
 judged (Ok d) = Ok d
-judged (Err at) = Err (record { line = at.line; kind = number_of_kind at.kind })
+judged (Err at) = Err (record { line = at.line; kind = number_of_kind (kind_of at.flaw.wanted) })
 
 -- the scenario that a file's bytes make, by the language of `sim`
 abbrev pub scenario_in : List ℕ → Result Draft BadAt

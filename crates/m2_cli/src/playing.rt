@@ -71,7 +71,7 @@ where
 {
     match read(alloc, bytes, true) {
         Ok(scenario) => play_scenario(rt, alloc, scenario, fabric, clock, words, gate),
-        Err(BadScenario::BadLine { line, kind }) => refuse(alloc, line, kind.number()),
+        Err(BadScenario::BadLine { line, flaw }) => refuse(alloc, line, flaw.kind().number()),
         Err(BadScenario::NoMemory) => Err(NoMemory),
     }
 }

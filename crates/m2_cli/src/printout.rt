@@ -47,7 +47,7 @@ fn prepare_bytes(alloc: Global, bytes: &[u8]) -> Result<Printout, NoMemory>
 {
     match read(alloc, bytes, false) {
         Ok(scenario) => prepare_scenario(alloc, scenario),
-        Err(BadScenario::BadLine { line, kind }) => refuse(alloc, line, kind.number()),
+        Err(BadScenario::BadLine { line, flaw }) => refuse(alloc, line, flaw.kind().number()),
         Err(BadScenario::NoMemory) => Err(NoMemory),
     }
 }

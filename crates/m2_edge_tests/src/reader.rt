@@ -16,7 +16,7 @@ fn answer(rt: &impl Abort, alloc: Global, rest: &[u8], run: bool) -> (u32, u8) {
     text.extend_from_slice(rest).expect(rt, "memory");
     match read(alloc, text.as_slice(), run) {
         Ok(_) => (0, 0),
-        Err(BadScenario::BadLine { line, kind }) => (line, kind.number()),
+        Err(BadScenario::BadLine { line, flaw }) => (line, flaw.kind().number()),
         Err(BadScenario::NoMemory) => panic!(rt; "no memory"),
     }
 }

@@ -32,5 +32,5 @@ pub record IsTraceOf (text trace : Word) : Type 0 where
 -- Ok: the text is a scenario, and has this trace. BadLine: its first bad line.
 abbrev pub Traces : Result Contents Untraced → List ℕ → Type 0
 Traces (Ok trace) bytes = IsTraceOf bytes trace.bytes
-Traces (Err (untraced.BadLine line k)) bytes = text_read false bytes ≡ Err (record { line = line; kind = k })
+Traces (Err (untraced.BadLine line f)) bytes = text_read false bytes ≡ Err (record { line = line; flaw = f })
 Traces (Err untraced.NoMemory) bytes = Unit {0}

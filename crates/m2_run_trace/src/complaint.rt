@@ -16,7 +16,7 @@ pub(crate) fn complaint(alloc: Global, why: Untraced) -> Result<Blob, NoMemory>
 {
     let mut text = Blob::empty(alloc);
     match why {
-        Untraced::BadLine { line, kind } => put_bad(&mut text, line, kind)?,
+        Untraced::BadLine { line, flaw } => put_bad(&mut text, line, flaw.kind())?,
         Untraced::NoMemory => return Err(NoMemory),
     }
     Ok(text)

@@ -13,16 +13,16 @@ use crate::stage::{MemoryRun, Scene, Stage};
 use m2_bytes::{Blob, NoMemory};
 use m2_fabric::{CutPort, SimFabric, SimPort};
 use m2_promise::first_can_be_done;
-use m2_scenario::{Kind, Line, LineList, Link, Node, Scenario};
-use m2_scenario_text::{BadScenario, read};
+use m2_scenario::{Line, LineList, Link, Node, Scenario};
+use m2_scenario_text::{BadScenario, Flaw, read};
 use m2_script::{Run, addresses, clear_all, cluster_of};
 use std::alloc::Global;
 
 /// Why a text has no trace.
-#[derive(Clone, Copy, Debug, PartialEq, Eq)]
+#[derive(Clone, Copy, Debug)]
 pub enum Untraced {
     /// Its first bad line, in this way.
-    BadLine { line: u32, kind: Kind },
+    BadLine { line: u32, flaw: Flaw },
     NoMemory,
 }
 
@@ -36,7 +36,7 @@ pub fn trace(alloc: Global, bytes: &[u8]) -> Result<Blob, Untraced>
             Ok(text) => Ok(text),
             Err(NoMemory) => Err(Untraced::NoMemory),
         },
-        Err(BadScenario::BadLine { line, kind }) => Err(Untraced::BadLine { line, kind }),
+        Err(BadScenario::BadLine { line, flaw }) => Err(Untraced::BadLine { line, flaw }),
         Err(BadScenario::NoMemory) => Err(Untraced::NoMemory),
     }
 }

@@ -1,4 +1,5 @@
 pub mod FirstWord
+pub mod Flaw
 pub mod Form
 pub mod Lines
 pub mod LinkLine

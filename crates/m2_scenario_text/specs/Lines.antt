@@ -6,6 +6,7 @@ use Rattle.m2_message.specs.declared.message.Message.{Message}
 use Rattle.m2_message.specs.Message.{Content, content_of}
 use Rattle.m2_policy.specs.Policy.{allows}
 use Rattle.m2_scenario.specs.Valid.{are_short}
+use Rattle.m2_scenario_text.specs.Flaw.{kind_alone}
 use Rattle.m2_scenario_text.specs.PlanLines.{message_of}
 use Rattle.m2_scenario_text.specs.Vocabulary.{policy_of}
 use Rattle.m2_scenario_text.specs.declared.lines.TheConstants.{MOST_THROTTLE}
@@ -20,7 +21,7 @@ use Rattle.m2_scenario.specs.declared.kind.Kind.{Kind}
 use Rattle.m2_scenario.specs.declared.kind.Kind.TheVariants as kind
 use Rattle.m2_scenario.specs.declared.kind.LineFault.{LineFault}
 use Rattle.m2_scenario.specs.declared.kind.LineFault.TheVariants as flaw
-use Rattle.m2_scenario.specs.Steps.{◌>>=◌, check}
+use Rattle.m2_scenario.specs.Steps.{◌>>=◌, check, or_kind}
 use Rattle.m2_scenario.specs.Text.{Word, word}
 use Rattle.m2_scenario.specs.Word.{number_of, bytes_of}
 
@@ -43,8 +44,8 @@ wire_of w = number_of kind.Number 1 4294967295 w
 unfoldable pub facts_of : List Word → Result PairFacts Kind
 facts_of ws = do
   throttle ← number_of kind.Number 1 MOST_THROTTLE (word ws 2)
-  of_a ← policy_of (word ws 0)
-  of_b ← policy_of (word ws 1)
+  of_a ← or_kind kind.Policy (policy_of (word ws 0))
+  of_b ← or_kind kind.Policy (policy_of (word ws 1))
   _ ← check kind.Policy (allows of_a of_b)
   Ok (record { of_a = of_a; of_b = of_b; throttle = throttle })
 
@@ -61,7 +62,7 @@ pair_line d ws = do
 unfoldable pub post_deed : Bool → List Word → Result Deed Kind
 post_deed paired ws = do
   _ ← check kind.Words (length ws == 6)
-  message ← message_of (drop 1 ws)
+  message ← kind_alone (message_of 1 (drop 1 ws))
   side ← side_of paired (word ws 0)
   _ ← check kind.Limit (are_short message)
   Ok (post side message)
@@ -143,3 +144,8 @@ abbrev pub DeedRead : Result Instruction LineFault → Result Deed Kind → Type
 DeedRead (Ok i) asked = asked ≡ Ok (deed_of i)
 DeedRead (Err (flaw.Bad k)) asked = asked ≡ Err k
 DeedRead (Err flaw.NoMemory) asked = Unit {0}
+
+abbrev pub MessageTaken : Result Message LineFault → Result Content Kind → Type 0
+MessageTaken (Ok m) asked = asked ≡ Ok (content_of m)
+MessageTaken (Err (flaw.Bad k)) asked = asked ≡ Err k
+MessageTaken (Err flaw.NoMemory) asked = Unit {0}

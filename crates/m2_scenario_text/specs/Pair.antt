@@ -1,22 +1,22 @@
 -- The nodes that a line names, by their places among the nodes above, from 0.
 use Rattle.std.specs.Prelude.{◌≡◌, ℕ, ◌<◌, true, List, length, position, Result, Ok}
-use Rattle.m2_scenario.specs.declared.kind.Kind.{Kind}
-use Rattle.m2_scenario.specs.declared.kind.Kind.TheVariants as kind
-use Rattle.m2_scenario.specs.Steps.{◌>>=◌, check, or_kind}
 use Rattle.m2_scenario.specs.Text.{Word}
 use Rattle.m2_scenario.specs.declared.node.Node.{Node}
 use Rattle.m2_scenario.specs.Draft.{Draft, is_named, are_joined}
+use Rattle.m2_scenario_text.specs.declared.flaw.Flaw.{Flaw}
+use Rattle.m2_scenario_text.specs.declared.flaw.Wanted.TheVariants as wanted
+use Rattle.m2_scenario_text.specs.Flaw.{◌>>=◌, or_want, want}
 
--- the place of the node of this name
-abbrev pub place_of : List Node → Word → Result ℕ Kind
-place_of nodes name = or_kind kind.NoNode (position (is_named name) nodes)
+-- the place of the node of this name, which is the word behind the first one and so many others
+abbrev pub place_of : ℕ → List Node → Word → Result ℕ Flaw
+place_of behind nodes name = or_want behind wanted.NodeAbove (position (is_named name) nodes)
 
--- two nodes above with a link between them
-unfoldable pub pair_of : Draft → Word → Word → Result (ℕ × ℕ) Kind
+-- two nodes above with a link between them, which are the first two words behind the first
+unfoldable pub pair_of : Draft → Word → Word → Result (ℕ × ℕ) Flaw
 pair_of d first second = do
-  a ← place_of d.nodes first
-  b ← place_of d.nodes second
-  _ ← check kind.Link (are_joined d.links a b)
+  a ← place_of 0 d.nodes first
+  b ← place_of 1 d.nodes second
+  _ ← want 1 wanted.LinkedNode (are_joined d.links a b)
   Ok (a, b)
 
 -- two places of nodes that are joined

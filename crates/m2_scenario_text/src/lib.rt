@@ -1,8 +1,8 @@
 //! The readers of scenario files, and of schedules, by which two records of a pair are driven for a trace.
 //!
-//! What it is: [`read`], the scenario of a text or its first bad line with its kind (docs/SCENARIOS.md has every form
-//! of line); [`FirstWord`], what a line is about, and [`Form`], which lines a file may have, for callers that look at a
-//! text themselves; and [`read_schedule`], the [`Schedule`] of a text, the two sides' policies and what is to be done,
+//! What it is: [`read`], the scenario of a text or its first bad line with its [`Flaw`], the place in it and what is
+//! [`Wanted`] there (docs/SCENARIOS.md has every form of line); [`FirstWord`], what a line is about, and [`Form`], which
+//! lines a file may have, for callers that look at a text themselves; and [`read_schedule`], the [`Schedule`] of a text, the two sides' policies and what is to be done,
 //! line by line (docs/PROTOCOL.md has every form). Each form of line has a reader, which judges the line's words in the
 //! order of the kinds, and those of scenarios push what they say onto a draft. What it isn't: words, scenarios
 //! (`m2_scenario`), a run of one, or the driving of two records (`m2_record_trace`).
@@ -11,6 +11,7 @@
 mod bad_scenario;
 mod bad_schedule;
 mod first_word;
+mod flaw;
 mod form;
 mod lines;
 mod link_line;
@@ -29,6 +30,7 @@ mod vocabulary;
 pub use bad_scenario::BadScenario;
 pub use bad_schedule::BadSchedule;
 pub use first_word::FirstWord;
+pub use flaw::{Flaw, Place, Wanted};
 pub use form::Form;
 pub use plan_lines::{LEAST_PRIORITY, MOST_PRIORITY};
 pub use reading::{MOST_BYTES, read};

@@ -2,15 +2,22 @@
 
 ghost use Rattle.std.specs.Prelude.{◌≡◌, ◌≤◌, IfOk, length, drop};
 ghost use Rattle.std.specs.Option.{is_some};
-ghost use Rattle.m2_scenario_text.specs.Lines.{DeedRead, IsTimed, Takes, deed_by, facts_of, fault_deed, flow_deed, now_of, pair_line, post_deed, side_alone, side_at, side_of, tell_deed, wire_of};
+ghost use Rattle.m2_scenario.specs.Steps.{or_kind};
+ghost use Rattle.m2_scenario.specs.declared.kind.Kind.TheVariants as kind;
+ghost use Rattle.m2_scenario_text.specs.Flaw.{kind_alone};
+ghost use Rattle.m2_scenario_text.specs.PlanLines.{message_of};
+ghost use Rattle.m2_scenario_text.specs.Vocabulary.{policy_of};
+ghost use Rattle.m2_scenario_text.specs.Lines.{DeedRead, IsTimed, MessageTaken, Takes, deed_by, facts_of, fault_deed, flow_deed, now_of, pair_line, post_deed, side_alone, side_at, side_of, tell_deed, wire_of};
 ghost use Rattle.m2_scenario_text.specs.Schedule.{draft_of};
 ghost use Rattle.m2_scenario.specs.Text.{word};
 
+use crate::flaw::LineFlaw;
 use crate::plan_lines::{are_short, message_of};
 use crate::schedule::{Instruction, PairFacts, Schedule, SideName};
 use crate::verb::Verb;
 use crate::vocabulary::policy;
-use m2_policy::is_allowed;
+use m2_message::Message;
+use m2_policy::{Policy, is_allowed};
 use m2_scenario::{Kind, LineFault, Words, check, read_bytes, read_number};
 use std::alloc::Global;
 
@@ -44,6 +51,15 @@ fn wire(word: &[u8]) -> Result<u32, Kind>
     Ok(read_number(Kind::Number, 1, 4_294_967_295, word)? as u32)
 }
 
+fn policy_named(word: &[u8]) -> Result<Policy, Kind>
+    ensures { result ≡ or_kind kind.Policy (policy_of word.now) }
+{
+    match policy(word) {
+        Some(policy) => Ok(policy),
+        None => Err(Kind::Policy),
+    }
+}
+
 #[tactic(auto, unfolding(crate::specs::Lines::facts_of))]
 fn facts(mut words: Words<'_>) -> Result<PairFacts, Kind>
     requires { length words ≡ 3 }
@@ -52,8 +68,8 @@ fn facts(mut words: Words<'_>) -> Result<PairFacts, Kind>
     let first = words.take();
     let second = words.take();
     let throttle = read_number(Kind::Number, 1, MOST_THROTTLE, words.take())?;
-    let of_a = policy(first)?;
-    let of_b = policy(second)?;
+    let of_a = policy_named(first)?;
+    let of_b = policy_named(second)?;
     check(Kind::Policy, is_allowed(&of_a, &of_b))?;
     Ok(PairFacts {
         of_a,
@@ -74,6 +90,18 @@ pub(crate) fn pair_line(draft: &mut Schedule, words: Words<'_>) -> Result<(), Li
     Ok(())
 }
 
+/// The message of a post's last five words.
+fn message(alloc: Global, words: Words<'_>) -> Result<Message, LineFault>
+    requires { length words ≡ 5 }
+    ensures { MessageTaken result (kind_alone (message_of 1 words.entry)) }
+{
+    match message_of(alloc, 1, words) {
+        Ok(message) => Ok(message),
+        Err(LineFlaw::Bad(flaw)) => Err(LineFault::Bad(flaw.kind())),
+        Err(LineFlaw::NoMemory) => Err(LineFault::NoMemory),
+    }
+}
+
 /// `post SIDE KIND PRIORITY FRONT MIDDLE DATA`
 #[tactic(auto, unfolding(crate::specs::Lines::post_deed))]
 fn post(alloc: Global, paired: bool, mut words: Words<'_>) -> Result<Instruction, LineFault>
@@ -81,7 +109,7 @@ fn post(alloc: Global, paired: bool, mut words: Words<'_>) -> Result<Instruction
 {
     check(Kind::Words, words.len() == 6)?;
     let first = words.take();
-    let message = message_of(alloc, words)?;
+    let message = message(alloc, words)?;
     let side = side(paired, first)?;
     check(Kind::Limit, are_short(&message))?;
     Ok(Instruction::Post { side, message })

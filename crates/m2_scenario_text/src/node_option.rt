@@ -1,13 +1,13 @@
 //! The options of a node: the table of them, and what each sets.
 
-ghost use Rattle.std.specs.Prelude.{◌≡◌, ◌≤◌, ◌∷◌, true, Ok, Err, OnOk, MatchResult, length};
-ghost use Rattle.std.specs.List.{list_any};
+ghost use Rattle.std.specs.Prelude.{◌≡◌, ◌<◌, ◌≤◌, ◌∷◌, Ok, Err, OnOk, MatchResult, length};
 ghost use Rattle.m2_scenario.specs.Text.{word};
 ghost use Rattle.m2_scenario.specs.Valid.{HasCenters};
-ghost use Rattle.m2_scenario_text.specs.NodeOption.{row_of, number_of_option, repeats, are_once, options_in, with_option, set_option, set_options, OptionsRead};
+ghost use Rattle.m2_scenario_text.specs.NodeOption.{row_of, number_of_option, repeats, is_once, are_once, options_in, with_option, set_option, set_options, OptionsRead};
 
+use crate::flaw::{Flaw, LineFlaw, Wanted, number, want};
 use crate::vocabulary::kinds;
-use m2_scenario::{Kind, LineFault, MOST_CENTERS, Node, Words, read_number};
+use m2_scenario::{MOST_CENTERS, Node, Words};
 use std::alloc::Global;
 
 /// What an option sets.
@@ -80,6 +80,10 @@ fn table_row(option: NodeOption, words: usize, times: Times) -> OptionRow
 #[derive(Debug, Drop)]
 pub(crate) struct GivenOption<'a> {
     pub row: OptionRow,
+    /// How many words stand between the first of the line and its name.
+    pub named_at: usize,
+    /// How many stand between the first of the line and its own first.
+    pub said_at: usize,
     pub words: Words<'a>,
 }
 
@@ -106,60 +110,74 @@ impl<'a> GivenOption<'a> {
     }
 }
 
-// Whether an option is repeated by one of these.
-fn is_repeated<'a>(option: &GivenOption<'a>, later: &[GivenOption<'a>]) -> bool
-    ensures { result ≡ list_any (repeats option.now) later.now }
+// Err where one of these repeats the option.
+fn is_once<'a>(option: &GivenOption<'a>, later: &[GivenOption<'a>]) -> Result<(), Flaw>
+    ensures { result ≡ is_once option.now later.now }
 {
-    later.iter().any(|other| option.repeats(other))
+    let mut rest = later;
+    'later: while let [first, more @ ..] = rest {
+        want(first.named_at, Wanted::OptionOnce, !option.repeats(first))?;
+        rest = more;
+    }
+    Ok(())
 }
 
-/// Whether each stands as often as it may.
-pub(crate) fn are_once(given: &[GivenOption<'_>]) -> bool
+/// Err unless each stands as often as it may.
+pub(crate) fn are_once(given: &[GivenOption<'_>]) -> Result<(), Flaw>
     ensures { result ≡ are_once given.now }
 {
     let mut rest = given;
     'options: while let [first, later @ ..] = rest {
-        if is_repeated(first, later) {
-            return false;
-        }
+        is_once(first, later)?;
         rest = later;
     }
-    true
+    Ok(())
 }
 
-// The option of this name, with its words taken out.
+// The option of this name, with its words taken out. So many words stand behind the first of the line.
 #[tactic(auto, using(crate::proofs::Options::next_is, crate::proofs::Options::next_lacks, crate::proofs::Options::next_unknown))]
-fn next_option<'a>(name: &[u8], words: &mut Words<'a>) -> Result<GivenOption<'a>, Kind>
-    ensures option { MatchResult result (λ o. options_in (name.now ∷ words.old) ≡ with_option o (options_in words.new)) (λ k. options_in (name.now ∷ words.old) ≡ Err k) }
+fn next_option<'a>(
+    count: usize,
+    name: &[u8],
+    words: &mut Words<'a>,
+) -> Result<GivenOption<'a>, Flaw>
+    requires { length words.old < count }
+    ensures option { MatchResult result (λ o. options_in count (name.now ∷ words.old) ≡ with_option o (options_in count words.new)) (λ f. options_in count (name.now ∷ words.old) ≡ Err f) }
     ensures fewer { OnOk result (length words.new ≤ length words.old) }
 {
+    let said_at = count - words.len();
+    let named_at = said_at - 1;
     let Some(row) = NodeOption::row_of(name) else {
-        return Err(Kind::Words);
+        return Err(Flaw::at_word(named_at, Wanted::OptionName));
     };
     if words.len() < row.words {
-        return Err(Kind::Words);
+        return Err(Flaw::at_word(count, Wanted::MoreWords));
     }
     let option = GivenOption {
         row,
+        named_at,
+        said_at,
         words: words.copy(),
     };
     words.skip(row.words);
     Ok(option)
 }
 
-/// The options that the words name, in their order.
+/// The options that the words name, in their order; so many words stand behind the first of the line.
 #[tactic(auto, using(crate::proofs::Options::none_so_far, crate::proofs::Options::one_more, crate::proofs::Options::none_left, crate::proofs::Options::bad_left))]
 pub(crate) fn options<'a>(
     alloc: Global,
+    count: usize,
     mut words: Words<'a>,
-) -> Result<Vec<GivenOption<'a>>, LineFault>
-    ensures { OptionsRead result (options_in words.entry) }
+) -> Result<Vec<GivenOption<'a>>, LineFlaw>
+    requires { length words ≤ count }
+    ensures { OptionsRead result (options_in count words.entry) }
 {
     let mut given = Vec::new(alloc);
     'options: while let Some(name) = words.next() {
-        let option = next_option(name, &mut words)?;
+        let option = next_option(count, name, &mut words)?;
         if given.push(option).is_err() {
-            return Err(LineFault::NoMemory);
+            return Err(LineFlaw::NoMemory);
         }
     }
     Ok(given)
@@ -167,31 +185,32 @@ pub(crate) fn options<'a>(
 
 // Sets what an option says.
 #[tactic(auto, unfolding(crate::specs::NodeOption::set_by))]
-fn set_option(node: &mut Node, given: &GivenOption<'_>) -> Result<(), Kind>
+fn set_option(node: &mut Node, given: &GivenOption<'_>) -> Result<(), Flaw>
     requires { HasCenters node.old }
-    ensures set { MatchResult result (λ _. set_option given.now node.old ≡ Ok node.new) (λ k. set_option given.now node.old ≡ Err k) }
+    ensures set { MatchResult result (λ _. set_option given.now node.old ≡ Ok node.new) (λ f. set_option given.now node.old ≡ Err f) }
     ensures centers { OnOk result (HasCenters node.new) }
     ensures at { OnOk result (node.new.at ≡ node.old.at) }
 {
     let word = given.word();
+    let at = given.said_at;
     match given.row.option {
         NodeOption::Centers => {
-            node.centers = read_number(Kind::Number, 1, MOST_CENTERS as u64, word)? as u32;
+            node.centers = number(at, 1, MOST_CENTERS as u64, word)? as u32;
         }
-        NodeOption::Fast => node.fast = kinds(word)?,
+        NodeOption::Fast => node.fast = kinds(at, word)?,
         NodeOption::Throttle => {
-            node.throttle = read_number(Kind::Number, 0, u32::MAX as u64, word)?;
+            node.throttle = number(at, 0, u32::MAX as u64, word)?;
         }
-        NodeOption::Supports => node.supports = read_number(Kind::Number, 0, u64::MAX, word)?,
-        NodeOption::Requires => node.requires_ = read_number(Kind::Number, 0, u64::MAX, word)?,
+        NodeOption::Supports => node.supports = number(at, 0, u64::MAX, word)?,
+        NodeOption::Requires => node.requires_ = number(at, 0, u64::MAX, word)?,
     }
     Ok(())
 }
 
 /// Sets what the options say.
-pub(crate) fn set_options(node: &mut Node, given: &[GivenOption<'_>]) -> Result<(), Kind>
+pub(crate) fn set_options(node: &mut Node, given: &[GivenOption<'_>]) -> Result<(), Flaw>
     requires { HasCenters node.old }
-    ensures set { MatchResult result (λ _. set_options given.now node.old ≡ Ok node.new) (λ k. set_options given.now node.old ≡ Err k) }
+    ensures set { MatchResult result (λ _. set_options given.now node.old ≡ Ok node.new) (λ f. set_options given.now node.old ≡ Err f) }
     ensures centers { OnOk result (HasCenters node.new) }
     ensures at { OnOk result (node.new.at ≡ node.old.at) }
 {

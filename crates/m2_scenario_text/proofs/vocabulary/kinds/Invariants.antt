@@ -5,7 +5,7 @@ use Rattle.m2_scenario_text.specs.Vocabulary.{kinds_from}
 use Rattle.m2_scenario_text.proofs.vocabulary.kinds.Given as goal
 
 abbrev pub invariant-kinds : goal.invariant-kinds
-invariant-kinds l = kinds_from l.kinds (pieces 44 l.rest) ≡ kinds_from l.initial.kinds (pieces 44 l.fn.word)
+invariant-kinds l = kinds_from l.behind l.kinds (pieces 44 l.rest) ≡ kinds_from l.behind l.initial.kinds (pieces 44 l.fn.word)
 
 abbrev pub decreases-kinds : goal.decreases-kinds
 decreases-kinds l = length l.rest
