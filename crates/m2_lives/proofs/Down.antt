@@ -1,0 +1,136 @@
+-- What a mark-down leaves of a side: all that it has sent, opened and judged, and no feed.
+use Rattle.std.proofs.Common.{◌≡◌, ◌+◌, ◌≤◌, ◌⊎◌, inl, inr, Bool, true, false, List, [], ◌∷◌, ◌++◌, length, map, Option, Some, None, refl, sym, ap, ◌∙◌, subst}
+use Rattle.m2_bytes_fit.proofs.Entries.{FeedSo, entry_keeps}
+use Rattle.m2_bytes_fit.proofs.Hands.{HandKept, HandSo, closing, hand_keeps}
+use Rattle.m2_bytes_fit.proofs.Hears.{NoAskBehind}
+use Rattle.m2_bytes_fit.proofs.Less.{Less, less_trans, tells_less, untouched}
+use Rattle.m2_bytes_fit.proofs.Steps.{AllKept, kept_in_less, kept_quietly}
+use Rattle.m2_journal.specs.Items as item
+use Rattle.m2_journal.specs.Items.{JournalItem}
+use Rattle.m2_journal.specs.Lawful.{Lawful, judged_on, judged_sockets}
+use Rattle.m2_journal.specs.Laws.{IfFed}
+use Rattle.m2_journal.specs.Plan.{Planned}
+use Rattle.m2_journal.specs.SideFacts.{SideFacts}
+use Rattle.m2_journal.specs.State.{Feed, Judgement, State}
+use Rattle.m2_journal.specs.Steps.{after, tells}
+use Rattle.m2_journal.specs.m2_fabric.Sockets.{is_among}
+use Rattle.m2_journal.specs.m2_session.declared.event.Event.TheVariants as event
+use Rattle.m2_never_reset.specs.Frames.{frames_on, asks_on, answers_on}
+use Rattle.m2_never_reset.specs.LinkOf.{judged_count, is_unjudged}
+use Rattle.m2_never_reset.specs.PairLaws.{IsNoDown}
+use Rattle.m2_never_reset.specs.Paired.{Beside, beside, FeedIsPaired, Paired, SideIsPaired}
+
+-- ---- an entry that marks the side down, and any other
+
+pub record IsDown (i : JournalItem) : Type 0 where
+  pub planned : Bool
+  pub step : Option Planned
+  pub is : i ≡ item.down planned step
+
+pub down_or_not : (i : JournalItem) → IsNoDown i ⊎ IsDown i
+down_or_not (item.post place planned) = inl tt
+down_or_not (item.dial planned) = inl tt
+down_or_not (item.opened k) = inl tt
+down_or_not (item.read k bytes) = inl tt
+down_or_not (item.wrote k bytes) = inl tt
+down_or_not (item.closed k broken) = inl tt
+down_or_not (item.judged k ask number given unread trail) = inl tt
+down_or_not (item.asked ident number) = inl tt
+down_or_not (item.numbered number) = inl tt
+down_or_not (item.accepted number key) = inl tt
+down_or_not (item.acked number) = inl tt
+down_or_not (item.obeyed full) = inl tt
+down_or_not (item.down planned step) = inr record { planned = planned; step = step; is = refl }
+
+-- ---- what is left
+
+pub record LeavesFeed (s t : State) : Type 0 where
+  pub sent : t.sent ≡ s.sent
+  pub opened : t.opened ≡ s.opened
+  pub judgements : t.judgements ≡ s.judgements
+  pub feed : t.feed ≡ None
+
+pub down_less : (f : SideFacts) (planned : Bool) (step : Option Planned) (s : State) → Less s (after f (item.down planned step) s)
+down_less f planned step s =
+    let t = tells event.MarkedDown s in
+    less_trans s t (after f (item.down planned step) s) (tells_less event.MarkedDown s) (untouched t (after f (item.down planned step) s) refl refl refl refl)
+
+pub down_leaves : (f : SideFacts) (planned : Bool) (step : Option Planned) (s : State) → LeavesFeed s (after f (item.down planned step) s)
+down_leaves f planned step s =
+    let l = down_less f planned step s in
+    record { sent = l.sent; opened = l.opened; judgements = l.judgements; feed = closing event.MarkedDown s refl }
+
+-- ---- of one side
+
+pub any_keeps : (f : SideFacts) (is : List JournalItem) (i : JournalItem) (s : State) → Lawful f i s → HandKept s → IfFed s.feed (FeedSo s) → AllKept f is s → AllKept f (is ++ i ∷ []) (after f i s)
+any_keeps f is i s l hand so h = at (down_or_not i)
+  where
+    at : IsNoDown i ⊎ IsDown i → AllKept f (is ++ i ∷ []) (after f i s)
+    at (inl up) = entry_keeps f is i s up l hand so h
+    at (inr d) =
+        subst (λ j. AllKept f (is ++ j ∷ []) (after f j s)) (sym d.is)
+        (kept_quietly f is (item.down d.planned d.step) (after f (item.down d.planned d.step) s) (λ k. record { read = refl; wrote = refl; taken = refl })
+        (kept_in_less f is s (after f (item.down d.planned d.step) s) (down_less f d.planned d.step s) h))
+
+pub any_hand : (f : SideFacts) (i : JournalItem) (s : State) → Lawful f i s → HandKept s → HandKept (after f i s)
+any_hand f i s l h = at (down_or_not i)
+  where
+    at : IsNoDown i ⊎ IsDown i → HandKept (after f i s)
+    at (inl up) = hand_keeps f i s up l h
+    at (inr d) = subst (λ j. HandKept (after f j s)) (sym d.is) (subst (λ o. IfFed o (HandSo (after f (item.down d.planned d.step) s))) (sym (down_leaves f d.planned d.step s).feed) tt)
+
+-- ---- of both
+
+near_paired : (a t b : State) → LeavesFeed a t → SideIsPaired a b → SideIsPaired t b
+near_paired a t b l h = record {
+  feed = subst (λ o. IfFed o (FeedIsPaired (beside t b))) (sym l.feed) tt;
+  asks = λ k o. ap (asks_on k) l.sent ∙ h.asks k (sym (ap (is_among k) l.opened) ∙ o);
+  sent = λ k o j. ap (frames_on k) l.sent ∙ h.sent k (sym (ap (is_among k) l.opened) ∙ o) (sym (ap (λ js. is_among k (map (λ (x : Judgement). x.socket) js)) l.judgements) ∙ j);
+  asks_once = λ k. subst (λ sent. length (asks_on k sent) ≤ judged_count k (judged_sockets b) + 1) (sym l.sent) (h.asks_once k);
+  unjudged = λ k u. ap (answers_on k) l.sent ∙ h.unjudged k (subst (λ sent. is_unjudged k sent (judged_sockets b) ≡ true) l.sent u);
+}
+
+without_other : (u : Beside) (d : Feed) → FeedIsPaired u d → FeedIsPaired (record u { other = None }) d
+without_other u d h = record {
+  got = h.got;
+  sent = h.sent;
+  texts = h.texts;
+  taken = h.taken;
+  asks_alone = h.asks_alone;
+  unjudged = h.unjudged;
+  coming = h.coming;
+  accepted = λ o. tt;
+}
+
+beside_is : (b a t : State) → LeavesFeed a t → beside b t ≡ record (beside b a) { other = None }
+beside_is b a t l = rw (l.sent, l.feed, ap (λ js. map (λ (x : Judgement). x.socket) js) l.judgements) refl
+
+far_paired : (b a t : State) → LeavesFeed a t → SideIsPaired b a → SideIsPaired b t
+far_paired b a t l h = record {
+  feed = at b.feed h.feed;
+  asks = h.asks;
+  sent = h.sent;
+  asks_once = λ k. subst (λ judged. length (asks_on k b.sent) ≤ judged_count k judged + 1) (sym judged) (h.asks_once k);
+  unjudged = λ k u. h.unjudged k (subst (λ js. is_unjudged k b.sent js ≡ true) judged u);
+}
+  where
+    judged : judged_sockets t ≡ judged_sockets a
+    judged = ap (λ js. map (λ (x : Judgement). x.socket) js) l.judgements
+
+    at : (o : Option Feed) → IfFed o (FeedIsPaired (beside b a)) → IfFed o (FeedIsPaired (beside b t))
+    at None g = tt
+    at (Some d) g = subst (λ u. FeedIsPaired u d) (sym (beside_is b a t l)) (without_other (beside b a) d g)
+
+pub leaves_paired : (a t b : State) → LeavesFeed a t → Paired a b → Paired t b
+leaves_paired a t b l h = record { near = near_paired a t b l h.near; far = far_paired b a t l h.far }
+
+pub leaves_near : (a t b : State) → LeavesFeed a t → NoAskBehind t b
+leaves_near a t b l = subst (λ o. IfFed o (λ d. d.opened ≡ false → length (asks_on d.socket b.sent) ≤ length (judged_on d.socket t.judgements))) (sym l.feed) tt
+
+pub leaves_far : (a t b : State) → LeavesFeed a t → NoAskBehind b a → NoAskBehind b t
+leaves_far a t b l h = at b.feed h
+  where
+    at : (o : Option Feed) → IfFed o (λ d. d.opened ≡ false → length (asks_on d.socket a.sent) ≤ length (judged_on d.socket b.judgements)) →
+        IfFed o (λ d. d.opened ≡ false → length (asks_on d.socket t.sent) ≤ length (judged_on d.socket b.judgements))
+    at None g = tt
+    at (Some d) g = λ q. subst (λ sent. length (asks_on d.socket sent) ≤ length (judged_on d.socket b.judgements)) (sym l.sent) (g q)

@@ -1,0 +1,4 @@
+pub mod Lives
+pub mod LivesLaws
+pub mod Observed
+pub mod ObservedLaws
