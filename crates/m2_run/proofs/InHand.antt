@@ -9,13 +9,16 @@ use Rattle.m2_cluster.specs.Node.{NodeNow}
 use Rattle.m2_dispatch.specs.Heard.{Heard, heard_by, heard_of}
 use Rattle.m2_dispatch.specs.declared.logged.Logged.{Logged}
 use Rattle.m2_edge.specs.Faults.{next_count}
+use Rattle.m2_fabric.specs.End.{SeenEnd}
 use Rattle.m2_fabric.specs.Fabric.{SeenFabric}
 use Rattle.m2_fabric.specs.Port.{SeenPort}
+use Rattle.m2_fabric.specs.declared.port.Cut.{Cut}
 use Rattle.m2_scenario.specs.Report.{heard_in}
 use Rattle.m2_scenario.specs.declared.node.Node.{Node}
 use Rattle.m2_trail.specs.Arrivals.{LooseNow}
-use Rattle.m2_run.specs.Gathering.{GathersIf, GathersOne, told_by}
-use Rattle.m2_run.specs.Kept.{AllGathered, EndTold, IsGathered, IsUntouched, ends_told}
+use Rattle.m2_run.specs.Cuts.{AreEndsOver, cuts_at}
+use Rattle.m2_run.specs.Gathering.{GathersIf, GathersOne, GivesBack, ends_by}
+use Rattle.m2_run.specs.Kept.{AllGathered, IsGathered, IsUntouched, ends_told}
 use Rattle.m2_run.specs.Ports.{seen_port}
 use Rattle.m2_run.specs.Ran.{heard_at_end}
 use Rattle.m2_run.specs.Rests.{AreEndsOf, EndedNow, IsEndOf, loose_at, loose_of}
@@ -29,9 +32,9 @@ untouched_on : (k : ℕ) (old mid new : SeenFabric) → IsUntouched k old mid �
 untouched_on k old mid new a b = record { listens = b.listens ∙ a.listens; gathered = b.gathered ∙ a.gathered; gathers = b.gathers ∙ a.gathers }
 
 -- what it told of a node it tells still
-told_on : (k : ℕ) (port : SeenPort) (n : NodeNow (List Logged)) (old mid new : SeenFabric) → IsGathered k port (ends_told (rest_of n.center)) old mid → IsUntouched k mid new →
-    IsGathered k port (ends_told (rest_of n.center)) old new
-told_on k port n old mid new g u = record {
+told_on : (cuts : List Cut) (k : ℕ) (port : SeenPort) (n : NodeNow (List Logged)) (old mid new : SeenFabric) → IsGathered cuts k port (ends_told (rest_of n.center)) old mid →
+    IsUntouched k mid new → IsGathered cuts k port (ends_told (rest_of n.center)) old new
+told_on cuts k port n old mid new g u = record {
   what = g.what;
   told = u.gathered ∙ g.told;
   now = u.gathers ∙ g.now;
@@ -56,52 +59,57 @@ stays_same k old new e = record {
   };
 }
 
-others_stay : (started : Bool) (m : ℕ) (port : SeenPort) (ends : List EndTold) (old new : SeenFabric) → GathersIf started m port ends old new → (k : ℕ) → k ≢ m → StaysAt k old new
+others_stay : (started : Bool) (m : ℕ) (port : SeenPort) (ends : List SeenEnd) (old new : SeenFabric) → GathersIf started m port ends old new → (k : ℕ) → k ≢ m → StaysAt k old new
 others_stay true m port ends old new g k other = record {
   out = g.gathers.others_out k other;
   untouched = record { listens = g.gathers.listens k; gathered = g.gathers.others_told k other; gathers = g.gathers.others_gathers k other };
 }
 others_stay false m port ends old new g k other = stays_same k old new g
 
-off_stays : (started : Bool) (m : ℕ) (port : SeenPort) (ends : List EndTold) (old new : SeenFabric) → GathersIf started m port ends old new → started ≡ false → IsUntouched m old new
+off_stays : (started : Bool) (m : ℕ) (port : SeenPort) (ends : List SeenEnd) (old new : SeenFabric) → GathersIf started m port ends old new → started ≡ false → IsUntouched m old new
 off_stays started m port ends old new g off = (stays_same m old new (subst (λ b. GathersIf b m port ends old new) off g)).untouched
 
 -- what is told of the node itself
-is_gathered : (m : ℕ) (n : NodeNow (List Logged)) (e : EndedNow) (left : List LooseNow) (old mid new : SeenFabric) → IsEndOf n e → take e.halves left ≡ loose_at n → IsUntouched m old mid →
-    GathersOne m (seen_port e.port) (told_by e.records (take e.halves left)) mid new → IsGathered m n.center.port (ends_told (rest_of n.center)) old new
-is_gathered m n e left old mid new is its before g = record {
+is_gathered : (cuts : List Cut) (m : ℕ) (n : NodeNow (List Logged)) (e : EndedNow) (left : List LooseNow) (inner : List SeenEnd) (old mid new : SeenFabric) → IsEndOf n e →
+    take e.halves left ≡ loose_at n → IsUntouched m old mid → AreEndsOver cuts (seen_port e.port).made (ends_by e.records (take e.halves left)) inner →
+    GathersOne m (seen_port e.port) inner mid new → IsGathered cuts m n.center.port (ends_told (rest_of n.center)) old new
+is_gathered cuts m n e left inner old mid new is its before over g = record {
   what = g.what;
   told = g.gathers.node_told;
   now = g.gathers.node_gathers ∙ ap next_count before.gathers;
   inner = g.inner;
   one = g.one;
   inside = subst (λ (p : SeenPort). p ≡ record g.inner { cuts = p.cuts }) is.port g.inside;
-  ends_are = g.ends_are ∙ ap (λ rs. told_by rs (take e.halves left)) is.records ∙ ap (λ hs. told_by n.center.records hs) its;
+  ends_are =
+      subst (AreEndsOver cuts n.center.port.made (ends_told (rest_of n.center))) (sym g.ends_are)
+      (subst (λ (p : SeenPort). AreEndsOver cuts p.made (ends_told (rest_of n.center)) inner) is.port
+      (subst (λ hs. AreEndsOver cuts (seen_port e.port).made (ends_by n.center.records hs) inner) its
+      (subst (λ rs. AreEndsOver cuts (seen_port e.port).made (ends_by rs (take e.halves left)) inner) is.records over)));
 }
 
 -- ---- those that are in hand
 
 -- Of these nodes so many aren't gathered yet, and their halves are these; of the others the fabric tells what they left.
-pub record AreGathered (nodes : List Node) (many : ℕ) (left : List LooseNow) (old now : SeenFabric) (kept : List (NodeNow (List Logged))) : Type 0 where
+pub record AreGathered (cuts : List (Holding Cut)) (nodes : List Node) (many : ℕ) (left : List LooseNow) (old now : SeenFabric) (kept : List (NodeNow (List Logged))) : Type 0 where
   pub front : List (NodeNow (List Logged))
   pub behind : List (NodeNow (List Logged))
   pub split : kept ≡ front ++ behind
   pub count : length front ≡ many
   pub halves : left ≡ loose_of front
   pub told : (k : ℕ) (x : Node) (n : NodeNow (List Logged)) → many ≤ k → slice_get nodes k ≡ Some x → slice_get kept k ≡ Some n → x.started ≡ true →
-      IsGathered k n.center.port (ends_told (rest_of n.center)) old now
+      IsGathered (cuts_at cuts k) k n.center.port (ends_told (rest_of n.center)) old now
 
 -- what its two dispatchers were called with
 abbrev pub heard_of_both : EndedNow → List Heard
 heard_of_both e = heard_by e.fast ++ heard_by e.queued
 
-pub record AreInHand (nodes : List Node) (all ends : List EndedNow) (halves left : List LooseNow) (logs : List (Holding Logged)) (old now : SeenFabric) : Type 0 where
+pub record AreInHand (cuts : List (Holding Cut)) (nodes : List Node) (all ends : List EndedNow) (halves left : List LooseNow) (logs : List (Holding Logged)) (old now : SeenFabric) : Type 0 where
   pub gone : List EndedNow
   pub split : all ≡ ends ++ gone
   pub out : (k : ℕ) (x : Node) → k < length ends → slice_get nodes k ≡ Some x → x.started ≡ true → now.out k ≡ Some 1
   pub before : (k : ℕ) → k < length ends → IsUntouched k old now
   pub off : (k : ℕ) (x : Node) → slice_get nodes k ≡ Some x → x.started ≡ false → IsUntouched k old now
-  pub told : (kept : List (NodeNow (List Logged))) → AreEndsOf kept all → halves ≡ loose_of kept → AreGathered nodes (length ends) left old now kept
+  pub told : (kept : List (NodeNow (List Logged))) → AreEndsOf kept all → halves ≡ loose_of kept → AreGathered cuts nodes (length ends) left old now kept
   pub heard : map heard_in (reverse logs) ≡ map heard_of_both gone
 
 same_untouched : (k : ℕ) (f : SeenFabric) → IsUntouched k f f
@@ -111,9 +119,9 @@ none_behind : {X P : Type 0} (xs : List X) (k : ℕ) (x : X) → length xs ≤ k
 none_behind xs k x most there = absurd (let within = slice_get_within xs k x there in omega (arith, most, within))
 
 -- all are, at first
-pub all_in_hand : (nodes : List Node) (ends : List EndedNow) (halves left : List LooseNow) (logs : List (Holding Logged)) (f : SeenFabric) → ArePortsOut nodes f → left ≡ halves → logs ≡ [] →
-    AreInHand nodes ends ends halves left logs f f
-all_in_hand nodes ends halves left logs f out moved none = record {
+pub all_in_hand : (cuts : List (Holding Cut)) (nodes : List Node) (ends : List EndedNow) (halves left : List LooseNow) (logs : List (Holding Logged)) (f : SeenFabric) → ArePortsOut nodes f → left ≡ halves → logs ≡ [] →
+    AreInHand cuts nodes ends ends halves left logs f f
+all_in_hand cuts nodes ends halves left logs f out moved none = record {
   gone = [];
   split = sym (append-nil ends);
   out = λ k x few there on. out k x there on;
@@ -141,8 +149,9 @@ below_apart k m less e = omega (arith, less, e)
 above_apart : (k m : ℕ) → m < k → k ≢ m
 above_apart k m less e = omega (arith, less, e)
 
-module _ (nodes : List Node) (all ends rest : List EndedNow) (e : EndedNow) (halves left : List LooseNow) (old mid new : SeenFabric) (x : Node) (split : ends ≡ rest ++ e ∷ [])
-    (there : slice_get nodes (length rest) ≡ Some x) (gathers : GathersIf x.started (length rest) (seen_port e.port) (told_by e.records (take e.halves left)) mid new)
+module _ (cuts : List (Holding Cut)) (nodes : List Node) (all ends rest : List EndedNow) (e : EndedNow) (halves left : List LooseNow) (old mid new : SeenFabric) (x : Node)
+    (split : ends ≡ rest ++ e ∷ []) (there : slice_get nodes (length rest) ≡ Some x)
+    (gives : GivesBack (cuts_at cuts (length rest)) x.started (length rest) (seen_port e.port) (ends_by e.records (take e.halves left)) mid new)
     (before : (k : ℕ) → k < length ends → IsUntouched k old mid) where
   abbrev m : ℕ
   m = length rest
@@ -151,13 +160,13 @@ module _ (nodes : List Node) (all ends rest : List EndedNow) (e : EndedNow) (hal
   many = ap length split ∙ length-append rest (e ∷ []) ∙ (let one : m + 1 ≡ suc m = omega arith in one)
 
   others : (k : ℕ) → k ≢ m → StaysAt k mid new
-  others = others_stay x.started m (seen_port e.port) (told_by e.records (take e.halves left)) mid new gathers
+  others = others_stay x.started m (seen_port e.port) gives.inner mid new gives.gathers
 
   untouched : (k : ℕ) → k < m → IsUntouched k old new
   untouched k less = untouched_on k old mid new (before k (let n = many in omega (arith, n, less))) (others k (below_apart k m less)).untouched
 
   off_here : (y : Node) → slice_get nodes m ≡ Some y → y.started ≡ false → IsUntouched m mid new
-  off_here y its off = off_stays x.started m (seen_port e.port) (told_by e.records (take e.halves left)) mid new gathers
+  off_here y its off = off_stays x.started m (seen_port e.port) gives.inner mid new gives.gathers
       (ap (λ (z : Node). z.started) (same_Some x y (sym there ∙ its)) ∙ off)
 
   stays_off : (k : ℕ) (y : Node) → slice_get nodes k ≡ Some y → y.started ≡ false → IsUntouched k mid new
@@ -168,7 +177,7 @@ module _ (nodes : List Node) (all ends rest : List EndedNow) (e : EndedNow) (hal
   ]
 
   -- of the nodes whose ends these are
-  module _ (kept : List (NodeNow (List Logged))) (are : AreEndsOf kept all) (here : slice_get all m ≡ Some e) (g : AreGathered nodes (length ends) left old mid kept) where
+  module _ (kept : List (NodeNow (List Logged))) (are : AreEndsOf kept all) (here : slice_get all m ≡ Some e) (g : AreGathered cuts nodes (length ends) left old mid kept) where
     last : Last g.front m
     last = last_of g.front m (g.count ∙ many)
 
@@ -191,22 +200,23 @@ module _ (nodes : List Node) (all ends rest : List EndedNow) (e : EndedNow) (hal
     dropped = ap (drop e.halves) its_halves ∙ drop_at (loose_at last.last) (loose_of last.front) e.halves (sym is_end.halves)
 
     told_here : (y : Node) (n : NodeNow (List Logged)) → slice_get nodes m ≡ Some y → slice_get kept m ≡ Some n → y.started ≡ true →
-        IsGathered m n.center.port (ends_told (rest_of n.center)) old new
+        IsGathered (cuts_at cuts m) m n.center.port (ends_told (rest_of n.center)) old new
     told_here y n its is on =
-        subst (λ (z : NodeNow (List Logged)). IsGathered m z.center.port (ends_told (rest_of z.center)) old new) (same_Some last.last n (sym at_place ∙ is))
-        (is_gathered m last.last e left old mid new is_end taken (before m (let n = many in omega (arith, n)))
-        (subst (λ b. GathersIf b m (seen_port e.port) (told_by e.records (take e.halves left)) mid new) (ap (λ (z : Node). z.started) (same_Some x y (sym there ∙ its)) ∙ on) gathers))
+        subst (λ (z : NodeNow (List Logged)). IsGathered (cuts_at cuts m) m z.center.port (ends_told (rest_of z.center)) old new) (same_Some last.last n (sym at_place ∙ is))
+        (is_gathered (cuts_at cuts m) m last.last e left gives.inner old mid new is_end taken (before m (let n = many in omega (arith, n))) gives.over
+        (subst (λ b. GathersIf b m (seen_port e.port) gives.inner mid new) (ap (λ (z : Node). z.started) (same_Some x y (sym there ∙ its)) ∙ on) gives.gathers))
 
     told_at : (k : ℕ) (y : Node) (n : NodeNow (List Logged)) → m ≤ k → slice_get nodes k ≡ Some y → slice_get kept k ≡ Some n → y.started ≡ true →
-        IsGathered k n.center.port (ends_told (rest_of n.center)) old new
+        IsGathered (cuts_at cuts k) k n.center.port (ends_told (rest_of n.center)) old new
     told_at k y n most its is on = elim (three_ways k m) [
       | inl less ↦ absurd (omega (arith, less, most))
-      | inr (inl more) ↦ told_on k n.center.port n old mid new (g.told k y n (let n = many in omega (arith, n, more)) its is on) (others k (above_apart k m more)).untouched
-      | inr (inr same) ↦ subst (λ j. IsGathered j n.center.port (ends_told (rest_of n.center)) old new) (sym same)
+      | inr (inl more) ↦
+          told_on (cuts_at cuts k) k n.center.port n old mid new (g.told k y n (let n = many in omega (arith, n, more)) its is on) (others k (above_apart k m more)).untouched
+      | inr (inr same) ↦ subst (λ j. IsGathered (cuts_at cuts j) j n.center.port (ends_told (rest_of n.center)) old new) (sym same)
           (told_here y n (subst (λ j. slice_get nodes j ≡ Some y) same its) (subst (λ j. slice_get kept j ≡ Some n) same is) on)
     ]
 
-    one_gathered : (after : List LooseNow) → after ≡ drop e.halves left → AreGathered nodes m after old new kept
+    one_gathered : (after : List LooseNow) → after ≡ drop e.halves left → AreGathered cuts nodes m after old new kept
     one_gathered after e = record {
       front = last.front;
       behind = last.last ∷ g.behind;
@@ -225,21 +235,21 @@ more_heard : (logs after : List (Holding Logged)) (log : Holding Logged) (gone :
 more_heard logs after log gone e pushed its was =
     ap (map heard_in) (ap reverse pushed ∙ reverse_last logs log) ∙ ap (λ h. h ∷ map heard_in (reverse logs)) (one_heard e log its) ∙ ap (λ hs. heard_of_both e ∷ hs) was
 
-one_gone : (nodes : List Node) (all ends rest : List EndedNow) (e : EndedNow) (halves left after : List LooseNow) (logs longer : List (Holding Logged)) (log : Holding Logged)
-    (old mid new : SeenFabric) (x : Node) → AreInHand nodes all ends halves left logs old mid → ends ≡ rest ++ e ∷ [] → slice_get nodes (length rest) ≡ Some x →
-    GathersIf x.started (length rest) (seen_port e.port) (told_by e.records (take e.halves left)) mid new → after ≡ drop e.halves left →
-    longer ≡ logs ++ log ∷ [] → log.items ≡ e.fast ++ e.queued → AreInHand nodes all rest halves after longer old new
-one_gone nodes all ends rest e halves left after logs longer log old mid new x a split there gathers moved pushed its =
+one_gone : (cuts : List (Holding Cut)) (nodes : List Node) (all ends rest : List EndedNow) (e : EndedNow) (halves left after : List LooseNow) (logs longer : List (Holding Logged)) (log : Holding Logged)
+    (old mid new : SeenFabric) (x : Node) → AreInHand cuts nodes all ends halves left logs old mid → ends ≡ rest ++ e ∷ [] → slice_get nodes (length rest) ≡ Some x →
+    GivesBack (cuts_at cuts (length rest)) x.started (length rest) (seen_port e.port) (ends_by e.records (take e.halves left)) mid new → after ≡ drop e.halves left →
+    longer ≡ logs ++ log ∷ [] → log.items ≡ e.fast ++ e.queued → AreInHand cuts nodes all rest halves after longer old new
+one_gone cuts nodes all ends rest e halves left after logs longer log old mid new x a split there gives moved pushed its =
     let m = length rest in
     let same : all ≡ rest ++ e ∷ a.gone = a.split ∙ ap (λ es. es ++ a.gone) split ∙ append_assoc rest (e ∷ []) a.gone in
     record {
       gone = e ∷ a.gone;
       split = same;
-      out = λ k y few its on. (others nodes all ends rest e halves left old mid new x split there gathers a.before k (below_apart k m few)).out
-          ∙ a.out k y (let n = many nodes all ends rest e halves left old mid new x split there gathers a.before in omega (arith, n, few)) its on;
-      before = untouched nodes all ends rest e halves left old mid new x split there gathers a.before;
-      off = λ k y its off. untouched_on k old mid new (a.off k y its off) (stays_off nodes all ends rest e halves left old mid new x split there gathers a.before k y its off);
-      told = λ kept are its. one_gathered nodes all ends rest e halves left old mid new x split there gathers a.before kept are
+      out = λ k y few its on. (others cuts nodes all ends rest e halves left old mid new x split there gives a.before k (below_apart k m few)).out
+          ∙ a.out k y (let n = many cuts nodes all ends rest e halves left old mid new x split there gives a.before in omega (arith, n, few)) its on;
+      before = untouched cuts nodes all ends rest e halves left old mid new x split there gives a.before;
+      off = λ k y its off. untouched_on k old mid new (a.off k y its off) (stays_off cuts nodes all ends rest e halves left old mid new x split there gives a.before k y its off);
+      told = λ kept are its. one_gathered cuts nodes all ends rest e halves left old mid new x split there gives a.before kept are
           (ap (λ es. slice_get es m) same ∙ get_behind rest e a.gone m refl) (a.told kept are its) after moved;
       heard = more_heard logs longer log a.gone e pushed its a.heard;
     }
@@ -248,35 +258,39 @@ within : (nodes : List Node) (ends rest : List EndedNow) (e : EndedNow) → ends
 within nodes ends rest e split few = omega (arith, few, ap length split, length-append rest (e ∷ []))
 
 -- the port of the next one is out, where it is on
-pub is_out : (nodes : List Node) (all ends rest : List EndedNow) (e : EndedNow) (halves left : List LooseNow) (logs : List (Holding Logged)) (old now : SeenFabric) (k : ℕ) (d : Node) →
-    AreInHand nodes all ends halves left logs old now → ends ≡ rest ++ e ∷ [] → k ≡ length rest → length ends ≤ length nodes →
+pub is_out : (cuts : List (Holding Cut)) (nodes : List Node) (all ends rest : List EndedNow) (e : EndedNow) (halves left : List LooseNow) (logs : List (Holding Logged)) (old now : SeenFabric) (k : ℕ) (d : Node) →
+    AreInHand cuts nodes all ends halves left logs old now → ends ≡ rest ++ e ∷ [] → k ≡ length rest → length ends ≤ length nodes →
     (slice_index_or nodes k d).started ≡ true → now.out k ≡ Some 1
-is_out nodes all ends rest e halves left logs old now k d a split here few on =
+is_out cuts nodes all ends rest e halves left logs old now k d a split here few on =
     a.out k (slice_index_or nodes k d) (omega (arith, here, ap length split, length-append rest (e ∷ [])))
     (slice_get-get_or nodes k d (let less = within nodes ends rest e split few in omega (arith, here, less))) on
 
 -- it is gathered
-pub one_more : (nodes : List Node) (all ends rest : List EndedNow) (e : EndedNow) (halves left after : List LooseNow) (logs longer : List (Holding Logged)) (log : Holding Logged)
-    (old mid new : SeenFabric) (k : ℕ) (d : Node) → AreInHand nodes all ends halves left logs old mid → ends ≡ rest ++ e ∷ [] → k ≡ length rest → length ends ≤ length nodes →
-    GathersIf (slice_index_or nodes k d).started k (seen_port e.port) (told_by e.records (take e.halves left)) mid new → after ≡ drop e.halves left →
-    longer ≡ logs ++ log ∷ [] → log.items ≡ e.fast ++ e.queued → AreInHand nodes all rest halves after longer old new
-one_more nodes all ends rest e halves left after logs longer log old mid new k d a split here few gathers moved pushed its =
+pub one_more : (cuts : List (Holding Cut)) (nodes : List Node) (all ends rest : List EndedNow) (e : EndedNow) (halves left after : List LooseNow) (logs longer : List (Holding Logged))
+    (log : Holding Logged) (old mid new : SeenFabric) (k : ℕ) (d : Node) (own : List Cut) → AreInHand cuts nodes all ends halves left logs old mid → ends ≡ rest ++ e ∷ [] →
+    k ≡ length rest → length ends ≤ length nodes → own ≡ cuts_at cuts k →
+    GivesBack own (slice_index_or nodes k d).started k (seen_port e.port) (ends_by e.records (take e.halves left)) mid new → after ≡ drop e.halves left →
+    longer ≡ logs ++ log ∷ [] → log.items ≡ e.fast ++ e.queued → AreInHand cuts nodes all rest halves after longer old new
+one_more cuts nodes all ends rest e halves left after logs longer log old mid new k d own a split here few mine gives moved pushed its =
     let m = length rest in
-    one_gone nodes all ends rest e halves left after logs longer log old mid new (slice_index_or nodes m d) a split (slice_get-get_or nodes m d (within nodes ends rest e split few))
-    (subst (λ j. GathersIf (slice_index_or nodes j d).started j (seen_port e.port) (told_by e.records (take e.halves left)) mid new) here gathers) moved pushed its
+    one_gone cuts nodes all ends rest e halves left after logs longer log old mid new (slice_index_or nodes m d) a split
+    (slice_get-get_or nodes m d (within nodes ends rest e split few))
+    (subst (λ j. GivesBack (cuts_at cuts j) (slice_index_or nodes j d).started j (seen_port e.port) (ends_by e.records (take e.halves left)) mid new) here
+    (subst (λ c. GivesBack c (slice_index_or nodes k d).started k (seen_port e.port) (ends_by e.records (take e.halves left)) mid new) mine gives)) moved pushed its
 
 -- ---- at the end
 
-pub all_gathered : (nodes : List Node) (all ends : List EndedNow) (halves left : List LooseNow) (logs : List (Holding Logged)) (old new : SeenFabric) →
-    AreInHand nodes all ends halves left logs old new → ends ≡ [] → (kept : List (NodeNow (List Logged))) → AreEndsOf kept all → halves ≡ loose_of kept → AllGathered nodes kept old new
-all_gathered nodes all ends halves left logs old new a none kept are its = record {
+pub all_gathered : (cuts : List (Holding Cut)) (nodes : List Node) (all ends : List EndedNow) (halves left : List LooseNow) (logs : List (Holding Logged)) (old new : SeenFabric) →
+    AreInHand cuts nodes all ends halves left logs old new → ends ≡ [] → (kept : List (NodeNow (List Logged))) → AreEndsOf kept all → halves ≡ loose_of kept →
+    AllGathered cuts nodes kept old new
+all_gathered cuts nodes all ends halves left logs old new a none kept are its = record {
   on = λ k x n there is on. (a.told kept are its).told k x n (let e = ap length none in omega (arith, e)) there is on;
   off = a.off;
 }
 
-pub all_heard : (nodes : List Node) (all ends : List EndedNow) (halves left : List LooseNow) (logs : List (Holding Logged)) (old new : SeenFabric) →
-    AreInHand nodes all ends halves left logs old new → ends ≡ [] → (kept : List (NodeNow (List Logged))) → AreEndsOf kept all → map heard_in (reverse logs) ≡ map heard_at_end kept
-all_heard nodes all ends halves left logs old new a none kept are =
+pub all_heard : (cuts : List (Holding Cut)) (nodes : List Node) (all ends : List EndedNow) (halves left : List LooseNow) (logs : List (Holding Logged)) (old new : SeenFabric) →
+    AreInHand cuts nodes all ends halves left logs old new → ends ≡ [] → (kept : List (NodeNow (List Logged))) → AreEndsOf kept all → map heard_in (reverse logs) ≡ map heard_at_end kept
+all_heard cuts nodes all ends halves left logs old new a none kept are =
     a.heard ∙ ap (map heard_of_both) (sym (a.split ∙ ap (λ es. es ++ a.gone) none))
     ∙ same_maps heard_at_end heard_of_both kept all are.count
     (λ k n e p q. let is = are.each k n e p q in ap (λ ls. heard_by ls ++ heard_by e.queued) is.fast ∙ ap (λ ls. heard_by n.center.out.fast ++ heard_by ls) is.queued)

@@ -1,3 +1,5 @@
+pub mod CutEnds
+pub mod CutLists
 pub mod Giving
 pub mod Goings
 pub mod InHand

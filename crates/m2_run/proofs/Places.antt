@@ -1,8 +1,8 @@
 -- What the library lacks of lists whose items stand at the same places, and of lists from the last item on.
-use Rattle.std.proofs.Common.{◌≡◌, ◌⊎◌, inl, inr, ℕ, zero, suc, ◌+◌, ◌<◌, ◌≤◌, List, [], ◌∷◌, ◌++◌, length, map, reverse, take, drop, refl, sym, ap, subst, ◌∙◌, append_assoc, arith}
+use Rattle.std.proofs.Common.{◌≡◌, ◌⊎◌, inl, inr, ℕ, zero, suc, ◌+◌, ◌<◌, ◌≤◌, List, [], ◌∷◌, ◌++◌, length, map, reverse, take, drop, refl, sym, ap, subst, ◌∙◌, arith}
 use Rattle.std.specs.Prelude.{get_or, slice_get, Some}
 use Rattle.std.specs.List.{AllByRecursion, flat_map}
-use Rattle.std.proofs.lemmas.List.{append-nil, drop_more, map-append, reverse-append, take_more}
+use Rattle.std.proofs.lemmas.List.{append-nil, drop_more, reverse-append, take_more}
 use Rattle.std.proofs.lemmas.List.Concat.{flat_map-append}
 use Rattle.m2_bytes.proofs.m2_lemmas.Lists.{all_last}
 use Rattle.std.proofs.lemmas.Option.{get_or_from_slice_get, none-some, same_Some, slice_get_within}
@@ -35,6 +35,12 @@ get_behind [] x ys (suc k) e = none_is_some k e
 get_behind (z ∷ xs) x ys zero e = none_is_some (length xs) (sym e)
 get_behind (z ∷ xs) x ys (suc k) e = get_behind xs x ys k (omega (arith, e))
 
+-- those before it
+pub get_before : {X : Type 0} (xs ys : List X) (k : ℕ) → k < length xs → slice_get (xs ++ ys) k ≡ slice_get xs k
+get_before [] ys k less = absurd (omega (arith, less))
+get_before (x ∷ xs) ys zero less = refl
+get_before (x ∷ xs) ys (suc k) less = get_before xs ys k (omega (arith, less))
+
 -- ---- the last item
 
 pub record Last {X : Type 0} (xs : List X) (before : ℕ) : Type 0 where
@@ -66,24 +72,13 @@ joined_first f x xs = ap (flat_map f) (reverse_first x xs) ∙ flat_map-append f
 pub joined_last : {X A : Type 0} (f : X → List A) (xs : List X) (x : X) → flat_map f (reverse (xs ++ x ∷ [])) ≡ f x ++ flat_map f (reverse xs)
 joined_last f xs x = ap (flat_map f) (reverse_last xs x)
 
--- ---- items that are moved
-
--- one more, of which the same is told where it is moved to
-pub moved_one : {X Y S T : Type 0} (t : S → T) (p : X → S) (q : Y → S) (into : List X) (rest : List Y) (x : X) (y : Y) → t (p x) ≡ t (q y) →
-    map t (map p (into ++ x ∷ [])) ++ map t (map q rest) ≡ map t (map p into) ++ map t (map q (y ∷ rest))
-moved_one t p q into rest x y same =
-    ap (λ zs. map t zs ++ map t (map q rest)) (map-append p into (x ∷ []))
-    ∙ ap (λ zs. zs ++ map t (map q rest)) (map-append t (map p into) (p x ∷ []))
-    ∙ append_assoc (map t (map p into)) (t (p x) ∷ []) (map t (map q rest))
-    ∙ ap (λ z. map t (map p into) ++ z ∷ map t (map q rest)) same
-
 -- ---- a loop over places
 
 -- the one at a place comes first of those from there on
 pub drop_here : {X : Type 0} (xs : List X) (k : ℕ) (x : X) → slice_get xs k ≡ Some x → drop k xs ≡ x ∷ drop (k + 1) xs
 drop_here xs k x e = drop_more xs k x (slice_get_within xs k x e) ∙ ap (λ y. y ∷ drop (k + 1) xs) (get_or_from_slice_get xs k x x e)
 
-below_or_at : (i k : ℕ) → i < k + 1 → (i < k) ⊎ (i ≡ k)
+pub below_or_at : (i k : ℕ) → i < k + 1 → (i < k) ⊎ (i ≡ k)
 below_or_at i k few = grind (arith, few)
 
 at_last : {X : Type 0} (P : X → Type 0) (xs : List X) (k i : ℕ) (x y : X) → slice_get xs k ≡ Some x → P x → i ≡ k → slice_get xs i ≡ Some y → P y

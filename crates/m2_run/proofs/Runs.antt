@@ -1,7 +1,9 @@
 -- What came of a run, from what came of its parts.
 use Rattle.std.proofs.Common.{◌≡◌, ◌⊎◌, ℕ, ◌≤◌, false, List, sym, ap, subst, ◌∙◌}
 use Rattle.std.specs.Prelude.{slice_get, IfErr, IfOk, Some, Result, Ok, Err}
+use Rattle.std.proofs.lemmas.Option.{slice_get_within}
 use Rattle.m2_bytes.proofs.m2_lemmas.Lists.{all_at}
+use Rattle.m2_bytes.specs.Items.{Holding}
 use Rattle.m2_cluster.specs.m2_center.Finishing.{rest_of}
 use Rattle.m2_cluster.specs.Node.{NodeNow}
 use Rattle.m2_dispatch.specs.declared.logged.Logged.{Logged}
@@ -9,12 +11,15 @@ use Rattle.m2_edge.specs.Faults.{next_count}
 use Rattle.m2_fabric.specs.End.{SeenEnd}
 use Rattle.m2_fabric.specs.Fabric.{SeenFabric}
 use Rattle.m2_fabric.specs.Port.{SeenPort}
+use Rattle.m2_fabric.specs.declared.port.Cut.{Cut}
 use Rattle.m2_links_go_on.specs.m2_history.declared.history.WeaveFault.{WeaveFault}
 use Rattle.m2_links_go_on.specs.m2_history.declared.history.WeaveFault.TheVariants as weaving
 use Rattle.m2_scenario.specs.Report.{AreLogsOf}
 use Rattle.m2_scenario.specs.declared.line.Line.{Line}
 use Rattle.m2_scenario.specs.declared.link.Link.{Link}
 use Rattle.m2_scenario.specs.declared.node.Node.{Node}
+use Rattle.m2_script.specs.Nodes.{cuts_of}
+use Rattle.m2_run.specs.Cuts.{AreCutsOf}
 use Rattle.m2_run.specs.Kept.{IsGathered, IsKeptNode, IsKeptRun, IsUntouched, ends_told, left_of}
 use Rattle.m2_run.specs.Ran.{EndsInFault, HasFinished, HasRan, HasStalled, HaveEnded, IsFaultOf, fault_told}
 use Rattle.m2_run.specs.Rests.{EndedNow, loose_of}
@@ -39,8 +44,9 @@ on_err P Q f (Err e) p = f e p
 
 -- ---- what the fabric tells since the call began
 
-gathered_since : (k : ℕ) (port : SeenPort) (ends : List SeenEnd) (nodes : List Node) (old mid new : SeenFabric) → AreOut nodes old mid → IsGathered k port ends mid new → IsGathered k port ends old new
-gathered_since k port ends nodes old mid new out g = record {
+gathered_since : (cuts : List Cut) (k : ℕ) (port : SeenPort) (ends : List SeenEnd) (nodes : List Node) (old mid new : SeenFabric) → AreOut nodes old mid →
+    IsGathered cuts k port ends mid new → IsGathered cuts k port ends old new
+gathered_since cuts k port ends nodes old mid new out g = record {
   what = g.what;
   told = g.told;
   now = g.now ∙ ap next_count (out.gathers k);
@@ -71,18 +77,21 @@ at_stop may_give start stop nodes links lines k x n m is goes = record {
 -- ---- all
 
 module _ (may_give : ℕ → Type 0) (nodes : List Node) (links : List Link) (lines : List Line) (first kept : List (NodeNow (List Logged))) (start stop : ℕ) (old mid new : SeenFabric)
-    (are : AreNodesOf may_give start nodes links lines first) (given : may_give start) (out : AreOut nodes old mid) (goes : AllGoOn may_give start stop nodes first kept)
+    (are : AreNodesOf may_give start nodes links lines first) (cuts : List (Holding Cut))
+    (are_cuts : AreCutsOf nodes lines cuts) (given : may_give start) (out : AreOut nodes old mid) (goes : AllGoOn may_give start stop nodes first kept)
     (stop_given : may_give stop) (later : start ≤ stop) where
-  kept_node : (ends : List EndedNow) → HaveEnded nodes kept ends mid new → (k : ℕ) (x : Node) (n : NodeNow (List Logged)) → slice_get nodes k ≡ Some x → slice_get kept k ≡ Some n →
+  kept_node : (ends : List EndedNow) → HaveEnded cuts nodes kept ends mid new → (k : ℕ) (x : Node) (n : NodeNow (List Logged)) → slice_get nodes k ≡ Some x → slice_get kept k ≡ Some n →
       There first k → IsKeptNode may_give stop nodes links lines old new k x n
   kept_node ends e k x n there here was = record {
     types = all_at IsOfTypes kept k n here e.types;
     node = at_stop may_give start stop nodes links lines k x was.item n (are.each k x was.item there was.there) (goes.each k x was.item n there was.there here);
-    gathered = λ on. gathered_since k n.center.port (ends_told (rest_of n.center)) nodes old mid new out (e.gathered.on k x n there here on);
+    gathered = λ on. gathered_since (cuts_of nodes lines k) k n.center.port (ends_told (rest_of n.center)) nodes old mid new out
+        (subst (λ (its : List Cut). IsGathered its k n.center.port (ends_told (rest_of n.center)) mid new) (are_cuts.each k (slice_get_within nodes k x there))
+        (e.gathered.on k x n there here on));
     untouched = λ off. untouched_since k x nodes old mid new out there off (e.gathered.off k x there off);
   }
 
-  kept_run : (ends : List EndedNow) → HaveEnded nodes kept ends mid new → IsKeptRun may_give nodes links lines kept start stop old new
+  kept_run : (ends : List EndedNow) → HaveEnded cuts nodes kept ends mid new → IsKeptRun may_give nodes links lines kept start stop old new
   kept_run ends e = record {
     count = goes.count ∙ are.count;
     each = λ k x n there here. kept_node ends e k x n there here (get_too kept first k n (sym goes.count) here);
@@ -92,7 +101,7 @@ module _ (may_give : ℕ → Type 0) (nodes : List Node) (links : List Link) (li
   }
 
   -- of whom the calls are that are told
-  told : {left : ℕ} (o : Outcome) → HasFinished left nodes links kept mid new o → AreLogsOf nodes o.logs.items
+  told : {left : ℕ} (o : Outcome) → HasFinished left cuts nodes links kept mid new o → AreLogsOf nodes o.logs.items
   told o f =
       let run = kept_run f.ends f.ended in
       logs_of_nodes nodes kept o.logs.items f.logs run.count (λ k n here.
@@ -100,7 +109,7 @@ module _ (may_give : ℕ → Type 0) (nodes : List Node) (links : List Link) (li
       let is = run.each k x.item n x.there here in
       node_within may_give stop nodes links lines k is.node.word x.item n is.node.way)
 
-  pub has_ran : (limit left : ℕ) (o : Outcome) → left ≡ left_of links kept → (left ≡ 0) ⊎ HasStalled limit nodes kept start stop → HasFinished left nodes links kept mid new o →
+  pub has_ran : (limit left : ℕ) (o : Outcome) → left ≡ left_of links kept → (left ≡ 0) ⊎ HasStalled limit nodes kept start stop → HasFinished left cuts nodes links kept mid new o →
       HasRan may_give limit nodes links lines old new o
   has_ran limit left o is over f = record {
     kept = kept;
@@ -116,7 +125,7 @@ module _ (may_give : ℕ → Type 0) (nodes : List Node) (links : List Link) (li
     over = subst (λ (l : ℕ). (l ≡ 0) ⊎ HasStalled limit nodes kept start stop) (sym f.left_is) over;
   }
 
-  pub has_faulted : (f : RunFault) → EndsInFault nodes links kept mid new f → IsFaultOf may_give nodes links lines old new f
+  pub has_faulted : (f : RunFault) → EndsInFault cuts nodes links kept mid new f → IsFaultOf may_give nodes links lines old new f
   has_faulted fault.NoMemory ended = tt
   has_faulted (fault.Bind node) ended = elim ended [ ]
   has_faulted (fault.Unfit u) ended = record {
@@ -131,7 +140,7 @@ module _ (may_give : ℕ → Type 0) (nodes : List Node) (links : List Link) (li
 
 -- ---- an end at a link without a history
 
-pub faulted : (nodes : List Node) (links : List Link) (kept : List (NodeNow (List Logged))) (ends : List EndedNow) (old new : SeenFabric) (f : WeaveFault) → HaveEnded nodes kept ends old new →
-    WeavesAll (Err f) ends (loose_of kept) links → EndsInFault nodes links kept old new (fault_told f)
-faulted nodes links kept ends old new weaving.NoMemory ended weaves = tt
-faulted nodes links kept ends old new (weaving.Unfit u) ended weaves = record { ends = ends; ended = ended; stops = weaves }
+pub faulted : (cuts : List (Holding Cut)) (nodes : List Node) (links : List Link) (kept : List (NodeNow (List Logged))) (ends : List EndedNow) (old new : SeenFabric) (f : WeaveFault) → HaveEnded cuts nodes kept ends old new →
+    WeavesAll (Err f) ends (loose_of kept) links → EndsInFault cuts nodes links kept old new (fault_told f)
+faulted cuts nodes links kept ends old new weaving.NoMemory ended weaves = tt
+faulted cuts nodes links kept ends old new (weaving.Unfit u) ended weaves = record { ends = ends; ended = ended; stops = weaves }

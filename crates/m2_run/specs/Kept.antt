@@ -5,6 +5,7 @@
 -- nothing was left or all was still, each node is kept as it is, and its ports and ends go back to the fabric.
 use Rattle.std.specs.Prelude.{◌≡◌, ℕ, ◌≤◌, true, false, if◌then◌else◌, List, [], ◌∷◌, ◌++◌, fold, length, map, max, slice_get, Some}
 use Rattle.std.specs.List.{flat_map, list_any}
+use Rattle.m2_bytes.specs.Items.{Holding}
 use Rattle.m2_cluster.specs.m2_center.Finishing.{RestNow, rest_of}
 use Rattle.m2_cluster.specs.Node.{NodeNow}
 use Rattle.m2_links_go_on.specs.Course.{is_productive}
@@ -13,28 +14,21 @@ use Rattle.m2_dispatch.specs.declared.logged.Logged.{Logged}
 use Rattle.m2_edge.specs.Faults.{next_count}
 use Rattle.m2_fabric.specs.End.{SeenEnd}
 use Rattle.m2_fabric.specs.Fabric.{Gathered, SeenFabric}
-use Rattle.m2_fabric.specs.Log.{Log}
 use Rattle.m2_fabric.specs.Port.{SeenPort}
-use Rattle.m2_fabric.specs.declared.socket.SocketId.{SocketId}
+use Rattle.m2_fabric.specs.declared.port.Cut.{Cut}
 use Rattle.m2_record.specs.RecordNow.{RecordNow, feed_end}
 use Rattle.m2_scenario.specs.declared.line.Line.{Line}
 use Rattle.m2_scenario.specs.declared.link.Link.{Link}
 use Rattle.m2_scenario.specs.declared.node.Node.{Node}
 use Rattle.m2_script.specs.Ended.{ended}
+use Rattle.m2_script.specs.Nodes.{cuts_of}
 use Rattle.m2_script.specs.Outcome.{left_in}
 use Rattle.m2_trail.specs.Arrivals.{LooseNow}
+use Rattle.m2_run.specs.Cuts.{AreEndsOver, cuts_at}
 use Rattle.m2_run.specs.Types.{IsOfTypes}
 use Rattle.m2_run.specs.Way.{IsNodeOf}
 
 -- ---- ends and ports as the fabric tells them
-
--- an end by its socket and all that it did
-pub record EndTold : Type 0 where
-  pub id : SocketId
-  pub log : Log
-
-abbrev pub told_of : SeenEnd → EndTold
-told_of e = record { id = e.id; log = e.log }
 
 -- all ends of a record, as it gives them back: the spent ones and then the feed's
 abbrev pub ends_of_record : RecordNow → List SeenEnd
@@ -45,16 +39,16 @@ ends_of_record r = r.spent ++ feed_end r.core.live.feed
 abbrev pub ends_told : RestNow (List Logged) → List SeenEnd
 ends_told r = flat_map ends_of_record r.records ++ map (λ (l : LooseNow). l.end) r.loose
 
--- The ports that the fabric has of a node are one, which is this one but for the cuts that it has left; and its ends are these, in
--- order. They were gathered in this call, once.
-pub record IsGathered (k : ℕ) (port : SeenPort) (ends : List SeenEnd) (old new : SeenFabric) : Type 0 where
+-- The ports that the fabric has of a node are one, which is this one but for the cuts that it has left; and the ends that it has are
+-- those in these, in order, which break where these cuts of the sockets that the port made say. They were gathered in this call, once.
+pub record IsGathered (cuts : List Cut) (k : ℕ) (port : SeenPort) (ends : List SeenEnd) (old new : SeenFabric) : Type 0 where
   pub what : Gathered
   pub told : new.gathered k ≡ Some what
   pub now : new.gathers k ≡ next_count (old.gathers k)
   pub inner : SeenPort
   pub one : what.ports ≡ inner ∷ []
   pub inside : port ≡ record inner { cuts = port.cuts }
-  pub ends_are : map told_of what.ends ≡ map told_of ends
+  pub ends_are : AreEndsOver cuts port.made ends what.ends
 
 -- the fabric wasn't asked for this node
 pub record IsUntouched (k : ℕ) (old new : SeenFabric) : Type 0 where
@@ -70,7 +64,7 @@ pub record IsKeptNode (may_give : ℕ → Type 0) (stop : ℕ) (nodes : List Nod
     (n : NodeNow (List Logged)) : Type 0 where
   pub types : IsOfTypes n
   pub node : IsNodeOf may_give stop nodes links lines k x n
-  pub gathered : x.started ≡ true → IsGathered k n.center.port (ends_told (rest_of n.center)) old new
+  pub gathered : x.started ≡ true → IsGathered (cuts_of nodes lines k) k n.center.port (ends_told (rest_of n.center)) old new
   pub untouched : x.started ≡ false → IsUntouched k old new
 
 -- ---- a kept run
@@ -98,8 +92,9 @@ left_of links kept = left_in heard_by links (ended (record { nodes = kept; room 
 
 -- ---- all that is gathered
 
--- of each of these nodes that is on, the fabric tells what it left; the others it wasn't asked for
-pub record AllGathered (nodes : List Node) (kept : List (NodeNow (List Logged))) (old new : SeenFabric) : Type 0 where
+-- Of each of these nodes that is on, the fabric tells what it left, whose sockets break where these cuts say; the others it wasn't
+-- asked for.
+pub record AllGathered (cuts : List (Holding Cut)) (nodes : List Node) (kept : List (NodeNow (List Logged))) (old new : SeenFabric) : Type 0 where
   pub on : (k : ℕ) (x : Node) (n : NodeNow (List Logged)) → slice_get nodes k ≡ Some x → slice_get kept k ≡ Some n → x.started ≡ true →
-      IsGathered k n.center.port (ends_told (rest_of n.center)) old new
+      IsGathered (cuts_at cuts k) k n.center.port (ends_told (rest_of n.center)) old new
   pub off : (k : ℕ) (x : Node) → slice_get nodes k ≡ Some x → x.started ≡ false → IsUntouched k old new

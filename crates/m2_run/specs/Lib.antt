@@ -1,4 +1,5 @@
 pub mod Begins
+pub mod Cuts
 pub mod Gathering
 pub mod Joined
 pub mod Kept

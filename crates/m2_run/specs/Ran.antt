@@ -1,10 +1,12 @@
 -- What came of a run. This project's own.
 use Rattle.std.specs.Prelude.{◌≡◌, ◌⊎◌, ℕ, ◌+◌, ◌≤◌, List, ◌++◌, map}
 use Rattle.std.specs.List.{AllByRecursion}
+use Rattle.m2_bytes.specs.Items.{Holding}
 use Rattle.m2_cluster.specs.Node.{NodeNow}
 use Rattle.m2_dispatch.specs.Heard.{Heard, heard_by}
 use Rattle.m2_dispatch.specs.declared.logged.Logged.{Logged}
 use Rattle.m2_fabric.specs.Fabric.{SeenFabric}
+use Rattle.m2_fabric.specs.declared.port.Cut.{Cut}
 use Rattle.m2_scenario.specs.Report.{AreLogsOf, heard_in}
 use Rattle.m2_scenario.specs.declared.line.Line.{Line}
 use Rattle.m2_scenario.specs.declared.link.Link.{Link}
@@ -33,24 +35,24 @@ pub record HasStalled (limit : ℕ) (nodes : List Node) (kept : List (NodeNow (L
 
 -- ---- the end of nodes
 
--- What is left of these nodes is this; and the fabric tells it of those that are on.
-pub record HaveEnded (nodes : List Node) (kept : List (NodeNow (List Logged))) (ends : List EndedNow) (old new : SeenFabric) : Type 0 where
+-- What is left of these nodes is this; and the fabric tells it of those that are on, whose sockets break where these cuts say.
+pub record HaveEnded (cuts : List (Holding Cut)) (nodes : List Node) (kept : List (NodeNow (List Logged))) (ends : List EndedNow) (old new : SeenFabric) : Type 0 where
   pub types : AllByRecursion IsOfTypes kept
   pub are_ends : AreEndsOf kept ends
-  pub gathered : AllGathered nodes kept old new
+  pub gathered : AllGathered cuts nodes kept old new
 
 -- They have ended, each link has its history, and this is told.
-pub record HasFinished (left : ℕ) (nodes : List Node) (links : List Link) (kept : List (NodeNow (List Logged))) (old new : SeenFabric) (o : Outcome) : Type 0 where
+pub record HasFinished (left : ℕ) (cuts : List (Holding Cut)) (nodes : List Node) (links : List Link) (kept : List (NodeNow (List Logged))) (old new : SeenFabric) (o : Outcome) : Type 0 where
   pub ends : List EndedNow
-  pub ended : HaveEnded nodes kept ends old new
+  pub ended : HaveEnded cuts nodes kept ends old new
   pub logs : map heard_in o.logs.items ≡ map heard_at_end kept
   pub left_is : o.left ≡ left
   pub woven : HaveHistories ends (loose_of kept) links
 
 -- or a link has none
-pub record HasFinishedUnfit (nodes : List Node) (links : List Link) (kept : List (NodeNow (List Logged))) (old new : SeenFabric) (u : Unfit) : Type 0 where
+pub record HasFinishedUnfit (cuts : List (Holding Cut)) (nodes : List Node) (links : List Link) (kept : List (NodeNow (List Logged))) (old new : SeenFabric) (u : Unfit) : Type 0 where
   pub ends : List EndedNow
-  pub ended : HaveEnded nodes kept ends old new
+  pub ended : HaveEnded cuts nodes kept ends old new
   pub stops : StopsAtLink ends (loose_of kept) links u
 
 -- what weaving answers, as what came of the run
@@ -58,10 +60,10 @@ abbrev pub fault_told : WeaveFault → RunFault
 fault_told weaving.NoMemory = fault.NoMemory
 fault_told (weaving.Unfit u) = fault.Unfit u
 
-abbrev pub EndsInFault : List Node → List Link → List (NodeNow (List Logged)) → (old new : SeenFabric) → RunFault → Type 0
-EndsInFault nodes links kept old new fault.NoMemory = Unit {0}
-EndsInFault nodes links kept old new (fault.Bind node) = ⊥
-EndsInFault nodes links kept old new (fault.Unfit u) = HasFinishedUnfit nodes links kept old new u
+abbrev pub EndsInFault : List (Holding Cut) → List Node → List Link → List (NodeNow (List Logged)) → (old new : SeenFabric) → RunFault → Type 0
+EndsInFault cuts nodes links kept old new fault.NoMemory = Unit {0}
+EndsInFault cuts nodes links kept old new (fault.Bind node) = ⊥
+EndsInFault cuts nodes links kept old new (fault.Unfit u) = HasFinishedUnfit cuts nodes links kept old new u
 
 -- ---- a run
 

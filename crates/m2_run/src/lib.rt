@@ -16,6 +16,7 @@
 
 mod beginning;
 mod counting;
+mod cuts;
 mod ending;
 mod gathering;
 mod laws;

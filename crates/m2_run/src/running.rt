@@ -3,6 +3,7 @@
 ghost use Rattle.std.specs.Prelude.{◌≡◌, ◌<◌, ◌≤◌, ◌^◌, ◌⊎◌, IfErr, IfOk, length, map};
 ghost use Rattle.m2_scenario.specs.Draft.{draft_line};
 ghost use Rattle.m2_scenario.specs.Valid.{IsSound};
+ghost use Rattle.m2_run.specs.Cuts.{AreCutsOf};
 ghost use Rattle.m2_run.specs.Kept.{left_of};
 ghost use Rattle.m2_run.specs.Ran.{EndsInFault, HasFinished, HasRan, HasStalled, IsFaultOf, fault_told};
 ghost use Rattle.m2_run.specs.Way.{AllGoOn, ArePortsOut};
@@ -10,6 +11,7 @@ ghost use Rattle.m2_run.specs.Working.{AreWorkersOf, node_of};
 
 use crate::beginning::{Begun, begin};
 use crate::counting::posts_that_count;
+use crate::cuts::cuts_of_all;
 use crate::ending::{AllEnded, end_all};
 use crate::gathering::gather_all;
 use crate::outcome::{Outcome, RunFault};
@@ -19,7 +21,7 @@ use crate::weaving::weave_all;
 use crate::worker::Signs;
 use m2_bytes::NoMemory;
 use m2_edge::{Clock, Gate, Words};
-use m2_fabric::{Fabric, Port};
+use m2_fabric::{CutList, Fabric, Port};
 use m2_links_go_on::WeaveFault;
 use m2_scenario::{LineList, Link, Node};
 use std::alloc::Global;
@@ -52,13 +54,58 @@ where
     ensures ok { IfOk result (HasRan (C.may_give clock.now) limit nodes.now links.now lines.items (F.seen fabric.old) (F.seen fabric.new)) }
     ensures err { IfErr result (IsFaultOf (C.may_give clock.now) nodes.now links.now lines.items (F.seen fabric.old) (F.seen fabric.new)) }
 {
+    match cuts_of_all(alloc, nodes, lines.as_slice()) {
+        Err(NoMemory) => Err(RunFault::NoMemory),
+        Ok(cuts) => run_with(
+            rt,
+            alloc,
+            nodes,
+            links,
+            lines,
+            cuts.as_slice(),
+            limit,
+            fabric,
+            clock,
+            words,
+            gate,
+        ),
+    }
+}
+
+/// The same, where `cuts` has those of the sockets that each node opens.
+fn run_with<R, F, C, W, G>(
+    rt: &R,
+    alloc: Global,
+    nodes: &[Node],
+    links: &[Link],
+    lines: LineList,
+    cuts: &[CutList],
+    limit: u64,
+    fabric: &mut F,
+    clock: &C,
+    words: &mut W,
+    gate: &G,
+) -> Result<Outcome, RunFault>
+where
+    R: Threads + Wait + Sync,
+    F: Fabric,
+    F::Port: Send,
+    <F::Port as Port>::End: Send,
+    C: Clock,
+    W: Words,
+    G: Gate,
+    requires sound { IsSound nodes.now links.now (map draft_line lines.items) }
+    requires cuts { AreCutsOf nodes.now lines.items cuts.now }
+    ensures ok { IfOk result (HasRan (C.may_give clock.now) limit nodes.now links.now lines.items (F.seen fabric.old) (F.seen fabric.new)) }
+    ensures err { IfErr result (IsFaultOf (C.may_give clock.now) nodes.now links.now lines.items (F.seen fabric.old) (F.seen fabric.new)) }
+{
     let posts = posts_that_count(links, lines.as_slice());
     let begun = begin(alloc, nodes, links, lines, fabric, clock, words)?;
     match play(rt, alloc, nodes, links, begun, posts, limit, clock, gate) {
         Err(NoMemory) => Err(RunFault::NoMemory),
         Ok(played) => {
             let Played { cluster, settled } = played;
-            finish(alloc, nodes, links, fabric, cluster, settled.left)
+            finish(alloc, nodes, links, cuts, fabric, cluster, settled.left)
         }
     }
 }
@@ -109,26 +156,28 @@ where
     }
 }
 
-/// Ends all nodes, weaves the links, and gives ports and ends back.
+/// Ends all nodes, weaves the links, and gives ports and ends back. `cuts` has those of the sockets that each node opened.
 fn finish<F: Fabric>(
     alloc: Global,
     nodes: &[Node],
     links: &[Link],
+    cuts: &[CutList],
     fabric: &mut F,
     cluster: RunCluster<F::Port>,
     left: u64,
 ) -> Result<Outcome, RunFault>
     requires count { length cluster.nodes ≡ length nodes.now }
+    requires cuts { length cuts.now ≡ length nodes.now }
     requires few { length nodes.now < 2 ^ 32 }
     requires out { ArePortsOut nodes.now (F.seen fabric.old) }
-    ensures ok { IfOk result (HasFinished left nodes.now links.now cluster.nodes (F.seen fabric.old) (F.seen fabric.new)) }
-    ensures err { IfErr result (EndsInFault nodes.now links.now cluster.nodes (F.seen fabric.old) (F.seen fabric.new)) }
+    ensures ok { IfOk result (HasFinished left cuts.now nodes.now links.now cluster.nodes (F.seen fabric.old) (F.seen fabric.new)) }
+    ensures err { IfErr result (EndsInFault cuts.now nodes.now links.now cluster.nodes (F.seen fabric.old) (F.seen fabric.new)) }
 {
     match end_all(alloc, cluster) {
         Err(NoMemory) => Err(RunFault::NoMemory),
         Ok(AllEnded { ends, loose }) => {
             let woven = weave_all(alloc, links, ends.as_slice(), &loose);
-            match gather_all(alloc, nodes, fabric, ends, loose) {
+            match gather_all(alloc, nodes, cuts, fabric, ends, loose) {
                 Err(NoMemory) => Err(RunFault::NoMemory),
                 Ok(logs) => match woven {
                     Ok(()) => Ok(Outcome { logs, left }),

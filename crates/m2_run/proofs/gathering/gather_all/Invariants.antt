@@ -8,7 +8,7 @@ abbrev pub invariant-nodes : goal.invariant-nodes
 invariant-nodes g l =
     let seen = g.F.Fabric.seen in
     record {
-      in_hand : AreInHand l.nodes l.fn.ends.items l.ends.items l.fn.loose.items l.loose.rest.items l.logs.items (seen l.fn.fabric) (seen l.fabric);
+      in_hand : AreInHand l.cuts l.nodes l.fn.ends.items l.ends.items l.fn.loose.items l.loose.rest.items l.logs.items (seen l.fn.fabric) (seen l.fabric);
       few : length l.ends.items ≤ length l.nodes;
       room : length l.ends.items ≤ vec_capacity l.logs - vec_len l.logs;
     }

@@ -1,7 +1,7 @@
--- One half more.
-use Rattle.std.proofs.Common.{◌≡◌, ◌+◌, ◌-◌, ◌∙◌, suc, arith}
+-- One half more, and at the end all.
+use Rattle.std.proofs.Common.{◌≡◌, ◌+◌, ◌-◌, ◌∙◌, suc, map, sym, arith}
 use Rattle.m2_script.proofs.Moving.{left_fewer}
-use Rattle.m2_run.proofs.Giving.{one_half}
+use Rattle.m2_run.proofs.Giving.{first_none, none_of, one_half}
 use Rattle.m2_run.proofs.gathering.give_halves.Goals as goal
 
 pub loop-preserved : goal.loop-preserved
@@ -11,8 +11,23 @@ loop-preserved g c =
     let m = c.args.count - (l.counter + 1) in
     let fewer : n ≡ suc m = omega arith in
     record {
-      given = one_half g.E.End.seen l.into.items c.push.new.self.items l.loose.rest.items c.next.new.self.rest.items c.into_end.result c.into_parts-end.result.0 c.in-Some.half n m
-          c.in-Some.ensures.items fewer
-          c.in_ok-push.ensures.items c.into_end.ensures c.into_parts-end.ensures.end ∙ l.invariant.given;
+      given = λ all o. l.invariant.given all
+          (one_half c.args.cuts.now c.args.made.now g.E.End.seen l.into.items c.push.new.self.items l.loose.rest.items c.next.new.self.rest.items c.in_ok-inner.inner c.into_parts-end.result.0
+          c.in-Some.half n m all c.in-Some.ensures.items fewer c.in_ok-push.ensures.items c.in_ok-inner.ensures c.into_parts-end.ensures.end o);
       left = left_fewer l.loose.rest.items c.next.new.self.rest.items c.in-Some.half n m c.in-Some.ensures.items fewer ∙ l.invariant.left;
     }
+
+pub returns-in_default-clause-given : goal.returns-in_default-clause-given
+returns-in_default-clause-given g c =
+    let l = c.loop in
+    let left = l.loose.rest in
+    let now = map g.E.End.seen l.into.items in
+    l.invariant.given now (none_of c.args.cuts.now c.args.made.now (c.args.count - l.counter) left.items now (sym left.ok.0 ∙ c.in_default.ensures.cases.0))
+
+pub returns-clause-given : goal.returns-clause-given
+returns-clause-given g c =
+    let l = c.loop in
+    let now = map g.E.End.seen l.into.items in
+    let n = c.args.count - l.counter in
+    let none : n ≡ 0 = omega (arith, c.loop-test.false) in
+    l.invariant.given now (first_none c.args.cuts.now c.args.made.now n l.loose.rest.items now none)

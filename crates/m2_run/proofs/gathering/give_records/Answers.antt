@@ -1,11 +1,8 @@
 -- The ends of one record more, the last one of those that are left, which were turned round.
-use Rattle.std.proofs.Common.{rules, ◌≡◌, [], map, refl, sym, subst, ◌∙◌, ◌++◌}
-use Rattle.std.specs.List.{flat_map}
+use Rattle.std.proofs.Common.{rules, ◌≡◌, [], map, refl, sym, subst, ◌∙◌}
 use Rattle.m2_record.specs.Calls.{Owns}
 use Rattle.m2_cluster.specs.m2_center.Finishing.{AllOwn}
 use Rattle.m2_cluster.proofs.m2_center.Granted.{before_last}
-use Rattle.m2_run.specs.Gathering.{all_told}
-use Rattle.m2_run.specs.Kept.{ends_of_record}
 use Rattle.m2_run.proofs.Giving.{all_reversed, none_given, none_left, one_record}
 use Rattle.m2_run.proofs.gathering.give_records.Goals as goal
 
@@ -15,7 +12,7 @@ records-init g c =
     record {
       place = refl;
       owned = subst (AllOwn place) (sym c.reverse.ensures.items) (all_reversed (Owns place) c.args.records.items c.requires.owned);
-      given = none_given g.E.End.seen c.args.into.now.items c.args.records.items c.reverse.new.self.items c.reverse.ensures.items;
+      given = λ all o. none_given c.args.cuts.now c.args.made.now c.args.records.items c.reverse.new.self.items (map g.E.End.seen c.args.into.now.items) all c.reverse.ensures.items o;
     }
 
 pub ends-ends-requires-clause-owned : goal.ends-ends-requires-clause-owned
@@ -31,9 +28,9 @@ records-preserved g c =
     record {
       place = c.ends-ends.ensures.place ∙ l.invariant.place;
       owned = (before_last (Owns place) c.pop.new.self.items c.in-Some.side (subst (AllOwn place) c.in-Some.ensures.items l.invariant.owned)).0;
-      given = one_record l.given c.give_ends-given.result (all_told (map seen l.into.items)) (all_told (map seen c.give_ends-given.new.into.items))
-          (all_told (map seen c.args.into.now.items) ++ all_told (flat_map ends_of_record c.args.records.items)) c.ends-ends.result.items l.records.items c.pop.new.self.items c.in-Some.side
-          c.in-Some.ensures.items c.ends-ends.ensures.ends c.give_ends-given.ensures.given c.give_ends-given.ensures.before l.invariant.given;
+      given = one_record c.args.cuts.now c.args.made.now l.given c.give_ends-given.result (map seen c.args.into.now.items) (map seen l.into.items) (map seen c.give_ends-given.new.into.items)
+          c.ends-ends.result.items c.args.records.items l.records.items c.pop.new.self.items c.in-Some.side c.in-Some.ensures.items c.ends-ends.ensures.ends c.give_ends-given.ensures.given
+          c.give_ends-given.ensures.before l.invariant.given;
     }
 
 pub returns-clause-given : goal.returns-clause-given
@@ -41,5 +38,4 @@ returns-clause-given g c =
     let l = c.records in
     let seen = g.E.End.seen in
     let none : l.records.items ≡ [] = search rules in
-    none_left l.given (all_told (map seen l.into.items)) (all_told (map seen c.args.into.now.items) ++ all_told (flat_map ends_of_record c.args.records.items)) l.records.items
-    none l.invariant.given
+    none_left c.args.cuts.now c.args.made.now l.given (map seen c.args.into.now.items) (map seen l.into.items) c.args.records.items l.records.items none l.invariant.given

@@ -1,10 +1,11 @@
--- What the ends so far and those of the records that are left tell is what all tell, where memory lasted so far; and what those records hold
--- was granted by this throttle.
-use Rattle.std.proofs.Common.{◌≡◌, ◌++◌, length, map, reverse}
+-- Whatever puts the ends of the records that are left last, behind those so far, puts those of all records last, where memory lasted so far;
+-- and what those records hold was granted by this throttle.
+use Rattle.std.proofs.Common.{◌≡◌, List, length, map, reverse}
 use Rattle.std.specs.Prelude.{OnOk}
 use Rattle.std.specs.List.{flat_map}
 use Rattle.m2_cluster.specs.m2_center.Finishing.{AllOwn}
-use Rattle.m2_run.specs.Gathering.{all_told}
+use Rattle.m2_fabric.specs.End.{SeenEnd}
+use Rattle.m2_run.specs.Gathering.{Opens}
 use Rattle.m2_run.specs.Kept.{ends_of_record}
 use Rattle.m2_run.proofs.gathering.give_records.Given as goal
 
@@ -14,8 +15,8 @@ invariant-records g l =
     record {
       place : l.pass.place ≡ l.fn.pass.place;
       owned : AllOwn l.throttle.place l.records.items;
-      given : OnOk l.given (all_told (map seen l.into.items) ++ all_told (flat_map ends_of_record (reverse l.records.items))
-          ≡ all_told (map seen l.fn.into.items) ++ all_told (flat_map ends_of_record l.fn.records.items));
+      given : OnOk l.given ((all : List SeenEnd) → Opens l.cuts l.made (flat_map ends_of_record (reverse l.records.items)) (map seen l.into.items) all →
+          Opens l.cuts l.made (flat_map ends_of_record l.fn.records.items) (map seen l.fn.into.items) all);
     }
 
 abbrev pub decreases-records : goal.decreases-records

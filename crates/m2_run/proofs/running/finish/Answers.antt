@@ -25,10 +25,10 @@ returns-in-Err-woven-clause-err g c =
     let nodes = c.args.cluster.nodes in
     let links = c.args.links.now in
     let told = c.in-Ok-gather_all.ensures in
-    let ended : HaveEnded c.args.nodes.now nodes c.in-Ok.field-0.ends.items (seen c.args.fabric.now) (seen c.gather_all.new.fabric) =
+    let ended : HaveEnded c.args.cuts.now c.args.nodes.now nodes c.in-Ok.field-0.ends.items (seen c.args.fabric.now) (seen c.gather_all.new.fabric) =
     record { types = c.in-Ok.ensures.types; are_ends = c.in-Ok.ensures.ends; gathered = told.gathered nodes c.in-Ok.ensures.ends c.in-Ok.ensures.loose } in
     let weaves = subst (λ r. WeavesAll r c.as_slice.result.now c.in-Ok.field-0.loose.items links) c.in-Err-woven.is c.weave_all-woven.ensures in
-    subst (EndsInFault c.args.nodes.now links nodes (seen c.args.fabric.now) (seen c.gather_all.new.fabric)) (sym c.fault_told.ensures)
-    (faulted c.args.nodes.now links nodes c.in-Ok.field-0.ends.items (seen c.args.fabric.now) (seen c.gather_all.new.fabric) c.in-Err-woven.fault ended
+    subst (EndsInFault c.args.cuts.now c.args.nodes.now links nodes (seen c.args.fabric.now) (seen c.gather_all.new.fabric)) (sym c.fault_told.ensures)
+    (faulted c.args.cuts.now c.args.nodes.now links nodes c.in-Ok.field-0.ends.items (seen c.args.fabric.now) (seen c.gather_all.new.fabric) c.in-Err-woven.fault ended
     (subst (λ es. WeavesAll (Err c.in-Err-woven.fault) es (loose_of nodes) links) c.as_slice.ensures.value
     (subst (λ ls. WeavesAll (Err c.in-Err-woven.fault) c.as_slice.result.now ls links) c.in-Ok.ensures.loose weaves)))
