@@ -1,6 +1,6 @@
-//! The program where a read or a write fails, and where sockets are cut; and a load of which some is left.
+//! The program where a read or a write fails, and a load of which some is left.
 
-use m2_bytes::{Blob, Items, put_decimal};
+use m2_bytes::{Blob, Items};
 use m2_cli::{Status, msgr2};
 use m2_edge::{CallList, CountWords, FixedClock, Input, InputList, MemSink, MemSource, OpenGate};
 use m2_mem_fabric::MemFabric;
@@ -19,13 +19,15 @@ const DISPATCHED: &[u8] = b"b from a 127 queued 7 616263 - -\n";
 const WAIT: &[u8] =
     b"\x10\x01\0\0\0\0\x08\0\0\0\0\0\0\0\0\0\0\0\0\0\0\0\0\0\0\0\0\0\xc8\xe3\xaa\xb0";
 
-/// Words, the file named `f`, and of the calls of the source and of standard output the one that fails, if one does.
+/// Words, the file named `f`, and of the calls of the source, of standard output and of standard error the one that fails,
+/// if one does.
 #[derive(Clone, Copy)]
-struct Asked<'a> {
-    words: &'a [&'a str],
-    file: &'a [u8],
-    read: Option<u64>,
-    write: Option<u64>,
+pub(crate) struct Asked<'a> {
+    pub(crate) words: &'a [&'a str],
+    pub(crate) file: &'a [u8],
+    pub(crate) read: Option<u64>,
+    pub(crate) write: Option<u64>,
+    pub(crate) say: Option<u64>,
 }
 
 /// A status, and what was printed and said.
@@ -73,7 +75,7 @@ fn run<R: Abort + Threads + Wait + Sync + Send + Copy>(
     let inputs = inputs(rt, alloc, asked.file);
     let mut src = MemSource::new(inputs, calls(rt, alloc, asked.read));
     let mut out = MemSink::new(alloc, calls(rt, alloc, asked.write));
-    let mut err = MemSink::new(alloc, Items::empty(alloc));
+    let mut err = MemSink::new(alloc, calls(rt, alloc, asked.say));
     let mut fabric = MemFabric::new(*rt, alloc).expect(rt, "memory");
     let status = msgr2(
         rt,
@@ -91,7 +93,7 @@ fn run<R: Abort + Threads + Wait + Sync + Send + Copy>(
 }
 
 /// Runs it, and compares the status and what is printed and said.
-fn expect<R: Abort + Threads + Wait + Sync + Send + Copy>(
+pub(crate) fn expect<R: Abort + Threads + Wait + Sync + Send + Copy>(
     rt: &R,
     alloc: Global,
     asked: &Asked<'_>,
@@ -135,33 +137,9 @@ fn a_failed_call_is_answered(rt: HostRuntime) {
             file,
             read,
             write,
+            say: None,
         };
         expect(&rt, rt.alloc(), &asked, status, out, err);
-    }
-}
-
-/// The scenario of the post, whose first socket at its opener breaks after so many bytes.
-fn cut_after(rt: &impl Abort, alloc: Global, bytes: u64) -> Blob {
-    let mut file = Blob::of(alloc, POST).expect(rt, "memory");
-    file.push_all(b"cut a b ").expect(rt, "memory");
-    put_decimal(&mut file, bytes).expect(rt, "memory");
-    file.push_all(b"\n").expect(rt, "memory");
-    file
-}
-
-// At the opener 719 bytes pass before the message, which has 93, and its acknowledgement 44; the shortest frame has 32. A
-// cut holds wherever its line stands.
-#[test]
-fn a_post_comes_once_wherever_its_first_socket_is_cut(rt: HostRuntime) {
-    for place in 0..60 {
-        let file = cut_after(&rt, rt.alloc(), 15 * place);
-        let asked = Asked {
-            words: &["sim", "f"],
-            file: file.as_slice(),
-            read: None,
-            write: None,
-        };
-        expect(&rt, rt.alloc(), &asked, Status::Done, DISPATCHED, b"");
     }
 }
 
@@ -174,6 +152,7 @@ fn a_load_tells_how_many_are_left(rt: HostRuntime) {
         file: b"",
         read: None,
         write: None,
+        say: None,
     };
     let status = Status::Left { count: 21 };
     let printed = b"posted 100\ndispatched 79\nleft 21\n";

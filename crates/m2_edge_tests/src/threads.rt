@@ -22,7 +22,7 @@ const OFF: &[u8] = b"node a osd 127.0.0.1:7001/1\nnode b osd 127.0.0.1:7002/2\n\
 link a b lossless_peer lossless_peer\noff b\nlimit 50\npost a b 7 127 61 - -\n";
 
 /// Runs a file over a fabric, and compares the status and what is printed and said.
-fn expect<R: Abort + Threads + Wait + Sync + Send + Copy, C: Clock, G: Gate>(
+pub(crate) fn expect<R: Abort + Threads + Wait + Sync + Send + Copy, C: Clock, G: Gate>(
     rt: &R,
     alloc: Global,
     file: &[u8],
