@@ -10,7 +10,7 @@ import os, re, subprocess, sys, tempfile
 
 TOP = os.path.dirname(os.path.dirname(os.path.abspath(__file__)))
 PAGES = ("README.md", "docs/SCENARIOS.md", "docs/FRAMES.md", "examples/pictures/README.md")
-BUILT = ("msgr2", "run_trace", "frame_facts")  # that the gate has proved and built before
+BUILT = ("msgr2", "run_trace", "frame_facts", "explain")  # that the gate has proved and built before
 MOST = 300  # seconds of one command
 NOT_RUN = {  # by their beginnings
     ".ci/run": "it is the gate, of which this is a part",

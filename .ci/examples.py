@@ -29,6 +29,7 @@ FOLDERS = {  # the program, and the words that it gets for a file of the folder;
     "examples/frames": ("msgr2", ["frames", "{}"]),
     "crates/msgr2/runs": ("msgr2", None),
     TRACES: ("record_trace", ["{}"]),
+    "crates/explain/runs": ("explain", None),
     "crates/frame_facts/runs": ("frame_facts", None),
     "crates/record_trace/runs": ("record_trace", None),
     "crates/run_trace/runs": ("run_trace", None),
