@@ -138,3 +138,10 @@ __attribute__((destructor)) static void tell(void) {
   int file = open(name, O_WRONLY | O_CREAT | O_TRUNC, 0600);
   if (file >= 0 && write(file, text, (size_t)length) == length) close(file);
 }
+
+/* The program ends by this call, which runs no destructor. */
+void _exit(int status) {
+  tell();
+  syscall(SYS_exit_group, status);
+  __builtin_unreachable();
+}
