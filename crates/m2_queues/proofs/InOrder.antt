@@ -7,9 +7,9 @@ use Rattle.std.specs.BinaryHeap.{IsUpperBound}
 use Rattle.std.proofs.lemmas.Bool.Decides.{nat_tests}
 use Rattle.std.proofs.lemmas.List.Elements.{recursion_from_All, All-from_recursion}
 use Rattle.std.proofs.lemmas.List.Sorted.{All-permutation, IsPermutation-refl}
-use Rattle.m2_queues.specs.declared.priority_queue.Posted.{Posted}
-use Rattle.m2_queues.specs.PriorityQueue.{joined, first_item}
-use Rattle.m2_queues.specs.PriorityQueueFields.{posted_cmp, comes_before, put_in_order, in_order, ranked_of, items_of, AreApart, IsEarlier}
+use Rattle.m2_queues.specs.declared.stable_heap.Posted.{Posted}
+use Rattle.m2_queues.specs.PriorityQueue.{joined, first_item, first_rank}
+use Rattle.m2_queues.specs.StableHeapFields.{posted_cmp, comes_before, put_in_order, in_order, ranked_of, items_of, AreApart, IsEarlier}
 use Rattle.m2_queues.proofs.Permuted.{along_permutation}
 
 module _ {T : Type 0} where
@@ -143,3 +143,9 @@ module _ {T : Type 0} where
   first_of x (y ∷ ys) some is top apart =
       let upper : IsUpperBound posted_cmp y (y ∷ ys) = subst (λ (z : Posted T). IsUpperBound posted_cmp z (y ∷ ys)) is top in
       rw (top_first y (y ∷ ys) ys (IsPermutation-refl (y ∷ ys)) upper.1 apart) (ap (λ (z : Posted T). Some z.item) is)
+
+  pub first_rank_of : (x : Posted T) (xs : List (Posted T)) → 0 < length xs → x ≡ get_or xs 0 x → IsUpperBound posted_cmp x xs → AreApart xs → Some x.rank ≡ first_rank (items_of xs)
+  first_rank_of x [] some is top apart = absurd (omega arith)
+  first_rank_of x (y ∷ ys) some is top apart =
+      let upper : IsUpperBound posted_cmp y (y ∷ ys) = subst (λ (z : Posted T). IsUpperBound posted_cmp z (y ∷ ys)) is top in
+      rw (top_first y (y ∷ ys) ys (IsPermutation-refl (y ∷ ys)) upper.1 apart) (ap (λ (z : Posted T). Some z.rank) is)

@@ -7,6 +7,7 @@ pub mod PriorityLaws
 pub mod PriorityQueue
 pub mod PriorityQueueFields
 pub mod QueueLaws
+pub mod StableHeapFields
 pub use Rattle.m2_message.specs.m2_crc as m2_crc
 pub use Rattle.m2_message.specs.m2_frame as m2_frame
 pub use Rattle.m2_message.specs as m2_message

@@ -26,3 +26,8 @@ joined rank item rs = put_behind rank_of (record { rank = rank; item = item }) r
 abbrev pub first_item : {T : Type 0} → List (Ranked T) → Option T
 first_item [] = None
 first_item (r ∷ rs) = Some r.item
+
+-- and its rank
+abbrev pub first_rank : {T : Type 0} → List (Ranked T) → Option ℕ
+first_rank [] = None
+first_rank (r ∷ rs) = Some r.rank

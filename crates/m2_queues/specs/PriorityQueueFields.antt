@@ -1,51 +1,41 @@
--- How the items of a priority queue lie in its heap, and the list that contracts see of them.
-use Rattle.std.specs.Prelude.{ℕ, ◌≢◌, ◌+◌, ◌<◌, ◌≤◌, ◌^◌, Bool, List, [], ◌∷◌, map, if◌then◌else◌}
+-- How the items of a priority queue lie in its lane, which has those of one rank, and in its heap, which has the
+-- others; and the list that contracts see of them.
+use Rattle.std.specs.Prelude.{◌≡◌, ◌≢◌, ◌==◌, ℕ, ◌+◌, ◌<◌, ◌≤◌, ◌^◌, Bool, true, not, ◌&&◌, List, [], ◌∷◌, ◌++◌, Option, Some, None, length, map, nat_lt, if◌then◌else◌}
 use Rattle.std.specs.List.{AllByRecursion}
-use Rattle.std.specs.BinaryHeap.{IsHeap, heap_items, heap_len, heap_capacity}
-use Rattle.std.specs.Ordering.{nat_cmp, ordering_then, is_lt}
-use Rattle.std.specs.declared.cmp.Ordering.{Ordering}
+use Rattle.std.specs.VecDeque.{deque_len, deque_capacity}
 use Rattle.m2_queues.specs.PriorityQueue.{Ranked, Line}
-use Rattle.m2_queues.specs.declared.priority_queue.Posted.{Posted}
 use Rattle.m2_queues.specs.declared.priority_queue.PriorityQueue.TheInside.{Inside}
 
--- the heap gives the greatest first: the greatest rank, and of it the earliest post
-abbrev pub posted_cmp : {T : Type 0} → Posted T → Posted T → Ordering
-posted_cmp x y = ordering_then (nat_cmp x.rank y.rank) (nat_cmp y.post.0 x.post.0)
+abbrev pub at_rank : {T : Type 0} → ℕ → T → Ranked T
+at_rank rank item = record { rank = rank; item = item }
 
--- whether x comes out before y
-abbrev pub comes_before : {T : Type 0} → Posted T → Posted T → Bool
-comes_before x y = is_lt (posted_cmp y x)
+-- items of one rank among others, behind all of a greater rank
+abbrev pub placed_among : {T : Type 0} → ℕ → List (Ranked T) → List (Ranked T) → List (Ranked T)
+placed_among rank lane [] = lane
+placed_among rank lane (r ∷ rs) = if nat_lt rank r.rank then r ∷ placed_among rank lane rs else lane ++ r ∷ rs
 
-abbrev pub put_in_order : {T : Type 0} → Posted T → List (Posted T) → List (Posted T)
-put_in_order x [] = x ∷ []
-put_in_order x (y ∷ ys) = if comes_before y x then y ∷ put_in_order x ys else x ∷ y ∷ ys
+abbrev pub items_among : {T : Type 0} → ℕ → List T → List (Ranked T) → List (Ranked T)
+items_among rank lane others = placed_among rank (map (at_rank rank) lane) others
 
-abbrev pub in_order : {T : Type 0} → List (Posted T) → List (Posted T)
-in_order [] = []
-in_order (x ∷ xs) = put_in_order x (in_order xs)
+-- whether the lane's first item comes out before the first of the others, or there is no other
+abbrev pub goes_before_others : ℕ → Bool → Option ℕ → Bool
+goes_before_others rank empty None = true
+goes_before_others rank empty (Some other) = not empty && nat_lt other rank
 
-abbrev pub ranked_of : {T : Type 0} → Posted T → Ranked T
-ranked_of x = record { rank = x.rank; item = x.item }
+-- a lane gets another rank where there is no item
+abbrev pub rank_for : ℕ → ℕ → ℕ → ℕ
+rank_for len lane_rank rank = if len == 0 then rank else lane_rank
 
-abbrev pub items_of : {T : Type 0} → List (Posted T) → List (Ranked T)
-items_of xs = map ranked_of (in_order xs)
-
--- no two are the same post
-abbrev pub AreApart : {T : Type 0} → List (Posted T) → Type 0
-AreApart [] = Unit {0}
-AreApart (x ∷ xs) = AllByRecursion (λ y. y.post.0 ≢ x.post.0) xs × AreApart xs
-
--- an earlier post than the next one
-abbrev pub IsEarlier : {T : Type 0} → ℕ → Posted T → Type 0
-IsEarlier posts x = x.post.0 < posts
+abbrev pub IsOfAnother : {T : Type 0} → ℕ → Ranked T → Type 0
+IsOfAnother rank r = r.rank ≢ rank
 
 abbrev pub line_of : {T : Type 0} → Inside T → Line T
-line_of w = record { items = items_of (heap_items w.heap); room = w.room }
+line_of w = record { items = items_among w.lane_rank w.lane.items w.others.items; room = w.room }
 
 -- what holds of the fields of a queue
 pub record IsLine {T : Type 0} (w : Inside T) : Type 0 where
-  pub in_heap : IsHeap posted_cmp (heap_items w.heap)
-  pub apart : AreApart (heap_items w.heap)
-  pub earlier : AllByRecursion (IsEarlier w.posts) (heap_items w.heap)
-  pub roomy : heap_len w.heap + w.room ≤ heap_capacity w.heap
-  pub counted : w.posts + w.room < 2 ^ 64
+  pub apart : AllByRecursion (IsOfAnother w.lane_rank) w.others.items
+  pub counted : w.len ≡ deque_len w.lane + length w.others.items
+  pub fits : w.len + w.room < 2 ^ 64
+  pub lane_room : deque_len w.lane + w.room ≤ deque_capacity w.lane
+  pub others_room : w.room ≤ w.others.room

@@ -16,6 +16,7 @@ mod priority_laws;
 mod priority_queue;
 mod queue_laws;
 mod sort;
+mod stable_heap;
 
 pub use due::Due;
 pub use in_numbers::{InNumbers, Judge};

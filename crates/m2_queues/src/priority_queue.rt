@@ -2,32 +2,14 @@
 
 ghost use Rattle.std.specs.Prelude.{◌≡◌, ◌==◌, ◌-◌, ◌<◌, ◌≤◌, [], length, drop, max, IsOk, OnOk, OnErr, MatchResult};
 ghost use Rattle.std.specs.Option.{option_copied};
-ghost use Rattle.m2_queues.specs.PriorityQueue.{joined, first_item};
+ghost use Rattle.m2_queues.specs.PriorityQueue.{joined, first_item, first_rank};
+ghost use Rattle.m2_queues.specs.PriorityQueueFields.{goes_before_others, rank_for};
 
+use crate::stable_heap::StableHeap;
 use m2_bytes::NoMemory;
 use std::alloc::Global;
-use std::cmp::Reverse;
-use std::collections::BinaryHeap;
+use std::collections::VecDeque;
 use std::marker::Model;
-
-/// An item with its place: the greatest rank first, the earliest post first inside one.
-#[derive(Drop)]
-#[derive_where(PartialEq, Eq, PartialOrd, Ord)]
-pub(crate) struct Posted<T> {
-    rank: u64,
-    /// How many posts came before it.
-    post: Reverse<u64>,
-    #[derive_where(skip(EqHashOrd))]
-    item: T,
-}
-
-impl<T> Posted<T> {
-    fn item(&self) -> &T
-        ensures { result.now ≡ self.now.item }
-    {
-        &self.item
-    }
-}
 
 /// Items, each with a rank that was given with it: the greatest rank comes out first, and inside a
 /// rank the item that went in first. Contracts see them in this order, with the room that is
@@ -40,9 +22,12 @@ impl<T> Posted<T> {
 /// and `push` take memory.
 #[derive(Drop)]
 pub struct PriorityQueue<T> {
-    heap: BinaryHeap<Posted<T>>,
-    /// How many items went in.
-    posts: u64,
+    /// The items of one rank, that of the first item that went into an empty queue: they take no place in
+    /// the heap, and mostly there are no others.
+    lane: VecDeque<T>,
+    lane_rank: u64,
+    others: StableHeap<T>,
+    len: usize,
     room: u32,
 }
 
@@ -57,14 +42,33 @@ impl<T> Model for PriorityQueue<T> {
     ghost invariant = { IsLine };
 }
 
+/// Whether the lane's first item comes out next, or no item does.
+fn is_lane_next<T>(lane: &VecDeque<T>, rank: u64, others: &StableHeap<T>) -> bool
+    ensures { result ≡ goes_before_others rank (length lane.now.items == 0) (first_rank others.now.items) }
+{
+    match others.first_rank() {
+        None => true,
+        Some(other) => !lane.is_empty() && other < rank,
+    }
+}
+
+/// The rank of the lane of a queue of `len` items, where an item of this rank is to go in.
+fn lane_rank_for(len: usize, lane_rank: u64, rank: u64) -> u64
+    ensures { result ≡ rank_for len lane_rank rank }
+{
+    if len == 0 { rank } else { lane_rank }
+}
+
 impl<T> PriorityQueue<T> {
     /// No items. Takes no memory.
     pub fn empty(alloc: Global) -> PriorityQueue<T>
         ensures { result ≡ record { items = []; room = 0 } }
     {
         PriorityQueue {
-            heap: BinaryHeap::new(alloc),
-            posts: 0,
+            lane: VecDeque::new(alloc),
+            lane_rank: 0,
+            others: StableHeap::empty(alloc),
+            len: 0,
             room: 0,
         }
     }
@@ -72,13 +76,13 @@ impl<T> PriorityQueue<T> {
     pub fn len(&self) -> usize
         ensures { result ≡ length self.now.items }
     {
-        self.heap.len()
+        self.len
     }
 
     pub fn is_empty(&self) -> bool
         ensures { result ≡ (length self.now.items == 0) }
     {
-        self.heap.is_empty()
+        self.len == 0
     }
 
     /// How many pushes succeed whatever memory there is.
@@ -88,8 +92,8 @@ impl<T> PriorityQueue<T> {
         self.room
     }
 
-    /// Makes the room at least `n`. Err comes for want of memory, or where fewer than `n` pushes are
-    /// left of 2^64 - 1.
+    /// Makes the room at least `n`. Err comes for want of memory, or where so many items more, or so many
+    /// pushes more, couldn't be counted.
     pub fn reserve(&mut self, n: u32) -> Result<(), NoMemory>
         ensures ok { OnOk result (self.new ≡ record self.old { room = max self.old.room n }) }
         ensures err { OnErr result (self.new ≡ self.old) }
@@ -98,10 +102,11 @@ impl<T> PriorityQueue<T> {
         if n <= self.room {
             return Ok(());
         }
-        if u64::MAX - self.posts < u64::from(n) {
+        if usize::MAX - self.len < n as usize {
             return Err(NoMemory);
         }
-        self.heap.reserve(n as usize)?;
+        self.lane.reserve(n as usize)?;
+        self.others.reserve(n)?;
         self.room = n;
         Ok(())
     }
@@ -126,18 +131,14 @@ impl<T> PriorityQueue<T> {
         requires { 0 < self.old.room }
         ensures { self.new ≡ record { items = joined rank item self.old.items; room = self.old.room - 1 } }
     {
-        let posted = Posted {
-            rank,
-            post: Reverse(self.posts),
-            item,
-        };
-        match self.heap.push(posted) {
-            Ok(()) => {
-                self.posts += 1;
-                self.room -= 1;
-            }
-            Err(_) => unreachable!(),
+        self.lane_rank = lane_rank_for(self.len, self.lane_rank, rank);
+        self.len += 1;
+        self.room -= 1;
+        if rank != self.lane_rank {
+            self.others.push_reserved(rank, item);
+            return;
         }
+        self.lane.push_back_reserved(item);
     }
 
     /// Takes the first item out; None exactly where there is none.
@@ -145,11 +146,13 @@ impl<T> PriorityQueue<T> {
         ensures item { result ≡ first_item self.old.items }
         ensures rest { self.new ≡ record self.old { items = drop 1 self.old.items } }
     {
-        let Posted {
-            rank: _,
-            post: _,
-            item,
-        } = self.heap.pop()?;
+        if !is_lane_next(&self.lane, self.lane_rank, &self.others) {
+            let item = self.others.pop()?;
+            self.len -= 1;
+            return Some(item);
+        }
+        let item = self.lane.pop_front()?;
+        self.len -= 1;
         Some(item)
     }
 
@@ -157,9 +160,10 @@ impl<T> PriorityQueue<T> {
     pub fn first(&self) -> Option<&T>
         ensures { option_copied result ≡ first_item self.now.items }
     {
-        match self.heap.peek() {
-            Some(posted) => Some(posted.item()),
-            None => None,
+        if is_lane_next(&self.lane, self.lane_rank, &self.others) {
+            self.lane.front()
+        } else {
+            self.others.first()
         }
     }
 
@@ -169,13 +173,16 @@ impl<T> PriorityQueue<T> {
         T: Drop,
         ensures { self.new ≡ record self.old { items = [] } }
     {
-        self.heap.clear();
+        self.lane.clear();
+        self.others.clear();
+        self.len = 0;
     }
 
     /// Ends a queue of linear items that has none left.
     pub fn destroy_empty(self)
         requires { self.items ≡ [] }
     {
-        self.heap.destroy_empty();
+        self.lane.destroy_empty();
+        self.others.destroy_empty();
     }
 }

@@ -1,22 +1,10 @@
--- The heap's top is the head of the line.
-use Rattle.std.proofs.Common.{refl, arith, heap_items}
-use Rattle.m2_queues.proofs.InOrder.{after_take}
+-- Where the lane's first item doesn't come out next, the first of the others does.
+use Rattle.std.proofs.Common.{sym, ◌∙◌}
+use Rattle.m2_queues.proofs.Lanes.{other_next}
 use Rattle.m2_queues.proofs.priority_queue.PriorityQueue.pop.Goals as goal
 
-pub invariant_of-self-2 : goal.invariant_of-self-2
-invariant_of-self-2 g c =
-    let taken = after_take c.self.inside.posts c.in_ok-item.field-0 (heap_items c.self.inside.heap) (heap_items c.pop.new.self)
-    c.in_ok-item.ensures.permutation (c.in_ok-item.ensures.below_top c.self.invariant.in_heap) c.self.invariant.apart c.self.invariant.earlier in
-    record {
-      in_heap = (c.in_ok-item.ensures.heap_order c.self.invariant.in_heap).0;
-      apart = taken.apart;
-      earlier = taken.earlier;
-      roomy = omega (arith, c.in_ok-item.ensures.len, c.in_ok-item.ensures.capacity, c.self.invariant.roomy);
-      counted = c.self.invariant.counted;
-    }
-
-pub returns : goal.returns
-returns g c =
-    let taken = after_take c.self.inside.posts c.in_ok-item.field-0 (heap_items c.self.inside.heap) (heap_items c.pop.new.self)
-    c.in_ok-item.ensures.permutation (c.in_ok-item.ensures.below_top c.self.invariant.in_heap) c.self.invariant.apart c.self.invariant.earlier in
-    rw (← c.self.view_is) (rw taken.items (record { item = refl; rest = refl }))
+pub returns-then-not-is_lane_next-clause-rest : goal.returns-then-not-is_lane_next-clause-rest
+returns-then-not-is_lane_next-clause-rest g c =
+    let w = c.self.inside in
+    let rest = other_next w.lane_rank w.lane.items w.others.items c.self.invariant.apart (sym c.is_lane_next.ensures ∙ c.if-not-is_lane_next.true) in
+    rw (← c.self.view_is, c.pop.ensures.rest, rest)

@@ -1,23 +1,51 @@
--- Joining the heap's items is joining the line behind the rank.
-use Rattle.std.proofs.Common.{◌<◌, refl, arith, heap_items}
-use Rattle.m2_queues.proofs.InOrder.{after_put}
+-- An item joins the lane, or the others: either way it joins the line behind its rank.
+use Rattle.std.proofs.Common.{◌≡◌, ◌≢◌, ◌+◌, ◌<◌, length, sym, ap, ◌∙◌, arith}
+use Rattle.std.proofs.lemmas.Bool.Decides.{nat_tests}
+use Rattle.m2_queues.specs.PriorityQueue.{rank_of, joined}
+use Rattle.m2_queues.specs.PriorityQueueFields.{items_among, IsOfAnother}
+use Rattle.m2_queues.proofs.Joining.{length-put_behind, all-put_behind}
+use Rattle.m2_queues.proofs.Lanes.{IsForAnother, another_rank, joins_lane, joins_others}
 use Rattle.m2_queues.proofs.priority_queue.PriorityQueue.push_reserved.Goals as goal
 
 pub invariant_of-self : goal.invariant_of-self
 invariant_of-self g c =
-    let roomy : 0 < c.self.inside.room = rw (← c.self.view_is) at c.requires in
-    let placed = after_put c.self.inside.posts (record { rank = c.args.rank; post = record { 0 = c.self.inside.posts }; item = c.args.item })
-    (heap_items c.self.inside.heap) (heap_items c.push.new.self) refl c.in-Ok.ensures.permutation c.self.invariant.apart c.self.invariant.earlier in
+    let w = c.self.inside in
+    let rank = c.lane_rank_for-self-inside.result in
+    let roomy : 0 < w.room = rw (← c.self.view_is) at c.requires in
+    let counted : w.len ≡ length w.lane.items + length w.others.items = omega (arith, c.self.invariant.counted, w.lane.ok) in
+    let moved : IsForAnother w.lane_rank rank w.lane.items w.others.items =
+    rw c.lane_rank_for-self-inside.ensures (another_rank w.len w.lane_rank c.args.rank w.lane.items w.others.items counted c.self.invariant.apart) in
+    let test = c.if-rank-self.true in
+    let other : c.args.rank ≢ rank = grind (arith, nat_tests) in
     record {
-      in_heap = c.in-Ok.ensures.heap_order c.self.invariant.in_heap;
-      apart = placed.apart;
-      earlier = placed.earlier;
-      roomy = omega (arith, c.in-Ok.ensures.len, c.in-Ok.ensures.capacity, c.self.invariant.roomy);
-      counted = omega (arith, c.self.invariant.counted);
+      apart = rw c.push_reserved.ensures (all-put_behind rank_of (IsOfAnother rank) (record { rank = c.args.rank; item = c.args.item }) w.others.items other moved.apart);
+      counted = rw (c.push_reserved.ensures, length-put_behind) (omega (arith, c.self.invariant.counted));
+      fits = omega (arith, c.self.invariant.fits, roomy);
+      lane_room = omega (arith, c.self.invariant.lane_room);
+      others_room = rw c.push_reserved.ensures (omega (arith, c.self.invariant.others_room));
     }
+
+pub returns-then-rank-self : goal.returns-then-rank-self
+returns-then-rank-self g c =
+    let w = c.self.inside in
+    let rank = c.lane_rank_for-self-inside.result in
+    let counted : w.len ≡ length w.lane.items + length w.others.items = omega (arith, c.self.invariant.counted, w.lane.ok) in
+    let moved : IsForAnother w.lane_rank rank w.lane.items w.others.items =
+    rw c.lane_rank_for-self-inside.ensures (another_rank w.len w.lane_rank c.args.rank w.lane.items w.others.items counted c.self.invariant.apart) in
+    let test = c.if-rank-self.true in
+    let other : c.args.rank ≢ rank = grind (arith, nat_tests) in
+    let joins = sym (joins_others rank (record { rank = c.args.rank; item = c.args.item }) w.lane.items w.others.items other moved.apart) ∙ ap (joined c.args.rank c.args.item) moved.items in
+    rw (← c.self.view_is, c.push_reserved.ensures, joins)
 
 pub returns : goal.returns
 returns g c =
-    let placed = after_put c.self.inside.posts (record { rank = c.args.rank; post = record { 0 = c.self.inside.posts }; item = c.args.item })
-    (heap_items c.self.inside.heap) (heap_items c.push.new.self) refl c.in-Ok.ensures.permutation c.self.invariant.apart c.self.invariant.earlier in
-    rw (← c.self.view_is, placed.items)
+    let w = c.self.inside in
+    let rank = c.lane_rank_for-self-inside.result in
+    let counted : w.len ≡ length w.lane.items + length w.others.items = omega (arith, c.self.invariant.counted, w.lane.ok) in
+    let moved : IsForAnother w.lane_rank rank w.lane.items w.others.items =
+    rw c.lane_rank_for-self-inside.ensures (another_rank w.len w.lane_rank c.args.rank w.lane.items w.others.items counted c.self.invariant.apart) in
+    let test = c.if-rank-self.false in
+    let same : c.args.rank ≡ rank = grind (arith, nat_tests) in
+    let joins = sym (joins_lane rank c.args.item w.lane.items w.others.items moved.apart) ∙ ap (joined rank c.args.item) moved.items
+    ∙ ap (λ n. joined n c.args.item (items_among w.lane_rank w.lane.items w.others.items)) (sym same) in
+    rw (← c.self.view_is, c.push_back_reserved.ensures.items, joins)

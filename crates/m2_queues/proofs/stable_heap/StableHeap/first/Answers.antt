@@ -1,6 +1,6 @@
 use Rattle.std.proofs.Common.{heap_items}
 use Rattle.m2_queues.proofs.InOrder.{first_of}
-use Rattle.m2_queues.proofs.priority_queue.PriorityQueue.first.Goals as goal
+use Rattle.m2_queues.proofs.stable_heap.StableHeap.first.Goals as goal
 
 pub returns-in-Some : goal.returns-in-Some
 returns-in-Some g c =
