@@ -1,6 +1,6 @@
 -- The frame that carries a message: Ceph's msgr2 documentation, message frame. The segments are the
 -- header, the front, the middle and the data.
-use Rattle.std.specs.Prelude.{◌≡◌, ℕ}
+use Rattle.std.specs.Prelude.{◌≡◌}
 use Rattle.m2_message.specs.Message.{Content}
 use Rattle.m2_frame.specs.Frame.{Parts, message_tag}
 use Rattle.m2_message.specs.HeaderText.{header_text, header_in, FieldsFit}

@@ -11,6 +11,28 @@ use std::alloc::Global;
 /// How many bytes a header has.
 pub const HEADER_BYTES: usize = 41;
 
+/// The header's text, in place.
+#[tactic(auto, unfolding(crate::specs::HeaderText::header_text))]
+pub(crate) fn header_bytes(h: &Header) -> [u8; HEADER_BYTES]
+    ensures { result ≡ header_text h.now }
+{
+    let s = h.seq.to_le_bytes();
+    let t = h.tid.to_le_bytes();
+    let k = h.kind.to_le_bytes();
+    let p = h.priority.to_le_bytes();
+    let v = h.version.to_le_bytes();
+    let g = h.pre_padding.to_le_bytes();
+    let d = h.data_off.to_le_bytes();
+    let a = h.ack_seq.to_le_bytes();
+    let c = h.compat.to_le_bytes();
+    let r = h.reserved.to_le_bytes();
+    [
+        s[0], s[1], s[2], s[3], s[4], s[5], s[6], s[7], t[0], t[1], t[2], t[3], t[4], t[5], t[6],
+        t[7], k[0], k[1], p[0], p[1], v[0], v[1], g[0], g[1], g[2], g[3], d[0], d[1], a[0], a[1],
+        a[2], a[3], a[4], a[5], a[6], a[7], h.flags, c[0], c[1], r[0], r[1],
+    ]
+}
+
 /// The header's text.
 pub fn write_header(alloc: Global, h: &Header) -> Result<Blob, NoMemory>
     ensures { IfOk result (λ text. text.bytes ≡ header_text h.now) }

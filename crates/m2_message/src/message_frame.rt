@@ -2,15 +2,17 @@
 
 ghost use Rattle.std.specs.Prelude.{◌≡◌, ◌≢◌, ◌↔◌, length, IsErr, IfOk, IsOkAnd};
 ghost use Rattle.m2_message.specs.Message.{Content, content_of, with_numbers, IsSendable};
+ghost use Rattle.m2_bytes.specs.Blob.{Appends};
 ghost use Rattle.m2_frame.specs.Frame.{parts, message_tag, Fits};
+ghost use Rattle.m2_frame.specs.Text.{text_of};
 ghost use Rattle.m2_message.specs.HeaderText.{FieldsFit};
-ghost use Rattle.m2_message.specs.MessageFrame.{message_in, Carries};
+ghost use Rattle.m2_message.specs.MessageFrame.{message_in, parts_of, Carries};
 
 use crate::fault::MessageFault;
-use crate::header_text::{HEADER_BYTES, read_header, write_header};
+use crate::header_text::{HEADER_BYTES, header_bytes, read_header, write_header};
 use crate::{Header, Message};
-use m2_bytes::NoMemory;
-use m2_frame::{Frame, Tag};
+use m2_bytes::{Blob, NoMemory};
+use m2_frame::{Frame, FrameView, Tag, encode_view};
 use std::alloc::Global;
 
 /// The header with these two numbers in place of its own.
@@ -42,6 +44,23 @@ pub fn to_frame(alloc: Global, message: &Message, seq: u64, ack_seq: u64) -> Res
         third: message.middle.copy()?,
         fourth: message.tail.copy()?,
     })
+}
+
+/// Appends the text of the frame that carries the message with these two numbers in its header. Front,
+/// middle and data are copied once, into that text.
+pub fn put_frame(message: &Message, seq: u64, ack_seq: u64, out: &mut Blob) -> Result<(), NoMemory>
+    requires { IsSendable message.now }
+    ensures { Appends result out.old out.new (text_of (parts_of (with_numbers seq ack_seq (content_of message.now)))) }
+{
+    let first = header_bytes(&numbered(message.header, seq, ack_seq));
+    let frame = FrameView {
+        tag: Tag::Message.number(),
+        first: &first,
+        second: message.front.as_slice(),
+        third: message.middle.as_slice(),
+        fourth: message.tail.as_slice(),
+    };
+    encode_view(&frame, out)
 }
 
 /// The message that a MESSAGE frame carries. Its parts are moved out of the frame, not copied.
