@@ -5,16 +5,12 @@ ghost use Rattle.m2_control.specs.Control.{IsWritable, text_of};
 ghost use Rattle.m2_frame.specs.declared.frame.TheConstants.{CONTROL_LIMIT};
 ghost use Rattle.m2_frame.specs.declared.encoding.TheConstants.{CRC_BYTES};
 ghost use Rattle.m2_frame.specs.declared.preamble.TheConstants.{PREAMBLE_BYTES};
-ghost use Rattle.m2_frame.specs.Text as frame;
 ghost use Rattle.m2_handshake.specs.Texts.{Adds, frame_text};
-ghost use Rattle.m2_message.specs.Message.{IsSendable, content_of, with_numbers};
-ghost use Rattle.m2_message.specs.MessageFrame.{parts_of};
 
 use crate::outgoing::Outgoing;
 use m2_bytes::{Blob, NoMemory};
 use m2_control::Control;
 use m2_frame::{CRC_BYTES, Frame, PREAMBLE_BYTES, encode};
-use m2_message::{Message, to_frame};
 use std::alloc::Global;
 
 /// How many bytes the payload of a record's CLIENT_IDENT has.
@@ -99,19 +95,4 @@ pub(crate) fn reserve_control(
 {
     payload.reserve(len)?;
     out.reserve(PREAMBLE_BYTES + len + CRC_BYTES)
-}
-
-/// Appends the frame of a message with these two numbers.
-pub(crate) fn put_message(
-    alloc: Global,
-    m: &Message,
-    number: u64,
-    acked: u64,
-    out: &mut Outgoing,
-) -> Result<(), NoMemory>
-    requires { IsSendable m.now }
-    ensures { Adds result out.old out.new (frame.text_of (parts_of (with_numbers number acked (content_of m.now)))) }
-{
-    let frame = to_frame(alloc, m, number, acked)?;
-    out.append(&frame)
 }

@@ -17,7 +17,7 @@ ghost use Rattle.m2_feed.specs.Calls.{Composes, ComposesIfOk, GivesNext, GreetsO
 ghost use Rattle.m2_feed.specs.FeedNow.{CanCompose, is_framing};
 
 use crate::answers::FeedWrite;
-use crate::composing::{put_control, put_message, reserve_control};
+use crate::composing::{put_control, reserve_control};
 use crate::moving::{greeting_left, note_put, put_answer, read_into, room_for_read};
 use crate::outgoing::Outgoing;
 use crate::reader::Reader;
@@ -334,7 +334,7 @@ impl<E: End> Feed<E> {
         requires sendable { IsSendable m.now }
         ensures { ComposesIfOk result (writing.Named true) (frame.text_of (parts_of (with_numbers number acked (content_of m.now)))) self.old self.new }
     {
-        put_message(self.alloc, m, number, acked, &mut self.outgoing)?;
+        self.outgoing.append_message(m, number, acked)?;
         self.writing = Writing::Named { acknowledges: true };
         Ok(())
     }

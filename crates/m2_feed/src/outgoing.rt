@@ -4,11 +4,14 @@ ghost use Rattle.std.specs.Prelude.{◌≡◌, ◌≤◌, [], length, drop, OnOk
 ghost use Rattle.m2_bytes.specs.Blob.{Appends};
 ghost use Rattle.m2_frame.specs.Frame.{parts, Fits};
 ghost use Rattle.m2_frame.specs.Text.{text_of};
+ghost use Rattle.m2_message.specs.Message.{IsSendable, content_of, with_numbers};
+ghost use Rattle.m2_message.specs.MessageFrame.{parts_of};
 ghost use Rattle.m2_feed.specs.Calls.{HalfWrites, SignsOnlyAs, is_empty};
 
 use m2_bytes::{Blob, NoMemory};
 use m2_frame::{Frame, encode};
 use m2_handshake::{Half, HalfStep};
+use m2_message::{Message, put_frame};
 use std::alloc::Global;
 use std::marker::Model;
 
@@ -95,6 +98,20 @@ impl Outgoing {
         ensures { Appends result self.old self.new (text_of (parts frame.now)) }
     {
         encode(frame, &mut self.text)
+    }
+
+    /// Appends the text of the frame of a message with these two numbers. It succeeds wherever that fits in
+    /// the room.
+    pub(crate) fn append_message(
+        &mut self,
+        m: &Message,
+        number: u64,
+        acked: u64,
+    ) -> Result<(), NoMemory>
+        requires { IsSendable m.now }
+        ensures { Appends result self.old self.new (text_of (parts_of (with_numbers number acked (content_of m.now)))) }
+    {
+        put_frame(m, number, acked, &mut self.text)
     }
 
     /// The next answer of a half, which appends what it writes.
