@@ -59,6 +59,7 @@ pub use hearing::raise;
 pub use laws::waits_double;
 pub use live::{Live, give_back};
 pub use live_asking::{ask_len, cookie_at};
+pub use m2_queues::OutQueues;
 pub use next::{CoreFront, CoreNext};
 pub use on_feed::{
     acknowledge_on, answer_on, front_on, grant_on, greet_on, hear_on, next_on, read_on, write_on,

@@ -26,8 +26,8 @@ use std::marker::Model;
 /// each call that makes an entry that behind that entry it stands where the replay of a journal does,
 /// wherever it did so before. It can't be dropped, since a grant can't: it ends by [`end`](Core::end).
 ///
-/// Readers: [`session`](Core::session), [`feed`](Core::feed), [`waits`](Core::waits),
-/// [`may_dial`](Core::may_dial), [`is_exhausted`](Core::is_exhausted). By the plan:
+/// Readers: [`session`](Core::session), [`feed`](Core::feed), [`out`](Core::out), [`accepted`](Core::accepted),
+/// [`granted`](Core::granted), [`waits`](Core::waits), [`may_dial`](Core::may_dial), [`is_exhausted`](Core::is_exhausted). By the plan:
 /// [`post`](Core::post), [`dial`](Core::dial), [`down`](Core::down). The feed comes and goes: [`opened`](Core::opened), [`fault`](Core::fault).
 /// Bytes: [`read`](Core::read), [`write`](Core::write). What was read: [`shake`](Core::shake),
 /// [`hearing`](Core::hearing), [`obey`](Core::obey), and [`next`](Core::next), which
@@ -129,6 +129,30 @@ impl<E: End> Core<E> {
         ensures { option_map (λ f. f.now) result ≡ self.now.live.feed }
     {
         self.live.feed.as_ref()
+    }
+
+    /// The messages that are to be sent, or sent and not yet acknowledged.
+    pub fn out(&self) -> &OutQueues
+        ensures { result.now ≡ self.now.live.out }
+    {
+        &self.live.out
+    }
+
+    /// The number of the last accepted message, 0 before the first.
+    pub fn accepted(&self) -> u64
+        ensures { result ≡ self.now.live.last }
+    {
+        self.live.last
+    }
+
+    /// How many bytes the throttle has granted for the MESSAGE that isn't finished.
+    pub fn granted(&self) -> u64
+        ensures { result ≡ held self.now.live.granted }
+    {
+        match &self.live.granted {
+            Some(grant) => grant.n(),
+            None => 0,
+        }
     }
 
     /// Whether a message is kept or waits to be written.

@@ -247,6 +247,13 @@ impl OutQueues {
         !self.kept.is_empty() || !self.waiting.is_empty()
     }
 
+    /// How many wait that have no number yet.
+    pub fn waiting(&self) -> usize
+        ensures { result ≡ length self.now.queue.waiting }
+    {
+        self.waiting.len()
+    }
+
     /// The number before that of the first kept message.
     pub fn base(&self) -> u64
         ensures { result ≡ self.now.queue.base }

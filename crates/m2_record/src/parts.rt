@@ -1,6 +1,7 @@
 //! What a record lends.
 
 ghost use Rattle.std.specs.Prelude.{◌≡◌, map};
+ghost use Rattle.m2_core.specs.LiveNow.{held};
 ghost use Rattle.m2_record.specs.Due.{on_feed};
 ghost use Rattle.m2_record.specs.IsRecord.{IsRecord};
 ghost use Rattle.m2_record.specs.RecordNow.{IsSessionOf, composed_on, feed_end};
@@ -8,6 +9,7 @@ ghost use Rattle.m2_trail.specs.Trails.{trail_now};
 ghost use Rattle.std.specs.Option.{option_map, option_to_list};
 
 use crate::record::Record;
+use m2_core::OutQueues;
 use m2_fabric::End;
 use m2_feed::Feed;
 use m2_journal::{EntryList, NodeFacts, PlanList, replays_are_sound};
@@ -122,6 +124,27 @@ impl<E: End> Record<E> {
             Some(feed) => feed.composed(),
             None => &[],
         }
+    }
+
+    /// The messages that are to be sent, or sent and not yet acknowledged.
+    pub fn out(&self) -> &OutQueues
+        ensures { result.now ≡ self.now.core.live.out }
+    {
+        self.core.out()
+    }
+
+    /// The number of the last accepted message since numbers were last set back, 0 before the first.
+    pub fn accepted(&self) -> u64
+        ensures { result ≡ self.now.core.live.last }
+    {
+        self.core.accepted()
+    }
+
+    /// How many bytes the throttle has granted for the message that is being read.
+    pub fn granted(&self) -> u64
+        ensures { result ≡ held self.now.core.live.granted }
+    {
+        self.core.granted()
     }
 
     /// The moment before which no connect is due.
