@@ -412,6 +412,28 @@ def descriptors_come_back(program):
     return found if greeted else [*found, "descriptors_come_back: no stranger was taken"]
 
 
+def few_descriptors(program):
+    """Whatever the number of descriptors that the process may have, a run of one post ends by its limit: a node can't listen, or
+    nobody is connected, or the post comes."""
+    found, ends = [], set()
+    for most in range(4, 16):
+        lines, _ = nodes(["a", "b"])
+        lines += ["link a b lossless_peer lossless_peer", "limit 300", "post a b 1 127 61 - -"]
+        with tempfile.NamedTemporaryFile("w", suffix=".scenario") as file:
+            file.write("\n".join(lines) + "\n")
+            file.flush()
+            own = lambda: resource.setrlimit(resource.RLIMIT_NOFILE, (most, most))
+            try:
+                got = subprocess.run([program, "run", file.name], capture_output=True, text=True, timeout=SECONDS, preexec_fn=own)
+            except subprocess.TimeoutExpired:
+                found.append(f"few_descriptors: of {most}: not ended after {SECONDS} seconds")
+                continue
+        ends.add(got.returncode)
+        if got.returncode not in (0, 5, 7) or bool(got.stdout) != (got.returncode == 0):
+            found.append(f"few_descriptors: of {most}: status {got.returncode}, {got.stdout!r}, {got.stderr!r}")
+    return found if ends >= {5, 7, 0} else [*found, f"few_descriptors: statuses {sorted(ends)} alone"]
+
+
 # ---- cuts
 
 
@@ -432,7 +454,7 @@ def each_cut(program):
 
 
 CASES = (a_server_answers, sixty_five_sockets, what_strangers_hold, a_session_that_is_not_there, another_session, two_ask_at_once, a_cookie_comes_again,
-         a_second_ident_in_ready, descriptors_come_back, each_cut)
+         a_second_ident_in_ready, descriptors_come_back, few_descriptors, each_cut)
 
 
 def main():

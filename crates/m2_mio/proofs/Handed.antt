@@ -1,5 +1,5 @@
 -- The bytes that an end got are those that the system gave, and those that the system took are the first that were put.
-use Rattle.std.proofs.Common.{◌≡◌, ℕ, ◌+◌, ◌≤◌, List, [], ◌∷◌, ◌++◌, length, take, drop, sym, ap, ◌∙◌, arith, append-nil}
+use Rattle.std.proofs.Common.{◌≡◌, ℕ, ◌+◌, ◌≤◌, Bool, true, false, List, [], ◌∷◌, ◌++◌, length, take, drop, sym, ap, ◌∙◌, arith, append-nil}
 use Rattle.std.proofs.lemmas.List.{length-append, take-append-le}
 use Rattle.std.proofs.Math.Seq.{take-add}
 use Rattle.m2_fabric.specs.Log.{Log, after_read, after_write}
@@ -7,7 +7,7 @@ use Rattle.m2_fabric.specs.declared.end.EndRead.{EndRead}
 use Rattle.m2_fabric.specs.declared.end.EndRead.TheVariants as read
 use Rattle.m2_fabric.specs.declared.end.EndWrite.{EndWrite}
 use Rattle.m2_fabric.specs.declared.end.EndWrite.TheVariants as write
-use Rattle.m2_mio.specs.End.{Asks, TakesWhole, IsHandedOn, MioSeen}
+use Rattle.m2_mio.specs.End.{Asks, AsksOnce, TakesWhole, IsHandedOn, MioSeen, answered}
 use Rattle.m2_mio.specs.Stream.{Answers, IsReadOf, after_reading, mark_of}
 
 -- ---- a read, noted as it was answered
@@ -15,13 +15,14 @@ use Rattle.m2_mio.specs.Stream.{Answers, IsReadOf, after_reading, mark_of}
 nothing_more : (a : List ℕ) (got : List ℕ) → a ≡ got → a ++ [] ≡ got
 nothing_more a got h = append-nil a ∙ h
 
-pub read_is_handed_on : (answer : EndRead) (piece : List ℕ) (log : Log) (sent : ℕ) (a : Answers) → IsHandedOn log sent a
-    → IsHandedOn (after_read answer piece log) sent (after_reading answer piece a)
-read_is_handed_on (read.Got n) piece log sent a h = record { within = h.within; got = ap (λ l. l ++ take n piece) h.got; taken = h.taken }
-read_is_handed_on read.NotYet piece log sent a h = record { within = h.within; got = nothing_more a.given log.got h.got; taken = h.taken }
-read_is_handed_on read.Ended piece log sent a h = record { within = h.within; got = nothing_more a.given log.got h.got; taken = h.taken }
-read_is_handed_on read.Failed piece log sent a h = record { within = h.within; got = nothing_more a.given log.got h.got; taken = h.taken }
-read_is_handed_on read.NoMemory piece log sent a h = record { within = h.within; got = nothing_more a.given log.got h.got; taken = h.taken }
+pub read_is_handed_on : (refused : Bool) (own : EndRead) (piece : List ℕ) (log : Log) (sent : ℕ) (a : Answers) → IsHandedOn log sent a
+    → IsHandedOn (after_read (answered refused own) piece log) sent (after_reading own piece a)
+read_is_handed_on refused (read.Got n) piece log sent a h = record { within = h.within; got = ap (λ l. l ++ take n piece) h.got; taken = h.taken }
+read_is_handed_on false read.NotYet piece log sent a h = record { within = h.within; got = nothing_more a.given log.got h.got; taken = h.taken }
+read_is_handed_on true read.NotYet piece log sent a h = record { within = h.within; got = nothing_more a.given log.got h.got; taken = h.taken }
+read_is_handed_on refused read.Ended piece log sent a h = record { within = h.within; got = nothing_more a.given log.got h.got; taken = h.taken }
+read_is_handed_on refused read.Failed piece log sent a h = record { within = h.within; got = nothing_more a.given log.got h.got; taken = h.taken }
+read_is_handed_on refused read.NoMemory piece log sent a h = record { within = h.within; got = nothing_more a.given log.got h.got; taken = h.taken }
 
 -- ---- a write, noted
 
@@ -56,10 +57,23 @@ whole_after write.NotYet piece mid new e s g = rw (e, s) g
 whole_after write.Failed piece mid new e s g = g
 whole_after write.NoMemory piece mid new e s g = g
 
-pub asked_once : (answer : EndRead) (piece : List ℕ) (old new : MioSeen) → IsReadOf answer piece
-    → new.answers.reads ≡ old.answers.reads ++ mark_of answer ∷ [] → Asks answer old new
-asked_once (read.Got n) piece old new r h = h
-asked_once read.NotYet piece old new r h = h
-asked_once read.Ended piece old new r h = h
-asked_once read.Failed piece old new r h = h
-asked_once read.NoMemory piece old new r h = absurd r
+asks_once : (answer own : EndRead) (old new : MioSeen) → new.answers.reads ≡ old.answers.reads ++ mark_of own ∷ []
+    → answer ≡ answered new.answers.refused own → AsksOnce answer old new
+asks_once answer own old new asked is = record { own = own; asked = asked; answer_is = is }
+
+-- what the system may have answered to a read, where the read answered NoMemory: nothing
+never_for_memory : (refused : Bool) (own : EndRead) (piece : List ℕ) → IsReadOf own piece → read.NoMemory ≡ answered refused own → ⊥
+never_for_memory refused (read.Got n) piece r e = cc
+never_for_memory false read.NotYet piece r e = cc
+never_for_memory true read.NotYet piece r e = cc
+never_for_memory refused read.Ended piece r e = cc
+never_for_memory refused read.Failed piece r e = cc
+never_for_memory refused read.NoMemory piece r e = r
+
+pub asked_once : (answer own : EndRead) (piece : List ℕ) (old new : MioSeen) → IsReadOf own piece
+    → new.answers.reads ≡ old.answers.reads ++ mark_of own ∷ [] → answer ≡ answered new.answers.refused own → Asks answer old new
+asked_once (read.Got n) own piece old new r h e = asks_once (read.Got n) own old new h e
+asked_once read.NotYet own piece old new r h e = asks_once read.NotYet own old new h e
+asked_once read.Ended own piece old new r h e = asks_once read.Ended own old new h e
+asked_once read.Failed own piece old new r h e = asks_once read.Failed own old new h e
+asked_once read.NoMemory own piece old new r h e = absurd (never_for_memory new.answers.refused own piece r e)

@@ -1,5 +1,5 @@
 -- What contracts see of an end of a socket of the system.
-use Rattle.std.specs.Prelude.{◌≡◌, ℕ, ◌-◌, ◌≤◌, List, [], ◌∷◌, ◌++◌, length, min, take, None}
+use Rattle.std.specs.Prelude.{◌≡◌, ℕ, ◌-◌, ◌≤◌, Bool, if◌then◌else◌, List, [], ◌∷◌, ◌++◌, length, min, take, None}
 use Rattle.m2_fabric.specs.End.{SeenEnd}
 use Rattle.m2_fabric.specs.Log.{Log, nothing_done}
 use Rattle.m2_fabric.specs.declared.end.EndRead.{EndRead}
@@ -32,10 +32,22 @@ pub record IsHandedOn (log : Log) (sent : ℕ) (a : Answers) : Type 0 where
 abbrev pub unsent : MioSeen → ℕ
 unsent s = length s.shows.log.put - s.sent
 
--- What a read answers is what the system answered to one read that was asked of it; for want of memory none was.
+-- What a read answers where the system answered so: that it would have to wait is an error of the socket once the system
+-- has refused a write, since the other side may wait for what was refused.
+abbrev pub answered : Bool → EndRead → EndRead
+answered refused read.NotYet = if refused then read.Failed else read.NotYet
+answered refused own = own
+
+-- the system was asked for one read, answered so, and this is the read's answer
+pub record AsksOnce (answer : EndRead) (old new : MioSeen) : Type 0 where
+  pub own : EndRead
+  pub asked : new.answers.reads ≡ old.answers.reads ++ mark_of own ∷ []
+  pub answer_is : answer ≡ answered new.answers.refused own
+
+-- A read asks the system once and answers by that; for want of memory it doesn't ask.
 abbrev pub Asks : EndRead → MioSeen → MioSeen → Type 0
 Asks read.NoMemory old new = new.answers.reads ≡ old.answers.reads
-Asks answer old new = new.answers.reads ≡ old.answers.reads ++ mark_of answer ∷ []
+Asks answer old new = AsksOnce answer old new
 
 -- How much a write takes: the whole piece, as far as one write moves it. It has to wait only where so much is unsent that
 -- the system has to take some first.

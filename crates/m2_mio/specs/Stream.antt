@@ -1,5 +1,5 @@
 -- What one call of the system on a stream may answer, and what all of them gave and took.
-use Rattle.std.specs.Prelude.{ℕ, List, [], ◌∷◌, ◌++◌, length, min, take, Option}
+use Rattle.std.specs.Prelude.{ℕ, Bool, true, false, ◌||◌, List, [], ◌∷◌, ◌++◌, length, min, take, Option}
 use Rattle.std.specs.Io.KnownBytes.{Appends, Consumes, IsAtEnd, Keeps}
 use Rattle.m2_fabric.specs.Log.{IsPieceOf}
 use Rattle.m2_fabric.specs.declared.end.EndRead.{EndRead}
@@ -36,6 +36,11 @@ abbrev pub taken_by : EndWrite → List ℕ → List ℕ
 taken_by (write.Put n) piece = take n piece
 taken_by _ piece = []
 
+-- whether a write was refused, by its answer
+abbrev pub is_refusal : EndWrite → Bool
+is_refusal write.Failed = true
+is_refusal _ = false
+
 -- What was read is what the stream gave, where the bytes that it has left are known: no byte that it didn't give, and
 -- none of those that it gave is lost. Ended comes only where none is left.
 abbrev pub IsGiven : EndRead → List ℕ → Option (List ℕ) → Option (List ℕ) → Type 0
@@ -56,18 +61,19 @@ mark_of read.Ended = 3
 mark_of read.Failed = 4
 mark_of read.NoMemory = 5
 
--- What a stream answered so far: all bytes that its reads gave, a mark for what each read answered, in order, and all
--- bytes that its writes took.
+-- What a stream answered so far: all bytes that its reads gave, a mark for what each read answered, in order, all bytes
+-- that its writes took, and whether it refused one.
 pub record Answers : Type 0 where
   pub given : List ℕ
   pub reads : List ℕ
   pub taken : List ℕ
+  pub refused : Bool
 
 abbrev pub answers_of : Asked → Answers
-answers_of a = record { given = a.given.bytes; reads = a.reads.bytes; taken = a.taken.bytes }
+answers_of a = record { given = a.given.bytes; reads = a.reads.bytes; taken = a.taken.bytes; refused = a.refused }
 
 abbrev pub nothing_asked : Answers
-nothing_asked = record { given = []; reads = []; taken = [] }
+nothing_asked = record { given = []; reads = []; taken = []; refused = false }
 
 -- after a read into a piece, as it is after the call
 abbrev pub after_reading : EndRead → List ℕ → Answers → Answers
@@ -75,4 +81,4 @@ after_reading answer piece a = record a { given = a.given ++ given_by answer pie
 
 -- after a write of a piece
 abbrev pub after_writing : EndWrite → List ℕ → Answers → Answers
-after_writing answer piece a = record a { taken = a.taken ++ taken_by answer piece }
+after_writing answer piece a = record a { taken = a.taken ++ taken_by answer piece; refused = a.refused || is_refusal answer }

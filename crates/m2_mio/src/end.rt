@@ -2,7 +2,7 @@
 
 ghost use Rattle.std.specs.Prelude.{◌≡◌, ◌<◌, ◌≤◌, false, length, take};
 ghost use Rattle.m2_fabric.specs.End.{LeavesPiece, Reads, Writes};
-ghost use Rattle.m2_mio.specs.End.{Asks, TakesWhole, fresh_mio_end, unsent};
+ghost use Rattle.m2_mio.specs.End.{Asks, TakesWhole, answered, fresh_mio_end, unsent};
 ghost use Rattle.m2_mio.specs.Stream.{IsWriteOf, answers_of};
 
 use crate::stream::{Asked, receive, send};
@@ -22,7 +22,8 @@ const MOST_UNSENT: usize = 65_536;
 ///
 /// A read makes room in the log first, asks the system once, and notes what it answered: that it would have
 /// to wait is NotYet, no more bytes is Ended, every other error is Failed. What a signal interrupts is asked
-/// again, a thousand times at most, and then answered NotYet.
+/// again, a thousand times at most, and then answered NotYet. Once the system refused a write, a read that would
+/// have to wait is Failed too.
 ///
 /// A write takes its whole piece, as far as one call moves it, into the log, which is the buffer; the end keeps
 /// how much of it was sent. What is unsent is handed to the system, in one call, by the end's next
@@ -43,8 +44,6 @@ pub struct MioEnd {
     stream: Option<TcpStream>,
     /// How many bytes of what was put the system has taken. The others are unsent.
     sent: usize,
-    /// The system has refused a write.
-    broken: bool,
     asked: Asked,
 }
 
@@ -65,10 +64,9 @@ impl Model for MioEnd {
     ghost invariant = { λ e. (e.log.closed ≡ is_none e.stream) × IsHandedOn (log_of e.log) e.sent (answers_of e.asked) };
 }
 
-/// Hands the bytes behind the first `sent` to the system, in one call, where there are any. Whether the system didn't
-/// refuse.
+/// Hands the bytes behind the first `sent` to the system, in one call, where there are any and it has refused none.
 #[tactic(auto, using(crate::proofs::Handed::more_is_taken, crate::proofs::Handed::nothing_is_taken))]
-fn hand_on<S: Write>(stream: &mut S, asked: &mut Asked, put: &[u8], sent: &mut usize) -> bool
+fn hand_on<S: Write>(stream: &mut S, asked: &mut Asked, put: &[u8], sent: &mut usize)
     requires within { sent.old ≤ length put.now }
     requires taken { (answers_of asked.old).taken ≡ take sent.old put.now }
     ensures within { sent.new ≤ length put.now }
@@ -77,16 +75,21 @@ fn hand_on<S: Write>(stream: &mut S, asked: &mut Asked, put: &[u8], sent: &mut u
     ensures reads { (answers_of asked.new).reads ≡ (answers_of asked.old).reads }
 {
     let (_, rest) = put.split_at(*sent);
-    if rest.is_empty() {
-        return true;
+    if rest.is_empty() || asked.refused {
+        return;
     }
-    match send(stream, asked, rest) {
-        EndWrite::Put(n) => {
-            *sent += n;
-            true
-        }
-        EndWrite::NotYet => true,
-        EndWrite::Failed | EndWrite::NoMemory => false,
+    if let EndWrite::Put(n) = send(stream, asked, rest) {
+        *sent += n;
+    }
+}
+
+/// What a read answers where the system answered `own`, by whether it has refused a write.
+fn answered(refused: bool, own: EndRead) -> EndRead
+    ensures { result ≡ answered refused own }
+{
+    match own {
+        EndRead::NotYet if refused => EndRead::Failed,
+        _ => own,
     }
 }
 
@@ -102,31 +105,23 @@ impl MioEnd {
             faults: Count::new(),
             stream: Some(stream),
             sent: 0,
-            broken: false,
             asked: Asked::nothing(),
         }
     }
 
-    /// Hands what is unsent to the system, where the end is open. Whether the end can still be written.
-    fn hand_over(&mut self) -> bool
+    /// Hands what is unsent to the system, where the end is open and the system has refused nothing.
+    fn hand_over(&mut self)
         ensures same { self.new.shows ≡ self.old.shows }
         ensures reads { self.new.answers.reads ≡ self.old.answers.reads }
     {
-        let Some(stream) = &mut self.stream else {
-            return false;
-        };
-        if self.broken {
-            return false;
+        if let Some(stream) = &mut self.stream {
+            hand_on(
+                stream,
+                &mut self.asked,
+                self.log.put.as_slice(),
+                &mut self.sent,
+            );
         }
-        if !hand_on(
-            stream,
-            &mut self.asked,
-            self.log.put.as_slice(),
-            &mut self.sent,
-        ) {
-            self.broken = true;
-        }
-        !self.broken
     }
 
     /// How many bytes are unsent.
@@ -144,10 +139,10 @@ impl MioEnd {
         ensures count { IsWriteOf result bytes.now }
         ensures whole { TakesWhole result bytes.now self.new }
     {
-        if self.unsent() >= MOST_UNSENT && !self.hand_over() {
-            return EndWrite::Failed;
+        if self.unsent() >= MOST_UNSENT {
+            self.hand_over();
         }
-        if self.stream.is_none() || self.broken {
+        if self.stream.is_none() || self.asked.refused {
             return EndWrite::Failed;
         }
         if self.unsent() >= MOST_UNSENT {
@@ -180,14 +175,15 @@ impl End for MioEnd {
         ensures piece { LeavesPiece result into.old into.new }
         ensures asks { Asks result self.old self.new }
     {
-        let _ = self.hand_over();
+        self.hand_over();
         if self.log.reserve_read(into.len().min(MOST_MOVED)).is_err() {
             return EndRead::NoMemory;
         }
-        let answer = match &mut self.stream {
+        let own = match &mut self.stream {
             Some(stream) => receive(stream, &mut self.asked, into),
             None => unreachable!(),
         };
+        let answer = answered(self.asked.refused, own);
         self.log.note_read(answer, into);
         if answer == EndRead::Failed {
             self.faults.add();
@@ -214,7 +210,7 @@ impl End for MioEnd {
     }
 
     fn close(&mut self) {
-        let _ = self.hand_over();
+        self.hand_over();
         self.stream = None;
         self.log.note_close();
         self.log.trim(self.alloc);

@@ -27,8 +27,8 @@ use std::net::Net;
 /// where there is none by then, a socket is made whose calls answer NotYet, and Failed once it is refused.
 /// A port for which the system refused the means of waiting fails at every connect, accept and poll.
 ///
-/// An accept for which there is no descriptor is no failure: what waits goes on waiting, the accept answers
-/// NotYet, and the next poll waits no longer than a hundredth of a second, so that it is tried again.
+/// An accept for which there is no descriptor fails, and what waits goes on waiting: the next poll waits no longer than a
+/// hundredth of a second, so that it is tried again.
 #[derive(Drop)]
 pub struct MioPort<R: Copy> {
     rt: R,
@@ -274,8 +274,8 @@ impl<R: Net + Copy> Port for MioPort<R> {
             }
             Accepted::Wanting => {
                 self.wanting = true;
-                self.book.set_quiet(true);
-                Taken::NotYet
+                self.book.refuse();
+                Taken::Failed
             }
             Accepted::Failed => {
                 self.book.refuse();

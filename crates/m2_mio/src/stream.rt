@@ -20,13 +20,15 @@ pub const CONNECT_WAIT: u32 = 100;
 /// How often a read or a write that a signal interrupted is tried. Then it is answered NotYet.
 const TRIES: u32 = 1_000;
 
-/// What a stream answered so far, which contracts see and no code keeps: all bytes that its reads gave, a mark for what
-/// each read answered, and all bytes that its writes took. Only [`receive`] and [`send`] add to it.
+/// What a stream answered so far: whether it refused a write, and what contracts see and no code keeps: all bytes that
+/// its reads gave, a mark for what each read answered, and all bytes that its writes took. Only [`receive`] and [`send`]
+/// add to it.
 #[derive(Drop)]
 pub(crate) struct Asked {
     given: Told,
     reads: Told,
     taken: Told,
+    pub(crate) refused: bool,
 }
 
 impl Asked {
@@ -38,6 +40,7 @@ impl Asked {
             given: Told::nothing(),
             reads: Told::nothing(),
             taken: Told::nothing(),
+            refused: false,
         }
     }
 }
@@ -156,6 +159,9 @@ pub(crate) fn send<S: Write>(stream: &mut S, asked: &mut Asked, bytes: &[u8]) ->
     let (first, _) = bytes.split_at(bytes.len().min(MOST_MOVED));
     let answer = write_some(stream, first);
     asked.taken = Told::and(&asked.taken, taken_by(answer, bytes));
+    if answer == EndWrite::Failed {
+        asked.refused = true;
+    }
     answer
 }
 
