@@ -6,8 +6,10 @@ usage: checks/lives.py N [SEED]
 Each run is played by the model of `sim` (tools/model.py), of one lossless link. What its two sides did shows steps of the
 channel with lives (crates/m2_lives/specs), in the order of the run and in three others in which each byte is read behind its
 writing. Each step has to be one that the channel may take where those before it lead, and in the end each receiving life has
-to have accepted the first ones of what the sending life of its name holds. Then each of the wrong bodies is played, which some
-run has to refuse.
+to have accepted the first ones of what the sending life of its name holds. Of each key, what was dispatched has to be one piece
+of each stretch between two discards, of each life, and of what the sending life of each receiving life's name holds, in order,
+each the first ones of it. Then each of the wrong bodies is played, which some run has to refuse; 100 runs did, of each, with every
+seed that was tried.
 """
 import collections, os, random, sys
 
@@ -241,10 +243,13 @@ class Channel:
     def reset(self):
         must(self.marked, "a reset without a mark-down before it")
 
+    def held(self, name, key):
+        return [m for life in self.sending if life.name == name for m in self.posted[key][life.start[key] : life.end[key]]]
+
     def is_delivered(self):
         """What is promised of a run: in each life the first ones of what the sending life of its name holds."""
         for (name, key), messages in self.accepted.items():
-            held = [m for life in self.sending if life.name == name for m in self.posted[key][life.start[key] : life.end[key]]]
+            held = self.held(name, key)
             must(len(messages) <= len(held) and all(map(same, messages, held)), "not the first ones of the life")
         for life in self.sending + self.receiving:
             for key in self.posted:
@@ -254,6 +259,22 @@ class Channel:
 
 def same(one, other):
     return (one.kind, one.priority, one.parts) == (other.kind, other.priority, other.parts)
+
+
+def are_pieces(messages, lists):
+    """Whether the messages are one piece of each list, in order, each the first ones of it."""
+    places = {0}
+    for items in lists:
+        further = set()
+        for place in places:
+            further.add(place)
+            for item in items:
+                if place == len(messages) or not same(messages[place], item):
+                    break
+                place += 1
+                further.add(place)
+        places = further
+    return len(messages) in places
 
 
 # ---- what a run shows of it
@@ -268,6 +289,8 @@ def observe(events, near, far, wrong=None):
     channel = Channel(wrong)
     accepted = collections.Counter()
     of_life = collections.Counter()
+    lists = lambda: collections.defaultdict(list)
+    stretches, lives, heard = [lists()], [lists()], lists()
     for event in events:
         mine = event.node is near
         if event.kind == "post" and mine:
@@ -281,18 +304,27 @@ def observe(events, near, far, wrong=None):
             if not mine:
                 of_life[channel.receiving[-1].name] += 1
                 channel.accept(key_at(far, event.message), event.message)
+                stretches[-1][key_at(far, event.message)].append(event.message)
+                lives[-1][key_at(far, event.message)].append(event.message)
         elif event.kind == "begin":
             channel.marked = channel.marked or event.marks
             if mine:
                 channel.begins_sending(event.name, event.thrown)
             else:
                 channel.begins_receiving(event.name)
+                lives.append(lists())
+                stretches += [lists()] * event.thrown
             if event.thrown or event.obeys or sum(accepted.values()) > 0:
                 channel.reset()
     for event in events:
         if event.kind == "dispatch" and event.node is far:
             channel.dispatch(event.life, key_at(far, event.message), event.message)
+            heard[key_at(far, event.message)].append(event.message)
     channel.is_delivered()
+    for key, messages in heard.items():
+        must(are_pieces(messages, [it[key] for it in stretches]), "not in pieces of what was handed on")
+        must(are_pieces(messages, [it[key] for it in lives]), "not in pieces of what was accepted in each life")
+        must(are_pieces(messages, [channel.held(life.name, key) for life in channel.receiving]), "not life after life")
     return channel
 
 
@@ -325,7 +357,7 @@ def scenario_of(draw):
     lines = [f"node {name} osd 127.0.0.1:{port}/{port}{fast}" for name, port in zip("ab", ports)]
     lines.append(f"link a b {pair[0]} {pair[1]}")
     posted = 0
-    if draw.random() < 0.1:
+    if draw.random() < 0.2:
         lines += judged_late(draw)
     for _ in range(draw.choice((12, 30, 60))):
         x, y = draw.choice(("ab", "ba"))
@@ -363,14 +395,19 @@ def held_back(draw):
 
 
 def judged_late(draw):
-    """An ident that its opener left is judged behind a mark-down of the judge, whose session the opener still keeps."""
+    """An ident that its opener left is judged behind a mark-down of the judge, whose session the opener still keeps. Where nothing
+    was accepted in that session yet, a judge that doesn't compare server cookies accepts in a life that the opener doesn't have."""
+    posts, pieces = ["post a b 1 127 aa01 - -", "post a b 1 127 aa02 - -"], (26, 72, 52)
+    before, behind = ["dial a b"], posts
+    if draw.random() < 0.5:
+        pieces, before, behind = [draw.choice((26, 52, 76, 100)) for _ in range(draw.randint(3, 6))], posts, []
     lines = ["dial a b"]
-    for _ in range(draw.randint(3, 6)):
-        lines += ["turn a", f"flow a b 1 {draw.choice((26, 52, 76, 100))}", "turn b", "flow b a 1 100000"]
-    lines += ["turn a", "fault a b 1", "turn a", "post a b 1 127 aa01 - -", "post a b 1 127 aa02 - -"]
+    for piece in pieces:
+        lines += ["turn a", f"flow a b 1 {piece}", "turn b", "flow b a 1 100000"]
+    lines += ["turn a", "fault a b 1", "turn a", *before]
     for _ in range(12):
         lines += [f"flow {x} {y} 2 100000" for x, y in ("ab", "ba")] + ["turn a", "turn b"]
-    return lines + ["down b a", "flow a b 1 100000", "turn b", "turn b", "settle 30"]
+    return lines + ["down b a", *behind, "flow a b 1 100000", "turn b", "turn b", "settle 30"]
 
 
 def events_of(text, wrong=None):

@@ -15,7 +15,7 @@ use Rattle.m2_lives.proofs.Moving.{told_within}
 
 module _ (known : Known) where
   -- wherever both stand by ledgers
-  acked_within : (f g : SideFacts) → Both f g → (a b : State) (x y : Ledger) (n : ℕ) → Point f g a b x y → Lawful f (item.acked n) a → (a.life ≢ 0) × (n ≤ accepted_in a.life b)
+  pub acked_within : (f g : SideFacts) → Both f g → (a b : State) (x y : Ledger) (n : ℕ) → Point f g a b x y → Lawful f (item.acked n) a → (a.life ≢ 0) × (n ≤ accepted_in a.life b)
   acked_within f g both a b x y n h l =
       let may = (acked_may (cookie_of f) (cookie_of g) f a b y (side_now known f g both a b x y h) n l).0 in
       let it = told_within (cookie_of f) (cookie_of g) n (view a) x y may h.ledgers h.near in

@@ -51,7 +51,7 @@ pub names_map : {X : Type 0} (name : X → ℕ) (f : X → X) → ((x : X) → n
 names_map name f same [] = refl
 names_map name f same (x ∷ xs) = ap (λ l. name (f x) ∷ l) (names_map name f same xs) ∙ ap (λ n. n ∷ map name xs) (same x)
 
-none_or_some : (n : ℕ) → (n ≡ 0) ⊎ (n ≢ 0)
+pub none_or_some : (n : ℕ) → (n ≡ 0) ⊎ (n ≢ 0)
 none_or_some zero = inl refl
 none_or_some (suc n) = inr (λ e. absurd (suc_some n e))
   where

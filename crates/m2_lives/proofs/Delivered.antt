@@ -105,7 +105,7 @@ of_its_own life key other m = ap (λ b. if b then (if is_key key other then unnu
 
 -- ---- what lives hold
 
-abbrev held_of : (name : ℕ) → Key → (posted : List KeyedMessage) → SendingLife → List Content
+abbrev pub held_of : (name : ℕ) → Key → (posted : List KeyedMessage) → SendingLife → List Content
 held_of name key posted l = if l.name == name then held_by key posted l else []
 
 -- what the one life of a name holds is held in that name
@@ -267,6 +267,32 @@ holds_more c d taken given more h =
         ap (λ x. x ++ pieces_of key c lives) (front (l.dispatched key) l.name key (at_most (few.0 key) (fits.0 key)))
         ∙ ap (λ x. take (l.dispatched key) (held_in l.name key d) ++ x) (same_pieces key lives fits.1 few.1)
 
+-- ---- a life within what was posted holds the same of more
+
+pub held_of_more : (key : Key) (posted more : List KeyedMessage) (s : SendingLife) → IsWithin (count_of posted) s → held_by key (posted ++ more) s ≡ held_by key posted s
+held_of_more key posted more s w = at (s.start key) (s.end key) (w.acknowledged key) (w.end key)
+  where
+    fits : (start acked end total : ℕ) → start + acked ≤ end → end ≤ total → start + (end - start) ≤ total
+    fits start acked end total a b = omega (arith, a, b)
+
+    inside : {X : Type 0} (s k : ℕ) (xs ys : List X) → s + k ≤ length xs → take k (drop s (xs ++ ys)) ≡ take k (drop s xs)
+    inside zero k xs ys f = take_front k xs ys (omega (arith, f))
+    inside (suc s) zero xs ys f = refl
+    inside (suc s) (suc k) [] ys f = absurd (omega (arith, f))
+    inside (suc s) (suc k) (x ∷ xs) ys f = inside s (suc k) xs ys (omega (arith, f))
+
+    at : (start end : ℕ) → start + s.acknowledged key ≤ end → end ≤ length (of_key key posted) → take (end - start) (drop start (of_key key (posted ++ more))) ≡ take (end - start) (drop start (of_key key posted))
+    at start end a b =
+        ap (λ l. take (end - start) (drop start l)) (of_key-append key posted more)
+        ∙ inside start (end - start) (of_key key posted) (of_key key more) (fits start (s.acknowledged key) end (length (of_key key posted)) a b)
+
+pub held_in_more : (name : ℕ) (key : Key) (posted more : List KeyedMessage) (lives : List SendingLife) → AllByRecursion (IsWithin (count_of posted)) lives →
+    flat_map (held_of name key (posted ++ more)) lives ≡ flat_map (held_of name key posted) lives
+held_in_more name key posted more [] all = refl
+held_in_more name key posted more (s ∷ lives) all =
+    ap (λ l. (if s.name == name then l else []) ++ flat_map (held_of name key (posted ++ more)) lives) (held_of_more key posted more s all.0)
+    ∙ ap (λ l. held_of name key posted s ++ l) (held_in_more name key posted more lives all.1)
+
 -- ---- each step of the sending side
 
 pub posts_more : (key : Key) (m : Content) (c : LivesChannel) → IsOrderedInLives c → IsOrderedInLives (changed_in_lives (post key m) c) → HoldsMore c (changed_in_lives (post key m) c)
@@ -280,21 +306,7 @@ posts_more key m c h behind = record { ordered = behind; receiving = refl; held 
 
     -- an ended life holds what it held
     still : (other : Key) (s : SendingLife) → IsWithin (count_of c.posted) s → held_by other posted s ≡ held_by other c.posted s
-    still other s w = at (s.start other) (s.end other) (w.acknowledged other) (w.end other)
-      where
-        fits : (start acked end total : ℕ) → start + acked ≤ end → end ≤ total → start + (end - start) ≤ total
-        fits start acked end total a b = omega (arith, a, b)
-
-        inside : {X : Type 0} (s k : ℕ) (xs ys : List X) → s + k ≤ length xs → take k (drop s (xs ++ ys)) ≡ take k (drop s xs)
-        inside zero k xs ys f = take_front k xs ys (omega (arith, f))
-        inside (suc s) zero xs ys f = refl
-        inside (suc s) (suc k) [] ys f = absurd (omega (arith, f))
-        inside (suc s) (suc k) (x ∷ xs) ys f = inside s (suc k) xs ys (omega (arith, f))
-
-        at : (start end : ℕ) → start + s.acknowledged other ≤ end → end ≤ length (of_key other c.posted) → take (end - start) (drop start (of_key other posted)) ≡ take (end - start) (drop start (of_key other c.posted))
-        at start end a b =
-            ap (λ l. take (end - start) (drop start l)) (of_key-append other c.posted (keyed key m ∷ []))
-            ∙ inside start (end - start) (of_key other c.posted) (of_key other (keyed key m ∷ [])) (fits start (s.acknowledged other) end (length (of_key other c.posted)) a b)
+    still other s w = held_of_more other c.posted (keyed key m ∷ []) s w
 
     -- the current one holds more
     current : (other : Key) → (more : List Content) × (held_by other posted sends ≡ held_by other c.posted c.sends ++ more)

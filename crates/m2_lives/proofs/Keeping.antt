@@ -170,7 +170,7 @@ call_keeps h Requeue = refl
 call_keeps h Renumber = refl
 call_keeps h Discard = refl
 
-keeps_calls : (h : History) (cs : List Call) → (after_calls h cs).queue.keeps ≡ h.queue.keeps
+pub keeps_calls : (h : History) (cs : List Call) → (after_calls h cs).queue.keeps ≡ h.queue.keeps
 keeps_calls h [] = refl
 keeps_calls h (c ∷ cs) = keeps_calls (after_call h c) cs ∙ call_keeps h c
 
@@ -184,7 +184,7 @@ pub record NearStep (f g : SideFacts) (i : JournalItem) (a b : State) (x y : Led
   pub grows : Grows x ledger
   pub ended : ledger.ended ≡ (if begins move then lives x else x.ended)
 
-leads_on : (f : SideFacts) (i : JournalItem) (s : State) → IsLedTo f s → Lawful f i s → IsLedTo f (after f i s)
+pub leads_on : (f : SideFacts) (i : JournalItem) (s : State) → IsLedTo f s → Lawful f i s → IsLedTo f (after f i s)
 leads_on f i s led lawful = record {
   items = led.items ++ i ∷ [];
   lawful = lawful-append f led.items (i ∷ []) (start f) led.lawful (subst (Lawful f i) led.state lawful, tt);
@@ -192,7 +192,7 @@ leads_on f i s led lawful = record {
 }
 
 module _ (known : Known) (f g : SideFacts) (both : Both f g) where
-  replayed : (h : SideFacts) (s : State) → IsLedTo h s → IsReplayed h s
+  pub replayed : (h : SideFacts) (s : State) → IsLedTo h s → IsReplayed h s
   replayed h s led = subst (IsReplayed h) (sym led.state) (record { fed = known.events.fed h led.items led.lawful; sound = known.sound h led.items led.lawful })
 
   pub side_now : (a b : State) (x y : Ledger) → Point f g a b x y → IsSide f a b (cookie_of g) y

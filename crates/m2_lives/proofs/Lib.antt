@@ -18,3 +18,17 @@ pub mod Keeping
 pub mod Acknowledging
 pub mod Accepting
 pub mod Named
+pub mod Turns
+pub mod Backing
+pub mod Showing
+pub mod Dividing
+pub mod Dispatching
+pub mod Marking
+pub mod Bringing
+pub mod OneRun
+pub mod Handing
+pub mod LifeAfterLife
+pub mod LifeForLife
+pub mod OneLife
+pub mod InLives
+pub use Rattle.m2_bytes_fit.proofs as m2_bytes_fit

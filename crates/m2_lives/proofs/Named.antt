@@ -213,7 +213,7 @@ sends_so (dispatch name key m ∷ xs) c = sends_so xs (changed_in_lives (dispatc
 sends_so (mark ∷ xs) c = sends_so xs (changed_in_lives mark c)
 sends_so (reset ∷ xs) c = sends_so xs c
 
-one_dispatched_name : (name : ℕ) (key : Key) (l : ReceivingLife) → (one_dispatched name key l).name ≡ l.name
+pub one_dispatched_name : (name : ℕ) (key : Key) (l : ReceivingLife) → (one_dispatched name key l).name ≡ l.name
 one_dispatched_name name key l = at (l.name == name)
   where
     at : (b : Bool) → (if b then record l { dispatched = one_more key l.dispatched } else l).name ≡ l.name

@@ -373,7 +373,7 @@ module _ (mint theirs : ℕ → ℕ) (k : SocketId) (name : ℕ) (x y : Ledger) 
 abbrev pub numbers_more : List Content → Ledger → Ledger
 numbers_more more x = record x { now = record x.now { numbered = x.now.numbered ++ more } }
 
-get_more : (xs ys : List Content) (i : ℕ) (m : Content) → slice_get xs i ≡ Some m → slice_get (xs ++ ys) i ≡ Some m
+pub get_more : {X : Type 0} (xs ys : List X) (i : ℕ) (m : X) → slice_get xs i ≡ Some m → slice_get (xs ++ ys) i ≡ Some m
 get_more [] ys i m e = absurd (none-some m e)
 get_more (x ∷ xs) ys zero m e = e
 get_more (x ∷ xs) ys (suc i) m e = get_more xs ys i m e
@@ -451,7 +451,7 @@ of_another_life n m apart = at (m.life == n) refl
     at true e = absurd (apart (eqb-true m.life n e))
     at false e = ap (λ b. map (λ (v : LifeMessage). v.message) (if b then m ∷ [] else [])) e
 
-length_map : {X Y : Type 0} (f : X → Y) (xs : List X) → length (map f xs) ≡ length xs
+pub length_map : {X Y : Type 0} (f : X → Y) (xs : List X) → length (map f xs) ≡ length xs
 length_map f [] = refl
 length_map f (x ∷ xs) = ap suc (length_map f xs)
 

@@ -27,8 +27,27 @@
 //! ([`acknowledged_is_accepted_in_its_life`]). Where bytes fit throughout an order, it fits
 //! ([`bytes_give_lives`]).
 //!
-//! What it isn't: anything that runs; and that what is observed is a run of the channel with lives isn't
-//! said yet.
+//! `specs/ObservedRun.antt` is the whole: what is observed in either direction is a run of that channel, in
+//! which no reset comes without a mark before it ([`observed_is_a_run_of_lives`]). Of the logs it is asked
+//! that they are of each key one piece of each stretch of what the record handed on, between two of which
+//! what waited was thrown away; so they are, wherever a record's messages reach its dispatchers as it hands
+//! them on (`specs/Handing.antt`, [`logs_are_in_lives`]).
+//!
+//! `specs/LifeAfterLife.antt` says it in the words of a report, of the journal of each side by itself: of
+//! each key, what is dispatched comes life after life, of each life the first ones of what the other side's
+//! life of that name holds, from the first post that wasn't acknowledged in the life before
+//! ([`heard_life_after_life`]). This is what a call above may promise of a link with mark-downs; none does
+//! yet. There is a history in which a message is heard in a life that a mark-down ends
+//! (`specs/OneLife.antt`, [`a_message_is_heard_in_a_life`]).
+//!
+//! `specs/LifeForLife.antt` is of one record alone, of any policy, whoever its peer is and also where it
+//! gives a cookie twice: what is dispatched is of each key one piece of each life, in order
+//! ([`dispatched_life_for_life`]).
+//!
+//! `specs/InLives.antt` has all of this of a link in one, where bytes fit throughout an order
+//! ([`bytes_come_in_lives`]): what a clause of a call above is to cite.
+//!
+//! What it isn't: anything that runs.
 //!
 //! Why it holds: of each side it is noted what it has sent, in which lives it was, and in which of them it
 //! was in Ready on which socket (`proofs/Ledger.antt`). All of this only grows. A side is in Ready on a
@@ -36,12 +55,21 @@
 //! there, or that of the session which it resumed for the opener's last ask. So a message that is accepted
 //! was numbered in the life of that name, however late it comes, and no fact is needed on which ask is
 //! judged when. Each entry is one of a few moves of its side (`proofs/Moves.antt`, `Entries.antt`), and
-//! each move keeps what the ledgers say.
+//! each move keeps what the ledgers say. The channel goes along: its ended lives hold what the ledger has of
+//! them, key for key (`proofs/Backing.antt`), and its current one what the queue has numbered
+//! (`proofs/Showing.antt`, `Bringing.antt`). That no reset comes without a mark is so of the channel without
+//! lives already (`proofs/Marking.antt`). Messages are thrown away only where numbers are set back too, so
+//! each stretch has whole lives, and pieces of stretches are pieces of lives (`proofs/Dividing.antt`,
+//! `Dispatching.antt`). A lossy record throws away in the middle of a life, but accepts no more in it
+//! (`proofs/LifeForLife.antt`).
 #![tactic(auto)]
 
 mod laws;
 
 pub use laws::{
-    acknowledged_is_accepted_in_its_life, bytes_give_lives, each_life_accepts_from_one,
-    lives_are_named, lives_show_the_same, runs_deliver_in_lives, runs_keep_lives,
+    a_message_is_heard_in_a_life, acknowledged_is_accepted_in_its_life, bytes_come_in_lives,
+    bytes_give_lives, dispatched_life_for_life, each_life_accepts_from_one, heard_life_after_life,
+    lives_are_named, lives_show_the_same, logs_are_in_lives, observed_is_a_run_of_lives,
+    runs_deliver_in_lives, runs_keep_lives,
 };
+pub use m2_bytes_fit::{posts_can_be_sent, trails_tell_each_point};
