@@ -51,6 +51,7 @@ module _ (law : CallsAndLeftArePosts) (d : Draft) (beside : Beside) (last : RunN
         prefixes = promise.prefixes;
         no_reset = promise.no_reset;
         accounts = promise.accounts;
+        lives = promise.lives;
         some = promise.some;
         counted = counted;
         together = λ all.

@@ -1,21 +1,22 @@
 -- The headline. For every scenario, cut, crossing of connects and schedule of turns or of threads, a lossless session that neither end marks down is
 -- never reset; in it, of each priority and dispatch path, what a node dispatches from its peer is a prefix of what that peer posted, in
 -- order, each message once; what a sender counts acknowledged was accepted; and Done means that every post of such a session was
--- dispatched. In a lossy session, what a node dispatches is some of what its peer posted, in order, each once. It is said of the bytes
+-- dispatched. Where an end marks such a session down, it comes life after life, of each life a prefix of what the peer's life of that name
+-- holds. In a lossy session, what a node dispatches is some of what its peer posted, in order, each once. It is said of the bytes
 -- that were given, of those that were printed, and of a run of the scenario that leads from the one to the other. Where some posts are
 -- left, the dispatched ones and the count are together the posts. Where a write failed, what was printed is a prefix of such a report.
-use Rattle.std.specs.Prelude.{◌≡◌, ◌⊎◌, ◌+◌, ℕ, false, List, length, map, sum_by, count_by, Ok}
+use Rattle.std.specs.Prelude.{◌≡◌, ◌⊎◌, ◌+◌, ℕ, true, false, List, length, map, sum_by, count_by, Ok}
 use Rattle.std.specs.List.{AllByRecursion}
 use Rattle.m2_scenario.specs.m2_dispatch.declared.logged.Logged.{Logged}
 use Rattle.m2_scenario.specs.m2_dispatch.Heard.{heard_by}
 use Rattle.m2_edge.specs.Sink.{TakesBytes, TakesPrefix}
 use Rattle.m2_scenario.specs.OrderLaws.{AreAll}
 use Rattle.m2_scenario.specs.Order.{AreCounted, AreOfJoined, HearsNoReset, HearsPrefix, HearsWhole, OverEach, fast_of}
-use Rattle.m2_cli.specs.Run.{Beside, HearsSome, IsAccountedOver, IsMarkedSo, is_lossy, of_both}
+use Rattle.m2_cli.specs.Run.{AreHeardInLives, Beside, HearsSome, IsAccountedOver, IsMarkedSo, is_lossy, of_both}
 use Rattle.m2_scenario.specs.Report.{report_of}
 use Rattle.m2_scenario.specs.declared.link.Link.{Link}
 use Rattle.m2_scenario.specs.Draft.{Draft, is_post}
-use Rattle.m2_script.specs.Outcome.{all_heard, is_up, left_in}
+use Rattle.m2_script.specs.Outcome.{all_heard, is_lossless, is_up, left_in}
 use Rattle.m2_script.specs.Script.{RunNow}
 use Rattle.m2_cli.specs.declared.status.Status.{Status}
 use Rattle.m2_cli.specs.declared.status.Status.TheVariants.{Done, Usage, BadScenario, ReadFault, WriteFault, BindFault, Unfit, Stalled, Left, NoMemory, BadFrames}
@@ -33,7 +34,11 @@ EndsAreMarkedSo d last l = IsMarkedSo d.lines last l.a l.b × IsMarkedSo d.lines
 -- prefixes, no_reset: of each node and each other over a link that is up, of each key, what it heard from the other is a prefix of what
 -- the other's lines post to it, in order, each once; and it heard no reset by the other.
 -- accounts: both journals of each link have an order of all that was done on it, with these halves beside it. Of a link that is up nothing
--- was reset in it, and what an entry counts as acknowledged had been accepted by then.
+-- was reset in it, and what an entry counts as acknowledged had been accepted by then. Of a lossless link, marked down or not, nothing was
+-- reset without a mark-down before it; what is heard of each key comes life after life of the side that hears, of each life the first ones
+-- of what the other side's life of that name holds; and what counts as acknowledged was accepted in the life of that name.
+-- lives: over a lossless link, marked down or not, what a node heard from the other is of each key posts of the other's lines, life after life
+-- of its own record: of each life the first ones of those from the start to the end of the one life of that name of the other's record.
 -- some: over a lossy link what is heard is some of the posts, in order, each once.
 -- counted, together: the messages that were heard over links that are up and the count are together the posts over them; where all
 -- links are up, all calls of dispatchers and the count are all posts.
@@ -43,6 +48,7 @@ pub record AreSessionsKept (d : Draft) (beside : Beside) (last : RunNow (List Lo
   pub prefixes : OverEach (is_up last) d.links (HearsPrefix (map fast_of d.nodes) d.lines (all_heard heard_by last))
   pub no_reset : OverEach (is_up last) d.links (HearsNoReset (all_heard heard_by last))
   pub accounts : AllByRecursion (IsAccountedOver beside last) d.links
+  pub lives : AllByRecursion (λ (l : Link). is_lossless l ≡ true → AreHeardInLives d.lines last l) d.links
   pub some : OverEach is_lossy d.links (HearsSome (map fast_of d.nodes) d.lines (all_heard heard_by last))
   pub counted : AreCounted (is_up last) d.links d.lines (all_heard heard_by last) count
   pub together : AreAll (is_up last) d.links → sum_by length (all_heard heard_by last) + count ≡ count_by is_post d.lines

@@ -4,7 +4,7 @@ use Rattle.m2_scenario.specs.m2_dispatch.declared.logged.Logged.{Logged}
 use Rattle.m2_scenario.specs.m2_dispatch.Heard.{heard_by}
 use Rattle.m2_script.specs.declared.outcome.Outcome.{Outcome}
 pub use Rattle.m2_promise.specs.AtEnd.{Beside, is_down_of}
-pub use Rattle.m2_promise.specs.Posted.{HearsSome, IsAccountedOver, IsMarkedOnlySo, IsMarkedSo, KeepsPromise, gave_up_at, is_lossy, of_both}
+pub use Rattle.m2_promise.specs.Posted.{AreHeardInLives, HearsSome, IsAccountedOver, IsMarkedOnlySo, IsMarkedSo, KeepsPromise, gave_up_at, is_lossy, of_both}
 use Rattle.m2_promise.specs.Posted as posted
 use Rattle.m2_scenario.specs.Report.{AreLogsOf, heard_in}
 use Rattle.m2_scenario.specs.declared.line.Line.{Line}

@@ -4,7 +4,7 @@ use Rattle.std.specs.List.{AllByRecursion}
 use Rattle.std.proofs.lemmas.List.{map-append}
 use Rattle.std.proofs.lemmas.List.Elements.{filter-append}
 use Rattle.m2_history.specs.m2_channel.Handing.{AreFirstCalls, AreParcelsOf, IsHeardOf, IsParcelOf, LogsAreLogs, calls_of, heard_at_once, heard_by_calls, parcels_of, queued_of}
-use Rattle.m2_history.specs.m2_channel.Observed.{all_of}
+use Rattle.m2_history.specs.m2_channel.Observed.{Logs, all_of}
 use Rattle.m2_dispatch.specs.Heard as hear
 use Rattle.m2_dispatch.specs.Heard.{Heard}
 use Rattle.m2_dispatch.specs.declared.parcel.Parcel.{Parcel}
@@ -16,7 +16,7 @@ use Rattle.m2_history.specs.m2_record.IsRecord.{IsReplayedTo}
 use Rattle.m2_history.specs.m2_record.RecordNow.{RecordNow, delivery_of}
 use Rattle.m2_cluster.specs.m2_center.m2_turn.Outbox.{OutboxNow}
 use Rattle.m2_links_go_on.specs.LogLaws.{BeginLogged, LoggedAreHeard}
-use Rattle.m2_links_go_on.specs.Logged.{IsLoggedOf, all_put, deliveries_of, handed_of, heard_held}
+use Rattle.m2_links_go_on.specs.Logged.{IsLogged, IsLoggedOf, all_put, deliveries_of, handed_of, heard_held, logging, logs_in}
 use Rattle.m2_links_go_on.proofs.Puts.{once-append, parcels-append, queued-append}
 
 -- ---- at first
@@ -85,15 +85,25 @@ module _ {D : Type 0} (heard : D → List Heard) (calls : List Call) (out : Outb
       ap queued_of delivered ∙ queued-append (handed_of r) rest ∙ ap (λ k. k ++ later) gone ∙ append_assoc (map delivery_of put) (map delivery_of mail) later in
       subst (AreParcelsOf put) (sym all) (are_parcels put (map delivery_of mail ++ later))
 
-each_heard : {D : Type 0} (heard : D → List Heard) (calls : List Call) (out : OutboxNow D) (queued : Queued D) (rs : List RecordNow) → LogsAreLogs →
+-- of a record and of its node's logs, what follows of any calls by which its messages reach the dispatchers as it hands them on
+abbrev pub FollowsOfCalls : (ℕ → Logs → State → Type 0) → Type 0
+FollowsOfCalls Q = (peer : ℕ) (fast : List Heard) (calls : List Call) (s : State) → AreFirstCalls (calls_of peer fast) (heard_at_once peer s.deliveries) →
+    AreParcelsOf (parcels_of peer calls) (queued_of s.deliveries) → Q peer (record { fast = fast; queued = heard_by_calls peer start calls }) s
+
+each_so : {D : Type 0} (Q : ℕ → Logs → State → Type 0) (heard : D → List Heard) (calls : List Call) (out : OutboxNow D) (queued : Queued D) (rs : List RecordNow) → FollowsOfCalls Q →
     ((peer : ℕ) → heard queued.inner ≡ heard_by_calls peer start calls) → AllByRecursion (IsLoggedOf heard calls out) rs →
-    AllByRecursion (λ (r : RecordNow). (s : State) → IsReplayedTo s r → IsHeardOf r.place (all_of (record { fast = heard out.fast; queued = heard queued.inner })) s) rs
-each_heard heard calls out queued [] law so all = tt
-each_heard heard calls out queued (r ∷ rs) law so all = (
-  λ s at. subst (λ k. IsHeardOf r.place (all_of (record { fast = heard out.fast; queued = k })) s) (sym (so r.place))
+    AllByRecursion (λ (r : RecordNow). (s : State) → IsReplayedTo s r → Q r.place (record { fast = heard out.fast; queued = heard queued.inner }) s) rs
+each_so Q heard calls out queued [] law so all = tt
+each_so Q heard calls out queued (r ∷ rs) law so all = (
+  λ s at. subst (λ k. Q r.place (record { fast = heard out.fast; queued = k }) s) (sym (so r.place))
       (law r.place (heard out.fast) calls s (first_calls heard calls out r s all.0 at) (parcels heard calls out r s all.0 at)),
-  each_heard heard calls out queued rs law so all.1,
+  each_so Q heard calls out queued rs law so all.1,
 )
 
+-- so it is of each record of a node whose dispatchers were called with what its records handed on
+pub logged_are_so : {D : Type 0} (Q : ℕ → Logs → State → Type 0) → FollowsOfCalls Q → (heard : D → List Heard) (records : List RecordNow) (out : OutboxNow D) (queued : Queued D) →
+    IsLogged heard (logging records out queued) → AllByRecursion (λ (r : RecordNow). (s : State) → IsReplayedTo s r → Q r.place (logs_in heard (logging records out queued)) s) records
+logged_are_so Q law heard records out queued l = each_so Q heard l.calls out queued records law l.queue.heard_so l.each
+
 pub logged_are_heard : {D : Type 0} → LogsAreLogs → LoggedAreHeard D
-logged_are_heard law heard records out queued l = each_heard heard l.calls out queued records law l.queue.heard_so l.each
+logged_are_heard law heard records out queued l = logged_are_so (λ peer logs s. IsHeardOf peer (all_of logs) s) law heard records out queued l

@@ -4,8 +4,8 @@
 ghost use Rattle.m2_links_go_on.specs.WovenSo as laws;
 
 use m2_history::{
-    counts_are_of_the_items, orders_give_points, records_are_sides, woven_comes_in_order,
-    woven_is_a_run_to_a_mark, woven_is_delivered, woven_is_never_reset,
+    counts_are_of_the_items, orders_give_points, records_are_sides, woven_bytes_fit,
+    woven_comes_in_order, woven_is_a_run_to_a_mark, woven_is_delivered, woven_is_never_reset,
 };
 use m2_weave::{all_read_was_written, asks_come_first};
 
@@ -18,6 +18,7 @@ pub fn links_are_woven_so()
     asks_come_first();
     orders_give_points();
     counts_are_of_the_items();
+    woven_bytes_fit();
     woven_is_never_reset();
     woven_is_delivered();
     woven_is_a_run_to_a_mark();

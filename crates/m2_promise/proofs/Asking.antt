@@ -25,7 +25,7 @@ use Rattle.m2_script.specs.m2_record.TakenTrails.{judgement_of, judgements_in}
 use Rattle.m2_fabric.specs.Kept.{is_kept}
 use Rattle.m2_fabric.specs.Meeting.{comes_from}
 use Rattle.m2_script.specs.m2_center.m2_turn.Sessions.{peer_of}
-use Rattle.m2_bytes_fit.specs.m2_trail.Asks.{IsMain}
+use Rattle.m2_lives.specs.m2_bytes_fit.m2_trail.Asks.{IsMain}
 use Rattle.m2_links_go_on.specs.m2_weave.Later.{GoesOn}
 use Rattle.m2_promise.specs.Running.{HasAskedPeer, IsNodeAt, IsRunning, NodeActs, RunNow}
 use Rattle.m2_promise.proofs.BothEnds.{IsCome, address, came_first, come, holds, in_memory}

@@ -8,7 +8,7 @@ use Rattle.m2_fabric.specs.m2_addr.declared.addr.Addr.{Addr}
 use Rattle.m2_links_go_on.specs.m2_weave.m2_control.Laws.{HasAddrRanges}
 use Rattle.m2_fabric.specs.declared.socket.SocketId.{SocketId}
 use Rattle.m2_fabric.specs.Sockets.{goes_to, is_among}
-use Rattle.m2_bytes_fit.proofs.Judges.{not_judged_on}
+use Rattle.m2_lives.proofs.m2_bytes_fit.Judges.{not_judged_on}
 use Rattle.m2_links_go_on.specs.m2_growth.Halves.{IsOneOf, all_left, asked_on}
 use Rattle.m2_links_go_on.specs.m2_growth.Holding.{Holding}
 use Rattle.m2_links_go_on.proofs.m2_growth.Among.{among_mapped, of_each}
@@ -29,8 +29,8 @@ use Rattle.m2_promise.proofs.Towards.{AreTowards}
 use Rattle.m2_fabric.specs.Meeting.{comes_from}
 use Rattle.m2_script.specs.m2_center.m2_turn.Halves.{AllHalves, sessions_with}
 use Rattle.m2_script.specs.m2_center.m2_turn.Sessions.{AreConsistent, Caller, IsCaller, IsTold, PendingNow, Supply, WasCaller, caller_in, caller_of, peer_of}
-use Rattle.m2_bytes_fit.specs.m2_trail.Arrivals.{LooseNow, left_of}
-use Rattle.m2_bytes_fit.specs.m2_trail.Trails.{TrailNow, opener_of}
+use Rattle.m2_lives.specs.m2_bytes_fit.m2_trail.Arrivals.{LooseNow, left_of}
+use Rattle.m2_lives.specs.m2_bytes_fit.m2_trail.Trails.{TrailNow, opener_of}
 use Rattle.m2_links_go_on.specs.m2_weave.Strands.{has_opened, journal_of}
 use Rattle.m2_links_go_on.specs.m2_history.Actors.{is_near}
 use Rattle.m2_links_go_on.specs.m2_history.WovenLink.{IsLooseBeside}

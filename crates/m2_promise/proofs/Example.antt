@@ -5,7 +5,7 @@ use Rattle.std.specs.List.{AllByRecursion}
 use Rattle.m2_fabric.specs.declared.socket.SocketId.{SocketId}
 use Rattle.m2_fabric.specs.Holder.{SeenHolder}
 use Rattle.m2_fabric.specs.Sockets.{goes_to}
-use Rattle.m2_bytes_fit.specs.Halves.{KeepsRanges}
+use Rattle.m2_lives.specs.m2_bytes_fit.Halves.{KeepsRanges}
 use Rattle.m2_links_go_on.specs.m2_growth.Halves.{IsOneOf, all_left}
 use Rattle.m2_links_go_on.specs.m2_growth.Holding.{Holding, all_ends}
 use Rattle.m2_links_go_on.specs.m2_history.Link.{both_of}

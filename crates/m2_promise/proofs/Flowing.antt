@@ -24,7 +24,7 @@ use Rattle.m2_script.specs.m2_record.Sources.{end_at}
 use Rattle.m2_fabric.specs.InStep.{IsUnread}
 use Rattle.m2_fabric.specs.Kept.{is_kept}
 use Rattle.m2_fabric.specs.Meeting.{comes_from}
-use Rattle.m2_bytes_fit.specs.m2_trail.Arrivals.{LooseNow}
+use Rattle.m2_lives.specs.m2_bytes_fit.m2_trail.Arrivals.{LooseNow}
 use Rattle.m2_links_go_on.specs.m2_weave.Later.{GoesOn}
 use Rattle.m2_links_go_on.specs.m2_weave.Strands.{has_opened, journal_of}
 use Rattle.m2_links_go_on.specs.m2_history.WovenLink.{same_end}

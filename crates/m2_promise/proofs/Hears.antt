@@ -1,5 +1,5 @@
 -- One direction of a link: what the one node heard of the other comes as the lines of a scenario post it.
-use Rattle.std.proofs.Common.{◌≡◌, ℕ, suc, ◌+◌, ◌≤◌, ◌⊎◌, cond, List, [], ◌∷◌, ◌++◌, length, map, sym, ap, subst, ◌∙◌, arith, append_assoc, append-nil, count_by}
+use Rattle.std.proofs.Common.{◌≡◌, ℕ, suc, ◌+◌, ◌≤◌, ◌⊎◌, cond, List, [], ◌∷◌, ◌++◌, length, map, refl, sym, ap, subst, ◌∙◌, arith, append_assoc, append-nil, count_by}
 use Rattle.std.specs.List.{AllByRecursion}
 use Rattle.std.proofs.lemmas.List.{length-append, map-append}
 use Rattle.std.proofs.lemmas.List.Elements.{filter-append}
@@ -7,18 +7,24 @@ use Rattle.std.proofs.lemmas.List.Sums.{sum_by-append}
 use Rattle.m2_channel.proofs.Handing.{some_of_more}
 use Rattle.m2_channel.specs.Handing.{IsNoResetOf}
 use Rattle.m2_channel.specs.Observed.{Logs, all_of, heard_from}
-use Rattle.m2_channel.specs.ObservedLaws.{ComeAsPosted}
+use Rattle.m2_channel.specs.ObservedLaws.{ComeAsPosted, posted_to}
 use Rattle.m2_channel.specs.m2_never_reset.Order.{AreFirstOf}
 use Rattle.m2_dispatch.specs.Heard.{Heard, is_key, is_message_from, message, of_key, reset}
 use Rattle.m2_dispatch.specs.Laws.{IsSublist}
+use Rattle.m2_links_go_on.specs.m2_weave.m2_journal.Items.{JournalItem}
 use Rattle.m2_links_go_on.specs.m2_weave.m2_journal.Lawful.{key_of}
 use Rattle.m2_links_go_on.specs.m2_weave.m2_journal.SideFacts.{SideFacts}
+use Rattle.m2_lives.proofs.LifeAfterLife.{holds_of_more}
+use Rattle.m2_lives.specs.LifeAfterLife.{ComesInLives, held_for, sending_side}
+use Rattle.m2_lives.specs.LivesLaws.{ArePiecesOf}
+use Rattle.m2_lives.specs.ObservedLaws.{NumberedLife, lives_of}
 use Rattle.m2_message.specs.Message.{Content, unnumbered}
 use Rattle.m2_scenario.specs.Order.{AreSame, IsNoResetBy, IsPrefixOf, posts_between, posts_of}
 use Rattle.m2_channel.specs.m2_never_reset.Orders as orders
+use Rattle.m2_channel.specs.m2_never_reset.Orders.{posts_in}
 use Rattle.m2_dispatch.specs.m2_policy.declared.path.Key.{Key}
 use Rattle.m2_promise.specs.AtEnd.{posts_to}
-use Rattle.m2_promise.specs.Posted.{AreSomeOf}
+use Rattle.m2_promise.specs.Posted.{AreSomeOf, HearsInLives}
 use Rattle.m2_promise.proofs.PostedPlans.{count_posts, key_posts}
 use Rattle.m2_promise.proofs.Prefixes.{are_same, count_heard, is_prefix, key_unnumbered}
 use Rattle.m2_promise.proofs.Turns.{all_turns, count_turns, key_turns}
@@ -124,3 +130,19 @@ hears_some f g y lines logs cs one_way some key =
     let x = f.node.number in
     subst (IsSublist (map unnumbered (of_key x key (in_turns cs logs.fast logs.queued)))) (posts_of_key g x y lines key)
     (subst (λ l. IsSublist (map unnumbered l) (orders.of_key g key (map unnumbered (posts_to x y lines)))) (sym (key_turns x key cs logs.fast logs.queued (one_way key))) (some key))
+
+-- ---- life after life
+
+pub hears_in_lives : (f g : SideFacts) (near far : List JournalItem) (y : ℕ) (lines : List DraftLine) (logs : Logs) (cs : List TurnCalls) → GoOneWay f.node.number logs → ComesInLives f g near far logs →
+    AreFirstOf (posts_in near) (posts_to f.node.number y lines) → HearsInLives f.node.number f g near far (posts_to f.node.number y lines) (in_turns cs logs.fast logs.queued)
+hears_in_lives f g near far y lines logs cs one_way comes first key =
+    subst (λ l. ArePiecesOf (map unnumbered l) (map (λ (n : NumberedLife). held_for n.name key (record (sending_side f g near) { posted = posted_to g (posts_to f.node.number y lines) })) (lives_of g far)))
+    (sym (key_turns f.node.number key cs logs.fast logs.queued (one_way key)))
+    (subst (ArePiecesOf (map unnumbered (of_key f.node.number key (all_of logs)))) (further (lives_of g far)) (comes.life_after_life key))
+  where
+    further : (ls : List NumberedLife) → map (λ (n : NumberedLife). held_for n.name key (sending_side f g near)) ls
+        ≡ map (λ (n : NumberedLife). held_for n.name key (record (sending_side f g near) { posted = posted_to g (posts_to f.node.number y lines) })) ls
+    further [] = refl
+    further (n ∷ ls) =
+        ap (λ h. h ∷ map (λ (m : NumberedLife). held_for m.name key (sending_side f g near)) ls) (sym (holds_of_more f g near far logs comes (posts_to f.node.number y lines) first n.name key))
+        ∙ ap (λ rest. held_for n.name key (record (sending_side f g near) { posted = posted_to g (posts_to f.node.number y lines) }) ∷ rest) (further ls)

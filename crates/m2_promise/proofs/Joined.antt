@@ -9,12 +9,12 @@ use Rattle.m2_promise.specs.Delivered.{AreLosslessUp, BothLogs, HasAccepted, Has
 use Rattle.m2_promise.specs.AtEnd.{AreAtEnd, AreFacing, Beside, IsLinkInOrder, posts_to}
 use Rattle.m2_promise.specs.Lossy.{ComeInOrderOn}
 use Rattle.m2_promise.proofs.Links.{never_down}
-use Rattle.m2_promise.proofs.Logs.{delivered_on, heard_there, some_there}
+use Rattle.m2_promise.proofs.Logs.{delivered_on, heard_there, in_lives_there, some_there}
 use Rattle.m2_dispatch.specs.declared.logged.Logged.{Logged}
 use Rattle.m2_dispatch.specs.Heard.{Heard, heard_by, of_key}
 use Rattle.m2_dispatch.specs.Laws.{IsSublist}
-use Rattle.m2_bytes_fit.specs.Orders.{entries_of}
-use Rattle.m2_bytes_fit.specs.Trails.{TrailsTellEachPoint}
+use Rattle.m2_lives.specs.m2_bytes_fit.Orders.{entries_of}
+use Rattle.m2_lives.specs.m2_bytes_fit.Trails.{TrailsTellEachPoint}
 use Rattle.m2_links_go_on.specs.m2_growth.Halves.{IsOneOf}
 use Rattle.m2_links_go_on.specs.m2_history.Counted.{posted}
 use Rattle.m2_links_go_on.specs.m2_history.Delivered.{AreOfOrder, CountsAreOfTheItems}
@@ -23,8 +23,12 @@ use Rattle.m2_links_go_on.specs.m2_weave.m2_journal.Items as item
 use Rattle.m2_links_go_on.specs.m2_weave.m2_journal.Items.{JournalItem, items_of}
 use Rattle.m2_links_go_on.specs.m2_weave.m2_journal.Replay.{after_items}
 use Rattle.m2_links_go_on.specs.m2_weave.m2_journal.State.{State, start}
-use Rattle.m2_bytes_fit.specs.m2_trail.Arrivals.{LooseNow}
+use Rattle.m2_lives.specs.m2_bytes_fit.m2_trail.Arrivals.{LooseNow}
 use Rattle.m2_links_go_on.specs.m2_history.m2_lossy_in_order.Lossy.{AreLossy}
+use Rattle.m2_lives.specs.Handing.{LogsAreInLives}
+use Rattle.m2_lives.specs.InLives.{AreInLives, BytesComeInLives}
+use Rattle.m2_lives.specs.LifeAfterLife.{ComesInLives}
+use Rattle.m2_lives.specs.ObservedRun.{AreLogsInLives}
 use Rattle.m2_message.specs.Message.{Content, unnumbered}
 use Rattle.m2_scenario.specs.Order.{posts_of}
 use Rattle.m2_channel.specs.m2_never_reset.Order.{AreFirstOf}
@@ -33,8 +37,8 @@ use Rattle.m2_channel.specs.m2_never_reset.Orders.{AreNodes, IsHistory, SideItem
 use Rattle.m2_dispatch.specs.m2_policy.Policy.{allows}
 use Rattle.m2_dispatch.specs.m2_policy.declared.path.Key.{Key}
 use Rattle.m2_dispatch.specs.m2_policy.declared.policy.Policy.{Policy}
-use Rattle.m2_promise.specs.Posted.{AreAcknowledged, AreMarkedIn, AreRecordsOver, AreSomeOf, AreUpIn, IsMarkedOnlySo, logs_of}
-use Rattle.m2_promise.proofs.Hears.{GoOneWay, HearsOf, come_further, hears_of, hears_some, some_further}
+use Rattle.m2_promise.specs.Posted.{AreAcknowledged, AreMarkedIn, AreRecordsOver, AreSomeOf, AreUpIn, HearsInLives, IsMarkedOnlySo, items_by, logs_of}
+use Rattle.m2_promise.proofs.Hears.{GoOneWay, HearsOf, come_further, hears_in_lives, hears_of, hears_some, some_further}
 use Rattle.m2_promise.proofs.PostsTowards as record_of
 use Rattle.m2_promise.proofs.PostsTowards.{IsTowards}
 use Rattle.m2_script.specs.m2_record.IsRecord.{IsRecord}
@@ -47,7 +51,7 @@ use Rattle.m2_script.specs.declared.made.Towards.{Towards}
 use Rattle.m2_script.specs.Outcome.{heard_at, in_turns, is_down_at, of_node}
 use Rattle.m2_script.specs.Script.{RunNow}
 use Rattle.m2_links_go_on.specs.m2_weave.WeaveLaws.{AsksComeFirst, ReadWasWritten}
-use Rattle.m2_links_go_on.specs.m2_history.WovenLaws.{WovenIsDelivered, WovenIsNeverReset, kept_by, link_of}
+use Rattle.m2_links_go_on.specs.m2_history.WovenLaws.{WovenBytesFit, WovenIsDelivered, WovenIsNeverReset, kept_by, link_of}
 use Rattle.m2_links_go_on.specs.m2_history.WovenLink.{AreUp, IsLink, IsOrderOf, LinkNow, order_of}
 use Rattle.m2_links_go_on.specs.m2_history.Lossy.{AreSomeLogs, WovenComesInOrder}
 use Rattle.m2_links_go_on.specs.m2_history.Marked.{WovenIsARunToAMark}
@@ -69,6 +73,9 @@ pub record AreLaws : Type 0 where
   pub acknowledged : AcknowledgedIsAccepted
   pub counts : CountsAreOfTheItems
   pub logs : LogsAreLogs
+  pub fit : WovenBytesFit
+  pub in_lives : LogsAreInLives
+  pub lives : BytesComeInLives
 
 -- ---- the two ends of a link
 
@@ -245,6 +252,34 @@ module _ (laws : AreLaws) (nodes : List Node) (links : List Link) (lines : List 
 
   pub marked_in : KeepsAll l → AreMarkedIn it logs all
   marked_in keeps = (laws.to_a_mark it order logs.near logs.far (are_nodes keeps) is_link is_order).observed are_logs
+
+  -- ---- a lossless link, life after life
+
+  logs_in_lives : AreLogsInLives a.core.facts b.core.facts all logs.near logs.far
+  logs_in_lives = record {
+    near = in_lives_there a is_a (near_items all) near_all logs.near b.core.facts.node.number (record_of.in_lives nodes links lines beside s ended l.a (of_a l) ea laws.in_lives) far_number;
+    far = in_lives_there b is_b (far_items all) far_all logs.far a.core.facts.node.number (record_of.in_lives nodes links lines beside s ended l.b (of_b l) eb laws.in_lives) near_number;
+  }
+
+  pub lives_in : KeepsAll l → AreInLives a.core.facts b.core.facts all logs.near logs.far
+  lives_in keeps =
+      laws.lives a.core.facts b.core.facts (order_of it order) logs.near logs.far (are_nodes keeps) is_link.joined.peers (laws.fit it order is_link is_order).fits logs_in_lives
+
+  pub b_hears_in_lives : KeepsAll l → HearsInLives l.a a.core.facts b.core.facts (items_by a) (items_by b) (posts_to l.a l.b lines) (heard_at heard_by s l.b)
+  b_hears_in_lives keeps =
+      let come : ComesInLives a.core.facts b.core.facts (items_by a) (items_by b) logs.far =
+      subst (λ is. ComesInLives a.core.facts b.core.facts is (items_by b) logs.far) near_all
+      (subst (λ is. ComesInLives a.core.facts b.core.facts (near_items all) is logs.far) far_all (lives_in keeps).comes.near) in
+      at_b (λ x fast heard. HearsInLives x a.core.facts b.core.facts (items_by a) (items_by b) (posts_to x l.b lines) heard)
+      (hears_in_lives a.core.facts b.core.facts (items_by a) (items_by b) l.b lines logs.far (of_node l.b s.calls) far_ways come a_posts)
+
+  pub a_hears_in_lives : KeepsAll l → HearsInLives l.b b.core.facts a.core.facts (items_by b) (items_by a) (posts_to l.b l.a lines) (heard_at heard_by s l.a)
+  a_hears_in_lives keeps =
+      let come : ComesInLives b.core.facts a.core.facts (items_by b) (items_by a) logs.near =
+      subst (λ is. ComesInLives b.core.facts a.core.facts is (items_by a) logs.near) far_all
+      (subst (λ is. ComesInLives b.core.facts a.core.facts (far_items all) is logs.near) near_all (lives_in keeps).comes.far) in
+      at_a (λ x fast heard. HearsInLives x b.core.facts a.core.facts (items_by b) (items_by a) (posts_to x l.a lines) heard)
+      (hears_in_lives b.core.facts a.core.facts (items_by b) (items_by a) l.a lines logs.near (of_node l.a s.calls) near_ways come b_posts)
 
   -- ---- a lossy link
 

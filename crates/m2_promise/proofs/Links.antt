@@ -6,9 +6,9 @@ use Rattle.std.proofs.lemmas.Grind.{flat_map-append}
 use Rattle.m2_links_go_on.specs.m2_weave.m2_control.Laws.{HasAddrRanges}
 use Rattle.m2_fabric.specs.declared.socket.SocketId.{SocketId}
 use Rattle.m2_fabric.specs.Sockets.{goes_to}
-use Rattle.m2_bytes_fit.specs.Halves.{KeepsRanges}
-use Rattle.m2_bytes_fit.specs.Posts.{SendablePostsKeepFields}
-use Rattle.m2_bytes_fit.specs.Texts.{CanBePosted}
+use Rattle.m2_lives.specs.m2_bytes_fit.Halves.{KeepsRanges}
+use Rattle.m2_lives.specs.m2_bytes_fit.Posts.{SendablePostsKeepFields}
+use Rattle.m2_lives.specs.m2_bytes_fit.Texts.{CanBePosted}
 use Rattle.m2_links_go_on.specs.m2_growth.Halves.{all_left}
 use Rattle.m2_links_go_on.specs.m2_growth.Holding.{Holding}
 use Rattle.m2_links_go_on.proofs.m2_growth.Among.{each_by}
@@ -32,8 +32,8 @@ use Rattle.m2_promise.specs.Running.{IsLinkOf, IsNodeAt, IsRunning, RunNow}
 use Rattle.m2_promise.proofs.Openers as node
 use Rattle.m2_promise.proofs.Towards as link
 use Rattle.m2_promise.proofs.Towards.{AreTowards, turned}
-use Rattle.m2_bytes_fit.specs.m2_trail.Arrivals.{LooseNow}
-use Rattle.m2_bytes_fit.specs.m2_trail.Trails.{TrailNow, opener_of}
+use Rattle.m2_lives.specs.m2_bytes_fit.m2_trail.Arrivals.{LooseNow}
+use Rattle.m2_lives.specs.m2_bytes_fit.m2_trail.Trails.{TrailNow, opener_of}
 use Rattle.m2_links_go_on.specs.m2_history.Actors.{Actor, of_half, actors_of_side, is_near, loose_actors, part_of, taken_half, trail_by}
 use Rattle.m2_links_go_on.specs.m2_history.WovenLaws.{RecordsAreSides}
 use Rattle.m2_links_go_on.specs.m2_history.WovenLink.{IsLink, IsLooseBeside, IsSideOf, LinkNow, items_in, same_end, sources_in, trails_of}

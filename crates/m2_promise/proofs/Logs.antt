@@ -4,9 +4,9 @@ use Rattle.std.proofs.Common.{◌≡◌, ℕ, ◌≤◌, true, false, List, ◌+
 use Rattle.std.specs.List.{AllByRecursion}
 use Rattle.m2_channel.specs.Observed.{Logs, all_of}
 use Rattle.m2_channel.specs.ObservedLaws.{AreLogs, AreLogsOf, IsLogOf}
-use Rattle.m2_bytes_fit.specs.Orders.{entries_of}
-use Rattle.m2_bytes_fit.specs.Trails.{TrailsTellEachPoint}
-use Rattle.m2_bytes_fit.specs.m2_trail.Arrivals.{LooseNow}
+use Rattle.m2_lives.specs.m2_bytes_fit.Orders.{entries_of}
+use Rattle.m2_lives.specs.m2_bytes_fit.Trails.{TrailsTellEachPoint}
+use Rattle.m2_lives.specs.m2_bytes_fit.m2_trail.Arrivals.{LooseNow}
 use Rattle.m2_links_go_on.specs.m2_growth.Halves.{all_left}
 use Rattle.m2_links_go_on.specs.m2_growth.Holding.{Holding}
 use Rattle.m2_links_go_on.specs.m2_history.HalfStrands.{OrdersGivePoints}
@@ -25,7 +25,8 @@ use Rattle.m2_links_go_on.specs.m2_weave.WeaveLaws.{AsksComeFirst, ReadWasWritte
 use Rattle.m2_links_go_on.specs.m2_history.WovenLaws.{WovenIsDelivered, WovenIsNeverReset, link_of}
 use Rattle.m2_links_go_on.specs.m2_history.WovenLink.{AreUp, IsLink, IsOrderOf, LinkNow, items_by, items_in, order_of}
 use Rattle.m2_links_go_on.proofs.m2_history.Whole.{far_whole, near_whole, by_actors}
-use Rattle.m2_promise.specs.Delivered.{AreDeliveredOn, AreLosslessUp, BothLogs, HasAccepted, HasHeardPeer, PostsInRanges, link_in}
+use Rattle.m2_promise.specs.Delivered.{AreDeliveredOn, AreLosslessUp, BothLogs, HasAccepted, HasHeardInLives, HasHeardPeer, PostsInRanges, link_in}
+use Rattle.m2_lives.specs.ObservedRun.{IsLogInLives}
 use Rattle.m2_promise.specs.DeliveryLaws.{LinksHaveOrders, RunsHaveLinks}
 use Rattle.m2_promise.proofs.Links.{far_record, near_record, never_down}
 
@@ -51,6 +52,11 @@ module _ (r : RecordNow) (is : IsRecord r) (items : List JournalItem) (same : it
   pub some_there : (logs : Logs) (number : ℕ) → HasHeardPeer logs r → number ≡ r.place → AreSomeOf number logs then_at
   some_there logs number heard same_number =
       subst (λ n. AreSomeOf n logs then_at) (sym same_number) (subst (λ s. AreSomeOf r.place logs s) stands (heard is.state is.at_state).some)
+
+  -- or it is in the record's lives
+  pub in_lives_there : (logs : Logs) (number : ℕ) → HasHeardInLives logs r → number ≡ r.place → IsLogInLives number logs then_at
+  in_lives_there logs number heard same_number =
+      subst (λ n. IsLogInLives n logs then_at) (sym same_number) (subst (λ s. IsLogInLives r.place logs s) stands (heard is.state is.at_state))
 
   pub base_there : then_at.out.queue.base ≡ r.core.live.out.queue.base
   base_there = ap (λ (s : State). s.out.queue.base) (sym stands) ∙ ap (λ (q : Queue). q.base) (sym is.at_state.core.queue)

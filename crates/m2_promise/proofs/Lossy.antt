@@ -1,7 +1,7 @@
 -- By the logs of both nodes' dispatchers what was dispatched on a lossy link is some of what was posted, in order.
 use Rattle.std.proofs.Common.{◌≡◌, ℕ, true, false, List}
-use Rattle.m2_bytes_fit.specs.Orders.{entries_of}
-use Rattle.m2_bytes_fit.specs.Trails.{TrailsTellEachPoint}
+use Rattle.m2_lives.specs.m2_bytes_fit.Orders.{entries_of}
+use Rattle.m2_lives.specs.m2_bytes_fit.Trails.{TrailsTellEachPoint}
 use Rattle.m2_links_go_on.specs.m2_growth.Holding.{Holding}
 use Rattle.m2_links_go_on.specs.m2_history.HalfStrands.{OrdersGivePoints}
 use Rattle.m2_channel.specs.m2_never_reset.Orders.{far_items, near_items}

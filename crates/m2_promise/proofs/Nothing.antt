@@ -7,7 +7,7 @@ use Rattle.m2_script.specs.m2_record.RecordNow.{RecordNow}
 use Rattle.m2_promise.specs.Running.{IsRunning, RunNow}
 use Rattle.m2_fabric.specs.SimFabric.{Flows, Passes, flow_of}
 use Rattle.m2_fabric.proofs.Told.{told_nothing}
-use Rattle.m2_bytes_fit.specs.m2_trail.Arrivals.{LooseNow}
+use Rattle.m2_lives.specs.m2_bytes_fit.m2_trail.Arrivals.{LooseNow}
 use Rattle.m2_promise.specs.Passed.{NodesHear, SameHolding, network_of}
 
 each_same : {X : Type 0} (how : X → X → Type 0) → ((x : X) → how x x) → (xs : List X) → OneByOne how xs xs

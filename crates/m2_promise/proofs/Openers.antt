@@ -27,8 +27,8 @@ use Rattle.m2_links_go_on.specs.m2_weave.m2_session.SessionLaws.{takes}
 use Rattle.m2_fabric.specs.Meeting.{comes_from}
 use Rattle.m2_script.specs.m2_center.m2_turn.Hearing.{ends_in}
 use Rattle.m2_script.specs.m2_center.m2_turn.Sessions.{peer_of}
-use Rattle.m2_bytes_fit.specs.m2_trail.Arrivals.{LooseNow}
-use Rattle.m2_bytes_fit.specs.m2_trail.Trails.{TrailNow}
+use Rattle.m2_lives.specs.m2_bytes_fit.m2_trail.Arrivals.{LooseNow}
+use Rattle.m2_lives.specs.m2_bytes_fit.m2_trail.Trails.{TrailNow}
 use Rattle.m2_links_go_on.specs.m2_weave.Strands.{has_opened, journal_of}
 use Rattle.m2_links_go_on.specs.m2_history.WovenLink.{sources_in}
 use Rattle.m2_links_go_on.proofs.m2_history.Journals.{opened_leads}

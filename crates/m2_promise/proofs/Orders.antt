@@ -18,7 +18,7 @@ use Rattle.m2_links_go_on.proofs.LinkGoes.{each_end, of_link, one_end}
 use Rattle.m2_links_go_on.proofs.LinkRecords.{at_place}
 use Rattle.m2_links_go_on.proofs.LinkTurns as turns
 use Rattle.m2_script.specs.m2_record.RecordNow.{RecordNow, ends_of}
-use Rattle.m2_bytes_fit.specs.m2_trail.Arrivals.{LooseNow}
+use Rattle.m2_lives.specs.m2_bytes_fit.m2_trail.Arrivals.{LooseNow}
 use Rattle.m2_links_go_on.specs.Sides.{woven_now}
 use Rattle.m2_links_go_on.specs.m2_weave.TurnLaws.{HasOrder}
 use Rattle.m2_links_go_on.specs.m2_weave.Later.{GoesOn, HadFlowed}

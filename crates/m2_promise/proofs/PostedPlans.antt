@@ -6,7 +6,7 @@ use Rattle.std.proofs.lemmas.List.Sums.{sum_by-cons}
 use Rattle.std.proofs.lemmas.Option.{none-some, same_Some}
 use Rattle.m2_promise.specs.Delivered.{PostsInRanges}
 use Rattle.m2_dispatch.specs.Heard.{is_key}
-use Rattle.m2_bytes_fit.specs.Posts.{IsOfTypes}
+use Rattle.m2_lives.specs.m2_bytes_fit.Posts.{IsOfTypes}
 use Rattle.m2_links_go_on.specs.m2_weave.m2_journal.declared.entry.Entry.{Entry}
 use Rattle.m2_links_go_on.specs.m2_weave.m2_journal.declared.entry.Entry.TheVariants as entry
 use Rattle.m2_links_go_on.specs.m2_weave.m2_journal.declared.facts.PlanStep.{PlanStep}

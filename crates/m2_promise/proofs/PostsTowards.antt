@@ -8,7 +8,9 @@ use Rattle.m2_channel.specs.m2_never_reset.Order.{AreFirstOf}
 use Rattle.m2_channel.specs.m2_never_reset.Orders.{posts_in}
 use Rattle.m2_dispatch.specs.Heard.{heard_by}
 use Rattle.m2_dispatch.specs.declared.logged.Logged.{Logged}
-use Rattle.m2_links_go_on.proofs.AreHeard.{logged_are_heard}
+use Rattle.m2_links_go_on.proofs.AreHeard.{logged_are_heard, logged_are_so}
+use Rattle.m2_lives.specs.Handing.{LogsAreInLives}
+use Rattle.m2_lives.specs.ObservedRun.{IsLogInLives}
 use Rattle.m2_links_go_on.proofs.m2_growth.Among.{of_each}
 use Rattle.m2_links_go_on.specs.LogLaws.{logging_in}
 use Rattle.m2_links_go_on.specs.Logged.{logs_in}
@@ -22,7 +24,7 @@ use Rattle.m2_promise.proofs.PostedPlans.{count_planned, count_posts, posted_fir
 use Rattle.m2_promise.proofs.Sides.{HasNamed, named_by, place_of, record_over}
 use Rattle.m2_promise.proofs.Ways.{one_way}
 use Rattle.m2_promise.specs.AtEnd.{AreAtEnd, Beside, IsNodeAtEnd, IsOfLines, Named, is_down_of, is_down_step, posts_planned, posts_to}
-use Rattle.m2_promise.specs.Delivered.{HasHeardPeer, MarksNoneDown}
+use Rattle.m2_promise.specs.Delivered.{HasHeardInLives, HasHeardPeer, MarksNoneDown}
 use Rattle.m2_promise.specs.Planned.{IsTaken}
 use Rattle.m2_promise.specs.Posted.{IsMarkedOnlySo, IsMarkedSo, gave_up_at, is_given_up}
 use Rattle.m2_scenario.specs.Draft.{DraftLine}
@@ -111,6 +113,11 @@ module _ (nodes : List Node) (links : List Link) (lines : List DraftLine) (besid
 
     pub heard : LogsAreLogs → HasHeardPeer logs r
     heard law = of_each (HasHeardPeer logs) r e.node.center.records (logged_are_heard law heard_by e.node.center.records e.node.center.out e.node.center.queued its.logged) e.side.one
+
+    pub in_lives : LogsAreInLives → HasHeardInLives logs r
+    in_lives law =
+        of_each (HasHeardInLives logs) r e.node.center.records
+        (logged_are_so IsLogInLives law heard_by e.node.center.records e.node.center.out e.node.center.queued its.logged) e.side.one
 
     pub heard_in_turns : heard_at heard_by s x ≡ in_turns (of_node x s.calls) logs.fast logs.queued
     heard_in_turns = ap (heard_of_node heard_by x s.calls) e.node_there

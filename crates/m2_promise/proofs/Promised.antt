@@ -13,13 +13,13 @@ use Rattle.m2_dispatch.specs.declared.logged.Logged.{Logged}
 use Rattle.m2_dispatch.specs.Heard.{Heard, heard_by, is_message_from, of_key, peer_of}
 use Rattle.m2_links_go_on.specs.m2_growth.Halves.{IsOneOf}
 use Rattle.m2_links_go_on.proofs.m2_growth.Among.{each_by, of_each}
-use Rattle.m2_promise.specs.AtEnd.{AreAtEnd, Beside}
+use Rattle.m2_promise.specs.AtEnd.{AreAtEnd, Beside, posts_to}
 use Rattle.m2_scenario.specs.Order.{AreOfJoined, HearsNoReset, HearsPrefix, HearsWhole, IsPeer, at, fast_of, messages_between, posts_between, posts_of}
 use Rattle.m2_links_go_on.specs.OfPeers.{IsPeerOf}
 use Rattle.m2_dispatch.specs.m2_policy.declared.path.Key.{Key}
-use Rattle.m2_promise.specs.Posted.{AreSomeOf, HearsSome, IsAccountedOver, IsMarkedOnlySo, IsPromised, is_lossy}
+use Rattle.m2_promise.specs.Posted.{AreHeardInLives, AreSomeOf, HearsInLives, HearsSome, IsAccountedOver, IsMarkedOnlySo, IsPromised, is_lossy, items_by}
 use Rattle.m2_promise.proofs.Hears.{HearsOf}
-use Rattle.m2_promise.proofs.Joined.{AreLaws, KeepsAll, StaysUp, a_hears, a_hears_some, a_marked, accepted, b_hears, b_hears_some, b_marked, come_in, is_order, journals, marked_in, of_a, of_b, order, records, up_in}
+use Rattle.m2_promise.proofs.Joined.{AreLaws, KeepsAll, StaysUp, a_hears, a_hears_in_lives, a_hears_some, a_marked, accepted, b_hears, b_hears_in_lives, b_hears_some, b_marked, come_in, is_order, journals, lives_in, marked_in, of_a, of_b, order, records, up_in}
 use Rattle.m2_promise.proofs.Sides.{from_a, from_b, peer_joined}
 use Rattle.m2_promise.proofs.PostsTowards.{IsTowards, is_towards, posts_counted}
 use Rattle.m2_promise.proofs.Turns.{all_turns}
@@ -29,6 +29,8 @@ use Rattle.m2_scenario.specs.Draft.{DraftLine}
 use Rattle.m2_scenario.specs.Valid.{IsLink, IsSound}
 use Rattle.m2_script.specs.Outcome.{all_heard, heard_at, heard_of_node, is_down_at, is_lossless, is_up, left_from, left_in, left_over, messages_at, of_node, posts_at}
 use Rattle.m2_script.specs.Script.{RunNow}
+use Rattle.m2_script.specs.declared.made.Towards.{Towards}
+use Rattle.m2_script.specs.m2_record.RecordNow.{RecordNow}
 use Rattle.m2_fabric.proofs.m2_lemmas.Booleans.{from_false_true, negated_is_false}
 use Rattle.m2_fabric.proofs.m2_lemmas.Lists.{all_so}
 
@@ -81,6 +83,13 @@ module _ (laws : AreLaws) (nodes : List Node) (links : List Link) (lines : List 
       (λ h. in_range (heard_at heard_by s) 0 (length s.cluster.nodes) y h ∙ ap (heard_at heard_by s) (omega arith))
       (λ h. past_range (heard_at heard_by s) 0 (length s.cluster.nodes) y h ∙ sym (ap (heard_of_node heard_by y s.calls) (slice_get_past s.cluster.nodes y h)))
       (cases_lt y (length s.cluster.nodes))
+
+  -- what holds of all that a node heard holds of what is at its place
+  heard_so : (P : List Heard → Type 0) (y : ℕ) → P (heard_at heard_by s y) → P (at y all)
+  heard_so P y so = subst P (sym (heard_is y)) so
+
+  abbrev of_side : {y : ℕ} {t : Towards} → IsTowards nodes s y t → RecordNow
+  of_side e = e.side.item
 
   -- ---- a link
 
@@ -150,6 +159,15 @@ module _ (laws : AreLaws) (nodes : List Node) (links : List Link) (lines : List 
     marked : IsMarkedOnlySo lines s l.a l.b × IsMarkedOnlySo lines s l.b l.a
     marked = (a_marked laws nodes links lines beside s ended l one is ea eb, b_marked laws nodes links lines beside s ended l one is ea eb)
 
+    in_lives : is_lossless l ≡ true → AreHeardInLives lines s l
+    in_lives lossless = record {
+      records = records laws nodes links lines beside s ended l one is ea eb;
+      to_b = heard_so (HearsInLives l.a (of_side ea).core.facts (of_side eb).core.facts (items_by (of_side ea)) (items_by (of_side eb)) (posts_to l.a l.b lines)) l.b
+          (b_hears_in_lives laws nodes links lines beside s ended l one is ea eb (keeps_all l lossless));
+      to_a = heard_so (HearsInLives l.b (of_side eb).core.facts (of_side ea).core.facts (items_by (of_side eb)) (items_by (of_side ea)) (posts_to l.b l.a lines)) l.a
+          (a_hears_in_lives laws nodes links lines beside s ended l one is ea eb (keeps_all l lossless));
+    }
+
     accounted : IsAccountedOver beside s l
     accounted = record {
       records = records laws nodes links lines beside s ended l one is ea eb;
@@ -158,6 +176,7 @@ module _ (laws : AreLaws) (nodes : List Node) (links : List Link) (lines : List 
         is_order = is_order laws nodes links lines beside s ended l one is ea eb;
         journals = journals laws nodes links lines beside s ended l one is ea eb;
         up = λ up. up_in laws nodes links lines beside s ended l one is ea eb (keeps_all l (parts_up l up).0) (parts_up l up).1;
+        lives = λ lossless. lives_in laws nodes links lines beside s ended l one is ea eb (keeps_all l lossless);
         lossless = λ lossless. marked_in laws nodes links lines beside s ended l one is ea eb (keeps_all l lossless);
         lossy = λ lossy. come_in laws nodes links lines beside s ended l one is ea eb (one_lossy l lossy);
       };
@@ -232,6 +251,7 @@ module _ (laws : AreLaws) (nodes : List Node) (links : List Link) (lines : List 
     whole = λ none. each_by (λ (l : Link). is_up s l ≡ true → HearsWhole fasts lines all l.a l.b × HearsWhole fasts lines all l.b l.a) links (whole_over none);
     no_reset = each_by (λ (l : Link). is_up s l ≡ true → HearsNoReset all l.a l.b × HearsNoReset all l.b l.a) links (λ l one up. let its = keeps l one up in (its.to_b.no_reset, its.to_a.no_reset));
     counted = sums heard_over (left_over heard_by s) posted_over links counted_over;
+    lives = each_by (λ (l : Link). is_lossless l ≡ true → AreHeardInLives lines s l) links in_lives;
     some = each_by (λ (l : Link). is_lossy l ≡ true → HearsSome fasts lines all l.a l.b × HearsSome fasts lines all l.b l.a) links hears_some;
     joined = are_joined;
     marked = each_by (λ (l : Link). IsMarkedOnlySo lines s l.a l.b × IsMarkedOnlySo lines s l.b l.a) links marked;

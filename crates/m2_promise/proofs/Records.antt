@@ -4,7 +4,7 @@ use Rattle.std.specs.Prelude.{slice_get}
 use Rattle.std.specs.List.{AllByRecursion}
 use Rattle.std.proofs.lemmas.Option.{get_or_from_slice_get, slice_get_within}
 use Rattle.m2_fabric.specs.m2_addr.declared.addr.TheConstants.Addr.{MSGR2}
-use Rattle.m2_bytes_fit.specs.Halves.{KeepsRanges}
+use Rattle.m2_lives.specs.m2_bytes_fit.Halves.{KeepsRanges}
 use Rattle.m2_script.specs.m2_record.IsRecord.{IsRecord}
 use Rattle.m2_script.specs.m2_record.RecordNow.{RecordNow, ends_of}
 use Rattle.m2_promise.specs.Beginning.{IsUnused}

@@ -6,7 +6,7 @@ use Rattle.m2_fabric.specs.m2_addr.declared.addr.Addr.{Addr}
 use Rattle.m2_script.specs.m2_cluster.Node.{NodeNow}
 use Rattle.m2_links_go_on.specs.ClusterTold.{OneByOne, SameNode, SameRecord}
 use Rattle.m2_links_go_on.specs.ToldLaws.{ToldClusterIsSame}
-use Rattle.m2_bytes_fit.specs.Halves.{KeepsRanges}
+use Rattle.m2_lives.specs.m2_bytes_fit.Halves.{KeepsRanges}
 use Rattle.m2_links_go_on.specs.m2_weave.m2_journal.SideFacts.{SideFacts}
 use Rattle.m2_script.specs.m2_record.RecordNow.{RecordNow}
 use Rattle.m2_promise.specs.Running.{IsOfPort, IsRecordAt}

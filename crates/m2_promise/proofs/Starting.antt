@@ -34,8 +34,8 @@ use Rattle.m2_fabric.specs.SimFabric.{AreApart}
 use Rattle.m2_script.specs.m2_center.m2_turn.Halves.{AllHalves, sessions_with}
 use Rattle.m2_script.specs.m2_center.m2_turn.Hearing.{ends_in}
 use Rattle.m2_script.specs.m2_center.m2_turn.Sessions.{AreConsistent}
-use Rattle.m2_bytes_fit.specs.m2_trail.Arrivals.{LooseNow}
-use Rattle.m2_bytes_fit.specs.m2_trail.Trails.{TrailNow}
+use Rattle.m2_lives.specs.m2_bytes_fit.m2_trail.Arrivals.{LooseNow}
+use Rattle.m2_lives.specs.m2_bytes_fit.m2_trail.Trails.{TrailNow}
 use Rattle.m2_links_go_on.specs.Sides.{woven_now}
 use Rattle.m2_links_go_on.specs.m2_weave.TurnLaws.{HasOrder}
 use Rattle.m2_links_go_on.proofs.m2_weave.Runs.{start_has_order}

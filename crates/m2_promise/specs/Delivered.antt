@@ -4,8 +4,8 @@ use Rattle.std.specs.Prelude.{◌≡◌, ℕ, ◌≤◌, true, false, List, ◌+
 use Rattle.std.specs.List.{AllByRecursion}
 use Rattle.m2_channel.specs.Handing.{IsHeardOf}
 use Rattle.m2_channel.specs.Observed.{Logs, all_of}
-use Rattle.m2_bytes_fit.specs.Orders.{entries_of}
-use Rattle.m2_bytes_fit.specs.Posts.{IsOfTypes}
+use Rattle.m2_lives.specs.m2_bytes_fit.Orders.{entries_of}
+use Rattle.m2_lives.specs.m2_bytes_fit.Posts.{IsOfTypes}
 use Rattle.m2_links_go_on.specs.m2_growth.Halves.{all_left}
 use Rattle.m2_links_go_on.specs.m2_growth.Holding.{Holding}
 use Rattle.m2_links_go_on.specs.m2_history.Delivered.{AreDelivered, AreOfOrder}
@@ -17,6 +17,7 @@ use Rattle.m2_links_go_on.specs.m2_weave.m2_journal.Replay.{replay}
 use Rattle.m2_links_go_on.specs.m2_weave.m2_journal.State.{State}
 use Rattle.m2_channel.specs.m2_never_reset.LinkOf.{letters}
 use Rattle.m2_channel.specs.m2_never_reset.Orders.{AreNodes, IsNeverReset}
+use Rattle.m2_lives.specs.ObservedRun.{IsLogInLives}
 use Rattle.m2_script.specs.m2_record.IsRecord.{IsReplayedTo}
 use Rattle.m2_script.specs.m2_record.RecordNow.{RecordNow, speaks_of}
 use Rattle.m2_links_go_on.specs.m2_history.WovenLaws.{kept_by, link_of}
@@ -37,6 +38,10 @@ MarksNoneDown _ = Unit {0}
 -- by these logs the record's peer is heard to send what the record accepted, of each key the first of it
 abbrev pub HasHeardPeer : Logs → RecordNow → Type 0
 HasHeardPeer logs r = (s : State) → IsReplayedTo s r → IsHeardOf r.place (all_of logs) s
+
+-- by these logs the record's peer is heard to send what the record accepted, life after life of the record
+abbrev pub HasHeardInLives : Logs → RecordNow → Type 0
+HasHeardInLives logs r = (s : State) → IsReplayedTo s r → IsLogInLives r.place logs s
 
 -- a record that was never marked down, whose peer is heard by the logs of its node
 pub record IsHeardUp (logs : Logs) (r : RecordNow) : Type 0 where

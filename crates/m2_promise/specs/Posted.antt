@@ -2,31 +2,36 @@
 -- over a lossy one some of them come, in order. This is the project's promise.
 use Rattle.std.specs.Prelude.{◌≡◌, ◌==◌, ◌&&◌, ◌||◌, not, ℕ, ◌≤◌, Bool, true, false, List, ◌∷◌, ◌++◌, length, map, slice_get, Some, sum_by}
 use Rattle.std.specs.List.{AllByRecursion, list_any}
-use Rattle.m2_channel.specs.ObservedLaws.{AreBrought, AreBroughtToAMark}
+use Rattle.m2_channel.specs.ObservedLaws.{AreBrought, AreBroughtToAMark, posted_to}
 use Rattle.m2_script.specs.m2_cluster.Node.{NodeNow}
 use Rattle.m2_links_go_on.specs.Center.{holding_of}
 use Rattle.m2_links_go_on.specs.m2_growth.Halves.{all_left}
-use Rattle.m2_promise.specs.AtEnd.{AreFacing, Beside, is_down_of}
+use Rattle.m2_promise.specs.AtEnd.{AreFacing, Beside, is_down_of, posts_to}
 use Rattle.m2_promise.specs.Delivered.{BothLogs, HasAccepted}
 use Rattle.m2_promise.specs.Lossy.{ComeInOrderOn}
 use Rattle.m2_dispatch.specs.declared.logged.Logged.{Logged}
 use Rattle.m2_dispatch.specs.Heard.{Heard, heard_by, of_key}
 use Rattle.m2_dispatch.specs.Laws.{IsSublist}
-use Rattle.m2_bytes_fit.specs.Orders.{entries_of}
-use Rattle.m2_bytes_fit.specs.Posts.{IsOfTypes}
+use Rattle.m2_lives.specs.m2_bytes_fit.Orders.{entries_of}
+use Rattle.m2_lives.specs.m2_bytes_fit.Posts.{IsOfTypes}
 use Rattle.m2_links_go_on.specs.m2_history.Delivered.{AreDelivered, AreOfOrder}
 use Rattle.m2_links_go_on.specs.m2_weave.m2_journal.declared.entry.Entry.{Entry}
 use Rattle.m2_links_go_on.specs.m2_weave.m2_journal.declared.entry.Entry.TheVariants as entry
 use Rattle.m2_links_go_on.specs.m2_weave.m2_journal.Items as item
+use Rattle.m2_links_go_on.specs.m2_weave.m2_journal.Items.{JournalItem, items_of}
 use Rattle.m2_links_go_on.specs.m2_weave.m2_journal.SideFacts.{SideFacts}
 use Rattle.m2_links_go_on.specs.LogLaws.{logging_in}
 use Rattle.m2_links_go_on.specs.Logged.{logs_in}
+use Rattle.m2_lives.specs.InLives.{AreInLives}
+use Rattle.m2_lives.specs.LifeAfterLife.{held_for, sending_side}
+use Rattle.m2_lives.specs.LivesLaws.{ArePiecesOf}
+use Rattle.m2_lives.specs.ObservedLaws.{NumberedLife, lives_of}
 use Rattle.m2_message.specs.Message.{Content, unnumbered}
 use Rattle.m2_scenario.specs.Order.{AreCounted, AreOfJoined, HearsNoReset, HearsPrefix, HearsWhole, OverEach, at, fast_of, posts_of}
 use Rattle.m2_channel.specs.m2_never_reset.LinkOf.{letters}
 use Rattle.m2_channel.specs.m2_never_reset.Orders.{IsHistory, IsNeverReset, SideItem, far_after, far_item, near_after, near_item}
 use Rattle.m2_dispatch.specs.m2_policy.declared.path.Key.{Key}
-use Rattle.m2_script.specs.m2_record.RecordNow.{RecordNow}
+use Rattle.m2_script.specs.m2_record.RecordNow.{RecordNow, speaks_of}
 use Rattle.m2_scenario.specs.declared.line.Line.{Line}
 use Rattle.m2_scenario.specs.declared.line.Line.TheVariants as line
 use Rattle.m2_scenario.specs.declared.link.Link.{Link}
@@ -126,12 +131,14 @@ pub record AreUpIn (l : LinkNow) (logs : BothLogs) (order : List SideItem) : Typ
 abbrev pub AreMarkedIn : LinkNow → BothLogs → List SideItem → Type 0
 AreMarkedIn l logs order = AreBroughtToAMark (l.facts true) (l.facts false) order logs.near logs.far
 
--- Both journals stand whole in an order of all that was done on a link, and in it they are as its policies say.
+-- Both journals stand whole in an order of all that was done on a link, and in it they are as its policies say. Where neither side is
+-- lossy, what is heard comes life after life, whether a side was marked down or not.
 pub record IsAccountedBy (s : RunNow (List Logged)) (l : Link) (x : LinkNow) (logs : BothLogs) (order : List ℕ) : Type 0 where
   pub is_order : IsOrderOf x order
   pub journals : AreOfOrder (entries_of (order_of x order)) (kept_by x true) (kept_by x false)
   pub up : is_up s l ≡ true → AreUpIn x logs (entries_of (order_of x order))
   pub lossless : is_lossless l ≡ true → AreMarkedIn x logs (entries_of (order_of x order))
+  pub lives : is_lossless l ≡ true → AreInLives (x.facts true) (x.facts false) (entries_of (order_of x order)) logs.near logs.far
   pub lossy : is_lossless l ≡ false → ComeInOrderOn x logs
 
 pub record IsAccountedOver (beside : Beside) (s : RunNow (List Logged)) (l : Link) : Type 0 where
@@ -141,12 +148,30 @@ pub record IsAccountedOver (beside : Beside) (s : RunNow (List Logged)) (l : Lin
   pub near_acknowledged : is_up s l ≡ true → HasAccepted records.a records.b
   pub far_acknowledged : is_up s l ≡ true → HasAccepted records.b records.a
 
+-- ---- life after life
+
+-- What a node heard from x, by both journals of their link and by what x posts: of each key it is one piece of each life of the side that
+-- hears, life after life, each the first ones of the posts from the start to the end of the one sending life of that name, in order, each
+-- once; and nothing of a life of which no sending life has the name.
+abbrev pub HearsInLives : (x : ℕ) (f g : SideFacts) (near far : List JournalItem) → List Content → List Heard → Type 0
+HearsInLives x f g near far posts heard = (key : Key) →
+    ArePiecesOf (map unnumbered (of_key x key heard)) (map (λ (l : NumberedLife). held_for l.name key (record (sending_side f g near) { posted = posted_to g posts })) (lives_of g far))
+
+abbrev pub items_by : RecordNow → List JournalItem
+items_by r = items_of (speaks_of r) r.journal
+
+-- so it is of both nodes of a link, of what the other's lines post
+pub record AreHeardInLives (lines : List DraftLine) (s : RunNow (List Logged)) (l : Link) : Type 0 where
+  pub records : AreRecordsOver s l
+  pub to_b : HearsInLives l.a records.a.core.facts records.b.core.facts (items_by records.a) (items_by records.b) (posts_to l.a l.b lines) (at l.b (all_heard heard_by s))
+  pub to_a : HearsInLives l.b records.b.core.facts records.a.core.facts (items_by records.b) (items_by records.a) (posts_to l.b l.a lines) (at l.a (all_heard heard_by s))
+
 -- ---- of any run
 
 -- Over each link that is up: of each key what either node heard from the other is a prefix of what the other's lines post to it, in
 -- order, each once, and neither heard a reset by the other. With the posts that are left these are all posts over such links, and where
--- none is left they are all. Over a lossy link it is some of the posts, in order, each once. All that a node heard is of nodes that
--- links join with it. A record is marked down only where a line does so, or it gave up. And both records of each link, with the halves
+-- none is left they are all. Over a lossy link it is some of the posts, in order, each once. Over a lossless one, marked down or not, it is
+-- posts life after life. All that a node heard is of nodes that links join with it. A record is marked down only where a line does so, or it gave up. And both records of each link, with the halves
 -- beside them, say so.
 pub record IsPromised (nodes : List Node) (links : List Link) (lines : List DraftLine) (beside : Beside) (s : RunNow (List Logged)) : Type 0 where
   pub prefixes : OverEach (is_up s) links (HearsPrefix (map fast_of nodes) lines (all_heard heard_by s))
@@ -154,6 +179,7 @@ pub record IsPromised (nodes : List Node) (links : List Link) (lines : List Draf
   pub no_reset : OverEach (is_up s) links (HearsNoReset (all_heard heard_by s))
   pub counted : AreCounted (is_up s) links lines (all_heard heard_by s) (left_in heard_by links s)
   pub some : OverEach is_lossy links (HearsSome (map fast_of nodes) lines (all_heard heard_by s))
+  pub lives : AllByRecursion (λ (l : Link). is_lossless l ≡ true → AreHeardInLives lines s l) links
   pub joined : AreOfJoined (length nodes) links (all_heard heard_by s)
   pub marked : AllByRecursion (λ (l : Link). IsMarkedOnlySo lines s l.a l.b × IsMarkedOnlySo lines s l.b l.a) links
   pub accounts : AllByRecursion (IsAccountedOver beside s) links

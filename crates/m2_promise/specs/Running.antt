@@ -6,7 +6,7 @@ use Rattle.m2_fabric.specs.declared.socket.SocketId.{SocketId}
 use Rattle.m2_fabric.specs.Holder.{SeenHolder}
 use Rattle.m2_fabric.specs.Log.{nothing_done}
 use Rattle.m2_fabric.specs.Sockets.{goes_to, is_among}
-use Rattle.m2_bytes_fit.specs.Halves.{KeepsRanges}
+use Rattle.m2_lives.specs.m2_bytes_fit.Halves.{KeepsRanges}
 use Rattle.m2_links_go_on.specs.m2_growth.Halves.{all_left, asked_on}
 use Rattle.m2_links_go_on.specs.m2_growth.Holding.{Grows, Holding, all_ends, waiting_at}
 use Rattle.m2_links_go_on.specs.m2_history.Link.{both_of}

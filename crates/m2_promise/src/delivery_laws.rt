@@ -4,9 +4,9 @@
 ghost use Rattle.m2_promise.specs.DeliveryLaws as laws;
 ghost use Rattle.m2_promise.specs.Lossy as lossy;
 
-use m2_bytes_fit::{posts_can_be_sent, trails_tell_each_point};
 use m2_dispatch::Dispatcher;
 use m2_links_go_on::{links_are_woven_so, links_go_on, logged_are_heard, staying_goes_on};
+use m2_lives::{posts_can_be_sent, trails_tell_each_point};
 
 /// Two records of two nodes of a run that are towards each other are a link, with the halves of either node that no
 /// record took: each half was told what the record beside it has judged, and no two ends are one.

@@ -2,7 +2,7 @@
 
 ghost use Rattle.std.specs.Prelude.{◌<◌};
 ghost use Rattle.std.specs.List.{All, AllByRecursion};
-ghost use Rattle.m2_bytes_fit.specs.Posts.{IsOfTypes};
+ghost use Rattle.m2_lives.specs.m2_bytes_fit.Posts.{IsOfTypes};
 ghost use Rattle.m2_message.specs.HeaderText.{FieldsFit};
 ghost use Rattle.m2_promise.specs.Posted.{PostsOfTypes};
 

@@ -7,6 +7,7 @@ returns c = record {
   asked = c.asks_come_first.ensures;
   points = c.orders_give_points.ensures;
   counts = c.counts_are_of_the_items.ensures;
+  bytes_fit = c.woven_bytes_fit.ensures;
   never_reset = c.woven_is_never_reset.ensures;
   delivered = c.woven_is_delivered.ensures;
   to_a_mark = c.woven_is_a_run_to_a_mark.ensures;

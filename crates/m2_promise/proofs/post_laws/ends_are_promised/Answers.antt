@@ -18,5 +18,8 @@ returns c = λ nodes links lines beside s sound ended.
       acknowledged = c.acknowledged_is_accepted.ensures;
       counts = c.links_are_woven_so.ensures.counts;
       logs = c.logs_are_logs_of_what_is_handed_on.ensures;
+      fit = c.links_are_woven_so.ensures.bytes_fit;
+      in_lives = c.logs_are_in_lives.ensures;
+      lives = c.bytes_come_in_lives.ensures;
     })
     nodes links lines beside s sound ended
