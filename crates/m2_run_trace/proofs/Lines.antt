@@ -13,6 +13,8 @@ use Rattle.m2_run_trace.specs.declared.news.Judgement.{Judgement}
 use Rattle.m2_run_trace.specs.Ends.{run_line, run_lines}
 use Rattle.m2_run_trace.specs.Entries.{calls_behind, calls_left, entry_lines, lines_of}
 use Rattle.m2_run_trace.specs.News.{ToldNow, and_then, journal_length, journal_up_to, journals_said, judgement_at, judgement_from, or_else}
+use Rattle.m2_run_trace.specs.declared.standing.SessionMark.{SessionMark}
+use Rattle.m2_run_trace.specs.Standing.{changed_line, changed_lines}
 use Rattle.m2_run_trace.specs.Telling.{Telling}
 
 -- where one part more is told, the rest completes the whole as before
@@ -27,9 +29,9 @@ pub next_run : (t : Telling) (s : SocketId) (log : Log) (at to : ℕ) → at < t
     run_lines t s log at (to - at) ≡ run_line t s log.put (drop at log.runs) ++ run_lines t s log (at + 1) (to - (at + 1))
 next_run t s log at to h = ap (run_lines t s log at) (one_less at to h)
 
-pub next_entry : (t : Telling) (peer : Text) (js : List Entry) (at to : ℕ) (calls : List Logged) → at < to →
-    lines_of t peer js at (to - at) calls ≡ entry_lines t peer js at calls (slice_get js at) ++ lines_of t peer js (at + 1) (to - (at + 1)) (calls_behind calls (slice_get js at))
-next_entry t peer js at to calls h = ap (λ (n : ℕ). lines_of t peer js at n calls) (one_less at to h)
+pub next_entry : (t : Telling) (r : RecordNow) (at to : ℕ) (calls : List Logged) → at < to →
+    lines_of t r at (to - at) calls ≡ entry_lines t r at calls (slice_get r.journal at) ++ lines_of t r (at + 1) (to - (at + 1)) (calls_behind calls (slice_get r.journal at))
+next_entry t r at to calls h = ap (λ (n : ℕ). lines_of t r at n calls) (one_less at to h)
 
 pub next_calls : (js : List Entry) (at to : ℕ) (calls : List Logged) → at < to →
     calls_left js at (to - at) calls ≡ calls_left js (at + 1) (to - (at + 1)) (calls_behind calls (slice_get js at))
@@ -51,3 +53,7 @@ pub next_journal : (t : Telling) (at to : ℕ) (told : ToldNow) → at < to →
     journals_said t at (to - at) told
     ≡ and_then (journal_up_to t at (journal_length (slice_get t.center.records at)) told) (journals_said t (at + 1) (to - (at + 1)))
 next_journal t at to told h = ap (λ (n : ℕ). journals_said t at n told) (one_less at to h)
+
+pub next_standing : (t : Telling) (olds : List SessionMark) (at to : ℕ) → at < to →
+    changed_lines t olds at (to - at) ≡ changed_line t (slice_get olds at) (slice_get t.center.records at) ++ changed_lines t olds (at + 1) (to - (at + 1))
+next_standing t olds at to h = ap (changed_lines t olds at) (one_less at to h)

@@ -1,5 +1,5 @@
 -- What a record did, as lines. This project's own.
-use Rattle.std.specs.Prelude.{ℕ, zero, suc, ◌+◌, ◌-◌, Bool, false, if◌then◌else◌, List, [], ◌++◌, codes, drop, length, slice_get, Option, Some, None}
+use Rattle.std.specs.Prelude.{ℕ, zero, suc, ◌+◌, ◌-◌, Bool, false, if◌then◌else◌, List, [], ◌++◌, codes, drop, length, slice_get, take, Option, Some, None}
 use Rattle.m2_session.specs.declared.ask.AskFacts.{AskFacts}
 use Rattle.m2_dispatch.specs.Heard.{is_path}
 use Rattle.m2_dispatch.specs.declared.logged.Logged.{Logged}
@@ -9,16 +9,18 @@ use Rattle.m2_journal.specs.declared.entry.Entry.{Entry}
 use Rattle.m2_journal.specs.declared.entry.Entry.TheVariants as entry
 use Rattle.m2_journal.specs.Items.{runs_on}
 use Rattle.m2_policy.specs.declared.path.Path.TheVariants.{Fast}
+use Rattle.m2_record.specs.RecordNow.{RecordNow}
 use Rattle.m2_scenario.specs.declared.node.Node.{Node}
 use Rattle.m2_session.specs.declared.answer.Answer.{Answer}
 use Rattle.m2_trace.specs.Entries.{answer_words, ask_words, entry_words}
+use Rattle.m2_trace.specs.Rows.{held_behind, row_word}
 use Rattle.m2_trace.specs.Words.{Text, number_word}
 use Rattle.m2_trail.specs.Trails.{written_by}
 use Rattle.m2_run_trace.specs.Cause.{cause_in_journal}
 use Rattle.m2_run_trace.specs.Dispatches.{first_line}
 use Rattle.m2_run_trace.specs.Ends.{closed_words, opened_words, read_words, wrote_words}
 use Rattle.m2_run_trace.specs.Telling.{Telling, log_in}
-use Rattle.m2_run_trace.specs.Words.{journal_head, socket_name}
+use Rattle.m2_run_trace.specs.Words.{journal_head, name_in, socket_name}
 
 -- an ask on a socket of the peer that was judged, with its global number and its answer
 unfoldable pub judged_words : List Node → SocketId → AskFacts → (number : ℕ) → Answer → Text
@@ -38,17 +40,21 @@ entry_before journal (suc n) = slice_get journal n
 abbrev pub start_on : SocketId → List Entry → Option Log → ℕ
 start_on s entries log = length (put_of log) - written_by (runs_on s entries)
 
--- what the entry at a place tells
-abbrev pub told_by : Telling → (journal : List Entry) → (place : ℕ) → Entry → Text
-told_by t journal place (entry.Opened s) = opened_words t.nodes s
-told_by t journal place (entry.Read s count) = read_words t.nodes s count
-told_by t journal place (entry.Wrote s count) = let log = log_in t.center s in wrote_words t.nodes s count (start_on s (drop place journal) log) (put_of log)
-told_by t journal place (entry.Closed s) = closed_words t.nodes s (cause_in_journal (entry_before journal place) s (log_in t.center s))
-told_by t journal place (entry.Judged s ask number answer) = judged_words t.nodes s ask number answer
-told_by t journal place e = entry_words e
+-- the name of the row by which the ask that was judged at a place was answered, by what the entries before it have left
+abbrev pub row_at : RecordNow → (place : ℕ) → AskFacts → Answer → Text
+row_at r place ask answer = row_word (held_behind r.core.facts (take place r.journal)) ask answer
 
-unfoldable pub told_line : Telling → (peer : Text) → (journal : List Entry) → (place : ℕ) → Entry → Text
-told_line t peer journal place e = journal_head t.own.name peer ++ told_by t journal place e ++ codes "\n"
+-- what the entry at a place of a record's journal tells
+abbrev pub told_by : Telling → RecordNow → (place : ℕ) → Entry → Text
+told_by t r place (entry.Opened s) = opened_words t.nodes s
+told_by t r place (entry.Read s count) = read_words t.nodes s count
+told_by t r place (entry.Wrote s count) = let log = log_in t.center s in wrote_words t.nodes s count (start_on s (drop place r.journal) log) (put_of log)
+told_by t r place (entry.Closed s) = closed_words t.nodes s (cause_in_journal (entry_before r.journal place) s (log_in t.center s))
+told_by t r place (entry.Judged s ask number answer) = judged_words t.nodes s ask number answer ++ row_at r place ask answer
+told_by t r place e = entry_words e
+
+unfoldable pub told_line : Telling → RecordNow → (place : ℕ) → Entry → Text
+told_line t r place e = journal_head t.own.name (name_in t.nodes r.place) ++ told_by t r place e ++ codes "\n"
 
 -- ---- with the dispatches of fast kinds
 
@@ -58,20 +64,20 @@ is_fast (entry.Accepted number key) = is_path key.path Fast
 is_fast e = false
 
 -- the line of an entry, and behind an accepted message of a fast kind that of its dispatch: the first call that isn't told yet
-abbrev pub entry_lines : Telling → (peer : Text) → (journal : List Entry) → (place : ℕ) → (calls : List Logged) → Option Entry → Text
-entry_lines t peer journal place calls (Some e) = told_line t peer journal place e ++ (if is_fast e then first_line t calls else [])
-entry_lines t peer journal place calls None = []
+abbrev pub entry_lines : Telling → RecordNow → (place : ℕ) → (calls : List Logged) → Option Entry → Text
+entry_lines t r place calls (Some e) = told_line t r place e ++ (if is_fast e then first_line t calls else [])
+entry_lines t r place calls None = []
 
 -- the calls that are left behind it
 abbrev pub calls_behind : (calls : List Logged) → Option Entry → List Logged
 calls_behind calls (Some e) = if is_fast e then drop 1 calls else calls
 calls_behind calls None = calls
 
--- so many entries of a journal, from a place on
-abbrev pub lines_of : Telling → (peer : Text) → (journal : List Entry) → (from count : ℕ) → (calls : List Logged) → Text
-lines_of t peer journal from zero calls = []
-lines_of t peer journal from (suc n) calls =
-    entry_lines t peer journal from calls (slice_get journal from) ++ lines_of t peer journal (from + 1) n (calls_behind calls (slice_get journal from))
+-- so many entries of a record's journal, from a place on
+abbrev pub lines_of : Telling → RecordNow → (from count : ℕ) → (calls : List Logged) → Text
+lines_of t r from zero calls = []
+lines_of t r from (suc n) calls =
+    entry_lines t r from calls (slice_get r.journal from) ++ lines_of t r (from + 1) n (calls_behind calls (slice_get r.journal from))
 
 abbrev pub calls_left : (journal : List Entry) → (from count : ℕ) → (calls : List Logged) → List Logged
 calls_left journal from zero calls = calls

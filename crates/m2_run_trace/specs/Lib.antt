@@ -9,6 +9,7 @@ pub mod Marks
 pub mod News
 pub mod Script
 pub mod Sockets
+pub mod Standing
 pub mod Telling
 pub mod Tracing
 pub mod Words

@@ -4,16 +4,19 @@ use Rattle.m2_fabric.specs.declared.socket.SocketId.{SocketId}
 use Rattle.m2_fabric.specs.Log.{Log}
 use Rattle.m2_record.specs.RecordNow.{RecordNow}
 use Rattle.m2_run_trace.specs.declared.marks.EndMark.{EndMark}
+use Rattle.m2_run_trace.specs.declared.standing.SessionMark.{SessionMark}
+use Rattle.m2_run_trace.specs.Standing.{standing_of}
 use Rattle.m2_run_trace.specs.Telling.{TracedCenter, Telling, log_in}
 
 -- of sockets what their ends had done; and how much there was of the rest: of each record how many entries its journal had, how
--- many calls the dispatchers of fast and of other kinds had, and how many sockets its port had made
+-- many calls the dispatchers of fast and of other kinds had, how many sockets its port had made, and where each record stood
 pub record MarksNow : Type 0 where
   pub ends : List EndMark
   pub journals : List ℕ
   pub fast : ℕ
   pub queued : ℕ
   pub made : ℕ
+  pub standings : List SessionMark
 
 -- of a socket: whether there was an end, how many reads and writes it had made, and whether it was closed
 abbrev pub end_mark : SocketId → Option Log → EndMark
@@ -27,9 +30,10 @@ marks_in c sockets = record {
   fast = length c.out.fast;
   queued = length c.queued.inner;
   made = length c.port.made;
+  standings = map standing_of c.records;
 }
 
 -- where there is no such node nothing stands
 abbrev pub marks_of : Option Telling → List SocketId → MarksNow
 marks_of (Some t) sockets = marks_in t.center sockets
-marks_of None sockets = record { ends = []; journals = []; fast = 0; queued = 0; made = 0 }
+marks_of None sockets = record { ends = []; journals = []; fast = 0; queued = 0; made = 0; standings = [] }

@@ -17,8 +17,8 @@ use Rattle.m2_run_trace.specs.Ends.{accepted_words, behind_read, closed_words, r
 use Rattle.m2_run_trace.specs.Entries.{calls_left, entry_before, lines_of}
 use Rattle.m2_run_trace.specs.Marks.{MarksNow}
 use Rattle.m2_run_trace.specs.Sockets.{comes_to, trail_in}
+use Rattle.m2_run_trace.specs.Standing.{changed_lines}
 use Rattle.m2_run_trace.specs.Telling.{TracedCenter, Telling, log_in}
-use Rattle.m2_run_trace.specs.Words.{name_in}
 use Rattle.m2_trace.specs.Words.{Text}
 use Rattle.m2_trail.specs.Trails.{TrailNow}
 
@@ -42,7 +42,7 @@ silence told = record { text = []; told = told }
 -- the entries of a record's journal that aren't told yet, up to a place
 abbrev pub up_to : Telling → (record_place to : ℕ) → ToldNow → Option ℕ → Option RecordNow → Said
 up_to t place to told (Some from) (Some r) = record {
-  text = lines_of t (name_in t.nodes r.place) r.journal from (to - from) told.fast;
+  text = lines_of t r from (to - from) told.fast;
   told = record { journals = slice_set told.journals place to; fast = calls_left r.journal from (to - from) told.fast };
 }
 up_to t place to told _ _ = silence told
@@ -207,9 +207,9 @@ abbrev pub with_calls : Telling → (queued : ℕ) → Said → Text
 with_calls t queued said = said.text ++ flat_map (call_line t) said.told.fast ++ flat_map (call_line t) (drop queued t.center.queued.inner)
 
 -- the sockets that were accepted; what the halves did, each in its turn, with what the records did by their asks; what else the
--- records did; and the dispatches that are left
+-- records did; the dispatches that are left; and where those records stand by it that stood otherwise before
 abbrev pub news : Telling → MarksNow → Text
-news t m = flat_map (accepted_line t) m.ends ++ with_calls t m.queued (doings t m.ends (told_at t.center m))
+news t m = flat_map (accepted_line t) m.ends ++ with_calls t m.queued (doings t m.ends (told_at t.center m)) ++ changed_lines t m.standings 0 (length t.center.records)
 
 -- where there is no such node it did nothing
 abbrev pub news_of : Option Telling → MarksNow → Text

@@ -35,6 +35,10 @@ settle_line = codes "settle 1\n"
 unfoldable pub trail_head : (name : Text) → Text
 trail_head name = codes "  " ++ head name (codes "trail")
 
+-- and one that tells where the record towards a peer stands
+unfoldable pub session_head : (name peer : Text) → Text
+session_head name peer = codes "  " ++ head name (codes "session") ++ codes " " ++ peer
+
 -- and one that tells what the record towards a peer did
 unfoldable pub journal_head : (name peer : Text) → Text
 journal_head name peer = codes "  " ++ head name (codes "journal") ++ codes " " ++ peer

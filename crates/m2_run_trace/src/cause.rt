@@ -4,12 +4,12 @@ ghost use Rattle.std.specs.Prelude.{◌≡◌};
 ghost use Rattle.std.specs.Option.{option_copied};
 ghost use Rattle.m2_fabric.specs.Log.{log_of};
 ghost use Rattle.m2_run_trace.specs.Cause.{begins_frame, cause_at, cause_by, cause_in_journal, cause_of_answer, cause_of_half, ends_in_frame, gives_up, leaves_own};
-ghost use Rattle.m2_session.specs.SessionLaws.{takes};
 ghost use Rattle.m2_run_trace.specs.Telling.{seen_log};
 
 use m2_fabric::{EndLog, SocketId};
 use m2_journal::Entry;
 use m2_session::Answer;
+use m2_trace::takes;
 
 /// A WAIT: its first byte on the wire, and its length.
 const WAIT: u8 = 16;
@@ -74,22 +74,6 @@ fn gives_up(answer: &Answer) -> bool
     ensures { result ≡ gives_up answer.now }
 {
     matches!(answer, Answer::ResetPending)
-}
-
-/// Whether the answer takes the socket of the ask.
-fn takes(answer: &Answer) -> bool
-    ensures { result ≡ takes answer.now }
-{
-    matches!(
-        answer,
-        Answer::Accept
-            | Answer::AcceptOver
-            | Answer::AcceptReset { full: _ }
-            | Answer::AcceptAgain
-            | Answer::AcceptReplace
-            | Answer::AcceptRace
-            | Answer::Resume
-    )
 }
 
 /// The same of a half. `judged` tells whether its ask was judged in this turn.

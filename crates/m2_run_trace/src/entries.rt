@@ -3,7 +3,7 @@
 ghost use Rattle.std.specs.Prelude.{◌≡◌, ◌∷◌, ◌++◌, ◌-◌, [], if◌then◌else◌, OnOk, drop, length, slice_get};
 ghost use Rattle.std.specs.Option.{option_copied};
 ghost use Rattle.m2_journal.specs.Items.{runs_on};
-ghost use Rattle.m2_run_trace.specs.Entries.{calls_behind, calls_left, entry_before, entry_lines, is_fast, judged_words, lines_of, put_of, start_on, told_by, told_line};
+ghost use Rattle.m2_run_trace.specs.Entries.{calls_behind, calls_left, entry_before, entry_lines, is_fast, judged_words, lines_of, put_of, row_at, start_on, told_by, told_line};
 ghost use Rattle.m2_run_trace.specs.Ends.{opened_words, wrote_words};
 ghost use Rattle.m2_run_trace.specs.Dispatches.{first_line};
 ghost use Rattle.m2_run_trace.specs.Telling.{log_in, seen_log};
@@ -12,32 +12,31 @@ ghost use Rattle.m2_trail.specs.Trails.{written_by};
 use crate::cause::cause_in_journal;
 use crate::dispatches::put_next;
 use crate::ends::{put_closed, put_read, put_wrote};
-use crate::lists::behind;
-use crate::telling::{Calls, Teller};
-use crate::words::{begin_journal, put_with_socket};
+use crate::lists::{behind, front};
+use crate::telling::{Calls, Teller, TracedRecord};
+use crate::words::{begin_journal, name_of, put_with_socket};
 use m2_bytes::{Blob, NoMemory};
 use m2_fabric::{EndLog, SocketId};
 use m2_journal::{Entry, EntryList};
 use m2_policy::Path;
 use m2_scenario::Node;
 use m2_session::{Answer, AskFacts};
-use m2_trace::{put_ask_and_answer, put_entry_words, put_number};
+use m2_trace::{held_behind, put_ask_and_answer, put_entry_words, put_number, row_word};
 
-/// Appends the entries of a journal from one place to another, each with the dispatch of a fast kind that goes with it.
+/// Appends the entries of a record's journal from one place to another, each with the dispatch of a fast kind that goes with it.
 pub(crate) fn put_entries(
     out: &mut Blob,
     teller: &Teller<'_>,
-    peer: &[u8],
-    journal: &EntryList,
+    record: &TracedRecord,
     from: usize,
     to: usize,
     calls: &mut Calls<'_>,
 ) -> Result<(), NoMemory>
-    ensures text { OnOk result (out.new.bytes ≡ out.old.bytes ++ lines_of teller.now peer.now journal.now.items from (to - from) calls.old) }
-    ensures calls { OnOk result (calls.new ≡ calls_left journal.now.items from (to - from) calls.old) }
+    ensures text { OnOk result (out.new.bytes ≡ out.old.bytes ++ lines_of teller.now record.now from (to - from) calls.old) }
+    ensures calls { OnOk result (calls.new ≡ calls_left record.now.journal from (to - from) calls.old) }
 {
     'entries: for at in from..to {
-        put_entry(out, teller, peer, journal, at, calls)?;
+        put_entry(out, teller, record, at, calls)?;
     }
     Ok(())
 }
@@ -46,18 +45,17 @@ pub(crate) fn put_entries(
 fn put_entry(
     out: &mut Blob,
     teller: &Teller<'_>,
-    peer: &[u8],
-    journal: &EntryList,
+    record: &TracedRecord,
     place: usize,
     calls: &mut Calls<'_>,
 ) -> Result<(), NoMemory>
-    ensures text { OnOk result (out.new.bytes ≡ out.old.bytes ++ entry_lines teller.now peer.now journal.now.items place calls.old (slice_get journal.now.items place)) }
-    ensures calls { OnOk result (calls.new ≡ calls_behind calls.old (slice_get journal.now.items place)) }
+    ensures text { OnOk result (out.new.bytes ≡ out.old.bytes ++ entry_lines teller.now record.now place calls.old (slice_get record.now.journal place)) }
+    ensures calls { OnOk result (calls.new ≡ calls_behind calls.old (slice_get record.now.journal place)) }
 {
-    match journal.get(place) {
+    match record.journal().get(place) {
         None => Ok(()),
         Some(entry) => {
-            put_line(out, teller, peer, journal, place, entry)?;
+            put_line(out, teller, record, place, entry)?;
             put_its_dispatch(out, teller, entry, calls)
         }
     }
@@ -98,15 +96,15 @@ fn is_fast(entry: &Entry) -> bool
 fn put_line(
     out: &mut Blob,
     teller: &Teller<'_>,
-    peer: &[u8],
-    journal: &EntryList,
+    record: &TracedRecord,
     place: usize,
     entry: &Entry,
 ) -> Result<(), NoMemory>
-    ensures { OnOk result (out.new.bytes ≡ out.old.bytes ++ told_line teller.now peer.now journal.now.items place entry.now) }
+    ensures { OnOk result (out.new.bytes ≡ out.old.bytes ++ told_line teller.now record.now place entry.now) }
 {
+    let peer = name_of(teller.nodes, record.place());
     begin_journal(out, teller.own.name.as_slice(), peer)?;
-    put_told(out, teller, journal, place, entry)?;
+    put_told(out, teller, record, place, entry)?;
     out.push_all(b"\n")
 }
 
@@ -115,13 +113,14 @@ fn put_line(
 fn put_told(
     out: &mut Blob,
     teller: &Teller<'_>,
-    journal: &EntryList,
+    record: &TracedRecord,
     place: usize,
     entry: &Entry,
 ) -> Result<(), NoMemory>
-    ensures { OnOk result (out.new.bytes ≡ out.old.bytes ++ told_by teller.now journal.now.items place entry.now) }
+    ensures { OnOk result (out.new.bytes ≡ out.old.bytes ++ told_by teller.now record.now place entry.now) }
 {
     let nodes = teller.nodes;
+    let journal = record.journal();
     match entry {
         Entry::Opened { socket } => put_with_socket(out, b" opened ", nodes, socket),
         Entry::Read { socket, count } => put_read(out, nodes, socket, *count),
@@ -145,9 +144,21 @@ fn put_told(
             ask,
             number,
             answer,
-        } => put_judged(out, nodes, socket, ask, *number, answer),
+        } => {
+            put_judged(out, nodes, socket, ask, *number, answer)?;
+            out.push_all(row_at(record, place, ask, answer))
+        }
         _ => put_entry_words(out, entry),
     }
+}
+
+/// The name of the row by which the ask that was judged at this place was answered, behind a space.
+fn row_at(record: &TracedRecord, place: usize, ask: &AskFacts, answer: &Answer) -> &'static [u8]
+    ensures { result.now ≡ row_at record.now place ask.now answer.now }
+{
+    let before = front(record.journal().as_slice(), place);
+    let held = held_behind(record.session(), record.facts(), before);
+    row_word(&held, ask, answer)
 }
 
 /// Appends that the first of these entries wrote to a socket.

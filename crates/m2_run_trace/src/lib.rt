@@ -25,6 +25,7 @@ mod program;
 mod script;
 mod sockets;
 mod stage;
+mod standing;
 mod telling;
 mod tracing;
 mod words;

@@ -3,8 +3,10 @@
 ghost use Rattle.std.specs.Prelude.{◌≡◌, IfOk, length, map};
 ghost use Rattle.m2_record.specs.RecordNow.{RecordNow};
 ghost use Rattle.m2_run_trace.specs.Marks.{end_mark, marks_in, marks_of};
+ghost use Rattle.m2_run_trace.specs.Standing.{standing_of};
 ghost use Rattle.m2_run_trace.specs.Telling.{log_in, seen_log, telling_at};
 
+use crate::standing::{SessionMark, standing_of};
 use crate::telling::{Teller, TracedCenter, TracedCluster};
 use m2_bytes::{Items, NoMemory};
 use m2_fabric::{EndLog, SocketId};
@@ -36,6 +38,8 @@ pub struct Marks {
     pub(crate) queued: usize,
     /// How many sockets its port had made.
     pub(crate) made: usize,
+    /// Where each record stood.
+    pub(crate) standings: Items<SessionMark>,
 }
 
 impl Model for Marks {
@@ -43,7 +47,7 @@ impl Model for Marks {
 
     ghost Value = { MarksNow };
 
-    ghost view = { λ m. record { ends = m.ends.items; journals = m.journals.items; fast = m.fast; queued = m.queued; made = m.made } };
+    ghost view = { λ m. record { ends = m.ends.items; journals = m.journals.items; fast = m.fast; queued = m.queued; made = m.made; standings = m.standings.items } };
 }
 
 impl Marks {
@@ -64,6 +68,7 @@ impl Marks {
                 fast: 0,
                 queued: 0,
                 made: 0,
+                standings: Items::empty(alloc),
             }),
             Some(teller) => marks_in(alloc, teller.center, sockets),
         }
@@ -80,6 +85,7 @@ fn marks_in(alloc: Global, center: &TracedCenter, sockets: &[SocketId]) -> Resul
         fast: center.fast().log().len(),
         queued: center.queued().inner().log().len(),
         made: center.made().len(),
+        standings: standings(alloc, center)?,
     })
 }
 
@@ -128,6 +134,19 @@ fn journal_marks(alloc: Global, center: &TracedCenter) -> Result<Items<usize>, N
     let mut marks = Items::empty(alloc);
     for record in center.records() {
         if marks.push(record.journal().len()).is_err() {
+            return Err(NoMemory);
+        }
+    }
+    Ok(marks)
+}
+
+/// Where each record stands.
+fn standings(alloc: Global, center: &TracedCenter) -> Result<Items<SessionMark>, NoMemory>
+    ensures { IfOk result (λ m. m.items ≡ map standing_of center.now.records) }
+{
+    let mut marks = Items::empty(alloc);
+    for record in center.records() {
+        if marks.push(standing_of(record)).is_err() {
             return Err(NoMemory);
         }
     }

@@ -16,8 +16,8 @@ use crate::entries::{before, put_entries};
 use crate::lists::{at, behind};
 use crate::marks::{EndMark, Marks};
 use crate::sockets::{comes_to, trail_in};
+use crate::standing::put_all_changed;
 use crate::telling::{Calls, Teller, TracedCluster};
-use crate::words::name_of;
 use m2_bytes::{Blob, NoMemory};
 use m2_fabric::{EndLog, SocketId};
 use m2_journal::{Entry, EntryList};
@@ -98,7 +98,8 @@ fn put_all(
 {
     put_all_accepted(out, teller, marks.ends.as_slice())?;
     let mut told = told_at(alloc, teller, marks)?;
-    put_with_calls(out, teller, marks, &mut told)
+    put_with_calls(out, teller, marks, &mut told)?;
+    put_all_changed(out, teller, marks.standings.as_slice())
 }
 
 /// What was told where the node was marked.
@@ -455,16 +456,7 @@ fn put_up_to(
     let Some(record) = at(teller.center.records(), place) else {
         return Ok(());
     };
-    let peer = name_of(teller.nodes, record.place());
-    put_entries(
-        out,
-        teller,
-        peer,
-        record.journal(),
-        from,
-        to,
-        &mut told.fast,
-    )?;
+    put_entries(out, teller, record, from, to, &mut told.fast)?;
     told.journals[place] = to;
     Ok(())
 }

@@ -6,7 +6,8 @@ ghost use Rattle.m2_run_trace.specs.Telling.{log_in, seen_log, telling_at};
 use crate::lists::at;
 use m2_cluster::{Center, Cluster};
 use m2_dispatch::{LogDispatcher, Logged};
-use m2_fabric::{CutPort, EndLog, SimPort, SocketId};
+use m2_fabric::{CutEnd, CutPort, EndLog, SimEnd, SimPort, SocketId};
+use m2_record::Record;
 use m2_scenario::Node;
 use std::marker::Model;
 
@@ -15,6 +16,9 @@ pub(crate) type TracedCluster = Cluster<CutPort<SimPort>, LogDispatcher>;
 
 /// The center of one.
 pub(crate) type TracedCenter = Center<CutPort<SimPort>, LogDispatcher>;
+
+/// A record of one.
+pub(crate) type TracedRecord = Record<CutEnd<SimEnd>>;
 
 /// What the lines of a node are made from: all nodes of the scenario, the node, and its center.
 #[derive(Drop)]

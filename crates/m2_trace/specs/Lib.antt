@@ -1,4 +1,6 @@
 pub mod Ends
 pub mod Entries
+pub mod Laws
+pub mod Rows
 pub mod Sides
 pub mod Words

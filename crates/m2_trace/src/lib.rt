@@ -2,7 +2,8 @@
 //!
 //! What it is: the lines of which the trace of two records is made, one function for each kind of thing:
 //! [`put_start`], [`put_plan`], [`put_journal`], [`put_trail`], [`put_end`], [`put_session`] and
-//! [`put_handed`]; and the words of which lines are made. A line begins with the side and what it tells of;
+//! [`put_handed`]; the words of which lines are made; and [`row_word`], the row of its table by which an ask was
+//! answered, with [`held_behind`], what it goes by. A line begins with the side and what it tells of;
 //! docs/PROTOCOL.md has them all. What it isn't: a record, or the order in which the lines of a trace stand
 //! (`m2_record_trace`).
 //!
@@ -11,12 +12,16 @@
 
 mod ends;
 mod entries;
+mod laws;
+mod rows;
 mod sides;
 mod trails;
 mod words;
 
 pub use ends::put_end;
 pub use entries::{put_ask_and_answer, put_entry_words, put_journal};
-pub use sides::{put_handed, put_node, put_plan, put_session, put_start};
+pub use laws::rows_are_told;
+pub use rows::{Held, held_behind, row_word, takes};
+pub use sides::{put_handed, put_node, put_plan, put_session, put_session_words, put_start};
 pub use trails::put_trail;
 pub use words::{put_bytes, put_flag, put_head, put_number, put_socket};

@@ -161,8 +161,9 @@ fn put_numbers(out: &mut Blob, s: &Session) -> Result<(), NoMemory>
     put_flag(out, s.lost_ready)
 }
 
+/// Appends where a session stands, as [`put_session`] does in its line.
 #[tactic(auto, unfolding(crate::specs::Sides::session_words))]
-fn put_session_words(out: &mut Blob, s: &Session) -> Result<(), NoMemory>
+pub fn put_session_words(out: &mut Blob, s: &Session) -> Result<(), NoMemory>
     ensures { OnOk result (out.new.bytes ≡ out.old.bytes ++ session_words s.now) }
 {
     put_phase(out, s.phase)?;
