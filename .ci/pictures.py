@@ -22,26 +22,30 @@ PROGRAM = "crates/run_trace/out/run_trace"
 SAMPLE = "crossing"
 LETTER, SIZES = 0.58, {"caption": 12.5, "node": 14, "script": 10.5, "cause": 10.5}  # how wide a letter is, by the size of its text; sizes of tools/draw
 BAD = [  # what is changed in the sample, at its first place; and what is said of which line
-    (r"^settle 1$", "walk a", 11, "`walk` begins no line"),
-    (r"^turn b 1$", "turn b 2", 15, "the moment of this turn is 1"),
-    (r"^turn b 1$", "turn z 1", 15, "no node z above"),
+    (r"^settle 1$", "walk a", 13, "`walk` begins no line"),
+    (r"^turn b 1$", "turn b 2", 18, "the moment of this turn is 1"),
+    (r"^turn b 1$", "turn z 1", 18, "no node z above"),
     (r"^link .*$", "# no link", 7, "no link of a and b above"),
     (r"^post a b 1 127 61", "post a b 1 127 6", 7, "`6` is no bytes"),
-    (r"opened a-b/1$", "opened a-b/2", 13, "a-b/2 isn't the next socket that a opens to b"),
-    (r"  a journal b wrote a-b/1 26", "  b journal a wrote a-b/1 26", 14, "b does something, and it isn't its turn or its line"),
-    (r"wrote a-b/1 26", "wrote a-b/1 27", 14, "27 bytes were written, and 26 stand here"),
-    (r"wrote a-b/1 26 63", "wrote a-b/1 26 64", 14, "what a wrote to a-b/1 isn't msgr2: a stream begins with no banner"),
-    (r"read a-b/1 26$", "read a-b/1 99", 26, "more is read than was written"),
-    (r"accepted a-b/1$", "accepted a-b/1 1", 16, "`accepted` has another number of words"),
-    (r"(?<= )asked ident", "asks ident", 51, "`asks` is no entry"),
-    (r"  b from a", "   b from a", 86, "words have one space between them, and a node's line begins with two"),
+    (r"opened a-b/1$", "opened a-b/2", 15, "a-b/2 isn't the next socket that a opens to b"),
+    (r"  a journal b wrote a-b/1 26", "  b journal a wrote a-b/1 26", 16, "b does something, and it isn't its turn or its line"),
+    (r"wrote a-b/1 26", "wrote a-b/1 27", 16, "27 bytes were written, and 26 stand here"),
+    (r"wrote a-b/1 26 63", "wrote a-b/1 26 64", 16, "what a wrote to a-b/1 isn't msgr2: a stream begins with no banner"),
+    (r"read a-b/1 26$", "read a-b/1 99", 30, "more is read than was written"),
+    (r"accepted a-b/1$", "accepted a-b/1 1", 19, "`accepted` has another number of words"),
+    (r"(?<= accept_race )peer_wins$", "goes_on", 71, "`goes_on` is no row by which an ident is judged"),
+    (r"(?<= )asked ident", "asks ident", 55, "`asks` is no entry"),
+    (r"  b from a", "   b from a", 94, "words have one space between them, and a node's line begins with two"),
 ]
 UNTRUE = [  # what is changed in the sample so that the lines are well formed, and the replay must object
-    (r"accept_race$", "accept_again"),
+    (r"accept_race peer_wins$", "accept_again same_client"),
+    (r"(?<= accept_race )peer_wins$", "settled"),
     (r"^  b trail read a-b/1 227\n", ""),
     (r"^  a journal b acked 1\n", "  a journal b acked 2\n"),
     (r"^  a from b 127 queued 1 62", "  a from b 127 queued 1 63"),
     (r"^  a node 4 0 1 ", "  a node 4 0 2 "),
+    (r"(?<=^  a session b )connecting 0 ", "connecting 1 "),
+    (r"(?<=^  a session b absent 0 0 0 0 no 0 0 0 0 0 )1$", "2"),
 ]
 
 

@@ -26,7 +26,8 @@ MOST, ONE_IN, SEED, TURNED, WORKERS, SHOWN = 800, 50, 1, 16, 2, 90
 KINDS = [  # words of which one is put for another
     ("yes", "no"), ("fast", "queued"), ("ident", "reconnect"), ("full", "part"), ("planned", "used_up"),
     ("accept", "accept_over", "accept_again", "accept_replace", "accept_race", "close", "wait", "reset_pending", "resume"),
-    ("reset", "accept_reset"), ("retry", "retry_global"), ("ended", "failed", "taken", "waited", "refused", "down"),
+    ("no_session", "old_number", "lossy", "another_client", "another_server", "same_client", "settled", "peer_wins", "mine_wins", "goes_on"),
+    ("old_connect", "never_written", "never_established"), ("reset", "accept_reset"), ("retry", "retry_global"), ("ended", "failed", "taken", "waited", "refused", "down"),
     ("read", "wrote"), ("opened", "closed"), ("accepted", "numbered", "acked"), ("got", "put"), ("judged", "after", "named"),
     ("journal", "trail"), ("feed", "spent"), ("half", "loose"), ("half_end", "loose_end"), ("message", "reset"), ("turn", "settle"),
     ("absent", "connecting", "ident_sent", "reconnect_sent", "ready", "standby"), ("post", "dial"), ("asked", "obeyed"),

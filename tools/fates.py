@@ -12,19 +12,30 @@ from wire import MESSAGE, MISSING_FEATURES, NAMES, RECONNECT_OK, RETRY, RETRY_GL
 
 REPEATS = 3  # how often an exchange comes at the end before it is said to repeat
 MOST_PERIOD = 24  # what the longest of them has of opened, judged and closed
-ROWS = {  # the row of a judgement's table by its answer, where that tells it
+ASKED = {  # what came of the socket of an ask, by the answer
     "ident": {
-        "accept": "no_session", "close": "old_number", "accept_over": "lossy", "accept_reset": "another_client", "accept_again": "same_client",
-        "accept_replace": "settled", "accept_race": "peer_wins", "wait": "otherwise",
+        "accept": "began a session", "accept_over": "began a session in place of a lossy one", "accept_reset": "began a session as another client",
+        "accept_again": "began the session once more, as its first answer was lost",
+        "accept_replace": "began a session in place of one that only {judge} had",
+        "accept_race": "began a session, ahead of {judge}'s own connect", "close": "closed, as the ask was an old one",
+        "wait": "told to wait, as the connect of {judge} goes first",
     },
     "reconnect": {
-        "reset_pending": "never_established", "retry_global": "old_number", "retry": "old_connect", "wait": "mine_wins", "close": "never_written",
-        "resume": "otherwise",
+        "resume": "went on with the session", "reset": "told that there is no such session at {judge}",
+        "reset_pending": "told that {judge} never saw that session begin", "retry_global": "told to ask again, with a greater global number",
+        "retry": "told to ask again, with a greater connect number", "close": "closed, as it has seen what was never written",
+        "wait": "told to wait, as the connect of {judge} goes first",
     },
 }
 DISPATCHED, WAITS, THROWN, LOST = "dispatched", "waits", "thrown away", "lost"
 NEW, OLD, HELD, LEFT = "new", "old", "held", "left"  # of a MESSAGE that was read whole: accepted, passed over, not yet, never
 PENDING = "given up"  # begins the cause of an end that was closed by reset_pending
+
+
+def bits_of(features):
+    """The features of a mask, by the numbers of their bits from 0."""
+    bits = [str(bit) for bit in range(64) if features >> bit & 1]
+    return f"{'bit' if len(bits) == 1 else 'bits'} {', '.join(bits)} ({features})"
 
 
 class Post:
@@ -56,11 +67,12 @@ class Side:
         self.node, self.peer = node, peer
         self.lossy, self.server, self.standby, _ = POLICIES[policy]
         self.waiting, self.kept, self.next, self.last = [], [], 0, 0  # the queue of docs/PROTOCOL.md; the last accepted number
-        self.phase, self.feed, self.client = "absent", None, 0  # of the session; its client cookie
+        self.phase, self.feed = "absent", None  # of the session
         self.posts, self.accepted, self.purged = [], [], []  # its posts; those of the peer that aren't dispatched, or never will be
         self.missing, self.wants_dial = None, False  # which features the peer has said to miss, last of all; told to dial
         self.before = None  # its last event
         self.downs = []  # the rows in which it was marked down
+        self.until = 0  # the moment before which no connect is due
 
     def take_next(self, number):
         """The post that gets a number, if there is one; those that have one and are to be written again go first."""
@@ -99,16 +111,15 @@ class Fates:
         self.messages = {}  # of a MESSAGE that was read whole what came of it
         self.late = {}  # of the acceptance of one that had to wait, in an earlier turn than its own, the frame
         self.ready = {}  # of a socket and a node the event since which it is the socket of a session there
-        self.causes, self.rows = {}, {}  # of an event why an end was closed, and the row of a judgement
+        self.causes, self.due = {}, {}  # of an event why an end was closed, and why a socket was opened
         self.sides = {pair: Side(*pair, policy) for pair, policy in run.policies.items()}
         self.numbered = {}  # of a socket's name, a sender and a number the post
         self.lasts = {}  # of a socket's name and a sender the last number
-        self.wrote, self.read = collections.defaultdict(list), collections.defaultdict(list)  # of an event the frames that it ended
+        self.read = collections.defaultdict(list)  # of an event the frames that it ended
         self.idle = []  # the lines that did nothing, with why
         self.bounds = {node: bound_of(words) for node, words in run.nodes.items()}
         for socket in run.sockets.values():
             for flight in socket.flights:
-                self.wrote[flight.written].append(flight)
                 self.read[flight.read].append(flight)
         self.go_through()
         self.end_cuts()
@@ -126,6 +137,8 @@ class Fates:
                     handle(event, side)
                 if event.what not in ("from", "reset", "fault", "cut", "took"):
                     side.before = event
+            for pair, words in row.sessions.items():
+                self.sides[pair].until = int(words[6])
 
     # ---- lines
 
@@ -184,7 +197,14 @@ class Fates:
         side.wants_dial = side.wants_dial or side.phase in ("absent", "standby")
 
     def on_opened(self, event, side):
+        self.due[event] = self.due_connect(side)
         side.feed, side.phase, side.next, side.wants_dial = event.socket, "connecting", 0, False
+
+    def due_connect(self, side):
+        """What made a connect due ("When a side connects")."""
+        if side.phase == "wait":
+            return f"as its wait until moment {side.until} was over"
+        return "for what it has to write" if side.kept or side.waiting else "as it was told to dial"
 
     def on_asked(self, event, side):
         side.phase = "asked"
@@ -197,11 +217,6 @@ class Fates:
         post.tries.append((number, side.feed))
         self.lasts[side.feed.name, side.node] = number
         self.numbered[side.feed.name, side.node, number] = post
-
-    def on_wrote(self, event, side):
-        for flight in self.wrote[event]:
-            if "client" in flight.says:
-                side.client = flight.says["client"]
 
     def on_read(self, event, side):
         for flight in self.read[event]:
@@ -257,8 +272,7 @@ class Fates:
             post.acked = event.row
 
     def on_judged(self, event, side):
-        ask, client, _, answer = event.words[2], int(event.words[3]), int(event.words[4]), event.words[8]
-        self.rows[event] = ROWS[ask].get(answer) or self.row_of_reset(side, client)
+        answer = event.words[8]
         if answer == "reset_pending":
             side.phase = "standby" if side.phase == "standby" else "wait"
         if answer not in TAKES:
@@ -268,23 +282,17 @@ class Fates:
         side.phase, side.next, side.missing, side.wants_dial, side.feed = "ready", 0, None, False, event.socket
         self.ready[event.socket, event.node] = event
         if answer != "resume":
-            side.client, side.last = 0 if side.lossy else client, 0
-
-    def row_of_reset(self, side, client):
-        if side.phase == "absent":
-            return "no_session"
-        return "another_client" if client != side.client else "another_server"
+            side.last = 0
 
     def on_obeyed(self, event, side):
         side.phase, side.last = "connecting", 0
         if event.words[0] == "full":
-            side.client = 0
             why = f"{side.peer} had no session with {side.node} any more, and reset it in full"
             self.throw(side, event.row, why + self.why_down(side.peer, side.node))
 
     def on_down(self, event, side):
         side.downs.append(event.row)
-        side.phase, side.client, side.last, side.wants_dial = "absent", 0, 0, False
+        side.phase, side.last, side.wants_dial = "absent", 0, False
         self.throw(side, event.row, f"{side.node} marked the session down")
 
     def why_down(self, node, peer):
@@ -315,7 +323,7 @@ class Fates:
         if side.phase == "absent" or self.causes[event].startswith(PENDING):
             return
         if side.lossy:
-            side.phase, side.client = "absent", 0
+            side.phase = "absent"
             self.throw(side, event.row, f"its socket {event.socket.name} broke, and the link is lossy")
         else:
             is_idle = side.server or side.standby and not side.kept and not side.waiting
@@ -413,18 +421,22 @@ class Fates:
             return f"while {again}"
         for one, other in ((side, peer), (peer, side)):
             if one.missing:
-                lacks = f"{other.node} requires bits {one.missing}, which {one.node} doesn't support"
-                return f"for a feature: {lacks}, and refuses each ask of {one.node}"
+                lacks = f"{other.node} requires {bits_of(one.missing)}, which {one.node} doesn't support"
+                return f"for a feature: {lacks}, and refuses each ask of {one.node}, which dials again after each"
         for one in (side, peer):
             if one.feed and one.phase != "ready":
                 return f"for the handshake on {one.feed.name}: {self.ends()}"
         if side.feed:
             return f"for {side.node}'s next turn: {self.ends()}"
         if not side.server:
-            return f"for a socket, which {side.node} opens in its next turn: {self.ends()}"
+            return f"for a socket, which {self.opens(side)}: {self.ends()}"
         if peer.phase == "wait" or peer.waiting or peer.kept or peer.wants_dial:
-            return f"for a socket, which {peer.node} opens in its next turn: {self.ends()}"
+            return f"for a socket, which {self.opens(peer)}: {self.ends()}"
         return f"for a socket, which only {peer.node} opens: it has nothing to write, and isn't told to dial"
+
+    def opens(self, side):
+        """When a side opens a socket that it is to open: in its next turn, or where it waits in the first behind the wait."""
+        return f"{side.node} opens in its {f'first turn from moment {side.until} on' if side.until > self.run.moment else 'next turn'}"
 
     # ---- an exchange that repeats
 
@@ -451,7 +463,7 @@ class Fates:
                 count += 1
             since = marks[-count * period][1].row.at
             judged = [event for kind, event in marks[-period:] if kind[1] == "judged"]
-            answers = [f"{it.node} answers {it.words[2]} by {' '.join(it.words[8:])} ({self.rows[it]})" for it in judged]
+            answers = [f"{it.node} answers {it.words[2]} by {' '.join(it.words[8:])} ({it.named})" for it in judged]
             return f"one exchange repeats itself, {some(count, 'time')} since moment {since}: {', '.join(answers)}"
         return None
 
@@ -472,10 +484,11 @@ class Fates:
         return f"{self.cause_at(closed)} {self.when(closed.row)}"
 
     def asks(self, socket):
-        """What was asked on a socket and how it was answered, with the rows."""
-        said = [f"{event.words[2]}: {' '.join(event.words[8:])} ({self.rows[event]})" for event in socket.judged]
+        """What came of a socket by what was asked on it, with the ask, its answer and the row of its table."""
+        said = [f"{ASKED[event.words[2]][event.words[8]].format(judge=event.node)} ({event.words[2]}: {' '.join(event.words[8:])}, {event.named})"
+                for event in socket.judged]
         refusals = [flight for flight in socket.flights if flight.tag == MISSING_FEATURES]
-        return said + [f"ident: IDENT_MISSING_FEATURES {flight.says['bits']}" for flight in refusals]
+        return said + [f"refused for missing features (ident: IDENT_MISSING_FEATURES {flight.says['bits']})" for flight in refusals]
 
     def progress(self, socket):
         """How far a socket came on which nothing was answered."""
@@ -490,6 +503,11 @@ class Fates:
         closed = self.first_closed(socket)
         said = ", ".join(self.asks(socket)) or self.progress(socket)
         return f"{socket.name} {said}; {self.broke(closed) if closed else 'open'}"
+
+    def beginning(self, socket):
+        """When and why a socket was opened."""
+        event = socket.ends[socket.opener].opened
+        return f"{self.when(event.row)} by {socket.opener}, {self.due[event]}"
 
     def sockets(self, a, b, most):
         """What came of the sockets of a link; where they are more than so many, of those that carried a session, and how often what

@@ -21,7 +21,7 @@ import collections, os, re, sys
 
 sys.dont_write_bytecode = True  # nothing is left in this folder
 sys.path.insert(0, os.path.dirname(os.path.abspath(__file__)))
-from sides import DISCARD, MOVED, REMOTE_RESET, End, Half, Letter, Message, Record
+from sides import DISCARD, MOVED, REMOTE_RESET, ROWS, End, Half, Letter, Message, Record
 from wire import Address
 
 LEFT = 8  # the status where posts are left (docs/SCENARIOS.md, "How it ends")
@@ -29,15 +29,10 @@ ALL_FEATURES = 2**64 - 1
 MOST = 2**64  # more bytes than a socket has
 ENTITIES = {"mon": 1, "mds": 2, "osd": 4, "client": 8, "mgr": 16}
 
+ACTS = ("turn", "post", "dial", "down")  # the lines by which their first node does something
+
 # "A center's turn"
 MOST_HALVES, MOST_ACCEPTS, MOST_STEPS, MOST_PARCELS = 64, 4096, 4096, 1024
-
-# the rows of the judgement tables, in their order
-IDENT_ROWS = ("no_session", "old_number", "lossy", "another_client", "same_client", "settled", "peer_wins", "otherwise")
-RECONNECT_ROWS = (
-    "no_session", "another_client", "never_established", "another_server", "old_number", "old_connect", "mine_wins",
-    "never_written", "otherwise",
-)
 
 
 class Node:
@@ -75,6 +70,16 @@ class Node:
 
     def tell_trail(self, words):
         self.tell("trail", *words)
+
+    def standings(self):
+        """Of each record what a trace tells of where it stands."""
+        return [record.standing() for record in self.records]
+
+    def tell_standings(self, before):
+        """Those of the records that stood otherwise before."""
+        for record, was, words in zip(self.records, before, self.standings()):
+            if words != was:
+                self.tell("session", record.peer.name, *words)
 
     def facts(self):
         numbers = (self.entity, self.number, self.salt, self.supports, self.requires, self.first_wait, self.most_wait)
@@ -290,7 +295,11 @@ class Run:
         """A line of a trace's script: of a round its flows alone; the moment of a turn may be missing."""
         self.told = []
         moment = [str(self.now)] if words[0] == "turn" else []
+        actor = self.nodes[words[1]] if words[0] in ACTS else None
+        before = actor.standings() if actor else []
         self.do(words[0], words[1:])
+        if actor:
+            actor.tell_standings(before)
         return [" ".join([*words[: 2 if moment else None], *moment]), *self.told]
 
     def do(self, form, rest):
@@ -402,7 +411,7 @@ def compare_table(page, folder):
     met = {name[: -len(".scenario")]: played(os.path.join(folder, name))[0].rows for name in files}
     named = named_rows(page)
     said = []
-    rows = [("ident", row) for row in IDENT_ROWS] + [("reconnect", row) for row in RECONNECT_ROWS]
+    rows = [(ask, row) for ask, its in ROWS.items() for row in its]
     if list(named) != rows:
         said.append(f"the table's rows are {list(named)}, and the tables judge by {rows}")
     for (kind, row), examples in named.items():

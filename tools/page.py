@@ -61,7 +61,7 @@ def rows_of(run, fates, times):
         waiting += changes[place] if changes else []
         if row in drawn:
             start, end = drawn[row]
-            answers = [f"{event.node} answers {event.words[2]} by {' '.join(event.words[8:])}: row {fates.rows[event]}"
+            answers = [f"{event.node} answers {event.words[2]} by {' '.join(event.words[8:])}: row {event.named}"
                        for event in row.events if event.what == "judged"]
             rows.append({"from": start, "to": end, "words": " ".join(row.words), "line": row.line, "lines": lines[row], "answers": answers,
                          "states": waiting})

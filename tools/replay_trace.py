@@ -181,7 +181,8 @@ class Side:
         """Rows aren't counted here."""
 
     def tell_entry(self, record, words):
-        self.told.append(words[: {"closed": 2, "wrote": 3}.get(words[0])])
+        """A trace of two records has no cause of a closing, no bytes that were written, and no row of a judgement."""
+        self.told.append(words[: {"closed": 2, "wrote": 3, "judged": -1}.get(words[0])])
 
     def tell_trail(self, words):
         if words[0] != "accepted":

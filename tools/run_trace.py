@@ -20,7 +20,7 @@ import model
 import replay_trace
 import wire
 from replay_trace import Wrong
-from sides import PAIRS
+from sides import PAIRS, ROWS
 from wire import BANNER, CLIENT_IDENT, MESSAGE, MISSING_FEATURES, PREAMBLE, RECONNECT, RECONNECT_OK, RESET, RETRY, RETRY_GLOBAL
 
 TAKES = ("accept", "accept_over", "accept_reset", "accept_again", "accept_replace", "accept_race", "resume")
@@ -33,7 +33,8 @@ NAME, NUMBER, BYTES = "[a-z0-9_]{1,16}", "0|[1-9][0-9]*", "-|(?:[0-9a-fA-F]{2})+
 WORDS = {  # what a word of each kind looks like
     "name": NAME, "number": NUMBER, "bytes": BYTES, "word": "[a-z_]+", "mark": f"[a-z_]+|{NUMBER}", "text": "[!-~]+",
     "socket": f"{NAME}-{NAME}/[1-9][0-9]*", "ask": "ident|reconnect", "path": "fast|queued", "full": "full|part",
-    "entity": "mon|mds|osd|client|mgr", "address": r"[0-9]+(?:\.[0-9]+){3}:[0-9]+/[0-9]+",
+    "entity": "mon|mds|osd|client|mgr", "flag": "yes|no", "phase": "absent|connecting|ident_sent|reconnect_sent|ready|standby|wait",
+    "address": r"[0-9]+(?:\.[0-9]+){3}:[0-9]+/[0-9]+",
 }
 RANGES = {  # of numbers that stand in a scenario
     "kind": (0, 65535), "priority": (64, 255), "cut": (0, 1048576), "place": (1, 4294967295), "count": (0, 2**64 - 1), "round": (1, 1),
@@ -47,10 +48,14 @@ OPTIONS = {"centers": (1, 4), "fast": (0, 65535), "throttle": (0, 2**32 - 1), "s
 MOVED = {"read": "socket number", "wrote": "socket number bytes", "closed": "socket word*"}
 JOURNAL = MOVED | {
     "post": "number", "dial": "", "opened": "socket", "asked": "ask number", "numbered": "number", "acked": "number",
-    "judged": "number socket ask number number number number number word mark*", "accepted": "number number path",
+    "judged": "number socket ask number number number number number word mark mark*", "accepted": "number number path",
     "obeyed": "full", "down": "word",
 }
 TRAIL = MOVED | {"accepted": "socket"}
+TOLD = {  # what else a node's line tells, by its second word: dispatches, and where the record towards a peer stands behind them
+    "from": "name number path number bytes bytes bytes", "reset": "name",
+    "session": "name phase number number number number flag number number number number number number",
+}
 
 
 class BadTrace(Exception):
@@ -63,6 +68,7 @@ class Row:
 
     def __init__(self, line, words):
         self.line, self.words, self.events = line, words, []
+        self.sessions = {}  # of a node and its peer where the record stands behind it, where that changed
         self.what = words[0]
         self.node = words[1] if self.what in ("turn", "post", "dial", "down") else None
         self.moment = int(words[2]) if self.what == "turn" else None
@@ -73,6 +79,7 @@ class Event:
 
     def __init__(self, line, row, node, what, peer=None, socket=None, words=()):
         self.line, self.row, self.node, self.what, self.peer, self.socket, self.words = line, row, node, what, peer, socket, words
+        self.named = None  # of a judgement the row of its table, which stands behind its answer
         row.events.append(self)
 
 
@@ -237,10 +244,13 @@ class Reader:
             return self.entry(JOURNAL, node, rest[0], rest[1:])
         if what == "trail":
             return self.entry(TRAIL, node, None, rest)
-        self.must(what in ("from", "reset"), f"`{what}` is nothing that a node does")
+        self.must(what in TOLD, f"`{what}` is nothing that a node does")
         self.must(self.run.is_linked(node, rest[0]), f"no link of {node} and {rest[0]} above")
-        self.fit(what, "name" if what == "reset" else "name number path number bytes bytes bytes", rest)
-        Event(self.line, self.row, node, what, rest[0], None, rest[1:])
+        self.fit(what, TOLD[what], rest)
+        if what == "session":
+            self.row.sessions[node, rest[0]] = rest[1:]
+        else:
+            Event(self.line, self.row, node, what, rest[0], None, rest[1:])
 
     def entry(self, forms, node, peer, words):
         what, *rest = words or ("",)
@@ -314,6 +324,9 @@ class Reader:
             del self.run.feeds[event.node, event.peer]
 
     def on_judged(self, event):
+        *event.words, event.named = event.words
+        rows = ROWS[event.words[2]]
+        self.must(event.named in rows, f"`{event.named}` is no row by which {'an ident' if rows is ROWS['ident'] else 'a reconnect'} is judged")
         event.socket.judged.append(event)
         if event.words[8] in TAKES:
             self.run.feeds[event.node, event.peer] = event.socket

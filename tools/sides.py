@@ -45,6 +45,15 @@ ACCEPTOR = (
 ABSENT, CONNECTING, IDENT_SENT, RECONNECT_SENT = "absent", "connecting", "ident_sent", "reconnect_sent"
 READY, STANDBY, WAITING = "ready", "standby", "wait"
 
+# "An ident is judged", "A reconnect is judged": the rows of each table, in their order
+ROWS = {
+    "ident": ("no_session", "old_number", "lossy", "another_client", "same_client", "settled", "peer_wins", "mine_wins"),
+    "reconnect": (
+        "no_session", "another_client", "never_established", "another_server", "old_number", "old_connect", "mine_wins", "never_written",
+        "goes_on",
+    ),
+}
+
 # what a step of a record, a move of a half or a read of an end comes to
 MOVED, DRY, FULL, FAULT, GOT, ENDED, TAKEN = "moved", "dry", "full", "fault", "got", "ended", "taken"
 
@@ -198,7 +207,8 @@ class OutQueue:
         self.acknowledged = self.next = 0
 
     def discard(self):
-        self.numbered, self.waiting, self.next = [], [], 0
+        self.numbered, self.waiting = [], []
+        self.number_from_one()
 
 
 Letter = collections.namedtuple("Letter", "message number granted")
@@ -232,6 +242,14 @@ class Record:
 
     def tell(self, *words):
         self.node.tell_entry(self, [str(word) for word in words])
+
+    def standing(self):
+        """Its session in the words of a trace, the moment before which no connect is due, and how far its messages have come."""
+        numbers = (self.client_cookie, self.server_cookie, self.peer_global, self.connect)
+        queue = self.queue
+        counts = (self.accepted, self.granted or 0, queue.acknowledged, queue.acknowledged + len(queue.numbered), len(queue.waiting))
+        lost = "yes" if self.lost_in_ready else "no"
+        return [self.phase, *(str(it) for it in numbers), lost, str(self.next_dial), *(str(it) for it in counts)]
 
     # ---- the plan ("A scenario's script")
 
@@ -333,7 +351,7 @@ class Record:
     # ---- the judgements, in the order of their tables
 
     def judge_ident(self, ask):
-        """"An ident is judged": the first row that holds, its answer, and whether that is full."""
+        """"An ident is judged": the first row that holds, with its answer, and whether that is full."""
         keeps_both = self.client_cookie != 0 and self.server_cookie != 0
         rows = (
             ("no_session", self.phase == ABSENT, "accept"),
@@ -343,7 +361,7 @@ class Record:
             ("same_client", self.client_cookie != 0 and self.client_cookie == ask["client"], "accept_again"),
             ("settled", self.phase in (READY, STANDBY), "accept_replace"),
             ("peer_wins", self.server or self.peer.address.rank() < self.node.address.rank(), "accept_race"),
-            ("otherwise", True, "wait"),
+            ("mine_wins", True, "wait"),
         )
         return self.first_of("ident", rows)
 
@@ -360,7 +378,7 @@ class Record:
             ("old_connect", self.connect > ask["connect"], "retry"),
             ("mine_wins", mine_wins, "wait"),
             ("never_written", ask["seen"] > self.queue.written(), "close"),
-            ("otherwise", True, "resume"),
+            ("goes_on", True, "resume"),
         )
         return self.first_of("reconnect", rows)
 
@@ -368,17 +386,17 @@ class Record:
         row, answer = next((row, answer) for row, holds, answer in rows if holds)
         full = self.resetcheck and answer in ("accept_reset", "reset")
         self.node.run.meets(kind, row, full if answer in ("accept_reset", "reset") else None)
-        return answer, full
+        return row, answer, full
 
     def judge(self, end, ask, number, now):
         """An ask on a socket of the peer is judged, with this number: the answer, and what is written where it takes no socket."""
         is_ident = ask.tag == CLIENT_IDENT
         says = ask.says()
-        answer, full = self.judge_ident(says) if is_ident else self.judge_reconnect(says)
+        row, answer, full = self.judge_ident(says) if is_ident else self.judge_reconnect(says)
         told = {"retry_global": [self.peer_global], "retry": [self.connect]}.get(answer, [])
         told += ["full" if full else "part"] if answer in ("accept_reset", "reset") else []
         numbers = [says.get(name, 0) for name in ("client", "server", "global", "connect", "seen")]
-        self.tell("judged", number, end.name, "ident" if is_ident else "reconnect", *numbers, answer, *told)
+        self.tell("judged", number, end.name, "ident" if is_ident else "reconnect", *numbers, answer, *told, row)
         if answer == "resume":
             self.take_reconnect(end, says)
         elif answer.startswith("accept"):
