@@ -1,8 +1,10 @@
 -- What a frame says is read in one way from its fields, and its line from its place, tag and fields.
-use Rattle.std.proofs.Common.{◌≡◌, ◌≢◌, ℕ, true, List, [], ◌∷◌, ◌++◌, map, get_or, codes, decimal, inl, inr, ◌⊎◌, refl, sym, ap, subst, ◌∙◌, arith, append_assoc}
+use Rattle.std.proofs.Common.{◌≡◌, ◌≢◌, ℕ, Bool, true, false, not, ◌&&◌, List, [], ◌∷◌, ◌++◌, map, codes, decimal, inl, inr, ◌⊎◌, refl, sym, ap, subst, ◌∙◌, arith, append_assoc}
 use Rattle.std.specs.List.{AllByRecursion, list_all}
 use Rattle.std.specs.Str.{bytes_eq}
 use Rattle.std.specs.Prelude.{if◌then◌else◌}
+use Rattle.std.proofs.lemmas.Bool.{and_parts}
+use Rattle.std.proofs.lemmas.Slice.Eq.{bytes_eq-Decides}
 use mathlib.Core.List.{append_cancel_left}
 use Rattle.m2_frame.specs.declared.tag.Tag.{Tag}
 use Rattle.m2_frame.specs.declared.tag.Tag.TheVariants as tag
@@ -24,7 +26,7 @@ use Rattle.m2_facts.specs.Line.{before_place, before_tag, behind_tag, head_text,
 use Rattle.m2_facts.specs.MessageType.{name_of_type}
 use Rattle.m2_facts.specs.Value.{Told, number, word, ipv4, field_text, fields_text, place_of}
 use Rattle.m2_facts.specs.ReadOnce.{IsOf, IsSmall, LinesAreReadInOneWay, Shown}
-use Rattle.m2_facts.proofs.Classes.{is_inner}
+use Rattle.m2_facts.proofs.Classes.{is_inner, is_of_name}
 use Rattle.m2_facts.proofs.Cuts.{Once, Stops, cut_once}
 use Rattle.m2_facts.proofs.TextsOnce.{HexIsReadAgain, begins, number_once}
 use Rattle.m2_facts.proofs.RowsOnce.{AreFit, Column, DifferAtOnce, EndsFields, Row, field_begins, field_once, no_row_is_both, row_once, stops_fields, tell, a_flag, a_number, a_place, a_signed, a_word, some_bits, some_bytes, some_numbers, some_places}
@@ -189,106 +191,83 @@ AreFaults bad bad_at = Unit {0}
 AreFaults bad_at bad = Unit {0}
 AreFaults _ _ = ⊥
 
-no_fault : (t : Tag) → DifferAtOnce (columns_of t) (columns bad)
-no_fault tag.Hello = ((λ e. let first : 101 ≡ 102 = ap (λ l. get_or l 0 0) e in omega (arith, first)), (refl, refl))
-no_fault tag.AuthRequest = ((λ e. let first : 109 ≡ 102 = ap (λ l. get_or l 0 0) e in omega (arith, first)), (refl, refl))
-no_fault tag.AuthBadMethod = ((λ e. let first : 109 ≡ 102 = ap (λ l. get_or l 0 0) e in omega (arith, first)), (refl, refl))
-no_fault tag.AuthReplyMore = tt
-no_fault tag.AuthRequestMore = tt
-no_fault tag.AuthDone = ((λ e. let first : 103 ≡ 102 = ap (λ l. get_or l 0 0) e in omega (arith, first)), (refl, refl))
-no_fault tag.AuthSignature = ((λ e. let first : 115 ≡ 102 = ap (λ l. get_or l 0 0) e in omega (arith, first)), (refl, refl))
-no_fault tag.ClientIdent = ((λ e. let first : 97 ≡ 102 = ap (λ l. get_or l 0 0) e in omega (arith, first)), (refl, refl))
-no_fault tag.ServerIdent = ((λ e. let first : 97 ≡ 102 = ap (λ l. get_or l 0 0) e in omega (arith, first)), (refl, refl))
-no_fault tag.IdentMissingFeatures = ((λ e. let first : 101 ≡ 97 = ap (λ l. get_or l 1 0) e in omega (arith, first)), (refl, refl))
-no_fault tag.SessionReconnect = ((λ e. let first : 97 ≡ 102 = ap (λ l. get_or l 0 0) e in omega (arith, first)), (refl, refl))
-no_fault tag.SessionReset = ((λ e. let first : 117 ≡ 97 = ap (λ l. get_or l 1 0) e in omega (arith, first)), (refl, refl))
-no_fault tag.SessionRetry = ((λ e. let first : 99 ≡ 102 = ap (λ l. get_or l 0 0) e in omega (arith, first)), (refl, refl))
-no_fault tag.SessionRetryGlobal = ((λ e. let first : 103 ≡ 102 = ap (λ l. get_or l 0 0) e in omega (arith, first)), (refl, refl))
-no_fault tag.SessionReconnectOk = ((λ e. let first : 115 ≡ 102 = ap (λ l. get_or l 0 0) e in omega (arith, first)), (refl, refl))
-no_fault tag.Wait = tt
-no_fault tag.Message = tt
-no_fault tag.Keepalive = ((λ e. let first : 115 ≡ 102 = ap (λ l. get_or l 0 0) e in omega (arith, first)), (refl, refl))
-no_fault tag.KeepaliveAck = ((λ e. let first : 115 ≡ 102 = ap (λ l. get_or l 0 0) e in omega (arith, first)), (refl, refl))
-no_fault tag.Ack = ((λ e. let first : 115 ≡ 102 = ap (λ l. get_or l 0 0) e in omega (arith, first)), (refl, refl))
-no_fault tag.CompressionRequest = tt
-no_fault tag.CompressionDone = tt
+-- the same as DifferAtOnce, by computation
+abbrev differ : List Column → List Column → Bool
+differ [] [] = false
+differ [] (d ∷ ds) = true
+differ (c ∷ cs) [] = true
+differ (c ∷ cs) (d ∷ ds) = not (bytes_eq c.0 d.0) && (list_all is_of_name c.0 && list_all is_of_name d.0)
 
-no_fault_at : (t : Tag) → DifferAtOnce (columns_of t) (columns bad_at)
-no_fault_at tag.Hello = ((λ e. let first : 101 ≡ 102 = ap (λ l. get_or l 0 0) e in omega (arith, first)), (refl, refl))
-no_fault_at tag.AuthRequest = ((λ e. let first : 109 ≡ 102 = ap (λ l. get_or l 0 0) e in omega (arith, first)), (refl, refl))
-no_fault_at tag.AuthBadMethod = ((λ e. let first : 109 ≡ 102 = ap (λ l. get_or l 0 0) e in omega (arith, first)), (refl, refl))
-no_fault_at tag.AuthReplyMore = tt
-no_fault_at tag.AuthRequestMore = tt
-no_fault_at tag.AuthDone = ((λ e. let first : 103 ≡ 102 = ap (λ l. get_or l 0 0) e in omega (arith, first)), (refl, refl))
-no_fault_at tag.AuthSignature = ((λ e. let first : 115 ≡ 102 = ap (λ l. get_or l 0 0) e in omega (arith, first)), (refl, refl))
-no_fault_at tag.ClientIdent = ((λ e. let first : 97 ≡ 102 = ap (λ l. get_or l 0 0) e in omega (arith, first)), (refl, refl))
-no_fault_at tag.ServerIdent = ((λ e. let first : 97 ≡ 102 = ap (λ l. get_or l 0 0) e in omega (arith, first)), (refl, refl))
-no_fault_at tag.IdentMissingFeatures = ((λ e. let first : 101 ≡ 97 = ap (λ l. get_or l 1 0) e in omega (arith, first)), (refl, refl))
-no_fault_at tag.SessionReconnect = ((λ e. let first : 97 ≡ 102 = ap (λ l. get_or l 0 0) e in omega (arith, first)), (refl, refl))
-no_fault_at tag.SessionReset = ((λ e. let first : 117 ≡ 97 = ap (λ l. get_or l 1 0) e in omega (arith, first)), (refl, refl))
-no_fault_at tag.SessionRetry = ((λ e. let first : 99 ≡ 102 = ap (λ l. get_or l 0 0) e in omega (arith, first)), (refl, refl))
-no_fault_at tag.SessionRetryGlobal = ((λ e. let first : 103 ≡ 102 = ap (λ l. get_or l 0 0) e in omega (arith, first)), (refl, refl))
-no_fault_at tag.SessionReconnectOk = ((λ e. let first : 115 ≡ 102 = ap (λ l. get_or l 0 0) e in omega (arith, first)), (refl, refl))
-no_fault_at tag.Wait = tt
-no_fault_at tag.Message = tt
-no_fault_at tag.Keepalive = ((λ e. let first : 115 ≡ 102 = ap (λ l. get_or l 0 0) e in omega (arith, first)), (refl, refl))
-no_fault_at tag.KeepaliveAck = ((λ e. let first : 115 ≡ 102 = ap (λ l. get_or l 0 0) e in omega (arith, first)), (refl, refl))
-no_fault_at tag.Ack = ((λ e. let first : 115 ≡ 102 = ap (λ l. get_or l 0 0) e in omega (arith, first)), (refl, refl))
-no_fault_at tag.CompressionRequest = tt
-no_fault_at tag.CompressionDone = tt
+unlike : (a b : List ℕ) → not (bytes_eq a b) ≡ true → a ≢ b
+unlike a b h e =
+    let moved : not true ≡ true = subst (λ x. not x ≡ true) ((bytes_eq-Decides a b).1 e) h in cc
 
-no_aborted : (t : Tag) → DifferAtOnce (columns_of t) (columns gone)
-no_aborted tag.Hello = ((λ e. let first : 101 ≡ 97 = ap (λ l. get_or l 0 0) e in omega (arith, first)), (refl, refl))
-no_aborted tag.AuthRequest = ((λ e. let first : 109 ≡ 97 = ap (λ l. get_or l 0 0) e in omega (arith, first)), (refl, refl))
-no_aborted tag.AuthBadMethod = ((λ e. let first : 109 ≡ 97 = ap (λ l. get_or l 0 0) e in omega (arith, first)), (refl, refl))
-no_aborted tag.AuthReplyMore = tt
-no_aborted tag.AuthRequestMore = tt
-no_aborted tag.AuthDone = ((λ e. let first : 103 ≡ 97 = ap (λ l. get_or l 0 0) e in omega (arith, first)), (refl, refl))
-no_aborted tag.AuthSignature = ((λ e. let first : 115 ≡ 97 = ap (λ l. get_or l 0 0) e in omega (arith, first)), (refl, refl))
-no_aborted tag.ClientIdent = ((λ e. let first : 100 ≡ 98 = ap (λ l. get_or l 1 0) e in omega (arith, first)), (refl, refl))
-no_aborted tag.ServerIdent = ((λ e. let first : 100 ≡ 98 = ap (λ l. get_or l 1 0) e in omega (arith, first)), (refl, refl))
-no_aborted tag.IdentMissingFeatures = ((λ e. let first : 102 ≡ 97 = ap (λ l. get_or l 0 0) e in omega (arith, first)), (refl, refl))
-no_aborted tag.SessionReconnect = ((λ e. let first : 100 ≡ 98 = ap (λ l. get_or l 1 0) e in omega (arith, first)), (refl, refl))
-no_aborted tag.SessionReset = ((λ e. let first : 102 ≡ 97 = ap (λ l. get_or l 0 0) e in omega (arith, first)), (refl, refl))
-no_aborted tag.SessionRetry = ((λ e. let first : 99 ≡ 97 = ap (λ l. get_or l 0 0) e in omega (arith, first)), (refl, refl))
-no_aborted tag.SessionRetryGlobal = ((λ e. let first : 103 ≡ 97 = ap (λ l. get_or l 0 0) e in omega (arith, first)), (refl, refl))
-no_aborted tag.SessionReconnectOk = ((λ e. let first : 115 ≡ 97 = ap (λ l. get_or l 0 0) e in omega (arith, first)), (refl, refl))
-no_aborted tag.Wait = tt
-no_aborted tag.Message = tt
-no_aborted tag.Keepalive = ((λ e. let first : 115 ≡ 97 = ap (λ l. get_or l 0 0) e in omega (arith, first)), (refl, refl))
-no_aborted tag.KeepaliveAck = ((λ e. let first : 115 ≡ 97 = ap (λ l. get_or l 0 0) e in omega (arith, first)), (refl, refl))
-no_aborted tag.Ack = ((λ e. let first : 115 ≡ 97 = ap (λ l. get_or l 0 0) e in omega (arith, first)), (refl, refl))
-no_aborted tag.CompressionRequest = tt
-no_aborted tag.CompressionDone = tt
+differ_at_once : (cs ds : List Column) → differ cs ds ≡ true → DifferAtOnce cs ds
+differ_at_once [] [] h = cc
+differ_at_once [] (d ∷ ds) h = tt
+differ_at_once (c ∷ cs) [] h = tt
+differ_at_once (c ∷ cs) (d ∷ ds) h =
+    let named = list_all is_of_name c.0 && list_all is_of_name d.0 in
+    let parts = and_parts (not (bytes_eq c.0 d.0)) named h in
+    (unlike c.0 d.0 parts.0, and_parts (list_all is_of_name c.0) (list_all is_of_name d.0) parts.1)
+
+-- the fields of each payload, and those of a fault and of an aborted frame
+tags_differ : (t : Tag) → (differ (columns_of t) (columns bad) && (differ (columns_of t) (columns bad_at) && differ (columns_of t) (columns gone))) ≡ true
+tags_differ tag.Hello = refl
+tags_differ tag.AuthRequest = refl
+tags_differ tag.AuthBadMethod = refl
+tags_differ tag.AuthReplyMore = refl
+tags_differ tag.AuthRequestMore = refl
+tags_differ tag.AuthDone = refl
+tags_differ tag.AuthSignature = refl
+tags_differ tag.ClientIdent = refl
+tags_differ tag.ServerIdent = refl
+tags_differ tag.IdentMissingFeatures = refl
+tags_differ tag.SessionReconnect = refl
+tags_differ tag.SessionReset = refl
+tags_differ tag.SessionRetry = refl
+tags_differ tag.SessionRetryGlobal = refl
+tags_differ tag.SessionReconnectOk = refl
+tags_differ tag.Wait = refl
+tags_differ tag.Message = refl
+tags_differ tag.Keepalive = refl
+tags_differ tag.KeepaliveAck = refl
+tags_differ tag.Ack = refl
+tags_differ tag.CompressionRequest = refl
+tags_differ tag.CompressionDone = refl
+
+-- of each tag: with a fault, with a fault at a field, with an aborted frame
+apart : (t : Tag) → DifferAtOnce (columns_of t) (columns bad) × (DifferAtOnce (columns_of t) (columns bad_at) × DifferAtOnce (columns_of t) (columns gone))
+apart t =
+    let first = and_parts (differ (columns_of t) (columns bad)) (differ (columns_of t) (columns bad_at) && differ (columns_of t) (columns gone)) (tags_differ t) in
+    let others = and_parts (differ (columns_of t) (columns bad_at)) (differ (columns_of t) (columns gone)) first.1 in
+    (differ_at_once (columns_of t) (columns bad) first.0, (differ_at_once (columns_of t) (columns bad_at) others.0, differ_at_once (columns_of t) (columns gone) others.1))
 
 flipped : (cs ds : List Column) → DifferAtOnce cs ds → DifferAtOnce ds cs
-flipped [] [] differ = differ
-flipped [] (d ∷ ds) differ = tt
-flipped (c ∷ cs) [] differ = tt
-flipped (c ∷ cs) (d ∷ ds) differ = ((λ e. differ.0 (sym e)), (differ.1.1, differ.1.0))
+flipped [] [] apart = apart
+flipped [] (d ∷ ds) apart = tt
+flipped (c ∷ cs) [] apart = tt
+flipped (c ∷ cs) (d ∷ ds) apart = ((λ e. apart.0 (sym e)), (apart.1.1, apart.1.0))
 
 abbrev Compared : Mold → Mold → Type 0
 Compared a b = (a ≡ b) ⊎ (DifferAtOnce (columns a) (columns b) ⊎ AreFaults a b)
 
-fault_is_no_abort : codes "fault" ≢ codes "aborted"
-fault_is_no_abort e = let first : 102 ≡ 97 = ap begins e in omega (arith, first)
-
 compared : (t : Tag) (a b : Mold) → IsOfTag t a → IsOfTag t b → Compared a b
 compared t (of_tag u) (of_tag v) p q = inl (ap of_tag (sym p ∙ q))
-compared t (of_tag u) bad p q = inr (inl (no_fault u))
-compared t (of_tag u) bad_at p q = inr (inl (no_fault_at u))
-compared t (of_tag u) gone p q = inr (inl (no_aborted u))
-compared t bad (of_tag v) p q = inr (inl (flipped (columns_of v) (columns bad) (no_fault v)))
+compared t (of_tag u) bad p q = inr (inl (apart u).0)
+compared t (of_tag u) bad_at p q = inr (inl (apart u).1.0)
+compared t (of_tag u) gone p q = inr (inl (apart u).1.1)
+compared t bad (of_tag v) p q = inr (inl (flipped (columns_of v) (columns bad) (apart v).0))
 compared t bad bad p q = inl refl
 compared t bad bad_at p q = inr (inr tt)
-compared t bad gone p q = inr (inl (fault_is_no_abort, (refl, refl)))
-compared t bad_at (of_tag v) p q = inr (inl (flipped (columns_of v) (columns bad_at) (no_fault_at v)))
+compared t bad gone p q = inr (inl (differ_at_once (columns bad) (columns gone) refl))
+compared t bad_at (of_tag v) p q = inr (inl (flipped (columns_of v) (columns bad_at) (apart v).1.0))
 compared t bad_at bad p q = inr (inr tt)
 compared t bad_at bad_at p q = inl refl
-compared t bad_at gone p q = inr (inl (fault_is_no_abort, (refl, refl)))
-compared t gone (of_tag v) p q = inr (inl (flipped (columns_of v) (columns gone) (no_aborted v)))
-compared t gone bad p q = inr (inl ((λ e. fault_is_no_abort (sym e)), (refl, refl)))
-compared t gone bad_at p q = inr (inl ((λ e. fault_is_no_abort (sym e)), (refl, refl)))
+compared t bad_at gone p q = inr (inl (differ_at_once (columns bad_at) (columns gone) refl))
+compared t gone (of_tag v) p q = inr (inl (flipped (columns_of v) (columns gone) (apart v).1.1))
+compared t gone bad p q = inr (inl (differ_at_once (columns gone) (columns bad) refl))
+compared t gone bad_at p q = inr (inl (differ_at_once (columns gone) (columns bad_at) refl))
 compared t gone gone p q = inl refl
 
 -- ---- the fields
@@ -351,9 +330,9 @@ whole_of m = (m.header.kind, (name_of_type m.header.kind, rest_of m))
 
 type_differs : (a : Mold) → IsOfTag tag.Message a → DifferAtOnce Whole (columns a)
 type_differs (of_tag t) is = subst (λ (u : Tag). DifferAtOnce Whole (columns_of u)) is tt
-type_differs bad is = ((λ e. let first : 116 ≡ 102 = ap begins e in omega (arith, first)), (refl, refl))
-type_differs bad_at is = ((λ e. let first : 116 ≡ 102 = ap begins e in omega (arith, first)), (refl, refl))
-type_differs gone is = ((λ e. let first : 116 ≡ 97 = ap begins e in omega (arith, first)), (refl, refl))
+type_differs bad is = differ_at_once Whole (columns bad) refl
+type_differs bad_at is = differ_at_once Whole (columns bad_at) refl
+type_differs gone is = differ_at_once Whole (columns gone) refl
 
 no_message_is_other : HexIsReadAgain → (form : Style) (m : MessageFacts) (y : Facts) → IsNoMessage y → IsOfTag tag.Message (mold y) → AreSmall (fields_of y)
     → (r s : List ℕ) → IsEnd form r → IsEnd form s → fields_text form (message_fields m) ++ r ≡ fields_text form (fields_of y) ++ s → ⊥

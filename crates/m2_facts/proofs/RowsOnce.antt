@@ -4,7 +4,8 @@ use Rattle.std.specs.List.{list_all}
 use mathlib.Core.List.{append_cancel_left}
 use Rattle.m2_facts.specs.declared.style.Style.{Style}
 use Rattle.m2_facts.specs.declared.style.Style.TheVariants as style
-use Rattle.m2_facts.specs.Value.{Place, Said, number, signed, flag, bits, bytes, numbers, place, places, word, Told, before_name, behind_name, field_text, fields_text, said_text}
+use Rattle.m2_facts.specs.Value.{Place, Said, number, signed, flag, bits, bytes, numbers, place, places, word, Told, field_text, fields_text, said_text}
+use Rattle.m2_facts.specs.FieldName.{before_name, behind_name}
 use Rattle.m2_facts.specs.Fields.{field}
 use Rattle.m2_facts.specs.ReadOnce.{IsSmall}
 use Rattle.m2_facts.proofs.Classes.{is_inner, is_of_name}

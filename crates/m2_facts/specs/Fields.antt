@@ -1,6 +1,6 @@
 -- What is told of each payload: its fields by name, in their order on the wire; of a message those of its header that
--- tell where it stands, and the sizes of its parts. The names are this project's own, as near to Ceph's as they can be.
-use Rattle.std.specs.Prelude.{ℕ, true, List, [], ◌∷◌, map, codes}
+-- tell where it stands, and the sizes of its parts.
+use Rattle.std.specs.Prelude.{ℕ, true, List, [], ◌∷◌, ◌++◌, map, codes}
 use Rattle.m2_addr.specs.declared.fault.AddrFault.{AddrFault}
 use Rattle.m2_addr.specs.declared.fault.AddrFault.TheVariants as address
 use Rattle.m2_control.specs.declared.control.Control.{Control}
@@ -24,6 +24,7 @@ use Rattle.m2_control.specs.declared.wait.Wait.{Wait}
 use Rattle.m2_control.specs.declared.keepalive.Keepalive.{Keepalive}
 use Rattle.m2_control.specs.declared.keepalive_ack.KeepaliveAck.{KeepaliveAck}
 use Rattle.m2_control.specs.declared.ack.Ack.{Ack}
+use Rattle.m2_message.specs.declared.header.Header.{Header}
 use Rattle.m2_facts.specs.declared.facts.Facts.{Facts}
 use Rattle.m2_facts.specs.declared.facts.Facts.TheVariants as facts
 use Rattle.m2_facts.specs.declared.facts.MessageFacts.{MessageFacts}
@@ -33,8 +34,15 @@ use Rattle.m2_facts.specs.Value.{Said, number, signed, flag, bits, bytes, number
 abbrev pub field : List ℕ → Said → Told
 field name said = record { name = name; said = said }
 
+abbrev pub header_fields : Header → List Told
+header_fields h = field (codes "type") (number h.kind) ∷ field (codes "name") (word (name_of_type h.kind)) ∷ field (codes "seq") (number h.seq) ∷ field (codes "tid") (number h.tid) ∷ field (codes "priority") (number h.priority) ∷ field (codes "ack") (number h.ack_seq) ∷ []
+
+-- how many bytes a message's parts have
+abbrev pub size_fields : MessageFacts → List Told
+size_fields p = field (codes "front") (number p.front) ∷ field (codes "middle") (number p.middle) ∷ field (codes "data") (number p.data_bytes) ∷ []
+
 abbrev pub message_fields : MessageFacts → List Told
-message_fields p = field (codes "type") (number p.header.kind) ∷ field (codes "name") (word (name_of_type p.header.kind)) ∷ field (codes "seq") (number p.header.seq) ∷ field (codes "tid") (number p.header.tid) ∷ field (codes "priority") (number p.header.priority) ∷ field (codes "ack") (number p.header.ack_seq) ∷ field (codes "front") (number p.front) ∷ field (codes "middle") (number p.middle) ∷ field (codes "data") (number p.data_bytes) ∷ []
+message_fields p = header_fields p.header ++ size_fields p
 
 abbrev pub hello_fields : Hello → List Told
 hello_fields p = field (codes "entity") (number p.entity) ∷ field (codes "seen") (place (place_of p.seen)) ∷ []

@@ -1,4 +1,5 @@
 pub mod Facts
+pub mod FieldName
 pub mod Fields
 pub mod Header
 pub mod Laws

@@ -10,6 +10,7 @@ use Rattle.m2_addr.specs.declared.addr.AnyAddr.{AnyAddr}
 use Rattle.m2_addr.specs.declared.addr.AnyAddr.TheVariants.{V4, Other}
 use Rattle.m2_facts.specs.declared.style.Style.{Style}
 use Rattle.m2_facts.specs.declared.style.Style.TheVariants as style
+use Rattle.m2_facts.specs.FieldName.{before_name, behind_name, name_of}
 use Rattle.m2_facts.specs.declared.value.Value.{Value}
 use Rattle.m2_facts.specs.declared.value.Value.TheVariants as value
 use Rattle.m2_facts.specs.declared.value.Field.{Field}
@@ -53,7 +54,7 @@ said_by (value.Addresses addrs) = places (map place_of addrs.now)
 said_by (value.Word w) = word w.now
 
 abbrev pub told_by : Field → Told
-told_by f = record { name = f.name.now; said = said_by f.value }
+told_by f = record { name = name_of f.name; said = said_by f.value }
 
 -- ---- texts
 
@@ -117,15 +118,6 @@ said_text form (numbers ns) = list_text decimal ns
 said_text form (place p) = quoted_place form p
 said_text form (places ps) = list_text (quoted_place form) ps
 said_text form (word w) = quoted form w
-
--- a field behind what stands before it
-abbrev pub before_name : Style → List ℕ
-before_name style.Line = codes " "
-before_name style.Json = codes ",\""
-
-abbrev pub behind_name : Style → List ℕ
-behind_name style.Line = codes "="
-behind_name style.Json = codes "\":"
 
 unfoldable pub field_text : Style → Told → List ℕ
 field_text form f = before_name form ++ f.name ++ behind_name form ++ said_text form f.said

@@ -3,9 +3,10 @@
 ghost use Rattle.std.specs.Prelude.{◌≡◌, [], ◌∷◌, ◌++◌, OnOk};
 ghost use Rattle.m2_facts.specs.Value.{fields_text};
 ghost use Rattle.m2_facts.specs.Line.{banner_fields};
-ghost use Rattle.m2_facts.specs.Fields.{message_fields, hello_fields, auth_request_fields, auth_bad_method_fields, auth_done_fields, auth_signature_fields, client_ident_fields, server_ident_fields, ident_missing_features_fields, session_reconnect_fields, session_reset_fields, session_retry_fields, session_retry_global_fields, session_reconnect_ok_fields, wait_fields, keepalive_fields, keepalive_ack_fields, ack_fields, control_fields, address_word, fault_at_fields, bad_value_fields, fault_field, fault_fields, aborted_fields, fields_of};
+ghost use Rattle.m2_facts.specs.Fields.{header_fields, size_fields, message_fields, hello_fields, auth_request_fields, auth_bad_method_fields, auth_done_fields, auth_signature_fields, client_ident_fields, server_ident_fields, ident_missing_features_fields, session_reconnect_fields, session_reset_fields, session_retry_fields, session_retry_global_fields, session_reconnect_ok_fields, wait_fields, keepalive_fields, keepalive_ack_fields, ack_fields, control_fields, address_word, fault_at_fields, bad_value_fields, fault_field, fault_fields, aborted_fields, fields_of};
 
 use crate::facts::{Facts, MessageFacts};
+use crate::field_name::FieldName;
 use crate::message_type::name_of_type;
 use crate::style::Style;
 use crate::value::{Field, Value, put_fields};
@@ -16,52 +17,73 @@ use m2_control::{
     ControlFault, Hello, IdentMissingFeatures, Keepalive, KeepaliveAck, ServerIdent,
     SessionReconnect, SessionReconnectOk, SessionReset, SessionRetry, SessionRetryGlobal,
 };
+use m2_message::Header;
 
-fn put_message(out: &mut Blob, style: Style, p: &MessageFacts) -> Result<(), NoMemory>
-    ensures { OnOk result (out.new.bytes ≡ out.old.bytes ++ fields_text style (message_fields p.now)) }
+/// Appends what a message's header tells.
+fn put_header(out: &mut Blob, style: Style, h: &Header) -> Result<(), NoMemory>
+    ensures { OnOk result (out.new.bytes ≡ out.old.bytes ++ fields_text style (header_fields h.now)) }
 {
     put_fields(
         out,
         style,
         &[
             Field {
-                name: "type",
-                value: Value::Number(u64::from(p.header.kind)),
+                name: FieldName::MessageType,
+                value: Value::Number(u64::from(h.kind)),
             },
             Field {
-                name: "name",
-                value: Value::Word(name_of_type(p.header.kind)),
+                name: FieldName::MessageName,
+                value: Value::Word(name_of_type(h.kind)),
             },
             Field {
-                name: "seq",
-                value: Value::Number(p.header.seq),
+                name: FieldName::Seq,
+                value: Value::Number(h.seq),
             },
             Field {
-                name: "tid",
-                value: Value::Number(p.header.tid),
+                name: FieldName::Tid,
+                value: Value::Number(h.tid),
             },
             Field {
-                name: "priority",
-                value: Value::Number(u64::from(p.header.priority)),
+                name: FieldName::Priority,
+                value: Value::Number(u64::from(h.priority)),
             },
             Field {
-                name: "ack",
-                value: Value::Number(p.header.ack_seq),
+                name: FieldName::Ack,
+                value: Value::Number(h.ack_seq),
             },
+        ],
+    )
+}
+
+/// Appends the sizes of a message's parts.
+fn put_sizes(out: &mut Blob, style: Style, p: &MessageFacts) -> Result<(), NoMemory>
+    ensures { OnOk result (out.new.bytes ≡ out.old.bytes ++ fields_text style (size_fields p.now)) }
+{
+    put_fields(
+        out,
+        style,
+        &[
             Field {
-                name: "front",
+                name: FieldName::Front,
                 value: Value::Number(p.front),
             },
             Field {
-                name: "middle",
+                name: FieldName::Middle,
                 value: Value::Number(p.middle),
             },
             Field {
-                name: "data",
+                name: FieldName::Data,
                 value: Value::Number(p.data_bytes),
             },
         ],
     )
+}
+
+fn put_message(out: &mut Blob, style: Style, p: &MessageFacts) -> Result<(), NoMemory>
+    ensures { OnOk result (out.new.bytes ≡ out.old.bytes ++ fields_text style (message_fields p.now)) }
+{
+    put_header(out, style, &p.header)?;
+    put_sizes(out, style, p)
 }
 
 fn put_hello(out: &mut Blob, style: Style, p: &Hello) -> Result<(), NoMemory>
@@ -72,11 +94,11 @@ fn put_hello(out: &mut Blob, style: Style, p: &Hello) -> Result<(), NoMemory>
         style,
         &[
             Field {
-                name: "entity",
+                name: FieldName::Entity,
                 value: Value::Number(u64::from(p.entity)),
             },
             Field {
-                name: "seen",
+                name: FieldName::Seen,
                 value: Value::Address(&p.seen),
             },
         ],
@@ -91,15 +113,15 @@ fn put_auth_request(out: &mut Blob, style: Style, p: &AuthRequest) -> Result<(),
         style,
         &[
             Field {
-                name: "method",
+                name: FieldName::Method,
                 value: Value::Number(u64::from(p.method)),
             },
             Field {
-                name: "modes",
+                name: FieldName::Modes,
                 value: Value::Numbers(p.modes.as_slice()),
             },
             Field {
-                name: "payload",
+                name: FieldName::Payload,
                 value: Value::Bytes(p.payload.as_slice()),
             },
         ],
@@ -114,19 +136,19 @@ fn put_auth_bad_method(out: &mut Blob, style: Style, p: &AuthBadMethod) -> Resul
         style,
         &[
             Field {
-                name: "method",
+                name: FieldName::Method,
                 value: Value::Number(u64::from(p.method)),
             },
             Field {
-                name: "result",
+                name: FieldName::Outcome,
                 value: Value::Signed(i64::from(p.outcome)),
             },
             Field {
-                name: "methods",
+                name: FieldName::Methods,
                 value: Value::Numbers(p.methods.as_slice()),
             },
             Field {
-                name: "modes",
+                name: FieldName::Modes,
                 value: Value::Numbers(p.modes.as_slice()),
             },
         ],
@@ -141,15 +163,15 @@ fn put_auth_done(out: &mut Blob, style: Style, p: &AuthDone) -> Result<(), NoMem
         style,
         &[
             Field {
-                name: "global_id",
+                name: FieldName::GlobalId,
                 value: Value::Number(p.global_id),
             },
             Field {
-                name: "mode",
+                name: FieldName::Mode,
                 value: Value::Number(u64::from(p.mode)),
             },
             Field {
-                name: "payload",
+                name: FieldName::Payload,
                 value: Value::Bytes(p.payload.as_slice()),
             },
         ],
@@ -163,7 +185,7 @@ fn put_auth_signature(out: &mut Blob, style: Style, p: &AuthSignature) -> Result
         out,
         style,
         &[Field {
-            name: "signature",
+            name: FieldName::Signature,
             value: Value::Bytes(p.signature.as_slice()),
         }],
     )
@@ -177,35 +199,35 @@ fn put_client_ident(out: &mut Blob, style: Style, p: &ClientIdent) -> Result<(),
         style,
         &[
             Field {
-                name: "addrs",
+                name: FieldName::Addrs,
                 value: Value::Addresses(p.addrs.as_slice()),
             },
             Field {
-                name: "target",
+                name: FieldName::Target,
                 value: Value::Ipv4(&p.target),
             },
             Field {
-                name: "gid",
+                name: FieldName::Gid,
                 value: Value::Signed(p.gid),
             },
             Field {
-                name: "global",
+                name: FieldName::Global,
                 value: Value::Number(p.global),
             },
             Field {
-                name: "supported",
+                name: FieldName::Supported,
                 value: Value::Bits(p.supported),
             },
             Field {
-                name: "required",
+                name: FieldName::Required,
                 value: Value::Bits(p.required),
             },
             Field {
-                name: "flags",
+                name: FieldName::Flags,
                 value: Value::Bits(p.flags),
             },
             Field {
-                name: "cookie",
+                name: FieldName::Cookie,
                 value: Value::Bits(p.cookie),
             },
         ],
@@ -220,31 +242,31 @@ fn put_server_ident(out: &mut Blob, style: Style, p: &ServerIdent) -> Result<(),
         style,
         &[
             Field {
-                name: "addrs",
+                name: FieldName::Addrs,
                 value: Value::Addresses(p.addrs.as_slice()),
             },
             Field {
-                name: "gid",
+                name: FieldName::Gid,
                 value: Value::Signed(p.gid),
             },
             Field {
-                name: "global",
+                name: FieldName::Global,
                 value: Value::Number(p.global),
             },
             Field {
-                name: "supported",
+                name: FieldName::Supported,
                 value: Value::Bits(p.supported),
             },
             Field {
-                name: "required",
+                name: FieldName::Required,
                 value: Value::Bits(p.required),
             },
             Field {
-                name: "flags",
+                name: FieldName::Flags,
                 value: Value::Bits(p.flags),
             },
             Field {
-                name: "cookie",
+                name: FieldName::Cookie,
                 value: Value::Bits(p.cookie),
             },
         ],
@@ -262,7 +284,7 @@ fn put_ident_missing_features(
         out,
         style,
         &[Field {
-            name: "features",
+            name: FieldName::Features,
             value: Value::Bits(p.bits),
         }],
     )
@@ -276,27 +298,27 @@ fn put_session_reconnect(out: &mut Blob, style: Style, p: &SessionReconnect) -> 
         style,
         &[
             Field {
-                name: "addrs",
+                name: FieldName::Addrs,
                 value: Value::Addresses(p.addrs.as_slice()),
             },
             Field {
-                name: "client_cookie",
+                name: FieldName::ClientCookie,
                 value: Value::Bits(p.client),
             },
             Field {
-                name: "server_cookie",
+                name: FieldName::ServerCookie,
                 value: Value::Bits(p.server),
             },
             Field {
-                name: "global",
+                name: FieldName::Global,
                 value: Value::Number(p.global),
             },
             Field {
-                name: "connect",
+                name: FieldName::Connect,
                 value: Value::Number(p.connect),
             },
             Field {
-                name: "seen",
+                name: FieldName::Seen,
                 value: Value::Number(p.seen),
             },
         ],
@@ -310,7 +332,7 @@ fn put_session_reset(out: &mut Blob, style: Style, p: &SessionReset) -> Result<(
         out,
         style,
         &[Field {
-            name: "full",
+            name: FieldName::Full,
             value: Value::Flag(p.full),
         }],
     )
@@ -323,7 +345,7 @@ fn put_session_retry(out: &mut Blob, style: Style, p: &SessionRetry) -> Result<(
         out,
         style,
         &[Field {
-            name: "connect",
+            name: FieldName::Connect,
             value: Value::Number(p.connect),
         }],
     )
@@ -340,7 +362,7 @@ fn put_session_retry_global(
         out,
         style,
         &[Field {
-            name: "global",
+            name: FieldName::Global,
             value: Value::Number(p.global),
         }],
     )
@@ -357,7 +379,7 @@ fn put_session_reconnect_ok(
         out,
         style,
         &[Field {
-            name: "seen",
+            name: FieldName::Seen,
             value: Value::Number(p.seen),
         }],
     )
@@ -371,11 +393,11 @@ fn put_keepalive(out: &mut Blob, style: Style, p: &Keepalive) -> Result<(), NoMe
         style,
         &[
             Field {
-                name: "seconds",
+                name: FieldName::Seconds,
                 value: Value::Number(u64::from(p.seconds)),
             },
             Field {
-                name: "nanoseconds",
+                name: FieldName::Nanoseconds,
                 value: Value::Number(u64::from(p.nanos)),
             },
         ],
@@ -390,11 +412,11 @@ fn put_keepalive_ack(out: &mut Blob, style: Style, p: &KeepaliveAck) -> Result<(
         style,
         &[
             Field {
-                name: "seconds",
+                name: FieldName::Seconds,
                 value: Value::Number(u64::from(p.seconds)),
             },
             Field {
-                name: "nanoseconds",
+                name: FieldName::Nanoseconds,
                 value: Value::Number(u64::from(p.nanos)),
             },
         ],
@@ -408,7 +430,7 @@ fn put_ack(out: &mut Blob, style: Style, p: &Ack) -> Result<(), NoMemory>
         out,
         style,
         &[Field {
-            name: "seen",
+            name: FieldName::Seen,
             value: Value::Number(p.seen),
         }],
     )
@@ -459,7 +481,7 @@ fn put_fault_word(out: &mut Blob, style: Style, why: &str) -> Result<(), NoMemor
         out,
         style,
         &[Field {
-            name: "fault",
+            name: FieldName::Fault,
             value: Value::Word(why),
         }],
     )
@@ -473,11 +495,11 @@ fn put_fault_at(out: &mut Blob, style: Style, why: &str, field: u8) -> Result<()
         style,
         &[
             Field {
-                name: "fault",
+                name: FieldName::Fault,
                 value: Value::Word(why),
             },
             Field {
-                name: "field",
+                name: FieldName::Field,
                 value: Value::Number(u64::from(field)),
             },
         ],
@@ -510,7 +532,7 @@ fn put_aborted(out: &mut Blob, style: Style) -> Result<(), NoMemory>
         out,
         style,
         &[Field {
-            name: "aborted",
+            name: FieldName::Aborted,
             value: Value::Flag(true),
         }],
     )
@@ -525,11 +547,11 @@ pub(crate) fn put_banner(out: &mut Blob, style: Style, b: &Banner) -> Result<(),
         style,
         &[
             Field {
-                name: "supported",
+                name: FieldName::Supported,
                 value: Value::Bits(b.supported),
             },
             Field {
-                name: "required",
+                name: FieldName::Required,
                 value: Value::Bits(b.required),
             },
         ],

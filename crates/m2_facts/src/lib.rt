@@ -7,6 +7,7 @@
 #![tactic(auto)]
 
 mod facts;
+mod field_name;
 mod fields;
 mod header;
 mod laws;

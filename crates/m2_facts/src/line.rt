@@ -13,12 +13,12 @@ use m2_control::Banner;
 use m2_frame::{FrameView, Tag};
 use std::alloc::Global;
 
-fn before_place(style: Style) -> &'static [u8]
-    ensures { result.now ≡ before_place style }
+fn put_before_place(out: &mut Blob, style: Style) -> Result<(), NoMemory>
+    ensures { OnOk result (out.new.bytes ≡ out.old.bytes ++ before_place style) }
 {
     match style {
-        Style::Line => b"",
-        Style::Json => b"{\"at\":",
+        Style::Line => Ok(()),
+        Style::Json => out.push_all(b"{\"at\":"),
     }
 }
 
@@ -31,12 +31,12 @@ fn before_tag(style: Style) -> &'static [u8]
     }
 }
 
-fn behind_tag(style: Style) -> &'static [u8]
-    ensures { result.now ≡ behind_tag style }
+fn put_behind_tag(out: &mut Blob, style: Style) -> Result<(), NoMemory>
+    ensures { OnOk result (out.new.bytes ≡ out.old.bytes ++ behind_tag style) }
 {
     match style {
-        Style::Line => b"",
-        Style::Json => b"\"",
+        Style::Line => Ok(()),
+        Style::Json => out.push_all(b"\""),
     }
 }
 
@@ -54,11 +54,11 @@ fn line_end(style: Style) -> &'static [u8]
 fn put_head(out: &mut Blob, style: Style, place: u64, name: &str) -> Result<(), NoMemory>
     ensures { OnOk result (out.new.bytes ≡ out.old.bytes ++ head_text style place name.now) }
 {
-    out.push_all(before_place(style))?;
+    put_before_place(out, style)?;
     put_decimal(out, place)?;
     out.push_all(before_tag(style))?;
     out.push_all(name.as_bytes())?;
-    out.push_all(behind_tag(style))
+    put_behind_tag(out, style)
 }
 
 /// Appends the line of a frame with this tag that says these facts.

@@ -2,9 +2,10 @@
 
 ghost use Rattle.std.specs.Prelude.{◌≡◌, ◌++◌, ◌∷◌, map, OnOk};
 ghost use Rattle.std.specs.Fmt.{decimal, signed_decimal};
-ghost use Rattle.m2_facts.specs.Value.{told_by, said_by, place_of, dotted, ip_text, kind_text, ip_port_text, ipv4_text, place_text, quoted, more_texts, list_text, quoted_place, bits_text, said_text, field_text, fields_text, quote, flag_text, before_name, behind_name};
+ghost use Rattle.m2_facts.specs.Value.{told_by, said_by, place_of, dotted, ip_text, kind_text, ip_port_text, ipv4_text, place_text, quoted, more_texts, list_text, quoted_place, bits_text, said_text, field_text, fields_text, quote, flag_text};
 ghost use Rattle.m2_bytes.specs.Hexadecimal.{hex_text};
 
+use crate::field_name::{FieldName, before_value};
 use crate::style::Style;
 use itoa::Buffer;
 use m2_addr::{Addr, AnyAddr};
@@ -29,7 +30,7 @@ pub(crate) enum Value<'a> {
 /// A field: its name, and what it says.
 #[derive(Clone, Copy, Debug)]
 pub(crate) struct Field<'a> {
-    pub name: &'a str,
+    pub name: FieldName,
     pub value: Value<'a>,
 }
 
@@ -98,30 +99,30 @@ fn put_address(out: &mut Blob, a: &AnyAddr) -> Result<(), NoMemory>
     }
 }
 
-/// The quote on either side of a text in JSON.
-fn quote(style: Style) -> &'static [u8]
-    ensures { result.now ≡ quote style }
+/// Appends the quote on either side of a text in JSON.
+fn put_quote(out: &mut Blob, style: Style) -> Result<(), NoMemory>
+    ensures { OnOk result (out.new.bytes ≡ out.old.bytes ++ quote style) }
 {
     match style {
-        Style::Line => b"",
-        Style::Json => b"\"",
+        Style::Line => Ok(()),
+        Style::Json => out.push_all(b"\""),
     }
 }
 
 fn put_quoted_address(out: &mut Blob, style: Style, a: &AnyAddr) -> Result<(), NoMemory>
     ensures { OnOk result (out.new.bytes ≡ out.old.bytes ++ quoted_place style (place_of a.now)) }
 {
-    out.push_all(quote(style))?;
+    put_quote(out, style)?;
     put_address(out, a)?;
-    out.push_all(quote(style))
+    put_quote(out, style)
 }
 
 fn put_quoted_ipv4(out: &mut Blob, style: Style, a: &Addr) -> Result<(), NoMemory>
     ensures { OnOk result (out.new.bytes ≡ out.old.bytes ++ quoted style (ipv4_text a.now)) }
 {
-    out.push_all(quote(style))?;
+    put_quote(out, style)?;
     put_ipv4(out, a)?;
-    out.push_all(quote(style))
+    put_quote(out, style)
 }
 
 fn put_more_addresses(out: &mut Blob, style: Style, addresses: &[AnyAddr]) -> Result<(), NoMemory>
@@ -175,26 +176,26 @@ fn put_numbers(out: &mut Blob, numbers: &[u32]) -> Result<(), NoMemory>
 fn put_bits(out: &mut Blob, style: Style, n: u64) -> Result<(), NoMemory>
     ensures { OnOk result (out.new.bytes ≡ out.old.bytes ++ quoted style (bits_text n)) }
 {
-    out.push_all(quote(style))?;
+    put_quote(out, style)?;
     out.push_all(b"0x")?;
     put_hex(out, &n.to_be_bytes())?;
-    out.push_all(quote(style))
+    put_quote(out, style)
 }
 
 fn put_bytes(out: &mut Blob, style: Style, bytes: &[u8]) -> Result<(), NoMemory>
     ensures { OnOk result (out.new.bytes ≡ out.old.bytes ++ quoted style (hex_text bytes.now)) }
 {
-    out.push_all(quote(style))?;
+    put_quote(out, style)?;
     put_hex(out, bytes)?;
-    out.push_all(quote(style))
+    put_quote(out, style)
 }
 
 pub(crate) fn put_word(out: &mut Blob, style: Style, word: &[u8]) -> Result<(), NoMemory>
     ensures { OnOk result (out.new.bytes ≡ out.old.bytes ++ quoted style word.now) }
 {
-    out.push_all(quote(style))?;
+    put_quote(out, style)?;
     out.push_all(word)?;
-    out.push_all(quote(style))
+    put_quote(out, style)
 }
 
 fn flag_word(flag: bool) -> &'static [u8]
@@ -222,32 +223,12 @@ fn put_value(out: &mut Blob, style: Style, value: &Value<'_>) -> Result<(), NoMe
     }
 }
 
-fn before_name(style: Style) -> &'static [u8]
-    ensures { result.now ≡ before_name style }
-{
-    match style {
-        Style::Line => b" ",
-        Style::Json => b",\"",
-    }
-}
-
-fn behind_name(style: Style) -> &'static [u8]
-    ensures { result.now ≡ behind_name style }
-{
-    match style {
-        Style::Line => b"=",
-        Style::Json => b"\":",
-    }
-}
-
 /// Appends a field.
 #[tactic(auto, unfolding(crate::specs::Value::field_text))]
 fn put_field(out: &mut Blob, style: Style, field: &Field<'_>) -> Result<(), NoMemory>
     ensures { OnOk result (out.new.bytes ≡ out.old.bytes ++ field_text style (told_by field.now)) }
 {
-    out.push_all(before_name(style))?;
-    out.push_all(field.name.as_bytes())?;
-    out.push_all(behind_name(style))?;
+    out.push_all(before_value(style, field.name))?;
     put_value(out, style, &field.value)
 }
 
