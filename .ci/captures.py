@@ -7,6 +7,7 @@ frame. examples/captures has the capture of one of them, and its picture. What r
 
 The programs are those that rt ci built: crates/run_trace/out/run_trace and crates/frame_facts/out/frame_facts.
 """
+import json
 import os
 import random
 import struct
@@ -22,7 +23,7 @@ import ladder
 import packets
 import run_trace
 import wire
-from conversation import ANSWERS, Story
+from conversation import ANSWERS, Story, summary_words
 from fates import Fates
 
 PICTURES, EXAMPLE = os.path.join(TOP, "examples", "pictures"), os.path.join(TOP, "examples", "captures", "resumed.pcap")
@@ -99,8 +100,8 @@ def told_otherwise(name, run, connections, events):
             answers = [it for it in frames if it.frame["tag"] in ANSWERS]
             for event, judged in zip(answers, [it for it in socket.judged if it.node == node and is_told_by_its_answer(it)]):
                 said = [mark.removeprefix("row ") for mark in event.marks if mark.startswith("row ")]
-                if said != [fates.rows[judged]] and (said or event.frame["tag"] not in ("SERVER_IDENT", "SESSION_RESET")):
-                    yield f"{name}: on {socket.name} {node} answered by the row {fates.rows[judged]}, and {said} is told"
+                if said != [judged.named] and (said or event.frame["tag"] not in ("SERVER_IDENT", "SESSION_RESET")):
+                    yield f"{name}: on {socket.name} {node} answered by the row {judged.named}, and {said} is told"
             left = [it for it in socket.flights if it.writer == node and not it.written and it.put]
             notes = [it for it in events if it.connection is connection and it.source == source and it.note and "isn't whole" in it.note]
             if len(left) != len(notes):
@@ -109,13 +110,14 @@ def told_otherwise(name, run, connections, events):
 
 def written_again(run):
     """How many messages are written whole once more on another socket of the same session."""
-    seen, count = set(), 0
+    seen, count, cookies = set(), 0, {}
     for row in run.rows:
+        cookies |= {both: server for both, (_, _, server, *_) in row.sessions.items()}
         for event in row.events:
             if event.what == "wrote":
                 for flight in event.socket.flights:
                     if flight.written is event and flight.tag == wire.MESSAGE:
-                        key = event.node, event.peer, flight.says["seq"], bytes(b"".join(flight.frame.segments[1:]))
+                        key = event.node, event.peer, cookies.get((event.node, event.peer)), flight.says["seq"], bytes(b"".join(flight.frame.segments[1:]))
                         count += key in seen
                         seen.add(key)
     return count
@@ -146,26 +148,128 @@ OTHERWISE = [  # what a real daemon writes and this project's ends don't: the fr
     (wire.framed(wire.AUTH_DONE, wire.le(0, 8) + wire.le(2, 4) + wire.le(0, 4)), False, "secure mode"),
 ]
 
+BOTH = [(True, wire.banner()), (False, wire.banner())]
+DONE = {mode: wire.framed(wire.AUTH_DONE, wire.le(0, 8) + wire.le(mode, 4) + wire.le(0, 4)) for mode in (1, 2)}
+BANNER_OF_0 = b"ceph v2\n\x10\0" + bytes(16)
+CIPHER = bytes(range(100, 196))  # bytes that are no frame
+RECONNECT = wire.framed(wire.RECONNECT, vector(HERE) + wire.words(7, 8, 2, 1, 4))
+NAMED = [  # connections by what the two ends write, and what is told of them
+    ("secure mode", [*BOTH, (False, DONE[2]), (True, CIPHER), (False, CIPHER), (True, CIPHER)],
+     ["7002 is in secure mode: 96 bytes are cipher text", "40000 is in secure mode: 192 bytes are cipher text"]),
+    ("msgr1", [(True, b"ceph v027" + bytes(136)), (False, b"ceph v027" + bytes(272))], ["40000 speaks msgr1", "7002 speaks msgr1"]),
+    ("msgr2.0", [(it, BANNER_OF_0 + (CIPHER if it else b"")) for it in (True, False)], ["40000 speaks msgr2.0, whose frames have another form: 96 bytes aren't told"]),
+    ("another protocol", [(True, b"GET / HTTP/1.1\r\n\r\n")], ["40000 sends no banner: this isn't a connection of Ceph"]),
+    ("what a reconnect leaves out", [
+        *BOTH, (True, RECONNECT), (False, wire.framed(wire.RECONNECT_OK, wire.words(5))), (True, wire.message(42, 127, (b"front",), 8, 0)),
+        (False, wire.message(43, 127, (b"front",), 5, 0)), (True, wire.message(42, 127, (b"front",), 11, 0))
+    ], ["seq=8 tid=0 priority=127 ack=0 front=5 middle=0 data=0 (session 0, 2 numbers before it are missing)",
+        "seq=5 tid=0 priority=127 ack=0 front=5 middle=0 data=0 (session 0)", "front=5 middle=0 data=0 (session 0, 2 numbers before it are missing)"]),
+    ("an acknowledgement that goes back", [
+        *BOTH, (True, RECONNECT), (False, wire.framed(wire.RECONNECT_OK, wire.words(5))), *((False, wire.framed(wire.ACK, wire.words(it))) for it in (7, 6))
+    ], ["ACK seen=7 (session 0)", "ACK seen=6 (session 0, acknowledges 6, and 7 before)"]),
+]
 
-def unlike_otherwise():
-    """What of frames that the profile hasn't isn't told by --check."""
+
+def events_of(said, is_checked=False):
+    """What is told of one connection, on which the two ends write these bytes in turn: whether it is the opener, and what it writes."""
     sent, places = [], {True: 0, False: 0}
-    for moment, (is_opener, data) in enumerate([(True, wire.banner()), (False, wire.banner()), *((way, frame) for frame, way, _ in OTHERWISE)]):
+    for moment, (is_opener, data) in enumerate(said):
         ends = ("127.0.0.1:40000", "127.0.0.1:7002")[:: 1 if is_opener else -1]
         if places[is_opener] == 0:
             sent.append(packets.Packet(moment, *ends, 0, 2 if is_opener else 18, b""))
         sent.append(packets.Packet(moment, *ends, 1 + places[is_opener], 16, data))
         places[is_opener] += len(data)
-    gathered, story = packets.Gathered(), Story(FACTS, True)
+    gathered, story = packets.Gathered(), Story(FACTS, is_checked)
     for packet in sorted(sent, key=lambda it: (not it.syn, it.time)):
         gathered.take(packet)
     gathered.end()
-    found = [event for event in story.events(gathered.all, True) if event.frame and event.frame["tag"] != "BANNER"]
+    return story.events(gathered.all, True)
+
+
+def named_otherwise():
+    """Which connection isn't told by its name, and which mark of a session isn't told."""
+    for name, said, due in NAMED:
+        found = [event.words().split(" ", 2)[2] for event in events_of(said)]
+        for sentence in due:
+            if not any(sentence in it for it in found):
+                yield f"{name}: {sentence!r} isn't told, but {found}"
+        if sum("sent" in it and "aren't told" in it for it in found) > sum("aren't told" in it for it in due):
+            yield f"{name}: bytes aren't told, and no name is: {found}"
+
+
+def unlike_otherwise():
+    """What of frames that the profile hasn't isn't told by --check."""
+    said = [(True, wire.banner()), (False, wire.banner()), *((way, frame) for frame, way, _ in OTHERWISE)]
+    found = [event for event in events_of(said, True) if event.frame and event.frame["tag"] != "BANNER"]
     if len(found) != len(OTHERWISE):
         yield f"--check: {len(OTHERWISE)} frames were written, and {len(found)} are told"
     for event, (_, _, said) in zip(found, OTHERWISE):
         if said is None and event.unlike or said and not any(said in it for it in event.unlike):
             yield f"--check: of {event.frame['tag']} is told {event.unlike}, and {said!r} is due"
+
+
+def blocks(kind, data, link):
+    """A pcapng file of the packets of a pcap file behind an interface with another kind of packets, of which it has none, and another
+    unit of time."""
+    block = lambda kind, body: struct.pack("<II", kind, 12 + len(body)) + body + struct.pack("<I", 12 + len(body))
+    parts = [block(0x0A0D0D0A, struct.pack("<IHHq", 0x1A2B3C4D, 1, 0, -1)), block(1, struct.pack("<HHI", 276, 0, 0) + struct.pack("<HHB3xI", 9, 1, 9, 0)),
+             block(1, struct.pack("<HHI", link, 0, 0))]
+    at = 24
+    while at < len(data):
+        seconds, micros, size, whole = struct.unpack_from("<IIII", data, at)
+        time, body = seconds * 1000000 + micros, data[at + 16 : at + 16 + size]
+        parts.append(block(kind, struct.pack("<IIIII", 1, time >> 32, time & 0xFFFFFFFF, size, whole) + body + bytes(-size % 4)))
+        at += 16 + size
+    return b"".join(parts)
+
+
+def cut_off(data, most):
+    """The capture as tcpdump -s records it."""
+    at, parts = 24, [data[:24]]
+    while at < len(data):
+        seconds, micros, size, whole = struct.unpack_from("<IIII", data, at)
+        parts.append(struct.pack("<IIII", seconds, micros, min(size, most), whole) + data[at + 16 : at + 16 + min(size, most)])
+        at += 16 + size
+    return b"".join(parts)
+
+
+def run_capture(*words, **how):
+    said = [sys.executable, os.path.join(TOP, "tools", "capture"), "--program", FACTS, *words]
+    return subprocess.run(said, capture_output=True, text=True, **how)
+
+
+def read_otherwise():
+    """What of files of other forms, and by the options, is told otherwise than of the example."""
+    with open(EXAMPLE, "rb") as it:
+        good = it.read()
+    plain = run_capture(EXAMPLE)
+    if plain.returncode or plain.stderr:
+        yield f"{EXAMPLE}: status {plain.returncode} and {plain.stderr!r}"
+    with tempfile.TemporaryDirectory() as room:
+        other, part, none = (os.path.join(room, name) for name in ("other", "part", "none"))
+        for name, data in ((other, blocks(6, good, 1)), (part, cut_off(good, 96)), (none, good[:24])):
+            with open(name, "wb") as out:
+                out.write(data)
+        if run_capture(other).stdout != plain.stdout:
+            yield "a pcapng file with two interfaces is told otherwise"
+        if "only the first bytes were recorded" not in run_capture(part).stderr:
+            yield "of packets that were recorded in part nothing is said"
+        if "no packet of TCP" not in run_capture(none).stderr:
+            yield "of a capture without packets nothing is said"
+    with open(EXAMPLE, "rb") as it:
+        if run_capture("--follow", "/dev/stdin", stdin=it).stdout != plain.stdout:
+            yield "--follow tells something else"
+    for option, value in (("--peer", "10.9.8.7"), ("--connection", "2"), ("--tag", "WAIT")):
+        if (ran := run_capture(option, value, EXAMPLE)).returncode or ran.stdout or "nothing in it" not in ran.stderr:
+            yield f"{option} {value}: status {ran.returncode}, {ran.stdout!r} and {ran.stderr!r}"
+    whole = [json.loads(line) for line in run_capture("--summary", "--json", EXAMPLE).stdout.splitlines()]
+    of_one = [json.loads(line) for line in run_capture("--summary", "--json", "--connection", "1", EXAMPLE).stdout.splitlines()]
+    if of_one != whole[1:] or [summary_words(it) for it in whole] != run_capture("--summary", EXAMPLE).stdout.splitlines():
+        yield f"--summary tells {whole}, and of one connection {of_one}"
+    with open("/dev/full", "wb") as full:
+        ran = subprocess.run([sys.executable, os.path.join(TOP, "tools", "capture"), "--program", FACTS, "--summary", EXAMPLE], stdout=full, stderr=subprocess.PIPE, text=True)
+    if ran.returncode != 2 or ran.stderr != "capture: standard output: No space left on device\n":
+        yield f"where nothing can be printed: status {ran.returncode} and {ran.stderr!r}"
 
 
 def bad_inputs():
@@ -186,13 +290,15 @@ def bad_inputs():
         files |= {
             "inside a packet": good[:1000], "damaged or cut short": good[:10], "link type 105": good[:20] + b"\x69\0\0\0" + good[24:],
             "it ends inside": good[:32] + b"\xff\xff\xff\xff" + good[36:], "damaged or cut short: unknown": b"\n\r\r\n" + bytes(60),
+            "a packet of interface 1": blocks(6, good, 1)[:60] + blocks(6, good, 1)[80:], "a block of 4 bytes": blocks(6, good, 1)[:32] + b"\4\0\0\0" + bytes(30),
         }
     except packets.BadCapture:
         pass
     words = {
         "no message type": ["--type", "NOBODY"], "no tag": ["--tag", "NOBODY"], "invalid int value": ["--connection", "x"],
         "invalid float value": ["--from", "x"], "unrecognized arguments": ["--nobody"], "--draw goes with": ["--draw", "--json"],
-        "isn't built": ["--program", "/nowhere"], "No such file": [os.path.join(TOP, "nowhere")],
+        "isn't built": ["--program", "/nowhere"], "No such file": [os.path.join(TOP, "nowhere")], "no message type 65536": ["--type", "65536"],
+        "--summary goes with": ["--summary", "--tag", "ACK"],
     }
     return files, words
 
@@ -249,7 +355,12 @@ def main():
                 if it.read() != picture:
                     wrong.append(f"{PICTURE}: tools/capture --draw draws another picture")
         count += 1
-    wrong += [*unlike_otherwise(), *told_badly()]
+    wrong += [*unlike_otherwise(), *named_otherwise(), *told_badly()]
+    try:
+        packets.load()
+        wrong += read_otherwise()
+    except packets.BadCapture:
+        pass
     for it in wrong:
         print(it)
     print(f"captures: {count} runs are told as their traces have them" if not wrong else f"captures: {len(wrong)} are told otherwise")

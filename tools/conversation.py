@@ -22,7 +22,7 @@ FAULTS = {  # of docs/FRAMES.md
 ASKS = ("CLIENT_IDENT", "SESSION_RECONNECT")
 ANSWERS = ("SERVER_IDENT", "SESSION_RECONNECT_OK", "SESSION_RESET", "SESSION_RETRY", "SESSION_RETRY_GLOBAL", "WAIT", "IDENT_MISSING_FEATURES")
 ROWS = {  # of the tables of docs/PROTOCOL.md: that by which an ask is answered so, where the answer tells it
-    ("CLIENT_IDENT", "WAIT"): "otherwise", ("SESSION_RECONNECT", "SESSION_RECONNECT_OK"): "otherwise",
+    ("CLIENT_IDENT", "WAIT"): "mine_wins", ("SESSION_RECONNECT", "SESSION_RECONNECT_OK"): "goes_on",
     ("SESSION_RECONNECT", "SESSION_RETRY"): "old_connect", ("SESSION_RECONNECT", "SESSION_RETRY_GLOBAL"): "old_number",
     ("SESSION_RECONNECT", "WAIT"): "mine_wins",
 }
@@ -76,12 +76,16 @@ def word(value):
 def facts_of(program, data):
     """What each whole frame of these bytes says, and at which of them and with which fault of docs/FRAMES.md no frame stands; None
     where they are frames to their end."""
-    with tempfile.NamedTemporaryFile() as file:
-        file.write(data)
-        file.flush()
-        ran = subprocess.run([program, "--json", file.name], capture_output=True)
+    try:
+        with tempfile.NamedTemporaryFile() as file:
+            file.write(data)
+            file.flush()
+            ran = subprocess.run([program, "--json", file.name], capture_output=True)
+    except OSError as fault:
+        raise BadProgram(f"{fault.filename or 'a temporary file'}: {fault.strerror}") from None
     if ran.returncode not in (0, 10):
-        raise BadProgram(f"{program} ends with status {ran.returncode}: {ran.stderr.decode(errors='replace').strip()}")
+        said = ran.stderr.decode(errors="replace").strip().partition("\n")[0]
+        raise BadProgram(f"{program} ends with status {ran.returncode}{': ' if said else ''}{said}")
     try:
         frames = [json.loads(line) for line in ran.stdout.splitlines()]
     except ValueError:
@@ -149,7 +153,7 @@ class Teller:
         found = first_frame(data)
         if found is None:
             self.over = "unknown"
-            yield self.note(time, f"has sent {len(data)} bytes in which no frame begins")
+            yield self.note(time, f"has sent {len(data)} bytes in which no frame begins: secure mode, or not Ceph's")
         elif found or piece.start == 0:
             yield self.note(time, f"is told from place {piece.start + found} on, where a frame begins")
         self.told = found or 0
@@ -310,6 +314,8 @@ class Sessions:
             known = self.by_cookies.get(cookies)
             self.carry(event, known or self.begin(cookies), f"it goes on, has accepted up to {frame['seen']}")
             event.session.count("resumed")
+            target = connection.acceptor if source == connection.opener else connection.opener
+            self.last[connection, target], self.last[connection, source] = frame["seen"], ask["seen"]
         else:
             event.session = self.by_cookies.get(self.key(ask.get("client_cookie"), ask.get("server_cookie")))
             if event.session:
@@ -410,17 +416,7 @@ class Story:
                 is_seen = connection.ends[connection.opener].opened
                 said = "opens a connection to" if is_seen else "has a connection, from before the capture, to"
                 found.append(Event(connection.time, connection, connection.opener, note=f"{connection.opener} {said} {connection.acceptor}"))
-            for direction in connection.ends.values():
-                teller = self.tellers.setdefault(direction, Teller(self.program, connection, direction))
-                other = self.tellers.get(next(it for it in connection.ends.values() if it is not direction))
-                for event in teller.advance(is_last):
-                    if other and event.frame and teller.is_secure:
-                        other.is_secure = True
-                    found.append(event)
-                for time, said in ((direction.rst, "breaks the connection"), (direction.fin, "closes")):
-                    if time is not None and (direction, said) not in self.closed:
-                        self.closed.add((direction, said))
-                        found.append(teller.note(time, said))
+            found += self.told(connection, is_last)
         found.sort(key=lambda event: event.time)  # those of one time stay as they are: frames before the end behind them
         for event in found:
             if event.frame:
@@ -433,17 +429,47 @@ class Story:
                 self.counts[key] = self.counts.get(key, 0) + 1
         return found
 
+    def told(self, connection, is_last):
+        """What isn't told yet of either end, the opener first. The acceptor is read first: its AUTH_DONE tells the mode of both."""
+        ends = [connection.ends[it] for it in (connection.opener, connection.acceptor)]
+        opener, acceptor = (self.tellers.setdefault(it, Teller(self.program, connection, it)) for it in ends)
+        back = list(acceptor.advance(is_last))
+        opener.is_secure = opener.is_secure or acceptor.is_secure
+        there = list(opener.advance(is_last))
+        acceptor.is_secure = acceptor.is_secure or opener.is_secure
+        return [*there, *self.ended(opener), *back, *self.ended(acceptor)]
+
+    def ended(self, teller):
+        """That an end has closed or broken the connection, where that isn't told yet."""
+        direction = teller.direction
+        for time, said in ((direction.rst, "breaks the connection"), (direction.fin, "closes")):
+            if time is not None and (direction, said) not in self.closed:
+                self.closed.add((direction, said))
+                yield teller.note(time, said)
+
     def summary(self, connections):
-        """The connections, and then the sessions."""
+        """The connections, and then the sessions that they carry, as objects."""
         for connection in connections:
-            opener, acceptor = (connection.ends[it] for it in (connection.opener, connection.acceptor))
-            counts = [self.counts.get((connection, it.source), 0) for it in (opener, acceptor)]
+            ends = [connection.ends[it] for it in (connection.opener, connection.acceptor)]
             session = self.sessions.of.get(connection)
-            said = f"session {session.number}" if session else "no session"
-            over = sorted({self.tellers[it].over for it in (opener, acceptor)} - {None})
-            yield (f"connection {connection.number}: {connection.opener} opened it to {connection.acceptor}, "
-                   f"{counts[0]} frames in {opener.next} bytes there, {counts[1]} in {acceptor.next} back, {said}" + "".join(f", {it}" for it in over))
+            over = sorted({self.tellers[it].over for it in ends} - {None})
+            yield {
+                "connection": connection.number, "opener": connection.opener, "acceptor": connection.acceptor,
+                "frames": [self.counts.get((connection, it.source), 0) for it in ends], "bytes": [it.next for it in ends],
+            } | ({"session": session.number} if session else {}) | ({"over": over} if over else {})
         for session in self.sessions.all:
-            numbers = ", ".join(str(it.number) for it in session.connections)
-            counted = "".join(f", {count} {what}" for what, count in session.counts.items())
-            yield f"session {session.number}: cookies {' '.join(sorted(session.cookies))}, connections {numbers}{counted}"
+            if not set(connections).isdisjoint(session.connections):
+                numbers = [it.number for it in session.connections]
+                yield {"session": session.number, "cookies": sorted(session.cookies), "connections": numbers, "counts": session.counts}
+
+
+def summary_words(value):
+    """An object of the summary as one line."""
+    if "opener" in value:
+        session = f"session {value['session']}" if "session" in value else "no session"
+        (there, back), (bytes_there, bytes_back) = value["frames"], value["bytes"]
+        return ", ".join([f"connection {value['connection']}: {value['opener']} opened it to {value['acceptor']}", f"{there} frames in {bytes_there} bytes there",
+                          f"{back} in {bytes_back} back", session, *value.get("over", [])])
+    numbers = ", ".join(map(str, value["connections"]))
+    counted = [f"{count} {what}" for what, count in value["counts"].items()]
+    return ", ".join([f"session {value['session']}: cookies {' '.join(value['cookies'])}", f"connections {numbers}", *counted])
