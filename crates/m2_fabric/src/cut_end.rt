@@ -18,7 +18,7 @@ use std::marker::Model;
 /// made with, how many more bytes pass, and the count.
 #[derive(Debug, Drop)]
 pub struct CutEnd<E: End> {
-    end: E,
+    pub(crate) end: E,
     bound: Option<u64>,
     left: Option<u64>,
     faults: u64,

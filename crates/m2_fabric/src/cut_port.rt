@@ -129,6 +129,22 @@ impl<P: Port> Port for CutPort<P> {
         self.port.poll(most)
     }
 
+    fn leave(&self, end: &mut CutEnd<P::End>)
+        ensures { ⟦<CutEnd<P::End> as End>⟧.seen end.new ≡ ⟦<CutEnd<P::End> as End>⟧.seen end.old }
+    {
+        self.port.leave(&mut end.end);
+    }
+
+    fn join(&self, end: &mut CutEnd<P::End>)
+        ensures { ⟦<CutEnd<P::End> as End>⟧.seen end.new ≡ ⟦<CutEnd<P::End> as End>⟧.seen end.old }
+    {
+        self.port.join(&mut end.end);
+    }
+
+    fn ring(&self) {
+        self.port.ring();
+    }
+
     fn incoming(&mut self, id: SocketId) -> Result<(), NoMemory> {
         self.port.incoming(id)
     }

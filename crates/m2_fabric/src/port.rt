@@ -54,7 +54,8 @@ pub type CutList = Items<Cut>;
 ///
 /// Readers: [`made`](Port::made), [`missed`](Port::missed), [`refused`](Port::refused),
 /// [`quiet`](Port::quiet). Calls of the event thread: [`connect`](Port::connect),
-/// [`accept`](Port::accept), [`poll`](Port::poll). [`incoming`](Port::incoming) and
+/// [`accept`](Port::accept), [`poll`](Port::poll); of several of one node, [`leave`](Port::leave), [`join`](Port::join) and
+/// [`ring`](Port::ring). [`incoming`](Port::incoming) and
 /// [`hear`](Port::hear) are for the driver of ports in memory and do nothing at other ports.
 pub trait Port: Drop {
     type End: End;
@@ -90,6 +91,18 @@ pub trait Port: Drop {
     fn poll(&mut self, most: u32) -> Result<(), Failed>
         ensures causes { HasCause result (seen self.old).faults (seen self.new).faults }
         ensures stays { seen self.new ≡ with_poll (seen self.new).faults (seen self.old) };
+
+    /// Waits no more for what comes at an end: another event thread of the node goes on with it, and has its own port
+    /// [`join`](Port::join) it.
+    fn leave(&self, end: &mut Self::End)
+        ensures { Self.End.seen end.new ≡ Self.End.seen end.old };
+
+    /// Waits from now on for what comes at an end that another port of the node made.
+    fn join(&self, end: &mut Self::End)
+        ensures { Self.End.seen end.new ≡ Self.End.seen end.old };
+
+    /// Ends the waits of the node's other ports.
+    fn ring(&self);
 
     /// Puts a socket last among those that wait for [`accept`](Port::accept) at a port in memory, unless
     /// the port made it, it waits already, or it doesn't go to the port's own address. Another port

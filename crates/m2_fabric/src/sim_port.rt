@@ -216,6 +216,18 @@ impl Port for SimPort {
         Ok(())
     }
 
+    fn leave(&self, _end: &mut SimEnd) {
+        let _ = &self.quiet;
+    }
+
+    fn join(&self, _end: &mut SimEnd) {
+        let _ = &self.quiet;
+    }
+
+    fn ring(&self) {
+        let _ = &self.quiet;
+    }
+
     fn incoming(&mut self, id: SocketId) -> Result<(), NoMemory> {
         if id.goes_to(&self.at) && !self.made.has(&id) && !waits(&id, self.waiting.as_slice()) {
             self.waiting.push(SimEnd::new(self.alloc, id))?;

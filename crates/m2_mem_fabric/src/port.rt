@@ -175,6 +175,18 @@ impl<R: Wait + Copy> Port for MemPort<R> {
         Ok(())
     }
 
+    fn leave(&self, _end: &mut MemEnd<R>) {
+        let _ = &self.node;
+    }
+
+    fn join(&self, _end: &mut MemEnd<R>) {
+        let _ = &self.node;
+    }
+
+    fn ring(&self) {
+        self.bells.ring();
+    }
+
     fn incoming(&mut self, _id: SocketId) -> Result<(), NoMemory> {
         let _ = &self.node;
         Ok(())

@@ -6,6 +6,7 @@ ghost use Rattle.m2_mio.specs.End.{Asks, TakesWhole, answered, fresh_mio_end, un
 ghost use Rattle.m2_mio.specs.Stream.{IsWriteOf, answers_of};
 
 use crate::stream::{Asked, receive, send};
+use crate::watch::Watch;
 use m2_bytes::NoMemory;
 use m2_edge::Count;
 use m2_fabric::{End, EndLog, EndRead, EndWrite, MOST_MOVED, News, SocketId};
@@ -121,6 +122,24 @@ impl MioEnd {
                 self.log.put.as_slice(),
                 &mut self.sent,
             );
+        }
+    }
+
+    /// Is waited for in this set from now on, while it is open and where the system does it.
+    pub(crate) fn join(&mut self, all: &Watch)
+        ensures { self.new.shows ≡ self.old.shows }
+    {
+        if let Some(stream) = &mut self.stream {
+            let _ = all.add(stream);
+        }
+    }
+
+    /// Is waited for there no more.
+    pub(crate) fn leave(&mut self, all: &Watch)
+        ensures { self.new.shows ≡ self.old.shows }
+    {
+        if let Some(stream) = &mut self.stream {
+            let _ = all.remove(stream);
         }
     }
 

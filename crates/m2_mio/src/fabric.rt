@@ -1,6 +1,6 @@
 //! A fabric over sockets of the system.
 
-ghost use Rattle.std.specs.Prelude.{◌≡◌, [], length, map, replicate, is_some, IfOk, Some};
+ghost use Rattle.std.specs.Prelude.{◌≡◌, [], length, map, replicate, is_some, IfOk, OnOk, Some};
 ghost use Rattle.std.specs.Option.{option_copied};
 ghost use Rattle.m2_fabric.specs.Fabric.{Gathers};
 ghost use Rattle.m2_ports.specs.Nodes.{shown};
@@ -8,7 +8,7 @@ ghost use Rattle.m2_ports.specs.Port.{unused_port, with_acceptor};
 
 use crate::address::system_addr;
 use crate::end::MioEnd;
-use crate::port::MioPort;
+use crate::port::{Bells, MioPort};
 use m2_addr::Addr;
 use m2_bytes::{Items, NoMemory};
 use m2_edge::{Count, Failed};
@@ -17,6 +17,7 @@ use m2_ports::{GatheredNode, Nodes};
 use mio::net::TcpListener;
 use std::alloc::Global;
 use std::net::Net;
+use std::sync::Arc;
 
 /// A fabric over sockets of the system. It opens nothing before the first listen or split.
 ///
@@ -65,6 +66,48 @@ fn new_ports<R: Net + Copy>(
         ports.push(MioPort::new(rt, alloc, at)?)?;
     }
     Ok(ports)
+}
+
+/// So many, each of which can ring all, where there are several.
+fn ringing_ports<R: Net + Copy>(
+    rt: R,
+    alloc: Global,
+    at: Addr,
+    count: u32,
+) -> Result<Vec<MioPort<R>>, NoMemory>
+    ensures { IfOk result (λ ports. ports.items ≡ replicate count (unused_port at)) }
+{
+    let mut ports = new_ports(rt, alloc, at, count)?;
+    hang_bells(alloc, &mut ports)?;
+    Ok(ports)
+}
+
+/// Has the ports of a node ring one another, where there are several.
+fn hang_bells<R: Net + Copy>(alloc: Global, ports: &mut Vec<MioPort<R>>) -> Result<(), NoMemory>
+    ensures { OnOk result (ports.new.items ≡ ports.old.items) }
+{
+    if ports.len() < 2 {
+        return Ok(());
+    }
+    let mut wakers = Vec::with_capacity(alloc, ports.len())?;
+    'wakers: for port in ports.iter() {
+        wakers.push(port.waker())?;
+    }
+    let bells = Arc::new(alloc, wakers)?;
+    hang_all(ports.as_mut_slice(), &bells)
+}
+
+/// Has these ring all of these bells.
+fn hang_all<R: Net + Copy>(ports: &mut [MioPort<R>], bells: &Bells) -> Result<(), NoMemory>
+    ensures { OnOk result (ports.new ≡ ports.old) }
+{
+    match ports.split_first_mut() {
+        None => Ok(()),
+        Some((first, rest)) => {
+            first.hang(Arc::try_clone(bells)?);
+            hang_all(rest, bells)
+        }
+    }
 }
 
 /// Has the first port accept from a listener, where there are both.
@@ -124,7 +167,7 @@ impl<R: Net + Copy> Fabric for MioFabric<R> {
 
     fn split(&mut self, node: u32, centers: u32) -> Result<PortList<MioPort<R>>, NoMemory> {
         let at = self.nodes.at(node);
-        let mut ports = new_ports(self.rt, self.alloc, at, centers)?;
+        let mut ports = ringing_ports(self.rt, self.alloc, at, centers)?;
         let listener = self.nodes.hand_out(node, ports.len())?;
         give_listener(&mut ports, listener);
         Ok(Items::from_vec(ports))

@@ -14,11 +14,13 @@ use m2_bytes::NoMemory;
 use m2_edge::Failed;
 use m2_fabric::{Connect, End, News, Port, SocketId, SocketIdList, Taken};
 use m2_ports::PortBook;
+use mio::Waker;
 use mio::net::{TcpListener, TcpStream};
 use std::alloc::Global;
 use std::io::{Error, ErrorKind};
 use std::marker::Model;
 use std::net::Net;
+use std::sync::Arc;
 
 /// A port over sockets of the system. Contracts see what every port shows, and nothing of what waits.
 ///
@@ -39,7 +41,12 @@ pub struct MioPort<R: Copy> {
     listener: Option<TcpListener>,
     /// The last accept wanted a descriptor.
     wanting: bool,
+    /// Of each of the node's ports, what ends its waits. None while there is only this one.
+    bells: Option<Bells>,
 }
+
+/// What ends the waits of a node's ports, one each, in order; None where the system refused it.
+pub(crate) type Bells = Arc<Vec<Option<Waker>>, Global>;
 
 /// The system's number for a process that has no more descriptors.
 const NO_DESCRIPTOR: i32 = 24;
@@ -169,6 +176,7 @@ impl<R: Net + Copy> MioPort<R> {
             means,
             listener: None,
             wanting: false,
+            bells: None,
         })
     }
 
@@ -185,6 +193,21 @@ impl<R: Net + Copy> MioPort<R> {
         }
         self.listener = Some(listener);
         self.book.set_accepting();
+    }
+
+    /// What ends its waits. None where the system refuses it.
+    pub(crate) fn waker(&self) -> Option<Waker> {
+        match &self.means {
+            Some(means) => means.all.waker(),
+            None => None,
+        }
+    }
+
+    /// Can ring these from now on.
+    pub(crate) fn hang(&mut self, bells: Bells)
+        ensures { self.new ≡ self.old }
+    {
+        self.bells = Some(bells);
     }
 
     /// Ends the port's use: gives its listener back, and its means of waiting to the system. What it tells
@@ -301,6 +324,28 @@ impl<R: Net + Copy> Port for MioPort<R> {
         Err(Failed)
     }
 
+    fn leave(&self, end: &mut MioEnd)
+        ensures { ⟦<MioEnd as End>⟧.seen end.new ≡ ⟦<MioEnd as End>⟧.seen end.old }
+    {
+        if let Some(means) = &self.means {
+            end.leave(&means.all);
+        }
+    }
+
+    fn join(&self, end: &mut MioEnd)
+        ensures { ⟦<MioEnd as End>⟧.seen end.new ≡ ⟦<MioEnd as End>⟧.seen end.old }
+    {
+        if let Some(means) = &self.means {
+            end.join(&means.all);
+        }
+    }
+
+    fn ring(&self) {
+        if let Some(bells) = &self.bells {
+            ring_all(bells.as_slice());
+        }
+    }
+
     fn incoming(&mut self, _id: SocketId) -> Result<(), NoMemory> {
         let _ = &self.alloc;
         Ok(())
@@ -309,5 +354,14 @@ impl<R: Net + Copy> Port for MioPort<R> {
     fn hear(&mut self, _id: &SocketId, _bytes: &[u8], _news: News) -> Result<(), NoMemory> {
         let _ = &self.alloc;
         Ok(())
+    }
+}
+
+/// Ends the waits of all these.
+fn ring_all(bells: &[Option<Waker>]) {
+    'bells: for bell in bells {
+        if let Some(waker) = bell {
+            let _ = waker.wake();
+        }
     }
 }

@@ -2,7 +2,7 @@
 
 use m2_bytes::NoMemory;
 use mio::event::Source;
-use mio::{Events, Interest, Poll, Token};
+use mio::{Events, Interest, Poll, Token, Waker};
 use std::alloc::Global;
 use std::net::Net;
 use std::time::Duration;
@@ -15,7 +15,7 @@ const EVENTS: usize = 64;
 const ANY: Token = Token(0);
 
 /// A set of sockets of the system, and the wait until one of them can be read or written, was closed, or
-/// failed. A socket leaves the set when it is closed.
+/// failed, or another thread ends it. A socket leaves the set when it is closed.
 ///
 /// The system tells changes: a socket that a call found dry or blocked ends a wait when it no longer is.
 #[derive(Drop)]
@@ -50,6 +50,11 @@ impl Watch {
         ensures { S.keeps socket.old socket.new }
     {
         self.poll.registry().deregister(socket).is_ok()
+    }
+
+    /// What ends the waits of the set from other threads. None where the system refuses it.
+    pub(crate) fn waker(&self) -> Option<Waker> {
+        Waker::new(self.poll.registry(), ANY).ok()
     }
 
     /// Waits until something happened at a socket of the set, but no longer than so many milliseconds.

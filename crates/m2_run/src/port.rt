@@ -121,6 +121,28 @@ impl<P: Port> Port for RunPort<P> {
         }
     }
 
+    fn leave(&self, end: &mut CutEnd<P::End>)
+        ensures { ⟦<CutEnd<P::End> as End>⟧.seen end.new ≡ ⟦<CutEnd<P::End> as End>⟧.seen end.old }
+    {
+        if let Some(port) = &self.port {
+            port.leave(end);
+        }
+    }
+
+    fn join(&self, end: &mut CutEnd<P::End>)
+        ensures { ⟦<CutEnd<P::End> as End>⟧.seen end.new ≡ ⟦<CutEnd<P::End> as End>⟧.seen end.old }
+    {
+        if let Some(port) = &self.port {
+            port.join(end);
+        }
+    }
+
+    fn ring(&self) {
+        if let Some(port) = &self.port {
+            port.ring();
+        }
+    }
+
     fn incoming(&mut self, id: SocketId) -> Result<(), NoMemory> {
         match &mut self.port {
             Some(port) => port.incoming(id),

@@ -1,4 +1,4 @@
-use Rattle.std.proofs.Common.{◌≡◌, List, ap, ◌∙◌, sym}
+use Rattle.std.proofs.Common.{◌≡◌, ap, ◌∙◌, sym}
 use Rattle.m2_bytes.specs.Items.{Holding}
 use Rattle.m2_fabric.specs.Port.{SeenPort}
 use Rattle.m2_mio.proofs.fabric.MioFabricFabric.gather.Goals as goal

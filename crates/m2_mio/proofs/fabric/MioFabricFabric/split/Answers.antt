@@ -1,11 +1,10 @@
-use Rattle.std.proofs.Common.{◌≡◌, List, ap, ◌∙◌, is_some, map, replicate}
+use Rattle.std.proofs.Common.{◌≡◌, List, ap, ◌∙◌, is_some, replicate}
 use Rattle.std.specs.Prelude.{length}
 use Rattle.std.proofs.lemmas.List.{length-replicate, map-id}
 use Rattle.m2_addr.specs.declared.addr.Addr.{Addr}
 use Rattle.m2_bytes.specs.Items.{Holding}
-use Rattle.m2_fabric.specs.Fabric.{Splits}
 use Rattle.m2_fabric.specs.Port.{SeenPort}
-use Rattle.m2_ports.specs.Nodes.{SeenNode, at_of, shown}
+use Rattle.m2_ports.specs.Nodes.{at_of}
 use Rattle.m2_ports.specs.Port.{ports_at, unused_port, with_acceptor}
 use Rattle.m2_mio.proofs.fabric.MioFabricFabric.split.Goals as goal
 
