@@ -1,6 +1,6 @@
 -- What a turn is said to have come to, by whether memory lasted, what was counted, and whether a record handed a parcel out.
 use mir.Syntax.{w128}
-use Rattle.std.proofs.Common.{Fits, ◌≡◌, ℕ, ◌+◌, ◌*◌, ◌==◌, ◌<◌, ◌≤◌, Bool, true, false, ◌||◌, ◌&&◌, not, List, [], ◌∷◌, length, Ok, Err, refl, sym, ap, subst, ◌∙◌, arith}
+use Rattle.std.proofs.Common.{Fits, ◌≡◌, ℕ, ◌+◌, ◌*◌, ◌<◌, ◌≤◌, Bool, true, false, ◌&&◌, List, [], ◌∷◌, length, Ok, Err, refl, sym, ap, subst, ◌∙◌, arith}
 use Rattle.std.proofs.lemmas.Bool.{ne_eqb}
 use Rattle.m2_record.specs.RecordNow.{RecordNow}
 use Rattle.m2_turn.specs.Handing.{AreMore, SaysMore, handed_in}

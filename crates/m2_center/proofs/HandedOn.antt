@@ -1,5 +1,5 @@
 -- The stages of a turn in which no record hands a parcel out.
-use Rattle.std.proofs.Common.{◌≡◌, ℕ, ap}
+use Rattle.std.proofs.Common.{◌≡◌, ap}
 use Rattle.m2_dispatch.specs.Heard.{Heard}
 use Rattle.m2_turn.specs.Handing.{handed_in}
 use Rattle.m2_turn.specs.RecordTurn.{Means}

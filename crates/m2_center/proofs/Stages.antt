@@ -1,5 +1,5 @@
 -- The parts of a center's turn, by what each changes of it.
-use Rattle.std.proofs.Common.{◌≡◌, ℕ, ◌-◌, List, [], ◌∷◌, map, Some, OnOk, refl, ap, subst, sym, ◌∙◌}
+use Rattle.std.proofs.Common.{◌≡◌, ℕ, ◌-◌, List, Some, OnOk, refl, ap, subst, sym, ◌∙◌}
 use Rattle.std.specs.Prelude.{slice_get, slice_set}
 use Rattle.m2_dispatch.specs.Heard.{Heard}
 use Rattle.m2_dispatch.specs.Dispatch.{Queued}
@@ -26,7 +26,7 @@ use Rattle.m2_turn.specs.Outbox.{OutboxNow}
 use Rattle.m2_turn.specs.Planning.{PlansNow}
 use Rattle.m2_turn.specs.RecordTurn.{Means}
 use Rattle.m2_turn.specs.RecordsTurn.{TurnsEach, all_amid}
-use Rattle.m2_turn.specs.Sessions.{AreConsistent, Sessions, Supply, peer_of}
+use Rattle.m2_turn.specs.Sessions.{AreConsistent, Sessions, Supply}
 
 module _ {D : Type 0} (was old : CenterNow D) (same : was ≡ old) where
   pub accepts : (result : Accepted) (port : SeenPort) (halves : AllHalves) →

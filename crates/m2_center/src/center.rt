@@ -30,7 +30,7 @@ pub struct Passes {
 ///
 /// Maker: [`new`](Center::new). Looks: [`records`](Center::records), [`parts`](Center::parts),
 /// [`halves`](Center::halves), [`fast`](Center::fast), [`queued`](Center::queued),
-/// [`is_holding`](Center::is_holding), [`idle`](Center::idle),
+/// [`is_holding`](Center::is_holding), [`granted`](Center::granted), [`idle`](Center::idle),
 /// [`made`](Center::made), [`refused`](Center::refused), [`log`](Center::log). Calls: [`turn`](Center::turn),
 /// [`poll`](Center::poll) to wait for the next one, and [`plan`](Center::plan) for what a record is to do; of whoever
 /// passes on what flows in memory, [`incoming`](Center::incoming) and [`hear`](Center::hear). The end:

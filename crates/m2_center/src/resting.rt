@@ -1,6 +1,6 @@
 //! Whether a center has something to do.
 
-ghost use Rattle.std.specs.Prelude.{◌≡◌};
+ghost use Rattle.std.specs.Prelude.{◌≡◌, ◌≢◌, None, IfSome};
 ghost use Rattle.std.specs.List.{list_all};
 ghost use Rattle.std.specs.Option.{is_some};
 ghost use Rattle.m2_center.specs.CenterTurn.{mailing_in};
@@ -35,6 +35,14 @@ impl<P: Port, D> Center<P, D> {
         ensures { result ≡ are_idle now self.now }
     {
         all_idle(self.records.as_slice(), now)
+    }
+
+    /// How many bytes the node's throttle has out. None where other threads share it.
+    pub fn granted(&self) -> Option<u64>
+        ensures word { IfSome result (λ n. n ≡ self.now.bytes.word) }
+        ensures alone { result ≡ None → self.now.bytes.place ≢ None }
+    {
+        self.passes.throttle.out()
     }
 
     /// Whether a letter of a fast kind is held, for which its dispatcher had no memory.

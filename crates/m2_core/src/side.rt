@@ -162,6 +162,13 @@ impl<E: End> Core<E> {
         self.live.waits()
     }
 
+    /// Whether a dial was asked for that wasn't made yet.
+    pub fn wants_dial(&self) -> bool
+        ensures { result ≡ self.now.dials }
+    {
+        self.dials
+    }
+
     /// Whether a dial is due, the moment aside.
     pub fn may_dial(&self) -> bool
         ensures { result ≡ may_dial self.now }

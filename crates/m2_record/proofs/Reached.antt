@@ -1,5 +1,5 @@
 -- What a pass knows of the counter of global numbers it knows still behind a step.
-use Rattle.std.proofs.Common.{◌≡◌, ℕ, ◌≤◌, Option, ap, arith}
+use Rattle.std.proofs.Common.{◌≡◌, Option, ap, arith}
 use Rattle.m2_core.specs.LiveHearing.{raised_by}
 use Rattle.m2_feed.specs.declared.heard.Heard.{Heard}
 use Rattle.m2_shared.specs.Numbers.{SeenNumberPass}

@@ -1,5 +1,5 @@
 -- What a record remembers of its peer is as it was made.
-use Rattle.std.proofs.Common.{◌≡◌, ap, sym, ◌∙◌}
+use Rattle.std.proofs.Common.{◌≡◌, ap, ◌∙◌}
 use Rattle.m2_journal.specs.Items.{items_of}
 use Rattle.m2_journal.specs.Laws.{ReplaysAreSound}
 use Rattle.m2_journal.specs.State.{State}

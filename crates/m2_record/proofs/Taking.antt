@@ -12,7 +12,7 @@ use Rattle.m2_journal.specs.declared.entry.Entry.TheVariants as entry
 use Rattle.m2_journal.specs.declared.facts.PlanStep.{PlanStep}
 use Rattle.m2_journal.specs.declared.facts.PlanStep.TheVariants as step
 use Rattle.m2_journal.specs.Items as item
-use Rattle.m2_journal.specs.Items.{item_of, passed, reach_of}
+use Rattle.m2_journal.specs.Items.{passed, reach_of}
 use Rattle.m2_journal.specs.Lawful.{IsDial, IsPost}
 use Rattle.m2_journal.specs.Plan.{Planned, planned, to_post}
 use Rattle.m2_journal.specs.Replay.{IsReplay}

@@ -147,6 +147,13 @@ impl<E: End> Record<E> {
         self.core.granted()
     }
 
+    /// Whether a dial was asked for that wasn't made yet.
+    pub fn wants_dial(&self) -> bool
+        ensures { result ≡ self.now.core.dials }
+    {
+        self.core.wants_dial()
+    }
+
     /// The moment before which no connect is due.
     pub fn next_dial(&self) -> u64
         ensures { result ≡ self.now.waits.next_dial }

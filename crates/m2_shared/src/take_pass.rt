@@ -1,6 +1,6 @@
 //! The right to take.
 
-ghost use Rattle.std.specs.Prelude.{◌≡◌, [], ◌++◌};
+ghost use Rattle.std.specs.Prelude.{◌≡◌, ◌≢◌, [], ◌++◌, None, IfSome};
 ghost use Rattle.m2_shared.specs.Place.{IsShared};
 
 use crate::held::{self, HeldSeat};
@@ -30,6 +30,17 @@ impl Model for TakePass {
 }
 
 impl TakePass {
+    /// How many bytes are out. None where threads share the word.
+    pub fn out(&self) -> Option<u64>
+        ensures word { IfSome result (λ n. n ≡ self.now.word) }
+        ensures alone { result ≡ None → self.now.place ≢ None }
+    {
+        match &self.seat {
+            None => Some(self.word),
+            Some(_) => None,
+        }
+    }
+
     /// A pass for one thread more. The throttle isn't alone.
     pub fn split(&mut self, throttle: &Throttle) -> TakePass
         requires pass { self.old.place ≡ throttle.now.place }

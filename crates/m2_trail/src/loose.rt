@@ -33,7 +33,8 @@ impl<E: End> Model for Loose<E> {
 }
 
 impl<E: End> Loose<E> {
-    pub(crate) fn new(end: E, trail: Trail) -> Loose<E>
+    /// A half of this end, of which the trail tells all that it did. Takes no memory.
+    pub fn new(end: E, trail: Trail) -> Loose<E>
         requires { IsWholeTrail (trail_now trail) (E.seen end) }
         ensures { result ≡ record { end = E.seen end; trail = trail_now trail } }
     {

@@ -13,7 +13,6 @@ use Rattle.m2_handshake.specs.declared.ident.IdentCheck.{IdentCheck}
 use Rattle.m2_handshake.specs.declared.ident.IdentCheck.TheVariants.{Fine, Missing, Fault}
 use Rattle.m2_feed.specs.m2_journal.declared.entry.Entry.{Entry}
 use Rattle.m2_feed.specs.m2_journal.Lawful.{judged_on}
-use Rattle.m2_record.specs.Calls.{closed_entries}
 use Rattle.m2_record.specs.IsRecord.{IsRecord}
 use Rattle.m2_record.specs.declared.judging.Judged.{Judged}
 use Rattle.m2_record.specs.declared.judging.Judged.TheVariants as judged

@@ -1,6 +1,5 @@
 -- That parcels were handed out is said exactly where they were: of one step, of steps one after another, and of records side by side.
-use Rattle.std.proofs.Common.{◌≡◌, ℕ, ◌+◌, Bool, true, false, ◌||◌, List, [], ◌∷◌, map, refl, sym, ap, ◌∙◌, arith}
-use Rattle.m2_record.specs.declared.stepped.Stepped.{Stepped}
+use Rattle.std.proofs.Common.{◌≡◌, ℕ, ◌+◌, Bool, true, false, ◌||◌, List, [], ◌∷◌, refl, sym, ap, ◌∙◌, arith}
 use Rattle.m2_record.specs.declared.stepped.Stepped.TheVariants as stepped
 use Rattle.m2_record.specs.RecordNow.{RecordNow}
 use Rattle.m2_record.specs.Stepping.{StepsAs, Worked}

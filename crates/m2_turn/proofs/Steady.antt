@@ -1,5 +1,5 @@
 -- Records that judge asks hand nothing out, and have their peers and their plans still, in the turns of all halves; so it is at a connect.
-use Rattle.std.proofs.Common.{◌≡◌, inl, inr, ℕ, zero, suc, Bool, true, false, List, [], ◌∷◌, map, Option, Some, None, Result, IfSome, IsSome, refl, sym, ap, subst, ◌∙◌}
+use Rattle.std.proofs.Common.{◌≡◌, inl, inr, ℕ, zero, suc, Bool, true, false, List, [], ◌∷◌, map, Option, Some, None, Result, IfSome, IsSome, sym, ap, subst, ◌∙◌}
 use Rattle.std.specs.Prelude.{slice_get, slice_set}
 use Rattle.m2_addr.specs.declared.addr.Addr.{Addr}
 use Rattle.m2_bytes.specs.declared.memory.NoMemory as memory
