@@ -42,7 +42,7 @@ use Rattle.m2_feed.proofs.m2_fabric.Sockets.{same_refl, same_turned}
 
 -- ---- which asks are sent
 
-no_ask_of : (w : OutFrame) → is_ask w ≡ false → ask_of w ≡ None
+pub no_ask_of : (w : OutFrame) → is_ask w ≡ false → ask_of w ≡ None
 no_ask_of out.greeting e = refl
 no_ask_of (out.ident c g) e = from_false_true (sym e)
 no_ask_of (out.reconnect p q r s t) e = from_false_true (sym e)

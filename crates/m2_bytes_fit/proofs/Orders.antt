@@ -48,7 +48,7 @@ leads_on f i s up l h =
     let grows = entry_grows f i s up l in
     subst (AllByRecursion (Leads f)) (sym grows.opened) (all_append (Leads f) s.opened grows.more_opened h grows.leads)
 
-opened_apart : (f g : SideFacts) (near far : List SocketId) → ((k : SocketId) → goes_to f.peer k ≡ true → goes_to g.peer k ≡ false) →
+pub opened_apart : (f g : SideFacts) (near far : List SocketId) → ((k : SocketId) → goes_to f.peer k ≡ true → goes_to g.peer k ≡ false) →
     AllByRecursion (Leads f) near → AllByRecursion (Leads g) far → (k : SocketId) → is_among k near ≡ true → is_among k far ≡ false
 opened_apart f g near far peers h l k o = at (is_among k far) refl
   where
@@ -89,7 +89,7 @@ at_start f g = record {
   far_holds = starts_holding g;
 }
 
-feed_so : (a b : State) → IfFed a.feed (FeedIsPaired (beside a b)) → IfFed a.feed (FeedSo a)
+pub feed_so : (a b : State) → IfFed a.feed (FeedIsPaired (beside a b)) → IfFed a.feed (FeedSo a)
 feed_so a b h = at a.feed h
   where
     at : (o : Option Feed) → IfFed o (FeedIsPaired (beside a b)) → IfFed o (FeedSo a)

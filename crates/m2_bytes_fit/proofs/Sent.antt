@@ -1,5 +1,5 @@
 -- The payloads that an acceptor writes of itself, and those that no entry names, are read as they were written.
-use Rattle.std.proofs.Common.{ℕ, ◌<◌, ◌^◌, [], ◌∷◌, ◌++◌, refl, arith}
+use Rattle.std.proofs.Common.{ℕ, ◌<◌, ◌^◌, ◌++◌, arith}
 use Rattle.std.specs.List.{All}
 use Rattle.std.specs.Int.{w32, w64, to_le_bytes}
 use Rattle.std.proofs.lemmas.List.Elements.{All-from_recursion, All-append}

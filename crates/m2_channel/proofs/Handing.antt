@@ -162,7 +162,7 @@ put_is peer key (Put p ∷ calls) h =
     at false e = ap (λ l. l ++ of_it peer key (letters_in (parcels_of peer calls))) (of_another peer key p e)
 
 -- the parcels of a peer that were put are its own
-their_own : (peer : ℕ) (calls : List Call) → AllByRecursion (λ p. (peer_of p == peer) ≡ true) (parcels_of peer calls)
+pub their_own : (peer : ℕ) (calls : List Call) → AllByRecursion (λ p. (peer_of p == peer) ≡ true) (parcels_of peer calls)
 their_own peer [] = tt
 their_own peer (Turn ∷ calls) = their_own peer calls
 their_own peer (Put p ∷ calls) = at (peer_of p == peer) refl (their_own peer calls)

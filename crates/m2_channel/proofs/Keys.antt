@@ -14,7 +14,7 @@ use Rattle.m2_dispatch.proofs.m2_lemmas.Booleans.{from_false_true}
 
 -- ---- keys
 
-same_path : (p q : Path) → is_path p q ≡ true → p ≡ q
+pub same_path : (p q : Path) → is_path p q ≡ true → p ≡ q
 same_path Fast Fast e = refl
 same_path Queued Queued e = refl
 same_path Fast Queued e = from_false_true e

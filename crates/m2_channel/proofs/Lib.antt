@@ -11,4 +11,15 @@ pub mod Marks
 pub mod Handing
 pub mod TwoWays
 pub mod Acknowledged
+pub mod Both
+pub mod Entries
+pub mod Frames
+pub mod LossyOrders
+pub mod Moves
+pub mod Named
+pub mod Points
+pub mod Posted
+pub mod Readers
+pub mod Sides
+pub mod Sublists
 pub use Rattle.m2_never_reset.proofs as m2_never_reset

@@ -3,7 +3,7 @@ use Rattle.std.proofs.Common.{◌≡◌, ℕ, Bool, true, false, ◌==◌, if◌
 use Rattle.std.proofs.lemmas.Bool.{eq-eqb}
 use Rattle.std.proofs.lemmas.Option.{same_Some}
 use Rattle.m2_dispatch.specs.Heard as heard
-use Rattle.m2_dispatch.specs.Heard.{Heard, is_key}
+use Rattle.m2_dispatch.specs.Heard.{Heard}
 use Rattle.m2_dispatch.specs.m2_message.Message.{Content, unnumbered}
 use Rattle.m2_dispatch.specs.m2_policy.declared.path.Key.{Key}
 use Rattle.m2_never_reset.specs.m2_journal.State as state
@@ -11,7 +11,7 @@ use Rattle.m2_never_reset.specs.m2_journal.State.{Delivery, State}
 use Rattle.m2_never_reset.specs.LinkOf.{letters}
 use Rattle.m2_never_reset.specs.Orders.{near_after, far_after, AMessageComesOver, LosslessIsNeverReset}
 use Rattle.m2_channel.specs.Channel as channel
-use Rattle.m2_channel.specs.Channel.{KeyedMessage, keyed, posts, dispatches}
+use Rattle.m2_channel.specs.Channel.{keyed, dispatches}
 use Rattle.m2_channel.specs.Observed.{Logs, observed, heard_from, handed}
 use Rattle.m2_channel.specs.ObservedLaws.{IsLogOf, AreLogs, AMessageIsObserved}
 use Rattle.m2_channel.proofs.Keys.{key_self}

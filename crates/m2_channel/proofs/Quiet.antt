@@ -169,7 +169,7 @@ answers-quiet f k a n answer unread s = at (session.takes answer)
 
 -- ---- the queue
 
-next_keeps : (b : Bool) (q : Queue) → let r = if b then q else record q { kept = q.kept ++ take 1 q.waiting; waiting = drop 1 q.waiting } in
+pub next_keeps : (b : Bool) (q : Queue) → let r = if b then q else record q { kept = q.kept ++ take 1 q.waiting; waiting = drop 1 q.waiting } in
     (r.base ≡ q.base) × (r.keeps ≡ q.keeps)
 next_keeps true q = (refl, refl)
 next_keeps false q = (refl, refl)

@@ -235,14 +235,14 @@ near_shows f g i ps a b c h not_down full none l few =
 -- ---- an entry of the side that accepts
 
 -- the message in the bytes
-brings_said : (g : SideFacts) (number : ℕ) (key : Key) (s : State) (x : Option Said) → IsNext g s number key x → (m : Content) × (brought_by x ≡ m ∷ []) × (key ≡ key_of g m)
+pub brings_said : (g : SideFacts) (number : ℕ) (key : Key) (s : State) (x : Option Said) → IsNext g s number key x → (m : Content) × (brought_by x ≡ m ∷ []) × (key ≡ key_of g m)
 brings_said g number key s (Some (brings m)) h = (m, refl, h.2)
 brings_said g number key s (Some (says y)) h = absurd h
 brings_said g number key s (Some aborts) h = absurd h
 brings_said g number key s (Some garbles) h = absurd h
 brings_said g number key s None h = absurd h
 
-brings_one : (g : SideFacts) (number : ℕ) (key : Key) (s : State) (o : Option Feed) → OnFeedAt o (MayAccept g s number key) →
+pub brings_one : (g : SideFacts) (number : ℕ) (key : Key) (s : State) (o : Option Feed) → OnFeedAt o (MayAccept g s number key) →
     (m : Content) × (brought_on s.last o ≡ m ∷ []) × (key ≡ key_of g m)
 brings_one g number key s (Some d) may = brings_said g number key s (next_said s.last d) may.next
 brings_one g number key s None may = absurd may

@@ -3,9 +3,11 @@
 
 ghost use Rattle.m2_channel.specs.ChannelLaws as laws;
 ghost use Rattle.m2_channel.specs.Handing as handing;
+ghost use Rattle.m2_channel.specs.Lossy as lossy;
 ghost use Rattle.m2_channel.specs.ObservedLaws as observed;
 
 use m2_dispatch::each_key_keeps_its_order;
+use m2_journal::replays_are_sound;
 use m2_never_reset::{a_message_comes_over, lossless_is_never_reset};
 
 /// Wherever a run of the channel leads, of each key what is dispatched is the first ones of what is
@@ -83,4 +85,14 @@ pub fn acknowledged_is_accepted()
     ensures { observed.AcknowledgedIsAccepted }
 {
     lossless_is_never_reset();
+}
+
+/// In every order of two journals of a lossy link in which each byte was written before it is read at the
+/// other end: of each key what either side accepts, and what its dispatchers are called with, is some of
+/// what the other side posted, in order, each message once. Sockets may break and be replaced, asks may
+/// come late, and either side may be marked down by its own node.
+pub fn lossy_comes_in_order()
+    ensures { lossy.LossyComesInOrder }
+{
+    replays_are_sound();
 }

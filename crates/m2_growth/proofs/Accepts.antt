@@ -24,7 +24,7 @@ use Rattle.m2_bytes_fit.specs.m2_trail.Arrivals.{LooseNow, closed_of}
 use Rattle.m2_bytes_fit.specs.m2_trail.Incoming.{IncomingNow, accepted}
 use Rattle.m2_growth.specs.Ends.{AreOfTheirOwn, EndsGrow}
 use Rattle.m2_growth.specs.Halves.{AskedOnMade, HasItsHalves, IsHeardBy, IsOneOf, all_left, asked_on}
-use Rattle.m2_growth.specs.Holding.{AreOwn, Grows, Holding, IsToCome, all_ends, waiting_at}
+use Rattle.m2_growth.specs.Holding.{AreOwn, Grows, IsToCome, all_ends, waiting_at}
 use Rattle.m2_growth.specs.GrowthLaws.{at_accepts}
 use Rattle.m2_growth.specs.Ports.{PortStands}
 use Rattle.m2_growth.specs.Records.{ends_of_all}

@@ -14,7 +14,7 @@ use Rattle.m2_journal.specs.Items.{JournalItem}
 use Rattle.m2_journal.specs.Replay.{AreLawful}
 use Rattle.m2_journal.specs.SideFacts.{SideFacts}
 use Rattle.m2_journal.specs.State.{start}
-use Rattle.m2_lossy_in_order.specs.Lossy.{IsByteOrder}
+use Rattle.m2_channel.specs.Lossy.{IsByteOrder}
 use Rattle.m2_channel.specs.m2_never_reset.PairLaws.{IsNoDown}
 use Rattle.m2_channel.specs.m2_never_reset.Orders.{AreNodes, IsHistory, IsNeverReset, SideItem, far_item, far_items, near_item, near_items}
 use Rattle.m2_bytes.proofs.m2_lemmas.Booleans.{from_false_true}

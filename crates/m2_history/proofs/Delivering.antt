@@ -15,7 +15,7 @@ use Rattle.m2_journal.specs.SideFacts.{SideFacts}
 use Rattle.m2_journal.specs.State.{State, start}
 use Rattle.m2_message.specs.Message.{Content, unnumbered}
 use Rattle.m2_channel.specs.m2_never_reset.Orders as orders
-use Rattle.m2_channel.specs.m2_never_reset.Orders.{SideItem, near_items, far_items, near_after, far_after, posts_in, AreNodes, IsHistory}
+use Rattle.m2_channel.specs.m2_never_reset.Orders.{SideItem, near_items, far_items, far_after, posts_in}
 use Rattle.m2_policy.specs.declared.path.Key.{Key}
 use Rattle.m2_history.specs.Counted.{accepted, posted}
 use Rattle.m2_history.specs.Delivered.{Kept, IsCounted, IsDelivered, PostedIsDelivered}

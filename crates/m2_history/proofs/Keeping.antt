@@ -1,6 +1,6 @@
 -- Which entries take a step of the plan, and which hand a message on: a post, a dial and a planned mark-down take one, and an
 -- acceptance hands one on.
-use Rattle.std.proofs.Common.{◌≡◌, ℕ, ◌+◌, Bool, true, false, if◌then◌else◌, List, [], ◌∷◌, ◌++◌, map, Option, Some, None, refl, sym, ap, ◌∙◌, arith, append-nil}
+use Rattle.std.proofs.Common.{◌≡◌, ℕ, ◌+◌, Bool, true, false, if◌then◌else◌, List, [], ◌∷◌, ◌++◌, Option, Some, None, refl, sym, ap, ◌∙◌, arith, append-nil}
 use Rattle.m2_journal.specs.m2_session.declared.ask.AskFacts.{AskFacts}
 use Rattle.m2_channel.specs.Channel.{keyed}
 use Rattle.m2_channel.specs.Observed.{handed}

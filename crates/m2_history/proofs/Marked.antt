@@ -17,7 +17,7 @@ use Rattle.m2_dispatch.specs.Heard.{is_key}
 use Rattle.m2_journal.specs.Items.{JournalItem}
 use Rattle.m2_journal.specs.Lawful.{key_of}
 use Rattle.m2_journal.specs.SideFacts.{SideFacts}
-use Rattle.m2_lossy_in_order.specs.Lossy.{IsByteOrder}
+use Rattle.m2_channel.specs.Lossy.{IsByteOrder}
 use Rattle.m2_message.specs.Message.{Content, unnumbered}
 use Rattle.m2_policy.specs.declared.path.Key.{Key}
 use Rattle.m2_weave.specs.WeaveLaws.{AsksComeFirst, ReadWasWritten}

@@ -24,7 +24,7 @@ use Rattle.m2_bytes_fit.specs.Ends.{got_at}
 use Rattle.m2_bytes_fit.specs.Halves.{KeepsRanges}
 use Rattle.m2_bytes_fit.specs.Orders.{far_side}
 use Rattle.m2_journal.specs.m2_handshake.Course as course
-use Rattle.m2_journal.specs.m2_handshake.Course.{course_of, no_exchange}
+use Rattle.m2_journal.specs.m2_handshake.Course.{course_of}
 use Rattle.m2_journal.specs.m2_handshake.Standing.{fed}
 use Rattle.m2_history.specs.Parts.{PartsNow}
 use Rattle.m2_history.specs.Woven.{ends_of}

@@ -27,7 +27,7 @@ use Rattle.m2_journal.specs.Lawful.{judged_on}
 use Rattle.m2_journal.specs.Replay.{AreLawful}
 use Rattle.m2_journal.specs.SideFacts.{SideFacts}
 use Rattle.m2_journal.specs.State.{start}
-use Rattle.m2_lossy_in_order.specs.Lossy.{BothComeOver, IsByteOrder, LossyComesInOrder}
+use Rattle.m2_channel.specs.Lossy.{BothComeOver, IsByteOrder, LossyComesInOrder}
 use Rattle.m2_weave.specs.Order as merge
 use Rattle.m2_weave.specs.Order.{Cut, Rule, come, come_all, nothing}
 use Rattle.m2_channel.specs.m2_never_reset.PairLaws.{IsNoDown}

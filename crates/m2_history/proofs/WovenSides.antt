@@ -20,7 +20,7 @@ use Rattle.m2_history.specs.Lossy.{AreOfLossy, IsInOrderIn, WovenComesInOrder}
 use Rattle.m2_history.specs.Marked.{AreLosslessNodes, IsToAMarkIn, WovenIsARunToAMark}
 use Rattle.m2_history.specs.WovenLink.{AreJoined, IsLink, IsOrderOf, IsSideOf, LinkNow}
 
-steps_named : (at : Cut) (order : List ℕ) → map (λ (s : HistoryStep). s.strand) (steps_from at order) ≡ order
+pub steps_named : (at : Cut) (order : List ℕ) → map (λ (s : HistoryStep). s.strand) (steps_from at order) ≡ order
 steps_named at [] = refl
 steps_named at (k ∷ order) = ap (λ (l : List ℕ). k ∷ l) (steps_named (come k at) order)
 

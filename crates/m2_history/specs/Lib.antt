@@ -15,6 +15,5 @@ pub mod Woven
 pub mod WovenLaws
 pub mod WovenLink
 pub use Rattle.m2_channel.specs as m2_channel
-pub use Rattle.m2_lossy_in_order.specs as m2_lossy_in_order
 pub use Rattle.m2_record.specs as m2_record
 pub use Rattle.m2_trail.specs as m2_trail

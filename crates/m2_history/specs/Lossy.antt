@@ -8,7 +8,7 @@ use Rattle.m2_history.specs.declared.history.History.{History}
 use Rattle.m2_history.specs.Counted.{posted}
 use Rattle.m2_history.specs.Delivered.{Kept}
 use Rattle.m2_journal.specs.SideFacts.{SideFacts}
-use Rattle.m2_lossy_in_order.specs.Lossy.{AreLossy, AreSomeOf}
+use Rattle.m2_channel.specs.Lossy.{AreLossy, AreSomeOf}
 use Rattle.m2_message.specs.Message.{unnumbered}
 use Rattle.m2_channel.specs.m2_never_reset.Orders.{SideItem, near_after, far_after}
 use Rattle.m2_policy.specs.declared.path.Key.{Key}

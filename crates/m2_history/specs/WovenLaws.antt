@@ -8,7 +8,7 @@ use Rattle.m2_bytes_fit.specs.Orders.{IsByteHistory, entries_of, far_side}
 use Rattle.m2_history.specs.declared.history.History.{History}
 use Rattle.m2_history.specs.Delivered.{AreDelivered, Kept}
 use Rattle.m2_history.specs.Link.{both_of, parts_of}
-use Rattle.m2_lossy_in_order.specs.Lossy.{IsByteOrder}
+use Rattle.m2_channel.specs.Lossy.{IsByteOrder}
 use Rattle.m2_channel.specs.m2_never_reset.Orders.{AreNodes, IsHistory, IsNeverReset}
 use Rattle.m2_record.specs.IsRecord.{IsRecord}
 use Rattle.m2_record.specs.RecordNow.{RecordNow}

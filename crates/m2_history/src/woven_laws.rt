@@ -7,8 +7,7 @@ ghost use Rattle.m2_history.specs.Marked as marked;
 
 use crate::{counts_are_of_the_items, orders_give_points, posted_is_delivered};
 use m2_bytes_fit::{bytes_give_fits, lossless_bytes_are_never_reset, trails_tell_each_point};
-use m2_channel::{observed_is_a_run, observed_is_a_run_to_a_mark};
-use m2_lossy_in_order::lossy_comes_in_order;
+use m2_channel::{lossy_comes_in_order, observed_is_a_run, observed_is_a_run_to_a_mark};
 use m2_weave::{all_read_was_written, asks_come_first};
 
 /// Every record is a side of a link: its entries are lawful one after the other, each socket that became its

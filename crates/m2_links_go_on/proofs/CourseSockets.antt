@@ -1,11 +1,11 @@
 -- Of each socket that a port made there is an end still: none is lost in a turn.
-use Rattle.std.proofs.Common.{◌≡◌, ◌⊎◌, inl, inr, Bool, true, false, List, [], ◌∷◌, ◌++◌, if◌then◌else◌, ◌||◌, Option, Some, None, IsSome, Ok, Err, refl, sym, ap, subst, ◌∙◌}
+use Rattle.std.proofs.Common.{◌≡◌, ◌⊎◌, inl, inr, true, List, ◌++◌, Option, Some, None, IsSome, Ok, Err, refl, sym, ap, subst, ◌∙◌}
 use Rattle.std.specs.Option.{is_some}
 use Rattle.m2_dispatch.specs.Heard.{Heard}
 use Rattle.m2_fabric.specs.declared.socket.SocketId.{SocketId}
 use Rattle.m2_fabric.specs.End.{SeenEnd}
 use Rattle.m2_fabric.specs.Port.{SeenPort}
-use Rattle.m2_fabric.specs.Sockets.{is_among, same_socket}
+use Rattle.m2_fabric.specs.Sockets.{is_among}
 use Rattle.m2_fabric.proofs.m2_lemmas.Booleans.{false_isnt_true}
 use Rattle.m2_cluster.specs.m2_center.Center.{CenterNow}
 use Rattle.m2_cluster.specs.m2_center.CenterTurn.{AcceptsSo, AndThen, Answer, AnswersSo, DeliversSo, Part, StepsSo, TakesTurn, accepting_in, all_amid_in, callers_of}
@@ -19,20 +19,12 @@ use Rattle.m2_growth.proofs.Ends.{end_append, first_of}
 use Rattle.m2_growth.proofs.Growing.{still_there}
 use Rattle.m2_growth.proofs.Going.{grows_by, grows_then}
 use Rattle.m2_growth.proofs.HalfTurns.{halves_grow}
-use Rattle.m2_growth.proofs.InStepStanding.{is_end}
+use Rattle.m2_growth.proofs.InStepStanding.{is_end, some_end}
 use Rattle.m2_growth.proofs.Owned.{waiting_unmade}
 use Rattle.m2_growth.proofs.RecordTurns.{record_turns}
 use Rattle.m2_links_go_on.specs.Course.{MadeAreHeld, holding_in}
 
 -- ---- the end of a socket among others
-
-some_end : (k : SocketId) (es : List SeenEnd) → is_among k (ids_of es) ≡ true → IsSome (end_at es k)
-some_end k [] is = absurd (false_isnt_true is)
-some_end k (e ∷ es) is = at (same_socket k e.id) is (some_end k es)
-  where
-    at : (b : Bool) → (b || is_among k (ids_of es)) ≡ true → (is_among k (ids_of es) ≡ true → IsSome (end_at es k)) → IsSome (if b then Some e else end_at es k)
-    at true is rest = refl
-    at false is rest = rest is
 
 -- an end of a socket that the port made isn't one that waits
 held_end : (h : Holding) → AreOwn h → (k : SocketId) → is_among k h.port.made ≡ true → IsSome (end_at (all_ends h) k) → is_among k (ids_of (ends_held h)) ≡ true

@@ -2,6 +2,7 @@
 use Rattle.std.proofs.Common.{◌≡◌, ◌≢◌, ℕ, ◌+◌, ◌≤◌, inl, true, false, List, [], ◌∷◌, ◌++◌, length, take, Option, Some, None, refl, sym, ap, subst, ◌∙◌, arith}
 use Rattle.std.specs.Prelude.{IfSome}
 use Rattle.std.specs.List.{AllByRecursion}
+use Rattle.m2_channel.proofs.Both.{connecting_apart, ident_apart}
 use Rattle.m2_journal.specs.OutFrames as out
 use Rattle.m2_journal.specs.OutFrames.{OutFrame}
 use Rattle.m2_journal.specs.State.{SentFrame}
@@ -18,7 +19,7 @@ use Rattle.m2_lives.proofs.Ledger.{Ledger, count, IsAcceptance, HasAccepted, IsA
 use Rattle.m2_lives.proofs.Moves.{Spot, View, asks_ident, asks_reconnect, asks_again, obeys, goes_down, sent_by, taken_more, moved, OnSpot, IfSpot, IsNextAnswer, NothingComes, MayAsk, May}
 use Rattle.m2_lives.proofs.Noting.{Grows, MayBegin, sends_one, begins_one, draws_one, sends_keeps, begins_keeps, draws_keeps, same_grows, begin_grows, draw_grows}
 use Rattle.m2_lives.proofs.Standing.{IsNoAcceptance, FeedStands, Stands, Next, grows_trans, no_more, none_accepted, take_next}
-use Rattle.m2_lives.proofs.Moving.{connecting_apart, ident_apart, reconnect_apart, connecting_reconnect, ident_reconnect, still, equal_most}
+use Rattle.m2_lives.proofs.Moving.{reconnect_apart, connecting_reconnect, ident_reconnect, still, equal_most}
 
 -- ---- asks
 

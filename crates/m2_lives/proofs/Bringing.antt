@@ -3,17 +3,16 @@ use Rattle.std.proofs.Common.{◌≡◌, ◌≢◌, ℕ, zero, suc, ◌-◌, ◌
 use Rattle.std.specs.List.{AllByRecursion}
 use Rattle.std.proofs.lemmas.List.{map-append}
 use Rattle.m2_bytes_fit.proofs.Lists.{cons_is_some}
+use Rattle.m2_channel.proofs.Through.{brings_one}
 use Rattle.m2_channel.specs.Channel.{KeyedMessage, keyed}
-use Rattle.m2_channel.specs.Observed.{brought_by, brought_on, is_reset}
+use Rattle.m2_channel.specs.Observed.{brought_on, is_reset}
 use Rattle.m2_channel.specs.ObservedLaws.{posted_to}
-use Rattle.m2_journal.specs.Feeds.{next_said}
 use Rattle.m2_journal.specs.Items as item
 use Rattle.m2_journal.specs.Items.{JournalItem}
-use Rattle.m2_journal.specs.Lawful.{IsNext, Lawful, MayAccept, MayAcknowledge, OnFeedAt, key_of}
+use Rattle.m2_journal.specs.Lawful.{Lawful, MayAcknowledge, OnFeedAt, key_of}
 use Rattle.m2_journal.specs.Laws.{IsOfCalls}
 use Rattle.m2_journal.specs.Plan.{to_post, to_dial, to_go_down}
 use Rattle.m2_journal.specs.Replay.{after_items}
-use Rattle.m2_journal.specs.Said.{Said, says, brings, aborts, garbles}
 use Rattle.m2_journal.specs.SideFacts.{SideFacts}
 use Rattle.m2_journal.specs.State as state
 use Rattle.m2_journal.specs.State.{Delivery, Feed, State, start}
@@ -24,6 +23,7 @@ use Rattle.m2_journal.specs.m2_queues.QueueLaws.{EachPriorityKeepsItsOrder, Hist
 use Rattle.m2_journal.specs.m2_session.declared.event.Event.{Event}
 use Rattle.m2_journal.specs.m2_session.declared.session.Session.{Session}
 use Rattle.m2_journal.specs.m2_session.Steps.{Step, step_of}
+use Rattle.m2_never_reset.proofs.Feeds.{take-front}
 use Rattle.m2_never_reset.specs.Order.{AreFirstOf}
 use Rattle.m2_never_reset.specs.Orders.{SideItem, near_item, far_item, near_items, far_items, near_after, far_after, posted_in, posts_in}
 use Rattle.m2_never_reset.proofs.Entries.{fits_turn}
@@ -35,7 +35,7 @@ use Rattle.m2_lives.specs.ObservedLaws.{NumberedLife}
 use Rattle.m2_lives.proofs.Acknowledging.{acked_within}
 use Rattle.m2_lives.proofs.Among.{names_last, none_or_some, only_last}
 use Rattle.m2_lives.proofs.Backing.{Backs, current_backs}
-use Rattle.m2_lives.proofs.Delivered.{one, take_first, take_front}
+use Rattle.m2_lives.proofs.Delivered.{one, take_first}
 use Rattle.m2_journal.proofs.m2_lemmas.Lists.{take_nil}
 use Rattle.m2_lives.proofs.Dividing.{Divided, divided_anew, divided_letter, divided_start, divided_thrown, divided_told, joined, last_same}
 use Rattle.m2_lives.proofs.Entries.{sets_back_told}
@@ -75,7 +75,7 @@ first_front xs ys all (more, e) = (ys ++ more, e ∙ append_assoc xs ys more)
 
 -- so many of all are the first of these, which are themselves the first ones
 first_of_first : (n : ℕ) (some all : List Content) → AreFirstOf some all → n ≤ length some → AreFirstOf (take n all) some
-first_of_first n some all (more, e) h = let it = take_first n some in (it.0, it.1 ∙ ap (λ l. l ++ it.0) (sym (ap (take n) e ∙ take_front n some more h)))
+first_of_first n some all (more, e) h = let it = take_first n some in (it.0, it.1 ∙ ap (λ l. l ++ it.0) (sym (ap (take n) e ∙ take-front n some more h)))
 
 -- ---- what is known of a side
 
@@ -243,7 +243,7 @@ module _ (laws : Laws) (f g : SideFacts) (both : Both f g) (a b : State) (x y : 
 
   same_acked : (t : State) (more : List Content) → t.out.queue.base ≡ a.out.queue.base → t.out.numbered ≡ a.out.numbered ++ more → take t.out.queue.base t.out.numbered ≡ take a.out.queue.base a.out.numbered
   same_acked t more base numbered =
-      ap (λ k. take k t.out.numbered) base ∙ ap (take a.out.queue.base) numbered ∙ take_front a.out.queue.base a.out.numbered more (base_fits f g a b x y p)
+      ap (λ k. take k t.out.numbered) base ∙ ap (take a.out.queue.base) numbered ∙ take-front a.out.queue.base a.out.numbered more (base_fits f g a b x y p)
 
   plain_leads : (i : JournalItem) (t : State) (z : Ledger) → Stays f i a t → t.life ≡ a.life → z.ended ≡ x.ended → shown_by_sender g i a ≡ [] → posted_in i ≡ [] → base_by i a.out.queue.base ≡ a.out.queue.base →
       Leads g (shown_by_sender g i a) c w (course earlier (posts ++ posted_in i) t z y)
@@ -310,7 +310,7 @@ module _ (laws : Laws) (f g : SideFacts) (both : Both f g) (a b : State) (x y : 
           (first_of_first n (contents a.life y) all (current_first f g a b x y p) few)
 
       now : take t.out.queue.base t.out.numbered ≡ take base a.out.numbered ++ ms
-      now = ap (λ k. take k t.out.numbered) (s.base ∙ raised base n over) ∙ ap (take n) s.numbered ∙ take_front n a.out.numbered s.more fits ∙ sym whole
+      now = ap (λ k. take k t.out.numbered) (s.base ∙ raised base n over) ∙ ap (take n) s.numbered ∙ take-front n a.out.numbered s.more fits ∙ sym whole
 
   sender_leads : (i : JournalItem) (t : State) (z : Ledger) → Lawful f i a → Stays f i a t → t.life ≡ a.life → z.ended ≡ x.ended → Leads g (shown_by_sender g i a) c w (course earlier (posts ++ posted_in i) t z y)
   sender_leads (item.post place (Some (to_post m))) t z l s life ended = posts_lead place m t z s life ended
@@ -421,17 +421,6 @@ none_handed true true = refl
 none_handed true false = refl
 none_handed false true = refl
 none_handed false false = refl
-
-brings_said : (g : SideFacts) (number : ℕ) (key : Key) (s : State) (x : Option Said) → IsNext g s number key x → (m : Content) × (brought_by x ≡ m ∷ []) × (key ≡ key_of g m)
-brings_said g number key s (Some (brings m)) may = (m, refl, may.2)
-brings_said g number key s (Some (says c)) may = absurd may
-brings_said g number key s (Some aborts) may = absurd may
-brings_said g number key s (Some garbles) may = absurd may
-brings_said g number key s None may = absurd may
-
-brings_one : (g : SideFacts) (number : ℕ) (key : Key) (s : State) (o : Option Feed) → OnFeedAt o (MayAccept g s number key) → (m : Content) × (brought_on s.last o ≡ m ∷ []) × (key ≡ key_of g m)
-brings_one g number key s (Some d) may = brings_said g number key s (next_said s.last d) may.next
-brings_one g number key s None may = absurd may
 
 -- where an entry of the far side leads
 pub record FarLeads (g : SideFacts) (i : JournalItem) (a b : State) (x y z : Ledger) (earlier posts : List Content) (c : LivesChannel) : Type 0 where

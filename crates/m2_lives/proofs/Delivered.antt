@@ -17,6 +17,7 @@ use Rattle.m2_channel.proofs.m2_never_reset.m2_journal.m2_lemmas.Lists.{all_fron
 use Rattle.m2_lives.specs.Lives.{one_more, SendingLife, ReceivingLife, LivesChannel, sending_lives, receiving_lives, Has, IsNewName, IsSameAt, post, begins_sending, acknowledge, next_life, changed_in_lives, LifeMessage, of_life, held_by, held_in}
 use Rattle.m2_lives.specs.LivesLaws.{AreNames, IsWithin, IsHeldBy, IsOrderedInLives, all_of_key}
 use Rattle.m2_lives.proofs.Runs.{sending_name, receiving_name, count_of, last_of}
+use Rattle.m2_never_reset.proofs.Feeds.{take-front}
 
 -- ---- lists
 
@@ -35,11 +36,6 @@ pub take_one : {X : Type 0} (n : ℕ) (xs : List X) (m : X) → slice_get xs n �
 take_one n [] m e = absurd (none-some m e)
 take_one zero (x ∷ xs) m e = ap (λ y. y ∷ []) (same_Some x m e)
 take_one (suc n) (x ∷ xs) m e = ap (λ k. take k (x ∷ xs)) (let e : suc n + 1 ≡ suc (n + 1) = omega arith in e) ∙ ap (λ l. x ∷ l) (take_one n xs m e)
-
-pub take_front : {X : Type 0} (n : ℕ) (xs ys : List X) → n ≤ length xs → take n (xs ++ ys) ≡ take n xs
-take_front zero xs ys h = refl
-take_front (suc n) [] ys h = absurd (omega (arith, h))
-take_front (suc n) (x ∷ xs) ys h = ap (λ l. x ∷ l) (take_front n xs ys (omega (arith, h)))
 
 pub drop_long : {X : Type 0} (s n : ℕ) (xs : List X) → s + n ≤ length xs → n ≤ length (drop s xs)
 drop_long zero n xs h = omega (arith, h)
@@ -243,7 +239,7 @@ holds_more c d taken given more h =
     }
   where
     front : (n : ℕ) (name : ℕ) (key : Key) → n ≤ length (held_in name key c) → take n (held_in name key c) ≡ take n (held_in name key d)
-    front n name key fit = let it = more.held name key in sym (ap (take n) it.1 ∙ take_front n (held_in name key c) it.0 fit)
+    front n name key fit = let it = more.held name key in sym (ap (take n) it.1 ∙ take-front n (held_in name key c) it.0 fit)
 
     longer : (xs : List LifeMessage) (count : ReceivingLife → Key → ℕ) (lives : List ReceivingLife) →
         ((l : ReceivingLife) → ((key : Key) → l.accepted key ≤ length (held_in l.name key c)) → (key : Key) → count l key ≤ length (held_in l.name key c)) →
@@ -276,7 +272,7 @@ held_of_more key posted more s w = at (s.start key) (s.end key) (w.acknowledged 
     fits start acked end total a b = omega (arith, a, b)
 
     inside : {X : Type 0} (s k : ℕ) (xs ys : List X) → s + k ≤ length xs → take k (drop s (xs ++ ys)) ≡ take k (drop s xs)
-    inside zero k xs ys f = take_front k xs ys (omega (arith, f))
+    inside zero k xs ys f = take-front k xs ys (omega (arith, f))
     inside (suc s) zero xs ys f = refl
     inside (suc s) (suc k) [] ys f = absurd (omega (arith, f))
     inside (suc s) (suc k) (x ∷ xs) ys f = inside s (suc k) xs ys (omega (arith, f))

@@ -17,7 +17,7 @@ use Rattle.m2_lives.specs.Lives.{none, one_more, ReceivingLife, LivesChannel, ne
 use Rattle.m2_lives.specs.LivesLaws.{AreNames, ArePiecesOf, all_of_key, RunsDeliverInLives}
 use Rattle.m2_lives.proofs.Among.{has_so, has_back, names_last, names_map, all_named}
 use Rattle.m2_lives.proofs.Runs.{changes_so, new_so, receiving_name, all_last_so}
-use Rattle.m2_lives.proofs.Delivered.{take_one, take_first, take_fewer, told, one, of_it, told_more, all_more, not_same, of_another, of_its_own, the_one, held_at, Took, accepted_of, dispatched_of, pieces_of, IsEmptyIfNone, IsUntold, Delivers, accepted_fits, holds_more, posts_more, begins_more, acknowledges_more}
+use Rattle.m2_lives.proofs.Delivered.{Delivers, IsEmptyIfNone, IsUntold, Took, accepted_fits, accepted_of, acknowledges_more, all_more, begins_more, dispatched_of, get_drop, held_at, holds_more, not_same, of_another, of_it, of_its_own, one, pieces_of, posts_more, take_fewer, take_first, take_one, the_one, told, told_more}
 
 -- ---- a life begins
 
@@ -141,11 +141,6 @@ get_within (suc k) [] i h = refl
 get_within (suc k) (x ∷ xs) zero h = refl
 get_within (suc k) (x ∷ xs) (suc i) h = get_within k xs i (omega (arith, h))
 
-get_behind : {X : Type 0} (s : ℕ) (xs : List X) (i : ℕ) → slice_get (drop s xs) i ≡ slice_get xs (s + i)
-get_behind zero xs i = ap (slice_get xs) (let e : i ≡ 0 + i = omega arith in e)
-get_behind (suc s) [] i = refl
-get_behind (suc s) (x ∷ xs) i = get_behind s xs i ∙ ap (slice_get (x ∷ xs)) (let e : suc (s + i) ≡ suc s + i = omega arith in e)
-
 module _ (name : ℕ) (key : Key) (m : Content) (c : LivesChannel) (taken given : List LifeMessage) (may : MayBeDispatched name key m c) (h : Delivers c taken given) where
   abbrev f : ReceivingLife → ReceivingLife
   f = one_dispatched name key
@@ -178,7 +173,7 @@ module _ (name : ℕ) (key : Key) (m : Content) (c : LivesChannel) (taken given 
       let it = the_one name key c.posted (IsSameAt key m d c.posted) (sending_lives c) may.kept h.ordered.sending_names may.held in
       ap (λ l. slice_get l d) it.held
       ∙ get_within (it.life.end key - it.life.start key) (drop (it.life.start key) (of_key key c.posted)) d (subst (λ l. d < length l) it.held below)
-      ∙ get_behind (it.life.start key) (of_key key c.posted) d ∙ it.so
+      ∙ get_drop (it.life.start key) (of_key key c.posted) d ∙ it.so
     where
       less : (a b l : ℕ) → a < b → b ≤ l → a < l
       less a b l p q = omega (arith, p, q)

@@ -20,8 +20,7 @@ use Rattle.m2_lives.specs.ObservedRun.{in_life, with_key}
 use Rattle.m2_lives.proofs.Among.{none_or_some, has_so}
 use Rattle.m2_lives.proofs.Backing.{get_next}
 use Rattle.m2_lives.proofs.Delivered.{told, one, of_it, told_more, of_another, of_its_own}
-use Rattle.m2_lives.proofs.Named.{one_dispatched_name}
-use Rattle.m2_lives.proofs.Runs.{receiving_name}
+use Rattle.m2_lives.proofs.Runs.{one_name, receiving_name}
 use Rattle.m2_lives.proofs.Showing.{AreSteps}
 
 -- ---- a message of a key and a life
@@ -475,7 +474,7 @@ dispatching_sends (x ∷ xs) c = dispatching_sends xs (changed_in_lives (dispatc
 
 pub same_names : (name : ℕ) (key : Key) (ls : List ReceivingLife) → map receiving_name (map (one_dispatched name key) ls) ≡ map receiving_name ls
 same_names name key [] = refl
-same_names name key (l ∷ ls) = ap (λ n. n ∷ map receiving_name (map (one_dispatched name key) ls)) (one_dispatched_name name key l) ∙ ap (λ ns. l.name ∷ ns) (same_names name key ls)
+same_names name key (l ∷ ls) = ap (λ n. n ∷ map receiving_name (map (one_dispatched name key) ls)) (one_name name key l) ∙ ap (λ ns. l.name ∷ ns) (same_names name key ls)
 
 pub dispatching_names : (xs : List LifeMessage) (c : LivesChannel) → map receiving_name (receiving_lives (after_in_lives (dispatching xs) c)) ≡ map receiving_name (receiving_lives c)
 dispatching_names [] c = refl

@@ -1,13 +1,10 @@
 -- What a mark-down leaves of a side: all that it has sent, opened and judged, and no feed.
-use Rattle.std.proofs.Common.{◌≡◌, ◌+◌, ◌≤◌, ◌⊎◌, inl, inr, Bool, true, false, List, [], ◌∷◌, ◌++◌, length, map, Option, Some, None, refl, sym, ap, ◌∙◌, subst}
-use Rattle.m2_bytes_fit.proofs.Entries.{FeedSo, entry_keeps}
-use Rattle.m2_bytes_fit.proofs.Hands.{HandKept, HandSo, closing, hand_keeps}
+use Rattle.std.proofs.Common.{◌≡◌, ◌+◌, ◌≤◌, Bool, true, false, length, map, Option, Some, None, refl, sym, ap, ◌∙◌, subst}
+use Rattle.m2_bytes_fit.proofs.Hands.{closing}
 use Rattle.m2_bytes_fit.proofs.Hears.{NoAskBehind}
 use Rattle.m2_bytes_fit.proofs.Less.{Less, less_trans, tells_less, untouched}
-use Rattle.m2_bytes_fit.proofs.Steps.{AllKept, kept_in_less, kept_quietly}
 use Rattle.m2_journal.specs.Items as item
-use Rattle.m2_journal.specs.Items.{JournalItem}
-use Rattle.m2_journal.specs.Lawful.{Lawful, judged_on, judged_sockets}
+use Rattle.m2_journal.specs.Lawful.{judged_on, judged_sockets}
 use Rattle.m2_journal.specs.Laws.{IfFed}
 use Rattle.m2_journal.specs.Plan.{Planned}
 use Rattle.m2_journal.specs.SideFacts.{SideFacts}
@@ -17,30 +14,7 @@ use Rattle.m2_journal.specs.m2_fabric.Sockets.{is_among}
 use Rattle.m2_journal.specs.m2_session.declared.event.Event.TheVariants as event
 use Rattle.m2_never_reset.specs.Frames.{frames_on, asks_on, answers_on}
 use Rattle.m2_never_reset.specs.LinkOf.{judged_count, is_unjudged}
-use Rattle.m2_never_reset.specs.PairLaws.{IsNoDown}
 use Rattle.m2_never_reset.specs.Paired.{Beside, beside, FeedIsPaired, Paired, SideIsPaired}
-
--- ---- an entry that marks the side down, and any other
-
-pub record IsDown (i : JournalItem) : Type 0 where
-  pub planned : Bool
-  pub step : Option Planned
-  pub is : i ≡ item.down planned step
-
-pub down_or_not : (i : JournalItem) → IsNoDown i ⊎ IsDown i
-down_or_not (item.post place planned) = inl tt
-down_or_not (item.dial planned) = inl tt
-down_or_not (item.opened k) = inl tt
-down_or_not (item.read k bytes) = inl tt
-down_or_not (item.wrote k bytes) = inl tt
-down_or_not (item.closed k broken) = inl tt
-down_or_not (item.judged k ask number given unread trail) = inl tt
-down_or_not (item.asked ident number) = inl tt
-down_or_not (item.numbered number) = inl tt
-down_or_not (item.accepted number key) = inl tt
-down_or_not (item.acked number) = inl tt
-down_or_not (item.obeyed full) = inl tt
-down_or_not (item.down planned step) = inr record { planned = planned; step = step; is = refl }
 
 -- ---- what is left
 
@@ -59,25 +33,6 @@ pub down_leaves : (f : SideFacts) (planned : Bool) (step : Option Planned) (s : 
 down_leaves f planned step s =
     let l = down_less f planned step s in
     record { sent = l.sent; opened = l.opened; judgements = l.judgements; feed = closing event.MarkedDown s refl }
-
--- ---- of one side
-
-pub any_keeps : (f : SideFacts) (is : List JournalItem) (i : JournalItem) (s : State) → Lawful f i s → HandKept s → IfFed s.feed (FeedSo s) → AllKept f is s → AllKept f (is ++ i ∷ []) (after f i s)
-any_keeps f is i s l hand so h = at (down_or_not i)
-  where
-    at : IsNoDown i ⊎ IsDown i → AllKept f (is ++ i ∷ []) (after f i s)
-    at (inl up) = entry_keeps f is i s up l hand so h
-    at (inr d) =
-        subst (λ j. AllKept f (is ++ j ∷ []) (after f j s)) (sym d.is)
-        (kept_quietly f is (item.down d.planned d.step) (after f (item.down d.planned d.step) s) (λ k. record { read = refl; wrote = refl; taken = refl })
-        (kept_in_less f is s (after f (item.down d.planned d.step) s) (down_less f d.planned d.step s) h))
-
-pub any_hand : (f : SideFacts) (i : JournalItem) (s : State) → Lawful f i s → HandKept s → HandKept (after f i s)
-any_hand f i s l h = at (down_or_not i)
-  where
-    at : IsNoDown i ⊎ IsDown i → HandKept (after f i s)
-    at (inl up) = hand_keeps f i s up l h
-    at (inr d) = subst (λ j. HandKept (after f j s)) (sym d.is) (subst (λ o. IfFed o (HandSo (after f (item.down d.planned d.step) s))) (sym (down_leaves f d.planned d.step s).feed) tt)
 
 -- ---- of both
 

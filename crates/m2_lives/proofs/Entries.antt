@@ -10,15 +10,15 @@ use Rattle.m2_journal.specs.Feeds.{answer_said, hears, narrowed, finished, next_
 use Rattle.m2_journal.specs.Items as item
 use Rattle.m2_journal.specs.Items.{JournalItem}
 use Rattle.m2_journal.specs.Lawful as lawful
-use Rattle.m2_journal.specs.Lawful.{IsNext, IsPost, Lawful, OnFeedAt, MayAsk, MayAcknowledge, MayObey, IsReset, judged_on, judged_sockets, may_ask_again}
+use Rattle.m2_journal.specs.Lawful.{IsNext, Lawful, OnFeedAt, MayAsk, MayAcknowledge, MayObey, IsReset}
 use Rattle.m2_journal.specs.Laws.{IfFed, IsOfCalls, SessionIsSound, taken_among}
 use Rattle.m2_journal.specs.OutFrames as out
-use Rattle.m2_journal.specs.OutFrames.{OutFrame, is_unnamed, replies_of}
+use Rattle.m2_journal.specs.OutFrames.{OutFrame}
 use Rattle.m2_journal.specs.Plan.{Planned, to_post, to_dial, to_go_down}
 use Rattle.m2_journal.specs.Said.{Said, says, brings, aborts, garbles, said}
 use Rattle.m2_journal.specs.SideFacts.{SideFacts, cookie_of}
 use Rattle.m2_journal.specs.State as state
-use Rattle.m2_journal.specs.State.{PartText, Delivery, Feed, Judgement, SentFrame, State}
+use Rattle.m2_journal.specs.State.{PartText, Delivery, Feed, SentFrame, State}
 use Rattle.m2_journal.specs.Steps.{accepts, after, breaks, event_at, event_heard, forgets, heeds, is_on, is_waiting, puts_on, queues, takes_answer, tells, with_feed, writes_message}
 use Rattle.m2_journal.specs.m2_control.declared.control.Control.TheVariants as control
 use Rattle.m2_journal.specs.m2_fabric.declared.socket.SocketId.{SocketId}
@@ -48,8 +48,9 @@ use Rattle.m2_lives.specs.Lives.{Has, LifeMessage}
 use Rattle.m2_lives.specs.Observed.{handed_in_lives}
 use Rattle.m2_lives.proofs.Ledger.{Ledger, IsAcceptance, IsTrueFrame}
 use Rattle.m2_lives.proofs.Moves as move
-use Rattle.m2_lives.proofs.Moves.{Spot, View, Move, spot_of, view, sent_by, on_socket, taken_more as spot_more, taken_spot, anew, moved, OnSpot, IsNextAnswer, NothingComes, WasSent, Acknowledges, IsTold, IsRefusalFrame, MayTake, MayNumber, May, begins}
+use Rattle.m2_lives.proofs.Moves.{Spot, View, Move, spot_of, view, taken_more as spot_more, moved, OnSpot, IsNextAnswer, NothingComes, WasSent, Acknowledges, IsTold, MayNumber, May, begins}
 use Rattle.m2_lives.proofs.Standing.{answer_sent, next_sent}
+use Rattle.m2_queues.proofs.Unsent.{base-next}
 
 -- ---- what is shown of an entry
 
@@ -110,13 +111,6 @@ with_handed v xs ys ks ls e g = rw (e, g) refl
 
 -- ---- the queue
 
-next_base : (q : Queue) → (after_next q).base ≡ q.base
-next_base q = by_room (nat_lt q.cursor (length q.kept))
-  where
-    by_room : (t : Bool) → (if t then q else record q { kept = q.kept ++ take 1 q.waiting; waiting = drop 1 q.waiting }).base ≡ q.base
-    by_room true = refl
-    by_room false = refl
-
 pub next_keeps : (q : Queue) → (after_next q).keeps ≡ q.keeps
 next_keeps q = by_room (nat_lt q.cursor (length q.kept))
   where
@@ -124,7 +118,7 @@ next_keeps q = by_room (nat_lt q.cursor (length q.kept))
     by_room true = refl
     by_room false = refl
 
-past_base : (q : Queue) → q.keeps ≡ true → (if nat_lt q.cursor (length q.kept) then after_sent q else q).base ≡ q.base
+pub past_base : (q : Queue) → q.keeps ≡ true → (if nat_lt q.cursor (length q.kept) then after_sent q else q).base ≡ q.base
 past_base q k = by_place (nat_lt q.cursor (length q.kept))
   where
     sent_base : (after_sent q).base ≡ q.base
@@ -134,7 +128,7 @@ past_base q k = by_place (nat_lt q.cursor (length q.kept))
     by_place true = sent_base
     by_place false = refl
 
-acked_base : (q : Queue) (n : ℕ) → n ≤ q.written → (if nat_le n q.written then after_acked q n else q).base ≡ max q.base n
+pub acked_base : (q : Queue) (n : ℕ) → n ≤ q.written → (if nat_le n q.written then after_acked q n else q).base ≡ max q.base n
 acked_base q n h = at (nat_le n q.written) (le-leb n q.written h)
   where
     at : (b : Bool) → b ≡ true → (if b then after_acked q n else q).base ≡ max q.base n
@@ -381,7 +375,7 @@ module _ (mint theirs : ℕ → ℕ) (f : SideFacts) (s b : State) (y : Ledger) 
         slice_get (map unnumbered s.out.numbered ++ map unnumbered (newly_numbered s.out.queue)) (n - 1) ≡ Some (unnumbered m)
     its_place n m next e =
         let at = number_at s.out.queue n next in
-        let base = next_base s.out.queue in
+        let base = base-next s.out.queue in
         let leads : after_call s.out Next ≡ history_of (not f.policy.lossy) (h.calls.0 ++ Next ∷ []) =
         ap (λ x. after_call x Next) h.calls.1 ∙ sym (go_on (start_of (not f.policy.lossy)) h.calls.0 (Next ∷ [])) in
         let place = subst (λ k. k.queue.base < n → message_at k.queue n ≡ slice_get k.numbered (n - 1)) (sym leads) (places (not f.policy.lossy) (h.calls.0 ++ Next ∷ []) n) (omega (arith, at, base)) in
@@ -403,14 +397,14 @@ module _ (mint theirs : ℕ → ℕ) (f : SideFacts) (s b : State) (y : Ledger) 
             IsMoveTo mint y None (record s { feed = Some d }) (writes_message f n o (queues Next (record s { feed = Some d })))
         by_message d g None e = record {
           move = move.orders more;
-          is = with_numbers (record v { feed = spot_of (Some d) }) _ _ _ _ (next_base s.out.queue) all_numbered;
+          is = with_numbers (record v { feed = spot_of (Some d) }) _ _ _ _ (base-next s.out.queue) all_numbered;
           may = tt;
           begins = refl;
         }
         by_message d g (Some m) e = record {
           move = move.numbers more n m;
           is = with_numbers (record (view (record s { feed = Some d })) { sent = s.sent ++ record { socket = d.socket; frame = out.message n s.last m } ∷ [] }) _ _ _ _
-              (past_base (after_next s.out.queue) (next_keeps s.out.queue ∙ keeps) ∙ next_base s.out.queue) all_numbered;
+              (past_base (after_next s.out.queue) (next_keeps s.out.queue ∙ keeps) ∙ base-next s.out.queue) all_numbered;
           may = record { phase = g.phase; from = (let p = number_at s.out.queue n g.next in omega (arith, p)); is = its_place n m g.next e };
           begins = refl;
         }

@@ -5,6 +5,8 @@ use Rattle.std.proofs.lemmas.Bool.{and_parts, eq-eqb}
 use Rattle.std.proofs.lemmas.List.{map-append}
 use Rattle.std.proofs.lemmas.List.Elements.{filter-append}
 use Rattle.m2_bytes_fit.proofs.Lists.{cons_is_some}
+use Rattle.m2_channel.proofs.Handing.{their_own}
+use Rattle.m2_channel.proofs.Keys.{same_path}
 use Rattle.m2_channel.specs.Handing.{AreFirstCalls, AreParcelsOf, IsParcelOf, calls_of, heard_at_once, heard_by_calls, parcels_of, peer_of, queued_of}
 use Rattle.m2_channel.specs.m2_dispatch.Heard as heard
 use Rattle.m2_channel.specs.m2_dispatch.Heard.{Heard, is_key, is_path}
@@ -173,15 +175,6 @@ of_the_peer peer key (Put (parcel.RemoteReset q) ∷ calls) now also e = at (q =
     at true g = g
     at false g = g
 
-their_own : (peer : ℕ) (calls : List Call) → AllByRecursion (λ p. (peer_of p == peer) ≡ true) (parcels_of peer calls)
-their_own peer [] = tt
-their_own peer (Turn ∷ calls) = their_own peer calls
-their_own peer (Put p ∷ calls) = at (peer_of p == peer) refl (their_own peer calls)
-  where
-    at : (b : Bool) → (peer_of p == peer) ≡ b → AllByRecursion (λ q. (peer_of q == peer) ≡ true) (parcels_of peer calls) → AllByRecursion (λ q. (peer_of q == peer) ≡ true) (if b then p ∷ parcels_of peer calls else parcels_of peer calls)
-    at true e h = (e, h)
-    at false e h = h
-
 -- ---- first ones of each
 
 abbrev pub AreFirstOfEach : {X : Type 0} → List (List X) → List (List X) → Type 0
@@ -256,12 +249,6 @@ parcels_first peer key (p ∷ ps) (d ∷ ds) now mine are = each p d mine.0 are.
 
 path_is : (k key : Key) → is_key k key ≡ true → is_path k.path key.path ≡ true
 path_is k key e = (and_parts (k.priority == key.priority) (is_path k.path key.path) e).1
-
-same_path : (p q : Path) → is_path p q ≡ true → p ≡ q
-same_path Fast Fast e = refl
-same_path Queued Queued e = refl
-same_path Fast Queued e = from_false_true e
-same_path Queued Fast e = from_false_true e
 
 other_path : (p : Path) → is_path p Fast ≡ false → p ≡ Queued
 other_path Fast e = from_false_true (sym e)

@@ -6,10 +6,10 @@ use Rattle.m2_journal.specs.Items.{JournalItem}
 use Rattle.m2_journal.specs.Lawful.{Lawful, judged_on, judged_sockets, may_ask_again}
 use Rattle.m2_journal.specs.Laws.{taken_among}
 use Rattle.m2_journal.specs.OutFrames as out
-use Rattle.m2_journal.specs.OutFrames.{OutFrame, is_unnamed, replies_of}
+use Rattle.m2_journal.specs.OutFrames.{OutFrame, replies_of}
 use Rattle.m2_journal.specs.SideFacts.{SideFacts, cookie_of}
 use Rattle.m2_journal.specs.State as state
-use Rattle.m2_journal.specs.State.{PartText, Delivery, Feed, Judgement, SentFrame, State}
+use Rattle.m2_journal.specs.State.{Feed, Judgement, SentFrame, State}
 use Rattle.m2_journal.specs.Steps.{after, answer_to, event_at, notes, sends, takes_socket, tells}
 use Rattle.m2_journal.specs.declared.entry.JudgedItem.{JudgedItem}
 use Rattle.m2_journal.specs.m2_fabric.declared.socket.SocketId.{SocketId}
@@ -27,7 +27,7 @@ use Rattle.m2_journal.specs.m2_session.Steps.{step_of}
 use Rattle.m2_journal.proofs.Sockets.{no_more_asks}
 use Rattle.m2_journal.proofs.m2_fabric.Sockets.{same_equal}
 use Rattle.m2_journal.proofs.m2_lemmas.Booleans.{false_isnt_true, not_true_is_false}
-use Rattle.m2_lossy_in_order.proofs.Sides.{taken_more, taken_same}
+use Rattle.m2_channel.proofs.Sides.{taken_more, taken_same}
 use Rattle.m2_journal.specs.m2_session.Reconnect.{Reconnect}
 use Rattle.m2_never_reset.specs.Asks.{Ask, by_ident, by_reconnect}
 use Rattle.m2_never_reset.specs.CrossingLaws.{AnswersAreSteps}
@@ -46,7 +46,7 @@ use Rattle.m2_lives.specs.Lives.{Has}
 use Rattle.m2_lives.proofs.Among.{has_so}
 use Rattle.m2_lives.proofs.Ledger.{Ledger, count, IsAskFor, IsTrueFrame}
 use Rattle.m2_lives.proofs.Moves as move
-use Rattle.m2_lives.proofs.Moves.{Spot, View, Move, spot_of, view, sent_by, on_socket, taken_more as spot_more, taken_spot, anew, moved, OnSpot, IsNextAnswer, NothingComes, WasSent, Acknowledges, IsTold, IsRefusalFrame, MayTake, MayNumber, May, begins}
+use Rattle.m2_lives.proofs.Moves.{View, view, moved, IsRefusalFrame, MayTake, begins}
 use Rattle.m2_lives.proofs.Noting.{all_sent}
 use Rattle.m2_lives.proofs.Entries.{IsMoveOf, IsSide, sets_back_told, told_handed, thrown_handed, with_handed, quietly, posts_move, opens_move, read_move, wrote_move, closed_move, down_move, asked_move, numbered_move, accepted_move, acked_move, obeyed_move}
 

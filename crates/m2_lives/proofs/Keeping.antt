@@ -4,6 +4,7 @@ use Rattle.std.specs.Prelude.{IfSome, nat_lt, nat_le}
 use Rattle.std.specs.List.{AllByRecursion, filter}
 use Rattle.std.proofs.lemmas.List.{map-append}
 use Rattle.std.proofs.lemmas.List.Elements.{filter-append}
+use Rattle.m2_channel.proofs.Points.{IsDown, down_or_not}
 use Rattle.m2_journal.specs.Growth.{IsExtended}
 use Rattle.m2_journal.specs.Items as item
 use Rattle.m2_journal.specs.Items.{JournalItem}
@@ -22,6 +23,7 @@ use Rattle.m2_journal.specs.m2_session.Cookies as cookies
 use Rattle.m2_journal.specs.m2_session.declared.cookie.CookieParts.{CookieParts}
 use Rattle.m2_journal.proofs.Growing.{after-append, lawful-append}
 use Rattle.m2_journal.proofs.m2_lemmas.Booleans.{from_false_true}
+use Rattle.m2_never_reset.proofs.Feeds.{take-front}
 use Rattle.m2_never_reset.specs.CrossingLaws.{AnswersAreSteps}
 use Rattle.m2_never_reset.specs.Fits.{Fits}
 use Rattle.m2_never_reset.specs.Frames.{answers_on, frames_on, is_ask}
@@ -30,8 +32,7 @@ use Rattle.m2_never_reset.specs.PairLaws.{IsNoDown, IsReplayed, MayCome, PairedS
 use Rattle.m2_never_reset.specs.Paired.{FeedIsPaired, Paired, beside}
 use Rattle.m2_never_reset.proofs.Entries.{fits_turn}
 use Rattle.m2_never_reset.proofs.Orders.{IsLedTo, paired_turn}
-use Rattle.m2_lives.proofs.Delivered.{take_front}
-use Rattle.m2_lives.proofs.Down.{IsDown, down_leaves, down_or_not, leaves_paired}
+use Rattle.m2_lives.proofs.Down.{down_leaves, leaves_paired}
 use Rattle.m2_lives.proofs.Entries.{IsMoveOf, IsSide, next_keeps, sets_back_told}
 use Rattle.m2_lives.proofs.Judged.{entry_moves}
 use Rattle.m2_lives.proofs.Ledger.{AreLedgers, Ledger, count, lives}
@@ -140,7 +141,7 @@ stands_on b x z y grows more few s = record {
       ready = f.ready;
       not_yet = f.not_yet;
       waits = λ n. subst (AllByRecursion _)
-          (sym (ap (λ l. take d.taken (answers_on d.socket l)) more.1 ∙ ap (take d.taken) (answers-append d.socket x.sent more.0) ∙ take_front d.taken (answers_on d.socket x.sent) (answers_on d.socket more.0) few)) (f.waits n);
+          (sym (ap (λ l. take d.taken (answers_on d.socket l)) more.1 ∙ ap (take d.taken) (answers-append d.socket x.sent more.0) ∙ take-front d.taken (answers_on d.socket x.sent) (answers_on d.socket more.0) few)) (f.waits n);
       asked = f.asked;
       resumed = longer d.resumed f.resumed;
       unresumed = f.unresumed;

@@ -4,6 +4,7 @@ use Rattle.std.specs.Prelude.{IfSome, slice_get}
 use Rattle.std.specs.List.{AllByRecursion}
 use Rattle.std.proofs.lemmas.List.{map-append}
 use Rattle.std.proofs.lemmas.Option.{same_Some}
+use Rattle.m2_channel.proofs.Both.{connecting_apart}
 use Rattle.m2_channel.specs.Channel.{keyed}
 use Rattle.m2_journal.specs.Growth.{IsExtended}
 use Rattle.m2_journal.specs.OutFrames as out
@@ -24,12 +25,6 @@ use Rattle.m2_lives.proofs.Ledger.{Stay, Ledger, names, count, HasStay, HasNumbe
 use Rattle.m2_lives.proofs.Moves.{Spot, View, opens, leaves, numbers, acknowledges, answers, accepts, counts, sent_by, taken_to, moved, OnSpot, IfSpot, WasSent, Acknowledges, IsTold, May}
 use Rattle.m2_lives.proofs.Noting.{Grows, MaySend, MayAccept, sends_one, numbers_more, accepts_one, opens_one, sends_keeps, numbers_keeps, accepts_keeps, opens_keeps, same_grows, numbers_grow, accept_grows, open_grows, all_sent, of_life_more, of_its_life}
 use Rattle.m2_lives.proofs.Standing.{FeedStands, Stands, Next, grows_trans, grows_none, no_more}
-
-pub connecting_apart : phase.Connecting ≡ phase.Ready → ⊥
-connecting_apart e = cc
-
-pub ident_apart : phase.IdentSent ≡ phase.Ready → ⊥
-ident_apart e = cc
 
 pub reconnect_apart : phase.ReconnectSent ≡ phase.Ready → ⊥
 reconnect_apart e = cc

@@ -31,8 +31,9 @@ use Rattle.m2_journal.specs.m2_session.declared.event.Event.{Event}
 use Rattle.m2_journal.specs.m2_session.declared.event.Event.TheVariants as event
 use Rattle.m2_journal.specs.m2_session.declared.session.Session.{Session}
 use Rattle.m2_journal.specs.m2_session.Steps.{Step, step_of}
+use Rattle.m2_lives.proofs.Runs.{one_name}
 use Rattle.m2_never_reset.specs.Orders.{SideItem, near_item, far_item, near_items, far_items, near_after, far_after, posted_in, posts_in}
-use Rattle.m2_lives.specs.Lives.{LivesStep, post, begins_sending, begins_receiving, accept, acknowledge, dispatch, mark, reset, ReceivingLife, LivesChannel, new_lives, one_more, one_dispatched, changed_in_lives, after_in_lives, LifeMessage, posts, dispatches}
+use Rattle.m2_lives.specs.Lives.{LivesStep, post, begins_sending, begins_receiving, accept, acknowledge, dispatch, mark, reset, LivesChannel, new_lives, changed_in_lives, after_in_lives, LifeMessage, posts, dispatches}
 use Rattle.m2_lives.specs.Observed.{dropped_at, shown_by_sender, shown_by_reader, shown_down, begins_told, sends_anew, receives_anew, shown_reset, shown_near, shown_far, shown_from, heard_in_lives, dispatched_from, observed_in_lives}
 use Rattle.m2_lives.specs.ObservedLaws.{LivesAreNamed}
 
@@ -213,13 +214,6 @@ sends_so (dispatch name key m ∷ xs) c = sends_so xs (changed_in_lives (dispatc
 sends_so (mark ∷ xs) c = sends_so xs (changed_in_lives mark c)
 sends_so (reset ∷ xs) c = sends_so xs c
 
-pub one_dispatched_name : (name : ℕ) (key : Key) (l : ReceivingLife) → (one_dispatched name key l).name ≡ l.name
-one_dispatched_name name key l = at (l.name == name)
-  where
-    at : (b : Bool) → (if b then record l { dispatched = one_more key l.dispatched } else l).name ≡ l.name
-    at true = refl
-    at false = refl
-
 receives_so : (xs : List LivesStep) (c : LivesChannel) → (after_in_lives xs c).receives.name ≡ receiving_now c.receives.name xs
 receives_so [] c = refl
 receives_so (begins_sending name thrown ∷ xs) c = receives_so xs (changed_in_lives (begins_sending name thrown) c)
@@ -227,7 +221,7 @@ receives_so (begins_receiving name ∷ xs) c = receives_so xs (changed_in_lives 
 receives_so (post key m ∷ xs) c = receives_so xs (changed_in_lives (post key m) c)
 receives_so (accept key m ∷ xs) c = receives_so xs (changed_in_lives (accept key m) c)
 receives_so (acknowledge key ∷ xs) c = receives_so xs (changed_in_lives (acknowledge key) c)
-receives_so (dispatch name key m ∷ xs) c = receives_so xs (changed_in_lives (dispatch name key m) c) ∙ ap (λ n. receiving_now n xs) (one_dispatched_name name key c.receives)
+receives_so (dispatch name key m ∷ xs) c = receives_so xs (changed_in_lives (dispatch name key m) c) ∙ ap (λ n. receiving_now n xs) (one_name name key c.receives)
 receives_so (mark ∷ xs) c = receives_so xs (changed_in_lives mark c)
 receives_so (reset ∷ xs) c = receives_so xs c
 

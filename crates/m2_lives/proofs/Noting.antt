@@ -1,12 +1,13 @@
 -- What the ledgers of the two sides keep where one of them does a thing more: it sends a frame, begins a life, is in Ready on a
 -- socket, numbers or accepts a message, opens or takes a socket, draws a number.
-use Rattle.std.proofs.Common.{◌≡◌, ◌≢◌, ℕ, zero, suc, ◌-◌, ◌≤◌, ◌⊎◌, inl, inr, Bool, true, false, ◌==◌, if◌then◌else◌, List, [], ◌∷◌, ◌++◌, length, length-append, map, Some, None, refl, sym, ap, subst, ◌∙◌, arith, append-nil, append_assoc, le_refl}
+use Rattle.std.proofs.Common.{◌≡◌, ◌≢◌, ℕ, zero, suc, ◌-◌, ◌≤◌, ◌⊎◌, inl, inr, Bool, true, false, ◌==◌, if◌then◌else◌, List, [], ◌∷◌, ◌++◌, length, length-append, map, Some, refl, sym, ap, subst, ◌∙◌, arith, append-nil, append_assoc, le_refl}
 use Rattle.std.specs.Prelude.{slice_get}
 use Rattle.std.specs.List.{AllByRecursion, filter}
 use Rattle.std.proofs.lemmas.List.{map-append}
 use Rattle.std.proofs.lemmas.List.Elements.{filter-append, filter_map-append}
 use Rattle.std.proofs.lemmas.Bool.{eqb-true, eq-eqb}
-use Rattle.std.proofs.lemmas.Option.{none-some, same_Some}
+use Rattle.std.proofs.lemmas.Option.{none-some}
+use Rattle.m2_bytes_fit.proofs.Asking.{no_ask_of}
 use Rattle.m2_channel.specs.Channel.{KeyedMessage}
 use Rattle.m2_journal.specs.OutFrames as out
 use Rattle.m2_journal.specs.OutFrames.{OutFrame}
@@ -17,7 +18,8 @@ use Rattle.m2_journal.specs.m2_message.Message.{Content, unnumbered}
 use Rattle.m2_journal.proofs.m2_fabric.Sockets.{among_front, among_other, same_equal}
 use Rattle.m2_journal.proofs.m2_lemmas.Booleans.{false_isnt_true, from_false_true}
 use Rattle.m2_journal.proofs.m2_lemmas.Lists.{all_front, all_last, all_so_of}
-use Rattle.m2_never_reset.specs.Frames.{asks_on, is_ask, ask_of, no_ask, last_ask}
+use Rattle.m2_never_reset.proofs.Tallies.{first-more}
+use Rattle.m2_never_reset.specs.Frames.{asks_on, is_ask, no_ask, last_ask}
 use Rattle.m2_never_reset.specs.Order.{AreFirstOf}
 use Rattle.m2_never_reset.proofs.Sent.{asks_same, asks_elsewhere}
 use Rattle.m2_lives.specs.Lives.{Has, IsNewName, LifeMessage, of_life}
@@ -149,20 +151,6 @@ offered_more k w sent apart fresh = subst (λ l. AreApart (map stay_name l)) (sy
     at (out.message number acked m) new = still
     at (out.acknowledgement number) new = still
     at (out.keepalive_answer a) new = still
-
-no_ask_of : (w : OutFrame) → is_ask w ≡ false → ask_of w ≡ None
-no_ask_of (out.ident c g) e = from_false_true (sym e)
-no_ask_of (out.reconnect client server global connect seen) e = from_false_true (sym e)
-no_ask_of (out.server_ident c g) e = refl
-no_ask_of out.greeting e = refl
-no_ask_of (out.reconnect_ok seen) e = refl
-no_ask_of (out.reset full) e = refl
-no_ask_of (out.retry connect) e = refl
-no_ask_of (out.retry_global global) e = refl
-no_ask_of out.wait e = refl
-no_ask_of (out.message number acked m) e = refl
-no_ask_of (out.acknowledgement number) e = refl
-no_ask_of (out.keepalive_answer a) e = refl
 
 -- a resumption is an acceptance
 ok_accepts : (k : SocketId) (seen : ℕ) (sent : List SentFrame) → Has (λ (w : SentFrame). (w.socket ≡ k) × (w.frame ≡ out.reconnect_ok seen)) sent → HasAccepted k sent
@@ -455,12 +443,6 @@ pub length_map : {X Y : Type 0} (f : X → Y) (xs : List X) → length (map f xs
 length_map f [] = refl
 length_map f (x ∷ xs) = ap suc (length_map f xs)
 
--- one more of them, in order
-first_more : (xs more : List Content) (m : Content) → slice_get (xs ++ more) (length xs) ≡ Some m → AreFirstOf (xs ++ m ∷ []) (xs ++ more)
-first_more [] [] m e = absurd (none-some m e)
-first_more [] (k ∷ ks) m e = (ks, ap (λ v. v ∷ ks) (same_Some k m e))
-first_more (x ∷ xs) more m e = let rest = first_more xs more m e in (rest.0, ap (λ l. x ∷ l) rest.1)
-
 -- both hold of one
 has_both : {X : Type 0} (P Q : X → Type 0) (xs : List X) → Has P xs → AllByRecursion (λ x. P x → Q x) xs → Has (λ x. P x × Q x) xs
 has_both P Q [] h all = h
@@ -507,7 +489,7 @@ module _ (mint theirs : ℕ → ℕ) (m : LifeMessage) (x y : Ledger) (may : May
   one_behind l (more, e) is =
       subst (λ c. AreFirstOf c l.numbered) (sym now_contents)
       (subst (AreFirstOf (contents m.life x ++ m.message.message ∷ [])) (sym e)
-      (first_more (contents m.life x) more m.message.message
+      (first-more (contents m.life x) more m.message.message
       (ap (λ n. slice_get (contents m.life x ++ more) n) (length_map (λ (v : KeyedMessage). v.message) (of_life m.life x.accepted)) ∙ ap (λ c. slice_get c (count m.life x)) (sym e) ∙ is)))
 
   behind : Has IsBehind (lives y)

@@ -7,7 +7,6 @@ use Rattle.m2_channel.specs.Channel.{KeyedMessage, of_key, keyed}
 use Rattle.m2_channel.specs.Observed.{Logs, IsLetter, all_of, handed}
 use Rattle.m2_channel.specs.ObservedLaws.{AMessageIsObserved}
 use Rattle.m2_channel.specs.m2_dispatch.Heard as heard
-use Rattle.m2_channel.specs.m2_dispatch.Heard.{is_key}
 use Rattle.m2_channel.proofs.Keys.{key_self}
 use Rattle.m2_channel.proofs.Orders.{far_on}
 use Rattle.m2_journal.specs.Items as item

@@ -9,15 +9,15 @@ use Rattle.m2_bytes_fit.specs.m2_trail.Trails.{HalfBytes}
 use Rattle.m2_bytes_fit.proofs.Asking.{near_behind, far_behind}
 use Rattle.m2_bytes_fit.proofs.Bounded.{IsUnasked, SessionIsBounded, rest_after, step_bounded}
 use Rattle.m2_bytes_fit.proofs.Composed.{AreComposed, FeedIsKnown, Holds, IsNode, can_be_sent, entry_holds, entry_sent, starts_holding, unasked_so}
-use Rattle.m2_bytes_fit.proofs.Entries.{FeedSo}
 use Rattle.m2_bytes_fit.proofs.Growing.{Leads, entry_grows}
 use Rattle.m2_bytes_fit.proofs.Hands.{HandKept}
 use Rattle.m2_bytes_fit.proofs.Hears.{NoAskBehind, near_hears}
-use Rattle.m2_bytes_fit.proofs.Orders.{entries-append}
+use Rattle.m2_bytes_fit.proofs.Orders.{entries-append, feed_so, opened_apart}
 use Rattle.m2_bytes_fit.proofs.Points.{Known, turn, near_judges}
 use Rattle.m2_bytes_fit.proofs.Steps.{AllKept}
 use Rattle.m2_bytes_fit.proofs.m2_feed.m2_lemmas.Booleans.{from_false_true}
 use Rattle.m2_bytes_fit.proofs.m2_feed.m2_lemmas.Lists.{all_append, all_back, all_front}
+use Rattle.m2_channel.proofs.Points.{IsDown, any_hand, any_keeps, down_or_not}
 use Rattle.m2_journal.specs.Items as item
 use Rattle.m2_journal.specs.Items.{JournalItem}
 use Rattle.m2_journal.specs.Lawful.{Lawful}
@@ -28,12 +28,12 @@ use Rattle.m2_journal.specs.SideFacts.{SideFacts}
 use Rattle.m2_journal.specs.State.{Feed, State, start}
 use Rattle.m2_journal.specs.Steps.{after}
 use Rattle.m2_journal.specs.m2_fabric.declared.socket.SocketId.{SocketId}
-use Rattle.m2_journal.specs.m2_fabric.Sockets.{goes_to, is_among}
+use Rattle.m2_journal.specs.m2_fabric.Sockets.{goes_to}
 use Rattle.m2_journal.specs.m2_session.declared.event.Event.TheVariants as event
 use Rattle.m2_journal.proofs.Growing.{after-append}
 use Rattle.m2_journal.proofs.JudgedOn.{lawful_front}
 use Rattle.m2_journal.proofs.Sessions.{goes}
-use Rattle.m2_lossy_in_order.specs.Lossy.{IsByteOrder}
+use Rattle.m2_channel.specs.Lossy.{IsByteOrder}
 use Rattle.m2_never_reset.specs.Fits.{Fits, HearsAt}
 use Rattle.m2_never_reset.specs.Orders.{SideItem, near_item, far_item, near_items, far_items, near_after, far_after, FitThroughout}
 use Rattle.m2_never_reset.specs.PairLaws.{IsNoDown, IsReplayed, PairedStays, StartsAreNew}
@@ -42,9 +42,8 @@ use Rattle.m2_never_reset.proofs.Entries.{fits_turn}
 use Rattle.m2_never_reset.proofs.OneHistory.{fit-append}
 use Rattle.m2_never_reset.proofs.Orders.{paired_turn}
 use Rattle.m2_never_reset.proofs.Sided.{near_append, far_append}
-use Rattle.m2_never_reset.proofs.Sockets.{at_among}
 use Rattle.m2_lives.specs.ObservedLaws.{BytesGiveLives}
-use Rattle.m2_lives.proofs.Down.{IsDown, any_hand, any_keeps, down_leaves, down_or_not, leaves_far, leaves_near, leaves_paired}
+use Rattle.m2_lives.proofs.Down.{down_leaves, leaves_far, leaves_near, leaves_paired}
 
 -- ---- the laws on which this stands
 
@@ -101,27 +100,12 @@ nodes_turned f g h = record { near = h.far; far = h.near; peers = λ k e. at k (
 
 -- ---- words
 
-feed_so : (a b : State) → IfFed a.feed (FeedIsPaired (beside a b)) → IfFed a.feed (FeedSo a)
-feed_so a b h = at a.feed h
-  where
-    at : (o : Option Feed) → IfFed o (FeedIsPaired (beside a b)) → IfFed o (FeedSo a)
-    at None g = tt
-    at (Some d) g = record { asks_alone = g.asks_alone; taken = g.taken }
-
 feed_known : (a b : State) → HearsAt a.feed b.sent → IfFed a.feed (FeedIsPaired (beside a b)) → IfFed a.feed (FeedIsKnown a)
 feed_known a b heard h = at a.feed (unasked_so a.feed b.sent heard) h
   where
     at : (o : Option Feed) → IfFed o IsUnasked → IfFed o (FeedIsPaired (beside a b)) → IfFed o (FeedIsKnown a)
     at None u g = tt
     at (Some d) u g = record { written = g.texts; unasked = u }
-
-opened_apart : (f g : SideFacts) (near far : List SocketId) → ((k : SocketId) → goes_to f.peer k ≡ true → goes_to g.peer k ≡ false) →
-    AllByRecursion (Leads f) near → AllByRecursion (Leads g) far → (k : SocketId) → is_among k near ≡ true → is_among k far ≡ false
-opened_apart f g near far peers h l k o = at (is_among k far) refl
-  where
-    at : (t : Bool) → is_among k far ≡ t → is_among k far ≡ false
-    at false e = e
-    at true e = from_false_true (sym (peers k (at_among (Leads f) near k h o)) ∙ at_among (Leads g) far k l e)
 
 fits_so : (a b : Side) → Known a b → NoAskBehind (state_of a) (state_of b) → NoAskBehind (state_of b) (state_of a) → Fits (state_of a) (state_of b)
 fits_so a b h near far = record {

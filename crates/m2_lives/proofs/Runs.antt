@@ -235,7 +235,7 @@ acknowledges_so key c may h = record {
 
 -- ---- a dispatch
 
-one_name : (name : ℕ) (key : Key) (l : ReceivingLife) → (one_dispatched name key l).name ≡ l.name
+pub one_name : (name : ℕ) (key : Key) (l : ReceivingLife) → (one_dispatched name key l).name ≡ l.name
 one_name name key l = at (l.name == name)
   where
     at : (b : Bool) → (if b then record l { dispatched = one_more key l.dispatched } else l).name ≡ l.name

@@ -3,7 +3,7 @@ use Rattle.std.proofs.Common.{◌≡◌, ℕ, Bool, true, false, ◌==◌, if◌
 use Rattle.m2_channel.specs.Channel as channel
 use Rattle.m2_channel.specs.Channel.{keyed, ChannelStep}
 use Rattle.m2_channel.specs.Observed as observed
-use Rattle.m2_channel.specs.Observed.{Logs, all_of, brought_on, is_reset}
+use Rattle.m2_channel.specs.Observed.{all_of, brought_on, is_reset}
 use Rattle.m2_channel.specs.m2_dispatch.Heard as heard
 use Rattle.m2_channel.specs.m2_dispatch.Heard.{Heard}
 use Rattle.m2_channel.specs.m2_dispatch.m2_message.Message.{Content}

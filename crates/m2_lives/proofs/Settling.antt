@@ -3,6 +3,7 @@
 use Rattle.std.proofs.Common.{◌≡◌, ◌≢◌, ℕ, ◌≤◌, ◌⊎◌, inl, inr, true, false, List, [], ◌∷◌, ◌++◌, length, map, Option, Some, None, refl, sym, ap, subst, ◌∙◌, arith, append-nil, append_assoc, le_refl}
 use Rattle.std.specs.Prelude.{IfSome}
 use Rattle.std.specs.List.{AllByRecursion}
+use Rattle.m2_channel.proofs.Both.{ident_apart}
 use Rattle.m2_journal.specs.Growth.{IsExtended}
 use Rattle.m2_journal.specs.OutFrames as out
 use Rattle.m2_journal.specs.OutFrames.{OutFrame}
@@ -25,7 +26,7 @@ use Rattle.m2_lives.proofs.Ledger.{Stay, Ledger, names, count, HasStay, IsTrueFr
 use Rattle.m2_lives.proofs.Moves.{Spot, View, Move, begins, rests, opens, leaves, asks_ident, asks_reconnect, asks_again, obeys, settles, goes_on, refuses, gives_way, orders, takes, resumes, numbers, acknowledges, answers, accepts, counts, goes_down, on_socket, taken_more, anew, moved, OnSpot, IfSpot, IsNextAnswer, WasSent, IsRefusalFrame, MayTake, May}
 use Rattle.m2_lives.proofs.Noting.{Grows, MaySend, MayBegin, MayStay, sends_one, begins_one, stays_one, numbers_more, draws_one, sends_keeps, begins_keeps, stays_keeps, numbers_keeps, draws_keeps, same_grows, begin_grows, stay_grows, numbers_grow, draw_grows, all_sent, one_stay, no_stay, stay_there}
 use Rattle.m2_lives.proofs.Standing.{FeedStands, Stands, Draws, Next, grows_trans, no_more, next_sent, offers_drawn, offer_there, same_offer}
-use Rattle.m2_lives.proofs.Moving.{ident_apart, reconnect_apart, ready_reconnect, still, leaves_stands, leaves_next, opens_next, acknowledges_next, answers_next, numbered_stands, numbers_next, equal_most, accepts_next, counts_next}
+use Rattle.m2_lives.proofs.Moving.{reconnect_apart, ready_reconnect, still, leaves_stands, leaves_next, opens_next, acknowledges_next, answers_next, numbered_stands, numbers_next, equal_most, accepts_next, counts_next}
 use Rattle.m2_lives.proofs.Asking.{asks_again_next, goes_down_next, obeys_next, asks_ident_next, asks_reconnect_next}
 
 -- ---- in Ready by an answer

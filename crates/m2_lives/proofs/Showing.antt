@@ -25,8 +25,7 @@ use Rattle.m2_lives.specs.ObservedRun.{count_of_key}
 use Rattle.m2_lives.proofs.Among.{none_or_some, has_so}
 use Rattle.m2_lives.proofs.Backing.{Backs, AreBacked, backed_has, backed_last, backed_more, backed_names, count-append, count_unnumbered, first_backed, get_next, key-append}
 use Rattle.m2_lives.proofs.Delivered.{told, one, told_more, of_another, of_its_own}
-use Rattle.m2_lives.proofs.Named.{one_dispatched_name}
-use Rattle.m2_lives.proofs.Runs.{receiving_name, sending_name, one_more_is}
+use Rattle.m2_lives.proofs.Runs.{one_more_is, one_name, receiving_name, sending_name}
 
 -- ---- names
 
@@ -94,7 +93,7 @@ acceptances_append (begins_receiving name ∷ xs) ys c = acceptances_append xs y
 acceptances_append (accept key m ∷ xs) ys c = ap (λ l. one c.receives.name key m ∷ l) (acceptances_append xs ys (changed_in_lives (accept key m) c))
 acceptances_append (acknowledge key ∷ xs) ys c = acceptances_append xs ys (changed_in_lives (acknowledge key) c)
 acceptances_append (dispatch name key m ∷ xs) ys c =
-    subst (λ n. acceptances_from n (xs ++ ys) ≡ acceptances_from n xs ++ acceptances_from (after_in_lives (dispatch name key m ∷ xs) c).receives.name ys) (one_dispatched_name name key c.receives) (acceptances_append xs ys (changed_in_lives (dispatch name key m) c))
+    subst (λ n. acceptances_from n (xs ++ ys) ≡ acceptances_from n xs ++ acceptances_from (after_in_lives (dispatch name key m ∷ xs) c).receives.name ys) (one_name name key c.receives) (acceptances_append xs ys (changed_in_lives (dispatch name key m) c))
 acceptances_append (mark ∷ xs) ys c = acceptances_append xs ys (changed_in_lives mark c)
 acceptances_append (reset ∷ xs) ys c = acceptances_append xs ys c
 

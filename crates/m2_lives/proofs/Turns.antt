@@ -1,7 +1,7 @@
 -- What an entry leaves of a side's queue and of what it hands on: a life goes on, in which messages are posted, numbered, acknowledged
 -- and accepted, or another one begins, in which what isn't acknowledged is numbered anew or thrown away.
-use Rattle.std.proofs.Common.{◌≡◌, ℕ, ◌+◌, ◌≤◌, max, Bool, true, false, not, ◌&&◌, if◌then◌else◌, List, [], ◌∷◌, ◌++◌, length, map, take, drop, ◌⊎◌, inl, inr, Option, Some, None, nat_lt, nat_le, refl, sym, ap, subst, ◌∙◌, append-nil, append_assoc}
-use Rattle.std.proofs.lemmas.Bool.{le-leb}
+use Rattle.std.proofs.Common.{◌≡◌, ℕ, ◌+◌, ◌≤◌, max, Bool, true, false, not, ◌&&◌, if◌then◌else◌, List, [], ◌∷◌, ◌++◌, length, map, take, ◌⊎◌, inl, inr, Option, Some, None, nat_lt, refl, sym, ap, subst, ◌∙◌, append-nil, append_assoc}
+use Rattle.m2_channel.proofs.Quiet.{next_keeps}
 use Rattle.m2_channel.specs.Observed.{brought_by, brought_on}
 use Rattle.m2_journal.specs.Feeds.{hears, narrowed, finished, next_said, texts_at}
 use Rattle.m2_journal.specs.Items as item
@@ -18,7 +18,7 @@ use Rattle.m2_journal.specs.Steps.{accepts, after, answers, breaks, closes, comp
 use Rattle.m2_journal.specs.m2_fabric.declared.socket.SocketId.{SocketId}
 use Rattle.m2_journal.specs.m2_message.Message.{Content}
 use Rattle.m2_journal.specs.m2_policy.declared.path.Key.{Key}
-use Rattle.m2_journal.specs.m2_queues.OutQueues.{Queue, message_at, cursor_number, newly_numbered, after_sent, after_acked}
+use Rattle.m2_journal.specs.m2_queues.OutQueues.{message_at, newly_numbered}
 use Rattle.m2_journal.specs.m2_queues.QueueLaws.{History, Next, Sent, Requeue}
 use Rattle.m2_journal.specs.m2_session.SessionLaws as session
 use Rattle.m2_journal.specs.m2_session.declared.answer.Answer.{Answer}
@@ -33,7 +33,7 @@ use Rattle.m2_journal.specs.m2_session.Steps.{step_of, fault}
 use Rattle.m2_journal.proofs.m2_lemmas.Booleans.{from_false_true}
 use Rattle.m2_never_reset.specs.Orders.{posted_in}
 use Rattle.m2_lives.specs.Observed.{shown_by_sender, shown_by_reader}
-use Rattle.m2_lives.proofs.Entries.{sets_back_told}
+use Rattle.m2_lives.proofs.Entries.{acked_base, past_base, sets_back_told}
 
 -- ---- what stays
 
@@ -279,23 +279,6 @@ quiet_same s t h = (ap (λ (k : History). k.posted) h.0, ap (λ (k : History). k
 abbrev Numbered : State → State → List Content → Type 0
 Numbered s t more = (t.out.posted ≡ s.out.posted) × (t.out.dropped ≡ s.out.dropped) × (t.out.numbered ≡ s.out.numbered ++ more) × (t.out.queue.base ≡ s.out.queue.base) × (t.deliveries ≡ s.deliveries)
 
-next_same : (b : Bool) (q : Queue) → let r = if b then q else record q { kept = q.kept ++ take 1 q.waiting; waiting = drop 1 q.waiting } in (r.base ≡ q.base) × (r.keeps ≡ q.keeps)
-next_same true q = (refl, refl)
-next_same false q = (refl, refl)
-
-sent_same : (q : Queue) → q.keeps ≡ true → (if nat_lt q.cursor (length q.kept) then after_sent q else q).base ≡ q.base
-sent_same q e = by_place (nat_lt q.cursor (length q.kept))
-  where
-    kept : (b : Bool) → b ≡ true → (if b
-        then record q { written = max q.written (cursor_number q); cursor = q.cursor + 1 }
-        else record q { written = max q.written (cursor_number q); base = q.base + 1; kept = drop 1 q.kept }).base ≡ q.base
-    kept true g = refl
-    kept false g = from_false_true g
-
-    by_place : (t : Bool) → (if t then after_sent q else q).base ≡ q.base
-    by_place true = kept q.keeps e
-    by_place false = refl
-
 numbered_quiet : (f : SideFacts) (n : ℕ) (s : State) → s.out.queue.keeps ≡ true → Numbered s (after f (item.numbered n) s) (newly_numbered s.out.queue)
 numbered_quiet f n s keeps = at (message_at u.out.queue n)
   where
@@ -303,22 +286,15 @@ numbered_quiet f n s keeps = at (message_at u.out.queue n)
     u = queues Next s
 
     base : (u.out.queue.base ≡ s.out.queue.base) × (u.out.queue.keeps ≡ s.out.queue.keeps)
-    base = next_same (nat_lt s.out.queue.cursor (length s.out.queue.kept)) s.out.queue
+    base = next_keeps (nat_lt s.out.queue.cursor (length s.out.queue.kept)) s.out.queue
 
     at : (o : Option Content) → Numbered s (writes_message f n o u) (newly_numbered s.out.queue)
     at None = (refl, refl, refl, base.0, refl)
     at (Some m) =
         let c = composes_same f (out.message n u.last m) u in
         let v = composes f (out.message n u.last m) u in
-        let low : (queues Sent v).out.queue.base ≡ u.out.queue.base = sent_same v.out.queue (ap (λ (k : History). k.queue.keeps) c.0 ∙ base.1 ∙ keeps) ∙ ap (λ (k : History). k.queue.base) c.0 in
+        let low : (queues Sent v).out.queue.base ≡ u.out.queue.base = past_base v.out.queue (ap (λ (k : History). k.queue.keeps) c.0 ∙ base.1 ∙ keeps) ∙ ap (λ (k : History). k.queue.base) c.0 in
         (ap (λ (k : History). k.posted) c.0, ap (λ (k : History). k.dropped) c.0, ap (λ (k : History). k.numbered) c.0, low ∙ base.0, c.1)
-
-acked_raises : (q : Queue) (n : ℕ) → n ≤ q.written → (if nat_le n q.written then after_acked q n else q).base ≡ max q.base n
-acked_raises q n h = at (nat_le n q.written) (le-leb n q.written h)
-  where
-    at : (b : Bool) → b ≡ true → (if b then after_acked q n else q).base ≡ max q.base n
-    at true e = refl
-    at false e = from_false_true e
 
 written_at : (s : State) (n : ℕ) (o : Option Feed) → OnFeedAt o (MayAcknowledge s n) → n ≤ s.out.queue.written
 written_at s n (Some d) may = may.written
@@ -461,7 +437,7 @@ module _ (f : SideFacts) (s : State) (lossless : s.session.policy.lossy ≡ fals
     dropped = refl;
     more = [];
     numbered = sym (append-nil s.out.numbered);
-    base = acked_raises s.out.queue n (written_at s n s.feed l);
+    base = acked_base s.out.queue n (written_at s n s.feed l);
     deliveries = sym (append-nil s.deliveries);
   })
   moves_stay (item.dial planned) m l = absurd m

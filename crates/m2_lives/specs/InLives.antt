@@ -6,7 +6,7 @@ use Rattle.m2_journal.specs.Items as item
 use Rattle.m2_journal.specs.SideFacts.{SideFacts}
 use Rattle.m2_journal.specs.m2_fabric.declared.socket.SocketId.{SocketId}
 use Rattle.m2_journal.specs.m2_fabric.Sockets.{goes_to}
-use Rattle.m2_lossy_in_order.specs.Lossy.{IsByteOrder}
+use Rattle.m2_channel.specs.Lossy.{IsByteOrder}
 use Rattle.m2_never_reset.specs.Orders.{SideItem, near_item, far_item, near_after, far_after, AreNodes}
 use Rattle.m2_lives.specs.LifeAfterLife.{BothComeInLives}
 use Rattle.m2_lives.specs.ObservedLaws.{BothAcceptInLives, IsHistoryOfLives, accepted_in}

@@ -16,7 +16,7 @@ use Rattle.m2_journal.specs.m2_fabric.Sockets.{goes_to}
 use Rattle.m2_journal.specs.m2_message.Message.{Content, unnumbered}
 use Rattle.m2_journal.specs.m2_session.declared.event.Event.{Event}
 use Rattle.m2_journal.specs.m2_session.Steps.{step_of}
-use Rattle.m2_lossy_in_order.specs.Lossy.{IsByteOrder}
+use Rattle.m2_channel.specs.Lossy.{IsByteOrder}
 use Rattle.m2_never_reset.specs.Order.{AreFirstOf}
 use Rattle.m2_never_reset.specs.Orders.{SideItem, near_item, far_item, near_items, far_items, near_after, far_after, posts_in, AreNodes, FitThroughout}
 use Rattle.m2_lives.specs.Lives.{new_lives, after_in_lives, Has, of_life, posts, dispatches}

@@ -8,6 +8,7 @@ use Rattle.m2_fabric.specs.declared.socket.SocketId.{SocketId}
 use Rattle.m2_fabric.specs.Sockets.{goes_to}
 use Rattle.m2_links_go_on.specs.m2_growth.Holding.{Holding, all_ends}
 use Rattle.m2_links_go_on.specs.m2_growth.InStepLaws.{StayMet, TurnsStayInStep, TurnsStayMet}
+use Rattle.m2_script.proofs.Lists.{get_other, get_set}
 use Rattle.m2_script.specs.m2_record.Sources.{end_at}
 use Rattle.m2_fabric.specs.InStep.{IsInStep, SeenFabric}
 use Rattle.m2_fabric.specs.Kept.{directions, is_kept}
@@ -15,7 +16,6 @@ use Rattle.m2_fabric.specs.Meeting.{acceptor}
 use Rattle.m2_fabric.specs.SimFabric.{AreApart}
 use Rattle.m2_promise.specs.Running.{HasAskedPeer, IsNodeAt, IsRunning, NodeActs, RunNow}
 use Rattle.m2_promise.proofs.Asking.{still_asked, was_there}
-use Rattle.m2_promise.proofs.Lists.{get_other, get_set}
 use Rattle.m2_promise.proofs.Openers.{HasEnd, some_end}
 use Rattle.m2_fabric.proofs.m2_lemmas.Booleans.{false_isnt_true}
 

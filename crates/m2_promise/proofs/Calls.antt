@@ -6,6 +6,7 @@ use Rattle.std.proofs.lemmas.Bool.{and_parts, eq-eqb, eqb-true}
 use Rattle.std.proofs.lemmas.List.Elements.{filter-append}
 use Rattle.std.proofs.lemmas.List.Sums.{sum_by-append}
 use Rattle.std.proofs.lemmas.Option.{none-some, same_Some, slice_get-map}
+use Rattle.m2_script.proofs.Lists.{get_other, get_set}
 use Rattle.m2_script.specs.m2_center.Center.{CenterNow}
 use Rattle.m2_script.specs.m2_center.CenterTurn.{TakesTurn, all_amid_in, mailing_in}
 use Rattle.m2_script.specs.m2_cluster.Cluster.{ClusterNow}
@@ -21,7 +22,6 @@ use Rattle.m2_promise.specs.Posted.{AllNoted, AreNoted}
 use Rattle.m2_script.specs.m2_record.declared.stepped.Stepped.{Stepped}
 use Rattle.m2_script.specs.m2_record.declared.stepped.Stepped.TheVariants as stepped
 use Rattle.m2_script.specs.m2_record.RecordNow.{RecordNow}
-use Rattle.m2_promise.proofs.Lists.{get_other, get_set}
 use Rattle.m2_script.specs.declared.calls.TurnCalls.{TurnCalls}
 use Rattle.m2_script.specs.Outcome.{of_node}
 use Rattle.m2_script.specs.Script.{Deed, Ends, Happens, IsPassed, PlansStep, RunNow, calls_between, fast_calls, fault, flow, meet, noted, plan, queued_calls, turn}

@@ -24,7 +24,7 @@ use Rattle.m2_links_go_on.specs.m2_weave.m2_journal.Items.{JournalItem, items_of
 use Rattle.m2_links_go_on.specs.m2_weave.m2_journal.Replay.{after_items}
 use Rattle.m2_links_go_on.specs.m2_weave.m2_journal.State.{State, start}
 use Rattle.m2_lives.specs.m2_bytes_fit.m2_trail.Arrivals.{LooseNow}
-use Rattle.m2_links_go_on.specs.m2_history.m2_lossy_in_order.Lossy.{AreLossy}
+use Rattle.m2_links_go_on.specs.m2_history.m2_channel.Lossy.{AreLossy}
 use Rattle.m2_lives.specs.Handing.{LogsAreInLives}
 use Rattle.m2_lives.specs.InLives.{AreInLives, BytesComeInLives}
 use Rattle.m2_lives.specs.LifeAfterLife.{ComesInLives}

@@ -14,7 +14,7 @@ use Rattle.m2_links_go_on.specs.m2_history.Link.{parts_of}
 use Rattle.m2_links_go_on.specs.m2_weave.m2_journal.Items.{JournalItem}
 use Rattle.m2_links_go_on.specs.m2_weave.m2_journal.Replay.{after_items, replay}
 use Rattle.m2_links_go_on.specs.m2_weave.m2_journal.State.{State, start}
-use Rattle.m2_links_go_on.specs.m2_history.m2_lossy_in_order.Lossy.{AreSomeOf}
+use Rattle.m2_links_go_on.specs.m2_history.m2_channel.Lossy.{AreSomeOf}
 use Rattle.m2_channel.specs.m2_never_reset.LinkOf.{letters}
 use Rattle.m2_channel.specs.m2_never_reset.Orders.{IsBroughtOver, IsNeverReset, SideItem, far_after, far_items, near_after, near_items}
 use Rattle.m2_dispatch.specs.m2_queues.OutQueues.{Queue}

@@ -1,18 +1,16 @@
 -- Whose the ends of a node are: a record's that opened the socket or has judged asks on it, a half's, or ends that wait.
-use Rattle.std.proofs.Common.{◌≡◌, ℕ, Bool, true, false, if◌then◌else◌, List, [], ◌∷◌, map, Option, Some, None, refl, sym, ap, subst, ◌∙◌, ◌⊎◌, inl, inr}
+use Rattle.std.proofs.Common.{◌≡◌, ℕ, Bool, true, false, if◌then◌else◌, List, [], ◌∷◌, Option, Some, None, refl, sym, ap, subst, ◌∙◌, ◌⊎◌, inl, inr}
 use Rattle.std.specs.Prelude.{◌||◌, slice_get, IsSome}
-use Rattle.std.specs.List.{IsDistinct}
-use Rattle.std.proofs.lemmas.Map.Keys.{IsDistinct-head, IsDistinct-tail}
 use Rattle.m2_fabric.specs.m2_addr.declared.addr.Addr.{Addr}
 use Rattle.m2_fabric.specs.declared.socket.SocketId.{SocketId}
 use Rattle.m2_fabric.specs.End.{SeenEnd}
 use Rattle.m2_fabric.specs.Sockets.{goes_to, is_among, same_socket}
+use Rattle.m2_links_go_on.proofs.LeftTold.{one_peer}
 use Rattle.m2_links_go_on.specs.m2_growth.Halves.{AskedTowards, HasItsHalves, IsOneOf, all_left, asked_on, sockets_left, sockets_taken}
 use Rattle.m2_links_go_on.specs.m2_growth.Holding.{Holding, IsToCome, LeadsElsewhere, all_ends, ends_held, waiting_at}
 use Rattle.m2_links_go_on.specs.m2_growth.Records.{ends_of_all}
 use Rattle.m2_links_go_on.proofs.m2_growth.Among.{of_each, one_front, whose}
 use Rattle.m2_links_go_on.proofs.m2_growth.Ends.{end_append, first_of}
-use Rattle.m2_links_go_on.specs.m2_weave.m2_handshake.Asks.{same_addr}
 use Rattle.m2_links_go_on.proofs.m2_history.Kept.{records_are_kept}
 use Rattle.m2_links_go_on.specs.m2_history.Link.{IsKeptHalf, end_ids, parts_of}
 use Rattle.m2_links_go_on.specs.m2_weave.m2_journal.declared.entry.Entry.{Entry}
@@ -39,10 +37,8 @@ use Rattle.m2_links_go_on.proofs.LinkRecords.{HasOne, ends_feeds, feed_kind, has
 use Rattle.m2_links_go_on.proofs.Standing.{taken_asked}
 use Rattle.m2_promise.specs.Running.{IsNodeAt, IsOfPort, IsRecordAt}
 use Rattle.m2_promise.proofs.Lists.{flat_one, image_of, of_among}
-use Rattle.m2_links_go_on.proofs.m2_weave.m2_handshake.Idents.{same_self}
 use Rattle.m2_fabric.proofs.Sockets.{among_part, same_equal}
 use Rattle.m2_fabric.proofs.m2_lemmas.Booleans.{false_isnt_true}
-use Rattle.m2_fabric.proofs.m2_lemmas.Lists.{all_of_map}
 
 -- ---- ends
 
@@ -91,20 +87,6 @@ opened_feed (entry.Judged x ask number answer ∷ es) k h = at (takes answer) re
     at true e h = rw e (within (same_socket k x) h)
     at false e h = rw e h
 opened_feed (e ∷ es) k h = opened_feed es k h
-
--- ---- records by their peers
-
-head_differs : (x s : RecordNow) (rs : List RecordNow) → IsOneOf s rs → IsDistinct same_addr (map peer_of (x ∷ rs)) → peer_of x ≡ peer_of s → ⊥
-head_differs x s rs j d h =
-    false_isnt_true (sym (of_each (λ (y : RecordNow). same_addr (peer_of x) (peer_of y) ≡ false) s rs (all_of_map (λ b. same_addr (peer_of x) b ≡ false) peer_of rs (IsDistinct-head same_addr (peer_of x) (map peer_of rs) d)) j)
-    ∙ ap (same_addr (peer_of x)) (sym h) ∙ same_self (peer_of x))
-
-one_peer : (r s : RecordNow) (rs : List RecordNow) → IsOneOf r rs → IsOneOf s rs → IsDistinct same_addr (map peer_of rs) → peer_of r ≡ peer_of s → r ≡ s
-one_peer r s [] i j d h = absurd i
-one_peer r s (x ∷ rs) (inl p) (inl q) d h = p ∙ sym q
-one_peer r s (x ∷ rs) (inl p) (inr j) d h = absurd (head_differs x s rs j d (sym (ap peer_of p) ∙ h))
-one_peer r s (x ∷ rs) (inr i) (inl q) d h = absurd (head_differs x r rs i d (sym (ap peer_of q) ∙ sym h))
-one_peer r s (x ∷ rs) (inr i) (inr j) d h = one_peer r s rs i j (IsDistinct-tail same_addr (peer_of x) (map peer_of rs) d) h
 
 -- ---- one node
 

@@ -21,7 +21,7 @@ use Rattle.m2_promise.proofs.Ends.{never_marked, only_any, only_towards}
 use Rattle.m2_promise.proofs.Hears.{GoOneWay}
 use Rattle.m2_promise.proofs.Marks.{only_marked, record_marked}
 use Rattle.m2_promise.proofs.PostedPlans.{count_planned, count_posts, posted_first}
-use Rattle.m2_promise.proofs.Sides.{HasNamed, named_by, place_of, record_over}
+use Rattle.m2_promise.proofs.Sides.{HasNamed, named_by, record_over}
 use Rattle.m2_promise.proofs.Ways.{one_way}
 use Rattle.m2_promise.specs.AtEnd.{AreAtEnd, Beside, IsNodeAtEnd, IsOfLines, Named, is_down_of, is_down_step, posts_planned, posts_to}
 use Rattle.m2_promise.specs.Delivered.{HasHeardInLives, HasHeardPeer, MarksNoneDown}
@@ -31,6 +31,7 @@ use Rattle.m2_scenario.specs.Draft.{DraftLine}
 use Rattle.m2_scenario.specs.Order.{posts_between}
 use Rattle.m2_scenario.specs.declared.link.Link.{Link}
 use Rattle.m2_scenario.specs.declared.node.Node.{Node}
+use Rattle.m2_script.proofs.Lists.{item_at}
 use Rattle.m2_script.specs.Made.{other_of}
 use Rattle.m2_script.specs.Outcome.{heard_at, heard_of_node, in_turns, is_down, is_down_at, is_post_step, of_node, posts_at, records_at}
 use Rattle.m2_script.specs.Script.{RunNow}
@@ -51,9 +52,9 @@ module _ (nodes : List Node) (links : List Link) (lines : List DraftLine) (besid
   -- either node of a link has one
   pub is_towards : (l : Link) → IsOneOf l links → (x : ℕ) (t : Towards) → other_of x l ≡ Some t → x < length nodes → t.place < length nodes → IsTowards nodes s x t
   is_towards l one x t other here there =
-      let mine = place_of nodes x here in
-      let peer = place_of nodes t.place there in
-      let node = place_of s.cluster.nodes x (subst (λ n. x < n) (sym ended.count) here) in
+      let mine = item_at nodes x here in
+      let peer = item_at nodes t.place there in
+      let node = item_at s.cluster.nodes x (subst (λ n. x < n) (sym ended.count) here) in
       let its = ended.each x node.0 node.1 in
       record {
         mine = mine.0;

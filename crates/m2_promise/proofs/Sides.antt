@@ -1,5 +1,5 @@
 -- The records of a node over a scenario's links: of each link that joins it there is one, and each is of such a link.
-use Rattle.std.proofs.Common.{◌≡◌, ◌≢◌, ℕ, zero, suc, ◌<◌, ◌⊎◌, inl, inr, Bool, true, false, ◌&&◌, ◌||◌, ◌==◌, ◌%◌, if◌then◌else◌, List, [], ◌∷◌, length, map, Option, Some, None, refl, sym, ap, subst, ◌∙◌, arith}
+use Rattle.std.proofs.Common.{◌≡◌, ◌≢◌, ℕ, suc, ◌<◌, ◌⊎◌, inl, inr, Bool, true, false, ◌&&◌, ◌||◌, ◌==◌, ◌%◌, if◌then◌else◌, List, [], ◌∷◌, length, map, Option, Some, None, refl, sym, ap, subst, ◌∙◌}
 use Rattle.std.specs.Prelude.{slice_get}
 use Rattle.std.specs.List.{list_any}
 use Rattle.std.specs.Option.{option_to_list}
@@ -20,11 +20,6 @@ use Rattle.m2_script.specs.Made.{facts_of, new_towards, other_of, over, records_
 use Rattle.m2_fabric.proofs.m2_lemmas.Booleans.{from_false_true}
 
 -- ---- lists
-
-pub place_of : {X : Type 0} (xs : List X) (k : ℕ) → k < length xs → (x : X) × (slice_get xs k ≡ Some x)
-place_of [] k h = absurd (omega (arith, h))
-place_of (x ∷ xs) zero h = (x, refl)
-place_of (x ∷ xs) (suc k) h = place_of xs k (omega (arith, h))
 
 -- one that passes the test
 pub record Passes {X : Type 0} (test : X → Bool) (xs : List X) : Type 0 where

@@ -4,7 +4,7 @@ use Rattle.std.specs.Prelude.{◌≡◌, true, false}
 use Rattle.std.specs.List.{AllByRecursion}
 use Rattle.m2_channel.specs.Observed.{Logs}
 use Rattle.m2_links_go_on.specs.m2_growth.Holding.{Holding}
-use Rattle.m2_links_go_on.specs.m2_history.m2_lossy_in_order.Lossy.{AreLossy}
+use Rattle.m2_links_go_on.specs.m2_history.m2_channel.Lossy.{AreLossy}
 use Rattle.m2_script.specs.m2_record.RecordNow.{RecordNow}
 use Rattle.m2_promise.specs.Running.{HaveOrders, IsLinkOf, IsRunning, RunNow}
 use Rattle.m2_links_go_on.specs.m2_history.WovenLaws.{kept_by}

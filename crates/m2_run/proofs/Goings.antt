@@ -10,6 +10,7 @@ use Rattle.m2_links_go_on.specs.Course.{DialsInTime}
 use Rattle.m2_links_go_on.specs.Made.{NodeMade}
 use Rattle.m2_dispatch.specs.declared.logged.Logged.{Logged}
 use Rattle.m2_record.specs.RecordNow.{RecordNow}
+use Rattle.m2_run.proofs.Way.{goes_then}
 use Rattle.m2_scenario.specs.declared.node.Node.{Node}
 use Rattle.m2_run.specs.Way.{AllGoOn, GoesOn, IsUnderWay}
 use Rattle.m2_run.specs.Working.{AllWork, AreWorkersOf, WorkerNow, Works, latest, node_of}
@@ -40,14 +41,6 @@ waits_until may_give from now started n given later = record {
     peers = w.peers;
   };
   off = λ off. refl;
-}
-
--- one after another
-pub goes_after : (may_give : ℕ → Type 0) (a b c : ℕ) (started : Bool) (x y z : NodeNow (List Logged)) → GoesOn may_give a b started x y → GoesOn may_give b c started y z →
-    GoesOn may_give a c started x z
-goes_after may_give a b c started x y z g h = record {
-  way = λ made w. h.way made (g.way made w);
-  off = λ off. h.off off ∙ g.off off;
 }
 
 -- ---- the latest moment
@@ -108,7 +101,7 @@ started_at nodes start ws k x w are p q =
 one_goes : (may_give : ℕ → Type 0) (start now : ℕ) (started : Bool) (w v : WorkerNow) → Works may_give w v → may_give start → w.moment ≡ start → w.started ≡ started → may_give now →
     v.moment ≤ now → GoesOn may_give start now started w.node v.node
 one_goes may_give start now started w v works given at on later below =
-    goes_after may_give start v.moment now started w.node v.node v.node
+    goes_then may_give start v.moment now started w.node v.node v.node
     (subst (λ (b : Bool). GoesOn may_give start v.moment b w.node v.node) on
     (subst (λ (m : ℕ). GoesOn may_give m v.moment w.started w.node v.node) at (works.goes (subst may_give (sym at) given))))
     (waits_until may_give v.moment now started v.node later below)
@@ -142,5 +135,5 @@ pub all_go_after : (may_give : ℕ → Type 0) (a b c : ℕ) (nodes : List Node)
 all_go_after may_give a b c nodes xs ys zs g h = record {
   count = h.count ∙ g.count;
   each = λ k x n m there p q. (let mid = get_too xs ys k n g.count p in
-      goes_after may_give a b c x.started n mid.item m (g.each k x n mid.item there p mid.there) (h.each k x mid.item m there mid.there q));
+      goes_then may_give a b c x.started n mid.item m (g.each k x n mid.item there p mid.there) (h.each k x mid.item m there mid.there q));
 }

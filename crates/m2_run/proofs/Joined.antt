@@ -1,10 +1,11 @@
 -- A link of a kept run that has a history is a link as weaving asks for one: what is left of its nodes are left nodes, its records are
 -- towards each other, and what their plans post keeps the bounds of frames.
-use Rattle.std.proofs.Common.{◌≡◌, ◌⊎◌, ℕ, true, false, List, [], ◌∷◌, map, Some, Ok, refl, sym, ap, subst, ◌∙◌, arith}
+use Rattle.std.proofs.Common.{◌≡◌, ◌⊎◌, ℕ, true, false, List, map, Some, Ok, sym, ap, subst, ◌∙◌, arith}
 use Rattle.std.specs.Prelude.{length, slice_get}
 use Rattle.std.specs.List.{AllByRecursion}
 use Rattle.std.proofs.lemmas.Option.{get_or_from_slice_get, same_Some, slice_get_within}
 use Rattle.m2_cluster.specs.Node.{NodeNow}
+use Rattle.m2_links_go_on.proofs.m2_history.WovenSides.{steps_named}
 use Rattle.m2_links_go_on.specs.Made.{NodeMade}
 use Rattle.m2_dispatch.specs.declared.logged.Logged.{Logged}
 use Rattle.m2_fabric.specs.Fabric.{SeenFabric}
@@ -15,14 +16,13 @@ use Rattle.m2_links_go_on.proofs.m2_history.Whole.{records_are_sides}
 use Rattle.m2_links_go_on.specs.m2_history.Counted.{logs_of}
 use Rattle.m2_links_go_on.specs.m2_history.Link.{WeavesRecords, both_of}
 use Rattle.m2_links_go_on.specs.m2_history.Lossy.{IsWovenInOrder}
-use Rattle.m2_links_go_on.specs.m2_history.Steps.{steps_from}
 use Rattle.m2_links_go_on.specs.m2_history.Woven.{strands_of}
 use Rattle.m2_links_go_on.specs.m2_history.WovenLaws.{link_of, strands_in}
 use Rattle.m2_links_go_on.specs.m2_history.WovenLink.{IsLink, IsOrderOf}
 use Rattle.m2_links_go_on.specs.m2_history.declared.history.History.{History}
 use Rattle.m2_links_go_on.specs.m2_history.declared.history.HistoryStep.{HistoryStep}
 use Rattle.m2_links_go_on.specs.m2_history.m2_channel.m2_never_reset.Orders.{AreNodes}
-use Rattle.m2_links_go_on.specs.m2_history.m2_lossy_in_order.Lossy.{AreLossy}
+use Rattle.m2_links_go_on.specs.m2_history.m2_channel.Lossy.{AreLossy}
 use Rattle.m2_links_go_on.proofs.LeftNodes.{are_joined}
 use Rattle.m2_links_go_on.specs.Left.{AreLeftNodes, IsLeftNode}
 use Rattle.m2_record.specs.IsRecord.{IsRecord}
@@ -32,13 +32,13 @@ use Rattle.m2_scenario.specs.Valid as valid
 use Rattle.m2_scenario.specs.declared.line.Line.{Line}
 use Rattle.m2_scenario.specs.declared.link.Link.{Link}
 use Rattle.m2_scenario.specs.declared.node.Node.{Node}
+use Rattle.m2_script.proofs.Lists.{item_at}
 use Rattle.m2_trail.specs.Arrivals.{LooseNow}
 use Rattle.m2_weave.proofs.Written.{all_read}
-use Rattle.m2_weave.specs.Order.{Cut, come}
 use Rattle.m2_weave.specs.Stops.{IsWoven}
 use Rattle.m2_weave.specs.Table.{bytes_of}
 use Rattle.m2_run.proofs.JoinedHalves.{leaves, left_by}
-use Rattle.m2_run.proofs.JoinedNodes.{are_apart, each_left, halves_are, is_towards, left_of_all, one_left, there_is}
+use Rattle.m2_run.proofs.JoinedNodes.{are_apart, each_left, halves_are, is_towards, left_of_all, one_left}
 use Rattle.m2_run.proofs.JoinedPolicies.{IsOverLink, all_over_link, are_lossy, are_nodes, far_policy, near_policy}
 use Rattle.m2_run.proofs.JoinedPosts.{posts_fit}
 use Rattle.m2_run.proofs.JoinedSides.{IsOfNode, all_of_node, are_named}
@@ -50,10 +50,6 @@ use Rattle.m2_run.specs.Weaving.{HasHistory, towards}
 use Rattle.m2_run.specs.declared.outcome.Outcome.{Outcome}
 
 -- ---- the order of a history
-
-steps_named : (at : Cut) (order : List ℕ) → map (λ (s : HistoryStep). s.strand) (steps_from at order) ≡ order
-steps_named at [] = refl
-steps_named at (k ∷ order) = ap (λ (l : List ℕ). k ∷ l) (steps_named (come k at) order)
 
 order_is : (a b : RecordNow) (loose : List LooseNow) (h : History) → WeavesRecords (Ok h) (both_of a b loose) → IsOrderOf (link_of a b loose) (strands_in h)
 order_is a b loose h w = record {
@@ -74,7 +70,7 @@ module _ (may_give : ℕ → Type 0) (nodes : List Node) (links : List Link) (li
 
   node_at : (k : ℕ) (n : NodeNow (List Logged)) → slice_get kept k ≡ Some n → IsAt k n
   node_at k n e =
-      let x = there_is nodes k (omega (arith, slice_get_within kept k n e, given.run.count)) in
+      let x = item_at nodes k (omega (arith, slice_get_within kept k n e, given.run.count)) in
       record { node = x.0; there = x.1; is = given.run.each k x.0 n x.1 e }
 
   listens : (k : ℕ) (x : Node) (n : NodeNow (List Logged)) → IsKeptNode may_give given.stop nodes links lines given.old given.new k x n → n.center.port.at ≡ x.at
@@ -108,7 +104,7 @@ module _ (may_give : ℕ → Type 0) (nodes : List Node) (links : List Link) (li
 
   ended_at : (k : ℕ) (e : EndedNow) → slice_get ends k ≡ Some e → IsEnded k e
   ended_at k e there =
-      let n = there_is kept k (omega (arith, slice_get_within ends k e there, given.left.count)) in
+      let n = item_at kept k (omega (arith, slice_get_within ends k e there, given.left.count)) in
       record { node = n.0; there = n.1; is = given.left.each k n.0 e n.1 there }
 
   -- the record of the node at place k that is towards that at place j

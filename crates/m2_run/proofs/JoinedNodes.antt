@@ -1,9 +1,9 @@
 -- What the nodes of a kept run leave: they listen at different places, and each is one of a list in whatever order.
-use Rattle.std.proofs.Common.{◌≡◌, ℕ, zero, suc, ◌<◌, inl, inr, Bool, true, false, ◌&&◌, ◌==◌, if◌then◌else◌, List, [], ◌∷◌, ◌++◌, length, map, reverse, Some, refl, sym, ap, subst, ◌∙◌, arith}
+use Rattle.std.proofs.Common.{◌≡◌, ℕ, zero, suc, inl, inr, Bool, true, false, ◌&&◌, ◌==◌, if◌then◌else◌, List, [], ◌∷◌, ◌++◌, length, map, reverse, Some, refl, sym, ap, subst, ◌∙◌, arith}
 use Rattle.std.specs.Prelude.{AllPairs, slice_get}
 use Rattle.std.specs.List.{AllByRecursion, IsDistinct, flat_map}
 use Rattle.std.proofs.lemmas.Bool.{and_parts, eq-eqb, eqb-true}
-use Rattle.std.proofs.lemmas.List.{map-append, reverse-append}
+use Rattle.std.proofs.lemmas.List.{map-append}
 use Rattle.std.proofs.lemmas.List.Elements.{recursion_from_All}
 use Rattle.std.proofs.lemmas.Option.{none-some, same_Some}
 use Rattle.m2_addr.specs.declared.addr.Addr.{Addr}
@@ -15,6 +15,8 @@ use Rattle.m2_links_go_on.proofs.m2_growth.Among.{one_back, one_front}
 use Rattle.m2_links_go_on.specs.m2_growth.Halves.{IsOneOf}
 use Rattle.m2_links_go_on.specs.Left.{LeftNode, all_halves}
 use Rattle.m2_record.specs.RecordNow.{RecordNow}
+use Rattle.m2_run.proofs.Giving.{all_reversed}
+use Rattle.m2_run.proofs.Places.{reverse_first}
 use Rattle.m2_scenario.specs.declared.node.Node.{Node}
 use Rattle.m2_scenario.specs.Valid.{AreApart}
 use Rattle.m2_script.specs.Nodes.{address_of}
@@ -24,11 +26,6 @@ use Rattle.m2_run.specs.Weaving.{towards}
 
 -- ---- lists
 
-pub there_is : {X : Type 0} (xs : List X) (k : ℕ) → k < length xs → (x : X) × (slice_get xs k ≡ Some x)
-there_is [] k h = absurd (omega (arith, h))
-there_is (x ∷ xs) zero h = (x, refl)
-there_is (x ∷ xs) (suc k) h = there_is xs k (omega (arith, h))
-
 one_at : {X Y : Type 0} (f : X → Y) (xs : List X) (k : ℕ) (x : X) → slice_get xs k ≡ Some x → IsOneOf (f x) (map f xs)
 one_at f [] k x e = absurd (none-some x e)
 one_at f (y ∷ xs) zero x e = inl (ap f (sym (same_Some y x e)))
@@ -36,22 +33,15 @@ one_at f (y ∷ xs) (suc k) x e = inr (one_at f xs k x e)
 
 -- ---- in the other order
 
-turned_list : {X : Type 0} (x : X) (xs : List X) → reverse (x ∷ xs) ≡ reverse xs ++ x ∷ []
-turned_list x xs = reverse-append (x ∷ []) xs
-
 map_turned : {X Y : Type 0} (f : X → Y) (xs : List X) → map f (reverse xs) ≡ reverse (map f xs)
 map_turned f [] = refl
 map_turned f (x ∷ xs) =
-    ap (map f) (turned_list x xs) ∙ map-append f (reverse xs) (x ∷ []) ∙ ap (λ ys. ys ++ f x ∷ []) (map_turned f xs) ∙ sym (turned_list (f x) (map f xs))
-
-all_turned : {X : Type 0} (P : X → Type 0) (xs : List X) → AllByRecursion P xs → AllByRecursion P (reverse xs)
-all_turned P [] all = tt
-all_turned P (x ∷ xs) all = subst (AllByRecursion P) (sym (turned_list x xs)) (all_last P (reverse xs) x (all_turned P xs all.1) all.0)
+    ap (map f) (reverse_first x xs) ∙ map-append f (reverse xs) (x ∷ []) ∙ ap (λ ys. ys ++ f x ∷ []) (map_turned f xs) ∙ sym (reverse_first (f x) (map f xs))
 
 one_turned : {X : Type 0} (x : X) (xs : List X) → IsOneOf x xs → IsOneOf x (reverse xs)
 one_turned x [] i = absurd i
-one_turned x (y ∷ xs) (inl e) = subst (IsOneOf x) (sym (turned_list y xs)) (one_back x (reverse xs) (y ∷ []) (inl e))
-one_turned x (y ∷ xs) (inr i) = subst (IsOneOf x) (sym (turned_list y xs)) (one_front x (reverse xs) (y ∷ []) (one_turned x xs i))
+one_turned x (y ∷ xs) (inl e) = subst (IsOneOf x) (sym (reverse_first y xs)) (one_back x (reverse xs) (y ∷ []) (inl e))
+one_turned x (y ∷ xs) (inr i) = subst (IsOneOf x) (sym (reverse_first y xs)) (one_front x (reverse xs) (y ∷ []) (one_turned x xs i))
 
 -- one that none of them is equal to goes last
 distinct_last : {X : Type 0} (e : X → X → Bool) (xs : List X) (y : X) → IsDistinct e xs → AllByRecursion (λ x. e x y ≡ false) xs → IsDistinct e (xs ++ y ∷ [])
@@ -63,9 +53,9 @@ distinct_turned : {X : Type 0} (e : X → X → Bool) → ((x y : X) → e x y �
 unfolding IsDistinct
 distinct_turned e swaps [] d = tt
 distinct_turned e swaps (x ∷ xs) d =
-    subst (IsDistinct e) (sym (turned_list x xs))
+    subst (IsDistinct e) (sym (reverse_first x xs))
     (distinct_last e (reverse xs) x (distinct_turned e swaps xs d.1)
-    (all_turned (λ y. e y x ≡ false) xs (all_so_of (λ y. e x y ≡ false) (λ y. e y x ≡ false) xs (λ y p. swaps x y p) d.0)))
+    (all_reversed (λ y. e y x ≡ false) xs (all_so_of (λ y. e x y ≡ false) (λ y. e y x ≡ false) xs (λ y p. swaps x y p) d.0)))
 
 -- ---- places
 
@@ -135,7 +125,7 @@ all_left_so P [] each = tt
 all_left_so P (n ∷ kept) each = (each 0 n refl, all_left_so P kept (λ k m e. each (suc k) m e))
 
 pub each_left : (P : LeftNode → Type 0) (kept : List (NodeNow (List Logged))) → ((k : ℕ) (n : NodeNow (List Logged)) → slice_get kept k ≡ Some n → P (left_by n)) → AllByRecursion P (left_of_all kept)
-each_left P kept each = subst (AllByRecursion P) (sym (map_turned left_by kept)) (all_turned P (map left_by kept) (all_left_so P kept each))
+each_left P kept each = subst (AllByRecursion P) (sym (map_turned left_by kept)) (all_reversed P (map left_by kept) (all_left_so P kept each))
 
 halves_in : (kept : List (NodeNow (List Logged))) → all_halves (map left_by kept) ≡ flat_map loose_at kept
 halves_in [] = refl

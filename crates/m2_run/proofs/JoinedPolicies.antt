@@ -10,7 +10,7 @@ use Rattle.m2_cluster.specs.Node.{NodeNow}
 use Rattle.m2_links_go_on.specs.Made.{NodeMade, SideMade, node_made, side_made}
 use Rattle.m2_dispatch.specs.declared.logged.Logged.{Logged}
 use Rattle.m2_links_go_on.specs.m2_history.m2_channel.m2_never_reset.Orders.{AreNodes}
-use Rattle.m2_links_go_on.specs.m2_history.m2_lossy_in_order.Lossy.{AreLossy}
+use Rattle.m2_links_go_on.specs.m2_history.m2_channel.Lossy.{AreLossy}
 use Rattle.m2_journal.specs.SideFacts.{SideFacts}
 use Rattle.m2_policy.specs.Policy.{allows}
 use Rattle.m2_policy.specs.declared.policy.Policy.{Policy}

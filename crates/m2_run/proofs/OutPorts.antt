@@ -1,5 +1,5 @@
 -- Ports of nodes that listen, one after another.
-use Rattle.std.proofs.Common.{◌≡◌, ◌⊎◌, inl, inr, ◌<◌, ◌≤◌, ◌+◌, ◌++◌, ◌∙◌, ℕ, zero, suc, true, false, List, [], ◌∷◌, length, map, Option, Some, None, refl, sym, ap, subst, length-append, arith}
+use Rattle.std.proofs.Common.{◌≡◌, ◌⊎◌, inl, inr, ◌<◌, ◌≤◌, ◌+◌, ◌++◌, ◌∙◌, ℕ, suc, true, false, List, [], ◌∷◌, length, map, Option, Some, None, refl, sym, ap, subst, length-append, arith}
 use Rattle.std.specs.Prelude.{All, IfSome, slice_get}
 use Rattle.std.proofs.lemmas.Bool.{cases_eq}
 use Rattle.std.proofs.lemmas.List.{length-map}
@@ -14,6 +14,8 @@ use Rattle.m2_run.specs.Begins.{AreListening, AreOutSoFar, ArePortsFor, IsOutIf,
 use Rattle.m2_run.specs.Listening.{AllListen}
 use Rattle.m2_run.specs.Ports.{PortNow}
 use Rattle.m2_run.specs.Way.{AreOut}
+use Rattle.m2_script.proofs.Apart.{there_is}
+use Rattle.m2_script.proofs.SoFar.{of_some, one_of}
 
 -- ---- one port
 
@@ -79,28 +81,8 @@ pub record ArePortsSoFar (k : ℕ) (nodes : List Node) (ports : List PortNow) : 
   pub count : length ports ≡ k
   pub each : (j : ℕ) (x : Node) (p : PortNow) → slice_get nodes j ≡ Some x → slice_get ports j ≡ Some p → IsPortFor x p
 
--- an item of a list with one more is one of the list, or that
-pub one_of : {X : Type 0} (xs : List X) (y : X) (k : ℕ) (x : X) → slice_get (xs ++ y ∷ []) k ≡ Some x → (slice_get xs k ≡ Some x) ⊎ ((k ≡ length xs) × (y ≡ x))
-one_of [] y zero x e = inr (refl, same_Some y x e)
-one_of [] y (suc k) x e = absurd (none-some x e)
-one_of (z ∷ xs) y zero x e = inl e
-one_of (z ∷ xs) y (suc k) x e = go (one_of xs y k x e)
-  where
-    go : (slice_get xs k ≡ Some x) ⊎ ((k ≡ length xs) × (y ≡ x)) → (slice_get xs k ≡ Some x) ⊎ ((suc k ≡ suc (length xs)) × (y ≡ x))
-    go (inl h) = inl h
-    go (inr h) = inr (ap suc h.0, h.1)
-
--- what holds of what is at a place
-pub of_some : {X : Type 0} (o : Option X) (P : X → Type 0) (x : X) → o ≡ Some x → IfSome o P → P x
-of_some o P x is h = subst (λ o. IfSome o P) is h
-
 pub if_some : {X : Type 0} (o : Option X) (P : X → Type 0) (x : X) → o ≡ Some x → P x → IfSome o P
 if_some o P x is h = subst (λ o. IfSome o P) (sym is) h
-
-there_is : {X : Type 0} (xs : List X) (i : ℕ) → i < length xs → slice_get xs i ≡ None → ⊥
-there_is [] i h e = omega (arith, h)
-there_is (x ∷ xs) zero h e = none-some x (sym e)
-there_is (x ∷ xs) (suc i) h e = there_is xs i (omega (arith, h)) e
 
 module _ (nodes : List Node) where
   pub no_port : ArePortsSoFar 0 nodes []

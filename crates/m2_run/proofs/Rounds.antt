@@ -17,20 +17,9 @@ use Rattle.m2_run.specs.Settling.{HaveGoneOn}
 use Rattle.m2_run.specs.Way.{AllPoll, AllTurn, GoesOn, TurnsSo}
 use Rattle.m2_run.specs.WayLaws.{PollsGoOn, TurnsGoOn, WaitingGoesOn}
 use Rattle.m2_run.proofs.Way.{goes_not, goes_then}
+use Rattle.m2_script.proofs.Lists.{get_other, get_set}
 
 -- ---- places of lists
-
-get_set : {X : Type 0} (xs : List X) (i : ℕ) (x y : X) → slice_get xs i ≡ Some x → slice_get (slice_set xs i y) i ≡ Some y
-get_set [] i x y h = absurd cc
-get_set (z ∷ xs) zero x y h = refl
-get_set (z ∷ xs) (suc i) x y h = get_set xs i x y h
-
-get_other : {X : Type 0} (xs : List X) (i j : ℕ) (y : X) → (j ≡ i → ⊥) → slice_get (slice_set xs i y) j ≡ slice_get xs j
-get_other [] i j y n = refl
-get_other (z ∷ xs) zero zero y n = absurd (n refl)
-get_other (z ∷ xs) zero (suc j) y n = refl
-get_other (z ∷ xs) (suc i) zero y n = refl
-get_other (z ∷ xs) (suc i) (suc j) y n = get_other xs i j y (λ e. n (ap suc e))
 
 -- what stands at a place of one list has something beside it in another that is as long
 beside : {X Y : Type 0} (xs : List X) (ys : List Y) (k : ℕ) (x : X) → slice_get xs k ≡ Some x → length ys ≡ length xs → (y : Y) × (slice_get ys k ≡ Some y)

@@ -1,11 +1,12 @@
 -- The calls that are told of a run are of nodes.
-use Rattle.std.proofs.Common.{◌≡◌, ℕ, ◌<◌, ◌==◌, suc, Bool, ◌||◌, true, false, List, [], ◌∷◌, ◌++◌, Option, Some, None, length, map, slice_get, refl, sym, ap, ◌∙◌, subst}
+use Rattle.std.proofs.Common.{◌≡◌, ℕ, ◌<◌, ◌==◌, suc, Bool, ◌||◌, true, false, List, [], ◌∷◌, Option, Some, None, length, map, slice_get, refl, sym, ap, ◌∙◌, subst}
 use Rattle.std.specs.List.{AllByRecursion, list_any}
 use Rattle.std.specs.Option.{option_to_list}
 use Rattle.std.proofs.Math.ListN.{length-map}
 use Rattle.std.proofs.lemmas.Bool.{eqb-true, false≢true}
 use Rattle.std.proofs.lemmas.List.Elements.{All-from_recursion}
 use Rattle.std.proofs.lemmas.Option.{slice_get_within}
+use Rattle.m2_bytes.proofs.m2_lemmas.Lists.{all_append}
 use Rattle.m2_bytes.specs.Items.{Holding}
 use Rattle.m2_cluster.specs.Node.{NodeNow}
 use Rattle.m2_links_go_on.specs.Made.{SideMade, side_made}
@@ -33,10 +34,6 @@ IsSideOfOne n s = s.place < n
 abbrev IsOfOne : ℕ → Heard → Type 0
 IsOfOne n h = peer_of h < n
 
-all_joined : {X : Type 0} (P : X → Type 0) (xs ys : List X) → AllByRecursion P xs → AllByRecursion P ys → AllByRecursion P (xs ++ ys)
-all_joined P [] ys all more = more
-all_joined P (x ∷ xs) ys all more = (all.0, all_joined P xs ys all.1 more)
-
 module _ (nodes : List Node) (k word : ℕ) where
   by_peer : (mine peer : Option Node) (t : Towards) → slice_get nodes t.place ≡ peer → AllByRecursion (IsTowardsOne (length nodes)) (option_to_list (new_towards mine peer k word t))
   by_peer None None t e = tt
@@ -51,7 +48,7 @@ module _ (nodes : List Node) (k word : ℕ) where
   records_towards : (links : List Link) → AllByRecursion (IsTowardsOne (length nodes)) (records_of nodes links k word)
   records_towards [] = tt
   records_towards (l ∷ ls) =
-      all_joined (IsTowardsOne (length nodes)) (option_to_list (over nodes k word (other_of k l))) (records_of nodes ls k word) (over_one (other_of k l)) (records_towards ls)
+      all_append (IsTowardsOne (length nodes)) (option_to_list (over nodes k word (other_of k l))) (records_of nodes ls k word) (over_one (other_of k l)) (records_towards ls)
 
 sides_towards : (n k : ℕ) (lines : List Line) (rs : List RecordNow) → AllByRecursion (IsTowardsOne n) rs → AllByRecursion (IsSideOfOne n) (map (side_in lines k) rs)
 sides_towards n k lines [] all = tt
@@ -83,7 +80,7 @@ node_within may_give moment nodes links lines k word x n way =
     made_towards (length nodes) n.center.records
     (subst (AllByRecursion (IsSideOfOne (length nodes))) (sym sides) (sides_towards (length nodes) k lines (records_of nodes links k word) (records_towards nodes k word links)))
     in
-    all_joined (IsOfOne (length nodes)) (heard_by n.center.out.fast) (heard_by n.center.queued.inner)
+    all_append (IsOfOne (length nodes)) (heard_by n.center.out.fast) (heard_by n.center.queued.inner)
     (calls_within (length nodes) n.center.records (heard_by n.center.out.fast) towards way.peers.fast)
     (calls_within (length nodes) n.center.records (heard_by n.center.queued.inner) towards way.peers.queued)
 

@@ -1,5 +1,5 @@
 -- Workers of nodes that have done nothing, one after another.
-use Rattle.std.proofs.Common.{◌≡◌, ◌⊎◌, inl, inr, ◌+◌, ◌++◌, ◌∙◌, ℕ, zero, suc, List, [], ◌∷◌, length, get_or, map, take, drop, Option, Some, None, refl, sym, ap, subst, length-append, arith}
+use Rattle.std.proofs.Common.{◌≡◌, ◌⊎◌, inl, inr, ◌+◌, ◌++◌, ◌∙◌, ℕ, zero, suc, List, [], ◌∷◌, length, get_or, map, take, drop, Some, sym, ap, subst, length-append, arith}
 use Rattle.std.specs.Prelude.{IfOk, IfSome, Result, Ok, Err, slice_get}
 use Rattle.std.proofs.lemmas.List.{map-append, take_more}
 use Rattle.std.proofs.lemmas.Option.{get_or_from_slice_get, none-some, slice_get_within}
@@ -9,7 +9,7 @@ use Rattle.m2_scenario.specs.declared.link.Link.{Link}
 use Rattle.m2_scenario.specs.declared.node.Node.{Node}
 use Rattle.m2_run.specs.Begins.{AreBeginning, IsBeginning}
 use Rattle.m2_run.specs.declared.planning.StepTowards.{StepTowards}
-use Rattle.m2_run.proofs.OutPorts.{of_some, one_of}
+use Rattle.m2_script.proofs.SoFar.{of_some, one_of}
 
 -- ---- what comes next
 
@@ -40,10 +40,6 @@ mapped_more f h xs ys k x y there same far =
 pub ok_so : {T E : Type 0} (r : Result T E) (A B : T → Type 0) → ((x : T) → A x → B x) → IfOk r A → IfOk r B
 ok_so (Ok x) A B so a = so x a
 ok_so (Err e) A B so a = tt
-
-pub all_if_some : {X : Type 0} (o : Option X) (P : X → Type 0) → ((x : X) → o ≡ Some x → P x) → IfSome o P
-all_if_some None P so = tt
-all_if_some (Some x) P so = so x refl
 
 -- ---- nodes so far
 

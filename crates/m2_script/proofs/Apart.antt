@@ -12,7 +12,7 @@ use Rattle.m2_fabric.specs.SimFabric.{same_place}
 use Rattle.m2_fabric.specs.SimFabric as fabric
 use Rattle.m2_script.specs.Nodes.{address_of}
 
-there_is : {X : Type 0} (xs : List X) (i : ℕ) → i < length xs → slice_get xs i ≡ None → ⊥
+pub there_is : {X : Type 0} (xs : List X) (i : ℕ) → i < length xs → slice_get xs i ≡ None → ⊥
 there_is [] i h e = omega (arith, h)
 there_is (x ∷ xs) zero h e = none-some x (sym e)
 there_is (x ∷ xs) (suc i) h e = there_is xs i (omega (arith, h)) e

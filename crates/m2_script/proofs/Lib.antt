@@ -3,6 +3,7 @@ pub mod Bare
 pub mod CutsMore
 pub mod Deeds
 pub mod Lefts
+pub mod Lists
 pub mod Logs
 pub mod Moving
 pub mod Needs

@@ -4,7 +4,6 @@ use Rattle.std.specs.Prelude.{flat_map}
 use Rattle.std.specs.List.{AllByRecursion}
 use Rattle.std.proofs.lemmas.Bool.{and_parts, eqb-true, leb-true}
 use Rattle.std.proofs.Math.Dec.{eqb}
-use Rattle.std.proofs.lemmas.List.Elements.{recursion_from_All}
 use Rattle.m2_dispatch.specs.m2_message.declared.message.Message.{Message}
 use Rattle.m2_dispatch.specs.m2_message.Message.{IsSendable, content_of}
 use Rattle.m2_scenario.specs.declared.limits.TheConstants.{MOST_PART_BYTES}
@@ -12,7 +11,7 @@ use Rattle.m2_scenario.specs.declared.line.Line.{Line}
 use Rattle.m2_scenario.specs.declared.line.Line.TheVariants as line
 use Rattle.m2_scenario.specs.declared.link.Link.{Link}
 use Rattle.m2_scenario.specs.Draft.{are_joined, draft_line}
-use Rattle.m2_scenario.specs.Valid.{IsLine, IsLink, IsSound, are_short, is_short}
+use Rattle.m2_scenario.specs.Valid.{IsLine, IsLink, are_short, is_short}
 use Rattle.m2_script.specs.Script.{Deed, IsWithin, both_flow, deeds_of, round_of, rounds_of, script_of, turns_from}
 
 -- ---- the deeds of a valid scenario

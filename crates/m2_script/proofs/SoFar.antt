@@ -14,7 +14,7 @@ abbrev pub AreNewSoFar : List Node → List Link → List Line → List (NodeNow
 AreNewSoFar nodes links lines ns = (k : ℕ) (x : Node) (n : NodeNow (List Logged)) → slice_get nodes k ≡ Some x → slice_get ns k ≡ Some n → IsNewNode nodes links lines k x n
 
 -- an item of a list with one more is one of the list, or that
-one_of : {X : Type 0} (xs : List X) (y : X) (k : ℕ) (x : X) → slice_get (xs ++ y ∷ []) k ≡ Some x → (slice_get xs k ≡ Some x) ⊎ ((k ≡ length xs) × (y ≡ x))
+pub one_of : {X : Type 0} (xs : List X) (y : X) (k : ℕ) (x : X) → slice_get (xs ++ y ∷ []) k ≡ Some x → (slice_get xs k ≡ Some x) ⊎ ((k ≡ length xs) × (y ≡ x))
 one_of [] y zero x e = inr (refl, same_Some y x e)
 one_of [] y (suc k) x e = absurd (none-some x e)
 one_of (z ∷ xs) y zero x e = inl e

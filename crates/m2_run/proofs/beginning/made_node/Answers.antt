@@ -3,11 +3,12 @@ use Rattle.std.proofs.Common.{◌≡◌, Some, ap, sym, ◌∙◌}
 use Rattle.std.specs.Prelude.{slice_get}
 use Rattle.std.proofs.lemmas.Option.{slice_get-get_or}
 use Rattle.m2_scenario.specs.declared.node.Node.{Node}
+use Rattle.m2_script.proofs.SoFar.{of_some}
 use Rattle.m2_script.specs.Nodes.{none_drawn, none_granted}
 use Rattle.m2_run.specs.Begins.{IsBeginning, IsPortFor}
 use Rattle.m2_run.specs.Ports.{seen_port}
 use Rattle.m2_run.proofs.NodesBegin.{new_peers}
-use Rattle.m2_run.proofs.OutPorts.{if_some, of_some}
+use Rattle.m2_run.proofs.OutPorts.{if_some}
 use Rattle.m2_run.proofs.WorkersBegin.{ok_so}
 use Rattle.m2_run.proofs.beginning.made_node.Goals as goal
 

@@ -5,12 +5,12 @@ use Rattle.std.specs.List.{AllByRecursion}
 use Rattle.std.proofs.lemmas.List.{map-append, take_all}
 use Rattle.m2_fabric.proofs.m2_lemmas.Lists.{all_last}
 use Rattle.m2_scenario.specs.declared.node.Node.{Node}
+use Rattle.m2_script.proofs.SoFar.{if_some, of_some}
 use Rattle.m2_run.specs.Begins.{IsBeginning, IsPortFor, items_of, steps_at}
 use Rattle.m2_run.specs.Working.{WorkerNow, node_of}
 use Rattle.m2_run.specs.declared.planning.StepTowards.{StepTowards}
-use Rattle.m2_run.proofs.OutPorts.{of_some}
 use Rattle.m2_run.proofs.Places.{there_at}
-use Rattle.m2_run.proofs.WorkersBegin.{all_if_some, mapped_more, next_there, none_begun, one_begun_more, rest_next}
+use Rattle.m2_run.proofs.WorkersBegin.{mapped_more, next_there, none_begun, one_begun_more, rest_next}
 use Rattle.m2_run.proofs.beginning.workers_of.Goals as goal
 
 pub nodes-init : goal.nodes-init
@@ -31,7 +31,7 @@ worker_of-requires-clause-port g c =
     let l = c.nodes in
     let part = c.in-Some.part in
     let here = next_there c.args.ports.items _ part.port l.k (sym l.invariant.ports ∙ c.in-Some.ensures.ports) in
-    all_if_some (slice_get c.args.nodes.now l.k) (λ x. IsPortFor x part.port) (λ x there. c.requires.ports.each l.k x part.port there here)
+    if_some (slice_get c.args.nodes.now l.k) (λ x. IsPortFor x part.port) (λ x there. c.requires.ports.each l.k x part.port there here)
 
 pub worker_of-requires-clause-steps : goal.worker_of-requires-clause-steps
 worker_of-requires-clause-steps g c =

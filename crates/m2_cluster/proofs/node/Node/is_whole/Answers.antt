@@ -1,7 +1,7 @@
 -- What a node keeps, and what its center does.
 use Rattle.std.proofs.Common.{IsSome, subst}
 use Rattle.std.specs.List.{AllByRecursion}
-use Rattle.m2_center.specs.Center.{CenterNow, IsCenter}
+use Rattle.m2_center.specs.Center.{IsCenter}
 use Rattle.m2_center.specs.Reaching.{all_ends_in}
 use Rattle.m2_cluster.specs.Node.{IsNode, NodeNow}
 use Rattle.m2_fabric.specs.Kinds.{IsInMemory}

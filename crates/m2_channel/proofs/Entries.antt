@@ -34,12 +34,12 @@ use Rattle.m2_journal.specs.State as state
 use Rattle.m2_journal.specs.State.{PartText, Delivery, Feed, Judgement, SentFrame, State}
 use Rattle.m2_journal.specs.Steps.{accepts, after, answer_to, breaks, event_heard, forgets, heeds, is_on, is_waiting, puts_on, queues, writes_message}
 use Rattle.m2_journal.specs.m2_message.Message.{Content, unnumbered}
-use Rattle.m2_channel.specs.m2_never_reset.Fits.{Says, HearsAt}
-use Rattle.m2_channel.specs.m2_never_reset.Frames.{answers_on}
-use Rattle.m2_channel.specs.m2_never_reset.Orders.{posted_in}
-use Rattle.m2_channel.proofs.m2_never_reset.Answered.{IsNext as IsNextThere, next_of}
-use Rattle.m2_channel.proofs.m2_never_reset.Feeds.{hears_hears, opened_hears}
-use Rattle.m2_channel.proofs.m2_never_reset.Read.{by_answer}
+use Rattle.m2_never_reset.specs.Fits.{Says, HearsAt}
+use Rattle.m2_never_reset.specs.Frames.{answers_on}
+use Rattle.m2_never_reset.specs.Orders.{posted_in}
+use Rattle.m2_never_reset.proofs.Answered.{IsNext as IsNextThere, next_of}
+use Rattle.m2_never_reset.proofs.Feeds.{hears_hears, opened_hears}
+use Rattle.m2_never_reset.proofs.Read.{by_answer}
 use Rattle.m2_journal.specs.m2_policy.declared.path.Key.{Key}
 use Rattle.m2_journal.specs.m2_queues.QueueLaws.{Next}
 use Rattle.m2_journal.specs.m2_queues.OutQueues.{Queue, after_next, message_at, next_number}
@@ -53,10 +53,10 @@ use Rattle.m2_journal.specs.m2_session.Ident.{ident_answer}
 use Rattle.m2_journal.specs.m2_session.SessionLaws as session
 use Rattle.m2_journal.specs.m2_session.Phases as phases
 use Rattle.m2_journal.specs.m2_session.Reconnect.{Reconnect, reconnect_answer}
-use Rattle.m2_lossy_in_order.proofs.Moves.{Spot, View, Move, rests, posts, opens, leaves, gives_up, refuses, takes_on, asks as asks_on_feed, settles, numbers, accepts as accepts_one, moved, posted_by, May, IsAway, IsBrought, spot_of, view, on_socket, sent_on}
-use Rattle.m2_lossy_in_order.proofs.Frames.{IsMute}
-use Rattle.m2_lossy_in_order.proofs.Named.{AreNamed, NamedKept, put_named}
-use Rattle.m2_lossy_in_order.proofs.Sides.{IsPlain, SideIs, StandsIn}
+use Rattle.m2_channel.proofs.Moves.{Spot, View, Move, rests, posts, opens, leaves, gives_up, refuses, takes_on, asks as asks_on_feed, settles, numbers, accepts as accepts_one, moved, posted_by, May, IsAway, IsBrought, spot_of, view, on_socket, sent_on}
+use Rattle.m2_channel.proofs.Frames.{IsMute}
+use Rattle.m2_channel.proofs.Named.{AreNamed, NamedKept, put_named}
+use Rattle.m2_channel.proofs.Sides.{IsPlain, SideIs, StandsIn}
 use Rattle.m2_journal.proofs.Sockets.{no_more_asks}
 use Rattle.m2_journal.proofs.m2_lemmas.Lists.{all_append}
 use Rattle.m2_journal.proofs.m2_lemmas.Booleans.{from_false_true}

@@ -4,8 +4,8 @@ use Rattle.std.specs.Prelude.{◌≡◌, ◌⊎◌, ℕ, true, List, map}
 use Rattle.std.specs.List.{AllByRecursion}
 use Rattle.m2_channel.specs.Channel as channel
 use Rattle.m2_channel.specs.Observed.{Logs, all_of, handed}
-use Rattle.m2_channel.specs.m2_dispatch.Heard as heard
-use Rattle.m2_channel.specs.m2_dispatch.Laws.{IsSublist}
+use Rattle.m2_dispatch.specs.Heard as heard
+use Rattle.m2_dispatch.specs.Laws.{IsSublist}
 use Rattle.m2_bytes_fit.specs.Halves.{BytesFit, KeepsRanges}
 use Rattle.m2_bytes_fit.specs.Orders.{OrderEntry, Throughout, entries_of, near_side, far_side}
 use Rattle.m2_bytes_fit.specs.Texts.{CanBePosted}
@@ -13,8 +13,8 @@ use Rattle.m2_journal.specs.Replay.{AreLawful}
 use Rattle.m2_journal.specs.SideFacts.{SideFacts}
 use Rattle.m2_journal.specs.State.{State, start}
 use Rattle.m2_journal.specs.m2_message.Message.{Content, unnumbered}
-use Rattle.m2_channel.specs.m2_never_reset.Orders as orders
-use Rattle.m2_channel.specs.m2_never_reset.Orders.{SideItem, near_items, far_items, near_after, far_after, posts_in}
+use Rattle.m2_never_reset.specs.Orders as orders
+use Rattle.m2_never_reset.specs.Orders.{SideItem, near_items, far_items, near_after, far_after, posts_in}
 use Rattle.m2_journal.specs.m2_policy.declared.path.Key.{Key}
 use Rattle.m2_journal.specs.m2_policy.Policy.{allows}
 

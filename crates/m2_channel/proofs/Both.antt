@@ -11,13 +11,13 @@ use Rattle.m2_journal.specs.OutFrames.{OutFrame}
 use Rattle.m2_journal.specs.SideFacts.{SideFacts}
 use Rattle.m2_journal.specs.State.{SentFrame}
 use Rattle.m2_journal.specs.m2_message.Message.{Content}
-use Rattle.m2_channel.specs.m2_never_reset.Frames.{answers_on}
-use Rattle.m2_channel.proofs.m2_never_reset.Sockets.{taken_is_judged}
+use Rattle.m2_never_reset.specs.Frames.{answers_on}
+use Rattle.m2_never_reset.proofs.Sockets.{taken_is_judged}
 use Rattle.m2_journal.specs.m2_session.declared.session.Phase.TheVariants as phase
-use Rattle.m2_lossy_in_order.proofs.Frames.{mails_on, mails_same, mails_elsewhere, messages_on, plain, accepted_not_mute, mute_no_mails}
-use Rattle.m2_lossy_in_order.proofs.Moves.{Spot, View, Move, rests, posts, opens, leaves, gives_up, refuses, takes_on, asks, settles, numbers, accepts, moved, May, IfSpot, judgement, on_socket, sent_on}
-use Rattle.m2_lossy_in_order.proofs.Readers.{IsFresh, Reads, reads_after, reads_more}
-use Rattle.m2_lossy_in_order.proofs.Sides.{SideIs, StandsIn, judged_in, side_after, taken_more, taken_same}
+use Rattle.m2_channel.proofs.Frames.{mails_on, mails_same, mails_elsewhere, messages_on, plain, accepted_not_mute, mute_no_mails}
+use Rattle.m2_channel.proofs.Moves.{Spot, View, Move, rests, posts, opens, leaves, gives_up, refuses, takes_on, asks, settles, numbers, accepts, moved, May, IfSpot, judgement, on_socket, sent_on}
+use Rattle.m2_channel.proofs.Readers.{IsFresh, Reads, reads_after, reads_more}
+use Rattle.m2_channel.proofs.Sides.{SideIs, StandsIn, judged_in, side_after, taken_more, taken_same}
 use Rattle.m2_journal.proofs.m2_fabric.Sockets.{not_among_none, same_equal, not_among_front}
 use Rattle.m2_journal.proofs.m2_lemmas.Booleans.{from_false_true}
 
@@ -88,10 +88,10 @@ no_more_of : {X : Type 0} (xs : List X) (x : X) → xs ++ x ∷ [] ≡ [] → �
 no_more_of [] x e = cc
 no_more_of (y ∷ ys) x e = cc
 
-connecting_apart : phase.Connecting ≡ phase.Ready → ⊥
+pub connecting_apart : phase.Connecting ≡ phase.Ready → ⊥
 connecting_apart e = cc
 
-ident_apart : phase.IdentSent ≡ phase.Ready → ⊥
+pub ident_apart : phase.IdentSent ≡ phase.Ready → ⊥
 ident_apart e = cc
 
 module _ (f g : SideFacts) (c s : View) (h : Both f g c s) where

@@ -5,8 +5,8 @@ use Rattle.std.proofs.lemmas.Bool.{and_parts, or_cases}
 use Rattle.m2_channel.specs.Channel as channel
 use Rattle.m2_channel.specs.Channel.{KeyedMessage}
 use Rattle.m2_channel.specs.Observed.{handed}
-use Rattle.m2_channel.specs.m2_dispatch.Heard.{is_key}
-use Rattle.m2_channel.specs.m2_dispatch.Laws.{IsSublist}
+use Rattle.m2_dispatch.specs.Heard.{is_key}
+use Rattle.m2_dispatch.specs.Laws.{IsSublist}
 use Rattle.m2_bytes_fit.specs.Orders.{OrderEntry, near_entry, far_entry, near_half, far_half, entries_of, near_side, far_side}
 use Rattle.m2_bytes_fit.specs.Texts.{CanBePosted}
 use Rattle.m2_bytes_fit.proofs.Orders.{entries-append}
@@ -18,26 +18,26 @@ use Rattle.m2_journal.specs.Replay.{AreLawful}
 use Rattle.m2_journal.specs.SideFacts.{SideFacts}
 use Rattle.m2_journal.specs.State.{SentFrame, State, start}
 use Rattle.m2_journal.specs.m2_message.Message.{Content, priority_of, unnumbered}
-use Rattle.m2_channel.specs.m2_never_reset.Orders as orders
-use Rattle.m2_channel.specs.m2_never_reset.Orders.{near_items, far_items, posts_in}
-use Rattle.m2_channel.proofs.m2_never_reset.Sockets.{by_either}
+use Rattle.m2_never_reset.specs.Orders as orders
+use Rattle.m2_never_reset.specs.Orders.{near_items, far_items, posts_in}
+use Rattle.m2_never_reset.proofs.Sockets.{by_either}
 use Rattle.m2_journal.specs.m2_policy.declared.path.Key.{Key}
 use Rattle.m2_journal.specs.m2_policy.declared.policy.Policy.{Policy}
 use Rattle.m2_journal.specs.m2_policy.Policy as policy
 use Rattle.m2_journal.specs.m2_policy.Policy.{allows, is_pair, same, lossless_client, lossless_peer, lossy_client, stateful_server, stateless_server}
 use Rattle.m2_journal.specs.m2_queues.QueueLaws.{of_priority}
-use Rattle.m2_lossy_in_order.specs.Lossy.{BothComeOver, ComeOver, IsByteOrder, LossyComesInOrder}
-use Rattle.m2_lossy_in_order.proofs.Both.{Both}
-use Rattle.m2_lossy_in_order.proofs.Frames.{Mail, messages_in, mails_in, plain}
-use Rattle.m2_lossy_in_order.proofs.Moves.{view}
-use Rattle.m2_lossy_in_order.proofs.Points.{AreNamed, AreTwo, OneKept, PointKept, one_more, point_turned, side_at, state_at}
-use Rattle.m2_lossy_in_order.proofs.Posted.{IsPosted, composed}
-use Rattle.m2_lossy_in_order.proofs.Readers.{Reads, contents, reads_some}
-use Rattle.m2_lossy_in_order.proofs.Sides.{SideIs}
-use Rattle.m2_lossy_in_order.proofs.Sublists.{some_front, some_of_some, some_passing}
+use Rattle.m2_channel.specs.Lossy.{BothComeOver, ComeOver, IsByteOrder, LossyComesInOrder}
+use Rattle.m2_channel.proofs.Both.{Both}
+use Rattle.m2_channel.proofs.Frames.{Mail, messages_in, mails_in, plain}
+use Rattle.m2_channel.proofs.Moves.{view}
+use Rattle.m2_channel.proofs.Points.{AreNamed, AreTwo, OneKept, PointKept, one_more, point_turned, side_at, state_at}
+use Rattle.m2_channel.proofs.Posted.{IsPosted, composed}
+use Rattle.m2_channel.proofs.Readers.{Reads, contents, reads_some}
+use Rattle.m2_channel.proofs.Sides.{SideIs}
+use Rattle.m2_channel.proofs.Sublists.{some_front, some_of_some, some_passing}
 use Rattle.m2_journal.proofs.m2_lemmas.Lists.{finer_filter, all_front, all_back}
-use Rattle.m2_channel.proofs.m2_never_reset.Posted.{has_priority}
-use Rattle.m2_channel.proofs.m2_never_reset.Sided.{near_append, far_append}
+use Rattle.m2_never_reset.proofs.Posted.{has_priority}
+use Rattle.m2_never_reset.proofs.Sided.{near_append, far_append}
 use Rattle.m2_journal.proofs.JudgedOn.{lawful_front}
 use Rattle.m2_journal.proofs.m2_lemmas.Booleans.{from_false_true}
 use Rattle.m2_bytes_fit.proofs.Points.{bytes_turn}

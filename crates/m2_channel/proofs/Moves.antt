@@ -13,12 +13,12 @@ use Rattle.m2_journal.specs.OutFrames.{OutFrame}
 use Rattle.m2_journal.specs.SideFacts.{SideFacts}
 use Rattle.m2_journal.specs.State.{Feed, Judgement, SentFrame, State}
 use Rattle.m2_journal.specs.m2_message.Message.{Content, unnumbered}
-use Rattle.m2_channel.specs.m2_never_reset.Frames.{answers_on}
+use Rattle.m2_never_reset.specs.Frames.{answers_on}
 use Rattle.m2_journal.specs.m2_queues.OutQueues.{Queue, after_discard, after_post, after_renumber, after_requeue}
 use Rattle.m2_journal.specs.m2_session.SessionLaws.{takes}
 use Rattle.m2_journal.specs.m2_session.declared.session.Phase.{Phase}
 use Rattle.m2_journal.specs.m2_session.declared.session.Phase.TheVariants as phase
-use Rattle.m2_lossy_in_order.proofs.Frames.{IsMute}
+use Rattle.m2_channel.proofs.Frames.{IsMute}
 
 -- ---- what matters
 

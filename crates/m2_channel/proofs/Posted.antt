@@ -3,7 +3,7 @@ use Rattle.std.proofs.Common.{◌≡◌, ℕ, ◌==◌, Bool, true, false, List,
 use Rattle.std.specs.List.{AllByRecursion}
 use Rattle.std.proofs.lemmas.List.{map-append}
 use Rattle.std.proofs.lemmas.List.Elements.{filter-append, filter_map-append}
-use Rattle.m2_channel.specs.m2_dispatch.Laws.{IsSublist}
+use Rattle.m2_dispatch.specs.Laws.{IsSublist}
 use Rattle.m2_journal.specs.m2_fabric.declared.socket.SocketId.{SocketId}
 use Rattle.m2_journal.specs.OutFrames as out
 use Rattle.m2_journal.specs.OutFrames.{OutFrame}
@@ -14,10 +14,10 @@ use Rattle.m2_journal.proofs.m2_queues.Joining.{rank-put_behind}
 use Rattle.m2_journal.specs.m2_queues.QueueLaws.{of_priority}
 use Rattle.m2_journal.specs.m2_session.declared.session.Phase.{Phase}
 use Rattle.m2_journal.specs.m2_session.declared.session.Phase.TheVariants as phase
-use Rattle.m2_lossy_in_order.proofs.Frames.{IsMute, Mail, mail_of, mails_in, mute_says_nothing}
-use Rattle.m2_lossy_in_order.proofs.Moves.{Spot, View, Move, rests, posts, opens, leaves, gives_up, refuses, takes_on, asks, settles, numbers, accepts, moved, posted_by, May, on_socket, sent_on}
-use Rattle.m2_lossy_in_order.proofs.Sides.{SideIs, StandsIn}
-use Rattle.m2_lossy_in_order.proofs.Sublists.{some_both, some_front}
+use Rattle.m2_channel.proofs.Frames.{IsMute, Mail, mail_of, mails_in, mute_says_nothing}
+use Rattle.m2_channel.proofs.Moves.{Spot, View, Move, rests, posts, opens, leaves, gives_up, refuses, takes_on, asks, settles, numbers, accepts, moved, posted_by, May, on_socket, sent_on}
+use Rattle.m2_channel.proofs.Sides.{SideIs, StandsIn}
+use Rattle.m2_channel.proofs.Sublists.{some_both, some_front}
 use Rattle.m2_channel.proofs.TwoWays.{some_of_itself}
 
 abbrev pub composed : List SentFrame → List Content

@@ -7,19 +7,19 @@ use Rattle.std.proofs.lemmas.List.{map-append, length-map}
 use Rattle.std.proofs.lemmas.List.Elements.{filter-append, filter_map-append}
 use Rattle.m2_channel.specs.Channel.{KeyedMessage}
 use Rattle.m2_channel.proofs.Keys.{one_more}
-use Rattle.m2_channel.specs.m2_never_reset.Order.{AreFirstOf}
-use Rattle.m2_channel.specs.m2_dispatch.Laws.{IsSublist}
+use Rattle.m2_never_reset.specs.Order.{AreFirstOf}
+use Rattle.m2_dispatch.specs.Laws.{IsSublist}
 use Rattle.m2_journal.specs.m2_fabric.declared.socket.SocketId.{SocketId}
 use Rattle.m2_journal.specs.m2_fabric.Sockets.{same_socket}
 use Rattle.m2_journal.specs.SideFacts.{SideFacts}
 use Rattle.m2_journal.specs.State.{SentFrame}
 use Rattle.m2_journal.specs.m2_message.Message.{Content, unnumbered}
-use Rattle.m2_channel.specs.m2_never_reset.Frames.{is_ask, answers_on}
+use Rattle.m2_never_reset.specs.Frames.{is_ask, answers_on}
 use Rattle.m2_journal.specs.m2_session.declared.session.Phase.{Phase}
 use Rattle.m2_journal.specs.m2_session.declared.session.Phase.TheVariants as phase
-use Rattle.m2_lossy_in_order.proofs.Frames.{AreNumbered, Mail, mail_of, mails_on, mails_in, plain, messages_on, messages_in, numbered_at, on_is_some, stands_on}
-use Rattle.m2_lossy_in_order.proofs.Moves.{Spot, View, Move, rests, posts, opens, leaves, gives_up, refuses, takes_on, asks, settles, numbers, accepts, moved, May, IsBrought, OnSpot}
-use Rattle.m2_lossy_in_order.proofs.Sublists.{some_both, some_first, some_of_some}
+use Rattle.m2_channel.proofs.Frames.{AreNumbered, Mail, mail_of, mails_on, mails_in, plain, messages_on, messages_in, numbered_at, on_is_some, stands_on}
+use Rattle.m2_channel.proofs.Moves.{Spot, View, Move, rests, posts, opens, leaves, gives_up, refuses, takes_on, asks, settles, numbers, accepts, moved, May, IsBrought, OnSpot}
+use Rattle.m2_channel.proofs.Sublists.{some_both, some_first, some_of_some}
 
 -- ---- frames in two parts
 

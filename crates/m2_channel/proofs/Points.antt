@@ -28,23 +28,23 @@ use Rattle.m2_journal.specs.SideFacts.{SideFacts}
 use Rattle.m2_journal.specs.State.{Feed, Judgement, SentFrame, State, start}
 use Rattle.m2_journal.specs.Steps.{after, tells}
 use Rattle.m2_journal.proofs.Growing.{after-append}
-use Rattle.m2_channel.specs.m2_never_reset.Fits.{AreItsAsks, HearsAt}
-use Rattle.m2_channel.specs.m2_never_reset.Frames.{answers_on, asks_on}
-use Rattle.m2_channel.specs.m2_never_reset.PairLaws.{IsNoDown}
-use Rattle.m2_channel.specs.m2_never_reset.Orders.{posted_in, posts_in}
-use Rattle.m2_channel.proofs.m2_never_reset.Answered.{next_of}
-use Rattle.m2_channel.proofs.m2_never_reset.Read.{is_ident}
-use Rattle.m2_channel.proofs.m2_never_reset.Sockets.{at_among}
+use Rattle.m2_never_reset.specs.Fits.{AreItsAsks, HearsAt}
+use Rattle.m2_never_reset.specs.Frames.{answers_on, asks_on}
+use Rattle.m2_never_reset.specs.PairLaws.{IsNoDown}
+use Rattle.m2_never_reset.specs.Orders.{posted_in, posts_in}
+use Rattle.m2_never_reset.proofs.Answered.{next_of}
+use Rattle.m2_never_reset.proofs.Read.{is_ident}
+use Rattle.m2_never_reset.proofs.Sockets.{at_among}
 use Rattle.m2_journal.specs.m2_session.SessionLaws as session
 use Rattle.m2_journal.specs.m2_session.declared.event.Event.TheVariants as event
 use Rattle.m2_journal.specs.m2_session.declared.session.Phase.{Phase}
 use Rattle.m2_journal.specs.m2_session.declared.session.Phase.TheVariants as phase
-use Rattle.m2_lossy_in_order.proofs.Both.{Both, HasAcceptance, HasHeard, client_moves, server_moves}
-use Rattle.m2_lossy_in_order.proofs.Entries.{HasGotFor, IsLossySide, IsMoveOf, entry_moves}
-use Rattle.m2_lossy_in_order.proofs.Moves.{Spot, View, Move, rests, posts, opens, leaves, gives_up, refuses, takes_on, asks, settles, numbers, accepts, moved, posted_by, May, IfSpot, spot_of, view}
-use Rattle.m2_lossy_in_order.proofs.Named.{NamedKept, named_after}
-use Rattle.m2_lossy_in_order.proofs.Posted.{IsPosted, posted_after}
-use Rattle.m2_lossy_in_order.proofs.Sides.{SideIs, StandsIn, side_after}
+use Rattle.m2_channel.proofs.Both.{Both, HasAcceptance, HasHeard, client_moves, server_moves}
+use Rattle.m2_channel.proofs.Entries.{HasGotFor, IsLossySide, IsMoveOf, entry_moves}
+use Rattle.m2_channel.proofs.Moves.{Spot, View, Move, rests, posts, opens, leaves, gives_up, refuses, takes_on, asks, settles, numbers, accepts, moved, posted_by, May, IfSpot, spot_of, view}
+use Rattle.m2_channel.proofs.Named.{NamedKept, named_after}
+use Rattle.m2_channel.proofs.Posted.{IsPosted, posted_after}
+use Rattle.m2_channel.proofs.Sides.{SideIs, StandsIn, side_after}
 use Rattle.m2_journal.proofs.m2_fabric.Sockets.{not_among_none}
 use Rattle.m2_channel.proofs.Orders.{posts-append}
 use Rattle.m2_journal.proofs.m2_lemmas.Booleans.{from_false_true}
@@ -219,12 +219,12 @@ still_unopened f theirs (accepts x) v server may e = e
 
 -- ---- an entry that marks the side down, and any other
 
-record IsDown (i : JournalItem) : Type 0 where
-  planned : Bool
-  step : Option Planned
-  is : i ≡ item.down planned step
+pub record IsDown (i : JournalItem) : Type 0 where
+  pub planned : Bool
+  pub step : Option Planned
+  pub is : i ≡ item.down planned step
 
-down_or_not : (i : JournalItem) → IsNoDown i ⊎ IsDown i
+pub down_or_not : (i : JournalItem) → IsNoDown i ⊎ IsDown i
 down_or_not (item.post place planned) = inl tt
 down_or_not (item.dial planned) = inl tt
 down_or_not (item.opened k) = inl tt
@@ -245,14 +245,14 @@ down_keeps f is planned step s h =
     kept_quietly f is (item.down planned step) (after f (item.down planned step) s) (λ k. record { read = refl; wrote = refl; taken = refl })
     (kept_in_less f is s (after f (item.down planned step) s) (less_trans s t (after f (item.down planned step) s) (tells_less event.MarkedDown s) (untouched t (after f (item.down planned step) s) refl refl refl refl)) h)
 
-any_keeps : (f : SideFacts) (is : List JournalItem) (i : JournalItem) (s : State) → Lawful f i s → HandKept s → IfFed s.feed (FeedSo s) → AllKept f is s → AllKept f (is ++ i ∷ []) (after f i s)
+pub any_keeps : (f : SideFacts) (is : List JournalItem) (i : JournalItem) (s : State) → Lawful f i s → HandKept s → IfFed s.feed (FeedSo s) → AllKept f is s → AllKept f (is ++ i ∷ []) (after f i s)
 any_keeps f is i s l hand so h = at (down_or_not i)
   where
     at : IsNoDown i ⊎ IsDown i → AllKept f (is ++ i ∷ []) (after f i s)
     at (inl up) = entry_keeps f is i s up l hand so h
     at (inr d) = subst (λ j. AllKept f (is ++ j ∷ []) (after f j s)) (sym d.is) (down_keeps f is d.planned d.step s h)
 
-any_hand : (f : SideFacts) (i : JournalItem) (s : State) → Lawful f i s → HandKept s → HandKept (after f i s)
+pub any_hand : (f : SideFacts) (i : JournalItem) (s : State) → Lawful f i s → HandKept s → HandKept (after f i s)
 any_hand f i s l h = at (down_or_not i)
   where
     fed_nothing : (planned : Bool) (step : Option Planned) → HandKept (after f (item.down planned step) s)

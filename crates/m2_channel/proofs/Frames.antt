@@ -6,13 +6,13 @@ use Rattle.std.proofs.lemmas.List.Elements.{filter_map-append}
 use Rattle.m2_journal.specs.m2_fabric.declared.socket.SocketId.{SocketId}
 use Rattle.m2_journal.specs.m2_fabric.Sockets.{same_socket}
 use Rattle.m2_journal.specs.m2_message.Message.{Content, unnumbered}
-use Rattle.m2_channel.specs.m2_dispatch.Laws.{IsSublist}
+use Rattle.m2_dispatch.specs.Laws.{IsSublist}
 use Rattle.m2_journal.specs.OutFrames as out
 use Rattle.m2_journal.specs.OutFrames.{OutFrame}
 use Rattle.m2_journal.specs.State.{SentFrame}
-use Rattle.m2_channel.specs.m2_never_reset.Frames.{ask_of, is_ask, answers_on}
-use Rattle.m2_channel.proofs.m2_never_reset.Sent.{answers_here, answers_same, answers_elsewhere}
-use Rattle.m2_lossy_in_order.proofs.Sublists.{some_behind}
+use Rattle.m2_never_reset.specs.Frames.{ask_of, is_ask, answers_on}
+use Rattle.m2_never_reset.proofs.Sent.{answers_here, answers_same, answers_elsewhere}
+use Rattle.m2_channel.proofs.Sublists.{some_behind}
 
 -- ---- messages with their numbers
 

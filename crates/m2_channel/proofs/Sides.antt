@@ -5,7 +5,7 @@ use Rattle.std.proofs.lemmas.Bool.{false_from_ne_true}
 use Rattle.std.proofs.lemmas.List.{map-append}
 use Rattle.std.proofs.lemmas.List.Elements.{filter-append}
 use Rattle.m2_channel.specs.Channel.{KeyedMessage}
-use Rattle.m2_channel.specs.m2_never_reset.Asks.{by_ident}
+use Rattle.m2_never_reset.specs.Asks.{by_ident}
 use Rattle.m2_journal.specs.m2_fabric.declared.socket.SocketId.{SocketId}
 use Rattle.m2_journal.specs.m2_fabric.Sockets.{is_among, same_socket}
 use Rattle.m2_journal.specs.declared.entry.JudgedItem.{JudgedItem}
@@ -16,17 +16,17 @@ use Rattle.m2_journal.specs.OutFrames.{OutFrame}
 use Rattle.m2_journal.specs.SideFacts.{SideFacts}
 use Rattle.m2_journal.specs.State.{Judgement, SentFrame}
 use Rattle.m2_journal.specs.m2_message.Message.{Content, priority_of}
-use Rattle.m2_channel.specs.m2_never_reset.Frames.{asks_on, answers_on}
-use Rattle.m2_channel.proofs.m2_never_reset.Sent.{answers_here, answers_same, answers_elsewhere, asks_here, asks_same, asks_elsewhere}
-use Rattle.m2_channel.proofs.m2_never_reset.Sockets.{taken_is_judged}
+use Rattle.m2_never_reset.specs.Frames.{asks_on, answers_on}
+use Rattle.m2_never_reset.proofs.Sent.{answers_here, answers_same, answers_elsewhere, asks_here, asks_same, asks_elsewhere}
+use Rattle.m2_never_reset.proofs.Sockets.{taken_is_judged}
 use Rattle.m2_journal.proofs.m2_queues.ByRank.{Falls}
 use Rattle.m2_journal.proofs.m2_queues.Joining.{falls-put_behind}
 use Rattle.m2_journal.specs.m2_queues.OutQueues.{Queue}
 use Rattle.m2_journal.specs.m2_session.SessionLaws as session
 use Rattle.m2_journal.specs.m2_session.declared.session.Phase.{Phase}
 use Rattle.m2_journal.specs.m2_session.declared.session.Phase.TheVariants as phase
-use Rattle.m2_lossy_in_order.proofs.Frames.{AreNumbered, IsMute, mail_of, mails_on, mails_here, mails_elsewhere, mails_same, mute_no_mails, mute_says_nothing, SaysNothing, numbered_more}
-use Rattle.m2_lossy_in_order.proofs.Moves.{Spot, View, Move, rests, posts, opens, leaves, gives_up, refuses, takes_on, asks, settles, numbers, accepts, moved, May, IsAway, LeavesSo, judgement, on_socket, sent_first, thrown_away}
+use Rattle.m2_channel.proofs.Frames.{AreNumbered, IsMute, mail_of, mails_on, mails_here, mails_elsewhere, mails_same, mute_no_mails, mute_says_nothing, SaysNothing, numbered_more}
+use Rattle.m2_channel.proofs.Moves.{Spot, View, Move, rests, posts, opens, leaves, gives_up, refuses, takes_on, asks, settles, numbers, accepts, moved, May, IsAway, LeavesSo, judgement, on_socket, sent_first, thrown_away}
 use Rattle.m2_journal.proofs.m2_fabric.Sockets.{not_among_front, same_equal, same_refl, among_last}
 use Rattle.m2_journal.proofs.m2_queues.Histories.{falls-rest}
 use Rattle.m2_journal.proofs.m2_lemmas.Lists.{all_append}

@@ -1,7 +1,7 @@
 -- Some of a list, in order.
 use Rattle.std.proofs.Common.{inl, inr, Bool, true, false, if◌then◌else◌, List, [], ◌∷◌, ◌++◌, refl, ◌∙◌, subst}
 use Rattle.std.specs.List.{filter}
-use Rattle.m2_channel.specs.m2_dispatch.Laws.{IsSublist}
+use Rattle.m2_dispatch.specs.Laws.{IsSublist}
 
 -- behind other ones
 pub some_behind : {X : Type 0} (xs ys zs : List X) → IsSublist xs zs → IsSublist xs (ys ++ zs)

@@ -1,5 +1,0 @@
-use Rattle.m2_lossy_in_order.proofs.Orders.{comes_in_order}
-use Rattle.m2_lossy_in_order.proofs.laws.lossy_comes_in_order.Goals as goal
-
-pub returns : goal.returns
-returns c = comes_in_order c.replays_are_sound.ensures
