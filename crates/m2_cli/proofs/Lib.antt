@@ -7,11 +7,9 @@ pub mod Made
 pub mod Memory
 pub mod Orders
 pub mod Parses
-pub mod Pieces
 pub mod Programs
 pub mod Says
 pub mod StatusLines
-pub mod Steps
 pub mod ThreadEnds
 pub mod Threads
 pub mod Told

@@ -1,50 +1,46 @@
 -- What `frames` leaves, however passing on and saying went.
-use Rattle.std.proofs.Common.{◌≡◌, ℕ, ◌≤◌, List, length, refl, sym, ◌∙◌, subst, arith, ◌⊎◌, inl, inr, []}
+use Rattle.std.proofs.Common.{◌≡◌, ℕ, ◌≤◌, List, length, take, refl, sym, ap, ◌∙◌, subst, arith, ◌⊎◌, inl, inr, []}
 use Rattle.std.specs.Prelude.{◌≢◌}
 use Rattle.std.proofs.Math.Seq.{take-length}
 use Rattle.m2_edge.specs.Faults.{HasRisen}
 use Rattle.m2_edge.specs.Sink.{SeenSink, IsFlushed}
-use Rattle.m2_edge.specs.Source.{SeenSource, IsPrefixOf}
-use Rattle.m2_cli.specs.Lines.{lines_of}
-use Rattle.m2_cli.specs.declared.listing.TheConstants.{LIMIT}
-use Rattle.m2_cli.specs.Listing.{Lists, ListsPrefix, Listed, Broken, IsAll, IsFaultCause, StandsBy}
-use Rattle.m2_cli.specs.declared.listing.Listing.{Listing}
-use Rattle.m2_cli.specs.declared.listing.Listing.TheVariants as listing
+use Rattle.m2_edge.specs.Source.{IsPrefixOf, SeenSource}
+use Rattle.m2_listing.proofs.Steps.{Broken-here}
+use Rattle.m2_listing.specs.Listing.{IsAll, IsFaultCause, Listed, Lists, ListsPrefix}
+use Rattle.m2_listing.specs.declared.listing.Listing.{Listing}
+use Rattle.m2_listing.specs.declared.listing.Listing.TheVariants as listing
+use Rattle.m2_cli.specs.declared.frames.TheConstants.{LIMIT}
 use Rattle.m2_cli.specs.declared.status.Status.{Status}
 use Rattle.m2_cli.specs.declared.status.Status.TheVariants as status
 use Rattle.m2_cli.specs.Edge.{Edge, IsCause, StandsSomewhere}
-use Rattle.m2_cli.specs.Frames.{ListsFile, IsListedInPart, status_of_listing, IsPassedOn}
+use Rattle.m2_cli.specs.Frames.{IsListedInPart, IsPassedOn, ListsFile, StandsBy, of_file, plain_line, status_of_listing}
 use Rattle.m2_cli.specs.Print.{SaysStatus}
-use Rattle.m2_program.proofs.Endings.{prefix_whole}
 
-all_prefix : (bytes : List ℕ) (src : SeenSource) → IsAll bytes src → IsPrefixOf bytes src.given
-all_prefix bytes src h = (length src.given, h.given ∙ sym (take-length src.given))
+-- ---- a prefix of the lines
 
--- lines that were written whole are a prefix of themselves
-broken_of : (bytes rest : List ℕ) (place : ℕ) (old new : SeenSink) → Listed bytes rest place old new → Broken bytes old new
-broken_of bytes rest place old new h =
-    record { items = h.items; rest = rest; splits = h.splits; written = prefix_whole (lines_of h.items) old new h.written }
+all_prefix : (bytes : List ℕ) (src : SeenSource) → IsAll [] bytes src → IsPrefixOf bytes src.given
+all_prefix bytes src h = (length src.given, sym h.given ∙ sym (take-length src.given))
 
 -- whatever was listed, a prefix of the lines was written
-lists_prefix : (l : Listing) (src : SeenSource) (old new : SeenSink) → Lists l src old new → ListsPrefix src old new
-lists_prefix listing.Whole src old new (bytes, place, all, short, listed) = (bytes, all_prefix bytes src all, broken_of bytes _ place old new listed)
-lists_prefix (listing.Bad place f) src old new (bytes, rest, some, short, judged, listed) = (bytes, some, broken_of bytes rest place old new listed)
-lists_prefix (listing.Cut place) src old new (bytes, rest, all, short, judged, some, listed) = (bytes, all_prefix bytes src all, broken_of bytes rest place old new listed)
-lists_prefix (listing.TooLong place) src old new (bytes, rest, cut, judged, listed) = (bytes, (LIMIT, cut.given), broken_of bytes rest place old new listed)
+lists_prefix : (l : Listing) (src : SeenSource) (old new : SeenSink) → Lists l of_file src old new → ListsPrefix of_file src old new
+lists_prefix listing.Whole src old new (bytes, place, all, short, listed) = (bytes, all_prefix bytes src all, Broken-here plain_line bytes [] place old new listed)
+lists_prefix (listing.Bad place f) src old new (bytes, rest, some, short, judged, listed) = (bytes, some, Broken-here plain_line bytes rest place old new listed)
+lists_prefix (listing.Cut place) src old new (bytes, rest, all, short, judged, some, listed) = (bytes, all_prefix bytes src all, Broken-here plain_line bytes rest place old new listed)
+lists_prefix (listing.TooLong place) src old new (bytes, rest, cut, judged, listed) = (bytes, (LIMIT, cut.cut ∙ ap (take LIMIT) (sym cut.given)), Broken-here plain_line bytes rest place old new listed)
 lists_prefix listing.ReadFault src old new h = h
 lists_prefix listing.WriteFault src old new h = h
 lists_prefix listing.NoMemory src old new h = h
 
 -- ---- after passing on, which takes nothing
 
-listed_later : (bytes rest : List ℕ) (place : ℕ) (old mid new : SeenSink) → new.taken ≡ mid.taken → Listed bytes rest place old mid → Listed bytes rest place old new
+listed_later : (bytes rest : List ℕ) (place : ℕ) (old mid new : SeenSink) → new.taken ≡ mid.taken → Listed plain_line bytes rest place old mid → Listed plain_line bytes rest place old new
 listed_later bytes rest place old mid new e h = record { items = h.items; splits = h.splits; counted = h.counted; written = e ∙ h.written }
 
-prefix_later : (src : SeenSource) (old mid new : SeenSink) → new.taken ≡ mid.taken → ListsPrefix src old mid → ListsPrefix src old new
+prefix_later : (src : SeenSource) (old mid new : SeenSink) → new.taken ≡ mid.taken → ListsPrefix of_file src old mid → ListsPrefix of_file src old new
 prefix_later src old mid new e (bytes, some, h) =
     (bytes, some, record { items = h.items; rest = h.rest; splits = h.splits; written = (h.written.0, e ∙ h.written.1) })
 
-lists_later : (l : Listing) (src : SeenSource) (old mid new : SeenSink) → new.taken ≡ mid.taken → Lists l src old mid → Lists l src old new
+lists_later : (l : Listing) (src : SeenSource) (old mid new : SeenSink) → new.taken ≡ mid.taken → Lists l of_file src old mid → Lists l of_file src old new
 lists_later listing.Whole src old mid new e (bytes, place, all, short, listed) = (bytes, place, all, short, listed_later bytes _ place old mid new e listed)
 lists_later (listing.Bad place f) src old mid new e (bytes, rest, some, short, judged, listed) = (bytes, rest, some, short, judged, listed_later bytes rest place old mid new e listed)
 lists_later (listing.Cut place) src old mid new e (bytes, rest, all, short, judged, some, listed) = (bytes, rest, all, short, judged, some, listed_later bytes rest place old mid new e listed)
@@ -65,7 +61,7 @@ stands_somewhere listing.NoMemory file old new h = inr h
 -- how a listing ended: where the source stands, what was listed, and why it may have failed
 pub record Ended (l : Listing) (file : List ℕ) (before after : Edge) : Type 0 where
   pub stands : StandsBy l file before.source after.source
-  pub lists : Lists l after.source before.out after.out
+  pub lists : Lists l of_file after.source before.out after.out
   pub cause : IsFaultCause l before.source.faults after.source.faults before.out.faults after.out.faults
 
 in_part : (l : Listing) (file : List ℕ) (before after : Edge) → Ended l file before after → IsListedInPart file before after
@@ -92,7 +88,7 @@ risen_before o p q le h = omega arith
 
 -- what was listed, whose lines were then passed on
 pub ended_passed : (l : Listing) (file : List ℕ) (before after : Edge) (mid : SeenSink) → StandsBy l file before.source after.source
-    → Lists l after.source before.out mid → IsFaultCause l before.source.faults after.source.faults before.out.faults mid.faults
+    → Lists l of_file after.source before.out mid → IsFaultCause l before.source.faults after.source.faults before.out.faults mid.faults
     → after.out.taken ≡ mid.taken → mid.faults ≤ after.out.faults → Ended l file before after
 ended_passed l file before after mid stands lists cause same rises = record {
   stands = stands;

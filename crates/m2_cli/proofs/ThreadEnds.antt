@@ -7,8 +7,8 @@ use Rattle.std.proofs.lemmas.Bool.{eq-eqb}
 use Rattle.std.proofs.lemmas.Option.{none-some, same_Some, slice_get_within}
 use Rattle.m2_cli.specs.ThreadsOrder.{left_there}
 use Rattle.m2_fabric.specs.Fabric.{SeenFabric}
+use Rattle.m2_promise.proofs.Ends.{all_at}
 use Rattle.m2_promise.specs.AtEnd.{AreAtEnd, AreFacing, IsLinkInOrder, IsNodeAtEnd, IsOfLines, Named, is_down_of, is_down_step, named, posts_planned, posts_to}
-use Rattle.m2_run.proofs.JoinedNodes.{there_is}
 use Rattle.m2_run.proofs.JoinedSides.{IsOfNode, all_of_node}
 use Rattle.m2_run.specs.Joined.{IsJoinedBy}
 use Rattle.m2_run.specs.Kept.{IsKeptNode}
@@ -29,6 +29,7 @@ use Rattle.m2_scenario.specs.declared.line.Line.{Line}
 use Rattle.m2_scenario.specs.declared.line.Line.TheVariants as line
 use Rattle.m2_scenario.specs.declared.link.Link.{Link}
 use Rattle.m2_scenario.specs.declared.node.Node.{Node}
+use Rattle.m2_script.proofs.Lists.{item_at}
 use Rattle.m2_script.specs.Made.{records_of}
 use Rattle.m2_script.specs.m2_cluster.Node.{NodeNow}
 use Rattle.m2_script.specs.m2_record.IsRecord.{IsRecord}
@@ -40,11 +41,6 @@ use Rattle.m2_script.specs.m2_record.RecordNow.{RecordNow}
 all_by_place : {X : Type 0} (P : X → Type 0) (xs : List X) → ((k : ℕ) (x : X) → slice_get xs k ≡ Some x → P x) → AllByRecursion P xs
 all_by_place P [] each = tt
 all_by_place P (x ∷ xs) each = (each 0 x refl, all_by_place P xs (λ k y e. each (suc k) y e))
-
-at : {X : Type 0} (P : X → Type 0) (xs : List X) (k : ℕ) (x : X) → AllByRecursion P xs → slice_get xs k ≡ Some x → P x
-at P [] k x all e = absurd (none-some x e)
-at P (y ∷ xs) zero x all e = subst P (same_Some y x e) all.0
-at P (y ∷ xs) (suc k) x all e = at P xs k x all.1 e
 
 place_in : {X : Type 0} (x : X) (xs : List X) → IsOneOf x xs → (k : ℕ) × (slice_get xs k ≡ Some x)
 place_in x [] one = absurd one
@@ -154,7 +150,7 @@ module _ (may_give : ℕ → Type 0) (limit : ℕ) (nodes : List Node) (links : 
 
   node_at : (k : ℕ) (n : NodeNow (List Logged)) → slice_get kept k ≡ Some n → IsAt k n
   node_at k n e =
-      let x = there_is nodes k (omega (arith, slice_get_within kept k n e, ran.run.count)) in
+      let x = item_at nodes k (omega (arith, slice_get_within kept k n e, ran.run.count)) in
       record { node = x.0; is = ran.run.each k x.0 n x.1 e }
 
   of_lines : (k : ℕ) (r : RecordNow) → IsRecord r → IsOfNode nodes lines k r → IsOfLines k (map draft_line lines) r
@@ -174,7 +170,7 @@ module _ (may_give : ℕ → Type 0) (limit : ℕ) (nodes : List Node) (links : 
         named_so = sym (names side_made (λ r. refl) n.center.records) ∙ ap (λ (m : NodeMade). map name_of m.sides) way.course.made
             ∙ names (side_in lines k) (λ r. refl) (records_of nodes links k it.is.node.word);
         of_lines = all_by_place (IsOfLines k (map draft_line lines)) n.center.records
-            (λ i r there. of_lines k r (at IsRecord n.center.records i r it.is.types.records there) (at (IsOfNode nodes lines k) n.center.records i r all there));
+            (λ i r there. of_lines k r (all_at IsRecord n.center.records i r it.is.types.records there) (all_at (IsOfNode nodes lines k) n.center.records i r all there));
         logged = way.logged;
         peers = way.peers;
       }

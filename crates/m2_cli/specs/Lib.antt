@@ -3,17 +3,13 @@ pub mod Ends
 pub mod Form
 pub mod Frames
 pub mod Lines
-pub mod Listing
 pub mod Load
 pub mod Order
-pub mod Passing
 pub mod Positions
 pub mod Print
 pub mod Printout
 pub mod Program
-pub mod Reading
 pub mod Run
-pub mod SoFar
 pub mod Status
 pub mod Threads
 pub mod ThreadsOrder

@@ -2,7 +2,6 @@
 -- aborted frame its tag's name and the word `aborted`. The names are those of Ceph's msgr2 documentation, the
 -- form of a line is this project's own.
 use Rattle.std.specs.Prelude.{ℕ, List, [], ◌∷◌, ◌++◌, length, nat_lt, if◌then◌else◌, codes}
-use Rattle.std.specs.List.{flat_map}
 use Rattle.std.specs.Fmt.{decimal}
 use Rattle.m2_frame.specs.Frame.{Parts, count_of}
 use Rattle.m2_frame.specs.Reading.{Item, whole, dropped}
@@ -16,7 +15,7 @@ number_word n = 0x20 ∷ decimal n
 abbrev pub length_word : ℕ → ℕ → List ℕ → List ℕ
 length_word segment count bytes = if nat_lt segment count then number_word (length bytes) else []
 
-abbrev pub frame_words : Parts → List ℕ
+unfoldable pub frame_words : Parts → List ℕ
 frame_words f =
     let count = count_of f in
     name_in f.tag ++ number_word (length f.first) ++ length_word 1 count f.second ++ length_word 2 count f.third ++ length_word 3 count f.fourth
@@ -24,7 +23,3 @@ frame_words f =
 unfoldable pub line_of : Item → List ℕ
 line_of (whole f) = frame_words f ++ 0x0A ∷ []
 line_of (dropped tag) = name_in tag ++ codes " aborted" ++ 0x0A ∷ []
-
--- the lines of items, one after the other
-abbrev pub lines_of : List Item → List ℕ
-lines_of items = flat_map line_of items

@@ -1,5 +1,5 @@
 -- What the top call leaves, by what its work came to.
-use Rattle.std.specs.Prelude.{◌≡◌, ◌⊎◌, List, ℕ}
+use Rattle.std.specs.Prelude.{◌≡◌, List, ℕ}
 use Rattle.m2_edge.specs.Sink.{TakesPrefix}
 use Rattle.m2_cli.specs.declared.status.Status.{Status}
 use Rattle.m2_cli.specs.declared.status.Status.TheVariants.{Done, Usage, BadScenario, ReadFault, WriteFault, BindFault, Unfit, Stalled, Left, NoMemory, BadFrames}
@@ -8,9 +8,9 @@ use Rattle.m2_cli.specs.Print.{Delivers}
 use Rattle.m2_cli.specs.Verdict.{ComesTo}
 use Rattle.m2_cli.specs.Load.{IsUntouched}
 
--- the words are of no form: the work is to say so, or memory ran out before they were read
+-- the words are of no form: the work is to say so
 pub record IsOfNoForm (work : Status) (before after : Edge) : Type 0 where
-  pub usage : (work ≡ Usage) ⊎ (work ≡ NoMemory)
+  pub usage : work ≡ Usage
   pub untouched : IsUntouched before after
 
 -- the file was read whole, its bytes come to this status and a text, and standard output took exactly that text, flushed

@@ -1,6 +1,7 @@
 //! Commands.
 
-ghost use Rattle.std.specs.Prelude.{◌≡◌, ◌∷◌, ◌++◌, IfOk, IfSome, None, codes, drop, map, slice_get, Some, string_bytes};
+ghost use Rattle.std.specs.Bool.{OnFalse, OnTrue};
+ghost use Rattle.std.specs.Prelude.{◌≡◌, ◌≢◌, ◌∷◌, ◌++◌, IfOk, IfSome, None, OnErr, codes, drop, map, slice_get, Some, string_bytes};
 ghost use Rattle.std.specs.Option.{option_map};
 ghost use Rattle.m2_scenario.specs.declared.kind.Kind.TheVariants.{Number};
 ghost use Rattle.m2_scenario.specs.Word.{number_of};
@@ -8,6 +9,7 @@ ghost use Rattle.m2_scenario.specs.declared.limits.TheConstants.{MOST_POSTS};
 ghost use Rattle.m2_cli.specs.Form.{form_of, form_in, form_among, named_form, file_form, load_form, load_by, IsWithin};
 
 use crate::dashes::split_at_dashes;
+use crate::forms::have_form;
 use crate::positions::{Positions, escaped, read_positions};
 use m2_bytes::NoMemory;
 use m2_scenario::{Kind, MOST_POSTS, read_number};
@@ -27,18 +29,22 @@ pub enum Command {
 }
 
 /// The command of the words behind the program's name, or none where they are of no form. Err comes for want of
-/// memory.
+/// memory, and only where they are of one.
 ///
 /// The first word that is exactly `--` is left out. A word before it that begins with `-` and has
 /// at least two bytes is no word of any form.
 pub fn command_of(alloc: Global, args: &[String]) -> Result<Option<Command>, NoMemory>
     ensures form { IfOk result (λ c. option_map form_of c ≡ form_in (map string_bytes args.now)) }
     ensures within { IfOk result (λ c. IfSome c IsWithin) }
+    ensures lacks { OnErr result (form_in (map string_bytes args.now) ≢ None) }
 {
-    match split_at_dashes(args) {
-        None => Ok(None),
-        Some((before, after)) => command_among(alloc, before, after),
+    let Some((before, after)) = split_at_dashes(args) else {
+        return Ok(None);
+    };
+    if !have_form(before, after) {
+        return Ok(None);
     }
+    command_among(alloc, before, after)
 }
 
 /// The command of words before a `--` and behind it, of which none is an option.

@@ -1,13 +1,13 @@
-//! The line of a frame.
+//! The line of each frame of a file.
 
-ghost use Rattle.std.specs.Prelude.{◌≡◌, ◌++◌, length, OnOk};
+ghost use Rattle.std.specs.Prelude.{◌≡◌, ◌++◌, OnOk};
 ghost use Rattle.m2_frame.specs.Frame.{count_of};
-ghost use Rattle.m2_frame.specs.Reading.{whole, dropped};
 ghost use Rattle.m2_frame.specs.View.{parts_seen};
-ghost use Rattle.m2_cli.specs.Lines.{line_of, frame_words, length_word, number_word};
+ghost use Rattle.m2_cli.specs.Lines.{frame_words, length_word, number_word};
 
 use m2_bytes::{Blob, NoMemory, put_decimal};
 use m2_frame::{FrameView, Tag};
+use m2_listing::Teller;
 
 /// Appends a space and a number.
 fn put_number(line: &mut Blob, n: u64) -> Result<(), NoMemory>
@@ -43,6 +43,7 @@ fn count_of(frame: &FrameView<'_>) -> u8
 }
 
 /// Appends the tag's name and the lengths of the segments that are counted.
+#[tactic(auto, unfolding(crate::specs::Lines::frame_words))]
 fn put_words(line: &mut Blob, frame: &FrameView<'_>) -> Result<(), NoMemory>
     ensures { OnOk result (line.new.bytes ≡ line.old.bytes ++ frame_words (parts_seen frame.now)) }
 {
@@ -54,22 +55,29 @@ fn put_words(line: &mut Blob, frame: &FrameView<'_>) -> Result<(), NoMemory>
     put_length(line, 3, count, frame.fourth)
 }
 
-/// The line of a frame, in the place of what stood in the buffer.
-#[tactic(auto, unfolding(crate::specs::Lines::line_of))]
-pub(crate) fn write_frame_line(line: &mut Blob, frame: &FrameView<'_>) -> Result<(), NoMemory>
-    ensures { OnOk result (line.new.bytes ≡ line_of (whole (parts_seen frame.now))) }
-{
-    line.clear();
-    put_words(line, frame)?;
-    line.push_all(b"\n")
-}
+/// The line of a frame is its tag's name and the lengths of its segments, wherever it stands.
+#[derive(Clone, Copy, Debug)]
+pub(crate) struct FrameLines;
 
-/// The line of an aborted frame, in the place of what stood in the buffer.
-#[tactic(auto, unfolding(crate::specs::Lines::line_of))]
-pub(crate) fn write_aborted_line(line: &mut Blob, tag: u8) -> Result<(), NoMemory>
-    ensures { OnOk result (line.new.bytes ≡ line_of (dropped tag)) }
-{
-    line.clear();
-    line.push_all(Tag::name_of_number(tag).as_bytes())?;
-    line.push_all(b" aborted\n")
+impl Teller for FrameLines {
+    ghost use Rattle.m2_cli.specs.Lines.{line_of};
+
+    ghost line = { λ _ place item. line_of item };
+
+    #[tactic(auto, unfolding(crate::specs::Lines::line_of))]
+    fn put_frame(
+        &self,
+        out: &mut Blob,
+        _place: u64,
+        frame: &FrameView<'_>,
+    ) -> Result<(), NoMemory> {
+        put_words(out, frame)?;
+        out.push_all(b"\n")
+    }
+
+    #[tactic(auto, unfolding(crate::specs::Lines::line_of))]
+    fn put_aborted(&self, out: &mut Blob, _place: u64, tag: u8) -> Result<(), NoMemory> {
+        out.push_all(Tag::name_of_number(tag).as_bytes())?;
+        out.push_all(b" aborted\n")
+    }
 }

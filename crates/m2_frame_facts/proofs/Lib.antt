@@ -1,2 +1,10 @@
+pub mod BareFields
+pub mod Classes
+pub mod Cuts
+pub mod FactsOnce
+pub mod ListsOnce
+pub mod OfFrame
+pub mod RowsOnce
 pub mod Said
+pub mod TextsOnce
 pub mod Told

@@ -8,12 +8,13 @@ use Rattle.m2_edge.specs.Sink.{SeenSink, TakesBytes, TakesPrefix}
 use Rattle.m2_edge.specs.Source.{IsPrefixOf, IsWhereItWas, SeenSource}
 use Rattle.m2_edge.specs.Whole.{StandsIn}
 use Rattle.m2_edge.specs.declared.whole.ReadFault.{ReadFault}
-use Rattle.m2_facts.specs.declared.style.Style.{Style}
-use Rattle.m2_facts.specs.Line.{banner_line, line_of}
+use Rattle.m2_frame_facts.specs.declared.style.Style.{Style}
+use Rattle.m2_frame_facts.specs.Line.{banner_line, line_of}
 use Rattle.m2_frame.specs.Reading.{Item}
 use Rattle.m2_listing.specs.declared.listing.Listing.{Listing}
 use Rattle.m2_listing.specs.declared.listing.Listing.TheVariants as listing
 use Rattle.m2_listing.specs.Listing.{Lists, terms}
+use Rattle.m2_listing.specs.declared.listing.TheConstants.{LIMIT}
 use Rattle.m2_listing.specs.Reading.{Grows}
 use Rattle.m2_frame_facts.specs.declared.telling.Ended.{Ended}
 
@@ -48,7 +49,7 @@ pub record TellsFrames (form : Style) (ended : Ended) (src : SeenSource) (before
   pub skipped : ended.skipped ≡ used_in (banner_in head)
   pub middle : SeenSink
   pub front : TakesBytes (front_line form (banner_in head)) before middle
-  pub lists : Lists ended.listing (terms (take (used_in (banner_in head)) head) (line_behind form (used_in (banner_in head)))) src middle after
+  pub lists : Lists ended.listing (terms (take (used_in (banner_in head)) head) LIMIT (line_behind form (used_in (banner_in head)))) src middle after
 
 -- before any frame was listed: of the line of what stands before them a prefix was written
 abbrev pub TellsNothing : Style → SeenSource → SeenSink → SeenSink → Type 0

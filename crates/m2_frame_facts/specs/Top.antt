@@ -3,8 +3,8 @@ use Rattle.std.specs.Prelude.{◌≡◌, ◌⊎◌, ℕ, false, List, [], ◌∷
 use Rattle.std.specs.Str.{bytes_eq}
 use Rattle.m2_edge.specs.Sink.{SeenSink}
 use Rattle.m2_edge.specs.Source.{SeenSource}
-use Rattle.m2_facts.specs.declared.style.Style.{Style}
-use Rattle.m2_facts.specs.declared.style.Style.TheVariants as style
+use Rattle.m2_frame_facts.specs.declared.style.Style.{Style}
+use Rattle.m2_frame_facts.specs.declared.style.Style.TheVariants as style
 use Rattle.m2_frame_facts.specs.declared.telling.Ended.{Ended}
 use Rattle.m2_frame_facts.specs.declared.status.FactsStatus.{FactsStatus}
 use Rattle.m2_frame_facts.specs.declared.status.FactsStatus.TheVariants as status

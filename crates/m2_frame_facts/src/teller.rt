@@ -1,7 +1,7 @@
 //! The line of each frame of a file.
 
+use crate::{Style, put_aborted_line, put_frame_line};
 use m2_bytes::{Blob, NoMemory};
-use m2_facts::{Style, put_aborted_line, put_frame_line};
 use m2_frame::FrameView;
 use m2_listing::Teller;
 use std::alloc::Global;

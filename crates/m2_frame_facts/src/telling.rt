@@ -2,21 +2,22 @@
 
 ghost use Rattle.std.specs.Prelude.{◌≡◌, ◌≤◌, ◌++◌, ℕ, List, length};
 ghost use Rattle.m2_edge.specs.Source.{GivesItsInput};
-ghost use Rattle.m2_facts.specs.Line.{banner_line};
+ghost use Rattle.m2_frame_facts.specs.Line.{banner_line};
 ghost use Rattle.m2_frame_facts.specs.declared.head.TheConstants.{MOST_HEAD};
 ghost use Rattle.m2_frame_facts.specs.Head.{IsHead, PutsFront, StandsBy, Tells, line_behind};
 ghost use Rattle.m2_listing.specs.Listing.{IsFaultCause, Lists, terms};
+ghost use Rattle.m2_listing.specs.declared.listing.TheConstants.{LIMIT};
 ghost use Rattle.m2_listing.specs.Passing.{IsPutCause};
 ghost use Rattle.m2_listing.specs.Reading.{Grows};
 
 use crate::head::{MOST_HEAD, read_head};
 use crate::teller::FrameTeller;
+use crate::{Style, put_banner_line};
 use m2_bytes::{Blob, NoMemory};
 use m2_control::{Banner, BannerStep, read_banner};
 use m2_edge::{Failed, ReadFault, Sink, Source, write_whole};
-use m2_facts::{Style, put_banner_line};
 use m2_frame::Decoder;
-use m2_listing::{Listing, list_frames};
+use m2_listing::{LIMIT, Listing, list_frames};
 use std::alloc::Global;
 
 /// How telling a file ended. The places in it are counted from the first byte behind the banner.
@@ -64,7 +65,7 @@ fn list_behind<S: Source, O: Sink>(
     ensures known { GivesItsInput (S.seen src.new) }
     ensures grows { Grows (S.seen src.old) (S.seen src.new) }
     ensures lists { (front : List ℕ) → (S.seen src.old).given ≡ front ++ read.now
-        → Lists result (terms front (line_behind style skipped)) (S.seen src.new) (O.seen out.old) (O.seen out.new) }
+        → Lists result (terms front LIMIT (line_behind style skipped)) (S.seen src.new) (O.seen out.old) (O.seen out.new) }
 {
     let mut decoder = Decoder::new(alloc);
     if let Err(NoMemory) = decoder.feed(read) {
@@ -75,7 +76,7 @@ fn list_behind<S: Source, O: Sink>(
         style,
         skipped,
     };
-    list_frames(alloc, &teller, &mut decoder, read.len(), src, out)
+    list_frames(alloc, &teller, &mut decoder, read.len(), LIMIT, src, out)
 }
 
 /// Writes a line for the banner of the file of that name, if it has one, and one for each of its frames, each with its

@@ -6,11 +6,11 @@ ghost use Rattle.m2_frame_facts.specs.declared.status.FactsStatus.TheVariants as
 ghost use Rattle.m2_edge.specs.Faults.{HasRisen};
 ghost use Rattle.m2_frame_facts.specs.Top.{IsCaused, IsTold, TellsAs, asked_in, new_sink, new_source};
 
+use crate::Style;
 use crate::status::FactsStatus;
 use crate::telling::tell_frames;
 use m2_bytes::{Blob, NoMemory};
 use m2_edge::{Failed, Sink, Source, StdSink, StdSource, write_whole};
-use m2_facts::Style;
 use std::alloc::Global;
 use std::io::Write;
 use std::rt::Files;

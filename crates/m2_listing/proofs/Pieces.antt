@@ -1,17 +1,15 @@
 -- One more piece of the file listed, and the ends of a listing.
-use Rattle.std.proofs.Common.{◌≡◌, ℕ, ◌-◌, ◌+◌, ◌<◌, ◌≤◌, List, [], ◌++◌, length, take, drop, Option, Some, None, Result, Ok, Err, refl, sym, ap, ◌∙◌, subst, arith, length-drop, append_assoc, IfSome, false, inr}
+use Rattle.std.proofs.Common.{◌≡◌, ℕ, ◌-◌, ◌+◌, ◌<◌, ◌≤◌, List, [], ◌++◌, length, take, drop, Result, Ok, Err, refl, sym, ap, ◌∙◌, subst, arith, length-drop, append_assoc}
 use Rattle.std.proofs.lemmas.List.{append-nil, length-append, nil_from_length, take-append-drop}
 use Rattle.std.specs.Prelude.{IsTrue}
 use Rattle.std.specs.Result.{IsErrAnd}
-use Rattle.std.proofs.lemmas.Bool.{false≢true}
 use Rattle.std.proofs.Math.Seq.{take-append_seam, take-length}
 use Rattle.m2_edge.specs.Sink.{SeenSink}
 use Rattle.m2_edge.specs.Source.{SeenSource, IsPrefixOf}
 use Rattle.m2_frame.specs.Decoder.{IsSameButRoom, fed}
 use Rattle.m2_frame.specs.Position.{Position}
 use Rattle.m2_frame.specs.Reading.{Item, start, judge}
-use Rattle.m2_listing.specs.declared.listing.TheConstants.{LIMIT}
-use Rattle.m2_listing.specs.Listing.{Terms, IsAll, IsCutAtLimit, Listed, Lists, ListsPrefix}
+use Rattle.m2_listing.specs.Listing.{Terms, IsCutAtMost, Listed, Lists, ListsPrefix}
 use Rattle.m2_listing.specs.Reading.{Fetches, Grows}
 use Rattle.m2_listing.specs.SoFar.{HasFed, SoFar, EndsHere, FedTo, GoesOn}
 use Rattle.m2_listing.specs.declared.listing.Listing.{Listing}
@@ -44,8 +42,8 @@ joined front bytes more given given' e f = f ∙ ap (λ t. t ++ more) e ∙ appe
 gave_beyond : (x got : List ℕ) → x ≡ take (length x) got → got ≡ x ++ drop (length x) got
 gave_beyond x got first = sym (take-append-drop (length x) got) ∙ ap (λ t. t ++ drop (length x) got) (sym first)
 
-cut_at_limit : (front bytes more : List ℕ) (src : SeenSource) → src.given ≡ front ++ (bytes ++ more) → length bytes ≡ LIMIT → 0 < length more → IsCutAtLimit front bytes src
-cut_at_limit front bytes more src e len some = record {
+cut_at_most : (most : ℕ) (front bytes more : List ℕ) (src : SeenSource) → src.given ≡ front ++ (bytes ++ more) → length bytes ≡ most → 0 < length more → IsCutAtMost most front bytes src
+cut_at_most most front bytes more src e len some = record {
   all = bytes ++ more;
   given = e;
   beyond = omega (arith, length-append bytes more, len, some);
@@ -81,15 +79,15 @@ SoFar-came stays within t src src' room n old s new before mid after sofar f pas
     }
 
 Lists-stopped : (end : Listing) (t : Terms) (bytes : List ℕ) (src : SeenSource) (new : Position) (before after : SeenSink) → FedTo (Err end) t.line bytes new before after
-    → IsPrefixOf (t.front ++ bytes) src.given → Lists end t src before after
-Lists-stopped (listing.Bad place f) t bytes src new before after d prefix =
-    (bytes, new.rest, prefix, d.1, subst (λ p. Listed t.line bytes new.rest p before after) (sym d.0) d.2)
-Lists-stopped listing.WriteFault t bytes src new before after d prefix = (bytes, prefix, d)
-Lists-stopped listing.NoMemory t bytes src new before after d prefix = (bytes, prefix, d)
-Lists-stopped listing.Whole t bytes src new before after d prefix = absurd d
-Lists-stopped (listing.Cut place) t bytes src new before after d prefix = absurd d
-Lists-stopped (listing.TooLong place) t bytes src new before after d prefix = absurd d
-Lists-stopped listing.ReadFault t bytes src new before after d prefix = absurd d
+    → IsPrefixOf (t.front ++ bytes) src.given → length bytes ≤ t.most → Lists end t src before after
+Lists-stopped (listing.Bad place f) t bytes src new before after d prefix short =
+    (bytes, new.rest, prefix, short, d.1, subst (λ p. Listed t.line bytes new.rest p before after) (sym d.0) d.2)
+Lists-stopped listing.WriteFault t bytes src new before after d prefix short = (bytes, prefix, d)
+Lists-stopped listing.NoMemory t bytes src new before after d prefix short = (bytes, prefix, d)
+Lists-stopped listing.Whole t bytes src new before after d prefix short = absurd d
+Lists-stopped (listing.Cut place) t bytes src new before after d prefix short = absurd d
+Lists-stopped (listing.TooLong place) t bytes src new before after d prefix short = absurd d
+Lists-stopped listing.ReadFault t bytes src new before after d prefix short = absurd d
 
 pub Lists-came : Stays → IsWithin → (end : Listing) (t : Terms) (src src' : SeenSource) (room n : ℕ) (old s new : Position) (before mid after : SeenSink)
     → SoFar t src room old before mid → Fetches (Ok (piece.Came n)) room old s src src' → IsPassed t.line (Err end) s new mid after → Lists end t src' before after
@@ -97,6 +95,7 @@ Lists-came stays within end t src src' room n old s new before mid after sofar f
     let got = passes (sofar.bytes ++ f.0) before (at_fed stays within t.line sofar.bytes f.0 old s before mid sofar.listed f.4) in
     Lists-stopped end t (sofar.bytes ++ f.0) src' new before after got
     (joined_prefix (t.front ++ (sofar.bytes ++ f.0)) [] src'.given (joined t.front sofar.bytes f.0 src.given src'.given sofar.given f.5 ∙ sym (append-nil (t.front ++ (sofar.bytes ++ f.0)))))
+    (omega (arith, sofar.counted, length-append sofar.bytes f.0, f.1, f.3))
 
 -- all that came when more came than may come
 came_beyond : (t : Terms) (src src' : SeenSource) (room : ℕ) (old s : Position) (before mid : SeenSink) (sofar : SoFar t src room old before mid)
@@ -111,7 +110,7 @@ pub Lists-beyond : Stays → IsWithin → (t : Terms) (src src' : SeenSource) (r
     → Lists (listing.TooLong place) t src' before after
 Lists-beyond stays within t src src' room place old s new before mid after sofar f passes e =
     let got = passes (sofar.bytes ++ f.0) before (at_fed stays within t.line sofar.bytes f.0 old s before mid sofar.listed f.2) in
-    let cut = cut_at_limit t.front (sofar.bytes ++ f.0) (drop (length f.0) f.3.0) src' (came_beyond t src src' room old s before mid sofar f)
+    let cut = cut_at_most t.most t.front (sofar.bytes ++ f.0) (drop (length f.0) f.3.0) src' (came_beyond t src src' room old s before mid sofar f)
     (omega (arith, sofar.counted, length-append sofar.bytes f.0, f.1)) (omega (arith, length-drop (length f.0) f.3.0, f.3.1)) in
     (sofar.bytes ++ f.0, new.rest, cut, got.0, subst (λ p. Listed t.line (sofar.bytes ++ f.0) new.rest p before after) (sym e) got.1)
 
@@ -122,6 +121,7 @@ Lists-beyond_stopped stays within end t src src' room old s new before mid after
     Lists-stopped end t (sofar.bytes ++ f.0) src' new before after got
     (joined_prefix (t.front ++ (sofar.bytes ++ f.0)) (drop (length f.0) f.3.0) src'.given
     (came_beyond t src src' room old s before mid sofar f ∙ sym (append_assoc t.front (sofar.bytes ++ f.0) (drop (length f.0) f.3.0))))
+    (omega (arith, sofar.counted, length-append sofar.bytes f.0, f.1))
 
 Lists-broken : (t : Terms) (src src' : SeenSource) (more : List ℕ) (room : ℕ) (s : Position) (before after : SeenSink) → SoFar t src room s before after
     → src'.given ≡ src.given ++ more → ListsPrefix t src' before after
@@ -129,13 +129,13 @@ Lists-broken t src src' more room s before after sofar e =
     (sofar.bytes, joined_prefix (t.front ++ sofar.bytes) more src'.given (e ∙ ap (λ g. g ++ more) sofar.given), Broken-here t.line sofar.bytes s.rest s.place before after sofar.listed)
 
 pub Lists-end : (end : Listing) (t : Terms) (src src' : SeenSource) (room : ℕ) (s : Position) (before after : SeenSink)
-    → SoFar t src room s before after → EndsHere end s room → src'.given ≡ src.given → IsTrue src'.ended → Lists end t src' before after
+    → SoFar t src room s before after → EndsHere end t.most s room → src'.given ≡ src.given → IsTrue src'.ended → Lists end t src' before after
 Lists-end listing.Whole t src src' room s before after sofar d same ended =
     let none : s.rest ≡ [] = nil_from_length s.rest (omega (arith, d, sofar.counted, sofar.listed.counted)) in
-    (sofar.bytes, s.place, record { given = same ∙ sofar.given; ended = ended }, subst (λ r. Listed t.line sofar.bytes r s.place before after) none sofar.listed)
+    (sofar.bytes, s.place, record { given = same ∙ sofar.given; ended = ended }, omega (arith, sofar.counted), subst (λ r. Listed t.line sofar.bytes r s.place before after) none sofar.listed)
 Lists-end (listing.Cut place) t src src' room s before after sofar d same ended =
     let some : s.rest ≡ [] → ⊥ = λ (n : s.rest ≡ []). d.1 (omega (arith, ap length n, sofar.counted, sofar.listed.counted)) in
-    (sofar.bytes, s.rest, record { given = same ∙ sofar.given; ended = ended }, sofar.open_end, some, subst (λ p. Listed t.line sofar.bytes s.rest p before after) (sym d.0) sofar.listed)
+    (sofar.bytes, s.rest, record { given = same ∙ sofar.given; ended = ended }, omega (arith, sofar.counted), sofar.open_end, some, subst (λ p. Listed t.line sofar.bytes s.rest p before after) (sym d.0) sofar.listed)
 Lists-end (listing.Bad place f) t src src' room s before after sofar d same ended = absurd d
 Lists-end (listing.TooLong place) t src src' room s before after sofar d same ended = absurd d
 Lists-end listing.ReadFault t src src' room s before after sofar d same ended = absurd d
@@ -148,16 +148,16 @@ Listed-begins line s out first =
     record { items = []; splits = refl; counted = omega (arith, first); written = Takes-nothing out }
 
 -- what was fed is listed, and a start is left
-pub SoFar-begins : (t : Terms) (fed : ℕ) (src : SeenSource) (old new : Position) (before after : SeenSink) → HasFed t.front fed old src → fed ≤ LIMIT
-    → FedTo (Ok tt) t.line old.rest new before after → SoFar t src (LIMIT - fed) new before after
+pub SoFar-begins : (t : Terms) (fed : ℕ) (src : SeenSource) (old new : Position) (before after : SeenSink) → HasFed t.front fed old src → fed ≤ t.most
+    → FedTo (Ok tt) t.line old.rest new before after → SoFar t src (t.most - fed) new before after
 SoFar-begins t fed src old new before after h most d =
     record { bytes = old.rest; given = h.given; counted = omega (arith, h.counted, most); open_end = d.0; listed = d.1 }
 
 -- it ends before more is read
-pub Lists-at_once : (end : Listing) (t : Terms) (fed : ℕ) (src : SeenSource) (old new : Position) (before after : SeenSink) → HasFed t.front fed old src
+pub Lists-at_once : (end : Listing) (t : Terms) (fed : ℕ) (src : SeenSource) (old new : Position) (before after : SeenSink) → HasFed t.front fed old src → fed ≤ t.most
     → FedTo (Err end) t.line old.rest new before after → Lists end t src before after
-Lists-at_once end t fed src old new before after h d =
-    Lists-stopped end t old.rest src new before after d (subst (λ g. IsPrefixOf (t.front ++ old.rest) g) (sym h.given) (all_prefix (t.front ++ old.rest)))
+Lists-at_once end t fed src old new before after h most d =
+    Lists-stopped end t old.rest src new before after d (subst (λ g. IsPrefixOf (t.front ++ old.rest) g) (sym h.given) (all_prefix (t.front ++ old.rest))) (omega (arith, h.counted, most))
 
 -- how a listing ended is answered on
 pub GoesOn-ended : (r : Result ℕ Listing) (x : Listing) (t : Terms) (src : SeenSource) (s : Position) (before after : SeenSink) → IsErrAnd r (λ e. e ≡ x) → Lists x t src before after → GoesOn r t src s before after

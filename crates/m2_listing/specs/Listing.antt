@@ -7,17 +7,17 @@ use Rattle.m2_edge.specs.Sink.{SeenSink, TakesBytes, TakesPrefix}
 use Rattle.m2_edge.specs.Source.{SeenSource, IsPrefixOf}
 use Rattle.m2_frame.specs.Reading.{Item, start, bad, judge}
 use Rattle.m2_listing.specs.Stream.{Placed, SplitsAt}
-use Rattle.m2_listing.specs.declared.listing.TheConstants.{LIMIT}
 use Rattle.m2_listing.specs.declared.listing.Listing.{Listing}
 use Rattle.m2_listing.specs.declared.listing.Listing.TheVariants as listing
 
--- what is listed: the bytes behind these, and this line of each item at its place
+-- what is listed: the bytes behind these, at most so many, and this line of each item at its place
 pub record Terms : Type 0 where
   pub front : List ℕ
+  pub most : ℕ
   pub line : ℕ → Item → List ℕ
 
-abbrev pub terms : List ℕ → (ℕ → Item → List ℕ) → Terms
-terms front line = record { front = front; line = line }
+abbrev pub terms : List ℕ → (most : ℕ) → (ℕ → Item → List ℕ) → Terms
+terms front most line = record { front = front; most = most; line = line }
 
 abbrev pub line_of : (ℕ → Item → List ℕ) → Placed → List ℕ
 line_of line p = line p.place p.item
@@ -33,12 +33,12 @@ pub record IsAll (front bytes : List ℕ) (src : SeenSource) : Type 0 where
   pub given : src.given ≡ front ++ bytes
   pub ended : IsTrue src.ended
 
--- behind the front these bytes are what the reads gave up to the limit, and they gave more
-pub record IsCutAtLimit (front bytes : List ℕ) (src : SeenSource) : Type 0 where
+-- behind the front these bytes are the first ones that the reads gave, as many as may be listed, and they gave more
+pub record IsCutAtMost (most : ℕ) (front bytes : List ℕ) (src : SeenSource) : Type 0 where
   pub all : List ℕ
   pub given : src.given ≡ front ++ all
-  pub beyond : LIMIT < length all
-  pub cut : bytes ≡ take LIMIT all
+  pub beyond : most < length all
+  pub cut : bytes ≡ take most all
 
 -- ---- what was written
 
@@ -61,19 +61,19 @@ abbrev pub ListsPrefix : Terms → SeenSource → SeenSink → SeenSink → Type
 ListsPrefix t src before after = (bytes : List ℕ) × IsPrefixOf (t.front ++ bytes) src.given × Broken t.line bytes before after
 
 -- The answer, by what the reads gave, and what the sink took.
--- Whole: the file is within the limit, and is the texts of the listed items, and nothing else.
--- Bad: at this place the text is bad with this fault; the items before it are listed.
--- Cut: the file is within the limit and ends inside the text that begins at this place.
--- TooLong: the file goes on beyond the limit; up to there no text is bad, and this is the end of the last whole one.
+-- Whole: no more bytes came than may be listed, and they are the texts of the listed items, and nothing else.
+-- Bad: at this place the text is bad with this fault; the items before it are listed. It lies within what may be listed.
+-- Cut: no more came, and they end inside the text that begins at this place.
+-- TooLong: more came; up to there no text is bad, and this is the end of the last whole one.
 -- The others: a prefix of the lines was written.
 abbrev pub Lists : Listing → Terms → SeenSource → SeenSink → SeenSink → Type 0
-Lists listing.Whole t src before after = (bytes : List ℕ) × (place : ℕ) × IsAll t.front bytes src × Listed t.line bytes [] place before after
+Lists listing.Whole t src before after = (bytes : List ℕ) × (place : ℕ) × IsAll t.front bytes src × (length bytes ≤ t.most) × Listed t.line bytes [] place before after
 Lists (listing.Bad place f) t src before after =
-    (bytes : List ℕ) × (rest : List ℕ) × IsPrefixOf (t.front ++ bytes) src.given × (judge rest ≡ bad f) × Listed t.line bytes rest place before after
+    (bytes : List ℕ) × (rest : List ℕ) × IsPrefixOf (t.front ++ bytes) src.given × (length bytes ≤ t.most) × (judge rest ≡ bad f) × Listed t.line bytes rest place before after
 Lists (listing.Cut place) t src before after =
-    (bytes : List ℕ) × (rest : List ℕ) × IsAll t.front bytes src × (judge rest ≡ start) × (rest ≢ []) × Listed t.line bytes rest place before after
+    (bytes : List ℕ) × (rest : List ℕ) × IsAll t.front bytes src × (length bytes ≤ t.most) × (judge rest ≡ start) × (rest ≢ []) × Listed t.line bytes rest place before after
 Lists (listing.TooLong place) t src before after =
-    (bytes : List ℕ) × (rest : List ℕ) × IsCutAtLimit t.front bytes src × (judge rest ≡ start) × Listed t.line bytes rest place before after
+    (bytes : List ℕ) × (rest : List ℕ) × IsCutAtMost t.most t.front bytes src × (judge rest ≡ start) × Listed t.line bytes rest place before after
 Lists listing.ReadFault t src before after = ListsPrefix t src before after
 Lists listing.WriteFault t src before after = ListsPrefix t src before after
 Lists listing.NoMemory t src before after = ListsPrefix t src before after

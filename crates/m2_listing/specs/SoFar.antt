@@ -5,7 +5,6 @@ use Rattle.m2_edge.specs.Sink.{SeenSink}
 use Rattle.m2_edge.specs.Source.{SeenSource}
 use Rattle.m2_frame.specs.Position.{Position}
 use Rattle.m2_frame.specs.Reading.{Item, start, bad, judge}
-use Rattle.m2_listing.specs.declared.listing.TheConstants.{LIMIT}
 use Rattle.m2_listing.specs.Listing.{Terms, Listed, Broken, Lists, IsFaultCause}
 use Rattle.m2_listing.specs.declared.listing.Listing.{Listing}
 use Rattle.m2_listing.specs.declared.listing.Listing.TheVariants as listing
@@ -14,7 +13,7 @@ use Rattle.m2_listing.specs.declared.listing.Listing.TheVariants as listing
 pub record SoFar (t : Terms) (src : SeenSource) (room : ℕ) (s : Position) (before after : SeenSink) : Type 0 where
   pub bytes : List ℕ
   pub given : src.given ≡ t.front ++ bytes
-  pub counted : length bytes + room ≡ LIMIT
+  pub counted : length bytes + room ≡ t.most
   pub open_end : judge s.rest ≡ start
   pub listed : Listed t.line bytes s.rest s.place before after
 
@@ -28,10 +27,10 @@ IsEndCause (Ok _) src src' out out' = Unit {0}
 IsEndCause (Err end) src src' out out' = IsFaultCause end src src' out out'
 
 -- the end of the file: place is where the last whole frame ends
-abbrev pub EndsHere : Listing → Position → ℕ → Type 0
-EndsHere listing.Whole s room = s.place + room ≡ LIMIT
-EndsHere (listing.Cut place) s room = (place ≡ s.place) × (s.place + room ≢ LIMIT)
-EndsHere _ s room = ⊥
+abbrev pub EndsHere : Listing → (most : ℕ) → Position → ℕ → Type 0
+EndsHere listing.Whole most s room = s.place + room ≡ most
+EndsHere (listing.Cut place) most s room = (place ≡ s.place) × (s.place + room ≢ most)
+EndsHere _ most s room = ⊥
 
 abbrev pub IsFedCause : Result (Unit {0}) Listing → ℕ → ℕ → Type 0
 IsFedCause (Err listing.WriteFault) old new = HasRisen old new

@@ -17,7 +17,7 @@ use m2_edge::{Failed, Sink, Source, write_whole};
 use m2_frame::{Decoder, FrameFault, no_text_begins_another};
 use std::alloc::Global;
 
-/// The most bytes that listed frames have, all together.
+/// The most bytes that listed frames may have, all together.
 pub const LIMIT: usize = 1_099_511_627_775;
 
 /// How listing frames ended. A place is a count of bytes of frames: up to the end of the last whole one.
@@ -29,7 +29,7 @@ pub enum Listing {
     Bad(u64, FrameFault),
     /// It ends inside the frame at this place.
     Cut(u64),
-    /// It has more bytes than the limit, and is frames as far as that.
+    /// It has more bytes than may be listed, and is frames as far as that.
     TooLong(u64),
     /// The source failed.
     ReadFault,
@@ -49,12 +49,13 @@ impl From<NoMemory> for Listing {
     }
 }
 
-/// What the end of the file says: nothing may follow the last whole frame.
-fn at_end(decoder: &Decoder, room: usize) -> Listing
-    requires { room ≤ LIMIT }
-    ensures { EndsHere result decoder.now room }
+/// What the end of the file says, where so many of at most `most` bytes may still come: nothing may follow the last whole
+/// frame.
+fn at_end(decoder: &Decoder, most: usize, room: usize) -> Listing
+    requires { room ≤ most }
+    ensures { EndsHere result most decoder.now room }
 {
-    if decoder.place() == (LIMIT - room) as u64 {
+    if decoder.place() == (most - room) as u64 {
         Listing::Whole
     } else {
         Listing::Cut(decoder.place())
@@ -96,7 +97,7 @@ fn list_fed<T: Teller, O: Sink>(
     passed
 }
 
-/// Reads a piece where `room` more bytes may come, and lists it: the room that is then left, or how
+/// Reads a piece where `room` more bytes of at most `most` may come, and lists it: the room that is then left, or how
 /// the listing ended.
 fn list_piece<T: Teller, S: Source, O: Sink>(
     teller: &T,
@@ -105,9 +106,11 @@ fn list_piece<T: Teller, S: Source, O: Sink>(
     decoder: &mut Decoder,
     lines: &mut Lines,
     out: &mut O,
+    most: usize,
     room: usize,
 ) -> Result<usize, Listing>
-    requires room { room ≤ LIMIT }
+    requires most { most ≤ LIMIT }
+    requires room { room ≤ most }
     requires known { GivesItsInput (S.seen src.old) }
     requires written { lines.old.waiting.bytes ≡ [] }
     ensures read_causes { (S.seen src.old).faults ≤ (S.seen src.new).faults }
@@ -119,8 +122,8 @@ fn list_piece<T: Teller, S: Source, O: Sink>(
     ensures grows { Grows (S.seen src.old) (S.seen src.new) }
     ensures known { GivesItsInput (S.seen src.new) }
     ensures written { OnOk result (lines.new.waiting.bytes ≡ []) }
-    ensures goes { (front : List ℕ) (before : SeenSink) → SoFar (terms front (T.line teller.now)) (S.seen src.old) room decoder.old before (O.seen out.old)
-        → GoesOn result (terms front (T.line teller.now)) (S.seen src.new) decoder.new before (O.seen out.new) }
+    ensures goes { (front : List ℕ) (before : SeenSink) → SoFar (terms front most (T.line teller.now)) (S.seen src.old) room decoder.old before (O.seen out.old)
+        → GoesOn result (terms front most (T.line teller.now)) (S.seen src.new) decoder.new before (O.seen out.new) }
 {
     no_text_begins_another();
     let piece = fetch(src, buffer, decoder, room)?;
@@ -133,12 +136,12 @@ fn list_piece<T: Teller, S: Source, O: Sink>(
             list_fed(teller, decoder, lines, out)?;
             Err(Listing::TooLong(decoder.place()))
         }
-        Piece::End => Err(at_end(decoder, room)),
+        Piece::End => Err(at_end(decoder, most, room)),
     }
 }
 
-/// Lists the frames of what the source gives from here on: a line on `out` for each. The decoder has what was given of
-/// them before, at most a piece, of which nothing is listed yet.
+/// Lists the frames of what the source gives from here on, at most so many bytes of them: a line on `out` for each. The
+/// decoder has what was given of them before, `fed` bytes, of which nothing is listed yet.
 ///
 /// The input is read in pieces and never held whole. The lines of a piece are written at once, before the next is read.
 pub fn list_frames<T: Teller, S: Source, O: Sink>(
@@ -146,10 +149,12 @@ pub fn list_frames<T: Teller, S: Source, O: Sink>(
     teller: &T,
     decoder: &mut Decoder,
     fed: usize,
+    most: usize,
     src: &mut S,
     out: &mut O,
 ) -> Listing
-    requires fed { fed ≤ LIMIT }
+    requires fed { fed ≤ most }
+    requires most { most ≤ LIMIT }
     requires known { GivesItsInput (S.seen src.old) }
     ensures read_causes { (S.seen src.old).faults ≤ (S.seen src.new).faults }
     ensures write_causes { (O.seen out.old).faults ≤ (O.seen out.new).faults }
@@ -159,16 +164,25 @@ pub fn list_frames<T: Teller, S: Source, O: Sink>(
     ensures grows { Grows (S.seen src.old) (S.seen src.new) }
     ensures known { GivesItsInput (S.seen src.new) }
     ensures lists { (front : List ℕ) → HasFed front fed decoder.old (S.seen src.old)
-        → Lists result (terms front (T.line teller.now)) (S.seen src.new) (O.seen out.old) (O.seen out.new) }
+        → Lists result (terms front most (T.line teller.now)) (S.seen src.new) (O.seen out.old) (O.seen out.new) }
 {
     let mut lines = Lines::none(alloc);
     if let Err(end) = list_fed(teller, decoder, &mut lines, out) {
         return end;
     }
     let mut buffer = [0u8; PIECE];
-    let mut room = LIMIT - fed;
+    let mut room = most - fed;
     'pieces: loop {
-        match list_piece(teller, src, &mut buffer, decoder, &mut lines, out, room) {
+        match list_piece(
+            teller,
+            src,
+            &mut buffer,
+            decoder,
+            &mut lines,
+            out,
+            most,
+            room,
+        ) {
             Ok(left) => room = left,
             Err(end) => return end,
         }

@@ -5,7 +5,7 @@ use Rattle.m2_listing.proofs.listing.list_frames.Goals as goal
 
 pub returns-in-Err-clause-lists : goal.returns-in-Err-clause-lists
 returns-in-Err-clause-lists g c = λ front fed.
-    Lists-at_once c.in-Err.end (terms front (g.T.Teller.line c.args.teller.now)) c.args.fed (g.S.Source.seen c.args.src.now) c.args.decoder.now c.list_fed.new.decoder (g.O.Sink.seen c.args.out.now) (g.O.Sink.seen c.list_fed.new.out) fed
+    Lists-at_once c.in-Err.end (terms front c.args.most (g.T.Teller.line c.args.teller.now)) c.args.fed (g.S.Source.seen c.args.src.now) c.args.decoder.now c.list_fed.new.decoder (g.O.Sink.seen c.args.out.now) (g.O.Sink.seen c.list_fed.new.out) fed c.requires.fed
     (c.in-Err.ensures.passes c.args.decoder.now.rest (g.O.Sink.seen c.args.out.now) (Listed-begins (g.T.Teller.line c.args.teller.now) c.args.decoder.now (g.O.Sink.seen c.args.out.now) fed.first))
 
 pub returns-in-Err-list_piece-clause-grows : goal.returns-in-Err-list_piece-clause-grows
@@ -30,6 +30,6 @@ pieces-init g c =
       grows = Grows-none src;
       known = c.requires.known;
       so_far = λ front fed.
-          SoFar-begins (terms front line) c.args.fed src c.args.decoder.now c.list_fed.new.decoder out (g.O.Sink.seen c.list_fed.new.out) fed c.requires.fed
+          SoFar-begins (terms front c.args.most line) c.args.fed src c.args.decoder.now c.list_fed.new.decoder out (g.O.Sink.seen c.list_fed.new.out) fed c.requires.fed
           (c.in_default.ensures.passes c.args.decoder.now.rest out (Listed-begins line c.args.decoder.now out fed.first));
     }

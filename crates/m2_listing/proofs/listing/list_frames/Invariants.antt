@@ -1,6 +1,5 @@
 use Rattle.std.proofs.Common.{◌≡◌, ◌≤◌, List, ℕ, []}
 use Rattle.m2_edge.specs.Source.{GivesItsInput}
-use Rattle.m2_listing.specs.declared.listing.TheConstants.{LIMIT}
 use Rattle.m2_listing.specs.Listing.{terms}
 use Rattle.m2_listing.specs.Reading.{Grows}
 use Rattle.m2_listing.specs.SoFar.{HasFed, SoFar}
@@ -9,7 +8,7 @@ use Rattle.m2_listing.proofs.listing.list_frames.Given as goal
 abbrev pub invariant-pieces : goal.invariant-pieces
 invariant-pieces g l = record {
   written : l.lines.waiting.bytes ≡ [];
-  room : l.room ≤ LIMIT;
+  room : l.room ≤ l.fn.most;
   read_rises : (g.S.Source.seen l.fn.src).faults ≤ (g.S.Source.seen l.src).faults;
   write_rises : (g.O.Sink.seen l.fn.out).faults ≤ (g.O.Sink.seen l.out).faults;
   inputs : (g.S.Source.seen l.src).inputs ≡ (g.S.Source.seen l.fn.src).inputs;
@@ -17,7 +16,7 @@ invariant-pieces g l = record {
   grows : Grows (g.S.Source.seen l.fn.src) (g.S.Source.seen l.src);
   known : GivesItsInput (g.S.Source.seen l.src);
   so_far : (front : List ℕ) → HasFed front l.fn.fed l.fn.decoder (g.S.Source.seen l.fn.src)
-      → SoFar (terms front (g.T.Teller.line l.teller)) (g.S.Source.seen l.src) l.room l.decoder (g.O.Sink.seen l.fn.out) (g.O.Sink.seen l.out);
+      → SoFar (terms front l.fn.most (g.T.Teller.line l.teller)) (g.S.Source.seen l.src) l.room l.decoder (g.O.Sink.seen l.fn.out) (g.O.Sink.seen l.out);
 }
 
 abbrev pub decreases-pieces : goal.decreases-pieces

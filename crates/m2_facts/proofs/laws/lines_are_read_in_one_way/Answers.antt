@@ -1,5 +1,0 @@
-use Rattle.m2_facts.proofs.FactsOnce.{lines_once}
-use Rattle.m2_facts.proofs.laws.lines_are_read_in_one_way.Goals as goal
-
-pub returns : goal.returns
-returns c = record { lines = lines_once c.hex_is_read_again.ensures }
