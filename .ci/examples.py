@@ -10,7 +10,8 @@ The programs are those that rt ci built. Among the files are copies of an exampl
 none: the comparison must object to each.
 
 The traces of examples/traces are replayed besides, by tools/replay_trace.py, which knows nothing of the crates. It must
-object to each of them once a line of a journal is left out, a byte is changed, or the session is another.
+object to each of them once a line of a journal is left out, a byte is changed, a judgement has another row, or the session is
+another.
 """
 import os, re, shutil, subprocess, sys, tempfile
 
@@ -118,12 +119,13 @@ def replayed(trace):
 
 
 def wrong_traces(trace):
-    """The trace with a read left out, with a byte of a log changed, and with another session."""
+    """The trace with a read left out, with a byte of a log changed, with another row, and with another session."""
     read = re.search(r"^b journal (read|wrote) .*\n", trace, re.M)
     got = re.search(r"^b feed got .*[0-9a-f](?=\n)", trace, re.M)
     return {
         "an entry left out": trace[: read.start()] + trace[read.end() :],
         "a byte changed": trace[: got.end() - 1] + ("1" if trace[got.end() - 1] == "0" else "0") + trace[got.end() :],
+        "another row": re.sub(r"^(. journal judged .*) [a-z_]+$", r"\1 lossy", trace, count=1, flags=re.M),
         "another session": re.sub(r"^a session ([a-z_]+) ([0-9]+)", r"a session \1 1\2", trace, flags=re.M),
     }
 

@@ -27,7 +27,8 @@ BAD = [  # what is changed in the sample, at its first place; and what is said o
     (r"^turn b 1$", "turn z 1", 18, "no node z above"),
     (r"^link .*$", "# no link", 7, "no link of a and b above"),
     (r"^post a b 1 127 61", "post a b 1 127 6", 7, "`6` is no bytes"),
-    (r"opened a-b/1$", "opened a-b/2", 15, "a-b/2 isn't the next socket that a opens to b"),
+    (r"opened a-b/1(?= posted$)", "opened a-b/2", 15, "a-b/2 isn't the next socket that a opens to b"),
+    (r"(?<=opened a-b/1 )posted$", "written", 15, "`written` is no cause"),
     (r"  a journal b wrote a-b/1 26", "  b journal a wrote a-b/1 26", 16, "b does something, and it isn't its turn or its line"),
     (r"wrote a-b/1 26", "wrote a-b/1 27", 16, "27 bytes were written, and 26 stand here"),
     (r"wrote a-b/1 26 63", "wrote a-b/1 26 64", 16, "what a wrote to a-b/1 isn't msgr2: a stream begins with no banner"),
@@ -38,6 +39,8 @@ BAD = [  # what is changed in the sample, at its first place; and what is said o
     (r"  b from a", "   b from a", 94, "words have one space between them, and a node's line begins with two"),
 ]
 UNTRUE = [  # what is changed in the sample so that the lines are well formed, and the replay must object
+    (r"(?<=opened a-b/1 )posted$", "waited"),
+    (r"^(  a session b connecting .*)$", r"\1\n  a throttle 1"),
     (r"accept_race peer_wins$", "accept_again same_client"),
     (r"(?<= accept_race )peer_wins$", "settled"),
     (r"^  b trail read a-b/1 227\n", ""),

@@ -6,7 +6,7 @@ The traces are those that the built program crates/run_trace/out/run_trace print
 examples/pictures, laid before tools/run_trace.py, and those stored in examples/traces, laid before tools/replay_trace.py.
 The places are each word of each line, each line, and what is between two: a number is one more or one less, a digit of
 bytes is turned (of long ones in each TURNED bytes), another word becomes one of its kind, a line is left out or doubled,
-two neighbours of different kinds change places, and behind each line of a node a dispatch or a reset is made up. A line
+two neighbours of different kinds change places, and behind each line of a node a dispatch, a reset or a line of its throttle is made up. A line
 that begins with # says nothing, and is left alone.
 
 Of a trace with more than MOST places, 800 where it isn't said, so many are tried, spread evenly with a fixed seed. Each
@@ -34,6 +34,7 @@ KINDS = [  # words of which one is put for another
     ("lossless_peer", "lossless_client", "lossy_client", "stateful_server", "stateless_server"), ("flow", "fault"), ("link", "cut"),
     ("mon", "mds", "osd", "client", "mgr"), ("throttle", "supports", "requires", "centers"), ("plan", "session", "state", "composed", "handed"),
 ]
+CAUSES = ("posted", "dialled", "waited")  # of a connect
 HARMLESS = {  # which changes of which lines may go through, and why
     "run": [
         ("settle .*: left out", "nothing was to flow in that round, so its turns alone do the same"),
@@ -79,6 +80,8 @@ def words_for(line, at, names, draw):
     if re.fullmatch("([0-9a-fA-F]{2})+", word):
         places = range(0, len(word), 2 * TURNED)
         return [turned(word, min(len(word) - 1, start + draw.randrange(2 * TURNED)), draw) for start in places]
+    if word in CAUSES and " opened " in line:
+        return [other for other in CAUSES if other != word]
     for kind in KINDS:
         if word in kind:
             return [draw.choice([other for other in kind if other != word])]
@@ -103,14 +106,14 @@ def kind_of(line):
 
 
 def made_up(line, names):
-    """A dispatch and a reset that didn't happen, to stand behind a line of a node."""
+    """A dispatch and a reset that didn't happen, and what a throttle hasn't out, to stand behind a line of a node."""
     node = line.split()[0]
     others = [name for name in names if name != node]
     if node not in names or not others:
         return []
     indent = "  " if line.startswith("  ") else ""
     if indent:
-        return [f"  {node} from {others[0]} 127 queued 1 61 - -", f"  {node} reset {others[0]}"]
+        return [f"  {node} from {others[0]} 127 queued 1 61 - -", f"  {node} reset {others[0]}", f"  {node} throttle 1"]
     return [f"{node} handed message 9 127 queued 1 61 - -", f"{node} handed reset"] if line.split()[1] == "handed" else []
 
 

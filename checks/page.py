@@ -153,9 +153,9 @@ def shown_otherwise(browser, run, lines):
             own.append(line[2:])
         if shown["lines"] != own:
             yield f"line {row.line}: the page shows other lines than the trace has below it"
-        judged = [event for event in row.events if event.what == "judged"]
-        if len(shown["answers"]) != len(judged):
-            yield f"line {row.line}: {len(judged)} answers, and {len(shown['answers'])} are shown"
+        why = [event for event in row.events if event.what in ("opened", "judged")]
+        if len(shown["answers"]) != len(why):
+            yield f"line {row.line}: {len(why)} sockets opened and asks answered, and {len(shown['answers'])} are shown"
         yield from wrong_states(row, run, sides, shown["states"])
     yield from wrong_ways(browser, run)
     yield from wrong_search(browser, lines)

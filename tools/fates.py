@@ -112,6 +112,7 @@ class Fates:
         self.late = {}  # of the acceptance of one that had to wait, in an earlier turn than its own, the frame
         self.ready = {}  # of a socket and a node the event since which it is the socket of a session there
         self.causes, self.due = {}, {}  # of an event why an end was closed, and why a socket was opened
+        self.outs = {}  # of a turn how many bytes were out of its node's throttle, before it gave back what was dispatched behind the queue
         self.sides = {pair: Side(*pair, policy) for pair, policy in run.policies.items()}
         self.numbered = {}  # of a socket's name, a sender and a number the post
         self.lasts = {}  # of a socket's name and a sender the last number
@@ -125,7 +126,7 @@ class Fates:
         self.end_cuts()
 
     def go_through(self):
-        moment = 0
+        moment, outs = 0, collections.Counter()
         for row in self.run.rows:
             row.at = moment
             moment += row.what == "turn"
@@ -139,6 +140,12 @@ class Fates:
                     side.before = event
             for pair, words in row.sessions.items():
                 self.sides[pair].until = int(words[6])
+            outs[row.node] = outs[row.node] if row.out is None else row.out
+            self.outs[row] = outs[row.node] + sum(self.size_of(event) for event in row.events if is_queued(event))
+
+    def size_of(self, accepted):
+        """How many bytes the message has that was accepted."""
+        return self.numbered[accepted.socket.name, accepted.peer, int(accepted.words[0])].size
 
     # ---- lines
 
@@ -197,14 +204,13 @@ class Fates:
         side.wants_dial = side.wants_dial or side.phase in ("absent", "standby")
 
     def on_opened(self, event, side):
-        self.due[event] = self.due_connect(side)
+        self.due[event] = self.due_connect(event.words[1], side)
         side.feed, side.phase, side.next, side.wants_dial = event.socket, "connecting", 0, False
 
-    def due_connect(self, side):
-        """What made a connect due ("When a side connects")."""
-        if side.phase == "wait":
-            return f"as its wait until moment {side.until} was over"
-        return "for what it has to write" if side.kept or side.waiting else "as it was told to dial"
+    def due_connect(self, word, side):
+        """What made a connect due, as its line has it ("When a side connects")."""
+        waited = f"as its wait until moment {side.until} was over"
+        return {"waited": waited, "posted": "for what it has to write", "dialled": "as it was told to dial"}[word]
 
     def on_asked(self, event, side):
         side.phase = "asked"
@@ -376,16 +382,19 @@ class Fates:
 
     def held_for(self, post):
         bound = self.bounds[post.receiver]
-        return f"after a wait for {post.receiver}'s {'throttle' if bound else 'next turn'}"
+        if not bound:
+            return f"after a wait for {post.receiver}'s next turn"
+        return f"after a wait for {post.receiver}'s throttle ({self.outs[post.held[0][1]]} of {bound} bytes out)"
+
+    def is_written(self, post, number, socket):
+        """Whether some of it was written on a socket where it got this number; a frame that is cut short is the last that got one there."""
+        is_last = self.lasts[socket.name, post.sender] == number
+        mine = [it for it in socket.flights if (it.writer, it.tag) == (post.sender, MESSAGE)]
+        return any(it.says.get("seq") == number or it.frame is None and is_last for it in mine)
 
     def writings(self, post):
-        """On how many sockets some of it was written; a frame that is cut short is the last that got a number there."""
-        count = 0
-        for number, socket in post.tries:
-            is_last = self.lasts[socket.name, post.sender] == number
-            mine = [it for it in socket.flights if (it.writer, it.tag) == (post.sender, MESSAGE)]
-            count += any(it.says.get("seq") == number or it.frame is None and is_last for it in mine)
-        return count
+        """On how many sockets some of it was written."""
+        return sum(self.is_written(post, number, socket) for number, socket in post.tries)
 
     def ends(self):
         """Why nothing more happens."""
@@ -412,8 +421,8 @@ class Fates:
         if not bound:
             return f"for {reader}'s next turn: {reader} has read it and did as much as it does in one turn"
         row = next(start for _, start, end in post.held[::-1] if end is None)
-        out = sum(it.size for it in self.posts if it.receiver == reader and any(event.row is row for event in it.accepted))
-        return f"for {reader}'s throttle: it has {some(post.size, 'byte')}, and of {bound} there were {out} out {self.when(row)}; {self.ends()}"
+        out = f"of {bound} there were {self.outs[row]} out {self.when(row)}"
+        return f"for {reader}'s throttle: it has {some(post.size, 'byte')}, and {out}; {self.ends()}"
 
     def waits_for_session(self, side, peer):
         again = self.repeated(side.node, side.peer)
@@ -531,6 +540,11 @@ class Fates:
             return "in the handshake"
         cause = self.causes[closed]
         return f"{cause} at {closed.node}" if cause in ("fault", "cut") else f"closed: {cause}"
+
+
+def is_queued(event):
+    """A message was accepted that is dispatched behind the queue."""
+    return event.what == "accepted" and event.words[2] == "queued"
 
 
 def bound_of(words):

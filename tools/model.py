@@ -81,6 +81,11 @@ class Node:
             if words != was:
                 self.tell("session", record.peer.name, *words)
 
+    def tell_throttle(self, before):
+        """What the throttle has out, where that is otherwise than before."""
+        if self.out != before:
+            self.tell("throttle", str(self.out))
+
     def facts(self):
         numbers = (self.entity, self.number, self.salt, self.supports, self.requires, self.first_wait, self.most_wait)
         return " ".join(map(str, numbers))
@@ -296,10 +301,11 @@ class Run:
         self.told = []
         moment = [str(self.now)] if words[0] == "turn" else []
         actor = self.nodes[words[1]] if words[0] in ACTS else None
-        before = actor.standings() if actor else []
+        before, out = (actor.standings(), actor.out) if actor else ([], 0)
         self.do(words[0], words[1:])
         if actor:
             actor.tell_standings(before)
+            actor.tell_throttle(out)
         return [" ".join([*words[: 2 if moment else None], *moment]), *self.told]
 
     def do(self, form, rest):

@@ -1,5 +1,6 @@
 """A picture of a run as one page, which needs no network: the same picture, and beside it both sides' state at the moment under
-the pointer, what the nodes did then, with the row that answered an ask, a search, and the way of one message lit up.
+the pointer, what the nodes did then, with what made a connect due and the row that answered an ask, a search, and the way of one
+message lit up.
 
 `page_of(run, fates, drawing, svg)` gives the text of the page, for tools/draw. The states are those of tools/model.py, which
 plays the script of the trace; where that does otherwise than the trace, the page says so in their place.
@@ -61,12 +62,18 @@ def rows_of(run, fates, times):
         waiting += changes[place] if changes else []
         if row in drawn:
             start, end = drawn[row]
-            answers = [f"{event.node} answers {event.words[2]} by {' '.join(event.words[8:])}: row {event.named}"
-                       for event in row.events if event.what == "judged"]
+            answers = [why(event, fates) for event in row.events if event.what in ("opened", "judged")]
             rows.append({"from": start, "to": end, "words": " ".join(row.words), "line": row.line, "lines": lines[row], "answers": answers,
                          "states": waiting})
             waiting = []
     return rows, changes is not None
+
+
+def why(event, fates):
+    """What made a connect due, or the row that answered an ask."""
+    if event.what == "opened":
+        return f"{event.node} opens {event.socket.name}, {fates.due[event]}"
+    return f"{event.node} answers {event.words[2]} by {' '.join(event.words[8:])}: row {event.named}"
 
 
 def page_of(run, fates, drawing, svg):

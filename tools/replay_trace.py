@@ -181,8 +181,8 @@ class Side:
         """Rows aren't counted here."""
 
     def tell_entry(self, record, words):
-        """A trace of two records has no cause of a closing, no bytes that were written, and no row of a judgement."""
-        self.told.append(words[: {"closed": 2, "wrote": 3, "judged": -1}.get(words[0])])
+        """A trace of two records has no cause of a connect or of a closing, and no bytes that were written."""
+        self.told.append(words[: {"opened": 2, "closed": 2, "wrote": 3}.get(words[0])])
 
     def tell_trail(self, words):
         if words[0] != "accepted":
@@ -229,7 +229,7 @@ class Side:
         if entry[0] in ("read", "wrote"):
             self.moves[entry[1]].append((entry[0], entry[2]))
         elif entry[0] == "judged":
-            self.judged.setdefault(entry[2], []).append(entry[3:])
+            self.judged.setdefault(entry[2], []).append(entry[3:-1])  # a trail has no row
         elif entry[0] == "closed":
             self.spent.append(entry[1])
 

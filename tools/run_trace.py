@@ -33,7 +33,7 @@ NAME, NUMBER, BYTES = "[a-z0-9_]{1,16}", "0|[1-9][0-9]*", "-|(?:[0-9a-fA-F]{2})+
 WORDS = {  # what a word of each kind looks like
     "name": NAME, "number": NUMBER, "bytes": BYTES, "word": "[a-z_]+", "mark": f"[a-z_]+|{NUMBER}", "text": "[!-~]+",
     "socket": f"{NAME}-{NAME}/[1-9][0-9]*", "ask": "ident|reconnect", "path": "fast|queued", "full": "full|part",
-    "entity": "mon|mds|osd|client|mgr", "flag": "yes|no", "phase": "absent|connecting|ident_sent|reconnect_sent|ready|standby|wait",
+    "entity": "mon|mds|osd|client|mgr", "cause": "posted|dialled|waited", "flag": "yes|no", "phase": "absent|connecting|ident_sent|reconnect_sent|ready|standby|wait",
     "address": r"[0-9]+(?:\.[0-9]+){3}:[0-9]+/[0-9]+",
 }
 RANGES = {  # of numbers that stand in a scenario
@@ -47,14 +47,16 @@ SCRIPT = {  # the lines of the script, as they are played; of a kind with * ther
 OPTIONS = {"centers": (1, 4), "fast": (0, 65535), "throttle": (0, 2**32 - 1), "supports": (0, 2**64 - 1), "requires": (0, 2**64 - 1)}
 MOVED = {"read": "socket number", "wrote": "socket number bytes", "closed": "socket word*"}
 JOURNAL = MOVED | {
-    "post": "number", "dial": "", "opened": "socket", "asked": "ask number", "numbered": "number", "acked": "number",
+    "post": "number", "dial": "", "opened": "socket cause", "asked": "ask number", "numbered": "number", "acked": "number",
     "judged": "number socket ask number number number number number word mark mark*", "accepted": "number number path",
     "obeyed": "full", "down": "word",
 }
 TRAIL = MOVED | {"accepted": "socket"}
-TOLD = {  # what else a node's line tells, by its second word: dispatches, and where the record towards a peer stands behind them
+TOLD = {  # what else a node's line tells, by its second word: dispatches, and behind them where the record towards a peer stands and what is
+    # out of the throttle
     "from": "name number path number bytes bytes bytes", "reset": "name",
     "session": "name phase number number number number flag number number number number number number",
+    "throttle": "number",
 }
 
 
@@ -69,6 +71,7 @@ class Row:
     def __init__(self, line, words):
         self.line, self.words, self.events = line, words, []
         self.sessions = {}  # of a node and its peer where the record stands behind it, where that changed
+        self.out = None  # how many bytes its node's throttle has out behind it, where that changed
         self.what = words[0]
         self.node = words[1] if self.what in ("turn", "post", "dial", "down") else None
         self.moment = int(words[2]) if self.what == "turn" else None
@@ -245,6 +248,10 @@ class Reader:
         if what == "trail":
             return self.entry(TRAIL, node, None, rest)
         self.must(what in TOLD, f"`{what}` is nothing that a node does")
+        if what == "throttle":
+            self.fit(what, TOLD[what], rest)
+            self.row.out = int(rest[0])
+            return None
         self.must(self.run.is_linked(node, rest[0]), f"no link of {node} and {rest[0]} above")
         self.fit(what, TOLD[what], rest)
         if what == "session":

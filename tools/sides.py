@@ -341,9 +341,15 @@ class Record:
             return self.wants_dial or not self.queue.is_empty()
         return self.phase == WAITING
 
+    def why_connects(self):
+        """What makes a connect due, as a trace has it; what is to be written goes before a dial that was asked for."""
+        if self.phase == WAITING:
+            return "waited"
+        return "dialled" if self.queue.is_empty() else "posted"
+
     def open(self, feed):
         """Dialled, on this end."""
-        self.tell("opened", feed.name)
+        self.tell("opened", feed.name, self.why_connects())
         self.feed, self.signing, self.last_text, self.phase = feed, 0, None, CONNECTING
         self.connect += self.lost_in_ready
         self.lost_in_ready = self.wants_dial = False

@@ -11,7 +11,8 @@ use Rattle.m2_record_trace.specs.declared.wire.Wire.{Wire}
 use Rattle.m2_record_trace.specs.PairNow.{PairNow}
 use Rattle.m2_record_trace.specs.SideNow.{SideNow}
 use Rattle.m2_trace.specs.Ends.{end_lines, trail_lines}
-use Rattle.m2_trace.specs.Entries.{entry_line}
+use Rattle.m2_trace.specs.Entries.{journal_lines}
+use Rattle.m2_trace.specs.Rows.{nothing_held}
 use Rattle.m2_trace.specs.Sides.{heard_line, session_line, start_lines, step_line}
 use Rattle.m2_trace.specs.Words.{Text, bytes_word, flag_word, line, number_word, socket_word}
 use Rattle.m2_trail.specs.Arrivals.{LooseNow}
@@ -21,7 +22,7 @@ use Rattle.m2_trail.specs.Incoming.{IncomingNow}
 
 unfoldable pub did_lines : (side : Text) → RecordNow → Text
 did_lines side r =
-    flat_map (step_line side) r.plan ++ flat_map (entry_line side (codes "journal")) r.journal ++ flat_map (trail_lines side (codes "trail")) r.trails
+    flat_map (step_line side) r.plan ++ journal_lines r.core.facts side nothing_held r.journal ++ flat_map (trail_lines side (codes "trail")) r.trails
 
 unfoldable pub ends_lines : (side : Text) → RecordNow → Text
 ends_lines side r = flat_map (end_lines side (codes "feed")) (feed_end r.core.live.feed) ++ flat_map (end_lines side (codes "spent")) r.spent

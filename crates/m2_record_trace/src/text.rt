@@ -31,7 +31,13 @@ fn put_did(out: &mut Blob, side: &[u8], record: &Record<SimEnd>) -> Result<(), N
     ensures { OnOk result (out.new.bytes ≡ out.old.bytes ++ did_lines side.now record.now) }
 {
     put_plan(out, side, record.plan().as_slice())?;
-    put_journal(out, side, b"journal", record.journal().as_slice())?;
+    put_journal(
+        out,
+        side,
+        record.session(),
+        record.facts(),
+        record.journal().as_slice(),
+    )?;
     put_trails(out, side, record.trails().as_slice())
 }
 

@@ -10,6 +10,7 @@ use Rattle.m2_journal.specs.declared.entry.Entry.{Entry}
 use Rattle.m2_record.specs.RecordNow.{RecordNow}
 use Rattle.m2_trace.specs.Words.{Text}
 use Rattle.m2_run_trace.specs.declared.news.Judgement.{Judgement}
+use Rattle.m2_run_trace.specs.Dials.{MarkedNow}
 use Rattle.m2_run_trace.specs.Ends.{run_line, run_lines}
 use Rattle.m2_run_trace.specs.Entries.{calls_behind, calls_left, entry_lines, lines_of}
 use Rattle.m2_run_trace.specs.News.{ToldNow, and_then, journal_length, journal_up_to, journals_said, judgement_at, judgement_from, or_else}
@@ -29,9 +30,9 @@ pub next_run : (t : Telling) (s : SocketId) (log : Log) (at to : ℕ) → at < t
     run_lines t s log at (to - at) ≡ run_line t s log.put (drop at log.runs) ++ run_lines t s log (at + 1) (to - (at + 1))
 next_run t s log at to h = ap (run_lines t s log at) (one_less at to h)
 
-pub next_entry : (t : Telling) (r : RecordNow) (at to : ℕ) (calls : List Logged) → at < to →
-    lines_of t r at (to - at) calls ≡ entry_lines t r at calls (slice_get r.journal at) ++ lines_of t r (at + 1) (to - (at + 1)) (calls_behind calls (slice_get r.journal at))
-next_entry t r at to calls h = ap (λ (n : ℕ). lines_of t r at n calls) (one_less at to h)
+pub next_entry : (t : Telling) (m : MarkedNow) (at to : ℕ) (calls : List Logged) → at < to →
+    lines_of t m at (to - at) calls ≡ entry_lines t m at calls (slice_get m.kept.journal at) ++ lines_of t m (at + 1) (to - (at + 1)) (calls_behind calls (slice_get m.kept.journal at))
+next_entry t m at to calls h = ap (λ (n : ℕ). lines_of t m at n calls) (one_less at to h)
 
 pub next_calls : (js : List Entry) (at to : ℕ) (calls : List Logged) → at < to →
     calls_left js at (to - at) calls ≡ calls_left js (at + 1) (to - (at + 1)) (calls_behind calls (slice_get js at))

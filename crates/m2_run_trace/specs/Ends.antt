@@ -12,8 +12,8 @@ use Rattle.m2_run_trace.specs.Words.{socket_name, trail_head}
 
 -- ---- what is told of a socket
 
-unfoldable pub opened_words : List Node → SocketId → Text
-opened_words nodes s = codes " opened " ++ socket_name nodes s
+unfoldable pub opened_words : List Node → SocketId → (cause : Text) → Text
+opened_words nodes s cause = codes " opened " ++ socket_name nodes s ++ cause
 
 unfoldable pub accepted_words : List Node → SocketId → Text
 accepted_words nodes s = codes " accepted " ++ socket_name nodes s

@@ -17,6 +17,7 @@ use Rattle.m2_trace.specs.Rows.{held_behind, row_word}
 use Rattle.m2_trace.specs.Words.{Text, number_word}
 use Rattle.m2_trail.specs.Trails.{written_by}
 use Rattle.m2_run_trace.specs.Cause.{cause_in_journal}
+use Rattle.m2_run_trace.specs.Dials.{MarkedNow, dial_word}
 use Rattle.m2_run_trace.specs.Dispatches.{first_line}
 use Rattle.m2_run_trace.specs.Ends.{closed_words, opened_words, read_words, wrote_words}
 use Rattle.m2_run_trace.specs.Telling.{Telling, log_in}
@@ -44,17 +45,17 @@ start_on s entries log = length (put_of log) - written_by (runs_on s entries)
 abbrev pub row_at : RecordNow → (place : ℕ) → AskFacts → Answer → Text
 row_at r place ask answer = row_word (held_behind r.core.facts (take place r.journal)) ask answer
 
--- what the entry at a place of a record's journal tells
-abbrev pub told_by : Telling → RecordNow → (place : ℕ) → Entry → Text
-told_by t r place (entry.Opened s) = opened_words t.nodes s
-told_by t r place (entry.Read s count) = read_words t.nodes s count
-told_by t r place (entry.Wrote s count) = let log = log_in t.center s in wrote_words t.nodes s count (start_on s (drop place r.journal) log) (put_of log)
-told_by t r place (entry.Closed s) = closed_words t.nodes s (cause_in_journal (entry_before r.journal place) s (log_in t.center s))
-told_by t r place (entry.Judged s ask number answer) = judged_words t.nodes s ask number answer ++ row_at r place ask answer
-told_by t r place e = entry_words e
+-- what the entry at a place of a record's journal tells; of a connect also what made it due
+abbrev pub told_by : Telling → MarkedNow → (place : ℕ) → Entry → Text
+told_by t m place (entry.Opened s) = opened_words t.nodes s (dial_word m place)
+told_by t m place (entry.Read s count) = read_words t.nodes s count
+told_by t m place (entry.Wrote s count) = let log = log_in t.center s in wrote_words t.nodes s count (start_on s (drop place m.kept.journal) log) (put_of log)
+told_by t m place (entry.Closed s) = closed_words t.nodes s (cause_in_journal (entry_before m.kept.journal place) s (log_in t.center s))
+told_by t m place (entry.Judged s ask number answer) = judged_words t.nodes s ask number answer ++ row_at m.kept place ask answer
+told_by t m place e = entry_words e
 
-unfoldable pub told_line : Telling → RecordNow → (place : ℕ) → Entry → Text
-told_line t r place e = journal_head t.own.name (name_in t.nodes r.place) ++ told_by t r place e ++ codes "\n"
+unfoldable pub told_line : Telling → MarkedNow → (place : ℕ) → Entry → Text
+told_line t m place e = journal_head t.own.name (name_in t.nodes m.kept.place) ++ told_by t m place e ++ codes "\n"
 
 -- ---- with the dispatches of fast kinds
 
@@ -64,9 +65,9 @@ is_fast (entry.Accepted number key) = is_path key.path Fast
 is_fast e = false
 
 -- the line of an entry, and behind an accepted message of a fast kind that of its dispatch: the first call that isn't told yet
-abbrev pub entry_lines : Telling → RecordNow → (place : ℕ) → (calls : List Logged) → Option Entry → Text
-entry_lines t r place calls (Some e) = told_line t r place e ++ (if is_fast e then first_line t calls else [])
-entry_lines t r place calls None = []
+abbrev pub entry_lines : Telling → MarkedNow → (place : ℕ) → (calls : List Logged) → Option Entry → Text
+entry_lines t m place calls (Some e) = told_line t m place e ++ (if is_fast e then first_line t calls else [])
+entry_lines t m place calls None = []
 
 -- the calls that are left behind it
 abbrev pub calls_behind : (calls : List Logged) → Option Entry → List Logged
@@ -74,10 +75,10 @@ calls_behind calls (Some e) = if is_fast e then drop 1 calls else calls
 calls_behind calls None = calls
 
 -- so many entries of a record's journal, from a place on
-abbrev pub lines_of : Telling → RecordNow → (from count : ℕ) → (calls : List Logged) → Text
-lines_of t r from zero calls = []
-lines_of t r from (suc n) calls =
-    entry_lines t r from calls (slice_get r.journal from) ++ lines_of t r (from + 1) n (calls_behind calls (slice_get r.journal from))
+abbrev pub lines_of : Telling → MarkedNow → (from count : ℕ) → (calls : List Logged) → Text
+lines_of t m from zero calls = []
+lines_of t m from (suc n) calls =
+    entry_lines t m from calls (slice_get m.kept.journal from) ++ lines_of t m (from + 1) n (calls_behind calls (slice_get m.kept.journal from))
 
 abbrev pub calls_left : (journal : List Entry) → (from count : ℕ) → (calls : List Logged) → List Logged
 calls_left journal from zero calls = calls

@@ -1,6 +1,7 @@
 pub mod Acts
 pub mod Cause
 pub mod Complaint
+pub mod Dials
 pub mod Dispatches
 pub mod Ends
 pub mod Entries
@@ -11,5 +12,6 @@ pub mod Script
 pub mod Sockets
 pub mod Standing
 pub mod Telling
+pub mod Throttle
 pub mod Tracing
 pub mod Words

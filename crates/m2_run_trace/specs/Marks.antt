@@ -3,13 +3,17 @@ use Rattle.std.specs.Prelude.{ℕ, true, false, List, [], length, map, Option, S
 use Rattle.m2_fabric.specs.declared.socket.SocketId.{SocketId}
 use Rattle.m2_fabric.specs.Log.{Log}
 use Rattle.m2_record.specs.RecordNow.{RecordNow}
+use Rattle.m2_run_trace.specs.declared.dials.DialMark.{DialMark}
 use Rattle.m2_run_trace.specs.declared.marks.EndMark.{EndMark}
 use Rattle.m2_run_trace.specs.declared.standing.SessionMark.{SessionMark}
+use Rattle.m2_run_trace.specs.Dials.{dial_mark_of}
 use Rattle.m2_run_trace.specs.Standing.{standing_of}
 use Rattle.m2_run_trace.specs.Telling.{TracedCenter, Telling, log_in}
+use Rattle.m2_run_trace.specs.Throttle.{out_of}
 
 -- of sockets what their ends had done; and how much there was of the rest: of each record how many entries its journal had, how
--- many calls the dispatchers of fast and of other kinds had, how many sockets its port had made, and where each record stood
+-- many calls the dispatchers of fast and of other kinds had, how many sockets its port had made, where each record stood, what made a
+-- connect of it due, and how many bytes its throttle had out
 pub record MarksNow : Type 0 where
   pub ends : List EndMark
   pub journals : List ℕ
@@ -17,6 +21,8 @@ pub record MarksNow : Type 0 where
   pub queued : ℕ
   pub made : ℕ
   pub standings : List SessionMark
+  pub dials : List DialMark
+  pub out : ℕ
 
 -- of a socket: whether there was an end, how many reads and writes it had made, and whether it was closed
 abbrev pub end_mark : SocketId → Option Log → EndMark
@@ -31,9 +37,11 @@ marks_in c sockets = record {
   queued = length c.queued.inner;
   made = length c.port.made;
   standings = map standing_of c.records;
+  dials = map dial_mark_of c.records;
+  out = out_of c;
 }
 
 -- where there is no such node nothing stands
 abbrev pub marks_of : Option Telling → List SocketId → MarksNow
 marks_of (Some t) sockets = marks_in t.center sockets
-marks_of None sockets = record { ends = []; journals = []; fast = 0; queued = 0; made = 0; standings = [] }
+marks_of None sockets = record { ends = []; journals = []; fast = 0; queued = 0; made = 0; standings = []; dials = []; out = 0 }

@@ -9,9 +9,11 @@ use Rattle.m2_fabric.specs.Sockets.{same_socket}
 use Rattle.m2_journal.specs.declared.entry.Entry.{Entry}
 use Rattle.m2_journal.specs.declared.entry.Entry.TheVariants as entry
 use Rattle.m2_record.specs.RecordNow.{RecordNow}
+use Rattle.m2_run_trace.specs.declared.dials.DialMark.{DialMark}
 use Rattle.m2_run_trace.specs.declared.marks.EndMark.{EndMark}
 use Rattle.m2_run_trace.specs.declared.news.Judgement.{Judgement}
 use Rattle.m2_run_trace.specs.Cause.{cause_of_half, leaves_own}
+use Rattle.m2_run_trace.specs.Dials.{with_mark}
 use Rattle.m2_run_trace.specs.Dispatches.{call_line}
 use Rattle.m2_run_trace.specs.Ends.{accepted_words, behind_read, closed_words, run_lines, trail_line}
 use Rattle.m2_run_trace.specs.Entries.{calls_left, entry_before, lines_of}
@@ -19,14 +21,16 @@ use Rattle.m2_run_trace.specs.Marks.{MarksNow}
 use Rattle.m2_run_trace.specs.Sockets.{comes_to, trail_in}
 use Rattle.m2_run_trace.specs.Standing.{changed_lines}
 use Rattle.m2_run_trace.specs.Telling.{TracedCenter, Telling, log_in}
+use Rattle.m2_run_trace.specs.Throttle.{changed_throttle}
 use Rattle.m2_trace.specs.Words.{Text}
 use Rattle.m2_trail.specs.Trails.{TrailNow}
 
 -- up to where a node's doings are told: of each record how many entries of its journal, and the calls of the dispatcher of fast
--- kinds that are left
+-- kinds that are left; and of each record what made a connect due where it was marked
 pub record ToldNow : Type 0 where
   pub journals : List ℕ
   pub fast : List Logged
+  pub dials : List DialMark
 
 -- lines, and up to where all is told behind them
 pub record Said : Type 0 where
@@ -42,8 +46,8 @@ silence told = record { text = []; told = told }
 -- the entries of a record's journal that aren't told yet, up to a place
 abbrev pub up_to : Telling → (record_place to : ℕ) → ToldNow → Option ℕ → Option RecordNow → Said
 up_to t place to told (Some from) (Some r) = record {
-  text = lines_of t r from (to - from) told.fast;
-  told = record { journals = slice_set told.journals place to; fast = calls_left r.journal from (to - from) told.fast };
+  text = lines_of t (with_mark r (slice_get told.dials place)) from (to - from) told.fast;
+  told = record told { journals = slice_set told.journals place to; fast = calls_left r.journal from (to - from) told.fast };
 }
 up_to t place to told _ _ = silence told
 
@@ -197,7 +201,7 @@ journals_said t place (suc n) told =
     and_then (journal_up_to t place (journal_length (slice_get t.center.records place)) told) (journals_said t (place + 1) n)
 
 abbrev pub told_at : TracedCenter → MarksNow → ToldNow
-told_at c m = record { journals = m.journals; fast = drop m.fast c.out.fast }
+told_at c m = record { journals = m.journals; fast = drop m.fast c.out.fast; dials = m.dials }
 
 abbrev pub doings : Telling → List EndMark → ToldNow → Said
 doings t ms told = and_then (halves_said t ms told) (journals_said t 0 (length t.center.records))
@@ -207,9 +211,12 @@ abbrev pub with_calls : Telling → (queued : ℕ) → Said → Text
 with_calls t queued said = said.text ++ flat_map (call_line t) said.told.fast ++ flat_map (call_line t) (drop queued t.center.queued.inner)
 
 -- the sockets that were accepted; what the halves did, each in its turn, with what the records did by their asks; what else the
--- records did; the dispatches that are left; and where those records stand by it that stood otherwise before
+-- records did; the dispatches that are left; where those records stand by it that stood otherwise before; and what the throttle has out
+-- by it, where it had otherwise before
 abbrev pub news : Telling → MarksNow → Text
-news t m = flat_map (accepted_line t) m.ends ++ with_calls t m.queued (doings t m.ends (told_at t.center m)) ++ changed_lines t m.standings 0 (length t.center.records)
+news t m =
+    flat_map (accepted_line t) m.ends ++ with_calls t m.queued (doings t m.ends (told_at t.center m))
+    ++ changed_lines t m.standings 0 (length t.center.records) ++ changed_throttle t m.out
 
 -- where there is no such node it did nothing
 abbrev pub news_of : Option Telling → MarksNow → Text

@@ -39,6 +39,10 @@ trail_head name = codes "  " ++ head name (codes "trail")
 unfoldable pub session_head : (name peer : Text) → Text
 session_head name peer = codes "  " ++ head name (codes "session") ++ codes " " ++ peer
 
+-- and one that tells what its throttle has out
+unfoldable pub throttle_head : (name : Text) → Text
+throttle_head name = codes "  " ++ head name (codes "throttle")
+
 -- and one that tells what the record towards a peer did
 unfoldable pub journal_head : (name peer : Text) → Text
 journal_head name peer = codes "  " ++ head name (codes "journal") ++ codes " " ++ peer

@@ -2,7 +2,7 @@
 
 ghost use Rattle.std.specs.Prelude.{◌≡◌, ◌++◌, ◌-◌, OnOk, drop, length, take};
 ghost use Rattle.m2_fabric.specs.Log.{log_of};
-ghost use Rattle.m2_run_trace.specs.Ends.{accepted_words, behind_read, closed_words, read_words, run_line, run_lines, run_words, trail_line, wrote_words};
+ghost use Rattle.m2_run_trace.specs.Ends.{accepted_words, behind_read, closed_words, opened_words, read_words, run_line, run_lines, run_words, trail_line, wrote_words};
 ghost use Rattle.m2_trail.specs.Trails.{written_by};
 
 use crate::lists::behind;
@@ -47,6 +47,20 @@ fn piece(bytes: &[u8], from: usize, count: u32) -> &[u8]
     ensures { result.now ≡ take count (drop from bytes.now) }
 {
     prefix(behind(bytes, from), count as usize)
+}
+
+/// Appends that a socket was opened, and what made that due.
+#[tactic(auto, unfolding(crate::specs::Ends::opened_words))]
+pub(crate) fn put_opened(
+    out: &mut Blob,
+    nodes: &[Node],
+    socket: &SocketId,
+    cause: &[u8],
+) -> Result<(), NoMemory>
+    ensures { OnOk result (out.new.bytes ≡ out.old.bytes ++ opened_words nodes.now socket.now cause.now) }
+{
+    put_with_socket(out, b" opened ", nodes, socket)?;
+    out.push_all(cause)
 }
 
 /// Appends that an end was closed, and why.

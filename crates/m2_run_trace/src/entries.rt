@@ -4,14 +4,15 @@ ghost use Rattle.std.specs.Prelude.{◌≡◌, ◌∷◌, ◌++◌, ◌-◌, [],
 ghost use Rattle.std.specs.Option.{option_copied};
 ghost use Rattle.m2_journal.specs.Items.{runs_on};
 ghost use Rattle.m2_run_trace.specs.Entries.{calls_behind, calls_left, entry_before, entry_lines, is_fast, judged_words, lines_of, put_of, row_at, start_on, told_by, told_line};
-ghost use Rattle.m2_run_trace.specs.Ends.{opened_words, wrote_words};
+ghost use Rattle.m2_run_trace.specs.Ends.{wrote_words};
 ghost use Rattle.m2_run_trace.specs.Dispatches.{first_line};
 ghost use Rattle.m2_run_trace.specs.Telling.{log_in, seen_log};
 ghost use Rattle.m2_trail.specs.Trails.{written_by};
 
 use crate::cause::cause_in_journal;
+use crate::dials::{Marked, dial_word};
 use crate::dispatches::put_next;
-use crate::ends::{put_closed, put_read, put_wrote};
+use crate::ends::{put_closed, put_opened, put_read, put_wrote};
 use crate::lists::{behind, front};
 use crate::telling::{Calls, Teller, TracedRecord};
 use crate::words::{begin_journal, name_of, put_with_socket};
@@ -27,16 +28,16 @@ use m2_trace::{held_behind, put_ask_and_answer, put_entry_words, put_number, row
 pub(crate) fn put_entries(
     out: &mut Blob,
     teller: &Teller<'_>,
-    record: &TracedRecord,
+    marked: &Marked<'_>,
     from: usize,
     to: usize,
     calls: &mut Calls<'_>,
 ) -> Result<(), NoMemory>
-    ensures text { OnOk result (out.new.bytes ≡ out.old.bytes ++ lines_of teller.now record.now from (to - from) calls.old) }
-    ensures calls { OnOk result (calls.new ≡ calls_left record.now.journal from (to - from) calls.old) }
+    ensures text { OnOk result (out.new.bytes ≡ out.old.bytes ++ lines_of teller.now marked.now from (to - from) calls.old) }
+    ensures calls { OnOk result (calls.new ≡ calls_left marked.now.kept.journal from (to - from) calls.old) }
 {
     'entries: for at in from..to {
-        put_entry(out, teller, record, at, calls)?;
+        put_entry(out, teller, marked, at, calls)?;
     }
     Ok(())
 }
@@ -45,17 +46,17 @@ pub(crate) fn put_entries(
 fn put_entry(
     out: &mut Blob,
     teller: &Teller<'_>,
-    record: &TracedRecord,
+    marked: &Marked<'_>,
     place: usize,
     calls: &mut Calls<'_>,
 ) -> Result<(), NoMemory>
-    ensures text { OnOk result (out.new.bytes ≡ out.old.bytes ++ entry_lines teller.now record.now place calls.old (slice_get record.now.journal place)) }
-    ensures calls { OnOk result (calls.new ≡ calls_behind calls.old (slice_get record.now.journal place)) }
+    ensures text { OnOk result (out.new.bytes ≡ out.old.bytes ++ entry_lines teller.now marked.now place calls.old (slice_get marked.now.kept.journal place)) }
+    ensures calls { OnOk result (calls.new ≡ calls_behind calls.old (slice_get marked.now.kept.journal place)) }
 {
-    match record.journal().get(place) {
+    match marked.kept.journal().get(place) {
         None => Ok(()),
         Some(entry) => {
-            put_line(out, teller, record, place, entry)?;
+            put_line(out, teller, marked, place, entry)?;
             put_its_dispatch(out, teller, entry, calls)
         }
     }
@@ -96,33 +97,32 @@ fn is_fast(entry: &Entry) -> bool
 fn put_line(
     out: &mut Blob,
     teller: &Teller<'_>,
-    record: &TracedRecord,
+    marked: &Marked<'_>,
     place: usize,
     entry: &Entry,
 ) -> Result<(), NoMemory>
-    ensures { OnOk result (out.new.bytes ≡ out.old.bytes ++ told_line teller.now record.now place entry.now) }
+    ensures { OnOk result (out.new.bytes ≡ out.old.bytes ++ told_line teller.now marked.now place entry.now) }
 {
-    let peer = name_of(teller.nodes, record.place());
+    let peer = name_of(teller.nodes, marked.kept.place());
     begin_journal(out, teller.own.name.as_slice(), peer)?;
-    put_told(out, teller, record, place, entry)?;
+    put_told(out, teller, marked, place, entry)?;
     out.push_all(b"\n")
 }
 
 /// Appends what the entry at this place tells.
-#[tactic(auto, unfolding(crate::specs::Ends::opened_words))]
 fn put_told(
     out: &mut Blob,
     teller: &Teller<'_>,
-    record: &TracedRecord,
+    marked: &Marked<'_>,
     place: usize,
     entry: &Entry,
 ) -> Result<(), NoMemory>
-    ensures { OnOk result (out.new.bytes ≡ out.old.bytes ++ told_by teller.now record.now place entry.now) }
+    ensures { OnOk result (out.new.bytes ≡ out.old.bytes ++ told_by teller.now marked.now place entry.now) }
 {
     let nodes = teller.nodes;
-    let journal = record.journal();
+    let journal = marked.kept.journal();
     match entry {
-        Entry::Opened { socket } => put_with_socket(out, b" opened ", nodes, socket),
+        Entry::Opened { socket } => put_opened(out, nodes, socket, dial_word(marked, place)),
         Entry::Read { socket, count } => put_read(out, nodes, socket, *count),
         Entry::Wrote { socket, count } => {
             let log = teller.log(socket);
@@ -146,7 +146,7 @@ fn put_told(
             answer,
         } => {
             put_judged(out, nodes, socket, ask, *number, answer)?;
-            out.push_all(row_at(record, place, ask, answer))
+            out.push_all(row_at(marked.kept, place, ask, answer))
         }
         _ => put_entry_words(out, entry),
     }

@@ -13,6 +13,7 @@
 
 mod cause;
 mod complaint;
+mod dials;
 mod dispatches;
 mod ends;
 mod entries;
@@ -27,10 +28,11 @@ mod sockets;
 mod stage;
 mod standing;
 mod telling;
+mod throttle;
 mod tracing;
 mod words;
 
-pub use laws::traces_are_of_runs;
+pub use laws::{marks_are_of_journals, traces_are_of_runs};
 pub use marks::{EndMark, Marks};
 pub use news::put_news;
 pub use program::RunTrace;

@@ -2,12 +2,15 @@
 
 ghost use Rattle.std.specs.Prelude.{◌≡◌, IfOk, length, map};
 ghost use Rattle.m2_record.specs.RecordNow.{RecordNow};
+ghost use Rattle.m2_run_trace.specs.Dials.{dial_mark_of};
 ghost use Rattle.m2_run_trace.specs.Marks.{end_mark, marks_in, marks_of};
 ghost use Rattle.m2_run_trace.specs.Standing.{standing_of};
 ghost use Rattle.m2_run_trace.specs.Telling.{log_in, seen_log, telling_at};
 
+use crate::dials::{DialMark, dial_mark_of};
 use crate::standing::{SessionMark, standing_of};
 use crate::telling::{Teller, TracedCenter, TracedCluster};
+use crate::throttle::out_of;
 use m2_bytes::{Items, NoMemory};
 use m2_fabric::{EndLog, SocketId};
 use m2_scenario::Node;
@@ -40,14 +43,19 @@ pub struct Marks {
     pub(crate) made: usize,
     /// Where each record stood.
     pub(crate) standings: Items<SessionMark>,
+    /// Of each record what made a connect due.
+    pub(crate) dials: Items<DialMark>,
+    /// How many bytes its throttle had out.
+    pub(crate) out: u64,
 }
 
 impl Model for Marks {
+    ghost use Rattle.m2_run_trace.specs.Dials.{dial_mark_of};
     ghost use Rattle.m2_run_trace.specs.Marks.{MarksNow};
 
     ghost Value = { MarksNow };
 
-    ghost view = { λ m. record { ends = m.ends.items; journals = m.journals.items; fast = m.fast; queued = m.queued; made = m.made; standings = m.standings.items } };
+    ghost view = { λ m. record { ends = m.ends.items; journals = m.journals.items; fast = m.fast; queued = m.queued; made = m.made; standings = m.standings.items; dials = m.dials.items; out = m.out } };
 }
 
 impl Marks {
@@ -69,6 +77,8 @@ impl Marks {
                 queued: 0,
                 made: 0,
                 standings: Items::empty(alloc),
+                dials: Items::empty(alloc),
+                out: 0,
             }),
             Some(teller) => marks_in(alloc, teller.center, sockets),
         }
@@ -86,6 +96,8 @@ fn marks_in(alloc: Global, center: &TracedCenter, sockets: &[SocketId]) -> Resul
         queued: center.queued().inner().log().len(),
         made: center.made().len(),
         standings: standings(alloc, center)?,
+        dials: dial_marks(alloc, center)?,
+        out: out_of(center)?,
     })
 }
 
@@ -147,6 +159,19 @@ fn standings(alloc: Global, center: &TracedCenter) -> Result<Items<SessionMark>,
     let mut marks = Items::empty(alloc);
     for record in center.records() {
         if marks.push(standing_of(record)).is_err() {
+            return Err(NoMemory);
+        }
+    }
+    Ok(marks)
+}
+
+/// Of each record what makes a connect due.
+fn dial_marks(alloc: Global, center: &TracedCenter) -> Result<Items<DialMark>, NoMemory>
+    ensures { IfOk result (λ m. m.items ≡ map dial_mark_of center.now.records) }
+{
+    let mut marks = Items::empty(alloc);
+    for record in center.records() {
+        if marks.push(dial_mark_of(record)).is_err() {
             return Err(NoMemory);
         }
     }

@@ -10,6 +10,7 @@ ghost use Rattle.m2_run_trace.specs.Telling.{log_in, seen_log, telling_at};
 ghost use Rattle.m2_trail.specs.Trails.{trail_now};
 
 use crate::cause::{cause_of_half, leaves_own};
+use crate::dials::{DialMark, Marked, mark_at};
 use crate::dispatches::put_calls;
 use crate::ends::{behind_last_read, put_accepted, put_half_closed, put_runs};
 use crate::entries::{before, put_entries};
@@ -18,6 +19,7 @@ use crate::marks::{EndMark, Marks};
 use crate::sockets::{comes_to, trail_in};
 use crate::standing::put_all_changed;
 use crate::telling::{Calls, Teller, TracedCluster};
+use crate::throttle::put_changed_throttle;
 use m2_bytes::{Blob, NoMemory};
 use m2_fabric::{EndLog, SocketId};
 use m2_journal::{Entry, EntryList};
@@ -33,6 +35,8 @@ struct Told<'a> {
     journals: Vec<usize>,
     /// The calls of the dispatcher of fast kinds that are left.
     fast: Calls<'a>,
+    /// Of each record, what made a connect due where it was marked.
+    dials: &'a [DialMark],
 }
 
 impl<'a> Model for Told<'a> {
@@ -40,7 +44,7 @@ impl<'a> Model for Told<'a> {
 
     ghost Value = { ToldNow };
 
-    ghost view = { λ t. record { journals = t.journals.items; fast = t.fast } };
+    ghost view = { λ t. record { journals = t.journals.items; fast = t.fast; dials = t.dials.now } };
 }
 
 /// Where an ask was judged: by which of the records, and behind which entry of its journal.
@@ -99,17 +103,19 @@ fn put_all(
     put_all_accepted(out, teller, marks.ends.as_slice())?;
     let mut told = told_at(alloc, teller, marks)?;
     put_with_calls(out, teller, marks, &mut told)?;
-    put_all_changed(out, teller, marks.standings.as_slice())
+    put_all_changed(out, teller, marks.standings.as_slice())?;
+    put_changed_throttle(out, teller, marks.out)
 }
 
 /// What was told where the node was marked.
-fn told_at<'a>(alloc: Global, teller: &Teller<'a>, marks: &Marks) -> Result<Told<'a>, NoMemory>
+fn told_at<'a>(alloc: Global, teller: &Teller<'a>, marks: &'a Marks) -> Result<Told<'a>, NoMemory>
     ensures { IfOk result (λ t. t ≡ told_at teller.now.center marks.now) }
 {
     let fast = teller.center.fast().log();
     Ok(Told {
         journals: Vec::from_slice(alloc, marks.journals.as_slice())?,
         fast: Calls::of(behind(fast.as_slice(), marks.fast)),
+        dials: marks.dials.as_slice(),
     })
 }
 
@@ -456,7 +462,11 @@ fn put_up_to(
     let Some(record) = at(teller.center.records(), place) else {
         return Ok(());
     };
-    put_entries(out, teller, record, from, to, &mut told.fast)?;
+    let marked = Marked {
+        kept: record,
+        mark: mark_at(told.dials, place),
+    };
+    put_entries(out, teller, &marked, from, to, &mut told.fast)?;
     told.journals[place] = to;
     Ok(())
 }

@@ -1,7 +1,7 @@
 //! The words of which the lines are made.
 
 ghost use Rattle.std.specs.Prelude.{◌≡◌, ◌++◌, OnOk};
-ghost use Rattle.m2_run_trace.specs.Words.{journal_head, session_head, name_at, name_in, settle_line, socket_name, trail_head, turn_line};
+ghost use Rattle.m2_run_trace.specs.Words.{journal_head, session_head, name_at, name_in, settle_line, socket_name, throttle_head, trail_head, turn_line};
 ghost use Rattle.m2_trace.specs.Words.{number_word};
 
 use crate::lists::at;
@@ -111,6 +111,15 @@ pub(crate) fn begin_journal(out: &mut Blob, name: &[u8], peer: &[u8]) -> Result<
     put_head(out, name, b"journal")?;
     out.push_all(b" ")?;
     out.push_all(peer)
+}
+
+/// Appends what a line begins with that tells what a throttle has out.
+#[tactic(auto, unfolding(crate::specs::Words::throttle_head))]
+pub(crate) fn begin_throttle(out: &mut Blob, name: &[u8]) -> Result<(), NoMemory>
+    ensures { OnOk result (out.new.bytes ≡ out.old.bytes ++ throttle_head name.now) }
+{
+    out.push_all(b"  ")?;
+    put_head(out, name, b"throttle")
 }
 
 /// Appends what a line begins with that tells where the record towards this peer stands.

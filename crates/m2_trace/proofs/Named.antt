@@ -216,10 +216,10 @@ event_held f sources p (entry.Acked number) s lossless known law = refl
 
 -- ---- what all entries leave
 
-abbrev state_at : SideFacts → List JournalItem → State
+abbrev pub state_at : SideFacts → List JournalItem → State
 state_at f is = after_items f is (start f)
 
-one_more : (f : SideFacts) (is : List JournalItem) (i : JournalItem) → state_at f (is ++ i ∷ []) ≡ after f i (state_at f is)
+pub one_more : (f : SideFacts) (is : List JournalItem) (i : JournalItem) → state_at f (is ++ i ∷ []) ≡ after f i (state_at f is)
 one_more f is i = after-append f is (i ∷ []) (start f)
 
 -- behind the entries that were, and those that come
@@ -238,7 +238,7 @@ all_held f sources (e ∷ es) p is lossless before law =
     ∙ ap (λ (h : Held). held_from f h es) next
 
 -- what was lawful was so as far as its first entries
-lawful_front : (f : SideFacts) (is js : List JournalItem) (s : State) → AreLawful f (is ++ js) s → AreLawful f is s × AreLawful f js (after_items f is s)
+pub lawful_front : (f : SideFacts) (is js : List JournalItem) (s : State) → AreLawful f (is ++ js) s → AreLawful f is s × AreLawful f js (after_items f is s)
 lawful_front f [] js s law = (tt, law)
 lawful_front f (i ∷ is) js s law = let rest = lawful_front f is js (after f i s) law.1 in ((law.0, rest.0), rest.1)
 

@@ -1,11 +1,14 @@
 -- The entries of a journal, and of a trail, as words. This project's own.
-use Rattle.std.specs.Prelude.{Bool, true, false, ◌++◌, codes}
+use Rattle.std.specs.Prelude.{Bool, true, false, List, [], ◌∷◌, ◌++◌, codes}
 use Rattle.m2_session.specs.declared.ask.AskFacts.{AskFacts}
 use Rattle.m2_fabric.specs.declared.socket.SocketId.{SocketId}
 use Rattle.m2_journal.specs.declared.entry.Entry.{Entry}
 use Rattle.m2_journal.specs.declared.entry.Entry.TheVariants as entry
+use Rattle.m2_journal.specs.SideFacts.{SideFacts}
 use Rattle.m2_session.specs.declared.answer.Answer.{Answer}
 use Rattle.m2_session.specs.declared.answer.Answer.TheVariants as answer
+use Rattle.m2_trace.specs.declared.rows.Held.{Held}
+use Rattle.m2_trace.specs.Rows.{held_after, row_word}
 use Rattle.m2_trace.specs.Words.{Text, number_word, socket_word, key_words, line}
 
 -- which of the two asks
@@ -68,6 +71,21 @@ entry_words (entry.Acked number) = codes " acked" ++ number_word number
 entry_words (entry.Obeyed full) = codes " obeyed" ++ full_word full
 entry_words (entry.Down planned) = codes " down" ++ planned_word planned
 
--- the line of an entry, in a journal or a trail
+-- the line of an entry of a trail
 unfoldable pub entry_line : (side what : Text) → Entry → Text
 entry_line side what e = line side what (entry_words e)
+
+-- ---- a journal
+
+-- behind a judgement the row by which the ask was answered, by what is held until then
+abbrev pub row_told : Held → Entry → Text
+row_told h (entry.Judged socket ask number given) = row_word h ask given
+row_told h e = []
+
+unfoldable pub journal_line : (side : Text) → Held → Entry → Text
+journal_line side h e = line side (codes "journal") (entry_words e ++ row_told h e)
+
+-- of entries that come where this is held
+abbrev pub journal_lines : SideFacts → (side : Text) → Held → List Entry → Text
+journal_lines f side h [] = []
+journal_lines f side h (e ∷ es) = journal_line side h e ++ journal_lines f side (held_after f e h) es

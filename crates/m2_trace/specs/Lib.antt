@@ -1,3 +1,4 @@
+pub mod Dials
 pub mod Ends
 pub mod Entries
 pub mod Laws

@@ -2,15 +2,17 @@
 
 ghost use Rattle.std.specs.Prelude.{◌≡◌, ◌++◌, codes, OnOk};
 ghost use Rattle.std.specs.List.{flat_map};
-ghost use Rattle.m2_trace.specs.Entries.{ask_name, cookies_words, counts_words, ask_words, full_word, answer_words, judged_words, planned_word, entry_words, entry_line};
+ghost use Rattle.m2_trace.specs.Entries.{ask_name, cookies_words, counts_words, ask_words, full_word, answer_words, judged_words, planned_word, entry_words, entry_line, row_told, journal_line, journal_lines};
+ghost use Rattle.m2_trace.specs.Rows.{nothing_held, side_of};
 ghost use Rattle.m2_trace.specs.Words.{key_words, number_word, socket_word};
 
+use crate::rows::{Held, held_after, row_word};
 use crate::words::{put_head, put_key, put_number, put_socket};
 use m2_bytes::{Blob, NoMemory};
 use m2_fabric::SocketId;
-use m2_journal::Entry;
+use m2_journal::{Entry, NodeFacts};
 use m2_policy::Key;
-use m2_session::{Answer, AskFacts};
+use m2_session::{Answer, AskFacts, Session};
 
 #[tactic(auto, unfolding(crate::specs::Entries::ask_name))]
 fn put_ask_name(out: &mut Blob, ident: bool) -> Result<(), NoMemory>
@@ -218,9 +220,9 @@ pub fn put_entry_words(out: &mut Blob, e: &Entry) -> Result<(), NoMemory>
     }
 }
 
-/// Appends the line of an entry.
+/// Appends the line of a trail's entry.
 #[tactic(auto, unfolding(crate::specs::Entries::entry_line, crate::specs::Words::line))]
-pub(crate) fn put_entry(out: &mut Blob, side: &[u8], what: &[u8], e: &Entry) -> Result<(), NoMemory>
+fn put_entry(out: &mut Blob, side: &[u8], what: &[u8], e: &Entry) -> Result<(), NoMemory>
     ensures { OnOk result (out.new.bytes ≡ out.old.bytes ++ entry_line side.now what.now e.now) }
 {
     put_head(out, side, what)?;
@@ -228,17 +230,67 @@ pub(crate) fn put_entry(out: &mut Blob, side: &[u8], what: &[u8], e: &Entry) -> 
     out.push_all(b"\n")
 }
 
-/// Appends the lines of entries, in their order.
-pub fn put_journal(
+/// Appends the lines of a trail's entries, in their order.
+pub(crate) fn put_entries(
     out: &mut Blob,
     side: &[u8],
     what: &[u8],
+    entries: &[Entry],
+) -> Result<(), NoMemory>
+    ensures { OnOk result (out.new.bytes ≡ out.old.bytes ++ flat_map (entry_line side.now what.now) entries.now) }
+{
+    for e in entries {
+        put_entry(out, side, what, e)?;
+    }
+    Ok(())
+}
+
+/// Appends the row by which the ask of a judgement was answered; of another entry nothing.
+fn put_row(out: &mut Blob, held: &Held, e: &Entry) -> Result<(), NoMemory>
+    ensures { OnOk result (out.new.bytes ≡ out.old.bytes ++ row_told held.now e.now) }
+{
+    match e {
+        Entry::Judged { ask, answer, .. } => out.push_all(row_word(held, ask, answer)),
+        _ => Ok(()),
+    }
+}
+
+/// Appends what an entry of a journal tells, where this is held before it.
+fn put_told(out: &mut Blob, held: &Held, e: &Entry) -> Result<(), NoMemory>
+    ensures { OnOk result (out.new.bytes ≡ out.old.bytes ++ (entry_words e.now ++ row_told held.now e.now)) }
+{
+    put_entry_words(out, e)?;
+    put_row(out, held, e)
+}
+
+/// Appends the line of an entry of a journal, where this is held before it.
+#[tactic(auto, unfolding(crate::specs::Entries::journal_line, crate::specs::Words::line))]
+fn put_journal_line(out: &mut Blob, side: &[u8], held: &Held, e: &Entry) -> Result<(), NoMemory>
+    ensures { OnOk result (out.new.bytes ≡ out.old.bytes ++ journal_line side.now held.now e.now) }
+{
+    put_head(out, side, b"journal")?;
+    put_told(out, held, e)?;
+    out.push_all(b"\n")
+}
+
+/// Appends the lines of a record's journal from its beginning on, each judgement with the row by which its ask was answered.
+/// `session` is the record's, at any time, and `node` what its node tells it.
+pub fn put_journal(
+    out: &mut Blob,
+    side: &[u8],
+    session: &Session,
+    node: &NodeFacts,
     journal: &[Entry],
 ) -> Result<(), NoMemory>
-    ensures { OnOk result (out.new.bytes ≡ out.old.bytes ++ flat_map (entry_line side.now what.now) journal.now) }
+    ensures { OnOk result (out.new.bytes ≡ out.old.bytes ++ journal_lines (side_of session.now node.now) side.now nothing_held journal.now) }
 {
+    let mut held = Held {
+        absent: true,
+        client: 0,
+    };
     for e in journal {
-        put_entry(out, side, what, e)?;
+        put_journal_line(out, side, &held, e)?;
+        held = held_after(session, node, e, held);
     }
     Ok(())
 }

@@ -1,4 +1,4 @@
-//! What a reader expects of the words of a trace. The function has an empty body: its contract is the law.
+//! What a reader expects of the words of a trace. The functions have empty bodies: their contracts are the laws.
 
 ghost use Rattle.m2_trace.specs.Laws as laws;
 
@@ -6,4 +6,15 @@ ghost use Rattle.m2_trace.specs.Laws as laws;
 #[tactic(auto, using(crate::proofs::Named::are_told))]
 pub fn rows_are_told()
     ensures { laws.RowsAreTold }
+{}
+
+/// There is a cause of a connect exactly where one is due, the moment aside.
+#[tactic(auto, using(crate::proofs::Dialled::are_of_dials))]
+pub fn causes_are_of_dials()
+    ensures { laws.CausesAreOfDials }
+{}
+
+/// The cause told of a connect is what makes one due where the entries before it lead.
+pub fn connects_are_told()
+    ensures { laws.ConnectsAreTold }
 {}

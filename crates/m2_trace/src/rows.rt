@@ -88,7 +88,7 @@ pub fn held_behind(session: &Session, node: &NodeFacts, journal: &[Entry]) -> He
 }
 
 /// The same behind one entry more.
-fn held_after(session: &Session, node: &NodeFacts, entry: &Entry, held: Held) -> Held
+pub(crate) fn held_after(session: &Session, node: &NodeFacts, entry: &Entry, held: Held) -> Held
     ensures { result ≡ rows.held_after (side_of session.now node.now) entry.now held }
 {
     match entry {

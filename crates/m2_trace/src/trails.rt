@@ -6,7 +6,7 @@ ghost use Rattle.m2_trail.specs.Trails.{trail_now};
 ghost use Rattle.m2_trace.specs.Ends.{after_line, asks_lines, half_line, judged_line, trail_lines};
 ghost use Rattle.m2_trace.specs.Entries.{judged_words};
 
-use crate::entries::{put_journal, put_judged, put_moved};
+use crate::entries::{put_entries, put_judged, put_moved};
 use crate::words::put_head;
 use m2_bytes::{Blob, NoMemory};
 use m2_fabric::SocketId;
@@ -104,6 +104,6 @@ pub fn put_trail(out: &mut Blob, side: &[u8], what: &[u8], t: &Trail) -> Result<
     ensures { OnOk result (out.new.bytes ≡ out.old.bytes ++ trail_lines side.now what.now (trail_now t.now)) }
 {
     put_half(out, side, what, t)?;
-    put_journal(out, side, what, t.entries.as_slice())?;
+    put_entries(out, side, what, t.entries.as_slice())?;
     put_asks(out, side, what, t)
 }

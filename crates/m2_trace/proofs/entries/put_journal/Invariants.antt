@@ -1,8 +1,10 @@
--- with the lines of what is left it is the whole text
+-- with the lines of the entries that are left it is the whole text
 use Rattle.std.proofs.Common.{◌≡◌, ◌++◌, drop}
-use Rattle.std.specs.List.{flat_map}
-use Rattle.m2_trace.specs.Entries.{entry_line}
+use Rattle.m2_trace.specs.Entries.{journal_lines}
+use Rattle.m2_trace.specs.Rows.{nothing_held, side_of}
 use Rattle.m2_trace.proofs.entries.put_journal.Given as goal
 
 abbrev pub invariant-loop-e : goal.invariant-loop-e
-invariant-loop-e l = let lines = flat_map (entry_line l.side l.what) in l.out.bytes ++ lines (drop l.e-index l.journal) ≡ l.fn.out.bytes ++ lines l.journal
+invariant-loop-e l =
+    let f = side_of l.session l.node in
+    l.out.bytes ++ journal_lines f l.side l.held (drop l.e-index l.journal) ≡ l.fn.out.bytes ++ journal_lines f l.side nothing_held l.journal
