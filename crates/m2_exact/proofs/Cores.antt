@@ -7,29 +7,29 @@ use Rattle.m2_fabric.specs.declared.end.EndRead.{EndRead}
 use Rattle.m2_fabric.specs.declared.end.EndRead.TheVariants as read
 use Rattle.m2_fabric.specs.declared.end.EndWrite.{EndWrite}
 use Rattle.m2_fabric.specs.declared.end.EndWrite.TheVariants as write
-use Rattle.m2_feed.specs.Calls.{IsFront, PassesFrame, passed}
-use Rattle.m2_feed.specs.FeedNow.{FeedNow, Reading, Room, framing, shaking}
-use Rattle.m2_feed.specs.declared.answers.FeedWrite.{FeedWrite}
-use Rattle.m2_feed.specs.declared.answers.FeedWrite.TheVariants as put
-use Rattle.m2_frame.specs.Reading.{Item}
-use Rattle.m2_feed.specs.declared.heard.Heard.{Heard}
-use Rattle.m2_feed.specs.declared.heard.Heard.TheVariants as heard
-use Rattle.m2_feed.specs.Heard.{event_of}
-use Rattle.m2_feed.specs.m2_addr.declared.addr.Addr.{Addr}
-use Rattle.m2_feed.specs.m2_journal.SideFacts.{SideFacts}
-use Rattle.m2_feed.specs.m2_policy.declared.policy.Policy.{Policy}
-use Rattle.m2_feed.specs.m2_session.Steps.{step_of}
-use Rattle.m2_feed.specs.m2_session.declared.event.Effects.{Effects}
-use Rattle.m2_feed.specs.m2_session.declared.event.Event.{Event}
-use Rattle.m2_feed.specs.m2_session.declared.session.Phase.{Phase}
-use Rattle.m2_core.specs.LiveNow.{LiveNow, is_ready}
-use Rattle.m2_core.specs.LiveCalls.{live_with, tells_if}
-use Rattle.m2_core.specs.Effects.{closed_if, closes, discards, has_effects, requeues, sets_back, where_true}
-use Rattle.m2_core.specs.LiveHearing.{TakesAnswer, after_answer, heard_on}
-use Rattle.m2_core.specs.OnFeed.{PassesFeed, ReadsFeed, WritesFeed}
-use Rattle.m2_core.specs.CoreNow.{CoreNow}
-use Rattle.m2_core.specs.Hearing.{HasRead, Heeds, ReadNow, effects_heard, heard_after}
-use Rattle.m2_core.specs.Moves.{HasWritten, owes_after}
+use Rattle.m2_turn.specs.m2_feed.Calls.{IsFront, Passes, PassesFrame, passed}
+use Rattle.m2_turn.specs.m2_feed.FeedNow.{FeedNow, Reading, Room, framing, shaking}
+use Rattle.m2_turn.specs.m2_feed.declared.answers.FeedWrite.{FeedWrite}
+use Rattle.m2_turn.specs.m2_feed.declared.answers.FeedWrite.TheVariants as put
+use Rattle.m2_turn.specs.m2_handshake.m2_frame.Reading.{Item, whole}
+use Rattle.m2_turn.specs.m2_feed.declared.heard.Heard.{Heard}
+use Rattle.m2_turn.specs.m2_feed.declared.heard.Heard.TheVariants as heard
+use Rattle.m2_turn.specs.m2_feed.Heard.{event_of}
+use Rattle.m2_turn.specs.m2_feed.m2_addr.declared.addr.Addr.{Addr}
+use Rattle.m2_turn.specs.m2_feed.m2_journal.SideFacts.{SideFacts}
+use Rattle.m2_turn.specs.m2_feed.m2_policy.declared.policy.Policy.{Policy}
+use Rattle.m2_turn.specs.m2_feed.m2_session.Steps.{step_of}
+use Rattle.m2_turn.specs.m2_feed.m2_session.declared.event.Effects.{Effects}
+use Rattle.m2_turn.specs.m2_feed.m2_session.declared.event.Event.{Event}
+use Rattle.m2_turn.specs.m2_feed.m2_session.declared.session.Phase.{Phase}
+use Rattle.m2_turn.specs.m2_core.LiveNow.{LiveNow, is_ready}
+use Rattle.m2_turn.specs.m2_core.LiveCalls.{live_with, tells_if}
+use Rattle.m2_turn.specs.m2_core.Effects.{closed_if, closes, discards, has_effects, requeues, sets_back, where_true}
+use Rattle.m2_turn.specs.m2_core.LiveHearing.{TakesAnswer, after_answer, heard_on}
+use Rattle.m2_turn.specs.m2_core.OnFeed.{PassesFeed, ReadsFeed, WritesFeed}
+use Rattle.m2_turn.specs.m2_core.CoreNow.{CoreNow}
+use Rattle.m2_turn.specs.m2_core.Hearing.{HasRead, Heeds, ReadNow, effects_heard, heard_after}
+use Rattle.m2_turn.specs.m2_core.Moves.{HasWritten, owes_after}
 use Rattle.m2_exact.proofs.Feeds as feeds
 use Rattle.m2_exact.proofs.InMemory as memory
 use Rattle.m2_exact.specs.Cores.{FeedIsInMemory, LikeCoresReadAndWriteAlike, roomless, roomless_feed}
@@ -78,14 +78,14 @@ with_put_roomless i v c =
     (put_roomless (write_by i v) v)
 
 -- the feeds of cores that are alike
-some_one : (v w : FeedNow) → Some v ≡ Some w → v ≡ w
+pub some_one : (v w : FeedNow) → Some v ≡ Some w → v ≡ w
 some_one v w h = cc h
 
-like_feed : (v : FeedNow) (x : Option FeedNow) → Some (roomless_feed v) ≡ option_map roomless_feed x → (w : FeedNow) × (x ≡ Some w) × (roomless_feed v ≡ roomless_feed w)
+pub like_feed : (v : FeedNow) (x : Option FeedNow) → Some (roomless_feed v) ≡ option_map roomless_feed x → (w : FeedNow) × (x ≡ Some w) × (roomless_feed v ≡ roomless_feed w)
 like_feed v (Some w) h = (w, refl, some_one (roomless_feed v) (roomless_feed w) h)
 like_feed v None h = absurd (cc h)
 
-like_feeds : (v : FeedNow) (c d : CoreNow) → c.live.feed ≡ Some v → roomless c ≡ roomless d → (w : FeedNow) × (d.live.feed ≡ Some w) × (roomless_feed v ≡ roomless_feed w)
+pub like_feeds : (v : FeedNow) (c d : CoreNow) → c.live.feed ≡ Some v → roomless c ≡ roomless d → (w : FeedNow) × (d.live.feed ≡ Some w) × (roomless_feed v ≡ roomless_feed w)
 like_feeds v c d there like =
     like_feed v d.live.feed (sym (ap (λ (x : Option FeedNow). option_map roomless_feed x) there) ∙ ap (λ (k : CoreNow). k.live.feed) like)
 
@@ -110,13 +110,13 @@ read_feed answer i v (Some x) is memory r =
     (one.0, ap (λ (y : FeedNow). Some y) one.1)
 read_feed answer i v None is memory r = absurd r
 
--- two frames that are passed at one front
+-- two texts that are passed at one front
 len_one : (r : Reading) (a b : Item) (n m : ℕ) → IsFront r a n → IsFront r b m → n ≡ m
 len_one (framing rest granted) a b n m h k = cc (h.1, k.1)
 len_one (shaking s) a b n m h k = absurd h
 
-passed_one : (old x y : Reading) → PassesFrame old x → PassesFrame old y → x ≡ y
-passed_one old x y (f, (n, front, is)) (g, (m, there, last)) = is ∙ ap (λ (l : ℕ). passed l old) (len_one old _ _ n m front there) ∙ sym last
+pub passes_one : (old x y : Reading) (a b : Item) → Passes old a x → Passes old b y → x ≡ y
+passes_one old x y a b (n, front, is) (m, there, last) = is ∙ ap (λ (l : ℕ). passed l old) (len_one old a b n m front there) ∙ sym last
 
 -- Of room, only what is seen: all of it, or none.
 module _ (see : Room → Room) where
@@ -147,7 +147,7 @@ module _ (see : Room → Room) where
       ∙ ap (where_true e.discard discards) (where_seen e.set_back sets_back requeued refl
       ∙ ap (where_true e.set_back sets_back) (where_seen e.requeue requeues closed refl ∙ ap (where_true e.requeue requeues) (where_seen e.close closes l refl)))
 
-  tells_seen : (e : Option Event) (l : LiveNow) → seen_live (tells_if e l) ≡ tells_if e (seen_live l)
+  pub tells_seen : (e : Option Event) (l : LiveNow) → seen_live (tells_if e l) ≡ tells_if e (seen_live l)
   tells_seen None l = refl
   tells_seen (Some e) l = effects_seen (step_of l.session e).effects (record l { session = (step_of l.session e).session })
 
@@ -164,20 +164,20 @@ module _ (see : Room → Room) where
   hears_seen read.Failed f l = refl
   hears_seen read.NoMemory f l = refl
 
-  closed_seen : (b : Bool) (x : Option FeedNow) → closed_if b x ≡ closed_if b (seen x)
+  pub closed_seen : (b : Bool) (x : Option FeedNow) → closed_if b x ≡ closed_if b (seen x)
   closed_seen true (Some v) = refl
   closed_seen true None = refl
   closed_seen false x = refl
 
   -- ---- what is taken
 
-  passes_alike : (old other x y : Option FeedNow) → seen old ≡ seen other → PassesFeed old x → PassesFeed other y → seen x ≡ seen y
+  pub passes_alike : (old other x y : Option FeedNow) → seen old ≡ seen other → PassesFeed old x → PassesFeed other y → seen x ≡ seen y
   passes_alike (Some v) (Some w) (Some x) (Some y) like (h, only) (k, last) =
       let same = some_one (seen_feed v) (seen_feed w) like in
       let first : PassesFrame w.reading x.reading = subst (λ (r : Reading). PassesFrame r x.reading) (ap (λ (z : FeedNow). z.reading) same) h in
       ap (λ (z : FeedNow). Some (seen_feed z)) only
       ∙ ap (λ (z : FeedNow). Some (record z { reading = x.reading })) same
-      ∙ ap (λ (r : Reading). Some (record (seen_feed w) { reading = r })) (passed_one w.reading x.reading y.reading first k)
+      ∙ ap (λ (r : Reading). Some (record (seen_feed w) { reading = r })) (passes_one w.reading x.reading y.reading (whole first.0) (whole k.0) first.1 k.1)
       ∙ sym (ap (λ (z : FeedNow). Some (seen_feed z)) last)
   passes_alike (Some v) (Some w) (Some x) None like h k = absurd k
   passes_alike (Some v) (Some w) None y like h k = absurd h

@@ -8,28 +8,28 @@ use Rattle.m2_fabric.specs.declared.end.EndRead.{EndRead}
 use Rattle.m2_fabric.specs.declared.end.EndRead.TheVariants as read
 use Rattle.m2_fabric.specs.declared.end.EndWrite.{EndWrite}
 use Rattle.m2_fabric.specs.declared.end.EndWrite.TheVariants as write
-use Rattle.m2_feed.specs.Calls.{ReadsOn, WritesOn}
-use Rattle.m2_feed.specs.FeedNow.{FeedNow}
-use Rattle.m2_feed.specs.Heard.{event_of}
-use Rattle.m2_feed.specs.declared.answers.FeedWrite.{FeedWrite}
-use Rattle.m2_feed.specs.declared.answers.FeedWrite.TheVariants as put
-use Rattle.m2_feed.specs.declared.heard.Heard.{Heard}
-use Rattle.m2_feed.specs.declared.heard.Heard.TheVariants as heard
-use Rattle.m2_feed.specs.m2_session.Steps.{step_of}
-use Rattle.m2_feed.specs.m2_session.declared.event.Effects.{Effects}
-use Rattle.m2_feed.specs.m2_session.declared.event.Event.{Event}
+use Rattle.m2_turn.specs.m2_feed.Calls.{ReadsOn, WritesOn}
+use Rattle.m2_turn.specs.m2_feed.FeedNow.{FeedNow}
+use Rattle.m2_turn.specs.m2_feed.Heard.{event_of}
+use Rattle.m2_turn.specs.m2_feed.declared.answers.FeedWrite.{FeedWrite}
+use Rattle.m2_turn.specs.m2_feed.declared.answers.FeedWrite.TheVariants as put
+use Rattle.m2_turn.specs.m2_feed.declared.heard.Heard.{Heard}
+use Rattle.m2_turn.specs.m2_feed.declared.heard.Heard.TheVariants as heard
+use Rattle.m2_turn.specs.m2_feed.m2_session.Steps.{step_of}
+use Rattle.m2_turn.specs.m2_feed.m2_session.declared.event.Effects.{Effects}
+use Rattle.m2_turn.specs.m2_feed.m2_session.declared.event.Event.{Event}
 use Rattle.m2_trail.specs.Incoming.{IncomingNow, StepsOn}
 use Rattle.m2_trail.specs.TurnMoves.{Makes, Move, answers, reads, writes}
 use Rattle.m2_trail.specs.declared.step.IncomingStep.{IncomingStep}
 use Rattle.m2_trail.specs.declared.step.IncomingStep.TheVariants as step
-use Rattle.m2_core.specs.CoreNow.{CoreNow}
-use Rattle.m2_core.specs.Effects.{closes, discards, has_effects, requeues, sets_back, where_true}
-use Rattle.m2_core.specs.Hearing.{HasRead, Heeds, ReadNow}
-use Rattle.m2_core.specs.LiveCalls.{live_with, tells_if}
-use Rattle.m2_core.specs.LiveHearing.{TakesAnswer, resumed_by_answer}
-use Rattle.m2_core.specs.LiveNow.{LiveNow}
-use Rattle.m2_core.specs.Moves.{HasWritten}
-use Rattle.m2_core.specs.OnFeed.{PassesFeed, ReadsFeed, WritesFeed}
+use Rattle.m2_turn.specs.m2_core.CoreNow.{CoreNow}
+use Rattle.m2_turn.specs.m2_core.Effects.{closes, discards, has_effects, requeues, sets_back, where_true}
+use Rattle.m2_turn.specs.m2_core.Hearing.{HasRead, Heeds, ReadNow}
+use Rattle.m2_turn.specs.m2_core.LiveCalls.{live_with, tells_if}
+use Rattle.m2_turn.specs.m2_core.LiveHearing.{TakesAnswer, resumed_by_answer}
+use Rattle.m2_turn.specs.m2_core.LiveNow.{LiveNow}
+use Rattle.m2_turn.specs.m2_core.Moves.{HasWritten}
+use Rattle.m2_turn.specs.m2_core.OnFeed.{PassesFeed, ReadsFeed, WritesFeed}
 use Rattle.m2_exact.specs.Cores.{FeedIsInMemory, OnMemory}
 
 -- ---- ends
@@ -92,7 +92,7 @@ writes_feed answer (Some v) (Some w) m r = written_feed answer v w m r
 writes_feed answer (Some v) None m r = absurd r
 writes_feed answer None y m r = absurd r
 
-passes_feed : (x y : Option FeedNow) → OnMemory x → PassesFeed x y → OnMemory y
+pub passes_feed : (x y : Option FeedNow) → OnMemory x → PassesFeed x y → OnMemory y
 passes_feed (Some v) (Some w) m (h, only) = subst (λ (z : FeedNow). IsInMemory z.end) (sym only) m
 passes_feed (Some v) None m h = absurd h
 passes_feed None y m h = absurd h
@@ -106,7 +106,7 @@ where_kept : (b : Bool) (change : LiveNow → LiveNow) (l : LiveNow) → OnMemor
 where_kept true change l m k = k
 where_kept false change l m k = m
 
-told : (e : Option Event) (l : LiveNow) → OnMemory l.feed → OnMemory (tells_if e l).feed
+pub told : (e : Option Event) (l : LiveNow) → OnMemory l.feed → OnMemory (tells_if e l).feed
 told None l m = m
 told (Some e) l m = by (step_of l.session e).effects (record l { session = (step_of l.session e).session }) m
   where

@@ -4,13 +4,13 @@ use Rattle.std.specs.Prelude.{◌≡◌, ◌≢◌, Option, IfSome}
 use Rattle.std.specs.Option.{option_map}
 use Rattle.m2_fabric.specs.Kinds.{IsInMemory}
 use Rattle.m2_fabric.specs.declared.end.EndRead.TheVariants as read
-use Rattle.m2_feed.specs.FeedNow.{FeedNow}
-use Rattle.m2_feed.specs.declared.answers.FeedWrite.{FeedWrite}
-use Rattle.m2_feed.specs.declared.answers.FeedWrite.TheVariants as put
-use Rattle.m2_core.specs.LiveCalls.{live_with}
-use Rattle.m2_core.specs.CoreNow.{CoreNow}
-use Rattle.m2_core.specs.Hearing.{HasRead, ReadNow}
-use Rattle.m2_core.specs.Moves.{HasWritten}
+use Rattle.m2_turn.specs.m2_feed.FeedNow.{FeedNow}
+use Rattle.m2_turn.specs.m2_feed.declared.answers.FeedWrite.{FeedWrite}
+use Rattle.m2_turn.specs.m2_feed.declared.answers.FeedWrite.TheVariants as put
+use Rattle.m2_turn.specs.m2_core.LiveCalls.{live_with}
+use Rattle.m2_turn.specs.m2_core.CoreNow.{CoreNow}
+use Rattle.m2_turn.specs.m2_core.Hearing.{HasRead, ReadNow}
+use Rattle.m2_turn.specs.m2_core.Moves.{HasWritten}
 
 -- but for room
 abbrev pub roomless_feed : FeedNow → FeedNow

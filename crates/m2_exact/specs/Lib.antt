@@ -2,3 +2,11 @@ pub mod Cores
 pub mod Feeds
 pub mod Halves
 pub mod Handshakes
+pub mod Records
+pub mod RecordTurns
+pub mod RecordsTurns
+pub mod Mails
+pub mod Accepts
+pub mod Judgements
+pub mod Advances
+pub mod Answers

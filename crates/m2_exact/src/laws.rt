@@ -1,11 +1,23 @@
 //! What two calls of one thing, or of two that are alike, have in common where only memory may be wanted: a read or a
-//! write of what stands on an end in memory, a move of a half, and an answer of a handshake, which has no end. Each
-//! function has an empty body: its contract is the law.
+//! write of what stands on an end in memory, a move of a half, an answer of a handshake, which has no end, each call of a
+//! record, and the parts of a center's turn that are of records, of the port and of the mail. Each function has an empty
+//! body: its contract is the law.
 
+ghost use Rattle.m2_exact.specs.Accepts as accepts;
+ghost use Rattle.m2_exact.specs.Advances as advances;
+ghost use Rattle.m2_exact.specs.Answers as answers;
 ghost use Rattle.m2_exact.specs.Cores as cores;
 ghost use Rattle.m2_exact.specs.Feeds as feeds;
 ghost use Rattle.m2_exact.specs.Halves as halves;
 ghost use Rattle.m2_exact.specs.Handshakes as handshakes;
+ghost use Rattle.m2_exact.specs.Judgements as judgements;
+ghost use Rattle.m2_exact.specs.Mails as mails;
+ghost use Rattle.m2_exact.specs.Records as records;
+ghost use Rattle.m2_exact.specs.RecordTurns as turns;
+ghost use Rattle.m2_exact.specs.RecordsTurns as all_turns;
+
+use m2_dispatch::Dispatcher;
+use m2_fabric::End;
 
 /// But for want of memory, what a read and what a write of a feed whose end is in memory answers and leaves behind is a
 /// function of what is seen of the feed; of the room behind a write nothing is said.
@@ -35,4 +47,67 @@ pub fn like_halves_move_alike()
 #[tactic(auto, using(crate::proofs::Cores::exact))]
 pub fn like_cores_read_and_write_alike()
     ensures { cores.LikeCoresReadAndWriteAlike }
+{}
+
+/// But for want of memory, steps that begin alike, of two records that are alike but for room and for where the parts of messages lie,
+/// whose feeds' ends are in memory, come to the same, where no thread shares the words of throttle and counter. The records stay alike,
+/// and over ends in memory.
+#[tactic(auto, using(crate::proofs::Staying::alike))]
+pub fn like_records_step_alike()
+    ensures { records.LikeRecordsStepAlike }
+{}
+
+/// But for want of memory, turns of two records that are alike, beside dispatchers that heard the same, end with the same, and leave what
+/// is alike.
+#[tactic(auto, using(crate::proofs::RecordTurns::alike))]
+pub fn like_records_turn_alike<D: Dispatcher>()
+    ensures { turns.LikeRecordsTurnAlike D D.heard }
+{}
+
+/// But for want of memory, where a connect is due, at two ports in memory that are the same, records that are alike open one socket and
+/// stay alike; and so they do where a step is planned.
+#[tactic(auto, using(crate::proofs::Dialing::alike))]
+pub fn like_records_dial_and_plan_alike()
+    ensures { all_turns.LikeRecordsDialAndPlanAlike }
+{}
+
+/// But for want of memory, the records of two centers that are alike, each of which dials where a connect is due and takes its steps, leave
+/// what is alike.
+#[tactic(auto, using(crate::proofs::RecordsTurns::alike))]
+pub fn like_all_records_turn_alike<D: Dispatcher>()
+    ensures { all_turns.LikeAllRecordsTurnAlike D D.heard }
+{}
+
+/// But for want of memory, mails that are alike are emptied alike: the queue's dispatcher has the same calls, and as much is given back.
+#[tactic(auto, using(crate::proofs::Mails::alike))]
+pub fn like_mails_empty_alike<D: Dispatcher>()
+    ensures { mails.LikeMailsEmptyAlike D D.heard }
+{}
+
+/// But for want of memory, ports in memory that are the same give the same sockets, in the same order, and halves that are alike stay
+/// alike beside them.
+#[tactic(auto, using(crate::proofs::Accepts::alike))]
+pub fn like_ports_accept_alike()
+    ensures { accepts.LikePortsAcceptAlike }
+{}
+
+/// But for want of memory, records that are alike give asks that say the same one answer with one number, and stay alike; and they hear
+/// news of the other side alike.
+#[tactic(auto, using(crate::proofs::Judgements::alike))]
+pub fn like_records_judge_alike<E: End>()
+    ensures { judgements.LikeRecordsJudgeAlike E }
+{}
+
+/// But for want of memory, halves that are alike and whose ends are in memory make as many moves in a turn, come to the same, and stay
+/// alike, over ends in memory.
+#[tactic(auto, using(crate::proofs::Advances::alike))]
+pub fn like_halves_advance_alike()
+    ensures { advances.LikeHalvesAdvanceAlike }
+{}
+
+/// But for want of memory, halves that were asked the same, beside records that are alike, come to the same: what is found in the ask, the
+/// number that is drawn, the answer and the reply are one, and what is left is alike.
+#[tactic(auto, using(crate::proofs::Answers::alike))]
+pub fn like_halves_are_answered_alike<E: End>()
+    ensures { answers.LikeHalvesAreAnsweredAlike E }
 {}

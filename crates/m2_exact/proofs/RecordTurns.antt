@@ -1,0 +1,381 @@
+-- Records that are alike take their turns alike, but for want of memory.
+use Rattle.std.proofs.Common.{◌≡◌, ℕ, ◌-◌, ◌<◌, ◌&&◌, ◌++◌, List, [], ◌∷◌, length, map, Bool, true, false, Option, None, Some, inl, inr, refl, sym, subst, ◌∙◌, ap, arith}
+use Rattle.std.specs.Prelude.{◌≢◌, ◌⊎◌, nat_lt}
+use Rattle.std.specs.Option.{is_none, option_map}
+use Rattle.std.proofs.lemmas.List.{map-append}
+use Rattle.m2_dispatch.specs.Heard.{Heard}
+use Rattle.m2_dispatch.specs.Letters.{heard_in}
+use Rattle.m2_dispatch.specs.declared.letter.Letter.{Letter}
+use Rattle.m2_dispatch.specs.declared.parcel.Parcel.{Parcel}
+use Rattle.m2_dispatch.specs.declared.parcel.Parcel.TheVariants as parcel
+use Rattle.m2_dispatch.specs.m2_policy.declared.path.Path.{Path}
+use Rattle.m2_dispatch.specs.m2_policy.declared.path.Path.TheVariants.{Fast, Queued}
+use Rattle.m2_dispatch.specs.m2_shared.Place.{IsAlone}
+use Rattle.m2_dispatch.specs.m2_shared.Throttle.{SeenTakePass, SeenThrottle}
+use Rattle.m2_turn.specs.Outbox.{DispatchesOr, OutboxNow, Puts, PutsLetter, is_free, returned, returned_on}
+use Rattle.m2_turn.specs.RecordTurn.{EndsBy, EndsWith, GivesHanded, LeadsOn, LedOn, Means, PutsHanded, Steps, TakesStep, Turning, TurnsAs, worked_by}
+use Rattle.m2_turn.specs.declared.outbox.TheConstants.{MOST_MAIL}
+use Rattle.m2_turn.specs.declared.record_turn.RecordTurn.{RecordTurn}
+use Rattle.m2_turn.specs.declared.record_turn.RecordTurn.TheVariants as turn
+use Rattle.m2_turn.specs.declared.record_turn.TheConstants.{MOST_STEPS}
+use Rattle.m2_turn.specs.m2_core.CoreNow.{IsAskedIfSigned}
+use Rattle.m2_turn.specs.m2_feed.FeedNow.{FeedNow}
+use Rattle.m2_turn.specs.m2_feed.declared.wire_fault.WireFault.{WireFault}
+use Rattle.m2_turn.specs.m2_feed.m2_session.declared.session.Phase.{Phase}
+use Rattle.m2_turn.specs.m2_record.RecordNow.{RecordNow}
+use Rattle.m2_turn.specs.m2_record.declared.stepped.Stepped.{Stepped}
+use Rattle.m2_turn.specs.m2_record.declared.stepped.Stepped.TheVariants as stepped
+use Rattle.m2_exact.proofs.Staying as steps
+use Rattle.m2_exact.specs.Cores.{OnMemory, roomless_feed}
+use Rattle.m2_exact.specs.Records.{Done, Took, begun, bare_answer, bare_letter, bare_numbers, bare_parcel, bare_take, plain}
+use Rattle.m2_exact.specs.RecordTurns.{HasAlone, IsFit, LikeRecordsTurnAlike, PlainOut, PlainTurning, Turned, plain_out, plain_turning}
+
+-- ---- fitness
+
+fit_feed : (x y : Option FeedNow) → option_map roomless_feed x ≡ option_map roomless_feed y → OnMemory x → OnMemory y
+fit_feed (Some v) (Some w) same m = subst OnMemory same m
+fit_feed (Some v) None same m = tt
+fit_feed None (Some w) same m = absurd (cc same)
+fit_feed None None same m = tt
+
+fit_asked : (p : Phase) (x y : Option FeedNow) → option_map roomless_feed x ≡ option_map roomless_feed y → IsAskedIfSigned p x → IsAskedIfSigned p y
+fit_asked p (Some v) (Some w) same m = subst (IsAskedIfSigned p) same m
+fit_asked p (Some v) None same m = tt
+fit_asked p None (Some w) same m = absurd (cc same)
+fit_asked p None None same m = tt
+
+pub fit : (r s : RecordNow) → plain r ≡ plain s → IsFit r → IsFit s
+fit r s like h =
+    let feeds = ap (λ (x : RecordNow). x.core.live.feed) like in
+    record {
+      memory = fit_feed r.core.live.feed s.core.live.feed feeds h.memory;
+      asked = subst (λ (p : Phase). IsAskedIfSigned p s.core.live.feed) (ap (λ (x : RecordNow). x.core.live.session.phase) like)
+          (fit_asked r.core.live.session.phase r.core.live.feed s.core.live.feed feeds h.asked);
+    }
+
+-- ---- what is put
+
+abbrev put_letter : Letter → Path → PlainOut → PlainOut
+put_letter l Fast o = record { fast = o.fast ++ heard_in l ∷ []; mail = o.mail; held = None }
+put_letter l Queued o = record o { mail = o.mail ++ parcel.Letter l ∷ [] }
+
+-- what is put leaves, where it isn't held
+abbrev put_out : Parcel → PlainOut → PlainOut
+put_out (parcel.Letter l) o = put_letter l l.key.path o
+put_out (parcel.Discard peer) o = record o { mail = o.mail ++ parcel.Discard peer ∷ [] }
+put_out (parcel.RemoteReset peer) o = record o { mail = o.mail ++ parcel.RemoteReset peer ∷ [] }
+
+abbrev handed_out : Stepped → PlainOut → PlainOut
+handed_out (stepped.Hand x) o = put_out x o
+handed_out answer o = o
+
+-- what is given back for it
+abbrev handed_back : Stepped → ℕ → ℕ
+handed_back (stepped.Hand x) word = word - returned x None
+handed_back answer word = word
+
+module _ {D : Type 0} (heard : D → List Heard) where
+  mailed : (x : Parcel) (o new : OutboxNow D) → new ≡ record o { mail = o.mail ++ x ∷ [] } → plain_out heard new ≡ record (plain_out heard o) { mail = map bare_parcel o.mail ++ bare_parcel x ∷ [] }
+  mailed x o new h = ap (plain_out heard) h ∙ ap (λ (xs : List Parcel). record (plain_out heard o) { mail = xs }) (map-append bare_parcel o.mail (x ∷ []))
+
+  pub put_by : (l : Letter) (p : Path) (o new : OutboxNow D) → new.held ≡ None → PutsLetter heard l p o new → plain_out heard new ≡ put_letter (bare_letter l) p (plain_out heard o)
+  put_by l Fast o new none h =
+      let (said, same) = subst (DispatchesOr heard l o new) none h in
+      ap (λ (x : List Heard). record { fast = x; mail = map bare_parcel new.mail; held = option_map bare_letter new.held }) said
+      ∙ ap (λ (xs : List Parcel). record { fast = heard o.fast ++ heard_in l ∷ []; mail = map bare_parcel xs; held = option_map bare_letter new.held }) same
+      ∙ ap (λ (x : Option Letter). record { fast = heard o.fast ++ heard_in l ∷ []; mail = map bare_parcel o.mail; held = option_map bare_letter x }) none
+  put_by l Queued o new none h = mailed (parcel.Letter l) o new h
+
+  put : (x : Parcel) (o new : OutboxNow D) → new.held ≡ None → Puts heard x o new → plain_out heard new ≡ put_out (bare_parcel x) (plain_out heard o)
+  put (parcel.Letter l) o new none h = put_by l l.key.path o new none h
+  put (parcel.Discard peer) o new none h = mailed (parcel.Discard peer) o new h
+  put (parcel.RemoteReset peer) o new none h = mailed (parcel.RemoteReset peer) o new h
+
+  handed : (a : Stepped) (o new : OutboxNow D) → new.held ≡ None → PutsHanded heard a o new → plain_out heard new ≡ handed_out (bare_answer a) (plain_out heard o)
+  handed (stepped.Hand x) o new none h = put x o new none h
+  handed stepped.Moved o new none h = ap (plain_out heard) h
+  handed stepped.Dry o new none h = ap (plain_out heard) h
+  handed (stepped.Full _) o new none h = ap (plain_out heard) h
+  handed (stepped.Again _ _) o new none h = ap (plain_out heard) h
+  handed stepped.Spent o new none h = ap (plain_out heard) h
+  handed (stepped.Faulted _) o new none h = ap (plain_out heard) h
+  handed stepped.NoMemory o new none h = ap (plain_out heard) h
+
+  returned_bare : (x : Parcel) → returned x None ≡ returned (bare_parcel x) None
+  returned_bare (parcel.Letter l) = by l.key.path
+    where
+      by : (p : Path) → returned_on l p None ≡ returned_on (bare_letter l) p None
+      by Fast = refl
+      by Queued = refl
+  returned_bare (parcel.Discard peer) = refl
+  returned_bare (parcel.RemoteReset peer) = refl
+
+  given : (t : SeenThrottle) (a : Stepped) (o : OutboxNow D) (before behind : SeenTakePass) → IsAlone t.place → o.held ≡ None → GivesHanded t a o before behind →
+      behind.word ≡ handed_back (bare_answer a) before.word
+  given t (stepped.Hand x) o before behind alone none h =
+      h alone ∙ ap (λ (l : Option Letter). before.word - returned x l) none ∙ ap (λ (n : ℕ). before.word - n) (returned_bare x)
+  given t stepped.Moved o before behind alone none h = ap (λ (p : SeenTakePass). p.word) h
+  given t stepped.Dry o before behind alone none h = ap (λ (p : SeenTakePass). p.word) h
+  given t (stepped.Full _) o before behind alone none h = ap (λ (p : SeenTakePass). p.word) h
+  given t (stepped.Again _ _) o before behind alone none h = ap (λ (p : SeenTakePass). p.word) h
+  given t stepped.Spent o before behind alone none h = ap (λ (p : SeenTakePass). p.word) h
+  given t (stepped.Faulted _) o before behind alone none h = ap (λ (p : SeenTakePass). p.word) h
+  given t stepped.NoMemory o before behind alone none h = ap (λ (p : SeenTakePass). p.word) h
+
+  -- ---- one step
+
+  -- a step that found memory, in itself and for what it hands out
+  record TookStep (m : Means) (a : Stepped) (old new : Turning D) : Type 0 where
+    pub takes : TakesStep heard m a old new
+    pub memory : a ≢ stepped.NoMemory
+    pub none_held : new.out.held ≡ None
+
+  step_stays : (m : Means) (a : Stepped) (old new : Turning D) → a ≢ stepped.NoMemory → IsFit old.side → TakesStep heard m a old new → IsFit new.side
+  step_stays m a old new k f h =
+      let w = worked_by m a h.behind old new in
+      let took : Took w old.side new.side = record { steps = h.steps; memory = k } in
+      record { memory = steps.alike.stays w old.side new.side f.memory took; asked = steps.alike.signed w old.side new.side f.asked took }
+
+  module _ (m : Means) (alone : HasAlone m) where
+    step_one : (a b : Stepped) (old last new behind : Turning D) → IsFit old.side → plain_turning heard old ≡ plain_turning heard last → TookStep m a old new → TookStep m b last behind →
+        (bare_answer a ≡ bare_answer b) × (plain_turning heard new ≡ plain_turning heard behind)
+    step_one a b old last new behind f like h g =
+        let w = worked_by m a h.takes.behind old new in
+        let v = worked_by m b g.takes.behind last behind in
+        let begins : begun w ≡ begun v = ap (λ (t : PlainTurning). record { now = m.now; throttle = m.throttle; counter = m.counter; bytes = t.bytes; numbers = t.numbers }) like in
+        let both = steps.alike.steps w v old.side last.side new.side behind.side f.memory f.asked (record { throttle = alone.throttle; counter = alone.counter }) begins (ap (λ (t : PlainTurning). t.side) like)
+        (record { steps = h.takes.steps; memory = h.memory }) (record { steps = g.takes.steps; memory = g.memory }) in
+        let answers : bare_answer a ≡ bare_answer b = ap (λ (d : Done). d.answer) both.0 in
+        let out : plain_out heard new.out ≡ plain_out heard behind.out =
+        handed a old.out new.out h.none_held h.takes.puts
+        ∙ ap (λ (x : Stepped). handed_out x (plain_out heard old.out)) answers
+        ∙ ap (λ (t : PlainTurning). handed_out (bare_answer b) t.out) like
+        ∙ sym (handed b last.out behind.out g.none_held g.takes.puts) in
+        let words : new.bytes.word ≡ behind.bytes.word =
+        given m.throttle a new.out h.takes.behind new.bytes alone.throttle h.none_held h.takes.gives
+        ∙ ap (λ (x : Stepped). handed_back x h.takes.behind.word) answers
+        ∙ ap (λ (d : Done). handed_back (bare_answer b) d.bytes.word) both.0
+        ∙ sym (given m.throttle b behind.out g.takes.behind behind.bytes alone.throttle g.none_held g.takes.gives) in (
+          answers,
+          ap (λ (r : RecordNow). record { side = r; out = plain_out heard new.out; bytes = bare_take new.bytes; numbers = bare_numbers new.numbers }) both.1
+              ∙ ap (λ (o : PlainOut). record { side = plain behind.side; out = o; bytes = bare_take new.bytes; numbers = bare_numbers new.numbers }) out
+              ∙ ap (λ (n : ℕ). record { side = plain behind.side; out = plain_out heard behind.out; bytes = record (bare_take new.bytes) { word = n }; numbers = bare_numbers new.numbers }) words
+              ∙ ap (λ (d : Done). record { side = plain behind.side; out = plain_out heard behind.out; bytes = bare_take behind.bytes; numbers = d.numbers }) both.0,
+        )
+
+  -- ---- steps, one after another
+
+  pub free_holds_none : (o : OutboxNow D) → is_free o ≡ true → o.held ≡ None
+  free_holds_none o h = by o.held (first (is_none o.held) (nat_lt (length o.mail) MOST_MAIL) h)
+    where
+      first : (a b : Bool) → (a && b) ≡ true → a ≡ true
+      first true b h = refl
+      first false b h = absurd (cc h)
+
+      by : (l : Option Letter) → is_none l ≡ true → l ≡ None
+      by None h = refl
+      by (Some l) h = absurd (cc h)
+
+  many_bare : (xs : List Parcel) → length (map bare_parcel xs) ≡ length xs
+  many_bare [] = refl
+  many_bare (x ∷ xs) = omega (arith, many_bare xs)
+
+  free_plain : (o : OutboxNow D) → is_free o ≡ (is_none (plain_out heard o).held && nat_lt (length (plain_out heard o).mail) MOST_MAIL)
+  free_plain o = by o.held ∙ ap (λ (n : ℕ). is_none (option_map bare_letter o.held) && nat_lt n MOST_MAIL) (sym (many_bare o.mail))
+    where
+      by : (l : Option Letter) → (is_none l && nat_lt (length o.mail) MOST_MAIL) ≡ (is_none (option_map bare_letter l) && nat_lt (length o.mail) MOST_MAIL)
+      by (Some l) = refl
+      by None = refl
+
+  pub free_one : (o p : OutboxNow D) → plain_out heard o ≡ plain_out heard p → is_free o ≡ is_free p
+  free_one o p like = free_plain o ∙ ap (λ (x : PlainOut). is_none x.held && nat_lt (length x.mail) MOST_MAIL) like ∙ sym (free_plain p)
+
+  -- how a turn ends, where so many steps are left to it
+  record Ended (m : Means) (one : RecordTurn) (most : ℕ) (old new : Turning D) : Type 0 where
+    pub answer : Stepped
+    pub takes : TakesStep heard m answer old new
+    pub ends : EndsWith one answer
+    pub some : 0 < most
+
+  record HasNoMore (one : RecordTurn) (most : ℕ) (old new : Turning D) : Type 0 where
+    pub is : one ≡ turn.Busy
+    pub same : old ≡ new
+    pub none : most ≡ 0
+
+  record MayNot (one : RecordTurn) (most : ℕ) (old new : Turning D) : Type 0 where
+    pub is : one ≡ turn.Stuck
+    pub same : old ≡ new
+    pub full : is_free new.out ≡ false
+    pub some : 0 < most
+
+  abbrev Last : Means → RecordTurn → (most : ℕ) → Turning D → Turning D → Type 0
+  Last m one most old new = Ended m one most old new ⊎ (HasNoMore one most old new ⊎ MayNot one most old new)
+
+  -- steps that lead on, and then this end
+  abbrev Walks : Means → RecordTurn → List (Turning D) → (most : ℕ) → Turning D → Turning D → Type 0
+  Walks m one [] most old new = Last m one most old new
+  Walks m one (t ∷ ts) most old new = LedOn heard m old t × (0 < most) × Walks m one ts (most - 1) t new
+
+  ended : (m : Means) (one : RecordTurn) (ts : List (Turning D)) (most : ℕ) (old mid new : Turning D) (a : Stepped) → length ts < most → Steps heard m ts old mid → TakesStep heard m a mid new →
+      EndsWith one a → Walks m one ts most old new
+  ended m one [] most old mid new a few same h e = inl (record { answer = a; takes = subst (λ (t : Turning D). TakesStep heard m a t new) (sym same) h; ends = e; some = omega (arith, few) })
+  ended m one (t ∷ ts) most old mid new a few (led, rest) h e = (led, omega (arith, few), ended m one ts (most - 1) t mid new a (omega (arith, few)) rest h e)
+
+  busy : (m : Means) (ts : List (Turning D)) (most : ℕ) (old new : Turning D) → length ts ≡ most → Steps heard m ts old new → Walks m turn.Busy ts most old new
+  busy m [] most old new many same = inr (inl (record { is = refl; same = same; none = omega (arith, many) }))
+  busy m (t ∷ ts) most old new many (led, rest) = (led, omega (arith, many), busy m ts (most - 1) t new (omega (arith, many)) rest)
+
+  stuck : (m : Means) (ts : List (Turning D)) (most : ℕ) (old new : Turning D) → length ts < most → is_free new.out ≡ false → Steps heard m ts old new → Walks m turn.Stuck ts most old new
+  stuck m [] most old new few full same = inr (inr (record { is = refl; same = same; full = full; some = omega (arith, few) }))
+  stuck m (t ∷ ts) most old new few full (led, rest) = (led, omega (arith, few), stuck m ts (most - 1) t new (omega (arith, few)) full rest)
+
+  by_end : (m : Means) (one : RecordTurn) (old new : Turning D) → EndsBy heard m one old new → (ts : List (Turning D)) × Walks m one ts MOST_STEPS old new
+  by_end m one old new h = (h.led.stood, ended m one h.led.stood MOST_STEPS old h.mid new h.answer h.led.within h.led.steps h.takes h.ends)
+
+  walks : (m : Means) (one : RecordTurn) (old new : Turning D) → TurnsAs heard m one old new → (ts : List (Turning D)) × Walks m one ts MOST_STEPS old new
+  walks m turn.Busy old new h = (h.stood, busy m h.stood MOST_STEPS old new h.many h.steps)
+  walks m turn.Stuck old new h = (h.led.stood, stuck m h.led.stood MOST_STEPS old new h.led.within h.full h.led.steps)
+  walks m turn.Dry old new h = by_end m turn.Dry old new h
+  walks m (turn.Full n) old new h = by_end m (turn.Full n) old new h
+  walks m (turn.Again n k) old new h = by_end m (turn.Again n k) old new h
+  walks m turn.Spent old new h = by_end m turn.Spent old new h
+  walks m (turn.Faulted f) old new h = by_end m (turn.Faulted f) old new h
+  walks m turn.NoMemory old new h = by_end m turn.NoMemory old new h
+
+  -- ---- what ends a turn
+
+  abbrev turned_of : Stepped → RecordTurn
+  turned_of stepped.Moved = turn.Busy
+  turned_of (stepped.Hand x) = turn.Busy
+  turned_of stepped.Dry = turn.Dry
+  turned_of (stepped.Full out) = turn.Full out
+  turned_of (stepped.Again seen at) = turn.Again seen at
+  turned_of stepped.Spent = turn.Spent
+  turned_of (stepped.Faulted f) = turn.Faulted f
+  turned_of stepped.NoMemory = turn.NoMemory
+
+  ends_so : (one : RecordTurn) (a : Stepped) → EndsWith one a → one ≡ turned_of (bare_answer a)
+  ends_so turn.Dry stepped.Dry e = refl
+  ends_so (turn.Full n) (stepped.Full out) e = ap (λ (x : ℕ). turn.Full x) e
+  ends_so (turn.Again n k) (stepped.Again was at) e = ap (λ (x : ℕ). turn.Again x k) e.0 ∙ ap (λ (x : ℕ). turn.Again was x) e.1
+  ends_so turn.Spent stepped.Spent e = refl
+  ends_so (turn.Faulted c) (stepped.Faulted f) e = ap (λ (x : WireFault). turn.Faulted x) e
+  ends_so turn.NoMemory stepped.NoMemory e = refl
+  ends_so one a e = absurd e
+
+  abbrev leads_on : Stepped → Bool
+  leads_on stepped.Moved = true
+  leads_on (stepped.Hand x) = true
+  leads_on a = false
+
+  leads : (a : Stepped) → LeadsOn a → leads_on (bare_answer a) ≡ true
+  leads stepped.Moved h = refl
+  leads (stepped.Hand x) h = refl
+  leads a h = absurd h
+
+  ends : (one : RecordTurn) (a : Stepped) → EndsWith one a → leads_on (bare_answer a) ≡ false
+  ends one stepped.Dry e = refl
+  ends one (stepped.Full out) e = refl
+  ends one (stepped.Again was at) e = refl
+  ends one stepped.Spent e = refl
+  ends one (stepped.Faulted f) e = refl
+  ends one stepped.NoMemory e = refl
+  ends turn.Dry stepped.Moved e = absurd e
+  ends (turn.Full n) stepped.Moved e = absurd e
+  ends (turn.Again n k) stepped.Moved e = absurd e
+  ends turn.Spent stepped.Moved e = absurd e
+  ends (turn.Faulted f) stepped.Moved e = absurd e
+  ends turn.Busy stepped.Moved e = absurd e
+  ends turn.Stuck stepped.Moved e = absurd e
+  ends turn.NoMemory stepped.Moved e = absurd e
+  ends turn.Dry (stepped.Hand x) e = absurd e
+  ends (turn.Full n) (stepped.Hand x) e = absurd e
+  ends (turn.Again n k) (stepped.Hand x) e = absurd e
+  ends turn.Spent (stepped.Hand x) e = absurd e
+  ends (turn.Faulted f) (stepped.Hand x) e = absurd e
+  ends turn.Busy (stepped.Hand x) e = absurd e
+  ends turn.Stuck (stepped.Hand x) e = absurd e
+  ends turn.NoMemory (stepped.Hand x) e = absurd e
+
+  ended_memory : (one : RecordTurn) (a : Stepped) → one ≢ turn.NoMemory → EndsWith one a → a ≢ stepped.NoMemory
+  ended_memory one a m e is = m (ends_so one a e ∙ ap (λ (x : Stepped). turned_of (bare_answer x)) is)
+
+  led_memory : (a : Stepped) → LeadsOn a → a ≢ stepped.NoMemory
+  led_memory stepped.Moved h = λ e. cc e
+  led_memory (stepped.Hand x) h = λ e. cc e
+  led_memory a h = absurd h
+
+  -- nothing is held behind a step that another one follows, nor behind one that ends a turn in which none is held at last
+  none_held : (m : Means) (one : RecordTurn) (ts : List (Turning D)) (most : ℕ) (t new : Turning D) → Walks m one ts most t new → new.out.held ≡ None → t.out.held ≡ None
+  none_held m one [] most t new (inl h) none = free_holds_none t.out h.takes.free
+  none_held m one [] most t new (inr (inl h)) none = ap (λ (x : Turning D). x.out.held) h.same ∙ none
+  none_held m one [] most t new (inr (inr h)) none = ap (λ (x : Turning D). x.out.held) h.same ∙ none
+  none_held m one (u ∷ ts) most t new (led, some, rest) none = free_holds_none t.out led.takes.free
+
+  -- ---- two turns
+
+  module _ (m : Means) (alone : HasAlone m) where
+    -- a turn that ends where the other leads on
+    ends_and_leads : (one : RecordTurn) (most : ℕ) (old last new t : Turning D) → one ≢ turn.NoMemory → IsFit old.side → plain_turning heard old ≡ plain_turning heard last → Last m one most old new →
+        new.out.held ≡ None → LedOn heard m last t → 0 < most → t.out.held ≡ None → ⊥
+    ends_and_leads one most old last new t k f like (inl h) none led some held =
+        let both = step_one m alone h.answer led.answer old last new t f like (record { takes = h.takes; memory = ended_memory one h.answer k h.ends; none_held = none })
+        (record { takes = led.takes; memory = led_memory led.answer led.leads; none_held = held }) in
+        absurd (cc (leads led.answer led.leads, ends one h.answer h.ends, ap leads_on both.0))
+    ends_and_leads one most old last new t k f like (inr (inl h)) none led some held = absurd (omega (arith, h.none, some))
+    ends_and_leads one most old last new t k f like (inr (inr h)) none led some held =
+        absurd (cc (ap (λ (x : Turning D). is_free x.out) h.same ∙ h.full, free_one old.out last.out (ap (λ (x : PlainTurning). x.out) like), led.takes.free))
+
+    both_end : (one other : RecordTurn) (most : ℕ) (old last new behind : Turning D) → one ≢ turn.NoMemory → other ≢ turn.NoMemory → IsFit old.side → plain_turning heard old ≡ plain_turning heard last →
+        Last m one most old new → Last m other most last behind → new.out.held ≡ None → behind.out.held ≡ None → (one ≡ other) × (plain_turning heard new ≡ plain_turning heard behind)
+    both_end one other most old last new behind k l f like (inl h) (inl g) none held =
+        let both = step_one m alone h.answer g.answer old last new behind f like (record { takes = h.takes; memory = ended_memory one h.answer k h.ends; none_held = none })
+        (record { takes = g.takes; memory = ended_memory other g.answer l g.ends; none_held = held }) in
+        (ends_so one h.answer h.ends ∙ ap turned_of both.0 ∙ sym (ends_so other g.answer g.ends), both.1)
+    both_end one other most old last new behind k l f like (inr (inl h)) (inr (inl g)) none held =
+        (h.is ∙ sym g.is, sym (ap (plain_turning heard) h.same) ∙ like ∙ ap (plain_turning heard) g.same)
+    both_end one other most old last new behind k l f like (inr (inr h)) (inr (inr g)) none held =
+        (h.is ∙ sym g.is, sym (ap (plain_turning heard) h.same) ∙ like ∙ ap (plain_turning heard) g.same)
+    both_end one other most old last new behind k l f like (inl h) (inr (inl g)) none held = absurd (omega (arith, h.some, g.none))
+    both_end one other most old last new behind k l f like (inr (inl h)) (inl g) none held = absurd (omega (arith, g.some, h.none))
+    both_end one other most old last new behind k l f like (inr (inl h)) (inr (inr g)) none held = absurd (omega (arith, g.some, h.none))
+    both_end one other most old last new behind k l f like (inr (inr h)) (inr (inl g)) none held = absurd (omega (arith, h.some, g.none))
+    both_end one other most old last new behind k l f like (inl h) (inr (inr g)) none held =
+        absurd (cc (h.takes.free, free_one old.out last.out (ap (λ (x : PlainTurning). x.out) like), ap (λ (x : Turning D). is_free x.out) g.same ∙ g.full))
+    both_end one other most old last new behind k l f like (inr (inr h)) (inl g) none held =
+        absurd (cc (g.takes.free, free_one old.out last.out (ap (λ (x : PlainTurning). x.out) like), ap (λ (x : Turning D). is_free x.out) h.same ∙ h.full))
+
+    both_walk : (one other : RecordTurn) (ts us : List (Turning D)) (most : ℕ) (old last new behind : Turning D) → one ≢ turn.NoMemory → other ≢ turn.NoMemory → IsFit old.side →
+        plain_turning heard old ≡ plain_turning heard last → Walks m one ts most old new → Walks m other us most last behind → new.out.held ≡ None → behind.out.held ≡ None →
+        (one ≡ other) × (plain_turning heard new ≡ plain_turning heard behind)
+    both_walk one other [] [] most old last new behind k l f like h g none held = both_end one other most old last new behind k l f like h g none held
+    both_walk one other [] (u ∷ us) most old last new behind k l f like h (led, some, rest) none held =
+        absurd (ends_and_leads one most old last new u k f like h none led some (none_held m other us (most - 1) u behind rest held))
+    both_walk one other (t ∷ ts) [] most old last new behind k l f like (led, some, rest) g none held =
+        absurd (ends_and_leads other most last old behind t l (fit old.side last.side (ap (λ (x : PlainTurning). x.side) like) f) (sym like) g held led some (none_held m one ts (most - 1) t new rest none))
+    both_walk one other (t ∷ ts) (u ∷ us) most old last new behind k l f like (led, some, rest) (leads, more, others) none held =
+        let first : TookStep m led.answer old t = record { takes = led.takes; memory = led_memory led.answer led.leads; none_held = none_held m one ts (most - 1) t new rest none } in
+        let second : TookStep m leads.answer last u = record { takes = leads.takes; memory = led_memory leads.answer leads.leads; none_held = none_held m other us (most - 1) u behind others held } in
+        let both = step_one m alone led.answer leads.answer old last t u f like first second in
+        both_walk one other ts us (most - 1) t u new behind k l (step_stays m led.answer old t first.memory f first.takes) both.1 rest others none held
+
+    turns : (one other : RecordTurn) (old last new behind : Turning D) → IsFit old.side → plain_turning heard old ≡ plain_turning heard last → Turned heard m one old new → Turned heard m other last behind →
+        (one ≡ other) × (plain_turning heard new ≡ plain_turning heard behind)
+    turns one other old last new behind f like h g =
+        let (ts, first) = walks m one old new h.turns in
+        let (us, second) = walks m other last behind g.turns in
+        both_walk one other ts us MOST_STEPS old last new behind h.memory g.memory f like first second h.none_held g.none_held
+
+  -- ---- it stays fit
+
+  walk_stays : (m : Means) (one : RecordTurn) (ts : List (Turning D)) (most : ℕ) (old new : Turning D) → one ≢ turn.NoMemory → IsFit old.side → Walks m one ts most old new → IsFit new.side
+  walk_stays m one [] most old new k f (inl h) = step_stays m h.answer old new (ended_memory one h.answer k h.ends) f h.takes
+  walk_stays m one [] most old new k f (inr (inl h)) = subst (λ (t : Turning D). IsFit t.side) h.same f
+  walk_stays m one [] most old new k f (inr (inr h)) = subst (λ (t : Turning D). IsFit t.side) h.same f
+  walk_stays m one (t ∷ ts) most old new k f (led, some, rest) = walk_stays m one ts (most - 1) t new k (step_stays m led.answer old t (led_memory led.answer led.leads) f led.takes) rest
+
+  stays : (m : Means) (one : RecordTurn) (old new : Turning D) → IsFit old.side → Turned heard m one old new → IsFit new.side
+  stays m one old new f h = let (ts, walk) = walks m one old new h.turns in walk_stays m one ts MOST_STEPS old new h.memory f walk
+
+pub alike : {D : Type 0} (heard : D → List Heard) → LikeRecordsTurnAlike D heard
+alike heard = record { turns = λ m one other old last new behind alone. turns heard m alone one other old last new behind; stays = stays heard }

@@ -1,0 +1,31 @@
+-- The mails of two centers that are alike, emptied. This project's own.
+use Rattle.std.specs.Prelude.{◌≡◌, ◌≢◌, List, map}
+use Rattle.m2_dispatch.specs.Heard.{Heard}
+use Rattle.m2_dispatch.specs.declared.letter.Letter.{Letter}
+use Rattle.m2_dispatch.specs.m2_shared.Place.{IsAlone, Place}
+use Rattle.m2_dispatch.specs.m2_shared.Throttle.{SeenTakePass}
+use Rattle.m2_turn.specs.Mailing.{Mailing, Mails}
+use Rattle.m2_turn.specs.declared.mailing.Mailed.{Mailed}
+use Rattle.m2_turn.specs.declared.mailing.Mailed.TheVariants as mailed
+use Rattle.m2_exact.specs.Records.{bare_letter, bare_take}
+use Rattle.m2_exact.specs.RecordTurns.{PlainOut, plain_out}
+
+-- where parcels go, the letters that wait in the queue, and the calls that its dispatcher had
+pub record PlainMailing : Type 0 where
+  pub out : PlainOut
+  pub waiting : List Letter
+  pub queued : List Heard
+  pub bytes : SeenTakePass
+
+abbrev pub plain_mailing : {D : Type 0} → (D → List Heard) → Mailing D → PlainMailing
+plain_mailing heard m = record {
+  out = plain_out heard m.out;
+  waiting = map bare_letter m.queue.queued.waiting;
+  queued = heard m.queue.queued.inner;
+  bytes = bare_take m.queue.bytes;
+}
+
+-- Mails that are alike are emptied alike, where memory lasts and no thread shares the word of the throttle.
+pub record LikeMailsEmptyAlike (D : Type 0) (heard : D → List Heard) : Type 0 where
+  pub mails : (place : Place) (one other : Mailed) (old last new behind : Mailing D) → IsAlone place → plain_mailing heard old ≡ plain_mailing heard last → one ≢ mailed.NoMemory →
+      other ≢ mailed.NoMemory → Mails heard place one old new → Mails heard place other last behind → (one ≡ other) × (plain_mailing heard new ≡ plain_mailing heard behind)

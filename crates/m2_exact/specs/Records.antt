@@ -1,0 +1,95 @@
+-- One step of each of two records that are alike but for room and for where the parts of messages lie, where the ends of their
+-- feeds are in memory, and the words of their throttle and their counter are alone. This project's own.
+use Rattle.std.specs.Prelude.{◌≡◌, ◌≢◌, ℕ, [], map, None}
+use Rattle.m2_turn.specs.m2_core.CoreNow.{IsAskedIfSigned}
+use Rattle.m2_dispatch.specs.declared.letter.Letter.{Letter}
+use Rattle.m2_dispatch.specs.declared.parcel.Parcel.{Parcel}
+use Rattle.m2_dispatch.specs.declared.parcel.Parcel.TheVariants as parcel
+use Rattle.m2_dispatch.specs.m2_message.declared.message.Message.{Message}
+use Rattle.m2_dispatch.specs.m2_shared.Numbers.{SeenNumberPass}
+use Rattle.m2_dispatch.specs.m2_shared.Place.{IsAlone, Place}
+use Rattle.m2_dispatch.specs.m2_shared.Throttle.{SeenTakePass, SeenThrottle}
+use Rattle.m2_turn.specs.m2_record.IsRecord.{no_room}
+use Rattle.m2_turn.specs.m2_record.RecordNow.{RecordNow}
+use Rattle.m2_turn.specs.m2_record.Stepping.{StepsAs, Worked}
+use Rattle.m2_turn.specs.m2_record.declared.stepped.Stepped.{Stepped}
+use Rattle.m2_turn.specs.m2_record.declared.stepped.Stepped.TheVariants as stepped
+use Rattle.m2_exact.specs.Cores.{FeedIsInMemory, roomless}
+
+-- ---- what is forgotten
+
+-- How much room is behind the parts of a message. A message is dispatched, counted and printed by its bytes.
+abbrev pub bare_message : Message → Message
+bare_message m = record m { front = record m.front { room = 0 }; middle = record m.middle { room = 0 }; tail = record m.tail { room = 0 } }
+
+abbrev pub bare_letter : Letter → Letter
+bare_letter l = record l { message = bare_message l.message }
+
+abbrev pub bare_parcel : Parcel → Parcel
+bare_parcel (parcel.Letter l) = parcel.Letter (bare_letter l)
+bare_parcel (parcel.Discard peer) = parcel.Discard peer
+bare_parcel (parcel.RemoteReset peer) = parcel.RemoteReset peer
+
+-- How much room a record and its feed have. By room it is told whether memory is wanted, and nothing else.
+abbrev pub plain : RecordNow → RecordNow
+plain r = record r { core = roomless r.core; parcels = map bare_parcel r.parcels; room = no_room }
+
+abbrev pub bare_answer : Stepped → Stepped
+bare_answer (stepped.Hand x) = stepped.Hand (bare_parcel x)
+bare_answer answer = answer
+
+-- Of a pass to a throttle, where its word lies, which the throttle tells, and what it did to a word that threads share. Where the
+-- word is alone a grant is decided by it.
+abbrev pub bare_take : SeenTakePass → SeenTakePass
+bare_take p = record p { place = None; changes = [] }
+
+-- of a pass to a counter, where its word lies, which the counter tells
+abbrev pub bare_numbers : SeenNumberPass → SeenNumberPass
+bare_numbers p = record p { place = None }
+
+-- ---- a step
+
+-- what it begins with: the moment, the throttle and where the counter's word lies, and both passes
+pub record Begun : Type 0 where
+  pub now : ℕ
+  pub throttle : SeenThrottle
+  pub counter : Place
+  pub bytes : SeenTakePass
+  pub numbers : SeenNumberPass
+
+abbrev pub begun : Worked → Begun
+begun w = record {
+  now = w.now;
+  throttle = w.bytes.throttle;
+  counter = w.numbers.place;
+  bytes = bare_take w.bytes.before;
+  numbers = bare_numbers w.numbers.before;
+}
+
+-- what it comes to: its answer, and both passes
+pub record Done : Type 0 where
+  pub answer : Stepped
+  pub bytes : SeenTakePass
+  pub numbers : SeenNumberPass
+
+abbrev pub done : Worked → Done
+done w = record { answer = bare_answer w.answer; bytes = bare_take w.bytes.behind; numbers = bare_numbers w.numbers.behind }
+
+-- no thread shares the words
+pub record AreAlone (w : Worked) : Type 0 where
+  pub throttle : IsAlone w.bytes.throttle.place
+  pub counter : IsAlone w.numbers.place
+
+-- the step that was taken so, and found memory
+pub record Took (w : Worked) (old new : RecordNow) : Type 0 where
+  pub steps : StepsAs w.answer w old new
+  pub memory : w.answer ≢ stepped.NoMemory
+
+-- Where nothing was asked before both sides had signed, steps that begin alike, of records that are alike, come to the same, and the
+-- records stay alike. They stay over ends in memory, and so it stays with what was asked.
+pub record LikeRecordsStepAlike : Type 0 where
+  pub steps : (w v : Worked) (r s new behind : RecordNow) → FeedIsInMemory r.core → IsAskedIfSigned r.core.live.session.phase r.core.live.feed → AreAlone w →
+      begun w ≡ begun v → plain r ≡ plain s → Took w r new → Took v s behind → (done w ≡ done v) × (plain new ≡ plain behind)
+  pub stays : (w : Worked) (old new : RecordNow) → FeedIsInMemory old.core → Took w old new → FeedIsInMemory new.core
+  pub signed : (w : Worked) (old new : RecordNow) → IsAskedIfSigned old.core.live.session.phase old.core.live.feed → Took w old new →
+      IsAskedIfSigned new.core.live.session.phase new.core.live.feed
