@@ -18,4 +18,6 @@ if [ -z "$program" ]; then
   program=$crate/out/run_load
 fi
 ${CC:-cc} -O2 -pthread -o "$room/run_pair" run_pair.c
+# As `msgr2 run` has it.
+export MALLOC_MMAP_THRESHOLD_=131072
 python3 run.py "$program" "$room/run_pair"
