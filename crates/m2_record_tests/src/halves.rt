@@ -6,7 +6,6 @@ use crate::planned::at;
 use m2_addr::Addr;
 use m2_center::{half_log, home};
 use m2_fabric::{Port, SimEnd, SimPort, SocketId};
-use m2_trail::Loose;
 use m2_turn::{Accepted, MOST_HALVES, Pendings, accept_all, leave_all};
 use std::alloc::Global;
 use std::process::Abort;
@@ -46,7 +45,7 @@ fn sockets_beyond_the_halves_are_closed_at_once(rt: HostRuntime) {
     let alloc = rt.alloc();
     let mut port = SimPort::new(alloc, at(1));
     let mut halves = none(&rt, alloc);
-    let mut loose: Vec<Loose<SimEnd>> = Vec::new(alloc);
+    let mut loose = Vec::new(alloc);
     for turn in 1..67 {
         comes(&rt, &mut port, turn);
     }
