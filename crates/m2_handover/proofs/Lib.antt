@@ -1,0 +1,5 @@
+pub mod Again
+pub mod Doors
+pub mod Homes
+pub mod Shown
+pub mod Weights

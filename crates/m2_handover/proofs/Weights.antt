@@ -1,0 +1,131 @@
+-- Sockets of a door, however they are weighed.
+use Rattle.std.proofs.Common.{◌≡◌, ℕ, zero, suc, ◌+◌, List, [], ◌∷◌, ◌++◌, slice_get, slice_set, sum_by, Option, Some, None, refl, sym, ap, ◌∙◌, arith}
+use Rattle.std.proofs.lemmas.List.Sums.{sum_by-cons, sum_by_push}
+use Rattle.m2_fabric.specs.declared.socket.SocketId.{SocketId}
+use Rattle.m2_mailbox.specs.Views.{put_by}
+use Rattle.m2_trail.specs.Arrivals.{LooseNow}
+use Rattle.m2_handover.specs.Door.{DoorNow, GoesBy, Hands, KeepsAll, Stands, TakesIn, weight_of, weight_on_way, weight_put, weight_through}
+use Rattle.m2_handover.specs.Handed.{OnItsWay}
+
+-- ---- lists
+
+put_weighs : {X : Type 0} (f : X → ℕ) (item : X) (puts : List (List X)) → sum_by (sum_by f) (put_by item puts) ≡ sum_by (sum_by f) puts + f item
+put_weighs f item [] = omega (arith, sum_by-cons (sum_by f) (item ∷ []) [], sum_by-cons f item [])
+put_weighs f item (own ∷ joined) =
+    omega (arith, sum_by-cons (sum_by f) (own ++ item ∷ []) joined, sum_by-cons (sum_by f) own joined, sum_by_push f own item)
+
+set_weighs : {X : Type 0} (f : X → ℕ) (xs : List X) (k : ℕ) (old new : X) → slice_get xs k ≡ Some old → sum_by f (slice_set xs k new) + f old ≡ sum_by f xs + f new
+set_weighs f [] k old new there = absurd (cc)
+set_weighs f (x ∷ xs) zero old new there =
+    let is : x ≡ old = cc in let same : f x ≡ f old = ap f is in omega (arith, sum_by-cons f x xs, sum_by-cons f new xs, same)
+set_weighs f (x ∷ xs) (suc k) old new there =
+    let rest = set_weighs f xs k old new there in omega (arith, sum_by-cons f x xs, sum_by-cons f x (slice_set xs k new), rest)
+
+-- ---- one after another
+
+pub keeps_same : (d : DoorNow) → KeepsAll d d
+keeps_same d weight = refl
+
+pub keeps_more : (a b c : DoorNow) → KeepsAll a b → KeepsAll b c → KeepsAll a c
+keeps_more a b c f g weight = g weight ∙ f weight
+
+pub takes_none : (before after : List SocketId) (d : DoorNow) → after ≡ before → TakesIn before after d d
+takes_none before after d e weight = ap (λ made. weight_through weight d + sum_by weight made) (sym e)
+
+pub takes_in_more : (x y z : List SocketId) (a b c : DoorNow) → TakesIn x y a b → TakesIn y z b c → TakesIn x z a c
+takes_in_more x y z a b c f g weight = omega (arith, f weight, g weight)
+
+pub takes_then_keeps : (x y : List SocketId) (a b c : DoorNow) → TakesIn x y a b → KeepsAll b c → TakesIn x y a c
+takes_then_keeps x y a b c f g weight = omega (arith, f weight, g weight)
+
+-- ---- a socket comes
+
+pub comes_in : (id : SocketId) (before after : List SocketId) (old new : DoorNow) → Stands id (old.halves, old.over) (new.halves, new.over) → new.asked ≡ old.asked
+    → new.put ≡ old.put → after ≡ before ++ id ∷ [] → TakesIn before after old new
+comes_in id before after old new stands asked put made weight =
+    let more : sum_by weight after ≡ sum_by weight before + weight id = ap (sum_by weight) made ∙ sum_by_push weight before id in
+    let same : sum_by (weight_on_way weight) new.asked ≡ sum_by (weight_on_way weight) old.asked = ap (sum_by (weight_on_way weight)) asked in
+    let sent : weight_put weight new.put ≡ weight_put weight old.put = ap (weight_put weight) put in
+    omega (arith, stands weight, more, same, sent)
+
+pub stands_last : (id : SocketId) (halves over after : List LooseNow) (l : LooseNow) → after ≡ halves ++ l ∷ [] → l.end.id ≡ id → Stands id (halves, over) (after, over)
+stands_last id halves over after l e is weight =
+    let more : sum_by (weight_of weight) after ≡ sum_by (weight_of weight) halves + weight l.end.id = ap (sum_by (weight_of weight)) e ∙ sum_by_push (weight_of weight) halves l in
+    let same : weight l.end.id ≡ weight id = ap weight is in
+    omega (arith, more, same)
+
+pub is_over_last : (id : SocketId) (halves over after : List LooseNow) (l : LooseNow) → after ≡ over ++ l ∷ [] → l.end.id ≡ id → Stands id (halves, over) (halves, after)
+is_over_last id halves over after l e is weight =
+    let more : sum_by (weight_of weight) after ≡ sum_by (weight_of weight) over + weight l.end.id = ap (sum_by (weight_of weight)) e ∙ sum_by_push (weight_of weight) over l in
+    let same : weight l.end.id ≡ weight id = ap weight is in
+    omega (arith, more, same)
+
+-- ---- the half that comes next
+
+-- it goes on, and is the last one then
+pub goes_on : (old new : DoorNow) (h g : LooseNow) (rest : List LooseNow) → old.halves ≡ h ∷ rest → new.halves ≡ rest ++ g ∷ [] → g.end.id ≡ h.end.id
+    → new.asked ≡ old.asked → new.over ≡ old.over → new.put ≡ old.put → KeepsAll old new
+goes_on old new h g rest was is id asked over put weight =
+    let f = weight_of weight in
+    let before : sum_by f old.halves ≡ weight h.end.id + sum_by f rest = ap (sum_by f) was ∙ sum_by-cons f h rest in
+    let after : sum_by f new.halves ≡ sum_by f rest + weight g.end.id = ap (sum_by f) is ∙ sum_by_push f rest g in
+    let one : weight g.end.id ≡ weight h.end.id = ap weight id in
+    let same : sum_by (weight_on_way weight) new.asked ≡ sum_by (weight_on_way weight) old.asked = ap (sum_by (weight_on_way weight)) asked in
+    let done : sum_by f new.over ≡ sum_by f old.over = ap (sum_by f) over in
+    let sent : weight_put weight new.put ≡ weight_put weight old.put = ap (weight_put weight) put in
+    omega (arith, before, after, one, same, done, sent)
+
+-- it was asked
+pub is_asked : (old new : DoorNow) (h : LooseNow) (a : OnItsWay) → old.halves ≡ h ∷ new.halves → new.asked ≡ old.asked ++ a ∷ [] → a.end.id ≡ h.end.id
+    → new.over ≡ old.over → new.put ≡ old.put → KeepsAll old new
+is_asked old new h a was is id over put weight =
+    let f = weight_of weight in
+    let g = weight_on_way weight in
+    let before : sum_by f old.halves ≡ weight h.end.id + sum_by f new.halves = ap (sum_by f) was ∙ sum_by-cons f h new.halves in
+    let after : sum_by g new.asked ≡ sum_by g old.asked + weight a.end.id = ap (sum_by g) is ∙ sum_by_push g old.asked a in
+    let one : weight a.end.id ≡ weight h.end.id = ap weight id in
+    let done : sum_by f new.over ≡ sum_by f old.over = ap (sum_by f) over in
+    let sent : weight_put weight new.put ≡ weight_put weight old.put = ap (weight_put weight) put in
+    omega (arith, before, after, one, done, sent)
+
+-- it is over
+pub is_over : (old new : DoorNow) (h l : LooseNow) → old.halves ≡ h ∷ new.halves → new.over ≡ old.over ++ l ∷ [] → l.end.id ≡ h.end.id
+    → new.asked ≡ old.asked → new.put ≡ old.put → KeepsAll old new
+is_over old new h l was is id asked put weight =
+    let f = weight_of weight in
+    let before : sum_by f old.halves ≡ weight h.end.id + sum_by f new.halves = ap (sum_by f) was ∙ sum_by-cons f h new.halves in
+    let after : sum_by f new.over ≡ sum_by f old.over + weight l.end.id = ap (sum_by f) is ∙ sum_by_push f old.over l in
+    let one : weight l.end.id ≡ weight h.end.id = ap weight id in
+    let same : sum_by (weight_on_way weight) new.asked ≡ sum_by (weight_on_way weight) old.asked = ap (sum_by (weight_on_way weight)) asked in
+    let sent : weight_put weight new.put ≡ weight_put weight old.put = ap (weight_put weight) put in
+    omega (arith, before, after, one, same, sent)
+
+-- ---- the asked socket that comes next
+
+pub goes_by : (weight : SocketId → ℕ) (place : ℕ) (h : OnItsWay) (old new : List (List (List OnItsWay))) → GoesBy place h old new
+    → weight_put weight new ≡ weight_put weight old + weight h.end.id
+goes_by weight place h old new g =
+    let f = sum_by (sum_by (weight_on_way weight)) in
+    let put : weight_put weight new ≡ sum_by f (slice_set old place (put_by h g.before)) = ap (weight_put weight) g.put in
+    omega (arith, put, set_weighs f old place g.before (put_by h g.before) g.there, put_weighs (weight_on_way weight) h g.before)
+
+pub is_handed : (old new : DoorNow) (h : OnItsWay) → old.asked ≡ h ∷ new.asked → Hands None h old.put new.put → new.halves ≡ old.halves → new.over ≡ old.over → KeepsAll old new
+is_handed old new h was hands halves over weight =
+    let g = weight_on_way weight in
+    let before : sum_by g old.asked ≡ weight h.end.id + sum_by g new.asked = ap (sum_by g) was ∙ sum_by-cons g h new.asked in
+    let sent = goes_by weight hands.0 h old.put new.put hands.1 in
+    let same : sum_by (weight_of weight) new.halves ≡ sum_by (weight_of weight) old.halves = ap (sum_by (weight_of weight)) halves in
+    let done : sum_by (weight_of weight) new.over ≡ sum_by (weight_of weight) old.over = ap (sum_by (weight_of weight)) over in
+    omega (arith, before, sent, same, done)
+
+pub comes_back : (old new : DoorNow) (h left : OnItsWay) (rest : List OnItsWay) → old.asked ≡ h ∷ rest → new.asked ≡ rest ++ left ∷ [] → Hands (Some left) h old.put new.put
+    → new.halves ≡ old.halves → new.over ≡ old.over → KeepsAll old new
+comes_back old new h left rest was is hands halves over weight =
+    let g = weight_on_way weight in
+    let before : sum_by g old.asked ≡ weight h.end.id + sum_by g rest = ap (sum_by g) was ∙ sum_by-cons g h rest in
+    let after : sum_by g new.asked ≡ sum_by g rest + weight left.end.id = ap (sum_by g) is ∙ sum_by_push g rest left in
+    let one : weight left.end.id ≡ weight h.end.id = ap (weight_on_way weight) hands.0 in
+    let sent : weight_put weight new.put ≡ weight_put weight old.put = ap (weight_put weight) hands.1 in
+    let same : sum_by (weight_of weight) new.halves ≡ sum_by (weight_of weight) old.halves = ap (sum_by (weight_of weight)) halves in
+    let done : sum_by (weight_of weight) new.over ≡ sum_by (weight_of weight) old.over = ap (sum_by (weight_of weight)) over in
+    omega (arith, before, after, one, sent, same, done)

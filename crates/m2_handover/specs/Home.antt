@@ -1,0 +1,94 @@
+-- What contracts see of the port of an event thread of a node that has several. This project's own.
+use Rattle.std.specs.Prelude.{◌≡◌, ◌⊎◌, ℕ, ◌+◌, Bool, true, List, [], ◌++◌, map, sum_by, Option, Some, None}
+use Rattle.std.specs.List.{AllByRecursion}
+use Rattle.std.specs.Option.{option_to_list}
+use Rattle.m2_fabric.specs.End.{SeenEnd}
+use Rattle.m2_fabric.specs.Log.{nothing_done}
+use Rattle.m2_fabric.specs.Port.{Accepts, SeenPort}
+use Rattle.m2_fabric.specs.Sockets.{goes_to, is_among}
+use Rattle.m2_fabric.specs.declared.port.Taken.{Taken}
+use Rattle.m2_fabric.specs.declared.socket.SocketId.{SocketId}
+use Rattle.m2_handover.specs.Door.{DoorNow, left_at, weight_of, weight_on_way, weight_put, weight_through}
+use Rattle.m2_handover.specs.End.{told_nothing}
+use Rattle.m2_handover.specs.Handed.{OnItsWay, left_behind}
+use Rattle.m2_trail.specs.Arrivals.{LooseNow}
+
+-- The port inside; the sockets that this one made, in order, and for how many more there is room; whether its last accept found none;
+-- what was taken out of its inbox, in order; the last of that, where it wasn't accepted yet; and the node's door, where it has it.
+pub record HomeNow : Type 0 where
+  pub inner : SeenPort
+  pub made : List SocketId
+  pub room : ℕ
+  pub quiet : Bool
+  pub taken : List OnItsWay
+  pub next : Option OnItsWay
+  pub door : Option DoorNow
+
+-- What every port shows, of this one: it accepts what is handed over, whether or not the port inside accepts; it tells
+-- nothing of what waits, and has no cuts.
+abbrev pub shown : HomeNow → SeenPort
+shown h = record h.inner { accepts = true; made = h.made; quiet = h.quiet; cuts = []; waiting = None }
+
+-- an end that begins anew
+abbrev pub begun_again : SeenEnd → SeenEnd
+begun_again e = record (told_nothing e) { log = nothing_done }
+
+-- ---- its calls
+
+-- a socket that was handed over, as an accept gives it; none: every port shows the same
+abbrev pub TakesOver : Option (Taken SeenEnd) → HomeNow → HomeNow → Type 0
+TakesOver None old new = shown new ≡ shown old
+TakesOver (Some taken) old new = Accepts taken (shown old) (shown new)
+
+-- only the port inside and the door change
+pub record IsSameButInner (old new : HomeNow) : Type 0 where
+  pub made : new.made ≡ old.made
+  pub room : new.room ≡ old.room
+  pub quiet : new.quiet ≡ old.quiet
+  pub taken : new.taken ≡ old.taken
+  pub next : new.next ≡ old.next
+
+-- ---- where its sockets are
+
+abbrev pub weight_at_door : (SocketId → ℕ) → Option DoorNow → ℕ
+weight_at_door weight None = 0
+weight_at_door weight (Some d) = weight_through weight d
+
+abbrev pub weight_next : (SocketId → ℕ) → Option OnItsWay → ℕ
+weight_next weight None = 0
+weight_next weight (Some h) = weight_on_way weight h
+
+-- However sockets are weighed: those that the port inside has made, and those that were taken out of the inbox, weigh what those weigh that
+-- this port has made, the one that was taken and not accepted yet, those at its door, and those that its door has handed over. So each is in
+-- one of these places, as often as it was made or taken.
+abbrev pub IsBalanced : HomeNow → Type 0
+IsBalanced h = (weight : SocketId → ℕ) → sum_by weight h.inner.made + sum_by (weight_on_way weight) h.taken
+    ≡ sum_by weight h.made + weight_next weight h.next + weight_at_door weight h.door
+
+-- each socket that it has made is one of the port inside, or goes to the node's own address
+abbrev pub IsKnown : SeenPort → SocketId → Type 0
+IsKnown inner socket = (is_among socket inner.made ≡ true) ⊎ (goes_to inner.at socket ≡ true)
+
+-- what its type keeps
+abbrev pub IsHome : HomeNow → Type 0
+IsHome h = IsBalanced h × AllByRecursion (IsKnown h.inner) h.made
+
+-- ---- its end
+
+abbrev pub left_at_door : Option DoorNow → List LooseNow
+left_at_door None = []
+left_at_door (Some d) = left_at d
+
+-- all halves that it has and that no thread of the node went on with: those at its door, and the one that was taken and not accepted yet
+abbrev pub halves_at : HomeNow → List LooseNow
+halves_at h = left_at_door h.door ++ map left_behind (option_to_list h.next)
+
+-- what was put by the ways of its door
+abbrev pub put_at : Option DoorNow → List (List (List OnItsWay))
+put_at None = []
+put_at (Some d) = d.put
+
+-- The same of a port that was taken apart: its sockets are among those that it has made, in halves that are left, or were handed over.
+abbrev pub AreAllThere : HomeNow → List LooseNow → Type 0
+AreAllThere h halves = (weight : SocketId → ℕ) → sum_by weight h.inner.made + sum_by (weight_on_way weight) h.taken
+    ≡ sum_by weight h.made + sum_by (weight_of weight) halves + weight_put weight (put_at h.door)

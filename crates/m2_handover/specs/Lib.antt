@@ -1,0 +1,5 @@
+pub mod Door
+pub mod End
+pub mod Handed
+pub mod Home
+pub mod Past

@@ -1,0 +1,326 @@
+//! The door of a node: sockets that it accepts for all of its event threads.
+
+ghost use Rattle.std.specs.Prelude.{◌≡◌, ◌+◌, ◌++◌, ◌<◌, ◌≤◌, [], IfOk, IsSome, OnOk, length, map, vec_capacity, vec_len};
+ghost use Rattle.std.specs.VecDeque.{deque_capacity, deque_len};
+ghost use Rattle.m2_handover.specs.Door.{Hands, KeepsAll, LetsIn, LetsOneIn, Stands, TakesIn, left_at};
+ghost use Rattle.m2_handover.specs.Handed.{left_behind};
+ghost use Rattle.m2_handover.specs.declared.door.TheConstants.{MOST_AT_DOOR};
+ghost use Rattle.m2_trail.specs.declared.incoming.TheConstants.{MOST_READ};
+
+use crate::handed::Handed;
+use crate::names::Inboxes;
+use crate::way::Way;
+use m2_bytes::{Items, NoMemory};
+use m2_fabric::{End, Port, Taken};
+use m2_trail::{
+    Arrival, HalfTurn, Incoming, Loose, LooseList, MOST_READ, advance, turns_leave_the_half,
+};
+use std::alloc::Global;
+use std::collections::VecDeque;
+use std::marker::Model;
+use std::sync::Wait;
+
+/// How many sockets stand at a door at most, that weren't asked yet or whose home has no room. A further one is closed.
+pub const MOST_AT_DOOR: usize = 64;
+
+/// How many sockets are accepted in a turn at most.
+const MOST_ACCEPTS: u32 = 4096;
+
+/// How long its thread waits at most while an asked socket waits for room at its home, in milliseconds: nobody wakes it.
+const ROOM_WAIT: u32 = 1;
+
+/// What a turn of the door came to.
+#[derive(Clone, Copy, Debug, PartialEq, Eq)]
+pub(crate) enum DoorTurn {
+    Done,
+    /// An accept failed.
+    Failed,
+    NoMemory,
+}
+
+/// A half at a door, of which nothing was judged. Contracts see it as it may be left.
+#[derive(Drop)]
+struct AtDoor<E: End> {
+    half: Incoming<E>,
+    ghost unjudged: { half.trail.judged ≡ [] },
+}
+
+impl<E: End> Model for AtDoor<E> {
+    ghost use Rattle.m2_trail.specs.Arrivals.{LooseNow, left_of};
+
+    ghost Value = { LooseNow };
+
+    ghost view = { λ d. left_of d.half };
+}
+
+/// The door of a node: it accepts, shakes hands until it is asked, and hands each socket over to the thread with which the
+/// asking address is at home.
+///
+/// Contracts see the halves that weren't asked yet, the sockets that were and whose home has had no room, the halves that are
+/// over, and what was put by each way. No socket that came to it is lost: each stays in one of these places.
+#[derive(Drop)]
+pub struct Door<'a, P: Port, B: Inboxes> {
+    alloc: Global,
+    entity: u8,
+    halves: VecDeque<AtDoor<P::End>>,
+    asked: VecDeque<Handed<P::End>>,
+    over: Vec<Loose<P::End>>,
+    /// What halves read into.
+    piece: Vec<u8>,
+    ways: Vec<Way<'a, P::End, B>>,
+    /// Whether something is there to be done at once.
+    busy: bool,
+    ghost long: { length piece.items ≡ MOST_READ },
+    ghost few: { deque_len halves + deque_len asked ≤ MOST_AT_DOOR },
+    ghost room_of_halves: { MOST_AT_DOOR ≤ deque_capacity halves },
+    ghost room_of_asked: { MOST_AT_DOOR ≤ deque_capacity asked },
+}
+
+impl<'a, P: Port, B: Inboxes> Model for Door<'a, P, B> {
+    ghost use Rattle.m2_handover.specs.Door.{DoorNow};
+
+    ghost Value = { DoorNow };
+
+    ghost view = { λ d. record { halves = d.halves.items; asked = d.asked.items; over = d.over.items; put = d.ways.items } };
+}
+
+impl<'a, P: Port, B: Inboxes> Door<'a, P, B> {
+    /// A door of a node of this kind, to which nobody came yet, with the ways to its threads.
+    pub fn new(
+        alloc: Global,
+        entity: u8,
+        ways: Vec<Way<'a, P::End, B>>,
+    ) -> Result<Door<'a, P, B>, NoMemory>
+        ensures { IfOk result (λ d. d ≡ record { halves = []; asked = []; over = []; put = ways.entry.items }) }
+    {
+        Ok(Door {
+            alloc,
+            entity,
+            halves: VecDeque::with_capacity(alloc, MOST_AT_DOOR)?,
+            asked: VecDeque::with_capacity(alloc, MOST_AT_DOOR)?,
+            over: Vec::new(alloc),
+            piece: Vec::from_elem(alloc, 0, MOST_READ)?,
+            ways,
+            busy: false,
+        })
+    }
+
+    /// How long its thread may wait of so many milliseconds.
+    pub(crate) fn patience(&self, most: u32) -> u32 {
+        if self.busy {
+            0
+        } else if self.asked.is_empty() {
+            most
+        } else {
+            most.min(ROOM_WAIT)
+        }
+    }
+
+    /// A turn: what waits at the port is accepted, and each socket goes on, whether or not an accept failed.
+    #[tactic(auto, using(crate::proofs::Weights::takes_then_keeps))]
+    pub(crate) fn turn<R: Wait>(&mut self, rt: &R, port: &mut P) -> DoorTurn
+        ensures lets { LetsIn result (P.seen port.old) (P.seen port.new) }
+        ensures sockets { TakesIn (P.seen port.old).made (P.seen port.new).made self.old self.new }
+    {
+        self.busy = false;
+        let accepted = self.accept_all(port);
+        if accepted == DoorTurn::NoMemory {
+            return accepted;
+        }
+        match self.go_on_all(rt, port) {
+            Err(NoMemory) if accepted == DoorTurn::Done => DoorTurn::NoMemory,
+            _ => accepted,
+        }
+    }
+
+    /// What waits at the port is accepted.
+    #[tactic(auto, using(crate::proofs::Doors::accepts_more, crate::proofs::Doors::lets_in_then, crate::proofs::Weights::takes_in_more))]
+    fn accept_all(&mut self, port: &mut P) -> DoorTurn
+        ensures lets { LetsIn result (P.seen port.old) (P.seen port.new) }
+        ensures sockets { TakesIn (P.seen port.old).made (P.seen port.new).made self.old self.new }
+    {
+        'accepts: for _ in 0..MOST_ACCEPTS {
+            if let Some(end) = self.accept(port) {
+                return end;
+            }
+        }
+        self.busy = true;
+        DoorTurn::Done
+    }
+
+    /// Accepts one socket. None: there was one.
+    #[tactic(auto, using(crate::proofs::Doors::lets_none, crate::proofs::Doors::lets_made, crate::proofs::Doors::lets_nothing, crate::proofs::Doors::lets_failed, crate::proofs::Weights::comes_in, crate::proofs::Weights::takes_none))]
+    fn accept(&mut self, port: &mut P) -> Option<DoorTurn>
+        ensures lets { LetsOneIn result (P.seen port.old) (P.seen port.new) }
+        ensures sockets { TakesIn (P.seen port.old).made (P.seen port.new).made self.old self.new }
+    {
+        let mut entries = Items::empty(self.alloc);
+        if self.over.reserve(1).is_err() || entries.reserve(1).is_err() {
+            return Some(DoorTurn::NoMemory);
+        }
+        match port.accept() {
+            Taken::Made(end) => {
+                let half = Incoming::begin(self.alloc, end, self.entity, entries);
+                stand(&mut self.halves, self.asked.len(), &mut self.over, half);
+                None
+            }
+            Taken::NotYet => Some(DoorTurn::Done),
+            Taken::Failed => Some(DoorTurn::Failed),
+            Taken::NoMemory => Some(DoorTurn::NoMemory),
+        }
+    }
+
+    /// Each socket goes on: halves shake hands, and those that were asked are handed over.
+    #[tactic(auto, using(crate::proofs::Weights::keeps_same, crate::proofs::Weights::keeps_more))]
+    fn go_on_all<R: Wait>(&mut self, rt: &R, port: &P) -> Result<(), NoMemory>
+        ensures { KeepsAll self.old self.new }
+    {
+        'halves: for _ in 0..self.halves.len() {
+            self.shake(port)?;
+        }
+        'asked: for _ in 0..self.asked.len() {
+            self.hand_next(rt, port);
+        }
+        Ok(())
+    }
+
+    /// The half that comes next goes on, and is the last one then, unless it was asked or is over.
+    #[tactic(auto, using(crate::proofs::Weights::keeps_same))]
+    fn shake(&mut self, port: &P) -> Result<(), NoMemory>
+        ensures { KeepsAll self.old self.new }
+    {
+        if self.over.reserve(1).is_err() {
+            return Err(NoMemory);
+        }
+        let Some(AtDoor { mut half }) = self.halves.pop_front() else {
+            return Ok(());
+        };
+        turns_leave_the_half();
+        match advance(&mut half, self.piece.as_mut_slice()) {
+            HalfTurn::Asked => self.asked.push_back_reserved(asked(port, half)),
+            HalfTurn::Over => self.over.push_reserved(half.close()),
+            HalfTurn::Waits => self.halves.push_back_reserved(AtDoor { half }),
+            HalfTurn::Busy => {
+                self.busy = true;
+                self.halves.push_back_reserved(AtDoor { half });
+            }
+            HalfTurn::NoMemory => {
+                self.halves.push_back_reserved(AtDoor { half });
+                return Err(NoMemory);
+            }
+        }
+        Ok(())
+    }
+
+    /// The asked socket that comes next is handed over, and its home is woken. It is the last one then where that has no room.
+    #[tactic(auto, using(crate::proofs::Weights::keeps_same))]
+    fn hand_next<R: Wait>(&mut self, rt: &R, port: &P)
+        ensures { KeepsAll self.old self.new }
+    {
+        let Some(handed) = self.asked.pop_front() else {
+            return;
+        };
+        match hand(&mut self.ways, rt, handed) {
+            None => port.ring(),
+            Some(left) => self.asked.push_back_reserved(left),
+        }
+    }
+
+    /// All halves that nobody went on with, those that are over first; and the ways. Err is want of memory.
+    pub(crate) fn into_parts(self) -> Result<(LooseList<P::End>, Vec<Way<'a, P::End, B>>), NoMemory>
+        ensures halves { IfOk result (λ r. r.0.items ≡ left_at self.entry) }
+        ensures ways { IfOk result (λ r. r.1.items ≡ self.entry.put) }
+    {
+        let Door {
+            alloc: _,
+            entity: _,
+            halves,
+            asked,
+            over: mut left,
+            piece: _,
+            ways,
+            busy: _,
+        } = self;
+        leave_halves(halves, &mut left)?;
+        leave_asked(asked, &mut left)?;
+        Ok((Items::from_vec(left), ways))
+    }
+}
+
+/// A half stands among these from now on, or is closed where there are as many as there may be, with those that were asked.
+#[tactic(auto, using(crate::proofs::Weights::stands_last, crate::proofs::Weights::is_over_last))]
+fn stand<E: End>(
+    halves: &mut VecDeque<AtDoor<E>>,
+    asked: usize,
+    over: &mut Vec<Loose<E>>,
+    half: Incoming<E>,
+)
+    requires unjudged { half.trail.judged ≡ [] }
+    requires few { deque_len halves.old + asked ≤ MOST_AT_DOOR }
+    requires capacity { MOST_AT_DOOR ≤ deque_capacity halves.old }
+    requires room { vec_len over.old < vec_capacity over.old }
+    ensures few { deque_len halves.new + asked ≤ MOST_AT_DOOR }
+    ensures capacity { MOST_AT_DOOR ≤ deque_capacity halves.new }
+    ensures stands { Stands half.end.id (halves.old.items, over.old.items) (halves.new.items, over.new.items) }
+{
+    if halves.len() + asked < MOST_AT_DOOR {
+        halves.push_back_reserved(AtDoor { half });
+    } else {
+        over.push_reserved(half.close());
+    }
+}
+
+/// A socket whose half was asked. The port waits for it no more.
+fn asked<P: Port>(port: &P, half: Incoming<P::End>) -> Handed<P::End>
+    requires asked { IsSome half.ask }
+    requires unjudged { half.trail.judged ≡ [] }
+    ensures { result.end ≡ half.end }
+{
+    let mut handed = Handed::of(Arrival::of(half));
+    port.leave(&mut handed.end);
+    handed
+}
+
+/// Hands a socket over by the first way that takes it. It comes back where none has room.
+fn hand<E: End, R: Wait, B: Inboxes>(
+    ways: &mut Vec<Way<'_, E, B>>,
+    rt: &R,
+    handed: Handed<E>,
+) -> Option<Handed<E>>
+    ensures { Hands result handed ways.old.items ways.new.items }
+{
+    let mut left = handed;
+    'ways: for k in 0..ways.len() {
+        match ways[k].hand(rt, left) {
+            Ok(()) => return None,
+            Err(back) => left = back,
+        }
+    }
+    Some(left)
+}
+
+/// Leaves halves as they are, in order, behind these.
+fn leave_halves<E: End>(
+    mut halves: VecDeque<AtDoor<E>>,
+    left: &mut Vec<Loose<E>>,
+) -> Result<(), NoMemory>
+    ensures { OnOk result (left.new.items ≡ left.old.items ++ halves.items) }
+{
+    'halves: while let Some(AtDoor { half }) = halves.pop_front() {
+        left.push(half.leave())?;
+    }
+    Ok(())
+}
+
+/// The same of halves that were asked.
+fn leave_asked<E: End>(
+    mut asked: VecDeque<Handed<E>>,
+    left: &mut Vec<Loose<E>>,
+) -> Result<(), NoMemory>
+    ensures { OnOk result (left.new.items ≡ left.old.items ++ map left_behind asked.items) }
+{
+    'asked: while let Some(handed) = asked.pop_front() {
+        left.push(handed.into_loose())?;
+    }
+    Ok(())
+}
