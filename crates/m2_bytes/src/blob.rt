@@ -62,6 +62,13 @@ impl Blob {
         Blob::of(*self.vec.allocator(), self.as_slice())
     }
 
+    /// The vector that holds them.
+    pub(crate) fn into_vec(self) -> Vec<u8>
+        ensures { result.items ≡ self.bytes }
+    {
+        self.vec
+    }
+
     pub fn as_slice(&self) -> &[u8]
         ensures { result.now ≡ self.now.bytes }
     {

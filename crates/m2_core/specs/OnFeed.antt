@@ -1,27 +1,27 @@
 -- What one call leaves of a feed, where there is one.
-use Rattle.std.specs.Prelude.{◌≡◌, ℕ, ◌<◌, true, false, List, length, Option, Some, None, Result, Ok, Err}
+use Rattle.std.specs.Prelude.{◌≡◌, ℕ, ◌<◌, true, false, List, length, Option, Some, None, Result}
 use Rattle.m2_bytes.specs.declared.memory.NoMemory as memory
 use Rattle.m2_control.specs.declared.keepalive.Keepalive.{Keepalive}
 use Rattle.m2_fabric.specs.End.{after_news}
 use Rattle.m2_fabric.specs.declared.end.EndRead.{EndRead}
 use Rattle.m2_fabric.specs.declared.end.News.{News}
 use Rattle.m2_feed.specs.Calls as feed
-use Rattle.m2_feed.specs.Calls.{ComposesIfOk, GivesNext, GreetsOn, IsFront, NotesStamp, OnlyReads, Passes, PassesFrame, ReadsOn, Rests, WritesOn, answer_text, is_empty, with_grant}
+use Rattle.m2_feed.specs.Calls.{ComposesIfOk, GivesNext, GreetsOn, IsFront, NotesStamp, OnlyReads, PassesFrame, ReadsOn, Rests, TakesMessage, WritesOn, answer_text, is_empty, with_grant}
 use Rattle.m2_feed.specs.FeedNow.{FeedNow, Reading, is_framing}
 use Rattle.m2_feed.specs.FeedLaws.{PassesThe}
 use Rattle.m2_feed.specs.declared.answers.FeedWrite.{FeedWrite}
 use Rattle.m2_feed.specs.declared.writing.Writing.TheVariants as writing
 use Rattle.m2_feed.specs.declared.writing.Writing.{Writing}
-use Rattle.m2_frame.specs.Frame.{Parts, parts}
+use Rattle.m2_frame.specs.Frame.{Parts}
 use Rattle.m2_frame.specs.Reading.{Item, whole}
 use Rattle.m2_frame.specs.Text as frame
-use Rattle.m2_frame.specs.declared.frame.Frame.{Frame}
 use Rattle.m2_frame.specs.declared.got.Got.{Got}
 use Rattle.m2_handshake.specs.declared.answer.HalfStep.{HalfStep}
 use Rattle.m2_feed.specs.FrameHeard.{heard_of}
 use Rattle.m2_feed.specs.declared.frame_heard.FrameHeard.{FrameHeard}
 use Rattle.m2_feed.specs.declared.hearer.Hearer.{Hearer}
 use Rattle.m2_message.specs.Message.{Content, with_numbers}
+use Rattle.m2_message.specs.declared.message.Message.{Message}
 use Rattle.m2_message.specs.MessageFrame.{parts_of}
 use Rattle.m2_core.specs.LiveNow.{OnFeedNow}
 
@@ -54,11 +54,10 @@ abbrev pub NotesFeed : Result (Unit {0}) memory.NoMemory → Keepalive → Optio
 NotesFeed r k (Some old) (Some new) = NotesStamp r k old new
 NotesFeed r k _ _ = ⊥
 
--- the frame at the front is taken
-abbrev pub TakesFrame : Result Frame memory.NoMemory → Option FeedNow → Option FeedNow → Type 0
-TakesFrame (Ok f) (Some old) (Some new) = Passes old.reading (whole (parts f)) new.reading × OnlyReads old new
-TakesFrame (Err _) old new = new ≡ old
-TakesFrame r _ _ = ⊥
+-- the message of the frame at the front is taken, where memory lasts
+abbrev pub TakesFeed : Result Message memory.NoMemory → Option FeedNow → Option FeedNow → Type 0
+TakesFeed r (Some old) (Some new) = TakesMessage r old new
+TakesFeed r _ _ = ⊥
 
 -- one answer of its decoder
 abbrev pub GivesFeed : Got → Option FeedNow → Option FeedNow → Type 0

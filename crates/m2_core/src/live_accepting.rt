@@ -13,7 +13,7 @@ use crate::on_feed::take_on;
 use m2_bytes::NoMemory;
 use m2_fabric::End;
 use m2_feed::Feed;
-use m2_message::{Message, from_frame};
+use m2_message::Message;
 use m2_shared::Grant;
 
 impl<E: End> Live<E> {
@@ -37,18 +37,12 @@ impl<E: End> Live<E> {
 }
 
 /// Takes the message at the front of the feed, which has this number.
-#[tactic(auto, using(crate::proofs::LiveAccepted::has_frame_there, crate::proofs::LiveAccepted::is_tagged, crate::proofs::LiveAccepted::is_headed, crate::proofs::LiveAccepted::moves))]
+#[tactic(auto, using(crate::proofs::LiveAccepted::moves, crate::proofs::LiveAccepted::leaves))]
 fn take_message<E: End>(feed: &mut Option<Feed<E>>, number: u64) -> Result<Message, NoMemory>
     requires heard { (h : Hearer) × OnFeedNow feed.old (λ v. Hears h (heard.Brings number) v.reading) }
     ensures moves { (h : Hearer) → OnFeedNow feed.old (λ v. Hears h (heard.Brings number) v.reading) → MovesIfOk result h number feed.old feed.new }
     ensures err { OnErr result (feed.new ≡ feed.old) }
 {
     m2_feed::what_brings_a_message_is_one();
-    match take_on(feed) {
-        Ok(frame) => match from_frame(frame) {
-            Ok(message) => Ok(message),
-            Err(_) => unreachable!(),
-        },
-        Err(NoMemory) => Err(NoMemory),
-    }
+    take_on(feed)
 }

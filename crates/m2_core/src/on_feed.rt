@@ -3,21 +3,22 @@
 ghost use Rattle.std.specs.Prelude.{◌≡◌, ◌≤◌, ℕ, None, true, false, length, option_map, IfSome, IsNone, OnErr, OnOk};
 ghost use Rattle.std.specs.Option.{is_some};
 ghost use Rattle.m2_control.specs.Control.{IsWritable, text_of};
-ghost use Rattle.m2_feed.specs.Calls.{HasFrame, Owes, acknowledgement, is_empty};
+ghost use Rattle.m2_feed.specs.Calls.{HasFrame, HasMessage, Owes, acknowledgement, is_empty};
 ghost use Rattle.m2_feed.specs.FeedNow.{CanCompose, is_framing};
 ghost use Rattle.m2_feed.specs.declared.writing.Writing.TheVariants as writing;
 ghost use Rattle.m2_frame.specs.declared.frame.TheConstants.{CONTROL_LIMIT};
 ghost use Rattle.m2_handshake.specs.Texts.{frame_text};
 ghost use Rattle.m2_core.specs.LiveNow.{OnFeedNow};
 ghost use Rattle.m2_core.specs.Effects.{closed_of};
-ghost use Rattle.m2_core.specs.OnFeed.{AnswersStamp, CanAsk, CanWrite, ChangesRoom, ComposesAsk, ComposesFeed, GivesFeed, GreetsFeed, HasNoFrame, HasStamp, Hears, NotesFeed, PassesFeed, ReadsFeed, TakesFrame, WritesFeed, feed_after_news, granted_feed};
+ghost use Rattle.m2_core.specs.OnFeed.{AnswersStamp, CanAsk, CanWrite, ChangesRoom, ComposesAsk, ComposesFeed, GivesFeed, GreetsFeed, HasNoFrame, HasStamp, Hears, NotesFeed, PassesFeed, ReadsFeed, TakesFeed, WritesFeed, feed_after_news, granted_feed};
 
 use m2_bytes::NoMemory;
 use m2_control::{Control, Keepalive};
 use m2_fabric::{End, EndRead, News};
 use m2_feed::{Feed, FeedWrite, FrameHeard, Hearer, hear};
-use m2_frame::{Frame, Got};
+use m2_frame::Got;
 use m2_handshake::HalfStep;
+use m2_message::Message;
 
 /// Closes the feed.
 pub(crate) fn close_on<E: End>(feed: &mut Option<Feed<E>>) -> Option<E>
@@ -99,20 +100,14 @@ pub fn next_on<E: End>(feed: &mut Option<Feed<E>>) -> Got
     }
 }
 
-/// Takes the frame at the front of the feed.
-#[tactic(auto, using(crate::proofs::LiveAccepted::frames, crate::proofs::LiveAccepted::no_aborted, crate::proofs::LiveAccepted::no_size, crate::proofs::LiveAccepted::no_start, crate::proofs::LiveAccepted::no_fault))]
-pub(crate) fn take_on<E: End>(feed: &mut Option<Feed<E>>) -> Result<Frame, NoMemory>
-    requires { OnFeedNow feed.old (λ v. HasFrame v.reading) }
-    ensures { TakesFrame result feed.old feed.new }
+/// Takes the message that the frame at the front of the feed brings, a MESSAGE with a whole header.
+pub(crate) fn take_on<E: End>(feed: &mut Option<Feed<E>>) -> Result<Message, NoMemory>
+    requires { OnFeedNow feed.old (λ v. HasMessage v.reading) }
+    ensures { TakesFeed result feed.old feed.new }
 {
-    let Some(feed) = feed else { unreachable!() };
-    match feed.next() {
-        Got::Frame(frame) => Ok(frame),
-        Got::NoMemory => Err(NoMemory),
-        Got::Aborted { tag: _ } => unreachable!(),
-        Got::Size(_) => unreachable!(),
-        Got::NotYet => unreachable!(),
-        Got::Fault(_) => unreachable!(),
+    match feed {
+        Some(feed) => feed.take_message(),
+        None => unreachable!(),
     }
 }
 

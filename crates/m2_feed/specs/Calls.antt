@@ -11,7 +11,7 @@ use Rattle.m2_fabric.specs.declared.end.EndWrite.TheVariants as write
 use Rattle.m2_frame.specs.declared.fault.FrameFault.{FrameFault}
 use Rattle.m2_frame.specs.declared.got.Got.{Got}
 use Rattle.m2_frame.specs.declared.got.Got.TheVariants as got
-use Rattle.m2_frame.specs.Frame.{Parts, parts}
+use Rattle.m2_frame.specs.Frame.{Parts, message_tag, parts}
 use Rattle.m2_frame.specs.Reading.{Item, whole, dropped, start, bad, text, judge, owed_at}
 use Rattle.m2_handshake.specs.Asking.{is_ready}
 use Rattle.m2_handshake.specs.declared.answer.HalfStep.{HalfStep}
@@ -20,6 +20,10 @@ use Rattle.m2_handshake.specs.Half.{Answers}
 use Rattle.m2_handshake.specs.Moves.{is_at_rest, is_authed}
 use Rattle.m2_handshake.specs.Standing.{Standing, fed}
 use Rattle.m2_handshake.specs.Texts.{frame_text}
+use Rattle.m2_message.specs.declared.header_text.TheConstants.{HEADER_BYTES}
+use Rattle.m2_message.specs.declared.message.Message.{Message}
+use Rattle.m2_message.specs.Message.{content_of}
+use Rattle.m2_message.specs.MessageFrame.{message_in}
 use Rattle.m2_feed.specs.declared.answers.FeedWrite.{FeedWrite}
 use Rattle.m2_feed.specs.declared.answers.FeedWrite.TheVariants as put
 use Rattle.m2_feed.specs.declared.feed.TheConstants.{MOST_READ}
@@ -130,6 +134,24 @@ HasFrame r = (f : Parts) × (len : ℕ) × IsFront r (whole f) len
 
 abbrev pub PassesFrame : Reading → Reading → Type 0
 PassesFrame old new = (f : Parts) × Passes old (whole f) new
+
+-- a MESSAGE with a whole header stands at the front
+pub record HasMessage (r : Reading) : Type 0 where
+  pub frame : Parts
+  pub len : ℕ
+  pub front : IsFront r (whole frame) len
+  pub tag : frame.tag ≡ message_tag
+  pub header : length frame.first ≡ HEADER_BYTES
+
+-- the message that the frame at the front brings
+abbrev pub IsInFront : Message → Reading → Type 0
+IsInFront m r = (f : Parts) × (len : ℕ) × IsFront r (whole f) len × (content_of m ≡ message_in f)
+
+-- it is copied, and the frame is passed
+abbrev pub TakesMessage : Result Message memory.NoMemory → FeedNow → FeedNow → Type 0
+TakesMessage (Ok m) old new =
+    ((f : Parts) × Passes old.reading (whole f) new.reading × (content_of m ≡ message_in f)) × OnlyReads old new
+TakesMessage (Err _) old new = new ≡ old
 
 -- a size is asked for and isn't granted
 abbrev pub Owes : Reading → ℕ → Type 0

@@ -1,6 +1,6 @@
 //! A feed: the one open socket of a record.
 
-ghost use Rattle.std.specs.Prelude.{◌≡◌, ◌≢◌, ℕ, List, ◌≤◌, ◌<◌, ◌++◌, ◌∷◌, [], true, false, length, not, IsTrue, IsNone, IfSome, OnOk, OnErr, ◌↔◌};
+ghost use Rattle.std.specs.Prelude.{◌≡◌, ◌≢◌, ℕ, List, ◌≤◌, ◌<◌, ◌++◌, ◌∷◌, [], true, false, length, not, IsTrue, IsNone, IfOk, IfSome, OnOk, OnErr, ◌↔◌};
 ghost use Rattle.m2_control.specs.Control.{IsWritable, text_of};
 ghost use Rattle.m2_fabric.specs.End.{after_closing, after_news};
 ghost use Rattle.m2_frame.specs.declared.frame.TheConstants.{CONTROL_LIMIT};
@@ -11,9 +11,9 @@ ghost use Rattle.m2_frame.specs.View.{parts_seen};
 ghost use Rattle.m2_handshake.specs.Standing.{opener_at_start};
 ghost use Rattle.m2_handshake.specs.Texts.{frame_text};
 ghost use Rattle.m2_message.specs.Message.{IsSendable, content_of, with_numbers};
-ghost use Rattle.m2_message.specs.MessageFrame.{parts_of};
+ghost use Rattle.m2_message.specs.MessageFrame.{message_in, parts_of};
 ghost use Rattle.m2_feed.specs.declared.writing.Writing.TheVariants as writing;
-ghost use Rattle.m2_feed.specs.Calls.{Composes, ComposesIfOk, GivesNext, GreetsOn, HasFrame, IsFront, IsSameButRoom, NotesStamp, OnlyReads, Owes, PassesFrame, ReadsOn, Rests, WritesOn, acknowledgement, answer_text, at_acceptance, at_opening, is_empty, with_grant};
+ghost use Rattle.m2_feed.specs.Calls.{Composes, ComposesIfOk, GivesNext, GreetsOn, HasFrame, HasMessage, IsFront, IsInFront, IsSameButRoom, NotesStamp, OnlyReads, Owes, PassesFrame, ReadsOn, Rests, TakesMessage, WritesOn, acknowledgement, answer_text, at_acceptance, at_opening, is_empty, with_grant};
 ghost use Rattle.m2_feed.specs.FeedNow.{CanCompose, is_framing};
 
 use crate::answers::FeedWrite;
@@ -28,7 +28,7 @@ use m2_control::{Ack, Control, Keepalive};
 use m2_fabric::{End, EndRead, EndWrite, News, SocketId};
 use m2_frame::{Decoder, FrameView, Got};
 use m2_handshake::{Half, HalfStep};
-use m2_message::Message;
+use m2_message::{Message, copied_from};
 use m2_policy::AuthPayload;
 use std::alloc::Global;
 use std::collections::VecDeque;
@@ -46,7 +46,7 @@ pub const MOST_READ: usize = 65_536;
 /// [`has_composed`](Feed::has_composed), [`composed`](Feed::composed), [`has_stamp`](Feed::has_stamp),
 /// [`writing`](Feed::writing), [`look`](Feed::look). Calls that move bytes: [`read`](Feed::read), [`write`](Feed::write). The opener's
 /// handshake: [`greet`](Feed::greet). Frames: [`next`](Feed::next), [`grant`](Feed::grant),
-/// [`pass`](Feed::pass), [`pass_keepalive`](Feed::pass_keepalive). Composing: [`reserve_control`](Feed::reserve_control),
+/// [`pass`](Feed::pass), [`take_message`](Feed::take_message), [`pass_keepalive`](Feed::pass_keepalive). Composing: [`reserve_control`](Feed::reserve_control),
 /// [`compose_control`](Feed::compose_control), [`compose_message`](Feed::compose_message),
 /// [`compose_acknowledgement`](Feed::compose_acknowledgement),
 /// [`compose_keepalive_answer`](Feed::compose_keepalive_answer). End: [`close`](Feed::close).
@@ -284,6 +284,30 @@ impl<E: End> Feed<E> {
         ensures only { OnlyReads self.old self.new }
     {
         self.reader.pass();
+    }
+
+    /// Passes the frame at the front, a MESSAGE with a whole header, and gives the message that it brings. Its parts
+    /// are copied once. On Err, for want of memory, all is as before.
+    #[tactic(auto, using(crate::proofs::Fronts::has_frame))]
+    pub fn take_message(&mut self) -> Result<Message, NoMemory>
+        requires { HasMessage self.old.reading }
+        ensures { TakesMessage result self.old self.new }
+    {
+        let message = self.copied_message()?;
+        self.pass();
+        Ok(message)
+    }
+
+    /// The message that the frame at the front brings, a MESSAGE with a whole header.
+    #[tactic(auto, using(crate::proofs::Fronts::has_tag, crate::proofs::Fronts::has_header, crate::proofs::Fronts::shows_some, crate::proofs::Fronts::is_in_front))]
+    fn copied_message(&self) -> Result<Message, NoMemory>
+        requires { HasMessage self.now.reading }
+        ensures { IfOk result (λ m. IsInFront m self.now.reading) }
+    {
+        match self.look() {
+            Some(frame) => copied_from(self.alloc, &frame),
+            None => unreachable!(),
+        }
     }
 
     /// Passes the frame at the front, which is a keepalive with this stamp, and notes that it is to be

@@ -130,7 +130,7 @@ abbrev far : PartsNow
 far = record { journal = journal_of_b; trails = its_trail ∷ []; ends = end_with far_log ∷ [] }
 
 hello : Message
-hello = record { header = hello_message.header; front = record { bytes = 0x61 ∷ []; room = 0 }; middle = record { bytes = []; room = 0 }; tail = record { bytes = []; room = 0 } }
+hello = record { header = hello_message.header; front = record { bytes = 0x61 ∷ [] }; middle = record { bytes = [] }; tail = record { bytes = [] } }
 
 abbrev plan_by : Bool → List PlanStep
 plan_by true = step.Post hello ∷ step.Down ∷ []

@@ -7,7 +7,7 @@ ghost use Rattle.m2_session.specs.declared.cookie.TheConstants.{MOST_PLACES};
 ghost use Rattle.m2_record.specs.m2_core.Waits.{AreWaits};
 
 use m2_addr::Addr;
-use m2_bytes::{Blob, NoMemory};
+use m2_bytes::{NoMemory, Part};
 use m2_fabric::News;
 use m2_journal::{NodeFacts, PlanStep};
 use m2_message::{Header, Message};
@@ -129,17 +129,17 @@ fn message(alloc: Global, words: &mut Words, number: u64) -> Result<Message, NoM
     Ok(Message {
         header,
         front: part(alloc, words)?,
-        middle: Blob::empty(alloc),
+        middle: Part::empty(),
         tail: part(alloc, words)?,
     })
 }
 
 /// A part of up to 300 bytes.
-fn part(alloc: Global, words: &mut Words) -> Result<Blob, NoMemory> {
+fn part(alloc: Global, words: &mut Words) -> Result<Part, NoMemory> {
     let mut bytes = Vec::new(alloc);
     let byte = words.below(256) as u8;
     bytes.resize(words.below(301) as usize, byte)?;
-    Blob::of(alloc, bytes.as_slice())
+    Part::of(alloc, bytes.as_slice())
 }
 
 /// A side posts a message.

@@ -36,6 +36,12 @@ message_in-carried f m a =
     (ap (λ (p : Parts). p.third) (sym a.parts))
     (ap (λ (p : Parts). p.fourth) (sym a.parts))
 
+-- a message with the header that a frame's first segment says, and with copies of its other segments
+pub message_in-copied : (f : Parts) (header : Header) (front middle tail : List ℕ) → FieldsFit header → f.first ≡ header_text header
+    → front ≡ f.second → middle ≡ f.third → tail ≡ f.fourth → record { header = header; front = front; middle = middle; tail = tail } ≡ message_in f
+message_in-copied f header front middle tail fields text e2 e3 e4 =
+    content_is header front middle tail (message_in f) (sym (header_in-header_text header fields) ∙ ap header_in (sym text)) e2 e3 e4
+
 pub message_in-carries : (f : Parts) → f.tag ≡ message_tag → length f.first ≡ 41 → All (λ b. b < 256) f.first → Carries f (message_in f)
 message_in-carries f tag l a =
     Carries-made f (header_in f.first) tag (header_in-fits f.first (omega (arith, l)) a) (sym (header_text-header_in f.first l a))

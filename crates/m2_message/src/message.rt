@@ -4,7 +4,7 @@ ghost use Rattle.std.specs.Prelude.{◌≡◌, IfOk};
 ghost use Rattle.m2_message.specs.Message.{content_of, IsSendable, size_of};
 
 use crate::header::Header;
-use m2_bytes::{Blob, NoMemory};
+use m2_bytes::{NoMemory, Part};
 
 /// The most bytes that a part of a message has: 128 MiB, what a segment of its frame holds.
 pub const MOST_PART: usize = 134_217_728;
@@ -14,9 +14,9 @@ pub const MOST_PART: usize = 134_217_728;
 #[derive(Debug, Drop)]
 pub struct Message {
     pub header: Header,
-    pub front: Blob,
-    pub middle: Blob,
-    pub tail: Blob,
+    pub front: Part,
+    pub middle: Part,
+    pub tail: Part,
 }
 
 impl Message {
@@ -28,7 +28,7 @@ impl Message {
         self.front.len() as u64 + self.middle.len() as u64 + self.tail.len() as u64
     }
 
-    /// The same message in memory of its own.
+    /// The same message. The memory of its parts is shared.
     pub fn copy(&self) -> Result<Message, NoMemory>
         ensures { IfOk result (λ m. content_of m ≡ content_of self.now) }
     {

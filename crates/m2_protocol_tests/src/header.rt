@@ -1,7 +1,7 @@
 //! The header of a message as an independent program writes it.
 
 use crate::frame::MESSAGE;
-use m2_bytes::Blob;
+use m2_bytes::Part;
 use m2_message::{Header, Message, to_frame};
 
 /// The header of that message before it has its number.
@@ -23,9 +23,9 @@ const HEADER: Header = Header {
 fn a_header_is_written_as_elsewhere(rt: HostRuntime) {
     let message = Message {
         header: HEADER,
-        front: Blob::empty(rt.alloc()),
-        middle: Blob::empty(rt.alloc()),
-        tail: Blob::empty(rt.alloc()),
+        front: Part::empty(),
+        middle: Part::empty(),
+        tail: Part::empty(),
     };
     let frame = to_frame(rt.alloc(), &message, 1, 0).expect(&rt, "memory");
     assert_eq!(rt; frame.first.as_slice(), &MESSAGE[32..73]);

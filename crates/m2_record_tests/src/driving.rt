@@ -6,7 +6,7 @@ ghost use Rattle.m2_shared.specs.declared.limits.TheConstants.{MOST_TAKEN};
 ghost use Rattle.m2_record.specs.m2_core.Waits.{AreWaits};
 
 use m2_addr::Addr;
-use m2_bytes::{Blob, NoMemory};
+use m2_bytes::{NoMemory, Part};
 use m2_dispatch::Logged;
 use m2_journal::{Entry, NodeFacts, PlanStep};
 use m2_message::{Header, Message};
@@ -81,9 +81,9 @@ pub(crate) fn message(
     };
     Ok(Message {
         header,
-        front: Blob::of(alloc, front)?,
-        middle: Blob::of(alloc, middle)?,
-        tail: Blob::of(alloc, tail)?,
+        front: Part::of(alloc, front)?,
+        middle: Part::of(alloc, middle)?,
+        tail: Part::of(alloc, tail)?,
     })
 }
 

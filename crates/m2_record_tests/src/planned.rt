@@ -10,7 +10,7 @@ ghost use Rattle.m2_record.specs.Due.{next_step};
 ghost use Rattle.m2_record.specs.IsRecord.{CanBePlanned};
 
 use m2_addr::Addr;
-use m2_bytes::Blob;
+use m2_bytes::Part;
 use m2_fabric::{News, SimEnd, SocketId};
 use m2_handshake::HalfStep;
 use m2_journal::{Entry, NodeFacts, PlanStep};
@@ -82,9 +82,9 @@ fn message(alloc: Global) -> Message
             compat: 1,
             reserved: 0,
         },
-        front: Blob::empty(alloc),
-        middle: Blob::empty(alloc),
-        tail: Blob::empty(alloc),
+        front: Part::empty(),
+        middle: Part::empty(),
+        tail: Part::empty(),
     }
 }
 

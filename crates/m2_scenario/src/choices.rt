@@ -74,13 +74,13 @@ fn message_of(
     ensures { IfOk result (λ m. content_of m ≡ message_by number third fourth fifth) }
 {
     let front = filled(alloc, (fifth % 32) as usize, (number % 256) as u8)?;
-    Ok(posted(
+    posted(
         kind(third),
         priority(fourth),
         front,
         Blob::empty(alloc),
         Blob::empty(alloc),
-    ))
+    )
 }
 
 /// So many bytes of this value.

@@ -1,15 +1,21 @@
 //! The message that a post sends.
 
-ghost use Rattle.std.specs.Prelude.{◌≡◌};
+ghost use Rattle.std.specs.Prelude.{◌≡◌, IfOk};
 ghost use Rattle.m2_message.specs.Message.{content_of};
 ghost use Rattle.m2_scenario.specs.Posted.{posted};
 
-use m2_bytes::Blob;
+use m2_bytes::{Blob, NoMemory, Part};
 use m2_message::{Header, Message};
 
 /// The message of a post: version 1, compat 1, and 0 in the fields that a post doesn't name.
-pub fn posted(kind: u16, priority: u16, front: Blob, middle: Blob, tail: Blob) -> Message
-    ensures { content_of result ≡ posted kind priority front.bytes middle.bytes tail.bytes }
+pub fn posted(
+    kind: u16,
+    priority: u16,
+    front: Blob,
+    middle: Blob,
+    tail: Blob,
+) -> Result<Message, NoMemory>
+    ensures { IfOk result (λ m. content_of m ≡ posted kind priority front.bytes middle.bytes tail.bytes) }
 {
     let header = Header {
         seq: 0,
@@ -24,10 +30,10 @@ pub fn posted(kind: u16, priority: u16, front: Blob, middle: Blob, tail: Blob) -
         compat: 1,
         reserved: 0,
     };
-    Message {
+    Ok(Message {
         header,
-        front,
-        middle,
-        tail,
-    }
+        front: Part::from_blob(front)?,
+        middle: Part::from_blob(middle)?,
+        tail: Part::from_blob(tail)?,
+    })
 }

@@ -49,7 +49,7 @@ pub(crate) fn message_of(
     let front = bytes(alloc, behind + 2, words.take())?;
     let middle = bytes(alloc, behind + 3, words.take())?;
     let tail = bytes(alloc, behind + 4, words.take())?;
-    Ok(posted(kind, priority, front, middle, tail))
+    Ok(posted(kind, priority, front, middle, tail)?)
 }
 
 /// Whether each part is short enough.

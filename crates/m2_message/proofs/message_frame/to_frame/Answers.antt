@@ -8,6 +8,6 @@ returns-clause-fits c =
     let header : length c.in_ok-write_header.field-0.bytes ≡ 41 = ap length c.in_ok-write_header.ensures ∙ length-header_text c.numbered-header.result in
     rw c.number.ensures (MESSAGE-fits _ _ _ _
     (omega (arith, header))
-    (omega (arith, ap length c.in_ok-copy.ensures, c.requires.front))
-    (omega (arith, ap length c.in_ok-copy-2.ensures, c.requires.middle))
-    (omega (arith, ap length c.in_ok-copy-3.ensures, c.requires.tail)))
+    (omega (arith, ap length (c.in_ok-of.ensures ∙ c.as_slice.ensures), c.requires.front))
+    (omega (arith, ap length (c.in_ok-of-2.ensures ∙ c.as_slice-2.ensures), c.requires.middle))
+    (omega (arith, ap length (c.in_ok-of-3.ensures ∙ c.as_slice-3.ensures), c.requires.tail)))
