@@ -3,10 +3,14 @@
 use Rattle.std.proofs.Common.{◌≡◌, ℕ, Bool, true, false, Option, Some, None, refl, ◌∙◌}
 use Rattle.m2_feed.specs.m2_session.declared.event.Effects.{Effects}
 use Rattle.m2_feed.specs.m2_session.declared.event.Event.{Event}
+use Rattle.m2_feed.specs.m2_session.declared.event.Event.TheVariants as event
 use Rattle.m2_feed.specs.m2_session.Steps.{step_of}
 use Rattle.m2_never_reset.specs.m2_queues.QueueLaws.{Requeue}
+use Rattle.m2_feed.specs.m2_journal.Items as item
+use Rattle.m2_feed.specs.m2_journal.Plan.{Planned}
+use Rattle.m2_feed.specs.m2_journal.SideFacts.{SideFacts}
 use Rattle.m2_feed.specs.m2_journal.State.{Feed, State}
-use Rattle.m2_feed.specs.m2_journal.Steps.{where_true, closes, sets_back, discards, tells_of_reset, queues, tells, tells_if}
+use Rattle.m2_feed.specs.m2_journal.Steps.{after, where_true, closes, sets_back, discards, tells_of_reset, queues, tells, tells_if}
 
 -- it is the same feed to all that is read and written there
 pub record SameBytes (d e : Feed) : Type 0 where
@@ -108,3 +112,9 @@ tells_if_less None s = same_state s
 -- behind a greater number
 pub less_top : (e : Event) (s : State) (n : ℕ) → Less s (tells e (record s { top = n }))
 less_top e s n = less_trans s (record s { top = n }) _ (untouched s _ refl refl refl refl) (tells_less e (record s { top = n }))
+
+-- where it is marked down
+pub down_less : (f : SideFacts) (planned : Bool) (step : Option Planned) (s : State) → Less s (after f (item.down planned step) s)
+down_less f planned step s =
+    let t = tells event.MarkedDown s in
+    less_trans s t (after f (item.down planned step) s) (tells_less event.MarkedDown s) (untouched t (after f (item.down planned step) s) refl refl refl refl)

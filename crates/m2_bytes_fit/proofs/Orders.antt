@@ -97,7 +97,7 @@ feed_so a b h = at a.feed h
     at (Some d) g = record { asks_alone = g.asks_alone; taken = g.taken }
 
 -- what is known of a side's feed
-feed_known : (a b : State) → HearsAt a.feed b.sent → IfFed a.feed (FeedIsPaired (beside a b)) → IfFed a.feed (FeedIsKnown a)
+pub feed_known : (a b : State) → HearsAt a.feed b.sent → IfFed a.feed (FeedIsPaired (beside a b)) → IfFed a.feed (FeedIsKnown a)
 feed_known a b heard h = at a.feed heard (unasked_so a.feed b.sent heard) h
   where
     at : (o : Option Feed) → HearsAt o b.sent → IfFed o IsUnasked → IfFed o (FeedIsPaired (beside a b)) → IfFed o (FeedIsKnown a)
@@ -105,7 +105,7 @@ feed_known a b heard h = at a.feed heard (unasked_so a.feed b.sent heard) h
     at (Some d) heard u g = record { written = g.texts; unasked = u }
 
 -- the two sides fit where bytes do
-fits_so : (a b : Side) → Known a b → NoAskBehind (state_of a) (state_of b) → NoAskBehind (state_of b) (state_of a) → Fits (state_of a) (state_of b)
+pub fits_so : (a b : Side) → Known a b → NoAskBehind (state_of a) (state_of b) → NoAskBehind (state_of b) (state_of a) → Fits (state_of a) (state_of b)
 fits_so a b h near far = record {
   near_hears = near_hears a b h near;
   far_hears = near_hears b a (turn a b h) far;

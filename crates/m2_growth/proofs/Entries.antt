@@ -46,7 +46,7 @@ use Rattle.m2_bytes_fit.proofs.Entries.{entry_keeps, FeedSo}
 use Rattle.m2_bytes_fit.proofs.Hands.{HandKept, closing, hand_keeps, fault_closes, none_kept, reconnect_apart}
 use Rattle.m2_bytes_fit.proofs.Judges.{not_judged_on, no_last}
 use Rattle.m2_bytes_fit.proofs.Kept.{KeptBy, replied, view}
-use Rattle.m2_bytes_fit.proofs.Less.{Less, less_trans, tells_less, tells_if_less, untouched}
+use Rattle.m2_bytes_fit.proofs.Less.{Less, less_trans, tells_less, tells_if_less, untouched, down_less}
 use Rattle.m2_bytes_fit.proofs.Steps.{AllKept, kept_in_less, kept_quietly}
 use Rattle.m2_growth.proofs.Feeds.{AskFirst, AsksFirst, BeginsAsking, FeedIs, MayPut, all_ready, fine_asks, fine_back, fine_mails, fine_ready, fine_replies, first_asks, first_mails, first_replies, found_so, hears_may, less_feed, may_at, may_narrow, on_feed_all, opened_may, sent_all}
 use Rattle.m2_fabric.proofs.Sockets.{among_other, among_last, same_equal}
@@ -262,11 +262,6 @@ accepts_first number key None d s h = h
 obeys : (s : Session) (full : Bool) → (step_of s (event.GotReset full)).session.phase ≡ phase.Connecting
 obeys s true = refl
 obeys s false = refl
-
-down_less : (f : SideFacts) (planned : Bool) (step : Option Planned) (s : State) → Less s (after f (item.down planned step) s)
-down_less f planned step s =
-    let t = tells event.MarkedDown s in
-    less_trans s t (after f (item.down planned step) s) (tells_less event.MarkedDown s) (untouched t (after f (item.down planned step) s) refl refl refl refl)
 
 pub entry_first : (f : SideFacts) (is : List JournalItem) (i : JournalItem) (s : State) → Lawful f i s → AllKept f is s → AsksFirst s → AsksFirst (after f i s)
 entry_first f is (item.post place planned) s l kept h = posts_first planned s h

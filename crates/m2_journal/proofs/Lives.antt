@@ -84,7 +84,7 @@ sends_late-stays k w s = by_name (is_unnamed w)
     by_name true = refl
     by_name false = refl
 
-puts_on-stays : (o : Option PartText) (texts : List PartText) (d : Feed) (s : State) → (puts_on o texts d s).life ≡ s.life
+pub puts_on-stays : (o : Option PartText) (texts : List PartText) (d : Feed) (s : State) → (puts_on o texts d s).life ≡ s.life
 puts_on-stays (Some t) texts d s = sends_late-stays d.socket t.frame _
 puts_on-stays None texts d s = refl
 

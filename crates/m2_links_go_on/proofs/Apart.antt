@@ -1,5 +1,5 @@
 -- Of each socket a link has one end of either kind.
-use Rattle.std.proofs.Common.{◌≡◌, ◌⊎◌, inl, inr, Bool, true, false, if◌then◌else◌, List, [], ◌∷◌, ◌++◌, map, None, refl, sym, ap, subst, ◌∙◌}
+use Rattle.std.proofs.Common.{◌≡◌, ◌⊎◌, inl, inr, Bool, true, false, List, [], ◌∷◌, ◌++◌, map, None, refl, sym, ap, subst, ◌∙◌}
 use Rattle.std.specs.List.{AllByRecursion, IsDistinct}
 use Rattle.std.proofs.lemmas.List.{map-append}
 use Rattle.m2_fabric.specs.declared.socket.SocketId.{SocketId}
@@ -11,12 +11,12 @@ use Rattle.m2_growth.specs.Records.{ends_of_all}
 use Rattle.m2_growth.proofs.Among.{among_mapped, each_by, mapped_one, of_each}
 use Rattle.m2_growth.proofs.Ends.{own_apart, own_first, own_last}
 use Rattle.m2_history.specs.Link.{both_of}
-use Rattle.m2_history.specs.Woven.{EndNow, end_of, ends_of, half_end, is_of_link, loose_ends}
+use Rattle.m2_history.specs.Woven.{EndNow, end_of, ends_of, half_end, loose_ends}
 use Rattle.m2_fabric.proofs.m2_lemmas.Lists.{all_append, all_map}
 use Rattle.m2_weave.specs.m2_journal.declared.entry.Entry.{Entry}
 use Rattle.m2_growth.proofs.Asked.{end_own}
 use Rattle.m2_links_go_on.proofs.LinkRecords.{none_some, one_at, one_own}
-use Rattle.m2_links_go_on.proofs.Standing.{ends_single, loose_ends_single}
+use Rattle.m2_links_go_on.proofs.Standing.{ends_single, loose_ends_are, loose_ends_single}
 use Rattle.m2_fabric.proofs.m2_lemmas.Booleans.{both_of_and, false_isnt_true, not_true_is_false}
 use Rattle.m2_fabric.proofs.Sockets.{same_equal}
 use Rattle.m2_history.specs.m2_record.RecordNow as node
@@ -65,16 +65,6 @@ all_ids (n ∷ ns) all d =
         all_map (λ k. AllByRecursion (λ j. same_socket k j ≡ false) (ids (all_halves ns))) (λ (l : LooseNow). l.end.id) n.halves
         (each_by (λ (l : LooseNow). AllByRecursion (λ j. same_socket l.end.id j ≡ false) (ids (all_halves ns))) n.halves
         (λ l i. all_map (λ j. same_socket l.end.id j ≡ false) (λ (m : LooseNow). m.end.id) (all_halves ns) (each_by (λ (m : LooseNow). same_socket l.end.id m.end.id ≡ false) (all_halves ns) (λ m j. away l m i j))))
-
--- ---- ends of halves
-
-loose_are : (P : EndNow → Type 0) (a b : List Entry) (ls : List LooseNow) → AllByRecursion (λ (l : LooseNow). P (half_end l)) ls → AllByRecursion P (loose_ends a b ls)
-loose_are P a b [] all = tt
-loose_are P a b (l ∷ ls) all = at (is_of_link a b l) (loose_are P a b ls all.1)
-  where
-    at : (c : Bool) → AllByRecursion P (loose_ends a b ls) → AllByRecursion P ((if c then half_end l ∷ [] else []) ++ loose_ends a b ls)
-    at true rest = (all.0, rest)
-    at false rest = rest
 
 -- ---- two of one kind on one socket
 
@@ -137,7 +127,7 @@ module _ (ns : List LeftNode) (left : AreLeftNodes ns) (n : LeftNode) (n_there :
   from_halves a b =
       all_map (λ d. AllByRecursion (λ y. same_end d y ≡ false) (loose_ends a b (all_halves ns))) (end_of r.journal) (node.ends_of r)
       (each_by (λ (e : SeenEnd). AllByRecursion (λ y. same_end (end_of r.journal e) y ≡ false) (loose_ends a b (all_halves ns))) (node.ends_of r)
-      (λ e i. loose_are (λ y. same_end (end_of r.journal e) y ≡ false) a b (all_halves ns)
+      (λ e i. loose_ends_are (λ y. same_end (end_of r.journal e) y ≡ false) a b (all_halves ns)
       (each_by (λ (l : LooseNow). same_end (end_of r.journal e) (half_end l) ≡ false) (all_halves ns) (λ l j. not_true_is_false (same_end (end_of r.journal e) (half_end l)) (no_half e l i j)))))
 
 -- ---- two records that are towards each other

@@ -1,5 +1,5 @@
 -- What is left of a center that was on its course.
-use Rattle.std.proofs.Common.{◌≡◌, ◌⊎◌, inl, inr, ℕ, Bool, true, false, List, [], ◌∷◌, ◌++◌, map, refl, sym, ap, subst, ◌∙◌}
+use Rattle.std.proofs.Common.{◌≡◌, ◌⊎◌, inl, inr, ℕ, true, List, [], ◌∷◌, ◌++◌, map, refl, sym, ap, subst, ◌∙◌}
 use Rattle.std.specs.List.{AllByRecursion}
 use Rattle.std.proofs.lemmas.List.{map-append}
 use Rattle.m2_fabric.specs.declared.socket.SocketId.{SocketId}
@@ -16,8 +16,9 @@ use Rattle.m2_growth.specs.Ends.{AreOfTheirOwn}
 use Rattle.m2_growth.specs.Holding.{ends_held}
 use Rattle.m2_growth.specs.Records.{ends_of_all}
 use Rattle.m2_growth.proofs.Among.{among_back, whose, of_each}
-use Rattle.m2_fabric.proofs.m2_lemmas.Booleans.{either_turned}
 use Rattle.m2_growth.proofs.Ends.{later_behind, later_swapped}
+use Rattle.m2_history.proofs.Kept as kept
+use Rattle.m2_weave.proofs.Fitting.{same-bool}
 use Rattle.m2_links_go_on.specs.Course.{holding_in}
 use Rattle.m2_links_go_on.specs.CourseLaws.{CentersRunTheirCourse}
 use Rattle.m2_links_go_on.specs.CourseEnded.{ends_left}
@@ -45,22 +46,12 @@ among_joined k xs ys (inr is) = subst (λ l. is_among k l ≡ true) (sym (map-ap
 among_of : (k : SocketId) (xs ys : List SeenEnd) → is_among k (ids_of (xs ++ ys)) ≡ true → (is_among k (ids_of xs) ≡ true) ⊎ (is_among k (ids_of ys) ≡ true)
 among_of k xs ys is = among_part k (ids_of xs) (ids_of ys) (subst (λ l. is_among k l ≡ true) (map-append (λ (e : SeenEnd). e.id) xs ys) is)
 
-swap : (k : SocketId) (xs ys : List SeenEnd) → is_among k (ids_of (xs ++ ys)) ≡ true → is_among k (ids_of (ys ++ xs)) ≡ true
-swap k xs ys is = among_joined k ys xs (either_turned (among_of k xs ys is))
-
 behind : (k : SocketId) (front xs ys : List SeenEnd) → (is_among k (ids_of xs) ≡ true → is_among k (ids_of ys) ≡ true) → is_among k (ids_of (front ++ xs)) ≡ true → is_among k (ids_of (front ++ ys)) ≡ true
 behind k front xs ys on is = at (among_of k front xs is)
   where
     at : (is_among k (ids_of front) ≡ true) ⊎ (is_among k (ids_of xs) ≡ true) → is_among k (ids_of (front ++ ys)) ≡ true
     at (inl here) = among_joined k front ys (inl here)
     at (inr here) = among_joined k front ys (inr (on here))
-
--- two truth values of which each follows from the other
-alike : (a b : Bool) → (a ≡ true → b ≡ true) → (b ≡ true → a ≡ true) → a ≡ b
-alike true true f g = refl
-alike true false f g = sym (f refl)
-alike false true f g = g refl
-alike false false f g = refl
 
 -- ---- what is left
 
@@ -79,10 +70,10 @@ module _ {D : Type 0} (c : CenterNow D) where
 
   there : (k : SocketId) → is_among k (ids_of (ends_held (holding_in c))) ≡ true → is_among k (ids_of (ends_left (rest_of c))) ≡ true
   there k is = subst (λ l. is_among k (ids_of l) ≡ true) (sym left_so)
-      (behind k (ends_of_all c.records) (pending_ends ++ loose_ends) (loose_ends ++ pending_ends) (swap k pending_ends loose_ends) is)
+      (behind k (ends_of_all c.records) (pending_ends ++ loose_ends) (loose_ends ++ pending_ends) (kept.turned k pending_ends loose_ends) is)
 
   back : (k : SocketId) → is_among k (ids_of (ends_left (rest_of c))) ≡ true → is_among k (ids_of (ends_held (holding_in c))) ≡ true
-  back k is = behind k (ends_of_all c.records) (loose_ends ++ pending_ends) (pending_ends ++ loose_ends) (swap k loose_ends pending_ends)
+  back k is = behind k (ends_of_all c.records) (loose_ends ++ pending_ends) (pending_ends ++ loose_ends) (kept.turned k loose_ends pending_ends)
       (subst (λ l. is_among k (ids_of l) ≡ true) left_so is)
 
   made_of : (made : List SocketId) (es : List SeenEnd) → AllByRecursion (λ (e : SeenEnd). is_among e.id made ≡ true) es → (k : SocketId) → is_among k (ids_of es) ≡ true → is_among k made ≡ true
@@ -97,7 +88,7 @@ centers_run_their_course D C may_give clock moment node c was = record {
   sides = ap (λ (n : NodeMade). n.sides) was.made;
   own = own_so c was.own.held;
   once = was.once;
-  sockets = λ k. alike (is_among k c.port.made) (is_among k (ids_of (ends_left (rest_of c)))) (λ is. there c k (was.held k is))
+  sockets = λ k. same-bool (is_among k c.port.made) (is_among k (ids_of (ends_left (rest_of c)))) (λ is. there c k (was.held k is))
       (λ is. made_of c c.port.made (ends_held (holding_in c)) was.own.made k (back c k is));
   missed = was.missed;
   last = was.last;

@@ -1,9 +1,7 @@
 -- A half on a socket that the other node's record opened was asked by that record, so it was told what the record towards it has judged.
 use Rattle.std.proofs.Common.{◌≡◌, ◌⊎◌, inl, inr, Bool, true, false, List, [], ◌∷◌, map, Some, refl, sym, ap, subst, ◌∙◌}
 use Rattle.std.specs.List.{AllByRecursion, IsDistinct}
-use Rattle.std.proofs.lemmas.Bool.{eq-eqb}
 use Rattle.m2_growth.proofs.m2_bytes_fit.Lists.{prefix_trans}
-use Rattle.m2_fabric.specs.m2_addr.declared.addr.Addr.{Addr}
 use Rattle.m2_growth.specs.AskLaws.{ArePut, AskersAreTheOpeners}
 use Rattle.m2_fabric.specs.declared.socket.SocketId.{SocketId}
 use Rattle.m2_fabric.specs.Sockets.{is_among}
@@ -24,15 +22,13 @@ use Rattle.m2_growth.specs.m2_turn.Sessions.{peer_of}
 use Rattle.m2_history.specs.m2_trail.Arrivals.{LooseNow}
 use Rattle.m2_weave.specs.Strands.{has_opened, journal_of}
 use Rattle.m2_links_go_on.specs.Left.{AllCameOfPeer, CameOfPeer, IsHalfOf, IsLeftNode, IsRecordOf, IsToldBy, LeftNode, ends_left}
+use Rattle.m2_growth.proofs.m2_bytes_fit.m2_feed.m2_handshake.Idents.{same_self}
 
 -- ---- records by their peers
 
-addr_same : (a : Addr) → same_addr a a ≡ true
-addr_same a = rw (eq-eqb a.kind a.kind refl, eq-eqb a.nonce a.nonce refl, eq-eqb a.ip a.ip refl, eq-eqb a.port a.port refl) refl
-
 head_differs : (x s : RecordNow) (rs : List RecordNow) → IsOneOf s rs → AllByRecursion (λ y. same_addr (peer_of x) y ≡ false) (map peer_of rs) → peer_of x ≡ peer_of s → ⊥
 head_differs x s [] i all h = i
-head_differs x s (y ∷ rs) (inl e) all h = false_isnt_true (sym all.0 ∙ ap (λ p. same_addr (peer_of x) p) (ap peer_of (sym e) ∙ sym h) ∙ addr_same (peer_of x))
+head_differs x s (y ∷ rs) (inl e) all h = false_isnt_true (sym all.0 ∙ ap (λ p. same_addr (peer_of x) p) (ap peer_of (sym e) ∙ sym h) ∙ same_self (peer_of x))
 head_differs x s (y ∷ rs) (inr i) all h = head_differs x s rs i all.1 h
 
 pub one_peer : (r s : RecordNow) (rs : List RecordNow) → IsOneOf r rs → IsOneOf s rs → IsDistinct same_addr (map peer_of rs) → peer_of r ≡ peer_of s → r ≡ s

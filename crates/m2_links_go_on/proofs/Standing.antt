@@ -110,7 +110,7 @@ loose_both a b (l ∷ ls) ms = at (is_of_link a b l) (loose_both a b ls ms)
     at false rest = rest
 
 -- their ends
-loose_ends_are : (P : EndNow → Type 0) (a b : List Entry) (ls : List LooseNow) → AllByRecursion (λ (l : LooseNow). P (half_end l)) ls → AllByRecursion P (loose_ends a b ls)
+pub loose_ends_are : (P : EndNow → Type 0) (a b : List Entry) (ls : List LooseNow) → AllByRecursion (λ (l : LooseNow). P (half_end l)) ls → AllByRecursion P (loose_ends a b ls)
 loose_ends_are P a b [] all = tt
 loose_ends_are P a b (l ∷ ls) all = at (is_of_link a b l) (loose_ends_are P a b ls all.1)
   where

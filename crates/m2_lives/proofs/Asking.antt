@@ -18,8 +18,9 @@ use Rattle.m2_lives.specs.ObservedLaws.{NumberedLife}
 use Rattle.m2_lives.proofs.Ledger.{Ledger, count, IsAcceptance, HasAccepted, IsAskFor, HasAskedFor, AreLedgers}
 use Rattle.m2_lives.proofs.Moves.{Spot, View, asks_ident, asks_reconnect, asks_again, obeys, goes_down, sent_by, taken_more, moved, OnSpot, IfSpot, IsNextAnswer, NothingComes, MayAsk, May}
 use Rattle.m2_lives.proofs.Noting.{Grows, MayBegin, sends_one, begins_one, draws_one, sends_keeps, begins_keeps, draws_keeps, same_grows, begin_grows, draw_grows}
-use Rattle.m2_lives.proofs.Standing.{IsNoAcceptance, FeedStands, Stands, Next, grows_trans, no_more, none_accepted, take_next}
+use Rattle.m2_lives.proofs.Standing.{IsNoAcceptance, FeedStands, Stands, Next, grows_trans, none_accepted, take_next}
 use Rattle.m2_lives.proofs.Moving.{reconnect_apart, connecting_reconnect, ident_reconnect, still, equal_most}
+use Rattle.m2_bytes_fit.proofs.m2_trail.Later.{same_list}
 
 -- ---- asks
 
@@ -208,7 +209,7 @@ goes_down_next mint theirs v x y h s = record {
   ledgers = unnamed_keeps mint theirs [] v x y h s;
   stands = unnamed_stands mint theirs [] v x y h s (moved goes_down v) refl refl refl refl refl refl refl refl refl refl tt;
   grows = unnamed_grows mint theirs [] v x y h s;
-  sent = no_more x.sent;
+  sent = same_list x.sent;
   ended = refl;
 }
 
@@ -218,7 +219,7 @@ obeys_next mint theirs kept v x y may h s = record {
   ledgers = unnamed_keeps mint theirs kept v x y h s;
   stands = unnamed_stands mint theirs kept v x y h s (moved (obeys kept) v) refl refl refl refl refl refl refl refl refl refl (at v.feed s.feed may.1);
   grows = unnamed_grows mint theirs kept v x y h s;
-  sent = no_more x.sent;
+  sent = same_list x.sent;
   ended = refl;
 }
   where

@@ -39,7 +39,7 @@ use Rattle.m2_lives.proofs.Delivered.{one, take_first}
 use Rattle.m2_journal.proofs.m2_lemmas.Lists.{take_nil}
 use Rattle.m2_lives.proofs.Dividing.{Divided, divided_anew, divided_letter, divided_start, divided_thrown, divided_told, joined, last_same}
 use Rattle.m2_lives.proofs.Entries.{sets_back_told}
-use Rattle.m2_lives.proofs.Keeping.{Both, IsInTurn, Known, NearStep, Point, at_start, both_turned, first, keeps_calls, near_step, point_turned, replayed}
+use Rattle.m2_lives.proofs.Keeping.{Both, IsInTurn, Known, NearStep, Point, at_start, both_turned, first, near_step, point_turned, replayed}
 use Rattle.m2_lives.proofs.Ledger.{Ledger, contents, count, lives, names}
 use Rattle.m2_lives.proofs.Moves.{view}
 use Rattle.m2_lives.proofs.Named.{life_of, named_by}
@@ -48,6 +48,7 @@ use Rattle.m2_lives.proofs.Runs.{receiving_name}
 use Rattle.m2_lives.proofs.Showing.{Accepts, Course, Leads, Shows, accept_leads, ack_leads, last_is_new, leads_append, leads_none, mark_leads, post_leads, receiving_leads, reset_leads, said_in, sending_anew, sending_leads}
 use Rattle.m2_lives.proofs.Standing.{Stands}
 use Rattle.m2_lives.proofs.Turns.{Begins, Stays, Turned, base_by, entry_turns, letters_by, thrown_by}
+use Rattle.m2_never_reset.proofs.Numbered.{calls_keep}
 
 -- ---- the laws on which this stands
 
@@ -91,7 +92,7 @@ side_known laws f g both h s policy led =
     let calls = r.sound.queue in
     record {
       lossless = ap (λ p. p.lossy) r.sound.session.policy ∙ policy;
-      keeps = ap (λ (z : History). z.queue.keeps) calls.1 ∙ keeps_calls (start_of (not h.policy.lossy)) calls.0 ∙ ap not policy;
+      keeps = ap (λ (z : History). z.queue.keeps) calls.1 ∙ calls_keep (start_of (not h.policy.lossy)) calls.0 ∙ ap not policy;
       calls = calls;
       kept = subst (λ (z : History). z.queue.kept ≡ drop z.queue.base z.numbered) (sym calls.1) (laws.kept (not h.policy.lossy) calls.0);
     }

@@ -2,19 +2,19 @@
 use Rattle.std.proofs.Common.{◌≡◌, ◌+◌, ◌≤◌, Bool, true, false, length, map, Option, Some, None, refl, sym, ap, ◌∙◌, subst}
 use Rattle.m2_bytes_fit.proofs.Hands.{closing}
 use Rattle.m2_bytes_fit.proofs.Hears.{NoAskBehind}
-use Rattle.m2_bytes_fit.proofs.Less.{Less, less_trans, tells_less, untouched}
 use Rattle.m2_journal.specs.Items as item
 use Rattle.m2_journal.specs.Lawful.{judged_on, judged_sockets}
 use Rattle.m2_journal.specs.Laws.{IfFed}
 use Rattle.m2_journal.specs.Plan.{Planned}
 use Rattle.m2_journal.specs.SideFacts.{SideFacts}
 use Rattle.m2_journal.specs.State.{Feed, Judgement, State}
-use Rattle.m2_journal.specs.Steps.{after, tells}
+use Rattle.m2_journal.specs.Steps.{after}
 use Rattle.m2_journal.specs.m2_fabric.Sockets.{is_among}
 use Rattle.m2_journal.specs.m2_session.declared.event.Event.TheVariants as event
 use Rattle.m2_never_reset.specs.Frames.{frames_on, asks_on, answers_on}
 use Rattle.m2_never_reset.specs.LinkOf.{judged_count, is_unjudged}
 use Rattle.m2_never_reset.specs.Paired.{Beside, beside, FeedIsPaired, Paired, SideIsPaired}
+use Rattle.m2_bytes_fit.proofs.Less.{down_less}
 
 -- ---- what is left
 
@@ -23,11 +23,6 @@ pub record LeavesFeed (s t : State) : Type 0 where
   pub opened : t.opened ≡ s.opened
   pub judgements : t.judgements ≡ s.judgements
   pub feed : t.feed ≡ None
-
-pub down_less : (f : SideFacts) (planned : Bool) (step : Option Planned) (s : State) → Less s (after f (item.down planned step) s)
-down_less f planned step s =
-    let t = tells event.MarkedDown s in
-    less_trans s t (after f (item.down planned step) s) (tells_less event.MarkedDown s) (untouched t (after f (item.down planned step) s) refl refl refl refl)
 
 pub down_leaves : (f : SideFacts) (planned : Bool) (step : Option Planned) (s : State) → LeavesFeed s (after f (item.down planned step) s)
 down_leaves f planned step s =

@@ -1,6 +1,6 @@
 -- Along an order of two lossless journals that fits both sides stand by ledgers.
-use Rattle.std.proofs.Common.{◌≡◌, ◌≢◌, ℕ, ◌<◌, ◌≤◌, ◌^◌, ◌⊎◌, inl, inr, Bool, true, false, not, if◌then◌else◌, List, [], ◌∷◌, ◌++◌, length, map, take, Option, Some, None, refl, sym, ap, subst, ◌∙◌, arith, le_refl}
-use Rattle.std.specs.Prelude.{IfSome, nat_lt, nat_le}
+use Rattle.std.proofs.Common.{◌≡◌, ◌≢◌, ℕ, ◌<◌, ◌≤◌, ◌^◌, ◌⊎◌, inl, inr, true, false, not, if◌then◌else◌, List, [], ◌∷◌, ◌++◌, length, map, take, Option, Some, None, refl, sym, ap, subst, ◌∙◌, arith, le_refl}
+use Rattle.std.specs.Prelude.{IfSome}
 use Rattle.std.specs.List.{AllByRecursion, filter}
 use Rattle.std.proofs.lemmas.List.{map-append}
 use Rattle.std.proofs.lemmas.List.Elements.{filter-append}
@@ -16,12 +16,10 @@ use Rattle.m2_journal.specs.State.{Feed, SentFrame, State, start}
 use Rattle.m2_journal.specs.Steps.{after, event_at}
 use Rattle.m2_journal.specs.m2_fabric.declared.socket.SocketId.{SocketId}
 use Rattle.m2_journal.specs.m2_fabric.Sockets.{same_socket}
-use Rattle.m2_journal.specs.m2_queues.OutQueues.{Queue, after_acked, after_sent}
-use Rattle.m2_journal.specs.m2_queues.QueueLaws.{EachNumberIsAPlace, CallsGoOn, Call, Post, Next as NextCall, Sent, Acked, Requeue, Renumber, Discard, History, start_of, after_call, after_calls}
+use Rattle.m2_journal.specs.m2_queues.QueueLaws.{EachNumberIsAPlace, CallsGoOn, History, start_of}
 use Rattle.m2_journal.specs.m2_session.AnswerLaws.{CookiesTellDrawsApart}
 use Rattle.m2_journal.specs.m2_session.Cookies as cookies
 use Rattle.m2_journal.specs.m2_session.declared.cookie.CookieParts.{CookieParts}
-use Rattle.m2_journal.proofs.Growing.{after-append, lawful-append}
 use Rattle.m2_journal.proofs.m2_lemmas.Booleans.{from_false_true}
 use Rattle.m2_never_reset.proofs.Feeds.{take-front}
 use Rattle.m2_never_reset.specs.CrossingLaws.{AnswersAreSteps}
@@ -31,15 +29,16 @@ use Rattle.m2_never_reset.specs.Orders.{SideItem, near_item, far_item, near_item
 use Rattle.m2_never_reset.specs.PairLaws.{IsNoDown, IsReplayed, MayCome, PairedStays, StartsAreNew}
 use Rattle.m2_never_reset.specs.Paired.{FeedIsPaired, Paired, beside}
 use Rattle.m2_never_reset.proofs.Entries.{fits_turn}
-use Rattle.m2_never_reset.proofs.Orders.{IsLedTo, paired_turn}
+use Rattle.m2_never_reset.proofs.Orders.{IsLedTo, paired_turn, leads_on}
 use Rattle.m2_lives.proofs.Down.{down_leaves, leaves_paired}
-use Rattle.m2_lives.proofs.Entries.{IsMoveOf, IsSide, next_keeps, sets_back_told}
+use Rattle.m2_lives.proofs.Entries.{IsMoveOf, IsSide, sets_back_told}
 use Rattle.m2_lives.proofs.Judged.{entry_moves}
 use Rattle.m2_lives.proofs.Ledger.{AreLedgers, Ledger, count, lives}
 use Rattle.m2_lives.proofs.Moves.{Move, IfSpot, May, begins, moved, spot_of, view}
 use Rattle.m2_lives.proofs.Settling.{moves_next}
 use Rattle.m2_lives.proofs.Noting.{Grows}
 use Rattle.m2_lives.proofs.Standing.{Draws, FeedStands, Next, Stands}
+use Rattle.m2_never_reset.proofs.Numbered.{calls_keep}
 
 -- ---- the laws on which this stands
 
@@ -150,31 +149,6 @@ stands_on b x z y grows more few s = record {
 
 -- ---- a lawful entry of the near side
 
-call_keeps : (h : History) (c : Call) → (after_call h c).queue.keeps ≡ h.queue.keeps
-call_keeps h (Post m) = refl
-call_keeps h NextCall = next_keeps h.queue
-call_keeps h Sent = by_place (nat_lt h.queue.cursor (length h.queue.kept))
-  where
-    sent_keeps : (k : Bool) (x y : Queue) → x.keeps ≡ h.queue.keeps → y.keeps ≡ h.queue.keeps → (if k then x else y).keeps ≡ h.queue.keeps
-    sent_keeps true x y e g = e
-    sent_keeps false x y e g = g
-
-    by_place : (t : Bool) → (if t then after_sent h.queue else h.queue).keeps ≡ h.queue.keeps
-    by_place true = sent_keeps h.queue.keeps _ _ refl refl
-    by_place false = refl
-call_keeps h (Acked n) = by_place (nat_le n h.queue.written)
-  where
-    by_place : (t : Bool) → (if t then after_acked h.queue n else h.queue).keeps ≡ h.queue.keeps
-    by_place true = refl
-    by_place false = refl
-call_keeps h Requeue = refl
-call_keeps h Renumber = refl
-call_keeps h Discard = refl
-
-pub keeps_calls : (h : History) (cs : List Call) → (after_calls h cs).queue.keeps ≡ h.queue.keeps
-keeps_calls h [] = refl
-keeps_calls h (c ∷ cs) = keeps_calls (after_call h c) cs ∙ call_keeps h c
-
 pub record NearStep (f g : SideFacts) (i : JournalItem) (a b : State) (x y : Ledger) : Type 0 where
   pub move : Move
   pub is : view (after f i a) ≡ moved move (view a)
@@ -184,13 +158,6 @@ pub record NearStep (f g : SideFacts) (i : JournalItem) (a b : State) (x y : Led
   pub point : Point f g (after f i a) b ledger y
   pub grows : Grows x ledger
   pub ended : ledger.ended ≡ (if begins move then lives x else x.ended)
-
-pub leads_on : (f : SideFacts) (i : JournalItem) (s : State) → IsLedTo f s → Lawful f i s → IsLedTo f (after f i s)
-leads_on f i s led lawful = record {
-  items = led.items ++ i ∷ [];
-  lawful = lawful-append f led.items (i ∷ []) (start f) led.lawful (subst (Lawful f i) led.state lawful, tt);
-  state = ap (after f i) led.state ∙ sym (after-append f led.items (i ∷ []) (start f));
-}
 
 module _ (known : Known) (f g : SideFacts) (both : Both f g) where
   pub replayed : (h : SideFacts) (s : State) → IsLedTo h s → IsReplayed h s
@@ -255,7 +222,7 @@ module _ (known : Known) (f g : SideFacts) (both : Both f g) where
 
       keeps : a.out.queue.keeps ≡ true
       keeps = let calls = near_replayed.sound.queue in
-          ap (λ (z : History). z.queue.keeps) calls.1 ∙ keeps_calls (start_of (not f.policy.lossy)) calls.0 ∙ ap not both.near_keeps
+          ap (λ (z : History). z.queue.keeps) calls.1 ∙ calls_keep (start_of (not f.policy.lossy)) calls.0 ∙ ap not both.near_keeps
 
       m : IsMoveOf (cookie_of f) y f i a
       m = entry_moves (cookie_of f) (cookie_of g) f a b y (side_now a b x y h) known.tables known.places known.go_on keeps (λ n. refl) g i fits.near_hears lawful (λ up. may_come)

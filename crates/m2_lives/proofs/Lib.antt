@@ -18,6 +18,7 @@ pub mod Keeping
 pub mod Acknowledging
 pub mod Accepting
 pub mod Named
+pub mod Picking
 pub mod Turns
 pub mod Backing
 pub mod Showing

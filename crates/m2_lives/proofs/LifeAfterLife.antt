@@ -3,17 +3,16 @@
 use Rattle.std.proofs.Common.{◌≡◌, ℕ, ◌+◌, ◌⊎◌, inl, inr, Bool, true, false, ◌==◌, ◌&&◌, if◌then◌else◌, List, [], ◌∷◌, ◌++◌, length, map, Option, Some, None, refl, sym, ap, subst, ◌∙◌, append-nil, append_assoc}
 use Rattle.std.specs.List.{AllByRecursion, flat_map}
 use Rattle.std.proofs.lemmas.Bool.{eqb-true}
+use Rattle.std.proofs.lemmas.Grind.{flat_map-append}
 use Rattle.std.proofs.lemmas.List.{map-append}
 use Rattle.m2_channel.specs.Channel.{of_key, keyed}
-use Rattle.m2_channel.specs.Observed.{Logs, all_of, brought_on, is_reset, turned}
+use Rattle.m2_channel.specs.Observed.{Logs, all_of, turned}
 use Rattle.m2_channel.specs.ObservedLaws.{posted_to}
 use Rattle.m2_channel.specs.m2_dispatch.Heard as heard
 use Rattle.m2_channel.specs.m2_dispatch.Heard.{Heard, is_key}
 use Rattle.m2_channel.proofs.Orders.{far_after_turned, far_turned, near_turned}
-use Rattle.m2_journal.specs.Items as item
 use Rattle.m2_journal.specs.Items.{JournalItem}
 use Rattle.m2_journal.specs.Lawful.{key_of}
-use Rattle.m2_journal.specs.Plan.{to_post, to_dial, to_go_down}
 use Rattle.m2_journal.specs.Replay.{after_items}
 use Rattle.m2_journal.specs.SideFacts.{SideFacts}
 use Rattle.m2_journal.specs.State.{State, start}
@@ -22,12 +21,12 @@ use Rattle.m2_journal.specs.m2_message.Message.{Content, unnumbered}
 use Rattle.m2_journal.specs.m2_policy.declared.path.Key.{Key}
 use Rattle.m2_journal.specs.m2_session.declared.event.Event.{Event}
 use Rattle.m2_journal.specs.m2_session.declared.session.Session.{Session}
-use Rattle.m2_journal.specs.m2_session.Steps.{Step, step_of}
+use Rattle.m2_journal.specs.m2_session.Steps.{step_of}
 use Rattle.m2_never_reset.specs.Order.{AreFirstOf}
 use Rattle.m2_never_reset.specs.Orders.{SideItem, near_item, far_item, near_items, far_items, far_after, posts_in}
 use Rattle.m2_lives.specs.Lives.{Counts, none, one_more, SendingLife, ReceivingLife, LivesChannel, new_lives, sending_lives, receiving_lives, LivesStep, post, begins_sending, begins_receiving, accept, acknowledge, dispatch, mark, reset, next_life, one_dispatched, changed_in_lives, after_in_lives, dispatches, posts, LifeMessage, of_life, held_by, held_in}
 use Rattle.m2_lives.specs.LivesLaws.{AreNames, ArePiecesOf, IsOrderedInLives, IsWithin, all_of_key}
-use Rattle.m2_lives.specs.Observed.{begins_told, dropped_at, handed_in_lives, heard_in_lives, observed_in_lives, receives_anew, sends_anew, shown_by_reader, shown_by_sender, shown_down, shown_far, shown_from, shown_near, shown_reset}
+use Rattle.m2_lives.specs.Observed.{begins_told, handed_in_lives, heard_in_lives, observed_in_lives, receives_anew, sends_anew, shown_by_reader, shown_by_sender, shown_far, shown_from, shown_near}
 use Rattle.m2_lives.specs.ObservedLaws.{EachLifeAcceptsFromOne, NumberedLife, accepted_of, current_life, ended_by, ended_lives, lives_of}
 use Rattle.m2_lives.specs.ObservedRun.{IsBroughtInLives, ObservedIsARunOfLives, in_life, with_key}
 use Rattle.m2_lives.specs.LifeAfterLife.{AreInARow, ComesInLives, LifeAfterLife, held_for, sending_side, shown_sending}
@@ -35,37 +34,22 @@ use Rattle.m2_lives.proofs.Dispatching.{dispatching, same_names, text, told_is}
 use Rattle.m2_lives.proofs.Delivered.{held_in_more, held_of}
 use Rattle.m2_lives.proofs.Handing.{AreFirstOfEach, pieces_of_more}
 use Rattle.m2_lives.proofs.Named.{life_of, named_by}
+use Rattle.m2_lives.proofs.Picking.{all_picked, begun_picked, far_picked, near_picked, none_picked, reader_picked, sender_picked}
 use Rattle.m2_lives.proofs.Runs.{keep_lives, receiving_name, sending_name}
 
 -- ---- the sending side of the channel
 
 -- the steps that change it
-abbrev of_sender : List LivesStep → List LivesStep
-of_sender [] = []
-of_sender (post key m ∷ xs) = post key m ∷ of_sender xs
-of_sender (begins_sending name thrown ∷ xs) = begins_sending name thrown ∷ of_sender xs
-of_sender (acknowledge key ∷ xs) = acknowledge key ∷ of_sender xs
-of_sender (begins_receiving name ∷ xs) = of_sender xs
-of_sender (accept key m ∷ xs) = of_sender xs
-of_sender (dispatch name key m ∷ xs) = of_sender xs
-of_sender (mark ∷ xs) = of_sender xs
-of_sender (reset ∷ xs) = of_sender xs
-
-sender-append : (xs ys : List LivesStep) → of_sender (xs ++ ys) ≡ of_sender xs ++ of_sender ys
-sender-append [] ys = refl
-sender-append (post key m ∷ xs) ys = ap (λ l. post key m ∷ l) (sender-append xs ys)
-sender-append (begins_sending name thrown ∷ xs) ys = ap (λ l. begins_sending name thrown ∷ l) (sender-append xs ys)
-sender-append (acknowledge key ∷ xs) ys = ap (λ l. acknowledge key ∷ l) (sender-append xs ys)
-sender-append (begins_receiving name ∷ xs) ys = sender-append xs ys
-sender-append (accept key m ∷ xs) ys = sender-append xs ys
-sender-append (dispatch name key m ∷ xs) ys = sender-append xs ys
-sender-append (mark ∷ xs) ys = sender-append xs ys
-sender-append (reset ∷ xs) ys = sender-append xs ys
+abbrev of_sender : LivesStep → List LivesStep
+of_sender (post key m) = post key m ∷ []
+of_sender (begins_sending name thrown) = begins_sending name thrown ∷ []
+of_sender (acknowledge key) = acknowledge key ∷ []
+of_sender _ = []
 
 abbrev SendAlike : LivesChannel → LivesChannel → Type 0
 SendAlike c d = (c.posted ≡ d.posted) × (c.sent ≡ d.sent) × (c.sends ≡ d.sends)
 
-send_alike : (xs : List LivesStep) (c d : LivesChannel) → SendAlike c d → SendAlike (after_in_lives xs c) (after_in_lives (of_sender xs) d)
+send_alike : (xs : List LivesStep) (c d : LivesChannel) → SendAlike c d → SendAlike (after_in_lives xs c) (after_in_lives (flat_map of_sender xs) d)
 send_alike [] c d h = h
 send_alike (post key m ∷ xs) c d h =
     send_alike xs (changed_in_lives (post key m) c) (changed_in_lives (post key m) d) (ap (λ l. l ++ keyed key m ∷ []) h.0, h.1, ap (λ (l : SendingLife). record l { end = one_more key l.end }) h.2)
@@ -79,139 +63,38 @@ send_alike (dispatch name key m ∷ xs) c d h = send_alike xs (changed_in_lives 
 send_alike (mark ∷ xs) c d h = send_alike xs (changed_in_lives mark c) d h
 send_alike (reset ∷ xs) c d h = send_alike xs c d h
 
-acks_sender : (g : SideFacts) (ms : List Content) → of_sender (map (λ m. acknowledge (key_of g m)) ms) ≡ map (λ m. acknowledge (key_of g m)) ms
-acks_sender g [] = refl
-acks_sender g (m ∷ ms) = ap (λ l. acknowledge (key_of g m) ∷ l) (acks_sender g ms)
-
-sender_all : (g : SideFacts) (i : JournalItem) (s : State) → of_sender (shown_by_sender g i s) ≡ shown_by_sender g i s
-sender_all g (item.post place (Some (to_post m))) s = refl
-sender_all g (item.post place (Some to_dial)) s = refl
-sender_all g (item.post place (Some to_go_down)) s = refl
-sender_all g (item.post place None) s = refl
-sender_all g (item.acked n) s = acks_sender g (dropped_at n s.out.queue)
-sender_all g (item.dial planned) s = refl
-sender_all g (item.opened k) s = refl
-sender_all g (item.read k bytes) s = refl
-sender_all g (item.wrote k bytes) s = refl
-sender_all g (item.closed k broken) s = refl
-sender_all g (item.judged k ask n answer unread trail) s = refl
-sender_all g (item.asked ident n) s = refl
-sender_all g (item.numbered n) s = refl
-sender_all g (item.accepted n key) s = refl
-sender_all g (item.obeyed full) s = refl
-sender_all g (item.down planned step) s = refl
-
-accepts_none : (key : Key) (ms : List Content) → of_sender (map (accept key) ms) ≡ []
-accepts_none key [] = refl
-accepts_none key (m ∷ ms) = accepts_none key ms
-
-reader_none : (i : JournalItem) (s : State) → of_sender (shown_by_reader i s) ≡ []
-reader_none (item.accepted n key) s = accepts_none key (brought_on s.last s.feed)
-reader_none (item.post place planned) s = refl
-reader_none (item.acked n) s = refl
-reader_none (item.dial planned) s = refl
-reader_none (item.opened k) s = refl
-reader_none (item.read k bytes) s = refl
-reader_none (item.wrote k bytes) s = refl
-reader_none (item.closed k broken) s = refl
-reader_none (item.judged k ask n answer unread trail) s = refl
-reader_none (item.asked ident n) s = refl
-reader_none (item.numbered n) s = refl
-reader_none (item.obeyed full) s = refl
-reader_none (item.down planned step) s = refl
-
-down_none : (i : JournalItem) → of_sender (shown_down i) ≡ []
-down_none (item.down planned step) = refl
-down_none (item.accepted n key) = refl
-down_none (item.post place planned) = refl
-down_none (item.acked n) = refl
-down_none (item.dial planned) = refl
-down_none (item.opened k) = refl
-down_none (item.read k bytes) = refl
-down_none (item.wrote k bytes) = refl
-down_none (item.closed k broken) = refl
-down_none (item.judged k ask n answer unread trail) = refl
-down_none (item.asked ident n) = refl
-down_none (item.numbered n) = refl
-down_none (item.obeyed full) = refl
-
-reset_none : (b : Bool) → of_sender (shown_reset b) ≡ []
-reset_none true = refl
-reset_none false = refl
-
-begun_all : (o : Option Event) (q : Session) → let anew : Step → LivesStep = λ t. begins_sending t.session.server_cookie t.effects.discard in of_sender (begins_told anew o q) ≡ begins_told anew o q
-begun_all None q = refl
-begun_all (Some e) q = at (step_of q e).effects.set_back
-  where
-    at : (b : Bool) → let xs : List LivesStep = if b then begins_sending (step_of q e).session.server_cookie (step_of q e).effects.discard ∷ [] else [] in of_sender xs ≡ xs
-    at true = refl
-    at false = refl
-
-begun_none : (o : Option Event) (q : Session) → of_sender (begins_told (λ t. begins_receiving t.session.server_cookie) o q) ≡ []
-begun_none None q = refl
-begun_none (Some e) q = at (step_of q e).effects.set_back
-  where
-    at : (b : Bool) → of_sender (if b then begins_receiving (step_of q e).session.server_cookie ∷ [] else []) ≡ []
-    at true = refl
-    at false = refl
-
-four_sender : (xs ys zs us : List LivesStep) → of_sender (xs ++ ys ++ zs ++ us) ≡ of_sender xs ++ of_sender ys ++ of_sender zs ++ of_sender us
-four_sender xs ys zs us =
-    sender-append (xs ++ ys ++ zs) us ∙ ap (λ l. l ++ of_sender us) (sender-append (xs ++ ys) zs ∙ ap (λ l. l ++ of_sender zs) (sender-append xs ys))
-
-near_sender : (f g : SideFacts) (i : JournalItem) (a b : State) → of_sender (shown_near f g i a b) ≡ shown_by_sender g i a ++ sends_anew f i a
+near_sender : (f g : SideFacts) (i : JournalItem) (a b : State) → flat_map of_sender (shown_near f g i a b) ≡ shown_by_sender g i a ++ sends_anew f i a
 near_sender f g i a b =
-    four_sender (shown_by_sender g i a) (shown_down i) (sends_anew f i a) (shown_reset (is_reset f i a b))
-    ∙ ap (λ l. l ++ of_sender (shown_down i) ++ of_sender (sends_anew f i a) ++ of_sender (shown_reset (is_reset f i a b))) (sender_all g i a)
-    ∙ ap (λ l. shown_by_sender g i a ++ l ++ of_sender (sends_anew f i a) ++ of_sender (shown_reset (is_reset f i a b))) (down_none i)
-    ∙ ap (λ l. l ++ of_sender (sends_anew f i a) ++ of_sender (shown_reset (is_reset f i a b))) (append-nil (shown_by_sender g i a))
-    ∙ ap (λ l. shown_by_sender g i a ++ l ++ of_sender (shown_reset (is_reset f i a b))) (begun_all (event_at f i a) a.session)
-    ∙ ap (λ l. shown_by_sender g i a ++ sends_anew f i a ++ l) (reset_none (is_reset f i a b)) ∙ append-nil (shown_by_sender g i a ++ sends_anew f i a)
+    near_picked of_sender refl refl f g i a b
+    ∙ ap (λ l. l ++ flat_map of_sender (sends_anew f i a)) (sender_picked of_sender (λ x. x ∷ []) (λ key m. refl) (λ key. refl) g i a ∙ all_picked (shown_by_sender g i a))
+    ∙ ap (λ l. shown_by_sender g i a ++ l)
+    (begun_picked of_sender (λ x. x ∷ []) (λ t. begins_sending t.session.server_cookie t.effects.discard) (λ t. refl) (event_at f i a) a.session ∙ all_picked (sends_anew f i a))
 
-far_sender : (g : SideFacts) (i : JournalItem) (a b : State) → of_sender (shown_far g i a b) ≡ []
+far_sender : (g : SideFacts) (i : JournalItem) (a b : State) → flat_map of_sender (shown_far g i a b) ≡ []
 far_sender g i a b =
-    four_sender (shown_by_reader i b) (shown_down i) (receives_anew g i b) (shown_reset (is_reset g i b a))
-    ∙ ap (λ l. l ++ of_sender (shown_down i) ++ of_sender (receives_anew g i b) ++ of_sender (shown_reset (is_reset g i b a))) (reader_none i b)
-    ∙ ap (λ l. l ++ of_sender (receives_anew g i b) ++ of_sender (shown_reset (is_reset g i b a))) (down_none i)
-    ∙ ap (λ l. l ++ of_sender (shown_reset (is_reset g i b a))) (begun_none (event_at g i b) b.session)
-    ∙ reset_none (is_reset g i b a)
+    far_picked of_sender refl refl g i a b
+    ∙ ap (λ l. l ++ flat_map of_sender (receives_anew g i b)) (reader_picked of_sender (λ x. []) (λ key m. refl) i b ∙ none_picked (shown_by_reader i b))
+    ∙ begun_picked of_sender (λ x. []) (λ t. begins_receiving t.session.server_cookie) (λ t. refl) (event_at g i b) b.session ∙ none_picked (receives_anew g i b)
 
-order_sender : (f g : SideFacts) (order : List SideItem) (a b : State) → of_sender (shown_from f g order a b) ≡ shown_sending f g (near_items order) a
+order_sender : (f g : SideFacts) (order : List SideItem) (a b : State) → flat_map of_sender (shown_from f g order a b) ≡ shown_sending f g (near_items order) a
 order_sender f g [] a b = refl
 order_sender f g (near_item i ∷ order) a b =
-    sender-append (shown_near f g i a b) (shown_from f g order (after f i a) b) ∙ ap (λ l. l ++ of_sender (shown_from f g order (after f i a) b)) (near_sender f g i a b)
+    flat_map-append of_sender (shown_near f g i a b) (shown_from f g order (after f i a) b) ∙ ap (λ l. l ++ flat_map of_sender (shown_from f g order (after f i a) b)) (near_sender f g i a b)
     ∙ ap (λ l. shown_by_sender g i a ++ sends_anew f i a ++ l) (order_sender f g order (after f i a) b)
 order_sender f g (far_item i ∷ order) a b =
-    sender-append (shown_far g i a b) (shown_from f g order a (after g i b)) ∙ ap (λ l. l ++ of_sender (shown_from f g order a (after g i b))) (far_sender g i a b)
+    flat_map-append of_sender (shown_far g i a b) (shown_from f g order a (after g i b)) ∙ ap (λ l. l ++ flat_map of_sender (shown_from f g order a (after g i b))) (far_sender g i a b)
     ∙ order_sender f g order a (after g i b)
 
-dispatches_sender : (xs : List LifeMessage) → of_sender (dispatching xs) ≡ []
-dispatches_sender [] = refl
-dispatches_sender (x ∷ xs) = dispatches_sender xs
+-- nothing is picked of dispatches
+dispatches_unpicked : {X : Type 0} (p : LivesStep → List X) → ((name : ℕ) (key : Key) (m : Content) → p (dispatch name key m) ≡ []) → (xs : List LifeMessage) → flat_map p (dispatching xs) ≡ []
+dispatches_unpicked p unpicked [] = refl
+dispatches_unpicked p unpicked (x ∷ xs) = ap (λ l. l ++ flat_map p (dispatching xs)) (unpicked x.life x.message.key x.message.message) ∙ dispatches_unpicked p unpicked xs
 
 -- ---- names of receiving lives
 
-abbrev begun_receiving : List LivesStep → List ℕ
-begun_receiving [] = []
-begun_receiving (begins_receiving name ∷ xs) = name ∷ begun_receiving xs
-begun_receiving (post key m ∷ xs) = begun_receiving xs
-begun_receiving (begins_sending name thrown ∷ xs) = begun_receiving xs
-begun_receiving (acknowledge key ∷ xs) = begun_receiving xs
-begun_receiving (accept key m ∷ xs) = begun_receiving xs
-begun_receiving (dispatch name key m ∷ xs) = begun_receiving xs
-begun_receiving (mark ∷ xs) = begun_receiving xs
-begun_receiving (reset ∷ xs) = begun_receiving xs
-
-receiving-append : (xs ys : List LivesStep) → begun_receiving (xs ++ ys) ≡ begun_receiving xs ++ begun_receiving ys
-receiving-append [] ys = refl
-receiving-append (begins_receiving name ∷ xs) ys = ap (λ l. name ∷ l) (receiving-append xs ys)
-receiving-append (post key m ∷ xs) ys = receiving-append xs ys
-receiving-append (begins_sending name thrown ∷ xs) ys = receiving-append xs ys
-receiving-append (acknowledge key ∷ xs) ys = receiving-append xs ys
-receiving-append (accept key m ∷ xs) ys = receiving-append xs ys
-receiving-append (dispatch name key m ∷ xs) ys = receiving-append xs ys
-receiving-append (mark ∷ xs) ys = receiving-append xs ys
-receiving-append (reset ∷ xs) ys = receiving-append xs ys
+abbrev begun_receiving : LivesStep → List ℕ
+begun_receiving (begins_receiving name) = name ∷ []
+begun_receiving _ = []
 
 abbrev receiving_names : LivesChannel → List ℕ
 receiving_names c = map receiving_name (receiving_lives c)
@@ -219,19 +102,19 @@ receiving_names c = map receiving_name (receiving_lives c)
 last_names : (c : LivesChannel) (l : ReceivingLife) → l.name ≡ c.receives.name → map receiving_name (c.received ++ l ∷ []) ≡ receiving_names c
 last_names c l e = map-append receiving_name c.received (l ∷ []) ∙ ap (λ n. map receiving_name c.received ++ n ∷ []) e ∙ sym (map-append receiving_name c.received (c.receives ∷ []))
 
-names_after : (xs : List LivesStep) (c : LivesChannel) → receiving_names (after_in_lives xs c) ≡ receiving_names c ++ begun_receiving xs
+names_after : (xs : List LivesStep) (c : LivesChannel) → receiving_names (after_in_lives xs c) ≡ receiving_names c ++ flat_map begun_receiving xs
 names_after [] c = sym (append-nil (receiving_names c))
 names_after (begins_receiving name ∷ xs) c =
     names_after xs (changed_in_lives (begins_receiving name) c)
-    ∙ ap (λ l. l ++ begun_receiving xs) (map-append receiving_name (receiving_lives c) (record { name = name; accepted = none; dispatched = none } ∷ [])) ∙ append_assoc (receiving_names c) (name ∷ []) (begun_receiving xs)
+    ∙ ap (λ l. l ++ flat_map begun_receiving xs) (map-append receiving_name (receiving_lives c) (record { name = name; accepted = none; dispatched = none } ∷ [])) ∙ append_assoc (receiving_names c) (name ∷ []) (flat_map begun_receiving xs)
 names_after (post key m ∷ xs) c = names_after xs (changed_in_lives (post key m) c)
 names_after (begins_sending name thrown ∷ xs) c = names_after xs (changed_in_lives (begins_sending name thrown) c)
 names_after (acknowledge key ∷ xs) c = names_after xs (changed_in_lives (acknowledge key) c)
 names_after (accept key m ∷ xs) c =
-    names_after xs (changed_in_lives (accept key m) c) ∙ ap (λ l. l ++ begun_receiving xs) (last_names c (record c.receives { accepted = one_more key c.receives.accepted }) refl)
+    names_after xs (changed_in_lives (accept key m) c) ∙ ap (λ l. l ++ flat_map begun_receiving xs) (last_names c (record c.receives { accepted = one_more key c.receives.accepted }) refl)
 names_after (dispatch name key m ∷ xs) c =
     names_after xs (changed_in_lives (dispatch name key m) c)
-    ∙ ap (λ l. l ++ begun_receiving xs) (ap (map receiving_name) (sym (map-append (one_dispatched name key) c.received (c.receives ∷ []))) ∙ same_names name key (receiving_lives c))
+    ∙ ap (λ l. l ++ flat_map begun_receiving xs) (ap (map receiving_name) (sym (map-append (one_dispatched name key) c.received (c.receives ∷ []))) ∙ same_names name key (receiving_lives c))
 names_after (mark ∷ xs) c = names_after xs (changed_in_lives mark c)
 names_after (reset ∷ xs) c = names_after xs c
 
@@ -244,114 +127,35 @@ abbrev begun_in : SideFacts → List JournalItem → State → List ℕ
 begun_in g [] s = []
 begun_in g (i ∷ is) s = begun_at (event_at g i s) s.session ++ begun_in g is (after g i s)
 
-acks_begin_none : (g : SideFacts) (ms : List Content) → begun_receiving (map (λ m. acknowledge (key_of g m)) ms) ≡ []
-acks_begin_none g [] = refl
-acks_begin_none g (m ∷ ms) = acks_begin_none g ms
-
-sender_begins_none : (g : SideFacts) (i : JournalItem) (s : State) → begun_receiving (shown_by_sender g i s) ≡ []
-sender_begins_none g (item.post place (Some (to_post m))) s = refl
-sender_begins_none g (item.post place (Some to_dial)) s = refl
-sender_begins_none g (item.post place (Some to_go_down)) s = refl
-sender_begins_none g (item.post place None) s = refl
-sender_begins_none g (item.acked n) s = acks_begin_none g (dropped_at n s.out.queue)
-sender_begins_none g (item.dial planned) s = refl
-sender_begins_none g (item.opened k) s = refl
-sender_begins_none g (item.read k bytes) s = refl
-sender_begins_none g (item.wrote k bytes) s = refl
-sender_begins_none g (item.closed k broken) s = refl
-sender_begins_none g (item.judged k ask n answer unread trail) s = refl
-sender_begins_none g (item.asked ident n) s = refl
-sender_begins_none g (item.numbered n) s = refl
-sender_begins_none g (item.accepted n key) s = refl
-sender_begins_none g (item.obeyed full) s = refl
-sender_begins_none g (item.down planned step) s = refl
-
-accepts_begin_none : (key : Key) (ms : List Content) → begun_receiving (map (accept key) ms) ≡ []
-accepts_begin_none key [] = refl
-accepts_begin_none key (m ∷ ms) = accepts_begin_none key ms
-
-reader_begins_none : (i : JournalItem) (s : State) → begun_receiving (shown_by_reader i s) ≡ []
-reader_begins_none (item.accepted n key) s = accepts_begin_none key (brought_on s.last s.feed)
-reader_begins_none (item.post place planned) s = refl
-reader_begins_none (item.acked n) s = refl
-reader_begins_none (item.dial planned) s = refl
-reader_begins_none (item.opened k) s = refl
-reader_begins_none (item.read k bytes) s = refl
-reader_begins_none (item.wrote k bytes) s = refl
-reader_begins_none (item.closed k broken) s = refl
-reader_begins_none (item.judged k ask n answer unread trail) s = refl
-reader_begins_none (item.asked ident n) s = refl
-reader_begins_none (item.numbered n) s = refl
-reader_begins_none (item.obeyed full) s = refl
-reader_begins_none (item.down planned step) s = refl
-
-down_begins_none : (i : JournalItem) → begun_receiving (shown_down i) ≡ []
-down_begins_none (item.down planned step) = refl
-down_begins_none (item.accepted n key) = refl
-down_begins_none (item.post place planned) = refl
-down_begins_none (item.acked n) = refl
-down_begins_none (item.dial planned) = refl
-down_begins_none (item.opened k) = refl
-down_begins_none (item.read k bytes) = refl
-down_begins_none (item.wrote k bytes) = refl
-down_begins_none (item.closed k broken) = refl
-down_begins_none (item.judged k ask n answer unread trail) = refl
-down_begins_none (item.asked ident n) = refl
-down_begins_none (item.numbered n) = refl
-down_begins_none (item.obeyed full) = refl
-
-reset_begins_none : (b : Bool) → begun_receiving (shown_reset b) ≡ []
-reset_begins_none true = refl
-reset_begins_none false = refl
-
-sends_begin_none : (o : Option Event) (q : Session) → begun_receiving (begins_told (λ t. begins_sending t.session.server_cookie t.effects.discard) o q) ≡ []
-sends_begin_none None q = refl
-sends_begin_none (Some e) q = at (step_of q e).effects.set_back
-  where
-    at : (b : Bool) → begun_receiving (if b then begins_sending (step_of q e).session.server_cookie (step_of q e).effects.discard ∷ [] else []) ≡ []
-    at true = refl
-    at false = refl
-
-receives_begin : (o : Option Event) (q : Session) → begun_receiving (begins_told (λ t. begins_receiving t.session.server_cookie) o q) ≡ begun_at o q
+receives_begin : (o : Option Event) (q : Session) → flat_map begun_receiving (begins_told (λ t. begins_receiving t.session.server_cookie) o q) ≡ begun_at o q
 receives_begin None q = refl
 receives_begin (Some e) q = at (step_of q e).effects.set_back
   where
-    at : (b : Bool) → begun_receiving (if b then begins_receiving (step_of q e).session.server_cookie ∷ [] else []) ≡ (if b then (step_of q e).session.server_cookie ∷ [] else [])
+    at : (b : Bool) → flat_map begun_receiving (if b then begins_receiving (step_of q e).session.server_cookie ∷ [] else []) ≡ (if b then (step_of q e).session.server_cookie ∷ [] else [])
     at true = refl
     at false = refl
 
-four_receiving : (xs ys zs us : List LivesStep) → begun_receiving (xs ++ ys ++ zs ++ us) ≡ begun_receiving xs ++ begun_receiving ys ++ begun_receiving zs ++ begun_receiving us
-four_receiving xs ys zs us =
-    receiving-append (xs ++ ys ++ zs) us ∙ ap (λ l. l ++ begun_receiving us) (receiving-append (xs ++ ys) zs ∙ ap (λ l. l ++ begun_receiving zs) (receiving-append xs ys))
-
-near_begins_none : (f g : SideFacts) (i : JournalItem) (a b : State) → begun_receiving (shown_near f g i a b) ≡ []
+near_begins_none : (f g : SideFacts) (i : JournalItem) (a b : State) → flat_map begun_receiving (shown_near f g i a b) ≡ []
 near_begins_none f g i a b =
-    four_receiving (shown_by_sender g i a) (shown_down i) (sends_anew f i a) (shown_reset (is_reset f i a b))
-    ∙ ap (λ l. l ++ begun_receiving (shown_down i) ++ begun_receiving (sends_anew f i a) ++ begun_receiving (shown_reset (is_reset f i a b))) (sender_begins_none g i a)
-    ∙ ap (λ l. l ++ begun_receiving (sends_anew f i a) ++ begun_receiving (shown_reset (is_reset f i a b))) (down_begins_none i)
-    ∙ ap (λ l. l ++ begun_receiving (shown_reset (is_reset f i a b))) (sends_begin_none (event_at f i a) a.session)
-    ∙ reset_begins_none (is_reset f i a b)
+    near_picked begun_receiving refl refl f g i a b
+    ∙ ap (λ l. l ++ flat_map begun_receiving (sends_anew f i a)) (sender_picked begun_receiving (λ x. []) (λ key m. refl) (λ key. refl) g i a ∙ none_picked (shown_by_sender g i a))
+    ∙ begun_picked begun_receiving (λ x. []) (λ t. begins_sending t.session.server_cookie t.effects.discard) (λ t. refl) (event_at f i a) a.session ∙ none_picked (sends_anew f i a)
 
-far_begins : (g : SideFacts) (i : JournalItem) (a b : State) → begun_receiving (shown_far g i a b) ≡ begun_at (event_at g i b) b.session
+far_begins : (g : SideFacts) (i : JournalItem) (a b : State) → flat_map begun_receiving (shown_far g i a b) ≡ begun_at (event_at g i b) b.session
 far_begins g i a b =
-    four_receiving (shown_by_reader i b) (shown_down i) (receives_anew g i b) (shown_reset (is_reset g i b a))
-    ∙ ap (λ l. l ++ begun_receiving (shown_down i) ++ begun_receiving (receives_anew g i b) ++ begun_receiving (shown_reset (is_reset g i b a))) (reader_begins_none i b)
-    ∙ ap (λ l. l ++ begun_receiving (receives_anew g i b) ++ begun_receiving (shown_reset (is_reset g i b a))) (down_begins_none i)
-    ∙ ap (λ l. l ++ begun_receiving (shown_reset (is_reset g i b a))) (receives_begin (event_at g i b) b.session)
-    ∙ ap (λ l. begun_at (event_at g i b) b.session ++ l) (reset_begins_none (is_reset g i b a)) ∙ append-nil (begun_at (event_at g i b) b.session)
+    far_picked begun_receiving refl refl g i a b
+    ∙ ap (λ l. l ++ flat_map begun_receiving (receives_anew g i b)) (reader_picked begun_receiving (λ x. []) (λ key m. refl) i b ∙ none_picked (shown_by_reader i b))
+    ∙ receives_begin (event_at g i b) b.session
 
-order_begins : (f g : SideFacts) (order : List SideItem) (a b : State) → begun_receiving (shown_from f g order a b) ≡ begun_in g (far_items order) b
+order_begins : (f g : SideFacts) (order : List SideItem) (a b : State) → flat_map begun_receiving (shown_from f g order a b) ≡ begun_in g (far_items order) b
 order_begins f g [] a b = refl
 order_begins f g (near_item i ∷ order) a b =
-    receiving-append (shown_near f g i a b) (shown_from f g order (after f i a) b) ∙ ap (λ l. l ++ begun_receiving (shown_from f g order (after f i a) b)) (near_begins_none f g i a b)
-    ∙ order_begins f g order (after f i a) b
+    flat_map-append begun_receiving (shown_near f g i a b) (shown_from f g order (after f i a) b)
+    ∙ ap (λ l. l ++ flat_map begun_receiving (shown_from f g order (after f i a) b)) (near_begins_none f g i a b) ∙ order_begins f g order (after f i a) b
 order_begins f g (far_item i ∷ order) a b =
-    receiving-append (shown_far g i a b) (shown_from f g order a (after g i b)) ∙ ap (λ l. l ++ begun_receiving (shown_from f g order a (after g i b))) (far_begins g i a b)
+    flat_map-append begun_receiving (shown_far g i a b) (shown_from f g order a (after g i b))
+    ∙ ap (λ l. l ++ flat_map begun_receiving (shown_from f g order a (after g i b))) (far_begins g i a b)
     ∙ ap (λ l. begun_at (event_at g i b) b.session ++ l) (order_begins f g order a (after g i b))
-
-dispatches_begin_none : (xs : List LifeMessage) → begun_receiving (dispatching xs) ≡ []
-dispatches_begin_none [] = refl
-dispatches_begin_none (x ∷ xs) = dispatches_begin_none xs
 
 -- the lives of a journal are named so
 abbrev life_name : NumberedLife → ℕ
@@ -489,10 +293,11 @@ module _ (f g : SideFacts) (order : List SideItem) (logs : Logs) (h : IsBroughtI
   ordered : IsOrderedInLives c
   ordered = keep_lives xs h.run
 
-  steps_alike : of_sender xs ≡ shown_sending f g (near_items order) (start f)
+  steps_alike : flat_map of_sender xs ≡ shown_sending f g (near_items order) (start f)
   steps_alike =
-      sender-append (shown_from f g order (start f) (start g)) (dispatching given) ∙ ap (λ l. of_sender (shown_from f g order (start f) (start g)) ++ l) (dispatches_sender given)
-      ∙ append-nil (of_sender (shown_from f g order (start f) (start g))) ∙ order_sender f g order (start f) (start g)
+      flat_map-append of_sender (shown_from f g order (start f) (start g)) (dispatching given)
+      ∙ ap (λ l. flat_map of_sender (shown_from f g order (start f) (start g)) ++ l) (dispatches_unpicked of_sender (λ name key m. refl) given)
+      ∙ append-nil (flat_map of_sender (shown_from f g order (start f) (start g))) ∙ order_sender f g order (start f) (start g)
 
   alike : SendAlike c side
   alike = subst (λ l. SendAlike c (after_in_lives l new_lives)) steps_alike (send_alike xs new_lives new_lives (refl, refl, refl))
@@ -508,8 +313,9 @@ module _ (f g : SideFacts) (order : List SideItem) (logs : Logs) (h : IsBroughtI
   names : map receiving_name (receiving_lives c) ≡ map life_name (lives_of g (far_items order))
   names =
       names_after xs new_lives
-      ∙ ap (λ l. 0 ∷ l) (receiving-append (shown_from f g order (start f) (start g)) (dispatching given)
-      ∙ ap (λ l. begun_receiving (shown_from f g order (start f) (start g)) ++ l) (dispatches_begin_none given) ∙ append-nil (begun_receiving (shown_from f g order (start f) (start g)))
+      ∙ ap (λ l. 0 ∷ l) (flat_map-append begun_receiving (shown_from f g order (start f) (start g)) (dispatching given)
+      ∙ ap (λ l. flat_map begun_receiving (shown_from f g order (start f) (start g)) ++ l) (dispatches_unpicked begun_receiving (λ name key m. refl) given)
+      ∙ append-nil (flat_map begun_receiving (shown_from f g order (start f) (start g)))
       ∙ order_begins f g order (start f) (start g))
       ∙ sym (lives_named g (far_items order) (start g))
       ∙ sym (map-append life_name (ended_lives g (far_items order) (start g)) (current_life (far_after g order) ∷ []))

@@ -24,7 +24,8 @@ use Rattle.m2_lives.specs.ObservedLaws.{NumberedLife}
 use Rattle.m2_lives.proofs.Ledger.{Stay, Ledger, names, count, HasStay, HasNumbered, IsTrueFrame, IsThere, AreLedgers}
 use Rattle.m2_lives.proofs.Moves.{Spot, View, opens, leaves, numbers, acknowledges, answers, accepts, counts, sent_by, taken_to, moved, OnSpot, IfSpot, WasSent, Acknowledges, IsTold, May}
 use Rattle.m2_lives.proofs.Noting.{Grows, MaySend, MayAccept, sends_one, numbers_more, accepts_one, opens_one, sends_keeps, numbers_keeps, accepts_keeps, opens_keeps, same_grows, numbers_grow, accept_grows, open_grows, all_sent, of_life_more, of_its_life}
-use Rattle.m2_lives.proofs.Standing.{FeedStands, Stands, Next, grows_trans, grows_none, no_more}
+use Rattle.m2_lives.proofs.Standing.{FeedStands, Stands, Next, grows_trans, grows_none}
+use Rattle.m2_bytes_fit.proofs.m2_trail.Later.{same_list}
 
 pub reconnect_apart : phase.ReconnectSent ≡ phase.Ready → ⊥
 reconnect_apart e = cc
@@ -40,7 +41,7 @@ ready_reconnect e = cc
 
 -- the same ledger
 pub still : (mint theirs : ℕ → ℕ) (v : View) (x y : Ledger) → AreLedgers mint theirs x y → Stands v x y → Next mint theirs false v x y
-still mint theirs v x y h s = record { ledger = x; ledgers = h; stands = s; grows = grows_none x; sent = no_more x.sent; ended = refl }
+still mint theirs v x y h s = record { ledger = x; ledgers = h; stands = s; grows = grows_none x; sent = same_list x.sent; ended = refl }
 
 -- ---- a socket is left, or opened
 
@@ -86,7 +87,7 @@ opens_next mint theirs k v x y may h s = record {
     };
   };
   grows = open_grows mint theirs k x y (ap (is_among k) s.opened ∙ may.0) (ap (is_among k) s.taken ∙ may.1) h;
-  sent = no_more x.sent;
+  sent = same_list x.sent;
   ended = refl;
 }
   where
@@ -279,7 +280,7 @@ accepts_next mint theirs key m taken v x y may h s = at v.feed s.feed may.1
             feed = fed v.feed s.feed;
           };
           grows = accept_grows mint theirs it x y ok h;
-          sent = no_more x.sent;
+          sent = same_list x.sent;
           ended = refl;
         }
 

@@ -11,13 +11,13 @@ use Rattle.m2_journal.specs.Feeds.{hears, finished, narrowed, next_said, texts_a
 use Rattle.m2_journal.specs.Items as item
 use Rattle.m2_journal.specs.Items.{JournalItem}
 use Rattle.m2_journal.specs.Lawful.{key_of}
-use Rattle.m2_journal.specs.OutFrames.{OutFrame, is_unnamed, replies_of}
+use Rattle.m2_journal.specs.OutFrames.{OutFrame, replies_of}
 use Rattle.m2_journal.specs.Plan.{Planned, to_post, to_dial, to_go_down}
 use Rattle.m2_journal.specs.Replay.{after_items}
 use Rattle.m2_journal.specs.Said.{Said, says, brings, aborts, garbles}
 use Rattle.m2_journal.specs.SideFacts.{SideFacts, cookie_of}
-use Rattle.m2_journal.specs.State.{PartText, Feed, State, start}
-use Rattle.m2_journal.specs.Steps.{accepts, after, answers, breaks, closes, composes_on, discards, event_at, event_heard, event_of, event_on, forgets, has_effects, is_on, is_waiting, lowers, notes, on_feed_at, heeds, takes_socket, sends, posts as posts_planned, puts, puts_on, queues, reads, sets_back, spends, takes_answer, tells, tells_if, tells_of_reset, where_true, with_feed, writes_message}
+use Rattle.m2_journal.specs.State.{Feed, State, start}
+use Rattle.m2_journal.specs.Steps.{accepts, after, answers, breaks, closes, composes_on, discards, event_at, event_heard, event_of, event_on, forgets, has_effects, is_on, is_waiting, lowers, notes, on_feed_at, heeds, takes_socket, sends, posts as posts_planned, puts, queues, reads, sets_back, spends, takes_answer, tells, tells_if, tells_of_reset, where_true, with_feed, writes_message}
 use Rattle.m2_journal.specs.m2_fabric.declared.socket.SocketId.{SocketId}
 use Rattle.m2_journal.specs.m2_message.Message.{Content}
 use Rattle.m2_journal.specs.m2_policy.declared.path.Key.{Key}
@@ -36,6 +36,7 @@ use Rattle.m2_never_reset.specs.Orders.{SideItem, near_item, far_item, near_item
 use Rattle.m2_lives.specs.Lives.{LivesStep, post, begins_sending, begins_receiving, accept, acknowledge, dispatch, mark, reset, LivesChannel, new_lives, changed_in_lives, after_in_lives, LifeMessage, posts, dispatches}
 use Rattle.m2_lives.specs.Observed.{dropped_at, shown_by_sender, shown_by_reader, shown_down, begins_told, sends_anew, receives_anew, shown_reset, shown_near, shown_far, shown_from, heard_in_lives, dispatched_from, observed_in_lives}
 use Rattle.m2_lives.specs.ObservedLaws.{LivesAreNamed}
+use Rattle.m2_journal.proofs.Lives.{puts_on-stays}
 
 -- ---- the life of a record
 
@@ -126,10 +127,6 @@ late_life : (b : Bool) (s t : State) → s.life ≡ t.life → (if b then s else
 late_life true s t h = h
 late_life false s t h = refl
 
-put_life : (o : Option PartText) (texts : List PartText) (d : Feed) (s : State) → (puts_on o texts d s).life ≡ s.life
-put_life (Some t) texts d s = late_life (is_unnamed t.frame) _ _ refl
-put_life None texts d s = refl
-
 closed_life : (k : SocketId) (s : State) (b : Bool) →
     (if b then breaks s else forgets k s).life ≡ named_by (if b then Some (event.Faulted (is_waiting s)) else None) s.session s.life
 closed_life k s true = tells_life (event.Faulted (is_waiting s)) s
@@ -166,7 +163,7 @@ life_of f (item.post place planned) s = posts_life planned (record s { steps = s
 life_of f (item.dial planned) s = refl
 life_of f (item.opened k) s = tells_life event.Dialled s
 life_of f (item.read k bytes) s = read_life f bytes s s.feed
-life_of f (item.wrote k bytes) s = feed_life s.feed (puts f bytes) s (λ d. put_life (finished (narrowed bytes (texts_at f s d))) (narrowed bytes (texts_at f s d)) d s)
+life_of f (item.wrote k bytes) s = feed_life s.feed (puts f bytes) s (λ d. puts_on-stays (finished (narrowed bytes (texts_at f s d))) (narrowed bytes (texts_at f s d)) d s)
 life_of f (item.closed k broken) s = closed_life k s (is_on k s.feed)
 life_of f (item.judged k ask n answer unread trail) s =
     answers_life f k ask n answer unread (tells_if (event_of f ask n answer) (notes k ask n answer s)) ∙ tells_if_life (event_of f ask n answer) (notes k ask n answer s)

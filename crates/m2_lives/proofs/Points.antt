@@ -1,19 +1,19 @@
 -- Where bytes fit throughout an order of two lossless journals with mark-downs, the two sides fit and are paired at each point.
-use Rattle.std.proofs.Common.{◌≡◌, ◌⊎◌, inl, inr, Bool, true, false, List, [], ◌∷◌, ◌++◌, Option, Some, None, refl, sym, ap, ◌∙◌, subst, append_assoc, append-nil}
+use Rattle.std.proofs.Common.{◌≡◌, ◌⊎◌, inl, inr, Bool, true, false, List, [], ◌∷◌, ◌++◌, Option, refl, sym, ap, ◌∙◌, subst, append_assoc, append-nil}
 use Rattle.std.specs.List.{AllByRecursion}
-use Rattle.m2_bytes_fit.specs.Ends.{Side, state_of}
+use Rattle.m2_bytes_fit.specs.Ends.{Side}
 use Rattle.m2_bytes_fit.specs.Halves.{BytesFit}
 use Rattle.m2_bytes_fit.specs.Orders.{OrderEntry, near_entry, far_entry, near_half, far_half, entries_of, near_side, far_side}
 use Rattle.m2_bytes_fit.specs.Texts.{CanBePosted}
 use Rattle.m2_bytes_fit.specs.m2_trail.Trails.{HalfBytes}
 use Rattle.m2_bytes_fit.proofs.Asking.{near_behind, far_behind}
-use Rattle.m2_bytes_fit.proofs.Bounded.{IsUnasked, SessionIsBounded, rest_after, step_bounded}
+use Rattle.m2_bytes_fit.proofs.Bounded.{SessionIsBounded, rest_after, step_bounded}
 use Rattle.m2_bytes_fit.proofs.Composed.{AreComposed, FeedIsKnown, Holds, IsNode, can_be_sent, entry_holds, entry_sent, starts_holding, unasked_so}
 use Rattle.m2_bytes_fit.proofs.Growing.{Leads, entry_grows}
 use Rattle.m2_bytes_fit.proofs.Hands.{HandKept}
 use Rattle.m2_bytes_fit.proofs.Hears.{NoAskBehind, near_hears}
-use Rattle.m2_bytes_fit.proofs.Orders.{entries-append, feed_so, opened_apart}
-use Rattle.m2_bytes_fit.proofs.Points.{Known, turn, near_judges}
+use Rattle.m2_bytes_fit.proofs.Orders.{entries-append, feed_known, feed_so, fits_so, opened_apart}
+use Rattle.m2_bytes_fit.proofs.Points.{Known, near_judges}
 use Rattle.m2_bytes_fit.proofs.Steps.{AllKept}
 use Rattle.m2_bytes_fit.proofs.m2_feed.m2_lemmas.Booleans.{from_false_true}
 use Rattle.m2_bytes_fit.proofs.m2_feed.m2_lemmas.Lists.{all_append, all_back, all_front}
@@ -25,7 +25,7 @@ use Rattle.m2_journal.specs.Laws.{EventsAreLawful, IfFed, ReplaysAreSound}
 use Rattle.m2_journal.specs.Plan.{Planned}
 use Rattle.m2_journal.specs.Replay.{AreLawful, after_items}
 use Rattle.m2_journal.specs.SideFacts.{SideFacts}
-use Rattle.m2_journal.specs.State.{Feed, State, start}
+use Rattle.m2_journal.specs.State.{State, start}
 use Rattle.m2_journal.specs.Steps.{after}
 use Rattle.m2_journal.specs.m2_fabric.declared.socket.SocketId.{SocketId}
 use Rattle.m2_journal.specs.m2_fabric.Sockets.{goes_to}
@@ -34,13 +34,13 @@ use Rattle.m2_journal.proofs.Growing.{after-append}
 use Rattle.m2_journal.proofs.JudgedOn.{lawful_front}
 use Rattle.m2_journal.proofs.Sessions.{goes}
 use Rattle.m2_channel.specs.Lossy.{IsByteOrder}
-use Rattle.m2_never_reset.specs.Fits.{Fits, HearsAt}
+use Rattle.m2_never_reset.specs.Fits.{Fits}
 use Rattle.m2_never_reset.specs.Orders.{SideItem, near_item, far_item, near_items, far_items, near_after, far_after, FitThroughout}
 use Rattle.m2_never_reset.specs.PairLaws.{IsNoDown, IsReplayed, PairedStays, StartsAreNew}
-use Rattle.m2_never_reset.specs.Paired.{FeedIsPaired, Paired, beside}
+use Rattle.m2_never_reset.specs.Paired.{Paired}
 use Rattle.m2_never_reset.proofs.Entries.{fits_turn}
 use Rattle.m2_never_reset.proofs.OneHistory.{fit-append}
-use Rattle.m2_never_reset.proofs.Orders.{paired_turn}
+use Rattle.m2_never_reset.proofs.Orders.{paired_turn, starts_fit}
 use Rattle.m2_never_reset.proofs.Sided.{near_append, far_append}
 use Rattle.m2_lives.specs.ObservedLaws.{BytesGiveLives}
 use Rattle.m2_lives.proofs.Down.{down_leaves, leaves_far, leaves_near, leaves_paired}
@@ -97,24 +97,6 @@ nodes_turned f g h = record { near = h.far; far = h.near; peers = λ k e. at k (
     at : (k : SocketId) (b : Bool) → goes_to f.peer k ≡ b → goes_to g.peer k ≡ true → goes_to f.peer k ≡ false
     at k false q e = q
     at k true q e = from_false_true (sym (h.peers k q) ∙ e)
-
--- ---- words
-
-feed_known : (a b : State) → HearsAt a.feed b.sent → IfFed a.feed (FeedIsPaired (beside a b)) → IfFed a.feed (FeedIsKnown a)
-feed_known a b heard h = at a.feed (unasked_so a.feed b.sent heard) h
-  where
-    at : (o : Option Feed) → IfFed o IsUnasked → IfFed o (FeedIsPaired (beside a b)) → IfFed o (FeedIsKnown a)
-    at None u g = tt
-    at (Some d) u g = record { written = g.texts; unasked = u }
-
-fits_so : (a b : Side) → Known a b → NoAskBehind (state_of a) (state_of b) → NoAskBehind (state_of b) (state_of a) → Fits (state_of a) (state_of b)
-fits_so a b h near far = record {
-  near_hears = near_hears a b h near;
-  far_hears = near_hears b a (turn a b h) far;
-  near_judges = near_judges a b h;
-  far_judges = near_judges b a (turn a b h);
-  opened_apart = h.apart;
-}
 
 -- ---- an entry more of the near side
 
@@ -244,9 +226,6 @@ module _ (known : Laws) (f g : SideFacts) (nodes : BothNodes f g) (is js : List 
 
 starts_alone : (f : SideFacts) → SideKept f []
 starts_alone f = record { kept = λ k. record { read = refl; wrote = refl; feed = refl; frames = refl }; lawful = tt; leads = tt; hand = tt; holds = starts_holding f }
-
-starts_fit : (f g : SideFacts) → Fits (start f) (start g)
-starts_fit f g = record { near_hears = tt; far_hears = tt; near_judges = tt; far_judges = tt; opened_apart = λ k e. from_false_true e }
 
 pub starts : Laws → (f g : SideFacts) → PointKept f g [] []
 starts known f g = record { near = starts_alone f; far = starts_alone g; paired = known.new.paired f g; fits = starts_fit f g; near_behind = tt; far_behind = tt }

@@ -25,9 +25,10 @@ use Rattle.m2_lives.specs.ObservedLaws.{NumberedLife}
 use Rattle.m2_lives.proofs.Ledger.{Stay, Ledger, names, count, HasStay, IsTrueFrame, offers, IsAcceptance, HasAccepted, IsAskFor, HasAskedFor, IsThere, ComesFrom, AreLedgers}
 use Rattle.m2_lives.proofs.Moves.{Spot, View, Move, begins, rests, opens, leaves, asks_ident, asks_reconnect, asks_again, obeys, settles, goes_on, refuses, gives_way, orders, takes, resumes, numbers, acknowledges, answers, accepts, counts, goes_down, on_socket, taken_more, anew, moved, OnSpot, IfSpot, IsNextAnswer, WasSent, IsRefusalFrame, MayTake, May}
 use Rattle.m2_lives.proofs.Noting.{Grows, MaySend, MayBegin, MayStay, sends_one, begins_one, stays_one, numbers_more, draws_one, sends_keeps, begins_keeps, stays_keeps, numbers_keeps, draws_keeps, same_grows, begin_grows, stay_grows, numbers_grow, draw_grows, all_sent, one_stay, no_stay, stay_there}
-use Rattle.m2_lives.proofs.Standing.{FeedStands, Stands, Draws, Next, grows_trans, no_more, next_sent, offers_drawn, offer_there, same_offer}
+use Rattle.m2_lives.proofs.Standing.{FeedStands, Stands, Draws, Next, grows_trans, next_sent, offers_drawn, offer_there, same_offer}
 use Rattle.m2_lives.proofs.Moving.{reconnect_apart, ready_reconnect, still, leaves_stands, leaves_next, opens_next, acknowledges_next, answers_next, numbered_stands, numbers_next, equal_most, accepts_next, counts_next}
 use Rattle.m2_lives.proofs.Asking.{asks_again_next, goes_down_next, obeys_next, asks_ident_next, asks_reconnect_next}
+use Rattle.m2_bytes_fit.proofs.m2_trail.Later.{same_list}
 
 -- ---- in Ready by an answer
 
@@ -77,7 +78,7 @@ goes_on_next mint theirs seen v x y may h s = at v.feed refl s.feed may.1
             };
           };
           grows = stay_grows mint theirs p.socket v.life x y ok h;
-          sent = no_more x.sent;
+          sent = same_list x.sent;
           ended = refl;
         }
 
@@ -159,7 +160,7 @@ settles_next mint theirs draws cookie global kept v x y may h s = at v.feed refl
             };
           };
           grows = grows_trans x z (begins_one l z) (stay_grows mint theirs p.socket cookie x y ok h) (begin_grows mint theirs l z y begin h');
-          sent = no_more x.sent;
+          sent = same_list x.sent;
           ended = refl;
         }
       where
@@ -170,7 +171,7 @@ settles_next mint theirs draws cookie global kept v x y may h s = at v.feed refl
 
 refuses_next : (mint theirs : ℕ → ℕ) (k : SocketId) (number : ℕ) (ws : List OutFrame) (v : View) (x y : Ledger) → May mint y (refuses k number ws) v → AreLedgers mint theirs x y → Stands v x y →
     Next mint theirs false (moved (refuses k number ws) v) x y
-refuses_next mint theirs k number ws v x y may h s = all ws raised (draws_keeps mint theirs number x.taken x y above (λ j e. e) h) (draw_grows mint theirs number x.taken x y above (λ j e. e) h) (no_more x.sent) refl may.0 v (record {
+refuses_next mint theirs k number ws v x y may h s = all ws raised (draws_keeps mint theirs number x.taken x y above (λ j e. e) h) (draw_grows mint theirs number x.taken x y above (λ j e. e) h) (same_list x.sent) refl may.0 v (record {
   now = s.now;
   accepted = s.accepted;
   sent = s.sent;
@@ -466,7 +467,7 @@ moves_next mint theirs draws (orders more) v x y may h s = record {
   ledgers = numbers_keeps mint theirs more x y h;
   stands = numbered_stands more v x y s;
   grows = numbers_grow mint theirs more x y h;
-  sent = no_more x.sent;
+  sent = same_list x.sent;
   ended = refl;
 }
 moves_next mint theirs draws (takes k cookie number kept) v x y may h s = takes_next mint theirs k number v x y may.0 h s draws cookie may.1 kept

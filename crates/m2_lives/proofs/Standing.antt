@@ -1,5 +1,5 @@
 -- Where a side stands by its ledger, and that each of its moves leads to where it stands by a ledger that has grown.
-use Rattle.std.proofs.Common.{◌≡◌, ◌≢◌, ℕ, zero, suc, ◌+◌, ◌≤◌, ◌⊎◌, inl, inr, Bool, true, false, not, if◌then◌else◌, List, [], ◌∷◌, ◌++◌, map, take, drop, None, refl, sym, ap, subst, ◌∙◌, arith, append-nil, le_refl}
+use Rattle.std.proofs.Common.{◌≡◌, ◌≢◌, ℕ, zero, suc, ◌+◌, ◌≤◌, ◌⊎◌, inl, inr, Bool, true, false, not, if◌then◌else◌, List, [], ◌∷◌, ◌++◌, map, take, drop, None, refl, sym, ap, subst, ◌∙◌, arith, le_refl}
 use Rattle.std.specs.Prelude.{IfSome}
 use Rattle.std.specs.List.{AllByRecursion, filter}
 use Rattle.std.proofs.lemmas.List.Elements.{filter_map-append}
@@ -78,9 +78,6 @@ grows_trans x y z a b = record {
 
 pub grows_none : (x : Ledger) → Grows x x
 grows_none x = record { stays = λ k n p. p; counts = λ n. le_refl (count n x); numbered = λ n place m p. p; taken = λ k e. e; opened = λ k e. e; top = le_refl x.top }
-
-pub no_more : {X : Type 0} (xs : List X) → IsExtended xs xs
-no_more xs = ([], sym (append-nil xs))
 
 -- ---- answers on a socket
 

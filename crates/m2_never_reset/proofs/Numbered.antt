@@ -82,7 +82,7 @@ call_keeps h Requeue = refl
 call_keeps h Renumber = refl
 call_keeps h Discard = refl
 
-calls_keep : (h : History) (cs : List Call) → (after_calls h cs).queue.keeps ≡ h.queue.keeps
+pub calls_keep : (h : History) (cs : List Call) → (after_calls h cs).queue.keeps ≡ h.queue.keeps
 calls_keep h [] = refl
 calls_keep h (c ∷ cs) = calls_keep (after_call h c) cs ∙ call_keeps h c
 

@@ -61,7 +61,7 @@ pub record IsLedTo (f : SideFacts) (s : State) : Type 0 where
   pub lawful : AreLawful f items (start f)
   pub state : s ≡ after_items f items (start f)
 
-leads_on : (f : SideFacts) (i : JournalItem) (s : State) → IsLedTo f s → Lawful f i s → IsLedTo f (after f i s)
+pub leads_on : (f : SideFacts) (i : JournalItem) (s : State) → IsLedTo f s → Lawful f i s → IsLedTo f (after f i s)
 leads_on f i s led lawful = record {
   items = led.items ++ i ∷ [];
   lawful = lawful-append f led.items (i ∷ []) (start f) led.lawful (subst (Lawful f i) led.state lawful, tt);
@@ -77,7 +77,7 @@ pub record IsReached (f g : SideFacts) (a b : State) : Type 0 where
 pub paired_turn : (a b : State) → Paired a b → Paired b a
 paired_turn a b paired = record { near = paired.far; far = paired.near }
 
-starts_fit : (f g : SideFacts) → Fits (start f) (start g)
+pub starts_fit : (f g : SideFacts) → Fits (start f) (start g)
 starts_fit f g = record {
   near_hears = tt;
   far_hears = tt;

@@ -14,6 +14,7 @@ use Rattle.m2_journal.specs.State.{Feed, State, start}
 use Rattle.m2_journal.specs.Steps.{after, event_of, judges, kept_of, notes, on_feed_at, queues, sends, spends, takes_socket, tells, tells_if}
 use Rattle.m2_journal.proofs.Eventful.{EventIsFine, each_is_fine}
 use Rattle.m2_journal.proofs.Growing.{after-append, items-append, lawful-append}
+use Rattle.m2_journal.proofs.JudgedOn.{lawful_front}
 use Rattle.m2_journal.proofs.Fed.{Stands, stands}
 use Rattle.m2_journal.specs.m2_queues.QueueLaws.{Requeue}
 use Rattle.m2_session.specs.declared.answer.Answer.{Answer}
@@ -22,7 +23,6 @@ use Rattle.m2_session.specs.declared.ask.AskFacts.{AskFacts}
 use Rattle.m2_session.specs.declared.event.Event.TheVariants as event
 use Rattle.m2_session.specs.declared.session.Phase.{Phase}
 use Rattle.m2_session.specs.declared.session.Phase.TheVariants as phase
-use Rattle.m2_session.specs.declared.session.Session.{Session}
 use Rattle.m2_session.specs.Asks.{reconnect_of}
 use Rattle.m2_session.specs.Dials.{at_rest}
 use Rattle.m2_session.specs.Phases as phases
@@ -32,7 +32,7 @@ use Rattle.m2_bytes.proofs.m2_lemmas.Booleans.{false_isnt_true}
 use Rattle.m2_trace.specs.declared.dials.DialCause.{DialCause}
 use Rattle.m2_trace.specs.Dials.{cause_after, cause_behind, cause_in, cause_in_phase}
 use Rattle.m2_trace.specs.Laws.{CausesAreOfDials, ConnectsAreTold}
-use Rattle.m2_trace.proofs.Named.{lawful_front, one_more, state_at}
+use Rattle.m2_trace.proofs.Named.{one_more, state_at}
 
 -- ---- a cause is there where a connect is due
 

@@ -16,6 +16,7 @@ use Rattle.m2_journal.specs.Steps.{after, answer_event, event_at, event_heard, e
 use Rattle.m2_journal.proofs.Eventful.{EventIsFine, each_is_fine}
 use Rattle.m2_journal.proofs.Growing.{after-append, items-append, lawful-append}
 use Rattle.m2_journal.proofs.Fed.{Stands, stands}
+use Rattle.m2_journal.proofs.JudgedOn.{lawful_front}
 use Rattle.m2_journal.proofs.Sessions.{goes}
 use Rattle.m2_session.specs.declared.answer.Answer.{Answer}
 use Rattle.m2_session.specs.declared.answer.Answer.TheVariants as answer
@@ -238,10 +239,6 @@ all_held f sources (e ∷ es) p is lossless before law =
     ∙ ap (λ (h : Held). held_from f h es) next
 
 -- what was lawful was so as far as its first entries
-pub lawful_front : (f : SideFacts) (is js : List JournalItem) (s : State) → AreLawful f (is ++ js) s → AreLawful f is s × AreLawful f js (after_items f is s)
-lawful_front f [] js s law = (tt, law)
-lawful_front f (i ∷ is) js s law = let rest = lawful_front f is js (after f i s) law.1 in ((law.0, rest.0), rest.1)
-
 -- ---- the word
 
 lossless_of : (by_ident lossy : Bool) → (by_ident ≡ true) ⊎ (lossy ≡ false) → by_ident ≡ false → lossy ≡ false

@@ -21,7 +21,7 @@ use Rattle.m2_trail.specs.Turn.{AdvancesAs, Moves}
 
 -- ---- ends
 
-same_list : {X : Type 0} (xs : List X) → IsExtended xs xs
+pub same_list : {X : Type 0} (xs : List X) → IsExtended xs xs
 same_list xs = ([], sym (append-nil xs))
 
 by_list : {X : Type 0} (xs ys : List X) → ys ≡ xs → IsExtended xs ys

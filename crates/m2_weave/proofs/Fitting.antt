@@ -15,7 +15,8 @@ use Rattle.m2_weave.proofs.Deciding.{read-sound, read-complete}
 abbrev pub by_then : ℕ → List ℕ → ℕ → Option ℕ
 by_then written put place = if nat_lt place written then slice_get put place else None
 
-same-bool : (a b : Bool) → (a ≡ true → b ≡ true) → (b ≡ true → a ≡ true) → a ≡ b
+-- two truth values of which each follows from the other
+pub same-bool : (a b : Bool) → (a ≡ true → b ≡ true) → (b ≡ true → a ≡ true) → a ≡ b
 same-bool true b f g = sym (f refl)
 same-bool false true f g = g refl
 same-bool false false f g = refl
