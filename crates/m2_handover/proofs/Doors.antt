@@ -1,5 +1,5 @@
 -- Sockets that are accepted one after another.
-use Rattle.std.proofs.Common.{◌≡◌, [], ◌∷◌, ◌++◌, refl, sym, ap, subst, ◌∙◌, append-nil, append_assoc}
+use Rattle.std.proofs.Common.{◌≡◌, ℕ, true, [], ◌∷◌, ◌++◌, refl, sym, ap, subst, ◌∙◌, append-nil, append_assoc}
 use Rattle.m2_edge.specs.Faults.{HasRisen, next_count}
 use Rattle.m2_fabric.specs.End.{SeenEnd}
 use Rattle.m2_fabric.specs.Port.{Accepts, SeenPort}
@@ -37,30 +37,20 @@ lets_made e a b h = record {
   faults = ap (λ (s : SeenPort). s.faults) h.3;
 }
 
+-- an accept that gives none changes no more than this
+counts_stay : (a : SeenPort) (refused faults : ℕ) → StaysThere a (record a { quiet = true; refused = refused; faults = faults })
+counts_stay a refused faults = record { more = []; made = sym (append-nil a.made); at = refl; accepts = refl; missed = refl; cuts = refl }
+
 pub lets_nothing : (a b : SeenPort) → Accepts accept.NotYet a b → OnlyAccepts a b
 lets_nothing a b h = record {
-  stays = record {
-    more = [];
-    made = ap (λ (s : SeenPort). s.made) h.1 ∙ sym (append-nil a.made);
-    at = ap (λ (s : SeenPort). s.at) h.1;
-    accepts = ap (λ (s : SeenPort). s.accepts) h.1;
-    missed = ap (λ (s : SeenPort). s.missed) h.1;
-    cuts = ap (λ (s : SeenPort). s.cuts) h.1;
-  };
+  stays = subst (StaysThere a) (sym h.1) (counts_stay a a.refused a.faults);
   refused = ap (λ (s : SeenPort). s.refused) h.1;
   faults = ap (λ (s : SeenPort). s.faults) h.1;
 }
 
 pub lets_failed : (a b : SeenPort) → Accepts accept.Failed a b → FailsOnce a b
 lets_failed a b h = record {
-  stays = record {
-    more = [];
-    made = ap (λ (s : SeenPort). s.made) h.1 ∙ sym (append-nil a.made);
-    at = ap (λ (s : SeenPort). s.at) h.1;
-    accepts = ap (λ (s : SeenPort). s.accepts) h.1;
-    missed = ap (λ (s : SeenPort). s.missed) h.1;
-    cuts = ap (λ (s : SeenPort). s.cuts) h.1;
-  };
+  stays = subst (StaysThere a) (sym h.1) (counts_stay a (next_count a.refused) b.faults);
   refused = ap (λ (s : SeenPort). s.refused) h.1;
   risen = h.0.0;
 }

@@ -1,18 +1,20 @@
 -- Where the sockets of an event thread's port are, and that a socket which it opens is new to it.
-use Rattle.std.proofs.Common.{◌≡◌, ◌⊎◌, inl, inr, ℕ, ◌+◌, ◌==◌, ◌&&◌, ◌||◌, Bool, true, false, List, [], ◌∷◌, ◌++◌, map, option_to_list, sum_by, Option, Some, None, refl, sym, ap, subst, ◌∙◌, arith}
+use Rattle.std.proofs.Common.{◌≡◌, ◌⊎◌, inl, inr, ℕ, ◌+◌, ◌==◌, ◌&&◌, ◌||◌, Bool, true, false, List, [], ◌∷◌, ◌++◌, map, option_to_list, sum_by, Option, Some, None, refl, sym, ap, subst, ◌∙◌, append-nil, arith}
 use Rattle.std.specs.List.{AllByRecursion}
 use Rattle.std.proofs.lemmas.Bool.{and_parts, eqb-true, eq-eqb, false_from_ne_true}
 use Rattle.std.proofs.lemmas.List.Sums.{sum_by-append, sum_by-cons, sum_by_push}
 use Rattle.m2_addr.specs.declared.addr.Addr.{Addr}
 use Rattle.m2_fabric.specs.Port.{SeenPort}
 use Rattle.m2_fabric.specs.Sockets.{IsNewTo, goes_to, is_among, same_socket}
+use Rattle.m2_fabric.specs.declared.port.Taken.{Taken}
+use Rattle.m2_fabric.specs.declared.port.Taken.TheVariants as accept
 use Rattle.m2_fabric.specs.declared.socket.SocketId.{SocketId}
 use Rattle.m2_fabric.proofs.Sockets.{among_front, among_last, same_equal}
 use Rattle.m2_bytes.proofs.m2_lemmas.Booleans.{from_false_true}
 use Rattle.m2_trail.specs.Arrivals.{LooseNow}
 use Rattle.m2_handover.specs.Door.{DoorNow, StaysThere, TakesIn, weight_of, weight_on_way, weight_put}
 use Rattle.m2_handover.specs.Handed.{OnItsWay, left_behind}
-use Rattle.m2_handover.specs.Home.{AreAllThere, HomeNow, IsHome, IsKnown, halves_at, left_at_door, put_at, weight_at_door, weight_next}
+use Rattle.m2_handover.specs.Home.{AreAllThere, HasTakenAll, HomeNow, IsHome, IsKnown, IsNoWait, halves_at, left_at_door, put_at, weight_at_door, weight_next}
 
 -- ---- sockets that are known
 
@@ -66,12 +68,8 @@ home_same old new h inner at made taken next door = (
       let d : weight_at_door weight new.door ≡ weight_at_door weight old.door = ap (weight_at_door weight) door in
       omega (arith, h.0 weight, p, t, m, n, d),
   subst (AllByRecursion (IsKnown new.inner)) (sym made)
-      (known_more old.inner new.inner [] old.made (inner ∙ sym (append_nil old.inner.made)) at h.1),
+      (known_more old.inner new.inner [] old.made (inner ∙ sym (append-nil old.inner.made)) at h.1),
 )
-  where
-    append_nil : (xs : List SocketId) → xs ++ [] ≡ xs
-    append_nil [] = refl
-    append_nil (x ∷ xs) = ap (λ l. x ∷ l) (append_nil xs)
 
 -- it opens a socket
 pub home_opens : (old new : HomeNow) (id : SocketId) → IsHome old → new.inner.made ≡ old.inner.made ++ id ∷ [] → new.inner.at ≡ old.inner.at → new.made ≡ old.made ++ id ∷ []
@@ -135,6 +133,14 @@ home_lets_in old new before after h was is takes stays made taken next = (
       omega (arith, h.0 weight, takes weight, t, m, n, d, e),
   subst (AllByRecursion (IsKnown new.inner)) (sym made) (known_more old.inner new.inner stays.more old.made stays.made stays.at h.1),
 )
+
+-- ---- what an accept has taken
+
+pub taken_all : {E : Type 0} (t : Taken E) (old new : HomeNow) → IsNoWait t → HasTakenAll t old new
+taken_all (accept.Made e) old new h = tt
+taken_all accept.NotYet old new h = absurd h
+taken_all accept.Failed old new h = tt
+taken_all accept.NoMemory old new h = tt
 
 -- ---- its end
 

@@ -1,5 +1,5 @@
 -- A node's door, and what a turn of it changes there and at its port. This project's own.
-use Rattle.std.specs.Prelude.{◌≡◌, ℕ, ◌+◌, List, ◌++◌, map, slice_get, slice_set, sum_by, Option, Some, None}
+use Rattle.std.specs.Prelude.{◌≡◌, ◌⊎◌, ℕ, ◌+◌, true, List, ◌++◌, length, map, slice_get, slice_set, sum_by, Option, Some, None}
 use Rattle.m2_edge.specs.Faults.{HasRisen, next_count}
 use Rattle.m2_fabric.specs.Port.{SeenPort}
 use Rattle.m2_fabric.specs.declared.socket.SocketId.{SocketId}
@@ -8,6 +8,7 @@ use Rattle.m2_trail.specs.Arrivals.{LooseNow}
 use Rattle.m2_handover.specs.Handed.{OnItsWay, left_behind}
 use Rattle.m2_handover.specs.declared.door.DoorTurn.{DoorTurn}
 use Rattle.m2_handover.specs.declared.door.DoorTurn.TheVariants as turn
+use Rattle.m2_handover.specs.declared.door.TheConstants.{MOST_ACCEPTS}
 
 -- Halves that weren't asked yet, in order; sockets that were, whose home has had no room; halves that are over; and what was put
 -- by each way.
@@ -98,3 +99,16 @@ LetsIn _ old new = OnlyAccepts old new
 abbrev pub LetsOneIn : Option DoorTurn → SeenPort → SeenPort → Type 0
 LetsOneIn None old new = OnlyAccepts old new
 LetsOneIn (Some end) old new = LetsIn end old new
+
+-- ---- how many
+
+-- Where all went well, the last accept found none, or so many sockets were accepted as are in a turn.
+abbrev pub LetsAllIn : DoorTurn → SeenPort → SeenPort → Type 0
+LetsAllIn turn.Done old new = (new.quiet ≡ true) ⊎ (length new.made ≡ length old.made + MOST_ACCEPTS)
+LetsAllIn _ old new = Unit {0}
+
+-- One was accepted, or the accept found none.
+abbrev pub LetsTheNextIn : Option DoorTurn → SeenPort → SeenPort → Type 0
+LetsTheNextIn None old new = length new.made ≡ length old.made + 1
+LetsTheNextIn (Some turn.Done) old new = new.quiet ≡ true
+LetsTheNextIn (Some _) old new = Unit {0}

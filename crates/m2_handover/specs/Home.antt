@@ -1,5 +1,5 @@
 -- What contracts see of the port of an event thread of a node that has several. This project's own.
-use Rattle.std.specs.Prelude.{◌≡◌, ◌⊎◌, ℕ, ◌+◌, Bool, true, List, [], ◌++◌, map, sum_by, Option, Some, None}
+use Rattle.std.specs.Prelude.{◌≡◌, ◌⊎◌, ℕ, ◌+◌, Bool, true, List, [], ◌++◌, map, sum_by, Option, Some, None, IfSome}
 use Rattle.std.specs.List.{AllByRecursion}
 use Rattle.std.specs.Option.{option_to_list}
 use Rattle.m2_fabric.specs.End.{SeenEnd}
@@ -7,10 +7,12 @@ use Rattle.m2_fabric.specs.Log.{nothing_done}
 use Rattle.m2_fabric.specs.Port.{Accepts, SeenPort}
 use Rattle.m2_fabric.specs.Sockets.{goes_to, is_among}
 use Rattle.m2_fabric.specs.declared.port.Taken.{Taken}
+use Rattle.m2_fabric.specs.declared.port.Taken.TheVariants as accept
 use Rattle.m2_fabric.specs.declared.socket.SocketId.{SocketId}
-use Rattle.m2_handover.specs.Door.{DoorNow, left_at, weight_of, weight_on_way, weight_put, weight_through}
+use Rattle.m2_handover.specs.Door.{DoorNow, LetsAllIn, left_at, weight_of, weight_on_way, weight_put, weight_through}
 use Rattle.m2_handover.specs.End.{told_nothing}
 use Rattle.m2_handover.specs.Handed.{OnItsWay, left_behind}
+use Rattle.m2_handover.specs.declared.door.DoorTurn.TheVariants as turn
 use Rattle.m2_trail.specs.Arrivals.{LooseNow}
 
 -- The port inside; the sockets that this one made, in order, and for how many more there is room; whether its last accept found none;
@@ -39,6 +41,22 @@ begun_again e = record (told_nothing e) { log = nothing_done }
 abbrev pub TakesOver : Option (Taken SeenEnd) → HomeNow → HomeNow → Type 0
 TakesOver None old new = shown new ≡ shown old
 TakesOver (Some taken) old new = Accepts taken (shown old) (shown new)
+
+-- Where an accept finds none, nothing that was taken out of the inbox waits to be accepted; and where this port has the node's door,
+-- all that waited at the port inside were let in.
+abbrev pub HasTakenAll : {E : Type 0} → Taken E → HomeNow → HomeNow → Type 0
+HasTakenAll accept.NotYet old new = (new.next ≡ None) × IfSome old.door (λ d. LetsAllIn turn.Done old.inner new.inner)
+HasTakenAll _ old new = Unit {0}
+
+-- an accept that doesn't say that there is none
+abbrev pub IsNoWait : {E : Type 0} → Taken E → Type 0
+IsNoWait accept.NotYet = ⊥
+IsNoWait _ = Unit {0}
+
+-- the port inside and the door stay
+pub record IsSameInside (old new : HomeNow) : Type 0 where
+  pub inner : new.inner ≡ old.inner
+  pub door : new.door ≡ old.door
 
 -- only the port inside and the door change
 pub record IsSameButInner (old new : HomeNow) : Type 0 where

@@ -2,7 +2,7 @@
 
 ghost use Rattle.std.specs.Prelude.{◌≡◌, ◌+◌, ◌++◌, ◌<◌, ◌≤◌, [], IfOk, IsSome, OnOk, length, map, vec_capacity, vec_len};
 ghost use Rattle.std.specs.VecDeque.{deque_capacity, deque_len};
-ghost use Rattle.m2_handover.specs.Door.{Hands, KeepsAll, LetsIn, LetsOneIn, Stands, TakesIn, left_at};
+ghost use Rattle.m2_handover.specs.Door.{Hands, KeepsAll, LetsAllIn, LetsIn, LetsOneIn, LetsTheNextIn, Stands, TakesIn, left_at};
 ghost use Rattle.m2_handover.specs.Handed.{left_behind};
 ghost use Rattle.m2_handover.specs.declared.door.TheConstants.{MOST_AT_DOOR};
 ghost use Rattle.m2_trail.specs.declared.incoming.TheConstants.{MOST_READ};
@@ -120,6 +120,7 @@ impl<'a, P: Port, B: Inboxes> Door<'a, P, B> {
     #[tactic(auto, using(crate::proofs::Weights::takes_then_keeps))]
     pub(crate) fn turn<R: Wait>(&mut self, rt: &R, port: &mut P) -> DoorTurn
         ensures lets { LetsIn result (P.seen port.old) (P.seen port.new) }
+        ensures all { LetsAllIn result (P.seen port.old) (P.seen port.new) }
         ensures sockets { TakesIn (P.seen port.old).made (P.seen port.new).made self.old self.new }
     {
         self.busy = false;
@@ -137,6 +138,7 @@ impl<'a, P: Port, B: Inboxes> Door<'a, P, B> {
     #[tactic(auto, using(crate::proofs::Doors::accepts_more, crate::proofs::Doors::lets_in_then, crate::proofs::Weights::takes_in_more))]
     fn accept_all(&mut self, port: &mut P) -> DoorTurn
         ensures lets { LetsIn result (P.seen port.old) (P.seen port.new) }
+        ensures all { LetsAllIn result (P.seen port.old) (P.seen port.new) }
         ensures sockets { TakesIn (P.seen port.old).made (P.seen port.new).made self.old self.new }
     {
         'accepts: for _ in 0..MOST_ACCEPTS {
@@ -152,6 +154,7 @@ impl<'a, P: Port, B: Inboxes> Door<'a, P, B> {
     #[tactic(auto, using(crate::proofs::Doors::lets_none, crate::proofs::Doors::lets_made, crate::proofs::Doors::lets_nothing, crate::proofs::Doors::lets_failed, crate::proofs::Weights::comes_in, crate::proofs::Weights::takes_none))]
     fn accept(&mut self, port: &mut P) -> Option<DoorTurn>
         ensures lets { LetsOneIn result (P.seen port.old) (P.seen port.new) }
+        ensures next { LetsTheNextIn result (P.seen port.old) (P.seen port.new) }
         ensures sockets { TakesIn (P.seen port.old).made (P.seen port.new).made self.old self.new }
     {
         let mut entries = Items::empty(self.alloc);

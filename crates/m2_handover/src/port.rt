@@ -2,9 +2,9 @@
 
 ghost use Rattle.std.specs.Prelude.{◌≡◌, ◌<◌, ◌==◌, ◌&&◌, [], ◌++◌, None, Some, false, option_map, IfNone, IfOk, IfSome};
 ghost use Rattle.m2_fabric.specs.Port.{Accepts, Connects, connect_map, taken_map};
-ghost use Rattle.m2_handover.specs.Door.{LetsIn, StaysThere, TakesIn};
+ghost use Rattle.m2_handover.specs.Door.{LetsAllIn, LetsIn, StaysThere, TakesIn};
 ghost use Rattle.m2_handover.specs.Handed.{IsOfNamed};
-ghost use Rattle.m2_handover.specs.Home.{AreAllThere, IsBalanced, IsSameButInner, TakesOver, halves_at, put_at, shown};
+ghost use Rattle.m2_handover.specs.Home.{AreAllThere, HasTakenAll, IsBalanced, IsNoWait, IsSameButInner, IsSameInside, TakesOver, halves_at, put_at, shown};
 ghost use Rattle.m2_mailbox.specs.Passes.{IsGetPassOf, taken_of};
 
 use crate::door::{Door, DoorTurn};
@@ -182,6 +182,7 @@ impl<'a, P: Port, R: Wait + Copy, B: Inboxes> HomePort<'a, P, R, B> {
     #[tactic(auto, using(crate::proofs::Homes::home_same))]
     fn let_in(&mut self) -> DoorTurn
         ensures lets { LetsIn result self.old.inner self.new.inner }
+        ensures all { IfSome self.old.door (λ d. LetsAllIn result self.old.inner self.new.inner) }
         ensures same { IsSameButInner self.old self.new }
     {
         match &mut self.door {
@@ -195,6 +196,7 @@ impl<'a, P: Port, R: Wait + Copy, B: Inboxes> HomePort<'a, P, R, B> {
     fn look(&mut self)
         ensures shown { shown self.new ≡ shown self.old }
         ensures room { self.new.room ≡ self.old.room }
+        ensures inside { IsSameInside self.old self.new }
     {
         if self.next.is_none() {
             self.next = self.inbox.take(&self.rt, &mut self.pass);
@@ -208,6 +210,9 @@ impl<'a, P: Port, R: Wait + Copy, B: Inboxes> HomePort<'a, P, R, B> {
         requires { 0 < self.old.room }
         ensures takes { TakesOver (option_map (taken_map ⟦<HandedEnd<P::End> as End>⟧.seen) result) self.old self.new }
         ensures room { IfNone result (self.new.room ≡ self.old.room) }
+        ensures none { IfNone result (self.new.next ≡ None) }
+        ensures some { IfSome result IsNoWait }
+        ensures inside { IsSameInside self.old self.new }
     {
         self.look();
         let handed = self.next.take()?;
@@ -291,8 +296,10 @@ impl<'a, P: Port, R: Wait + Copy, B: Inboxes> Port for HomePort<'a, P, R, B> {
         }
     }
 
+    #[tactic(auto, using(crate::proofs::Homes::taken_all))]
     fn accept(&mut self) -> Taken<HandedEnd<P::End>>
-        ensures { Accepts (taken_map ⟦<HandedEnd<P::End> as End>⟧.seen result) (shown self.old) (shown self.new) }
+        ensures accepts { Accepts (taken_map ⟦<HandedEnd<P::End> as End>⟧.seen result) (shown self.old) (shown self.new) }
+        ensures all { HasTakenAll result self.old self.new }
     {
         if self.made.reserve(1).is_err() {
             return Taken::NoMemory;
