@@ -28,7 +28,7 @@ pub struct Passes {
 /// An event thread of a node: a port, the records that are at home here, the sockets of peers that no record
 /// took, and where the parcels of the records go.
 ///
-/// Maker: [`new`](Center::new). Looks: [`records`](Center::records), [`parts`](Center::parts),
+/// Maker: [`new`](Center::new). Looks: [`port`](Center::port), [`records`](Center::records), [`parts`](Center::parts),
 /// [`halves`](Center::halves), [`fast`](Center::fast), [`queued`](Center::queued),
 /// [`is_holding`](Center::is_holding), [`granted`](Center::granted), [`idle`](Center::idle),
 /// [`made`](Center::made), [`refused`](Center::refused), [`log`](Center::log). Calls: [`turn`](Center::turn),
@@ -83,6 +83,13 @@ impl<P: Port, D> Model for Center<P, D> {
 }
 
 impl<P: Port, D> Center<P, D> {
+    /// Its port.
+    pub fn port(&self) -> &P
+        ensures { P.seen result.now ≡ self.now.port }
+    {
+        &self.port
+    }
+
     /// Its records, in the order of the links.
     pub fn records(&self) -> &[Record<P::End>]
         ensures { result.now ≡ self.now.records }
