@@ -1,22 +1,29 @@
 -- What waits at ports in memory that are the same is accepted alike, but for want of memory.
 use Rattle.std.proofs.Common.{◌≡◌, ℕ, ◌-◌, ◌<◌, ◌++◌, List, [], ◌∷◌, length, map, Bool, true, false, if◌then◌else◌, Option, None, Some, inl, inr, refl, sym, subst, ◌∙◌, ap, arith}
 use Rattle.std.specs.Prelude.{◌≢◌, ◌⊎◌, IfSome, IsSome, nat_lt}
+use Rattle.std.specs.List.{AllByRecursion}
 use Rattle.std.specs.Option.{option_map}
 use Rattle.std.proofs.lemmas.List.{map-append}
+use Rattle.m2_fabric.proofs.m2_lemmas.Lists.{all_last}
+use Rattle.m2_fabric.proofs.m2_lemmas.Options.{some_same}
 use Rattle.m2_fabric.specs.End.{SeenEnd}
+use Rattle.m2_fabric.specs.Kinds.{IsInMemory, WaitInMemory}
 use Rattle.m2_fabric.specs.Port.{SeenPort}
 use Rattle.m2_fabric.specs.Port as port
 use Rattle.m2_fabric.specs.declared.port.Taken.TheVariants as taken
 use Rattle.m2_trail.specs.Arrivals.{closed_of}
-use Rattle.m2_trail.specs.Incoming.{accepted}
-use Rattle.m2_turn.specs.Accepting.{Accepting, AcceptsAll, EndsWith, TakesAll, TakesIn, joined, unasked}
-use Rattle.m2_turn.specs.Halves.{AllHalves}
-use Rattle.m2_turn.specs.Sessions.{PendingNow}
-use Rattle.m2_turn.specs.declared.accepting.Accepted.{Accepted}
-use Rattle.m2_turn.specs.declared.accepting.Accepted.TheVariants as accepts
-use Rattle.m2_turn.specs.declared.accepting.TheConstants.{MOST_ACCEPTS}
-use Rattle.m2_turn.specs.declared.pending.TheConstants.{MOST_HALVES}
-use Rattle.m2_exact.specs.Accepts.{LikePortsAcceptAlike, plain_accepting, plain_halves, plain_pending}
+use Rattle.m2_trail.specs.Incoming.{IncomingNow, accepted}
+use Rattle.m2_script.specs.m2_center.m2_turn.Accepting.{Accepting, AcceptsAll, EndsWith, TakesAll, TakesIn, joined, unasked}
+use Rattle.m2_script.specs.m2_center.m2_turn.Halves.{AllHalves}
+use Rattle.m2_script.specs.m2_center.m2_turn.Hearing.{IsHalfInMemory}
+use Rattle.m2_script.specs.m2_center.m2_turn.Sessions.{PendingNow}
+use Rattle.m2_script.specs.m2_center.m2_turn.declared.accepting.Accepted.{Accepted}
+use Rattle.m2_script.specs.m2_center.m2_turn.declared.accepting.Accepted.TheVariants as accepts
+use Rattle.m2_script.specs.m2_center.m2_turn.declared.accepting.TheConstants.{MOST_ACCEPTS}
+use Rattle.m2_script.specs.m2_center.m2_turn.declared.pending.TheConstants.{MOST_HALVES}
+use Rattle.m2_exact.proofs.Common.{of_some}
+use Rattle.m2_exact.proofs.Lists.{heads}
+use Rattle.m2_exact.specs.Accepts.{AreInMemory, LikePortsAcceptAlike, plain_accepting, plain_halves, plain_pending}
 
 -- ---- one socket
 
@@ -52,16 +59,13 @@ joined_plain entity room end h =
     by true = ap (λ (ps : List PendingNow). record h { pending = ps }) (map-append plain_pending h.pending (unasked (accepted entity end room) ∷ []))
     by false = refl
 
-one_more : (e f : SeenEnd) (es fs : List SeenEnd) → Some (e ∷ es) ≡ Some (f ∷ fs) → (e ≡ f) × (es ≡ fs)
-one_more e f es fs h = (cc h, cc h)
-
 takes_one : (entity : ℕ) (old last new behind : Accepting) → IsSome old.port.waiting → plain_accepting old ≡ plain_accepting last → TakesIn entity old new → TakesIn entity last behind →
     plain_accepting new ≡ plain_accepting behind
 takes_one entity old last new behind some like h g =
     let ports : old.port ≡ last.port = ap (λ (a : Accepting). a.port) like in
     let a = gave h.end old.port new.port some h.gives in
     let b = gave g.end last.port behind.port (subst (λ (p : SeenPort). IsSome p.waiting) ports some) g.gives in
-    let both = one_more h.end g.end a.rest b.rest (sym a.waited ∙ ap (λ (p : SeenPort). p.waiting) ports ∙ b.waited) in
+    let both = heads h.end g.end a.rest b.rest (some_same (h.end ∷ a.rest) (g.end ∷ b.rest) (sym a.waited ∙ ap (λ (p : SeenPort). p.waiting) ports ∙ b.waited)) in
     ap (λ (p : SeenPort). record (plain_accepting new) { port = p })
     (a.leaves
     ∙ ap (λ (e : SeenEnd). record old.port { made = old.port.made ++ e.id ∷ []; quiet = false; waiting = Some a.rest }) both.0
@@ -159,21 +163,50 @@ accepts_one entity one other old last new behind some like m k h g =
     let (ys, second) = walks entity other last behind (subst (λ (x : Accepting). IsSome x.port.waiting) like some) k g in
     both_walk entity one other xs ys MOST_ACCEPTS old last new behind some like first second
 
--- ---- the port stays in memory
+-- ---- they stay in memory
 
-all_stay : (entity : ℕ) (xs : List Accepting) (old new : Accepting) → IsSome old.port.waiting → TakesAll entity xs old new → IsSome new.port.waiting
-all_stay entity [] old new some same = subst (λ (a : Accepting). IsSome a.port.waiting) same some
-all_stay entity (a ∷ xs) old new some (takes, rest) = all_stay entity xs a new (takes_stay entity old a some takes) rest
+joined_stays : (half : IncomingNow) (h : AllHalves) → IsInMemory half.end → AllByRecursion IsHalfInMemory h.pending → AllByRecursion IsHalfInMemory (joined half h).pending
+joined_stays half h m all = by (nat_lt (length h.pending) MOST_HALVES)
+  where
+    by : (b : Bool) → AllByRecursion IsHalfInMemory (if b then record h { pending = h.pending ++ unasked half ∷ [] } else record h { loose = h.loose ++ closed_of half ∷ [] }).pending
+    by true = all_last IsHalfInMemory h.pending (unasked half) all m
+    by false = all
+
+one_in_memory : (entity : ℕ) (old new : Accepting) → AreInMemory old → TakesIn entity old new → AreInMemory new
+one_in_memory entity old new m h =
+    let a = gave h.end old.port new.port m.port.0 h.gives in
+    let ends = of_some (AllByRecursion IsInMemory) old.port.waiting (h.end ∷ a.rest) a.waited m.port.1 in
+    record {
+      port = subst WaitInMemory (sym a.leaves) (refl, ends.1);
+      halves = subst (λ (x : AllHalves). AllByRecursion IsHalfInMemory x.pending) (sym h.joins) (joined_stays (accepted entity h.end h.room) old.halves ends.0 m.halves);
+    }
+
+end_in_memory : (one : Accepted) (old new : Accepting) → AreInMemory old → EndsWith one old new → AreInMemory new
+end_in_memory accepts.All old new m h = subst AreInMemory (sym (rests old new m.port.0 h).leaves) (record { port = m.port; halves = m.halves })
+end_in_memory accepts.NoMemory old new m h =
+    record { port = subst WaitInMemory (sym h.gives) m.port; halves = subst (λ (x : AllHalves). AllByRecursion IsHalfInMemory x.pending) (sym h.same) m.halves }
+end_in_memory accepts.Busy old new m h = absurd h
 
 end_stays : (one : Accepted) (old new : Accepting) → IsSome old.port.waiting → EndsWith one old new → IsSome new.port.waiting
 end_stays accepts.All old new some h = subst (λ (a : Accepting). IsSome a.port.waiting) (sym (rests old new some h).leaves) some
 end_stays accepts.NoMemory old new some h = subst (λ (p : SeenPort). IsSome p.waiting) (sym h.gives) some
 end_stays accepts.Busy old new some h = absurd h
 
-stays : (entity : ℕ) (one : Accepted) (old new : Accepting) → IsSome old.port.waiting → AcceptsAll entity one old new → IsSome new.port.waiting
-stays entity accepts.Busy old new some h = all_stay entity h.stood old new some h.takes
-stays entity accepts.All old new some h = end_stays accepts.All h.mid new (all_stay entity h.taken.stood old h.mid some h.taken.takes) h.ends
-stays entity accepts.NoMemory old new some h = end_stays accepts.NoMemory h.mid new (all_stay entity h.taken.stood old h.mid some h.taken.takes) h.ends
+-- what one accept leaves so, and what none does, all leave so
+module _ (P : Accepting → Type 0) (entity : ℕ) (one_stays : (old new : Accepting) → P old → TakesIn entity old new → P new)
+    (none_stays : (r : Accepted) (old new : Accepting) → P old → EndsWith r old new → P new) where
+  each_stays : (xs : List Accepting) (old new : Accepting) → P old → TakesAll entity xs old new → P new
+  each_stays [] old new p same = subst P same p
+  each_stays (a ∷ xs) old new p (takes, rest) = each_stays xs a new (one_stays old a p takes) rest
+
+  all_stay : (r : Accepted) (old new : Accepting) → P old → AcceptsAll entity r old new → P new
+  all_stay accepts.Busy old new p h = each_stays h.stood old new p h.takes
+  all_stay accepts.All old new p h = none_stays accepts.All h.mid new (each_stays h.taken.stood old h.mid p h.taken.takes) h.ends
+  all_stay accepts.NoMemory old new p h = none_stays accepts.NoMemory h.mid new (each_stays h.taken.stood old h.mid p h.taken.takes) h.ends
 
 pub alike : LikePortsAcceptAlike
-alike = record { accepts = accepts_one; stays = stays }
+alike = record {
+  accepts = accepts_one;
+  stays = λ entity. all_stay (λ (a : Accepting). IsSome a.port.waiting) entity (takes_stay entity) end_stays;
+  memory = λ entity. all_stay AreInMemory entity (one_in_memory entity) end_in_memory;
+}

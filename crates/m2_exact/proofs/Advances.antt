@@ -12,8 +12,8 @@ use Rattle.m2_trail.specs.declared.step.IncomingStep.TheVariants as step
 use Rattle.m2_trail.specs.declared.turn.HalfTurn.{HalfTurn}
 use Rattle.m2_trail.specs.declared.turn.HalfTurn.TheVariants as turn
 use Rattle.m2_trail.specs.declared.turn.TheConstants.{MOST_MOVES}
-use Rattle.m2_turn.specs.m2_handshake.Asks.{bare_ask}
-use Rattle.m2_turn.specs.m2_handshake.declared.ask.Ask.{Ask}
+use Rattle.m2_script.specs.m2_center.m2_turn.m2_handshake.Asks.{bare_ask}
+use Rattle.m2_script.specs.m2_center.m2_turn.m2_handshake.declared.ask.Ask.{Ask}
 use Rattle.m2_exact.proofs.Halves as halves
 use Rattle.m2_exact.specs.Advances.{LikeHalvesAdvanceAlike}
 use Rattle.m2_exact.specs.Halves.{lacks, plain}

@@ -1,56 +1,48 @@
 -- Halves that were asked the same, beside records that are alike, come to the same, but for want of memory.
-use Rattle.std.proofs.Common.{◌≡◌, ℕ, ◌-◌, ◌++◌, List, [], ◌∷◌, Bool, true, false, Option, None, Some, inl, inr, refl, sym, subst, ◌∙◌, ap}
+use Rattle.std.proofs.Common.{◌≡◌, ℕ, ◌-◌, ◌++◌, List, Bool, true, false, Option, None, Some, inl, inr, refl, sym, subst, ◌∙◌, ap}
 use Rattle.std.specs.Prelude.{◌⊎◌, IfSome, IsSome}
+use Rattle.std.proofs.lemmas.List.{same_from_push}
 use Rattle.std.specs.Option.{option_map}
+use Rattle.m2_fabric.proofs.m2_lemmas.Options.{some_same}
 use Rattle.m2_dispatch.specs.m2_shared.Numbers.{SeenNumberPass}
 use Rattle.m2_dispatch.specs.m2_shared.declared.draw.Draw.{Draw}
 use Rattle.m2_dispatch.specs.m2_shared.declared.draw.Draw.TheVariants as draw
 use Rattle.m2_dispatch.specs.m2_shared.Throttle.{SeenGrant, SeenTakePass}
+use Rattle.m2_fabric.specs.Kinds.{IsInMemory}
 use Rattle.m2_trail.specs.Arrivals.{LooseNow, closed_of}
 use Rattle.m2_trail.specs.Asks.{check_of, facts_of_ask}
 use Rattle.m2_trail.specs.Incoming.{IncomingNow, after_refusing, after_replying, item_of, items_of}
 use Rattle.m2_trail.specs.Replies.{first_reply, refusal}
-use Rattle.m2_turn.specs.Answering.{AnswersBy, AnswersHalf, FindsSo, HearsHalf, IsFound, RefusesHalf, RejectsHalf, RepliesHalf}
-use Rattle.m2_turn.specs.Judging as turns
-use Rattle.m2_turn.specs.Judging.{IsUndrawn, Judging}
-use Rattle.m2_turn.specs.RecordTurn.{Means}
-use Rattle.m2_turn.specs.declared.answering.HalfAnswered.{HalfAnswered}
-use Rattle.m2_turn.specs.declared.answering.HalfAnswered.TheVariants as answered
-use Rattle.m2_turn.specs.m2_core.Asking.{IsDraw}
-use Rattle.m2_turn.specs.m2_core.Judging.{verdict_on}
-use Rattle.m2_turn.specs.m2_feed.m2_control.declared.control.Control.{Control}
-use Rattle.m2_turn.specs.m2_feed.m2_journal.declared.entry.JudgedItem.{JudgedItem}
-use Rattle.m2_turn.specs.m2_feed.m2_session.declared.answer.Answer.{Answer}
-use Rattle.m2_turn.specs.m2_handshake.Asks.{bare_ask}
-use Rattle.m2_turn.specs.m2_handshake.declared.ask.Ask.{Ask}
-use Rattle.m2_turn.specs.m2_handshake.declared.ask.Ask.TheVariants.{Ident, Reconnect}
-use Rattle.m2_turn.specs.m2_handshake.declared.ident.IdentCheck.{IdentCheck}
-use Rattle.m2_turn.specs.m2_handshake.declared.ident.IdentCheck.TheVariants.{Fine, Missing, Fault}
-use Rattle.m2_turn.specs.m2_record.Judging.{JudgesAs, given_back}
-use Rattle.m2_turn.specs.m2_record.RecordNow.{RecordNow}
-use Rattle.m2_turn.specs.m2_record.declared.judging.Judged.{Judged}
-use Rattle.m2_turn.specs.m2_record.declared.judging.Judged.TheVariants as judged
+use Rattle.m2_script.specs.m2_center.m2_turn.Answering.{AnswersBy, AnswersHalf, FindsSo, HearsHalf, IsFound, RefusesHalf, RejectsHalf, RepliesHalf}
+use Rattle.m2_script.specs.m2_center.m2_turn.Judging as turns
+use Rattle.m2_script.specs.m2_center.m2_turn.Judging.{IsUndrawn, Judging}
+use Rattle.m2_script.specs.m2_center.m2_turn.RecordTurn.{Means}
+use Rattle.m2_script.specs.m2_center.m2_turn.declared.answering.HalfAnswered.{HalfAnswered}
+use Rattle.m2_script.specs.m2_center.m2_turn.declared.answering.HalfAnswered.TheVariants as answered
+use Rattle.m2_script.specs.m2_center.m2_core.Asking.{IsDraw}
+use Rattle.m2_script.specs.m2_center.m2_core.Judging.{verdict_on}
+use Rattle.m2_script.specs.m2_center.m2_feed.m2_control.declared.control.Control.{Control}
+use Rattle.m2_script.specs.m2_center.m2_feed.m2_journal.declared.entry.JudgedItem.{JudgedItem}
+use Rattle.m2_script.specs.m2_center.m2_feed.m2_session.declared.answer.Answer.{Answer}
+use Rattle.m2_script.specs.m2_center.m2_turn.m2_handshake.Asks.{bare_ask}
+use Rattle.m2_script.specs.m2_center.m2_turn.m2_handshake.declared.ask.Ask.{Ask}
+use Rattle.m2_script.specs.m2_center.m2_turn.m2_handshake.declared.ask.Ask.TheVariants.{Ident, Reconnect}
+use Rattle.m2_script.specs.m2_center.m2_turn.m2_handshake.declared.ident.IdentCheck.{IdentCheck}
+use Rattle.m2_script.specs.m2_center.m2_turn.m2_handshake.declared.ident.IdentCheck.TheVariants.{Fine, Missing, Fault}
+use Rattle.m2_script.specs.m2_center.m2_record.Judging.{JudgesAs, given_back}
+use Rattle.m2_script.specs.m2_center.m2_record.RecordNow.{RecordNow}
+use Rattle.m2_script.specs.m2_center.m2_record.declared.judging.Judged.{Judged}
+use Rattle.m2_script.specs.m2_center.m2_record.declared.judging.Judged.TheVariants as judged
 use Rattle.m2_exact.proofs.Composing as composing
 use Rattle.m2_exact.proofs.Judgements as judgements
-use Rattle.m2_exact.specs.Answers.{LikeHalvesAreAnsweredAlike, PlainJudging, bare_answered, lacks, plain_judging}
+use Rattle.m2_exact.specs.Answers.{LikeHalvesAreAnsweredAlike, PlainJudging, StaysInMemory, bare_answered, lacks, plain_judging}
 use Rattle.m2_exact.specs.Halves as half
 use Rattle.m2_exact.specs.Judgements as judging
-use Rattle.m2_exact.specs.Judgements.{bare_judged}
+use Rattle.m2_exact.specs.Judgements.{BackInMemory, bare_judged}
 use Rattle.m2_exact.specs.Records.{bare_numbers, bare_take, plain}
-use Rattle.m2_exact.specs.RecordTurns.{HasAlone}
+use Rattle.m2_exact.specs.RecordTurns.{HasAlone, IsFit}
 
 -- ---- a reply
-
-last_one : (xs ys : List JudgedItem) (x y : JudgedItem) → xs ++ x ∷ [] ≡ ys ++ y ∷ [] → x ≡ y
-last_one [] [] x y e = cc e
-last_one [] (z ∷ []) x y e = absurd (cc e)
-last_one [] (z ∷ w ∷ ys) x y e = absurd (cc e)
-last_one (z ∷ []) [] x y e = absurd (cc e)
-last_one (z ∷ w ∷ xs) [] x y e = absurd (cc e)
-last_one (z ∷ xs) (w ∷ ys) x y e = last_one xs ys x y (rest z w (xs ++ x ∷ []) (ys ++ y ∷ []) e)
-  where
-    rest : (z w : JudgedItem) (xs ys : List JudgedItem) → z ∷ xs ≡ w ∷ ys → xs ≡ ys
-    rest z w xs ys e = cc e
 
 abbrev open_so : {E : Type 0} → IncomingNow → HalfAnswered E
 open_so a = answered.Open a
@@ -88,7 +80,7 @@ replied (answered.Undrawn back) a m h = absurd h
 replied (answered.NoMemory back) a m h = absurd (cc m)
 
 same_answer : (o p : Option Ask) (x y : Answer) (before earlier : List JudgedItem) → IsSome o → option_map bare_ask o ≡ option_map bare_ask p → before ++ items_of o x ≡ earlier ++ items_of p y → x ≡ y
-same_answer (Some o) (Some p) x y before earlier some like e = ap (λ (i : JudgedItem). i.answer) (last_one before earlier (item_of o x) (item_of p y) e)
+same_answer (Some o) (Some p) x y before earlier some like e = ap (λ (i : JudgedItem). i.answer) (same_from_push before earlier (item_of o x) (item_of p y) e).1
 same_answer (Some o) None x y before earlier some like e = absurd (cc like)
 same_answer None p x y before earlier some like e = absurd (cc some)
 
@@ -247,7 +239,7 @@ module _ {E : Type 0} (m : Means) (alone : HasAlone m) (one other : HalfAnswered
       by (Some o) (Some x) some asks h k =
           h ∙ check_bare o old.side
           ∙ ap (λ (y : PlainJudging). check_of (bare_ask o) y.side.core.facts.mine y.side.core.facts.policy y.side.core.facts.node.requires_) same
-          ∙ ap (λ (y : Ask). check_of y last.side.core.facts.mine last.side.core.facts.policy last.side.core.facts.node.requires_) (judgements.some_ask (bare_ask o) (bare_ask x) asks)
+          ∙ ap (λ (y : Ask). check_of y last.side.core.facts.mine last.side.core.facts.policy last.side.core.facts.node.requires_) (some_same (bare_ask o) (bare_ask x) asks)
           ∙ sym (check_bare x last.side) ∙ sym k
       by (Some o) None some asks h k = absurd (cc asks)
       by None x some asks h k = absurd (cc some)
@@ -263,5 +255,45 @@ answers m one other a b old last new behind alone some like same p q h g =
     by_judged m alone one other a b some like old last new behind same p q a.is_judged h
     (subst (λ (j : Bool). AnswersBy j other b m last behind) (sym (ap (λ (x : IncomingNow). x.is_judged) like)) g)
 
+-- ---- what stays
+
+module _ {E : Type 0} (m : Means) (a : IncomingNow) (some : IsSome a.ask) (there : IsInMemory a.end) (old new : Judging) (fit : IsFit old.side) where
+  judging_stays : (j : Judged E) → judging.lacks j ≡ false → turns.Judges j a m old new → IsFit new.side × BackInMemory j
+  judging_stays j p h = judgements.alike.stays j a h.number m.now old.side new.side there fit (record { asked = some; judges = h.judges; memory = p })
+
+  replied_stays : (one : HalfAnswered E) (arrival : IncomingNow) → IsInMemory arrival.end → lacks one ≡ false → RepliesHalf one arrival → StaysInMemory one
+  replied_stays (answered.Taken answer) arrival there k h = absurd h
+  replied_stays (answered.Open goes_on) arrival there k (answer, judged, some, each) = by (first_reply answer) some each
+    where
+      by : (o : Option Control) → IsSome o → IfSome o (λ c. goes_on ≡ after_replying c arrival) → IsInMemory goes_on.end
+      by (Some c) some is = subst (λ (x : IncomingNow). IsInMemory x.end) (sym is) there
+      by None some is = absurd (cc some)
+  replied_stays (answered.Closed loose) arrival there k h = tt
+  replied_stays (answered.Undrawn back) arrival there k h = absurd h
+  replied_stays (answered.NoMemory back) arrival there k h = absurd (cc k)
+
+  heard_stays : (one : HalfAnswered E) → lacks one ≡ false → Took one a m old new ⊎ (Owed one a m old new ⊎ Undrew one a m old new) → IsFit new.side × StaysInMemory one
+  heard_stays one k (inl h) = ((judging_stays (judged.Taken h.answer) refl h.judges).0, subst StaysInMemory (sym h.is) tt)
+  heard_stays one k (inr (inl h)) = let both = judging_stays (judged.Back h.answer h.arrival) refl h.judges in (both.0, replied_stays one h.arrival both.1 k h.replies)
+  heard_stays one k (inr (inr h)) = (subst IsFit (sym h.side) fit, subst StaysInMemory (sym h.is) there)
+
+  refused_stays : (bits : ℕ) (one : HalfAnswered E) → lacks one ≡ false → RefusesHalf one bits a → StaysInMemory one
+  refused_stays bits (answered.Open goes_on) k h = subst (λ (x : IncomingNow). IsInMemory x.end) (sym h) there
+  refused_stays bits (answered.NoMemory back) k h = absurd (cc k)
+  refused_stays bits one k h = absurd h
+
+  rejected_stays : (one : HalfAnswered E) → RejectsHalf one a → StaysInMemory one
+  rejected_stays (answered.Closed loose) h = tt
+  rejected_stays one h = absurd h
+
+  found_stays : (f : IdentCheck) (one : HalfAnswered E) → lacks one ≡ false → FindsSo f one a m old new → IsFit new.side × StaysInMemory one
+  found_stays Fine one k h = heard_stays one k (hears one a m old new k h)
+  found_stays (Missing bits) one k (h, same) = (subst (λ (x : Judging). IsFit x.side) (sym same) fit, refused_stays bits one k h)
+  found_stays (Fault f) one k (h, same) = (subst (λ (x : Judging). IsFit x.side) (sym same) fit, rejected_stays one h)
+
+  answer_stays : (j : Bool) (one : HalfAnswered E) → lacks one ≡ false → AnswersBy j one a m old new → IsFit new.side × StaysInMemory one
+  answer_stays true one k (h, same) = (subst (λ (x : Judging). IsFit x.side) (sym same) fit, replied_stays one a there k h)
+  answer_stays false one k (f, is, h) = found_stays f one k h
+
 pub alike : {E : Type 0} → LikeHalvesAreAnsweredAlike E
-alike = record { answers = answers }
+alike = record { answers = answers; stays = λ m result a old new some there fit. answer_stays m a some there old new fit a.is_judged result }

@@ -2,18 +2,19 @@
 use Rattle.std.proofs.Common.{◌≡◌, ℕ, ◌+◌, ◌++◌, List, Bool, true, false, Option, None, Some, Ok, refl, sym, subst, ◌∙◌, ap, arith}
 use Rattle.std.specs.Prelude.{◌≢◌}
 use Rattle.std.specs.Option.{option_map}
-use Rattle.m2_turn.specs.m2_core.Asking.{AsksWith, IsDraw}
-use Rattle.m2_turn.specs.m2_core.Calls.{ask_event, ask_frame, asks_ident}
-use Rattle.m2_turn.specs.m2_core.CoreNow.{CoreNow}
-use Rattle.m2_turn.specs.m2_core.LiveNow.{LiveNow}
-use Rattle.m2_turn.specs.m2_core.Numbering.{HasNumbered}
-use Rattle.m2_turn.specs.m2_core.Composing.{HasAcknowledged, HasAnswered}
-use Rattle.m2_turn.specs.m2_core.OnFeed.{AnswersStamp, ChangesRoom, ComposesAsk, ComposesFeed, ComposesMessage}
-use Rattle.m2_turn.specs.m2_core.ToCompose.{text_on, to_compose}
-use Rattle.m2_turn.specs.m2_core.declared.asking.CoreAsk.{CoreAsk}
-use Rattle.m2_turn.specs.m2_core.declared.asking.CoreAsk.TheVariants as ask
-use Rattle.m2_turn.specs.m2_core.declared.to_compose.CoreText.{CoreText}
-use Rattle.m2_turn.specs.m2_core.declared.to_compose.CoreText.TheVariants as text
+use Rattle.m2_fabric.proofs.m2_lemmas.Options.{some_same}
+use Rattle.m2_script.specs.m2_center.m2_core.Asking.{AsksWith, IsDraw}
+use Rattle.m2_script.specs.m2_center.m2_core.Calls.{ask_event, ask_frame, asks_ident}
+use Rattle.m2_script.specs.m2_center.m2_core.CoreNow.{CoreNow}
+use Rattle.m2_script.specs.m2_center.m2_core.LiveNow.{LiveNow}
+use Rattle.m2_script.specs.m2_center.m2_core.Numbering.{HasNumbered}
+use Rattle.m2_script.specs.m2_center.m2_core.Composing.{HasAcknowledged, HasAnswered}
+use Rattle.m2_script.specs.m2_center.m2_core.OnFeed.{AnswersStamp, ChangesRoom, ComposesAsk, ComposesFeed, ComposesMessage}
+use Rattle.m2_script.specs.m2_center.m2_core.ToCompose.{text_on, to_compose}
+use Rattle.m2_script.specs.m2_center.m2_core.declared.asking.CoreAsk.{CoreAsk}
+use Rattle.m2_script.specs.m2_center.m2_core.declared.asking.CoreAsk.TheVariants as ask
+use Rattle.m2_script.specs.m2_center.m2_core.declared.to_compose.CoreText.{CoreText}
+use Rattle.m2_script.specs.m2_center.m2_core.declared.to_compose.CoreText.TheVariants as text
 use Rattle.m2_dispatch.specs.m2_frame.Text as frame
 use Rattle.m2_dispatch.specs.m2_message.Message.{Content, with_numbers}
 use Rattle.m2_dispatch.specs.m2_message.MessageFrame.{parts_of}
@@ -23,21 +24,20 @@ use Rattle.m2_dispatch.specs.m2_shared.Numbers.{SeenNumberPass}
 use Rattle.m2_dispatch.specs.m2_shared.Place.{IsAlone, Place}
 use Rattle.m2_dispatch.specs.m2_shared.declared.draw.Draw.{Draw}
 use Rattle.m2_dispatch.specs.m2_shared.declared.draw.Draw.TheVariants as draw
-use Rattle.m2_turn.specs.m2_feed.Calls.{answer_text}
-use Rattle.m2_turn.specs.m2_feed.FeedNow.{FeedNow}
-use Rattle.m2_turn.specs.m2_feed.declared.writing.Writing.{Writing}
-use Rattle.m2_turn.specs.m2_feed.declared.writing.Writing.TheVariants as writing
-use Rattle.m2_turn.specs.m2_feed.m2_control.declared.keepalive.Keepalive.{Keepalive}
-use Rattle.m2_turn.specs.m2_feed.m2_journal.OutFrames as out
-use Rattle.m2_turn.specs.m2_feed.m2_journal.OutFrames.{OutFrame}
-use Rattle.m2_turn.specs.m2_feed.m2_journal.declared.entry.Entry.{Entry}
-use Rattle.m2_turn.specs.m2_feed.m2_session.Steps.{step_of}
-use Rattle.m2_turn.specs.m2_feed.m2_session.declared.session.Session.{Session}
-use Rattle.m2_turn.specs.m2_record.Calls.{Asks, ChangesCore, ComposesAs, DrawsAs, GetsEntries, asked_entries, composed_ask, numbered_entries}
-use Rattle.m2_turn.specs.m2_record.RecordNow.{RecordNow}
-use Rattle.m2_turn.specs.m2_record.declared.composing.Composed.{Composed}
-use Rattle.m2_turn.specs.m2_record.declared.composing.Composed.TheVariants as composed
-use Rattle.m2_exact.proofs.Cores as cores
+use Rattle.m2_script.specs.m2_center.m2_feed.Calls.{answer_text}
+use Rattle.m2_script.specs.m2_center.m2_feed.FeedNow.{FeedNow}
+use Rattle.m2_script.specs.m2_center.m2_feed.declared.writing.Writing.{Writing}
+use Rattle.m2_script.specs.m2_center.m2_feed.declared.writing.Writing.TheVariants as writing
+use Rattle.m2_script.specs.m2_center.m2_feed.m2_control.declared.keepalive.Keepalive.{Keepalive}
+use Rattle.m2_script.specs.m2_center.m2_feed.m2_journal.OutFrames as out
+use Rattle.m2_script.specs.m2_center.m2_feed.m2_journal.OutFrames.{OutFrame}
+use Rattle.m2_script.specs.m2_center.m2_feed.m2_journal.declared.entry.Entry.{Entry}
+use Rattle.m2_script.specs.m2_center.m2_feed.m2_session.Steps.{step_of}
+use Rattle.m2_script.specs.m2_center.m2_feed.m2_session.declared.session.Session.{Session}
+use Rattle.m2_script.specs.m2_center.m2_record.Calls.{Asks, ChangesCore, ComposesAs, DrawsAs, GetsEntries, asked_entries, composed_ask, numbered_entries}
+use Rattle.m2_script.specs.m2_center.m2_record.RecordNow.{RecordNow}
+use Rattle.m2_script.specs.m2_center.m2_record.declared.composing.Composed.{Composed}
+use Rattle.m2_script.specs.m2_center.m2_record.declared.composing.Composed.TheVariants as composed
 use Rattle.m2_exact.proofs.Fronts as fronts
 use Rattle.m2_exact.specs.Cores.{roomless, roomless_feed}
 use Rattle.m2_exact.specs.Records.{bare_numbers, plain}
@@ -89,7 +89,7 @@ text_one : (w : Writing) (t u : List ℕ) (x y new behind : Option FeedNow) → 
 text_one w t u (Some v) (Some z) (Some new) (Some behind) same like h k =
     ap (λ (y : FeedNow). Some (roomless_feed y)) h
     ∙ ap (λ (l : List ℕ). Some (record (roomless_feed v) { composed = l; writing = w })) same
-    ∙ ap (λ (y : FeedNow). Some (record y { composed = u; writing = w })) (cores.some_one (roomless_feed v) (roomless_feed z) like)
+    ∙ ap (λ (y : FeedNow). Some (record y { composed = u; writing = w })) (some_same (roomless_feed v) (roomless_feed z) like)
     ∙ sym (ap (λ (y : FeedNow). Some (roomless_feed y)) k)
 text_one w t u (Some v) (Some z) (Some new) None same like h k = absurd k
 text_one w t u (Some v) (Some z) None behind same like h k = absurd h
@@ -127,7 +127,7 @@ room_changes None y new behind like h k = absurd h
 same_stamps : (x y : Option FeedNow) (l m : List Keepalive) → option_map roomless_feed x ≡ option_map roomless_feed y → option_map (λ (v : FeedNow). v.stamps) x ≡ Some l →
     option_map (λ (v : FeedNow). v.stamps) y ≡ Some m → l ≡ m
 same_stamps (Some v) (Some w) l m like h k =
-    let both = ap (λ (z : FeedNow). z.stamps) (cores.some_one (roomless_feed v) (roomless_feed w) like) in cc (h, k, both)
+    let both = ap (λ (z : FeedNow). z.stamps) (some_same (roomless_feed v) (roomless_feed w) like) in cc (h, k, both)
 same_stamps (Some v) None l m like h k = absurd (cc k)
 same_stamps None y l m like h k = absurd (cc h)
 
@@ -158,17 +158,11 @@ module _ (c d new behind : CoreNow) (like : roomless c ≡ roomless d) where
       ∙ ap (λ (x : CoreNow). record x { live = record x.live { session = behind.live.session; feed = option_map roomless_feed behind.live.feed }; top = n }) like
       ∙ sym (ap roomless k.only)
 
-  some_content : (m n : Content) → Some m ≡ Some n → m ≡ n
-  some_content m n e = cc e
-
-  some_number : (m n : ℕ) → Some m ≡ Some n → m ≡ n
-  some_number m n e = cc e
-
   numbers_one : (n m : ℕ) → HasNumbered (Ok n) c new → HasNumbered (Ok m) d behind → (n ≡ m) × (roomless new ≡ roomless behind)
   numbers_one n m h k =
-      let number : n ≡ m = some_number n m (sym h.numbers.next ∙ ap (λ (x : CoreNow). next_number x.live.out.queue) like ∙ k.numbers.next) in
+      let number : n ≡ m = some_same n m (sym h.numbers.next ∙ ap (λ (x : CoreNow). next_number x.live.out.queue) like ∙ k.numbers.next) in
       let message : h.numbers.message ≡ k.numbers.message =
-      some_content h.numbers.message k.numbers.message
+      some_same h.numbers.message k.numbers.message
       (sym h.numbers.there ∙ ap (λ (x : CoreNow). message_at (after_next x.live.out.queue) n) like ∙ ap (λ (i : ℕ). message_at (after_next d.live.out.queue) i) number ∙ k.numbers.there) in
       let words : message_text n c.live.last h.numbers.message ≡ message_text m d.live.last k.numbers.message =
       ap (λ (i : ℕ). message_text i c.live.last h.numbers.message) number

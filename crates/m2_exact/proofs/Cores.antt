@@ -2,34 +2,35 @@
 use Rattle.std.proofs.Common.{◌≡◌, ℕ, Bool, true, false, if◌then◌else◌, Option, None, Some, refl, sym, subst, ◌∙◌, ap}
 use Rattle.std.specs.Prelude.{◌≢◌}
 use Rattle.std.specs.Option.{option_map}
+use Rattle.m2_fabric.proofs.m2_lemmas.Options.{some_same}
 use Rattle.m2_fabric.specs.End.{Inflow, SeenEnd}
 use Rattle.m2_fabric.specs.declared.end.EndRead.{EndRead}
 use Rattle.m2_fabric.specs.declared.end.EndRead.TheVariants as read
 use Rattle.m2_fabric.specs.declared.end.EndWrite.{EndWrite}
 use Rattle.m2_fabric.specs.declared.end.EndWrite.TheVariants as write
-use Rattle.m2_turn.specs.m2_feed.Calls.{IsFront, Passes, PassesFrame, passed}
-use Rattle.m2_turn.specs.m2_feed.FeedNow.{FeedNow, Reading, Room, framing, shaking}
-use Rattle.m2_turn.specs.m2_feed.declared.answers.FeedWrite.{FeedWrite}
-use Rattle.m2_turn.specs.m2_feed.declared.answers.FeedWrite.TheVariants as put
-use Rattle.m2_turn.specs.m2_handshake.m2_frame.Reading.{Item, whole}
-use Rattle.m2_turn.specs.m2_feed.declared.heard.Heard.{Heard}
-use Rattle.m2_turn.specs.m2_feed.declared.heard.Heard.TheVariants as heard
-use Rattle.m2_turn.specs.m2_feed.Heard.{event_of}
-use Rattle.m2_turn.specs.m2_feed.m2_addr.declared.addr.Addr.{Addr}
-use Rattle.m2_turn.specs.m2_feed.m2_journal.SideFacts.{SideFacts}
-use Rattle.m2_turn.specs.m2_feed.m2_policy.declared.policy.Policy.{Policy}
-use Rattle.m2_turn.specs.m2_feed.m2_session.Steps.{step_of}
-use Rattle.m2_turn.specs.m2_feed.m2_session.declared.event.Effects.{Effects}
-use Rattle.m2_turn.specs.m2_feed.m2_session.declared.event.Event.{Event}
-use Rattle.m2_turn.specs.m2_feed.m2_session.declared.session.Phase.{Phase}
-use Rattle.m2_turn.specs.m2_core.LiveNow.{LiveNow, is_ready}
-use Rattle.m2_turn.specs.m2_core.LiveCalls.{live_with, tells_if}
-use Rattle.m2_turn.specs.m2_core.Effects.{closed_if, closes, discards, has_effects, requeues, sets_back, where_true}
-use Rattle.m2_turn.specs.m2_core.LiveHearing.{TakesAnswer, after_answer, heard_on}
-use Rattle.m2_turn.specs.m2_core.OnFeed.{PassesFeed, ReadsFeed, WritesFeed}
-use Rattle.m2_turn.specs.m2_core.CoreNow.{CoreNow}
-use Rattle.m2_turn.specs.m2_core.Hearing.{HasRead, Heeds, ReadNow, effects_heard, heard_after}
-use Rattle.m2_turn.specs.m2_core.Moves.{HasWritten, owes_after}
+use Rattle.m2_script.specs.m2_center.m2_feed.Calls.{IsFront, Passes, PassesFrame, passed}
+use Rattle.m2_script.specs.m2_center.m2_feed.FeedNow.{FeedNow, Reading, Room, framing, shaking}
+use Rattle.m2_script.specs.m2_center.m2_feed.declared.answers.FeedWrite.{FeedWrite}
+use Rattle.m2_script.specs.m2_center.m2_feed.declared.answers.FeedWrite.TheVariants as put
+use Rattle.m2_script.specs.m2_center.m2_turn.m2_handshake.m2_frame.Reading.{Item, whole}
+use Rattle.m2_script.specs.m2_center.m2_feed.declared.heard.Heard.{Heard}
+use Rattle.m2_script.specs.m2_center.m2_feed.declared.heard.Heard.TheVariants as heard
+use Rattle.m2_script.specs.m2_center.m2_feed.Heard.{event_of}
+use Rattle.m2_script.specs.m2_center.m2_feed.m2_addr.declared.addr.Addr.{Addr}
+use Rattle.m2_script.specs.m2_center.m2_feed.m2_journal.SideFacts.{SideFacts}
+use Rattle.m2_script.specs.m2_center.m2_feed.m2_policy.declared.policy.Policy.{Policy}
+use Rattle.m2_script.specs.m2_center.m2_feed.m2_session.Steps.{step_of}
+use Rattle.m2_script.specs.m2_center.m2_feed.m2_session.declared.event.Effects.{Effects}
+use Rattle.m2_script.specs.m2_center.m2_feed.m2_session.declared.event.Event.{Event}
+use Rattle.m2_script.specs.m2_center.m2_feed.m2_session.declared.session.Phase.{Phase}
+use Rattle.m2_script.specs.m2_center.m2_core.LiveNow.{LiveNow, is_ready}
+use Rattle.m2_script.specs.m2_center.m2_core.LiveCalls.{live_with, tells_if}
+use Rattle.m2_script.specs.m2_center.m2_core.Effects.{closed_if, closes, discards, has_effects, requeues, sets_back, where_true}
+use Rattle.m2_script.specs.m2_center.m2_core.LiveHearing.{TakesAnswer, after_answer, heard_on}
+use Rattle.m2_script.specs.m2_center.m2_core.OnFeed.{PassesFeed, ReadsFeed, WritesFeed}
+use Rattle.m2_script.specs.m2_center.m2_core.CoreNow.{CoreNow}
+use Rattle.m2_script.specs.m2_center.m2_core.Hearing.{HasRead, Heeds, ReadNow, effects_heard, heard_after}
+use Rattle.m2_script.specs.m2_center.m2_core.Moves.{HasWritten, owes_after}
 use Rattle.m2_exact.proofs.Feeds as feeds
 use Rattle.m2_exact.proofs.InMemory as memory
 use Rattle.m2_exact.specs.Cores.{FeedIsInMemory, LikeCoresReadAndWriteAlike, roomless, roomless_feed}
@@ -78,11 +79,8 @@ with_put_roomless i v c =
     (put_roomless (write_by i v) v)
 
 -- the feeds of cores that are alike
-pub some_one : (v w : FeedNow) → Some v ≡ Some w → v ≡ w
-some_one v w h = cc h
-
 pub like_feed : (v : FeedNow) (x : Option FeedNow) → Some (roomless_feed v) ≡ option_map roomless_feed x → (w : FeedNow) × (x ≡ Some w) × (roomless_feed v ≡ roomless_feed w)
-like_feed v (Some w) h = (w, refl, some_one (roomless_feed v) (roomless_feed w) h)
+like_feed v (Some w) h = (w, refl, some_same (roomless_feed v) (roomless_feed w) h)
 like_feed v None h = absurd (cc h)
 
 pub like_feeds : (v : FeedNow) (c d : CoreNow) → c.live.feed ≡ Some v → roomless c ≡ roomless d → (w : FeedNow) × (d.live.feed ≡ Some w) × (roomless_feed v ≡ roomless_feed w)
@@ -173,7 +171,7 @@ module _ (see : Room → Room) where
 
   pub passes_alike : (old other x y : Option FeedNow) → seen old ≡ seen other → PassesFeed old x → PassesFeed other y → seen x ≡ seen y
   passes_alike (Some v) (Some w) (Some x) (Some y) like (h, only) (k, last) =
-      let same = some_one (seen_feed v) (seen_feed w) like in
+      let same = some_same (seen_feed v) (seen_feed w) like in
       let first : PassesFrame w.reading x.reading = subst (λ (r : Reading). PassesFrame r x.reading) (ap (λ (z : FeedNow). z.reading) same) h in
       ap (λ (z : FeedNow). Some (seen_feed z)) only
       ∙ ap (λ (z : FeedNow). Some (record z { reading = x.reading })) same

@@ -2,6 +2,7 @@
 use Rattle.std.proofs.Common.{◌≡◌, ℕ, ◌++◌, ◌∷◌, [], List, Option, None, Some, Ok, true, false, refl, sym, subst, ◌∙◌, ap}
 use Rattle.std.specs.Prelude.{◌≢◌, IfSome, IsSome}
 use Rattle.m2_fabric.proofs.Exact as exact
+use Rattle.m2_fabric.proofs.m2_lemmas.Options.{some_same}
 use Rattle.m2_fabric.specs.m2_addr.declared.addr.Addr.{Addr}
 use Rattle.m2_fabric.specs.End.{SeenEnd, nothing_told}
 use Rattle.m2_fabric.specs.Kinds.{IsInMemory}
@@ -10,22 +11,22 @@ use Rattle.m2_fabric.specs.Port.{SeenPort}
 use Rattle.m2_fabric.specs.Port as port
 use Rattle.m2_fabric.specs.declared.port.Connect.{Connect}
 use Rattle.m2_fabric.specs.declared.port.Connect.TheVariants as connect
-use Rattle.m2_turn.specs.Connecting.{AtPort, Dials, DialsFor, DialsIfDue, Takes, answer_of}
-use Rattle.m2_turn.specs.Planning.{TakesNew}
-use Rattle.m2_turn.specs.m2_core.Calls.{IsOpening}
-use Rattle.m2_turn.specs.m2_core.CoreNow.{CoreNow}
-use Rattle.m2_turn.specs.m2_core.Effects.{tells}
-use Rattle.m2_turn.specs.m2_feed.FeedNow.{FeedNow, shaking}
-use Rattle.m2_turn.specs.m2_feed.declared.writing.Writing.TheVariants.{Nothing}
-use Rattle.m2_turn.specs.m2_feed.m2_journal.SideFacts.{opener_half}
-use Rattle.m2_turn.specs.m2_feed.m2_journal.declared.entry.Entry.TheVariants as entry
-use Rattle.m2_turn.specs.m2_feed.m2_journal.declared.facts.PlanStep.{PlanStep}
-use Rattle.m2_turn.specs.m2_feed.m2_session.declared.event.Event.TheVariants as event
-use Rattle.m2_turn.specs.m2_record.Calls.{Connects, planned_too, with_opened}
-use Rattle.m2_turn.specs.m2_record.Due.{due_step}
-use Rattle.m2_turn.specs.m2_record.RecordNow.{RecordNow}
-use Rattle.m2_turn.specs.m2_record.declared.due.Due.{Due}
-use Rattle.m2_turn.specs.m2_record.declared.due.Due.TheVariants as due
+use Rattle.m2_script.specs.m2_center.m2_turn.Connecting.{AtPort, Dials, DialsFor, DialsIfDue, Takes, answer_of}
+use Rattle.m2_script.specs.m2_center.m2_turn.Planning.{TakesNew}
+use Rattle.m2_script.specs.m2_center.m2_core.Calls.{IsOpening}
+use Rattle.m2_script.specs.m2_center.m2_core.CoreNow.{CoreNow}
+use Rattle.m2_script.specs.m2_center.m2_core.Effects.{tells}
+use Rattle.m2_script.specs.m2_center.m2_feed.FeedNow.{FeedNow, shaking}
+use Rattle.m2_script.specs.m2_center.m2_feed.declared.writing.Writing.TheVariants.{Nothing}
+use Rattle.m2_script.specs.m2_center.m2_feed.m2_journal.SideFacts.{opener_half}
+use Rattle.m2_script.specs.m2_center.m2_feed.m2_journal.declared.entry.Entry.TheVariants as entry
+use Rattle.m2_script.specs.m2_center.m2_feed.m2_journal.declared.facts.PlanStep.{PlanStep}
+use Rattle.m2_script.specs.m2_center.m2_feed.m2_session.declared.event.Event.TheVariants as event
+use Rattle.m2_script.specs.m2_center.m2_record.Calls.{Connects, planned_too, with_opened}
+use Rattle.m2_script.specs.m2_center.m2_record.Due.{due_step}
+use Rattle.m2_script.specs.m2_center.m2_record.RecordNow.{RecordNow}
+use Rattle.m2_script.specs.m2_center.m2_record.declared.due.Due.{Due}
+use Rattle.m2_script.specs.m2_center.m2_record.declared.due.Due.TheVariants as due
 use Rattle.m2_exact.proofs.Steps as steps
 use Rattle.m2_exact.specs.Cores.{roomless, roomless_feed}
 use Rattle.m2_exact.specs.Records.{plain}
@@ -95,9 +96,6 @@ opened e r new (each, some) = by new.core.live.feed each some
 
 -- ---- a connect
 
-some_list : (w u : List SeenEnd) → Some w ≡ Some u → w ≡ u
-some_list w u e = cc e
-
 -- the next end was opened and taken
 record Dialled (old new : AtPort) : Type 0 where
   pub waiting : List SeenEnd
@@ -121,7 +119,7 @@ dialled_one : (old last new behind : AtPort) → plain_at old ≡ plain_at last 
 dialled_one old last new behind like h g =
     let port : old.port ≡ last.port = ap (λ (a : PlainAt). a.port) like in
     let peer : old.side.core.facts.peer ≡ last.side.core.facts.peer = ap (λ (a : PlainAt). a.side.core.facts.peer) like in
-    let waiting : h.waiting ≡ g.waiting = some_list h.waiting g.waiting (sym h.some ∙ ap (λ (p : SeenPort). p.waiting) port ∙ g.some) in
+    let waiting : h.waiting ≡ g.waiting = some_same h.waiting g.waiting (sym h.some ∙ ap (λ (p : SeenPort). p.waiting) port ∙ g.some) in
     let end : opened_by old.side.core.facts.peer h.waiting old.port ≡ opened_by last.side.core.facts.peer g.waiting last.port =
     ap (λ (a : Addr). opened_by a h.waiting old.port) peer
     ∙ ap (λ (w : List SeenEnd). opened_by last.side.core.facts.peer w old.port) waiting
@@ -170,6 +168,16 @@ stays_for due.Frame now old new f h = subst IsFitAt (sym h.1) f
 stays_for due.Read now old new f h = subst IsFitAt (sym h.1) f
 stays_for due.Compose now old new f h = subst IsFitAt (sym h.1) f
 
+waits_for : (d : Due) (now : ℕ) (old new : AtPort) → IsFitAt old → DialsFor d (Ok tt) now old new → new.port.waiting ≡ old.port.waiting
+waits_for (due.Connect at) now old new f h = ap (λ (p : SeenPort). p.waiting) (dialled now old new f.port h).port
+waits_for due.Nothing now old new f h = ap (λ (a : AtPort). a.port.waiting) h.1
+waits_for due.Plan now old new f h = ap (λ (a : AtPort). a.port.waiting) h.1
+waits_for due.Hand now old new f h = ap (λ (a : AtPort). a.port.waiting) h.1
+waits_for due.Write now old new f h = ap (λ (a : AtPort). a.port.waiting) h.1
+waits_for due.Frame now old new f h = ap (λ (a : AtPort). a.port.waiting) h.1
+waits_for due.Read now old new f h = ap (λ (a : AtPort). a.port.waiting) h.1
+waits_for due.Compose now old new f h = ap (λ (a : AtPort). a.port.waiting) h.1
+
 -- ---- a step that is planned
 
 plans : (x : PlanStep) (now : ℕ) (r s new behind : RecordNow) → plain r ≡ plain s → TakesNew x now r new → TakesNew x now s behind → plain new ≡ plain behind
@@ -177,4 +185,4 @@ plans x now r s new behind like h g =
     steps.plan_some x (Ok tt) (Ok tt) now (planned_too x h.mid) (planned_too x g.mid) new behind (ap (planned_too x) (ap plain h.room ∙ like ∙ sym (ap plain g.room))) (λ e. cc e) (λ e. cc e) h.takes g.takes
 
 pub alike : LikeRecordsDialAndPlanAlike
-alike = record { dials = dials; stays = λ now old new. stays_for (due_step now old.side) now old new; plans = plans }
+alike = record { dials = dials; stays = λ now old new. stays_for (due_step now old.side) now old new; waits = λ now old new. waits_for (due_step now old.side) now old new; plans = plans }

@@ -1,38 +1,36 @@
 -- What the step Frame leaves of records that are alike, but for want of memory.
-use Rattle.std.proofs.Common.{◌≡◌, ℕ, ◌++◌, List, [], ◌∷◌, map, Bool, true, false, if◌then◌else◌, Option, None, Some, refl, sym, subst, ◌∙◌, ap}
+use Rattle.std.proofs.Common.{◌≡◌, ℕ, ◌++◌, [], ◌∷◌, Bool, true, false, if◌then◌else◌, Option, None, Some, refl, sym, subst, ◌∙◌, ap}
 use Rattle.std.specs.Prelude.{◌≢◌}
 use Rattle.std.specs.Option.{option_map}
-use Rattle.std.proofs.lemmas.List.{map-append}
-use Rattle.m2_turn.specs.m2_core.CoreNow.{CoreNow, IsAskedIfSigned}
-use Rattle.m2_turn.specs.m2_core.Front.{FrontHeard, before_front, heard_by, hearer_of, rests, resumption_of}
-use Rattle.m2_turn.specs.m2_core.Granting.{Throttled}
-use Rattle.m2_turn.specs.m2_core.LiveNow.{OnFeedNow, is_ready}
-use Rattle.m2_turn.specs.m2_core.Next.{IsNext}
-use Rattle.m2_turn.specs.m2_core.OnFeed.{GreetsFeed}
-use Rattle.m2_turn.specs.m2_core.declared.next.CoreNext.{CoreNext}
-use Rattle.m2_turn.specs.m2_core.declared.next.CoreNext.TheVariants as next
-use Rattle.m2_dispatch.specs.declared.parcel.Parcel.{Parcel}
-use Rattle.m2_turn.specs.m2_feed.FeedNow.{FeedNow, Reading, is_framing, shaking}
-use Rattle.m2_turn.specs.m2_feed.m2_session.Phases as phase
-use Rattle.m2_turn.specs.m2_feed.m2_session.declared.session.Phase.{Phase}
-use Rattle.m2_turn.specs.m2_feed.m2_session.declared.session.Phase.TheVariants.{Connecting, Ready}
-use Rattle.m2_turn.specs.m2_handshake.Standing.{Standing}
-use Rattle.m2_turn.specs.m2_handshake.declared.answer.HalfStep.{HalfStep}
-use Rattle.m2_turn.specs.m2_handshake.declared.answer.HalfStep.TheVariants as half
-use Rattle.m2_turn.specs.m2_feed.m2_journal.declared.entry.Entry.TheVariants as entry
-use Rattle.m2_turn.specs.m2_record.Calls.{Shakes, after_breaking}
-use Rattle.m2_turn.specs.m2_record.Framing.{AnswersFront, Frames, Greets, Heeds, Obeys, after_obeying, letter_of}
-use Rattle.m2_turn.specs.m2_record.RecordNow.{RecordNow}
-use Rattle.m2_turn.specs.m2_record.declared.framing.Framed.{Framed}
-use Rattle.m2_turn.specs.m2_record.declared.framing.Framed.TheVariants as framed
+use Rattle.m2_fabric.proofs.m2_lemmas.Options.{some_same}
+use Rattle.m2_script.specs.m2_center.m2_core.CoreNow.{CoreNow, IsAskedIfSigned}
+use Rattle.m2_script.specs.m2_center.m2_core.Front.{FrontHeard, before_front, heard_by, hearer_of, rests, resumption_of}
+use Rattle.m2_script.specs.m2_center.m2_core.Granting.{Throttled}
+use Rattle.m2_script.specs.m2_center.m2_core.LiveNow.{OnFeedNow, is_ready}
+use Rattle.m2_script.specs.m2_center.m2_core.Next.{IsNext}
+use Rattle.m2_script.specs.m2_center.m2_core.OnFeed.{GreetsFeed}
+use Rattle.m2_script.specs.m2_center.m2_core.declared.next.CoreNext.{CoreNext}
+use Rattle.m2_script.specs.m2_center.m2_core.declared.next.CoreNext.TheVariants as next
+use Rattle.m2_script.specs.m2_center.m2_feed.FeedNow.{FeedNow, Reading, is_framing, shaking}
+use Rattle.m2_script.specs.m2_center.m2_feed.m2_session.Phases as phase
+use Rattle.m2_script.specs.m2_center.m2_feed.m2_session.declared.session.Phase.{Phase}
+use Rattle.m2_script.specs.m2_center.m2_feed.m2_session.declared.session.Phase.TheVariants.{Connecting, Ready}
+use Rattle.m2_script.specs.m2_center.m2_turn.m2_handshake.Standing.{Standing}
+use Rattle.m2_script.specs.m2_center.m2_turn.m2_handshake.declared.answer.HalfStep.{HalfStep}
+use Rattle.m2_script.specs.m2_center.m2_turn.m2_handshake.declared.answer.HalfStep.TheVariants as half
+use Rattle.m2_script.specs.m2_center.m2_feed.m2_journal.declared.entry.Entry.TheVariants as entry
+use Rattle.m2_script.specs.m2_center.m2_record.Calls.{Shakes, after_breaking}
+use Rattle.m2_script.specs.m2_center.m2_record.Framing.{AnswersFront, Frames, Greets, Heeds, Obeys, after_obeying, letter_of}
+use Rattle.m2_script.specs.m2_center.m2_record.RecordNow.{RecordNow}
+use Rattle.m2_script.specs.m2_center.m2_record.declared.framing.Framed.{Framed}
+use Rattle.m2_script.specs.m2_center.m2_record.declared.framing.Framed.TheVariants as framed
 use Rattle.m2_exact.proofs.Composing as composing
-use Rattle.m2_exact.proofs.Cores as cores
 use Rattle.m2_exact.proofs.Fronts as fronts
 use Rattle.m2_exact.proofs.Nexts as nexts
-use Rattle.m2_exact.proofs.Nexts.{LikeThrottles, bare_next}
+use Rattle.m2_exact.proofs.Nexts.{LikeThrottles}
 use Rattle.m2_exact.proofs.Plain as calls
 use Rattle.m2_exact.specs.Cores.{roomless, roomless_feed}
-use Rattle.m2_exact.specs.Records.{bare_parcel, plain}
+use Rattle.m2_exact.specs.Records.{plain}
 
 -- ---- the front
 
@@ -60,10 +58,10 @@ record Heeded (t : Throttled) (f : Framed) (now : ℕ) (r new : RecordNow) : Typ
   pub answer : CoreNext
   pub core : CoreNow
   pub front : AnswersFront t answer r.core core
-  pub is : f ≡ framed_of (bare_next answer)
+  pub is : f ≡ framed_of answer
   pub some : answer ≢ next.Rests
   pub memory : answer ≢ next.NoMemory
-  pub leaves : plain new ≡ left_next (bare_next answer) now (roomless core) (plain r)
+  pub leaves : plain new ≡ left_next answer now (roomless core) (plain r)
 
 stays : (r new : RecordNow) → new.core ≡ r.core → plain new ≡ plain r → plain new ≡ record (plain r) { core = roomless new.core }
 stays r new core only = only ∙ ap (λ (c : CoreNow). record (plain r) { core = roomless c }) (sym core)
@@ -83,12 +81,7 @@ heeded t (framed.Accepted number) now r new m (a, is, h, only) = record {
   is = ap (λ (n : ℕ). framed.Accepted n) (sym is);
   some = λ e. cc e;
   memory = λ e. cc e;
-  leaves = ap plain only ∙ ap (λ (xs : List Parcel). record (plain r) {
-    core = roomless new.core;
-    journal = r.journal ++ entry.Accepted a.number a.key ∷ [];
-    parcels = xs;
-    last = now;
-  }) (map-append bare_parcel r.parcels (letter_of r.place a ∷ []));
+  leaves = ap plain only;
 }
 heeded t (framed.Obeyed full) now r new m (h, only) = record {
   answer = next.Resets full;
@@ -143,18 +136,16 @@ module _ (t u : Throttled) (p : LikeThrottles t u) (now : ℕ) (r s new behind :
         a.is ∙ ap framed_of agree.answers ∙ sym b.is,
         a.leaves
             ∙ ap (λ (n : CoreNext). left_next n now (roomless a.core) (plain r)) agree.answers
-            ∙ ap (λ (c : CoreNow). left_next (bare_next b.answer) now c (plain r)) agree.cores
-            ∙ ap (λ (x : RecordNow). left_next (bare_next b.answer) now (roomless b.core) x) like
+            ∙ ap (λ (c : CoreNow). left_next b.answer now c (plain r)) agree.cores
+            ∙ ap (λ (x : RecordNow). left_next b.answer now (roomless b.core) x) like
             ∙ sym b.leaves,
       )
 
 obeys : (r s new behind : RecordNow) → plain r ≡ plain s → (full : Bool) → Obeys full r new → Obeys full s behind → plain new ≡ plain behind
 obeys r s new behind like full (h, only) (g, last) =
     ap plain only
-    ∙ ap (λ (c : CoreNow). record (plain r) { core = c; journal = r.journal ++ entry.Obeyed full ∷ []; parcels = map bare_parcel (after_obeying full r).parcels }) (nexts.obeyed r.core s.core new.core behind.core (ap (λ (x : RecordNow). x.core) like) full h g)
-    ∙ ap (λ (xs : List Parcel). record (after_obeying full (plain r)) { core = roomless behind.core; parcels = xs }) (calls.behind_bare r.parcels r.place full full)
+    ∙ ap (λ (c : CoreNow). record (after_obeying full (plain r)) { core = c }) (nexts.obeyed r.core s.core new.core behind.core (ap (λ (x : RecordNow). x.core) like) full h g)
     ∙ ap (λ (x : RecordNow). record (after_obeying full x) { core = roomless behind.core }) like
-    ∙ sym (ap (λ (xs : List Parcel). record (after_obeying full (plain s)) { core = roomless behind.core; parcels = xs }) (calls.behind_bare s.parcels s.place full full))
     ∙ sym (ap plain last)
 
 -- ---- a half that greets
@@ -204,7 +195,7 @@ shaking_like r s like h = by r.core.live.feed s.core.live.feed (ap (λ (x : Reco
   where
     by : (x y : Option FeedNow) → option_map roomless_feed x ≡ option_map roomless_feed y → OnFeedNow x (λ v. (h : Standing) × (v.reading ≡ shaking h)) →
         OnFeedNow y (λ v. (h : Standing) × (v.reading ≡ shaking h))
-    by (Some v) (Some w) same (st, is) = (st, sym (ap (λ (z : FeedNow). z.reading) (cores.some_one (roomless_feed v) (roomless_feed w) same)) ∙ is)
+    by (Some v) (Some w) same (st, is) = (st, sym (ap (λ (z : FeedNow). z.reading) (some_same (roomless_feed v) (roomless_feed w) same)) ∙ is)
     by (Some v) None same h = absurd (cc same)
     by None y same h = absurd h
 
@@ -273,10 +264,7 @@ goes t (framed.Full out) now r new m h = (refl, (λ e. cc e), (new, h, refl))
 goes t (framed.Again seen at) now r new m h = (refl, (λ e. cc e), (new, h, refl))
 
 obeys_if : (x y : Option Bool) (r s new behind : RecordNow) → x ≡ y → plain r ≡ plain s → ObeysIf x r new → ObeysIf y s behind → plain new ≡ plain behind
-obeys_if (Some full) (Some mark) r s new behind same like h g = obeys r s new behind like full h (subst (λ (b : Bool). Obeys b s behind) (one_mark mark full (sym same)) g)
-  where
-    one_mark : (a b : Bool) → Some a ≡ Some b → a ≡ b
-    one_mark a b e = cc e
+obeys_if (Some full) (Some mark) r s new behind same like h g = obeys r s new behind like full h (subst (λ (b : Bool). Obeys b s behind) (some_same mark full (sym same)) g)
 obeys_if None None r s new behind same like h g = ap plain h ∙ like ∙ sym (ap plain g)
 obeys_if (Some full) None r s new behind same like h g = absurd (cc same)
 obeys_if None (Some mark) r s new behind same like h g = absurd (cc same)
@@ -287,7 +275,7 @@ module _ (t u : Throttled) (p : LikeThrottles t u) (now : ℕ) (r s new behind :
     where
       by : {a b : Phase} (x y : Option FeedNow) → a ≡ b → option_map roomless_feed x ≡ option_map roomless_feed y → IsAskedIfSigned a x → IsAskedIfSigned b y
       by (Some v) (Some w) e same h =
-          λ k. sym e ∙ h (ap (λ (z : FeedNow). is_framing z.reading) (cores.some_one (roomless_feed v) (roomless_feed w) same) ∙ k)
+          λ k. sym e ∙ h (ap (λ (z : FeedNow). is_framing z.reading) (some_same (roomless_feed v) (roomless_feed w) same) ∙ k)
       by (Some v) None e same h = tt
       by None (Some w) e same h = absurd (cc same)
       by None None e same h = tt

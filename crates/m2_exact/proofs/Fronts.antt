@@ -2,19 +2,20 @@
 use Rattle.std.proofs.Common.{◌≡◌, ℕ, ◌++◌, List, [], ◌∷◌, Ok, Option, None, Some, refl, sym, subst, ◌∙◌, ap}
 use Rattle.std.specs.Prelude.{◌≢◌}
 use Rattle.std.specs.Option.{option_map}
-use Rattle.m2_turn.specs.m2_core.CoreNow.{CoreNow}
-use Rattle.m2_turn.specs.m2_core.LiveCalls.{live_with}
-use Rattle.m2_turn.specs.m2_core.OnFeed.{GreetsFeed, PassesItem}
-use Rattle.m2_turn.specs.m2_core.Shaken.{HasShaken}
-use Rattle.m2_turn.specs.m2_feed.m2_control.declared.keepalive.Keepalive.{Keepalive}
-use Rattle.m2_turn.specs.m2_feed.Calls.{GreetsOn, IsFront, NotesStamp, Passes, after_greeting}
-use Rattle.m2_turn.specs.m2_feed.FeedNow.{FeedNow, Reading, framing, shaking}
-use Rattle.m2_turn.specs.m2_handshake.m2_frame.Frame.{Parts}
-use Rattle.m2_turn.specs.m2_handshake.m2_frame.Reading.{Item, whole}
-use Rattle.m2_turn.specs.m2_handshake.declared.answer.HalfStep.{HalfStep}
-use Rattle.m2_turn.specs.m2_handshake.declared.answer.HalfStep.TheVariants as half
-use Rattle.m2_turn.specs.m2_handshake.Half.{Answers, Writer}
-use Rattle.m2_turn.specs.m2_handshake.Standing.{Standing}
+use Rattle.m2_fabric.proofs.m2_lemmas.Options.{some_same}
+use Rattle.m2_script.specs.m2_center.m2_core.CoreNow.{CoreNow}
+use Rattle.m2_script.specs.m2_center.m2_core.LiveCalls.{live_with}
+use Rattle.m2_script.specs.m2_center.m2_core.OnFeed.{GreetsFeed, PassesItem}
+use Rattle.m2_script.specs.m2_center.m2_core.Shaken.{HasShaken}
+use Rattle.m2_script.specs.m2_center.m2_feed.m2_control.declared.keepalive.Keepalive.{Keepalive}
+use Rattle.m2_script.specs.m2_center.m2_feed.Calls.{GreetsOn, IsFront, NotesStamp, Passes, after_greeting}
+use Rattle.m2_script.specs.m2_center.m2_feed.FeedNow.{FeedNow, Reading, framing, shaking}
+use Rattle.m2_script.specs.m2_center.m2_turn.m2_handshake.m2_frame.Frame.{Parts}
+use Rattle.m2_script.specs.m2_center.m2_turn.m2_handshake.m2_frame.Reading.{Item, whole}
+use Rattle.m2_script.specs.m2_center.m2_turn.m2_handshake.declared.answer.HalfStep.{HalfStep}
+use Rattle.m2_script.specs.m2_center.m2_turn.m2_handshake.declared.answer.HalfStep.TheVariants as half
+use Rattle.m2_script.specs.m2_center.m2_turn.m2_handshake.Half.{Answers, Writer}
+use Rattle.m2_script.specs.m2_center.m2_turn.m2_handshake.Standing.{Standing}
 use Rattle.m2_exact.proofs.Cores as cores
 use Rattle.m2_exact.proofs.Handshakes as handshakes
 use Rattle.m2_exact.specs.Cores.{roomless, roomless_feed}
@@ -56,7 +57,7 @@ greets_on one other v w new behind like m n g h =
 greets_feed : (one other : HalfStep) (x y new behind : Option FeedNow) → option_map roomless_feed x ≡ option_map roomless_feed y → one ≢ half.NoMemory → other ≢ half.NoMemory →
     GreetsFeed one x new → GreetsFeed other y behind → (one ≡ other) × (option_map roomless_feed new ≡ option_map roomless_feed behind)
 greets_feed one other (Some v) (Some w) (Some new) (Some behind) like m n g h =
-    let both = greets_on one other v w new behind (cores.some_one (roomless_feed v) (roomless_feed w) like) m n g h in
+    let both = greets_on one other v w new behind (some_same (roomless_feed v) (roomless_feed w) like) m n g h in
     (both.0, ap (λ (x : FeedNow). Some x) both.1)
 greets_feed one other (Some v) (Some w) (Some new) None like m n g h = absurd h
 greets_feed one other (Some v) (Some w) None behind like m n g h = absurd g
@@ -91,7 +92,7 @@ reads_only v w x y like reading only last =
 pub passes_item : (a b : Item) (v w x y : Option FeedNow) → option_map roomless_feed v ≡ option_map roomless_feed w → PassesItem a v x → PassesItem b w y →
     option_map roomless_feed x ≡ option_map roomless_feed y
 passes_item a b (Some v) (Some w) (Some x) (Some y) like (p, only) (q, last) =
-    let same = cores.some_one (roomless_feed v) (roomless_feed w) like in
+    let same = some_same (roomless_feed v) (roomless_feed w) like in
     let read = ap (λ (z : FeedNow). z.reading) same in
     ap (λ (z : FeedNow). Some z)
     (reads_only v w x y same (cores.passes_one w.reading x.reading y.reading p.other q.other (subst (λ (r : Reading). Passes r p.other x.reading) read p.passes) q.passes) only last)
@@ -103,7 +104,7 @@ passes_item a b None w x y like p q = absurd p
 -- and by the frame at the front
 pub frames_one : (a b : Parts) (v w x y : Option FeedNow) → option_map roomless_feed v ≡ option_map roomless_feed w → PassesItem (whole a) v x → PassesItem (whole b) w y → a ≡ b
 frames_one a b (Some v) (Some w) (Some x) (Some y) like (p, only) (q, last) =
-    let read = ap (λ (z : FeedNow). z.reading) (cores.some_one (roomless_feed v) (roomless_feed w) like) in
+    let read = ap (λ (z : FeedNow). z.reading) (some_same (roomless_feed v) (roomless_feed w) like) in
     frame_one w.reading a b p.len q.len (subst (λ (r : Reading). IsFront r (whole a) p.len) read p.front) q.front
 frames_one a b (Some v) (Some w) (Some x) None like p q = absurd q
 frames_one a b (Some v) (Some w) None y like p q = absurd p

@@ -14,19 +14,19 @@ use Rattle.m2_fabric.specs.declared.end.EndRead.{EndRead}
 use Rattle.m2_fabric.specs.declared.end.EndRead.TheVariants as read
 use Rattle.m2_fabric.specs.declared.end.EndWrite.{EndWrite}
 use Rattle.m2_fabric.specs.declared.end.EndWrite.TheVariants as write
-use Rattle.m2_turn.specs.m2_handshake.declared.answer.HalfStep.{HalfStep}
-use Rattle.m2_turn.specs.m2_handshake.declared.answer.HalfStep.TheVariants as half
-use Rattle.m2_turn.specs.m2_handshake.declared.ask.Ask.{Ask}
-use Rattle.m2_turn.specs.m2_handshake.declared.ask.Ask.TheVariants.{Ident, Reconnect}
-use Rattle.m2_turn.specs.m2_handshake.declared.ask.AskStep.{AskStep}
-use Rattle.m2_turn.specs.m2_handshake.declared.ask.AskStep.TheVariants as asked
-use Rattle.m2_turn.specs.m2_handshake.Asking.{AskAnswers}
-use Rattle.m2_turn.specs.m2_handshake.Asks.{bare_ask}
-use Rattle.m2_turn.specs.m2_handshake.m2_control.ClientIdent.{bare_client_ident}
-use Rattle.m2_turn.specs.m2_handshake.m2_control.SessionReconnect.{bare_session_reconnect}
-use Rattle.m2_turn.specs.m2_handshake.Half.{Answers, Writer}
-use Rattle.m2_turn.specs.m2_handshake.Moves.{asks, can_ask}
-use Rattle.m2_turn.specs.m2_handshake.Standing.{Standing, fed}
+use Rattle.m2_script.specs.m2_center.m2_turn.m2_handshake.declared.answer.HalfStep.{HalfStep}
+use Rattle.m2_script.specs.m2_center.m2_turn.m2_handshake.declared.answer.HalfStep.TheVariants as half
+use Rattle.m2_script.specs.m2_center.m2_turn.m2_handshake.declared.ask.Ask.{Ask}
+use Rattle.m2_script.specs.m2_center.m2_turn.m2_handshake.declared.ask.Ask.TheVariants.{Ident, Reconnect}
+use Rattle.m2_script.specs.m2_center.m2_turn.m2_handshake.declared.ask.AskStep.{AskStep}
+use Rattle.m2_script.specs.m2_center.m2_turn.m2_handshake.declared.ask.AskStep.TheVariants as asked
+use Rattle.m2_script.specs.m2_center.m2_turn.m2_handshake.Asking.{AskAnswers}
+use Rattle.m2_script.specs.m2_center.m2_turn.m2_handshake.Asks.{bare_ask}
+use Rattle.m2_script.specs.m2_center.m2_turn.m2_handshake.m2_control.ClientIdent.{bare_client_ident}
+use Rattle.m2_script.specs.m2_center.m2_turn.m2_handshake.m2_control.SessionReconnect.{bare_session_reconnect}
+use Rattle.m2_script.specs.m2_center.m2_turn.m2_handshake.Half.{Answers, Writer}
+use Rattle.m2_script.specs.m2_center.m2_turn.m2_handshake.Moves.{asks, can_ask}
+use Rattle.m2_script.specs.m2_center.m2_turn.m2_handshake.Standing.{Standing, fed}
 use Rattle.m2_trail.specs.declared.incoming.TheConstants.{MOST_READ}
 use Rattle.m2_trail.specs.declared.step.IncomingStep.{IncomingStep}
 use Rattle.m2_trail.specs.declared.step.IncomingStep.TheVariants as step

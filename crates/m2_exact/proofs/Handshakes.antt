@@ -1,14 +1,14 @@
 -- A half of a handshake has one answer, but for want of memory.
 use Rattle.std.proofs.Common.{◌≡◌, List, [], ◌∷◌, ◌++◌, refl, sym, subst, ◌∙◌, ap}
 use Rattle.std.specs.Prelude.{◌≢◌}
-use Rattle.m2_turn.specs.m2_handshake.declared.answer.HalfStep.{HalfStep}
-use Rattle.m2_turn.specs.m2_handshake.declared.answer.HalfStep.TheVariants as half
-use Rattle.m2_turn.specs.m2_handshake.declared.ask.AskStep.{AskStep}
-use Rattle.m2_turn.specs.m2_handshake.declared.ask.AskStep.TheVariants as asked
-use Rattle.m2_turn.specs.m2_handshake.Asking.{AskAnswers, AskEnds}
-use Rattle.m2_turn.specs.m2_handshake.Half.{Answers, Ends, Writer}
-use Rattle.m2_turn.specs.m2_handshake.Moves.{Move, Quietly, ask_move_of, asks, fails, move_of, quiet, signs, stays, writes}
-use Rattle.m2_turn.specs.m2_handshake.Standing.{Standing, faulted}
+use Rattle.m2_script.specs.m2_center.m2_turn.m2_handshake.declared.answer.HalfStep.{HalfStep}
+use Rattle.m2_script.specs.m2_center.m2_turn.m2_handshake.declared.answer.HalfStep.TheVariants as half
+use Rattle.m2_script.specs.m2_center.m2_turn.m2_handshake.declared.ask.AskStep.{AskStep}
+use Rattle.m2_script.specs.m2_center.m2_turn.m2_handshake.declared.ask.AskStep.TheVariants as asked
+use Rattle.m2_script.specs.m2_center.m2_turn.m2_handshake.Asking.{AskAnswers, AskEnds}
+use Rattle.m2_script.specs.m2_center.m2_turn.m2_handshake.Half.{Answers, Ends, Writer}
+use Rattle.m2_script.specs.m2_center.m2_turn.m2_handshake.Moves.{Move, Quietly, ask_move_of, asks, fails, move_of, quiet, signs, stays, writes}
+use Rattle.m2_script.specs.m2_center.m2_turn.m2_handshake.Standing.{Standing, faulted}
 use Rattle.m2_exact.specs.Handshakes.{HandshakesAnswerInOneWay, bare}
 
 -- ---- where moves without a word end

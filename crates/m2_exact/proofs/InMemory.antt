@@ -8,28 +8,28 @@ use Rattle.m2_fabric.specs.declared.end.EndRead.{EndRead}
 use Rattle.m2_fabric.specs.declared.end.EndRead.TheVariants as read
 use Rattle.m2_fabric.specs.declared.end.EndWrite.{EndWrite}
 use Rattle.m2_fabric.specs.declared.end.EndWrite.TheVariants as write
-use Rattle.m2_turn.specs.m2_feed.Calls.{ReadsOn, WritesOn}
-use Rattle.m2_turn.specs.m2_feed.FeedNow.{FeedNow}
-use Rattle.m2_turn.specs.m2_feed.Heard.{event_of}
-use Rattle.m2_turn.specs.m2_feed.declared.answers.FeedWrite.{FeedWrite}
-use Rattle.m2_turn.specs.m2_feed.declared.answers.FeedWrite.TheVariants as put
-use Rattle.m2_turn.specs.m2_feed.declared.heard.Heard.{Heard}
-use Rattle.m2_turn.specs.m2_feed.declared.heard.Heard.TheVariants as heard
-use Rattle.m2_turn.specs.m2_feed.m2_session.Steps.{step_of}
-use Rattle.m2_turn.specs.m2_feed.m2_session.declared.event.Effects.{Effects}
-use Rattle.m2_turn.specs.m2_feed.m2_session.declared.event.Event.{Event}
+use Rattle.m2_script.specs.m2_center.m2_feed.Calls.{ReadsOn, WritesOn}
+use Rattle.m2_script.specs.m2_center.m2_feed.FeedNow.{FeedNow}
+use Rattle.m2_script.specs.m2_center.m2_feed.Heard.{event_of}
+use Rattle.m2_script.specs.m2_center.m2_feed.declared.answers.FeedWrite.{FeedWrite}
+use Rattle.m2_script.specs.m2_center.m2_feed.declared.answers.FeedWrite.TheVariants as put
+use Rattle.m2_script.specs.m2_center.m2_feed.declared.heard.Heard.{Heard}
+use Rattle.m2_script.specs.m2_center.m2_feed.declared.heard.Heard.TheVariants as heard
+use Rattle.m2_script.specs.m2_center.m2_feed.m2_session.Steps.{step_of}
+use Rattle.m2_script.specs.m2_center.m2_feed.m2_session.declared.event.Effects.{Effects}
+use Rattle.m2_script.specs.m2_center.m2_feed.m2_session.declared.event.Event.{Event}
 use Rattle.m2_trail.specs.Incoming.{IncomingNow, StepsOn}
 use Rattle.m2_trail.specs.TurnMoves.{Makes, Move, answers, reads, writes}
 use Rattle.m2_trail.specs.declared.step.IncomingStep.{IncomingStep}
 use Rattle.m2_trail.specs.declared.step.IncomingStep.TheVariants as step
-use Rattle.m2_turn.specs.m2_core.CoreNow.{CoreNow}
-use Rattle.m2_turn.specs.m2_core.Effects.{closes, discards, has_effects, requeues, sets_back, where_true}
-use Rattle.m2_turn.specs.m2_core.Hearing.{HasRead, Heeds, ReadNow}
-use Rattle.m2_turn.specs.m2_core.LiveCalls.{live_with, tells_if}
-use Rattle.m2_turn.specs.m2_core.LiveHearing.{TakesAnswer, resumed_by_answer}
-use Rattle.m2_turn.specs.m2_core.LiveNow.{LiveNow}
-use Rattle.m2_turn.specs.m2_core.Moves.{HasWritten}
-use Rattle.m2_turn.specs.m2_core.OnFeed.{PassesFeed, ReadsFeed, WritesFeed}
+use Rattle.m2_script.specs.m2_center.m2_core.CoreNow.{CoreNow}
+use Rattle.m2_script.specs.m2_center.m2_core.Effects.{closes, discards, has_effects, requeues, sets_back, where_true}
+use Rattle.m2_script.specs.m2_center.m2_core.Hearing.{HasRead, Heeds, ReadNow}
+use Rattle.m2_script.specs.m2_center.m2_core.LiveCalls.{live_with, tells_if}
+use Rattle.m2_script.specs.m2_center.m2_core.LiveHearing.{TakesAnswer, resumed_by_answer}
+use Rattle.m2_script.specs.m2_center.m2_core.LiveNow.{LiveNow}
+use Rattle.m2_script.specs.m2_center.m2_core.Moves.{HasWritten}
+use Rattle.m2_script.specs.m2_center.m2_core.OnFeed.{PassesFeed, ReadsFeed, WritesFeed}
 use Rattle.m2_exact.specs.Cores.{FeedIsInMemory, OnMemory}
 
 -- ---- ends

@@ -2,8 +2,10 @@
 use Rattle.std.proofs.Common.{◌≡◌, ℕ, ◌&&◌, ◌++◌, List, [], ◌∷◌, Bool, true, false, if◌then◌else◌, Option, None, Some, refl, sym, subst, ◌∙◌, ap}
 use Rattle.std.specs.Prelude.{IfSome, IsSome}
 use Rattle.std.specs.Option.{is_none, option_map}
+use Rattle.m2_fabric.proofs.m2_lemmas.Options.{some_same}
 use Rattle.m2_fabric.specs.End as end
 use Rattle.m2_fabric.specs.End.{SeenEnd}
+use Rattle.m2_fabric.specs.Kinds.{IsInMemory}
 use Rattle.m2_fabric.specs.Sockets.{same_socket}
 use Rattle.m2_fabric.specs.Port.{one_hears}
 use Rattle.m2_fabric.specs.declared.end.News.{News}
@@ -12,38 +14,45 @@ use Rattle.m2_trail.specs.Asks.{facts_of_ask}
 use Rattle.m2_trail.specs.Incoming as incoming
 use Rattle.m2_trail.specs.Incoming.{IncomingNow, after_judging, items_of}
 use Rattle.m2_trail.specs.Trails.{TrailNow, unread_of}
-use Rattle.m2_turn.specs.m2_core.CoreNow.{CoreNow}
-use Rattle.m2_turn.specs.m2_core.Counting.{to_count}
-use Rattle.m2_turn.specs.m2_core.Effects.{closed_if}
-use Rattle.m2_turn.specs.m2_core.Judging.{acceptance_text, told_of, verdict_on}
-use Rattle.m2_turn.specs.m2_core.LiveCalls.{live_with, resumed_by_ask}
-use Rattle.m2_turn.specs.m2_core.LiveNow.{LiveNow}
-use Rattle.m2_turn.specs.m2_core.OnFeed.{feed_after_news}
-use Rattle.m2_turn.specs.m2_core.TakingOver.{IsTakenFeed, after_answering, after_taking}
-use Rattle.m2_turn.specs.m2_core.Waits.{stepped}
-use Rattle.m2_turn.specs.m2_core.declared.verdict.Verdict.{Verdict}
-use Rattle.m2_turn.specs.m2_feed.FeedNow.{FeedNow, framing}
-use Rattle.m2_turn.specs.m2_feed.declared.writing.Writing.TheVariants.{Named}
-use Rattle.m2_turn.specs.m2_feed.m2_journal.declared.entry.JudgedItem.{JudgedItem}
-use Rattle.m2_turn.specs.m2_feed.m2_session.SessionLaws.{takes}
-use Rattle.m2_turn.specs.m2_feed.m2_session.declared.answer.Answer.{Answer}
-use Rattle.m2_turn.specs.m2_feed.m2_session.declared.ask.AskFacts.{AskFacts}
-use Rattle.m2_turn.specs.m2_handshake.Asks.{bare_ask}
-use Rattle.m2_turn.specs.m2_handshake.declared.ask.Ask.{Ask}
-use Rattle.m2_turn.specs.m2_handshake.declared.ask.Ask.TheVariants.{Ident, Reconnect}
-use Rattle.m2_turn.specs.m2_record.Calls.{CountsResumption, after_news, left_by}
-use Rattle.m2_turn.specs.m2_record.Judging.{JudgesAs, TakenHalf, TakesOver, after_answer, after_taking_over, effects_at, half_of, with_judged}
-use Rattle.m2_turn.specs.m2_record.RecordNow.{RecordNow}
-use Rattle.m2_turn.specs.m2_record.declared.judging.Judged.{Judged}
-use Rattle.m2_turn.specs.m2_record.declared.judging.Judged.TheVariants as judged
+use Rattle.m2_script.proofs.m2_center.m2_turn.m2_core.Judged.{refuses_by}
+use Rattle.m2_script.specs.m2_center.m2_core.CoreNow.{CoreNow, IsAskedIfSigned}
+use Rattle.m2_script.specs.m2_center.m2_core.Counting.{to_count}
+use Rattle.m2_script.specs.m2_center.m2_core.Effects.{closed_if}
+use Rattle.m2_script.specs.m2_center.m2_core.Judging.{acceptance_text, told_of, verdict_on}
+use Rattle.m2_script.specs.m2_center.m2_core.LiveCalls.{live_with, resumed_by_ask}
+use Rattle.m2_script.specs.m2_center.m2_core.LiveNow.{LiveNow}
+use Rattle.m2_script.specs.m2_center.m2_core.OnFeed.{feed_after_news}
+use Rattle.m2_script.specs.m2_center.m2_core.TakingOver.{IsTakenFeed, after_answering, after_taking}
+use Rattle.m2_script.specs.m2_center.m2_core.Waits.{stepped}
+use Rattle.m2_script.specs.m2_center.m2_core.declared.verdict.Verdict.{Verdict}
+use Rattle.m2_script.specs.m2_center.m2_feed.FeedNow.{FeedNow, framing, is_framing}
+use Rattle.m2_script.specs.m2_center.m2_feed.declared.writing.Writing.TheVariants.{Named}
+use Rattle.m2_script.specs.m2_center.m2_feed.m2_journal.SideFacts.{cookie_of}
+use Rattle.m2_script.specs.m2_center.m2_feed.m2_journal.Steps.{kept_of}
+use Rattle.m2_script.specs.m2_center.m2_feed.m2_journal.declared.entry.JudgedItem.{JudgedItem}
+use Rattle.m2_script.specs.m2_center.m2_feed.m2_session.SessionLaws.{takes}
+use Rattle.m2_script.specs.m2_center.m2_feed.m2_session.declared.answer.Answer.{Answer}
+use Rattle.m2_script.specs.m2_center.m2_feed.m2_session.declared.ask.AskFacts.{AskFacts}
+use Rattle.m2_script.specs.m2_center.m2_turn.m2_handshake.Asks.{bare_ask}
+use Rattle.m2_script.specs.m2_center.m2_turn.m2_handshake.declared.ask.Ask.{Ask}
+use Rattle.m2_script.specs.m2_center.m2_turn.m2_handshake.declared.ask.Ask.TheVariants.{Ident, Reconnect}
+use Rattle.m2_script.specs.m2_center.m2_record.Calls.{CountsResumption, after_news, left_by}
+use Rattle.m2_script.specs.m2_center.m2_record.Judging.{JudgesAs, TakenHalf, TakesOver, after_answer, after_taking_over, effects_at, half_of, with_judged}
+use Rattle.m2_script.specs.m2_center.m2_record.RecordNow.{RecordNow}
+use Rattle.m2_script.specs.m2_center.m2_record.declared.judging.Judged.{Judged}
+use Rattle.m2_script.specs.m2_center.m2_record.declared.judging.Judged.TheVariants as judged
 use Rattle.m2_exact.proofs.Cores as cores
+use Rattle.m2_exact.proofs.InMemory as ends
 use Rattle.m2_exact.proofs.Plain as calls
 use Rattle.m2_exact.proofs.Plain.{none}
+use Rattle.m2_exact.proofs.Signing as signing
+use Rattle.m2_exact.proofs.Staying as staying
 use Rattle.m2_exact.proofs.Steps as steps
-use Rattle.m2_exact.specs.Cores.{roomless, roomless_feed}
+use Rattle.m2_exact.specs.Cores.{FeedIsInMemory, OnMemory, roomless, roomless_feed}
 use Rattle.m2_exact.specs.Halves as half
-use Rattle.m2_exact.specs.Judgements.{Judges, LikeRecordsJudgeAlike, bare_judged, lacks}
+use Rattle.m2_exact.specs.Judgements.{BackInMemory, Judges, LikeRecordsJudgeAlike, bare_judged, lacks}
 use Rattle.m2_exact.specs.Records.{plain}
+use Rattle.m2_exact.specs.RecordTurns.{IsFit}
 
 -- ---- asks
 
@@ -183,9 +192,6 @@ same_verdict : (o p : Ask) (number : ℕ) (c d : CoreNow) → bare_ask o ≡ bar
 same_verdict o p number c d asks like =
     ap (λ (f : AskFacts). verdict_on f number c.live) (facts_bare o ∙ ap facts_of_ask asks ∙ sym (facts_bare p)) ∙ ap (λ (k : CoreNow). verdict_on (facts_of_ask p) number k.live) like
 
-pub some_ask : (o p : Ask) → Some o ≡ Some p → o ≡ p
-some_ask o p e = cc e
-
 -- the ask, and what was judged
 asked : {E : Type 0} (j : Judged E) (a : IncomingNow) (number now : ℕ) (r new : RecordNow) → Judges j a number now r new →
     (ask : Ask) × (a.ask ≡ Some ask) × JudgesAs j (verdict_on (facts_of_ask ask) number r.core.live) a now r new
@@ -201,7 +207,7 @@ judges_one : {E : Type 0} (one other : Judged E) (a b : IncomingNow) (number now
 judges_one {E} one other a b number now r s new behind like alike h g =
     let (o, is, judges) = asked one a number now r new h in
     let (p, are, judged) = asked other b number now s behind g in
-    let asks = some_ask (bare_ask o) (bare_ask p) (sym (ap (option_map bare_ask) is) ∙ ap (λ (x : IncomingNow). x.ask) like ∙ ap (option_map bare_ask) are) in
+    let asks = some_same (bare_ask o) (bare_ask p) (sym (ap (option_map bare_ask) is) ∙ ap (λ (x : IncomingNow). x.ask) like ∙ ap (option_map bare_ask) are) in
     let v = verdict_on (facts_of_ask o) number r.core.live in
     let w = verdict_on (facts_of_ask p) number s.core.live in
     let same : v ≡ w = same_verdict o p number r.core s.core asks (ap (λ (x : RecordNow). x.core) alike) in
@@ -213,6 +219,39 @@ judges_one {E} one other a b number now r s new behind like alike h g =
           ∙ sym second.0,
       leaves_one (takes w.answer) v w a b now r s new behind same like alike (subst (λ (u : Verdict). Leaves (takes u.answer) v a now r new) same first.1) second.1,
     )
+
+-- ---- it stays fit
+
+-- both sides have signed on a socket that is taken
+taken_fit : (v : Verdict) (h : TakenHalf) (now : ℕ) (r new : RecordNow) → IsInMemory h.end → TakesOver v h now r new → IsFit new
+taken_fit v h now r new m (each, some) = let both = by new.core.live.feed each some in record { memory = both.0; asked = both.1 }
+  where
+    by : (x : Option FeedNow) → IfSome x (λ d. IsTakenFeed v h.end h.unread r.core d × (new ≡ record (after_taking_over v h d now r) { room = new.room })) → IsSome x →
+        OnMemory x × IsAskedIfSigned new.core.live.session.phase x
+    by (Some d) (is, only) some =
+        let signed : is_framing d.reading ≡ true = ap (λ (z : FeedNow). is_framing z.reading) is in
+        (subst (λ (z : FeedNow). IsInMemory z.end) (sym is) m, λ e. absurd (cc (signed, e)))
+    by None each some = absurd (cc some)
+
+judged_fit : {E : Type 0} (j : Judged E) (v : Verdict) (a : IncomingNow) (now : ℕ) (r new : RecordNow) → IsInMemory a.end → IsFit r → lacks j ≡ false → JudgesAs j v a now r new →
+    IsFit new × BackInMemory j
+judged_fit (judged.Taken answer) v a now r new m f k (is, may, h) =
+    let over = taken_fit v (half_of answer a) now r h.taken m h.over in
+    let n = to_count h.taken.core.live in
+    (record { memory = staying.counts n h.taken.core new.core over.memory h.counts.0; asked = signing.counts n h.taken.core new.core over.asked h.counts.0 }, tt)
+judged_fit (judged.Back answer arrival) v a now r new m f k (is, may, back, only) =
+    let told = told_of r.core.facts v in (
+      record {
+        memory = subst (λ (z : RecordNow). FeedIsInMemory z.core) (sym only) (ends.told told r.core.live f.memory);
+        asked = subst (λ (z : RecordNow). IsAskedIfSigned z.core.live.session.phase z.core.live.feed) (sym only)
+            (signing.told_quietly told r.core.live (refuses_by v.ask.ident (kept_of r.core.facts v.ask) v.answer (cookie_of r.core.facts v.number) (sym (ap takes is) ∙ may)) f.asked);
+      },
+      subst (λ (x : IncomingNow). IsInMemory x.end) (sym back) m,
+    )
+judged_fit (judged.NoMemory arrival) v a now r new m f k h = absurd (cc k)
+
+stays : {E : Type 0} (j : Judged E) (a : IncomingNow) (number now : ℕ) (old new : RecordNow) → IsInMemory a.end → IsFit old → Judges j a number now old new → IsFit new × BackInMemory j
+stays j a number now old new m f h = let (ask, is, judges) = asked j a number now old new h in judged_fit j (verdict_on (facts_of_ask ask) number old.core.live) a now old new m f h.memory judges
 
 -- ---- news
 
@@ -234,4 +273,4 @@ news_one : (id : SocketId) (news : News) (bytes : List ℕ) (r s : RecordNow) �
 news_one id news bytes r s like = news_plain id news bytes r ∙ ap (after_news id news bytes) like ∙ sym (news_plain id news bytes s)
 
 pub alike : {E : Type 0} → LikeRecordsJudgeAlike E
-alike = record { judges = judges_one; news = news_one }
+alike = record { judges = judges_one; stays = stays; news = news_one }

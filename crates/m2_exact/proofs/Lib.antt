@@ -1,6 +1,7 @@
 pub mod Accepts
 pub mod Advances
 pub mod Answers
+pub mod Centers
 pub mod Common
 pub mod Composing
 pub mod Cores
@@ -8,10 +9,13 @@ pub mod Dialing
 pub mod Feeds
 pub mod Framing
 pub mod Fronts
+pub mod HalfTurns
 pub mod Halves
+pub mod HalvesTurns
 pub mod Handshakes
 pub mod InMemory
 pub mod Judgements
+pub mod Leaving
 pub mod Mails
 pub mod Nexts
 pub mod Plain
@@ -20,3 +24,10 @@ pub mod RecordsTurns
 pub mod Signing
 pub mod Staying
 pub mod Steps
+pub mod Networks
+pub mod Lists
+pub mod Told
+pub mod Nodes
+pub mod Deeds
+pub mod Runs
+pub use Rattle.m2_script.proofs as m2_script

@@ -2,52 +2,46 @@
 use Rattle.std.proofs.Common.{◌≡◌, ℕ, ◌+◌, Bool, true, Option, None, Some, inl, inr, refl, sym, subst, ◌∙◌, ap}
 use Rattle.std.specs.Prelude.{◌≢◌, ◌⊎◌}
 use Rattle.std.specs.Option.{option_map}
-use Rattle.m2_turn.specs.m2_core.Accepting.{Accepts}
-use Rattle.m2_turn.specs.m2_core.CoreNow.{CoreNow}
-use Rattle.m2_turn.specs.m2_core.Front.{FrontHeard, asks, heard_by, rests, tells}
-use Rattle.m2_turn.specs.m2_core.Granting.{Throttled, after_granted}
-use Rattle.m2_turn.specs.m2_core.Hearing.{HasObeyed}
-use Rattle.m2_turn.specs.m2_core.LiveAccepting.{accepted_live}
-use Rattle.m2_turn.specs.m2_core.LiveNow.{LiveNow, OnFeedNow, is_waiting}
-use Rattle.m2_turn.specs.m2_core.LiveCalls.{after_counted, after_fault, live_with, passed_live}
-use Rattle.m2_turn.specs.m2_core.Effects as effects
-use Rattle.m2_turn.specs.m2_core.Next.{Closes, Counts, IsNext}
-use Rattle.m2_turn.specs.m2_core.OnFeed.{granted_feed}
-use Rattle.m2_turn.specs.m2_core.Passing.{HasPassed, HasStamped, StampsFeed}
-use Rattle.m2_turn.specs.m2_core.declared.accepting.CoreAccepted.{CoreAccepted}
-use Rattle.m2_turn.specs.m2_core.declared.next.CoreNext.{CoreNext}
-use Rattle.m2_turn.specs.m2_core.declared.next.CoreNext.TheVariants as next
+use Rattle.m2_fabric.proofs.m2_lemmas.Options.{some_same}
+use Rattle.m2_script.specs.m2_center.m2_core.Accepting.{Accepts}
+use Rattle.m2_script.specs.m2_center.m2_core.CoreNow.{CoreNow}
+use Rattle.m2_script.specs.m2_center.m2_core.Front.{FrontHeard, asks, heard_by, rests, tells}
+use Rattle.m2_script.specs.m2_center.m2_core.Granting.{Throttled, after_granted}
+use Rattle.m2_script.specs.m2_center.m2_core.Hearing.{HasObeyed}
+use Rattle.m2_script.specs.m2_center.m2_core.LiveAccepting.{accepted_live}
+use Rattle.m2_script.specs.m2_center.m2_core.LiveNow.{LiveNow, OnFeedNow, is_waiting}
+use Rattle.m2_script.specs.m2_center.m2_core.LiveCalls.{after_counted, after_fault, live_with, passed_live}
+use Rattle.m2_script.specs.m2_center.m2_core.Effects as effects
+use Rattle.m2_script.specs.m2_center.m2_core.Next.{Closes, Counts, IsNext}
+use Rattle.m2_script.specs.m2_center.m2_core.OnFeed.{granted_feed}
+use Rattle.m2_script.specs.m2_center.m2_core.Passing.{HasPassed, HasStamped, StampsFeed}
+use Rattle.m2_script.specs.m2_center.m2_core.declared.accepting.CoreAccepted.{CoreAccepted}
+use Rattle.m2_script.specs.m2_center.m2_core.declared.next.CoreNext.{CoreNext}
+use Rattle.m2_script.specs.m2_center.m2_core.declared.next.CoreNext.TheVariants as next
 use Rattle.m2_dispatch.specs.m2_message.Message.{Content, content_of}
 use Rattle.m2_dispatch.specs.m2_message.MessageFrame.{message_in}
 use Rattle.m2_dispatch.specs.m2_message.declared.message.Message.{Message}
 use Rattle.m2_dispatch.specs.m2_shared.Place.{IsAlone}
 use Rattle.m2_dispatch.specs.m2_shared.Throttle.{SeenGrant, SeenThrottle, Waits}
-use Rattle.m2_turn.specs.m2_feed.FeedNow.{FeedNow, Reading}
-use Rattle.m2_turn.specs.m2_feed.declared.frame_heard.FrameHeard.TheVariants as heard
-use Rattle.m2_turn.specs.m2_feed.declared.hearer.Hearer.{Hearer}
-use Rattle.m2_turn.specs.m2_feed.declared.wire_fault.WireFault.{WireFault}
-use Rattle.m2_turn.specs.m2_feed.m2_control.declared.keepalive.Keepalive.{Keepalive}
-use Rattle.m2_turn.specs.m2_feed.m2_journal.Lawful.{key_of}
-use Rattle.m2_turn.specs.m2_feed.m2_policy.declared.path.Key.{Key}
-use Rattle.m2_turn.specs.m2_feed.m2_session.declared.event.Event.TheVariants as event
-use Rattle.m2_turn.specs.m2_handshake.m2_frame.Frame.{Parts}
-use Rattle.m2_turn.specs.m2_handshake.m2_frame.Reading.{whole}
-use Rattle.m2_turn.specs.m2_record.Framing.{AnswersFront}
+use Rattle.m2_script.specs.m2_center.m2_feed.FeedNow.{FeedNow, Reading}
+use Rattle.m2_script.specs.m2_center.m2_feed.declared.frame_heard.FrameHeard.TheVariants as heard
+use Rattle.m2_script.specs.m2_center.m2_feed.declared.hearer.Hearer.{Hearer}
+use Rattle.m2_script.specs.m2_center.m2_feed.declared.wire_fault.WireFault.{WireFault}
+use Rattle.m2_script.specs.m2_center.m2_feed.m2_control.declared.keepalive.Keepalive.{Keepalive}
+use Rattle.m2_script.specs.m2_center.m2_feed.m2_journal.Lawful.{key_of}
+use Rattle.m2_script.specs.m2_center.m2_feed.m2_policy.declared.path.Key.{Key}
+use Rattle.m2_script.specs.m2_center.m2_feed.m2_session.declared.event.Event.TheVariants as event
+use Rattle.m2_script.specs.m2_center.m2_turn.m2_handshake.m2_frame.Frame.{Parts}
+use Rattle.m2_script.specs.m2_center.m2_turn.m2_handshake.m2_frame.Reading.{whole}
+use Rattle.m2_script.specs.m2_center.m2_record.Framing.{AnswersFront}
 use Rattle.m2_exact.proofs.Cores as cores
 use Rattle.m2_exact.proofs.Fronts as fronts
 use Rattle.m2_exact.proofs.Plain.{none}
 use Rattle.m2_exact.specs.Cores.{roomless, roomless_feed}
-use Rattle.m2_exact.specs.Records.{bare_message}
 
-abbrev pub bare_accepted : CoreAccepted → CoreAccepted
-bare_accepted a = record a { message = bare_message a.message }
-
-abbrev pub bare_next : CoreNext → CoreNext
-bare_next (next.Accepted a) = next.Accepted (bare_accepted a)
-bare_next answer = answer
-
+-- the message that says this
 abbrev of_content : Content → Message
-of_content m = record { header = m.header; front = record { bytes = m.front; room = 0 }; middle = record { bytes = m.middle; room = 0 }; tail = record { bytes = m.tail; room = 0 } }
+of_content m = record { header = m.header; front = record { bytes = m.front }; middle = record { bytes = m.middle }; tail = record { bytes = m.tail } }
 
 -- ---- what was found at the front
 
@@ -89,7 +83,7 @@ is_fault t why one c new h = absurd h
 
 -- answers of which the same is told, and cores that are alike
 pub record Agree (one other : CoreNext) (new behind : CoreNow) : Type 0 where
-  pub answers : bare_next one ≡ bare_next other
+  pub answers : one ≡ other
   pub cores : roomless new ≡ roomless behind
 
 granted_roomless : (x : Option FeedNow) → option_map roomless_feed (granted_feed x) ≡ granted_feed (option_map roomless_feed x)
@@ -129,7 +123,7 @@ module _ (c d new behind : CoreNow) (like : roomless c ≡ roomless d) where
     where
       by : (h g : Hearer) (v w x y : Option FeedNow) → option_map roomless_feed v ≡ option_map roomless_feed w → StampsFeed h k v x → StampsFeed g k w y →
           option_map roomless_feed x ≡ option_map roomless_feed y
-      by h g (Some v) (Some w) (Some x) (Some y) same p q = ap (λ (z : FeedNow). Some z) (fronts.stamps_feed v w x y k (cores.some_one (roomless_feed v) (roomless_feed w) same) p.1 q.1)
+      by h g (Some v) (Some w) (Some x) (Some y) same p q = ap (λ (z : FeedNow). Some z) (fronts.stamps_feed v w x y k (some_same (roomless_feed v) (roomless_feed w) same) p.1 q.1)
       by h g (Some v) (Some w) (Some x) None same p q = absurd q
       by h g (Some v) (Some w) None y same p q = absurd p
       by h g (Some v) None x y same p q = absurd q
@@ -148,9 +142,6 @@ module _ (c d new behind : CoreNow) (like : roomless c ≡ roomless d) where
 
   -- ---- a message
 
-  some_grant : (g h : SeenGrant) → Some g ≡ Some h → g ≡ h
-  some_grant g h e = cc e
-
   module _ (a b : CoreAccepted) (h : Accepts a c new) (k : Accepts b d behind) where
     same_content : content_of a.message ≡ content_of b.message
     same_content =
@@ -165,15 +156,15 @@ module _ (c d new behind : CoreNow) (like : roomless c ≡ roomless d) where
     same_key = h.key ∙ ap (λ (x : CoreNow). key_of x.facts (content_of a.message)) like ∙ ap (λ (m : Content). key_of d.facts m) same_content ∙ sym k.key
 
     same_grant : a.grant ≡ b.grant
-    same_grant = some_grant a.grant b.grant (sym h.grant ∙ ap (λ (x : CoreNow). x.live.granted) like ∙ k.grant)
+    same_grant = some_same a.grant b.grant (sym h.grant ∙ ap (λ (x : CoreNow). x.live.granted) like ∙ k.grant)
 
-    same_accepted : bare_accepted a ≡ bare_accepted b
+    same_accepted : a ≡ b
     same_accepted =
-        ap (λ (n : ℕ). record (bare_accepted a) { number = n }) same_number
-        ∙ ap (λ (n : ℕ). record (bare_accepted a) { number = b.number; life = n }) (h.life ∙ ap (λ (x : CoreNow). x.live.life) like ∙ sym k.life)
-        ∙ ap (λ (key : Key). record (bare_accepted a) { number = b.number; life = b.life; key = key }) same_key
-        ∙ ap (λ (g : SeenGrant). record (bare_accepted a) { number = b.number; life = b.life; key = b.key; grant = g }) same_grant
-        ∙ ap (λ (m : Content). record (bare_accepted b) { message = of_content m }) same_content
+        ap (λ (n : ℕ). record a { number = n }) same_number
+        ∙ ap (λ (n : ℕ). record a { number = b.number; life = n }) (h.life ∙ ap (λ (x : CoreNow). x.live.life) like ∙ sym k.life)
+        ∙ ap (λ (key : Key). record a { number = b.number; life = b.life; key = key }) same_key
+        ∙ ap (λ (g : SeenGrant). record a { number = b.number; life = b.life; key = b.key; grant = g }) same_grant
+        ∙ ap (λ (m : Content). record b { message = of_content m }) same_content
 
     accepted : roomless new ≡ roomless behind
     accepted =
@@ -221,11 +212,11 @@ module _ (t u : Throttled) (p : LikeThrottles t u) (one other : CoreNext) (m : o
           ⊎ ((one ≡ next.Full t.before.word) × Waits t.throttle.most t.before.word n × (new ≡ c)) →
           ((other ≡ next.Granted) × (Waits u.throttle.most u.before.word n → ⊥) × (behind ≡ record d { live = after_granted u.throttle.place n d.live }))
           ⊎ ((other ≡ next.Full u.before.word) × Waits u.throttle.most u.before.word n × (behind ≡ d)) → Agree one other new behind
-      by (inl (a, w, only)) (inl (b, x, last)) = record { answers = ap bare_next a ∙ sym (ap bare_next b); cores = granted c d new behind like t.throttle u.throttle n p.throttle only last }
+      by (inl (a, w, only)) (inl (b, x, last)) = record { answers = a ∙ sym b; cores = granted c d new behind like t.throttle u.throttle n p.throttle only last }
       by (inl (a, w, only)) (inr (b, x, last)) = absurd (w (back x))
       by (inr (a, w, only)) (inl (b, x, last)) = absurd (x (here w))
       by (inr (a, w, only)) (inr (b, x, last)) =
-          record { answers = ap bare_next a ∙ ap (λ (n : ℕ). next.Full n) p.word ∙ sym (ap bare_next b); cores = stayed c d new behind like only last }
+          record { answers = a ∙ ap (λ (n : ℕ). next.Full n) p.word ∙ sym b; cores = stayed c d new behind like only last }
 
   of_front : (f : FrontHeard) → IsNext t one f c new → IsNext u other f d behind → Agree one other new behind
   of_front rests h g = by one other h g
@@ -242,35 +233,35 @@ module _ (t u : Throttled) (p : LikeThrottles t u) (one other : CoreNext) (m : o
       by one other h g =
           let a = still one h in
           let b = rested other g in
-          record { answers = ap bare_next a.0 ∙ sym (ap bare_next b.0); cores = stayed c d new behind like a.1 b.1 }
+          record { answers = a.0 ∙ sym b.0; cores = stayed c d new behind like a.1 b.1 }
   of_front (asks n) h g = of_size n h g
   of_front (tells heard.Nothing) h g =
       let a = is_passed t one c new h in
       let b = is_passed u other d behind g in
-      record { answers = ap bare_next a.0 ∙ sym (ap bare_next b.0); cores = has_passed c d new behind like a.1 b.1 }
+      record { answers = a.0 ∙ sym b.0; cores = has_passed c d new behind like a.1 b.1 }
   of_front (tells (heard.Stamp s)) h g =
       let a = is_stamped t s one c new m h in
       let b = is_stamped u s other d behind k g in
-      record { answers = ap bare_next a.0 ∙ sym (ap bare_next b.0); cores = has_stamped c d new behind like s a.1 b.1 }
+      record { answers = a.0 ∙ sym b.0; cores = has_stamped c d new behind like s a.1 b.1 }
   of_front (tells (heard.Acknowledges n)) h g =
       let a = is_counted t n one c new h in
       let b = is_counted u n other d behind g in
-      record { answers = ap bare_next a.0 ∙ sym (ap bare_next b.0); cores = counted c d new behind like n a.1 b.1 }
+      record { answers = a.0 ∙ sym b.0; cores = counted c d new behind like n a.1 b.1 }
   of_front (tells (heard.Brings n)) h g =
       let (a, is, accepts) = is_accepted t n one c new m h in
       let (b, are, takes) = is_accepted u n other d behind k g in
       record {
-        answers = ap bare_next is ∙ ap (λ (x : CoreAccepted). next.Accepted x) (same_accepted c d new behind like a b accepts takes) ∙ sym (ap bare_next are);
+        answers = is ∙ ap (λ (x : CoreAccepted). next.Accepted x) (same_accepted c d new behind like a b accepts takes) ∙ sym are;
         cores = accepted c d new behind like a b accepts takes;
       }
   of_front (tells (heard.Resets mark)) h g =
       let a = is_reset t mark one c new h in
       let b = is_reset u mark other d behind g in
-      record { answers = ap bare_next a.0 ∙ sym (ap bare_next b.0); cores = stayed c d new behind like a.1 b.1 }
+      record { answers = a.0 ∙ sym b.0; cores = stayed c d new behind like a.1 b.1 }
   of_front (tells (heard.Fault why)) h g =
       let a = is_fault t why one c new h in
       let b = is_fault u why other d behind g in
-      record { answers = ap bare_next a.0 ∙ sym (ap bare_next b.0); cores = closed c d new behind like a.1 b.1 }
+      record { answers = a.0 ∙ sym b.0; cores = closed c d new behind like a.1 b.1 }
 
   pub at_front : AnswersFront t one c new → AnswersFront u other d behind → Agree one other new behind
   at_front h g = by c.live.feed d.live.feed (ap (λ (x : CoreNow). x.live.feed) like) h g
@@ -278,7 +269,7 @@ module _ (t u : Throttled) (p : LikeThrottles t u) (one other : CoreNext) (m : o
       by : (x y : Option FeedNow) → option_map roomless_feed x ≡ option_map roomless_feed y → OnFeedNow x (λ v. IsNext t one (heard_by c v.reading) c new) →
           OnFeedNow y (λ v. IsNext u other (heard_by d v.reading) d behind) → Agree one other new behind
       by (Some v) (Some w) same h g =
-          let read = ap (λ (z : FeedNow). z.reading) (cores.some_one (roomless_feed v) (roomless_feed w) same) in
+          let read = ap (λ (z : FeedNow). z.reading) (some_same (roomless_feed v) (roomless_feed w) same) in
           of_front (heard_by c v.reading) h
           (subst (λ (f : FrontHeard). IsNext u other f d behind) (sym (ap (λ (x : CoreNow). heard_by x v.reading) like ∙ ap (λ (r : Reading). heard_by d r) read)) g)
       by (Some v) None same h g = absurd g

@@ -1,22 +1,20 @@
--- What calls leave of a record is told by the record without room, and without where the parts of messages lie.
-use Rattle.std.proofs.Common.{◌≡◌, ℕ, Bool, true, false, List, ◌++◌, map, Option, Some, refl, sym, ◌∙◌, ap}
-use Rattle.std.proofs.lemmas.List.{map-append}
+-- What calls leave of a record is told by the record without room.
+use Rattle.std.proofs.Common.{◌≡◌, ℕ, Bool, false, ◌++◌, Option, Some, sym, ◌∙◌, ap}
 use Rattle.std.specs.Option.{option_map, option_to_list}
-use Rattle.m2_turn.specs.m2_core.Calls.{after_down}
-use Rattle.m2_turn.specs.m2_core.LiveCalls.{after_fault}
-use Rattle.m2_turn.specs.m2_core.LiveNow.{LiveNow, is_waiting}
-use Rattle.m2_turn.specs.m2_core.Waits.{stepped}
-use Rattle.m2_dispatch.specs.declared.parcel.Parcel.{Parcel}
+use Rattle.m2_script.specs.m2_center.m2_core.Calls.{after_down}
+use Rattle.m2_script.specs.m2_center.m2_core.LiveCalls.{after_fault}
+use Rattle.m2_script.specs.m2_center.m2_core.LiveNow.{LiveNow, is_waiting}
+use Rattle.m2_script.specs.m2_center.m2_core.Waits.{stepped}
 use Rattle.m2_fabric.specs.End.{SeenEnd}
-use Rattle.m2_turn.specs.m2_feed.FeedNow.{Room}
-use Rattle.m2_turn.specs.m2_feed.m2_session.Steps.{step_of}
-use Rattle.m2_turn.specs.m2_feed.m2_session.declared.event.Effects.{Effects}
-use Rattle.m2_turn.specs.m2_feed.m2_session.declared.event.Event.TheVariants as event
-use Rattle.m2_turn.specs.m2_record.Calls.{Breaks, GoesDown, after_breaking, after_going_down, closed_entries, left_by, told_parcels, with_down}
-use Rattle.m2_turn.specs.m2_record.RecordNow.{RecordNow}
+use Rattle.m2_script.specs.m2_center.m2_feed.FeedNow.{Room}
+use Rattle.m2_script.specs.m2_center.m2_feed.m2_session.Steps.{step_of}
+use Rattle.m2_script.specs.m2_center.m2_feed.m2_session.declared.event.Effects.{Effects}
+use Rattle.m2_script.specs.m2_center.m2_feed.m2_session.declared.event.Event.TheVariants as event
+use Rattle.m2_script.specs.m2_center.m2_record.Calls.{Breaks, GoesDown, after_breaking, after_going_down, closed_entries, left_by, told_parcels, with_down}
+use Rattle.m2_script.specs.m2_center.m2_record.RecordNow.{RecordNow}
 use Rattle.m2_exact.proofs.Cores as cores
 use Rattle.m2_exact.specs.Cores.{roomless, roomless_feed}
-use Rattle.m2_exact.specs.Records.{bare_parcel, plain}
+use Rattle.m2_exact.specs.Records.{plain}
 
 -- no room
 abbrev pub none : Room → Room
@@ -25,20 +23,6 @@ none r = record { payload = 0; text = 0 }
 abbrev pub plain_live : LiveNow → LiveNow
 plain_live l = record l { feed = option_map roomless_feed l.feed }
 
--- ---- what is handed out
-
-told_bare : (place : ℕ) (discarded reset : Bool) → map bare_parcel (told_parcels place discarded reset) ≡ told_parcels place discarded reset
-told_bare place true true = refl
-told_bare place true false = refl
-told_bare place false true = refl
-told_bare place false false = refl
-
--- what is told goes behind what is ready
-pub behind_bare : (xs : List Parcel) (place : ℕ) (discarded reset : Bool) →
-    map bare_parcel (xs ++ told_parcels place discarded reset) ≡ map bare_parcel xs ++ told_parcels place discarded reset
-behind_bare xs place discarded reset =
-    map-append bare_parcel xs (told_parcels place discarded reset) ∙ ap (λ (ys : List Parcel). map bare_parcel xs ++ ys) (told_bare place discarded reset)
-
 -- ---- a step of the session
 
 pub left : (e : Effects) (r : RecordNow) → plain (left_by e r) ≡ left_by e (plain r)
@@ -46,9 +30,8 @@ left e r =
     ap (λ (x : Option SeenEnd). record (plain r) {
       journal = r.journal ++ closed_entries x;
       spent = r.spent ++ option_to_list x;
-      parcels = map bare_parcel (r.parcels ++ told_parcels r.place e.discard e.remote_reset);
+      parcels = r.parcels ++ told_parcels r.place e.discard e.remote_reset;
     }) (cores.closed_seen none e.close r.core.live.feed)
-    ∙ ap (λ (xs : List Parcel). record (left_by e (plain r)) { parcels = xs }) (behind_bare r.parcels r.place e.discard e.remote_reset)
 
 going_down : (planned : Bool) (r : RecordNow) → plain (after_going_down planned r) ≡ after_going_down planned (plain r)
 going_down planned r =

@@ -1,8 +1,7 @@
 -- Records that are alike take their turns alike, but for want of memory.
-use Rattle.std.proofs.Common.{◌≡◌, ℕ, ◌-◌, ◌<◌, ◌&&◌, ◌++◌, List, [], ◌∷◌, length, map, Bool, true, false, Option, None, Some, inl, inr, refl, sym, subst, ◌∙◌, ap, arith}
+use Rattle.std.proofs.Common.{◌≡◌, ℕ, ◌-◌, ◌<◌, ◌&&◌, ◌++◌, List, [], ◌∷◌, length, Bool, true, false, Option, None, Some, inl, inr, refl, sym, subst, ◌∙◌, ap, arith}
 use Rattle.std.specs.Prelude.{◌≢◌, ◌⊎◌, nat_lt}
 use Rattle.std.specs.Option.{is_none, option_map}
-use Rattle.std.proofs.lemmas.List.{map-append}
 use Rattle.m2_dispatch.specs.Heard.{Heard}
 use Rattle.m2_dispatch.specs.Letters.{heard_in}
 use Rattle.m2_dispatch.specs.declared.letter.Letter.{Letter}
@@ -12,22 +11,22 @@ use Rattle.m2_dispatch.specs.m2_policy.declared.path.Path.{Path}
 use Rattle.m2_dispatch.specs.m2_policy.declared.path.Path.TheVariants.{Fast, Queued}
 use Rattle.m2_dispatch.specs.m2_shared.Place.{IsAlone}
 use Rattle.m2_dispatch.specs.m2_shared.Throttle.{SeenTakePass, SeenThrottle}
-use Rattle.m2_turn.specs.Outbox.{DispatchesOr, OutboxNow, Puts, PutsLetter, is_free, returned, returned_on}
-use Rattle.m2_turn.specs.RecordTurn.{EndsBy, EndsWith, GivesHanded, LeadsOn, LedOn, Means, PutsHanded, Steps, TakesStep, Turning, TurnsAs, worked_by}
-use Rattle.m2_turn.specs.declared.outbox.TheConstants.{MOST_MAIL}
-use Rattle.m2_turn.specs.declared.record_turn.RecordTurn.{RecordTurn}
-use Rattle.m2_turn.specs.declared.record_turn.RecordTurn.TheVariants as turn
-use Rattle.m2_turn.specs.declared.record_turn.TheConstants.{MOST_STEPS}
-use Rattle.m2_turn.specs.m2_core.CoreNow.{IsAskedIfSigned}
-use Rattle.m2_turn.specs.m2_feed.FeedNow.{FeedNow}
-use Rattle.m2_turn.specs.m2_feed.declared.wire_fault.WireFault.{WireFault}
-use Rattle.m2_turn.specs.m2_feed.m2_session.declared.session.Phase.{Phase}
-use Rattle.m2_turn.specs.m2_record.RecordNow.{RecordNow}
-use Rattle.m2_turn.specs.m2_record.declared.stepped.Stepped.{Stepped}
-use Rattle.m2_turn.specs.m2_record.declared.stepped.Stepped.TheVariants as stepped
+use Rattle.m2_script.specs.m2_center.m2_turn.Outbox.{DispatchesOr, OutboxNow, Puts, PutsLetter, is_free, returned}
+use Rattle.m2_script.specs.m2_center.m2_turn.RecordTurn.{EndsBy, EndsWith, GivesHanded, LeadsOn, LedOn, Means, PutsHanded, Steps, TakesStep, Turning, TurnsAs, worked_by}
+use Rattle.m2_script.specs.m2_center.m2_turn.declared.outbox.TheConstants.{MOST_MAIL}
+use Rattle.m2_script.specs.m2_center.m2_turn.declared.record_turn.RecordTurn.{RecordTurn}
+use Rattle.m2_script.specs.m2_center.m2_turn.declared.record_turn.RecordTurn.TheVariants as turn
+use Rattle.m2_script.specs.m2_center.m2_turn.declared.record_turn.TheConstants.{MOST_STEPS}
+use Rattle.m2_script.specs.m2_center.m2_core.CoreNow.{IsAskedIfSigned}
+use Rattle.m2_script.specs.m2_center.m2_feed.FeedNow.{FeedNow}
+use Rattle.m2_script.specs.m2_center.m2_feed.declared.wire_fault.WireFault.{WireFault}
+use Rattle.m2_script.specs.m2_center.m2_feed.m2_session.declared.session.Phase.{Phase}
+use Rattle.m2_script.specs.m2_center.m2_record.RecordNow.{RecordNow}
+use Rattle.m2_script.specs.m2_center.m2_record.declared.stepped.Stepped.{Stepped}
+use Rattle.m2_script.specs.m2_center.m2_record.declared.stepped.Stepped.TheVariants as stepped
 use Rattle.m2_exact.proofs.Staying as steps
 use Rattle.m2_exact.specs.Cores.{OnMemory, roomless_feed}
-use Rattle.m2_exact.specs.Records.{Done, Took, begun, bare_answer, bare_letter, bare_numbers, bare_parcel, bare_take, plain}
+use Rattle.m2_exact.specs.Records.{Done, Took, begun, bare_numbers, bare_take, plain}
 use Rattle.m2_exact.specs.RecordTurns.{HasAlone, IsFit, LikeRecordsTurnAlike, PlainOut, PlainTurning, Turned, plain_out, plain_turning}
 
 -- ---- fitness
@@ -75,23 +74,20 @@ handed_back (stepped.Hand x) word = word - returned x None
 handed_back answer word = word
 
 module _ {D : Type 0} (heard : D → List Heard) where
-  mailed : (x : Parcel) (o new : OutboxNow D) → new ≡ record o { mail = o.mail ++ x ∷ [] } → plain_out heard new ≡ record (plain_out heard o) { mail = map bare_parcel o.mail ++ bare_parcel x ∷ [] }
-  mailed x o new h = ap (plain_out heard) h ∙ ap (λ (xs : List Parcel). record (plain_out heard o) { mail = xs }) (map-append bare_parcel o.mail (x ∷ []))
-
-  pub put_by : (l : Letter) (p : Path) (o new : OutboxNow D) → new.held ≡ None → PutsLetter heard l p o new → plain_out heard new ≡ put_letter (bare_letter l) p (plain_out heard o)
+  pub put_by : (l : Letter) (p : Path) (o new : OutboxNow D) → new.held ≡ None → PutsLetter heard l p o new → plain_out heard new ≡ put_letter l p (plain_out heard o)
   put_by l Fast o new none h =
       let (said, same) = subst (DispatchesOr heard l o new) none h in
-      ap (λ (x : List Heard). record { fast = x; mail = map bare_parcel new.mail; held = option_map bare_letter new.held }) said
-      ∙ ap (λ (xs : List Parcel). record { fast = heard o.fast ++ heard_in l ∷ []; mail = map bare_parcel xs; held = option_map bare_letter new.held }) same
-      ∙ ap (λ (x : Option Letter). record { fast = heard o.fast ++ heard_in l ∷ []; mail = map bare_parcel o.mail; held = option_map bare_letter x }) none
-  put_by l Queued o new none h = mailed (parcel.Letter l) o new h
+      ap (λ (x : List Heard). record { fast = x; mail = new.mail; held = new.held }) said
+      ∙ ap (λ (xs : List Parcel). record { fast = heard o.fast ++ heard_in l ∷ []; mail = xs; held = new.held }) same
+      ∙ ap (λ (x : Option Letter). record { fast = heard o.fast ++ heard_in l ∷ []; mail = o.mail; held = x }) none
+  put_by l Queued o new none h = ap (plain_out heard) h
 
-  put : (x : Parcel) (o new : OutboxNow D) → new.held ≡ None → Puts heard x o new → plain_out heard new ≡ put_out (bare_parcel x) (plain_out heard o)
+  put : (x : Parcel) (o new : OutboxNow D) → new.held ≡ None → Puts heard x o new → plain_out heard new ≡ put_out x (plain_out heard o)
   put (parcel.Letter l) o new none h = put_by l l.key.path o new none h
-  put (parcel.Discard peer) o new none h = mailed (parcel.Discard peer) o new h
-  put (parcel.RemoteReset peer) o new none h = mailed (parcel.RemoteReset peer) o new h
+  put (parcel.Discard peer) o new none h = ap (plain_out heard) h
+  put (parcel.RemoteReset peer) o new none h = ap (plain_out heard) h
 
-  handed : (a : Stepped) (o new : OutboxNow D) → new.held ≡ None → PutsHanded heard a o new → plain_out heard new ≡ handed_out (bare_answer a) (plain_out heard o)
+  handed : (a : Stepped) (o new : OutboxNow D) → new.held ≡ None → PutsHanded heard a o new → plain_out heard new ≡ handed_out a (plain_out heard o)
   handed (stepped.Hand x) o new none h = put x o new none h
   handed stepped.Moved o new none h = ap (plain_out heard) h
   handed stepped.Dry o new none h = ap (plain_out heard) h
@@ -101,19 +97,10 @@ module _ {D : Type 0} (heard : D → List Heard) where
   handed (stepped.Faulted _) o new none h = ap (plain_out heard) h
   handed stepped.NoMemory o new none h = ap (plain_out heard) h
 
-  returned_bare : (x : Parcel) → returned x None ≡ returned (bare_parcel x) None
-  returned_bare (parcel.Letter l) = by l.key.path
-    where
-      by : (p : Path) → returned_on l p None ≡ returned_on (bare_letter l) p None
-      by Fast = refl
-      by Queued = refl
-  returned_bare (parcel.Discard peer) = refl
-  returned_bare (parcel.RemoteReset peer) = refl
-
   given : (t : SeenThrottle) (a : Stepped) (o : OutboxNow D) (before behind : SeenTakePass) → IsAlone t.place → o.held ≡ None → GivesHanded t a o before behind →
-      behind.word ≡ handed_back (bare_answer a) before.word
+      behind.word ≡ handed_back a before.word
   given t (stepped.Hand x) o before behind alone none h =
-      h alone ∙ ap (λ (l : Option Letter). before.word - returned x l) none ∙ ap (λ (n : ℕ). before.word - n) (returned_bare x)
+      h alone ∙ ap (λ (l : Option Letter). before.word - returned x l) none
   given t stepped.Moved o before behind alone none h = ap (λ (p : SeenTakePass). p.word) h
   given t stepped.Dry o before behind alone none h = ap (λ (p : SeenTakePass). p.word) h
   given t (stepped.Full _) o before behind alone none h = ap (λ (p : SeenTakePass). p.word) h
@@ -138,23 +125,23 @@ module _ {D : Type 0} (heard : D → List Heard) where
 
   module _ (m : Means) (alone : HasAlone m) where
     step_one : (a b : Stepped) (old last new behind : Turning D) → IsFit old.side → plain_turning heard old ≡ plain_turning heard last → TookStep m a old new → TookStep m b last behind →
-        (bare_answer a ≡ bare_answer b) × (plain_turning heard new ≡ plain_turning heard behind)
+        (a ≡ b) × (plain_turning heard new ≡ plain_turning heard behind)
     step_one a b old last new behind f like h g =
         let w = worked_by m a h.takes.behind old new in
         let v = worked_by m b g.takes.behind last behind in
         let begins : begun w ≡ begun v = ap (λ (t : PlainTurning). record { now = m.now; throttle = m.throttle; counter = m.counter; bytes = t.bytes; numbers = t.numbers }) like in
         let both = steps.alike.steps w v old.side last.side new.side behind.side f.memory f.asked (record { throttle = alone.throttle; counter = alone.counter }) begins (ap (λ (t : PlainTurning). t.side) like)
         (record { steps = h.takes.steps; memory = h.memory }) (record { steps = g.takes.steps; memory = g.memory }) in
-        let answers : bare_answer a ≡ bare_answer b = ap (λ (d : Done). d.answer) both.0 in
+        let answers : a ≡ b = ap (λ (d : Done). d.answer) both.0 in
         let out : plain_out heard new.out ≡ plain_out heard behind.out =
         handed a old.out new.out h.none_held h.takes.puts
         ∙ ap (λ (x : Stepped). handed_out x (plain_out heard old.out)) answers
-        ∙ ap (λ (t : PlainTurning). handed_out (bare_answer b) t.out) like
+        ∙ ap (λ (t : PlainTurning). handed_out b t.out) like
         ∙ sym (handed b last.out behind.out g.none_held g.takes.puts) in
         let words : new.bytes.word ≡ behind.bytes.word =
         given m.throttle a new.out h.takes.behind new.bytes alone.throttle h.none_held h.takes.gives
         ∙ ap (λ (x : Stepped). handed_back x h.takes.behind.word) answers
-        ∙ ap (λ (d : Done). handed_back (bare_answer b) d.bytes.word) both.0
+        ∙ ap (λ (d : Done). handed_back b d.bytes.word) both.0
         ∙ sym (given m.throttle b behind.out g.takes.behind behind.bytes alone.throttle g.none_held g.takes.gives) in (
           answers,
           ap (λ (r : RecordNow). record { side = r; out = plain_out heard new.out; bytes = bare_take new.bytes; numbers = bare_numbers new.numbers }) both.1
@@ -176,19 +163,8 @@ module _ {D : Type 0} (heard : D → List Heard) where
       by None h = refl
       by (Some l) h = absurd (cc h)
 
-  many_bare : (xs : List Parcel) → length (map bare_parcel xs) ≡ length xs
-  many_bare [] = refl
-  many_bare (x ∷ xs) = omega (arith, many_bare xs)
-
-  free_plain : (o : OutboxNow D) → is_free o ≡ (is_none (plain_out heard o).held && nat_lt (length (plain_out heard o).mail) MOST_MAIL)
-  free_plain o = by o.held ∙ ap (λ (n : ℕ). is_none (option_map bare_letter o.held) && nat_lt n MOST_MAIL) (sym (many_bare o.mail))
-    where
-      by : (l : Option Letter) → (is_none l && nat_lt (length o.mail) MOST_MAIL) ≡ (is_none (option_map bare_letter l) && nat_lt (length o.mail) MOST_MAIL)
-      by (Some l) = refl
-      by None = refl
-
   pub free_one : (o p : OutboxNow D) → plain_out heard o ≡ plain_out heard p → is_free o ≡ is_free p
-  free_one o p like = free_plain o ∙ ap (λ (x : PlainOut). is_none x.held && nat_lt (length x.mail) MOST_MAIL) like ∙ sym (free_plain p)
+  free_one o p like = ap (λ (x : PlainOut). is_none x.held && nat_lt (length x.mail) MOST_MAIL) like
 
   -- how a turn ends, where so many steps are left to it
   record Ended (m : Means) (one : RecordTurn) (most : ℕ) (old new : Turning D) : Type 0 where
@@ -254,7 +230,7 @@ module _ {D : Type 0} (heard : D → List Heard) where
   turned_of (stepped.Faulted f) = turn.Faulted f
   turned_of stepped.NoMemory = turn.NoMemory
 
-  ends_so : (one : RecordTurn) (a : Stepped) → EndsWith one a → one ≡ turned_of (bare_answer a)
+  ends_so : (one : RecordTurn) (a : Stepped) → EndsWith one a → one ≡ turned_of a
   ends_so turn.Dry stepped.Dry e = refl
   ends_so (turn.Full n) (stepped.Full out) e = ap (λ (x : ℕ). turn.Full x) e
   ends_so (turn.Again n k) (stepped.Again was at) e = ap (λ (x : ℕ). turn.Again x k) e.0 ∙ ap (λ (x : ℕ). turn.Again was x) e.1
@@ -268,12 +244,12 @@ module _ {D : Type 0} (heard : D → List Heard) where
   leads_on (stepped.Hand x) = true
   leads_on a = false
 
-  leads : (a : Stepped) → LeadsOn a → leads_on (bare_answer a) ≡ true
+  leads : (a : Stepped) → LeadsOn a → leads_on a ≡ true
   leads stepped.Moved h = refl
   leads (stepped.Hand x) h = refl
   leads a h = absurd h
 
-  ends : (one : RecordTurn) (a : Stepped) → EndsWith one a → leads_on (bare_answer a) ≡ false
+  ends : (one : RecordTurn) (a : Stepped) → EndsWith one a → leads_on a ≡ false
   ends one stepped.Dry e = refl
   ends one (stepped.Full out) e = refl
   ends one (stepped.Again was at) e = refl
@@ -298,7 +274,7 @@ module _ {D : Type 0} (heard : D → List Heard) where
   ends turn.NoMemory (stepped.Hand x) e = absurd e
 
   ended_memory : (one : RecordTurn) (a : Stepped) → one ≢ turn.NoMemory → EndsWith one a → a ≢ stepped.NoMemory
-  ended_memory one a m e is = m (ends_so one a e ∙ ap (λ (x : Stepped). turned_of (bare_answer x)) is)
+  ended_memory one a m e is = m (ends_so one a e ∙ ap turned_of is)
 
   led_memory : (a : Stepped) → LeadsOn a → a ≢ stepped.NoMemory
   led_memory stepped.Moved h = λ e. cc e

@@ -2,7 +2,6 @@
 use Rattle.std.proofs.Common.{◌≡◌, ℕ, ◌-◌, ◌++◌, List, [], ◌∷◌, map, Bool, true, false, Option, None, Some, refl, sym, subst, ◌∙◌, ap}
 use Rattle.std.specs.Prelude.{◌≢◌, IsSome}
 use Rattle.std.specs.List.{AllByRecursion}
-use Rattle.std.specs.Option.{option_map}
 use Rattle.m2_dispatch.specs.Heard.{Heard}
 use Rattle.m2_dispatch.specs.Letters.{heard_in}
 use Rattle.m2_dispatch.specs.declared.letter.Letter.{Letter}
@@ -11,16 +10,17 @@ use Rattle.m2_dispatch.specs.m2_shared.Numbers.{SeenNumberPass}
 use Rattle.m2_dispatch.specs.m2_shared.Place.{IsAlone}
 use Rattle.m2_dispatch.specs.m2_shared.Throttle.{SeenTakePass}
 use Rattle.m2_fabric.specs.Port.{SeenPort}
-use Rattle.m2_turn.specs.Outbox.{OutboxNow, RetriesFor, is_free, returned_again}
-use Rattle.m2_turn.specs.RecordTurn.{Means}
-use Rattle.m2_turn.specs.RecordsTurn.{AllAmid, Amid, Around, DialsAndSteps, EachTurns, TurnsEach, TurnsIf, TurnsOne, amid, at_port, come_to, sides_of, turning_amid}
-use Rattle.m2_turn.specs.declared.record_turn.RecordTurn.{RecordTurn}
-use Rattle.m2_turn.specs.declared.record_turn.RecordTurn.TheVariants as one
-use Rattle.m2_turn.specs.declared.records_turn.RecordsTurn.TheVariants as turn
-use Rattle.m2_turn.specs.m2_record.RecordNow.{RecordNow}
+use Rattle.m2_script.specs.m2_center.m2_turn.Outbox.{OutboxNow, RetriesFor, is_free, returned_again}
+use Rattle.m2_script.specs.m2_center.m2_turn.RecordTurn.{Means}
+use Rattle.m2_script.specs.m2_center.m2_turn.RecordsTurn.{AllAmid, Amid, Around, DialsAndSteps, EachTurns, TurnsEach, TurnsIf, TurnsOne, amid, at_port, come_to, sides_of, turning_amid}
+use Rattle.m2_script.specs.m2_center.m2_turn.declared.record_turn.RecordTurn.{RecordTurn}
+use Rattle.m2_script.specs.m2_center.m2_turn.declared.record_turn.RecordTurn.TheVariants as one
+use Rattle.m2_script.specs.m2_center.m2_turn.declared.records_turn.RecordsTurn.TheVariants as turn
+use Rattle.m2_script.specs.m2_center.m2_record.RecordNow.{RecordNow}
 use Rattle.m2_exact.proofs.Dialing as dialing
+use Rattle.m2_exact.proofs.Lists.{heads}
 use Rattle.m2_exact.proofs.RecordTurns as turns
-use Rattle.m2_exact.specs.Records.{bare_letter, bare_numbers, bare_take, plain}
+use Rattle.m2_exact.specs.Records.{bare_numbers, bare_take, plain}
 use Rattle.m2_exact.specs.RecordTurns.{HasAlone, IsFit, PlainOut, PlainTurning, Turned, plain_out, plain_turning}
 use Rattle.m2_exact.specs.RecordsTurns.{AreFit, IsFitAt, LikeAllRecordsTurnAlike, PlainAll, PlainAt, plain_all, plain_at}
 
@@ -35,9 +35,6 @@ record PlainAround : Type 0 where
 done_memory : (r : RecordTurn) → turn.Done ≡ come_to r → r ≢ one.NoMemory
 done_memory r e is = absurd (cc (e ∙ ap come_to is))
 
-both_of : (r s : RecordNow) (rs ss : List RecordNow) → r ∷ rs ≡ s ∷ ss → (r ≡ s) × (rs ≡ ss)
-both_of r s rs ss e = (cc e, cc e)
-
 module _ {D : Type 0} (heard : D → List Heard) (m : Means) where
   abbrev plain_around : Around D → PlainAround
   plain_around a = record { port = a.port; out = plain_out heard a.out; bytes = bare_take a.bytes; numbers = bare_numbers a.numbers }
@@ -48,13 +45,9 @@ module _ {D : Type 0} (heard : D → List Heard) (m : Means) where
   retried_out (Some l) o = record { fast = o.fast ++ heard_in l ∷ []; mail = o.mail; held = None }
   retried_out None o = o
 
-  retries : (h : Option Letter) (o new : OutboxNow D) → new.held ≡ None → RetriesFor heard h o new → plain_out heard new ≡ retried_out (option_map bare_letter h) (plain_out heard o)
+  retries : (h : Option Letter) (o new : OutboxNow D) → new.held ≡ None → RetriesFor heard h o new → plain_out heard new ≡ retried_out h (plain_out heard o)
   retries (Some l) o new none h = turns.put_by heard l Fast o new none h
   retries None o new none h = ap (plain_out heard) h
-
-  returns : (h : Option Letter) → returned_again h None ≡ returned_again (option_map bare_letter h) None
-  returns (Some l) = refl
-  returns None = refl
 
   around_of : (a b : Around D) → a.port ≡ b.port → plain_out heard a.out ≡ plain_out heard b.out → a.bytes.word ≡ b.bytes.word → bare_numbers a.numbers ≡ bare_numbers b.numbers → plain_around a ≡ plain_around b
   around_of a b port out word numbers =
@@ -73,9 +66,7 @@ module _ {D : Type 0} (heard : D → List Heard) (m : Means) where
       let word : new.bytes.word ≡ behind.bytes.word =
       gives
       ∙ ap (λ (l : Option Letter). a.bytes.word - returned_again a.out.held l) none
-      ∙ ap (λ (n : ℕ). a.bytes.word - n) (returns a.out.held)
       ∙ ap (λ (x : PlainAround). x.bytes.word - returned_again x.out.held None) like
-      ∙ sym (ap (λ (n : ℕ). b.bytes.word - n) (returns b.out.held))
       ∙ sym (ap (λ (l : Option Letter). b.bytes.word - returned_again b.out.held l) held)
       ∙ sym gave in
       around_of new behind (ap (λ (x : Around D). x.port) only ∙ ap (λ (x : PlainAround). x.port) like ∙ sym (ap (λ (x : Around D). x.port) last)) out word
@@ -144,6 +135,10 @@ module _ {D : Type 0} (heard : D → List Heard) (m : Means) where
       }
   stays_if false old new f h none = subst IsFitAmid (sym h) f
 
+  waits_if : (b : Bool) (old new : Amid D) → IsFitAmid old → TurnsIf b heard m turn.Done old new → new.around.port.waiting ≡ old.around.port.waiting
+  waits_if true old new f h = ap (λ (p : SeenPort). p.waiting) h.port ∙ dialing.alike.waits m.now (at_port old) h.mid (fit_at old f.side f.port) h.dials
+  waits_if false old new f h = ap (λ (x : Amid D). x.around.port.waiting) h
+
   -- ---- all of them
 
   -- a record that finds a letter held does nothing, and so it is held still at the end
@@ -162,11 +157,11 @@ module _ {D : Type 0} (heard : D → List Heard) (m : Means) where
       (map plain (sides_of stood) ≡ map plain (sides_of more)) × (plain_around new ≡ plain_around behind)
   each [] [] [] [] a b new behind alone f some like same h g none held = (refl, ap plain_around h ∙ same ∙ sym (ap plain_around g))
   each (r ∷ rs) (s ∷ ss) (x ∷ xs) (y ∷ ys) a b new behind alone f some like same (h, rest) (g, others) none held =
-      let heads = both_of (plain r) (plain s) (map plain rs) (map plain ss) like in
+      let firsts = heads (plain r) (plain s) (map plain rs) (map plain ss) like in
       let first = none_before rs xs x.around new rest none in
-      let here = turns_one (amid r a) (amid s b) x y alone f.0 some (record { side = heads.0; around = same }) h g first (none_before ss ys y.around behind others held) in
+      let here = turns_one (amid r a) (amid s b) x y alone f.0 some (record { side = firsts.0; around = same }) h g first (none_before ss ys y.around behind others held) in
       let stays = stays_if (is_free a.out) (amid r a) x (record { side = f.0; port = some }) h first in
-      let both = each rs ss xs ys x.around y.around new behind alone f.1 stays.port heads.1 here.around rest others none held in
+      let both = each rs ss xs ys x.around y.around new behind alone f.1 stays.port firsts.1 here.around rest others none held in
       (ap (λ (z : RecordNow). z ∷ map plain (sides_of xs)) here.side ∙ ap (λ (zs : List RecordNow). plain y.side ∷ zs) both.0, both.1)
   each [] (s ∷ ss) stood more a b new behind alone f some like same h g none held = absurd (cc like)
   each (r ∷ rs) [] stood more a b new behind alone f some like same h g none held = absurd (cc like)
@@ -176,14 +171,14 @@ module _ {D : Type 0} (heard : D → List Heard) (m : Means) where
   each (r ∷ rs) (s ∷ ss) (x ∷ xs) [] a b new behind alone f some like same h g none held = absurd g
 
   each_stays : (rs : List RecordNow) (stood : List (Amid D)) (a new : Around D) → AllByRecursion IsFit rs → IsSome a.port.waiting → EachTurns heard m rs stood a new → new.out.held ≡ None →
-      AllByRecursion IsFit (sides_of stood) × IsSome new.port.waiting
-  each_stays [] [] a new f some h none = (tt, subst (λ (x : Around D). IsSome x.port.waiting) (sym h) some)
+      AllByRecursion IsFit (sides_of stood) × (new.port.waiting ≡ a.port.waiting)
+  each_stays [] [] a new f some h none = (tt, ap (λ (x : Around D). x.port.waiting) h)
   each_stays [] (x ∷ xs) a new f some h none = absurd h
   each_stays (r ∷ rs) [] a new f some h none = absurd h
   each_stays (r ∷ rs) (x ∷ xs) a new f some (h, rest) none =
       let here = stays_if (is_free a.out) (amid r a) x (record { side = f.0; port = some }) h (none_before rs xs x.around new rest none) in
       let all = each_stays rs xs x.around new f.1 here.port rest none in
-      ((here.side, all.0), all.1)
+      ((here.side, all.0), all.1 ∙ waits_if (is_free a.out) (amid r a) x (record { side = f.0; port = some }) h)
 
   all_turn : (old last new behind : AllAmid D) → HasAlone m → AreFit old → plain_all heard old ≡ plain_all heard last → TurnsEach heard m turn.Done old new → TurnsEach heard m turn.Done last behind →
       new.around.out.held ≡ None → behind.around.out.held ≡ None → plain_all heard new ≡ plain_all heard behind
@@ -198,10 +193,15 @@ module _ {D : Type 0} (heard : D → List Heard) (m : Means) where
       ap (λ (rs : List RecordNow). record (plain_all heard new) { records = rs }) records
       ∙ ap (λ (x : PlainAround). record { records = map plain behind.records; port = x.port; out = x.out; bytes = x.bytes; numbers = x.numbers }) both.1
 
-  all_stay : (old new : AllAmid D) → AreFit old → TurnsEach heard m turn.Done old new → new.around.out.held ≡ None → AreFit new
-  all_stay old new f h none =
-      let all = each_stays old.records h.turns.stood h.retried new.around f.records (subst (λ (x : Around D). IsSome x.port.waiting) (sym h.only) f.port) h.turns.turns none in
-      record { records = subst (AllByRecursion IsFit) (sym h.turns.records) all.0; port = all.1 }
+  module _ (old new : AllAmid D) (f : AreFit old) (h : TurnsEach heard m turn.Done old new) (none : new.around.out.held ≡ None) where
+    each_there : AllByRecursion IsFit (sides_of h.turns.stood) × (new.around.port.waiting ≡ h.retried.port.waiting)
+    each_there = each_stays old.records h.turns.stood h.retried new.around f.records (subst (λ (x : Around D). IsSome x.port.waiting) (sym h.only) f.port) h.turns.turns none
+
+    they_wait : new.around.port.waiting ≡ old.around.port.waiting
+    they_wait = each_there.1 ∙ ap (λ (x : Around D). x.port.waiting) h.only
+
+    all_stay : AreFit new
+    all_stay = record { records = subst (AllByRecursion IsFit) (sym h.turns.records) each_there.0; port = subst IsSome (sym they_wait) f.port }
 
 pub alike : {D : Type 0} (heard : D → List Heard) → LikeAllRecordsTurnAlike D heard
-alike heard = record { turns = all_turn heard; stays = all_stay heard }
+alike heard = record { turns = all_turn heard; stays = all_stay heard; waits = they_wait heard }

@@ -1,72 +1,66 @@
 -- What was asked on a feed was asked behind its signing: so it stays in each step.
 use Rattle.std.proofs.Common.{◌≡◌, ◌&&◌, not, ℕ, if◌then◌else◌, List, Bool, true, false, Option, None, Some, Result, Ok, Err, refl, sym, subst, ◌∙◌, ap}
-use Rattle.std.specs.Prelude.{◌≢◌, IfSome}
+use Rattle.std.specs.Prelude.{◌≢◌}
 use Rattle.std.specs.Option.{is_some}
 use Rattle.m2_fabric.specs.m2_bytes.declared.memory.NoMemory as memory
-use Rattle.m2_turn.specs.m2_core.Asking.{LeavesAsk}
-use Rattle.m2_turn.specs.m2_core.CoreNow.{CoreNow, IsAskedIfSigned}
-use Rattle.m2_turn.specs.m2_core.Counting.{CountsIf, to_count}
-use Rattle.m2_turn.specs.m2_core.Effects.{closes, discards, has_effects, requeues, sets_back, tells, where_true}
-use Rattle.m2_turn.specs.m2_core.Front as front
-use Rattle.m2_turn.specs.m2_core.Front.{FrontHeard, heard_by}
-use Rattle.m2_turn.specs.m2_core.Granting.{Throttled}
-use Rattle.m2_turn.specs.m2_core.LiveNow.{LiveNow, OnFeedNow, is_waiting}
-use Rattle.m2_turn.specs.m2_core.Hearing as hearing
-use Rattle.m2_turn.specs.m2_core.LiveCalls.{after_fault, live_with, tells_if}
-use Rattle.m2_turn.specs.m2_core.LiveHearing.{after_answer, resumed_by_answer}
-use Rattle.m2_turn.specs.m2_core.Next.{IsNext}
-use Rattle.m2_turn.specs.m2_core.OnFeed.{AnswersStamp, ChangesRoom, ComposesAsk, ComposesFeed, ComposesMessage, GreetsFeed, PassesFeed, PassesItem, ReadsFeed, WritesFeed, granted_feed}
-use Rattle.m2_turn.specs.m2_core.Passing.{StampsFeed}
-use Rattle.m2_turn.specs.m2_core.ToCompose.{text_on, text_rows, to_compose}
-use Rattle.m2_turn.specs.m2_core.declared.asking.CoreAsk.{CoreAsk}
-use Rattle.m2_turn.specs.m2_core.declared.asking.CoreAsk.TheVariants as ask
-use Rattle.m2_turn.specs.m2_core.declared.next.CoreNext.{CoreNext}
-use Rattle.m2_turn.specs.m2_core.declared.next.CoreNext.TheVariants as next
-use Rattle.m2_turn.specs.m2_core.declared.to_compose.CoreText.{CoreText}
-use Rattle.m2_turn.specs.m2_core.declared.to_compose.CoreText.TheVariants as text
-use Rattle.m2_dispatch.specs.m2_message.Message.{Content}
+use Rattle.m2_script.proofs.m2_center.m2_turn.m2_core.Judged.{IsQuiet}
+use Rattle.m2_script.specs.m2_center.m2_core.CoreNow.{CoreNow, IsAskedIfSigned}
+use Rattle.m2_script.specs.m2_center.m2_core.Counting.{CountsIf, to_count}
+use Rattle.m2_script.specs.m2_center.m2_core.Effects.{closes, discards, has_effects, requeues, sets_back, tells, where_true}
+use Rattle.m2_script.specs.m2_center.m2_core.Front as front
+use Rattle.m2_script.specs.m2_center.m2_core.Front.{FrontHeard, heard_by}
+use Rattle.m2_script.specs.m2_center.m2_core.Granting.{Throttled}
+use Rattle.m2_script.specs.m2_center.m2_core.LiveNow.{LiveNow, OnFeedNow, is_waiting}
+use Rattle.m2_script.specs.m2_center.m2_core.Hearing as hearing
+use Rattle.m2_script.specs.m2_center.m2_core.LiveCalls.{after_fault, live_with, tells_if}
+use Rattle.m2_script.specs.m2_center.m2_core.LiveHearing.{after_answer, resumed_by_answer}
+use Rattle.m2_script.specs.m2_center.m2_core.Next.{IsNext}
+use Rattle.m2_script.specs.m2_center.m2_core.OnFeed.{GreetsFeed, PassesFeed, PassesItem, ReadsFeed, WritesFeed, granted_feed}
+use Rattle.m2_script.specs.m2_center.m2_core.Passing.{StampsFeed}
+use Rattle.m2_script.specs.m2_center.m2_core.ToCompose.{text_on, text_rows, to_compose}
+use Rattle.m2_script.specs.m2_center.m2_core.declared.next.CoreNext.{CoreNext}
+use Rattle.m2_script.specs.m2_center.m2_core.declared.next.CoreNext.TheVariants as next
+use Rattle.m2_script.specs.m2_center.m2_core.declared.to_compose.CoreText.{CoreText}
 use Rattle.m2_fabric.specs.declared.end.EndRead.{EndRead}
 use Rattle.m2_fabric.specs.declared.end.EndRead.TheVariants as read
-use Rattle.m2_turn.specs.m2_feed.Calls.{IsFront, ReadsPiece, heard_of, is_empty, passed, with_grant}
-use Rattle.m2_turn.specs.m2_feed.declared.answers.FeedWrite.{FeedWrite}
-use Rattle.m2_turn.specs.m2_feed.declared.answers.FeedWrite.TheVariants as put
-use Rattle.m2_turn.specs.m2_feed.Heard.{event_of}
-use Rattle.m2_turn.specs.m2_feed.FeedNow.{FeedNow, Reading, framing, is_framing, shaking}
-use Rattle.m2_turn.specs.m2_feed.declared.frame_heard.FrameHeard.TheVariants as heard
-use Rattle.m2_turn.specs.m2_feed.declared.hearer.Hearer.{Hearer}
-use Rattle.m2_turn.specs.m2_feed.declared.heard.Heard.{Heard}
-use Rattle.m2_turn.specs.m2_feed.declared.heard.Heard.TheVariants as answer
-use Rattle.m2_turn.specs.m2_feed.declared.wire_fault.WireFault.{WireFault}
-use Rattle.m2_turn.specs.m2_feed.declared.writing.Writing.{Writing}
-use Rattle.m2_turn.specs.m2_feed.m2_control.declared.keepalive.Keepalive.{Keepalive}
-use Rattle.m2_turn.specs.m2_feed.m2_journal.declared.facts.PlanStep.{PlanStep}
-use Rattle.m2_turn.specs.m2_feed.m2_journal.declared.facts.PlanStep.TheVariants as step
-use Rattle.m2_turn.specs.m2_feed.m2_session.Steps as session
-use Rattle.m2_turn.specs.m2_feed.m2_session.Steps.{step_of}
-use Rattle.m2_turn.specs.m2_feed.m2_session.Table.{first_that_holds}
-use Rattle.m2_turn.specs.m2_feed.m2_session.declared.event.Effects.{Effects}
-use Rattle.m2_turn.specs.m2_feed.m2_session.declared.event.Event.{Event}
-use Rattle.m2_turn.specs.m2_feed.m2_session.declared.event.Event.TheVariants as event
-use Rattle.m2_turn.specs.m2_feed.m2_session.declared.session.Phase.{Phase}
-use Rattle.m2_turn.specs.m2_feed.m2_session.declared.session.Phase.TheVariants.{Absent, Standby, Wait}
-use Rattle.m2_turn.specs.m2_feed.m2_session.declared.session.Session.{Session}
-use Rattle.m2_turn.specs.m2_handshake.m2_frame.Reading.{Item, whole}
-use Rattle.m2_turn.specs.m2_handshake.declared.answer.HalfStep.{HalfStep}
-use Rattle.m2_turn.specs.m2_handshake.declared.answer.HalfStep.TheVariants as half
-use Rattle.m2_turn.specs.m2_record.Calls.{Breaks, ClosesFor, ComposesAs, GoesDown, Shakes, fault_put}
-use Rattle.m2_turn.specs.m2_record.Due.{due_step, next_step}
-use Rattle.m2_turn.specs.m2_record.Framing.{AnswersFront, Frames, Greets, Heeds}
-use Rattle.m2_turn.specs.m2_record.Reading.{CountsAnswer, EndsRead, fault_read}
-use Rattle.m2_turn.specs.m2_record.RecordNow.{RecordNow}
-use Rattle.m2_turn.specs.m2_record.Stepping.{HandsAs, PlansAs, StepsBy, Worked, answer_composed}
-use Rattle.m2_turn.specs.m2_record.declared.composing.Composed.{Composed}
-use Rattle.m2_turn.specs.m2_record.declared.composing.Composed.TheVariants as composed
-use Rattle.m2_turn.specs.m2_record.declared.due.Due.{Due}
-use Rattle.m2_turn.specs.m2_record.declared.due.Due.TheVariants as due
-use Rattle.m2_turn.specs.m2_record.declared.framing.Framed.{Framed}
-use Rattle.m2_turn.specs.m2_record.declared.framing.Framed.TheVariants as framed
-use Rattle.m2_turn.specs.m2_record.declared.stepped.Stepped.{Stepped}
-use Rattle.m2_turn.specs.m2_record.declared.stepped.Stepped.TheVariants as stepped
+use Rattle.m2_script.specs.m2_center.m2_feed.Calls.{IsFront, ReadsPiece, heard_of, is_empty, passed, with_grant}
+use Rattle.m2_script.specs.m2_center.m2_feed.declared.answers.FeedWrite.{FeedWrite}
+use Rattle.m2_script.specs.m2_center.m2_feed.declared.answers.FeedWrite.TheVariants as put
+use Rattle.m2_script.specs.m2_center.m2_feed.Heard.{event_of}
+use Rattle.m2_script.specs.m2_center.m2_feed.FeedNow.{FeedNow, Reading, framing, is_framing, shaking}
+use Rattle.m2_script.specs.m2_center.m2_feed.declared.frame_heard.FrameHeard.TheVariants as heard
+use Rattle.m2_script.specs.m2_center.m2_feed.declared.hearer.Hearer.{Hearer}
+use Rattle.m2_script.specs.m2_center.m2_feed.declared.heard.Heard.{Heard}
+use Rattle.m2_script.specs.m2_center.m2_feed.declared.heard.Heard.TheVariants as answer
+use Rattle.m2_script.specs.m2_center.m2_feed.declared.wire_fault.WireFault.{WireFault}
+use Rattle.m2_script.specs.m2_center.m2_feed.m2_control.declared.keepalive.Keepalive.{Keepalive}
+use Rattle.m2_script.specs.m2_center.m2_feed.m2_journal.declared.facts.PlanStep.{PlanStep}
+use Rattle.m2_script.specs.m2_center.m2_feed.m2_journal.declared.facts.PlanStep.TheVariants as step
+use Rattle.m2_script.specs.m2_center.m2_feed.m2_session.Steps as session
+use Rattle.m2_script.specs.m2_center.m2_feed.m2_session.Steps.{step_of}
+use Rattle.m2_script.specs.m2_center.m2_feed.m2_session.Table.{first_that_holds}
+use Rattle.m2_script.specs.m2_center.m2_feed.m2_session.declared.event.Effects.{Effects}
+use Rattle.m2_script.specs.m2_center.m2_feed.m2_session.declared.event.Event.{Event}
+use Rattle.m2_script.specs.m2_center.m2_feed.m2_session.declared.event.Event.TheVariants as event
+use Rattle.m2_script.specs.m2_center.m2_feed.m2_session.declared.session.Phase.{Phase}
+use Rattle.m2_script.specs.m2_center.m2_feed.m2_session.declared.session.Phase.TheVariants.{Absent, Standby, Wait}
+use Rattle.m2_script.specs.m2_center.m2_feed.m2_session.declared.session.Session.{Session}
+use Rattle.m2_script.specs.m2_center.m2_turn.m2_handshake.m2_frame.Reading.{Item, whole}
+use Rattle.m2_script.specs.m2_center.m2_turn.m2_handshake.declared.answer.HalfStep.{HalfStep}
+use Rattle.m2_script.specs.m2_center.m2_turn.m2_handshake.declared.answer.HalfStep.TheVariants as half
+use Rattle.m2_script.specs.m2_center.m2_record.Calls.{Breaks, ClosesFor, GoesDown, Shakes, fault_put}
+use Rattle.m2_script.specs.m2_center.m2_record.Due.{due_step, next_step}
+use Rattle.m2_script.specs.m2_center.m2_record.Framing.{AnswersFront, Frames, Greets, Heeds}
+use Rattle.m2_script.specs.m2_center.m2_record.Reading.{CountsAnswer, EndsRead, fault_read}
+use Rattle.m2_script.specs.m2_center.m2_record.RecordNow.{RecordNow}
+use Rattle.m2_script.specs.m2_center.m2_record.Stepping.{HandsAs, PlansAs, StepsBy, Worked}
+use Rattle.m2_script.specs.m2_center.m2_record.declared.due.Due.{Due}
+use Rattle.m2_script.specs.m2_center.m2_record.declared.due.Due.TheVariants as due
+use Rattle.m2_script.specs.m2_center.m2_record.declared.framing.Framed.{Framed}
+use Rattle.m2_script.specs.m2_center.m2_record.declared.framing.Framed.TheVariants as framed
+use Rattle.m2_script.specs.m2_center.m2_record.declared.stepped.Stepped.{Stepped}
+use Rattle.m2_script.specs.m2_center.m2_record.declared.stepped.Stepped.TheVariants as stepped
+use Rattle.m2_exact.proofs.Leaving as leaving
 use Rattle.m2_exact.proofs.Steps as steps
 use Rattle.m2_exact.specs.Records.{Took}
 
@@ -147,13 +141,19 @@ on r new x e m = subst (λ (z : RecordNow). IsAsked z.core.live) (sym e) m
 none : (l : LiveNow) → l.feed ≡ None → IsAsked l
 none l e = signed_live l (subst HasSigned (sym e) tt)
 
+-- an answer that takes no socket leaves the feed, or closes it
+pub told_quietly : (e : Option Event) (l : LiveNow) → IsQuiet e → IsAsked l → IsAsked (tells_if e l)
+told_quietly None l q m = m
+told_quietly (Some event.Pending) l q m = none (tells event.Pending l) (closed event.Pending l refl)
+told_quietly (Some e) l q m = absurd q
+
 breaks : (now : ℕ) (r new : RecordNow) → Breaks now r new → IsAsked new.core.live
 breaks now r new h = on r new _ h (none (after_fault r.core.live) (closed (event.Faulted (is_waiting r.core.live)) r.core.live (fault_closes r.core.live.session (is_waiting r.core.live))))
 
 goes_down : (planned : Bool) (r new : RecordNow) → GoesDown planned r new → IsAsked new.core.live
 goes_down planned r new h = on r new _ h (none (tells event.MarkedDown r.core.live) (closed event.MarkedDown r.core.live refl))
 
-plans : (x : Option PlanStep) (a : Result (Unit {0}) memory.NoMemory) (now : ℕ) (r new : RecordNow) → IsAsked r.core.live → PlansAs x a now r new → IsAsked new.core.live
+pub plans : (x : Option PlanStep) (a : Result (Unit {0}) memory.NoMemory) (now : ℕ) (r new : RecordNow) → IsAsked r.core.live → PlansAs x a now r new → IsAsked new.core.live
 plans (Some (step.Post p)) (Ok u) now r new m h = on r new _ h m
 plans (Some (step.Post p)) (Err e) now r new m h = on r new _ h m
 plans (Some step.Dial) (Ok u) now r new m h = on r new _ h m
@@ -170,7 +170,7 @@ closes_for : (f : Option WireFault) (now : ℕ) (r new : RecordNow) → IsAsked 
 closes_for (Some f) now r new m h = breaks now r new h
 closes_for None now r new m h = on r new _ h m
 
-counts : (n : Option ℕ) (c new : CoreNow) → IsAsked c.live → CountsIf n c new → IsAsked new.live
+pub counts : (n : Option ℕ) (c new : CoreNow) → IsAsked c.live → CountsIf n c new → IsAsked new.live
 counts (Some n) c new m h = subst (λ (z : CoreNow). IsAsked z.live) (sym h.only) m
 counts None c new m h = subst (λ (z : CoreNow). IsAsked z.live) (sym h) m
 
@@ -316,55 +316,10 @@ frames t framed.NoMemory now r new m h = heeds t framed.NoMemory now r new m h
 
 -- ---- what is composed
 
-reads_still : (p : Phase) (v w : FeedNow) → w.reading ≡ v.reading → IsAskedIfSigned p (Some v) → IsAskedIfSigned p (Some w)
-reads_still p v w e m = moved p v w (λ k. sym (ap is_framing e) ∙ k) m
-
-signed_still : (v w : FeedNow) → w.reading ≡ v.reading → is_framing v.reading ≡ true → is_framing w.reading ≡ true
-signed_still v w e k = ap is_framing e ∙ k
-
-asked : (t : List ℕ) (x y : Option FeedNow) → HasSigned x → ComposesAsk t x y → HasSigned y
-asked t (Some v) (Some z) m g = signed_still v z (ap (λ (z : FeedNow). z.reading) g) m
-asked t (Some v) None m g = absurd g
-asked t None y m g = absurd g
-
-composes : (w : Writing) (t : List ℕ) (x y : Option FeedNow) → HasSigned x → ComposesFeed (Ok tt) w t x y → HasSigned y
-composes w t (Some v) (Some z) m g = signed_still v z (ap (λ (z : FeedNow). z.reading) g) m
-composes w t (Some v) None m g = absurd g
-composes w t None y m g = absurd g
-
-numbered : (n last : ℕ) (c : Content) (x y : Option FeedNow) → HasSigned x → ComposesMessage n last c x y → HasSigned y
-numbered n last c (Some v) (Some z) m g = signed_still v z (ap (λ (z : FeedNow). z.reading) g) m
-numbered n last c (Some v) None m g = absurd g
-numbered n last c None y m g = absurd g
-
-answered : (x y : Option FeedNow) → HasSigned x → AnswersStamp (Ok tt) x y → HasSigned y
-answered (Some v) (Some z) m g = signed_still v z (ap (λ (z : FeedNow). z.reading) g) m
-answered (Some v) None m g = absurd g
-answered None y m g = absurd g
-
-roomed : (x y : Option FeedNow) → HasSigned x → ChangesRoom x y → HasSigned y
-roomed (Some v) (Some z) m g = signed_still v z (ap (λ (z : FeedNow). z.reading) g) m
-roomed (Some v) None m g = absurd g
-roomed None y m g = absurd g
-
-leaves_ask : (a : CoreAsk) (c new : CoreNow) → HasSigned c.live.feed → LeavesAsk a c new → HasSigned new.live.feed
-leaves_ask (ask.Asked ident n) c new m h = asked _ c.live.feed new.live.feed m h.text
-leaves_ask ask.Spent c new m h = roomed c.live.feed new.live.feed m h.0
-leaves_ask (ask.Again seen now) c new m h = roomed c.live.feed new.live.feed m h.0
-leaves_ask ask.NoMemory c new m h = roomed c.live.feed new.live.feed m h.0
-
-composes_as : (t : CoreText) (c : Composed) (r new : RecordNow) → c ≢ composed.NoMemory → HasSigned r.core.live.feed → ComposesAs t c r new → HasSigned new.core.live.feed
-composes_as text.Ask (composed.Asked ident n) r new k m h = leaves_ask (ask.Asked ident n) r.core new.core m h.1
-composes_as text.Ask composed.Spent r new k m h = leaves_ask ask.Spent r.core new.core m h.1
-composes_as text.Ask (composed.Again seen now) r new k m h = leaves_ask (ask.Again seen now) r.core new.core m h.1
-composes_as text.KeepaliveAnswer composed.Answered r new k m h = answered r.core.live.feed new.core.live.feed m h.0.composes
-composes_as text.Message (composed.Numbered n) r new k m h = numbered n r.core.live.last h.0.numbers.message r.core.live.feed new.core.live.feed m h.0.numbers.composes
-composes_as text.Acknowledgement composed.Acknowledged r new k m h = composes _ _ r.core.live.feed new.core.live.feed m h.0.composes
-composes_as text.Ask composed.NoMemory r new k m h = absurd (k refl)
-composes_as text.KeepaliveAnswer composed.NoMemory r new k m h = absurd (k refl)
-composes_as text.Message composed.NoMemory r new k m h = absurd (k refl)
-composes_as text.Acknowledgement composed.NoMemory r new k m h = absurd (k refl)
-composes_as t c r new k m h = absurd h
+signed_still : (x y : Option FeedNow) → leaving.IsLeft x y → HasSigned x → HasSigned y
+signed_still (Some v) (Some w) h m = ap is_framing h.1 ∙ m
+signed_still (Some v) None h m = absurd h
+signed_still None y h m = absurd h
 
 -- a text is composed only where both sides have signed
 text_signed : (c : CoreNow) → is_some (to_compose c) ≡ true → HasSigned c.live.feed
@@ -393,11 +348,8 @@ by_due due.Read w r new k some m h =
     let once = h.reads.once.core in
     ends_read (fault_read h.read) h.read.heard w.now h.reads.mid new
     (heeded h.read.heard (live_with once.feed r.core.live) h.reads.mid.core.live (read_feed r.core.live.session.phase h.read.answer r.core.live.feed once.feed m once.reads) once.heeds) h.reads.ends
-by_due due.Compose w r new k some m h = by (to_compose r.core) (some refl) h.composes
-  where
-    by : (o : Option CoreText) → is_some o ≡ true → IfSome o (λ t. ComposesAs t h.composed r new) → IsAsked new.core.live
-    by (Some t) e c = signed new.core.live.session.phase new.core.live.feed (composes_as t h.composed r new (λ e. k (h.answers ∙ ap answer_composed e)) (text_signed r.core (some refl)) c)
-    by None e c = absurd (cc e)
+by_due due.Compose w r new k some m h =
+    signed new.core.live.session.phase new.core.live.feed (signed_still r.core.live.feed new.core.live.feed (leaving.composed_so w r new k (some refl) h) (text_signed r.core (some refl)))
 
 pub stays : (w : Worked) (r new : RecordNow) → IsAskedIfSigned r.core.live.session.phase r.core.live.feed → Took w r new → IsAskedIfSigned new.core.live.session.phase new.core.live.feed
 stays w r new m h =

@@ -1,58 +1,50 @@
 -- Steps of records over ends in memory stay over ends in memory.
-use Rattle.std.proofs.Common.{◌≡◌, ℕ, List, Bool, true, false, Option, None, Some, Result, Ok, Err, refl, sym, subst, ◌∙◌, ap}
-use Rattle.std.specs.Prelude.{◌≢◌, IfSome}
+use Rattle.std.proofs.Common.{◌≡◌, ℕ, List, Bool, true, false, Option, None, Some, Result, Ok, Err, refl, sym, subst}
+use Rattle.std.specs.Prelude.{◌≢◌}
 use Rattle.std.specs.Option.{is_some}
 use Rattle.m2_fabric.specs.m2_bytes.declared.memory.NoMemory as memory
-use Rattle.m2_turn.specs.m2_core.Asking.{LeavesAsk}
-use Rattle.m2_turn.specs.m2_core.CoreNow.{CoreNow}
-use Rattle.m2_turn.specs.m2_core.Counting.{CountsIf, to_count}
-use Rattle.m2_turn.specs.m2_core.Front.{FrontHeard, asks, heard_by, rests, tells}
-use Rattle.m2_turn.specs.m2_core.Granting.{Throttled}
-use Rattle.m2_turn.specs.m2_core.LiveNow.{LiveNow, OnFeedNow, is_waiting}
-use Rattle.m2_turn.specs.m2_core.LiveCalls.{live_with}
-use Rattle.m2_turn.specs.m2_core.Next.{IsNext}
-use Rattle.m2_turn.specs.m2_core.OnFeed.{AnswersStamp, ChangesRoom, ComposesAsk, ComposesFeed, ComposesMessage, GreetsFeed, PassesItem, granted_feed}
-use Rattle.m2_turn.specs.m2_core.Passing.{StampsFeed}
-use Rattle.m2_turn.specs.m2_core.ToCompose.{to_compose}
-use Rattle.m2_turn.specs.m2_core.declared.asking.CoreAsk.{CoreAsk}
-use Rattle.m2_turn.specs.m2_core.declared.asking.CoreAsk.TheVariants as ask
-use Rattle.m2_turn.specs.m2_core.declared.next.CoreNext.{CoreNext}
-use Rattle.m2_turn.specs.m2_core.declared.next.CoreNext.TheVariants as next
-use Rattle.m2_turn.specs.m2_core.declared.to_compose.CoreText.{CoreText}
-use Rattle.m2_turn.specs.m2_core.declared.to_compose.CoreText.TheVariants as text
-use Rattle.m2_dispatch.specs.m2_message.Message.{Content}
+use Rattle.m2_script.specs.m2_center.m2_core.CoreNow.{CoreNow}
+use Rattle.m2_script.specs.m2_center.m2_core.Counting.{CountsIf, to_count}
+use Rattle.m2_script.specs.m2_center.m2_core.Front.{FrontHeard, asks, heard_by, rests, tells}
+use Rattle.m2_script.specs.m2_center.m2_core.Granting.{Throttled}
+use Rattle.m2_script.specs.m2_center.m2_core.LiveNow.{LiveNow, OnFeedNow, is_waiting}
+use Rattle.m2_script.specs.m2_center.m2_core.LiveCalls.{live_with}
+use Rattle.m2_script.specs.m2_center.m2_core.Next.{IsNext}
+use Rattle.m2_script.specs.m2_center.m2_core.OnFeed.{GreetsFeed, PassesItem, granted_feed}
+use Rattle.m2_script.specs.m2_center.m2_core.Passing.{StampsFeed}
+use Rattle.m2_script.specs.m2_center.m2_core.ToCompose.{to_compose}
+use Rattle.m2_script.specs.m2_center.m2_core.declared.next.CoreNext.{CoreNext}
+use Rattle.m2_script.specs.m2_center.m2_core.declared.next.CoreNext.TheVariants as next
 use Rattle.m2_fabric.specs.Kinds.{IsInMemory}
-use Rattle.m2_turn.specs.m2_feed.Calls.{after_greeting}
-use Rattle.m2_turn.specs.m2_feed.FeedNow.{FeedNow}
-use Rattle.m2_turn.specs.m2_feed.declared.frame_heard.FrameHeard.TheVariants as heard
-use Rattle.m2_turn.specs.m2_feed.declared.hearer.Hearer.{Hearer}
-use Rattle.m2_turn.specs.m2_feed.declared.heard.Heard.{Heard}
-use Rattle.m2_turn.specs.m2_feed.declared.heard.Heard.TheVariants as answer
-use Rattle.m2_turn.specs.m2_feed.declared.wire_fault.WireFault.{WireFault}
-use Rattle.m2_turn.specs.m2_feed.declared.writing.Writing.{Writing}
-use Rattle.m2_turn.specs.m2_feed.m2_control.declared.keepalive.Keepalive.{Keepalive}
-use Rattle.m2_turn.specs.m2_feed.m2_journal.declared.facts.PlanStep.{PlanStep}
-use Rattle.m2_turn.specs.m2_feed.m2_journal.declared.facts.PlanStep.TheVariants as step
-use Rattle.m2_turn.specs.m2_feed.m2_session.declared.event.Event.TheVariants as event
-use Rattle.m2_turn.specs.m2_handshake.m2_frame.Reading.{Item, whole}
-use Rattle.m2_turn.specs.m2_handshake.Standing.{Standing}
-use Rattle.m2_turn.specs.m2_handshake.declared.answer.HalfStep.{HalfStep}
-use Rattle.m2_turn.specs.m2_handshake.declared.answer.HalfStep.TheVariants as half
-use Rattle.m2_turn.specs.m2_record.Calls.{Breaks, ClosesFor, ComposesAs, GoesDown, Shakes, fault_put}
-use Rattle.m2_turn.specs.m2_record.Due.{due_step, next_step}
-use Rattle.m2_turn.specs.m2_record.Framing.{AnswersFront, Frames, Greets, Heeds}
-use Rattle.m2_turn.specs.m2_record.Reading.{CountsAnswer, EndsRead, fault_read}
-use Rattle.m2_turn.specs.m2_record.RecordNow.{RecordNow}
-use Rattle.m2_turn.specs.m2_record.Stepping.{HandsAs, PlansAs, StepsBy, Worked, answer_composed}
-use Rattle.m2_turn.specs.m2_record.declared.composing.Composed.{Composed}
-use Rattle.m2_turn.specs.m2_record.declared.composing.Composed.TheVariants as composed
-use Rattle.m2_turn.specs.m2_record.declared.due.Due.{Due}
-use Rattle.m2_turn.specs.m2_record.declared.due.Due.TheVariants as due
-use Rattle.m2_turn.specs.m2_record.declared.framing.Framed.{Framed}
-use Rattle.m2_turn.specs.m2_record.declared.framing.Framed.TheVariants as framed
-use Rattle.m2_turn.specs.m2_record.declared.stepped.Stepped.{Stepped}
-use Rattle.m2_turn.specs.m2_record.declared.stepped.Stepped.TheVariants as stepped
+use Rattle.m2_script.specs.m2_center.m2_feed.Calls.{after_greeting}
+use Rattle.m2_script.specs.m2_center.m2_feed.FeedNow.{FeedNow}
+use Rattle.m2_script.specs.m2_center.m2_feed.declared.frame_heard.FrameHeard.TheVariants as heard
+use Rattle.m2_script.specs.m2_center.m2_feed.declared.hearer.Hearer.{Hearer}
+use Rattle.m2_script.specs.m2_center.m2_feed.declared.heard.Heard.{Heard}
+use Rattle.m2_script.specs.m2_center.m2_feed.declared.heard.Heard.TheVariants as answer
+use Rattle.m2_script.specs.m2_center.m2_feed.declared.wire_fault.WireFault.{WireFault}
+use Rattle.m2_script.specs.m2_center.m2_feed.m2_control.declared.keepalive.Keepalive.{Keepalive}
+use Rattle.m2_script.specs.m2_center.m2_feed.m2_journal.declared.facts.PlanStep.{PlanStep}
+use Rattle.m2_script.specs.m2_center.m2_feed.m2_journal.declared.facts.PlanStep.TheVariants as step
+use Rattle.m2_script.specs.m2_center.m2_feed.m2_session.declared.event.Event.TheVariants as event
+use Rattle.m2_script.specs.m2_center.m2_turn.m2_handshake.m2_frame.Reading.{Item, whole}
+use Rattle.m2_script.specs.m2_center.m2_turn.m2_handshake.Standing.{Standing}
+use Rattle.m2_script.specs.m2_center.m2_turn.m2_handshake.declared.answer.HalfStep.{HalfStep}
+use Rattle.m2_script.specs.m2_center.m2_turn.m2_handshake.declared.answer.HalfStep.TheVariants as half
+use Rattle.m2_script.specs.m2_center.m2_record.Calls.{Breaks, ClosesFor, GoesDown, Shakes, fault_put}
+use Rattle.m2_script.specs.m2_center.m2_record.Due.{due_step, next_step}
+use Rattle.m2_script.specs.m2_center.m2_record.Framing.{AnswersFront, Frames, Greets, Heeds}
+use Rattle.m2_script.specs.m2_center.m2_record.Reading.{CountsAnswer, EndsRead, fault_read}
+use Rattle.m2_script.specs.m2_center.m2_record.RecordNow.{RecordNow}
+use Rattle.m2_script.specs.m2_center.m2_record.Stepping.{HandsAs, PlansAs, StepsBy, Worked}
+use Rattle.m2_script.specs.m2_center.m2_record.declared.due.Due.{Due}
+use Rattle.m2_script.specs.m2_center.m2_record.declared.due.Due.TheVariants as due
+use Rattle.m2_script.specs.m2_center.m2_record.declared.framing.Framed.{Framed}
+use Rattle.m2_script.specs.m2_center.m2_record.declared.framing.Framed.TheVariants as framed
+use Rattle.m2_script.specs.m2_center.m2_record.declared.stepped.Stepped.{Stepped}
+use Rattle.m2_script.specs.m2_center.m2_record.declared.stepped.Stepped.TheVariants as stepped
 use Rattle.m2_exact.proofs.InMemory as ends
+use Rattle.m2_exact.proofs.Leaving as leaving
 use Rattle.m2_exact.proofs.Signing as signing
 use Rattle.m2_exact.proofs.Steps as steps
 use Rattle.m2_exact.specs.Cores.{FeedIsInMemory, OnMemory}
@@ -86,31 +78,6 @@ grants : (x : Option FeedNow) → OnMemory x → OnMemory (granted_feed x)
 grants (Some v) m = m
 grants None m = m
 
-composes : (w : Writing) (t : List ℕ) (x y : Option FeedNow) → OnMemory x → ComposesFeed (Ok tt) w t x y → OnMemory y
-composes w t (Some v) (Some z) m g = subst (λ (z : FeedNow). IsInMemory z.end) (sym g) m
-composes w t (Some v) None m g = absurd g
-composes w t None y m g = absurd g
-
-asked : (t : List ℕ) (x y : Option FeedNow) → OnMemory x → ComposesAsk t x y → OnMemory y
-asked t (Some v) (Some z) m g = subst (λ (z : FeedNow). IsInMemory z.end) (sym g) m
-asked t (Some v) None m g = absurd g
-asked t None y m g = absurd g
-
-numbered : (n last : ℕ) (c : Content) (x y : Option FeedNow) → OnMemory x → ComposesMessage n last c x y → OnMemory y
-numbered n last c (Some v) (Some z) m g = subst (λ (z : FeedNow). IsInMemory z.end) (sym g) m
-numbered n last c (Some v) None m g = absurd g
-numbered n last c None y m g = absurd g
-
-answered : (x y : Option FeedNow) → OnMemory x → AnswersStamp (Ok tt) x y → OnMemory y
-answered (Some v) (Some z) m g = subst (λ (z : FeedNow). IsInMemory z.end) (sym g) m
-answered (Some v) None m g = absurd g
-answered None y m g = absurd g
-
-roomed : (x y : Option FeedNow) → OnMemory x → ChangesRoom x y → OnMemory y
-roomed (Some v) (Some z) m g = subst (λ (z : FeedNow). IsInMemory z.end) (sym g) m
-roomed (Some v) None m g = absurd g
-roomed None y m g = absurd g
-
 -- ---- what calls leave
 
 on : (r new : RecordNow) (x : RecordNow) → new ≡ x → FeedIsInMemory x.core → FeedIsInMemory new.core
@@ -139,7 +106,7 @@ closes : (f : Option WireFault) (now : ℕ) (r new : RecordNow) → FeedIsInMemo
 closes (Some f) now r new m h = breaks now r new m h
 closes None now r new m h = on r new _ h m
 
-counts : (n : Option ℕ) (c new : CoreNow) → FeedIsInMemory c → CountsIf n c new → FeedIsInMemory new
+pub counts : (n : Option ℕ) (c new : CoreNow) → FeedIsInMemory c → CountsIf n c new → FeedIsInMemory new
 counts (Some n) c new m h = subst FeedIsInMemory (sym h.only) m
 counts None c new m h = subst FeedIsInMemory (sym h) m
 
@@ -211,27 +178,6 @@ frames t (framed.Full out) now r new m h = heeds t (framed.Full out) now r new m
 frames t (framed.Again seen at) now r new m h = heeds t (framed.Again seen at) now r new m h
 frames t framed.NoMemory now r new m h = heeds t framed.NoMemory now r new m h
 
--- ---- what is composed
-
-leaves_ask : (a : CoreAsk) (c new : CoreNow) → FeedIsInMemory c → LeavesAsk a c new → FeedIsInMemory new
-leaves_ask (ask.Asked ident n) c new m h = asked _ c.live.feed new.live.feed m h.text
-leaves_ask ask.Spent c new m h = roomed c.live.feed new.live.feed m h.0
-leaves_ask (ask.Again seen now) c new m h = roomed c.live.feed new.live.feed m h.0
-leaves_ask ask.NoMemory c new m h = roomed c.live.feed new.live.feed m h.0
-
-composes_as : (t : CoreText) (c : Composed) (r new : RecordNow) → c ≢ composed.NoMemory → FeedIsInMemory r.core → ComposesAs t c r new → FeedIsInMemory new.core
-composes_as text.Ask (composed.Asked ident n) r new k m h = leaves_ask (ask.Asked ident n) r.core new.core m h.1
-composes_as text.Ask composed.Spent r new k m h = leaves_ask ask.Spent r.core new.core m h.1
-composes_as text.Ask (composed.Again seen now) r new k m h = leaves_ask (ask.Again seen now) r.core new.core m h.1
-composes_as text.KeepaliveAnswer composed.Answered r new k m h = answered r.core.live.feed new.core.live.feed m h.0.composes
-composes_as text.Message (composed.Numbered n) r new k m h = numbered n r.core.live.last h.0.numbers.message r.core.live.feed new.core.live.feed m h.0.numbers.composes
-composes_as text.Acknowledgement composed.Acknowledged r new k m h = composes _ _ r.core.live.feed new.core.live.feed m h.0.composes
-composes_as text.Ask composed.NoMemory r new k m h = absurd (k refl)
-composes_as text.KeepaliveAnswer composed.NoMemory r new k m h = absurd (k refl)
-composes_as text.Message composed.NoMemory r new k m h = absurd (k refl)
-composes_as text.Acknowledgement composed.NoMemory r new k m h = absurd (k refl)
-composes_as t c r new k m h = absurd h
-
 -- ---- a step
 
 by_due : (d : Due) (w : Worked) (r new : RecordNow) → w.answer ≢ stepped.NoMemory → (d ≡ due.Compose → is_some (to_compose r.core) ≡ true) → FeedIsInMemory r.core → StepsBy d w r new → FeedIsInMemory new.core
@@ -242,11 +188,7 @@ by_due (due.Connect at) w r new k some m h = on r new _ h.only m
 by_due due.Write w r new k some m h = closes (fault_put h.put) w.now h.writes.mid new (ends.written h.put r.core h.writes.mid.core m h.writes.once.core) h.writes.closes
 by_due due.Frame w r new k some m h = frames w.bytes h.framed w.now r new m h.frames
 by_due due.Read w r new k some m h = ends_read (fault_read h.read) h.read.heard w.now h.reads.mid new (ends.has_read _ r.core h.reads.mid.core m h.reads.once.core) h.reads.ends
-by_due due.Compose w r new k some m h = by (to_compose r.core) (some refl) h.composes
-  where
-    by : (o : Option CoreText) → is_some o ≡ true → IfSome o (λ t. ComposesAs t h.composed r new) → FeedIsInMemory new.core
-    by (Some t) e c = composes_as t h.composed r new (λ e. k (h.answers ∙ ap answer_composed e)) m c
-    by None e c = absurd (cc e)
+by_due due.Compose w r new k some m h = leaving.stays_in_memory r.core.live.feed new.core.live.feed (leaving.composed_so w r new k (some refl) h) m
 
 stays : (w : Worked) (r new : RecordNow) → FeedIsInMemory r.core → Took w r new → FeedIsInMemory new.core
 stays w r new m h =

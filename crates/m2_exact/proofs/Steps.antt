@@ -1,15 +1,15 @@
 -- Records that are alike step alike, but for want of memory.
-use Rattle.std.proofs.Common.{◌≡◌, ℕ, ◌+◌, ◌-◌, ◌++◌, List, [], ◌∷◌, map, Bool, true, false, if◌then◌else◌, Option, None, Some, Result, Ok, Err, refl, sym, subst, ◌∙◌, ap}
+use Rattle.std.proofs.Common.{◌≡◌, ℕ, ◌+◌, ◌-◌, ◌++◌, List, Bool, true, false, if◌then◌else◌, Option, None, Some, Result, Ok, Err, refl, sym, subst, ◌∙◌, ap}
 use Rattle.std.specs.Prelude.{◌≢◌, IfSome}
 use Rattle.std.specs.Option.{is_some, option_map, option_to_list}
 use Rattle.m2_fabric.specs.m2_bytes.declared.memory.NoMemory as memory
-use Rattle.m2_turn.specs.m2_core.CoreNow.{CoreNow, IsAskedIfSigned}
-use Rattle.m2_turn.specs.m2_core.Counting.{CountsIf, to_count}
-use Rattle.m2_turn.specs.m2_core.Hearing.{ReadNow}
-use Rattle.m2_turn.specs.m2_core.LiveHearing.{raised_by}
-use Rattle.m2_turn.specs.m2_core.LiveNow as live
-use Rattle.m2_turn.specs.m2_core.ToCompose.{to_compose}
-use Rattle.m2_turn.specs.m2_core.declared.to_compose.CoreText.{CoreText}
+use Rattle.m2_script.specs.m2_center.m2_core.CoreNow.{CoreNow, IsAskedIfSigned}
+use Rattle.m2_script.specs.m2_center.m2_core.Counting.{CountsIf, to_count}
+use Rattle.m2_script.specs.m2_center.m2_core.Hearing.{ReadNow}
+use Rattle.m2_script.specs.m2_center.m2_core.LiveHearing.{raised_by}
+use Rattle.m2_script.specs.m2_center.m2_core.LiveNow as live
+use Rattle.m2_script.specs.m2_center.m2_core.ToCompose.{to_compose}
+use Rattle.m2_script.specs.m2_center.m2_core.declared.to_compose.CoreText.{CoreText}
 use Rattle.m2_dispatch.specs.declared.parcel.Parcel.{Parcel}
 use Rattle.m2_dispatch.specs.m2_shared.Numbers.{SeenNumberPass}
 use Rattle.m2_dispatch.specs.m2_shared.Place.{IsAlone}
@@ -17,53 +17,52 @@ use Rattle.m2_dispatch.specs.m2_shared.Throttle.{SeenTakePass, SeenThrottle}
 use Rattle.m2_fabric.specs.End.{SeenEnd}
 use Rattle.m2_fabric.specs.declared.end.EndRead.{EndRead}
 use Rattle.m2_fabric.specs.declared.end.EndRead.TheVariants as read
-use Rattle.m2_turn.specs.m2_feed.FeedNow.{FeedNow}
-use Rattle.m2_turn.specs.m2_feed.declared.answers.FeedWrite.{FeedWrite}
-use Rattle.m2_turn.specs.m2_feed.declared.answers.FeedWrite.TheVariants as put
-use Rattle.m2_turn.specs.m2_feed.declared.heard.Heard.{Heard}
-use Rattle.m2_turn.specs.m2_feed.declared.heard.Heard.TheVariants as heard
-use Rattle.m2_turn.specs.m2_feed.declared.wire_fault.WireFault.{WireFault}
-use Rattle.m2_turn.specs.m2_feed.m2_journal.declared.entry.Entry.{Entry}
-use Rattle.m2_turn.specs.m2_feed.m2_journal.declared.facts.PlanStep.{PlanStep}
-use Rattle.m2_turn.specs.m2_feed.m2_journal.declared.facts.PlanStep.TheVariants as step
-use Rattle.m2_turn.specs.m2_record.Calls.{ClosesFor, ComposesAs, CountsResumption, HandsOut, IsSameButRoom, Writes, WritesFeedOnce, acked_entries, after_post, closed_entries, fault_put, held_after, moment_after, returned_for, with_dial, wrote_entries}
-use Rattle.m2_turn.specs.m2_record.Due.{due_step, has_frame, has_parcel, has_plan, may_compose, may_connect, may_read, may_write, next_step}
-use Rattle.m2_turn.specs.m2_record.IsRecord.{no_room}
-use Rattle.m2_turn.specs.m2_record.Reading.{CountsAnswer, EndsRead, Reads, ReadsFeedOnce, answer_read, fault_read, held_read, moment_read, read_entries, waits_read}
-use Rattle.m2_turn.specs.m2_record.RecordNow.{RecordNow}
-use Rattle.m2_turn.specs.m2_record.Stepping.{GivesBack, HandsAs, PlansAs, Rests, StepsAs, StepsBy, StepsCompose, StepsFrame, StepsHand, StepsPlan, StepsRead, StepsWrite, TakesDue, Worked, answer_composed, answer_framed, answer_planned, answer_put, returned_planned}
-use Rattle.m2_turn.specs.m2_record.Framing.{Frames, word_framed}
-use Rattle.m2_turn.specs.m2_record.declared.composing.Composed.{Composed}
-use Rattle.m2_turn.specs.m2_record.declared.composing.Composed.TheVariants as composed
-use Rattle.m2_turn.specs.m2_record.declared.due.Due.{Due}
-use Rattle.m2_turn.specs.m2_record.declared.due.Due.TheVariants as due
-use Rattle.m2_turn.specs.m2_record.declared.framing.Framed.{Framed}
-use Rattle.m2_turn.specs.m2_record.declared.framing.Framed.TheVariants as framed
-use Rattle.m2_turn.specs.m2_record.declared.reading.RecordRead.{RecordRead}
-use Rattle.m2_turn.specs.m2_record.declared.stepped.Stepped.{Stepped}
-use Rattle.m2_turn.specs.m2_record.declared.stepped.Stepped.TheVariants as stepped
-use Rattle.m2_turn.specs.m2_handshake.declared.answer.HalfStep.TheVariants as half
+use Rattle.m2_script.specs.m2_center.m2_feed.FeedNow.{FeedNow}
+use Rattle.m2_script.specs.m2_center.m2_feed.declared.answers.FeedWrite.{FeedWrite}
+use Rattle.m2_script.specs.m2_center.m2_feed.declared.answers.FeedWrite.TheVariants as put
+use Rattle.m2_script.specs.m2_center.m2_feed.declared.heard.Heard.{Heard}
+use Rattle.m2_script.specs.m2_center.m2_feed.declared.heard.Heard.TheVariants as heard
+use Rattle.m2_script.specs.m2_center.m2_feed.declared.wire_fault.WireFault.{WireFault}
+use Rattle.m2_script.specs.m2_center.m2_feed.m2_journal.declared.entry.Entry.{Entry}
+use Rattle.m2_script.specs.m2_center.m2_feed.m2_journal.declared.facts.PlanStep.{PlanStep}
+use Rattle.m2_script.specs.m2_center.m2_feed.m2_journal.declared.facts.PlanStep.TheVariants as step
+use Rattle.m2_script.specs.m2_center.m2_record.Calls.{ClosesFor, ComposesAs, CountsResumption, HandsOut, IsSameButRoom, Writes, WritesFeedOnce, acked_entries, after_post, closed_entries, fault_put, held_after, moment_after, returned_for, with_dial, wrote_entries}
+use Rattle.m2_script.specs.m2_center.m2_record.Due.{due_step, has_frame, has_parcel, has_plan, may_compose, may_connect, may_read, may_write, next_step}
+use Rattle.m2_script.specs.m2_center.m2_record.IsRecord.{no_room}
+use Rattle.m2_script.specs.m2_center.m2_record.Reading.{CountsAnswer, EndsRead, Reads, ReadsFeedOnce, answer_read, fault_read, held_read, moment_read, read_entries, waits_read}
+use Rattle.m2_script.specs.m2_center.m2_record.RecordNow.{RecordNow}
+use Rattle.m2_script.specs.m2_center.m2_record.Stepping.{GivesBack, HandsAs, PlansAs, Rests, StepsAs, StepsBy, StepsCompose, StepsFrame, StepsHand, StepsPlan, StepsRead, StepsWrite, TakesDue, Worked, answer_composed, answer_framed, answer_planned, answer_put, returned_planned}
+use Rattle.m2_script.specs.m2_center.m2_record.Framing.{Frames, word_framed}
+use Rattle.m2_script.specs.m2_center.m2_record.declared.composing.Composed.{Composed}
+use Rattle.m2_script.specs.m2_center.m2_record.declared.composing.Composed.TheVariants as composed
+use Rattle.m2_script.specs.m2_center.m2_record.declared.due.Due.{Due}
+use Rattle.m2_script.specs.m2_center.m2_record.declared.due.Due.TheVariants as due
+use Rattle.m2_script.specs.m2_center.m2_record.declared.framing.Framed.{Framed}
+use Rattle.m2_script.specs.m2_center.m2_record.declared.framing.Framed.TheVariants as framed
+use Rattle.m2_script.specs.m2_center.m2_record.declared.reading.RecordRead.{RecordRead}
+use Rattle.m2_script.specs.m2_center.m2_record.declared.stepped.Stepped.{Stepped}
+use Rattle.m2_script.specs.m2_center.m2_record.declared.stepped.Stepped.TheVariants as stepped
+use Rattle.m2_script.specs.m2_center.m2_turn.m2_handshake.declared.answer.HalfStep.TheVariants as half
 use Rattle.m2_exact.proofs.Composing as composing
 use Rattle.m2_exact.proofs.Cores as cores
 use Rattle.m2_exact.proofs.Framing as framing
+use Rattle.m2_exact.proofs.Lists.{heads}
 use Rattle.m2_exact.proofs.Nexts as nexts
 use Rattle.m2_exact.proofs.Plain as calls
 use Rattle.m2_exact.specs.Cores.{FeedIsInMemory, roomless, roomless_feed}
-use Rattle.m2_exact.specs.Records.{AreAlone, Begun, Took, bare_answer, bare_numbers, bare_parcel, bare_take, begun, done, plain}
+use Rattle.m2_exact.specs.Records.{AreAlone, Begun, Took, bare_numbers, bare_take, begun, done, plain}
 
 -- ---- which step is due
 
-abbrev with_parts : Option FeedNow → List Parcel → RecordNow → RecordNow
-with_parts x ps r = record r { core = record r.core { live = record r.core.live { feed = x } }; parcels = ps }
+abbrev with_feed : Option FeedNow → RecordNow → RecordNow
+with_feed x r = record r { core = record r.core { live = record r.core.live { feed = x } } }
 
 due_plain : (now : ℕ) (r : RecordNow) → due_step now r ≡ due_step now (plain r)
-due_plain now r = by r.core.live.feed r.parcels
+due_plain now r = by r.core.live.feed
   where
-    by : (x : Option FeedNow) (ps : List Parcel) → due_step now (with_parts x ps r) ≡ due_step now (with_parts (option_map roomless_feed x) (map bare_parcel ps) r)
-    by (Some v) [] = refl
-    by (Some v) (p ∷ ps) = refl
-    by None [] = refl
-    by None (p ∷ ps) = refl
+    by : (x : Option FeedNow) → due_step now (with_feed x r) ≡ due_step now (with_feed (option_map roomless_feed x) r)
+    by (Some v) = refl
+    by None = refl
 
 pub due_one : (now : ℕ) (r s : RecordNow) → plain r ≡ plain s → due_step now r ≡ due_step now s
 due_one now r s like = due_plain now r ∙ ap (due_step now) like ∙ sym (due_plain now s)
@@ -185,17 +184,13 @@ reads x y now r s new behind here like m k h g =
 
 -- ---- what is handed out
 
-one_more : (x y : Parcel) (xs ys : List Parcel) → x ∷ xs ≡ y ∷ ys → (x ≡ y) × (xs ≡ ys)
-one_more x y xs ys e = (cc e, cc e)
-
-hands : (x y : Parcel) (r s new behind : RecordNow) → plain r ≡ plain s → HandsOut (Some x) r new → HandsOut (Some y) s behind → (bare_parcel x ≡ bare_parcel y) × (plain new ≡ plain behind)
+hands : (x y : Parcel) (r s new behind : RecordNow) → plain r ≡ plain s → HandsOut (Some x) r new → HandsOut (Some y) s behind → (x ≡ y) × (plain new ≡ plain behind)
 hands x y r s new behind like (is, only) (are, last) =
-    let both = one_more (bare_parcel x) (bare_parcel y) (map bare_parcel new.parcels) (map bare_parcel behind.parcels)
-    (sym (ap (map bare_parcel) is) ∙ ap (λ (z : RecordNow). z.parcels) like ∙ ap (map bare_parcel) are) in (
+    let both = heads x y new.parcels behind.parcels (sym is ∙ ap (λ (z : RecordNow). z.parcels) like ∙ are) in (
       both.0,
       ap plain only
           ∙ ap (λ (ps : List Parcel). record (plain r) { parcels = ps; handed = r.handed + 1 }) both.1
-          ∙ ap (λ (z : RecordNow). record z { parcels = map bare_parcel behind.parcels; handed = z.handed + 1 }) like
+          ∙ ap (λ (z : RecordNow). record z { parcels = behind.parcels; handed = z.handed + 1 }) like
           ∙ sym (ap plain last),
     )
 
@@ -256,11 +251,11 @@ module _ (w v : Worked) (alone : AreAlone w) (like : begun w ≡ begun v) (m : w
   throttles = record { alone = alone.throttle; throttle = throttle; word = word }
 
   -- what they come to, by its parts
-  comes : bare_answer w.answer ≡ bare_answer v.answer → w.bytes.behind.word ≡ v.bytes.behind.word → bare_numbers w.numbers.behind ≡ bare_numbers v.numbers.behind → done w ≡ done v
+  comes : w.answer ≡ v.answer → w.bytes.behind.word ≡ v.bytes.behind.word → bare_numbers w.numbers.behind ≡ bare_numbers v.numbers.behind → done w ≡ done v
   comes a b n =
       ap (λ (x : Stepped). record { answer = x; bytes = bare_take w.bytes.behind; numbers = bare_numbers w.numbers.behind }) a
-      ∙ ap (λ (x : ℕ). record { answer = bare_answer v.answer; bytes = record (bare_take w.bytes.behind) { word = x }; numbers = bare_numbers w.numbers.behind }) b
-      ∙ ap (λ (x : SeenNumberPass). record { answer = bare_answer v.answer; bytes = bare_take v.bytes.behind; numbers = x }) n
+      ∙ ap (λ (x : ℕ). record { answer = v.answer; bytes = record (bare_take w.bytes.behind) { word = x }; numbers = bare_numbers w.numbers.behind }) b
+      ∙ ap (λ (x : SeenNumberPass). record { answer = v.answer; bytes = bare_take v.bytes.behind; numbers = x }) n
 
   took_nothing : w.bytes.behind ≡ w.bytes.before → v.bytes.behind ≡ v.bytes.before → w.bytes.behind.word ≡ v.bytes.behind.word
   took_nothing h g = ap (λ (p : SeenTakePass). p.word) h ∙ word ∙ sym (ap (λ (p : SeenTakePass). p.word) g)
@@ -271,8 +266,8 @@ module _ (w v : Worked) (alone : AreAlone w) (like : begun w ≡ begun v) (m : w
   gave_back : (i j : ℕ) → i ≡ j → GivesBack i w.bytes → GivesBack j v.bytes → w.bytes.behind.word ≡ v.bytes.behind.word
   gave_back i j e h g = h alone.throttle ∙ ap (λ (x : ℕ). x - i) word ∙ ap (λ (x : ℕ). v.bytes.before.word - x) e ∙ sym (g here)
 
-  answered : (a b : Stepped) → w.answer ≡ a → v.answer ≡ b → a ≡ b → bare_answer w.answer ≡ bare_answer v.answer
-  answered a b h g e = ap bare_answer (h ∙ e ∙ sym g)
+  answered : (a b : Stepped) → w.answer ≡ a → v.answer ≡ b → a ≡ b → w.answer ≡ v.answer
+  answered a b h g e = h ∙ e ∙ sym g
 
   rests : Rests w r new → Rests v s behind → (done w ≡ done v) × (plain new ≡ plain behind)
   rests h g = (
@@ -299,7 +294,7 @@ module _ (w v : Worked) (alone : AreAlone w) (like : begun w ≡ begun v) (m : w
       let (x, is, a) = handed w.answer r new h.hands in
       let (y, are, b) = handed v.answer s behind g.hands in
       let both = hands x y r s new behind same a b in
-      (comes (ap bare_answer is ∙ ap (λ (p : Parcel). stepped.Hand p) both.0 ∙ sym (ap bare_answer are)) (took_nothing h.bytes g.bytes) (drew_nothing h.numbers g.numbers), both.1)
+      (comes (is ∙ ap (λ (p : Parcel). stepped.Hand p) both.0 ∙ sym are) (took_nothing h.bytes g.bytes) (drew_nothing h.numbers g.numbers), both.1)
     where
       handed : (a : Stepped) (r new : RecordNow) → HandsAs a r new → (x : Parcel) × (a ≡ stepped.Hand x) × HandsOut (Some x) r new
       handed (stepped.Hand x) r new h = (x, refl, h)

@@ -4,13 +4,13 @@ use Rattle.std.specs.Prelude.{◌≡◌, ◌≢◌, Option, IfSome}
 use Rattle.std.specs.Option.{option_map}
 use Rattle.m2_fabric.specs.Kinds.{IsInMemory}
 use Rattle.m2_fabric.specs.declared.end.EndRead.TheVariants as read
-use Rattle.m2_turn.specs.m2_feed.FeedNow.{FeedNow}
-use Rattle.m2_turn.specs.m2_feed.declared.answers.FeedWrite.{FeedWrite}
-use Rattle.m2_turn.specs.m2_feed.declared.answers.FeedWrite.TheVariants as put
-use Rattle.m2_turn.specs.m2_core.LiveCalls.{live_with}
-use Rattle.m2_turn.specs.m2_core.CoreNow.{CoreNow}
-use Rattle.m2_turn.specs.m2_core.Hearing.{HasRead, ReadNow}
-use Rattle.m2_turn.specs.m2_core.Moves.{HasWritten}
+use Rattle.m2_script.specs.m2_center.m2_feed.FeedNow.{FeedNow}
+use Rattle.m2_script.specs.m2_center.m2_feed.declared.answers.FeedWrite.{FeedWrite}
+use Rattle.m2_script.specs.m2_center.m2_feed.declared.answers.FeedWrite.TheVariants as put
+use Rattle.m2_script.specs.m2_center.m2_core.LiveCalls.{live_with}
+use Rattle.m2_script.specs.m2_center.m2_core.CoreNow.{CoreNow}
+use Rattle.m2_script.specs.m2_center.m2_core.Hearing.{HasRead, ReadNow}
+use Rattle.m2_script.specs.m2_center.m2_core.Moves.{HasWritten}
 
 -- but for room
 abbrev pub roomless_feed : FeedNow → FeedNow

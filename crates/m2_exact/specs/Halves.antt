@@ -6,7 +6,7 @@ use Rattle.m2_fabric.specs.Kinds.{IsInMemory}
 use Rattle.m2_fabric.specs.declared.end.EndRead.{EndRead}
 use Rattle.m2_fabric.specs.declared.end.EndRead.TheVariants as read
 use Rattle.m2_fabric.specs.declared.end.EndWrite.TheVariants as write
-use Rattle.m2_turn.specs.m2_handshake.Asks.{bare_ask}
+use Rattle.m2_script.specs.m2_center.m2_turn.m2_handshake.Asks.{bare_ask}
 use Rattle.m2_trail.specs.declared.step.IncomingStep.TheVariants as step
 use Rattle.m2_trail.specs.Incoming.{IncomingNow}
 use Rattle.m2_trail.specs.TurnMoves.{Makes, Move, answers, outcome_of, reads, writes}

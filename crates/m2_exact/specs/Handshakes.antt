@@ -1,13 +1,13 @@
 -- Two answers of one half of a handshake, whatever socket it is of. This project's own.
 use Rattle.std.specs.Prelude.{◌≡◌, ◌≢◌}
-use Rattle.m2_turn.specs.m2_handshake.declared.answer.HalfStep.{HalfStep}
-use Rattle.m2_turn.specs.m2_handshake.declared.answer.HalfStep.TheVariants as half
-use Rattle.m2_turn.specs.m2_handshake.declared.ask.AskStep.{AskStep}
-use Rattle.m2_turn.specs.m2_handshake.declared.ask.AskStep.TheVariants as asked
-use Rattle.m2_turn.specs.m2_handshake.Asking.{AskAnswers}
-use Rattle.m2_turn.specs.m2_handshake.Asks.{bare_ask}
-use Rattle.m2_turn.specs.m2_handshake.Half.{Answers, Writer}
-use Rattle.m2_turn.specs.m2_handshake.Standing.{Standing}
+use Rattle.m2_script.specs.m2_center.m2_turn.m2_handshake.declared.answer.HalfStep.{HalfStep}
+use Rattle.m2_script.specs.m2_center.m2_turn.m2_handshake.declared.answer.HalfStep.TheVariants as half
+use Rattle.m2_script.specs.m2_center.m2_turn.m2_handshake.declared.ask.AskStep.{AskStep}
+use Rattle.m2_script.specs.m2_center.m2_turn.m2_handshake.declared.ask.AskStep.TheVariants as asked
+use Rattle.m2_script.specs.m2_center.m2_turn.m2_handshake.Asking.{AskAnswers}
+use Rattle.m2_script.specs.m2_center.m2_turn.m2_handshake.Asks.{bare_ask}
+use Rattle.m2_script.specs.m2_center.m2_turn.m2_handshake.Half.{Answers, Writer}
+use Rattle.m2_script.specs.m2_center.m2_turn.m2_handshake.Standing.{Standing}
 
 -- an answer without where the parts of an ask lie in memory
 abbrev pub bare : AskStep → AskStep

@@ -10,3 +10,11 @@ pub mod Accepts
 pub mod Judgements
 pub mod Advances
 pub mod Answers
+pub mod HalfTurns
+pub mod HalvesTurns
+pub mod Centers
+pub mod Nodes
+pub mod Networks
+pub mod Deeds
+pub mod Runs
+pub use Rattle.m2_script.specs as m2_script

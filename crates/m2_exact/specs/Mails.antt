@@ -1,13 +1,13 @@
 -- The mails of two centers that are alike, emptied. This project's own.
-use Rattle.std.specs.Prelude.{◌≡◌, ◌≢◌, List, map}
+use Rattle.std.specs.Prelude.{◌≡◌, ◌≢◌, List}
 use Rattle.m2_dispatch.specs.Heard.{Heard}
 use Rattle.m2_dispatch.specs.declared.letter.Letter.{Letter}
 use Rattle.m2_dispatch.specs.m2_shared.Place.{IsAlone, Place}
 use Rattle.m2_dispatch.specs.m2_shared.Throttle.{SeenTakePass}
-use Rattle.m2_turn.specs.Mailing.{Mailing, Mails}
-use Rattle.m2_turn.specs.declared.mailing.Mailed.{Mailed}
-use Rattle.m2_turn.specs.declared.mailing.Mailed.TheVariants as mailed
-use Rattle.m2_exact.specs.Records.{bare_letter, bare_take}
+use Rattle.m2_script.specs.m2_center.m2_turn.Mailing.{Mailing, Mails}
+use Rattle.m2_script.specs.m2_center.m2_turn.declared.mailing.Mailed.{Mailed}
+use Rattle.m2_script.specs.m2_center.m2_turn.declared.mailing.Mailed.TheVariants as mailed
+use Rattle.m2_exact.specs.Records.{bare_take}
 use Rattle.m2_exact.specs.RecordTurns.{PlainOut, plain_out}
 
 -- where parcels go, the letters that wait in the queue, and the calls that its dispatcher had
@@ -20,7 +20,7 @@ pub record PlainMailing : Type 0 where
 abbrev pub plain_mailing : {D : Type 0} → (D → List Heard) → Mailing D → PlainMailing
 plain_mailing heard m = record {
   out = plain_out heard m.out;
-  waiting = map bare_letter m.queue.queued.waiting;
+  waiting = m.queue.queued.waiting;
   queued = heard m.queue.queued.inner;
   bytes = bare_take m.queue.bytes;
 }

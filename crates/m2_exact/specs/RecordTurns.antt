@@ -1,20 +1,19 @@
 -- The turns of two records that are alike: their steps, one after another, and what these hand out. This project's own.
-use Rattle.std.specs.Prelude.{◌≡◌, ◌≢◌, List, map, Option, None}
-use Rattle.std.specs.Option.{option_map}
+use Rattle.std.specs.Prelude.{◌≡◌, ◌≢◌, List, Option, None}
 use Rattle.m2_dispatch.specs.Heard.{Heard}
 use Rattle.m2_dispatch.specs.declared.letter.Letter.{Letter}
 use Rattle.m2_dispatch.specs.declared.parcel.Parcel.{Parcel}
 use Rattle.m2_dispatch.specs.m2_shared.Numbers.{SeenNumberPass}
 use Rattle.m2_dispatch.specs.m2_shared.Place.{IsAlone}
 use Rattle.m2_dispatch.specs.m2_shared.Throttle.{SeenTakePass}
-use Rattle.m2_turn.specs.m2_core.CoreNow.{IsAskedIfSigned}
-use Rattle.m2_turn.specs.m2_record.RecordNow.{RecordNow}
-use Rattle.m2_turn.specs.Outbox.{OutboxNow}
-use Rattle.m2_turn.specs.RecordTurn.{Means, Turning, TurnsAs}
-use Rattle.m2_turn.specs.declared.record_turn.RecordTurn.{RecordTurn}
-use Rattle.m2_turn.specs.declared.record_turn.RecordTurn.TheVariants as turn
+use Rattle.m2_script.specs.m2_center.m2_core.CoreNow.{IsAskedIfSigned}
+use Rattle.m2_script.specs.m2_center.m2_record.RecordNow.{RecordNow}
+use Rattle.m2_script.specs.m2_center.m2_turn.Outbox.{OutboxNow}
+use Rattle.m2_script.specs.m2_center.m2_turn.RecordTurn.{Means, Turning, TurnsAs}
+use Rattle.m2_script.specs.m2_center.m2_turn.declared.record_turn.RecordTurn.{RecordTurn}
+use Rattle.m2_script.specs.m2_center.m2_turn.declared.record_turn.RecordTurn.TheVariants as turn
 use Rattle.m2_exact.specs.Cores.{FeedIsInMemory}
-use Rattle.m2_exact.specs.Records.{bare_letter, bare_numbers, bare_parcel, bare_take, plain}
+use Rattle.m2_exact.specs.Records.{bare_numbers, bare_take, plain}
 
 -- Where parcels go, by what is printed of it: the calls that the dispatcher of fast kinds had, and the parcels that are in the mail or
 -- held. What a dispatcher has besides is its own.
@@ -24,7 +23,7 @@ pub record PlainOut : Type 0 where
   pub held : Option Letter
 
 abbrev pub plain_out : {D : Type 0} → (D → List Heard) → OutboxNow D → PlainOut
-plain_out heard o = record { fast = heard o.fast; mail = map bare_parcel o.mail; held = option_map bare_letter o.held }
+plain_out heard o = record { fast = heard o.fast; mail = o.mail; held = o.held }
 
 pub record PlainTurning : Type 0 where
   pub side : RecordNow

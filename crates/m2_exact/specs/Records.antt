@@ -1,42 +1,22 @@
--- One step of each of two records that are alike but for room and for where the parts of messages lie, where the ends of their
--- feeds are in memory, and the words of their throttle and their counter are alone. This project's own.
-use Rattle.std.specs.Prelude.{◌≡◌, ◌≢◌, ℕ, [], map, None}
-use Rattle.m2_turn.specs.m2_core.CoreNow.{IsAskedIfSigned}
-use Rattle.m2_dispatch.specs.declared.letter.Letter.{Letter}
-use Rattle.m2_dispatch.specs.declared.parcel.Parcel.{Parcel}
-use Rattle.m2_dispatch.specs.declared.parcel.Parcel.TheVariants as parcel
-use Rattle.m2_dispatch.specs.m2_message.declared.message.Message.{Message}
+-- One step of each of two records that are alike but for room, where the ends of their feeds are in memory, and the words of
+-- their throttle and their counter are alone. This project's own.
+use Rattle.std.specs.Prelude.{◌≡◌, ◌≢◌, ℕ, [], None}
+use Rattle.m2_script.specs.m2_center.m2_core.CoreNow.{IsAskedIfSigned}
 use Rattle.m2_dispatch.specs.m2_shared.Numbers.{SeenNumberPass}
 use Rattle.m2_dispatch.specs.m2_shared.Place.{IsAlone, Place}
 use Rattle.m2_dispatch.specs.m2_shared.Throttle.{SeenTakePass, SeenThrottle}
-use Rattle.m2_turn.specs.m2_record.IsRecord.{no_room}
-use Rattle.m2_turn.specs.m2_record.RecordNow.{RecordNow}
-use Rattle.m2_turn.specs.m2_record.Stepping.{StepsAs, Worked}
-use Rattle.m2_turn.specs.m2_record.declared.stepped.Stepped.{Stepped}
-use Rattle.m2_turn.specs.m2_record.declared.stepped.Stepped.TheVariants as stepped
+use Rattle.m2_script.specs.m2_center.m2_record.IsRecord.{no_room}
+use Rattle.m2_script.specs.m2_center.m2_record.RecordNow.{RecordNow}
+use Rattle.m2_script.specs.m2_center.m2_record.Stepping.{StepsAs, Worked}
+use Rattle.m2_script.specs.m2_center.m2_record.declared.stepped.Stepped.{Stepped}
+use Rattle.m2_script.specs.m2_center.m2_record.declared.stepped.Stepped.TheVariants as stepped
 use Rattle.m2_exact.specs.Cores.{FeedIsInMemory, roomless}
 
 -- ---- what is forgotten
 
--- How much room is behind the parts of a message. A message is dispatched, counted and printed by its bytes.
-abbrev pub bare_message : Message → Message
-bare_message m = record m { front = record m.front { room = 0 }; middle = record m.middle { room = 0 }; tail = record m.tail { room = 0 } }
-
-abbrev pub bare_letter : Letter → Letter
-bare_letter l = record l { message = bare_message l.message }
-
-abbrev pub bare_parcel : Parcel → Parcel
-bare_parcel (parcel.Letter l) = parcel.Letter (bare_letter l)
-bare_parcel (parcel.Discard peer) = parcel.Discard peer
-bare_parcel (parcel.RemoteReset peer) = parcel.RemoteReset peer
-
 -- How much room a record and its feed have. By room it is told whether memory is wanted, and nothing else.
 abbrev pub plain : RecordNow → RecordNow
-plain r = record r { core = roomless r.core; parcels = map bare_parcel r.parcels; room = no_room }
-
-abbrev pub bare_answer : Stepped → Stepped
-bare_answer (stepped.Hand x) = stepped.Hand (bare_parcel x)
-bare_answer answer = answer
+plain r = record r { core = roomless r.core; room = no_room }
 
 -- Of a pass to a throttle, where its word lies, which the throttle tells, and what it did to a word that threads share. Where the
 -- word is alone a grant is decided by it.
@@ -73,7 +53,7 @@ pub record Done : Type 0 where
   pub numbers : SeenNumberPass
 
 abbrev pub done : Worked → Done
-done w = record { answer = bare_answer w.answer; bytes = bare_take w.bytes.behind; numbers = bare_numbers w.numbers.behind }
+done w = record { answer = w.answer; bytes = bare_take w.bytes.behind; numbers = bare_numbers w.numbers.behind }
 
 -- no thread shares the words
 pub record AreAlone (w : Worked) : Type 0 where

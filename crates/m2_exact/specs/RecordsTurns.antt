@@ -5,13 +5,13 @@ use Rattle.m2_dispatch.specs.Heard.{Heard}
 use Rattle.m2_dispatch.specs.m2_shared.Numbers.{SeenNumberPass}
 use Rattle.m2_dispatch.specs.m2_shared.Throttle.{SeenTakePass}
 use Rattle.m2_fabric.specs.Port.{SeenPort}
-use Rattle.m2_turn.specs.Connecting.{AtPort, DialsIfDue}
-use Rattle.m2_turn.specs.Planning.{TakesNew}
-use Rattle.m2_turn.specs.RecordTurn.{Means}
-use Rattle.m2_turn.specs.RecordsTurn.{AllAmid, TurnsEach}
-use Rattle.m2_turn.specs.declared.records_turn.RecordsTurn.TheVariants as turn
-use Rattle.m2_turn.specs.m2_feed.m2_journal.declared.facts.PlanStep.{PlanStep}
-use Rattle.m2_turn.specs.m2_record.RecordNow.{RecordNow}
+use Rattle.m2_script.specs.m2_center.m2_turn.Connecting.{AtPort, DialsIfDue}
+use Rattle.m2_script.specs.m2_center.m2_turn.Planning.{TakesNew}
+use Rattle.m2_script.specs.m2_center.m2_turn.RecordTurn.{Means}
+use Rattle.m2_script.specs.m2_center.m2_turn.RecordsTurn.{AllAmid, TurnsEach}
+use Rattle.m2_script.specs.m2_center.m2_turn.declared.records_turn.RecordsTurn.TheVariants as turn
+use Rattle.m2_script.specs.m2_center.m2_feed.m2_journal.declared.facts.PlanStep.{PlanStep}
+use Rattle.m2_script.specs.m2_center.m2_record.RecordNow.{RecordNow}
 use Rattle.m2_exact.specs.Records.{bare_numbers, bare_take, plain}
 use Rattle.m2_exact.specs.RecordTurns.{HasAlone, IsFit, PlainOut, plain_out}
 
@@ -30,11 +30,13 @@ pub record IsFitAt (a : AtPort) : Type 0 where
   pub side : IsFit a.side
   pub port : IsSome a.port.waiting
 
--- But for want of memory a connect that is due, and a step that is planned, leave what is alike; so where none is due.
+-- But for want of memory a connect that is due, and a step that is planned, leave what is alike; so where none is due. What waits at the
+-- port stays.
 pub record LikeRecordsDialAndPlanAlike : Type 0 where
   pub dials : (now : ℕ) (old last new behind : AtPort) → IsFitAt old → plain_at old ≡ plain_at last → DialsIfDue (Ok tt) now old new → DialsIfDue (Ok tt) now last behind →
       plain_at new ≡ plain_at behind
   pub stays : (now : ℕ) (old new : AtPort) → IsFitAt old → DialsIfDue (Ok tt) now old new → IsFitAt new
+  pub waits : (now : ℕ) (old new : AtPort) → IsFitAt old → DialsIfDue (Ok tt) now old new → new.port.waiting ≡ old.port.waiting
   pub plans : (x : PlanStep) (now : ℕ) (r s new behind : RecordNow) → plain r ≡ plain s → TakesNew x now r new → TakesNew x now s behind → plain new ≡ plain behind
 
 -- ---- all records
@@ -60,9 +62,10 @@ pub record AreFit {D : Type 0} (a : AllAmid D) : Type 0 where
   pub records : AllByRecursion IsFit a.records
   pub port : IsSome a.around.port.waiting
 
--- Turns of all records that begin alike, and found memory, leave what is alike; the records stay fit.
+-- Turns of all records that begin alike, and found memory, leave what is alike; the records stay fit, and what waits at the port stays.
 pub record LikeAllRecordsTurnAlike (D : Type 0) (heard : D → List Heard) : Type 0 where
   pub turns : (m : Means) (old last new behind : AllAmid D) → HasAlone m → AreFit old → plain_all heard old ≡ plain_all heard last →
       TurnsEach heard m turn.Done old new → TurnsEach heard m turn.Done last behind → new.around.out.held ≡ None → behind.around.out.held ≡ None →
       plain_all heard new ≡ plain_all heard behind
   pub stays : (m : Means) (old new : AllAmid D) → AreFit old → TurnsEach heard m turn.Done old new → new.around.out.held ≡ None → AreFit new
+  pub waits : (m : Means) (old new : AllAmid D) → AreFit old → TurnsEach heard m turn.Done old new → new.around.out.held ≡ None → new.around.port.waiting ≡ old.around.port.waiting

@@ -1,4 +1,5 @@
 mod Deeds
+mod EndsApart
 mod First
 mod Further
 mod Going

@@ -13,6 +13,7 @@ use Rattle.m2_scenario.specs.declared.link.Link.{Link}
 use Rattle.m2_scenario.specs.declared.node.Node.{Node}
 use Rattle.m2_scenario.specs.Draft.{draft_line}
 use Rattle.m2_scenario.specs.Valid.{IsSound}
+use Rattle.m2_script.specs.Apart.{EndsStayApart}
 use Rattle.m2_script.specs.Script.{CanAllBeDone, RunNow, script_of}
 use Rattle.m2_promise.specs.Started.{IsFirst, IsScriptRun}
 
@@ -25,6 +26,11 @@ FirstIsKept = (nodes : List Node) (links : List Link) (lines : List Line) (s : R
 abbrev pub FirstCanBeDone : Type 0 → Type 0
 FirstCanBeDone E = (nodes : List Node) (links : List Link) (lines : List Line) (s : RunNow (List Logged)) → IsSound nodes links (map draft_line lines) → IsFirst nodes links lines s →
     CanAllBeDone E heard_by (script_of links (length nodes) lines) s
+
+-- at no node two ends are of one socket behind any of their deeds,
+abbrev pub FirstStaysApart : Type 0 → Type 0
+FirstStaysApart E = (nodes : List Node) (links : List Link) (lines : List Line) (s : RunNow (List Logged)) → IsSound nodes links (map draft_line lines) → IsFirst nodes links lines s →
+    EndsStayApart E heard_by (script_of links (length nodes) lines) s
 
 -- each record's plan is exactly what the lines have planned for it, in order
 abbrev pub PlansAreOfLines : List Link → (count : ℕ) → List Line → RunNow (List Logged) → Type 0

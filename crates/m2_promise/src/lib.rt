@@ -60,5 +60,5 @@ pub use post_laws::{
     calls_are_noted, deeds_note_calls, ends_are_promised, kept_is_promised, promises_are_kept,
 };
 pub use run_laws::{a_node_acts, acting_keeps_orders, acting_keeps_running};
-pub use start_laws::{first_can_be_done, first_is_kept, script_run_is_kept};
+pub use start_laws::{first_can_be_done, first_is_kept, first_stays_apart, script_run_is_kept};
 pub use types::lines_fit;

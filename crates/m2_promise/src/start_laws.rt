@@ -4,8 +4,8 @@
 ghost use Rattle.m2_promise.specs.StartLaws as laws;
 
 use crate::{
-    beginnings_have_orders, beginnings_run, new_centers_are_new, new_clusters_begin,
-    scripts_can_be_done, scripts_stay_kept,
+    beginnings_have_orders, beginnings_run, deeds_stay_kept, new_centers_are_new,
+    new_clusters_begin, scripts_can_be_done, scripts_stay_kept,
 };
 use m2_dispatch::LogDispatcher;
 use m2_fabric::Port;
@@ -28,6 +28,14 @@ pub fn first_can_be_done<P: Port>()
 {
     first_is_kept();
     scripts_can_be_done::<LogDispatcher, P::End>();
+}
+
+/// Behind each of their deeds each socket has one end at most at each node.
+pub fn first_stays_apart<P: Port>()
+    ensures { laws.FirstStaysApart P.End }
+{
+    first_is_kept();
+    deeds_stay_kept::<LogDispatcher, P::End>();
 }
 
 /// And where the last of them leads the run keeps all this still, and each plan is what the lines planned.

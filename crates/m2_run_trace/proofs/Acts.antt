@@ -1,7 +1,7 @@
 -- Acts of one list and then of another are those of both; and what is known in the midst of a list.
 use Rattle.std.proofs.Common.{◌≡◌, ℕ, List, [], ◌∷◌, ◌++◌, Some, Ok, Err, OnOk, refl, sym, ap, ◌∙◌, subst, append_assoc, append-nil}
 use Rattle.std.proofs.lemmas.Grind.{flat_map-append}
-use Rattle.m2_cluster.specs.m2_center.CenterTurn.{Answer}
+use Rattle.m2_script.specs.m2_cluster.m2_center.CenterTurn.{Answer}
 use Rattle.m2_run_trace.specs.Acts.{Act, CanDo, CanPlay, Does, MemoryRun, Plays, PlaysAll, StageNow, deeds_in, news_by, silent_act}
 use Rattle.m2_run_trace.proofs.Deeds.{can_behind, can_first, does_both}
 use Rattle.m2_scenario.specs.declared.node.Node.{Node}

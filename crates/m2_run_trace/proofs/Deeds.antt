@@ -1,6 +1,6 @@
 -- What is known in the midst of deeds that are done one after another.
 use Rattle.std.proofs.Common.{◌≡◌, List, [], ◌++◌, Ok, Err, OnOk, refl, sym, ap, ◌∙◌, subst, append_assoc, append-nil}
-use Rattle.m2_cluster.specs.m2_center.CenterTurn.{Answer}
+use Rattle.m2_script.specs.m2_cluster.m2_center.CenterTurn.{Answer}
 use Rattle.m2_dispatch.specs.Heard.{heard_by}
 use Rattle.m2_run_trace.specs.Acts.{CanDo, Does, MemoryRun}
 use Rattle.m2_script.specs.Script.{Deed, Ends}

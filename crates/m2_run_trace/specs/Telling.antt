@@ -2,9 +2,9 @@
 use Rattle.std.specs.Prelude.{ℕ, List, Option, Some, None, slice_get}
 use Rattle.std.specs.Option.{option_map}
 use denote.Ref.{Bor}
-use Rattle.m2_cluster.specs.m2_center.Center.{CenterNow}
-use Rattle.m2_cluster.specs.m2_center.Reaching.{ends_in}
-use Rattle.m2_cluster.specs.Node.{NodeNow}
+use Rattle.m2_script.specs.m2_cluster.m2_center.Center.{CenterNow}
+use Rattle.m2_script.specs.m2_cluster.m2_center.Reaching.{ends_in}
+use Rattle.m2_script.specs.m2_cluster.Node.{NodeNow}
 use Rattle.m2_dispatch.specs.declared.logged.Logged.{Logged}
 use Rattle.m2_fabric.specs.declared.log.EndLog.{EndLog}
 use Rattle.m2_fabric.specs.declared.socket.SocketId.{SocketId}

@@ -6,11 +6,11 @@
 //! they listen, for what flows between them, and [`clear_all`] throws nodes away. [`Run`] is such nodes and what flows
 //! between them (`m2_fabric`), which the lines have do deeds, one after another. [`outcome_of`] ends all nodes of a run
 //! and gives an [`Outcome`]: for each node what its dispatchers were called with, turn by turn, and how many posts are
-//! left over the lossless links of which neither end was marked down. What it isn't: a scenario's text
-//! (`m2_scenario_text`) or its report (`m2_scenario`).
+//! left over the lossless links of which neither end was marked down. It passes on what crates above name of nodes
+//! ([`Center`], [`Cluster`]). What it isn't: a scenario's text (`m2_scenario_text`) or its report (`m2_scenario`).
 //!
 //! `specs/Script.antt` says which deeds a line is and what each does, `specs/Nodes.antt` what the nodes are before the
-//! first line, and `specs/Outcome.antt` what is told at the end.
+//! first line, `specs/Started.antt` what a run is, and `specs/Outcome.antt` what is told at the end.
 #![tactic(auto)]
 
 mod calls;
@@ -35,6 +35,7 @@ pub use laws::{new_records_can_begin, scripts_are_within, short_posts_are_sendab
 pub use left::left_at;
 pub use lines::Run;
 pub use listening::addresses;
+pub use m2_cluster::{Center, Cluster};
 pub use made::{Towards, other_of, record_over, records};
 pub use node::MemoryNode;
 pub use outcome::{Outcome, outcome_of};
