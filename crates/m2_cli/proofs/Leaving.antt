@@ -3,14 +3,14 @@ use Rattle.std.proofs.Common.{◌≡◌, List, map, Result, Ok, Err, IfOk}
 use Rattle.m2_bytes.specs.declared.memory.NoMemory as memory
 use Rattle.m2_scenario.specs.m2_dispatch.declared.logged.Logged.{Logged}
 use Rattle.m2_scenario.specs.m2_dispatch.Heard.{heard_by}
-use Rattle.m2_script.specs.declared.outcome.Outcome.{Outcome}
+use Rattle.m2_exact.specs.m2_script.declared.outcome.Outcome.{Outcome}
 use Rattle.m2_promise.specs.Posted.{KeepsPromise}
 use Rattle.m2_scenario.specs.Report.{heard_in}
 use Rattle.m2_scenario.specs.declared.line.Line.{Line}
 use Rattle.m2_scenario.specs.declared.link.Link.{Link}
 use Rattle.m2_scenario.specs.declared.node.Node.{Node}
-use Rattle.m2_script.specs.Outcome.{all_heard, left_in}
-use Rattle.m2_script.specs.Script.{RunNow}
+use Rattle.m2_exact.specs.m2_script.Outcome.{all_heard, left_in}
+use Rattle.m2_exact.specs.m2_script.Script.{RunNow}
 use Rattle.m2_cli.specs.Run.{IsOutcome, IsScriptRun}
 use Rattle.m2_cli.proofs.Told.{logs_are_of_nodes}
 

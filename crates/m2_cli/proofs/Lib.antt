@@ -1,10 +1,12 @@
 pub mod Cuts
+pub mod Generator
 pub mod Leaving
 pub mod Listings
 pub mod LoadLinks
 pub mod Loads
 pub mod Made
 pub mod Memory
+pub mod OneRun
 pub mod Orders
 pub mod Parses
 pub mod Programs

@@ -9,8 +9,8 @@ use Rattle.m2_scenario.specs.OrderLaws.{AreAll}
 use Rattle.m2_cli.specs.Run.{IsMarkedSo, gave_up_at, is_down_of}
 use Rattle.m2_scenario.specs.declared.link.Link.{Link}
 use Rattle.m2_scenario.specs.Draft.{DraftLine, settle}
-use Rattle.m2_script.specs.Outcome.{is_down_at, is_lossless, is_up}
-use Rattle.m2_script.specs.Script.{RunNow}
+use Rattle.m2_exact.specs.m2_script.Outcome.{is_down_at, is_lossless, is_up}
+use Rattle.m2_exact.specs.m2_script.Script.{RunNow}
 use Rattle.m2_cli.specs.Load.{NoneGaveUp}
 use Rattle.m2_cli.specs.Order.{EndsAreMarkedSo}
 

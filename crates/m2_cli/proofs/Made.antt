@@ -1,6 +1,6 @@
 -- A run of a scenario that a draft makes is a run of the draft.
 use Rattle.std.proofs.Common.{◌≡◌, List, map, subst}
-use Rattle.m2_script.specs.declared.outcome.Outcome.{Outcome}
+use Rattle.m2_exact.specs.m2_script.declared.outcome.Outcome.{Outcome}
 use Rattle.m2_scenario.specs.declared.line.Line.{Line}
 use Rattle.m2_scenario.specs.declared.link.Link.{Link}
 use Rattle.m2_scenario.specs.declared.node.Node.{Node}

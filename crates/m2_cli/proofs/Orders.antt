@@ -16,9 +16,9 @@ use Rattle.m2_scenario.specs.declared.node.Node.{Node}
 use Rattle.m2_scenario.specs.Draft.{Draft, DraftLine, draft_line}
 use Rattle.m2_scenario.specs.Text.{Word}
 use Rattle.m2_scenario.specs.Valid.{IsSound}
-use Rattle.m2_script.specs.Outcome.{all_heard, heard_of_node, is_up, left_in}
-use Rattle.m2_script.specs.Script.{RunNow}
-use Rattle.m2_script.specs.m2_cluster.Node.{NodeNow}
+use Rattle.m2_exact.specs.m2_script.Outcome.{all_heard, heard_of_node, is_up, left_in}
+use Rattle.m2_exact.specs.m2_script.Script.{RunNow}
+use Rattle.m2_exact.specs.m2_script.m2_cluster.Node.{NodeNow}
 use Rattle.m2_fabric.specs.Fabric.{SeenFabric}
 use Rattle.m2_promise.specs.Posted.{IsPromised}
 use Rattle.m2_promise.specs.PostLaws.{EndsArePromised}

@@ -29,11 +29,11 @@ use Rattle.m2_scenario.specs.declared.line.Line.{Line}
 use Rattle.m2_scenario.specs.declared.line.Line.TheVariants as line
 use Rattle.m2_scenario.specs.declared.link.Link.{Link}
 use Rattle.m2_scenario.specs.declared.node.Node.{Node}
-use Rattle.m2_script.proofs.Lists.{item_at}
-use Rattle.m2_script.specs.Made.{records_of}
-use Rattle.m2_script.specs.m2_cluster.Node.{NodeNow}
-use Rattle.m2_script.specs.m2_record.IsRecord.{IsRecord}
-use Rattle.m2_script.specs.m2_record.RecordNow.{RecordNow}
+use Rattle.m2_exact.proofs.m2_script.Lists.{item_at}
+use Rattle.m2_exact.specs.m2_script.Made.{records_of}
+use Rattle.m2_exact.specs.m2_script.m2_cluster.Node.{NodeNow}
+use Rattle.m2_exact.specs.m2_script.m2_record.IsRecord.{IsRecord}
+use Rattle.m2_exact.specs.m2_script.m2_record.RecordNow.{RecordNow}
 
 -- ---- lists
 

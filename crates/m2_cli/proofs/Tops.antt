@@ -10,7 +10,7 @@ use Rattle.m2_cli.specs.Printout.{IsPrintoutOf}
 use Rattle.m2_cli.specs.Top.{RunsFile}
 use Rattle.m2_cli.specs.Verdict.{BadAt, ComesTo, ReadingComesTo, scenario_in}
 use Rattle.m2_scenario.specs.Draft.{Draft}
-use Rattle.m2_script.specs.Outcome.{left_in}
+use Rattle.m2_exact.specs.m2_script.Outcome.{left_in}
 
 -- all of a text was written, to which the bytes come
 pub record IsWritten (file text : List ℕ) (before after : Edge) : Type 0 where

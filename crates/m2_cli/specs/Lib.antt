@@ -4,6 +4,8 @@ pub mod Form
 pub mod Frames
 pub mod Lines
 pub mod Load
+pub mod Numbers
+pub mod OneRun
 pub mod Order
 pub mod Positions
 pub mod Print

@@ -8,8 +8,8 @@ use Rattle.m2_edge.specs.Sink.{TakesBytes, TakesPrefix}
 use Rattle.m2_scenario.specs.Generated.{generated}
 use Rattle.m2_cli.specs.Run.{gave_up_at}
 use Rattle.m2_scenario.specs.declared.link.Link.{Link}
-use Rattle.m2_script.specs.Outcome.{all_heard, left_in}
-use Rattle.m2_script.specs.Script.{RunNow}
+use Rattle.m2_exact.specs.m2_script.Outcome.{all_heard, left_in}
+use Rattle.m2_exact.specs.m2_script.Script.{RunNow}
 use Rattle.m2_cli.specs.declared.load.LoadCounts.{LoadCounts}
 use Rattle.m2_cli.specs.declared.status.Status.{Status}
 use Rattle.m2_cli.specs.declared.status.Status.TheVariants.{Done, Usage, BadScenario, ReadFault, WriteFault, BindFault, Unfit, Stalled, Left, NoMemory, BadFrames}
@@ -38,6 +38,9 @@ pub record LoadComesTo (posts seed : ℕ) (status : Status) (text : List ℕ) : 
   pub run : IsRunOf (generated posts seed) last
   pub counted : status ≡ status_by_count (load_left posts seed last)
   pub lines : text ≡ load_lines posts (dispatched_in last) (load_left posts seed last)
+  -- and so does every run of it
+  pub only : (other : RunNow (List Logged)) → IsRunOf (generated posts seed) other →
+      (status ≡ status_by_count (load_left posts seed other)) × (text ≡ load_lines posts (dispatched_in other) (load_left posts seed other))
 
 -- the two numbers that a run of the generated scenario leads to
 pub record IsCounted (posts seed : ℕ) (c : LoadCounts) : Type 0 where

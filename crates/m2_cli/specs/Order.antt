@@ -16,8 +16,8 @@ use Rattle.m2_cli.specs.Run.{AreHeardInLives, Beside, HearsSome, IsAccountedOver
 use Rattle.m2_scenario.specs.Report.{report_of}
 use Rattle.m2_scenario.specs.declared.link.Link.{Link}
 use Rattle.m2_scenario.specs.Draft.{Draft, is_post}
-use Rattle.m2_script.specs.Outcome.{all_heard, is_lossless, is_up, left_in}
-use Rattle.m2_script.specs.Script.{RunNow}
+use Rattle.m2_exact.specs.m2_script.Outcome.{all_heard, is_lossless, is_up, left_in}
+use Rattle.m2_exact.specs.m2_script.Script.{RunNow}
 use Rattle.m2_cli.specs.declared.status.Status.{Status}
 use Rattle.m2_cli.specs.declared.status.Status.TheVariants.{Done, Usage, BadScenario, ReadFault, WriteFault, BindFault, Unfit, Stalled, Left, NoMemory, BadFrames}
 use Rattle.m2_cli.specs.Edge.{Edge}

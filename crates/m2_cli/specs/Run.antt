@@ -2,7 +2,7 @@
 use Rattle.std.specs.Prelude.{◌≡◌, List, map}
 use Rattle.m2_scenario.specs.m2_dispatch.declared.logged.Logged.{Logged}
 use Rattle.m2_scenario.specs.m2_dispatch.Heard.{heard_by}
-use Rattle.m2_script.specs.declared.outcome.Outcome.{Outcome}
+use Rattle.m2_exact.specs.m2_script.declared.outcome.Outcome.{Outcome}
 pub use Rattle.m2_promise.specs.AtEnd.{Beside, is_down_of}
 pub use Rattle.m2_promise.specs.Posted.{AreHeardInLives, HearsSome, IsAccountedOver, IsMarkedOnlySo, IsMarkedSo, KeepsPromise, gave_up_at, is_lossy, of_both}
 use Rattle.m2_promise.specs.Posted as posted
@@ -10,8 +10,8 @@ use Rattle.m2_scenario.specs.Report.{AreLogsOf, heard_in}
 use Rattle.m2_scenario.specs.declared.line.Line.{Line}
 use Rattle.m2_scenario.specs.declared.link.Link.{Link}
 use Rattle.m2_scenario.specs.declared.node.Node.{Node}
-use Rattle.m2_script.specs.Outcome.{all_heard, left_in}
-use Rattle.m2_script.specs.Script.{RunNow}
+use Rattle.m2_exact.specs.m2_script.Outcome.{all_heard, left_in}
+use Rattle.m2_exact.specs.m2_script.Script.{RunNow}
 use Rattle.m2_fabric.specs.declared.cut_end.CutEnd.{CutEnd}
 use Rattle.m2_fabric.specs.declared.sim_end.SimEnd.{SimEnd}
 

@@ -11,10 +11,10 @@ use Rattle.m2_scenario.specs.Draft.{Draft, draft_line}
 use Rattle.m2_scenario.specs.Report.{report_of}
 use Rattle.m2_scenario.specs.declared.line.Line.{Line}
 use Rattle.m2_scenario.specs.declared.link.Link.{Link}
-use Rattle.m2_script.specs.Ended.{ended}
-use Rattle.m2_script.specs.Outcome.{all_heard}
-use Rattle.m2_script.specs.Script.{RunNow}
-use Rattle.m2_script.specs.m2_cluster.Node.{NodeNow}
+use Rattle.m2_exact.specs.m2_script.Ended.{ended}
+use Rattle.m2_exact.specs.m2_script.Outcome.{all_heard}
+use Rattle.m2_exact.specs.m2_script.Script.{RunNow}
+use Rattle.m2_exact.specs.m2_script.m2_cluster.Node.{NodeNow}
 use Rattle.m2_cli.specs.declared.status.Status.{Status}
 use Rattle.m2_cli.specs.Edge.{Edge}
 use Rattle.m2_cli.specs.Order.{AreSessionsKept, HeardAll, KeepsOrderBy}

@@ -11,8 +11,8 @@ use Rattle.m2_scenario.specs.Draft.{Draft, draft_line}
 use Rattle.m2_scenario.specs.Valid.{IsSound}
 use Rattle.m2_scenario_text.specs.Flaw.{kind_of}
 use Rattle.m2_scenario_text.specs.Reading.{At, text_read}
-use Rattle.m2_script.specs.Outcome.{all_heard, left_in}
-use Rattle.m2_script.specs.Script.{RunNow}
+use Rattle.m2_exact.specs.m2_script.Outcome.{all_heard, left_in}
+use Rattle.m2_exact.specs.m2_script.Script.{RunNow}
 use Rattle.m2_scenario.specs.Kind.{number_of_kind}
 
 -- ---- the scenario
@@ -53,6 +53,8 @@ pub record RunComesTo (d : Draft) (status : Status) (text : List ℕ) : Type 0 w
   pub run : IsRunOf d last
   pub counted : status ≡ status_by_count (left_in heard_by d.links last)
   pub report : text ≡ report_of false d.nodes (all_heard heard_by last)
+  -- and so does every run of the scenario
+  pub only : (other : RunNow (List Logged)) → IsRunOf d other → (status ≡ status_by_count (left_in heard_by d.links other)) × (text ≡ report_of false d.nodes (all_heard heard_by other))
 
 -- the first bad line, and no text
 pub record IsRefused (bad : BadAt) (status : Status) (text : List ℕ) : Type 0 where

@@ -10,16 +10,17 @@ ghost use Rattle.m2_cli.specs.Printout.{IsPrintoutBy};
 ghost use Rattle.m2_cli.specs.Verdict.{status_by_count};
 ghost use Rattle.m2_cli.specs.Work.{Works};
 
+use crate::one_run::scenarios_have_one_run;
 use crate::print::{print, say_fixed};
 use crate::printout::{Printout, status_by_count, with_line};
 use crate::run;
 use crate::status::Status;
 use m2_bytes::{Blob, NoMemory, put_decimal};
 use m2_edge::Sink;
+use m2_exact::Outcome;
 use m2_scenario::{
     LogsList, Scenario, calls_and_left_are_posts, generate, posts_are_as_many_as_asked,
 };
-use m2_script::Outcome;
 use std::alloc::Global;
 
 /// Runs generated load, and prints how many messages were posted, dispatched and left. It touches no source.
@@ -51,6 +52,7 @@ fn prepare_load(alloc: Global, posts: u32, seed: u64) -> Result<Printout, NoMemo
     requires most { posts ≤ MOST_POSTS }
     ensures { IfOk result (IsPrintoutBy [] (LoadComesTo posts seed)) }
 {
+    scenarios_have_one_run();
     let counts = run_load(alloc, posts, seed)?;
     let text = lines(alloc, u64::from(posts), counts.dispatched, counts.left)?;
     with_line(alloc, &[], status_by_count(counts.left), text)

@@ -9,13 +9,14 @@ ghost use Rattle.m2_scenario.specs.Report.{name_of, report_of};
 ghost use Rattle.m2_scenario.specs.Draft.{Draft, IsMade};
 ghost use Rattle.m2_scenario.specs.Valid.{IsValid};
 
+use crate::one_run::scenarios_have_one_run;
 use crate::run;
 use crate::status::{Status, line};
 use m2_bytes::{Blob, Items, NoMemory};
 use m2_edge::{ReadFault, Source, read_whole};
+use m2_exact::Outcome;
 use m2_scenario::{Node, Scenario, report};
 use m2_scenario_text::{BadScenario, MOST_BYTES, read};
-use m2_script::Outcome;
 use std::alloc::Global;
 
 /// How a scenario ends, its report, and the line that standard error is to get.
@@ -75,6 +76,7 @@ fn prepare_scenario(alloc: Global, scenario: Scenario) -> Result<Printout, NoMem
         lines,
         limit,
     } = scenario;
+    scenarios_have_one_run();
     let Outcome { logs, left } = run(alloc, &nodes, &links, lines)?;
     let scenario = Scenario {
         nodes,

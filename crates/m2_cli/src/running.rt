@@ -5,15 +5,15 @@ ghost use Rattle.m2_scenario.specs.m2_dispatch.Heard.{heard_by};
 ghost use Rattle.m2_scenario.specs.Report.{heard_in};
 ghost use Rattle.m2_scenario.specs.Draft.{draft_line};
 ghost use Rattle.m2_scenario.specs.Valid.{IsSound};
-ghost use Rattle.m2_script.specs.Outcome.{all_heard, left_in};
+ghost use Rattle.m2_exact.specs.m2_script.Outcome.{all_heard, left_in};
 ghost use Rattle.m2_cli.specs.Run.{IsOutcome};
 ghost use Rattle.m2_promise.specs.Posted.{IsFirst};
 
 use m2_bytes::NoMemory;
+use m2_exact::{Outcome, Run, addresses, clear_all, cluster_of, outcome_of};
 use m2_fabric::{CutPort, SimFabric, SimPort};
 use m2_promise::{first_can_be_done, lines_fit, promises_are_kept};
 use m2_scenario::{Line, LineList, Link, LinkList, Node, NodeList};
-use m2_script::{Outcome, Run, addresses, clear_all, cluster_of, outcome_of};
 use std::alloc::Global;
 
 /// Runs a scenario's lines over its nodes and links, and tells what came of it. The messages of the posts are moved into

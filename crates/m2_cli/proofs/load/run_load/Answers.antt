@@ -3,7 +3,7 @@ use Rattle.std.proofs.Common.{List, ap, length, sum_by, ◌∙◌}
 use Rattle.m2_scenario.specs.m2_dispatch.Heard.{heard_by}
 use Rattle.m2_scenario.specs.Generated.{generated}
 use Rattle.m2_scenario.specs.declared.link.Link.{Link}
-use Rattle.m2_script.specs.Outcome.{left_in}
+use Rattle.m2_exact.specs.m2_script.Outcome.{left_in}
 use Rattle.m2_cli.proofs.Made.{run_of_made}
 use Rattle.m2_cli.proofs.load.run_load.Goals as goal
 

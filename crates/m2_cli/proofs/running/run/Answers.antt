@@ -2,13 +2,13 @@
 use Rattle.std.proofs.Common.{◌≡◌, ℕ, List, length, Ok, IfOk, sym, subst}
 use Rattle.std.specs.List.{AllByRecursion}
 use Rattle.m2_scenario.specs.m2_dispatch.Heard.{heard_by}
-use Rattle.m2_script.specs.declared.outcome.Outcome.{Outcome}
+use Rattle.m2_exact.specs.m2_script.declared.outcome.Outcome.{Outcome}
 use Rattle.m2_promise.specs.Posted.{IsFirst, PostsOfTypes}
 use Rattle.m2_scenario.specs.declared.line.Line.{Line}
 use Rattle.m2_scenario.specs.declared.link.Link.{Link}
 use Rattle.m2_scenario.specs.declared.node.Node.{Node}
-use Rattle.m2_script.specs.Outcome.{left_in}
-use Rattle.m2_script.specs.Script.{CanAllBeDone, Ends, script_of}
+use Rattle.m2_exact.specs.m2_script.Outcome.{left_in}
+use Rattle.m2_exact.specs.m2_script.Script.{CanAllBeDone, Ends, script_of}
 use Rattle.m2_fabric.specs.declared.cut_end.CutEnd.{CutEnd}
 use Rattle.m2_fabric.specs.declared.sim_end.SimEnd.{SimEnd}
 use Rattle.m2_cli.specs.Run.{IsScriptRun}
