@@ -14,7 +14,7 @@ use Rattle.m2_bytes.proofs.m2_lemmas.Booleans.{from_false_true}
 use Rattle.m2_trail.specs.Arrivals.{LooseNow}
 use Rattle.m2_handover.specs.Door.{DoorNow, StaysThere, TakesIn, weight_of, weight_on_way, weight_put}
 use Rattle.m2_handover.specs.Handed.{OnItsWay, left_behind}
-use Rattle.m2_handover.specs.Home.{AreAllThere, HasTakenAll, HomeNow, IsHome, IsKnown, IsNoWait, halves_at, left_at_door, put_at, weight_at_door, weight_next}
+use Rattle.m2_handover.specs.Home.{AreAllThere, HasTakenAll, HomeNow, IsHome, IsKnown, IsNoWait, asked_at, asked_at_door, put_at, unasked_at, unasked_at_door, weight_at_door, weight_next}
 
 -- ---- sockets that are known
 
@@ -153,19 +153,16 @@ next_weighs : (weight : SocketId → ℕ) (next : Option OnItsWay) → sum_by (w
 next_weighs weight None = refl
 next_weighs weight (Some h) = omega (arith, sum_by-cons (weight_of weight) (left_behind h) [])
 
-door_weighs : (weight : SocketId → ℕ) (door : Option DoorNow) → sum_by (weight_of weight) (left_at_door door) + weight_put weight (put_at door) ≡ weight_at_door weight door
+door_weighs : (weight : SocketId → ℕ) (door : Option DoorNow) →
+    sum_by (weight_of weight) (unasked_at_door door) + sum_by (weight_of weight) (asked_at_door door) + weight_put weight (put_at door) ≡ weight_at_door weight door
 door_weighs weight None = refl
-door_weighs weight (Some d) =
-    let f = weight_of weight in
-    let all = sum_by-append f (d.over ++ d.halves) (map left_behind d.asked) in
-    let first = sum_by-append f d.over d.halves in
-    let sum : sum_by f (d.over ++ d.halves ++ map left_behind d.asked) + weight_put weight d.put ≡ sum_by f d.halves + sum_by (weight_on_way weight) d.asked + sum_by f d.over + weight_put weight d.put =
-    omega (arith, all, first, left_weigh weight d.asked) in
-    sum
+door_weighs weight (Some d) = omega (arith, sum_by-append (weight_of weight) d.over d.halves, left_weigh weight d.asked)
 
-pub all_there : (h : HomeNow) (halves : List LooseNow) → IsHome h → halves ≡ halves_at h → AreAllThere h halves
-all_there h halves home e weight =
+pub all_there : (h : HomeNow) (at_door on_way : List LooseNow) → IsHome h → at_door ≡ unasked_at h → on_way ≡ asked_at h → AreAllThere h (at_door ++ on_way)
+all_there h at_door on_way home unasked asked weight =
     let f = weight_of weight in
-    let split : sum_by f halves ≡ sum_by f (left_at_door h.door) + sum_by f (map left_behind (option_to_list h.next)) =
-    ap (sum_by f) e ∙ sum_by-append f (left_at_door h.door) (map left_behind (option_to_list h.next)) in
-    omega (arith, home.0 weight, split, next_weighs weight h.next, door_weighs weight h.door)
+    let both = sum_by-append f at_door on_way in
+    let a : sum_by f at_door ≡ sum_by f (unasked_at h) = ap (sum_by f) unasked in
+    let b : sum_by f on_way ≡ sum_by f (asked_at h) = ap (sum_by f) asked in
+    let split = sum_by-append f (asked_at_door h.door) (map left_behind (option_to_list h.next)) in
+    omega (arith, home.0 weight, both, a, b, split, next_weighs weight h.next, door_weighs weight h.door)

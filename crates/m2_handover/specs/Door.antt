@@ -18,9 +18,13 @@ pub record DoorNow : Type 0 where
   pub over : List LooseNow
   pub put : List (List (List OnItsWay))
 
--- all halves of a door that nobody went on with
-abbrev pub left_at : DoorNow → List LooseNow
-left_at d = d.over ++ d.halves ++ map left_behind d.asked
+-- the halves of a door that weren't asked, those that are over first
+abbrev pub unasked_in : DoorNow → List LooseNow
+unasked_in d = d.over ++ d.halves
+
+-- those that were, and that nobody went on with
+abbrev pub asked_in : DoorNow → List LooseNow
+asked_in d = map left_behind d.asked
 
 -- ---- sockets, however they are weighed
 

@@ -9,7 +9,7 @@ use Rattle.m2_fabric.specs.Sockets.{goes_to, is_among}
 use Rattle.m2_fabric.specs.declared.port.Taken.{Taken}
 use Rattle.m2_fabric.specs.declared.port.Taken.TheVariants as accept
 use Rattle.m2_fabric.specs.declared.socket.SocketId.{SocketId}
-use Rattle.m2_handover.specs.Door.{DoorNow, LetsAllIn, left_at, weight_of, weight_on_way, weight_put, weight_through}
+use Rattle.m2_handover.specs.Door.{DoorNow, LetsAllIn, asked_in, unasked_in, weight_of, weight_on_way, weight_put, weight_through}
 use Rattle.m2_handover.specs.End.{told_nothing}
 use Rattle.m2_handover.specs.Handed.{OnItsWay, left_behind}
 use Rattle.m2_handover.specs.declared.door.DoorTurn.TheVariants as turn
@@ -93,13 +93,21 @@ IsHome h = IsBalanced h × AllByRecursion (IsKnown h.inner) h.made
 
 -- ---- its end
 
-abbrev pub left_at_door : Option DoorNow → List LooseNow
-left_at_door None = []
-left_at_door (Some d) = left_at d
+abbrev pub unasked_at_door : Option DoorNow → List LooseNow
+unasked_at_door None = []
+unasked_at_door (Some d) = unasked_in d
 
--- all halves that it has and that no thread of the node went on with: those at its door, and the one that was taken and not accepted yet
-abbrev pub halves_at : HomeNow → List LooseNow
-halves_at h = left_at_door h.door ++ map left_behind (option_to_list h.next)
+abbrev pub asked_at_door : Option DoorNow → List LooseNow
+asked_at_door None = []
+asked_at_door (Some d) = asked_in d
+
+-- the halves that it has and that no thread of the node went on with: those at its door that weren't asked; and those that were, with the
+-- one that was taken and not accepted yet
+abbrev pub unasked_at : HomeNow → List LooseNow
+unasked_at h = unasked_at_door h.door
+
+abbrev pub asked_at : HomeNow → List LooseNow
+asked_at h = asked_at_door h.door ++ map left_behind (option_to_list h.next)
 
 -- what was put by the ways of its door
 abbrev pub put_at : Option DoorNow → List (List (List OnItsWay))

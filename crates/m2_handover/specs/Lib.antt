@@ -3,3 +3,4 @@ pub mod End
 pub mod Handed
 pub mod Home
 pub mod Past
+pub use Rattle.m2_mailbox.specs as m2_mailbox

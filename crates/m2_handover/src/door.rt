@@ -2,7 +2,7 @@
 
 ghost use Rattle.std.specs.Prelude.{◌≡◌, ◌+◌, ◌++◌, ◌<◌, ◌≤◌, [], IfOk, IsSome, OnOk, length, map, vec_capacity, vec_len};
 ghost use Rattle.std.specs.VecDeque.{deque_capacity, deque_len};
-ghost use Rattle.m2_handover.specs.Door.{Hands, KeepsAll, LetsAllIn, LetsIn, LetsOneIn, LetsTheNextIn, Stands, TakesIn, left_at};
+ghost use Rattle.m2_handover.specs.Door.{Hands, KeepsAll, LetsAllIn, LetsIn, LetsOneIn, LetsTheNextIn, Stands, TakesIn};
 ghost use Rattle.m2_handover.specs.Handed.{left_behind};
 ghost use Rattle.m2_handover.specs.declared.door.TheConstants.{MOST_AT_DOOR};
 ghost use Rattle.m2_trail.specs.declared.incoming.TheConstants.{MOST_READ};
@@ -11,7 +11,7 @@ use crate::handed::Handed;
 use crate::names::Inboxes;
 use crate::way::Way;
 use m2_bytes::{Items, NoMemory};
-use m2_fabric::{End, Port, Taken};
+use m2_fabric::{End, EndLog, Port, Taken};
 use m2_trail::{
     Arrival, HalfTurn, Incoming, Loose, LooseList, MOST_READ, advance, turns_leave_the_half,
 };
@@ -229,13 +229,19 @@ impl<'a, P: Port, B: Inboxes> Door<'a, P, B> {
         }
     }
 
-    /// All halves that nobody went on with, those that are over first; and the ways. Err is want of memory.
-    pub(crate) fn into_parts(self) -> Result<(LooseList<P::End>, Vec<Way<'a, P::End, B>>), NoMemory>
-        ensures halves { IfOk result (λ r. r.0.items ≡ left_at self.entry) }
-        ensures ways { IfOk result (λ r. r.1.items ≡ self.entry.put) }
+    /// Whether nothing is to be done now: no asked socket waits, and each half waits for its peer.
+    pub(crate) fn rests(&self) -> bool {
+        self.asked.is_empty() && self.halves.iter().all(|at| waits(at.half.end().log()))
+    }
+
+    /// All halves that nobody went on with; and the ways. Err is want of memory.
+    pub(crate) fn into_rest(self) -> Result<DoorRest<'a, P, B>, NoMemory>
+        ensures at_door { IfOk result (λ r. r.at_door.items ≡ self.entry.over ++ self.entry.halves) }
+        ensures on_way { IfOk result (λ r. r.on_way.items ≡ map left_behind self.entry.asked) }
+        ensures ways { IfOk result (λ r. r.ways.items ≡ self.entry.put) }
     {
         let Door {
-            alloc: _,
+            alloc,
             entity: _,
             halves,
             asked,
@@ -245,9 +251,43 @@ impl<'a, P: Port, B: Inboxes> Door<'a, P, B> {
             busy: _,
         } = self;
         leave_halves(halves, &mut left)?;
-        leave_asked(asked, &mut left)?;
-        Ok((Items::from_vec(left), ways))
+        let mut on_way = Vec::new(alloc);
+        leave_asked(asked, &mut on_way)?;
+        Ok(DoorRest {
+            at_door: Items::from_vec(left),
+            on_way: Items::from_vec(on_way),
+            ways,
+        })
     }
+}
+
+/// What is left of a door: the halves that weren't asked, those that are over first; those that were and whose homes have had no
+/// room; and the ways.
+#[derive(Drop)]
+pub(crate) struct DoorRest<'a, P: Port, B: Inboxes> {
+    pub(crate) at_door: LooseList<P::End>,
+    pub(crate) on_way: LooseList<P::End>,
+    pub(crate) ways: Vec<Way<'a, P::End, B>>,
+}
+
+impl<'a, P: Port, B: Inboxes> DoorRest<'a, P, B> {
+    /// That of a port that has no door.
+    pub(crate) fn none(alloc: Global) -> DoorRest<'a, P, B>
+        ensures at_door { result.at_door.items ≡ [] }
+        ensures on_way { result.on_way.items ≡ [] }
+        ensures ways { result.ways.items ≡ [] }
+    {
+        DoorRest {
+            at_door: Items::empty(alloc),
+            on_way: Items::empty(alloc),
+            ways: Vec::new(alloc),
+        }
+    }
+}
+
+/// Whether a half waits for its peer, by what its end did last.
+fn waits(log: &EndLog) -> bool {
+    log.dry || log.blocked
 }
 
 /// A half stands among these from now on, or is closed where there are as many as there may be, with those that were asked.

@@ -4,10 +4,10 @@ ghost use Rattle.std.specs.Prelude.{◌≡◌, ◌<◌, ◌==◌, ◌&&◌, [], 
 ghost use Rattle.m2_fabric.specs.Port.{Accepts, Connects, connect_map, taken_map};
 ghost use Rattle.m2_handover.specs.Door.{LetsAllIn, LetsIn, StaysThere, TakesIn};
 ghost use Rattle.m2_handover.specs.Handed.{IsOfNamed};
-ghost use Rattle.m2_handover.specs.Home.{AreAllThere, HasTakenAll, IsBalanced, IsNoWait, IsSameButInner, IsSameInside, TakesOver, halves_at, put_at, shown};
+ghost use Rattle.m2_handover.specs.Home.{AreAllThere, HasTakenAll, IsBalanced, IsNoWait, IsSameButInner, IsSameInside, TakesOver, asked_at, put_at, shown, unasked_at};
 ghost use Rattle.m2_mailbox.specs.Passes.{IsGetPassOf, taken_of};
 
-use crate::door::{Door, DoorTurn};
+use crate::door::{Door, DoorRest, DoorTurn};
 use crate::end::HandedEnd;
 use crate::handed::Handed;
 use crate::names::Inboxes;
@@ -21,6 +21,7 @@ use m2_trail::LooseList;
 use std::alloc::Global;
 use std::marker::{Model, PhantomData};
 use std::sync::Wait;
+use std::sync::atomic::{AtomicBool, Ordering};
 
 /// The port of an event thread of a node. What it connects to is its own; what it accepts are the sockets that were handed
 /// over to it, since the asking address is at home with this thread. The first thread's port has the node's door besides,
@@ -48,6 +49,8 @@ pub struct HomePort<'a, P: Port, R: Wait + Copy, B: Inboxes> {
     /// Whether a socket was accepted since the last poll.
     fresh: bool,
     door: Option<Door<'a, P, B>>,
+    /// Where it tells whether nothing is there to be done but what its center knows of.
+    rests: &'a AtomicBool,
     of: PhantomData<B>,
     ghost here: { at ≡ (P.seen port).at },
     ghost named: { B.inbox number ≡ Some inbox.now },
@@ -81,13 +84,16 @@ impl<'a, P: Port, R: Wait + Copy, B: Inboxes> Model for HomePort<'a, P, R, B> {
     }) };
 }
 
-/// What is left of the port of an event thread: the port inside; the halves that no thread of the node went on with, those of
-/// its door and the last one of its inbox; the number of its thread, and the right to take out of its inbox, with what was
-/// taken; and the ways of its door.
+/// What is left of the port of an event thread: the port inside, and the sockets that this one made; the halves that no thread
+/// of the node went on with, those at its door that weren't asked, and those that were and didn't come to their homes, with the
+/// last one of its inbox; the number of its thread, and the right to take out of its inbox, with what was taken; and the ways
+/// of its door.
 #[derive(Drop)]
 pub struct HomeRest<'a, P: Port, B: Inboxes> {
     pub port: P,
-    pub halves: LooseList<P::End>,
+    pub made: SocketIdList,
+    pub at_door: LooseList<P::End>,
+    pub on_way: LooseList<P::End>,
     pub number: u32,
     pub pass: GetPass<Handed<P::End>>,
     pub ways: Vec<Way<'a, P::End, B>>,
@@ -95,7 +101,8 @@ pub struct HomeRest<'a, P: Port, B: Inboxes> {
 
 impl<'a, P: Port, R: Wait + Copy, B: Inboxes> HomePort<'a, P, R, B> {
     /// A port that has made nothing, over one of the node at this address that has made nothing either, but for what is at
-    /// the door or went through it.
+    /// the door or went through it. Each time it finds nothing to accept it tells by `rests` whether each socket at its door has
+    /// come to rest, and it takes that back where something lies in its inbox. No clause says anything of that.
     pub fn new(
         rt: R,
         alloc: Global,
@@ -105,6 +112,7 @@ impl<'a, P: Port, R: Wait + Copy, B: Inboxes> HomePort<'a, P, R, B> {
         inbox: &'a Inbox<Handed<P::End>>,
         pass: GetPass<Handed<P::End>>,
         door: Option<Door<'a, P, B>>,
+        rests: &'a AtomicBool,
     ) -> HomePort<'a, P, R, B>
         requires here { at ≡ (P.seen port).at }
         requires named { B.inbox number ≡ Some inbox.now }
@@ -125,6 +133,7 @@ impl<'a, P: Port, R: Wait + Copy, B: Inboxes> HomePort<'a, P, R, B> {
             next: None,
             fresh: false,
             door,
+            rests,
             of: PhantomData,
         }
     }
@@ -139,18 +148,20 @@ impl<'a, P: Port, R: Wait + Copy, B: Inboxes> HomePort<'a, P, R, B> {
     /// Takes it apart. Err is want of memory.
     pub fn into_rest(self) -> Result<HomeRest<'a, P, B>, NoMemory>
         ensures port { IfOk result (λ r. P.seen r.port ≡ self.entry.inner) }
-        ensures halves { IfOk result (λ r. r.halves.items ≡ halves_at self.entry) }
+        ensures made { IfOk result (λ r. r.made.items ≡ self.entry.made) }
+        ensures at_door { IfOk result (λ r. r.at_door.items ≡ unasked_at self.entry) }
+        ensures on_way { IfOk result (λ r. r.on_way.items ≡ asked_at self.entry) }
         ensures taken { IfOk result (λ r. taken_of r.pass ≡ self.entry.taken) }
         ensures ours { IfOk result (λ r. IsOfNamed (λ inbox. IsGetPassOf inbox r.pass) (B.inbox r.number)) }
         ensures put { IfOk result (λ r. r.ways.items ≡ put_at self.entry.door) }
-        ensures all { IfOk result (λ r. AreAllThere self.entry r.halves.items) }
+        ensures all { IfOk result (λ r. AreAllThere self.entry (r.at_door.items ++ r.on_way.items)) }
     {
         let HomePort {
             rt: _,
             alloc,
             at: _,
             port,
-            made: _,
+            made,
             quiet: _,
             number,
             inbox: _,
@@ -158,20 +169,27 @@ impl<'a, P: Port, R: Wait + Copy, B: Inboxes> HomePort<'a, P, R, B> {
             next,
             fresh: _,
             door,
+            rests: _,
             of: _,
         } = self;
-        let (mut halves, ways) = match door {
-            Some(door) => door.into_parts()?,
-            None => (Items::empty(alloc), Vec::new(alloc)),
+        let DoorRest {
+            at_door,
+            mut on_way,
+            ways,
+        } = match door {
+            Some(door) => door.into_rest()?,
+            None => DoorRest::none(alloc),
         };
         if let Some(handed) = next {
-            if halves.push(handed.into_loose()).is_err() {
+            if on_way.push(handed.into_loose()).is_err() {
                 return Err(NoMemory);
             }
         }
         Ok(HomeRest {
             port,
-            halves,
+            made,
+            at_door,
+            on_way,
             number,
             pass,
             ways,
@@ -200,6 +218,9 @@ impl<'a, P: Port, R: Wait + Copy, B: Inboxes> HomePort<'a, P, R, B> {
     {
         if self.next.is_none() {
             self.next = self.inbox.take(&self.rt, &mut self.pass);
+        }
+        if self.next.is_some() {
+            self.rests.store(false, Ordering::SeqCst);
         }
     }
 
@@ -241,6 +262,15 @@ impl<'a, P: Port, R: Wait + Copy, B: Inboxes> HomePort<'a, P, R, B> {
         ensures { result ≡ (to.now.ip == self.now.inner.at.ip) && (to.now.port == self.now.inner.at.port) }
     {
         to.ip == self.at.ip && to.port == self.at.port
+    }
+
+    /// Tells that nothing was accepted, and whether nothing is there to be done at the door.
+    fn tell_rest(&self) {
+        let rests = match &self.door {
+            Some(door) => door.rests(),
+            None => true,
+        };
+        self.rests.store(rests, Ordering::SeqCst);
     }
 
     /// How long it may wait of so many milliseconds.
@@ -311,6 +341,7 @@ impl<'a, P: Port, R: Wait + Copy, B: Inboxes> Port for HomePort<'a, P, R, B> {
             DoorTurn::Done => {}
             DoorTurn::Failed => {
                 self.quiet = true;
+                self.tell_rest();
                 return Taken::Failed;
             }
             DoorTurn::NoMemory => return Taken::NoMemory,
@@ -319,6 +350,7 @@ impl<'a, P: Port, R: Wait + Copy, B: Inboxes> Port for HomePort<'a, P, R, B> {
             return taken;
         }
         self.quiet = true;
+        self.tell_rest();
         Taken::NotYet
     }
 

@@ -27,7 +27,8 @@ pub const MOST_PARCELS: u32 = 1_024;
 /// [`close`](Inbox::close) ends it, and [`Rest`] gives what is left.
 ///
 /// Maker: [`new`](Inbox::new). Calls of threads, each with its pass: [`put`](Inbox::put) and
-/// [`take`](Inbox::take), which take no memory. End: [`close`](Inbox::close). Contracts see the owner
+/// [`take`](Inbox::take), which take no memory. End: [`close`](Inbox::close); or, of an inbox whose passes are lost,
+/// [`let_go`](Inbox::let_go). Contracts see the owner
 /// and the capacity. The right to put is in parts, so that who has all of them knows that nobody else
 /// puts: the first pass begins with all, each [`split`](PutPass::split) takes one away, and a
 /// [`join`](PutPass::join) brings those of the other pass back.
@@ -125,5 +126,10 @@ impl<T: Item> Inbox<T> {
         queue.absorb::<Rights>(&mut seen, get.into_seen());
         queue.len_as::<Takes<T>, R>(rt, &mut seen);
         Rest { queue, owner, seen }
+    }
+
+    /// Lets the inbox go where not all passes are at hand. What it still holds is lost, memory and all.
+    pub fn let_go(self) {
+        let Inbox { queue: _, owner: _ } = self;
     }
 }

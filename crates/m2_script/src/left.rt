@@ -101,7 +101,7 @@ fn left_of(way: &Way, logs: &[LoggedList]) -> u64
 }
 
 /// How many messages of a node are among these calls.
-fn messages_of(node: u32, log: &[Logged]) -> u64
+pub fn messages_of(node: u32, log: &[Logged]) -> u64
     ensures { result ≡ count_by (is_message_from node) (heard_by log.now) }
 {
     let mut count = 0;

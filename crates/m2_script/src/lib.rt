@@ -6,8 +6,10 @@
 //! they listen, for what flows between them, and [`clear_all`] throws nodes away. [`Run`] is such nodes and what flows
 //! between them (`m2_fabric`), which the lines have do deeds, one after another. [`outcome_of`] ends all nodes of a run
 //! and gives an [`Outcome`]: for each node what its dispatchers were called with, turn by turn, and how many posts are
-//! left over the lossless links of which neither end was marked down. It passes on what crates above name of nodes
-//! ([`Center`], [`Cluster`]). What it isn't: a scenario's text (`m2_scenario_text`) or its report (`m2_scenario`).
+//! left over the lossless links of which neither end was marked down. Whoever has nodes with several centers counts that by
+//! [`is_down_towards`], [`posts_towards`], [`messages_of`] and [`sum`]. It passes on what crates above name of nodes
+//! ([`Cluster`], [`Center`], [`Unmade`], [`Passes`], [`NodeShared`], [`CenterTurn`], [`CenterRest`], [`home`]). What it isn't: a
+//! scenario's text (`m2_scenario_text`) or its report (`m2_scenario`).
 //!
 //! `specs/Script.antt` says which deeds a line is and what each does, `specs/Nodes.antt` what the nodes are before the
 //! first line, `specs/Started.antt` what a run is, and `specs/Outcome.antt` what is told at the end.
@@ -32,10 +34,11 @@ pub use calls::{TurnCalls, TurnCallsList};
 pub use cluster::{MemoryCluster, clear_all, cluster_of};
 pub use cuts::cuts_of;
 pub use laws::{new_records_can_begin, scripts_are_within, short_posts_are_sendable};
-pub use left::left_at;
+pub use left::{left_at, messages_of};
 pub use lines::Run;
 pub use listening::addresses;
-pub use m2_cluster::{Center, Cluster};
+pub use m2_cluster::{Center, CenterRest, CenterTurn, Cluster, NodeShared, Passes, Unmade, home};
 pub use made::{Towards, other_of, record_over, records};
 pub use node::MemoryNode;
 pub use outcome::{Outcome, outcome_of};
+pub use ways::{is_down_towards, posts_towards, sum};

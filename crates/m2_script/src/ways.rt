@@ -80,8 +80,8 @@ fn is_down_at<P: Port, D>(cluster: &Cluster<P, D>, from: u32, to: u32) -> bool
     }
 }
 
-/// The same of these records.
-fn is_down_towards<E: End>(records: &[Record<E>], to: u32) -> bool
+/// Whether one of these records is towards that node and was marked down.
+pub fn is_down_towards<E: End>(records: &[Record<E>], to: u32) -> bool
     ensures { result ≡ list_any (is_down_to to) records.now }
 {
     for side in records {
@@ -125,8 +125,8 @@ pub(crate) fn posts_at<P: Port, D>(
     }
 }
 
-/// The same of these records.
-fn posts_towards<E: End>(records: &[Record<E>], to: u32) -> Result<u64, NoMemory>
+/// How many posts these records planned towards that node. Err: more than the greatest number.
+pub fn posts_towards<E: End>(records: &[Record<E>], to: u32) -> Result<u64, NoMemory>
     ensures { IfOk result (λ n. n ≡ sum_by (posts_to to) records.now) }
 {
     let mut posts: u64 = 0;
@@ -137,7 +137,7 @@ fn posts_towards<E: End>(records: &[Record<E>], to: u32) -> Result<u64, NoMemory
 }
 
 /// The sum of both. Err: it is above the greatest number.
-pub(crate) fn sum(a: u64, b: u64) -> Result<u64, NoMemory>
+pub fn sum(a: u64, b: u64) -> Result<u64, NoMemory>
     ensures { IfOk result (λ n. n ≡ a + b) }
 {
     a.checked_add(b).ok_or(NoMemory)
