@@ -123,7 +123,8 @@ queued_letters (state.letter n life k m ∷ ds) h = at (is_path k.path Fast) (qu
 
 -- ---- the calls of a peer
 
-own_calls : (peer : ℕ) (key : Key) (log : List Heard) → heard.of_key peer key log ≡ heard.of_key peer key (calls_of peer log)
+-- the messages of a peer stand among its own calls
+pub own_calls : (peer : ℕ) (key : Key) (log : List Heard) → heard.of_key peer key log ≡ heard.of_key peer key (calls_of peer log)
 own_calls peer key [] = refl
 own_calls peer key (heard.reset p ∷ log) = at (p == peer) (own_calls peer key log)
   where

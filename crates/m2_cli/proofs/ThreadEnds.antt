@@ -1,6 +1,6 @@
 -- Where a run on threads has ended its nodes are at their end: each record is over a link of the scenario and has the plan that the lines
 -- make, and each link is in the order of its history.
-use Rattle.std.proofs.Common.{◌≡◌, ℕ, zero, suc, inl, inr, Bool, true, false, ◌&&◌, ◌==◌, ◌||◌, if◌then◌else◌, List, [], ◌∷◌, map, Some, None, refl, sym, ap, subst, ◌∙◌, arith}
+use Rattle.std.proofs.Common.{◌≡◌, ℕ, zero, suc, inl, inr, Bool, true, false, ◌&&◌, ◌==◌, ◌||◌, if◌then◌else◌, List, [], ◌∷◌, map, Some, None, refl, sym, ap, subst, ◌∙◌, arith, append-nil}
 use Rattle.std.specs.Prelude.{slice_get}
 use Rattle.std.specs.List.{AllByRecursion, IsDistinct, cons_option, list_any}
 use Rattle.std.proofs.lemmas.Bool.{eq-eqb}
@@ -8,6 +8,7 @@ use Rattle.std.proofs.lemmas.Option.{none-some, same_Some, slice_get_within}
 use Rattle.m2_cli.specs.ThreadsOrder.{left_there}
 use Rattle.m2_fabric.specs.Fabric.{SeenFabric}
 use Rattle.m2_promise.proofs.Ends.{all_at}
+use Rattle.m2_promise.proofs.KeptEnds.{same_are_same}
 use Rattle.m2_promise.specs.AtEnd.{AreAtEnd, AreFacing, IsLinkInOrder, IsNodeAtEnd, IsOfLines, Named, is_down_of, is_down_step, named, posts_planned, posts_to}
 use Rattle.m2_run.proofs.JoinedSides.{IsOfNode, all_of_node}
 use Rattle.m2_run.specs.Joined.{IsJoinedBy}
@@ -17,6 +18,7 @@ use Rattle.m2_run.specs.Ran.{HasRan}
 use Rattle.m2_run.specs.Rests.{EndedNow, IsEndOf, loose_of}
 use Rattle.m2_run.specs.Weaving.{HasHistory, towards}
 use Rattle.m2_run.specs.declared.outcome.Outcome.{Outcome}
+use Rattle.m2_run.specs.m2_links_go_on.LogLaws.{logging_in}
 use Rattle.m2_run.specs.m2_links_go_on.Logged.{AreOfTheirPeers}
 use Rattle.m2_run.specs.m2_links_go_on.Made.{NodeMade, SideMade, side_made}
 use Rattle.m2_run.specs.m2_links_go_on.m2_growth.Halves.{IsOneOf}
@@ -167,12 +169,19 @@ module _ (may_give : ℕ → Type 0) (limit : ℕ) (nodes : List Node) (links : 
       let all = all_of_node nodes links lines k it.is.node.word it.node n way.course.made in
       record {
         word = it.is.node.word;
-        named_so = sym (names side_made (λ r. refl) n.center.records) ∙ ap (λ (m : NodeMade). map name_of m.sides) way.course.made
-            ∙ names (side_in lines k) (λ r. refl) (records_of nodes links k it.is.node.word);
+        named_so = same_are_same (sym (names side_made (λ r. refl) n.center.records) ∙ ap (λ (m : NodeMade). map name_of m.sides) way.course.made
+            ∙ names (side_in lines k) (λ r. refl) (records_of nodes links k it.is.node.word));
+        distinct = way.logged.peers;
         of_lines = all_by_place (IsOfLines k (map draft_line lines)) n.center.records
             (λ i r there. of_lines k r (all_at IsRecord n.center.records i r it.is.types.records there) (all_at (IsOfNode nodes lines k) n.center.records i r all there));
-        logged = way.logged;
-        peers = way.peers;
+        centers = logging_in n.center ∷ [];
+        are = record {
+          records = sym (append-nil n.center.records);
+          fast = sym (append-nil n.center.out.fast);
+          queued = sym (append-nil n.center.queued.inner);
+          logged = (way.logged, tt);
+          peers = (way.peers, tt);
+        };
       }
 
   -- ---- a link
@@ -182,7 +191,7 @@ module _ (may_give : ℕ → Type 0) (limit : ℕ) (nodes : List Node) (links : 
       towards j ended.records ≡ Some b → slice_get n.center.records at_place ≡ Some a → a.place ≡ j → b ≡ a
   same_side k j n ended a b at_place here there mine e place =
       let is : IsEndOf n ended = ran.are_ends.each k n ended here there in
-      same_Some b a (sym mine ∙ ap (towards j) is.records ∙ only_towards j n.center.records at_place a (at_end k n here).logged.peers e place)
+      same_Some b a (sym mine ∙ ap (towards j) is.records ∙ only_towards j n.center.records at_place a (at_end k n here).distinct e place)
 
   in_order : RunsJoined may_give nodes links lines → (l : Link) (n m : NodeNow (List Logged)) (a b : RecordNow) → IsOneOf l links → AreFacing (left_there kept) l.a l.b n m a b →
       IsLinkInOrder (link_of a b (loose_of kept))

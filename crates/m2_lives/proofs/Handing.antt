@@ -315,7 +315,7 @@ empty_pieces {X} zs (l ∷ ls) all (piece, rest, left, e, g, more) = e ∙ ap (�
 -- ---- at once
 
 -- what is heard of a peer, among its own calls
-own_calls : (peer : ℕ) (log : List Heard) → heard_in_lives peer (calls_of peer log) ≡ heard_in_lives peer log
+pub own_calls : (peer : ℕ) (log : List Heard) → heard_in_lives peer (calls_of peer log) ≡ heard_in_lives peer log
 own_calls peer [] = refl
 own_calls peer (heard.reset p ∷ log) = at (p == peer) (own_calls peer log)
   where

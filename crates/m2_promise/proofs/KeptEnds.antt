@@ -1,5 +1,5 @@
 -- A script's run that keeps what it keeps between any two deeds is one whose nodes are at their end, wherever its lines lead.
-use Rattle.std.proofs.Common.{◌≡◌, ℕ, ◌+◌, List, [], ◌∷◌, length, map, refl, sym, ap, subst, ◌∙◌}
+use Rattle.std.proofs.Common.{◌≡◌, ℕ, ◌+◌, List, [], ◌∷◌, length, map, refl, sym, ap, subst, ◌∙◌, append-nil}
 use Rattle.std.specs.Prelude.{Some, slice_get}
 use Rattle.std.specs.List.{AllByRecursion, list_any}
 use Rattle.std.specs.Option.{option_map}
@@ -9,6 +9,7 @@ use Rattle.m2_dispatch.specs.Heard.{heard_by}
 use Rattle.m2_dispatch.specs.declared.logged.Logged.{Logged}
 use Rattle.m2_links_go_on.proofs.m2_growth.Among.{each_by, of_each}
 use Rattle.m2_links_go_on.specs.Center.{holding_of}
+use Rattle.m2_links_go_on.specs.LogLaws.{logging_in}
 use Rattle.m2_links_go_on.specs.m2_growth.Halves.{IsOneOf}
 use Rattle.m2_links_go_on.specs.m2_history.WovenLaws.{link_of}
 use Rattle.m2_promise.proofs.Ends.{all_at}
@@ -18,7 +19,7 @@ use Rattle.m2_promise.proofs.PostedPlans.{lines_in_ranges, lines_post}
 use Rattle.m2_promise.proofs.PostsTowards.{IsTowards, is_towards, marked_so}
 use Rattle.m2_promise.proofs.Sides.{from_a, from_b}
 use Rattle.m2_promise.specs.Acting.{holdings_of}
-use Rattle.m2_promise.specs.AtEnd.{AreAtEnd, AreFacing, IsLinkInOrder, IsNodeAtEnd, IsOfLines, Named, is_down_step, named, posts_planned}
+use Rattle.m2_promise.specs.AtEnd.{AreAtEnd, AreFacing, HaveTheSame, IsLinkInOrder, IsNodeAtEnd, IsOfLines, Named, is_down_step, named, posts_planned}
 use Rattle.m2_promise.specs.Delivered.{PostsInRanges}
 use Rattle.m2_promise.specs.DeliveryLaws.{LinksHaveOrders, RunsHaveLinks}
 use Rattle.m2_promise.specs.PostLaws.{EndsArePromised}
@@ -45,6 +46,10 @@ named_in d = record { place = d.place; policy = d.facts.policy; number = d.facts
 sides_name : (rs : List RecordNow) → map named_in (map side_of rs) ≡ map named rs
 sides_name [] = refl
 sides_name (r ∷ rs) = ap (λ l. named r ∷ l) (sides_name rs)
+
+-- a list has the same as itself
+pub same_are_same : {X : Type 0} {xs ys : List X} → xs ≡ ys → HaveTheSame xs ys
+same_are_same e = record { there = λ x one. subst (IsOneOf x) e one; back = λ x one. subst (IsOneOf x) (sym e) one }
 
 module _ (nodes : List Node) (links : List Link) (lines : List Line) (s : RunNow (List Logged)) (types : AllByRecursion PostsOfTypes lines) (kept : IsKept heard_by nodes links s)
     (plans : PlansAreOfLines links (length nodes) lines s) where
@@ -74,11 +79,18 @@ module _ (nodes : List Node) (links : List Link) (lines : List Line) (s : RunNow
       let its = all_at (IsKeptNode heard_by) s.cluster.nodes k n kept.kept e in
       record {
         word = k + 1;
-        named_so = sym (sides_name n.center.records) ∙ ap (map named_in) (kept.sides k n e) ∙ sides_name (records_of nodes links k (k + 1));
+        named_so = same_are_same (sym (sides_name n.center.records) ∙ ap (map named_in) (kept.sides k n e) ∙ sides_name (records_of nodes links k (k + 1)));
+        distinct = its.logged.peers;
         of_lines = each_by (IsOfLines k said) n.center.records
             (λ r one. of_lines k r (of_each IsRecord r n.center.records (records k n e) one) (of_each (IsPlanned k) r n.center.records (plans k n e) one));
-        logged = its.logged;
-        peers = its.peers;
+        centers = logging_in n.center ∷ [];
+        are = record {
+          records = sym (append-nil n.center.records);
+          fast = sym (append-nil n.center.out.fast);
+          queued = sym (append-nil n.center.queued.inner);
+          logged = (its.logged, tt);
+          peers = (its.peers, tt);
+        };
       }
 
   -- ---- a link

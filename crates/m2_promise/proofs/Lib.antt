@@ -13,6 +13,7 @@ pub mod Asking
 pub mod Beside
 pub mod BothEnds
 pub mod Calls
+pub mod Centers
 pub mod ClusterActs
 pub mod Doing
 pub mod Ends
@@ -54,3 +55,4 @@ pub mod Towards
 pub mod Turns
 pub mod Ways
 pub mod Whole
+pub use Rattle.m2_links_go_on.proofs as m2_links_go_on

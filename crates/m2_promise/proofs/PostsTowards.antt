@@ -8,21 +8,19 @@ use Rattle.m2_channel.specs.m2_never_reset.Order.{AreFirstOf}
 use Rattle.m2_channel.specs.m2_never_reset.Orders.{posts_in}
 use Rattle.m2_dispatch.specs.Heard.{heard_by}
 use Rattle.m2_dispatch.specs.declared.logged.Logged.{Logged}
-use Rattle.m2_links_go_on.proofs.AreHeard.{logged_are_heard, logged_are_so}
 use Rattle.m2_lives.specs.Handing.{LogsAreInLives}
-use Rattle.m2_lives.specs.ObservedRun.{IsLogInLives}
 use Rattle.m2_links_go_on.proofs.m2_growth.Among.{of_each}
 use Rattle.m2_links_go_on.specs.LogLaws.{logging_in}
 use Rattle.m2_links_go_on.specs.Logged.{logs_in}
 use Rattle.m2_links_go_on.specs.m2_growth.Halves.{IsOneOf}
 use Rattle.m2_links_go_on.specs.m2_weave.m2_journal.Items.{items_of}
 use Rattle.m2_links_go_on.specs.m2_weave.m2_journal.State.{State}
+use Rattle.m2_promise.proofs.Centers.{IsInCenter, heard_in_center, in_center, lives_in_center, ways_in_center}
 use Rattle.m2_promise.proofs.Ends.{never_marked, only_any, only_towards}
 use Rattle.m2_promise.proofs.Hears.{GoOneWay}
 use Rattle.m2_promise.proofs.Marks.{only_marked, record_marked}
 use Rattle.m2_promise.proofs.PostedPlans.{count_planned, count_posts, posted_first}
 use Rattle.m2_promise.proofs.Sides.{HasNamed, named_by, record_over}
-use Rattle.m2_promise.proofs.Ways.{one_way}
 use Rattle.m2_promise.specs.AtEnd.{AreAtEnd, Beside, IsNodeAtEnd, IsOfLines, Named, is_down_of, is_down_step, posts_planned, posts_to}
 use Rattle.m2_promise.specs.Delivered.{HasHeardInLives, HasHeardPeer, MarksNoneDown}
 use Rattle.m2_promise.specs.Planned.{IsTaken}
@@ -105,40 +103,41 @@ module _ (nodes : List Node) (links : List Link) (lines : List DraftLine) (besid
     pub posts_counted : posts_at s x t.place ≡ posts_between lines x t.place
     posts_counted =
         ap (λ o. sum_by (λ (q : RecordNow). if q.place == t.place then count_by is_post_step q.plan else 0) (records_at o)) e.node_there
-        ∙ only_towards t.place e.node.center.records r its.logged.peers e.side.one place ∙ count_planned r.plan ∙ ap length posts ∙ sym (count_posts x t.place lines)
+        ∙ only_towards t.place e.node.center.records r its.distinct e.side.one place ∙ count_planned r.plan ∙ ap length posts ∙ sym (count_posts x t.place lines)
 
     -- ---- what its node heard
 
     abbrev logs : Logs
     logs = logs_in heard_by (logging_in e.node.center)
 
+    is_in : IsInCenter e.node r
+    is_in = in_center e.node its.centers its.are its.distinct r e.side.one
+
     pub heard : LogsAreLogs → HasHeardPeer logs r
-    heard law = of_each (HasHeardPeer logs) r e.node.center.records (logged_are_heard law heard_by e.node.center.records e.node.center.out e.node.center.queued its.logged) e.side.one
+    heard law = heard_in_center e.node r is_in law
 
     pub in_lives : LogsAreInLives → HasHeardInLives logs r
-    in_lives law =
-        of_each (HasHeardInLives logs) r e.node.center.records
-        (logged_are_so IsLogInLives law heard_by e.node.center.records e.node.center.out e.node.center.queued its.logged) e.side.one
+    in_lives law = lives_in_center e.node r is_in law
 
     pub heard_in_turns : heard_at heard_by s x ≡ in_turns (of_node x s.calls) logs.fast logs.queued
     heard_in_turns = ap (heard_of_node heard_by x s.calls) e.node_there
 
     pub ways : LogsAreLogs → State → GoOneWay t.place logs
-    ways law state = subst (λ n. GoOneWay n logs) place (one_way law heard_by (logging_in e.node.center) its.logged state r e.side.one)
+    ways law state = subst (λ n. GoOneWay n logs) place (ways_in_center e.node r is_in law state)
 
     -- ---- whether it was marked down
 
     is_down_there : is_down_at s x t.place ≡ is_down r
     is_down_there =
         ap (λ o. list_any (λ (q : RecordNow). (q.place == t.place) && is_down q) (records_at o)) e.node_there
-        ∙ only_any is_down t.place e.node.center.records r its.logged.peers e.side.one place
+        ∙ only_any is_down t.place e.node.center.records r its.distinct e.side.one place
 
     -- what its plan and its journal tell is what lines and the node do
     told : (list_any is_down_step r.plan || list_any is_given_up r.journal) ≡ (list_any (is_down_of x t.place) lines || gave_up_at s x t.place)
     told =
         let gave_up : gave_up_at s x t.place ≡ list_any is_given_up r.journal =
         ap (λ o. list_any (λ (q : RecordNow). (q.place == t.place) && list_any is_given_up q.journal) (records_at o)) e.node_there
-        ∙ only_any (λ (q : RecordNow). list_any is_given_up q.journal) t.place e.node.center.records r its.logged.peers e.side.one place in
+        ∙ only_any (λ (q : RecordNow). list_any is_given_up q.journal) t.place e.node.center.records r its.distinct e.side.one place in
         ap (λ b. b || list_any is_given_up r.journal) (of_lines.downs ∙ ap (λ n. list_any (is_down_of x n) lines) place)
         ∙ ap (λ b. list_any (is_down_of x t.place) lines || b) (sym gave_up)
 

@@ -18,6 +18,7 @@ use Rattle.m2_scenario.specs.Order.{AreOfJoined, HearsNoReset, HearsPrefix, Hear
 use Rattle.m2_links_go_on.specs.OfPeers.{IsPeerOf}
 use Rattle.m2_dispatch.specs.m2_policy.declared.path.Key.{Key}
 use Rattle.m2_promise.specs.Posted.{AreHeardInLives, AreSomeOf, HearsInLives, HearsSome, IsAccountedOver, IsMarkedOnlySo, IsPromised, is_lossy, items_by}
+use Rattle.m2_promise.proofs.Centers.{fast_of_peers, queued_of_peers}
 use Rattle.m2_promise.proofs.Hears.{HearsOf}
 use Rattle.m2_promise.proofs.Joined.{AreLaws, KeepsAll, StaysUp, a_hears, a_hears_in_lives, a_hears_some, a_marked, accepted, b_hears, b_hears_in_lives, b_hears_some, b_marked, come_in, is_order, journals, lives_in, marked_in, of_a, of_b, order, records, up_in}
 use Rattle.m2_promise.proofs.Sides.{from_a, from_b, peer_joined}
@@ -223,11 +224,10 @@ module _ (laws : AreLaws) (nodes : List Node) (links : List Link) (lines : List 
   of_peers y None e = tt
   of_peers y (Some n) e =
       let node = ended.each y n e in
-      let its = node.peers in
       let from : (h : Heard) → IsPeerOf n.center.records (peer_of h) → IsPeer (length nodes) links y (peer_of h) = λ h is. peer_joined nodes y node.word links n.center.records node.named_so (peer_of h) is in
       all_turns (λ (h : Heard). IsPeer (length nodes) links y (peer_of h)) (of_node y s.calls) (heard_by n.center.out.fast) (heard_by n.center.queued.inner)
-      (all_so (λ (h : Heard). IsPeerOf n.center.records (peer_of h)) (λ (h : Heard). IsPeer (length nodes) links y (peer_of h)) from (heard_by n.center.out.fast) its.fast)
-      (all_so (λ (h : Heard). IsPeerOf n.center.records (peer_of h)) (λ (h : Heard). IsPeer (length nodes) links y (peer_of h)) from (heard_by n.center.queued.inner) its.queued)
+      (all_so (λ (h : Heard). IsPeerOf n.center.records (peer_of h)) (λ (h : Heard). IsPeer (length nodes) links y (peer_of h)) from (heard_by n.center.out.fast) (fast_of_peers n node.centers node.are))
+      (all_so (λ (h : Heard). IsPeerOf n.center.records (peer_of h)) (λ (h : Heard). IsPeer (length nodes) links y (peer_of h)) from (heard_by n.center.queued.inner) (queued_of_peers n node.centers node.are))
 
   are_joined : AreOfJoined (length nodes) links all
   are_joined = record {

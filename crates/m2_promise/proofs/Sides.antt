@@ -15,7 +15,7 @@ use Rattle.m2_scenario.specs.declared.link.Link.{Link}
 use Rattle.m2_scenario.specs.declared.node.Node.{Node}
 use Rattle.m2_scenario.specs.Draft.{joins}
 use Rattle.m2_script.specs.declared.made.Towards.{Towards}
-use Rattle.m2_promise.specs.AtEnd.{Named, named}
+use Rattle.m2_promise.specs.AtEnd.{HaveTheSame, Named, named}
 use Rattle.m2_script.specs.Made.{facts_of, new_towards, other_of, over, records_of}
 use Rattle.m2_fabric.proofs.m2_lemmas.Booleans.{from_false_true}
 
@@ -122,10 +122,10 @@ module _ (nodes : List Node) (number word : ℕ) where
 
   -- ---- the records of the node, at whatever they have done
 
-  module _ (links : List Link) (records : List RecordNow) (same : map named records ≡ map named (records_of nodes links number word)) where
+  module _ (links : List Link) (records : List RecordNow) (same : HaveTheSame (map named records) (map named (records_of nodes links number word))) where
     -- of whom a record is, a link joins with the node
     of_one : (r : RecordNow) → IsOneOf r records → IsPeer (length nodes) links number r.place
-    of_one r one = by (unmapped (named r) (records_of nodes links number word) (subst (IsOneOf (named r)) same (mapped_one named r records one)))
+    of_one r one = by (unmapped (named r) (records_of nodes links number word) (same.there (named r) (mapped_one named r records one)))
       where
         unmapped : (x : Named) (rs : List RecordNow) → IsOneOf x (map named rs) → (s : RecordNow) × IsOneOf s rs × (x ≡ named s)
         unmapped x [] h = absurd h
@@ -161,14 +161,14 @@ found name (r ∷ rs) (inl e) = record { at = 0; item = r; there = refl; one = i
 found name (r ∷ rs) (inr h) = let it = found name rs h in record { at = suc it.at; item = it.item; there = it.there; one = inr it.one; is = it.is }
 
 -- of a link of the node there is a record
-module _ (nodes : List Node) (links : List Link) (number word : ℕ) (records : List RecordNow) (same : map named records ≡ map named (records_of nodes links number word)) where
+module _ (nodes : List Node) (links : List Link) (number word : ℕ) (records : List RecordNow) (same : HaveTheSame (map named records) (map named (records_of nodes links number word))) where
   pub record_over : (l : Link) (t : Towards) (mine peer : Node) → IsOneOf l links → other_of number l ≡ Some t → slice_get nodes number ≡ Some mine → slice_get nodes t.place ≡ Some peer →
       HasNamed (named_by mine number word t) records
   record_over l t mine peer one other m p =
       let r = new_record (told_by mine peer number word t) t.place in
       let made : over nodes number word (other_of number l) ≡ Some r =
       ap (over nodes number word) other ∙ ap (λ o. new_towards o (slice_get nodes t.place) number word t) m ∙ ap (λ o. new_towards (Some mine) o number word t) p in
-      found (named_by mine number word t) records (subst (IsOneOf (named_by mine number word t)) (sym same) (mapped_one named r (records_of nodes links number word) (one_over nodes number word l r links made one)))
+      found (named_by mine number word t) records (same.back (named_by mine number word t) (mapped_one named r (records_of nodes links number word) (one_over nodes number word l r links made one)))
 
 -- ---- the two nodes of a link
 

@@ -1,12 +1,11 @@
 -- Nodes of a scenario where a run of them has ended, whatever drove it. This project's own.
 use Rattle.std.specs.Prelude.{◌≡◌, ℕ, ◌==◌, ◌&&◌, Bool, true, false, if◌then◌else◌, List, [], ◌∷◌, length, map, slice_get, Some}
-use Rattle.std.specs.List.{AllByRecursion, list_any}
+use Rattle.std.specs.List.{AllByRecursion, flat_map, list_any}
 use Rattle.m2_lives.specs.m2_bytes_fit.m2_trail.Arrivals.{LooseNow}
 use Rattle.m2_dispatch.specs.Heard.{heard_by}
 use Rattle.m2_dispatch.specs.declared.logged.Logged.{Logged}
 use Rattle.m2_dispatch.specs.m2_policy.declared.policy.Policy.{Policy}
-use Rattle.m2_links_go_on.specs.LogLaws.{logging_in}
-use Rattle.m2_links_go_on.specs.Logged.{IsLogged}
+use Rattle.m2_links_go_on.specs.Logged.{AreOfTheirPeers, IsLogged, LoggingNow}
 use Rattle.m2_links_go_on.specs.OfPeers.{AreOfPeers}
 use Rattle.m2_links_go_on.specs.m2_growth.Halves.{IsOneOf}
 use Rattle.m2_links_go_on.specs.m2_history.WovenLaws.{link_of}
@@ -67,14 +66,28 @@ pub record Named : Type 0 where
 abbrev pub named : RecordNow → Named
 named r = record { place = r.place; policy = r.core.facts.policy; number = r.core.facts.node.number; fast = r.core.facts.node.fast; salt = r.core.facts.node.salt }
 
--- The node at place k: its records are over its links, in their order, by some word that was drawn for it; and its dispatchers were called
--- with what they handed on.
+-- each of the one is one of the other, and the other way round
+pub record HaveTheSame {X : Type 0} (xs ys : List X) : Type 0 where
+  pub there : (x : X) → IsOneOf x xs → IsOneOf x ys
+  pub back : (x : X) → IsOneOf x ys → IsOneOf x xs
+
+-- The node's records and calls are those of these centers, one after another; and the dispatchers of each were called with what its records
+-- handed on, and with nothing else.
+pub record AreCentersOf (n : NodeNow (List Logged)) (centers : List (LoggingNow (List Logged))) : Type 0 where
+  pub records : n.center.records ≡ flat_map (λ (c : LoggingNow (List Logged)). c.records) centers
+  pub fast : n.center.out.fast ≡ flat_map (λ (c : LoggingNow (List Logged)). c.out.fast) centers
+  pub queued : n.center.queued.inner ≡ flat_map (λ (c : LoggingNow (List Logged)). c.queued.inner) centers
+  pub logged : AllByRecursion (IsLogged heard_by) centers
+  pub peers : AllByRecursion (λ (c : LoggingNow (List Logged)). AreOfPeers heard_by c.records c.out c.queued) centers
+
+-- The node at place k: its records are over its links, no two of one peer, by some word that was drawn for it; and it has centers.
 pub record IsNodeAtEnd (nodes : List Node) (links : List Link) (lines : List DraftLine) (k : ℕ) (n : NodeNow (List Logged)) : Type 0 where
   pub word : ℕ
-  pub named_so : map named n.center.records ≡ map named (records_of nodes links k word)
+  pub named_so : HaveTheSame (map named n.center.records) (map named (records_of nodes links k word))
+  pub distinct : AreOfTheirPeers n.center.records
   pub of_lines : AllByRecursion (IsOfLines k lines) n.center.records
-  pub logged : IsLogged heard_by (logging_in n.center)
-  pub peers : AreOfPeers heard_by n.center.records n.center.out n.center.queued
+  pub centers : List (LoggingNow (List Logged))
+  pub are : AreCentersOf n centers
 
 -- ---- all of them
 
