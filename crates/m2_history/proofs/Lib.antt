@@ -5,6 +5,9 @@ pub mod Both
 pub mod BothRecords
 pub mod Bytes
 pub mod Counting
+pub mod CrossedLink
+pub mod Crossing
+pub mod CrossingTrails
 pub mod Cuts
 pub mod Delivering
 pub mod Fits

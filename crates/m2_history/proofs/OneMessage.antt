@@ -129,7 +129,7 @@ near = record { journal = journal_of_a; trails = []; ends = end_with near_log �
 abbrev far : PartsNow
 far = record { journal = journal_of_b; trails = its_trail ∷ []; ends = end_with far_log ∷ [] }
 
-hello : Message
+unfoldable pub hello : Message
 hello = record { header = hello_message.header; front = record { bytes = 0x61 ∷ [] }; middle = record { bytes = [] }; tail = record { bytes = [] } }
 
 abbrev plan_by : Bool → List PlanStep
@@ -299,7 +299,7 @@ sides false = record { lawful = lawful_b; ends = (holds, tt); trails = record { 
 none_there : All (λ b. b < 256) []
 none_there k d below = absurd (omega (arith, below))
 
-can_be_posted : KeepsFields (content_of hello)
+pub can_be_posted : KeepsFields (content_of hello)
 unfolding hello
 can_be_posted =
     sendable_keeps hello

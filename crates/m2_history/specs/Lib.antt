@@ -1,5 +1,6 @@
 pub mod Actors
 pub mod Counted
+pub mod Crossed
 pub mod Delivered
 pub mod Ends
 pub mod HalfStrands

@@ -52,6 +52,7 @@ pub use side::Side;
 pub use weaving::weave_parts;
 pub use woven::weave;
 pub use woven_laws::{
-    a_link_is_woven, a_marked_link_is_woven, records_are_sides, woven_bytes_fit,
-    woven_comes_in_order, woven_is_a_run_to_a_mark, woven_is_delivered, woven_is_never_reset,
+    a_crossed_link_is_woven, a_link_is_woven, a_marked_link_is_woven, records_are_sides,
+    woven_bytes_fit, woven_comes_in_order, woven_is_a_run_to_a_mark, woven_is_delivered,
+    woven_is_never_reset,
 };

@@ -1,6 +1,7 @@
 //! What is promised of a link whose sides are woven. These functions do nothing: each stands for the law that
 //! its contract names.
 
+ghost use Rattle.m2_history.specs.Crossed as crossed;
 ghost use Rattle.m2_history.specs.WovenLaws as laws;
 ghost use Rattle.m2_history.specs.Lossy as lossy;
 ghost use Rattle.m2_history.specs.Marked as marked;
@@ -95,4 +96,11 @@ pub fn a_link_is_woven()
 /// acknowledged before, and behind the mark the session is reset.
 pub fn a_marked_link_is_woven()
     ensures { marked.AMarkedLinkIsWoven }
+{}
+
+/// There is one on which a socket is closed behind some bytes of a message and both sides connect at once: the far side, which has
+/// opened a socket of its own, tells its peer to ask again, and then goes on over the peer's socket and closes its own. The
+/// message is accepted, acknowledged and dispatched once.
+pub fn a_crossed_link_is_woven()
+    ensures { crossed.ACrossedLinkIsWoven }
 {}
