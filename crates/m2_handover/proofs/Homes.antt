@@ -11,8 +11,10 @@ use Rattle.m2_fabric.specs.declared.port.Taken.TheVariants as accept
 use Rattle.m2_fabric.specs.declared.socket.SocketId.{SocketId}
 use Rattle.m2_fabric.proofs.Sockets.{among_front, among_last, same_equal}
 use Rattle.m2_bytes.proofs.m2_lemmas.Booleans.{from_false_true}
-use Rattle.m2_trail.specs.Arrivals.{LooseNow}
-use Rattle.m2_handover.specs.Door.{DoorNow, StaysThere, TakesIn, weight_of, weight_on_way, weight_put}
+use Rattle.m2_trail.specs.Arrivals.{LooseNow, left_of}
+use Rattle.m2_trail.specs.Incoming.{IncomingNow}
+use Rattle.m2_handover.proofs.Weights.{left_weigh}
+use Rattle.m2_handover.specs.Door.{DoorNow, StaysThere, TakesIn, weight_of, weight_of_half, weight_on_way, weight_put}
 use Rattle.m2_handover.specs.Handed.{OnItsWay, left_behind}
 use Rattle.m2_handover.specs.Home.{AreAllThere, HasTakenAll, HomeNow, IsHome, IsKnown, IsNoWait, asked_at, asked_at_door, put_at, unasked_at, unasked_at_door, weight_at_door, weight_next}
 
@@ -144,10 +146,10 @@ taken_all accept.NoMemory old new h = tt
 
 -- ---- its end
 
-left_weigh : (weight : SocketId → ℕ) (hs : List OnItsWay) → sum_by (weight_of weight) (map left_behind hs) ≡ sum_by (weight_on_way weight) hs
-left_weigh weight [] = refl
-left_weigh weight (h ∷ hs) =
-    omega (arith, sum_by-cons (weight_of weight) (left_behind h) (map left_behind hs), sum_by-cons (weight_on_way weight) h hs, left_weigh weight hs)
+halves_weigh : (weight : SocketId → ℕ) (hs : List IncomingNow) → sum_by (weight_of weight) (map left_of hs) ≡ sum_by (weight_of_half weight) hs
+halves_weigh weight [] = refl
+halves_weigh weight (h ∷ hs) =
+    omega (arith, sum_by-cons (weight_of weight) (left_of h) (map left_of hs), sum_by-cons (weight_of_half weight) h hs, halves_weigh weight hs)
 
 next_weighs : (weight : SocketId → ℕ) (next : Option OnItsWay) → sum_by (weight_of weight) (map left_behind (option_to_list next)) ≡ weight_next weight next
 next_weighs weight None = refl
@@ -156,7 +158,7 @@ next_weighs weight (Some h) = omega (arith, sum_by-cons (weight_of weight) (left
 door_weighs : (weight : SocketId → ℕ) (door : Option DoorNow) →
     sum_by (weight_of weight) (unasked_at_door door) + sum_by (weight_of weight) (asked_at_door door) + weight_put weight (put_at door) ≡ weight_at_door weight door
 door_weighs weight None = refl
-door_weighs weight (Some d) = omega (arith, sum_by-append (weight_of weight) d.over d.halves, left_weigh weight d.asked)
+door_weighs weight (Some d) = omega (arith, sum_by-append (weight_of weight) d.over (map left_of d.halves), halves_weigh weight d.halves, left_weigh weight d.asked)
 
 pub all_there : (h : HomeNow) (at_door on_way : List LooseNow) → IsHome h → at_door ≡ unasked_at h → on_way ≡ asked_at h → AreAllThere h (at_door ++ on_way)
 all_there h at_door on_way home unasked asked weight =

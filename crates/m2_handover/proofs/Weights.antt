@@ -1,11 +1,14 @@
 -- Sockets of a door, however they are weighed.
-use Rattle.std.proofs.Common.{◌≡◌, ℕ, zero, suc, ◌+◌, List, [], ◌∷◌, ◌++◌, slice_get, slice_set, sum_by, Option, Some, None, refl, sym, ap, ◌∙◌, arith}
-use Rattle.std.proofs.lemmas.List.Sums.{sum_by-cons, sum_by_push}
+use Rattle.std.proofs.Common.{◌≡◌, ℕ, zero, suc, ◌+◌, List, [], ◌∷◌, ◌++◌, map, slice_get, slice_set, sum_by, Option, Some, None, refl, sym, ap, ◌∙◌, arith}
+use Rattle.std.proofs.lemmas.List.Sums.{sum_by-append, sum_by-cons, sum_by_push}
 use Rattle.m2_fabric.specs.declared.socket.SocketId.{SocketId}
 use Rattle.m2_mailbox.specs.Views.{put_by}
-use Rattle.m2_trail.specs.Arrivals.{LooseNow}
-use Rattle.m2_handover.specs.Door.{DoorNow, GoesBy, Hands, KeepsAll, Stands, TakesIn, weight_of, weight_on_way, weight_put, weight_through}
-use Rattle.m2_handover.specs.Handed.{OnItsWay}
+use Rattle.m2_trail.specs.Arrivals.{LooseNow, closed_of, left_of}
+use Rattle.m2_trail.specs.Incoming.{IncomingNow}
+use Rattle.m2_trail.specs.declared.turn.HalfTurn.{HalfTurn}
+use Rattle.m2_trail.specs.declared.turn.HalfTurn.TheVariants as half
+use Rattle.m2_handover.specs.Door.{DoorNow, GoesBy, Hands, KeepsAll, Stands, TakesIn, asked_by, asked_in, over_by, stays_by, weight_of, weight_of_half, weight_on_way, weight_put, weight_through}
+use Rattle.m2_handover.specs.Handed.{OnItsWay, left_behind}
 
 -- ---- lists
 
@@ -48,13 +51,13 @@ comes_in id before after old new stands asked put made weight =
     let sent : weight_put weight new.put ≡ weight_put weight old.put = ap (weight_put weight) put in
     omega (arith, stands weight, more, same, sent)
 
-pub stands_last : (id : SocketId) (halves over after : List LooseNow) (l : LooseNow) → after ≡ halves ++ l ∷ [] → l.end.id ≡ id → Stands id (halves, over) (after, over)
-stands_last id halves over after l e is weight =
-    let more : sum_by (weight_of weight) after ≡ sum_by (weight_of weight) halves + weight l.end.id = ap (sum_by (weight_of weight)) e ∙ sum_by_push (weight_of weight) halves l in
+pub stands_last : (id : SocketId) (halves after : List IncomingNow) (over : List LooseNow) (l : IncomingNow) → after ≡ halves ++ l ∷ [] → l.end.id ≡ id → Stands id (halves, over) (after, over)
+stands_last id halves after over l e is weight =
+    let more : sum_by (weight_of_half weight) after ≡ sum_by (weight_of_half weight) halves + weight l.end.id = ap (sum_by (weight_of_half weight)) e ∙ sum_by_push (weight_of_half weight) halves l in
     let same : weight l.end.id ≡ weight id = ap weight is in
     omega (arith, more, same)
 
-pub is_over_last : (id : SocketId) (halves over after : List LooseNow) (l : LooseNow) → after ≡ over ++ l ∷ [] → l.end.id ≡ id → Stands id (halves, over) (halves, after)
+pub is_over_last : (id : SocketId) (halves : List IncomingNow) (over after : List LooseNow) (l : LooseNow) → after ≡ over ++ l ∷ [] → l.end.id ≡ id → Stands id (halves, over) (halves, after)
 is_over_last id halves over after l e is weight =
     let more : sum_by (weight_of weight) after ≡ sum_by (weight_of weight) over + weight l.end.id = ap (sum_by (weight_of weight)) e ∙ sum_by_push (weight_of weight) over l in
     let same : weight l.end.id ≡ weight id = ap weight is in
@@ -62,43 +65,33 @@ is_over_last id halves over after l e is weight =
 
 -- ---- the half that comes next
 
--- it goes on, and is the last one then
-pub goes_on : (old new : DoorNow) (h g : LooseNow) (rest : List LooseNow) → old.halves ≡ h ∷ rest → new.halves ≡ rest ++ g ∷ [] → g.end.id ≡ h.end.id
-    → new.asked ≡ old.asked → new.over ≡ old.over → new.put ≡ old.put → KeepsAll old new
-goes_on old new h g rest was is id asked over put weight =
-    let f = weight_of weight in
-    let before : sum_by f old.halves ≡ weight h.end.id + sum_by f rest = ap (sum_by f) was ∙ sum_by-cons f h rest in
-    let after : sum_by f new.halves ≡ sum_by f rest + weight g.end.id = ap (sum_by f) is ∙ sum_by_push f rest g in
-    let one : weight g.end.id ≡ weight h.end.id = ap weight id in
-    let same : sum_by (weight_on_way weight) new.asked ≡ sum_by (weight_on_way weight) old.asked = ap (sum_by (weight_on_way weight)) asked in
-    let done : sum_by f new.over ≡ sum_by f old.over = ap (sum_by f) over in
-    let sent : weight_put weight new.put ≡ weight_put weight old.put = ap (weight_put weight) put in
-    omega (arith, before, after, one, same, done, sent)
+pub left_weigh : (weight : SocketId → ℕ) (hs : List OnItsWay) → sum_by (weight_of weight) (map left_behind hs) ≡ sum_by (weight_on_way weight) hs
+left_weigh weight [] = refl
+left_weigh weight (h ∷ hs) =
+    omega (arith, sum_by-cons (weight_of weight) (left_behind h) (map left_behind hs), sum_by-cons (weight_on_way weight) h hs, left_weigh weight hs)
 
--- it was asked
-pub is_asked : (old new : DoorNow) (h : LooseNow) (a : OnItsWay) → old.halves ≡ h ∷ new.halves → new.asked ≡ old.asked ++ a ∷ [] → a.end.id ≡ h.end.id
-    → new.over ≡ old.over → new.put ≡ old.put → KeepsAll old new
-is_asked old new h a was is id over put weight =
-    let f = weight_of weight in
-    let g = weight_on_way weight in
-    let before : sum_by f old.halves ≡ weight h.end.id + sum_by f new.halves = ap (sum_by f) was ∙ sum_by-cons f h new.halves in
-    let after : sum_by g new.asked ≡ sum_by g old.asked + weight a.end.id = ap (sum_by g) is ∙ sum_by_push g old.asked a in
-    let one : weight a.end.id ≡ weight h.end.id = ap weight id in
-    let done : sum_by f new.over ≡ sum_by f old.over = ap (sum_by f) over in
-    let sent : weight_put weight new.put ≡ weight_put weight old.put = ap (weight_put weight) put in
-    omega (arith, before, after, one, done, sent)
+-- wherever a half is behind its turn, it weighs what it weighed
+turned_weighs : (weight : SocketId → ℕ) (turn : HalfTurn) (h : IncomingNow) →
+    sum_by (weight_of_half weight) (stays_by turn h) + sum_by (weight_of weight) (asked_by turn h) + sum_by (weight_of weight) (over_by turn h) ≡ weight h.end.id
+turned_weighs weight half.Asked h = omega (arith, sum_by-cons (weight_of weight) (left_of h) [])
+turned_weighs weight half.Over h = omega (arith, sum_by-cons (weight_of weight) (closed_of h) [])
+turned_weighs weight half.Waits h = omega (arith, sum_by-cons (weight_of_half weight) h [])
+turned_weighs weight half.Busy h = omega (arith, sum_by-cons (weight_of_half weight) h [])
+turned_weighs weight half.NoMemory h = omega (arith, sum_by-cons (weight_of_half weight) h [])
 
--- it is over
-pub is_over : (old new : DoorNow) (h l : LooseNow) → old.halves ≡ h ∷ new.halves → new.over ≡ old.over ++ l ∷ [] → l.end.id ≡ h.end.id
-    → new.asked ≡ old.asked → new.put ≡ old.put → KeepsAll old new
-is_over old new h l was is id asked put weight =
+-- it goes where its turn leads
+pub goes_where : (turn : HalfTurn) (next behind : IncomingNow) (rest : List IncomingNow) (old new : DoorNow) → old.halves ≡ next ∷ rest → behind.end.id ≡ next.end.id
+    → new.halves ≡ rest ++ stays_by turn behind → asked_in new ≡ asked_in old ++ asked_by turn behind → new.over ≡ old.over ++ over_by turn behind → new.put ≡ old.put → KeepsAll old new
+goes_where turn next behind rest old new was id halves asked over put weight =
     let f = weight_of weight in
-    let before : sum_by f old.halves ≡ weight h.end.id + sum_by f new.halves = ap (sum_by f) was ∙ sum_by-cons f h new.halves in
-    let after : sum_by f new.over ≡ sum_by f old.over + weight l.end.id = ap (sum_by f) is ∙ sum_by_push f old.over l in
-    let one : weight l.end.id ≡ weight h.end.id = ap weight id in
-    let same : sum_by (weight_on_way weight) new.asked ≡ sum_by (weight_on_way weight) old.asked = ap (sum_by (weight_on_way weight)) asked in
+    let g = weight_of_half weight in
+    let before : sum_by g old.halves ≡ weight next.end.id + sum_by g rest = ap (sum_by g) was ∙ sum_by-cons g next rest in
+    let stands : sum_by g new.halves ≡ sum_by g rest + sum_by g (stays_by turn behind) = ap (sum_by g) halves ∙ sum_by-append g rest (stays_by turn behind) in
+    let ask : sum_by f (asked_in new) ≡ sum_by f (asked_in old) + sum_by f (asked_by turn behind) = ap (sum_by f) asked ∙ sum_by-append f (asked_in old) (asked_by turn behind) in
+    let done : sum_by f new.over ≡ sum_by f old.over + sum_by f (over_by turn behind) = ap (sum_by f) over ∙ sum_by-append f old.over (over_by turn behind) in
+    let one : weight behind.end.id ≡ weight next.end.id = ap weight id in
     let sent : weight_put weight new.put ≡ weight_put weight old.put = ap (weight_put weight) put in
-    omega (arith, before, after, one, same, sent)
+    omega (arith, before, stands, ask, done, one, sent, turned_weighs weight turn behind, left_weigh weight old.asked, left_weigh weight new.asked)
 
 -- ---- the asked socket that comes next
 
@@ -114,7 +107,7 @@ is_handed old new h was hands halves over weight =
     let g = weight_on_way weight in
     let before : sum_by g old.asked ≡ weight h.end.id + sum_by g new.asked = ap (sum_by g) was ∙ sum_by-cons g h new.asked in
     let sent = goes_by weight hands.0 h old.put new.put hands.1 in
-    let same : sum_by (weight_of weight) new.halves ≡ sum_by (weight_of weight) old.halves = ap (sum_by (weight_of weight)) halves in
+    let same : sum_by (weight_of_half weight) new.halves ≡ sum_by (weight_of_half weight) old.halves = ap (sum_by (weight_of_half weight)) halves in
     let done : sum_by (weight_of weight) new.over ≡ sum_by (weight_of weight) old.over = ap (sum_by (weight_of weight)) over in
     omega (arith, before, sent, same, done)
 
@@ -126,6 +119,6 @@ comes_back old new h left rest was is hands halves over weight =
     let after : sum_by g new.asked ≡ sum_by g rest + weight left.end.id = ap (sum_by g) is ∙ sum_by_push g rest left in
     let one : weight left.end.id ≡ weight h.end.id = ap (weight_on_way weight) hands.0 in
     let sent : weight_put weight new.put ≡ weight_put weight old.put = ap (weight_put weight) hands.1 in
-    let same : sum_by (weight_of weight) new.halves ≡ sum_by (weight_of weight) old.halves = ap (sum_by (weight_of weight)) halves in
+    let same : sum_by (weight_of_half weight) new.halves ≡ sum_by (weight_of_half weight) old.halves = ap (sum_by (weight_of_half weight)) halves in
     let done : sum_by (weight_of weight) new.over ≡ sum_by (weight_of weight) old.over = ap (sum_by (weight_of weight)) over in
     omega (arith, before, after, one, sent, same, done)

@@ -1,10 +1,15 @@
 -- A node's door, and what a turn of it changes there and at its port. This project's own.
-use Rattle.std.specs.Prelude.{◌≡◌, ◌⊎◌, ℕ, ◌+◌, true, List, ◌++◌, length, map, slice_get, slice_set, sum_by, Option, Some, None}
+use Rattle.std.specs.Prelude.{◌≡◌, ◌⊎◌, ℕ, ◌+◌, true, List, [], ◌∷◌, ◌++◌, length, map, slice_get, slice_set, sum_by, Option, Some, None}
+use Rattle.std.specs.List.{AllByRecursion, flat_map}
 use Rattle.m2_edge.specs.Faults.{HasRisen, next_count}
 use Rattle.m2_fabric.specs.Port.{SeenPort}
 use Rattle.m2_fabric.specs.declared.socket.SocketId.{SocketId}
 use Rattle.m2_mailbox.specs.Views.{put_by}
-use Rattle.m2_trail.specs.Arrivals.{LooseNow}
+use Rattle.m2_trail.specs.Arrivals.{LooseNow, closed_of, left_of}
+use Rattle.m2_trail.specs.Incoming.{IncomingNow}
+use Rattle.m2_trail.specs.Turn.{AdvancesAs}
+use Rattle.m2_trail.specs.declared.turn.HalfTurn.{HalfTurn}
+use Rattle.m2_trail.specs.declared.turn.HalfTurn.TheVariants as half
 use Rattle.m2_handover.specs.Handed.{OnItsWay, left_behind}
 use Rattle.m2_handover.specs.declared.door.DoorTurn.{DoorTurn}
 use Rattle.m2_handover.specs.declared.door.DoorTurn.TheVariants as turn
@@ -13,14 +18,14 @@ use Rattle.m2_handover.specs.declared.door.TheConstants.{MOST_ACCEPTS}
 -- Halves that weren't asked yet, in order; sockets that were, whose home has had no room; halves that are over; and what was put
 -- by each way.
 pub record DoorNow : Type 0 where
-  pub halves : List LooseNow
+  pub halves : List IncomingNow
   pub asked : List OnItsWay
   pub over : List LooseNow
   pub put : List (List (List OnItsWay))
 
 -- the halves of a door that weren't asked, those that are over first
 abbrev pub unasked_in : DoorNow → List LooseNow
-unasked_in d = d.over ++ d.halves
+unasked_in d = d.over ++ map left_of d.halves
 
 -- those that were, and that nobody went on with
 abbrev pub asked_in : DoorNow → List LooseNow
@@ -31,6 +36,9 @@ asked_in d = map left_behind d.asked
 abbrev pub weight_of : (SocketId → ℕ) → LooseNow → ℕ
 weight_of weight l = weight l.end.id
 
+abbrev pub weight_of_half : (SocketId → ℕ) → IncomingNow → ℕ
+weight_of_half weight h = weight h.end.id
+
 abbrev pub weight_on_way : (SocketId → ℕ) → OnItsWay → ℕ
 weight_on_way weight h = weight h.end.id
 
@@ -40,7 +48,7 @@ weight_put weight put = sum_by (sum_by (sum_by (weight_on_way weight))) put
 
 -- of those that a door has
 abbrev pub weight_in : (SocketId → ℕ) → DoorNow → ℕ
-weight_in weight d = sum_by (weight_of weight) d.halves + sum_by (weight_on_way weight) d.asked + sum_by (weight_of weight) d.over
+weight_in weight d = sum_by (weight_of_half weight) d.halves + sum_by (weight_on_way weight) d.asked + sum_by (weight_of weight) d.over
 
 -- of those that a door has, and those that it has handed over
 abbrev pub weight_through : (SocketId → ℕ) → DoorNow → ℕ
@@ -55,9 +63,75 @@ abbrev pub TakesIn : (before after : List SocketId) → DoorNow → DoorNow → 
 TakesIn before after old new = (weight : SocketId → ℕ) → weight_through weight new + sum_by weight before ≡ weight_through weight old + sum_by weight after
 
 -- a socket came to halves that stand, or to those that are over
-abbrev pub Stands : SocketId → (old new : List LooseNow × List LooseNow) → Type 0
-Stands id old new = (weight : SocketId → ℕ) → sum_by (weight_of weight) new.0 + sum_by (weight_of weight) new.1
-    ≡ sum_by (weight_of weight) old.0 + sum_by (weight_of weight) old.1 + weight id
+abbrev pub Stands : SocketId → (old new : List IncomingNow × List LooseNow) → Type 0
+Stands id old new = (weight : SocketId → ℕ) → sum_by (weight_of_half weight) new.0 + sum_by (weight_of weight) new.1
+    ≡ sum_by (weight_of_half weight) old.0 + sum_by (weight_of weight) old.1 + weight id
+
+-- these halves stand before others
+abbrev pub StandBefore : (old new : List IncomingNow) → Type 0
+StandBefore old new = (more : List IncomingNow) × (new ≡ old ++ more)
+
+-- ---- halves that shake hands
+
+-- a half before its turn, what that came to, and the half behind it
+pub record Shaken : Type 0 where
+  pub before : IncomingNow
+  pub turn : HalfTurn
+  pub behind : IncomingNow
+
+-- it had memory
+abbrev pub HadMemory : HalfTurn → Type 0
+HadMemory half.NoMemory = ⊥
+HadMemory _ = Unit {0}
+
+-- its turn is that of a half, which had memory
+pub record HasShaken (s : Shaken) : Type 0 where
+  pub advances : AdvancesAs s.turn s.before s.behind
+  pub memory : HadMemory s.turn
+
+-- where it is then: it stands at the door still, it was asked, or it is over
+abbrev pub stays_by : HalfTurn → IncomingNow → List IncomingNow
+stays_by half.Asked h = []
+stays_by half.Over h = []
+stays_by _ h = h ∷ []
+
+abbrev pub asked_by : HalfTurn → IncomingNow → List LooseNow
+asked_by half.Asked h = left_of h ∷ []
+asked_by _ h = []
+
+abbrev pub over_by : HalfTurn → IncomingNow → List LooseNow
+over_by half.Over h = closed_of h ∷ []
+over_by _ h = []
+
+-- The half that comes next takes its turn, and is then where that leads.
+pub record ShakesNext (rest : List IncomingNow) (s : Shaken) (old new : DoorNow) : Type 0 where
+  pub has : HasShaken s
+  pub halves : new.halves ≡ rest ++ stays_by s.turn s.behind
+  pub asked : asked_in new ≡ asked_in old ++ asked_by s.turn s.behind
+  pub over : new.over ≡ old.over ++ over_by s.turn s.behind
+  pub put : new.put ≡ old.put
+
+-- so does the first one of a door, where there is one
+abbrev pub ShakesFirst : DoorNow → DoorNow → Type 0
+ShakesFirst old new = (next : IncomingNow) (rest : List IncomingNow) → old.halves ≡ next ∷ rest →
+    (s : Shaken) × (s.before ≡ next) × ShakesNext rest s old new
+
+-- Of halves that took their turns, these did and those are to come.
+pub record HaveShaken (turned : List Shaken) (rest : List IncomingNow) (old new : DoorNow) : Type 0 where
+  pub each : AllByRecursion HasShaken turned
+  pub stood : old.halves ≡ map (λ (s : Shaken). s.before) turned ++ rest
+  pub halves : new.halves ≡ rest ++ flat_map (λ (s : Shaken). stays_by s.turn s.behind) turned
+  pub asked : asked_in new ≡ asked_in old ++ flat_map (λ (s : Shaken). asked_by s.turn s.behind) turned
+  pub over : new.over ≡ old.over ++ flat_map (λ (s : Shaken). over_by s.turn s.behind) turned
+  pub put : new.put ≡ old.put
+
+-- Each half that stood has taken its turn, and is where that led; those that were asked may be handed over then.
+pub record ShakesAll (old new : DoorNow) : Type 0 where
+  pub turned : List Shaken
+  pub mid : DoorNow
+  pub shaken : HaveShaken turned [] old mid
+  pub halves : new.halves ≡ mid.halves
+  pub over : new.over ≡ mid.over
 
 -- ---- handing over
 
@@ -110,6 +184,11 @@ LetsOneIn (Some end) old new = LetsIn end old new
 abbrev pub LetsAllIn : DoorTurn → SeenPort → SeenPort → Type 0
 LetsAllIn turn.Done old new = (new.quiet ≡ true) ⊎ (length new.made ≡ length old.made + MOST_ACCEPTS)
 LetsAllIn _ old new = Unit {0}
+
+-- Where all went well, each half that stood has taken its turn, and so has each that came.
+abbrev pub Shakes : DoorTurn → DoorNow → DoorNow → Type 0
+Shakes turn.Done old new = (came : DoorNow) × StandBefore old.halves came.halves × ShakesAll came new
+Shakes _ old new = Unit {0}
 
 -- One was accepted, or the accept found none.
 abbrev pub LetsTheNextIn : Option DoorTurn → SeenPort → SeenPort → Type 0

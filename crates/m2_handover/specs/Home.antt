@@ -9,9 +9,10 @@ use Rattle.m2_fabric.specs.Sockets.{goes_to, is_among}
 use Rattle.m2_fabric.specs.declared.port.Taken.{Taken}
 use Rattle.m2_fabric.specs.declared.port.Taken.TheVariants as accept
 use Rattle.m2_fabric.specs.declared.socket.SocketId.{SocketId}
-use Rattle.m2_handover.specs.Door.{DoorNow, LetsAllIn, asked_in, unasked_in, weight_of, weight_on_way, weight_put, weight_through}
+use Rattle.m2_handover.specs.Door.{DoorNow, LetsAllIn, Shakes, asked_in, unasked_in, weight_of, weight_on_way, weight_put, weight_through}
 use Rattle.m2_handover.specs.End.{told_nothing}
 use Rattle.m2_handover.specs.Handed.{OnItsWay, left_behind}
+use Rattle.m2_handover.specs.declared.door.DoorTurn.{DoorTurn}
 use Rattle.m2_handover.specs.declared.door.DoorTurn.TheVariants as turn
 use Rattle.m2_trail.specs.Arrivals.{LooseNow}
 
@@ -42,10 +43,16 @@ abbrev pub TakesOver : Option (Taken SeenEnd) → HomeNow → HomeNow → Type 0
 TakesOver None old new = shown new ≡ shown old
 TakesOver (Some taken) old new = Accepts taken (shown old) (shown new)
 
+-- where this port has the node's door: what the door does
+abbrev pub ShakesAtDoor : DoorTurn → (old new : Option DoorNow) → Type 0
+ShakesAtDoor end (Some old) (Some new) = Shakes end old new
+ShakesAtDoor end (Some old) None = ⊥
+ShakesAtDoor end None new = Unit {0}
+
 -- Where an accept finds none, nothing that was taken out of the inbox waits to be accepted; and where this port has the node's door,
--- all that waited at the port inside were let in.
+-- all that waited at the port inside were let in, and all halves at the door have taken their turns.
 abbrev pub HasTakenAll : {E : Type 0} → Taken E → HomeNow → HomeNow → Type 0
-HasTakenAll accept.NotYet old new = (new.next ≡ None) × IfSome old.door (λ d. LetsAllIn turn.Done old.inner new.inner)
+HasTakenAll accept.NotYet old new = (new.next ≡ None) × IfSome old.door (λ d. LetsAllIn turn.Done old.inner new.inner) × ShakesAtDoor turn.Done old.door new.door
 HasTakenAll _ old new = Unit {0}
 
 -- an accept that doesn't say that there is none

@@ -1,10 +1,11 @@
 //! The door of a node: sockets that it accepts for all of its event threads.
 
-ghost use Rattle.std.specs.Prelude.{◌≡◌, ◌+◌, ◌++◌, ◌<◌, ◌≤◌, [], IfOk, IsSome, OnOk, length, map, vec_capacity, vec_len};
+ghost use Rattle.std.specs.Prelude.{◌≡◌, ◌+◌, ◌++◌, ◌<◌, ◌≤◌, [], IfOk, IsSome, List, OnOk, length, map, vec_capacity, vec_len};
 ghost use Rattle.std.specs.VecDeque.{deque_capacity, deque_len};
-ghost use Rattle.m2_handover.specs.Door.{Hands, KeepsAll, LetsAllIn, LetsIn, LetsOneIn, LetsTheNextIn, Stands, TakesIn};
+ghost use Rattle.m2_handover.specs.Door.{Hands, HaveShaken, KeepsAll, LetsAllIn, LetsIn, LetsOneIn, LetsTheNextIn, Shaken, Shakes, ShakesAll, ShakesFirst, StandBefore, Stands, TakesIn, unasked_in};
 ghost use Rattle.m2_handover.specs.Handed.{left_behind};
 ghost use Rattle.m2_handover.specs.declared.door.TheConstants.{MOST_AT_DOOR};
+ghost use Rattle.m2_trail.specs.Arrivals.{left_of};
 ghost use Rattle.m2_trail.specs.declared.incoming.TheConstants.{MOST_READ};
 
 use crate::handed::Handed;
@@ -38,7 +39,7 @@ pub(crate) enum DoorTurn {
     NoMemory,
 }
 
-/// A half at a door, of which nothing was judged. Contracts see it as it may be left.
+/// A half at a door, of which nothing was judged. Contracts see the half.
 #[derive(Drop)]
 struct AtDoor<E: End> {
     half: Incoming<E>,
@@ -46,11 +47,11 @@ struct AtDoor<E: End> {
 }
 
 impl<E: End> Model for AtDoor<E> {
-    ghost use Rattle.m2_trail.specs.Arrivals.{LooseNow, left_of};
+    ghost use Rattle.m2_trail.specs.Incoming.{IncomingNow};
 
-    ghost Value = { LooseNow };
+    ghost Value = { IncomingNow };
 
-    ghost view = { λ d. left_of d.half };
+    ghost view = { λ d. d.half };
 }
 
 /// The door of a node: it accepts, shakes hands until it is asked, and hands each socket over to the thread with which the
@@ -59,15 +60,15 @@ impl<E: End> Model for AtDoor<E> {
 /// Contracts see the halves that weren't asked yet, the sockets that were and whose home has had no room, the halves that are
 /// over, and what was put by each way. No socket that came to it is lost: each stays in one of these places.
 #[derive(Drop)]
-pub struct Door<'a, P: Port, B: Inboxes> {
+pub struct Door<'a, E: End, B: Inboxes> {
     alloc: Global,
     entity: u8,
-    halves: VecDeque<AtDoor<P::End>>,
-    asked: VecDeque<Handed<P::End>>,
-    over: Vec<Loose<P::End>>,
+    halves: VecDeque<AtDoor<E>>,
+    asked: VecDeque<Handed<E>>,
+    over: Vec<Loose<E>>,
     /// What halves read into.
     piece: Vec<u8>,
-    ways: Vec<Way<'a, P::End, B>>,
+    ways: Vec<Way<'a, E, B>>,
     /// Whether something is there to be done at once.
     busy: bool,
     ghost long: { length piece.items ≡ MOST_READ },
@@ -76,7 +77,7 @@ pub struct Door<'a, P: Port, B: Inboxes> {
     ghost room_of_asked: { MOST_AT_DOOR ≤ deque_capacity asked },
 }
 
-impl<'a, P: Port, B: Inboxes> Model for Door<'a, P, B> {
+impl<'a, E: End, B: Inboxes> Model for Door<'a, E, B> {
     ghost use Rattle.m2_handover.specs.Door.{DoorNow};
 
     ghost Value = { DoorNow };
@@ -84,13 +85,13 @@ impl<'a, P: Port, B: Inboxes> Model for Door<'a, P, B> {
     ghost view = { λ d. record { halves = d.halves.items; asked = d.asked.items; over = d.over.items; put = d.ways.items } };
 }
 
-impl<'a, P: Port, B: Inboxes> Door<'a, P, B> {
+impl<'a, E: End, B: Inboxes> Door<'a, E, B> {
     /// A door of a node of this kind, to which nobody came yet, with the ways to its threads.
     pub fn new(
         alloc: Global,
         entity: u8,
-        ways: Vec<Way<'a, P::End, B>>,
-    ) -> Result<Door<'a, P, B>, NoMemory>
+        ways: Vec<Way<'a, E, B>>,
+    ) -> Result<Door<'a, E, B>, NoMemory>
         ensures { IfOk result (λ d. d ≡ record { halves = []; asked = []; over = []; put = ways.entry.items }) }
     {
         Ok(Door {
@@ -117,10 +118,11 @@ impl<'a, P: Port, B: Inboxes> Door<'a, P, B> {
     }
 
     /// A turn: what waits at the port is accepted, and each socket goes on, whether or not an accept failed.
-    #[tactic(auto, using(crate::proofs::Weights::takes_then_keeps))]
-    pub(crate) fn turn<R: Wait>(&mut self, rt: &R, port: &mut P) -> DoorTurn
+    #[tactic(auto, using(crate::proofs::Weights::takes_then_keeps, crate::proofs::Shaking::shakes_behind))]
+    pub(crate) fn turn<R: Wait, P: Port<End = E>>(&mut self, rt: &R, port: &mut P) -> DoorTurn
         ensures lets { LetsIn result (P.seen port.old) (P.seen port.new) }
         ensures all { LetsAllIn result (P.seen port.old) (P.seen port.new) }
+        ensures shakes { Shakes result self.old self.new }
         ensures sockets { TakesIn (P.seen port.old).made (P.seen port.new).made self.old self.new }
     {
         self.busy = false;
@@ -135,10 +137,11 @@ impl<'a, P: Port, B: Inboxes> Door<'a, P, B> {
     }
 
     /// What waits at the port is accepted.
-    #[tactic(auto, using(crate::proofs::Doors::accepts_more, crate::proofs::Doors::lets_in_then, crate::proofs::Weights::takes_in_more))]
-    fn accept_all(&mut self, port: &mut P) -> DoorTurn
+    #[tactic(auto, using(crate::proofs::Doors::accepts_more, crate::proofs::Doors::lets_in_then, crate::proofs::Shaking::stand_more, crate::proofs::Weights::takes_in_more))]
+    fn accept_all<P: Port<End = E>>(&mut self, port: &mut P) -> DoorTurn
         ensures lets { LetsIn result (P.seen port.old) (P.seen port.new) }
         ensures all { LetsAllIn result (P.seen port.old) (P.seen port.new) }
+        ensures stand { StandBefore self.old.halves self.new.halves }
         ensures sockets { TakesIn (P.seen port.old).made (P.seen port.new).made self.old self.new }
     {
         'accepts: for _ in 0..MOST_ACCEPTS {
@@ -152,9 +155,10 @@ impl<'a, P: Port, B: Inboxes> Door<'a, P, B> {
 
     /// Accepts one socket. None: there was one.
     #[tactic(auto, using(crate::proofs::Doors::lets_none, crate::proofs::Doors::lets_made, crate::proofs::Doors::lets_nothing, crate::proofs::Doors::lets_failed, crate::proofs::Weights::comes_in, crate::proofs::Weights::takes_none))]
-    fn accept(&mut self, port: &mut P) -> Option<DoorTurn>
+    fn accept<P: Port<End = E>>(&mut self, port: &mut P) -> Option<DoorTurn>
         ensures lets { LetsOneIn result (P.seen port.old) (P.seen port.new) }
         ensures next { LetsTheNextIn result (P.seen port.old) (P.seen port.new) }
+        ensures stand { StandBefore self.old.halves self.new.halves }
         ensures sockets { TakesIn (P.seen port.old).made (P.seen port.new).made self.old self.new }
     {
         let mut entries = Items::empty(self.alloc);
@@ -174,23 +178,35 @@ impl<'a, P: Port, B: Inboxes> Door<'a, P, B> {
     }
 
     /// Each socket goes on: halves shake hands, and those that were asked are handed over.
-    #[tactic(auto, using(crate::proofs::Weights::keeps_same, crate::proofs::Weights::keeps_more))]
-    fn go_on_all<R: Wait>(&mut self, rt: &R, port: &P) -> Result<(), NoMemory>
-        ensures { KeepsAll self.old self.new }
+    #[tactic(auto, using(crate::proofs::Shaking::shakes_then, crate::proofs::Weights::keeps_same, crate::proofs::Weights::keeps_more))]
+    fn go_on_all<R: Wait, P: Port<End = E>>(&mut self, rt: &R, port: &P) -> Result<(), NoMemory>
+        ensures shakes { OnOk result (ShakesAll self.old self.new) }
+        ensures sockets { KeepsAll self.old self.new }
     {
-        'halves: for _ in 0..self.halves.len() {
-            self.shake(port)?;
-        }
+        self.shake_all(port)?;
         'asked: for _ in 0..self.asked.len() {
             self.hand_next(rt, port);
         }
         Ok(())
     }
 
+    /// Each half takes its turn, and is then where that leads.
+    #[tactic(auto, using(crate::proofs::Shaking::goes_on_so, crate::proofs::Shaking::all_so, crate::proofs::Weights::keeps_same, crate::proofs::Weights::keeps_more))]
+    fn shake_all<P: Port<End = E>>(&mut self, port: &P) -> Result<(), NoMemory>
+        ensures shakes { OnOk result ((turned : List Shaken) × HaveShaken turned [] self.old self.new) }
+        ensures sockets { KeepsAll self.old self.new }
+    {
+        'halves: for _ in 0..self.halves.len() {
+            self.shake(port)?;
+        }
+        Ok(())
+    }
+
     /// The half that comes next goes on, and is the last one then, unless it was asked or is over.
     #[tactic(auto, using(crate::proofs::Weights::keeps_same))]
-    fn shake(&mut self, port: &P) -> Result<(), NoMemory>
-        ensures { KeepsAll self.old self.new }
+    fn shake<P: Port<End = E>>(&mut self, port: &P) -> Result<(), NoMemory>
+        ensures shakes { OnOk result (ShakesFirst self.old self.new) }
+        ensures sockets { KeepsAll self.old self.new }
     {
         if self.over.reserve(1).is_err() {
             return Err(NoMemory);
@@ -217,8 +233,10 @@ impl<'a, P: Port, B: Inboxes> Door<'a, P, B> {
 
     /// The asked socket that comes next is handed over, and its home is woken. It is the last one then where that has no room.
     #[tactic(auto, using(crate::proofs::Weights::keeps_same))]
-    fn hand_next<R: Wait>(&mut self, rt: &R, port: &P)
-        ensures { KeepsAll self.old self.new }
+    fn hand_next<R: Wait, P: Port<End = E>>(&mut self, rt: &R, port: &P)
+        ensures halves { self.new.halves ≡ self.old.halves }
+        ensures over { self.new.over ≡ self.old.over }
+        ensures sockets { KeepsAll self.old self.new }
     {
         let Some(handed) = self.asked.pop_front() else {
             return;
@@ -235,8 +253,8 @@ impl<'a, P: Port, B: Inboxes> Door<'a, P, B> {
     }
 
     /// All halves that nobody went on with; and the ways. Err is want of memory.
-    pub(crate) fn into_rest(self) -> Result<DoorRest<'a, P, B>, NoMemory>
-        ensures at_door { IfOk result (λ r. r.at_door.items ≡ self.entry.over ++ self.entry.halves) }
+    pub(crate) fn into_rest(self) -> Result<DoorRest<'a, E, B>, NoMemory>
+        ensures at_door { IfOk result (λ r. r.at_door.items ≡ unasked_in self.entry) }
         ensures on_way { IfOk result (λ r. r.on_way.items ≡ map left_behind self.entry.asked) }
         ensures ways { IfOk result (λ r. r.ways.items ≡ self.entry.put) }
     {
@@ -264,15 +282,15 @@ impl<'a, P: Port, B: Inboxes> Door<'a, P, B> {
 /// What is left of a door: the halves that weren't asked, those that are over first; those that were and whose homes have had no
 /// room; and the ways.
 #[derive(Drop)]
-pub(crate) struct DoorRest<'a, P: Port, B: Inboxes> {
-    pub(crate) at_door: LooseList<P::End>,
-    pub(crate) on_way: LooseList<P::End>,
-    pub(crate) ways: Vec<Way<'a, P::End, B>>,
+pub(crate) struct DoorRest<'a, E: End, B: Inboxes> {
+    pub(crate) at_door: LooseList<E>,
+    pub(crate) on_way: LooseList<E>,
+    pub(crate) ways: Vec<Way<'a, E, B>>,
 }
 
-impl<'a, P: Port, B: Inboxes> DoorRest<'a, P, B> {
+impl<'a, E: End, B: Inboxes> DoorRest<'a, E, B> {
     /// That of a port that has no door.
-    pub(crate) fn none(alloc: Global) -> DoorRest<'a, P, B>
+    pub(crate) fn none(alloc: Global) -> DoorRest<'a, E, B>
         ensures at_door { result.at_door.items ≡ [] }
         ensures on_way { result.on_way.items ≡ [] }
         ensures ways { result.ways.items ≡ [] }
@@ -305,6 +323,7 @@ fn stand<E: End>(
     ensures few { deque_len halves.new + asked ≤ MOST_AT_DOOR }
     ensures capacity { MOST_AT_DOOR ≤ deque_capacity halves.new }
     ensures stands { Stands half.end.id (halves.old.items, over.old.items) (halves.new.items, over.new.items) }
+    ensures before { StandBefore halves.old.items halves.new.items }
 {
     if halves.len() + asked < MOST_AT_DOOR {
         halves.push_back_reserved(AtDoor { half });
@@ -317,7 +336,7 @@ fn stand<E: End>(
 fn asked<P: Port>(port: &P, half: Incoming<P::End>) -> Handed<P::End>
     requires asked { IsSome half.ask }
     requires unjudged { half.trail.judged ≡ [] }
-    ensures { result.end ≡ half.end }
+    ensures { left_behind result ≡ left_of half }
 {
     let mut handed = Handed::of(Arrival::of(half));
     port.leave(&mut handed.end);
@@ -347,7 +366,7 @@ fn leave_halves<E: End>(
     mut halves: VecDeque<AtDoor<E>>,
     left: &mut Vec<Loose<E>>,
 ) -> Result<(), NoMemory>
-    ensures { OnOk result (left.new.items ≡ left.old.items ++ halves.items) }
+    ensures { OnOk result (left.new.items ≡ left.old.items ++ map left_of halves.items) }
 {
     'halves: while let Some(AtDoor { half }) = halves.pop_front() {
         left.push(half.leave())?;

@@ -4,7 +4,7 @@ ghost use Rattle.std.specs.Prelude.{◌≡◌, ◌<◌, ◌==◌, ◌&&◌, [], 
 ghost use Rattle.m2_fabric.specs.Port.{Accepts, Connects, connect_map, taken_map};
 ghost use Rattle.m2_handover.specs.Door.{LetsAllIn, LetsIn, StaysThere, TakesIn};
 ghost use Rattle.m2_handover.specs.Handed.{IsOfNamed};
-ghost use Rattle.m2_handover.specs.Home.{AreAllThere, HasTakenAll, IsBalanced, IsNoWait, IsSameButInner, IsSameInside, TakesOver, asked_at, put_at, shown, unasked_at};
+ghost use Rattle.m2_handover.specs.Home.{AreAllThere, HasTakenAll, IsBalanced, IsNoWait, IsSameButInner, IsSameInside, ShakesAtDoor, TakesOver, asked_at, put_at, shown, unasked_at};
 ghost use Rattle.m2_mailbox.specs.Passes.{IsGetPassOf, taken_of};
 
 use crate::door::{Door, DoorRest, DoorTurn};
@@ -48,7 +48,7 @@ pub struct HomePort<'a, P: Port, R: Wait + Copy, B: Inboxes> {
     next: Option<Handed<P::End>>,
     /// Whether a socket was accepted since the last poll.
     fresh: bool,
-    door: Option<Door<'a, P, B>>,
+    door: Option<Door<'a, P::End, B>>,
     /// Where it tells whether nothing is there to be done but what its center knows of.
     rests: &'a AtomicBool,
     of: PhantomData<B>,
@@ -111,7 +111,7 @@ impl<'a, P: Port, R: Wait + Copy, B: Inboxes> HomePort<'a, P, R, B> {
         number: u32,
         inbox: &'a Inbox<Handed<P::End>>,
         pass: GetPass<Handed<P::End>>,
-        door: Option<Door<'a, P, B>>,
+        door: Option<Door<'a, P::End, B>>,
         rests: &'a AtomicBool,
     ) -> HomePort<'a, P, R, B>
         requires here { at ≡ (P.seen port).at }
@@ -201,6 +201,7 @@ impl<'a, P: Port, R: Wait + Copy, B: Inboxes> HomePort<'a, P, R, B> {
     fn let_in(&mut self) -> DoorTurn
         ensures lets { LetsIn result self.old.inner self.new.inner }
         ensures all { IfSome self.old.door (λ d. LetsAllIn result self.old.inner self.new.inner) }
+        ensures shakes { ShakesAtDoor result self.old.door self.new.door }
         ensures same { IsSameButInner self.old self.new }
     {
         match &mut self.door {

@@ -1,9 +1,11 @@
--- So far no socket was lost.
+-- So far no socket was lost, and those that weren't asked are where they were.
+use Rattle.std.specs.Prelude.{◌≡◌}
 use Rattle.m2_handover.specs.Door.{KeepsAll}
 use Rattle.m2_handover.proofs.door.Door.go_on_all.Given as goal
 
-abbrev pub invariant-halves : goal.invariant-halves
-invariant-halves g l = KeepsAll l.fn.self l.self
-
 abbrev pub invariant-asked : goal.invariant-asked
-invariant-asked g l = KeepsAll l.fn.self l.self
+invariant-asked g l = record {
+  halves : l.self.halves ≡ l.initial.self.halves;
+  over : l.self.over ≡ l.initial.self.over;
+  sockets : KeepsAll l.fn.self l.self;
+}

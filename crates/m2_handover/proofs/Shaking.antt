@@ -1,0 +1,133 @@
+-- Halves of a door that take their turns one after another.
+use Rattle.std.proofs.Common.{◌≡◌, ℕ, zero, suc, ◌+◌, ◌<◌, List, [], ◌∷◌, ◌++◌, length, map, refl, sym, ap, subst, ◌∙◌, append-nil, append_assoc, arith}
+use Rattle.std.specs.List.{AllByRecursion, flat_map}
+use Rattle.std.proofs.lemmas.List.{length-append, length-map}
+use Rattle.m2_trail.specs.Incoming.{IncomingNow}
+use Rattle.m2_trail.specs.Arrivals.{LooseNow}
+use Rattle.m2_trail.specs.Turn.{AdvancesAs}
+use Rattle.m2_trail.specs.declared.turn.HalfTurn.{HalfTurn}
+use Rattle.m2_handover.specs.Handed.{OnItsWay, left_behind}
+use Rattle.m2_handover.specs.Door.{DoorNow, HadMemory, HasShaken, HaveShaken, Shaken, Shakes, ShakesAll, ShakesFirst, ShakesNext, StandBefore, asked_by, asked_in, over_by, stays_by}
+use Rattle.m2_handover.specs.declared.door.DoorTurn.{DoorTurn}
+use Rattle.m2_handover.specs.declared.door.DoorTurn.TheVariants as turn
+
+-- ---- lists
+
+flat_last : {Y : Type 0} (f : Shaken → List Y) (turned : List Shaken) (s : Shaken) → flat_map f (turned ++ s ∷ []) ≡ flat_map f turned ++ f s
+flat_last f [] s = append-nil (f s)
+flat_last f (t ∷ ts) s = ap (λ l. f t ++ l) (flat_last f ts s) ∙ sym (append_assoc (f t) (flat_map f ts) (f s))
+
+all_last : (turned : List Shaken) (s : Shaken) → AllByRecursion HasShaken turned → HasShaken s → AllByRecursion HasShaken (turned ++ s ∷ [])
+all_last [] s all has = (has, tt)
+all_last (t ∷ ts) s all has = (all.0, all_last ts s all.1 has)
+
+before_last : (turned : List Shaken) (s : Shaken) (next : IncomingNow) (rest : List IncomingNow) → s.before ≡ next →
+    map (λ (t : Shaken). t.before) turned ++ next ∷ rest ≡ map (λ (t : Shaken). t.before) (turned ++ s ∷ []) ++ rest
+before_last [] s next rest e = ap (λ n. n ∷ rest) (sym e)
+before_last (t ∷ ts) s next rest e = ap (λ l. t.before ∷ l) (before_last ts s next rest e)
+
+-- one more was asked
+pub asked_last : (asked after : List OnItsWay) (h : OnItsWay) (l : LooseNow) → after ≡ asked ++ h ∷ [] → left_behind h ≡ l → map left_behind after ≡ map left_behind asked ++ l ∷ []
+asked_last asked after h l e is = ap (map left_behind) e ∙ (by asked ∙ ap (λ (m : LooseNow). map left_behind asked ++ m ∷ []) is)
+  where
+    by : (hs : List OnItsWay) → map left_behind (hs ++ h ∷ []) ≡ map left_behind hs ++ left_behind h ∷ []
+    by [] = refl
+    by (x ∷ xs) = ap (λ l. left_behind x ∷ l) (by xs)
+
+-- the first half has taken its turn
+pub shakes_first : (turn : HalfTurn) (before behind : IncomingNow) (rest : List IncomingNow) (old new : DoorNow) → AdvancesAs turn before behind → HadMemory turn → old.halves ≡ before ∷ rest
+    → new.halves ≡ rest ++ stays_by turn behind → asked_in new ≡ asked_in old ++ asked_by turn behind → new.over ≡ old.over ++ over_by turn behind → new.put ≡ old.put → ShakesFirst old new
+shakes_first turn before behind rest old new advances memory was halves asked over put next others e =
+    let both : before ∷ rest ≡ next ∷ others = sym was ∙ e in
+    let is : before ≡ next = cc in
+    let same : rest ≡ others = cc in (
+      record { before = before; turn = turn; behind = behind },
+      is,
+      record {
+        has = record { advances = advances; memory = memory };
+        halves = halves ∙ ap (λ r. r ++ stays_by turn behind) same;
+        asked = asked;
+        over = over;
+        put = put;
+      },
+    )
+
+-- ---- one after another
+
+pub none_shaken : (d : DoorNow) → HaveShaken [] d.halves d d
+none_shaken d = record { each = tt; stood = refl; halves = sym (append-nil d.halves); asked = sym (append-nil (asked_in d)); over = sym (append-nil d.over); put = refl }
+
+one_more : (turned : List Shaken) (next : IncomingNow) (rest : List IncomingNow) (old mid new : DoorNow) (s : Shaken) → HaveShaken turned (next ∷ rest) old mid → s.before ≡ next
+    → ShakesNext (rest ++ flat_map (λ (t : Shaken). stays_by t.turn t.behind) turned) s mid new → HaveShaken (turned ++ s ∷ []) rest old new
+one_more turned next rest old mid new s h is one = record {
+  each = all_last turned s h.each one.has;
+  stood = h.stood ∙ before_last turned s next rest is;
+  halves = one.halves ∙ (append_assoc rest (flat_map (λ (t : Shaken). stays_by t.turn t.behind) turned) (stays_by s.turn s.behind) ∙ ap (λ l. rest ++ l) (sym (flat_last (λ (t : Shaken). stays_by t.turn t.behind) turned s)));
+  asked = one.asked ∙ (ap (λ l. l ++ asked_by s.turn s.behind) h.asked ∙ (append_assoc (asked_in old) (flat_map (λ (t : Shaken). asked_by t.turn t.behind) turned) (asked_by s.turn s.behind)
+      ∙ ap (λ l. asked_in old ++ l) (sym (flat_last (λ (t : Shaken). asked_by t.turn t.behind) turned s))));
+  over = one.over ∙ (ap (λ l. l ++ over_by s.turn s.behind) h.over ∙ (append_assoc old.over (flat_map (λ (t : Shaken). over_by t.turn t.behind) turned) (over_by s.turn s.behind)
+      ∙ ap (λ l. old.over ++ l) (sym (flat_last (λ (t : Shaken). over_by t.turn t.behind) turned s))));
+  put = one.put ∙ h.put;
+}
+
+pub record ShakenSo (count : ℕ) (old new : DoorNow) : Type 0 where
+  pub turned : List Shaken
+  pub rest : List IncomingNow
+  pub shaken : HaveShaken turned rest old new
+  pub so_many : length turned ≡ count
+
+stood_length : (turned : List Shaken) (rest : List IncomingNow) (old new : DoorNow) → HaveShaken turned rest old new → length old.halves ≡ length turned + length rest
+stood_length turned rest old new h =
+    let split = length-append (map (λ (s : Shaken). s.before) turned) rest in
+    let same = length-map turned (λ (s : Shaken). s.before) in
+    let all = ap length h.stood in omega (arith, all, split, same)
+
+pub begins_so : (d : DoorNow) → ShakenSo 0 d d
+begins_so d = record { turned = []; rest = d.halves; shaken = none_shaken d; so_many = refl }
+
+pub goes_on_so : (count : ℕ) (old mid new : DoorNow) → ShakenSo count old mid → count < length old.halves → ShakesFirst mid new → ShakenSo (count + 1) old new
+goes_on_so count old mid new so more first = by so.rest refl
+  where
+    by : (rest : List IncomingNow) → so.rest ≡ rest → ShakenSo (count + 1) old new
+    by [] e = absurd (
+        let all = stood_length so.turned so.rest old mid so.shaken in
+        let none : length so.rest ≡ 0 = ap length e in
+        omega (arith, more, all, none, so.so_many))
+    by (next ∷ rest) e =
+        let shaken = subst (λ (r : List IncomingNow). HaveShaken so.turned r old mid) e so.shaken in
+        let one = first next (rest ++ flat_map (λ (t : Shaken). stays_by t.turn t.behind) so.turned) shaken.halves in record {
+          turned = so.turned ++ one.0 ∷ [];
+          rest = rest;
+          shaken = one_more so.turned next rest old mid new one.0 shaken one.1 one.2;
+          so_many = length-append so.turned (one.0 ∷ []) ∙ (let h : length so.turned + 1 ≡ count + 1 = omega (arith, so.so_many) in h);
+        }
+
+pub all_so : (count : ℕ) (old new : DoorNow) → ShakenSo count old new → count ≡ length old.halves → (turned : List Shaken) × HaveShaken turned [] old new
+all_so count old new so all = (so.turned, by so.rest refl)
+  where
+    by : (rest : List IncomingNow) → so.rest ≡ rest → HaveShaken so.turned [] old new
+    by [] e = subst (λ (r : List IncomingNow). HaveShaken so.turned r old new) e so.shaken
+    by (next ∷ rest) e = absurd (
+        let stood = stood_length so.turned so.rest old new so.shaken in
+        let some : length so.rest ≡ suc (length rest) = ap length e in
+        omega (arith, stood, all, some, so.so_many))
+
+-- ---- a turn of the door
+
+pub shakes_then : (old mid new : DoorNow) → ((turned : List Shaken) × HaveShaken turned [] old mid) → new.halves ≡ mid.halves → new.over ≡ mid.over → ShakesAll old new
+shakes_then old mid new h halves over = record { turned = h.0; mid = mid; shaken = h.1; halves = halves; over = over }
+
+pub stand_still : (hs : List IncomingNow) → StandBefore hs hs
+stand_still hs = ([], sym (append-nil hs))
+
+pub stand_more : (a b c : List IncomingNow) → StandBefore a b → StandBefore b c → StandBefore a c
+stand_more a b c h k = (h.0 ++ k.0, k.1 ∙ (ap (λ l. l ++ k.0) h.1 ∙ append_assoc a h.0 k.0))
+
+pub stands_behind : (old new : List IncomingNow) (h : IncomingNow) → new ≡ old ++ h ∷ [] → StandBefore old new
+stands_behind old new h e = (h ∷ [], e)
+
+-- sockets were let in, and then all halves have taken their turns
+pub shakes_behind : (end : DoorTurn) (old mid new : DoorNow) → StandBefore old.halves mid.halves → ShakesAll mid new → Shakes end old new
+shakes_behind turn.Done old mid new stand all = (mid, stand, all)
+shakes_behind turn.Failed old mid new stand all = tt
+shakes_behind turn.NoMemory old mid new stand all = tt
