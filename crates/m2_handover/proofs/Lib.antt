@@ -1,6 +1,7 @@
 pub mod Again
 pub mod Doors
 pub mod Homes
+pub mod Named
 pub mod Shaking
 pub mod Shown
 pub mod Weights

@@ -1,7 +1,9 @@
 -- Halves of a door that take their turns one after another.
 use Rattle.std.proofs.Common.{◌≡◌, ℕ, zero, suc, ◌+◌, ◌<◌, List, [], ◌∷◌, ◌++◌, length, map, refl, sym, ap, subst, ◌∙◌, append-nil, append_assoc, arith}
 use Rattle.std.specs.List.{AllByRecursion, flat_map}
-use Rattle.std.proofs.lemmas.List.{length-append, length-map}
+use Rattle.std.proofs.lemmas.List.{length-append, length-map, map-append}
+use Rattle.std.proofs.lemmas.List.Concat.{flat_map-append}
+use Rattle.m2_bytes.proofs.m2_lemmas.Lists.{all_last}
 use Rattle.m2_trail.specs.Incoming.{IncomingNow}
 use Rattle.m2_trail.specs.Arrivals.{LooseNow}
 use Rattle.m2_trail.specs.Turn.{AdvancesAs}
@@ -14,25 +16,18 @@ use Rattle.m2_handover.specs.declared.door.DoorTurn.TheVariants as turn
 -- ---- lists
 
 flat_last : {Y : Type 0} (f : Shaken → List Y) (turned : List Shaken) (s : Shaken) → flat_map f (turned ++ s ∷ []) ≡ flat_map f turned ++ f s
-flat_last f [] s = append-nil (f s)
-flat_last f (t ∷ ts) s = ap (λ l. f t ++ l) (flat_last f ts s) ∙ sym (append_assoc (f t) (flat_map f ts) (f s))
-
-all_last : (turned : List Shaken) (s : Shaken) → AllByRecursion HasShaken turned → HasShaken s → AllByRecursion HasShaken (turned ++ s ∷ [])
-all_last [] s all has = (has, tt)
-all_last (t ∷ ts) s all has = (all.0, all_last ts s all.1 has)
+flat_last f turned s = flat_map-append f turned (s ∷ []) ∙ ap (λ l. flat_map f turned ++ l) (append-nil (f s))
 
 before_last : (turned : List Shaken) (s : Shaken) (next : IncomingNow) (rest : List IncomingNow) → s.before ≡ next →
     map (λ (t : Shaken). t.before) turned ++ next ∷ rest ≡ map (λ (t : Shaken). t.before) (turned ++ s ∷ []) ++ rest
-before_last [] s next rest e = ap (λ n. n ∷ rest) (sym e)
-before_last (t ∷ ts) s next rest e = ap (λ l. t.before ∷ l) (before_last ts s next rest e)
+before_last turned s next rest e =
+    ap (λ n. map (λ (t : Shaken). t.before) turned ++ n ∷ rest) (sym e)
+    ∙ (sym (append_assoc (map (λ (t : Shaken). t.before) turned) (s.before ∷ []) rest)
+    ∙ ap (λ l. l ++ rest) (sym (map-append (λ (t : Shaken). t.before) turned (s ∷ []))))
 
 -- one more was asked
 pub asked_last : (asked after : List OnItsWay) (h : OnItsWay) (l : LooseNow) → after ≡ asked ++ h ∷ [] → left_behind h ≡ l → map left_behind after ≡ map left_behind asked ++ l ∷ []
-asked_last asked after h l e is = ap (map left_behind) e ∙ (by asked ∙ ap (λ (m : LooseNow). map left_behind asked ++ m ∷ []) is)
-  where
-    by : (hs : List OnItsWay) → map left_behind (hs ++ h ∷ []) ≡ map left_behind hs ++ left_behind h ∷ []
-    by [] = refl
-    by (x ∷ xs) = ap (λ l. left_behind x ∷ l) (by xs)
+asked_last asked after h l e is = ap (map left_behind) e ∙ (map-append left_behind asked (h ∷ []) ∙ ap (λ (m : LooseNow). map left_behind asked ++ m ∷ []) is)
 
 -- the first half has taken its turn
 pub shakes_first : (turn : HalfTurn) (before behind : IncomingNow) (rest : List IncomingNow) (old new : DoorNow) → AdvancesAs turn before behind → HadMemory turn → old.halves ≡ before ∷ rest
@@ -60,7 +55,7 @@ none_shaken d = record { each = tt; stood = refl; halves = sym (append-nil d.hal
 one_more : (turned : List Shaken) (next : IncomingNow) (rest : List IncomingNow) (old mid new : DoorNow) (s : Shaken) → HaveShaken turned (next ∷ rest) old mid → s.before ≡ next
     → ShakesNext (rest ++ flat_map (λ (t : Shaken). stays_by t.turn t.behind) turned) s mid new → HaveShaken (turned ++ s ∷ []) rest old new
 one_more turned next rest old mid new s h is one = record {
-  each = all_last turned s h.each one.has;
+  each = all_last HasShaken turned s h.each one.has;
   stood = h.stood ∙ before_last turned s next rest is;
   halves = one.halves ∙ (append_assoc rest (flat_map (λ (t : Shaken). stays_by t.turn t.behind) turned) (stays_by s.turn s.behind) ∙ ap (λ l. rest ++ l) (sym (flat_last (λ (t : Shaken). stays_by t.turn t.behind) turned s)));
   asked = one.asked ∙ (ap (λ l. l ++ asked_by s.turn s.behind) h.asked ∙ (append_assoc (asked_in old) (flat_map (λ (t : Shaken). asked_by t.turn t.behind) turned) (asked_by s.turn s.behind)

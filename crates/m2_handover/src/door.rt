@@ -60,7 +60,7 @@ impl<E: End> Model for AtDoor<E> {
 /// Contracts see the halves that weren't asked yet, the sockets that were and whose home has had no room, the halves that are
 /// over, and what was put by each way. No socket that came to it is lost: each stays in one of these places.
 #[derive(Drop)]
-pub struct Door<'a, E: End, B: Inboxes> {
+pub struct Door<E: End, B: Inboxes<E>> {
     alloc: Global,
     entity: u8,
     halves: VecDeque<AtDoor<E>>,
@@ -68,7 +68,7 @@ pub struct Door<'a, E: End, B: Inboxes> {
     over: Vec<Loose<E>>,
     /// What halves read into.
     piece: Vec<u8>,
-    ways: Vec<Way<'a, E, B>>,
+    ways: Vec<Way<E, B>>,
     /// Whether something is there to be done at once.
     busy: bool,
     ghost long: { length piece.items ≡ MOST_READ },
@@ -77,7 +77,7 @@ pub struct Door<'a, E: End, B: Inboxes> {
     ghost room_of_asked: { MOST_AT_DOOR ≤ deque_capacity asked },
 }
 
-impl<'a, E: End, B: Inboxes> Model for Door<'a, E, B> {
+impl<E: End, B: Inboxes<E>> Model for Door<E, B> {
     ghost use Rattle.m2_handover.specs.Door.{DoorNow};
 
     ghost Value = { DoorNow };
@@ -85,14 +85,10 @@ impl<'a, E: End, B: Inboxes> Model for Door<'a, E, B> {
     ghost view = { λ d. record { halves = d.halves.items; asked = d.asked.items; over = d.over.items; put = d.ways.items } };
 }
 
-impl<'a, E: End, B: Inboxes> Door<'a, E, B> {
+impl<E: End, B: Inboxes<E>> Door<E, B> {
     /// A door of a node of this kind, to which nobody came yet, with the ways to its threads.
-    pub fn new(
-        alloc: Global,
-        entity: u8,
-        ways: Vec<Way<'a, E, B>>,
-    ) -> Result<Door<'a, E, B>, NoMemory>
-        ensures { IfOk result (λ d. d ≡ record { halves = []; asked = []; over = []; put = ways.entry.items }) }
+    pub fn new(alloc: Global, entity: u8, ways: Vec<Way<E, B>>) -> Result<Door<E, B>, NoMemory>
+        ensures { IfOk result (λ d. d ≡ record { halves = []; asked = []; over = []; put = ways.items }) }
     {
         Ok(Door {
             alloc,
@@ -119,7 +115,12 @@ impl<'a, E: End, B: Inboxes> Door<'a, E, B> {
 
     /// A turn: what waits at the port is accepted, and each socket goes on, whether or not an accept failed.
     #[tactic(auto, using(crate::proofs::Weights::takes_then_keeps, crate::proofs::Shaking::shakes_behind))]
-    pub(crate) fn turn<R: Wait, P: Port<End = E>>(&mut self, rt: &R, port: &mut P) -> DoorTurn
+    pub(crate) fn turn<R: Wait, P: Port<End = E>>(
+        &mut self,
+        rt: &R,
+        inboxes: &B,
+        port: &mut P,
+    ) -> DoorTurn
         ensures lets { LetsIn result (P.seen port.old) (P.seen port.new) }
         ensures all { LetsAllIn result (P.seen port.old) (P.seen port.new) }
         ensures shakes { Shakes result self.old self.new }
@@ -130,7 +131,7 @@ impl<'a, E: End, B: Inboxes> Door<'a, E, B> {
         if accepted == DoorTurn::NoMemory {
             return accepted;
         }
-        match self.go_on_all(rt, port) {
+        match self.go_on_all(rt, inboxes, port) {
             Err(NoMemory) if accepted == DoorTurn::Done => DoorTurn::NoMemory,
             _ => accepted,
         }
@@ -179,13 +180,18 @@ impl<'a, E: End, B: Inboxes> Door<'a, E, B> {
 
     /// Each socket goes on: halves shake hands, and those that were asked are handed over.
     #[tactic(auto, using(crate::proofs::Shaking::shakes_then, crate::proofs::Weights::keeps_same, crate::proofs::Weights::keeps_more))]
-    fn go_on_all<R: Wait, P: Port<End = E>>(&mut self, rt: &R, port: &P) -> Result<(), NoMemory>
+    fn go_on_all<R: Wait, P: Port<End = E>>(
+        &mut self,
+        rt: &R,
+        inboxes: &B,
+        port: &P,
+    ) -> Result<(), NoMemory>
         ensures shakes { OnOk result (ShakesAll self.old self.new) }
         ensures sockets { KeepsAll self.old self.new }
     {
         self.shake_all(port)?;
         'asked: for _ in 0..self.asked.len() {
-            self.hand_next(rt, port);
+            self.hand_next(rt, inboxes, port);
         }
         Ok(())
     }
@@ -233,7 +239,7 @@ impl<'a, E: End, B: Inboxes> Door<'a, E, B> {
 
     /// The asked socket that comes next is handed over, and its home is woken. It is the last one then where that has no room.
     #[tactic(auto, using(crate::proofs::Weights::keeps_same))]
-    fn hand_next<R: Wait, P: Port<End = E>>(&mut self, rt: &R, port: &P)
+    fn hand_next<R: Wait, P: Port<End = E>>(&mut self, rt: &R, inboxes: &B, port: &P)
         ensures halves { self.new.halves ≡ self.old.halves }
         ensures over { self.new.over ≡ self.old.over }
         ensures sockets { KeepsAll self.old self.new }
@@ -241,7 +247,7 @@ impl<'a, E: End, B: Inboxes> Door<'a, E, B> {
         let Some(handed) = self.asked.pop_front() else {
             return;
         };
-        match hand(&mut self.ways, rt, handed) {
+        match hand(&mut self.ways, rt, inboxes, handed) {
             None => port.ring(),
             Some(left) => self.asked.push_back_reserved(left),
         }
@@ -253,10 +259,10 @@ impl<'a, E: End, B: Inboxes> Door<'a, E, B> {
     }
 
     /// All halves that nobody went on with; and the ways. Err is want of memory.
-    pub(crate) fn into_rest(self) -> Result<DoorRest<'a, E, B>, NoMemory>
-        ensures at_door { IfOk result (λ r. r.at_door.items ≡ unasked_in self.entry) }
-        ensures on_way { IfOk result (λ r. r.on_way.items ≡ map left_behind self.entry.asked) }
-        ensures ways { IfOk result (λ r. r.ways.items ≡ self.entry.put) }
+    pub(crate) fn into_rest(self) -> Result<DoorRest<E, B>, NoMemory>
+        ensures at_door { IfOk result (λ r. r.at_door.items ≡ unasked_in self) }
+        ensures on_way { IfOk result (λ r. r.on_way.items ≡ map left_behind self.asked) }
+        ensures ways { IfOk result (λ r. r.ways.items ≡ self.put) }
     {
         let Door {
             alloc,
@@ -282,15 +288,15 @@ impl<'a, E: End, B: Inboxes> Door<'a, E, B> {
 /// What is left of a door: the halves that weren't asked, those that are over first; those that were and whose homes have had no
 /// room; and the ways.
 #[derive(Drop)]
-pub(crate) struct DoorRest<'a, E: End, B: Inboxes> {
+pub(crate) struct DoorRest<E: End, B: Inboxes<E>> {
     pub(crate) at_door: LooseList<E>,
     pub(crate) on_way: LooseList<E>,
-    pub(crate) ways: Vec<Way<'a, E, B>>,
+    pub(crate) ways: Vec<Way<E, B>>,
 }
 
-impl<'a, E: End, B: Inboxes> DoorRest<'a, E, B> {
+impl<E: End, B: Inboxes<E>> DoorRest<E, B> {
     /// That of a port that has no door.
-    pub(crate) fn none(alloc: Global) -> DoorRest<'a, E, B>
+    pub(crate) fn none(alloc: Global) -> DoorRest<E, B>
         ensures at_door { result.at_door.items ≡ [] }
         ensures on_way { result.on_way.items ≡ [] }
         ensures ways { result.ways.items ≡ [] }
@@ -344,16 +350,17 @@ fn asked<P: Port>(port: &P, half: Incoming<P::End>) -> Handed<P::End>
 }
 
 /// Hands a socket over by the first way that takes it. It comes back where none has room.
-fn hand<E: End, R: Wait, B: Inboxes>(
-    ways: &mut Vec<Way<'_, E, B>>,
+fn hand<E: End, R: Wait, B: Inboxes<E>>(
+    ways: &mut Vec<Way<E, B>>,
     rt: &R,
+    inboxes: &B,
     handed: Handed<E>,
 ) -> Option<Handed<E>>
     ensures { Hands result handed ways.old.items ways.new.items }
 {
     let mut left = handed;
     'ways: for k in 0..ways.len() {
-        match ways[k].hand(rt, left) {
+        match ways[k].hand(rt, inboxes, left) {
             Ok(()) => return None,
             Err(back) => left = back,
         }

@@ -5,8 +5,9 @@
 //! event thread: what it opens is its own, and what it accepts is what was handed over, as an end that begins anew.
 //! [`HandedEnd`], such an end: it does once more, run by run, what was read and written on the socket before, so whoever goes
 //! on with it sees a socket that it accepted itself. [`HomeRest`] is what is left of a port, [`close_inbox`] gives what is left
-//! in an inbox, and [`half_inside`] makes of a half of such an end one of the end inside. [`Inboxes`] names the inboxes, for
-//! contracts alone. It passes on what crates above name of inboxes ([`Inbox`], [`PutPass`], [`GetPass`], [`MOST_ARRIVALS`]). What it isn't: a thread. Nothing runs it yet.
+//! in an inbox, and [`half_inside`] makes of a half of such an end one of the end inside. [`Inboxes`] lends the inboxes, and
+//! [`InboxNames`] names them, for contracts alone. It passes on what crates above name of inboxes ([`Inbox`], [`PutPass`],
+//! [`GetPass`], [`MOST_ARRIVALS`]). What it isn't: a thread; `m2_run` has those.
 //!
 //! Each socket is in one place, whatever the schedule. A port keeps of all that the port inside has made and all that was taken
 //! out of its inbox, that each is one that it has made itself, or is still to be accepted, or stands at its door, or was handed
@@ -39,6 +40,6 @@ pub use end::{HandedEnd, half_inside};
 pub use handed::Handed;
 pub use inboxes::close_inbox;
 pub use m2_mailbox::{GetPass, Inbox, MOST_ARRIVALS, PutPass};
-pub use names::Inboxes;
+pub use names::{InboxNames, Inboxes, LentInboxes};
 pub use port::{HomePort, HomeRest};
 pub use way::Way;

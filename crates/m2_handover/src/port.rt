@@ -1,11 +1,13 @@
 //! The port of an event thread of a node that has several.
 
-ghost use Rattle.std.specs.Prelude.{◌≡◌, ◌<◌, ◌==◌, ◌&&◌, [], ◌++◌, None, Some, false, option_map, IfNone, IfOk, IfSome};
+ghost use Rattle.std.specs.Prelude.{◌≡◌, ◌<◌, ◌∷◌, length, slice_get, ◌==◌, ◌&&◌, [], ◌++◌, None, Some, false, option_map, IfNone, IfOk, IfSome};
 ghost use Rattle.m2_fabric.specs.Port.{Accepts, Connects, connect_map, taken_map};
 ghost use Rattle.m2_handover.specs.Door.{LetsAllIn, LetsIn, StaysThere, TakesIn};
-ghost use Rattle.m2_handover.specs.Handed.{IsOfNamed};
+ghost use Rattle.m2_handover.specs.Handed.{IsOfNamed, OnItsWay};
 ghost use Rattle.m2_handover.specs.Home.{AreAllThere, HasTakenAll, IsBalanced, IsNoWait, IsSameButInner, IsSameInside, ShakesAtDoor, TakesOver, asked_at, put_at, shown, unasked_at};
 ghost use Rattle.m2_mailbox.specs.Passes.{IsGetPassOf, taken_of};
+ghost use Rattle.m2_mailbox.specs.declared.inbox.Inbox.{Inbox};
+ghost use Rattle.m2_trail.specs.declared.home.HomeOf.{HomeOf};
 
 use crate::door::{Door, DoorRest, DoorTurn};
 use crate::end::HandedEnd;
@@ -16,10 +18,10 @@ use m2_addr::Addr;
 use m2_bytes::{Items, NoMemory};
 use m2_edge::Failed;
 use m2_fabric::{Connect, End, News, Port, SocketId, SocketIdList, Taken, is_among};
-use m2_mailbox::{GetPass, Inbox};
+use m2_mailbox::GetPass;
 use m2_trail::LooseList;
 use std::alloc::Global;
-use std::marker::{Model, PhantomData};
+use std::marker::Model;
 use std::sync::Wait;
 use std::sync::atomic::{AtomicBool, Ordering};
 
@@ -34,7 +36,7 @@ use std::sync::atomic::{AtomicBool, Ordering};
 /// Contracts see the port inside, the sockets that this one has made, whether its last accept found none, what was taken out
 /// of the inbox, and the door; and that each socket that the port inside made, or that was taken, is in one place of these.
 #[derive(Drop)]
-pub struct HomePort<'a, P: Port, R: Wait + Copy, B: Inboxes> {
+pub struct HomePort<'a, P: Port, R: Wait + Copy, B: Inboxes<P::End>> {
     rt: R,
     alloc: Global,
     at: Addr,
@@ -42,22 +44,21 @@ pub struct HomePort<'a, P: Port, R: Wait + Copy, B: Inboxes> {
     made: SocketIdList,
     quiet: bool,
     number: u32,
-    inbox: &'a Inbox<Handed<P::End>>,
+    inboxes: B,
     pass: GetPass<Handed<P::End>>,
     /// What was taken out of the inbox and isn't accepted yet.
     next: Option<Handed<P::End>>,
     /// Whether a socket was accepted since the last poll.
     fresh: bool,
-    door: Option<Door<'a, P::End, B>>,
+    door: Option<Door<P::End, B>>,
     /// Where it tells whether nothing is there to be done but what its center knows of.
     rests: &'a AtomicBool,
-    of: PhantomData<B>,
     ghost here: { at ≡ (P.seen port).at },
-    ghost named: { B.inbox number ≡ Some inbox.now },
-    ghost ours: { IsGetPassOf inbox.now pass },
+    ghost named: { number < length B.inboxes },
+    ghost ours: { (inbox : Inbox OnItsWay HomeOf) → slice_get B.inboxes number ≡ Some inbox → IsGetPassOf inbox pass },
 }
 
-impl<'a, P: Port, R: Wait + Copy, B: Inboxes> Model for HomePort<'a, P, R, B> {
+impl<'a, P: Port, R: Wait + Copy, B: Inboxes<P::End>> Model for HomePort<'a, P, R, B> {
     ghost use Rattle.m2_handover.specs.Home.{HomeNow, IsHome};
     ghost use Rattle.m2_mailbox.specs.Passes.{taken_of};
 
@@ -89,36 +90,36 @@ impl<'a, P: Port, R: Wait + Copy, B: Inboxes> Model for HomePort<'a, P, R, B> {
 /// last one of its inbox; the number of its thread, and the right to take out of its inbox, with what was taken; and the ways
 /// of its door.
 #[derive(Drop)]
-pub struct HomeRest<'a, P: Port, B: Inboxes> {
+pub struct HomeRest<P: Port, B: Inboxes<P::End>> {
     pub port: P,
     pub made: SocketIdList,
     pub at_door: LooseList<P::End>,
     pub on_way: LooseList<P::End>,
     pub number: u32,
     pub pass: GetPass<Handed<P::End>>,
-    pub ways: Vec<Way<'a, P::End, B>>,
+    pub ways: Vec<Way<P::End, B>>,
 }
 
-impl<'a, P: Port, R: Wait + Copy, B: Inboxes> HomePort<'a, P, R, B> {
+impl<'a, P: Port, R: Wait + Copy, B: Inboxes<P::End>> HomePort<'a, P, R, B> {
     /// A port that has made nothing, over one of the node at this address that has made nothing either, but for what is at
     /// the door or went through it. Each time it finds nothing to accept it tells by `rests` whether each socket at its door has
     /// come to rest, and it takes that back where something lies in its inbox. No clause says anything of that.
+    #[tactic(auto, using(crate::proofs::Named::of_named, crate::proofs::Named::named_within))]
     pub fn new(
         rt: R,
         alloc: Global,
         at: Addr,
         port: P,
         number: u32,
-        inbox: &'a Inbox<Handed<P::End>>,
+        inboxes: B,
         pass: GetPass<Handed<P::End>>,
-        door: Option<Door<'a, P::End, B>>,
+        door: Option<Door<P::End, B>>,
         rests: &'a AtomicBool,
     ) -> HomePort<'a, P, R, B>
         requires here { at ≡ (P.seen port).at }
-        requires named { B.inbox number ≡ Some inbox.now }
-        requires ours { IsGetPassOf inbox.now pass }
+        requires ours { IsOfNamed (λ inbox. IsGetPassOf inbox pass) (slice_get B.inboxes number) }
         requires balanced { IsBalanced (record { inner = P.seen port; made = []; room = 0; quiet = false; taken = taken_of pass; next = None; door = door }) }
-        ensures { result ≡ record { inner = P.seen port; made = []; room = result.room; quiet = false; taken = taken_of pass; next = None; door = door.entry } }
+        ensures { result ≡ record { inner = P.seen port; made = []; room = result.room; quiet = false; taken = taken_of pass; next = None; door = door } }
     {
         HomePort {
             rt,
@@ -128,13 +129,12 @@ impl<'a, P: Port, R: Wait + Copy, B: Inboxes> HomePort<'a, P, R, B> {
             made: Items::empty(alloc),
             quiet: false,
             number,
-            inbox,
+            inboxes,
             pass,
             next: None,
             fresh: false,
             door,
             rests,
-            of: PhantomData,
         }
     }
 
@@ -146,13 +146,13 @@ impl<'a, P: Port, R: Wait + Copy, B: Inboxes> HomePort<'a, P, R, B> {
     }
 
     /// Takes it apart. Err is want of memory.
-    pub fn into_rest(self) -> Result<HomeRest<'a, P, B>, NoMemory>
+    pub fn into_rest(self) -> Result<HomeRest<P, B>, NoMemory>
         ensures port { IfOk result (λ r. P.seen r.port ≡ self.entry.inner) }
         ensures made { IfOk result (λ r. r.made.items ≡ self.entry.made) }
         ensures at_door { IfOk result (λ r. r.at_door.items ≡ unasked_at self.entry) }
         ensures on_way { IfOk result (λ r. r.on_way.items ≡ asked_at self.entry) }
         ensures taken { IfOk result (λ r. taken_of r.pass ≡ self.entry.taken) }
-        ensures ours { IfOk result (λ r. IsOfNamed (λ inbox. IsGetPassOf inbox r.pass) (B.inbox r.number)) }
+        ensures ours { IfOk result (λ r. IsOfNamed (λ inbox. IsGetPassOf inbox r.pass) (slice_get B.inboxes r.number)) }
         ensures put { IfOk result (λ r. r.ways.items ≡ put_at self.entry.door) }
         ensures all { IfOk result (λ r. AreAllThere self.entry (r.at_door.items ++ r.on_way.items)) }
     {
@@ -164,13 +164,12 @@ impl<'a, P: Port, R: Wait + Copy, B: Inboxes> HomePort<'a, P, R, B> {
             made,
             quiet: _,
             number,
-            inbox: _,
+            inboxes: _,
             pass,
             next,
             fresh: _,
             door,
             rests: _,
-            of: _,
         } = self;
         let DoorRest {
             at_door,
@@ -205,7 +204,7 @@ impl<'a, P: Port, R: Wait + Copy, B: Inboxes> HomePort<'a, P, R, B> {
         ensures same { IsSameButInner self.old self.new }
     {
         match &mut self.door {
-            Some(door) => door.turn(&self.rt, &mut self.port),
+            Some(door) => door.turn(&self.rt, &self.inboxes, &mut self.port),
             None => DoorTurn::Done,
         }
     }
@@ -218,7 +217,7 @@ impl<'a, P: Port, R: Wait + Copy, B: Inboxes> HomePort<'a, P, R, B> {
         ensures inside { IsSameInside self.old self.new }
     {
         if self.next.is_none() {
-            self.next = self.inbox.take(&self.rt, &mut self.pass);
+            self.next = take_from(&self.rt, &self.inboxes, self.number, &mut self.pass);
         }
         if self.next.is_some() {
             self.rests.store(false, Ordering::SeqCst);
@@ -289,7 +288,7 @@ impl<'a, P: Port, R: Wait + Copy, B: Inboxes> HomePort<'a, P, R, B> {
     }
 }
 
-impl<'a, P: Port, R: Wait + Copy, B: Inboxes> Port for HomePort<'a, P, R, B> {
+impl<'a, P: Port, R: Wait + Copy, B: Inboxes<P::End>> Port for HomePort<'a, P, R, B> {
     type End = HandedEnd<P::End>;
 
     ghost seen = { shown };
@@ -384,5 +383,23 @@ impl<'a, P: Port, R: Wait + Copy, B: Inboxes> Port for HomePort<'a, P, R, B> {
     fn hear(&mut self, _id: &SocketId, _bytes: &[u8], _news: News) -> Result<(), NoMemory> {
         let _ = &self.made;
         Ok(())
+    }
+}
+
+/// What comes next out of the inbox of the thread with this number, where something does.
+fn take_from<E: End, R: Wait, B: Inboxes<E>>(
+    rt: &R,
+    inboxes: &B,
+    number: u32,
+    pass: &mut GetPass<Handed<E>>,
+) -> Option<Handed<E>>
+    requires { (inbox : Inbox OnItsWay HomeOf) → slice_get B.inboxes number ≡ Some inbox → IsGetPassOf inbox pass.old }
+    ensures ours { (inbox : Inbox OnItsWay HomeOf) → slice_get B.inboxes number ≡ Some inbox → IsGetPassOf inbox pass.new }
+    ensures some { IfSome result (λ handed. taken_of pass.new ≡ taken_of pass.old ++ handed ∷ []) }
+    ensures none { IfNone result (taken_of pass.new ≡ taken_of pass.old) }
+{
+    match inboxes.inbox(number) {
+        Some(inbox) => inbox.take(rt, pass),
+        None => None,
     }
 }

@@ -1,34 +1,35 @@
 //! The way to one of a node's event threads.
 
-ghost use Rattle.std.specs.Prelude.{◌≡◌, Some, IfErr, OnErr, OnOk};
-ghost use Rattle.m2_handover.specs.Handed.{IsOfNamed};
+ghost use Rattle.std.specs.Prelude.{◌≡◌, ◌<◌, length, slice_get, Some, IfErr, OnErr, OnOk};
+ghost use Rattle.m2_handover.specs.Handed.{IsOfNamed, OnItsWay};
 ghost use Rattle.m2_mailbox.specs.Passes.{IsPutPassOf, owner_of, parts_of, puts_of};
 ghost use Rattle.m2_mailbox.specs.Views.{all_parts, put_by};
+ghost use Rattle.m2_mailbox.specs.declared.inbox.Inbox.{Inbox};
+ghost use Rattle.m2_trail.specs.declared.home.HomeOf.{HomeOf};
 
 use crate::handed::Handed;
 use crate::names::Inboxes;
 use m2_fabric::End;
-use m2_mailbox::{Inbox, PutPass};
+use m2_mailbox::PutPass;
 use m2_trail::HomeOf;
 use std::marker::{Model, PhantomData};
 use std::sync::Wait;
 
-/// The way to one of a node's event threads: its inbox, and the whole right to put there what is at home with it. Contracts
-/// see what was put.
+/// The way to one of a node's event threads: the number of its inbox, and the whole right to put there what is at home with it.
+/// Contracts see what was put.
 #[derive(Drop)]
-pub struct Way<'a, E: End, B: Inboxes> {
+pub struct Way<E: End, B: Inboxes<E>> {
     home: HomeOf,
     number: u32,
-    inbox: &'a Inbox<Handed<E>>,
     pass: PutPass<Handed<E>>,
     of: PhantomData<B>,
-    ghost named: { B.inbox number ≡ Some inbox.now },
-    ghost owned: { owner_of inbox.now ≡ home },
-    ghost ours: { IsPutPassOf inbox.now pass },
+    ghost named: { number < length B.inboxes },
+    ghost owned: { (inbox : Inbox OnItsWay HomeOf) → slice_get B.inboxes number ≡ Some inbox → owner_of inbox ≡ home },
+    ghost ours: { (inbox : Inbox OnItsWay HomeOf) → slice_get B.inboxes number ≡ Some inbox → IsPutPassOf inbox pass },
     ghost whole: { parts_of pass ≡ all_parts },
 }
 
-impl<'a, E: End, B: Inboxes> Model for Way<'a, E, B> {
+impl<E: End, B: Inboxes<E>> Model for Way<E, B> {
     ghost use Rattle.std.specs.Prelude.{List};
     ghost use Rattle.m2_handover.specs.Handed.{OnItsWay};
     ghost use Rattle.m2_mailbox.specs.Passes.{puts_of};
@@ -38,40 +39,40 @@ impl<'a, E: End, B: Inboxes> Model for Way<'a, E, B> {
     ghost view = { λ w. puts_of w.pass };
 }
 
-impl<'a, E: End, B: Inboxes> Way<'a, E, B> {
+impl<E: End, B: Inboxes<E>> Way<E, B> {
     /// The way to the thread with this number, which owns the inbox, by the whole right to put there.
-    pub fn new(
-        home: HomeOf,
-        number: u32,
-        inbox: &'a Inbox<Handed<E>>,
-        pass: PutPass<Handed<E>>,
-    ) -> Way<'a, E, B>
-        requires named { B.inbox number ≡ Some inbox.now }
-        requires owned { owner_of inbox.now ≡ home }
-        requires ours { IsPutPassOf inbox.now pass }
+    #[tactic(auto, using(crate::proofs::Named::of_named, crate::proofs::Named::named_within))]
+    pub fn new(home: HomeOf, number: u32, pass: PutPass<Handed<E>>) -> Way<E, B>
+        requires owned { IsOfNamed (λ inbox. owner_of inbox ≡ home) (slice_get B.inboxes number) }
+        requires ours { IsOfNamed (λ inbox. IsPutPassOf inbox pass) (slice_get B.inboxes number) }
         requires whole { parts_of pass ≡ all_parts }
         ensures { result ≡ puts_of pass }
     {
         Way {
             home,
             number,
-            inbox,
             pass,
             of: PhantomData,
         }
     }
 
     /// Whose way it is, and the whole right to put there, with what was put.
+    #[tactic(auto, using(crate::proofs::Named::is_of_named))]
     pub fn into_pass(self) -> (u32, PutPass<Handed<E>>)
-        ensures put { puts_of result.1 ≡ self.entry }
+        ensures put { puts_of result.1 ≡ self }
         ensures whole { parts_of result.1 ≡ all_parts }
-        ensures ours { IsOfNamed (λ inbox. IsPutPassOf inbox result.1) (B.inbox result.0) }
+        ensures ours { IsOfNamed (λ inbox. IsPutPassOf inbox result.1) (slice_get B.inboxes result.0) }
     {
         (self.number, self.pass)
     }
 
     /// Hands a socket over that is at home there. Err gives it back, where the inbox is full or it isn't such a one.
-    pub(crate) fn hand<R: Wait>(&mut self, rt: &R, handed: Handed<E>) -> Result<(), Handed<E>>
+    pub(crate) fn hand<R: Wait>(
+        &mut self,
+        rt: &R,
+        inboxes: &B,
+        handed: Handed<E>,
+    ) -> Result<(), Handed<E>>
         ensures put { OnOk result (self.new ≡ put_by handed self.old) }
         ensures same { OnErr result (self.new ≡ self.old) }
         ensures back { IfErr result (λ back. back ≡ handed) }
@@ -79,7 +80,10 @@ impl<'a, E: End, B: Inboxes> Way<'a, E, B> {
         if !handed.is_at_home(&self.home) {
             return Err(handed);
         }
-        match self.inbox.put(rt, &mut self.pass, handed) {
+        let Some(inbox) = inboxes.inbox(self.number) else {
+            return Err(handed);
+        };
+        match inbox.put(rt, &mut self.pass, handed) {
             Ok(()) => Ok(()),
             Err(full) => Err(full.item),
         }

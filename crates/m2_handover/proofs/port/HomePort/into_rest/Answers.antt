@@ -2,6 +2,8 @@ use Rattle.std.proofs.Common.{◌≡◌, subst, arith}
 use Rattle.std.proofs.lemmas.Grind.{common_steps}
 use Rattle.m2_handover.specs.Home.{IsHome, asked_at, asked_at_door, unasked_at}
 use Rattle.m2_handover.proofs.Homes.{all_there}
+use Rattle.m2_handover.proofs.Named.{is_of_named}
+use Rattle.m2_mailbox.specs.Passes.{IsGetPassOf}
 use Rattle.m2_handover.proofs.port.HomePort.into_rest.Goals as goal
 use Rattle.m2_handover.proofs.port.HomePort.into_rest.Goals.{in-Some+in_ok-into_rest-in-Some, in-None, in-Some-next+else-is_err, in_default}
 
@@ -25,3 +27,6 @@ returns-clause-all g c =
       | in-None w ↦ grind (arith, common_steps)
     ] in
     all_there c.args.self c.match-door.at_door.at_door.items c.match-next-2.on_way.items home at_door (returns-clause-on_way g c)
+
+pub returns-clause-ours : goal.returns-clause-ours
+returns-clause-ours g c = is_of_named (λ inbox. IsGetPassOf inbox c.self.inside.pass) g.B.Inboxes.inboxes c.self.inside.number c.self.inside.named c.self.inside.ours
