@@ -23,7 +23,9 @@ CLIENT_IDENT, SERVER_IDENT, SESSION_RECONNECT, SESSION_RESET = 8, 9, 11, 12
 OSD = 4
 NOBODY = (1, 77)  # the port and nonce of no node
 COOKIE = 0x0100010000000001
-LIMIT = 1_500  # milliseconds, of a run under siege
+LIMIT = 3_000  # milliseconds, of a run under siege: what strangers do in it takes a tenth of that on a machine at rest
+LONG = 6_000  # of one in which strangers do several things in turn
+SHORT = 1_500  # of one in which they send much, all of which is looked at in the end
 
 # docs/PROTOCOL.md, "What a socket costs a node": bytes at most for each socket, for each byte that came on it or went out, and
 # for each read or write there.
@@ -136,6 +138,8 @@ def greeting(stranger):
 class Siege:
     """A run of a, b and d that goes on until its limit."""
 
+    last = None
+
     def __init__(self, program, limit=LIMIT, posts=50, descriptors=None):
         names = ["a", "b", "c", "d"]
         lines, ports = nodes(names)
@@ -154,7 +158,7 @@ class Siege:
         self.began = time.monotonic()
         own = descriptors and (lambda: resource.setrlimit(resource.RLIMIT_NOFILE, (descriptors, descriptors)))
         self.process = subprocess.Popen([program, "run", path], stdout=self.out, stderr=self.err, preexec_fn=own)
-        self.ended = False
+        Siege.last = self
         self.watch = threading.Timer(SECONDS, self.process.kill)
         self.watch.start()
 
@@ -234,7 +238,7 @@ def rows(to):
 
 def a_server_answers(program):
     """Each row on a socket of its own, in one run; beside them one socket that writes a byte now and then."""
-    siege, found, left = Siege(program), [], []
+    siege, found, left = Siege(program, limit=LONG), [], []
     to = siege.at["b"]
     slow = Stranger(to[0])
     text = BANNER + hello(to)
@@ -261,7 +265,7 @@ def a_server_answers(program):
 def sixty_five_sockets(program):
     """Of 65 sockets that never write 64 get a banner and stay open, and one is closed without a word; once they are gone
     another one is greeted."""
-    siege, found = Siege(program), []
+    siege, found = Siege(program, limit=LONG), []
     port = siege.at["d"][0]
     crowd = [Stranger(port) for _ in range(MOST_HALVES + 1)]
     got = [one.hear(26) for one in crowd]
@@ -281,7 +285,7 @@ def sixty_five_sockets(program):
 def what_strangers_hold(program):
     """64 sockets, each with a control frame of the greatest length but for its last byte: the memory stays below its bound."""
     rest = peak_at_rest(program)
-    siege, found = Siege(program), []
+    siege, found = Siege(program, limit=SHORT), []
     to = siege.at["d"]
     head = BANNER + preamble(HELLO, [1_048_576])
     text = head + bytes(1_048_575)
@@ -402,7 +406,7 @@ def a_second_ident_in_ready(program):
 
 def descriptors_come_back(program):
     """Strangers have all descriptors of the process for a while: no link goes on then, and each does once they are gone."""
-    siege = Siege(program, limit=3_000, descriptors=18)
+    siege = Siege(program, limit=LIMIT, descriptors=18)
     crowd = [Stranger(siege.at["d"][0]) for _ in range(40)]
     greeted = sum(one.hear(26) == BANNER for one in crowd[:4])
     time.sleep(0.3)
@@ -469,6 +473,8 @@ def main():
             found += case(program)
         except OSError as fault:
             found.append(f"{case.__name__}: {fault}")
+            if Siege.last and Siege.last.process.returncode is None:
+                found += Siege.last.objections(f"{case.__name__}: its run") or [f"{case.__name__}: its run ended as expected"]
     for line in found:
         print(f".ci/hostile.py: {line}")
     print(f"hostile runs: {ran}, not as expected: {len(found)}")

@@ -168,7 +168,7 @@ def ask(mine, target, told):
 def a_stranger_asks(program):
     """What is wrong where a stranger asks at b under the address of a: the run names a byte on the stranger's socket."""
     lines, at = nodes(["a", "b", "c"])
-    lines += ["link a b lossless_peer lossless_peer", "link a c lossless_peer lossless_peer", "off c", "limit 1500", "post a c 1 127 61 - -"]
+    lines += ["link a b lossless_peer lossless_peer", "link a c lossless_peer lossless_peer", "off c", "limit 4000", "post a c 1 127 61 - -"]
     told = []
     stranger = threading.Thread(target=ask, args=((at[0], 1), (at[1], 2), told))
     stranger.start()
