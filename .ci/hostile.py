@@ -136,13 +136,13 @@ def greeting(stranger):
 
 
 class Siege:
-    """A run of a, b and d that goes on until its limit."""
+    """A run of a, b and d, with so many event threads each, that goes on until its limit."""
 
     last = None
 
-    def __init__(self, program, limit=LIMIT, posts=50, descriptors=None):
+    def __init__(self, program, limit=LIMIT, posts=50, descriptors=None, centers=(1, 2, 4)):
         names = ["a", "b", "c", "d"]
-        lines, ports = nodes(names)
+        lines, ports = nodes(names, [(name, f" centers {count}") for name, count in zip(("a", "b", "d"), centers)])
         self.at = {name: (port, i + 1) for i, (name, port) in enumerate(zip(names, ports))}
         links = [("a", "b"), ("a", "c"), ("b", "c")]
         lines += [f"link {x} {y} lossless_peer lossless_peer" for x, y in links] + ["off c"]
@@ -406,7 +406,7 @@ def a_second_ident_in_ready(program):
 
 def descriptors_come_back(program):
     """Strangers have all descriptors of the process for a while: no link goes on then, and each does once they are gone."""
-    siege = Siege(program, limit=LIMIT, descriptors=18)
+    siege = Siege(program, limit=LIMIT, descriptors=18, centers=(1, 1, 1))
     crowd = [Stranger(siege.at["d"][0]) for _ in range(40)]
     greeted = sum(one.hear(26) == BANNER for one in crowd[:4])
     time.sleep(0.3)

@@ -60,7 +60,7 @@ def sorted_report(names, posts, fast=()):
 
 def three_nodes():
     names = ["a", "b", "c"]
-    lines, _ = nodes(names)
+    lines, _ = nodes(names, {"b": " centers 2", "c": " centers 4"}.items())
     pairs = [("a", "b"), ("a", "c"), ("b", "c")]
     lines += [f"link {a} {b} lossless_peer lossless_peer" for a, b in pairs]
     posts = [(x, y, 1, 127, f"{i:04x} - -") for a, b in pairs for x, y in ((a, b), (b, a)) for i in range(100)]
@@ -70,11 +70,12 @@ def three_nodes():
 
 
 def at_random(seed):
-    """Nodes and links at random, with priorities, kinds that are dispatched at once, throttles and cuts."""
+    """Nodes and links at random, with priorities, kinds that are dispatched at once, throttles, several centers and cuts."""
     r = random.Random(seed)
     names = [f"n{i}" for i in range(r.choice([2, 3, 4]))]
     fast = {n for n in names if r.random() < 0.4}
-    options = {n: (" fast 2" if n in fast else "") + (f" throttle {r.choice([1, 50, 300])}" if r.random() < 0.4 else "") for n in names}
+    options = {n: (" fast 2" if n in fast else "") + (f" throttle {r.choice([1, 50, 300])}" if r.random() < 0.4 else "")
+               + (f" centers {r.randint(1, 4)}" if r.random() < 0.7 else "") for n in names}
     lines, _ = nodes(names, options.items())
     pairs = [(a, b) for i, a in enumerate(names) for b in names[i + 1:] if len(names) == 2 or r.random() < 0.8] or [(names[0], names[1])]
     lines += [f"link {a} {b} lossless_peer lossless_peer" for a, b in pairs]
@@ -100,7 +101,7 @@ def a_post_and_a_mark():
 
 
 def a_node_is_off():
-    lines, _ = nodes(["a", "b"])
+    lines, _ = nodes(["a", "b"], {"a": " centers 3", "b": " centers 2"}.items())
     lines += ["link a b lossless_peer lossless_peer", "off b", "limit 200", "post a b 1 127 61 - -", "post a b 1 127 62 - -"]
     return lines, 7, "", "stalled: 2 left\n"
 
@@ -167,7 +168,7 @@ def ask(mine, target, told):
 
 def a_stranger_asks(program):
     """What is wrong where a stranger asks at b under the address of a: the run names a byte on the stranger's socket."""
-    lines, at = nodes(["a", "b", "c"])
+    lines, at = nodes(["a", "b", "c"], {"b": " centers 2"}.items())
     lines += ["link a b lossless_peer lossless_peer", "link a c lossless_peer lossless_peer", "off c", "limit 4000", "post a c 1 127 61 - -"]
     told = []
     stranger = threading.Thread(target=ask, args=((at[0], 1), (at[1], 2), told))
@@ -178,6 +179,31 @@ def a_stranger_asks(program):
     if status != 6 or out or not err.startswith(wanted):
         return [f"a_stranger_asks: status {status}, {err!r}, not {wanted!r}"]
     return []
+
+
+def a_stranger_says_nothing(program):
+    """What is wrong where a stranger keeps a socket open on which it says nothing: the run stalls as it would without it."""
+    lines, at = nodes(["a", "b"], {"a": " centers 2"}.items())
+    lines += ["link a b lossless_peer lossless_peer", "off b", "limit 300", "post a b 1 127 61 - -"]
+    stranger = threading.Thread(target=keep_still, args=(at[0],))
+    stranger.start()
+    got = run(program, lines)
+    stranger.join()
+    return [] if got == (7, "", "stalled: 1 left\n") else [f"a_stranger_says_nothing: {got}"]
+
+
+def keep_still(port):
+    """Opens a socket to a port, as soon as somebody listens there, and reads until it ends."""
+    for _ in range(100):
+        try:
+            with socket.create_connection(("127.0.0.1", port), timeout=20) as end:
+                while end.recv(65536):
+                    pass
+            return
+        except ConnectionRefusedError:
+            time.sleep(0.02)
+        except OSError:
+            return
 
 
 def objections(program, name, case):
@@ -201,10 +227,10 @@ def main():
     cases = {case.__name__: case() for case in (three_nodes, nothing_to_do, a_post_and_a_mark, a_node_is_off, a_bad_line, a_port_is_taken)}
     cases |= {f"at_random {seed}": at_random(seed) for seed in range(6)}
     found = [line for name, case in cases.items() for line in objections(program, name, case)]
-    found += a_stranger_asks(program)
+    found += a_stranger_asks(program) + a_stranger_says_nothing(program)
     for line in found:
         print(f".ci/threads.py: {line}")
-    print(f"runs on threads: {len(cases) + 1}, not as expected: {len(found)}")
+    print(f"runs on threads: {len(cases) + 2}, not as expected: {len(found)}")
     return bool(found)
 
 

@@ -4,7 +4,7 @@ use Rattle.std.specs.Prelude.{◌==◌, slice_get}
 use Rattle.std.specs.List.{AllByRecursion, range_with_len}
 use Rattle.std.proofs.lemmas.Bool.{eqb-true}
 use Rattle.m2_scenario.specs.m2_dispatch.declared.logged.Logged.{Logged}
-use Rattle.m2_scenario.specs.m2_dispatch.Heard.{heard_by}
+use Rattle.m2_scenario.specs.m2_dispatch.Heard.{Heard, heard_by}
 use Rattle.m2_edge.specs.Sink.{SeenSink, TakesBytes, TakesPrefix}
 use Rattle.m2_scenario.specs.OrderLaws.{CallsAndLeftArePosts}
 use Rattle.m2_scenario.specs.Order.{AreCounted}
@@ -23,6 +23,7 @@ use Rattle.m2_fabric.specs.Fabric.{SeenFabric}
 use Rattle.m2_promise.specs.Posted.{IsPromised}
 use Rattle.m2_promise.specs.PostLaws.{EndsArePromised}
 use Rattle.m2_run.specs.Joined.{PostsOfTypes}
+use Rattle.m2_run.specs.Nodes.{KeptNow, RunNodeNow, as_one, nodes_of}
 use Rattle.m2_run.specs.Ran.{heard_at_end}
 use Rattle.m2_run.specs.Rests.{loose_of}
 use Rattle.m2_cli.proofs.ThreadEnds.{RunsJoined, are_at_end}
@@ -186,9 +187,19 @@ by_place f g first all (x ∷ rest) so e =
     ap (λ y. y ∷ map (λ k. f (slice_get all k)) (range_with_len (first + 1) (length rest))) (ap f (ap (slice_get all) (let h : first ≡ first + 0 = omega arith in h) ∙ e 0) ∙ so x)
     ∙ ap (λ l. g x ∷ l) (by_place f g (first + 1) all rest so (λ k. ap (slice_get all) (let h : first + 1 + k ≡ first + suc k = omega arith in h) ∙ e (suc k)))
 
--- what the dispatchers of nodes that a run on threads has left were called with
-heard_there : (kept : List (NodeNow (List Logged))) → all_heard heard_by (left_there kept) ≡ map heard_at_end kept
-heard_there kept = by_place (heard_of_node heard_by 0 []) heard_at_end 0 kept kept (λ n. refl) (λ k. ap (slice_get kept) (let h : 0 + k ≡ k = omega arith in h))
+-- what the dispatchers of a node of one center were called with
+abbrev heard_of_one : NodeNow (List Logged) → List Heard
+heard_of_one n = heard_by n.center.out.fast ++ heard_by n.center.queued.inner
+
+-- what those of nodes that a run on threads has left were
+heard_there : (kept : List KeptNow) → all_heard heard_by (left_there kept) ≡ map heard_at_end (nodes_of kept)
+heard_there kept =
+    let nodes = map as_one (nodes_of kept) in
+    by_place (heard_of_node heard_by 0 []) heard_of_one 0 nodes nodes (λ n. refl) (λ k. ap (slice_get nodes) (let h : 0 + k ≡ k = omega arith in h)) ∙ each_as_one (nodes_of kept)
+  where
+    each_as_one : (ns : List RunNodeNow) → map heard_of_one (map as_one ns) ≡ map heard_at_end ns
+    each_as_one [] = refl
+    each_as_one (n ∷ ns) = ap (λ l. heard_at_end n ∷ l) (each_as_one ns)
 
 -- the laws on which it stands
 pub record ThreadLaws (may_give : ℕ → Type 0) : Type 0 where
@@ -201,7 +212,7 @@ module _ (may_give : ℕ → Type 0) (old new : SeenFabric) (laws : ThreadLaws m
   threads = record { prefixes = KeepsThreads may_give old new; all = KeepsAllThreads may_give old new }
 
   module _ (d : Draft) (status : Status) (given text : List ℕ) (read : threads_in given ≡ Ok d) (run : IsThreadRun may_give old new d status text) where
-    abbrev kept : List (NodeNow (List Logged))
+    abbrev kept : List KeptNow
     kept = run.ran.kept
 
     promised : IsPromised d.nodes d.links d.lines (λ _ _. loose_of kept) (left_there kept)
@@ -209,7 +220,7 @@ module _ (may_give : ℕ → Type 0) (old new : SeenFabric) (laws : ThreadLaws m
         let sound : IsSound d.nodes d.links (map draft_line run.lines) = subst (IsSound d.nodes d.links) (sym run.made) run.sound in
         subst (λ lines. IsPromised d.nodes d.links lines (λ _ _. loose_of kept) (left_there kept)) run.made
         (laws.ends d.nodes d.links (map draft_line run.lines) (λ _ _. loose_of kept) (left_there kept) sound
-        (are_at_end may_give (limit_of d) d.nodes d.links run.lines old new run.outcome run.ran (laws.joined d.nodes d.links run.lines sound run.posts)))
+        (are_at_end may_give (limit_of d) d.nodes d.links run.lines old new run.outcome run.ran sound (laws.joined d.nodes d.links run.lines sound run.posts)))
 
     abbrev left : ℕ
     left = run.outcome.left

@@ -4,6 +4,8 @@ use Rattle.std.specs.List.{AllByRecursion}
 use Rattle.m2_scenario.specs.m2_dispatch.declared.logged.Logged.{Logged}
 use Rattle.m2_scenario.specs.m2_dispatch.Heard.{heard_by}
 use Rattle.m2_fabric.specs.Fabric.{SeenFabric}
+use Rattle.m2_run.specs.Kept.{ended_as_one}
+use Rattle.m2_run.specs.Nodes.{KeptNow, nodes_of}
 use Rattle.m2_run.specs.Ran.{HasRan}
 use Rattle.m2_run.specs.Rests.{loose_of}
 use Rattle.m2_run.specs.declared.outcome.Outcome.{Outcome}
@@ -11,19 +13,17 @@ use Rattle.m2_scenario.specs.Draft.{Draft, draft_line}
 use Rattle.m2_scenario.specs.Report.{report_of}
 use Rattle.m2_scenario.specs.declared.line.Line.{Line}
 use Rattle.m2_scenario.specs.declared.link.Link.{Link}
-use Rattle.m2_exact.specs.m2_script.Ended.{ended}
 use Rattle.m2_exact.specs.m2_script.Outcome.{all_heard}
 use Rattle.m2_exact.specs.m2_script.Script.{RunNow}
-use Rattle.m2_exact.specs.m2_script.m2_cluster.Node.{NodeNow}
 use Rattle.m2_cli.specs.declared.status.Status.{Status}
 use Rattle.m2_cli.specs.Edge.{Edge}
 use Rattle.m2_cli.specs.Order.{AreSessionsKept, HeardAll, KeepsOrderBy}
 use Rattle.m2_cli.specs.Run.{IsMarkedOnlySo}
 use Rattle.m2_cli.specs.Threads.{limit_of, threads_in}
 
--- nodes where a run on threads has left them
-abbrev pub left_there : List (NodeNow (List Logged)) → RunNow (List Logged)
-left_there kept = ended (record { nodes = kept; room = 0 }) []
+-- nodes where a run on threads has left them, each as one of one center
+abbrev pub left_there : List KeptNow → RunNow (List Logged)
+left_there kept = ended_as_one (nodes_of kept)
 
 -- an end was marked down only where a line of the scenario does so, or where its record gave the session up
 abbrev pub EndsAreMarkedOnlySo : Draft → RunNow (List Logged) → Link → Type 0

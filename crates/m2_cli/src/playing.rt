@@ -32,7 +32,7 @@ pub(crate) fn prepare_threads<R, S, F, C, W, G>(
     gate: &G,
 ) -> Result<Printout, ReadFault>
 where
-    R: Threads + Wait + Sync,
+    R: Threads + Wait + Send + Sync + Copy,
     S: Source,
     F: Fabric,
     F::Port: Send,
@@ -60,7 +60,7 @@ fn play_bytes<R, F, C, W, G>(
     gate: &G,
 ) -> Result<Printout, NoMemory>
 where
-    R: Threads + Wait + Sync,
+    R: Threads + Wait + Send + Sync + Copy,
     F: Fabric,
     F::Port: Send,
     <F::Port as Port>::End: Send,
@@ -87,7 +87,7 @@ fn play_scenario<R, F, C, W, G>(
     gate: &G,
 ) -> Result<Printout, NoMemory>
 where
-    R: Threads + Wait + Sync,
+    R: Threads + Wait + Send + Sync + Copy,
     F: Fabric,
     F::Port: Send,
     <F::Port as Port>::End: Send,

@@ -37,7 +37,7 @@ pub fn run_program<'a, R, O, E, F, C, W, G>(
     gate: &G,
 ) -> Ended<'a, R, O, E>
 where
-    R: Files + Threads + Wait + Sync,
+    R: Files + Threads + Wait + Send + Sync + Copy,
     O: Write,
     E: Write,
     F: Fabric,

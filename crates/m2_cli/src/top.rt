@@ -49,7 +49,7 @@ pub fn msgr2<R, S, O, E, F, C, W, G>(
     gate: &G,
 ) -> Status
 where
-    R: Threads + Wait + Sync,
+    R: Threads + Wait + Send + Sync + Copy,
     S: Source,
     O: Sink,
     E: Sink,
@@ -107,7 +107,7 @@ fn run_command<R, S, O, E, F, C, W, G>(
     gate: &G,
 ) -> Status
 where
-    R: Threads + Wait + Sync,
+    R: Threads + Wait + Send + Sync + Copy,
     S: Source,
     O: Sink,
     E: Sink,
@@ -181,7 +181,7 @@ fn threads<R, S, O, E, F, C, W, G>(
     gate: &G,
 ) -> Status
 where
-    R: Threads + Wait + Sync,
+    R: Threads + Wait + Send + Sync + Copy,
     S: Source,
     O: Sink,
     E: Sink,

@@ -15,6 +15,10 @@ use std::thread::Threads;
 const BOTH: &[u8] = b"node a osd 127.0.0.1:7001/1\nnode b osd 127.0.0.1:7002/2\n\
 link a b lossless_peer lossless_peer\npost a b 7 127 61 - -\npost b a 7 127 62 - -\n";
 
+/// The same, where the one node has two event threads.
+const THREADS: &[u8] = b"node a osd 127.0.0.1:7001/1 centers 2\nnode b osd 127.0.0.1:7002/2\n\
+link a b lossless_peer lossless_peer\npost a b 7 127 61 - -\npost b a 7 127 62 - -\n";
+
 const REPORT: &[u8] = b"a from b 127 queued 7 62 - -\nb from a 127 queued 7 61 - -\n";
 
 /// A post to a node that is off.
@@ -45,16 +49,16 @@ pub(crate) fn expect<R: Abort + Threads + Wait + Sync + Send + Copy, C: Clock, G
     assert_eq!(rt; err.bytes(), said);
 }
 
-// Either node waits until the other has taken a turn, so on one thread the one or the other would wait in vain. The clock
-// stands still, so nothing ends for want of time.
+// Either thread waits until the other has taken a turn, so on one thread the one or the other would wait in vain. The clock
+// stands still, so nothing ends for want of time. The first two are of two nodes, and the others of one.
 #[test]
 fn threads_run_beside_one_another(rt: HostRuntime) {
-    for (held, awaited) in [(0, 1), (1, 0)] {
+    for (file, held, awaited) in [(BOTH, 0, 1), (BOTH, 1, 0), (THREADS, 0, 1), (THREADS, 1, 0)] {
         let gate = HoldGate::new(held, awaited, 100_000_000);
         let mut fabric = MemFabric::new(rt, rt.alloc()).expect(&rt, "memory");
         let clock = FixedClock::new(5);
         let expected = (Status::Done, REPORT, b"".as_slice());
-        expect(&rt, rt.alloc(), BOTH, &mut fabric, &clock, &gate, expected);
+        expect(&rt, rt.alloc(), file, &mut fabric, &clock, &gate, expected);
         assert!(rt; !gate.gave_up());
     }
 }

@@ -1,30 +1,38 @@
 -- All nodes go on: their workers to the latest moment, and behind that whoever started them.
-use Rattle.std.proofs.Common.{◌≡◌, ◌⊎◌, inl, inr, ℕ, zero, suc, ◌≤◌, max, Bool, List, [], ◌∷◌, length, map, refl, sym, ap, subst, ◌∙◌, arith}
+use Rattle.std.proofs.Common.{◌≡◌, ◌⊎◌, inl, inr, ℕ, zero, suc, ◌≤◌, max, Bool, List, [], ◌∷◌, drop, length, map, take, refl, sym, ap, subst, ◌∙◌, arith}
 use Rattle.std.specs.Prelude.{slice_get, Some}
 use Rattle.std.specs.List.{AllByRecursion}
-use Rattle.std.proofs.lemmas.List.{length-map}
 use Rattle.std.proofs.lemmas.Option.{none-some, same_Some}
-use Rattle.m2_bytes.proofs.m2_lemmas.Lists.{all_at, all_so, get_map}
-use Rattle.m2_cluster.specs.Node.{NodeNow}
+use Rattle.m2_bytes.proofs.m2_lemmas.Lists.{all_drop, all_so, all_take}
+use Rattle.m2_script.specs.m2_center.Center.{CenterNow}
+use Rattle.m2_links_go_on.specs.ClusterTold.{OneByOne}
 use Rattle.m2_links_go_on.specs.Course.{DialsInTime}
 use Rattle.m2_links_go_on.specs.Made.{NodeMade}
 use Rattle.m2_dispatch.specs.declared.logged.Logged.{Logged}
 use Rattle.m2_record.specs.RecordNow.{RecordNow}
+use Rattle.m2_run.proofs.Rounds.{node_goes_then}
 use Rattle.m2_run.proofs.Way.{goes_then}
+use Rattle.m2_scenario.specs.declared.link.Link.{Link}
 use Rattle.m2_scenario.specs.declared.node.Node.{Node}
-use Rattle.m2_run.specs.Way.{AllGoOn, GoesOn, IsUnderWay}
-use Rattle.m2_run.specs.Working.{AllWork, AreWorkersOf, WorkerNow, Works, latest, node_of}
-use Rattle.m2_run.proofs.Places.{Mapped, get_of_map, get_too}
+use Rattle.m2_run.specs.Kept.{left_of}
+use Rattle.m2_run.specs.Nodes.{RunNodeNow}
+use Rattle.m2_run.specs.Ran.{HasStalled}
+use Rattle.m2_run.specs.Settling.{HasPlayed}
+use Rattle.m2_run.specs.Sharing.{ShareNow}
+use Rattle.m2_run.specs.Way.{AllGoOn, GoesOn, IsUnderWay, NodeGoesOn}
+use Rattle.m2_run.specs.Working.{AllWork, AreGrouped, AreWorkersOf, IsGroup, WorkerNow, Works, center_of, latest, node_of, nodes_of_workers}
+use Rattle.m2_run.proofs.Places.{get_too}
+use Rattle.m2_run.proofs.Workers.{one_length}
 
 -- ---- where time passes
 
 in_time : (from now : ℕ) → from ≤ now → (r : RecordNow) → DialsInTime from r → DialsInTime now r
 in_time from now later r d = omega (arith, later, d)
 
--- a node waits
-pub waits_until : (may_give : ℕ → Type 0) (from now : ℕ) (started : Bool) (n : NodeNow (List Logged)) → may_give now → from ≤ now → GoesOn may_give from now started n n
-waits_until may_give from now started n given later = record {
-  way = λ (made : NodeMade) (w : IsUnderWay may_give from made n). record {
+-- a center waits
+pub waits_until : (may_give : ℕ → Type 0) (from now : ℕ) (started : Bool) (c : CenterNow (List Logged)) → may_give now → from ≤ now → GoesOn may_give from now started c c
+waits_until may_give from now started c given later = record {
+  way = λ (made : NodeMade) (w : IsUnderWay may_give from made c). record {
     course = record {
       given = given;
       made = w.course.made;
@@ -34,7 +42,7 @@ waits_until may_give from now started n given later = record {
       halves = w.course.halves;
       missed = w.course.missed;
       last = w.course.last;
-      dials = all_so (DialsInTime from) (DialsInTime now) (in_time from now later) n.center.records w.course.dials;
+      dials = all_so (DialsInTime from) (DialsInTime now) (in_time from now later) c.records w.course.dials;
     };
     came = w.came;
     logged = w.logged;
@@ -58,11 +66,12 @@ pub start_below : (start : ℕ) (ws : List WorkerNow) → start ≤ latest start
 start_below start [] = omega arith
 start_below start (w ∷ ws) = let here = first_below start w.moment in let more = start_below (max start w.moment) ws in omega (arith, here, more)
 
-moment_below : (start : ℕ) (ws : List WorkerNow) (k : ℕ) (w : WorkerNow) → slice_get ws k ≡ Some w → w.moment ≤ latest start ws
-moment_below start [] k w e = absurd (none-some w e)
-moment_below start (v ∷ ws) zero w e =
-    let same = ap (λ (u : WorkerNow). u.moment) (same_Some v w e) in let here = second_below start v.moment in let more = start_below (max start v.moment) ws in omega (arith, same, here, more)
-moment_below start (v ∷ ws) (suc k) w e = moment_below (max start v.moment) ws k w e
+all_moments_below : (start : ℕ) (ws : List WorkerNow) → AllByRecursion (λ (w : WorkerNow). w.moment ≤ latest start ws) ws
+all_moments_below start [] = tt
+all_moments_below start (w ∷ ws) =
+    let here = second_below start w.moment in
+    let more = start_below (max start w.moment) ws in
+    (omega (arith, here, more), all_moments_below (max start w.moment) ws)
 
 pub latest_given : (may_give : ℕ → Type 0) (start : ℕ) (ws : List WorkerNow) → may_give start → AllByRecursion (λ (w : WorkerNow). may_give w.moment) ws → may_give (latest start ws)
 latest_given may_give start [] given all = given
@@ -73,18 +82,6 @@ latest_given may_give start (w ∷ ws) given all = latest_given may_give (max st
 
 -- ---- workers
 
-pub as_many : (may_give : ℕ → Type 0) (old new : List WorkerNow) → AllWork may_give old new → length new ≡ length old
-as_many may_give [] [] all = refl
-as_many may_give [] (v ∷ vs) all = elim all [ ]
-as_many may_give (w ∷ ws) [] all = elim all [ ]
-as_many may_give (w ∷ ws) (v ∷ vs) all = ap suc (as_many may_give ws vs all.1)
-
-works_at : (may_give : ℕ → Type 0) (old new : List WorkerNow) (k : ℕ) (w v : WorkerNow) → AllWork may_give old new → slice_get old k ≡ Some w → slice_get new k ≡ Some v → Works may_give w v
-works_at may_give [] new k w v all p q = absurd (none-some w p)
-works_at may_give (a ∷ ws) [] k w v all p q = elim all [ ]
-works_at may_give (a ∷ ws) (b ∷ vs) zero w v all p q = subst (λ x. Works may_give x v) (same_Some a w p) (subst (Works may_give a) (same_Some b v q) all.0)
-works_at may_give (a ∷ ws) (b ∷ vs) (suc k) w v all p q = works_at may_give ws vs k w v all.1 p q
-
 pub all_given : (may_give : ℕ → Type 0) (start : ℕ) (old new : List WorkerNow) → may_give start → AllByRecursion (λ (w : WorkerNow). w.moment ≡ start) old → AllWork may_give old new →
     AllByRecursion (λ (w : WorkerNow). may_give w.moment) new
 all_given may_give start [] [] given moments all = tt
@@ -92,48 +89,142 @@ all_given may_give start [] (v ∷ vs) given moments all = elim all [ ]
 all_given may_give start (w ∷ ws) [] given moments all = elim all [ ]
 all_given may_give start (w ∷ ws) (v ∷ vs) given moments all = (all.0.given (subst may_give (sym moments.0) given), all_given may_give start ws vs given moments.1 all.1)
 
-started_at : (nodes : List Node) (start : ℕ) (ws : List WorkerNow) (k : ℕ) (x : Node) (w : WorkerNow) → AreWorkersOf nodes start ws → slice_get nodes k ≡ Some x → slice_get ws k ≡ Some w →
-    w.started ≡ x.started
-started_at nodes start ws k x w are p q =
-    same_Some w.started x.started (sym (get_map (λ (v : WorkerNow). v.started) ws k w q) ∙ ap (λ (bs : List Bool). slice_get bs k) are.started ∙ get_map (λ (y : Node). y.started) nodes k x p)
-
 -- each goes on to its own moment, and waits until the latest
 one_goes : (may_give : ℕ → Type 0) (start now : ℕ) (started : Bool) (w v : WorkerNow) → Works may_give w v → may_give start → w.moment ≡ start → w.started ≡ started → may_give now →
-    v.moment ≤ now → GoesOn may_give start now started w.node v.node
+    v.moment ≤ now → GoesOn may_give start now started w.center v.center
 one_goes may_give start now started w v works given at on later below =
-    goes_then may_give start v.moment now started w.node v.node v.node
-    (subst (λ (b : Bool). GoesOn may_give start v.moment b w.node v.node) on
-    (subst (λ (m : ℕ). GoesOn may_give m v.moment w.started w.node v.node) at (works.goes (subst may_give (sym at) given))))
-    (waits_until may_give v.moment now started v.node later below)
+    goes_then may_give start v.moment now started w.center v.center v.center
+    (subst (λ (b : Bool). GoesOn may_give start v.moment b w.center v.center) on
+    (subst (λ (m : ℕ). GoesOn may_give m v.moment w.started w.center v.center) at (works.goes (subst may_give (sym at) given))))
+    (waits_until may_give v.moment now started v.center later below)
 
-module _ (may_give : ℕ → Type 0) (nodes : List Node) (start : ℕ) (old new : List WorkerNow) (given : may_give start) (are : AreWorkersOf nodes start old) (all : AllWork may_give old new) where
+-- so do those of one node
+group_goes : (may_give : ℕ → Type 0) (start now : ℕ) (started : Bool) (ws vs : List WorkerNow) → AllWork may_give ws vs → may_give start → AllByRecursion (λ (w : WorkerNow). w.moment ≡ start) ws →
+    AllByRecursion (λ (w : WorkerNow). w.started ≡ started) ws → may_give now → AllByRecursion (λ (w : WorkerNow). w.moment ≤ now) vs →
+    OneByOne (GoesOn may_give start now started) (map center_of ws) (map center_of vs)
+group_goes may_give start now started [] [] all given moments on later below = tt
+group_goes may_give start now started [] (v ∷ vs) all given moments on later below = absurd all
+group_goes may_give start now started (w ∷ ws) [] all given moments on later below = absurd all
+group_goes may_give start now started (w ∷ ws) (v ∷ vs) all given moments on later below =
+    (one_goes may_give start now started w v all.0 given moments.0 on.0 later below.0, group_goes may_give start now started ws vs all.1 given moments.1 on.1 later below.1)
+
+-- ---- the first ones of lists, and those behind
+
+taken_one : {X : Type 0} (how : X → X → Type 0) (n : ℕ) (xs ys : List X) → OneByOne how xs ys → OneByOne how (take n xs) (take n ys)
+taken_one how zero xs ys all = tt
+taken_one how (suc n) [] [] all = tt
+taken_one how (suc n) [] (y ∷ ys) all = absurd all
+taken_one how (suc n) (x ∷ xs) [] all = absurd all
+taken_one how (suc n) (x ∷ xs) (y ∷ ys) all = (all.0, taken_one how n xs ys all.1)
+
+dropped_one : {X : Type 0} (how : X → X → Type 0) (n : ℕ) (xs ys : List X) → OneByOne how xs ys → OneByOne how (drop n xs) (drop n ys)
+dropped_one how zero xs ys all = all
+dropped_one how (suc n) [] [] all = tt
+dropped_one how (suc n) [] (y ∷ ys) all = absurd all
+dropped_one how (suc n) (x ∷ xs) [] all = absurd all
+dropped_one how (suc n) (x ∷ xs) (y ∷ ys) all = dropped_one how n xs ys all.1
+
+-- ---- the workers of each node
+
+-- what each worker keeps
+each_keeps : (may_give : ℕ → Type 0) (P : WorkerNow → Type 0) → ((w v : WorkerNow) → Works may_give w v → P w → P v) → (ws vs : List WorkerNow) → AllWork may_give ws vs →
+    AllByRecursion P ws → AllByRecursion P vs
+each_keeps may_give P keeps [] [] all its = tt
+each_keeps may_give P keeps [] (v ∷ vs) all its = absurd all
+each_keeps may_give P keeps (w ∷ ws) [] all its = absurd all
+each_keeps may_give P keeps (w ∷ ws) (v ∷ vs) all its = (keeps w v all.0 its.0, each_keeps may_give P keeps ws vs all.1 its.1)
+
+-- those of a node stay its workers
+group_stays : (may_give : ℕ → Type 0) (x : Node) (s : ShareNow) (ws vs : List WorkerNow) → AllWork may_give ws vs → IsGroup x s ws → IsGroup x s vs
+group_stays may_give x s ws vs all g = record {
+  count = one_length (Works may_give) ws vs all ∙ g.count;
+  started = each_keeps may_give (λ (w : WorkerNow). w.started ≡ x.started) (λ w v works is. works.started ∙ is) ws vs all g.started;
+  numbers = each_keeps may_give (λ (w : WorkerNow). w.numbers ≡ s.numbers) (λ w v works is. works.numbers ∙ is) ws vs all g.numbers;
+  throttle = each_keeps may_give (λ (w : WorkerNow). w.throttle ≡ s.throttle) (λ w v works is. works.throttle ∙ is) ws vs all g.throttle;
+}
+
+none_stay : (may_give : ℕ → Type 0) (ws vs : List WorkerNow) → AllWork may_give ws vs → ws ≡ [] → vs ≡ []
+none_stay may_give [] [] all none = refl
+none_stay may_give [] (v ∷ vs) all none = absurd all
+none_stay may_give (w ∷ ws) vs all none = absurd (omega (arith, ap length none))
+
+-- so do all
+pub stay_grouped : (may_give : ℕ → Type 0) (nodes : List Node) (shares : List ShareNow) (old new : List WorkerNow) → AllWork may_give old new → AreGrouped nodes shares old →
+    AreGrouped nodes shares new
+stay_grouped may_give [] [] old new all groups = none_stay may_give old new all groups
+stay_grouped may_give [] (s ∷ shares) old new all groups = absurd groups
+stay_grouped may_give (x ∷ nodes) [] old new all groups = absurd groups
+stay_grouped may_give (x ∷ nodes) (s ∷ shares) old new all groups = (
+  group_stays may_give x s (take x.centers old) (take x.centers new) (taken_one (Works may_give) x.centers old new all) groups.0,
+  stay_grouped may_give nodes shares (drop x.centers old) (drop x.centers new) (dropped_one (Works may_give) x.centers old new all) groups.1,
+)
+
+-- they make as many nodes
+pub as_many_nodes : (nodes : List Node) (shares : List ShareNow) (ws : List WorkerNow) → AreGrouped nodes shares ws → length (nodes_of_workers nodes shares ws) ≡ length nodes
+as_many_nodes [] shares ws groups = refl
+as_many_nodes (x ∷ nodes) [] ws groups = absurd groups
+as_many_nodes (x ∷ nodes) (s ∷ shares) ws groups = ap suc (as_many_nodes nodes shares (drop x.centers ws) groups.1)
+
+-- ---- all nodes
+
+module _ (may_give : ℕ → Type 0) (start now : ℕ) (given : may_give start) (later : may_give now) where
+  -- the nodes of workers that were grouped go on by what each worker does
+  nodes_go : (nodes : List Node) (shares : List ShareNow) (old new : List WorkerNow) → AreGrouped nodes shares old → AllByRecursion (λ (w : WorkerNow). w.moment ≡ start) old → AllWork may_give old new →
+      AllByRecursion (λ (w : WorkerNow). w.moment ≤ now) new → AllGoOn may_give start now nodes (nodes_of_workers nodes shares old) (nodes_of_workers nodes shares new)
+  nodes_go [] shares old new groups moments all below = record { count = refl; each = λ k x n m there p q. absurd (none-some x there) }
+  nodes_go (x ∷ nodes) [] old new groups moments all below = absurd groups
+  nodes_go (x ∷ nodes) (s ∷ shares) old new groups moments all below =
+      let rest = nodes_go nodes shares (drop x.centers old) (drop x.centers new) groups.1 (all_drop (λ (w : WorkerNow). w.moment ≡ start) x.centers old moments)
+      (dropped_one (Works may_give) x.centers old new all) (all_drop (λ (w : WorkerNow). w.moment ≤ now) x.centers new below) in
+      record {
+        count = ap suc rest.count;
+        each = first_node x nodes s shares old new (record {
+          each = group_goes may_give start now x.started (take x.centers old) (take x.centers new) (taken_one (Works may_give) x.centers old new all) given
+              (all_take (λ (w : WorkerNow). w.moment ≡ start) x.centers old moments) groups.0.started later (all_take (λ (w : WorkerNow). w.moment ≤ now) x.centers new below);
+          shared = refl;
+        }) rest.each;
+      }
+    where
+      first_node : (x : Node) (nodes : List Node) (s : ShareNow) (shares : List ShareNow) (old new : List WorkerNow) →
+          NodeGoesOn may_give start now x.started (node_of s (take x.centers old)) (node_of s (take x.centers new)) →
+          ((k : ℕ) (y : Node) (n m : RunNodeNow) → slice_get nodes k ≡ Some y → slice_get (nodes_of_workers nodes shares (drop x.centers old)) k ≡ Some n →
+          slice_get (nodes_of_workers nodes shares (drop x.centers new)) k ≡ Some m → NodeGoesOn may_give start now y.started n m) →
+          (k : ℕ) (y : Node) (n m : RunNodeNow) → slice_get (x ∷ nodes) k ≡ Some y → slice_get (nodes_of_workers (x ∷ nodes) (s ∷ shares) old) k ≡ Some n →
+          slice_get (nodes_of_workers (x ∷ nodes) (s ∷ shares) new) k ≡ Some m → NodeGoesOn may_give start now y.started n m
+      first_node x nodes s shares old new goes rest zero y n m there p q =
+          subst (λ (z : Node). NodeGoesOn may_give start now z.started n m) (same_Some x y there)
+          (subst (λ (z : RunNodeNow). NodeGoesOn may_give start now x.started z m) (same_Some (node_of s (take x.centers old)) n p)
+          (subst (NodeGoesOn may_give start now x.started (node_of s (take x.centers old))) (same_Some (node_of s (take x.centers new)) m q) goes))
+      first_node x nodes s shares old new goes rest (suc k) y n m there p q = rest k y n m there p q
+
+module _ (may_give : ℕ → Type 0) (nodes : List Node) (shares : List ShareNow) (start : ℕ) (old new : List WorkerNow) (given : may_give start) (are : AreWorkersOf nodes shares start old)
+    (all : AllWork may_give old new) where
   pub now_given : may_give (latest start new)
   now_given = latest_given may_give start new given (all_given may_give start old new given are.moments all)
 
-  each_goes : (k : ℕ) (x : Node) (n m : NodeNow (List Logged)) → slice_get nodes k ≡ Some x → Mapped node_of old k n → Mapped node_of new k m →
-      GoesOn may_give start (latest start new) x.started n m
-  each_goes k x n m there w v =
-      subst (λ (a : NodeNow (List Logged)). GoesOn may_give start (latest start new) x.started a m) w.same
-      (subst (GoesOn may_give start (latest start new) x.started w.item.node) v.same
-      (one_goes may_give start (latest start new) x.started w.item v.item (works_at may_give old new k w.item v.item all w.there v.there) given
-      (all_at (λ (u : WorkerNow). u.moment ≡ start) old k w.item w.there are.moments) (started_at nodes start old k x w.item are there w.there) now_given (moment_below start new k v.item v.there)))
-
-  pub all_go_on : AllGoOn may_give start (latest start new) nodes (map node_of old) (map node_of new)
-  all_go_on = record {
-    count = length-map new node_of ∙ as_many may_give old new all ∙ sym (length-map old node_of);
-    each = λ k x n m there p q. each_goes k x n m there (get_of_map node_of old k n p) (get_of_map node_of new k m q);
-  }
-
--- as many as the nodes
-pub workers_count : (nodes : List Node) (start : ℕ) (ws : List WorkerNow) → AreWorkersOf nodes start ws → length ws ≡ length nodes
-workers_count nodes start ws are = sym (length-map ws (λ (w : WorkerNow). w.started)) ∙ ap length are.started ∙ length-map nodes (λ (x : Node). x.started)
+  pub all_go_on : AllGoOn may_give start (latest start new) nodes (nodes_of_workers nodes shares old) (nodes_of_workers nodes shares new)
+  all_go_on = nodes_go may_give start (latest start new) given now_given nodes shares old new are.groups are.moments all (all_moments_below start new)
 
 -- ---- all, one after another
 
-pub all_go_after : (may_give : ℕ → Type 0) (a b c : ℕ) (nodes : List Node) (xs ys zs : List (NodeNow (List Logged))) → AllGoOn may_give a b nodes xs ys → AllGoOn may_give b c nodes ys zs →
+pub all_go_after : (may_give : ℕ → Type 0) (a b c : ℕ) (nodes : List Node) (xs ys zs : List RunNodeNow) → AllGoOn may_give a b nodes xs ys → AllGoOn may_give b c nodes ys zs →
     AllGoOn may_give a c nodes xs zs
 all_go_after may_give a b c nodes xs ys zs g h = record {
   count = h.count ∙ g.count;
   each = λ k x n m there p q. (let mid = get_too xs ys k n g.count p in
-      goes_then may_give a b c x.started n mid.item m (g.each k x n mid.item there p mid.there) (h.each k x mid.item m there mid.there q));
+      node_goes_then may_give a b c x.started n mid.item m (g.each k x n mid.item there p mid.there) (h.each k x mid.item m there mid.there q));
+}
+
+-- nodes whose threads have worked, and with which whoever started them went on, have played
+pub have_played : (may_give : ℕ → Type 0) (limit : ℕ) (nodes : List Node) (links : List Link) (shares : List ShareNow) (start now stop left : ℕ) (old new : List WorkerNow) (mid end : List RunNodeNow) →
+    may_give start → AreWorkersOf nodes shares start old → AllWork may_give old new → mid ≡ nodes_of_workers nodes shares new → now ≡ latest start new → left ≡ left_of links end →
+    (left ≡ 0) ⊎ HasStalled limit nodes end start stop → now ≤ stop → may_give stop → AllGoOn may_give now stop nodes mid end →
+    HasPlayed may_give limit nodes links start stop (nodes_of_workers nodes shares old) end left
+have_played may_give limit nodes links shares start now stop left old new mid end given are all joined latest_is left_is over later stop_given goes = record {
+  left_is = left_is;
+  over = over;
+  later = let first = start_below start new in omega (arith, first, later, latest_is);
+  given = stop_given;
+  goes_on = all_go_after may_give start (latest start new) stop nodes (nodes_of_workers nodes shares old) (nodes_of_workers nodes shares new) end (all_go_on may_give nodes shares start old new given are all)
+      (subst (λ (m : ℕ). AllGoOn may_give m stop nodes (nodes_of_workers nodes shares new) end) latest_is (subst (λ (ns : List RunNodeNow). AllGoOn may_give now stop nodes ns end) joined goes));
 }

@@ -1,14 +1,17 @@
 -- A link of a kept run that has a history is a link as weaving asks for one: what is left of its nodes are left nodes, its records are
 -- towards each other, and what their plans post keeps the bounds of frames.
-use Rattle.std.proofs.Common.{◌≡◌, ◌⊎◌, ℕ, true, false, List, map, Some, Ok, sym, ap, subst, ◌∙◌, arith}
+use Rattle.std.proofs.Common.{◌≡◌, ◌⊎◌, ℕ, ◌+◌, true, false, List, map, Some, Ok, sym, ap, subst, ◌∙◌, arith}
 use Rattle.std.specs.Prelude.{length, slice_get}
 use Rattle.std.specs.List.{AllByRecursion}
 use Rattle.std.proofs.lemmas.Option.{get_or_from_slice_get, same_Some, slice_get_within}
-use Rattle.m2_cluster.specs.Node.{NodeNow}
+use Rattle.m2_bytes.proofs.m2_lemmas.Lists.{all_at, all_so_of}
+use Rattle.m2_links_go_on.proofs.CourseEnding.{centers_run_their_course}
 use Rattle.m2_links_go_on.proofs.m2_history.WovenSides.{steps_named}
+use Rattle.m2_links_go_on.specs.CourseEnded.{HasRunItsCourse, ends_left}
 use Rattle.m2_links_go_on.specs.Made.{NodeMade}
 use Rattle.m2_dispatch.specs.declared.logged.Logged.{Logged}
 use Rattle.m2_fabric.specs.Fabric.{SeenFabric}
+use Rattle.m2_fabric.specs.declared.socket.SocketId.{SocketId}
 use Rattle.m2_links_go_on.proofs.m2_growth.Among.{of_each}
 use Rattle.m2_links_go_on.proofs.m2_growth.Records.{askers_are}
 use Rattle.m2_links_go_on.specs.m2_growth.Halves.{IsOneOf}
@@ -26,27 +29,38 @@ use Rattle.m2_links_go_on.specs.m2_history.m2_channel.Lossy.{AreLossy}
 use Rattle.m2_links_go_on.proofs.LeftNodes.{are_joined}
 use Rattle.m2_links_go_on.specs.Left.{AreLeftNodes, IsLeftNode}
 use Rattle.m2_record.specs.IsRecord.{IsRecord}
-use Rattle.m2_record.specs.RecordNow.{RecordNow}
+use Rattle.m2_record.specs.RecordNow.{RecordNow, ids_of}
 use Rattle.m2_scenario.specs.Draft.{draft_line}
 use Rattle.m2_scenario.specs.Valid as valid
 use Rattle.m2_scenario.specs.declared.line.Line.{Line}
 use Rattle.m2_scenario.specs.declared.link.Link.{Link}
 use Rattle.m2_scenario.specs.declared.node.Node.{Node}
 use Rattle.m2_script.proofs.Lists.{item_at}
+use Rattle.m2_script.specs.Nodes.{cuts_of}
+use Rattle.m2_script.specs.m2_center.Center.{CenterNow}
+use Rattle.m2_script.specs.m2_center.Finishing.{rest_of}
+use Rattle.m2_script.specs.m2_center.Home.{home_of}
 use Rattle.m2_trail.specs.Arrivals.{LooseNow}
 use Rattle.m2_weave.proofs.Written.{all_read}
 use Rattle.m2_weave.specs.Stops.{IsWoven}
 use Rattle.m2_weave.specs.Table.{bytes_of}
-use Rattle.m2_run.proofs.JoinedHalves.{leaves, left_by}
-use Rattle.m2_run.proofs.JoinedNodes.{are_apart, each_left, halves_are, is_towards, left_of_all, one_left}
+use Rattle.m2_run.proofs.JoinedCenters.{IsLeftCenter}
+use Rattle.m2_run.proofs.JoinedHalves.{leaves, left_at}
+use Rattle.m2_run.proofs.JoinedNodes.{AreAtHome, are_apart, each_left, halves_are, is_towards, left_of_all, one_left, peers_apart, side_at}
 use Rattle.m2_run.proofs.JoinedPolicies.{IsOverLink, all_over_link, are_lossy, are_nodes, far_policy, near_policy}
 use Rattle.m2_run.proofs.JoinedPosts.{posts_fit}
-use Rattle.m2_run.proofs.JoinedSides.{IsOfNode, all_of_node, are_named}
+use Rattle.m2_run.proofs.JoinedSides.{IsOfNode, IsOfThread, all_of_node, all_of_thread, are_named}
+use Rattle.m2_run.proofs.SideLists.{at_one}
+use Rattle.m2_run.proofs.Times.{one_if, times, times_sum}
+use Rattle.m2_run.proofs.Weighing.{weigh_the_same}
 use Rattle.m2_run.specs.Joined.{AreWoven, IsJoinedBy, IsPromisedIn, IsRunOf, KeptLinksAreJoined, LossyLinksComeInOrder, PostsOfTypes, RunsAreJoined, RunsAreNeverReset}
 use Rattle.m2_run.specs.Kept.{IsKeptNode}
+use Rattle.m2_run.specs.Nodes.{KeptNow, records_in}
 use Rattle.m2_run.specs.Ran.{HasRan}
-use Rattle.m2_run.specs.Rests.{EndedNow, IsEndOf, loose_of}
-use Rattle.m2_run.specs.Weaving.{HasHistory, towards}
+use Rattle.m2_run.specs.Rests.{EndedCenterNow, EndedNow, IsEndOf, loose_of}
+use Rattle.m2_run.specs.Types.{IsCenterOfTypes}
+use Rattle.m2_run.specs.Way.{IsUnderWay, made_in}
+use Rattle.m2_run.specs.Weaving.{HasHistory, side_of, side_towards, towards}
 use Rattle.m2_run.specs.declared.outcome.Outcome.{Outcome}
 
 -- ---- the order of a history
@@ -59,46 +73,85 @@ order_is a b loose h w = record {
       (sym (ap (map (λ (s : HistoryStep). s.strand)) w.2.steps ∙ steps_named _ w.2.order)) w.2.woven;
 }
 
+-- ---- a center
+
+-- a center that has run its course has an end for each socket, and as many as it made
+held_is : (may_give : ℕ → Type 0) (moment : ℕ) (made : NodeMade) (c : CenterNow (List Logged)) → HasRunItsCourse may_give moment made (rest_of c) → (k : SocketId) →
+    times k c.port.made ≡ times k (ids_of (ends_left (rest_of c)))
+held_is may_give moment made c ran k =
+    let r = rest_of c in
+    sym (times_sum k c.port.made) ∙ weigh_the_same c.port.made (ids_of (ends_left r)) ran.once ran.own ran.sockets (one_if k) ∙ times_sum k (ids_of (ends_left r))
+
 -- ---- a run
 
-module _ (may_give : ℕ → Type 0) (nodes : List Node) (links : List Link) (lines : List Line) (kept : List (NodeNow (List Logged))) (ends : List EndedNow) (given : IsRunOf may_give nodes links lines kept ends) where
+module _ (may_give : ℕ → Type 0) (nodes : List Node) (links : List Link) (lines : List Line) (kept : List KeptNow) (ends : List EndedNow) (given : IsRunOf may_give nodes links lines kept ends) where
   -- the node at a place, as the scenario has it and as it is kept
-  record IsAt (k : ℕ) (n : NodeNow (List Logged)) : Type 0 where
+  record IsAt (k : ℕ) (n : KeptNow) : Type 0 where
     node : Node
     there : slice_get nodes k ≡ Some node
     is : IsKeptNode may_give given.stop nodes links lines given.old given.new k node n
 
-  node_at : (k : ℕ) (n : NodeNow (List Logged)) → slice_get kept k ≡ Some n → IsAt k n
+  node_at : (k : ℕ) (n : KeptNow) → slice_get kept k ≡ Some n → IsAt k n
   node_at k n e =
       let x = item_at nodes k (omega (arith, slice_get_within kept k n e, given.run.count)) in
       record { node = x.0; there = x.1; is = given.run.each k x.0 n x.1 e }
 
-  listens : (k : ℕ) (x : Node) (n : NodeNow (List Logged)) → IsKeptNode may_give given.stop nodes links lines given.old given.new k x n → n.center.port.at ≡ x.at
-  listens k x n is = ap (λ (m : NodeMade). m.at) is.node.way.course.made
+  -- ---- a center of it
 
-  of_node : (k : ℕ) (n : NodeNow (List Logged)) → IsAt k n → AllByRecursion (IsOfNode nodes lines k) n.center.records
-  of_node k n at = all_of_node nodes links lines k at.is.node.word at.node n at.is.node.way.course.made
+  module _ (k : ℕ) (n : KeptNow) (at : IsAt k n) (j : ℕ) (c : CenterNow (List Logged)) (there : slice_get n.node.centers j ≡ Some c) where
+    way : IsUnderWay may_give given.stop (made_in nodes links lines k j at.is.node.word at.node) c
+    way = (at.is.node.each j c there).way
 
-  over_link : (k : ℕ) (n : NodeNow (List Logged)) → IsAt k n → AllByRecursion (IsOverLink links k) n.center.records
-  over_link k n at = all_over_link nodes links lines k at.is.node.word at.node n at.is.node.way.course.made
+    types : IsCenterOfTypes c
+    types = all_at IsCenterOfTypes n.node.centers j c there at.is.types.centers
 
-  is_left : (k : ℕ) (n : NodeNow (List Logged)) → slice_get kept k ≡ Some n → IsLeftNode (left_by n)
-  is_left k n e =
-      let at = node_at k n e in
-      leaves n may_give given.stop _ at.is.types at.is.node.way
-      (are_named nodes links _ given.sound lines k at.node at.there n (listens k at.node n at.is) (of_node k n at) at.is.types.ranged)
+    of_thread : AllByRecursion (IsOfThread nodes lines k at.node.centers j) c.records
+    of_thread = all_of_thread nodes links lines k at.is.node.word j at.node c way.course.made
 
-  are_left : AreLeftNodes (left_of_all kept)
+    of_node : AllByRecursion (IsOfNode nodes lines k) c.records
+    of_node = all_of_node nodes links lines k at.is.node.word j at.node c way.course.made
+
+    over_link : AllByRecursion (IsOverLink links k) c.records
+    over_link = all_over_link nodes links lines k j at.is.node.word at.node c way.course.made
+
+    at_home : AreAtHome at.node.centers j c.records
+    at_home = all_so_of (IsOfThread nodes lines k at.node.centers j) (λ (r : RecordNow). home_of r.core.facts.peer at.node.centers ≡ j) c.records (λ r is. is.home) of_thread
+
+    left_center : IsLeftCenter at.node.at c
+    left_center = record {
+      listens = ap (λ (m : NodeMade). m.at) way.course.made;
+      own = way.course.own;
+      held = held_is may_give given.stop (made_in nodes links lines k j at.is.node.word at.node) c
+          (centers_run_their_course (List Logged) (Unit {0}) (λ u. may_give) tt given.stop (made_in nodes links lines k j at.is.node.word at.node) c way.course);
+      halves = way.course.halves;
+      sessions = types.center.consistent;
+      records = types.records;
+      came = way.came;
+      named = are_named nodes links (map draft_line lines) given.sound lines k at.node at.there c of_node types.ranged;
+    }
+
+  of_node_at : (k : ℕ) (n : KeptNow) (at : IsAt k n) → IsLeftNode (left_at at.node.at n)
+  of_node_at k n at =
+      leaves at.node.at (cuts_of nodes lines k) n (λ j c there. left_center k n at j c there)
+      (peers_apart at.node.centers 0 n.node.centers
+      (λ j c there. subst (λ i. AreAtHome at.node.centers i c.records) (let same : j ≡ 0 + j = omega arith in same) (at_home k n at j c there))
+      (λ j c there. (left_center k n at j c there).halves.peers))
+      at.is.types.whole at.is.types.seen at.is.opened at.is.once
+
+  is_left : (k : ℕ) (x : Node) (n : KeptNow) → slice_get nodes k ≡ Some x → slice_get kept k ≡ Some n → IsLeftNode (left_at x.at n)
+  is_left k x n e f = of_node_at k n (record { node = x; there = e; is = given.run.each k x n e f })
+
+  are_left : AreLeftNodes (left_of_all nodes kept)
   are_left = record {
-    each = each_left IsLeftNode kept is_left;
-    apart = are_apart nodes kept given.sound.apart given.run.count (λ k x n p q. listens k x n (given.run.each k x n p q));
+    each = each_left IsLeftNode nodes kept is_left;
+    apart = are_apart nodes kept given.sound.apart given.run.count;
   }
 
   -- ---- a record of it
 
   -- what is left of a node is that of the one that is kept at its place
   record IsEnded (k : ℕ) (e : EndedNow) : Type 0 where
-    node : NodeNow (List Logged)
+    node : KeptNow
     there : slice_get kept k ≡ Some node
     is : IsEndOf node e
 
@@ -108,62 +161,69 @@ module _ (may_give : ℕ → Type 0) (nodes : List Node) (links : List Link) (li
       record { node = n.0; there = n.1; is = given.left.each k n.0 e n.1 there }
 
   -- the record of the node at place k that is towards that at place j
-  record IsSide (k j : ℕ) (n : NodeNow (List Logged)) (r : RecordNow) : Type 0 where
-    one : IsOneOf r n.center.records
+  record IsSide (k j : ℕ) (n : KeptNow) (r : RecordNow) : Type 0 where
+    one : IsOneOf r (records_in n.node)
     of_types : IsRecord r
     of_it : IsOfNode nodes lines k r
     over : IsOverLink links k r
     place : r.place ≡ j
 
-  side_at : (k j : ℕ) (e : EndedNow) (r : RecordNow) (n : IsEnded k e) → towards j e.records ≡ Some r → IsSide k j n.node r
-  side_at k j e r n t =
+  side_of_it : (k j : ℕ) (e : EndedNow) (d : EndedCenterNow) (r : RecordNow) (n : IsEnded k e) → side_towards j e.centers ≡ Some (side_of d r) → IsSide k j n.node r
+  side_of_it k j e d r n t =
       let at = node_at k n.node n.there in
-      let its = is_towards j r n.node.center.records (ap (towards j) (sym n.is.records) ∙ t) in
+      let s = side_at j e.centers d r t in
+      let c = item_at n.node.node.centers s.place (omega (arith, slice_get_within e.centers s.place d s.there, n.is.count)) in
+      let end = n.is.each s.place c.0 d c.1 s.there in
+      let its = is_towards j r c.0.records (ap (towards j) (sym end.records) ∙ s.side) in
       record {
-        one = its.one;
-        of_types = of_each IsRecord r n.node.center.records at.is.types.records its.one;
-        of_it = of_each (IsOfNode nodes lines k) r n.node.center.records (of_node k n.node at) its.one;
-        over = of_each (IsOverLink links k) r n.node.center.records (over_link k n.node at) its.one;
+        one = at_one (λ (c : CenterNow (List Logged)). c.records) r n.node.node.centers s.place c.0 c.1 its.one;
+        of_types = of_each IsRecord r c.0.records (types k n.node at s.place c.0 c.1).records its.one;
+        of_it = of_each (IsOfNode nodes lines k) r c.0.records (of_node k n.node at s.place c.0 c.1) its.one;
+        over = of_each (IsOverLink links k) r c.0.records (over_link k n.node at s.place c.0 c.1) its.one;
         place = its.place;
       }
 
   -- its peer listens at the other's place
-  peer_is : (k j : ℕ) (n m : NodeNow (List Logged)) (r : RecordNow) → IsSide k j n r → slice_get kept j ≡ Some m → r.core.facts.peer ≡ m.center.port.at
-  peer_is k j n m r side e =
-      let at = node_at j m e in
-      let same = same_Some side.of_it.peer at.node (sym side.of_it.peer_there ∙ ap (slice_get nodes) side.place ∙ at.there) in
-      side.of_it.towards ∙ ap (λ (y : Node). y.at) same ∙ sym (listens j at.node m at.is)
+  peer_is : (k j : ℕ) (n : KeptNow) (y : Node) (r : RecordNow) → IsSide k j n r → slice_get nodes j ≡ Some y → r.core.facts.peer ≡ y.at
+  peer_is k j n y r side e =
+      side.of_it.towards ∙ ap (λ (z : Node). z.at) (same_Some side.of_it.peer y (sym side.of_it.peer_there ∙ ap (slice_get nodes) side.place ∙ e))
 
   -- ---- a link
 
   module _ (a b : RecordNow) (w : AreWoven kept ends links a b) where
-    n : IsEnded w.link.a w.near
-    n = ended_at w.link.a w.near w.is_of.near_there
+    n : IsEnded w.link.a w.is_of.here
+    n = ended_at w.link.a w.is_of.here w.is_of.near_there
 
-    m : IsEnded w.link.b w.far
-    m = ended_at w.link.b w.far w.is_of.far_there
+    m : IsEnded w.link.b w.is_of.there
+    m = ended_at w.link.b w.is_of.there w.is_of.far_there
 
     near : IsSide w.link.a w.link.b n.node a
-    near = side_at w.link.a w.link.b w.near a n w.is_of.mine
+    near = side_of_it w.link.a w.link.b w.is_of.here w.near a n w.is_of.mine
 
     far : IsSide w.link.b w.link.a m.node b
-    far = side_at w.link.b w.link.a w.far b m w.is_of.theirs
+    far = side_of_it w.link.b w.link.a w.is_of.there w.far b m w.is_of.theirs
+
+    here : IsAt w.link.a n.node
+    here = node_at w.link.a n.node n.there
+
+    there : IsAt w.link.b m.node
+    there = node_at w.link.b m.node m.there
 
     joined : IsLink (link_of a b (loose_of kept))
     joined =
-        subst (λ ls. IsLink (link_of a b ls)) (halves_are kept)
-        (are_joined all_read askers_are records_are_sides (left_of_all kept) (left_by n.node) (left_by m.node) a b (strands_in w.history) are_left
+        subst (λ ls. IsLink (link_of a b ls)) (halves_are nodes kept given.run.count)
+        (are_joined all_read askers_are records_are_sides (left_of_all nodes kept) (left_at here.node.at n.node) (left_at there.node.at m.node) a b (strands_in w.history) are_left
         (record {
-          near = one_left kept w.link.a n.node n.there;
-          far = one_left kept w.link.b m.node m.there;
+          near = one_left nodes kept w.link.a here.node n.node here.there n.there;
+          far = one_left nodes kept w.link.b there.node m.node there.there m.there;
           mine = near.one;
           theirs = far.one;
-          a_peer = peer_is w.link.a w.link.b n.node m.node a near m.there;
-          b_peer = peer_is w.link.b w.link.a m.node n.node b far n.there;
+          a_peer = peer_is w.link.a w.link.b n.node there.node a near there.there;
+          b_peer = peer_is w.link.b w.link.a m.node here.node b far here.there;
         })
         (posts_fit lines given.posts w.link.a a near.of_types near.of_it.plan)
         (posts_fit lines given.posts w.link.b b far.of_types far.of_it.plan)
-        (subst (λ ls. IsOrderOf (link_of a b ls) (strands_in w.history)) (sym (halves_are kept)) (order_is a b (loose_of kept) w.history w.weaves)))
+        (subst (λ ls. IsOrderOf (link_of a b ls) (strands_in w.history)) (sym (halves_are nodes kept given.run.count)) (order_is a b (loose_of kept) w.history w.weaves)))
 
     -- its policies are the link's
 

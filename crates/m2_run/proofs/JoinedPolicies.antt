@@ -6,8 +6,8 @@ use Rattle.std.specs.Option.{option_to_list}
 use Rattle.std.proofs.lemmas.Bool.{cases_lt, eq-eqb, eqb-true}
 use Rattle.std.proofs.lemmas.Option.{get_or_from_slice_get, none-some, same_Some, slice_get_within}
 use Rattle.m2_bytes.proofs.m2_lemmas.Booleans.{both_true, or_left, or_right}
-use Rattle.m2_cluster.specs.Node.{NodeNow}
-use Rattle.m2_links_go_on.specs.Made.{NodeMade, SideMade, node_made, side_made}
+use Rattle.m2_script.specs.m2_center.Center.{CenterNow}
+use Rattle.m2_links_go_on.specs.Made.{SideMade, node_made, side_made}
 use Rattle.m2_dispatch.specs.declared.logged.Logged.{Logged}
 use Rattle.m2_links_go_on.specs.m2_history.m2_channel.m2_never_reset.Orders.{AreNodes}
 use Rattle.m2_links_go_on.specs.m2_history.m2_channel.Lossy.{AreLossy}
@@ -22,7 +22,9 @@ use Rattle.m2_scenario.specs.declared.link.Link.{Link}
 use Rattle.m2_scenario.specs.declared.node.Node.{Node}
 use Rattle.m2_script.specs.Made.{new_towards, other_of, over, records_of}
 use Rattle.m2_script.specs.declared.made.Towards.{Towards}
-use Rattle.m2_run.proofs.JoinedSides.{through}
+use Rattle.m2_run.proofs.JoinedSides.{sides_are, through}
+use Rattle.m2_run.proofs.SideLists.{all_filtered}
+use Rattle.m2_run.specs.Homes.{at_home, is_at_home}
 use Rattle.m2_run.specs.Planned.{side_in, waiting}
 use Rattle.m2_run.specs.Way.{made_in}
 
@@ -97,11 +99,12 @@ by_side links lines k r s same its = record {
     facts : r.core.facts ≡ waiting s.core.facts
     facts = ap (λ (x : SideMade). x.facts) same
 
-pub all_over_link : (nodes : List Node) (links : List Link) (lines : List Line) (k word : ℕ) (x : Node) (n : NodeNow (List Logged)) → node_made n.center ≡ made_in nodes links lines k word x →
-    AllByRecursion (IsOverLink links k) n.center.records
-all_over_link nodes links lines k word x n e =
-    through side_made (side_in lines k) (IsOverLink links k) (IsOverLink links k) (by_side links lines k) n.center.records (records_of nodes links k word) (ap (λ (m : NodeMade). m.sides) e)
-    (all_over_it nodes k word links links (λ i m e. (i, e)))
+pub all_over_link : (nodes : List Node) (links : List Link) (lines : List Line) (k j word : ℕ) (x : Node) (c : CenterNow (List Logged)) → node_made c ≡ made_in nodes links lines k j word x →
+    AllByRecursion (IsOverLink links k) c.records
+all_over_link nodes links lines k j word x c e =
+    through side_made (side_in lines k) (IsOverLink links k) (λ s. IsOverLink links k s × (is_at_home nodes x.centers j s.place ≡ true)) (λ r s same its. by_side links lines k r s same its.0) c.records
+    (at_home nodes x.centers j (records_of nodes links k word)) (sides_are nodes links lines k word j x c e)
+    (all_filtered (IsOverLink links k) (λ (s : RecordNow). is_at_home nodes x.centers j s.place) (records_of nodes links k word) (all_over_it nodes k word links links (λ i m e. (i, e))))
 
 -- ---- of one link
 

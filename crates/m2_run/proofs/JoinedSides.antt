@@ -1,10 +1,14 @@
--- The records of a node that is under way are those over the scenario's links, each towards the node at its place.
-use Rattle.std.proofs.Common.{◌≡◌, ℕ, List, [], ◌∷◌, map, Some, sym, ap, subst, ◌∙◌, arith}
+-- The records of a center that is under way are those over the scenario's links whose peers are at home with its thread, each towards the
+-- node at its place.
+use Rattle.std.proofs.Common.{◌≡◌, ℕ, true, List, [], ◌∷◌, map, Some, sym, ap, subst, ◌∙◌, arith}
 use Rattle.std.specs.Prelude.{slice_get}
 use Rattle.std.specs.List.{AllByRecursion}
+use Rattle.std.proofs.lemmas.Bool.{eqb-true}
 use Rattle.std.proofs.lemmas.Option.{get_or_from_slice_get, same_Some, slice_get_within}
 use Rattle.m2_addr.specs.declared.addr.Addr.{Addr}
-use Rattle.m2_cluster.specs.Node.{NodeNow}
+use Rattle.m2_bytes.proofs.m2_lemmas.Lists.{all_so_of}
+use Rattle.m2_script.specs.m2_center.Center.{CenterNow}
+use Rattle.m2_script.specs.m2_center.Home.{home_of}
 use Rattle.m2_links_go_on.specs.Made.{NodeMade, SideMade, node_made, side_made}
 use Rattle.m2_dispatch.specs.declared.logged.Logged.{Logged}
 use Rattle.m2_links_go_on.proofs.m2_growth.Among.{each_by, of_each}
@@ -21,6 +25,9 @@ use Rattle.m2_scenario.specs.Draft.{DraftLine}
 use Rattle.m2_scenario.specs.Valid.{HasMsgr2, IsSound}
 use Rattle.m2_script.proofs.Over.{IsOver, all_over}
 use Rattle.m2_script.specs.Made.{records_of}
+use Rattle.m2_run.proofs.Filters.{filter_mapped}
+use Rattle.m2_run.proofs.SideLists.{all_filtered}
+use Rattle.m2_run.specs.Homes.{at_home, home_at, home_of_node, is_at_home}
 use Rattle.m2_run.specs.Planned.{plan_in, side_in, waiting}
 use Rattle.m2_run.specs.Types.{IsRanged}
 use Rattle.m2_run.specs.Way.{made_in}
@@ -47,6 +54,11 @@ pub record IsOfNode (nodes : List Node) (lines : List Line) (k : ℕ) (r : Recor
   pub towards : r.core.facts.peer ≡ peer.at
   pub number : r.core.facts.node.number ≡ k
   pub plan : r.plan ≡ plan_in lines k r.place
+
+-- so it is, and its peer is at home with thread j of so many
+pub record IsOfThread (nodes : List Node) (lines : List Line) (k centers j : ℕ) (r : RecordNow) : Type 0 where
+  pub of_node : IsOfNode nodes lines k r
+  pub home : home_of r.core.facts.peer centers ≡ j
 
 module _ (nodes : List Node) (links : List Link) (lines : List Line) (k word : ℕ) where
   record IsOverSome (s : RecordNow) : Type 0 where
@@ -78,9 +90,29 @@ module _ (nodes : List Node) (links : List Link) (lines : List Line) (k word : �
       facts : r.core.facts ≡ waiting s.core.facts
       facts = ap (λ (x : SideMade). x.facts) e
 
-  pub all_of_node : (x : Node) (n : NodeNow (List Logged)) → node_made n.center ≡ made_in nodes links lines k word x → AllByRecursion (IsOfNode nodes lines k) n.center.records
-  all_of_node x n e =
-      through side_made (side_in lines k) (IsOfNode nodes lines k) IsOverSome one_of_node n.center.records (records_of nodes links k word) (ap (λ (m : NodeMade). m.sides) e) all_over_some
+  -- those of a center are of the node's records those whose peers are at home with its thread
+  pub sides_are : (j : ℕ) (x : Node) (c : CenterNow (List Logged)) → node_made c ≡ made_in nodes links lines k j word x →
+      map side_made c.records ≡ map (side_in lines k) (at_home nodes x.centers j (records_of nodes links k word))
+  sides_are j x c e =
+      ap (λ (m : NodeMade). m.sides) e ∙ filter_mapped (side_in lines k) (λ (s : SideMade). is_at_home nodes x.centers j s.place) (records_of nodes links k word)
+
+  pub all_of_thread : (j : ℕ) (x : Node) (c : CenterNow (List Logged)) → node_made c ≡ made_in nodes links lines k j word x → AllByRecursion (IsOfThread nodes lines k x.centers j) c.records
+  all_of_thread j x c e =
+      through side_made (side_in lines k) (IsOfThread nodes lines k x.centers j) (λ s. IsOverSome s × (is_at_home nodes x.centers j s.place ≡ true)) one c.records
+      (at_home nodes x.centers j (records_of nodes links k word)) (sides_are j x c e)
+      (all_filtered IsOverSome (λ (s : RecordNow). is_at_home nodes x.centers j s.place) (records_of nodes links k word) all_over_some)
+    where
+      one : (r s : RecordNow) → side_made r ≡ side_in lines k s → IsOverSome s × (is_at_home nodes x.centers j s.place ≡ true) → IsOfThread nodes lines k x.centers j r
+      one r s same its =
+          let node = one_of_node r s same its.0 in
+          record {
+            of_node = node;
+            home = ap (λ (at : Addr). home_of at x.centers) node.towards ∙ ap (home_of_node x.centers) (sym node.peer_there)
+                ∙ ap (λ (y : SideMade). home_at nodes x.centers y.place) same ∙ eqb-true (home_at nodes x.centers s.place) j its.1;
+          }
+
+  pub all_of_node : (j : ℕ) (x : Node) (c : CenterNow (List Logged)) → node_made c ≡ made_in nodes links lines k j word x → AllByRecursion (IsOfNode nodes lines k) c.records
+  all_of_node j x c e = all_so_of (IsOfThread nodes lines k x.centers j) (IsOfNode nodes lines k) c.records (λ r is. is.of_node) (all_of_thread j x c e)
 
 -- ---- by what it is named
 
@@ -102,12 +134,11 @@ module _ (nodes : List Node) (links : List Link) (draft : List DraftLine) (sound
     requires_ = ranged.ranges.requires_;
   }
 
-  pub are_named : (n : NodeNow (List Logged)) → n.center.port.at ≡ x.at → AllByRecursion (IsOfNode nodes lines k) n.center.records → AllByRecursion IsRanged n.center.records →
-      AllByRecursion (IsNamed n.center.port.at) n.center.records
-  are_named n at all ranged = each_by (IsNamed n.center.port.at) n.center.records one
+  pub are_named : (c : CenterNow (List Logged)) → AllByRecursion (IsOfNode nodes lines k) c.records → AllByRecursion IsRanged c.records → AllByRecursion (IsNamed x.at) c.records
+  are_named c all ranged = each_by (IsNamed x.at) c.records one
     where
-      one : (r : RecordNow) → IsOneOf r n.center.records → IsNamed n.center.port.at r
+      one : (r : RecordNow) → IsOneOf r c.records → IsNamed x.at r
       one r i =
-          let its = of_each (IsOfNode nodes lines k) r n.center.records all i in
-          let types = of_each IsRanged r n.center.records ranged i in
-          record { ranges = ranges r its types; mine = is_x r its ∙ sym at; seen = types.seen }
+          let its = of_each (IsOfNode nodes lines k) r c.records all i in
+          let types = of_each IsRanged r c.records ranged i in
+          record { ranges = ranges r its types; mine = is_x r its; seen = types.seen }

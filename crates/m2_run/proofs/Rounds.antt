@@ -3,18 +3,15 @@ use Rattle.std.proofs.Common.{◌≡◌, inl, inr, ℕ, zero, suc, ◌+◌, ◌<
 use Rattle.std.specs.Prelude.{slice_get, slice_set}
 use Rattle.std.specs.List.{AllByRecursion}
 use Rattle.std.proofs.lemmas.Option.{same_Some, slice_get_read, slice_get_within}
-use Rattle.m2_cluster.specs.Cluster.{ClusterNow, OneDoes}
-use Rattle.m2_cluster.specs.Node.{NodeNow, NodeTurns, Polls}
-use Rattle.m2_cluster.specs.m2_center.Center.{CenterNow}
-use Rattle.m2_cluster.specs.m2_center.CenterTurn.{Answer}
-use Rattle.m2_dispatch.specs.Heard.{heard_by}
+use Rattle.m2_script.specs.m2_center.Center.{CenterNow}
 use Rattle.m2_dispatch.specs.declared.logged.Logged.{Logged}
 use Rattle.m2_fabric.proofs.m2_lemmas.Booleans.{false_isnt_true}
 use Rattle.m2_fabric.proofs.m2_lemmas.Lists.{set_keeps_length}
-use Rattle.m2_record.specs.IsRecord.{IsRecord}
 use Rattle.m2_scenario.specs.declared.node.Node.{Node}
-use Rattle.m2_run.specs.Settling.{HaveGoneOn}
-use Rattle.m2_run.specs.Way.{AllPoll, AllTurn, GoesOn, TurnsSo}
+use Rattle.m2_run.specs.Settling.{HaveGoneOn, OneNodeDoes}
+use Rattle.m2_links_go_on.specs.ClusterTold.{OneByOne}
+use Rattle.m2_run.specs.Nodes.{RunNodeNow}
+use Rattle.m2_run.specs.Way.{AllPoll, AllTurn, GoesOn, NodeGoesOn, NodePollsSo, NodeTurnsSo, PollsSo, TurnsSo}
 use Rattle.m2_run.specs.WayLaws.{PollsGoOn, TurnsGoOn, WaitingGoesOn}
 use Rattle.m2_run.proofs.Way.{goes_not, goes_then}
 use Rattle.m2_script.proofs.Lists.{get_other, get_set}
@@ -32,50 +29,16 @@ beside (z ∷ xs) (y ∷ ys) (suc k) x h e = beside xs ys k x h (omega (arith, e
 same_at : {X : Type 0} (xs : List X) (k : ℕ) (x y : X) → slice_get xs k ≡ Some x → slice_get xs k ≡ Some y → x ≡ y
 same_at xs k x y h g = same_Some x y (sym h ∙ g)
 
--- ---- one node does something
-
-of_it : {X : Type 0} (o : Option X) (x : X) (P : X → Type 0) → o ≡ Some x → IfSome o P → P x
-of_it {X} o x P there h = subst (λ (o : Option X). IfSome o P) there h
-
--- of the node that was read at a place, where these are its center's
-pub records_at : (nodes read : List (NodeNow (List Logged))) (k : ℕ) (x : NodeNow (List Logged)) (c : CenterNow (List Logged)) → read ≡ nodes → k < length nodes → x ≡ get_or read k x →
-    c ≡ x.center → AllByRecursion IsRecord c.records → IfSome (slice_get nodes k) (λ (n : NodeNow (List Logged)). AllByRecursion IsRecord n.center.records)
-records_at nodes read k x c same within is of are =
-    subst (λ (o : Option (NodeNow (List Logged))). IfSome o (λ (n : NodeNow (List Logged)). AllByRecursion IsRecord n.center.records))
-    (sym (slice_get_read nodes (length nodes) k x refl within (subst (λ (ns : List (NodeNow (List Logged))). x ≡ get_or ns k x) same is)))
-    (subst (λ (y : CenterNow (List Logged)). AllByRecursion IsRecord y.records) of are)
-
-abbrev pub AreRecordsAt : ℕ → ClusterNow (List Logged) → Type 0
-AreRecordsAt k c = IfSome (slice_get c.nodes k) (λ (n : NodeNow (List Logged)). AllByRecursion IsRecord n.center.records)
-
--- a turn of a node whose records are records before it and behind it
-pub turned_so : (E : Type 0) (now k : ℕ) (answer : Answer) (old new : ClusterNow (List Logged)) → OneDoes k (NodeTurns E heard_by now answer) old new → AreRecordsAt k old → AreRecordsAt k new →
-    OneDoes k (TurnsSo E now) old new
-turned_so E now k answer old new h before behind =
-    let there = ap (λ (c : ClusterNow (List Logged)). slice_get c.nodes k) h.only ∙ get_set old.nodes k h.before h.behind h.was in
-    record {
-      before = h.before;
-      behind = h.behind;
-      was = h.was;
-      does = record {
-        answer = answer;
-        turns = h.does;
-        before = of_it (slice_get old.nodes k) h.before (λ (n : NodeNow (List Logged)). AllByRecursion IsRecord n.center.records) h.was before;
-        behind = of_it (slice_get new.nodes k) h.behind (λ (n : NodeNow (List Logged)). AllByRecursion IsRecord n.center.records) there behind;
-      };
-      only = h.only;
-    }
-
 -- ---- one after another
 
 -- Of the nodes before place k each that is on did so, and the others are as they were.
-pub record HaveDone (how : NodeNow (List Logged) → NodeNow (List Logged) → Type 0) (k : ℕ) (nodes : List Node) (old new : List (NodeNow (List Logged))) : Type 0 where
+pub record HaveDone (how : RunNodeNow → RunNodeNow → Type 0) (k : ℕ) (nodes : List Node) (old new : List (RunNodeNow)) : Type 0 where
   pub count : length new ≡ length old
-  pub done : (j : ℕ) (x : Node) (n m : NodeNow (List Logged)) → j < k → slice_get nodes j ≡ Some x → slice_get old j ≡ Some n → slice_get new j ≡ Some m → x.started ≡ true → how n m
-  pub off : (j : ℕ) (x : Node) (n m : NodeNow (List Logged)) → slice_get nodes j ≡ Some x → slice_get old j ≡ Some n → slice_get new j ≡ Some m → x.started ≡ false → m ≡ n
-  pub rest : (j : ℕ) (n m : NodeNow (List Logged)) → k ≤ j → slice_get old j ≡ Some n → slice_get new j ≡ Some m → m ≡ n
+  pub done : (j : ℕ) (x : Node) (n m : RunNodeNow) → j < k → slice_get nodes j ≡ Some x → slice_get old j ≡ Some n → slice_get new j ≡ Some m → x.started ≡ true → how n m
+  pub off : (j : ℕ) (x : Node) (n m : RunNodeNow) → slice_get nodes j ≡ Some x → slice_get old j ≡ Some n → slice_get new j ≡ Some m → x.started ≡ false → m ≡ n
+  pub rest : (j : ℕ) (n m : RunNodeNow) → k ≤ j → slice_get old j ≡ Some n → slice_get new j ≡ Some m → m ≡ n
 
-module _ (how : NodeNow (List Logged) → NodeNow (List Logged) → Type 0) (nodes : List Node) (old : List (NodeNow (List Logged))) where
+module _ (how : RunNodeNow → RunNodeNow → Type 0) (nodes : List Node) (old : List (RunNodeNow)) where
   pub none_did : HaveDone how 0 nodes old old
   none_did = record {
     count = refl;
@@ -85,7 +48,7 @@ module _ (how : NodeNow (List Logged) → NodeNow (List Logged) → Type 0) (nod
   }
 
   -- the node at the place is off
-  pub one_is_off : (k : ℕ) (new : List (NodeNow (List Logged))) (y : Node) → slice_get nodes k ≡ Some y → y.started ≡ false → HaveDone how k nodes old new → HaveDone how (k + 1) nodes old new
+  pub one_is_off : (k : ℕ) (new : List (RunNodeNow)) (y : Node) → slice_get nodes k ≡ Some y → y.started ≡ false → HaveDone how k nodes old new → HaveDone how (k + 1) nodes old new
   one_is_off k new y here off h = record {
     count = h.count;
     done = done;
@@ -93,7 +56,7 @@ module _ (how : NodeNow (List Logged) → NodeNow (List Logged) → Type 0) (nod
     rest = λ j n m le was is. h.rest j n m (omega (arith, le)) was is;
   }
     where
-      done : (j : ℕ) (x : Node) (n m : NodeNow (List Logged)) → j < k + 1 → slice_get nodes j ≡ Some x → slice_get old j ≡ Some n → slice_get new j ≡ Some m → x.started ≡ true → how n m
+      done : (j : ℕ) (x : Node) (n m : RunNodeNow) → j < k + 1 → slice_get nodes j ≡ Some x → slice_get old j ≡ Some n → slice_get new j ≡ Some m → x.started ≡ true → how n m
       done j x n m less there was is on =
           let le : j ≤ k = omega (arith, less) in
           elim (eq-or-lt_of_le le) [
@@ -102,69 +65,97 @@ module _ (how : NodeNow (List Logged) → NodeNow (List Logged) → Type 0) (nod
           ]
 
   -- the node at the place is on, and does so
-  pub one_did : (k : ℕ) (mid new : ClusterNow (List Logged)) (y : Node) → slice_get nodes k ≡ Some y → y.started ≡ true → HaveDone how k nodes old mid.nodes → OneDoes k how mid new →
-      HaveDone how (k + 1) nodes old new.nodes
+  pub one_did : (k : ℕ) (mid new : List RunNodeNow) (y : Node) → slice_get nodes k ≡ Some y → y.started ≡ true → HaveDone how k nodes old mid → OneNodeDoes k how mid new →
+      HaveDone how (k + 1) nodes old new
   one_did k mid new y here is_on h one = record {
-    count = ap length new_is ∙ set_keeps_length mid.nodes k one.before one.behind one.was ∙ h.count;
+    count = ap length new_is ∙ set_keeps_length mid k one.before one.behind one.was ∙ h.count;
     done = done;
     off = off;
     rest = λ j n m le was is. h.rest j n m (omega (arith, le)) was (sym (other j (λ same. omega (arith, le, same))) ∙ is);
   }
     where
-      new_is : new.nodes ≡ slice_set mid.nodes k one.behind
-      new_is = ap (λ (c : ClusterNow (List Logged)). c.nodes) one.only
+      new_is : new ≡ slice_set mid k one.behind
+      new_is = one.only
 
-      other : (j : ℕ) → (j ≡ k → ⊥) → slice_get new.nodes j ≡ slice_get mid.nodes j
-      other j apart = ap (λ (ns : List (NodeNow (List Logged))). slice_get ns j) new_is ∙ get_other mid.nodes k j one.behind apart
+      other : (j : ℕ) → (j ≡ k → ⊥) → slice_get new j ≡ slice_get mid j
+      other j apart = ap (λ (ns : List (RunNodeNow)). slice_get ns j) new_is ∙ get_other mid k j one.behind apart
 
-      at_place : (x : Node) (n m : NodeNow (List Logged)) → slice_get old k ≡ Some n → slice_get new.nodes k ≡ Some m → how n m
+      at_place : (x : Node) (n m : RunNodeNow) → slice_get old k ≡ Some n → slice_get new k ≡ Some m → how n m
       at_place x n m was is =
           let before : one.before ≡ n = h.rest k n one.before (le_refl k) was one.was in
-          let there = ap (λ (ns : List (NodeNow (List Logged))). slice_get ns k) new_is ∙ get_set mid.nodes k one.before one.behind one.was in
-          subst (λ (z : NodeNow (List Logged)). how n z) (same_at new.nodes k one.behind m there is) (subst (λ (z : NodeNow (List Logged)). how z one.behind) before one.does)
+          let there = ap (λ (ns : List (RunNodeNow)). slice_get ns k) new_is ∙ get_set mid k one.before one.behind one.was in
+          subst (λ (z : RunNodeNow). how n z) (same_at new k one.behind m there is) (subst (λ (z : RunNodeNow). how z one.behind) before one.does)
 
-      done : (j : ℕ) (x : Node) (n m : NodeNow (List Logged)) → j < k + 1 → slice_get nodes j ≡ Some x → slice_get old j ≡ Some n → slice_get new.nodes j ≡ Some m → x.started ≡ true → how n m
+      done : (j : ℕ) (x : Node) (n m : RunNodeNow) → j < k + 1 → slice_get nodes j ≡ Some x → slice_get old j ≡ Some n → slice_get new j ≡ Some m → x.started ≡ true → how n m
       done j x n m less there was is on =
           let le : j ≤ k = omega (arith, less) in
           elim (eq-or-lt_of_le le) [
-            | inl same ↦ at_place x n m (subst (λ (i : ℕ). slice_get old i ≡ Some n) same was) (subst (λ (i : ℕ). slice_get new.nodes i ≡ Some m) same is)
+            | inl same ↦ at_place x n m (subst (λ (i : ℕ). slice_get old i ≡ Some n) same was) (subst (λ (i : ℕ). slice_get new i ≡ Some m) same is)
             | inr before ↦ h.done j x n m before there was (sym (other j (λ same. omega (arith, before, same))) ∙ is) on
           ]
 
-      off : (j : ℕ) (x : Node) (n m : NodeNow (List Logged)) → slice_get nodes j ≡ Some x → slice_get old j ≡ Some n → slice_get new.nodes j ≡ Some m → x.started ≡ false → m ≡ n
+      off : (j : ℕ) (x : Node) (n m : RunNodeNow) → slice_get nodes j ≡ Some x → slice_get old j ≡ Some n → slice_get new j ≡ Some m → x.started ≡ false → m ≡ n
       off j x n m there was is is_off = h.off j x n m there was (sym (other j apart) ∙ is) is_off
         where
           apart : j ≡ k → ⊥
           apart same = false_isnt_true (sym is_off ∙ ap (λ (z : Node). z.started) (same_at nodes k x y (subst (λ (i : ℕ). slice_get nodes i ≡ Some x) same there) here) ∙ is_on)
 
 -- all of them did
-pub all_turned : (E : Type 0) (now k : ℕ) (nodes : List Node) (old new : List (NodeNow (List Logged))) → length nodes ≤ k → HaveDone (TurnsSo E now) k nodes old new → AllTurn E now nodes old new
+pub all_turned : (E : Type 0) (now k : ℕ) (nodes : List Node) (old new : List (RunNodeNow)) → length nodes ≤ k → HaveDone (NodeTurnsSo E now) k nodes old new → AllTurn E now nodes old new
 all_turned E now k nodes old new all h = record {
   count = h.count;
   on = λ j x n m there was is on. let within = slice_get_within nodes j x there in h.done j x n m (omega (arith, within, all)) there was is on;
   off = h.off;
 }
 
-pub all_polled : (k : ℕ) (nodes : List Node) (old new : List (NodeNow (List Logged))) → length nodes ≤ k → HaveDone Polls k nodes old new → AllPoll nodes old new
+pub all_polled : (k : ℕ) (nodes : List Node) (old new : List (RunNodeNow)) → length nodes ≤ k → HaveDone NodePollsSo k nodes old new → AllPoll nodes old new
 all_polled k nodes old new all h = record {
   count = h.count;
   on = λ j x n m there was is on. let within = slice_get_within nodes j x there in h.done j x n m (omega (arith, within, all)) there was is on;
   off = h.off;
 }
 
+-- ---- a node goes on
+
+-- two steps of the centers of a node make one
+steps_then : {R S T : CenterNow (List Logged) → CenterNow (List Logged) → Type 0} → ((a b c : CenterNow (List Logged)) → R a b → S b c → T a c) →
+    (xs ys zs : List (CenterNow (List Logged))) → OneByOne R xs ys → OneByOne S ys zs → OneByOne T xs zs
+steps_then both [] [] [] r s = tt
+steps_then both [] [] (z ∷ zs) r s = absurd s
+steps_then both [] (y ∷ ys) zs r s = absurd r
+steps_then both (x ∷ xs) [] zs r s = absurd r
+steps_then both (x ∷ xs) (y ∷ ys) [] r s = absurd s
+steps_then both (x ∷ xs) (y ∷ ys) (z ∷ zs) r s = (both x y z r.0 s.0, steps_then both xs ys zs r.1 s.1)
+
+step_not : (R : CenterNow (List Logged) → CenterNow (List Logged) → Type 0) → ((a : CenterNow (List Logged)) → R a a) → (xs : List (CenterNow (List Logged))) → OneByOne R xs xs
+step_not R same [] = tt
+step_not R same (x ∷ xs) = (same x, step_not R same xs)
+
+abbrev IsSame : CenterNow (List Logged) → CenterNow (List Logged) → Type 0
+IsSame a b = a ≡ b
+
+node_goes_not : (may_give : ℕ → Type 0) (moment : ℕ) (started : Bool) (n : RunNodeNow) → NodeGoesOn may_give moment moment started n n
+node_goes_not may_give moment started n = record { each = step_not (GoesOn may_give moment moment started) (goes_not may_give moment started) n.centers; shared = refl }
+
+pub node_goes_then : (may_give : ℕ → Type 0) (a b c : ℕ) (started : Bool) (x y z : RunNodeNow) → NodeGoesOn may_give a b started x y → NodeGoesOn may_give b c started y z → NodeGoesOn may_give a c started x z
+node_goes_then may_give a b c started x y z f g = record {
+  each = steps_then (goes_then may_give a b c started) x.centers y.centers z.centers f.each g.each;
+  shared = g.shared ∙ ap (λ (n : RunNodeNow). record n { centers = z.centers }) f.shared;
+}
+
 -- ---- all go on
 
-pub gone_not : (may_give : ℕ → Type 0) (from : ℕ) (nodes : List Node) (all : List (NodeNow (List Logged))) → may_give from → HaveGoneOn may_give from from nodes all all
+pub gone_not : (may_give : ℕ → Type 0) (from : ℕ) (nodes : List Node) (all : List RunNodeNow) → may_give from → HaveGoneOn may_give from from nodes all all
 gone_not may_give from nodes all given = record {
   later = le_refl from;
   given = given;
   all = record {
     count = refl;
-    each = λ k x n m there was is. subst (λ (z : NodeNow (List Logged)). GoesOn may_give from from x.started n z) (same_at all k n m was is) (goes_not may_give from x.started n);
+    each = λ k x n m there was is. subst (λ (z : RunNodeNow). NodeGoesOn may_give from from x.started n z) (same_at all k n m was is) (node_goes_not may_give from x.started n);
   };
 }
 
-pub gone_then : (may_give : ℕ → Type 0) (a b c : ℕ) (nodes : List Node) (old mid new : List (NodeNow (List Logged))) → HaveGoneOn may_give a b nodes old mid →
+pub gone_then : (may_give : ℕ → Type 0) (a b c : ℕ) (nodes : List Node) (old mid new : List RunNodeNow) → HaveGoneOn may_give a b nodes old mid →
     HaveGoneOn may_give b c nodes mid new → HaveGoneOn may_give a c nodes old new
 gone_then may_give a b c nodes old mid new f g = record {
   later = le_trans f.later g.later;
@@ -173,29 +164,45 @@ gone_then may_give a b c nodes old mid new f g = record {
     count = g.all.count ∙ f.all.count;
     each = λ k x n m there was is.
         let between = beside old mid k n was f.all.count in
-        goes_then may_give a b c x.started n between.0 m (f.all.each k x n between.0 there was between.1) (g.all.each k x between.0 m there between.1 is);
+        node_goes_then may_give a b c x.started n between.0 m (f.all.each k x n between.0 there was between.1) (g.all.each k x between.0 m there between.1 is);
   };
 }
 
 -- in a round, each node that is on takes a turn, and then waits
 pub gone_round : (E C : Type 0) (may_give : C → ℕ → Type 0) → TurnsGoOn E C may_give → PollsGoOn C may_give → WaitingGoesOn C may_give → (clock : C) (from now : ℕ) (nodes : List Node)
-    (old mid new : List (NodeNow (List Logged))) → from ≤ now → may_give clock now → AllTurn E now nodes old mid → AllPoll nodes mid new → HaveGoneOn (may_give clock) from now nodes old new
+    (old mid new : List RunNodeNow) → from ≤ now → may_give clock now → AllTurn E now nodes old mid → AllPoll nodes mid new → HaveGoneOn (may_give clock) from now nodes old new
 gone_round E C may_give turns polls waiting clock from now nodes old mid new later given turned polled = record {
   later = later;
   given = given;
   all = record { count = polled.count ∙ turned.count; each = each };
 }
   where
-    each : (k : ℕ) (x : Node) (n m : NodeNow (List Logged)) → slice_get nodes k ≡ Some x → slice_get old k ≡ Some n → slice_get new k ≡ Some m → GoesOn (may_give clock) from now x.started n m
+    turn : (n m : RunNodeNow) → NodeTurnsSo E now n m → NodeGoesOn (may_give clock) from now true n m
+    turn n m t = record {
+      each = steps_then {R = TurnsSo E now n.numbers n.throttle} {S = IsSame}
+          (λ a b c r same. subst (λ (z : CenterNow (List Logged)). GoesOn (may_give clock) from now true a z) same (turns clock from now n.numbers n.throttle a b r given later))
+          n.centers m.centers m.centers t.each (step_not IsSame (λ a. refl) m.centers);
+      shared = t.shared;
+    }
+
+    poll : (n m : RunNodeNow) → NodePollsSo n m → NodeGoesOn (may_give clock) now now true n m
+    poll n m p = record {
+      each = steps_then {R = PollsSo} {S = IsSame}
+          (λ a b c r same. subst (λ (z : CenterNow (List Logged)). GoesOn (may_give clock) now now true a z) same (polls clock now a b r))
+          n.centers m.centers m.centers p.each (step_not IsSame (λ a. refl) m.centers);
+      shared = p.shared;
+    }
+
+    each : (k : ℕ) (x : Node) (n m : RunNodeNow) → slice_get nodes k ≡ Some x → slice_get old k ≡ Some n → slice_get new k ≡ Some m → NodeGoesOn (may_give clock) from now x.started n m
     each k x n m there was is = at x.started refl
       where
-        between : (y : NodeNow (List Logged)) × (slice_get mid k ≡ Some y)
+        between : (y : RunNodeNow) × (slice_get mid k ≡ Some y)
         between = beside old mid k n was turned.count
 
-        at : (b : Bool) → x.started ≡ b → GoesOn (may_give clock) from now b n m
+        at : (b : Bool) → x.started ≡ b → NodeGoesOn (may_give clock) from now b n m
         at true on =
-            goes_then (may_give clock) from now now true n between.0 m (turns clock from now n between.0 (turned.on k x n between.0 there was between.1 on) given later)
-            (polls clock now between.0 m (polled.on k x between.0 m there between.1 is on))
+            node_goes_then (may_give clock) from now now true n between.0 m (turn n between.0 (turned.on k x n between.0 there was between.1 on))
+            (poll between.0 m (polled.on k x between.0 m there between.1 is on))
         at false off =
-            subst (λ (z : NodeNow (List Logged)). GoesOn (may_give clock) from now false n z) (sym (polled.off k x between.0 m there between.1 is off ∙ turned.off k x n between.0 there was between.1 off))
-            (waiting clock from now false n given later)
+            subst (λ (z : RunNodeNow). NodeGoesOn (may_give clock) from now false n z) (sym (polled.off k x between.0 m there between.1 is off ∙ turned.off k x n between.0 there was between.1 off))
+            (record { each = step_not (GoesOn (may_give clock) from now false) (λ (c : CenterNow (List Logged)). waiting clock from now false c given later) n.centers; shared = refl })

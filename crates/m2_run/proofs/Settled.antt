@@ -1,15 +1,11 @@
 -- The last productive moment; and nodes were left where nothing is left, or where they have stalled.
-use Rattle.std.proofs.Common.{◌≡◌, inl, inr, ℕ, ◌+◌, ◌<◌, ◌≤◌, List, [], length, get_or, take, refl, sym, ap, ◌∙◌, take_all}
+use Rattle.std.proofs.Common.{◌≡◌, inl, inr, ℕ, ◌+◌, ◌<◌, ◌≤◌, List, length, get_or, take, refl, sym, ap, ◌∙◌, take_all}
 use Rattle.std.specs.Prelude.{fold}
 use Rattle.std.proofs.lemmas.List.Sums.{fold_more}
-use Rattle.m2_cluster.specs.Cluster.{ClusterNow}
-use Rattle.m2_dispatch.specs.Heard.{heard_by}
-use Rattle.m2_dispatch.specs.declared.logged.Logged.{Logged}
 use Rattle.m2_scenario.specs.declared.link.Link.{Link}
 use Rattle.m2_scenario.specs.declared.node.Node.{Node}
-use Rattle.m2_script.specs.Ended.{ended}
-use Rattle.m2_script.specs.Outcome.{left_in}
 use Rattle.m2_run.specs.Kept.{left_of}
+use Rattle.m2_run.specs.Nodes.{RunNodeNow}
 use Rattle.m2_run.specs.Ran.{HasStalled}
 use Rattle.m2_run.specs.Settling.{IsSettled}
 
@@ -27,13 +23,9 @@ module _ {X : Type 0} (later : ℕ → X → ℕ) (start : ℕ) (xs : List X) (k
 
 -- ---- where they were left
 
--- how many posts are left is told by the nodes alone
-left_same : (links : List Link) (c : ClusterNow (List Logged)) → left_in heard_by links (ended c []) ≡ left_of links c.nodes
-left_same links c = refl
+module _ (limit : ℕ) (nodes : List Node) (links : List Link) (all : List RunNodeNow) (start now left : ℕ) (is : left ≡ left_of links all) where
+  pub none_left : left ≡ 0 → IsSettled limit nodes links all start now (record { left = left; stop = now })
+  none_left none = record { left = is; over = inl none; stop = refl }
 
-module _ (limit : ℕ) (nodes : List Node) (links : List Link) (c : ClusterNow (List Logged)) (start now left : ℕ) (is : left ≡ left_in heard_by links (ended c [])) where
-  pub none_left : left ≡ 0 → IsSettled limit nodes links c.nodes start now (record { left = left; stop = now })
-  none_left none = record { left = is ∙ left_same links c; over = inl none; stop = refl }
-
-  pub have_stalled : HasStalled limit nodes c.nodes start now → IsSettled limit nodes links c.nodes start now (record { left = left; stop = now })
-  have_stalled stalled = record { left = is ∙ left_same links c; over = inr stalled; stop = refl }
+  pub have_stalled : HasStalled limit nodes all start now → IsSettled limit nodes links all start now (record { left = left; stop = now })
+  have_stalled stalled = record { left = is; over = inr stalled; stop = refl }

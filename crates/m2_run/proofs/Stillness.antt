@@ -1,15 +1,17 @@
 -- Nodes place by place, and what each lacks.
 use Rattle.std.proofs.Common.{◌≡◌, ◌==◌, ◌||◌, not, ℕ, zero, suc, ◌+◌, ◌<◌, Bool, true, false, if◌then◌else◌, None, List, [], ◌∷◌, ◌++◌, length, refl, sym, ap, subst, ◌∙◌, arith}
-use Rattle.std.specs.Prelude.{◌≢◌, slice_get, sum_by, Some}
+use Rattle.std.specs.Prelude.{◌≢◌, get_or, slice_get, sum_by, Some}
 use Rattle.std.specs.Bool.{OnTrue}
-use Rattle.std.specs.List.{range_with_len}
+use Rattle.std.specs.List.{AllByRecursion, range_with_len}
 use Rattle.std.proofs.lemmas.Bool.{eq-eqb, eqb-false, eqb-true}
 use Rattle.std.proofs.lemmas.List.Sums.{sum_by_push}
-use Rattle.std.proofs.lemmas.Option.{same_Some, slice_get_within}
-use Rattle.m2_cluster.specs.Node.{NodeNow}
+use Rattle.std.proofs.lemmas.Option.{get_or_from_slice_get, same_Some, slice_get_within}
 use Rattle.m2_dispatch.specs.declared.logged.Logged.{Logged}
 use Rattle.m2_scenario.specs.declared.node.Node.{Node}
-use Rattle.m2_run.specs.Still.{AllBelow, AreStill, IsFoundAt, IsIdleAt, IsMetAt, IsMetFrom, is_on, missing_at, missing_between, missing_from, missing_in}
+use Rattle.m2_script.specs.m2_center.Center.{CenterNow}
+use Rattle.m2_script.specs.m2_center.Idle.{is_idle}
+use Rattle.m2_run.specs.Nodes.{RunNodeNow}
+use Rattle.m2_run.specs.Still.{AllBelow, AreStill, IsFoundAt, IsIdleAt, IsMetAt, IsMetFrom, is_on, missing_at, missing_between, missing_from, missing_in, refused_by}
 
 -- ---- places
 
@@ -28,7 +30,7 @@ one_more_below P i all its k lt = by (k == i) refl
 
 -- ---- all places
 
-module _ (nodes : List Node) (kept : List (NodeNow (List Logged))) where
+module _ (nodes : List Node) (kept : List (RunNodeNow)) where
   pub all_idle : (now : ℕ) → AllBelow (IsIdleAt now nodes kept) (length kept) → (k : ℕ) → IsIdleAt now nodes kept k
   all_idle now all k n there = all k (slice_get_within kept k n there) n there
 
@@ -38,19 +40,27 @@ module _ (nodes : List Node) (kept : List (NodeNow (List Logged))) where
   pub all_found : AllBelow (IsFoundAt nodes kept) (length kept) → (j : ℕ) → IsFoundAt nodes kept j
   all_found all j m there = all j (slice_get_within kept j m there) m there
 
+-- it is told of the centers of the node at a place
+pub idle_there : (now : ℕ) (nodes : List Node) (kept : List RunNodeNow) (k : ℕ) (n : RunNodeNow) (centers : List (CenterNow (List Logged))) (told : Bool) → n ≡ get_or kept k n →
+    centers ≡ n.centers → OnTrue told (AllByRecursion (λ (c : CenterNow (List Logged)). is_idle now c ≡ true) centers) → OnTrue told (IsIdleAt now nodes kept k)
+idle_there now nodes kept k n centers false is same all = tt
+idle_there now nodes kept k n centers true is same all = λ m there on.
+    subst (λ (x : RunNodeNow). AllByRecursion (λ (c : CenterNow (List Logged)). is_idle now c ≡ true) x.centers) (is ∙ get_or_from_slice_get kept k m n there)
+    (subst (AllByRecursion (λ (c : CenterNow (List Logged)). is_idle now c ≡ true)) same all)
+
 -- ---- two places
 
 -- each socket that the node at one place opened to that at the other is met, where those that stand there say so
-pub met_there : (nodes : List Node) (kept : List (NodeNow (List Logged))) (k j : ℕ) (y : Node) (n m : NodeNow (List Logged)) → slice_get nodes j ≡ Some y → slice_get kept k ≡ Some n →
+pub met_there : (nodes : List Node) (kept : List (RunNodeNow)) (k j : ℕ) (y : Node) (n m : RunNodeNow) → slice_get nodes j ≡ Some y → slice_get kept k ≡ Some n →
     slice_get kept j ≡ Some m → (b : Bool) → OnTrue b (IsMetFrom y.at n m) → OnTrue b (k ≢ j → IsMetAt nodes kept k j)
 met_there nodes kept k j y n m y_there n_there m_there false h = tt
 met_there nodes kept k j y n m y_there n_there m_there true h = λ other z p q p_there q_there z_there k_on j_on.
     subst (λ (x : Node). IsMetFrom x.at p q) (same_Some y z (sym y_there ∙ z_there))
-    (subst (λ (x : NodeNow (List Logged)). IsMetFrom y.at x q) (same_Some n p (sym n_there ∙ p_there))
-    (subst (λ (x : NodeNow (List Logged)). IsMetFrom y.at n x) (same_Some m q (sym m_there ∙ q_there)) h))
+    (subst (λ (x : RunNodeNow). IsMetFrom y.at x q) (same_Some n p (sym n_there ∙ p_there))
+    (subst (λ (x : RunNodeNow). IsMetFrom y.at n x) (same_Some m q (sym m_there ∙ q_there)) h))
 
 -- what the node at place j lacks of that at place k
-module _ (nodes : List Node) (kept : List (NodeNow (List Logged))) (j k : ℕ) where
+module _ (nodes : List Node) (kept : List (RunNodeNow)) (j k : ℕ) where
   abbrev between : ℕ
   between = missing_between (slice_get nodes j) (slice_get kept k) (slice_get kept j)
 
@@ -71,7 +81,7 @@ module _ (nodes : List Node) (kept : List (NodeNow (List Logged))) (j k : ℕ) w
       by true = refl
       by false = refl
 
-  pub missing_there : (k ≡ j → ⊥) → is_on nodes k ≡ true → (y : Node) (n m : NodeNow (List Logged)) → slice_get nodes j ≡ Some y → slice_get kept k ≡ Some n → slice_get kept j ≡ Some m →
+  pub missing_there : (k ≡ j → ⊥) → is_on nodes k ≡ true → (y : Node) (n m : RunNodeNow) → slice_get nodes j ≡ Some y → slice_get kept k ≡ Some n → slice_get kept j ≡ Some m →
       (found : ℕ) → found ≡ missing_in y.at n m → found ≡ missing_from nodes kept j k
   missing_there other on y n m y_there n_there m_there found is =
       is ∙ sym (ap (λ o. missing_between o (Some n) (Some m)) y_there) ∙ sym (ap (λ o. missing_between (slice_get nodes j) o (Some m)) n_there)
@@ -84,11 +94,8 @@ module _ (nodes : List Node) (kept : List (NodeNow (List Logged))) (j k : ℕ) w
 
 -- ---- all of it
 
-pub on_true : (P : Type 0) (b : Bool) → OnTrue b P → b ≡ true → P
-on_true P b h e = subst (λ c. OnTrue c P) e h
-
 -- they are still, where each of these says so
-pub all_still : (now : ℕ) (nodes : List Node) (kept : List (NodeNow (List Logged))) → AllBelow (IsIdleAt now nodes kept) (length kept) →
+pub all_still : (now : ℕ) (nodes : List Node) (kept : List (RunNodeNow)) → AllBelow (IsIdleAt now nodes kept) (length kept) →
     AllBelow (λ k. AllBelow (λ j. k ≢ j → IsMetAt nodes kept k j) (length kept)) (length kept) → (b : Bool) → OnTrue b (AllBelow (IsFoundAt nodes kept) (length kept)) → OnTrue b (AreStill now nodes kept)
 all_still now nodes kept idle met false h = tt
 all_still now nodes kept idle met true h = record { idle = all_idle nodes kept now idle; met = all_met nodes kept met; found = all_found nodes kept h }
@@ -107,13 +114,13 @@ sum_more f k =
 -- ---- what a node may lack
 
 -- what the node at place j lacks of sockets that nodes before place k opened to it, and how much more it may, are what it has refused
-abbrev pub Spares : List Node → List (NodeNow (List Logged)) → (j k rest : ℕ) → Type 0
-Spares nodes kept j k rest = (m : NodeNow (List Logged)) → slice_get kept j ≡ Some m → sum_by (missing_from nodes kept j) (range_with_len 0 k) + rest ≡ m.center.port.refused
+abbrev pub Spares : List Node → List (RunNodeNow) → (j k rest : ℕ) → Type 0
+Spares nodes kept j k rest = (m : RunNodeNow) → slice_get kept j ≡ Some m → sum_by (missing_from nodes kept j) (range_with_len 0 k) + rest ≡ refused_by m.centers
 
-module _ (nodes : List Node) (kept : List (NodeNow (List Logged))) (j : ℕ) where
-  pub spares_first : (x : NodeNow (List Logged)) (rest : ℕ) → slice_get kept j ≡ Some x → rest ≡ x.center.port.refused → Spares nodes kept j 0 rest
+module _ (nodes : List Node) (kept : List (RunNodeNow)) (j : ℕ) where
+  pub spares_first : (x : RunNodeNow) (rest : ℕ) → slice_get kept j ≡ Some x → rest ≡ refused_by x.centers → Spares nodes kept j 0 rest
   spares_first x rest there is m e =
-      let so : rest ≡ m.center.port.refused = is ∙ ap (λ (n : NodeNow (List Logged)). n.center.port.refused) (same_Some x m (sym there ∙ e)) in omega (arith, so)
+      let so : rest ≡ refused_by m.centers = is ∙ ap (λ (n : RunNodeNow). refused_by n.centers) (same_Some x m (sym there ∙ e)) in omega (arith, so)
 
   pub spares_more : (k rest less : ℕ) → Spares nodes kept j k rest → missing_from nodes kept j k + less ≡ rest → Spares nodes kept j (k + 1) less
   spares_more k rest less all e m there = let so = all m there in let more = sum_more (missing_from nodes kept j) k in omega (arith, so, more, e)

@@ -1,28 +1,32 @@
 -- The calls that are told of a run are of nodes.
-use Rattle.std.proofs.Common.{◌≡◌, ℕ, ◌<◌, ◌==◌, suc, Bool, ◌||◌, true, false, List, [], ◌∷◌, Option, Some, None, length, map, slice_get, refl, sym, ap, ◌∙◌, subst}
-use Rattle.std.specs.List.{AllByRecursion, list_any}
+use Rattle.std.proofs.Common.{◌≡◌, ℕ, ◌<◌, ◌==◌, suc, Bool, ◌||◌, true, false, if◌then◌else◌, filter, List, [], ◌∷◌, Option, Some, None, length, map, slice_get, refl, sym, ap, ◌∙◌, subst}
+use Rattle.std.specs.List.{AllByRecursion, flat_map, list_any}
 use Rattle.std.specs.Option.{option_to_list}
 use Rattle.std.proofs.Math.ListN.{length-map}
 use Rattle.std.proofs.lemmas.Bool.{eqb-true, false≢true}
+use Rattle.std.proofs.lemmas.List.{map-append}
 use Rattle.std.proofs.lemmas.List.Elements.{All-from_recursion}
 use Rattle.std.proofs.lemmas.Option.{slice_get_within}
 use Rattle.m2_bytes.proofs.m2_lemmas.Lists.{all_append}
 use Rattle.m2_bytes.specs.Items.{Holding}
-use Rattle.m2_cluster.specs.Node.{NodeNow}
+use Rattle.m2_script.specs.m2_center.Center.{CenterNow}
 use Rattle.m2_links_go_on.specs.Made.{SideMade, side_made}
-use Rattle.m2_dispatch.specs.Heard.{Heard, heard_by, peer_of}
+use Rattle.m2_dispatch.specs.Heard.{Heard, heard_by, heard_of, peer_of}
 use Rattle.m2_dispatch.specs.declared.logged.Logged.{Logged}
 use Rattle.m2_links_go_on.specs.OfPeers.{IsPeerOf}
 use Rattle.m2_record.specs.RecordNow.{RecordNow}
+use Rattle.m2_run.proofs.Filters.{all_filter}
 use Rattle.m2_scenario.specs.Report.{AreLogsOf, IsLogOf, IsOfNodes, heard_in}
 use Rattle.m2_scenario.specs.declared.line.Line.{Line}
 use Rattle.m2_scenario.specs.declared.link.Link.{Link}
 use Rattle.m2_scenario.specs.declared.node.Node.{Node}
 use Rattle.m2_script.specs.Made.{new_towards, other_of, over, records_of}
 use Rattle.m2_script.specs.declared.made.Towards.{Towards}
-use Rattle.m2_run.specs.Planned.{side_in}
+use Rattle.m2_run.specs.Homes.{is_at_home}
+use Rattle.m2_run.specs.Nodes.{RunNodeNow, fast_in, queued_in}
+use Rattle.m2_run.specs.Planned.{side_in, sides_in}
 use Rattle.m2_run.specs.Ran.{heard_at_end}
-use Rattle.m2_run.specs.Way.{IsUnderWay, made_in}
+use Rattle.m2_run.specs.Way.{IsNodeOf, IsUnderWay, made_in}
 
 -- a record is towards a node that there is
 abbrev IsTowardsOne : ℕ → RecordNow → Type 0
@@ -71,18 +75,34 @@ calls_within : (n : ℕ) (rs : List RecordNow) (hs : List Heard) → AllByRecurs
 calls_within n rs [] all its = tt
 calls_within n rs (h ∷ hs) all its = (peer_within n (peer_of h) rs all its.0, calls_within n rs hs all its.1)
 
+-- the records of a node's threads are towards nodes
+thread_towards : (may_give : ℕ → Type 0) (moment : ℕ) (nodes : List Node) (links : List Link) (lines : List Line) (k j word : ℕ) (x : Node) (c : CenterNow (List Logged)) →
+    IsUnderWay may_give moment (made_in nodes links lines k j word x) c → AllByRecursion (IsTowardsOne (length nodes)) c.records
+thread_towards may_give moment nodes links lines k j word x c way =
+    let sides : map side_made c.records ≡ filter (λ (s : SideMade). is_at_home nodes x.centers j s.place) (sides_in nodes links lines k word) = ap (λ made. made.sides) way.course.made in
+    made_towards (length nodes) c.records
+    (subst (AllByRecursion (IsSideOfOne (length nodes))) (sym sides)
+    (all_filter (IsSideOfOne (length nodes)) (λ (s : SideMade). is_at_home nodes x.centers j s.place) (sides_in nodes links lines k word)
+    (sides_towards (length nodes) k lines (records_of nodes links k word) (records_towards nodes k word links))))
+
+threads_within : (n : ℕ) (calls : CenterNow (List Logged) → List Logged) (cs : List (CenterNow (List Logged))) →
+    ((j : ℕ) (c : CenterNow (List Logged)) → slice_get cs j ≡ Some c → AllByRecursion (IsOfOne n) (heard_by (calls c))) → AllByRecursion (IsOfOne n) (heard_by (flat_map calls cs))
+threads_within n calls [] all = tt
+threads_within n calls (c ∷ cs) all =
+    subst (AllByRecursion (IsOfOne n)) (sym (map-append heard_of (calls c) (flat_map calls cs)))
+    (all_append (IsOfOne n) (heard_by (calls c)) (heard_by (flat_map calls cs)) (all 0 c refl) (threads_within n calls cs (λ j. all (suc j))))
+
 -- all calls that a node's dispatchers had are of nodes
-pub node_within : (may_give : ℕ → Type 0) (moment : ℕ) (nodes : List Node) (links : List Link) (lines : List Line) (k word : ℕ) (x : Node) (n : NodeNow (List Logged)) →
-    IsUnderWay may_give moment (made_in nodes links lines k word x) n → AllByRecursion (IsOfOne (length nodes)) (heard_at_end n)
-node_within may_give moment nodes links lines k word x n way =
-    let sides : map side_made n.center.records ≡ map (side_in lines k) (records_of nodes links k word) = ap (λ made. made.sides) way.course.made in
-    let towards : AllByRecursion (IsTowardsOne (length nodes)) n.center.records =
-    made_towards (length nodes) n.center.records
-    (subst (AllByRecursion (IsSideOfOne (length nodes))) (sym sides) (sides_towards (length nodes) k lines (records_of nodes links k word) (records_towards nodes k word links)))
-    in
-    all_append (IsOfOne (length nodes)) (heard_by n.center.out.fast) (heard_by n.center.queued.inner)
-    (calls_within (length nodes) n.center.records (heard_by n.center.out.fast) towards way.peers.fast)
-    (calls_within (length nodes) n.center.records (heard_by n.center.queued.inner) towards way.peers.queued)
+pub node_within : (may_give : ℕ → Type 0) (moment : ℕ) (nodes : List Node) (links : List Link) (lines : List Line) (k : ℕ) (x : Node) (n : RunNodeNow) →
+    IsNodeOf may_give moment nodes links lines k x n → AllByRecursion (IsOfOne (length nodes)) (heard_at_end n)
+node_within may_give moment nodes links lines k x n is =
+    all_append (IsOfOne (length nodes)) (heard_by (fast_in n)) (heard_by (queued_in n))
+    (threads_within (length nodes) (λ (c : CenterNow (List Logged)). c.out.fast) n.centers (λ j c there.
+    let way = (is.each j c there).way in
+    calls_within (length nodes) c.records (heard_by c.out.fast) (thread_towards may_give moment nodes links lines k j is.word x c way) way.peers.fast))
+    (threads_within (length nodes) (λ (c : CenterNow (List Logged)). c.queued.inner) n.centers (λ j c there.
+    let way = (is.each j c there).way in
+    calls_within (length nodes) c.records (heard_by c.queued.inner) (thread_towards may_give moment nodes links lines k j is.word x c way) way.peers.queued))
 
 -- ---- logs
 
@@ -97,14 +117,14 @@ logs_within n (log ∷ logs) heard e all =
     let its : AllByRecursion (AllByRecursion (IsOfOne n)) (map heard_in (log ∷ logs)) = subst (AllByRecursion (AllByRecursion (IsOfOne n))) (sym e) all in
     (All-from_recursion (IsOfNodes n) log.items (log_within n log.items its.0), logs_within n logs (map heard_in logs) refl its.1)
 
-kept_within : (n : ℕ) (kept : List (NodeNow (List Logged))) → ((k : ℕ) (m : NodeNow (List Logged)) → slice_get kept k ≡ Some m → AllByRecursion (IsOfOne n) (heard_at_end m)) →
+kept_within : (n : ℕ) (kept : List RunNodeNow) → ((k : ℕ) (m : RunNodeNow) → slice_get kept k ≡ Some m → AllByRecursion (IsOfOne n) (heard_at_end m)) →
     AllByRecursion (AllByRecursion (IsOfOne n)) (map heard_at_end kept)
 kept_within n [] all = tt
 kept_within n (m ∷ ms) all = (all 0 m refl, kept_within n ms (λ k. all (suc k)))
 
 -- where the logs are those of nodes of whom this is so
-pub logs_of_nodes : (nodes : List Node) (kept : List (NodeNow (List Logged))) (logs : List (Holding Logged)) → map heard_in logs ≡ map heard_at_end kept →
-    length kept ≡ length nodes → ((k : ℕ) (m : NodeNow (List Logged)) → slice_get kept k ≡ Some m → AllByRecursion (IsOfOne (length nodes)) (heard_at_end m)) →
+pub logs_of_nodes : (nodes : List Node) (kept : List RunNodeNow) (logs : List (Holding Logged)) → map heard_in logs ≡ map heard_at_end kept →
+    length kept ≡ length nodes → ((k : ℕ) (m : RunNodeNow) → slice_get kept k ≡ Some m → AllByRecursion (IsOfOne (length nodes)) (heard_at_end m)) →
     AreLogsOf nodes logs
 logs_of_nodes nodes kept logs e count all = record {
   each = sym (length-map logs heard_in) ∙ ap (λ (hs : List (List Heard)). length hs) e ∙ length-map kept heard_at_end ∙ count;

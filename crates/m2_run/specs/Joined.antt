@@ -1,8 +1,6 @@
 -- That each link of a kept run that has a history is a link as weaving asks for one. This project's own.
 use Rattle.std.specs.Prelude.{◌≡◌, ◌⊎◌, ℕ, true, false, List, map, slice_get, Some, Ok}
 use Rattle.std.specs.List.{AllByRecursion}
-use Rattle.m2_cluster.specs.Node.{NodeNow}
-use Rattle.m2_dispatch.specs.declared.logged.Logged.{Logged}
 use Rattle.m2_fabric.specs.Fabric.{SeenFabric}
 use Rattle.m2_links_go_on.specs.m2_growth.m2_bytes_fit.Orders.{entries_of}
 use Rattle.m2_links_go_on.specs.m2_growth.m2_bytes_fit.Posts.{IsOfTypes}
@@ -23,7 +21,8 @@ use Rattle.m2_scenario.specs.declared.link.Link.{Link}
 use Rattle.m2_scenario.specs.declared.node.Node.{Node}
 use Rattle.m2_run.specs.Kept.{IsKeptRun}
 use Rattle.m2_run.specs.Ran.{HasRan}
-use Rattle.m2_run.specs.Rests.{AreEndsOf, EndedNow, loose_of}
+use Rattle.m2_run.specs.Nodes.{KeptNow}
+use Rattle.m2_run.specs.Rests.{AreEndsOf, EndedCenterNow, EndedNow, loose_of}
 use Rattle.m2_run.specs.Weaving.{IsLinkOf}
 use Rattle.m2_run.specs.declared.outcome.Outcome.{Outcome}
 
@@ -37,7 +36,7 @@ PostsOfTypes _ = Unit {0}
 -- ---- a run and its links
 
 -- a kept run of a valid scenario, and what is left of its nodes
-pub record IsRunOf (may_give : ℕ → Type 0) (nodes : List Node) (links : List Link) (lines : List Line) (kept : List (NodeNow (List Logged))) (ends : List EndedNow) : Type 0 where
+pub record IsRunOf (may_give : ℕ → Type 0) (nodes : List Node) (links : List Link) (lines : List Line) (kept : List KeptNow) (ends : List EndedNow) : Type 0 where
   pub sound : IsSound nodes links (map draft_line lines)
   pub posts : AllByRecursion PostsOfTypes lines
   pub start : ℕ
@@ -48,12 +47,12 @@ pub record IsRunOf (may_give : ℕ → Type 0) (nodes : List Node) (links : List
   pub left : AreEndsOf kept ends
 
 -- Two records of it are those of a link of the scenario, and all that they and the halves that no record took did has an order.
-pub record AreWoven (kept : List (NodeNow (List Logged))) (ends : List EndedNow) (links : List Link) (a b : RecordNow) : Type 0 where
+pub record AreWoven (kept : List KeptNow) (ends : List EndedNow) (links : List Link) (a b : RecordNow) : Type 0 where
   pub place : ℕ
   pub link : Link
   pub there : slice_get links place ≡ Some link
-  pub near : EndedNow
-  pub far : EndedNow
+  pub near : EndedCenterNow
+  pub far : EndedCenterNow
   pub is_of : IsLinkOf ends link near far a b
   pub history : History
   pub weaves : WeavesRecords (Ok history) (both_of a b (loose_of kept))
@@ -61,7 +60,7 @@ pub record AreWoven (kept : List (NodeNow (List Logged))) (ends : List EndedNow)
 -- So they are a link as weaving asks for one: what `IsUnreset`, `IsDeliveredIn`, `IsToAMarkIn` and `IsInOrderIn` of a history want to
 -- be joined is.
 abbrev pub KeptLinksAreJoined : (C : Type 0) → (may_give : C → ℕ → Type 0) → Type 0
-KeptLinksAreJoined C may_give = (clock : C) (nodes : List Node) (links : List Link) (lines : List Line) (kept : List (NodeNow (List Logged))) (ends : List EndedNow) (a b : RecordNow) →
+KeptLinksAreJoined C may_give = (clock : C) (nodes : List Node) (links : List Link) (lines : List Line) (kept : List KeptNow) (ends : List EndedNow) (a b : RecordNow) →
     IsRunOf (may_give clock) nodes links lines kept ends → AreWoven kept ends links a b → IsLink (link_of a b (loose_of kept))
 
 -- a link as weaving asks for one, of which a history is an order of all that was done
@@ -79,7 +78,7 @@ RunsAreJoined C may_give = (clock : C) (limit : ℕ) (nodes : List Node) (links 
 
 -- By a link's history, with what the dispatchers of its nodes were called with: before the first mark-down nothing is reset, and of each
 -- key what was dispatched is the first of what was posted; and where neither node marks its side down, so it is of all of it.
-pub record IsPromisedIn (l : LinkNow) (near far : EndedNow) (h : History) : Type 0 where
+pub record IsPromisedIn (l : LinkNow) (near far : EndedCenterNow) (h : History) : Type 0 where
   pub to_a_mark : IsWovenToAMark l (strands_in h) (logs_of near.fast near.queued) (logs_of far.fast far.queued)
   pub never_reset : AreUp l → IsNeverReset (l.facts true) (l.facts false) (entries_of (order_of l (strands_in h)))
   pub delivered : AreUp l → IsWovenDelivered l (strands_in h) (logs_of near.fast near.queued) (logs_of far.fast far.queued)

@@ -16,6 +16,7 @@ use Rattle.m2_scenario.specs.declared.line.Line.TheVariants as line
 use Rattle.m2_scenario.specs.declared.link.Link.{Link}
 use Rattle.m2_scenario.specs.declared.node.Node.{Node}
 use Rattle.m2_script.specs.Made.{facts_of, records_of, roomless}
+use Rattle.m2_run.specs.Homes.{at_home}
 use Rattle.m2_run.specs.declared.planning.StepTowards.{StepTowards}
 
 -- ---- what the lines have a record do
@@ -100,9 +101,9 @@ IsSendableStep s = CanBePlanned s.step
 abbrev pub begun_as : RecordNow → RecordNow
 begun_as r = new_record (waiting r.core.facts) r.place
 
--- the records of the node at place k before anything is planned, but for room
-abbrev pub AreNewRecords : List Node → List Link → (k word : ℕ) → List RecordNow → Type 0
-AreNewRecords nodes links k word rs = map roomless rs ≡ map (λ (r : RecordNow). roomless (begun_as r)) (records_of nodes links k word)
+-- the records of thread j of so many of the node at place k before anything is planned, but for room
+abbrev pub AreNewRecords : List Node → List Link → (k centers j word : ℕ) → List RecordNow → Type 0
+AreNewRecords nodes links k centers j word rs = map roomless rs ≡ map (λ (r : RecordNow). roomless (begun_as r)) (at_home nodes centers j (records_of nodes links k word))
 
 -- a record is as it was, but that its plan goes on by those of these steps that are towards its peer, and for room
 abbrev pub IsPlannedBy : List StepTowards → (old new : RecordNow) → Type 0

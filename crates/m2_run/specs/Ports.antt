@@ -1,5 +1,5 @@
 -- The port of a node of a run. This project's own.
-use Rattle.std.specs.Prelude.{false, [], Option, Some, None}
+use Rattle.std.specs.Prelude.{◌≡◌, true, false, [], Option, Some, None}
 use Rattle.m2_addr.specs.declared.addr.Addr.{Addr}
 use Rattle.m2_fabric.specs.CutPort.{Cutting, shown}
 use Rattle.m2_fabric.specs.Port.{SeenPort}
@@ -19,3 +19,8 @@ seen_or_off at None = off_port at
 
 abbrev pub seen_port : PortNow → SeenPort
 seen_port p = seen_or_off p.at p.port
+
+-- A thread's port is one of the fabric, but that it accepts what is handed over to it, and tells of that what it made and whether its
+-- last accept found none; that it tells nothing of what waits; and for the cuts that it has left.
+abbrev pub IsPortOver : (port inner : SeenPort) → Type 0
+IsPortOver port inner = port ≡ record inner { accepts = true; made = port.made; quiet = port.quiet; cuts = port.cuts; waiting = None }

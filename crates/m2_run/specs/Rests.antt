@@ -1,39 +1,53 @@
 -- What is left of nodes that have ended. This project's own.
-use Rattle.std.specs.Prelude.{◌≡◌, ℕ, List, length, reverse, slice_get, Some}
+use Rattle.std.specs.Prelude.{◌≡◌, ℕ, List, length, reverse, slice_get, Option, Some, None}
 use Rattle.std.specs.List.{flat_map}
-use Rattle.m2_cluster.specs.m2_center.Finishing.{rest_of}
-use Rattle.m2_cluster.specs.Node.{NodeNow}
+use Rattle.m2_script.specs.m2_center.Center.{CenterNow}
 use Rattle.m2_dispatch.specs.declared.logged.Logged.{Logged}
+use Rattle.m2_fabric.specs.Port.{SeenPort}
+use Rattle.m2_fabric.specs.declared.socket.SocketId.{SocketId}
 use Rattle.m2_record.specs.RecordNow.{RecordNow}
 use Rattle.m2_trail.specs.Arrivals.{LooseNow}
-use Rattle.m2_run.specs.Ports.{PortNow, seen_port}
+use Rattle.m2_run.specs.Nodes.{KeptNow, loose_at}
+use Rattle.m2_run.specs.Ports.{IsPortOver}
 
--- its port, its records, how many halves it left that none of them took, and what its dispatchers were called with: that of fast kinds,
--- and the one behind the queue
-pub record EndedNow : Type 0 where
-  pub port : PortNow
+-- of an event thread: the port of the fabric inside its own, where its node was on; the sockets that its own made; its records; and what its
+-- dispatchers were called with: that of fast kinds, and the one behind the queue
+pub record EndedCenterNow : Type 0 where
+  pub port : Option SeenPort
+  pub made : List SocketId
   pub records : List RecordNow
-  pub halves : ℕ
   pub fast : List Logged
   pub queued : List Logged
 
--- the halves that no record of a node took
-abbrev pub loose_at : NodeNow (List Logged) → List LooseNow
-loose_at n = (rest_of n.center).loose
+-- of a node: of its threads, in order, and how many halves it left that none of their records took
+pub record EndedNow : Type 0 where
+  pub centers : List EndedCenterNow
+  pub halves : ℕ
 
 -- of all nodes, those of the last one first
-abbrev pub loose_of : List (NodeNow (List Logged)) → List LooseNow
+abbrev pub loose_of : List KeptNow → List LooseNow
 loose_of kept = flat_map loose_at (reverse kept)
 
--- what is left of this node, but for its halves
-pub record IsEndOf (n : NodeNow (List Logged)) (e : EndedNow) : Type 0 where
-  pub port : seen_port e.port ≡ n.center.port
-  pub records : e.records ≡ n.center.records
+-- the port of the fabric inside that of a thread; one of a node that is off has none inside
+abbrev pub IsInside : (port : SeenPort) → Option SeenPort → Type 0
+IsInside port (Some inner) = IsPortOver port inner
+IsInside port None = Unit {0}
+
+-- what is left of this center, but for its halves
+pub record IsEndOfCenter (c : CenterNow (List Logged)) (e : EndedCenterNow) : Type 0 where
+  pub made : e.made ≡ c.port.made
+  pub inside : IsInside c.port e.port
+  pub records : e.records ≡ c.records
+  pub fast : e.fast ≡ c.out.fast
+  pub queued : e.queued ≡ c.queued.inner
+
+-- of this node
+pub record IsEndOf (n : KeptNow) (e : EndedNow) : Type 0 where
+  pub count : length e.centers ≡ length n.node.centers
+  pub each : (j : ℕ) (c : CenterNow (List Logged)) (d : EndedCenterNow) → slice_get n.node.centers j ≡ Some c → slice_get e.centers j ≡ Some d → IsEndOfCenter c d
   pub halves : e.halves ≡ length (loose_at n)
-  pub fast : e.fast ≡ n.center.out.fast
-  pub queued : e.queued ≡ n.center.queued.inner
 
 -- of all nodes, in order
-pub record AreEndsOf (nodes : List (NodeNow (List Logged))) (ends : List EndedNow) : Type 0 where
+pub record AreEndsOf (nodes : List KeptNow) (ends : List EndedNow) : Type 0 where
   pub count : length ends ≡ length nodes
-  pub each : (k : ℕ) (n : NodeNow (List Logged)) (e : EndedNow) → slice_get nodes k ≡ Some n → slice_get ends k ≡ Some e → IsEndOf n e
+  pub each : (k : ℕ) (n : KeptNow) (e : EndedNow) → slice_get nodes k ≡ Some n → slice_get ends k ≡ Some e → IsEndOf n e

@@ -1,8 +1,7 @@
 -- What the types of a node say of it. This project's own.
 use Rattle.std.specs.Prelude.{◌<◌, ◌^◌, List}
 use Rattle.std.specs.List.{AllByRecursion}
-use Rattle.m2_cluster.specs.m2_center.Center.{IsCenter}
-use Rattle.m2_cluster.specs.Node.{NodeNow}
+use Rattle.m2_script.specs.m2_center.Center.{CenterNow, IsCenter}
 use Rattle.m2_dispatch.specs.declared.logged.Logged.{Logged}
 use Rattle.m2_journal.specs.SideFacts.{SideFacts}
 use Rattle.m2_journal.specs.m2_control.Laws.{HasAddrRanges}
@@ -11,7 +10,7 @@ use Rattle.m2_links_go_on.specs.Left.{IsSeen}
 use Rattle.m2_record.specs.IsRecord.{IsRecord}
 use Rattle.m2_record.specs.RecordNow.{RecordNow}
 use Rattle.m2_trail.specs.Trails.{TrailNow, opener_of}
-use Rattle.m2_run.specs.Rests.{loose_at}
+use Rattle.m2_run.specs.Nodes.{KeptNow, loose_at}
 
 -- What a node tells a record and the addresses of both nodes keep the ranges of their types. That its own address is one of msgr2, and
 -- its place one of those that cookies have, no type says.
@@ -31,11 +30,14 @@ pub record IsRanged (r : RecordNow) : Type 0 where
   pub ranges : HasSideRanges r.core.facts
   pub seen : AllByRecursion HasOpenerRanges r.trails
 
--- its records are records, the halves that none of them took are what their bytes make them, and both are named within the ranges of
--- their types
-pub record IsOfTypes (n : NodeNow (List Logged)) : Type 0 where
-  pub center : IsCenter n.center
-  pub records : AllByRecursion IsRecord n.center.records
-  pub ranged : AllByRecursion IsRanged n.center.records
+-- it is a center, and its records are records, which are named within the ranges of their types
+pub record IsCenterOfTypes (c : CenterNow (List Logged)) : Type 0 where
+  pub center : IsCenter c
+  pub records : AllByRecursion IsRecord c.records
+  pub ranged : AllByRecursion IsRanged c.records
+
+-- so is each center of a node; and the halves that no record took are what their bytes make them, and are named so too
+pub record IsOfTypes (n : KeptNow) : Type 0 where
+  pub centers : AllByRecursion IsCenterOfTypes n.node.centers
   pub whole : AllByRecursion IsWholeHalf (loose_at n)
   pub seen : AllByRecursion IsSeen (loose_at n)

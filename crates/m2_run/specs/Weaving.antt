@@ -1,5 +1,6 @@
 -- The links of nodes that have ended, woven. This project's own.
 use Rattle.std.specs.Prelude.{◌≡◌, ℕ, ◌==◌, ◌<◌, if◌then◌else◌, List, [], ◌∷◌, slice_get, Option, Some, None, Result, Ok, Err}
+use Rattle.std.specs.Option.{option_map}
 use Rattle.m2_links_go_on.specs.m2_history.Counted.{logs_of}
 use Rattle.m2_links_go_on.specs.m2_history.Link.{WeavesRecords, both_of}
 use Rattle.m2_links_go_on.specs.m2_history.Lossy.{IsInOrderIn}
@@ -12,27 +13,47 @@ use Rattle.m2_record.specs.RecordNow.{RecordNow}
 use Rattle.m2_scenario.specs.declared.link.Link.{Link}
 use Rattle.m2_weave.specs.declared.unfit.Unfit.{Unfit}
 use Rattle.m2_trail.specs.Arrivals.{LooseNow}
-use Rattle.m2_run.specs.Rests.{EndedNow}
+use Rattle.m2_run.specs.Rests.{EndedCenterNow, EndedNow}
 
 -- the first of these records that is towards the node at place j
 abbrev pub towards : (j : ℕ) → List RecordNow → Option RecordNow
 towards j [] = None
 towards j (r ∷ rs) = if r.place == j then Some r else towards j rs
 
--- the two nodes of a link, and their records towards each other
-pub record IsLinkOf (all : List EndedNow) (l : Link) (near far : EndedNow) (a b : RecordNow) : Type 0 where
-  pub near_there : slice_get all l.a ≡ Some near
-  pub far_there : slice_get all l.b ≡ Some far
-  pub mine : towards l.b near.records ≡ Some a
-  pub theirs : towards l.a far.records ≡ Some b
+-- a record, and what is left of the thread that has it
+pub record SideNow : Type 0 where
+  pub center : EndedCenterNow
+  pub record_ : RecordNow
+
+abbrev pub side_of : EndedCenterNow → RecordNow → SideNow
+side_of c r = record { center = c; record_ = r }
+
+-- this one, or else the first of those behind it
+abbrev pub first_of : Option SideNow → Option SideNow → Option SideNow
+first_of (Some s) others = Some s
+first_of None others = others
+
+-- the first record of these threads that is towards the node at place j
+abbrev pub side_towards : (j : ℕ) → List EndedCenterNow → Option SideNow
+side_towards j [] = None
+side_towards j (c ∷ cs) = first_of (option_map (side_of c) (towards j c.records)) (side_towards j cs)
+
+-- Of the two nodes of a link the records towards each other, with what is left of their threads.
+pub record IsLinkOf (all : List EndedNow) (l : Link) (near far : EndedCenterNow) (a b : RecordNow) : Type 0 where
+  pub here : EndedNow
+  pub there : EndedNow
+  pub near_there : slice_get all l.a ≡ Some here
+  pub far_there : slice_get all l.b ≡ Some there
+  pub mine : side_towards l.b here.centers ≡ Some (side_of near a)
+  pub theirs : side_towards l.a there.centers ≡ Some (side_of far b)
 
 -- The link has a history: an order of all that its records and the halves that no record took did, in which each byte was read after it
 -- was written. What that says of a link stands with its fields (`m2_history`): between lossless nodes nothing is reset before a mark-down,
 -- and what the dispatchers were called with is of each key the first of what was posted, in order, each once; of a lossy link it is some
--- of it, in order.
+-- of it, in order. All calls of a peer's messages are of the thread that has the record towards it.
 pub record HasHistory (all : List EndedNow) (loose : List LooseNow) (l : Link) : Type 0 where
-  pub near : EndedNow
-  pub far : EndedNow
+  pub near : EndedCenterNow
+  pub far : EndedCenterNow
   pub a : RecordNow
   pub b : RecordNow
   pub is_of : IsLinkOf all l near far a b
@@ -45,8 +66,8 @@ pub record HasHistory (all : List EndedNow) (loose : List LooseNow) (l : Link) :
 
 -- it has none: as far as any order goes, it stops at this byte
 pub record HasNoHistory (all : List EndedNow) (loose : List LooseNow) (l : Link) (u : Unfit) : Type 0 where
-  pub near : EndedNow
-  pub far : EndedNow
+  pub near : EndedCenterNow
+  pub far : EndedCenterNow
   pub a : RecordNow
   pub b : RecordNow
   pub is_of : IsLinkOf all l near far a b

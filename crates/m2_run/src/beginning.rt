@@ -1,52 +1,170 @@
 //! All nodes before their first turn.
 
-ghost use Rattle.std.specs.Prelude.{◌≡◌, ◌∷◌, ◌-◌, ◌<◌, ◌≤◌, [], IfErr, IfOk, IfSome, length, map, slice_get, vec_capacity, vec_len};
+ghost use Rattle.std.specs.Prelude.{◌≡◌, ◌++◌, ◌∷◌, ◌<◌, ◌≤◌, [], false, true, Some, IfErr, List, IfOk, IfSome, OnOk, length, map, slice_get};
 ghost use Rattle.std.specs.List.{AllByRecursion};
 ghost use Rattle.std.specs.Vec.Iter.{into_iter_items};
-ghost use Rattle.m2_cluster.specs.m2_center.Finishing.{AllOwn};
-ghost use Rattle.m2_cluster.specs.m2_center.Making.{CanBegin, new_center};
-ghost use Rattle.m2_fabric.specs.Fabric.{IsUnused, Splits};
-ghost use Rattle.m2_run.specs.Begins.{AreBeginning, AreListening, AreOfSound, ArePortsFor, AreSendable, IsBeginning, IsOutIf, IsPortFor, steps_at};
+ghost use Rattle.m2_script.specs.m2_center.Finishing.{AllOwn};
+ghost use Rattle.m2_script.specs.m2_center.Making.{CanBegin, new_center};
+ghost use Rattle.m2_fabric.specs.Fabric.{IsUnused};
+ghost use Rattle.m2_run.specs.Begins.{AddsWorkers, AreBeginning, AreDoorsAmid, AreDoorsOf, AreListening, AreNewAt, AreOfSound, ArePortsFor, ArePortsForNode, AreSendable, IsBeginning, IsNewDoor, IsNewHome, IsNewWay, IsOutIf, IsPortFor, steps_at};
+ghost use Rattle.m2_run.specs.Homes.{steps_at_home};
+ghost use Rattle.m2_run.specs.Nodes.{IsServedBy};
 ghost use Rattle.m2_run.specs.Planned.{IsSendableStep, steps_in};
 ghost use Rattle.m2_run.specs.Ports.{seen_port};
 ghost use Rattle.m2_run.specs.Ran.{IsFaultOf};
+ghost use Rattle.m2_run.specs.Rooms.{HomeAt, homes_from, homes_if, homes_of, thread_of};
+ghost use Rattle.m2_run.specs.Sharing.{AreFirstOf, AreSharesOf, IsShare};
 ghost use Rattle.m2_run.specs.Way.{AreNodesOf, AreOut};
-ghost use Rattle.m2_run.specs.Working.{AreWorkersOf, node_of};
+ghost use Rattle.m2_run.specs.Working.{AreWorkersOf, nodes_of_workers};
+ghost use Rattle.m2_run.specs.declared.planning.StepTowards.{StepTowards};
 ghost use Rattle.m2_scenario.specs.Draft.{draft_line};
 ghost use Rattle.m2_scenario.specs.Valid.{IsSound};
 ghost use Rattle.m2_scenario.specs.declared.limits.TheConstants.{MOST_NODES};
-ghost use Rattle.m2_script.specs.Nodes.{none_drawn, none_granted};
 
 use crate::counting::counts_of;
+use crate::end::RunEnd;
+use crate::inboxes::Rights;
 use crate::listening::listen_all;
+use crate::node::{RunCenter, Shares, end_records};
 use crate::outcome::RunFault;
-use crate::planning::{Steps, steps_of};
+use crate::planning::{Steps, steps_by_home, steps_of};
 use crate::port::RunPort;
 use crate::records::planned_records;
+use crate::sharing::FirstPasses;
 use crate::threads::throw_away;
-use crate::worker::{RunNode, Worker};
+use crate::worker::Worker;
 use m2_bytes::NoMemory;
-use m2_cluster::{Center, NodeShared, Passes, Unmade};
 use m2_dispatch::LogDispatcher;
 use m2_edge::{Clock, Words};
-use m2_fabric::{CutEnd, CutPort, Fabric, Port};
+use m2_fabric::{CutPort, End, Fabric, Port, PortList};
+use m2_handover::{Door, GetPass, Handed, HomePort, Inboxes, PutPass, Way};
 use m2_links_go_on::{begin_logged, begin_of_peers, centers_begin_on_course};
 use m2_record::Record;
-use m2_scenario::{Line, LineList, Link, MOST_NODES, Node};
-use m2_script::{cuts_of, new_records_can_begin, short_posts_are_sendable};
-use m2_shared::{Numbers, Throttle};
+use m2_scenario::{Line, LineList, Link, Node};
+use m2_script::{
+    Center, NodeShared, Passes, Unmade, cuts_of, new_records_can_begin, short_posts_are_sendable,
+};
+use m2_trail::HomeOf;
 use std::alloc::Global;
+use std::marker::Model;
+use std::sync::Wait;
+use std::sync::atomic::AtomicBool;
 use std::vec::IntoIter;
 
-/// The workers of all nodes, in order, and the moment of the start.
-pub(crate) struct Begun<P: Port> {
-    pub(crate) workers: Vec<Worker<P>>,
+/// The workers of all threads, in order, and the moment of the start.
+pub(crate) struct Begun<'s, P: Port> {
+    pub(crate) workers: Vec<Worker<'s, P>>,
     pub(crate) start: u64,
 }
 
-/// The nodes of a valid scenario, each with its worker, in order, at the moment of the start. Each that is started
-/// listens, and has its port of the fabric. The messages are moved out of the lines into the records' plans.
-pub(crate) fn begin<F: Fabric, C: Clock, W: Words>(
+/// What the ports of threads are made of besides those of the fabric: the inboxes of all threads, the places where ports tell
+/// whether anything waits, and the rights that no port has yet.
+#[derive(Drop)]
+pub(crate) struct Doors<'a, E: End, B: Inboxes<E>> {
+    inboxes: B,
+    rests: &'a [AtomicBool],
+    puts: IntoIter<PutPass<Handed<E>>>,
+    gets: IntoIter<GetPass<Handed<E>>>,
+    /// The number of the next thread that gets its port.
+    next: u32,
+}
+
+impl<'a, E: End, B: Inboxes<E>> Model for Doors<'a, E, B> {
+    ghost use Rattle.std.specs.Vec.Iter.{into_iter_items};
+    ghost use Rattle.m2_run.specs.Begins.{DoorsNow};
+
+    ghost Value = { DoorsNow };
+
+    ghost view = { λ d. record { inboxes = B.inboxes; puts = into_iter_items d.puts; gets = into_iter_items d.gets; next = d.next } };
+}
+
+impl<'a, E: End, B: Inboxes<E>> Doors<'a, E, B> {
+    /// Those of all threads.
+    pub(crate) fn new(inboxes: B, rests: &'a [AtomicBool], rights: Rights<E>) -> Doors<'a, E, B>
+        ensures { result ≡ record { inboxes = B.inboxes; puts = rights.puts.items; gets = rights.gets.items; next = 0 } }
+    {
+        let Rights { puts, gets } = rights;
+        Doors {
+            inboxes,
+            rests,
+            puts: puts.into_iter(),
+            gets: gets.into_iter(),
+            next: 0,
+        }
+    }
+
+    /// The ways to the next so many threads, which are those of a node.
+    fn ways(&mut self, alloc: Global, centers: u32) -> Result<Vec<Way<E, B>>, NoMemory>
+        requires { (rest : List HomeAt) × AreDoorsOf (slice_get B.inboxes) (homes_from 0 centers centers ++ rest) self.old }
+        ensures doors { OnOk result ((rest : List HomeAt) → AreDoorsOf (slice_get B.inboxes) (homes_from 0 centers centers ++ rest) self.old → AreDoorsAmid (slice_get B.inboxes) (homes_from 0 centers centers) rest self.new) }
+        ensures new { IfOk result (λ ways. AllByRecursion IsNewWay ways.items) }
+    {
+        let mut ways = Vec::with_capacity(alloc, centers as usize)?;
+        'centers: for center in 0..centers {
+            let way = self.way(HomeOf { center, centers })?;
+            ways.push(way)?;
+        }
+        Ok(ways)
+    }
+
+    /// The way to this one of them.
+    fn way(&mut self, home: HomeOf) -> Result<Way<E, B>, NoMemory>
+        requires { (rest : List HomeAt) × AreDoorsAmid (slice_get B.inboxes) (homes_from 0 home.center home.centers) (thread_of home ∷ rest) self.old }
+        ensures doors { OnOk result ((rest : List HomeAt) → AreDoorsAmid (slice_get B.inboxes) (homes_from 0 home.center home.centers) (thread_of home ∷ rest) self.old → AreDoorsAmid (slice_get B.inboxes) (homes_from 0 home.center home.centers ++ thread_of home ∷ []) rest self.new) }
+        ensures new { IfOk result IsNewWay }
+    {
+        let Some(number) = self.next.checked_add(home.center) else {
+            return Err(NoMemory);
+        };
+        let Some(_inbox) = self.inboxes.inbox(number) else {
+            return Err(NoMemory);
+        };
+        let Some(put) = self.puts.next() else {
+            return Err(NoMemory);
+        };
+        Ok(Way::new(home, number, put))
+    }
+
+    /// The port of the next thread, over this one of the fabric's of the node at this address, with the node's door where it is
+    /// the first.
+    fn port<P: Port<End = E>, R: Wait + Copy>(
+        &mut self,
+        rt: R,
+        alloc: Global,
+        node: &Node,
+        port: P,
+        door: Option<Door<E, B>>,
+    ) -> Result<HomePort<'a, P, R, B>, NoMemory>
+        requires doors { (home : HomeAt) × (its rest : List HomeAt) × AreDoorsAmid (slice_get B.inboxes) (home ∷ its) rest self.old }
+        requires at { (P.seen port).at ≡ node.now.at }
+        requires unused { IsUnused (P.seen port) }
+        requires door { IsNewDoor door }
+        ensures doors { OnOk result ((home : HomeAt) (its rest : List HomeAt) → AreDoorsAmid (slice_get B.inboxes) (home ∷ its) rest self.old → AreDoorsAmid (slice_get B.inboxes) its rest self.new) }
+        ensures over { IfOk result (λ home. IsNewHome (P.seen port) home) }
+    {
+        let number = self.next;
+        let Some(next) = number.checked_add(1) else {
+            return Err(NoMemory);
+        };
+        let Some(_inbox) = self.inboxes.inbox(number) else {
+            return Err(NoMemory);
+        };
+        let Some(rests) = self.rests.get(number as usize) else {
+            return Err(NoMemory);
+        };
+        let Some(get) = self.gets.next() else {
+            return Err(NoMemory);
+        };
+        self.next = next;
+        let inboxes = self.inboxes.again();
+        Ok(HomePort::new(rt, alloc, node.at, port, number, inboxes, get, door, rests))
+    }
+}
+
+/// The nodes of a valid scenario, each with its workers, in order, at the moment of the start. Each that is started listens, and
+/// has its ports of the fabric. The messages are moved out of the lines into the records' plans.
+pub(crate) fn begin<'a, 's, R, F, C, W, B>(
+    rt: R,
     alloc: Global,
     nodes: &[Node],
     links: &[Link],
@@ -54,11 +172,22 @@ pub(crate) fn begin<F: Fabric, C: Clock, W: Words>(
     fabric: &mut F,
     clock: &C,
     words: &mut W,
-) -> Result<Begun<F::Port>, RunFault>
-    requires { IsSound nodes.now links.now (map draft_line lines.items) }
-    ensures nodes { IfOk result (λ b. AreNodesOf (C.may_give clock.now) b.start nodes.now links.now lines.items (map node_of b.workers.items)) }
+    doors: Doors<'a, <F::Port as Port>::End, B>,
+    shares: &'s [Shares],
+    passes: Vec<FirstPasses>,
+) -> Result<Begun<'s, HomePort<'a, F::Port, R, B>>, RunFault>
+where
+    R: Wait + Copy,
+    F: Fabric,
+    C: Clock,
+    W: Words,
+    B: Inboxes<<F::Port as Port>::End>,
+    requires sound { IsSound nodes.now links.now (map draft_line lines.items) }
+    requires doors { AreDoorsOf (slice_get B.inboxes) (homes_of nodes.now) doors }
+    requires shares { AreSharesOf (length nodes.now) shares.now passes.items }
+    ensures nodes { IfOk result (λ b. AreNodesOf (C.may_give clock.now) b.start nodes.now links.now lines.items (nodes_of_workers nodes.now shares.now b.workers.items)) }
     ensures given { IfOk result (λ b. C.may_give clock.now b.start) }
-    ensures workers { IfOk result (λ b. AreWorkersOf nodes.now b.start b.workers.items) }
+    ensures workers { IfOk result (λ b. AreWorkersOf nodes.now shares.now b.start b.workers.items) }
     ensures out { IfOk result (λ _. AreOut nodes.now (F.seen fabric.old) (F.seen fabric.new)) }
     ensures err { IfErr result (IsFaultOf (C.may_give clock.now) nodes.now links.now lines.items (F.seen fabric.old) (F.seen fabric.new)) }
 {
@@ -70,253 +199,423 @@ pub(crate) fn begin<F: Fabric, C: Clock, W: Words>(
     centers_begin_on_course::<LogDispatcher, C>();
     begin_logged::<LogDispatcher>();
     begin_of_peers::<LogDispatcher>();
-    match begin_listening(alloc, nodes, links, lines, fabric, words, start) {
+    match begin_listening(
+        rt, alloc, nodes, links, lines, fabric, words, doors, shares, passes, start,
+    ) {
         Ok(workers) => Ok(Begun { workers, start }),
         Err(NoMemory) => Err(RunFault::NoMemory),
     }
 }
 
 /// The same of nodes that listen.
-fn begin_listening<F: Fabric, W: Words>(
+fn begin_listening<'a, 's, R, F, W, B>(
+    rt: R,
     alloc: Global,
     nodes: &[Node],
     links: &[Link],
     lines: LineList,
     fabric: &mut F,
     words: &mut W,
+    doors: Doors<'a, <F::Port as Port>::End, B>,
+    shares: &'s [Shares],
+    passes: Vec<FirstPasses>,
     start: u64,
-) -> Result<Vec<Worker<F::Port>>, NoMemory>
+) -> Result<Vec<Worker<'s, HomePort<'a, F::Port, R, B>>>, NoMemory>
+where
+    R: Wait + Copy,
+    F: Fabric,
+    W: Words,
+    B: Inboxes<<F::Port as Port>::End>,
     requires sound { IsSound nodes.now links.now (map draft_line lines.items) }
     requires listening { AreListening nodes.now (F.seen fabric.old) }
-    ensures nodes { IfOk result (λ workers. AreBeginning nodes.now links.now (steps_in lines.items) (map node_of workers.items)) }
-    ensures workers { IfOk result (λ workers. AreWorkersOf nodes.now start workers.items) }
+    requires doors { AreDoorsOf (slice_get B.inboxes) (homes_of nodes.now) doors }
+    requires shares { AreSharesOf (length nodes.now) shares.now passes.items }
+    ensures nodes { IfOk result (λ workers. AreBeginning nodes.now links.now (steps_in lines.items) 0 nodes.now workers.items) }
+    ensures workers { IfOk result (λ workers. AreWorkersOf nodes.now shares.now start workers.items) }
     ensures out { IfOk result (λ _. AreOut nodes.now (F.seen fabric.old) (F.seen fabric.new)) }
 {
     let counts = counts_of(alloc, nodes.len(), links, lines.as_slice())?;
-    let ports = ports_of(alloc, nodes, lines.as_slice(), fabric)?;
+    let ports = ports_of(rt, alloc, nodes, lines.as_slice(), fabric, doors)?;
     let steps = steps_of(alloc, nodes.len(), lines)?;
     short_posts_are_sendable();
-    workers_of(alloc, nodes, links, ports, steps, counts, words, start)
+    workers_of(
+        alloc, nodes, links, ports, steps, counts, shares, passes, words, start,
+    )
 }
 
-/// The port of each node: of one that is started the fabric's, with the cuts of the sockets that it will open.
-fn ports_of<F: Fabric>(
+/// The ports of each node: of one that is started over the fabric's, with the cuts of the sockets that it will open.
+fn ports_of<'a, R, F, B>(
+    rt: R,
     alloc: Global,
     nodes: &[Node],
     lines: &[Line],
     fabric: &mut F,
-) -> Result<Vec<RunPort<F::Port>>, NoMemory>
+    mut doors: Doors<'a, <F::Port as Port>::End, B>,
+) -> Result<Vec<Vec<RunPort<HomePort<'a, F::Port, R, B>>>>, NoMemory>
+where
+    R: Wait + Copy,
+    F: Fabric,
+    B: Inboxes<<F::Port as Port>::End>,
     requires few { length nodes.now ≤ MOST_NODES }
     requires listening { AreListening nodes.now (F.seen fabric.old) }
-    ensures ports { IfOk result (λ ports. ArePortsFor nodes.now ports.items) }
+    requires doors { AreDoorsOf (slice_get B.inboxes) (homes_of nodes.now) doors }
+    ensures ports { IfOk result (λ ports. ArePortsFor nodes.now (map (λ ps. ps.items) ports.items)) }
     ensures out { IfOk result (λ _. AreOut nodes.now (F.seen fabric.old) (F.seen fabric.new)) }
 {
     let mut ports = Vec::with_capacity(alloc, nodes.len())?;
     'nodes: for k in 0..nodes.len() {
-        let port = port_of(alloc, nodes, lines, k as u32, fabric)?;
-        ports.push(port)?;
+        let its = ports_at(rt, alloc, nodes, lines, k as u32, fabric, &mut doors)?;
+        ports.push(its)?;
     }
     Ok(ports)
 }
 
-/// That of the node at this place.
-fn port_of<F: Fabric>(
+/// Those of the node at this place.
+fn ports_at<'a, R, F, B>(
+    rt: R,
     alloc: Global,
     nodes: &[Node],
     lines: &[Line],
     k: u32,
     fabric: &mut F,
-) -> Result<RunPort<F::Port>, NoMemory>
+    doors: &mut Doors<'a, <F::Port as Port>::End, B>,
+) -> Result<Vec<RunPort<HomePort<'a, F::Port, R, B>>>, NoMemory>
+where
+    R: Wait + Copy,
+    F: Fabric,
+    B: Inboxes<<F::Port as Port>::End>,
     requires place { k < length nodes.now }
     requires listening { AreListening nodes.now (F.seen fabric.old) }
-    ensures port { IfOk result (λ port. IfSome (slice_get nodes.now k) (λ x. IsPortFor x port)) }
+    requires doors { IfSome (slice_get nodes.now k) (λ x. (rest : List HomeAt) × AreDoorsOf (slice_get B.inboxes) (homes_if x.started x.centers ++ rest) doors.old) }
+    ensures ports { IfOk result (λ ports. IfSome (slice_get nodes.now k) (λ x. ArePortsForNode x ports.items)) }
     ensures out { IfOk result (λ _. IfSome (slice_get nodes.now k) (λ x. IsOutIf k x (F.seen fabric.old) (F.seen fabric.new))) }
+    ensures doors { IfOk result (λ _. IfSome (slice_get nodes.now k) (λ x. (rest : List HomeAt) → AreDoorsOf (slice_get B.inboxes) (homes_if x.started x.centers ++ rest) doors.old → AreDoorsOf (slice_get B.inboxes) rest doors.new)) }
 {
     let node = &nodes[k as usize];
-    if !node.started {
-        return Ok(RunPort::off(alloc, node.at));
+    if node.started {
+        return ports_on(rt, alloc, nodes, lines, k, fabric, doors);
     }
-    let cuts = cuts_of(alloc, nodes, lines, k)?;
-    let port = split_one(fabric, k)?;
-    Ok(RunPort::on(alloc, node.at, CutPort::new(port, cuts)))
+    ports_off(alloc, node)
 }
 
-/// The one port of the node at this place.
-fn split_one<F: Fabric>(fabric: &mut F, k: u32) -> Result<F::Port, NoMemory>
-    ensures unused { IfOk result (λ port. IsUnused (F.Port.seen port)) }
-    ensures splits { IfOk result (λ port. Splits k (F.Port.seen port ∷ []) (F.seen fabric.old) (F.seen fabric.new)) }
+/// Those of a node that is off.
+fn ports_off<P: Port>(alloc: Global, node: &Node) -> Result<Vec<RunPort<P>>, NoMemory>
+    requires { node.now.started ≡ false }
+    ensures { IfOk result (λ ports. ArePortsForNode node.now ports.items) }
 {
-    let mut ports = fabric.split(k, 1)?;
-    match ports.pop() {
-        Some(port) => Ok(port),
-        None => unreachable!(),
+    let mut ports = Vec::with_capacity(alloc, node.centers as usize)?;
+    'centers: for _ in 0..node.centers {
+        ports.push(RunPort::off(alloc, node.at))?;
     }
+    Ok(ports)
+}
+
+/// Those of the node at this place, which is on. The first has the node's door.
+fn ports_on<'a, R, F, B>(
+    rt: R,
+    alloc: Global,
+    nodes: &[Node],
+    lines: &[Line],
+    k: u32,
+    fabric: &mut F,
+    doors: &mut Doors<'a, <F::Port as Port>::End, B>,
+) -> Result<Vec<RunPort<HomePort<'a, F::Port, R, B>>>, NoMemory>
+where
+    R: Wait + Copy,
+    F: Fabric,
+    B: Inboxes<<F::Port as Port>::End>,
+    requires place { k < length nodes.now }
+    requires started { IfSome (slice_get nodes.now k) (λ x. x.started ≡ true) }
+    requires listening { AreListening nodes.now (F.seen fabric.old) }
+    requires doors { IfSome (slice_get nodes.now k) (λ x. (rest : List HomeAt) × AreDoorsOf (slice_get B.inboxes) (homes_from 0 x.centers x.centers ++ rest) doors.old) }
+    ensures ports { IfOk result (λ ports. IfSome (slice_get nodes.now k) (λ x. ArePortsForNode x ports.items)) }
+    ensures out { IfOk result (λ _. IfSome (slice_get nodes.now k) (λ x. IsOutIf k x (F.seen fabric.old) (F.seen fabric.new))) }
+    ensures doors { IfOk result (λ _. IfSome (slice_get nodes.now k) (λ x. (rest : List HomeAt) → AreDoorsOf (slice_get B.inboxes) (homes_from 0 x.centers x.centers ++ rest) doors.old → AreDoorsOf (slice_get B.inboxes) rest doors.new)) }
+{
+    let node = &nodes[k as usize];
+    let ways = doors.ways(alloc, node.centers)?;
+    let door = Door::new(alloc, node.entity, ways)?;
+    let ports = fabric.split(k, node.centers)?;
+    ports_over(rt, alloc, nodes, lines, k, ports, doors, door)
+}
+
+/// Those of that node over these ports of the fabric, which are as many as it has threads.
+fn ports_over<'a, P, R, B>(
+    rt: R,
+    alloc: Global,
+    nodes: &[Node],
+    lines: &[Line],
+    k: u32,
+    ports: PortList<P>,
+    doors: &mut Doors<'a, P::End, B>,
+    door: Door<P::End, B>,
+) -> Result<Vec<RunPort<HomePort<'a, P, R, B>>>, NoMemory>
+where
+    P: Port,
+    R: Wait + Copy,
+    B: Inboxes<P::End>,
+    requires place { k < length nodes.now }
+    requires started { IfSome (slice_get nodes.now k) (λ x. x.started ≡ true) }
+    requires ports { IfSome (slice_get nodes.now k) (λ x. AreNewAt x.at x.centers (map P.seen ports.items)) }
+    requires doors { IfSome (slice_get nodes.now k) (λ x. (rest : List HomeAt) × AreDoorsAmid (slice_get B.inboxes) (homes_from 0 x.centers x.centers) rest doors.old) }
+    requires door { IsNewDoor (Some door) }
+    ensures ports { IfOk result (λ all. IfSome (slice_get nodes.now k) (λ x. ArePortsForNode x all.items)) }
+    ensures doors { OnOk result (IfSome (slice_get nodes.now k) (λ x. (rest : List HomeAt) → AreDoorsAmid (slice_get B.inboxes) (homes_from 0 x.centers x.centers) rest doors.old → AreDoorsOf (slice_get B.inboxes) rest doors.new)) }
+{
+    let node = &nodes[k as usize];
+    let mut door = Some(door);
+    let mut all = Vec::with_capacity(alloc, node.centers as usize)?;
+    'centers: for port in ports.into_vec() {
+        let cuts = cuts_of(alloc, nodes, lines, k)?;
+        let home = doors.port(rt, alloc, node, port, door.take())?;
+        all.push(RunPort::on(alloc, node.at, CutPort::new(home, cuts)))?;
+    }
+    Ok(all)
 }
 
 /// What a node begins with, besides its records.
 #[derive(Drop)]
 struct Part<P: Port> {
-    port: RunPort<P>,
+    ports: Vec<RunPort<P>>,
     steps: Steps,
     counts: Vec<bool>,
+    passes: FirstPasses,
 }
 
-/// The next one.
-fn next_part<P: Port>(
-    ports: &mut IntoIter<RunPort<P>>,
-    steps: &mut IntoIter<Steps>,
-    counts: &mut IntoIter<Vec<bool>>,
-) -> Option<Part<P>>
-    ensures ports { IfSome result (λ part. into_iter_items ports.old ≡ part.port ∷ into_iter_items ports.new) }
-    ensures steps { IfSome result (λ part. into_iter_items steps.old ≡ part.steps ∷ into_iter_items steps.new) }
-{
-    let Some(port) = ports.next() else {
-        return None;
-    };
-    let Some(steps) = steps.next() else {
-        return None;
-    };
-    let Some(counts) = counts.next() else {
-        return None;
-    };
-    Some(Part {
-        port,
-        steps,
-        counts,
-    })
+/// What all nodes begin with, in order.
+#[derive(Drop)]
+struct Parts<P: Port> {
+    ports: IntoIter<Vec<RunPort<P>>>,
+    steps: IntoIter<Steps>,
+    counts: IntoIter<Vec<bool>>,
+    passes: IntoIter<FirstPasses>,
 }
 
-/// The worker of each node.
-fn workers_of<P: Port, W: Words>(
+impl<P: Port> Parts<P> {
+    /// The next one.
+    fn next(&mut self) -> Option<Part<P>>
+        ensures ports { IfSome result (λ part. into_iter_items self.old.ports ≡ part.ports ∷ into_iter_items self.new.ports) }
+        ensures steps { IfSome result (λ part. into_iter_items self.old.steps ≡ part.steps ∷ into_iter_items self.new.steps) }
+        ensures passes { IfSome result (λ part. into_iter_items self.old.passes ≡ part.passes ∷ into_iter_items self.new.passes) }
+    {
+        let Some(ports) = self.ports.next() else {
+            return None;
+        };
+        let Some(steps) = self.steps.next() else {
+            return None;
+        };
+        let Some(counts) = self.counts.next() else {
+            return None;
+        };
+        let Some(passes) = self.passes.next() else {
+            return None;
+        };
+        Some(Part {
+            ports,
+            steps,
+            counts,
+            passes,
+        })
+    }
+}
+
+/// The workers of each node.
+fn workers_of<'s, P: Port, W: Words>(
     alloc: Global,
     nodes: &[Node],
     links: &[Link],
-    ports: Vec<RunPort<P>>,
+    ports: Vec<Vec<RunPort<P>>>,
     steps: Vec<Steps>,
     counts: Vec<Vec<bool>>,
+    shares: &'s [Shares],
+    passes: Vec<FirstPasses>,
     words: &mut W,
     start: u64,
-) -> Result<Vec<Worker<P>>, NoMemory>
+) -> Result<Vec<Worker<'s, P>>, NoMemory>
     requires sound { AreOfSound nodes.now links.now }
-    requires ports { ArePortsFor nodes.now ports.items }
+    requires ports { ArePortsFor nodes.now (map (λ ps. ps.items) ports.items) }
     requires steps { AreSendable steps.items }
-    ensures nodes { IfOk result (λ workers. AreBeginning nodes.now links.now (steps_at steps.items) (map node_of workers.items)) }
-    ensures workers { IfOk result (λ workers. AreWorkersOf nodes.now start workers.items) }
+    requires shares { AreSharesOf (length nodes.now) shares.now passes.items }
+    ensures nodes { IfOk result (λ workers. AreBeginning nodes.now links.now (steps_at steps.items) 0 nodes.now workers.items) }
+    ensures workers { IfOk result (λ workers. AreWorkersOf nodes.now shares.now start workers.items) }
 {
-    let mut workers = room_for(alloc, nodes.len())?;
-    let mut ports = ports.into_iter();
-    let mut steps = steps.into_iter();
-    let mut counts = counts.into_iter();
+    let mut workers = Vec::new(alloc);
+    let mut parts = Parts {
+        ports: ports.into_iter(),
+        steps: steps.into_iter(),
+        counts: counts.into_iter(),
+        passes: passes.into_iter(),
+    };
     'nodes: for k in 0..nodes.len() {
-        let Some(part) = next_part(&mut ports, &mut steps, &mut counts) else {
+        let Some(part) = parts.next() else {
             throw_away(workers);
             return Err(NoMemory);
         };
-        match worker_of(alloc, nodes, links, k as u32, part, words.next(), start) {
-            Ok(worker) => workers.push_reserved(worker),
-            Err(NoMemory) => {
-                throw_away(workers);
-                return Err(NoMemory);
-            }
+        let added = add_workers(
+            alloc,
+            nodes,
+            links,
+            k as u32,
+            part,
+            &shares[k],
+            words,
+            start,
+            &mut workers,
+        );
+        if let Err(NoMemory) = added {
+            throw_away(workers);
+            return Err(NoMemory);
         }
     }
     Ok(workers)
 }
 
-/// No workers, and room for so many.
-fn room_for<P: Port>(alloc: Global, count: usize) -> Result<Vec<Worker<P>>, NoMemory>
-    ensures none { IfOk result (λ workers. workers.items ≡ []) }
-    ensures room { IfOk result (λ workers. count ≤ vec_capacity workers - vec_len workers) }
-{
-    let mut workers = Vec::new(alloc);
-    match workers.reserve(count) {
-        Ok(()) => Ok(workers),
-        Err(_) => {
-            workers.destroy_empty();
-            Err(NoMemory)
-        }
-    }
-}
-
-/// That of the node at this place, with this port, whose records are to take these steps. `word` was drawn for it.
-fn worker_of<P: Port>(
+/// Those of the node at this place go last.
+fn add_workers<'s, P: Port, W: Words>(
     alloc: Global,
     nodes: &[Node],
     links: &[Link],
     k: u32,
     part: Part<P>,
-    word: u64,
+    shares: &'s Shares,
+    words: &mut W,
     start: u64,
-) -> Result<Worker<P>, NoMemory>
+    workers: &mut Vec<Worker<'s, P>>,
+) -> Result<(), NoMemory>
     requires sound { AreOfSound nodes.now links.now }
     requires place { k < length nodes.now }
-    requires port { IfSome (slice_get nodes.now k) (λ x. IsPortFor x part.port) }
+    requires ports { IfSome (slice_get nodes.now k) (λ x. ArePortsForNode x part.ports.items) }
     requires steps { AllByRecursion IsSendableStep part.steps.items }
-    ensures node { IfOk result (λ worker. IfSome (slice_get nodes.now k) (λ x. IsBeginning nodes.now links.now part.steps.items k x worker.node)) }
-    ensures started { IfOk result (λ worker. IfSome (slice_get nodes.now k) (λ x. worker.started ≡ x.started)) }
-    ensures moment { IfOk result (λ worker. worker.moment ≡ start) }
+    requires share { IsShare shares.now }
+    requires passes { AreFirstOf shares.now part.passes }
+    ensures { OnOk result (IfSome (slice_get nodes.now k) (λ x. AddsWorkers nodes.now links.now part.steps.items k x shares.now start workers.old.items workers.new.items)) }
 {
     let Part {
-        port,
+        ports,
         steps,
         counts,
+        mut passes,
     } = part;
     let node = &nodes[k as usize];
-    let made = made_node(alloc, nodes, links, k, port, steps, word)?;
-    Ok(Worker::new(made, k, node.started, start, counts))
+    let centers = node.centers;
+    let mut steps = steps_by_home(alloc, nodes, centers, steps)?.into_iter();
+    let mut ports = ports.into_iter();
+    let word = words.next();
+    workers.reserve(centers as usize)?;
+    'centers: for center in 0..centers {
+        let Some(port) = ports.next() else {
+            return Err(NoMemory);
+        };
+        let Some(its) = steps.next() else {
+            return Err(NoMemory);
+        };
+        let counts = counts.clone()?;
+        let home = HomeOf { center, centers };
+        let made = center_of(
+            alloc,
+            nodes,
+            links,
+            k,
+            &home,
+            word,
+            port,
+            its,
+            &mut passes,
+            shares.shared(),
+        )?;
+        let number = workers.len().min(u32::MAX as usize) as u32;
+        workers.push_reserved(Worker::new(
+            made,
+            shares,
+            centers == 1,
+            number,
+            node.started,
+            start,
+            counts,
+        ));
+    }
+    Ok(())
 }
 
-/// The node at this place, with this port, whose records are to take these steps. `word` was drawn for it.
-fn made_node<P: Port>(
+/// The center of this thread of the node at this place, with this port, whose records are to take these steps. `word` was drawn
+/// for the node.
+fn center_of<P: Port>(
     alloc: Global,
     nodes: &[Node],
     links: &[Link],
     k: u32,
+    home: &HomeOf,
+    word: u64,
     port: RunPort<P>,
     steps: Steps,
-    word: u64,
-) -> Result<RunNode<P>, NoMemory>
+    passes: &mut FirstPasses,
+    shared: &NodeShared,
+) -> Result<RunCenter<P>, NoMemory>
     requires sound { AreOfSound nodes.now links.now }
     requires place { k < length nodes.now }
+    requires centers { IfSome (slice_get nodes.now k) (λ x. home.now.centers ≡ x.centers) }
     requires port { IfSome (slice_get nodes.now k) (λ x. IsPortFor x port) }
     requires steps { AllByRecursion IsSendableStep steps.items }
-    ensures { IfOk result (λ node. IfSome (slice_get nodes.now k) (λ x. IsBeginning nodes.now links.now steps.items k x node)) }
+    requires share { IsShare (record { numbers = shared.now.numbers; throttle = shared.now.throttle }) }
+    requires passes { AreFirstOf (record { numbers = shared.now.numbers; throttle = shared.now.throttle }) passes.old }
+    ensures passes { passes.new ≡ passes.old }
+    ensures served { IfOk result (IsServedBy shared.now.numbers shared.now.throttle) }
+    ensures beginning { IfOk result (λ c. IfSome (slice_get nodes.now k) (λ x. (all : List StepTowards) → steps.items ≡ steps_at_home nodes.now x.centers home.now.center all → IsBeginning nodes.now links.now all k home.now.center word x c)) }
 {
-    let records = planned_records(alloc, nodes, links, k, word, steps)?;
+    let records = planned_records(alloc, nodes, links, k, home, word, steps)?;
+    let its = passes.split(shared);
     new_records_can_begin();
-    node_with(alloc, &nodes[k as usize], port, records)
+    center_with(alloc, &nodes[k as usize], port, records, its, shared)
 }
 
-/// A node with this port and these records, of which nothing was granted or drawn.
-fn node_with<P: Port>(
+/// A center with this port and these records, of which nothing was granted or drawn.
+fn center_with<P: Port>(
     alloc: Global,
     node: &Node,
     port: RunPort<P>,
-    records: Vec<Record<CutEnd<P::End>>>,
-) -> Result<RunNode<P>, NoMemory>
-    requires begin { CanBegin node.now.entity (seen_port port) records.items none_granted none_drawn }
-    requires owned { AllOwn none_granted.place records.items }
-    ensures { IfOk result (λ n. n.center ≡ new_center node.now.entity (seen_port port) records.items [] [] none_granted none_drawn) }
+    records: Vec<Record<RunEnd<P::End>>>,
+    passes: Passes,
+    shared: &NodeShared,
+) -> Result<RunCenter<P>, NoMemory>
+    requires begin { CanBegin node.now.entity (seen_port port) records.items passes.throttle passes.numbers }
+    requires numbers { passes.numbers.place ≡ shared.now.numbers.place }
+    requires throttle { passes.throttle.place ≡ shared.now.throttle.place }
+    requires owned { AllOwn shared.now.throttle.place records.items }
+    ensures { IfOk result (λ c. c ≡ new_center node.now.entity (seen_port port) records.items [] [] passes.throttle passes.numbers) }
 {
-    let (numbers, number_pass) = Numbers::alone();
-    let (throttle, take_pass) = Throttle::alone(node.throttle);
-    let shared = NodeShared { numbers, throttle };
     let of = Unmade {
         entity: node.entity,
         port,
         records,
         fast: LogDispatcher::new(alloc),
         queued: LogDispatcher::new(alloc),
-        passes: Passes {
-            numbers: number_pass,
-            throttle: take_pass,
-        },
+        passes,
     };
     match Center::new(alloc, of) {
-        Ok(center) => Ok(RunNode::new(center, shared)),
+        Ok(center) => Ok(center),
         Err(unmade) => {
-            let _cleared = unmade.clear(shared);
+            throw_away_unmade(unmade, shared);
             Err(NoMemory)
         }
     }
+}
+
+/// Throws away what no center was made of.
+fn throw_away_unmade<P: Port>(unmade: Unmade<RunPort<P>, LogDispatcher>, shared: &NodeShared)
+    requires pass { unmade.passes.throttle.place ≡ shared.now.throttle.place }
+    requires owned { AllOwn shared.now.throttle.place unmade.records.items }
+{
+    let Unmade {
+        entity: _,
+        port: _,
+        records,
+        fast: _,
+        queued: _,
+        passes,
+    } = unmade;
+    let Passes {
+        numbers: _,
+        throttle: mut pass,
+    } = passes;
+    end_records(records, &shared.throttle, &mut pass);
 }

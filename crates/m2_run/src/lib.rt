@@ -1,8 +1,8 @@
 //! The nodes of a scenario on threads, over real sockets: one call.
 //!
 //! What it is: [`run`] makes the nodes of a valid scenario over the ports of a [`Fabric`](m2_fabric::Fabric), each with
-//! one event thread and dispatchers that log, and runs them until every post of the lossless links that stay up was
-//! dispatched, or until all is still; then it weaves the two sides of each link, by which the promise that a lossless
+//! as many event threads as the scenario says and dispatchers that log, and runs them until every post of the lossless links
+//! that stay up was dispatched, or until all is still; then it weaves the two sides of each link, by which the promise that a lossless
 //! session is never reset is kept and not assumed, gives all ports and ends back, and tells an [`Outcome`] or a
 //! [`RunFault`]. `specs/Kept.antt` says what is kept of a run and what makes it one of a scenario, of this fabric and of
 //! this clock, `specs/Still.antt` when it is still, and `specs/Ran.antt` what each answer says. By `specs/Joined.antt` each
@@ -17,18 +17,25 @@
 mod beginning;
 mod counting;
 mod cuts;
+mod end;
 mod ending;
 mod gathering;
+mod inboxes;
 mod laws;
+mod left;
 mod lines;
 mod listening;
+mod node;
+mod once;
 mod outcome;
 mod planning;
 mod port;
 mod ranges;
 mod records;
+mod resting;
 mod running;
 mod settling;
+mod sharing;
 mod still;
 mod threads;
 mod way_laws;

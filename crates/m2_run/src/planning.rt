@@ -1,11 +1,13 @@
 //! What the lines of a scenario have its nodes do.
 
-ghost use Rattle.std.specs.Prelude.{◌≡◌, ◌++◌, ◌∷◌, [], IfOk, OnOk};
+ghost use Rattle.std.specs.Prelude.{◌≡◌, ◌++◌, ◌<◌, ◌∷◌, [], IfOk, OnOk};
+ghost use Rattle.m2_run.specs.Homes.{AreStepsByHome, home_at};
 ghost use Rattle.m2_run.specs.Planned.{AddsStep, AddsStepOf, AreStepsOf};
 
 use m2_bytes::{Items, NoMemory};
 use m2_journal::PlanStep;
-use m2_scenario::{Line, LineList};
+use m2_scenario::{Line, LineList, Node};
+use m2_script::home;
 use std::alloc::Global;
 
 /// A step for the plan of a node's record, and the place of the node that the record is towards.
@@ -66,6 +68,35 @@ fn add_line(all: &mut Vec<Steps>, line: Line) -> Result<(), NoMemory>
             socket: _,
         } => Ok(()),
         Line::Settle { rounds: _ } => Ok(()),
+    }
+}
+
+/// The steps of a node with so many threads, of each thread those towards the peers that are at home there, in order.
+pub(crate) fn steps_by_home(
+    alloc: Global,
+    nodes: &[Node],
+    centers: u32,
+    steps: Steps,
+) -> Result<Vec<Steps>, NoMemory>
+    requires { 0 < centers }
+    ensures { IfOk result (λ all. AreStepsByHome nodes.now centers steps.items all.items) }
+{
+    let mut all = no_steps(alloc, centers as usize)?;
+    'steps: for step in steps.into_vec() {
+        let StepTowards { peer, step } = step;
+        add_step(&mut all, home_at(nodes, peer, centers), peer, step)?;
+    }
+    Ok(all)
+}
+
+/// With which of so many threads the node at this place is at home; with the first one where there is no such node.
+pub(crate) fn home_at(nodes: &[Node], place: u32, centers: u32) -> u32
+    requires { 0 < centers }
+    ensures { result ≡ home_at nodes.now centers place }
+{
+    match nodes.get(place as usize) {
+        None => 0,
+        Some(node) => home(&node.at, centers),
     }
 }
 

@@ -4,10 +4,11 @@ ghost use Rattle.std.specs.Prelude.{◌≡◌, [], None, Some};
 ghost use Rattle.m2_fabric.specs.Port.{Accepts, Connects, connect_map, taken_map};
 ghost use Rattle.m2_run.specs.Ports.{seen_port};
 
+use crate::end::{EndKind, RunEnd};
 use m2_addr::Addr;
 use m2_bytes::NoMemory;
 use m2_edge::Failed;
-use m2_fabric::{Connect, CutEnd, CutPort, End, News, Port, SocketId, SocketIdList, Taken};
+use m2_fabric::{Connect, CutPort, End, News, Port, SocketId, SocketIdList, Taken};
 use std::alloc::Global;
 use std::marker::Model;
 
@@ -64,7 +65,7 @@ impl<P: Port> RunPort<P> {
 }
 
 impl<P: Port> Port for RunPort<P> {
-    type End = CutEnd<P::End>;
+    type End = RunEnd<P::End>;
 
     ghost seen = { seen_port };
 
@@ -96,20 +97,29 @@ impl<P: Port> Port for RunPort<P> {
         }
     }
 
-    fn connect(&mut self, to: &Addr) -> Connect<CutEnd<P::End>>
-        ensures { Connects (connect_map ⟦<CutEnd<P::End> as End>⟧.seen result) to.now (seen_port self.old) (seen_port self.new) }
+    fn connect(&mut self, to: &Addr) -> Connect<RunEnd<P::End>>
+        ensures { Connects (connect_map ⟦<RunEnd<P::End> as End>⟧.seen result) to.now (seen_port self.old) (seen_port self.new) }
     {
         match &mut self.port {
-            Some(port) => port.connect(to),
+            Some(port) => match port.connect(to) {
+                Connect::Made(end) => Connect::Made(RunEnd::cut(end)),
+                Connect::Failed => Connect::Failed,
+                Connect::NoMemory => Connect::NoMemory,
+            },
             None => Connect::NoMemory,
         }
     }
 
-    fn accept(&mut self) -> Taken<CutEnd<P::End>>
-        ensures { Accepts (taken_map ⟦<CutEnd<P::End> as End>⟧.seen result) (seen_port self.old) (seen_port self.new) }
+    fn accept(&mut self) -> Taken<RunEnd<P::End>>
+        ensures { Accepts (taken_map ⟦<RunEnd<P::End> as End>⟧.seen result) (seen_port self.old) (seen_port self.new) }
     {
         match &mut self.port {
-            Some(port) => port.accept(),
+            Some(port) => match port.accept() {
+                Taken::Made(end) => Taken::Made(RunEnd::cut(end)),
+                Taken::NotYet => Taken::NotYet,
+                Taken::Failed => Taken::Failed,
+                Taken::NoMemory => Taken::NoMemory,
+            },
             None => Taken::NoMemory,
         }
     }
@@ -121,18 +131,18 @@ impl<P: Port> Port for RunPort<P> {
         }
     }
 
-    fn leave(&self, end: &mut CutEnd<P::End>)
-        ensures { ⟦<CutEnd<P::End> as End>⟧.seen end.new ≡ ⟦<CutEnd<P::End> as End>⟧.seen end.old }
+    fn leave(&self, end: &mut RunEnd<P::End>)
+        ensures { ⟦<RunEnd<P::End> as End>⟧.seen end.new ≡ ⟦<RunEnd<P::End> as End>⟧.seen end.old }
     {
-        if let Some(port) = &self.port {
+        if let (Some(port), EndKind::Cut(end)) = (&self.port, &mut end.kind) {
             port.leave(end);
         }
     }
 
-    fn join(&self, end: &mut CutEnd<P::End>)
-        ensures { ⟦<CutEnd<P::End> as End>⟧.seen end.new ≡ ⟦<CutEnd<P::End> as End>⟧.seen end.old }
+    fn join(&self, end: &mut RunEnd<P::End>)
+        ensures { ⟦<RunEnd<P::End> as End>⟧.seen end.new ≡ ⟦<RunEnd<P::End> as End>⟧.seen end.old }
     {
-        if let Some(port) = &self.port {
+        if let (Some(port), EndKind::Cut(end)) = (&self.port, &mut end.kind) {
             port.join(end);
         }
     }

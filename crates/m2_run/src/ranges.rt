@@ -2,28 +2,23 @@
 
 ghost use Rattle.std.specs.List.{AllByRecursion};
 ghost use Rattle.std.specs.Prelude.{◌<◌, ◌^◌};
-ghost use Rattle.m2_cluster.specs.m2_center.Center.{IsCenter};
 ghost use Rattle.m2_links_go_on.specs.m2_history.Link.{IsWholeHalf};
 ghost use Rattle.m2_journal.specs.m2_control.Laws.{HasAddrRanges};
 ghost use Rattle.m2_links_go_on.specs.Left.{IsSeen};
-ghost use Rattle.m2_record.specs.IsRecord.{IsRecord};
-ghost use Rattle.m2_run.specs.Types.{HasOpenerRanges, IsRanged};
+ghost use Rattle.m2_run.specs.Types.{HasOpenerRanges, IsCenterOfTypes, IsRanged};
 ghost use Rattle.m2_trail.specs.Trails.{opener_of, trail_now};
 
-use crate::worker::RunNode;
+use crate::node::RunCenter;
 use m2_addr::Addr;
 use m2_fabric::{End, Port, SocketId};
 use m2_journal::NodeFacts;
 use m2_record::Record;
 use m2_trail::{Loose, Trail};
 
-/// Its center is one, and its records are records, which are named within the ranges of their types.
-pub(crate) fn node_is_of_types<P: Port>(node: &RunNode<P>)
-    ensures center { IsCenter node.now.center }
-    ensures records { AllByRecursion IsRecord node.now.center.records }
-    ensures ranged { AllByRecursion IsRanged node.now.center.records }
+/// It is a center, and its records are records, which are named within the ranges of their types.
+pub(crate) fn center_is_of_types<P: Port>(center: &RunCenter<P>)
+    ensures { IsCenterOfTypes center.now }
 {
-    let center = node.center();
     center.is_center();
     are_ranged(center.records());
 }

@@ -1,6 +1,6 @@
 //! The records of a node, with their plans.
 
-ghost use Rattle.std.specs.Prelude.{◌≡◌, ◌+◌, ◌-◌, ◌<◌, ◌≤◌, ◌∷◌, ◌++◌, [], None, IfOk, IfSome, OnErr, OnOk, length, map, vec_capacity, vec_len};
+ghost use Rattle.std.specs.Prelude.{◌≡◌, ◌+◌, ◌-◌, ◌==◌, ◌<◌, ◌≤◌, ◌∷◌, ◌++◌, [], None, IfOk, IfSome, OnErr, OnOk, length, map, vec_capacity, vec_len};
 ghost use Rattle.std.specs.List.{AllByRecursion};
 ghost use Rattle.std.specs.Option.{option_map, option_to_list};
 ghost use Rattle.m2_links_go_on.specs.Made.{IsBegun, side_made};
@@ -13,8 +13,9 @@ ghost use Rattle.m2_run.specs.Planned.{AreNewRecords, IsPlaceTowards, IsPlannedB
 ghost use Rattle.m2_script.specs.Laws.{bare};
 ghost use Rattle.m2_script.specs.Made.{other_of, over, records_of, roomless};
 ghost use Rattle.m2_scenario.specs.declared.limits.TheConstants.{MOST_NODES};
+ghost use Rattle.m2_run.specs.Homes.{at_home};
 
-use crate::planning::{StepTowards, Steps};
+use crate::planning::{StepTowards, Steps, home_at};
 use m2_bytes::NoMemory;
 use m2_fabric::End;
 use m2_journal::{NodeFacts, PlanStep};
@@ -23,6 +24,7 @@ use m2_record::Record;
 use m2_scenario::{Link, MOST_NODES, Node};
 use m2_script::other_of;
 use m2_shared::Throttle;
+use m2_trail::HomeOf;
 use std::alloc::Global;
 
 /// How long a node waits before the first new connect after a fault, and the longest such wait, in milliseconds.
@@ -78,21 +80,47 @@ fn record_over<E: End>(
     }
 }
 
-/// The records of the node of this number, in the order of its links, with nothing planned and nothing done. `word`
-/// was drawn for the node.
+/// That record, where its peer is at home with this thread.
+fn record_at_home<E: End>(
+    alloc: Global,
+    nodes: &[Node],
+    number: u32,
+    home: &HomeOf,
+    word: u64,
+    link: &Link,
+) -> Option<Record<E>>
+    requires { length nodes.now ≤ MOST_NODES }
+    ensures { map roomless (option_to_list result) ≡ map (λ (r : RecordNow). roomless (begun_as r)) (at_home nodes.now home.now.centers home.now.center (option_to_list (over nodes.now number word (other_of number link.now)))) }
+{
+    let Some(t) = other_of(number, link) else {
+        return None;
+    };
+    let its = home_at(nodes, t.place, home.centers);
+    if its != home.center {
+        return None;
+    }
+    record_over(alloc, nodes, number, word, link)
+}
+
+/// The records of the node of this number whose peers are at home with this thread, in the order of its links, with nothing
+/// planned and nothing done. `word` was drawn for the node.
 fn new_records<E: End>(
     alloc: Global,
     nodes: &[Node],
     links: &[Link],
     number: u32,
+    home: &HomeOf,
     word: u64,
 ) -> Result<Vec<Record<E>>, NoMemory>
     requires { length nodes.now ≤ MOST_NODES }
-    ensures { IfOk result (λ rs. AreNewRecords nodes.now links.now number word rs.items) }
+    ensures { IfOk result (λ rs. AreNewRecords nodes.now links.now number home.now.centers home.now.center word rs.items) }
 {
     let mut records = room_for(alloc, links.len())?;
     for link in links {
-        add(&mut records, record_over(alloc, nodes, number, word, link));
+        add(
+            &mut records,
+            record_at_home(alloc, nodes, number, home, word, link),
+        );
     }
     Ok(records)
 }
@@ -179,12 +207,14 @@ fn place_towards<E: End>(records: &[Record<E>], peer: u32) -> Option<usize>
     None
 }
 
-/// The records of the node of this number, in the order of its links, with these steps as their plans.
+/// The records of the node of this number whose peers are at home with this thread, in the order of its links, with these steps
+/// as their plans.
 pub(crate) fn planned_records<E: End>(
     alloc: Global,
     nodes: &[Node],
     links: &[Link],
     number: u32,
+    home: &HomeOf,
     word: u64,
     steps: Steps,
 ) -> Result<Vec<Record<E>>, NoMemory>
@@ -192,10 +222,10 @@ pub(crate) fn planned_records<E: End>(
     requires peers { AreOfTheirPeers (records_of nodes.now links.now number word) }
     requires steps { AllByRecursion IsSendableStep steps.items }
     ensures begun { IfOk result (λ rs. AllByRecursion IsBegun rs.items) }
-    ensures bare { IfOk result (λ rs. map bare rs.items ≡ map bare (records_of nodes.now links.now number word)) }
-    ensures sides { IfOk result (λ rs. map side_made rs.items ≡ map (side_by (plan_of steps.items)) (records_of nodes.now links.now number word)) }
+    ensures bare { IfOk result (λ rs. map bare rs.items ≡ map bare (at_home nodes.now home.now.centers home.now.center (records_of nodes.now links.now number word))) }
+    ensures sides { IfOk result (λ rs. map side_made rs.items ≡ map (side_by (plan_of steps.items)) (at_home nodes.now home.now.centers home.now.center (records_of nodes.now links.now number word))) }
 {
-    let mut records = new_records(alloc, nodes, links, number, word)?;
+    let mut records = new_records(alloc, nodes, links, number, home, word)?;
     match plan_steps(&mut records, steps) {
         Ok(()) => Ok(records),
         Err(NoMemory) => {

@@ -1,19 +1,23 @@
 //! Whether all nodes of a run are still.
 
-ghost use Rattle.std.specs.Prelude.{◌≡◌, ◌≢◌, ◌<◌, false, length};
+ghost use Rattle.std.specs.List.{AllByRecursion, flat_map};
+ghost use Rattle.std.specs.Prelude.{◌≡◌, ◌≢◌, ◌+◌, ◌<◌, false, true, List, count_by, length, IfSome};
 ghost use Rattle.std.specs.Bool.{OnTrue};
 ghost use Rattle.std.specs.Option.{option_map};
+ghost use Rattle.m2_script.specs.m2_center.Center.{CenterNow};
+ghost use Rattle.m2_script.specs.m2_center.Idle.{is_idle};
+ghost use Rattle.m2_dispatch.specs.declared.logged.Logged.{Logged};
 ghost use Rattle.m2_fabric.specs.Log.{log_of};
-ghost use Rattle.m2_run.specs.Still.{AllBelow, AreStill, IsFoundAt, IsIdleAt, IsMet, IsMetAt, IsMetFrom, is_missing, is_missing_to, is_on, missing_from, missing_in};
+ghost use Rattle.m2_run.specs.Still.{AllBelow, AreMetOf, AreStill, IsFoundAt, IsIdleAt, IsMet, IsMetAt, IsMetFrom, is_missing, is_missing_to, is_on, missing_from, missing_in, refused_by};
 
-use crate::worker::RunNode;
+use crate::node::{RunCenter, RunNode};
 use m2_fabric::{EndLog, Port, SocketId};
 use m2_scenario::Node;
 
 /// Whether these nodes are still at this moment: each that is on is idle, and each socket that one of them opened to
 /// another is met.
 #[tactic(auto, using(crate::proofs::Stillness::all_idle, crate::proofs::Stillness::all_met, crate::proofs::Stillness::all_found))]
-pub(crate) fn are_still<P: Port>(nodes: &[Node], all: &[RunNode<P>], now: u64) -> bool
+pub(crate) fn are_still<P: Port>(nodes: &[Node], all: &[RunNode<'_, P>], now: u64) -> bool
     ensures { OnTrue result (AreStill now nodes.now all.now) }
 {
     are_idle(nodes, all, now) && are_met(nodes, all) && are_found(nodes, all)
@@ -32,7 +36,7 @@ fn is_on(nodes: &[Node], k: usize) -> bool
 // ---- idle
 
 /// Whether each node that is on is idle.
-fn are_idle<P: Port>(nodes: &[Node], all: &[RunNode<P>], now: u64) -> bool
+fn are_idle<P: Port>(nodes: &[Node], all: &[RunNode<'_, P>], now: u64) -> bool
     ensures { OnTrue result (AllBelow (IsIdleAt now nodes.now all.now) (length all.now)) }
 {
     'nodes: for k in 0..all.len() {
@@ -44,20 +48,32 @@ fn are_idle<P: Port>(nodes: &[Node], all: &[RunNode<P>], now: u64) -> bool
 }
 
 /// Whether the node at this place is, where it is on.
-fn is_idle_at<P: Port>(nodes: &[Node], all: &[RunNode<P>], k: usize, now: u64) -> bool
+fn is_idle_at<P: Port>(nodes: &[Node], all: &[RunNode<'_, P>], k: usize, now: u64) -> bool
     requires { k < length all.now }
     ensures { OnTrue result (IsIdleAt now nodes.now all.now k) }
 {
     if !is_on(nodes, k) {
         return true;
     }
-    all[k].center().idle(now)
+    all_idle(all[k].centers(), now)
+}
+
+/// Whether each of these centers is idle.
+fn all_idle<P: Port>(centers: &[RunCenter<P>], now: u64) -> bool
+    ensures { OnTrue result (AllByRecursion (λ (c : CenterNow (List Logged)). is_idle now c ≡ true) centers.now) }
+{
+    'centers: for j in 0..centers.len() {
+        if !centers[j].idle(now) {
+            return false;
+        }
+    }
+    true
 }
 
 // ---- sockets between nodes
 
 /// Whether each socket that a node opened to another is met.
-fn are_met<P: Port>(nodes: &[Node], all: &[RunNode<P>]) -> bool
+fn are_met<P: Port>(nodes: &[Node], all: &[RunNode<'_, P>]) -> bool
     ensures { OnTrue result (AllBelow (λ k. AllBelow (λ j. k ≢ j → IsMetAt nodes.now all.now k j) (length all.now)) (length all.now)) }
 {
     'nodes: for k in 0..all.len() {
@@ -69,7 +85,7 @@ fn are_met<P: Port>(nodes: &[Node], all: &[RunNode<P>]) -> bool
 }
 
 /// Whether each that the node at place k opened is.
-fn is_met_everywhere<P: Port>(nodes: &[Node], all: &[RunNode<P>], k: usize) -> bool
+fn is_met_everywhere<P: Port>(nodes: &[Node], all: &[RunNode<'_, P>], k: usize) -> bool
     requires { k < length all.now }
     ensures { OnTrue result (AllBelow (λ j. k ≢ j → IsMetAt nodes.now all.now k j) (length all.now)) }
 {
@@ -82,7 +98,7 @@ fn is_met_everywhere<P: Port>(nodes: &[Node], all: &[RunNode<P>], k: usize) -> b
 }
 
 /// Whether each that it opened to the node at place j is, where both are on.
-fn is_met_at<P: Port>(nodes: &[Node], all: &[RunNode<P>], k: usize, j: usize) -> bool
+fn is_met_at<P: Port>(nodes: &[Node], all: &[RunNode<'_, P>], k: usize, j: usize) -> bool
     requires near { k < length all.now }
     requires far { j < length all.now }
     ensures { OnTrue result (k ≢ j → IsMetAt nodes.now all.now k j) }
@@ -97,13 +113,40 @@ fn is_met_at<P: Port>(nodes: &[Node], all: &[RunNode<P>], k: usize, j: usize) ->
 }
 
 /// Whether each that one node opened to this other one is.
-fn is_met_from<P: Port>(to: &Node, near: &RunNode<P>, far: &RunNode<P>) -> bool
+fn is_met_from<P: Port>(to: &Node, near: &RunNode<'_, P>, far: &RunNode<'_, P>) -> bool
     ensures { OnTrue result (IsMetFrom to.now.at near.now far.now) }
 {
-    let made = near.center().made().as_slice();
-    'sockets: for i in 0..made.len() {
-        let id = &made[i];
-        if id.goes_to(&to.at) && !is_met(near.center().log(id), far.center().log(id)) {
+    are_met_over(to, near.centers(), near, far)
+}
+
+/// Whether each that the ports of these centers of it opened is.
+fn are_met_over<P: Port>(
+    to: &Node,
+    centers: &[RunCenter<P>],
+    near: &RunNode<'_, P>,
+    far: &RunNode<'_, P>,
+) -> bool
+    ensures { OnTrue result (AreMetOf to.now.at near.now far.now (flat_map (λ (c : CenterNow (List Logged)). c.port.made) centers.now)) }
+{
+    'centers: for center in centers {
+        if !are_met_of(to, center.made().as_slice(), near, far) {
+            return false;
+        }
+    }
+    true
+}
+
+/// Whether each of these that it opened to this other one is.
+fn are_met_of<P: Port>(
+    to: &Node,
+    made: &[SocketId],
+    near: &RunNode<'_, P>,
+    far: &RunNode<'_, P>,
+) -> bool
+    ensures { OnTrue result (AreMetOf to.now.at near.now far.now made.now) }
+{
+    'sockets: for id in made {
+        if id.goes_to(&to.at) && !is_met(near.log(id), far.log(id)) {
             return false;
         }
     }
@@ -143,7 +186,7 @@ fn is_passed(to: &EndLog, from: &EndLog) -> bool
 // ---- sockets of which the other node has no end
 
 /// Whether no node that is on lacks more ends than it has refused.
-fn are_found<P: Port>(nodes: &[Node], all: &[RunNode<P>]) -> bool
+fn are_found<P: Port>(nodes: &[Node], all: &[RunNode<'_, P>]) -> bool
     ensures { OnTrue result (AllBelow (IsFoundAt nodes.now all.now) (length all.now)) }
 {
     'nodes: for j in 0..all.len() {
@@ -155,16 +198,16 @@ fn are_found<P: Port>(nodes: &[Node], all: &[RunNode<P>]) -> bool
 }
 
 /// Whether the node at place j doesn't, where it is on.
-fn is_found_at<P: Port>(nodes: &[Node], all: &[RunNode<P>], j: usize) -> bool
+fn is_found_at<P: Port>(nodes: &[Node], all: &[RunNode<'_, P>], j: usize) -> bool
     requires { j < length all.now }
     ensures { OnTrue result (IsFoundAt nodes.now all.now j) }
 {
     if !is_on(nodes, j) {
         return true;
     }
-    let mut rest = all[j].center().refused();
+    let mut rest = refused_at(all[j].centers());
     'nodes: for k in 0..all.len() {
-        match rest.checked_sub(missing_from(nodes, all, j, k)) {
+        match less_missing(nodes, all, j, k, rest) {
             None => return false,
             Some(less) => rest = less,
         }
@@ -172,26 +215,79 @@ fn is_found_at<P: Port>(nodes: &[Node], all: &[RunNode<P>], j: usize) -> bool
     true
 }
 
-/// How many ends it lacks of sockets that the node at place k, where it is on, opened to it.
-fn missing_from<P: Port>(nodes: &[Node], all: &[RunNode<P>], j: usize, k: usize) -> u64
-    requires near { k < length all.now }
-    requires far { j < length all.now }
-    ensures { result ≡ missing_from nodes.now all.now j k }
+/// How many accepts failed at the first of these centers, which alone accepts for its node.
+fn refused_at<P: Port>(centers: &[RunCenter<P>]) -> u64
+    ensures { result ≡ refused_by centers.now }
 {
-    if k == j || !is_on(nodes, k) {
-        return 0;
-    }
-    match nodes.get(j) {
+    match centers.first() {
         None => 0,
-        Some(to) => missing_in(to, &all[k], &all[j]),
+        Some(first) => first.refused(),
     }
 }
 
-/// How many of those that one node opened to this other one.
-fn missing_in<P: Port>(to: &Node, near: &RunNode<P>, far: &RunNode<P>) -> u64
-    ensures { result ≡ missing_in to.now.at near.now far.now }
+/// This number less the ends that it lacks of sockets that the node at place k, where it is on, opened to it; none where it lacks
+/// more.
+fn less_missing<P: Port>(
+    nodes: &[Node],
+    all: &[RunNode<'_, P>],
+    j: usize,
+    k: usize,
+    rest: u64,
+) -> Option<u64>
+    requires near { k < length all.now }
+    requires far { j < length all.now }
+    ensures { IfSome result (λ less. less + missing_from nodes.now all.now j k ≡ rest) }
 {
-    let made = near.center().made().as_slice();
+    if k == j || !is_on(nodes, k) {
+        return Some(rest);
+    }
+    match nodes.get(j) {
+        None => Some(rest),
+        Some(to) => less_missing_in(to, &all[k], &all[j], rest),
+    }
+}
+
+/// The same of those that one node opened to this other one.
+fn less_missing_in<P: Port>(
+    to: &Node,
+    near: &RunNode<'_, P>,
+    far: &RunNode<'_, P>,
+    rest: u64,
+) -> Option<u64>
+    ensures { IfSome result (λ less. less + missing_in to.now.at near.now far.now ≡ rest) }
+{
+    less_missing_over(to, near.centers(), near, far, rest)
+}
+
+/// The same of those that the ports of these centers of it opened.
+fn less_missing_over<P: Port>(
+    to: &Node,
+    centers: &[RunCenter<P>],
+    near: &RunNode<'_, P>,
+    far: &RunNode<'_, P>,
+    rest: u64,
+) -> Option<u64>
+    ensures { IfSome result (λ less. less + count_by (is_missing_to to.now.at near.now far.now) (flat_map (λ (c : CenterNow (List Logged)). c.port.made) centers.now) ≡ rest) }
+{
+    let mut rest = rest;
+    'centers: for center in centers {
+        match rest.checked_sub(missing_of(to, center.made().as_slice(), near, far)) {
+            None => return None,
+            Some(less) => rest = less,
+        }
+    }
+    Some(rest)
+}
+
+/// How many ends it lacks of these sockets.
+fn missing_of<P: Port>(
+    to: &Node,
+    made: &[SocketId],
+    near: &RunNode<'_, P>,
+    far: &RunNode<'_, P>,
+) -> u64
+    ensures { result ≡ count_by (is_missing_to to.now.at near.now far.now) made.now }
+{
     let mut missing: u64 = 0;
     'sockets: for i in 0..made.len() {
         if is_missing_to(to, near, far, &made[i]) {
@@ -202,10 +298,15 @@ fn missing_in<P: Port>(to: &Node, near: &RunNode<P>, far: &RunNode<P>) -> u64
 }
 
 /// Whether this socket is one.
-fn is_missing_to<P: Port>(to: &Node, near: &RunNode<P>, far: &RunNode<P>, id: &SocketId) -> bool
+fn is_missing_to<P: Port>(
+    to: &Node,
+    near: &RunNode<'_, P>,
+    far: &RunNode<'_, P>,
+    id: &SocketId,
+) -> bool
     ensures { result ≡ is_missing_to to.now.at near.now far.now id.now }
 {
-    id.goes_to(&to.at) && is_missing(near.center().log(id), far.center().log(id))
+    id.goes_to(&to.at) && is_missing(near.log(id), far.log(id))
 }
 
 /// Whether the opener's end is open and the other node has none.

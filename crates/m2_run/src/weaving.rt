@@ -1,11 +1,11 @@
 //! The links of nodes that have ended, woven.
 
-ghost use Rattle.std.specs.Prelude.{◌≡◌};
+ghost use Rattle.std.specs.Prelude.{◌≡◌, IfSome, IsSome};
 ghost use Rattle.std.specs.Option.{option_map};
-ghost use Rattle.m2_run.specs.Weaving.{WeavesAll, WeavesLink, towards};
+ghost use Rattle.m2_run.specs.Weaving.{WeavesAll, WeavesLink, side_towards, towards};
 
-use crate::ending::Ended;
-use m2_fabric::{CutEnd, End, Port};
+use crate::ending::{Ended, EndedCenter, ThreadEnd};
+use m2_fabric::{End, Port};
 use m2_links_go_on::{Side, WeaveFault, are_of_link, weave};
 use m2_record::Record;
 use m2_scenario::Link;
@@ -17,8 +17,8 @@ use std::alloc::Global;
 pub(crate) fn weave_all<P: Port>(
     alloc: Global,
     links: &[Link],
-    ends: &[Ended<P>],
-    loose: &LooseList<CutEnd<P::End>>,
+    ends: &[Ended<'_, P>],
+    loose: &LooseList<ThreadEnd<P::End>>,
 ) -> Result<(), WeaveFault>
     ensures { WeavesAll result ends.now loose.now.items links.now }
 {
@@ -35,28 +35,18 @@ pub(crate) fn weave_all<P: Port>(
 fn weave_link<P: Port>(
     alloc: Global,
     link: &Link,
-    ends: &[Ended<P>],
-    loose: &LooseList<CutEnd<P::End>>,
+    ends: &[Ended<'_, P>],
+    loose: &LooseList<ThreadEnd<P::End>>,
 ) -> Result<(), WeaveFault>
     ensures { WeavesLink result ends.now loose.now.items link.now }
 {
     let (Some(near), Some(far)) = (ends.get(link.a as usize), ends.get(link.b as usize)) else {
         return Err(WeaveFault::NoMemory);
     };
-    let mine = towards(near.records.as_slice(), link.b);
-    let theirs = towards(far.records.as_slice(), link.a);
-    let (Some(mine), Some(theirs)) = (mine, theirs) else {
+    let mine = side_towards(near.centers.as_slice(), link.b);
+    let theirs = side_towards(far.centers.as_slice(), link.a);
+    let (Some(a), Some(b)) = (mine, theirs) else {
         return Err(WeaveFault::NoMemory);
-    };
-    let a = Side {
-        record: mine,
-        fast: &near.fast,
-        log: &near.queued,
-    };
-    let b = Side {
-        record: theirs,
-        fast: &far.fast,
-        log: &far.queued,
     };
     if !are_of_link(&a, &b, loose) {
         return Err(WeaveFault::NoMemory);
@@ -65,6 +55,26 @@ fn weave_link<P: Port>(
         Ok(_history) => Ok(()),
         Err(fault) => Err(fault),
     }
+}
+
+/// The first record of these centers that is towards this node, with what its center's dispatchers were called with.
+fn side_towards<'a, P: Port>(
+    centers: &'a [EndedCenter<'_, P>],
+    peer: u32,
+) -> Option<Side<'a, ThreadEnd<P::End>>>
+    ensures side { IfSome result (λ s. IfSome (side_towards peer centers.now) (λ t. (s.record.now ≡ t.record_) × (s.fast.now.items ≡ t.center.fast) × (s.log.now.items ≡ t.center.queued))) }
+    ensures there { IfSome result (λ _. IsSome (side_towards peer centers.now)) }
+{
+    'centers: for center in centers {
+        if let Some(record) = towards(center.records.as_slice(), peer) {
+            return Some(Side {
+                record,
+                fast: &center.fast,
+                log: &center.queued,
+            });
+        }
+    }
+    None
 }
 
 /// The first record that is towards this node.

@@ -1,25 +1,22 @@
-//! An event thread of a run: a node that takes turns until it is told to stop.
+//! An event thread of a run: a center that takes turns until it is told to stop.
 
-ghost use Rattle.std.specs.Prelude.{◌≡◌};
-ghost use Rattle.std.specs.Prelude.{◌≤◌, true};
-ghost use Rattle.m2_cluster.specs.Node.{Polls};
-ghost use Rattle.m2_fabric.specs.declared.cut_end.CutEnd.{CutEnd};
-ghost use Rattle.m2_run.specs.Way.{StepsSo, TurnsSo};
+ghost use Rattle.std.specs.Prelude.{◌≡◌, ◌⊎◌, true};
+ghost use Rattle.m2_run.specs.Nodes.{IsServedBy};
+ghost use Rattle.m2_run.specs.Way.{PollsSo, StepsSo};
 ghost use Rattle.m2_run.specs.Working.{Works};
+ghost use Rattle.m2_run.specs.declared.end.RunEnd.{RunEnd};
 
-use crate::port::RunPort;
+use crate::end::RunEnd;
+use crate::node::{RunCenter, Shares, turn_center};
 use crate::way_laws::steps_go_on;
-use m2_cluster::{CenterTurn, Node};
-use m2_dispatch::{LogDispatcher, Logged};
+use m2_dispatch::Logged;
 use m2_edge::{Clock, Gate, next_moment};
-use m2_fabric::{CutEnd, End, Port};
-use m2_record::Record;
+use m2_fabric::{End, Port};
+use m2_record::{Due, Record};
+use m2_script::CenterTurn;
 use std::marker::Model;
 use std::sync::Wait;
 use std::sync::atomic::{AtomicBool, AtomicU64, Ordering};
-
-/// A node of a run, whose dispatchers log.
-pub(crate) type RunNode<P> = Node<RunPort<P>, LogDispatcher>;
 
 /// How long a thread waits at its port behind a turn that did nothing, in milliseconds.
 const WAIT: u32 = 10;
@@ -58,45 +55,58 @@ impl Signs {
     }
 }
 
-/// A node with what its thread knows: its place among the nodes, whether it is on, the moment of its last turn; which
-/// peers' posts count, and how far it has counted what its dispatchers were called with.
-pub(crate) struct Worker<P: Port> {
-    node: RunNode<P>,
+/// A center with what its thread knows: what it shares with the others of its node, and whether there are any; its number among
+/// all threads, whether it is on, the moment of its last turn; which peers' posts count, and how far it has counted what its
+/// dispatchers were called with; and whether it has told the others that it waits for the throttle. It can't be dropped, since
+/// a center can't.
+pub(crate) struct Worker<'s, P: Port> {
+    center: RunCenter<P>,
+    shares: &'s Shares,
+    is_alone: bool,
     number: u32,
     is_started: bool,
     moment: u64,
     counts: Vec<bool>,
     fast: usize,
     queued: usize,
+    has_told: bool,
+    ghost numbers: { center.numbers.place ≡ shares.now.numbers.place },
+    ghost throttle: { center.bytes.place ≡ shares.now.throttle.place },
 }
 
-impl<P: Port> Model for Worker<P> {
+impl<'s, P: Port> Model for Worker<'s, P> {
     ghost use Rattle.m2_run.specs.Working.{WorkerNow};
 
     ghost Value = { WorkerNow };
 
-    ghost view = { λ w. record { node = w.node; started = w.is_started; moment = w.moment } };
+    ghost view = { λ w. record { center = w.center; numbers = w.shares.now.numbers; throttle = w.shares.now.throttle; started = w.is_started; moment = w.moment } };
 }
 
-impl<P: Port> Worker<P> {
+impl<'s, P: Port> Worker<'s, P> {
     /// A worker that took no turn yet. `counts` says of each node whether its posts to this one count.
     pub(crate) fn new(
-        node: RunNode<P>,
+        center: RunCenter<P>,
+        shares: &'s Shares,
+        is_alone: bool,
         number: u32,
         is_started: bool,
         moment: u64,
         counts: Vec<bool>,
-    ) -> Worker<P>
-        ensures { result ≡ record { node = node; started = is_started; moment = moment } }
+    ) -> Worker<'s, P>
+        requires { IsServedBy shares.now.numbers shares.now.throttle center }
+        ensures { result ≡ record { center = center; numbers = shares.now.numbers; throttle = shares.now.throttle; started = is_started; moment = moment } }
     {
         Worker {
-            node,
+            center,
+            shares,
+            is_alone,
             number,
             is_started,
             moment,
             counts,
             fast: 0,
             queued: 0,
+            has_told: false,
         }
     }
 
@@ -107,23 +117,29 @@ impl<P: Port> Worker<P> {
         self.moment
     }
 
-    /// Its node.
-    pub(crate) fn into_node(self) -> RunNode<P>
-        ensures { result ≡ self.node }
+    /// Its center, and what that shares with the others of its node.
+    pub(crate) fn into_parts(self) -> (RunCenter<P>, &'s Shares)
+        ensures center { result.0 ≡ self.entry.center }
+        ensures shared_numbers { result.1.now.numbers ≡ self.entry.numbers }
+        ensures shared_throttle { result.1.now.throttle ≡ self.entry.throttle }
+        ensures served { IsServedBy self.entry.numbers self.entry.throttle self.entry.center }
     {
         let Worker {
-            node,
+            center,
+            shares,
+            is_alone: _,
             number: _,
             is_started: _,
             moment: _,
             counts: _,
             fast: _,
             queued: _,
+            has_told: _,
         } = self;
-        node
+        (center, shares)
     }
 
-    /// Takes turns until the signs say stop; a node that is off takes none.
+    /// Takes turns until the signs say stop; one of a node that is off takes none.
     pub(crate) fn work<R: Wait, C: Clock, G: Gate>(
         &mut self,
         rt: &R,
@@ -138,7 +154,7 @@ impl<P: Port> Worker<P> {
         }
     }
 
-    /// The same of a node that is on.
+    /// The same of one that is on.
     fn take_turns<R: Wait, C: Clock, G: Gate>(&mut self, rt: &R, signs: &Signs, clock: &C, gate: &G)
         requires { self.old.started ≡ true }
         ensures { Works (C.may_give clock.now) self.old self.new }
@@ -156,7 +172,7 @@ impl<P: Port> Worker<P> {
         requires { self.old.started ≡ true }
         ensures { Works (C.may_give clock.now) self.old self.new }
     {
-        steps_go_on::<CutEnd<P::End>, C>();
+        steps_go_on::<RunEnd<P::End>, C>();
         let now = next_moment(clock, self.moment());
         if signs.say_stop(now) {
             return false;
@@ -166,7 +182,7 @@ impl<P: Port> Worker<P> {
         true
     }
 
-    /// Its place among the nodes.
+    /// Its number among all threads.
     fn number(&self) -> u32 {
         self.number
     }
@@ -175,31 +191,61 @@ impl<P: Port> Worker<P> {
     fn step(&mut self, signs: &Signs, now: u64)
         ensures moment { self.new.moment ≡ now }
         ensures started { self.new.started ≡ self.old.started }
-        ensures steps { StepsSo (CutEnd P.End) now self.old.node self.new.node }
+        ensures numbers { self.new.numbers ≡ self.old.numbers }
+        ensures throttle { self.new.throttle ≡ self.old.throttle }
+        ensures steps { StepsSo (RunEnd P.End) now self.old.numbers self.old.throttle self.old.center self.new.center }
     {
-        let turn = take_turn(&mut self.node, now);
+        let turn = turn_center(&mut self.center, self.shares.shared(), now);
         self.moment = now;
         match turn {
             CenterTurn::Moved => self.tell(signs),
-            CenterTurn::Dry => wait(&mut self.node),
+            CenterTurn::Dry => self.rest(now),
             CenterTurn::NoMemory => signs.is_full.store(true, Ordering::SeqCst),
         }
     }
 
-    /// Tells the others what was dispatched since, and the moment of the last productive entry.
+    /// Waits at its port. Where it waits for the throttle it tells the others first, and looks once more before it waits, since
+    /// one may have given back just now.
+    fn rest(&mut self, now: u64)
+        ensures same { self.new ≡ record self.old { center = self.new.center } }
+        ensures waits { (self.new.center ≡ self.old.center) ⊎ PollsSo self.old.center self.new.center }
+    {
+        let tells = !self.is_alone && !self.has_told && wait_for_room(self.center.records(), now);
+        self.has_told = tells;
+        if tells {
+            let shares = self.shares;
+            shares.waits.store(true, Ordering::SeqCst);
+        } else {
+            let _ = self.center.poll(WAIT);
+        }
+    }
+
+    /// Tells the others what was dispatched since, and the moment of the last productive entry; and those of its node, where one
+    /// waits for the throttle, that something may have been given back.
     fn tell(&mut self, signs: &Signs)
         ensures { self.new ≡ self.old }
     {
-        let center = self.node.center();
-        let fast = center.fast().log().as_slice();
-        let queued = center.queued().inner().log().as_slice();
+        self.count(signs);
+        self.has_told = false;
+        let shares = self.shares;
+        if shares.waits.swap(false, Ordering::SeqCst) {
+            self.center.port().ring();
+        }
+    }
+
+    /// Tells what was dispatched since, and the moment of the last productive entry.
+    fn count(&mut self, signs: &Signs)
+        ensures { self.new ≡ self.old }
+    {
+        let fast = self.center.fast().log().as_slice();
+        let queued = self.center.queued().inner().log().as_slice();
         let done = counted(fast, self.fast, self.counts.as_slice()).saturating_add(counted(
             queued,
             self.queued,
             self.counts.as_slice(),
         ));
         let (fast, queued) = (fast.len(), queued.len());
-        let last = last_of(center.records());
+        let last = last_of(self.center.records());
         self.fast = fast;
         self.queued = queued;
         signs.left.fetch_sub(done, Ordering::SeqCst);
@@ -207,21 +253,9 @@ impl<P: Port> Worker<P> {
     }
 }
 
-/// A turn of a node at this moment.
-pub(crate) fn take_turn<P: Port>(node: &mut RunNode<P>, now: u64) -> CenterTurn
-    ensures { TurnsSo (CutEnd P.End) now node.old node.new }
-{
-    node.center().is_center();
-    let turn = node.turn(now);
-    node.center().is_center();
-    turn
-}
-
-/// A node waits at its port.
-fn wait<P: Port>(node: &mut RunNode<P>)
-    ensures { Polls node.old node.new }
-{
-    let _ = node.poll(WAIT);
+/// Whether one of these records has read a message for which the throttle has no room.
+fn wait_for_room<E: End>(records: &[Record<E>], now: u64) -> bool {
+    records.iter().any(|side| side.due(now) == Due::Frame)
 }
 
 /// How many messages that count stand in a log from this place on.

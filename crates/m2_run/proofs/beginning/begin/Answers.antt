@@ -1,13 +1,12 @@
 -- The nodes are made as the scenario says, and have done nothing.
-use Rattle.std.proofs.Common.{map}
-use Rattle.m2_run.specs.Working.{node_of}
 use Rattle.m2_run.proofs.NodesBegin.{nodes_begin}
 use Rattle.m2_run.proofs.OutPorts.{out_behind_listens}
 use Rattle.m2_run.proofs.beginning.begin.Goals as goal
 
 pub returns-in-Ok-clause-nodes : goal.returns-in-Ok-clause-nodes
 returns-in-Ok-clause-nodes g c =
-    nodes_begin _ g.C.Clock.may_give c.args.clock.now c.centers_begin_on_course.ensures c.begin_logged.ensures c.begin_of_peers.ensures c.new_records_can_begin.ensures c.now-start.result c.now-start.ensures.moment c.args.nodes.now c.args.links.now c.args.lines.items c.requires (map node_of c.in-Ok.workers.items) c.in-Ok.ensures.nodes
+    nodes_begin _ g.C.Clock.may_give c.args.clock.now c.centers_begin_on_course.ensures c.begin_logged.ensures c.begin_of_peers.ensures c.new_records_can_begin.ensures c.now-start.result c.now-start.ensures.moment
+    c.args.nodes.now c.args.links.now c.args.lines.items c.requires.sound c.args.shares.now c.in-Ok.workers.items c.in-Ok.ensures.nodes c.in-Ok.ensures.workers.groups
 
 pub returns-in-Ok-clause-out : goal.returns-in-Ok-clause-out
 returns-in-Ok-clause-out g c =

@@ -1,7 +1,6 @@
 -- The workers are of nodes that are to do what the lines say.
 use Rattle.std.proofs.Common.{map, refl}
 use Rattle.m2_scenario.specs.Draft.{draft_line}
-use Rattle.m2_run.specs.Working.{node_of}
 use Rattle.m2_run.proofs.NodesBegin.{begin_by_lines, steps_sendable}
 use Rattle.m2_run.proofs.WorkersBegin.{ok_so}
 use Rattle.m2_run.proofs.beginning.begin_listening.Goals as goal
@@ -14,4 +13,4 @@ workers_of-requires-clause-steps g c = steps_sendable c.short_posts_are_sendable
 
 pub returns-clause-nodes : goal.returns-clause-nodes
 returns-clause-nodes g c =
-    ok_so c.workers_of.result _ _ (λ workers are. begin_by_lines c.args.nodes.now c.args.links.now c.args.lines.items _ c.in_ok-steps.steps.items (map node_of workers.items) refl c.in_ok-steps.ensures are) c.workers_of.ensures.nodes
+    ok_so c.workers_of.result _ _ (λ workers are. begin_by_lines c.args.nodes.now c.args.links.now c.args.lines.items _ c.in_ok-steps.steps.items workers.items refl c.in_ok-steps.ensures are) c.workers_of.ensures.nodes

@@ -1,73 +1,83 @@
--- One worker more.
-use Rattle.std.proofs.Common.{◌≡◌, ◌∙◌, ◌++◌, List, [], ◌∷◌, map, ap, sym, subst, arith}
-use Rattle.std.specs.Prelude.{IfSome, slice_get}
-use Rattle.std.specs.List.{AllByRecursion}
-use Rattle.std.proofs.lemmas.List.{map-append, take_all}
-use Rattle.m2_fabric.proofs.m2_lemmas.Lists.{all_last}
-use Rattle.m2_scenario.specs.declared.node.Node.{Node}
+-- The workers of one node more.
+use Rattle.std.proofs.Common.{◌≡◌, ◌∙◌, ◌<◌, List, Some, length, ap, sym, subst, arith}
+use Rattle.std.specs.Prelude.{slice_get}
+use Rattle.std.proofs.lemmas.Option.{slice_get-get_or}
+use Rattle.m2_bytes.proofs.m2_lemmas.Lists.{all_at, get_map}
 use Rattle.m2_script.proofs.SoFar.{if_some, of_some}
-use Rattle.m2_run.specs.Begins.{IsBeginning, IsPortFor, items_of, steps_at}
-use Rattle.m2_run.specs.Working.{WorkerNow, node_of}
+use Rattle.m2_run.specs.Begins.{AddsWorkers, ArePortsForNode, items_of, steps_at}
+use Rattle.m2_run.specs.Sharing.{AreFirstOf, IsShare, ShareNow}
 use Rattle.m2_run.specs.declared.planning.StepTowards.{StepTowards}
-use Rattle.m2_run.proofs.Places.{there_at}
-use Rattle.m2_run.proofs.WorkersBegin.{mapped_more, next_there, none_begun, one_begun_more, rest_next}
+use Rattle.m2_run.proofs.Places.{side_at, there_at}
+use Rattle.m2_run.proofs.WorkersBegin.{all_made, next_there, none_made, one_made_more, rest_next}
 use Rattle.m2_run.proofs.beginning.workers_of.Goals as goal
 
 pub nodes-init : goal.nodes-init
-nodes-init g c =
-    let ws = c.in_ok-workers.workers.items in
-    let none : ws ≡ [] = c.in_ok-workers.ensures.none in
-    record {
-      ports = c.into_iter-ports.ensures.rest;
-      steps = c.into_iter-steps.ensures.rest;
-      begun = none_begun c.args.nodes.now c.args.links.now (steps_at c.args.steps.items) (map node_of ws) (ap (map node_of) none);
-      moments = subst (AllByRecursion (λ (v : WorkerNow). v.moment ≡ c.args.start)) (sym none) tt;
-      started = ap (map (λ (v : WorkerNow). v.started)) none;
-      room = omega (arith, c.in_ok-workers.ensures.room);
-    }
+nodes-init g c = record {
+  ports = c.into_iter.ensures.rest;
+  steps = c.into_iter-2.ensures.rest;
+  passes = c.into_iter-4.ensures.rest;
+  made = none_made c.args.nodes.now c.args.links.now (steps_at c.args.steps.items) c.args.shares.now c.args.start c.new-workers.result.items c.new-workers.ensures.items;
+}
 
-pub worker_of-requires-clause-port : goal.worker_of-requires-clause-port
-worker_of-requires-clause-port g c =
+pub add_workers-added-requires-clause-ports : goal.add_workers-added-requires-clause-ports
+add_workers-added-requires-clause-ports g c =
     let l = c.nodes in
     let part = c.in-Some.part in
-    let here = next_there c.args.ports.items _ part.port l.k (sym l.invariant.ports ∙ c.in-Some.ensures.ports) in
-    if_some (slice_get c.args.nodes.now l.k) (λ x. IsPortFor x part.port) (λ x there. c.requires.ports.each l.k x part.port there here)
+    let here = next_there c.args.ports.items _ part.ports l.k (sym l.invariant.ports ∙ c.in-Some.ensures.ports) in
+    if_some (slice_get c.args.nodes.now l.k) (λ x. ArePortsForNode x part.ports.items)
+    (λ x there. c.requires.ports.each l.k x part.ports.items there (get_map (λ ps. ps.items) c.args.ports.items l.k part.ports here))
 
-pub worker_of-requires-clause-steps : goal.worker_of-requires-clause-steps
-worker_of-requires-clause-steps g c =
+pub add_workers-added-requires-clause-steps : goal.add_workers-added-requires-clause-steps
+add_workers-added-requires-clause-steps g c =
     let l = c.nodes in
     let part = c.in-Some.part in
     c.requires.steps l.k part.steps (next_there c.args.steps.items _ part.steps l.k (sym l.invariant.steps ∙ c.in-Some.ensures.steps))
+
+pub add_workers-added-requires-clause-share : goal.add_workers-added-requires-clause-share
+add_workers-added-requires-clause-share g c =
+    let shares = c.args.shares.now in
+    let k = c.nodes.k in
+    let s : ShareNow = c.index-shares-k.result in
+    let within : k < length shares = let count = c.requires.shares.count in let test = c.nodes-test.true in omega (arith, count, test) in
+    all_at IsShare shares k s (slice_get-get_or shares k s within ∙ ap Some (sym c.index-shares-k.is)) c.requires.shares.shared
+
+pub add_workers-added-requires-clause-passes : goal.add_workers-added-requires-clause-passes
+add_workers-added-requires-clause-passes g c =
+    let l = c.nodes in
+    let shares = c.args.shares.now in
+    let s : ShareNow = c.index-shares-k.result in
+    let part = c.in-Some.part in
+    let within : l.k < length shares = let count = c.requires.shares.count in let test = c.nodes-test.true in omega (arith, count, test) in
+    side_at AreFirstOf shares c.args.passes.items l.k s part.passes c.requires.shares.first (slice_get-get_or shares l.k s within ∙ ap Some (sym c.index-shares-k.is))
+    (next_there c.args.passes.items _ part.passes l.k (sym l.invariant.passes ∙ c.in-Some.ensures.passes))
 
 pub nodes-preserved : goal.nodes-preserved
 nodes-preserved g c =
     let l = c.nodes in
     let nodes = c.args.nodes.now in
     let links = c.args.links.now in
-    let steps = c.args.steps.items in
+    let shares = c.args.shares.now in
+    let start = c.args.start in
     let part = c.in-Some.part in
-    let w : WorkerNow = c.in-Ok.worker in
-    let ports_next = sym l.invariant.ports ∙ c.in-Some.ensures.ports in
-    let steps_next = sym l.invariant.steps ∙ c.in-Some.ensures.steps in
-    let here = ap items_of (next_there steps _ part.steps l.k steps_next) in
-    let old = l.workers.items in
+    let s : ShareNow = c.index-shares-k.result in
+    let within : l.k < length shares = let count = c.requires.shares.count in let test = c.nodes-test.true in omega (arith, count, test) in
+    let share : slice_get shares l.k ≡ Some s = slice_get-get_or shares l.k s within ∙ ap Some (sym c.index-shares-k.is) in
     let x = there_at nodes l.k c.nodes-test.true in
-    let add : c.push_reserved.new.self.items ≡ old ++ w ∷ [] = c.push_reserved.ensures.items in
+    let steps_next = sym l.invariant.steps ∙ c.in-Some.ensures.steps in
+    let here = ap items_of (next_there c.args.steps.items _ part.steps l.k steps_next) in
+    let old = l.workers.items in
+    let new = c.add_workers-added.new.workers.items in
+    let adds = of_some (slice_get nodes l.k) (λ y. AddsWorkers nodes links part.steps.items l.k y s start old new) x.item x.there c.in_default-added.ensures in
     record {
-      ports = rest_next c.args.ports.items _ part.port l.k ports_next;
-      steps = rest_next steps _ part.steps l.k steps_next;
-      begun = one_begun_more nodes links (steps_at steps) l.k w.node (map node_of old) (map node_of c.push_reserved.new.self.items) l.invariant.begun
-          (subst (λ (ss : List StepTowards). IfSome (slice_get nodes l.k) (λ y. IsBeginning nodes links ss l.k y w.node)) (sym here) c.in-Ok.ensures.node)
-          (ap (map node_of) add ∙ map-append node_of old (w ∷ []));
-      moments = subst (AllByRecursion (λ (v : WorkerNow). v.moment ≡ c.args.start)) (sym add) (all_last (λ (v : WorkerNow). v.moment ≡ c.args.start) old w l.invariant.moments c.in-Ok.ensures.moment);
-      started = ap (map (λ (v : WorkerNow). v.started)) add
-          ∙ mapped_more (λ (v : WorkerNow). v.started) (λ (y : Node). y.started) old nodes l.k w x.item x.there
-          (of_some (slice_get nodes l.k) (λ y. w.started ≡ y.started) x.item x.there c.in-Ok.ensures.started) l.invariant.started;
-      room = omega (arith, l.invariant.room, c.push_reserved.ensures.len, c.push_reserved.ensures.capacity);
+      ports = rest_next c.args.ports.items _ part.ports l.k (sym l.invariant.ports ∙ c.in-Some.ensures.ports);
+      steps = rest_next c.args.steps.items _ part.steps l.k steps_next;
+      passes = rest_next c.args.passes.items _ part.passes l.k (sym l.invariant.passes ∙ c.in-Some.ensures.passes);
+      made = one_made_more nodes links (steps_at c.args.steps.items) shares start l.k x.item s old new x.there share l.invariant.made
+          (subst (λ (ss : List StepTowards). AddsWorkers nodes links ss l.k x.item s start old new) (sym here) adds);
     }
 
+pub returns-clause-nodes : goal.returns-clause-nodes
+returns-clause-nodes g c = (all_made c.args.nodes.now c.args.links.now (steps_at c.args.steps.items) c.args.shares.now c.args.start c.nodes.k c.nodes.workers.items c.nodes-test.false c.requires.shares.count c.nodes.invariant.made).0
+
 pub returns-clause-workers : goal.returns-clause-workers
-returns-clause-workers g c = record {
-  moments = c.nodes.invariant.moments;
-  started = c.nodes.invariant.started ∙ ap (map (λ (y : Node). y.started)) (take_all c.nodes.k c.args.nodes.now c.nodes-test.false);
-}
+returns-clause-workers g c = (all_made c.args.nodes.now c.args.links.now (steps_at c.args.steps.items) c.args.shares.now c.args.start c.nodes.k c.nodes.workers.items c.nodes-test.false c.requires.shares.count c.nodes.invariant.made).1

@@ -2,5 +2,5 @@
 use Rattle.std.proofs.Common.{length}
 use Rattle.m2_run.proofs.ending.throw_away_ends.Given as goal
 
-abbrev pub decreases-ends : goal.decreases-ends
-decreases-ends g l = length l.ends.items
+abbrev pub decreases-nodes : goal.decreases-nodes
+decreases-nodes g l = length l.ends.items

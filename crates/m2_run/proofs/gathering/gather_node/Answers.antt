@@ -1,11 +1,9 @@
--- What was in hand of the node is given back.
-use Rattle.std.proofs.Common.{rules, ◌≡◌, ◌++◌, drop, subst, take}
-use Rattle.std.specs.Prelude.{IfOk, OnOk, Result, Ok, Err}
+-- What its threads and its halves give is given back.
+use Rattle.std.proofs.Common.{◌≡◌, ◌∙◌, ap, arith, length, map, refl, subst, sym, take}
+use Rattle.std.specs.Prelude.{OnOk, Result, Ok, Err}
 use Rattle.std.specs.Vec.Iter.{into_iter_items}
-use Rattle.m2_bytes.specs.Items.{Holding}
-use Rattle.m2_dispatch.specs.declared.logged.Logged.{Logged}
-use Rattle.m2_run.specs.Gathering.{GivesBack, ends_by}
-use Rattle.m2_run.specs.Ports.{seen_port}
+use Rattle.std.proofs.lemmas.List.{length-map}
+use Rattle.m2_run.specs.Gathering.{GivenNow, Gives, GivesBack}
 use Rattle.m2_run.specs.Rests.{EndedNow}
 use Rattle.m2_run.proofs.Giving.{node_gives}
 use Rattle.m2_run.proofs.gathering.gather_node.Goals as goal
@@ -17,20 +15,18 @@ so_anyway (Err e) p = tt
 
 pub returns-clause-gives_back : goal.returns-clause-gives_back
 returns-clause-gives_back g c =
-    let e = c.ended.inside in
+    let port = g.F.Port.Port.seen in
+    let end = g.F.Port.End.End.seen in
+    let cuts = c.args.cuts.now in
     let left = into_iter_items c.args.loose.now in
     let old = g.F.Fabric.seen c.args.fabric.now in
     let new = g.F.Fabric.seen c.give_back_if.new.fabric in
-    let same : c.as_slice-made.result.now ≡ (seen_port e.port).made = search rules in
-    subst (λ (n : EndedNow). OnOk c.one_log.result (GivesBack c.args.cuts.now c.args.started c.args.place (seen_port n.port) (ends_by n.records (take n.halves left)) old new)) c.ended.view_is
-    (so_anyway c.one_log.result (node_gives g.F.Port.End.End.seen c.args.cuts.now c.as_slice-made.result.now c.args.started c.args.place (seen_port e.port) e.records.items (take e.halves left)
-    c.new-ends.result.items c.give_records-given.new.into.items c.give_halves.new.into.items c.from_vec.result _ old new same c.new-ends.ensures.items c.in_ok-given.ensures.given c.in_ok-give_halves.ensures.given
-    c.from_vec.ensures c.in_ok-give_back_if.ensures))
-
-pub returns-clause-loose : goal.returns-clause-loose
-returns-clause-loose g c =
-    subst (λ (n : EndedNow). OnOk c.one_log.result (into_iter_items c.give_halves.new.loose ≡ drop n.halves (into_iter_items c.args.loose.now))) c.ended.view_is
-    (so_anyway c.one_log.result c.in_ok-give_halves.ensures.left)
-
-pub returns-clause-log : goal.returns-clause-log
-returns-clause-log g c = subst (λ (n : EndedNow). IfOk c.one_log.result (λ (log : Holding Logged). log.items ≡ n.fast ++ n.queued)) c.ended.view_is c.one_log.ensures
+    let n : EndedNow = record { centers = c.ended.inside.centers.items; halves = c.ended.inside.halves } in
+    let none : GivenNow = record { ports = map port c.new.result.items; ends = map end c.new-2.result.items; fast = c.new-3.result.items; queued = c.new-4.result.items } in
+    let given : GivenNow = record { ports = map port c.given.inside.ports.items; ends = map end c.given.inside.ends.items; fast = c.given.inside.fast.items; queued = c.given.inside.queued.items } in
+    let count : c.len-count.result ≡ length n.centers = omega (arith, c.len-count.ensures) in
+    subst (λ (m : EndedNow). OnOk c.one_log.result (GivesBack cuts c.args.node.now.started c.args.place m (take m.halves left) old new)) c.ended.view_is
+    (so_anyway c.one_log.result (node_gives cuts c.args.node.now.started c.args.place c.len-count.result n (take n.halves left) none given given.ports (map end c.give_halves.new.into.items) old new
+    (ap (map port) c.new.ensures.items) (ap (map end) c.new-2.ensures.items)
+    (subst (λ (gv : GivenNow). Gives cuts n.centers none gv) (sym c.given.view_is) c.in_ok-give_centers.ensures) c.in_ok-give_halves.ensures.given refl count
+    (λ on. length-map c.given.inside.ports.items port ∙ c.in_ok-give_back_if.ensures.whole on) c.in_ok-give_back_if.ensures.gathers))

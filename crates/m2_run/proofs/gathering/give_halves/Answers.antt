@@ -1,5 +1,6 @@
 -- One half more, and at the end all.
-use Rattle.std.proofs.Common.{◌≡◌, ◌+◌, ◌-◌, ◌∙◌, suc, map, sym, arith}
+use Rattle.std.proofs.Common.{◌≡◌, ◌+◌, ◌-◌, ◌∙◌, suc, map, sym, ap, arith}
+use Rattle.m2_run.specs.Ends.{seen_end}
 use Rattle.m2_script.proofs.Moving.{left_fewer}
 use Rattle.m2_run.proofs.Giving.{first_none, none_of, one_half}
 use Rattle.m2_run.proofs.gathering.give_halves.Goals as goal
@@ -12,8 +13,8 @@ loop-preserved g c =
     let fewer : n ≡ suc m = omega arith in
     record {
       given = λ all o. l.invariant.given all
-          (one_half c.args.cuts.now c.args.made.now g.E.End.seen l.into.items c.push.new.self.items l.loose.rest.items c.next.new.self.rest.items c.in_ok-inner.inner c.into_parts-end.result.0
-          c.in-Some.half n m all c.in-Some.ensures.items fewer c.in_ok-push.ensures.items c.in_ok-inner.ensures c.into_parts-end.ensures.end o);
+          (one_half g.E.End.seen l.into.items c.push.new.self.items l.loose.rest.items c.next.new.self.rest.items c.in_ok-own_inside.field-0 c.in-Some.half n m all c.in-Some.ensures.items fewer
+          c.in_ok-push.ensures.items (sym c.into_parts-end.ensures.end ∙ ap seen_end c.in-Some-into_left.ensures ∙ c.in_ok-own_inside.ensures) o);
       left = left_fewer l.loose.rest.items c.next.new.self.rest.items c.in-Some.half n m c.in-Some.ensures.items fewer ∙ l.invariant.left;
     }
 
@@ -22,7 +23,7 @@ returns-in_default-clause-given g c =
     let l = c.loop in
     let left = l.loose.rest in
     let now = map g.E.End.seen l.into.items in
-    l.invariant.given now (none_of c.args.cuts.now c.args.made.now (c.args.count - l.counter) left.items now (sym left.ok.0 ∙ c.in_default.ensures.cases.0))
+    l.invariant.given now (none_of (c.args.count - l.counter) left.items now (sym left.ok.0 ∙ c.in_default.ensures.cases.0))
 
 pub returns-clause-given : goal.returns-clause-given
 returns-clause-given g c =
@@ -30,4 +31,4 @@ returns-clause-given g c =
     let now = map g.E.End.seen l.into.items in
     let n = c.args.count - l.counter in
     let none : n ≡ 0 = omega (arith, c.loop-test.false) in
-    l.invariant.given now (first_none c.args.cuts.now c.args.made.now n l.loose.rest.items now none)
+    l.invariant.given now (first_none n l.loose.rest.items now none)

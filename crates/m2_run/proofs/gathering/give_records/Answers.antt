@@ -1,8 +1,8 @@
 -- The ends of one record more, the last one of those that are left, which were turned round.
 use Rattle.std.proofs.Common.{rules, ◌≡◌, [], map, refl, sym, subst, ◌∙◌}
 use Rattle.m2_record.specs.Calls.{Owns}
-use Rattle.m2_cluster.specs.m2_center.Finishing.{AllOwn}
-use Rattle.m2_cluster.proofs.m2_center.Granted.{before_last}
+use Rattle.m2_script.specs.m2_center.Finishing.{AllOwn}
+use Rattle.m2_script.proofs.m2_center.Granted.{before_last}
 use Rattle.m2_run.proofs.Giving.{all_reversed, none_given, none_left, one_record}
 use Rattle.m2_run.proofs.gathering.give_records.Goals as goal
 

@@ -1,34 +1,65 @@
 -- What is left of the nodes, what is told of it, and what weaving came to.
-use Rattle.std.proofs.Common.{Err, refl, subst, sym}
-use Rattle.m2_run.specs.Ran.{EndsInFault, HaveEnded}
+use Rattle.std.proofs.Common.{◌≡◌, ◌⊎◌, List, [], Err, refl, subst, sym, ◌∙◌}
+use Rattle.std.specs.List.{AllByRecursion}
+use Rattle.std.proofs.lemmas.Bool.{OnTrue_at}
+use Rattle.m2_run.specs.Cuts.{cuts_at}
+use Rattle.m2_run.specs.Opened.{HaveEachOnce, OpenedNow, all_kept, made_of_all}
+use Rattle.m2_run.specs.Ran.{EndsInFault}
 use Rattle.m2_run.specs.Rests.{loose_of}
+use Rattle.m2_run.specs.Still.{IsAtRest}
 use Rattle.m2_run.specs.Weaving.{HaveHistories, WeavesAll}
-use Rattle.m2_run.proofs.Runs.{faulted}
+use Rattle.m2_run.proofs.Finished.{kept_loose}
+use Rattle.m2_run.proofs.Runs.{faulted, have_ended, kept_rest_or}
 use Rattle.m2_run.proofs.running.finish.Goals as goal
 
 pub returns-in-Ok-woven-clause-ok : goal.returns-in-Ok-woven-clause-ok
-returns-in-Ok-woven-clause-ok g c =
-    let nodes = c.args.cluster.nodes in
+returns-in-Ok-woven-clause-ok g c ran by =
+    let seen = g.F.Fabric.seen in
+    let cuts = c.args.cuts.now in
+    let nodes = c.args.nodes.now in
     let links = c.args.links.now in
+    let all = c.args.all.items in
+    let ends = c.in-Ok.field-0.ends.items in
+    let loose = c.in-Ok.field-0.loose.items in
+    let joined = c.in-Ok.ensures in
     let told = c.in-Ok-gather_all.ensures in
+    let kept = all_kept ran all in
+    let ended =
+    have_ended cuts nodes ran all ends loose (seen c.args.fabric.now) (seen c.gather_all.new.fabric) c.requires.count by joined.ends joined.loose joined.types.0 joined.types.1
+    (subst (HaveEachOnce nodes) c.as_slice-2.ensures.value c.in_default.ensures) told.gathered told.ports in
+    let rests = subst (λ (os : List OpenedNow). (c.args.left ≡ 0) ⊎ AllByRecursion (λ (o : OpenedNow). (o.left.on_way ≡ []) × AllByRecursion (IsAtRest (made_of_all os)) o.left.at_door) os)
+    c.as_slice.ensures.value (OnTrue_at c.if-not-is_over.false c.is_over.ensures) in
     record {
-      ends = c.in-Ok.field-0.ends.items;
-      ended = record { types = c.in-Ok.ensures.types; are_ends = c.in-Ok.ensures.ends; gathered = told.gathered nodes c.in-Ok.ensures.ends c.in-Ok.ensures.loose };
-      logs = told.logs nodes c.in-Ok.ensures.ends;
+      kept = kept;
+      ends = ends;
+      ended = ended;
+      rest = kept_rest_or (cuts_at cuts) ran all c.args.left by.opened rests;
+      logs = told.logs kept ended.are_ends;
       left_is = refl;
-      woven = subst (λ es. HaveHistories es (loose_of nodes) links) c.as_slice.ensures.value (subst (λ ls. HaveHistories c.as_slice.result.now ls links) c.in-Ok.ensures.loose c.in-Ok-woven.ensures);
+      woven = subst (λ es. HaveHistories es (loose_of kept) links) c.as_slice-in-Ok.ensures.value
+          (subst (λ ls. HaveHistories c.as_slice-in-Ok.result.now ls links) (joined.loose ∙ kept_loose ran all by.opened.count) c.in-Ok-woven.ensures);
     }
 
 pub returns-in-Err-woven-clause-err : goal.returns-in-Err-woven-clause-err
-returns-in-Err-woven-clause-err g c =
+returns-in-Err-woven-clause-err g c ran by =
     let seen = g.F.Fabric.seen in
-    let nodes = c.args.cluster.nodes in
+    let cuts = c.args.cuts.now in
+    let nodes = c.args.nodes.now in
     let links = c.args.links.now in
+    let all = c.args.all.items in
+    let ends = c.in-Ok.field-0.ends.items in
+    let loose = c.in-Ok.field-0.loose.items in
+    let joined = c.in-Ok.ensures in
     let told = c.in-Ok-gather_all.ensures in
-    let ended : HaveEnded c.args.cuts.now c.args.nodes.now nodes c.in-Ok.field-0.ends.items (seen c.args.fabric.now) (seen c.gather_all.new.fabric) =
-    record { types = c.in-Ok.ensures.types; are_ends = c.in-Ok.ensures.ends; gathered = told.gathered nodes c.in-Ok.ensures.ends c.in-Ok.ensures.loose } in
-    let weaves = subst (λ r. WeavesAll r c.as_slice.result.now c.in-Ok.field-0.loose.items links) c.in-Err-woven.is c.weave_all-woven.ensures in
-    subst (EndsInFault c.args.cuts.now c.args.nodes.now links nodes (seen c.args.fabric.now) (seen c.gather_all.new.fabric)) (sym c.fault_told.ensures)
-    (faulted c.args.cuts.now c.args.nodes.now links nodes c.in-Ok.field-0.ends.items (seen c.args.fabric.now) (seen c.gather_all.new.fabric) c.in-Err-woven.fault ended
-    (subst (λ es. WeavesAll (Err c.in-Err-woven.fault) es (loose_of nodes) links) c.as_slice.ensures.value
-    (subst (λ ls. WeavesAll (Err c.in-Err-woven.fault) c.as_slice.result.now ls links) c.in-Ok.ensures.loose weaves)))
+    let kept = all_kept ran all in
+    let old = seen c.args.fabric.now in
+    let new = seen c.gather_all.new.fabric in
+    let ended =
+    have_ended cuts nodes ran all ends loose old new c.requires.count by joined.ends joined.loose joined.types.0 joined.types.1
+    (subst (HaveEachOnce nodes) c.as_slice-2.ensures.value c.in_default.ensures) told.gathered told.ports in
+    let fault = c.in-Err-woven.fault in
+    let weaves = subst (λ r. WeavesAll r c.as_slice-in-Ok.result.now loose links) c.in-Err-woven.is c.weave_all-woven.ensures in
+    subst (EndsInFault cuts nodes links ran old new) (sym c.fault_told.ensures)
+    (faulted cuts nodes links ran kept ends old new fault ended
+    (subst (λ es. WeavesAll (Err fault) es (loose_of kept) links) c.as_slice-in-Ok.ensures.value
+    (subst (λ ls. WeavesAll (Err fault) c.as_slice-in-Ok.result.now ls links) (joined.loose ∙ kept_loose ran all by.opened.count) weaves)))

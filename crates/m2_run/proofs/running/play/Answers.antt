@@ -1,37 +1,49 @@
 -- The workers have gone on to the latest moment, and their nodes from there.
-use Rattle.std.proofs.Common.{◌≤◌, length, map, sym, ap, le_trans, subst, ◌∙◌}
-use Rattle.std.proofs.lemmas.List.{length-map}
+use Rattle.std.proofs.Common.{◌≡◌, List, length, sym, ap, subst, ◌∙◌}
+use Rattle.m2_run.specs.Nodes.{RunNodeNow}
+use Rattle.m2_run.specs.Settling.{HasPlayed}
 use Rattle.m2_run.specs.Way.{AllGoOn}
-use Rattle.m2_run.specs.Working.{latest, node_of}
-use Rattle.m2_run.proofs.Goings.{all_go_after, all_go_on, as_many, now_given, start_below, workers_count}
+use Rattle.m2_run.specs.Working.{nodes_of_workers}
+use Rattle.m2_run.proofs.Goings.{as_many_nodes, have_played, now_given, stay_grouped}
+use Rattle.m2_run.proofs.Workers.{lent_back}
 use Rattle.m2_run.proofs.running.play.Goals as goal
 
-pub settle-requires-clause-given : goal.settle-requires-clause-given
-settle-requires-clause-given g c κs within =
-    let may = g.C.Clock.may_give c.args.clock.now in
-    subst may (sym c.in_ok-cluster.ensures.moment)
-    (now_given may c.args.nodes.now c.args.begun.start c.args.begun.workers.items c.work_all.new.workers.items c.requires.given c.requires.workers c.work_all.ensures)
+pub join_all-requires : goal.join_all-requires
+join_all-requires g c =
+    let begun = c.args.begun in
+    stay_grouped (g.C.Clock.may_give c.args.clock.now) c.args.nodes.now c.args.shares.now begun.workers.items c.work_all.new.workers.items c.work_all.ensures c.requires.workers.groups
 
-pub settle-requires-clause-count : goal.settle-requires-clause-count
-settle-requires-clause-count g c κs within =
+pub settle-settled-requires-clause-given : goal.settle-settled-requires-clause-given
+settle-settled-requires-clause-given g c κs within =
     let may = g.C.Clock.may_give c.args.clock.now in
-    let old = c.args.begun.workers.items in
-    let new = c.work_all.new.workers.items in
-    ap length c.in_ok-cluster.ensures.nodes ∙ length-map new node_of ∙ as_many may old new c.work_all.ensures ∙ workers_count c.args.nodes.now c.args.begun.start old c.requires.workers
+    let begun = c.args.begun in
+    subst may (sym c.in_ok-all.ensures.moment)
+    (now_given may c.args.nodes.now c.args.shares.now begun.start begun.workers.items c.work_all.new.workers.items c.requires.given c.requires.workers c.work_all.ensures)
 
-pub returns-in-Ok-clause-goes_on : goal.returns-in-Ok-clause-goes_on
-returns-in-Ok-clause-goes_on g c =
+pub settle-settled-requires-clause-count : goal.settle-settled-requires-clause-count
+settle-settled-requires-clause-count g c κs within =
     let may = g.C.Clock.may_give c.args.clock.now in
     let nodes = c.args.nodes.now in
-    let start = c.args.begun.start in
-    let old = c.args.begun.workers.items in
+    let shares = c.args.shares.now in
     let new = c.work_all.new.workers.items in
-    let stop = c.in-Ok.settled.stop in
-    let end = c.settle.new.cluster.nodes in
-    all_go_after may start (latest start new) stop nodes (map node_of old) (map node_of new) end (all_go_on may nodes start old new c.requires.given c.requires.workers c.work_all.ensures)
-    (subst (λ m. AllGoOn may m stop nodes (map node_of new) end) c.in_ok-cluster.ensures.moment
-    (subst (λ ns. AllGoOn may c.in_ok-cluster.from stop nodes ns end) c.in_ok-cluster.ensures.nodes c.in-Ok.ensures.goes_on))
+    ap length (c.as_mut_slice.ensures.value ∙ c.in_ok-all.ensures.nodes)
+    ∙ as_many_nodes nodes shares new (stay_grouped may nodes shares c.args.begun.workers.items new c.work_all.ensures c.requires.workers.groups)
 
-pub returns-in-Ok-clause-later : goal.returns-in-Ok-clause-later
-returns-in-Ok-clause-later g c =
-    le_trans (start_below c.args.begun.start c.work_all.new.workers.items) (subst (λ m. m ≤ c.in-Ok.settled.stop) c.in_ok-cluster.ensures.moment c.in-Ok.ensures.later)
+pub returns-in-Ok : goal.returns-in-Ok
+returns-in-Ok g c =
+    let may = g.C.Clock.may_give c.args.clock.now in
+    let nodes = c.args.nodes.now in
+    let links = c.args.links.now in
+    let shares = c.args.shares.now in
+    let begun = c.args.begun in
+    let old = begun.workers.items in
+    let new = c.work_all.new.workers.items in
+    let all = c.in_ok-all.field-0.all in
+    let settled = c.in-Ok.settled in
+    let end = c.settle-settled.new.all in
+    let same = c.as_mut_slice.ensures.value in
+    let back = lent_back all.items end all.len (sym c.as_mut_slice.ensures.len ∙ ap length same) (subst (λ (ns : List RunNodeNow). length end ≡ length ns) same c.settle-settled.auto.all) in
+    subst (λ (ns : List RunNodeNow). HasPlayed may c.args.limit nodes links begun.start settled.stop (nodes_of_workers nodes shares old) ns settled.left) (sym back)
+    (have_played may c.args.limit nodes links shares begun.start c.in_ok-all.field-0.now settled.stop settled.left old new all.items end c.requires.given c.requires.workers c.work_all.ensures
+    c.in_ok-all.ensures.nodes c.in_ok-all.ensures.moment c.in-Ok.ensures.left c.in-Ok.ensures.over c.in-Ok.ensures.later c.in-Ok.ensures.given
+    (subst (λ (ns : List RunNodeNow). AllGoOn may c.in_ok-all.field-0.now settled.stop nodes ns end) same c.in-Ok.ensures.goes_on))

@@ -1,24 +1,13 @@
--- One node more.
-use Rattle.std.proofs.Common.{[], ◌∷◌, ◌++◌, length, ap, ◌∙◌, arith, length-append}
-use Rattle.m2_run.proofs.Workers.{none_joined, one_joined, room_for}
+-- From the last one on.
+use Rattle.std.proofs.Common.{◌≡◌, ◌∙◌, reverse, ap, sym, subst}
+use Rattle.std.proofs.lemmas.List.{reverse-reverse}
+use Rattle.m2_run.specs.Working.{AreGrouped, nodes_of_workers}
 use Rattle.m2_run.proofs.threads.join_all.Goals as goal
 
-pub nodes-init : goal.nodes-init
-nodes-init g c =
-    let turned = c.reverse.ensures.items in
-    record {
-      all = none_joined c.args.workers.items c.reverse.new.self.items c.in-Ok.cluster.nodes c.in-Ok.ensures.none turned;
-      room = room_for c.args.workers.items c.reverse.new.self.items c.len.result c.in-Ok.cluster.room turned (c.len.ensures ∙ c.args.workers.ok.0) c.in-Ok.ensures.room;
-    }
+pub join_nodes-joined-requires : goal.join_nodes-joined-requires
+join_nodes-joined-requires g c =
+    subst (AreGrouped c.args.nodes.now c.args.shares.now) (sym (ap reverse c.reverse.ensures.items ∙ reverse-reverse c.args.workers.items)) c.requires
 
-pub nodes-preserved : goal.nodes-preserved
-nodes-preserved g c =
-    let l = c.nodes in
-    let last = c.in-Some.ensures.items in
-    record {
-      all =
-          one_joined l.workers.items c.pop.new.self.items c.in-Some.worker l.cluster.nodes c.add.new.self.nodes last
-          (c.add.ensures.nodes ∙ ap (λ n. l.cluster.nodes ++ n ∷ []) c.into_node.ensures)
-          ∙ l.invariant.all;
-      room = omega (arith, l.invariant.room, c.add.ensures.room, ap length last, length-append c.pop.new.self.items (c.in-Some.worker ∷ []));
-    }
+pub returns-clause-nodes : goal.returns-clause-nodes
+returns-clause-nodes g c =
+    c.in_ok-joined.ensures ∙ ap (nodes_of_workers c.args.nodes.now c.args.shares.now) (ap reverse c.reverse.ensures.items ∙ reverse-reverse c.args.workers.items)

@@ -10,4 +10,4 @@ returns g c =
     works_by _ _ may_give c.steps_go_on.ensures c.args.clock.now c.args.self.now c.step.new.self now c.requires
     (subst (λ (m : ℕ). m ≤ now) c.moment.ensures c.next_moment-now.ensures.never_falls)
     (subst (λ (m : ℕ). may_give c.args.clock.now m → may_give c.args.clock.now now) c.moment.ensures c.next_moment-now.ensures.given)
-    c.step.ensures.moment c.step.ensures.started c.step.ensures.steps
+    c.step.ensures.moment c.step.ensures.started c.step.ensures.numbers c.step.ensures.throttle c.step.ensures.steps

@@ -1,0 +1,15 @@
+-- What is left of it, its halves, and the parts of its port.
+use Rattle.std.specs.Prelude.{slice_get}
+use Rattle.std.proofs.Common.{◌∙◌, refl, subst, sym}
+use Rattle.m2_script.specs.m2_center.Finishing.{IsGranted}
+use Rattle.m2_run.proofs.Apart.{center_ended}
+use Rattle.m2_run.proofs.ending.end_center.Goals as goal
+
+pub returns-clause-ends : goal.returns-clause-ends
+returns-clause-ends g c =
+    center_ended c.args.cuts.now (slice_get g.B.Inboxes.inboxes) c.args.number c.args.center _ _ _ _ (c.port.view_is ∙ c.finished.ensures.rest) c.in-Ok.ensures.made c.in-Ok.ensures.inside refl
+    (c.into_log-fast.ensures ∙ c.clear.ensures.fast) (c.into_log-queued.ensures ∙ c.finish.ensures.inner) c.in-Ok.ensures.opened c.in-Ok.ensures.apart
+
+pub finish-requires-clause-letters : goal.finish-requires-clause-letters
+finish-requires-clause-letters g c =
+    (subst (IsGranted c.args.shared.now.throttle.place) (sym c.port.view_is) (subst (λ p. IsGranted p c.finished.result) c.requires.throttle_place c.finished.ensures.granted)).queued

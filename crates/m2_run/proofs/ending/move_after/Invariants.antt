@@ -1,6 +1,0 @@
--- The halves so far and those that are left are all.
-use Rattle.std.proofs.Common.{◌≡◌, ◌++◌}
-use Rattle.m2_run.proofs.ending.move_after.Given as goal
-
-abbrev pub invariant-loop-half : goal.invariant-loop-half
-invariant-loop-half g l = l.into.items ++ l.half-iterator.rest.items ≡ l.initial.into.items ++ l.initial.half-iterator.rest.items

@@ -1,0 +1,6 @@
+-- There is one less each time.
+use Rattle.std.proofs.Common.{length}
+use Rattle.m2_run.proofs.ending.throw_away_opened.Given as goal
+
+abbrev pub decreases-nodes : goal.decreases-nodes
+decreases-nodes g l = length l.all.items

@@ -1,0 +1,18 @@
+-- Those that are left, and the last of them.
+use Rattle.std.proofs.Common.{List, [], ◌∷◌, subst}
+use Rattle.std.specs.List.{AllByRecursion}
+use Rattle.m2_bytes.proofs.m2_lemmas.Lists.{all_back, all_front}
+use Rattle.m2_script.specs.m2_center.Center.{CenterNow}
+use Rattle.m2_dispatch.specs.declared.logged.Logged.{Logged}
+use Rattle.m2_run.specs.Nodes.{IsServedBy}
+use Rattle.m2_run.proofs.node.clear_centers.Goals as goal
+
+pub clear_center-requires : goal.clear_center-requires
+clear_center-requires g c =
+    let served = IsServedBy c.args.shared.now.numbers c.args.shared.now.throttle in
+    (all_back served c.pop.new.self.items (c.in-Some.center ∷ []) (subst (AllByRecursion served) c.in-Some.ensures.items c.centers.invariant)).0
+
+pub centers-preserved : goal.centers-preserved
+centers-preserved g c =
+    let served = IsServedBy c.args.shared.now.numbers c.args.shared.now.throttle in
+    all_front served c.pop.new.self.items (c.in-Some.center ∷ []) (subst (AllByRecursion served) c.in-Some.ensures.items c.centers.invariant)

@@ -1,0 +1,13 @@
+-- The centers so far have taken their turns, the others are as they were, and the passes of all are to what they share.
+use Rattle.std.specs.List.{AllByRecursion}
+use Rattle.m2_run.specs.Nodes.{IsServedBy}
+use Rattle.m2_run.specs.Way.{TurnsSo}
+use Rattle.m2_run.specs.declared.end.RunEnd.{RunEnd}
+use Rattle.m2_run.proofs.Each.{AreDone}
+use Rattle.m2_run.proofs.node.turn_each.Given as goal
+
+abbrev pub invariant-centers : goal.invariant-centers
+invariant-centers g l = record {
+  done : AreDone (TurnsSo (RunEnd g.row.P-End.Denot) l.now l.shared.numbers l.shared.throttle) l.j l.fn.centers.items l.centers.items;
+  served : AllByRecursion (IsServedBy l.shared.numbers l.shared.throttle) l.centers.items;
+}
