@@ -23,7 +23,7 @@ CLIENT_IDENT, SERVER_IDENT, SESSION_RECONNECT, SESSION_RESET = 8, 9, 11, 12
 OSD = 4
 NOBODY = (1, 77)  # the port and nonce of no node
 COOKIE = 0x0100010000000001
-LIMIT = 3_000  # milliseconds, of a run under siege: what strangers do in it takes a tenth of that on a machine at rest
+LIMIT = 3_000  # milliseconds, of a run under siege: more than what strangers do in it takes, also on a busy machine
 LONG = 6_000  # of one in which strangers do several things in turn
 SHORT = 1_500  # of one in which they send much, all of which is looked at in the end
 
