@@ -124,10 +124,6 @@ is_done prefix count i bytes total le so_far =
     let one : with_prefix prefix (addresses_at (count - i) bytes) ≡ Ok (prefix, bytes) = rw k (ap (λ (ns : List AnyAddr). let r : Result (List AnyAddr × List ℕ) AddrFault = Ok (ns, bytes) in r) (append-nil prefix)) in
     sym so_far ∙ one
 
-pub all_push : {A : Type 0} (P : A → Type 0) (xs : List A) (y : A) → AllByRecursion P xs → P y → AllByRecursion P (xs ++ y ∷ [])
-all_push P [] y all p = (p, tt)
-all_push P (x ∷ xs) y all p = (all.0, all_push P xs y all.1 p)
-
 -- ---- what is written
 
 -- an IPv4 address as it is written is a text of it

@@ -9,6 +9,7 @@ use Rattle.m2_addr.specs.declared.addr.Addr.{Addr}
 use Rattle.m2_addr.specs.declared.addr.AddrOrder.TheVariants.{Numbers, Bytes}
 use Rattle.m2_addr.specs.Order.{address_cmp, bytes_cmp, is_below_in}
 use Rattle.m2_addr.specs.Laws.{AreOrdered}
+use Rattle.m2_addr.proofs.Fields.{address, same_fields}
 
 -- ---- as numbers
 
@@ -32,9 +33,6 @@ equal_second Greater p h = cc
 equal_number : (x y : ℕ) → nat_cmp x y ≡ Equal → x ≡ y
 equal_number x y h = ranked x y Equal (sym h)
 
-abbrev address : ℕ → ℕ → ℕ → ℕ → Addr
-address kind nonce ip port = record { kind = kind; nonce = nonce; ip = ip; port = port }
-
 same_address : (a b : Addr) → address_cmp a b ≡ Equal → a ≡ b
 same_address a b h =
     let after_kind = equal_second (nat_cmp a.kind b.kind) _ h in
@@ -43,8 +41,7 @@ same_address a b h =
     let nonce = equal_number a.nonce b.nonce (equal_first _ _ after_kind) in
     let ip = equal_number a.ip b.ip (equal_first _ _ after_nonce) in
     let port = equal_number a.port b.port (equal_second (nat_cmp a.ip b.ip) _ after_nonce) in
-    let parts : address a.kind a.nonce a.ip a.port ≡ address b.kind b.nonce b.ip b.port = rw kind (rw nonce (rw ip (rw port refl))) in
-    parts
+    same_fields a b kind nonce ip port
 
 -- ---- by their bytes
 
@@ -77,8 +74,7 @@ same_bytes a b h =
     let nonce = same_number a.nonce b.nonce first second third fourth in
     let port = equal_number a.port b.port (equal_first _ _ after_nonce) in
     let ip = equal_number a.ip b.ip (equal_second (nat_cmp a.port b.port) _ after_nonce) in
-    let parts : address a.kind a.nonce a.ip a.port ≡ address b.kind b.nonce b.ip b.port = rw kind (rw nonce (rw ip (rw port refl))) in
-    parts
+    same_fields a b kind nonce ip port
 
 -- ---- either
 

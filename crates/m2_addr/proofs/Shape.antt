@@ -224,6 +224,10 @@ bare_seen s false e = rw e refl
 pub address_bare : (a : AnyAddr) (text : List ℕ) → IsAddress a text → bare a ≡ a
 address_bare a text (s, is, same) = ap bare same ∙ bare_seen s (is_ipv4 s) refl ∙ sym same
 
+pub bare_twice : (a : AnyAddr) → bare (bare a) ≡ bare a
+bare_twice (V4 a) = refl
+bare_twice (Other b) = refl
+
 -- an address that was read is well-formed
 pub formed : (a : AnyAddr) (text : List ℕ) → IsAddress (bare a) text → IsWellFormed a
 formed (V4 a) text is = tt

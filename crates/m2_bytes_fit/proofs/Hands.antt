@@ -1,5 +1,5 @@
 -- A feed whose handshake isn't over is one in Connecting.
-use Rattle.std.proofs.Common.{◌≡◌, ◌≢◌, ℕ, ◌+◌, ◌⊎◌, inl, inr, Bool, true, false, not, ◌&&◌, ◌==◌, if◌then◌else◌, List, [], ◌∷◌, ◌++◌, length, Option, Some, None, refl, sym, ap, ◌∙◌, subst, arith}
+use Rattle.std.proofs.Common.{◌≡◌, ◌≢◌, ℕ, ◌+◌, ◌⊎◌, inl, inr, Bool, true, false, ◌==◌, if◌then◌else◌, List, [], ◌∷◌, ◌++◌, length, Option, Some, None, refl, sym, ap, ◌∙◌, subst, arith}
 use Rattle.std.proofs.lemmas.Bool.{eqb-true}
 use Rattle.m2_feed.specs.m2_session.declared.ask.AskFacts.{AskFacts}
 use Rattle.m2_feed.specs.m2_session.Asks as asks
@@ -9,12 +9,10 @@ use Rattle.m2_never_reset.specs.m2_queues.OutQueues.{message_at}
 use Rattle.m2_never_reset.specs.m2_queues.QueueLaws.{Next}
 use Rattle.m2_feed.specs.m2_session.declared.answer.Answer.{Answer}
 use Rattle.m2_feed.specs.m2_session.declared.answer.Answer.TheVariants as answer
-use Rattle.m2_feed.specs.m2_session.declared.event.Effects.{Effects}
 use Rattle.m2_feed.specs.m2_session.declared.event.Event.{Event}
 use Rattle.m2_feed.specs.m2_session.declared.event.Event.TheVariants as event
 use Rattle.m2_feed.specs.m2_session.declared.session.Phase.{Phase}
 use Rattle.m2_feed.specs.m2_session.declared.session.Phase.TheVariants as phase
-use Rattle.m2_feed.specs.m2_session.declared.session.Session.{Session}
 use Rattle.m2_feed.specs.m2_session.SessionLaws.{takes}
 use Rattle.m2_feed.specs.m2_session.Phases as phases
 use Rattle.m2_feed.specs.m2_session.Steps.{step_of}
@@ -33,6 +31,7 @@ use Rattle.m2_feed.specs.m2_journal.Steps.{accepts, after, breaks, closes, compo
 use Rattle.m2_never_reset.specs.PairLaws.{IsNoDown}
 use Rattle.m2_bytes_fit.proofs.Less.{FeedLess, tells_less, tells_if_less, has_effects_less}
 use Rattle.m2_feed.proofs.m2_lemmas.Booleans.{from_false_true}
+use Rattle.m2_feed.proofs.m2_session.Events.{fault_closes}
 
 abbrev pub HandSo : State → Feed → Type 0
 HandSo s d = (d.hand ≡ None) ⊎ (s.session.phase ≡ phase.Connecting)
@@ -76,15 +75,6 @@ closing e s q =
     let t = record s { session = (step_of s.session e).session } in
     let first : (where_true o.close closes t).feed ≡ None = subst (λ b. (where_true b closes t).feed ≡ None) (sym q) (closed_none t) in
     none_less (tells e s).feed (subst (λ p. FeedLess p (tells e s).feed) first (has_effects_less o (where_true o.close closes t)).feed)
-
-pub either : (P : (Session × Effects) → Type 0) (b : Bool) (x y : Session × Effects) → P x → P y → P (if b then x else y)
-either P true x y h k = h
-either P false x y h k = k
-
-pub fault_closes : (s : Session) (w : Bool) → (step_of s (event.Faulted w)).effects.close ≡ true
-fault_closes s w =
-    either (λ x. x.1.close ≡ true) s.policy.lossy _ _ refl
-    (either (λ x. x.1.close ≡ true) s.policy.server _ _ refl (either (λ x. x.1.close ≡ true) (s.policy.standby && not w) _ _ refl refl))
 
 pub none_kept : (s : State) → s.feed ≡ None → HandKept s
 none_kept s e = subst (λ o. IfFed o (HandSo s)) (sym e) tt

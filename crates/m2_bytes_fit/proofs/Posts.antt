@@ -1,10 +1,15 @@
 -- A message that may be sent has a frame.
 use Rattle.std.proofs.Common.{ℕ, ◌≤◌, Bool, true, false, if◌then◌else◌, length, arith}
-use Rattle.std.specs.Prelude.{nat_lt}
+use Rattle.std.specs.Prelude.{nat_lt, slice_get}
 use Rattle.m2_feed.specs.m2_frame.declared.frame.TheConstants.{MOST_SEGMENTS}
 use Rattle.m2_feed.specs.m2_frame.Frame.{count_by_lengths}
+use Rattle.m2_feed.specs.m2_journal.declared.entry.Entry.{Entry}
+use Rattle.m2_feed.specs.m2_journal.declared.entry.Entry.TheVariants as entry
+use Rattle.m2_feed.specs.m2_journal.Items as item
+use Rattle.m2_feed.specs.m2_journal.Items.{Places, Sources, item_of}
 use Rattle.m2_feed.proofs.m2_message.Headers.{length-header_text}
 use Rattle.m2_bytes_fit.specs.Posts.{SendablePostsKeepFields}
+use Rattle.m2_bytes_fit.specs.Texts.{CanBePosted}
 use Rattle.m2_bytes_fit.proofs.Formats.{header_bytes}
 
 few_segments : (second third fourth : ℕ) → count_by_lengths second third fourth ≤ MOST_SEGMENTS
@@ -32,3 +37,20 @@ sendable_keeps m types s = record {
   };
   fields = types.header;
 }
+
+-- what an entry posts can be posted where each step of the plan can
+pub one_post : (s : Sources) → ((place n : ℕ) → CanBePosted (item.post place (slice_get s.plan n))) → (p : Places) (e : Entry) → CanBePosted (item_of s p e)
+one_post s h p (entry.Post place) = h place p.steps
+one_post s h p entry.Dial = tt
+one_post s h p (entry.Opened socket) = tt
+one_post s h p (entry.Read socket count) = tt
+one_post s h p (entry.Wrote socket count) = tt
+one_post s h p (entry.Closed socket) = tt
+one_post s h p (entry.Judged socket ask number answer) = tt
+one_post s h p (entry.Asked ident number) = tt
+one_post s h p (entry.Numbered number) = tt
+one_post s h p (entry.Accepted number key) = tt
+one_post s h p (entry.Acked number) = tt
+one_post s h p (entry.Obeyed full) = tt
+one_post s h p (entry.Down true) = tt
+one_post s h p (entry.Down false) = tt

@@ -3,6 +3,7 @@ pub mod EndsHear
 pub mod Granted
 pub mod Had
 pub mod HandedOn
+pub mod KeptOn
 pub mod Lent
 pub mod Passing
 pub mod Places

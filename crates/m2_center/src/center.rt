@@ -32,7 +32,7 @@ pub struct Passes {
 /// [`halves`](Center::halves), [`fast`](Center::fast), [`queued`](Center::queued),
 /// [`is_holding`](Center::is_holding), [`granted`](Center::granted), [`idle`](Center::idle),
 /// [`made`](Center::made), [`refused`](Center::refused), [`log`](Center::log). Calls: [`turn`](Center::turn),
-/// [`poll`](Center::poll) to wait for the next one, and [`plan`](Center::plan) for what a record is to do; of whoever
+/// or [`turn_on`](Center::turn_on) where another thread dispatches, [`poll`](Center::poll) to wait for the next one, and [`plan`](Center::plan) for what a record is to do; of whoever
 /// passes on what flows in memory, [`incoming`](Center::incoming) and [`hear`](Center::hear). The end:
 /// [`finished`](Center::finished). It can't be dropped, since records can't.
 pub struct Center<P: Port, D> {

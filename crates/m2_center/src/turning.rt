@@ -5,11 +5,13 @@ ghost use Rattle.m2_center.specs.CenterTurn.{AcceptsSo, AnswersSo, DeliversSo, S
 ghost use Rattle.m2_center.specs.Dry.{SaysTurn, ended_so};
 ghost use Rattle.m2_turn.specs.HalfTurn.{homes};
 ghost use Rattle.m2_turn.specs.Handing.{SaysMore, handed_in};
+ghost use Rattle.m2_turn.specs.HandingOn.{HandsOn};
 ghost use Rattle.m2_turn.specs.HalvesTurn.{TurnsHalves, callers, sessions_of};
 ghost use Rattle.m2_turn.specs.Outbox.{OwnsAll};
 ghost use Rattle.m2_turn.specs.RecordTurn.{means_of};
 ghost use Rattle.m2_turn.specs.RecordsTurn.{TurnsEach, all_amid, around};
 ghost use Rattle.m2_turn.specs.Sessions.{AreConsistent, IsSupplied, peer_of, supply_of};
+ghost use Rattle.m2_shared.specs.Place.{IsShared};
 ghost use Rattle.m2_fabric.specs.declared.socket.SocketId.{SocketId};
 ghost use Rattle.m2_record.specs.Stepping.{IsSameWork, KeepsReached};
 ghost use Rattle.std.specs.List.{AllByRecursion};
@@ -18,14 +20,15 @@ ghost use Rattle.std.specs.Prelude.{List, length, map, take, vec_capacity, vec_l
 use crate::center::{Center, NodeShared};
 use crate::counting::is_still;
 use m2_bytes::NoMemory;
-use m2_dispatch::Dispatcher;
+use m2_dispatch::{Dispatcher, Parcel};
 use m2_fabric::{End, Port};
 use m2_record::{Record, Work};
 use m2_trail::{Loose, MOST_READ};
 use m2_turn::{
     Accepted, HalvesTurn, Mailed, Outbox, Pendings, RecordsTurn, Roster, accept_all, are_records,
-    empty_mail, turn_each, turn_halves,
+    empty_mail, hand_mail_on, turn_each, turn_halves,
 };
+use std::collections::VecDeque;
 
 /// What a turn came to.
 #[derive(Clone, Copy, Debug, PartialEq, Eq)]
@@ -70,6 +73,54 @@ impl<P: Port, D: Dispatcher> Center<P, D> {
         ended_so(taken, handed, still)
     }
 
+    /// The same of a node whose throttle threads share, one of which dispatches for it: what the dispatcher behind the queue
+    /// is called with goes last among these parcels besides, letters with their grants, for that thread.
+    pub fn turn_on(
+        &mut self,
+        shared: &NodeShared,
+        now: u64,
+        into: &mut VecDeque<Parcel>,
+    ) -> CenterTurn
+        requires numbers { self.old.numbers.place ≡ shared.now.numbers.place }
+        requires throttle { self.old.bytes.place ≡ shared.now.throttle.place }
+        requires shared { IsShared shared.now.throttle.place }
+        ensures turns { TakesTurn P.End D.heard (means_at now shared.now.numbers shared.now.throttle) (memory_in result) self.old self.new }
+        ensures on { HandsOn D.heard shared.now.throttle.place self.old.queued.inner self.new.queued.inner into.old.items into.new.items }
+        ensures says { SaysTurn result self.old self.new }
+        ensures numbers { self.new.numbers.place ≡ self.old.numbers.place }
+        ensures throttle { self.new.bytes.place ≡ self.old.bytes.place }
+    {
+        let before = self.count();
+        let mut handed = false;
+        let taken = self.take_turn_on(shared, &mut handed, now, into);
+        let still = is_still(&before, &self.count());
+        ended_so(taken, handed, still)
+    }
+
+    /// The stages of such a turn.
+    #[tactic(auto, using(crate::proofs::KeptOn::kept_on, crate::proofs::KeptOn::on_behind))]
+    fn take_turn_on(
+        &mut self,
+        shared: &NodeShared,
+        handed: &mut bool,
+        now: u64,
+        into: &mut VecDeque<Parcel>,
+    ) -> Result<(), NoMemory>
+        requires numbers { self.old.numbers.place ≡ shared.now.numbers.place }
+        requires throttle { self.old.bytes.place ≡ shared.now.throttle.place }
+        requires shared { IsShared shared.now.throttle.place }
+        ensures turns { TakesTurn P.End D.heard (means_at now shared.now.numbers shared.now.throttle) result self.old self.new }
+        ensures on { HandsOn D.heard shared.now.throttle.place self.old.queued.inner self.new.queued.inner into.old.items into.new.items }
+        ensures handed { SaysMore handed.old handed.new (handed_in self.old.records) (handed_in self.new.records) }
+        ensures numbers { self.new.numbers.place ≡ self.old.numbers.place }
+        ensures throttle { self.new.bytes.place ≡ self.old.bytes.place }
+    {
+        self.accept()?;
+        self.answer(shared, now)?;
+        self.step(shared, handed, now)?;
+        self.hand_on(shared, now, into)
+    }
+
     /// The stages of a turn, one after another. `handed` says then whether a record handed a parcel out, or whether
     /// it said so before.
     fn take_turn(
@@ -94,6 +145,7 @@ impl<P: Port, D: Dispatcher> Center<P, D> {
     /// The sockets that wait are accepted.
     fn accept(&mut self) -> Result<(), NoMemory>
         ensures accepts { AcceptsSo result self.old self.new }
+        ensures queued { self.new.queued ≡ self.old.queued }
     {
         are_records(self.records.as_slice());
         accepted_so(accept_all(
@@ -110,6 +162,7 @@ impl<P: Port, D: Dispatcher> Center<P, D> {
         requires numbers { self.old.numbers.place ≡ shared.now.numbers.place }
         requires throttle { self.old.bytes.place ≡ shared.now.throttle.place }
         ensures answers { AnswersSo P.End (means_at now shared.now.numbers shared.now.throttle) result self.old self.new }
+        ensures queued { self.new.queued ≡ self.old.queued }
         ensures numbers { self.new.numbers.place ≡ self.old.numbers.place }
         ensures throttle { self.new.bytes.place ≡ self.old.bytes.place }
     {
@@ -135,6 +188,7 @@ impl<P: Port, D: Dispatcher> Center<P, D> {
         requires numbers { self.old.numbers.place ≡ shared.now.numbers.place }
         requires throttle { self.old.bytes.place ≡ shared.now.throttle.place }
         ensures steps { StepsSo D.heard (means_at now shared.now.numbers shared.now.throttle) result self.old self.new }
+        ensures queued { self.new.queued ≡ self.old.queued }
         ensures handed { SaysMore handed.old handed.new (handed_in self.old.records) (handed_in self.new.records) }
         ensures numbers { self.new.numbers.place ≡ self.old.numbers.place }
         ensures throttle { self.new.bytes.place ≡ self.old.bytes.place }
@@ -167,6 +221,29 @@ impl<P: Port, D: Dispatcher> Center<P, D> {
             &mut self.queued,
             &shared.throttle,
             &mut self.passes.throttle,
+        ))
+    }
+
+    /// The same, and what is dispatched is handed on.
+    fn hand_on(
+        &mut self,
+        shared: &NodeShared,
+        now: u64,
+        into: &mut VecDeque<Parcel>,
+    ) -> Result<(), NoMemory>
+        requires throttle { self.old.bytes.place ≡ shared.now.throttle.place }
+        requires shared { IsShared shared.now.throttle.place }
+        ensures delivers { DeliversSo D.heard (means_at now shared.now.numbers shared.now.throttle) result self.old self.new }
+        ensures on { HandsOn D.heard shared.now.throttle.place self.old.queued.inner self.new.queued.inner into.old.items into.new.items }
+        ensures numbers { self.new.numbers ≡ self.old.numbers }
+        ensures throttle { self.new.bytes.place ≡ self.old.bytes.place }
+    {
+        delivered_so(hand_mail_on(
+            &mut self.out,
+            &mut self.queued,
+            &shared.throttle,
+            &mut self.passes.throttle,
+            into,
         ))
     }
 }

@@ -7,6 +7,7 @@ use Rattle.m2_channel.specs.Channel.{KeyedMessage}
 use Rattle.m2_channel.specs.Observed.{handed}
 use Rattle.m2_dispatch.specs.Heard.{is_key}
 use Rattle.m2_dispatch.specs.Laws.{IsSublist}
+use Rattle.m2_dispatch.proofs.m2_lemmas.Booleans.{either_turned}
 use Rattle.m2_bytes_fit.specs.Orders.{OrderEntry, near_entry, far_entry, near_half, far_half, entries_of, near_side, far_side}
 use Rattle.m2_bytes_fit.specs.Texts.{CanBePosted}
 use Rattle.m2_bytes_fit.proofs.Orders.{entries-append}
@@ -89,12 +90,8 @@ pair_is p q e lossy =
     let far = are_same q stateless_server both.1 in
     record { near = near.lossy; far = far.lossy; server = far.server })
 
-turned_or : {P Q : Type 0} → P ⊎ Q → Q ⊎ P
-turned_or (inl p) = inr p
-turned_or (inr q) = inl q
-
 roles : (p q : Policy) → allows p q ≡ true → (p.lossy ≡ true) ⊎ (q.lossy ≡ true) → AreOfLossy p q ⊎ AreOfLossy q p
-roles p q e lossy = by_either (or_cases (is_pair p q) (is_pair q p) e) (λ h. inl (pair_is p q h lossy)) (λ h. inr (pair_is q p h (turned_or lossy)))
+roles p q e lossy = by_either (or_cases (is_pair p q) (is_pair q p) e) (λ h. inl (pair_is p q h lossy)) (λ h. inr (pair_is q p h (either_turned lossy)))
 
 -- ---- the start
 

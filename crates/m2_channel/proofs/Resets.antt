@@ -22,7 +22,7 @@ use Rattle.m2_channel.specs.Observed.{brought_on, shown_by_sender, shown_by_read
 use Rattle.m2_channel.specs.ObservedLaws.{ResetsAreObserved}
 use Rattle.m2_channel.proofs.Through.{no_reset_at}
 use Rattle.m2_dispatch.proofs.m2_lemmas.Lists.{all_back, all_front, all_append}
-use Rattle.m2_dispatch.proofs.m2_lemmas.Booleans.{from_false_true}
+use Rattle.m2_dispatch.proofs.m2_lemmas.Booleans.{from_false_true, neither_of_or}
 
 none_shown : (b : Bool) → AllByRecursion IsNoReset (shown_reset b) → b ≡ false
 none_shown true h = absurd h.0
@@ -43,10 +43,6 @@ none_told : (o : Option Event) (s : Session) (n : ℕ) → resets_told o s n ≡
 none_told (Some e) s n h = none_by (step_of s e).effects.discard (step_of s e).effects.set_back n h
 none_told None s n h = refl
 
-neither : (x y : Bool) → (x || y) ≡ false → (x ≡ false) × (y ≡ false)
-neither true y e = from_false_true (sym e)
-neither false y e = (refl, e)
-
 obeys_none : (i : JournalItem) → obeys_in_full i ≡ false → IsNoFullReset i
 obeys_none (item.obeyed true) e = from_false_true (sym e)
 obeys_none (item.obeyed false) e = tt
@@ -66,7 +62,7 @@ obeys_none (item.down planned step) e = tt
 no_trouble_at : (f : SideFacts) (i : JournalItem) (a b : State) → is_reset f i a b ≡ false → (trouble_at f i a b ≡ 0) × IsNoFullReset i
 no_trouble_at f i a b e =
     let n = length (letters a.deliveries) + length (letters b.deliveries) in
-    let it = neither (obeys_in_full i) (resets_told (event_at f i a) a.session n) e in
+    let it = neither_of_or (obeys_in_full i) (resets_told (event_at f i a) a.session n) e in
     (none_told (event_at f i a) a.session n it.1, obeys_none i it.0)
 
 no_sum : (n m : ℕ) → n ≡ 0 → m ≡ 0 → n + m ≡ 0

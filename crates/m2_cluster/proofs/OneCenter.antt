@@ -19,6 +19,7 @@ use Rattle.m2_center.specs.m2_turn.Hearing as halves
 use Rattle.m2_cluster.specs.Node.{ComesIn, HearsIn, KeepsPort, NodeNow, Shows, end_in, has_in, waits_in}
 use Rattle.m2_bytes.proofs.m2_lemmas.Booleans.{or_false, false_isnt_true}
 use Rattle.m2_fabric.proofs.Sockets.{apart_turned, same_equal, same_refl}
+use Rattle.m2_center.proofs.m2_turn.m2_record.Ends.{end-other}
 
 -- ---- the first end of a socket in a list
 
@@ -48,11 +49,6 @@ second_of xs ys k none = end_both xs ys k ∙ ap (λ b. if b then end_at xs k el
 behind_same : (xs ys zs : List SeenEnd) (k : SocketId) → end_at ys k ≡ end_at zs k → end_at (xs ++ ys) k ≡ end_at (xs ++ zs) k
 behind_same [] ys zs k same = same
 behind_same (x ∷ xs) ys zs k same = ap (λ r. if same_socket k x.id then Some x else r) (behind_same xs ys zs k same)
-
--- one of another socket is behind them
-last_other : (xs : List SeenEnd) (e : SeenEnd) (k : SocketId) → same_socket k e.id ≡ false → end_at (xs ++ e ∷ []) k ≡ end_at xs k
-last_other [] e k other = ap (λ b. if b then Some e else None) other
-last_other (x ∷ xs) e k other = ap (λ r. if same_socket k x.id then Some x else r) (last_other xs e k other)
 
 or_true : (b : Bool) → b || true ≡ true
 or_true true = refl
@@ -195,7 +191,7 @@ module _ {D : Type 0} (id : SocketId) (c : CenterNow D) (known : has_in c id ≡
   came b = if b then es ++ fresh ∷ [] else es
 
   other_ends : (b : Bool) (k : SocketId) → same_socket id k ≡ false → end_in (over (if b then es ++ fresh ∷ [] else es)) k ≡ end_in (over es) k
-  other_ends true k other = behind_same (ends_in c) (es ++ fresh ∷ []) es k (last_other es fresh k (apart_turned id k other))
+  other_ends true k other = behind_same (ends_in c) (es ++ fresh ∷ []) es k (end-other es fresh k (apart_turned id k other))
   other_ends false k other = refl
 
   other_waits : (b : Bool) (k : SocketId) → same_socket id k ≡ false → waits_in (over (if b then es ++ fresh ∷ [] else es)) k ≡ waits_in (over es) k

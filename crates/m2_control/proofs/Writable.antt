@@ -1,16 +1,11 @@
 -- What is read can be written.
-use Rattle.std.proofs.Common.{◌≡◌, ℕ, List, refl, subst}
+use Rattle.std.proofs.Common.{ℕ, List, subst}
 use Rattle.m2_addr.specs.declared.addr.AnyAddr.{AnyAddr}
-use Rattle.m2_addr.specs.declared.addr.AnyAddr.TheVariants.{V4, Other}
 use Rattle.m2_addr.specs.Addr as address
-use Rattle.m2_addr.proofs.Shape.{formed}
+use Rattle.m2_addr.proofs.Shape.{bare_twice, formed}
 use Rattle.m2_control.specs.declared.control.Control.{Control}
 use Rattle.m2_control.specs.declared.control.Control.TheVariants as control
 use Rattle.m2_control.specs.Control.{Spells, IsWritable, bare}
-
-bare_twice : (a : AnyAddr) → address.bare (address.bare a) ≡ address.bare a
-bare_twice (V4 a) = refl
-bare_twice (Other b) = refl
 
 pub writable : (c : Control) (text : List ℕ) → Spells (bare c) text → IsWritable c
 writable (control.Hello p) text (prefix, back, _, is, _) = formed p.seen back (subst (λ (a : AnyAddr). address.IsAddress a back) (bare_twice p.seen) is)

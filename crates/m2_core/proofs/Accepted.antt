@@ -35,20 +35,17 @@ use Rattle.m2_core.specs.Front.{HearsOn, hearer_at, hearer_of}
 use Rattle.m2_core.proofs.Agreeing.{IsResumed}
 use Rattle.m2_core.proofs.Fronts.{as_replayed}
 use Rattle.m2_core.proofs.Passed.{sound_on}
-use Rattle.m2_bytes.proofs.m2_lemmas.Options.{none_isnt_some}
+use Rattle.m2_bytes.proofs.m2_lemmas.Options.{none_isnt_some, some_isnt_none}
 use Rattle.m2_feed.proofs.Heeding.{is_ready}
 
 -- ---- what was granted
-
-some_is_none : (n : ℕ) → Some n ≡ None → ⊥
-some_is_none n e = cc
 
 abbrev bytes_of : Parts → ℕ
 bytes_of f = length f.second + length f.third + length f.fourth
 
 granted_there : AsksForItsSize → (r : Reading) (f : Parts) (len : ℕ) → f.tag ≡ message_tag → IsFront r (whole f) len → granted_in r ≡ Some (bytes_of f)
 granted_there law (framing rest true) f len tag i = law.message rest f len i.1 tag
-granted_there law (framing rest false) f len tag i = absurd (some_is_none (bytes_of f) (sym (law.message rest f len i.1 tag) ∙ i.0))
+granted_there law (framing rest false) f len tag i = absurd (some_isnt_none (bytes_of f) (sym (law.message rest f len i.1 tag) ∙ i.0))
 granted_there law (shaking s) f len tag i = absurd i
 
 granted_to : (g : Option SeenGrant) (n : ℕ) → size_granted g ≡ Some n → (k : SeenGrant) × (g ≡ Some k) × (k.n ≡ n)

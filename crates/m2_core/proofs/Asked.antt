@@ -21,12 +21,10 @@ use Rattle.m2_journal.specs.Said.{said, split, split_by}
 use Rattle.m2_journal.specs.SideFacts.{cookie_of}
 use Rattle.m2_journal.specs.State.{Feed, State}
 use Rattle.m2_journal.specs.Steps.{after}
-use Rattle.m2_session.specs.declared.session.Phase.{Phase}
-use Rattle.m2_session.specs.declared.session.Phase.TheVariants.{Connecting, Ready}
+use Rattle.m2_session.specs.declared.session.Phase.TheVariants.{Connecting}
 use Rattle.m2_session.specs.declared.session.Session.{Session}
 use Rattle.m2_feed.specs.declared.writing.Writing.TheVariants as writing
 use Rattle.m2_session.specs.declared.event.Event.{Event}
-use Rattle.m2_session.specs.Phases as phase
 use Rattle.m2_session.specs.Steps.{step_of}
 use Rattle.m2_shared.specs.Throttle.{SeenGrant}
 use Rattle.m2_core.specs.LiveNow.{LiveNow, OnFeedNow}
@@ -39,6 +37,7 @@ use Rattle.m2_core.specs.Agrees.{Agrees, FeedsAgree, LeadsOn, MayCome, Stays}
 use Rattle.m2_core.specs.Asking.{AsksWith, HasAsked, MayAskNow, ask_of}
 use Rattle.m2_core.specs.Calls.{ask_event, ask_frame, asks_ident}
 use Rattle.m2_core.specs.CoreNow.{CoreNow}
+use Rattle.m2_session.proofs.Phases.{connecting_isnt_ready}
 
 pub is_ask : (f : SideFacts) (l : LiveNow) (b : Bool) → IsAsk (ask_len b) (ask_of f l b 0 0)
 is_ask f l true = record { writable = λ k n. tt; size = λ k n. refl; short = omega arith }
@@ -70,14 +69,11 @@ quiet f s v d (shaking h) x e rests nr = absurd cc
 
 -- ---- the entry
 
-not_ready : (p : Phase) → p ≡ Connecting → phase.is p Ready ≡ false
-not_ready p e = rw e refl
-
 may_on : ComposesBeside → (f : SideFacts) (s : State) (b : Bool) (number : ℕ) (v : FeedNow) (y : Option Feed) → CanAsk v → s.session.phase ≡ Connecting →
     b ≡ (s.session.server_cookie == 0) → s.session.connect ≤ GREATEST_NUMBER → s.top < number → number ≤ GREATEST_NUMBER → FeedsAgree f s (Some v) y →
     OnFeedAt y (MayAsk s b number)
 may_on composes f s b number v (Some d) can p kind fits from to st =
-    let q = quiet f s v d v.reading st.reads can.write.signed can.rests (not_ready s.session.phase p) in
+    let q = quiet f s v d v.reading st.reads can.write.signed can.rests (connecting_isnt_ready s.session.phase p) in
     record {
       phase = p;
       signed = q.0;
@@ -114,7 +110,7 @@ module _ (composes : ComposesBeside) (changes : ChangesBeside) (number : ℕ) (v
         dials = refl;
         top = refl;
         feed = composes.named f _ (out.ident u.session.client_cookie number) v new d
-            (changes.idle f t _ v d d.floor d.owed st (not_ready s.session.phase p)) can.write.signed refl (has_text _) w;
+            (changes.idle f t _ v d d.floor d.owed st (connecting_isnt_ready s.session.phase p)) can.write.signed refl (has_text _) w;
         resumed = told;
       }
   landed false f s n r g (Some d) p w st told =
@@ -128,7 +124,7 @@ module _ (composes : ComposesBeside) (changes : ChangesBeside) (number : ℕ) (v
         dials = refl;
         top = refl;
         feed = composes.named f _ (out.reconnect s.session.client_cookie s.session.server_cookie number s.session.connect s.last) v new d
-            (changes.idle f t _ v d d.floor d.owed st (not_ready s.session.phase p)) can.write.signed refl (has_text _) w;
+            (changes.idle f t _ v d d.floor d.owed st (connecting_isnt_ready s.session.phase p)) can.write.signed refl (has_text _) w;
         resumed = told;
       }
   landed true f s n r g None p w st told = absurd st

@@ -1,5 +1,5 @@
 -- Lists of letters: the first one, whose letters they are, and what is granted for them.
-use Rattle.std.proofs.Common.{◌≡◌, ℕ, ◌+◌, ◌≤◌, true, false, not, Some, None, List, [], ◌∷◌, ◌++◌, drop, length, ltb, refl, sym, ap, ◌∙◌, arith}
+use Rattle.std.proofs.Common.{◌≡◌, ℕ, ◌+◌, ◌≤◌, true, false, not, Some, None, List, [], ◌∷◌, ◌++◌, drop, take, length, ltb, refl, sym, ap, ◌∙◌, arith}
 use Rattle.std.specs.List.{AllByRecursion}
 use Rattle.std.specs.Option.{unwrap_or}
 use Rattle.std.proofs.lemmas.Bool.Decides.{nat_tests}
@@ -15,7 +15,7 @@ use Rattle.m2_dispatch.specs.declared.parcel.Parcel.{Parcel}
 use Rattle.m2_dispatch.specs.declared.parcel.Parcel.TheVariants.{Discard, RemoteReset}
 use Rattle.m2_dispatch.specs.declared.parcel.Parcel.TheVariants as parcel
 use Rattle.m2_dispatch.specs.Letters.{AreOwned, IsOwnedLetter, first_of, granted, granted_for, is_of_peer, letter_priority, of_peer, others}
-use Rattle.m2_dispatch.specs.Parcel.{IsOwned, after_put}
+use Rattle.m2_dispatch.specs.Parcel.{AllOwned, IsOwned, after_put, letters_on}
 use Rattle.m2_dispatch.specs.Waiting.{letters_in}
 
 pub first-is : (ls : List Letter) (l : Letter) → Some l ≡ first_of ls → ls ≡ l ∷ drop 1 ls
@@ -86,6 +86,11 @@ falls-without (m ∷ done) l ls h = (but done h.0, falls-without done l ls h.1)
 pub owned-drop : (place : Place) (ls : List Letter) → AreOwned place ls → AreOwned place (drop 1 ls)
 owned-drop place [] h = h
 owned-drop place (l ∷ ls) h = owned-rest place l ls h
+
+-- so is the first one, where it is handed on
+pub owned-on : (place : Place) (ls : List Letter) → AreOwned place ls → AllOwned place (letters_on (take 1 ls))
+owned-on place [] h = tt
+owned-on place (l ∷ ls) h = (owned-first place l ls h, tt)
 
 pub granted-split : (ls : List Letter) (l : Letter) → Some l ≡ first_of ls → granted ls ≡ l.grant.n + granted (drop 1 ls)
 granted-split ls l e = ap granted (first-is ls l e) ∙ granted-first l (drop 1 ls)

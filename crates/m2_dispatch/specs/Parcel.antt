@@ -1,6 +1,7 @@
 -- What a parcel does where it is put: to the letters that wait, to their grants and to the dispatcher. This project's
 -- own; Ceph's dispatch queue has the same three uses (enqueue, discard_queue, queue_remote_reset).
-use Rattle.std.specs.Prelude.{List, [], ◌∷◌}
+use Rattle.std.specs.Prelude.{List, [], ◌∷◌, map}
+use Rattle.std.specs.List.{AllByRecursion, flat_map}
 use Rattle.m2_queues.specs.ByRank.{put_behind}
 use Rattle.m2_dispatch.specs.Heard.{Heard, reset}
 use Rattle.m2_shared.specs.Place.{Place}
@@ -8,7 +9,7 @@ use Rattle.m2_dispatch.specs.declared.letter.Letter as letter
 use Rattle.m2_dispatch.specs.declared.parcel.Parcel.{Parcel}
 use Rattle.m2_dispatch.specs.declared.parcel.Parcel.TheVariants.{Discard, RemoteReset}
 use Rattle.m2_dispatch.specs.declared.parcel.Parcel.TheVariants as parcel
-use Rattle.m2_dispatch.specs.Letters.{IsOwnedLetter, letter_priority, of_peer, others}
+use Rattle.m2_dispatch.specs.Letters.{IsOwnedLetter, heard_in, letter_priority, of_peer, others}
 
 -- what it holds was granted by the throttle whose word lies there
 abbrev pub IsOwned : Place → Parcel → Type 0
@@ -33,3 +34,23 @@ abbrev pub heard_at_put : Parcel → List Heard
 heard_at_put (parcel.Letter l) = []
 heard_at_put (Discard peer) = []
 heard_at_put (RemoteReset peer) = reset peer ∷ []
+
+-- ---- parcels that are handed on to another dispatcher
+
+-- all that they hold was granted by the throttle whose word lies there
+abbrev pub AllOwned : Place → List Parcel → Type 0
+AllOwned place parcels = AllByRecursion (IsOwned place) parcels
+
+-- letters, as parcels
+abbrev pub letters_on : List letter.Letter → List Parcel
+letters_on ls = map parcel.Letter ls
+
+-- what a dispatcher is called with for one, by the time that nothing waits for it, where nothing waited before; and for these, one
+-- after another
+abbrev pub heard_for : Parcel → List Heard
+heard_for (parcel.Letter l) = heard_in l ∷ []
+heard_for (Discard peer) = []
+heard_for (RemoteReset peer) = reset peer ∷ []
+
+abbrev pub heard_for_all : List Parcel → List Heard
+heard_for_all parcels = flat_map heard_for parcels

@@ -1,10 +1,10 @@
 //! The queue before a dispatcher.
 
-ghost use Rattle.std.specs.Prelude.{◌≡◌, ◌-◌, ◌==◌, [], ◌++◌, length, map, OnOk, OnErr, IfErr};
+ghost use Rattle.std.specs.Prelude.{◌≡◌, ◌-◌, ◌==◌, [], ◌∷◌, ◌++◌, length, map, OnOk, OnErr, IfErr};
 ghost use Rattle.m2_queues.specs.ByRank.{IsFalling};
-ghost use Rattle.m2_shared.specs.Place.{IsAlone};
+ghost use Rattle.m2_shared.specs.Place.{IsAlone, Place};
 ghost use Rattle.m2_dispatch.specs.Letters.{AreOwned, granted, heard_in, letter_priority};
-ghost use Rattle.m2_dispatch.specs.Parcel.{IsOwned, after_put, heard_at_put, thrown_away};
+ghost use Rattle.m2_dispatch.specs.Parcel.{AllOwned, IsOwned, after_put, heard_at_put, letters_on, thrown_away};
 ghost use Rattle.m2_dispatch.specs.Turn.{IsTurn, dispatched};
 
 use crate::dispatcher::Dispatcher;
@@ -13,18 +13,20 @@ use crate::parcel::Parcel;
 use crate::thrown;
 use crate::turn::DispatchTurn;
 use crate::waiting::{self, Waiting};
+use m2_bytes::NoMemory;
 use m2_shared::{TakePass, Throttle};
 use std::alloc::Global;
+use std::collections::VecDeque;
 use std::marker::Model;
 
 /// The letters that wait for a dispatcher, and the dispatcher. Contracts see the letters in the order in
 /// which they will be dispatched: the greatest priority first, and inside one the oldest first. It can't be
 /// dropped, since letters can't: it ends by [`finish`](Dispatch::finish).
 ///
-/// In: [`put`](Dispatch::put). Out: [`turn`](Dispatch::turn). Looks: [`inner`](Dispatch::inner),
-/// [`is_empty`](Dispatch::is_empty). The end: [`finish`](Dispatch::finish). Each call that takes a throttle
-/// and a pass has the condition that the pass and the grants of all letters were made from this throttle, and
-/// leaves it so.
+/// In: [`put`](Dispatch::put). Out: [`turn`](Dispatch::turn), or [`hand_on`](Dispatch::hand_on), where another
+/// dispatcher is to be called with the letter. Looks: [`inner`](Dispatch::inner), [`is_empty`](Dispatch::is_empty). The
+/// end: [`finish`](Dispatch::finish). Each call that takes a throttle and a pass has the condition that the pass and the
+/// grants of all letters were made from this throttle, and leaves it so.
 pub struct Dispatch<D> {
     waiting: Waiting,
     inner: D,
@@ -179,5 +181,48 @@ impl<D: Dispatcher> Dispatch<D> {
                 DispatchTurn::NoMemory
             }
         }
+    }
+    /// Calls the dispatcher with the message of the first letter that waits, as [`turn`](Dispatch::turn) does, and puts
+    /// the letter last among these parcels, grant and all, for another dispatcher. `Nothing` comes exactly where no letter
+    /// waits. After `NoMemory` all is as before.
+    pub fn hand_on(&mut self, into: &mut VecDeque<Parcel>) -> DispatchTurn
+        ensures waiting { IsTurn result self.old.waiting self.new.waiting }
+        ensures greatest { IsFalling letter_priority self.old.waiting }
+        ensures heard { D.heard self.new.inner
+            ≡ D.heard self.old.inner ++ map heard_in (dispatched result self.old.waiting) }
+        ensures into { into.new.items ≡ into.old.items ++ letters_on (dispatched result self.old.waiting) }
+        ensures letters { (place : Place) → AreOwned place self.old.waiting → AreOwned place self.new.waiting × AllOwned place (letters_on (dispatched result self.old.waiting)) }
+    {
+        if self.waiting.is_empty() {
+            return DispatchTurn::Nothing;
+        }
+        if self.waiting.reserve(1).is_err() || into.reserve(1).is_err() {
+            return DispatchTurn::NoMemory;
+        }
+        let Some(letter) = waiting::take(&mut self.waiting) else {
+            return DispatchTurn::Nothing;
+        };
+        match call(&mut self.inner, &letter) {
+            Ok(()) => {
+                into.push_back_reserved(Parcel::Letter(letter));
+                DispatchTurn::One
+            }
+            Err(NoMemory) => {
+                waiting::put_back(&mut self.waiting, letter);
+                DispatchTurn::NoMemory
+            }
+        }
+    }
+}
+
+/// Calls a dispatcher with a copy of a letter's message. Err for want of memory changes nothing that it was called with.
+fn call<D: Dispatcher>(inner: &mut D, letter: &Letter) -> Result<(), NoMemory>
+    ensures ok { OnOk result (D.heard inner.new ≡ D.heard inner.old ++ heard_in letter.now ∷ []) }
+    ensures err { OnErr result (D.heard inner.new ≡ D.heard inner.old) }
+{
+    let message = letter.message.copy()?;
+    match inner.message(letter.peer, letter.key, letter.number, letter.life, message) {
+        Ok(()) => Ok(()),
+        Err(_) => Err(NoMemory),
     }
 }

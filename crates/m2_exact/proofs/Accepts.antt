@@ -5,7 +5,7 @@ use Rattle.std.specs.List.{AllByRecursion}
 use Rattle.std.specs.Option.{option_map}
 use Rattle.std.proofs.lemmas.List.{map-append}
 use Rattle.m2_fabric.proofs.m2_lemmas.Lists.{all_last}
-use Rattle.m2_fabric.proofs.m2_lemmas.Options.{some_same}
+use Rattle.m2_fabric.proofs.m2_lemmas.Options.{of_some, some_same}
 use Rattle.m2_fabric.specs.End.{SeenEnd}
 use Rattle.m2_fabric.specs.Kinds.{IsInMemory, WaitInMemory}
 use Rattle.m2_fabric.specs.Port.{SeenPort}
@@ -21,7 +21,6 @@ use Rattle.m2_script.specs.m2_center.m2_turn.declared.accepting.Accepted.{Accept
 use Rattle.m2_script.specs.m2_center.m2_turn.declared.accepting.Accepted.TheVariants as accepts
 use Rattle.m2_script.specs.m2_center.m2_turn.declared.accepting.TheConstants.{MOST_ACCEPTS}
 use Rattle.m2_script.specs.m2_center.m2_turn.declared.pending.TheConstants.{MOST_HALVES}
-use Rattle.m2_exact.proofs.Common.{of_some}
 use Rattle.m2_exact.proofs.Lists.{heads}
 use Rattle.m2_exact.specs.Accepts.{AreInMemory, LikePortsAcceptAlike, plain_accepting, plain_halves, plain_pending}
 

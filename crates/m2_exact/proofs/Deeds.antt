@@ -2,6 +2,7 @@
 use Rattle.std.proofs.Common.{◌≡◌, ℕ, zero, suc, ◌-◌, ◌&&◌, not, ◌++◌, List, [], ◌∷◌, length, map, slice_get, slice_set, Option, None, Some, Ok, refl, sym, subst, ◌∙◌, ap}
 use Rattle.std.specs.List.{AllByRecursion, flat_map}
 use Rattle.std.specs.Option.{option_map}
+use Rattle.std.proofs.lemmas.List.{length-map}
 use Rattle.m2_dispatch.specs.Heard.{Heard}
 use Rattle.m2_fabric.proofs.m2_lemmas.Lists.{all_at}
 use Rattle.m2_fabric.specs.End.{SeenEnd}
@@ -25,7 +26,7 @@ use Rattle.m2_script.specs.m2_center.m2_feed.m2_journal.declared.facts.PlanStep.
 use Rattle.m2_script.specs.m2_center.m2_feed.m2_session.declared.session.Phase.{Phase}
 use Rattle.m2_script.specs.m2_center.m2_record.RecordNow.{RecordNow, ends_of, feed_end, ids_of}
 use Rattle.m2_script.specs.m2_center.m2_record.Sources.{end_at}
-use Rattle.m2_exact.proofs.Lists.{all_like, all_set, count, heads, map_get, map_set, of_set, said_at}
+use Rattle.m2_exact.proofs.Lists.{all_like, all_set, heads, map_get, map_set, of_set, said_at}
 use Rattle.m2_exact.proofs.Networks as networks
 use Rattle.m2_exact.proofs.Nodes as nodes
 use Rattle.m2_exact.proofs.Told as told
@@ -85,7 +86,7 @@ module _ {D : Type 0} (E : Type 0) (heard : D → List Heard) where
 
   like_holders : (xs ys : List (NodeNow D)) → map (plain_node heard) xs ≡ map (plain_node heard) ys → LikeHolders (held_by xs) (held_by ys)
   like_holders xs ys same = record {
-    nodes = sym (count (plain_node heard) xs) ∙ ap length same ∙ count (plain_node heard) ys;
+    nodes = sym (length-map xs (plain_node heard)) ∙ ap length same ∙ length-map ys (plain_node heard);
     at = said_at (plain_node heard) address_of (λ n m like. ap (λ (x : PlainNode). x.center.port.at) like) xs ys same;
     made = said_at (plain_node heard) made_by (λ n m like. ap (λ (x : PlainNode). x.center.port.made) like) xs ys same;
     ends = λ k id. said_at (plain_node heard) (λ o. end_of o id) (λ n m like. ap (λ es. end_at es id) (all_same n m like)) xs ys same k;

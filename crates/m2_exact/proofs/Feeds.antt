@@ -8,11 +8,11 @@ use Rattle.m2_fabric.specs.declared.end.EndRead.{EndRead}
 use Rattle.m2_fabric.specs.declared.end.EndRead.TheVariants as read
 use Rattle.m2_fabric.specs.declared.end.EndWrite.{EndWrite}
 use Rattle.m2_fabric.specs.declared.end.EndWrite.TheVariants as write
+use Rattle.m2_fabric.proofs.m2_lemmas.Options.{of_some}
 use Rattle.m2_script.specs.m2_center.m2_feed.Calls.{ReadsOn, ReadsPiece, WritesOn, after_put, heard, heard_of}
 use Rattle.m2_script.specs.m2_center.m2_feed.FeedNow.{FeedNow, Reading}
 use Rattle.m2_script.specs.m2_center.m2_feed.declared.answers.FeedWrite.{FeedWrite}
 use Rattle.m2_script.specs.m2_center.m2_feed.declared.answers.FeedWrite.TheVariants as put
-use Rattle.m2_exact.proofs.Common.{of_some}
 use Rattle.m2_exact.specs.Feeds.{FeedsAnswerByWhatIsSeen, after_putting, put_by, read_by, with_answer, write_by}
 
 -- what is heard is the first of what came

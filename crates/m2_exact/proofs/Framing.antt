@@ -12,9 +12,7 @@ use Rattle.m2_script.specs.m2_center.m2_core.OnFeed.{GreetsFeed}
 use Rattle.m2_script.specs.m2_center.m2_core.declared.next.CoreNext.{CoreNext}
 use Rattle.m2_script.specs.m2_center.m2_core.declared.next.CoreNext.TheVariants as next
 use Rattle.m2_script.specs.m2_center.m2_feed.FeedNow.{FeedNow, Reading, is_framing, shaking}
-use Rattle.m2_script.specs.m2_center.m2_feed.m2_session.Phases as phase
 use Rattle.m2_script.specs.m2_center.m2_feed.m2_session.declared.session.Phase.{Phase}
-use Rattle.m2_script.specs.m2_center.m2_feed.m2_session.declared.session.Phase.TheVariants.{Connecting, Ready}
 use Rattle.m2_script.specs.m2_center.m2_turn.m2_handshake.Standing.{Standing}
 use Rattle.m2_script.specs.m2_center.m2_turn.m2_handshake.declared.answer.HalfStep.{HalfStep}
 use Rattle.m2_script.specs.m2_center.m2_turn.m2_handshake.declared.answer.HalfStep.TheVariants as half
@@ -24,6 +22,7 @@ use Rattle.m2_script.specs.m2_center.m2_record.Framing.{AnswersFront, Frames, Gr
 use Rattle.m2_script.specs.m2_center.m2_record.RecordNow.{RecordNow}
 use Rattle.m2_script.specs.m2_center.m2_record.declared.framing.Framed.{Framed}
 use Rattle.m2_script.specs.m2_center.m2_record.declared.framing.Framed.TheVariants as framed
+use Rattle.m2_script.proofs.m2_center.m2_turn.m2_session.Phases.{connecting_isnt_ready}
 use Rattle.m2_exact.proofs.Composing as composing
 use Rattle.m2_exact.proofs.Fronts as fronts
 use Rattle.m2_exact.proofs.Nexts as nexts
@@ -201,9 +200,6 @@ shaking_like r s like h = by r.core.live.feed s.core.live.feed (ap (λ (x : Reco
 
 -- ---- a feed whose opener hasn't signed has no front
 
-unready : (p : Phase) → p ≡ Connecting → phase.is p Ready ≡ false
-unready p e = ap (λ (x : Phase). phase.is x Ready) e
-
 front_rests : (c : CoreNow) (s : Standing) → is_ready c.live ≡ false → heard_by c (shaking s) ≡ rests
 front_rests c s unready = ap (λ (b : Bool). before_front (if b then resumption_of (hearer_of c) c.live.resumed else None) rests) unready
 
@@ -219,7 +215,7 @@ half_or_front t a c new m asked shaken front = by c.live.feed asked shaken front
     by : (x : Option FeedNow) → IsAskedIfSigned c.live.session.phase x → OnFeedNow x (λ v. (s : Standing) × (v.reading ≡ shaking s)) → OnFeedNow x (λ v. IsNext t a (heard_by c v.reading) c new) → ⊥
     by (Some v) asked (s, is) h =
         no_front t a c new m
-        (subst (λ (f : FrontHeard). IsNext t a f c new) (ap (λ (x : Reading). heard_by c x) is ∙ front_rests c s (unready c.live.session.phase (asked (ap is_framing is)))) h)
+        (subst (λ (f : FrontHeard). IsNext t a f c new) (ap (λ (x : Reading). heard_by c x) is ∙ front_rests c s (connecting_isnt_ready c.live.session.phase (asked (ap is_framing is)))) h)
     by None asked shaken h = absurd h
 
 -- ---- all of it

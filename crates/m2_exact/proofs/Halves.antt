@@ -6,7 +6,6 @@ use Rattle.m2_fabric.proofs.Exact as exact
 use Rattle.m2_fabric.specs.m2_addr.Addr as address
 use Rattle.m2_fabric.specs.m2_addr.Vector.{bares}
 use Rattle.m2_fabric.specs.m2_addr.declared.addr.AnyAddr.{AnyAddr}
-use Rattle.m2_fabric.specs.m2_addr.declared.addr.AnyAddr.TheVariants.{V4, Other}
 use Rattle.m2_fabric.specs.End.{ComesFrom, Inflow, Reads, SeenEnd}
 use Rattle.m2_fabric.specs.Kinds.{IsInMemory}
 use Rattle.m2_fabric.specs.Exact.{after_read_of, after_write_of, read_of, write_of}
@@ -14,6 +13,8 @@ use Rattle.m2_fabric.specs.declared.end.EndRead.{EndRead}
 use Rattle.m2_fabric.specs.declared.end.EndRead.TheVariants as read
 use Rattle.m2_fabric.specs.declared.end.EndWrite.{EndWrite}
 use Rattle.m2_fabric.specs.declared.end.EndWrite.TheVariants as write
+use Rattle.m2_fabric.proofs.m2_lemmas.Options.{of_some}
+use Rattle.m2_fabric.proofs.m2_addr.Shape.{bare_twice}
 use Rattle.m2_script.specs.m2_center.m2_turn.m2_handshake.declared.answer.HalfStep.{HalfStep}
 use Rattle.m2_script.specs.m2_center.m2_turn.m2_handshake.declared.answer.HalfStep.TheVariants as half
 use Rattle.m2_script.specs.m2_center.m2_turn.m2_handshake.declared.ask.Ask.{Ask}
@@ -32,7 +33,6 @@ use Rattle.m2_trail.specs.declared.step.IncomingStep.{IncomingStep}
 use Rattle.m2_trail.specs.declared.step.IncomingStep.TheVariants as step
 use Rattle.m2_trail.specs.Incoming.{IncomingNow, ReadsOn, StepsOn, WritesOn, after_read, after_write, fed_of, noted_read, writer_of}
 use Rattle.m2_trail.specs.TurnMoves.{Makes, Move, answers, outcome_of, reads, writes}
-use Rattle.m2_exact.proofs.Common.{of_some}
 use Rattle.m2_exact.proofs.Handshakes as handshakes
 use Rattle.m2_exact.proofs.InMemory as memory
 use Rattle.m2_exact.specs.Halves.{LikeHalvesMoveAlike, bare, given, lacks, plain, told}
@@ -201,13 +201,9 @@ moves_one (reads a piece) (answers b) i v new behind is m n (_, rests, _) (_, bu
 
 -- ---- where the parts of an ask lie
 
-address_twice : (a : AnyAddr) → address.bare (address.bare a) ≡ address.bare a
-address_twice (V4 a) = refl
-address_twice (Other b) = refl
-
 addresses_twice : (addrs : List AnyAddr) → bares (bares addrs) ≡ bares addrs
 addresses_twice [] = refl
-addresses_twice (a ∷ addrs) = ap (λ (x : AnyAddr). x ∷ bares (bares addrs)) (address_twice a) ∙ ap (λ (xs : List AnyAddr). address.bare a ∷ xs) (addresses_twice addrs)
+addresses_twice (a ∷ addrs) = ap (λ (x : AnyAddr). x ∷ bares (bares addrs)) (bare_twice a) ∙ ap (λ (xs : List AnyAddr). address.bare a ∷ xs) (addresses_twice addrs)
 
 ask_twice : (ask : Ask) → bare_ask (bare_ask ask) ≡ bare_ask ask
 ask_twice (Ident i) = ap (λ (addrs : List AnyAddr). Ident (record (bare_client_ident i) { addrs = addrs })) (addresses_twice i.addrs)

@@ -2,7 +2,6 @@ pub mod Accepts
 pub mod Advances
 pub mod Answers
 pub mod Centers
-pub mod Common
 pub mod Composing
 pub mod Cores
 pub mod Dialing

@@ -5,17 +5,9 @@ use Rattle.std.specs.List.{AllByRecursion}
 pub heads : {Y : Type 0} (x y : Y) (xs ys : List Y) → x ∷ xs ≡ y ∷ ys → (x ≡ y) × (xs ≡ ys)
 heads x y xs ys e = (cc e, cc e)
 
-pub mapped : {X Y : Type 0} (f g : X → Y) → ((x : X) → f x ≡ g x) → (xs : List X) → map f xs ≡ map g xs
-mapped f g same [] = refl
-mapped f g same (x ∷ xs) = ap (λ y. y ∷ map f xs) (same x) ∙ ap (λ ys. g x ∷ ys) (mapped f g same xs)
-
 pub mapped_twice : {X Y Z : Type 0} (f : Y → Z) (g : X → Y) (xs : List X) → map f (map g xs) ≡ map (λ x. f (g x)) xs
 mapped_twice f g [] = refl
 mapped_twice f g (x ∷ xs) = ap (λ ys. f (g x) ∷ ys) (mapped_twice f g xs)
-
-pub count : {X Y : Type 0} (f : X → Y) (xs : List X) → length (map f xs) ≡ length xs
-count f [] = refl
-count f (x ∷ xs) = ap (λ n. suc n) (count f xs)
 
 -- ---- at a place
 

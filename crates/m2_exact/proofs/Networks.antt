@@ -17,7 +17,7 @@ use Rattle.m2_fabric.specs.SimFabric.{Enters, Faults, Flows, IsPassedOn, IsTold,
 use Rattle.m2_fabric.specs.Sockets.{goes_to, is_among}
 use Rattle.m2_fabric.specs.declared.end.News.TheVariants as news
 use Rattle.m2_fabric.specs.declared.socket.SocketId.{SocketId}
-use Rattle.m2_exact.proofs.Lists.{mapped}
+use Rattle.m2_fabric.proofs.m2_lemmas.Lists.{map_same}
 use Rattle.m2_exact.specs.Networks.{LikeHolders, LikeNetworks, LikeNetworksPassAlike, StayAlike}
 
 -- ---- lists
@@ -67,8 +67,8 @@ kept_same what one other same p k =
 
 pairs_same : (what : _) (one other : Logs) → SameLogs one other → (ps : List SeenPair) → map (pair_after what one) ps ≡ map (pair_after what other) ps
 pairs_same what one other same ps =
-    mapped (pair_after what one) (pair_after what other)
-    (λ p. ap (λ ks. record p { sockets = ks }) (mapped (kept_after what one p.first p.second) (kept_after what other p.first p.second) (kept_same what one other same p) p.sockets)) ps
+    map_same (pair_after what one) (pair_after what other)
+    (λ p. ap (λ ks. record p { sockets = ks }) (map_same (kept_after what one p.first p.second) (kept_after what other p.first p.second) (kept_same what one other same p) p.sockets)) ps
 
 -- ---- ends that are told the same
 

@@ -2,6 +2,7 @@
 use Rattle.std.proofs.Common.{◌≡◌, ℕ, ◌+◌, ◌-◌, not, ◌++◌, cond, List, [], ◌∷◌, length, map, slice_get, slice_set, Option, None, Some, Ok, refl, sym, subst, ◌∙◌, ap}
 use Rattle.std.specs.Prelude.{nat_lt}
 use Rattle.std.specs.List.{AllByRecursion, flat_map, prefix_len}
+use Rattle.std.proofs.lemmas.List.{length-map}
 use Rattle.m2_dispatch.specs.Heard.{Heard}
 use Rattle.m2_dispatch.specs.m2_shared.Numbers.{SeenNumbers}
 use Rattle.m2_dispatch.specs.m2_shared.Throttle.{SeenThrottle}
@@ -23,7 +24,7 @@ use Rattle.m2_script.specs.m2_center.m2_record.Calls.{planned_too, returned_by}
 use Rattle.m2_script.specs.m2_center.m2_record.RecordNow.{RecordNow, ends_of, feed_end}
 use Rattle.m2_exact.proofs.Centers as centers
 use Rattle.m2_exact.proofs.Dialing as dialing
-use Rattle.m2_exact.proofs.Lists.{all_set, count, heads, map_get, map_set}
+use Rattle.m2_exact.proofs.Lists.{all_set, heads, map_get, map_set}
 use Rattle.m2_exact.proofs.Signing as signing
 use Rattle.m2_exact.specs.Centers.{IsFitCenter, LikeCentersTurnAlike, PlainCenter, plain_center}
 use Rattle.m2_exact.specs.Cores.{OnMemory}
@@ -72,7 +73,7 @@ first_same peer (r ∷ rs) (s ∷ ss) like =
 
 place_same : (peer : ℕ) (rs ss : List RecordNow) → map plain rs ≡ map plain ss → place_towards peer rs ≡ place_towards peer ss
 place_same peer rs ss like =
-    let many : length rs ≡ length ss = sym (count plain rs) ∙ ap length like ∙ count plain ss in
+    let many : length rs ≡ length ss = sym (length-map rs plain) ∙ ap length like ∙ length-map ss plain in
     ap (λ n. cond (nat_lt n (length rs)) (Some n) None) (first_same peer rs ss like)
     ∙ ap (λ m. cond (nat_lt (prefix_len (λ r. not (is_towards peer r)) ss) m) (Some (prefix_len (λ r. not (is_towards peer r)) ss)) None) many
 

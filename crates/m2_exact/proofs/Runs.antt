@@ -4,9 +4,10 @@ use Rattle.std.proofs.Common.{◌≡◌, ℕ, ◌+◌, ◌-◌, ◌==◌, ◌&&�
 use Rattle.std.specs.Prelude.{count_by, fold}
 use Rattle.std.specs.List.{AllByRecursion, list_any, range_with_len}
 use Rattle.std.specs.Option.{option_to_list}
+use Rattle.std.proofs.lemmas.List.{length-map}
 use Rattle.m2_dispatch.specs.Heard.{Heard, heard_by, is_message_from}
 use Rattle.m2_dispatch.specs.declared.logged.Logged.{Logged}
-use Rattle.m2_fabric.proofs.m2_lemmas.Lists.{all_append, all_by_places, all_of_map}
+use Rattle.m2_fabric.proofs.m2_lemmas.Lists.{all_append, all_by_places, all_of_map, map_same}
 use Rattle.m2_fabric.specs.CutPort.{fresh_cut_port}
 use Rattle.m2_fabric.specs.InStep.{SeenFabric}
 use Rattle.m2_fabric.specs.SimFabric.{looked_at}
@@ -28,7 +29,7 @@ use Rattle.m2_dispatch.specs.m2_shared.Numbers.{SeenNumbers}
 use Rattle.m2_dispatch.specs.m2_shared.Throttle.{SeenThrottle}
 use Rattle.m2_script.specs.m2_center.m2_record.RecordNow.{RecordNow}
 use Rattle.m2_exact.proofs.Deeds as deeds
-use Rattle.m2_exact.proofs.Lists.{by_places, count, mapped, mapped_twice, said_at, there_too}
+use Rattle.m2_exact.proofs.Lists.{by_places, mapped_twice, said_at, there_too}
 use Rattle.m2_exact.specs.Centers.{PlainCenter, plain_center}
 use Rattle.m2_exact.specs.Deeds.{AreAlike, HasFitNodes, LikeRunsDoAlike}
 use Rattle.m2_exact.specs.Nodes.{IsAskedBehind, IsFitNode, PlainNode, plain_node}
@@ -133,11 +134,11 @@ module _ {D : Type 0} (heard : D → List Heard) (s t : RunNow D) (like : AreAli
       ∙ said_at (plain_node heard) (heard_of_node heard k t.calls) (λ n m same. ap (λ (x : PlainNode). in_turns (of_node k t.calls) x.center.out.fast x.center.queued) same) s.cluster.nodes t.cluster.nodes like.nodes k
 
   many : length s.cluster.nodes ≡ length t.cluster.nodes
-  many = sym (count (plain_node heard) s.cluster.nodes) ∙ ap length like.nodes ∙ count (plain_node heard) t.cluster.nodes
+  many = sym (length-map s.cluster.nodes (plain_node heard)) ∙ ap length like.nodes ∙ length-map t.cluster.nodes (plain_node heard)
 
   all_heard_same : all_heard heard s ≡ all_heard heard t
   all_heard_same =
-      mapped (heard_at heard s) (heard_at heard t) heard_same (range_with_len 0 (length s.cluster.nodes)) ∙ ap (λ n. map (heard_at heard t) (range_with_len 0 n)) many
+      map_same (heard_at heard s) (heard_at heard t) heard_same (range_with_len 0 (length s.cluster.nodes)) ∙ ap (λ n. map (heard_at heard t) (range_with_len 0 n)) many
 
   down_same : (x y : ℕ) → is_down_at s x y ≡ is_down_at t x y
   down_same x y =

@@ -1,9 +1,10 @@
 -- What was asked on a feed was asked behind its signing: so it stays in each step.
-use Rattle.std.proofs.Common.{◌≡◌, ◌&&◌, not, ℕ, if◌then◌else◌, List, Bool, true, false, Option, None, Some, Result, Ok, Err, refl, sym, subst, ◌∙◌, ap}
+use Rattle.std.proofs.Common.{◌≡◌, ◌&&◌, ℕ, if◌then◌else◌, List, Bool, true, false, Option, None, Some, Result, Ok, Err, refl, sym, subst, ◌∙◌, ap}
 use Rattle.std.specs.Prelude.{◌≢◌}
 use Rattle.std.specs.Option.{is_some}
 use Rattle.m2_fabric.specs.m2_bytes.declared.memory.NoMemory as memory
 use Rattle.m2_script.proofs.m2_center.m2_turn.m2_core.Judged.{IsQuiet}
+use Rattle.m2_script.proofs.m2_center.m2_turn.m2_session.Events.{fault_closes}
 use Rattle.m2_script.specs.m2_center.m2_core.CoreNow.{CoreNow, IsAskedIfSigned}
 use Rattle.m2_script.specs.m2_center.m2_core.Counting.{CountsIf, to_count}
 use Rattle.m2_script.specs.m2_center.m2_core.Effects.{closes, discards, has_effects, requeues, sets_back, tells, where_true}
@@ -43,8 +44,6 @@ use Rattle.m2_script.specs.m2_center.m2_feed.m2_session.declared.event.Effects.{
 use Rattle.m2_script.specs.m2_center.m2_feed.m2_session.declared.event.Event.{Event}
 use Rattle.m2_script.specs.m2_center.m2_feed.m2_session.declared.event.Event.TheVariants as event
 use Rattle.m2_script.specs.m2_center.m2_feed.m2_session.declared.session.Phase.{Phase}
-use Rattle.m2_script.specs.m2_center.m2_feed.m2_session.declared.session.Phase.TheVariants.{Absent, Standby, Wait}
-use Rattle.m2_script.specs.m2_center.m2_feed.m2_session.declared.session.Session.{Session}
 use Rattle.m2_script.specs.m2_center.m2_turn.m2_handshake.m2_frame.Reading.{Item, whole}
 use Rattle.m2_script.specs.m2_center.m2_turn.m2_handshake.declared.answer.HalfStep.{HalfStep}
 use Rattle.m2_script.specs.m2_center.m2_turn.m2_handshake.declared.answer.HalfStep.TheVariants as half
@@ -116,22 +115,6 @@ told_signed (Some e) l h = subst HasSigned (sym (told_feed e l)) (by (step_of l.
     by : (b : Bool) → HasSigned (where_true b closes l).feed
     by true = tt
     by false = h
-
--- by the rows of a broken feed
-abbrev picked : Session → (forgets waits_for_the_client has_nothing : Bool) → Session × Effects
-picked s a b c =
-    if a then (record s { phase = Absent; client_cookie = 0; server_cookie = 0 }, record session.closes { discard = true })
-    else (if b then (record s { phase = Standby }, session.closes)
-    else (if c then (record s { phase = Standby }, session.closes) else (record s { phase = Wait }, session.closes)))
-
-all_close : (s : Session) (a b c : Bool) → (picked s a b c).1.close ≡ true
-all_close s true b c = refl
-all_close s false true c = refl
-all_close s false false true = refl
-all_close s false false false = refl
-
-fault_closes : (s : Session) (waits : Bool) → (step_of s (event.Faulted waits)).effects.close ≡ true
-fault_closes s waits = all_close s s.policy.lossy s.policy.server (s.policy.standby && not waits)
 
 -- ---- what calls leave
 

@@ -5,11 +5,12 @@ use Rattle.std.specs.List.{AllByRecursion, IsDistinct, flat_map}
 use Rattle.std.specs.Option.{option_map}
 use Rattle.std.proofs.lemmas.List.{map-append}
 use Rattle.m2_dispatch.specs.Heard.{Heard}
-use Rattle.m2_fabric.proofs.Sockets.{same_equal, same_refl}
+use Rattle.m2_fabric.proofs.Sockets.{same_equal}
 use Rattle.m2_fabric.specs.End.{SeenEnd}
 use Rattle.m2_fabric.specs.Port.{SeenPort}
 use Rattle.m2_fabric.specs.Sockets.{same_socket}
 use Rattle.m2_fabric.specs.declared.socket.SocketId.{SocketId}
+use Rattle.m2_fabric.proofs.m2_lemmas.Lists.{map_same}
 use Rattle.m2_script.specs.m2_center.Center.{CenterNow}
 use Rattle.m2_script.specs.m2_center.Reaching.{all_ends_in, ends_in, ends_or_none, untold, untold_feed, untold_half, untold_loose, untold_record, rest_in, waiting_at}
 use Rattle.m2_script.specs.m2_cluster.Node.{NodeNow, end_in, line_in, rest_at, rest_of_node}
@@ -21,7 +22,8 @@ use Rattle.m2_script.specs.m2_center.m2_core.LiveCalls.{live_with}
 use Rattle.m2_script.specs.m2_center.m2_feed.FeedNow.{FeedNow}
 use Rattle.m2_script.specs.m2_center.m2_record.RecordNow.{RecordNow, ends_of, feed_end, ids_of}
 use Rattle.m2_script.specs.m2_center.m2_record.Sources.{end_at}
-use Rattle.m2_exact.proofs.Lists.{heads, mapped, mapped_twice}
+use Rattle.m2_script.proofs.m2_center.m2_turn.m2_record.Ends.{end-first}
+use Rattle.m2_exact.proofs.Lists.{heads, mapped_twice}
 use Rattle.m2_exact.specs.Accepts.{plain_halves, plain_pending}
 use Rattle.m2_exact.specs.Centers.{PlainCenter, plain_center}
 use Rattle.m2_exact.specs.Cores.{roomless_feed}
@@ -35,9 +37,6 @@ none_of : (id : SocketId) (es : List SeenEnd) → AllByRecursion (λ k. same_soc
 none_of id [] all = refl
 none_of id (e ∷ es) all = ap (λ b. if b then Some e else end_at es id) all.0 ∙ none_of id es all.1
 
-found : (e : SeenEnd) (es : List SeenEnd) → end_at (e ∷ es) e.id ≡ Some e
-found e es = ap (λ b. if b then Some e else end_at es e.id) (same_refl e.id)
-
 one_end : (e f : SeenEnd) → Some e ≡ Some f → e ≡ f
 one_end e f h = cc h
 
@@ -49,7 +48,7 @@ by_sockets [] (f ∷ fs) ids own same = absurd (cc ids)
 by_sockets (e ∷ es) [] ids own same = absurd (cc ids)
 by_sockets (e ∷ es) (f ∷ fs) ids own same =
     let both = heads e.id f.id (ids_of es) (ids_of fs) ids in
-    let first : e ≡ f = one_end e f (sym (found e es) ∙ same e.id ∙ ap (end_at (f ∷ fs)) both.0 ∙ found f fs) in
+    let first : e ≡ f = one_end e f (sym (end-first e es) ∙ same e.id ∙ ap (end_at (f ∷ fs)) both.0 ∙ end-first f fs) in
     ap (λ x. x ∷ es) first ∙ ap (λ xs. f ∷ xs) (by_sockets es fs both.1 own.1 (λ k. rest both.0 both.1 k (same_socket k e.id) refl))
   where
     rest : e.id ≡ f.id → ids_of es ≡ ids_of fs → (k : SocketId) (b : Bool) → same_socket k e.id ≡ b → end_at es k ≡ end_at fs k
@@ -203,7 +202,7 @@ module _ {D : Type 0} (heard : D → List Heard) where
   center_known : (c : CenterNow D) → plain_center heard (known c) ≡ known_plain (plain_center heard c)
   center_known c =
       ap (λ (rs : List RecordNow). record (plain_center heard (known c)) { records = rs })
-      (mapped_twice plain untold_record c.records ∙ mapped (λ r. plain (untold_record r)) (λ r. untold_record (plain r)) record_known c.records ∙ sym (mapped_twice untold_record plain c.records))
+      (mapped_twice plain untold_record c.records ∙ map_same (λ r. plain (untold_record r)) (λ r. untold_record (plain r)) record_known c.records ∙ sym (mapped_twice untold_record plain c.records))
       ∙ ap (λ (ps : List PendingNow). record (known_plain (plain_center heard c)) { halves = record { pending = ps; loose = map untold_loose c.halves.loose } })
       (mapped_twice plain_pending untold_half c.halves.pending ∙ sym (mapped_twice untold_half plain_pending c.halves.pending))
 

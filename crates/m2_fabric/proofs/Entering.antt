@@ -18,7 +18,7 @@ use Rattle.m2_fabric.proofs.Arriving.{one_arrives}
 use Rattle.m2_fabric.proofs.Flowing.{unkept_is_unread}
 use Rattle.m2_fabric.proofs.Pairs.{times-append}
 use Rattle.m2_bytes.proofs.m2_lemmas.Booleans.{neither_of_or, both_of_and}
-use Rattle.m2_fabric.proofs.Sockets.{same_equal, same_socket_refl}
+use Rattle.m2_fabric.proofs.Sockets.{apart_turned, same_equal}
 
 -- ---- which pair a socket is added to
 
@@ -145,22 +145,12 @@ stays end e a b p other = p.ends e ∙ ap (λ (c : Bool). if c then Some (fresh_
         may : EndName → Bool
         may e = may_come e a
 
-same_comes_back : (x y : SocketId) → same_socket x y ≡ false → same_socket y x ≡ false
-same_comes_back x y h = by_name (same_socket y x) refl
-  where
-    by_name : (s : Bool) → same_socket y x ≡ s → same_socket y x ≡ false
-    by_name false e = e
-    by_name true e = absurd (differ (rw (same_equal y x e) (same_socket_refl x)) h)
-      where
-        differ : same_socket x y ≡ true → same_socket x y ≡ false → ⊥
-        differ t f = cc
-
 sockets_stay : (end : EndName) (a b : SeenHolder) (x y : ℕ) (ks : List Kept) → Arrive (end ∷ []) a b → list_any (λ (k : Kept). same_socket k.id end.id) ks ≡ false
     → HaveWhatFlowed a (of_sockets x y ks) → HaveWhatFlowed b (of_sockets x y ks)
 sockets_stay end a b x y [] p unkept have = tt
 sockets_stay end a b x y (k ∷ ks) p unkept have =
     let parts = neither_of_or (same_socket k.id end.id) (list_any (λ (k : Kept). same_socket k.id end.id) ks) unkept in
-    let other = same_comes_back k.id end.id parts.0 in
+    let other = apart_turned k.id end.id parts.0 in
     let there_to = stays end (record { node = y; id = k.id }) a b p other in
     let back_to = stays end (record { node = x; id = k.id }) a b p other in
     (rw (there_to, back_to) have.0, (rw (there_to, back_to) have.1.0, sockets_stay end a b x y ks p parts.1 have.1.1))

@@ -1,7 +1,8 @@
 -- Ends and ports in memory answer exactly so, but for want of memory.
-use Rattle.std.proofs.Common.{◌≡◌, ℕ, ◌<◌, ◌≤◌, ◌||◌, Bool, true, false, if◌then◌else◌, List, [], ◌∷◌, length, min, take, Option, None, Some, refl, sym, subst, ◌∙◌, ap, arith}
-use Rattle.std.specs.Prelude.{IfSome, ◌≢◌}
+use Rattle.std.proofs.Common.{◌≡◌, ℕ, ◌<◌, ◌≤◌, ◌||◌, Bool, true, false, if◌then◌else◌, List, [], ◌∷◌, length, min, take, Option, None, Some, refl, sym, ◌∙◌, ap, arith}
+use Rattle.std.specs.Prelude.{◌≢◌}
 use Rattle.std.specs.Option.{option_map}
+use Rattle.std.proofs.lemmas.Bool.{or_from}
 use Rattle.m2_edge.specs.Faults.{next_count}
 use Rattle.m2_fabric.specs.Cuts.{allowance, is_cut}
 use Rattle.m2_fabric.specs.End.{ComesFrom, Inflow, IsReadUp, IsWhole, SeenEnd, TakesBytes, unread, with_read}
@@ -16,17 +17,12 @@ use Rattle.m2_fabric.specs.declared.log.TheConstants.{MOST_MOVED}
 use Rattle.m2_fabric.specs.declared.port.Connect.TheVariants as connect
 use Rattle.m2_fabric.specs.declared.port.Taken.{Taken}
 use Rattle.m2_fabric.specs.declared.port.Taken.TheVariants as accept
-
-of_some : {X : Type 0} (P : X → Type 0) (o : Option X) (x : X) → o ≡ Some x → IfSome o P → P x
-of_some P o x is h = subst (λ o. IfSome o P) is h
-
-not_either : (c f : Bool) → c ≡ false → f ≡ false → (c || f) ≡ false
-not_either c f h k = rw (h, k) refl
+use Rattle.m2_bytes.proofs.m2_lemmas.Options.{of_some}
 
 -- ---- reads
 
 read_if_whole : (left : Option ℕ) (i : Inflow) (len : ℕ) → IsWhole left i → read_of left i len ≡ read_whole left i len i.readable
-read_if_whole left i len w = rw (not_either (is_cut left) i.failed w.uncut w.whole) refl
+read_if_whole left i len w = rw (or_from (is_cut left) i.failed w.uncut w.whole) refl
 
 read_if_up : (left : Option ℕ) (i : Inflow) (len : ℕ) (at_end : Bool) → IsReadUp at_end left i → read_of left i len ≡ (if at_end then read.Ended else read.NotYet)
 read_if_up left i len at_end u = read_if_whole left i len u.whole ∙ ap (read_whole left i len) u.nothing ∙ ap (λ (b : Bool). if b then read.Ended else read.NotYet) u.ended
@@ -64,7 +60,7 @@ reads_are_exact read.NoMemory piece i e new is memory r = absurd (memory refl)
 -- ---- writes
 
 write_put : (left : Option ℕ) (i : Inflow) (n : ℕ) (piece : List ℕ) → TakesBytes left i n piece → write.Put n ≡ write_of left i (length piece)
-write_put left i n piece t = ap (λ (k : ℕ). write.Put k) t.most ∙ rw (not_either (is_cut left) (i.failed || i.closed) t.whole.uncut (not_either i.failed i.closed t.whole.whole t.other_end)) refl
+write_put left i n piece t = ap (λ (k : ℕ). write.Put k) t.most ∙ rw (or_from (is_cut left) (i.failed || i.closed) t.whole.uncut (or_from i.failed i.closed t.whole.whole t.other_end)) refl
 
 pub writes_are_exact : WritesAreExact
 writes_are_exact (write.Put n) piece i e new is memory r =

@@ -3,6 +3,7 @@ use Rattle.std.proofs.Common.{◌≡◌, ℕ, ◌+◌, Bool, true, false, if◌t
 use Rattle.std.proofs.Common.{◌||◌}
 use Rattle.std.specs.Prelude.{remove, Result, Ok, Err, OnOk, OnErr}
 use Rattle.m2_bytes.specs.declared.memory.NoMemory.{NoMemory}
+use Rattle.m2_bytes.proofs.m2_lemmas.Booleans.{or_right}
 use Rattle.std.specs.List.{AllByRecursion, list_any}
 use Rattle.std.proofs.lemmas.List.{map-append}
 use Rattle.m2_addr.specs.declared.addr.Addr.{Addr}
@@ -28,10 +29,6 @@ made_more at (k ∷ ks) id all here = (all.0, made_more at ks id all.1 here)
 
 opened_here : (xs : List SocketId) (at to : Addr) → IsOfHome at (socket_after xs at to)
 opened_here xs at to = rw (same_number at.ip, same_number at.port) refl
-
-either : (b c : Bool) → c ≡ true → (b || c) ≡ true
-either true c h = refl
-either false c h = h
 
 -- ---- a socket that is opened
 
@@ -70,7 +67,7 @@ accepted_stays at made waiting e rest p first =
     let q : IsSimPort at made (e ∷ rest) = rw (← first) p in record {
       once = λ s. rw (append_assoc made (e.id ∷ []) (ids rest)) (q.once s);
       waits = q.waits.1;
-      home = made_more at made e.id p.home (either (comes_from at e.id) (goes_to at e.id) q.waits.0.towards);
+      home = made_more at made e.id p.home (or_right (comes_from at e.id) (goes_to at e.id) q.waits.0.towards);
     }
 
 ids-append : (xs ys : List SeenEnd) → ids (xs ++ ys) ≡ ids xs ++ ids ys

@@ -1,10 +1,12 @@
 -- What contracts see of a fabric, and how each of its calls changes that. This project's own.
-use Rattle.std.specs.Prelude.{◌≡◌, ◌≢◌, ℕ, false, List, [], length, drop, All, Option, Some, None, IfSome}
+use Rattle.std.specs.Prelude.{◌≡◌, ◌≢◌, ℕ, ◌≤◌, false, List, [], length, drop, All, Option, Some, None, Result, IfErr, IfSome}
 use Rattle.std.specs.Option.{unwrap_or}
 use Rattle.m2_addr.specs.declared.addr.Addr.{Addr}
-use Rattle.m2_edge.specs.Faults.{next_count}
+use Rattle.m2_edge.specs.Faults.{HasRisen, next_count}
 use Rattle.m2_fabric.specs.End.{SeenEnd}
 use Rattle.m2_fabric.specs.Port.{SeenPort}
+use Rattle.m2_fabric.specs.declared.fabric.ListenFault.{ListenFault}
+use Rattle.m2_fabric.specs.declared.fabric.ListenFault.TheVariants as listen
 
 -- what a node's ports and ends are when they are gathered
 pub record Gathered : Type 0 where
@@ -19,6 +21,16 @@ pub record SeenFabric : Type 0 where
   pub out : ℕ → Option ℕ
   pub gathered : ℕ → Option Gathered
   pub gathers : ℕ → ℕ
+
+-- what a fault says of the count of faults before and after a listen: it rose, or with want of memory it stayed
+abbrev pub IsCausedBy : ListenFault → (old new : ℕ) → Type 0
+IsCausedBy listen.Failed old new = HasRisen old new
+IsCausedBy listen.NoMemory old new = new ≡ old
+
+-- An answer to a listen and the count of faults before and after it: the count never falls.
+pub record HasListenCause {X : Type 0} (result : Result X ListenFault) (old new : ℕ) : Type 0 where
+  pub never_falls : old ≤ new
+  pub fault : IfErr result (λ fault. IsCausedBy fault old new)
 
 -- only where one node listens may have changed, and the count of faults
 pub record ListensAlone (node : ℕ) (old new : SeenFabric) : Type 0 where

@@ -1,14 +1,20 @@
 //! What gives each node its ports, and tells of them afterwards.
 
 ghost use Rattle.std.specs.Prelude.{◌≡◌, OnOk, OnErr, IfOk, Some, length, map};
-ghost use Rattle.m2_edge.specs.Faults.{HasCause};
-ghost use Rattle.m2_fabric.specs.Fabric.{ArePortsOf, Gathers, ListensAlone, SeenFabric, Splits};
+ghost use Rattle.m2_fabric.specs.Fabric.{ArePortsOf, Gathers, HasListenCause, ListensAlone, SeenFabric, Splits};
 
 use crate::end::End;
 use crate::port::{EndList, Port, PortList};
 use m2_addr::Addr;
 use m2_bytes::NoMemory;
-use m2_edge::Failed;
+
+/// Why a node doesn't listen.
+#[derive(Clone, Copy, Debug, PartialEq, Eq)]
+pub enum ListenFault {
+    /// It can't at that address.
+    Failed,
+    NoMemory,
+}
 
 /// What gives each node its ports, and takes them back with the ends that were made of them.
 ///
@@ -21,8 +27,8 @@ pub trait Fabric {
     ghost seen: { Self → SeenFabric };
 
     /// Listens for a node at an address.
-    fn listen(&mut self, node: u32, at: &Addr) -> Result<(), Failed>
-        ensures causes { HasCause result (seen self.old).faults (seen self.new).faults }
+    fn listen(&mut self, node: u32, at: &Addr) -> Result<(), ListenFault>
+        ensures causes { HasListenCause result (seen self.old).faults (seen self.new).faults }
         ensures ok { OnOk result ((seen self.new).listens node ≡ Some at.now) }
         ensures err { OnErr result ((seen self.new).listens node ≡ (seen self.old).listens node) }
         ensures alone { ListensAlone node (seen self.old) (seen self.new) };

@@ -38,7 +38,7 @@ mod socket;
 pub use cut_end::CutEnd;
 pub use cut_port::CutPort;
 pub use end::{End, EndRead, EndWrite, News};
-pub use fabric::Fabric;
+pub use fabric::{Fabric, ListenFault};
 pub use holder::Holder;
 pub use kinds::{MemoryEnd, MemoryPort, are_in_memory};
 pub use laws::memory_is_exact;

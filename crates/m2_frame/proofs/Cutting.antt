@@ -17,7 +17,7 @@ front_within p first later (Ok Complete) i n e = cc
 front_within p first later (Ok Aborted) i n e = cc
 front_within p first later (Err f) i n e = absurd cc
 
-start_isnt_bad : (f : FrameFault) → start ≡ bad f → ⊥
+pub start_isnt_bad : (f : FrameFault) → start ≡ bad f → ⊥
 start_isnt_bad f e = cc
 
 pub start_isnt_text : (i : Item) (n : ℕ) → start ≡ text i n → ⊥

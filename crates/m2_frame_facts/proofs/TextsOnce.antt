@@ -9,6 +9,7 @@ use Rattle.std.proofs.lemmas.Fmt.{decimal_injective, signed_decimal_injective}
 use lib.Signed.{mag}
 use Rattle.m2_bytes.specs.Hexadecimal.{hex_text, hex_value}
 use Rattle.m2_addr.specs.declared.addr.Addr.{Addr}
+use Rattle.m2_addr.proofs.Fields.{same_fields}
 use Rattle.m2_frame_facts.specs.declared.style.Style.{Style}
 use Rattle.m2_frame_facts.specs.Value.{Place, ipv4, other, bits_text, dotted, flag_text, ip_text, ip_port_text, ipv4_text, kind_text, place_text, quoted_place}
 use Rattle.m2_frame_facts.specs.ReadOnce.{AreBytes, IsSmallAddr, IsSmallPlace}
@@ -121,14 +122,6 @@ port_once i j p q si sj sp sq r s stops stops_too e =
     let second = digits_once p q (omega (arith, sp)) (omega (arith, sq)) r s stops stops_too (ap (drop 1) first.1) in
     (first.0, second)
 
-abbrev made : ℕ → ℕ → ℕ → ℕ → Addr
-made kind nonce ip port = record { kind = kind; nonce = nonce; ip = ip; port = port }
-
-same_addr : (a b : Addr) → a.kind ≡ b.kind → a.nonce ≡ b.nonce → a.ip ≡ b.ip → a.port ≡ b.port → a ≡ b
-same_addr a b k n i p =
-    let parts : made a.kind a.nonce a.ip a.port ≡ made b.kind b.nonce b.ip b.port = rw k (rw n (rw i (rw p refl))) in
-    parts
-
 ipv4_once : (a b : Addr) → IsSmallAddr a → IsSmallAddr b → Once (a ≡ b) (ipv4_text a) (ipv4_text b)
 unfolding ipv4_text
 ipv4_once a b small small_too r s stops stops_too e =
@@ -138,7 +131,7 @@ ipv4_once a b small small_too r s stops stops_too e =
     (joined (kind_text a.kind) (ip_port_text a.ip a.port) (kind_text b.kind) (ip_port_text b.ip b.port) (47 ∷ (decimal a.nonce ++ r)) (47 ∷ (decimal b.nonce ++ s)) cut) in
     let second = port_once a.ip b.ip a.port b.port small.ip small_too.ip small.port small_too.port (47 ∷ (decimal a.nonce ++ r)) (47 ∷ (decimal b.nonce ++ s)) refl refl first.1 in
     let third = digits_once a.nonce b.nonce (omega (arith, small.nonce)) (omega (arith, small_too.nonce)) r s (stops_digit r stops) (stops_digit s stops_too) (ap (drop 1) second.1.1) in
-    (same_addr a b first.0 third.0 second.0 second.1.0, third.1)
+    (same_fields a b first.0 third.0 second.0 second.1.0, third.1)
 
 -- the first letters of the two kinds of address differ
 pub v4_begins : (a : Addr) (r : List ℕ) → begins (ipv4_text a ++ r) ≡ 118

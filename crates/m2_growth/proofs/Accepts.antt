@@ -20,6 +20,7 @@ use Rattle.m2_turn.specs.Halves.{AllHalves}
 use Rattle.m2_turn.specs.Hearing.{ends_in}
 use Rattle.m2_turn.specs.Sessions.{PendingNow, is_asker, peer_of}
 use Rattle.m2_turn.proofs.Came.{alone}
+use Rattle.m2_turn.proofs.m2_record.Ends.{end-first}
 use Rattle.m2_bytes_fit.specs.m2_trail.Arrivals.{LooseNow, closed_of}
 use Rattle.m2_bytes_fit.specs.m2_trail.Incoming.{IncomingNow, accepted}
 use Rattle.m2_growth.specs.Ends.{AreOfTheirOwn, EndsGrow}
@@ -31,7 +32,7 @@ use Rattle.m2_growth.specs.Records.{ends_of_all}
 use Rattle.m2_growth.proofs.Among.{among_back, each_by, in_part, of_each, one_back, one_front}
 use Rattle.m2_growth.proofs.Asked.{asked_same}
 use Rattle.m2_growth.proofs.Calls.{closing_grows}
-use Rattle.m2_growth.proofs.Ends.{AreApart, AreLater, AreMade, AreStill, AreWith, all_none, end_first, grow_chain, later_before, later_behind, later_one, later_swapped, made_later, made_none, none_cons, none_join, own_cons, own_join, own_none, own_tail, with_between}
+use Rattle.m2_growth.proofs.Ends.{AreApart, AreLater, AreMade, AreStill, AreWith, all_none, grow_chain, later_before, later_behind, later_one, later_swapped, made_later, made_none, none_cons, none_join, own_cons, own_join, own_none, own_tail, with_between}
 use Rattle.m2_growth.proofs.Going.{records_same, trail_same, grows_same}
 use Rattle.m2_growth.proofs.Growing.{still_there}
 use Rattle.m2_growth.proofs.Holdings.{AllLeft, IsHere, IsOnSocket, end_of, ends_last, left, loose_end, stay_left, still_has}
@@ -208,7 +209,7 @@ module _ (rs : List RecordNow) (p : SeenPort) (h g : AllHalves) (e : SeenEnd) (o
       (among_back e.id p.made (e.id ∷ []) (ap (λ b. b || false) (same_refl e.id)))
 
   there : IsSome (end_at (held ++ ends_in g) e.id)
-  there = still_there (end_at (were ++ e ∷ []) e.id) (end_at (held ++ ends_in g) e.id) (still.grow e.id) (some_back were (e ∷ []) e.id (ap is_some (end_first e [])))
+  there = still_there (end_at (were ++ e ∷ []) e.id) (end_at (held ++ ends_in g) e.id) (still.grow e.id) (some_back were (e ∷ []) e.id (ap is_some (end-first e [])))
 
   comes : (w : Option (List SeenEnd)) → EndsGrow (all_ends (holding p rs h)) (all_ends (holding (given p e w) rs g)) → AreOfTheirOwn (unwrap_or w []) →
       AllByRecursion (IsToCome (given p e w)) (unwrap_or w []) → (gone : List SeenEnd) → waiting_at p ≡ gone ++ unwrap_or w [] → Stands (holding p rs h) (holding (given p e w) rs g)

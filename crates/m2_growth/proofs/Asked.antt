@@ -12,13 +12,14 @@ use Rattle.m2_turn.specs.m2_record.Sources.{end_at, got_of}
 use Rattle.m2_turn.specs.m2_record.TakenTrails.{judgement_of, judgements_in}
 use Rattle.m2_turn.specs.Sessions.{peer_of}
 use Rattle.m2_turn.proofs.Opened.{filtered}
+use Rattle.m2_turn.proofs.m2_record.Ends.{end-first}
 use Rattle.m2_bytes_fit.specs.m2_trail.Asks.{IsMain}
 use Rattle.m2_weave.specs.Later.{GoesOn}
 use Rattle.m2_growth.specs.Ends.{AreOfTheirOwn, EndGrowsTo, EndsGrow, come_to}
 use Rattle.m2_growth.specs.Halves.{AreAskedByPeers, IsAskedByPeer, IsAskedHere, IsOneOf, judged_since}
 use Rattle.m2_growth.specs.Records.{RecordGrows, RecordsGrow}
 use Rattle.m2_growth.proofs.Among.{each_by, in_part, of_each}
-use Rattle.m2_growth.proofs.Ends.{end_first, none_tail, on_chain, own_tail}
+use Rattle.m2_growth.proofs.Ends.{none_tail, on_chain, own_tail}
 use Rattle.m2_fabric.proofs.m2_lemmas.Booleans.{false_isnt_true}
 use Rattle.m2_fabric.proofs.Sockets.{same_equal, same_refl}
 
@@ -32,7 +33,7 @@ end_there k e (x ∷ xs) (inr h) same none = end_there k e xs h same (none_tail 
 -- each of them is the end of its socket
 pub end_own : (e : SeenEnd) (es : List SeenEnd) → AreOfTheirOwn es → IsOneOf e es → end_at es e.id ≡ Some e
 end_own e [] own i = absurd i
-end_own e (x ∷ xs) own (inl h) = subst (λ (y : SeenEnd). end_at (y ∷ xs) e.id ≡ Some e) h (end_first e xs)
+end_own e (x ∷ xs) own (inl h) = subst (λ (y : SeenEnd). end_at (y ∷ xs) e.id ≡ Some e) h (end-first e xs)
 end_own e (x ∷ xs) own (inr i) = at (same_socket e.id x.id) refl (end_own e xs (own_tail x xs own).1 i)
   where
     at : (b : Bool) → same_socket e.id x.id ≡ b → end_at xs e.id ≡ Some e → end_at (x ∷ xs) e.id ≡ Some e

@@ -25,12 +25,12 @@ use Rattle.m2_turn.specs.Halves.{AllHalves}
 use Rattle.m2_turn.specs.Outbox.{is_free}
 use Rattle.m2_turn.specs.RecordTurn.{Means}
 use Rattle.m2_turn.specs.RecordsTurn.{AllAmid, Amid, Around, DialsAndSteps, EachTurns, TurnsEach, TurnsIf, TurnsInOrder, TurnsOne, all_amid, amid, at_port, sides_of, turning_amid}
+use Rattle.m2_turn.proofs.m2_record.Ends.{end-first}
 use Rattle.m2_growth.specs.Holding.{AreOwn, Holding, all_ends, waiting_at}
 use Rattle.m2_growth.specs.GrowthLaws.{at_records}
 use Rattle.m2_growth.specs.Records.{ends_of_all}
 use Rattle.m2_growth.proofs.Among.{among_one}
 use Rattle.m2_growth.proofs.Dials.{dials}
-use Rattle.m2_growth.proofs.Ends.{end_first}
 use Rattle.m2_growth.proofs.OneRecord.{all_around, ends_behind, holding, one_advances}
 use Rattle.m2_growth.proofs.RecordTurns.{advances_on, turns, turns_one}
 use Rattle.m2_growth.specs.Ports.{PortStands}
@@ -46,7 +46,7 @@ opened_there : (e : SeenEnd) (r s : RecordNow) (o : Option FeedNow) → s.core.l
 opened_there e r s None is opening some = absurd (false_isnt_true some)
 opened_there e r s (Some v) is (opening, _) some =
     let first : ends_of s ≡ e ∷ s.spent = ap (λ x. feed_end x ++ s.spent) is ∙ ap (λ (x : SeenEnd). x ∷ s.spent) (ap (λ (x : FeedNow). x.end) opening) in
-    ap (λ es. is_some (end_at es e.id)) first ∙ ap is_some (end_first e s.spent)
+    ap (λ es. is_some (end_at es e.id)) first ∙ ap is_some (end-first e s.spent)
 
 -- an end of the record is one of all
 among_all : (q : SeenPort) (before rest : List RecordNow) (s : RecordNow) (halves : AllHalves) (k : SocketId) → IsSome (end_at (ends_of s) k) → IsSome (end_at (all_ends (holding q (before ++ s ∷ rest) halves)) k)

@@ -6,10 +6,11 @@ use Rattle.m2_fabric.specs.End.{SeenEnd}
 use Rattle.m2_fabric.specs.Sockets.{is_among, same_socket}
 use Rattle.m2_turn.specs.m2_record.RecordNow.{ids_of}
 use Rattle.m2_turn.specs.m2_record.Sources.{end_at}
+use Rattle.m2_turn.proofs.m2_record.Ends.{end-first}
 use Rattle.m2_weave.specs.Later.{GoesOn}
 use Rattle.m2_growth.specs.Ends.{AreOfTheirOwn, BringNone, EndGrows, EndGrowsTo, EndsGrow, IsNewborn}
 use Rattle.m2_fabric.proofs.m2_lemmas.Booleans.{false_isnt_true}
-use Rattle.m2_fabric.proofs.Sockets.{same_equal, same_refl}
+use Rattle.m2_fabric.proofs.Sockets.{same_equal}
 
 -- ---- lists that go on
 
@@ -60,11 +61,8 @@ none_tail e es k h = at (same_socket k e.id) h
 pub none_cons : (e : SeenEnd) (es : List SeenEnd) (k : SocketId) → same_socket k e.id ≡ false → end_at es k ≡ None → end_at (e ∷ es) k ≡ None
 none_cons e es k other h = ap (λ b. if b then Some e else end_at es k) other ∙ h
 
-pub end_first : (e : SeenEnd) (es : List SeenEnd) → end_at (e ∷ es) e.id ≡ Some e
-end_first e es = ap (λ b. if b then Some e else end_at es e.id) (same_refl e.id)
-
 not_none : (e : SeenEnd) (es : List SeenEnd) → end_at (e ∷ es) e.id ≡ None → ⊥
-not_none e es h = none_some e (sym (end_first e es) ∙ h)
+not_none e es h = none_some e (sym (end-first e es) ∙ h)
 
 -- ---- none of them is of a socket
 

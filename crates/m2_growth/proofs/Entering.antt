@@ -3,7 +3,7 @@ use Rattle.std.proofs.Common.{◌≡◌, ℕ, ◌==◌, ◌&&◌, ◌||◌, Bool
 use Rattle.std.specs.Prelude.{IfSome, IsSome, MatchOption, slice_get}
 use Rattle.std.specs.List.{AllByRecursion, position}
 use Rattle.std.specs.Option.{is_some}
-use Rattle.std.proofs.lemmas.Bool.{eqb-true}
+use Rattle.std.proofs.lemmas.Bool.{eqb-true, or_from}
 use Rattle.std.proofs.lemmas.List.Quantifiers.{position-Some}
 use Rattle.std.proofs.lemmas.Option.{slice_get-get_or}
 use Rattle.m2_fabric.specs.m2_addr.declared.addr.Addr.{Addr}
@@ -25,26 +25,14 @@ use Rattle.m2_growth.specs.Passed.{HasItsEnds, MadeHaveEnds, WaitingAreOpen}
 use Rattle.m2_growth.specs.Turn.{AllCameOfPut, CameOfPut, HaveEnds}
 use Rattle.m2_growth.proofs.Growing.{unread_came}
 use Rattle.m2_fabric.proofs.m2_lemmas.Lists.{all_front, all_back, all_append}
-use Rattle.m2_fabric.proofs.m2_lemmas.Booleans.{both_of_and, false_isnt_true}
+use Rattle.m2_fabric.proofs.m2_lemmas.Booleans.{both_of_and, false_isnt_true, or_left, or_right}
 use Rattle.m2_fabric.proofs.Sockets.{same_refl}
 
 -- ---- tests
 
-or_first : (p q : Bool) → p ≡ true → (p || q) ≡ true
-or_first true q is = refl
-or_first false q is = absurd (false_isnt_true is)
-
-pub or_second : (p q : Bool) → q ≡ true → (p || q) ≡ true
-or_second true q is = refl
-or_second false q is = is
-
 or_more : (s p q : Bool) → (p || q) ≡ true → ((s || p) || q) ≡ true
 or_more true p q is = refl
 or_more false p q is = is
-
-or_none : (p q : Bool) → p ≡ false → q ≡ false → (p || q) ≡ false
-or_none false q p_is is = is
-or_none true q p_is is = absurd (false_isnt_true (sym p_is))
 
 -- ---- all of some directions
 
@@ -79,7 +67,7 @@ pairs_stay P so a b [] same all = tt
 pairs_stay P so a b (p ∷ ps) same all =
     all_append (λ d. P b (reader d) (writer d)) (of_pair p) (directions ps)
     (sockets_stay P so a b p.first p.second p.sockets ps same (all_front (λ d. P a (reader d) (writer d)) (of_pair p) (directions ps) all))
-    (pairs_stay P so a b ps (λ e is. same e (or_second _ (is_kept e.id ps) is)) (all_back (λ d. P a (reader d) (writer d)) (of_pair p) (directions ps) all))
+    (pairs_stay P so a b ps (λ e is. same e (or_right _ (is_kept e.id ps) is)) (all_back (λ d. P a (reader d) (writer d)) (of_pair p) (directions ps) all))
 
 -- ---- a socket that comes to be kept
 
@@ -151,11 +139,11 @@ entered_so P nodes node id ids ps so all = by_node (acceptor nodes node id) refl
         by_kept : (b : Bool) → is_kept id ps ≡ b → AllSo P (if b then ps else with_kept node other (fresh_kept id) ps)
         by_kept true unkept = all
         by_kept false unkept = with_so P node other id ps (so id other (record {
-          among = or_first (same_socket id id) (is_among id ids) (same_refl id);
+          among = or_left (same_socket id id) (is_among id ids) (same_refl id);
           unkept = unkept;
           towards = is;
           arrives = any-append end (arrivals_at id ps (acceptor nodes node id)) (arrivals nodes node ids (entered nodes node id ps))
-              ∙ or_first (is_one_of (arrivals_at id ps (acceptor nodes node id)) end) (is_one_of (arrivals nodes node ids (entered nodes node id ps)) end) (arrived unkept);
+              ∙ or_left (is_one_of (arrivals_at id ps (acceptor nodes node id)) end) (is_one_of (arrivals nodes node ids (entered nodes node id ps)) end) (arrived unkept);
         })) all
 
 all_so : (P : EndName → EndName → Type 0) (nodes : List Addr) (node : ℕ) (ids : List SocketId) (ps : List SeenPair) →
@@ -167,11 +155,11 @@ all_so P nodes node (id ∷ ids) ps so all =
     later : (x : SocketId) (other : ℕ) → IsNewly nodes node ids (entered nodes node id ps) x other → IsNewly nodes node (id ∷ ids) ps x other
     later x other new =
         let end : EndName = record { node = other; id = x } in record {
-          among = or_second (same_socket x id) (is_among x ids) new.among;
+          among = or_right (same_socket x id) (is_among x ids) new.among;
           unkept = unkept_then node id x ps (acceptor nodes node id) new.unkept;
           towards = new.towards;
           arrives = any-append end (arrivals_at id ps (acceptor nodes node id)) (arrivals nodes node ids (entered nodes node id ps))
-              ∙ or_second (is_one_of (arrivals_at id ps (acceptor nodes node id)) end) (is_one_of (arrivals nodes node ids (entered nodes node id ps)) end) new.arrives;
+              ∙ or_right (is_one_of (arrivals_at id ps (acceptor nodes node id)) end) (is_one_of (arrivals nodes node ids (entered nodes node id ps)) end) new.arrives;
         }
 
 -- ---- ends that were kept are not among those that arrive
@@ -187,7 +175,7 @@ unarrived : (nodes : List Addr) (node : ℕ) (ids : List SocketId) (ps : List Se
 unarrived nodes node [] ps e kept = refl
 unarrived nodes node (id ∷ ids) ps e kept =
     any-append e (arrivals_at id ps (acceptor nodes node id)) (arrivals nodes node ids (entered nodes node id ps))
-    ∙ or_none (is_one_of (arrivals_at id ps (acceptor nodes node id)) e) (is_one_of (arrivals nodes node ids (entered nodes node id ps)) e)
+    ∙ or_from (is_one_of (arrivals_at id ps (acceptor nodes node id)) e) (is_one_of (arrivals nodes node ids (entered nodes node id ps)) e)
     (by_node (acceptor nodes node id)) (unarrived nodes node ids (entered nodes node id ps) e (kept_still nodes node id e.id ps kept))
   where
     by_node : (o : Option ℕ) → is_one_of (arrivals_at id ps o) e ≡ false
@@ -266,7 +254,7 @@ unread_met (Some e) w unread = subst (λ o. IfSome o (λ bytes. GoesOn bytes (pu
 among_rest : (k : SocketId) (n : ℕ) (xs : List SocketId) → is_among k (drop n xs) ≡ true → is_among k xs ≡ true
 among_rest k zero xs is = is
 among_rest k (suc n) [] is = is
-among_rest k (suc n) (x ∷ xs) is = or_second (same_socket k x) (is_among k xs) (among_rest k n xs is)
+among_rest k (suc n) (x ∷ xs) is = or_right (same_socket k x) (is_among k xs) (among_rest k n xs is)
 
 -- ---- all of it
 

@@ -25,6 +25,7 @@ use Rattle.m2_turn.specs.m2_session.SessionLaws.{ident_event, reconnect_event, t
 use Rattle.m2_turn.specs.m2_session.Reconnect.{Reconnect, reconnect_answer}
 use Rattle.m2_turn.specs.m2_session.Steps.{step_of}
 use Rattle.m2_turn.proofs.m2_session.Answers.{taken_is_ready_lem}
+use Rattle.m2_turn.proofs.m2_session.Events.{fault_closes}
 use Rattle.m2_weave.specs.m2_journal.Feeds.{answer_said, begun, finished, hears, narrowed, next_said, texts_at}
 use Rattle.m2_weave.specs.m2_journal.Items as item
 use Rattle.m2_weave.specs.m2_journal.Items.{JournalItem}
@@ -43,7 +44,7 @@ use Rattle.m2_bytes_fit.specs.m2_never_reset.Frames.{frames_on, is_ask}
 use Rattle.m2_bytes_fit.proofs.m2_never_reset.Feeds.{hears_hears, opened_hears}
 use Rattle.m2_bytes_fit.specs.Ends.{takings_on}
 use Rattle.m2_bytes_fit.proofs.Entries.{entry_keeps, FeedSo}
-use Rattle.m2_bytes_fit.proofs.Hands.{HandKept, closing, hand_keeps, fault_closes, none_kept, reconnect_apart}
+use Rattle.m2_bytes_fit.proofs.Hands.{HandKept, closing, hand_keeps, none_kept, reconnect_apart}
 use Rattle.m2_bytes_fit.proofs.Judges.{not_judged_on, no_last}
 use Rattle.m2_bytes_fit.proofs.Kept.{KeptBy, replied, view}
 use Rattle.m2_bytes_fit.proofs.Less.{Less, less_trans, tells_less, tells_if_less, untouched, down_less}

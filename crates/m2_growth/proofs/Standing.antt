@@ -43,9 +43,9 @@ stands_chain a b c p q = record { fed = λ h. q.fed (p.fed h); ends = later_chai
 -- ---- a feed, later
 
 -- both are feeds, and the end of the one is that of the other, later
-abbrev pub FeedStays : Option FeedNow → Option FeedNow → Type 0
-FeedStays (Some v) (Some x) = EndGrows v.end x.end
-FeedStays _ _ = ⊥
+abbrev pub FeedGoesOn : Option FeedNow → Option FeedNow → Type 0
+FeedGoesOn (Some v) (Some x) = EndGrows v.end x.end
+FeedGoesOn _ _ = ⊥
 
 -- or there is none
 abbrev pub FeedGrows : Option FeedNow → Option FeedNow → Type 0
@@ -53,10 +53,10 @@ FeedGrows (Some v) (Some x) = EndGrows v.end x.end
 FeedGrows None None = Unit {0}
 FeedGrows _ _ = ⊥
 
-pub stays_grows : (o p : Option FeedNow) → FeedStays o p → FeedGrows o p
-stays_grows (Some v) (Some x) g = g
-stays_grows (Some v) None g = absurd g
-stays_grows None p g = absurd g
+pub on_grows : (o p : Option FeedNow) → FeedGoesOn o p → FeedGrows o p
+on_grows (Some v) (Some x) g = g
+on_grows (Some v) None g = absurd g
+on_grows None p g = absurd g
 
 feed_later : (o p : Option FeedNow) → FeedGrows o p → AreLater (feed_end o) (feed_end p)
 feed_later (Some v) (Some x) g = later_one v.end x.end g
@@ -70,7 +70,7 @@ some_stays (Some v) None g = absurd g
 some_stays None None g = refl
 some_stays None (Some x) g = absurd g
 
-some_there : (o p : Option FeedNow) → FeedStays o p → is_some p ≡ true
+some_there : (o p : Option FeedNow) → FeedGoesOn o p → is_some p ≡ true
 some_there (Some v) (Some x) g = refl
 some_there (Some v) None g = absurd g
 some_there None p g = absurd g
@@ -83,10 +83,10 @@ stands_grown a b s p g = record {
 }
 
 -- its end grows, and the phase is one that has a feed
-pub stands_entered : (a b : Stand) → b.spent ≡ a.spent → is_among b.phase with_feed ≡ true → FeedStays a.feed b.feed → StandsOn a b
+pub stands_entered : (a b : Stand) → b.spent ≡ a.spent → is_among b.phase with_feed ≡ true → FeedGoesOn a.feed b.feed → StandsOn a b
 stands_entered a b s p g = record {
   fed = λ _. some_there a.feed b.feed g ∙ sym p;
-  ends = rw s (later_before (feed_end a.feed) (feed_end b.feed) a.spent (feed_later a.feed b.feed (stays_grows a.feed b.feed g)));
+  ends = rw s (later_before (feed_end a.feed) (feed_end b.feed) a.spent (feed_later a.feed b.feed (on_grows a.feed b.feed g)));
 }
 
 -- the feed is left

@@ -86,32 +86,32 @@ greeted_end half.Wrote s text v = refl
 greeted_end (half.Fault f) s text v = refl
 greeted_end half.NoMemory s text v = refl
 
-greets_feed : (answer : HalfStep) (o p : Option FeedNow) → GreetsFeed answer o p → stand.FeedStays o p
+greets_feed : (answer : HalfStep) (o p : Option FeedNow) → GreetsFeed answer o p → stand.FeedGoesOn o p
 greets_feed answer (Some v) (Some x) g = same_end v x (ap (λ (z : FeedNow). z.end) g.leaves ∙ greeted_end answer g.after x.composed v)
 greets_feed answer (Some v) None g = absurd g
 greets_feed answer None p g = absurd g
 
-passes_item : (item : Item) (o p : Option FeedNow) → PassesItem item o p → stand.FeedStays o p
+passes_item : (item : Item) (o p : Option FeedNow) → PassesItem item o p → stand.FeedGoesOn o p
 passes_item item (Some v) (Some x) (_, e) = same_end v x (ap (λ (z : FeedNow). z.end) e)
 passes_item item (Some v) None g = absurd g
 passes_item item None p g = absurd g
 
-passes_feed : (o p : Option FeedNow) → PassesFeed o p → stand.FeedStays o p
+passes_feed : (o p : Option FeedNow) → PassesFeed o p → stand.FeedGoesOn o p
 passes_feed (Some v) (Some x) (_, e) = same_end v x (ap (λ (z : FeedNow). z.end) e)
 passes_feed (Some v) None g = absurd g
 passes_feed None p g = absurd g
 
-stamps_feed : (h : Hearer) (k : Keepalive) (o p : Option FeedNow) → StampsFeed h k o p → stand.FeedStays o p
+stamps_feed : (h : Hearer) (k : Keepalive) (o p : Option FeedNow) → StampsFeed h k o p → stand.FeedGoesOn o p
 stamps_feed h k (Some v) (Some x) (_, (_, e)) = same_end v x (ap (λ (z : FeedNow). z.end) e)
 stamps_feed h k (Some v) None g = absurd g
 stamps_feed h k None p g = absurd g
 
-room_feed : (o p : Option FeedNow) → ChangesRoom o p → stand.FeedStays o p
+room_feed : (o p : Option FeedNow) → ChangesRoom o p → stand.FeedGoesOn o p
 room_feed (Some v) (Some x) e = same_end v x (ap (λ (z : FeedNow). z.end) e)
 room_feed (Some v) None g = absurd g
 room_feed None p g = absurd g
 
-ask_feed : (bytes : List ℕ) (o p : Option FeedNow) → ComposesAsk bytes o p → stand.FeedStays o p
+ask_feed : (bytes : List ℕ) (o p : Option FeedNow) → ComposesAsk bytes o p → stand.FeedGoesOn o p
 ask_feed bytes (Some v) (Some x) e = same_end v x (ap (λ (z : FeedNow). z.end) e)
 ask_feed bytes (Some v) None g = absurd g
 ask_feed bytes None p g = absurd g
@@ -120,12 +120,12 @@ composes_end : (r : Result (Unit {0}) memory.NoMemory) (w : Writing) (bytes : Li
 composes_end (Ok u) w bytes v x e = same_end v x (ap (λ (z : FeedNow). z.end) e)
 composes_end (Err u) w bytes v x e = same_end v x (ap (λ (z : FeedNow). z.end) e)
 
-composes_feed : (r : Result (Unit {0}) memory.NoMemory) (w : Writing) (bytes : List ℕ) (o p : Option FeedNow) → ComposesFeed r w bytes o p → stand.FeedStays o p
+composes_feed : (r : Result (Unit {0}) memory.NoMemory) (w : Writing) (bytes : List ℕ) (o p : Option FeedNow) → ComposesFeed r w bytes o p → stand.FeedGoesOn o p
 composes_feed r w bytes (Some v) (Some x) e = composes_end r w bytes v x e
 composes_feed r w bytes (Some v) None g = absurd g
 composes_feed r w bytes None p g = absurd g
 
-stamp_feed : (r : Result (Unit {0}) memory.NoMemory) (o p : Option FeedNow) → AnswersStamp r o p → stand.FeedStays o p
+stamp_feed : (r : Result (Unit {0}) memory.NoMemory) (o p : Option FeedNow) → AnswersStamp r o p → stand.FeedGoesOn o p
 stamp_feed r (Some v) (Some x) e = composes_end r _ _ v x e
 stamp_feed r (Some v) None g = absurd g
 stamp_feed r None p g = absurd g
@@ -137,7 +137,7 @@ read_end read.Ended v x r = read_grows read.Ended r.hears.piece v.end x.end r.he
 read_end read.Failed v x r = read_grows read.Failed r.hears.piece v.end x.end r.hears.reads
 read_end read.NoMemory v x e = same_end v x (ap (λ (z : FeedNow). z.end) e)
 
-reads_feed : (answer : EndRead) (o p : Option FeedNow) → ReadsFeed answer o p → stand.FeedStays o p
+reads_feed : (answer : EndRead) (o p : Option FeedNow) → ReadsFeed answer o p → stand.FeedGoesOn o p
 reads_feed answer (Some v) (Some x) r = read_end answer v x r
 reads_feed answer (Some v) None g = absurd g
 reads_feed answer None p g = absurd g
@@ -148,7 +148,7 @@ write_end put.NotYet v x (w, _) = write_grows write.NotYet v.composed v.end x.en
 write_end put.Failed v x (w, _) = write_grows write.Failed v.composed v.end x.end w
 write_end put.NoMemory v x e = same_end v x (ap (λ (z : FeedNow). z.end) e)
 
-writes_feed : (answer : FeedWrite) (o p : Option FeedNow) → WritesFeed answer o p → stand.FeedStays o p
+writes_feed : (answer : FeedWrite) (o p : Option FeedNow) → WritesFeed answer o p → stand.FeedGoesOn o p
 writes_feed answer (Some v) (Some x) w = write_end answer v x w
 writes_feed answer (Some v) None g = absurd g
 writes_feed answer None p g = absurd g
@@ -177,8 +177,8 @@ pub record CoreStays (old new : CoreNow) : Type 0 where
   pub phase : new.live.session.phase ≡ old.live.session.phase
   pub feed : FeedGrows old.live.feed new.live.feed
 
-core_by : (old new : CoreNow) → new.live.session.phase ≡ old.live.session.phase → stand.FeedStays old.live.feed new.live.feed → CoreStays old new
-core_by old new p f = record { phase = p; feed = stand.stays_grows old.live.feed new.live.feed f }
+core_by : (old new : CoreNow) → new.live.session.phase ≡ old.live.session.phase → stand.FeedGoesOn old.live.feed new.live.feed → CoreStays old new
+core_by old new p f = record { phase = p; feed = stand.on_grows old.live.feed new.live.feed f }
 
 core_same : (old new : CoreNow) → new.live.session.phase ≡ old.live.session.phase → new.live.feed ≡ old.live.feed → CoreStays old new
 core_same old new p f = record { phase = p; feed = equal_feed old.live.feed new.live.feed f }
@@ -218,7 +218,7 @@ stays old new f s c = record { fixed = f; stands = stands_grown (stand_of old) (
 
 -- its phase is one that has a feed, and the feed stays
 enters : (old new : RecordNow) → fixed_of new ≡ fixed_of old → new.spent ≡ old.spent → is_among new.core.live.session.phase with_feed ≡ true →
-    stand.FeedStays old.core.live.feed new.core.live.feed → MovesOn old new
+    stand.FeedGoesOn old.core.live.feed new.core.live.feed → MovesOn old new
 enters old new f s p g = record { fixed = f; stands = stands_entered (stand_of old) (stand_of new) s p g }
 
 pub room_alone : (old new : RecordNow) → IsSameButRoom old new → MovesOn old new
@@ -296,9 +296,9 @@ greets half.Authed now old new (h, e) = stays old new (ap fixed_of e) (ap (λ r.
 greets half.NoMemory now old new (h, e) = stays old new (ap fixed_of e) (ap (λ r. r.spent) e) (core_by old.core new.core (ap (λ c. c.live.session.phase) h.only) (greets_feed half.NoMemory old.core.live.feed new.core.live.feed h.greets))
 
 -- a reset is passed, and the session goes back to where it asks
-obeys : (full : Bool) (old new : LiveNow) → ObeysReset full old new → (is_among new.session.phase with_feed ≡ true) × stand.FeedStays old.feed new.feed
-obeys true old new o = (ap (λ (l : LiveNow). is_among l.session.phase with_feed) o.live, subst (stand.FeedStays old.feed) (sym (ap (λ (l : LiveNow). l.feed) o.live)) (passes_feed old.feed o.passed o.passes))
-obeys false old new o = (ap (λ (l : LiveNow). is_among l.session.phase with_feed) o.live, subst (stand.FeedStays old.feed) (sym (ap (λ (l : LiveNow). l.feed) o.live)) (passes_feed old.feed o.passed o.passes))
+obeys : (full : Bool) (old new : LiveNow) → ObeysReset full old new → (is_among new.session.phase with_feed ≡ true) × stand.FeedGoesOn old.feed new.feed
+obeys true old new o = (ap (λ (l : LiveNow). is_among l.session.phase with_feed) o.live, subst (stand.FeedGoesOn old.feed) (sym (ap (λ (l : LiveNow). l.feed) o.live)) (passes_feed old.feed o.passed o.passes))
+obeys false old new o = (ap (λ (l : LiveNow). is_among l.session.phase with_feed) o.live, subst (stand.FeedGoesOn old.feed) (sym (ap (λ (l : LiveNow). l.feed) o.live)) (passes_feed old.feed o.passed o.passes))
 
 frames : (t : Throttled) (answer : Framed) (now : ℕ) (old new : RecordNow) → Frames t answer now old new → MovesOn old new
 frames t (framed.Half answer) now old new g = greets answer now old new g
@@ -323,7 +323,7 @@ heeding l spent = record { phase = l.session.phase; feed = l.feed; spent = spent
 -- an answer leads to a phase with a feed
 heeds_on : (l m : LiveNow) (passed : Option FeedNow) (spent : List SeenEnd) → PassesFeed l.feed passed → m.feed ≡ passed → is_among m.session.phase with_feed ≡ true →
     StandsOn (heeding l spent) (heeding m (spent ++ []))
-heeds_on l m passed spent p f e = stands_entered (heeding l spent) (heeding m (spent ++ [])) (append-nil spent) e (subst (stand.FeedStays l.feed) (sym f) (passes_feed l.feed passed p))
+heeds_on l m passed spent p f e = stands_entered (heeding l spent) (heeding m (spent ++ [])) (append-nil spent) e (subst (stand.FeedGoesOn l.feed) (sym f) (passes_feed l.feed passed p))
 
 heeds_none : (l m : LiveNow) (spent : List SeenEnd) → m ≡ l → StandsOn (heeding l spent) (heeding m (spent ++ []))
 heeds_none l m spent e = stands_grown (heeding l spent) (heeding m (spent ++ [])) (append-nil spent) (ap (λ (x : LiveNow). x.session.phase) e) (equal_feed l.feed m.feed (ap (λ (x : LiveNow). x.feed) e))
@@ -374,7 +374,7 @@ reads_on x now old new r = moves_chain old r.mid new first (ends_read (fault_rea
     first = record {
       fixed = ap fixed_of r.once.only;
       stands = stands_chain (stand_of old) (heeding read old.spent) (stand_of r.mid)
-          (stands_grown (stand_of old) (heeding read old.spent) refl refl (stand.stays_grows old.core.live.feed read.feed (reads_feed x.answer old.core.live.feed read.feed r.once.core.reads)))
+          (stands_grown (stand_of old) (heeding read old.spent) refl refl (stand.on_grows old.core.live.feed read.feed (reads_feed x.answer old.core.live.feed read.feed r.once.core.reads)))
           (subst (λ s. StandsOn (heeding read old.spent) (heeding r.mid.core.live s)) (sym (ap (λ r. r.spent) r.once.only ∙ ap (λ o. old.spent ++ option_to_list o) r.once.core.closes))
           (heeds x.heard read r.mid.core.live old.spent r.once.core.heeds));
     }
@@ -392,7 +392,7 @@ asks_on ask.Spent entries old new (r, c) e = stays old new (ap fixed_of e) (ap (
 asks_on (ask.Again seen now) entries old new (r, c) e = stays old new (ap fixed_of e) (ap (λ r. r.spent) e) (core_by old.core new.core (ap (λ c. c.live.session.phase) c) (room_feed old.core.live.feed new.core.live.feed r))
 asks_on ask.NoMemory entries old new (r, c) e = stays old new (ap fixed_of e) (ap (λ r. r.spent) e) (core_by old.core new.core (ap (λ c. c.live.session.phase) c) (room_feed old.core.live.feed new.core.live.feed r))
 
-message_feed : (number last : ℕ) (m : _) (o p : Option FeedNow) → ComposesMessage number last m o p → stand.FeedStays o p
+message_feed : (number last : ℕ) (m : _) (o p : Option FeedNow) → ComposesMessage number last m o p → stand.FeedGoesOn o p
 message_feed number last m (Some v) (Some x) e = same_end v x (ap (λ (z : FeedNow). z.end) e)
 message_feed number last m (Some v) None g = absurd g
 message_feed number last m None p g = absurd g

@@ -16,7 +16,7 @@ use Rattle.m2_trail.specs.Incoming.{IncomingNow}
 use Rattle.m2_handover.proofs.Weights.{left_weigh}
 use Rattle.m2_handover.specs.Door.{DoorNow, StaysThere, TakesIn, weight_of, weight_of_half, weight_on_way, weight_put}
 use Rattle.m2_handover.specs.Handed.{OnItsWay, left_behind}
-use Rattle.m2_handover.specs.Home.{AreAllThere, HasTakenAll, HomeNow, IsHome, IsKnown, IsNoWait, asked_at, asked_at_door, put_at, unasked_at, unasked_at_door, weight_at_door, weight_next}
+use Rattle.m2_handover.specs.Home.{AreAllThere, HasTakenAll, HomeNow, IsHome, IsKnown, IsNoWait, asked_at, asked_at_door, ways_at, unasked_at, unasked_at_door, weight_at_door, weight_next}
 
 -- ---- sockets that are known
 
@@ -156,7 +156,7 @@ next_weighs weight None = refl
 next_weighs weight (Some h) = omega (arith, sum_by-cons (weight_of weight) (left_behind h) [])
 
 door_weighs : (weight : SocketId → ℕ) (door : Option DoorNow) →
-    sum_by (weight_of weight) (unasked_at_door door) + sum_by (weight_of weight) (asked_at_door door) + weight_put weight (put_at door) ≡ weight_at_door weight door
+    sum_by (weight_of weight) (unasked_at_door door) + sum_by (weight_of weight) (asked_at_door door) + weight_put weight (ways_at door) ≡ weight_at_door weight door
 door_weighs weight None = refl
 door_weighs weight (Some d) = omega (arith, sum_by-append (weight_of weight) d.over (map left_of d.halves), halves_weigh weight d.halves, left_weigh weight d.asked)
 

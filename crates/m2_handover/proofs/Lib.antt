@@ -1,5 +1,6 @@
 pub mod Again
 pub mod Doors
+pub mod Handing
 pub mod Homes
 pub mod Named
 pub mod Shaking

@@ -9,7 +9,7 @@ use Rattle.m2_trail.specs.Arrivals.{LooseNow}
 use Rattle.m2_trail.specs.Turn.{AdvancesAs}
 use Rattle.m2_trail.specs.declared.turn.HalfTurn.{HalfTurn}
 use Rattle.m2_handover.specs.Handed.{OnItsWay, left_behind}
-use Rattle.m2_handover.specs.Door.{DoorNow, HadMemory, HasShaken, HaveShaken, Shaken, Shakes, ShakesAll, ShakesFirst, ShakesNext, StandBefore, asked_by, asked_in, over_by, stays_by}
+use Rattle.m2_handover.specs.Door.{DoorNow, HadMemory, HandsAll, HasShaken, HaveCome, HaveShaken, Shaken, Shakes, ShakesAll, ShakesFirst, ShakesNext, StandBefore, asked_by, asked_in, over_by, stays_by}
 use Rattle.m2_handover.specs.declared.door.DoorTurn.{DoorTurn}
 use Rattle.m2_handover.specs.declared.door.DoorTurn.TheVariants as turn
 
@@ -31,8 +31,8 @@ asked_last asked after h l e is = ap (map left_behind) e ∙ (map-append left_be
 
 -- the first half has taken its turn
 pub shakes_first : (turn : HalfTurn) (before behind : IncomingNow) (rest : List IncomingNow) (old new : DoorNow) → AdvancesAs turn before behind → HadMemory turn → old.halves ≡ before ∷ rest
-    → new.halves ≡ rest ++ stays_by turn behind → asked_in new ≡ asked_in old ++ asked_by turn behind → new.over ≡ old.over ++ over_by turn behind → new.put ≡ old.put → ShakesFirst old new
-shakes_first turn before behind rest old new advances memory was halves asked over put next others e =
+    → new.halves ≡ rest ++ stays_by turn behind → asked_in new ≡ asked_in old ++ asked_by turn behind → new.over ≡ old.over ++ over_by turn behind → new.ways ≡ old.ways → ShakesFirst old new
+shakes_first turn before behind rest old new advances memory was halves asked over ways next others e =
     let both : before ∷ rest ≡ next ∷ others = sym was ∙ e in
     let is : before ≡ next = cc in
     let same : rest ≡ others = cc in (
@@ -43,14 +43,14 @@ shakes_first turn before behind rest old new advances memory was halves asked ov
         halves = halves ∙ ap (λ r. r ++ stays_by turn behind) same;
         asked = asked;
         over = over;
-        put = put;
+        ways = ways;
       },
     )
 
 -- ---- one after another
 
 pub none_shaken : (d : DoorNow) → HaveShaken [] d.halves d d
-none_shaken d = record { each = tt; stood = refl; halves = sym (append-nil d.halves); asked = sym (append-nil (asked_in d)); over = sym (append-nil d.over); put = refl }
+none_shaken d = record { each = tt; stood = refl; halves = sym (append-nil d.halves); asked = sym (append-nil (asked_in d)); over = sym (append-nil d.over); ways = refl }
 
 one_more : (turned : List Shaken) (next : IncomingNow) (rest : List IncomingNow) (old mid new : DoorNow) (s : Shaken) → HaveShaken turned (next ∷ rest) old mid → s.before ≡ next
     → ShakesNext (rest ++ flat_map (λ (t : Shaken). stays_by t.turn t.behind) turned) s mid new → HaveShaken (turned ++ s ∷ []) rest old new
@@ -62,7 +62,7 @@ one_more turned next rest old mid new s h is one = record {
       ∙ ap (λ l. asked_in old ++ l) (sym (flat_last (λ (t : Shaken). asked_by t.turn t.behind) turned s))));
   over = one.over ∙ (ap (λ l. l ++ over_by s.turn s.behind) h.over ∙ (append_assoc old.over (flat_map (λ (t : Shaken). over_by t.turn t.behind) turned) (over_by s.turn s.behind)
       ∙ ap (λ l. old.over ++ l) (sym (flat_last (λ (t : Shaken). over_by t.turn t.behind) turned s))));
-  put = one.put ∙ h.put;
+  ways = one.ways ∙ h.ways;
 }
 
 pub record ShakenSo (count : ℕ) (old new : DoorNow) : Type 0 where
@@ -109,20 +109,43 @@ all_so count old new so all = (so.turned, by so.rest refl)
 
 -- ---- a turn of the door
 
-pub shakes_then : (old mid new : DoorNow) → ((turned : List Shaken) × HaveShaken turned [] old mid) → new.halves ≡ mid.halves → new.over ≡ mid.over → ShakesAll old new
-shakes_then old mid new h halves over = record { turned = h.0; mid = mid; shaken = h.1; halves = halves; over = over }
+pub shakes_then : (old mid new : DoorNow) → ((turned : List Shaken) × HaveShaken turned [] old mid) → HandsAll mid new → ShakesAll old new
+shakes_then old mid new h hands = record { turned = h.0; mid = mid; shaken = h.1; hands = hands }
 
-pub stand_still : (hs : List IncomingNow) → StandBefore hs hs
+pub stand_still : {A : Type 0} (hs : List A) → StandBefore hs hs
 stand_still hs = ([], sym (append-nil hs))
 
-pub stand_more : (a b c : List IncomingNow) → StandBefore a b → StandBefore b c → StandBefore a c
+stand_more : {A : Type 0} (a b c : List A) → StandBefore a b → StandBefore b c → StandBefore a c
 stand_more a b c h k = (h.0 ++ k.0, k.1 ∙ (ap (λ l. l ++ k.0) h.1 ∙ append_assoc a h.0 k.0))
 
-pub stands_behind : (old new : List IncomingNow) (h : IncomingNow) → new ≡ old ++ h ∷ [] → StandBefore old new
+pub stands_behind : {A : Type 0} (old new : List A) (h : A) → new ≡ old ++ h ∷ [] → StandBefore old new
 stands_behind old new h e = (h ∷ [], e)
 
+pub none_came : (d : DoorNow) → HaveCome d d
+none_came d = record { halves = stand_still d.halves; asked = refl; over = stand_still d.over; ways = refl }
+
+pub same_came : (old new : DoorNow) → new.halves ≡ old.halves → new.asked ≡ old.asked → new.over ≡ old.over → new.ways ≡ old.ways → HaveCome old new
+same_came old new halves asked over ways = record {
+  halves = subst (StandBefore old.halves) (sym halves) (stand_still old.halves);
+  asked = asked;
+  over = subst (StandBefore old.over) (sym over) (stand_still old.over);
+  ways = ways;
+}
+
+pub has_come : (old new : DoorNow) (over : List LooseNow) → over ≡ old.over → StandBefore old.halves new.halves → StandBefore over new.over → new.asked ≡ old.asked → new.ways ≡ old.ways
+    → HaveCome old new
+has_come old new over same halves more asked ways = record { halves = halves; asked = asked; over = subst (λ l. StandBefore l new.over) same more; ways = ways }
+
+pub more_came : (a b c : DoorNow) → HaveCome a b → HaveCome b c → HaveCome a c
+more_came a b c h k = record {
+  halves = stand_more a.halves b.halves c.halves h.halves k.halves;
+  asked = k.asked ∙ h.asked;
+  over = stand_more a.over b.over c.over h.over k.over;
+  ways = k.ways ∙ h.ways;
+}
+
 -- sockets were let in, and then all halves have taken their turns
-pub shakes_behind : (end : DoorTurn) (old mid new : DoorNow) → StandBefore old.halves mid.halves → ShakesAll mid new → Shakes end old new
-shakes_behind turn.Done old mid new stand all = (mid, stand, all)
-shakes_behind turn.Failed old mid new stand all = tt
-shakes_behind turn.NoMemory old mid new stand all = tt
+pub shakes_behind : (end : DoorTurn) (old mid new : DoorNow) → HaveCome old mid → ShakesAll mid new → Shakes end old new
+shakes_behind turn.Done old mid new came all = (mid, came, all)
+shakes_behind turn.Failed old mid new came all = tt
+shakes_behind turn.NoMemory old mid new came all = tt

@@ -7,8 +7,9 @@ use Rattle.m2_trail.specs.Arrivals.{LooseNow, closed_of, left_of}
 use Rattle.m2_trail.specs.Incoming.{IncomingNow}
 use Rattle.m2_trail.specs.declared.turn.HalfTurn.{HalfTurn}
 use Rattle.m2_trail.specs.declared.turn.HalfTurn.TheVariants as half
-use Rattle.m2_handover.specs.Door.{DoorNow, GoesBy, Hands, KeepsAll, Stands, TakesIn, asked_by, asked_in, over_by, stays_by, weight_of, weight_of_half, weight_on_way, weight_put, weight_through}
+use Rattle.m2_handover.specs.Door.{DoorNow, GoesBy, Hands, KeepsAll, Stands, TakesIn, asked_by, asked_in, over_by, stays_by, weight_of, weight_of_half, weight_by, weight_on_way, weight_put, weight_through}
 use Rattle.m2_handover.specs.Handed.{OnItsWay, left_behind}
+use Rattle.m2_handover.specs.Way.{WayNow, with_put}
 
 -- ---- lists
 
@@ -44,11 +45,11 @@ takes_then_keeps x y a b c f g weight = omega (arith, f weight, g weight)
 -- ---- a socket comes
 
 pub comes_in : (id : SocketId) (before after : List SocketId) (old new : DoorNow) → Stands id (old.halves, old.over) (new.halves, new.over) → new.asked ≡ old.asked
-    → new.put ≡ old.put → after ≡ before ++ id ∷ [] → TakesIn before after old new
-comes_in id before after old new stands asked put made weight =
+    → new.ways ≡ old.ways → after ≡ before ++ id ∷ [] → TakesIn before after old new
+comes_in id before after old new stands asked ways made weight =
     let more : sum_by weight after ≡ sum_by weight before + weight id = ap (sum_by weight) made ∙ sum_by_push weight before id in
     let same : sum_by (weight_on_way weight) new.asked ≡ sum_by (weight_on_way weight) old.asked = ap (sum_by (weight_on_way weight)) asked in
-    let sent : weight_put weight new.put ≡ weight_put weight old.put = ap (weight_put weight) put in
+    let sent : weight_put weight new.ways ≡ weight_put weight old.ways = ap (weight_put weight) ways in
     omega (arith, stands weight, more, same, sent)
 
 pub stands_last : (id : SocketId) (halves after : List IncomingNow) (over : List LooseNow) (l : IncomingNow) → after ≡ halves ++ l ∷ [] → l.end.id ≡ id → Stands id (halves, over) (after, over)
@@ -81,8 +82,8 @@ turned_weighs weight half.NoMemory h = omega (arith, sum_by-cons (weight_of_half
 
 -- it goes where its turn leads
 pub goes_where : (turn : HalfTurn) (next behind : IncomingNow) (rest : List IncomingNow) (old new : DoorNow) → old.halves ≡ next ∷ rest → behind.end.id ≡ next.end.id
-    → new.halves ≡ rest ++ stays_by turn behind → asked_in new ≡ asked_in old ++ asked_by turn behind → new.over ≡ old.over ++ over_by turn behind → new.put ≡ old.put → KeepsAll old new
-goes_where turn next behind rest old new was id halves asked over put weight =
+    → new.halves ≡ rest ++ stays_by turn behind → asked_in new ≡ asked_in old ++ asked_by turn behind → new.over ≡ old.over ++ over_by turn behind → new.ways ≡ old.ways → KeepsAll old new
+goes_where turn next behind rest old new was id halves asked over ways weight =
     let f = weight_of weight in
     let g = weight_of_half weight in
     let before : sum_by g old.halves ≡ weight next.end.id + sum_by g rest = ap (sum_by g) was ∙ sum_by-cons g next rest in
@@ -90,35 +91,35 @@ goes_where turn next behind rest old new was id halves asked over put weight =
     let ask : sum_by f (asked_in new) ≡ sum_by f (asked_in old) + sum_by f (asked_by turn behind) = ap (sum_by f) asked ∙ sum_by-append f (asked_in old) (asked_by turn behind) in
     let done : sum_by f new.over ≡ sum_by f old.over + sum_by f (over_by turn behind) = ap (sum_by f) over ∙ sum_by-append f old.over (over_by turn behind) in
     let one : weight behind.end.id ≡ weight next.end.id = ap weight id in
-    let sent : weight_put weight new.put ≡ weight_put weight old.put = ap (weight_put weight) put in
+    let sent : weight_put weight new.ways ≡ weight_put weight old.ways = ap (weight_put weight) ways in
     omega (arith, before, stands, ask, done, one, sent, turned_weighs weight turn behind, left_weigh weight old.asked, left_weigh weight new.asked)
 
 -- ---- the asked socket that comes next
 
-pub goes_by : (weight : SocketId → ℕ) (place : ℕ) (h : OnItsWay) (old new : List (List (List OnItsWay))) → GoesBy place h old new
+pub goes_by : (weight : SocketId → ℕ) (place : ℕ) (h : OnItsWay) (old new : List WayNow) → GoesBy place h old new
     → weight_put weight new ≡ weight_put weight old + weight h.end.id
 goes_by weight place h old new g =
-    let f = sum_by (sum_by (weight_on_way weight)) in
-    let put : weight_put weight new ≡ sum_by f (slice_set old place (put_by h g.before)) = ap (weight_put weight) g.put in
-    omega (arith, put, set_weighs f old place g.before (put_by h g.before) g.there, put_weighs (weight_on_way weight) h g.before)
+    let f = weight_by weight in
+    let put : weight_put weight new ≡ sum_by f (slice_set old place (with_put h g.before)) = ap (weight_put weight) g.put in
+    omega (arith, put, set_weighs f old place g.before (with_put h g.before) g.there, put_weighs (weight_on_way weight) h g.before.put)
 
-pub is_handed : (old new : DoorNow) (h : OnItsWay) → old.asked ≡ h ∷ new.asked → Hands None h old.put new.put → new.halves ≡ old.halves → new.over ≡ old.over → KeepsAll old new
+pub is_handed : (old new : DoorNow) (h : OnItsWay) → old.asked ≡ h ∷ new.asked → Hands None h old.ways new.ways → new.halves ≡ old.halves → new.over ≡ old.over → KeepsAll old new
 is_handed old new h was hands halves over weight =
     let g = weight_on_way weight in
     let before : sum_by g old.asked ≡ weight h.end.id + sum_by g new.asked = ap (sum_by g) was ∙ sum_by-cons g h new.asked in
-    let sent = goes_by weight hands.0 h old.put new.put hands.1 in
+    let sent = goes_by weight hands.0 h old.ways new.ways hands.1 in
     let same : sum_by (weight_of_half weight) new.halves ≡ sum_by (weight_of_half weight) old.halves = ap (sum_by (weight_of_half weight)) halves in
     let done : sum_by (weight_of weight) new.over ≡ sum_by (weight_of weight) old.over = ap (sum_by (weight_of weight)) over in
     omega (arith, before, sent, same, done)
 
-pub comes_back : (old new : DoorNow) (h left : OnItsWay) (rest : List OnItsWay) → old.asked ≡ h ∷ rest → new.asked ≡ rest ++ left ∷ [] → Hands (Some left) h old.put new.put
+pub comes_back : (old new : DoorNow) (h left : OnItsWay) (rest : List OnItsWay) → old.asked ≡ h ∷ rest → new.asked ≡ rest ++ left ∷ [] → Hands (Some left) h old.ways new.ways
     → new.halves ≡ old.halves → new.over ≡ old.over → KeepsAll old new
 comes_back old new h left rest was is hands halves over weight =
     let g = weight_on_way weight in
     let before : sum_by g old.asked ≡ weight h.end.id + sum_by g rest = ap (sum_by g) was ∙ sum_by-cons g h rest in
     let after : sum_by g new.asked ≡ sum_by g rest + weight left.end.id = ap (sum_by g) is ∙ sum_by_push g rest left in
     let one : weight left.end.id ≡ weight h.end.id = ap (weight_on_way weight) hands.0 in
-    let sent : weight_put weight new.put ≡ weight_put weight old.put = ap (weight_put weight) hands.1 in
+    let sent : weight_put weight new.ways ≡ weight_put weight old.ways = ap (weight_put weight) hands.1 in
     let same : sum_by (weight_of_half weight) new.halves ≡ sum_by (weight_of_half weight) old.halves = ap (sum_by (weight_of_half weight)) halves in
     let done : sum_by (weight_of weight) new.over ≡ sum_by (weight_of weight) old.over = ap (sum_by (weight_of weight)) over in
     omega (arith, before, after, one, sent, same, done)

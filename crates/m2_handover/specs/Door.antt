@@ -1,27 +1,29 @@
 -- A node's door, and what a turn of it changes there and at its port. This project's own.
 use Rattle.std.specs.Prelude.{◌≡◌, ◌⊎◌, ℕ, ◌+◌, true, List, [], ◌∷◌, ◌++◌, length, map, slice_get, slice_set, sum_by, Option, Some, None}
 use Rattle.std.specs.List.{AllByRecursion, flat_map}
+use Rattle.std.specs.Option.{option_to_list}
 use Rattle.m2_edge.specs.Faults.{HasRisen, next_count}
 use Rattle.m2_fabric.specs.Port.{SeenPort}
 use Rattle.m2_fabric.specs.declared.socket.SocketId.{SocketId}
-use Rattle.m2_mailbox.specs.Views.{put_by}
+use Rattle.m2_mailbox.specs.Merge.{IsSublist}
 use Rattle.m2_trail.specs.Arrivals.{LooseNow, closed_of, left_of}
 use Rattle.m2_trail.specs.Incoming.{IncomingNow}
 use Rattle.m2_trail.specs.Turn.{AdvancesAs}
 use Rattle.m2_trail.specs.declared.turn.HalfTurn.{HalfTurn}
 use Rattle.m2_trail.specs.declared.turn.HalfTurn.TheVariants as half
 use Rattle.m2_handover.specs.Handed.{OnItsWay, left_behind}
+use Rattle.m2_handover.specs.Way.{AreLater, IsAtHomeIn, Refuses, WasRefused, WayNow, with_put}
 use Rattle.m2_handover.specs.declared.door.DoorTurn.{DoorTurn}
 use Rattle.m2_handover.specs.declared.door.DoorTurn.TheVariants as turn
 use Rattle.m2_handover.specs.declared.door.TheConstants.{MOST_ACCEPTS}
 
--- Halves that weren't asked yet, in order; sockets that were, whose home has had no room; halves that are over; and what was put
--- by each way.
+-- Halves that weren't asked yet, in order; sockets that were, whose home has had no room; halves that are over; and the ways, with what
+-- was put by each.
 pub record DoorNow : Type 0 where
   pub halves : List IncomingNow
   pub asked : List OnItsWay
   pub over : List LooseNow
-  pub put : List (List (List OnItsWay))
+  pub ways : List WayNow
 
 -- the halves of a door that weren't asked, those that are over first
 abbrev pub unasked_in : DoorNow → List LooseNow
@@ -42,9 +44,12 @@ weight_of_half weight h = weight h.end.id
 abbrev pub weight_on_way : (SocketId → ℕ) → OnItsWay → ℕ
 weight_on_way weight h = weight h.end.id
 
--- of those that were put by some ways
-abbrev pub weight_put : (SocketId → ℕ) → List (List (List OnItsWay)) → ℕ
-weight_put weight put = sum_by (sum_by (sum_by (weight_on_way weight))) put
+-- of those that were put by a way, and by some
+abbrev pub weight_by : (SocketId → ℕ) → WayNow → ℕ
+weight_by weight w = sum_by (sum_by (weight_on_way weight)) w.put
+
+abbrev pub weight_put : (SocketId → ℕ) → List WayNow → ℕ
+weight_put weight ways = sum_by (weight_by weight) ways
 
 -- of those that a door has
 abbrev pub weight_in : (SocketId → ℕ) → DoorNow → ℕ
@@ -52,7 +57,7 @@ weight_in weight d = sum_by (weight_of_half weight) d.halves + sum_by (weight_on
 
 -- of those that a door has, and those that it has handed over
 abbrev pub weight_through : (SocketId → ℕ) → DoorNow → ℕ
-weight_through weight d = weight_in weight d + weight_put weight d.put
+weight_through weight d = weight_in weight d + weight_put weight d.ways
 
 -- each socket that was at the door is there still, or was handed over
 abbrev pub KeepsAll : DoorNow → DoorNow → Type 0
@@ -67,9 +72,16 @@ abbrev pub Stands : SocketId → (old new : List IncomingNow × List LooseNow) �
 Stands id old new = (weight : SocketId → ℕ) → sum_by (weight_of_half weight) new.0 + sum_by (weight_of weight) new.1
     ≡ sum_by (weight_of_half weight) old.0 + sum_by (weight_of weight) old.1 + weight id
 
--- these halves stand before others
-abbrev pub StandBefore : (old new : List IncomingNow) → Type 0
-StandBefore old new = (more : List IncomingNow) × (new ≡ old ++ more)
+-- these stand before others
+abbrev pub StandBefore : {A : Type 0} → (old new : List A) → Type 0
+StandBefore {A} old new = (more : List A) × (new ≡ old ++ more)
+
+-- Sockets came to a door: each is the last half that stands there, or is over.
+pub record HaveCome (old new : DoorNow) : Type 0 where
+  pub halves : StandBefore old.halves new.halves
+  pub asked : new.asked ≡ old.asked
+  pub over : StandBefore old.over new.over
+  pub ways : new.ways ≡ old.ways
 
 -- ---- halves that shake hands
 
@@ -109,7 +121,7 @@ pub record ShakesNext (rest : List IncomingNow) (s : Shaken) (old new : DoorNow)
   pub halves : new.halves ≡ rest ++ stays_by s.turn s.behind
   pub asked : asked_in new ≡ asked_in old ++ asked_by s.turn s.behind
   pub over : new.over ≡ old.over ++ over_by s.turn s.behind
-  pub put : new.put ≡ old.put
+  pub ways : new.ways ≡ old.ways
 
 -- so does the first one of a door, where there is one
 abbrev pub ShakesFirst : DoorNow → DoorNow → Type 0
@@ -123,27 +135,45 @@ pub record HaveShaken (turned : List Shaken) (rest : List IncomingNow) (old new 
   pub halves : new.halves ≡ rest ++ flat_map (λ (s : Shaken). stays_by s.turn s.behind) turned
   pub asked : asked_in new ≡ asked_in old ++ flat_map (λ (s : Shaken). asked_by s.turn s.behind) turned
   pub over : new.over ≡ old.over ++ flat_map (λ (s : Shaken). over_by s.turn s.behind) turned
-  pub put : new.put ≡ old.put
+  pub ways : new.ways ≡ old.ways
 
--- Each half that stood has taken its turn, and is where that led; those that were asked may be handed over then.
+-- ---- handing over
+
+-- A socket went by the way at this place, which is that to its home; or by no way, since each refuses it.
+pub record GoesBy (place : ℕ) (h : OnItsWay) (old new : List WayNow) : Type 0 where
+  pub before : WayNow
+  pub there : slice_get old place ≡ Some before
+  pub home : IsAtHomeIn before.home h
+  pub put : new ≡ slice_set old place (with_put h before)
+
+abbrev pub Hands : Option OnItsWay → OnItsWay → (old new : List WayNow) → Type 0
+Hands None h old new = (place : ℕ) × GoesBy place h old new
+Hands (Some left) h old new = (left ≡ h) × (new ≡ old) × AllByRecursion (Refuses h) old
+
+-- The asked socket that comes next goes by a way; or it is the last one then, since each way refuses it.
+pub record HandsNext (next : OnItsWay) (rest : List OnItsWay) (old new : DoorNow) : Type 0 where
+  pub left : Option OnItsWay
+  pub hands : Hands left next old.ways new.ways
+  pub asked : new.asked ≡ rest ++ option_to_list left
+
+-- so does the first one of a door, where there is one
+abbrev pub HandsFirst : DoorNow → DoorNow → Type 0
+HandsFirst old new = (next : OnItsWay) (rest : List OnItsWay) → old.asked ≡ next ∷ rest → HandsNext next rest old new
+
+-- Asked sockets are handed over. Those that stay, which are in the order in which they were, each way has refused at a moment meanwhile.
+pub record HandsAll (old new : DoorNow) : Type 0 where
+  pub halves : new.halves ≡ old.halves
+  pub over : new.over ≡ old.over
+  pub stay : IsSublist new.asked old.asked
+  pub ways : AreLater old.ways new.ways
+  pub refused : AllByRecursion (WasRefused old.ways new.ways) new.asked
+
+-- Each half that stood has taken its turn, and is where that led; and those that were asked, by then, are handed over.
 pub record ShakesAll (old new : DoorNow) : Type 0 where
   pub turned : List Shaken
   pub mid : DoorNow
   pub shaken : HaveShaken turned [] old mid
-  pub halves : new.halves ≡ mid.halves
-  pub over : new.over ≡ mid.over
-
--- ---- handing over
-
--- A socket went by the way at this place; or, since none took it, by no way.
-pub record GoesBy (place : ℕ) (h : OnItsWay) (old new : List (List (List OnItsWay))) : Type 0 where
-  pub before : List (List OnItsWay)
-  pub there : slice_get old place ≡ Some before
-  pub put : new ≡ slice_set old place (put_by h before)
-
-abbrev pub Hands : Option OnItsWay → OnItsWay → (old new : List (List (List OnItsWay))) → Type 0
-Hands None h old new = (place : ℕ) × GoesBy place h old new
-Hands (Some left) h old new = (left ≡ h) × (new ≡ old)
+  pub hands : HandsAll mid new
 
 -- ---- at the port
 
@@ -185,9 +215,9 @@ abbrev pub LetsAllIn : DoorTurn → SeenPort → SeenPort → Type 0
 LetsAllIn turn.Done old new = (new.quiet ≡ true) ⊎ (length new.made ≡ length old.made + MOST_ACCEPTS)
 LetsAllIn _ old new = Unit {0}
 
--- Where all went well, each half that stood has taken its turn, and so has each that came.
+-- Where all went well sockets came, then each half that stood has taken its turn, and each socket that was asked goes on.
 abbrev pub Shakes : DoorTurn → DoorNow → DoorNow → Type 0
-Shakes turn.Done old new = (came : DoorNow) × StandBefore old.halves came.halves × ShakesAll came new
+Shakes turn.Done old new = (came : DoorNow) × HaveCome old came × ShakesAll came new
 Shakes _ old new = Unit {0}
 
 -- One was accepted, or the accept found none.

@@ -12,6 +12,7 @@ use Rattle.m2_fabric.specs.declared.socket.SocketId.{SocketId}
 use Rattle.m2_handover.specs.Door.{DoorNow, LetsAllIn, Shakes, asked_in, unasked_in, weight_of, weight_on_way, weight_put, weight_through}
 use Rattle.m2_handover.specs.End.{told_nothing}
 use Rattle.m2_handover.specs.Handed.{OnItsWay, left_behind}
+use Rattle.m2_handover.specs.Way.{WayNow}
 use Rattle.m2_handover.specs.declared.door.DoorTurn.{DoorTurn}
 use Rattle.m2_handover.specs.declared.door.DoorTurn.TheVariants as turn
 use Rattle.m2_trail.specs.Arrivals.{LooseNow}
@@ -50,7 +51,8 @@ ShakesAtDoor end (Some old) None = ⊥
 ShakesAtDoor end None new = Unit {0}
 
 -- Where an accept finds none, nothing that was taken out of the inbox waits to be accepted; and where this port has the node's door,
--- all that waited at the port inside were let in, and all halves at the door have taken their turns.
+-- all that waited at the port inside were let in, all halves at the door have taken their turns, and each socket that was asked and is
+-- at the door still was refused by each way.
 abbrev pub HasTakenAll : {E : Type 0} → Taken E → HomeNow → HomeNow → Type 0
 HasTakenAll accept.NotYet old new = (new.next ≡ None) × IfSome old.door (λ d. LetsAllIn turn.Done old.inner new.inner) × ShakesAtDoor turn.Done old.door new.door
 HasTakenAll _ old new = Unit {0}
@@ -116,12 +118,12 @@ unasked_at h = unasked_at_door h.door
 abbrev pub asked_at : HomeNow → List LooseNow
 asked_at h = asked_at_door h.door ++ map left_behind (option_to_list h.next)
 
--- what was put by the ways of its door
-abbrev pub put_at : Option DoorNow → List (List (List OnItsWay))
-put_at None = []
-put_at (Some d) = d.put
+-- the ways of its door
+abbrev pub ways_at : Option DoorNow → List WayNow
+ways_at None = []
+ways_at (Some d) = d.ways
 
 -- The same of a port that was taken apart: its sockets are among those that it has made, in halves that are left, or were handed over.
 abbrev pub AreAllThere : HomeNow → List LooseNow → Type 0
 AreAllThere h halves = (weight : SocketId → ℕ) → sum_by weight h.inner.made + sum_by (weight_on_way weight) h.taken
-    ≡ sum_by weight h.made + sum_by (weight_of weight) halves + weight_put weight (put_at h.door)
+    ≡ sum_by weight h.made + sum_by (weight_of weight) halves + weight_put weight (ways_at h.door)

@@ -2,7 +2,7 @@
 
 ghost use Rattle.std.specs.Prelude.{◌≡◌, ◌+◌, ◌++◌, ◌<◌, ◌≤◌, [], IfOk, IsSome, List, OnOk, length, map, vec_capacity, vec_len};
 ghost use Rattle.std.specs.VecDeque.{deque_capacity, deque_len};
-ghost use Rattle.m2_handover.specs.Door.{Hands, HaveShaken, KeepsAll, LetsAllIn, LetsIn, LetsOneIn, LetsTheNextIn, Shaken, Shakes, ShakesAll, ShakesFirst, StandBefore, Stands, TakesIn, unasked_in};
+ghost use Rattle.m2_handover.specs.Door.{Hands, HandsFirst, HaveCome, HaveShaken, KeepsAll, LetsAllIn, LetsIn, LetsOneIn, LetsTheNextIn, Shaken, Shakes, ShakesAll, ShakesFirst, StandBefore, Stands, TakesIn, unasked_in};
 ghost use Rattle.m2_handover.specs.Handed.{left_behind};
 ghost use Rattle.m2_handover.specs.declared.door.TheConstants.{MOST_AT_DOOR};
 ghost use Rattle.m2_trail.specs.Arrivals.{left_of};
@@ -58,7 +58,7 @@ impl<E: End> Model for AtDoor<E> {
 /// asking address is at home.
 ///
 /// Contracts see the halves that weren't asked yet, the sockets that were and whose home has had no room, the halves that are
-/// over, and what was put by each way. No socket that came to it is lost: each stays in one of these places.
+/// over, and the ways, with what was put by each. No socket that came to it is lost: each stays in one of these places.
 #[derive(Drop)]
 pub struct Door<E: End, B: Inboxes<E>> {
     alloc: Global,
@@ -82,13 +82,13 @@ impl<E: End, B: Inboxes<E>> Model for Door<E, B> {
 
     ghost Value = { DoorNow };
 
-    ghost view = { λ d. record { halves = d.halves.items; asked = d.asked.items; over = d.over.items; put = d.ways.items } };
+    ghost view = { λ d. record { halves = d.halves.items; asked = d.asked.items; over = d.over.items; ways = d.ways.items } };
 }
 
 impl<E: End, B: Inboxes<E>> Door<E, B> {
     /// A door of a node of this kind, to which nobody came yet, with the ways to its threads.
     pub fn new(alloc: Global, entity: u8, ways: Vec<Way<E, B>>) -> Result<Door<E, B>, NoMemory>
-        ensures { IfOk result (λ d. d ≡ record { halves = []; asked = []; over = []; put = ways.items }) }
+        ensures { IfOk result (λ d. d ≡ record { halves = []; asked = []; over = []; ways = ways.items }) }
     {
         Ok(Door {
             alloc,
@@ -138,11 +138,11 @@ impl<E: End, B: Inboxes<E>> Door<E, B> {
     }
 
     /// What waits at the port is accepted.
-    #[tactic(auto, using(crate::proofs::Doors::accepts_more, crate::proofs::Doors::lets_in_then, crate::proofs::Shaking::stand_more, crate::proofs::Weights::takes_in_more))]
+    #[tactic(auto, using(crate::proofs::Doors::accepts_more, crate::proofs::Doors::lets_in_then, crate::proofs::Shaking::none_came, crate::proofs::Shaking::more_came, crate::proofs::Weights::takes_in_more))]
     fn accept_all<P: Port<End = E>>(&mut self, port: &mut P) -> DoorTurn
         ensures lets { LetsIn result (P.seen port.old) (P.seen port.new) }
         ensures all { LetsAllIn result (P.seen port.old) (P.seen port.new) }
-        ensures stand { StandBefore self.old.halves self.new.halves }
+        ensures came { HaveCome self.old self.new }
         ensures sockets { TakesIn (P.seen port.old).made (P.seen port.new).made self.old self.new }
     {
         'accepts: for _ in 0..MOST_ACCEPTS {
@@ -155,11 +155,11 @@ impl<E: End, B: Inboxes<E>> Door<E, B> {
     }
 
     /// Accepts one socket. None: there was one.
-    #[tactic(auto, using(crate::proofs::Doors::lets_none, crate::proofs::Doors::lets_made, crate::proofs::Doors::lets_nothing, crate::proofs::Doors::lets_failed, crate::proofs::Weights::comes_in, crate::proofs::Weights::takes_none))]
+    #[tactic(auto, using(crate::proofs::Doors::lets_none, crate::proofs::Doors::lets_made, crate::proofs::Doors::lets_nothing, crate::proofs::Doors::lets_failed, crate::proofs::Shaking::same_came, crate::proofs::Shaking::has_come, crate::proofs::Weights::comes_in, crate::proofs::Weights::takes_none))]
     fn accept<P: Port<End = E>>(&mut self, port: &mut P) -> Option<DoorTurn>
         ensures lets { LetsOneIn result (P.seen port.old) (P.seen port.new) }
         ensures next { LetsTheNextIn result (P.seen port.old) (P.seen port.new) }
-        ensures stand { StandBefore self.old.halves self.new.halves }
+        ensures came { HaveCome self.old self.new }
         ensures sockets { TakesIn (P.seen port.old).made (P.seen port.new).made self.old self.new }
     {
         let mut entries = Items::empty(self.alloc);
@@ -179,7 +179,7 @@ impl<E: End, B: Inboxes<E>> Door<E, B> {
     }
 
     /// Each socket goes on: halves shake hands, and those that were asked are handed over.
-    #[tactic(auto, using(crate::proofs::Shaking::shakes_then, crate::proofs::Weights::keeps_same, crate::proofs::Weights::keeps_more))]
+    #[tactic(auto, using(crate::proofs::Handing::begins_so, crate::proofs::Handing::goes_on_so, crate::proofs::Handing::hands_all, crate::proofs::Shaking::shakes_then, crate::proofs::Weights::keeps_same, crate::proofs::Weights::keeps_more))]
     fn go_on_all<R: Wait, P: Port<End = E>>(
         &mut self,
         rt: &R,
@@ -242,6 +242,7 @@ impl<E: End, B: Inboxes<E>> Door<E, B> {
     fn hand_next<R: Wait, P: Port<End = E>>(&mut self, rt: &R, inboxes: &B, port: &P)
         ensures halves { self.new.halves ≡ self.old.halves }
         ensures over { self.new.over ≡ self.old.over }
+        ensures hands { HandsFirst self.old self.new }
         ensures sockets { KeepsAll self.old self.new }
     {
         let Some(handed) = self.asked.pop_front() else {
@@ -262,7 +263,7 @@ impl<E: End, B: Inboxes<E>> Door<E, B> {
     pub(crate) fn into_rest(self) -> Result<DoorRest<E, B>, NoMemory>
         ensures at_door { IfOk result (λ r. r.at_door.items ≡ unasked_in self) }
         ensures on_way { IfOk result (λ r. r.on_way.items ≡ map left_behind self.asked) }
-        ensures ways { IfOk result (λ r. r.ways.items ≡ self.put) }
+        ensures ways { IfOk result (λ r. r.ways.items ≡ self.ways) }
     {
         let Door {
             alloc,
@@ -330,6 +331,7 @@ fn stand<E: End>(
     ensures capacity { MOST_AT_DOOR ≤ deque_capacity halves.new }
     ensures stands { Stands half.end.id (halves.old.items, over.old.items) (halves.new.items, over.new.items) }
     ensures before { StandBefore halves.old.items halves.new.items }
+    ensures over { StandBefore over.old.items over.new.items }
 {
     if halves.len() + asked < MOST_AT_DOOR {
         halves.push_back_reserved(AtDoor { half });
@@ -349,7 +351,8 @@ fn asked<P: Port>(port: &P, half: Incoming<P::End>) -> Handed<P::End>
     handed
 }
 
-/// Hands a socket over by the first way that takes it. It comes back where none has room.
+/// Hands a socket over by the first way that takes it. It comes back where each refuses it.
+#[tactic(auto, using(crate::proofs::Handing::refused_more, crate::proofs::Handing::refused_all))]
 fn hand<E: End, R: Wait, B: Inboxes<E>>(
     ways: &mut Vec<Way<E, B>>,
     rt: &R,

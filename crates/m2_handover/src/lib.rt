@@ -13,7 +13,8 @@
 //! out of its inbox, that each is one that it has made itself, or is still to be accepted, or stands at its door, or was handed
 //! over (`IsBalanced`, specs/Home.antt); so it says when it is taken apart. An inbox has one putter, and gives at its end just
 //! what was put and not taken (`AreLeftIn`, specs/Handed.antt). A socket whose home has no room, or that finds no
-//! memory, stays where it was. What no clause says: that a socket is ever handed over, taken or accepted; that None of an
+//! memory, stays where it was; and one that was asked and stays at the door behind a turn of it was refused by each way then
+//! (`WasRefused`, specs/Way.antt). What no clause says: that a socket is ever taken or accepted; that None of an
 //! inbox's `take` comes only where it is empty, so that a thread may miss what was put just now, and finds it the next time;
 //! of ends that were given to whoever called `accept` or `connect` nothing more is known here than their sockets' names, and
 //! whoever holds them keeps them; and that a half whose end isn't done again has judged nothing, which is looked at by value

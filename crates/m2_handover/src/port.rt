@@ -4,7 +4,7 @@ ghost use Rattle.std.specs.Prelude.{◌≡◌, ◌<◌, ◌∷◌, length, slice
 ghost use Rattle.m2_fabric.specs.Port.{Accepts, Connects, connect_map, taken_map};
 ghost use Rattle.m2_handover.specs.Door.{LetsAllIn, LetsIn, StaysThere, TakesIn};
 ghost use Rattle.m2_handover.specs.Handed.{IsOfNamed, OnItsWay};
-ghost use Rattle.m2_handover.specs.Home.{AreAllThere, HasTakenAll, IsBalanced, IsNoWait, IsSameButInner, IsSameInside, ShakesAtDoor, TakesOver, asked_at, put_at, shown, unasked_at};
+ghost use Rattle.m2_handover.specs.Home.{AreAllThere, HasTakenAll, IsBalanced, IsNoWait, IsSameButInner, IsSameInside, ShakesAtDoor, TakesOver, asked_at, shown, unasked_at, ways_at};
 ghost use Rattle.m2_mailbox.specs.Passes.{IsGetPassOf, taken_of};
 ghost use Rattle.m2_mailbox.specs.declared.inbox.Inbox.{Inbox};
 ghost use Rattle.m2_trail.specs.declared.home.HomeOf.{HomeOf};
@@ -153,7 +153,7 @@ impl<'a, P: Port, R: Wait + Copy, B: Inboxes<P::End>> HomePort<'a, P, R, B> {
         ensures on_way { IfOk result (λ r. r.on_way.items ≡ asked_at self.entry) }
         ensures taken { IfOk result (λ r. taken_of r.pass ≡ self.entry.taken) }
         ensures ours { IfOk result (λ r. IsOfNamed (λ inbox. IsGetPassOf inbox r.pass) (slice_get B.inboxes r.number)) }
-        ensures put { IfOk result (λ r. r.ways.items ≡ put_at self.entry.door) }
+        ensures ways { IfOk result (λ r. r.ways.items ≡ ways_at self.entry.door) }
         ensures all { IfOk result (λ r. AreAllThere self.entry (r.at_door.items ++ r.on_way.items)) }
     {
         let HomePort {

@@ -2,8 +2,9 @@
 
 ghost use Rattle.std.specs.Prelude.{◌≡◌, ◌<◌, length, slice_get, Some, IfErr, OnErr, OnOk};
 ghost use Rattle.m2_handover.specs.Handed.{IsOfNamed, OnItsWay};
+ghost use Rattle.m2_handover.specs.Way.{IsAtHomeIn, Refuses, most_held, with_put};
 ghost use Rattle.m2_mailbox.specs.Passes.{IsPutPassOf, owner_of, parts_of, puts_of};
-ghost use Rattle.m2_mailbox.specs.Views.{all_parts, put_by};
+ghost use Rattle.m2_mailbox.specs.Views.{all_parts};
 ghost use Rattle.m2_mailbox.specs.declared.inbox.Inbox.{Inbox};
 ghost use Rattle.m2_trail.specs.declared.home.HomeOf.{HomeOf};
 
@@ -16,7 +17,7 @@ use std::marker::{Model, PhantomData};
 use std::sync::Wait;
 
 /// The way to one of a node's event threads: the number of its inbox, and the whole right to put there what is at home with it.
-/// Contracts see what was put.
+/// Contracts see the home, how many the inbox holds at most, and what was put.
 #[derive(Drop)]
 pub struct Way<E: End, B: Inboxes<E>> {
     home: HomeOf,
@@ -30,13 +31,13 @@ pub struct Way<E: End, B: Inboxes<E>> {
 }
 
 impl<E: End, B: Inboxes<E>> Model for Way<E, B> {
-    ghost use Rattle.std.specs.Prelude.{List};
-    ghost use Rattle.m2_handover.specs.Handed.{OnItsWay};
+    ghost use Rattle.std.specs.Prelude.{slice_get};
+    ghost use Rattle.m2_handover.specs.Way.{WayNow, most_held};
     ghost use Rattle.m2_mailbox.specs.Passes.{puts_of};
 
-    ghost Value = { List (List OnItsWay) };
+    ghost Value = { WayNow };
 
-    ghost view = { λ w. puts_of w.pass };
+    ghost view = { λ w. record { home = w.home; most = most_held (slice_get B.inboxes w.number); put = puts_of w.pass } };
 }
 
 impl<E: End, B: Inboxes<E>> Way<E, B> {
@@ -46,7 +47,7 @@ impl<E: End, B: Inboxes<E>> Way<E, B> {
         requires owned { IsOfNamed (λ inbox. owner_of inbox ≡ home) (slice_get B.inboxes number) }
         requires ours { IsOfNamed (λ inbox. IsPutPassOf inbox pass) (slice_get B.inboxes number) }
         requires whole { parts_of pass ≡ all_parts }
-        ensures { result ≡ puts_of pass }
+        ensures { result ≡ record { home = home; most = most_held (slice_get B.inboxes number); put = puts_of pass } }
     {
         Way {
             home,
@@ -59,7 +60,7 @@ impl<E: End, B: Inboxes<E>> Way<E, B> {
     /// Whose way it is, and the whole right to put there, with what was put.
     #[tactic(auto, using(crate::proofs::Named::is_of_named))]
     pub fn into_pass(self) -> (u32, PutPass<Handed<E>>)
-        ensures put { puts_of result.1 ≡ self }
+        ensures put { puts_of result.1 ≡ self.put }
         ensures whole { parts_of result.1 ≡ all_parts }
         ensures ours { IsOfNamed (λ inbox. IsPutPassOf inbox result.1) (slice_get B.inboxes result.0) }
     {
@@ -73,9 +74,11 @@ impl<E: End, B: Inboxes<E>> Way<E, B> {
         inboxes: &B,
         handed: Handed<E>,
     ) -> Result<(), Handed<E>>
-        ensures put { OnOk result (self.new ≡ put_by handed self.old) }
+        ensures put { OnOk result (self.new ≡ with_put handed self.old) }
+        ensures home { OnOk result (IsAtHomeIn self.old.home handed) }
         ensures same { OnErr result (self.new ≡ self.old) }
         ensures back { IfErr result (λ back. back ≡ handed) }
+        ensures refuses { OnErr result (Refuses handed self.old) }
     {
         if !handed.is_at_home(&self.home) {
             return Err(handed);

@@ -1,7 +1,8 @@
 -- Tests of addresses and flags say what they test.
-use Rattle.std.proofs.Common.{◌≡◌, ◌≢◌, ℕ, Bool, true, false, ◌==◌, ◌&&◌, refl, sym, ap, ◌∙◌}
+use Rattle.std.proofs.Common.{◌≡◌, ◌≢◌, Bool, true, false, ◌==◌, ◌&&◌, refl, sym, ap, ◌∙◌}
 use Rattle.std.proofs.lemmas.Bool.{and_from, and_parts, eqb-true, eq-eqb, false_from_ne_true}
 use Rattle.m2_addr.specs.declared.addr.Addr.{Addr}
+use Rattle.m2_addr.proofs.Fields.{same_fields}
 use Rattle.m2_handshake.specs.Asks.{same_addr}
 use Rattle.m2_handshake.specs.Ident.{same_flag}
 
@@ -13,11 +14,6 @@ same_self a =
 
 pub same_is : (a b : Addr) → a ≡ b → same_addr a b ≡ true
 same_is a b e = ap (same_addr a) (sym e) ∙ same_self a
-
-same_fields : (a b : Addr) → a.kind ≡ b.kind → a.nonce ≡ b.nonce → a.ip ≡ b.ip → a.port ≡ b.port → a ≡ b
-same_fields a b k n i p =
-    ap (λ (x : ℕ). record a { kind = x }) k ∙ ap (λ (x : ℕ). record { kind = b.kind; nonce = x; ip = a.ip; port = a.port }) n
-    ∙ ap (λ (x : ℕ). record { kind = b.kind; nonce = b.nonce; ip = x; port = a.port }) i ∙ ap (λ (x : ℕ). record b { port = x }) p
 
 pub same_means : (a b : Addr) → same_addr a b ≡ true → a ≡ b
 same_means a b e =

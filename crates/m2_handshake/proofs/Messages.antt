@@ -13,7 +13,7 @@ use Rattle.m2_frame.specs.Frame.{Parts, message_tag, most_segments, segment_limi
 use Rattle.m2_frame.specs.Judging.{BeginsWith, first_part, later_part}
 use Rattle.m2_frame.specs.Preamble.{IsPreamble, read_preamble}
 use Rattle.m2_frame.specs.Reading.{Front, whole, dropped, start, bad, text, asked_by, first_is_right, first_len, frame_in, judge, judge_body, judge_epilogue, later_len, size_in, size_of, text_len}
-use Rattle.m2_frame.proofs.Cutting.{start_isnt_text}
+use Rattle.m2_frame.proofs.Cutting.{start_isnt_bad, start_isnt_text}
 use Rattle.m2_frame.proofs.Judge.{ends_whole, judge-whole, opens_right, opens_wrong, size_of-begins}
 use Rattle.m2_frame.proofs.Preambles.{IsAllowed, preamble_text-read}
 use Rattle.m2_handshake.specs.declared.fault.HalfFault.{HalfFault}
@@ -29,7 +29,8 @@ use Rattle.m2_handshake.specs.Reading.{Found, begun, refused, framed, found_by, 
 use Rattle.m2_handshake.specs.Standing.{Standing, awaits_at, awaits_frame}
 use Rattle.m2_handshake.proofs.Faults.{same_fault}
 use Rattle.m2_handshake.proofs.Leading.{either, true_isnt_false}
-use Rattle.m2_handshake.proofs.Sizes.{begun_from, begun_isnt_refused, dropped_asks, message_asks, refused_isnt_framed, some_isnt_none, start_isnt_bad}
+use Rattle.m2_handshake.proofs.Sizes.{begun_from, begun_isnt_refused, dropped_asks, message_asks, refused_isnt_framed}
+use Rattle.m2_bytes.proofs.m2_lemmas.Options.{some_isnt_none}
 
 begins_so : (rest bytes more : List ℕ) (p : Preamble) → IsPreamble bytes p → rest ≡ bytes ++ more → BeginsWith rest p
 begins_so rest bytes more p i e = record {

@@ -1,6 +1,7 @@
 -- What more bytes and replies change: what was written and used stays, and more comes behind.
 use Rattle.std.proofs.Common.{◌≡◌, ◌≢◌, ℕ, ◌⊎◌, inl, inr, false, List, [], ◌∷◌, ◌++◌, length, flat_map, refl, sym, ap, ◌∙◌, subst, arith, append_assoc, append-nil, length-append}
 use Rattle.std.proofs.lemmas.Grind.{flat_map-append}
+use Rattle.std.proofs.lemmas.List.{nil_from_length}
 use Rattle.m2_control.specs.declared.control.Control.{Control}
 use Rattle.m2_handshake.specs.declared.fault.HalfFault.{HalfFault}
 use Rattle.m2_handshake.specs.declared.stage.Stage.{Stage}
@@ -11,7 +12,7 @@ use Rattle.m2_handshake.specs.Standing.{Standing, grown, fed}
 use Rattle.m2_handshake.proofs.Course.{ended, grows, feeds, ways, stands, rests_isnt_goes}
 use Rattle.m2_handshake.proofs.Leading.{is_faulty, tells}
 use Rattle.m2_handshake.proofs.Reaching.{fed_twice}
-use Rattle.m2_handshake.proofs.Turns.{fed_stage, is_empty}
+use Rattle.m2_handshake.proofs.Turns.{fed_stage}
 
 -- ---- what is written
 
@@ -26,7 +27,7 @@ goes_on s other x y ds es later t a u b o r (inl w) = record {
 }
 goes_on s other x y ds es later t a u b o r (inr w) =
     let all : replies_of ds ≡ replies_of es ++ replies_of w.0 = ap (flat_map replies_in) w.1 ∙ flat_map-append replies_in es w.0 in
-    let none : replies_of w.0 ≡ [] = is_empty (replies_of w.0)
+    let none : replies_of w.0 ≡ [] = nil_from_length (replies_of w.0)
     (omega (arith, ap length all, ap length r, length-append (replies_of es) (replies_of w.0), length-append (replies_of ds) later)) in
     let still = stands w.0 other s o w.2 none in
     let same : es ≡ ds = sym (w.1 ∙ ap (λ l. es ++ l) still.0 ∙ append-nil es) in

@@ -4,6 +4,7 @@ use Rattle.std.specs.Prelude.{◌==◌}
 use Rattle.std.proofs.lemmas.Bool.{cases_lt, eqb-true, eq-eqb}
 use Rattle.std.proofs.lemmas.List.{length-append, take-append-drop, take_at}
 use Rattle.m2_bytes.specs.Blob.{Contents}
+use Rattle.m2_bytes.proofs.m2_lemmas.Options.{some_isnt_none}
 use Rattle.m2_control.specs.declared.control.Control.{Control}
 use Rattle.m2_control.specs.declared.control.Control.TheVariants as control
 use Rattle.m2_control.specs.Control.{tag_of}
@@ -20,7 +21,7 @@ use Rattle.m2_frame.specs.Preamble.{preamble_of, read_preamble}
 use Rattle.m2_frame.specs.Reading.{whole, dropped, Front, start, bad, text, asked_by, judge, size_in, size_of}
 use Rattle.m2_frame.specs.Tags.{tag_number}
 use Rattle.m2_frame.specs.Text as frame
-use Rattle.m2_frame.proofs.Cutting.{fault_stays, start_isnt_text, text_long, text_stays, text_within}
+use Rattle.m2_frame.proofs.Cutting.{fault_stays, start_isnt_bad, start_isnt_text, text_long, text_stays, text_within}
 use Rattle.m2_frame.proofs.Judge.{judge-short, size_of-begins, size_of-settled, size_of-short}
 use Rattle.m2_frame.proofs.Parsed.{judged-item_text}
 use Rattle.m2_frame.proofs.Preambles.{allowed-fits, read_preamble-text}
@@ -72,9 +73,6 @@ dropped_asks rest tag n j =
     )
 
 -- a size that is asked for is asked for as more comes
-pub some_isnt_none : (n : ℕ) → Some n ≡ None → ⊥
-some_isnt_none n e = cc
-
 asked_stays : (rest more : List ℕ) (n : ℕ) → size_of rest ≡ Some n → size_of (rest ++ more) ≡ Some n
 asked_stays rest more n e = by_length (cases_lt (length rest) 32)
   where
@@ -123,9 +121,6 @@ started_long rest front e n = by_length (cases_lt (length rest) 32)
     by_length : (length rest < 32) ⊎ (32 ≤ length rest) → 32 ≤ length rest
     by_length (inl short) = absurd (n (sym (judge-short rest short) ∙ e))
     by_length (inr long) = long
-
-pub start_isnt_bad : (f : FrameFault) → start ≡ bad f → ⊥
-start_isnt_bad f e = cc
 
 stays_by : (rest more : List ℕ) (size : Option ℕ) (front : Front) (x : Found) → size_of rest ≡ size → judge rest ≡ front → found_by size front ≡ x → (begun ≡ x → ⊥) →
     found_in (rest ++ more) ≡ x

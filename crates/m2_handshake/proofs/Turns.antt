@@ -1,6 +1,7 @@
 -- As many replies as asks, or one less; an opener has none.
 use Rattle.std.proofs.Common.{◌≡◌, ℕ, ◌+◌, ◌≤◌, List, [], ◌∷◌, ◌++◌, length, flat_map, refl, sym, ap, ◌∙◌, arith, length-append}
 use Rattle.std.proofs.lemmas.Grind.{flat_map-append}
+use Rattle.std.proofs.lemmas.List.{nil_from_length}
 use Rattle.m2_control.specs.declared.control.Control.{Control}
 use Rattle.m2_control.specs.declared.control.Control.TheVariants as control
 use Rattle.m2_handshake.specs.declared.stage.HalfSide.TheVariants.{Opener, Acceptor}
@@ -93,14 +94,10 @@ no_asks (asked ask ∷ ds) a b q (m, g, k) = absurd (opener_isnt_acceptor (sym q
 no_asks (failed f ∷ ds) a b q (m, g, k) = no_asks ds m b (same_side (failed f) a m g ∙ q) k
 no_asks (replied c ∷ ds) a b q (m, g, k) = no_asks ds m b (same_side (replied c) a m g ∙ q) k
 
-pub is_empty : {A : Type 0} (xs : List A) → length xs ≡ 0 → xs ≡ []
-is_empty [] e = refl
-is_empty (x ∷ xs) e = absurd (omega (arith, e))
-
 opener : (begin s : Standing) (x : Exchange) → begin.side ≡ Opener → owed begin.stage ≡ 0 → Reaches begin x s → (x.asks ≡ []) × (x.replies ≡ [])
 opener begin s x q o r =
     let none = sym r.asks ∙ no_asks r.events (fed begin x.bytes) s ((fed_keeps_at begin.stage begin x.bytes).1 ∙ q) r.runs in
-    (none, is_empty x.replies (omega (arith, ends begin s x o r, ap length none)))
+    (none, nil_from_length x.replies (omega (arith, ends begin s x o r, ap length none)))
 
 pub asks_first : AsksBeforeReplies
 asks_first = record { points = points; ends = ends; opener = opener }

@@ -71,8 +71,8 @@ abbrev plan_by : Bool → List PlanStep
 plan_by true = step.Post hello ∷ []
 plan_by false = step.Dial ∷ []
 
-abbrev it : LinkNow
-it = record { facts = facts_by; plans = plan_by; both = record { a = near; b = far; loose = [] } }
+abbrev crossing_link : LinkNow
+crossing_link = record { facts = facts_by; plans = plan_by; both = record { a = near; b = far; loose = [] } }
 
 -- ---- the halves that were taken
 
@@ -90,42 +90,42 @@ kept_3 = record { entity = refl; beside = record { entries = refl; runs = (_, re
 
 -- ---- both sides
 
-items_a : items_by it true ≡ all_of_a
+items_a : items_by crossing_link true ≡ all_of_a
 unfolding hello trail_1 trail_2 trail_3 journal_of_a journal_of_b unread_of text_of preamble_text segment_crc after_byte shifted shifted_by judge judge_first judge_later judge_epilogue size_of read_preamble bounded_at cookie_at flag_at numbers_at list_at string_at vector_field tail_at head_at socket_at body_of shape_at addresses_at vector_at header_text
 items_a = refl
 
-items_b : items_by it false ≡ all_of_b
+items_b : items_by crossing_link false ≡ all_of_b
 unfolding hello trail_1 trail_2 trail_3 journal_of_a journal_of_b unread_of text_of preamble_text segment_crc after_byte shifted shifted_by judge judge_first judge_later judge_epilogue size_of read_preamble bounded_at cookie_at flag_at numbers_at list_at string_at vector_field tail_at head_at socket_at body_of shape_at addresses_at vector_at header_text
 items_b = refl
 
-lawful : (s : Bool) → AreLawful (facts_by s) (items_by it s) (start (facts_by s))
+lawful : (s : Bool) → AreLawful (facts_by s) (items_by crossing_link s) (start (facts_by s))
 lawful true = subst (λ (is : List JournalItem). AreLawful facts_of_a is (start facts_of_a)) (sym items_a) lawful_a
 lawful false = subst (λ (is : List JournalItem). AreLawful facts_of_b is (start facts_of_b)) (sym items_b) lawful_b
 
-sides : (s : Bool) → IsSideOf (facts_by s) (plan_by s) (part_of it.both s)
+sides : (s : Bool) → IsSideOf (facts_by s) (plan_by s) (part_of crossing_link.both s)
 unfolding journal_of_a journal_of_b trail_1 trail_2 trail_3
 sides true = record { lawful = lawful true; ends = (holds, (holds, (holds, tt))); trails = record { sockets = refl; each = tt } }
 sides false = record { lawful = lawful false; ends = (holds, (holds, (holds, (holds, tt)))); trails = record { sockets = refl; each = (kept_1, (kept_2, (kept_3, tt))) } }
 
-can_post : (s : Bool) → AllByRecursion CanBePosted (items_in (plan_by s) (part_of it.both s))
+can_post : (s : Bool) → AllByRecursion CanBePosted (items_in (plan_by s) (part_of crossing_link.both s))
 unfolding hello journal_of_a journal_of_b
 can_post true = (can_be_posted, (tt, (tt, (tt, (tt, (tt, (tt, (tt, (tt, (tt, (tt, (tt, (tt, (tt, (tt, (tt, (tt, (tt, (tt, (tt, (tt, (tt, (tt, (tt, (tt, (tt, (tt, (tt, (tt, (tt, (tt, (tt, (tt, (tt, (tt, (tt, (tt, (tt, tt))))))))))))))))))))))))))))))))))))))
 can_post false = (tt, (tt, (tt, (tt, (tt, (tt, (tt, (tt, (tt, (tt, (tt, (tt, (tt, (tt, (tt, tt)))))))))))))))
 
-are_up : AreUp it
+are_up : AreUp crossing_link
 unfolding hello journal_of_a journal_of_b
 are_up true = (tt, (tt, (tt, (tt, (tt, (tt, (tt, (tt, (tt, (tt, (tt, (tt, (tt, (tt, (tt, (tt, (tt, (tt, (tt, (tt, (tt, (tt, (tt, (tt, (tt, (tt, (tt, (tt, (tt, (tt, (tt, (tt, (tt, (tt, (tt, (tt, (tt, (tt, tt))))))))))))))))))))))))))))))))))))))
 are_up false = (tt, (tt, (tt, (tt, (tt, (tt, (tt, (tt, (tt, (tt, (tt, (tt, (tt, (tt, (tt, tt)))))))))))))))
 
-apart : IsDistinct same_end (ends_of it.both)
+apart : IsDistinct same_end (ends_of crossing_link.both)
 unfolding IsDistinct journal_of_a journal_of_b
 apart = ((refl, (refl, (refl, (refl, (refl, (refl, tt)))))), ((refl, (refl, (refl, (refl, (refl, tt))))), ((refl, (refl, (refl, (refl, tt)))), ((refl, (refl, (refl, tt))), ((refl, (refl, tt)), ((refl, tt), (tt, tt)))))))
 
-seen : AllByRecursion (λ (t : TrailNow). HasAddrRanges (opener_of t.socket)) (trails_of it.both)
+seen : AllByRecursion (λ (t : TrailNow). HasAddrRanges (opener_of t.socket)) (trails_of crossing_link.both)
 unfolding trail_1 trail_2 trail_3
 seen = (opener_fits, (opener_fits, (opener_fits, tt)))
 
-link_is : IsLink it
+link_is : IsLink crossing_link
 link_is = record { sides = sides; joined = record { posts = can_post; loose = tt; apart = apart; named = named; seen = seen; peers = λ j e. other_port j.to_ip j.to_port e } }
 
 -- ---- the order: the near journal, the far one, and the three halves
@@ -142,7 +142,7 @@ row n = record { socket = socket n; opener = record { got = bytes (of_acceptor n
 abbrev back_row : SocketBytes
 back_row = record { socket = back; opener = record { got = bytes []; put = bytes [] }; acceptor = record { got = bytes []; put = bytes [] } }
 
-order_is : IsOrderOf it order
+order_is : IsOrderOf crossing_link order
 unfolding hello order trail_1 trail_2 trail_3 journal_of_a journal_of_b unread_of text_of preamble_text segment_crc after_byte shifted shifted_by judge judge_first judge_later judge_epilogue size_of read_preamble bounded_at cookie_at flag_at numbers_at list_at string_at vector_field tail_at head_at socket_at body_of shape_at addresses_at vector_at header_text
 order_is = record {
   sockets = row 1 ∷ row 2 ∷ row 3 ∷ row 1 ∷ row 2 ∷ back_row ∷ row 3 ∷ [];
@@ -395,7 +395,7 @@ near_logs = record { fast = []; queued = [] }
 abbrev far_logs : Logs
 far_logs = record { fast = []; queued = heard.message 0 key 1 (cookie_of facts_of_b 1) numbered ∷ [] }
 
-are_logs : AreLogs facts_of_a facts_of_b (entries_of (order_of it order)) near_logs far_logs
+are_logs : AreLogs facts_of_a facts_of_b (entries_of (order_of crossing_link order)) near_logs far_logs
 unfolding hello order trail_1 trail_2 trail_3 journal_of_a journal_of_b unread_of text_of preamble_text segment_crc after_byte shifted shifted_by judge judge_first judge_later judge_epilogue size_of read_preamble bounded_at cookie_at flag_at numbers_at list_at string_at vector_field tail_at head_at socket_at body_of shape_at addresses_at vector_at header_text
 are_logs = record { near = λ none l. (_, refl); far = λ none l. one (is_key key l) }
   where
@@ -403,14 +403,14 @@ are_logs = record { near = λ none l. (_, refl); far = λ none l. one (is_key ke
     one true = ([], refl)
     one false = ([], refl)
 
-shown_is : observed facts_of_a facts_of_b (entries_of (order_of it order)) far_logs ≡ post key hello_message ∷ accept key numbered ∷ acknowledge 1 ∷ dispatch key hello_message ∷ []
+shown_is : observed facts_of_a facts_of_b (entries_of (order_of crossing_link order)) far_logs ≡ post key hello_message ∷ accept key numbered ∷ acknowledge 1 ∷ dispatch key hello_message ∷ []
 unfolding hello order trail_1 trail_2 trail_3 journal_of_a journal_of_b unread_of text_of preamble_text segment_crc after_byte shifted shifted_by judge judge_first judge_later judge_epilogue size_of read_preamble bounded_at cookie_at flag_at numbers_at list_at string_at vector_field tail_at head_at socket_at body_of shape_at addresses_at vector_at header_text
 shown_is = refl
 
 pub crossed_link : ACrossedLinkIsWoven
 unfolding journal_of_a journal_of_b
 crossed_link = record {
-  link = it;
+  link = crossing_link;
   order = order;
   nodes = record { allowed = refl; near_keeps = refl; far_keeps = refl; places = apart_places; near_salt = ltb-true 5 (2 ^ 16) refl; far_salt = ltb-true 6 (2 ^ 16) refl };
   is_link = link_is;

@@ -38,7 +38,7 @@ use Rattle.m2_journal.proofs.Pair.{World, a_does, a_reads, a_writes, b_does, b_r
 use Rattle.m2_journal.proofs.Written.{all_put, fails, holds, is_new, not_zero, same, unopened}
 use Rattle.m2_journal.specs.m2_queues.QueueLaws.{History}
 use Rattle.m2_bytes.proofs.m2_lemmas.Booleans.{false_isnt_true}
-use Rattle.m2_journal.specs.Steps.{after}
+use Rattle.m2_journal.proofs.Growing.{lawful-append}
 
 -- ---- what both sides do
 
@@ -93,8 +93,8 @@ first_a = refl
 abbrev pub established : World
 established = a_reads 1 1000 (b_writes 1 1000 (b_does (judged (socket 1) first_ask 1 Accept [] of_first) (asks_on 1 (a_does (asked true 1) (signed_by a_first (start facts_of_b))))))
 
-abbrev pub broken : World
-broken = b_does (closed (socket 1) true) (a_does (closed (socket 1) true) (b_reads 1 1000 (a_writes 1 20 (a_does (numbered 1) established))))
+abbrev pub first_broken : World
+first_broken = b_does (closed (socket 1) true) (a_does (closed (socket 1) true) (b_reads 1 1000 (a_writes 1 20 (a_does (numbered 1) established))))
 
 abbrev kept_of_a : History
 kept_of_a = record {
@@ -124,11 +124,11 @@ b_broken = record (start facts_of_b) {
   sent = record { socket = socket 1; frame = server_ident (cookie_of facts_of_b 1) 1 } ∷ [];
 }
 
-a_then : broken.a ≡ a_broken
+a_then : first_broken.a ≡ a_broken
 unfolding text_of preamble_text segment_crc after_byte shifted shifted_by judge judge_first judge_later judge_epilogue size_of read_preamble bounded_at cookie_at flag_at numbers_at list_at string_at vector_field tail_at head_at socket_at body_of shape_at addresses_at vector_at header_text
 a_then = refl
 
-b_then : broken.b ≡ b_broken
+b_then : first_broken.b ≡ b_broken
 unfolding text_of preamble_text segment_crc after_byte shifted shifted_by judge judge_first judge_later judge_epilogue size_of read_preamble bounded_at cookie_at flag_at numbers_at list_at string_at vector_field tail_at head_at socket_at body_of shape_at addresses_at vector_at header_text
 b_then = refl
 
@@ -247,10 +247,6 @@ can_be_read_again global connect g c = record {
   reconnect = λ e. (not_zero (cookie_of facts_of_a 1) refl, not_zero (cookie_of facts_of_b 1) refl);
 }
 
-lawful_on : (f : SideFacts) (is js : List JournalItem) (s : State) → AreLawful f is s → AreLawful f js (after_items f is s) → AreLawful f (is ++ js) s
-lawful_on f [] js s first_ones next_ones = next_ones
-lawful_on f (i ∷ is) js s first_ones next_ones = (first_ones.0, lawful_on f is js (after f i s) first_ones.1 next_ones)
-
 a_1 : AreLawful facts_of_a first.of_a (start facts_of_a)
 unfolding text_of preamble_text segment_crc after_byte shifted shifted_by judge judge_first judge_later judge_epilogue size_of read_preamble bounded_at cookie_at flag_at numbers_at list_at string_at vector_field tail_at head_at socket_at body_of shape_at addresses_at vector_at header_text
 a_1 = (
@@ -276,7 +272,7 @@ a_1 = (
   ),
 )
 
-a_2 : AreLawful facts_of_a broken.of_a a_first
+a_2 : AreLawful facts_of_a first_broken.of_a a_first
 unfolding text_of preamble_text segment_crc after_byte shifted shifted_by judge judge_first judge_later judge_epilogue size_of read_preamble bounded_at cookie_at flag_at numbers_at list_at string_at vector_field tail_at head_at socket_at body_of shape_at addresses_at vector_at header_text
 a_2 = (
   record { phase = same Connecting; signed = unopened; heard_nothing = same 0; put = all_put; of_kind = same true; fits = leb-true 0 GREATEST_NUMBER holds; unused = is_new _ _ holds holds },
@@ -389,7 +385,7 @@ a_6 = (
   ),
 )
 
-b_2 : AreLawful facts_of_b broken.of_b (start facts_of_b)
+b_2 : AreLawful facts_of_b first_broken.of_b (start facts_of_b)
 unfolding text_of preamble_text segment_crc after_byte shifted shifted_by judge judge_first judge_later judge_epilogue size_of read_preamble bounded_at cookie_at flag_at numbers_at list_at string_at vector_field tail_at head_at socket_at body_of shape_at addresses_at vector_at header_text
 b_2 = (
   record { unused = is_new _ _ holds holds; readable = can_be_read; by_the_tables = refl; not_opened = fails; asks_again = tt; of_trail = refl },
@@ -452,28 +448,28 @@ b_6 = (
 
 -- all of it
 abbrev pub all_of_a : List JournalItem
-all_of_a = first.of_a ++ broken.of_a ++ second.of_a ++ lost.of_a ++ third.of_a ++ done.of_a
+all_of_a = first.of_a ++ first_broken.of_a ++ second.of_a ++ lost.of_a ++ third.of_a ++ done.of_a
 
 abbrev pub all_of_b : List JournalItem
-all_of_b = broken.of_b ++ lost.of_b ++ third.of_b ++ done.of_b
+all_of_b = first_broken.of_b ++ lost.of_b ++ third.of_b ++ done.of_b
 
 -- where entries lead, their world is
 abbrev Leads : SideFacts → List JournalItem → (s t : State) → Type 0
 Leads f is s t = after_items f is s ≡ t
 
 go_on : (f : SideFacts) (is js : List JournalItem) (s t : State) → AreLawful f is s → Leads f is s t → AreLawful f js t → AreLawful f (is ++ js) s
-go_on f is js s t first_ones leads next_ones = lawful_on f is js s first_ones (subst (AreLawful f js) (sym leads) next_ones)
+go_on f is js s t first_ones leads next_ones = lawful-append f is js s first_ones (subst (AreLawful f js) (sym leads) next_ones)
 
 pub lawful_a : AreLawful facts_of_a all_of_a (start facts_of_a)
 lawful_a =
-    go_on facts_of_a first.of_a (broken.of_a ++ second.of_a ++ lost.of_a ++ third.of_a ++ done.of_a) (start facts_of_a) a_first a_1 first_a
-    (go_on facts_of_a broken.of_a (second.of_a ++ lost.of_a ++ third.of_a ++ done.of_a) a_first a_broken a_2 a_then
+    go_on facts_of_a first.of_a (first_broken.of_a ++ second.of_a ++ lost.of_a ++ third.of_a ++ done.of_a) (start facts_of_a) a_first a_1 first_a
+    (go_on facts_of_a first_broken.of_a (second.of_a ++ lost.of_a ++ third.of_a ++ done.of_a) a_first a_broken a_2 a_then
     (go_on facts_of_a second.of_a (lost.of_a ++ third.of_a ++ done.of_a) a_broken a_second a_3 second_a
     (go_on facts_of_a lost.of_a (third.of_a ++ done.of_a) a_second a_lost a_4 a_after_that
     (go_on facts_of_a third.of_a done.of_a a_lost a_third a_5 third_a a_6))))
 
 pub lawful_b : AreLawful facts_of_b all_of_b (start facts_of_b)
 lawful_b =
-    go_on facts_of_b broken.of_b (lost.of_b ++ third.of_b ++ done.of_b) (start facts_of_b) b_broken b_2 b_then
+    go_on facts_of_b first_broken.of_b (lost.of_b ++ third.of_b ++ done.of_b) (start facts_of_b) b_broken b_2 b_then
     (go_on facts_of_b lost.of_b (third.of_b ++ done.of_b) b_broken b_lost b_4 b_after_that
     (go_on facts_of_b third.of_b done.of_b b_lost b_third b_5 third_b b_6))

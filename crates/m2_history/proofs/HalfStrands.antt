@@ -1,5 +1,5 @@
 -- The strand of a trail has its entries in order, and hands on each ask behind the entries that were there when it was judged.
-use Rattle.std.proofs.Common.{◌≡◌, ℕ, zero, suc, ◌+◌, ◌-◌, ◌≤◌, ◌<◌, max, if◌then◌else◌, ◌⊎◌, inl, inr, List, [], ◌∷◌, ◌++◌, length, map, take, drop, slice_get, slice_index, Option, Some, None, refl, sym, ap, ◌∙◌, subst, arith}
+use Rattle.std.proofs.Common.{◌≡◌, ℕ, zero, suc, ◌+◌, ◌≤◌, ◌<◌, if◌then◌else◌, ◌⊎◌, inl, inr, List, [], ◌∷◌, length, map, take, slice_get, slice_index, Option, Some, None, refl, sym, ap, ◌∙◌, subst, arith}
 use Rattle.std.specs.List.{AllByRecursion}
 use Rattle.std.proofs.lemmas.Bool.{cases_lt, le-ltb, lt-ltb}
 use Rattle.std.proofs.lemmas.Option.{same_Some}
@@ -16,6 +16,7 @@ use Rattle.m2_weave.specs.declared.strand.StrandItem.TheVariants.{Noted, Handed}
 use Rattle.m2_weave.specs.Rule.{Woven}
 use Rattle.m2_weave.specs.Strands.{half_items, handed_by, judged_at, total}
 use Rattle.m2_history.specs.HalfStrands.{noted_in, strand_of, WritesOn, IsTidy, IsWovenTo, IsOrdered, OrdersGivePoints}
+use Rattle.m2_weave.proofs.Items.{handed_now, noted_before}
 use Rattle.m2_fabric.proofs.Sockets.{same_refl}
 
 -- ---- the strand as a path
@@ -30,20 +31,6 @@ no_more_asks : (k : SocketId) (es : List Entry) (place : ℕ) → IsPath k (map 
 no_more_asks k [] place = (refl, refl)
 no_more_asks k (e ∷ es) place = (es, refl, refl, no_more_asks k es (suc place))
 
--- an ask that is handed on now
-now : (k : SocketId) (es : List Entry) (n : ℕ) (ns : List ℕ) (place : ℕ) → n ≤ place →
-    half_items k place es (n ∷ ns) ≡ Handed k ∷ half_items k place es ns
-now k es n ns place h =
-    ap (λ c. map Noted (take c es) ++ Handed k ∷ half_items k (max n place) (drop c es) ns) (let none : n - place ≡ 0 = omega (arith, h) in none)
-    ∙ ap (λ p. Handed k ∷ half_items k p es ns) (let same : max n place ≡ place = omega (arith, h) in same)
-
--- an entry before it
-later : (k : SocketId) (e : Entry) (es : List Entry) (n : ℕ) (ns : List ℕ) (place : ℕ) → place < n →
-    half_items k place (e ∷ es) (n ∷ ns) ≡ Noted e ∷ half_items k (suc place) es (n ∷ ns)
-later k e es n ns place h =
-    ap (λ c. map Noted (take c (e ∷ es)) ++ Handed k ∷ half_items k (max n place) (drop c (e ∷ es)) ns) (let more : n - place ≡ suc (n - suc place) = omega (arith, h) in more)
-    ∙ ap (λ p. Noted e ∷ (map Noted (take (n - suc place) es) ++ Handed k ∷ half_items k p (drop (n - suc place) es) ns)) (let same : max n place ≡ max n (suc place) = omega (arith, h) in same)
-
 not_yet : (n place : ℕ) (ns : List ℕ) → place < n → how_many_below (suc place) (n ∷ ns) ≡ 0
 not_yet n place ns h = ap (λ b. if b then suc (how_many_below (suc place) ns) else 0) (le-ltb n (suc place) (omega (arith, h)))
 
@@ -51,7 +38,7 @@ not_yet n place ns h = ap (λ b. if b then suc (how_many_below (suc place) ns) e
 asked_here : (k : SocketId) (n : ℕ) (ns : List ℕ) (es : List Entry) (place : ℕ) → n ≡ place → RisesWithin n ns (place + length es) →
     (RisesWithin place ns (place + length es) → IsPath k (half_items k place es ns) es ns place) → IsPath k (half_items k place es (n ∷ ns)) es (n ∷ ns) place
 asked_here k n ns es place here r on =
-    subst (λ is. IsPath k is es (n ∷ ns) place) (sym (now k es n ns place (omega (arith, here))))
+    subst (λ is. IsPath k is es (n ∷ ns) place) (sym (handed_now k es n ns place (omega (arith, here))))
     (refl, (n, ns, refl, omega (arith, here), on (subst (λ m. RisesWithin m ns (place + length es)) here r)))
 
 -- up to the next ask
@@ -66,7 +53,7 @@ to_the_next k n ns on (e ∷ es) place low r = at (cases_lt place n) (λ h. to_t
     at : (place < n) ⊎ (n ≤ place) → (suc place ≤ n → IsPath k (half_items k (suc place) es (n ∷ ns)) es (n ∷ ns) (suc place)) →
         IsPath k (half_items k place (e ∷ es) (n ∷ ns)) (e ∷ es) (n ∷ ns) place
     at (inl h) rest =
-        subst (λ is. IsPath k is (e ∷ es) (n ∷ ns) place) (sym (later k e es n ns place h)) (es, refl, not_yet n place ns h, rest (omega (arith, h)))
+        subst (λ is. IsPath k is (e ∷ es) (n ∷ ns) place) (sym (noted_before k e es n ns place h)) (es, refl, not_yet n place ns h, rest (omega (arith, h)))
     at (inr h) rest = asked_here k n ns (e ∷ es) place (omega (arith, h, low)) r (on (e ∷ es) place)
 
 as_path : (k : SocketId) (ns : List ℕ) (es : List Entry) (place : ℕ) → RisesWithin place ns (place + length es) → IsPath k (half_items k place es ns) es ns place

@@ -84,8 +84,8 @@ abbrev plan_by : Bool → List PlanStep
 plan_by true = step.Dial ∷ []
 plan_by false = []
 
-abbrev it : LinkNow
-it = record { facts = facts_by; plans = plan_by; both = record { a = near; b = far; loose = half ∷ [] } }
+abbrev opened_link : LinkNow
+opened_link = record { facts = facts_by; plans = plan_by; both = record { a = near; b = far; loose = half ∷ [] } }
 
 -- ---- the half
 
@@ -171,7 +171,7 @@ other_port ip port e =
 
 -- ---- both sides
 
-lawful_near : AreLawful facts_of_a (items_by it true) (start facts_of_a)
+lawful_near : AreLawful facts_of_a (items_by opened_link true) (start facts_of_a)
 unfolding text_of preamble_text segment_crc after_byte shifted shifted_by judge judge_first judge_later judge_epilogue size_of read_preamble bounded_at cookie_at flag_at numbers_at list_at string_at vector_field tail_at head_at socket_at body_of shape_at addresses_at vector_at header_text
 lawful_near = (
   tt,
@@ -184,23 +184,23 @@ lawful_near = (
   ),
 )
 
-sides : (s : Bool) → IsSideOf (facts_by s) (plan_by s) (part_of it.both s)
+sides : (s : Bool) → IsSideOf (facts_by s) (plan_by s) (part_of opened_link.both s)
 sides true = record { lawful = lawful_near; ends = (holds, tt); trails = record { sockets = refl; each = tt } }
 sides false = record { lawful = tt; ends = tt; trails = record { sockets = refl; each = tt } }
 
-are_up : AreUp it
+are_up : AreUp opened_link
 are_up true = (tt, (tt, (tt, tt)))
 are_up false = tt
 
-can_post : (s : Bool) → AllByRecursion CanBePosted (items_in (plan_by s) (part_of it.both s))
+can_post : (s : Bool) → AllByRecursion CanBePosted (items_in (plan_by s) (part_of opened_link.both s))
 can_post true = (tt, (tt, (tt, tt)))
 can_post false = tt
 
-apart : IsDistinct same_end (ends_of it.both)
+apart : IsDistinct same_end (ends_of opened_link.both)
 unfolding IsDistinct
 apart = ((refl, tt), (tt, tt))
 
-link_is : IsLink it
+link_is : IsLink opened_link
 link_is = record {
   sides = sides;
   joined = record {
@@ -224,7 +224,7 @@ bytes xs = record { ref_ptr = (0, 0); now = xs }
 abbrev row : SocketBytes
 row = record { socket = k; opener = record { got = bytes []; put = bytes banner }; acceptor = record { got = bytes banner; put = bytes [] } }
 
-order_is : IsOrderOf it order
+order_is : IsOrderOf opened_link order
 unfolding order
 order_is = record {
   sockets = row ∷ row ∷ [];
@@ -250,13 +250,13 @@ order_is = record {
 pub apart_places : facts_of_a.node.number ≡ facts_of_b.node.number → ⊥
 apart_places e = let same : ◌≡◌ {A = ℕ} 0 1 = e in absurd (omega (arith, same))
 
-some_read : got_at (far_side facts_of_b (order_of it order)) k ≢ []
+some_read : got_at (far_side facts_of_b (order_of opened_link order)) k ≢ []
 unfolding order
 some_read e = let some : banner ≡ [] = e in cc
 
 pub one_link : ALinkIsWoven
 one_link = record {
-  link = it;
+  link = opened_link;
   order = order;
   nodes = record { allowed = refl; near_keeps = refl; far_keeps = refl; places = apart_places; near_salt = ltb-true 5 (2 ^ 16) refl; far_salt = ltb-true 6 (2 ^ 16) refl };
   is_link = link_is;

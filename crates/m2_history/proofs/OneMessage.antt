@@ -136,8 +136,8 @@ abbrev plan_by : Bool → List PlanStep
 plan_by true = step.Post hello ∷ step.Down ∷ []
 plan_by false = []
 
-abbrev it : LinkNow
-it = record { facts = facts_by; plans = plan_by; both = record { a = near; b = far; loose = [] } }
+abbrev marked_link : LinkNow
+marked_link = record { facts = facts_by; plans = plan_by; both = record { a = near; b = far; loose = [] } }
 
 -- ---- the half that was taken
 
@@ -223,7 +223,7 @@ kept = record {
 
 -- ---- both sides
 
-lawful_a : AreLawful facts_of_a (items_by it true) (start facts_of_a)
+lawful_a : AreLawful facts_of_a (items_by marked_link true) (start facts_of_a)
 unfolding hello its_trail journal_of_a journal_of_b unread_of text_of preamble_text segment_crc after_byte shifted shifted_by judge judge_first judge_later judge_epilogue size_of read_preamble bounded_at cookie_at flag_at numbers_at list_at string_at vector_field tail_at head_at socket_at body_of shape_at addresses_at vector_at header_text
 lawful_a = (
   (refl, tt),
@@ -272,7 +272,7 @@ lawful_a = (
   ),
 )
 
-lawful_b : AreLawful facts_of_b (items_by it false) (start facts_of_b)
+lawful_b : AreLawful facts_of_b (items_by marked_link false) (start facts_of_b)
 unfolding hello its_trail journal_of_a journal_of_b unread_of text_of preamble_text segment_crc after_byte shifted shifted_by judge judge_first judge_later judge_epilogue size_of read_preamble bounded_at cookie_at flag_at numbers_at list_at string_at vector_field tail_at head_at socket_at body_of shape_at addresses_at vector_at header_text
 lawful_b = (
   record { unused = is_new _ _ refl refl; readable = can_be_read; by_the_tables = refl; not_opened = fails; asks_again = tt; of_trail = refl },
@@ -291,7 +291,7 @@ lawful_b = (
   ),
 )
 
-sides : (s : Bool) → IsSideOf (facts_by s) (plan_by s) (part_of it.both s)
+sides : (s : Bool) → IsSideOf (facts_by s) (plan_by s) (part_of marked_link.both s)
 unfolding journal_of_a journal_of_b its_trail
 sides true = record { lawful = lawful_a; ends = (holds, tt); trails = record { sockets = refl; each = tt } }
 sides false = record { lawful = lawful_b; ends = (holds, tt); trails = record { sockets = refl; each = (kept, tt) } }
@@ -323,20 +323,20 @@ can_be_posted =
     })
     (record { front = leb-true 1 MOST_PART refl; middle = leb-true 0 MOST_PART refl; tail = leb-true 0 MOST_PART refl })
 
-can_post : (s : Bool) → AllByRecursion CanBePosted (items_in (plan_by s) (part_of it.both s))
+can_post : (s : Bool) → AllByRecursion CanBePosted (items_in (plan_by s) (part_of marked_link.both s))
 unfolding hello journal_of_a journal_of_b
 can_post true = (can_be_posted, (tt, (tt, (tt, (tt, (tt, (tt, (tt, (tt, (tt, (tt, (tt, (tt, (tt, (tt, tt)))))))))))))))
 can_post false = (tt, (tt, (tt, (tt, (tt, tt)))))
 
-apart : IsDistinct same_end (ends_of it.both)
+apart : IsDistinct same_end (ends_of marked_link.both)
 unfolding IsDistinct journal_of_a journal_of_b
 apart = ((refl, tt), (tt, tt))
 
-seen : AllByRecursion (λ (t : TrailNow). HasAddrRanges (opener_of t.socket)) (trails_of it.both)
+seen : AllByRecursion (λ (t : TrailNow). HasAddrRanges (opener_of t.socket)) (trails_of marked_link.both)
 unfolding its_trail
 seen = (opener_fits, tt)
 
-link_is : IsLink it
+link_is : IsLink marked_link
 link_is = record {
   sides = sides;
   joined = record { posts = can_post; loose = tt; apart = apart; named = named; seen = seen; peers = λ j e. other_port j.to_ip j.to_port e };
@@ -354,7 +354,7 @@ bytes xs = record { ref_ptr = (0, 0); now = xs }
 abbrev row : SocketBytes
 row = record { socket = k; opener = record { got = bytes near_log.got; put = bytes near_log.put }; acceptor = record { got = bytes far_log.got; put = bytes far_log.put } }
 
-order_is : IsOrderOf it order
+order_is : IsOrderOf marked_link order
 unfolding order hello its_trail journal_of_a journal_of_b unread_of text_of preamble_text segment_crc after_byte shifted shifted_by judge judge_first judge_later judge_epilogue size_of read_preamble bounded_at cookie_at flag_at numbers_at list_at string_at vector_field tail_at head_at socket_at body_of shape_at addresses_at vector_at header_text
 order_is = record {
   sockets = row ∷ row ∷ [];
@@ -457,7 +457,7 @@ near_logs = record { fast = []; queued = [] }
 abbrev far_logs : Logs
 far_logs = record { fast = []; queued = heard.message 0 key 1 (cookie_of facts_of_b 1) numbered ∷ [] }
 
-are_logs : AreLogs facts_of_a facts_of_b (entries_to_a_mark it order) near_logs far_logs
+are_logs : AreLogs facts_of_a facts_of_b (entries_to_a_mark marked_link order) near_logs far_logs
 unfolding order hello its_trail journal_of_a journal_of_b unread_of text_of preamble_text segment_crc after_byte shifted shifted_by judge judge_first judge_later judge_epilogue size_of read_preamble bounded_at cookie_at flag_at numbers_at list_at string_at vector_field tail_at head_at socket_at body_of shape_at addresses_at vector_at header_text
 are_logs = record { near = λ none l. (_, refl); far = λ none l. one (is_key key l) }
   where
@@ -465,14 +465,14 @@ are_logs = record { near = λ none l. (_, refl); far = λ none l. one (is_key ke
     one true = ([], refl)
     one false = ([], refl)
 
-shown_is : observed facts_of_a facts_of_b (entries_of (order_of it order)) far_logs
+shown_is : observed facts_of_a facts_of_b (entries_of (order_of marked_link order)) far_logs
     ≡ post key hello_message ∷ accept key numbered ∷ acknowledge 1 ∷ mark ∷ reset ∷ dispatch key hello_message ∷ []
 unfolding order hello its_trail journal_of_a journal_of_b unread_of text_of preamble_text segment_crc after_byte shifted shifted_by judge judge_first judge_later judge_epilogue size_of read_preamble bounded_at cookie_at flag_at numbers_at list_at string_at vector_field tail_at head_at socket_at body_of shape_at addresses_at vector_at header_text
 shown_is = refl
 
 pub one_message : AMarkedLinkIsWoven
 one_message = record {
-  link = it;
+  link = marked_link;
   order = order;
   nodes = record { allowed = refl; near_keeps = refl; far_keeps = refl; places = apart_places; near_salt = ltb-true 5 (2 ^ 16) refl; far_salt = ltb-true 6 (2 ^ 16) refl };
   is_link = link_is;

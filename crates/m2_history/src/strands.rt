@@ -10,43 +10,42 @@ use m2_bytes::NoMemory;
 use m2_journal::Entry;
 use m2_trail::Trail;
 use m2_weave::Strand;
-use std::alloc::Global;
 
 /// Appends the strand of a half that has handed on its asks behind so many of its entries.
-pub(crate) fn add_half(
-    alloc: Global,
-    strands: &mut Vec<Strand>,
-    trail: &Trail,
-    judged_after: &[usize],
+pub(crate) fn add_half<'a>(
+    strands: &mut Vec<Strand<'a>>,
+    trail: &'a Trail,
+    judged_after: &'a [usize],
 ) -> Result<(), NoMemory>
     ensures { OnOk result (map strand_now strands.new.items
         ≡ map strand_now strands.old.items ++ strand_of (record (trail_now trail.now) { judged_after = judged_after.now }) ∷ []) }
 {
-    let strand = Strand::of_half(alloc, trail.socket, trail.entries.as_slice(), judged_after)?;
-    strands.push(strand)?;
+    strands.push(Strand::Half {
+        socket: trail.socket,
+        entries: trail.entries.as_slice(),
+        judged_after,
+    })?;
     Ok(())
 }
 
 /// Appends the strands of the halves that a side took.
-fn add_halves(alloc: Global, strands: &mut Vec<Strand>, trails: &[Trail]) -> Result<(), NoMemory>
+fn add_halves<'a>(strands: &mut Vec<Strand<'a>>, trails: &'a [Trail]) -> Result<(), NoMemory>
     ensures { OnOk result (map strand_now strands.new.items ≡ map strand_now strands.old.items ++ map strand_of (map trail_now trails.now)) }
 {
     for trail in trails {
-        add_half(alloc, strands, trail, trail.judged_after.as_slice())?;
+        add_half(strands, trail, trail.judged_after.as_slice())?;
     }
     Ok(())
 }
 
 /// Appends the strands of a side.
-pub(crate) fn add_strands(
-    alloc: Global,
-    strands: &mut Vec<Strand>,
-    journal: &[Entry],
-    trails: &[Trail],
+pub(crate) fn add_strands<'a>(
+    strands: &mut Vec<Strand<'a>>,
+    journal: &'a [Entry],
+    trails: &'a [Trail],
 ) -> Result<(), NoMemory>
     ensures { OnOk result (map strand_now strands.new.items ≡ map strand_now strands.old.items ++ strands_of_side journal.now (map trail_now trails.now)) }
 {
-    let strand = Strand::of_journal(alloc, journal)?;
-    strands.push(strand)?;
-    add_halves(alloc, strands, trails)
+    strands.push(Strand::Journal { entries: journal })?;
+    add_halves(strands, trails)
 }

@@ -18,18 +18,17 @@ use std::alloc::Global;
 
 /// Appends the strand of a half that neither side took, where it is one of the link: of its asks those that
 /// the two journals have judged.
-fn add_loose_strand<E: End>(
-    alloc: Global,
-    strands: &mut Vec<Strand>,
+fn add_loose_strand<'a, E: End>(
+    strands: &mut Vec<Strand<'a>>,
     known: &KnownSockets<'_>,
-    half: &Loose<E>,
+    half: &'a Loose<E>,
 ) -> Result<(), NoMemory>
     ensures { OnOk result (map strand_now strands.new.items ≡ map strand_now strands.old.items ++ loose_strand known.now.a known.now.b half.now) }
 {
     if known.has(&half.id()) {
         let trail = half.trail();
         let asks = first(trail.judged_after.as_slice(), known.judged(&trail.socket));
-        add_half(alloc, strands, trail, asks)
+        add_half(strands, trail, asks)
     } else {
         Ok(())
     }
@@ -44,16 +43,15 @@ fn first(numbers: &[usize], most: u64) -> &[usize]
 }
 
 /// Appends those of all such halves.
-fn add_loose_strands<E: End>(
-    alloc: Global,
-    strands: &mut Vec<Strand>,
+fn add_loose_strands<'a, E: End>(
+    strands: &mut Vec<Strand<'a>>,
     known: &KnownSockets<'_>,
-    loose: &[Loose<E>],
+    loose: &'a [Loose<E>],
 ) -> Result<(), NoMemory>
     ensures { OnOk result (map strand_now strands.new.items ≡ map strand_now strands.old.items ++ loose_strands known.now.a known.now.b loose.now) }
 {
     for half in loose {
-        add_loose_strand(alloc, strands, known, half)?;
+        add_loose_strand(strands, known, half)?;
     }
     Ok(())
 }
@@ -88,20 +86,20 @@ fn add_loose_ends<'a, E: End>(
 }
 
 /// All strands.
-fn strands_of<E: End>(
+fn strands_of<'a, E: End>(
     alloc: Global,
-    a: &Parts<'_, E>,
-    b: &Parts<'_, E>,
+    a: &Parts<'a, E>,
+    b: &Parts<'a, E>,
     known: &KnownSockets<'_>,
-    loose: &LooseList<E>,
-) -> Result<Vec<Strand>, NoMemory>
+    loose: &'a LooseList<E>,
+) -> Result<Vec<Strand<'a>>, NoMemory>
     requires known { known.now ≡ record { a = a.now.journal; b = b.now.journal } }
     ensures { IfOk result (λ v. map strand_now v.items ≡ strands_of (record { a = a.now; b = b.now; loose = loose.now.items })) }
 {
     let mut strands = Vec::new(alloc);
-    add_strands(alloc, &mut strands, a.journal(), a.trails())?;
-    add_strands(alloc, &mut strands, b.journal(), b.trails())?;
-    add_loose_strands(alloc, &mut strands, known, loose.as_slice())?;
+    add_strands(&mut strands, a.journal(), a.trails())?;
+    add_strands(&mut strands, b.journal(), b.trails())?;
+    add_loose_strands(&mut strands, known, loose.as_slice())?;
     Ok(strands)
 }
 
@@ -126,7 +124,7 @@ fn ends_of<'a, E: End>(
 /// What comes of weaving strands with the bytes of these sockets.
 fn weave_rows(
     alloc: Global,
-    strands: &[Strand],
+    strands: &[Strand<'_>],
     rows: &[SocketBytes<'_>],
 ) -> Result<History, PartsFault>
     ensures { ComesOf result (map strand_now strands.now) rows.now }
@@ -167,7 +165,7 @@ fn gather<'a, E: End>(
     a: &Parts<'a, E>,
     b: &Parts<'a, E>,
     loose: &'a LooseList<E>,
-) -> Result<(Vec<Strand>, Vec<EndPart<'a>>), NoMemory>
+) -> Result<(Vec<Strand<'a>>, Vec<EndPart<'a>>), NoMemory>
     ensures strands { IfOk result (λ v. map strand_now v.0.items ≡ strands_of (record { a = a.now; b = b.now; loose = loose.now.items })) }
     ensures ends { IfOk result (λ v. map end_now v.1.items ≡ ends_of (record { a = a.now; b = b.now; loose = loose.now.items })) }
 {

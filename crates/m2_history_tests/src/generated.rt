@@ -175,8 +175,12 @@ fn is_found(alloc: Global, pair: &Pair, changed: u32) -> Result<bool, NoMemory> 
         },
     }];
     let table = SocketTable::of(alloc, &sockets)?;
-    let acceptor = Strand::of_journal(alloc, pair.acceptor.as_slice())?;
-    let opener = Strand::of_journal(alloc, pair.opener.as_slice())?;
+    let acceptor = Strand::Journal {
+        entries: pair.acceptor.as_slice(),
+    };
+    let opener = Strand::Journal {
+        entries: pair.opener.as_slice(),
+    };
     let strands = Vec::from_array(alloc, [acceptor, opener])?;
     if !are_named(&strands, &table) {
         return Ok(false);

@@ -86,7 +86,7 @@ fn bytes<'a>(
 /// The order of these strands; none where a socket isn't in the table.
 fn woven(
     alloc: Global,
-    strands: &[Strand],
+    strands: &[Strand<'_>],
     sockets: &[SocketBytes<'_>],
 ) -> Result<Option<WovenOrder>, NoMemory> {
     let table = SocketTable::of(alloc, sockets)?;
@@ -116,25 +116,39 @@ fn stops(found: &Option<WovenOrder>, at: &[usize]) -> bool {
     }
 }
 
-/// One side has this journal. The other side's half reads an ask in two pieces, hands it on behind so many
-/// entries and writes one byte; its journal judges the ask and writes two more. The strands are the
-/// opener's journal, the other journal and the half.
-fn pair(alloc: Global, near: &[Entry], judged_after: &[usize]) -> Result<Vec<Strand>, NoMemory> {
-    let near = Strand::of_journal(alloc, near)?;
-    let far = Strand::of_journal(alloc, &[judged(1), wrote(1, 2)])?;
-    let half = Strand::of_half(
-        alloc,
-        socket(1),
-        &[read(1, 2), read(1, 2), wrote(1, 1)],
+/// The other side's half reads an ask in two pieces and writes one byte.
+fn half() -> [Entry; 3] {
+    [read(1, 2), read(1, 2), wrote(1, 1)]
+}
+
+/// Its journal judges the ask and writes two more.
+fn far() -> [Entry; 2] {
+    [judged(1), wrote(1, 2)]
+}
+
+/// The strands of the opener's journal, the other journal and the half, which hands on its ask behind so
+/// many entries.
+fn pair<'a>(
+    alloc: Global,
+    near: &'a [Entry],
+    far: &'a [Entry],
+    half: &'a [Entry],
+    judged_after: &'a [usize],
+) -> Result<Vec<Strand<'a>>, NoMemory> {
+    let near = Strand::Journal { entries: near };
+    let far = Strand::Journal { entries: far };
+    let half = Strand::Half {
+        socket: socket(1),
+        entries: half,
         judged_after,
-    )?;
+    };
     Ok(Vec::from_array(alloc, [near, far, half])?)
 }
 
 /// What stops the order behind so many items of each strand, if there are as many strands.
 fn stop(
     alloc: Global,
-    strands: &[Strand],
+    strands: &[Strand<'_>],
     sockets: &[SocketBytes<'_>],
     at: &[usize],
 ) -> Result<Option<Unfit>, NoMemory> {
@@ -162,7 +176,9 @@ fn is_at(found: Result<Option<Unfit>, NoMemory>, place: u64, why: Why) -> bool {
 #[test]
 fn a_pair_is_woven_in_the_order_of_its_bytes(rt: HostRuntime) -> Result<(), NoMemory> {
     let alloc = rt.alloc();
-    let strands = pair(alloc, &[opened(1), wrote(1, 4), read(1, 3)], &[2])?;
+    let near = [opened(1), wrote(1, 4), read(1, 3)];
+    let (far, half) = (far(), half());
+    let strands = pair(alloc, &near, &far, &half, &[2])?;
     let sockets = [bytes(1, (&[7, 8, 9], &[1, 2, 3, 4]), (&[1, 2, 3, 4], &[7, 8, 9]))];
     let found = woven(alloc, &strands, &sockets)?;
     assert!(rt; is_whole(&found, &[0, 0, 2, 2, 2, 1, 2, 1, 0]));
@@ -173,7 +189,9 @@ fn a_pair_is_woven_in_the_order_of_its_bytes(rt: HostRuntime) -> Result<(), NoMe
 #[test]
 fn a_changed_byte_stops_it_before_its_read(rt: HostRuntime) -> Result<(), NoMemory> {
     let alloc = rt.alloc();
-    let strands = pair(alloc, &[opened(1), wrote(1, 4)], &[2])?;
+    let near = [opened(1), wrote(1, 4)];
+    let (far, half) = (far(), half());
+    let strands = pair(alloc, &near, &far, &half, &[2])?;
     let sockets = [bytes(1, (&[7, 8, 9], &[1, 2, 3, 4]), (&[1, 2, 9, 4], &[7, 8, 9]))];
     let found = woven(alloc, &strands, &sockets)?;
     assert!(rt; stops(&found, &[2, 0, 1]));
@@ -185,7 +203,9 @@ fn a_changed_byte_stops_it_before_its_read(rt: HostRuntime) -> Result<(), NoMemo
 #[test]
 fn a_byte_that_was_not_written_stops_it_before_its_read(rt: HostRuntime) -> Result<(), NoMemory> {
     let alloc = rt.alloc();
-    let strands = pair(alloc, &[opened(1), wrote(1, 3)], &[2])?;
+    let near = [opened(1), wrote(1, 3)];
+    let (far, half) = (far(), half());
+    let strands = pair(alloc, &near, &far, &half, &[2])?;
     let sockets = [bytes(1, (&[7, 8, 9], &[1, 2, 3]), (&[1, 2, 3, 4], &[7, 8, 9]))];
     let found = woven(alloc, &strands, &sockets)?;
     assert!(rt; stops(&found, &[2, 0, 1]));
@@ -197,7 +217,9 @@ fn a_byte_that_was_not_written_stops_it_before_its_read(rt: HostRuntime) -> Resu
 #[test]
 fn a_judgement_without_its_ask_stops_it(rt: HostRuntime) -> Result<(), NoMemory> {
     let alloc = rt.alloc();
-    let strands = pair(alloc, &[opened(1), wrote(1, 4), read(1, 3)], &[])?;
+    let near = [opened(1), wrote(1, 4), read(1, 3)];
+    let (far, half) = (far(), half());
+    let strands = pair(alloc, &near, &far, &half, &[])?;
     let sockets = [bytes(1, (&[7, 8, 9], &[1, 2, 3, 4]), (&[1, 2, 3, 4], &[7, 8, 9]))];
     let found = woven(alloc, &strands, &sockets)?;
     assert!(rt; stops(&found, &[2, 0, 3]));
@@ -207,20 +229,29 @@ fn a_judgement_without_its_ask_stops_it(rt: HostRuntime) -> Result<(), NoMemory>
 #[test]
 fn a_fault_and_a_reconnect_are_woven(rt: HostRuntime) -> Result<(), NoMemory> {
     let alloc = rt.alloc();
-    let near = Strand::of_journal(
-        alloc,
-        &[
-            opened(1),
-            wrote(1, 4),
-            closed(1),
-            opened(2),
-            wrote(2, 2),
-            read(2, 1),
-        ],
-    )?;
-    let far = Strand::of_journal(alloc, &[judged(2), wrote(2, 1)])?;
-    let first = Strand::of_half(alloc, socket(1), &[read(1, 3), closed(1)], &[])?;
-    let second = Strand::of_half(alloc, socket(2), &[read(2, 2)], &[1])?;
+    let near = [
+        opened(1),
+        wrote(1, 4),
+        closed(1),
+        opened(2),
+        wrote(2, 2),
+        read(2, 1),
+    ];
+    let far = [judged(2), wrote(2, 1)];
+    let first = [read(1, 3), closed(1)];
+    let second = [read(2, 2)];
+    let near = Strand::Journal { entries: &near };
+    let far = Strand::Journal { entries: &far };
+    let first = Strand::Half {
+        socket: socket(1),
+        entries: &first,
+        judged_after: &[],
+    };
+    let second = Strand::Half {
+        socket: socket(2),
+        entries: &second,
+        judged_after: &[1],
+    };
     let strands = Vec::from_array(alloc, [near, far, first, second])?;
     let found = woven(
         alloc,
@@ -241,8 +272,8 @@ fn a_fault_and_a_reconnect_are_woven(rt: HostRuntime) -> Result<(), NoMemory> {
 #[test]
 fn a_socket_that_is_not_in_the_table_is_told(rt: HostRuntime) -> Result<(), NoMemory> {
     let alloc = rt.alloc();
-    let near = Strand::of_journal(alloc, &[wrote(1, 1)])?;
-    let strands = Vec::from_array(alloc, [near])?;
+    let near = [wrote(1, 1)];
+    let strands = Vec::from_array(alloc, [Strand::Journal { entries: &near }])?;
     assert!(rt; !are_named(&strands, &SocketTable::of(alloc, &[])?));
     Ok(())
 }

@@ -1,7 +1,6 @@
 -- The feed is a socket that was opened, or taken by an answer; no socket was spent twice, nor the feed.
 use Rattle.std.proofs.Common.{◌≡◌, ℕ, ◌+◌, Bool, true, false, not, if◌then◌else◌, List, [], ◌∷◌, ◌++◌, Option, Some, None, refl, sym, ap, subst, ◌∙◌}
 use Rattle.std.specs.List.{AllByRecursion, IsDistinct}
-use Rattle.m2_policy.proofs.m2_addr.Addresses.{all_push}
 use Rattle.m2_session.specs.declared.ask.AskFacts.{AskFacts}
 use Rattle.m2_fabric.specs.declared.socket.SocketId.{SocketId}
 use Rattle.m2_fabric.specs.Sockets.{is_among, same_socket}
@@ -32,6 +31,7 @@ use Rattle.m2_journal.specs.Steps.{accepts, after, answers, breaks, closes, comp
 use Rattle.m2_journal.proofs.Sockets.{Came, CameSo, Grows, Names, all-kept, all-weaker, among-kept, came_so, distinct-kept, distinct-none, distinct-push, fresh, judgement, more_so, names_of, not_judged, not_taken, taken-append, taken-last}
 use Rattle.m2_fabric.proofs.Sockets.{among_last, among_front}
 use Rattle.m2_journal.proofs.SameFeed.{SameFeed, goes_on-same, hears-same, takes_answer_if-same}
+use Rattle.m2_bytes.proofs.m2_lemmas.Lists.{all_last}
 
 -- Of those that came so, where the record's names are now these: the feed came, in its own way; so did all that was spent,
 -- which is nothing twice and not the feed.
@@ -68,7 +68,7 @@ closes-holds : (came now : Names) (s : State) → Holds came now s → Holds cam
 closes-holds came now s h = at s.feed h
   where
     at : (o : Option Feed) → HoldsOn came now o s → Holds came now (closes (record s { feed = o }))
-    at (Some d) g = (g.0, tt, all_push (CameSo came) s.spent d.socket g.2 (came_so came d.socket d.opened g.1), distinct-push s.spent d.socket g.3 g.4, tt)
+    at (Some d) g = (g.0, tt, all_last (CameSo came) s.spent d.socket g.2 (came_so came d.socket d.opened g.1), distinct-push s.spent d.socket g.3 g.4, tt)
     at None g = g
 
 sets_back-holds : (came now : Names) (s : State) → Holds came now s → Holds came now (sets_back s)

@@ -1,7 +1,6 @@
 -- Lists of sockets, and which of them were opened or taken by an answer.
 use Rattle.std.proofs.Common.{◌≡◌, Bool, true, false, ◌&&◌, ◌||◌, ◌⊎◌, inl, inr, ◌==◌, if◌then◌else◌, List, [], ◌∷◌, ◌++◌, map, refl, sym, ap, ◌∙◌}
 use Rattle.std.specs.List.{AllByRecursion, IsDistinct, filter}
-use Rattle.m2_policy.proofs.m2_addr.Addresses.{all_push}
 use Rattle.m2_fabric.specs.declared.socket.SocketId.{SocketId}
 use Rattle.m2_fabric.specs.Sockets.{is_among, same_socket}
 use Rattle.m2_session.specs.declared.answer.Answer.{Answer}
@@ -12,6 +11,7 @@ use Rattle.m2_journal.specs.Laws.{taken_among}
 use Rattle.m2_journal.specs.Lawful.{judged_on, may_ask_again}
 use Rattle.m2_journal.specs.State.{Judgement, State}
 use Rattle.m2_bytes.proofs.m2_lemmas.Booleans.{neither_of_or, false_isnt_true}
+use Rattle.m2_bytes.proofs.m2_lemmas.Lists.{all_last}
 use Rattle.m2_fabric.proofs.Sockets.{same_equal, apart_turned, among_last}
 
 -- ---- among
@@ -58,7 +58,7 @@ unfolding IsDistinct
 distinct-push [] k h none = (tt, tt)
 distinct-push (x ∷ xs) k h none =
     let not_these = neither_of_or (same_socket k x) (is_among k xs) none in
-    (all_push (λ y. same_socket x y ≡ false) xs k h.0 (apart_turned k x not_these.0), distinct-push xs k h.1 not_these.1)
+    (all_last (λ y. same_socket x y ≡ false) xs k h.0 (apart_turned k x not_these.0), distinct-push xs k h.1 not_these.1)
 
 one_kept : (b : Bool) (xs : List SocketId) (x : SocketId) → AllByRecursion (λ y. same_socket x y ≡ false) xs →
     IsDistinct same_socket xs → IsDistinct same_socket (if b then x ∷ xs else xs)

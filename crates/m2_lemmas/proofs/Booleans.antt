@@ -8,6 +8,9 @@ and_false false = refl
 pub from_false_true : {X : Type 0} → false ≡ true → X
 from_false_true e = absurd (true≢false (sym e))
 
+pub from_true_false : {X : Type 0} → true ≡ false → X
+from_true_false e = absurd (true≢false e)
+
 pub if_false : {X : Type 0} (b : Bool) (x y : X) → b ≡ false → (if b then x else y) ≡ y
 if_false true x y e = absurd (from_false_true (sym e))
 if_false false x y e = refl

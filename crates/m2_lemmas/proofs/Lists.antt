@@ -1,9 +1,11 @@
 -- What the library lacks of lists.
-use Rattle.std.proofs.Common.{List, [], ◌∷◌, ◌++◌, ◌≡◌, refl, true, length, arith, map, Some, None, is_some, ap, ℕ, zero, suc, slice_get, slice_set, take, drop, Bool, false, sym, ◌∙◌, subst, ◌<◌}
+use Rattle.std.proofs.Common.{List, [], ◌∷◌, ◌++◌, ◌≡◌, refl, true, length, arith, map, Some, ap, ℕ, zero, suc, slice_get, slice_set, take, drop, Bool, false, sym, ◌∙◌, subst, ◌<◌, if◌then◌else◌, reverse}
 use Rattle.std.proofs.lemmas.Bool.{eqb-true}
 use Rattle.std.specs.List.{AllByRecursion, filter}
 use Rattle.std.specs.Prelude.{◌==◌, slice_index}
-use Rattle.m2_lemmas.proofs.Booleans.{false_isnt_true, from_false_true}
+use Rattle.std.proofs.lemmas.List.{reverse-append}
+use Rattle.m2_lemmas.proofs.Booleans.{from_false_true}
+use Rattle.m2_lemmas.proofs.Options.{none_isnt_some}
 
 pub all_front : {X : Type 0} (P : X → Type 0) (xs ys : List X) → AllByRecursion P (xs ++ ys) → AllByRecursion P xs
 all_front P [] ys h = tt
@@ -41,11 +43,8 @@ pub all_last : {X : Type 0} (P : X → Type 0) (xs : List X) (x : X) → AllByRe
 all_last P [] x all p = (p, tt)
 all_last P (y ∷ ys) x all p = (all.0, all_last P ys x all.1 p)
 
-nothing : {T : Type 0} (x : T) → None ≡ Some x → ⊥
-nothing x e = false_isnt_true (ap is_some e)
-
 pub set_keeps_length : {T : Type 0} (xs : List T) (n : ℕ) (x y : T) → slice_get xs n ≡ Some x → length (slice_set xs n y) ≡ length xs
-set_keeps_length [] n x y was = absurd (nothing x was)
+set_keeps_length [] n x y was = absurd (none_isnt_some x was)
 set_keeps_length (z ∷ zs) zero x y was = refl
 set_keeps_length (z ∷ zs) (suc n) x y was = ap (λ i. suc i) (set_keeps_length zs n x y was)
 
@@ -99,3 +98,21 @@ pub index_in_range : (xs : List ℕ) (k n : ℕ) → n < slice_index xs k → k 
 index_in_range [] k n h = omega (arith, h)
 index_in_range (x ∷ xs) zero n h = omega arith
 index_in_range (x ∷ xs) (suc k) n h = let r : k < length xs = index_in_range xs k n h in omega arith
+
+pub map_same : {X Y : Type 0} (f g : X → Y) → ((x : X) → f x ≡ g x) → (xs : List X) → map f xs ≡ map g xs
+map_same f g so [] = refl
+map_same f g so (x ∷ xs) = ap (λ y. y ∷ map f xs) (so x) ∙ ap (λ ys. g x ∷ ys) (map_same f g so xs)
+
+pub all_filter : {X : Type 0} (P : X → Type 0) (test : X → Bool) (xs : List X) → AllByRecursion P xs → AllByRecursion P (filter test xs)
+all_filter P test [] all = tt
+all_filter P test (x ∷ xs) all = at (test x) (all_filter P test xs all.1)
+  where
+    at : (b : Bool) → AllByRecursion P (filter test xs) → AllByRecursion P (if b then x ∷ filter test xs else filter test xs)
+    at true rest = (all.0, rest)
+    at false rest = rest
+
+pub all_reverse : {X : Type 0} (P : X → Type 0) (xs : List X) → AllByRecursion P xs → AllByRecursion P (reverse xs)
+all_reverse P [] all = tt
+all_reverse P (x ∷ xs) all =
+    let e : reverse (x ∷ xs) ≡ reverse xs ++ x ∷ [] = reverse-append (x ∷ []) xs in
+    subst (AllByRecursion P) (sym e) (all_last P (reverse xs) x (all_reverse P xs all.1) all.0)

@@ -1,6 +1,7 @@
 -- What the library lacks of numbers.
 use Rattle.std.proofs.Common.{◌≡◌, ◌≢◌, ℕ, true, not, eqb, refl, ◌+◌, Bool, false, if◌then◌else◌, arith, suc, ◌||◌, ap, ◌==◌, sym, zero, ◌<◌, ◌≤◌, ◌⊎◌, inl, inr}
 use Rattle.std.proofs.lemmas.Bool.{eq-eqb, ne_eqb, eqb-false}
+use Rattle.std.proofs.lemmas.Bool.Decides.{nat_tests}
 use Rattle.m2_lemmas.proofs.Booleans.{from_false_true}
 
 pub tested_isnt_zero : (n : ℕ) → not (eqb n 0) ≡ true → n ≢ 0
@@ -19,6 +20,9 @@ past_at false rest n m e h = ap suc (h e)
 
 pub unlike_turned : (a b : ℕ) → (a == b) ≡ false → (b == a) ≡ false
 unlike_turned a b h = ne_eqb b a (λ e. eqb-false a b h (sym e))
+
+pub test_turned : (m n : ℕ) → (m == n) ≡ (n == m)
+test_turned m n = grind (arith, nat_tests)
 
 pub same_number : (a b : ℕ) → a ≡ b → (a == b) ≡ true
 same_number a b e = grind (arith, e)

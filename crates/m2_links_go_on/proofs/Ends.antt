@@ -12,14 +12,7 @@ use Rattle.m2_history.specs.WovenLink.{same_end}
 use Rattle.m2_links_go_on.proofs.Going.{LaterEnd}
 use Rattle.m2_fabric.proofs.m2_lemmas.Booleans.{both_of_and}
 use Rattle.m2_history.proofs.Bytes.{same_end_turned, own_end}
-use Rattle.m2_fabric.proofs.Sockets.{apart_turned, same_equal, same_refl}
-
-socket_turned : (j k : SocketId) → same_socket j k ≡ same_socket k j
-socket_turned j k = at (same_socket k j) refl
-  where
-    at : (b : Bool) → same_socket k j ≡ b → same_socket j k ≡ same_socket k j
-    at true h = ap (same_socket j) (same_equal k j h) ∙ same_refl j ∙ sym h
-    at false h = apart_turned k j h ∙ sym h
+use Rattle.m2_fabric.proofs.Sockets.{same_equal}
 
 -- ---- the bytes of an end that is there
 

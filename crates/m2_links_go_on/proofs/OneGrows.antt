@@ -14,13 +14,10 @@ use Rattle.m2_growth.specs.Holding.{AreOwn, Grows, HaveTheirHalves, all_ends}
 use Rattle.m2_growth.proofs.Ends.{to_same}
 use Rattle.m2_links_go_on.specs.Center.{holding_of}
 use Rattle.m2_links_go_on.specs.Cluster.{GrowsInMemory}
-use Rattle.m2_fabric.proofs.m2_lemmas.Options.{none_isnt_some, mapped_is_some}
+use Rattle.m2_fabric.proofs.m2_lemmas.Options.{none_isnt_some, mapped_is_some, some_same}
 use Rattle.m2_fabric.proofs.m2_lemmas.Lists.{set_keeps_length}
 
 -- ---- one of a list is set
-
-same_one : {T : Type 0} (x y : T) → Some x ≡ Some y → x ≡ y
-same_one x y e = cc
 
 -- what holds of what was there and what is there now, of the one and of all others
 of_set : {T : Type 0} (P : Option T → Option T → Type 0) (xs : List T) (n : ℕ) (x y : T) → slice_get xs n ≡ Some x → P (Some x) (Some y) → ((o : Option T) → P o o) →
@@ -34,7 +31,7 @@ of_set P (z ∷ zs) (suc n) x y was this others (suc k) = of_set P zs n x y was 
 -- what holds of all
 all_set : {T : Type 0} (P : T → Type 0) (xs : List T) (n : ℕ) (x y : T) → slice_get xs n ≡ Some x → (P x → P y) → AllByRecursion P xs → AllByRecursion P (slice_set xs n y)
 all_set P [] n x y was this all = absurd (none_isnt_some x was)
-all_set P (z ∷ zs) zero x y was this all = (this (subst P (same_one z x was) all.0), all.1)
+all_set P (z ∷ zs) zero x y was this all = (this (subst P (some_same z x was) all.0), all.1)
 all_set P (z ∷ zs) (suc n) x y was this all = (all.0, all_set P zs n x y was this all.1)
 
 -- ---- one end

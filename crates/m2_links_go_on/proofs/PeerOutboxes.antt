@@ -1,5 +1,5 @@
 -- Of which peers calls are, and what is on its way to the dispatchers: whatever is put there is of a peer that is allowed.
-use Rattle.std.proofs.Common.{◌≡◌, inl, inr, ℕ, Bool, true, false, if◌then◌else◌, List, [], ◌∷◌, ◌++◌, map, filter, Option, Some, None, IfSome, refl, sym, subst}
+use Rattle.std.proofs.Common.{◌≡◌, inl, inr, ℕ, List, [], ◌∷◌, ◌++◌, map, Option, Some, None, IfSome, refl, sym, subst}
 use Rattle.std.specs.List.{AllByRecursion}
 use Rattle.m2_history.specs.m2_channel.Handing as handing
 use Rattle.m2_dispatch.specs.Heard.{Heard, peer_of}
@@ -17,21 +17,13 @@ use Rattle.m2_cluster.specs.m2_center.m2_turn.declared.mailing.Mailed.{Mailed}
 use Rattle.m2_cluster.specs.m2_center.m2_turn.declared.mailing.Mailed.TheVariants as mailed
 use Rattle.m2_cluster.specs.m2_center.m2_turn.Mailing.{DispatchesSome, Mailing, Mails, MailsSome, PutsSome, Queueing, after_puts, heard_at_puts}
 use Rattle.m2_cluster.specs.m2_center.m2_turn.Outbox.{Dispatches, DispatchesOr, OutboxNow, Puts, PutsLetter, Retries, RetriesFor, in_mail}
-use Rattle.m2_fabric.proofs.m2_lemmas.Lists.{all_append}
+use Rattle.m2_fabric.proofs.m2_lemmas.Lists.{all_append, all_filter}
 
 -- ---- lists
 
 pub all_parted : {X : Type 0} (P : X → Type 0) (xs ys : List X) → AllByRecursion P (xs ++ ys) → AllByRecursion P xs × AllByRecursion P ys
 all_parted P [] ys all = (tt, all)
 all_parted P (x ∷ xs) ys all = let rest = all_parted P xs ys all.1 in ((all.0, rest.0), rest.1)
-
-all_filtered : {X : Type 0} (P : X → Type 0) (test : X → Bool) (xs : List X) → AllByRecursion P xs → AllByRecursion P (filter test xs)
-all_filtered P test [] all = tt
-all_filtered P test (x ∷ xs) all = at (test x) (all_filtered P test xs all.1)
-  where
-    at : (b : Bool) → AllByRecursion P (filter test xs) → AllByRecursion P (if b then x ∷ filter test xs else filter test xs)
-    at true rest = (all.0, rest)
-    at false rest = rest
 
 -- ---- where parcels go
 
@@ -101,7 +93,7 @@ module _ {D : Type 0} (heard : D → List Heard) (Allowed : ℕ → Type 0) wher
 
   one_waits : (x : Parcel) (waiting : List Letter) → IsParcel x → AllByRecursion IsLetter waiting → AllByRecursion IsLetter (after_put x waiting)
   one_waits (parcel.Letter l) waiting one all = all-put_behind letter_priority IsLetter l waiting one all
-  one_waits (parcel.Discard peer) waiting one all = all_filtered IsLetter _ waiting all
+  one_waits (parcel.Discard peer) waiting one all = all_filter IsLetter _ waiting all
   one_waits (parcel.RemoteReset peer) waiting one all = all
 
   all_wait : (xs : List Parcel) (waiting : List Letter) → AllByRecursion IsParcel xs → AllByRecursion IsLetter waiting →

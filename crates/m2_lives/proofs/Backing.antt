@@ -2,7 +2,7 @@
 use Rattle.std.proofs.Common.{◌≡◌, ℕ, suc, ◌+◌, ◌<◌, ◌≤◌, inl, inr, Bool, true, false, ◌==◌, if◌then◌else◌, List, [], ◌∷◌, ◌++◌, length, length-append, map, Some, refl, sym, ap, subst, ◌∙◌, arith, append_assoc}
 use Rattle.std.specs.Prelude.{slice_get}
 use Rattle.std.specs.List.{filter}
-use Rattle.std.proofs.lemmas.List.{map-append}
+use Rattle.std.proofs.lemmas.List.{length-map, map-append}
 use Rattle.std.proofs.lemmas.List.Elements.{filter-append}
 use Rattle.std.proofs.lemmas.Option.{slice_get_within}
 use Rattle.m2_channel.specs.Channel.{KeyedMessage, of_key}
@@ -23,7 +23,7 @@ use Rattle.m2_never_reset.proofs.Posted.{has_priority}
 use Rattle.m2_lives.specs.Lives.{SendingLife, Has}
 use Rattle.m2_lives.specs.ObservedLaws.{NumberedLife}
 use Rattle.m2_lives.specs.ObservedRun.{count_of_key}
-use Rattle.m2_lives.proofs.Noting.{get_more, length_map}
+use Rattle.m2_lives.proofs.Noting.{get_more}
 
 -- ---- lists
 
@@ -50,7 +50,7 @@ key_unnumbered g key (m ∷ ms) = at (is_key (key_of g m) key) (key_unnumbered g
     at false more = more
 
 pub count_unnumbered : (g : SideFacts) (key : Key) (ms : List Content) → count_of_key g key (map unnumbered ms) ≡ count_of_key g key ms
-count_unnumbered g key ms = ap length (key_unnumbered g key ms) ∙ length_map unnumbered (orders.of_key g key ms)
+count_unnumbered g key ms = ap length (key_unnumbered g key ms) ∙ length-map (orders.of_key g key ms) unnumbered
 
 pub count-append : (g : SideFacts) (key : Key) (xs ys : List Content) → count_of_key g key (xs ++ ys) ≡ count_of_key g key xs + count_of_key g key ys
 count-append g key xs ys = ap length (key-append g key xs ys) ∙ length-append (orders.of_key g key xs) (orders.of_key g key ys)
@@ -160,7 +160,7 @@ module _ (law : EachPriorityKeepsItsOrder) (g : SideFacts) (keeps : Bool) (h : H
       whole key = ap (of_key key) is ∙ all_of_key key
 
       starts : (key : Key) → s.start key ≡ length (map unnumbered (front key))
-      starts key = start key ∙ sym (length_map unnumbered (front key) ∙ length-append (orders.of_key g key earlier) (orders.of_key g key h.dropped))
+      starts key = start key ∙ sym (length-map (front key) unnumbered ∙ length-append (orders.of_key g key earlier) (orders.of_key g key h.dropped))
 
       same : (key : Key) (i : ℕ) (m : Content) → slice_get (orders.of_key g key (map unnumbered h.numbered)) i ≡ Some m → slice_get (of_key key posted) (s.start key + i) ≡ Some m
       same key i m e =

@@ -1,7 +1,7 @@
 -- Along an order of two lossless journals that fits, what the entries show are steps of the channel with lives.
 use Rattle.std.proofs.Common.{◌≡◌, ◌≢◌, ℕ, zero, suc, ◌-◌, ◌<◌, ◌≤◌, ◌⊎◌, inl, inr, max, Bool, true, false, not, if◌then◌else◌, List, [], ◌∷◌, ◌++◌, length, length-append, map, take, drop, Option, Some, None, refl, sym, ap, subst, ◌∙◌, arith, append-nil, append_assoc}
 use Rattle.std.specs.List.{AllByRecursion}
-use Rattle.std.proofs.lemmas.List.{map-append}
+use Rattle.std.proofs.lemmas.List.{length-map, map-append}
 use Rattle.m2_bytes_fit.proofs.Lists.{cons_is_some}
 use Rattle.m2_channel.proofs.Through.{brings_one}
 use Rattle.m2_channel.specs.Channel.{KeyedMessage, keyed}
@@ -43,7 +43,7 @@ use Rattle.m2_lives.proofs.Keeping.{Both, IsInTurn, Known, NearStep, Point, at_s
 use Rattle.m2_lives.proofs.Ledger.{Ledger, contents, count, lives, names}
 use Rattle.m2_lives.proofs.Moves.{view}
 use Rattle.m2_lives.proofs.Named.{life_of, named_by}
-use Rattle.m2_lives.proofs.Noting.{length_map, of_its_life, of_life_more}
+use Rattle.m2_lives.proofs.Noting.{of_its_life, of_life_more}
 use Rattle.m2_lives.proofs.Runs.{receiving_name}
 use Rattle.m2_lives.proofs.Showing.{Accepts, Course, Leads, Shows, accept_leads, ack_leads, last_is_new, leads_append, leads_none, mark_leads, post_leads, receiving_leads, reset_leads, said_in, sending_anew, sending_leads}
 use Rattle.m2_lives.proofs.Standing.{Stands}
@@ -144,8 +144,8 @@ first_short first all (more, e) = let s = ap length e in let l = length-append f
 base_fits : (f g : SideFacts) (a b : State) (x y : Ledger) → Point f g a b x y → a.out.queue.base ≤ length a.out.numbered
 base_fits f g a b x y p =
     let few = first_short (contents a.life y) (map unnumbered a.out.numbered) (current_first f g a b x y p) in
-    let same = length_map unnumbered a.out.numbered in
-    let told = length_map (λ (m : KeyedMessage). m.message) (of_life a.life y.accepted) in
+    let same = length-map a.out.numbered unnumbered in
+    let told = length-map (of_life a.life y.accepted) (λ (m : KeyedMessage). m.message) in
     let base = p.near.base in
     omega (arith, few, same, told, base)
 
@@ -293,12 +293,12 @@ module _ (laws : Laws) (f g : SideFacts) (both : Both f g) (a b : State) (x y : 
       all = map unnumbered a.out.numbered
 
       few : n ≤ length (contents a.life y)
-      few = let told = length_map (λ (m : KeyedMessage). m.message) (of_life a.life y.accepted) in let l = within.1 in omega (arith, told, l)
+      few = let told = length-map (of_life a.life y.accepted) (λ (m : KeyedMessage). m.message) in let l = within.1 in omega (arith, told, l)
 
       fits : n ≤ length a.out.numbered
       fits =
           let l = first_short (contents a.life y) all (current_first f g a b x y p) in
-          let same = length_map unnumbered a.out.numbered in
+          let same = length-map a.out.numbered unnumbered in
           let k = few in
           omega (arith, l, same, k)
 

@@ -13,7 +13,7 @@ use Rattle.m2_channel.proofs.Keys.{key_self}
 use Rattle.m2_journal.specs.m2_message.Message.{Content, unnumbered}
 use Rattle.m2_journal.specs.m2_policy.declared.path.Key.{Key}
 use Rattle.m2_journal.proofs.m2_lemmas.Booleans.{from_false_true}
-use Rattle.m2_journal.proofs.m2_lemmas.Lists.{all_append, all_back, all_front}
+use Rattle.m2_journal.proofs.m2_lemmas.Lists.{all_append, all_back, all_filter, all_front}
 use Rattle.m2_lives.specs.Lives.{one_more, SendingLife, ReceivingLife, LivesChannel, sending_lives, receiving_lives, Has, IsNewName, IsSameAt, MayBeDispatched, LivesStep, dispatch, one_dispatched, changed_in_lives, after_in_lives, LifeMessage, of_life, acceptances_from}
 use Rattle.m2_lives.specs.LivesLaws.{AreNames, ArePiecesOf}
 use Rattle.m2_lives.specs.ObservedRun.{in_life, with_key}
@@ -84,14 +84,6 @@ of_the_life n (x ∷ xs) = at (x.life == n) refl (of_the_life n xs)
     at : (b : Bool) → (x.life == n) ≡ b → AllByRecursion (λ (y : LifeMessage). y.life ≡ n) (in_life n xs) → AllByRecursion (λ (y : LifeMessage). y.life ≡ n) (if b then x ∷ in_life n xs else in_life n xs)
     at true e h = (eqb-true x.life n e, h)
     at false e h = h
-
-all_filtered : {X : Type 0} (P : X → Type 0) (p : X → Bool) (xs : List X) → AllByRecursion P xs → AllByRecursion P (filter p xs)
-all_filtered P p [] h = tt
-all_filtered P p (x ∷ xs) h = at (p x) (all_filtered P p xs h.1)
-  where
-    at : (b : Bool) → AllByRecursion P (filter p xs) → AllByRecursion P (if b then x ∷ filter p xs else filter p xs)
-    at true k = (h.0, k)
-    at false k = k
 
 -- ---- where a message stands among the pieces
 
@@ -226,7 +218,7 @@ module _ (ns : List ℕ) (taken given more : List LifeMessage) (x : LifeMessage)
       at (y ∷ ys) g = absurd (cons_is_some y.message (map (λ (z : LifeMessage). z.message) ys) g)
 
   all_of : (n : ℕ) → AllByRecursion (λ (y : LifeMessage). y.life ≡ n) (of n)
-  all_of n = all_filtered (λ (y : LifeMessage). y.life ≡ n) (λ (y : LifeMessage). is_key y.message.key k) (in_life n taken) (of_the_life n taken)
+  all_of n = all_filter (λ (y : LifeMessage). y.life ≡ n) (λ (y : LifeMessage). is_key y.message.key k) (in_life n taken) (of_the_life n taken)
 
   of_now : AllByRecursion (λ (y : LifeMessage). y.life ≡ place.name) (place.now ++ x ∷ place.left)
   of_now = subst (AllByRecursion (λ (y : LifeMessage). y.life ≡ place.name)) place.next (all_of place.name)

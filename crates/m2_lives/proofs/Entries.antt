@@ -85,9 +85,6 @@ pub record IsSide (f : SideFacts) (s b : State) (theirs : ℕ → ℕ) (y : Ledg
 spot_is : (d e : Feed) → e.socket ≡ d.socket → e.opened ≡ d.opened → e.taken ≡ d.taken → e.resumed ≡ d.resumed → spot_of (Some e) ≡ spot_of (Some d)
 spot_is d e a b c r = rw (a, b, c, r) refl
 
-with_spot : (v : View) (o p : Option Spot) → o ≡ p → ◌≡◌ {A = View} (record v { feed = o }) (record v { feed = p })
-with_spot v o p e = ap (λ q. record v { feed = q }) e
-
 pub thrown_handed : (ds : List Delivery) → handed_in_lives (ds ++ state.discarded ∷ []) ≡ handed_in_lives ds
 thrown_handed [] = refl
 thrown_handed (state.letter n life key m ∷ ds) = ap (λ l. record { life = life; message = keyed key m } ∷ l) (thrown_handed ds)
@@ -157,9 +154,10 @@ module _ (mint theirs : ℕ → ℕ) (f : SideFacts) (s b : State) (y : Ledger) 
   pub opens_move : (k : SocketId) → Lawful f (item.opened k) s → IsMoveOf mint y f (item.opened k) s
   opens_move k l =
       let heard = opened_hears f k s.last s.owes in
+      let opened : spot_of (Some (opened_feed f k s.last s.owes)) ≡ Some (record { socket = k; opened = true; taken = 0; resumed = None }) = rw (heard.socket, heard.opened, heard.taken, heard.resumed) refl in
       record {
         move = move.opens k;
-        is = with_spot (moved (move.opens k) v) (spot_of (Some (opened_feed f k s.last s.owes))) (Some (record { socket = k; opened = true; taken = 0; resumed = None })) (rw (heard.socket, heard.opened, heard.taken, heard.resumed) refl);
+        is = ap (λ (q : Option Spot). record (moved (move.opens k) v) { feed = q }) opened;
         may = (l.not_opened, not_true_is_false (is_among k (taken_among s.judgements)) (λ t. false_isnt_true (sym l.not_judged ∙ taken_is_judged s.judgements k t)));
         begins = refl;
       }
@@ -224,7 +222,7 @@ module _ (mint theirs : ℕ → ℕ) (f : SideFacts) (s b : State) (y : Ledger) 
           begins = refl;
         })
         (λ w q p a. record { move = move.leaves phase.Wait; is = refl; may = tt; begins = refl })
-        (λ p o q r a. record { move = move.rests; is = with_spot (view fed_state) (spot_of (Some d')) (spot_of (Some d)) spot_heard; may = tt; begins = refl })
+        (λ p o q r a. record { move = move.rests; is = ap (λ (q : Option Spot). record (view fed_state) { feed = q }) spot_heard; may = tt; begins = refl })
         s.session.phase (answer_said d') refl refl heard
 
   pub read_move : (k : SocketId) (bytes : List ℕ) → Lawful f (item.read k bytes) s → HearsAt (after f (item.read k bytes) s).feed b.sent → IsMoveOf mint y f (item.read k bytes) s

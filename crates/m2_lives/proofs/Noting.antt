@@ -3,7 +3,7 @@
 use Rattle.std.proofs.Common.{◌≡◌, ◌≢◌, ℕ, zero, suc, ◌-◌, ◌≤◌, ◌⊎◌, inl, inr, Bool, true, false, ◌==◌, if◌then◌else◌, List, [], ◌∷◌, ◌++◌, length, length-append, map, Some, refl, sym, ap, subst, ◌∙◌, arith, append-nil, append_assoc, le_refl}
 use Rattle.std.specs.Prelude.{slice_get}
 use Rattle.std.specs.List.{AllByRecursion, filter}
-use Rattle.std.proofs.lemmas.List.{map-append}
+use Rattle.std.proofs.lemmas.List.{length-map, map-append}
 use Rattle.std.proofs.lemmas.List.Elements.{filter-append, filter_map-append}
 use Rattle.std.proofs.lemmas.Bool.{eqb-true, eq-eqb}
 use Rattle.std.proofs.lemmas.Option.{none-some}
@@ -439,10 +439,6 @@ of_another_life n m apart = at (m.life == n) refl
     at true e = absurd (apart (eqb-true m.life n e))
     at false e = ap (λ b. map (λ (v : LifeMessage). v.message) (if b then m ∷ [] else [])) e
 
-pub length_map : {X Y : Type 0} (f : X → Y) (xs : List X) → length (map f xs) ≡ length xs
-length_map f [] = refl
-length_map f (x ∷ xs) = ap suc (length_map f xs)
-
 -- both hold of one
 has_both : {X : Type 0} (P Q : X → Type 0) (xs : List X) → Has P xs → AllByRecursion (λ x. P x → Q x) xs → Has (λ x. P x × Q x) xs
 has_both P Q [] h all = h
@@ -490,7 +486,7 @@ module _ (mint theirs : ℕ → ℕ) (m : LifeMessage) (x y : Ledger) (may : May
       subst (λ c. AreFirstOf c l.numbered) (sym now_contents)
       (subst (AreFirstOf (contents m.life x ++ m.message.message ∷ [])) (sym e)
       (first-more (contents m.life x) more m.message.message
-      (ap (λ n. slice_get (contents m.life x ++ more) n) (length_map (λ (v : KeyedMessage). v.message) (of_life m.life x.accepted)) ∙ ap (λ c. slice_get c (count m.life x)) (sym e) ∙ is)))
+      (ap (λ n. slice_get (contents m.life x ++ more) n) (length-map (of_life m.life x.accepted) (λ (v : KeyedMessage). v.message)) ∙ ap (λ c. slice_get c (count m.life x)) (sym e) ∙ is)))
 
   behind : Has IsBehind (lives y)
   behind = at (h.near_beside.prefix m.life)

@@ -68,7 +68,7 @@ pub record SideKept (f : SideFacts) (is : List JournalItem) : Type 0 where
   pub hand : HandKept (state_at f is)
   pub holds : Holds f (state_at f is)
 
-pub record PointKept (f g : SideFacts) (is js : List JournalItem) : Type 0 where
+pub record BothKept (f g : SideFacts) (is js : List JournalItem) : Type 0 where
   pub near : SideKept f is
   pub far : SideKept g js
   pub paired : Paired (state_at f is) (state_at g js)
@@ -76,8 +76,8 @@ pub record PointKept (f g : SideFacts) (is js : List JournalItem) : Type 0 where
   pub near_behind : NoAskBehind (state_at f is) (state_at g js)
   pub far_behind : NoAskBehind (state_at g js) (state_at f is)
 
-pub point_turned : (f g : SideFacts) (is js : List JournalItem) → PointKept f g is js → PointKept g f js is
-point_turned f g is js h = record {
+pub kept_turned : (f g : SideFacts) (is js : List JournalItem) → BothKept f g is js → BothKept g f js is
+kept_turned f g is js h = record {
   near = h.far;
   far = h.near;
   paired = paired_turn (state_at f is) (state_at g js) h.paired;
@@ -100,7 +100,7 @@ nodes_turned f g h = record { near = h.far; far = h.near; peers = λ k e. at k (
 
 -- ---- an entry more of the near side
 
-module _ (known : Laws) (f g : SideFacts) (nodes : BothNodes f g) (is js : List JournalItem) (i : JournalItem) (p q : SocketId → HalfBytes) (h : PointKept f g is js)
+module _ (known : Laws) (f g : SideFacts) (nodes : BothNodes f g) (is js : List JournalItem) (i : JournalItem) (p q : SocketId → HalfBytes) (h : BothKept f g is js)
     (bytes : BytesFit (side_at f (is ++ i ∷ []) p) (side_at g js q)) (all_lawful : AreLawful f (is ++ i ∷ []) (start f)) (can : CanBePosted i) where
   abbrev a : State
   a = state_at f is
@@ -206,7 +206,7 @@ module _ (known : Laws) (f g : SideFacts) (nodes : BothNodes f g) (is js : List 
           })
       at (inr d) = down_so (λ s. Paired s b) (λ planned step. leaves_paired a (after f (item.down planned step) a) b (down_leaves f planned step a) h.paired) d
 
-  pub one_more : PointKept f g (is ++ i ∷ []) js
+  pub one_more : BothKept f g (is ++ i ∷ []) js
   one_more = record {
     near = record {
       kept = subst (AllKept f (is ++ i ∷ [])) (sym state_is) kept;
@@ -227,13 +227,13 @@ module _ (known : Laws) (f g : SideFacts) (nodes : BothNodes f g) (is js : List 
 starts_alone : (f : SideFacts) → SideKept f []
 starts_alone f = record { kept = λ k. record { read = refl; wrote = refl; feed = refl; frames = refl }; lawful = tt; leads = tt; hand = tt; holds = starts_holding f }
 
-pub starts : Laws → (f g : SideFacts) → PointKept f g [] []
+pub starts : Laws → (f g : SideFacts) → BothKept f g [] []
 starts known f g = record { near = starts_alone f; far = starts_alone g; paired = known.new.paired f g; fits = starts_fit f g; near_behind = tt; far_behind = tt }
 
 -- ---- every point
 
 record Walked (f g : SideFacts) (xs : List SideItem) : Type 0 where
-  point : PointKept f g (near_items xs) (far_items xs)
+  point : BothKept f g (near_items xs) (far_items xs)
   throughout : FitThroughout f g xs (start f) (start g)
 
 module _ (known : Laws) (f g : SideFacts) (nodes : BothNodes f g) (order : List OrderEntry) (h : IsByteOrder f g order) where
@@ -256,7 +256,7 @@ module _ (known : Laws) (f g : SideFacts) (nodes : BothNodes f g) (order : List 
   step front back (near_entry i) e old =
       subst (Walked f g) (sym (entries-append front (near_entry i ∷ [])))
       (record {
-        point = subst₂ (PointKept f g) (sym list_near) (sym list_far) point;
+        point = subst₂ (BothKept f g) (sym list_near) (sym list_far) point;
         throughout = fit-append f g xs (near_item i ∷ []) (start f) (start g) old.throughout (subst (λ s. Fits s (far_after g xs)) (after-append f (near_items xs) (i ∷ []) (start f)) point.fits, tt);
       })
     where
@@ -281,7 +281,7 @@ module _ (known : Laws) (f g : SideFacts) (nodes : BothNodes f g) (order : List 
       whole : nears order ≡ (near_items xs ++ i ∷ []) ++ nears back
       whole = ap nears e ∙ near_more now back ∙ ap (λ l. l ++ nears back) near
 
-      point : PointKept f g (near_items xs ++ i ∷ []) (far_items xs)
+      point : BothKept f g (near_items xs ++ i ∷ []) (far_items xs)
       point = one_more known f g nodes (near_items xs) (far_items xs) i (near_side f now).halves (far_side g now).halves old.point
           (subst₂ (λ xs ys. BytesFit (side_at f xs (near_side f now).halves) (side_at g ys (far_side g now).halves)) near far (h.bytes now back e))
           (lawful_front f (near_items xs ++ i ∷ []) (nears back) (start f) (subst (λ xs. AreLawful f xs (start f)) whole h.near_lawful)).0
@@ -289,7 +289,7 @@ module _ (known : Laws) (f g : SideFacts) (nodes : BothNodes f g) (order : List 
   step front back (far_entry i) e old =
       subst (Walked f g) (sym (entries-append front (far_entry i ∷ [])))
       (record {
-        point = subst₂ (PointKept f g) (sym list_near) (sym list_far) point;
+        point = subst₂ (BothKept f g) (sym list_near) (sym list_far) point;
         throughout = fit-append f g xs (far_item i ∷ []) (start f) (start g) old.throughout (subst (λ s. Fits (near_after f xs) s) (after-append g (far_items xs) (i ∷ []) (start g)) point.fits, tt);
       })
     where
@@ -314,9 +314,9 @@ module _ (known : Laws) (f g : SideFacts) (nodes : BothNodes f g) (order : List 
       whole : fars order ≡ (far_items xs ++ i ∷ []) ++ fars back
       whole = ap fars e ∙ far_more now back ∙ ap (λ l. l ++ fars back) far
 
-      point : PointKept f g (near_items xs) (far_items xs ++ i ∷ [])
-      point = point_turned g f (far_items xs ++ i ∷ []) (near_items xs)
-          (one_more known g f (nodes_turned f g nodes) (far_items xs) (near_items xs) i (far_side g now).halves (near_side f now).halves (point_turned f g (near_items xs) (far_items xs) old.point)
+      point : BothKept f g (near_items xs) (far_items xs ++ i ∷ [])
+      point = kept_turned g f (far_items xs ++ i ∷ []) (near_items xs)
+          (one_more known g f (nodes_turned f g nodes) (far_items xs) (near_items xs) i (far_side g now).halves (near_side f now).halves (kept_turned f g (near_items xs) (far_items xs) old.point)
           (bytes_turned (side_at f (near_items xs) (near_side f now).halves) (side_at g (far_items xs ++ i ∷ []) (far_side g now).halves)
           (subst₂ (λ xs ys. BytesFit (side_at f xs (near_side f now).halves) (side_at g ys (far_side g now).halves)) near far (h.bytes now back e)))
           (lawful_front g (far_items xs ++ i ∷ []) (fars back) (start g) (subst (λ xs. AreLawful g xs (start g)) whole h.far_lawful)).0

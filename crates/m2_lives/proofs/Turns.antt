@@ -38,14 +38,14 @@ use Rattle.m2_lives.proofs.Entries.{acked_base, past_base, sets_back_told}
 -- ---- what stays
 
 -- of the queue's history what was posted, dropped and numbered, and what is acknowledged; and what was handed on
-abbrev pub Quiet : State → State → Type 0
-Quiet s t = (t.out.posted ≡ s.out.posted) × (t.out.dropped ≡ s.out.dropped) × (t.out.numbered ≡ s.out.numbered) × (t.out.queue.base ≡ s.out.queue.base) × (t.deliveries ≡ s.deliveries)
+abbrev pub KeepsHistory : State → State → Type 0
+KeepsHistory s t = (t.out.posted ≡ s.out.posted) × (t.out.dropped ≡ s.out.dropped) × (t.out.numbered ≡ s.out.numbered) × (t.out.queue.base ≡ s.out.queue.base) × (t.deliveries ≡ s.deliveries)
 
-quiet_trans : (r s t : State) → Quiet r s → Quiet s t → Quiet r t
-quiet_trans r s t h k = (k.0 ∙ h.0, k.1 ∙ h.1, k.2 ∙ h.2, k.3 ∙ h.3, k.4 ∙ h.4)
+history_trans : (r s t : State) → KeepsHistory r s → KeepsHistory s t → KeepsHistory r t
+history_trans r s t h k = (k.0 ∙ h.0, k.1 ∙ h.1, k.2 ∙ h.2, k.3 ∙ h.3, k.4 ∙ h.4)
 
-quiet_none : (s : State) → Quiet s s
-quiet_none s = (refl, refl, refl, refl, refl)
+history_none : (s : State) → KeepsHistory s s
+history_none s = (refl, refl, refl, refl, refl)
 
 -- ---- what the session has it do
 
@@ -65,17 +65,17 @@ thrown_by false false = []
 abbrev pub Turns : (back thrown told : Bool) → State → State → Type 0
 Turns back thrown told s t = Turned back thrown s.out t.out × (t.deliveries ≡ s.deliveries ++ thrown_by thrown told)
 
-closes_quiet : (b : Bool) (s : State) → Quiet s (where_true b closes s)
-closes_quiet false s = quiet_none s
-closes_quiet true s = at s.feed
+closes_keep : (b : Bool) (s : State) → KeepsHistory s (where_true b closes s)
+closes_keep false s = history_none s
+closes_keep true s = at s.feed
   where
-    at : (o : Option Feed) → Quiet s (closes (record s { feed = o }))
+    at : (o : Option Feed) → KeepsHistory s (closes (record s { feed = o }))
     at (Some d) = (refl, refl, refl, refl, refl)
     at None = (refl, refl, refl, refl, refl)
 
-requeues_quiet : (b : Bool) (s : State) → Quiet s (where_true b (queues Requeue) s)
-requeues_quiet true s = (refl, refl, refl, refl, refl)
-requeues_quiet false s = quiet_none s
+requeues_keep : (b : Bool) (s : State) → KeepsHistory s (where_true b (queues Requeue) s)
+requeues_keep true s = (refl, refl, refl, refl, refl)
+requeues_keep false s = history_none s
 
 sets_back_turns : (s : State) → Turns true false false s (sets_back s)
 sets_back_turns s = at s.feed
@@ -98,8 +98,8 @@ effects_turn close requeue back thrown told s = at back thrown told
     u : State
     u = where_true requeue (queues Requeue) (where_true close closes s)
 
-    same : Quiet s u
-    same = quiet_trans s (where_true close closes s) u (closes_quiet close s) (requeues_quiet requeue (where_true close closes s))
+    same : KeepsHistory s u
+    same = history_trans s (where_true close closes s) u (closes_keep close s) (requeues_keep requeue (where_true close closes s))
 
     low : Turns true false false s (sets_back u)
     low = let it = sets_back_turns u in (
@@ -127,7 +127,7 @@ effects_turn close requeue back thrown told s = at back thrown told
 -- what a session is told, if anything
 abbrev pub Told : Option Event → Session → State → State → Type 0
 Told (Some e) q s t = let o = (step_of q e).effects in Turns o.set_back o.discard o.remote_reset s t
-Told None q s t = Quiet s t
+Told None q s t = KeepsHistory s t
 
 tells_turn : (e : Event) (s : State) → Told (Some e) s.session s (tells e s)
 tells_turn e s =
@@ -217,8 +217,8 @@ pub record Begins (f : SideFacts) (i : JournalItem) (s t : State) : Type 0 where
   pub deliveries : t.deliveries ≡ s.deliveries ++ thrown_by (step_of s.session event).effects.discard (step_of s.session event).effects.remote_reset
   pub plain : IsPlain i s
 
-stays_quiet : (f : SideFacts) (i : JournalItem) (s t : State) → sets_back_told (event_at f i s) s.session ≡ false → IsPlain i s → Quiet s t → Stays f i s t
-stays_quiet f i s t none p h = record {
+history_stays : (f : SideFacts) (i : JournalItem) (s t : State) → sets_back_told (event_at f i s) s.session ≡ false → IsPlain i s → KeepsHistory s t → Stays f i s t
+history_stays f i s t none p h = record {
   none = none;
   posted = h.0 ∙ sym (append-nil s.out.posted) ∙ ap (λ l. s.out.posted ++ l) (sym p.posts);
   dropped = h.1;
@@ -229,7 +229,7 @@ stays_quiet f i s t none p h = record {
 }
 
 by_event : (f : SideFacts) (i : JournalItem) (s t : State) → s.session.policy.lossy ≡ false → IsPlain i s → (o : Option Event) → event_at f i s ≡ o → Told o s.session s t → Stays f i s t ⊎ Begins f i s t
-by_event f i s t lossless p None e h = inl (stays_quiet f i s t (ap (λ o. sets_back_told o s.session) e) p h)
+by_event f i s t lossless p None e h = inl (history_stays f i s t (ap (λ o. sets_back_told o s.session) e) p h)
 by_event f i s t lossless p (Some w) e h = at (step_of s.session w).effects.set_back refl h
   where
     o : Effects
@@ -241,7 +241,7 @@ by_event f i s t lossless p (Some w) e h = at (step_of s.session w).effects.set_
         let kept = keeps_all s.session w lossless z in
         let it = subst (λ b. Turns false b o.remote_reset s t) kept.0 k in
         let is = subst (λ b. Turns false false b s t) kept.1 it in
-        inl (stays_quiet f i s t (ap (λ x. sets_back_told x s.session) e ∙ z) p (is.0.0, is.0.1, is.0.2, is.0.3, is.1 ∙ append-nil s.deliveries))
+        inl (history_stays f i s t (ap (λ x. sets_back_told x s.session) e ∙ z) p (is.0.0, is.0.1, is.0.2, is.0.3, is.1 ∙ append-nil s.deliveries))
 
 -- ---- what composes, puts and judges
 
@@ -270,8 +270,8 @@ answers_same f k a n answer unread s = at (session.takes answer)
     at true = (refl, refl)
     at false = (refl, refl)
 
-quiet_same : (s t : State) → SameOut s t → Quiet s t
-quiet_same s t h = (ap (λ (k : History). k.posted) h.0, ap (λ (k : History). k.dropped) h.0, ap (λ (k : History). k.numbered) h.0, ap (λ (k : History). k.queue.base) h.0, h.1)
+history_same : (s t : State) → SameOut s t → KeepsHistory s t
+history_same s t h = (ap (λ (k : History). k.posted) h.0, ap (λ (k : History). k.dropped) h.0, ap (λ (k : History). k.numbered) h.0, ap (λ (k : History). k.queue.base) h.0, h.1)
 
 -- ---- messages are numbered, acknowledged and accepted
 
@@ -348,12 +348,12 @@ moves_or_told f s (item.read k bytes) = as_told f (item.read k bytes) s refl (λ
   where
     at : (o : Option Feed) → Told (event_on o (λ d. event_heard f s.session.phase (hears bytes d))) s.session s (on_feed_at o (λ d. reads f (hears bytes d)) s)
     at (Some d) = heeds_told (event_heard f s.session.phase (hears bytes d)) (hears bytes d) s
-    at None = quiet_none s
+    at None = history_none s
 moves_or_told f s (item.wrote k bytes) = as_told f (item.wrote k bytes) s refl (λ g. refl) refl refl refl (at s.feed)
   where
-    at : (o : Option Feed) → Quiet s (on_feed_at o (puts f bytes) s)
-    at (Some d) = quiet_same s (puts f bytes d s) (puts_on_same (finished (narrowed bytes (texts_at f s d))) (narrowed bytes (texts_at f s d)) d s)
-    at None = quiet_none s
+    at : (o : Option Feed) → KeepsHistory s (on_feed_at o (puts f bytes) s)
+    at (Some d) = history_same s (puts f bytes d s) (puts_on_same (finished (narrowed bytes (texts_at f s d))) (narrowed bytes (texts_at f s d)) d s)
+    at None = history_none s
 moves_or_told f s (item.closed k broken) = as_told f (item.closed k broken) s refl (λ g. refl) refl refl refl (at (is_on k s.feed))
   where
     at : (b : Bool) → Told (if b then Some (event.Faulted (is_waiting s)) else None) s.session s (if b then breaks s else forgets k s)
@@ -380,7 +380,7 @@ moves_or_told f s (item.obeyed full) = as_told f (item.obeyed full) s refl (λ g
   where
     at : (o : Option Feed) → Told (event_on o (λ d. Some (event.GotReset full))) s.session s (on_feed_at o (λ d t. tells (event.GotReset full) (with_feed (takes_answer d) t)) s)
     at (Some d) = tells_turn (event.GotReset full) (with_feed (takes_answer d) s)
-    at None = quiet_none s
+    at None = history_none s
 moves_or_told f s (item.down planned step) = as_told f (item.down planned step) s refl (λ g. refl) refl refl refl (tells_turn event.MarkedDown s)
 
 -- what such an entry hands on, whatever the policy

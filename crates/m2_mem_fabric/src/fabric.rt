@@ -13,8 +13,8 @@ use crate::network::Network;
 use crate::port::{MemPort, SharedNetwork};
 use m2_addr::Addr;
 use m2_bytes::{Items, NoMemory};
-use m2_edge::{Count, Failed};
-use m2_fabric::{End, EndList, Fabric, Port, PortList};
+use m2_edge::Count;
+use m2_fabric::{End, EndList, Fabric, ListenFault, Port, PortList};
 use m2_ports::{GatheredNode, Nodes};
 use std::alloc::Global;
 use std::marker::Model;
@@ -121,15 +121,18 @@ impl<R: Wait + Copy> Fabric for MemFabric<R> {
 
     ghost seen = { λ f. shown f.faults f.nodes };
 
-    fn listen(&mut self, node: u32, at: &Addr) -> Result<(), Failed> {
+    fn listen(&mut self, node: u32, at: &Addr) -> Result<(), ListenFault> {
         self.begun = true;
         if self.nodes.enter(node).is_err() {
-            self.faults.add();
-            return Err(Failed);
+            return Err(ListenFault::NoMemory);
         }
-        let Some(listener) = self.network.lock(&self.rt).listen(at) else {
-            self.faults.add();
-            return Err(Failed);
+        let listener = match self.network.lock(&self.rt).listen(at) {
+            Ok(listener) => listener,
+            Err(ListenFault::Failed) => {
+                self.faults.add();
+                return Err(ListenFault::Failed);
+            }
+            Err(ListenFault::NoMemory) => return Err(ListenFault::NoMemory),
         };
         if let Some(former) = self.nodes.listen(node, at, listener) {
             self.network.lock(&self.rt).silence(former);

@@ -11,7 +11,7 @@ use crate::line::Line;
 use crate::plan::{EndPlan, Plan};
 use m2_addr::Addr;
 use m2_bytes::{NoMemory, Told};
-use m2_fabric::SocketId;
+use m2_fabric::{ListenFault, SocketId};
 use m2_ports::{FourNumbers, PortBook};
 use std::alloc::Global;
 use std::collections::VecDeque;
@@ -150,9 +150,9 @@ impl<R: Wait + Copy> Network<R> {
 
     /// Listens at an ip and port. The listener's number; none where the call is to fail, where somebody
     /// listens there, or where there is no memory.
-    pub(crate) fn listen(&mut self, at: &Addr) -> Option<u32> {
+    pub(crate) fn listen(&mut self, at: &Addr) -> Result<u32, ListenFault> {
         if self.plan.listens.count() || place_at(self.listeners.as_slice(), at).is_some() {
-            return None;
+            return Err(ListenFault::Failed);
         }
         let number = self.numbered;
         let listener = Listener {
@@ -162,9 +162,11 @@ impl<R: Wait + Copy> Network<R> {
             waiting: VecDeque::new(self.alloc),
             bells: None,
         };
-        self.listeners.push(listener).ok()?;
+        if self.listeners.push(listener).is_err() {
+            return Err(ListenFault::NoMemory);
+        }
         self.numbered = number.saturating_add(1);
-        Some(number)
+        Ok(number)
     }
 
     /// These bells are rung for a listener from now on.

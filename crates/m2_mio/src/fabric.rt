@@ -11,8 +11,8 @@ use crate::end::MioEnd;
 use crate::port::{Bells, MioPort};
 use m2_addr::Addr;
 use m2_bytes::{Items, NoMemory};
-use m2_edge::{Count, Failed};
-use m2_fabric::{End, EndList, Fabric, Port, PortList};
+use m2_edge::Count;
+use m2_fabric::{End, EndList, Fabric, ListenFault, Port, PortList};
 use m2_ports::{GatheredNode, Nodes};
 use mio::net::TcpListener;
 use std::alloc::Global;
@@ -148,10 +148,9 @@ impl<R: Net + Copy> Fabric for MioFabric<R> {
 
     ghost seen = { λ f. shown f.faults f.nodes };
 
-    fn listen(&mut self, node: u32, at: &Addr) -> Result<(), Failed> {
+    fn listen(&mut self, node: u32, at: &Addr) -> Result<(), ListenFault> {
         if self.nodes.enter(node).is_err() {
-            self.faults.add();
-            return Err(Failed);
+            return Err(ListenFault::NoMemory);
         }
         match TcpListener::bind(&self.rt, system_addr(at)) {
             Ok(listener) => {
@@ -160,7 +159,7 @@ impl<R: Net + Copy> Fabric for MioFabric<R> {
             }
             Err(_) => {
                 self.faults.add();
-                Err(Failed)
+                Err(ListenFault::Failed)
             }
         }
     }

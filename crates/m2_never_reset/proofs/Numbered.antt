@@ -2,7 +2,7 @@
 -- is the same socket.
 --
 -- Numbered: `numbers`, then `writes`.
-use Rattle.std.proofs.Common.{◌≡◌, ℕ, zero, suc, ◌+◌, ◌-◌, ◌≤◌, ◌<◌, Bool, true, false, not, List, [], ◌∷◌, ◌++◌, length, take, drop, map, Option, Some, None, refl, sym, ap, ◌∙◌, subst, arith}
+use Rattle.std.proofs.Common.{◌≡◌, ℕ, ◌+◌, ◌-◌, ◌≤◌, ◌<◌, Bool, true, false, not, List, [], ◌∷◌, ◌++◌, length, take, drop, map, Option, Some, None, refl, sym, ap, ◌∙◌, subst, arith}
 use Rattle.std.specs.Prelude.{◌||◌, if◌then◌else◌, nat_lt, nat_le, slice_get}
 use Rattle.std.proofs.lemmas.List.{map-append}
 use Rattle.m2_journal.specs.m2_fabric.declared.socket.SocketId.{SocketId}
@@ -31,6 +31,7 @@ use Rattle.m2_never_reset.proofs.Links.{plus_none, links, joined_same, same_asks
 use Rattle.m2_never_reset.proofs.Mailed.{mail_is_on_its_way}
 use Rattle.m2_never_reset.proofs.Sent.{asks_same}
 use Rattle.m2_queues.proofs.m2_lemmas.Options.{none_isnt_some}
+use Rattle.m2_dispatch.proofs.m2_lemmas.Lists.{get_map}
 
 abbrev IsNothing : {X : Type 0} → Option X → Type 0
 IsNothing None = Unit {0}
@@ -87,16 +88,6 @@ calls_keep h [] = refl
 calls_keep h (c ∷ cs) = calls_keep (after_call h c) cs ∙ call_keeps h c
 
 -- ---- what stands at a number
-
-get-map : {X Y : Type 0} (g : X → Y) (xs : List X) (k : ℕ) (x : X) → slice_get xs k ≡ Some x →
-    slice_get (map g xs) k ≡ Some (g x)
-get-map g [] k x e = absurd (none_isnt_some x e)
-get-map g (y ∷ xs) zero x e = ap (mapped g) e
-  where
-    mapped : {X Y : Type 0} (g : X → Y) → Option X → Option Y
-    mapped g (Some z) = Some (g z)
-    mapped g None = None
-get-map g (y ∷ xs) (suc k) x e = get-map g xs k x e
 
 number_at : (q : Queue) (n : ℕ) → next_number q ≡ Some n → q.base + q.cursor + 1 ≡ n
 number_at q n e = by_room (nat_lt q.cursor (length q.kept) || nat_lt 0 (length q.waiting)) e
@@ -208,7 +199,7 @@ module _ (places : EachNumberIsAPlace) (go_on : CallsGoOn) where
       let place = subst (λ k. k.queue.base < n → message_at k.queue n ≡ slice_get k.numbered (n - 1)) (sym leads)
       (places keeps (is.0 ++ Next ∷ []) n) (omega (arith, at, base)) in
       ap (λ l. slice_get l (n - 1)) (sym (map-append unnumbered h.numbered (newly_numbered h.queue)))
-      ∙ get-map unnumbered (h.numbered ++ newly_numbered h.queue) (n - 1) m (sym place ∙ e)
+      ∙ get_map unnumbered (h.numbered ++ newly_numbered h.queue) (n - 1) m (sym place ∙ e)
 
   pub numbered_is : NumberedIsSteps
   numbered_is f g n u s b may = at s.feed refl may.lawful

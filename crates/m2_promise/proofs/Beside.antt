@@ -3,7 +3,7 @@
 use Rattle.std.proofs.Common.{◌≡◌, ℕ, ◌<◌, ◌^◌, ◌⊎◌, inl, inr, Bool, true, false, ◌&&◌, ◌||◌, not, if◌then◌else◌, List, [], Some, map, refl, sym, ap, subst, ◌∙◌}
 use Rattle.std.specs.Prelude.{◌==◌}
 use Rattle.std.specs.List.{AllByRecursion}
-use Rattle.std.proofs.lemmas.Bool.{eqb-true, ltb-true}
+use Rattle.std.proofs.lemmas.Bool.{eqb-true, ltb-true, or_cases}
 use Rattle.m2_fabric.specs.m2_addr.declared.addr.Addr.{Addr}
 use Rattle.m2_links_go_on.specs.m2_weave.m2_control.Laws.{HasAddrRanges}
 use Rattle.m2_fabric.specs.declared.socket.SocketId.{SocketId}
@@ -35,7 +35,7 @@ use Rattle.m2_links_go_on.specs.m2_weave.Strands.{has_opened, journal_of}
 use Rattle.m2_links_go_on.specs.m2_history.Actors.{is_near}
 use Rattle.m2_links_go_on.specs.m2_history.WovenLink.{IsLooseBeside}
 use Rattle.m2_links_go_on.proofs.m2_history.Whole.{records_are_sides}
-use Rattle.m2_fabric.proofs.m2_lemmas.Booleans.{either_turned, not_true_is_false, both_of_and, false_isnt_true}
+use Rattle.m2_fabric.proofs.m2_lemmas.Booleans.{either_turned, not_true_is_false, both_of_and, false_isnt_true, or_true}
 use Rattle.m2_fabric.proofs.m2_lemmas.Lists.{all_append, all_map, all_so}
 
 -- ---- a half, as records see it
@@ -56,14 +56,6 @@ are_of_kind supply entity made records h c =
     (all_so (WasCaller made records) (IsOfKind made records) (λ l was. record { caller = caller_of was.asker l; kind = refl; is = was.caller }) h.loose c.loose)
 
 -- ---- who knows a socket
-
-or_cases : (c d : Bool) → (c || d) ≡ true → (c ≡ true) ⊎ (d ≡ true)
-or_cases true d h = inl refl
-or_cases false d h = inr h
-
-or_last : (c : Bool) → (c || true) ≡ true
-or_last true = refl
-or_last false = refl
 
 known_by : (a b : List Entry) (l : LooseNow) → l.trail.socket ≡ l.end.id → is_of_link a b l ≡ true → (knows a l.trail.socket ≡ true) ⊎ (knows b l.trail.socket ≡ true)
 known_by a b l same its = or_cases (knows a l.trail.socket) (knows b l.trail.socket) (ap (λ k. knows a k || knows b k) same ∙ its)
@@ -122,7 +114,7 @@ module _ (x : RunNow) (run : IsRunning x) (i j : ℕ) (h g : Holding) (a b : Rec
       of_far (inr asked) = absurd (false_isnt_true (sym (unasked k goes) ∙ asked))
 
       by : IsKnownTo k → (has_opened (journal_of b.journal) k || knows a.journal k) ≡ true
-      by (inl mine) = ap (λ c. has_opened (journal_of b.journal) k || c) mine ∙ or_last (has_opened (journal_of b.journal) k)
+      by (inl mine) = ap (λ c. has_opened (journal_of b.journal) k || c) mine ∙ or_true (has_opened (journal_of b.journal) k)
       by (inr theirs) = of_far (knows_kind k b.journal theirs)
 
   far_is : (k : SocketId) → goes_to h.port.at k ≡ true → is_near b.journal a.journal k ≡ false

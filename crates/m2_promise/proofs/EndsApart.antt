@@ -1,5 +1,5 @@
 -- At no node of a run that is kept two ends are of one socket.
-use Rattle.std.proofs.Common.{◌≡◌, List, [], ◌∷◌, ◌++◌, length, map, Option, Some, None, Ok, unwrap_or, refl, subst}
+use Rattle.std.proofs.Common.{List, [], ◌∷◌, ◌++◌, length, map, Ok, subst}
 use Rattle.std.specs.List.{AllByRecursion, IsDistinct}
 use Rattle.m2_dispatch.specs.Heard.{Heard, heard_by}
 use Rattle.m2_dispatch.specs.declared.logged.Logged.{Logged}
@@ -9,25 +9,21 @@ use Rattle.m2_fabric.specs.Sockets.{same_socket}
 use Rattle.m2_links_go_on.proofs.m2_growth.Owned.{own_all}
 use Rattle.m2_links_go_on.specs.Center.{holding_of}
 use Rattle.m2_links_go_on.specs.m2_growth.Holding.{AreOwn}
+use Rattle.m2_links_go_on.proofs.OneGrows.{same_waiting}
 use Rattle.m2_scenario.specs.declared.link.Link.{Link}
 use Rattle.m2_scenario.specs.declared.node.Node.{Node}
 use Rattle.m2_script.specs.Apart.{AllEndsApart, EndsAreApart, EndsStayApart}
 use Rattle.m2_script.specs.Script.{Deed, RunNow, script_of}
-use Rattle.m2_script.specs.m2_center.Reaching.{ends_in, ends_or_none}
+use Rattle.m2_script.specs.m2_center.Reaching.{ends_in}
 use Rattle.m2_script.specs.m2_cluster.Node.{NodeNow}
 use Rattle.m2_script.specs.m2_record.RecordNow.{ids_of}
 use Rattle.m2_promise.proofs.Doing.{all_own}
 use Rattle.m2_promise.specs.Kept.{IsKept}
 use Rattle.m2_promise.specs.StartLaws.{DeedsStayKept, FirstIsKept, FirstStaysApart}
 
--- those that wait at a port, or none
-waiting_same : (o : Option (List SeenEnd)) → unwrap_or o [] ≡ ends_or_none o
-waiting_same (Some es) = refl
-waiting_same None = refl
-
 node_apart : {D : Type 0} (n : NodeNow D) → AreOwn (holding_of n.center) → EndsAreApart n
 node_apart n own =
-    subst (λ (es : List SeenEnd). IsDistinct same_socket (ids_of (ends_in n.center ++ es))) (waiting_same n.center.port.waiting) (own_all (holding_of n.center) own)
+    subst (λ (es : List SeenEnd). IsDistinct same_socket (ids_of (ends_in n.center ++ es))) (same_waiting n.center.port.waiting) (own_all (holding_of n.center) own)
 
 kept_apart : {D : Type 0} (heard : D → List Heard) (nodes : List Node) (links : List Link) (s : RunNow D) → IsKept heard nodes links s → AllEndsApart s
 kept_apart {D} heard nodes links s kept = all_so (λ (n : NodeNow D). AreOwn (holding_of n.center)) EndsAreApart node_apart s.cluster.nodes (all_own s kept.rest.running)

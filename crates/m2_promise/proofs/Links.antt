@@ -34,6 +34,7 @@ use Rattle.m2_promise.proofs.Towards as link
 use Rattle.m2_promise.proofs.Towards.{AreTowards, turned}
 use Rattle.m2_lives.specs.m2_bytes_fit.m2_trail.Arrivals.{LooseNow}
 use Rattle.m2_lives.specs.m2_bytes_fit.m2_trail.Trails.{TrailNow, opener_of}
+use Rattle.m2_lives.proofs.m2_bytes_fit.Posts.{one_post}
 use Rattle.m2_links_go_on.specs.m2_history.Actors.{Actor, of_half, actors_of_side, is_near, loose_actors, part_of, taken_half, trail_by}
 use Rattle.m2_links_go_on.specs.m2_history.WovenLaws.{RecordsAreSides}
 use Rattle.m2_links_go_on.specs.m2_history.WovenLink.{IsLink, IsLooseBeside, IsSideOf, LinkNow, items_in, same_end, sources_in, trails_of}
@@ -55,22 +56,6 @@ post_at keeps place (step.Post m ∷ steps) zero can within = keeps m within.0 c
 post_at keeps place (step.Dial ∷ steps) zero can within = tt
 post_at keeps place (step.Down ∷ steps) zero can within = tt
 post_at keeps place (x ∷ steps) (suc n) can within = post_at keeps place steps n can.1 within.1
-
-one_post : (s : Sources) → ((place n : ℕ) → CanBePosted (item.post place (slice_get s.plan n))) → (p : Places) (e : Entry) → CanBePosted (item_of s p e)
-one_post s h p (entry.Post place) = h place p.steps
-one_post s h p entry.Dial = tt
-one_post s h p (entry.Opened socket) = tt
-one_post s h p (entry.Read socket count) = tt
-one_post s h p (entry.Wrote socket count) = tt
-one_post s h p (entry.Closed socket) = tt
-one_post s h p (entry.Judged socket ask number answer) = tt
-one_post s h p (entry.Asked ident number) = tt
-one_post s h p (entry.Numbered number) = tt
-one_post s h p (entry.Accepted number key) = tt
-one_post s h p (entry.Acked number) = tt
-one_post s h p (entry.Obeyed full) = tt
-one_post s h p (entry.Down true) = tt
-one_post s h p (entry.Down false) = tt
 
 one_up : (s : Sources) (p : Places) (e : Entry) → MarksNoneDown e → IsNoDown (item_of s p e)
 one_up s p (entry.Post place) up = tt

@@ -5,7 +5,7 @@ use Rattle.m2_fabric.specs.m2_addr.declared.addr.Addr.{Addr}
 use Rattle.m2_fabric.specs.declared.socket.SocketId.{SocketId}
 use Rattle.m2_fabric.specs.Holder.{EndName}
 use Rattle.m2_fabric.specs.Sockets.{same_socket}
-use Rattle.m2_links_go_on.proofs.m2_growth.Entering.{AllSo, or_second, with_so}
+use Rattle.m2_links_go_on.proofs.m2_growth.Entering.{AllSo, with_so}
 use Rattle.m2_fabric.specs.Kept.{SeenPair, directions, fresh_kept, is_kept, joins, reader, same_end, with_kept, writer}
 use Rattle.m2_fabric.specs.Meeting.{acceptor, all_entered, arrivals, arrivals_at, entered, is_one_of, kept_towards}
 use Rattle.m2_fabric.specs.News.{Logs, kept_after, pair_after}
@@ -14,7 +14,7 @@ use Rattle.m2_fabric.proofs.Entering.{unkept_before}
 use Rattle.m2_fabric.proofs.Flowing.{directions_after}
 use Rattle.m2_fabric.proofs.Told.{end_equal}
 use Rattle.m2_links_go_on.proofs.m2_growth.Telling.{behind}
-use Rattle.m2_fabric.proofs.m2_lemmas.Booleans.{false_isnt_true}
+use Rattle.m2_fabric.proofs.m2_lemmas.Booleans.{false_isnt_true, or_right}
 use Rattle.m2_fabric.proofs.Sockets.{same_refl}
 
 -- ---- between two nodes
@@ -76,7 +76,7 @@ kept_passed what l id (p ∷ ps) =
 
 has_last : (id : SocketId) (ks : _) → list_any (λ k. same_socket k.id id) (ks ++ fresh_kept id ∷ []) ≡ true
 has_last id [] = ap (λ (b : Bool). b || false) (same_refl id)
-has_last id (k ∷ ks) = or_second (same_socket k.id id) _ (has_last id ks)
+has_last id (k ∷ ks) = or_right (same_socket k.id id) _ (has_last id ks)
 
 with_keeps : (a b : ℕ) (id : SocketId) (ps : List SeenPair) → is_kept id (with_kept a b (fresh_kept id) ps) ≡ true
 with_keeps a b id [] = ap (λ (b : Bool). (b || false) || false) (same_refl id)
@@ -85,7 +85,7 @@ with_keeps a b id (p ∷ ps) = by_pair (joins a b p) (with_keeps a b id ps)
     by_pair : (j : Bool) → is_kept id (with_kept a b (fresh_kept id) ps) ≡ true →
         is_kept id (if j then record p { sockets = p.sockets ++ fresh_kept id ∷ [] } ∷ ps else p ∷ with_kept a b (fresh_kept id) ps) ≡ true
     by_pair true rest = ap (λ (b : Bool). b || is_kept id ps) (has_last id p.sockets)
-    by_pair false rest = or_second _ (is_kept id (with_kept a b (fresh_kept id) ps)) rest
+    by_pair false rest = or_right _ (is_kept id (with_kept a b (fresh_kept id) ps)) rest
 
 one_keeps : (node : ℕ) (id : SocketId) (ps : List SeenPair) (e : EndName) (o : Option ℕ) → is_one_of (arrivals_at id ps o) e ≡ true → is_kept e.id (kept_towards node id ps o) ≡ true
 one_keeps node id ps e None is = absurd (false_isnt_true is)

@@ -1,6 +1,6 @@
 -- A feed is closed for a fault of its end.
 use Rattle.std.specs.Prelude.{◌⊎◌}
-use Rattle.std.proofs.Common.{◌≡◌, ℕ, ◌&&◌, ◌||◌, not, if◌then◌else◌, Bool, true, false, List, [], ◌∷◌, ◌++◌, map, Option, Some, None, inl, inr, refl, sym, ap, subst, ◌∙◌}
+use Rattle.std.proofs.Common.{◌≡◌, ℕ, ◌||◌, if◌then◌else◌, Bool, true, false, List, [], ◌∷◌, ◌++◌, map, Option, Some, None, inl, inr, refl, sym, ap, subst, ◌∙◌}
 use Rattle.std.specs.Option.{option_to_list}
 use Rattle.m2_core.specs.LiveNow.{OnFeedNow, is_waiting}
 use Rattle.m2_core.specs.Effects.{IsAftermath, closed_if}
@@ -29,10 +29,9 @@ use Rattle.m2_journal.specs.Steps.{after, breaks, forgets, is_on}
 use Rattle.m2_session.specs.declared.event.Effects.{Effects}
 use Rattle.m2_session.specs.declared.event.Event.TheVariants as event
 use Rattle.m2_session.specs.declared.session.Phase.{Phase}
-use Rattle.m2_session.specs.declared.session.Phase.TheVariants.{Absent, Standby, Wait}
 use Rattle.m2_session.specs.declared.session.Session.{Session}
-use Rattle.m2_session.specs.Steps as table
 use Rattle.m2_session.specs.Steps.{step_of}
+use Rattle.m2_session.proofs.Events.{fault_closes}
 use Rattle.m2_record.specs.Calls.{BytesAreBroken, closed_entries, told_parcels}
 use Rattle.m2_record.specs.IsRecord.{IsRecord, IsReplayedTo, IsWellKept, FeedHasRoom, FeedIsOpen, FeedIsWhole, feeds_in}
 use Rattle.m2_record.specs.RecordNow.{RecordNow, Rooms, ends_of, feed_end, grounds_of, ids_of, speaks_of}
@@ -47,21 +46,6 @@ use Rattle.m2_record.proofs.Telling.{Beside, beside, feed_left, tells-beside, te
 use Rattle.m2_record.proofs.Trailing.{closed-behind, ends-go-on, trails-more}
 use Rattle.m2_bytes.proofs.m2_lemmas.Booleans.{or_right, or_left, false_isnt_true}
 use Rattle.m2_fabric.proofs.Sockets.{same_refl}
-
--- a fault closes the feed, whatever the session is
-abbrev closes-too : Session × Effects → Bool
-closes-too p = p.1.close
-
-rows-close : (a b c : Bool) (x y z d : Session) →
-    closes-too (if a then (x, record table.closes { discard = true }) else (if b then (y, table.closes) else (if c then (z, table.closes) else (d, table.closes)))) ≡ true
-rows-close true b c x y z d = refl
-rows-close false true c x y z d = refl
-rows-close false false true x y z d = refl
-rows-close false false false x y z d = refl
-
-fault-closes : (s : Session) (waits : Bool) → (step_of s (event.Faulted waits)).effects.close ≡ true
-fault-closes s waits = rows-close s.policy.lossy s.policy.server (s.policy.standby && not waits)
-    (record s { phase = Absent; client_cookie = 0; server_cookie = 0 }) (record s { phase = Standby }) (record s { phase = Standby }) (record s { phase = Wait })
 
 -- ---- the entry
 
@@ -108,7 +92,7 @@ module _ (r : RecordNow) (s : State) (h : IsReplayedTo s r) (v : FeedNow) (was :
       same-left = rw (h.core.session, h.core.queue) refl
 
   no-feed : (after_fault r.core.live).feed ≡ None
-  no-feed = tells-feed (event.Faulted (is_waiting r.core.live)) r.core.live ∙ ap (λ b. feed_left b r.core.live.feed) (fault-closes r.core.live.session (is_waiting r.core.live))
+  no-feed = tells-feed (event.Faulted (is_waiting r.core.live)) r.core.live ∙ ap (λ b. feed_left b r.core.live.feed) (fault_closes r.core.live.session (is_waiting r.core.live))
 
   abbrev broken_core : CoreNow
   broken_core = record r.core { live = after_fault r.core.live }
@@ -151,7 +135,7 @@ module _ (r : RecordNow) (s : State) (h : IsReplayedTo s r) (v : FeedNow) (was :
       (subst (λ (o : Option FeedNow). HaveTrails r.core.facts.node.entity (feed_end o ++ r.spent) r.journal r.trails) was t))
 
   closed-all : closed_if left.close r.core.live.feed ≡ Some (after_closing v.end)
-  closed-all = ap (λ b. closed_if b r.core.live.feed) (fault-closes r.core.live.session (is_waiting r.core.live)) ∙ ap (closed_if true) was
+  closed-all = ap (λ b. closed_if b r.core.live.feed) (fault_closes r.core.live.session (is_waiting r.core.live)) ∙ ap (closed_if true) was
 
   pub kept-broken : (now : ℕ) (room : Rooms) → IsWellKept r → IsWellKept (record r {
     core = broken_core;
@@ -205,7 +189,7 @@ module _ (r : RecordNow) (h : IsRecord r) (v : FeedNow) (was : r.core.live.feed 
 -- what is closed is the feed's end
 closed-is : (r : RecordNow) (v : FeedNow) (closed : Option SeenEnd) → r.core.live.feed ≡ Some v → closed ≡ closed_if (left_of r).close r.core.live.feed →
     closed ≡ Some (after_closing v.end)
-closed-is r v closed was e = e ∙ ap (λ b. closed_if b r.core.live.feed) (fault-closes r.core.live.session (is_waiting r.core.live)) ∙ ap (closed_if true) was
+closed-is r v closed was e = e ∙ ap (λ b. closed_if b r.core.live.feed) (fault_closes r.core.live.session (is_waiting r.core.live)) ∙ ap (closed_if true) was
 
 -- what the code has made of a record
 pub record HasBroken (now : ℕ) (r : RecordNow) (c : CoreNow) (journal : List Entry) (spent : List SeenEnd) (parcels : List Parcel) (waits : Waits) (closed : Option SeenEnd) (discarded reset : Bool) : Type 0 where

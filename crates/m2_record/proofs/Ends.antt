@@ -1,5 +1,5 @@
 -- What a list of ends tells of a socket, where the list changes.
-use Rattle.std.proofs.Common.{◌≡◌, Bool, true, false, List, [], ◌∷◌, ◌++◌, Option, Some, None, refl, sym, subst, ◌∙◌}
+use Rattle.std.proofs.Common.{◌≡◌, Bool, true, false, List, [], ◌∷◌, ◌++◌, Option, Some, None, refl, sym, subst, ◌∙◌, ap}
 use Rattle.std.specs.Prelude.{if◌then◌else◌}
 use Rattle.m2_fabric.specs.declared.socket.SocketId.{SocketId}
 use Rattle.m2_fabric.specs.End.{SeenEnd, after_closing}
@@ -9,9 +9,13 @@ use Rattle.m2_record.specs.IsRecord.{closed_in}
 use Rattle.m2_record.specs.RecordNow.{ids_of}
 use Rattle.m2_record.specs.Sources.{broken_of, end_at, got_of, put_of, runs_of}
 use Rattle.m2_bytes.proofs.m2_lemmas.Booleans.{neither_of_or, false_isnt_true}
-use Rattle.m2_fabric.proofs.Sockets.{same_equal}
+use Rattle.m2_fabric.proofs.Sockets.{same_equal, same_refl}
 
 -- ---- among
+
+-- the first of a list is that of its socket
+pub end-first : (e : SeenEnd) (es : List SeenEnd) → end_at (e ∷ es) e.id ≡ Some e
+end-first e es = ap (λ b. if b then Some e else end_at es e.id) (same_refl e.id)
 
 -- a socket that is new to a list of ends has none there
 pub end-new : (ends : List SeenEnd) (k : SocketId) → IsNewTo (ids_of ends) k → end_at ends k ≡ None

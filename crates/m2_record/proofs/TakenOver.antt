@@ -6,7 +6,6 @@ use Rattle.std.specs.Option.{option_to_list}
 use Rattle.std.proofs.Math.Seq.{drop-length}
 use Rattle.std.proofs.lemmas.List.{append-nil, map-append}
 use Rattle.std.proofs.lemmas.List.Elements.{filter_map-append}
-use Rattle.m2_addr.proofs.Addresses.{all_push}
 use Rattle.m2_session.specs.declared.ask.AskFacts.{AskFacts}
 use Rattle.m2_core.specs.Effects.{IsAftermath, closed_if, effects_of}
 use Rattle.m2_core.specs.Waits.{stepped}
@@ -68,6 +67,7 @@ use Rattle.m2_record.proofs.Spending.{SpentOff, closes-behind}
 use Rattle.m2_record.proofs.Telling.{Beside, beside, feed_left, spent_if, told_by}
 use Rattle.m2_record.proofs.Trailing.{LogGoesOn, LogsGoOn, closed-behind, ends-go-on, prefix-same, same-log, trails-go-on}
 use Rattle.m2_bytes.proofs.m2_lemmas.Booleans.{neither_of_or, false_isnt_true}
+use Rattle.m2_bytes.proofs.m2_lemmas.Lists.{all_last}
 use Rattle.m2_fabric.proofs.Sockets.{apart_turned, same_equal, same_refl}
 
 -- ---- a trail more
@@ -256,7 +256,7 @@ trails-taken : (kind : ℕ) (ends : List SeenEnd) (journal : List Entry) (v : Ve
     IsTrailBeside t (log_at ends k) → t.judged ≡ judged_on k (judgements_in journal) ++ judgement_of v ∷ [] → HaveTrails kind ends journal ts → HaveTrails kind ends (journal ++ judged_entry v k ∷ []) (ts ++ t ∷ [])
 trails-taken kind ends journal v k ts t takes_it new socket entity beside judged h = record {
   sockets = map-append (λ (t : TrailNow). t.socket) ts (t ∷ []) ∙ two (h.sockets) socket ∙ sym (filter_map-append taken_by journal (judged_entry v k ∷ []) ∙ ap (λ (l : List SocketId). taken_in journal ++ l) one);
-  each = all_push (IsKeptTrail kind ends (journal ++ judged_entry v k ∷ [])) ts t
+  each = all_last (IsKeptTrail kind ends (journal ++ judged_entry v k ∷ [])) ts t
       (each-still kind ends journal v k ts (subst (λ (l : List SocketId). IsNewTo l k) (sym h.sockets) new) h.each)
       (record {
         entity = entity;

@@ -3,7 +3,7 @@ use Rattle.std.proofs.Common.{◌≡◌, inl, inr, ℕ, ◌+◌, List, [], ◌�
 use Rattle.std.specs.Prelude.{slice_get}
 use Rattle.std.specs.List.{AllByRecursion, flat_map}
 use Rattle.std.specs.Option.{option_to_list}
-use Rattle.std.proofs.lemmas.List.{append-nil}
+use Rattle.std.proofs.lemmas.List.{append-nil, nil_from_length}
 use Rattle.std.proofs.lemmas.List.Concat.{flat_map-append}
 use Rattle.std.proofs.lemmas.List.Sums.{sum_by-append, sum_by-cons}
 use Rattle.std.proofs.lemmas.Option.{none-some, same_Some, slice_get_within}
@@ -14,8 +14,9 @@ use Rattle.m2_dispatch.specs.declared.logged.Logged.{Logged}
 use Rattle.m2_fabric.specs.Port.{SeenPort}
 use Rattle.m2_fabric.specs.declared.port.Cut.{Cut}
 use Rattle.m2_fabric.specs.declared.socket.SocketId.{SocketId}
-use Rattle.m2_handover.specs.Door.{weight_of, weight_on_way, weight_put}
+use Rattle.m2_handover.specs.Door.{weight_by, weight_of, weight_on_way, weight_put}
 use Rattle.m2_handover.specs.Handed.{IsOfNamed, OnItsWay}
+use Rattle.m2_handover.specs.Way.{WayNow}
 use Rattle.m2_handover.specs.m2_mailbox.Passes.{IsGetPassOf, IsPutPassOf, parts_of, puts_of, taken_of}
 use Rattle.m2_handover.specs.m2_mailbox.Views.{all_parts}
 use Rattle.m2_handover.specs.m2_mailbox.declared.inbox.Inbox.{Inbox}
@@ -94,21 +95,21 @@ get_weighs weight gets g =
     let w : Get → ℕ = λ (h : Get). sum_by (weight_on_way weight) (taken_of h) in
     omega (arith, sum_by-append w gets (g ∷ []), sum_by-cons w g [])
 
-way_weighs : (weight : SocketId → ℕ) (way : List (List OnItsWay)) (ways : List (List (List OnItsWay))) → weight_put weight (way ∷ ways) ≡ sum_by (sum_by (weight_on_way weight)) way + weight_put weight ways
-way_weighs weight way ways = sum_by-cons (sum_by (sum_by (weight_on_way weight))) way ways
+way_weighs : (weight : SocketId → ℕ) (way : WayNow) (ways : List WayNow) → weight_put weight (way ∷ ways) ≡ weight_by weight way + weight_put weight ways
+way_weighs weight way ways = sum_by-cons (weight_by weight) way ways
 
 -- ---- the ways of a door, one after another
 
 -- The rights to put so far, of all but these ways.
-pub record ArePutAway (inbox : Inboxes) (first : ℕ) (all left : List (List (List OnItsWay))) (old now : List Put) : Type 0 where
+pub record ArePutAway (inbox : Inboxes) (first : ℕ) (all left : List WayNow) (old now : List Put) : Type 0 where
   pub weighs : (weight : SocketId → ℕ) → weight_put_by weight now + weight_put weight left ≡ weight_put_by weight old + weight_put weight all
   pub rights : ArePutsTo inbox first old → ArePutsTo inbox first now
 
-pub none_away : (inbox : Inboxes) (first : ℕ) (all : List (List (List OnItsWay))) (old : List Put) → ArePutAway inbox first all all old old
+pub none_away : (inbox : Inboxes) (first : ℕ) (all : List WayNow) (old : List Put) → ArePutAway inbox first all all old old
 none_away inbox first all old = record { weighs = λ weight. refl; rights = λ are. are }
 
-pub one_away : (inbox : Inboxes) (first : ℕ) (all left rest : List (List (List OnItsWay))) (old now new : List Put) (way : List (List OnItsWay)) (p : Put) → left ≡ way ∷ rest → new ≡ now ++ p ∷ [] →
-    puts_of p ≡ way → parts_of p ≡ all_parts → IsOfNamed (λ b. IsPutPassOf b p) (inbox (first + length now)) → ArePutAway inbox first all left old now → ArePutAway inbox first all rest old new
+pub one_away : (inbox : Inboxes) (first : ℕ) (all left rest : List WayNow) (old now new : List Put) (way : WayNow) (p : Put) → left ≡ way ∷ rest → new ≡ now ++ p ∷ [] →
+    puts_of p ≡ way.put → parts_of p ≡ all_parts → IsOfNamed (λ b. IsPutPassOf b p) (inbox (first + length now)) → ArePutAway inbox first all left old now → ArePutAway inbox first all rest old new
 one_away inbox first all left rest old now new way p e pushed put whole is a = record {
   weighs = λ weight.
       let w : List (List OnItsWay) → ℕ = sum_by (sum_by (weight_on_way weight)) in
@@ -116,15 +117,11 @@ one_away inbox first all left rest old now new way p e pushed put whole is a = r
   rights = λ are. subst (ArePutsTo inbox first) (sym pushed) (put_more inbox first now p whole is (a.rights are));
 }
 
-no_more : {X : Type 0} (xs : List X) → length xs ≡ 0 → xs ≡ []
-no_more [] none = refl
-no_more (x ∷ xs) none = absurd (omega (arith, none))
-
-pub all_away : (inbox : Inboxes) (first : ℕ) (all left ways : List (List (List OnItsWay))) (begun old now : List Put) → all ≡ ways → length left ≡ 0 → begun ≡ old →
+pub all_away : (inbox : Inboxes) (first : ℕ) (all left ways : List WayNow) (begun old now : List Put) → all ≡ ways → length left ≡ 0 → begun ≡ old →
     ArePutAway inbox first all left begun now → ArePutAway inbox first ways [] old now
 all_away inbox first all left ways begun old now same none first_same a =
     subst (λ ps. ArePutAway inbox first ways [] ps now) first_same
-    (subst (λ ws. ArePutAway inbox first ways ws begun now) (no_more left none) (subst (λ ws. ArePutAway inbox first ws left begun now) same a))
+    (subst (λ ws. ArePutAway inbox first ways ws begun now) (nil_from_length left none) (subst (λ ws. ArePutAway inbox first ws left begun now) same a))
 
 -- ---- a port
 
@@ -133,7 +130,7 @@ parts left puts gets = record { left = left; puts = puts; gets = gets }
 
 -- it is taken apart, and all that it had is beside the rest
 pub port_apart : (inbox : Inboxes) (first : ℕ) (inner : SeenPort) (made : List SocketId) (left new : LeftNow) (puts puts_new : List Put) (gets gets_new : List Get) (g : Get)
-    (at_door on_way : List LooseNow) (taken : List OnItsWay) (ways : List (List (List OnItsWay))) →
+    (at_door on_way : List LooseNow) (taken : List OnItsWay) (ways : List WayNow) →
     new.opened ≡ left.opened → new.at_door ≡ left.at_door ++ at_door → new.on_way ≡ left.on_way ++ on_way → gets_new ≡ gets ++ g ∷ [] → taken_of g ≡ taken →
     IsOfNamed (λ b. IsGetPassOf b g) (inbox (first + length gets)) →
     ((weight : SocketId → ℕ) → sum_by weight inner.made + sum_by (weight_on_way weight) taken ≡ sum_by weight made + sum_by (weight_of weight) (at_door ++ on_way) + weight_put weight ways) →

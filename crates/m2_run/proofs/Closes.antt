@@ -1,17 +1,18 @@
 -- Inboxes that are closed, one after another.
-use Rattle.std.proofs.Common.{◌≡◌, ℕ, zero, suc, ◌+◌, ◌<◌, ◌≤◌, List, [], ◌∷◌, ◌++◌, length, get_or, map, take, drop, reverse, refl, sym, ap, subst, ◌∙◌, arith}
+use Rattle.std.proofs.Common.{◌≡◌, ℕ, zero, suc, ◌+◌, ◌<◌, ◌≤◌, List, [], ◌∷◌, ◌++◌, length, get_or, take, drop, reverse, refl, sym, ap, subst, ◌∙◌, arith}
 use Rattle.std.specs.Prelude.{slice_get, slice_set, sum_by, Some}
 use Rattle.std.specs.List.{AllByRecursion}
 use Rattle.std.proofs.lemmas.List.{drop-set-lt, drop_more, length-append, length-set, reverse-reverse, take_all, take_more, take_more_set}
 use Rattle.std.proofs.lemmas.List.Sums.{sum_by-append, sum_by-cons}
 use Rattle.m2_fabric.specs.declared.socket.SocketId.{SocketId}
 use Rattle.m2_handover.specs.Door.{weight_of, weight_on_way}
-use Rattle.m2_handover.specs.Handed.{AreLeftIn, OnItsWay, left_behind}
+use Rattle.m2_handover.specs.Handed.{AreLeftIn, OnItsWay}
 use Rattle.m2_handover.specs.m2_mailbox.Passes.{IsGetPassOf, IsPutPassOf, parts_of, puts_of, taken_of}
 use Rattle.m2_handover.specs.m2_mailbox.Views.{all_parts}
 use Rattle.m2_handover.specs.m2_mailbox.declared.inbox.Inbox.{Inbox}
 use Rattle.m2_handover.specs.m2_mailbox.declared.passes.GetPass.{GetPass}
 use Rattle.m2_handover.specs.m2_mailbox.declared.passes.PutPass.{PutPass}
+use Rattle.m2_handover.proofs.Weights.{left_weigh}
 use Rattle.m2_trail.specs.Arrivals.{LooseNow}
 use Rattle.m2_trail.specs.declared.home.HomeOf.{HomeOf}
 use Rattle.m2_run.specs.Closing.{AreAllRightsTo, AreLeftOver, HasAllRights, IsLeftOver}
@@ -78,11 +79,6 @@ drop_last xs left_xs x ys left_ys y e f =
     ap (drop (suc (length left_ys))) (sym (ap reverse e ∙ reverse_last left_xs x)) ∙ ap (λ (n : ℕ). drop n (reverse xs)) one
 
 -- ---- what is left there
-
-left_weigh : (weight : SocketId → ℕ) (hs : List OnItsWay) → sum_by (weight_of weight) (map left_behind hs) ≡ sum_by (weight_on_way weight) hs
-left_weigh weight [] = refl
-left_weigh weight (h ∷ hs) =
-    omega (arith, sum_by-cons (weight_of weight) (left_behind h) (map left_behind hs), sum_by-cons (weight_on_way weight) h hs, left_weigh weight hs)
 
 pub left_over : (old new halves : List LooseNow) (puts : List (List OnItsWay)) (taken : List OnItsWay) → new ≡ old ++ halves → AreLeftIn halves puts taken → IsLeftOver old new puts taken
 left_over old new halves puts taken is h weight =

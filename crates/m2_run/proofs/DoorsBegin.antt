@@ -8,9 +8,10 @@ use Rattle.std.proofs.lemmas.Option.{none-some, same_Some}
 use Rattle.m2_fabric.specs.Fabric.{IsUnused}
 use Rattle.m2_fabric.specs.Port.{SeenPort}
 use Rattle.m2_fabric.specs.declared.socket.SocketId.{SocketId}
-use Rattle.m2_handover.specs.Door.{DoorNow, weight_on_way, weight_put}
+use Rattle.m2_handover.specs.Door.{DoorNow, weight_by, weight_on_way, weight_put}
 use Rattle.m2_handover.specs.Handed.{OnItsWay}
 use Rattle.m2_handover.specs.Home.{IsBalanced, weight_at_door}
+use Rattle.m2_handover.specs.Way.{WayNow}
 use Rattle.m2_handover.specs.m2_mailbox.Passes.{IsGetPassOf, IsPutPassOf, owner_of, parts_of, puts_of, taken_of}
 use Rattle.m2_handover.specs.m2_mailbox.Views.{all_parts}
 use Rattle.m2_handover.specs.m2_mailbox.declared.inbox.Inbox.{Inbox}
@@ -169,15 +170,15 @@ ports_more inbox old new made left after next centers rest one e gives doors =
 
 -- ---- where nothing was done
 
-ways_weigh : (weight : SocketId → ℕ) (ways : List (List (List OnItsWay))) → AllByRecursion IsNewWay ways → weight_put weight ways ≡ 0
+ways_weigh : (weight : SocketId → ℕ) (ways : List WayNow) → AllByRecursion IsNewWay ways → weight_put weight ways ≡ 0
 ways_weigh weight [] all = refl
 ways_weigh weight (w ∷ ways) all =
-    let none : sum_by (sum_by (weight_on_way weight)) w ≡ 0 = ap (sum_by (sum_by (weight_on_way weight))) all.0 in
-    omega (arith, sum_by-cons (sum_by (sum_by (weight_on_way weight))) w ways, none, ways_weigh weight ways all.1)
+    let none : weight_by weight w ≡ 0 = ap (sum_by (sum_by (weight_on_way weight))) all.0 in
+    omega (arith, sum_by-cons (weight_by weight) w ways, none, ways_weigh weight ways all.1)
 
-pub new_door : (door : DoorNow) (ways : List (List (List OnItsWay))) → door ≡ record { halves = []; asked = []; over = []; put = ways } → AllByRecursion IsNewWay ways → IsNewDoor (Some door)
+pub new_door : (door : DoorNow) (ways : List WayNow) → door ≡ record { halves = []; asked = []; over = []; ways = ways } → AllByRecursion IsNewWay ways → IsNewDoor (Some door)
 new_door door ways is all weight =
-    let weighs : weight_at_door weight (Some door) ≡ weight_at_door weight (Some (record { halves = []; asked = []; over = []; put = ways })) = ap (λ d. weight_at_door weight (Some d)) is in
+    let weighs : weight_at_door weight (Some door) ≡ weight_at_door weight (Some (record { halves = []; asked = []; over = []; ways = ways })) = ap (λ d. weight_at_door weight (Some d)) is in
     omega (arith, weighs, ways_weigh weight ways all)
 
 pub none_new_door : IsNewDoor None

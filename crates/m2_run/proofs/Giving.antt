@@ -1,11 +1,10 @@
 -- What a node gives back to the fabric: the ends inside those of its records and halves, and what its dispatchers were called with.
 use Rattle.std.proofs.Common.{◌≡◌, ℕ, zero, suc, Bool, true, Option, List, [], ◌∷◌, ◌++◌, map, reverse, take, sym, ap, subst, refl, ◌∙◌, append_assoc, arith, length}
 use Rattle.std.specs.Prelude.{IfOk, OnOk, Result, Ok, Err}
-use Rattle.std.specs.List.{AllByRecursion, flat_map}
+use Rattle.std.specs.List.{flat_map}
 use Rattle.std.specs.Option.{option_to_list}
 use Rattle.std.proofs.lemmas.List.{append-nil, map-append, reverse-reverse}
 use Rattle.std.proofs.lemmas.List.Concat.{flat_map-append}
-use Rattle.m2_bytes.proofs.m2_lemmas.Lists.{all_last}
 use Rattle.m2_dispatch.specs.declared.logged.Logged.{Logged}
 use Rattle.m2_fabric.specs.End.{SeenEnd}
 use Rattle.m2_fabric.specs.Fabric.{Gathered, SeenFabric}
@@ -22,11 +21,7 @@ use Rattle.m2_run.specs.Kept.{ends_of_record}
 use Rattle.m2_run.specs.Lists.{joined}
 use Rattle.m2_run.specs.Rests.{EndedCenterNow, EndedNow}
 use Rattle.m2_run.proofs.Beside.{joined_both, joined_one, next_turned, side_both}
-use Rattle.m2_run.proofs.Places.{reverse_first, reverse_last}
-
-pub all_reversed : {X : Type 0} (P : X → Type 0) (xs : List X) → AllByRecursion P xs → AllByRecursion P (reverse xs)
-all_reversed P [] all = tt
-all_reversed P (x ∷ xs) all = subst (AllByRecursion P) (sym (reverse_first x xs)) (all_last P (reverse xs) x (all_reversed P xs all.1) all.0)
+use Rattle.m2_run.proofs.Places.{reverse_last}
 
 -- an end over one that was handed over and on which all was done again is over the one inside
 pub over_inner : (bound : Option ℕ) (e mid inner : SeenEnd) → IsEndOver bound e mid → mid ≡ told_nothing inner → IsEndOver bound e inner

@@ -29,7 +29,8 @@ use Rattle.m2_run.specs.Ports.{PortNow, seen_port}
 use Rattle.m2_run.specs.declared.planning.StepTowards.{StepTowards}
 use Rattle.m2_run.proofs.StepLists.{plan_at_home}
 use Rattle.m2_script.proofs.Over.{all_owned, all_through, map_through, none_apart}
-use Rattle.m2_run.proofs.Filters.{all_filter, distinct_filter, map_kept}
+use Rattle.m2_run.proofs.Filters.{distinct_filter, map_kept}
+use Rattle.m2_bytes.proofs.m2_lemmas.Lists.{all_filter}
 
 -- a side that is to do this
 abbrev planned_side : RecordNow → List PlanStep → SideMade

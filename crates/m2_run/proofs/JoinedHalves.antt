@@ -34,6 +34,7 @@ use Rattle.m2_record.specs.IsRecord.{IsRecord}
 use Rattle.m2_record.specs.RecordNow.{RecordNow, ends_of, ids_of}
 use Rattle.m2_record.specs.Sources.{end_at, got_of}
 use Rattle.m2_record.specs.TakenTrails.{judgements_in}
+use Rattle.m2_record.proofs.Kept.{ids-append}
 use Rattle.m2_script.specs.m2_center.Center.{CenterNow}
 use Rattle.m2_script.specs.m2_center.Finishing.{rest_of}
 use Rattle.m2_script.specs.m2_center.m2_turn.Sessions.{peer_of}
@@ -77,16 +78,13 @@ opened_sockets bound (l ∷ ls) (o ∷ os) all = ap (λ k. k ∷ sockets_of os) 
 
 -- ---- sockets, however often they stand somewhere
 
-ids_both : (xs ys : List SeenEnd) → ids_of (xs ++ ys) ≡ ids_of xs ++ ids_of ys
-ids_both xs ys = map-append (λ (e : SeenEnd). e.id) xs ys
-
 ids_of_halves : (ls : List LooseNow) → ids_of (map (λ (l : LooseNow). l.end) ls) ≡ sockets_of ls
 ids_of_halves [] = refl
 ids_of_halves (l ∷ ls) = ap (λ ks. l.end.id ∷ ks) (ids_of_halves ls)
 
 -- those of ends, and then those of halves
 times_ended : (k : SocketId) (es : List SeenEnd) (ls : List LooseNow) → times k (ids_of (es ++ map (λ (l : LooseNow). l.end) ls)) ≡ times k (ids_of es) + times k (sockets_of ls)
-times_ended k es ls = ap (times k) (ids_both es (map (λ (l : LooseNow). l.end) ls) ∙ ap (λ ks. ids_of es ++ ks) (ids_of_halves ls)) ∙ times_both k (ids_of es) (sockets_of ls)
+times_ended k es ls = ap (times k) (ids-append es (map (λ (l : LooseNow). l.end) ls) ∙ ap (λ ks. ids_of es ++ ks) (ids_of_halves ls)) ∙ times_both k (ids_of es) (sockets_of ls)
 
 times_left : (k : SocketId) (ls ms : List LooseNow) → times k (sockets_of (ls ++ ms)) ≡ times k (sockets_of ls) + times k (sockets_of ms)
 times_left k ls ms = ap (times k) (map-append (λ (l : LooseNow). l.end.id) ls ms) ∙ times_both k (sockets_of ls) (sockets_of ms)
@@ -96,7 +94,7 @@ records_of_all cs = flat_map (λ (c : CenterNow (List Logged)). c.records) cs
 
 times_of_records : (k : SocketId) (rs ss : List RecordNow) → times k (ids_of (ends_of_all (rs ++ ss))) ≡ times k (ids_of (ends_of_all rs)) + times k (ids_of (ends_of_all ss))
 times_of_records k rs ss =
-    ap (λ es. times k (ids_of es)) (flat_map-append ends_of rs ss) ∙ ap (times k) (ids_both (ends_of_all rs) (ends_of_all ss)) ∙ times_both k (ids_of (ends_of_all rs)) (ids_of (ends_of_all ss))
+    ap (λ es. times k (ids_of es)) (flat_map-append ends_of rs ss) ∙ ap (times k) (ids-append (ends_of_all rs) (ends_of_all ss)) ∙ times_both k (ids_of (ends_of_all rs)) (ids_of (ends_of_all ss))
 
 abbrev IsOpenedIn : List Cut → CenterNow (List Logged) → List LooseNow → Type 0
 IsOpenedIn cuts c os = SideBySide (IsOpenedAs (bound_of cuts c.port.made)) (rest_of c).loose os

@@ -4,13 +4,14 @@ use Rattle.std.proofs.Common.{◌≡◌, ℕ, zero, suc, ◌+◌, ◌<◌, ◌%�
 use Rattle.std.specs.Prelude.{AllPairs, slice_get}
 use Rattle.std.specs.List.{AllByRecursion, IsDistinct, flat_map}
 use Rattle.std.specs.Option.{option_map}
-use Rattle.std.proofs.lemmas.Bool.{and_parts, eq-eqb, eqb-true}
+use Rattle.std.proofs.lemmas.Bool.{and_parts, eqb-true}
 use Rattle.std.proofs.lemmas.List.{map-append}
 use Rattle.std.proofs.lemmas.List.Elements.{recursion_from_All}
 use Rattle.std.proofs.lemmas.Option.{none-some, same_Some}
 use Rattle.m2_addr.specs.declared.addr.Addr.{Addr}
 use Rattle.m2_bytes.proofs.m2_lemmas.Booleans.{both_of_and, not_true_is_false}
-use Rattle.m2_bytes.proofs.m2_lemmas.Lists.{all_append, all_last, all_map, all_so_of}
+use Rattle.m2_bytes.proofs.m2_lemmas.Lists.{all_append, all_last, all_map, all_reverse, all_so_of}
+use Rattle.m2_bytes.proofs.m2_lemmas.Numbers.{test_turned}
 use Rattle.m2_dispatch.specs.declared.logged.Logged.{Logged}
 use Rattle.m2_fabric.specs.SimFabric.{same_place}
 use Rattle.m2_links_go_on.proofs.m2_growth.Among.{one_back, one_front}
@@ -37,10 +38,6 @@ map_turned f [] = refl
 map_turned f (x ∷ xs) =
     ap (map f) (reverse_first x xs) ∙ map-append f (reverse xs) (x ∷ []) ∙ ap (λ ys. ys ++ f x ∷ []) (map_turned f xs) ∙ sym (reverse_first (f x) (map f xs))
 
-all_turned : {X : Type 0} (P : X → Type 0) (xs : List X) → AllByRecursion P xs → AllByRecursion P (reverse xs)
-all_turned P [] all = tt
-all_turned P (x ∷ xs) all = subst (AllByRecursion P) (sym (reverse_first x xs)) (all_last P (reverse xs) x (all_turned P xs all.1) all.0)
-
 one_turned : {X : Type 0} (x : X) (xs : List X) → IsOneOf x xs → IsOneOf x (reverse xs)
 one_turned x [] i = absurd i
 one_turned x (y ∷ xs) (inl e) = subst (IsOneOf x) (sym (reverse_first y xs)) (one_back x (reverse xs) (y ∷ []) (inl e))
@@ -58,20 +55,12 @@ distinct_turned e swaps [] d = tt
 distinct_turned e swaps (x ∷ xs) d =
     subst (IsDistinct e) (sym (reverse_first x xs))
     (distinct_last e (reverse xs) x (distinct_turned e swaps xs d.1)
-    (all_turned (λ y. e y x ≡ false) xs (all_so_of (λ y. e x y ≡ false) (λ y. e y x ≡ false) xs (λ y p. swaps x y p) d.0)))
+    (all_reverse (λ y. e y x ≡ false) xs (all_so_of (λ y. e x y ≡ false) (λ y. e y x ≡ false) xs (λ y p. swaps x y p) d.0)))
 
 -- ---- places
 
-eqb_turned : (m n : ℕ) → (m == n) ≡ (n == m)
-eqb_turned m n = by (m == n) (n == m) refl refl
-  where
-    by : (b c : Bool) → (m == n) ≡ b → (n == m) ≡ c → b ≡ c
-    by true c p q = sym (eq-eqb n m (sym (eqb-true m n p))) ∙ q
-    by false true p q = sym p ∙ eq-eqb m n (sym (eqb-true n m q))
-    by false false p q = refl
-
 places_turned : (a b : Addr) → same_place a b ≡ false → same_place b a ≡ false
-places_turned a b p = ap (λ c. c && (b.port == a.port)) (eqb_turned b.ip a.ip) ∙ ap (λ c. (a.ip == b.ip) && c) (eqb_turned b.port a.port) ∙ p
+places_turned a b p = ap (λ c. c && (b.port == a.port)) (test_turned b.ip a.ip) ∙ ap (λ c. (a.ip == b.ip) && c) (test_turned b.port a.port) ∙ p
 
 parted : (x y : Node) → AreApart x y → same_place x.at y.at ≡ false
 parted x y apart = by (same_place x.at y.at) refl
@@ -198,7 +187,7 @@ all_each P (x ∷ nodes) (n ∷ kept) each = (each 0 x n refl refl, all_each P n
 
 pub each_left : (P : LeftNode → Type 0) (nodes : List Node) (kept : List KeptNow) → ((k : ℕ) (x : Node) (n : KeptNow) → slice_get nodes k ≡ Some x → slice_get kept k ≡ Some n → P (left_at x.at n)) →
     AllByRecursion P (left_of_all nodes kept)
-each_left P nodes kept each = all_turned P (left_each nodes kept) (all_each P nodes kept each)
+each_left P nodes kept each = all_reverse P (left_each nodes kept) (all_each P nodes kept each)
 
 pub halves_are : (nodes : List Node) (kept : List KeptNow) → length kept ≡ length nodes → all_halves (left_of_all nodes kept) ≡ loose_of kept
 halves_are [] [] many = refl

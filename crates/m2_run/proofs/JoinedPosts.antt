@@ -2,7 +2,7 @@
 use Rattle.std.proofs.Common.{◌≡◌, ℕ, zero, suc, Bool, true, false, ◌&&◌, ◌==◌, if◌then◌else◌, List, [], ◌∷◌, map, Some, None, sym, subst}
 use Rattle.std.specs.Prelude.{slice_get}
 use Rattle.std.specs.List.{AllByRecursion, cons_option}
-use Rattle.m2_links_go_on.proofs.m2_growth.m2_bytes_fit.Posts.{sendable_keeps}
+use Rattle.m2_links_go_on.proofs.m2_growth.m2_bytes_fit.Posts.{one_post, sendable_keeps}
 use Rattle.m2_links_go_on.specs.m2_growth.m2_bytes_fit.Posts.{IsOfTypes}
 use Rattle.m2_links_go_on.specs.m2_growth.m2_bytes_fit.Texts.{CanBePosted}
 use Rattle.m2_links_go_on.specs.m2_history.Link.{parts_of}
@@ -11,7 +11,6 @@ use Rattle.m2_journal.specs.Items as item
 use Rattle.m2_journal.specs.Items.{JournalItem, Places, Sources, at_start, item_of, items_from, passed}
 use Rattle.m2_journal.specs.Plan.{planned}
 use Rattle.m2_journal.specs.declared.entry.Entry.{Entry}
-use Rattle.m2_journal.specs.declared.entry.Entry.TheVariants as entry
 use Rattle.m2_journal.specs.declared.facts.PlanStep.{PlanStep}
 use Rattle.m2_journal.specs.declared.facts.PlanStep.TheVariants as step
 use Rattle.m2_links_go_on.specs.LeftLaws.{PostsFit}
@@ -53,22 +52,6 @@ post_at place (step.Post m ∷ steps) zero can within = sendable_keeps m within.
 post_at place (step.Dial ∷ steps) zero can within = tt
 post_at place (step.Down ∷ steps) zero can within = tt
 post_at place (x ∷ steps) (suc n) can within = post_at place steps n can.1 within.1
-
-one_post : (s : Sources) → ((place n : ℕ) → CanBePosted (item.post place (slice_get s.plan n))) → (p : Places) (e : Entry) → CanBePosted (item_of s p e)
-one_post s h p (entry.Post place) = h place p.steps
-one_post s h p entry.Dial = tt
-one_post s h p (entry.Opened socket) = tt
-one_post s h p (entry.Read socket count) = tt
-one_post s h p (entry.Wrote socket count) = tt
-one_post s h p (entry.Closed socket) = tt
-one_post s h p (entry.Judged socket ask number answer) = tt
-one_post s h p (entry.Asked ident number) = tt
-one_post s h p (entry.Numbered number) = tt
-one_post s h p (entry.Accepted number key) = tt
-one_post s h p (entry.Acked number) = tt
-one_post s h p (entry.Obeyed full) = tt
-one_post s h p (entry.Down true) = tt
-one_post s h p (entry.Down false) = tt
 
 all_items : (P : JournalItem → Type 0) (s : Sources) → ((p : Places) (e : Entry) → P (item_of s p e)) → (p : Places) (es : List Entry) → AllByRecursion P (items_from s p es)
 all_items P s h p [] = tt

@@ -23,6 +23,7 @@ pub mod JoinedSides
 pub mod KeptOnce
 pub mod Lasts
 pub mod Leaves
+pub mod Listens
 pub mod NewRecords
 pub mod NodesBegin
 pub mod OutPorts

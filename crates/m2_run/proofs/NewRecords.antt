@@ -19,7 +19,8 @@ use Rattle.m2_script.specs.declared.made.Towards.{Towards}
 use Rattle.m2_script.proofs.Over.{IsOver, all_over, all_through, map_through}
 use Rattle.m2_run.specs.Homes.{at_home, home_at, is_at_home}
 use Rattle.m2_run.specs.Planned.{AreNewRecords, begun_as, side_by}
-use Rattle.m2_run.proofs.Filters.{all_filter, distinct_filter}
+use Rattle.m2_run.proofs.Filters.{distinct_filter}
+use Rattle.m2_bytes.proofs.m2_lemmas.Lists.{all_filter}
 
 -- as a record of a run begins, without its room
 abbrev pub new_one : RecordNow → RecordNow

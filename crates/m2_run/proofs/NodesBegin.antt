@@ -8,6 +8,7 @@ use Rattle.std.proofs.lemmas.List.Elements.{recursion_from_All}
 use Rattle.std.proofs.lemmas.Option.{get_or_from_slice_get, none-some, same_Some, slice_get-get_or, slice_get_within}
 use Rattle.m2_addr.specs.declared.addr.Addr.{Addr}
 use Rattle.m2_bytes.specs.Items.{Holding}
+use Rattle.m2_bytes.proofs.m2_lemmas.Lists.{all_filter, map_same}
 use Rattle.m2_script.specs.m2_center.Center.{CenterNow}
 use Rattle.m2_script.specs.m2_center.Making.{new_center}
 use Rattle.m2_links_go_on.specs.Course.{IsOnCourse}
@@ -50,10 +51,10 @@ use Rattle.m2_run.specs.Sharing.{ShareNow}
 use Rattle.m2_run.specs.Way.{AreNodesOf, IsCenterOf, IsNodeOf, IsOff, IsUnderWay, made_in}
 use Rattle.m2_run.specs.Working.{AreGrouped, WorkerNow, center_of, node_of, nodes_of_workers}
 use Rattle.m2_run.specs.declared.planning.StepTowards.{StepTowards}
-use Rattle.m2_run.proofs.Filters.{all_filter, distinct_filter, filter_mapped}
+use Rattle.m2_run.proofs.Filters.{distinct_filter, filter_mapped}
 use Rattle.m2_run.proofs.HomesBegin.{kept_can_begin}
 use Rattle.m2_run.proofs.Places.{get_of_map}
-use Rattle.m2_run.proofs.WorkersBegin.{as_many}
+use Rattle.m2_run.proofs.Goings.{as_many_nodes}
 
 -- ---- steps
 
@@ -190,10 +191,6 @@ side_with r p = record { place = r.place; facts = waiting r.core.facts; plan = p
 abbrev node_with : (entity : ℕ) → Addr → List SideMade → NodeMade
 node_with entity at sides = record { entity = entity; at = at; sides = sides }
 
-map_same : {X Y : Type 0} (f g : X → Y) → ((x : X) → f x ≡ g x) → (xs : List X) → map f xs ≡ map g xs
-map_same f g so [] = refl
-map_same f g so (x ∷ xs) = ap (λ y. y ∷ map f xs) (so x) ∙ ap (λ ys. g x ∷ ys) (map_same f g so xs)
-
 module _ (C : Type 0) (may_give_of : C → ℕ → Type 0) (clock : C) (on_course : CentersBeginOnCourse (List Logged) C may_give_of) (begin_logged : BeginLogged (List Logged)) (begin_of_peers : BeginOfPeers (List Logged))
     (can_begin : NewRecordsCanBegin) (moment : ℕ) (given : may_give_of clock moment) (nodes : List Node) (links : List Link) (lines : List Line) (sound : IsSound nodes links (map draft_line lines)) where
   module _ (k : ℕ) (x : Node) (there : slice_get nodes k ≡ Some x) (j word : ℕ) (c : CenterNow (List Logged)) (b : IsBeginning nodes links (steps_in lines k) k j word x c) where
@@ -284,7 +281,7 @@ module _ (C : Type 0) (may_give_of : C → ℕ → Type 0) (clock : C) (on_cours
   pub nodes_begin : (shares : List ShareNow) (ws : List WorkerNow) → AreBeginning nodes links (steps_in lines) 0 nodes ws → AreGrouped nodes shares ws →
       AreNodesOf (may_give_of clock) moment nodes links lines (nodes_of_workers nodes shares ws)
   nodes_begin shares ws are groups = record {
-    count = as_many nodes shares ws groups;
+    count = as_many_nodes nodes shares ws groups;
     each = λ k x n e f.
         let at : (l : ℕ) → 0 + l ≡ l = λ l. omega arith in
         subst (λ (i : ℕ). IsNodeOf (may_give_of clock) moment nodes links lines i x n) (at k)

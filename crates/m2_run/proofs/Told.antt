@@ -7,7 +7,7 @@ use Rattle.std.proofs.lemmas.Bool.{eqb-true, false≢true}
 use Rattle.std.proofs.lemmas.List.{map-append}
 use Rattle.std.proofs.lemmas.List.Elements.{All-from_recursion}
 use Rattle.std.proofs.lemmas.Option.{slice_get_within}
-use Rattle.m2_bytes.proofs.m2_lemmas.Lists.{all_append}
+use Rattle.m2_bytes.proofs.m2_lemmas.Lists.{all_append, all_filter}
 use Rattle.m2_bytes.specs.Items.{Holding}
 use Rattle.m2_script.specs.m2_center.Center.{CenterNow}
 use Rattle.m2_links_go_on.specs.Made.{SideMade, side_made}
@@ -15,7 +15,6 @@ use Rattle.m2_dispatch.specs.Heard.{Heard, heard_by, heard_of, peer_of}
 use Rattle.m2_dispatch.specs.declared.logged.Logged.{Logged}
 use Rattle.m2_links_go_on.specs.OfPeers.{IsPeerOf}
 use Rattle.m2_record.specs.RecordNow.{RecordNow}
-use Rattle.m2_run.proofs.Filters.{all_filter}
 use Rattle.m2_scenario.specs.Report.{AreLogsOf, IsLogOf, IsOfNodes, heard_in}
 use Rattle.m2_scenario.specs.declared.line.Line.{Line}
 use Rattle.m2_scenario.specs.declared.link.Link.{Link}

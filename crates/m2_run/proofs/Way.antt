@@ -1,12 +1,12 @@
 -- Centers go on: in a turn, where they wait, where time passes, and in one of these after another.
-use Rattle.std.proofs.Common.{◌≡◌, inl, inr, ℕ, ◌≤◌, Bool, true, false, List, refl, sym, subst, ◌∙◌, le_refl, le_trans}
+use Rattle.std.proofs.Common.{◌≡◌, inl, inr, ℕ, ◌≤◌, Bool, true, List, refl, sym, subst, ◌∙◌, le_refl, le_trans}
 use Rattle.m2_script.specs.m2_center.Center.{CenterNow}
 use Rattle.m2_script.specs.m2_center.CenterTurn.{means_at}
 use Rattle.m2_links_go_on.specs.CourseLaws.{PollsStayOnCourse, TurnsStayOnCourse, WaitingStaysOnCourse}
 use Rattle.m2_links_go_on.specs.Made.{NodeMade}
 use Rattle.m2_dispatch.specs.Heard.{heard_by}
 use Rattle.m2_dispatch.specs.declared.logged.Logged.{Logged}
-use Rattle.m2_fabric.proofs.m2_lemmas.Booleans.{false_isnt_true}
+use Rattle.m2_fabric.proofs.m2_lemmas.Booleans.{from_true_false}
 use Rattle.m2_links_go_on.specs.ClusterLaws.{TurnGrows}
 use Rattle.m2_links_go_on.specs.LeftLaws.{ComingStays}
 use Rattle.m2_links_go_on.specs.LogLaws.{TurnsStayLogged, holding_in}
@@ -16,10 +16,6 @@ use Rattle.m2_run.specs.WayLaws.{PollsGoOn, StepsGoOn, TurnsGoOn, WaitingGoesOn}
 use Rattle.m2_run.specs.Working.{WorkerNow, Works}
 
 -- ---- a center
-
--- what is on needn't be as it was
-is_on : {P : Type 0} → true ≡ false → P
-is_on h = absurd (false_isnt_true (sym h))
 
 -- where nothing happens
 pub goes_not : (may_give : ℕ → Type 0) (moment : ℕ) (started : Bool) (c : CenterNow (List Logged)) → GoesOn may_give moment moment started c c
@@ -45,7 +41,7 @@ turns_go_on E C may_give on_course grows coming logged of_peers clock from now n
         logged = logged heard_by m t.answer old new turn w.course.own t.before t.behind w.logged;
         peers = of_peers heard_by m t.answer old new turn w.peers;
       };
-      off = λ h. is_on h;
+      off = λ h. from_true_false h;
     }
 
 pub polls_go_on : (C : Type 0) (may_give : C → ℕ → Type 0) → PollsStayOnCourse (List Logged) C may_give → PollsGoOn C may_give
@@ -59,7 +55,7 @@ polls_go_on C may_give on_course clock moment old new polls =
             logged = w.logged;
             peers = w.peers;
           });
-      off = λ h. is_on h;
+      off = λ h. from_true_false h;
     }
 
 pub waiting_goes_on : (C : Type 0) (may_give : C → ℕ → Type 0) → WaitingStaysOnCourse (List Logged) C may_give → WaitingGoesOn C may_give

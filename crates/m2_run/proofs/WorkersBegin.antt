@@ -9,7 +9,7 @@ use Rattle.m2_scenario.specs.declared.link.Link.{Link}
 use Rattle.m2_scenario.specs.declared.node.Node.{Node}
 use Rattle.m2_run.specs.Begins.{AddsWorkers, AreBeginning, AreBeginningAt, IsBeginning}
 use Rattle.m2_run.specs.Sharing.{ShareNow}
-use Rattle.m2_run.specs.Working.{AreGrouped, AreWorkersOf, IsGroup, WorkerNow, nodes_of_workers}
+use Rattle.m2_run.specs.Working.{AreGrouped, AreWorkersOf, IsGroup, WorkerNow}
 use Rattle.m2_run.specs.declared.planning.StepTowards.{StepTowards}
 use Rattle.m2_script.proofs.SoFar.{one_of}
 
@@ -35,11 +35,6 @@ ok_so (Ok x) A B so a = so x a
 ok_so (Err e) A B so a = tt
 
 -- ---- workers of nodes, node by node
-
-pub as_many : (nodes : List Node) (shares : List ShareNow) (ws : List WorkerNow) → AreGrouped nodes shares ws → length (nodes_of_workers nodes shares ws) ≡ length nodes
-as_many [] shares ws groups = refl
-as_many (x ∷ nodes) [] ws groups = absurd groups
-as_many (x ∷ nodes) (s ∷ shares) ws groups = ap suc (as_many nodes shares (drop x.centers ws) groups.1)
 
 -- a group is no longer than what it is taken of
 fits : (n : ℕ) (ws : List WorkerNow) → length (take n ws) ≡ n → n ≤ length ws

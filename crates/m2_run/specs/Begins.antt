@@ -9,6 +9,7 @@ use Rattle.m2_fabric.specs.declared.socket.SocketId.{SocketId}
 use Rattle.m2_handover.specs.Door.{DoorNow}
 use Rattle.m2_handover.specs.Handed.{OnItsWay}
 use Rattle.m2_handover.specs.Home.{HomeNow, weight_at_door}
+use Rattle.m2_handover.specs.Way.{WayNow}
 use Rattle.m2_links_go_on.specs.Made.{IsBegun, side_made}
 use Rattle.m2_handover.specs.m2_mailbox.Passes.{IsGetPassOf, taken_of}
 use Rattle.m2_handover.specs.m2_mailbox.declared.inbox.Inbox.{Inbox}
@@ -106,8 +107,8 @@ pub record AreDoorsAmid (inbox : ℕ → Option (Inbox OnItsWay HomeOf)) (its re
   pub rooms : AreRoomsAmid its rest (drop d.next d.inboxes) d.puts d.gets
 
 -- a way by which nothing was put
-abbrev pub IsNewWay : List (List OnItsWay) → Type 0
-IsNewWay way = way ≡ [] ∷ []
+abbrev pub IsNewWay : WayNow → Type 0
+IsNewWay way = way.put ≡ [] ∷ []
 
 -- nothing is at a node's door, and nothing went through it
 abbrev pub IsNewDoor : Option DoorNow → Type 0

@@ -2,7 +2,11 @@
 use Rattle.std.specs.Prelude.{◌≡◌, ℕ, ◌<◌, ◌≤◌, true, false, List, slice_get, Some}
 use Rattle.m2_edge.specs.Faults.{HasRisen}
 use Rattle.m2_fabric.specs.Fabric.{ListensAlone, SeenFabric}
+use Rattle.m2_fabric.specs.declared.fabric.ListenFault.{ListenFault}
+use Rattle.m2_fabric.specs.declared.fabric.ListenFault.TheVariants as listen
 use Rattle.m2_scenario.specs.declared.node.Node.{Node}
+use Rattle.m2_run.specs.declared.outcome.RunFault.{RunFault}
+use Rattle.m2_run.specs.declared.outcome.RunFault.TheVariants as fault
 
 -- of the nodes before place k each that is started listens at its address
 abbrev pub ListenBefore : (k : ℕ) → List Node → SeenFabric → Type 0
@@ -31,6 +35,12 @@ pub record IsBindFault (node : ℕ) (nodes : List Node) (old new : SeenFabric) :
   pub alone : ListensAlone node mid new
   pub here : new.listens node ≡ mid.listens node
 
+-- why the nodes don't all listen; of want of memory nothing is said
+abbrev pub IsListeningFault : RunFault → List Node → (old new : SeenFabric) → Type 0
+IsListeningFault fault.NoMemory nodes old new = Unit {0}
+IsListeningFault (fault.Bind node) nodes old new = IsBindFault node nodes old new
+IsListeningFault (fault.Unfit u) nodes old new = ⊥
+
 -- ---- one after another
 
 -- the node at place k listens at its address, where it is started; all else stays but the count of faults
@@ -41,11 +51,16 @@ pub record ListensSo (k : ℕ) (x : Node) (old new : SeenFabric) : Type 0 where
   pub never_falls : old.faults ≤ new.faults
 
 -- it couldn't, and the count rose
-pub record CantListen (k : ℕ) (x : Node) (old new : SeenFabric) : Type 0 where
+pub record FailsToListen (k : ℕ) (x : Node) (old new : SeenFabric) : Type 0 where
   pub started : x.started ≡ true
   pub rises : HasRisen old.faults new.faults
   pub alone : ListensAlone k old new
   pub here : new.listens k ≡ old.listens k
+
+-- so it was, or memory ran out
+abbrev pub CantListen : ListenFault → (k : ℕ) → Node → (old new : SeenFabric) → Type 0
+CantListen listen.Failed k x old new = FailsToListen k x old new
+CantListen listen.NoMemory k x old new = Unit {0}
 
 -- each node before place k that is started listens at its address; all else stays
 pub record ListenSoFar (k : ℕ) (nodes : List Node) (old new : SeenFabric) : Type 0 where

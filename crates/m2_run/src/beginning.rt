@@ -163,6 +163,7 @@ impl<'a, E: End, B: Inboxes<E>> Doors<'a, E, B> {
 
 /// The nodes of a valid scenario, each with its workers, in order, at the moment of the start. Each that is started listens, and
 /// has its ports of the fabric. The messages are moved out of the lines into the records' plans.
+#[tactic(auto, using(crate::proofs::Listens::listening_fault))]
 pub(crate) fn begin<'a, 's, R, F, C, W, B>(
     rt: R,
     alloc: Global,
@@ -191,8 +192,8 @@ where
     ensures out { IfOk result (λ _. AreOut nodes.now (F.seen fabric.old) (F.seen fabric.new)) }
     ensures err { IfErr result (IsFaultOf (C.may_give clock.now) nodes.now links.now lines.items (F.seen fabric.old) (F.seen fabric.new)) }
 {
-    if let Err(node) = listen_all(fabric, nodes) {
-        return Err(RunFault::Bind { node });
+    if let Err(fault) = listen_all(fabric, nodes) {
+        return Err(fault);
     }
     let start = clock.now();
     new_records_can_begin();

@@ -385,7 +385,7 @@ fn keep_put<E: End, B: Inboxes<E>>(
     first: usize,
     way: Way<E, B>,
 ) -> Result<(), NoMemory>
-    ensures puts { OnOk result ((pass : PutPass OnItsWay HomeOf) × (rights.new.puts.items ≡ rights.old.puts.items ++ pass ∷ []) × (puts_of pass ≡ way) × (parts_of pass ≡ all_parts) × IsOfNamed (λ inbox. IsPutPassOf inbox pass) (slice_get B.inboxes (first + length rights.old.puts.items))) }
+    ensures puts { OnOk result ((pass : PutPass OnItsWay HomeOf) × (rights.new.puts.items ≡ rights.old.puts.items ++ pass ∷ []) × (puts_of pass ≡ way.put) × (parts_of pass ≡ all_parts) × IsOfNamed (λ inbox. IsPutPassOf inbox pass) (slice_get B.inboxes (first + length rights.old.puts.items))) }
     ensures gets { rights.new.gets.items ≡ rights.old.gets.items }
 {
     let (number, pass) = way.into_pass();

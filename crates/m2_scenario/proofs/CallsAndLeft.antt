@@ -10,7 +10,8 @@ use Rattle.m2_scenario.specs.Draft.{DraftLine, post, dial, down, cut, turn, flow
 use Rattle.m2_scenario.specs.Valid.{IsLine, IsLink, JoinOthers}
 use Rattle.m2_scenario.specs.OrderLaws.{AreAll, CallsAndLeftArePosts}
 use Rattle.m2_scenario.specs.Order.{HearsNoReset, IsNoResetBy, IsPeer, OverEach, at, count_over, is_post_between, messages_between, posts_between}
-use Rattle.m2_bytes.proofs.m2_lemmas.Booleans.{one_of_or}
+use Rattle.m2_bytes.proofs.m2_lemmas.Booleans.{one_of_or, or_true}
+use Rattle.m2_bytes.proofs.m2_lemmas.Numbers.{same_number, test_turned}
 
 -- ---- sums over links
 
@@ -47,14 +48,8 @@ nothing_over is_so (l ∷ ls) = one_over is_so l ls (λ x y. 0) ∙ omega (arith
 abbrev one : (a b x y : ℕ) → ℕ
 one a b x y = cond ((a == x) && (b == y)) 1 0
 
-turned_test : (m n : ℕ) → (m == n) ≡ (n == m)
-turned_test m n = grind (arith, nat_tests)
-
 same_from : (m n : ℕ) → (m == n) ≡ true → m ≡ n
 same_from m n h = grind (arith, nat_tests)
-
-same_test : (m n : ℕ) → m ≡ n → (m == n) ≡ true
-same_test m n h = grind (arith, nat_tests)
 
 and_first : (p q : Bool) → (p && q) ≡ true → p ≡ true
 and_first true q h = refl
@@ -74,13 +69,9 @@ ends_of a b l h = elim (one_of_or ((l.a == a) && (l.b == b)) ((l.a == b) && (l.b
   | inr p ↦ inr (same_from _ _ (and_first _ _ p), same_from _ _ (and_second _ _ p))
 ]
 
-or_true : (p : Bool) → (p || true) ≡ true
-or_true true = refl
-or_true false = refl
-
 joins_so : (a b : ℕ) (l : Link) → AreEnds a b l → joins a b l ≡ true
-joins_so a b l (inl h) = rw (same_test l.a a h.0, same_test l.b b h.1) refl
-joins_so a b l (inr h) = rw (same_test l.a b h.0, same_test l.b a h.1) (or_true _)
+joins_so a b l (inl h) = rw (same_number l.a a h.0, same_number l.b b h.1) refl
+joins_so a b l (inr h) = rw (same_number l.a b h.0, same_number l.b a h.1) (or_true _)
 
 -- where a link joins the two, another doesn't
 not_again : (a b : ℕ) (l m : Link) → joins a b l ≡ true → JoinOthers l m → joins a b m ≡ false
@@ -115,7 +106,7 @@ counted_here a b l differ =
     let p : Bool = (a == l.a) && (b == l.b) in
     let q : Bool = (b == l.a) && (a == l.b) in
     let no_both : p ≡ true → q ≡ true → ⊥ = λ e f. differ (sym (same_from a l.a (and_first _ _ e)) ∙ same_from a l.b (and_second (b == l.a) (a == l.b) f)) in
-    let tests : joins a b l ≡ (p || q) = rw (turned_test l.a a, turned_test l.b b, turned_test l.a b, turned_test l.b a) refl in
+    let tests : joins a b l ≡ (p || q) = rw (test_turned l.a a, test_turned l.b b, test_turned l.a b, test_turned l.b a) refl in
     one_of_two p q ((a == l.b) && (b == l.a)) no_both (swapped (b == l.a) (a == l.b)) ∙ ap (λ (t : Bool). cond t 1 0) (sym tests)
 
 -- links of two nodes each, no two of which join the same
@@ -272,7 +263,7 @@ heard_before k (cs ∷ hs) x y h = rw (test_before k y h) (omega (arith, heard_b
 heard_there : (k : ℕ) (hs : List (List Heard)) (x y z : ℕ) → z ≡ k + y → heard_from k hs x z ≡ count_by (is_message_from x) (at y hs)
 heard_there k [] x y z e = refl
 heard_there k (cs ∷ hs) x zero z e =
-    let here : (k == z) ≡ true = same_test k z (omega (arith, e)) in
+    let here : (k == z) ≡ true = same_number k z (omega (arith, e)) in
     let rest : heard_from (k + 1) hs x z ≡ 0 = heard_before (k + 1) hs x z (omega (arith, e)) in
     rw here (omega (arith, rest))
 heard_there k (cs ∷ hs) x (suc y) z e =
@@ -300,7 +291,7 @@ are_messages nodes links k [] peers no_reset = tt
 are_messages nodes links k (message p key number life m ∷ cs) peers no_reset =
     (peers.0.joined, are_messages nodes links k cs peers.1 (λ x joined. (no_reset x joined).1))
 are_messages nodes links k (reset p ∷ cs) peers no_reset =
-    absurd (let this : (p == p) ≡ false = (no_reset p peers.0.joined).0 in let so : (p == p) ≡ true = same_test p p refl in cc)
+    absurd (let this : (p == p) ≡ false = (no_reset p peers.0.joined).0 in let so : (p == p) ≡ true = same_number p p refl in cc)
 
 -- ---- all of it
 

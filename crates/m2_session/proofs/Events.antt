@@ -5,8 +5,9 @@ use Rattle.m2_session.specs.declared.session.Session.{Session}
 use Rattle.m2_session.specs.declared.event.Event.TheVariants.{Dialled, AskedIdent, AskedReconnect, GotServerIdent, GotReconnectOk, GotReset, GotRetry, GotRetryGlobal, GotWait, TookIdent, TookReconnect, Pending, Faulted, MarkedDown}
 use Rattle.m2_session.specs.declared.event.Effects.{Effects}
 use Rattle.m2_session.specs.Phases.{is, is_among, with_feed}
-use Rattle.m2_session.specs.Steps.{closes, rises}
+use Rattle.m2_session.specs.Steps.{closes, fault_rows, rises, step_of}
 use Rattle.m2_session.specs.SessionLaws.{PendingLeavesNothingPending, LostOnlySo, loss_of, thrown_away, nothing_lost, MarkDownForgets, ConnectRisesByOne}
+use Rattle.m2_session.proofs.Rows.{each_answer}
 
 standby_or_wait : (b : Bool) → ((if b then Standby else Wait) ≡ Standby) ⊎ ((if b then Standby else Wait) ≡ Wait)
 standby_or_wait true = inl refl
@@ -51,6 +52,11 @@ lost_only_so s MarkedDown = refl
 
 pub forgets : MarkDownForgets
 forgets = record { phase = λ s. refl; client = λ s. refl; server = λ s. refl; closed = λ s. refl }
+
+-- a broken feed is closed, whichever row holds
+pub fault_closes : (s : Session) (waits : Bool) → (step_of s (Faulted waits)).effects.close ≡ true
+fault_closes s waits =
+    each_answer (λ (p : Session × Effects). p.1.close ≡ true) (fault_rows s waits) (record s { phase = Wait }, closes) (refl, (refl, (refl, tt))) refl
 
 -- ---- the connect number
 

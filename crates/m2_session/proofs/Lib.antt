@@ -4,4 +4,5 @@ pub mod Dialling
 pub mod Draws
 pub mod Events
 pub mod Feeds
+pub mod Phases
 pub mod Rows

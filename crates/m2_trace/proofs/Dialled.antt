@@ -28,7 +28,7 @@ use Rattle.m2_session.specs.Dials.{at_rest}
 use Rattle.m2_session.specs.Phases as phases
 use Rattle.m2_session.specs.Reconnect.{Reconnect}
 use Rattle.m2_session.specs.SessionLaws.{ident_event, reconnect_event, takes}
-use Rattle.m2_bytes.proofs.m2_lemmas.Booleans.{false_isnt_true}
+use Rattle.m2_bytes.proofs.m2_lemmas.Booleans.{false_isnt_true, from_true_false}
 use Rattle.m2_trace.specs.declared.dials.DialCause.{DialCause}
 use Rattle.m2_trace.specs.Dials.{cause_after, cause_behind, cause_in, cause_in_phase}
 use Rattle.m2_trace.specs.Laws.{CausesAreOfDials, ConnectsAreTold}
@@ -82,23 +82,20 @@ pending f s c fine h =
     left s.feed (record s { session = (record s.session { phase = (if phases.is s.session.phase phase.Standby then phase.Standby else phase.Wait) }) })
     ∙ pending_phase s.session.phase s.session.policy.server _ s.dials c fine.lawful h
 
-is_taken : {P : Type 0} → true ≡ false → P
-is_taken e = absurd (false_isnt_true (sym e))
-
 ident_judged : (s : State) (given : Answer) (client server global : ℕ) (c : DialCause) → takes given ≡ false → cause_in s ≡ Some c →
     cause_in (tells_if (ident_event given client server global) s) ≡ Some c
-ident_judged s answer.Accept client server global c e h = is_taken e
-ident_judged s answer.AcceptOver client server global c e h = is_taken e
-ident_judged s (answer.AcceptReset full) client server global c e h = is_taken e
-ident_judged s answer.AcceptAgain client server global c e h = is_taken e
-ident_judged s answer.AcceptReplace client server global c e h = is_taken e
-ident_judged s answer.AcceptRace client server global c e h = is_taken e
-ident_judged s answer.Resume client server global c e h = is_taken e
+ident_judged s answer.Accept client server global c e h = from_true_false e
+ident_judged s answer.AcceptOver client server global c e h = from_true_false e
+ident_judged s (answer.AcceptReset full) client server global c e h = from_true_false e
+ident_judged s answer.AcceptAgain client server global c e h = from_true_false e
+ident_judged s answer.AcceptReplace client server global c e h = from_true_false e
+ident_judged s answer.AcceptRace client server global c e h = from_true_false e
+ident_judged s answer.Resume client server global c e h = from_true_false e
 ident_judged s _ client server global c e h = h
 
 reconnect_judged : (f : SideFacts) (s : State) (given : Answer) (ask : Reconnect) (c : DialCause) → takes given ≡ false →
     EventIsFine f s.session (reconnect_event given ask) → cause_in s ≡ Some c → cause_in (tells_if (reconnect_event given ask) s) ≡ Some c
-reconnect_judged f s answer.Resume ask c e fine h = is_taken e
+reconnect_judged f s answer.Resume ask c e fine h = from_true_false e
 reconnect_judged f s answer.ResetPending ask c e fine h = pending f s c fine h
 reconnect_judged f s _ ask c e fine h = h
 
@@ -110,7 +107,7 @@ judged_by f s false given client server global ask c e fine h = reconnect_judged
 
 -- what is written to its socket is nothing that a cause goes by
 replied : (b : Bool) (k : SocketId) (frames : List OutFrame) (taken s : State) → b ≡ false → cause_in (if b then taken else sends k frames s) ≡ cause_in s
-replied true k frames taken s e = is_taken e
+replied true k frames taken s e = from_true_false e
 replied false k frames taken s e = refl
 
 judged : (f : SideFacts) (k : SocketId) (a : AskFacts) (number : ℕ) (given : Answer) (unread : List ℕ) (s : State) (c : DialCause) → takes given ≡ false →

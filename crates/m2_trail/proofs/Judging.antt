@@ -3,7 +3,6 @@ use Rattle.std.proofs.Common.{◌≡◌, ℕ, suc, ◌<◌, ◌≤◌, ◌^◌, 
 use Rattle.std.proofs.lemmas.Bool.{cases_lt}
 use Rattle.std.proofs.lemmas.List.{map-append, take-append-le, take_all, length-append, get_or_append_left}
 use Rattle.std.proofs.Math.Seq.{get_or-append_seam}
-use Rattle.m2_addr.proofs.Addresses.{all_push}
 use Rattle.m2_session.specs.declared.ask.AskFacts.{AskFacts}
 use Rattle.m2_control.specs.declared.control.Control.{Control}
 use Rattle.m2_fabric.specs.declared.log.Run.{Run}
@@ -28,6 +27,7 @@ use Rattle.m2_trail.proofs.Given.{entries_count}
 use Rattle.m2_trail.proofs.Judged.{below_grows, first_grows, first_refused, rises_push}
 use Rattle.m2_trail.proofs.Points.{all_got, point_replies}
 use Rattle.m2_trail.proofs.Replying.{replies_to-append, is_reply, asks_again}
+use Rattle.m2_bytes.proofs.m2_lemmas.Lists.{all_last}
 
 differ : true ≡ false → ⊥
 differ e = cc
@@ -229,7 +229,7 @@ reply_kept answer c v half left before j items r k h =
       judged = k.judged ∙ (ap (λ l. k.asking.before ++ l) owes.this ∙ sym (append-nil done));
       comes = told;
       stands = (refl, refl, ([], owes.facts ∙ (sym (facts_push k.asking.before (item_of ask answer)) ∙ sym (append-nil (facts_judged done))), ap (λ l. length (refusal_of l)) (sym owes.owed.unrefused)));
-      again = λ o. all_push (λ (i : JudgedItem). may_ask_again i.answer ≡ true) k.asking.before (item_of ask answer)
+      again = λ o. all_last (λ (i : JudgedItem). may_ask_again i.answer ≡ true) k.asking.before (item_of ask answer)
           (k.again (ap is_over owes.owed.stage)) (asks_again answer c r (sym (ap (λ (s : Standing). is_over s.stage) h.0) ∙ o));
       refused_ends = λ s. absurd (differ (sym s ∙ ap is_some owes.owed.unrefused));
       refused_fits = k.refused_fits;

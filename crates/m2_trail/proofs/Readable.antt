@@ -1,5 +1,5 @@
 -- The asks of a half can be read.
-use Rattle.std.proofs.Common.{◌≡◌, ◌≢◌, ℕ, zero, suc, ◌≤◌, ◌<◌, ◌%◌, ◌==◌, ◌&&◌, not, ◌⊎◌, inl, inr, Bool, true, false, if◌then◌else◌, List, [], ◌∷◌, ◌++◌, length, map, take, Option, Some, None, refl, sym, ap, ◌∙◌, subst, arith}
+use Rattle.std.proofs.Common.{◌≡◌, ◌≢◌, ℕ, zero, suc, ◌≤◌, ◌<◌, ◌%◌, ◌==◌, ◌&&◌, not, ◌⊎◌, inl, inr, Bool, true, false, if◌then◌else◌, List, [], ◌∷◌, length, map, take, Option, Some, None, refl, sym, ap, ◌∙◌, subst, arith}
 use Rattle.std.proofs.lemmas.Bool.{eq-eqb}
 use Rattle.std.proofs.lemmas.List.{take_all}
 use Rattle.std.specs.List.{AllByRecursion}
@@ -34,6 +34,7 @@ use Rattle.m2_trail.specs.Asks.{facts_of_ask, AgreesWith}
 use Rattle.m2_trail.specs.TrailLaws.{HasNumbers, AsksCanBeRead}
 use Rattle.m2_trail.specs.Trails.{TrailNow, begins, ComesToAsk, IsTrailOf}
 use Rattle.m2_trail.proofs.Asked.{AsksWell, move_well, take_well}
+use Rattle.m2_bytes.proofs.m2_lemmas.Lists.{all_append, all_front}
 
 differ : true ≡ false → ⊥
 differ e = cc
@@ -94,17 +95,9 @@ event_bounded (asked ask) a b g = subst StepBounded g (step_bounded (course_move
 event_bounded (failed f) a b g = tt
 event_bounded (replied c) a b g = tt
 
-all_both : {A : Type 0} (P : A → Type 0) (xs ys : List A) → AllByRecursion P xs → AllByRecursion P ys → AllByRecursion P (xs ++ ys)
-all_both P [] ys p q = q
-all_both P (x ∷ xs) ys p q = (p.0, all_both P xs ys p.1 q)
-
-all_first : {A : Type 0} (P : A → Type 0) (xs ys : List A) → AllByRecursion P (xs ++ ys) → AllByRecursion P xs
-all_first P [] ys h = tt
-all_first P (x ∷ xs) ys h = (h.0, all_first P xs ys h.1)
-
 runs_bounded : (es : List Event) (a b : Standing) → Runs es a b → AllByRecursion Bounded (asks_of es)
 runs_bounded [] a b r = tt
-runs_bounded (e ∷ es) a b r = all_both Bounded (asks_in e) (asks_of es) (event_bounded e a r.0 r.1) (runs_bounded es r.0 b r.2)
+runs_bounded (e ∷ es) a b r = all_append Bounded (asks_in e) (asks_of es) (event_bounded e a r.0 r.1) (runs_bounded es r.0 b r.2)
 
 reached_bounded : (begin : Standing) (x : Exchange) (s : Standing) → Reaches begin x s → AllByRecursion Bounded x.asks
 reached_bounded begin x s r = subst (AllByRecursion Bounded) r.asks (runs_bounded r.events (fed begin x.bytes) s r.runs)
@@ -162,7 +155,7 @@ asked_bounded : (begin : Standing) (bytes : List ℕ) (replies : List Control) (
     AllByRecursion (λ (i : JudgedItem). HasNumbers i.ask) judged
 asked_bounded begin bytes replies judged a =
     let all = facts_bounded a.exchange.asks (reached_bounded begin a.exchange a.standing a.comes) in
-    items_bounded judged (all_first HasNumbers (map (λ (i : JudgedItem). i.ask) judged) a.first.0 (subst (AllByRecursion HasNumbers) a.first.1 all))
+    items_bounded judged (all_front HasNumbers (map (λ (i : JudgedItem). i.ask) judged) a.first.0 (subst (AllByRecursion HasNumbers) a.first.1 all))
 
 -- all of them are those up to the last one
 judged_bounded : (t : TrailNow) (log : Log) → IsTrailOf t log → AllByRecursion (λ (i : JudgedItem). HasNumbers i.ask) t.judged

@@ -1,6 +1,6 @@
 -- The answers of a half keep what an incoming socket keeps.
 use Rattle.std.proofs.Common.{◌≡◌, ℕ, Bool, true, false, is_some, List, [], ◌∷◌, ◌++◌, length, Option, Some, None, refl, sym, ap, ◌∙◌, subst, append_assoc, append-nil}
-use Rattle.std.proofs.lemmas.List.{map-append}
+use Rattle.std.proofs.lemmas.List.{map-append, nil_from_length}
 use Rattle.m2_session.specs.declared.ask.AskFacts.{AskFacts}
 use Rattle.m2_handshake.specs.declared.answer.HalfStep.{HalfStep}
 use Rattle.m2_handshake.specs.declared.ask.Ask.{Ask}
@@ -15,7 +15,6 @@ use Rattle.m2_handshake.specs.Laws.{with_ask}
 use Rattle.m2_handshake.specs.Moves.{can_ask}
 use Rattle.m2_handshake.specs.Standing.{Standing}
 use Rattle.m2_handshake.proofs.Reaching.{leads_on}
-use Rattle.m2_handshake.proofs.Turns.{is_empty}
 use Rattle.m2_trail.specs.Asks.{facts_of_ask}
 use Rattle.m2_trail.specs.Incoming.{IncomingNow, Asking, StandsAt, Keeps, exchange_of, facts_asked, facts_judged, given_by, is_over}
 use Rattle.m2_trail.specs.Replies.{refusal_of}
@@ -95,7 +94,7 @@ never None h = refl
 -- no ask was refused, so all were judged
 all_judged : (refused : Option ℕ) (more : List AskFacts) → refused ≡ None → length more ≡ length (refusal_of refused) → more ≡ []
 all_judged (Some bits) more r e = absurd cc
-all_judged None more r e = is_empty more e
+all_judged None more r e = nil_from_length more e
 
 -- the ask is next after those that were judged
 next_ask : (ask : Ask) (asks : List Ask) (before more : List AskFacts) → facts_asked asks ≡ before ++ more → more ≡ [] → facts_asked (asks ++ bare_ask ask ∷ []) ≡ before ++ facts_of_ask ask ∷ []

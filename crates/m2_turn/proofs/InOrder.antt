@@ -1,5 +1,5 @@
 -- Records that take their turns, one after another.
-use Rattle.std.proofs.Common.{◌≡◌, inl, inr, true, false, List, [], ◌∷◌, length, refl, sym, ap, subst, arith}
+use Rattle.std.proofs.Common.{◌≡◌, inl, inr, true, false, List, [], ◌∷◌, refl, sym, ap, subst}
 use Rattle.m2_dispatch.specs.Heard.{Heard}
 use Rattle.m2_record.specs.RecordNow.{RecordNow}
 use Rattle.m2_turn.specs.declared.records_turn.RecordsTurn.{RecordsTurn}
@@ -44,7 +44,3 @@ one_more heard m turn.NoMemory r s rs ss a b c one rest = record {
 pub stops_here : {D : Type 0} (heard : D → List Heard) (m : Means) (r s : RecordNow) (rs : List RecordNow) (a b : Around D) → TurnsOne heard m turn.NoMemory (amid r a) (amid s b) →
     TurnsInOrder heard m turn.NoMemory (all_amid (r ∷ rs) a) (all_amid (s ∷ rs) b)
 stops_here heard m r s rs a b one = record { before = []; at = r; rest = rs; split = refl; stood = []; mid = a; turns = refl; left = s; stops = one; records = refl }
-
-pub nil_of : {X : Type 0} (xs : List X) → length xs ≡ 0 → xs ≡ []
-nil_of [] e = refl
-nil_of (x ∷ xs) e = absurd (omega (arith, e))

@@ -2,7 +2,6 @@
 use Rattle.std.proofs.Common.{◌≡◌, ℕ, nat_lt, Bool, true, false, ◌||◌, if◌then◌else◌, List, [], ◌∷◌, ◌++◌, length, map, None, refl, sym, ap, subst, ◌∙◌, inl, inr, append_assoc}
 use Rattle.std.proofs.lemmas.List.{map-append}
 use Rattle.std.specs.List.{AllByRecursion, IsDistinct}
-use Rattle.m2_addr.proofs.Addresses.{all_push}
 use Rattle.m2_fabric.specs.declared.port.Taken.{Taken}
 use Rattle.m2_fabric.specs.declared.port.Taken.TheVariants as taken
 use Rattle.m2_fabric.specs.declared.socket.SocketId.{SocketId}
@@ -26,12 +25,9 @@ use Rattle.m2_turn.proofs.Came.{are_known, came_names}
 use Rattle.m2_feed.proofs.m2_journal.JudgedOn.{unjudged}
 use Rattle.m2_fabric.proofs.Sockets.{among_last, among_front, apart_turned, same_equal, among_neither, not_among_front}
 use Rattle.m2_bytes.proofs.m2_lemmas.Booleans.{false_isnt_true}
+use Rattle.m2_bytes.proofs.m2_lemmas.Lists.{all_last, all_so_of}
 
 -- ---- lists
-
-all_so : {T : Type 0} (P Q : T → Type 0) (xs : List T) → ((x : T) → P x → Q x) → AllByRecursion P xs → AllByRecursion Q xs
-all_so P Q [] so all = tt
-all_so P Q (x ∷ xs) so all = (so x all.0, all_so P Q xs so all.1)
 
 all_mapped : {T : Type 0} (f : T → SocketId) (P : SocketId → Type 0) (xs : List T) → AllByRecursion (λ x. P (f x)) xs → AllByRecursion P (map f xs)
 all_mapped f P [] all = tt
@@ -105,12 +101,12 @@ supplied_on supply made more r is = record { owned = is.owned; top = is.top; mad
 pending_made : (made : List SocketId) (records : List RecordNow) (ps : List PendingNow) → AllByRecursion (λ (p : PendingNow). IsCaller made records (caller_in p)) ps →
     AllByRecursion (λ x. is_among x made ≡ true) (map (λ (p : PendingNow). p.half.end.id) ps)
 pending_made made records ps all =
-    all_mapped (λ (p : PendingNow). p.half.end.id) (λ x. is_among x made ≡ true) ps (all_so _ (λ (p : PendingNow). is_among p.half.end.id made ≡ true) ps (λ p is. is.made) all)
+    all_mapped (λ (p : PendingNow). p.half.end.id) (λ x. is_among x made ≡ true) ps (all_so_of _ (λ (p : PendingNow). is_among p.half.end.id made ≡ true) ps (λ p is. is.made) all)
 
 loose_made : (made : List SocketId) (records : List RecordNow) (ls : List LooseNow) → AllByRecursion (WasCaller made records) ls →
     AllByRecursion (λ x. is_among x made ≡ true) (map (λ (l : LooseNow). l.end.id) ls)
 loose_made made records ls all =
-    all_mapped (λ (l : LooseNow). l.end.id) (λ x. is_among x made ≡ true) ls (all_so _ (λ (l : LooseNow). is_among l.end.id made ≡ true) ls (λ l was. was.caller.made) all)
+    all_mapped (λ (l : LooseNow). l.end.id) (λ x. is_among x made ≡ true) ls (all_so_of _ (λ (l : LooseNow). is_among l.end.id made ≡ true) ls (λ l was. was.caller.made) all)
 
 -- ---- one more socket
 
@@ -129,20 +125,20 @@ module _ (supply : Supply) (entity : ℕ) (made : List SocketId) (records : List
       (not_these e.id made _ new (loose_made made records h.loose was.loose))
 
   still_supplied : AllByRecursion (IsSupplied supply (made ++ e.id ∷ [])) records
-  still_supplied = all_so _ _ records (supplied_on supply made (e.id ∷ [])) was.records
+  still_supplied = all_so_of _ _ records (supplied_on supply made (e.id ∷ [])) was.records
 
   pending_still : AllByRecursion (λ (p : PendingNow). IsCaller (made ++ e.id ∷ []) records (caller_in p)) h.pending
-  pending_still = all_so _ (λ (p : PendingNow). IsCaller (made ++ e.id ∷ []) records (caller_in p)) h.pending (λ p is. calls_on made (e.id ∷ []) records (caller_in p) is) was.halves
+  pending_still = all_so_of _ (λ (p : PendingNow). IsCaller (made ++ e.id ∷ []) records (caller_in p)) h.pending (λ p is. calls_on made (e.id ∷ []) records (caller_in p) is) was.halves
 
   loose_still : AllByRecursion (WasCaller (made ++ e.id ∷ []) records) h.loose
-  loose_still = all_so _ _ h.loose (called_on made (e.id ∷ []) records) was.loose
+  loose_still = all_so_of _ _ h.loose (called_on made (e.id ∷ []) records) was.loose
 
   one_pending : AreConsistent supply entity (sessions_with (made ++ e.id ∷ []) records (record h { pending = h.pending ++ unasked (accepted entity e room) ∷ [] }))
   one_pending = record {
     records = still_supplied;
     kind = was.kind;
     peers = was.peers;
-    halves = all_push (λ (p : PendingNow). IsCaller (made ++ e.id ∷ []) records (caller_in p)) h.pending (unasked (accepted entity e room)) pending_still is_caller;
+    halves = all_last (λ (p : PendingNow). IsCaller (made ++ e.id ∷ []) records (caller_in p)) h.pending (unasked (accepted entity e room)) pending_still is_caller;
     loose = loose_still;
     apart = subst (IsDistinct same_socket)
         (sym (ap (λ l. l ++ map (λ (l : LooseNow). l.end.id) h.loose) (map-append (λ (p : PendingNow). p.half.end.id) h.pending (unasked (accepted entity e room) ∷ []))
@@ -156,7 +152,7 @@ module _ (supply : Supply) (entity : ℕ) (made : List SocketId) (records : List
     kind = was.kind;
     peers = was.peers;
     halves = pending_still;
-    loose = all_push (WasCaller (made ++ e.id ∷ []) records) h.loose (closed_of (accepted entity e room)) loose_still (record { asker = None; caller = is_caller });
+    loose = all_last (WasCaller (made ++ e.id ∷ []) records) h.loose (closed_of (accepted entity e room)) loose_still (record { asker = None; caller = is_caller });
     apart = subst (IsDistinct same_socket)
         (append_assoc (map (λ (p : PendingNow). p.half.end.id) h.pending) (map (λ (l : LooseNow). l.end.id) h.loose) (e.id ∷ [])
         ∙ ap (λ l. map (λ (p : PendingNow). p.half.end.id) h.pending ++ l) (sym (map-append (λ (l : LooseNow). l.end.id) h.loose (closed_of (accepted entity e room) ∷ []))))

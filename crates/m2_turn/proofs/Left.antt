@@ -11,10 +11,7 @@ use Rattle.m2_turn.specs.Sessions.{AreConsistent, IsCaller, PendingNow, Supply, 
 use Rattle.m2_turn.proofs.Came.{back}
 use Rattle.m2_turn.proofs.Joined.{distinct_between}
 use Rattle.m2_fabric.proofs.Sockets.{among_neither, not_among_front}
-
-pub all_join : {T : Type 0} (P : T → Type 0) (xs ys : List T) → AllByRecursion P xs → AllByRecursion P ys → AllByRecursion P (xs ++ ys)
-all_join P [] ys first second = second
-all_join P (x ∷ xs) ys first second = (first.0, all_join P xs ys first.1 second)
+use Rattle.m2_bytes.proofs.m2_lemmas.Lists.{all_append}
 
 were_callers : (made : List SocketId) (records : List RecordNow) (ps : List PendingNow) → AllByRecursion (λ (p : PendingNow). IsCaller made records (caller_in p)) ps →
     AllByRecursion (WasCaller made records) (map (λ (p : PendingNow). left_of p.half) ps)
@@ -44,7 +41,7 @@ leaving_stays supply entity made records h was = record {
   kind = was.kind;
   peers = was.peers;
   halves = tt;
-  loose = all_join (WasCaller made records) h.loose (map (λ (p : PendingNow). left_of p.half) h.pending) was.loose (were_callers made records h.pending was.halves);
+  loose = all_append (WasCaller made records) h.loose (map (λ (p : PendingNow). left_of p.half) h.pending) was.loose (were_callers made records h.pending was.halves);
   apart = subst (IsDistinct same_socket)
       (sym (map-append (λ (l : LooseNow). l.end.id) h.loose (map (λ (p : PendingNow). left_of p.half) h.pending)
       ∙ ap (λ l. map (λ (l : LooseNow). l.end.id) h.loose ++ l) (left_sockets h.pending)))

@@ -3,6 +3,7 @@ pub mod Came
 pub mod Emptied
 pub mod GoesOn
 pub mod Handed
+pub mod HandingOn
 pub mod Heard
 pub mod InOrder
 pub mod Joined

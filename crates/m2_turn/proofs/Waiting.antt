@@ -5,12 +5,12 @@ use Rattle.std.proofs.lemmas.List.{length-append}
 use Rattle.std.proofs.lemmas.List.Elements.{filter_map-append}
 use Rattle.std.proofs.lemmas.List.Sums.{sum_by-set}
 use Rattle.std.specs.List.{AllByRecursion, IsDistinct, cons_option, list_any}
-use Rattle.m2_addr.proofs.Addresses.{all_push}
 use Rattle.slab.specs.Slab.{Slab, ContainsKey, Updates, get, slab_len, with_value}
 use Rattle.slab.proofs.SlabLemmas.{ContainsKey-within, Updates-with_value}
 use Rattle.m2_turn.specs.Hearing.{first_told}
 use Rattle.m2_turn.specs.Pending.{IsOrderOf, IsToldAt, first_key, in_order, is_found}
 use Rattle.m2_bytes.proofs.m2_lemmas.Booleans.{false_isnt_true}
+use Rattle.m2_bytes.proofs.m2_lemmas.Lists.{all_last}
 
 -- ---- keys that false_isnt_true from one
 
@@ -28,7 +28,7 @@ apart_from key (k ∷ ks) all = (ne_eqb k key all.0, apart_from key ks all.1)
 one_more : (keys : List ℕ) (key : ℕ) → IsDistinct (λ (a b : ℕ). a == b) keys → AllByRecursion (λ k. (k == key) ≡ false) keys → IsDistinct (λ (a b : ℕ). a == b) (keys ++ key ∷ [])
 unfolding IsDistinct
 one_more [] key once all = (tt, tt)
-one_more (k ∷ ks) key once all = (all_push (λ y. (k == y) ≡ false) ks key once.0 all.0, one_more ks key once.1 all.1)
+one_more (k ∷ ks) key once all = (all_last (λ y. (k == y) ≡ false) ks key once.0 all.0, one_more ks key once.1 all.1)
 
 none_distinct : IsDistinct (λ (a b : ℕ). a == b) []
 unfolding IsDistinct
@@ -86,7 +86,7 @@ module _ {T : Type 0} where
   pushed old new most key x keys order none updates more same fewer =
       let others = vacant_differs old key keys none order.held in
       record {
-        held = all_push (ContainsKey new) keys key (still_held old new key (Some x) keys updates others order.held) (ap is_some updates.changed);
+        held = all_last (ContainsKey new) keys key (still_held old new key (Some x) keys updates others order.held) (ap is_some updates.changed);
         once = one_more keys key order.once (apart_from key keys others);
         all = omega (arith, more, order.all, length-append keys (key ∷ []));
         few = omega (arith, fewer, length-append keys (key ∷ []));

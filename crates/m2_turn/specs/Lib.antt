@@ -7,6 +7,7 @@ pub mod HalfTurn
 pub mod Halves
 pub mod HalvesTurn
 pub mod Handing
+pub mod HandingOn
 pub mod Hearing
 pub mod Judging
 pub mod Laws

@@ -9,7 +9,7 @@
 //! [`turn_halves`] all do. [`connect_if_due`] makes a record's connect at the port, [`turn_record`] takes the steps of
 //! a record that are due, and [`turn_each`] does both of all records; [`is_idle`] says whether a record has nothing to
 //! do. Their parcels go to the [`Outbox`]: letters of fast kinds are dispatched at once, all other parcels wait in the
-//! mail, which [`empty_mail`] puts into the node's queue. Each stage answers what ended it, and [`leave_all`] leaves
+//! mail, which [`empty_mail`] puts into the node's queue, or [`hand_mail_on`], where another thread dispatches. Each stage answers what ended it, and [`leave_all`] leaves
 //! the halves at the end of a thread.
 //!
 //! `specs/Sessions` says what records and halves owe one another. Each stage keeps it, and asks for no more.
@@ -20,6 +20,7 @@ mod answering;
 mod connecting;
 mod half_turn;
 mod halves_turn;
+mod handing_on;
 mod judging;
 mod laws;
 mod leaving;
@@ -36,6 +37,7 @@ pub use answering::{HalfAnswered, answer_half};
 pub use connecting::connect_if_due;
 pub use half_turn::{HalfTurned, MOST_ASKS, are_records, turn_half};
 pub use halves_turn::{HalvesTurn, turn_halves};
+pub use handing_on::hand_mail_on;
 pub use judging::{AskJudged, Replied, judge_ask, reply_owed};
 pub use laws::{
     judging_keeps_others, judging_keeps_what_is_known, records_know_their_sockets,

@@ -104,7 +104,7 @@ fn dispatch_all<D: Dispatcher>(
 }
 
 /// What came of it, where all is gone that was there, if anything was.
-fn moved_or_dry(had_mail: bool, had_letters: bool) -> Mailed
+pub(crate) fn moved_or_dry(had_mail: bool, had_letters: bool) -> Mailed
     ensures { result ≡ (if had_mail || had_letters then mailed.Moved else mailed.Dry) }
 {
     if had_mail || had_letters {

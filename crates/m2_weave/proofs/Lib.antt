@@ -9,6 +9,7 @@ pub mod Flowed
 pub mod Furthest
 pub mod Going
 pub mod Greedy
+pub mod Items
 pub mod Listing
 pub mod Named
 pub mod Naming

@@ -139,17 +139,17 @@ added_more k n is d new old base h a b = omega (arith, a, b, total_more (read_by
 
 halves-suc : (n : ℕ) (ss : List Strand) (s : Strand) (k : SocketId) → n < length ss → s ≡ slice_index_or ss n s →
     read_by_halves (map strand_now (take (suc n) ss)) k
-    ≡ read_by_halves (map strand_now (take n ss)) k + (if s.of_half then total (read_by k) s.items.items else 0)
+    ≡ read_by_halves (map strand_now (take n ss)) k + (if (strand_now s).of_half then total (read_by k) (strand_now s).items else 0)
 halves-suc n [] s k h e = absurd (omega (arith, h))
 halves-suc zero (x ∷ ss) s k h e =
-    subst (λ (y : Strand). (if x.of_half then total (read_by k) x.items.items else 0) + 0 ≡ 0 + (if y.of_half then total (read_by k) y.items.items else 0)) (sym e) (omega arith)
+    subst (λ (y : Strand). (if (strand_now x).of_half then total (read_by k) (strand_now x).items else 0) + 0 ≡ 0 + (if (strand_now y).of_half then total (read_by k) (strand_now y).items else 0)) (sym e) (omega arith)
 halves-suc (suc n) (x ∷ ss) s k h e = omega (arith, halves-suc n ss s k (omega (arith, h)) e)
 
 pub halves_more : (n : ℕ) (ss : List Strand) (s : Strand) (k : SocketId) → n < length ss → s ≡ slice_index_or ss n s →
     read_by_halves (map strand_now (take (n + 1) ss)) k
-    ≡ read_by_halves (map strand_now (take n ss)) k + (if s.of_half then total (read_by k) s.items.items else 0)
+    ≡ read_by_halves (map strand_now (take n ss)) k + (if (strand_now s).of_half then total (read_by k) (strand_now s).items else 0)
 halves_more n ss s k h e =
-    subst (λ m. read_by_halves (map strand_now (take m ss)) k ≡ read_by_halves (map strand_now (take n ss)) k + (if s.of_half then total (read_by k) s.items.items else 0))
+    subst (λ m. read_by_halves (map strand_now (take m ss)) k ≡ read_by_halves (map strand_now (take n ss)) k + (if (strand_now s).of_half then total (read_by k) (strand_now s).items else 0))
     (sym (add-one n)) (halves-suc n ss s k h e)
 
 -- ---- what a read waits for
@@ -247,23 +247,23 @@ written_so e s is = total-if (same_side (has_opened s e.socket) e.opener) (writt
 
 -- one strand more
 pub written_more : (strands : List Strand) (at : List ℕ) (j : ℕ) (s : Strand) (e : EndOf) (sum new here all : ℕ) → j < length strands → length at ≡ length strands →
-    new ≡ sum + here → here ≡ total (written_in e (strand_now (slice_index_or strands j s))) (take (slice_index at j) (slice_index_or strands j s).items.items) →
+    new ≡ sum + here → here ≡ total (written_in e (strand_now (slice_index_or strands j s))) (take (slice_index at j) (strand_now (slice_index_or strands j s)).items) →
     sum + written_at (map strand_now (drop j strands)) (drop j at) e ≡ all → new + written_at (map strand_now (drop (j + 1) strands)) (drop (j + 1) at) e ≡ all
 written_more strands at j d e sum new here all h n grown here_is before =
     let s = slice_index_or strands j d in
     let ns : drop j at ≡ slice_index at j ∷ drop (j + 1) at = drop_more at j 0 (omega (arith, h, n)) in
     let split : written_at (map strand_now (drop j strands)) (drop j at) e
-    ≡ total (written_in e (strand_now s)) (take (slice_index at j) s.items.items) + written_at (map strand_now (drop (j + 1) strands)) (drop (j + 1) at) e =
+    ≡ total (written_in e (strand_now s)) (take (slice_index at j) (strand_now s).items) + written_at (map strand_now (drop (j + 1) strands)) (drop (j + 1) at) e =
     ap (λ xs. written_at (map strand_now xs) (drop j at) e) (drop_more strands j d h)
     ∙ ap (λ ms. written_at (map strand_now (s ∷ drop (j + 1) strands)) ms e) ns in
     omega (arith, split, grown, here_is, before)
 
 pub written_next : (strands : List Strand) (at : List ℕ) (j : ℕ) (s : Strand) (e : EndOf) (sum new here all : ℕ) → j < length strands → length at ≡ length strands →
-    s ≡ slice_index_or strands j s → new ≡ sum + here → here ≡ total (written_in e (strand_now s)) (take (slice_index at j) s.items.items) →
+    s ≡ slice_index_or strands j s → new ≡ sum + here → here ≡ total (written_in e (strand_now s)) (take (slice_index at j) (strand_now s).items) →
     sum + written_at (map strand_now (drop j strands)) (drop j at) e ≡ all → new + written_at (map strand_now (drop (j + 1) strands)) (drop (j + 1) at) e ≡ all
 written_next strands at j s e sum new here all h n is grown here_is before =
     written_more strands at j s e sum new here all h n grown
-    (subst (λ (x : Strand). here ≡ total (written_in e (strand_now x)) (take (slice_index at j) x.items.items)) is here_is) before
+    (subst (λ (x : Strand). here ≡ total (written_in e (strand_now x)) (take (slice_index at j) (strand_now x).items)) is here_is) before
 
 -- ---- the first strand that stops
 

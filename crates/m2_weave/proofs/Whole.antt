@@ -256,14 +256,14 @@ all_counted strands sockets k es h e =
 
 pub lengths_are : (strands : List Strand) (sockets : List SocketBytes) → lengths_of strands ≡ sizes (woven_of strands sockets)
 lengths_are [] sockets = refl
-lengths_are (s ∷ strands) sockets = ap (λ ns. length s.items.items ∷ ns) (lengths_are strands sockets)
+lengths_are (s ∷ strands) sockets = ap (λ ns. length (strand_now s).items ∷ ns) (lengths_are strands sockets)
 
 pub lengths_count : (strands : List Strand) → length (lengths_of strands) ≡ length strands
-lengths_count strands = length-map strands (λ (s : Strand). length s.items.items)
+lengths_count strands = length-map strands (λ (s : Strand). length (strand_now s).items)
 
-pub length_get : (strands : List Strand) (k : ℕ) (s : Strand) → k < length strands → s ≡ slice_index_or strands k s → slice_index (lengths_of strands) k ≡ length s.items.items
+pub length_get : (strands : List Strand) (k : ℕ) (s : Strand) → k < length strands → s ≡ slice_index_or strands k s → slice_index (lengths_of strands) k ≡ length (strand_now s).items
 length_get [] k s h e = absurd (omega (arith, h))
-length_get (x ∷ strands) zero s h e = ap (λ (y : Strand). length y.items.items) (sym e)
+length_get (x ∷ strands) zero s h e = ap (λ (y : Strand). length (strand_now y).items) (sym e)
 length_get (x ∷ strands) (suc k) s h e = length_get strands k s (omega (arith, h)) e
 
 -- ---- names, an item at a time

@@ -7,6 +7,7 @@ use Rattle.m2_fabric.specs.Sockets.{same_socket}
 use Rattle.m2_journal.specs.declared.entry.Entry.{Entry}
 use Rattle.m2_journal.specs.declared.entry.Entry.TheVariants as entry
 use Rattle.m2_weave.specs.declared.strand.Strand.{Strand}
+use Rattle.m2_weave.specs.declared.strand.Strand.TheVariants.{Journal, Half}
 use Rattle.m2_weave.specs.declared.strand.StrandItem.{StrandItem}
 use Rattle.m2_weave.specs.declared.strand.StrandItem.TheVariants.{Noted, Handed}
 use Rattle.m2_weave.specs.Order.{Cut}
@@ -33,9 +34,6 @@ pub record StrandNow : Type 0 where
   pub of_half : Bool
   pub items : List StrandItem
 
-abbrev pub strand_now : Strand → StrandNow
-strand_now s = record { of_half = s.of_half; items = s.items.items }
-
 abbrev pub journal_of : List Entry → StrandNow
 journal_of entries = record { of_half = false; items = map Noted entries }
 
@@ -47,6 +45,10 @@ half_items k place entries (n ∷ ns) =
 
 abbrev pub half_of : SocketId → List Entry → (judged_after : List ℕ) → StrandNow
 half_of k entries judged_after = record { of_half = true; items = half_items k 0 entries judged_after }
+
+abbrev pub strand_now : Strand → StrandNow
+strand_now (Journal entries) = journal_of entries.now
+strand_now (Half socket entries judged_after) = half_of socket entries.now judged_after.now
 
 -- ---- what items are on a socket
 

@@ -56,7 +56,7 @@ woven_of strands sockets = record { strands = map strand_now strands; bytes = by
 
 -- how many items each strand has
 abbrev pub lengths_of : List Strand → List ℕ
-lengths_of strands = map (λ (s : Strand). length s.items.items) strands
+lengths_of strands = map (λ (s : Strand). length (strand_now s).items) strands
 
 -- ---- numbers that are kept of each socket, at its place
 

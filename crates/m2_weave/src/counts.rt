@@ -41,7 +41,7 @@ impl Counts {
     /// Of no strand yet.
     pub(crate) fn none(
         alloc: Global,
-        strands: &[Strand],
+        strands: &[Strand<'_>],
         sockets: &SocketTable<'_>,
     ) -> Result<Counts, NoMemory>
         ensures { IfOk result (IsClear sockets.now (map strand_now strands.now)) }
@@ -62,25 +62,25 @@ impl Counts {
     }
 
     /// Before the first item of a strand.
-    pub(crate) fn open(&mut self, strands: &[Strand], sockets: &SocketTable<'_>, k: usize)
+    pub(crate) fn open(&mut self, strands: &[Strand<'_>], sockets: &SocketTable<'_>, k: usize)
         requires strand { k < length strands.now }
         requires clear { IsClear sockets.now (map strand_now strands.now) self.old }
         ensures { CountsAre sockets.now (woven_of strands.now sockets.now) (strand_at (woven_of strands.now sockets.now) k) 0 self.new }
     {
-        self.of_half = strands[k].of_half;
-        set_opened(&mut self.opened, sockets, strands[k].items.as_slice());
+        self.of_half = strands[k].is_half();
+        set_opened(&mut self.opened, sockets, &strands[k]);
     }
 
     /// Behind the last item of a strand: what was counted of it is forgotten.
-    pub(crate) fn clear(&mut self, strands: &[Strand], sockets: &SocketTable<'_>, k: usize)
+    pub(crate) fn clear(&mut self, strands: &[Strand<'_>], sockets: &SocketTable<'_>, k: usize)
         requires strand { k < length strands.now }
         requires counts { CountsAre sockets.now (woven_of strands.now sockets.now) (strand_at (woven_of strands.now sockets.now) k)
             (length (strand_at (woven_of strands.now sockets.now) k).items) self.old }
         ensures { IsClear sockets.now (map strand_now strands.now) self.new }
     {
-        let items = strands[k].items.as_slice();
-        for n in 0..items.len() {
-            self.forget(sockets, items[n]);
+        let mut left = strands[k].items();
+        for n in 0..strands[k].len() {
+            self.forget(sockets, left.next());
         }
     }
 

@@ -1,11 +1,10 @@
 //! Where an order stops: the byte that the other end hasn't written.
 
 ghost use Rattle.std.specs.Prelude.{◌≡◌, ◌+◌, ◌<◌, ◌^◌, length, map, take, nat_lt, if◌then◌else◌, slice_get, IfOk};
-ghost use Rattle.std.specs.List.{list_any};
 ghost use Rattle.m2_weave.specs.Rule.{first_unfit, unfit_read};
 ghost use Rattle.m2_weave.specs.Stops.{first_stop, unfit_next};
 ghost use Rattle.m2_weave.specs.Table.{woven_of};
-ghost use Rattle.m2_weave.specs.Strands.{begun_at, opens, place_of, read_by, read_by_halves, same_side, strand_now, total, written_at, written_by, written_in};
+ghost use Rattle.m2_weave.specs.Strands.{begun_at, has_opened, opens, place_of, read_by, read_by_halves, same_side, strand_now, total, written_at, written_by, written_in};
 
 use crate::strand::{Strand, StrandItem};
 use crate::table::{SocketTable, got_at, piece, place_in, put_at};
@@ -48,24 +47,26 @@ fn written_by(item: StrandItem, k: &SocketId) -> u64
     0
 }
 
-/// What these items have read on a socket.
-fn read_on(items: &[StrandItem], k: &SocketId) -> Result<u64, NoMemory>
-    ensures { IfOk result (λ n. n ≡ total (read_by k.now) items.now) }
+/// What the first so many items of a strand have read on a socket.
+fn read_on(s: &Strand<'_>, count: usize, k: &SocketId) -> Result<u64, NoMemory>
+    ensures { IfOk result (λ m. m ≡ total (read_by k.now) (take count (strand_now s.now).items)) }
 {
     let mut sum = 0;
-    for item in items {
-        sum = plus(sum, read_by(*item, k))?;
+    let mut left = s.items();
+    for n in 0..count.min(s.len()) {
+        sum = plus(sum, read_by(left.next(), k))?;
     }
     Ok(sum)
 }
 
-/// What these items have written on a socket.
-fn written_on(items: &[StrandItem], k: &SocketId) -> Result<u64, NoMemory>
-    ensures { IfOk result (λ n. n ≡ total (written_by k.now) items.now) }
+/// What the first so many items of a strand have written on a socket.
+fn written_on(s: &Strand<'_>, count: usize, k: &SocketId) -> Result<u64, NoMemory>
+    ensures { IfOk result (λ m. m ≡ total (written_by k.now) (take count (strand_now s.now).items)) }
 {
     let mut sum = 0;
-    for item in items {
-        sum = plus(sum, written_by(*item, k))?;
+    let mut left = s.items();
+    for n in 0..count.min(s.len()) {
+        sum = plus(sum, written_by(left.next(), k))?;
     }
     Ok(sum)
 }
@@ -80,12 +81,13 @@ fn opens(item: StrandItem, k: &SocketId) -> bool
     false
 }
 
-/// Whether one of these items opened the socket.
-fn has_opened(items: &[StrandItem], k: &SocketId) -> bool
-    ensures { result ≡ list_any (opens k.now) items.now }
+/// Whether an item of a strand opened the socket.
+fn has_opened(s: &Strand<'_>, k: &SocketId) -> bool
+    ensures { result ≡ has_opened (strand_now s.now) k.now }
 {
-    for item in items {
-        if opens(*item, k) {
+    let mut left = s.items();
+    for n in 0..s.len() {
+        if opens(left.next(), k) {
             return true;
         }
     }
@@ -139,14 +141,12 @@ fn byte_at(put: &[u8], written: u64, place: u64) -> Option<u8>
 }
 
 /// What the first so many items of a strand have written at an end.
-fn written_in(s: &Strand, n: usize, k: &SocketId, opener: bool) -> Result<u64, NoMemory>
-    ensures { IfOk result (λ m. m ≡ total (written_in (record { socket = k.now; opener = opener }) (strand_now s.now)) (take n s.now.items.items)) }
+fn written_in(s: &Strand<'_>, n: usize, k: &SocketId, opener: bool) -> Result<u64, NoMemory>
+    ensures { IfOk result (λ m. m ≡ total (written_in (record { socket = k.now; opener = opener }) (strand_now s.now)) (take n (strand_now s.now).items)) }
 {
-    let items = s.items.as_slice();
-    let is_opener = has_opened(items, k);
+    let is_opener = has_opened(s, k);
     if is_same_side(is_opener, opener) {
-        let (first, _) = items.split_at(n.min(items.len()));
-        return written_on(first, k);
+        return written_on(s, n, k);
     }
     Ok(0)
 }
@@ -159,7 +159,12 @@ fn is_same_side(a: bool, b: bool) -> bool
 }
 
 /// What the first items of all strands, so many of each, have written at an end.
-fn written_at(strands: &[Strand], at: &[usize], k: &SocketId, opener: bool) -> Result<u64, NoMemory>
+fn written_at(
+    strands: &[Strand<'_>],
+    at: &[usize],
+    k: &SocketId,
+    opener: bool,
+) -> Result<u64, NoMemory>
     requires count { length at.now ≡ length strands.now }
     ensures { IfOk result (λ n. n ≡ written_at (map strand_now strands.now) at.now (record { socket = k.now; opener = opener })) }
 {
@@ -171,17 +176,17 @@ fn written_at(strands: &[Strand], at: &[usize], k: &SocketId, opener: bool) -> R
 }
 
 /// What a half has read on a socket; of a journal nothing.
-fn half_read(s: &Strand, k: &SocketId) -> Result<u64, NoMemory>
-    ensures { IfOk result (λ n. n ≡ (if s.now.of_half then total (read_by k.now) s.now.items.items else 0)) }
+fn half_read(s: &Strand<'_>, k: &SocketId) -> Result<u64, NoMemory>
+    ensures { IfOk result (λ n. n ≡ (if (strand_now s.now).of_half then total (read_by k.now) (strand_now s.now).items else 0)) }
 {
-    if s.of_half {
-        return read_on(s.items.as_slice(), k);
+    if s.is_half() {
+        return read_on(s, s.len(), k);
     }
     Ok(0)
 }
 
 /// What halves have read on a socket.
-fn halves_read(strands: &[Strand], k: &SocketId) -> Result<u64, NoMemory>
+fn halves_read(strands: &[Strand<'_>], k: &SocketId) -> Result<u64, NoMemory>
     ensures { IfOk result (λ n. n ≡ read_by_halves (map strand_now strands.now) k.now) }
 {
     let mut sum = 0;
@@ -192,40 +197,52 @@ fn halves_read(strands: &[Strand], k: &SocketId) -> Result<u64, NoMemory>
 }
 
 /// Where a strand's reads begin on a socket.
-fn begun_at(strands: &[Strand], s: &Strand, k: &SocketId) -> Result<u64, NoMemory>
+fn begun_at(strands: &[Strand<'_>], s: &Strand<'_>, k: &SocketId) -> Result<u64, NoMemory>
     ensures { IfOk result (λ n. n ≡ begun_at (map strand_now strands.now) (strand_now s.now) k.now) }
 {
-    if s.of_half || has_opened(s.items.as_slice(), k) {
+    if s.is_half() || has_opened(s, k) {
         return Ok(0);
     }
     halves_read(strands, k)
 }
 
 /// The place of the next byte that a strand reads on a socket, after so many of its items.
-fn place_of(strands: &[Strand], s: &Strand, n: usize, k: &SocketId) -> Result<u64, NoMemory>
+fn place_of(strands: &[Strand<'_>], s: &Strand<'_>, n: usize, k: &SocketId) -> Result<u64, NoMemory>
     ensures { IfOk result (λ m. m ≡ place_of (map strand_now strands.now) (strand_now s.now) n k.now) }
 {
     let begun = begun_at(strands, s, k)?;
-    let items = s.items.as_slice();
-    let (first, _) = items.split_at(n.min(items.len()));
-    let read = read_on(first, k)?;
+    let read = read_on(s, n, k)?;
     plus(begun, read)
+}
+
+/// The item of a strand behind so many; none where there is no such item.
+fn item_at(s: &Strand<'_>, place: usize) -> Option<StrandItem>
+    ensures { result ≡ slice_get (strand_now s.now).items place }
+{
+    if place >= s.len() {
+        return None;
+    }
+    let mut left = s.items();
+    for n in 0..place {
+        let _before = left.next();
+    }
+    Some(left.next())
 }
 
 /// What is wrong with the next item of a strand after so many, if it is a read.
 fn unfit_next(
-    strands: &[Strand],
+    strands: &[Strand<'_>],
     sockets: &SocketTable<'_>,
     at: &[usize],
-    s: &Strand,
+    s: &Strand<'_>,
     n: usize,
 ) -> Result<Option<Unfit>, NoMemory>
     requires count { length at.now ≡ length strands.now }
     ensures { IfOk result (λ u. u ≡ unfit_next (woven_of strands.now sockets.now) at.now (strand_now s.now) n) }
 {
-    match s.items.get(n) {
+    match item_at(s, n) {
         Some(StrandItem::Noted(Entry::Read { socket, count })) => {
-            unfit_read(strands, sockets, at, s, n, socket, *count)
+            unfit_read(strands, sockets, at, s, n, &socket, count)
         }
         _ => Ok(None),
     }
@@ -233,10 +250,10 @@ fn unfit_next(
 
 /// What is wrong with a read of so many bytes on a socket, behind so many items of a strand.
 fn unfit_read(
-    strands: &[Strand],
+    strands: &[Strand<'_>],
     sockets: &SocketTable<'_>,
     at: &[usize],
-    s: &Strand,
+    s: &Strand<'_>,
     n: usize,
     socket: &SocketId,
     count: u32,
@@ -244,7 +261,7 @@ fn unfit_read(
     requires count { length at.now ≡ length strands.now }
     ensures { IfOk result (λ u. u ≡ unfit_read (woven_of strands.now sockets.now) at.now (strand_now s.now) n socket.now count) }
 {
-    let opener = has_opened(s.items.as_slice(), socket);
+    let opener = has_opened(s, socket);
     let from = place_of(strands, s, n, socket)?;
     let place = place_in(sockets, socket);
     if place >= sockets.len() {
@@ -263,10 +280,10 @@ fn unfit_read(
 /// Behind so many items of each strand, as [`weave`](crate::weave) tells them: the byte at which the first
 /// strand stands that stands at a read which may not come; none where each strand that isn't at its end
 /// waits for a judgement, or for an ask to be handed on, which tidy strands don't
-/// ([`tidy_stops_are_reads`](crate::tidy_stops_are_reads)). It goes through the items once for each such
-/// strand. Counts above 2^64 - 1 are answered as for want of memory.
+/// ([`tidy_stops_are_reads`](crate::tidy_stops_are_reads)). It goes through the items once, and once more
+/// for each such strand. Counts above 2^64 - 1 are answered as for want of memory.
 pub fn first_stop(
-    strands: &[Strand],
+    strands: &[Strand<'_>],
     sockets: &SocketTable<'_>,
     at: &[usize],
 ) -> Result<Option<Unfit>, NoMemory>

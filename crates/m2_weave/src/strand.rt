@@ -1,13 +1,11 @@
 //! Strands: journals, and what halves did before a side took their sockets.
 
-ghost use Rattle.std.specs.Prelude.{◌≡◌, [], ◌∷◌, ◌++◌, map, IfOk, OnOk};
-ghost use Rattle.m2_weave.specs.declared.strand.StrandItem.TheVariants.{Handed, Noted};
-ghost use Rattle.m2_weave.specs.Strands.{half_of, journal_of, strand_now};
+ghost use Rattle.std.specs.Prelude.{◌≡◌, ◌<◌, ◌∷◌, length};
+ghost use Rattle.m2_weave.specs.Strands.{strand_now};
 
-use m2_bytes::{Items, NoMemory};
 use m2_fabric::SocketId;
 use m2_journal::Entry;
-use std::alloc::Global;
+use std::marker::Model;
 
 /// An item of a strand.
 #[derive(Clone, Copy, Debug)]
@@ -18,77 +16,125 @@ pub enum StrandItem {
     Handed(SocketId),
 }
 
-/// Items that came one after the other: a journal, or what a half did on a socket of the peer.
-///
-/// Makers: [`of_journal`](Strand::of_journal), [`of_half`](Strand::of_half).
-#[derive(Debug, Drop)]
-pub struct Strand {
-    pub of_half: bool,
-    pub items: Items<StrandItem>,
-}
-
-impl Strand {
+/// Items that came one after the other: a journal, or what a half did on a socket of the peer. It lends the
+/// entries, and copies none.
+#[derive(Clone, Copy, Debug)]
+pub enum Strand<'a> {
     /// A journal.
-    pub fn of_journal(alloc: Global, entries: &[Entry]) -> Result<Strand, NoMemory>
-        ensures { IfOk result (λ s. strand_now s ≡ journal_of entries.now) }
-    {
-        let mut items = Items::empty(alloc);
-        note_all(&mut items, entries)?;
-        Ok(Strand {
-            of_half: false,
-            items,
-        })
-    }
-
+    Journal {
+        entries: &'a [Entry],
+    },
     /// What a half did on this socket: its entries, and after how many of them each of its asks was handed
     /// on to be judged.
-    pub fn of_half(
-        alloc: Global,
+    Half {
         socket: SocketId,
-        entries: &[Entry],
-        judged_after: &[usize],
-    ) -> Result<Strand, NoMemory>
-        ensures { IfOk result (λ s. strand_now s ≡ half_of socket entries.now judged_after.now) }
+        entries: &'a [Entry],
+        judged_after: &'a [usize],
+    },
+}
+
+impl<'a> Strand<'a> {
+    /// Whether it is a half's.
+    pub(crate) fn is_half(&self) -> bool
+        ensures { result ≡ (strand_now self.now).of_half }
     {
-        let mut items = Items::empty(alloc);
-        let mut rest = entries;
-        let mut place: usize = 0;
-        for n in judged_after {
-            let count = n.saturating_sub(place).min(rest.len());
-            let (before, behind) = rest.split_at(count);
-            note_all(&mut items, before)?;
-            hand_on(&mut items, socket)?;
-            rest = behind;
-            place = (*n).max(place);
+        match self {
+            Strand::Journal { entries: _ } => false,
+            Strand::Half {
+                socket: _,
+                entries: _,
+                judged_after: _,
+            } => true,
         }
-        note_all(&mut items, rest)?;
-        Ok(Strand {
-            of_half: true,
-            items,
-        })
+    }
+
+    /// How many items it has.
+    #[tactic(auto, using(crate::proofs::Items::half_count))]
+    pub(crate) fn len(&self) -> usize
+        ensures { result ≡ length (strand_now self.now).items }
+    {
+        match self {
+            Strand::Journal { entries } => entries.len(),
+            Strand::Half {
+                socket: _,
+                entries,
+                judged_after,
+            } => entries.len() + judged_after.len(),
+        }
+    }
+
+    /// Its items, of which none has come yet.
+    pub(crate) fn items(&self) -> ItemsLeft<'a>
+        ensures { result ≡ (strand_now self.now).items }
+    {
+        match *self {
+            Strand::Journal { entries } => ItemsLeft {
+                socket: NO_SOCKET,
+                place: 0,
+                entries,
+                judged_after: &[],
+            },
+            Strand::Half {
+                socket,
+                entries,
+                judged_after,
+            } => ItemsLeft {
+                socket,
+                place: 0,
+                entries,
+                judged_after,
+            },
+        }
     }
 }
 
-/// Appends entries.
-fn note_all(items: &mut Items<StrandItem>, entries: &[Entry]) -> Result<(), NoMemory>
-    ensures { OnOk result (items.new.items ≡ items.old.items ++ map Noted entries.now) }
-{
-    items.reserve(entries.len())?;
-    for e in entries {
-        match items.push(StrandItem::Noted(*e)) {
-            Ok(()) => {}
-            Err(_) => return Err(NoMemory),
-        }
-    }
-    Ok(())
+/// What stands in place of a half's socket where no ask is handed on.
+const NO_SOCKET: SocketId = SocketId {
+    from_ip: 0,
+    from_port: 0,
+    to_ip: 0,
+    to_port: 0,
+    turn: 0,
+};
+
+/// The items of a strand that are still to come. Contracts see the list.
+#[derive(Drop)]
+pub(crate) struct ItemsLeft<'a> {
+    /// Where the asks are handed on.
+    socket: SocketId,
+    /// How many entries have come, as long as an ask is still to be handed on.
+    place: usize,
+    /// The entries that are still to come.
+    entries: &'a [Entry],
+    /// After how many entries each ask is handed on that is still to be.
+    judged_after: &'a [usize],
 }
 
-/// Appends that an ask was handed on.
-fn hand_on(items: &mut Items<StrandItem>, socket: SocketId) -> Result<(), NoMemory>
-    ensures { OnOk result (items.new.items ≡ items.old.items ++ Handed socket ∷ []) }
-{
-    match items.push(StrandItem::Handed(socket)) {
-        Ok(()) => Ok(()),
-        Err(_) => Err(NoMemory),
+impl<'a> Model for ItemsLeft<'a> {
+    ghost use Rattle.std.specs.Prelude.{List};
+    ghost use Rattle.m2_weave.specs.declared.strand.StrandItem.{StrandItem};
+    ghost use Rattle.m2_weave.specs.Strands.{half_items};
+
+    ghost Value = { List StrandItem };
+
+    ghost view = { λ l. half_items l.socket l.place l.entries.now l.judged_after.now };
+}
+
+impl<'a> ItemsLeft<'a> {
+    /// The next item.
+    pub(crate) fn next(&mut self) -> StrandItem
+        requires some { 0 < length self.old }
+        ensures { self.old ≡ result ∷ self.new }
+    {
+        if let Some((n, asks)) = self.judged_after.split_first() {
+            if *n <= self.place || self.entries.is_empty() {
+                self.judged_after = asks;
+                return StrandItem::Handed(self.socket);
+            }
+            self.place += 1;
+        }
+        let (first, rest) = self.entries.split_at(1);
+        self.entries = rest;
+        StrandItem::Noted(first[0])
     }
 }

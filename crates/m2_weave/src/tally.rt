@@ -1,10 +1,9 @@
 //! Numbers that are counted of each socket of a table.
 
 ghost use Rattle.std.specs.Prelude.{◌≡◌, ◌+◌, ◌*◌, ◌<◌, ◌^◌, ◌||◌, true, false, length, if◌then◌else◌, drop, map, take, replicate, slice_get, slice_index, slice_index_or, IfOk, OnOk, Decides};
-ghost use Rattle.std.specs.List.{list_any};
 ghost use Rattle.m2_fabric.specs.Sockets.{is_among, same_socket};
 ghost use Rattle.m2_weave.specs.Counting.{bytes_need, place_in, side_number};
-ghost use Rattle.m2_weave.specs.Strands.{opens, read_by, read_by_halves, strand_now, total};
+ghost use Rattle.m2_weave.specs.Strands.{has_opened, opens, read_by, read_by_halves, strand_now, total};
 ghost use Rattle.m2_weave.specs.Table.{KeepsNumbers, KeepsOpened, got_at, names_of};
 ghost use Rattle.m2_weave.specs.Tally.{bytes_alone};
 
@@ -33,33 +32,38 @@ fn add_read(
     Ok(())
 }
 
-/// Adds what these items have read.
+/// Adds what a strand has read.
 fn add_reads(
     numbers: &mut Vec<u64>,
     sockets: &SocketTable<'_>,
-    items: &[StrandItem],
+    s: &Strand<'_>,
 ) -> Result<(), NoMemory>
     requires count { length numbers.old.items ≡ length sockets.now }
     ensures count { length numbers.new.items ≡ length sockets.now }
     ensures added { OnOk result (KeepsNumbers (names_of sockets.now)
-        (λ k. slice_index numbers.old.items (place_in (names_of sockets.now) k) + total (read_by k) items.now) numbers.new.items) }
+        (λ k. slice_index numbers.old.items (place_in (names_of sockets.now) k) + total (read_by k) (strand_now s.now).items) numbers.new.items) }
 {
-    for item in items {
-        add_read(numbers, sockets, *item)?;
+    let mut left = s.items();
+    for n in 0..s.len() {
+        add_read(numbers, sockets, left.next())?;
     }
     Ok(())
 }
 
 /// Adds what a strand has read, if it is a half's.
-fn add_half(numbers: &mut Vec<u64>, sockets: &SocketTable<'_>, s: &Strand) -> Result<(), NoMemory>
+fn add_half(
+    numbers: &mut Vec<u64>,
+    sockets: &SocketTable<'_>,
+    s: &Strand<'_>,
+) -> Result<(), NoMemory>
     requires count { length numbers.old.items ≡ length sockets.now }
     ensures count { length numbers.new.items ≡ length sockets.now }
     ensures added { OnOk result (KeepsNumbers (names_of sockets.now)
         (λ k. slice_index numbers.old.items (place_in (names_of sockets.now) k)
-        + (if s.now.of_half then total (read_by k) s.now.items.items else 0)) numbers.new.items) }
+        + (if (strand_now s.now).of_half then total (read_by k) (strand_now s.now).items else 0)) numbers.new.items) }
 {
-    if s.of_half {
-        return add_reads(numbers, sockets, s.items.as_slice());
+    if s.is_half() {
+        return add_reads(numbers, sockets, s);
     }
     Ok(())
 }
@@ -68,7 +72,7 @@ fn add_half(numbers: &mut Vec<u64>, sockets: &SocketTable<'_>, s: &Strand) -> Re
 pub(crate) fn read_by_halves(
     alloc: Global,
     sockets: &SocketTable<'_>,
-    strands: &[Strand],
+    strands: &[Strand<'_>],
 ) -> Result<Vec<u64>, NoMemory>
     ensures count { IfOk result (λ v. length v.items ≡ length sockets.now) }
     ensures numbers { IfOk result (λ v. KeepsNumbers (names_of sockets.now) (read_by_halves (map strand_now strands.now)) v.items) }
@@ -87,17 +91,28 @@ pub(crate) fn zeros(alloc: Global, n: usize) -> Result<Vec<u64>, NoMemory>
     Ok(Vec::from_elem(alloc, 0, n)?)
 }
 
-/// Sets the flags of the sockets of the table that these items have opened, where none is set before.
-pub(crate) fn set_opened(flags: &mut Vec<bool>, sockets: &SocketTable<'_>, items: &[StrandItem])
+/// Sets the flags of the sockets of the table that a strand has opened, where none is set before.
+pub(crate) fn set_opened(flags: &mut Vec<bool>, sockets: &SocketTable<'_>, s: &Strand<'_>)
     requires count { length flags.old.items ≡ length sockets.now }
     requires clear { KeepsOpened (names_of sockets.now) (λ _. false) flags.old.items }
     ensures count { length flags.new.items ≡ length sockets.now }
-    ensures flags { KeepsOpened (names_of sockets.now) (λ k. list_any (opens k) items.now) flags.new.items }
+    ensures flags { KeepsOpened (names_of sockets.now) (has_opened (strand_now s.now)) flags.new.items }
 {
-    for item in items {
-        if let StrandItem::Noted(Entry::Opened { socket }) = *item {
-            set(flags, sockets, &socket);
-        }
+    let mut left = s.items();
+    for n in 0..s.len() {
+        set_by(flags, sockets, left.next());
+    }
+}
+
+/// Sets the flag of the socket that an item has opened, if it opens one.
+fn set_by(flags: &mut Vec<bool>, sockets: &SocketTable<'_>, item: StrandItem)
+    requires count { length flags.old.items ≡ length sockets.now }
+    ensures count { length flags.new.items ≡ length sockets.now }
+    ensures set { KeepsOpened (names_of sockets.now)
+        (λ k. opens k item || slice_index_or flags.old.items (place_in (names_of sockets.now) k) false) flags.new.items }
+{
+    if let StrandItem::Noted(Entry::Opened { socket }) = item {
+        set(flags, sockets, &socket);
     }
 }
 

@@ -32,7 +32,7 @@ pub struct WovenOrder {
 /// The items of a strand as entries of a merge.
 fn count_items(
     alloc: Global,
-    strands: &[Strand],
+    strands: &[Strand<'_>],
     sockets: &SocketTable<'_>,
     counts: &mut Counts,
     k: usize,
@@ -46,10 +46,10 @@ fn count_items(
     ensures counts { OnOk result (CountsAre sockets.now (woven_of strands.now sockets.now) (strand_at (woven_of strands.now sockets.now) k)
         (length (strand_at (woven_of strands.now sockets.now) k).items) counts.new) }
 {
-    let items = strands[k].items.as_slice();
+    let mut left = strands[k].items();
     let mut entries = Items::empty(alloc);
-    for n in 0..items.len() {
-        let e = counts.count(sockets, items[n])?;
+    for n in 0..strands[k].len() {
+        let e = counts.count(sockets, left.next())?;
         match entries.push(e) {
             Ok(()) => {}
             Err(_) => return Err(NoMemory),
@@ -61,7 +61,7 @@ fn count_items(
 /// A strand by counters, between others.
 fn count_strand(
     alloc: Global,
-    strands: &[Strand],
+    strands: &[Strand<'_>],
     sockets: &SocketTable<'_>,
     counts: &mut Counts,
     k: usize,
@@ -83,7 +83,7 @@ fn count_strand(
 /// All strands by counters.
 fn count_all(
     alloc: Global,
-    strands: &[Strand],
+    strands: &[Strand<'_>],
     sockets: &SocketTable<'_>,
 ) -> Result<Vec<CountedStrand>, NoMemory>
     requires few { length sockets.now < 2 ^ 60 }
@@ -100,12 +100,12 @@ fn count_all(
 }
 
 /// Whether so many items are all items of the strands.
-fn is_all(strands: &[Strand], at: &[usize]) -> bool
+fn is_all(strands: &[Strand<'_>], at: &[usize]) -> bool
     requires { length at.now ≡ length strands.now }
     ensures { Decides result (at.now ≡ lengths_of strands.now) }
 {
     for k in 0..at.len() {
-        if at[k] != strands[k].items.len() {
+        if at[k] != strands[k].len() {
             return false;
         }
     }
@@ -147,12 +147,13 @@ fn is_named(sockets: &SocketTable<'_>, item: StrandItem) -> bool
     sockets.has(&socket)
 }
 
-/// Whether the sockets of all items are in the table.
-fn all_named(sockets: &SocketTable<'_>, items: &[StrandItem]) -> bool
-    ensures { Decides result (AllByRecursion (IsNamed (names_of sockets.now)) items.now) }
+/// Whether the sockets of all items of a strand are in the table.
+fn all_named(sockets: &SocketTable<'_>, s: &Strand<'_>) -> bool
+    ensures { Decides result (AllByRecursion (IsNamed (names_of sockets.now)) (strand_now s.now).items) }
 {
-    for item in items {
-        if !is_named(sockets, *item) {
+    let mut left = s.items();
+    for n in 0..s.len() {
+        if !is_named(sockets, left.next()) {
             return false;
         }
     }
@@ -161,11 +162,11 @@ fn all_named(sockets: &SocketTable<'_>, items: &[StrandItem]) -> bool
 
 /// Whether the sockets of all strands are in the table, as [`weave`] wants it: those on which an entry
 /// reads, writes or judges, or on which an ask was handed on.
-pub fn are_named(strands: &[Strand], sockets: &SocketTable<'_>) -> bool
+pub fn are_named(strands: &[Strand<'_>], sockets: &SocketTable<'_>) -> bool
     ensures { Decides result (AreNamed (names_of sockets.now) (woven_of strands.now sockets.now)) }
 {
     for s in strands {
-        if !all_named(sockets, s.items.as_slice()) {
+        if !all_named(sockets, s) {
             return false;
         }
     }
@@ -178,7 +179,7 @@ pub fn are_named(strands: &[Strand], sockets: &SocketTable<'_>) -> bool
 /// Counts above 2^64 - 1 are answered as for want of memory.
 pub fn weave(
     alloc: Global,
-    strands: &[Strand],
+    strands: &[Strand<'_>],
     sockets: &SocketTable<'_>,
 ) -> Result<WovenOrder, NoMemory>
     requires named { AreNamed (names_of sockets.now) (woven_of strands.now sockets.now) }

@@ -3,8 +3,9 @@ use Rattle.std.proofs.lemmas.Result.{err_from_is_err_and}
 use Rattle.std.proofs.lemmas.List.{map_push, length-append}
 use Rattle.m2_addr.specs.Addr.{IsSound, bare}
 use Rattle.m2_addr.specs.Vector.{bares, addresses_at}
-use Rattle.m2_addr.proofs.Addresses.{goes_on, ends, is_done, all_push}
+use Rattle.m2_addr.proofs.Addresses.{goes_on, ends, is_done}
 use Rattle.m2_addr.proofs.vector.read_addresses.Goals as goal
+use Rattle.m2_bytes.proofs.m2_lemmas.Lists.{all_last}
 
 pub returns-in_err-address-clause-exact : goal.returns-in_err-address-clause-exact
 returns-in_err-address-clause-exact c =
@@ -18,7 +19,7 @@ addresses-preserved c =
       so_far = rw e (goes_on (bares c.addresses.items.items) c.args.count c.addresses.counter c.addresses.r (bare c.in_ok-address.address) c.read_addr.new.r (addresses_at c.args.count c.args.r.now) c.addresses-test.true c.in_ok-address.ensures.exact c.addresses.invariant.so_far);
       within = omega (arith, c.addresses-test.true);
       count = rw c.in_ok-push.ensures.items (omega (arith, c.addresses.invariant.count, length-append c.addresses.items.items (c.in_ok-address.address ∷ [])));
-      sound = rw c.in_ok-push.ensures.items (all_push IsSound c.addresses.items.items c.in_ok-address.address c.addresses.invariant.sound c.in_ok-address.ensures.sound);
+      sound = rw c.in_ok-push.ensures.items (all_last IsSound c.addresses.items.items c.in_ok-address.address c.addresses.invariant.sound c.in_ok-address.ensures.sound);
     }
 
 pub returns-clause-exact : goal.returns-clause-exact

@@ -12,11 +12,11 @@ use Rattle.m2_run.specs.Homes.{is_at_home, steps_at_home}
 use Rattle.m2_run.specs.Planned.{IsSendableStep}
 use Rattle.m2_run.specs.Working.{WorkerNow}
 use Rattle.m2_run.specs.declared.planning.StepTowards.{StepTowards}
-use Rattle.m2_run.proofs.Filters.{all_filter}
 use Rattle.m2_run.proofs.OutPorts.{if_some}
 use Rattle.m2_run.proofs.StepLists.{first_steps, next_steps, these_steps}
 use Rattle.m2_run.proofs.WorkersBegin.{all_added, none_added, one_added_more}
 use Rattle.m2_run.proofs.beginning.add_workers.Goals as goal
+use Rattle.m2_bytes.proofs.m2_lemmas.Lists.{all_filter}
 
 pub centers-init : goal.centers-init
 centers-init g c =

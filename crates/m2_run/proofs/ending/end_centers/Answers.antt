@@ -6,9 +6,9 @@ use Rattle.m2_script.proofs.m2_center.Granted.{before_last}
 use Rattle.m2_run.specs.Nodes.{IsServedBy}
 use Rattle.m2_run.specs.Opened.{OpenedNow, PartsNow}
 use Rattle.m2_run.specs.Rests.{EndedCenterNow}
-use Rattle.m2_run.proofs.Giving.{all_reversed}
 use Rattle.m2_run.proofs.Lasts.{all_ended_of, none_ended_of, one_ended_of, room_turned, so_on_ok}
 use Rattle.m2_run.proofs.ending.end_centers.Goals as goal
+use Rattle.m2_bytes.proofs.m2_lemmas.Lists.{all_reverse}
 
 pub centers-init : goal.centers-init
 centers-init g c =
@@ -22,7 +22,7 @@ centers-init g c =
     let many : c.len.result ≡ length c.args.centers.items = cc (c.len.ensures, c.args.centers.ok.0) in
     record {
       ended = none_ended_of c.args.cuts.now (slice_get g.B.Inboxes.inboxes) c.args.number c.args.centers.items c.reverse.new.self.items c.args.ended.now now turned same;
-      served = subst (AllByRecursion served) (sym turned) (all_reversed served c.args.centers.items c.requires);
+      served = subst (AllByRecursion served) (sym turned) (all_reverse served c.args.centers.items c.requires);
       room = room_turned c.args.centers.items c.reverse.new.self.items c.len.result (vec_len c.reserve.new.self) (vec_capacity c.reserve.new.self) turned many room;
     }
 

@@ -4,7 +4,7 @@ use Rattle.std.specs.Prelude.{slice_get, Some}
 use Rattle.m2_fabric.specs.Port.{SeenPort}
 use Rattle.m2_fabric.specs.declared.socket.SocketId.{SocketId}
 use Rattle.m2_handover.specs.Handed.{IsOfNamed}
-use Rattle.m2_handover.specs.Home.{put_at}
+use Rattle.m2_handover.specs.Home.{ways_at}
 use Rattle.m2_handover.specs.m2_mailbox.Passes.{IsGetPassOf}
 use Rattle.m2_run.specs.Opened.{IsTakenApart, LeftNow}
 use Rattle.m2_run.proofs.Apart.{all_away, one_away, parts, port_apart}
@@ -36,12 +36,12 @@ returns-clause-apart g c =
     let pushed : now.gets.items ≡ gets ++ rest.pass ∷ [] = cc (c.ways.invariant.gets, c.in_ok-keep_get.ensures.gets, c.in_ok-port.pass-is) in
     let number : rest.number ≡ first + length gets = cc (c.in_ok-keep_get.ensures.number, c.in_ok-port.number-is) in
     let is = subst (λ (n : ℕ). IsOfNamed (λ b. IsGetPassOf b rest.pass) (inbox n)) number told.ours in
-    let ways : c.into_iter-way-iterator.result.rest.items ≡ put_at port.door = cc (c.into_iter-way-iterator.ensures.into_iter_gives.0, c.in_ok-port.ways-is, told.put) in
+    let ways : c.into_iter-way-iterator.result.rest.items ≡ ways_at port.door = cc (c.into_iter-way-iterator.ensures.into_iter_gives.0, c.in_ok-port.ways-is, told.ways) in
     let left = c.ways.way-iterator.rest in
-    let away = all_away inbox first c.into_iter-way-iterator.result.rest.items left.items (put_at port.door) c.keep_get.new.rights.puts.items puts now.puts.items ways
+    let away = all_away inbox first c.into_iter-way-iterator.result.rest.items left.items (ways_at port.door) c.keep_get.new.rights.puts.items puts now.puts.items ways
     (sym left.ok.0 ∙ c.in-None.ensures.steps.0) c.keep_get.ensures.puts c.ways.invariant.away in
     subst (λ (l : LeftNow). IsTakenApart inbox first (Some (g.P.Port.seen rest.port)) rest.made.items (parts l puts gets) (parts new now.puts.items now.gets.items)) c.left.view_is
     (subst (λ (ids : List SocketId). IsTakenApart inbox first (Some (g.P.Port.seen rest.port)) ids (parts old puts gets) (parts new now.puts.items now.gets.items)) (sym told.made)
     (subst (λ (p : SeenPort). IsTakenApart inbox first (Some p) port.made (parts old puts gets) (parts new now.puts.items now.gets.items)) (sym told.port)
-    (port_apart inbox first port.inner port.made old new puts now.puts.items gets now.gets.items rest.pass rest.at_door.items rest.on_way.items port.taken (put_at port.door) refl door way pushed told.taken is
+    (port_apart inbox first port.inner port.made old new puts now.puts.items gets now.gets.items rest.pass rest.at_door.items rest.on_way.items port.taken (ways_at port.door) refl door way pushed told.taken is
     told.all away)))

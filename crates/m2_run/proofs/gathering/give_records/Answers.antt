@@ -3,15 +3,16 @@ use Rattle.std.proofs.Common.{rules, ◌≡◌, [], map, refl, sym, subst, ◌�
 use Rattle.m2_record.specs.Calls.{Owns}
 use Rattle.m2_script.specs.m2_center.Finishing.{AllOwn}
 use Rattle.m2_script.proofs.m2_center.Granted.{before_last}
-use Rattle.m2_run.proofs.Giving.{all_reversed, none_given, none_left, one_record}
+use Rattle.m2_run.proofs.Giving.{none_given, none_left, one_record}
 use Rattle.m2_run.proofs.gathering.give_records.Goals as goal
+use Rattle.m2_bytes.proofs.m2_lemmas.Lists.{all_reverse}
 
 pub records-init : goal.records-init
 records-init g c =
     let place = c.args.throttle.now.place in
     record {
       place = refl;
-      owned = subst (AllOwn place) (sym c.reverse.ensures.items) (all_reversed (Owns place) c.args.records.items c.requires.owned);
+      owned = subst (AllOwn place) (sym c.reverse.ensures.items) (all_reverse (Owns place) c.args.records.items c.requires.owned);
       given = λ all o. none_given c.args.cuts.now c.args.made.now c.args.records.items c.reverse.new.self.items (map g.E.End.seen c.args.into.now.items) all c.reverse.ensures.items o;
     }
 

@@ -1,5 +1,6 @@
 use Rattle.std.proofs.Common.{◌≡◌, ◌<◌, ◌∷◌, length, ap, arith, subst, sym, ◌∙◌}
 use Rattle.std.specs.List.{AllByRecursion}
+use Rattle.std.proofs.lemmas.List.{nil_from_length}
 use Rattle.m2_shared.specs.Numbers.{SeenNumbers}
 use Rattle.m2_shared.specs.Throttle.{SeenThrottle}
 use Rattle.m2_turn.specs.declared.records_turn.RecordsTurn.TheVariants as turn
@@ -9,7 +10,7 @@ use Rattle.m2_turn.specs.Outbox.{OwnsAll}
 use Rattle.m2_turn.specs.RecordTurn.{means_of}
 use Rattle.m2_turn.specs.RecordsTurn.{TurnsInOrder, all_amid, around}
 use Rattle.m2_turn.specs.Sessions.{IsSupplied, supply_of}
-use Rattle.m2_turn.proofs.InOrder.{nil_of, none_left, one_more, stops_here}
+use Rattle.m2_turn.proofs.InOrder.{none_left, one_more, stops_here}
 use Rattle.m2_turn.proofs.Led.{same_means}
 use Rattle.m2_turn.proofs.MoreHanded.{says_beside, says_none}
 use Rattle.m2_turn.proofs.Told.{all_earlier, all_supplied_on, all_the_same, made_on, supplied_on}
@@ -36,7 +37,7 @@ pub returns-in-None-clause-turns : goal.returns-in-None-clause-turns
 returns-in-None-clause-turns g t c =
     subst (λ rs. TurnsInOrder g.D.Dispatcher.heard (means_of c.args.now c.args.work.now) turn.Done
     (all_amid rs (around (g.P.Port.seen c.args.port.now) c.args.out.now c.args.work.now)) (all_amid rs (around (g.P.Port.seen c.args.port.now) c.args.out.now c.args.work.now)))
-    (sym (nil_of c.args.records.now c.in-None.ensures.cases))
+    (sym (nil_from_length c.args.records.now c.in-None.ensures.cases))
     (none_left g.D.Dispatcher.heard (means_of c.args.now c.args.work.now) (around (g.P.Port.seen c.args.port.now) c.args.out.now c.args.work.now))
 
 pub returns-in-None-clause-keeps : goal.returns-in-None-clause-keeps

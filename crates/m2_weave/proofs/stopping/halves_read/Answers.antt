@@ -1,14 +1,19 @@
 -- One strand more.
-use Rattle.std.proofs.Common.{arith}
+use Rattle.std.proofs.Common.{◌<◌, length, arith}
+use Rattle.std.specs.Prelude.{slice_index_or}
+use Rattle.m2_weave.proofs.Items.{nothing_lent, own_default}
 use Rattle.m2_weave.proofs.Tallies.{halves_more}
 use Rattle.m2_weave.proofs.stopping.halves_read.Goals as goal
 
 pub loop-s-preserved : goal.loop-s-preserved
 loop-s-preserved c =
+    let n = c.loop-s.s-index in
+    let strands = c.args.strands.now in
+    let h : n < length strands = omega arith in
     omega (
       arith,
       c.in_ok-sum.ensures,
       c.in_ok-half_read.ensures,
       c.loop-s.invariant,
-      halves_more c.loop-s.s-index c.args.strands.now c.s-item.result c.args.k.now (omega arith) c.s-item.is,
+      halves_more n strands (slice_index_or strands n nothing_lent) c.args.k.now h (own_default strands n nothing_lent h),
     )

@@ -1,9 +1,16 @@
 -- One item more.
-use Rattle.std.proofs.Common.{arith}
-use Rattle.m2_weave.specs.Strands.{written_by}
+use Rattle.std.proofs.Common.{◌<◌, ◌∙◌, length, ap, arith}
+use Rattle.m2_weave.specs.Strands.{written_by, strand_now}
+use Rattle.m2_weave.proofs.Items.{next_at}
 use Rattle.m2_weave.proofs.Tallies.{sum_more}
 use Rattle.m2_weave.proofs.stopping.written_on.Goals as goal
 
-pub loop-item-preserved : goal.loop-item-preserved
-loop-item-preserved c =
-    sum_more (written_by c.args.k.now) c.loop-item.item-index c.args.items.now _ _ _ _ (omega arith) c.in_ok-sum.ensures c.written_by.ensures c.loop-item.invariant
+pub loop-n-preserved : goal.loop-n-preserved
+loop-n-preserved c =
+    let is = (strand_now c.args.s.now).items in
+    let h : c.loop-n.n < length is = omega (arith, c.loop-n-test.true, c.min-n-end.ensures, c.len.ensures) in
+    let at = next_at is c.loop-n.left c.next.new.self c.loop-n.n c.next.result h c.loop-n.invariant.left c.next.ensures in
+    record {
+      left = at.1;
+      sum = sum_more (written_by c.args.k.now) c.loop-n.n is c.next.result _ _ _ h c.in_ok-sum.ensures (c.written_by.ensures ∙ ap (written_by c.args.k.now) at.0) c.loop-n.invariant.sum;
+    }

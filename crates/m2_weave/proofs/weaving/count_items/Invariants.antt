@@ -8,6 +8,7 @@ use Rattle.m2_weave.proofs.weaving.count_items.Given as goal
 -- the items so far are counted
 abbrev pub invariant-loop-n : goal.invariant-loop-n
 invariant-loop-n l = record {
+  left : l.left ≡ drop l.n (strand_at (woven_of l.strands l.sockets) l.k).items;
   counts : CountsAre l.sockets (woven_of l.strands l.sockets) (strand_at (woven_of l.strands l.sockets) l.k) l.n l.counts;
   entries : l.entries.items ++ counted_items (names_of l.sockets) (woven_of l.strands l.sockets) (strand_at (woven_of l.strands l.sockets) l.k) l.n
       (drop l.n (strand_at (woven_of l.strands l.sockets) l.k).items)

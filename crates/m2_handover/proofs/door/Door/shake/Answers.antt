@@ -7,7 +7,7 @@ use Rattle.m2_handover.proofs.door.Door.shake.Goals as goal
 
 pub returns-in-NoMemory-clause-sockets : goal.returns-in-NoMemory-clause-sockets
 returns-in-NoMemory-clause-sockets g c =
-    let old : DoorNow = record { halves = c.self.inside.halves.items; asked = c.self.inside.asked.items; over = c.self.inside.over.items; put = c.self.inside.ways.items } in
+    let old : DoorNow = record { halves = c.self.inside.halves.items; asked = c.self.inside.asked.items; over = c.self.inside.over.items; ways = c.self.inside.ways.items } in
     let new : DoorNow = record old { halves = c.push_back_reserved-in-NoMemory.new.self.items; over = c.reserve.new.self.items } in
     let was = rw (← c.pop_front-2.view_is, c.in-Some.is) at c.pop_front.ensures.items in
     let halves : new.halves ≡ c.pop_front.new.self.items ++ stays_by turn.NoMemory c.advance.new.half = c.push_back_reserved-in-NoMemory.ensures.items in
@@ -19,7 +19,7 @@ returns-in-NoMemory-clause-sockets g c =
 
 pub returns-in-Asked-clause-shakes : goal.returns-in-Asked-clause-shakes
 returns-in-Asked-clause-shakes g c =
-    let old : DoorNow = record { halves = c.self.inside.halves.items; asked = c.self.inside.asked.items; over = c.self.inside.over.items; put = c.self.inside.ways.items } in
+    let old : DoorNow = record { halves = c.self.inside.halves.items; asked = c.self.inside.asked.items; over = c.self.inside.over.items; ways = c.self.inside.ways.items } in
     let new : DoorNow = record old { halves = c.pop_front.new.self.items; asked = c.push_back_reserved.new.self.items; over = c.reserve.new.self.items } in
     let was = rw (← c.pop_front-2.view_is, c.in-Some.is) at c.pop_front.ensures.items in
     let halves : new.halves ≡ c.pop_front.new.self.items ++ stays_by turn.Asked c.advance.new.half = sym (append-nil c.pop_front.new.self.items) in
@@ -30,7 +30,7 @@ returns-in-Asked-clause-shakes g c =
 
 pub returns-in-Asked-clause-sockets : goal.returns-in-Asked-clause-sockets
 returns-in-Asked-clause-sockets g c =
-    let old : DoorNow = record { halves = c.self.inside.halves.items; asked = c.self.inside.asked.items; over = c.self.inside.over.items; put = c.self.inside.ways.items } in
+    let old : DoorNow = record { halves = c.self.inside.halves.items; asked = c.self.inside.asked.items; over = c.self.inside.over.items; ways = c.self.inside.ways.items } in
     let new : DoorNow = record old { halves = c.pop_front.new.self.items; asked = c.push_back_reserved.new.self.items; over = c.reserve.new.self.items } in
     let was = rw (← c.pop_front-2.view_is, c.in-Some.is) at c.pop_front.ensures.items in
     let halves : new.halves ≡ c.pop_front.new.self.items ++ stays_by turn.Asked c.advance.new.half = sym (append-nil c.pop_front.new.self.items) in
@@ -42,7 +42,7 @@ returns-in-Asked-clause-sockets g c =
 
 pub returns-in-Over-clause-shakes : goal.returns-in-Over-clause-shakes
 returns-in-Over-clause-shakes g c =
-    let old : DoorNow = record { halves = c.self.inside.halves.items; asked = c.self.inside.asked.items; over = c.self.inside.over.items; put = c.self.inside.ways.items } in
+    let old : DoorNow = record { halves = c.self.inside.halves.items; asked = c.self.inside.asked.items; over = c.self.inside.over.items; ways = c.self.inside.ways.items } in
     let new : DoorNow = record old { halves = c.pop_front.new.self.items; over = c.push_reserved.new.self.items } in
     let was = rw (← c.pop_front-2.view_is, c.in-Some.is) at c.pop_front.ensures.items in
     let halves : new.halves ≡ c.pop_front.new.self.items ++ stays_by turn.Over c.advance.new.half = sym (append-nil c.pop_front.new.self.items) in
@@ -53,7 +53,7 @@ returns-in-Over-clause-shakes g c =
 
 pub returns-in-Over-clause-sockets : goal.returns-in-Over-clause-sockets
 returns-in-Over-clause-sockets g c =
-    let old : DoorNow = record { halves = c.self.inside.halves.items; asked = c.self.inside.asked.items; over = c.self.inside.over.items; put = c.self.inside.ways.items } in
+    let old : DoorNow = record { halves = c.self.inside.halves.items; asked = c.self.inside.asked.items; over = c.self.inside.over.items; ways = c.self.inside.ways.items } in
     let new : DoorNow = record old { halves = c.pop_front.new.self.items; over = c.push_reserved.new.self.items } in
     let was = rw (← c.pop_front-2.view_is, c.in-Some.is) at c.pop_front.ensures.items in
     let halves : new.halves ≡ c.pop_front.new.self.items ++ stays_by turn.Over c.advance.new.half = sym (append-nil c.pop_front.new.self.items) in
@@ -65,7 +65,7 @@ returns-in-Over-clause-sockets g c =
 
 pub returns-in-Waits-clause-shakes : goal.returns-in-Waits-clause-shakes
 returns-in-Waits-clause-shakes g c =
-    let old : DoorNow = record { halves = c.self.inside.halves.items; asked = c.self.inside.asked.items; over = c.self.inside.over.items; put = c.self.inside.ways.items } in
+    let old : DoorNow = record { halves = c.self.inside.halves.items; asked = c.self.inside.asked.items; over = c.self.inside.over.items; ways = c.self.inside.ways.items } in
     let new : DoorNow = record old { halves = c.push_back_reserved-in-Waits.new.self.items; over = c.reserve.new.self.items } in
     let was = rw (← c.pop_front-2.view_is, c.in-Some.is) at c.pop_front.ensures.items in
     let halves : new.halves ≡ c.pop_front.new.self.items ++ stays_by turn.Waits c.advance.new.half = c.push_back_reserved-in-Waits.ensures.items in
@@ -76,7 +76,7 @@ returns-in-Waits-clause-shakes g c =
 
 pub returns-in-Waits-clause-sockets : goal.returns-in-Waits-clause-sockets
 returns-in-Waits-clause-sockets g c =
-    let old : DoorNow = record { halves = c.self.inside.halves.items; asked = c.self.inside.asked.items; over = c.self.inside.over.items; put = c.self.inside.ways.items } in
+    let old : DoorNow = record { halves = c.self.inside.halves.items; asked = c.self.inside.asked.items; over = c.self.inside.over.items; ways = c.self.inside.ways.items } in
     let new : DoorNow = record old { halves = c.push_back_reserved-in-Waits.new.self.items; over = c.reserve.new.self.items } in
     let was = rw (← c.pop_front-2.view_is, c.in-Some.is) at c.pop_front.ensures.items in
     let halves : new.halves ≡ c.pop_front.new.self.items ++ stays_by turn.Waits c.advance.new.half = c.push_back_reserved-in-Waits.ensures.items in
@@ -88,7 +88,7 @@ returns-in-Waits-clause-sockets g c =
 
 pub returns-in-Busy-clause-shakes : goal.returns-in-Busy-clause-shakes
 returns-in-Busy-clause-shakes g c =
-    let old : DoorNow = record { halves = c.self.inside.halves.items; asked = c.self.inside.asked.items; over = c.self.inside.over.items; put = c.self.inside.ways.items } in
+    let old : DoorNow = record { halves = c.self.inside.halves.items; asked = c.self.inside.asked.items; over = c.self.inside.over.items; ways = c.self.inside.ways.items } in
     let new : DoorNow = record old { halves = c.push_back_reserved-in-Busy.new.self.items; over = c.reserve.new.self.items } in
     let was = rw (← c.pop_front-2.view_is, c.in-Some.is) at c.pop_front.ensures.items in
     let halves : new.halves ≡ c.pop_front.new.self.items ++ stays_by turn.Busy c.advance.new.half = c.push_back_reserved-in-Busy.ensures.items in
@@ -99,7 +99,7 @@ returns-in-Busy-clause-shakes g c =
 
 pub returns-in-Busy-clause-sockets : goal.returns-in-Busy-clause-sockets
 returns-in-Busy-clause-sockets g c =
-    let old : DoorNow = record { halves = c.self.inside.halves.items; asked = c.self.inside.asked.items; over = c.self.inside.over.items; put = c.self.inside.ways.items } in
+    let old : DoorNow = record { halves = c.self.inside.halves.items; asked = c.self.inside.asked.items; over = c.self.inside.over.items; ways = c.self.inside.ways.items } in
     let new : DoorNow = record old { halves = c.push_back_reserved-in-Busy.new.self.items; over = c.reserve.new.self.items } in
     let was = rw (← c.pop_front-2.view_is, c.in-Some.is) at c.pop_front.ensures.items in
     let halves : new.halves ≡ c.pop_front.new.self.items ++ stays_by turn.Busy c.advance.new.half = c.push_back_reserved-in-Busy.ensures.items in

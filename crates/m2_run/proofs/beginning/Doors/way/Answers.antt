@@ -2,6 +2,7 @@
 use Rattle.std.proofs.Common.{◌≡◌, ◌∙◌, ◌+◌, ◌∷◌, Some, ap, subst, sym, arith}
 use Rattle.std.specs.Prelude.{slice_get}
 use Rattle.m2_handover.specs.Handed.{IsOfNamed}
+use Rattle.m2_handover.specs.Way.{WayNow}
 use Rattle.m2_handover.specs.m2_mailbox.Passes.{IsPutPassOf, owner_of}
 use Rattle.m2_run.specs.Begins.{DoorsNow}
 use Rattle.m2_run.specs.Rooms.{homes_from, thread_of}
@@ -53,5 +54,5 @@ returns-clause-new g c =
     let n = c.in-Some.number in
     let there : slice_get bs n ≡ Some b = sym c.in-Some-inbox.ensures in
     let at : n ≡ c.self.inside.next + c.args.home.center = omega (arith, c.in-Some.ensures) in
-    c.new.ensures
+    ap (λ (w : WayNow). w.put) c.new.ensures
     ∙ (way_found (slice_get bs) c.args.self.now _ c.args.home c.in-Some-next.put c.next.new.self.rest.items b n c.requires c.self.view_is c.in-Some-next.ensures.items at there).nothing_put

@@ -1,0 +1,103 @@
+-- What is handed on, parcel after parcel and letter after letter.
+use Rattle.std.proofs.Common.{◌≡◌, List, [], ◌∷◌, ◌++◌, map, refl, sym, ap, ◌∙◌, subst, append-nil, append_assoc}
+use Rattle.std.proofs.lemmas.List.{map-append}
+use Rattle.std.proofs.lemmas.List.Concat.{flat_map-append}
+use Rattle.std.specs.List.{flat_map}
+use Rattle.m2_bytes.proofs.m2_lemmas.Lists.{all_append}
+use Rattle.m2_dispatch.specs.Heard.{Heard}
+use Rattle.m2_dispatch.specs.declared.letter.Letter.{Letter}
+use Rattle.m2_dispatch.specs.declared.parcel.Parcel.{Parcel}
+use Rattle.m2_dispatch.specs.declared.parcel.Parcel.TheVariants as parcel
+use Rattle.m2_dispatch.specs.declared.turn.DispatchTurn.TheVariants as turn
+use Rattle.m2_dispatch.specs.Dispatch.{Queued}
+use Rattle.m2_dispatch.specs.Letters.{AreOwned, heard_in}
+use Rattle.m2_dispatch.specs.Parcel.{AllOwned, IsOwned, heard_at_put, heard_for, heard_for_all, letters_on}
+use Rattle.m2_dispatch.specs.Turn.{IsTurn, dispatched}
+use Rattle.m2_shared.specs.Place.{IsAlone, IsShared, Place}
+use Rattle.m2_shared.specs.Throttle.{SeenTakePass}
+use Rattle.m2_turn.specs.HandingOn.{HandsAllOn, HandsOn, resets_on}
+use Rattle.m2_turn.specs.Mailing.{DispatchesSome, queueing}
+use Rattle.m2_turn.proofs.Emptied.{split_at_one}
+
+pub heard_for_both : (xs ys : List Parcel) → heard_for_all (xs ++ ys) ≡ heard_for_all xs ++ heard_for_all ys
+heard_for_both xs ys = flat_map-append heard_for xs ys
+
+pub nothing_on : {D : Type 0} (heard : D → List Heard) (place : Place) (d : D) (into : List Parcel) → HandsOn heard place d d into into
+nothing_on heard place d into = record { more = []; last = sym (append-nil into); heard_more = sym (append-nil (heard d)); owned = tt }
+
+pub on_both : {D : Type 0} (heard : D → List Heard) (place : Place) (old mid new : D) (into between behind : List Parcel) →
+    HandsOn heard place old mid into between → HandsOn heard place mid new between behind → HandsOn heard place old new into behind
+on_both heard place old mid new into between behind a b = record {
+  more = a.more ++ b.more;
+  last = b.last ∙ ap (λ l. l ++ b.more) a.last ∙ append_assoc into a.more b.more;
+  heard_more = b.heard_more ∙ ap (λ l. l ++ heard_for_all b.more) a.heard_more ∙ append_assoc (heard old) (heard_for_all a.more) (heard_for_all b.more)
+      ∙ ap (λ l. heard old ++ l) (sym (heard_for_both a.more b.more));
+  owned = all_append (IsOwned place) a.more b.more a.owned b.owned;
+}
+
+-- ---- parcels that are put
+
+resets_heard : (x : Parcel) → heard_at_put x ≡ heard_for_all (resets_on x)
+resets_heard (parcel.Letter l) = refl
+resets_heard (parcel.Discard peer) = refl
+resets_heard (parcel.RemoteReset peer) = refl
+
+resets_owned : (place : Place) (x : Parcel) → AllOwned place (resets_on x)
+resets_owned place (parcel.Letter l) = tt
+resets_owned place (parcel.Discard peer) = tt
+resets_owned place (parcel.RemoteReset peer) = (tt, tt)
+
+-- one is put
+pub one_on : {D : Type 0} (heard : D → List Heard) (place : Place) (x : Parcel) (old new : D) (into behind : List Parcel) → heard new ≡ heard old ++ heard_at_put x →
+    behind ≡ into ++ resets_on x → HandsOn heard place old new into behind
+one_on heard place x old new into behind told last = record {
+  more = resets_on x;
+  last = last;
+  heard_more = told ∙ ap (λ l. heard old ++ l) (resets_heard x);
+  owned = resets_owned place x;
+}
+
+-- one couldn't be put
+pub none_on : {D : Type 0} (heard : D → List Heard) (place : Place) (old new : D) (into behind : List Parcel) → heard new ≡ heard old → behind ≡ into → HandsOn heard place old new into behind
+none_on heard place old new into behind told same = record { more = []; last = same ∙ sym (append-nil into); heard_more = told ∙ sym (append-nil (heard old)); owned = tt }
+
+-- ---- letters that are handed on
+
+abbrev pub no_letter_on : {D : Type 0} (heard : D → List Heard) (q : Queued D) (into : List Parcel) → HandsAllOn heard q q into into
+no_letter_on heard q into = record { dispatched = []; waiting = refl; heard_more = sym (append-nil (heard q.inner)); last = sym (append-nil into); owned = λ place owned. (owned, tt) }
+
+abbrev pub one_letter_on : {D : Type 0} (heard : D → List Heard) (old mid new : Queued D) (into between behind : List Parcel) → HandsAllOn heard old mid into between → IsTurn turn.One mid.waiting new.waiting →
+    heard new.inner ≡ heard mid.inner ++ map heard_in (dispatched turn.One mid.waiting) → behind ≡ between ++ letters_on (dispatched turn.One mid.waiting) →
+    ((place : Place) → AreOwned place mid.waiting → AreOwned place new.waiting × AllOwned place (letters_on (dispatched turn.One mid.waiting))) → HandsAllOn heard old new into behind
+one_letter_on heard old mid new into between behind d turned told last owned =
+    let one = dispatched turn.One mid.waiting in
+    record {
+      dispatched = d.dispatched ++ one;
+      waiting = d.waiting ∙ ap (λ l. d.dispatched ++ l) (split_at_one turn.One mid.waiting new.waiting turned) ∙ sym (append_assoc d.dispatched one new.waiting);
+      heard_more = told ∙ ap (λ l. l ++ map heard_in one) d.heard_more ∙ append_assoc (heard old.inner) (map heard_in d.dispatched) (map heard_in one)
+          ∙ ap (λ l. heard old.inner ++ l) (sym (map-append heard_in d.dispatched one));
+      last = last ∙ ap (λ l. l ++ letters_on one) d.last ∙ append_assoc into (letters_on d.dispatched) (letters_on one) ∙ ap (λ l. into ++ l) (sym (map-append parcel.Letter d.dispatched one));
+      owned = λ place all.
+          let first = d.owned place all in
+          let second = owned place first.0 in
+          (second.0, subst (AllOwned place) (sym (map-append parcel.Letter d.dispatched one)) (all_append (IsOwned place) (letters_on d.dispatched) (letters_on one) first.1 second.1));
+    }
+
+letters_heard : (ls : List Letter) → heard_for_all (letters_on ls) ≡ map heard_in ls
+letters_heard [] = refl
+letters_heard (l ∷ ls) = ap (λ hs. heard_in l ∷ hs) (letters_heard ls)
+
+-- all of them are dispatched, as contracts see it of a word that threads share
+pub are_dispatched : {D : Type 0} (heard : D → List Heard) (place : Place) (old new : Queued D) (pass : SeenTakePass) (into behind : List Parcel) → IsShared place → HandsAllOn heard old new into behind →
+    DispatchesSome heard place (queueing old pass) (queueing new pass)
+are_dispatched heard place old new pass into behind shared on =
+    record { dispatched = on.dispatched; waiting = on.waiting; heard_more = on.heard_more; word = (λ alone. absurd (shared alone)) }
+
+pub letters_are_on : {D : Type 0} (heard : D → List Heard) (place : Place) (old new : Queued D) (into behind : List Parcel) → AreOwned place old.waiting → HandsAllOn heard old new into behind →
+    HandsOn heard place old.inner new.inner into behind
+letters_are_on heard place old new into behind owned on = record {
+  more = letters_on on.dispatched;
+  last = on.last;
+  heard_more = on.heard_more ∙ ap (λ l. heard old.inner ++ l) (sym (letters_heard on.dispatched));
+  owned = (on.owned place owned).1;
+}

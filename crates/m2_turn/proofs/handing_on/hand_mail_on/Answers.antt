@@ -1,0 +1,47 @@
+use Rattle.std.proofs.Common.{inr, subst, sym}
+use Rattle.m2_turn.specs.Mailing.{Mails, mailing, queueing}
+use Rattle.m2_turn.proofs.Emptied.{all_mailed}
+use Rattle.m2_turn.proofs.HandingOn.{are_dispatched, letters_are_on, on_both}
+use Rattle.m2_turn.proofs.handing_on.hand_mail_on.Goals as goal
+
+pub returns-in-Ok-hand_all_on-clause-mails : goal.returns-in-Ok-hand_all_on-clause-mails
+returns-in-Ok-hand_all_on-clause-mails g c =
+    let heard = g.D.Dispatcher.heard in
+    let place = c.args.throttle.now.place in
+    subst (λ r. Mails heard place r (mailing c.args.out.now c.args.queued.now c.args.pass.now) (mailing c.put_all_on.new.out c.hand_all_on.new.queued c.put_all_on.new.pass)) (sym c.moved_or_dry.ensures)
+    (all_mailed heard place c.has_mail-had_mail.result c.in-Ok-hand_all_on.had_letters (mailing c.args.out.now c.args.queued.now c.args.pass.now)
+    (mailing c.put_all_on.new.out c.hand_all_on.new.queued c.put_all_on.new.pass)
+    (record {
+      mid = queueing c.put_all_on.new.queued c.put_all_on.new.pass;
+      puts = c.put_all_on.ensures.puts;
+      dispatches = are_dispatched heard place c.put_all_on.new.queued c.hand_all_on.new.queued c.put_all_on.new.pass c.put_all_on.new.into.items c.hand_all_on.new.into.items c.requires.shared c.hand_all_on.ensures.on;
+    })
+    c.has_mail-had_mail.ensures c.in-Ok-hand_all_on.ensures.any c.in-Ok.ensures.ok c.in-Ok-hand_all_on.ensures.ok)
+
+pub returns-in-Err-hand_all_on-clause-mails : goal.returns-in-Err-hand_all_on-clause-mails
+returns-in-Err-hand_all_on-clause-mails g c =
+    let heard = g.D.Dispatcher.heard in
+    let place = c.args.throttle.now.place in
+    inr (
+      record {
+        mid = queueing c.put_all_on.new.queued c.put_all_on.new.pass;
+        puts = c.put_all_on.ensures.puts;
+        dispatches = are_dispatched heard place c.put_all_on.new.queued c.hand_all_on.new.queued c.put_all_on.new.pass c.put_all_on.new.into.items c.hand_all_on.new.into.items c.requires.shared c.hand_all_on.ensures.on;
+      },
+      c.in-Ok.ensures.ok,
+      c.in-Err-hand_all_on.ensures.err,
+    )
+
+pub returns-in-Ok-hand_all_on-clause-on : goal.returns-in-Ok-hand_all_on-clause-on
+returns-in-Ok-hand_all_on-clause-on g c =
+    on_both g.D.Dispatcher.heard c.args.throttle.now.place c.args.queued.now.inner c.put_all_on.new.queued.inner c.hand_all_on.new.queued.inner c.args.into.now.items c.put_all_on.new.into.items
+    c.hand_all_on.new.into.items c.put_all_on.ensures.on
+    (letters_are_on g.D.Dispatcher.heard c.args.throttle.now.place c.put_all_on.new.queued c.hand_all_on.new.queued c.put_all_on.new.into.items c.hand_all_on.new.into.items c.put_all_on.ensures.letters
+    c.hand_all_on.ensures.on)
+
+pub returns-in-Err-hand_all_on-clause-on : goal.returns-in-Err-hand_all_on-clause-on
+returns-in-Err-hand_all_on-clause-on g c =
+    on_both g.D.Dispatcher.heard c.args.throttle.now.place c.args.queued.now.inner c.put_all_on.new.queued.inner c.hand_all_on.new.queued.inner c.args.into.now.items c.put_all_on.new.into.items
+    c.hand_all_on.new.into.items c.put_all_on.ensures.on
+    (letters_are_on g.D.Dispatcher.heard c.args.throttle.now.place c.put_all_on.new.queued c.hand_all_on.new.queued c.put_all_on.new.into.items c.hand_all_on.new.into.items c.put_all_on.ensures.letters
+    c.hand_all_on.ensures.on)
