@@ -34,7 +34,7 @@ pub use calls::{TurnCalls, TurnCallsList};
 pub use cluster::{MemoryCluster, clear_all, cluster_of};
 pub use cuts::cuts_of;
 pub use laws::{new_records_can_begin, scripts_are_within, short_posts_are_sendable};
-pub use left::{left_at, messages_of};
+pub use left::messages_of;
 pub use lines::Run;
 pub use listening::addresses;
 pub use m2_cluster::{Center, CenterRest, CenterTurn, Cluster, NodeShared, Passes, Unmade, home};

@@ -61,7 +61,7 @@ fn way_between<P: Port, D>(cluster: &Cluster<P, D>, from: u32, to: u32) -> Resul
 }
 
 /// Whether the link is lossless, and neither end was marked down.
-pub(crate) fn is_up<P: Port, D>(cluster: &Cluster<P, D>, link: &Link) -> bool
+fn is_up<P: Port, D>(cluster: &Cluster<P, D>, link: &Link) -> bool
     ensures { result ≡ is_up (ended cluster.now []) link.now }
 {
     if link.of_a.lossy || link.of_b.lossy {
@@ -112,11 +112,7 @@ fn says_down(journal: &[Entry]) -> bool
 }
 
 /// How many posts one node planned towards another. Err: more than the greatest number.
-pub(crate) fn posts_at<P: Port, D>(
-    cluster: &Cluster<P, D>,
-    from: u32,
-    to: u32,
-) -> Result<u64, NoMemory>
+fn posts_at<P: Port, D>(cluster: &Cluster<P, D>, from: u32, to: u32) -> Result<u64, NoMemory>
     ensures { IfOk result (λ n. n ≡ posts_at (ended cluster.now []) from to) }
 {
     match cluster.nodes().get(from as usize) {
