@@ -13,7 +13,7 @@ use crate::status::Status;
 use m2_bytes::{Blob, Items, NoMemory};
 use m2_edge::{Clock, Gate, ReadFault, Source, Words, read_whole};
 use m2_fabric::{Fabric, Port};
-use m2_run::{Outcome, RunFault, lines_post_of_types, run};
+use m2_run::{Outcome, RunFault, Unobserved, lines_post_of_types, run};
 use m2_scenario::{LinkList, LogsList, NodeList, Scenario, report};
 use m2_scenario_text::{BadScenario, MOST_BYTES, read};
 use std::alloc::Global;
@@ -116,6 +116,7 @@ where
         clock,
         words,
         gate,
+        &mut Unobserved,
     );
     match ran {
         Ok(Outcome { logs, left }) => tell(alloc, nodes, links, limit, &logs, left),

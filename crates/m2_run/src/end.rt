@@ -20,7 +20,7 @@ pub(crate) enum EndKind<E: End> {
 /// An end of a port, which breaks where a line cuts its socket; or one with which no thread of its node went on. Contracts see
 /// which, and the end inside.
 #[derive(Drop)]
-pub(crate) struct RunEnd<E: End> {
+pub struct RunEnd<E: End> {
     pub(crate) kind: EndKind<E>,
 }
 

@@ -28,7 +28,7 @@ use crate::node::{RunCenter, RunNode, clear_centers, clear_nodes, end_records};
 use crate::port::RunPort;
 use crate::ranges::{center_is_of_types, halves_are_of_types};
 use m2_bytes::{Items, NoMemory};
-use m2_dispatch::LoggedList;
+use m2_dispatch::{Logged, LoggedList};
 use m2_fabric::{Cut, CutList, End, Port, SocketId, SocketIdList};
 use m2_handover::{GetPass, Handed, HandedEnd, HomePort, HomeRest, Inboxes, Way, half_inside};
 use m2_record::Record;
@@ -40,12 +40,12 @@ use std::marker::Model;
 use std::sync::Wait;
 
 /// An end of a thread whose node has these ends of the fabric.
-pub(crate) type ThreadEnd<E> = RunEnd<HandedEnd<E>>;
+pub type ThreadEnd<E> = RunEnd<HandedEnd<E>>;
 
 /// What is left of an event thread that has ended, but for the halves that no record took: the port of the fabric, where its node
 /// was on, and the sockets that its own port made; its records, and what its dispatchers were called with. It can't be dropped,
 /// since records can't.
-pub(crate) struct EndedCenter<'s, P: Port> {
+pub struct EndedCenter<'s, P: Port> {
     pub(crate) port: Option<P>,
     pub(crate) made: SocketIdList,
     pub(crate) records: Vec<Record<ThreadEnd<P::End>>>,
@@ -66,6 +66,41 @@ impl<'s, P: Port> Model for EndedCenter<'s, P> {
     ghost view = { λ e. record { port = option_map P.seen e.port; made = e.made.items; records = e.records.items; fast = e.fast.items; queued = e.queued.items } };
 
     ghost invariant = { λ e. (e.pass.place ≡ e.throttle.now.place) × AllOwn e.throttle.now.place e.records.items };
+}
+
+impl<'s, P: Port> EndedCenter<'s, P> {
+    /// The port of the fabric, where its node was on.
+    pub fn port(&self) -> Option<&P> {
+        self.port.as_ref()
+    }
+
+    /// The sockets that the thread's port made: those that it opened, and those that it accepted or that were handed to it.
+    pub fn made(&self) -> &[SocketId]
+        ensures { result.now ≡ self.now.made }
+    {
+        self.made.as_slice()
+    }
+
+    /// Its records.
+    pub fn records(&self) -> &[Record<ThreadEnd<P::End>>]
+        ensures { result.now ≡ self.now.records }
+    {
+        self.records.as_slice()
+    }
+
+    /// What its dispatcher of fast kinds was called with.
+    pub fn fast(&self) -> &[Logged]
+        ensures { result.now ≡ self.now.fast }
+    {
+        self.fast.as_slice()
+    }
+
+    /// What the one behind its queue was called with.
+    pub fn queued(&self) -> &[Logged]
+        ensures { result.now ≡ self.now.queued }
+    {
+        self.queued.as_slice()
+    }
 }
 
 /// The halves of a node that no record took: those of its centers, those at its door that weren't asked, and those that were and
@@ -438,7 +473,7 @@ fn open_half<E: End>(
 }
 
 /// What is left of a node but for its halves, of which it has the number.
-pub(crate) struct Ended<'s, P: Port> {
+pub struct Ended<'s, P: Port> {
     pub(crate) centers: Vec<EndedCenter<'s, P>>,
     pub(crate) halves: usize,
 }
@@ -449,6 +484,22 @@ impl<'s, P: Port> Model for Ended<'s, P> {
     ghost Value = { EndedNow };
 
     ghost view = { λ e. record { centers = e.centers.items; halves = e.halves } };
+}
+
+impl<'s, P: Port> Ended<'s, P> {
+    /// Its threads, in order.
+    pub fn centers(&self) -> &[EndedCenter<'s, P>]
+        ensures { result.now ≡ self.now.centers }
+    {
+        self.centers.as_slice()
+    }
+
+    /// How many halves it left that no record took.
+    pub fn halves(&self) -> usize
+        ensures { result ≡ self.now.halves }
+    {
+        self.halves
+    }
 }
 
 /// What is left of each node, in order, and the halves that no record took, of all of them, those of the last node first.

@@ -4,7 +4,7 @@
 //! as many event threads as the scenario says and dispatchers that log, and runs them until every post of the lossless links
 //! that stay up was dispatched, or until all is still; then it weaves the two sides of each link, by which the promise that a lossless
 //! session is never reset is kept and not assumed, gives all ports and ends back, and tells an [`Outcome`] or a
-//! [`RunFault`]. `specs/Kept.antt` says what is kept of a run and what makes it one of a scenario, of this fabric and of
+//! [`RunFault`]. An [`Observer`] sees what is left of the nodes before that. `specs/Kept.antt` says what is kept of a run and what makes it one of a scenario, of this fabric and of
 //! this clock, `specs/Still.antt` when it is still, and `specs/Ran.antt` what each answer says. By `specs/Joined.antt` each
 //! link of a run that has finished is one as weaving asks for: between lossless nodes nothing was reset before the first
 //! mark-down, and of each key what was dispatched is the first of what was posted. [`lines_post_of_types`] says what that
@@ -26,6 +26,7 @@ mod left;
 mod lines;
 mod listening;
 mod node;
+mod observing;
 mod once;
 mod outcome;
 mod planning;
@@ -42,9 +43,11 @@ mod way_laws;
 mod weaving;
 mod worker;
 
+pub use ending::{Ended, EndedCenter, ThreadEnd};
 pub use laws::{
     kept_links_are_joined, lossy_links_come_in_order, runs_are_joined, runs_are_never_reset,
 };
 pub use lines::lines_post_of_types;
+pub use observing::{Observer, Unobserved};
 pub use outcome::{Outcome, RunFault};
 pub use running::run;

@@ -23,10 +23,11 @@ ghost use Rattle.m2_scenario.specs.declared.limits.TheConstants.{MOST_NODES};
 use crate::beginning::{Begun, Doors, begin};
 use crate::counting::posts_that_count;
 use crate::cuts::cuts_of_all;
-use crate::ending::{AllEnded, Opened, end_all, join_halves, throw_away_opened};
+use crate::ending::{AllEnded, Opened, end_all, throw_away_opened};
 use crate::gathering::gather_all;
 use crate::inboxes::{Rooms, close_all, let_go, let_rooms_go, rooms_of};
 use crate::node::{RunNode, Shares, clear_nodes, clear_shares};
+use crate::observing::{Observer, join_seen};
 use crate::once::each_once;
 use crate::outcome::{Outcome, RunFault};
 use crate::resting::all_rest;
@@ -50,8 +51,8 @@ use std::thread::Threads;
 
 /// Runs the nodes of a valid scenario on threads, over the ports of a fabric, until every post of its lossless links that
 /// stay up was dispatched, or until all is still and nothing productive happened for `limit` milliseconds. Each node has as many
-/// threads as the scenario says.
-pub fn run<R, F, C, W, G>(
+/// threads as the scenario says. The observer sees the nodes when they have ended; what it sees is what the answer says of them.
+pub fn run<R, F, C, W, G, V>(
     rt: &R,
     alloc: Global,
     nodes: &[Node],
@@ -62,6 +63,7 @@ pub fn run<R, F, C, W, G>(
     clock: &C,
     words: &mut W,
     gate: &G,
+    observer: &mut V,
 ) -> Result<Outcome, RunFault>
 where
     R: Threads + Wait + Send + Sync + Copy,
@@ -71,14 +73,15 @@ where
     C: Clock,
     W: Words,
     G: Gate,
+    V: Observer<F::Port>,
     requires { IsSound nodes.now links.now (map draft_line lines.items) }
     ensures ok { IfOk result (HasRan (C.may_give clock.now) limit nodes.now links.now lines.items (F.seen fabric.old) (F.seen fabric.new)) }
     ensures err { IfErr result (IsFaultOf (C.may_give clock.now) nodes.now links.now lines.items (F.seen fabric.old) (F.seen fabric.new)) }
 {
     match grounds_of(alloc, nodes, lines.as_slice()) {
         Err(NoMemory) => Err(RunFault::NoMemory),
-        Ok(grounds) => run_named::<R, F, C, W, G, Brand>(
-            rt, alloc, nodes, links, lines, limit, fabric, clock, words, gate, grounds,
+        Ok(grounds) => run_named::<R, F, C, W, G, Brand, V>(
+            rt, alloc, nodes, links, lines, limit, fabric, clock, words, gate, grounds, observer,
         ),
     }
 }
@@ -114,7 +117,7 @@ fn grounds_of<E: End>(alloc: Global, nodes: &[Node], lines: &[Line]) -> Result<G
 }
 
 /// The same, where each inbox has a name.
-fn run_named<R, F, C, W, G, N>(
+fn run_named<R, F, C, W, G, N, V>(
     rt: &R,
     alloc: Global,
     nodes: &[Node],
@@ -126,6 +129,7 @@ fn run_named<R, F, C, W, G, N>(
     words: &mut W,
     gate: &G,
     grounds: Grounds<<F::Port as Port>::End>,
+    observer: &mut V,
 ) -> Result<Outcome, RunFault>
 where
     R: Threads + Wait + Send + Sync + Copy,
@@ -136,6 +140,7 @@ where
     W: Words,
     G: Gate,
     N: InboxNames + Send + Sync,
+    V: Observer<F::Port>,
     requires sound { IsSound nodes.now links.now (map draft_line lines.items) }
     requires cuts { AreCutsOf nodes.now lines.items grounds.cuts.items }
     requires rooms { AreRoomsOf (homes_of nodes.now) grounds.rooms.inboxes.items grounds.rooms.rights.puts.items grounds.rooms.rights.gets.items }
@@ -150,7 +155,7 @@ where
         shared,
     } = grounds;
     let Shared { shares, passes } = shared;
-    let outcome = run_shared::<R, F, C, W, G, N>(
+    let outcome = run_shared::<R, F, C, W, G, N, V>(
         rt,
         alloc,
         nodes,
@@ -165,13 +170,14 @@ where
         rooms,
         shares.as_slice(),
         passes,
+        observer,
     );
     clear_shares(shares);
     outcome
 }
 
 /// The same, where the threads of each node share these.
-fn run_shared<R, F, C, W, G, N>(
+fn run_shared<R, F, C, W, G, N, V>(
     rt: &R,
     alloc: Global,
     nodes: &[Node],
@@ -186,6 +192,7 @@ fn run_shared<R, F, C, W, G, N>(
     rooms: Rooms<<F::Port as Port>::End>,
     shares: &[Shares],
     passes: Vec<FirstPasses>,
+    observer: &mut V,
 ) -> Result<Outcome, RunFault>
 where
     R: Threads + Wait + Send + Sync + Copy,
@@ -196,6 +203,7 @@ where
     W: Words,
     G: Gate,
     N: InboxNames + Send + Sync,
+    V: Observer<F::Port>,
     requires sound { IsSound nodes.now links.now (map draft_line lines.items) }
     requires cuts { AreCutsOf nodes.now lines.items cuts.now }
     requires rooms { AreRoomsOf (homes_of nodes.now) rooms.inboxes.items rooms.rights.puts.items rooms.rights.gets.items }
@@ -240,7 +248,7 @@ where
                     throw_away_opened(all);
                     Err(RunFault::NoMemory)
                 }
-                Ok(()) => finish(alloc, nodes, links, cuts, fabric, all, left),
+                Ok(()) => finish(alloc, nodes, links, cuts, fabric, all, left, observer),
             }
         }
     }
@@ -401,7 +409,7 @@ where
 /// Weaves the links of nodes that were taken apart, and gives ports and ends back. `cuts` has those of the sockets that each node
 /// opened. Err is want of memory where posts are left and the nodes don't rest: a run doesn't end before that; and where a
 /// socket of a node isn't one of its own.
-fn finish<F: Fabric>(
+fn finish<F: Fabric, V: Observer<F::Port>>(
     alloc: Global,
     nodes: &[Node],
     links: &[Link],
@@ -409,6 +417,7 @@ fn finish<F: Fabric>(
     fabric: &mut F,
     all: Vec<Opened<'_, F::Port>>,
     left: u64,
+    observer: &mut V,
 ) -> Result<Outcome, RunFault>
     requires count { length all.items ≡ length nodes.now }
     requires cuts { length cuts.now ≡ length nodes.now }
@@ -425,7 +434,7 @@ fn finish<F: Fabric>(
         throw_away_opened(all);
         return Err(RunFault::NoMemory);
     }
-    match join_halves(alloc, all) {
+    match join_seen(alloc, all, observer) {
         Err(NoMemory) => Err(RunFault::NoMemory),
         Ok(AllEnded { ends, loose }) => {
             let woven = weave_all(alloc, links, ends.as_slice(), &loose);

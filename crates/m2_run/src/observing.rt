@@ -1,0 +1,61 @@
+//! Who sees what a run leaves.
+
+ghost use Rattle.std.specs.Prelude.{◌≡◌, IfOk, map};
+ghost use Rattle.std.specs.List.{AllByRecursion};
+ghost use Rattle.m2_links_go_on.specs.Left.{IsSeen};
+ghost use Rattle.m2_links_go_on.specs.m2_history.Link.{IsWholeHalf};
+ghost use Rattle.m2_run.specs.Opened.{ended_of, loose_in};
+
+use crate::ending::{AllEnded, Ended, Opened, ThreadEnd, join_halves, throw_away_ends};
+use m2_bytes::NoMemory;
+use m2_fabric::{End, Port};
+use m2_trail::Loose;
+use std::alloc::Global;
+
+/// Sees the nodes of a run over such ports when they have ended, before their links are woven and their ports and ends go back to
+/// the fabric.
+pub trait Observer<P: Port> {
+    /// Sees these nodes, in order, and the halves that no record took, those of the last node first. It is called once in a run
+    /// that comes so far. Err is want of memory; the run ends with that.
+    fn see(
+        &mut self,
+        ends: &[Ended<'_, P>],
+        loose: &[Loose<ThreadEnd<P::End>>],
+    ) -> Result<(), NoMemory>;
+}
+
+/// Nobody looks.
+#[derive(Clone, Copy, Debug)]
+pub struct Unobserved;
+
+impl<P: Port> Observer<P> for Unobserved {
+    fn see(
+        &mut self,
+        _ends: &[Ended<'_, P>],
+        _loose: &[Loose<ThreadEnd<P::End>>],
+    ) -> Result<(), NoMemory> {
+        Ok(())
+    }
+}
+
+/// Puts the halves of all nodes into one list, and shows all to the observer. Err is want of memory; what is left of the nodes is
+/// thrown away then.
+pub(crate) fn join_seen<'s, P: Port, V: Observer<P>>(
+    alloc: Global,
+    all: Vec<Opened<'s, P>>,
+    observer: &mut V,
+) -> Result<AllEnded<'s, P>, NoMemory>
+    ensures ends { IfOk result (λ r. r.ends.items ≡ map ended_of all.entry.items) }
+    ensures loose { IfOk result (λ r. r.loose.items ≡ loose_in all.entry.items) }
+    ensures types { IfOk result (λ r. AllByRecursion IsWholeHalf r.loose.items × AllByRecursion IsSeen r.loose.items) }
+{
+    let joined = join_halves(alloc, all)?;
+    match observer.see(joined.ends.as_slice(), joined.loose.as_slice()) {
+        Ok(()) => Ok(joined),
+        Err(NoMemory) => {
+            let AllEnded { ends, loose: _ } = joined;
+            throw_away_ends(ends);
+            Err(NoMemory)
+        }
+    }
+}
