@@ -18,9 +18,13 @@ Each scenario is run over the loopback and over sockets between threads. Of each
      failed: what it wrote, what it answered, what it handed on, and where its session stands. A replay tells (tools/sides.py);
  10  what the dispatchers were called with is what the records handed on, of each peer, priority and path in order, each once; and
      as many posts are left as the call says;
- 11  the moments are in order: no dial is due more than a second behind the last look at the clock.
+ 11  the moments are in order: no dial is due more than a second behind the last look at the clock; and where posts are left all is
+     at rest, and nothing has happened for as long as the limit.
 
-The status is 0 exactly where all hold in all runs; of each other run the scenario, the text and what doesn't hold are printed."""
+Then each text is changed in one place at random, again and again: a line is left out, stands twice, or has another digit. Each of these
+must be refused but where no rule decides: a moment, a count of a port, a last acknowledgement that isn't taken yet.
+
+The status is 0 exactly where all this holds; KEEP_WRONG names a folder for the scenario and the text of each run of which it doesn't."""
 import collections
 import importlib.util
 import os
@@ -33,11 +37,14 @@ sys.dont_write_bytecode = True
 TOP = os.path.dirname(os.path.dirname(os.path.abspath(__file__)))
 sys.path.insert(0, os.path.join(TOP, "tools"))
 import wire
-from replay_trace import Given, Side, Wrong, must, word_of
-from sides import POLICIES, REMOTE_RESET, End
+from replay_trace import Given, Side, Wrong, compare, flags, must
+from sides import MOVED, POLICIES, REMOTE_RESET, End, Half
 
 SECONDS = 120
+USUAL_LIMIT = 5000  # milliseconds, where the scenario has no line
 FABRICS = "loopback", "memory"
+ONCE = "node", "port", "counts", "address", "state", "faults", "halves", "start", "stop", "left"  # kinds of lines of which no rule makes one
+CHANGES = 40  # of the text of each run
 
 
 def of_file(name, file):
@@ -87,10 +94,19 @@ class Kept:
         self.made, self.inner, self.counts = (collections.defaultdict(list) for _ in range(3))
         self.home, self.records, self.loose, self.order = {}, collections.defaultdict(Given), {}, []
         self.heads, self.faults, self.calls, self.run = {}, {}, collections.defaultdict(list), {}
-        for line in text.splitlines():
-            self.take(*line.split(" "))
+        self.lines, self.seen = collections.defaultdict(list), set()
+        for place, line in enumerate(text.splitlines(), 1):
+            head, what, *words = line.split(" ")
+            self.take(place, head, what, words)
+            if what not in ONCE:
+                self.lines[head].append((place, line[len(head) + 1 :]))
+        must(len(self.order) == sum(self.halves.values()), "there are as many halves as the nodes left")
 
-    def take(self, head, what, *words):
+    def take(self, place, head, what, words):
+        if what in ONCE:
+            key = head, what, words[0] if what == "faults" else ""
+            must(key not in self.seen, f"line {place} stands twice")
+            self.seen.add(key)
         if head == "run":
             self.run[what] = words[0] if what == "ended" else int(words[0])
         elif what == "faults":
@@ -99,8 +115,8 @@ class Kept:
             if words[1] not in self.loose:
                 self.loose[words[1]] = []
                 self.order.append(words[1])
-            self.loose[words[1]].append((what, words))
-        elif what == "node":
+            self.loose[words[1]].append((place, what, words))
+        elif what == "node" and head.isdigit():
             self.started[int(head)], self.centers[int(head)] = words[0] == "yes", int(words[1])
         elif what == "halves":
             self.halves[int(head)] = int(words[0])
@@ -124,13 +140,10 @@ class Kept:
                 self.heads[k, p, what] = words
             self.records[k, p].add(what, words)
 
-    def loose_of(self, k, count):
-        """The halves of each node: they stand with those of the last node first."""
-        end = len(self.order)
-        for node in range(count):
-            if node == k:
-                return self.order[end - self.halves[node] : end]
-            end -= self.halves[node]
+    def loose_of(self, k):
+        """The sockets of a node's halves: they stand with those of the last node first."""
+        end = len(self.order) - sum(count for node, count in self.halves.items() if node < k)
+        return self.order[end - self.halves[k] : end]
 
 
 def opener_and_target(socket):
@@ -145,11 +158,10 @@ class KeptSide(Side):
     """A side of a link as it is kept. What it shares with its node's other records is taken from its entries: which numbers it drew."""
 
     def __init__(self, kept, nodes, k, p):
-        given = kept.records[k, p]
-        super().__init__("a", given, "b")
-        self.name, self.kept, self.place, self.towards = f"{k}-{p}", kept, k, p
-        self.node = nodes[k]
-        words = [int(word) for word in kept.heads[k, p, "node"]]
+        super().__init__("a", kept.records[k, p], "b")
+        self.name, self.place, self.faults = f"{k}-{p}", k, kept.faults
+        self.node_words = kept.heads[k, p, "node"]
+        words = [int(word) for word in self.node_words]
         self.entity, self.number, self.salt, self.supports, self.requires, self.first_wait, self.most_wait = words
         self.address, self.peers_address, self.fast = nodes[k].address, nodes[p].address, nodes[k].fast
         self.next_number = None
@@ -161,12 +173,30 @@ class KeptSide(Side):
         wire.must(address == str(self.peers_address), "an ask of another address")
         return self.record
 
+    def has_failed(self, socket):
+        """Whether a call of the end failed, or a read found the other end: what came is no fault by itself then."""
+        count = self.faults.get((self.name, socket), self.faults.get(("loose", socket)))
+        must(count is not None, f"{self.name}: no line tells the faults of {socket}")
+        return count > 0 or self.given.flags[socket][3]
+
     def follow(self, entry):
-        if entry[0] == "asked":
-            self.next_number = int(entry[2])
-        elif entry[0] == "judged":
-            self.next_number = int(entry[1])
+        if entry[0] in ("asked", "judged"):
+            self.next_number = int(entry[2 if entry[0] == "asked" else 1])
         super().follow(entry)
+
+    def on_closed(self, entry):
+        if self.record.feed:
+            self.record.feed.fails = self.has_failed(entry[1])
+        self.step(entry)
+
+    def on_wrote(self, entry):
+        """How much of what is composed an end takes no rule decides."""
+        feed = self.record.feed
+        if feed:
+            feed.cut = int(entry[2])
+        self.step(entry)
+        if feed:
+            feed.cut = None
 
     def on_opened(self, entry):
         self.hand_all()
@@ -175,20 +205,52 @@ class KeptSide(Side):
         self.opened.append(entry[1])
         self.record.open(self.end(entry[1]))
 
+    def walk(self, socket, count):
+        """As in a trace of two records; but a half is closed for a failure only where its end has one."""
+        half, entries = self.halves.get(socket), self.given.trails[socket]
+        if half is None:
+            half = self.halves[socket] = Half(self, self.end(socket))
+            half.done = 0
+        must(half.done <= count <= len(entries), f"{socket} has another number of entries by then")
+        for what, *words in entries[half.done : count]:
+            must(not half.is_taken and not half.end.closed, f"the half on {socket} is over before its trail")
+            half.end.readable = half.end.got + int(words[0]) if what == "read" else half.end.got
+            half.end.fails = what == "closed" and self.has_failed(socket)
+            half.end.cut = int(words[0]) if what == "wrote" else None
+            while not self.told and half.move(0) == MOVED:
+                pass
+            half.end.cut = None
+            must(self.told, f"`{' '.join([what, *words])}` isn't due on {socket}")
+            due = self.told.pop(0)
+            must(due == ["trail", what, socket, *words], f"`{' '.join(due)}` is due where the trail of {socket} has {what}")
+            if what != "closed":
+                self.moves[socket].append((what, words[0]))
+        half.done = count
+        return half
+
     def end(self, socket):
         """Of a socket that it opened it has seen the peer's address, and of one of the peer the one that it came from."""
-        if socket in self.opened:
-            seen = self.peers_address
-        else:
-            seen = wire.Address.of(opener_and_target(socket)[0] + "/0")
+        seen = self.peers_address if socket in self.opened else wire.Address.of(opener_and_target(socket)[0] + "/0")
         end = self.ends[socket] = End(self, socket, seen)
         end.source, self.moves[socket] = bytearray(self.given.got.get(socket, b"")), []
         return end
 
+    def trail_lines(self, what, socket):
+        yield f"{what} named {socket} {self.entity}"
+        yield from list(super().trail_lines(what, socket))[1:]
+
+    def end_lines(self, what, socket):
+        """Whether a read found nothing, a write had to wait, and a read found the other end, no rule decides."""
+        lines = super().end_lines(what, socket)
+        next(lines)
+        yield f"{what} socket {socket} {flags(self.ends[socket].closed, *self.given.flags[socket][1:])}"
+        yield from lines
+
     def lines(self):
+        """Those of its record, and behind them those of its halves that it didn't take; what was handed on isn't among them."""
         for line in super().lines():
-            if not line.startswith(("address ", "node ")):
-                yield line
+            if line.split(" ", 1)[0] not in ("address", "node", "state", "handed"):
+                yield line.replace("half ", "loose ", 1).replace("half_end ", "loose_end ", 1) if line.startswith("half") else line
 
 
 # ---- what must hold
@@ -223,14 +285,12 @@ def check_sockets(kept, nodes):
     """Points 4 and 5."""
     for k, node in enumerate(nodes):
         mine = [head for head in kept.ports if head.split(".")[0] == str(k)]
-        made = [socket for head in mine for socket in kept.made[head]]
+        made, inner = ([socket for head in mine for socket in sockets[head]] for sockets in (kept.made, kept.inner))
         of_records = [socket for (at, _), given in kept.records.items() if at == k for socket in given.flags]
-        halves = kept.loose_of(k, len(nodes))
-        ends = of_records + halves
-        must(len(set(made)) == len(made) and len(set(ends)) == len(ends), f"node {k}: a socket stands twice")
-        must(set(made) <= set(ends) and set(ends) - set(made) <= set(halves), f"node {k}: the sockets aren't those of its ends")
-        for head in mine:
-            must(set(kept.inner[head]) <= set(ends), f"{head}: a socket of the fabric's port is lost")
+        halves = kept.loose_of(k)
+        must(sorted(inner) == sorted(of_records + halves), f"node {k}: the sockets of its ports aren't those of its ends, each once")
+        must(len(set(inner)) == len(inner) and len(set(made)) == len(made), f"node {k}: a socket stands twice")
+        must(set(inner) - set(halves) <= set(made) <= set(inner), f"node {k}: its threads' sockets aren't those of the fabric's ports")
         if node.started:
             missed = sum(given.moments[1] for (at, _), given in kept.records.items() if at == k)
             must(missed <= sum(int(kept.counts[head][0]) for head in mine), f"node {k}: more connects were missed than failed")
@@ -248,41 +308,35 @@ def moved_at(given, socket):
 
 
 def check_link(kept, nodes, a, b, policies):
-    """Points 7, 8 and 9 of a link; both sides, replayed."""
+    """Points 7, 8 and 9 of a link: both sides, replayed."""
     sides = {}
     for k, p in ((a, b), (b, a)):
-        given = kept.records[k, p]
-        opened_there = {entry[1] for entry in kept.records[p, k].journal if entry[0] == "opened"}
-        judged_here = {entry[2] for entry in given.journal if entry[0] == "judged"}
-        for socket in kept.loose_of(k, len(nodes)):
-            if socket in opened_there | judged_here:
-                for what, words in kept.loose[socket]:
+        given, lines = kept.records[k, p], list(kept.lines[f"{k}-{p}"])
+        theirs = {entry[1] for entry in kept.records[p, k].journal if entry[0] == "opened"}
+        judged = {entry[2] for entry in given.journal if entry[0] == "judged"}
+        for socket in kept.loose_of(k):
+            if socket in theirs | judged:
+                for place, what, words in kept.loose[socket]:
                     given.add(what, words)
-        side = sides[k] = KeptSide(kept, nodes, k, p)
-        side.socket_lines = {}
-    for k, policy in zip((a, b), policies):
-        side = sides[k]
-        side.replay(policy, sides[b if k == a else a])
-        compare_side(side)
+                    lines.append((place, " ".join([what, *words])))
+        sides[k] = KeptSide(kept, nodes, k, p), lines
+    for k, p, policy in ((a, b, policies[0]), (b, a, policies[1])):
+        side, lines = sides[k]
+        side.replay(policy, sides[p][0])
+        # in the order in which the replay came to the halves
+        of_record = [it for it in lines if not it[1].startswith("loose")]
+        due = list(side.lines())
+        compare(of_record, [line for line in due if not line.startswith("loose")])
+        must(sorted(line for _, line in lines if line.startswith("loose")) == sorted(line for line in due if line.startswith("loose")),
+             f"{side.name}: the halves that it didn't take did something else")
+    both = {k: side for k, (side, _) in sides.items()}
     for k, p in ((a, b), (b, a)):
-        for socket in sides[k].opened:
-            check_bytes(kept, sides, socket, k, p)
-    return sides
+        for socket in both[k].opened:
+            check_bytes(both, socket, k, p)
+    return both
 
 
-def compare_side(side):
-    """What the replay has come to stands there: the session, the composed bytes, and of each end what it got and put."""
-    given, record = side.given, side.record
-    feed = record.feed
-    must(word_of(feed.text[feed.put :] if feed else b"") == word_of(given.composed), f"{side.name}: other bytes are composed")
-    for socket, end in side.ends.items():
-        must(bytes(end.text[: end.put]) == given.put.get(socket, b""), f"{side.name}: {socket} has put other bytes than are due")
-        must(end.got == len(given.got.get(socket, b"")), f"{side.name}: {socket} has got other bytes than it read")
-        must(end.closed == given.flags[socket][0], f"{side.name}: {socket} is open or closed otherwise")
-    must(set(side.ends) == set(given.flags), f"{side.name}: it has other ends")
-
-
-def check_bytes(kept, sides, socket, opener, target):
+def check_bytes(sides, socket, opener, target):
     """What each end got is the first of what the other has put."""
     for reader, writer in ((opener, target), (target, opener)):
         got = sides[reader].given.got.get(socket, b"")
@@ -320,7 +374,7 @@ def check_logs(kept, nodes, sides):
     must(kept.run.get("left") == left, f"{left} posts are left, and the call says {kept.run.get('left')}")
 
 
-def check_cuts(kept, nodes, links):
+def check_cuts(kept, nodes):
     """Point 6: the n-th `cut` of a node towards another is of the n-th socket that it opens to it."""
     for k, node in enumerate(nodes):
         for p in {peer for peer, _ in node.cuts}:
@@ -332,13 +386,24 @@ def check_cuts(kept, nodes, links):
                 must(moved_at(given, socket) <= most, f"{k}-{p}: {socket} was cut at {most} and moved more")
 
 
-def check_halves(kept, nodes):
-    """Point 7, of halves that a replay doesn't know: those of strangers."""
+def check_stalled(kept, nodes, limit):
+    """Where posts are left: all is at rest, and nothing happened for as long as the limit."""
+    last = max([kept.run["start"]] + [given.moments[2] for given in kept.records.values()])
+    must(kept.run["stop"] - last >= limit, f"the run stopped {kept.run['stop'] - last} ms behind its last entry")
+    for (k, p), given in kept.records.items():
+        taken = sum(entry[0] in ("post", "dial") or entry == ["down", "planned"] for entry in given.journal)
+        must(taken == len(given.plan) or not nodes[k].started, f"{k}-{p}: its plan isn't done")
+        for socket, (closed, dry, _, _) in given.flags.items():
+            there = kept.records[p, k].flags.get(socket)
+            mine = socket in [entry[1] for entry in given.journal if entry[0] == "opened"]
+            must(closed or dry, f"{k}-{p}: {socket} may be read")
+            if not closed and mine and there is not None:
+                for got, put in ((given.got, kept.records[p, k].put), (kept.records[p, k].got, given.put)):
+                    must(not there[0] and got.get(socket) == put.get(socket), f"{k}-{p}: {socket} isn't at rest")
     for k in range(len(nodes)):
-        for socket in kept.loose_of(k, len(nodes)):
-            lines = kept.loose[socket]
-            closed = any(what == "loose" and words[0] == "closed" for what, words in lines)
-            must(not closed or (lines and socket), "")
+        for socket in kept.loose_of(k):
+            words = next(words for _, what, words in kept.loose[socket] if what == "loose_end" and words[0] == "socket")
+            must("yes" in words[2:5], f"node {k}: the half on {socket} may go on")
 
 
 def check(text, lines):
@@ -349,10 +414,56 @@ def check(text, lines):
     check_nodes(kept, nodes)
     check_sockets(kept, nodes)
     check_moments(kept)
-    check_cuts(kept, nodes, links)
+    check_cuts(kept, nodes)
     sides = [(link, check_link(kept, nodes, link[0], link[1], link[2:])) for link in links]
     check_logs(kept, nodes, sides)
+    if kept.run["left"] > 0:
+        check_stalled(kept, nodes, next((int(line.split()[1]) for line in lines if line.startswith("limit ")), USUAL_LIMIT))
     return kept
+
+
+# ---- texts with one place changed
+
+
+def changed(draw, text):
+    """The text with a line left out, doubled, or with another digit; None where that may be so as well."""
+    lines = text.splitlines()
+    at = draw.randrange(len(lines))
+    head, what, *words = lines[at].split(" ")
+    how = draw.choice(("left out", "doubled", "digit"))
+    if how == "doubled":
+        lines.insert(at, lines[at])
+    elif head == "run" and what != "left" or what == "journal" and words[0] == "acked":
+        return None
+    elif how == "left out":
+        if what == "faults":
+            return None
+        del lines[at]
+    else:
+        digits = [place for place, letter in enumerate(lines[at]) if letter.isdigit() and place > len(head) + len(what) + 1]
+        if not digits or what in ("state", "counts", "faults") or what == "node" and "-" in head:
+            return None
+        place = draw.choice(digits)
+        lines[at] = f"{lines[at][:place]}{(int(lines[at][place]) + draw.randrange(1, 10)) % 10}{lines[at][place + 1 :]}"
+    return "\n".join(lines)
+
+
+def passed(draw, text, lines):
+    """How many changed texts were tried, and the changed lines of those that pass."""
+    tried, through = 0, []
+    for _ in range(CHANGES):
+        other = changed(draw, text)
+        if other is None:
+            continue
+        tried += 1
+        try:
+            check(other, lines)
+        except (Wrong, wire.BadStream, ValueError, KeyError, IndexError, TypeError, StopIteration):
+            continue
+        was, now = text.splitlines(), other.splitlines()
+        at = next((at for at, (one, two) in enumerate(zip(was, now)) if one != two), min(len(was), len(now)) - 1)
+        through.append(f"`{now[at][:90]}` where `{was[at][:90]}` stood")
+    return tried, through
 
 
 # ---- runs
@@ -374,7 +485,8 @@ def main(words):
     threads = of_file("threads", ".ci/threads.py")
     makers = [threads.three_nodes, threads.nothing_to_do, threads.a_post_and_a_mark, threads.a_node_is_off]
     cases = [(it.__name__, it()[0]) for it in makers] + [(f"at_random {it}", threads.at_random(it)[0]) for it in range(seed, seed + count)]
-    entries = wrong = 0
+    entries = wrong = tried = through = 0
+    draw = random.Random(seed)
     for name, lines in cases:
         for over in FABRICS:
             text = ""
@@ -382,6 +494,10 @@ def main(words):
                 text = run(program, over, lines)
                 kept = check(text, lines)
                 entries += sum(len(given.journal) for given in kept.records.values())
+                of_this, let_through = passed(draw, text, lines)
+                tried, through = tried + of_this, through + len(let_through)
+                for line in let_through:
+                    print(f"checks/kept_run.py: {name}, {over}: a kept run still with {line}")
             except (Wrong, wire.BadStream) as why:
                 wrong += 1
                 print(f"checks/kept_run.py: {name}, {over}: {why}")
@@ -390,8 +506,8 @@ def main(words):
                     for end, what in (("scenario", "\n".join(lines)), ("kept", text)):
                         with open(os.path.join(folder, f"{name.replace(' ', '_')}.{over}.{end}"), "w", encoding="utf-8") as file:
                             file.write(what + "\n")
-    print(f"kept runs: {len(FABRICS) * len(cases)}, entries replayed: {entries}, that aren't kept runs: {wrong}")
-    return bool(wrong)
+    print(f"runs: {len(FABRICS) * len(cases)}, entries replayed: {entries}, that aren't kept runs: {wrong}; changed texts: {tried}, not refused: {through}")
+    return bool(wrong or through)
 
 
 if __name__ == "__main__":
