@@ -436,7 +436,7 @@ def changed(draw, text):
     elif head == "run" and what != "left" or what == "journal" and words[0] == "acked":
         return None
     elif how == "left out":
-        if what == "faults":
+        if what in ("faults", "made"):  # a half that was closed at the door was never a thread's
             return None
         del lines[at]
     else:
