@@ -8,6 +8,7 @@ crate, the functions of all files that they change are checked as they are, and 
     checks/edits.py [CRATE..]       all edits of these crates
     checks/edits.py --gate          those that the list checks/edits/gate names, without the check before them, for rt ci
                                     has proved these functions
+    checks/edits.py --apply         none; only whether all can be applied
 
 It prints what each edit came to, and the status is 0 exactly where all are refused."""
 import concurrent.futures
@@ -96,14 +97,26 @@ def check_modules(room, crate, uses, modules):
     return check(room, crate, uses, []) if f'error: `{crate}` has no function' in said else (proved, said)
 
 
-def try_edit(room, crate, edit, uses):
-    """Whether the check refuses the edit, and what to say."""
-    label, changed = f'{crate}/{edit.name}', {}
+def applied(room, edit):
+    """The files that an edit changes, as it makes them, or why it can't be applied."""
+    changed = {}
+    for line in edit.read_text().splitlines():
+        if line.partition(':')[0] not in ('file', 'old', 'new'):
+            return None, f'BAD EDIT: a line is none of an edit: {line}'
     for path, old, new in pairs(edit):
         text = changed.get(path) or (room / path).read_text()
         if text.count(old) != 1:
-            return False, f'{label}: BAD EDIT: its text is in {path} {text.count(old)} times, and not once: {old}'
+            return None, f'BAD EDIT: its text is in {path} {text.count(old)} times, and not once: {old}'
         changed[path] = text.replace(old, new)
+    return changed, None
+
+
+def try_edit(room, crate, edit, uses):
+    """Whether the check refuses the edit, and what to say."""
+    label = f'{crate}/{edit.name}'
+    changed, bad = applied(room, edit)
+    if bad:
+        return False, f'{label}: {bad}'
     was = {path: (room / path).read_text() for path in changed}
     for path, text in changed.items():
         (room / path).write_text(text)
@@ -148,6 +161,10 @@ def main(named):
     of = {}
     for edit in edits:
         of.setdefault(edit.parent.name if edit.parent.parent.name == 'edits' else edit.parent.parent.name, []).append(edit)
+    if named == ['--apply']:
+        bad = [f'{crate}/{edit.name}: {said}' for crate in of for edit in of[crate] if (said := applied(TOP / 'crates' / crate, edit)[1])]
+        print('\n'.join([*bad, f'{len(edits)} edits, {len(bad)} of which can not be applied']))
+        return 1 if bad else 0
     for crate in named if not gate else []:
         if crate not in of:
             sys.exit(f"edits: {crate} is no crate that has edits")
