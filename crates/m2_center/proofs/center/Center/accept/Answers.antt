@@ -1,5 +1,5 @@
 -- What a center keeps behind its accepts.
-use Rattle.std.proofs.Common.{subst}
+use Rattle.std.proofs.Common.{ap, subst}
 use Rattle.std.specs.List.{AllByRecursion}
 use Rattle.m2_record.specs.IsRecord.{IsRecord}
 use Rattle.m2_center.proofs.Stages.{accepts}
@@ -19,4 +19,7 @@ invariant_of-self g c =
     )
 
 pub returns : goal.returns
-returns g c = record { accepts = (c.accept_all.result, c.accepted_so.ensures, accepts _ _ c.self.view_is c.accept_all.result _ _ c.accept_all.ensures.accepts) }
+returns g c = record {
+  accepts = (c.accept_all.result, c.accepted_so.ensures, accepts _ _ c.self.view_is c.accept_all.result _ _ c.accept_all.ensures.accepts);
+  queued = ap (λ v. v.queued) c.self.view_is;
+}

@@ -28,6 +28,7 @@ invariant_of-self g c =
 pub returns : goal.returns
 returns g c = record {
   answers = (c.answer_all.result, c.answered_so.ensures, turns_halves _ _ c.self.view_is _ _ c.answer_all.result _ refl _ _ _ _ c.answer_all.ensures.turns);
+  queued = ap (λ v. v.queued) c.self.view_is;
   numbers = c.answer_all.ensures.number_place ∙ ap (λ v. v.numbers.place) c.self.view_is;
   throttle = c.answer_all.ensures.take_place ∙ ap (λ v. v.bytes.place) c.self.view_is;
 }

@@ -30,6 +30,7 @@ invariant_of-self g c =
 pub returns : goal.returns
 returns g c = record {
   steps = (c.step_all.result, c.stepped_so.ensures, turns_records _ _ c.self.view_is _ _ c.step_all.result _ refl _ _ _ _ _ c.step_all.ensures.turns);
+  queued = ap (λ v. v.queued) c.self.view_is;
   handed = subst (λ o. SaysMore c.args.handed.now c.step_all.new.handed (handed_in o.records) (handed_in c.step_all.new.records.items)) c.self.view_is c.step_all.ensures.handed;
   numbers = c.step_all.ensures.number_place ∙ ap (λ v. v.numbers.place) c.self.view_is;
   throttle = c.step_all.ensures.take_place ∙ ap (λ v. v.bytes.place) c.self.view_is;
