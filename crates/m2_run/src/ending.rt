@@ -70,7 +70,9 @@ impl<'s, P: Port> Model for EndedCenter<'s, P> {
 
 impl<'s, P: Port> EndedCenter<'s, P> {
     /// The port of the fabric, where its node was on.
-    pub fn port(&self) -> Option<&P> {
+    pub fn port(&self) -> Option<&P>
+        ensures { option_map (λ p. P.seen p.now) result ≡ self.now.port }
+    {
         self.port.as_ref()
     }
 
