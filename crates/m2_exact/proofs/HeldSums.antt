@@ -71,3 +71,11 @@ sum_set f (z ∷ xs) (suc k) x y at =
     let now = sum_first f z (slice_set xs k y) in
     let rest = sum_set f xs k x y at in
     omega (arith, was, now, rest)
+
+-- it is one part of the sum
+pub sum_has : {X : Type 0} (f : X → ℕ) (xs : List X) (k : ℕ) (x : X) → slice_get xs k ≡ Some x → (rest : ℕ) × (sum_by f xs ≡ f x + rest)
+sum_has f [] k x at = absurd (cc at)
+sum_has f (z ∷ xs) zero x at = (sum_by f xs, let is = ap f (some_same z x at) in let all = sum_first f z xs in omega (arith, is, all))
+sum_has f (z ∷ xs) (suc k) x at =
+    let rest = sum_has f xs k x at in
+    (f z + rest.0, let all = sum_first f z xs in let is = rest.1 in omega (arith, all, is))
