@@ -1,12 +1,25 @@
 -- What a node holds of what its throttle has granted, and that the throttle's word is just that. That a grant goes along with its
 -- message until this is dispatched or thrown away is Ceph's rule; the rest is this project's own.
-use Rattle.std.specs.Prelude.{◌≡◌, ℕ, ◌+◌, true, List, sum_by, IfSome}
+use Rattle.std.specs.Prelude.{◌≡◌, ◌⊎◌, ℕ, ◌+◌, true, List, sum_by, IfSome, Ok, Err}
+use Rattle.std.specs.List.{AllByRecursion}
+use Rattle.m2_dispatch.specs.Heard.{Heard}
+use Rattle.m2_dispatch.specs.Letters.{granted}
+use Rattle.m2_dispatch.specs.m2_shared.Place.{IsAlone, Place}
+use Rattle.m2_fabric.specs.m2_bytes.declared.memory.NoMemory as memory
+use Rattle.m2_script.specs.m2_center.Center.{CenterNow}
+use Rattle.m2_script.specs.m2_center.CenterTurn.{TakesTurn}
+use Rattle.m2_script.specs.m2_center.Plans.{PlansIn}
 use Rattle.m2_script.specs.m2_center.m2_core.LiveNow as live
 use Rattle.m2_script.specs.m2_center.m2_core.LiveNow.{LiveNow, is_granted_on, is_ready}
 use Rattle.m2_script.specs.m2_center.m2_feed.m2_journal.Laws.{SessionIsSound}
 use Rattle.m2_script.specs.m2_center.m2_feed.m2_journal.SideFacts.{SideFacts}
 use Rattle.m2_script.specs.m2_center.m2_record.Calls.{all_granted}
 use Rattle.m2_script.specs.m2_center.m2_record.RecordNow.{RecordNow}
+use Rattle.m2_script.specs.m2_center.m2_record.declared.stepped.Stepped.TheVariants as stepped
+use Rattle.m2_script.specs.m2_center.m2_turn.Outbox.{granted_in}
+use Rattle.m2_script.specs.m2_center.m2_turn.RecordTurn.{Means, TakesStep, Turning}
+use Rattle.m2_script.specs.m2_cluster.Node.{NodeNow}
+use Rattle.m2_script.specs.m2_center.m2_feed.m2_journal.declared.facts.PlanStep.{PlanStep}
 
 -- ---- how much is held
 
@@ -16,6 +29,10 @@ held_by r = live.held r.core.live.granted + all_granted r.parcels
 
 abbrev pub held_by_all : List RecordNow → ℕ
 held_by_all rs = sum_by held_by rs
+
+-- by a center: by its records, where their parcels go, and in its queue
+abbrev pub held_in : {D : Type 0} → CenterNow D → ℕ
+held_in c = held_by_all c.records + (granted_in c.out + granted c.queued.waiting)
 
 -- ---- where something may be held for a feed
 
@@ -31,6 +48,33 @@ IsHeldRightly f l = IfSome l.granted (λ g. MayHold f l)
 
 abbrev pub HoldsRightly : RecordNow → Type 0
 HoldsRightly r = IsHeldRightly r.core.facts r.core.live
+
+-- ---- the word
+
+-- The word of a center's pass is just what the center holds, and each of its records holds rightly.
+pub record HoldsItsWord {D : Type 0} (c : CenterNow D) : Type 0 where
+  pub word : c.bytes.word ≡ held_in c
+  pub records : AllByRecursion HoldsRightly c.records
+
+-- The same of a node, whose throttle is no thread's but its own.
+pub record NodeHoldsItsWord {D : Type 0} (n : NodeNow D) : Type 0 where
+  pub alone : IsAlone n.throttle.place
+  pub center : HoldsItsWord n.center
+
+-- A record's step found no memory. Of what it did to the pass nothing is said; the word before it is what is held behind it.
+pub record LacksInStep {D : Type 0} (heard : D → List Heard) (m : Means) (new : CenterNow D) : Type 0 where
+  pub mid : Turning D
+  pub side : RecordNow
+  pub takes : TakesStep heard m stepped.NoMemory mid (record { side = side; out = new.out; bytes = new.bytes; numbers = new.numbers })
+  pub held : mid.bytes.word ≡ held_in new
+
+-- Behind each turn of a center the word is what it holds, where it was so before and no thread shares the word; and so it is behind a step
+-- that is planned. For want of memory it is so too, but where a record's step found none.
+pub record CentersHoldTheirWords (E D : Type 0) (heard : D → List Heard) : Type 0 where
+  pub turns : (m : Means) (old new : CenterNow D) → IsAlone m.throttle.place → HoldsItsWord old → TakesTurn E heard m (Ok tt) old new → HoldsItsWord new
+  pub lacks : (m : Means) (e : memory.NoMemory) (old new : CenterNow D) → IsAlone m.throttle.place → HoldsItsWord old → TakesTurn E heard m (Err e) old new →
+      (new.bytes.word ≡ held_in new) ⊎ LacksInStep heard m new
+  pub plans : (peer : ℕ) (x : PlanStep) (now : ℕ) (throttle : Place) (old new : CenterNow D) → IsAlone throttle → HoldsItsWord old → PlansIn (Ok tt) peer x now throttle old new → HoldsItsWord new
 
 abbrev pub Stands : Type 0
 Stands = Unit {0}
