@@ -41,7 +41,7 @@ use Rattle.m2_script.specs.m2_center.m2_turn.m2_handshake.Standing.{Standing}
 use Rattle.m2_script.specs.m2_center.m2_turn.m2_handshake.declared.answer.HalfStep.{HalfStep}
 use Rattle.m2_script.specs.m2_center.m2_turn.m2_handshake.declared.answer.HalfStep.TheVariants as half
 use Rattle.m2_script.specs.m2_center.m2_turn.m2_handshake.m2_frame.Reading.{Front, bad, owed_at, size_of, start, text}
-use Rattle.m2_exact.specs.Holding.{IsHeldRightly, MayHold, Stands}
+use Rattle.m2_exact.specs.Holding.{IsHeldRightly, MayHold}
 
 -- ---- words
 
@@ -204,6 +204,3 @@ heard_idle read.NotYet f l h e = absurd (cc e)
 heard_idle read.Ended f l h e = absurd (cc e)
 heard_idle read.Failed f l h e = absurd (cc e)
 heard_idle read.NoMemory f l h e = absurd (cc e)
-
-pub stands : Stands
-stands = tt

@@ -21,7 +21,7 @@ use Rattle.m2_exact.proofs.HeldJudged as judging
 use Rattle.m2_exact.proofs.HeldSums as sums
 use Rattle.m2_exact.proofs.HeldSums.{Follows}
 use Rattle.m2_exact.proofs.Lists.{all_set}
-use Rattle.m2_exact.specs.Holding.{HoldsRightly, Stands, held_by, held_by_all}
+use Rattle.m2_exact.specs.Holding.{HoldsRightly, held_by, held_by_all}
 
 -- the word goes along with what the records hold, each rightly
 pub record Goes (old new : Homes) : Type 0 where
@@ -109,6 +109,3 @@ module _ (E : Type 0) (m : Means) (alone : IsAlone m.throttle.place) where
 
   pub all_turn : (result : HalvesTurn) (old new : Callers) → Holds old.homes → TurnsHalves E result m old new → Goes old.homes new.homes
   all_turn result old new r h = subst (λ (c : Callers). Goes old.homes c.homes) (sym h.left) (turn_halves result (all_wait old) h.behind r h.turns)
-
-pub stands : Stands
-stands = tt

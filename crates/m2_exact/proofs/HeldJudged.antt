@@ -64,7 +64,7 @@ use Rattle.m2_exact.proofs.HeldSteps as steps
 use Rattle.m2_exact.proofs.HeldSteps.{Less}
 use Rattle.m2_exact.proofs.HeldSums as sums
 use Rattle.m2_exact.proofs.HeldSums.{Follows}
-use Rattle.m2_exact.specs.Holding.{HoldsRightly, IsHeldRightly, MayHold, Stands, held_by}
+use Rattle.m2_exact.specs.Holding.{HoldsRightly, IsHeldRightly, MayHold, held_by}
 
 -- ---- what the session is told of an answer
 
@@ -300,6 +300,3 @@ module _ (m : Means) (alone : IsAlone m.throttle.place) where
       by : (b : Bool) → AnswersBy b result a m old new → Goes old new
       by true h = stays old new r h.1
       by false (found, is, h) = finds found result a old new has r h
-
-pub stands : Stands
-stands = tt

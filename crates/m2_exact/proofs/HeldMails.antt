@@ -19,7 +19,6 @@ use Rattle.m2_script.specs.m2_center.m2_turn.declared.mailing.Mailed.{Mailed}
 use Rattle.m2_script.specs.m2_center.m2_turn.declared.mailing.Mailed.TheVariants as mailed
 use Rattle.m2_exact.proofs.HeldSums as sums
 use Rattle.m2_exact.proofs.HeldSums.{Follows}
-use Rattle.m2_exact.specs.Holding.{Stands}
 
 -- ---- a parcel that is put
 
@@ -97,6 +96,3 @@ module _ {D : Type 0} (heard : D → List Heard) (place : Place) (alone : IsAlon
   mails mailed.Dry old new h = mails_some old new h.0
   mails mailed.NoMemory old new (inl h) = puts_some old new h.0
   mails mailed.NoMemory old new (inr h) = mails_some old new h.0
-
-pub stands : Stands
-stands = tt

@@ -42,7 +42,7 @@ use Rattle.m2_exact.proofs.HeldSums as sums
 use Rattle.m2_exact.proofs.HeldSums.{Follows}
 use Rattle.m2_exact.proofs.HeldTurns as turns
 use Rattle.m2_exact.proofs.HeldTurns.{Turns, held_turning}
-use Rattle.m2_exact.specs.Holding.{HoldsRightly, Stands, held_by, held_by_all}
+use Rattle.m2_exact.specs.Holding.{HoldsRightly, held_by, held_by_all}
 
 -- ---- a connect
 
@@ -267,6 +267,3 @@ module _ {D : Type 0} (heard : D → List Heard) (m : Means) (alone : IsAlone m.
           StopsOne (amid h.turns.at h.turns.mid) (amid h.turns.left new.around) → Follows old.around.bytes.word new.around.bytes.word (held_amid old.records old.around) (held_amid new.records new.around) ⊎ StopsAll old new
       by_stop (inl last) = inl (joined new.around.bytes.word last)
       by_stop (inr stop) = inr (record { mid = stop.mid; side = h.turns.left; takes = stop.takes; word = joined stop.mid.bytes.word stop.word })
-
-pub stands : Stands
-stands = tt

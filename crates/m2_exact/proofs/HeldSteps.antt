@@ -70,7 +70,7 @@ use Rattle.m2_exact.proofs.HeldSums as sums
 use Rattle.m2_exact.proofs.HeldSums.{Follows}
 use Rattle.m2_exact.proofs.Leaving as leaving
 use Rattle.m2_exact.proofs.Steps as steps
-use Rattle.m2_exact.specs.Holding.{HoldsRightly, IsHeldRightly, MayHold, Stands, held_by}
+use Rattle.m2_exact.specs.Holding.{HoldsRightly, IsHeldRightly, MayHold, held_by}
 
 -- ---- words
 
@@ -589,6 +589,3 @@ steps_on w old new alone is r k h =
 -- for want of memory a record holds what it held
 pub lacks : (old new : RecordNow) → NothingDone old new → held_by new ≡ held_by old
 lacks old new h = ap held_by h.only
-
-pub stands : Stands
-stands = tt

@@ -24,7 +24,7 @@ use Rattle.m2_exact.proofs.HeldSteps as steps
 use Rattle.m2_exact.proofs.HeldSteps.{handed_by}
 use Rattle.m2_exact.proofs.HeldSums as sums
 use Rattle.m2_exact.proofs.HeldSums.{Follows}
-use Rattle.m2_exact.specs.Holding.{HoldsRightly, Stands, held_by}
+use Rattle.m2_exact.specs.Holding.{HoldsRightly, held_by}
 
 -- ---- words
 
@@ -194,6 +194,3 @@ module _ {D : Type 0} (heard : D → List Heard) where
         let takes = subst (λ (a : Stepped). TakesStep heard m a h.mid new) (without h.answer h.ends) h.takes in
         let held = stopped_held h.mid new takes in
         record { mid = h.mid; takes = takes; word = λ rest e. (let is = one.word rest e in omega (arith, is, held)) }
-
-pub stands : Stands
-stands = tt

@@ -1,10 +1,16 @@
 -- What a node holds of what its throttle has granted, and that the throttle's word is just that. That a grant goes along with its
 -- message until this is dispatched or thrown away is Ceph's rule; the rest is this project's own.
-use Rattle.std.specs.Prelude.{◌≡◌, ◌⊎◌, ℕ, ◌+◌, true, List, sum_by, IfSome, Ok, Err}
+use Rattle.std.specs.Prelude.{◌≡◌, ◌⊎◌, ℕ, ◌+◌, true, List, [], ◌∷◌, length, sum_by, IfSome, Ok, Err}
 use Rattle.std.specs.List.{AllByRecursion}
-use Rattle.m2_dispatch.specs.Heard.{Heard}
+use Rattle.m2_dispatch.specs.Heard.{Heard, heard_by}
 use Rattle.m2_dispatch.specs.Letters.{granted}
 use Rattle.m2_dispatch.specs.m2_shared.Place.{IsAlone, Place}
+use Rattle.m2_dispatch.specs.declared.logged.Logged.{Logged}
+use Rattle.m2_scenario.specs.declared.line.Line.{Line}
+use Rattle.m2_scenario.specs.declared.link.Link.{Link}
+use Rattle.m2_scenario.specs.declared.node.Node.{Node}
+use Rattle.m2_script.specs.Script.{Deed, Happens, RunNow, script_of}
+use Rattle.m2_script.specs.Started.{IsFirst, IsScriptRun}
 use Rattle.m2_fabric.specs.m2_bytes.declared.memory.NoMemory as memory
 use Rattle.m2_script.specs.m2_center.Center.{CenterNow}
 use Rattle.m2_script.specs.m2_center.CenterTurn.{TakesTurn}
@@ -76,5 +82,21 @@ pub record CentersHoldTheirWords (E D : Type 0) (heard : D → List Heard) : Typ
       (new.bytes.word ≡ held_in new) ⊎ LacksInStep heard m new
   pub plans : (peer : ℕ) (x : PlanStep) (now : ℕ) (throttle : Place) (old new : CenterNow D) → IsAlone throttle → HoldsItsWord old → PlansIn (Ok tt) peer x now throttle old new → HoldsItsWord new
 
-abbrev pub Stands : Type 0
-Stands = Unit {0}
+-- ---- a run
+
+abbrev pub NodesHoldTheirWords : {D : Type 0} → RunNow D → Type 0
+NodesHoldTheirWords s = AllByRecursion NodeHoldsItsWord s.cluster.nodes
+
+-- so it is behind each of these deeds, whatever those before it have come to
+abbrev pub WordsStayHeld : {D : Type 0} → (E : Type 0) → (D → List Heard) → List Deed → RunNow D → Type 0
+WordsStayHeld E heard [] s = Unit {0}
+WordsStayHeld {D} E heard (d ∷ ds) s = (behind : RunNow D) → Happens E heard (Ok tt) d s behind → NodesHoldTheirWords behind × WordsStayHeld E heard ds behind
+
+-- Each deed of a run in memory keeps it so at each node. Before the first line of a scenario nothing is held, and no word says otherwise:
+-- so it is so behind each deed of its script.
+pub record RunsHoldTheirWords (E D : Type 0) (heard : D → List Heard) : Type 0 where
+  pub deeds : (d : Deed) (old new : RunNow D) → NodesHoldTheirWords old → Happens E heard (Ok tt) d old new → NodesHoldTheirWords new
+  pub first : (nodes : List Node) (links : List Link) (lines : List Line) (s : RunNow (List Logged)) → IsFirst nodes links lines s → NodesHoldTheirWords s
+  pub along : (nodes : List Node) (links : List Link) (lines : List Line) (s : RunNow (List Logged)) → IsFirst nodes links lines s →
+      WordsStayHeld E heard_by (script_of links (length nodes) lines) s
+  pub runs : (nodes : List Node) (links : List Link) (lines : List Line) (first last : RunNow (List Logged)) → IsScriptRun E nodes links lines first last → NodesHoldTheirWords last

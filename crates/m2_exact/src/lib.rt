@@ -29,6 +29,6 @@ pub use laws::{
     like_halves_move_alike, like_halves_turn_alike, like_mails_empty_alike,
     like_networks_pass_alike, like_nodes_act_alike, like_ports_accept_alike,
     like_records_dial_and_plan_alike, like_records_judge_alike, like_records_step_alike,
-    like_records_turn_alike, like_runs_are_told_alike, like_runs_do_alike, runs_are_one,
+    like_records_turn_alike, like_runs_are_told_alike, like_runs_do_alike, runs_are_one, words_are_held,
 };
 pub use m2_script::{Outcome, Run, addresses, clear_all, cluster_of, outcome_of};
