@@ -1,13 +1,12 @@
 -- The word of a center's pass is what the center holds, behind each turn and behind each step that is planned.
-use Rattle.std.proofs.Common.{◌≡◌, ℕ, ◌+◌, ◌-◌, List, [], ◌∷◌, map, Bool, true, false, Option, None, Some, Result, Ok, Err, inl, inr, refl, sym, subst, ◌∙◌, ap, arith}
-use Rattle.std.specs.Prelude.{◌⊎◌, slice_get, slice_set}
+use Rattle.std.proofs.Common.{◌≡◌, ℕ, ◌+◌, List, [], ◌∷◌, map, Option, None, Some, Ok, Err, inl, inr, refl, sym, subst, ◌∙◌, ap, arith}
+use Rattle.std.specs.Prelude.{◌⊎◌, slice_set}
 use Rattle.std.specs.List.{AllByRecursion}
 use Rattle.std.specs.Option.{option_map}
-use Rattle.m2_dispatch.specs.Dispatch.{Queued}
 use Rattle.m2_dispatch.specs.Heard.{Heard}
 use Rattle.m2_dispatch.specs.Letters.{granted}
 use Rattle.m2_dispatch.specs.m2_shared.Place.{IsAlone, Place}
-use Rattle.m2_dispatch.specs.m2_shared.Throttle.{SeenTakePass, SeenThrottle}
+use Rattle.m2_dispatch.specs.m2_shared.Throttle.{SeenThrottle}
 use Rattle.m2_fabric.proofs.m2_lemmas.Lists.{all_at}
 use Rattle.m2_fabric.specs.m2_bytes.declared.memory.NoMemory as memory
 use Rattle.m2_script.specs.m2_center.Center.{CenterNow}
@@ -25,7 +24,6 @@ use Rattle.m2_script.specs.m2_center.m2_record.RecordNow.{RecordNow}
 use Rattle.m2_script.specs.m2_center.m2_turn.Outbox as out
 use Rattle.m2_script.specs.m2_center.m2_turn.Outbox.{OutboxNow}
 use Rattle.m2_script.specs.m2_center.m2_turn.RecordTurn.{Means}
-use Rattle.m2_script.specs.m2_center.m2_turn.RecordsTurn.{TurnsEach}
 use Rattle.m2_script.specs.m2_center.m2_turn.declared.accepting.Accepted.{Accepted}
 use Rattle.m2_script.specs.m2_center.m2_turn.declared.halves_turn.HalvesTurn.{HalvesTurn}
 use Rattle.m2_script.specs.m2_center.m2_turn.declared.mailing.Mailed.{Mailed}

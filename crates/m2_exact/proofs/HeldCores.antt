@@ -1,32 +1,24 @@
 -- What is held for a feed, behind each call of a core.
-use Rattle.std.proofs.Common.{◌≡◌, ◌&&◌, ◌||◌, not, ℕ, ◌+◌, if◌then◌else◌, List, Bool, true, false, Option, None, Some, Ok, refl, sym, subst, ◌∙◌, ap}
-use Rattle.std.specs.Prelude.{IfSome, IsTrue}
-use Rattle.std.specs.Option.{is_some}
+use Rattle.std.proofs.Common.{◌≡◌, ℕ, if◌then◌else◌, List, Bool, true, false, Option, None, Some, refl, sym, subst, ◌∙◌, ap}
+use Rattle.std.specs.Prelude.{IfSome}
 use Rattle.m2_dispatch.specs.m2_shared.Throttle.{SeenGrant}
 use Rattle.m2_fabric.specs.declared.end.EndRead.{EndRead}
 use Rattle.m2_fabric.specs.declared.end.EndRead.TheVariants as read
-use Rattle.m2_script.proofs.m2_center.m2_turn.m2_core.Judged.{IsQuiet, answered_by, reconnect_takes, told_by}
-use Rattle.m2_script.proofs.m2_center.m2_turn.m2_session.Answers.{answers_are_lawful_lem}
 use Rattle.m2_script.proofs.m2_center.m2_turn.m2_session.Events.{fault_closes}
-use Rattle.m2_script.specs.m2_center.m2_core.CoreNow.{CoreNow, may_dial}
+use Rattle.m2_script.specs.m2_center.m2_core.CoreNow.{CoreNow}
 use Rattle.m2_script.specs.m2_center.m2_core.Effects.{closes, discards, has_effects, requeues, sets_back, tells, where_true}
 use Rattle.m2_script.specs.m2_center.m2_core.Front as front
 use Rattle.m2_script.specs.m2_center.m2_core.Front.{FrontHeard, before_front, front_in, front_of, heard_by, hearer_of, resumption_at}
 use Rattle.m2_script.specs.m2_center.m2_core.Hearing as hearing
-use Rattle.m2_script.specs.m2_center.m2_core.LiveCalls.{after_fault, live_with, tells_if}
-use Rattle.m2_script.specs.m2_center.m2_core.LiveNow as live
-use Rattle.m2_script.specs.m2_center.m2_core.LiveNow.{LiveNow, OnFeedNow, is_granted_in, is_granted_on, is_ready, is_waiting}
-use Rattle.m2_script.specs.m2_center.m2_core.OnFeed.{GreetsFeed, ReadsFeed, WritesFeed, granted_feed}
-use Rattle.m2_script.specs.m2_center.m2_core.ToCompose.{text_on, text_rows, to_compose}
-use Rattle.m2_script.specs.m2_center.m2_core.declared.to_compose.CoreText.{CoreText}
-use Rattle.m2_script.specs.m2_center.m2_core.declared.to_compose.CoreText.TheVariants as text
-use Rattle.m2_script.specs.m2_center.m2_feed.Calls.{heard_of, is_empty, with_grant}
-use Rattle.m2_script.specs.m2_center.m2_feed.FeedNow.{FeedNow, Reading, framing, is_framing, shaking}
+use Rattle.m2_script.specs.m2_center.m2_core.LiveCalls.{after_fault, tells_if}
+use Rattle.m2_script.specs.m2_center.m2_core.LiveNow.{LiveNow, is_granted_in, is_granted_on, is_ready, is_waiting}
+use Rattle.m2_script.specs.m2_center.m2_core.OnFeed.{GreetsFeed, ReadsFeed, WritesFeed}
+use Rattle.m2_script.specs.m2_center.m2_feed.Calls.{heard_of, with_grant}
+use Rattle.m2_script.specs.m2_center.m2_feed.FeedNow.{FeedNow, Reading, framing, shaking}
 use Rattle.m2_script.specs.m2_center.m2_feed.declared.answers.FeedWrite.{FeedWrite}
 use Rattle.m2_script.specs.m2_center.m2_feed.declared.answers.FeedWrite.TheVariants as put
 use Rattle.m2_script.specs.m2_center.m2_feed.declared.hearer.Hearer.{Hearer}
 use Rattle.m2_script.specs.m2_center.m2_feed.declared.heard.Heard.{Heard}
-use Rattle.m2_script.specs.m2_center.m2_feed.declared.heard.Heard.TheVariants as answer
 use Rattle.m2_script.specs.m2_center.m2_feed.m2_journal.Laws.{SessionIsSound}
 use Rattle.m2_script.specs.m2_center.m2_feed.m2_journal.SideFacts.{SideFacts}
 use Rattle.m2_script.specs.m2_center.m2_feed.m2_session.Phases as phases
@@ -34,13 +26,11 @@ use Rattle.m2_script.specs.m2_center.m2_feed.m2_session.Steps.{step_of}
 use Rattle.m2_script.specs.m2_center.m2_feed.m2_session.declared.event.Effects.{Effects}
 use Rattle.m2_script.specs.m2_center.m2_feed.m2_session.declared.event.Event.{Event}
 use Rattle.m2_script.specs.m2_center.m2_feed.m2_session.declared.event.Event.TheVariants as event
-use Rattle.m2_script.specs.m2_center.m2_feed.m2_session.declared.session.Phase.{Phase}
 use Rattle.m2_script.specs.m2_center.m2_feed.m2_session.declared.session.Phase.TheVariants as phase
 use Rattle.m2_script.specs.m2_center.m2_feed.m2_session.declared.session.Session.{Session}
-use Rattle.m2_script.specs.m2_center.m2_turn.m2_handshake.Standing.{Standing}
 use Rattle.m2_script.specs.m2_center.m2_turn.m2_handshake.declared.answer.HalfStep.{HalfStep}
 use Rattle.m2_script.specs.m2_center.m2_turn.m2_handshake.declared.answer.HalfStep.TheVariants as half
-use Rattle.m2_script.specs.m2_center.m2_turn.m2_handshake.m2_frame.Reading.{Front, bad, owed_at, size_of, start, text}
+use Rattle.m2_script.specs.m2_center.m2_turn.m2_handshake.m2_frame.Reading.{Front, bad, size_of, start, text}
 use Rattle.m2_exact.specs.Holding.{IsHeldRightly, MayHold}
 
 -- ---- words

@@ -1,6 +1,5 @@
 -- What is held by a center's records, behind the turns of its halves.
-use Rattle.std.proofs.Common.{◌≡◌, ℕ, ◌+◌, List, [], ◌∷◌, map, Bool, true, false, Option, None, Some, inl, inr, refl, sym, subst, ◌∙◌, ap, arith}
-use Rattle.std.specs.Prelude.{◌⊎◌, slice_get, slice_set}
+use Rattle.std.proofs.Common.{◌≡◌, ℕ, ◌+◌, List, [], ◌∷◌, map, Option, None, Some, inl, inr, sym, subst, ap, arith}
 use Rattle.std.specs.List.{AllByRecursion}
 use Rattle.m2_dispatch.specs.m2_shared.Place.{IsAlone}
 use Rattle.m2_fabric.proofs.m2_lemmas.Lists.{all_at}
@@ -8,9 +7,8 @@ use Rattle.m2_fabric.specs.m2_addr.declared.addr.Addr.{Addr}
 use Rattle.m2_trail.specs.Incoming.{IncomingNow}
 use Rattle.m2_trail.specs.declared.turn.HalfTurn.{HalfTurn}
 use Rattle.m2_trail.specs.declared.turn.HalfTurn.TheVariants as turn
-use Rattle.m2_script.specs.m2_center.m2_record.RecordNow.{RecordNow}
-use Rattle.m2_script.specs.m2_center.m2_turn.HalfTurn.{AnswersAt, AnswersFrom, ComesTo, EndsTurn, HalfTurning, Homes, Replies, TurnsHalf, TurnsOnce, home_of_ask, judging_in, moved_by}
-use Rattle.m2_script.specs.m2_center.m2_turn.HalvesTurn.{Callers, HalfTurns, HalvesTurning, OldestTurns, TurnHalves, TurnLeadsOn, TurnsHalves, all_wait, callers_in}
+use Rattle.m2_script.specs.m2_center.m2_turn.HalfTurn.{AnswersAt, AnswersFrom, ComesTo, HalfTurning, Homes, Replies, TurnsHalf, TurnsOnce, home_of_ask, judging_in, moved_by}
+use Rattle.m2_script.specs.m2_center.m2_turn.HalvesTurn.{Callers, HalfTurns, HalvesTurning, TurnHalves, TurnLeadsOn, TurnsHalves, all_wait}
 use Rattle.m2_script.specs.m2_center.m2_turn.RecordTurn.{Means}
 use Rattle.m2_script.specs.m2_center.m2_turn.Sessions.{PendingNow, peer_of}
 use Rattle.m2_script.specs.m2_center.m2_turn.declared.answering.HalfAnswered.{HalfAnswered}

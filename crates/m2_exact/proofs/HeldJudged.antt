@@ -1,6 +1,6 @@
 -- What is held by a record, behind the ask of a half that it answers.
-use Rattle.std.proofs.Common.{◌≡◌, ◌≢◌, ℕ, ◌+◌, ◌-◌, ◌||◌, ◌==◌, not, ◌++◌, if◌then◌else◌, List, [], ◌∷◌, Bool, true, false, Option, None, Some, inl, inr, refl, sym, subst, ◌∙◌, ap, arith}
-use Rattle.std.specs.Prelude.{◌⊎◌, IfSome, IsSome, IsTrue}
+use Rattle.std.proofs.Common.{◌≡◌, ◌≢◌, ℕ, ◌||◌, ◌==◌, not, [], ◌∷◌, Bool, true, false, Option, None, Some, inl, inr, refl, sym, subst, ◌∙◌, ap, arith}
+use Rattle.std.specs.Prelude.{IfSome, IsSome, IsTrue}
 use Rattle.std.specs.List.{AllByRecursion}
 use Rattle.m2_dispatch.specs.m2_shared.Place.{IsAlone}
 use Rattle.m2_dispatch.specs.m2_shared.Throttle.{SeenGrant, SeenTakePass}
@@ -30,7 +30,6 @@ use Rattle.m2_script.specs.m2_center.m2_feed.m2_session.Conditions.{differs, is_
 use Rattle.m2_script.specs.m2_center.m2_feed.m2_session.Ident.{ident_answer}
 use Rattle.m2_script.specs.m2_center.m2_feed.m2_session.Phases as phases
 use Rattle.m2_script.specs.m2_center.m2_feed.m2_session.Reconnect.{Reconnect, reconnect_answer}
-use Rattle.m2_script.specs.m2_center.m2_feed.m2_session.SessionLaws as sessions
 use Rattle.m2_script.specs.m2_center.m2_feed.m2_session.SessionLaws.{ident_event, reconnect_event, takes}
 use Rattle.m2_script.specs.m2_center.m2_feed.m2_session.Steps.{is_lawful, step_of}
 use Rattle.m2_script.specs.m2_center.m2_feed.m2_session.declared.answer.Answer.{Answer}
@@ -47,11 +46,10 @@ use Rattle.m2_script.specs.m2_center.m2_record.RecordNow.{RecordNow}
 use Rattle.m2_script.specs.m2_center.m2_record.declared.judging.Judged.{Judged}
 use Rattle.m2_script.specs.m2_center.m2_record.declared.judging.Judged.TheVariants as judged
 use Rattle.m2_script.specs.m2_center.m2_turn.Answering.{AnswersBy, AnswersHalf, FindsSo, HearsHalf, OwesThen}
-use Rattle.m2_script.specs.m2_center.m2_turn.Judging.{Judges, JudgesAsk, Judging}
+use Rattle.m2_script.specs.m2_center.m2_turn.Judging.{Judges, Judging}
 use Rattle.m2_script.specs.m2_center.m2_turn.RecordTurn.{Means}
 use Rattle.m2_script.specs.m2_center.m2_turn.declared.answering.HalfAnswered.{HalfAnswered}
 use Rattle.m2_script.specs.m2_center.m2_turn.declared.answering.HalfAnswered.TheVariants as half
-use Rattle.m2_script.specs.m2_center.m2_turn.declared.judging.AskJudged.TheVariants as asked
 use Rattle.m2_script.specs.m2_center.m2_turn.m2_handshake.Asks.{bare_ask}
 use Rattle.m2_script.specs.m2_center.m2_turn.m2_handshake.Greeting.{control_of}
 use Rattle.m2_script.specs.m2_center.m2_turn.m2_handshake.declared.ask.Ask.{Ask}

@@ -1,5 +1,5 @@
 -- What is held in a center's mail and in its queue, behind the mail that is emptied.
-use Rattle.std.proofs.Common.{◌≡◌, ℕ, ◌+◌, ◌-◌, ◌++◌, if◌then◌else◌, List, [], ◌∷◌, Bool, true, false, inl, inr, refl, sym, subst, ◌∙◌, ap, arith}
+use Rattle.std.proofs.Common.{◌≡◌, ℕ, ◌+◌, if◌then◌else◌, List, [], ◌∷◌, Bool, true, false, inl, inr, refl, ◌∙◌, ap, arith}
 use Rattle.std.specs.Prelude.{nat_lt}
 use Rattle.m2_dispatch.proofs.Letters.{granted-first, granted-thrown, of_peer-kept, others-kept, others-thrown}
 use Rattle.m2_dispatch.specs.Heard.{Heard}

@@ -5,22 +5,20 @@ use Rattle.std.specs.List.{AllByRecursion}
 use Rattle.m2_dispatch.specs.Heard.{Heard}
 use Rattle.m2_dispatch.specs.declared.letter.Letter.{Letter}
 use Rattle.m2_dispatch.specs.m2_shared.Place.{IsAlone}
-use Rattle.m2_dispatch.specs.m2_shared.Throttle.{SeenTakePass}
-use Rattle.m2_fabric.proofs.m2_lemmas.Lists.{all_append, all_back, all_front}
+use Rattle.m2_fabric.proofs.m2_lemmas.Lists.{all_back, all_front}
 use Rattle.m2_fabric.specs.End.{SeenEnd}
 use Rattle.m2_fabric.specs.declared.port.Connect.{Connect}
 use Rattle.m2_fabric.specs.declared.port.Connect.TheVariants as connect
 use Rattle.m2_fabric.specs.m2_bytes.declared.memory.NoMemory as memory
 use Rattle.m2_script.specs.m2_center.m2_core.CoreNow.{may_dial}
-use Rattle.m2_script.specs.m2_center.m2_core.Effects.{tells}
-use Rattle.m2_script.specs.m2_center.m2_core.LiveNow.{is_ready, is_waiting}
+use Rattle.m2_script.specs.m2_center.m2_core.LiveNow.{is_ready}
 use Rattle.m2_script.specs.m2_center.m2_feed.FeedNow.{FeedNow}
 use Rattle.m2_script.specs.m2_center.m2_feed.m2_session.Dials.{at_rest}
 use Rattle.m2_script.specs.m2_center.m2_feed.m2_session.Phases as phases
 use Rattle.m2_script.specs.m2_center.m2_feed.m2_session.declared.event.Event.TheVariants as event
 use Rattle.m2_script.specs.m2_center.m2_feed.m2_session.declared.session.Phase.{Phase}
 use Rattle.m2_script.specs.m2_center.m2_feed.m2_session.declared.session.Phase.TheVariants as phase
-use Rattle.m2_script.specs.m2_center.m2_record.Calls.{Connects, IsSameButRoom, all_granted, with_opened}
+use Rattle.m2_script.specs.m2_center.m2_record.Calls.{Connects, all_granted, with_opened}
 use Rattle.m2_script.specs.m2_center.m2_core.Calls.{IsOpening}
 use Rattle.m2_script.specs.m2_center.m2_record.Due.{due_step, has_frame, has_parcel, has_plan, may_compose, may_connect, may_read, may_write}
 use Rattle.m2_script.specs.m2_center.m2_record.RecordNow.{RecordNow}
@@ -31,7 +29,7 @@ use Rattle.m2_script.specs.m2_center.m2_turn.Connecting.{AtPort, DialsFor, Dials
 use Rattle.m2_script.specs.m2_center.m2_turn.Outbox as out
 use Rattle.m2_script.specs.m2_center.m2_turn.Outbox.{OutboxNow, RetriesFor, held_in, is_free, returned_again}
 use Rattle.m2_script.specs.m2_center.m2_turn.RecordTurn.{Means, TakesStep, Turning, TurnsAs}
-use Rattle.m2_script.specs.m2_center.m2_turn.RecordsTurn.{AllAmid, Amid, Around, DialsAndSteps, EachTurns, TurnsEach, TurnsIf, TurnsOne, amid, at_port, come_to, sides_of, turning_amid}
+use Rattle.m2_script.specs.m2_center.m2_turn.RecordsTurn.{AllAmid, Amid, Around, DialsAndSteps, EachTurns, TurnsEach, TurnsIf, amid, at_port, come_to, sides_of, turning_amid}
 use Rattle.m2_script.specs.m2_center.m2_turn.declared.record_turn.RecordTurn.{RecordTurn}
 use Rattle.m2_script.specs.m2_center.m2_turn.declared.record_turn.RecordTurn.TheVariants as one
 use Rattle.m2_script.specs.m2_center.m2_turn.declared.records_turn.RecordsTurn.TheVariants as turn

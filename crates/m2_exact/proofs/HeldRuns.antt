@@ -1,10 +1,10 @@
 -- At each node of a run in memory the word is what the node holds: before the first deed, and behind each.
-use Rattle.std.proofs.Common.{◌≡◌, ℕ, ◌+◌, List, [], ◌∷◌, length, map, slice_get, slice_set, Option, None, Some, Ok, refl, sym, subst, ◌∙◌, ap, arith}
+use Rattle.std.proofs.Common.{◌≡◌, ℕ, ◌+◌, List, [], ◌∷◌, length, map, slice_get, slice_set, Option, None, Some, Ok, refl, sym, subst, ap, arith}
 use Rattle.std.specs.List.{AllByRecursion}
 use Rattle.std.specs.Option.{option_to_list}
 use Rattle.m2_dispatch.specs.Heard.{Heard, heard_by}
 use Rattle.m2_dispatch.specs.declared.logged.Logged.{Logged}
-use Rattle.m2_dispatch.specs.m2_shared.Throttle.{SeenTakePass, SeenThrottle}
+use Rattle.m2_dispatch.specs.m2_shared.Throttle.{SeenThrottle}
 use Rattle.m2_fabric.proofs.m2_lemmas.Lists.{all_append, all_at, all_by_places, all_of_map}
 use Rattle.m2_fabric.specs.InStep.{Network}
 use Rattle.m2_fabric.specs.SimFabric.{Faults, Flows, Meets}
@@ -15,7 +15,7 @@ use Rattle.m2_script.specs.Made.{new_towards, other_of, over, records_of, roomle
 use Rattle.m2_script.specs.Nodes.{IsNewNode}
 use Rattle.m2_script.specs.Script as script
 use Rattle.m2_script.specs.Script.{Deed, Ends, Happens, IsPassed, RunNow, script_of}
-use Rattle.m2_script.specs.Started.{IsFirst, IsScriptRun}
+use Rattle.m2_script.specs.Started.{IsFirst}
 use Rattle.m2_script.specs.declared.made.Towards.{Towards}
 use Rattle.m2_script.specs.m2_center.Center.{CenterNow}
 use Rattle.m2_script.specs.m2_center.m2_record.Calls.{all_granted}

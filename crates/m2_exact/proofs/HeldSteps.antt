@@ -1,17 +1,15 @@
 -- What is held by a record, behind each of its steps.
-use Rattle.std.proofs.Common.{◌≡◌, ◌&&◌, ◌||◌, not, ℕ, ◌+◌, ◌-◌, ◌++◌, if◌then◌else◌, List, [], ◌∷◌, Bool, true, false, Option, None, Some, Result, Ok, Err, refl, sym, subst, ◌∙◌, ap, arith}
+use Rattle.std.proofs.Common.{◌≡◌, ◌&&◌, ℕ, ◌+◌, ◌-◌, if◌then◌else◌, [], ◌∷◌, Bool, true, false, Option, None, Some, Result, Ok, Err, refl, sym, subst, ◌∙◌, ap, arith}
 use Rattle.std.specs.Prelude.{◌≢◌, IfSome}
 use Rattle.std.specs.Option.{is_some}
 use Rattle.m2_dispatch.specs.declared.parcel.Parcel.{Parcel}
 use Rattle.m2_dispatch.specs.m2_shared.Place.{IsAlone}
-use Rattle.m2_dispatch.specs.m2_shared.Throttle.{SeenGrant}
 use Rattle.m2_fabric.specs.declared.end.EndRead.{EndRead}
 use Rattle.m2_fabric.specs.declared.end.EndRead.TheVariants as read
 use Rattle.m2_fabric.specs.m2_bytes.declared.memory.NoMemory as memory
 use Rattle.m2_script.proofs.m2_center.m2_turn.m2_record.Arriving.{session-sound}
 use Rattle.m2_script.specs.m2_center.m2_core.CoreNow.{CoreNow}
 use Rattle.m2_script.specs.m2_center.m2_core.Counting.{CountsIf, to_count}
-use Rattle.m2_script.specs.m2_center.m2_core.Effects.{tells}
 use Rattle.m2_script.specs.m2_center.m2_core.Front as front
 use Rattle.m2_script.specs.m2_center.m2_core.Front.{FrontHeard, heard_by}
 use Rattle.m2_script.specs.m2_center.m2_core.Granting.{Throttled, after_granted}
@@ -28,7 +26,7 @@ use Rattle.m2_script.specs.m2_center.m2_core.declared.next.CoreNext.{CoreNext}
 use Rattle.m2_script.specs.m2_center.m2_core.declared.next.CoreNext.TheVariants as next
 use Rattle.m2_script.specs.m2_center.m2_core.declared.to_compose.CoreText.{CoreText}
 use Rattle.m2_script.specs.m2_center.m2_core.declared.to_compose.CoreText.TheVariants as text
-use Rattle.m2_script.specs.m2_center.m2_feed.Calls.{is_empty, with_grant}
+use Rattle.m2_script.specs.m2_center.m2_feed.Calls.{is_empty}
 use Rattle.m2_script.specs.m2_center.m2_feed.FeedNow.{FeedNow, Reading, is_framing}
 use Rattle.m2_script.specs.m2_center.m2_feed.Heard.{event_of}
 use Rattle.m2_script.specs.m2_center.m2_feed.declared.answers.FeedWrite.{FeedWrite}
@@ -44,13 +42,12 @@ use Rattle.m2_script.specs.m2_center.m2_feed.m2_journal.declared.facts.PlanStep.
 use Rattle.m2_script.specs.m2_center.m2_feed.m2_session.Phases as phases
 use Rattle.m2_script.specs.m2_center.m2_feed.m2_session.Steps.{step_of}
 use Rattle.m2_script.specs.m2_center.m2_feed.m2_session.Table.{first_that_holds}
-use Rattle.m2_script.specs.m2_center.m2_feed.m2_session.declared.event.Effects.{Effects}
 use Rattle.m2_script.specs.m2_center.m2_feed.m2_session.declared.event.Event.TheVariants as event
 use Rattle.m2_script.specs.m2_center.m2_feed.m2_session.declared.session.Phase.{Phase}
 use Rattle.m2_script.specs.m2_center.m2_feed.m2_session.declared.session.Phase.TheVariants as phase
 use Rattle.m2_script.specs.m2_center.m2_record.Calls.{Breaks, ClosesFor, ComposesAs, CountsResumption, GoesDown, HandsOut, IsSameButRoom, Shakes, Writes, all_granted, fault_put, granted_in, returned_for}
 use Rattle.m2_script.specs.m2_center.m2_record.Due.{due_step, next_step}
-use Rattle.m2_script.specs.m2_center.m2_record.Framing.{AnswersFront, Frames, Greets, Heeds, letter_of, word_framed}
+use Rattle.m2_script.specs.m2_center.m2_record.Framing.{AnswersFront, Frames, Greets, letter_of, word_framed}
 use Rattle.m2_script.specs.m2_center.m2_record.IsRecord.{IsRecord}
 use Rattle.m2_script.specs.m2_center.m2_record.Reading.{CountsAnswer, EndsRead, Reads, answer_by, answer_heard, fault_read, faulted_or}
 use Rattle.m2_script.specs.m2_center.m2_record.RecordNow.{RecordNow}
@@ -70,7 +67,7 @@ use Rattle.m2_exact.proofs.HeldSums as sums
 use Rattle.m2_exact.proofs.HeldSums.{Follows}
 use Rattle.m2_exact.proofs.Leaving as leaving
 use Rattle.m2_exact.proofs.Steps as steps
-use Rattle.m2_exact.specs.Holding.{HoldsRightly, IsHeldRightly, MayHold, held_by}
+use Rattle.m2_exact.specs.Holding.{HoldsRightly, IsHeldRightly, held_by}
 
 -- ---- words
 

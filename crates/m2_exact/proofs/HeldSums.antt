@@ -1,10 +1,10 @@
 -- How a word that says what is held goes along with it, and sums of what is held.
-use Rattle.std.proofs.Common.{◌≡◌, ℕ, zero, suc, ◌+◌, ◌-◌, ◌++◌, List, [], ◌∷◌, slice_get, slice_set, Bool, true, false, Option, None, Some, refl, sym, ◌∙◌, ap, arith}
+use Rattle.std.proofs.Common.{◌≡◌, ℕ, zero, suc, ◌+◌, ◌-◌, ◌++◌, List, [], ◌∷◌, slice_get, slice_set, Bool, true, false, Some, refl, ap, arith}
 use Rattle.std.specs.Prelude.{sum_by}
 use Rattle.std.proofs.lemmas.List.Sums.{sum_by-append, sum_by-cons}
 use Rattle.m2_dispatch.specs.declared.parcel.Parcel.{Parcel}
 use Rattle.m2_fabric.proofs.m2_lemmas.Options.{some_same}
-use Rattle.m2_script.specs.m2_center.m2_record.Calls.{all_granted, granted_in, told_parcels}
+use Rattle.m2_script.specs.m2_center.m2_record.Calls.{all_granted, told_parcels}
 
 -- ---- a word beside what is held
 

@@ -1,5 +1,5 @@
 -- What is held by a record and where its parcels go, behind its turn.
-use Rattle.std.proofs.Common.{◌≡◌, ℕ, ◌+◌, ◌-◌, ◌<◌, ◌&&◌, ◌++◌, List, [], ◌∷◌, length, Bool, true, false, Option, None, Some, refl, sym, subst, ◌∙◌, ap, arith}
+use Rattle.std.proofs.Common.{◌≡◌, ℕ, ◌+◌, ◌&&◌, List, [], ◌∷◌, length, Bool, true, false, Option, None, Some, refl, subst, ◌∙◌, ap, arith}
 use Rattle.std.specs.Prelude.{◌≢◌, nat_lt}
 use Rattle.std.specs.Option.{is_none}
 use Rattle.m2_dispatch.specs.Heard.{Heard}
@@ -11,7 +11,6 @@ use Rattle.m2_dispatch.specs.m2_policy.declared.path.Path.TheVariants.{Fast, Que
 use Rattle.m2_dispatch.specs.m2_shared.Place.{IsAlone}
 use Rattle.m2_dispatch.specs.m2_shared.Throttle.{SeenTakePass, SeenThrottle}
 use Rattle.m2_script.specs.m2_center.m2_record.Calls.{all_granted, granted_in}
-use Rattle.m2_script.specs.m2_center.m2_record.RecordNow.{RecordNow}
 use Rattle.m2_script.specs.m2_center.m2_record.declared.stepped.Stepped.{Stepped}
 use Rattle.m2_script.specs.m2_center.m2_record.declared.stepped.Stepped.TheVariants as stepped
 use Rattle.m2_script.specs.m2_center.m2_turn.Outbox as out
