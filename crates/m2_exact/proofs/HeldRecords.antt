@@ -1,5 +1,5 @@
 -- What is held by a center's records and where their parcels go, behind the turn of all.
-use Rattle.std.proofs.Common.{◌≡◌, ◌&&◌, ◌||◌, ℕ, ◌+◌, ◌-◌, ◌++◌, if◌then◌else◌, List, [], ◌∷◌, Bool, true, false, Option, None, Some, Result, Ok, Err, inl, inr, refl, sym, subst, ◌∙◌, ap, arith}
+use Rattle.std.proofs.Common.{◌≡◌, ◌&&◌, ◌||◌, ℕ, ◌+◌, ◌-◌, ◌++◌, List, [], ◌∷◌, Bool, true, false, Option, None, Some, Result, Ok, Err, inl, inr, refl, sym, subst, ◌∙◌, ap, arith}
 use Rattle.std.specs.Prelude.{◌≢◌, ◌⊎◌, IfSome, IsSome, nat_le}
 use Rattle.std.specs.List.{AllByRecursion}
 use Rattle.m2_dispatch.specs.Heard.{Heard}
@@ -10,6 +10,7 @@ use Rattle.m2_fabric.specs.End.{SeenEnd}
 use Rattle.m2_fabric.specs.declared.port.Connect.{Connect}
 use Rattle.m2_fabric.specs.declared.port.Connect.TheVariants as connect
 use Rattle.m2_fabric.specs.m2_bytes.declared.memory.NoMemory as memory
+use Rattle.m2_script.proofs.m2_center.m2_turn.m2_record.DueSteps.{due-holds}
 use Rattle.m2_script.specs.m2_center.m2_core.CoreNow.{may_dial}
 use Rattle.m2_script.specs.m2_center.m2_core.LiveNow.{is_ready}
 use Rattle.m2_script.specs.m2_center.m2_feed.FeedNow.{FeedNow}
@@ -20,7 +21,7 @@ use Rattle.m2_script.specs.m2_center.m2_feed.m2_session.declared.session.Phase.{
 use Rattle.m2_script.specs.m2_center.m2_feed.m2_session.declared.session.Phase.TheVariants as phase
 use Rattle.m2_script.specs.m2_center.m2_record.Calls.{Connects, all_granted, with_opened}
 use Rattle.m2_script.specs.m2_center.m2_core.Calls.{IsOpening}
-use Rattle.m2_script.specs.m2_center.m2_record.Due.{due_step, has_frame, has_parcel, has_plan, may_compose, may_connect, may_read, may_write}
+use Rattle.m2_script.specs.m2_center.m2_record.Due.{due_step}
 use Rattle.m2_script.specs.m2_center.m2_record.RecordNow.{RecordNow}
 use Rattle.m2_script.specs.m2_center.m2_record.declared.due.Due.{Due}
 use Rattle.m2_script.specs.m2_center.m2_record.declared.due.Due.TheVariants as due
@@ -44,24 +45,12 @@ use Rattle.m2_exact.specs.Holding.{HoldsRightly, held_by, held_by_all}
 
 -- ---- a connect
 
-connect_due : (a b c d e f g : Bool) (at to : ℕ) →
-    (if a then due.Plan else (if b then due.Hand else (if c then due.Connect at else (if d then due.Write else (if e then due.Frame else (if f then due.Read else (if g then due.Compose else due.Nothing)))))))
-    ≡ due.Connect to → c ≡ true
-connect_due true b c d e f g at to h = absurd (cc h)
-connect_due false true c d e f g at to h = absurd (cc h)
-connect_due false false true d e f g at to h = refl
-connect_due false false false true e f g at to h = absurd (cc h)
-connect_due false false false false true f g at to h = absurd (cc h)
-connect_due false false false false false true g at to h = absurd (cc h)
-connect_due false false false false false false true at to h = absurd (cc h)
-connect_due false false false false false false false at to h = absurd (cc h)
-
 -- it is due outside Ready
 dials_idle : (now : ℕ) (r : RecordNow) (to : ℕ) → due_step now r ≡ due.Connect to → is_ready r.core.live ≡ false
 dials_idle now r to h =
     rests r.core.live.session.phase _ _
     (first (may_dial r.core) (nat_le r.waits.next_dial now)
-    (connect_due (has_plan r) (has_parcel r.parcels) (may_connect now r) (may_write r) (has_frame r) (may_read r) (may_compose r) r.waits.next_dial to h))
+    (due-holds now r (due.Connect to) h))
   where
     first : (a b : Bool) → (a && b) ≡ true → a ≡ true
     first true b h = refl

@@ -1,7 +1,6 @@
 -- What is held by a record and where its parcels go, behind its turn.
-use Rattle.std.proofs.Common.{◌≡◌, ℕ, ◌+◌, ◌&&◌, List, [], ◌∷◌, length, Bool, true, false, Option, None, Some, refl, subst, ◌∙◌, ap, arith}
-use Rattle.std.specs.Prelude.{◌≢◌, nat_lt}
-use Rattle.std.specs.Option.{is_none}
+use Rattle.std.proofs.Common.{◌≡◌, ℕ, ◌+◌, List, [], ◌∷◌, Option, None, Some, refl, subst, ◌∙◌, ap, arith}
+use Rattle.std.specs.Prelude.{◌≢◌}
 use Rattle.m2_dispatch.specs.Heard.{Heard}
 use Rattle.m2_dispatch.specs.declared.letter.Letter.{Letter}
 use Rattle.m2_dispatch.specs.declared.parcel.Parcel.{Parcel}
@@ -16,13 +15,13 @@ use Rattle.m2_script.specs.m2_center.m2_record.declared.stepped.Stepped.TheVaria
 use Rattle.m2_script.specs.m2_center.m2_turn.Outbox as out
 use Rattle.m2_script.specs.m2_center.m2_turn.Outbox.{DispatchesOr, OutboxNow, Puts, PutsLetter, held_in, is_free, returned, returned_for, returned_on}
 use Rattle.m2_script.specs.m2_center.m2_turn.RecordTurn.{EndsBy, EndsWith, GivesHanded, LeadsOn, LedOn, Means, PutsHanded, Steps, TakesStep, Turning, TurnsAs, worked_by}
-use Rattle.m2_script.specs.m2_center.m2_turn.declared.outbox.TheConstants.{MOST_MAIL}
 use Rattle.m2_script.specs.m2_center.m2_turn.declared.record_turn.RecordTurn.{RecordTurn}
 use Rattle.m2_script.specs.m2_center.m2_turn.declared.record_turn.RecordTurn.TheVariants as turn
 use Rattle.m2_exact.proofs.HeldSteps as steps
 use Rattle.m2_exact.proofs.HeldSteps.{handed_by}
 use Rattle.m2_exact.proofs.HeldSums as sums
 use Rattle.m2_exact.proofs.HeldSums.{Follows}
+use Rattle.m2_exact.proofs.RecordTurns.{free_holds_none}
 use Rattle.m2_exact.specs.Holding.{HoldsRightly, held_by}
 
 -- ---- words
@@ -91,24 +90,13 @@ module _ {D : Type 0} (heard : D → List Heard) where
   handed t (stepped.Faulted _) o new before behind alone none h g = kept_out o new before behind h g
   handed t stepped.NoMemory o new before behind alone none h g = kept_out o new before behind h g
 
-  free_holds_none : (o : OutboxNow D) → is_free o ≡ true → o.held ≡ None
-  free_holds_none o h = by o.held (first (is_none o.held) (nat_lt (length o.mail) MOST_MAIL) h)
-    where
-      first : (a b : Bool) → (a && b) ≡ true → a ≡ true
-      first true b h = refl
-      first false b h = absurd (cc h)
-
-      by : (l : Option Letter) → is_none l ≡ true → l ≡ None
-      by None h = refl
-      by (Some l) h = absurd (cc h)
-
   module _ (m : Means) (alone : IsAlone m.throttle.place) where
     -- ---- one step
 
     stepped_on : (a : Stepped) (old new : Turning D) → HoldsRightly old.side → a ≢ stepped.NoMemory → TakesStep heard m a old new → Turns old new
     stepped_on a old new r k h =
         let one = steps.steps_on (worked_by m a h.behind old new) old.side new.side alone h.before r k h.steps in
-        let other = handed m.throttle a old.out new.out h.behind new.bytes alone (free_holds_none old.out h.free) h.puts h.gives in
+        let other = handed m.throttle a old.out new.out h.behind new.bytes alone (free_holds_none heard old.out h.free) h.puts h.gives in
         record {
           word = λ rest e.
               (let first = one.word (out.granted_in old.out + rest) (omega (arith, e)) in
