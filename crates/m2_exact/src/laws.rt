@@ -1,6 +1,7 @@
 //! What two calls of one thing, or of two that are alike, have in common where only memory may be wanted: a read or a
 //! write of what stands on an end in memory, a move of a half, an answer of a handshake, which has no end, each call of a
-//! record, each part of a center's turn, and that turn. Each function has an empty body: its contract is the law.
+//! record, each part of a center's turn, and that turn. And that a throttle's word is what its node holds. Each function has an
+//! empty body: its contract is the law.
 
 ghost use Rattle.m2_exact.specs.Accepts as accepts;
 ghost use Rattle.m2_exact.specs.Advances as advances;
