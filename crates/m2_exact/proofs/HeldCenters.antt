@@ -39,7 +39,7 @@ use Rattle.m2_exact.proofs.HeldSteps.{Less}
 use Rattle.m2_exact.proofs.HeldSums as sums
 use Rattle.m2_exact.proofs.HeldSums.{Follows}
 use Rattle.m2_exact.proofs.Lists.{all_like, all_set, heads}
-use Rattle.m2_exact.specs.Holding.{CentersHoldTheirWords, HoldsItsWord, HoldsRightly, IsHeldRightly, LacksInStep, NodeHoldsItsWord, held_by, held_by_all, held_in}
+use Rattle.m2_exact.specs.Holding.{CentersHoldTheirWords, HoldsItsWord, HoldsRightly, IsHeldRightly, LacksInStep, NodeHoldsItsWord, held_in_record, held_in_records, held_in_center}
 
 -- ---- the parts of a turn
 
@@ -73,25 +73,25 @@ module _ {D : Type 0} (E : Type 0) (heard : D → List Heard) (m : Means) (alone
   empties_mail : (result : Mailed) (old new : CenterNow D) → HoldsItsWord old → EmptiesMail heard m result old new → HoldsItsWord new
   empties_mail result old new r h =
       let goes = mails.mails heard m.throttle.place alone result (mailing_in old) (mailing_in new) h.mails in
-      let same = ap (λ (c : CenterNow D). held_by_all c.records) h.only in
+      let same = ap (λ (c : CenterNow D). held_in_records c.records) h.only in
       let was = r.word in
       record {
-        word = let word = goes (held_by_all old.records) (omega (arith, was)) in omega (arith, word, same);
+        word = let word = goes (held_in_records old.records) (omega (arith, was)) in omega (arith, word, same);
         records = subst (λ (c : CenterNow D). AllByRecursion HoldsRightly c.records) (sym h.only) r.records;
       }
 
   -- where memory ran out in the turn of the records
-  stops_records : (old new : CenterNow D) → HoldsItsWord old → TurnsRecords heard m records.NoMemory old new → (new.bytes.word ≡ held_in new) ⊎ LacksInStep heard m new
+  stops_records : (old new : CenterNow D) → HoldsItsWord old → TurnsRecords heard m records.NoMemory old new → (new.bytes.word ≡ held_in_center new) ⊎ LacksInStep heard m new
   stops_records old new r h = by (all.all_stop heard m alone (all_amid_in old) (all_amid_in new) r.records h.turns)
     where
       queued : granted new.queued.waiting ≡ granted old.queued.waiting
       queued = ap (λ (c : CenterNow D). granted c.queued.waiting) h.only
 
-      held : (word : ℕ) → Follows old.bytes.word word (held_by_all old.records + out.granted_in old.out) (held_by_all new.records + out.granted_in new.out) → word ≡ held_in new
+      held : (word : ℕ) → Follows old.bytes.word word (held_in_records old.records + out.granted_in old.out) (held_in_records new.records + out.granted_in new.out) → word ≡ held_in_center new
       held word f = let was = r.word in let is = f (granted old.queued.waiting) (omega (arith, was)) in let same = queued in omega (arith, is, same)
 
-      by : Follows old.bytes.word new.bytes.word (held_by_all old.records + out.granted_in old.out) (held_by_all new.records + out.granted_in new.out) ⊎ all.StopsAll heard m alone (all_amid_in old) (all_amid_in new) →
-          (new.bytes.word ≡ held_in new) ⊎ LacksInStep heard m new
+      by : Follows old.bytes.word new.bytes.word (held_in_records old.records + out.granted_in old.out) (held_in_records new.records + out.granted_in new.out) ⊎ all.StopsAll heard m alone (all_amid_in old) (all_amid_in new) →
+          (new.bytes.word ≡ held_in_center new) ⊎ LacksInStep heard m new
       by (inl f) = inl (held new.bytes.word f)
       by (inr s) = inr (record { mid = s.mid; side = s.side; takes = s.takes; held = held s.mid.bytes.word s.word })
 
@@ -114,7 +114,7 @@ module _ {D : Type 0} (E : Type 0) (heard : D → List Heard) (m : Means) (alone
   third : (old new : CenterNow D) → HoldsItsWord old → StepsSo heard m (Ok tt) old new → HoldsItsWord new
   third old new r (result, is, h) = turns_records old new r (subst (λ (x : RecordsTurn). TurnsRecords heard m x old new) (found result is) h)
 
-  third_lacks : (e : memory.NoMemory) (old new : CenterNow D) → HoldsItsWord old → StepsSo heard m (Err e) old new → (new.bytes.word ≡ held_in new) ⊎ LacksInStep heard m new
+  third_lacks : (e : memory.NoMemory) (old new : CenterNow D) → HoldsItsWord old → StepsSo heard m (Err e) old new → (new.bytes.word ≡ held_in_center new) ⊎ LacksInStep heard m new
   third_lacks e old new r (result, is, h) = stops_records old new r (subst (λ (x : RecordsTurn). TurnsRecords heard m x old new) (lacked e result is) h)
 
   fourth : (a : center.Answer) (old new : CenterNow D) → HoldsItsWord old → DeliversSo heard m a old new → HoldsItsWord new
@@ -124,7 +124,7 @@ module _ {D : Type 0} (E : Type 0) (heard : D → List Heard) (m : Means) (alone
   turn old new r (one, a, (two, b, (three, c, d))) =
       fourth (Ok tt) three new (third two three (second (Ok tt) one two (first (Ok tt) old one r a) b) c) d
 
-  pub turn_lacks : (e : memory.NoMemory) (old new : CenterNow D) → HoldsItsWord old → TakesTurn E heard m (Err e) old new → (new.bytes.word ≡ held_in new) ⊎ LacksInStep heard m new
+  pub turn_lacks : (e : memory.NoMemory) (old new : CenterNow D) → HoldsItsWord old → TakesTurn E heard m (Err e) old new → (new.bytes.word ≡ held_in_center new) ⊎ LacksInStep heard m new
   turn_lacks e old new r (inl a) = inl (first (Err e) old new r a).word
   turn_lacks e old new r (inr (one, a, inl b)) = inl (second (Err e) one new (first (Ok tt) old one r a) b).word
   turn_lacks e old new r (inr (one, a, inr (two, b, inl c))) = third_lacks e two new (second (Ok tt) one two (first (Ok tt) old one r a) b) c
@@ -145,11 +145,11 @@ module _ {D : Type 0} where
       let before : HoldsRightly h.before = all_at HoldsRightly old.records h.place h.before h.side r.records in
       let less : Less (returned_by (Some x) (planned_too x mid)) (planned_too x mid) h.behind =
       steps.plans (Some x) (Ok tt) now (planned_too x mid) h.behind (steps.by HoldsRightly mid _ h.plans.room before) h.plans.takes in
-      let same : held_by mid ≡ held_by h.before = ap held_by h.plans.room in
+      let same : held_in_record mid ≡ held_in_record h.before = ap held_in_record h.plans.room in
       let back = returned_same x h.before mid h.plans.room in
-      let set = sums.sum_set held_by old.records h.place h.before h.behind h.side in
-      let has = sums.sum_has held_by old.records h.place h.before h.side in
-      let held : held_in new ≡ held_by_all (slice_set old.records h.place h.behind) + (out.granted_in old.out + granted old.queued.waiting) = ap held_in h.only in
+      let set = sums.sum_set held_in_record old.records h.place h.before h.behind h.side in
+      let has = sums.sum_has held_in_record old.records h.place h.before h.side in
+      let held : held_in_center new ≡ held_in_records (slice_set old.records h.place h.behind) + (out.granted_in old.out + granted old.queued.waiting) = ap held_in_center h.only in
       record {
         word =
             let amount = less.amount in
@@ -180,16 +180,16 @@ told_rightly r s same h =
     (cores.kept r.core.facts r.core.live s.core.live (sym (ap (λ (z : RecordNow). z.core.live.granted) same)) (sym (ap (λ (z : RecordNow). z.core.live.session) same))
     (sym (told_feed s.core.live.feed) ∙ sym (ap (λ (z : RecordNow). is_granted_on z.core.live.feed) same) ∙ told_feed r.core.live.feed) h)
 
-told_sum : (rs ss : List RecordNow) → map untold_record rs ≡ map untold_record ss → held_by_all rs ≡ held_by_all ss
+told_sum : (rs ss : List RecordNow) → map untold_record rs ≡ map untold_record ss → held_in_records rs ≡ held_in_records ss
 told_sum [] [] same = refl
 told_sum [] (s ∷ ss) same = absurd (cc same)
 told_sum (r ∷ rs) [] same = absurd (cc same)
 told_sum (r ∷ rs) (s ∷ ss) same =
     let both = heads (untold_record r) (untold_record s) (map untold_record rs) (map untold_record ss) same in
-    let here : held_by r ≡ held_by s = ap held_by both.0 in
+    let here : held_in_record r ≡ held_in_record s = ap held_in_record both.0 in
     let rest = told_sum rs ss both.1 in
-    let one = sums.sum_first held_by r rs in
-    let other = sums.sum_first held_by s ss in
+    let one = sums.sum_first held_in_record r rs in
+    let other = sums.sum_first held_in_record s ss in
     omega (arith, here, rest, one, other)
 
 module _ {D : Type 0} where

@@ -19,11 +19,11 @@ use Rattle.m2_exact.proofs.HeldJudged as judging
 use Rattle.m2_exact.proofs.HeldSums as sums
 use Rattle.m2_exact.proofs.HeldSums.{Follows}
 use Rattle.m2_exact.proofs.Lists.{all_set}
-use Rattle.m2_exact.specs.Holding.{HoldsRightly, held_by, held_by_all}
+use Rattle.m2_exact.specs.Holding.{HoldsRightly, held_in_record, held_in_records}
 
 -- the word goes along with what the records hold, each rightly
 pub record Goes (old new : Homes) : Type 0 where
-  pub word : Follows old.bytes.word new.bytes.word (held_by_all old.records) (held_by_all new.records)
+  pub word : Follows old.bytes.word new.bytes.word (held_in_records old.records) (held_in_records new.records)
   pub right : AllByRecursion HoldsRightly new.records
 
 abbrev Holds : Homes → Type 0
@@ -34,7 +34,7 @@ stays old new r e = subst (Goes old) (sym e) (record { word = λ rest h. h; righ
 
 along : (old mid new : Homes) → Goes old mid → Goes mid new → Goes old new
 along old mid new h g = record {
-  word = sums.along old.bytes.word mid.bytes.word new.bytes.word (held_by_all old.records) (held_by_all mid.records) (held_by_all new.records) h.word g.word;
+  word = sums.along old.bytes.word mid.bytes.word new.bytes.word (held_in_records old.records) (held_in_records mid.records) (held_in_records new.records) h.word g.word;
   right = g.right;
 }
 
@@ -53,9 +53,9 @@ module _ (E : Type 0) (m : Means) (alone : IsAlone m.throttle.place) where
       let one = judging.answered m alone answer a (judging_in h.before old) (judging_in h.behind new) has (all_at HoldsRightly old.records n h.before h.side r) h.answers in
       record {
         word = λ rest e.
-            (let set = sums.sum_set held_by old.records n h.before h.behind h.side in
-            let is = ap held_by_all h.records in
-            let was = sums.sum_has held_by old.records n h.before h.side in
+            (let set = sums.sum_set held_in_record old.records n h.before h.behind h.side in
+            let is = ap held_in_records h.records in
+            let was = sums.sum_has held_in_record old.records n h.before h.side in
             let word = one.word (was.0 + rest) (let amount = was.1 in omega (arith, amount, e)) in
             let amount = was.1 in
             omega (arith, set, is, word, amount));

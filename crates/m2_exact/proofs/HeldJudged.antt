@@ -62,7 +62,7 @@ use Rattle.m2_exact.proofs.HeldSteps as steps
 use Rattle.m2_exact.proofs.HeldSteps.{Less}
 use Rattle.m2_exact.proofs.HeldSums as sums
 use Rattle.m2_exact.proofs.HeldSums.{Follows}
-use Rattle.m2_exact.specs.Holding.{HoldsRightly, IsHeldRightly, MayHold, held_by}
+use Rattle.m2_exact.specs.Holding.{HoldsRightly, IsHeldRightly, MayHold, held_in_record}
 
 -- ---- what the session is told of an answer
 
@@ -257,12 +257,12 @@ has_ask a h = record { ask = h.ask; in_hand = h.in_hand; cookie = by h.ask last 
 
 -- the word goes along with what the record holds, rightly
 pub record Goes (old new : Judging) : Type 0 where
-  pub word : Follows old.bytes.word new.bytes.word (held_by old.side) (held_by new.side)
+  pub word : Follows old.bytes.word new.bytes.word (held_in_record old.side) (held_in_record new.side)
   pub right : HoldsRightly new.side
 
 itself : (old new : Judging) → HoldsRightly old.side → new.side ≡ old.side → new.bytes ≡ old.bytes → Goes old new
 itself old new r side bytes = record {
-  word = sums.stays old.bytes.word new.bytes.word (held_by old.side) (held_by new.side) (ap (λ (p : SeenTakePass). p.word) bytes) (ap held_by side);
+  word = sums.stays old.bytes.word new.bytes.word (held_in_record old.side) (held_in_record new.side) (ap (λ (p : SeenTakePass). p.word) bytes) (ap held_in_record side);
   right = subst HoldsRightly (sym side) r;
 }
 
@@ -274,7 +274,7 @@ module _ (m : Means) (alone : IsAlone m.throttle.place) where
   judges_one j a old new has r h =
       let less = judges j a m.now (facts_of_ask has.ask) h.number old.side new.side has.cookie r
       (subst (λ (o : Option Ask). IfSome o (λ ask. JudgesAs j (verdict_on (facts_of_ask ask) h.number old.side.core.live) a m.now old.side new.side)) has.in_hand h.judges) in
-      record { word = sums.given (given_back j old.side.core.live.granted) old.bytes.word new.bytes.word (held_by old.side) (held_by new.side) (h.gives alone) less.amount; right = less.right }
+      record { word = sums.given (given_back j old.side.core.live.granted) old.bytes.word new.bytes.word (held_in_record old.side) (held_in_record new.side) (h.gives alone) less.amount; right = less.right }
 
   owes_then : {E : Type 0} (result : HalfAnswered E) (a : IncomingNow) (old new : Judging) → HasAsk a → HoldsRightly old.side → OwesThen result a m old new → Goes old new
   owes_then {E} result a old new has r (arrival, (given, h), replies) = judges_one {E = E} (judged.Back given arrival) a old new has r h

@@ -41,7 +41,7 @@ use Rattle.m2_exact.proofs.HeldSums as sums
 use Rattle.m2_exact.proofs.HeldSums.{Follows}
 use Rattle.m2_exact.proofs.HeldTurns as turns
 use Rattle.m2_exact.proofs.HeldTurns.{Turns, held_turning}
-use Rattle.m2_exact.specs.Holding.{HoldsRightly, held_by, held_by_all}
+use Rattle.m2_exact.specs.Holding.{HoldsRightly, held_in_record, held_in_records}
 
 -- ---- a connect
 
@@ -120,7 +120,7 @@ lacks_memory (one.Faulted f) e = absurd (cc e)
 
 -- by all records, and where parcels go
 abbrev pub held_amid : {D : Type 0} → List RecordNow → Around D → ℕ
-held_amid rs a = held_by_all rs + out.granted_in a.out
+held_amid rs a = held_in_records rs + out.granted_in a.out
 
 -- the word goes along with what is held by these records and by all that is around them, and each holds rightly
 pub record Goes {D : Type 0} (was : List RecordNow) (old : Around D) (is : List RecordNow) (new : Around D) : Type 0 where
@@ -132,7 +132,7 @@ module _ {D : Type 0} (heard : D → List Heard) (m : Means) (alone : IsAlone m.
 
   -- the same of one
   record GoesOne (old new : Amid D) : Type 0 where
-    pub word : Follows old.around.bytes.word new.around.bytes.word (held_by old.side + out.granted_in old.around.out) (held_by new.side + out.granted_in new.around.out)
+    pub word : Follows old.around.bytes.word new.around.bytes.word (held_in_record old.side + out.granted_in old.around.out) (held_in_record new.side + out.granted_in new.around.out)
     pub right : HoldsRightly new.side
 
   dials_and_steps : (old new : Amid D) → HoldsRightly old.side → DialsAndSteps heard m turn.Done old new → GoesOne old new
@@ -149,7 +149,7 @@ module _ {D : Type 0} (heard : D → List Heard) (m : Means) (alone : IsAlone m.
   record StopsOne (old new : Amid D) : Type 0 where
     pub mid : Turning D
     pub takes : TakesStep heard m stepped.NoMemory mid (turning_amid new.side new.around)
-    pub word : Follows old.around.bytes.word mid.bytes.word (held_by old.side + out.granted_in old.around.out) (held_by new.side + out.granted_in new.around.out)
+    pub word : Follows old.around.bytes.word mid.bytes.word (held_in_record old.side + out.granted_in old.around.out) (held_in_record new.side + out.granted_in new.around.out)
 
   stops_in_step : (old new : Amid D) → HoldsRightly old.side → DialsAndSteps heard m turn.NoMemory old new → StopsOne old new
   stops_in_step old new r h =
@@ -159,7 +159,7 @@ module _ {D : Type 0} (heard : D → List Heard) (m : Means) (alone : IsAlone m.
       record { mid = second.mid; takes = second.takes; word = λ rest e. (let amount = first.amount in second.word rest (omega (arith, amount, e))) }
 
   stops_if : (free : Bool) (old new : Amid D) → HoldsRightly old.side → TurnsIf free heard m turn.NoMemory old new →
-      Follows old.around.bytes.word new.around.bytes.word (held_by old.side + out.granted_in old.around.out) (held_by new.side + out.granted_in new.around.out) ⊎ StopsOne old new
+      Follows old.around.bytes.word new.around.bytes.word (held_in_record old.side + out.granted_in old.around.out) (held_in_record new.side + out.granted_in new.around.out) ⊎ StopsOne old new
   stops_if true old new r (inl h) =
       let side = (dials (Err (record {})) m.now (at_port old) (at_port new) r h.dials).amount in
       let word = ap (λ (x : Around D). x.bytes.word) h.only in
@@ -180,12 +180,12 @@ module _ {D : Type 0} (heard : D → List Heard) (m : Means) (alone : IsAlone m.
   each (s ∷ rs) (x ∷ xs) a new r (h, rest) =
       let here = turns_if (is_free a.out) (amid s a) x r.0 h in
       let others = each rs xs x.around new r.1 rest in
-      let was = sums.sum_first held_by s rs in
-      let is = sums.sum_first held_by x.side (sides_of xs) in
+      let was = sums.sum_first held_in_record s rs in
+      let is = sums.sum_first held_in_record x.side (sides_of xs) in
       record {
         word = λ k e.
-            (let first = here.word (held_by_all rs + k) (omega (arith, was, e)) in
-            let second = others.word (held_by x.side + k) (omega (arith, first)) in
+            (let first = here.word (held_in_records rs + k) (omega (arith, was, e)) in
+            let second = others.word (held_in_record x.side + k) (omega (arith, first)) in
             omega (arith, is, second));
         right = (here.right, others.right);
       }
@@ -238,19 +238,19 @@ module _ {D : Type 0} (heard : D → List Heard) (m : Means) (alone : IsAlone m.
       those = each h.turns.before h.turns.stood h.retried h.turns.mid (all_front HoldsRightly h.turns.before (h.turns.at ∷ h.turns.rest) split) h.turns.turns
 
       -- up to the record at which it stops, and that one
-      joined : (word : ℕ) → Follows h.turns.mid.bytes.word word (held_by h.turns.at + out.granted_in h.turns.mid.out) (held_by h.turns.left + out.granted_in new.around.out) →
+      joined : (word : ℕ) → Follows h.turns.mid.bytes.word word (held_in_record h.turns.at + out.granted_in h.turns.mid.out) (held_in_record h.turns.left + out.granted_in new.around.out) →
           Follows old.around.bytes.word word (held_amid old.records old.around) (held_amid new.records new.around)
       joined word last rest e =
-          let was = ap held_by_all h.turns.split ∙ sums.sum_behind held_by h.turns.before (h.turns.at ∷ h.turns.rest) in
-          let at = sums.sum_first held_by h.turns.at h.turns.rest in
-          let is = ap held_by_all h.turns.records ∙ sums.sum_behind held_by (sides_of h.turns.stood) (h.turns.left ∷ h.turns.rest) in
-          let left = sums.sum_first held_by h.turns.left h.turns.rest in
+          let was = ap held_in_records h.turns.split ∙ sums.sum_behind held_in_record h.turns.before (h.turns.at ∷ h.turns.rest) in
+          let at = sums.sum_first held_in_record h.turns.at h.turns.rest in
+          let is = ap held_in_records h.turns.records ∙ sums.sum_behind held_in_record (sides_of h.turns.stood) (h.turns.left ∷ h.turns.rest) in
+          let left = sums.sum_first held_in_record h.turns.left h.turns.rest in
           let one = first rest e in
-          let two = those.word (held_by h.turns.at + held_by_all h.turns.rest + rest) (omega (arith, was, at, one)) in
-          let three = last (held_by_all (sides_of h.turns.stood) + held_by_all h.turns.rest + rest) (omega (arith, two)) in
+          let two = those.word (held_in_record h.turns.at + held_in_records h.turns.rest + rest) (omega (arith, was, at, one)) in
+          let three = last (held_in_records (sides_of h.turns.stood) + held_in_records h.turns.rest + rest) (omega (arith, two)) in
           omega (arith, is, left, three)
 
-      by_stop : Follows h.turns.mid.bytes.word new.around.bytes.word (held_by h.turns.at + out.granted_in h.turns.mid.out) (held_by h.turns.left + out.granted_in new.around.out) ⊎
+      by_stop : Follows h.turns.mid.bytes.word new.around.bytes.word (held_in_record h.turns.at + out.granted_in h.turns.mid.out) (held_in_record h.turns.left + out.granted_in new.around.out) ⊎
           StopsOne (amid h.turns.at h.turns.mid) (amid h.turns.left new.around) → Follows old.around.bytes.word new.around.bytes.word (held_amid old.records old.around) (held_amid new.records new.around) ⊎ StopsAll old new
       by_stop (inl last) = inl (joined new.around.bytes.word last)
       by_stop (inr stop) = inr (record { mid = stop.mid; side = h.turns.left; takes = stop.takes; word = joined stop.mid.bytes.word stop.word })

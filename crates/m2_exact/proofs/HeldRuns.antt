@@ -26,7 +26,7 @@ use Rattle.m2_exact.proofs.HeldCenters as nodes
 use Rattle.m2_exact.proofs.HeldCores as cores
 use Rattle.m2_exact.proofs.HeldSums as sums
 use Rattle.m2_exact.proofs.Lists.{all_set, heads, there_too}
-use Rattle.m2_exact.specs.Holding.{HoldsRightly, NodeHoldsItsWord, NodesHoldTheirWords, RunsHoldTheirWords, WordsStayHeld, held_by, held_by_all, held_in}
+use Rattle.m2_exact.specs.Holding.{HoldsRightly, NodeHoldsItsWord, NodesHoldTheirWords, RunsHoldTheirWords, WordsStayHeld, held_in_record, held_in_records, held_in_center}
 
 -- ---- the beginning
 
@@ -48,11 +48,11 @@ made_idle nodes number word [] = tt
 made_idle nodes number word (l ∷ ls) =
     all_append IsIdle (option_to_list (over nodes number word (other_of number l))) (records_of nodes ls number word) (over_idle nodes number word (other_of number l)) (made_idle nodes number word ls)
 
-none_held : (rs : List RecordNow) → AllByRecursion IsIdle rs → held_by_all rs ≡ 0
+none_held : (rs : List RecordNow) → AllByRecursion IsIdle rs → held_in_records rs ≡ 0
 none_held [] h = refl
 none_held (r ∷ rs) (h, more) =
-    let first = sums.sum_first held_by r rs in
-    let granted = ap (λ o. held_by (record r { core = record r.core { live = record r.core.live { granted = o } } })) h.0 in
+    let first = sums.sum_first held_in_record r rs in
+    let granted = ap (λ o. held_in_record (record r { core = record r.core { live = record r.core.live { granted = o } } })) h.0 in
     let parcels = ap all_granted h.1 in
     let rest = none_held rs more in
     omega (arith, first, granted, parcels, rest)
@@ -72,7 +72,7 @@ first_hold nodes links lines s h = all_by_places NodeHoldsItsWord s.cluster.node
           center = record {
             word =
                 let word = ap (λ (c : CenterNow (List Logged)). c.bytes.word) new.center in
-                let held = ap held_in new.center in
+                let held = ap held_in_center new.center in
                 let none = none_held new.records idle in
                 omega (arith, word, held, none);
             records = subst (AllByRecursion HoldsRightly) (sym (ap (λ (c : CenterNow (List Logged)). c.records) new.center)) (all_rightly new.records idle);

@@ -67,13 +67,13 @@ use Rattle.m2_exact.proofs.HeldSums as sums
 use Rattle.m2_exact.proofs.HeldSums.{Follows}
 use Rattle.m2_exact.proofs.Leaving as leaving
 use Rattle.m2_exact.proofs.Steps as steps
-use Rattle.m2_exact.specs.Holding.{HoldsRightly, IsHeldRightly, held_by}
+use Rattle.m2_exact.specs.Holding.{HoldsRightly, IsHeldRightly, held_in_record}
 
 -- ---- words
 
 -- so many bytes less are held, rightly
 pub record Less (n : ℕ) (old new : RecordNow) : Type 0 where
-  pub amount : held_by new + n ≡ held_by old
+  pub amount : held_in_record new + n ≡ held_in_record old
   pub right : HoldsRightly new
 
 -- a record that is as it was, but for what isn't held by it
@@ -88,7 +88,7 @@ pub record IsLike (old new : RecordNow) : Type 0 where
 pub by : (P : RecordNow → Type 0) (new x : RecordNow) → new ≡ x → P x → P new
 by P new x e p = subst P (sym e) p
 
-pub no_less : (old new : RecordNow) → new.core.live.granted ≡ old.core.live.granted → all_granted new.parcels ≡ all_granted old.parcels → held_by new + 0 ≡ held_by old
+pub no_less : (old new : RecordNow) → new.core.live.granted ≡ old.core.live.granted → all_granted new.parcels ≡ all_granted old.parcels → held_in_record new + 0 ≡ held_in_record old
 no_less old new g p = let e = ap live.held g in omega (arith, e, p)
 
 pub like : (old new : RecordNow) → HoldsRightly old → IsLike old new → Less 0 old new
@@ -401,11 +401,11 @@ granted_now t c new sound r h =
 
 -- the word goes along with what is held, rightly
 pub record Goes (before behind : ℕ) (old new : RecordNow) : Type 0 where
-  pub word : Follows before behind (held_by old) (held_by new)
+  pub word : Follows before behind (held_in_record old) (held_in_record new)
   pub right : HoldsRightly new
 
 by_less : (n before behind : ℕ) (old new : RecordNow) → behind ≡ before - n → Less n old new → Goes before behind old new
-by_less n before behind old new w h = record { word = sums.given n before behind (held_by old) (held_by new) w h.amount; right = h.right }
+by_less n before behind old new w h = record { word = sums.given n before behind (held_in_record old) (held_in_record new) w h.amount; right = h.right }
 
 by_none : (before behind : ℕ) (old new : RecordNow) → behind ≡ before → Less 0 old new → Goes before behind old new
 by_none before behind old new w h = by_less 0 before behind old new (omega (arith, w)) h
@@ -415,7 +415,7 @@ frames_granted : (t : Throttled) (w u : ℕ) (old new : RecordNow) → SessionIs
 frames_granted t w u old new sound r e h p =
     let g = granted_now t old.core new.core sound r h in
     let none = ap live.held g.none in
-    record { word = sums.taken (live.held new.core.live.granted) w u (held_by old) (held_by new) e (omega (arith, none, p)); right = g.right }
+    record { word = sums.taken (live.held new.core.live.granted) w u (held_in_record old) (held_in_record new) e (omega (arith, none, p)); right = g.right }
 
 accepts_one : (t : Throttled) (number now : ℕ) (old new : RecordNow) → Frames t (framed.Accepted number) now old new → Less 0 old new
 accepts_one t number now old new (a, is, h, only) =
@@ -531,7 +531,7 @@ read_none None a h = by_none_read a h
 
 -- The word goes along with what the record holds and with what was granted for the parcel that the step hands out.
 pub record Steps (w : Worked) (old new : RecordNow) : Type 0 where
-  pub word : Follows w.bytes.before.word w.bytes.behind.word (held_by old) (held_by new + handed_by w.answer)
+  pub word : Follows w.bytes.before.word w.bytes.behind.word (held_in_record old) (held_in_record new + handed_by w.answer)
   pub right : HoldsRightly new
 
 by_goes : (w : Worked) (old new : RecordNow) → handed_by w.answer ≡ 0 → Goes w.bytes.before.word w.bytes.behind.word old new → Steps w old new
@@ -578,11 +578,11 @@ by_due due.Compose w old new alone sound r k some h =
 pub steps_on : (w : Worked) (old new : RecordNow) → IsAlone w.bytes.throttle.place → IsRecord old → HoldsRightly old → w.answer ≢ stepped.NoMemory → StepsAs w.answer w old new → Steps w old new
 steps_on w old new alone is r k h =
     let (mid, room, taken) = steps.takes w.answer w old new k h in
-    let held : held_by mid ≡ held_by old = ap held_by room in
+    let held : held_in_record mid ≡ held_in_record old = ap held_in_record room in
     let stepped = by_due (due_step w.now mid) w mid new alone (by (λ (z : RecordNow). SessionIsSound z.core.facts z.core.live.session) mid _ room (session-sound old is)) (by HoldsRightly mid _ room r) k
     (steps.compose_is_due w.now mid) taken in
     record { word = λ rest e. stepped.word rest (omega (arith, held, e)); right = stepped.right }
 
 -- for want of memory a record holds what it held
-pub lacks : (old new : RecordNow) → NothingDone old new → held_by new ≡ held_by old
-lacks old new h = ap held_by h.only
+pub lacks : (old new : RecordNow) → NothingDone old new → held_in_record new ≡ held_in_record old
+lacks old new h = ap held_in_record h.only

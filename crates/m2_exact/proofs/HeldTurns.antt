@@ -22,13 +22,13 @@ use Rattle.m2_exact.proofs.HeldSteps.{handed_by}
 use Rattle.m2_exact.proofs.HeldSums as sums
 use Rattle.m2_exact.proofs.HeldSums.{Follows}
 use Rattle.m2_exact.proofs.RecordTurns.{free_holds_none}
-use Rattle.m2_exact.specs.Holding.{HoldsRightly, held_by}
+use Rattle.m2_exact.specs.Holding.{HoldsRightly, held_in_record}
 
 -- ---- words
 
 -- by a record, and where its parcels go
 abbrev pub held_turning : {D : Type 0} → Turning D → ℕ
-held_turning t = held_by t.side + out.granted_in t.out
+held_turning t = held_in_record t.side + out.granted_in t.out
 
 -- the word goes along with what is held, and the record holds rightly
 pub record Turns {D : Type 0} (old new : Turning D) : Type 0 where
@@ -100,7 +100,7 @@ module _ {D : Type 0} (heard : D → List Heard) where
         record {
           word = λ rest e.
               (let first = one.word (out.granted_in old.out + rest) (omega (arith, e)) in
-              let second = other (held_by new.side + rest) (omega (arith, first)) in
+              let second = other (held_in_record new.side + rest) (omega (arith, first)) in
               omega (arith, second));
           right = one.right;
         }

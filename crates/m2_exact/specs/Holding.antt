@@ -30,15 +30,15 @@ use Rattle.m2_script.specs.m2_center.m2_feed.m2_journal.declared.facts.PlanStep.
 -- ---- how much is held
 
 -- by a record: for the MESSAGE that isn't finished, and for the letters among the parcels that are ready
-abbrev pub held_by : RecordNow → ℕ
-held_by r = live.held r.core.live.granted + all_granted r.parcels
+abbrev pub held_in_record : RecordNow → ℕ
+held_in_record r = live.held r.core.live.granted + all_granted r.parcels
 
-abbrev pub held_by_all : List RecordNow → ℕ
-held_by_all rs = sum_by held_by rs
+abbrev pub held_in_records : List RecordNow → ℕ
+held_in_records rs = sum_by held_in_record rs
 
 -- by a center: by its records, where their parcels go, and in its queue
-abbrev pub held_in : {D : Type 0} → CenterNow D → ℕ
-held_in c = held_by_all c.records + (granted_in c.out + granted c.queued.waiting)
+abbrev pub held_in_center : {D : Type 0} → CenterNow D → ℕ
+held_in_center c = held_in_records c.records + (granted_in c.out + granted c.queued.waiting)
 
 -- ---- where something may be held for a feed
 
@@ -59,7 +59,7 @@ HoldsRightly r = IsHeldRightly r.core.facts r.core.live
 
 -- The word of a center's pass is just what the center holds, and each of its records holds rightly.
 pub record HoldsItsWord {D : Type 0} (c : CenterNow D) : Type 0 where
-  pub word : c.bytes.word ≡ held_in c
+  pub word : c.bytes.word ≡ held_in_center c
   pub records : AllByRecursion HoldsRightly c.records
 
 -- The same of a node, whose throttle is no thread's but its own.
@@ -72,14 +72,14 @@ pub record LacksInStep {D : Type 0} (heard : D → List Heard) (m : Means) (new 
   pub mid : Turning D
   pub side : RecordNow
   pub takes : TakesStep heard m stepped.NoMemory mid (record { side = side; out = new.out; bytes = new.bytes; numbers = new.numbers })
-  pub held : mid.bytes.word ≡ held_in new
+  pub held : mid.bytes.word ≡ held_in_center new
 
 -- Behind each turn of a center the word is what it holds, where it was so before and no thread shares the word; and so it is behind a step
 -- that is planned. For want of memory it is so too, but where a record's step found none.
 pub record CentersHoldTheirWords (E D : Type 0) (heard : D → List Heard) : Type 0 where
   pub turns : (m : Means) (old new : CenterNow D) → IsAlone m.throttle.place → HoldsItsWord old → TakesTurn E heard m (Ok tt) old new → HoldsItsWord new
   pub lacks : (m : Means) (e : memory.NoMemory) (old new : CenterNow D) → IsAlone m.throttle.place → HoldsItsWord old → TakesTurn E heard m (Err e) old new →
-      (new.bytes.word ≡ held_in new) ⊎ LacksInStep heard m new
+      (new.bytes.word ≡ held_in_center new) ⊎ LacksInStep heard m new
   pub plans : (peer : ℕ) (x : PlanStep) (now : ℕ) (throttle : Place) (old new : CenterNow D) → IsAlone throttle → HoldsItsWord old → PlansIn (Ok tt) peer x now throttle old new → HoldsItsWord new
 
 -- ---- a run
