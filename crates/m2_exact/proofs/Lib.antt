@@ -29,4 +29,14 @@ pub mod Told
 pub mod Nodes
 pub mod Deeds
 pub mod Runs
+pub mod HeldSums
+pub mod HeldCores
+pub mod HeldSteps
+pub mod HeldTurns
+pub mod HeldRecords
+pub mod HeldJudged
+pub mod HeldHalves
+pub mod HeldMails
+pub mod HeldCenters
+pub mod HeldRuns
 pub use Rattle.m2_script.proofs as m2_script

@@ -17,4 +17,5 @@ pub mod Nodes
 pub mod Networks
 pub mod Deeds
 pub mod Runs
+pub mod Holding
 pub use Rattle.m2_script.specs as m2_script

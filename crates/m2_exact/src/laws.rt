@@ -1,6 +1,7 @@
 //! What two calls of one thing, or of two that are alike, have in common where only memory may be wanted: a read or a
 //! write of what stands on an end in memory, a move of a half, an answer of a handshake, which has no end, each call of a
-//! record, each part of a center's turn, and that turn. Each function has an empty body: its contract is the law.
+//! record, each part of a center's turn, and that turn. And that a throttle's word is what its node holds. Each function has an
+//! empty body: its contract is the law.
 
 ghost use Rattle.m2_exact.specs.Accepts as accepts;
 ghost use Rattle.m2_exact.specs.Advances as advances;
@@ -13,6 +14,7 @@ ghost use Rattle.m2_exact.specs.HalfTurns as half_turns;
 ghost use Rattle.m2_exact.specs.Halves as halves;
 ghost use Rattle.m2_exact.specs.HalvesTurns as halves_turns;
 ghost use Rattle.m2_exact.specs.Handshakes as handshakes;
+ghost use Rattle.m2_exact.specs.Holding as holding;
 ghost use Rattle.m2_exact.specs.Judgements as judgements;
 ghost use Rattle.m2_exact.specs.Mails as mails;
 ghost use Rattle.m2_exact.specs.Networks as networks;
@@ -174,4 +176,14 @@ pub fn like_runs_are_told_alike()
 #[tactic(auto, using(crate::proofs::Runs::one))]
 pub fn runs_are_one<E: End>()
     ensures { runs.RunsAreOne E }
+{}
+
+/// At each node of a run in memory the word of the throttle is just what the node holds: what its records were granted for messages that
+/// aren't finished and for letters that are ready, and the letters in its outbox and in its queue. Before the first line both are 0, and
+/// each deed keeps it so. So does each turn of a center, and each step that is planned, where no thread shares the word; for want of memory
+/// too, but that nothing is said of what a record's step that finds none did to the pass.
+#[tactic(auto, using(crate::proofs::HeldCenters::centers, crate::proofs::HeldRuns::runs))]
+pub fn words_are_held<E: End, D: Dispatcher>()
+    ensures centers { holding.CentersHoldTheirWords E D D.heard }
+    ensures runs { holding.RunsHoldTheirWords E D D.heard }
 {}

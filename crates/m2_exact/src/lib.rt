@@ -16,6 +16,9 @@
 //! is asked of the run, and holds of a valid scenario's (`first_stays_apart` of `m2_promise`). The calls that make a run
 //! ([`Run`], [`outcome_of`]) are passed on, so that whoever makes one and cites this lists one crate.
 //!
+//! Beside these stands a law of one run: at each node the word of its throttle is just what the node holds
+//! (`specs/Holding.antt`, [`words_are_held`]).
+//!
 //! What it isn't: how a run ends that finds no memory. And an end between threads tells nothing of what waits, so nothing is
 //! said of what stands on it.
 #![tactic(auto)]
@@ -30,5 +33,6 @@ pub use laws::{
     like_networks_pass_alike, like_nodes_act_alike, like_ports_accept_alike,
     like_records_dial_and_plan_alike, like_records_judge_alike, like_records_step_alike,
     like_records_turn_alike, like_runs_are_told_alike, like_runs_do_alike, runs_are_one,
+    words_are_held,
 };
 pub use m2_script::{Outcome, Run, addresses, clear_all, cluster_of, outcome_of};

@@ -1,0 +1,196 @@
+-- What is held for a feed, behind each call of a core.
+use Rattle.std.proofs.Common.{◌≡◌, ℕ, if◌then◌else◌, List, Bool, true, false, Option, None, Some, refl, sym, subst, ◌∙◌, ap}
+use Rattle.std.specs.Prelude.{IfSome}
+use Rattle.m2_dispatch.specs.m2_shared.Throttle.{SeenGrant}
+use Rattle.m2_fabric.specs.declared.end.EndRead.{EndRead}
+use Rattle.m2_fabric.specs.declared.end.EndRead.TheVariants as read
+use Rattle.m2_script.proofs.m2_center.m2_turn.m2_session.Events.{fault_closes}
+use Rattle.m2_script.specs.m2_center.m2_core.CoreNow.{CoreNow}
+use Rattle.m2_script.specs.m2_center.m2_core.Effects.{closes, discards, has_effects, requeues, sets_back, tells, where_true}
+use Rattle.m2_script.specs.m2_center.m2_core.Front as front
+use Rattle.m2_script.specs.m2_center.m2_core.Front.{FrontHeard, before_front, front_in, front_of, heard_by, hearer_of, resumption_at}
+use Rattle.m2_script.specs.m2_center.m2_core.Hearing as hearing
+use Rattle.m2_script.specs.m2_center.m2_core.LiveCalls.{after_fault, tells_if}
+use Rattle.m2_script.specs.m2_center.m2_core.LiveNow.{LiveNow, is_granted_in, is_granted_on, is_ready, is_waiting}
+use Rattle.m2_script.specs.m2_center.m2_core.OnFeed.{GreetsFeed, ReadsFeed, WritesFeed}
+use Rattle.m2_script.specs.m2_center.m2_feed.Calls.{heard_of, with_grant}
+use Rattle.m2_script.specs.m2_center.m2_feed.FeedNow.{FeedNow, Reading, framing, shaking}
+use Rattle.m2_script.specs.m2_center.m2_feed.declared.answers.FeedWrite.{FeedWrite}
+use Rattle.m2_script.specs.m2_center.m2_feed.declared.answers.FeedWrite.TheVariants as put
+use Rattle.m2_script.specs.m2_center.m2_feed.declared.hearer.Hearer.{Hearer}
+use Rattle.m2_script.specs.m2_center.m2_feed.declared.heard.Heard.{Heard}
+use Rattle.m2_script.specs.m2_center.m2_feed.m2_journal.Laws.{SessionIsSound}
+use Rattle.m2_script.specs.m2_center.m2_feed.m2_journal.SideFacts.{SideFacts}
+use Rattle.m2_script.specs.m2_center.m2_feed.m2_session.Phases as phases
+use Rattle.m2_script.specs.m2_center.m2_feed.m2_session.Steps.{step_of}
+use Rattle.m2_script.specs.m2_center.m2_feed.m2_session.declared.event.Effects.{Effects}
+use Rattle.m2_script.specs.m2_center.m2_feed.m2_session.declared.event.Event.{Event}
+use Rattle.m2_script.specs.m2_center.m2_feed.m2_session.declared.event.Event.TheVariants as event
+use Rattle.m2_script.specs.m2_center.m2_feed.m2_session.declared.session.Phase.TheVariants as phase
+use Rattle.m2_script.specs.m2_center.m2_feed.m2_session.declared.session.Session.{Session}
+use Rattle.m2_script.specs.m2_center.m2_turn.m2_handshake.declared.answer.HalfStep.{HalfStep}
+use Rattle.m2_script.specs.m2_center.m2_turn.m2_handshake.declared.answer.HalfStep.TheVariants as half
+use Rattle.m2_script.specs.m2_center.m2_turn.m2_handshake.m2_frame.Reading.{Front, bad, size_of, start, text}
+use Rattle.m2_exact.specs.Holding.{IsHeldRightly, MayHold}
+
+-- ---- words
+
+pub none_right : (f : SideFacts) (l : LiveNow) → l.granted ≡ None → IsHeldRightly f l
+none_right f l e = subst (λ (o : Option SeenGrant). IfSome o (λ g. MayHold f l)) (sym e) tt
+
+-- outside Ready nothing is held
+pub idle : (f : SideFacts) (l : LiveNow) → IsHeldRightly f l → is_ready l ≡ false → l.granted ≡ None
+idle f l h e = by l.granted h
+  where
+    by : (o : Option SeenGrant) → IfSome o (λ g. MayHold f l) → o ≡ None
+    by (Some g) m = absurd (cc (m.ready, e))
+    by None m = refl
+
+-- nor where the decoder wasn't told
+pub untold : (f : SideFacts) (l : LiveNow) → IsHeldRightly f l → is_granted_on l.feed ≡ false → l.granted ≡ None
+untold f l h e = by l.granted h
+  where
+    by : (o : Option SeenGrant) → IfSome o (λ g. MayHold f l) → o ≡ None
+    by (Some g) m = absurd (cc (m.told, e))
+    by None m = refl
+
+-- where the session is the same, the decoder was told as much, and the same is held
+pub kept : (f : SideFacts) (l k : LiveNow) → k.granted ≡ l.granted → k.session ≡ l.session → is_granted_on k.feed ≡ is_granted_on l.feed → IsHeldRightly f l → IsHeldRightly f k
+kept f l k g s t h = by l.granted g h
+  where
+    by : (o : Option SeenGrant) → k.granted ≡ o → IfSome o (λ g. MayHold f l) → IsHeldRightly f k
+    by (Some x) g m = subst (λ (o : Option SeenGrant). IfSome o (λ g. MayHold f k)) (sym g) (record {
+      ready = ap (λ (s : Session). phases.is s.phase phase.Ready) s ∙ m.ready;
+      told = t ∙ m.told;
+      session = subst (SessionIsSound f) (sym s) m.session;
+    })
+    by None g m = none_right f k g
+
+-- ---- a step of the session
+
+where_held : (b : Bool) (change : LiveNow → LiveNow) (l : LiveNow) → (change l).granted ≡ l.granted → (where_true b change l).granted ≡ l.granted
+where_held true change l e = e
+where_held false change l e = refl
+
+-- a step leaves what is held, or it goes with the feed
+told_granted : (e : Event) (l : LiveNow) → (tells e l).granted ≡ (where_true (step_of l.session e).effects.close closes l).granted
+told_granted e l = by (step_of l.session e).effects (record l { session = (step_of l.session e).session }) ∙ end (step_of l.session e).effects.close
+  where
+    by : (f : Effects) (k : LiveNow) → (has_effects f k).granted ≡ (where_true f.close closes k).granted
+    by f k =
+        let closed = where_true f.close closes k in
+        let requeued = where_true f.requeue requeues closed in
+        let back = where_true f.set_back sets_back requeued in
+        where_held f.discard discards back refl ∙ where_held f.set_back sets_back requeued refl ∙ where_held f.requeue requeues closed refl
+
+    end : (b : Bool) → (where_true b closes (record l { session = (step_of l.session e).session })).granted ≡ (where_true b closes l).granted
+    end true = refl
+    end false = refl
+
+pub closed : (e : Event) (l : LiveNow) → (step_of l.session e).effects.close ≡ true → (tells e l).granted ≡ None
+closed e l is = told_granted e l ∙ ap (λ (b : Bool). (where_true b closes l).granted) is
+
+pub none_still : (e : Event) (l : LiveNow) → l.granted ≡ None → (tells e l).granted ≡ None
+none_still e l none = told_granted e l ∙ by (step_of l.session e).effects.close
+  where
+    by : (b : Bool) → (where_true b closes l).granted ≡ None
+    by true = refl
+    by false = none
+
+pub none_told : (e : Option Event) (l : LiveNow) → l.granted ≡ None → (tells_if e l).granted ≡ None
+none_told (Some e) l none = none_still e l none
+none_told None l none = none
+
+pub fault_drops : (l : LiveNow) → (after_fault l).granted ≡ None
+fault_drops l = closed (event.Faulted (is_waiting l)) l (fault_closes l.session (is_waiting l))
+
+pub down_drops : (l : LiveNow) → (tells event.MarkedDown l).granted ≡ None
+down_drops l = closed event.MarkedDown l refl
+
+-- ---- whether the decoder was told
+
+pub written : (a : FeedWrite) (x y : Option FeedNow) → WritesFeed a x y → is_granted_on y ≡ is_granted_on x
+written (put.Put n b) (Some v) (Some w) h = ap (λ (z : FeedNow). is_granted_in z.reading) h.2
+written put.NotYet (Some v) (Some w) h = ap (λ (z : FeedNow). is_granted_in z.reading) h.1
+written put.Failed (Some v) (Some w) h = ap (λ (z : FeedNow). is_granted_in z.reading) h.1
+written put.NoMemory (Some v) (Some w) h = ap (λ (z : FeedNow). is_granted_in z.reading) h
+written a (Some v) None h = absurd h
+written a None y h = absurd h
+
+heard_told : (a : EndRead) (piece : List ℕ) (r : Reading) → is_granted_in (heard_of a piece r) ≡ is_granted_in r
+heard_told (read.Got n) piece (shaking s) = refl
+heard_told (read.Got n) piece (framing rest granted) = refl
+heard_told read.NotYet piece r = refl
+heard_told read.Ended piece r = refl
+heard_told read.Failed piece r = refl
+heard_told read.NoMemory piece r = refl
+
+pub reads : (a : EndRead) (x y : Option FeedNow) → ReadsFeed a x y → is_granted_on y ≡ is_granted_on x
+reads (read.Got n) (Some v) (Some w) h = ap is_granted_in h.hears.heard ∙ heard_told (read.Got n) h.hears.piece v.reading
+reads read.NotYet (Some v) (Some w) h = ap is_granted_in h.hears.heard ∙ heard_told read.NotYet h.hears.piece v.reading
+reads read.Ended (Some v) (Some w) h = ap is_granted_in h.hears.heard ∙ heard_told read.Ended h.hears.piece v.reading
+reads read.Failed (Some v) (Some w) h = ap is_granted_in h.hears.heard ∙ heard_told read.Failed h.hears.piece v.reading
+reads read.NoMemory (Some v) (Some w) h = ap (λ (z : FeedNow). is_granted_in z.reading) h
+reads a (Some v) None h = absurd h
+reads a None y h = absurd h
+
+pub greets : (a : HalfStep) (x y : Option FeedNow) → GreetsFeed a x y → is_granted_on y ≡ is_granted_on x
+greets half.Authed (Some v) (Some w) g = ap (λ (z : FeedNow). is_granted_in z.reading) g.leaves ∙ sym (ap is_granted_in g.stood)
+greets half.NotYet (Some v) (Some w) g = ap (λ (z : FeedNow). is_granted_in z.reading) g.leaves ∙ sym (ap is_granted_in g.stood)
+greets half.Wrote (Some v) (Some w) g = ap (λ (z : FeedNow). is_granted_in z.reading) g.leaves ∙ sym (ap is_granted_in g.stood)
+greets half.NoMemory (Some v) (Some w) g = ap (λ (z : FeedNow). is_granted_in z.reading) g.leaves ∙ sym (ap is_granted_in g.stood)
+greets (half.Fault e) (Some v) (Some w) g = ap (λ (z : FeedNow). is_granted_in z.reading) g.leaves ∙ sym (ap is_granted_in g.stood)
+greets a (Some v) None g = absurd g
+greets a None y g = absurd g
+
+-- ---- a size that is asked for
+
+-- in Ready, of a decoder that wasn't told
+pub record AsksSize (c : CoreNow) (r : Reading) : Type 0 where
+  pub ready : is_ready c.live ≡ true
+  pub untold : is_granted_in r ≡ false
+  pub telling : is_granted_in (with_grant r) ≡ true
+
+pub asks_size : (c : CoreNow) (r : Reading) (n : ℕ) → heard_by c r ≡ front.asks n → AsksSize c r
+asks_size c r n e = by (resumption_at c) e
+  where
+    size : (b : Bool) (m : ℕ) (x : FrontHeard) → (front.asks n ≡ x → ⊥) → (if b then front.asks m else x) ≡ front.asks n → b ≡ true
+    size true m x never e = refl
+    size false m x never e = absurd (never (sym e))
+
+    rests_not : front.rests ≡ front.asks n → ⊥
+    rests_not e = cc e
+
+    none : (h : Hearer) (f : Front) → front_in h None f ≡ front.asks n → ⊥
+    none h start e = cc e
+    none h (bad f) e = cc e
+    none h (text item len) e = cc e
+
+    owed : (rest : List ℕ) (o : Option ℕ) (f : Front) → front_in (hearer_of c) o f ≡ front.asks n → is_ready c.live ≡ true
+    owed rest (Some m) f e = size (phases.is c.live.session.phase phase.Ready) m _ (λ z. cc z) e
+    owed rest None f e = absurd (none (hearer_of c) f e)
+
+    on : (r : Reading) → front_of (hearer_of c) r ≡ front.asks n → AsksSize c r
+    on (shaking s) e = absurd (rests_not e)
+    on (framing rest true) e = absurd (none (hearer_of c) _ e)
+    on (framing rest false) e = record { ready = owed rest (size_of rest) _ e; untold = refl; telling = refl }
+
+    by : (o : Option _) → before_front o (front_of (hearer_of c) r) ≡ front.asks n → AsksSize c r
+    by (Some says) e = absurd (cc e)
+    by None e = on r e
+
+-- ---- what is heard outside Ready
+
+pub heard_idle : (a : EndRead) (f : SideFacts) (l : LiveNow) (h : Heard) → hearing.heard_after a f l ≡ Some h → is_ready l ≡ false
+heard_idle (read.Got n) f l h e = hearing_idle f l h e
+  where
+    chosen : {X : Type 0} (b : Bool) (o : Option X) (x : X) → (if b then None else o) ≡ Some x → b ≡ false
+    chosen true o x e = absurd (cc e)
+    chosen false o x e = refl
+
+    hearing_idle : (f : SideFacts) (l : LiveNow) (h : Heard) → hearing.hearing f l ≡ Some h → is_ready l ≡ false
+    hearing_idle f l h e = chosen (is_ready l) _ h e
+heard_idle read.NotYet f l h e = absurd (cc e)
+heard_idle read.Ended f l h e = absurd (cc e)
+heard_idle read.Failed f l h e = absurd (cc e)
+heard_idle read.NoMemory f l h e = absurd (cc e)
