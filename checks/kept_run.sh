@@ -8,7 +8,7 @@
 set -eu
 top=$(cd "$(dirname "${BASH_SOURCE[0]}")/.." && pwd)
 room=$(mktemp -d)
-trap 'kill $(jobs -p) 2>/dev/null; wait; rm -rf "$room"' EXIT
+trap 'kill $(jobs -p) 2>/dev/null || true; wait || true; rm -rf "$room"' EXIT
 program=${KEPT_RUN:-}
 if [ -z "$program" ]; then
   crate=$room/crates/kept_run
