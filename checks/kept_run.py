@@ -38,7 +38,7 @@ TOP = os.path.dirname(os.path.dirname(os.path.abspath(__file__)))
 sys.path.insert(0, os.path.join(TOP, "tools"))
 import wire
 from replay_trace import Given, Side, Wrong, compare, flags, must
-from sides import MOVED, POLICIES, REMOTE_RESET, End, Half
+from sides import POLICIES, REMOTE_RESET, End
 
 SECONDS = 120
 USUAL_LIMIT = 5000  # milliseconds, where the scenario has no line
@@ -190,10 +190,9 @@ class KeptSide(Side):
         self.step(entry)
 
     def on_wrote(self, entry):
-        """How much of what is composed an end takes no rule decides."""
         feed = self.record.feed
         if feed:
-            feed.cut = int(entry[2])
+            feed.cut = self.taken_by("wrote", entry[2:])
         self.step(entry)
         if feed:
             feed.cut = None
@@ -205,28 +204,9 @@ class KeptSide(Side):
         self.opened.append(entry[1])
         self.record.open(self.end(entry[1]))
 
-    def walk(self, socket, count):
-        """As in a trace of two records; but a half is closed for a failure only where its end has one."""
-        half, entries = self.halves.get(socket), self.given.trails[socket]
-        if half is None:
-            half = self.halves[socket] = Half(self, self.end(socket))
-            half.done = 0
-        must(half.done <= count <= len(entries), f"{socket} has another number of entries by then")
-        for what, *words in entries[half.done : count]:
-            must(not half.is_taken and not half.end.closed, f"the half on {socket} is over before its trail")
-            half.end.readable = half.end.got + int(words[0]) if what == "read" else half.end.got
-            half.end.fails = what == "closed" and self.has_failed(socket)
-            half.end.cut = int(words[0]) if what == "wrote" else None
-            while not self.told and half.move(0) == MOVED:
-                pass
-            half.end.cut = None
-            must(self.told, f"`{' '.join([what, *words])}` isn't due on {socket}")
-            due = self.told.pop(0)
-            must(due == ["trail", what, socket, *words], f"`{' '.join(due)}` is due where the trail of {socket} has {what}")
-            if what != "closed":
-                self.moves[socket].append((what, words[0]))
-        half.done = count
-        return half
+    def taken_by(self, what, words):
+        """How much of what is composed an end takes no rule decides."""
+        return int(words[0]) if what == "wrote" else None
 
     def end(self, socket):
         """Of a socket that it opened it has seen the peer's address, and of one of the peer the one that it came from."""

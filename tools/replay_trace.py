@@ -296,9 +296,11 @@ class Side:
         for what, *words in entries[half.done : count]:
             must(not half.is_taken and not half.end.closed, f"the half on {socket} is over before its trail")
             half.end.readable = half.end.got + int(words[0]) if what == "read" else half.end.got
-            half.end.fails = what == "closed"
+            half.end.fails = what == "closed" and self.has_failed(socket)
+            half.end.cut = self.taken_by(what, words)
             while not self.told and half.move(0) == MOVED:
                 pass
+            half.end.cut = None
             must(self.told, f"`{' '.join([what, *words])}` isn't due on {socket}")
             due = self.told.pop(0)
             must(due == ["trail", what, socket, *words], f"`{' '.join(due)}` is due where the trail of {socket} has {what}")
@@ -306,6 +308,14 @@ class Side:
                 self.moves[socket].append((what, words[0]))
         half.done = count
         return half
+
+    def has_failed(self, socket):
+        """Whether an end that is closed has failed: a trace of two records doesn't tell it of those that haven't."""
+        return True
+
+    def taken_by(self, what, words):
+        """How many bytes an entry lets through; None: as many as there are, which an end in memory takes."""
+        return None
 
     def end(self, socket):
         """This side's end of a socket, new; what it reads is what its log got."""
