@@ -13,6 +13,7 @@ pub mod Programs
 pub mod Says
 pub mod StatusLines
 pub mod ThreadEnds
+pub mod ThreadLogs
 pub mod ThreadNodes
 pub mod Threads
 pub mod Told

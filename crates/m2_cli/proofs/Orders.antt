@@ -9,7 +9,7 @@ use Rattle.m2_edge.specs.Sink.{SeenSink, TakesBytes, TakesPrefix}
 use Rattle.m2_scenario.specs.OrderLaws.{CallsAndLeftArePosts}
 use Rattle.m2_scenario.specs.Order.{AreCounted}
 use Rattle.m2_cli.specs.Run.{Beside, IsMarkedSo, of_both}
-use Rattle.m2_scenario.specs.Report.{report_of}
+use Rattle.m2_scenario.specs.Report.{heard_in, report_of}
 use Rattle.m2_scenario.specs.declared.link.Link.{Link}
 use Rattle.m2_scenario.specs.declared.line.Line.{Line}
 use Rattle.m2_scenario.specs.declared.node.Node.{Node}
@@ -24,9 +24,12 @@ use Rattle.m2_promise.specs.Posted.{IsPromised}
 use Rattle.m2_promise.specs.PostLaws.{EndsArePromised}
 use Rattle.m2_run.specs.Joined.{PostsOfTypes}
 use Rattle.m2_run.specs.Nodes.{KeptNow, RunNodeNow, as_one, nodes_of}
-use Rattle.m2_run.specs.Ran.{heard_at_end}
+use Rattle.m2_run.specs.Handing.{AreHeardAtEnd, heard_in_order}
 use Rattle.m2_run.specs.Rests.{loose_of}
+use Rattle.m2_run.specs.Way.{IsNodeOf}
+use Rattle.m2_run.proofs.Places.{get_of_map, get_too}
 use Rattle.m2_cli.proofs.ThreadEnds.{RunsJoined, are_at_end}
+use Rattle.m2_cli.proofs.ThreadLogs.{Alike, all_alike, node_alike, report_alike}
 use Rattle.m2_cli.specs.Threads.{IsThreadRun, IsThreadsPrintout, ThreadsReadTo, limit_of, names_in, status_by_left, threads_in}
 use Rattle.m2_cli.specs.declared.printout.Printout.{Printout}
 use Rattle.m2_cli.specs.declared.status.Status.{Status}
@@ -192,14 +195,14 @@ abbrev heard_of_one : NodeNow (List Logged) → List Heard
 heard_of_one n = heard_by n.center.out.fast ++ heard_by n.center.queued.inner
 
 -- what those of nodes that a run on threads has left were
-heard_there : (kept : List KeptNow) → all_heard heard_by (left_there kept) ≡ map heard_at_end (nodes_of kept)
+heard_there : (kept : List KeptNow) → all_heard heard_by (left_there kept) ≡ map heard_in_order (nodes_of kept)
 heard_there kept =
     let nodes = map as_one (nodes_of kept) in
     by_place (heard_of_node heard_by 0 []) heard_of_one 0 nodes nodes (λ n. refl) (λ k. ap (slice_get nodes) (let h : 0 + k ≡ k = omega arith in h)) ∙ each_as_one (nodes_of kept)
   where
-    each_as_one : (ns : List RunNodeNow) → map heard_of_one (map as_one ns) ≡ map heard_at_end ns
+    each_as_one : (ns : List RunNodeNow) → map heard_of_one (map as_one ns) ≡ map heard_in_order ns
     each_as_one [] = refl
-    each_as_one (n ∷ ns) = ap (λ l. heard_at_end n ∷ l) (each_as_one ns)
+    each_as_one (n ∷ ns) = ap (λ l. heard_in_order n ∷ l) (each_as_one ns)
 
 -- the laws on which it stands
 pub record ThreadLaws (may_give : ℕ → Type 0) : Type 0 where
@@ -228,6 +231,14 @@ module _ (may_give : ℕ → Type 0) (old new : SeenFabric) (laws : ThreadLaws m
     left_is : left_in heard_by d.links (left_there kept) ≡ left
     left_is = sym run.ran.left
 
+    -- each node is one of the scenario
+    node_there : (k : ℕ) (n : RunNodeNow) → slice_get (nodes_of kept) k ≡ Some n → (heard : List Heard) → AreHeardAtEnd n heard → Alike heard (heard_in_order n)
+    node_there k n here =
+        let m = get_of_map (λ (z : KeptNow). z.node) kept k n here in
+        let x = get_too kept d.nodes k m.item (sym run.ran.run.count) m.there in
+        node_alike may_give run.ran.stop d.nodes d.links run.lines k x.item n
+        (subst (λ (z : RunNodeNow). IsNodeOf may_give run.ran.stop d.nodes d.links run.lines k x.item z) m.same (run.ran.run.each k x.item m.item x.there m.there).node)
+
     keeps : (count : ℕ) → left_in heard_by d.links (left_there kept) ≡ count → KeepsThreads may_give old new given text count
     keeps count is = record {
       scenario = d;
@@ -238,7 +249,8 @@ module _ (may_give : ℕ → Type 0) (old new : SeenFabric) (laws : ThreadLaws m
       ran = run.ran;
       kept = sessions_kept laws.together d (λ _ _. loose_of kept) (left_there kept) run.sound promised count is;
       marked = promised.marked;
-      report = run.report ∙ ap (report_of true d.nodes) (run.ran.logs ∙ sym (heard_there kept));
+      report = run.report ∙ report_alike d.nodes (map heard_in run.outcome.logs.items) (map heard_in_order (nodes_of kept)) (all_alike (nodes_of kept) (map heard_in run.outcome.logs.items) node_there run.ran.logs)
+          ∙ ap (report_of true d.nodes) (sym (heard_there kept));
     }
 
     keeps_so : (before after : Edge) → after.source.given ≡ given → TakesBytes text before.out after.out → KeepsOrderBy threads (status_by_left left) before after

@@ -152,7 +152,7 @@ module _ (may_give : ℕ → Type 0) (moment : ℕ) (nodes : List Node) (links :
   abbrev home : ℕ → ℕ
   home place = home_at nodes x.centers place
 
-  at_home : (j : ℕ) (c : Center) → slice_get n.centers j ≡ Some c → AreAtHome home j c.records
+  pub at_home : (j : ℕ) (c : Center) → slice_get n.centers j ≡ Some c → AreAtHome home j c.records
   at_home j c e = each_by (λ (r : RecordNow). home r.place ≡ j) c.records (λ r one. eqb-true (home r.place) j (filtered_so (homed j) (side_made r) sides (its_side j c e r one)))
 
   by_home : (j : ℕ) (cs : List Center) → ((i : ℕ) (c : Center) → slice_get cs i ≡ Some c → slice_get n.centers (j + i) ≡ Some c) → ByHome home j cs

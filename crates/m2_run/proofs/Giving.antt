@@ -136,22 +136,18 @@ ports_in centers = flat_map (λ (c : EndedCenterNow). option_to_list c.port) cen
 abbrev fast_of : List EndedCenterNow → List Logged
 fast_of centers = flat_map (λ (c : EndedCenterNow). c.fast) centers
 
-abbrev queued_of : List EndedCenterNow → List Logged
-queued_of centers = flat_map (λ (c : EndedCenterNow). c.queued) centers
-
 abbrev EndsOfCenter : List Cut → EndedCenterNow → List SeenEnd → Type 0
 EndsOfCenter cuts c es = AreEndsOver cuts c.made (flat_map ends_of_record c.records) es
 
 -- one gives
 pub center_gives : (cuts : List Cut) (c : EndedCenterNow) (old new : GivenNow) → Opens cuts c.made (flat_map ends_of_record c.records) old.ends new.ends →
-    new.ports ≡ old.ports ++ option_to_list c.port → new.fast ≡ old.fast ++ c.fast → new.queued ≡ old.queued ++ c.queued → Gives cuts (c ∷ []) old new
-center_gives cuts c old new ends ports fast queued = record {
+    new.ports ≡ old.ports ++ option_to_list c.port → new.fast ≡ old.fast ++ c.fast → Gives cuts (c ∷ []) old new
+center_gives cuts c old new ends ports fast = record {
   ends_of_each = ends.behind ∷ [];
   ports = ports ∙ ap (λ ps. old.ports ++ ps) (sym (append-nil (option_to_list c.port)));
   ends = ends.split ∙ ap (λ es. old.ends ++ es) (sym (joined_one ends.behind));
   over = (ends.over, tt);
   fast = fast ∙ ap (λ ls. old.fast ++ ls) (sym (append-nil c.fast));
-  queued = queued ∙ ap (λ ls. old.queued ++ ls) (sym (append-nil c.queued));
 }
 
 -- what goes behind, and what goes behind that
@@ -166,7 +162,6 @@ gives_both cuts cs ds old mid new a b = record {
   ends = behind_both (λ es. es) a.ends_of_each b.ends_of_each old.ends mid.ends new.ends a.ends b.ends;
   over = side_both (EndsOfCenter cuts) cs a.ends_of_each ds b.ends_of_each a.over b.over;
   fast = behind_both (λ (c : EndedCenterNow). c.fast) cs ds old.fast mid.fast new.fast a.fast b.fast;
-  queued = behind_both (λ (c : EndedCenterNow). c.queued) cs ds old.queued mid.queued new.queued a.queued b.queued;
 }
 
 -- Those before the ones that are left, which are turned round, have given.
@@ -185,7 +180,6 @@ none_have_given cuts all left now turned = record {
     ends = sym (append-nil now.ends);
     over = tt;
     fast = sym (append-nil now.fast);
-    queued = sym (append-nil now.queued);
   };
 }
 
@@ -221,7 +215,5 @@ node_gives cuts started place count n halves none given ports ends old new no_po
     }
 
 -- and its calls are told
-pub node_tells : (cuts : List Cut) (n : EndedNow) (none given : GivenNow) (calls : List Logged) → none.fast ≡ [] → none.queued ≡ [] → Gives cuts n.centers none given → calls ≡ given.fast ++ given.queued →
-    calls ≡ fast_of n.centers ++ queued_of n.centers
-node_tells cuts n none given calls no_fast no_queued gives are =
-    are ∙ ap (λ ls. ls ++ given.queued) (gives.fast ∙ ap (λ ls. ls ++ fast_of n.centers) no_fast) ∙ ap (λ ls. fast_of n.centers ++ ls) (gives.queued ∙ ap (λ ls. ls ++ queued_of n.centers) no_queued)
+pub node_tells : (cuts : List Cut) (n : EndedNow) (none given : GivenNow) (calls : List Logged) → none.fast ≡ [] → Gives cuts n.centers none given → calls ≡ given.fast → calls ≡ fast_of n.centers
+node_tells cuts n none given calls no_fast gives are = are ∙ gives.fast ∙ ap (λ ls. ls ++ fast_of n.centers) no_fast

@@ -3,12 +3,12 @@ use Rattle.std.proofs.Common.{◌≡◌, ◌≢◌, ◌⊎◌, inl, inr, ℕ, ze
 use Rattle.std.specs.Prelude.{slice_get, slice_index_or, Option, Some, None, IfSome}
 use Rattle.std.specs.List.{flat_map}
 use Rattle.std.specs.Option.{option_to_list}
-use Rattle.std.proofs.lemmas.List.{append-nil, drop_at, map-append, take_at}
+use Rattle.std.proofs.lemmas.List.{append-nil, drop_at, take_at}
 use Rattle.std.proofs.lemmas.Simd.{map-map}
 use Rattle.std.proofs.lemmas.Option.{same_Some, slice_get-get_or, slice_get_within}
 use Rattle.m2_bytes.specs.Items.{Holding}
 use Rattle.m2_script.specs.m2_center.Center.{CenterNow}
-use Rattle.m2_dispatch.specs.Heard.{Heard, heard_by, heard_of}
+use Rattle.m2_dispatch.specs.Heard.{Heard, heard_by}
 use Rattle.m2_dispatch.specs.declared.logged.Logged.{Logged}
 use Rattle.m2_edge.specs.Faults.{next_count}
 use Rattle.m2_fabric.specs.End.{SeenEnd}
@@ -25,7 +25,7 @@ use Rattle.m2_run.specs.Kept.{AllGathered, AreEndsGiven, IsGathered, IsUntouched
 use Rattle.m2_run.specs.Lists.{SideBySide}
 use Rattle.m2_run.specs.Nodes.{KeptNow, loose_at, nodes_of}
 use Rattle.m2_run.specs.Ports.{IsPortOver}
-use Rattle.m2_run.specs.Ran.{heard_at_end}
+use Rattle.m2_run.specs.Handing.{heard_at_once}
 use Rattle.m2_run.specs.Rests.{AreEndsOf, EndedCenterNow, EndedNow, IsEndOf, IsEndOfCenter, IsInside, loose_of}
 use Rattle.m2_run.specs.Way.{ArePortsOut}
 use Rattle.m2_run.proofs.Beside.{side_flat, side_of_each, side_over}
@@ -136,12 +136,12 @@ pub record AreGathered (cuts : List (Holding Cut)) (nodes : List Node) (many : �
   pub told : (k : ℕ) (x : Node) (n : KeptNow) → many ≤ k → slice_get nodes k ≡ Some x → slice_get kept k ≡ Some n → x.started ≡ true →
       IsGathered (cuts_at cuts k) k n old now
 
--- what the dispatchers of its threads were called with
+-- what the dispatchers of fast kinds of its threads were called with
 abbrev pub calls_of : EndedNow → List Logged
-calls_of e = flat_map (λ (c : EndedCenterNow). c.fast) e.centers ++ flat_map (λ (c : EndedCenterNow). c.queued) e.centers
+calls_of e = flat_map (λ (c : EndedCenterNow). c.fast) e.centers
 
 abbrev pub heard_of_all : EndedNow → List Heard
-heard_of_all e = heard_by (flat_map (λ (c : EndedCenterNow). c.fast) e.centers) ++ heard_by (flat_map (λ (c : EndedCenterNow). c.queued) e.centers)
+heard_of_all e = heard_by (calls_of e)
 
 -- the ports that are told are those inside its threads' ports
 abbrev HasPortsOf : EndedNow → Gathered → Type 0
@@ -290,7 +290,7 @@ module _ (cuts : List (Holding Cut)) (nodes : List Node) (all ends rest : List E
 
 -- its log
 one_heard : (e : EndedNow) (log : Holding Logged) → log.items ≡ calls_of e → heard_in log ≡ heard_of_all e
-one_heard e log its = ap heard_by its ∙ map-append heard_of (flat_map (λ (c : EndedCenterNow). c.fast) e.centers) (flat_map (λ (c : EndedCenterNow). c.queued) e.centers)
+one_heard e log its = ap heard_by its
 
 more_heard : (logs after : List (Holding Logged)) (log : Holding Logged) (gone : List EndedNow) (e : EndedNow) → after ≡ logs ++ log ∷ [] → log.items ≡ calls_of e →
     map heard_in (reverse logs) ≡ map heard_of_all gone → map heard_in (reverse after) ≡ map heard_of_all (e ∷ gone)
@@ -352,17 +352,14 @@ pub all_told : (cuts : List (Holding Cut)) (nodes : List Node) (all ends : List 
     AreInHand cuts nodes all ends halves left logs old new → ends ≡ [] → ArePortsTold nodes all new
 all_told cuts nodes all ends halves left logs old new a none k x e there here on = a.ports k x e (let z = ap length none in omega (arith, z)) there here on
 
-same_heard : (n : KeptNow) (e : EndedNow) → IsEndOf n e → heard_of_all e ≡ heard_at_end n.node
+same_heard : (n : KeptNow) (e : EndedNow) → IsEndOf n e → heard_of_all e ≡ heard_at_once n.node
 same_heard n e is =
-    let beside = ends_beside n e is in
-    let fast = side_flat IsEndOfCenter (λ (c : CenterNow (List Logged)). c.out.fast) (λ (d : EndedCenterNow). d.fast) n.node.centers e.centers (λ c d end. end.fast) beside in
-    let queued = side_flat IsEndOfCenter (λ (c : CenterNow (List Logged)). c.queued.inner) (λ (d : EndedCenterNow). d.queued) n.node.centers e.centers (λ c d end. end.queued) beside in
-    ap (λ ls. heard_by ls ++ heard_by (flat_map (λ (d : EndedCenterNow). d.queued) e.centers)) fast
-    ∙ ap (λ ls. heard_by (flat_map (λ (c : CenterNow (List Logged)). c.out.fast) n.node.centers) ++ heard_by ls) queued
+    ap heard_by
+    (side_flat IsEndOfCenter (λ (c : CenterNow (List Logged)). c.out.fast) (λ (d : EndedCenterNow). d.fast) n.node.centers e.centers (λ c d end. end.fast) (ends_beside n e is))
 
 pub all_heard : (cuts : List (Holding Cut)) (nodes : List Node) (all ends : List EndedNow) (halves left : List LooseNow) (logs : List (Holding Logged)) (old new : SeenFabric) →
-    AreInHand cuts nodes all ends halves left logs old new → ends ≡ [] → (kept : List KeptNow) → AreEndsOf kept all → map heard_in (reverse logs) ≡ map heard_at_end (nodes_of kept)
+    AreInHand cuts nodes all ends halves left logs old new → ends ≡ [] → (kept : List KeptNow) → AreEndsOf kept all → map heard_in (reverse logs) ≡ map heard_at_once (nodes_of kept)
 all_heard cuts nodes all ends halves left logs old new a none kept are =
     a.heard ∙ ap (map heard_of_all) (sym (a.split ∙ ap (λ es. es ++ a.gone) none))
-    ∙ same_maps (λ (n : KeptNow). heard_at_end n.node) heard_of_all kept all are.count (λ k n e p q. same_heard n e (are.each k n e p q))
-    ∙ sym (map-map heard_at_end (λ (n : KeptNow). n.node) kept)
+    ∙ same_maps (λ (n : KeptNow). heard_at_once n.node) heard_of_all kept all are.count (λ k n e p q. same_heard n e (are.each k n e p q))
+    ∙ sym (map-map heard_at_once (λ (n : KeptNow). n.node) kept)

@@ -1,13 +1,14 @@
 -- The calls that are told of a run are of nodes.
-use Rattle.std.proofs.Common.{◌≡◌, ℕ, ◌<◌, ◌==◌, suc, Bool, ◌||◌, true, false, if◌then◌else◌, filter, List, [], ◌∷◌, Option, Some, None, length, map, slice_get, refl, sym, ap, ◌∙◌, subst}
+use Rattle.std.proofs.Common.{◌≡◌, ℕ, ◌<◌, ◌==◌, suc, Bool, ◌||◌, true, false, if◌then◌else◌, filter, List, [], ◌∷◌, ◌++◌, Option, Some, None, drop, get_or, length, ltb, map, slice_get, refl, sym, ap, ◌∙◌, subst}
 use Rattle.std.specs.List.{AllByRecursion, flat_map, list_any}
 use Rattle.std.specs.Option.{option_to_list}
 use Rattle.std.proofs.Math.ListN.{length-map}
-use Rattle.std.proofs.lemmas.Bool.{eqb-true, false≢true}
+use Rattle.std.proofs.lemmas.Bool.{eqb-true, false≢true, lt-ltb, ltb-true}
 use Rattle.std.proofs.lemmas.List.{map-append}
 use Rattle.std.proofs.lemmas.List.Elements.{All-from_recursion}
 use Rattle.std.proofs.lemmas.Option.{slice_get_within}
-use Rattle.m2_bytes.proofs.m2_lemmas.Lists.{all_append, all_filter}
+use Rattle.m2_bytes.proofs.m2_lemmas.Lists.{all_append, all_back, all_filter, all_front}
+use Rattle.m2_run.proofs.Merging.{all_of_merge}
 use Rattle.m2_bytes.specs.Items.{Holding}
 use Rattle.m2_script.specs.m2_center.Center.{CenterNow}
 use Rattle.m2_links_go_on.specs.Made.{SideMade, side_made}
@@ -24,7 +25,9 @@ use Rattle.m2_script.specs.declared.made.Towards.{Towards}
 use Rattle.m2_run.specs.Homes.{is_at_home}
 use Rattle.m2_run.specs.Nodes.{RunNodeNow, fast_in, queued_in}
 use Rattle.m2_run.specs.Planned.{side_in, sides_in}
-use Rattle.m2_run.specs.Ran.{heard_at_end}
+use Rattle.m2_run.specs.Handing.{AreBoth, AreHeardAtEnd, IsLogOf as IsDispatcherLogOf, handed_by, heard_at_once, heard_in_order}
+use Rattle.m2_run.specs.Lists.{SideBySide}
+use Rattle.m2_run.proofs.Beside.{side_length}
 use Rattle.m2_run.specs.Way.{IsNodeOf, IsUnderWay, made_in}
 
 -- a record is towards a node that there is
@@ -93,7 +96,7 @@ threads_within n calls (c ∷ cs) all =
 
 -- all calls that a node's dispatchers had are of nodes
 pub node_within : (may_give : ℕ → Type 0) (moment : ℕ) (nodes : List Node) (links : List Link) (lines : List Line) (k : ℕ) (x : Node) (n : RunNodeNow) →
-    IsNodeOf may_give moment nodes links lines k x n → AllByRecursion (IsOfOne (length nodes)) (heard_at_end n)
+    IsNodeOf may_give moment nodes links lines k x n → AllByRecursion (IsOfOne (length nodes)) (heard_in_order n)
 node_within may_give moment nodes links lines k x n is =
     all_append (IsOfOne (length nodes)) (heard_by (fast_in n)) (heard_by (queued_in n))
     (threads_within (length nodes) (λ (c : CenterNow (List Logged)). c.out.fast) n.centers (λ j c there.
@@ -116,16 +119,55 @@ logs_within n (log ∷ logs) heard e all =
     let its : AllByRecursion (AllByRecursion (IsOfOne n)) (map heard_in (log ∷ logs)) = subst (AllByRecursion (AllByRecursion (IsOfOne n))) (sym e) all in
     (All-from_recursion (IsOfNodes n) log.items (log_within n log.items its.0), logs_within n logs (map heard_in logs) refl its.1)
 
-kept_within : (n : ℕ) (kept : List RunNodeNow) → ((k : ℕ) (m : RunNodeNow) → slice_get kept k ≡ Some m → AllByRecursion (IsOfOne n) (heard_at_end m)) →
-    AllByRecursion (AllByRecursion (IsOfOne n)) (map heard_at_end kept)
-kept_within n [] all = tt
-kept_within n (m ∷ ms) all = (all 0 m refl, kept_within n ms (λ k. all (suc k)))
+-- what a node's centers have handed on, center by center
+handed_apart : (n : ℕ) (cs : List (CenterNow (List Logged))) → AllByRecursion (IsOfOne n) (heard_by (flat_map (λ (c : CenterNow (List Logged)). c.queued.inner) cs)) →
+    AllByRecursion (AllByRecursion (IsOfOne n)) (map handed_by cs)
+handed_apart n [] all = tt
+handed_apart n (c ∷ cs) all =
+    let both = subst (AllByRecursion (IsOfOne n)) (map-append heard_of c.queued.inner (flat_map (λ (d : CenterNow (List Logged)). d.queued.inner) cs)) all in (
+      all_front (IsOfOne n) (handed_by c) (heard_by (flat_map (λ (d : CenterNow (List Logged)). d.queued.inner) cs)) both,
+      handed_apart n cs (all_back (IsOfOne n) (handed_by c) (heard_by (flat_map (λ (d : CenterNow (List Logged)). d.queued.inner) cs)) both),
+    )
+
+-- so it is of what its dispatchers were called with
+ended_within : (n : ℕ) (m : RunNodeNow) (heard : List Heard) → AllByRecursion (IsOfOne n) (heard_in_order m) → AreHeardAtEnd m heard → AllByRecursion (IsOfOne n) heard
+ended_within n m heard all is =
+    let once = all_front (IsOfOne n) (heard_at_once m) (heard_by (queued_in m)) all in
+    let handed = handed_apart n m.centers (all_back (IsOfOne n) (heard_at_once m) (heard_by (queued_in m)) all) in
+    let queued = all_of_merge (IsOfOne n) (λ (h : Heard). ltb (peer_of h) n) (λ h less. lt-ltb (peer_of h) n less) (λ h e. ltb-true (peer_of h) n e) (map handed_by m.centers) is.queued handed is.handed in
+    subst (AllByRecursion (IsOfOne n)) (sym is.both) (all_append (IsOfOne n) (heard_at_once m) is.queued once queued)
+
+all_within : (n : ℕ) (kept : List RunNodeNow) (heard : List (List Heard)) → ((k : ℕ) (m : RunNodeNow) → slice_get kept k ≡ Some m → AllByRecursion (IsOfOne n) (heard_in_order m)) →
+    SideBySide AreHeardAtEnd kept heard → AllByRecursion (AllByRecursion (IsOfOne n)) heard
+all_within n [] [] all are = tt
+all_within n [] (h ∷ hs) all are = absurd are
+all_within n (m ∷ ms) [] all are = absurd are
+all_within n (m ∷ ms) (h ∷ hs) all are = (ended_within n m h (all 0 m refl) are.0, all_within n ms hs (λ k. all (suc k)) are.1)
 
 -- where the logs are those of nodes of whom this is so
-pub logs_of_nodes : (nodes : List Node) (kept : List RunNodeNow) (logs : List (Holding Logged)) → map heard_in logs ≡ map heard_at_end kept →
-    length kept ≡ length nodes → ((k : ℕ) (m : RunNodeNow) → slice_get kept k ≡ Some m → AllByRecursion (IsOfOne (length nodes)) (heard_at_end m)) →
+pub logs_of_nodes : (nodes : List Node) (kept : List RunNodeNow) (logs : List (Holding Logged)) → SideBySide AreHeardAtEnd kept (map heard_in logs) →
+    length kept ≡ length nodes → ((k : ℕ) (m : RunNodeNow) → slice_get kept k ≡ Some m → AllByRecursion (IsOfOne (length nodes)) (heard_in_order m)) →
     AreLogsOf nodes logs
-logs_of_nodes nodes kept logs e count all = record {
-  each = sym (length-map logs heard_in) ∙ ap (λ (hs : List (List Heard)). length hs) e ∙ length-map kept heard_at_end ∙ count;
-  peers = All-from_recursion (IsLogOf (length nodes)) logs (logs_within (length nodes) logs (map heard_at_end kept) e (kept_within (length nodes) kept all));
+logs_of_nodes nodes kept logs are count all = record {
+  each = sym (length-map logs heard_in) ∙ side_length AreHeardAtEnd kept (map heard_in logs) are ∙ count;
+  peers = All-from_recursion (IsLogOf (length nodes)) logs (logs_within (length nodes) logs (map heard_in logs) refl (all_within (length nodes) kept (map heard_in logs) all are));
 }
+
+-- ---- the logs of both dispatchers
+
+-- those of fast kinds, and those behind the mails, are those of the nodes
+pub both_heard : (ns : List RunNodeNow) (fast queued logs : List (Holding Logged)) → map heard_in fast ≡ map heard_at_once ns → SideBySide IsDispatcherLogOf ns queued → AreBoth fast queued logs →
+    SideBySide AreHeardAtEnd ns (map heard_in logs)
+both_heard [] [] [] [] e are both = tt
+both_heard (n ∷ ns) (f ∷ fs) (q ∷ qs) (l ∷ ls) e are both =
+    let first : heard_in f ≡ heard_at_once n = ap (λ (hs : List (List Heard)). get_or hs 0 []) e in
+    let rest : map heard_in fs ≡ map heard_at_once ns = ap (λ (hs : List (List Heard)). drop 1 hs) e in (
+      record { queued = heard_in q; both = ap heard_by both.0 ∙ map-append heard_of f.items q.items ∙ ap (λ hs. hs ++ heard_in q) first; handed = are.0 },
+      both_heard ns fs qs ls rest are.1 both.1,
+    )
+both_heard [] fast (q ∷ qs) logs e are both = absurd are
+both_heard (n ∷ ns) fast [] logs e are both = absurd are
+both_heard [] (f ∷ fs) [] logs e are both = absurd both
+both_heard [] [] [] (l ∷ ls) e are both = absurd both
+both_heard (n ∷ ns) [] (q ∷ qs) logs e are both = absurd both
+both_heard (n ∷ ns) (f ∷ fs) (q ∷ qs) [] e are both = absurd both

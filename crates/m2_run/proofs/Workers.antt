@@ -139,13 +139,17 @@ next_joined s most n centers new c ws rest all others w less j first pushed same
 abbrev joined_by : ShareNow → List (CenterNow (List Logged)) → RunNodeNow
 joined_by s centers = record { centers = centers; numbers = s.numbers; throttle = s.throttle }
 
--- all of them, over what they share
-pub node_joined : (s t : ShareNow) (most n : ℕ) (centers : List (CenterNow (List Logged))) (ws all others : List WorkerNow) → most ≤ n → t ≡ s → AreJoined s (most - n) centers ws all others →
-    joined_by t centers ≡ node_of s all
-node_joined s t most n centers ws all others behind same j =
+-- all of them
+pub centers_joined : (s : ShareNow) (most n : ℕ) (centers : List (CenterNow (List Logged))) (ws all others : List WorkerNow) → most ≤ n → AreJoined s (most - n) centers ws all others →
+    centers ≡ map center_of all
+centers_joined s most n centers ws all others behind j =
     let none : most - n ≡ zero = omega (arith, behind) in
     let i : AreJoined s zero centers ws all others = subst (λ (k : ℕ). AreJoined s k centers ws all others) none j in
-    ap (λ (u : ShareNow). joined_by u centers) same ∙ ap (joined_by s) (sym (append-nil centers) ∙ i.so_far)
+    sym (append-nil centers) ∙ i.so_far
+
+-- over what they share
+pub node_joined : (s t : ShareNow) (centers : List (CenterNow (List Logged))) (all : List WorkerNow) → t ≡ s → centers ≡ map center_of all → joined_by t centers ≡ node_of s all
+node_joined s t centers all same are = ap (λ (u : ShareNow). joined_by u centers) same ∙ ap (joined_by s) are
 
 -- behind them are those of the other nodes
 pub others_left : (s : ShareNow) (most n : ℕ) (centers : List (CenterNow (List Logged))) (ws all others : List WorkerNow) → most ≤ n → AreJoined s (most - n) centers ws all others → ws ≡ others

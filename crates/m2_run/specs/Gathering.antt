@@ -28,13 +28,11 @@ pub record OpensHalves (halves : List LooseNow) (old new : List SeenEnd) : Type 
   pub split : new ≡ old ++ behind
   pub are : map (λ (l : LooseNow). l.end) halves ≡ map told_nothing behind
 
--- what the centers of a node give: the ports and ends of the fabric, and what the dispatchers of fast kinds and those behind the queues
--- were called with
+-- what the centers of a node give: the ports and ends of the fabric, and what the dispatchers of fast kinds were called with
 pub record GivenNow : Type 0 where
   pub ports : List SeenPort
   pub ends : List SeenEnd
   pub fast : List Logged
-  pub queued : List Logged
 
 -- What these centers give goes last, center by center.
 pub record Gives (cuts : List Cut) (centers : List EndedCenterNow) (old new : GivenNow) : Type 0 where
@@ -43,7 +41,6 @@ pub record Gives (cuts : List Cut) (centers : List EndedCenterNow) (old new : Gi
   pub ends : new.ends ≡ old.ends ++ joined ends_of_each
   pub over : SideBySide (λ (c : EndedCenterNow) es. AreEndsOver cuts c.made (flat_map ends_of_record c.records) es) centers ends_of_each
   pub fast : new.fast ≡ old.fast ++ flat_map (λ (c : EndedCenterNow). c.fast) centers
-  pub queued : new.queued ≡ old.queued ++ flat_map (λ (c : EndedCenterNow). c.queued) centers
 
 -- The ports and ends of the node at place k are gathered, where it is on; else nothing changes.
 abbrev pub GathersIf : (started : Bool) → (k : ℕ) → Gathered → (old new : SeenFabric) → Type 0

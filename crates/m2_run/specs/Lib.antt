@@ -1,8 +1,10 @@
 pub mod Begins
 pub mod Closing
 pub mod Cuts
+pub mod Dispatching
 pub mod Ends
 pub mod Gathering
+pub mod Handing
 pub mod Homes
 pub mod Joined
 pub mod Kept
@@ -13,6 +15,7 @@ pub mod Once
 pub mod Opened
 pub mod Planned
 pub mod Ports
+pub mod Posts
 pub mod Ran
 pub mod Rests
 pub mod Rooms
@@ -25,3 +28,4 @@ pub mod WayLaws
 pub mod Weaving
 pub mod Working
 pub use Rattle.m2_links_go_on.specs as m2_links_go_on
+pub use Rattle.m2_mailbox.specs as m2_mailbox

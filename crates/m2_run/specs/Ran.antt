@@ -2,7 +2,6 @@
 use Rattle.std.specs.Prelude.{◌≡◌, ◌⊎◌, ℕ, ◌+◌, ◌≤◌, true, List, ◌++◌, map, slice_get, Some, IfSome}
 use Rattle.std.specs.List.{AllByRecursion}
 use Rattle.m2_bytes.specs.Items.{Holding}
-use Rattle.m2_dispatch.specs.Heard.{Heard, heard_by}
 use Rattle.m2_fabric.specs.Fabric.{SeenFabric}
 use Rattle.m2_fabric.specs.declared.port.Cut.{Cut}
 use Rattle.m2_scenario.specs.Report.{AreLogsOf, heard_in}
@@ -15,7 +14,9 @@ use Rattle.m2_weave.specs.declared.unfit.Unfit.{Unfit}
 use Rattle.m2_run.specs.Cuts.{cuts_at}
 use Rattle.m2_run.specs.Kept.{AllGathered, AreAllHeld, AreOpened, IsKeptRun, MadeIsHeld, last_in, left_of}
 use Rattle.m2_run.specs.Listening.{IsBindFault}
-use Rattle.m2_run.specs.Nodes.{KeptNow, RunNodeNow, fast_in, made_by, nodes_of, queued_in}
+use Rattle.m2_run.specs.Handing.{AreHeardAtEnd}
+use Rattle.m2_run.specs.Lists.{SideBySide}
+use Rattle.m2_run.specs.Nodes.{KeptNow, RunNodeNow, made_by, nodes_of}
 use Rattle.m2_run.specs.Once.{HasEachOnce}
 use Rattle.m2_run.specs.Opened.{AllAreThere, AreOpenedNodes, OpenedNow}
 use Rattle.m2_run.specs.Rests.{AreEndsOf, EndedNow, loose_of}
@@ -25,10 +26,6 @@ use Rattle.m2_run.specs.Weaving.{HaveHistories, StopsAtLink}
 use Rattle.m2_run.specs.declared.outcome.Outcome.{Outcome}
 use Rattle.m2_run.specs.declared.outcome.RunFault.{RunFault}
 use Rattle.m2_run.specs.declared.outcome.RunFault.TheVariants as fault
-
--- what a node's dispatchers were called with: those of fast kinds, center by center, and then those behind the queues
-abbrev pub heard_at_end : RunNodeNow → List Heard
-heard_at_end n = heard_by (fast_in n) ++ heard_by (queued_in n)
 
 -- all is still at `stop`, and nothing productive happened for as long as the limit
 pub record HasStalled (limit : ℕ) (nodes : List Node) (kept : List RunNodeNow) (start stop : ℕ) : Type 0 where
@@ -62,7 +59,7 @@ pub record HasFinished (left : ℕ) (cuts : List (Holding Cut)) (nodes : List No
   pub ends : List EndedNow
   pub ended : HaveEnded cuts nodes ran kept ends old new
   pub rest : (left ≡ 0) ⊎ AllRest kept
-  pub logs : map heard_in o.logs.items ≡ map heard_at_end (nodes_of kept)
+  pub logs : SideBySide AreHeardAtEnd (nodes_of kept) (map heard_in o.logs.items)
   pub left_is : o.left ≡ left
   pub woven : HaveHistories ends (loose_of kept) links
 
@@ -94,7 +91,7 @@ pub record HasRan (may_give : ℕ → Type 0) (limit : ℕ) (nodes : List Node) 
   pub run : IsKeptRun may_give nodes links lines kept start stop old new
   pub ends : List EndedNow
   pub are_ends : AreEndsOf kept ends
-  pub logs : map heard_in o.logs.items ≡ map heard_at_end (nodes_of kept)
+  pub logs : SideBySide AreHeardAtEnd (nodes_of kept) (map heard_in o.logs.items)
   pub told : AreLogsOf nodes o.logs.items
   pub left : o.left ≡ left_of links (nodes_of kept)
   pub woven : HaveHistories ends (loose_of kept) links

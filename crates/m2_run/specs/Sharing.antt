@@ -40,3 +40,7 @@ pub record AddsShare (shares : List ShareNow) (passes : List FirstPassesNow) (sh
   pub first : AreFirstOf share pass
   pub shares_are : shares_new ≡ shares ++ share ∷ []
   pub passes_are : passes_new ≡ passes ++ pass ∷ []
+
+-- of each node a right to give back, of the thread of its dispatcher
+abbrev pub AreRights : List ShareNow → List SeenTakePass → Type 0
+AreRights shares rights = SideBySide (λ (s : ShareNow) (r : SeenTakePass). r.place ≡ s.throttle.place) shares rights

@@ -7,6 +7,7 @@ ghost use Rattle.m2_script.specs.m2_center.Finishing.{AllOwn};
 ghost use Rattle.m2_script.specs.m2_center.Making.{CanBegin, new_center};
 ghost use Rattle.m2_fabric.specs.Fabric.{IsUnused};
 ghost use Rattle.m2_run.specs.Begins.{AddsWorkers, AreBeginning, AreDoorsAmid, AreDoorsOf, AreListening, AreNewAt, AreOfSound, ArePortsFor, ArePortsForNode, AreSendable, IsBeginning, IsNewDoor, IsNewHome, IsNewWay, IsOutIf, IsPortFor, steps_at};
+ghost use Rattle.m2_run.specs.Handing.{HasHandedNothing};
 ghost use Rattle.m2_run.specs.Homes.{steps_at_home};
 ghost use Rattle.m2_run.specs.Nodes.{IsServedBy};
 ghost use Rattle.m2_run.specs.Planned.{IsSendableStep, steps_in};
@@ -189,6 +190,7 @@ where
     ensures nodes { IfOk result (λ b. AreNodesOf (C.may_give clock.now) b.start nodes.now links.now lines.items (nodes_of_workers nodes.now shares.now b.workers.items)) }
     ensures given { IfOk result (λ b. C.may_give clock.now b.start) }
     ensures workers { IfOk result (λ b. AreWorkersOf nodes.now shares.now b.start b.workers.items) }
+    ensures none { IfOk result (λ b. AllByRecursion HasHandedNothing b.workers.items) }
     ensures out { IfOk result (λ _. AreOut nodes.now (F.seen fabric.old) (F.seen fabric.new)) }
     ensures err { IfErr result (IsFaultOf (C.may_give clock.now) nodes.now links.now lines.items (F.seen fabric.old) (F.seen fabric.new)) }
 {

@@ -1,6 +1,6 @@
 //! The end of all nodes, and what is left of each.
 
-ghost use Rattle.std.specs.Prelude.{◌≡◌, ◌+◌, ◌<◌, ◌++◌, ◌∷◌, [], IfOk, List, OnOk, length, map, slice_get, vec_capacity, vec_len};
+ghost use Rattle.std.specs.Prelude.{◌≡◌, ◌+◌, ◌<◌, ◌++◌, ◌∷◌, [], false, IfOk, List, OnOk, length, map, slice_get, vec_capacity, vec_len};
 ghost use Rattle.std.specs.List.{AllByRecursion};
 ghost use Rattle.std.specs.Option.{option_map};
 ghost use Rattle.m2_handover.specs.Handed.{IsOfNamed, OnItsWay};
@@ -13,6 +13,9 @@ ghost use Rattle.m2_run.specs.Rests.{IsInside};
 ghost use Rattle.m2_trail.specs.declared.home.HomeOf.{HomeOf};
 ghost use Rattle.m2_run.specs.Cuts.{bound_of, cuts_at};
 ghost use Rattle.m2_run.specs.Kept.{IsOpenedAs};
+ghost use Rattle.m2_bytes.specs.Items.{Holding};
+ghost use Rattle.m2_dispatch.specs.declared.logged.Logged.{Logged};
+ghost use Rattle.m2_run.specs.Handing.{AddsLog, IsLogOf};
 ghost use Rattle.m2_run.specs.Lists.{SideBySide};
 ghost use Rattle.m2_run.specs.Nodes.{IsServedBy, RunNodeNow};
 ghost use Rattle.m2_run.specs.Opened.{AreOpenedNodes, AreRightsTo, EndsCenter, EndsCenters, EndsNext, HasRoomsFor, IsOpenedNode, IsTakenApart, WeighsUp, ended_of, loose_in, untold};
@@ -22,6 +25,7 @@ ghost use Rattle.m2_trail.specs.Arrivals.{LooseNow};
 ghost use Rattle.m2_run.specs.Types.{IsCenterOfTypes};
 
 use crate::cuts::open_end;
+use crate::dispatcher::NodeDispatcher;
 use crate::end::RunEnd;
 use crate::inboxes::Rights;
 use crate::node::{RunCenter, RunNode, clear_centers, clear_nodes, end_records};
@@ -138,16 +142,20 @@ impl<'s, P: Port> Model for Opened<'s, P> {
     ghost view = { λ o. record { centers = o.centers.items; left = o.left; puts = o.rights.puts.items; gets = o.rights.gets.items } };
 }
 
-/// Ends all nodes. `cuts` has those of the sockets that each node opened. Err is want of memory; they are ended then too.
+/// Ends all nodes, and puts what the dispatcher of each was called with last among these logs. `cuts` has those of the sockets that
+/// each node opened. Err is want of memory; they are ended then too.
 pub(crate) fn end_all<'s, P: Port, R: Wait + Copy, B: Inboxes<P::End>>(
     alloc: Global,
     cuts: &[CutList],
     mut all: Vec<RunNode<'s, HomePort<'_, P, R, B>>>,
+    logs: &mut Vec<LoggedList>,
 ) -> Result<Vec<Opened<'s, P>>, NoMemory>
-    requires { length cuts.now ≡ length all.items }
+    requires cuts { length cuts.now ≡ length all.items }
+    requires logs { logs.old.items ≡ [] }
     ensures ends { IfOk result (λ ends. AreOpenedNodes (cuts_at cuts.now) all.entry.items ends.items) }
     ensures rooms { IfOk result (λ ends. HasRoomsFor (slice_get B.inboxes) 0 ends.items) }
     ensures types { IfOk result (λ _. AllByRecursion (λ (n : RunNodeNow). AllByRecursion IsCenterOfTypes n.centers) all.entry.items) }
+    ensures logs { OnOk result (SideBySide IsLogOf all.entry.items logs.new.items) }
 {
     let mut ends = Vec::new(alloc);
     if ends.reserve(all.len()).is_err() {
@@ -159,7 +167,7 @@ pub(crate) fn end_all<'s, P: Port, R: Wait + Copy, B: Inboxes<P::End>>(
     let mut number: usize = 0;
     'nodes: while let Some(node) = all.pop() {
         let place = ends.len();
-        match end_next(alloc, cuts[place].as_slice(), node, number, &mut ends) {
+        match end_next(alloc, cuts[place].as_slice(), node, number, &mut ends, logs) {
             Ok(behind) => number = behind,
             Err(NoMemory) => {
                 clear_nodes(all);
@@ -180,14 +188,16 @@ fn end_next<'s, P: Port, R: Wait + Copy, B: Inboxes<P::End>>(
     node: RunNode<'s, HomePort<'_, P, R, B>>,
     number: usize,
     ends: &mut Vec<Opened<'s, P>>,
+    logs: &mut Vec<LoggedList>,
 ) -> Result<usize, NoMemory>
     requires { vec_len ends.old < vec_capacity ends.old }
     ensures ends { IfOk result (λ behind. EndsNext cuts.now (slice_get B.inboxes) number node.entry ends.old.items behind ends.new.items) }
     ensures types { OnOk result (AllByRecursion IsCenterOfTypes node.entry.centers) }
+    ensures log { OnOk result (AddsLog node.entry logs.old.items logs.new.items) }
     ensures len { OnOk result (vec_len ends.new ≡ vec_len ends.old + 1) }
     ensures capacity { OnOk result (vec_capacity ends.new ≡ vec_capacity ends.old) }
 {
-    let ended = end_node(alloc, cuts, node, number)?;
+    let ended = end_node(alloc, cuts, node, number, logs)?;
     let Some(behind) = number.checked_add(ended.rights.gets.len()) else {
         throw_away_one(ended);
         return Err(NoMemory);
@@ -202,13 +212,19 @@ fn end_node<'s, P: Port, R: Wait + Copy, B: Inboxes<P::End>>(
     cuts: &[Cut],
     node: RunNode<'s, HomePort<'_, P, R, B>>,
     number: usize,
+    logs: &mut Vec<LoggedList>,
 ) -> Result<Opened<'s, P>, NoMemory>
     ensures end { IfOk result (λ o. IsOpenedNode cuts.now node.entry o) }
     ensures weighs { IfOk result (λ o. WeighsUp o) }
     ensures rights { IfOk result (λ o. AreRightsTo (slice_get B.inboxes) number o) }
     ensures types { IfOk result (λ _. AllByRecursion IsCenterOfTypes node.entry.centers) }
+    ensures log { OnOk result (AddsLog node.entry logs.old.items logs.new.items) }
 {
-    let (centers, shared) = node.into_parts();
+    let (centers, shared, dispatcher) = node.into_parts();
+    if let Err(NoMemory) = end_dispatcher(dispatcher, logs) {
+        clear_centers(centers, shared);
+        return Err(NoMemory);
+    }
     let mut ended = Opened {
         centers: Vec::new(alloc),
         left: LeftHalves {
@@ -228,6 +244,23 @@ fn end_node<'s, P: Port, R: Wait + Copy, B: Inboxes<P::End>>(
             Err(NoMemory)
         }
     }
+}
+
+/// Ends its dispatcher, and puts what that was called with last. Err is want of memory, or that the dispatcher lacked some.
+fn end_dispatcher(
+    dispatcher: NodeDispatcher<'_>,
+    logs: &mut Vec<LoggedList>,
+) -> Result<(), NoMemory>
+    ensures lasted { OnOk result (dispatcher.entry.lost ≡ false) }
+    ensures log { OnOk result ((log : Holding Logged) × (log.items ≡ dispatcher.entry.log) × (logs.new.items ≡ logs.old.items ++ log ∷ [])) }
+{
+    let is_lost = dispatcher.is_lost();
+    let log = dispatcher.into_log();
+    if is_lost {
+        return Err(NoMemory);
+    }
+    logs.push(log)?;
+    Ok(())
 }
 
 /// Ends these centers of one.

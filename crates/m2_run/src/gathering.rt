@@ -11,7 +11,7 @@ ghost use Rattle.m2_run.specs.Ends.{seen_end};
 ghost use Rattle.m2_run.specs.Gathering.{ArePortsTold, GathersIf, Gives, GivesBack, Opens, OpensHalves};
 ghost use Rattle.m2_run.specs.Kept.{AllGathered, ends_of_record};
 ghost use Rattle.m2_run.specs.Nodes.{KeptNow, nodes_of};
-ghost use Rattle.m2_run.specs.Ran.{heard_at_end};
+ghost use Rattle.m2_run.specs.Handing.{AreBoth, heard_at_once};
 ghost use Rattle.m2_run.specs.Rests.{AreEndsOf, EndedCenterNow, loose_of};
 ghost use Rattle.m2_run.specs.Way.{ArePortsOut};
 ghost use Rattle.m2_scenario.specs.Report.{heard_in};
@@ -30,7 +30,7 @@ use std::alloc::Global;
 use std::marker::Model;
 use std::vec::IntoIter;
 
-/// Gives the ports and ends of all nodes back to the fabric, and gives of each node what its dispatchers were called with.
+/// Gives the ports and ends of all nodes back to the fabric, and gives of each node what its dispatchers of fast kinds were called with.
 /// `cuts` has those of the sockets that each node opened, and `loose` the halves that no record took, those of the last
 /// node first.
 pub(crate) fn gather_all<F: Fabric>(
@@ -48,7 +48,7 @@ pub(crate) fn gather_all<F: Fabric>(
     ensures gathered { IfOk result (λ _. (kept : List KeptNow) → AreEndsOf kept ends.entry.items → loose.items ≡ loose_of kept →
         AllGathered cuts.now nodes.now kept (F.seen fabric.old) (F.seen fabric.new)) }
     ensures ports { IfOk result (λ _. ArePortsTold nodes.now ends.entry.items (F.seen fabric.new)) }
-    ensures logs { IfOk result (λ logs. (kept : List KeptNow) → AreEndsOf kept ends.entry.items → map heard_in logs.items ≡ map heard_at_end (nodes_of kept)) }
+    ensures logs { IfOk result (λ logs. (kept : List KeptNow) → AreEndsOf kept ends.entry.items → map heard_in logs.items ≡ map heard_at_once (nodes_of kept)) }
 {
     let Ok(mut logs) = Vec::with_capacity(alloc, ends.len()) else {
         throw_away_ends(ends);
@@ -85,7 +85,7 @@ fn gather_node<F: Fabric>(
     requires { node.now.started ≡ true → (F.seen fabric.old).out place ≡ Some node.now.centers }
     ensures gives_back { OnOk result (GivesBack cuts.now node.now.started place ended.entry (take ended.entry.halves (into_iter_items loose.old)) (F.seen fabric.old) (F.seen fabric.new)) }
     ensures loose { OnOk result (into_iter_items loose.new ≡ drop ended.entry.halves (into_iter_items loose.old)) }
-    ensures log { IfOk result (λ log. log.items ≡ flat_map (λ (c : EndedCenterNow). c.fast) ended.entry.centers ++ flat_map (λ (c : EndedCenterNow). c.queued) ended.entry.centers) }
+    ensures log { IfOk result (λ log. log.items ≡ flat_map (λ (c : EndedCenterNow). c.fast) ended.entry.centers) }
 {
     let Ended { centers, halves } = ended;
     let count = centers.len();
@@ -93,18 +93,16 @@ fn gather_node<F: Fabric>(
         ports: Vec::new(alloc),
         ends: Vec::new(alloc),
         fast: Vec::new(alloc),
-        queued: Vec::new(alloc),
     };
     give_centers(centers, cuts, &mut given)?;
     let Given {
         ports,
         mut ends,
         fast,
-        queued,
     } = given;
     give_halves(halves, loose, &mut ends)?;
     give_back_if(node, fabric, place, count, ports, ends)?;
-    one_log(fast, queued)
+    Ok(Items::from_vec(fast))
 }
 
 /// Gives the ports of a node with so many centers, and its ends, back to the fabric, where the node is on. Err is want of memory: a
@@ -131,14 +129,12 @@ fn give_back_if<F: Fabric>(
     Ok(())
 }
 
-/// What the centers of a node give: the ports and ends of the fabric, and of the dispatchers of fast kinds, and of those behind
-/// the queues, what they were called with.
+/// What the centers of a node give: the ports and ends of the fabric, and what the dispatchers of fast kinds were called with.
 #[derive(Drop)]
 struct Given<P: Port> {
     ports: Vec<P>,
     ends: Vec<P::End>,
     fast: Vec<Logged>,
-    queued: Vec<Logged>,
 }
 
 impl<P: Port> Model for Given<P> {
@@ -147,7 +143,7 @@ impl<P: Port> Model for Given<P> {
 
     ghost Value = { GivenNow };
 
-    ghost view = { λ g. record { ports = map P.seen g.ports.items; ends = map P.End.seen g.ends.items; fast = g.fast.items; queued = g.queued.items } };
+    ghost view = { λ g. record { ports = map P.seen g.ports.items; ends = map P.End.seen g.ends.items; fast = g.fast.items } };
 }
 
 /// What these centers give goes last. Err is want of memory; they are ended then too.
@@ -182,7 +178,7 @@ fn give_center<P: Port>(
         made,
         records,
         fast,
-        queued,
+        queued: _,
         throttle,
         mut pass,
     } = center;
@@ -195,8 +191,7 @@ fn give_center<P: Port>(
         &mut into.ends,
     )?;
     add_port(port, &mut into.ports)?;
-    add_log(fast, &mut into.fast)?;
-    add_log(queued, &mut into.queued)
+    add_log(fast, &mut into.fast)
 }
 
 /// Ends these records, and puts the ends inside their ends last, in order. Err is want of memory; they are ended then too.
@@ -306,6 +301,29 @@ fn add_log(log: LoggedList, into: &mut Vec<Logged>) -> Result<(), NoMemory>
         into.push(call)?;
     }
     Ok(())
+}
+
+/// The calls of both dispatchers of each node, those of these lists one behind the other. Err is want of memory, or that one has more
+/// nodes than the other.
+pub(crate) fn both_logs(
+    alloc: Global,
+    fast: LogsList,
+    queued: Vec<LoggedList>,
+) -> Result<LogsList, NoMemory>
+    ensures { IfOk result (λ logs. AreBoth fast.items queued.items logs.items) }
+{
+    let mut queued = queued.into_iter();
+    let mut all = Vec::new(alloc);
+    'nodes: for log in fast.into_vec() {
+        let Some(more) = queued.next() else {
+            return Err(NoMemory);
+        };
+        all.push(one_log(log.into_vec(), more.into_vec())?)?;
+    }
+    match queued.next() {
+        None => Ok(Items::from_vec(all)),
+        Some(_) => Err(NoMemory),
+    }
 }
 
 /// The calls of both, one behind the other.

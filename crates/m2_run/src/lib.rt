@@ -1,7 +1,7 @@
 //! The nodes of a scenario on threads, over real sockets: one call.
 //!
 //! What it is: [`run`] makes the nodes of a valid scenario over the ports of a [`Fabric`](m2_fabric::Fabric), each with
-//! as many event threads as the scenario says and dispatchers that log, and runs them until every post of the lossless links
+//! as many event threads as the scenario says and a thread of its dispatcher, which they feed by mails, and runs them until every post of the lossless links
 //! that stay up was dispatched, or until all is still; then it weaves the two sides of each link, by which the promise that a lossless
 //! session is never reset is kept and not assumed, gives all ports and ends back, and tells an [`Outcome`] or a
 //! [`RunFault`]. An [`Observer`] sees what is left of the nodes before that. `specs/Kept.antt` says what is kept of a run and what makes it one of a scenario, of this fabric and of
@@ -17,6 +17,7 @@
 mod beginning;
 mod counting;
 mod cuts;
+mod dispatcher;
 mod end;
 mod ending;
 mod gathering;
@@ -25,16 +26,20 @@ mod laws;
 mod left;
 mod lines;
 mod listening;
+mod mails;
 mod node;
 mod observing;
 mod once;
 mod outcome;
 mod planning;
 mod port;
+mod posts;
 mod ranges;
 mod records;
 mod resting;
 mod running;
+mod sending;
+mod serving;
 mod settling;
 mod sharing;
 mod still;

@@ -9,19 +9,27 @@ ghost use Rattle.m2_fabric.specs.End.{SeenEnd};
 ghost use Rattle.m2_fabric.specs.Log.{log_of};
 ghost use Rattle.m2_links_go_on.specs.ClusterTold.{OneByOne};
 ghost use Rattle.m2_record.specs.Sources.{end_at};
+ghost use Rattle.m2_dispatch.specs.Heard.{heard_by};
+ghost use Rattle.m2_dispatch.specs.m2_shared.Place.{IsShared};
+ghost use Rattle.m2_script.specs.m2_center.m2_turn.HandingOn.{HandsOn};
+ghost use Rattle.m2_run.specs.Handing.{IsDispatched};
 ghost use Rattle.m2_run.specs.Nodes.{IsServedBy, ends_of_node};
 ghost use Rattle.m2_run.specs.Way.{NodePollsSo, NodeTurnsSo, PollsSo, TurnsSo};
 ghost use Rattle.m2_run.specs.declared.end.RunEnd.{RunEnd};
 
+use crate::dispatcher::NodeDispatcher;
+use crate::mails::dispatch_all;
 use crate::port::RunPort;
 use m2_bytes::NoMemory;
-use m2_dispatch::LogDispatcher;
+use m2_dispatch::{LogDispatcher, Parcel};
 use m2_fabric::{End, EndLog, Port, SocketId};
 use m2_record::Record;
 use m2_script::{Center, CenterRest, CenterTurn, NodeShared, Passes};
 use m2_shared::{TakePass, Throttle};
 use std::alloc::Global;
+use std::collections::VecDeque;
 use std::marker::Model;
+use std::sync::Condvar;
 use std::sync::atomic::AtomicBool;
 
 /// The center of an event thread, whose dispatchers log.
@@ -32,6 +40,8 @@ pub(crate) struct Shares {
     pub(crate) shared: NodeShared,
     /// Whether a thread waits until another gives back what the throttle has granted. No clause says anything of it.
     pub(crate) waits: AtomicBool,
+    /// Told where an event thread has put something into its mail, for which the dispatcher's thread waits. Nor of this.
+    pub(crate) posted: Condvar,
 }
 
 impl Model for Shares {
@@ -52,30 +62,42 @@ impl Shares {
     }
 }
 
-/// A node whose threads have ended, or don't run yet: the centers of its threads, in order, and what they share. It can't be
-/// dropped, since centers can't.
+/// A node whose threads have ended: the centers of its event threads, in order, what they share, and its dispatcher, which was
+/// called with what the centers have handed on, each center's in order. It can't be dropped, since centers can't.
 pub(crate) struct RunNode<'s, P: Port> {
     centers: Vec<RunCenter<P>>,
     shared: &'s NodeShared,
+    dispatcher: NodeDispatcher<'s>,
 }
 
 impl<'s, P: Port> Model for RunNode<'s, P> {
+    ghost use Rattle.m2_run.specs.Handing.{IsDispatched};
     ghost use Rattle.m2_run.specs.Nodes.{IsRunNode, RunNodeNow};
 
     ghost Value = { RunNodeNow };
 
     ghost view = { λ n. record { centers = n.centers.items; numbers = n.shared.now.numbers; throttle = n.shared.now.throttle } };
 
-    ghost invariant = { λ n. IsRunNode (record { centers = n.centers.items; numbers = n.shared.now.numbers; throttle = n.shared.now.throttle }) };
+    ghost invariant = { λ n. IsRunNode (record { centers = n.centers.items; numbers = n.shared.now.numbers; throttle = n.shared.now.throttle })
+        × IsDispatched n.shared.now.throttle.place n.centers.items n.dispatcher };
 }
 
 impl<'s, P: Port> RunNode<'s, P> {
-    /// A node of these centers, whose passes are to what they share.
-    pub(crate) fn new(centers: Vec<RunCenter<P>>, shared: &'s NodeShared) -> RunNode<'s, P>
-        requires { AllByRecursion (IsServedBy shared.now.numbers shared.now.throttle) centers.items }
+    /// A node of these centers, whose passes are to what they share, and of this dispatcher.
+    pub(crate) fn new(
+        centers: Vec<RunCenter<P>>,
+        shared: &'s NodeShared,
+        dispatcher: NodeDispatcher<'s>,
+    ) -> RunNode<'s, P>
+        requires served { AllByRecursion (IsServedBy shared.now.numbers shared.now.throttle) centers.items }
+        requires dispatched { IsDispatched shared.now.throttle.place centers.items dispatcher }
         ensures { result ≡ record { centers = centers.items; numbers = shared.now.numbers; throttle = shared.now.throttle } }
     {
-        RunNode { centers, shared }
+        RunNode {
+            centers,
+            shared,
+            dispatcher,
+        }
     }
 
     /// Its centers, in order.
@@ -85,22 +107,34 @@ impl<'s, P: Port> RunNode<'s, P> {
         self.centers.as_slice()
     }
 
-    /// Its centers, and what they share.
-    pub(crate) fn into_parts(self) -> (Vec<RunCenter<P>>, &'s NodeShared)
+    /// Its centers, what they share, and its dispatcher.
+    pub(crate) fn into_parts(self) -> (Vec<RunCenter<P>>, &'s NodeShared, NodeDispatcher<'s>)
         ensures centers { result.0.items ≡ self.entry.centers }
         ensures shared_numbers { result.1.now.numbers ≡ self.entry.numbers }
         ensures shared_throttle { result.1.now.throttle ≡ self.entry.throttle }
         ensures served { AllByRecursion (IsServedBy self.entry.numbers self.entry.throttle) self.entry.centers }
+        ensures dispatched { IsDispatched self.entry.throttle.place self.entry.centers result.2 }
     {
-        let RunNode { centers, shared } = self;
-        (centers, shared)
+        let RunNode {
+            centers,
+            shared,
+            dispatcher,
+        } = self;
+        (centers, shared, dispatcher)
     }
 
-    /// Each of its centers takes a turn at this moment, one after another. Err is want of memory.
-    pub(crate) fn turn(&mut self, now: u64) -> Result<(), NoMemory>
+    /// Each of its centers takes a turn at this moment, one after another, and what they hand on is dispatched. Err is want of
+    /// memory.
+    pub(crate) fn turn(&mut self, alloc: Global, now: u64) -> Result<(), NoMemory>
         ensures { OnOk result (NodeTurnsSo (RunEnd P.End) now self.old self.new) }
     {
-        turn_each(&mut self.centers, self.shared, now)
+        turn_each(
+            alloc,
+            &mut self.centers,
+            self.shared,
+            &mut self.dispatcher,
+            now,
+        )
     }
 
     /// Each of its centers waits at its port for a millisecond.
@@ -118,20 +152,31 @@ impl<'s, P: Port> RunNode<'s, P> {
     }
 }
 
-/// Each of these centers takes a turn.
+/// Each of these centers takes a turn, and what it hands on is dispatched.
 fn turn_each<P: Port>(
+    alloc: Global,
     centers: &mut Vec<RunCenter<P>>,
     shared: &NodeShared,
+    dispatcher: &mut NodeDispatcher<'_>,
     now: u64,
 ) -> Result<(), NoMemory>
-    requires { AllByRecursion (IsServedBy shared.now.numbers shared.now.throttle) centers.old.items }
+    requires served { AllByRecursion (IsServedBy shared.now.numbers shared.now.throttle) centers.old.items }
+    requires dispatched { IsDispatched shared.now.throttle.place centers.old.items dispatcher.old }
     ensures turns { OnOk result (OneByOne (TurnsSo (RunEnd P.End) now shared.now.numbers shared.now.throttle) centers.old.items centers.new.items) }
     ensures served { AllByRecursion (IsServedBy shared.now.numbers shared.now.throttle) centers.new.items }
+    ensures dispatched { IsDispatched shared.now.throttle.place centers.new.items dispatcher.new }
 {
+    let mut parcels = VecDeque::new(alloc);
+    let mut turned = Ok(());
     'centers: for j in 0..centers.len() {
-        turn_center(&mut centers[j], shared, now).memory()?;
+        let turn = turn_center(&mut centers[j], shared, now, &mut parcels);
+        dispatch_all(&mut parcels, dispatcher);
+        if turn.memory().is_err() || dispatcher.is_lost() {
+            turned = Err(NoMemory);
+        }
     }
-    Ok(())
+    parcels.destroy_empty();
+    turned
 }
 
 /// Each of these centers waits at its port.
@@ -157,20 +202,23 @@ fn log_in<'a, P: Port>(centers: &'a [RunCenter<P>], id: &SocketId) -> Option<&'a
     None
 }
 
-/// A turn of a center at this moment.
+/// A turn of a center at this moment. What it hands on goes last among these parcels.
 pub(crate) fn turn_center<P: Port>(
     center: &mut RunCenter<P>,
     shared: &NodeShared,
     now: u64,
+    into: &mut VecDeque<Parcel>,
 ) -> CenterTurn
     requires numbers { center.old.numbers.place ≡ shared.now.numbers.place }
     requires throttle { center.old.bytes.place ≡ shared.now.throttle.place }
+    requires shared { IsShared shared.now.throttle.place }
+    ensures on { HandsOn heard_by shared.now.throttle.place center.old.queued.inner center.new.queued.inner into.old.items into.new.items }
     ensures turns { TurnsSo (RunEnd P.End) now shared.now.numbers shared.now.throttle center.old center.new }
     ensures numbers { center.new.numbers.place ≡ center.old.numbers.place }
     ensures throttle { center.new.bytes.place ≡ center.old.bytes.place }
 {
     center.is_center();
-    let turn = center.turn(shared, now);
+    let turn = center.turn_on(shared, now, into);
     center.is_center();
     turn
 }
@@ -214,7 +262,8 @@ pub(crate) fn room_for_centers<P: Port>(
 /// Throws away these nodes, with what they hold.
 pub(crate) fn clear_nodes<P: Port>(mut nodes: Vec<RunNode<'_, P>>) {
     'nodes: while let Some(node) = nodes.pop() {
-        let (centers, shared) = node.into_parts();
+        let (centers, shared, dispatcher) = node.into_parts();
+        let _log = dispatcher.into_log();
         clear_centers(centers, shared);
     }
     nodes.destroy_empty();
@@ -225,14 +274,15 @@ pub(crate) fn clear_centers<P: Port>(mut centers: Vec<RunCenter<P>>, shared: &No
     requires { AllByRecursion (IsServedBy shared.now.numbers shared.now.throttle) centers.items }
 {
     'centers: while let Some(center) = centers.pop() {
-        clear_center(center, shared);
+        let _pass = clear_center(center, shared);
     }
     centers.destroy_empty();
 }
 
-/// Throws away a center, whose passes are to what it shares.
-pub(crate) fn clear_center<P: Port>(center: RunCenter<P>, shared: &NodeShared)
+/// Throws away a center, whose passes are to what it shares, and gives the one to the throttle.
+pub(crate) fn clear_center<P: Port>(center: RunCenter<P>, shared: &NodeShared) -> TakePass
     requires { IsServedBy shared.now.numbers shared.now.throttle center }
+    ensures { result.place ≡ shared.now.throttle.place }
 {
     let CenterRest {
         port: _,
@@ -249,6 +299,7 @@ pub(crate) fn clear_center<P: Port>(center: RunCenter<P>, shared: &NodeShared)
     end_records(records, &shared.throttle, &mut pass);
     let _fast = out.clear(&shared.throttle, &mut pass);
     let _queued = queued.finish(&shared.throttle, &mut pass);
+    pass
 }
 
 /// Ends these records, which give back what they hold.
@@ -270,7 +321,11 @@ pub(crate) fn end_records<E: End>(
 /// Throws away what the threads of nodes share, where nobody has passes to it any more.
 pub(crate) fn clear_shares(mut shares: Vec<Shares>) {
     'nodes: while let Some(share) = shares.pop() {
-        let Shares { shared, waits: _ } = share;
+        let Shares {
+            shared,
+            waits: _,
+            posted: _,
+        } = share;
         let NodeShared {
             numbers: _,
             throttle: _,

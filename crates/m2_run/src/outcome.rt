@@ -4,8 +4,8 @@ use m2_scenario::LogsList;
 use m2_weave::Unfit;
 use thiserror::Error;
 
-/// What came of a run: of each node, in the scenario's order, what its dispatchers were called with, that of fast
-/// kinds first and then the one behind the queue; and how many posts weren't dispatched, over all lossless links of
+/// What came of a run: of each node, in the scenario's order, what its dispatchers were called with, those of fast
+/// kinds first and then the one behind the mails; and how many posts weren't dispatched, over all lossless links of
 /// which neither end was marked down. Where that isn't 0 the run has stalled.
 #[derive(Debug, Drop)]
 pub struct Outcome {

@@ -5,13 +5,15 @@ ghost use Rattle.std.specs.Bool.{OnTrue};
 ghost use Rattle.std.specs.List.{AllByRecursion};
 ghost use Rattle.m2_run.specs.Begins.{AreDoorsOf};
 ghost use Rattle.m2_run.specs.Cuts.{AreCutsOf, cuts_at};
+ghost use Rattle.m2_run.specs.Handing.{AreBoth, HasHandedNothing, IsLogOf};
+ghost use Rattle.m2_run.specs.Lists.{SideBySide};
 ghost use Rattle.m2_run.specs.Nodes.{RunNodeNow};
 ghost use Rattle.m2_run.specs.Opened.{AreOpenedNodes, HasRoomsFor, OpenedNow, made_of_all};
 ghost use Rattle.m2_run.specs.Settling.{HasPlayed, HasStopped};
 ghost use Rattle.m2_run.specs.declared.outcome.RunFault.TheVariants as faults;
 ghost use Rattle.m2_run.specs.Ran.{AreLeftBy, EndsInFault, HasFinished, HasRan, IsFaultOf, fault_told};
 ghost use Rattle.m2_run.specs.Rooms.{AreRoomsOf, homes_of};
-ghost use Rattle.m2_run.specs.Sharing.{AreSharesOf};
+ghost use Rattle.m2_run.specs.Sharing.{AreRights, AreSharesOf, IsShare};
 ghost use Rattle.m2_run.specs.Still.{IsAtRest};
 ghost use Rattle.m2_run.specs.Types.{IsCenterOfTypes};
 ghost use Rattle.m2_run.specs.Way.{AreOut, ArePortsOut};
@@ -24,25 +26,27 @@ use crate::beginning::{Begun, Doors, begin};
 use crate::counting::posts_that_count;
 use crate::cuts::cuts_of_all;
 use crate::ending::{AllEnded, Opened, end_all, throw_away_opened};
-use crate::gathering::gather_all;
+use crate::gathering::{both_logs, gather_all};
 use crate::inboxes::{Rooms, close_all, let_go, let_rooms_go, rooms_of};
 use crate::node::{RunNode, Shares, clear_nodes, clear_shares};
 use crate::observing::{Observer, join_seen};
 use crate::once::each_once;
 use crate::outcome::{Outcome, RunFault};
+use crate::posts::work_out;
 use crate::resting::all_rest;
 use crate::settling::{Settled, settle};
-use crate::sharing::{FirstPasses, Shared, shared_by};
-use crate::threads::{Joined, join_all, work_all};
+use crate::sharing::{FirstPasses, Shared, rights_of, shared_by};
+use crate::threads::{Joined, join_all};
 use crate::weaving::weave_all;
 use crate::worker::Signs;
 use m2_bytes::NoMemory;
-use m2_dispatch::LogDispatcher;
+use m2_dispatch::{LogDispatcher, LoggedList};
 use m2_edge::{Clock, Gate, Words};
 use m2_fabric::{CutList, End, Fabric, Port};
 use m2_handover::{HomePort, InboxNames, Inboxes, LentInboxes};
 use m2_links_go_on::{WeaveFault, centers_run_their_course};
-use m2_scenario::{Line, LineList, Link, Node};
+use m2_scenario::{Line, LineList, Link, LogsList, Node};
+use m2_shared::TakePass;
 use std::alloc::Global;
 use std::marker::Brand;
 use std::sync::Wait;
@@ -241,22 +245,29 @@ where
             let_go(inboxes);
             Err(fault)
         }
-        Ok(Stopped { mut all, left }) => {
+        Ok(
+            Stopped {
+                mut all,
+                logs,
+                left,
+            },
+        ) => {
             centers_run_their_course::<LogDispatcher, C>();
             match close_all(rt, alloc, inboxes, all.as_mut_slice()) {
                 Err(NoMemory) => {
                     throw_away_opened(all);
                     Err(RunFault::NoMemory)
                 }
-                Ok(()) => finish(alloc, nodes, links, cuts, fabric, all, left, observer),
+                Ok(()) => finish(alloc, nodes, links, cuts, fabric, all, logs, left, observer),
             }
         }
     }
 }
 
-/// All nodes taken apart, and how many posts they leave.
+/// All nodes taken apart, what the dispatcher of each was called with, and how many posts they leave.
 struct Stopped<'s, P: Port> {
     all: Vec<Opened<'s, P>>,
+    logs: Vec<LoggedList>,
     left: u64,
 }
 
@@ -276,7 +287,7 @@ fn run_threads<'a, 's, R, F, C, W, G, B>(
     doors: Doors<'a, <F::Port as Port>::End, B>,
     rests: &'a [AtomicBool],
     shares: &'s [Shares],
-    passes: Vec<FirstPasses>,
+    mut passes: Vec<FirstPasses>,
 ) -> Result<Stopped<'s, F::Port>, RunFault>
 where
     R: Threads + Wait + Send + Sync + Copy,
@@ -291,17 +302,20 @@ where
     requires cuts { AreCutsOf nodes.now lines.items cuts.now }
     requires doors { AreDoorsOf (slice_get B.inboxes) (homes_of nodes.now) doors }
     requires shares { AreSharesOf (length nodes.now) shares.now passes.items }
-    ensures stopped { IfOk result (λ s. (start stop : ℕ) × (ran : List RunNodeNow) × HasStopped (C.may_give clock.now) limit nodes.now links.now lines.items cuts.now start stop ran s.left s.all.items) }
+    ensures stopped { IfOk result (λ s. (start stop : ℕ) × (ran : List RunNodeNow) × HasStopped (C.may_give clock.now) limit nodes.now links.now lines.items cuts.now start stop ran s.left s.all.items × SideBySide IsLogOf ran s.logs.items) }
     ensures rooms { IfOk result (λ s. HasRoomsFor (slice_get B.inboxes) 0 s.all.items) }
     ensures out { IfOk result (λ _. AreOut nodes.now (F.seen fabric.old) (F.seen fabric.new)) }
     ensures err { IfErr result (IsFaultOf (C.may_give clock.now) nodes.now links.now lines.items (F.seen fabric.old) (F.seen fabric.new)) }
 {
+    let Ok(rights) = rights_of(alloc, shares, &mut passes) else {
+        return Err(RunFault::NoMemory);
+    };
     let posts = posts_that_count(links, lines.as_slice());
     let begun = begin::<R, F, C, W, B>(
         *rt, alloc, nodes, links, lines, fabric, clock, words, doors, shares, passes,
     )?;
     play_out(
-        rt, alloc, nodes, links, cuts, begun, rests, shares, posts, limit, clock, gate,
+        rt, alloc, nodes, links, cuts, begun, rests, shares, rights, posts, limit, clock, gate,
     )
 }
 
@@ -316,6 +330,7 @@ fn play_out<'s, R, P, C, G, B>(
     begun: Begun<'s, HomePort<'_, P, R, B>>,
     rests: &[AtomicBool],
     shares: &'s [Shares],
+    rights: Vec<TakePass>,
     posts: u64,
     limit: u64,
     clock: &C,
@@ -332,22 +347,29 @@ where
     requires cuts { length cuts.now ≡ length nodes.now }
     requires given { C.may_give clock.now begun.start }
     requires workers { AreWorkersOf nodes.now shares.now begun.start begun.workers.items }
-    ensures stopped { IfOk result (λ s. (stop : ℕ) × (ran : List RunNodeNow) × HasPlayed (C.may_give clock.now) limit nodes.now links.now begun.entry.start stop (nodes_of_workers nodes.now shares.now begun.entry.workers.items) ran s.left × AreOpenedNodes (cuts_at cuts.now) ran s.all.items × AllByRecursion (λ (n : RunNodeNow). AllByRecursion IsCenterOfTypes n.centers) ran) }
+    requires rights { AreRights shares.now rights.items }
+    requires shared { AllByRecursion IsShare shares.now }
+    requires none { AllByRecursion HasHandedNothing begun.workers.items }
+    ensures stopped { IfOk result (λ s. (stop : ℕ) × (ran : List RunNodeNow) × HasPlayed (C.may_give clock.now) limit nodes.now links.now begun.entry.start stop (nodes_of_workers nodes.now shares.now begun.entry.workers.items) ran s.left × AreOpenedNodes (cuts_at cuts.now) ran s.all.items × AllByRecursion (λ (n : RunNodeNow). AllByRecursion IsCenterOfTypes n.centers) ran × SideBySide IsLogOf ran s.logs.items) }
     ensures rooms { IfOk result (λ s. HasRoomsFor (slice_get B.inboxes) 0 s.all.items) }
     ensures err { IfErr result (λ fault. fault ≡ faults.NoMemory) }
 {
     let played = play(
-        rt, alloc, nodes, links, begun, rests, shares, posts, limit, clock, gate,
+        rt, alloc, nodes, links, begun, rests, shares, rights, posts, limit, clock, gate,
     );
     match played {
         Err(NoMemory) => Err(RunFault::NoMemory),
-        Ok(Played { all, settled }) => match end_all(alloc, cuts, all) {
-            Err(NoMemory) => Err(RunFault::NoMemory),
-            Ok(all) => Ok(Stopped {
-                all,
-                left: settled.left,
-            }),
-        },
+        Ok(Played { all, settled }) => {
+            let mut logs = Vec::new(alloc);
+            match end_all(alloc, cuts, all, &mut logs) {
+                Err(NoMemory) => Err(RunFault::NoMemory),
+                Ok(all) => Ok(Stopped {
+                    all,
+                    logs,
+                    left: settled.left,
+                }),
+            }
+        }
     }
 }
 
@@ -366,6 +388,7 @@ fn play<'s, R, P, C, G>(
     begun: Begun<'s, P>,
     rests: &[AtomicBool],
     shares: &'s [Shares],
+    rights: Vec<TakePass>,
     posts: u64,
     limit: u64,
     clock: &C,
@@ -380,14 +403,20 @@ where
     requires few { length nodes.now < 2 ^ 32 }
     requires given { C.may_give clock.now begun.start }
     requires workers { AreWorkersOf nodes.now shares.now begun.start begun.workers.items }
+    requires rights { AreRights shares.now rights.items }
+    requires shared { AllByRecursion IsShare shares.now }
+    requires none { AllByRecursion HasHandedNothing begun.workers.items }
     ensures { IfOk result (λ p. HasPlayed (C.may_give clock.now) limit nodes.now links.now begun.entry.start p.settled.stop (nodes_of_workers nodes.now shares.now begun.entry.workers.items) p.all.items p.settled.left) }
 {
-    let Begun { mut workers, start } = begun;
+    let Begun { workers, start } = begun;
     let signs = Signs::new(posts, start, limit);
-    work_all(rt, &mut workers, &signs, clock, gate);
-    let Joined { mut all, now } = join_all(alloc, nodes, shares, workers, start)?;
+    let closed = work_out(
+        rt, alloc, nodes, shares, rights, workers, &signs, clock, gate,
+    )?;
+    let Joined { mut all, now } = join_all(alloc, nodes, shares, closed, start)?;
     let settled = settle(
         rt,
+        alloc,
         nodes,
         links,
         all.as_mut_slice(),
@@ -416,6 +445,7 @@ fn finish<F: Fabric, V: Observer<F::Port>>(
     cuts: &[CutList],
     fabric: &mut F,
     all: Vec<Opened<'_, F::Port>>,
+    logs: Vec<LoggedList>,
     left: u64,
     observer: &mut V,
 ) -> Result<Outcome, RunFault>
@@ -423,7 +453,7 @@ fn finish<F: Fabric, V: Observer<F::Port>>(
     requires cuts { length cuts.now ≡ length nodes.now }
     requires few { length nodes.now < 2 ^ 32 }
     requires out { ArePortsOut nodes.now (F.seen fabric.old) }
-    ensures ok { IfOk result (λ o. (ran : List RunNodeNow) → AreLeftBy cuts.now ran all.entry.items → HasFinished left cuts.now nodes.now links.now ran (F.seen fabric.old) (F.seen fabric.new) o) }
+    ensures ok { IfOk result (λ o. (ran : List RunNodeNow) → AreLeftBy cuts.now ran all.entry.items → SideBySide IsLogOf ran logs.items → HasFinished left cuts.now nodes.now links.now ran (F.seen fabric.old) (F.seen fabric.new) o) }
     ensures err { IfErr result (λ fault. (ran : List RunNodeNow) → AreLeftBy cuts.now ran all.entry.items → EndsInFault cuts.now nodes.now links.now ran (F.seen fabric.old) (F.seen fabric.new) fault) }
 {
     if !is_over(left, all.as_slice()) {
@@ -440,12 +470,28 @@ fn finish<F: Fabric, V: Observer<F::Port>>(
             let woven = weave_all(alloc, links, ends.as_slice(), &loose);
             match gather_all(alloc, nodes, cuts, fabric, ends, loose) {
                 Err(NoMemory) => Err(RunFault::NoMemory),
-                Ok(logs) => match woven {
-                    Ok(()) => Ok(Outcome { logs, left }),
+                Ok(fast) => match woven {
+                    Ok(()) => told(alloc, fast, logs, left),
                     Err(fault) => Err(fault_told(fault)),
                 },
             }
         }
+    }
+}
+
+/// What came of a run with these logs, of the dispatchers of fast kinds of each node, and of the one behind the mails.
+fn told(
+    alloc: Global,
+    fast: LogsList,
+    queued: Vec<LoggedList>,
+    left: u64,
+) -> Result<Outcome, RunFault>
+    ensures ok { IfOk result (λ o. AreBoth fast.items queued.items o.logs.items × (o.left ≡ left)) }
+    ensures err { IfErr result (λ fault. fault ≡ faults.NoMemory) }
+{
+    match both_logs(alloc, fast, queued) {
+        Err(NoMemory) => Err(RunFault::NoMemory),
+        Ok(logs) => Ok(Outcome { logs, left }),
     }
 }
 

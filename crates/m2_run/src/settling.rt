@@ -21,6 +21,7 @@ use m2_fabric::{End, Port};
 use m2_journal::Entry;
 use m2_record::Record;
 use m2_scenario::{Link, Node};
+use std::alloc::Global;
 use std::sync::Wait;
 use std::sync::atomic::{AtomicBool, Ordering};
 
@@ -36,6 +37,7 @@ pub(crate) struct Settled {
 /// whether anything waits there.
 pub(crate) fn settle<R: Wait, P: Port, C: Clock>(
     rt: &R,
+    alloc: Global,
     nodes: &[Node],
     links: &[Link],
     all: &mut [RunNode<'_, P>],
@@ -60,7 +62,7 @@ pub(crate) fn settle<R: Wait, P: Port, C: Clock>(
         if let Some(settled) = settled_at(nodes, links, all, rests, limit, start, now)? {
             return Ok(settled);
         }
-        now = go_round(nodes, all, clock, now)?;
+        now = go_round(alloc, nodes, all, clock, now)?;
     }
     unreachable!()
 }
@@ -104,6 +106,7 @@ fn all_rest(rests: &[AtomicBool]) -> bool {
 
 /// Each node that is on takes a turn, and then waits at its ports: the moment of these turns, not before the last one.
 fn go_round<P: Port, C: Clock>(
+    alloc: Global,
     nodes: &[Node],
     all: &mut [RunNode<'_, P>],
     clock: &C,
@@ -118,7 +121,7 @@ fn go_round<P: Port, C: Clock>(
     polls_go_on::<C>();
     waiting_goes_on::<C>();
     let now = next_moment(clock, earlier);
-    round(nodes, all, now)?;
+    round(alloc, nodes, all, now)?;
     rest(nodes, all);
     Ok(now)
 }
@@ -203,25 +206,35 @@ fn is_productive(entry: &Entry) -> bool
 
 #[tactic(auto, using(crate::proofs::Rounds::none_did, crate::proofs::Rounds::one_did, crate::proofs::Rounds::one_is_off, crate::proofs::Rounds::all_turned))]
 /// Each node that is on takes a turn at this moment. Err is want of memory.
-fn round<P: Port>(nodes: &[Node], all: &mut [RunNode<'_, P>], now: u64) -> Result<(), NoMemory>
+fn round<P: Port>(
+    alloc: Global,
+    nodes: &[Node],
+    all: &mut [RunNode<'_, P>],
+    now: u64,
+) -> Result<(), NoMemory>
     requires few { length nodes.now < 2 ^ 32 }
     requires count { length all.old ≡ length nodes.now }
     ensures { OnOk result (AllTurn (RunEnd P.End) now nodes.now all.old all.new) }
 {
     'nodes: for k in 0..nodes.len() {
         if nodes[k].started {
-            turn_node(all, k, now)?;
+            turn_node(alloc, all, k, now)?;
         }
     }
     Ok(())
 }
 
 /// The node at this place does.
-fn turn_node<P: Port>(all: &mut [RunNode<'_, P>], k: usize, now: u64) -> Result<(), NoMemory>
+fn turn_node<P: Port>(
+    alloc: Global,
+    all: &mut [RunNode<'_, P>],
+    k: usize,
+    now: u64,
+) -> Result<(), NoMemory>
     requires { k < length all.old }
     ensures { OnOk result (OneNodeDoes k (NodeTurnsSo (RunEnd P.End) now) all.old all.new) }
 {
-    all[k].turn(now)
+    all[k].turn(alloc, now)
 }
 
 /// The node at this place waits at its ports.

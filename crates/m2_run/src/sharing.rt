@@ -1,8 +1,8 @@
 //! What the event threads of nodes share.
 
-ghost use Rattle.std.specs.Prelude.{◌≡◌, [], IfOk, OnOk, length};
+ghost use Rattle.std.specs.Prelude.{◌≡◌, [], ℕ, IfOk, OnOk, length};
 ghost use Rattle.m2_dispatch.specs.m2_shared.Place.{IsShared};
-ghost use Rattle.m2_run.specs.Sharing.{AddsShare, AreSharesOf};
+ghost use Rattle.m2_run.specs.Sharing.{AddsShare, AreRights, AreSharesOf};
 
 use crate::node::{Shares, clear_shares};
 use m2_bytes::NoMemory;
@@ -11,6 +11,7 @@ use m2_script::{NodeShared, Passes};
 use m2_shared::{NumberPass, Numbers, TakePass, Throttle};
 use std::alloc::Global;
 use std::marker::Model;
+use std::sync::Condvar;
 use std::sync::atomic::AtomicBool;
 
 /// The passes to what the threads of a node share, of which each thread gets its own.
@@ -63,6 +64,7 @@ fn add_shares(alloc: Global, most: u64, of: &mut Shared) -> Result<(), NoMemory>
     of.shares.push_reserved(Shares {
         shared: NodeShared { numbers, throttle },
         waits: AtomicBool::new(false),
+        posted: Condvar::new(),
     });
     of.passes.push_reserved(FirstPasses {
         numbers: number_pass,
@@ -87,4 +89,31 @@ impl FirstPasses {
             throttle: self.throttle.split(&shared.throttle),
         }
     }
+    /// The right to give back of the thread of the node's dispatcher.
+    fn split_right(&mut self, shared: &NodeShared) -> TakePass
+        requires throttle { self.old.throttle.place ≡ shared.now.throttle.place }
+        requires shared { IsShared shared.now.throttle.place }
+        ensures same { self.new ≡ self.old }
+        ensures throttle { result.place ≡ shared.now.throttle.place }
+    {
+        self.throttle.split(&shared.throttle)
+    }
+}
+
+/// Of each node the right to give back of the thread of its dispatcher.
+pub(crate) fn rights_of(
+    alloc: Global,
+    shares: &[Shares],
+    passes: &mut Vec<FirstPasses>,
+) -> Result<Vec<TakePass>, NoMemory>
+    requires { (count : ℕ) × AreSharesOf count shares.now passes.old.items }
+    ensures same { passes.new.items ≡ passes.old.items }
+    ensures rights { IfOk result (λ rights. AreRights shares.now rights.items) }
+{
+    let mut rights = Vec::new(alloc);
+    'nodes: for k in 0..shares.len() {
+        let right = passes[k].split_right(shares[k].shared());
+        rights.push(right)?;
+    }
+    Ok(rights)
 }

@@ -1,6 +1,9 @@
 //! An event thread of a run: a center that takes turns until it is told to stop.
 
-ghost use Rattle.std.specs.Prelude.{◌≡◌, ◌⊎◌, true};
+ghost use Rattle.std.specs.Prelude.{◌≡◌, ◌≢◌, ◌⊎◌, true};
+ghost use Rattle.m2_dispatch.specs.Heard.{heard_by};
+ghost use Rattle.m2_dispatch.specs.m2_shared.Place.{IsShared};
+ghost use Rattle.m2_script.specs.m2_center.m2_turn.HandingOn.{HandsOn};
 ghost use Rattle.m2_run.specs.Nodes.{IsServedBy};
 ghost use Rattle.m2_run.specs.Way.{PollsSo, StepsSo};
 ghost use Rattle.m2_run.specs.Working.{Works};
@@ -8,18 +11,22 @@ ghost use Rattle.m2_run.specs.declared.end.RunEnd.{RunEnd};
 
 use crate::end::RunEnd;
 use crate::node::{RunCenter, Shares, turn_center};
-use crate::way_laws::steps_go_on;
-use m2_dispatch::Logged;
+use crate::way_laws::{polls_go_on, steps_go_on};
+use m2_bytes::NoMemory;
+use m2_dispatch::{Logged, Parcel};
 use m2_edge::{Clock, Gate, next_moment};
 use m2_fabric::{End, Port};
 use m2_record::{Due, Record};
 use m2_script::CenterTurn;
+use std::collections::VecDeque;
 use std::marker::Model;
-use std::sync::Wait;
 use std::sync::atomic::{AtomicBool, AtomicU64, Ordering};
 
 /// How long a thread waits at its port behind a turn that did nothing, in milliseconds.
 const WAIT: u32 = 10;
+
+/// The same where it waits until the dispatcher's thread gives back what the throttle has granted, or makes room in the mail.
+const WAIT_FOR_ROOM: u32 = 1;
 
 /// What the threads of a run tell one another, so that they know when to stop. No clause says anything of it: what came
 /// of the run is computed when they have ended.
@@ -47,18 +54,28 @@ impl Signs {
     }
 
     /// Whether threads stop at this moment.
-    fn say_stop(&self, now: u64) -> bool {
+    pub(crate) fn say_stop(&self, now: u64) -> bool {
         if self.left.load(Ordering::SeqCst) == 0 || self.is_full.load(Ordering::SeqCst) {
             return true;
         }
         now >= self.last.load(Ordering::SeqCst).saturating_add(self.limit)
     }
+
+    /// So many posts that count were dispatched.
+    pub(crate) fn tell_dispatched(&self, done: u64) {
+        self.left.fetch_sub(done, Ordering::SeqCst);
+    }
+
+    /// Memory ran out.
+    pub(crate) fn tell_full(&self) {
+        self.is_full.store(true, Ordering::SeqCst);
+    }
 }
 
 /// A center with what its thread knows: what it shares with the others of its node, and whether there are any; its number among
 /// all threads, whether it is on, the moment of its last turn; which peers' posts count, and how far it has counted what its
-/// dispatchers were called with; and whether it has told the others that it waits for the throttle. It can't be dropped, since
-/// a center can't.
+/// dispatcher of fast kinds was called with; and whether it has told the others that it waits for the throttle. It can't be
+/// dropped, since a center can't.
 pub(crate) struct Worker<'s, P: Port> {
     center: RunCenter<P>,
     shares: &'s Shares,
@@ -68,7 +85,6 @@ pub(crate) struct Worker<'s, P: Port> {
     moment: u64,
     counts: Vec<bool>,
     fast: usize,
-    queued: usize,
     has_told: bool,
     ghost numbers: { center.numbers.place ≡ shares.now.numbers.place },
     ghost throttle: { center.bytes.place ≡ shares.now.throttle.place },
@@ -105,7 +121,6 @@ impl<'s, P: Port> Worker<'s, P> {
             moment,
             counts,
             fast: 0,
-            queued: 0,
             has_told: false,
         }
     }
@@ -133,44 +148,35 @@ impl<'s, P: Port> Worker<'s, P> {
             moment: _,
             counts: _,
             fast: _,
-            queued: _,
             has_told: _,
         } = self;
         (center, shares)
     }
 
-    /// Takes turns until the signs say stop; one of a node that is off takes none.
-    pub(crate) fn work<R: Wait, C: Clock, G: Gate>(
+    /// Whether its node is on.
+    pub(crate) fn is_started(&self) -> bool
+        ensures { result ≡ self.now.started }
+    {
+        self.is_started
+    }
+
+    /// Which peers' posts count.
+    pub(crate) fn counts(&self) -> Result<Vec<bool>, NoMemory> {
+        Ok(self.counts.clone()?)
+    }
+
+    /// One turn, unless the signs say stop: whether it took one. What it hands on goes last among these parcels.
+    pub(crate) fn go_on<C: Clock, G: Gate>(
         &mut self,
-        rt: &R,
         signs: &Signs,
         clock: &C,
         gate: &G,
-    )
-        ensures { Works (C.may_give clock.now) self.old self.new }
-    {
-        if self.is_started {
-            self.take_turns(rt, signs, clock, gate);
-        }
-    }
-
-    /// The same of one that is on.
-    fn take_turns<R: Wait, C: Clock, G: Gate>(&mut self, rt: &R, signs: &Signs, clock: &C, gate: &G)
-        requires { self.old.started ≡ true }
-        ensures { Works (C.may_give clock.now) self.old self.new }
-    {
-        'turns: for _ in rt.forever() {
-            if !self.go_on(signs, clock, gate) {
-                return;
-            }
-        }
-        unreachable!()
-    }
-
-    /// One turn, unless the signs say stop: whether it took one.
-    fn go_on<C: Clock, G: Gate>(&mut self, signs: &Signs, clock: &C, gate: &G) -> bool
-        requires { self.old.started ≡ true }
-        ensures { Works (C.may_give clock.now) self.old self.new }
+        into: &mut VecDeque<Parcel>,
+    ) -> bool
+        requires started { self.old.started ≡ true }
+        requires shared { IsShared self.old.throttle.place }
+        ensures works { Works (C.may_give clock.now) self.old self.new }
+        ensures on { HandsOn heard_by self.old.throttle.place self.old.center.queued.inner self.new.center.queued.inner into.old.items into.new.items }
     {
         steps_go_on::<RunEnd<P::End>, C>();
         let now = next_moment(clock, self.moment());
@@ -178,8 +184,28 @@ impl<'s, P: Port> Worker<'s, P> {
             return false;
         }
         gate.pass(self.number());
-        self.step(signs, now);
+        self.step(signs, now, into);
         true
+    }
+
+    /// Waits at its port for a moment, unless the signs say stop: whether it did.
+    pub(crate) fn wait<C: Clock>(&mut self, signs: &Signs, clock: &C) -> bool
+        requires { self.old.started ≡ true }
+        ensures works { Works (C.may_give clock.now) self.old self.new }
+        ensures same { self.new.center.queued ≡ self.old.center.queued }
+    {
+        polls_go_on::<C>();
+        if signs.say_stop(clock.now()) {
+            return false;
+        }
+        let _ = self.center.poll(WAIT_FOR_ROOM);
+        true
+    }
+
+    /// Tells the dispatcher of its node that something was put into the mail.
+    pub(crate) fn tell_posted(&self) {
+        let shares = self.shares;
+        shares.posted.notify_one();
     }
 
     /// Its number among all threads.
@@ -188,19 +214,21 @@ impl<'s, P: Port> Worker<'s, P> {
     }
 
     /// One turn at this moment, which the others are told; where it did nothing the thread waits at its port.
-    fn step(&mut self, signs: &Signs, now: u64)
+    fn step(&mut self, signs: &Signs, now: u64, into: &mut VecDeque<Parcel>)
+        requires shared { IsShared self.old.throttle.place }
         ensures moment { self.new.moment ≡ now }
         ensures started { self.new.started ≡ self.old.started }
         ensures numbers { self.new.numbers ≡ self.old.numbers }
         ensures throttle { self.new.throttle ≡ self.old.throttle }
         ensures steps { StepsSo (RunEnd P.End) now self.old.numbers self.old.throttle self.old.center self.new.center }
+        ensures on { HandsOn heard_by self.old.throttle.place self.old.center.queued.inner self.new.center.queued.inner into.old.items into.new.items }
     {
-        let turn = turn_center(&mut self.center, self.shares.shared(), now);
+        let turn = turn_center(&mut self.center, self.shares.shared(), now, into);
         self.moment = now;
         match turn {
             CenterTurn::Moved => self.tell(signs),
             CenterTurn::Dry => self.rest(now),
-            CenterTurn::NoMemory => signs.is_full.store(true, Ordering::SeqCst),
+            CenterTurn::NoMemory => signs.tell_full(),
         }
     }
 
@@ -210,17 +238,19 @@ impl<'s, P: Port> Worker<'s, P> {
         ensures same { self.new ≡ record self.old { center = self.new.center } }
         ensures waits { (self.new.center ≡ self.old.center) ⊎ PollsSo self.old.center self.new.center }
     {
-        let tells = !self.is_alone && !self.has_told && wait_for_room(self.center.records(), now);
+        let waits = wait_for_room(self.center.records(), now);
+        let tells = !self.is_alone && !self.has_told && waits;
         self.has_told = tells;
         if tells {
             let shares = self.shares;
             shares.waits.store(true, Ordering::SeqCst);
         } else {
-            let _ = self.center.poll(WAIT);
+            let most = if waits { WAIT_FOR_ROOM } else { WAIT };
+            let _ = self.center.poll(most);
         }
     }
 
-    /// Tells the others what was dispatched since, and the moment of the last productive entry; and those of its node, where one
+    /// Tells the others what was dispatched at once since, and the moment of the last productive entry; and those of its node, where one
     /// waits for the throttle, that something may have been given back.
     fn tell(&mut self, signs: &Signs)
         ensures { self.new ≡ self.old }
@@ -233,22 +263,16 @@ impl<'s, P: Port> Worker<'s, P> {
         }
     }
 
-    /// Tells what was dispatched since, and the moment of the last productive entry.
+    /// Tells what was dispatched at once since, and the moment of the last productive entry.
     fn count(&mut self, signs: &Signs)
         ensures { self.new ≡ self.old }
     {
         let fast = self.center.fast().log().as_slice();
-        let queued = self.center.queued().inner().log().as_slice();
-        let done = counted(fast, self.fast, self.counts.as_slice()).saturating_add(counted(
-            queued,
-            self.queued,
-            self.counts.as_slice(),
-        ));
-        let (fast, queued) = (fast.len(), queued.len());
+        let done = counted(fast, self.fast, self.counts.as_slice());
+        let fast = fast.len();
         let last = last_of(self.center.records());
         self.fast = fast;
-        self.queued = queued;
-        signs.left.fetch_sub(done, Ordering::SeqCst);
+        signs.tell_dispatched(done);
         signs.last.fetch_max(last, Ordering::SeqCst);
     }
 }
@@ -259,7 +283,7 @@ fn wait_for_room<E: End>(records: &[Record<E>], now: u64) -> bool {
 }
 
 /// How many messages that count stand in a log from this place on.
-fn counted(log: &[Logged], from: usize, counts: &[bool]) -> u64 {
+pub(crate) fn counted(log: &[Logged], from: usize, counts: &[bool]) -> u64 {
     let mut count: u64 = 0;
     'calls: for k in from..log.len() {
         if is_counted(&log[k], counts) {

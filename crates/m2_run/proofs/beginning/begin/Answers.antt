@@ -1,4 +1,6 @@
 -- The nodes are made as the scenario says, and have done nothing.
+use Rattle.m2_run.specs.Planned.{steps_in}
+use Rattle.m2_run.proofs.HandedOn.{nothing_handed}
 use Rattle.m2_run.proofs.NodesBegin.{nodes_begin}
 use Rattle.m2_run.proofs.OutPorts.{out_behind_listens}
 use Rattle.m2_run.proofs.beginning.begin.Goals as goal
@@ -11,3 +13,7 @@ returns-in-Ok-clause-nodes g c =
 pub returns-in-Ok-clause-out : goal.returns-in-Ok-clause-out
 returns-in-Ok-clause-out g c =
     out_behind_listens c.args.nodes.now (g.F.Fabric.seen c.args.fabric.now) (g.F.Fabric.seen c.listen_all.new.fabric) (g.F.Fabric.seen c.begin_listening.new.fabric) c.in_default.ensures.ok c.in-Ok.ensures.out
+
+pub returns-in-Ok-clause-none : goal.returns-in-Ok-clause-none
+returns-in-Ok-clause-none g c =
+    nothing_handed c.args.nodes.now c.args.links.now (steps_in c.args.lines.items) 0 c.args.nodes.now c.args.shares.now c.in-Ok.workers.items c.in-Ok.ensures.workers.groups c.in-Ok.ensures.nodes

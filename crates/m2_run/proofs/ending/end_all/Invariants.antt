@@ -3,12 +3,14 @@ use Rattle.std.proofs.Common.{◌≡◌, ◌+◌, ◌-◌, ◌≤◌, length}
 use Rattle.std.specs.Prelude.{slice_get, vec_capacity, vec_len}
 use Rattle.m2_run.specs.Cuts.{cuts_at}
 use Rattle.m2_run.proofs.Lasts.{AreEnded}
+use Rattle.m2_run.proofs.LogLists.{AreLogged}
 use Rattle.m2_run.proofs.ending.end_all.Given as goal
 
 abbrev pub invariant-nodes : goal.invariant-nodes
 invariant-nodes g l = record {
   ended : AreEnded (cuts_at l.cuts) (slice_get g.B.Inboxes.inboxes) l.fn.all.items l.all.items l.ends.items l.number;
   count : length l.ends.items + length l.all.items ≡ length l.cuts;
+  logged : AreLogged l.fn.all.items l.all.items l.logs.items;
   room : length l.all.items ≤ vec_capacity l.ends - vec_len l.ends;
 }
 

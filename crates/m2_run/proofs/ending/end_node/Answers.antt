@@ -1,9 +1,11 @@
 -- Nothing of it is ended at first, and then all its centers are.
 use Rattle.std.specs.Prelude.{slice_get}
-use Rattle.std.proofs.Common.{List, subst}
+use Rattle.std.proofs.Common.{List, ap, subst, sym}
 use Rattle.std.specs.List.{AllByRecursion}
 use Rattle.m2_script.specs.m2_center.Center.{CenterNow}
 use Rattle.m2_dispatch.specs.declared.logged.Logged.{Logged}
+use Rattle.m2_dispatch.specs.Heard.{heard_by}
+use Rattle.m2_run.specs.Handing.{AreHanded}
 use Rattle.m2_run.specs.Kept.{AreOpened}
 use Rattle.m2_run.specs.Lists.{SideBySide}
 use Rattle.m2_run.specs.Opened.{OpenedNow}
@@ -34,4 +36,9 @@ returns-in-Ok g c =
       weighs = ends.weighs (nothing_weighs old c.new.ensures.items c.new-3.ensures.items c.new-4.ensures.items c.new-5.ensures.items c.new-6.ensures.items);
       rights = ends.rights (no_rights inbox c.args.number old c.new-5.ensures.items c.new-6.ensures.items);
       types = subst (AllByRecursion IsCenterOfTypes) p.ensures.centers c.in-Ok.ensures.types;
+      log = record {
+        log = c.in_default.ensures.log.0;
+        is = subst (AreHanded c.args.node.centers) (ap heard_by (sym c.in_default.ensures.log.1)) (p.ensures.dispatched.handed c.in_default.ensures.lasted);
+        last = c.in_default.ensures.log.2;
+      };
     }

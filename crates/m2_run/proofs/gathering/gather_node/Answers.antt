@@ -1,17 +1,11 @@
 -- What its threads and its halves give is given back.
 use Rattle.std.proofs.Common.{◌≡◌, ◌∙◌, ap, arith, length, map, refl, subst, sym, take}
-use Rattle.std.specs.Prelude.{OnOk, Result, Ok, Err}
 use Rattle.std.specs.Vec.Iter.{into_iter_items}
 use Rattle.std.proofs.lemmas.List.{length-map}
 use Rattle.m2_run.specs.Gathering.{GivenNow, Gives, GivesBack}
 use Rattle.m2_run.specs.Rests.{EndedNow}
 use Rattle.m2_run.proofs.Giving.{node_gives}
 use Rattle.m2_run.proofs.gathering.gather_node.Goals as goal
-
--- what holds whatever is answered
-so_anyway : {T E P : Type 0} (r : Result T E) → P → OnOk r P
-so_anyway (Ok x) p = p
-so_anyway (Err e) p = tt
 
 pub returns-clause-gives_back : goal.returns-clause-gives_back
 returns-clause-gives_back g c =
@@ -22,11 +16,11 @@ returns-clause-gives_back g c =
     let old = g.F.Fabric.seen c.args.fabric.now in
     let new = g.F.Fabric.seen c.give_back_if.new.fabric in
     let n : EndedNow = record { centers = c.ended.inside.centers.items; halves = c.ended.inside.halves } in
-    let none : GivenNow = record { ports = map port c.new.result.items; ends = map end c.new-2.result.items; fast = c.new-3.result.items; queued = c.new-4.result.items } in
-    let given : GivenNow = record { ports = map port c.given.inside.ports.items; ends = map end c.given.inside.ends.items; fast = c.given.inside.fast.items; queued = c.given.inside.queued.items } in
+    let none : GivenNow = record { ports = map port c.new.result.items; ends = map end c.new-2.result.items; fast = c.new-3.result.items } in
+    let given : GivenNow = record { ports = map port c.given.inside.ports.items; ends = map end c.given.inside.ends.items; fast = c.given.inside.fast.items } in
     let count : c.len-count.result ≡ length n.centers = omega (arith, c.len-count.ensures) in
-    subst (λ (m : EndedNow). OnOk c.one_log.result (GivesBack cuts c.args.node.now.started c.args.place m (take m.halves left) old new)) c.ended.view_is
-    (so_anyway c.one_log.result (node_gives cuts c.args.node.now.started c.args.place c.len-count.result n (take n.halves left) none given given.ports (map end c.give_halves.new.into.items) old new
+    subst (λ (m : EndedNow). GivesBack cuts c.args.node.now.started c.args.place m (take m.halves left) old new) c.ended.view_is
+    (node_gives cuts c.args.node.now.started c.args.place c.len-count.result n (take n.halves left) none given given.ports (map end c.give_halves.new.into.items) old new
     (ap (map port) c.new.ensures.items) (ap (map end) c.new-2.ensures.items)
     (subst (λ (gv : GivenNow). Gives cuts n.centers none gv) (sym c.given.view_is) c.in_ok-give_centers.ensures) c.in_ok-give_halves.ensures.given refl count
-    (λ on. length-map c.given.inside.ports.items port ∙ c.in_ok-give_back_if.ensures.whole on) c.in_ok-give_back_if.ensures.gathers))
+    (λ on. length-map c.given.inside.ports.items port ∙ c.in_ok-give_back_if.ensures.whole on) c.in_ok-give_back_if.ensures.gathers)

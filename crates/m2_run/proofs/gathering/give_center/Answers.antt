@@ -20,12 +20,11 @@ returns g c =
     let cuts = c.args.cuts.now in
     let into = c.into.inside in
     let center = c.center.inside in
-    let old : GivenNow = record { ports = map port into.ports.items; ends = map seen into.ends.items; fast = into.fast.items; queued = into.queued.items } in
+    let old : GivenNow = record { ports = map port into.ports.items; ends = map seen into.ends.items; fast = into.fast.items } in
     let new : GivenNow = record {
       ports = map port c.add_port.new.into.items;
       ends = map seen c.give_records.new.into.items;
       fast = c.add_log.new.into.items;
-      queued = c.add_log-2.new.into.items;
     } in
     let d : EndedCenterNow = record {
       port = option_map port center.port;
@@ -34,10 +33,10 @@ returns g c =
       fast = center.fast.items;
       queued = center.queued.items;
     } in
-    on_ok_so c.add_log-2.result (λ last.
+    on_ok_so c.add_log.result (λ last.
     subst (λ (o : GivenNow). Gives cuts (c.args.center ∷ []) o new) c.into.view_is
     (subst (λ (e : EndedCenterNow). Gives cuts (e ∷ []) old new) c.center.view_is
     (center_gives cuts d old new
     (subst (λ made. Opens cuts made (flat_map ends_of_record center.records.items) (map seen into.ends.items) (map seen c.give_records.new.into.items)) c.as_slice.ensures
     c.in_ok-give_records.ensures.given)
-    c.in_ok-add_port.ensures c.in_ok-add_log.ensures last))) c.add_log-2.ensures
+    c.in_ok-add_port.ensures last))) c.add_log.ensures

@@ -7,10 +7,15 @@ use Rattle.m2_dispatch.specs.declared.logged.Logged.{Logged}
 use Rattle.m2_run.specs.Nodes.{IsServedBy}
 use Rattle.m2_run.proofs.node.clear_centers.Goals as goal
 
-pub clear_center-requires : goal.clear_center-requires
-clear_center-requires g c =
+pub clear_center-pass-requires : goal.clear_center-pass-requires
+clear_center-pass-requires g c =
     let served = IsServedBy c.args.shared.now.numbers c.args.shared.now.throttle in
     (all_back served c.pop.new.self.items (c.in-Some.center ∷ []) (subst (AllByRecursion served) c.in-Some.ensures.items c.centers.invariant)).0
+
+pub centers-preserved-in-Some : goal.centers-preserved-in-Some
+centers-preserved-in-Some g c =
+    let served = IsServedBy c.args.shared.now.numbers c.args.shared.now.throttle in
+    all_front served c.pop.new.self.items (c.in-Some.center ∷ []) (subst (AllByRecursion served) c.in-Some.ensures.items c.centers.invariant)
 
 pub centers-preserved : goal.centers-preserved
 centers-preserved g c =

@@ -4,8 +4,8 @@ use Rattle.m2_run.proofs.node.turn_center.Goals as goal
 
 pub returns-clause-turns : goal.returns-clause-turns
 returns-clause-turns g c = record {
-  answer = memory_in c.turn-turn.result;
-  turns = c.turn-turn.ensures.turns;
+  answer = memory_in c.turn_on-turn.result;
+  turns = c.turn_on-turn.ensures.turns;
   before = c.is_center.ensures.records;
   behind = c.is_center-2.ensures.records;
 }

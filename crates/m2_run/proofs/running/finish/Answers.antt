@@ -1,8 +1,13 @@
 -- What is left of the nodes, what is told of it, and what weaving came to.
-use Rattle.std.proofs.Common.{◌≡◌, ◌⊎◌, List, [], Err, refl, subst, sym, ◌∙◌}
+use Rattle.std.proofs.Common.{◌≡◌, ◌⊎◌, List, [], Err, subst, sym, ◌∙◌}
 use Rattle.std.specs.List.{AllByRecursion}
 use Rattle.std.proofs.lemmas.Bool.{OnTrue_at}
+use Rattle.std.proofs.lemmas.Result.{IfErr-weaker, IfOk-weaker}
 use Rattle.m2_run.specs.Cuts.{cuts_at}
+use Rattle.m2_run.specs.Handing.{IsLogOf}
+use Rattle.m2_run.specs.Lists.{SideBySide}
+use Rattle.m2_run.specs.Nodes.{RunNodeNow, nodes_of}
+use Rattle.m2_run.proofs.Told.{both_heard}
 use Rattle.m2_run.specs.Opened.{HaveEachOnce, OpenedNow, all_kept, made_of_all}
 use Rattle.m2_run.specs.Ran.{EndsInFault}
 use Rattle.m2_run.specs.Rests.{loose_of}
@@ -13,7 +18,7 @@ use Rattle.m2_run.proofs.Runs.{faulted, have_ended, kept_rest_or}
 use Rattle.m2_run.proofs.running.finish.Goals as goal
 
 pub returns-in-Ok-woven-clause-ok : goal.returns-in-Ok-woven-clause-ok
-returns-in-Ok-woven-clause-ok g c ran by =
+returns-in-Ok-woven-clause-ok g c = IfOk-weaker c.told.result _ _ (λ o both ran by logged.
     let seen = g.F.Fabric.seen in
     let cuts = c.args.cuts.now in
     let nodes = c.args.nodes.now in
@@ -22,11 +27,11 @@ returns-in-Ok-woven-clause-ok g c ran by =
     let ends = c.in-Ok.field-0.ends.items in
     let loose = c.in-Ok.field-0.loose.items in
     let joined = c.in-Ok.ensures in
-    let told = c.in-Ok-gather_all.ensures in
+    let gathered = c.in-Ok-gather_all.ensures in
     let kept = all_kept ran all in
     let ended =
     have_ended cuts nodes ran all ends loose (seen c.args.fabric.now) (seen c.gather_all.new.fabric) c.requires.count by joined.ends joined.loose joined.types.0 joined.types.1
-    (subst (HaveEachOnce nodes) c.as_slice-2.ensures.value c.in_default.ensures) told.gathered told.ports in
+    (subst (HaveEachOnce nodes) c.as_slice-2.ensures.value c.in_default.ensures) gathered.gathered gathered.ports in
     let rests = subst (λ (os : List OpenedNow). (c.args.left ≡ 0) ⊎ AllByRecursion (λ (o : OpenedNow). (o.left.on_way ≡ []) × AllByRecursion (IsAtRest (made_of_all os)) o.left.at_door) os)
     c.as_slice.ensures.value (OnTrue_at c.if-not-is_over.false c.is_over.ensures) in
     record {
@@ -34,11 +39,21 @@ returns-in-Ok-woven-clause-ok g c ran by =
       ends = ends;
       ended = ended;
       rest = kept_rest_or (cuts_at cuts) ran all c.args.left by.opened rests;
-      logs = told.logs kept ended.are_ends;
-      left_is = refl;
+      logs = both_heard (nodes_of kept) c.in-Ok-gather_all.fast.items c.args.logs.items o.logs.items (gathered.logs kept ended.are_ends)
+          (subst (λ (ns : List RunNodeNow). SideBySide IsLogOf ns c.args.logs.items) (sym ended.as_ran) logged) both.0;
+      left_is = both.1;
       woven = subst (λ es. HaveHistories es (loose_of kept) links) c.as_slice-in-Ok.ensures.value
           (subst (λ ls. HaveHistories c.as_slice-in-Ok.result.now ls links) (joined.loose ∙ kept_loose ran all by.opened.count) c.in-Ok-woven.ensures);
-    }
+    }) c.told.ensures.ok
+
+pub returns-in-Ok-woven-clause-err : goal.returns-in-Ok-woven-clause-err
+returns-in-Ok-woven-clause-err g c =
+    let cuts = c.args.cuts.now in
+    let nodes = c.args.nodes.now in
+    let links = c.args.links.now in
+    let old = g.F.Fabric.seen c.args.fabric.now in
+    let new = g.F.Fabric.seen c.gather_all.new.fabric in
+    IfErr-weaker c.told.result _ _ (λ f none ran by. subst (EndsInFault cuts nodes links ran old new) (sym none) tt) c.told.ensures.err
 
 pub returns-in-Err-woven-clause-err : goal.returns-in-Err-woven-clause-err
 returns-in-Err-woven-clause-err g c ran by =

@@ -3,13 +3,13 @@ use Rattle.std.proofs.Common.{sym, ◌∙◌}
 use Rattle.m2_run.proofs.Goings.{as_many_nodes}
 use Rattle.m2_run.proofs.running.play_out.Goals as goal
 
-pub end_all-requires : goal.end_all-requires
-end_all-requires g c =
+pub end_all-requires-clause-cuts : goal.end_all-requires-clause-cuts
+end_all-requires-clause-cuts g c =
     let begun = c.args.begun in
     c.requires.cuts ∙ sym (c.in-Ok.ensures.goes_on.count ∙ as_many_nodes c.args.nodes.now c.args.shares.now begun.workers.items c.requires.workers.groups)
 
-pub returns-in-Ok-end_all-clause-stopped : goal.returns-in-Ok-end_all-clause-stopped
-returns-in-Ok-end_all-clause-stopped g c =
+pub returns-clause-stopped : goal.returns-clause-stopped
+returns-clause-stopped g c =
     let played = c.in-Ok.field-0 in
     let told = c.in-Ok-end_all.ensures in
-    (played.settled.stop, played.all.items, c.in-Ok.ensures, told.ends, told.types)
+    (played.settled.stop, played.all.items, c.in-Ok.ensures, told.ends, told.types, told.logs)

@@ -53,7 +53,7 @@ returns-clause-ok g c =
     (subst (λ (os : List OpenedNow). AllClosed os closed) same c.in-Ok-close_all.ensures)) in
     IfOk-weaker c.finish.result _ _
     (λ o f. has_ran may c.args.limit nodes links lines cuts stopped.0 stopped.1 stopped.2 left all.items (seen c.args.fabric.now) (seen c.run_threads-played.new.fabric) (seen c.finish.new.fabric) stopped.3
-    c.requires.cuts c.in-Ok.ensures.out o (f stopped.2 by)) c.finish.ensures.ok
+    c.requires.cuts c.in-Ok.ensures.out o (f stopped.2 by stopped.4)) c.finish.ensures.ok
 
 pub returns-clause-err : goal.returns-clause-err
 returns-clause-err g c =

@@ -19,6 +19,7 @@ returns-clause-stopped g c =
       p.1,
       has_stopped may c.args.limit nodes c.args.links.now c.args.lines.items c.args.cuts.now begun.start p.0 (nodes_of_workers nodes c.args.shares.now begun.workers.items) p.1 s.left s.all.items
           told.given told.nodes p.2 p.4 p.3,
+      p.5,
     )) c.play_out.ensures.stopped
 
 pub returns-clause-out : goal.returns-clause-out

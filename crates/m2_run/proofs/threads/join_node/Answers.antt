@@ -1,44 +1,17 @@
--- One worker more, and at the end all.
-use Rattle.std.proofs.Common.{◌≡◌, ◌∙◌, ◌-◌, ℕ, reverse, take, drop, ap, subst, sym, arith}
-use Rattle.m2_run.proofs.Places.{reverse_last}
-use Rattle.m2_run.proofs.Workers.{AreJoined, next_joined, node_joined, none_joined, others_left}
+-- The dispatcher was called with what these centers have handed on.
+use Rattle.std.proofs.Common.{List, reverse, take, subst, sym, ◌∙◌}
+use Rattle.m2_script.specs.m2_center.Center.{CenterNow}
+use Rattle.m2_dispatch.specs.declared.logged.Logged.{Logged}
+use Rattle.m2_run.specs.Handing.{IsDispatched}
+use Rattle.m2_run.specs.Sharing.{ShareNow}
+use Rattle.m2_run.proofs.Workers.{node_joined}
 use Rattle.m2_run.proofs.threads.join_node.Goals as goal
 
-pub centers-init : goal.centers-init
-centers-init g c =
-    let x = c.args.node.now in
-    let s = c.args.shares.now in
-    let ws = reverse c.args.workers.now.items in
-    let centers = c.in_ok-centers.centers.items in
-    let all : x.centers ≡ x.centers - 0 = omega arith in
-    record {
-      joined = subst (λ (n : ℕ). AreJoined s n centers ws (take x.centers ws) (drop x.centers ws)) all (none_joined x s centers ws c.requires c.in_ok-centers.ensures.none);
-      room = omega (arith, c.in_ok-centers.ensures.room);
-    }
+pub new-requires-clause-dispatched : goal.new-requires-clause-dispatched
+new-requires-clause-dispatched g c =
+    subst (λ (s : ShareNow). IsDispatched s.throttle.place c.in-Ok.centers.items c.args.dispatcher) (sym c.shares.view_is)
+    (subst (λ (cs : List (CenterNow (List Logged))). IsDispatched c.args.shares.now.throttle.place cs c.args.dispatcher) (sym c.in-Ok.ensures.centers) c.requires.dispatched)
 
-pub centers-preserved : goal.centers-preserved
-centers-preserved g c =
-    let l = c.centers in
-    let x = c.args.node.now in
-    let ws = reverse c.args.workers.now.items in
-    record {
-      joined = next_joined c.args.shares.now x.centers l.counter l.centers.items c.push_reserved.new.self.items c.into_parts.result.0 (reverse l.workers.items) (reverse c.pop.new.self.items)
-          (take x.centers ws) (drop x.centers ws) c.in-Some.worker c.centers-test.true l.invariant.joined (ap reverse c.in-Some.ensures.items ∙ reverse_last c.pop.new.self.items c.in-Some.worker)
-          c.push_reserved.ensures.items c.into_parts.ensures.center c.into_parts.ensures.served;
-      room = omega (arith, l.invariant.room, c.push_reserved.ensures.len, c.push_reserved.ensures.capacity);
-    }
-
-pub returns-clause-node : goal.returns-clause-node
-returns-clause-node g c =
-    let l = c.centers in
-    let x = c.args.node.now in
-    let ws = reverse c.args.workers.now.items in
-    c.new.ensures
-    ∙ node_joined c.args.shares.now _ x.centers l.counter l.centers.items (reverse l.workers.items) (take x.centers ws) (drop x.centers ws) c.centers-test.false c.shares.view_is l.invariant.joined
-
-pub returns-clause-left : goal.returns-clause-left
-returns-clause-left g c =
-    let l = c.centers in
-    let x = c.args.node.now in
-    let ws = reverse c.args.workers.now.items in
-    others_left c.args.shares.now x.centers l.counter l.centers.items (reverse l.workers.items) (take x.centers ws) (drop x.centers ws) c.centers-test.false l.invariant.joined
+pub returns-in-Ok-clause-node : goal.returns-in-Ok-clause-node
+returns-in-Ok-clause-node g c =
+    c.new.ensures ∙ node_joined c.args.shares.now _ c.in-Ok.centers.items (take c.args.node.now.centers (reverse c.args.workers.now.items)) c.shares.view_is c.in-Ok.ensures.centers

@@ -2,7 +2,7 @@
 use Rattle.std.proofs.Common.{◌+◌, ◌-◌, ◌≤◌, drop, reverse, take}
 use Rattle.std.specs.Prelude.{vec_capacity, vec_len}
 use Rattle.m2_run.proofs.Workers.{AreJoined}
-use Rattle.m2_run.proofs.threads.join_node.Given as goal
+use Rattle.m2_run.proofs.threads.join_centers.Given as goal
 
 abbrev pub invariant-centers : goal.invariant-centers
 invariant-centers g l = record {

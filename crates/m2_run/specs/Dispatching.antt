@@ -1,0 +1,82 @@
+-- The dispatcher of a node, on a thread of its own: it takes what event threads hand on out of their mails. This project's own.
+use Rattle.std.specs.Prelude.{◌≡◌, ℕ, ◌+◌, Bool, false, List, [], ◌∷◌, ◌++◌, length, map, slice_get, Some}
+use Rattle.m2_dispatch.specs.Heard.{Heard, heard_by}
+use Rattle.m2_dispatch.specs.Dispatch.{Queued}
+use Rattle.m2_dispatch.specs.Letters.{heard_in}
+use Rattle.m2_dispatch.specs.Parcel.{heard_for_all}
+use Rattle.m2_dispatch.specs.declared.letter.Letter.{Letter}
+use Rattle.m2_dispatch.specs.declared.logged.Logged.{Logged}
+use Rattle.m2_dispatch.specs.declared.parcel.Parcel.{Parcel}
+use Rattle.m2_dispatch.specs.m2_shared.Place.{Place}
+use Rattle.m2_dispatch.specs.m2_shared.declared.ids.Ids.{Ids}
+use Rattle.m2_mailbox.specs.Merge.{IsMerge}
+use Rattle.m2_mailbox.specs.Passes.{IsGetPassOf, IsPutPassOf, owner_of, parts_of, puts_of, taken_of}
+use Rattle.m2_mailbox.specs.Views.{all_parts}
+use Rattle.m2_mailbox.specs.declared.inbox.Inbox.{Inbox}
+use Rattle.m2_mailbox.specs.declared.passes.GetPass.{GetPass}
+use Rattle.m2_mailbox.specs.declared.passes.PutPass.{PutPass}
+
+-- ---- a dispatcher
+
+-- where the word of the node's throttle lies, what the dispatcher was called with, and whether memory ran out
+pub record DispatcherNow : Type 0 where
+  pub place : Place
+  pub log : List Logged
+  pub lost : Bool
+
+-- Where memory has lasted, it was called with what these parcels are dispatched as, in order, and with nothing else.
+pub record HasDispatched (parcels : List Parcel) (old new : DispatcherNow) : Type 0 where
+  pub place : new.place ≡ old.place
+  pub lasted : new.lost ≡ false → old.lost ≡ false
+  pub heard : new.lost ≡ false → heard_by new.log ≡ heard_by old.log ++ heard_for_all parcels
+
+-- the first letters that wait were dispatched, in order, and nothing else
+pub record DispatchesFirst (old new : Queued (List Logged)) : Type 0 where
+  pub first : List Letter
+  pub waiting : old.waiting ≡ first ++ new.waiting
+  pub heard : heard_by new.inner ≡ heard_by old.inner ++ map heard_in first
+
+-- ---- mails
+
+abbrev pub Mail : Type 0
+Mail = Inbox Parcel Ids
+
+-- an empty mail for what the throttle at this place has granted for, with all rights to it
+pub record IsNewMail (place : Place) (mail : Mail) (put : PutPass Parcel Ids) (get : GetPass Parcel Ids) : Type 0 where
+  pub owner : (owner_of mail).place ≡ place
+  pub puts : IsPutPassOf mail put
+  pub gets : IsGetPassOf mail get
+  pub whole : parts_of put ≡ all_parts
+  pub nothing_put : puts_of put ≡ [] ∷ []
+  pub nothing_taken : taken_of get ≡ []
+
+-- all that these passes put and that wasn't taken by then was dispatched, in order
+pub record HasEmptied (puts : List (List Parcel)) (taken : List Parcel) (old new : DispatcherNow) : Type 0 where
+  pub left : List Parcel
+  pub whole : IsMerge Parcel puts (taken ++ left)
+  pub dispatched : HasDispatched left old new
+
+-- ---- its thread
+
+-- the dispatcher, its rights to take, and the number of the first mail of its node
+pub record ServingNow : Type 0 where
+  pub dispatcher : DispatcherNow
+  pub gets : List (GetPass Parcel Ids)
+  pub first : ℕ
+
+-- what the parcels that were taken are dispatched as
+abbrev pub taken_by : GetPass Parcel Ids → List Heard
+taken_by get = heard_for_all (taken_of get)
+
+-- It is the only one who takes out of the mails of its node; and where memory has lasted, its dispatcher was called with what was taken out
+-- of them, as one list: nothing is left out and nothing comes twice, and what was taken out of each stands in it in order.
+pub record IsServing (mails : List Mail) (s : ServingNow) : Type 0 where
+  pub ours : (j : ℕ) (m : Mail) (g : GetPass Parcel Ids) → slice_get mails (s.first + j) ≡ Some m → slice_get s.gets j ≡ Some g →
+      IsGetPassOf m g × ((owner_of m).place ≡ s.dispatcher.place)
+  pub merged : s.dispatcher.lost ≡ false → IsMerge Heard (map taken_by s.gets) (heard_by s.dispatcher.log)
+
+-- it has taken more, by the same rights
+pub record Serves (old new : ServingNow) : Type 0 where
+  pub place : new.dispatcher.place ≡ old.dispatcher.place
+  pub count : length new.gets ≡ length old.gets
+  pub first : new.first ≡ old.first
