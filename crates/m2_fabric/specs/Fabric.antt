@@ -1,5 +1,5 @@
 -- What contracts see of a fabric, and how each of its calls changes that. This project's own.
-use Rattle.std.specs.Prelude.{◌≡◌, ◌≢◌, ℕ, ◌≤◌, false, List, [], length, drop, All, Option, Some, None, Result, IfErr, IfSome}
+use Rattle.std.specs.Prelude.{◌≡◌, ◌≢◌, ℕ, ◌≤◌, false, List, [], length, drop, All, Option, Some, None, Result, OnOk, IfErr, IfSome}
 use Rattle.std.specs.Option.{unwrap_or}
 use Rattle.m2_addr.specs.declared.addr.Addr.{Addr}
 use Rattle.m2_edge.specs.Faults.{HasRisen, next_count}
@@ -27,9 +27,10 @@ abbrev pub IsCausedBy : ListenFault → (old new : ℕ) → Type 0
 IsCausedBy listen.Failed old new = HasRisen old new
 IsCausedBy listen.NoMemory old new = new ≡ old
 
--- An answer to a listen and the count of faults before and after it: the count never falls.
+-- An answer to a listen and the count of faults before and after it: the count never falls, and rises only where the node can't listen.
 pub record HasListenCause {X : Type 0} (result : Result X ListenFault) (old new : ℕ) : Type 0 where
   pub never_falls : old ≤ new
+  pub ok : OnOk result (new ≡ old)
   pub fault : IfErr result (λ fault. IsCausedBy fault old new)
 
 -- only where one node listens may have changed, and the count of faults
