@@ -12,6 +12,7 @@ kept_on {D} heard place old new into same = record {
   more = [];
   last = sym (append-nil into);
   heard_more = ap (λ (q : Queued D). heard q.inner) same ∙ sym (append-nil (heard old.inner));
+  no_discard = tt;
   owned = tt;
 }
 

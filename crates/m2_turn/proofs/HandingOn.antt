@@ -2,7 +2,7 @@
 use Rattle.std.proofs.Common.{◌≡◌, List, [], ◌∷◌, ◌++◌, map, refl, sym, ap, ◌∙◌, subst, append-nil, append_assoc}
 use Rattle.std.proofs.lemmas.List.{map-append}
 use Rattle.std.proofs.lemmas.List.Concat.{flat_map-append}
-use Rattle.std.specs.List.{flat_map}
+use Rattle.std.specs.List.{AllByRecursion, flat_map}
 use Rattle.m2_bytes.proofs.m2_lemmas.Lists.{all_append}
 use Rattle.m2_dispatch.specs.Heard.{Heard}
 use Rattle.m2_dispatch.specs.declared.letter.Letter.{Letter}
@@ -15,7 +15,7 @@ use Rattle.m2_dispatch.specs.Parcel.{AllOwned, IsOwned, heard_at_put, heard_for,
 use Rattle.m2_dispatch.specs.Turn.{IsTurn, dispatched}
 use Rattle.m2_shared.specs.Place.{IsAlone, IsShared, Place}
 use Rattle.m2_shared.specs.Throttle.{SeenTakePass}
-use Rattle.m2_turn.specs.HandingOn.{HandsAllOn, HandsOn, resets_on}
+use Rattle.m2_turn.specs.HandingOn.{HandsAllOn, HandsOn, IsNoDiscard, resets_on}
 use Rattle.m2_turn.specs.Mailing.{DispatchesSome, queueing}
 use Rattle.m2_turn.proofs.Emptied.{split_at_one}
 
@@ -23,7 +23,7 @@ pub heard_for_both : (xs ys : List Parcel) → heard_for_all (xs ++ ys) ≡ hear
 heard_for_both xs ys = flat_map-append heard_for xs ys
 
 pub nothing_on : {D : Type 0} (heard : D → List Heard) (place : Place) (d : D) (into : List Parcel) → HandsOn heard place d d into into
-nothing_on heard place d into = record { more = []; last = sym (append-nil into); heard_more = sym (append-nil (heard d)); owned = tt }
+nothing_on heard place d into = record { more = []; last = sym (append-nil into); heard_more = sym (append-nil (heard d)); no_discard = tt; owned = tt }
 
 pub on_both : {D : Type 0} (heard : D → List Heard) (place : Place) (old mid new : D) (into between behind : List Parcel) →
     HandsOn heard place old mid into between → HandsOn heard place mid new between behind → HandsOn heard place old new into behind
@@ -32,6 +32,7 @@ on_both heard place old mid new into between behind a b = record {
   last = b.last ∙ ap (λ l. l ++ b.more) a.last ∙ append_assoc into a.more b.more;
   heard_more = b.heard_more ∙ ap (λ l. l ++ heard_for_all b.more) a.heard_more ∙ append_assoc (heard old) (heard_for_all a.more) (heard_for_all b.more)
       ∙ ap (λ l. heard old ++ l) (sym (heard_for_both a.more b.more));
+  no_discard = all_append IsNoDiscard a.more b.more a.no_discard b.no_discard;
   owned = all_append (IsOwned place) a.more b.more a.owned b.owned;
 }
 
@@ -47,6 +48,11 @@ resets_owned place (parcel.Letter l) = tt
 resets_owned place (parcel.Discard peer) = tt
 resets_owned place (parcel.RemoteReset peer) = (tt, tt)
 
+resets_are_none : (x : Parcel) → AllByRecursion IsNoDiscard (resets_on x)
+resets_are_none (parcel.Letter l) = tt
+resets_are_none (parcel.Discard peer) = tt
+resets_are_none (parcel.RemoteReset peer) = (tt, tt)
+
 -- one is put
 pub one_on : {D : Type 0} (heard : D → List Heard) (place : Place) (x : Parcel) (old new : D) (into behind : List Parcel) → heard new ≡ heard old ++ heard_at_put x →
     behind ≡ into ++ resets_on x → HandsOn heard place old new into behind
@@ -54,12 +60,13 @@ one_on heard place x old new into behind told last = record {
   more = resets_on x;
   last = last;
   heard_more = told ∙ ap (λ l. heard old ++ l) (resets_heard x);
+  no_discard = resets_are_none x;
   owned = resets_owned place x;
 }
 
 -- one couldn't be put
 pub none_on : {D : Type 0} (heard : D → List Heard) (place : Place) (old new : D) (into behind : List Parcel) → heard new ≡ heard old → behind ≡ into → HandsOn heard place old new into behind
-none_on heard place old new into behind told same = record { more = []; last = same ∙ sym (append-nil into); heard_more = told ∙ sym (append-nil (heard old)); owned = tt }
+none_on heard place old new into behind told same = record { more = []; last = same ∙ sym (append-nil into); heard_more = told ∙ sym (append-nil (heard old)); no_discard = tt; owned = tt }
 
 -- ---- letters that are handed on
 
@@ -87,6 +94,10 @@ letters_heard : (ls : List Letter) → heard_for_all (letters_on ls) ≡ map hea
 letters_heard [] = refl
 letters_heard (l ∷ ls) = ap (λ hs. heard_in l ∷ hs) (letters_heard ls)
 
+letters_are_none : (ls : List Letter) → AllByRecursion IsNoDiscard (letters_on ls)
+letters_are_none [] = tt
+letters_are_none (l ∷ ls) = (tt, letters_are_none ls)
+
 -- all of them are dispatched, as contracts see it of a word that threads share
 pub are_dispatched : {D : Type 0} (heard : D → List Heard) (place : Place) (old new : Queued D) (pass : SeenTakePass) (into behind : List Parcel) → IsShared place → HandsAllOn heard old new into behind →
     DispatchesSome heard place (queueing old pass) (queueing new pass)
@@ -99,5 +110,6 @@ letters_are_on heard place old new into behind owned on = record {
   more = letters_on on.dispatched;
   last = on.last;
   heard_more = on.heard_more ∙ ap (λ l. heard old.inner ++ l) (sym (letters_heard on.dispatched));
+  no_discard = letters_are_none on.dispatched;
   owned = (on.owned place owned).1;
 }
