@@ -17,7 +17,8 @@ Each scenario is run over the loopback and over sockets between threads. Of each
   9  what each record and each half did follows from docs/PROTOCOL.md, entry by entry, from its plan, what it read and when its ends
      failed: what it wrote, what it answered, what it handed on, and where its session stands. A replay tells (tools/sides.py);
  10  what the dispatchers were called with is what the records handed on, of each peer, priority and path in order, each once; and
-     as many posts are left as the call says;
+     as many posts are left as the call says. A node's log has the calls of its dispatchers of fast kinds, thread by thread, and then,
+     of each thread in order, what that thread has handed on, and nothing else;
  11  the moments are in order: no dial is due more than a second behind the last look at the clock; and where posts are left all is
      at rest, and nothing has happened for as long as the limit.
 
@@ -94,6 +95,7 @@ class Kept:
         self.made, self.inner, self.counts = (collections.defaultdict(list) for _ in range(3))
         self.home, self.records, self.loose, self.order = {}, collections.defaultdict(Given), {}, []
         self.heads, self.faults, self.calls, self.run = {}, {}, collections.defaultdict(list), {}
+        self.by_thread, self.logs = collections.defaultdict(list), collections.defaultdict(list)
         self.lines, self.seen = collections.defaultdict(list), set()
         for place, line in enumerate(text.splitlines(), 1):
             head, what, *words = line.split(" ")
@@ -133,6 +135,10 @@ class Kept:
         elif "/" in head:
             center, rest = head.split("/")
             path, peer = rest.split("-")
+            if path == "log":
+                self.logs[int(center)].append((int(peer), words))
+                return
+            self.by_thread[center, path].append((int(peer), words))
             self.calls[int(center.split(".")[0]), int(peer)].append((path, words))
         else:
             k, p = map(int, head.split("-"))
@@ -354,6 +360,20 @@ def check_logs(kept, nodes, sides):
     must(kept.run.get("left") == left, f"{left} posts are left, and the call says {kept.run.get('left')}")
 
 
+def check_node_logs(kept):
+    """Point 10, of a node as a whole."""
+    for k, count in kept.centers.items():
+        threads = [f"{k}.{j}" for j in range(count)]
+        fast = [call for thread in threads for call in kept.by_thread[thread, "fast"]]
+        log = kept.logs[k]
+        must(log[: len(fast)] == fast, f"node {k}: its log begins with other calls than those of fast kinds")
+        behind = log[len(fast) :]
+        must(len(behind) == sum(len(kept.by_thread[thread, "queued"]) for thread in threads), f"node {k}: its log has more, or less")
+        for thread in threads:
+            of_thread = [call for call in behind if kept.home.get((k, call[0])) == thread]
+            must(of_thread == kept.by_thread[thread, "queued"], f"node {k}: its log has other calls than {thread} has handed on")
+
+
 def check_cuts(kept, nodes):
     """Point 6: the n-th `cut` of a node towards another is of the n-th socket that it opens to it."""
     for k, node in enumerate(nodes):
@@ -397,6 +417,7 @@ def check(text, lines):
     check_cuts(kept, nodes)
     sides = [(link, check_link(kept, nodes, link[0], link[1], link[2:])) for link in links]
     check_logs(kept, nodes, sides)
+    check_node_logs(kept)
     if kept.run["left"] > 0:
         check_stalled(kept, nodes, next((int(line.split()[1]) for line in lines if line.startswith("limit ")), USUAL_LIMIT))
     return kept
