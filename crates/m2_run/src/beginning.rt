@@ -527,15 +527,7 @@ fn add_workers<'s, P: Port, W: Words>(
             shares.shared(),
         )?;
         let number = workers.len().min(u32::MAX as usize) as u32;
-        workers.push_reserved(Worker::new(
-            made,
-            shares,
-            centers == 1,
-            number,
-            node.started,
-            start,
-            counts,
-        ));
+        workers.push_reserved(Worker::new(made, shares, number, node.started, start, counts));
     }
     Ok(())
 }

@@ -30,7 +30,6 @@ use std::alloc::Global;
 use std::collections::VecDeque;
 use std::marker::Model;
 use std::sync::Condvar;
-use std::sync::atomic::AtomicBool;
 
 /// The center of an event thread, whose dispatchers log.
 pub(crate) type RunCenter<P> = Center<RunPort<P>, LogDispatcher>;
@@ -38,8 +37,9 @@ pub(crate) type RunCenter<P> = Center<RunPort<P>, LogDispatcher>;
 /// What the event threads of a node share. It can't be dropped, since a throttle can't.
 pub(crate) struct Shares {
     pub(crate) shared: NodeShared,
-    /// Whether a thread waits until another gives back what the throttle has granted. No clause says anything of it.
-    pub(crate) waits: AtomicBool,
+    /// Told where something may have been given back to the throttle, or a mail may have room again, for which event threads wait.
+    /// No clause says anything of it.
+    pub(crate) given: Condvar,
     /// Told where an event thread has put something into its mail, for which the dispatcher's thread waits. Nor of this.
     pub(crate) posted: Condvar,
 }
@@ -323,7 +323,7 @@ pub(crate) fn clear_shares(mut shares: Vec<Shares>) {
     'nodes: while let Some(share) = shares.pop() {
         let Shares {
             shared,
-            waits: _,
+            given: _,
             posted: _,
         } = share;
         let NodeShared {

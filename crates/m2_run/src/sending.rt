@@ -91,26 +91,35 @@ impl<'s, P: Port> Sender<'s, P> {
         ensures sends { IsSending mail.now self.new }
     {
         'turns: for _ in rt.forever() {
+            let seen = self.worker.given();
             self.post(rt, mail);
-            if !self.go_on(signs, clock, gate) {
+            if !self.go_on(rt, seen, signs, clock, gate) {
                 return;
             }
         }
         unreachable!()
     }
 
-    /// One turn, unless the signs say stop, or something waits for room in the mail, in which case the thread waits at its port for a
-    /// moment. Whether the signs said so.
-    fn go_on<C: Clock, G: Gate>(&mut self, signs: &Signs, clock: &C, gate: &G) -> bool
+    /// One turn, unless the signs say stop, or something waits for room in the mail, in which case the thread waits until there is
+    /// some. Whether the signs didn't say so.
+    fn go_on<R: Wait, C: Clock, G: Gate>(
+        &mut self,
+        rt: &R,
+        seen: u64,
+        signs: &Signs,
+        clock: &C,
+        gate: &G,
+    ) -> bool
         requires started { self.old.worker.started ≡ true }
         requires shared { IsShared self.old.worker.throttle.place }
         ensures works { Works (C.may_give clock.now) self.old.worker self.new.worker }
         ensures sends { (mail : MailNow) → IsSending mail self.old → IsSending mail self.new }
     {
         if self.waiting.is_empty() {
-            self.worker.go_on(signs, clock, gate, &mut self.waiting)
+            self.worker
+                .go_on(rt, seen, signs, clock, gate, &mut self.waiting)
         } else {
-            self.worker.wait(signs, clock)
+            self.worker.wait(rt, seen, signs, clock)
         }
     }
 

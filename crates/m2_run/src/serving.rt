@@ -125,10 +125,12 @@ impl<'s> Serving<'s> {
         }
     }
 
-    /// Tells what was dispatched since.
+    /// Tells what was dispatched since; and the event threads of its node that something was given back, and a mail has room.
     fn count(&mut self, signs: &Signs)
         ensures { self.new ≡ self.old }
     {
+        let shares = self.shares;
+        shares.given.notify_all();
         let log = self.dispatcher.log();
         let done = counted(log, self.told, self.counts.as_slice());
         let told = log.len();

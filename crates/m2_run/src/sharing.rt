@@ -12,7 +12,6 @@ use m2_shared::{NumberPass, Numbers, TakePass, Throttle};
 use std::alloc::Global;
 use std::marker::Model;
 use std::sync::Condvar;
-use std::sync::atomic::AtomicBool;
 
 /// The passes to what the threads of a node share, of which each thread gets its own.
 #[derive(Drop)]
@@ -63,7 +62,7 @@ fn add_shares(alloc: Global, most: u64, of: &mut Shared) -> Result<(), NoMemory>
     let (throttle, take_pass) = Throttle::new(alloc, most)?;
     of.shares.push_reserved(Shares {
         shared: NodeShared { numbers, throttle },
-        waits: AtomicBool::new(false),
+        given: Condvar::new(),
         posted: Condvar::new(),
     });
     of.passes.push_reserved(FirstPasses {

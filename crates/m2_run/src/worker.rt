@@ -20,13 +20,16 @@ use m2_record::{Due, Record};
 use m2_script::CenterTurn;
 use std::collections::VecDeque;
 use std::marker::Model;
+use std::sync::Wait;
 use std::sync::atomic::{AtomicBool, AtomicU64, Ordering};
+use std::time::Duration;
 
 /// How long a thread waits at its port behind a turn that did nothing, in milliseconds.
 const WAIT: u32 = 10;
 
-/// The same where it waits until the dispatcher's thread gives back what the throttle has granted, or makes room in the mail.
-const WAIT_FOR_ROOM: u32 = 1;
+/// How long it waits at most until another thread gives back what the throttle has granted, or makes room in its mail, in
+/// milliseconds; it hears nothing of its sockets so long.
+const WAIT_FOR_ROOM: u64 = 1;
 
 /// What the threads of a run tell one another, so that they know when to stop. No clause says anything of it: what came
 /// of the run is computed when they have ended.
@@ -72,20 +75,17 @@ impl Signs {
     }
 }
 
-/// A center with what its thread knows: what it shares with the others of its node, and whether there are any; its number among
-/// all threads, whether it is on, the moment of its last turn; which peers' posts count, and how far it has counted what its
-/// dispatcher of fast kinds was called with; and whether it has told the others that it waits for the throttle. It can't be
-/// dropped, since a center can't.
+/// A center with what its thread knows: what it shares with the others of its node; its number among all threads, whether it is
+/// on, the moment of its last turn; which peers' posts count, and how far it has counted what its dispatcher of fast kinds was
+/// called with. It can't be dropped, since a center can't.
 pub(crate) struct Worker<'s, P: Port> {
     center: RunCenter<P>,
     shares: &'s Shares,
-    is_alone: bool,
     number: u32,
     is_started: bool,
     moment: u64,
     counts: Vec<bool>,
     fast: usize,
-    has_told: bool,
     ghost numbers: { center.numbers.place ≡ shares.now.numbers.place },
     ghost throttle: { center.bytes.place ≡ shares.now.throttle.place },
 }
@@ -103,7 +103,6 @@ impl<'s, P: Port> Worker<'s, P> {
     pub(crate) fn new(
         center: RunCenter<P>,
         shares: &'s Shares,
-        is_alone: bool,
         number: u32,
         is_started: bool,
         moment: u64,
@@ -115,13 +114,11 @@ impl<'s, P: Port> Worker<'s, P> {
         Worker {
             center,
             shares,
-            is_alone,
             number,
             is_started,
             moment,
             counts,
             fast: 0,
-            has_told: false,
         }
     }
 
@@ -142,13 +139,11 @@ impl<'s, P: Port> Worker<'s, P> {
         let Worker {
             center,
             shares,
-            is_alone: _,
             number: _,
             is_started: _,
             moment: _,
             counts: _,
             fast: _,
-            has_told: _,
         } = self;
         (center, shares)
     }
@@ -165,9 +160,18 @@ impl<'s, P: Port> Worker<'s, P> {
         Ok(self.counts.clone()?)
     }
 
-    /// One turn, unless the signs say stop: whether it took one. What it hands on goes last among these parcels.
-    pub(crate) fn go_on<C: Clock, G: Gate>(
+    /// How often it was told so far that something may have been given back or has room again: what a wait for that is told.
+    pub(crate) fn given(&self) -> u64 {
+        let shares = self.shares;
+        shares.given.notifications()
+    }
+
+    /// One turn, unless the signs say stop: whether it took one. What it hands on goes last among these parcels. Where the throttle
+    /// has no room it waits until something is given back, unless that was told since `seen`.
+    pub(crate) fn go_on<R: Wait, C: Clock, G: Gate>(
         &mut self,
+        rt: &R,
+        seen: u64,
         signs: &Signs,
         clock: &C,
         gate: &G,
@@ -184,12 +188,19 @@ impl<'s, P: Port> Worker<'s, P> {
             return false;
         }
         gate.pass(self.number());
-        self.step(signs, now, into);
+        self.step(rt, seen, signs, now, into);
         true
     }
 
-    /// Waits at its port for a moment, unless the signs say stop: whether it did.
-    pub(crate) fn wait<C: Clock>(&mut self, signs: &Signs, clock: &C) -> bool
+    /// Waits until its mail has room again, unless that was told since `seen`, and hears what came at its port meanwhile; unless
+    /// the signs say stop: whether it did.
+    pub(crate) fn wait<R: Wait, C: Clock>(
+        &mut self,
+        rt: &R,
+        seen: u64,
+        signs: &Signs,
+        clock: &C,
+    ) -> bool
         requires { self.old.started ≡ true }
         ensures works { Works (C.may_give clock.now) self.old self.new }
         ensures same { self.new.center.queued ≡ self.old.center.queued }
@@ -198,7 +209,7 @@ impl<'s, P: Port> Worker<'s, P> {
         if signs.say_stop(clock.now()) {
             return false;
         }
-        let _ = self.center.poll(WAIT_FOR_ROOM);
+        let _ = self.center.poll(sleep_until_given(rt, self.shares, seen));
         true
     }
 
@@ -213,8 +224,15 @@ impl<'s, P: Port> Worker<'s, P> {
         self.number
     }
 
-    /// One turn at this moment, which the others are told; where it did nothing the thread waits at its port.
-    fn step(&mut self, signs: &Signs, now: u64, into: &mut VecDeque<Parcel>)
+    /// One turn at this moment, which the others are told; where it did nothing the thread waits.
+    fn step<R: Wait>(
+        &mut self,
+        rt: &R,
+        seen: u64,
+        signs: &Signs,
+        now: u64,
+        into: &mut VecDeque<Parcel>,
+    )
         requires shared { IsShared self.old.throttle.place }
         ensures moment { self.new.moment ≡ now }
         ensures started { self.new.started ≡ self.old.started }
@@ -227,40 +245,32 @@ impl<'s, P: Port> Worker<'s, P> {
         self.moment = now;
         match turn {
             CenterTurn::Moved => self.tell(signs),
-            CenterTurn::Dry => self.rest(now),
+            CenterTurn::Dry => self.rest(rt, seen, now),
             CenterTurn::NoMemory => signs.tell_full(),
         }
     }
 
-    /// Waits at its port. Where it waits for the throttle it tells the others first, and looks once more before it waits, since
-    /// one may have given back just now.
-    fn rest(&mut self, now: u64)
+    /// Waits at its port; where the throttle has no room, until something is given back, unless that was told since `seen`.
+    fn rest<R: Wait>(&mut self, rt: &R, seen: u64, now: u64)
         ensures same { self.new ≡ record self.old { center = self.new.center } }
         ensures waits { (self.new.center ≡ self.old.center) ⊎ PollsSo self.old.center self.new.center }
     {
-        let waits = wait_for_room(self.center.records(), now);
-        let tells = !self.is_alone && !self.has_told && waits;
-        self.has_told = tells;
-        if tells {
-            let shares = self.shares;
-            shares.waits.store(true, Ordering::SeqCst);
+        let most = if wait_for_room(self.center.records(), now) {
+            sleep_until_given(rt, self.shares, seen)
         } else {
-            let most = if waits { WAIT_FOR_ROOM } else { WAIT };
-            let _ = self.center.poll(most);
-        }
+            WAIT
+        };
+        let _ = self.center.poll(most);
     }
 
-    /// Tells the others what was dispatched at once since, and the moment of the last productive entry; and those of its node, where one
-    /// waits for the throttle, that something may have been given back.
+    /// Tells the others what was dispatched at once since, and the moment of the last productive entry; and those of its node that
+    /// something may have been given back.
     fn tell(&mut self, signs: &Signs)
         ensures { self.new ≡ self.old }
     {
         self.count(signs);
-        self.has_told = false;
         let shares = self.shares;
-        if shares.waits.swap(false, Ordering::SeqCst) {
-            self.center.port().ring();
-        }
+        shares.given.notify_all();
     }
 
     /// Tells what was dispatched at once since, and the moment of the last productive entry.
@@ -275,6 +285,14 @@ impl<'s, P: Port> Worker<'s, P> {
         signs.tell_dispatched(done);
         signs.last.fetch_max(last, Ordering::SeqCst);
     }
+}
+
+/// Sleeps until something may have been given back, unless that was told since `seen`: no time is left for a wait at the port.
+fn sleep_until_given<R: Wait>(rt: &R, shares: &Shares, seen: u64) -> u32 {
+    shares
+        .given
+        .sleep(rt, seen, Duration::from_millis(WAIT_FOR_ROOM));
+    0
 }
 
 /// Whether one of these records has read a message for which the throttle has no room.
