@@ -33,7 +33,7 @@ Center = CenterNow (List Logged)
 
 -- nothing more
 pub nothing_on : (place : Place) (log : List Logged) (into : List Parcel) → HandsOn heard_by place log log into into
-nothing_on place log into = record { more = []; last = sym (append-nil into); heard_more = sym (append-nil (heard_by log)); owned = tt }
+nothing_on place log into = record { more = []; last = sym (append-nil into); heard_more = sym (append-nil (heard_by log)); no_discard = tt; owned = tt }
 
 -- a center that has waited at its port behind it
 pub rested_on : (place : Place) (log : List Logged) (mid new : Center) (into behind : List Parcel) → HandsOn heard_by place log mid.queued.inner into behind → (new ≡ mid) ⊎ PollsSo mid new →
