@@ -37,7 +37,7 @@ sys.dont_write_bytecode = True
 TOP = os.path.dirname(os.path.dirname(os.path.abspath(__file__)))
 sys.path.insert(0, os.path.join(TOP, "tools"))
 import wire
-from kept import Kept, replay_link, scenario
+from kept import REFUSED, Kept, replay_link, scenario
 from replay_trace import Wrong, must
 from sides import POLICIES, REMOTE_RESET
 
@@ -222,7 +222,7 @@ def passed(draw, text, lines):
         tried += 1
         try:
             check(other, lines)
-        except (Wrong, wire.BadStream, ValueError, KeyError, IndexError, TypeError, StopIteration):
+        except REFUSED:
             continue
         was, now = text.splitlines(), other.splitlines()
         at = next((at for at, (one, two) in enumerate(zip(was, now)) if one != two), min(len(was), len(now)) - 1)

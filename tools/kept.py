@@ -7,10 +7,13 @@ checks/kept_run.py holds such texts against the definition of a kept run, and to
 import collections
 
 import wire
-from replay_trace import Given, Side, compare, flags, must
+from replay_trace import Given, Side, Wrong, compare, flags, must
 from sides import End
 
 ONCE = "node", "port", "counts", "address", "state", "faults", "halves", "start", "stop", "left"  # kinds of lines of which no rule makes one
+
+# what a text comes to that no run keeps
+REFUSED = (Wrong, wire.BadStream, ValueError, KeyError, IndexError, TypeError, StopIteration, RuntimeError)
 
 
 # ---- the scenario
@@ -129,10 +132,12 @@ class KeptSide(Side):
         words = [int(word) for word in self.node_words]
         self.entity, self.number, self.salt, self.supports, self.requires, self.first_wait, self.most_wait = words
         self.address, self.peers_address, self.fast = nodes[k].address, nodes[p].address, nodes[k].fast
+        self.given.handed = len(kept.calls.get((k, p), []))  # so many parcels were handed on at least
         self.next_number = None
         self.steps, self.halves_did, self.in_full = [], collections.defaultdict(list), []
 
     def draw(self):
+        must(self.next_number is not None, "a global number is drawn, and the entry has none")
         return self.next_number
 
     def record_of(self, address):
@@ -180,6 +185,7 @@ class KeptSide(Side):
         if entry[0] in ("asked", "judged"):
             self.next_number = int(entry[2 if entry[0] == "asked" else 1])
         super().follow(entry)
+        self.next_number = None
         if is_new:
             self.steps.append(([], None))
         self.steps[-1] = [*self.steps[-1][0], self.in_full.pop(0)], self.record.standing()

@@ -61,7 +61,8 @@ TOLD = {  # what else a node's line tells, by its second word: dispatches, and b
     "session": "name phase number number number number flag number number number number number number",
     "throttle": "number",
 }
-ON_THREADS = {  # and what isn't told of threads
+UNTOLD_OF_THREADS = 6, 8  # of the words of where a record stands: until when it waits, and what the throttle has granted
+ON_THREADS = {
     "session": "name phase number number number number flag untold number untold number number number",
 }
 
