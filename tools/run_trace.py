@@ -5,9 +5,9 @@ their way.
 usage: tools/run_trace.py TRACE
 
 docs/SCENARIOS.md has the form, under "The trace of a run" and "The trace of a run on threads". `read_run` gives a `Run`, or raises
-`BadTrace` with the number of the first line that isn't so and what is wrong with it. As a command it plays the script of the trace by tools/model.py,
-which knows docs/PROTOCOL.md and nothing of the crates, and lays what comes of that beside the trace: each read and write
-with its bytes, each answer, each dispatch and each reset, in their order. The first line that is otherwise is told on
+`BadTrace` with the number of the first line that isn't so and what is wrong with it. As a command it plays the script of the trace
+by tools/model.py, which knows docs/PROTOCOL.md and nothing of the crates, and lays what comes of that beside the trace: each read
+and write with its bytes, each answer, each dispatch and each reset, in their order. The first line that is otherwise is told on
 standard error, and the status is 1; where the file can't be read or a line is bad it is 2, and so it is of a run on threads, which
 no script decides.
 """
