@@ -18,7 +18,7 @@ NOT_RUN = {  # by their beginnings
     "(cd crates/record_trace && rt try": "it builds for a minute, for one call, what the gate proves and runs on the same file",
     "./msgr2 capture ": "it wants dpkt, which this machine may lack; .ci/captures.py lays what it tells beside traces",
     "./msgr2 trace --run ": "its ports may be taken; .ci/kept_traces.py traces such files at ports that the system chooses",
-    "./msgr2 why --run ": "likewise",
+    "./msgr2 why --run ": "its ports may be taken; .ci/kept_traces.py traces such files at ports that the system chooses",
     "./msgr2 why --all threads.trace": "it wants that trace; .ci/kept_traces.py runs it on others",
     "./msgr2 draw threads.trace ": "it wants that trace; .ci/kept_traces.py runs it on others",
     "./msgr2 run ": "its ports may be taken; .ci/threads.py runs such files at ports that the system chooses",
