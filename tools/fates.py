@@ -107,6 +107,7 @@ class Fates:
 
     def __init__(self, run, lines=None):
         self.run, self.lines = run, lines or {row: row.line for row in run.rows}
+        self.word = "place" if run.on_threads else "moment"  # what the turns count
         self.posts = []
         self.messages = {}  # of a MESSAGE that was read whole what came of it
         self.late = {}  # of the acceptance of one that had to wait, in an earlier turn than its own, the frame
@@ -139,7 +140,7 @@ class Fates:
                 if event.what not in ("from", "reset", "fault", "cut", "took"):
                     side.before = event
             for pair, words in row.sessions.items():
-                self.sides[pair].until = int(words[6])
+                self.sides[pair].until = None if self.run.on_threads else int(words[6])
             outs[row.node] = outs[row.node] if row.out is None else row.out
             self.outs[row] = outs[row.node] + sum(self.size_of(event) for event in row.events if is_queued(event))
 
@@ -209,7 +210,7 @@ class Fates:
 
     def due_connect(self, word, side):
         """What made a connect due, as its line has it ("When a side connects")."""
-        waited = f"as its wait until moment {side.until} was over"
+        waited = "as its wait was over" if self.run.on_threads else f"as its wait until moment {side.until} was over"
         return {"waited": waited, "posted": "for what it has to write", "dialled": "as it was told to dial"}[word]
 
     def on_asked(self, event, side):
@@ -245,7 +246,7 @@ class Fates:
     def read_message(self, event, side, flight):
         self.messages[flight] = OLD if flight.says["seq"] <= side.last or flight.frame.aborted else HELD
         post = self.numbered.get((event.socket.name, flight.writer, flight.says["seq"]))
-        if post and self.messages[flight] == HELD:
+        if post and self.messages[flight] == HELD and not self.run.on_threads:
             post.held.append([flight, event.row, None])
 
     def on_accepted(self, event, side):
@@ -353,7 +354,8 @@ class Fates:
     # ---- what is told
 
     def when(self, row):
-        return f"at moment {row.at}" if row.what == "turn" else f"at line {self.lines[row]}, before moment {row.at}"
+        at = f"{self.word} {row.at}"
+        return f"at {at}" if row.what == "turn" else f"at line {self.lines[row]}, before {at}"
 
     def fate(self, post):
         """What became of a post: the kind, and the rest of the sentence."""
@@ -398,6 +400,8 @@ class Fates:
 
     def ends(self):
         """Why nothing more happens."""
+        if self.run.on_threads:
+            return "the run ended"
         last = [row.what for row in self.run.rows[-1 - len(self.run.nodes) :]]
         return "the last settle is too short" if last[:1] == ["settle"] else "no settle follows"
 
@@ -418,6 +422,9 @@ class Fates:
 
     def waits_for_throttle(self, post, reader):
         bound = self.bounds[reader]
+        if self.run.on_threads:
+            what = f", whose throttle has {bound} bytes" if bound else ""
+            return f"for {reader}{what}: it was read and not accepted when the run ended"
         if not bound:
             return f"for {reader}'s next turn: {reader} has read it and did as much as it does in one turn"
         row = next(start for _, start, end in post.held[::-1] if end is None)
@@ -428,6 +435,9 @@ class Fates:
         again = self.repeated(side.node, side.peer)
         if again:
             return f"while {again}"
+        for one in (side.node, side.peer):
+            if one in self.run.off:
+                return f"as {one} is off"
         for one, other in ((side, peer), (peer, side)):
             if one.missing:
                 lacks = f"{other.node} requires {bits_of(one.missing)}, which {one.node} doesn't support"
@@ -445,6 +455,8 @@ class Fates:
 
     def opens(self, side):
         """When a side opens a socket that it is to open: in its next turn, or where it waits in the first behind the wait."""
+        if self.run.on_threads:
+            return f"{side.node} opens {'behind its wait' if side.phase == 'wait' else 'in its next turn'}"
         return f"{side.node} opens in its {f'first turn from moment {side.until} on' if side.until > self.run.moment else 'next turn'}"
 
     # ---- an exchange that repeats
@@ -473,7 +485,7 @@ class Fates:
             since = marks[-count * period][1].row.at
             judged = [event for kind, event in marks[-period:] if kind[1] == "judged"]
             answers = [f"{it.node} answers {it.words[2]} by {' '.join(it.words[8:])} ({it.named})" for it in judged]
-            return f"one exchange repeats itself, {some(count, 'time')} since moment {since}: {', '.join(answers)}"
+            return f"one exchange repeats itself, {some(count, 'time')} since {self.word} {since}: {', '.join(answers)}"
         return None
 
     # ---- sockets

@@ -3,7 +3,8 @@ the pointer, what the nodes did then, with what made a connect due and the row t
 message lit up.
 
 `page_of(run, fates, drawing, svg)` gives the text of the page, for tools/draw. The states are those of tools/model.py, which
-plays the script of the trace; where that does otherwise than the trace, the page says so in their place.
+plays the script of the trace; where that does otherwise than the trace, the page says so in their place. Of a run on threads, which
+no script decides, they are those that the trace tells.
 """
 import json
 
@@ -11,6 +12,7 @@ import model
 import run_trace
 from replay_trace import Wrong
 
+NOTHING = ["absent", "0", "0", "0", "0", "no", "-", "0", "-", "0", "0", "0"]  # where a record stands that has done nothing
 SIDE = ("phase", "socket", "client cookie", "server cookie", "peer's global", "connect", "numbered", "written", "waiting", "accepted")
 
 
@@ -40,6 +42,30 @@ def states(run):
         before = now
 
 
+def told_states(run):
+    """The same of a run on threads, as the lines of the trace have it."""
+    stands, feeds, before = {}, {}, {}
+    for row in run.rows:
+        for event in row.events:
+            pair = event.node, event.peer
+            if event.what == "opened" or event.what == "judged" and event.words[8] in run_trace.TAKES:
+                feeds[pair] = event.socket.name
+            elif event.what == "closed" and feeds.get(pair) == event.socket.name:
+                del feeds[pair]
+        stands.update(row.sessions)
+        now = {(link, side): told_state(stands.get(pair, NOTHING), feeds.get(pair, "none"))
+               for link, (a, b) in enumerate(run.links) for side, pair in enumerate(((a, b), (b, a)))}
+        yield [[*key, state] for key, state in now.items() if before.get(key) != state]
+        before = now
+
+
+def told_state(words, feed):
+    phase, client, server, other, connect, _, _, accepted, _, acked, last, waiting = words
+    numbered = f"{int(acked) + 1} to {last}, not acknowledged" if acked != last else "none"
+    values = (phase, feed, client, server, other, connect, numbered, waiting if waiting != "0" else "none", accepted)
+    return dict(zip((name for name in SIDE if name != "written"), values))
+
+
 def throttle(node):
     return f"{node.out} of {node.bound} bytes" if node.bound else "none"
 
@@ -47,8 +73,9 @@ def throttle(node):
 def rows_of(run, fates, times):
     """Each row that is drawn: from which height to which, its words, its lines, and the states that changed before it was over."""
     try:
-        run_trace.check(run)
-        changes = list(states(run))
+        if not run.on_threads:
+            run_trace.check(run)
+        changes = list(told_states(run) if run.on_threads else states(run))
     except Wrong:
         changes = None
     drawn = {row: (start, end) for row, start, end in times.rows}

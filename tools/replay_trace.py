@@ -173,6 +173,7 @@ class Side:
         self.run = self
         self.told, self.handed = [], []  # entries that the given ones aren't compared with yet; letters and resets
         self.halves, self.ends, self.moves, self.judged = {}, {}, {}, {}  # by socket
+        self.refused = {}  # by socket, of a half that was closed by the answer to its ask, that entry until its trail comes to it
         self.opened, self.trails, self.spent = [], [], []  # sockets, in the order in which they came to that
 
     # ---- what a record and a half ask of it
@@ -281,6 +282,8 @@ class Side:
         half = self.walk(socket, after[count])
         while not self.told and half.move(0) == MOVED:
             pass
+        self.refused[socket] = [words for words in self.told if words[0] == "trail"]
+        self.told = [words for words in self.told if words[0] != "trail"]
         if half.is_taken:
             self.trails.append(socket)
 
@@ -294,7 +297,8 @@ class Side:
             half.done = 0
         must(half.done <= count <= len(entries), f"{socket} has another number of entries by then")
         for what, *words in entries[half.done : count]:
-            must(not half.is_taken and not half.end.closed, f"the half on {socket} is over before its trail")
+            self.told += self.refused.pop(socket, [])
+            must(self.told or not half.is_taken and not half.end.closed, f"the half on {socket} is over before its trail")
             half.end.readable = half.end.got + int(words[0]) if what == "read" else half.end.got
             half.end.fails = what == "closed" and self.has_failed(socket)
             half.end.cut = self.taken_by(what, words)

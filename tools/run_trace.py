@@ -1,13 +1,15 @@
 #!/usr/bin/env python3
-"""Reads the trace of a run of `sim`: its lines as rows of events, and the bytes of its sockets as frames on their way.
+"""Reads the trace of a run of `sim`, or of one on threads: its lines as rows of events, and the bytes of its sockets as frames on
+their way.
 
 usage: tools/run_trace.py TRACE
 
-docs/SCENARIOS.md has the form, under "The trace of a run". `read_run` gives a `Run`, or raises `BadTrace` with the number of
-the first line that isn't so and what is wrong with it. As a command it plays the script of the trace by tools/model.py,
-which knows docs/PROTOCOL.md and nothing of the crates, and lays what comes of that beside the trace: each read and write
-with its bytes, each answer, each dispatch and each reset, in their order. The first line that is otherwise is told on
-standard error, and the status is 1; where the file can't be read or a line is bad it is 2.
+docs/SCENARIOS.md has the form, under "The trace of a run" and "The trace of a run on threads". `read_run` gives a `Run`, or raises
+`BadTrace` with the number of the first line that isn't so and what is wrong with it. As a command it plays the script of the trace
+by tools/model.py, which knows docs/PROTOCOL.md and nothing of the crates, and lays what comes of that beside the trace: each read
+and write with its bytes, each answer, each dispatch and each reset, in their order. The first line that is otherwise is told on
+standard error, and the status is 1; where the file can't be read or a line is bad it is 2, and so it is of a run on threads, which
+no script decides.
 """
 import bisect
 import os
@@ -34,7 +36,7 @@ WORDS = {  # what a word of each kind looks like
     "name": NAME, "number": NUMBER, "bytes": BYTES, "word": "[a-z_]+", "mark": f"[a-z_]+|{NUMBER}", "text": "[!-~]+",
     "socket": f"{NAME}-{NAME}/[1-9][0-9]*", "ask": "ident|reconnect", "path": "fast|queued", "full": "full|part",
     "entity": "mon|mds|osd|client|mgr", "cause": "posted|dialled|waited", "flag": "yes|no", "phase": "absent|connecting|ident_sent|reconnect_sent|ready|standby|wait",
-    "address": r"[0-9]+(?:\.[0-9]+){3}:[0-9]+/[0-9]+",
+    "address": r"[0-9]+(?:\.[0-9]+){3}:[0-9]+/[0-9]+", "untold": "-",
 }
 RANGES = {  # of numbers that stand in a scenario
     "kind": (0, 65535), "priority": (64, 255), "cut": (0, 1048576), "place": (1, 4294967295), "count": (0, 2**64 - 1), "round": (1, 1),
@@ -42,8 +44,9 @@ RANGES = {  # of numbers that stand in a scenario
 SCRIPT = {  # the lines of the script, as they are played; of a kind with * there may be any number of words
     "node": "name entity address text*", "link": "name name word word", "post": "name name kind priority bytes bytes bytes",
     "dial": "name name", "down": "name name", "cut": "name name cut", "turn": "name number", "settle": "round",
-    "flow": "name name number*", "fault": "name name number*",
+    "flow": "name name number*", "fault": "name name number*", "threads": "", "off": "name", "limit": "number",
 }
+OF_SIM, OF_THREADS = ("settle", "flow", "fault"), ("off", "limit")  # the lines of the one script alone
 OPTIONS = {"centers": (1, 4), "fast": (0, 65535), "throttle": (0, 2**32 - 1), "supports": (0, 2**64 - 1), "requires": (0, 2**64 - 1)}
 MOVED = {"read": "socket number", "wrote": "socket number bytes", "closed": "socket word*"}
 JOURNAL = MOVED | {
@@ -57,6 +60,10 @@ TOLD = {  # what else a node's line tells, by its second word: dispatches, and b
     "from": "name number path number bytes bytes bytes", "reset": "name",
     "session": "name phase number number number number flag number number number number number number",
     "throttle": "number",
+}
+UNTOLD_OF_THREADS = 6, 8  # of the words of where a record stands: until when it waits, and what the throttle has granted
+ON_THREADS = {
+    "session": "name phase number number number number flag untold number untold number number number",
 }
 
 
@@ -156,6 +163,7 @@ class Run:
     def __init__(self):
         self.caption, self.nodes, self.links, self.sockets, self.rows, self.cuts = [], {}, [], {}, [], {}
         self.feeds, self.moment, self.policies = {}, 0, {}
+        self.on_threads, self.off = False, set()
         self.lines = []  # those that say something, each with its number
 
     def is_linked(self, a, b):
@@ -191,6 +199,12 @@ class Reader:
         self.must(what in SCRIPT, f"`{what}` begins no line")
         self.fit(what, SCRIPT[what], rest)
         run = self.run
+        self.must(what not in (OF_SIM if run.on_threads else OF_THREADS), f"`{what}` is no line of this run")
+        if what == "threads":
+            self.must(not run.rows, "`threads` stands behind another line")
+            run.on_threads = True
+        elif what == "off":
+            run.off.update(rest)
         if what == "node":
             self.new_node(*rest)
         else:
@@ -249,11 +263,12 @@ class Reader:
             return self.entry(TRAIL, node, None, rest)
         self.must(what in TOLD, f"`{what}` is nothing that a node does")
         if what == "throttle":
+            self.must(not self.run.on_threads, "what a throttle has out isn't told of a run on threads")
             self.fit(what, TOLD[what], rest)
             self.row.out = int(rest[0])
             return None
         self.must(self.run.is_linked(node, rest[0]), f"no link of {node} and {rest[0]} above")
-        self.fit(what, TOLD[what], rest)
+        self.fit(what, (ON_THREADS if self.run.on_threads else {}).get(what, TOLD[what]), rest)
         if what == "session":
             self.row.sessions[node, rest[0]] = rest[1:]
         else:
@@ -431,6 +446,8 @@ def due_lines(script):
 
 def check(run):
     """Raises Wrong where the trace isn't that of its script by docs/PROTOCOL.md."""
+    if run.on_threads:
+        raise Wrong("no script decides a run on threads")
     script = [line.split(" ") for _, line in run.lines if not line.startswith(" ")]
     replay_trace.compare(run.lines, due_lines(script))
 
@@ -455,7 +472,10 @@ def main():
     if is_scenario(text):
         replay_trace.refuse(wants_a_trace(sys.argv[1]))
     try:
-        check(read_run(text))
+        run = read_run(text)
+        if run.on_threads:
+            replay_trace.refuse(f"{sys.argv[1]} is the trace of a run on threads, which no script decides: tools/kept_trace replays it as it makes it")
+        check(run)
     except BadTrace as bad:
         replay_trace.refuse(f"{sys.argv[1]} is no trace of a run: {bad}")
     except Wrong as wrong:
