@@ -3,6 +3,7 @@
 ghost use Rattle.std.specs.Prelude.{◌≡◌, true, IfOk, map, []};
 ghost use Rattle.m2_cli.specs.Printout.{IsPrintout, IsPrintoutBy};
 ghost use Rattle.m2_cli.specs.Threads.{PlayComesTo, PreparesThreads, ThreadsComeTo, names_in, status_by_left};
+ghost use Rattle.m2_cli.specs.declared.status.Status.TheVariants as status;
 ghost use Rattle.m2_edge.specs.Whole.{HasReadCause};
 ghost use Rattle.m2_scenario.specs.Draft.{Draft, IsMade};
 ghost use Rattle.m2_scenario.specs.Report.{AreLogsOf, heard_in, name_of, report_of};
@@ -16,6 +17,7 @@ use m2_fabric::{Fabric, Port};
 use m2_run::{Outcome, RunFault, Unobserved, lines_post_of_types, run};
 use m2_scenario::{LinkList, LogsList, NodeList, Scenario, report};
 use m2_scenario_text::{BadScenario, MOST_BYTES, read};
+use m2_weave::Unfit;
 use std::alloc::Global;
 use std::sync::Wait;
 use std::thread::Threads;
@@ -130,14 +132,21 @@ where
         Err(RunFault::Unfit(byte)) => with_line(
             alloc,
             nodes.as_slice(),
-            Status::Unfit {
-                socket: byte.socket,
-                opener: byte.opener,
-                place: byte.place,
-                why: byte.why,
-            },
+            unfit_status(byte),
             Blob::empty(alloc),
         ),
+    }
+}
+
+/// The status where a link has no history, for this byte.
+fn unfit_status(byte: Unfit) -> Status
+    ensures { result ≡ status.Unfit byte.socket byte.opener byte.place byte.why }
+{
+    Status::Unfit {
+        socket: byte.socket,
+        opener: byte.opener,
+        place: byte.place,
+        why: byte.why,
     }
 }
 

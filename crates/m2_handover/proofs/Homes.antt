@@ -16,7 +16,7 @@ use Rattle.m2_trail.specs.Incoming.{IncomingNow}
 use Rattle.m2_handover.proofs.Weights.{left_weigh}
 use Rattle.m2_handover.specs.Door.{DoorNow, StaysThere, TakesIn, weight_of, weight_of_half, weight_on_way, weight_put}
 use Rattle.m2_handover.specs.Handed.{OnItsWay, left_behind}
-use Rattle.m2_handover.specs.Home.{AreAllThere, HasTakenAll, HomeNow, IsHome, IsKnown, IsNoWait, asked_at, asked_at_door, ways_at, unasked_at, unasked_at_door, weight_at_door, weight_next}
+use Rattle.m2_handover.specs.Home.{AreAllThere, GivesOrLacks, HasTakenAll, HomeNow, IsHome, IsKnown, asked_at, asked_at_door, ways_at, unasked_at, unasked_at_door, weight_at_door, weight_next}
 
 -- ---- sockets that are known
 
@@ -138,10 +138,10 @@ home_lets_in old new before after h was is takes stays made taken next = (
 
 -- ---- what an accept has taken
 
-pub taken_all : {E : Type 0} (t : Taken E) (old new : HomeNow) → IsNoWait t → HasTakenAll t old new
+pub taken_all : {E : Type 0} (t : Taken E) (old new : HomeNow) → GivesOrLacks t → HasTakenAll t old new
 taken_all (accept.Made e) old new h = tt
 taken_all accept.NotYet old new h = absurd h
-taken_all accept.Failed old new h = tt
+taken_all accept.Failed old new h = absurd h
 taken_all accept.NoMemory old new h = tt
 
 -- ---- its end

@@ -7,8 +7,8 @@ use Rattle.m2_trail.specs.Arrivals.{LooseNow, closed_of, left_of}
 use Rattle.m2_trail.specs.Incoming.{IncomingNow}
 use Rattle.m2_trail.specs.declared.turn.HalfTurn.{HalfTurn}
 use Rattle.m2_trail.specs.declared.turn.HalfTurn.TheVariants as half
-use Rattle.m2_handover.specs.Door.{DoorNow, GoesBy, Hands, KeepsAll, Stands, TakesIn, asked_by, asked_in, over_by, stays_by, weight_of, weight_of_half, weight_by, weight_on_way, weight_put, weight_through}
-use Rattle.m2_handover.specs.Handed.{OnItsWay, left_behind}
+use Rattle.m2_handover.specs.Door.{DoorNow, GoesBy, Hands, KeepsAll, Stands, TakesIn, asked_by, over_by, stays_by, weight_of, weight_of_half, weight_by, weight_on_way, weight_put, weight_through}
+use Rattle.m2_handover.specs.Handed.{AreAskedAs, ComeAsked, IsAskedAs, OnItsWay, left_behind}
 use Rattle.m2_handover.specs.Way.{WayNow, with_put}
 
 -- ---- lists
@@ -39,8 +39,8 @@ takes_none before after d e weight = ap (λ made. weight_through weight d + sum_
 pub takes_in_more : (x y z : List SocketId) (a b c : DoorNow) → TakesIn x y a b → TakesIn y z b c → TakesIn x z a c
 takes_in_more x y z a b c f g weight = omega (arith, f weight, g weight)
 
-pub takes_then_keeps : (x y : List SocketId) (a b c : DoorNow) → TakesIn x y a b → KeepsAll b c → TakesIn x y a c
-takes_then_keeps x y a b c f g weight = omega (arith, f weight, g weight)
+pub keeps_then_takes : (x y : List SocketId) (a b c : DoorNow) → KeepsAll a b → TakesIn x y b c → TakesIn x y a c
+keeps_then_takes x y a b c f g weight = omega (arith, f weight, g weight)
 
 -- ---- a socket comes
 
@@ -71,10 +71,25 @@ left_weigh weight [] = refl
 left_weigh weight (h ∷ hs) =
     omega (arith, sum_by-cons (weight_of weight) (left_behind h) (map left_behind hs), sum_by-cons (weight_on_way weight) h hs, left_weigh weight hs)
 
+-- on their way halves weigh what they weighed
+asked_weigh : (weight : SocketId → ℕ) (halves : List IncomingNow) (hs : List OnItsWay) → AreAskedAs halves hs → sum_by (weight_on_way weight) hs ≡ sum_by (weight_of_half weight) halves
+asked_weigh weight [] [] are = refl
+asked_weigh weight [] (h ∷ hs) are = absurd are
+asked_weigh weight (half ∷ halves) [] are = absurd are
+asked_weigh weight (half ∷ halves) (h ∷ hs) are =
+    let one : weight h.end.id ≡ weight half.end.id = ap (λ (l : LooseNow). weight l.end.id) are.0.half in
+    omega (arith, sum_by-cons (weight_on_way weight) h hs, sum_by-cons (weight_of_half weight) half halves, one, asked_weigh weight halves hs are.1)
+
+come_weigh : (weight : SocketId → ℕ) (halves : List IncomingNow) (old new : List OnItsWay) → ComeAsked halves old new →
+    sum_by (weight_on_way weight) new ≡ sum_by (weight_on_way weight) old + sum_by (weight_of_half weight) halves
+come_weigh weight halves old new come =
+    let split = ap (sum_by (weight_on_way weight)) come.1 ∙ sum_by-append (weight_on_way weight) old come.0 in
+    omega (arith, split, asked_weigh weight halves come.0 come.2)
+
 -- wherever a half is behind its turn, it weighs what it weighed
 turned_weighs : (weight : SocketId → ℕ) (turn : HalfTurn) (h : IncomingNow) →
-    sum_by (weight_of_half weight) (stays_by turn h) + sum_by (weight_of weight) (asked_by turn h) + sum_by (weight_of weight) (over_by turn h) ≡ weight h.end.id
-turned_weighs weight half.Asked h = omega (arith, sum_by-cons (weight_of weight) (left_of h) [])
+    sum_by (weight_of_half weight) (stays_by turn h) + sum_by (weight_of_half weight) (asked_by turn h) + sum_by (weight_of weight) (over_by turn h) ≡ weight h.end.id
+turned_weighs weight half.Asked h = omega (arith, sum_by-cons (weight_of_half weight) h [])
 turned_weighs weight half.Over h = omega (arith, sum_by-cons (weight_of weight) (closed_of h) [])
 turned_weighs weight half.Waits h = omega (arith, sum_by-cons (weight_of_half weight) h [])
 turned_weighs weight half.Busy h = omega (arith, sum_by-cons (weight_of_half weight) h [])
@@ -82,17 +97,17 @@ turned_weighs weight half.NoMemory h = omega (arith, sum_by-cons (weight_of_half
 
 -- it goes where its turn leads
 pub goes_where : (turn : HalfTurn) (next behind : IncomingNow) (rest : List IncomingNow) (old new : DoorNow) → old.halves ≡ next ∷ rest → behind.end.id ≡ next.end.id
-    → new.halves ≡ rest ++ stays_by turn behind → asked_in new ≡ asked_in old ++ asked_by turn behind → new.over ≡ old.over ++ over_by turn behind → new.ways ≡ old.ways → KeepsAll old new
+    → new.halves ≡ rest ++ stays_by turn behind → ComeAsked (asked_by turn behind) old.asked new.asked → new.over ≡ old.over ++ over_by turn behind → new.ways ≡ old.ways → KeepsAll old new
 goes_where turn next behind rest old new was id halves asked over ways weight =
     let f = weight_of weight in
     let g = weight_of_half weight in
     let before : sum_by g old.halves ≡ weight next.end.id + sum_by g rest = ap (sum_by g) was ∙ sum_by-cons g next rest in
     let stands : sum_by g new.halves ≡ sum_by g rest + sum_by g (stays_by turn behind) = ap (sum_by g) halves ∙ sum_by-append g rest (stays_by turn behind) in
-    let ask : sum_by f (asked_in new) ≡ sum_by f (asked_in old) + sum_by f (asked_by turn behind) = ap (sum_by f) asked ∙ sum_by-append f (asked_in old) (asked_by turn behind) in
+    let ask = come_weigh weight (asked_by turn behind) old.asked new.asked asked in
     let done : sum_by f new.over ≡ sum_by f old.over + sum_by f (over_by turn behind) = ap (sum_by f) over ∙ sum_by-append f old.over (over_by turn behind) in
     let one : weight behind.end.id ≡ weight next.end.id = ap weight id in
     let sent : weight_put weight new.ways ≡ weight_put weight old.ways = ap (weight_put weight) ways in
-    omega (arith, before, stands, ask, done, one, sent, turned_weighs weight turn behind, left_weigh weight old.asked, left_weigh weight new.asked)
+    omega (arith, before, stands, ask, done, one, sent, turned_weighs weight turn behind)
 
 -- ---- the asked socket that comes next
 

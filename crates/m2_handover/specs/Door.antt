@@ -1,29 +1,30 @@
 -- A node's door, and what a turn of it changes there and at its port. This project's own.
-use Rattle.std.specs.Prelude.{◌≡◌, ◌⊎◌, ℕ, ◌+◌, true, List, [], ◌∷◌, ◌++◌, length, map, slice_get, slice_set, sum_by, Option, Some, None}
-use Rattle.std.specs.List.{AllByRecursion, flat_map}
+use Rattle.std.specs.Prelude.{◌≡◌, ◌≢◌, ◌⊎◌, ℕ, ◌+◌, ◌<◌, ◌≤◌, ◌||◌, Bool, true, false, List, [], ◌∷◌, ◌++◌, length, map, slice_get, slice_set, sum_by, Option, Some, None}
+use Rattle.std.specs.List.{AllByRecursion, flat_map, list_any}
 use Rattle.std.specs.Option.{option_to_list}
 use Rattle.m2_edge.specs.Faults.{HasRisen, next_count}
 use Rattle.m2_fabric.specs.Port.{SeenPort}
 use Rattle.m2_fabric.specs.declared.socket.SocketId.{SocketId}
-use Rattle.m2_mailbox.specs.Merge.{IsSublist}
+use Rattle.m2_mailbox.specs.Merge.{IsMerge}
 use Rattle.m2_trail.specs.Arrivals.{LooseNow, closed_of, left_of}
 use Rattle.m2_trail.specs.Incoming.{IncomingNow}
 use Rattle.m2_trail.specs.Turn.{AdvancesAs}
 use Rattle.m2_trail.specs.declared.turn.HalfTurn.{HalfTurn}
 use Rattle.m2_trail.specs.declared.turn.HalfTurn.TheVariants as half
-use Rattle.m2_handover.specs.Handed.{OnItsWay, left_behind}
-use Rattle.m2_handover.specs.Way.{AreLater, IsAtHomeIn, Refuses, WasRefused, WayNow, with_put}
+use Rattle.m2_handover.specs.Handed.{ComeAsked, OnItsWay, left_behind}
+use Rattle.m2_handover.specs.Way.{EachHasPut, IsAtHomeIn, Refuses, WasRefused, WayNow, with_put}
 use Rattle.m2_handover.specs.declared.door.DoorTurn.{DoorTurn}
 use Rattle.m2_handover.specs.declared.door.DoorTurn.TheVariants as turn
-use Rattle.m2_handover.specs.declared.door.TheConstants.{MOST_ACCEPTS}
+use Rattle.m2_handover.specs.declared.door.TheConstants.{MOST_ACCEPTS, MOST_AT_DOOR, ROOM_WAIT}
 
--- Halves that weren't asked yet, in order; sockets that were, whose home has had no room; halves that are over; and the ways, with what
--- was put by each.
+-- Halves that weren't asked yet, in order; sockets that were, whose home has had no room; halves that are over; the ways, with what was put
+-- by each; and whether something is there to be done at once.
 pub record DoorNow : Type 0 where
   pub halves : List IncomingNow
   pub asked : List OnItsWay
   pub over : List LooseNow
   pub ways : List WayNow
+  pub busy : Bool
 
 -- the halves of a door that weren't asked, those that are over first
 abbrev pub unasked_in : DoorNow → List LooseNow
@@ -76,12 +77,22 @@ Stands id old new = (weight : SocketId → ℕ) → sum_by (weight_of_half weigh
 abbrev pub StandBefore : {A : Type 0} → (old new : List A) → Type 0
 StandBefore {A} old new = (more : List A) × (new ≡ old ++ more)
 
--- Sockets came to a door: each is the last half that stands there, or is over.
+-- there is room at a door for one half more
+abbrev pub HasRoom : DoorNow → Type 0
+HasRoom d = length d.halves + length d.asked < MOST_AT_DOOR
+
+-- none came, or there is something to be done at once
+abbrev pub IsSameOrBusy : DoorNow → DoorNow → Type 0
+IsSameOrBusy old new = ((new.halves ≡ old.halves) × (new.over ≡ old.over) × (new.busy ≡ old.busy)) ⊎ (new.busy ≡ true)
+
+-- Sockets came to a door: each is the last half that stands there, or is over. None is over while there is room.
 pub record HaveCome (old new : DoorNow) : Type 0 where
   pub halves : StandBefore old.halves new.halves
   pub asked : new.asked ≡ old.asked
   pub over : StandBefore old.over new.over
+  pub room : HasRoom new → new.over ≡ old.over
   pub ways : new.ways ≡ old.ways
+  pub busy : IsSameOrBusy old new
 
 -- ---- halves that shake hands
 
@@ -107,21 +118,27 @@ stays_by half.Asked h = []
 stays_by half.Over h = []
 stays_by _ h = h ∷ []
 
-abbrev pub asked_by : HalfTurn → IncomingNow → List LooseNow
-asked_by half.Asked h = left_of h ∷ []
+abbrev pub asked_by : HalfTurn → IncomingNow → List IncomingNow
+asked_by half.Asked h = h ∷ []
 asked_by _ h = []
 
 abbrev pub over_by : HalfTurn → IncomingNow → List LooseNow
 over_by half.Over h = closed_of h ∷ []
 over_by _ h = []
 
+-- it may go on at once
+abbrev pub is_busy : HalfTurn → Bool
+is_busy half.Busy = true
+is_busy _ = false
+
 -- The half that comes next takes its turn, and is then where that leads.
 pub record ShakesNext (rest : List IncomingNow) (s : Shaken) (old new : DoorNow) : Type 0 where
   pub has : HasShaken s
   pub halves : new.halves ≡ rest ++ stays_by s.turn s.behind
-  pub asked : asked_in new ≡ asked_in old ++ asked_by s.turn s.behind
+  pub asked : ComeAsked (asked_by s.turn s.behind) old.asked new.asked
   pub over : new.over ≡ old.over ++ over_by s.turn s.behind
   pub ways : new.ways ≡ old.ways
+  pub busy : new.busy ≡ old.busy || is_busy s.turn
 
 -- so does the first one of a door, where there is one
 abbrev pub ShakesFirst : DoorNow → DoorNow → Type 0
@@ -133,9 +150,10 @@ pub record HaveShaken (turned : List Shaken) (rest : List IncomingNow) (old new 
   pub each : AllByRecursion HasShaken turned
   pub stood : old.halves ≡ map (λ (s : Shaken). s.before) turned ++ rest
   pub halves : new.halves ≡ rest ++ flat_map (λ (s : Shaken). stays_by s.turn s.behind) turned
-  pub asked : asked_in new ≡ asked_in old ++ flat_map (λ (s : Shaken). asked_by s.turn s.behind) turned
+  pub asked : ComeAsked (flat_map (λ (s : Shaken). asked_by s.turn s.behind) turned) old.asked new.asked
   pub over : new.over ≡ old.over ++ flat_map (λ (s : Shaken). over_by s.turn s.behind) turned
   pub ways : new.ways ≡ old.ways
+  pub busy : new.busy ≡ old.busy || list_any (λ (s : Shaken). is_busy s.turn) turned
 
 -- ---- handing over
 
@@ -160,12 +178,15 @@ pub record HandsNext (next : OnItsWay) (rest : List OnItsWay) (old new : DoorNow
 abbrev pub HandsFirst : DoorNow → DoorNow → Type 0
 HandsFirst old new = (next : OnItsWay) (rest : List OnItsWay) → old.asked ≡ next ∷ rest → HandsNext next rest old new
 
--- Asked sockets are handed over. Those that stay, which are in the order in which they were, each way has refused at a moment meanwhile.
+-- Asked sockets are handed over: each went by the way to its home, or stays; those of each way, and those that stay, are in the order in
+-- which they were. Those that stay each way has refused at a moment meanwhile.
 pub record HandsAll (old new : DoorNow) : Type 0 where
   pub halves : new.halves ≡ old.halves
   pub over : new.over ≡ old.over
-  pub stay : IsSublist new.asked old.asked
-  pub ways : AreLater old.ways new.ways
+  pub busy : new.busy ≡ old.busy
+  pub put : List (List OnItsWay)
+  pub ways : EachHasPut put old.ways new.ways
+  pub all : IsMerge OnItsWay (new.asked ∷ put) old.asked
   pub refused : AllByRecursion (WasRefused old.ways new.ways) new.asked
 
 -- Each half that stood has taken its turn, and is where that led; and those that were asked, by then, are handed over.
@@ -215,10 +236,17 @@ abbrev pub LetsAllIn : DoorTurn → SeenPort → SeenPort → Type 0
 LetsAllIn turn.Done old new = (new.quiet ≡ true) ⊎ (length new.made ≡ length old.made + MOST_ACCEPTS)
 LetsAllIn _ old new = Unit {0}
 
--- Where all went well sockets came, then each half that stood has taken its turn, and each socket that was asked goes on.
+-- Unless memory ran out each half that stood has taken its turn, and each socket that was asked goes on; and then sockets came. So it is
+-- where an accept failed too.
 abbrev pub Shakes : DoorTurn → DoorNow → DoorNow → Type 0
-Shakes turn.Done old new = (came : DoorNow) × HaveCome old came × ShakesAll came new
-Shakes _ old new = Unit {0}
+Shakes turn.NoMemory old new = Unit {0}
+Shakes _ old new = (shaken : DoorNow) × ShakesAll (record old { busy = false }) shaken × HaveCome shaken new
+
+-- Of so many milliseconds its thread waits so many: none where something is to be done at once, and few while an asked socket waits for room.
+pub record WaitsAtDoor (d : DoorNow) (most wait : ℕ) : Type 0 where
+  pub within : wait ≤ most
+  pub at_once : d.busy ≡ true → wait ≡ 0
+  pub few : d.asked ≢ [] → wait ≤ ROOM_WAIT
 
 -- One was accepted, or the accept found none.
 abbrev pub LetsTheNextIn : Option DoorTurn → SeenPort → SeenPort → Type 0

@@ -1,5 +1,5 @@
 -- What contracts see of the port of an event thread of a node that has several. This project's own.
-use Rattle.std.specs.Prelude.{◌≡◌, ◌⊎◌, ℕ, ◌+◌, Bool, true, List, [], ◌++◌, map, sum_by, Option, Some, None, IfSome}
+use Rattle.std.specs.Prelude.{◌≡◌, ◌⊎◌, ℕ, ◌+◌, ◌≤◌, Bool, true, List, [], ◌++◌, map, sum_by, Option, Some, None, IfSome}
 use Rattle.std.specs.List.{AllByRecursion}
 use Rattle.std.specs.Option.{option_to_list}
 use Rattle.m2_fabric.specs.End.{SeenEnd}
@@ -9,23 +9,27 @@ use Rattle.m2_fabric.specs.Sockets.{goes_to, is_among}
 use Rattle.m2_fabric.specs.declared.port.Taken.{Taken}
 use Rattle.m2_fabric.specs.declared.port.Taken.TheVariants as accept
 use Rattle.m2_fabric.specs.declared.socket.SocketId.{SocketId}
-use Rattle.m2_handover.specs.Door.{DoorNow, LetsAllIn, Shakes, asked_in, unasked_in, weight_of, weight_on_way, weight_put, weight_through}
+use Rattle.m2_handover.specs.Door.{DoorNow, LetsAllIn, Shakes, WaitsAtDoor, asked_in, unasked_in, weight_of, weight_on_way, weight_put, weight_through}
 use Rattle.m2_handover.specs.End.{told_nothing}
 use Rattle.m2_handover.specs.Handed.{OnItsWay, left_behind}
 use Rattle.m2_handover.specs.Way.{WayNow}
 use Rattle.m2_handover.specs.declared.door.DoorTurn.{DoorTurn}
 use Rattle.m2_handover.specs.declared.door.DoorTurn.TheVariants as turn
+use Rattle.m2_mailbox.specs.Passes.{next_look}
 use Rattle.m2_trail.specs.Arrivals.{LooseNow}
 
 -- The port inside; the sockets that this one made, in order, and for how many more there is room; whether its last accept found none;
--- what was taken out of its inbox, in order; the last of that, where it wasn't accepted yet; and the node's door, where it has it.
+-- what was taken out of its inbox, in order, and how often something was looked for there; the last of that, where it wasn't
+-- accepted yet; whether one was accepted since the last poll; and the node's door, where it has it.
 pub record HomeNow : Type 0 where
   pub inner : SeenPort
   pub made : List SocketId
   pub room : ℕ
   pub quiet : Bool
   pub taken : List OnItsWay
+  pub looks : ℕ
   pub next : Option OnItsWay
+  pub fresh : Bool
   pub door : Option DoorNow
 
 -- What every port shows, of this one: it accepts what is handed over, whether or not the port inside accepts; it tells
@@ -50,17 +54,37 @@ ShakesAtDoor end (Some old) (Some new) = Shakes end old new
 ShakesAtDoor end (Some old) None = ⊥
 ShakesAtDoor end None new = Unit {0}
 
--- Where an accept finds none, nothing that was taken out of the inbox waits to be accepted; and where this port has the node's door,
--- all that waited at the port inside were let in, all halves at the door have taken their turns, and each socket that was asked and is
--- at the door still was refused by each way.
+-- Where an accept finds none, something was looked for in the inbox, before the door took its turn and again after it, and nothing that was
+-- taken out of it waits to be accepted; and where this port has the node's door, all halves at the door have taken their turns, each
+-- socket that was asked and is at the door still was refused by each way, and all that waited at the port inside were let in. Where an
+-- accept fails the halves at the door have taken their turns too.
 abbrev pub HasTakenAll : {E : Type 0} → Taken E → HomeNow → HomeNow → Type 0
-HasTakenAll accept.NotYet old new = (new.next ≡ None) × IfSome old.door (λ d. LetsAllIn turn.Done old.inner new.inner) × ShakesAtDoor turn.Done old.door new.door
+HasTakenAll accept.NotYet old new = (new.next ≡ None) × (new.looks ≡ next_look (next_look old.looks)) × IfSome old.door (λ d. LetsAllIn turn.Done old.inner new.inner) × ShakesAtDoor turn.Done old.door new.door
+HasTakenAll accept.Failed old new = ShakesAtDoor turn.Failed old.door new.door
 HasTakenAll _ old new = Unit {0}
 
--- an accept that doesn't say that there is none
-abbrev pub IsNoWait : {E : Type 0} → Taken E → Type 0
-IsNoWait accept.NotYet = ⊥
-IsNoWait _ = Unit {0}
+-- an accept that gives a socket, or finds no memory
+abbrev pub GivesOrLacks : {E : Type 0} → Taken E → Type 0
+GivesOrLacks (accept.Made e) = Unit {0}
+GivesOrLacks accept.NoMemory = Unit {0}
+GivesOrLacks _ = ⊥
+
+-- a socket that was accepted is to be read again at once
+abbrev pub fresh_behind : {E : Type 0} → Taken E → Bool → Bool
+fresh_behind (accept.Made e) fresh = true
+fresh_behind _ fresh = fresh
+
+abbrev pub fresh_if_taken : {E : Type 0} → Option (Taken E) → Bool → Bool
+fresh_if_taken None fresh = fresh
+fresh_if_taken (Some taken) fresh = fresh_behind taken fresh
+
+-- Of so many milliseconds it waits so many: none where a socket was accepted since the last poll, and where one is there to be accepted; and no
+-- longer than its door lets it.
+pub record WaitsHere (old new : HomeNow) (most wait : ℕ) : Type 0 where
+  pub within : wait ≤ most
+  pub accepted : old.fresh ≡ true → wait ≡ 0
+  pub taken : IfSome new.next (λ h. wait ≡ 0)
+  pub door : IfSome new.door (λ d. WaitsAtDoor d most wait)
 
 -- the port inside and the door stay
 pub record IsSameInside (old new : HomeNow) : Type 0 where
@@ -73,7 +97,9 @@ pub record IsSameButInner (old new : HomeNow) : Type 0 where
   pub room : new.room ≡ old.room
   pub quiet : new.quiet ≡ old.quiet
   pub taken : new.taken ≡ old.taken
+  pub looks : new.looks ≡ old.looks
   pub next : new.next ≡ old.next
+  pub fresh : new.fresh ≡ old.fresh
 
 -- ---- where its sockets are
 

@@ -22,6 +22,10 @@ most_held (Some inbox) = capacity_of inbox
 
 -- ---- puts
 
+-- the address that asked is at home there
+abbrev pub IsAtHomeIn : HomeOf → OnItsWay → Type 0
+IsAtHomeIn home h = home_of h.peer home.centers ≡ home.center
+
 -- a socket was put
 abbrev pub with_put : OnItsWay → WayNow → WayNow
 with_put h w = record w { put = put_by h w.put }
@@ -32,20 +36,22 @@ put_all [] puts = puts
 put_all (h ∷ hs) [] = (h ∷ hs) ∷ []
 put_all (h ∷ hs) (own ∷ joined) = (own ++ h ∷ hs) ∷ joined
 
--- A way and the same one later: more was put meanwhile.
-abbrev pub IsLater : (old new : WayNow) → Type 0
-IsLater old new = (more : List OnItsWay) × (new ≡ record old { put = put_all more old.put })
+-- these were put by a way, in order, each of which is at home there
+pub record HavePut (more : List OnItsWay) (old new : WayNow) : Type 0 where
+  pub home : AllByRecursion (IsAtHomeIn old.home) more
+  pub put : new ≡ record old { put = put_all more old.put }
 
+-- so was one list by each way
+abbrev pub EachHasPut : List (List OnItsWay) → (old new : List WayNow) → Type 0
+EachHasPut [] [] [] = Unit {0}
+EachHasPut (more ∷ mores) (o ∷ olds) (n ∷ news) = HavePut more o n × EachHasPut mores olds news
+EachHasPut _ _ _ = ⊥
+
+-- Ways and the same ones later: more was put meanwhile.
 abbrev pub AreLater : (old new : List WayNow) → Type 0
-AreLater [] [] = Unit {0}
-AreLater (o ∷ olds) (n ∷ news) = IsLater o n × AreLater olds news
-AreLater _ _ = ⊥
+AreLater old new = (mores : List (List OnItsWay)) × EachHasPut mores old new
 
 -- ---- refusals
-
--- the address that asked is at home there
-abbrev pub IsAtHomeIn : HomeOf → OnItsWay → Type 0
-IsAtHomeIn home h = home_of h.peer home.centers ≡ home.center
 
 -- As many lay in its inbox as that holds at most: these, behind what was taken, are all that was put.
 pub record HadNoRoom (w : WayNow) : Type 0 where

@@ -1,9 +1,9 @@
 //! The door of a node: sockets that it accepts for all of its event threads.
 
-ghost use Rattle.std.specs.Prelude.{◌≡◌, ◌+◌, ◌++◌, ◌<◌, ◌≤◌, [], IfOk, IsSome, List, OnOk, length, map, vec_capacity, vec_len};
+ghost use Rattle.std.specs.Prelude.{◌≡◌, ◌+◌, ◌++◌, ◌<◌, ◌≤◌, [], false, IfOk, IsSome, List, OnOk, length, map, vec_capacity, vec_len};
 ghost use Rattle.std.specs.VecDeque.{deque_capacity, deque_len};
-ghost use Rattle.m2_handover.specs.Door.{Hands, HandsFirst, HaveCome, HaveShaken, KeepsAll, LetsAllIn, LetsIn, LetsOneIn, LetsTheNextIn, Shaken, Shakes, ShakesAll, ShakesFirst, StandBefore, Stands, TakesIn, unasked_in};
-ghost use Rattle.m2_handover.specs.Handed.{left_behind};
+ghost use Rattle.m2_handover.specs.Door.{Hands, HandsFirst, HaveCome, HaveShaken, KeepsAll, LetsAllIn, LetsIn, LetsOneIn, LetsTheNextIn, Shaken, Shakes, ShakesAll, ShakesFirst, StandBefore, Stands, TakesIn, WaitsAtDoor, unasked_in};
+ghost use Rattle.m2_handover.specs.Handed.{IsAskedAs, left_behind};
 ghost use Rattle.m2_handover.specs.declared.door.TheConstants.{MOST_AT_DOOR};
 ghost use Rattle.m2_trail.specs.Arrivals.{left_of};
 ghost use Rattle.m2_trail.specs.declared.incoming.TheConstants.{MOST_READ};
@@ -58,7 +58,8 @@ impl<E: End> Model for AtDoor<E> {
 /// asking address is at home.
 ///
 /// Contracts see the halves that weren't asked yet, the sockets that were and whose home has had no room, the halves that are
-/// over, and the ways, with what was put by each. No socket that came to it is lost: each stays in one of these places.
+/// over, the ways, with what was put by each, and whether something is there to be done at once. No socket that came to it is
+/// lost: each stays in one of these places.
 #[derive(Drop)]
 pub struct Door<E: End, B: Inboxes<E>> {
     alloc: Global,
@@ -82,13 +83,13 @@ impl<E: End, B: Inboxes<E>> Model for Door<E, B> {
 
     ghost Value = { DoorNow };
 
-    ghost view = { λ d. record { halves = d.halves.items; asked = d.asked.items; over = d.over.items; ways = d.ways.items } };
+    ghost view = { λ d. record { halves = d.halves.items; asked = d.asked.items; over = d.over.items; ways = d.ways.items; busy = d.busy } };
 }
 
 impl<E: End, B: Inboxes<E>> Door<E, B> {
     /// A door of a node of this kind, to which nobody came yet, with the ways to its threads.
     pub fn new(alloc: Global, entity: u8, ways: Vec<Way<E, B>>) -> Result<Door<E, B>, NoMemory>
-        ensures { IfOk result (λ d. d ≡ record { halves = []; asked = []; over = []; ways = ways.items }) }
+        ensures { IfOk result (λ d. d ≡ record { halves = []; asked = []; over = []; ways = ways.items; busy = false }) }
     {
         Ok(Door {
             alloc,
@@ -103,7 +104,9 @@ impl<E: End, B: Inboxes<E>> Door<E, B> {
     }
 
     /// How long its thread may wait of so many milliseconds.
-    pub(crate) fn patience(&self, most: u32) -> u32 {
+    pub(crate) fn patience(&self, most: u32) -> u32
+        ensures { WaitsAtDoor self.now most result }
+    {
         if self.busy {
             0
         } else if self.asked.is_empty() {
@@ -113,8 +116,9 @@ impl<E: End, B: Inboxes<E>> Door<E, B> {
         }
     }
 
-    /// A turn: what waits at the port is accepted, and each socket goes on, whether or not an accept failed.
-    #[tactic(auto, using(crate::proofs::Weights::takes_then_keeps, crate::proofs::Shaking::shakes_behind))]
+    /// A turn: each socket goes on, and then what waits at the port is accepted, so that an accept that fails hides no want of
+    /// memory.
+    #[tactic(auto, using(crate::proofs::Weights::keeps_then_takes, crate::proofs::Shaking::shakes_before))]
     pub(crate) fn turn<R: Wait, P: Port<End = E>>(
         &mut self,
         rt: &R,
@@ -127,14 +131,10 @@ impl<E: End, B: Inboxes<E>> Door<E, B> {
         ensures sockets { TakesIn (P.seen port.old).made (P.seen port.new).made self.old self.new }
     {
         self.busy = false;
-        let accepted = self.accept_all(port);
-        if accepted == DoorTurn::NoMemory {
-            return accepted;
+        if self.go_on_all(rt, inboxes, port).is_err() {
+            return DoorTurn::NoMemory;
         }
-        match self.go_on_all(rt, inboxes, port) {
-            Err(NoMemory) if accepted == DoorTurn::Done => DoorTurn::NoMemory,
-            _ => accepted,
-        }
+        self.accept_all(port)
     }
 
     /// What waits at the port is accepted.
@@ -150,11 +150,10 @@ impl<E: End, B: Inboxes<E>> Door<E, B> {
                 return end;
             }
         }
-        self.busy = true;
         DoorTurn::Done
     }
 
-    /// Accepts one socket. None: there was one.
+    /// Accepts one socket, which goes on in the next turn. None: there was one.
     #[tactic(auto, using(crate::proofs::Doors::lets_none, crate::proofs::Doors::lets_made, crate::proofs::Doors::lets_nothing, crate::proofs::Doors::lets_failed, crate::proofs::Shaking::same_came, crate::proofs::Shaking::has_come, crate::proofs::Weights::comes_in, crate::proofs::Weights::takes_none))]
     fn accept<P: Port<End = E>>(&mut self, port: &mut P) -> Option<DoorTurn>
         ensures lets { LetsOneIn result (P.seen port.old) (P.seen port.new) }
@@ -170,6 +169,7 @@ impl<E: End, B: Inboxes<E>> Door<E, B> {
             Taken::Made(end) => {
                 let half = Incoming::begin(self.alloc, end, self.entity, entries);
                 stand(&mut self.halves, self.asked.len(), &mut self.over, half);
+                self.busy = true;
                 None
             }
             Taken::NotYet => Some(DoorTurn::Done),
@@ -242,6 +242,7 @@ impl<E: End, B: Inboxes<E>> Door<E, B> {
     fn hand_next<R: Wait, P: Port<End = E>>(&mut self, rt: &R, inboxes: &B, port: &P)
         ensures halves { self.new.halves ≡ self.old.halves }
         ensures over { self.new.over ≡ self.old.over }
+        ensures busy { self.new.busy ≡ self.old.busy }
         ensures hands { HandsFirst self.old self.new }
         ensures sockets { KeepsAll self.old self.new }
     {
@@ -332,6 +333,7 @@ fn stand<E: End>(
     ensures stands { Stands half.end.id (halves.old.items, over.old.items) (halves.new.items, over.new.items) }
     ensures before { StandBefore halves.old.items halves.new.items }
     ensures over { StandBefore over.old.items over.new.items }
+    ensures spared { length halves.old.items + asked < MOST_AT_DOOR → over.new.items ≡ over.old.items }
 {
     if halves.len() + asked < MOST_AT_DOOR {
         halves.push_back_reserved(AtDoor { half });
@@ -340,11 +342,11 @@ fn stand<E: End>(
     }
 }
 
-/// A socket whose half was asked. The port waits for it no more.
+/// A socket whose half was asked, with the address of that ask. The port waits for it no more.
 fn asked<P: Port>(port: &P, half: Incoming<P::End>) -> Handed<P::End>
     requires asked { IsSome half.ask }
     requires unjudged { half.trail.judged ≡ [] }
-    ensures { left_behind result ≡ left_of half }
+    ensures { IsAskedAs half result }
 {
     let mut handed = Handed::of(Arrival::of(half));
     port.leave(&mut handed.end);

@@ -1,9 +1,10 @@
 //! A socket on its way to the event thread with which its peer is at home.
 
-ghost use Rattle.std.specs.Prelude.{◌≡◌, ◌==◌, ◌<◌, [], IfErr, IfOk};
+ghost use Rattle.std.specs.Prelude.{◌≡◌, ◌==◌, ◌<◌, [], IfErr, IfOk, IfSome};
 ghost use Rattle.m2_handover.specs.End.{shown};
 ghost use Rattle.m2_handover.specs.Handed.{IsOnItsWay, left_behind};
 ghost use Rattle.m2_handover.specs.Home.{begun_again};
+ghost use Rattle.m2_trail.specs.Asks.{IsMain};
 ghost use Rattle.m2_trail.specs.Home.{home_of};
 
 use crate::end::HandedEnd;
@@ -45,11 +46,12 @@ impl<E: End> Item for Handed<E> {
 }
 
 impl<E: End> Handed<E> {
-    /// A socket that was asked, and of which nothing was judged. Takes no memory.
+    /// A socket that was asked, by the main address of its ask, and of which nothing was judged. Takes no memory.
     pub(crate) fn of(arrival: Arrival<E>) -> Handed<E>
         requires { arrival.trail.judged ≡ [] }
         ensures end { result.end ≡ arrival.end }
         ensures trail { result.trail ≡ arrival.trail }
+        ensures peer { IfSome arrival.ask (λ ask. IsMain ask result.peer) }
     {
         arrival.is_arrival();
         let peer = arrival.peer();

@@ -4,8 +4,8 @@ ghost use Rattle.std.specs.Prelude.{◌≡◌, ◌<◌, ◌∷◌, length, slice
 ghost use Rattle.m2_fabric.specs.Port.{Accepts, Connects, connect_map, taken_map};
 ghost use Rattle.m2_handover.specs.Door.{LetsAllIn, LetsIn, StaysThere, TakesIn};
 ghost use Rattle.m2_handover.specs.Handed.{IsOfNamed, OnItsWay};
-ghost use Rattle.m2_handover.specs.Home.{AreAllThere, HasTakenAll, IsBalanced, IsNoWait, IsSameButInner, IsSameInside, ShakesAtDoor, TakesOver, asked_at, shown, unasked_at, ways_at};
-ghost use Rattle.m2_mailbox.specs.Passes.{IsGetPassOf, taken_of};
+ghost use Rattle.m2_handover.specs.Home.{AreAllThere, GivesOrLacks, HasTakenAll, IsBalanced, IsSameButInner, IsSameInside, ShakesAtDoor, TakesOver, WaitsHere, asked_at, fresh_behind, fresh_if_taken, shown, unasked_at, ways_at};
+ghost use Rattle.m2_mailbox.specs.Passes.{IsGetPassOf, looks_of, next_look, taken_of};
 ghost use Rattle.m2_mailbox.specs.declared.inbox.Inbox.{Inbox};
 ghost use Rattle.m2_trail.specs.declared.home.HomeOf.{HomeOf};
 
@@ -34,7 +34,7 @@ use std::sync::atomic::{AtomicBool, Ordering};
 /// the door for room it waits a millisecond at most.
 ///
 /// Contracts see the port inside, the sockets that this one has made, whether its last accept found none, what was taken out
-/// of the inbox, and the door; and that each socket that the port inside made, or that was taken, is in one place of these.
+/// of the inbox and how often something was looked for there, whether one was accepted since the last poll, and the door; and that each socket that the port inside made, or that was taken, is in one place of these.
 #[derive(Drop)]
 pub struct HomePort<'a, P: Port, R: Wait + Copy, B: Inboxes<P::End>> {
     rt: R,
@@ -60,7 +60,7 @@ pub struct HomePort<'a, P: Port, R: Wait + Copy, B: Inboxes<P::End>> {
 
 impl<'a, P: Port, R: Wait + Copy, B: Inboxes<P::End>> Model for HomePort<'a, P, R, B> {
     ghost use Rattle.m2_handover.specs.Home.{HomeNow, IsHome};
-    ghost use Rattle.m2_mailbox.specs.Passes.{taken_of};
+    ghost use Rattle.m2_mailbox.specs.Passes.{looks_of, taken_of};
 
     ghost Value = { HomeNow };
 
@@ -70,7 +70,9 @@ impl<'a, P: Port, R: Wait + Copy, B: Inboxes<P::End>> Model for HomePort<'a, P, 
       room = p.made.room;
       quiet = p.quiet;
       taken = taken_of p.pass;
+      looks = looks_of p.pass;
       next = p.next;
+      fresh = p.fresh;
       door = p.door;
     } };
 
@@ -80,7 +82,9 @@ impl<'a, P: Port, R: Wait + Copy, B: Inboxes<P::End>> Model for HomePort<'a, P, 
       room = p.made.room;
       quiet = p.quiet;
       taken = taken_of p.pass;
+      looks = looks_of p.pass;
       next = p.next;
+      fresh = p.fresh;
       door = p.door;
     }) };
 }
@@ -118,8 +122,8 @@ impl<'a, P: Port, R: Wait + Copy, B: Inboxes<P::End>> HomePort<'a, P, R, B> {
     ) -> HomePort<'a, P, R, B>
         requires here { at ≡ (P.seen port).at }
         requires ours { IsOfNamed (λ inbox. IsGetPassOf inbox pass) (slice_get B.inboxes number) }
-        requires balanced { IsBalanced (record { inner = P.seen port; made = []; room = 0; quiet = false; taken = taken_of pass; next = None; door = door }) }
-        ensures { result ≡ record { inner = P.seen port; made = []; room = result.room; quiet = false; taken = taken_of pass; next = None; door = door } }
+        requires balanced { IsBalanced (record { inner = P.seen port; made = []; room = 0; quiet = false; taken = taken_of pass; looks = looks_of pass; next = None; fresh = false; door = door }) }
+        ensures { result ≡ record { inner = P.seen port; made = []; room = result.room; quiet = false; taken = taken_of pass; looks = looks_of pass; next = None; fresh = false; door = door } }
     {
         HomePort {
             rt,
@@ -214,6 +218,8 @@ impl<'a, P: Port, R: Wait + Copy, B: Inboxes<P::End>> HomePort<'a, P, R, B> {
     fn look(&mut self)
         ensures shown { shown self.new ≡ shown self.old }
         ensures room { self.new.room ≡ self.old.room }
+        ensures looked { IfNone self.new.next (self.new.looks ≡ next_look self.old.looks) }
+        ensures fresh { self.new.fresh ≡ self.old.fresh }
         ensures inside { IsSameInside self.old self.new }
     {
         if self.next.is_none() {
@@ -232,7 +238,9 @@ impl<'a, P: Port, R: Wait + Copy, B: Inboxes<P::End>> HomePort<'a, P, R, B> {
         ensures takes { TakesOver (option_map (taken_map ⟦<HandedEnd<P::End> as End>⟧.seen) result) self.old self.new }
         ensures room { IfNone result (self.new.room ≡ self.old.room) }
         ensures none { IfNone result (self.new.next ≡ None) }
-        ensures some { IfSome result IsNoWait }
+        ensures looked { IfNone result (self.new.looks ≡ next_look self.old.looks) }
+        ensures some { IfSome result GivesOrLacks }
+        ensures fresh { self.new.fresh ≡ fresh_if_taken result self.old.fresh }
         ensures inside { IsSameInside self.old self.new }
     {
         self.look();
@@ -275,7 +283,8 @@ impl<'a, P: Port, R: Wait + Copy, B: Inboxes<P::End>> HomePort<'a, P, R, B> {
 
     /// How long it may wait of so many milliseconds.
     fn patience(&mut self, most: u32) -> u32
-        ensures { shown self.new ≡ shown self.old }
+        ensures shown { shown self.new ≡ shown self.old }
+        ensures waits { WaitsHere self.old self.new most result }
     {
         self.look();
         let fresh = self.fresh;
@@ -330,6 +339,7 @@ impl<'a, P: Port, R: Wait + Copy, B: Inboxes<P::End>> Port for HomePort<'a, P, R
     fn accept(&mut self) -> Taken<HandedEnd<P::End>>
         ensures accepts { Accepts (taken_map ⟦<HandedEnd<P::End> as End>⟧.seen result) (shown self.old) (shown self.new) }
         ensures all { HasTakenAll result self.old self.new }
+        ensures fresh { self.new.fresh ≡ fresh_behind result self.old.fresh }
     {
         if self.made.reserve(1).is_err() {
             return Taken::NoMemory;
@@ -397,6 +407,7 @@ fn take_from<E: End, R: Wait, B: Inboxes<E>>(
     ensures ours { (inbox : Inbox OnItsWay HomeOf) → slice_get B.inboxes number ≡ Some inbox → IsGetPassOf inbox pass.new }
     ensures some { IfSome result (λ handed. taken_of pass.new ≡ taken_of pass.old ++ handed ∷ []) }
     ensures none { IfNone result (taken_of pass.new ≡ taken_of pass.old) }
+    ensures looked { number < length B.inboxes → looks_of pass.new ≡ next_look (looks_of pass.old) }
 {
     match inboxes.inbox(number) {
         Some(inbox) => inbox.take(rt, pass),

@@ -1,5 +1,5 @@
 -- What contracts see of an inbox, of its passes, and of what is left of it.
-use Rattle.std.specs.Prelude.{◌≡◌, ◌<◌, ◌≤◌, ℕ, true, false, List, ◌++◌, Some, length}
+use Rattle.std.specs.Prelude.{◌≡◌, ◌<◌, ◌≤◌, ◌+◌, ◌%◌, ◌^◌, ℕ, true, false, List, ◌++◌, Some, length}
 use Rattle.crossbeam_queue.specs.Passes.{IsPassOf, view, ruled_capacity}
 use Rattle.m2_mailbox.specs.Merge.{IsMerge}
 use Rattle.m2_mailbox.specs.Views.{all_parts, owner_in, parts_in, puts_in, takes_in, taken_in}
@@ -28,6 +28,10 @@ module _ {T O : Type 0} where
   abbrev pub taken_of : GetPass T O → List T
   taken_of pass = taken_in (view pass.seen)
 
+  -- how often something was looked for
+  abbrev pub looks_of : GetPass T O → ℕ
+  looks_of pass = pass.looks
+
   -- a pass that was made from this inbox, or split from one that was
   abbrev pub IsPutPassOf : Inbox T O → PutPass T O → Type 0
   IsPutPassOf inbox pass =
@@ -46,6 +50,10 @@ module _ {T O : Type 0} where
   WasFull inbox pass =
       parts_of pass ≡ all_parts
       → (gone held : List T) × (length held ≡ capacity_of inbox) × IsMerge T (puts_of pass) (gone ++ held)
+
+-- one look more, as a number of 64 bits counts them
+abbrev pub next_look : ℕ → ℕ
+next_look n = (n + 1) % 2 ^ 64
 
 -- what was put is what was taken and what is held, which is at most so many items
 abbrev pub AreHeldAtMost : {T : Type 0} → ℕ → List (List T) → List T → Type 0

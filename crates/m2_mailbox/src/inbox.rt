@@ -1,7 +1,7 @@
 //! The inbox.
 
 ghost use Rattle.std.specs.Prelude.{◌≡◌, ◌≤◌, ◌++◌, [], ◌∷◌, IfOk, OnOk, IfErr, OnErr, IfSome, IfNone};
-ghost use Rattle.m2_mailbox.specs.Passes.{AreHeldAtMost, IsGetPassOf, IsPutPassOf, WasFull, capacity_of, owner_of, parts_of, puts_of, taken_of};
+ghost use Rattle.m2_mailbox.specs.Passes.{AreHeldAtMost, IsGetPassOf, IsPutPassOf, WasFull, capacity_of, looks_of, next_look, owner_of, parts_of, puts_of, taken_of};
 ghost use Rattle.m2_mailbox.specs.Rest.{rest_owner, rest_puts, rest_taken};
 ghost use Rattle.m2_mailbox.specs.Views.{all_parts, put_by};
 
@@ -67,7 +67,11 @@ impl<T: Item> Inbox<T> {
             queue,
             owner: Told::of(owner),
         };
-        Ok((inbox, PutPass { seen }, GetPass { seen: taker }))
+        let get = GetPass {
+            seen: taker,
+            looks: 0,
+        };
+        Ok((inbox, PutPass { seen }, get))
     }
 
     /// Puts an item behind those that the inbox holds. Full gives it back, only where the inbox held its
@@ -103,7 +107,9 @@ impl<T: Item> Inbox<T> {
         ensures taken { IfSome result (λ item. taken_of pass.new ≡ taken_of pass.old ++ item ∷ []) }
         ensures belongs { IfSome result (λ item. T.belongs (owner_of self.now) item) }
         ensures none { IfNone result (taken_of pass.new ≡ taken_of pass.old) }
+        ensures looked { looks_of pass.new ≡ next_look (looks_of pass.old) }
     {
+        pass.looks = pass.looks.wrapping_add(1);
         match self.queue.pop_as::<Takes<T>, R>(rt, &mut pass.seen) {
             Some(slip) => Some(slip.into_item()),
             None => None,

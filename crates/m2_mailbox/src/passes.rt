@@ -60,22 +60,23 @@ impl<T: Item> Drop for PutPass<T> {
 }
 
 /// The right to take out of one inbox, with what was taken by it. It takes no memory, and goes with its
-/// thread. Contracts see the list that was taken.
+/// thread. Contracts see the list that was taken, and how often something was looked for, modulo 2^64.
 pub struct GetPass<T: Item> {
     pub(crate) seen: Seen<T>,
+    pub(crate) looks: u64,
 }
 
 impl<T: Item> GetPass<T> {
     pub(crate) fn into_seen(self) -> Seen<T>
         ensures { result ≡ self.seen }
     {
-        let Self { seen } = self;
+        let Self { seen, looks: _ } = self;
         seen
     }
 }
 
 impl<T: Item> Drop for GetPass<T> {
     fn drop(self) {
-        let Self { seen: _ } = self;
+        let Self { seen: _, looks: _ } = self;
     }
 }

@@ -119,10 +119,9 @@ module _ {T : Type 0} (rank : ℕ) where
   abbrev pub is_lane_next : List T → List (Ranked T) → Bool
   is_lane_next lane rs = goes_before_others rank (eqb (length lane) 0) (first_rank rs)
 
-  pub other_next : (lane : List T) (rs : List (Ranked T)) → AllByRecursion (IsOfAnother rank) rs → is_lane_next lane rs ≡ false
-      → drop 1 (items_among rank lane rs) ≡ items_among rank lane (drop 1 rs)
-  other_next lane [] apart next = absurd (let never : true ≡ false = next in cc)
-  other_next lane (r ∷ rs) apart next = ap (drop 1) (go lane (ltb rank r.rank) refl next)
+  pub other_first : (lane : List T) (r : Ranked T) (rs : List (Ranked T)) → AllByRecursion (IsOfAnother rank) (r ∷ rs) → is_lane_next lane (r ∷ rs) ≡ false
+      → items_among rank lane (r ∷ rs) ≡ r ∷ items_among rank lane rs
+  other_first lane r rs apart next = go lane (ltb rank r.rank) refl next
     where
       go : (lane : List T) (b : Bool) → ltb rank r.rank ≡ b → is_lane_next lane (r ∷ rs) ≡ false → items_among rank lane (r ∷ rs) ≡ r ∷ items_among rank lane rs
       go lane true e next = rw e
@@ -131,3 +130,8 @@ module _ {T : Type 0} (rank : ℕ) where
           let some : eqb (length (l ∷ lane)) 0 ≡ false = grind (arith, nat_tests) in
           let lower : ltb r.rank rank ≡ false = second_of_two (eqb (length (l ∷ lane)) 0) (ltb r.rank rank) some next in
           absurd (let other : r.rank ≢ rank = apart.0 in let p : r.rank ≤ rank = grind (arith, nat_tests) in let q : rank ≤ r.rank = grind (arith, nat_tests) in other (omega arith))
+
+  pub other_next : (lane : List T) (rs : List (Ranked T)) → AllByRecursion (IsOfAnother rank) rs → is_lane_next lane rs ≡ false
+      → drop 1 (items_among rank lane rs) ≡ items_among rank lane (drop 1 rs)
+  other_next lane [] apart next = absurd (let never : true ≡ false = next in cc)
+  other_next lane (r ∷ rs) apart next = ap (drop 1) (other_first lane r rs apart next)

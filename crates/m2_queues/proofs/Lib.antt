@@ -2,6 +2,7 @@ pub mod ByRank
 pub mod Histories
 pub mod InOrder
 pub mod Joining
+pub mod Kept
 pub mod Lanes
 pub mod Permuted
 pub mod Unsent

@@ -1,6 +1,8 @@
 pub mod ByRank
 pub mod Due
 pub mod InNumbers
+pub mod KeptLine
+pub mod KeptLineFields
 pub mod OutQueues
 pub mod OutQueuesFields
 pub mod PriorityLaws

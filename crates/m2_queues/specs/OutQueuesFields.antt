@@ -1,7 +1,6 @@
 -- The queue that contracts see, from the fields of the code.
-use Rattle.std.specs.Prelude.{◌≡◌, ◌+◌, ◌≤◌, length, map}
+use Rattle.std.specs.Prelude.{◌≡◌, map}
 use Rattle.std.specs.List.{AllByRecursion}
-use Rattle.std.specs.VecDeque.{deque_len, deque_capacity}
 use Rattle.m2_message.specs.Message.{Content, content_of}
 use Rattle.m2_message.specs.declared.message.Message.{Message}
 use Rattle.m2_queues.specs.PriorityQueue.{Ranked}
@@ -17,19 +16,18 @@ queue_of f = record {
   base = f.base;
   written = f.written;
   cursor = f.cursor;
-  kept = map content_of f.kept.items;
-  waiting = map content_ranked f.waiting.items;
+  kept = map content_of f.messages.kept;
+  waiting = map content_ranked f.messages.waiting;
 }
 
 abbrev pub outgoing_of : Inside → Outgoing
-outgoing_of f = record { queue = queue_of f; spare = f.waiting.room }
+outgoing_of f = record { queue = queue_of f; spare = f.messages.room }
 
 -- a message waits with its priority for a rank
 abbrev pub IsRanked : Ranked Message → Type 0
 IsRanked r = r.rank ≡ r.item.header.priority
 
--- the numbers are in order, and what waits or may be posted has room among the kept
+-- the numbers are in order
 pub record IsQueue (f : Inside) : Type 0 where
   pub numbers : IsNumbered (queue_of f)
-  pub room : deque_len f.kept + length f.waiting.items + f.waiting.room ≤ deque_capacity f.kept
-  pub ranked : AllByRecursion IsRanked f.waiting.items
+  pub ranked : AllByRecursion IsRanked f.messages.waiting

@@ -11,6 +11,7 @@
 
 mod due;
 mod in_numbers;
+mod kept_line;
 mod out_queues;
 mod priority_laws;
 mod priority_queue;

@@ -6,12 +6,11 @@ ghost use Rattle.m2_message.specs.Message.{content_of};
 ghost use Rattle.m2_queues.specs.Due.{number_due, content_due};
 ghost use Rattle.m2_queues.specs.OutQueues.{new_queue, after_post, next_number, after_next, after_sent, after_acked, after_requeue, after_discard, after_renumber, message_at, waits, unsent, last_number, IsNumbered};
 
-use crate::PriorityQueue;
 use crate::due::Due;
+use crate::kept_line::KeptLine;
 use m2_bytes::NoMemory;
 use m2_message::Message;
 use std::alloc::Global;
-use std::collections::VecDeque;
 use std::marker::Model;
 use thiserror::Error;
 
@@ -35,14 +34,17 @@ pub struct BadAck {
 /// [`acked`](OutQueues::acked). After a fault: [`requeue`](OutQueues::requeue); of the session:
 /// [`discard`](OutQueues::discard), [`renumber`](OutQueues::renumber). Only `reserve` and `post`
 /// take memory.
+///
+/// A message keeps its place in memory when it gets its number, as long as those that wait are of one priority. Where
+/// priorities are mixed, those of another one than the first that waited pass through a heap, and a kept message goes
+/// to a second list once at most, many of them in one call of [`next`](OutQueues::next). That list has room for all.
 #[derive(Drop)]
 pub struct OutQueues {
     keeps: bool,
     base: u64,
     written: u64,
     cursor: usize,
-    kept: VecDeque<Message>,
-    waiting: PriorityQueue<Message>,
+    messages: KeptLine,
 }
 
 impl Model for OutQueues {
@@ -68,8 +70,7 @@ impl OutQueues {
             base: 0,
             written: 0,
             cursor: 0,
-            kept: VecDeque::new(alloc),
-            waiting: PriorityQueue::empty(alloc),
+            messages: KeptLine::empty(alloc),
         }
     }
 
@@ -79,19 +80,14 @@ impl OutQueues {
         ensures err { OnErr result (self.new ≡ self.old) }
         ensures succeeds { n ≤ self.old.spare → IsOk result }
     {
-        if n <= self.spare() {
-            return Ok(());
-        }
-        let needed = self.waiting.len() + n as usize;
-        self.kept.reserve(needed)?;
-        self.waiting.reserve(n)
+        self.messages.reserve(n)
     }
 
     /// How many posts succeed whatever memory there is.
     pub fn spare(&self) -> u32
         ensures { result ≡ self.now.spare }
     {
-        self.waiting.room()
+        self.messages.room()
     }
 
     /// Puts a message behind all that wait with its priority or a greater one. Where `spare` is
@@ -114,7 +110,7 @@ impl OutQueues {
         ensures { self.new ≡ record { queue = after_post self.old.queue (content_of message); spare = self.old.spare - 1 } }
     {
         let rank = u64::from(message.header.priority);
-        self.waiting.push_reserved(rank, message);
+        self.messages.push_reserved(rank, message);
     }
 
     /// A look at what is to be sent now, which changes nothing: the number that
@@ -137,10 +133,10 @@ impl OutQueues {
     fn first_unsent(&self) -> Option<&Message>
         ensures { option_map content_of (option_copied result) ≡ slice_get (unsent self.now.queue) 0 }
     {
-        if self.cursor < self.kept.len() {
+        if self.cursor < self.messages.kept() {
             self.at_cursor()
         } else {
-            self.waiting.first()
+            self.messages.first()
         }
     }
 
@@ -148,7 +144,7 @@ impl OutQueues {
     fn at_cursor(&self) -> Option<&Message>
         ensures { option_map content_of (option_copied result) ≡ slice_get self.now.queue.kept self.now.queue.cursor }
     {
-        self.kept.get(self.cursor)
+        self.messages.at(self.cursor)
     }
 
     /// The number to be sent now. Where the cursor is at the end of what is kept, the first message
@@ -160,9 +156,8 @@ impl OutQueues {
         ensures there { IfSome result (λ number. IsSome (message_at self.new.queue number)) }
         ensures unsent { OnSome result (self.new.queue.cursor < length self.new.queue.kept) }
     {
-        if self.cursor >= self.kept.len() {
-            let message = self.waiting.pop()?;
-            self.kept.push_back_reserved(message);
+        if self.cursor >= self.messages.kept() && !self.messages.keep_first() {
+            return None;
         }
         Some(self.base + self.cursor as u64 + 1)
     }
@@ -174,7 +169,7 @@ impl OutQueues {
         if number <= self.base {
             return None;
         }
-        self.kept.get((number - self.base - 1) as usize)
+        self.messages.at((number - self.base - 1) as usize)
     }
 
     /// The message at the cursor was written: the cursor moves past it, and `written` becomes at
@@ -187,7 +182,7 @@ impl OutQueues {
         if self.keeps {
             self.cursor += 1;
         } else {
-            let _ = self.kept.pop_front();
+            self.messages.let_go(1);
             self.base += 1;
         }
     }
@@ -207,7 +202,7 @@ impl OutQueues {
             });
         }
         let gone = number.saturating_sub(self.base) as usize;
-        self.kept.drain(..gone);
+        self.messages.let_go(gone);
         self.cursor = self.cursor.saturating_sub(gone);
         self.base = self.base.max(number);
         Ok(())
@@ -225,8 +220,7 @@ impl OutQueues {
         ensures { self.new ≡ record self.old { queue = after_discard self.old.queue } }
     {
         self.renumber();
-        self.kept.clear();
-        self.waiting.clear();
+        self.messages.clear();
     }
 
     /// Numbers begin again at 1 with the first kept message, and all that is kept is to be sent
@@ -244,14 +238,14 @@ impl OutQueues {
         ensures value { result ≡ waits self.now.queue }
         ensures waits { IsTrue result ↔ (0 < length self.now.queue.kept + length self.now.queue.waiting) }
     {
-        !self.kept.is_empty() || !self.waiting.is_empty()
+        self.messages.kept() != 0 || self.messages.waiting() != 0
     }
 
     /// How many wait that have no number yet.
     pub fn waiting(&self) -> usize
         ensures { result ≡ length self.now.queue.waiting }
     {
-        self.waiting.len()
+        self.messages.waiting()
     }
 
     /// The number before that of the first kept message.
@@ -273,6 +267,6 @@ impl OutQueues {
         ensures number { result ≡ last_number self.now.queue }
         ensures numbers { IsNumbered self.now.queue }
     {
-        self.base + self.kept.len() as u64
+        self.base + self.messages.kept() as u64
     }
 }

@@ -43,17 +43,17 @@ impl<T> Model for PriorityQueue<T> {
 }
 
 /// Whether the lane's first item comes out next, or no item does.
-fn is_lane_next<T>(lane: &VecDeque<T>, rank: u64, others: &StableHeap<T>) -> bool
-    ensures { result ≡ goes_before_others rank (length lane.now.items == 0) (first_rank others.now.items) }
+pub(crate) fn is_lane_next<T>(is_empty: bool, rank: u64, others: &StableHeap<T>) -> bool
+    ensures { result ≡ goes_before_others rank is_empty (first_rank others.now.items) }
 {
     match others.first_rank() {
         None => true,
-        Some(other) => !lane.is_empty() && other < rank,
+        Some(other) => !is_empty && other < rank,
     }
 }
 
 /// The rank of the lane of a queue of `len` items, where an item of this rank is to go in.
-fn lane_rank_for(len: usize, lane_rank: u64, rank: u64) -> u64
+pub(crate) fn lane_rank_for(len: usize, lane_rank: u64, rank: u64) -> u64
     ensures { result ≡ rank_for len lane_rank rank }
 {
     if len == 0 { rank } else { lane_rank }
@@ -146,7 +146,7 @@ impl<T> PriorityQueue<T> {
         ensures item { result ≡ first_item self.old.items }
         ensures rest { self.new ≡ record self.old { items = drop 1 self.old.items } }
     {
-        if !is_lane_next(&self.lane, self.lane_rank, &self.others) {
+        if !is_lane_next(self.lane.is_empty(), self.lane_rank, &self.others) {
             let item = self.others.pop()?;
             self.len -= 1;
             return Some(item);
@@ -160,7 +160,7 @@ impl<T> PriorityQueue<T> {
     pub fn first(&self) -> Option<&T>
         ensures { option_copied result ≡ first_item self.now.items }
     {
-        if is_lane_next(&self.lane, self.lane_rank, &self.others) {
+        if is_lane_next(self.lane.is_empty(), self.lane_rank, &self.others) {
             self.lane.front()
         } else {
             self.others.first()

@@ -1,5 +1,5 @@
 -- Inboxes that are closed, one after another.
-use Rattle.std.proofs.Common.{◌≡◌, ℕ, zero, suc, ◌+◌, ◌<◌, ◌≤◌, List, [], ◌∷◌, ◌++◌, length, get_or, take, drop, reverse, refl, sym, ap, subst, ◌∙◌, arith}
+use Rattle.std.proofs.Common.{◌≡◌, ℕ, suc, ◌+◌, ◌<◌, ◌≤◌, List, [], ◌∷◌, ◌++◌, length, get_or, take, drop, reverse, refl, sym, ap, subst, ◌∙◌, arith}
 use Rattle.std.specs.Prelude.{slice_get, slice_set, sum_by, Some}
 use Rattle.std.specs.List.{AllByRecursion}
 use Rattle.std.proofs.lemmas.List.{drop-set-lt, drop_more, length-append, length-set, reverse-reverse, take_all, take_more, take_more_set}
@@ -18,7 +18,8 @@ use Rattle.m2_trail.specs.declared.home.HomeOf.{HomeOf}
 use Rattle.m2_run.specs.Closing.{AreAllRightsTo, AreLeftOver, HasAllRights, IsLeftOver}
 use Rattle.m2_run.specs.Lists.{SideBySide}
 use Rattle.m2_run.specs.Opened.{AreRightsTo, HasRoomsFor, IsClosed, OpenedNow, WeighsUp, made_in, weight_inside, weight_put_by, weight_taken}
-use Rattle.m2_run.proofs.Places.{get_drop, reverse_last, side_last}
+use Rattle.m2_run.proofs.Beside.{side_last}
+use Rattle.m2_run.proofs.Places.{get_drop, reverse_last}
 
 -- ---- all rights
 

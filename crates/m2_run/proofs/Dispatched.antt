@@ -1,9 +1,8 @@
 -- What a dispatcher was called with, parcel after parcel.
-use Rattle.std.proofs.Common.{◌≡◌, ℕ, ◌+◌, Bool, true, false, List, [], ◌∷◌, ◌++◌, map, Some, refl, sym, ap, subst, ◌∙◌, append-nil, append_assoc, arith}
-use Rattle.std.specs.Prelude.{slice_get, slice_set}
+use Rattle.std.proofs.Common.{◌≡◌, ◌+◌, List, [], ◌∷◌, ◌++◌, map, refl, sym, ap, subst, ◌∙◌, append-nil, append_assoc, arith}
 use Rattle.std.proofs.lemmas.List.{map-append}
 use Rattle.std.proofs.lemmas.List.Concat.{flat_map-append}
-use Rattle.m2_dispatch.specs.Heard.{Heard, heard_by}
+use Rattle.m2_dispatch.specs.Heard.{heard_by}
 use Rattle.m2_dispatch.specs.Dispatch.{Queued}
 use Rattle.m2_dispatch.specs.Letters.{heard_in}
 use Rattle.m2_dispatch.specs.Turn.{IsTurn, dispatched}
@@ -14,7 +13,6 @@ use Rattle.m2_dispatch.specs.declared.logged.Logged.{Logged}
 use Rattle.m2_dispatch.specs.declared.parcel.Parcel.{Parcel}
 use Rattle.m2_dispatch.specs.declared.parcel.Parcel.TheVariants as parcel
 use Rattle.m2_mailbox.specs.Merge.{IsMerge}
-use Rattle.m2_mailbox.proofs.Sublists.{one_list}
 use Rattle.m2_run.specs.Dispatching.{DispatcherNow, DispatchesFirst, HasDispatched, HasEmptied}
 
 pub heard_for_both : (xs ys : List Parcel) → heard_for_all (xs ++ ys) ≡ heard_for_all xs ++ heard_for_all ys

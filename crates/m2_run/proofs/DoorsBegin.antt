@@ -1,10 +1,10 @@
 -- What the ports of a node's threads are made of, one after another.
 use native.Mathlib.Bridge.{le_prop}
-use Rattle.std.proofs.Common.{◌≡◌, ℕ, zero, suc, ◌+◌, ◌-◌, ◌<◌, ◌≤◌, false, List, [], ◌∷◌, ◌++◌, length, drop, Option, Some, None, refl, sym, ap, subst, ◌∙◌, append_assoc, arith}
+use Rattle.std.proofs.Common.{◌≡◌, ℕ, zero, suc, ◌+◌, ◌-◌, ◌<◌, ◌≤◌, false, List, [], ◌∷◌, ◌++◌, length, drop, Option, Some, None, refl, sym, ap, subst, ◌∙◌, arith}
 use Rattle.std.specs.Prelude.{slice_get, sum_by}
 use Rattle.std.specs.List.{AllByRecursion}
 use Rattle.std.proofs.lemmas.List.Sums.{sum_by-cons}
-use Rattle.std.proofs.lemmas.Option.{none-some, same_Some}
+use Rattle.std.proofs.lemmas.Option.{same_Some}
 use Rattle.m2_fabric.specs.Fabric.{IsUnused}
 use Rattle.m2_fabric.specs.Port.{SeenPort}
 use Rattle.m2_fabric.specs.declared.socket.SocketId.{SocketId}
@@ -12,14 +12,14 @@ use Rattle.m2_handover.specs.Door.{DoorNow, weight_by, weight_on_way, weight_put
 use Rattle.m2_handover.specs.Handed.{OnItsWay}
 use Rattle.m2_handover.specs.Home.{IsBalanced, weight_at_door}
 use Rattle.m2_handover.specs.Way.{WayNow}
-use Rattle.m2_handover.specs.m2_mailbox.Passes.{IsGetPassOf, IsPutPassOf, owner_of, parts_of, puts_of, taken_of}
+use Rattle.m2_handover.specs.m2_mailbox.Passes.{IsPutPassOf, owner_of, parts_of, puts_of}
 use Rattle.m2_handover.specs.m2_mailbox.Views.{all_parts}
 use Rattle.m2_handover.specs.m2_mailbox.declared.inbox.Inbox.{Inbox}
 use Rattle.m2_handover.specs.m2_mailbox.declared.passes.GetPass.{GetPass}
 use Rattle.m2_handover.specs.m2_mailbox.declared.passes.PutPass.{PutPass}
 use Rattle.m2_trail.specs.declared.home.HomeOf.{HomeOf}
 use Rattle.m2_run.specs.Begins.{AreDoorsAmid, AreDoorsOf, AreRoomsAmid, DoorsNow, IsNewDoor, IsNewWay, IsStillFull}
-use Rattle.m2_run.specs.Rooms.{AreRoomsOf, HomeAt, homes_from, thread_of}
+use Rattle.m2_run.specs.Rooms.{HomeAt, homes_from, thread_of}
 use Rattle.m2_run.proofs.InboxLists.{homes_last}
 use Rattle.m2_run.proofs.Places.{drop_here, get_drop}
 
@@ -176,17 +176,17 @@ ways_weigh weight (w ∷ ways) all =
     let none : weight_by weight w ≡ 0 = ap (sum_by (sum_by (weight_on_way weight))) all.0 in
     omega (arith, sum_by-cons (weight_by weight) w ways, none, ways_weigh weight ways all.1)
 
-pub new_door : (door : DoorNow) (ways : List WayNow) → door ≡ record { halves = []; asked = []; over = []; ways = ways } → AllByRecursion IsNewWay ways → IsNewDoor (Some door)
+pub new_door : (door : DoorNow) (ways : List WayNow) → door ≡ record { halves = []; asked = []; over = []; ways = ways; busy = false } → AllByRecursion IsNewWay ways → IsNewDoor (Some door)
 new_door door ways is all weight =
-    let weighs : weight_at_door weight (Some door) ≡ weight_at_door weight (Some (record { halves = []; asked = []; over = []; ways = ways })) = ap (λ d. weight_at_door weight (Some d)) is in
+    let weighs : weight_at_door weight (Some door) ≡ weight_at_door weight (Some (record { halves = []; asked = []; over = []; ways = ways; busy = false })) = ap (λ d. weight_at_door weight (Some d)) is in
     omega (arith, weighs, ways_weigh weight ways all)
 
 pub none_new_door : IsNewDoor None
 none_new_door weight = refl
 
-pub new_balanced : (inner : SeenPort) (taken : List OnItsWay) (door : Option DoorNow) → IsUnused inner → taken ≡ [] → IsNewDoor door →
-    IsBalanced (record { inner = inner; made = []; room = 0; quiet = false; taken = taken; next = None; door = door })
-new_balanced inner taken door unused none new weight =
+pub new_balanced : (inner : SeenPort) (taken : List OnItsWay) (looks : ℕ) (door : Option DoorNow) → IsUnused inner → taken ≡ [] → IsNewDoor door →
+    IsBalanced (record { inner = inner; made = []; room = 0; quiet = false; taken = taken; looks = looks; next = None; fresh = false; door = door })
+new_balanced inner taken looks door unused none new weight =
     let m : sum_by weight inner.made ≡ 0 = ap (sum_by weight) unused.made in
     let t : sum_by (weight_on_way weight) taken ≡ 0 = ap (sum_by (weight_on_way weight)) none in
     omega (arith, m, t, new weight)

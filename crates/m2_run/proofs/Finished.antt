@@ -1,5 +1,5 @@
 -- Nodes that were taken apart, as they are kept.
-use Rattle.std.proofs.Common.{◌≡◌, ℕ, zero, suc, true, List, [], ◌∷◌, ◌++◌, length, map, reverse, refl, sym, ap, subst, ◌∙◌, arith}
+use Rattle.std.proofs.Common.{◌≡◌, ℕ, zero, suc, true, List, [], ◌∷◌, ◌++◌, length, map, refl, sym, ap, subst, ◌∙◌, arith}
 use Rattle.std.specs.Prelude.{slice_get, Option, Some, IfSome}
 use Rattle.std.specs.List.{AllByRecursion, flat_map}
 use Rattle.std.specs.Option.{option_to_list}
@@ -22,7 +22,7 @@ use Rattle.m2_run.specs.Kept.{AllGathered, AreAllHeld, AreOpened, MadeIsHeld}
 use Rattle.m2_run.specs.Nodes.{KeptNow, RunNodeNow, loose_at, made_by, nodes_of}
 use Rattle.m2_run.specs.Opened.{AllAreThere, AreOpenedNodes, IsOpenedNode, OpenedNow, all_kept, ended_of, kept_as, loose_in, made_in, made_of_all, untold}
 use Rattle.m2_run.specs.Ran.{AreLeftBy}
-use Rattle.m2_run.specs.Rests.{AreEndsOf, EndedCenterNow, EndedNow, IsEndOf, IsEndOfCenter, loose_of}
+use Rattle.m2_run.specs.Rests.{AreEndsOf, EndedCenterNow, IsEndOf, IsEndOfCenter, loose_of}
 use Rattle.m2_run.specs.Still.{AllRest, IsAtRest}
 use Rattle.m2_run.specs.Types.{IsCenterOfTypes, IsOfTypes}
 use Rattle.m2_run.proofs.Beside.{side_flat, side_get, side_length}

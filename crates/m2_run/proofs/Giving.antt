@@ -20,7 +20,7 @@ use Rattle.m2_run.specs.Gathering.{GathersIf, GivenNow, Gives, GivesBack, Opens,
 use Rattle.m2_run.specs.Kept.{ends_of_record}
 use Rattle.m2_run.specs.Lists.{joined}
 use Rattle.m2_run.specs.Rests.{EndedCenterNow, EndedNow}
-use Rattle.m2_run.proofs.Beside.{joined_both, joined_one, next_turned, side_both}
+use Rattle.m2_run.proofs.Beside.{joined_one, next_turned, side_both}
 use Rattle.m2_run.proofs.Places.{reverse_last}
 
 -- an end over one that was handed over and on which all was done again is over the one inside
@@ -213,7 +213,3 @@ node_gives cuts started place count n halves none given ports ends old new no_po
       gathers = subst (λ (what : Gathered). GathersIf started place what old new)
           (ap (λ ps. let what : Gathered = record { ports = ps; ends = ends } in what) its ∙ ap (λ es. let what : Gathered = record { ports = ports_in n.centers; ends = es } in what) are) gathers;
     }
-
--- and its calls are told
-pub node_tells : (cuts : List Cut) (n : EndedNow) (none given : GivenNow) (calls : List Logged) → none.fast ≡ [] → Gives cuts n.centers none given → calls ≡ given.fast → calls ≡ fast_of n.centers
-node_tells cuts n none given calls no_fast gives are = are ∙ gives.fast ∙ ap (λ ls. ls ++ fast_of n.centers) no_fast

@@ -1,5 +1,5 @@
 -- Nodes that are gathered, from the last one on.
-use Rattle.std.proofs.Common.{◌≡◌, ◌≢◌, ◌⊎◌, inl, inr, ℕ, zero, suc, ◌+◌, ◌<◌, ◌≤◌, Bool, true, false, List, [], ◌∷◌, ◌++◌, length, map, reverse, take, drop, refl, sym, ap, subst, ◌∙◌, append_assoc, arith, length-append}
+use Rattle.std.proofs.Common.{◌≡◌, ◌≢◌, ◌⊎◌, inl, inr, ℕ, suc, ◌+◌, ◌<◌, ◌≤◌, Bool, true, false, List, [], ◌∷◌, ◌++◌, length, map, reverse, take, drop, refl, sym, ap, subst, ◌∙◌, append_assoc, arith, length-append}
 use Rattle.std.specs.Prelude.{slice_get, slice_index_or, Option, Some, None, IfSome}
 use Rattle.std.specs.List.{flat_map}
 use Rattle.std.specs.Option.{option_to_list}
@@ -12,7 +12,7 @@ use Rattle.m2_dispatch.specs.Heard.{Heard, heard_by}
 use Rattle.m2_dispatch.specs.declared.logged.Logged.{Logged}
 use Rattle.m2_edge.specs.Faults.{next_count}
 use Rattle.m2_fabric.specs.End.{SeenEnd}
-use Rattle.m2_fabric.specs.Fabric.{Gathered, Gathers, SeenFabric}
+use Rattle.m2_fabric.specs.Fabric.{Gathered, SeenFabric}
 use Rattle.m2_fabric.specs.Port.{SeenPort}
 use Rattle.m2_fabric.specs.declared.port.Cut.{Cut}
 use Rattle.m2_record.specs.RecordNow.{RecordNow}
@@ -21,7 +21,7 @@ use Rattle.m2_scenario.specs.declared.node.Node.{Node}
 use Rattle.m2_trail.specs.Arrivals.{LooseNow}
 use Rattle.m2_run.specs.Cuts.{AreEndsOver, cuts_at}
 use Rattle.m2_run.specs.Gathering.{ArePortsTold, GathersIf, GivesBack}
-use Rattle.m2_run.specs.Kept.{AllGathered, AreEndsGiven, IsGathered, IsUntouched, ends_of_record, ends_of_records}
+use Rattle.m2_run.specs.Kept.{AllGathered, IsGathered, IsUntouched, ends_of_record, ends_of_records}
 use Rattle.m2_run.specs.Lists.{SideBySide}
 use Rattle.m2_run.specs.Nodes.{KeptNow, loose_at, nodes_of}
 use Rattle.m2_run.specs.Ports.{IsPortOver}

@@ -1,5 +1,5 @@
 -- Nodes and threads that are ended one after another.
-use Rattle.std.proofs.Common.{◌≡◌, ◌⊎◌, inl, inr, ℕ, suc, ◌+◌, ◌-◌, ◌<◌, ◌≤◌, false, List, [], ◌∷◌, ◌++◌, length, map, reverse, refl, sym, ap, subst, ◌∙◌, append_assoc, arith, length-append}
+use Rattle.std.proofs.Common.{◌≡◌, inl, inr, ℕ, ◌+◌, ◌-◌, ◌<◌, ◌≤◌, false, List, [], ◌∷◌, ◌++◌, length, map, reverse, refl, sym, ap, subst, ◌∙◌, append_assoc, arith, length-append}
 use Rattle.std.specs.Prelude.{OnOk, Result, Ok, Err, slice_get, Some}
 use Rattle.std.specs.List.{AllByRecursion}
 use Rattle.std.specs.Result.{is_err}
@@ -9,10 +9,7 @@ use Rattle.m2_bytes.proofs.m2_lemmas.Lists.{all_last}
 use Rattle.m2_script.specs.m2_center.Center.{CenterNow}
 use Rattle.m2_dispatch.specs.declared.logged.Logged.{Logged}
 use Rattle.m2_fabric.specs.declared.port.Cut.{Cut}
-use Rattle.m2_handover.specs.Handed.{OnItsWay}
-use Rattle.m2_handover.specs.m2_mailbox.declared.inbox.Inbox.{Inbox}
 use Rattle.m2_trail.specs.Arrivals.{LooseNow}
-use Rattle.m2_trail.specs.declared.home.HomeOf.{HomeOf}
 use Rattle.m2_run.specs.Nodes.{RunNodeNow}
 use Rattle.m2_run.specs.Opened.{AreOpenedNodes, AreRightsTo, EndsCenter, EndsCenters, EndsNext, HasRoomsFor, IsOpenedNode, OpenedNow, WeighsUp, ended_of, loose_in, parts_in, untold}
 use Rattle.m2_run.specs.Rests.{EndedCenterNow, EndedNow}

@@ -6,7 +6,6 @@ use Rattle.std.proofs.lemmas.List.{append-nil, drop_more, reverse-append, take_m
 use Rattle.std.proofs.lemmas.List.Concat.{flat_map-append}
 use Rattle.std.proofs.lemmas.Option.{get_or_from_slice_get, none-some, same_Some, slice_get_within}
 use Rattle.m2_bytes.proofs.m2_lemmas.Lists.{all_last}
-use Rattle.m2_run.specs.Lists.{SideBySide}
 
 -- ---- two lists, place by place
 
@@ -78,20 +77,6 @@ joined_first f x xs = ap (flat_map f) (reverse_first x xs) ∙ flat_map-append f
 
 pub joined_last : {X A : Type 0} (f : X → List A) (xs : List X) (x : X) → flat_map f (reverse (xs ++ x ∷ [])) ≡ f x ++ flat_map f (reverse xs)
 joined_last f xs x = ap (flat_map f) (reverse_last xs x)
-
--- ---- side by side
-
-pub side_last : {X Y : Type 0} (R : X → Y → Type 0) (xs : List X) (ys : List Y) (x : X) (y : Y) → SideBySide R xs ys → R x y → SideBySide R (xs ++ x ∷ []) (ys ++ y ∷ [])
-side_last R [] [] x y all r = (r, tt)
-side_last R [] (b ∷ ys) x y all r = absurd all
-side_last R (a ∷ xs) [] x y all r = absurd all
-side_last R (a ∷ xs) (b ∷ ys) x y all r = (all.0, side_last R xs ys x y all.1 r)
-
-pub side_at : {X Y : Type 0} (R : X → Y → Type 0) (xs : List X) (ys : List Y) (k : ℕ) (x : X) (y : Y) → SideBySide R xs ys → slice_get xs k ≡ Some x → slice_get ys k ≡ Some y → R x y
-side_at R [] ys k x y all e f = absurd (none-some x e)
-side_at R (a ∷ xs) [] k x y all e f = absurd all
-side_at R (a ∷ xs) (b ∷ ys) zero x y all e f = subst (λ z. R z y) (same_Some a x e) (subst (R a) (same_Some b y f) all.0)
-side_at R (a ∷ xs) (b ∷ ys) (suc k) x y all e f = side_at R xs ys k x y all.1 e f
 
 -- ---- a loop over places
 

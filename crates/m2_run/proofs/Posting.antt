@@ -73,6 +73,7 @@ begins_to_send s w m put g waiting shared throttle nothing n none = record {
   shared = subst (λ (t : SeenThrottle). IsShared t.place) (sym throttle) shared;
   ours = n.puts;
   whole = n.whole;
+  room = n.room;
   own = [];
   puts = n.nothing_put;
   handed = ap heard_by nothing ∙ ap heard_for_all (sym none);

@@ -4,12 +4,12 @@ use Rattle.std.proofs.lemmas.Option.{none-some, same_Some}
 use Rattle.std.specs.Prelude.{slice_get}
 use Rattle.m2_dispatch.specs.m2_shared.Throttle.{SeenTakePass}
 use Rattle.m2_run.specs.Sharing.{AreFirstOf, AreRights, AreSharesOf, FirstPassesNow, ShareNow}
-use Rattle.m2_run.proofs.Places.{side_at}
+use Rattle.m2_run.proofs.Beside.{side_get}
 
 -- of each node the first passes are to what its threads share
 pub first_there : (count : ℕ) (shares : List ShareNow) (passes : List FirstPassesNow) (k : ℕ) (s : ShareNow) (p : FirstPassesNow) → AreSharesOf count shares passes → slice_get shares k ≡ Some s →
     slice_get passes k ≡ Some p → AreFirstOf s p
-first_there count shares passes k s p are here there = side_at AreFirstOf shares passes k s p are.first here there
+first_there count shares passes k s p are here there = side_get AreFirstOf shares passes are.first k s p here there
 
 -- one more goes last
 pub one_right : (shares : List ShareNow) (rights : List SeenTakePass) (k : ℕ) (s : ShareNow) (r : SeenTakePass) → slice_get shares k ≡ Some s → r.place ≡ s.throttle.place → AreRights (take k shares) rights →

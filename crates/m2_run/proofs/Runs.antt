@@ -34,8 +34,8 @@ use Rattle.m2_run.specs.Kept.{AllGathered, AreOpened, IsGathered, IsKeptNode, Is
 use Rattle.m2_run.specs.Lists.{SideBySide}
 use Rattle.m2_run.specs.Nodes.{KeptNow, RunNodeNow, nodes_of}
 use Rattle.m2_run.specs.Opened.{AllAreThere, AllClosed, AreOpenedNodes, HasRoomsFor, HaveEachOnce, IsClosed, IsOpenedNode, OpenedNow, all_kept, ended_of, loose_in, made_of_all}
-use Rattle.m2_run.specs.Ran.{AreLeftBy, EndsInFault, HasFinished, HasRan, HasStalled, HaveEnded, IsFaultOf, fault_told}
-use Rattle.m2_run.specs.Rests.{AreEndsOf, EndedCenterNow, EndedNow, IsEndOfCenter, loose_of}
+use Rattle.m2_run.specs.Ran.{AreLeftBy, EndsInFault, HasFinished, HasRan, HasStalled, HaveEnded, IsFaultOf, ShowsEnd, ShowsFault, fault_told}
+use Rattle.m2_run.specs.Rests.{AreEndsOf, EndedCenterNow, EndedNow, IsEndOfCenter, Shown, loose_of, shown_of}
 use Rattle.m2_run.specs.Settling.{HasPlayed, HasStopped}
 use Rattle.m2_run.specs.Still.{AllRest, IsAtRest}
 use Rattle.m2_run.specs.Types.{IsCenterOfTypes, IsOfTypes}
@@ -203,7 +203,7 @@ untouched_since k x nodes old mid new out there off u = record {
 
 module _ (may_give : ℕ → Type 0) (limit : ℕ) (nodes : List Node) (links : List Link) (lines : List Line) (cuts : List (Holding Cut)) (start stop : ℕ) (ran : List RunNodeNow) (left : ℕ)
     (all : List OpenedNow) (old mid new : SeenFabric) (stopped : HasStopped may_give limit nodes links lines cuts start stop ran left all) (are_cuts : AreCutsOf nodes lines cuts)
-    (out : AreOut nodes old mid) where
+    (out : AreOut nodes old mid) (no_fault : new.faults ≡ old.faults) where
   -- the node at a place as it ran
   ran_at : (kept : List KeptNow) → nodes_of kept ≡ ran → (k : ℕ) (n : KeptNow) → slice_get kept k ≡ Some n → slice_get ran k ≡ Some n.node
   ran_at kept same k n here = subst (λ (ns : List RunNodeNow). slice_get ns k ≡ Some n.node) same (get_map (λ (m : KeptNow). m.node) kept k n here)
@@ -256,6 +256,7 @@ module _ (may_give : ℕ → Type 0) (limit : ℕ) (nodes : List Node) (links : 
     start = start;
     stop = stop;
     run = kept_run f.kept f.ends f.ended;
+    faults = no_fault;
     ends = f.ends;
     are_ends = f.ended.are_ends;
     logs = f.logs;
@@ -266,21 +267,35 @@ module _ (may_give : ℕ → Type 0) (limit : ℕ) (nodes : List Node) (links : 
   }
 
   pub has_faulted : (f : RunFault) → EndsInFault cuts nodes links ran mid new f → IsFaultOf may_give nodes links lines old new f
-  has_faulted fault.NoMemory ended = tt
+  has_faulted fault.NoMemory ended = no_fault
   has_faulted (fault.Bind node) ended = absurd ended
   has_faulted (fault.Unfit u) ended = record {
     kept = ended.kept;
     start = start;
     stop = stop;
     run = kept_run ended.kept ended.ends ended.ended;
+    faults = no_fault;
     ends = ended.ends;
     are_ends = ended.ended.are_ends;
     stops = ended.stops;
   }
 
+  pub shows_fault : (saw : Shown → Type 0) (stays : Type 0) (f : RunFault) → ShowsEnd saw stays cuts nodes links ran mid new f →
+      ShowsFault saw stays may_give nodes links lines old new f
+  shows_fault saw stays fault.NoMemory shows = shows
+  shows_fault saw stays (fault.Bind node) shows = absurd shows
+  shows_fault saw stays (fault.Unfit u) shows = (has_faulted (fault.Unfit u) shows.0, shows.1)
+
 -- ---- an end at a link without a history
 
-pub faulted : (cuts : List (Holding Cut)) (nodes : List Node) (links : List Link) (ran : List RunNodeNow) (kept : List KeptNow) (ends : List EndedNow) (old new : SeenFabric) (f : WeaveFault) →
-    HaveEnded cuts nodes ran kept ends old new → WeavesAll (Err f) ends (loose_of kept) links → EndsInFault cuts nodes links ran old new (fault_told f)
-faulted cuts nodes links ran kept ends old new weaving.NoMemory ended weaves = tt
-faulted cuts nodes links ran kept ends old new (weaving.Unfit u) ended weaves = record { kept = kept; ends = ends; ended = ended; stops = weaves }
+module _ (saw : Shown → Type 0) (stays : Type 0) (cuts : List (Holding Cut)) (nodes : List Node) (links : List Link) (ran : List RunNodeNow) where
+  pub faulted : (kept : List KeptNow) (ends : List EndedNow) (old new : SeenFabric) (f : WeaveFault) →
+      HaveEnded cuts nodes ran kept ends old new → WeavesAll (Err f) ends (loose_of kept) links → saw (shown_of kept ends) → ShowsEnd saw stays cuts nodes links ran old new (fault_told f)
+  faulted kept ends old new weaving.NoMemory ended weaves shown = inr (shown_of kept ends, shown)
+  faulted kept ends old new (weaving.Unfit u) ended weaves shown = (record { kept = kept; ends = ends; ended = ended; stops = weaves }, shown)
+
+  -- of what is shown it is an end
+  pub ends_so : (old new : SeenFabric) (f : RunFault) → ShowsEnd saw stays cuts nodes links ran old new f → EndsInFault cuts nodes links ran old new f
+  ends_so old new fault.NoMemory shows = tt
+  ends_so old new (fault.Bind node) shows = shows
+  ends_so old new (fault.Unfit u) shows = shows.0

@@ -1,10 +1,10 @@
 -- What the threads of nodes share, one node after another.
-use Rattle.std.proofs.Common.{◌≡◌, ℕ, ◌+◌, List, [], ◌∷◌, ◌++◌, length, sym, ap, subst, ◌∙◌, length-append}
+use Rattle.std.proofs.Common.{ℕ, ◌+◌, List, [], ◌∷◌, ◌++◌, length, sym, ap, subst, ◌∙◌, length-append}
 use Rattle.std.specs.List.{AllByRecursion}
 use Rattle.m2_bytes.proofs.m2_lemmas.Lists.{all_last}
 use Rattle.m2_run.specs.Lists.{SideBySide}
 use Rattle.m2_run.specs.Sharing.{AddsShare, AreFirstOf, AreSharesOf, FirstPassesNow, IsShare, ShareNow}
-use Rattle.m2_run.proofs.Places.{side_last}
+use Rattle.m2_run.proofs.Beside.{side_last}
 
 pub one_share_more : (nodes : ℕ) (shares new_shares : List ShareNow) (passes new_passes : List FirstPassesNow) → AreSharesOf nodes shares passes → AddsShare shares passes new_shares new_passes →
     AreSharesOf (nodes + 1) new_shares new_passes

@@ -1,5 +1,5 @@
 -- The calls that are told of a run are of nodes.
-use Rattle.std.proofs.Common.{◌≡◌, ℕ, ◌<◌, ◌==◌, suc, Bool, ◌||◌, true, false, if◌then◌else◌, filter, List, [], ◌∷◌, ◌++◌, Option, Some, None, drop, get_or, length, ltb, map, slice_get, refl, sym, ap, ◌∙◌, subst}
+use Rattle.std.proofs.Common.{◌≡◌, ℕ, ◌<◌, ◌==◌, suc, Bool, ◌||◌, true, false, filter, List, [], ◌∷◌, ◌++◌, Option, Some, None, drop, get_or, length, ltb, map, slice_get, refl, sym, ap, ◌∙◌, subst}
 use Rattle.std.specs.List.{AllByRecursion, flat_map, list_any}
 use Rattle.std.specs.Option.{option_to_list}
 use Rattle.std.proofs.Math.ListN.{length-map}

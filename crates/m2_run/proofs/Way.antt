@@ -1,5 +1,5 @@
 -- Centers go on: in a turn, where they wait, where time passes, and in one of these after another.
-use Rattle.std.proofs.Common.{◌≡◌, inl, inr, ℕ, ◌≤◌, Bool, true, List, refl, sym, ap, subst, ◌∙◌, le_refl, le_trans}
+use Rattle.std.proofs.Common.{◌≡◌, inl, inr, ℕ, ◌≤◌, Bool, true, List, refl, sym, subst, ◌∙◌, le_refl, le_trans}
 use Rattle.m2_script.specs.m2_center.Center.{CenterNow}
 use Rattle.m2_script.specs.m2_center.CenterTurn.{means_at}
 use Rattle.m2_links_go_on.specs.CourseLaws.{PollsStayOnCourse, TurnsStayOnCourse, WaitingStaysOnCourse}
@@ -11,7 +11,7 @@ use Rattle.m2_links_go_on.specs.ClusterLaws.{TurnGrows}
 use Rattle.m2_links_go_on.specs.LeftLaws.{ComingStays}
 use Rattle.m2_links_go_on.specs.LogLaws.{TurnsStayLogged, holding_in}
 use Rattle.m2_links_go_on.specs.PeerLaws.{TurnsStayOfPeers}
-use Rattle.m2_run.specs.Way.{GoesOn, IsUnderWay, PollsSo, StepsSo}
+use Rattle.m2_run.specs.Way.{GoesOn, IsUnderWay, StepsSo}
 use Rattle.m2_run.specs.WayLaws.{PollsGoOn, StepsGoOn, TurnsGoOn, WaitingGoesOn}
 use Rattle.m2_run.specs.Working.{WorkerNow, Works}
 
@@ -115,18 +115,4 @@ works_by E C may_give steps clock old new now on later given moment started numb
       subst (λ (m : ℕ). GoesOn (may_give clock) old.moment m old.started old.center new.center) (sym moment)
       (subst (λ (b : Bool). GoesOn (may_give clock) old.moment now b old.center new.center) (sym on)
       (steps clock old.moment now old.numbers old.throttle old.center new.center s (given g) later));
-}
-
--- one that is on waits at its port
-pub works_waiting : (C : Type 0) (may_give : C → ℕ → Type 0) → PollsGoOn C may_give → (clock : C) (old new : WorkerNow) → old.started ≡ true → new ≡ record old { center = new.center } →
-    PollsSo old.center new.center → Works (may_give clock) old new
-works_waiting C may_give polls clock old new on same waits = record {
-  numbers = ap (λ (w : WorkerNow). w.numbers) same;
-  throttle = ap (λ (w : WorkerNow). w.throttle) same;
-  started = ap (λ (w : WorkerNow). w.started) same;
-  later = subst (λ (m : ℕ). old.moment ≤ m) (sym (ap (λ (w : WorkerNow). w.moment) same)) (le_refl old.moment);
-  given = λ g. subst (may_give clock) (sym (ap (λ (w : WorkerNow). w.moment) same)) g;
-  goes = λ g.
-      subst (λ (m : ℕ). GoesOn (may_give clock) old.moment m old.started old.center new.center) (sym (ap (λ (w : WorkerNow). w.moment) same))
-      (subst (λ (b : Bool). GoesOn (may_give clock) old.moment old.moment b old.center new.center) (sym on) (polls clock old.moment old.center new.center waits));
 }

@@ -165,9 +165,6 @@ lent_back {X} xs ys n count same =
     ∙ ap (take n) (append-nil ys)
     ∙ take_all n ys (omega (arith, count, same))
 
-pub written_back : {X : Type 0} (how : X → X → Type 0) (xs ys : List X) (n : ℕ) → n ≡ length xs → length ys ≡ length xs → OneByOne how xs ys → OneByOne how xs (take n (ys ++ drop (length ys) xs))
-written_back {X} how xs ys n count same all = subst (λ (zs : List X). OneByOne how xs zs) (sym (lent_back xs ys n count same)) all
-
 -- the moment of one worker more
 pub one_later : (start : ℕ) (workers : List WorkerNow) (k now next : ℕ) (w : WorkerNow) (moment : ℕ) → k < length workers → w ≡ get_or workers k w → moment ≡ w.moment →
     now ≡ latest start (take k workers) → next ≡ max now moment → next ≡ latest start (take (k + 1) workers)

@@ -10,9 +10,10 @@ use Rattle.m2_dispatch.specs.declared.parcel.Parcel.{Parcel}
 use Rattle.m2_dispatch.specs.m2_shared.Place.{Place}
 use Rattle.m2_dispatch.specs.m2_shared.declared.ids.Ids.{Ids}
 use Rattle.m2_mailbox.specs.Merge.{IsMerge}
-use Rattle.m2_mailbox.specs.Passes.{IsGetPassOf, IsPutPassOf, owner_of, parts_of, puts_of, taken_of}
+use Rattle.m2_mailbox.specs.Passes.{IsGetPassOf, IsPutPassOf, capacity_of, owner_of, parts_of, puts_of, taken_of}
 use Rattle.m2_mailbox.specs.Views.{all_parts}
 use Rattle.m2_mailbox.specs.declared.inbox.Inbox.{Inbox}
+use Rattle.m2_mailbox.specs.declared.inbox.TheConstants.{MOST_PARCELS}
 use Rattle.m2_mailbox.specs.declared.passes.GetPass.{GetPass}
 use Rattle.m2_mailbox.specs.declared.passes.PutPass.{PutPass}
 
@@ -41,12 +42,13 @@ pub record DispatchesFirst (old new : Queued (List Logged)) : Type 0 where
 abbrev pub Mail : Type 0
 Mail = Inbox Parcel Ids
 
--- an empty mail for what the throttle at this place has granted for, with all rights to it
+-- an empty mail for what the throttle at this place has granted for, with room for so many parcels, and all rights to it
 pub record IsNewMail (place : Place) (mail : Mail) (put : PutPass Parcel Ids) (get : GetPass Parcel Ids) : Type 0 where
   pub owner : (owner_of mail).place ≡ place
   pub puts : IsPutPassOf mail put
   pub gets : IsGetPassOf mail get
   pub whole : parts_of put ≡ all_parts
+  pub room : capacity_of mail ≡ MOST_PARCELS
   pub nothing_put : puts_of put ≡ [] ∷ []
   pub nothing_taken : taken_of get ≡ []
 

@@ -1,6 +1,6 @@
 -- What event threads hand on to the dispatcher of their node: each by a mail, into which it alone puts. And what the dispatcher was called
 -- with in the end. This project's own.
-use Rattle.std.specs.Prelude.{◌≡◌, ℕ, false, List, [], ◌∷◌, ◌++◌, length, map, slice_get, Some}
+use Rattle.std.specs.Prelude.{◌≡◌, false, List, [], ◌∷◌, ◌++◌, map}
 use Rattle.m2_bytes.specs.Items.{Holding}
 use Rattle.m2_dispatch.specs.Heard.{Heard, heard_by}
 use Rattle.m2_dispatch.specs.Parcel.{heard_for_all}
@@ -9,8 +9,9 @@ use Rattle.m2_dispatch.specs.declared.parcel.Parcel.{Parcel}
 use Rattle.m2_dispatch.specs.m2_shared.Place.{IsShared, Place}
 use Rattle.m2_dispatch.specs.m2_shared.declared.ids.Ids.{Ids}
 use Rattle.m2_mailbox.specs.Merge.{IsMerge}
-use Rattle.m2_mailbox.specs.Passes.{IsPutPassOf, owner_of, parts_of, puts_of}
+use Rattle.m2_mailbox.specs.Passes.{IsPutPassOf, capacity_of, owner_of, parts_of, puts_of}
 use Rattle.m2_mailbox.specs.Views.{all_parts}
+use Rattle.m2_mailbox.specs.declared.inbox.TheConstants.{MOST_PARCELS}
 use Rattle.m2_mailbox.specs.declared.passes.PutPass.{PutPass}
 use Rattle.m2_script.specs.m2_center.Center.{CenterNow}
 use Rattle.m2_run.specs.Dispatching.{DispatcherNow, Mail}
@@ -79,12 +80,13 @@ abbrev pub worker_of : SenderNow → WorkerNow
 worker_of s = s.worker
 
 -- What it has put and then what waits is what its center has handed on, in order. It is the only one who puts into this mail, which is for
--- what the node's throttle has granted for.
+-- what the node's throttle has granted for, and has room for so many parcels.
 pub record IsSending (mail : Mail) (s : SenderNow) : Type 0 where
   pub owner : (owner_of mail).place ≡ s.worker.throttle.place
   pub shared : IsShared s.worker.throttle.place
   pub ours : IsPutPassOf mail s.put
   pub whole : parts_of s.put ≡ all_parts
+  pub room : capacity_of mail ≡ MOST_PARCELS
   pub own : List Parcel
   pub puts : puts_of s.put ≡ own ∷ []
   pub handed : handed_by s.worker.center ≡ heard_for_all (own ++ s.waiting)

@@ -1,5 +1,5 @@
 -- What contracts see of a node of a run: of its event threads, and of what is left when they have ended. This project's own.
-use Rattle.std.specs.Prelude.{◌≡◌, List, [], ◌++◌, map}
+use Rattle.std.specs.Prelude.{◌≡◌, List, ◌++◌, map}
 use Rattle.std.specs.List.{AllByRecursion, flat_map}
 use Rattle.m2_addr.specs.declared.addr.Addr.{Addr}
 use Rattle.m2_script.specs.m2_center.Center.{CenterNow}

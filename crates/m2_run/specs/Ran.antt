@@ -19,7 +19,7 @@ use Rattle.m2_run.specs.Lists.{SideBySide}
 use Rattle.m2_run.specs.Nodes.{KeptNow, RunNodeNow, made_by, nodes_of}
 use Rattle.m2_run.specs.Once.{HasEachOnce}
 use Rattle.m2_run.specs.Opened.{AllAreThere, AreOpenedNodes, OpenedNow}
-use Rattle.m2_run.specs.Rests.{AreEndsOf, EndedNow, loose_of}
+use Rattle.m2_run.specs.Rests.{AreEndsOf, EndedNow, Shown, loose_of, shown_of}
 use Rattle.m2_run.specs.Still.{AllRest, AreStill}
 use Rattle.m2_run.specs.Types.{IsCenterOfTypes, IsOfTypes}
 use Rattle.m2_run.specs.Weaving.{HaveHistories, StopsAtLink}
@@ -80,15 +80,23 @@ EndsInFault cuts nodes links ran old new fault.NoMemory = Unit {0}
 EndsInFault cuts nodes links ran old new (fault.Bind node) = ⊥
 EndsInFault cuts nodes links ran old new (fault.Unfit u) = HasFinishedUnfit cuts nodes links ran old new u
 
+-- An observer was shown such an end: with want of memory it stays, or was shown what some nodes left.
+abbrev pub ShowsEnd : (saw : Shown → Type 0) (stays : Type 0) → List (Holding Cut) → List Node → List Link → List RunNodeNow → (old new : SeenFabric) → RunFault → Type 0
+ShowsEnd saw stays cuts nodes links ran old new fault.NoMemory = stays ⊎ ((shown : Shown) × saw shown)
+ShowsEnd saw stays cuts nodes links ran old new (fault.Bind node) = ⊥
+ShowsEnd saw stays cuts nodes links ran old new (fault.Unfit u) = (f : HasFinishedUnfit cuts nodes links ran old new u) × saw (shown_of f.kept f.ends)
+
 -- ---- a run
 
--- There is a kept run of the scenario, of this fabric before and after, and of this clock. The logs are its nodes', in order, of nodes alone, and so many
--- posts are left; each link has its history; and nothing is left, or the run has stalled.
+-- There is a kept run of the scenario, of this fabric before and after, and of this clock, in which the fabric counted no fault. The logs
+-- are its nodes', in order, of nodes alone, and so many posts are left; each link has its history; and nothing is left, or the run has
+-- stalled.
 pub record HasRan (may_give : ℕ → Type 0) (limit : ℕ) (nodes : List Node) (links : List Link) (lines : List Line) (old new : SeenFabric) (o : Outcome) : Type 0 where
   pub kept : List KeptNow
   pub start : ℕ
   pub stop : ℕ
   pub run : IsKeptRun may_give nodes links lines kept start stop old new
+  pub faults : new.faults ≡ old.faults
   pub ends : List EndedNow
   pub are_ends : AreEndsOf kept ends
   pub logs : SideBySide AreHeardAtEnd (nodes_of kept) (map heard_in o.logs.items)
@@ -103,12 +111,20 @@ pub record IsUnfitRun (may_give : ℕ → Type 0) (nodes : List Node) (links : L
   pub start : ℕ
   pub stop : ℕ
   pub run : IsKeptRun may_give nodes links lines kept start stop old new
+  pub faults : new.faults ≡ old.faults
   pub ends : List EndedNow
   pub are_ends : AreEndsOf kept ends
   pub stops : StopsAtLink ends (loose_of kept) links u
 
--- of want of memory nothing is said
+-- why nothing came of a run; with want of memory the fabric counted no fault
 abbrev pub IsFaultOf : (may_give : ℕ → Type 0) → List Node → List Link → List Line → (old new : SeenFabric) → RunFault → Type 0
-IsFaultOf may_give nodes links lines old new fault.NoMemory = Unit {0}
+IsFaultOf may_give nodes links lines old new fault.NoMemory = new.faults ≡ old.faults
 IsFaultOf may_give nodes links lines old new (fault.Bind node) = IsBindFault node nodes old new
 IsFaultOf may_give nodes links lines old new (fault.Unfit u) = IsUnfitRun may_give nodes links lines old new u
+
+-- What an observer was shown of a run of which nothing came. Where a node couldn't listen it stays; with want of memory it stays, or was
+-- shown what some nodes left; and where a link has no history it was shown what the run left.
+abbrev pub ShowsFault : (saw : Shown → Type 0) (stays : Type 0) (may_give : ℕ → Type 0) → List Node → List Link → List Line → (old new : SeenFabric) → RunFault → Type 0
+ShowsFault saw stays may_give nodes links lines old new fault.NoMemory = stays ⊎ ((shown : Shown) × saw shown)
+ShowsFault saw stays may_give nodes links lines old new (fault.Bind node) = stays
+ShowsFault saw stays may_give nodes links lines old new (fault.Unfit u) = (r : IsUnfitRun may_give nodes links lines old new u) × saw (shown_of r.kept r.ends)

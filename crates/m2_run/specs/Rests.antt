@@ -28,6 +28,15 @@ pub record EndedNow : Type 0 where
 abbrev pub loose_of : List KeptNow → List LooseNow
 loose_of kept = flat_map loose_at (reverse kept)
 
+-- what an observer is shown when all nodes have ended: what is left of each, in order, and the halves that no record took
+pub record Shown : Type 0 where
+  pub ends : List EndedNow
+  pub loose : List LooseNow
+
+-- that of these nodes, of which this is left
+abbrev pub shown_of : List KeptNow → List EndedNow → Shown
+shown_of kept ends = record { ends = ends; loose = loose_of kept }
+
 -- the port of the fabric inside that of a thread; one of a node that is off has none inside
 abbrev pub IsInside : (port : SeenPort) → Option SeenPort → Type 0
 IsInside port (Some inner) = IsPortOver port inner

@@ -9,10 +9,10 @@ ghost use Rattle.m2_fabric.specs.Fabric.{IsUnused};
 ghost use Rattle.m2_run.specs.Begins.{AddsWorkers, AreBeginning, AreDoorsAmid, AreDoorsOf, AreListening, AreNewAt, AreOfSound, ArePortsFor, ArePortsForNode, AreSendable, IsBeginning, IsNewDoor, IsNewHome, IsNewWay, IsOutIf, IsPortFor, steps_at};
 ghost use Rattle.m2_run.specs.Handing.{HasHandedNothing};
 ghost use Rattle.m2_run.specs.Homes.{steps_at_home};
+ghost use Rattle.m2_run.specs.Listening.{IsListeningFault};
 ghost use Rattle.m2_run.specs.Nodes.{IsServedBy};
 ghost use Rattle.m2_run.specs.Planned.{IsSendableStep, steps_in};
 ghost use Rattle.m2_run.specs.Ports.{seen_port};
-ghost use Rattle.m2_run.specs.Ran.{IsFaultOf};
 ghost use Rattle.m2_run.specs.Rooms.{HomeAt, homes_from, homes_if, homes_of, thread_of};
 ghost use Rattle.m2_run.specs.Sharing.{AreFirstOf, AreSharesOf, IsShare};
 ghost use Rattle.m2_run.specs.Way.{AreNodesOf, AreOut};
@@ -163,8 +163,8 @@ impl<'a, E: End, B: Inboxes<E>> Doors<'a, E, B> {
 }
 
 /// The nodes of a valid scenario, each with its workers, in order, at the moment of the start. Each that is started listens, and
-/// has its ports of the fabric. The messages are moved out of the lines into the records' plans.
-#[tactic(auto, using(crate::proofs::Listens::listening_fault))]
+/// has its ports of the fabric. The messages are moved out of the lines into the records' plans. Err: a node couldn't listen, or
+/// memory ran out.
 pub(crate) fn begin<'a, 's, R, F, C, W, B>(
     rt: R,
     alloc: Global,
@@ -192,7 +192,8 @@ where
     ensures workers { IfOk result (λ b. AreWorkersOf nodes.now shares.now b.start b.workers.items) }
     ensures none { IfOk result (λ b. AllByRecursion HasHandedNothing b.workers.items) }
     ensures out { IfOk result (λ _. AreOut nodes.now (F.seen fabric.old) (F.seen fabric.new)) }
-    ensures err { IfErr result (IsFaultOf (C.may_give clock.now) nodes.now links.now lines.items (F.seen fabric.old) (F.seen fabric.new)) }
+    ensures faults { IfOk result (λ _. (F.seen fabric.new).faults ≡ (F.seen fabric.old).faults) }
+    ensures err { IfErr result (λ fault. IsListeningFault fault nodes.now (F.seen fabric.old) (F.seen fabric.new)) }
 {
     if let Err(fault) = listen_all(fabric, nodes) {
         return Err(fault);
@@ -236,6 +237,7 @@ where
     ensures nodes { IfOk result (λ workers. AreBeginning nodes.now links.now (steps_in lines.items) 0 nodes.now workers.items) }
     ensures workers { IfOk result (λ workers. AreWorkersOf nodes.now shares.now start workers.items) }
     ensures out { IfOk result (λ _. AreOut nodes.now (F.seen fabric.old) (F.seen fabric.new)) }
+    ensures faults { (F.seen fabric.new).faults ≡ (F.seen fabric.old).faults }
 {
     let counts = counts_of(alloc, nodes.len(), links, lines.as_slice())?;
     let ports = ports_of(rt, alloc, nodes, lines.as_slice(), fabric, doors)?;
@@ -264,6 +266,7 @@ where
     requires doors { AreDoorsOf (slice_get B.inboxes) (homes_of nodes.now) doors }
     ensures ports { IfOk result (λ ports. ArePortsFor nodes.now (map (λ ps. ps.items) ports.items)) }
     ensures out { IfOk result (λ _. AreOut nodes.now (F.seen fabric.old) (F.seen fabric.new)) }
+    ensures faults { (F.seen fabric.new).faults ≡ (F.seen fabric.old).faults }
 {
     let mut ports = Vec::with_capacity(alloc, nodes.len())?;
     'nodes: for k in 0..nodes.len() {
@@ -292,6 +295,7 @@ where
     requires doors { IfSome (slice_get nodes.now k) (λ x. (rest : List HomeAt) × AreDoorsOf (slice_get B.inboxes) (homes_if x.started x.centers ++ rest) doors.old) }
     ensures ports { IfOk result (λ ports. IfSome (slice_get nodes.now k) (λ x. ArePortsForNode x ports.items)) }
     ensures out { IfOk result (λ _. IfSome (slice_get nodes.now k) (λ x. IsOutIf k x (F.seen fabric.old) (F.seen fabric.new))) }
+    ensures faults { (F.seen fabric.new).faults ≡ (F.seen fabric.old).faults }
     ensures doors { IfOk result (λ _. IfSome (slice_get nodes.now k) (λ x. (rest : List HomeAt) → AreDoorsOf (slice_get B.inboxes) (homes_if x.started x.centers ++ rest) doors.old → AreDoorsOf (slice_get B.inboxes) rest doors.new)) }
 {
     let node = &nodes[k as usize];
@@ -333,6 +337,7 @@ where
     requires doors { IfSome (slice_get nodes.now k) (λ x. (rest : List HomeAt) × AreDoorsOf (slice_get B.inboxes) (homes_from 0 x.centers x.centers ++ rest) doors.old) }
     ensures ports { IfOk result (λ ports. IfSome (slice_get nodes.now k) (λ x. ArePortsForNode x ports.items)) }
     ensures out { IfOk result (λ _. IfSome (slice_get nodes.now k) (λ x. IsOutIf k x (F.seen fabric.old) (F.seen fabric.new))) }
+    ensures faults { (F.seen fabric.new).faults ≡ (F.seen fabric.old).faults }
     ensures doors { IfOk result (λ _. IfSome (slice_get nodes.now k) (λ x. (rest : List HomeAt) → AreDoorsOf (slice_get B.inboxes) (homes_from 0 x.centers x.centers ++ rest) doors.old → AreDoorsOf (slice_get B.inboxes) rest doors.new)) }
 {
     let node = &nodes[k as usize];

@@ -49,6 +49,7 @@ pub(crate) fn gather_all<F: Fabric>(
         AllGathered cuts.now nodes.now kept (F.seen fabric.old) (F.seen fabric.new)) }
     ensures ports { IfOk result (λ _. ArePortsTold nodes.now ends.entry.items (F.seen fabric.new)) }
     ensures logs { IfOk result (λ logs. (kept : List KeptNow) → AreEndsOf kept ends.entry.items → map heard_in logs.items ≡ map heard_at_once (nodes_of kept)) }
+    ensures faults { (F.seen fabric.new).faults ≡ (F.seen fabric.old).faults }
 {
     let Ok(mut logs) = Vec::with_capacity(alloc, ends.len()) else {
         throw_away_ends(ends);
@@ -86,6 +87,7 @@ fn gather_node<F: Fabric>(
     ensures gives_back { OnOk result (GivesBack cuts.now node.now.started place ended.entry (take ended.entry.halves (into_iter_items loose.old)) (F.seen fabric.old) (F.seen fabric.new)) }
     ensures loose { OnOk result (into_iter_items loose.new ≡ drop ended.entry.halves (into_iter_items loose.old)) }
     ensures log { IfOk result (λ log. log.items ≡ flat_map (λ (c : EndedCenterNow). c.fast) ended.entry.centers) }
+    ensures faults { (F.seen fabric.new).faults ≡ (F.seen fabric.old).faults }
 {
     let Ended { centers, halves } = ended;
     let count = centers.len();
@@ -118,6 +120,7 @@ fn give_back_if<F: Fabric>(
     requires { node.now.started ≡ true → (F.seen fabric.old).out place ≡ Some node.now.centers }
     ensures gathers { OnOk result (GathersIf node.now.started place (record { ports = map F.Port.seen ports.items; ends = map F.Port.End.seen ends.items }) (F.seen fabric.old) (F.seen fabric.new)) }
     ensures whole { OnOk result (node.now.started ≡ true → length ports.items ≡ count) }
+    ensures faults { (F.seen fabric.new).faults ≡ (F.seen fabric.old).faults }
 {
     if !node.started {
         return Ok(());

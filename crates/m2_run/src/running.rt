@@ -6,12 +6,14 @@ ghost use Rattle.std.specs.List.{AllByRecursion};
 ghost use Rattle.m2_run.specs.Begins.{AreDoorsOf};
 ghost use Rattle.m2_run.specs.Cuts.{AreCutsOf, cuts_at};
 ghost use Rattle.m2_run.specs.Handing.{AreBoth, HasHandedNothing, IsLogOf};
+ghost use Rattle.m2_run.specs.Listening.{IsListeningFault};
 ghost use Rattle.m2_run.specs.Lists.{SideBySide};
 ghost use Rattle.m2_run.specs.Nodes.{RunNodeNow};
 ghost use Rattle.m2_run.specs.Opened.{AreOpenedNodes, HasRoomsFor, OpenedNow, made_of_all};
 ghost use Rattle.m2_run.specs.Settling.{HasPlayed, HasStopped};
 ghost use Rattle.m2_run.specs.declared.outcome.RunFault.TheVariants as faults;
-ghost use Rattle.m2_run.specs.Ran.{AreLeftBy, EndsInFault, HasFinished, HasRan, IsFaultOf, fault_told};
+ghost use Rattle.m2_run.specs.Ran.{AreLeftBy, EndsInFault, HasFinished, HasRan, IsFaultOf, ShowsEnd, ShowsFault, fault_told};
+ghost use Rattle.m2_run.specs.Rests.{shown_of};
 ghost use Rattle.m2_run.specs.Rooms.{AreRoomsOf, homes_of};
 ghost use Rattle.m2_run.specs.Sharing.{AreRights, AreSharesOf, IsShare};
 ghost use Rattle.m2_run.specs.Still.{IsAtRest};
@@ -55,7 +57,10 @@ use std::thread::Threads;
 
 /// Runs the nodes of a valid scenario on threads, over the ports of a fabric, until every post of its lossless links that
 /// stay up was dispatched, or until all is still and nothing productive happened for `limit` milliseconds. Each node has as many
-/// threads as the scenario says. The observer sees the nodes when they have ended; what it sees is what the answer says of them.
+/// threads as the scenario says.
+///
+/// The observer sees the nodes when they have ended, once: with Ok and with Unfit it has seen what is left of the nodes of the run
+/// that the answer tells. With Bind it is as it was; with NoMemory it is so, or has seen what nodes left.
 pub fn run<R, F, C, W, G, V>(
     rt: &R,
     alloc: Global,
@@ -81,6 +86,8 @@ where
     requires { IsSound nodes.now links.now (map draft_line lines.items) }
     ensures ok { IfOk result (HasRan (C.may_give clock.now) limit nodes.now links.now lines.items (F.seen fabric.old) (F.seen fabric.new)) }
     ensures err { IfErr result (IsFaultOf (C.may_give clock.now) nodes.now links.now lines.items (F.seen fabric.old) (F.seen fabric.new)) }
+    ensures shown { IfOk result (λ o. (r : HasRan (C.may_give clock.now) limit nodes.now links.now lines.items (F.seen fabric.old) (F.seen fabric.new) o) × V.saw (shown_of r.kept r.ends) observer.old observer.new) }
+    ensures fault_shown { IfErr result (ShowsFault (λ shown. V.saw shown observer.old observer.new) (observer.new ≡ observer.old) (C.may_give clock.now) nodes.now links.now lines.items (F.seen fabric.old) (F.seen fabric.new)) }
 {
     match grounds_of(alloc, nodes, lines.as_slice()) {
         Err(NoMemory) => Err(RunFault::NoMemory),
@@ -152,6 +159,8 @@ where
     requires shared { AreSharesOf (length nodes.now) grounds.shared.shares.items grounds.shared.passes.items }
     ensures ok { IfOk result (HasRan (C.may_give clock.now) limit nodes.now links.now lines.items (F.seen fabric.old) (F.seen fabric.new)) }
     ensures err { IfErr result (IsFaultOf (C.may_give clock.now) nodes.now links.now lines.items (F.seen fabric.old) (F.seen fabric.new)) }
+    ensures shown { IfOk result (λ o. (r : HasRan (C.may_give clock.now) limit nodes.now links.now lines.items (F.seen fabric.old) (F.seen fabric.new) o) × V.saw (shown_of r.kept r.ends) observer.old observer.new) }
+    ensures fault_shown { IfErr result (ShowsFault (λ shown. V.saw shown observer.old observer.new) (observer.new ≡ observer.old) (C.may_give clock.now) nodes.now links.now lines.items (F.seen fabric.old) (F.seen fabric.new)) }
 {
     let Grounds {
         cuts,
@@ -181,6 +190,7 @@ where
 }
 
 /// The same, where the threads of each node share these.
+#[tactic(auto, using(crate::proofs::Listens::listening_fault, crate::proofs::Listens::listening_shown))]
 fn run_shared<R, F, C, W, G, N, V>(
     rt: &R,
     alloc: Global,
@@ -215,6 +225,8 @@ where
     requires shares { AreSharesOf (length nodes.now) shares.now passes.items }
     ensures ok { IfOk result (HasRan (C.may_give clock.now) limit nodes.now links.now lines.items (F.seen fabric.old) (F.seen fabric.new)) }
     ensures err { IfErr result (IsFaultOf (C.may_give clock.now) nodes.now links.now lines.items (F.seen fabric.old) (F.seen fabric.new)) }
+    ensures shown { IfOk result (λ o. (r : HasRan (C.may_give clock.now) limit nodes.now links.now lines.items (F.seen fabric.old) (F.seen fabric.new) o) × V.saw (shown_of r.kept r.ends) observer.old observer.new) }
+    ensures fault_shown { IfErr result (ShowsFault (λ shown. V.saw shown observer.old observer.new) (observer.new ≡ observer.old) (C.may_give clock.now) nodes.now links.now lines.items (F.seen fabric.old) (F.seen fabric.new)) }
 {
     let Rooms {
         inboxes,
@@ -305,7 +317,8 @@ where
     ensures stopped { IfOk result (λ s. (start stop : ℕ) × (ran : List RunNodeNow) × HasStopped (C.may_give clock.now) limit nodes.now links.now lines.items cuts.now start stop ran s.left s.all.items × SideBySide IsLogOf ran s.logs.items) }
     ensures rooms { IfOk result (λ s. HasRoomsFor (slice_get B.inboxes) 0 s.all.items) }
     ensures out { IfOk result (λ _. AreOut nodes.now (F.seen fabric.old) (F.seen fabric.new)) }
-    ensures err { IfErr result (IsFaultOf (C.may_give clock.now) nodes.now links.now lines.items (F.seen fabric.old) (F.seen fabric.new)) }
+    ensures faults { IfOk result (λ _. (F.seen fabric.new).faults ≡ (F.seen fabric.old).faults) }
+    ensures err { IfErr result (λ fault. IsListeningFault fault nodes.now (F.seen fabric.old) (F.seen fabric.new)) }
 {
     let Ok(rights) = rights_of(alloc, shares, &mut passes) else {
         return Err(RunFault::NoMemory);
@@ -455,6 +468,9 @@ fn finish<F: Fabric, V: Observer<F::Port>>(
     requires out { ArePortsOut nodes.now (F.seen fabric.old) }
     ensures ok { IfOk result (λ o. (ran : List RunNodeNow) → AreLeftBy cuts.now ran all.entry.items → SideBySide IsLogOf ran logs.items → HasFinished left cuts.now nodes.now links.now ran (F.seen fabric.old) (F.seen fabric.new) o) }
     ensures err { IfErr result (λ fault. (ran : List RunNodeNow) → AreLeftBy cuts.now ran all.entry.items → EndsInFault cuts.now nodes.now links.now ran (F.seen fabric.old) (F.seen fabric.new) fault) }
+    ensures shown { IfOk result (λ o. (ran : List RunNodeNow) → AreLeftBy cuts.now ran all.entry.items → SideBySide IsLogOf ran logs.items → (f : HasFinished left cuts.now nodes.now links.now ran (F.seen fabric.old) (F.seen fabric.new) o) × V.saw (shown_of f.kept f.ends) observer.old observer.new) }
+    ensures fault_shown { IfErr result (λ fault. (ran : List RunNodeNow) → AreLeftBy cuts.now ran all.entry.items → ShowsEnd (λ shown. V.saw shown observer.old observer.new) (observer.new ≡ observer.old) cuts.now nodes.now links.now ran (F.seen fabric.old) (F.seen fabric.new) fault) }
+    ensures faults { (F.seen fabric.new).faults ≡ (F.seen fabric.old).faults }
 {
     if !is_over(left, all.as_slice()) {
         throw_away_opened(all);

@@ -1,9 +1,9 @@
 //! An event thread and its mail.
 
-ghost use Rattle.std.specs.Prelude.{◌≡◌, true, IfSome, slice_get};
+ghost use Rattle.std.specs.Prelude.{◌≡◌, ◌⊎◌, [], true, IfSome, slice_get};
 ghost use Rattle.m2_dispatch.specs.Parcel.{AllOwned};
 ghost use Rattle.m2_dispatch.specs.m2_shared.Place.{IsShared};
-ghost use Rattle.m2_mailbox.specs.Passes.{IsPutPassOf, owner_of};
+ghost use Rattle.m2_mailbox.specs.Passes.{IsPutPassOf, WasFull, owner_of};
 ghost use Rattle.m2_run.specs.Dispatching.{Mail as MailNow};
 ghost use Rattle.m2_run.specs.Handing.{IsSending};
 ghost use Rattle.m2_run.specs.Working.{WorkerNow, Works};
@@ -100,8 +100,8 @@ impl<'s, P: Port> Sender<'s, P> {
         unreachable!()
     }
 
-    /// One turn, unless the signs say stop, or something waits for room in the mail, in which case the thread waits until there is
-    /// some. Whether the signs didn't say so.
+    /// One turn, unless the signs say stop, or something waits for room in the mail, in which case nothing more is handed on, and the
+    /// thread waits until there is some. Whether the signs didn't say so.
     fn go_on<R: Wait, C: Clock, G: Gate>(
         &mut self,
         rt: &R,
@@ -114,6 +114,7 @@ impl<'s, P: Port> Sender<'s, P> {
         requires shared { IsShared self.old.worker.throttle.place }
         ensures works { Works (C.may_give clock.now) self.old.worker self.new.worker }
         ensures sends { (mail : MailNow) → IsSending mail self.old → IsSending mail self.new }
+        ensures waits { (self.old.waiting ≡ []) ⊎ ((self.new.waiting ≡ self.old.waiting) × (self.new.worker.center.queued ≡ self.old.worker.center.queued)) }
     {
         if self.waiting.is_empty() {
             self.worker
@@ -123,11 +124,12 @@ impl<'s, P: Port> Sender<'s, P> {
         }
     }
 
-    /// Puts what waits into the mail, in order, as far as there is room.
+    /// Puts what waits into the mail, in order, as far as there is room: what waits still does so since the mail was full.
     fn post<R: Wait>(&mut self, rt: &R, mail: &Mail)
         requires { IsSending mail.now self.old }
         ensures worker { self.new.worker ≡ self.old.worker }
         ensures sends { IsSending mail.now self.new }
+        ensures full { (self.new.waiting ≡ []) ⊎ WasFull mail.now self.new.put }
     {
         if put_all(rt, mail, &mut self.put, &mut self.waiting) {
             self.worker.tell_posted();
@@ -147,6 +149,7 @@ fn put_all<R: Wait>(
     ensures owned { AllOwned (owner_of mail.now).place waiting.new.items }
     ensures sends { (w : WorkerNow) → IsSending mail.now (record { worker = w; put = put.old; waiting = waiting.old.items })
         → IsSending mail.now (record { worker = w; put = put.new; waiting = waiting.new.items }) }
+    ensures full { (waiting.new.items ≡ []) ⊎ WasFull mail.now put.new }
 {
     let mut any = false;
     'parcels: while let Some(parcel) = waiting.pop_front() {

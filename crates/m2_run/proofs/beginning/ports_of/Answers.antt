@@ -1,8 +1,7 @@
 -- The ports of one node more.
-use Rattle.std.proofs.Common.{◌≡◌, ◌∙◌, ◌+◌, ◌++◌, List, Some, drop, map, ap, sym, subst}
+use Rattle.std.proofs.Common.{◌∙◌, ◌+◌, ◌++◌, List, drop, map, ap, subst}
 use Rattle.std.specs.Prelude.{slice_get}
 use Rattle.std.proofs.lemmas.List.{map_push}
-use Rattle.m2_scenario.specs.declared.node.Node.{Node}
 use Rattle.m2_script.proofs.SoFar.{of_some}
 use Rattle.m2_run.specs.Begins.{AreDoorsOf}
 use Rattle.m2_run.specs.Rooms.{HomeAt, homes_if, homes_of}
@@ -35,6 +34,7 @@ nodes-preserved g c =
       ports = its_ports_more nodes l.k its.items (map (λ ps. ps.items) l.ports.items) (map (λ ps. ps.items) c.push.new.self.items) l.invariant.ports c.in_ok-its.ensures.ports
           (ap (map (λ ps. ps.items)) c.in_ok-push.ensures.items ∙ map_push (λ ps. ps.items) l.ports.items its);
       out = one_out_more nodes l.k (g.F.Fabric.seen c.args.fabric.now) (g.F.Fabric.seen l.fabric) (g.F.Fabric.seen c.ports_at.new.fabric) c.nodes-test.true l.invariant.out c.in_ok-its.ensures.out;
+      faults = c.ports_at.ensures.faults ∙ l.invariant.faults;
       doors = of_some (slice_get nodes l.k) (λ y. (rest : List HomeAt) → AreDoorsOf inbox (homes_if y.started y.centers ++ rest) l.doors → AreDoorsOf inbox rest c.ports_at.new.doors) x.item x.there
           c.in_ok-its.ensures.doors (homes_of (drop (l.k + 1) nodes)) (subst (λ hs. AreDoorsOf inbox hs l.doors) (homes_next nodes l.k x.item x.there) l.invariant.doors);
     }

@@ -1,5 +1,5 @@
 -- One port more.
-use Rattle.std.proofs.Common.{◌≡◌, ◌∙◌, ◌++◌, true, [], List, Some, map, ap, sym, subst, arith}
+use Rattle.std.proofs.Common.{◌≡◌, ◌∙◌, true, [], List, Some, map, ap, sym, subst, arith}
 use Rattle.std.specs.Prelude.{slice_get}
 use Rattle.std.proofs.lemmas.List.{nil_from_length}
 use Rattle.std.proofs.lemmas.Option.{slice_get-get_or}

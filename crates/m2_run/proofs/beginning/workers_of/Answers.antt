@@ -7,7 +7,8 @@ use Rattle.m2_script.proofs.SoFar.{if_some, of_some}
 use Rattle.m2_run.specs.Begins.{AddsWorkers, ArePortsForNode, items_of, steps_at}
 use Rattle.m2_run.specs.Sharing.{AreFirstOf, IsShare, ShareNow}
 use Rattle.m2_run.specs.declared.planning.StepTowards.{StepTowards}
-use Rattle.m2_run.proofs.Places.{side_at, there_at}
+use Rattle.m2_run.proofs.Beside.{side_get}
+use Rattle.m2_run.proofs.Places.{there_at}
 use Rattle.m2_run.proofs.WorkersBegin.{all_made, next_there, none_made, one_made_more, rest_next}
 use Rattle.m2_run.proofs.beginning.workers_of.Goals as goal
 
@@ -48,7 +49,7 @@ add_workers-added-requires-clause-passes g c =
     let s : ShareNow = c.index-shares-k.result in
     let part = c.in-Some.part in
     let within : l.k < length shares = let count = c.requires.shares.count in let test = c.nodes-test.true in omega (arith, count, test) in
-    side_at AreFirstOf shares c.args.passes.items l.k s part.passes c.requires.shares.first (slice_get-get_or shares l.k s within ∙ ap Some (sym c.index-shares-k.is))
+    side_get AreFirstOf shares c.args.passes.items c.requires.shares.first l.k s part.passes (slice_get-get_or shares l.k s within ∙ ap Some (sym c.index-shares-k.is))
     (next_there c.args.passes.items _ part.passes l.k (sym l.invariant.passes ∙ c.in-Some.ensures.passes))
 
 pub nodes-preserved : goal.nodes-preserved

@@ -1,7 +1,6 @@
 -- One node more, and at the end all.
-use Rattle.std.proofs.Common.{◌≡◌, ◌∙◌, ◌+◌, ◌-◌, ◌++◌, ◌≤◌, false, sym, ap, subst, [], ◌∷◌, length, length-append, map, arith}
-use Rattle.std.specs.Prelude.{OnOk, Result, Ok, Err, vec_capacity, vec_len}
-use Rattle.std.specs.Result.{is_err}
+use Rattle.std.proofs.Common.{◌≡◌, ◌∙◌, ◌+◌, ◌-◌, ◌++◌, ◌≤◌, sym, ap, subst, [], ◌∷◌, length, length-append, map, arith}
+use Rattle.std.specs.Prelude.{OnOk, vec_capacity, vec_len}
 use Rattle.m2_run.specs.Opened.{LeftNow, OpenedNow, untold}
 use Rattle.m2_run.specs.Rests.{EndedNow}
 use Rattle.m2_run.proofs.Lasts.{halves_of, none_joined, one_joined, so_on_ok}

@@ -1,5 +1,5 @@
 -- One node more, and at the end all.
-use Rattle.std.proofs.Common.{rules, ◌≡◌, ◌<◌, ◌∙◌, true, Some, [], ◌∷◌, ap, arith, length, length-append, map, subst, sym, take}
+use Rattle.std.proofs.Common.{rules, ◌≡◌, ◌<◌, ◌∙◌, true, Some, [], ◌∷◌, ap, arith, length, length-append, map, refl, subst, sym, take}
 use Rattle.m2_bytes.specs.Items.{Holding}
 use Rattle.m2_dispatch.specs.declared.logged.Logged.{Logged}
 use Rattle.m2_fabric.specs.declared.port.Cut.{Cut}
@@ -15,6 +15,7 @@ pub nodes-init : goal.nodes-init
 nodes-init g c = record {
   in_hand = all_in_hand c.args.cuts.now c.args.nodes.now c.args.ends.items c.args.loose.items c.into_iter-loose.result.rest.items c.in-Ok.logs.items (g.F.Fabric.seen c.args.fabric.now) c.requires.out
       (c.into_iter-loose.ensures.rest ∙ c.into_vec.ensures) c.in-Ok.ensures.items;
+  faults = refl;
   few = omega (arith, c.requires.count);
   room = omega (arith, c.in-Ok.ensures.capacity, c.in-Ok.ensures.len, c.len.ensures);
 }
@@ -45,6 +46,7 @@ nodes-preserved g c =
       in_hand = one_more c.args.cuts.now c.args.nodes.now c.args.ends.items l.ends.items c.pop.new.self.items c.in-Some.ended c.args.loose.items l.loose.rest.items c.gather_node.new.loose.rest.items
           l.logs.items c.push_reserved.new.self.items c.in-Ok-gather_node.log (seen c.args.fabric.now) (seen l.fabric) (seen c.gather_node.new.fabric) c.len-place.result x
           its l.invariant.in_hand last (omega (arith, c.len-place.ensures)) l.invariant.few own gives told.loose c.push_reserved.ensures.items told.log;
+      faults = c.gather_node.ensures.faults ∙ l.invariant.faults;
       few = omega (arith, l.invariant.few, ap length last, one);
       room = omega (arith, l.invariant.room, c.push_reserved.ensures.len, c.push_reserved.ensures.capacity, ap length last, one);
     }

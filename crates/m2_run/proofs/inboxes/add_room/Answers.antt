@@ -1,5 +1,5 @@
 -- It goes last.
-use Rattle.std.proofs.Common.{◌≡◌, ◌∙◌, ◌++◌, [], ◌∷◌, List, ap, sym, subst}
+use Rattle.std.proofs.Common.{◌∙◌, ◌++◌, [], ◌∷◌, ap, sym, subst}
 use Rattle.m2_trail.specs.declared.home.HomeOf.{HomeOf}
 use Rattle.m2_run.specs.Rooms.{AreRoomsOf, thread_of}
 use Rattle.m2_run.proofs.InboxLists.{one_room_more}

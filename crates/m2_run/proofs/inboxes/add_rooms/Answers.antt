@@ -1,5 +1,5 @@
 -- One more.
-use Rattle.std.proofs.Common.{◌≡◌, [], ◌++◌, sym, subst}
+use Rattle.std.proofs.Common.{sym, subst}
 use Rattle.std.proofs.lemmas.List.{append-nil}
 use Rattle.m2_run.specs.Rooms.{AreRoomsOf}
 use Rattle.m2_run.proofs.InboxLists.{one_thread_more}

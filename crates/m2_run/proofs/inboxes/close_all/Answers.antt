@@ -1,5 +1,5 @@
 -- From the last one on.
-use Rattle.std.proofs.Common.{◌≡◌, ◌∙◌, reverse, ap, sym, subst}
+use Rattle.std.proofs.Common.{◌∙◌, reverse, ap, sym, subst}
 use Rattle.std.specs.Prelude.{slice_get}
 use Rattle.std.proofs.lemmas.List.{reverse-reverse}
 use Rattle.m2_run.specs.Opened.{HasRoomsFor}

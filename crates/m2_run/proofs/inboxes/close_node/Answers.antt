@@ -1,5 +1,5 @@
 -- They are closed by all its rights.
-use Rattle.std.proofs.Common.{◌≡◌, reverse, refl, ap, sym, subst}
+use Rattle.std.proofs.Common.{reverse, refl, ap, sym, subst}
 use Rattle.m2_run.specs.Closing.{AreAllRightsTo, AreLeftOver}
 use Rattle.m2_run.specs.Opened.{LeftNow, OpenedNow}
 use Rattle.m2_run.proofs.Closes.{closed_over, rights_of_node}

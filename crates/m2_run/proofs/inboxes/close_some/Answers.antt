@@ -1,5 +1,5 @@
 -- One more is closed.
-use Rattle.std.proofs.Common.{◌≡◌, ◌∙◌, [], ◌∷◌, ◌++◌, drop, length, reverse, ap, rules, sym, subst}
+use Rattle.std.proofs.Common.{◌≡◌, ◌∙◌, [], drop, length, reverse, ap, sym, subst}
 use Rattle.std.proofs.lemmas.Bool.{eqb-true}
 use Rattle.std.proofs.lemmas.List.{length-reverse, nil_from_length, reverse-reverse}
 use Rattle.m2_run.specs.Closing.{AreAllRightsTo}

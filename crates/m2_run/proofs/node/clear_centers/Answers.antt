@@ -1,9 +1,7 @@
 -- Those that are left, and the last of them.
-use Rattle.std.proofs.Common.{List, [], ◌∷◌, subst}
+use Rattle.std.proofs.Common.{[], ◌∷◌, subst}
 use Rattle.std.specs.List.{AllByRecursion}
 use Rattle.m2_bytes.proofs.m2_lemmas.Lists.{all_back, all_front}
-use Rattle.m2_script.specs.m2_center.Center.{CenterNow}
-use Rattle.m2_dispatch.specs.declared.logged.Logged.{Logged}
 use Rattle.m2_run.specs.Nodes.{IsServedBy}
 use Rattle.m2_run.proofs.node.clear_centers.Goals as goal
 

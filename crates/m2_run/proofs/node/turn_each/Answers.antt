@@ -1,12 +1,9 @@
 -- One center more has taken its turn, and what it has handed on is dispatched.
-use Rattle.std.proofs.Common.{◌≡◌, ◌<◌, ◌++◌, [], Some, List, length, ap, subst, sym, ◌∙◌, arith}
+use Rattle.std.proofs.Common.{◌≡◌, ◌<◌, Some, length, ap, subst, sym, ◌∙◌, arith}
 use Rattle.std.specs.Prelude.{slice_get}
 use Rattle.std.proofs.lemmas.Option.{slice_get-get_or}
-use Rattle.m2_dispatch.specs.Heard.{heard_by}
 use Rattle.m2_dispatch.specs.Parcel.{AllOwned}
-use Rattle.m2_dispatch.specs.declared.parcel.Parcel.{Parcel}
 use Rattle.m2_dispatch.specs.m2_shared.Place.{Place}
-use Rattle.m2_script.specs.m2_center.m2_turn.HandingOn.{HandsOn}
 use Rattle.m2_run.specs.Nodes.{IsServedBy}
 use Rattle.m2_run.specs.Way.{TurnsSo}
 use Rattle.m2_run.specs.declared.end.RunEnd.{RunEnd}

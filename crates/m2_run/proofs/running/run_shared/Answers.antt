@@ -6,7 +6,7 @@ use Rattle.m2_run.specs.Begins.{AreDoorsOf}
 use Rattle.m2_run.specs.Opened.{AllClosed, HasRoomsFor, OpenedNow}
 use Rattle.m2_run.specs.Ran.{AreLeftBy}
 use Rattle.m2_run.specs.Rooms.{homes_of}
-use Rattle.m2_run.proofs.Runs.{are_left, has_faulted, has_ran, rooms_named}
+use Rattle.m2_run.proofs.Runs.{are_left, has_faulted, has_ran, rooms_named, shows_fault}
 use Rattle.m2_run.proofs.Workers.{lent_back}
 use Rattle.m2_run.proofs.running.run_shared.Goals as goal
 
@@ -53,7 +53,7 @@ returns-clause-ok g c =
     (subst (λ (os : List OpenedNow). AllClosed os closed) same c.in-Ok-close_all.ensures)) in
     IfOk-weaker c.finish.result _ _
     (λ o f. has_ran may c.args.limit nodes links lines cuts stopped.0 stopped.1 stopped.2 left all.items (seen c.args.fabric.now) (seen c.run_threads-played.new.fabric) (seen c.finish.new.fabric) stopped.3
-    c.requires.cuts c.in-Ok.ensures.out o (f stopped.2 by stopped.4)) c.finish.ensures.ok
+    c.requires.cuts c.in-Ok.ensures.out (c.finish.ensures.faults ∙ c.in-Ok.ensures.faults) o (f stopped.2 by stopped.4)) c.finish.ensures.ok
 
 pub returns-clause-err : goal.returns-clause-err
 returns-clause-err g c =
@@ -74,4 +74,49 @@ returns-clause-err g c =
     (subst (λ (os : List OpenedNow). AllClosed os closed) same c.in-Ok-close_all.ensures)) in
     IfErr-weaker c.finish.result _ _
     (λ f ends. has_faulted may c.args.limit nodes links lines cuts stopped.0 stopped.1 stopped.2 left all.items (seen c.args.fabric.now) (seen c.run_threads-played.new.fabric) (seen c.finish.new.fabric) stopped.3
-    c.requires.cuts c.in-Ok.ensures.out f (ends stopped.2 by)) c.finish.ensures.err
+    c.requires.cuts c.in-Ok.ensures.out (c.finish.ensures.faults ∙ c.in-Ok.ensures.faults) f (ends stopped.2 by)) c.finish.ensures.err
+
+pub returns-clause-shown : goal.returns-clause-shown
+returns-clause-shown g c =
+    let may = g.C.Clock.may_give c.args.clock.now in
+    let seen = g.F.Fabric.seen in
+    let nodes = c.args.nodes.now in
+    let links = c.args.links.now in
+    let lines = c.args.lines.items in
+    let cuts = c.args.cuts.now in
+    let all = c.in-Ok.field-0.all in
+    let left = c.in-Ok.field-0.left in
+    let closed = c.close_all.new.ends in
+    let same = c.as_mut_slice.ensures.value in
+    let stopped = c.in-Ok.ensures.stopped in
+    let back = lent_back all.items closed all.len (sym c.as_mut_slice.ensures.len ∙ ap length same) (subst (λ (os : List OpenedNow). length closed ≡ length os) same c.close_all.auto.ends) in
+    let by = subst (AreLeftBy cuts stopped.2) (sym back)
+    (are_left may c.args.limit nodes links lines cuts stopped.0 stopped.1 stopped.2 left all.items closed stopped.3 (c.centers_run_their_course.ensures c.args.clock.now stopped.1)
+    (subst (λ (os : List OpenedNow). AllClosed os closed) same c.in-Ok-close_all.ensures)) in
+    IfOk-weaker c.finish.result _ _
+    (λ o f. (
+      has_ran may c.args.limit nodes links lines cuts stopped.0 stopped.1 stopped.2 left all.items (seen c.args.fabric.now) (seen c.run_threads-played.new.fabric) (seen c.finish.new.fabric) stopped.3
+          c.requires.cuts c.in-Ok.ensures.out (c.finish.ensures.faults ∙ c.in-Ok.ensures.faults) o (f stopped.2 by stopped.4).0,
+      (f stopped.2 by stopped.4).1,
+    )) c.finish.ensures.shown
+
+pub returns-clause-fault_shown : goal.returns-clause-fault_shown
+returns-clause-fault_shown g c =
+    let may = g.C.Clock.may_give c.args.clock.now in
+    let seen = g.F.Fabric.seen in
+    let nodes = c.args.nodes.now in
+    let links = c.args.links.now in
+    let lines = c.args.lines.items in
+    let cuts = c.args.cuts.now in
+    let all = c.in-Ok.field-0.all in
+    let left = c.in-Ok.field-0.left in
+    let closed = c.close_all.new.ends in
+    let same = c.as_mut_slice.ensures.value in
+    let stopped = c.in-Ok.ensures.stopped in
+    let back = lent_back all.items closed all.len (sym c.as_mut_slice.ensures.len ∙ ap length same) (subst (λ (os : List OpenedNow). length closed ≡ length os) same c.close_all.auto.ends) in
+    let by = subst (AreLeftBy cuts stopped.2) (sym back)
+    (are_left may c.args.limit nodes links lines cuts stopped.0 stopped.1 stopped.2 left all.items closed stopped.3 (c.centers_run_their_course.ensures c.args.clock.now stopped.1)
+    (subst (λ (os : List OpenedNow). AllClosed os closed) same c.in-Ok-close_all.ensures)) in
+    IfErr-weaker c.finish.result _ _
+    (λ f ends. shows_fault may c.args.limit nodes links lines cuts stopped.0 stopped.1 stopped.2 left all.items (seen c.args.fabric.now) (seen c.run_threads-played.new.fabric) (seen c.finish.new.fabric) stopped.3
+    c.requires.cuts c.in-Ok.ensures.out (c.finish.ensures.faults ∙ c.in-Ok.ensures.faults) (λ shown. g.V.Observer.saw shown c.args.observer.now c.finish.new.observer) (c.finish.new.observer ≡ c.args.observer.now) f (ends stopped.2 by)) c.finish.ensures.fault_shown

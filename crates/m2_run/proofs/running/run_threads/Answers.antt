@@ -1,9 +1,11 @@
 -- The nodes have gone on from where they began to where they stopped.
 use Rattle.std.proofs.Common.{sym, subst}
 use Rattle.std.proofs.lemmas.Result.{IfErr-weaker, IfOk-weaker}
-use Rattle.m2_run.specs.Ran.{IsFaultOf}
+use Rattle.m2_run.specs.Listening.{IsListeningFault}
 use Rattle.m2_run.specs.Working.{nodes_of_workers}
+use Rattle.m2_run.specs.declared.outcome.RunFault.{RunFault}
 use Rattle.m2_run.proofs.Runs.{has_stopped}
+use Rattle.m2_run.proofs.StepLists.{ok_always}
 use Rattle.m2_run.proofs.running.run_threads.Goals as goal
 
 pub returns-clause-stopped : goal.returns-clause-stopped
@@ -25,8 +27,11 @@ returns-clause-stopped g c =
 pub returns-clause-out : goal.returns-clause-out
 returns-clause-out g c = IfOk-weaker c.play_out.result _ _ (λ s has. c.in_ok-begun.ensures.out) c.play_out.ensures.rooms
 
+pub returns-clause-faults : goal.returns-clause-faults
+returns-clause-faults g c = ok_always c.play_out.result _ c.in_ok-begun.ensures.faults
+
 pub returns-clause-err : goal.returns-clause-err
 returns-clause-err g c =
     let seen = g.F.Fabric.seen in
-    let fault_of = IsFaultOf (g.C.Clock.may_give c.args.clock.now) c.args.nodes.now c.args.links.now c.args.lines.items (seen c.args.fabric.now) (seen c.begin.new.fabric) in
-    IfErr-weaker c.play_out.result _ _ (λ f none. subst fault_of (sym none) tt) c.play_out.ensures.err
+    let fault_of = λ (f : RunFault). IsListeningFault f c.args.nodes.now (seen c.args.fabric.now) (seen c.begin.new.fabric) in
+    IfErr-weaker c.play_out.result _ _ (λ f none. subst fault_of (sym none) c.in_ok-begun.ensures.faults) c.play_out.ensures.err

@@ -1,5 +1,5 @@
 -- One worker more, and at the end all.
-use Rattle.std.proofs.Common.{◌≡◌, ◌∙◌, ◌-◌, ℕ, reverse, take, drop, ap, subst, sym, arith}
+use Rattle.std.proofs.Common.{◌≡◌, ◌∙◌, ◌-◌, ℕ, reverse, take, drop, ap, subst, arith}
 use Rattle.m2_run.proofs.Places.{reverse_last}
 use Rattle.m2_run.proofs.Workers.{AreJoined, centers_joined, next_joined, none_joined, others_left}
 use Rattle.m2_run.proofs.threads.join_centers.Goals as goal

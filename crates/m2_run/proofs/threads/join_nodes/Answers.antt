@@ -3,7 +3,6 @@ use Rattle.std.proofs.Common.{◌≡◌, ◌∙◌, ◌+◌, ◌++◌, List, rev
 use Rattle.std.proofs.lemmas.Option.{slice_get-get_or}
 use Rattle.std.specs.Prelude.{Some, slice_get}
 use Rattle.m2_run.specs.Sharing.{ShareNow}
-use Rattle.m2_run.specs.Nodes.{RunNodeNow}
 use Rattle.m2_run.specs.Posts.{AreDispatched}
 use Rattle.m2_run.specs.Working.{AreGrouped, WorkerNow, nodes_of_workers}
 use Rattle.m2_scenario.specs.declared.node.Node.{Node}

@@ -8,6 +8,7 @@ abbrev pub invariant-asked : goal.invariant-asked
 invariant-asked g l = record {
   halves : l.self.halves ≡ l.initial.self.halves;
   over : l.self.over ≡ l.initial.self.over;
+  busy : l.self.busy ≡ l.initial.self.busy;
   handed : HandedSo l.counter l.initial.self l.self;
   sockets : KeepsAll l.fn.self l.self;
 }

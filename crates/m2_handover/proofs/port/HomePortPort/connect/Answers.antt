@@ -1,7 +1,7 @@
 use Rattle.std.proofs.Common.{◌≡◌, ◌==◌, ◌&&◌, false, [], ◌∷◌, ◌++◌, refl, sym, ap, ◌∙◌}
 use Rattle.m2_fabric.specs.Port.{SeenPort}
 use Rattle.m2_handover.specs.Home.{HomeNow}
-use Rattle.m2_mailbox.specs.Passes.{taken_of}
+use Rattle.m2_mailbox.specs.Passes.{looks_of, taken_of}
 use Rattle.m2_handover.proofs.Homes.{home_opens, home_same, new_here}
 use Rattle.m2_handover.proofs.port.HomePortPort.connect.Goals as goal
 
@@ -14,7 +14,9 @@ invariant_of-self-in-Made g c =
       room = c.self.inside.made.room;
       quiet = c.self.inside.quiet;
       taken = taken_of c.self.inside.pass;
+      looks = looks_of c.self.inside.pass;
       next = c.self.inside.next;
+      fresh = c.self.inside.fresh;
       door = c.self.inside.door;
     } in
     let new : HomeNow = record old { inner = g.P.Port.seen c.connect.new.self; made = c.push_reserved.new.self.items; room = c.push_reserved.new.self.room } in
@@ -31,7 +33,9 @@ invariant_of-self-in-Failed g c =
       room = c.self.inside.made.room;
       quiet = c.self.inside.quiet;
       taken = taken_of c.self.inside.pass;
+      looks = looks_of c.self.inside.pass;
       next = c.self.inside.next;
+      fresh = c.self.inside.fresh;
       door = c.self.inside.door;
     } in
     let new : HomeNow = record old { inner = g.P.Port.seen c.connect.new.self; made = c.reserve.new.self.items; room = c.reserve.new.self.room } in

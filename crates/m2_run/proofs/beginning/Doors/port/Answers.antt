@@ -2,7 +2,7 @@
 use Rattle.std.proofs.Common.{◌≡◌, ◌∙◌, ◌+◌, ◌∷◌, Some, refl, ap, subst, sym, arith}
 use Rattle.std.specs.Prelude.{slice_get}
 use Rattle.m2_handover.specs.Handed.{IsOfNamed}
-use Rattle.m2_handover.specs.m2_mailbox.Passes.{IsGetPassOf, taken_of}
+use Rattle.m2_handover.specs.m2_mailbox.Passes.{IsGetPassOf, looks_of, taken_of}
 use Rattle.m2_run.specs.Begins.{DoorsNow}
 use Rattle.m2_run.proofs.DoorsBegin.{new_balanced, port_made, port_there}
 use Rattle.m2_run.proofs.beginning.Doors.port.Goals as goal
@@ -33,7 +33,7 @@ new-requires-clause-balanced g c =
     let there : slice_get d.inboxes d.next ≡ Some b = ap (λ (x : DoorsNow). slice_get x.inboxes d.next) (sym c.self.view_is) ∙ ap (slice_get bs) at ∙ here in
     let doors = c.requires.doors in
     let full = port_there (slice_get bs) d doors.0 doors.1 doors.2 b c.in-Some-next.get left doors.3 gets there in
-    new_balanced (g.P.Port.seen c.args.port) (taken_of c.in-Some-next.get) c.args.door c.requires.unused full.nothing_taken c.requires.door
+    new_balanced (g.P.Port.seen c.args.port) (taken_of c.in-Some-next.get) (looks_of c.in-Some-next.get) c.args.door c.requires.unused full.nothing_taken c.requires.door
 
 pub returns-clause-doors : goal.returns-clause-doors
 returns-clause-doors g c = λ home its rest doors.

@@ -1,10 +1,10 @@
 -- One way more.
 use Rattle.std.specs.Prelude.{slice_get}
-use Rattle.std.proofs.Common.{◌≡◌, ◌+◌, ◌-◌, ◌++◌, [], List, rules, subst, sym, arith}
+use Rattle.std.proofs.Common.{◌≡◌, ◌+◌, ◌-◌, ◌++◌, [], rules, subst, sym, arith}
 use Rattle.std.specs.List.{AllByRecursion}
 use Rattle.m2_bytes.proofs.m2_lemmas.Lists.{all_last}
 use Rattle.m2_run.specs.Begins.{IsNewWay}
-use Rattle.m2_run.specs.Rooms.{HomeAt, homes_from}
+use Rattle.m2_run.specs.Rooms.{homes_from}
 use Rattle.m2_run.proofs.DoorsBegin.{all_ways, first_way, next_way, ways_more}
 use Rattle.m2_run.proofs.beginning.Doors.ways.Goals as goal
 
