@@ -1,4 +1,5 @@
--- The nodes are made as the scenario says, and have done nothing.
+-- The nodes are made as the scenario says, and have done nothing; no listen had a fault.
+use Rattle.std.proofs.Common.{◌∙◌}
 use Rattle.m2_run.specs.Planned.{steps_in}
 use Rattle.m2_run.proofs.HandedOn.{nothing_handed}
 use Rattle.m2_run.proofs.NodesBegin.{nodes_begin}
@@ -17,3 +18,9 @@ returns-in-Ok-clause-out g c =
 pub returns-in-Ok-clause-none : goal.returns-in-Ok-clause-none
 returns-in-Ok-clause-none g c =
     nothing_handed c.args.nodes.now c.args.links.now (steps_in c.args.lines.items) 0 c.args.nodes.now c.args.shares.now c.in-Ok.workers.items c.in-Ok.ensures.workers.groups c.in-Ok.ensures.nodes
+
+pub returns-in-Ok-clause-faults : goal.returns-in-Ok-clause-faults
+returns-in-Ok-clause-faults g c = c.begin_listening.ensures.faults ∙ c.in_default.ensures.ok.faults
+
+pub returns-in-Err-begin_listening-clause-err : goal.returns-in-Err-begin_listening-clause-err
+returns-in-Err-begin_listening-clause-err g c = c.begin_listening.ensures.faults ∙ c.in_default.ensures.ok.faults

@@ -1,5 +1,5 @@
 -- What is left of the nodes, what is told of it, and what weaving came to.
-use Rattle.std.proofs.Common.{◌≡◌, ◌⊎◌, inr, List, [], Err, subst, sym, ◌∙◌}
+use Rattle.std.proofs.Common.{◌≡◌, ◌⊎◌, inl, inr, List, [], Err, subst, sym, ◌∙◌}
 use Rattle.std.specs.List.{AllByRecursion}
 use Rattle.std.proofs.lemmas.Bool.{OnTrue_at}
 use Rattle.std.proofs.lemmas.Result.{IfErr-weaker, IfOk-weaker}
@@ -67,6 +67,12 @@ returns-in-Ok-woven-clause-fault_shown g c =
     let old = g.F.Fabric.seen c.args.fabric.now in
     let new = g.F.Fabric.seen c.gather_all.new.fabric in
     IfErr-weaker c.told.result _ _ (λ f none ran by. subst (shows ran old new) (sym none) (inr (record { ends = c.in-Ok.field-0.ends.items; loose = c.in-Ok.field-0.loose.items }, c.in-Ok.ensures.shown))) c.told.ensures.err
+
+pub returns-in-Err-join_seen-clause-fault_shown : goal.returns-in-Err-join_seen-clause-fault_shown
+returns-in-Err-join_seen-clause-fault_shown g c ran by = inl c.in-Err-join_seen.ensures.stays
+
+pub returns-in-Err-gather_all-clause-fault_shown : goal.returns-in-Err-gather_all-clause-fault_shown
+returns-in-Err-gather_all-clause-fault_shown g c ran by = inr (record { ends = c.in-Ok.field-0.ends.items; loose = c.in-Ok.field-0.loose.items }, c.in-Ok.ensures.shown)
 
 pub returns-in-Err-woven-clause-fault_shown : goal.returns-in-Err-woven-clause-fault_shown
 returns-in-Err-woven-clause-fault_shown g c ran by =
