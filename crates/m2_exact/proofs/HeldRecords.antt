@@ -1,6 +1,6 @@
 -- What is held by a center's records and where their parcels go, behind the turn of all.
 use Rattle.std.proofs.Common.{◌≡◌, ◌&&◌, ◌||◌, ℕ, ◌+◌, ◌-◌, ◌++◌, List, [], ◌∷◌, Bool, true, false, Option, None, Some, Result, Ok, Err, inl, inr, refl, sym, subst, ◌∙◌, ap, arith}
-use Rattle.std.specs.Prelude.{◌≢◌, ◌⊎◌, IfSome, IsSome, nat_le}
+use Rattle.std.specs.Prelude.{◌⊎◌, IfSome, IsSome, nat_le}
 use Rattle.std.specs.List.{AllByRecursion}
 use Rattle.m2_dispatch.specs.Heard.{Heard}
 use Rattle.m2_dispatch.specs.declared.letter.Letter.{Letter}
@@ -41,6 +41,7 @@ use Rattle.m2_exact.proofs.HeldSums as sums
 use Rattle.m2_exact.proofs.HeldSums.{Follows}
 use Rattle.m2_exact.proofs.HeldTurns as turns
 use Rattle.m2_exact.proofs.HeldTurns.{Turns, held_turning}
+use Rattle.m2_exact.proofs.RecordsTurns.{done_memory}
 use Rattle.m2_exact.specs.Holding.{HoldsRightly, held_in_record, held_in_records}
 
 -- ---- a connect
@@ -104,9 +105,6 @@ dials : (result : Result (Unit {0}) memory.NoMemory) (now : ℕ) (old new : AtPo
 dials result now old new r h = dials_for (due_step now old.side) result now old new refl r h
 
 -- ---- words
-
-done_memory : (r : RecordTurn) → turn.Done ≡ come_to r → r ≢ one.NoMemory
-done_memory r e is = absurd (cc (e ∙ ap come_to is))
 
 lacks_memory : (r : RecordTurn) → turn.NoMemory ≡ come_to r → r ≡ one.NoMemory
 lacks_memory one.NoMemory e = refl

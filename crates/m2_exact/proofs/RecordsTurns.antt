@@ -32,7 +32,7 @@ record PlainAround : Type 0 where
   pub numbers : SeenNumberPass
 
 -- for want of memory alone the turn of all ends early
-done_memory : (r : RecordTurn) → turn.Done ≡ come_to r → r ≢ one.NoMemory
+pub done_memory : (r : RecordTurn) → turn.Done ≡ come_to r → r ≢ one.NoMemory
 done_memory r e is = absurd (cc (e ∙ ap come_to is))
 
 module _ {D : Type 0} (heard : D → List Heard) (m : Means) where
