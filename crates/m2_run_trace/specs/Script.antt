@@ -5,7 +5,7 @@ use Rattle.std.specs.Str.{bytes_eq}
 use Rattle.m2_script.specs.m2_cluster.Node.{NodeNow}
 use Rattle.m2_dispatch.specs.declared.logged.Logged.{Logged}
 use Rattle.m2_journal.specs.declared.facts.NodeFacts.{NodeFacts}
-use Rattle.m2_record.specs.RecordNow.{RecordNow}
+use Rattle.m2_script.specs.m2_record.RecordNow.{RecordNow}
 use Rattle.m2_run_trace.specs.declared.script.Sort.{Sort}
 use Rattle.m2_run_trace.specs.declared.script.Sort.TheVariants as sort
 use Rattle.m2_scenario.specs.declared.node.Node.{Node}

@@ -10,7 +10,7 @@ use Rattle.m2_fabric.specs.declared.log.EndLog.{EndLog}
 use Rattle.m2_fabric.specs.declared.socket.SocketId.{SocketId}
 use Rattle.m2_fabric.specs.End.{SeenEnd}
 use Rattle.m2_fabric.specs.Log.{Log, log_of}
-use Rattle.m2_record.specs.Sources.{end_at}
+use Rattle.m2_script.specs.m2_record.Sources.{end_at}
 use Rattle.m2_scenario.specs.declared.node.Node.{Node}
 
 -- the center of a node in memory, whose dispatchers keep logs

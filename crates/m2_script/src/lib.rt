@@ -8,8 +8,8 @@
 //! and gives an [`Outcome`]: for each node what its dispatchers were called with, turn by turn, and how many posts are
 //! left over the lossless links of which neither end was marked down. Whoever has nodes with several centers counts that by
 //! [`is_down_towards`], [`posts_towards`], [`messages_of`] and [`sum`]. It passes on what crates above name of nodes
-//! ([`Cluster`], [`Center`], [`Unmade`], [`Passes`], [`NodeShared`], [`CenterTurn`], [`CenterRest`], [`home`]). What it isn't: a
-//! scenario's text (`m2_scenario_text`) or its report (`m2_scenario`).
+//! ([`Cluster`], [`Center`], [`Record`], [`Due`], [`Unmade`], [`Passes`], [`NodeShared`], [`CenterTurn`], [`CenterRest`],
+//! [`home`]). What it isn't: a scenario's text (`m2_scenario_text`) or its report (`m2_scenario`).
 //!
 //! `specs/Script.antt` says which deeds a line is and what each does, `specs/Nodes.antt` what the nodes are before the
 //! first line, `specs/Started.antt` what a run is, and `specs/Outcome.antt` what is told at the end.
@@ -38,6 +38,7 @@ pub use left::messages_of;
 pub use lines::Run;
 pub use listening::addresses;
 pub use m2_cluster::{Center, CenterRest, CenterTurn, Cluster, NodeShared, Passes, Unmade, home};
+pub use m2_record::{Due, Record};
 pub use made::{Towards, other_of, record_over, records};
 pub use node::MemoryNode;
 pub use outcome::{Outcome, outcome_of};
